@@ -1,0 +1,4 @@
+pub mod Data
+pub mod Table
+mod Copy
+mod Found

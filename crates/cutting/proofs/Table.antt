@@ -1,0 +1,140 @@
+-- The one computed test of the table: each row is the family that the rule gives. From it, what the code reads.
+-- Assumes nothing.
+use mathlib.Core.Path.{_≡_, refl, _∙_, sym, ap, ap₂}
+use mathlib.Core.Bool.{Bool, true, false, _&&_}
+use mathlib.Core.List.{List, [], _∷_, _++_, map, flatten, append-assoc, append-nil}
+use Prim.Native.Nat.{ℕ, zero, suc, _+_, _*_, _-_, _%_, _≤_, _<_}
+use native.Mathlib.Nat.{add-zero, add-suc}
+use native.Mathlib.Omega.{arith}
+use lib.Dec.{T, eqb, leb, eqb→eq, leb→le}
+use lib.ListN.{length, getD, take, drop, replicate, length-append, List·getD-map}
+use lib.Seq.{take-suc, take-append-seam, drop-append-seam, take-all}
+use Rattle.base.specs.Lists.{belowb, belowb-at, sameb, sameb-eq, samesb, samesb-eq, allb, and-left, and-right, filterb}
+use Rattle.cutting.specs.Rule.{family, choose, present, childb}
+use Rattle.cutting.specs.Answer.{digitsBelow}
+use Rattle.cutting.proofs.Data.{rows}
+
+unfoldable pub row : ℕ → List (List ℕ)
+row p = getD rows p []
+
+tested : T (belowb (λ p. samesb (row p) (family p)) 64)
+unfolding belowb samesb rows row family
+tested = tt
+
+pub family-row : (p : ℕ) → p < 64 → family p ≡ row p
+family-row p h = sym (samesb-eq (row p) (family p) (belowb-at (λ p. samesb (row p) (family p)) 64 tested p h))
+
+-- the rows one after the other
+unfoldable pub flat : List (List (List ℕ)) → List ℕ
+flat [] = []
+flat (f ∷ fs) = flatten f ++ flat fs
+
+flat-snoc : (fs : List (List (List ℕ))) (f : List (List ℕ)) → flat (fs ++ (f ∷ [])) ≡ flat fs ++ flatten f
+unfolding flat
+flat-snoc [] f = append-nil (flatten f)
+flat-snoc (x ∷ fs) f = rw (flat-snoc fs f) (sym (append-assoc (flatten x) (flat fs) (flatten f)))
+
+below-flat : (p : ℕ) → p ≤ 64 → digitsBelow p ≡ flat (take p rows)
+unfolding digitsBelow flat rows row
+below-flat zero h = refl
+below-flat (suc p) h =
+    ap₂ _++_ (below-flat p (omega arith)) (ap flatten (family-row p h)) ∙ sym (ap flat (take-suc rows p [] h) ∙ flat-snoc (take p rows) (row p))
+
+-- The two constants of src/, from the rows: ASCII digits, and where each row starts.
+unfoldable pub digits : List ℕ
+unfolding flat rows
+digits = map (λ d. 48 + d) (flat rows)
+
+startsFrom : ℕ → List (List (List ℕ)) → List ℕ
+startsFrom n [] = n ∷ []
+startsFrom n (f ∷ fs) = n ∷ startsFrom (n + length (flatten f)) fs
+
+unfoldable pub starts : List ℕ
+unfolding startsFrom rows flatten
+starts = startsFrom 0 rows
+
+all-rows : take 64 rows ≡ rows
+unfolding rows
+all-rows = refl
+
+digits-test : T (sameb (map (λ b. b % 16) digits) (flat rows))
+unfolding sameb digits flatten
+digits-test = tt
+
+starts-test : T (belowb (λ p. eqb (getD starts p 0) (length (flat (take p rows)))) 65)
+unfolding belowb starts flat rows flatten
+starts-test = tt
+
+length-test : T (eqb (length (flat rows)) 1172)
+unfolding flat rows flatten
+length-test = tt
+
+all-digits : digitsBelow 64 ≡ flat rows
+all-digits = below-flat 64 (omega arith) ∙ ap flat all-rows
+
+pub digits-right : (at : ℕ) → getD digits at 0 % 16 ≡ getD (digitsBelow 64) at 0
+digits-right at =
+    sym (List·getD-map (λ b. b % 16) digits at 0)
+    ∙ ap (λ (m : List ℕ). getD m at 0) (sameb-eq (map (λ b. b % 16) digits) (flat rows) digits-test ∙ sym all-digits)
+
+pub starts-right : (p : ℕ) → p < 65 → getD starts p 0 ≡ length (digitsBelow p)
+starts-right p h =
+    eqb→eq (getD starts p 0) (length (flat (take p rows))) (belowb-at (λ p. eqb (getD starts p 0) (length (flat (take p rows)))) 65 starts-test p h)
+    ∙ ap length (sym (below-flat p (omega arith)))
+
+pub digits-length : length (digitsBelow 64) ≡ 1172
+digits-length = ap length all-digits ∙ eqb→eq (length (flat rows)) 1172 length-test
+
+-- a family has at most 8 children, of four digits each
+few-test : T (belowb (λ p. leb (length (row p)) 8 && allb (λ c. eqb (length c) 4) (row p)) 64)
+unfolding belowb allb rows row
+few-test = tt
+
+few : (p : ℕ) → p < 64 → T (leb (length (row p)) 8 && allb (λ c. eqb (length c) 4) (row p))
+few = belowb-at (λ p. leb (length (row p)) 8 && allb (λ c. eqb (length c) 4) (row p)) 64 few-test
+
+pub family-few : (p : ℕ) → p < 64 → length (family p) ≤ 8
+family-few p h = rw (family-row p h) (leb→le (length (row p)) 8 (and-left (leb (length (row p)) 8) (allb (λ c. eqb (length c) 4) (row p)) (few p h)))
+
+pub family-fours : (p : ℕ) → p < 64 → T (allb (λ c. eqb (length c) 4) (family p))
+family-fours p h = rw (family-row p h) (and-right (leb (length (row p)) 8) (allb (λ c. eqb (length c) 4) (row p)) (few p h))
+
+length-fours : (f : List (List ℕ)) → T (allb (λ c. eqb (length c) 4) f) → length (flatten f) ≡ 4 * length f
+unfolding allb flatten
+length-fours [] t = refl
+length-fours (c ∷ f) t =
+    let e : length c ≡ 4 = eqb→eq (length c) 4 (and-left (eqb (length c) 4) (allb (λ c. eqb (length c) 4) f) t) in
+    let k : length (flatten f) ≡ 4 * length f = length-fours f (and-right (eqb (length c) 4) (allb (λ c. eqb (length c) 4) f) t) in
+    simp length-append (omega arith)
+
+-- the digits of the lower patterns come first
+more : (n p : ℕ) → (r : List ℕ) × (digitsBelow (p + n) ≡ digitsBelow p ++ r)
+unfolding digitsBelow
+more zero p = ([], rw add-zero (sym (append-nil (digitsBelow p))))
+more (suc n) p =
+    let (r, e) = more n p in
+    (r ++ flatten (family (p + n)), rw add-suc (ap (λ (l : List ℕ). l ++ flatten (family (p + n))) e ∙ append-assoc (digitsBelow p) r (flatten (family (p + n)))))
+
+-- what the cutting call reads of the constant
+pub record Row (p : ℕ) : Type 0 where
+  pub size : length (digitsBelow (suc p)) ≡ length (digitsBelow p) + 4 * length (family p)
+  pub few : length (family p) ≤ 8
+  pub inside : length (digitsBelow (suc p)) ≤ 1172
+  pub digits : take (4 * length (family p)) (drop (length (digitsBelow p)) (digitsBelow 64)) ≡ flatten (family p)
+  pub fours : length (flatten (family p)) ≡ 4 * length (family p)
+
+pub row-at : (p : ℕ) → p < 64 → Row p
+unfolding digitsBelow
+row-at p h =
+    let four : length (flatten (family p)) ≡ 4 * length (family p) = length-fours (family p) (family-fours p h) in
+    let (r, e) = more (63 - p) (suc p) in
+    let k : suc p + (63 - p) ≡ 64 = omega arith in
+    let w : digitsBelow 64 ≡ (digitsBelow p ++ flatten (family p)) ++ r = rw k at e in
+    let v : digitsBelow 64 ≡ digitsBelow p ++ (flatten (family p) ++ r) = w ∙ append-assoc (digitsBelow p) (flatten (family p)) r in
+    record {
+      size = length-append (digitsBelow p) (flatten (family p)) ∙ ap (λ (n : ℕ). length (digitsBelow p) + n) four;
+      few = family-few p h;
+      inside = omega (arith, digits-length, ap length w, length-append (digitsBelow p ++ flatten (family p)) r);
+      digits = rw (v, drop-append-seam, ← four) (take-append-seam (flatten (family p)) r);
+      fours = four;
+    }

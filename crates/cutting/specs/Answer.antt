@@ -1,0 +1,44 @@
+-- What the cutting call answers.
+--   digitsBelow p   the families of the patterns below p, digit after digit
+--   cutOf p         the whole answer to the byte p
+use mathlib.Core.Path.{_≡_, refl}
+use mathlib.Core.Bool.{Bool, true, false}
+use mathlib.Core.List.{List, [], _∷_, _++_, flatten}
+use Prim.Native.Nat.{ℕ, zero, suc, _-_, _≤_, _<_}
+use lib.Dec.{ltb}
+use lib.ListN.{length, replicate}
+use borrow.Author.Tests.{lt-ltb, le-ltb}
+use Rattle.base.specs.declared.Answer.the-variants.{Accepted, Refused}
+use Rattle.cutting.specs.Rule.{family}
+use Rattle.cutting.specs.declared.Family.{Family}
+
+unfoldable pub digitsBelow : ℕ → List ℕ
+digitsBelow zero = []
+digitsBelow (suc p) = digitsBelow p ++ flatten (family p)
+
+-- the family as its number of children and 32 digits, child after child, zeros behind them
+unfoldable pub cutInto : List (List ℕ) → Family
+unfolding flatten
+cutInto f =
+    record {
+      answer = Accepted;
+      count = length f;
+      digits = flatten f ++ replicate (32 - length (flatten f)) 0;
+    }
+
+-- no family: zeros beside the refusal
+unfoldable pub noCut : Family
+noCut = record { answer = Refused 6; count = 0; digits = replicate 32 0 }
+
+-- refusal 6: "in the cutting call a pattern above 63"
+unfoldable pub cutOf : ℕ → Family
+unfolding cutInto noCut
+cutOf p = elim (ltb p 64) [ true ↦ cutInto (family p) | false ↦ noCut ]
+
+pub cutOf-accepted : (p : ℕ) → p < 64 → cutOf p ≡ cutInto (family p)
+unfolding cutOf
+cutOf-accepted p h = rw (lt-ltb p 64 h, cutOf)
+
+pub cutOf-refused : (p : ℕ) → 64 ≤ p → cutOf p ≡ noCut
+unfolding cutOf
+cutOf-refused p h = rw (le-ltb p 64 h, cutOf)
