@@ -1,9 +1,7 @@
 -- Words for the facts: faces, what lies on them, and what a family draws.
---   faces c           the four faces of a child, three digits each; face n is the one opposite its corner n
 --   facesOf f         the faces of all children of a family
 --   onFaceb n f       all points of f lie on the cell's face n
 --   innerb f          f lies on no face of the cell
---   holders f t       how many children of the family f have the face t
 --   joinedb f a b     some child of f has both points a and b
 --   sidePoints n      the six points of the cell's face n, rising: two corners of it, or one twice, in the order of points
 --   sideEdges n       the three edges of the cell's face n, in order
@@ -14,16 +12,12 @@ use mathlib.Core.Bool.{Bool, true, false, _&&_, not}
 use mathlib.Core.List.{List, [], _∷_, map, flatMap}
 use Prim.Native.Nat.{ℕ, _+_, _*_}
 use lib.Dec.{eqb}
-use lib.ListN.{length, getD}
+use lib.ListN.{getD}
 use Rattle.base.specs.Lists.{allb, anyb, filterb, memberb, sameb, one-if}
+use Rattle.base.specs.Fours.{faces}
 use Rattle.cutting.specs.Rule.{low, high, points, split, edgeOf, choose}
 
 -- Corners and faces are counted from 0: face n of the paper is n - 1.
-unfoldable pub faces : List ℕ → List (List ℕ)
-faces c =
-    let a = getD c 0 0 in let b = getD c 1 0 in let d = getD c 2 0 in let e = getD c 3 0 in
-    (b ∷ d ∷ e ∷ []) ∷ (a ∷ d ∷ e ∷ []) ∷ (a ∷ b ∷ e ∷ []) ∷ (a ∷ b ∷ d ∷ []) ∷ []
-
 unfoldable pub facesOf : List (List ℕ) → List (List ℕ)
 unfolding faces flatMap
 facesOf f = flatMap faces f
@@ -40,10 +34,6 @@ onFaceb n f = allb (onSideb n) f
 unfoldable pub innerb : List ℕ → Bool
 unfolding onFaceb
 innerb f = not (onFaceb 0 f) && (not (onFaceb 1 f) && (not (onFaceb 2 f) && not (onFaceb 3 f)))
-
-unfoldable pub holders : List (List ℕ) → List ℕ → ℕ
-unfolding faces filterb anyb sameb
-holders f t = length (filterb (λ c. anyb (sameb t) (faces c)) f)
 
 unfoldable pub joinedb : List (List ℕ) → ℕ → ℕ → Bool
 unfolding anyb memberb

@@ -11,10 +11,11 @@ use lib.ListN.{length, getD}
 use borrow.Author.Tests.{ne-eqb}
 use lib.IntN.{ℤ, pos, negsuc, natAbs}
 use Rattle.base.specs.Lists.{allb, anyb, filterb, belowb, memberb, sameb, samesb, samesb-eq, is-true, is-false, and-left, and-right, allb-at, belowb-at, impb, impb-use}
+use Rattle.base.specs.Fours.{holders}
 use Rattle.cutting.specs.Rule.{low, high, points, digit, edgeOf, split, present, volume, zerob, choose, rise, family}
 use Rattle.cutting.proofs.Data.{rows}
 use Rattle.cutting.proofs.Table.{row, family-row}
-use Rattle.families.specs.Faces.{faces, facesOf, onFaceb, innerb, holders, joinedb, bits, side}
+use Rattle.families.specs.Faces.{facesOf, onFaceb, innerb, joinedb, bits, side}
 
 -- a test over every row, carried to the family of each pattern
 every : (f : ℕ → List (List ℕ) → Bool) → T (belowb (λ p. f p (row p)) 64) → (p : ℕ) → p < 64 → T (f p (family p))

@@ -1,0 +1,24 @@
+-- Flat lists of fours, and the faces of a four.
+--   fours l       the elements of l, four by four; what is left over at its end counts for nothing
+--   faces q       the four faces of q, three elements each; face n leaves out the element n (both counted from 0)
+--   holders l t   how many of the fours of l have the face t
+use mathlib.Core.List.{List, [], _∷_}
+use Prim.Native.Nat.{ℕ}
+use lib.ListN.{length, getD}
+use Rattle.base.specs.Lists.{filterb, anyb, sameb}
+
+unfoldable pub fours : List ℕ → List (List ℕ)
+fours [] = []
+fours (a ∷ []) = []
+fours (a ∷ b ∷ []) = []
+fours (a ∷ b ∷ c ∷ []) = []
+fours (a ∷ b ∷ c ∷ d ∷ l) = (a ∷ b ∷ c ∷ d ∷ []) ∷ fours l
+
+unfoldable pub faces : List ℕ → List (List ℕ)
+faces q =
+    let a = getD q 0 0 in let b = getD q 1 0 in let c = getD q 2 0 in let d = getD q 3 0 in
+    (b ∷ c ∷ d ∷ []) ∷ (a ∷ c ∷ d ∷ []) ∷ (a ∷ b ∷ d ∷ []) ∷ (a ∷ b ∷ c ∷ []) ∷ []
+
+unfoldable pub holders : List (List ℕ) → List ℕ → ℕ
+unfolding faces filterb anyb sameb
+holders l t = length (filterb (λ q. anyb (sameb t) (faces q)) l)

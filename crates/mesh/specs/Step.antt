@@ -1,0 +1,106 @@
+-- One step (document 01, "One step").
+--   Row                    a cell of the old table with its number, status and mark
+--   rows l ms              the rows of a level, where ms are the marks of the whole table
+--   kids up k              the rows one level up whose parent is the cell k
+--   newRedb up es r        the row r is a new red cell, where es are the edges of the new red cells one level up
+--   newReds ls ms          the new red cells of each level
+--   grow reds k cs         the statuses level by level, from the cells cs numbered from k on, where reds are the red cells of
+--                          each level
+--   stepTable n qs ss ms   the table that the rules give, without the limits, level by level
+use mathlib.Core.Bool.{Bool, true, false, _&&_, _||_, not}
+use mathlib.Core.List.{List, [], _∷_, _++_, map, flatMap}
+use Prim.Native.Nat.{ℕ, zero, suc, _+_, _*_}
+use lib.Dec.{eqb, leb}
+use lib.ListN.{length, getD, take, drop}
+use Rattle.base.specs.Lists.{allb, anyb, filterb, sameb}
+use Rattle.mesh.specs.Cells.{Cell, redb, edges, heldb, redEdges, statusOf}
+use Rattle.mesh.specs.Weights.{Point, coarseCells}
+use Rattle.mesh.specs.Table.{Level, levelsOf, next}
+
+pub record Row : Type 0 where
+  pub number : ℕ
+  pub cell : Cell Point
+  pub status : ℕ
+  pub mark : ℕ
+
+unfoldable pub rowsFrom : ℕ → List (Cell Point) → List ℕ → List ℕ → List Row
+rowsFrom k [] ss ms = []
+rowsFrom k (c ∷ cs) [] ms = []
+rowsFrom k (c ∷ cs) (s ∷ ss) ms = record { number = k; cell = c; status = s; mark = getD ms k 0 } ∷ rowsFrom (suc k) cs ss ms
+
+unfoldable pub rows : Level → List ℕ → List Row
+unfolding rowsFrom
+rows l ms = rowsFrom (l .first) (l .cells) (l .statuses) ms
+
+unfoldable pub kids : List Row → ℕ → List Row
+unfolding filterb
+kids up k = filterb (λ r. eqb (r .cell .parent) k) up
+
+-- "old red ones, except where all eight children were leaves marked 2 and no new red cell one level up has an edge of any of
+-- them"
+unfoldable pub deletedb : List Row → List (Point × Point) → Bool
+unfolding allb heldb sameb edges
+deletedb family es =
+    allb (λ r. (eqb (r .status) 0 && eqb (r .mark) 2) && allb (λ e. not (heldb sameb es e)) (edges [] (r .cell))) family
+
+-- "green ones with a child marked 1, or with a child's edge, not their own, that a new red cell one level up has"
+unfoldable pub turnedb : List (Point × Point) → List Row → List (Point × Point) → Bool
+unfolding anyb heldb sameb edges
+turnedb own family es =
+    anyb (λ r. eqb (r .mark) 1 || anyb (λ e. not (heldb sameb own e) && heldb sameb es e) (edges [] (r .cell))) family
+
+unfoldable pub newRedb : List Row → List (Point × Point) → Row → Bool
+unfolding kids deletedb turnedb edges
+newRedb up es r =
+    let family = kids up (r .number) in
+    elim (redb (r .status)) [
+      | true ↦ not (deletedb family es)
+      | false ↦ elim (eqb (r .status) 0) [
+        -- "regular leaves marked 1"
+        | true ↦ r .cell .regular && eqb (r .mark) 1
+        | false ↦ turnedb (edges [] (r .cell)) family es
+      ]
+    ]
+
+-- "Levels are treated from the highest down; one level up means the level number higher by one."
+unfoldable pub rowsUp : List Level → List ℕ → List Row
+unfolding rows
+rowsUp [] ms = []
+rowsUp (l ∷ ls) ms = rows l ms
+
+unfoldable pub edgesUp : List (List Row) → List (Point × Point)
+unfolding edges flatMap
+edgesUp [] = []
+edgesUp (rs ∷ rss) = flatMap (λ r. edges [] (r .cell)) rs
+
+unfoldable pub newReds : List Level → List ℕ → List (List Row)
+unfolding rows rowsUp edgesUp newRedb filterb
+newReds [] ms = []
+newReds (l ∷ ls) ms =
+    let above = newReds ls ms in
+    filterb (newRedb (rowsUp ls ms) (edgesUp above)) (rows l ms) ∷ above
+
+-- "A cell before and one after are the same when coarse cell and child numbers down to them agree."
+unfoldable pub amongb : List Row → Cell Point → Bool
+unfolding anyb sameb
+amongb reds c = c .regular && anyb (λ r. sameb (r .cell .path) (c .path)) reds
+
+unfoldable pub redCells : List Row → List (Cell Point) → List (Point × Point)
+unfolding amongb edges
+redCells reds [] = []
+redCells reds (c ∷ cs) = elim (amongb reds c) [ true ↦ edges [] c ++ redCells reds cs | false ↦ redCells reds cs ]
+
+-- "Then patterns follow as for a sound table."
+unfoldable pub grow : List (List Row) → ℕ → List (Cell Point) → List (List ℕ)
+unfolding redCells amongb statusOf sameb next
+grow [] k cs = []
+grow (reds ∷ rest) k [] = []
+grow (reds ∷ rest) k (c ∷ cs) =
+    let es = redCells reds (c ∷ cs) in
+    let ss = map (λ c. statusOf [] sameb es (amongb reds c) c) (c ∷ cs) in
+    ss ∷ grow rest (k + length (c ∷ cs)) (next k (c ∷ cs) ss)
+
+-- The table that the rules give has at most one level more than the old one, and no red cell there.
+unfoldable pub stepTable : ℕ → List (List ℕ) → List ℕ → List ℕ → List (List ℕ)
+unfolding levelsOf newReds grow coarseCells
+stepTable n qs ss ms = grow (newReds (levelsOf n qs ss) ms ++ ([] ∷ [])) 0 (coarseCells n qs)

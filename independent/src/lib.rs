@@ -1,0 +1,13 @@
+//! A reference program for red/green tetrahedra, written from document 01
+//! alone, to be compared with another implementation. Plain and slow: corners
+//! are identified by their weights on the coarse corners, and by nothing else.
+
+pub mod archive;
+pub mod conform;
+pub mod cutting;
+pub mod mesh;
+pub mod random;
+pub mod step;
+
+/// The number of a refusal, as document 01 lists them.
+pub type Refusal = u8;
