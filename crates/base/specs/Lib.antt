@@ -1,3 +1,4 @@
 pub mod Lists
 pub mod Fours
 pub mod Refuse
+pub mod Places

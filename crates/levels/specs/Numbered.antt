@@ -1,0 +1,65 @@
+-- The mesh over corner numbers: what the program holds. Cells are those of `mesh` over numbers; new corners are named by the
+-- pairs of their ends' numbers, in the order of first appearance, and numbered from n on, the number of coarse corners.
+--   cellAt t k           the cell k of a table of rows (its path is not in the table)
+--   cellsAt t k m        the m cells from k on
+--   part l k m           the m elements of l from k on
+--   endsFrom es cs ss    the ends of the corners, with those that the cells cs with statuses ss add
+--   pointAt n es c d     the number of the point d of c
+--   nextOf n es k cs ss  the cells one level up of cs, numbered from k, with statuses ss
+--   sizeOf s             how many children a cell with status s has; sizes ss, of a list
+use mathlib.Core.Bool.{Bool, true, false}
+use mathlib.Core.List.{List, [], _∷_, _++_}
+use Prim.Native.Nat.{ℕ, zero, suc, _+_, _*_}
+use lib.Dec.{eqb}
+use lib.ListN.{length, getD, take, drop}
+use Rattle.base.specs.Places.{placeIn}
+use Rattle.cutting.specs.Rule.{low, high, family}
+use Rattle.mesh.specs.Cells.{Cell, corner, patternOf, children}
+use Rattle.mesh.specs.Layout.{splitEdges}
+use Rattle.edges.specs.Pairs.{Pair, sorted, isb, addPairs}
+
+unfoldable pub cellAt : List ℕ → ℕ → Cell ℕ
+cellAt t k =
+    record {
+      path = [];
+      parent = getD t (8 * k + 1) 0;
+      regular = eqb (getD t (8 * k + 3) 0) 1;
+      points = getD t (8 * k + 4) 0 ∷ getD t (8 * k + 5) 0 ∷ getD t (8 * k + 6) 0 ∷ getD t (8 * k + 7) 0 ∷ [];
+    }
+
+unfoldable pub cellsAt : List ℕ → ℕ → ℕ → List (Cell ℕ)
+unfolding cellAt
+cellsAt t k zero = []
+cellsAt t k (suc m) = cellsAt t k m ++ (cellAt t (k + m) ∷ [])
+
+abbrev pub part : {A : Type 0} → List A → ℕ → ℕ → List A
+part l k m = take m (drop k l)
+
+unfoldable pub endsFrom : List Pair → List (Cell ℕ) → List ℕ → List Pair
+unfolding addPairs splitEdges
+endsFrom es [] ss = es
+endsFrom es (c ∷ cs) [] = es
+endsFrom es (c ∷ cs) (s ∷ ss) = endsFrom (addPairs es (splitEdges 0 c s)) cs ss
+
+unfoldable pub pointAt : ℕ → List Pair → Cell ℕ → ℕ → ℕ
+unfolding low high placeIn isb sorted
+pointAt n es c d =
+    elim (eqb (low d) (high d)) [
+      | true ↦ corner 0 c (low d)
+      | false ↦ n + placeIn isb es (sorted (corner 0 c (low d), corner 0 c (high d)))
+    ]
+
+unfoldable pub nextOf : ℕ → List Pair → ℕ → List (Cell ℕ) → List ℕ → List (Cell ℕ)
+unfolding children pointAt
+nextOf n es k [] ss = []
+nextOf n es k (c ∷ cs) [] = []
+nextOf n es k (c ∷ cs) (s ∷ ss) = children k c s (pointAt n es c) ++ nextOf n es (suc k) cs ss
+
+unfoldable pub sizeOf : ℕ → ℕ
+unfolding patternOf
+sizeOf s = elim (eqb s 0) [ true ↦ 0 | false ↦ length (family (patternOf s)) ]
+
+unfoldable pub sizes : List ℕ → ℕ
+unfolding sizeOf
+sizes [] = 0
+sizes (s ∷ ss) = sizeOf s + sizes ss
