@@ -179,6 +179,17 @@ fn copied(from: usize, count: usize) -> [u8; 32]
     digits
 }
 
+// How many children the family of a pattern has; 0 where the pattern is above 63.
+pub fn count(pattern: u8) -> u8
+    ensures { λ r. ⌜ r ≡ cutOf pattern .count ⌝ }
+{
+    if pattern > 63 {
+        return 0;
+    }
+    let row = pattern as usize;
+    ((start(row + 1) - start(row)) / 4) as u8
+}
+
 // The family of a pattern; 6 where the pattern is above 63.
 pub fn cut(pattern: u8) -> Family
     ensures { λ r. ⌜ r ≡ cutOf pattern ⌝ }

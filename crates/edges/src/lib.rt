@@ -1,1 +1,74 @@
-// x
+// A table of edges, each the pair of its two corner numbers, over `keys`: the entries from `from` on are different edges in the
+// order of their first appearance.
+ghost use mathlib.Core.Path.{_≡_};
+ghost use Prim.Native.Nat.{_-_};
+ghost use Rattle.base.specs.Places.{hasb};
+ghost use Rattle.keys.specs.Keys.{Keys, Room};
+ghost use Rattle.edges.specs.Pairs.{sorted, isb};
+ghost use Rattle.edges.specs.Table.{listed, Edges, Inserted};
+
+// Where an edge stands in the table, and how many entries the table has.
+pub struct Slot {
+    pub at: usize,
+    pub n: usize,
+}
+
+struct Ends {
+    low: u32,
+    high: u32,
+}
+
+fn sorted_ends(a: u16, b: u16) -> Ends
+    ensures { λ r. ⌜ ((r .low), (r .high)) ≡ sorted (a, b) ⌝ }
+{
+    let x = a as u32;
+    let y = b as u32;
+    if x <= y {
+        Ends { low: x, high: y }
+    } else {
+        Ends { low: y, high: x }
+    }
+}
+
+// Whether the edge stands among the entries from `from` on.
+pub fn holds(
+    xs: &[u32],
+    ys: &[u32],
+    heads: &[u16],
+    links: &[u16],
+    from: usize,
+    n: usize,
+    a: u16,
+    b: u16,
+) -> bool
+    requires { ⌜ Edges (now xs) (now ys) (now heads) (now links) from n ⌝ }
+    ensures { λ r. ⌜ r ≡ hasb isb (listed (now (xs .entry)) (now (ys .entry)) from n) (sorted (a, b)) ⌝ }
+{
+    let e = sorted_ends(a, b);
+    let at = keys::find(xs, ys, heads, links, from, n, e.low, e.high);
+    at != 65535
+}
+
+// Finds the edge among the entries from `from` on, or adds it behind them.
+pub fn insert(
+    xs: &mut [u32],
+    ys: &mut [u32],
+    heads: &mut [u16],
+    links: &mut [u16],
+    from: usize,
+    n: usize,
+    a: u16,
+    b: u16,
+) -> Slot
+    requires { ⌜ Edges (now xs) (now ys) (now heads) (now links) from n ⌝ }
+    requires { ⌜ Room (now xs) (now ys) (now links) n ⌝ }
+    ensures { λ r. ⌜ Inserted (now (xs .entry)) (now (ys .entry)) from n (a, b) (now (xs .exit)) (now (ys .exit)) (now (heads .exit)) (now (links .exit)) (r .at) (r .n) ⌝ }
+{
+    let e = sorted_ends(a, b);
+    let at = keys::find(xs, ys, heads, links, from, n, e.low, e.high);
+    if at != 65535 {
+        return Slot { at, n };
+    }
+    keys::add(xs, ys, heads, links, n, e.low, e.high);
+    Slot { at: n, n: n + 1 }
+}

@@ -10,6 +10,7 @@
 --   pattern es c       the pattern of c's edges that stand in es
 --   redEdges cs ss     the edges of the red cells of a level
 --   statusOf es r c    the status of c where es are the edges of its level's red cells and r says whether it is one
+--   closedFrom es cs ss  each of the cells cs has the status that the edges es of red cells ask for
 --   children k c s f   the family of c, the cell number k with status s, where f gives the point of a digit
 use mathlib.Core.Bool.{Bool, true, false, _&&_, _||_}
 use mathlib.Core.List.{List, [], _∷_, _++_, map}
@@ -70,6 +71,16 @@ module _ {A : Type 0} (o : A) (same : A → A → Bool) where
   unfoldable pub statusOf : List (A × A) → Bool → Cell A → ℕ
   unfolding pattern
   statusOf es r c = elim (c .regular) [ true ↦ elim r [ true ↦ 64 | false ↦ pattern es c ] | false ↦ 0 ]
+
+module _ {A : Type 0} (o : A) (same : A → A → Bool) where
+  -- "each regular cell that is not red has the pattern of its edges that red cells of its own level hold, cells that are not
+  -- regular have 0"
+  unfoldable pub closedFrom : List (A × A) → List (Cell A) → List ℕ → Bool
+  unfolding statusOf
+  closedFrom es [] [] = true
+  closedFrom es [] (s ∷ ss) = false
+  closedFrom es (c ∷ cs) [] = false
+  closedFrom es (c ∷ cs) (s ∷ ss) = eqb s (statusOf o same es (redb s) c) && closedFrom es cs ss
 
 module _ {A : Type 0} (o : A) where
   unfoldable pub redEdges : List (Cell A) → List ℕ → List (A × A)

@@ -13,7 +13,7 @@ use Prim.Native.Nat.{ℕ, zero, suc, _+_, _*_}
 use lib.Dec.{eqb, leb}
 use lib.ListN.{length, getD, take, drop}
 use Rattle.base.specs.Lists.{allb, anyb, sameb}
-use Rattle.mesh.specs.Cells.{Cell, none, redb, edges, heldb, redEdges, statusOf, children}
+use Rattle.mesh.specs.Cells.{Cell, none, redb, edges, heldb, redEdges, closedFrom, children}
 use Rattle.mesh.specs.Weights.{Point, point, coarseCells}
 
 -- "Cells are numbered level by level from 0, in each level by parent and then child."
@@ -46,18 +46,9 @@ unfoldable pub cellsOf : List Level → List (Cell Point)
 unfolding flatMap
 cellsOf ls = flatMap (λ l. l .cells) ls
 
--- "each regular cell that is not red has the pattern of its edges that red cells of its own level hold, cells that are not
--- regular have 0"
-unfoldable pub closedFrom : List (Point × Point) → List (Cell Point) → List ℕ → Bool
-unfolding statusOf sameb
-closedFrom es [] [] = true
-closedFrom es [] (s ∷ ss) = false
-closedFrom es (c ∷ cs) [] = false
-closedFrom es (c ∷ cs) (s ∷ ss) = eqb s (statusOf [] sameb es (redb s) c) && closedFrom es cs ss
-
 unfoldable pub closedb : Level → Bool
-unfolding closedFrom redEdges
-closedb l = closedFrom (redEdges [] (l .cells) (l .statuses)) (l .cells) (l .statuses)
+unfolding closedFrom redEdges sameb
+closedb l = closedFrom [] sameb (redEdges [] (l .cells) (l .statuses)) (l .cells) (l .statuses)
 
 -- "no edge of a green cell's child, unless also the green cell's own, is an edge of a red cell": a cell that is not regular
 -- is a green cell's child.

@@ -6,15 +6,18 @@
 --   endsFrom es cs ss    the ends of the corners, with those that the cells cs with statuses ss add
 --   pointAt n es c d     the number of the point d of c
 --   nextOf n es k cs ss  the cells one level up of cs, numbered from k, with statuses ss
+--   rowsFrom l k r f i ds  the rows of children on level l of the cell k, from child number i on
+--   rowsOf l k s f       the rows of the whole family, where f gives the point of a digit
 --   sizeOf s             how many children a cell with status s has; sizes ss, of a list
 use mathlib.Core.Bool.{Bool, true, false}
-use mathlib.Core.List.{List, [], _∷_, _++_}
+use mathlib.Core.List.{List, [], _∷_, _++_, map}
 use Prim.Native.Nat.{ℕ, zero, suc, _+_, _*_}
 use lib.Dec.{eqb}
 use lib.ListN.{length, getD, take, drop}
+use Rattle.base.specs.Lists.{one-if}
 use Rattle.base.specs.Places.{placeIn}
 use Rattle.cutting.specs.Rule.{low, high, family}
-use Rattle.mesh.specs.Cells.{Cell, corner, patternOf, children}
+use Rattle.mesh.specs.Cells.{Cell, corner, redb, patternOf, children}
 use Rattle.mesh.specs.Layout.{splitEdges}
 use Rattle.edges.specs.Pairs.{Pair, sorted, isb, addPairs}
 
@@ -54,6 +57,15 @@ unfolding children pointAt
 nextOf n es k [] ss = []
 nextOf n es k (c ∷ cs) [] = []
 nextOf n es k (c ∷ cs) (s ∷ ss) = children k c s (pointAt n es c) ++ nextOf n es (suc k) cs ss
+
+unfoldable pub rowsFrom : ℕ → ℕ → Bool → (ℕ → ℕ) → ℕ → List (List ℕ) → List ℕ
+unfolding one-if
+rowsFrom l k r f i [] = []
+rowsFrom l k r f i (d ∷ ds) = (l ∷ k ∷ i ∷ one-if r ∷ map f d) ++ rowsFrom l k r f (suc i) ds
+
+unfoldable pub rowsOf : ℕ → ℕ → ℕ → (ℕ → ℕ) → List ℕ
+unfolding rowsFrom patternOf
+rowsOf l k s f = elim (eqb s 0) [ true ↦ [] | false ↦ rowsFrom l k (redb s) f 0 (family (patternOf s)) ]
 
 unfoldable pub sizeOf : ℕ → ℕ
 unfolding patternOf

@@ -1,0 +1,7 @@
+pub mod Every
+pub mod Kuhn
+pub mod Tails
+pub mod Regular
+pub mod Levels
+pub mod Edges
+pub mod Facts
