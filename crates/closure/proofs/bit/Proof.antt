@@ -1,0 +1,19 @@
+-- `closure::bit` meets its contract.
+-- Assumes nothing.
+use mathlib.Core.Path.{refl, sym}
+use native.Mathlib.Omega.{arith}
+use Rattle.base.specs.Lists.{one-if}
+use borrow.Author.Tests.{eqb-true}
+use Rattle.closure.proofs.bit.Statement.{statement}
+use Rattle.closure.proofs.bit.Tie as tie
+
+returns : tie.Need-returns
+unfolding one-if
+returns c = (rw (c .if1 .taken) refl, omega arith)
+
+returns-2 : tie.Need-returns-2
+unfolding one-if
+returns-2 c = (rw (c .if1 .left) refl, omega arith)
+
+pub bit-spec : {M : Type 1} → statement M
+bit-spec = tie.close (tie.spec returns returns-2)

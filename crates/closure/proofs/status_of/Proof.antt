@@ -1,0 +1,37 @@
+-- `closure::status_of` meets its contract, case by case.
+-- Assumes nothing.
+use mathlib.Core.Path.{_≡_, sym, _∙_}
+use mathlib.Core.Bool.{Bool, true, false}
+use borrow.Author.Tests.{not-true, not-false}
+use Rattle.edges.specs.Table.{listed}
+use Rattle.rows.specs.Numbered.{cellAt}
+use Rattle.closure.proofs.Closed.{status-irregular, status-red, status-pattern}
+use borrow.Author.Needs.{needs}
+use Rattle.closure.proofs.status_of.Statement.{statement}
+use Rattle.closure.proofs.status_of.Tie as tie
+
+is-regular-requires : tie.Need-is-regular-requires
+is-regular-requires c κs = search needs
+
+returns : tie.Need-returns
+returns c =
+    let a = c .before .before .before .before .before .before .before .args in
+    sym (status-irregular (listed (a .xs .now) (a .ys .now) (a .from) (a .n)) (a .red) (cellAt (a .cells .now) (a .c)) (sym (c .before .is-regular .ensures) ∙ not-true _ (c .if1 .taken)))
+
+returns-2 : tie.Need-returns-2
+returns-2 c =
+    let a = c .before .before .before .before .before .before .before .before .args in
+    sym (status-red (listed (a .xs .now) (a .ys .now) (a .from) (a .n)) (a .red) (cellAt (a .cells .now) (a .c)) (sym (c .before .before .is-regular .ensures) ∙ not-false _ (c .before .if1 .left)) (c .if2 .taken))
+
+pattern-of-requires : tie.Need-pattern-of-requires
+pattern-of-requires c κs = search needs
+
+returns-3 : tie.Need-returns-3
+returns-3 c =
+    let a = c .before .before .before .before .before .before .before .before .before .args in
+    c .pattern-of .ensures
+    ∙ sym (status-pattern (listed (a .xs .now) (a .ys .now) (a .from) (a .n)) (a .red) (cellAt (a .cells .now) (a .c)) (sym (c .before .before .before .is-regular .ensures) ∙ not-false _ (c .before .before .if1 .left)) (c .before .if2 .left))
+
+pub status-of-spec : {M : Type 1} → statement M
+status-of-spec =
+    tie.close (tie.spec is-regular-requires returns returns-2 pattern-of-requires returns-3)

@@ -1,0 +1,188 @@
+// The statuses of one level: the edges of its red cells, and the pattern that each other cell is closed with.
+use rows::Ends;
+ghost use mathlib.Core.Path.{_≡_};
+ghost use Prim.Native.Nat.{_+_, _*_, _-_, _≤_, _<_};
+ghost use lib.ListN.{length, getD};
+ghost use Rattle.base.specs.Lists.{one-if};
+ghost use Rattle.base.specs.Places.{hasb};
+ghost use Rattle.mesh.specs.Cells.{edge, edges, redEdges};
+ghost use Rattle.edges.specs.Pairs.{isb, sorted};
+ghost use Rattle.edges.specs.Table.{Grown, listed};
+ghost use Rattle.rows.specs.Numbered.{cellAt, cellsAt, part};
+ghost use Rattle.closure.specs.Ready.{Ready, Range, Looks, redOf, redCount, listedPattern, listedStatus, listedClosed};
+
+// Inserts the six edges of a cell.
+fn red_edges(
+    cells: &[u16],
+    c: usize,
+    xs: &mut [u32],
+    ys: &mut [u32],
+    heads: &mut [u16],
+    links: &mut [u16],
+    from: usize,
+    n: usize,
+) -> usize
+    requires { ⌜ Ready (now cells) (now xs) (now ys) (now heads) (now links) (c + 1) from n 6 ⌝ }
+    ensures { λ r. ⌜ Grown (now (xs .entry)) (now (ys .entry)) from n (edges 0 (cellAt (now (cells .entry)) c)) (now (xs .exit)) (now (ys .exit)) (now (heads .exit)) (now (links .exit)) r ⌝ }
+{
+    let mut m = n;
+    let mut e = 0;
+    while e < 6 {
+        let ends = rows::edge_of(cells, c, e);
+        let slot = edges::insert(xs, ys, heads, links, from, m, ends.a, ends.b);
+        m = slot.n;
+        e += 1;
+    }
+    m
+}
+
+// Inserts the edges of a cell where its status is red.
+fn red_cell(
+    cells: &[u16],
+    status: u8,
+    c: usize,
+    xs: &mut [u32],
+    ys: &mut [u32],
+    heads: &mut [u16],
+    links: &mut [u16],
+    from: usize,
+    n: usize,
+) -> usize
+    requires { ⌜ Ready (now cells) (now xs) (now ys) (now heads) (now links) (c + 1) from n (length (redOf status (cellAt (now cells) c))) ⌝ }
+    ensures { λ r. ⌜ Grown (now (xs .entry)) (now (ys .entry)) from n (redOf status (cellAt (now (cells .entry)) c)) (now (xs .exit)) (now (ys .exit)) (now (heads .exit)) (now (links .exit)) r ⌝ }
+{
+    if status != 64 {
+        return n;
+    }
+    red_edges(cells, c, xs, ys, heads, links, from, n)
+}
+
+// Inserts the edges of the red cells from first to last.
+pub fn red_level(
+    cells: &[u16],
+    status: &[u8],
+    first: usize,
+    last: usize,
+    xs: &mut [u32],
+    ys: &mut [u32],
+    heads: &mut [u16],
+    links: &mut [u16],
+    from: usize,
+    n: usize,
+) -> usize
+    requires { ⌜ Range (now status) first last ⌝ }
+    requires { ⌜ Ready (now cells) (now xs) (now ys) (now heads) (now links) last from n (6 * redCount (part (now status) first (last - first))) ⌝ }
+    ensures { λ r. ⌜ Grown (now (xs .entry)) (now (ys .entry)) from n (redEdges 0 (cellsAt (now (cells .entry)) first (last - first)) (part (now (status .entry)) first (last - first))) (now (xs .exit)) (now (ys .exit)) (now (heads .exit)) (now (links .exit)) r ⌝ }
+{
+    let mut m = n;
+    let mut c = first;
+    while c < last {
+        let s = status[c];
+        m = red_cell(cells, s, c, xs, ys, heads, links, from, m);
+        c += 1;
+    }
+    m
+}
+
+fn bit(b: bool) -> u8
+    ensures { λ r. ⌜ (r ≡ one-if b) × (r ≤ 1) ⌝ }
+{
+    if b { 1 } else { 0 }
+}
+
+// Whether an edge of a cell is listed.
+fn is_held(
+    cells: &[u16],
+    c: usize,
+    e: usize,
+    xs: &[u32],
+    ys: &[u32],
+    heads: &[u16],
+    links: &[u16],
+    from: usize,
+    n: usize,
+) -> bool
+    requires { ⌜ Looks (now cells) (now xs) (now ys) (now heads) (now links) (c + 1) from n ⌝ }
+    requires { ⌜ e < 6 ⌝ }
+    ensures { λ r. ⌜ r ≡ hasb isb (listed (now (xs .entry)) (now (ys .entry)) from n) (sorted (edge 0 (cellAt (now (cells .entry)) c) e)) ⌝ }
+{
+    let ends = rows::edge_of(cells, c, e);
+    edges::holds(xs, ys, heads, links, from, n, ends.a, ends.b)
+}
+
+// The pattern of the cell's edges that are listed, from the last edge to the first.
+fn pattern_of(
+    cells: &[u16],
+    c: usize,
+    xs: &[u32],
+    ys: &[u32],
+    heads: &[u16],
+    links: &[u16],
+    from: usize,
+    n: usize,
+) -> u8
+    requires { ⌜ Looks (now cells) (now xs) (now ys) (now heads) (now links) (c + 1) from n ⌝ }
+    ensures { λ r. ⌜ r ≡ listedPattern (listed (now (xs .entry)) (now (ys .entry)) from n) (cellAt (now (cells .entry)) c) ⌝ }
+{
+    let mut p: u8 = 0;
+    let mut e = 6;
+    while e > 0 {
+        e -= 1;
+        let held = is_held(cells, c, e, xs, ys, heads, links, from, n);
+        p = bit(held) + 2 * p;
+    }
+    p
+}
+
+// The status of a cell that is red or not, where the edges of its level's red cells are listed.
+pub fn status_of(
+    cells: &[u16],
+    c: usize,
+    red: bool,
+    xs: &[u32],
+    ys: &[u32],
+    heads: &[u16],
+    links: &[u16],
+    from: usize,
+    n: usize,
+) -> u8
+    requires { ⌜ Looks (now cells) (now xs) (now ys) (now heads) (now links) (c + 1) from n ⌝ }
+    ensures { λ r. ⌜ r ≡ listedStatus (listed (now (xs .entry)) (now (ys .entry)) from n) red (cellAt (now (cells .entry)) c) ⌝ }
+{
+    if !rows::is_regular(cells, c) {
+        return 0;
+    }
+    if red {
+        return 64;
+    }
+    pattern_of(cells, c, xs, ys, heads, links, from, n)
+}
+
+// Whether each cell from first to last has the status that the listed edges ask for.
+pub fn closed_level(
+    cells: &[u16],
+    status: &[u8],
+    first: usize,
+    last: usize,
+    xs: &[u32],
+    ys: &[u32],
+    heads: &[u16],
+    links: &[u16],
+    from: usize,
+    n: usize,
+) -> bool
+    requires { ⌜ Range (now status) first last ⌝ }
+    requires { ⌜ Looks (now cells) (now xs) (now ys) (now heads) (now links) last from n ⌝ }
+    ensures { λ r. ⌜ r ≡ listedClosed (listed (now (xs .entry)) (now (ys .entry)) from n) (cellsAt (now (cells .entry)) first (last - first)) (part (now (status .entry)) first (last - first)) ⌝ }
+{
+    let mut c = first;
+    while c < last {
+        let s = status[c];
+        let right = status_of(cells, c, s == 64, xs, ys, heads, links, from, n);
+        if s != right {
+            return false;
+        }
+        c += 1;
+    }
+    true
+}
