@@ -17,7 +17,7 @@ use Rattle.base.specs.Places.{hasb}
 use Rattle.mesh.specs.Cells.{Cell, redb, edges, bitsOf, heldb}
 use Rattle.rows.specs.Numbered.{cellAt}
 use Rattle.edges.specs.Pairs.{Pair, sorted, isb}
-use Rattle.edges.specs.Table.{Edges, Space, Grown, listed}
+use Rattle.edges.specs.Table.{Table, Edges, Space, Grown, listed}
 
 unfoldable pub redOf : ℕ → Cell ℕ → List Pair
 redOf s c = elim (redb s) [ true ↦ edges 0 c | false ↦ [] ]
@@ -48,7 +48,7 @@ pub record Range (status : List ℕ) (first last : ℕ) : Type 0 where
 -- the rows below `last` and an edge table to look into
 pub record Looks (cells xs ys heads links : List ℕ) (last from n : ℕ) : Type 0 where
   pub rows : 8 * last ≤ length cells
-  pub table : Edges xs ys heads links from n
+  pub table : Table xs ys heads links from n
 
 -- The statuses of a level where the edges es of its red cells are listed.
 unfoldable pub listedPattern : List Pair → Cell ℕ → ℕ

@@ -14,7 +14,7 @@ use lib.Seq.{getD-append-seam, getD-set-same, getD-set-other, take-set-le, getD-
 use Rattle.base.specs.Places.{hasb, placeIn, add, Distinct, has-at, has-append, has-below, place-there, either, not-both, add-old, add-new, distinct-add, place-here, place-behind, distinct-nil}
 use Rattle.keys.specs.Keys.{Keys, Room, Added, seek, seek-found, seek-none, Found}
 use Rattle.edges.specs.Pairs.{Pair, sorted, isb, addPair, pairsOf, same-pair}
-use Rattle.edges.specs.Table.{listed, Edges, Inserted}
+use Rattle.edges.specs.Table.{listed, Table, Edges, Inserted}
 
 module _ (xs ys : List ℕ) (k : ℕ) where
   pub length-pairs : (m : ℕ) → length (pairsOf xs ys k m) ≡ m
@@ -119,7 +119,7 @@ unfolding pairsOf
 none-listed xs ys heads links n k = let e : n - n ≡ 0 = omega arith in record { keys = k; up = omega arith; distinct = rw e (distinct-nil isb (0, 0) same-pair) }
 
 -- what `holds` answers
-pub told : (xs ys heads links : List ℕ) (from n : ℕ) → Edges xs ys heads links from n → (e : Pair) (x y : ℕ) → _≡_ {A = Pair} (x, y) (sorted e)
+pub told : (xs ys heads links : List ℕ) (from n : ℕ) → Table xs ys heads links from n → (e : Pair) (x y : ℕ) → _≡_ {A = Pair} (x, y) (sorted e)
     → (at : ℕ) → at ≡ seek xs ys x y from (n - from) → not (eqb at 65535) ≡ hasb isb (listed xs ys from n) (sorted e)
 told xs ys heads links from n r e x y s at q = go (eqb at 65535) refl
   where

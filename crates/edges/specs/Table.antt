@@ -1,6 +1,7 @@
--- Tables of edges: the entries from `from` on are different pairs.
+-- Tables of edges: the entries from `from` on are looked at.
 --   listed xs ys from n           the pairs of the entries from `from` to n
---   Edges xs ys heads links from n    the table is in order
+--   Table xs ys heads links from n    the table can be looked into
+--   Edges xs ys heads links from n    and its entries from `from` on are different
 --   Space xs ys links n k         k entries more have room
 --   Inserted ..                   what inserting an edge leaves
 --   Grown ..                      what inserting a list of edges leaves; grown-none, grown-more, grown-both make it up
@@ -16,6 +17,10 @@ use Rattle.edges.specs.Pairs.{Pair, sorted, isb, addPair, addPairs, pair
 
 abbrev pub listed : List ℕ → List ℕ → ℕ → ℕ → List Pair
 listed xs ys from n = pairsOf xs ys from (n - from)
+
+pub record Table (xs ys heads links : List ℕ) (from n : ℕ) : Type 0 where
+  pub keys : Keys xs ys heads links n
+  pub up : from ≤ n
 
 pub record Edges (xs ys heads links : List ℕ) (from n : ℕ) : Type 0 where
   pub keys : Keys xs ys heads links n

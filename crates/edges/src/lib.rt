@@ -5,7 +5,7 @@ ghost use Prim.Native.Nat.{_-_};
 ghost use Rattle.base.specs.Places.{hasb};
 ghost use Rattle.keys.specs.Keys.{Keys, Room};
 ghost use Rattle.edges.specs.Pairs.{sorted, isb};
-ghost use Rattle.edges.specs.Table.{listed, Edges, Inserted};
+ghost use Rattle.edges.specs.Table.{listed, Table, Edges, Inserted};
 
 // Where an edge stands in the table, and how many entries the table has.
 pub struct Slot {
@@ -41,7 +41,7 @@ pub fn holds(
     a: u16,
     b: u16,
 ) -> bool
-    requires { ⌜ Edges (now xs) (now ys) (now heads) (now links) from n ⌝ }
+    requires { ⌜ Table (now xs) (now ys) (now heads) (now links) from n ⌝ }
     ensures { λ r. ⌜ r ≡ hasb isb (listed (now (xs .entry)) (now (ys .entry)) from n) (sorted (a, b)) ⌝ }
 {
     let e = sorted_ends(a, b);

@@ -1,0 +1,4 @@
+mod Rows
+mod EndRows
+mod Size
+mod SumRows

@@ -1,0 +1,4 @@
+pub mod Ends
+pub mod Sums
+pub mod Weighted
+pub mod Tables
