@@ -70,7 +70,16 @@ fn apart_edge(
 }
 
 // The condition at the cell c.
-fn apart_cell(cells: &[u16], c: usize, xs: &[u32], ys: &[u32], heads: &[u16], links: &[u16], from: usize, n: usize) -> bool
+fn apart_cell(
+    cells: &[u16],
+    c: usize,
+    xs: &[u32],
+    ys: &[u32],
+    heads: &[u16],
+    links: &[u16],
+    from: usize,
+    n: usize,
+) -> bool
     requires { ⌜ Looks (now cells) (now xs) (now ys) (now heads) (now links) (c + 1) from n ⌝ }
     requires { ⌜ (cellAt (now cells) c .regular ≡ false → 8 * getD (now cells) (8 * c + 1) 0 + 8 ≤ length (now cells)) ⌝ }
     ensures { λ r. ⌜ r ≡ listedApart (listed (now (xs .entry)) (now (ys .entry)) from n) (now (cells .entry)) (cellAt (now (cells .entry)) c) ⌝ }
@@ -90,7 +99,16 @@ fn apart_cell(cells: &[u16], c: usize, xs: &[u32], ys: &[u32], heads: &[u16], li
 }
 
 // The condition at each of the cells below last.
-pub fn apart(cells: &[u16], last: usize, xs: &[u32], ys: &[u32], heads: &[u16], links: &[u16], from: usize, n: usize) -> bool
+pub fn apart(
+    cells: &[u16],
+    last: usize,
+    xs: &[u32],
+    ys: &[u32],
+    heads: &[u16],
+    links: &[u16],
+    from: usize,
+    n: usize,
+) -> bool
     requires { ⌜ Looks (now cells) (now xs) (now ys) (now heads) (now links) last from n ⌝ }
     requires { ⌜ Parents (now cells) last ⌝ }
     ensures { λ r. ⌜ r ≡ apartAll (listed (now (xs .entry)) (now (ys .entry)) from n) (now (cells .entry)) last ⌝ }

@@ -3,4 +3,5 @@ pub mod Cells
 pub mod Weights
 pub mod Table
 pub mod Layout
+pub mod Counts
 pub mod Step

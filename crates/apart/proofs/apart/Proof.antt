@@ -50,10 +50,11 @@ loop-less c = search needs
 loop-again : tie.Need-loop-again Inv-loop μ-loop
 loop-again c =
     let a = c .before .before .before .before .before .before .before .before .before .args in
-    let l = c .before .before .before .loop in
-    (omega (arith, c .before .before .loop-test .taken),
-    sym (cells-next (listedApart (listed (a .xs .now) (a .ys .now) (a .from) (a .n)) (a .cells .now)) (a .cells .now) (a .last) (l .c) (c .before .before .loop-test .taken)
-    (sym (c .before .apart-cell .ensures) ∙ not-false _ (c .if1 .left))) ∙ l .inv .1)
+    let l = c .before .before .before .loop in (
+      omega (arith, c .before .before .loop-test .taken),
+      sym (cells-next (listedApart (listed (a .xs .now) (a .ys .now) (a .from) (a .n)) (a .cells .now)) (a .cells .now) (a .last) (l .c) (c .before .before .loop-test .taken)
+          (sym (c .before .apart-cell .ensures) ∙ not-false _ (c .if1 .left))) ∙ l .inv .1,
+    )
 
 returns-2 : tie.Need-returns-2 Inv-loop μ-loop
 returns-2 c =

@@ -76,10 +76,13 @@ loop-again : tie.Need-loop-again Inv-loop μ-loop
 loop-again c =
     let a = c .before .before .before .before .before .before .before .before .before .before .before .before .args in
     let l = c .before .before .before .loop in
-    let es = listed (a .xs .now) (a .ys .now) (a .from) (a .n) in
-    (omega (arith, c .before .before .loop-test .taken), refl, l .inv .2,
-    sym (all-next (apartTest es (a .cells .now) (getD (a .cells .now) (8 * a .c + 1) 0)) (cellAt (a .cells .now) (a .c)) (l .e) (c .before .before .loop-test .taken)
-    (sym (c .before .apart-edge .ensures) ∙ not-false _ (c .if2 .left))) ∙ l .inv .3)
+    let es = listed (a .xs .now) (a .ys .now) (a .from) (a .n) in (
+      omega (arith, c .before .before .loop-test .taken),
+      refl,
+      l .inv .2,
+      sym (all-next (apartTest es (a .cells .now) (getD (a .cells .now) (8 * a .c + 1) 0)) (cellAt (a .cells .now) (a .c)) (l .e) (c .before .before .loop-test .taken)
+          (sym (c .before .apart-edge .ensures) ∙ not-false _ (c .if2 .left))) ∙ l .inv .3,
+    )
 
 returns-3 : tie.Need-returns-3 Inv-loop μ-loop
 returns-3 c =

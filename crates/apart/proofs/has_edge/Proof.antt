@@ -36,7 +36,7 @@ returns c =
     let s = c .before .before .before .before .before .before .args in
     let l = c .before .before .before .before .loop in
     let t : joinsb eqb (s .a, s .b) (edge 0 (cellAt (s .cells .now) (s .g)) (l .e)) ≡ true =
-        ap (λ (p : Pair). joinsb eqb (s .a, s .b) p) (sym (c .before .before .edge-of .ensures)) ∙ sym (c .before .joins .ensures) ∙ c .if1 .taken in
+    ap (λ (p : Pair). joinsb eqb (s .a, s .b) p) (sym (c .before .before .edge-of .ensures)) ∙ sym (c .before .joins .ensures) ∙ c .if1 .taken in
     sym (sym (l .inv .1) ∙ any-hit (joinsb eqb (s .a, s .b)) (cellAt (s .cells .now) (s .g)) (l .e) (c .before .before .before .loop-test .taken) t)
 
 add-e : tie.Need-add-e Inv-loop μ-loop
@@ -50,7 +50,7 @@ loop-again c =
     let s = c .before .before .before .before .before .before .args in
     let l = c .before .before .before .before .loop in
     let t : joinsb eqb (s .a, s .b) (edge 0 (cellAt (s .cells .now) (s .g)) (l .e)) ≡ false =
-        ap (λ (p : Pair). joinsb eqb (s .a, s .b) p) (sym (c .before .before .edge-of .ensures)) ∙ sym (c .before .joins .ensures) ∙ c .if1 .left in
+    ap (λ (p : Pair). joinsb eqb (s .a, s .b) p) (sym (c .before .before .edge-of .ensures)) ∙ sym (c .before .joins .ensures) ∙ c .if1 .left in
     (search needs, sym (any-next (joinsb eqb (s .a, s .b)) (cellAt (s .cells .now) (s .g)) (l .e) (c .before .before .before .loop-test .taken) t) ∙ l .inv .1)
 
 returns-2 : tie.Need-returns-2 Inv-loop μ-loop
