@@ -183,7 +183,7 @@ fn copied(from: usize, count: usize) -> [u8; 32]
 pub fn count(pattern: u8) -> u8
     ensures { λ r. ⌜ r ≡ cutOf pattern .count ⌝ }
 {
-    if pattern > 63 {
+    if pattern >= 64 {
         return 0;
     }
     let row = pattern as usize;

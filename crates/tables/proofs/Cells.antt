@@ -69,8 +69,16 @@ module _ (t : List ℕ) (zs : List (Cell ℕ)) (f : All Four zs) (e : take (8 * 
   unfolding cellAt rowOf
   cell-at i h =
       let z = getD zs i noCell in
-      rw (number i 1 h (omega arith), number i 3 h (omega arith), number i 4 h (omega arith), number i 5 h (omega arith), number i 6 h (omega arith), number i 7 h (omega arith),
-      flag (z .regular), four-points (z .points) (all-at zs f i h))
+      rw (
+        number i 1 h (omega arith),
+        number i 3 h (omega arith),
+        number i 4 h (omega arith),
+        number i 5 h (omega arith),
+        number i 6 h (omega arith),
+        number i 7 h (omega arith),
+        flag (z .regular),
+        four-points (z .points) (all-at zs f i h),
+      )
 
 getD-middle : (xs ys : List (Cell ℕ)) (i : ℕ) → getD (xs ++ ys) (length xs + i) noCell ≡ getD ys i noCell
 getD-middle xs ys i = getD-append-add xs ys i noCell

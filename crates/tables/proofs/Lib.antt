@@ -1,3 +1,5 @@
-pub mod Levels
 pub mod Cells
 pub mod Space
+pub mod Apart
+pub mod Rising
+pub mod Onward

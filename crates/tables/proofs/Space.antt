@@ -55,14 +55,14 @@ module _ (rows ss : List ℕ) (first last : ℕ) (xs ys heads links : List ℕ) 
     after =
         let h = red-sizes (ownStatuses rows ss first last) in
         let k : length (ownReds rows ss first last) ≡ 6 * redCount (ownStatuses rows ss first last) =
-            length-reds (ownCells rows ss first last) (ownStatuses rows ss first last)
-            (length-cells rows first (last - first) ∙ sym (length-part ss first (last - first) (omega arith))) in
+        length-reds (ownCells rows ss first last) (ownStatuses rows ss first last)
+        (length-cells rows first (last - first) ∙ sym (length-part ss first (last - first) (omega arith))) in
         record {
-          keys = g .edges .keys
-        ; few = omega (arith, g .most, r .few)
-        ; in-xs = omega (arith, r .in-xs)
-        ; in-ys = omega (arith, r .in-ys)
-        ; in-links = omega (arith, r .in-links)
+          keys = g .edges .keys;
+          few = omega (arith, g .most, r .few);
+          in-xs = omega (arith, r .in-xs);
+          in-ys = omega (arith, r .in-ys);
+          in-links = omega (arith, r .in-links);
         }
 
     nothing : listed xs ys n n ≡ []
@@ -75,16 +75,16 @@ module _ (rows ss : List ℕ) (first last : ℕ) (xs ys heads links : List ℕ) 
     checked ok size s c =
         let e : listed xs′ ys′ n m ≡ addPairs [] (ownReds rows ss first last) = g .list ∙ rw nothing in
         record {
-          short = λ h. absurd (omega arith)
-        ; more = λ a b. absurd (omega arith)
-        ; whole = λ a b.
-            record {
-              closed = c ∙ rw e (closed-listed (addPairs [] (ownReds rows ss first last)) (ownReds rows ss first last) (lists-added (ownReds rows ss first last))
-                  (ownCells rows ss first last) (ownStatuses rows ss first last))
-            ; many = s
-            ; grown = g
-            ; reds = rw s after
-            }
+          short = λ h. absurd (omega arith);
+          more = λ a b. absurd (omega arith);
+          whole = λ a b.
+              record {
+                closed = c ∙ rw e (closed-listed (addPairs [] (ownReds rows ss first last)) (ownReds rows ss first last) (lists-added (ownReds rows ss first last))
+                    (ownCells rows ss first last) (ownStatuses rows ss first last));
+                many = s;
+                grown = g;
+                reds = rw s after;
+              };
         }
 
 -- the two ways in which a level is not whole

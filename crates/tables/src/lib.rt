@@ -28,7 +28,11 @@ fn check_level(
     ensures { λ r. ⌜ Checked (now (rows .entry)) (now (status .entry)) first last (now (xs .entry)) (now (ys .entry)) n (now (xs .exit)) (now (ys .exit)) (now (heads .exit)) (now (links .exit)) (r .ok) (r .n) (r .size) ⌝ }
 {
     if last > status.len() {
-        return Level { ok: false, n, size: 0 };
+        return Level {
+            ok: false,
+            n,
+            size: 0,
+        };
     }
     let size = sizes::level_size(status, first, last);
     if size > status.len() - last {

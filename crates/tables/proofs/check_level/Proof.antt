@@ -32,21 +32,23 @@ returns-2 c =
 red-level-requires : tie.Need-red-level-requires
 red-level-requires c κs =
     let a = c .before .before .before .before .before .before .before .before .before .before .before .before .before .args in
-    let p = c .before .before .before .before .before .before .before .before .before .before .before .before .before .pre in
-    (record { up = p .1 .1 .0; inside = c .before .before .before .before .before .before .if1 .left },
-    ready (a .rows .now) (a .status .now) (a .first) (a .last) (a .xs .now) (a .ys .now) (a .heads .now) (a .links .now) (a .n) (p .1 .0) (p .1 .1 .0) (p .1 .1 .1) (c .before .before .before .before .before .before .if1 .left) (p .0 .few)
-    (omega (arith, c .before .before .before .before .if2 .left, c .before .before .before .before .before .level-size .ensures, c .before .before .before .before .before .before .if1 .left)))
+    let p = c .before .before .before .before .before .before .before .before .before .before .before .before .before .pre in (
+      record { up = p .1 .1 .0; inside = c .before .before .before .before .before .before .if1 .left },
+      ready (a .rows .now) (a .status .now) (a .first) (a .last) (a .xs .now) (a .ys .now) (a .heads .now) (a .links .now) (a .n) (p .1 .0) (p .1 .1 .0) (p .1 .1 .1) (c .before .before .before .before .before .before .if1 .left) (p .0 .few)
+          (omega (arith, c .before .before .before .before .if2 .left, c .before .before .before .before .before .level-size .ensures, c .before .before .before .before .before .before .if1 .left)),
+    )
 
 closed-level-requires : tie.Need-closed-level-requires
 closed-level-requires c κs =
     let a = c .before .before .before .before .before .before .before .before .before .before .before .before .before .before .before .before .before .before .before .before .before .before .before .before .before .before .args in
     let p = c .before .before .before .before .before .before .before .before .before .before .before .before .before .before .before .before .before .before .before .before .before .before .before .before .before .before .pre in
-    let i = c .before .before .before .before .before .before .before .before .before .before .before .before .red-level in
-    (record { up = p .1 .1 .0; inside = c .before .before .before .before .before .before .before .before .before .before .before .before .before .before .before .before .before .before .before .if1 .left },
-    looks (a .rows .now) (a .status .now) (a .first) (a .last) (a .xs .now) (a .ys .now) (a .heads .now) (a .links .now) (a .n) (p .1 .0) (p .1 .1 .0) (p .1 .1 .1) (c .before .before .before .before .before .before .before .before .before .before .before .before .before .before .before .before .before .before .before .if1 .left) (p .0 .few)
-    (omega (arith, c .before .before .before .before .before .before .before .before .before .before .before .before .before .before .before .before .before .if2 .left, c .before .before .before .before .before .before .before .before .before .before .before .before .before .before .before .before .before .before .level-size .ensures, c .before .before .before .before .before .before .before .before .before .before .before .before .before .before .before .before .before .before .before .if1 .left))
-    (i .last .1 .1 .1 .1 .0) (i .last .1 .1 .1 .1 .1 .0) (i .last .1 .1 .1 .1 .1 .1 .0) (i .last .1 .1 .1 .1 .1 .1 .1 .0) (i .result) (i .ensures)
-    (i .kept .1 .1 .1 .1 .0) (i .kept .1 .1 .1 .1 .1 .0) (i .kept .1 .1 .1 .1 .1 .1 .1 .0))
+    let i = c .before .before .before .before .before .before .before .before .before .before .before .before .red-level in (
+      record { up = p .1 .1 .0; inside = c .before .before .before .before .before .before .before .before .before .before .before .before .before .before .before .before .before .before .before .if1 .left },
+      looks (a .rows .now) (a .status .now) (a .first) (a .last) (a .xs .now) (a .ys .now) (a .heads .now) (a .links .now) (a .n) (p .1 .0) (p .1 .1 .0) (p .1 .1 .1) (c .before .before .before .before .before .before .before .before .before .before .before .before .before .before .before .before .before .before .before .if1 .left) (p .0 .few)
+          (omega (arith, c .before .before .before .before .before .before .before .before .before .before .before .before .before .before .before .before .before .if2 .left, c .before .before .before .before .before .before .before .before .before .before .before .before .before .before .before .before .before .before .level-size .ensures, c .before .before .before .before .before .before .before .before .before .before .before .before .before .before .before .before .before .before .before .if1 .left))
+          (i .last .1 .1 .1 .1 .0) (i .last .1 .1 .1 .1 .1 .0) (i .last .1 .1 .1 .1 .1 .1 .0) (i .last .1 .1 .1 .1 .1 .1 .1 .0) (i .result) (i .ensures)
+          (i .kept .1 .1 .1 .1 .0) (i .kept .1 .1 .1 .1 .1 .0) (i .kept .1 .1 .1 .1 .1 .1 .1 .0),
+    )
 
 same-length : tie.Need-same-length
 same-length c = search needs

@@ -167,11 +167,11 @@ module _ (n : ℕ) (qs : List (List ℕ)) (ss : List ℕ) (j first : ℕ) (cells
       let w : length (next first cells statuses) ≡ sizes statuses = length-next first cells statuses k in
       let m : 11 - j ≡ suc (10 - j) = omega arith in
       let v : levels (11 - j) (first + length cells) (next first cells statuses) (drop (first + length cells) ss)
-          ≡ level (first + length cells) (next first cells statuses) (drop (first + length cells) ss) ∷ above (first + length cells) (next first cells statuses) (drop (first + length cells) ss) (10 - j) =
-          rw m (levels-step (10 - j) (first + length cells) (next first cells statuses) (drop (first + length cells) ss) (omega arith)) in
+      ≡ level (first + length cells) (next first cells statuses) (drop (first + length cells) ss) ∷ above (first + length cells) (next first cells statuses) (drop (first + length cells) ss) (10 - j) =
+      rw m (levels-step (10 - j) (first + length cells) (next first cells statuses) (drop (first + length cells) ss) (omega arith)) in
       let u : length (cellsOf up) ≡ length (next first cells statuses) + length (cellsOf (above (first + length cells) (next first cells statuses) (drop (first + length cells) ss) (10 - j))) =
-          ap (λ (l : List Level). length (cellsOf l)) v ∙ ap length (cells-one (level (first + length cells) (next first cells statuses) (drop (first + length cells) ss)) (above (first + length cells) (next first cells statuses) (drop (first + length cells) ss) (10 - j)))
-          ∙ length-append (next first cells statuses) (cellsOf (above (first + length cells) (next first cells statuses) (drop (first + length cells) ss) (10 - j))) in
+      ap (λ (l : List Level). length (cellsOf l)) v ∙ ap length (cells-one (level (first + length cells) (next first cells statuses) (drop (first + length cells) ss)) (above (first + length cells) (next first cells statuses) (drop (first + length cells) ss) (10 - j)))
+      ∙ length-append (next first cells statuses) (cellsOf (above (first + length cells) (next first cells statuses) (drop (first + length cells) ss) (10 - j))) in
       unsound-count n qs ss (λ e. omega (arith, length-cells))
 
   -- a twelfth level
@@ -182,21 +182,30 @@ module _ (n : ℕ) (qs : List (List ℕ)) (ss : List ℕ) (j first : ℕ) (cells
       let w : length (next first cells statuses) ≡ sizes statuses = length-next first cells statuses k in
       let m : 11 - j ≡ suc 0 = omega arith in
       let v : length up ≡ suc (length (above (first + length cells) (next first cells statuses) (drop (first + length cells) ss) 0)) =
-          rw m (ap length (levels-step 0 (first + length cells) (next first cells statuses) (drop (first + length cells) ss) (omega arith))) in
+      rw m (ap length (levels-step 0 (first + length cells) (next first cells statuses) (drop (first + length cells) ss) (omega arith))) in
       unsound-height n qs ss (omega (arith, ap length split ∙ length-append (r .done) (here ∷ up), r .many))
 
   -- the next level
-  pub reached-next : closedFrom [] sameb (redEdges [] cells statuses) cells statuses ≡ true
-      → Reached n qs ss (suc j) (first + length cells) (next first cells statuses)
+  pub record Next (last : ℕ) : Type 0 where
+    pub reached : Reached n qs ss (suc j) last (next first cells statuses)
+    pub before : cellsOf (reached .done) ≡ cellsOf (r .done) ++ cells
+
+  pub reached-next : (last : ℕ) → last ≡ first + length cells → closedFrom [] sameb (redEdges [] cells statuses) cells statuses ≡ true → Next last
   unfolding here up closedb allb cellsOf
-  reached-next e =
+  reached-next last f e =
       let m : 12 - suc j ≡ 11 - j = omega arith in
+      let b : cellsOf (r .done ++ (here ∷ [])) ≡ cellsOf (r .done) ++ cells =
+      cells-append (r .done) (here ∷ []) ∙ ap (λ (l : List (Cell Point)). cellsOf (r .done) ++ l) (cells-one here [] ∙ append-nil cells) in
       record {
-        done = r .done ++ (here ∷ [])
-      ; rest = split ∙ rw m (sym (append-assoc (r .done) (here ∷ []) up))
-      ; closed = all-append closedb (r .done) (here ∷ []) ∙ rw (r .closed, e)
-      ; many = length-append (r .done) (here ∷ []) ∙ omega (arith, r .many)
-      ; counted = ap length (cells-append (r .done) (here ∷ []) ∙ ap (λ (l : List (Cell Point)). cellsOf (r .done) ++ l) (cells-one here [] ∙ append-nil cells)) ∙ length-append (cellsOf (r .done)) cells ∙ omega (arith, r .counted)
+        reached =
+            record {
+              done = r .done ++ (here ∷ []);
+              rest = split ∙ rw (f, m) (sym (append-assoc (r .done) (here ∷ []) up));
+              closed = all-append closedb (r .done) (here ∷ []) ∙ rw (r .closed, e);
+              many = length-append (r .done) (here ∷ []) ∙ omega (arith, r .many);
+              counted = ap length b ∙ length-append (cellsOf (r .done)) cells ∙ omega (arith, r .counted, f);
+            };
+        before = b;
       }
 
   -- the highest level

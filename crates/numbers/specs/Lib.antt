@@ -1,0 +1,13 @@
+pub mod Lists
+pub mod Ends
+pub mod Corners
+pub mod Midpoints
+pub mod Renamed
+pub mod Tests
+pub mod Refined
+pub mod Levels
+pub mod Children
+pub mod Coarse
+pub mod Leaves
+pub mod Stages
+pub mod Tables

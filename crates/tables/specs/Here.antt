@@ -1,0 +1,89 @@
+-- How far the building of a table has come: the paper's levels and corners beside the program's tables.
+--   Child n c   an irregular cell has one of the first n cells as parent
+--   Mids ..     the table of new corners
+--   Here ..     the levels below j are closed and laid out; the cells of level j are the rows from first to last
+--   Top ..      level j is closed too, and it is the highest
+--   Turned ..   what one turn tells
+use mathlib.Core.Path.{_≡_}
+use mathlib.Core.Bool.{Bool, true, false, _&&_}
+use mathlib.Core.List.{List, _++_, flatMap}
+use Prim.Native.Nat.{ℕ, suc, _+_, _*_, _-_, _≤_, _<_}
+use lib.Dec.{T, eqb}
+use lib.ListN.{length, take}
+use Rattle.base.specs.Lists.{allb}
+use Rattle.mesh.specs.Cells.{Cell, redEdges}
+use Rattle.mesh.specs.Weights.{Point}
+use Rattle.mesh.specs.Table.{cellsOf, levelsOf, soundb, apartb}
+use Rattle.mesh.specs.Layout.{Corner, coarseCorners, cornersFrom, rowOf}
+use Rattle.edges.specs.Table.{Edges, listed}
+use Rattle.lattice.specs.Every.{All}
+use Rattle.numbers.specs.Corners.{Corners}
+use Rattle.numbers.specs.Tests.{cellsIn, Placed}
+use Rattle.numbers.specs.Stages.{Stage}
+use Rattle.closure.proofs.Closed.{Lists}
+use Rattle.tables.specs.Levels.{Reached}
+use Rattle.tables.specs.Checked.{Reds}
+
+-- the parent of an irregular cell is one of the first n cells
+abbrev pub Child : {A : Type 0} → ℕ → Cell A → Type 0
+Child n c = c .regular ≡ false → c .parent < n
+
+-- the tables of new corners
+pub record Mids (xs ys heads links : List ℕ) (m last : ℕ) : Type 0 where
+  pub edges : Edges xs ys heads links 0 m
+  pub few : m ≤ last
+  pub in-xs : 4096 ≤ length xs
+  pub in-ys : 4096 ≤ length ys
+  pub in-links : 4096 ≤ length links
+
+module _ (n : ℕ) (qs : List (List ℕ)) (ss : List ℕ) (j first last : ℕ) (rows : List ℕ) where
+  module _ (xs ys heads links : List ℕ) (k : ℕ) (ps qs′ heads′ links′ : List ℕ) (m : ℕ) where
+    pub record Here : Type 0 where
+      pub cells : List (Cell Point)
+      pub corners : List Corner
+      pub reached : Reached n qs ss j first cells
+      pub stage : Stage n j corners (listed ps qs′ 0 m) cells
+      pub low : j ≤ 10
+      pub some : 0 < length cells
+      pub end : last ≡ first + length cells
+      pub few : last ≤ 4096
+      pub placed : All (Placed corners) (cellsOf (reached .done))
+      pub named : cornersFrom (coarseCorners n) (cellsOf (reached .done)) (take first ss) ≡ corners
+      pub deep : T (allb (λ c. eqb (length (c .path)) (suc j)) cells)
+      pub children : All (Child last) (cellsOf (reached .done) ++ cells)
+      pub table : take (8 * last) rows ≡ flatMap rowOf (cellsIn corners (cellsOf (reached .done) ++ cells))
+      pub long : 32768 ≤ length rows
+      pub red : Lists (listed xs ys 0 k) (redEdges 0 (cellsIn corners (cellsOf (reached .done))) (take first ss))
+      pub reds : Reds xs ys heads links k last
+      pub mids : Mids ps qs′ heads′ links′ m last
+
+-- The highest level is closed, and nothing stands above it.
+module _ (n : ℕ) (qs : List (List ℕ)) (ss : List ℕ) (j last : ℕ) (rows : List ℕ) where
+  module _ (xs ys heads links : List ℕ) (k : ℕ) (ps qs′ heads′ links′ : List ℕ) (m : ℕ) where
+    pub record Top : Type 0 where
+      pub all : List (Cell Point)
+      pub corners : List Corner
+      pub cells : cellsOf (levelsOf n qs ss) ≡ all
+      pub levels : length (levelsOf n qs ss) ≡ suc j
+      pub low : j ≤ 10
+      pub sound : soundb n qs ss ≡ (eqb (length ss) last && apartb all ss)
+      pub counted : length all ≡ last
+      pub few : last ≤ 4096
+      pub placed : All (Placed corners) all
+      pub named : cornersFrom (coarseCorners n) all (take last ss) ≡ corners
+      pub numbered : Corners n corners (listed ps qs′ 0 m)
+      pub children : All (Child last) all
+      pub table : take (8 * last) rows ≡ flatMap rowOf (cellsIn corners all)
+      pub long : 32768 ≤ length rows
+      pub red : Lists (listed xs ys 0 k) (redEdges 0 (cellsIn corners all) (take last ss))
+      pub reds : Reds xs ys heads links k last
+      pub mids : Mids ps qs′ heads′ links′ m last
+
+-- What one turn of the building tells: 0 the table is not sound, 1 the highest level is reached, 2 there is another.
+module _ (n : ℕ) (qs : List (List ℕ)) (ss : List ℕ) (j last : ℕ) (rows : List ℕ) where
+  module _ (xs ys heads links ps qs′ heads′ links′ : List ℕ) (kind last′ k m : ℕ) where
+    pub record Turned : Type 0 where
+      pub one : kind ≤ 2
+      pub fails : kind ≡ 0 → soundb n qs ss ≡ false
+      pub ends : kind ≡ 1 → Top n qs ss j last rows xs ys heads links k ps qs′ heads′ links′ m
+      pub goes : kind ≡ 2 → Here n qs ss (suc j) last last′ rows xs ys heads links k ps qs′ heads′ links′ m
