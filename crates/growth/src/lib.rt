@@ -55,7 +55,7 @@ fn corners_of(cells: &[u16], c: usize) -> [u16; 10]
 }
 
 // Writes a row of the table.
-fn write_row(
+pub fn write_row(
     cells: &mut [u16],
     at: usize,
     level: u16,

@@ -116,7 +116,7 @@ pub record Reached (n : ℕ) (qs : List (List ℕ)) (ss : List ℕ) (j first : �
   pub many : length done ≡ j
   pub counted : length (cellsOf done) ≡ first
 
-pub reached-start : (n : ℕ) (qs : List (List ℕ)) (ss : List ℕ) → Reached n qs ss 0 0 (coarseCells n qs)
+unfoldable pub reached-start : (n : ℕ) (qs : List (List ℕ)) (ss : List ℕ) → Reached n qs ss 0 0 (coarseCells n qs)
 unfolding levelsOf cellsOf flatMap allb
 reached-start n qs ss = record { done = []; rest = refl; closed = refl; many = refl; counted = refl }
 

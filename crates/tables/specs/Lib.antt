@@ -1,3 +1,4 @@
 pub mod Checked
 pub mod Levels
 pub mod Here
+pub mod Start

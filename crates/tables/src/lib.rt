@@ -1,7 +1,12 @@
 // Status tables over a coarse mesh: examined and laid out.
+ghost use mathlib.Core.Path.{_≡_};
+ghost use mathlib.Core.Bool.{false};
+ghost use mathlib.Core.List.{flatMap};
 ghost use Prim.Native.Nat.{_*_, _≤_};
-ghost use lib.ListN.{length};
+ghost use lib.ListN.{length, take};
+ghost use Rattle.base.specs.Fours.{fours};
 ghost use Rattle.tables.specs.Checked.{Statuses, Reds, Checked};
+ghost use Rattle.tables.specs.Start.{Coarse, coarseRow, Empty, Result};
 
 // What the check of a level finds: whether it is closed, how many red edges are listed, and how many cells lie one level up.
 struct Level {
@@ -41,4 +46,91 @@ fn check_level(
     let m = closure::red_level(rows, status, first, last, xs, ys, heads, links, n, n);
     let ok = closure::closed_level(rows, status, first, last, xs, ys, heads, links, n, m);
     Level { ok, n: m, size }
+}
+
+// Lays out the coarse cells.
+fn lay_coarse(mesh: &[u16], rows: &mut [u16]) -> usize
+    requires { ⌜ Coarse (now mesh) (now rows) ⌝ }
+    ensures { λ r. ⌜ (r ≡ length (fours (now (mesh .entry)))) × (take (8 * r) (now (rows .exit)) ≡ flatMap coarseRow (fours (now (mesh .entry)))) ⌝ }
+{
+    let count = mesh.len() / 4;
+    let mut c = 0;
+    while c < count {
+        let i = 4 * c;
+        growth::write_row(rows, c, 0, 65535, 0, 1, mesh[i], mesh[i + 1], mesh[i + 2], mesh[i + 3]);
+        c += 1;
+    }
+    count
+}
+
+// What the building of a table finds: whether all levels are closed, and then how many cells, levels, red edges and new
+// corners there are.
+pub struct Built {
+    pub ok: bool,
+    pub cells: usize,
+    pub levels: usize,
+    pub reds: usize,
+    pub mids: usize,
+}
+
+fn failed() -> Built
+    ensures { λ r. ⌜ r .ok ≡ false ⌝ }
+{
+    Built {
+        ok: false,
+        cells: 0,
+        levels: 0,
+        reds: 0,
+        mids: 0,
+    }
+}
+
+// Builds a table level by level.
+pub fn build(
+    mesh: &[u16],
+    status: &[u8],
+    n: usize,
+    rows: &mut [u16],
+    xs: &mut [u32],
+    ys: &mut [u32],
+    heads: &mut [u16],
+    links: &mut [u16],
+    ps: &mut [u32],
+    qs: &mut [u32],
+    mid_heads: &mut [u16],
+    mid_links: &mut [u16],
+) -> Built
+    requires { ⌜ Statuses (now status) ⌝ }
+    requires { ⌜ Empty n (now mesh) (now rows) (now xs) (now ys) (now heads) (now links) (now ps) (now qs) (now «mid_heads») (now «mid_links») ⌝ }
+    ensures { λ r. ⌜ Result n (fours (now (mesh .entry))) (now (status .entry)) (now (rows .exit)) (now (xs .exit)) (now (ys .exit)) (now (heads .exit)) (now (links .exit)) (now (ps .exit)) (now (qs .exit)) (now («mid_heads» .exit)) (now («mid_links» .exit)) (r .ok) (r .cells) (r .levels) (r .reds) (r .mids) ⌝ }
+{
+    let mut first = 0;
+    let mut last = lay_coarse(mesh, rows);
+    let mut level = 0;
+    let mut k = 0;
+    let mut m = 0;
+    loop {
+        let c = check_level(rows, status, first, last, xs, ys, heads, links, k);
+        if !c.ok {
+            return failed();
+        }
+        k = c.n;
+        if c.size == 0 {
+            return Built {
+                ok: true,
+                cells: last,
+                levels: level + 1,
+                reds: k,
+                mids: m,
+            };
+        }
+        if level == 10 {
+            return failed();
+        }
+        let g = growth::grow_level(rows, status, first, last, (level + 1) as u16, last, n, ps, qs, mid_heads, mid_links, m);
+        m = g.m;
+        first = last;
+        last = g.at;
+        level += 1;
+    }
 }

@@ -1,0 +1,5 @@
+pub mod Turns
+pub mod Ways
+pub mod Levels
+pub mod Points
+pub mod Table

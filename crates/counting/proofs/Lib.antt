@@ -1,0 +1,4 @@
+pub mod Tallies
+pub mod Turns
+pub mod Whole
+pub mod Sound

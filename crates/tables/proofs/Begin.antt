@@ -1,0 +1,73 @@
+-- The building starts with the coarse cells.
+-- Assumes nothing.
+use mathlib.Core.Path.{_≡_, refl, sym, _∙_, ap, ap₂}
+use mathlib.Core.Bool.{Bool, true, false}
+use mathlib.Core.List.{List, [], _∷_, _++_, map, flatMap}
+use Prim.Native.Nat.{ℕ, zero, suc, _+_, _*_, _-_, _≤_, _<_}
+use native.Mathlib.Omega.{arith}
+use lib.Dec.{T, eqb}
+use lib.ListN.{length, take}
+use Rattle.base.specs.Lists.{allb, one-if}
+use Rattle.base.specs.Places.{hasb}
+use Rattle.base.specs.Fours.{fours}
+use Rattle.mesh.specs.Cells.{Cell, none, redEdges}
+use Rattle.mesh.specs.Weights.{Point, coarseFrom, coarseCells}
+use Rattle.mesh.specs.Coarse.{cellsb}
+use Rattle.mesh.specs.Table.{cellsOf}
+use Rattle.mesh.specs.Layout.{coarseCorners, cornersFrom, rowOf, childNumber}
+use Rattle.edges.specs.Pairs.{Pair, pairsOf}
+use Rattle.edges.specs.Table.{listed}
+use Rattle.edges.proofs.Seek.{none-listed}
+use Rattle.lattice.specs.Every.{All}
+use Rattle.lattice.specs.Levels.{fours-four}
+use Rattle.numbers.specs.Corners.{corners-start}
+use Rattle.numbers.specs.Tests.{cellsIn}
+use Rattle.numbers.specs.Coarse.{coarseNumbersFrom, coarseNumbers, coarse-numbers}
+use Rattle.numbers.specs.Stages.{Stage, stage-start}
+use Rattle.tables.specs.Levels.{reached-start}
+use Rattle.tables.specs.Here.{Here, Child, Mids}
+use Rattle.tables.specs.Start.{coarseRow, Coarse, Empty}
+use Rattle.tables.proofs.CoarseRows.{length-fours}
+use Rattle.tables.proofs.Rising.{deep-coarse, child-coarse, length-coarse}
+
+rows-from : (i : ℕ) (qs : List (List ℕ)) → flatMap rowOf (coarseNumbersFrom i qs) ≡ flatMap coarseRow qs
+unfolding flatMap coarseNumbersFrom rowOf coarseRow childNumber one-if
+rows-from i [] = refl
+rows-from i (q ∷ qs) = ap (λ (l : List ℕ). 0 ∷ none ∷ 0 ∷ 1 ∷ (q ++ l)) (rows-from (suc i) qs)
+
+rows-coarse : (qs : List (List ℕ)) → flatMap rowOf (coarseNumbers qs) ≡ flatMap coarseRow qs
+unfolding coarseNumbers
+rows-coarse qs = rows-from 0 qs
+
+module _ (n : ℕ) (mesh ss rows xs ys heads links ps qs heads′ links′ : List ℕ) (s : Empty n mesh rows xs ys heads links ps qs heads′ links′) where
+  abbrev fs : List (List ℕ)
+  fs = fours mesh
+
+  size : length (coarseCells n fs) ≡ length fs
+  unfolding coarseCells
+  size = length-coarse n 0 fs
+
+  module _ (rows′ : List ℕ) (count : ℕ) (c : count ≡ length fs) (t : take (8 * count) rows′ ≡ flatMap coarseRow fs) (l : length rows′ ≡ length rows) where
+    pub here-start : Here n fs ss 0 0 count rows′ xs ys heads links 0 ps qs heads′ links′ 0
+    unfolding reached-start cellsOf flatMap cornersFrom redEdges coarseCells hasb pairsOf
+    here-start =
+        let q = fours-four mesh in
+        record {
+          cells = coarseCells n fs
+        ; corners = coarseCorners n
+        ; reached = reached-start n fs ss
+        ; stage = stage-start n fs q (s .cells)
+        ; low = omega arith
+        ; some = omega (arith, size, length-fours mesh, s .some, s .coarse .whole)
+        ; end = omega (arith, size)
+        ; few = omega (arith, length-fours mesh, s .coarse .few)
+        ; placed = tt
+        ; named = refl
+        ; deep = deep-coarse n 0 fs
+        ; children = child-coarse n count 0 fs
+        ; table = t ∙ sym (ap (flatMap rowOf) (coarse-numbers n (coarseCorners n) [] (corners-start n) fs q (s .cells)) ∙ rows-coarse fs)
+        ; long = omega (arith, s .coarse .long)
+        ; red = record { has = λ p. refl }
+        ; reds = record { keys = s .reds; few = omega arith; in-xs = s .in-xs; in-ys = s .in-ys; in-links = s .in-links }
+        ; mids = record { edges = none-listed ps qs heads′ links′ 0 (s .mids); few = omega arith; in-xs = s .in-ps; in-ys = s .in-qs; in-links = s .in-links′ }
+        }
