@@ -116,19 +116,19 @@ from-append l k r f i (c ∷ ds) d =
 
 -- the loop's invariant, and one child more
 pub record Rows (cells₀ : List ℕ) (at l k : ℕ) (r : Bool) (f : ℕ → ℕ) (p : ℕ) (cells : List ℕ) (i : ℕ) : Type 0 where
-  pub low : i ≤ length (family p)
+  pub below : i ≤ length (family p)
   pub long : length cells ≡ length cells₀
   pub rows : cells ≡ written cells₀ (8 * at) (rowsFrom l k r f 0 (take i (family p)))
 
 module _ (cells₀ : List ℕ) (at l k : ℕ) (r : Bool) (f : ℕ → ℕ) (p : ℕ) where
   pub rows-none : Rows cells₀ at l k r f p cells₀ 0
   unfolding rowsFrom
-  rows-none = record { low = omega arith; long = refl; rows = sym (written-none cells₀ (8 * at)) }
+  rows-none = record { below = omega arith; long = refl; rows = sym (written-none cells₀ (8 * at)) }
 
   module _ (h : p < 64) (room : 8 * (at + length (family p)) ≤ length cells₀) (cells : List ℕ) (i : ℕ) (x : Rows cells₀ at l k r f p cells i) where
     length-some : length (rowsFrom l k r f 0 (take i (family p))) ≡ 8 * i
     length-some =
-        length-from l k r f 0 (take i (family p)) (all-take (λ c. eqb (length c) 4) i (family p) (family-fours p h)) ∙ rw (length-take-le i (family p) (x .low))
+        length-from l k r f 0 (take i (family p)) (all-take (λ c. eqb (length c) 4) i (family p) (family-fours p h)) ∙ rw (length-take-le i (family p) (x .below))
 
     pub rows-more : i < length (family p) → (cells′ : List ℕ) → length cells′ ≡ length cells
         → cells′ ≡ written cells (8 * (at + i)) (l ∷ k ∷ i ∷ one-if r ∷ map f (fourAt (cutOf p .digits) (4 * i))) → Rows cells₀ at l k r f p cells′ (suc i)
@@ -136,13 +136,13 @@ module _ (cells₀ : List ℕ) (at l k : ℕ) (r : Bool) (f : ℕ → ℕ) (p : 
         let vs = rowsFrom l k r f 0 (take i (family p)) in
         let row = l ∷ k ∷ i ∷ one-if r ∷ map f (getD (family p) i []) in
         let e : 8 * (at + i) ≡ 8 * at + length vs = omega (arith, length-some) in
-        let n : 0 + length (take i (family p)) ≡ i = omega (arith, length-take-le i (family p) (x .low)) in
+        let n : 0 + length (take i (family p)) ≡ i = omega (arith, length-take-le i (family p) (x .below)) in
         let v : rowsFrom l k r f 0 (take (suc i) (family p)) ≡ vs ++ row =
         ap (rowsFrom l k r f 0) (take-suc (family p) i [] g) ∙ rw n at (from-append l k r f 0 (take i (family p)) (getD (family p) i [])) in
         record {
-          low = g;
+          below = g;
           long = long ∙ x .long;
-          rows = w ∙ rw (child-digits p h i g, e, x .rows, v) (written-more cells₀ (8 * at) vs (omega (arith, length-some, x .low)) row);
+          rows = w ∙ rw (child-digits p h i g, e, x .rows, v) (written-more cells₀ (8 * at) vs (omega (arith, length-some, x .below)) row);
         }
 
     pub rows-all : i ≡ length (family p) → cells ≡ written cells₀ (8 * at) (rowsFrom l k r f 0 (family p))

@@ -8,7 +8,8 @@ use lib.Dec.{ltb, ltb→lt}
 use lib.ListN.{getD}
 use Rattle.base.specs.Lists.{belowb, belowb-at}
 use Rattle.rows.specs.Numbered.{cellAt}
-use Rattle.growth.specs.Points.{middle, lowCorners}
+use Rattle.growth.specs.Places.{middle}
+use Rattle.growth.specs.Points.{lowCorners}
 
 pub middle-below : (e : ℕ) → e < 6 → middle e < 10
 unfolding middle belowb

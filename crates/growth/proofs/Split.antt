@@ -15,7 +15,8 @@ use Rattle.keys.specs.Keys.{Room}
 use Rattle.edges.specs.Pairs.{Pair, sorted, isb, addPair, same-pair}
 use Rattle.edges.specs.Table.{listed, Edges, Inserted, Space, Grown, grown-none, grown-one}
 use Rattle.edges.proofs.Seek.{length-pairs}
-use Rattle.growth.specs.Points.{middle, splitAt, marked}
+use Rattle.growth.specs.Places.{middle}
+use Rattle.growth.specs.Points.{splitAt, marked}
 
 module _ (p : ℕ) (c : Cell ℕ) (e : ℕ) where
   pub split-none : split p e ≡ false → splitAt p c e ≡ []

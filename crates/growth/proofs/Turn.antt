@@ -18,8 +18,8 @@ use Rattle.mesh.specs.Layout.{edgeNumbers, splitEdges}
 use Rattle.edges.specs.Pairs.{Pair, sorted, isb, addPairs, same-pair, has-pairs}
 use Rattle.edges.specs.Table.{listed, Edges, Space, Grown, grown-none, grown-both}
 use Rattle.rows.specs.Numbered.{pointAt}
-use Rattle.growth.specs.Places.{extends-pairs, present-point, middle-of, point-corner, point-middle}
-use Rattle.growth.specs.Points.{middle, splitAt, lowCorners, marked, Points}
+use Rattle.growth.specs.Places.{middle, extends-pairs, present-point, middle-of, point-corner, point-middle}
+use Rattle.growth.specs.Points.{splitAt, lowCorners, marked, Points}
 use Rattle.growth.proofs.Found.{middle-below}
 use Rattle.growth.proofs.Split.{split-one, marked-none, marked-one}
 
@@ -177,7 +177,7 @@ numbered-all n es c p ps r = record { at = λ d t. ⊎-elim (own d t) (between d
 
 -- the loop's invariant
 pub record Turn (c : Cell ℕ) (p n : ℕ) (xs₀ ys₀ heads₀ links₀ : List ℕ) (m : ℕ) (xs ys heads links ps : List ℕ) (k e : ℕ) : Type 0 where
-  pub low : e ≤ 6
+  pub below : e ≤ 6
   pub xs-long : length xs ≡ length xs₀
   pub ys-long : length ys ≡ length ys₀
   pub heads-long : length heads ≡ length heads₀
@@ -190,7 +190,7 @@ module _ (c : Cell ℕ) (p n : ℕ) (xs₀ ys₀ heads₀ links₀ : List ℕ) (
   unfolding splitsTo
   turn-start r =
       record {
-        low = omega arith;
+        below = omega arith;
         xs-long = refl;
         ys-long = refl;
         heads-long = refl;
@@ -221,7 +221,7 @@ module _ (c : Cell ℕ) (p n : ℕ) (xs₀ ys₀ heads₀ links₀ : List ℕ) (
         → Turn c p n xs₀ ys₀ heads₀ links₀ m xs′ ys′ heads′ links′ ps′ k′ (suc e)
     turn-more xs′ ys′ heads′ links′ ps′ k′ lx ly lh ll g w =
         record {
-          low = h;
+          below = h;
           xs-long = lx ∙ r .xs-long;
           ys-long = ly ∙ r .ys-long;
           heads-long = lh ∙ r .heads-long;
@@ -233,6 +233,6 @@ module _ (c : Cell ℕ) (p n : ℕ) (xs₀ ys₀ heads₀ links₀ : List ℕ) (
   pub turn-all : (xs ys heads links ps : List ℕ) (k e : ℕ) → Turn c p n xs₀ ys₀ heads₀ links₀ m xs ys heads links ps k e → 6 ≤ e → (s : ℕ) → p ≡ patternOf s
       → Grown xs₀ ys₀ 0 m (splitEdges 0 c s) xs ys heads links k × Points n (listed xs ys 0 k) c (patternOf s) ps
   turn-all xs ys heads links ps k e r h s q =
-      let w : e ≡ 6 = omega (arith, r .low) in
+      let w : e ≡ 6 = omega (arith, r .below) in
       let v : splitsTo p c e ≡ splitEdges 0 c s = rw (w, q) (splits-all s c) in
       (rw v at (r .grown), rw q at (numbered-all n (listed xs ys 0 k) c p ps (rw w at (r .numbered))))

@@ -2,13 +2,12 @@
 -- Assumes nothing.
 use mathlib.Core.Path.{_≡_, refl, sym, _∙_, ap}
 use mathlib.Core.List.{List, [], _∷_, _++_}
-use Prim.Native.Nat.{ℕ, zero, suc, _+_, _*_, _-_, _≤_, _<_}
+use Prim.Native.Nat.{ℕ, suc, _+_, _*_, _-_, _≤_, _<_}
 use native.Mathlib.Nat.{add-zero}
 use native.Mathlib.Omega.{arith}
 use lib.Dec.{T, leb}
-use lib.ListN.{length, getD, take, drop, length-append, length-take, length-drop}
-use lib.Seq.{take-take, take-suc, take-nil, getD-take, getD-drop}
-use borrow.Author.Tests.{le-leb}
+use lib.ListN.{length, getD, take, drop}
+use lib.Seq.{take-take}
 use Rattle.base.specs.Lists.{allb}
 use Rattle.mesh.specs.Layout.{splitEdges}
 use Rattle.edges.specs.Pairs.{addPairs}
@@ -16,36 +15,10 @@ use Rattle.edges.specs.Table.{listed, Edges}
 use Rattle.rows.specs.Numbered.{cellAt, cellsAt, part, endsFrom, pointAt, rowsOf, sizeOf, sizes}
 use Rattle.growth.specs.Written.{written, written-none, written-more, cell-kept}
 use Rattle.growth.specs.Rows.{rowsAll, length-rows, rows-snoc, sizes-snoc}
-use Rattle.growth.specs.Places.{Extends, extends-pairs, allb-from, rows-kept, splits-few, ends-snoc}
+use Rattle.growth.specs.Places.{Extends, extends-pairs, rows-kept, splits-few, ends-snoc}
+use Rattle.growth.specs.Parts.{length-cells, length-part, part-more, small-part, sizes-take}
 use Rattle.growth.specs.Points.{Ready}
 use Rattle.growth.specs.Level.{Laid, Roomy, Grows}
-
--- parts of a list
-pub length-cells : (t : List ℕ) (k m : ℕ) → length (cellsAt t k m) ≡ m
-unfolding cellsAt
-length-cells t k zero = refl
-length-cells t k (suc m) = length-append (cellsAt t k m) (cellAt t (k + m) ∷ []) ∙ omega (arith, length-cells t k m)
-
-length-part : (l : List ℕ) (k m : ℕ) → k + m ≤ length l → length (part l k m) ≡ m
-length-part l k m h = simp (length-take, length-drop) (omega arith)
-
-part-more : (l : List ℕ) (k m : ℕ) → k + m < length l → part l k (suc m) ≡ part l k m ++ (getD l (k + m) 0 ∷ [])
-part-more l k m h = take-suc (drop k l) m 0 (simp length-drop (omega arith)) ∙ ap (λ (x : ℕ). part l k m ++ (x ∷ [])) (getD-drop k l m 0)
-
-small-part : (l : List ℕ) (k m : ℕ) → k + m ≤ length l → ((c : ℕ) → k ≤ c → c < k + m → getD l c 0 ≤ 64) → T (allb (λ s. leb s 64) (part l k m))
-small-part l k m h q = allb-from (λ s. leb s 64) 0 (part l k m) at
-  where
-    at : (i : ℕ) → i < length (part l k m) → T (leb (getD (part l k m) i 0) 64)
-    at i g =
-        let w : i < m = rw (length-part l k m h) at g in
-        rw (getD-take m (drop k l) i 0 w, getD-drop k l i 0, le-leb (getD l (k + i) 0) 64 (q (k + i) (omega arith) (omega arith))) tt
-
-sizes-take : (l : List ℕ) (j k : ℕ) → j ≤ k → sizes (take j l) ≤ sizes (take k l)
-unfolding sizes
-sizes-take [] j k h = rw (take-nil j, take-nil k) (omega arith)
-sizes-take (x ∷ l) zero k h = omega arith
-sizes-take (x ∷ l) (suc j) zero h = absurd (omega arith)
-sizes-take (x ∷ l) (suc j) (suc k) h = omega (arith, sizes-take l j k (omega arith))
 
 take-less : (k n : ℕ) (l m : List ℕ) → k ≤ n → take n l ≡ take n m → take k l ≡ take k m
 take-less k n l m h e = sym (take-take k n l h) ∙ ap (take k) e ∙ take-take k n m h

@@ -1,7 +1,10 @@
 -- Corners keep their numbers while the list of ends grows.
 --   Extends es es′   es′ has what es has, at the same places
+--   middle e         the digit of the midpoint of the edge e
+--   Middle d         d is the midpoint of the edge edgeOf d
 -- Laws: extends-ends (what a level of cells adds extends the list), point-kept (a present point keeps its number),
--- rows-kept (the rows of a level stay as they are).
+-- rows-kept (the rows of a level stay as they are), splits-few (a family has at least as many children as its cell has split
+-- edges), ends-snoc (one cell more).
 use mathlib.Core.Path.{_≡_, refl, sym, _∙_, ap, ap₂}
 use mathlib.Core.Logic.{⊎-elim}
 use mathlib.Core.Bool.{Bool, true, false, _&&_, _||_, not, or-true}
@@ -91,24 +94,27 @@ pub present-point : (p d : ℕ) → T (memberb d (present p)) → (d < 10) × ((
 unfolding present
 present-point p d t = let q = picked (λ d. eqb (low d) (high d) || split p (edgeOf d)) d points t in (below-ten d (q .1), q .0)
 
+unfoldable pub middle : ℕ → ℕ
+middle e = getD (1 ∷ 2 ∷ 3 ∷ 5 ∷ 6 ∷ 8 ∷ []) e 0
+
 -- the midpoint d is that of the edge edgeOf d
-middle-test : T (belowb (λ d. impb (not (eqb (low d) (high d))) (eqb (getD (1 ∷ 2 ∷ 3 ∷ 5 ∷ 6 ∷ 8 ∷ []) (edgeOf d) 0) d && ltb (edgeOf d) 6)) 10)
-unfolding belowb impb low high edgeOf
+middle-test : T (belowb (λ d. impb (not (eqb (low d) (high d))) (eqb (middle (edgeOf d)) d && ltb (edgeOf d) 6)) 10)
+unfolding belowb impb low high edgeOf middle
 middle-test = tt
 
 pub record Middle (d : ℕ) : Type 0 where
-  pub digit : getD (1 ∷ 2 ∷ 3 ∷ 5 ∷ 6 ∷ 8 ∷ []) (edgeOf d) 0 ≡ d
+  pub digit : middle (edgeOf d) ≡ d
   pub edge : edgeOf d < 6
 
 pub middle-of : (d : ℕ) → d < 10 → eqb (low d) (high d) ≡ false → Middle d
 middle-of d h e =
-    let w : T (impb (not (eqb (low d) (high d))) (eqb (getD (1 ∷ 2 ∷ 3 ∷ 5 ∷ 6 ∷ 8 ∷ []) (edgeOf d) 0) d && ltb (edgeOf d) 6)) =
-    belowb-at (λ d. impb (not (eqb (low d) (high d))) (eqb (getD (1 ∷ 2 ∷ 3 ∷ 5 ∷ 6 ∷ 8 ∷ []) (edgeOf d) 0) d && ltb (edgeOf d) 6)) 10 middle-test d h in
-    let v : T (eqb (getD (1 ∷ 2 ∷ 3 ∷ 5 ∷ 6 ∷ 8 ∷ []) (edgeOf d) 0) d && ltb (edgeOf d) 6) =
-    impb-use (not (eqb (low d) (high d))) (eqb (getD (1 ∷ 2 ∷ 3 ∷ 5 ∷ 6 ∷ 8 ∷ []) (edgeOf d) 0) d && ltb (edgeOf d) 6) w (rw e tt) in
+    let w : T (impb (not (eqb (low d) (high d))) (eqb (middle (edgeOf d)) d && ltb (edgeOf d) 6)) =
+    belowb-at (λ d. impb (not (eqb (low d) (high d))) (eqb (middle (edgeOf d)) d && ltb (edgeOf d) 6)) 10 middle-test d h in
+    let v : T (eqb (middle (edgeOf d)) d && ltb (edgeOf d) 6) =
+    impb-use (not (eqb (low d) (high d))) (eqb (middle (edgeOf d)) d && ltb (edgeOf d) 6) w (rw e tt) in
     record {
-      digit = eqb→eq (getD (1 ∷ 2 ∷ 3 ∷ 5 ∷ 6 ∷ 8 ∷ []) (edgeOf d) 0) d (and-left (eqb (getD (1 ∷ 2 ∷ 3 ∷ 5 ∷ 6 ∷ 8 ∷ []) (edgeOf d) 0) d) (ltb (edgeOf d) 6) v);
-      edge = ltb→lt (edgeOf d) 6 (and-right (eqb (getD (1 ∷ 2 ∷ 3 ∷ 5 ∷ 6 ∷ 8 ∷ []) (edgeOf d) 0) d) (ltb (edgeOf d) 6) v);
+      digit = eqb→eq (middle (edgeOf d)) d (and-left (eqb (middle (edgeOf d)) d) (ltb (edgeOf d) 6) v);
+      edge = ltb→lt (edgeOf d) 6 (and-right (eqb (middle (edgeOf d)) d) (ltb (edgeOf d) 6) v);
     }
 
 module _ (n : ℕ) (es : List Pair) (c : Cell ℕ) (d : ℕ) where
@@ -117,7 +123,7 @@ module _ (n : ℕ) (es : List Pair) (c : Cell ℕ) (d : ℕ) where
   point-corner e = rw (e, pointAt)
 
   pub point-middle : eqb (low d) (high d) ≡ false → d < 10 → pointAt n es c d ≡ n + placeIn isb es (sorted (edge 0 c (edgeOf d)))
-  unfolding pointAt edge
+  unfolding pointAt edge middle
   point-middle e h = rw (middle-of d h e .digit, e, pointAt)
 
 -- An edge that the status splits is in the list behind it.

@@ -1,5 +1,4 @@
 -- The numbers of a cell's ten points, as they are found edge by edge.
---   middle e                 the digit of the midpoint of the edge e
 --   splitAt p c e            the edge e of c where the pattern splits it, else nothing
 --   lowCorners c             for each of the ten points the number of its lower corner: a corner's own
 --   marked n es c p e ps     the numbers ps with that of the midpoint of the edge e set, where the pattern splits it
@@ -20,9 +19,7 @@ use Rattle.mesh.specs.Layout.{splitEdges}
 use Rattle.edges.specs.Pairs.{Pair, sorted, isb}
 use Rattle.edges.specs.Table.{Edges, Space}
 use Rattle.rows.specs.Numbered.{cellAt, pointAt}
-
-unfoldable pub middle : ℕ → ℕ
-middle e = getD (1 ∷ 2 ∷ 3 ∷ 5 ∷ 6 ∷ 8 ∷ []) e 0
+use Rattle.growth.specs.Places.{middle}
 
 unfoldable pub splitAt : ℕ → Cell ℕ → ℕ → List Pair
 unfolding edge filterb split

@@ -12,8 +12,9 @@ ghost use Rattle.mesh.specs.Layout.{splitEdges};
 ghost use Rattle.keys.specs.Keys.{Room};
 ghost use Rattle.edges.specs.Table.{Edges, Inserted, Grown, Space, listed};
 ghost use Rattle.rows.specs.Numbered.{cellAt, rowsFrom, sizeOf};
+ghost use Rattle.growth.specs.Places.{middle};
 ghost use Rattle.growth.specs.Written.{written};
-ghost use Rattle.growth.specs.Points.{middle, splitAt, lowCorners, marked, fourAt, Points, Ready};
+ghost use Rattle.growth.specs.Points.{splitAt, lowCorners, marked, fourAt, Points, Ready};
 ghost use Rattle.growth.specs.Level.{Laid, Roomy, Grows};
 
 // The pattern that a refined cell is cut by: all edges where it is red.
@@ -283,7 +284,7 @@ fn refine(
     }
 }
 
-// Writes the families of the cells from `first` to `last`, which has none, from row `at` on.
+// Writes the families of the cells `first` to `last` - 1, in cell order, from row `at` on, on level `level`.
 pub fn grow_level(
     cells: &mut [u16],
     status: &[u8],

@@ -53,21 +53,21 @@ module _ (n : ℕ) (mesh ss rows xs ys heads links ps qs heads′ links′ : Lis
     here-start =
         let q = fours-four mesh in
         record {
-          cells = coarseCells n fs
-        ; corners = coarseCorners n
-        ; reached = reached-start n fs ss
-        ; stage = stage-start n fs q (s .cells)
-        ; low = omega arith
-        ; some = omega (arith, size, length-fours mesh, s .some, s .coarse .whole)
-        ; end = omega (arith, size)
-        ; few = omega (arith, length-fours mesh, s .coarse .few)
-        ; placed = tt
-        ; named = refl
-        ; deep = deep-coarse n 0 fs
-        ; children = child-coarse n count 0 fs
-        ; table = t ∙ sym (ap (flatMap rowOf) (coarse-numbers n (coarseCorners n) [] (corners-start n) fs q (s .cells)) ∙ rows-coarse fs)
-        ; long = omega (arith, s .coarse .long)
-        ; red = record { has = λ p. refl }
-        ; reds = record { keys = s .reds; few = omega arith; in-xs = s .in-xs; in-ys = s .in-ys; in-links = s .in-links }
-        ; mids = record { edges = none-listed ps qs heads′ links′ 0 (s .mids); few = omega arith; in-xs = s .in-ps; in-ys = s .in-qs; in-links = s .in-links′ }
+          cells = coarseCells n fs;
+          corners = coarseCorners n;
+          reached = reached-start n fs ss;
+          stage = stage-start n fs q (s .cells);
+          low = omega arith;
+          some = omega (arith, size, length-fours mesh, s .some, s .coarse .whole);
+          end = omega (arith, size);
+          few = omega (arith, length-fours mesh, s .coarse .few);
+          placed = tt;
+          named = refl;
+          deep = deep-coarse n 0 fs;
+          children = child-coarse n count 0 fs;
+          table = t ∙ sym (ap (flatMap rowOf) (coarse-numbers n (coarseCorners n) [] (corners-start n) fs q (s .cells)) ∙ rows-coarse fs);
+          long = omega (arith, s .coarse .long);
+          red = record { has = λ p. refl };
+          reds = record { keys = s .reds; few = omega arith; in-xs = s .in-xs; in-ys = s .in-ys; in-links = s .in-links };
+          mids = record { edges = none-listed ps qs heads′ links′ 0 (s .mids); few = omega arith; in-xs = s .in-ps; in-ys = s .in-qs; in-links = s .in-links′ };
         }

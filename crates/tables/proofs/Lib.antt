@@ -6,3 +6,4 @@ pub mod Onward
 pub mod CoarseRows
 pub mod Begin
 pub mod Turns
+pub mod Finish

@@ -39,12 +39,12 @@ use Rattle.tables.proofs.Cells.{strip, Four, cells-at, red-strip, close
 use Rattle.tables.proofs.Rising.{deep-next, child-next}
 
 -- cells over numbers have four points
-four-in : (ks : List Corner) (cs : List (Cell Point)) → All (Placed ks) cs → All Four (cellsIn ks cs)
+pub four-in : (ks : List Corner) (cs : List (Cell Point)) → All (Placed ks) cs → All Four (cellsIn ks cs)
 unfolding mapCell
 four-in ks [] p = tt
 four-in ks (c ∷ cs) p = (length-map (c .points) (numberIn ks) ∙ p .0 .four, four-in ks cs (p .1))
 
-length-in : (ks : List Corner) (cs : List (Cell Point)) → length (cellsIn ks cs) ≡ length cs
+pub length-in : (ks : List Corner) (cs : List (Cell Point)) → length (cellsIn ks cs) ≡ length cs
 length-in ks cs = length-map cs (mapCell (numberIn ks))
 
 -- red edges of two lists, one behind the other

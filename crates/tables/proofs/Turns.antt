@@ -25,10 +25,12 @@ module _ (n : ℕ) (qs : List (List ℕ)) (ss : List ℕ) (j first last : ℕ) (
   pub turn-fails : ok ≡ false → soundb n qs ss ≡ false
   turn-fails e =
       elim (decLt (length ss) last) [
-        yes l ↦ fails-short n qs ss j first last rows xs ys heads links k ps ps′ heads′ links′ m h l
-      | no l ↦ elim (decLt (length ss) (last + sizes (ownStatuses rows ss first last))) [
-          yes g ↦ fails-more n qs ss j first last rows xs ys heads links k ps ps′ heads′ links′ m h (omega (arith, l)) g
-        | no g ↦ fails-open n qs ss j first last rows xs ys heads links k ps ps′ heads′ links′ m h (sym (c .whole (omega (arith, l)) (omega (arith, g)) .closed) ∙ e) ] ]
+        | yes l ↦ fails-short n qs ss j first last rows xs ys heads links k ps ps′ heads′ links′ m h l
+        | no l ↦ elim (decLt (length ss) (last + sizes (ownStatuses rows ss first last))) [
+          | yes g ↦ fails-more n qs ss j first last rows xs ys heads links k ps ps′ heads′ links′ m h (omega (arith, l)) g
+          | no g ↦ fails-open n qs ss j first last rows xs ys heads links k ps ps′ heads′ links′ m h (sym (c .whole (omega (arith, l)) (omega (arith, g)) .closed) ∙ e)
+        ]
+      ]
 
   pub record Fitting : Type 0 where
     pub inside : last ≤ length ss
@@ -38,10 +40,12 @@ module _ (n : ℕ) (qs : List (List ℕ)) (ss : List ℕ) (j first last : ℕ) (
   pub turn-fits : ok ≡ true → Fitting
   turn-fits e =
       elim (decLt (length ss) last) [
-        yes l ↦ not-both ok e (c .short l)
-      | no l ↦ elim (decLt (length ss) (last + sizes (ownStatuses rows ss first last))) [
-          yes g ↦ not-both ok e (c .more (omega (arith, l)) g)
-        | no g ↦ record { inside = omega (arith, l); fit = omega (arith, g); whole = c .whole (omega (arith, l)) (omega (arith, g)) } ] ]
+        | yes l ↦ not-both ok e (c .short l)
+        | no l ↦ elim (decLt (length ss) (last + sizes (ownStatuses rows ss first last))) [
+          | yes g ↦ not-both ok e (c .more (omega (arith, l)) g)
+          | no g ↦ record { inside = omega (arith, l); fit = omega (arith, g); whole = c .whole (omega (arith, l)) (omega (arith, g)) }
+        ]
+      ]
 
   module _ (e : ok ≡ true) where
     closed : closedFrom [] sameb (redEdges [] (h .cells) (part ss first (length (h .cells)))) (h .cells) (part ss first (length (h .cells))) ≡ true
@@ -65,18 +69,18 @@ module _ (n : ℕ) (qs : List (List ℕ)) (ss : List ℕ) (j first last : ℕ) (
         let f = turn-fits e in
         let d = h .mids in
         record {
-          rise = omega (arith, h .end)
-        ; done = omega arith
-        ; statuses = f .inside
-        ; small = λ i a b. status-fits ss (st .fit) i (omega (arith, f .inside))
-        ; in-cells = omega (arith, f .fit, st .few, h .long)
-        ; most = omega (arith, f .fit, st .few)
-        ; coarse = c
-        ; few = d .few
-        ; edges = d .edges
-        ; in-xs = d .in-xs
-        ; in-ys = d .in-ys
-        ; in-links = d .in-links
+          rise = omega (arith, h .end);
+          done = omega arith;
+          statuses = f .inside;
+          small = λ i a b. status-fits ss (st .fit) i (omega (arith, f .inside));
+          in-cells = omega (arith, f .fit, st .few, h .long);
+          most = omega (arith, f .fit, st .few);
+          coarse = c;
+          few = d .few;
+          edges = d .edges;
+          in-xs = d .in-xs;
+          in-ys = d .in-ys;
+          in-links = d .in-links;
         }
 
     pub turn-next : (size ≡ 0 → ⊥) → (j ≡ 10 → ⊥) → (rows₂ ps₂ ps₂′ heads₂ links₂ : List ℕ) (last₂ m₂ : ℕ)

@@ -7,6 +7,7 @@ ghost use lib.ListN.{length, take};
 ghost use Rattle.base.specs.Fours.{fours};
 ghost use Rattle.tables.specs.Checked.{Statuses, Reds, Checked};
 ghost use Rattle.tables.specs.Start.{Coarse, coarseRow, Empty, Result};
+ghost use Rattle.tables.specs.Sound.{Mesh, Examined};
 
 // What the check of a level finds: whether it is closed, how many red edges are listed, and how many cells lie one level up.
 struct Level {
@@ -57,7 +58,18 @@ fn lay_coarse(mesh: &[u16], rows: &mut [u16]) -> usize
     let mut c = 0;
     while c < count {
         let i = 4 * c;
-        growth::write_row(rows, c, 0, 65535, 0, 1, mesh[i], mesh[i + 1], mesh[i + 2], mesh[i + 3]);
+        growth::write_row(
+            rows,
+            c,
+            0,
+            65535,
+            0,
+            1,
+            mesh[i],
+            mesh[i + 1],
+            mesh[i + 2],
+            mesh[i + 3],
+        );
         c += 1;
     }
     count
@@ -127,10 +139,82 @@ pub fn build(
         if level == 10 {
             return failed();
         }
-        let g = growth::grow_level(rows, status, first, last, (level + 1) as u16, last, n, ps, qs, mid_heads, mid_links, m);
+        let g = growth::grow_level(
+            rows,
+            status,
+            first,
+            last,
+            (level + 1) as u16,
+            last,
+            n,
+            ps,
+            qs,
+            mid_heads,
+            mid_links,
+            m,
+        );
         m = g.m;
         first = last;
         last = g.at;
         level += 1;
+    }
+}
+
+// Examines a status table over an accepted mesh of n corners. Where it is sound, the rows are those of its cells, and ps and qs
+// have the ends of its new corners.
+pub fn examine(
+    mesh: &[u16],
+    status: &[u8],
+    n: usize,
+    rows: &mut [u16],
+    ps: &mut [u32],
+    qs: &mut [u32],
+) -> Built
+    requires { ⌜ Mesh n (now mesh) ⌝ }
+    requires { ⌜ (32768 ≤ length (now rows)) × (4096 ≤ length (now ps)) × (4096 ≤ length (now qs)) ⌝ }
+    ensures { λ r. ⌜ Examined n (fours (now (mesh .entry))) (now (status .entry)) (now (rows .exit)) (now (ps .exit)) (now (qs .exit)) (r .ok) (r .cells) (r .levels) (r .mids) ⌝ }
+{
+    if status.len() > 4096 {
+        return failed();
+    }
+    if !sizes::fits(status) {
+        return failed();
+    }
+    let mut xs = [0u32; 3072];
+    let mut ys = [0u32; 3072];
+    let mut heads = [0u16; 4096];
+    let mut links = [0u16; 3072];
+    let mut mid_heads = [0u16; 4096];
+    let mut mid_links = [0u16; 4096];
+    keys::clear(&mut heads);
+    keys::clear(&mut mid_heads);
+    let b = build(
+        mesh,
+        status,
+        n,
+        rows,
+        &mut xs,
+        &mut ys,
+        &mut heads,
+        &mut links,
+        ps,
+        qs,
+        &mut mid_heads,
+        &mut mid_links,
+    );
+    if !b.ok {
+        return failed();
+    }
+    let cells = b.cells;
+    if status.len() != cells {
+        return failed();
+    }
+    let ok = apart::apart(rows, cells, &xs, &ys, &heads, &links, 0, b.reds);
+    Built {
+        ok,
+        cells,
+        levels: b.levels,
+        reds: b.reds,
+        mids: b.mids,
     }
 }

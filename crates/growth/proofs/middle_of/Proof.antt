@@ -1,7 +1,7 @@
 -- `growth::middle_of` meets its contract: the constant is the list of the digits.
 -- Assumes nothing.
 use mathlib.Core.Path.{refl}
-use Rattle.growth.specs.Points.{middle}
+use Rattle.growth.specs.Places.{middle}
 use Rattle.growth.proofs.Found.{middle-below}
 use borrow.Author.Needs.{needs}
 use Rattle.growth.proofs.middle_of.Statement.{statement}

@@ -78,7 +78,7 @@ returns c =
     let l = c .before .loop in (
       rw (size (c .before .before .before .before .before)),
       rows-all (a .cells .now) (a .at) (a .level) (a .parent) (a .regular) (λ d. getD (a .points .now) d 0) (a .pattern) (c .before .before .before .before .before .before .before .pre .0) (c .before .before .before .before .before .before .before .pre .1) (l .cells) (l .i) (l .inv)
-          (omega (arith, size (c .before .before .before .before .before), l .inv .low)),
+          (omega (arith, size (c .before .before .before .before .before), l .inv .below)),
     )
 
 pub write-children-spec : {M : Type 1} → statement M

@@ -32,10 +32,11 @@ lay-coarse-requires c κs = c .before .before .before .before .before .before .b
 loop-holds : tie.Need-loop-holds Inv-loop μ-loop
 loop-holds c =
     let a = c .before .before .before .before .before .before .before .before .before .before .before .before .before .before .before .args in
-    let i = c .before .before .lay-coarse in
-    (record { l0 = refl; l1 = refl; l2 = refl; l3 = refl; l4 = refl; l5 = refl; l6 = refl; l7 = refl; l8 = refl },
-    here-start (a .n) (a .mesh .now) (a .status .now) (a .rows .now) (a .xs .now) (a .ys .now) (a .heads .now) (a .links .now) (a .ps .now) (a .qs .now) (a .mid-heads .now) (a .mid-links .now) (c .before .before .before .before .before .before .before .before .before .before .before .before .before .before .before .pre .1)
-    (i .last .1 .0) (i .result) (i .ensures .0) (i .ensures .1) (i .kept .1 .0))
+    let i = c .before .before .lay-coarse in (
+      record { l0 = refl; l1 = refl; l2 = refl; l3 = refl; l4 = refl; l5 = refl; l6 = refl; l7 = refl; l8 = refl },
+      here-start (a .n) (a .mesh .now) (a .status .now) (a .rows .now) (a .xs .now) (a .ys .now) (a .heads .now) (a .links .now) (a .ps .now) (a .qs .now) (a .mid-heads .now) (a .mid-links .now) (c .before .before .before .before .before .before .before .before .before .before .before .before .before .before .before .pre .1)
+          (i .last .1 .0) (i .result) (i .ensures .0) (i .ensures .1) (i .kept .1 .0),
+    )
 
 check-level-requires : tie.Need-check-level-requires Inv-loop μ-loop
 check-level-requires c κs =
@@ -115,8 +116,12 @@ returns-2 c =
     let l = c .before .before .before .before .before .before .before .before .before .before .before .before .before .before .before .before .before .before .loop in
     let a = c .before .before .before .before .before .before .before .before .before .before .before .before .before .before .before .before .before .before .before .before .before .before .before .before .before .before .before .before .before .before .before .before .before .before .args in
     let t = c .before .before .before .before .before .before .before .before .before .before .before .before .check-level in
-    record { fails = λ e. not-both true refl e; level = l .level; levels-is = λ e. add-one (l .level);
-        top = λ e. turn-top (a .n) (fours (a .mesh .now)) (a .status .now) (l .level) (l .first) (l .last) (l .rows) (l .xs) (l .ys) (l .heads) (l .links) (l .k) (l .ps) (l .qs) (l .mid-heads) (l .mid-links) (l .m) (l .inv .1) (c .before .before .before .before .before .before .before .before .before .before .before .before .before .before .before .before .before .before .before .before .before .before .before .before .before .before .before .before .before .before .before .before .before .before .pre .0) (t .last .1 .1 .1 .1 .0) (t .last .1 .1 .1 .1 .1 .0) (t .last .1 .1 .1 .1 .1 .1 .0) (t .last .1 .1 .1 .1 .1 .1 .1 .0) (t .result .ok) (t .result .n) (t .result .size) (t .ensures) (not-false _ (c .before .before .if1 .left)) (c .if2 .taken) }
+    record {
+      fails = λ e. not-both true refl e;
+      level = l .level;
+      levels-is = λ e. add-one (l .level);
+      top = λ e. turn-top (a .n) (fours (a .mesh .now)) (a .status .now) (l .level) (l .first) (l .last) (l .rows) (l .xs) (l .ys) (l .heads) (l .links) (l .k) (l .ps) (l .qs) (l .mid-heads) (l .mid-links) (l .m) (l .inv .1) (c .before .before .before .before .before .before .before .before .before .before .before .before .before .before .before .before .before .before .before .before .before .before .before .before .before .before .before .before .before .before .before .before .before .before .pre .0) (t .last .1 .1 .1 .1 .0) (t .last .1 .1 .1 .1 .1 .0) (t .last .1 .1 .1 .1 .1 .1 .0) (t .last .1 .1 .1 .1 .1 .1 .1 .0) (t .result .ok) (t .result .n) (t .result .size) (t .ensures) (not-false _ (c .before .before .if1 .left)) (c .if2 .taken);
+    }
 
 failed-requires-2 : tie.Need-failed-requires-2 Inv-loop μ-loop
 failed-requires-2 c κs = search needs
@@ -154,7 +159,7 @@ returns-3 c =
     let a = c .before .before .before .before .before .before .before .before .before .before .before .before .before .before .before .before .before .before .before .before .before .before .before .before .before .before .before .before .before .before .before .before .before .before .before .before .args in
     let t = c .before .before .before .before .before .before .before .before .before .before .before .before .before .before .check-level in
     let u : soundb (a .n) (fours (a .mesh .now)) (a .status .now) ≡ false =
-        turn-high (a .n) (fours (a .mesh .now)) (a .status .now) (l .level) (l .first) (l .last) (l .rows) (l .xs) (l .ys) (l .heads) (l .links) (l .k) (l .ps) (l .qs) (l .mid-heads) (l .mid-links) (l .m) (l .inv .1) (c .before .before .before .before .before .before .before .before .before .before .before .before .before .before .before .before .before .before .before .before .before .before .before .before .before .before .before .before .before .before .before .before .before .before .before .before .pre .0) (t .last .1 .1 .1 .1 .0) (t .last .1 .1 .1 .1 .1 .0) (t .last .1 .1 .1 .1 .1 .1 .0) (t .last .1 .1 .1 .1 .1 .1 .1 .0) (t .result .ok) (t .result .n) (t .result .size) (t .ensures) (not-false _ (c .before .before .before .before .if1 .left)) (c .before .before .if2 .left) (c .before .if3 .taken) in
+    turn-high (a .n) (fours (a .mesh .now)) (a .status .now) (l .level) (l .first) (l .last) (l .rows) (l .xs) (l .ys) (l .heads) (l .links) (l .k) (l .ps) (l .qs) (l .mid-heads) (l .mid-links) (l .m) (l .inv .1) (c .before .before .before .before .before .before .before .before .before .before .before .before .before .before .before .before .before .before .before .before .before .before .before .before .before .before .before .before .before .before .before .before .before .before .before .before .pre .0) (t .last .1 .1 .1 .1 .0) (t .last .1 .1 .1 .1 .1 .0) (t .last .1 .1 .1 .1 .1 .1 .0) (t .last .1 .1 .1 .1 .1 .1 .1 .0) (t .result .ok) (t .result .n) (t .result .size) (t .ensures) (not-false _ (c .before .before .before .before .if1 .left)) (c .before .before .if2 .left) (c .before .if3 .taken) in
     record { fails = λ e. u; level = 0; levels-is = λ e. not-both (c .failed2 .result .ok) e (c .failed2 .ensures); top = λ e. not-both (c .failed2 .result .ok) e (c .failed2 .ensures) }
 
 add-grow-level : tie.Need-add-grow-level Inv-loop μ-loop
@@ -182,12 +187,22 @@ loop-again c =
     let a = c .before .before .before .before .before .before .before .before .before .before .before .before .before .before .before .before .before .before .before .before .before .before .before .before .before .before .before .before .before .before .before .before .before .before .before .before .before .before .before .before .before .before .before .before .before .before .before .before .before .before .before .args in
     let t = c .before .before .before .before .before .before .before .before .before .before .before .before .before .before .before .before .before .before .before .before .before .before .before .before .before .before .before .before .before .check-level in
     let g = c .before .before .before .before .before .before .before .before .before .before .grow-level in
-    let w = l .inv .0 in
-    (record { l0 = g .kept .0 ∙ w .l0; l1 = t .kept .1 .1 .1 .1 .0 ∙ w .l1; l2 = t .kept .1 .1 .1 .1 .1 .0 ∙ w .l2; l3 = t .kept .1 .1 .1 .1 .1 .1 .0 ∙ w .l3; l4 = t .kept .1 .1 .1 .1 .1 .1 .1 .0 ∙ w .l4;
-        l5 = g .kept .1 .1 .1 .1 .1 .1 .1 .0 ∙ w .l5; l6 = g .kept .1 .1 .1 .1 .1 .1 .1 .1 .0 ∙ w .l6; l7 = g .kept .1 .1 .1 .1 .1 .1 .1 .1 .1 .0 ∙ w .l7; l8 = g .kept .1 .1 .1 .1 .1 .1 .1 .1 .1 .1 .0 ∙ w .l8 },
-    rw (add-one (l .level)) (turn-next (a .n) (fours (a .mesh .now)) (a .status .now) (l .level) (l .first) (l .last) (l .rows) (l .xs) (l .ys) (l .heads) (l .links) (l .k) (l .ps) (l .qs) (l .mid-heads) (l .mid-links) (l .m) (l .inv .1) (c .before .before .before .before .before .before .before .before .before .before .before .before .before .before .before .before .before .before .before .before .before .before .before .before .before .before .before .before .before .before .before .before .before .before .before .before .before .before .before .before .before .before .before .before .before .before .before .before .before .before .before .pre .0) (t .last .1 .1 .1 .1 .0) (t .last .1 .1 .1 .1 .1 .0) (t .last .1 .1 .1 .1 .1 .1 .0) (t .last .1 .1 .1 .1 .1 .1 .1 .0) (t .result .ok) (t .result .n) (t .result .size) (t .ensures) (not-false _ (c .before .before .before .before .before .before .before .before .before .before .before .before .before .before .before .before .before .before .before .if1 .left)) (c .before .before .before .before .before .before .before .before .before .before .before .before .before .before .before .before .before .if2 .left) (c .before .before .before .before .before .before .before .before .before .before .before .before .before .before .before .before .if3 .left)
-    (g .last .0) (g .last .1 .1 .1 .1 .1 .1 .1 .0) (g .last .1 .1 .1 .1 .1 .1 .1 .1 .0) (g .last .1 .1 .1 .1 .1 .1 .1 .1 .1 .0) (g .last .1 .1 .1 .1 .1 .1 .1 .1 .1 .1 .0) (g .result .at) (g .result .m) (rw (add-one (l .level)) at (g .ensures))
-    (g .kept .0) (g .kept .1 .1 .1 .1 .1 .1 .1 .0) (g .kept .1 .1 .1 .1 .1 .1 .1 .1 .0) (g .kept .1 .1 .1 .1 .1 .1 .1 .1 .1 .1 .0)))
+    let w = l .inv .0 in (
+      record {
+        l0 = g .kept .0 ∙ w .l0;
+        l1 = t .kept .1 .1 .1 .1 .0 ∙ w .l1;
+        l2 = t .kept .1 .1 .1 .1 .1 .0 ∙ w .l2;
+        l3 = t .kept .1 .1 .1 .1 .1 .1 .0 ∙ w .l3;
+        l4 = t .kept .1 .1 .1 .1 .1 .1 .1 .0 ∙ w .l4;
+        l5 = g .kept .1 .1 .1 .1 .1 .1 .1 .0 ∙ w .l5;
+        l6 = g .kept .1 .1 .1 .1 .1 .1 .1 .1 .0 ∙ w .l6;
+        l7 = g .kept .1 .1 .1 .1 .1 .1 .1 .1 .1 .0 ∙ w .l7;
+        l8 = g .kept .1 .1 .1 .1 .1 .1 .1 .1 .1 .1 .0 ∙ w .l8;
+      },
+      rw (add-one (l .level)) (turn-next (a .n) (fours (a .mesh .now)) (a .status .now) (l .level) (l .first) (l .last) (l .rows) (l .xs) (l .ys) (l .heads) (l .links) (l .k) (l .ps) (l .qs) (l .mid-heads) (l .mid-links) (l .m) (l .inv .1) (c .before .before .before .before .before .before .before .before .before .before .before .before .before .before .before .before .before .before .before .before .before .before .before .before .before .before .before .before .before .before .before .before .before .before .before .before .before .before .before .before .before .before .before .before .before .before .before .before .before .before .before .pre .0) (t .last .1 .1 .1 .1 .0) (t .last .1 .1 .1 .1 .1 .0) (t .last .1 .1 .1 .1 .1 .1 .0) (t .last .1 .1 .1 .1 .1 .1 .1 .0) (t .result .ok) (t .result .n) (t .result .size) (t .ensures) (not-false _ (c .before .before .before .before .before .before .before .before .before .before .before .before .before .before .before .before .before .before .before .if1 .left)) (c .before .before .before .before .before .before .before .before .before .before .before .before .before .before .before .before .before .if2 .left) (c .before .before .before .before .before .before .before .before .before .before .before .before .before .before .before .before .if3 .left)
+          (g .last .0) (g .last .1 .1 .1 .1 .1 .1 .1 .0) (g .last .1 .1 .1 .1 .1 .1 .1 .1 .0) (g .last .1 .1 .1 .1 .1 .1 .1 .1 .1 .0) (g .last .1 .1 .1 .1 .1 .1 .1 .1 .1 .1 .0) (g .result .at) (g .result .m) (rw (add-one (l .level)) at (g .ensures))
+          (g .kept .0) (g .kept .1 .1 .1 .1 .1 .1 .1 .0) (g .kept .1 .1 .1 .1 .1 .1 .1 .1 .0) (g .kept .1 .1 .1 .1 .1 .1 .1 .1 .1 .1 .0)),
+    )
 
 pub build-spec : {M : Type 1} → statement M
 build-spec =

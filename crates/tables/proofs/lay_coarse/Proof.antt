@@ -72,9 +72,12 @@ loop-again : tie.Need-loop-again Inv-loop μ-loop
 loop-again c =
     let l = c .before .before .before .before .before .before .before .before .before .loop in
     let a = c .before .before .before .before .before .before .before .before .before .before .before .before .args in
-    let w = c .before .before .write-row in
-    (omega (arith, c .before .before .before .before .before .before .before .before .loop-test .taken), refl, w .kept .0 ∙ l .inv .2,
-    rw (w .ensures) (row-more (a .mesh .now) (l .rows) (l .c) (omega (arith, c .before .before .before .before .before .before .before .before .loop-test .taken)) (omega (arith, l .inv .2, c .before .before .before .before .before .before .before .before .loop-test .taken, c .before .before .before .before .before .before .before .before .before .before .before .before .pre .long, c .before .before .before .before .before .before .before .before .before .before .before .before .pre .few)) (l .inv .3)))
+    let w = c .before .before .write-row in (
+      omega (arith, c .before .before .before .before .before .before .before .before .loop-test .taken),
+      refl,
+      w .kept .0 ∙ l .inv .2,
+      rw (w .ensures) (row-more (a .mesh .now) (l .rows) (l .c) (omega (arith, c .before .before .before .before .before .before .before .before .loop-test .taken)) (omega (arith, l .inv .2, c .before .before .before .before .before .before .before .before .loop-test .taken, c .before .before .before .before .before .before .before .before .before .before .before .before .pre .long, c .before .before .before .before .before .before .before .before .before .before .before .before .pre .few)) (l .inv .3)),
+    )
 
 same-length : tie.Need-same-length Inv-loop μ-loop
 same-length c = search needs

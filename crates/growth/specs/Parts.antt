@@ -1,0 +1,38 @@
+-- Parts of lists: how long they are, one element more, and what holds of each.
+use mathlib.Core.Path.{_≡_, refl, _∙_, ap}
+use mathlib.Core.List.{List, [], _∷_, _++_}
+use Prim.Native.Nat.{ℕ, zero, suc, _+_, _≤_, _<_}
+use native.Mathlib.Omega.{arith}
+use lib.Dec.{T, leb}
+use lib.ListN.{length, getD, take, drop, length-append, length-take, length-drop}
+use lib.Seq.{take-suc, take-nil, getD-take, getD-drop}
+use borrow.Author.Tests.{le-leb}
+use Rattle.base.specs.Lists.{allb}
+use Rattle.rows.specs.Numbered.{cellAt, cellsAt, part, sizes}
+use Rattle.growth.specs.Places.{allb-from}
+
+pub length-cells : (t : List ℕ) (k m : ℕ) → length (cellsAt t k m) ≡ m
+unfolding cellsAt
+length-cells t k zero = refl
+length-cells t k (suc m) = length-append (cellsAt t k m) (cellAt t (k + m) ∷ []) ∙ omega (arith, length-cells t k m)
+
+pub length-part : (l : List ℕ) (k m : ℕ) → k + m ≤ length l → length (part l k m) ≡ m
+length-part l k m h = simp (length-take, length-drop) (omega arith)
+
+pub part-more : (l : List ℕ) (k m : ℕ) → k + m < length l → part l k (suc m) ≡ part l k m ++ (getD l (k + m) 0 ∷ [])
+part-more l k m h = take-suc (drop k l) m 0 (simp length-drop (omega arith)) ∙ ap (λ (x : ℕ). part l k m ++ (x ∷ [])) (getD-drop k l m 0)
+
+pub small-part : (l : List ℕ) (k m : ℕ) → k + m ≤ length l → ((c : ℕ) → k ≤ c → c < k + m → getD l c 0 ≤ 64) → T (allb (λ s. leb s 64) (part l k m))
+small-part l k m h q = allb-from (λ s. leb s 64) 0 (part l k m) at
+  where
+    at : (i : ℕ) → i < length (part l k m) → T (leb (getD (part l k m) i 0) 64)
+    at i g =
+        let w : i < m = rw (length-part l k m h) at g in
+        rw (getD-take m (drop k l) i 0 w, getD-drop k l i 0, le-leb (getD l (k + i) 0) 64 (q (k + i) (omega arith) (omega arith))) tt
+
+pub sizes-take : (l : List ℕ) (j k : ℕ) → j ≤ k → sizes (take j l) ≤ sizes (take k l)
+unfolding sizes
+sizes-take [] j k h = rw (take-nil j, take-nil k) (omega arith)
+sizes-take (x ∷ l) zero k h = omega arith
+sizes-take (x ∷ l) (suc j) zero h = absurd (omega arith)
+sizes-take (x ∷ l) (suc j) (suc k) h = omega (arith, sizes-take l j k (omega arith))

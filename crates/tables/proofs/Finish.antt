@@ -1,0 +1,95 @@
+-- The end of the examination: the count, and the third condition.
+-- Assumes nothing.
+use mathlib.Core.Path.{_≡_, refl, sym, _∙_, ap}
+use mathlib.Core.Logic.{⊎-elim}
+use mathlib.Core.Bool.{Bool, true, false, _&&_}
+use mathlib.Core.List.{List, [], _∷_, _++_, map, flatMap}
+use Rattle.numbers.specs.Renamed.{apartOf}
+use Prim.Native.Nat.{ℕ, zero, suc, _+_, _*_, _-_, _≤_, _<_}
+use native.Mathlib.Omega.{arith}
+use lib.Dec.{T, eqb, leb}
+use lib.ListN.{length, take, length-map}
+use lib.Seq.{take-length}
+use borrow.Author.Tests.{eq-eqb, ne-eqb}
+use Rattle.base.specs.Lists.{allb}
+use Rattle.base.specs.Places.{either, not-both}
+use Rattle.mesh.specs.Cells.{Cell, redEdges}
+use Rattle.mesh.specs.Weights.{Point}
+use Rattle.mesh.specs.Table.{soundb, apartb}
+use Rattle.mesh.specs.Layout.{Corner, rowOf, mapCell, numberIn, cellTable, cornersOf, cornersFrom, coarseCorners}
+use Rattle.edges.specs.Table.{listed}
+use Rattle.lattice.specs.Every.{All}
+use Rattle.numbers.specs.Tests.{cellsIn, Placed, apart-numbers}
+use Rattle.closure.proofs.Closed.{Lists}
+use Rattle.closure.specs.Ready.{Looks}
+use Rattle.apart.specs.Parents.{Parents, apartAll}
+use Rattle.counting.specs.Levels.{Levels}
+use Rattle.counting.proofs.Sound.{sound-levels}
+use Rattle.tables.specs.Here.{Top, Child}
+use Rattle.tables.specs.Sound.{Sound, tableCells, tableCorners}
+use Rattle.tables.proofs.Cells.{Four}
+use Rattle.tables.proofs.Apart.{apart-rows, parents-rows}
+use Rattle.tables.proofs.Onward.{four-in, length-in}
+
+-- what a sound table cannot be
+module _ (n : ℕ) (qs : List (List ℕ)) (ss : List ℕ) where
+  pub unsound-long : 4096 < length ss → soundb n qs ss ≡ false
+  unsound-long h = ⊎-elim (λ e. absurd (omega (arith, sound-levels n qs ss e .small))) (λ e. e) (either (soundb n qs ss))
+
+  pub unsound-status : allb (λ s. leb s 64) ss ≡ false → soundb n qs ss ≡ false
+  unsound-status f = ⊎-elim (λ e. not-both (allb (λ s. leb s 64) ss) (sound-levels n qs ss e .statuses) f) (λ e. e) (either (soundb n qs ss))
+
+rows-in : (ks : List Corner) (cs : List (Cell Point)) → flatMap rowOf (cellsIn ks cs) ≡ cellTable ks cs
+unfolding flatMap cellTable
+rows-in ks [] = refl
+rows-in ks (c ∷ cs) = ap (λ (l : List ℕ). rowOf (mapCell (numberIn ks) c) ++ l) (rows-in ks cs)
+
+child-in : (n : ℕ) (ks : List Corner) (cs : List (Cell Point)) → All (Child n) cs → All (Child n) (cellsIn ks cs)
+unfolding mapCell
+child-in n ks [] h = tt
+child-in n ks (c ∷ cs) h = (h .0, child-in n ks cs (h .1))
+
+module _ (n : ℕ) (qs : List (List ℕ)) (ss : List ℕ) (j last : ℕ) (rows xs ys heads links : List ℕ) (k : ℕ) (ps ps′ heads′ links′ : List ℕ) (m : ℕ)
+    (t : Top n qs ss j last rows xs ys heads links k ps ps′ heads′ links′ m) where
+  size : length (cellsIn (t .corners) (t .all)) ≡ last
+  size = length-in (t .corners) (t .all) ∙ t .counted
+
+  pub top-looks : Looks rows xs ys heads links last 0 k
+  top-looks = record { rows = omega (arith, t .few, t .long); table = record { keys = t .reds .keys; up = omega arith } }
+
+  pub top-parents : Parents rows last
+  top-parents =
+      let z = parents-rows rows (cellsIn (t .corners) (t .all)) (four-in (t .corners) (t .all) (t .placed)) (rw size (t .table)) (take last ss) (listed xs ys 0 k) (t .red)
+      (child-in (length (cellsIn (t .corners) (t .all))) (t .corners) (t .all) (rw size (t .children))) in
+      rw size at z
+
+  pub top-not : (length ss ≡ last → ⊥) → soundb n qs ss ≡ false
+  top-not h = t .sound ∙ rw (ne-eqb (length ss) last h)
+
+  module _ (e : length ss ≡ last) where
+    all-of : take last ss ≡ ss
+    all-of = rw (← e) (take-length ss)
+
+    pub top-apart : apartAll (listed xs ys 0 k) rows last ≡ soundb n qs ss
+    top-apart =
+        let z : apartAll (listed xs ys 0 k) rows (length (cellsIn (t .corners) (t .all))) ≡ apartOf 0 eqb (cellsIn (t .corners) (t .all)) (take last ss) =
+        apart-rows rows (cellsIn (t .corners) (t .all)) (four-in (t .corners) (t .all) (t .placed)) (rw size (t .table)) (take last ss) (listed xs ys 0 k) (t .red)
+        (child-in (length (cellsIn (t .corners) (t .all))) (t .corners) (t .all) (rw size (t .children))) in
+        let w : apartAll (listed xs ys 0 k) rows last ≡ apartOf 0 eqb (cellsIn (t .corners) (t .all)) ss = rw (size, all-of) at z in
+        w ∙ apart-numbers (t .corners) (t .all) ss (t .placed) ∙ sym (t .sound ∙ rw (eq-eqb (length ss) last e))
+
+    named : tableCorners n qs ss ≡ t .corners
+    unfolding cornersOf
+    named = rw (t .cells) (rw all-of at (t .named))
+
+    pub top-sound : Sound n qs ss rows ps ps′ last (suc j) m
+    top-sound =
+        record {
+          counted = rw (t .cells) (t .counted);
+          high = t .levels;
+          few = t .few;
+          low = omega (arith, t .low);
+          most = t .mids .few;
+          table = t .table ∙ rows-in (t .corners) (t .all) ∙ sym (rw (named, t .cells));
+          corners = rw named (t .numbered);
+        }

@@ -1,0 +1,46 @@
+-- What the examination of a table leaves where the table is sound.
+--   tableCells, tableCorners   the paper's cells and corners of a table
+--   Mesh n mesh  an accepted mesh of n corners, as far as it matters here
+--   Examined ..  the answer, and where it is yes
+--   Sound ..     the rows, the ends of the new corners, and how many cells, levels and new corners there are
+use mathlib.Core.Path.{_≡_}
+use mathlib.Core.Bool.{Bool, true}
+use mathlib.Core.List.{List}
+use Prim.Native.Nat.{ℕ, _+_, _*_, _%_, _≤_, _<_}
+use lib.Dec.{T}
+use lib.ListN.{length, take}
+use Rattle.mesh.specs.Cells.{Cell}
+use Rattle.mesh.specs.Weights.{Point}
+use Rattle.base.specs.Fours.{fours}
+use Rattle.mesh.specs.Coarse.{cellsb}
+use Rattle.mesh.specs.Table.{levelsOf, cellsOf, soundb}
+use Rattle.mesh.specs.Layout.{Corner, cornersOf, cellTable}
+use Rattle.edges.specs.Table.{listed}
+use Rattle.numbers.specs.Corners.{Corners}
+
+abbrev pub tableCells : ℕ → List (List ℕ) → List ℕ → List (Cell Point)
+tableCells n qs ss = cellsOf (levelsOf n qs ss)
+
+abbrev pub tableCorners : ℕ → List (List ℕ) → List ℕ → List Corner
+tableCorners n qs ss = cornersOf n (tableCells n qs ss) ss
+
+pub record Sound (n : ℕ) (qs : List (List ℕ)) (ss rows ps qs′ : List ℕ) (cells levels m : ℕ) : Type 0 where
+  pub counted : length (tableCells n qs ss) ≡ cells
+  pub high : length (levelsOf n qs ss) ≡ levels
+  pub few : cells ≤ 4096
+  pub low : levels ≤ 11
+  pub most : m ≤ cells
+  pub table : take (8 * cells) rows ≡ cellTable (tableCorners n qs ss) (tableCells n qs ss)
+  pub corners : Corners n (tableCorners n qs ss) (listed ps qs′ 0 m)
+
+-- an accepted mesh, as far as it matters here
+pub record Mesh (n : ℕ) (mesh : List ℕ) : Type 0 where
+  pub whole : length mesh % 4 ≡ 0
+  pub few : length mesh ≤ 1024
+  pub some : 0 < length mesh
+  pub corners : n ≤ 512
+  pub cells : T (cellsb n (fours mesh))
+
+pub record Examined (n : ℕ) (qs : List (List ℕ)) (ss rows ps qs′ : List ℕ) (ok : Bool) (cells levels m : ℕ) : Type 0 where
+  pub answer : ok ≡ soundb n qs ss
+  pub sound : ok ≡ true → Sound n qs ss rows ps qs′ cells levels m
