@@ -1,0 +1,47 @@
+-- Counting the keys of cells and faces. A key is a pair of numbers, kept as `keys` keeps it with a count beside each entry.
+--   high t                     the first number of the key of a cell or a face
+--   lowCell q, lowFace t       its second number
+--   times xs ys counts n x y   how often the pair x, y was counted: what stands beside its entry, 0 where it has none
+--   Tables ..                  the tables have room for as many entries as there can be faces
+--   Open ..                    the pair x, y can be counted
+--   Tallied ..                 what counting it leaves: n′ entries, and its count
+use mathlib.Core.Path.{_≡_}
+use mathlib.Core.List.{List}
+use Prim.Native.Nat.{ℕ, _+_, _*_, _≤_, _<_}
+use lib.ListN.{length, getD}
+use Rattle.keys.specs.Keys.{seek, Keys}
+
+unfoldable pub high : List ℕ → ℕ
+high t = getD t 0 0 * 512 + getD t 1 0
+
+unfoldable pub lowCell : List ℕ → ℕ
+lowCell q = getD q 2 0 * 512 + getD q 3 0
+
+unfoldable pub lowFace : List ℕ → ℕ
+lowFace t = getD t 2 0
+
+unfoldable pub times : List ℕ → List ℕ → List ℕ → ℕ → ℕ → ℕ → ℕ
+unfolding seek
+times xs ys counts n x y = getD counts (seek xs ys x y 0 n) 0
+
+pub record Tables (xs ys heads links counts : List ℕ) : Type 0 where
+  pub in-xs : 1024 ≤ length xs
+  pub in-ys : 1024 ≤ length ys
+  pub in-heads : 4096 ≤ length heads
+  pub in-links : 1024 ≤ length links
+  pub in-counts : 1024 ≤ length counts
+  pub short : length counts ≤ 65535
+
+pub record Open (xs ys heads links counts : List ℕ) (n x y : ℕ) : Type 0 where
+  pub tables : Tables xs ys heads links counts
+  pub keys : Keys xs ys heads links n
+  pub room : n < 1024
+  pub low : times xs ys counts n x y < 255
+
+pub record Tallied (xs ys counts : List ℕ) (n x y : ℕ) (xs′ ys′ heads′ links′ counts′ : List ℕ) (n′ count : ℕ) : Type 0 where
+  pub tables : Tables xs′ ys′ heads′ links′ counts′
+  pub keys : Keys xs′ ys′ heads′ links′ n′
+  pub grown : n′ ≤ n + 1
+  pub count-is : count ≡ times xs ys counts n x y + 1
+  pub same : times xs′ ys′ counts′ n′ x y ≡ times xs ys counts n x y + 1
+  pub others : (v w : ℕ) → (x ≡ v → y ≡ w → ⊥) → times xs′ ys′ counts′ n′ v w ≡ times xs ys counts n v w

@@ -1,0 +1,349 @@
+// The refusals 1 to 5 of a coarse mesh (document 01, "Coarse mesh").
+use base::Answer;
+ghost use mathlib.Core.Path.{_≡_};
+ghost use mathlib.Core.Bool.{not};
+ghost use mathlib.Core.List.{[]};
+ghost use Prim.Native.Nat.{_+_, _*_, _/_, _<_};
+ghost use lib.Dec.{leb};
+ghost use lib.IntN.{natAbs};
+ghost use lib.ListN.{length, getD};
+ghost use Rattle.base.specs.Fours.{fours};
+ghost use Rattle.cutting.specs.Rule.{zerob};
+ghost use Rattle.mesh.specs.Coarse.{countsb, positionsb, cellb, cellsb, coordinate, determinant, solidb, twiceb, singleb, meshAnswer};
+ghost use Rattle.coarse.specs.Cells.{corners, faceCorners, faceAt, Placed, Ranked, crowdedb};
+ghost use Rattle.coarse.specs.Volume.{Small, Corner, Corners, edgeOf, termOf};
+ghost use Rattle.coarse.specs.Tally.{Open, Tallied};
+
+// A cell's corner numbers.
+struct Cell {
+    a: u16,
+    b: u16,
+    c: u16,
+    d: u16,
+}
+
+// A face's corner numbers.
+struct Face {
+    a: u16,
+    b: u16,
+    c: u16,
+}
+
+// Refusal 1: how many corners and cells.
+fn counts_ok(positions: &[i32], cells: &[u16]) -> bool
+    ensures { λ r. ⌜ r ≡ countsb (now (positions .entry)) (now (cells .entry)) ⌝ }
+{
+    if positions.len() % 3 != 0 {
+        return false;
+    }
+    if cells.len() % 4 != 0 {
+        return false;
+    }
+    let corners = positions.len() / 3;
+    if corners < 4 {
+        return false;
+    }
+    if corners > 512 {
+        return false;
+    }
+    let count = cells.len() / 4;
+    if count < 1 {
+        return false;
+    }
+    count <= 256
+}
+
+// Whether a number of a position lies within its bounds.
+fn within(z: i32) -> bool
+    ensures { λ r. ⌜ r ≡ leb (natAbs z) 500000 ⌝ }
+{
+    if z < -500000 {
+        return false;
+    }
+    z <= 500000
+}
+
+// Refusal 2: each number of a position.
+fn positions_ok(positions: &[i32]) -> bool
+    ensures { λ r. ⌜ r ≡ positionsb (now (positions .entry)) ⌝ }
+{
+    for i in 0..positions.len() {
+        if !within(positions[i]) {
+            return false;
+        }
+    }
+    true
+}
+
+// Cell k of the flat list.
+fn cell_at(cells: &[u16], k: usize) -> Cell
+    requires { ⌜ k < length (now cells) / 4 ⌝ }
+    ensures { λ r. ⌜ corners r ≡ getD (fours (now (cells .entry))) k [] ⌝ }
+{
+    Cell {
+        a: cells[4 * k],
+        b: cells[4 * k + 1],
+        c: cells[4 * k + 2],
+        d: cells[4 * k + 3],
+    }
+}
+
+// Whether a cell's corner numbers rise, and are of so many corners.
+fn ascending(q: Cell, count: usize) -> bool
+    ensures { λ r. ⌜ r ≡ cellb count (corners q) ⌝ }
+{
+    if q.a >= q.b {
+        return false;
+    }
+    if q.b >= q.c {
+        return false;
+    }
+    if q.c >= q.d {
+        return false;
+    }
+    (q.d as usize) < count
+}
+
+// Refusal 3: each cell's corner numbers.
+fn cells_ok(cells: &[u16], count: usize) -> bool
+    ensures { λ r. ⌜ r ≡ cellsb count (fours (now (cells .entry))) ⌝ }
+{
+    for k in 0..cells.len() / 4 {
+        if !ascending(cell_at(cells, k), count) {
+            return false;
+        }
+    }
+    true
+}
+
+// A coordinate of a corner.
+fn coordinate_of(positions: &[i32], corner: u16, axis: usize) -> i64
+    requires { ⌜ Corner (now positions) corner ⌝ }
+    requires { ⌜ axis < 3 ⌝ }
+    ensures { λ r. ⌜ (r ≡ coordinate (now (positions .entry)) corner axis) × Small 500000 r ⌝ }
+{
+    positions[3 * corner as usize + axis] as i64
+}
+
+// A coordinate of the vector from corner a to corner b.
+fn edge(positions: &[i32], a: u16, b: u16, axis: usize) -> i64
+    requires { ⌜ Corner (now positions) a ⌝ }
+    requires { ⌜ Corner (now positions) b ⌝ }
+    requires { ⌜ axis < 3 ⌝ }
+    ensures { λ r. ⌜ (r ≡ edgeOf (now (positions .entry)) a b axis) × Small 1000000 r ⌝ }
+{
+    coordinate_of(positions, b, axis) - coordinate_of(positions, a, axis)
+}
+
+// One of the three terms of the determinant: a coordinate of the vector to b times a minor of those to c and d.
+fn term(positions: &[i32], a: u16, b: u16, c: u16, d: u16, i: usize, j: usize, k: usize) -> i64
+    requires { ⌜ Corners (now positions) a b c d ⌝ }
+    requires { ⌜ (i < 3) × (j < 3) × (k < 3) ⌝ }
+    ensures { λ r. ⌜ (r ≡ termOf (now (positions .entry)) a b c d i j k) × Small 2000000000000000000 r ⌝ }
+{
+    let p = edge(positions, a, c, j) * edge(positions, a, d, k);
+    let q = edge(positions, a, c, k) * edge(positions, a, d, j);
+    edge(positions, a, b, i) * (p - q)
+}
+
+// Whether a cell is not flat.
+fn solid_cell(positions: &[i32], cell: Cell) -> bool
+    requires { ⌜ Corners (now positions) (cell .a) (cell .b) (cell .c) (cell .d) ⌝ }
+    ensures { λ r. ⌜ r ≡ not (zerob (determinant (now (positions .entry)) (corners cell))) ⌝ }
+{
+    let a = cell.a;
+    let b = cell.b;
+    let c = cell.c;
+    let d = cell.d;
+    let p = term(positions, a, b, c, d, 0, 1, 2);
+    let q = term(positions, a, b, c, d, 1, 0, 2);
+    let r = term(positions, a, b, c, d, 2, 0, 1);
+    p - q + r != 0
+}
+
+// Refusal 4: no cell is flat.
+fn solid(positions: &[i32], cells: &[u16]) -> bool
+    requires { ⌜ Placed (now positions) (now cells) ⌝ }
+    ensures { λ r. ⌜ r ≡ solidb (now (positions .entry)) (fours (now (cells .entry))) ⌝ }
+{
+    for k in 0..cells.len() / 4 {
+        if !solid_cell(positions, cell_at(cells, k)) {
+            return false;
+        }
+    }
+    true
+}
+
+// How many pairs have been counted, and how often the last one was.
+struct Counted {
+    n: usize,
+    count: u8,
+}
+
+// Counts a pair: a new one becomes entry n, with its count beside it.
+fn tally(
+    xs: &mut [u32; 1024],
+    ys: &mut [u32; 1024],
+    heads: &mut [u16; 4096],
+    links: &mut [u16; 1024],
+    counts: &mut [u8; 1024],
+    n: usize,
+    x: u32,
+    y: u32,
+) -> Counted
+    requires { ⌜ Open (now xs) (now ys) (now heads) (now links) (now counts) n x y ⌝ }
+    ensures { λ r. ⌜ Tallied (now (xs .entry)) (now (ys .entry)) (now (counts .entry)) n x y (now (xs .exit)) (now (ys .exit)) (now (heads .exit)) (now (links .exit)) (now (counts .exit)) (r .n) (r .count) ⌝ }
+{
+    let e = keys::find(xs, ys, heads, links, 0, n, x, y);
+    if e == 65535 {
+        keys::add(xs, ys, heads, links, n, x, y);
+        counts[n] = 1;
+        return Counted { n: n + 1, count: 1 };
+    }
+    let count = counts[e] + 1;
+    counts[e] = count;
+    Counted { n, count }
+}
+
+// Two corner numbers as one number of a key.
+fn pair(a: u16, b: u16) -> u32
+    ensures { λ r. ⌜ r ≡ a * 512 + b ⌝ }
+{
+    a as u32 * 512 + b as u32
+}
+
+// No two cells have the same corners.
+fn cells_differ(cells: &[u16]) -> bool
+    requires { ⌜ Ranked (now cells) ⌝ }
+    ensures { λ r. ⌜ r ≡ not (twiceb (fours (now (cells .entry)))) ⌝ }
+{
+    let mut xs = [0u32; 1024];
+    let mut ys = [0u32; 1024];
+    let mut heads = [0u16; 4096];
+    let mut links = [0u16; 1024];
+    let mut counts = [0u8; 1024];
+    keys::clear(&mut heads);
+    let mut n: usize = 0;
+    for k in 0..cells.len() / 4 {
+        let q = cell_at(cells, k);
+        let x = pair(q.a, q.b);
+        let y = pair(q.c, q.d);
+        let t = tally(
+            &mut xs,
+            &mut ys,
+            &mut heads,
+            &mut links,
+            &mut counts,
+            n,
+            x,
+            y,
+        );
+        if t.count > 1 {
+            return false;
+        }
+        n = t.n;
+    }
+    true
+}
+
+// Face i of the cells: the cell i / 4 without its corner i % 4.
+fn face_at(cells: &[u16], i: usize) -> Face
+    requires { ⌜ i / 4 < length (now cells) / 4 ⌝ }
+    ensures { λ r. ⌜ faceCorners r ≡ faceAt (now (cells .entry)) i ⌝ }
+{
+    let q = cell_at(cells, i / 4);
+    let out = i % 4;
+    if out == 0 {
+        return Face {
+            a: q.b,
+            b: q.c,
+            c: q.d,
+        };
+    }
+    if out == 1 {
+        return Face {
+            a: q.a,
+            b: q.c,
+            c: q.d,
+        };
+    }
+    if out == 2 {
+        return Face {
+            a: q.a,
+            b: q.b,
+            c: q.d,
+        };
+    }
+    Face {
+        a: q.a,
+        b: q.b,
+        c: q.c,
+    }
+}
+
+// No face is in three cells.
+fn faces_ok(cells: &[u16]) -> bool
+    requires { ⌜ Ranked (now cells) ⌝ }
+    ensures { λ r. ⌜ r ≡ not (crowdedb (fours (now (cells .entry)))) ⌝ }
+{
+    let mut xs = [0u32; 1024];
+    let mut ys = [0u32; 1024];
+    let mut heads = [0u16; 4096];
+    let mut links = [0u16; 1024];
+    let mut counts = [0u8; 1024];
+    keys::clear(&mut heads);
+    let mut n: usize = 0;
+    for i in 0..cells.len() {
+        let f = face_at(cells, i);
+        let x = pair(f.a, f.b);
+        let y = f.c as u32;
+        let t = tally(
+            &mut xs,
+            &mut ys,
+            &mut heads,
+            &mut links,
+            &mut counts,
+            n,
+            x,
+            y,
+        );
+        if t.count > 2 {
+            return false;
+        }
+        n = t.n;
+    }
+    true
+}
+
+// Refusal 5: no two cells with the same corners, no face in three cells.
+fn single(cells: &[u16]) -> bool
+    requires { ⌜ Ranked (now cells) ⌝ }
+    ensures { λ r. ⌜ r ≡ singleb (fours (now (cells .entry))) ⌝ }
+{
+    if !cells_differ(cells) {
+        return false;
+    }
+    faces_ok(cells)
+}
+
+// Whether a coarse mesh is accepted, and if not, why.
+pub fn examine_mesh(positions: &[i32], cells: &[u16]) -> Answer
+    ensures { λ r. ⌜ r ≡ meshAnswer (now (positions .entry)) (now (cells .entry)) ⌝ }
+{
+    if !counts_ok(positions, cells) {
+        return Answer::Refused(1);
+    }
+    if !positions_ok(positions) {
+        return Answer::Refused(2);
+    }
+    if !cells_ok(cells, positions.len() / 3) {
+        return Answer::Refused(3);
+    }
+    if !solid(positions, cells) {
+        return Answer::Refused(4);
+    }
+    if !single(cells) {
+        return Answer::Refused(5);
+    }
+    Answer::Accepted
+}

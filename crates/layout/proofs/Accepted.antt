@@ -1,0 +1,65 @@
+-- An accepted mesh passes its tests; what these say.
+-- Assumes nothing.
+use mathlib.Core.Path.{_≡_, refl, sym, _∙_}
+use mathlib.Core.Bool.{Bool, true, false}
+use mathlib.Core.List.{List}
+use Prim.Native.Nat.{ℕ, _*_, _/_, _%_, _≤_}
+use native.Mathlib.Omega.{arith}
+use lib.Dec.{T, eqb→eq, leb→le}
+use lib.IntN.{ℤ}
+use lib.ListN.{length}
+use Rattle.base.specs.Lists.{and-left, and-right}
+use Rattle.base.specs.Fours.{fours}
+use Rattle.base.specs.declared.Answer.the-variants.{Accepted}
+use Rattle.mesh.specs.Coarse.{cornerCount, countsb, positionsb, cellsb, solidb, singleb, meshAnswer}
+use Rattle.tables.specs.Sound.{Mesh}
+use Rattle.layout.specs.Opened.{codeOf, answerOf}
+
+record Counts (ps : List ℤ) (ts : List ℕ) : Type 0 where
+  whole : length ts % 4 ≡ 0
+  some : 1 ≤ length ts / 4
+  few : length ts / 4 ≤ 256
+  corners : cornerCount ps ≤ 512
+
+counts : (ps : List ℤ) (ts : List ℕ) → T (countsb ps ts) → Counts ps ts
+unfolding countsb
+counts ps ts t = search (and-left, and-right, eqb→eq, leb→le)
+
+pub record Passed (ps : List ℤ) (ts : List ℕ) : Type 0 where
+  pub accepted : meshAnswer ps ts ≡ Accepted
+  pub positions : T (positionsb ps)
+  pub mesh : Mesh (cornerCount ps) ts
+
+module _ (ps : List ℤ) (ts : List ℕ) where
+  -- the answer's number tells the answer, and 0 that all tests are passed
+  record Coded : Type 0 where
+    tells : meshAnswer ps ts ≡ answerOf (codeOf (meshAnswer ps ts))
+    passed : codeOf (meshAnswer ps ts) ≡ 0 → Passed ps ts
+
+  coded : (a b c d e : Bool) → countsb ps ts ≡ a → positionsb ps ≡ b → cellsb (cornerCount ps) (fours ts) ≡ c → solidb ps (fours ts) ≡ d
+      → singleb (fours ts) ≡ e → Coded
+  unfolding meshAnswer codeOf answerOf
+  coded false b c d e f g h i j = record { tells = rw f; passed = λ z. absurd (omega (arith, rw f at z)) }
+  coded true false c d e f g h i j = record { tells = rw (f, g); passed = λ z. absurd (omega (arith, rw (f, g) at z)) }
+  coded true true false d e f g h i j = record { tells = rw (f, g, h); passed = λ z. absurd (omega (arith, rw (f, g, h) at z)) }
+  coded true true true false e f g h i j = record { tells = rw (f, g, h, i); passed = λ z. absurd (omega (arith, rw (f, g, h, i) at z)) }
+  coded true true true true false f g h i j = record { tells = rw (f, g, h, i, j); passed = λ z. absurd (omega (arith, rw (f, g, h, i, j) at z)) }
+  coded true true true true true f g h i j =
+      let k = counts ps ts (rw f tt) in
+      record {
+        tells = rw (f, g, h, i, j);
+        passed = λ z. record {
+          accepted = rw (f, g, h, i, j);
+          positions = rw g tt;
+          mesh = record { whole = k .whole; few = omega (arith, k .whole, k .few); some = omega (arith, k .some); corners = k .corners; cells = rw h tt };
+        };
+      }
+
+  all : Coded
+  all = coded (countsb ps ts) (positionsb ps) (cellsb (cornerCount ps) (fours ts)) (solidb ps (fours ts)) (singleb (fours ts)) refl refl refl refl refl
+
+  pub mesh-code : meshAnswer ps ts ≡ answerOf (codeOf (meshAnswer ps ts))
+  mesh-code = all .tells
+
+  pub mesh-passed : codeOf (meshAnswer ps ts) ≡ 0 → Passed ps ts
+  mesh-passed = all .passed

@@ -1,0 +1,119 @@
+-- What an accepted mesh and a sound table give the calls.
+-- Assumes nothing.
+use mathlib.Core.Path.{_≡_, refl, sym, _∙_, ap}
+use mathlib.Core.Bool.{true}
+use mathlib.Core.List.{List, _++_}
+use Prim.Native.Nat.{ℕ, _+_, _*_, _/_, _≤_, _<_}
+use native.Mathlib.Omega.{arith}
+use lib.Dec.{T, leb→le}
+use lib.IntN.{ℤ}
+use lib.ListN.{length, getD, take, drop}
+use lib.Seq.{length-take-le}
+use Rattle.base.specs.Lists.{is-true, and-left, and-right}
+use Rattle.base.specs.Fours.{fours}
+use Rattle.mesh.specs.Coarse.{cornerCount}
+use Rattle.mesh.specs.Table.{soundb}
+use Rattle.mesh.specs.Layout.{cellTable, endTable, sumTable}
+use Rattle.mesh.specs.Counts.{countTable}
+use Rattle.lattice.specs.Levels.{fours-four}
+use Rattle.corners.specs.Ends.{Ends, endNumbers, coarseEnds, length-coarseEnds, length-addEnds}
+use Rattle.corners.specs.Sums.{Smalls, sumNumbers, coarseSums, length-coarseSums, length-addSums, positions-small}
+use Rattle.corners.specs.Tables.{Numbered, ends-are, sums-are}
+use Rattle.climbing.specs.Climb.{Upward, climbFrom}
+use Rattle.climbing.specs.Linked.{ancestorOf, noCell}
+use Rattle.climbing.proofs.Table.{table-upward, table-climb}
+use Rattle.counting.specs.Levels.{Levels, levelNumber, levelCounts, counts-length}
+use Rattle.counting.proofs.Sound.{sound-levels}
+use Rattle.counting.proofs.Whole.{counts-right, number-right}
+use Rattle.coarse.proofs.Rows.{length-fours}
+use Rattle.layout.specs.Opened.{Fits}
+use Rattle.layout.specs.Calls.{levelsIn, cellsIn, cornersIn, lentb}
+use Rattle.layout.proofs.Numbering.{corner-count, ends, numbered}
+
+pub record Lent (table ends : List ℕ) (sums : List ℤ) : Type 0 where
+  pub long-table : 32768 ≤ length table
+  pub long-ends : 32768 ≤ length ends
+  pub long-sums : 49152 ≤ length sums
+
+pub lent-long : (table ends : List ℕ) (sums : List ℤ) → lentb table ends sums ≡ true → Lent table ends sums
+unfolding lentb
+lent-long table ends sums e = go (rw e tt)
+  where
+    go : T (lentb table ends sums) → Lent table ends sums
+    go t = search (and-left, and-right, leb→le)
+
+-- a table with its front written, where what is written has another name
+written : {A : Type 0} (old new a b : List A) (k : ℕ) → new ≡ a ++ drop k old → a ≡ b → length a ≡ k → new ≡ b ++ drop (length b) old
+written old new a b k e f l = e ∙ rw (← f, l)
+
+module _ (ps : List ℤ) (ts ss rows xs ys : List ℕ) (cells levels m : ℕ) (f : Fits ps ts ss rows xs ys cells levels m) where
+  in-xs : m ≤ length xs
+  in-xs = omega (arith, f .sound .most, f .sound .few, f .tables .in-xs)
+
+  in-ys : m ≤ length ys
+  in-ys = omega (arith, f .sound .most, f .sound .few, f .tables .in-ys)
+
+  pub fits-rows : 8 * cells ≤ length rows
+  fits-rows = omega (arith, f .sound .few, f .tables .in-rows)
+
+  pub fits-few : cornerCount ps + m ≤ 4608
+  fits-few = omega (arith, f .sound .most, f .sound .few, f .mesh .corners)
+
+  pub fits-corners : length (cornersIn ps ts ss) ≡ cornerCount ps + m
+  fits-corners = corner-count (cornerCount ps) (cornersIn ps ts ss) xs ys m (f .sound .corners)
+
+  pub fits-ends : Ends (cornerCount ps) xs ys m
+  fits-ends = ends (cornerCount ps) (cornersIn ps ts ss) xs ys m (f .sound .corners) in-xs in-ys
+
+  fits-numbered : Numbered (cornerCount ps) xs ys m (cornersIn ps ts ss)
+  fits-numbered = numbered (cornerCount ps) (cornersIn ps ts ss) xs ys m (f .sound .corners) in-xs in-ys
+
+  pub fits-small : Smalls 500000 ps
+  fits-small = positions-small ps (f .positions)
+
+  -- what a layout leaves
+  pub table-after : (old new : List ℕ) → new ≡ take (8 * cells) rows ++ drop (8 * cells) old
+      → new ≡ cellTable (cornersIn ps ts ss) (cellsIn ps ts ss) ++ drop (length (cellTable (cornersIn ps ts ss) (cellsIn ps ts ss))) old
+  table-after old new e = written old new _ _ (8 * cells) e (f .sound .table) (length-take-le (8 * cells) rows fits-rows)
+
+  pub ends-after : (old new : List ℕ) → new ≡ endNumbers (cornerCount ps) xs ys m ++ drop (2 * (cornerCount ps + m)) old
+      → new ≡ endTable (cornersIn ps ts ss) ++ drop (length (endTable (cornersIn ps ts ss))) old
+  unfolding endNumbers
+  ends-after old new e =
+      written old new _ _ (2 * (cornerCount ps + m)) e (sym (ends-are (cornerCount ps) xs ys m (cornersIn ps ts ss) fits-numbered))
+      (length-addEnds (coarseEnds (cornerCount ps)) xs ys m ∙ rw (length-coarseEnds (cornerCount ps)) (omega arith))
+
+  pub sums-after : (old new : List ℤ) → new ≡ sumNumbers ps (cornerCount ps) xs ys m ++ drop (3 * (cornerCount ps + m)) old
+      → new ≡ sumTable ps (cornersIn ps ts ss) ++ drop (length (sumTable ps (cornersIn ps ts ss))) old
+  unfolding sumNumbers
+  sums-after old new e =
+      written old new _ _ (3 * (cornerCount ps + m)) e (sym (sums-are (cornerCount ps) xs ys m (cornersIn ps ts ss) fits-numbered ps))
+      (length-addSums (coarseSums ps (cornerCount ps)) xs ys m ∙ rw (length-coarseSums ps (cornerCount ps)) (omega arith))
+
+  -- a cell's way up
+  module _ (c : ℕ) (h : c < cells) where
+    all-rows : take (8 * length (cellsIn ps ts ss)) rows ≡ cellTable (cornersIn ps ts ss) (cellsIn ps ts ss)
+    all-rows = rw (f .sound .counted) (f .sound .table)
+
+    there : c < length (cellsIn ps ts ss)
+    there = rw (f .sound .counted) h
+
+    pub fits-upward : Upward rows (c + 1)
+    fits-upward = table-upward (cornerCount ps) (fours ts) ss (fours-four ts) (cornersIn ps ts ss) rows all-rows c there
+
+    pub fits-climb : climbFrom rows c c ≡ ancestorOf (getD (cellsIn ps ts ss) c noCell)
+    fits-climb = table-climb (cornerCount ps) (fours ts) ss (fours-four ts) (cornersIn ps ts ss) rows all-rows c there noCell
+
+  -- counts
+  pub fits-levels : Levels ss (length ts / 4)
+  fits-levels = rw (length-fours ts) at (sound-levels (cornerCount ps) (fours ts) ss (is-true (soundb (cornerCount ps) (fours ts) ss) (f .table)))
+
+  pub number-after : (r : ℕ) → r ≡ levelNumber 12 0 (length ts / 4) ss → r ≡ length (levelsIn ps ts ss)
+  number-after r e = e ∙ rw (← length-fours ts) (sym (number-right (cornerCount ps) (fours ts) ss))
+
+  pub counts-after : (old new : List ℕ) (r : ℕ) → r ≡ levelNumber 12 0 (length ts / 4) ss → new ≡ levelCounts 12 0 (length ts / 4) ss ++ drop (4 * r) old
+      → new ≡ countTable (levelsIn ps ts ss) ++ drop (length (countTable (levelsIn ps ts ss))) old
+  counts-after old new r e g =
+      let c : levelCounts 12 0 (length ts / 4) ss ≡ countTable (levelsIn ps ts ss) = rw (← length-fours ts) (sym (counts-right (cornerCount ps) (fours ts) ss)) in
+      written old new _ _ (4 * r) g c
+      (counts-length 12 0 (length ts / 4) ss ∙ ap (λ (k : ℕ). 4 * k) (sym e))

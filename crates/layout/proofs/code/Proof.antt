@@ -1,0 +1,23 @@
+-- `layout::code` meets its contract.
+-- Assumes nothing.
+use Rattle.layout.specs.Opened.{codeOf}
+use borrow.Author.Needs.{needs}
+use Rattle.layout.proofs.code.Statement.{statement}
+use Rattle.layout.proofs.code.Tie as tie
+
+enum-told : tie.Need-enum-told
+enum-told c = search needs
+
+enum-known-answer : tie.Need-enum-known-answer
+enum-known-answer c = search needs
+
+returns : tie.Need-returns
+unfolding codeOf
+returns c = search needs
+
+returns-2 : tie.Need-returns-2
+unfolding codeOf
+returns-2 c = search needs
+
+pub code-spec : {M : Type 1} → statement M
+code-spec = tie.close (tie.spec enum-told enum-known-answer returns returns-2)

@@ -1,0 +1,88 @@
+-- The calls on a status table over a coarse mesh: what each answers, and what the lent tables hold after (document 01, "Refusals",
+-- "Calls"). A mesh is ps and ts, a table ss.
+--   tableAnswer ps ts ss     a mesh and a table: accepted, or 1 to 6
+--   heldAfter a new old      a lent table after the answer a: changed in front where it is accepted, as it was where it is not
+--   layoutAnswer ..          laying out: 15 where a table is too short, then 1 to 6; laidOf, sizesOf, its result
+--   ancestorAnswer ..        a cell's ancestor: 1 to 6, then 7 where there is no such cell; ancestryOf its result
+--   countsAnswer ..          counts: 15, then 1 to 6; countedOf its result
+use mathlib.Core.Bool.{Bool, _&&_}
+use mathlib.Core.List.{List, _++_}
+use Prim.Native.Nat.{ℕ}
+use lib.Dec.{leb, ltb}
+use lib.IntN.{ℤ}
+use lib.ListN.{length, drop}
+use Rattle.base.specs.Fours.{fours}
+use Rattle.base.specs.Refuse.{refuse}
+use Rattle.base.specs.declared.Answer.{Answer}
+use Rattle.base.specs.declared.Answer.the-variants.{Accepted, Refused}
+use Rattle.mesh.specs.Cells.{Cell}
+use Rattle.mesh.specs.Weights.{Point}
+use Rattle.mesh.specs.Coarse.{cornerCount, meshAnswer}
+use Rattle.mesh.specs.Table.{Level, levelsOf, cellsOf, soundb}
+use Rattle.mesh.specs.Layout.{Corner, cornersOf}
+use Rattle.climbing.specs.declared.Ancestor.{Ancestor}
+use Rattle.layout.specs.declared.Sizes.{Sizes}
+use Rattle.layout.specs.declared.Laid.{Laid}
+use Rattle.layout.specs.declared.Laid.the-variants as laid
+use Rattle.layout.specs.declared.Ancestry.{Ancestry}
+use Rattle.layout.specs.declared.Ancestry.the-variants as ancestry
+use Rattle.layout.specs.declared.Counted.{Counted}
+use Rattle.layout.specs.declared.Counted.the-variants as counted
+
+-- an answer, and the next where it is accepted
+unfoldable pub andThen : Answer → Answer → Answer
+andThen Accepted b = b
+andThen (Refused k) b = Refused k
+
+-- "6 a table that is not sound": of a mesh that is accepted
+unfoldable pub tableAnswer : List ℤ → List ℕ → List ℕ → Answer
+unfolding andThen meshAnswer refuse soundb
+tableAnswer ps ts ss = andThen (meshAnswer ps ts) (refuse 6 (soundb (cornerCount ps) (fours ts) ss) Accepted)
+
+-- "a refusal changes nothing"
+unfoldable pub heldAfter : {A : Type 0} → Answer → List A → List A → List A
+heldAfter Accepted new old = new ++ drop (length new) old
+heldAfter (Refused k) new old = old
+
+-- the levels, cells and corners of the table
+abbrev pub levelsIn : List ℤ → List ℕ → List ℕ → List Level
+levelsIn ps ts ss = levelsOf (cornerCount ps) (fours ts) ss
+
+abbrev pub cellsIn : List ℤ → List ℕ → List ℕ → List (Cell Point)
+cellsIn ps ts ss = cellsOf (levelsIn ps ts ss)
+
+abbrev pub cornersIn : List ℤ → List ℕ → List ℕ → List Corner
+cornersIn ps ts ss = cornersOf (cornerCount ps) (cellsIn ps ts ss) ss
+
+-- "15 a lent table too short": eight numbers a cell, two and three a corner, of the most that there can be
+unfoldable pub lentb : List ℕ → List ℕ → List ℤ → Bool
+lentb table ends sums = (leb 32768 (length table) && leb 32768 (length ends)) && leb 49152 (length sums)
+
+unfoldable pub layoutAnswer : List ℤ → List ℕ → List ℕ → List ℕ → List ℕ → List ℤ → Answer
+unfolding refuse lentb tableAnswer
+layoutAnswer ps ts ss table ends sums = refuse 15 (lentb table ends sums) (tableAnswer ps ts ss)
+
+abbrev pub sizesOf : List ℤ → List ℕ → List ℕ → Sizes
+sizesOf ps ts ss =
+    record { cells = length (cellsIn ps ts ss); corners = length (cornersIn ps ts ss); levels = length (levelsIn ps ts ss) }
+
+unfoldable pub laidOf : Answer → Sizes → Laid
+laidOf Accepted s = laid.Out s
+laidOf (Refused k) s = laid.Refused k
+
+unfoldable pub ancestorAnswer : List ℤ → List ℕ → List ℕ → ℕ → Answer
+unfolding andThen refuse tableAnswer
+ancestorAnswer ps ts ss c = andThen (tableAnswer ps ts ss) (refuse 7 (ltb c (length (cellsIn ps ts ss))) Accepted)
+
+unfoldable pub ancestryOf : Answer → Ancestor → Ancestry
+ancestryOf Accepted a = ancestry.Under a
+ancestryOf (Refused k) a = ancestry.Refused k
+
+-- four numbers a level
+unfoldable pub countsAnswer : List ℤ → List ℕ → List ℕ → List ℕ → Answer
+unfolding refuse tableAnswer
+countsAnswer ps ts ss counts = refuse 15 (leb 44 (length counts)) (tableAnswer ps ts ss)
+
+unfoldable pub countedOf : Answer → ℕ → Counted
+countedOf Accepted n = counted.Levels n
+countedOf (Refused k) n = counted.Refused k

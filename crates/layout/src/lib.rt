@@ -1,0 +1,215 @@
+// The calls on a status table over a coarse mesh: examined, laid out, a cell's ancestor, the counts of every level.
+use base::Answer;
+use climbing::Ancestor;
+ghost use mathlib.Core.Path.{_≡_};
+ghost use mathlib.Core.List.{_++_};
+ghost use Prim.Native.Nat.{_≤_};
+ghost use lib.ListN.{length, take, drop, getD};
+ghost use Rattle.mesh.specs.Layout.{cellTable, endTable, sumTable};
+ghost use Rattle.mesh.specs.Counts.{countTable};
+ghost use Rattle.climbing.specs.Linked.{ancestorOf, noCell};
+ghost use Rattle.layout.specs.Opened.{codeOf, Sized, Opened};
+ghost use Rattle.layout.specs.Calls.{tableAnswer, heldAfter, levelsIn, cellsIn, cornersIn, lentb, layoutAnswer, sizesOf, laidOf, ancestorAnswer, ancestryOf, countsAnswer, countedOf};
+
+// How many cells, corners and levels a table has.
+pub struct Sizes {
+    pub cells: usize,
+    pub corners: usize,
+    pub levels: usize,
+}
+
+pub enum Laid {
+    Out(Sizes),
+    Refused(u8),
+}
+
+pub enum Ancestry {
+    Under(Ancestor),
+    Refused(u8),
+}
+
+pub enum Counted {
+    Levels(usize),
+    Refused(u8),
+}
+
+// What opening a table finds: the refusal, 0 where there is none, and then how many cells, levels and new corners there are.
+struct Found {
+    refusal: u8,
+    cells: usize,
+    levels: usize,
+    mids: usize,
+}
+
+fn code(answer: Answer) -> u8
+    ensures { λ r. ⌜ r ≡ codeOf answer ⌝ }
+{
+    match answer {
+        Answer::Accepted => 0,
+        Answer::Refused(k) => k,
+    }
+}
+
+fn refused(refusal: u8) -> Found
+    ensures { λ r. ⌜ r .refusal ≡ refusal ⌝ }
+{
+    Found {
+        refusal,
+        cells: 0,
+        levels: 0,
+        mids: 0,
+    }
+}
+
+// Examines a mesh and a table over it.
+fn open(
+    positions: &[i32],
+    cells: &[u16],
+    status: &[u8],
+    rows: &mut [u16],
+    xs: &mut [u32],
+    ys: &mut [u32],
+) -> Found
+    requires { ⌜ Sized (now rows) (now xs) (now ys) ⌝ }
+    ensures { λ r. ⌜ Opened (now (positions .entry)) (now (cells .entry)) (now (status .entry)) (now (rows .exit)) (now (xs .exit)) (now (ys .exit)) (r .refusal) (r .cells) (r .levels) (r .mids) ⌝ }
+{
+    let refusal = code(coarse::examine_mesh(positions, cells));
+    if refusal != 0 {
+        return refused(refusal);
+    }
+    let b = tables::examine(cells, status, positions.len() / 3, rows, xs, ys);
+    if !b.ok {
+        return refused(6);
+    }
+    Found {
+        refusal: 0,
+        cells: b.cells,
+        levels: b.levels,
+        mids: b.mids,
+    }
+}
+
+// Whether a mesh and a table over it are accepted, and if not, why: refusals 1 to 6.
+pub fn examine_table(positions: &[i32], cells: &[u16], status: &[u8]) -> Answer
+    ensures { λ r. ⌜ r ≡ tableAnswer (now (positions .entry)) (now (cells .entry)) (now (status .entry)) ⌝ }
+{
+    let mut rows = [0u16; 32768];
+    let mut xs = [0u32; 4096];
+    let mut ys = [0u32; 4096];
+    let f = open(positions, cells, status, &mut rows, &mut xs, &mut ys);
+    if f.refusal == 0 {
+        return Answer::Accepted;
+    }
+    Answer::Refused(f.refusal)
+}
+
+// Whether the lent tables are long enough.
+fn lent(table: &[u16], ends: &[u16], sums: &[i32]) -> bool
+    ensures { λ r. ⌜ r ≡ lentb (now (table .entry)) (now (ends .entry)) (now (sums .entry)) ⌝ }
+{
+    if table.len() < 32768 {
+        return false;
+    }
+    if ends.len() < 32768 {
+        return false;
+    }
+    sums.len() >= 49152
+}
+
+// Copies the first n numbers.
+fn copy(from: &[u16], n: usize, to: &mut [u16])
+    requires { ⌜ (n ≤ length (now from)) × (n ≤ length (now to)) ⌝ }
+    ensures { λ r. ⌜ now (to .exit) ≡ take n (now (from .entry)) ++ drop n (now (to .entry)) ⌝ }
+{
+    for i in 0..n {
+        to[i] = from[i];
+    }
+}
+
+// Lays a table out: eight numbers a cell, the two ends and the three weighted sums of each corner. Refusals 15 and 1 to 6.
+pub fn lay_out(
+    positions: &[i32],
+    cells: &[u16],
+    status: &[u8],
+    table: &mut [u16],
+    ends: &mut [u16],
+    sums: &mut [i32],
+) -> Laid
+    ensures { λ r. ⌜ r
+        ≡ laidOf (layoutAnswer (now (positions .entry)) (now (cells .entry)) (now (status .entry)) (now (table .entry)) (now (ends .entry)) (now (sums .entry)))
+        (sizesOf (now (positions .entry)) (now (cells .entry)) (now (status .entry))) ⌝ }
+    ensures { λ r. ⌜ now (table .exit)
+        ≡ heldAfter (layoutAnswer (now (positions .entry)) (now (cells .entry)) (now (status .entry)) (now (table .entry)) (now (ends .entry)) (now (sums .entry)))
+        (cellTable (cornersIn (now (positions .entry)) (now (cells .entry)) (now (status .entry))) (cellsIn (now (positions .entry)) (now (cells .entry)) (now (status .entry))))
+        (now (table .entry)) ⌝ }
+    ensures { λ r. ⌜ now (ends .exit)
+        ≡ heldAfter (layoutAnswer (now (positions .entry)) (now (cells .entry)) (now (status .entry)) (now (table .entry)) (now (ends .entry)) (now (sums .entry)))
+        (endTable (cornersIn (now (positions .entry)) (now (cells .entry)) (now (status .entry))))
+        (now (ends .entry)) ⌝ }
+    ensures { λ r. ⌜ now (sums .exit)
+        ≡ heldAfter (layoutAnswer (now (positions .entry)) (now (cells .entry)) (now (status .entry)) (now (table .entry)) (now (ends .entry)) (now (sums .entry)))
+        (sumTable (now (positions .entry)) (cornersIn (now (positions .entry)) (now (cells .entry)) (now (status .entry))))
+        (now (sums .entry)) ⌝ }
+{
+    if !lent(table, ends, sums) {
+        return Laid::Refused(15);
+    }
+    let mut rows = [0u16; 32768];
+    let mut xs = [0u32; 4096];
+    let mut ys = [0u32; 4096];
+    let f = open(positions, cells, status, &mut rows, &mut xs, &mut ys);
+    if f.refusal != 0 {
+        return Laid::Refused(f.refusal);
+    }
+    let n = positions.len() / 3;
+    copy(&rows, 8 * f.cells, table);
+    corners::fill_ends(&xs, &ys, n, f.mids, ends);
+    corners::fill_sums(positions, &xs, &ys, n, f.mids, sums);
+    Laid::Out(Sizes {
+        cells: f.cells,
+        corners: n + f.mids,
+        levels: f.levels,
+    })
+}
+
+// A cell's coarse ancestor and level. Refusals 1 to 6, then 7 where there is no such cell.
+pub fn ancestor(positions: &[i32], cells: &[u16], status: &[u8], cell: usize) -> Ancestry
+    ensures { λ r. ⌜ r
+        ≡ ancestryOf (ancestorAnswer (now (positions .entry)) (now (cells .entry)) (now (status .entry)) cell)
+        (ancestorOf (getD (cellsIn (now (positions .entry)) (now (cells .entry)) (now (status .entry))) cell noCell)) ⌝ }
+{
+    let mut rows = [0u16; 32768];
+    let mut xs = [0u32; 4096];
+    let mut ys = [0u32; 4096];
+    let f = open(positions, cells, status, &mut rows, &mut xs, &mut ys);
+    if f.refusal != 0 {
+        return Ancestry::Refused(f.refusal);
+    }
+    if cell >= f.cells {
+        return Ancestry::Refused(7);
+    }
+    Ancestry::Under(climbing::climb(&rows, cell))
+}
+
+// The counts of every level, four numbers each: cells, red, green, leaf. Refusals 15 and 1 to 6.
+pub fn counts(positions: &[i32], cells: &[u16], status: &[u8], counts: &mut [u16]) -> Counted
+    ensures { λ r. ⌜ r
+        ≡ countedOf (countsAnswer (now (positions .entry)) (now (cells .entry)) (now (status .entry)) (now (counts .entry)))
+        (length (levelsIn (now (positions .entry)) (now (cells .entry)) (now (status .entry)))) ⌝ }
+    ensures { λ r. ⌜ now (counts .exit)
+        ≡ heldAfter (countsAnswer (now (positions .entry)) (now (cells .entry)) (now (status .entry)) (now (counts .entry)))
+        (countTable (levelsIn (now (positions .entry)) (now (cells .entry)) (now (status .entry))))
+        (now (counts .entry)) ⌝ }
+{
+    if counts.len() < 44 {
+        return Counted::Refused(15);
+    }
+    let mut rows = [0u16; 32768];
+    let mut xs = [0u32; 4096];
+    let mut ys = [0u32; 4096];
+    let f = open(positions, cells, status, &mut rows, &mut xs, &mut ys);
+    if f.refusal != 0 {
+        return Counted::Refused(f.refusal);
+    }
+    Counted::Levels(counting::count_levels(status, cells.len() / 4, counts))
+}
