@@ -3,3 +3,4 @@ pub mod Numbering
 pub mod Answers
 pub mod Copies
 pub mod Results
+pub mod Few

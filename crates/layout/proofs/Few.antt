@@ -1,0 +1,133 @@
+-- Corners never exceed 16,384 (01, "Cells, status, numbers"). A cell has at least as many children as split edges, and every cell
+-- that is not coarse is a child, so new corners are no more than cells.
+-- Assumes nothing.
+use mathlib.Core.Path.{_≡_, refl, sym, _∙_, ap}
+use mathlib.Core.Logic.{⊎-elim}
+use mathlib.Core.Bool.{Bool, true, false}
+use mathlib.Core.List.{List, [], _∷_, _++_}
+use Prim.Native.Nat.{ℕ, zero, suc, _+_, _-_, _≤_, _<_}
+use native.Mathlib.Omega.{arith}
+use lib.Dec.{T, eqb, leb, ltb, leb→le}
+use lib.IntN.{ℤ}
+use lib.ListN.{length, take, drop, length-append, length-map}
+use lib.Seq.{take-add, take-all, drop-drop}
+use borrow.Author.Tests.{eqb-true, eqb-false, ltb-true, ltb-false}
+use Rattle.base.specs.Lists.{allb, sameb, and-left, and-right}
+use Rattle.base.specs.Places.{hasb, either}
+use Rattle.base.specs.Fours.{fours}
+use Rattle.base.specs.declared.Answer.the-variants.{Accepted, Refused}
+use Rattle.mesh.specs.Cells.{Cell}
+use Rattle.mesh.specs.Weights.{Point, mid}
+use Rattle.mesh.specs.Coarse.{cornerCount, meshAnswer}
+use Rattle.mesh.specs.Table.{soundb}
+use Rattle.mesh.specs.Layout.{Corner, weightsOf, coarseCorners, splitEdges, addCorner, addCorners, cornersFrom, cornersOf}
+use Rattle.rows.specs.Numbered.{sizeOf, sizes, part}
+use Rattle.sizes.proofs.Sums.{sizes-append}
+use Rattle.growth.specs.Places.{splits-few}
+use Rattle.numbers.specs.Corners.{corners-start}
+use Rattle.counting.specs.Levels.{nextEnd, levelNumber, levelEnd, number-more, end-more, end-none}
+use Rattle.counting.proofs.Sound.{sound-levels}
+use Rattle.coarse.proofs.Rows.{length-fours}
+use Rattle.layout.specs.Opened.{codeOf, answerOf}
+use Rattle.layout.specs.Calls.{tableAnswer, cellsIn, cornersIn}
+use Rattle.layout.proofs.Accepted.{Passed, mesh-passed}
+use Rattle.layout.proofs.Answers.{answer-refused, table-mesh, table-unsound}
+
+-- Corners added, cell by cell.
+module _ (ks : List Corner) where
+  one-more : (e : Point × Point) → length (addCorner ks e) ≤ length ks + 1
+  unfolding addCorner
+  one-more e =
+      let m = mid (e .0) (e .1) in
+      ⊎-elim (λ (t : hasb sameb (weightsOf ks) m ≡ true). rw (t, addCorner) (omega arith))
+      (λ (t : hasb sameb (weightsOf ks) m ≡ false). rw (t, addCorner) (simp length-append (omega arith))) (either (hasb sameb (weightsOf ks) m))
+
+all-more : (ks : List Corner) (es : List (Point × Point)) → length (addCorners ks es) ≤ length ks + length es
+unfolding addCorners
+all-more ks [] = omega arith
+all-more ks (e ∷ es) = omega (arith, one-more ks e, all-more (addCorner ks e) es)
+
+split-few : (c : Cell Point) (s : ℕ) → s ≤ 64 → length (splitEdges [] c s) ≤ sizeOf s
+unfolding splitEdges
+split-few c s h =
+    let d : Cell ℕ = record { path = []; parent = 0; regular = true; points = [] } in
+    let e : length (splitEdges [] c s) ≡ length (splitEdges 0 d s) = simp length-map in
+    omega (arith, e, splits-few d s h)
+
+cells-more : (ks : List Corner) (cs : List (Cell Point)) (ss : List ℕ) → T (allb (λ s. leb s 64) ss)
+    → length (cornersFrom ks cs ss) ≤ length ks + sizes ss
+unfolding cornersFrom sizes allb
+cells-more ks [] ss t = omega arith
+cells-more ks (c ∷ cs) [] t = omega arith
+cells-more ks (c ∷ cs) (s ∷ ss) t =
+    let h : s ≤ 64 = leb→le s 64 (and-left (leb s 64) (allb (λ s. leb s 64) ss) t) in
+    omega (
+      arith,
+      split-few c s h,
+      all-more ks (splitEdges [] c s),
+      cells-more (addCorners ks (splitEdges [] c s)) cs ss (and-right (leb s 64) (allb (λ s. leb s 64) ss) t),
+    )
+
+-- The cells above the first level are the children of all.
+module _ (ss : List ℕ) where
+  joined : (a b c : ℕ) → a ≤ b → b ≤ c → sizes (part ss a (c - a)) ≡ sizes (part ss a (b - a)) + sizes (part ss b (c - b))
+  joined a b c h g =
+      let i : c - a ≡ (b - a) + (c - b) = omega arith in
+      let j : a + (b - a) ≡ b = omega arith in
+      let d : drop (b - a) (drop a ss) ≡ drop b ss = rw j at (drop-drop (b - a) a ss) in
+      rw (i, take-add (b - a) (c - b) (drop a ss), d) (sizes-append (part ss a (b - a)) (part ss b (c - b)))
+
+  end-sizes : (f first last : ℕ) → first ≤ last → levelNumber f first last ss < f
+      → levelEnd f first last ss ≡ last + sizes (part ss first (levelEnd f first last ss - first))
+  unfolding sizes nextEnd
+  end-sizes zero first last h g = absurd (omega arith)
+  end-sizes (suc f) first last h g =
+      ⊎-elim (λ (t : ltb first last ≡ true). more (ltb-true first last t) (end-sizes f last (nextEnd first last ss))) (λ (t : ltb first last ≡ false). none (ltb-false first last t)) (either (ltb first last))
+    where
+      none : last ≤ first → levelEnd (suc f) first last ss ≡ last + sizes (part ss first (levelEnd (suc f) first last ss - first))
+      none l =
+          let e : first ≡ last = omega arith in
+          let z : last - last ≡ 0 = omega arith in
+          rw (end-none (suc f) first last ss l, e, z) (omega arith)
+
+      more : first < last → (last ≤ nextEnd first last ss → levelNumber f last (nextEnd first last ss) ss < f
+          → levelEnd f last (nextEnd first last ss) ss ≡ nextEnd first last ss + sizes (part ss last (levelEnd f last (nextEnd first last ss) ss - last)))
+          → levelEnd (suc f) first last ss ≡ last + sizes (part ss first (levelEnd (suc f) first last ss - first))
+      more l hyp =
+          let up = nextEnd first last ss in
+          let n : levelNumber f last up ss < f = omega (arith, number-more f first last ss l) in
+          let i = hyp (omega arith) n in
+          let e = levelEnd f last up ss in
+          rw (end-more f first last ss l) (omega (arith, i, joined first last e (omega arith) (omega (arith, i))))
+
+-- A table that is accepted has an accepted mesh and is sound.
+module _ (ps : List ℤ) (ts ss : List ℕ) (a : tableAnswer ps ts ss ≡ Accepted) where
+  none : codeOf (meshAnswer ps ts) ≡ 0
+  unfolding codeOf
+  none = ⊎-elim (λ (t : eqb (codeOf (meshAnswer ps ts)) 0 ≡ true). eqb-true (codeOf (meshAnswer ps ts)) 0 t) (λ (t : eqb (codeOf (meshAnswer ps ts)) 0 ≡ false). absurd (some (eqb-false (codeOf (meshAnswer ps ts)) 0 t))) (either (eqb (codeOf (meshAnswer ps ts)) 0))
+    where
+      some : (codeOf (meshAnswer ps ts) ≡ 0 → ⊥) → ⊥
+      some h = h (ap codeOf (sym (answer-refused (codeOf (meshAnswer ps ts)) h) ∙ sym (table-mesh ps ts ss (codeOf (meshAnswer ps ts)) refl h) ∙ a))
+
+  sound : soundb (cornerCount ps) (fours ts) ss ≡ true
+  unfolding codeOf answerOf
+  sound =
+      ⊎-elim (λ t. t) (λ (t : soundb (cornerCount ps) (fours ts) ss ≡ false). absurd (omega (arith, ap codeOf (sym (table-unsound ps ts ss none t) ∙ a))))
+      (either (soundb (cornerCount ps) (fours ts) ss))
+
+  pub corners-few : length (cornersIn ps ts ss) ≤ 16384
+  unfolding cornersOf
+  corners-few =
+      let l = sound-levels (cornerCount ps) (fours ts) ss sound in
+      let m = mesh-passed ps ts none .mesh in
+      let e = end-sizes ss 12 0 (length (fours ts)) (omega arith) (omega (arith, l .few)) in
+      let w : part ss 0 (levelEnd 12 0 (length (fours ts)) ss - 0) ≡ ss = take-all (levelEnd 12 0 (length (fours ts)) ss - 0) ss (omega (arith, l .whole)) in
+      let s : length ss ≡ length (fours ts) + sizes ss = sym (l .whole) ∙ rw w at e in
+      omega (
+        arith,
+        s,
+        l .small,
+        m .corners,
+        corners-start (cornerCount ps) .count,
+        cells-more (coarseCorners (cornerCount ps)) (cellsIn ps ts ss) ss (rw (l .statuses) tt),
+      )
