@@ -306,7 +306,7 @@ pub fn damaged_mesh(r: &mut Random, coarse: &Coarse) -> (Vec<i32>, Vec<u16>) {
             3 => cells[number] = r.below(600) as u16,
             4 => cells[number] = (positions.len() / 3) as u16,
             5 => {
-                let other = 4 * (number / 4) + r.below(4);
+                let other = (4 * (number / 4) + r.below(4)).min(cells.len() - 1);
                 cells.swap(number, other);
             }
             6 => {

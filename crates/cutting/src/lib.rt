@@ -155,14 +155,16 @@ fn digit(at: usize) -> u8
     requires { ⌜ at < 1172 ⌝ }
     ensures { λ r. ⌜ r ≡ getD (digitsBelow 64) at 0 ⌝ }
 {
-    DIGITS[at] % 16
+    let digits = &DIGITS;
+    digits[at] % 16
 }
 
 fn start(pattern: usize) -> usize
     requires { ⌜ pattern < 65 ⌝ }
     ensures { λ r. ⌜ r ≡ length (digitsBelow pattern) ⌝ }
 {
-    STARTS[pattern]
+    let starts = &STARTS;
+    starts[pattern]
 }
 
 // The digits of the constant from a place on, with zeros behind them.

@@ -39,7 +39,8 @@ fn middle_of(e: usize) -> usize
     requires { ⌜ e < 6 ⌝ }
     ensures { λ r. ⌜ (r ≡ middle e) × (r < 10) ⌝ }
 {
-    MIDDLE[e]
+    let middle = &MIDDLE;
+    middle[e]
 }
 
 // For each of the ten points of a cell the number of its lower corner: a corner has its own.

@@ -20,10 +20,12 @@ pub fn edge_of(cells: &[u16], c: usize, e: usize) -> Ends
     requires { ⌜ (8 * c + 8 ≤ length (now cells)) × (e < 6) ⌝ }
     ensures { λ r. ⌜ ((r .a), (r .b)) ≡ edge 0 (cellAt (now (cells .entry)) c) e ⌝ }
 {
+    let low = &LOW;
+    let high = &HIGH;
     let at = 8 * c + 4;
     Ends {
-        a: cells[at + LOW[e]],
-        b: cells[at + HIGH[e]],
+        a: cells[at + low[e]],
+        b: cells[at + high[e]],
     }
 }
 

@@ -6,12 +6,12 @@ use Rattle.cutting.proofs.Table.{digits, digits-right}
 use Rattle.cutting.proofs.digit.Statement.{statement}
 use Rattle.cutting.proofs.digit.Tie as tie
 
-array-read-result : tie.Need-array-read-result
-array-read-result c = search needs
+element-copy-out-result : tie.Need-element-copy-out-result
+element-copy-out-result c = search needs
 
 returns : tie.Need-returns
 unfolding digits flatten
-returns c = digits-right (c .args .at)
+returns c = digits-right (c .before .before .args .at)
 
 pub digit-spec : {M : Type 1} → statement M
-digit-spec = tie.close (tie.spec array-read-result returns)
+digit-spec = tie.close (tie.spec element-copy-out-result returns)

@@ -10,12 +10,12 @@ use Rattle.growth.proofs.middle_of.Tie as tie
 mul-result : tie.Need-mul-result
 mul-result c = search needs
 
-array-read-result : tie.Need-array-read-result
-array-read-result c = search needs
+element-copy-out-result : tie.Need-element-copy-out-result
+element-copy-out-result c = search needs
 
 returns : tie.Need-returns
 unfolding middle
-returns c = (refl, middle-below (c .args .e) (c .pre))
+returns c = (refl, middle-below (c .before .before .args .e) (c .before .before .pre))
 
 pub middle-of-spec : {M : Type 1} → statement M
-middle-of-spec = tie.close (tie.spec mul-result array-read-result returns)
+middle-of-spec = tie.close (tie.spec mul-result element-copy-out-result returns)

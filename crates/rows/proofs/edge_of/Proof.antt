@@ -12,38 +12,38 @@ mul-at c = search needs
 add-at : tie.Need-add-at
 add-at c = search needs
 
-mul-t5 : tie.Need-mul-t5
-mul-t5 c = search needs
+mul-t9 : tie.Need-mul-t9
+mul-t9 c = search needs
 
-array-read-t9 : tie.Need-array-read-t9
-array-read-t9 c = search needs
+element-copy-out-t12 : tie.Need-element-copy-out-t12
+element-copy-out-t12 c = search needs
 
-add-t10 : tie.Need-add-t10
-add-t10 c = omega (arith, lows-below (c .args .e) (omega arith))
+add-t13 : tie.Need-add-t13
+add-t13 c = omega (arith, lows-below (c .before .before .before .args .e) (omega arith))
 
-mul-t11 : tie.Need-mul-t11
-mul-t11 c = omega (arith, lows-below (c .args .e) (omega arith))
+mul-t14 : tie.Need-mul-t14
+mul-t14 c = omega (arith, lows-below (c .before .before .before .args .e) (omega arith))
 
-shared-slice-read-t13 : tie.Need-shared-slice-read-t13
-shared-slice-read-t13 c = omega (arith, lows-below (c .before .args .e) (omega arith))
+shared-slice-read-t16 : tie.Need-shared-slice-read-t16
+shared-slice-read-t16 c = omega (arith, lows-below (c .before .before .before .before .args .e) (omega arith))
 
-mul-t15 : tie.Need-mul-t15
-mul-t15 c = search needs
+mul-t17 : tie.Need-mul-t17
+mul-t17 c = search needs
 
-array-read-t18 : tie.Need-array-read-t18
-array-read-t18 c = search needs
+element-copy-out-t20 : tie.Need-element-copy-out-t20
+element-copy-out-t20 c = search needs
 
-add-t19 : tie.Need-add-t19
-add-t19 c = omega (arith, highs-below (c .before .args .e) (omega arith))
+add-t21 : tie.Need-add-t21
+add-t21 c = omega (arith, highs-below (c .before .before .before .before .before .args .e) (omega arith))
 
-mul-t20 : tie.Need-mul-t20
-mul-t20 c = omega (arith, highs-below (c .before .args .e) (omega arith))
+mul-t22 : tie.Need-mul-t22
+mul-t22 c = omega (arith, highs-below (c .before .before .before .before .before .args .e) (omega arith))
 
-shared-slice-read-t22 : tie.Need-shared-slice-read-t22
-shared-slice-read-t22 c = omega (arith, highs-below (c .before .before .args .e) (omega arith))
+shared-slice-read-t24 : tie.Need-shared-slice-read-t24
+shared-slice-read-t24 c = omega (arith, highs-below (c .before .before .before .before .before .before .args .e) (omega arith))
 
 returns : tie.Need-returns
-returns c = ends-at (c .before .before .args .cells .now) (c .before .before .args .c) (c .before .before .args .e) (omega arith)
+returns c = let a = c .before .before .before .before .before .before .args in ends-at (a .cells .now) (a .c) (a .e) (omega arith)
 
 pub edge-of-spec : {M : Type 1} → statement M
 edge-of-spec =
@@ -51,14 +51,14 @@ edge-of-spec =
     (tie.spec
     mul-at
     add-at
-    mul-t5
-    array-read-t9
-    add-t10
-    mul-t11
-    shared-slice-read-t13
-    mul-t15
-    array-read-t18
-    add-t19
-    mul-t20
-    shared-slice-read-t22
+    mul-t9
+    element-copy-out-t12
+    add-t13
+    mul-t14
+    shared-slice-read-t16
+    mul-t17
+    element-copy-out-t20
+    add-t21
+    mul-t22
+    shared-slice-read-t24
     returns)

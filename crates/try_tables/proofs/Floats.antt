@@ -1,0 +1,11 @@
+-- A float that equals itself is no NaN.
+use mathlib.Core.Bool.{Bool, true, false, not}
+use mathlib.Core.Path.{_≡_, refl, sym, subst}
+use lib.Dec.{T}
+use lib.Ieee.{Float, nan, inf, fin, eq, isNan}
+
+pub no-nan : (x : Float) → eq x x ≡ true → T (not (isNan x))
+unfolding eq isNan
+no-nan nan h = subst T (sym h) tt
+no-nan (inf s) h = tt
+no-nan (fin s m e) h = tt

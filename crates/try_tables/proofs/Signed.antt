@@ -1,0 +1,52 @@
+-- Numbers of 32 bits with a sign, made from their bits or raised by 2 ^ 31, stay in range.
+--   below       -1 less a number below 2 ^ 31 is an i32
+--   wider       an i32 is an i64
+--   Raised z    z is a number below 2 ^ 32
+--   raised      an i32 and 2 ^ 31 make such a number
+--   wide-fits, sum-fits, sum-is   the same of the bits that the program holds
+use mathlib.Core.Path.{_≡_, refl, ap, _∙_}
+use Prim.Native.Nat.{ℕ, zero, suc, _+_, _-_, _<_}
+use native.Mathlib.Omega.{arith}
+use lib.IntN.{ℤ, pos, negsuc, _+ℤ_, _-ℤ_}
+use borrow.Author.Tests.{le-ltb}
+use mir.Syntax.{w32, w64}
+use mir.Val.{SFits, toZ, ofZ}
+use mir.ValLaws.{toZ-pos, toZ-ofZ}
+
+pub below : (k : ℕ) → k < 2147483648 → SFits w32 (negsuc 0 -ℤ toZ w32 k)
+below k h = rw (toZ-pos w32 k h) (go k h)
+  where
+    go : (k : ℕ) → k < 2147483648 → SFits w32 (negsuc 0 -ℤ pos k)
+    go zero h = record { sfits = omega arith }
+    go (suc k) h = record { sfits = omega (arith, h) }
+
+wider : (z : ℤ) → SFits w32 z → SFits w64 z
+wider (pos n) h = record { sfits = omega (arith, h .sfits) }
+wider (negsuc n) h = record { sfits = omega (arith, h .sfits) }
+
+pub record Raised (z : ℤ) : Type 0 where
+  pub size : ℕ
+  pub low : size < 4294967296
+  pub same : z ≡ pos size
+
+pub raised : (z : ℤ) → SFits w32 z → Raised (z +ℤ pos 2147483648)
+raised (pos n) h = record { size = n + 2147483648; low = omega (arith, h .sfits); same = refl }
+raised (negsuc n) h =
+    record {
+      size = 2147483648 - suc n;
+      low = omega arith;
+      same = rw (le-ltb 2147483648 (suc n) (omega (arith, h .sfits)));
+    }
+
+module _ (z : ℤ) (h : SFits w32 z) where
+  pub wide-fits : SFits w64 (toZ w32 (ofZ w32 z))
+  wide-fits = rw (toZ-ofZ w32 z h) (wider z h)
+
+  plain : toZ w64 (ofZ w64 (toZ w32 (ofZ w32 z))) ≡ z
+  plain = ap (λ (y : ℤ). toZ w64 (ofZ w64 y)) (toZ-ofZ w32 z h) ∙ toZ-ofZ w64 z (wider z h)
+
+  pub sum-fits : SFits w64 (toZ w64 (ofZ w64 (toZ w32 (ofZ w32 z))) +ℤ pos 2147483648)
+  sum-fits = rw (plain, raised z h .same) (record { sfits = omega (arith, raised z h .low) })
+
+  pub sum-is : toZ w64 (ofZ w64 (toZ w64 (ofZ w64 (toZ w32 (ofZ w32 z))) +ℤ pos 2147483648)) ≡ pos (raised z h .size)
+  sum-is = toZ-ofZ w64 _ sum-fits ∙ rw plain (raised z h .same)

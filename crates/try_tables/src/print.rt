@@ -1,0 +1,96 @@
+// Printing answers: the refusal's number, or 0 and what was answered; zeros stand for what a refusal does not give.
+use base::Answer;
+use layout::Ancestry;
+use layout::Counted;
+use layout::Laid;
+use position::Position;
+
+fn refusal(answer: Answer) -> u64 {
+    match answer {
+        Answer::Accepted => 0,
+        Answer::Refused(k) => k as u64,
+    }
+}
+
+// The first number of a line.
+pub fn first(answer: Answer) {
+    io::print_decimal(1, refusal(answer));
+}
+
+// A further number of a line.
+pub fn number(n: u64) {
+    io::write_all(1, b" ");
+    io::print_decimal(1, n);
+}
+
+pub fn end() {
+    io::write_all(1, b"\n");
+}
+
+pub fn answer(answer: Answer) {
+    number(refusal(answer));
+}
+
+fn two(a: u64, b: u64) {
+    number(a);
+    number(b);
+}
+
+pub fn laid(laid: Laid) {
+    match laid {
+        Laid::Out(sizes) => {
+            two(0, sizes.cells as u64);
+            two(sizes.corners as u64, sizes.levels as u64);
+        }
+        Laid::Refused(k) => {
+            two(k as u64, 0);
+            two(0, 0);
+        }
+    }
+}
+
+pub fn ancestry(ancestry: Ancestry) {
+    match ancestry {
+        Ancestry::Under(ancestor) => {
+            number(0);
+            two(ancestor.coarse as u64, ancestor.level as u64);
+        }
+        Ancestry::Refused(k) => {
+            number(k as u64);
+            two(0, 0);
+        }
+    }
+}
+
+pub fn counted(counted: Counted) {
+    match counted {
+        Counted::Levels(n) => two(0, n as u64),
+        Counted::Refused(k) => two(k as u64, 0),
+    }
+}
+
+// A float's 64 bits.
+fn float(x: f64) {
+    io::write_all(1, b" ");
+    if x == x {
+        io::print_hex(1, f64::to_bits(x), 16);
+    } else {
+        io::write_all(1, b"nan");
+    }
+}
+
+pub fn position(position: Position) {
+    match position {
+        Position::At(point) => {
+            number(0);
+            float(point.x);
+            float(point.y);
+            float(point.z);
+        }
+        Position::Refused(k) => {
+            number(k as u64);
+            number(0);
+            two(0, 0);
+        }
+    }
+}
