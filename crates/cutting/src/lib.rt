@@ -73,6 +73,11 @@ const DIGITS: [u8; 1172] = *b"\
     0236025604562368256825783689\
     01231236125614562368256825783689";
 
+// The family of a red cell by itself: red cells are the most frequent, and to read a constant is to copy all of it.
+const RED: [u8; 32] = *b"\
+    \x00\x01\x02\x03\x01\x02\x03\x06\x01\x02\x05\x06\x01\x04\x05\x06\
+    \x02\x03\x06\x08\x02\x05\x06\x08\x02\x05\x07\x08\x03\x06\x08\x09";
+
 // Where each family starts, and the end of the last.
 const STARTS: [usize; 65] = [
     0,
@@ -201,6 +206,13 @@ pub fn cut(pattern: u8) -> Family
             answer: Answer::Refused(6),
             count: 0,
             digits: [0u8; 32],
+        };
+    }
+    if pattern == 63 {
+        return Family {
+            answer: Answer::Accepted,
+            count: 8,
+            digits: RED,
         };
     }
     let row = pattern as usize;

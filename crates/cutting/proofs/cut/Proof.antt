@@ -1,21 +1,29 @@
--- `cutting::cut` meets its contract: the digits between two starts are the row's.
+-- `cutting::cut` meets its contract: the digits between two starts are the row's, and the red family is the last row.
 -- Assumes nothing.
-use mathlib.Core.Path.{sym}
+use mathlib.Core.Path.{_≡_, refl, sym, _∙_, ap}
+use mathlib.Core.List.{flatten}
 use native.Mathlib.Omega.{arith}
 use borrow.Author.Needs.{needs}
-use Rattle.cutting.specs.Answer.{noCut, cutOf-refused}
+use Rattle.cutting.specs.Rule.{family}
+use Rattle.cutting.specs.Answer.{noCut, cutInto, cutOf, cutOf-accepted, cutOf-refused}
+use Rattle.cutting.proofs.Data.{rows}
+use Rattle.cutting.proofs.Table.{row, family-row}
 use Rattle.cutting.proofs.Found.{Found, found, accepted}
 use Rattle.cutting.proofs.cut.Statement.{statement}
 use Rattle.cutting.proofs.cut.Tie as tie
 
-row : (c : tie.After-start2) → Found (c .before .before .before .args .pattern) (c .before .start .result) (c .start2 .result)
-row c =
-    found (c .before .before .before .args .pattern) (c .before .start .result) (c .start2 .result)
+between : (c : tie.After-start2) → Found (c .before .before .before .before .args .pattern) (c .before .start .result) (c .start2 .result)
+between c =
+    found (c .before .before .before .before .args .pattern) (c .before .start .result) (c .start2 .result)
     (omega arith) (c .before .start .ensures) (c .start2 .ensures)
 
 returns : tie.Need-returns
 unfolding noCut
 returns c = sym (cutOf-refused (c .before .args .pattern) (c .if1 .taken))
+
+returns-2 : tie.Need-returns-2
+unfolding cutInto row rows flatten
+returns-2 c = sym (ap cutOf (c .if2 .taken) ∙ cutOf-accepted 63 (omega arith) ∙ ap cutInto (family-row 63 (omega arith)))
 
 start-requires : tie.Need-start-requires
 start-requires c κs = search needs
@@ -27,21 +35,21 @@ start-requires-2 : tie.Need-start-requires-2
 start-requires-2 c κs = search needs
 
 sub-count : tie.Need-sub-count
-sub-count c = row c .up
+sub-count c = between c .up
 
-cast-t11 : tie.Need-cast-t11
-cast-t11 c = omega (arith, row c)
+cast-t13 : tie.Need-cast-t13
+cast-t13 c = omega (arith, between c)
 
 copied-requires : tie.Need-copied-requires
-copied-requires c κs = omega (arith, row c)
+copied-requires c κs = omega (arith, between c)
 
-returns-2 : tie.Need-returns-2
-returns-2 c =
+returns-3 : tie.Need-returns-3
+returns-3 c =
     let b = c .before in
-    accepted (b .before .before .before .args .pattern) (b .before .start .result) (b .start2 .result)
+    accepted (b .before .before .before .before .args .pattern) (b .before .start .result) (b .start2 .result)
     (omega arith) (b .before .start .ensures) (b .start2 .ensures) (c .copied .result) (c .copied .ensures)
 
 pub cut-spec : {M : Type 1} → statement M
 cut-spec =
     tie.close
-    (tie.spec returns start-requires add-start start-requires-2 sub-count cast-t11 copied-requires returns-2)
+    (tie.spec returns returns-2 start-requires add-start start-requires-2 sub-count cast-t13 copied-requires returns-3)
