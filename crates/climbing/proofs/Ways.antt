@@ -60,7 +60,7 @@ module _ (cs : List (Cell ℕ)) (l : Linked cs) (four : All Four cs) (t : List �
   held k i h g =
       sym (getD-take (8 * length cs) t (8 * k + i) 0 (omega arith)) ∙ ap (λ (m : List ℕ). getD m (8 * k + i) 0) rows ∙ row-at cs four k i h g
 
-  level-held : (k : ℕ) → k < length cs → levelIn t k ≡ pred (length (pathAt cs k))
+  pub level-held : (k : ℕ) → k < length cs → levelIn t k ≡ pred (length (pathAt cs k))
   unfolding rowOf
   level-held k h = let e : 8 * k + 0 ≡ 8 * k = omega arith in rw e at (held k 0 h (omega arith))
 

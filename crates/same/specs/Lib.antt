@@ -1,0 +1,13 @@
+pub mod Olds
+pub mod Born
+pub mod Paths
+pub mod Same
+pub mod Levels
+pub mod Flags
+pub mod Rest
+pub mod Step
+pub mod Traced
+pub mod Met
+pub mod Stays
+pub mod Deep
+pub mod Closed

@@ -1,0 +1,1 @@
+// A step without marks gives the table that it was given. There is no code here: see specs/.
