@@ -101,14 +101,14 @@ pub middle-ends : (e : ℕ) → e < 6 → (low (middle e) < high (middle e)) × 
 unfolding low high
 middle-ends = below-at (λ e. (low (middle e) < high (middle e)) × (high (middle e) < 4) × (middle e < 10)) 6 (omega arith)
 
-or-either : (a b : Bool) → T (a || b) → T a ⊎ T b
+pub or-either : (a b : Bool) → T (a || b) → T a ⊎ T b
 or-either true b t = inl tt
 or-either false b t = inr t
 
 both : (p q p' q' : Point) → T (sameb p p' && sameb q q') → (p ≡ p') × (q ≡ q')
 both p q p' q' t = (sameb-eq p p' (and-left (sameb p p') (sameb q q') t), sameb-eq q q' (and-right (sameb p p') (sameb q q') t))
 
-joins : (p q p' q' : Point) → T (joinsb sameb (p, q) (p', q')) → ((p ≡ p') × (q ≡ q')) ⊎ ((p ≡ q') × (q ≡ p'))
+pub joins : (p q p' q' : Point) → T (joinsb sameb (p, q) (p', q')) → ((p ≡ p') × (q ≡ q')) ⊎ ((p ≡ q') × (q ≡ p'))
 unfolding joinsb
 joins p q p' q' t =
     ⊎-elim (λ (u : T (sameb p p' && sameb q q')). inl (both p q p' q' u)) (λ (u : T (sameb p q' && sameb q p')). inr (both p q q' p' u))

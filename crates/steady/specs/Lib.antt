@@ -1,0 +1,13 @@
+pub mod Held
+pub mod Spots
+pub mod Apart
+pub mod Reds
+pub mod Family
+pub mod Turn
+pub mod Sound
+pub mod Whole
+pub mod Clash
+pub mod Meets
+pub mod Green
+pub mod Grown
+pub mod Steady
