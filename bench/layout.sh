@@ -5,6 +5,7 @@
 # target/bin/try_tables. PROVED=PATH takes an executable that is there already, PROVED=none times the plain program alone.
 set -euo pipefail
 cd "$(dirname "$0")/.."
+source bench/timing.sh
 rounds=${1:-5}
 cases=8          # tables in an input
 seed=1
@@ -19,25 +20,6 @@ generate=bench/plain/target/release/examples/generate
 plain=bench/plain/target/release/plain
 work=$(mktemp -d)
 trap 'rm -r "$work"' EXIT
-
-# Processor time of a run in milliseconds: other work on the machine counts less than on the clock.
-took() { # PROGRAM INPUT
-    local TIMEFORMAT='%3U %3S' user system
-    read -r user system < <({ time "$1" <"$2" >/dev/null; } 2>&1)
-    echo $((10#${user/./} + 10#${system/./}))
-}
-
-# Keeps the smaller of what is held under NAME and a new time.
-best() { # NAME PROGRAM INPUT
-    local ms
-    ms=$(took "$2" "$3")
-    if [ -z "${times[$1]:-}" ] || [ "$ms" -lt "${times[$1]}" ]; then times[$1]=$ms; fi
-}
-
-# Nanoseconds a cell, from the two best times of a program.
-per_cell() { # NAME VISITS
-    awk "BEGIN { printf \"%.1f\", (${times[$1.high]} - ${times[$1.low]}) * 1e6 / $2 }"
-}
 
 # Ends the script unless both find the same numbers of cells and corners: fields 4 and 5 of a line of try_tables.
 compare() { # INPUT
@@ -56,16 +38,16 @@ for size in 500 1000 2000 4000; do
     if [ "$PROVED" != none ]; then compare "$work/low"; fi
     for ((round = 0; round < rounds; round++)); do
         for repeat in low high; do
-            best plain.$repeat "$plain" "$work/$repeat"
-            if [ "$PROVED" != none ]; then best proved.$repeat "$PROVED" "$work/$repeat"; fi
+            best plain.$repeat "$work/$repeat" "$plain"
+            if [ "$PROVED" != none ]; then best proved.$repeat "$work/$repeat" "$PROVED"; fi
         done
     done
     done_between=$((cells * (high - low)))
     a=$(per_cell plain $done_between)
-    b=- ratio=-
+    b=- c=-
     if [ "$PROVED" != none ]; then
         b=$(per_cell proved $done_between)
-        ratio=$(awk "BEGIN { printf \"%.1f\", $b / $a }")
+        c=$(ratio "$b" "$a")
     fi
-    printf '%6d %6d %14s %15s %7s\n' $((cells / cases)) $cases "$a" "$b" "$ratio"
+    printf '%6d %6d %14s %15s %7s\n' $((cells / cases)) $cases "$a" "$b" "$c"
 done

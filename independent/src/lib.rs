@@ -8,6 +8,7 @@ pub mod cutting;
 pub mod mesh;
 pub mod random;
 pub mod step;
+pub mod trial;
 
 /// The number of a refusal, as document 01 lists them.
 pub type Refusal = u8;

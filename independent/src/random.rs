@@ -404,6 +404,24 @@ pub fn marks(r: &mut Random, layout: &Layout) -> Vec<u8> {
     marks
 }
 
+/// Marks that fit the layout: one in so many of the families that are all leaves deleted, then so many leaves refined.
+pub fn mixed_marks(r: &mut Random, layout: &Layout, rarely: usize, refined: usize) -> Vec<u8> {
+    let leaf = |k: usize| layout.cells[k].status == LEAF;
+    let mut marks = vec![0; layout.cells.len()];
+    for (i, family) in children(layout).iter().enumerate() {
+        if layout.cells[i].status == RED && family.iter().all(|&k| leaf(k)) && r.once_in(rarely) {
+            for &k in family {
+                marks[k] = 2;
+            }
+        }
+    }
+    let leaves: Vec<usize> = (0..marks.len()).filter(|&i| leaf(i)).collect();
+    for _ in 0..refined {
+        marks[*r.pick(&leaves)] = 1;
+    }
+    marks
+}
+
 /// Marks with one fault; all are refused with 7 but where a leaf is hit.
 pub fn damaged_marks(r: &mut Random, layout: &Layout) -> Vec<u8> {
     let mut marks = marks(r, layout);

@@ -32,23 +32,25 @@ pub struct Layout {
 
 /// What is known of an edge that a red cell has.
 #[derive(Clone, Copy, Default)]
-struct Edge {
+pub(crate) struct Edge {
     /// The level of the last such cell.
     level: u8,
+    /// Whether a cell has it that is red after the step.
+    pub(crate) held: bool,
     /// The midpoint's number; 0 as long as it has none.
-    middle: u16,
+    pub(crate) middle: u16,
 }
 
 /// The families, and the tables that a call works in.
 pub struct Layouter {
-    families: Vec<Family>,
-    faces: Table<Face>,
-    edges: Table<Edge>,
-    /// The slots of the level's red cells' edges, six a cell.
-    red: Vec<[usize; 6]>,
+    pub(crate) families: Vec<Family>,
+    pub(crate) faces: Table<Face>,
+    pub(crate) edges: Table<Edge>,
+    /// The slots of the red cells' edges, six a cell.
+    pub(crate) red: Vec<[u32; 6]>,
     /// The edges that may not be a red cell's.
     barred: Vec<u32>,
-    draft: Layout,
+    pub(crate) draft: Layout,
 }
 
 impl Layouter {
@@ -72,40 +74,50 @@ impl Layouter {
         out: &mut Layout,
     ) -> Result<(), Refusal> {
         mesh::examine(positions, cells, &mut self.faces)?;
-        if !self.build(positions, cells, status) {
+        let red = status.iter().filter(|&&s| s == RED).count();
+        if !self.build::<true, true>(positions, cells, status, 6 * red) {
             return Err(6);
         }
         std::mem::swap(&mut self.draft, out);
         Ok(())
     }
 
-    /// Lays out in the draft; false where the table is not sound.
-    fn build(&mut self, positions: &[i32], cells: &[u16], status: &[u8]) -> bool {
-        if status.len() > MOST_CELLS || status.iter().any(|&s| s > RED) {
+    /// Lays out in the draft, with room for so many edges; the sums are left out where they are not wanted. False where the table
+    /// is examined and not sound.
+    pub(crate) fn build<const EXAMINE: bool, const SUMS: bool>(
+        &mut self,
+        positions: &[i32],
+        cells: &[u16],
+        status: &[u8],
+        room: usize,
+    ) -> bool {
+        if EXAMINE && (status.len() > MOST_CELLS || status.iter().any(|&s| s > RED)) {
             return false;
         }
-        self.edges.clear(6 * status.iter().filter(|&&s| s == RED).count());
+        self.edges.clear(room);
+        self.red.clear();
         self.barred.clear();
         self.start(positions, cells);
         let mut level = 0;
         let (mut first, mut last) = (0, self.draft.cells.len());
         while first < last {
-            if last > status.len() {
+            if EXAMINE && last > status.len() {
                 return false;
             }
-            if level == TOP_LEVEL && status[first..last].iter().any(|&s| s != 0) {
+            if EXAMINE && level == TOP_LEVEL && status[first..last].iter().any(|&s| s != 0) {
                 return false;
             }
+            let red = self.red.len();
             if !self.list_red_edges(status, first, last, level) {
                 return false;
             }
-            if !self.refine(status, first, last, level) {
+            if !self.refine::<EXAMINE, SUMS>(status, first, last, level, red) {
                 return false;
             }
             (first, last) = (last, self.draft.cells.len());
             level += 1;
         }
-        last == status.len() && self.barred.iter().all(|&edge| self.edges.find(edge).is_none())
+        !EXAMINE || last == status.len() && self.barred.iter().all(|&edge| self.edges.find(edge).is_none())
     }
 
     /// The coarse cells and corners.
@@ -127,14 +139,13 @@ impl Layouter {
 
     /// False where a red cell of the level is not regular.
     fn list_red_edges(&mut self, status: &[u8], first: usize, last: usize, level: u8) -> bool {
-        self.red.clear();
         for c in first..last {
             if status[c] == RED {
                 let cell = &self.draft.cells[c];
                 if !cell.regular {
                     return false;
                 }
-                let slots = keys(cell).map(|key| self.edges.enter(key));
+                let slots = keys(&cell.corners).map(|key| self.edges.enter(key));
                 for slot in slots {
                     self.edges.value(slot).level = level;
                 }
@@ -144,14 +155,23 @@ impl Layouter {
         true
     }
 
-    /// Lays out the children of the level's cells; false where a status is not the one that the red edges ask for.
-    fn refine(&mut self, status: &[u8], first: usize, last: usize, level: u8) -> bool {
-        let mut red = 0;
+    /// Lays out the children of the level's cells, whose red ones stand in `self.red` from `red` on; false where a status is not
+    /// the one that the red edges ask for.
+    fn refine<const EXAMINE: bool, const SUMS: bool>(
+        &mut self,
+        status: &[u8],
+        first: usize,
+        last: usize,
+        level: u8,
+        mut red: usize,
+    ) -> bool {
         for c in first..last {
             let cell = self.draft.cells[c];
             if status[c] == RED {
-                self.cut(c, cell, RED, self.red[red]);
+                self.cut::<EXAMINE, SUMS>(c, cell, RED, self.red[red]);
                 red += 1;
+            } else if !EXAMINE && status[c] == 0 {
+                continue;
             } else if !cell.regular {
                 if status[c] != 0 {
                     return false;
@@ -159,7 +179,7 @@ impl Layouter {
             } else {
                 let mut slots = [0; 6];
                 let mut pattern = 0;
-                for (e, key) in keys(&cell).into_iter().enumerate() {
+                for (e, key) in keys(&cell.corners).into_iter().enumerate() {
                     if let Some(slot) = self.edges.find(key) {
                         slots[e] = slot;
                         pattern |= ((self.edges.value(slot).level == level) as u8) << e;
@@ -169,7 +189,7 @@ impl Layouter {
                     return false;
                 }
                 if pattern != 0 {
-                    self.cut(c, cell, pattern, slots);
+                    self.cut::<EXAMINE, SUMS>(c, cell, pattern, slots);
                 }
             }
         }
@@ -177,7 +197,7 @@ impl Layouter {
     }
 
     /// Lays out the children of cell c, where the edges that the status splits stand in these slots.
-    fn cut(&mut self, c: usize, cell: Cell, status: u8, slots: [usize; 6]) {
+    fn cut<const EXAMINE: bool, const SUMS: bool>(&mut self, c: usize, cell: Cell, status: u8, slots: [u32; 6]) {
         let mut points = [0; 10];
         for k in 0..4 {
             points[CORNER[k]] = cell.corners[k];
@@ -186,7 +206,7 @@ impl Layouter {
         for e in 0..6 {
             if split >> e & 1 == 1 {
                 let (a, b) = EDGES[e];
-                points[MIDPOINT[e]] = self.midpoint(slots[e], cell.corners[a], cell.corners[b]);
+                points[MIDPOINT[e]] = self.midpoint::<SUMS>(slots[e], cell.corners[a], cell.corners[b]);
             }
         }
         let family = &self.families[status as usize];
@@ -197,21 +217,23 @@ impl Layouter {
             child,
             regular: status == RED,
         }));
-        if status != RED {
+        if EXAMINE && status != RED {
             self.barred.extend(family.inner.iter().map(|&[p, q]| key(points[p as usize], points[q as usize])));
         }
     }
 
     /// The number of the midpoint of the edge in this slot.
     #[inline]
-    fn midpoint(&mut self, slot: usize, a: u16, b: u16) -> u16 {
+    fn midpoint<const SUMS: bool>(&mut self, slot: u32, a: u16, b: u16) -> u16 {
         let edge = self.edges.value(slot);
         if edge.middle == 0 {
             let Layout { ends, sums, .. } = &mut self.draft;
             edge.middle = ends.len() as u16;
             ends.push([a.min(b), a.max(b)]);
-            let (p, q) = (sums[a as usize], sums[b as usize]);
-            sums.push([0, 1, 2].map(|k| (p[k] + q[k]) / 2));
+            if SUMS {
+                let (p, q) = (sums[a as usize], sums[b as usize]);
+                sums.push([0, 1, 2].map(|k| (p[k] + q[k]) / 2));
+            }
         }
         edge.middle
     }
@@ -225,11 +247,11 @@ impl Default for Layouter {
 
 /// An edge by its two ends.
 #[inline]
-fn key(a: u16, b: u16) -> u32 {
+pub(crate) fn key(a: u16, b: u16) -> u32 {
     (a.min(b) as u32) << 16 | a.max(b) as u32
 }
 
 #[inline]
-fn keys(cell: &Cell) -> [u32; 6] {
-    EDGES.map(|(a, b)| key(cell.corners[a], cell.corners[b]))
+pub(crate) fn keys(corners: &[u16; 4]) -> [u32; 6] {
+    EDGES.map(|(a, b)| key(corners[a], corners[b]))
 }

@@ -1,10 +1,11 @@
-//! A plain program that lays out status tables, written for speed: the baseline of the benchmark.
+//! A plain program that lays out status tables and makes steps, written for speed: the baseline of the benchmark.
 //! The rules are those of document 01; the proved code is not used.
 
 pub mod families;
 pub mod input;
 pub mod layout;
 pub mod mesh;
+pub mod step;
 pub mod table;
 
 /// The number of a refusal, as document 01 lists them.

@@ -45,7 +45,7 @@ fn has_edge(cells: &[u16], g: usize, a: u16, b: u16) -> bool
 }
 
 // The condition at edge e of the cell c, whose parent is g.
-fn apart_edge(
+pub fn apart_edge(
     cells: &[u16],
     c: usize,
     g: usize,

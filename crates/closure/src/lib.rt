@@ -111,7 +111,7 @@ fn is_held(
 }
 
 // The pattern of the cell's edges that are listed, from the last edge to the first.
-fn pattern_of(
+pub fn pattern_of(
     cells: &[u16],
     c: usize,
     xs: &[u32],

@@ -34,11 +34,11 @@ pub enum Counted {
 }
 
 // What opening a table finds: the refusal, 0 where there is none, and then how many cells, levels and new corners there are.
-struct Found {
-    refusal: u8,
-    cells: usize,
-    levels: usize,
-    mids: usize,
+pub struct Found {
+    pub refusal: u8,
+    pub cells: usize,
+    pub levels: usize,
+    pub mids: usize,
 }
 
 fn code(answer: Answer) -> u8
@@ -62,7 +62,7 @@ fn refused(refusal: u8) -> Found
 }
 
 // Examines a mesh and a table over it.
-fn open(
+pub fn open(
     positions: &[i32],
     cells: &[u16],
     status: &[u8],

@@ -71,3 +71,8 @@ module _ (n : ℕ) (mesh ss rows xs ys heads links ps qs heads′ links′ : Lis
           reds = record { keys = s .reds; few = omega arith; in-xs = s .in-xs; in-ys = s .in-ys; in-links = s .in-links };
           mids = record { edges = none-listed ps qs heads′ links′ 0 (s .mids); few = omega arith; in-xs = s .in-ps; in-ys = s .in-qs; in-links = s .in-links′ };
         }
+
+    -- its cells
+    pub cells-start : here-start .cells ≡ coarseCells n fs
+    unfolding here-start
+    cells-start = refl

@@ -39,7 +39,7 @@ module _ (n : ℕ) (qs : List (List ℕ)) (ss : List ℕ) where
   pub unsound-status : allb (λ s. leb s 64) ss ≡ false → soundb n qs ss ≡ false
   unsound-status f = ⊎-elim (λ e. not-both (allb (λ s. leb s 64) ss) (sound-levels n qs ss e .statuses) f) (λ e. e) (either (soundb n qs ss))
 
-rows-in : (ks : List Corner) (cs : List (Cell Point)) → flatMap rowOf (cellsIn ks cs) ≡ cellTable ks cs
+pub rows-in : (ks : List Corner) (cs : List (Cell Point)) → flatMap rowOf (cellsIn ks cs) ≡ cellTable ks cs
 unfolding flatMap cellTable
 rows-in ks [] = refl
 rows-in ks (c ∷ cs) = ap (λ (l : List ℕ). rowOf (mapCell (numberIn ks) c) ++ l) (rows-in ks cs)

@@ -79,13 +79,13 @@ pairs-kept xs ys xs′ ys′ n ex ey k (suc m) h =
     let b : getD ys′ (k + m) 0 ≡ getD ys (k + m) 0 = sym (getD-take n ys′ (k + m) 0 (omega arith)) ∙ ap (λ (l : List ℕ). getD l (k + m) 0) ey ∙ getD-take n ys (k + m) 0 (omega arith) in
     rw (pairs-kept xs ys xs′ ys′ n ex ey k m (omega arith), a, b)
 
-drop-take : (a b : ℕ) (l : List ℕ) → drop a (take (a + b) l) ≡ take b (drop a l)
+pub drop-take : (a b : ℕ) (l : List ℕ) → drop a (take (a + b) l) ≡ take b (drop a l)
 drop-take zero b l = rw (zero-add b)
 drop-take (suc a) b [] = rw (suc-add a b) (sym (take-nil b))
 drop-take (suc a) b (x ∷ l) = rw (suc-add a b) (drop-take a b l)
 
 -- a part of a list that passes a test passes it
-all-take : (f : ℕ → Bool) (m : ℕ) (l : List ℕ) → T (allb f l) → T (allb f (take m l))
+pub all-take : (f : ℕ → Bool) (m : ℕ) (l : List ℕ) → T (allb f l) → T (allb f (take m l))
 unfolding allb
 all-take f zero l t = tt
 all-take f (suc m) [] t = tt
@@ -296,6 +296,11 @@ module _ (n : ℕ) (qs : List (List ℕ)) (ss : List ℕ) (j first last : ℕ) (
             reds = reds;
             mids = record { edges = g .edges; few = g .few; in-xs = omega (arith, h .mids .in-xs); in-ys = omega (arith, h .mids .in-ys); in-links = omega (arith, h .mids .in-links) };
           }
+
+      -- its cells
+      pub cells-next : here-next .cells ≡ next first (h .cells) own
+      unfolding here-next
+      cells-next = refl
 
   -- The highest level.
   module _ (w : closedFrom [] sameb (redEdges [] (h .cells) own) (h .cells) own ≡ true) (inside : last ≤ length ss) (st : Statuses ss)

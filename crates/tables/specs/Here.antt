@@ -3,7 +3,6 @@
 --   Mids ..     the table of new corners
 --   Here ..     the levels below j are closed and laid out; the cells of level j are the rows from first to last
 --   Top ..      level j is closed too, and it is the highest
---   Turned ..   what one turn tells
 use mathlib.Core.Path.{_≡_}
 use mathlib.Core.Bool.{Bool, true, false, _&&_}
 use mathlib.Core.List.{List, _++_, flatMap}
@@ -78,12 +77,3 @@ module _ (n : ℕ) (qs : List (List ℕ)) (ss : List ℕ) (j last : ℕ) (rows :
       pub red : Lists (listed xs ys 0 k) (redEdges 0 (cellsIn corners all) (take last ss))
       pub reds : Reds xs ys heads links k last
       pub mids : Mids ps qs′ heads′ links′ m last
-
--- What one turn of the building tells: 0 the table is not sound, 1 the highest level is reached, 2 there is another.
-module _ (n : ℕ) (qs : List (List ℕ)) (ss : List ℕ) (j last : ℕ) (rows : List ℕ) where
-  module _ (xs ys heads links ps qs′ heads′ links′ : List ℕ) (kind last′ k m : ℕ) where
-    pub record Turned : Type 0 where
-      pub one : kind ≤ 2
-      pub fails : kind ≡ 0 → soundb n qs ss ≡ false
-      pub ends : kind ≡ 1 → Top n qs ss j last rows xs ys heads links k ps qs′ heads′ links′ m
-      pub goes : kind ≡ 2 → Here n qs ss (suc j) last last′ rows xs ys heads links k ps qs′ heads′ links′ m

@@ -50,7 +50,7 @@ fn check_level(
 }
 
 // Lays out the coarse cells.
-fn lay_coarse(mesh: &[u16], rows: &mut [u16]) -> usize
+pub fn lay_coarse(mesh: &[u16], rows: &mut [u16]) -> usize
     requires { ⌜ Coarse (now mesh) (now rows) ⌝ }
     ensures { λ r. ⌜ (r ≡ length (fours (now (mesh .entry)))) × (take (8 * r) (now (rows .exit)) ≡ flatMap coarseRow (fours (now (mesh .entry)))) ⌝ }
 {
@@ -98,7 +98,7 @@ fn failed() -> Built
 }
 
 // Builds a table level by level.
-pub fn build(
+fn build(
     mesh: &[u16],
     status: &[u8],
     n: usize,

@@ -1,39 +1,51 @@
 // Runs the calls on status tables over the cases of its input, and prints a line of numbers for each case.
 // The input is made by independent/src/bin/table_cases.rs, and so are the lines that are expected.
-mod input;
-mod pattern;
 mod print;
 
-use input::Header;
-use input::Next;
 use layout::Counted;
 use layout::Laid;
 use position::Position;
-ghost use Prim.Native.Nat.{_≤_};
+use trial::input;
+use trial::layouts;
+use trial::pattern;
 
-// The length at which a table is lent: one less where it is to be short.
-fn lent(full: usize, number: usize, short: usize) -> usize
-    ensures { λ r. ⌜ r ≤ full ⌝ }
-{
-    if number != short {
-        return full;
-    }
-    if full == 0 {
-        return 0;
-    }
-    full - 1
+// What a case begins with.
+struct Header {
+    // How many coordinates, corner numbers and statuses follow.
+    positions: usize,
+    cells: usize,
+    status: usize,
+    // A cell and a corner to ask for.
+    cell: usize,
+    corner: usize,
+    // Which lent table is short: 1 cells, 2 ends, 3 sums, 4 counts, 0 none.
+    short: usize,
+    // How often the cells are laid out.
+    repeat: usize,
 }
 
-// The layout. This function's contract is short, so that the proofs above it are.
-fn lay_out_once(
-    positions: &[i32],
-    cells: &[u16],
-    status: &[u8],
-    table: &mut [u16],
-    ends: &mut [u16],
-    sums: &mut [i32],
-) -> Laid {
-    layout::lay_out(positions, cells, status, table, ends, sums)
+enum Next {
+    Case(Header),
+    End,
+}
+
+fn read_header() -> Next {
+    let mut bytes = [0u8; 14];
+    if !input::read_all(&mut bytes) {
+        return Next::End;
+    }
+    if input::number(&bytes, 0) == 65535 {
+        return Next::End;
+    }
+    Next::Case(Header {
+        positions: input::number(&bytes, 0),
+        cells: input::number(&bytes, 1),
+        status: input::number(&bytes, 2),
+        cell: input::number(&bytes, 3),
+        corner: input::number(&bytes, 4),
+        short: input::number(&bytes, 5),
+        repeat: input::number(&bytes, 6),
+    })
 }
 
 // The layout, made as often as asked.
@@ -46,10 +58,10 @@ fn lay_out(
     sums: &mut [i32],
     repeat: usize,
 ) -> Laid {
-    let mut laid = lay_out_once(positions, cells, status, table, ends, sums);
+    let mut laid = layouts::lay_out(positions, cells, status, table, ends, sums);
     let mut done = 1;
     while done < repeat {
-        laid = lay_out_once(positions, cells, status, table, ends, sums);
+        laid = layouts::lay_out(positions, cells, status, table, ends, sums);
         done += 1;
     }
     laid
@@ -65,9 +77,9 @@ fn lay_out_in(
     sums: &mut [i32],
     case: Header,
 ) -> Laid {
-    let t = lent(table.len(), 1, case.short);
-    let e = lent(ends.len(), 2, case.short);
-    let s = lent(sums.len(), 3, case.short);
+    let t = pattern::lent(table.len(), case.short == 1);
+    let e = pattern::lent(ends.len(), case.short == 2);
+    let s = pattern::lent(sums.len(), case.short == 3);
     lay_out(
         positions,
         cells,
@@ -89,7 +101,7 @@ fn corners_of(laid: Laid) -> usize {
 
 // The position of the corner asked for; table 3 may be lent short.
 fn position_in(sums: &[i32], corners: usize, case: Header) -> Position {
-    let s = lent(sums.len(), 3, case.short);
+    let s = pattern::lent(sums.len(), case.short == 3);
     position::position_of(&sums[0..s], corners, case.corner)
 }
 
@@ -103,14 +115,9 @@ fn print_layout(
     sums: &mut [i32],
     case: Header,
 ) {
-    pattern::fill(table);
-    pattern::fill(ends);
-    pattern::fill_signed(sums);
+    layouts::fill(table, ends, sums);
     let laid = lay_out_in(positions, cells, status, table, ends, sums, case);
-    print::laid(laid);
-    print::number(pattern::checksum(table));
-    print::number(pattern::checksum(ends));
-    print::number(pattern::checksum_signed(sums));
+    layouts::print_laid(laid, table, ends, sums);
     print::position(position_in(sums, corners_of(laid), case));
 }
 
@@ -137,7 +144,7 @@ fn count_in(
     counts: &mut [u16],
     case: Header,
 ) -> Counted {
-    let n = lent(counts.len(), 4, case.short);
+    let n = pattern::lent(counts.len(), case.short == 4);
     layout::counts(positions, cells, status, &mut counts[0..n])
 }
 
@@ -145,7 +152,7 @@ fn print_counts(positions: &[i32], cells: &[u16], status: &[u8], counts: &mut [u
     pattern::fill(counts);
     let counted = count_in(positions, cells, status, counts, case);
     print::counted(counted);
-    print::number(pattern::checksum(counts));
+    trial::print::number(pattern::checksum(counts));
 }
 
 fn try_counts(positions: &[i32], cells: &[u16], status: &[u8], case: Header) {
@@ -159,7 +166,7 @@ fn try_case(positions: &[i32], cells: &[u16], status: &[u8], case: Header) {
     try_layout(positions, cells, status, case);
     print::ancestry(layout::ancestor(positions, cells, status, case.cell));
     try_counts(positions, cells, status, case);
-    print::end();
+    trial::print::end();
 }
 
 // A case whose lists are the first places of the given ones. False where one is too short.
@@ -188,7 +195,10 @@ fn read_case(
     status: &mut [u8],
     case: Header,
 ) -> bool {
-    if !input::read_lists(room, positions, cells, status, case) {
+    if !input::read_mesh(room, positions, cells, case.positions, case.cells) {
+        return false;
+    }
+    if !input::read_bytes(status, case.status) {
         return false;
     }
     try_parts(positions, cells, status, case)
@@ -203,7 +213,7 @@ fn case_of(case: Header) -> bool {
 }
 
 fn next_case() -> bool {
-    match input::read_header() {
+    match read_header() {
         Next::Case(case) => case_of(case),
         Next::End => false,
     }

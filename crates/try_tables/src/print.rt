@@ -2,8 +2,9 @@
 use base::Answer;
 use layout::Ancestry;
 use layout::Counted;
-use layout::Laid;
 use position::Position;
+use trial::print::number;
+use trial::print::two;
 
 fn refusal(answer: Answer) -> u64 {
     match answer {
@@ -14,39 +15,11 @@ fn refusal(answer: Answer) -> u64 {
 
 // The first number of a line.
 pub fn first(answer: Answer) {
-    io::print_decimal(1, refusal(answer));
-}
-
-// A further number of a line.
-pub fn number(n: u64) {
-    io::write_all(1, b" ");
-    io::print_decimal(1, n);
-}
-
-pub fn end() {
-    io::write_all(1, b"\n");
+    trial::print::first(refusal(answer));
 }
 
 pub fn answer(answer: Answer) {
     number(refusal(answer));
-}
-
-fn two(a: u64, b: u64) {
-    number(a);
-    number(b);
-}
-
-pub fn laid(laid: Laid) {
-    match laid {
-        Laid::Out(sizes) => {
-            two(0, sizes.cells as u64);
-            two(sizes.corners as u64, sizes.levels as u64);
-        }
-        Laid::Refused(k) => {
-            two(k as u64, 0);
-            two(0, 0);
-        }
-    }
 }
 
 pub fn ancestry(ancestry: Ancestry) {

@@ -14,16 +14,11 @@
 use independent::mesh::*;
 use independent::random::*;
 use independent::step::{step, step_without_count};
+use independent::trial::*;
 use independent::Refusal;
-use std::collections::{BTreeMap, HashMap};
+use std::collections::BTreeMap;
 
-const TABLE: usize = 8 * MOST_CELLS;
-const ENDS: usize = 2 * MOST_CORNERS;
-const SUMS: usize = 3 * MOST_CORNERS;
 const COUNTS: usize = 4 * (TOP_LEVEL as usize + 1);
-
-/// The most numbers of each list that the program takes.
-const MOST: [usize; 3] = [2000, 2000, 5000];
 
 #[derive(Clone)]
 struct Case {
@@ -35,104 +30,10 @@ struct Case {
     short: u16,
 }
 
-// ------------------------------------------------- patterns and checksums
-
-fn turn(sum: u64, x: u64) -> u64 {
-    (sum * 48_271 + x) % 2_147_483_647
-}
-
-/// What the tables hold before a call.
-fn pattern(length: usize) -> Vec<u64> {
-    std::iter::successors(Some(1), |&x| Some(turn(x, 1))).take(length).collect()
-}
-
-fn words(length: usize) -> Vec<u16> {
-    pattern(length).into_iter().map(|x| x as u16).collect()
-}
-
-fn checksum(numbers: impl IntoIterator<Item = u64>) -> u64 {
-    numbers.into_iter().fold(1, turn)
-}
-
-fn checksum_words(list: &[u16]) -> u64 {
-    checksum(list.iter().map(|&x| x as u64))
-}
-
-fn checksum_signed(list: &[i32]) -> u64 {
-    checksum(list.iter().map(|&x| (x as i64 + (1 << 31)) as u64))
-}
-
 // ------------------------------------------------------------ expected lines
-
-fn table_rows(layout: &Layout) -> Vec<u16> {
-    layout
-        .cells
-        .iter()
-        .flat_map(|c| {
-            let parent = c.parent.map_or(65_535, |p| p as u16);
-            let [a, b, d, e] = c.corners.map(|k| k as u16);
-            [c.level as u16, parent, c.child as u16, c.regular as u16, a, b, d, e]
-        })
-        .collect()
-}
-
-/// The two ends of each corner, lower first; a coarse corner's are itself.
-fn end_rows(coarse: &Coarse, layout: &Layout) -> Vec<u16> {
-    let numbers: HashMap<&Weights, usize> = layout.corners.iter().zip(0..).collect();
-    let mut ends: Vec<Option<Edge>> = vec![None; layout.corners.len()];
-    for (k, end) in ends.iter_mut().enumerate().take(coarse.positions.len()) {
-        *end = Some((k, k));
-    }
-    for cell in layout.cells.iter().filter(|c| c.status != LEAF) {
-        let split = if cell.status == RED { 63 } else { cell.status };
-        for (e, edge) in edges(cell).into_iter().enumerate() {
-            if split >> e & 1 == 1 {
-                let middle = half_sum(&layout.corners[edge.0], &layout.corners[edge.1]).expect("whole");
-                let end = ends[numbers[&middle]].get_or_insert(edge);
-                assert_eq!(*end, edge, "a corner in the middle of two edges");
-            }
-        }
-    }
-    let ends = ends.into_iter().map(|e| e.expect("the middle of an edge"));
-    ends.flat_map(|(a, b)| [a as u16, b as u16]).collect()
-}
-
-fn sum_rows(coarse: &Coarse, layout: &Layout) -> Vec<i32> {
-    let sum = |weights: &Weights, axis: usize| -> i64 {
-        weights.iter().map(|&(c, w)| w as i64 * coarse.positions[c as usize][axis] as i64).sum()
-    };
-    layout.corners.iter().flat_map(|w| [0, 1, 2].map(|axis| sum(w, axis) as i32)).collect()
-}
 
 fn count_rows(layout: &Layout) -> Vec<u16> {
     counts(layout).concat().into_iter().map(|n| n as u16).collect()
-}
-
-/// The list with its first places overwritten.
-fn over<T: Copy>(mut list: Vec<T>, first: &[T]) -> Vec<T> {
-    list[..first.len()].copy_from_slice(first);
-    list
-}
-
-/// A line under work.
-#[derive(Default)]
-struct Line {
-    fields: Vec<String>,
-    refusals: Vec<Refusal>,
-}
-
-impl Line {
-    /// An answer's refusal, 0 for none, and some numbers.
-    fn answer<T>(&mut self, answer: &Result<T, Refusal>, numbers: &[usize]) {
-        let refusal = answer.as_ref().err().copied().unwrap_or(0);
-        self.refusals.push(refusal);
-        self.fields.push(refusal.to_string());
-        self.fields.extend(numbers.iter().map(usize::to_string));
-    }
-
-    fn number(&mut self, n: u64) {
-        self.fields.push(n.to_string());
-    }
 }
 
 fn line(case: &Case) -> Line {
@@ -143,23 +44,11 @@ fn line(case: &Case) -> Line {
     line.answer(&table, &[]);
 
     let laid = if (1..=3).contains(&case.short) { Err(15) } else { table.clone() };
-    let (mut rows, mut ends) = (words(TABLE), words(ENDS));
-    let mut sums: Vec<i32> = pattern(SUMS).into_iter().map(|x| x as i32).collect();
-    let mut sizes = [0; 3];
-    if let (Ok(coarse), Ok(layout)) = (&mesh, &laid) {
-        rows = over(rows, &table_rows(layout));
-        ends = over(ends, &end_rows(coarse, layout));
-        sums = over(sums, &sum_rows(coarse, layout));
-        sizes = [layout.cells.len(), layout.corners.len(), layout.levels];
-    }
-    line.answer(&laid, &sizes);
-    line.number(checksum_words(&rows));
-    line.number(checksum_words(&ends));
-    line.number(checksum_signed(&sums));
+    let sums = line.laid(&mesh, &laid);
 
     // Where nothing was laid out, the position is asked of the pattern, as if there were 65,535 corners.
     let corner = case.corner as usize;
-    let corners = if laid.is_ok() { sizes[1] } else { 65_535 };
+    let corners = laid.as_ref().map_or(65_535, |layout| layout.corners.len());
     let at = match (&mesh, &laid) {
         _ if case.short == 3 => Err(15),
         _ if corner >= corners || corner >= MOST_CORNERS => Err(7),
@@ -186,7 +75,7 @@ fn line(case: &Case) -> Line {
     line
 }
 
-fn bytes(case: &Case, repeat: u16) -> Vec<u8> {
+fn case_bytes(case: &Case, repeat: u16) -> Vec<u8> {
     let lengths = [case.positions.len(), case.cells.len(), case.status.len()];
     assert!(lengths.iter().zip(MOST).all(|(&n, most)| n <= most));
     let [p, c, s] = lengths.map(|n| n as u16);
@@ -200,46 +89,7 @@ fn bytes(case: &Case, repeat: u16) -> Vec<u8> {
     out
 }
 
-// ------------------------------------------------------------ ways to be not sound
-
-/// By which rule a table is not sound, if it is not.
-fn fault(coarse: &Coarse, status: &[u8]) -> Option<&'static str> {
-    const NAMES: [&str; 4] = ["level 11", "not regular", "too short", "too long"];
-    if status.iter().any(|&s| s > RED) {
-        return Some("above 64");
-    }
-    if status.len() > MOST_CELLS {
-        return Some("too many cells");
-    }
-    let grown = grow(coarse, |cells, level| {
-        let statuses = status.get(level.clone()).ok_or(2)?.to_vec();
-        for (i, &s) in level.zip(&statuses) {
-            if s != LEAF && (cells[i].level == TOP_LEVEL || !cells[i].regular) {
-                return Err(if cells[i].regular { 0 } else { 1 });
-            }
-        }
-        Ok(statuses)
-    });
-    let layout = match grown {
-        Err(k) => return Some(NAMES[k as usize]),
-        Ok(layout) if layout.cells.len() < status.len() => return Some(NAMES[3]),
-        Ok(layout) => layout,
-    };
-    let patterns = (0..layout.levels).all(|level| {
-        let here: Vec<usize> = (0..status.len()).filter(|&i| layout.cells[i].level as usize == level).collect();
-        let range = here[0]..here[here.len() - 1] + 1;
-        close(&layout.cells, range.clone(), |i| status[i] == RED) == status[range]
-    });
-    match (patterns, sound(&layout)) {
-        (_, true) => None,
-        (true, false) => Some("third condition"),
-        (false, false) => Some("pattern"),
-    }
-}
-
 // ------------------------------------------------------------------ the cases
-
-const A: [i32; 12] = [0, 0, 0, 16, 0, 0, 0, 16, 0, 0, 0, 16];
 
 struct Cases {
     r: Random,
@@ -289,25 +139,6 @@ impl Cases {
             self.small()
         }
     }
-}
-
-fn marks_at(length: usize, ones: impl IntoIterator<Item = usize>) -> Vec<u8> {
-    let mut marks = vec![0; length];
-    for i in ones {
-        marks[i] = 1;
-    }
-    marks
-}
-
-/// So many corners at random.
-fn corners(count: usize) -> Vec<i32> {
-    let mut r = Random::new(7);
-    (0..3 * count).map(|_| r.between(-500_000, 500_000) as i32).collect()
-}
-
-/// So many cells that share no edge: differences of 0, 1, 4, 6 are all different.
-fn apart(count: usize) -> Vec<u16> {
-    (0..count as u16).flat_map(|k| [k, k + 1, k + 4, k + 6]).collect()
 }
 
 /// Random meshes with sound tables.
@@ -507,7 +338,7 @@ fn main() {
     let mut faults: BTreeMap<&str, usize> = BTreeMap::new();
     for case in &cases.all {
         let Line { fields, refusals } = line(case);
-        input.extend(bytes(case, repeat));
+        input.extend(case_bytes(case, repeat));
         lines.push_str(&(fields.join(" ") + "\n"));
         for (call, refusal) in refusals.into_iter().enumerate() {
             met.entry(refusal).or_default()[call] += 1;

@@ -12,14 +12,14 @@ Inv-loop positions cells status table₀ ends₀ sums₀ repeat laid₀ done₀ 
 abbrev μ-loop : tie.MeasureT-loop
 μ-loop positions cells status table₀ ends₀ sums₀ repeat laid₀ done₀ table ends sums laid done = repeat - done
 
-lay-out-once-requires : tie.Need-lay-out-once-requires Inv-loop μ-loop
-lay-out-once-requires c κs = search needs
+lay-out-requires : tie.Need-lay-out-requires Inv-loop μ-loop
+lay-out-requires c κs = search needs
 
 loop-holds : tie.Need-loop-holds Inv-loop μ-loop
 loop-holds c = search needs
 
-lay-out-once-requires-2 : tie.Need-lay-out-once-requires-2 Inv-loop μ-loop
-lay-out-once-requires-2 c κs = search needs
+lay-out-requires-2 : tie.Need-lay-out-requires-2 Inv-loop μ-loop
+lay-out-requires-2 c κs = search needs
 
 add-done : tie.Need-add-done Inv-loop μ-loop
 add-done c = search needs
@@ -48,9 +48,9 @@ lay-out-spec =
     (tie.spec
     Inv-loop
     μ-loop
-    lay-out-once-requires
+    lay-out-requires
     loop-holds
-    lay-out-once-requires-2
+    lay-out-requires-2
     add-done
     loop-less
     loop-again

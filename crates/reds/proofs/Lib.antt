@@ -1,0 +1,10 @@
+pub mod Ranges
+pub mod Born
+pub mod Firsts
+pub mod Tests
+pub mod Levels
+pub mod Down
+pub mod Cases
+pub mod Writes
+pub mod Sound
+pub mod Up

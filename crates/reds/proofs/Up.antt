@@ -1,0 +1,134 @@
+-- One level more on the way down.
+-- Laws: above-none (no level), level-up (what the level above asks for), reds-range, reds-ready (what listing a level's edges asks
+-- for), above-more (one level more).
+-- Assumes nothing.
+use mathlib.Core.Path.{_≡_, refl, sym, _∙_, ap, ap₂, fun-ext}
+use mathlib.Core.Bool.{Bool}
+use mathlib.Core.List.{List, [], _∷_, _++_}
+use Prim.Native.Nat.{ℕ, suc, _+_, _*_, _-_, _≤_}
+use native.Mathlib.Nat.{add-zero}
+use native.Mathlib.Omega.{arith}
+use lib.Dec.{eqb}
+use lib.ListN.{length, getD, take, drop, take-append-drop}
+use lib.Seq.{take-at, drop-at, length-take-le}
+use Rattle.base.specs.Places.{hasb, distinct-nil}
+use Rattle.mesh.specs.Cells.{redb, redEdges, heldb}
+use Rattle.edges.specs.Pairs.{Pair, isb, same-pair, addPairs, pairsOf}
+use Rattle.edges.specs.Table.{Grown, listed}
+use Rattle.rows.specs.Numbered.{cellsAt, part}
+use Rattle.closure.specs.Ready.{Ready, Range, redCount}
+use Rattle.closure.proofs.Closed.{lists-added, held-listed}
+use Rattle.closure.proofs.Steps.{length-reds, length-cells}
+use Rattle.counting.proofs.Tallies.{one-few}
+use Rattle.reds.specs.Flags.{listedb, flagsAt, redsUp, flagsUp}
+use Rattle.reds.specs.Old.{Old, Span, OneLevel, Above}
+use Rattle.reds.proofs.Writes.{length-flags, flags-both}
+
+reds-few : (ss : List ℕ) → redCount ss ≤ length ss
+unfolding redCount
+reds-few [] = omega arith
+reds-few (s ∷ ss) = omega (arith, reds-few ss, one-few (redb s))
+
+none-listed : (xs ys : List ℕ) (n : ℕ) → listed xs ys n n ≡ []
+unfolding pairsOf
+none-listed xs ys n = let e : n - n ≡ 0 = omega arith in rw e
+
+pub above-none : (t ss ms ks : List ℕ) (first last : ℕ) (red xs ys heads links : List ℕ) → OneLevel ss ks red xs ys heads links first last
+    → (depth : ℕ) → depth ≡ 0 → Above t ss ms ks depth first last red red xs ys heads links 0 0
+unfolding flagsUp redsUp
+above-none t ss ms ks first last red xs ys heads links l depth d =
+    rw d
+    (record {
+      flags = sym (ap (λ (x : ℕ). take first red ++ drop x red) (add-zero first) ∙ take-append-drop first red);
+      table = record { keys = l .keys; up = omega arith };
+      lists = record { has = λ p. ap (λ (es : List Pair). hasb isb es p) (none-listed xs ys 0) };
+      few = omega arith;
+    })
+
+pub level-up : (t ss ms ks red xs ys heads links : List ℕ) (first last : ℕ) → Old t ss ms ks → OneLevel ss ks red xs ys heads links first last
+    → OneLevel ss ks red xs ys heads links last (getD ks last 0)
+level-up t ss ms ks red xs ys heads links first last o l =
+    record {
+      span =
+          record {
+            up = omega (arith, l .children, o .up first last (l .span .up) (l .span .inside));
+            inside = o .top last (l .span .inside);
+            room = l .span .room;
+          };
+      children = refl;
+      keys = l .keys;
+      in-xs = l .in-xs;
+      in-ys = l .in-ys;
+      in-links = l .in-links;
+    }
+
+module _ (t ss ms ks : List ℕ) (h first last : ℕ) (red red₁ xs₁ ys₁ heads₁ links₁ : List ℕ) (from₁ n₁ : ℕ) (o : Old t ss ms ks) (s : Span ss red first last)
+    (above : Above t ss ms ks h last (getD ks last 0) red red₁ xs₁ ys₁ heads₁ links₁ from₁ n₁) (same : length red₁ ≡ length red)
+    (red₂ : List ℕ) (e : red₂ ≡ take first red₁ ++ (flagsAt t ss ms ks (listedb xs₁ ys₁ from₁ n₁) first (last - first) ++ drop last red₁)) where
+  abbrev own : List ℕ
+  own = flagsAt t ss ms ks (listedb xs₁ ys₁ from₁ n₁) first (last - first)
+
+  -- the flags of the level
+  own-are : own ≡ flagsAt t ss ms ks (heldb eqb (redsUp t ss ms ks h last (getD ks last 0))) first (last - first)
+  own-are =
+      ap (λ (f : Pair → Bool). flagsAt t ss ms ks f first (last - first))
+      (fun-ext (held-listed (listed xs₁ ys₁ from₁ n₁) (redsUp t ss ms ks h last (getD ks last 0)) (above .lists)))
+
+  own-length : length own ≡ last - first
+  own-length = length-flags t ss ms ks (listedb xs₁ ys₁ from₁ n₁) first (last - first)
+
+  own-part : part red₂ first (last - first) ≡ own
+  own-part =
+      let k : length (take first red₁) ≡ first = length-take-le first red₁ (omega (arith, s .up, s .inside, s .room, same)) in
+      ap (λ (l : List ℕ). part l first (last - first)) e
+      ∙ ap (take (last - first)) (drop-at (take first red₁) (own ++ drop last red₁) first k) ∙ take-at own (drop last red₁) (last - first) own-length
+
+  few-own : redCount (part red₂ first (last - first)) ≤ last - first
+  few-own = omega (arith, ap redCount own-part, reds-few own, own-length)
+
+  module _ (ix : 24576 ≤ length xs₁) (iy : 24576 ≤ length ys₁) (il : 24576 ≤ length links₁) (same₂ : length red₂ ≡ length red₁) where
+    pub reds-range : Range red₂ first last
+    reds-range = record { up = s .up; inside = omega (arith, s .inside, s .room, same, same₂) }
+
+    pub reds-ready : Ready t xs₁ ys₁ heads₁ links₁ last n₁ n₁ (6 * redCount (part red₂ first (last - first)))
+    reds-ready =
+        let w : n₁ + 6 * redCount (part red₂ first (last - first)) ≤ 24576 = omega (arith, few-own, above .few, o .few, s .up, s .inside) in
+        record {
+          rows = omega (arith, o .rows, s .inside);
+          table = record { keys = above .table .keys; up = omega arith; distinct = rw (none-listed xs₁ ys₁ n₁) (distinct-nil isb (0, 0) same-pair) };
+          space = record { small = omega arith; in-xs = omega arith; in-ys = omega arith; in-links = omega arith };
+        }
+
+  module _ (xs₂ ys₂ heads₂ links₂ : List ℕ) (m : ℕ) where
+    abbrev es : List Pair
+    es = redEdges 0 (cellsAt t first (last - first)) (part red₂ first (last - first))
+
+    es-are : es ≡ redsUp t ss ms ks (suc h) first last
+    unfolding redsUp
+    es-are = ap (redEdges 0 (cellsAt t first (last - first))) (own-part ∙ own-are)
+
+    es-few : length es ≤ 6 * (last - first)
+    es-few =
+        omega (
+          arith,
+          few-own,
+          length-reds (cellsAt t first (last - first)) (part red₂ first (last - first))
+              (length-cells t first (last - first) ∙ sym (ap length own-part ∙ own-length)),
+        )
+
+    pub above-more : (depth : ℕ) → depth ≡ suc h → Grown xs₁ ys₁ n₁ n₁ es xs₂ ys₂ heads₂ links₂ m
+        → Above t ss ms ks depth first last red red₂ xs₂ ys₂ heads₂ links₂ n₁ m
+    unfolding flagsUp
+    above-more depth d g =
+        let up : List ℕ = flagsUp t ss ms ks h last (getD ks last 0) in
+        let l : listed xs₂ ys₂ n₁ m ≡ addPairs [] (redsUp t ss ms ks (suc h) first last) =
+        g .list ∙ ap₂ addPairs (none-listed xs₁ ys₁ n₁) es-are in
+        let f : red₂ ≡ take first red ++ ((own ++ up) ++ drop (first + length (own ++ up)) red) =
+        flags-both red red₁ red₂ own up first last (s .up) (omega (arith, s .inside, s .room)) own-length (above .flags) e in
+        rw d
+        (record {
+          flags = rw own-are at f;
+          table = record { keys = g .edges .keys; up = g .more };
+          lists = rw l (lists-added (redsUp t ss ms ks (suc h) first last));
+          few = omega (arith, g .most, es-few, above .few, s .up, s .inside);
+        })

@@ -1,0 +1,56 @@
+-- What the functions ask for and leave. The old table has the rows t, the statuses ss and the marks ms, and ks are the numbers of
+-- first children.
+--   Old t ss ms ks       the old table, as far as it matters for looking at it
+--   Span ..              cells of the old table from first to last, and flags for all cells
+--   OneLevel ..          the same where they are a level, and an edge table with nothing in it
+--   Above ..             what treating h levels from this one on leaves
+--   Marked ..            a sound table over an accepted mesh of n corners with its rows, and marks
+use mathlib.Core.Path.{_≡_}
+use mathlib.Core.List.{List, _++_}
+use Prim.Native.Nat.{ℕ, suc, _+_, _*_, _-_, _≤_, _<_}
+use lib.Dec.{T}
+use lib.ListN.{length, getD, take, drop}
+use Rattle.base.specs.Fours.{fours}
+use Rattle.mesh.specs.Table.{soundb}
+use Rattle.mesh.specs.Layout.{cellTable}
+use Rattle.keys.specs.Keys.{Keys}
+use Rattle.edges.specs.Table.{Table, listed}
+use Rattle.closure.proofs.Closed.{Lists}
+use Rattle.tables.specs.Sound.{Mesh, tableCells, tableCorners}
+use Rattle.reds.specs.Flags.{firstChildren, redsUp, flagsUp}
+
+pub record Old (t ss ms ks : List ℕ) : Type 0 where
+  pub few : length ss ≤ 4096
+  pub rows : 8 * length ss ≤ length t
+  pub marks : length ms ≡ length ss
+  pub size : length ss < length ks
+  pub up : (a b : ℕ) → a ≤ b → b ≤ length ss → getD ks a 0 ≤ getD ks b 0
+  pub top : (c : ℕ) → c ≤ length ss → getD ks c 0 ≤ length ss
+
+pub record Span (ss red : List ℕ) (first last : ℕ) : Type 0 where
+  pub up : first ≤ last
+  pub inside : last ≤ length ss
+  pub room : length ss ≤ length red
+
+-- room for six edges of each of 4,096 cells
+pub record OneLevel (ss ks red xs ys heads links : List ℕ) (first last : ℕ) : Type 0 where
+  pub span : Span ss red first last
+  pub children : last ≡ getD ks first 0
+  pub keys : Keys xs ys heads links 0
+  pub in-xs : 24576 ≤ length xs
+  pub in-ys : 24576 ≤ length ys
+  pub in-links : 24576 ≤ length links
+
+pub record Above (t ss ms ks : List ℕ) (h first last : ℕ) (red red′ xs′ ys′ heads′ links′ : List ℕ) (from n : ℕ) : Type 0 where
+  pub flags : red′ ≡ take first red ++ (flagsUp t ss ms ks h first last ++ drop (first + length (flagsUp t ss ms ks h first last)) red)
+  pub table : Table xs′ ys′ heads′ links′ from n
+  pub lists : Lists (listed xs′ ys′ from n) (redsUp t ss ms ks h first last)
+  pub few : n ≤ 6 * (length ss - first)
+
+pub record Marked (n : ℕ) (mesh rows ss ms ks red : List ℕ) : Type 0 where
+  pub accepted : Mesh n mesh
+  pub sound : T (soundb n (fours mesh) ss)
+  pub table : take (8 * length (tableCells n (fours mesh) ss)) rows ≡ cellTable (tableCorners n (fours mesh) ss) (tableCells n (fours mesh) ss)
+  pub marks : length ms ≡ length ss
+  pub firsts : take (suc (length ss)) ks ≡ firstChildren (length (fours mesh)) ss
+  pub room : length ss ≤ length red

@@ -1,0 +1,339 @@
+// Which cells of an old table will be red after a step, level by level from the highest down.
+ghost use mathlib.Core.Path.{_≡_};
+ghost use mathlib.Core.Bool.{true};
+ghost use mathlib.Core.List.{_++_};
+ghost use Prim.Native.Nat.{suc, _+_, _*_, _-_, _≤_, _<_};
+ghost use lib.Dec.{leb};
+ghost use lib.ListN.{length, take, drop};
+ghost use Rattle.base.specs.Fours.{fours};
+ghost use Rattle.base.specs.Lists.{allb, anyb};
+ghost use Rattle.edges.specs.Table.{Table};
+ghost use Rattle.closure.specs.Ready.{Looks};
+ghost use Rattle.same.specs.Olds.{flagOf, flagTable};
+ghost use Rattle.reds.specs.Flags.{range, firstChildren, listedb, idleb, touchedb, redAtb, flagsAt, pulledb};
+ghost use Rattle.reds.specs.Old.{Old, Span, OneLevel, Above, Marked};
+
+// The number of the first child of each cell, and behind them the count of all cells.
+pub fn first_children(status: &[u8], coarse: usize, kids: &mut [u16])
+    requires { ⌜ allb (λ s. leb s 64) (now status) ≡ true ⌝ }
+    requires { ⌜ (length (now status) ≤ 4096) × (length (now status) < length (now kids)) × (coarse ≤ 256) ⌝ }
+    ensures { λ r. ⌜ now (kids .exit) ≡ firstChildren coarse (now (status .entry)) ++ drop (suc (length (now (status .entry)))) (now (kids .entry)) ⌝ }
+{
+    let mut at = coarse;
+    let mut c = 0;
+    while c < status.len() {
+        kids[c] = at as u16;
+        at += sizes::size_of(status[c]);
+        c += 1;
+    }
+    kids[c] = at as u16;
+}
+
+// Whether the cell j is a leaf marked 2 with no edge listed.
+fn is_idle(
+    rows: &[u16],
+    status: &[u8],
+    marks: &[u8],
+    j: usize,
+    xs: &[u32],
+    ys: &[u32],
+    heads: &[u16],
+    links: &[u16],
+    from: usize,
+    n: usize,
+) -> bool
+    requires { ⌜ Looks (now rows) (now xs) (now ys) (now heads) (now links) (j + 1) from n ⌝ }
+    requires { ⌜ (j < length (now status)) × (j < length (now marks)) ⌝ }
+    ensures { λ r. ⌜ r ≡ idleb (now (rows .entry)) (now (status .entry)) (now (marks .entry)) (listedb (now (xs .entry)) (now (ys .entry)) from n) j ⌝ }
+{
+    if status[j] != 0 {
+        return false;
+    }
+    if marks[j] != 2 {
+        return false;
+    }
+    closure::pattern_of(rows, j, xs, ys, heads, links, from, n) == 0
+}
+
+// Whether each of the cells from first to last is.
+fn are_idle(
+    rows: &[u16],
+    status: &[u8],
+    marks: &[u8],
+    first: usize,
+    last: usize,
+    xs: &[u32],
+    ys: &[u32],
+    heads: &[u16],
+    links: &[u16],
+    from: usize,
+    n: usize,
+) -> bool
+    requires { ⌜ Looks (now rows) (now xs) (now ys) (now heads) (now links) last from n ⌝ }
+    requires { ⌜ (last ≤ length (now status)) × (last ≤ length (now marks)) ⌝ }
+    ensures { λ r. ⌜ r ≡ allb (idleb (now (rows .entry)) (now (status .entry)) (now (marks .entry)) (listedb (now (xs .entry)) (now (ys .entry)) from n)) (range first (last - first)) ⌝ }
+{
+    let mut j = first;
+    while j < last {
+        if !is_idle(rows, status, marks, j, xs, ys, heads, links, from, n) {
+            return false;
+        }
+        j += 1;
+    }
+    true
+}
+
+// Whether an edge of the cell j, not of the cell g, is listed.
+fn is_touched(
+    rows: &[u16],
+    g: usize,
+    j: usize,
+    xs: &[u32],
+    ys: &[u32],
+    heads: &[u16],
+    links: &[u16],
+    from: usize,
+    n: usize,
+) -> bool
+    requires { ⌜ Looks (now rows) (now xs) (now ys) (now heads) (now links) (j + 1) from n ⌝ }
+    requires { ⌜ 8 * g + 8 ≤ length (now rows) ⌝ }
+    ensures { λ r. ⌜ r ≡ touchedb (now (rows .entry)) (listedb (now (xs .entry)) (now (ys .entry)) from n) g j ⌝ }
+{
+    let mut e = 0;
+    while e < 6 {
+        if !apart::apart_edge(rows, j, g, e, xs, ys, heads, links, from, n) {
+            return true;
+        }
+        e += 1;
+    }
+    false
+}
+
+// Whether the child j of the green cell g is marked 1 or so touched.
+fn is_pulled(
+    rows: &[u16],
+    marks: &[u8],
+    g: usize,
+    j: usize,
+    xs: &[u32],
+    ys: &[u32],
+    heads: &[u16],
+    links: &[u16],
+    from: usize,
+    n: usize,
+) -> bool
+    requires { ⌜ Looks (now rows) (now xs) (now ys) (now heads) (now links) (j + 1) from n ⌝ }
+    requires { ⌜ (8 * g + 8 ≤ length (now rows)) × (j < length (now marks)) ⌝ }
+    ensures { λ r. ⌜ r ≡ pulledb (now (rows .entry)) (now (marks .entry)) (listedb (now (xs .entry)) (now (ys .entry)) from n) g j ⌝ }
+{
+    if marks[j] == 1 {
+        return true;
+    }
+    is_touched(rows, g, j, xs, ys, heads, links, from, n)
+}
+
+// Whether one of the children of the green cell g, from first to last, is.
+fn one_pulled(
+    rows: &[u16],
+    marks: &[u8],
+    g: usize,
+    first: usize,
+    last: usize,
+    xs: &[u32],
+    ys: &[u32],
+    heads: &[u16],
+    links: &[u16],
+    from: usize,
+    n: usize,
+) -> bool
+    requires { ⌜ Looks (now rows) (now xs) (now ys) (now heads) (now links) last from n ⌝ }
+    requires { ⌜ (8 * g + 8 ≤ length (now rows)) × (last ≤ length (now marks)) ⌝ }
+    ensures { λ r. ⌜ r ≡ anyb (pulledb (now (rows .entry)) (now (marks .entry)) (listedb (now (xs .entry)) (now (ys .entry)) from n) g) (range first (last - first)) ⌝ }
+{
+    let mut j = first;
+    while j < last {
+        if is_pulled(rows, marks, g, j, xs, ys, heads, links, from, n) {
+            return true;
+        }
+        j += 1;
+    }
+    false
+}
+
+// Whether the cell c will be red, where the edges of the new red cells one level up are listed.
+fn is_new_red(
+    rows: &[u16],
+    status: &[u8],
+    marks: &[u8],
+    kids: &[u16],
+    c: usize,
+    xs: &[u32],
+    ys: &[u32],
+    heads: &[u16],
+    links: &[u16],
+    from: usize,
+    n: usize,
+) -> bool
+    requires { ⌜ Old (now rows) (now status) (now marks) (now kids) ⌝ }
+    requires { ⌜ Table (now xs) (now ys) (now heads) (now links) from n ⌝ }
+    requires { ⌜ c < length (now status) ⌝ }
+    ensures { λ r. ⌜ r ≡ redAtb (now (rows .entry)) (now (status .entry)) (now (marks .entry)) (now (kids .entry)) (listedb (now (xs .entry)) (now (ys .entry)) from n) c ⌝ }
+{
+    let s = status[c];
+    let first = kids[c] as usize;
+    let last = kids[c + 1] as usize;
+    if s == 64 {
+        return !are_idle(
+            rows,
+            status,
+            marks,
+            first,
+            last,
+            xs,
+            ys,
+            heads,
+            links,
+            from,
+            n,
+        );
+    }
+    if s != 0 {
+        return one_pulled(rows, marks, c, first, last, xs, ys, heads, links, from, n);
+    }
+    if !rows::is_regular(rows, c) {
+        return false;
+    }
+    marks[c] == 1
+}
+
+fn flag(b: bool) -> u8
+    ensures { λ r. ⌜ r ≡ flagOf b ⌝ }
+{
+    if b { 64 } else { 0 }
+}
+
+// Writes the flags of the cells from first to last.
+fn flag_level(
+    rows: &[u16],
+    status: &[u8],
+    marks: &[u8],
+    kids: &[u16],
+    red: &mut [u8],
+    first: usize,
+    last: usize,
+    xs: &[u32],
+    ys: &[u32],
+    heads: &[u16],
+    links: &[u16],
+    from: usize,
+    n: usize,
+)
+    requires { ⌜ Old (now rows) (now status) (now marks) (now kids) ⌝ }
+    requires { ⌜ Table (now xs) (now ys) (now heads) (now links) from n ⌝ }
+    requires { ⌜ Span (now status) (now red) first last ⌝ }
+    ensures { λ r. ⌜ now (red .exit) ≡ take first (now (red .entry)) ++ (flagsAt (now (rows .entry)) (now (status .entry)) (now (marks .entry)) (now (kids .entry)) (listedb (now (xs .entry)) (now (ys .entry)) from n) first (last - first) ++ drop last (now (red .entry))) ⌝ }
+{
+    let mut c = first;
+    while c < last {
+        let b = is_new_red(rows, status, marks, kids, c, xs, ys, heads, links, from, n);
+        red[c] = flag(b);
+        c += 1;
+    }
+}
+
+// The entries of a level's edges in the edge table.
+struct Entries {
+    from: usize,
+    n: usize,
+}
+
+// Writes the flags of the level from first to last and of those above it, depth levels in all, and lists the edges of its new red
+// cells behind those of the levels above.
+fn flag_up(
+    rows: &[u16],
+    status: &[u8],
+    marks: &[u8],
+    kids: &[u16],
+    red: &mut [u8],
+    first: usize,
+    last: usize,
+    depth: usize,
+    xs: &mut [u32],
+    ys: &mut [u32],
+    heads: &mut [u16],
+    links: &mut [u16],
+) -> Entries
+    requires { ⌜ Old (now rows) (now status) (now marks) (now kids) ⌝ }
+    requires { ⌜ OneLevel (now status) (now kids) (now red) (now xs) (now ys) (now heads) (now links) first last ⌝ }
+    ensures { λ r. ⌜ Above (now (rows .entry)) (now (status .entry)) (now (marks .entry)) (now (kids .entry)) depth first last (now (red .entry)) (now (red .exit)) (now (xs .exit)) (now (ys .exit)) (now (heads .exit)) (now (links .exit)) (r .from) (r .n) ⌝ }
+{
+    if depth == 0 {
+        return Entries { from: 0, n: 0 };
+    }
+    let end = kids[last] as usize;
+    let up = flag_up(
+        rows,
+        status,
+        marks,
+        kids,
+        red,
+        last,
+        end,
+        depth - 1,
+        xs,
+        ys,
+        heads,
+        links,
+    );
+    flag_level(
+        rows,
+        status,
+        marks,
+        kids,
+        red,
+        first,
+        last,
+        xs,
+        ys,
+        heads,
+        links,
+        up.from,
+        up.n,
+    );
+    let m = closure::red_level(rows, red, first, last, xs, ys, heads, links, up.n, up.n);
+    Entries { from: up.n, n: m }
+}
+
+// Writes 64 for each cell that will be red and 0 for each other.
+pub fn new_reds(
+    mesh: &[u16],
+    n: usize,
+    rows: &[u16],
+    status: &[u8],
+    marks: &[u8],
+    kids: &[u16],
+    red: &mut [u8],
+)
+    requires { ⌜ Marked n (now mesh) (now rows) (now status) (now marks) (now kids) (now red) ⌝ }
+    ensures { λ r. ⌜ now (red .exit) ≡ flagTable n (fours (now (mesh .entry))) (now (status .entry)) (now (marks .entry)) ++ drop (length (now (status .entry))) (now (red .entry)) ⌝ }
+{
+    let mut xs = [0u32; 24576];
+    let mut ys = [0u32; 24576];
+    let mut heads = [0u16; 4096];
+    let mut links = [0u16; 24576];
+    keys::clear(&mut heads);
+    flag_up(
+        rows,
+        status,
+        marks,
+        kids,
+        red,
+        0,
+        kids[0] as usize,
+        12,
+        &mut xs,
+        &mut ys,
+        &mut heads,
+        &mut links,
+    );
+}

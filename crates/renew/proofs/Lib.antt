@@ -1,0 +1,10 @@
+pub mod Writing
+pub mod Flags
+pub mod Closing
+pub mod Numbers
+pub mod Making
+pub mod Grown
+pub mod Statuses
+pub mod Turn
+pub mod Ways
+pub mod Starts

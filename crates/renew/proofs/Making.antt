@@ -1,0 +1,81 @@
+-- A level's statuses: the flags, then the red edges, for which there is room, then the statuses over the flags.
+-- Assumes nothing.
+use mathlib.Core.Path.{_≡_, sym, _∙_, ap, ap₂}
+use mathlib.Core.Logic.{inl, inr}
+use mathlib.Core.List.{List, []}
+use Prim.Native.Nat.{ℕ, _*_, _-_, _≤_, _<_}
+use native.Mathlib.Omega.{arith}
+use lib.ListN.{length}
+use Rattle.mesh.specs.Cells.{redEdges}
+use Rattle.edges.specs.Pairs.{addPairs, pairsOf}
+use Rattle.edges.specs.Table.{Space, Grown, listed}
+use Rattle.edges.proofs.Seek.{none-listed}
+use Rattle.rows.specs.Numbered.{cellsAt, part, sizes}
+use Rattle.closure.specs.Ready.{redCount, Ready, Looks}
+use Rattle.growth.specs.Parts.{length-part, length-cells}
+use Rattle.growth.specs.Written.{written}
+use Rattle.same.specs.Levels.{length-reds}
+use Rattle.tables.specs.Checked.{Reds}
+use Rattle.renew.specs.Levels.{listedBy, ownFlags, ownCells, ownReds, ownStatuses, Flagged, Closed, Made}
+use Rattle.renew.proofs.Writing.{part-written, written-over}
+use Rattle.renew.proofs.Closing.{length-listed}
+
+module _ (fs old rows : List ℕ) (first last : ℕ) (table xs ys heads links : List ℕ) (n : ℕ) (r : Reds xs ys heads links n last)
+    (up : first ≤ last) (few : last ≤ 4096) (in-old : last ≤ length old) (in-table : last ≤ length table) (in-rows : 8 * last ≤ length rows)
+    (table₁ : List ℕ) (reds : ℕ) (f : Flagged fs old first last table table₁ reds) where
+  abbrev rs : List ℕ
+  rs = ownFlags fs old rows first last
+
+  long : length rs ≡ last - first
+  long = length-reds fs (part old first (last - first)) ∙ length-part old first (last - first) (omega arith)
+
+  flags-are : part table₁ first (last - first) ≡ rs
+  flags-are = rw (f .written-is) (part-written table first rs (last - first) long (omega arith))
+
+  -- too many cells
+  pub made-over : 4096 - last < 8 * reds → Made fs old rows first last table xs ys n table₁ xs ys heads links n (8 * reds)
+  made-over h = record { least = inr (rw (f .count)); whole = λ g. absurd (omega arith) }
+
+  module _ (fit : 8 * reds ≤ 4096 - last) where
+    pub make-ready : Ready rows xs ys heads links last n n (6 * redCount (part table₁ first (last - first)))
+    make-ready =
+        let k : redCount (part table₁ first (last - first)) ≡ reds = rw flags-are (sym (f .count)) in
+        let s : Space xs ys links n (6 * reds) =
+        record { small = omega (arith, r .few); in-xs = omega (arith, r .few, r .in-xs); in-ys = omega (arith, r .few, r .in-ys); in-links = omega (arith, r .few, r .in-links) } in
+        record { rows = in-rows; table = none-listed xs ys heads links n (r .keys); space = rw k s }
+
+    module _ (xs₁ ys₁ heads₁ links₁ : List ℕ) (m : ℕ)
+        (g : Grown xs ys n n (redEdges 0 (cellsAt rows first (last - first)) (part table₁ first (last - first))) xs₁ ys₁ heads₁ links₁ m) where
+      pub make-looks : Looks rows xs₁ ys₁ heads₁ links₁ last n m
+      make-looks = record { rows = in-rows; table = record { keys = g .edges .keys; up = g .edges .up } }
+
+      nothing : listed xs ys n n ≡ []
+      unfolding pairsOf
+      nothing = let e : n - n ≡ 0 = omega arith in rw e
+
+      grown-is : Grown xs ys n n (ownReds fs old rows first last) xs₁ ys₁ heads₁ links₁ m
+      grown-is = rw flags-are at g
+
+      list-is : listed xs₁ ys₁ n m ≡ addPairs [] (ownReds fs old rows first last)
+      list-is = grown-is .list ∙ rw nothing
+
+      module _ (table₂ : List ℕ) (size : ℕ) (c : Closed (listed xs₁ ys₁ n m) rows first last table₁ table₂ size) where
+        statuses-are : listedBy (listed xs₁ ys₁ n m) (cellsAt rows first (last - first)) (part table₁ first (last - first)) ≡ ownStatuses fs old rows first last
+        statuses-are = rw (list-is, flags-are)
+
+        same : length (ownStatuses fs old rows first last) ≡ length rs
+        same = length-listed (addPairs [] (ownReds fs old rows first last)) (ownCells fs old rows first last) rs (length-cells rows first (last - first) ∙ sym long)
+
+        pub made : Made fs old rows first last table xs ys n table₂ xs₁ ys₁ heads₁ links₁ m size
+        made =
+            let z : size ≡ sizes (ownStatuses fs old rows first last) = c .many ∙ ap sizes statuses-are in
+            record {
+              least = inl z;
+              whole = λ h.
+                  record {
+                    written-is = c .written-is ∙ ap₂ (λ (a b : List ℕ). written a first b) (f .written-is) statuses-are
+                        ∙ written-over table first rs (ownStatuses fs old rows first last) same (omega (arith, long));
+                    many = z;
+                    grown = grown-is;
+                  };
+            }

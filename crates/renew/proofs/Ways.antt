@@ -1,0 +1,259 @@
+-- Where a level leads: to a refusal, to the end of the table, or to the next level.
+-- Assumes nothing.
+use mathlib.Core.Path.{_≡_, refl, sym, _∙_, ap}
+use mathlib.Core.Logic.{inl, inr}
+use mathlib.Core.List.{List, _++_}
+use Prim.Native.Nat.{ℕ, suc, _+_, _-_, _≤_, _<_}
+use native.Mathlib.Omega.{arith}
+use lib.Dec.{leb, leb→le}
+use lib.ListN.{length, getD, take, drop, length-take}
+use lib.Seq.{getD-take, getD-drop, take-all}
+use Rattle.base.specs.Lists.{allb-at}
+use Rattle.mesh.specs.Table.{next}
+use Rattle.edges.specs.Table.{Grown}
+use Rattle.rows.specs.Numbered.{part, sizes}
+use Rattle.closure.proofs.Steps.{length-reds}
+use Rattle.growth.specs.Parts.{length-cells, length-part}
+use Rattle.growth.specs.Written.{written, take-written}
+use Rattle.growth.specs.Level.{Roomy, Grows}
+use Rattle.same.specs.Olds.{concat, oldsNext}
+use Rattle.tables.specs.Checked as checked
+use Rattle.tables.specs.Checked.{Reds}
+use Rattle.tables.specs.Here.{Here, Top}
+use Rattle.tables.specs.Sound.{Sound}
+use Rattle.tables.proofs.Space.{red-sizes}
+use Rattle.tables.proofs.Onward.{here-top, here-next, cells-next}
+use Rattle.tables.proofs.Finish.{top-sound}
+use Rattle.same.specs.Levels as same
+use Rattle.same.specs.Same.{length-olds}
+use Rattle.same.specs.Closed.{owned-next}
+use Rattle.renew.specs.Levels.{ownFlags, ownCells, ownReds, ownStatuses, Whole, Made}
+use Rattle.renew.specs.Result.{renewed, Result}
+use Rattle.renew.specs.Going.{roomy, Going}
+use Rattle.renew.proofs.Writing.{part-written}
+use Rattle.renew.proofs.Turn as turn
+
+-- the refusals
+module _ (n : ℕ) (qs : List (List ℕ)) (ss fs rows ps ps′ table : List ℕ) (refusal cells levels mids : ℕ) where
+  pub result-high : refusal ≡ 8 → length (renewed n qs ss fs) ≡ 12 → Result n qs ss fs rows ps ps′ table refusal cells levels mids
+  result-high e h =
+      record {
+        one = inr (inl e);
+        high = λ z. h;
+        many = λ z. absurd (omega arith);
+        low = λ z. absurd (omega arith);
+        counted = λ z. absurd (omega arith);
+        table-is = λ z. absurd (omega arith);
+        sound = λ z. absurd (omega arith);
+      }
+
+  pub result-many : refusal ≡ 9 → 4096 < length (concat (renewed n qs ss fs)) → Result n qs ss fs rows ps ps′ table refusal cells levels mids
+  result-many e h =
+      record {
+        one = inr (inr e);
+        high = λ z. absurd (omega arith);
+        many = λ z. h;
+        low = λ z. absurd (omega arith);
+        counted = λ z. absurd (omega arith);
+        table-is = λ z. absurd (omega arith);
+        sound = λ z. absurd (omega arith);
+      }
+
+-- growing speaks of the statuses of its cells alone
+grows-same : (cells xs ys ss ts : List ℕ) (first k l at n m : ℕ) (cells′ xs′ ys′ heads′ links′ : List ℕ) (at′ m′ : ℕ) → part ss first k ≡ part ts first k
+    → Grows cells xs ys ss first k l at n m cells′ xs′ ys′ heads′ links′ at′ m′ → Grows cells xs ys ts first k l at n m cells′ xs′ ys′ heads′ links′ at′ m′
+grows-same cells xs ys ss ts first k l at n m cells′ xs′ ys′ heads′ links′ at′ m′ e g =
+    record {
+      edges = g .edges;
+      list = rw (← e) (g .list);
+      more = g .more;
+      kept-xs = g .kept-xs;
+      kept-ys = g .kept-ys;
+      rows = rw (← e) (g .rows);
+      next = rw (← e) (g .next);
+      few = g .few;
+    }
+
+module _ (n : ℕ) (qs : List (List ℕ)) (ss fs : List ℕ) (j first last : ℕ) (rows xs ys heads links : List ℕ) (k : ℕ) (ps ps′ heads′ links′ : List ℕ) (m : ℕ)
+    (old table : List ℕ) (g : Going n qs ss fs j first last rows xs ys heads links k ps ps′ heads′ links′ m old table) (small : length fs ≤ 4096)
+    (table₁ xs₁ ys₁ heads₁ links₁ : List ℕ) (k₁ size : ℕ) (d : Made fs old rows first last table xs ys k table₁ xs₁ ys₁ heads₁ links₁ k₁ size)
+    (lt : length table₁ ≡ length table) (lx : length xs₁ ≡ length xs) (ly : length ys₁ ≡ length ys) (ll : length links₁ ≡ length links)
+    (fit : last + size ≤ 4096) where
+  abbrev own : List ℕ
+  own = turn.own n qs ss fs j first last rows xs ys heads links k ps ps′ heads′ links′ m old table g small
+
+  abbrev olds : List ℕ
+  olds = part old first (last - first)
+
+  abbrev all : List ℕ
+  all = concat (renewed n qs ss fs)
+
+  whole : Whole fs old rows first last table xs ys k table₁ xs₁ ys₁ heads₁ links₁ k₁ size
+  whole = d .whole fit
+
+  statuses : ownStatuses fs old rows first last ≡ own
+  statuses = turn.made-statuses n qs ss fs j first last rows xs ys heads links k ps ps′ heads′ links′ m old table g small
+
+  size-is : size ≡ sizes own
+  size-is = whole .many ∙ ap sizes statuses
+
+  end-own : first + length own ≡ last
+  end-own = turn.end-own n qs ss fs j first last rows xs ys heads links k ps ps′ heads′ links′ m old table g small
+
+  table-is : table₁ ≡ written table first own
+  table-is = whole .written-is ∙ ap (written table first) statuses
+
+  pub part-table : part table₁ first (last - first) ≡ own
+  part-table =
+      let e : length own ≡ last - first = omega (arith, end-own) in
+      ap (λ (l : List ℕ). part l first (last - first)) table-is ∙ part-written table first own (last - first) e (omega (arith, end-own, g .in-table, g .here .few))
+
+  front : take last table₁ ≡ take last all
+  front =
+      let a : take (first + length own) (written table first own) ≡ take first table ++ own = take-written table first own (omega (arith, end-own, g .in-table, g .here .few)) in
+      let b : take last (written table first own) ≡ take first table ++ own = ap (λ (x : ℕ). take x (written table first own)) (sym end-own) ∙ a in
+      ap (take last) table-is ∙ b ∙ ap (λ (l : List ℕ). l ++ own) (g .front)
+      ∙ sym (turn.front-own n qs ss fs j first last rows xs ys heads links k ps ps′ heads′ links′ m old table g small)
+
+  grown : Grown xs ys k k (checked.ownReds rows (roomy all) first last) xs₁ ys₁ heads₁ links₁ k₁
+  grown = rw (turn.made-reds n qs ss fs j first last rows xs ys heads links k ps ps′ heads′ links′ m old table g small) at (whole .grown)
+
+  reds : Reds xs₁ ys₁ heads₁ links₁ k₁ (last + size)
+  reds =
+      let r = g .here .reds in
+      let lo : length (ownFlags fs old rows first last) ≡ last - first =
+      same.length-reds fs olds ∙ length-part old first (last - first) (omega (arith, g .here .end, g .here .few, g .in-old)) in
+      let q = length-reds (ownCells fs old rows first last) (ownFlags fs old rows first last) (length-cells rows first (last - first) ∙ sym lo) in
+      let c = turn.made-count n qs ss fs j first last rows xs ys heads links k ps ps′ heads′ links′ m old table g small in
+      record {
+        keys = whole .grown .edges .keys;
+        few = omega (arith, whole .grown .most, q, c, red-sizes own, size-is, r .few);
+        in-xs = omega (arith, r .in-xs);
+        in-ys = omega (arith, r .in-ys);
+        in-links = omega (arith, r .in-links);
+      }
+
+  room-own : part (roomy all) first (last - first) ≡ own
+  room-own = turn.room-own n qs ss fs j first last rows xs ys heads links k ps ps′ heads′ links′ m old table g small
+
+  -- The end of the table.
+  module _ (none : size ≡ 0) where
+    no-size : sizes own ≡ 0
+    no-size = omega (arith, size-is)
+
+    ended : length all ≡ last
+    ended = turn.all-length n qs ss fs j first last rows xs ys heads links k ps ps′ heads′ links′ m old table g small no-size
+
+    cut : roomy all ≡ all
+    cut = take-all 4096 all (omega (arith, ended, g .here .few))
+
+    top : Top n qs (roomy all) j last rows xs₁ ys₁ heads₁ links₁ k₁ ps ps′ heads′ links′ m
+    top =
+        let e : last + size ≡ last = omega arith in
+        here-top n qs (roomy all) j first last rows xs ys heads links k ps ps′ heads′ links′ m (g .here)
+        (turn.closed n qs ss fs j first last rows xs ys heads links k ps ps′ heads′ links′ m old table g small)
+        (turn.inside n qs ss fs j first last rows xs ys heads links k ps ps′ heads′ links′ m old table g small)
+        (turn.room-fits n qs ss fs) (ap sizes room-own ∙ no-size) xs₁ ys₁ heads₁ links₁ k₁ grown (rw e at reds)
+
+    pub result-end : Result n qs ss fs rows ps ps′ table₁ 0 last (j + 1) m
+    result-end =
+        let e : j + 1 ≡ suc j = omega arith in
+        let h = turn.all-height n qs ss fs j first last rows xs ys heads links k ps ps′ heads′ links′ m old table g small no-size in
+        let s : Sound n qs (roomy all) rows ps ps′ last (suc j) m =
+        top-sound n qs (roomy all) j last rows xs₁ ys₁ heads₁ links₁ k₁ ps ps′ heads′ links′ m top (ap length cut ∙ ended) in
+        record {
+          one = inl refl;
+          high = λ z. absurd (omega arith);
+          many = λ z. absurd (omega arith);
+          low = λ z. omega (arith, h, g .here .low);
+          counted = λ z. ended;
+          table-is = λ z. front ∙ take-all last all (omega (arith, ended));
+          sound = λ z. rw e (rw cut at s);
+        }
+
+  -- The next level.
+  pub small-own : (c : ℕ) → first ≤ c → c < last → getD table₁ c 0 ≤ 64
+  small-own c a b =
+      let w : first + (c - first) ≡ c = omega arith in
+      let e : getD own (c - first) 0 ≡ getD table₁ c 0 =
+      sym (ap (λ (l : List ℕ). getD l (c - first) 0) part-table) ∙ getD-take (last - first) (drop first table₁) (c - first) 0 (omega arith) ∙ getD-drop first table₁ (c - first) 0 ∙ rw w in
+      let f = leb→le (getD own (c - first) 0) 64 (allb-at (λ s. leb s 64) 0 own (turn.own-fits n qs ss fs j first last rows xs ys heads links k ps ps′ heads′ links′ m old table g small) (c - first)
+      (omega (arith, end-own))) in
+      omega (arith, e, f)
+
+  pub room-sizes : sizes (part table₁ first (last - first)) ≡ size
+  room-sizes = ap sizes part-table ∙ sym size-is
+
+  pub room-next : n ≤ 512 → Roomy rows ps ps′ heads′ links′ table₁ first last last n m
+  room-next c =
+      let i = g .here .mids in
+      record {
+        rise = omega (arith, g .here .end);
+        done = omega arith;
+        statuses = omega (arith, g .in-table);
+        small = small-own;
+        in-cells = omega (arith, room-sizes, g .here .long);
+        most = omega (arith, room-sizes);
+        coarse = c;
+        few = i .few;
+        edges = i .edges;
+        in-xs = i .in-xs;
+        in-ys = i .in-ys;
+        in-links = i .in-links;
+      }
+
+  module _ (more : size ≡ 0 → ⊥) (low : j ≡ 10 → ⊥) (rows₂ ps₂ ps₂′ heads₂ links₂ : List ℕ) (last₂ m₂ : ℕ)
+      (w : Grows rows ps ps′ table₁ first (last - first) (suc j) last n m rows₂ ps₂ ps₂′ heads₂ links₂ last₂ m₂)
+      (sr : length rows₂ ≡ length rows) (sx : length ps₂ ≡ length ps) (sy : length ps₂′ ≡ length ps′) (sl : length links₂ ≡ length links′)
+      (old₂ : List ℕ) (so : length old₂ ≡ length old) (o : old₂ ≡ written old last (oldsNext (length qs) ss (part table₁ first (last - first)) olds)) where
+    grows : Grows rows ps ps′ (roomy all) first (last - first) (suc j) last n m rows₂ ps₂ ps₂′ heads₂ links₂ last₂ m₂
+    grows = grows-same rows ps ps′ table₁ (roomy all) first (last - first) (suc j) last n m rows₂ ps₂ ps₂′ heads₂ links₂ last₂ m₂ (part-table ∙ sym room-own) w
+
+    end-next : last₂ ≡ last + sizes own
+    end-next = omega (arith, w .next, room-sizes, size-is)
+
+    in-room : last + sizes (part (roomy all) first (last - first)) ≤ length (roomy all)
+    in-room =
+        let a = turn.has-more n qs ss fs j first last rows xs ys heads links k ps ps′ heads′ links′ m old table g small (omega (arith, size-is, more)) in
+        simp length-take (omega (arith, a, ap sizes room-own, size-is))
+
+    reds-next : Reds xs₁ ys₁ heads₁ links₁ k₁ last₂
+    reds-next = let e : last + size ≡ last₂ = omega (arith, end-next, size-is) in rw e at reds
+
+    pub here-up : Here n qs (roomy all) (suc j) last last₂ rows₂ xs₁ ys₁ heads₁ links₁ k₁ ps₂ ps₂′ heads₂ links₂ m₂
+    here-up =
+        here-next n qs (roomy all) j first last rows xs ys heads links k ps ps′ heads′ links′ m (g .here)
+        (turn.closed n qs ss fs j first last rows xs ys heads links k ps ps′ heads′ links′ m old table g small)
+        (turn.inside n qs ss fs j first last rows xs ys heads links k ps ps′ heads′ links′ m old table g small)
+        (omega (arith, low, g .here .low)) (turn.room-fits n qs ss fs) in-room (omega (arith, ap sizes room-own, size-is, more))
+        rows₂ ps₂ ps₂′ heads₂ links₂ last₂ m₂ grows xs₁ ys₁ heads₁ links₁ k₁ grown reds-next sx sy sl sr
+
+    cells-up : here-up .cells ≡ next first (g .here .cells) own
+    unfolding here-up
+    cells-up =
+        cells-next n qs (roomy all) j first last rows xs ys heads links k ps ps′ heads′ links′ m (g .here)
+        (turn.closed n qs ss fs j first last rows xs ys heads links k ps ps′ heads′ links′ m old table g small)
+        (turn.inside n qs ss fs j first last rows xs ys heads links k ps ps′ heads′ links′ m old table g small)
+        (omega (arith, low, g .here .low)) (turn.room-fits n qs ss fs) in-room (omega (arith, ap sizes room-own, size-is, more))
+        rows₂ ps₂ ps₂′ heads₂ links₂ last₂ m₂ grows xs₁ ys₁ heads₁ links₁ k₁ grown reds-next sx sy sl sr
+        ∙ ap (next first (g .here .cells)) (turn.room-cells n qs ss fs j first last rows xs ys heads links k ps ps′ heads′ links′ m old table g small)
+
+    olds-up : part old₂ last (last₂ - last) ≡ oldsNext (length qs) ss own olds
+    olds-up =
+        let lo : length own ≡ length olds = omega (arith, end-own, length-part old first (last - first) (omega (arith, g .here .end, g .here .few, g .in-old))) in
+        let e : length (oldsNext (length qs) ss own olds) ≡ last₂ - last = length-olds (length qs) ss own olds (sym lo) ∙ omega (arith, end-next) in
+        let q : old₂ ≡ written old last (oldsNext (length qs) ss own olds) = o ∙ ap (λ (l : List ℕ). written old last (oldsNext (length qs) ss l olds)) part-table in
+        ap (λ (l : List ℕ). part l last (last₂ - last)) q ∙ part-written old last (oldsNext (length qs) ss own olds) (last₂ - last) e (omega (arith, g .in-old, g .here .few))
+
+    pub going-next : Going n qs ss fs (suc j) last last₂ rows₂ xs₁ ys₁ heads₁ links₁ k₁ ps₂ ps₂′ heads₂ links₂ m₂ old₂ table₁
+    going-next =
+        let e : 12 - suc j ≡ 11 - j = omega arith in
+        record {
+          here = here-up;
+          owned = rw (cells-up, olds-up) (owned-next (length qs) ss first (g .here .cells) own olds (g .owned));
+          height = rw (cells-up, olds-up, e) (turn.height-above n qs ss fs j first last rows xs ys heads links k ps ps′ heads′ links′ m old table g small);
+          rest = rw (cells-up, olds-up, e) (turn.rest-above n qs ss fs j first last rows xs ys heads links k ps ps′ heads′ links′ m old table g small);
+          front = front;
+          in-table = omega (arith, g .in-table);
+          in-old = omega (arith, g .in-old);
+        }

@@ -1,0 +1,334 @@
+// The new table from the red cells: level by level, each cell that has a flag is red and each other is closed.
+ghost use mathlib.Core.Path.{_≡_};
+ghost use Prim.Native.Nat.{ℕ, _+_, _*_, _-_, _≤_, _<_};
+ghost use lib.ListN.{length, getD};
+ghost use Rattle.base.specs.Lists.{one-if};
+ghost use Rattle.base.specs.Fours.{fours};
+ghost use Rattle.mesh.specs.Cells.{redb};
+ghost use Rattle.edges.specs.Table.{listed};
+ghost use Rattle.rows.specs.Numbered.{sizeOf, sizes, part};
+ghost use Rattle.closure.specs.Ready.{Looks};
+ghost use Rattle.growth.specs.Written.{written};
+ghost use Rattle.same.specs.Olds.{flagOf, oldsOf, oldsNext, upTo};
+ghost use Rattle.tables.specs.Checked.{Statuses, Reds};
+ghost use Rattle.tables.specs.Start.{Empty};
+ghost use Rattle.tables.specs.Sound.{Mesh};
+ghost use Rattle.renew.specs.Levels.{Kids, Olds, oldIn, Flagged, Closed, Made};
+ghost use Rattle.renew.specs.Result.{Result};
+
+// The flag of a cell by its old number: 64 where it will be red, else 0.
+fn flag_of(red: &[u8], o: usize) -> u8
+    ensures { λ r. ⌜ r ≡ flagOf (redb (getD (now (red .entry)) o 0)) ⌝ }
+{
+    if o >= red.len() {
+        return 0;
+    }
+    if red[o] == 64 {
+        return 64;
+    }
+    0
+}
+
+fn one_if(b: bool) -> usize
+    ensures { λ r. ⌜ (r ≡ one-if b) × (r ≤ 1) ⌝ }
+{
+    if b { 1 } else { 0 }
+}
+
+// Writes the flags of the cells from first to last. Gives how many there are.
+fn flag_level(red: &[u8], old: &[u16], first: usize, last: usize, table: &mut [u8]) -> usize
+    requires { ⌜ (first ≤ last) × (last ≤ length (now old)) × (last ≤ length (now table)) ⌝ }
+    ensures { λ r. ⌜ Flagged (now (red .entry)) (now (old .entry)) first last (now (table .entry)) (now (table .exit)) r ⌝ }
+{
+    let mut n = 0;
+    let mut c = first;
+    while c < last {
+        let f = flag_of(red, old[c] as usize);
+        n += one_if(f == 64);
+        table[c] = f;
+        c += 1;
+    }
+    n
+}
+
+// Writes the statuses of the cells from first to last over their flags, where the edges of the red cells are listed. Gives how
+// many children they have.
+fn close_level(
+    rows: &[u16],
+    first: usize,
+    last: usize,
+    xs: &[u32],
+    ys: &[u32],
+    heads: &[u16],
+    links: &[u16],
+    from: usize,
+    n: usize,
+    table: &mut [u8],
+) -> usize
+    requires { ⌜ (first ≤ last) × (last ≤ 4096) × (last ≤ length (now table)) ⌝ }
+    requires { ⌜ Looks (now rows) (now xs) (now ys) (now heads) (now links) last from n ⌝ }
+    ensures { λ r. ⌜ Closed (listed (now (xs .entry)) (now (ys .entry)) from n) (now (rows .entry)) first last (now (table .entry)) (now (table .exit)) r ⌝ }
+{
+    let mut size = 0;
+    let mut c = first;
+    while c < last {
+        let s = closure::status_of(rows, c, table[c] == 64, xs, ys, heads, links, from, n);
+        size += sizes::size_of(s);
+        table[c] = s;
+        c += 1;
+    }
+    size
+}
+
+// What the making of a level finds: how many red edges are listed then, and how many cells lie one level up; where these have no
+// room, it may be a lesser number that has none.
+struct Level {
+    n: usize,
+    size: usize,
+}
+
+// Makes the statuses of the cells from first to last.
+fn make_level(
+    rows: &[u16],
+    red: &[u8],
+    old: &[u16],
+    first: usize,
+    last: usize,
+    table: &mut [u8],
+    xs: &mut [u32],
+    ys: &mut [u32],
+    heads: &mut [u16],
+    links: &mut [u16],
+    n: usize,
+) -> Level
+    requires { ⌜ Reds (now xs) (now ys) (now heads) (now links) n last ⌝ }
+    requires { ⌜ (first ≤ last) × (last ≤ 4096) × (last ≤ length (now old)) × (last ≤ length (now table)) × (8 * last ≤ length (now rows)) ⌝ }
+    ensures { λ r. ⌜ Made (now (red .entry)) (now (old .entry)) (now (rows .entry)) first last (now (table .entry)) (now (xs .entry)) (now (ys .entry)) n (now (table .exit)) (now (xs .exit)) (now (ys .exit)) (now (heads .exit)) (now (links .exit)) (r .n) (r .size) ⌝ }
+{
+    let reds = flag_level(red, old, first, last, table);
+    if 8 * reds > 4096 - last {
+        return Level { n, size: 8 * reds };
+    }
+    let m = closure::red_level(rows, table, first, last, xs, ys, heads, links, n, n);
+    let size = close_level(rows, first, last, xs, ys, heads, links, n, m, table);
+    Level { n: m, size }
+}
+
+// The old number of the child i of a cell with new status t and old number o; 65535 where there is none.
+fn old_child(status: &[u8], kids: &[u16], coarse: usize, t: u8, o: usize, i: usize) -> u16
+    requires { ⌜ Olds coarse (now status) (now kids) ⌝ }
+    requires { ⌜ i < 8 ⌝ }
+    ensures { λ r. ⌜ r ≡ oldIn coarse (now (status .entry)) t o i ⌝ }
+{
+    if t != 64 {
+        return 65535;
+    }
+    if o >= status.len() {
+        return 65535;
+    }
+    if status[o] != 64 {
+        return 65535;
+    }
+    kids[o] + i as u16
+}
+
+// Writes the old numbers of a family from `at` on. Gives the place behind them.
+fn old_family(
+    status: &[u8],
+    kids: &[u16],
+    coarse: usize,
+    t: u8,
+    o: usize,
+    old: &mut [u16],
+    at: usize,
+) -> usize
+    requires { ⌜ Olds coarse (now status) (now kids) ⌝ }
+    requires { ⌜ (t ≤ 64) × (at + sizeOf t ≤ length (now old)) ⌝ }
+    ensures { λ r. ⌜ (r ≡ at + sizeOf t) × (now (old .exit) ≡ written (now (old .entry)) at (oldsOf coarse (now (status .entry)) t o)) ⌝ }
+{
+    let size = sizes::size_of(t);
+    let mut i = 0;
+    while i < size {
+        old[at + i] = old_child(status, kids, coarse, t, o, i);
+        i += 1;
+    }
+    at + size
+}
+
+// Writes the old numbers of the families of the cells from first to last, from `at` on.
+fn old_level(
+    status: &[u8],
+    kids: &[u16],
+    coarse: usize,
+    table: &[u8],
+    first: usize,
+    last: usize,
+    old: &mut [u16],
+    at: usize,
+)
+    requires { ⌜ Olds coarse (now status) (now kids) ⌝ }
+    requires { ⌜ (first ≤ last) × (last ≤ at) × (last ≤ length (now table)) × (at + sizes (part (now table) first (last - first)) ≤ length (now old)) ⌝ }
+    requires { ⌜ ((c : ℕ) → first ≤ c → c < last → getD (now table) c 0 ≤ 64) ⌝ }
+    ensures { λ u. ⌜ now (old .exit) ≡ written (now (old .entry)) at (oldsNext coarse (now (status .entry)) (part (now (table .entry)) first (last - first)) (part (now (old .entry)) first (last - first))) ⌝ }
+{
+    let mut k = at;
+    let mut c = first;
+    while c < last {
+        let o = old[c] as usize;
+        k = old_family(status, kids, coarse, table[c], o, old, k);
+        c += 1;
+    }
+}
+
+// Writes the old numbers of the coarse cells: their own.
+fn old_coarse(coarse: usize, old: &mut [u16])
+    requires { ⌜ (coarse ≤ 256) × (coarse ≤ length (now old)) ⌝ }
+    ensures { λ u. ⌜ now (old .exit) ≡ written (now (old .entry)) 0 (upTo coarse) ⌝ }
+{
+    let mut c = 0;
+    while c < coarse {
+        old[c] = c as u16;
+        c += 1;
+    }
+}
+
+// What the building finds: 0, or 8 where a level above 10 would arise, or 9 where more than 4,096 cells would; and where it is 0,
+// how many cells, levels and new corners there are.
+pub struct Renewed {
+    pub refusal: u8,
+    pub cells: usize,
+    pub levels: usize,
+    pub mids: usize,
+}
+
+fn refused(refusal: u8) -> Renewed
+    ensures { λ r. ⌜ r .refusal ≡ refusal ⌝ }
+{
+    Renewed {
+        refusal,
+        cells: 0,
+        levels: 0,
+        mids: 0,
+    }
+}
+
+// Builds the new table level by level.
+fn fill(
+    mesh: &[u16],
+    n: usize,
+    status: &[u8],
+    kids: &[u16],
+    red: &[u8],
+    rows: &mut [u16],
+    xs: &mut [u32],
+    ys: &mut [u32],
+    heads: &mut [u16],
+    links: &mut [u16],
+    ps: &mut [u32],
+    qs: &mut [u32],
+    mid_heads: &mut [u16],
+    mid_links: &mut [u16],
+    old: &mut [u16],
+    table: &mut [u8],
+) -> Renewed
+    requires { ⌜ Empty n (now mesh) (now rows) (now xs) (now ys) (now heads) (now links) (now ps) (now qs) (now «mid_heads») (now «mid_links») ⌝ }
+    requires { ⌜ Statuses (now status) ⌝ }
+    requires { ⌜ Kids (length (fours (now mesh))) (now status) (now kids) ⌝ }
+    requires { ⌜ (length (now red) ≤ 4096) × (4096 ≤ length (now old)) × (4096 ≤ length (now table)) ⌝ }
+    ensures { λ r. ⌜ Result n (fours (now (mesh .entry))) (now (status .entry)) (now (red .entry)) (now (rows .exit)) (now (ps .exit)) (now (qs .exit)) (now (table .exit)) (r .refusal) (r .cells) (r .levels) (r .mids) ⌝ }
+{
+    let coarse = tables::lay_coarse(mesh, rows);
+    old_coarse(coarse, old);
+    let mut first = 0;
+    let mut last = coarse;
+    let mut level = 0;
+    let mut k = 0;
+    let mut m = 0;
+    loop {
+        let c = make_level(rows, red, old, first, last, table, xs, ys, heads, links, k);
+        k = c.n;
+        if c.size == 0 {
+            return Renewed {
+                refusal: 0,
+                cells: last,
+                levels: level + 1,
+                mids: m,
+            };
+        }
+        if level == 10 {
+            return refused(8);
+        }
+        if c.size > 4096 - last {
+            return refused(9);
+        }
+        let g = growth::grow_level(
+            rows,
+            table,
+            first,
+            last,
+            (level + 1) as u16,
+            last,
+            n,
+            ps,
+            qs,
+            mid_heads,
+            mid_links,
+            m,
+        );
+        old_level(status, kids, coarse, table, first, last, old, last);
+        m = g.m;
+        first = last;
+        last = g.at;
+        level += 1;
+    }
+}
+
+// Builds the table in which the cells with a flag in `red` are red and all others are closed, over an accepted mesh of n corners.
+// Flags go by the numbers of the old table `status`, and `kids` has the number of each old cell's first child. Where the answer is
+// 0, the table's first entries are the new statuses, the rows are those of its cells, and ps and qs have the ends of its new
+// corners.
+pub fn renew(
+    mesh: &[u16],
+    n: usize,
+    status: &[u8],
+    kids: &[u16],
+    red: &[u8],
+    rows: &mut [u16],
+    ps: &mut [u32],
+    qs: &mut [u32],
+    table: &mut [u8],
+) -> Renewed
+    requires { ⌜ Mesh n (now mesh) ⌝ }
+    requires { ⌜ Statuses (now status) ⌝ }
+    requires { ⌜ Kids (length (fours (now mesh))) (now status) (now kids) ⌝ }
+    requires { ⌜ (length (now red) ≤ 4096) × (32768 ≤ length (now rows)) × (4096 ≤ length (now ps)) × (4096 ≤ length (now qs)) × (4096 ≤ length (now table)) ⌝ }
+    ensures { λ r. ⌜ Result n (fours (now (mesh .entry))) (now (status .entry)) (now (red .entry)) (now (rows .exit)) (now (ps .exit)) (now (qs .exit)) (now (table .exit)) (r .refusal) (r .cells) (r .levels) (r .mids) ⌝ }
+{
+    let mut xs = [0u32; 3072];
+    let mut ys = [0u32; 3072];
+    let mut heads = [0u16; 4096];
+    let mut links = [0u16; 3072];
+    let mut mid_heads = [0u16; 4096];
+    let mut mid_links = [0u16; 4096];
+    let mut old = [0u16; 4096];
+    keys::clear(&mut heads);
+    keys::clear(&mut mid_heads);
+    fill(
+        mesh,
+        n,
+        status,
+        kids,
+        red,
+        rows,
+        &mut xs,
+        &mut ys,
+        &mut heads,
+        &mut links,
+        ps,
+        qs,
+        &mut mid_heads,
+        &mut mid_links,
+        &mut old,
+        table,
+    )
+}

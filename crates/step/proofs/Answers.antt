@@ -1,0 +1,82 @@
+-- The answers of the step, and what the lent table holds after them.
+-- Assumes nothing.
+use mathlib.Core.Path.{_≡_, refl, sym, _∙_, ap}
+use mathlib.Core.Bool.{Bool, true, false, _&&_}
+use mathlib.Core.List.{List, [], _∷_, _++_}
+use Prim.Native.Nat.{ℕ, zero, suc, _≤_, _<_}
+use lib.Dec.{T, leb}
+use lib.IntN.{ℤ}
+use lib.ListN.{length, take, drop}
+use borrow.Author.Tests.{le-leb, lt-leb}
+use Rattle.base.specs.Lists.{and-right, is-true}
+use Rattle.base.specs.Places.{not-both}
+use Rattle.base.specs.Fours.{fours}
+use Rattle.base.specs.Refuse.{refuse}
+use Rattle.base.specs.declared.Answer.{Answer}
+use Rattle.base.specs.declared.Answer.the-variants.{Accepted, Refused}
+use Rattle.mesh.specs.Coarse.{cornerCount}
+use Rattle.layout.specs.Calls.{andThen, tableAnswer, heldAfter}
+use Rattle.layout.specs.Opened.{answerOf, Fits}
+use Rattle.layout.proofs.Answers.{answer-refused, answer-none}
+use Rattle.step.specs.Calls.{markb, marksb, newTable, limitsAnswer, stepAnswer, steppedOf}
+use Rattle.step.specs.Advanced.{Held}
+use Rattle.step.specs.declared.Stepped.{Stepped}
+use Rattle.step.specs.declared.Stepped.the-variants as stepped
+
+module _ (ps : List ℤ) (ts ss ms table : List ℕ) where
+  pub step-short : length table < 4096 → stepAnswer ps ts ss ms table ≡ Refused 15
+  unfolding stepAnswer refuse
+  step-short h = rw (lt-leb 4096 (length table) h)
+
+  module _ (long : 4096 ≤ length table) where
+    lent : stepAnswer ps ts ss ms table ≡ andThen (tableAnswer ps ts ss) (refuse 7 (marksb ss ms) (limitsAnswer (cornerCount ps) (fours ts) ss ms))
+    unfolding stepAnswer refuse
+    lent = rw (le-leb 4096 (length table) long)
+
+    pub step-table : (k : ℕ) → tableAnswer ps ts ss ≡ answerOf k → (k ≡ 0 → ⊥) → stepAnswer ps ts ss ms table ≡ Refused k
+    unfolding andThen
+    step-table k e z = lent ∙ rw (e, answer-refused k z)
+
+    module _ (k : ℕ) (e : tableAnswer ps ts ss ≡ answerOf k) (z : k ≡ 0) where
+      opened : stepAnswer ps ts ss ms table ≡ refuse 7 (marksb ss ms) (limitsAnswer (cornerCount ps) (fours ts) ss ms)
+      unfolding andThen
+      opened = lent ∙ rw (e, answer-none k z)
+
+      pub step-marks : marksb ss ms ≡ false → stepAnswer ps ts ss ms table ≡ Refused 7
+      unfolding refuse
+      step-marks m = opened ∙ rw m
+
+      pub step-limits : marksb ss ms ≡ true → stepAnswer ps ts ss ms table ≡ limitsAnswer (cornerCount ps) (fours ts) ss ms
+      unfolding refuse
+      step-limits m = opened ∙ rw m
+
+-- what the call leaves beside an answer
+module _ (a : Answer) (new old : List ℕ) where
+  pub refused-so : (k : ℕ) → a ≡ Refused k → (stepped.Refused k ≡ steppedOf a (length new)) × (old ≡ heldAfter a new old)
+  unfolding steppedOf heldAfter
+  refused-so k e = (rw e, rw e)
+
+  pub accepted-so : (k : ℕ) (from now : List ℕ) → a ≡ Accepted → length new ≡ k → take k from ≡ new → now ≡ take k from ++ drop k old
+      → (stepped.Cells k ≡ steppedOf a (length new)) × (now ≡ heldAfter a new old)
+  unfolding steppedOf heldAfter
+  accepted-so k from now e l t w = (rw (e, l), w ∙ rw (e, t, l))
+
+-- the marks are as many as the statuses
+pub marks-many : (ss ms : List ℕ) → marksb ss ms ≡ true → length ms ≡ length ss
+unfolding marksb
+marks-many [] [] t = refl
+marks-many [] (m ∷ ms) t = not-both false t refl
+marks-many (s ∷ ss) [] t = not-both false t refl
+marks-many (s ∷ ss) (m ∷ ms) t =
+    let u : T (markb s m && marksb ss ms) = rw t tt in
+    ap suc (marks-many ss ms (is-true (marksb ss ms) (and-right (markb s m) (marksb ss ms) u)))
+
+-- a table that is opened is held
+pub opened-held : (ps : List ℤ) (ts ss rows xs ys : List ℕ) (cells levels m : ℕ) → Fits ps ts ss rows xs ys cells levels m → Held (cornerCount ps) ts rows ss
+opened-held ps ts ss rows xs ys cells levels m f =
+    record {
+      accepted = f .mesh;
+      sound = f .table;
+      long = f .tables .in-rows;
+      table = rw (f .sound .counted) (f .sound .table);
+    }

@@ -1,0 +1,172 @@
+-- The work of a step: what its parts ask for, and what they come to.
+-- Assumes nothing.
+use mathlib.Core.Path.{_≡_, refl, sym, _∙_, ap, ap₂}
+use mathlib.Core.Logic.{_⊎_, inl, inr, ⊎-elim}
+use mathlib.Core.Bool.{Bool, true, false, _&&_, not}
+use mathlib.Core.List.{List, [], _∷_, _++_}
+use Prim.Native.Nat.{ℕ, zero, suc, _+_, _*_, _/_, _≤_, _<_}
+use native.Mathlib.Omega.{arith}
+use lib.Dec.{T, eqb, leb, eqb→eq}
+use lib.ListN.{length, getD, take, drop, replicate, length-replicate}
+use borrow.Author.Tests.{le-leb, lt-leb}
+use Rattle.base.specs.Lists.{allb, anyb, and-left, and-right, is-true}
+use Rattle.base.specs.Fours.{fours}
+use Rattle.base.specs.Refuse.{refuse}
+use Rattle.base.specs.declared.Answer.{Answer}
+use Rattle.base.specs.declared.Answer.the-variants.{Accepted, Refused}
+use Rattle.mesh.specs.Cells.{Cell, redb}
+use Rattle.mesh.specs.Weights.{Point, coarseCells}
+use Rattle.mesh.specs.Table.{levelsOf, cellsOf, closedb, apartb, soundb}
+use Rattle.mesh.specs.Layout.{cellTable}
+use Rattle.mesh.specs.Step.{stepTable}
+use Rattle.lattice.specs.Levels as lattice
+use Rattle.counting.specs.Levels.{Levels}
+use Rattle.counting.proofs.Sound as counting
+use Rattle.climbing.proofs.Table.{table-level}
+use Rattle.same.specs.Olds.{concat, flags, flagTable, upTo, stepBy}
+use Rattle.same.specs.Step.{step-by}
+use Rattle.same.specs.Deep.{deep}
+use Rattle.same.specs.Born.{noCell}
+use Rattle.steady.specs.Steady.{step-sound}
+use Rattle.tables.specs.Checked.{Statuses}
+use Rattle.tables.specs.Sound.{Mesh, Sound, tableCells, tableCorners}
+use Rattle.tables.proofs.CoarseRows.{length-fours}
+use Rattle.reds.specs.Flags.{firstChildren}
+use Rattle.reds.specs.Old.{Marked}
+use Rattle.reds.proofs.Firsts.{firsts-taken, first-at, length-firsts}
+use Rattle.renew.specs.Levels.{Kids}
+use Rattle.renew.specs.Result.{Result, renewed}
+use Rattle.layout.specs.Opened.{answerOf}
+use Rattle.layout.proofs.Answers.{answer-none}
+use Rattle.step.specs.Calls.{newTable, limitsAnswer}
+use Rattle.step.specs.Deep.{deepFrom}
+use Rattle.step.specs.Advanced.{Held, Advanced}
+use Rattle.step.proofs.TopLevel.{flags-long, deep-scan}
+use Rattle.step.proofs.Flags.{grow-ext, zeros-behind}
+
+-- the limits
+module _ (n : ℕ) (qs : List (List ℕ)) (ss ms : List ℕ) where
+  limits-pass : length (stepTable n qs ss ms) ≤ 11 → length (newTable n qs ss ms) ≤ 4096 → limitsAnswer n qs ss ms ≡ Accepted
+  unfolding limitsAnswer refuse
+  limits-pass a b = rw (le-leb (length (stepTable n qs ss ms)) 11 a, le-leb (length (newTable n qs ss ms)) 4096 b)
+
+  limits-high : leb (length (stepTable n qs ss ms)) 11 ≡ false → limitsAnswer n qs ss ms ≡ Refused 8
+  unfolding limitsAnswer refuse
+  limits-high a = rw a
+
+  limits-many : leb (length (stepTable n qs ss ms)) 11 ≡ true → 4096 < length (newTable n qs ss ms) → limitsAnswer n qs ss ms ≡ Refused 9
+  unfolding limitsAnswer refuse
+  limits-many a b = rw (a, lt-leb (length (newTable n qs ss ms)) 4096 b)
+
+-- a sound table has as many cells as statuses
+sound-counted : (n : ℕ) (qs : List (List ℕ)) (ss : List ℕ) → T (soundb n qs ss) → length ss ≡ length (tableCells n qs ss)
+unfolding soundb
+sound-counted n qs ss t =
+    let ls = levelsOf n qs ss in
+    let cs = cellsOf ls in
+    eqb→eq (length ss) (length cs) (and-left (eqb (length ss) (length cs)) (leb (length ls) 11 && leb (length cs) 4096)
+    (and-left (eqb (length ss) (length cs) && (leb (length ls) 11 && leb (length cs) 4096)) (allb closedb ls && apartb cs ss) t))
+
+module _ (n : ℕ) (mesh rows ss : List ℕ) (h : Held n mesh rows ss) where
+  abbrev qs : List (List ℕ)
+  qs = fours mesh
+
+  levels : Levels ss (length qs)
+  levels = counting.sound-levels n qs ss (is-true (soundb n qs ss) (h .sound))
+
+  pub held-statuses : Statuses ss
+  held-statuses = record { few = levels .small; fit = levels .statuses }
+
+  pub held-coarse : length mesh / 4 ≤ 256
+  held-coarse = omega (arith, h .accepted .few)
+
+  pub held-rows : 8 * length ss ≤ length rows
+  held-rows = omega (arith, h .long, levels .small)
+
+  -- the numbers of first children
+  module _ (ks rest : List ℕ) (e : ks ≡ firstChildren (length mesh / 4) ss ++ rest) where
+    firsts : take (suc (length ss)) ks ≡ firstChildren (length qs) ss
+    firsts = firsts-taken (length qs) ss ks rest (rw (length-fours mesh) e)
+
+    pub held-kids : Kids (length qs) ss ks
+    held-kids =
+        record {
+          long = omega (arith, length-firsts (length qs) ss ks firsts);
+          each = λ c l. first-at (length qs) ss ks firsts c (omega arith);
+        }
+
+    pub held-marked : (ms red : List ℕ) → length ms ≡ length ss → length ss ≤ length red → Marked n mesh rows ss ms ks red
+    held-marked ms red m r =
+        record { accepted = h .accepted; sound = h .sound; table = h .table; marks = m; firsts = firsts; room = r }
+
+  -- the flags
+  module _ (ms red : List ℕ) (e : red ≡ flagTable n qs ss ms ++ drop (length ss) (replicate 4096 0)) where
+    same-table : renewed n qs ss red ≡ stepTable n qs ss ms
+    unfolding stepBy
+    same-table =
+        grow-ext red (flagTable n qs ss ms) (λ o. ap (λ (l : List ℕ). getD l o 0) e ∙ zeros-behind (flagTable n qs ss ms) (length ss) 4096 o) (length qs) ss 12 0 (coarseCells n qs) (upTo (length qs))
+        ∙ sym (step-by n qs ss ms (h .sound))
+
+    -- the scan of level 10
+    pub held-deep : leb (length (stepTable n qs ss ms)) 11 ≡ not (deepFrom rows red 0 (length ss))
+    held-deep =
+        let c : length ss ≡ length (tableCells n qs ss) = sound-counted n qs ss (h .sound) in
+        deep n qs ss ms (h .sound)
+        ∙ ap not (sym (ap (deepFrom rows red 0) c ∙ deep-scan n qs ss ms (lattice.sound-levels n qs ss (h .sound) .1) rows red
+        (λ i l. table-level n qs ss (lattice.fours-four mesh) (tableCorners n qs ss) rows (h .table) i l noCell)
+        (λ i l. ap (λ (l : List ℕ). getD l i 0) e ∙ zeros-behind (flagTable n qs ss ms) (length ss) 4096 i)))
+
+    -- what the building leaves
+    module _ (rows′ ps qs′ table : List ℕ) (refusal cells levels mids : ℕ) (r : Result n qs ss red rows′ ps qs′ table refusal cells levels mids) (long : 32768 ≤ length rows′) where
+      accepted : refusal ≡ 0 → Advanced n mesh ss ms rows′ ps qs′ table refusal cells levels mids
+      accepted z =
+          let t = same-table in
+          let c : length (newTable n qs ss ms) ≡ cells = rw t at (r .counted z) in
+          let s : Sound n qs (newTable n qs ss ms) rows′ ps qs′ cells levels mids = rw t at (r .sound z) in
+          let low : length (stepTable n qs ss ms) ≤ 11 = rw t at (r .low z) in
+          let few : length (newTable n qs ss ms) ≤ 4096 = omega (arith, s .few) in
+          record {
+            answer = limits-pass n qs ss ms low few ∙ sym (answer-none refusal z);
+            counted = λ y. c;
+            few = λ y. s .few;
+            table-is = λ y. rw t at (r .table-is z);
+            held = λ y. record {
+              accepted = h .accepted;
+              sound = step-sound n qs ss ms (lattice.fours-four mesh) (h .accepted .cells) (h .sound) low few;
+              long = long;
+              table = rw (s .counted) (s .table);
+            };
+            laid = λ y. s;
+          }
+
+      -- a refusal
+      refused : (k : ℕ) → (k ≡ 0 → ⊥) → limitsAnswer n qs ss ms ≡ answerOf k → (c l m : ℕ) → Advanced n mesh ss ms rows′ ps qs′ table k c l m
+      refused k z a c l m =
+          record {
+            answer = a;
+            counted = λ y. absurd (z y);
+            few = λ y. absurd (z y);
+            table-is = λ y. absurd (z y);
+            held = λ y. absurd (z y);
+            laid = λ y. absurd (z y);
+          }
+
+      pub advanced-at-once : (refusal ≡ 9 → ⊥) → Advanced n mesh ss ms rows′ ps qs′ table refusal cells levels mids
+      unfolding answerOf
+      advanced-at-once y =
+          ⊎-elim accepted (⊎-elim (λ (e : refusal ≡ 8).
+          let t = same-table in
+          let l : length (stepTable n qs ss ms) ≡ 12 = rw t at (r .high e) in
+          refused refusal (λ z. omega arith) (limits-high n qs ss ms (lt-leb (length (stepTable n qs ss ms)) 11 (omega arith)) ∙ rw e) cells levels mids)
+          (λ (e : refusal ≡ 9). absurd (y e))) (r .one)
+
+      pub advanced-deep : deepFrom rows red 0 (length ss) ≡ true → (k : ℕ) → k ≡ 8 → (c l m : ℕ) → Advanced n mesh ss ms rows′ ps qs′ table k c l m
+      unfolding answerOf
+      advanced-deep d k e = refused k (λ z. omega arith) (limits-high n qs ss ms (held-deep ∙ ap not d) ∙ rw e)
+
+      pub advanced-many : refusal ≡ 9 → deepFrom rows red 0 (length ss) ≡ false → Advanced n mesh ss ms rows′ ps qs′ table refusal cells levels mids
+      unfolding answerOf
+      advanced-many e d =
+          let t = same-table in
+          let l : 4096 < length (newTable n qs ss ms) = rw t at (r .many e) in
+          refused refusal (λ z. omega arith) (limits-many n qs ss ms (held-deep ∙ ap not d) l ∙ rw e) cells levels mids

@@ -1,0 +1,28 @@
+-- What the work of a step asks for and leaves.
+--   Held n mesh rows ss   an accepted mesh of n corners and a sound table over it, with the rows of its cells
+--   Advanced ..           the answer, and where there is no refusal the new table, with its rows and the ends of its corners
+use mathlib.Core.Path.{_≡_}
+use mathlib.Core.List.{List}
+use Prim.Native.Nat.{ℕ, _*_, _≤_}
+use lib.Dec.{T}
+use lib.ListN.{length, take}
+use Rattle.base.specs.Fours.{fours}
+use Rattle.mesh.specs.Table.{soundb}
+use Rattle.mesh.specs.Layout.{cellTable}
+use Rattle.tables.specs.Sound.{Mesh, Sound, tableCells, tableCorners}
+use Rattle.layout.specs.Opened.{answerOf}
+use Rattle.step.specs.Calls.{newTable, limitsAnswer}
+
+pub record Held (n : ℕ) (mesh rows ss : List ℕ) : Type 0 where
+  pub accepted : Mesh n mesh
+  pub sound : T (soundb n (fours mesh) ss)
+  pub long : 32768 ≤ length rows
+  pub table : take (8 * length (tableCells n (fours mesh) ss)) rows ≡ cellTable (tableCorners n (fours mesh) ss) (tableCells n (fours mesh) ss)
+
+pub record Advanced (n : ℕ) (mesh ss ms rows ps qs table : List ℕ) (refusal cells levels mids : ℕ) : Type 0 where
+  pub answer : limitsAnswer n (fours mesh) ss ms ≡ answerOf refusal
+  pub counted : refusal ≡ 0 → length (newTable n (fours mesh) ss ms) ≡ cells
+  pub few : refusal ≡ 0 → cells ≤ 4096
+  pub table-is : refusal ≡ 0 → take cells table ≡ newTable n (fours mesh) ss ms
+  pub held : refusal ≡ 0 → Held n mesh rows (newTable n (fours mesh) ss ms)
+  pub laid : refusal ≡ 0 → Sound n (fours mesh) (newTable n (fours mesh) ss ms) rows ps qs cells levels mids

@@ -1,0 +1,175 @@
+// One step of the multilevel red/green method.
+use renew::Renewed;
+ghost use mathlib.Core.Path.{_≡_};
+ghost use mathlib.Core.List.{_++_};
+ghost use Prim.Native.Nat.{_+_, _*_, _≤_, _<_};
+ghost use lib.ListN.{length, take, drop};
+ghost use Rattle.base.specs.Fours.{fours};
+ghost use Rattle.mesh.specs.Coarse.{cornerCount};
+ghost use Rattle.layout.specs.Calls.{heldAfter};
+ghost use Rattle.step.specs.Calls.{markb, marksb, newTable, stepAnswer, steppedOf};
+ghost use Rattle.step.specs.Deep.{deepAt, deepFrom};
+ghost use Rattle.step.specs.Advanced.{Held, Advanced};
+
+pub enum Stepped {
+    Cells(usize),
+    Refused(u8),
+}
+
+// Whether a mark may stand at a cell with this status.
+fn mark_fits(status: u8, mark: u8) -> bool
+    ensures { λ r. ⌜ r ≡ markb status mark ⌝ }
+{
+    if mark == 0 {
+        return true;
+    }
+    if status != 0 {
+        return false;
+    }
+    mark <= 2
+}
+
+// Whether the marks fit the table.
+fn marks_fit(status: &[u8], marks: &[u8]) -> bool
+    ensures { λ r. ⌜ r ≡ marksb (now (status .entry)) (now (marks .entry)) ⌝ }
+{
+    if marks.len() != status.len() {
+        return false;
+    }
+    let mut c = 0;
+    while c < status.len() {
+        if !mark_fits(status[c], marks[c]) {
+            return false;
+        }
+        c += 1;
+    }
+    true
+}
+
+// Whether a cell of level 10 will be red.
+fn too_deep(rows: &[u16], red: &[u8], cells: usize) -> bool
+    requires { ⌜ (8 * cells ≤ length (now rows)) × (cells ≤ length (now red)) ⌝ }
+    ensures { λ r. ⌜ r ≡ deepFrom (now (rows .entry)) (now (red .entry)) 0 cells ⌝ }
+{
+    let mut c = 0;
+    while c < cells {
+        if is_deep(rows, red, c) {
+            return true;
+        }
+        c += 1;
+    }
+    false
+}
+
+// Whether the cell c is on level 10 and will be red.
+fn is_deep(rows: &[u16], red: &[u8], c: usize) -> bool
+    requires { ⌜ (8 * c + 8 ≤ length (now rows)) × (c < length (now red)) ⌝ }
+    ensures { λ r. ⌜ r ≡ deepAt (now (rows .entry)) (now (red .entry)) c ⌝ }
+{
+    if rows[8 * c] != 10 {
+        return false;
+    }
+    red[c] == 64
+}
+
+fn refused(refusal: u8) -> Renewed
+    ensures { λ r. ⌜ r .refusal ≡ refusal ⌝ }
+{
+    Renewed {
+        refusal,
+        cells: 0,
+        levels: 0,
+        mids: 0,
+    }
+}
+
+// The work of a step, on a sound table with its rows and marks that fit it: the new statuses in `table`, the rows of the new cells,
+// and the ends of the new corners. Nothing is examined here. Refusals 8 and 9.
+pub fn advance(
+    mesh: &[u16],
+    n: usize,
+    rows: &[u16],
+    status: &[u8],
+    marks: &[u8],
+    new_rows: &mut [u16],
+    ps: &mut [u32],
+    qs: &mut [u32],
+    table: &mut [u8],
+) -> Renewed
+    requires { ⌜ Held n (now mesh) (now rows) (now status) ⌝ }
+    requires { ⌜ length (now marks) ≡ length (now status) ⌝ }
+    requires { ⌜ (32768 ≤ length (now «new_rows»)) × (4096 ≤ length (now ps)) × (4096 ≤ length (now qs)) × (4096 ≤ length (now table)) ⌝ }
+    ensures { λ r. ⌜ Advanced n (now (mesh .entry)) (now (status .entry)) (now (marks .entry)) (now («new_rows» .exit)) (now (ps .exit)) (now (qs .exit)) (now (table .exit)) (r .refusal) (r .cells) (r .levels) (r .mids) ⌝ }
+{
+    let mut kids = [0u16; 4097];
+    let mut red = [0u8; 4096];
+    reds::first_children(status, mesh.len() / 4, &mut kids);
+    reds::new_reds(mesh, n, rows, status, marks, &kids, &mut red);
+    let r = renew::renew(mesh, n, status, &kids, &red, new_rows, ps, qs, table);
+    if r.refusal != 9 {
+        return r;
+    }
+    if too_deep(rows, &red, status.len()) {
+        return refused(8);
+    }
+    r
+}
+
+// Copies the first n bytes.
+fn copy(from: &[u8], n: usize, to: &mut [u8])
+    requires { ⌜ (n ≤ length (now from)) × (n ≤ length (now to)) ⌝ }
+    ensures { λ r. ⌜ now (to .exit) ≡ take n (now (from .entry)) ++ drop n (now (to .entry)) ⌝ }
+{
+    for i in 0..n {
+        to[i] = from[i];
+    }
+}
+
+// One step: the new status table in the lent one, and how many cells it has. Refusals 15 and 1 to 9.
+pub fn step(
+    positions: &[i32],
+    cells: &[u16],
+    status: &[u8],
+    marks: &[u8],
+    table: &mut [u8],
+) -> Stepped
+    ensures { λ r. ⌜ r
+        ≡ steppedOf (stepAnswer (now (positions .entry)) (now (cells .entry)) (now (status .entry)) (now (marks .entry)) (now (table .entry)))
+        (length (newTable (cornerCount (now (positions .entry))) (fours (now (cells .entry))) (now (status .entry)) (now (marks .entry)))) ⌝ }
+    ensures { λ r. ⌜ now (table .exit)
+        ≡ heldAfter (stepAnswer (now (positions .entry)) (now (cells .entry)) (now (status .entry)) (now (marks .entry)) (now (table .entry)))
+        (newTable (cornerCount (now (positions .entry))) (fours (now (cells .entry))) (now (status .entry)) (now (marks .entry)))
+        (now (table .entry)) ⌝ }
+{
+    if table.len() < 4096 {
+        return Stepped::Refused(15);
+    }
+    let mut rows = [0u16; 32768];
+    let mut xs = [0u32; 4096];
+    let mut ys = [0u32; 4096];
+    let f = layout::open(positions, cells, status, &mut rows, &mut xs, &mut ys);
+    if f.refusal != 0 {
+        return Stepped::Refused(f.refusal);
+    }
+    if !marks_fit(status, marks) {
+        return Stepped::Refused(7);
+    }
+    let mut new_rows = [0u16; 32768];
+    let mut new = [0u8; 4096];
+    let r = advance(
+        cells,
+        positions.len() / 3,
+        &rows,
+        status,
+        marks,
+        &mut new_rows,
+        &mut xs,
+        &mut ys,
+        &mut new,
+    );
+    if r.refusal != 0 {
+        return Stepped::Refused(r.refusal);
+    }
+    copy(&new, r.cells, table);
+    Stepped::Cells(r.cells)
+}

@@ -1,0 +1,55 @@
+-- `trial::pattern::checksum` is safe and ends: the sum stays below the prime. The measure is what is left of the list. Assumes nothing.
+use Prim.Native.Nat.{_<_, _-_}
+use borrow.Author.Needs.{needs}
+use lib.ListN.{length}
+use Rattle.trial.proofs.pattern.checksum.Statement.{statement}
+use Rattle.trial.proofs.pattern.checksum.Tie as tie
+
+abbrev Inv-loop : tie.InvT-loop
+Inv-loop list sum₀ i₀ sum i = sum < 2147483647
+
+abbrev μ-loop : tie.MeasureT-loop
+μ-loop list sum₀ i₀ sum i = length list - i
+
+loop-holds : tie.Need-loop-holds Inv-loop μ-loop
+loop-holds c = search needs
+
+mul-wide : tie.Need-mul-wide Inv-loop μ-loop
+mul-wide c = search needs
+
+shared-slice-read-wide : tie.Need-shared-slice-read-wide Inv-loop μ-loop
+shared-slice-read-wide c = search needs
+
+wide-requires : tie.Need-wide-requires Inv-loop μ-loop
+wide-requires c κs = search needs
+
+turn-requires : tie.Need-turn-requires Inv-loop μ-loop
+turn-requires c κs = search needs
+
+add-i : tie.Need-add-i Inv-loop μ-loop
+add-i c = search needs
+
+loop-less : tie.Need-loop-less Inv-loop μ-loop
+loop-less c = search needs
+
+loop-again : tie.Need-loop-again Inv-loop μ-loop
+loop-again c = search needs
+
+returns : tie.Need-returns Inv-loop μ-loop
+returns c = search needs
+
+pub checksum-spec : {M : Type 1} → statement M
+checksum-spec =
+    tie.close
+    (tie.spec
+    Inv-loop
+    μ-loop
+    loop-holds
+    mul-wide
+    shared-slice-read-wide
+    wide-requires
+    turn-requires
+    add-i
+    loop-less
+    loop-again
+    returns)

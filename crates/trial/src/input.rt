@@ -1,0 +1,114 @@
+// Reading numbers and lists from standard input. Every number of more than one byte has its least byte first.
+ghost use Prim.Native.Nat.{_+_, _*_, _<_};
+ghost use lib.ListN.{length};
+
+// Two bytes as a number.
+fn word(low: u8, high: u8) -> u32
+    ensures { λ r. ⌜ r < 65536 ⌝ }
+{
+    low as u32 + 256 * (high as u32)
+}
+
+// The k-th number of two bytes.
+pub fn number(bytes: &[u8], k: usize) -> usize
+    requires { ⌜ 2 * k + 1 < length (now bytes) ⌝ }
+    ensures { λ r. ⌜ r < 65536 ⌝ }
+{
+    word(bytes[2 * k], bytes[2 * k + 1]) as usize
+}
+
+// Fills the list with bytes. False where the input ends.
+pub fn read_all(list: &mut [u8]) -> bool {
+    io::read_full(0, list) == list.len()
+}
+
+// Fills the first n places of a list with bytes. False where the list is shorter or the input ends.
+pub fn read_bytes(list: &mut [u8], n: usize) -> bool {
+    if n > list.len() {
+        return false;
+    }
+    read_all(&mut list[0..n])
+}
+
+// The number whose bits these are, in two's complement.
+fn signed(bits: u32) -> i32 {
+    if bits < 2147483648 {
+        bits as i32
+    } else {
+        -1 - ((4294967295 - bits) as i32)
+    }
+}
+
+fn coordinate(bytes: &[u8], k: usize) -> i32
+    requires { ⌜ 4 * k + 3 < length (now bytes) ⌝ }
+{
+    let at = 4 * k;
+    let low = word(bytes[at], bytes[at + 1]);
+    let high = word(bytes[at + 2], bytes[at + 3]);
+    signed(low + 65536 * high)
+}
+
+fn corner(bytes: &[u8], k: usize) -> u16
+    requires { ⌜ 2 * k + 1 < length (now bytes) ⌝ }
+{
+    word(bytes[2 * k], bytes[2 * k + 1]) as u16
+}
+
+// The first n coordinates, from four bytes each. False where a list is too short.
+fn decode_positions(bytes: &[u8], list: &mut [i32], n: usize) -> bool {
+    let mut i = 0;
+    while i < n {
+        if i >= list.len() {
+            return false;
+        }
+        if i >= bytes.len() / 4 {
+            return false;
+        }
+        list[i] = coordinate(bytes, i);
+        i += 1;
+    }
+    true
+}
+
+// The first n corner numbers, from two bytes each. False where a list is too short.
+fn decode_cells(bytes: &[u8], list: &mut [u16], n: usize) -> bool {
+    let mut i = 0;
+    while i < n {
+        if i >= list.len() {
+            return false;
+        }
+        if i >= bytes.len() / 2 {
+            return false;
+        }
+        list[i] = corner(bytes, i);
+        i += 1;
+    }
+    true
+}
+
+// Reads the lists of a mesh into the first places of the given ones, by way of room. False where a list is too long for them
+// or the input ends.
+pub fn read_mesh(
+    room: &mut [u8],
+    positions: &mut [i32],
+    cells: &mut [u16],
+    position_count: usize,
+    cell_count: usize,
+) -> bool {
+    if position_count > 2000 {
+        return false;
+    }
+    if cell_count > 2000 {
+        return false;
+    }
+    if !read_bytes(room, 4 * position_count) {
+        return false;
+    }
+    if !decode_positions(room, positions, position_count) {
+        return false;
+    }
+    if !read_bytes(room, 2 * cell_count) {
+        return false;
+    }
+    decode_cells(room, cells, cell_count)
+}
