@@ -46,13 +46,13 @@ rise-test : T (belowb (λ p. allb riseTest (row p)) 64)
 unfolding belowb allb low high row rows
 rise-test = tt
 
-member-at : (l : List ℕ) (k : ℕ) → k < length l → T (memberb (getD l k 0) l)
+pub member-at : (l : List ℕ) (k : ℕ) → k < length l → T (memberb (getD l k 0) l)
 unfolding memberb
 member-at [] k h = absurd (omega arith)
 member-at (x ∷ l) zero h = rw (eq-eqb x x refl) tt
 member-at (x ∷ l) (suc k) h = or-second (eqb (getD l k 0) x) (memberb (getD l k 0) l) (member-at l k (omega arith))
 
-member-place : (x : ℕ) (l : List ℕ) → T (memberb x l) → (k : ℕ) × (k < length l) × (getD l k 0 ≡ x)
+pub member-place : (x : ℕ) (l : List ℕ) → T (memberb x l) → (k : ℕ) × (k < length l) × (getD l k 0 ≡ x)
 unfolding memberb
 member-place x [] t = absurd t
 member-place x (y ∷ l) t =
@@ -145,7 +145,7 @@ edge-joins p d e hp w g c x =
     go (inr (a, b)) = inr (ap (point g) a, ap (point g) b)
 
 -- two corners are joined by the cell's own edge
-corner-point : (g : Cell Point) (d : ℕ) → d < 10 → low d ≡ high d → point g d ≡ corner [] g (low d)
+pub corner-point : (g : Cell Point) (d : ℕ) → d < 10 → low d ≡ high d → point g d ≡ corner [] g (low d)
 corner-point g d h e =
     let x : digit (low d) (low d) ≡ d = ap (digit (low d)) e ∙ digit-named d h in
     ap (point g) (sym x) ∙ point-corner g (low d) (omega (arith, digit-ends d h))

@@ -33,7 +33,7 @@ pub record Regular (n k : ℕ) (c : Cell Point) : Type 0 where
 pub unit-positive : (k : ℕ) → 0 < unit k
 unit-positive k = pow-pos (10 - k)
 
-unit-half : (k : ℕ) → k < 10 → unit k ≡ 2 * unit (suc k)
+pub unit-half : (k : ℕ) → k < 10 → unit k ≡ 2 * unit (suc k)
 unit-half k h = let e : 10 - k ≡ suc (10 - suc k) = omega arith in rw e (omega arith)
 
 pub unit-even : (k l : ℕ) → k < l → l ≤ 10 → (m : ℕ) × (0 < m) × (unit k ≡ (m + m) * unit l)

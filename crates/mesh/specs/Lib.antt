@@ -5,3 +5,4 @@ pub mod Table
 pub mod Layout
 pub mod Counts
 pub mod Step
+pub mod Samples

@@ -1,0 +1,12 @@
+pub mod Tests
+pub mod Whole
+pub mod Fill
+pub mod Fields
+pub mod Signed
+pub mod Loading
+pub mod StepTables
+pub mod Counted
+pub mod Stores
+pub mod Way
+pub mod Storing
+pub mod Stored

@@ -1,0 +1,16 @@
+-- What examining an archive's form answers.
+--   Examined bs r   whether bs is in the form, and how many records of each kind it has where it is
+use mathlib.Core.Path.{_≡_}
+use mathlib.Core.List.{List}
+use Prim.Native.Nat.{ℕ}
+use lib.Dec.{T}
+use Rattle.archive.specs.Form.{formb, jobOf}
+use Rattle.archive.specs.Tables.{Counts}
+use Rattle.archive.specs.declared.Form.{Form}
+
+abbrev pub CountsOf : List ℕ → Form → Type 0
+CountsOf bs r = Counts (jobOf bs) (r .corners) (r .cells) (r .marks) (r .steps)
+
+pub record Examined (bs : List ℕ) (r : Form) : Type 0 where
+  pub ok-is : r .ok ≡ formb bs
+  pub counts : T (formb bs) → CountsOf bs r

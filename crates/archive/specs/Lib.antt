@@ -1,0 +1,15 @@
+pub mod Job
+pub mod Form
+pub mod Records
+pub mod Tables
+pub mod Scan
+pub mod Examined
+pub mod Bytes
+pub mod Writable
+pub mod Measure
+pub mod Reading
+pub mod Writing
+pub mod Written
+pub mod Loaded
+pub mod Stored
+pub mod Ends

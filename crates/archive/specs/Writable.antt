@@ -1,0 +1,30 @@
+-- Jobs that can be written.
+--   Each P l         every element of l has P
+--   Rises least ms   the marks ms are 1 or 2, on cells below 65,536 that ascend strictly from least on
+--   Writable j       positions are i32 by threes, cells u16 by fours, each step's marks rise, and the archive is at most 65,536 bytes
+use mathlib.Core.Path.{_≡_}
+use mathlib.Core.List.{List, [], _∷_}
+use Prim.Native.Nat.{ℕ, suc, _%_, _≤_, _<_}
+use lib.ListN.{length}
+use Rattle.archive.specs.Job.{Job, jobBytes}
+use Rattle.archive.specs.Bytes.{Word}
+use Rattle.archive.specs.Tables.{Mark}
+
+unfoldable pub Each : {A : Type 0} → (A → Type 0) → List A → Type 0
+Each P [] = Unit {0}
+Each P (x ∷ l) = P x × Each P l
+
+unfoldable pub Rises : ℕ → List Mark → Type 0
+Rises least [] = Unit {0}
+Rises least (m ∷ ms) = (least ≤ m .0) × (m .0 < 65536) × (1 ≤ m .1) × (m .1 ≤ 2) × Rises (suc (m .0)) ms
+
+abbrev pub Small : ℕ → Type 0
+Small x = x < 65536
+
+pub record Writable (j : Job) : Type 0 where
+  pub threes : length (j .positions) % 3 ≡ 0
+  pub words : Each Word (j .positions)
+  pub fours : length (j .cells) % 4 ≡ 0
+  pub numbers : Each Small (j .cells)
+  pub rising : Each (Rises 0) (j .steps)
+  pub few : length (jobBytes j) ≤ 65536
