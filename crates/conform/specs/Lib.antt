@@ -24,3 +24,4 @@ pub mod Meets
 pub mod Step
 pub mod Accepted
 pub mod Calls
+pub mod Jobs

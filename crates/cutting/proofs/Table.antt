@@ -7,11 +7,11 @@ use Prim.Native.Nat.{ℕ, zero, suc, _+_, _*_, _-_, _%_, _≤_, _<_}
 use native.Mathlib.Nat.{add-zero, add-suc}
 use native.Mathlib.Omega.{arith}
 use lib.Dec.{T, eqb, leb, eqb→eq, leb→le}
-use lib.ListN.{length, getD, take, drop, replicate, length-append, List·getD-map}
+use lib.ListN.{length, getD, take, drop, replicate, length-append, length-map, List·getD-map}
 use lib.Seq.{take-suc, take-append-seam, drop-append-seam, take-all}
 use Rattle.base.specs.Lists.{belowb, belowb-at, sameb, sameb-eq, samesb, samesb-eq, allb, and-left, and-right, filterb}
 use Rattle.cutting.specs.Rule.{family, choose, present, childb}
-use Rattle.cutting.specs.Answer.{digitsBelow}
+use Rattle.cutting.specs.Answer.{digitsBelow, digitTable}
 use Rattle.cutting.proofs.Data.{rows}
 
 unfoldable pub row : ℕ → List (List ℕ)
@@ -72,9 +72,14 @@ length-test = tt
 all-digits : digitsBelow 64 ≡ flat rows
 all-digits = below-flat 64 (omega arith) ∙ ap flat all-rows
 
-pub digits-right : (at : ℕ) → getD digits at 0 % 16 ≡ getD (digitsBelow 64) at 0
-digits-right at =
-    sym (List·getD-map (λ b. b % 16) digits at 0)
+pub digits-table : digits ≡ digitTable
+unfolding digits digitTable
+digits-table = ap (map (λ d. 48 + d)) (sym all-digits)
+
+pub digits-right : (l : List ℕ) → l ≡ digitTable → (at : ℕ) → getD l at 0 % 16 ≡ getD (digitsBelow 64) at 0
+digits-right l e at =
+    ap (λ (m : List ℕ). getD m at 0 % 16) (e ∙ sym digits-table)
+    ∙ sym (List·getD-map (λ b. b % 16) digits at 0)
     ∙ ap (λ (m : List ℕ). getD m at 0) (sameb-eq (map (λ b. b % 16) digits) (flat rows) digits-test ∙ sym all-digits)
 
 pub starts-right : (p : ℕ) → p < 65 → getD starts p 0 ≡ length (digitsBelow p)
@@ -82,8 +87,32 @@ starts-right p h =
     eqb→eq (getD starts p 0) (length (flat (take p rows))) (belowb-at (λ p. eqb (getD starts p 0) (length (flat (take p rows)))) 65 starts-test p h)
     ∙ ap length (sym (below-flat p (omega arith)))
 
+small-test : T (belowb (λ p. leb (getD starts p 0) 1172) 65)
+unfolding belowb starts rows flatten
+small-test = tt
+
+pub starts-small : (p : ℕ) → p < 65 → getD starts p 0 ≤ 1172
+starts-small p h = leb→le (getD starts p 0) 1172 (belowb-at (λ p. leb (getD starts p 0) 1172) 65 small-test p h)
+
+-- how many children each family has, in ASCII digits
+unfoldable pub counts : List ℕ
+unfolding rows
+counts = map (λ f. 48 + length f) rows
+
+counts-test : T (belowb (λ p. eqb (getD counts p 0 % 16) (length (row p))) 64)
+unfolding belowb counts row rows
+counts-test = tt
+
+pub counts-right : (p : ℕ) → p < 64 → getD counts p 0 % 16 ≡ length (family p)
+counts-right p h =
+    eqb→eq (getD counts p 0 % 16) (length (row p)) (belowb-at (λ p. eqb (getD counts p 0 % 16) (length (row p))) 64 counts-test p h) ∙ ap length (sym (family-row p h))
+
 pub digits-length : length (digitsBelow 64) ≡ 1172
 digits-length = ap length all-digits ∙ eqb→eq (length (flat rows)) 1172 length-test
+
+pub table-length : (l : List ℕ) → l ≡ digitTable → length l ≡ 1172
+unfolding digitTable
+table-length l e = ap length e ∙ length-map (digitsBelow 64) (λ d. 48 + d) ∙ digits-length
 
 -- a family has at most 8 children, of four digits each
 few-test : T (belowb (λ p. leb (length (row p)) 8 && allb (λ c. eqb (length c) 4) (row p)) 64)

@@ -1,10 +1,11 @@
 -- What the cutting call answers.
 --   digitsBelow p   the families of the patterns below p, digit after digit
+--   digitTable      all families, digit after digit, in ASCII: the table that the families are read from
 --   cutOf p         the whole answer to the byte p
 use mathlib.Core.Path.{_≡_, refl}
 use mathlib.Core.Bool.{Bool, true, false}
-use mathlib.Core.List.{List, [], _∷_, _++_, flatten}
-use Prim.Native.Nat.{ℕ, zero, suc, _-_, _≤_, _<_}
+use mathlib.Core.List.{List, [], _∷_, _++_, map, flatten}
+use Prim.Native.Nat.{ℕ, zero, suc, _+_, _-_, _≤_, _<_}
 use lib.Dec.{ltb}
 use lib.ListN.{length, replicate}
 use borrow.Author.Tests.{lt-ltb, le-ltb}
@@ -15,6 +16,9 @@ use Rattle.cutting.specs.declared.Family.{Family}
 unfoldable pub digitsBelow : ℕ → List ℕ
 digitsBelow zero = []
 digitsBelow (suc p) = digitsBelow p ++ flatten (family p)
+
+unfoldable pub digitTable : List ℕ
+digitTable = map (λ d. 48 + d) (digitsBelow 64)
 
 -- the family as its number of children and 32 digits, child after child, zeros behind them
 unfoldable pub cutInto : List (List ℕ) → Family

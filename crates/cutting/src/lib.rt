@@ -4,7 +4,7 @@ ghost use mathlib.Core.Path.{_≡_};
 ghost use mathlib.Core.List.{_++_};
 ghost use Prim.Native.Nat.{_+_, _-_, _≤_, _<_};
 ghost use lib.ListN.{length, getD, take, drop, replicate};
-ghost use Rattle.cutting.specs.Answer.{digitsBelow, cutOf};
+ghost use Rattle.cutting.specs.Answer.{digitsBelow, digitTable, cutOf};
 
 // The families of the patterns 0 to 63, a line each, four digits a child.
 const DIGITS: [u8; 1172] = *b"\
@@ -79,7 +79,7 @@ const RED: [u8; 32] = *b"\
     \x02\x03\x06\x08\x02\x05\x06\x08\x02\x05\x07\x08\x03\x06\x08\x09";
 
 // Where each family starts, and the end of the last.
-const STARTS: [usize; 65] = [
+const STARTS: [u16; 65] = [
     0,
     4,
     12,
@@ -147,6 +147,11 @@ const STARTS: [usize; 65] = [
     1172,
 ];
 
+// How many children each family has.
+const COUNTS: [u8; 64] = *b"\
+    12232334233445562345345634565667\
+    24353546354656673556466746676778";
+
 // A family by value: how many children it has, and 32 digits, four a child, zeros behind them.
 // A refusal has no children and zeros.
 pub struct Family {
@@ -155,12 +160,19 @@ pub struct Family {
     pub digits: [u8; 32],
 }
 
-// The digit at a place of the constant: an ASCII digit is 48 and its value.
-fn digit(at: usize) -> u8
+// The table that `cut_from` reads. To read a constant is to copy all of it: who cuts many cells makes the table once.
+pub fn digit_table() -> [u8; 1172]
+    ensures { λ r. ⌜ r ≡ digitTable ⌝ }
+{
+    DIGITS
+}
+
+// The digit at a place of the table: an ASCII digit is 48 and its value.
+fn digit(digits: &[u8], at: usize) -> u8
+    requires { ⌜ now digits ≡ digitTable ⌝ }
     requires { ⌜ at < 1172 ⌝ }
     ensures { λ r. ⌜ r ≡ getD (digitsBelow 64) at 0 ⌝ }
 {
-    let digits = &DIGITS;
     digits[at] % 16
 }
 
@@ -168,22 +180,22 @@ fn start(pattern: usize) -> usize
     requires { ⌜ pattern < 65 ⌝ }
     ensures { λ r. ⌜ r ≡ length (digitsBelow pattern) ⌝ }
 {
-    let starts = &STARTS;
-    starts[pattern]
+    STARTS[pattern] as usize
 }
 
-// The digits of the constant from a place on, with zeros behind them.
-fn copied(from: usize, count: usize) -> [u8; 32]
+// The digits of the table from a place on, with zeros behind them.
+fn copied(digits: &[u8], from: usize, count: usize) -> [u8; 32]
+    requires { ⌜ now digits ≡ digitTable ⌝ }
     requires { ⌜ (from + count ≤ 1172) × (count ≤ 32) ⌝ }
     ensures { λ r. ⌜ r ≡ take count (drop from (digitsBelow 64)) ++ replicate (32 - count) 0 ⌝ }
 {
-    let mut digits = [0u8; 32];
+    let mut copy = [0u8; 32];
     let mut i = 0;
     while i < count {
-        digits[i] = digit(from + i);
+        copy[i] = digit(digits, from + i);
         i += 1;
     }
-    digits
+    copy
 }
 
 // How many children the family of a pattern has; 0 where the pattern is above 63.
@@ -193,12 +205,12 @@ pub fn count(pattern: u8) -> u8
     if pattern >= 64 {
         return 0;
     }
-    let row = pattern as usize;
-    ((start(row + 1) - start(row)) / 4) as u8
+    COUNTS[pattern as usize] % 16
 }
 
-// The family of a pattern; 6 where the pattern is above 63.
-pub fn cut(pattern: u8) -> Family
+// The family of a pattern, from the table; 6 where the pattern is above 63.
+pub fn cut_from(digits: &[u8], pattern: u8) -> Family
+    requires { ⌜ now digits ≡ digitTable ⌝ }
     ensures { λ r. ⌜ r ≡ cutOf pattern ⌝ }
 {
     if pattern > 63 {
@@ -221,6 +233,14 @@ pub fn cut(pattern: u8) -> Family
     Family {
         answer: Answer::Accepted,
         count: (count / 4) as u8,
-        digits: copied(from, count),
+        digits: copied(digits, from, count),
     }
+}
+
+// The family of a pattern by itself.
+pub fn cut(pattern: u8) -> Family
+    ensures { λ r. ⌜ r ≡ cutOf pattern ⌝ }
+{
+    let digits = digit_table();
+    cut_from(&digits, pattern)
 }

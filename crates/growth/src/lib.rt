@@ -7,6 +7,7 @@ ghost use Prim.Native.Nat.{ℕ, _+_, _*_, _-_, _≤_, _<_};
 ghost use lib.ListN.{length, getD};
 ghost use Rattle.base.specs.Lists.{one-if};
 ghost use Rattle.cutting.specs.Rule.{split, family};
+ghost use Rattle.cutting.specs.Answer.{digitTable};
 ghost use Rattle.mesh.specs.Cells.{patternOf, edge};
 ghost use Rattle.mesh.specs.Layout.{splitEdges};
 ghost use Rattle.keys.specs.Keys.{Room};
@@ -226,17 +227,19 @@ fn write_children(
     regular: bool,
     points: &[u16; 10],
     pattern: u8,
+    digits: &[u8],
 ) -> usize
     requires { ⌜ (pattern < 64) × (8 * (at + length (family pattern)) ≤ length (now cells)) ⌝ }
+    requires { ⌜ now digits ≡ digitTable ⌝ }
     ensures { λ r. ⌜ r ≡ at + length (family pattern) ⌝ }
     ensures { λ r. ⌜ now (cells .exit) ≡ written (now (cells .entry)) (8 * at) (rowsFrom level parent regular (λ d. getD (now (points .entry)) d 0) 0 (family pattern)) ⌝ }
 {
-    let whole = cutting::cut(pattern);
-    let digits = whole.digits;
+    let whole = cutting::cut_from(digits, pattern);
+    let own = whole.digits;
     let count = whole.count as usize;
     let kind = flag(regular);
     for i in 0..count {
-        write_child(cells, at + i, level, parent, i, kind, points, &digits);
+        write_child(cells, at + i, level, parent, i, kind, points, &own);
     }
     at + count
 }
@@ -260,9 +263,11 @@ fn refine(
     heads: &mut [u16],
     links: &mut [u16],
     m: usize,
+    digits: &[u8],
 ) -> Refined
     requires { ⌜ (c < at) × (status ≤ 64) × (at + sizeOf status ≤ 4096) × (8 * (at + sizeOf status) ≤ length (now cells)) ⌝ }
     requires { ⌜ Ready (now cells) (now xs) (now ys) (now heads) (now links) c status n m ⌝ }
+    requires { ⌜ now digits ≡ digitTable ⌝ }
     ensures { λ r. ⌜ Laid (now (cells .entry)) (now (xs .entry)) (now (ys .entry)) c status level at n m (now (cells .exit)) (now (xs .exit)) (now (ys .exit)) (now (heads .exit)) (now (links .exit)) (r .at) (r .m) ⌝ }
 {
     if status == 0 {
@@ -278,6 +283,7 @@ fn refine(
         status == 64,
         &points,
         pattern_of(status),
+        digits,
     );
     Refined {
         at: next,
@@ -299,14 +305,29 @@ pub fn grow_level(
     heads: &mut [u16],
     links: &mut [u16],
     m: usize,
+    digits: &[u8],
 ) -> Refined
     requires { ⌜ Roomy (now cells) (now xs) (now ys) (now heads) (now links) (now status) first last at n m ⌝ }
+    requires { ⌜ now digits ≡ digitTable ⌝ }
     ensures { λ r. ⌜ Grows (now (cells .entry)) (now (xs .entry)) (now (ys .entry)) (now (status .entry)) first (last - first) level at n m (now (cells .exit)) (now (xs .exit)) (now (ys .exit)) (now (heads .exit)) (now (links .exit)) (r .at) (r .m) ⌝ }
 {
     let mut next = at;
     let mut k = m;
     for c in first..last {
-        let r = refine(cells, c, status[c], level, next, n, xs, ys, heads, links, k);
+        let r = refine(
+            cells,
+            c,
+            status[c],
+            level,
+            next,
+            n,
+            xs,
+            ys,
+            heads,
+            links,
+            k,
+            digits,
+        );
         next = r.at;
         k = r.m;
     }

@@ -4,6 +4,7 @@ ghost use Prim.Native.Nat.{ℕ, _+_, _*_, _-_, _≤_, _<_};
 ghost use lib.ListN.{length, getD};
 ghost use Rattle.base.specs.Lists.{one-if};
 ghost use Rattle.base.specs.Fours.{fours};
+ghost use Rattle.cutting.specs.Answer.{digitTable};
 ghost use Rattle.mesh.specs.Cells.{redb};
 ghost use Rattle.edges.specs.Table.{listed};
 ghost use Rattle.rows.specs.Numbered.{sizeOf, sizes, part};
@@ -230,11 +231,13 @@ fn fill(
     mid_links: &mut [u16],
     old: &mut [u16],
     table: &mut [u8],
+    digits: &[u8],
 ) -> Renewed
     requires { ⌜ Empty n (now mesh) (now rows) (now xs) (now ys) (now heads) (now links) (now ps) (now qs) (now «mid_heads») (now «mid_links») ⌝ }
     requires { ⌜ Statuses (now status) ⌝ }
     requires { ⌜ Kids (length (fours (now mesh))) (now status) (now kids) ⌝ }
     requires { ⌜ (length (now red) ≤ 4096) × (4096 ≤ length (now old)) × (4096 ≤ length (now table)) ⌝ }
+    requires { ⌜ now digits ≡ digitTable ⌝ }
     ensures { λ r. ⌜ Result n (fours (now (mesh .entry))) (now (status .entry)) (now (red .entry)) (now (rows .exit)) (now (ps .exit)) (now (qs .exit)) (now (table .exit)) (r .refusal) (r .cells) (r .levels) (r .mids) ⌝ }
 {
     let coarse = tables::lay_coarse(mesh, rows);
@@ -274,6 +277,7 @@ fn fill(
             mid_heads,
             mid_links,
             m,
+            digits,
         );
         old_level(status, kids, coarse, table, first, last, old, last);
         m = g.m;
@@ -313,6 +317,7 @@ pub fn renew(
     let mut old = [0u16; 4096];
     keys::clear(&mut heads);
     keys::clear(&mut mid_heads);
+    let digits = cutting::digit_table();
     fill(
         mesh,
         n,
@@ -330,5 +335,6 @@ pub fn renew(
         &mut mid_links,
         &mut old,
         table,
+        &digits,
     )
 }

@@ -5,6 +5,7 @@ ghost use mathlib.Core.List.{flatMap};
 ghost use Prim.Native.Nat.{_*_, _≤_};
 ghost use lib.ListN.{length, take};
 ghost use Rattle.base.specs.Fours.{fours};
+ghost use Rattle.cutting.specs.Answer.{digitTable};
 ghost use Rattle.tables.specs.Checked.{Statuses, Reds, Checked};
 ghost use Rattle.tables.specs.Start.{Coarse, coarseRow, Empty, Result};
 ghost use Rattle.tables.specs.Sound.{Mesh, Examined};
@@ -111,9 +112,11 @@ fn build(
     qs: &mut [u32],
     mid_heads: &mut [u16],
     mid_links: &mut [u16],
+    digits: &[u8],
 ) -> Built
     requires { ⌜ Statuses (now status) ⌝ }
     requires { ⌜ Empty n (now mesh) (now rows) (now xs) (now ys) (now heads) (now links) (now ps) (now qs) (now «mid_heads») (now «mid_links») ⌝ }
+    requires { ⌜ now digits ≡ digitTable ⌝ }
     ensures { λ r. ⌜ Result n (fours (now (mesh .entry))) (now (status .entry)) (now (rows .exit)) (now (xs .exit)) (now (ys .exit)) (now (heads .exit)) (now (links .exit)) (now (ps .exit)) (now (qs .exit)) (now («mid_heads» .exit)) (now («mid_links» .exit)) (r .ok) (r .cells) (r .levels) (r .reds) (r .mids) ⌝ }
 {
     let mut first = 0;
@@ -152,6 +155,7 @@ fn build(
             mid_heads,
             mid_links,
             m,
+            digits,
         );
         m = g.m;
         first = last;
@@ -188,6 +192,7 @@ pub fn examine(
     let mut mid_links = [0u16; 4096];
     keys::clear(&mut heads);
     keys::clear(&mut mid_heads);
+    let digits = cutting::digit_table();
     let b = build(
         mesh,
         status,
@@ -201,6 +206,7 @@ pub fn examine(
         qs,
         &mut mid_heads,
         &mut mid_links,
+        &digits,
     );
     if !b.ok {
         return failed();

@@ -12,50 +12,39 @@ use Rattle.cutting.proofs.Table.{digits-length}
 use Rattle.cutting.proofs.Copy.{copy-more}
 use Rattle.cutting.proofs.copied.Statement.{statement}
 use Rattle.cutting.proofs.copied.Tie as tie
-use Rattle.cutting.proofs.copied.Reads as reads
-use Rattle.cutting.proofs.copied.Lts as lts
-use Rattle.cutting.proofs.digit.Reads as digit-reads
 
 abbrev Inv-loop : tie.InvT-loop
-Inv-loop from count digits₀ i₀ digits i = (i ≤ count) × (digits ≡ take i (drop from (digitsBelow 64)) ++ replicate (32 - i) 0)
+Inv-loop digits from count copy₀ i₀ copy i = (i ≤ count) × (copy ≡ take i (drop from (digitsBelow 64)) ++ replicate (32 - i) 0)
 
 abbrev μ-loop : tie.MeasureT-loop
-μ-loop from count digits₀ i₀ digits i = count - i
+μ-loop digits from count copy₀ i₀ copy i = count - i
 
--- src/lib.rt:174:5
 loop-holds : tie.Need-loop-holds Inv-loop μ-loop
 loop-holds c = search needs
 
--- src/lib.rt:175:27
 add-digit : tie.Need-add-digit Inv-loop μ-loop
 add-digit c = search needs
 
--- src/lib.rt:175:21
 digit-requires : tie.Need-digit-requires Inv-loop μ-loop
-digit-requires c κs = search needs
+digit-requires c κs = (c .before .before .before .pre .0, omega arith)
 
--- src/lib.rt:175:9
-array-write-digits : tie.Need-array-write-digits Inv-loop μ-loop
-array-write-digits c = search needs
+array-write-copy : tie.Need-array-write-copy Inv-loop μ-loop
+array-write-copy c = search needs
 
--- src/lib.rt:176:9
 add-i : tie.Need-add-i Inv-loop μ-loop
 add-i c = search needs
 
--- src/lib.rt:174:5
 loop-less : tie.Need-loop-less Inv-loop μ-loop
 loop-less c = search needs
 
--- src/lib.rt:174:5
 loop-again : tie.Need-loop-again Inv-loop μ-loop
 loop-again c =
     let b = c .before .before in
-    (search needs, rw (add-one, b .loop .inv .1, c .digit .ensures) (copy-more 32 (digitsBelow 64) (b .before .args .from) (b .loop .i) (omega (arith, digits-length)) (omega arith)))
+    (search needs, rw (add-one, b .loop .inv .1, c .digit .ensures) (copy-more 32 (digitsBelow 64) (b .before .before .args .from) (b .loop .i) (omega (arith, digits-length)) (omega arith)))
 
--- src/lib.rt:168:1
 returns : tie.Need-returns Inv-loop μ-loop
 returns c =
-    let e : c .before .loop .i ≡ c .before .before .args .count = omega arith in
+    let e : c .before .loop .i ≡ c .before .before .before .args .count = omega arith in
     rw (← e) (c .before .loop .inv .1)
 
 pub copied-spec : {M : Type 1} → statement M
@@ -67,7 +56,7 @@ copied-spec =
     loop-holds
     add-digit
     digit-requires
-    array-write-digits
+    array-write-copy
     add-i
     loop-less
     loop-again

@@ -8,9 +8,9 @@ use Rattle.growth.proofs.refine.Tie as tie
 
 returns : tie.Need-returns
 returns c =
-    let s = c .before .before .before .before .before .before in
+    let s = c .before .before .before .before .before .before .before in
     let a = s .args in
-    laid-leaf (a .cells .now) (a .xs .now) (a .ys .now) (a .heads .now) (a .links .now) (a .c) (a .status) (a .level) (a .at) (a .n) (a .m) (c .if1 .taken) (s .pre .1 .edges)
+    laid-leaf (a .cells .now) (a .xs .now) (a .ys .now) (a .heads .now) (a .links .now) (a .c) (a .status) (a .level) (a .at) (a .n) (a .m) (c .if1 .taken) (s .pre .1 .0 .edges)
 
 points-of-requires : tie.Need-points-of-requires
 points-of-requires c κs = search needs
@@ -23,9 +23,9 @@ pattern-of-requires c κs = search needs
 
 write-children-requires : tie.Need-write-children-requires
 write-children-requires c κs =
-    let s = c .before .before .before .before .before .before .before .before .before .before .before .before .before .before .before .before .before .before .before .before .before .before .before .before in
+    let s = c .before .before .before .before .before .before .before .before .before .before .before .before .before .before .before .before .before .before .before .before .before .before .before .before .before in
     let a = s .args in
-    rw (c .pattern-of .ensures, ← size-some (a .status) (c .before .before .before .before .before .before .before .before .before .before .before .before .before .before .before .before .before .before .if1 .left)) (pattern-below (a .status) (s .pre .0 .1), s .pre .0 .3)
+    (rw (c .pattern-of .ensures, ← size-some (a .status) (c .before .before .before .before .before .before .before .before .before .before .before .before .before .before .before .before .before .before .if1 .left)) (pattern-below (a .status) (s .pre .0 .1), s .pre .0 .3), s .pre .1 .1)
 
 same-length : tie.Need-same-length
 same-length c = search needs
@@ -44,7 +44,7 @@ same-length-5 c = search needs
 
 returns-2 : tie.Need-returns-2
 returns-2 c =
-    let s = c .before .before .before .before .before .before .before .before .before .before .before .before .before .before .before .before .before .before .before .before .before .before .before .before .before .before .before in
+    let s = c .before .before .before .before .before .before .before .before .before .before .before .before .before .before .before .before .before .before .before .before .before .before .before .before .before .before .before .before in
     let a = s .args in
     let p = c .before .before .before .before .before .before .before .before .before .before .before .before .before .before .before .points-of in
     let w = c .before .before .write-children in

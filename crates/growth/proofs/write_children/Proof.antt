@@ -14,20 +14,20 @@ use Rattle.growth.proofs.write_children.Statement.{statement}
 use Rattle.growth.proofs.write_children.Tie as tie
 
 abbrev Inv-loop : tie.InvT-loop
-Inv-loop cells₀ at level parent regular points pattern digits count kind i₀ cells i = Rows cells₀ at level parent regular (λ d. getD points d 0) pattern cells i
+Inv-loop cells₀ at level parent regular points pattern digits own count kind i₀ cells i = Rows cells₀ at level parent regular (λ d. getD points d 0) pattern cells i
 
 abbrev μ-loop : tie.MeasureT-loop
-μ-loop cells₀ at level parent regular points pattern digits count kind i₀ cells i = count - i
+μ-loop cells₀ at level parent regular points pattern digits own count kind i₀ cells i = count - i
 
 -- how many children there are
-size : (c : tie.After-cut Inv-loop μ-loop) → c .cut .result .count ≡ length (family (c .before .before .args .pattern))
-size c = ap (λ (f : Family). f .count) (c .cut .ensures) ∙ child-count (c .before .before .args .pattern) (c .before .before .pre .0)
+size : (c : tie.After-cut-from Inv-loop μ-loop) → c .cut-from .result .count ≡ length (family (c .before .before .before .args .pattern))
+size c = ap (λ (f : Family). f .count) (c .cut-from .ensures) ∙ child-count (c .before .before .before .args .pattern) (c .before .before .before .pre .0 .0)
 
-few : (c : tie.After-cut Inv-loop μ-loop) → length (family (c .before .before .args .pattern)) ≤ 8
-few c = family-few (c .before .before .args .pattern) (c .before .before .pre .0)
+few : (c : tie.After-cut-from Inv-loop μ-loop) → length (family (c .before .before .before .args .pattern)) ≤ 8
+few c = family-few (c .before .before .before .args .pattern) (c .before .before .before .pre .0 .0)
 
-cut-requires : tie.Need-cut-requires Inv-loop μ-loop
-cut-requires c κs = search needs
+cut-from-requires : tie.Need-cut-from-requires Inv-loop μ-loop
+cut-from-requires c κs = c .before .before .pre .1
 
 cast-count : tie.Need-cast-count Inv-loop μ-loop
 cast-count c = search needs
@@ -37,7 +37,7 @@ flag-requires c κs = search needs
 
 loop-holds : tie.Need-loop-holds Inv-loop μ-loop
 loop-holds c =
-    let a = c .before .before .before .before .before .args in
+    let a = c .before .before .before .before .before .before .args in
     rows-none (a .cells .now) (a .at) (a .level) (a .parent) (a .regular) (λ d. getD (a .points .now) d 0) (a .pattern)
 
 add-write-child : tie.Need-add-write-child Inv-loop μ-loop
@@ -45,8 +45,8 @@ add-write-child c = omega (arith, size (c .before .before .before .before .befor
 
 write-child-requires : tie.Need-write-child-requires Inv-loop μ-loop
 write-child-requires c κs =
-    let a = c .before .before .before .before .before .before .before .before .before .args in
-    ((omega (arith, size (c .before .before .before .before .before .before .before)), omega (arith, size (c .before .before .before .before .before .before .before), few (c .before .before .before .before .before .before .before))), λ j. rw (ap (λ (f : Family). f .digits) (c .before .before .before .before .before .before .before .cut .ensures)) (digits-below (a .pattern) (c .before .before .before .before .before .before .before .before .before .pre .0) j))
+    let a = c .before .before .before .before .before .before .before .before .before .before .args in
+    ((omega (arith, size (c .before .before .before .before .before .before .before)), omega (arith, size (c .before .before .before .before .before .before .before), few (c .before .before .before .before .before .before .before))), λ j. rw (ap (λ (f : Family). f .digits) (c .before .before .before .before .before .before .before .cut-from .ensures)) (digits-below (a .pattern) (c .before .before .before .before .before .before .before .before .before .before .pre .0 .0) j))
 
 add-i : tie.Need-add-i Inv-loop μ-loop
 add-i c = search needs
@@ -56,12 +56,12 @@ loop-less c = search needs
 
 loop-again : tie.Need-loop-again Inv-loop μ-loop
 loop-again c =
-    let a = c .before .before .before .before .before .before .before .before .before .before .before .before .args in
+    let a = c .before .before .before .before .before .before .before .before .before .before .before .before .before .args in
     let l = c .before .before .before .before .before .before .loop in
     let w = c .before .before .write-child in
-    let f = c .before .before .before .before .before .before .before .before .before .before .cut in
+    let f = c .before .before .before .before .before .before .before .before .before .before .cut-from in
     rw (add-one (l .i))
-    (rows-more (a .cells .now) (a .at) (a .level) (a .parent) (a .regular) (λ d. getD (a .points .now) d 0) (a .pattern) (c .before .before .before .before .before .before .before .before .before .before .before .before .pre .0) (c .before .before .before .before .before .before .before .before .before .before .before .before .pre .1) (l .cells) (l .i) (l .inv)
+    (rows-more (a .cells .now) (a .at) (a .level) (a .parent) (a .regular) (λ d. getD (a .points .now) d 0) (a .pattern) (c .before .before .before .before .before .before .before .before .before .before .before .before .before .pre .0 .0) (c .before .before .before .before .before .before .before .before .before .before .before .before .before .pre .0 .1) (l .cells) (l .i) (l .inv)
     (omega (arith, size (c .before .before .before .before .before .before .before .before .before .before))) (w .last .0) (w .kept .0)
     (w .ensures
     ∙ rw (c .before .before .before .before .before .before .before .flag .ensures, ap (λ (g : Family). g .digits) (f .ensures))))
@@ -74,10 +74,10 @@ same-length c = c .before .loop .inv .long
 
 returns : tie.Need-returns Inv-loop μ-loop
 returns c =
-    let a = c .before .before .before .before .before .before .before .args in
+    let a = c .before .before .before .before .before .before .before .before .args in
     let l = c .before .loop in (
       rw (size (c .before .before .before .before .before)),
-      rows-all (a .cells .now) (a .at) (a .level) (a .parent) (a .regular) (λ d. getD (a .points .now) d 0) (a .pattern) (c .before .before .before .before .before .before .before .pre .0) (c .before .before .before .before .before .before .before .pre .1) (l .cells) (l .i) (l .inv)
+      rows-all (a .cells .now) (a .at) (a .level) (a .parent) (a .regular) (λ d. getD (a .points .now) d 0) (a .pattern) (c .before .before .before .before .before .before .before .before .pre .0 .0) (c .before .before .before .before .before .before .before .before .pre .0 .1) (l .cells) (l .i) (l .inv)
           (omega (arith, size (c .before .before .before .before .before), l .inv .below)),
     )
 
@@ -87,7 +87,7 @@ write-children-spec =
     (tie.spec
     Inv-loop
     μ-loop
-    cut-requires
+    cut-from-requires
     cast-count
     flag-requires
     loop-holds

@@ -16,34 +16,34 @@ use Rattle.renew.proofs.fill.Statement.{statement}
 use Rattle.renew.proofs.fill.Tie as tie
 
 abbrev Inv-loop : tie.InvT-loop
-Inv-loop mesh n status kids red rows₀ xs₀ ys₀ heads₀ links₀ ps₀ qs₀ mid-heads₀ mid-links₀ old₀ table₀ coarse first₀ last₀ level₀ k₀ m₀ rows xs ys heads links ps qs mid-heads mid-links old table first last level k m = Lengths rows₀ xs₀ ys₀ heads₀ links₀ ps₀ qs₀ mid-heads₀ mid-links₀ rows xs ys heads links ps qs mid-heads mid-links
+Inv-loop mesh n status kids red rows₀ xs₀ ys₀ heads₀ links₀ ps₀ qs₀ mid-heads₀ mid-links₀ old₀ table₀ digits coarse first₀ last₀ level₀ k₀ m₀ rows xs ys heads links ps qs mid-heads mid-links old table first last level k m = Lengths rows₀ xs₀ ys₀ heads₀ links₀ ps₀ qs₀ mid-heads₀ mid-links₀ rows xs ys heads links ps qs mid-heads mid-links
     × (length old ≡ length old₀) × (length table ≡ length table₀)
     × Going n (fours mesh) status red level first last rows xs ys heads links k ps qs mid-heads mid-links m old table
 
 abbrev μ-loop : tie.MeasureT-loop
-μ-loop mesh n status kids red rows₀ xs₀ ys₀ heads₀ links₀ ps₀ qs₀ mid-heads₀ mid-links₀ old₀ table₀ coarse first₀ last₀ level₀ k₀ m₀ rows xs ys heads links ps qs mid-heads mid-links old table first last level k m = 11 - level
+μ-loop mesh n status kids red rows₀ xs₀ ys₀ heads₀ links₀ ps₀ qs₀ mid-heads₀ mid-links₀ old₀ table₀ digits coarse first₀ last₀ level₀ k₀ m₀ rows xs ys heads links ps qs mid-heads mid-links old table first last level k m = 11 - level
 
 lay-coarse-requires : tie.Need-lay-coarse-requires Inv-loop μ-loop
-lay-coarse-requires c κs = c .before .before .before .before .before .before .before .before .before .before .before .before .before .before .before .before .pre .0 .coarse
+lay-coarse-requires c κs = c .before .before .before .before .before .before .before .before .before .before .before .before .before .before .before .before .before .pre .0 .coarse
 
 old-coarse-requires : tie.Need-old-coarse-requires Inv-loop μ-loop
 old-coarse-requires c κs =
-    let a = c .before .before .before .before .before .before .before .before .before .before .before .before .before .before .before .before .before .before .before .before .args in
+    let a = c .before .before .before .before .before .before .before .before .before .before .before .before .before .before .before .before .before .before .before .before .before .args in
     let i = c .before .before .before .lay-coarse in
-    let f = few-coarse (a .n) (a .mesh .now) (a .rows .now) (a .xs .now) (a .ys .now) (a .heads .now) (a .links .now) (a .ps .now) (a .qs .now) (a .mid-heads .now) (a .mid-links .now) (c .before .before .before .before .before .before .before .before .before .before .before .before .before .before .before .before .before .before .before .before .pre .0) (i .last .1 .0) (i .result) (i .ensures .0) in
-    (f, omega (arith, c .before .before .before .before .before .before .before .before .before .before .before .before .before .before .before .before .before .before .before .before .pre .1 .1 .1 .1))
+    let f = few-coarse (a .n) (a .mesh .now) (a .rows .now) (a .xs .now) (a .ys .now) (a .heads .now) (a .links .now) (a .ps .now) (a .qs .now) (a .mid-heads .now) (a .mid-links .now) (c .before .before .before .before .before .before .before .before .before .before .before .before .before .before .before .before .before .before .before .before .before .pre .0) (i .last .1 .0) (i .result) (i .ensures .0) in
+    (f, omega (arith, c .before .before .before .before .before .before .before .before .before .before .before .before .before .before .before .before .before .before .before .before .before .pre .1 .1 .1 .0 .1))
 
 loop-holds : tie.Need-loop-holds Inv-loop μ-loop
 loop-holds c =
-    let a = c .before .before .before .before .before .before .before .before .before .before .before .before .before .before .before .before .before .before .before .before .before .before .before .args in
-    let p = c .before .before .before .before .before .before .before .before .before .before .before .before .before .before .before .before .before .before .before .before .before .before .before .pre in
+    let a = c .before .before .before .before .before .before .before .before .before .before .before .before .before .before .before .before .before .before .before .before .before .before .before .before .args in
+    let p = c .before .before .before .before .before .before .before .before .before .before .before .before .before .before .before .before .before .before .before .before .before .before .before .before .pre in
     let i = c .before .before .before .before .before .before .lay-coarse in
     let o = c .before .before .old-coarse in (
       record { l0 = refl; l1 = refl; l2 = refl; l3 = refl; l4 = refl; l5 = refl; l6 = refl; l7 = refl; l8 = refl },
       refl,
       refl,
       going-start (a .n) (a .mesh .now) (a .rows .now) (a .xs .now) (a .ys .now) (a .heads .now) (a .links .now) (a .ps .now) (a .qs .now) (a .mid-heads .now) (a .mid-links .now) (p .0)
-          (i .last .1 .0) (i .result) (i .ensures .0) (i .ensures .1) (i .kept .1 .0) (a .status .now) (a .red .now) (a .old .now) (o .last .1 .0) (a .table .now) (o .ensures) (omega (arith, o .kept .1 .0, p .1 .1 .1 .1)) (p .1 .1 .1 .2),
+          (i .last .1 .0) (i .result) (i .ensures .0) (i .ensures .1) (i .kept .1 .0) (a .status .now) (a .red .now) (a .old .now) (o .last .1 .0) (a .table .now) (o .ensures) (omega (arith, o .kept .1 .0, p .1 .1 .1 .0 .1)) (p .1 .1 .1 .0 .2),
     )
 
 make-level-requires : tie.Need-make-level-requires Inv-loop μ-loop
@@ -52,8 +52,8 @@ make-level-requires c κs =
     let h = g .here in
     (h .reds, (omega (arith, h .end), h .few, omega (arith, h .few, g .in-old), omega (arith, h .few, g .in-table), omega (arith, h .few, h .long)))
 
-add-t45 : tie.Need-add-t45 Inv-loop μ-loop
-add-t45 c = omega (arith, c .before .before .before .before .before .before .before .before .before .before .before .before .before .before .before .before .before .before .before .before .loop .inv .3 .here .low)
+add-t46 : tie.Need-add-t46 Inv-loop μ-loop
+add-t46 c = omega (arith, c .before .before .before .before .before .before .before .before .before .before .before .before .before .before .before .before .before .before .before .before .loop .inv .3 .here .low)
 
 same-length : tie.Need-same-length Inv-loop μ-loop
 same-length c = c .before .before .before .before .before .before .before .before .before .before .before .before .before .before .before .before .before .before .before .before .loop .inv .0 .l0 ∙ c .before .before .before .before .before .before .before .before .before .before .before .before .before .before .before .before .before .before .before .before .before .before .before .before .before .before .before .lay-coarse .kept .1 .0
@@ -90,11 +90,11 @@ same-length-11 c = c .before .before .before .before .before .before .before .be
 
 returns : tie.Need-returns Inv-loop μ-loop
 returns c =
-    let a = c .before .before .before .before .before .before .before .before .before .before .before .before .before .before .before .before .before .before .before .before .before .before .before .before .before .before .before .before .before .before .before .before .before .before .before .before .before .before .before .before .before .before .before .before .args in
-    let p = c .before .before .before .before .before .before .before .before .before .before .before .before .before .before .before .before .before .before .before .before .before .before .before .before .before .before .before .before .before .before .before .before .before .before .before .before .before .before .before .before .before .before .before .before .pre in
+    let a = c .before .before .before .before .before .before .before .before .before .before .before .before .before .before .before .before .before .before .before .before .before .before .before .before .before .before .before .before .before .before .before .before .before .before .before .before .before .before .before .before .before .before .before .before .before .args in
+    let p = c .before .before .before .before .before .before .before .before .before .before .before .before .before .before .before .before .before .before .before .before .before .before .before .before .before .before .before .before .before .before .before .before .before .before .before .before .before .before .before .before .before .before .before .before .before .pre in
     let l = c .before .before .before .before .before .before .before .before .before .before .before .before .before .before .before .before .before .before .before .before .loop in
     let t = c .before .before .before .before .before .before .before .before .before .before .before .before .make-level in
-    result-end (a .n) (fours (a .mesh .now)) (a .status .now) (a .red .now) (l .level) (l .first) (l .last) (l .rows) (l .xs) (l .ys) (l .heads) (l .links) (l .k) (l .ps) (l .qs) (l .mid-heads) (l .mid-links) (l .m) (l .old) (l .table) (l .inv .3) (p .1 .1 .1 .0)
+    result-end (a .n) (fours (a .mesh .now)) (a .status .now) (a .red .now) (l .level) (l .first) (l .last) (l .rows) (l .xs) (l .ys) (l .heads) (l .links) (l .k) (l .ps) (l .qs) (l .mid-heads) (l .mid-links) (l .m) (l .old) (l .table) (l .inv .3) (p .1 .1 .1 .0 .0)
     (t .last .1 .1 .1 .1 .1 .0) (t .last .1 .1 .1 .1 .1 .1 .0) (t .last .1 .1 .1 .1 .1 .1 .1 .0) (t .last .1 .1 .1 .1 .1 .1 .1 .1 .0) (t .last .1 .1 .1 .1 .1 .1 .1 .1 .1 .0) (t .result .n) (t .result .size) (t .ensures) (t .kept .1 .1 .1 .1 .1 .0) (t .kept .1 .1 .1 .1 .1 .1 .0) (t .kept .1 .1 .1 .1 .1 .1 .1 .0) (t .kept .1 .1 .1 .1 .1 .1 .1 .1 .1 .0) (omega (arith, c .if1 .taken, l .inv .3 .here .few)) (c .if1 .taken)
 
 refused-requires : tie.Need-refused-requires Inv-loop μ-loop
@@ -135,12 +135,12 @@ same-length-22 c = c .before .before .before .before .before .before .before .be
 
 returns-2 : tie.Need-returns-2 Inv-loop μ-loop
 returns-2 c =
-    let a = c .before .before .before .before .before .before .before .before .before .before .before .before .before .before .before .before .before .before .before .before .before .before .before .before .before .before .before .before .before .before .before .before .before .before .before .before .before .before .before .before .before .before .before .before .before .before .args in
-    let p = c .before .before .before .before .before .before .before .before .before .before .before .before .before .before .before .before .before .before .before .before .before .before .before .before .before .before .before .before .before .before .before .before .before .before .before .before .before .before .before .before .before .before .before .before .before .before .pre in
+    let a = c .before .before .before .before .before .before .before .before .before .before .before .before .before .before .before .before .before .before .before .before .before .before .before .before .before .before .before .before .before .before .before .before .before .before .before .before .before .before .before .before .before .before .before .before .before .before .before .args in
+    let p = c .before .before .before .before .before .before .before .before .before .before .before .before .before .before .before .before .before .before .before .before .before .before .before .before .before .before .before .before .before .before .before .before .before .before .before .before .before .before .before .before .before .before .before .before .before .before .before .pre in
     let l = c .before .before .before .before .before .before .before .before .before .before .before .before .before .before .before .before .before .before .before .before .before .before .loop in
     let t = c .before .before .before .before .before .before .before .before .before .before .before .before .before .before .make-level in
     result-high (a .n) (fours (a .mesh .now)) (a .status .now) (a .red .now) (l .rows) (l .ps) (l .qs) (t .last .1 .1 .1 .1 .1 .0) (c .refused .result .refusal) (c .refused .result .cells) (c .refused .result .levels) (c .refused .result .mids) (c .refused .ensures)
-    (found-high (a .n) (fours (a .mesh .now)) (a .status .now) (a .red .now) (l .level) (l .first) (l .last) (l .rows) (l .xs) (l .ys) (l .heads) (l .links) (l .k) (l .ps) (l .qs) (l .mid-heads) (l .mid-links) (l .m) (l .old) (l .table) (l .inv .3) (p .1 .1 .1 .0)
+    (found-high (a .n) (fours (a .mesh .now)) (a .status .now) (a .red .now) (l .level) (l .first) (l .last) (l .rows) (l .xs) (l .ys) (l .heads) (l .links) (l .k) (l .ps) (l .qs) (l .mid-heads) (l .mid-links) (l .m) (l .old) (l .table) (l .inv .3) (p .1 .1 .1 .0 .0)
     (t .last .1 .1 .1 .1 .1 .0) (t .last .1 .1 .1 .1 .1 .1 .0) (t .last .1 .1 .1 .1 .1 .1 .1 .0) (t .last .1 .1 .1 .1 .1 .1 .1 .1 .0) (t .last .1 .1 .1 .1 .1 .1 .1 .1 .1 .0) (t .result .n) (t .result .size) (t .ensures) (c .before .before .if1 .left) (c .before .if2 .taken))
 
 sub-if3 : tie.Need-sub-if3 Inv-loop μ-loop
@@ -184,12 +184,12 @@ same-length-33 c = c .before .before .before .before .before .before .before .be
 
 returns-3 : tie.Need-returns-3 Inv-loop μ-loop
 returns-3 c =
-    let a = c .before .before .before .before .before .before .before .before .before .before .before .before .before .before .before .before .before .before .before .before .before .before .before .before .before .before .before .before .before .before .before .before .before .before .before .before .before .before .before .before .before .before .before .before .before .before .before .before .args in
-    let p = c .before .before .before .before .before .before .before .before .before .before .before .before .before .before .before .before .before .before .before .before .before .before .before .before .before .before .before .before .before .before .before .before .before .before .before .before .before .before .before .before .before .before .before .before .before .before .before .before .pre in
+    let a = c .before .before .before .before .before .before .before .before .before .before .before .before .before .before .before .before .before .before .before .before .before .before .before .before .before .before .before .before .before .before .before .before .before .before .before .before .before .before .before .before .before .before .before .before .before .before .before .before .before .args in
+    let p = c .before .before .before .before .before .before .before .before .before .before .before .before .before .before .before .before .before .before .before .before .before .before .before .before .before .before .before .before .before .before .before .before .before .before .before .before .before .before .before .before .before .before .before .before .before .before .before .before .before .pre in
     let l = c .before .before .before .before .before .before .before .before .before .before .before .before .before .before .before .before .before .before .before .before .before .before .before .before .loop in
     let t = c .before .before .before .before .before .before .before .before .before .before .before .before .before .before .before .before .make-level in
     result-many (a .n) (fours (a .mesh .now)) (a .status .now) (a .red .now) (l .rows) (l .ps) (l .qs) (t .last .1 .1 .1 .1 .1 .0) (c .refused2 .result .refusal) (c .refused2 .result .cells) (c .refused2 .result .levels) (c .refused2 .result .mids) (c .refused2 .ensures)
-    (found-many (a .n) (fours (a .mesh .now)) (a .status .now) (a .red .now) (l .level) (l .first) (l .last) (l .rows) (l .xs) (l .ys) (l .heads) (l .links) (l .k) (l .ps) (l .qs) (l .mid-heads) (l .mid-links) (l .m) (l .old) (l .table) (l .inv .3) (p .1 .1 .1 .0)
+    (found-many (a .n) (fours (a .mesh .now)) (a .status .now) (a .red .now) (l .level) (l .first) (l .last) (l .rows) (l .xs) (l .ys) (l .heads) (l .links) (l .k) (l .ps) (l .qs) (l .mid-heads) (l .mid-links) (l .m) (l .old) (l .table) (l .inv .3) (p .1 .1 .1 .0 .0)
     (t .last .1 .1 .1 .1 .1 .0) (t .last .1 .1 .1 .1 .1 .1 .0) (t .last .1 .1 .1 .1 .1 .1 .1 .0) (t .last .1 .1 .1 .1 .1 .1 .1 .1 .0) (t .last .1 .1 .1 .1 .1 .1 .1 .1 .1 .0) (t .result .n) (t .result .size) (t .ensures) (omega (arith, c .before .if3 .taken, l .inv .3 .here .few)))
 
 add-grow-level : tie.Need-add-grow-level Inv-loop μ-loop
@@ -200,26 +200,28 @@ cast-grow-level c = omega (arith, c .before .before .before .before .before .bef
 
 grow-level-requires : tie.Need-grow-level-requires Inv-loop μ-loop
 grow-level-requires c κs =
-    let a = c .before .before .before .before .before .before .before .before .before .before .before .before .before .before .before .before .before .before .before .before .before .before .before .before .before .before .before .before .before .before .before .before .before .before .before .before .before .before .before .before .before .before .before .before .before .before .before .before .before .before .before .before .before .args in
-    let p = c .before .before .before .before .before .before .before .before .before .before .before .before .before .before .before .before .before .before .before .before .before .before .before .before .before .before .before .before .before .before .before .before .before .before .before .before .before .before .before .before .before .before .before .before .before .before .before .before .before .before .before .before .before .pre in
+    let a = c .before .before .before .before .before .before .before .before .before .before .before .before .before .before .before .before .before .before .before .before .before .before .before .before .before .before .before .before .before .before .before .before .before .before .before .before .before .before .before .before .before .before .before .before .before .before .before .before .before .before .before .before .before .before .args in
+    let p = c .before .before .before .before .before .before .before .before .before .before .before .before .before .before .before .before .before .before .before .before .before .before .before .before .before .before .before .before .before .before .before .before .before .before .before .before .before .before .before .before .before .before .before .before .before .before .before .before .before .before .before .before .before .before .pre in
     let l = c .before .before .before .before .before .before .before .before .before .before .before .before .before .before .before .before .before .before .before .before .before .before .before .before .before .before .before .before .before .loop in
-    let t = c .before .before .before .before .before .before .before .before .before .before .before .before .before .before .before .before .before .before .before .before .before .make-level in
-    room-next (a .n) (fours (a .mesh .now)) (a .status .now) (a .red .now) (l .level) (l .first) (l .last) (l .rows) (l .xs) (l .ys) (l .heads) (l .links) (l .k) (l .ps) (l .qs) (l .mid-heads) (l .mid-links) (l .m) (l .old) (l .table) (l .inv .3) (p .1 .1 .1 .0)
-    (t .last .1 .1 .1 .1 .1 .0) (t .last .1 .1 .1 .1 .1 .1 .0) (t .last .1 .1 .1 .1 .1 .1 .1 .0) (t .last .1 .1 .1 .1 .1 .1 .1 .1 .0) (t .last .1 .1 .1 .1 .1 .1 .1 .1 .1 .0) (t .result .n) (t .result .size) (t .ensures) (t .kept .1 .1 .1 .1 .1 .0) (t .kept .1 .1 .1 .1 .1 .1 .0) (t .kept .1 .1 .1 .1 .1 .1 .1 .0) (t .kept .1 .1 .1 .1 .1 .1 .1 .1 .1 .0) (omega (arith, c .before .before .before .before .before .before .if3 .left, l .inv .3 .here .few)) (p .0 .corners)
+    let t = c .before .before .before .before .before .before .before .before .before .before .before .before .before .before .before .before .before .before .before .before .before .make-level in (
+      room-next (a .n) (fours (a .mesh .now)) (a .status .now) (a .red .now) (l .level) (l .first) (l .last) (l .rows) (l .xs) (l .ys) (l .heads) (l .links) (l .k) (l .ps) (l .qs) (l .mid-heads) (l .mid-links) (l .m) (l .old) (l .table) (l .inv .3) (p .1 .1 .1 .0 .0)
+          (t .last .1 .1 .1 .1 .1 .0) (t .last .1 .1 .1 .1 .1 .1 .0) (t .last .1 .1 .1 .1 .1 .1 .1 .0) (t .last .1 .1 .1 .1 .1 .1 .1 .1 .0) (t .last .1 .1 .1 .1 .1 .1 .1 .1 .1 .0) (t .result .n) (t .result .size) (t .ensures) (t .kept .1 .1 .1 .1 .1 .0) (t .kept .1 .1 .1 .1 .1 .1 .0) (t .kept .1 .1 .1 .1 .1 .1 .1 .0) (t .kept .1 .1 .1 .1 .1 .1 .1 .1 .1 .0) (omega (arith, c .before .before .before .before .before .before .if3 .left, l .inv .3 .here .few)) (p .0 .corners),
+      p .1 .1 .1 .1,
+    )
 
 old-level-requires : tie.Need-old-level-requires Inv-loop μ-loop
 old-level-requires c κs =
-    let a = c .before .before .before .before .before .before .before .before .before .before .before .before .before .before .before .before .before .before .before .before .before .before .before .before .before .before .before .before .before .before .before .before .before .before .before .before .before .before .before .before .before .before .before .before .before .before .before .before .before .before .before .before .before .before .before .before .before .before .before .before .before .before .before .before .before .before .args in
-    let p = c .before .before .before .before .before .before .before .before .before .before .before .before .before .before .before .before .before .before .before .before .before .before .before .before .before .before .before .before .before .before .before .before .before .before .before .before .before .before .before .before .before .before .before .before .before .before .before .before .before .before .before .before .before .before .before .before .before .before .before .before .before .before .before .before .before .before .pre in
+    let a = c .before .before .before .before .before .before .before .before .before .before .before .before .before .before .before .before .before .before .before .before .before .before .before .before .before .before .before .before .before .before .before .before .before .before .before .before .before .before .before .before .before .before .before .before .before .before .before .before .before .before .before .before .before .before .before .before .before .before .before .before .before .before .before .before .before .before .before .args in
+    let p = c .before .before .before .before .before .before .before .before .before .before .before .before .before .before .before .before .before .before .before .before .before .before .before .before .before .before .before .before .before .before .before .before .before .before .before .before .before .before .before .before .before .before .before .before .before .before .before .before .before .before .before .before .before .before .before .before .before .before .before .before .before .before .before .before .before .before .before .pre in
     let l = c .before .before .before .before .before .before .before .before .before .before .before .before .before .before .before .before .before .before .before .before .before .before .before .before .before .before .before .before .before .before .before .before .before .before .before .before .before .before .before .before .before .before .loop in
     let t = c .before .before .before .before .before .before .before .before .before .before .before .before .before .before .before .before .before .before .before .before .before .before .before .before .before .before .before .before .before .before .before .before .before .before .make-level in
     let i = c .before .before .before .before .before .before .before .before .before .before .before .before .before .before .before .before .before .before .before .before .before .before .before .before .before .before .before .before .before .before .before .before .before .before .before .before .before .before .before .before .before .before .before .before .before .before .before .before .before .lay-coarse in
     let g = l .inv .3 in
-    let z = room-sizes (a .n) (fours (a .mesh .now)) (a .status .now) (a .red .now) (l .level) (l .first) (l .last) (l .rows) (l .xs) (l .ys) (l .heads) (l .links) (l .k) (l .ps) (l .qs) (l .mid-heads) (l .mid-links) (l .m) (l .old) (l .table) (l .inv .3) (p .1 .1 .1 .0)
+    let z = room-sizes (a .n) (fours (a .mesh .now)) (a .status .now) (a .red .now) (l .level) (l .first) (l .last) (l .rows) (l .xs) (l .ys) (l .heads) (l .links) (l .k) (l .ps) (l .qs) (l .mid-heads) (l .mid-links) (l .m) (l .old) (l .table) (l .inv .3) (p .1 .1 .1 .0 .0)
     (t .last .1 .1 .1 .1 .1 .0) (t .last .1 .1 .1 .1 .1 .1 .0) (t .last .1 .1 .1 .1 .1 .1 .1 .0) (t .last .1 .1 .1 .1 .1 .1 .1 .1 .0) (t .last .1 .1 .1 .1 .1 .1 .1 .1 .1 .0) (t .result .n) (t .result .size) (t .ensures) (t .kept .1 .1 .1 .1 .1 .0) (t .kept .1 .1 .1 .1 .1 .1 .0) (t .kept .1 .1 .1 .1 .1 .1 .1 .0) (t .kept .1 .1 .1 .1 .1 .1 .1 .1 .1 .0) (omega (arith, c .before .before .before .before .before .before .before .before .before .before .before .before .before .before .before .before .before .before .before .if3 .left, l .inv .3 .here .few)) in
-    let q = small-own (a .n) (fours (a .mesh .now)) (a .status .now) (a .red .now) (l .level) (l .first) (l .last) (l .rows) (l .xs) (l .ys) (l .heads) (l .links) (l .k) (l .ps) (l .qs) (l .mid-heads) (l .mid-links) (l .m) (l .old) (l .table) (l .inv .3) (p .1 .1 .1 .0)
+    let q = small-own (a .n) (fours (a .mesh .now)) (a .status .now) (a .red .now) (l .level) (l .first) (l .last) (l .rows) (l .xs) (l .ys) (l .heads) (l .links) (l .k) (l .ps) (l .qs) (l .mid-heads) (l .mid-links) (l .m) (l .old) (l .table) (l .inv .3) (p .1 .1 .1 .0 .0)
     (t .last .1 .1 .1 .1 .1 .0) (t .last .1 .1 .1 .1 .1 .1 .0) (t .last .1 .1 .1 .1 .1 .1 .1 .0) (t .last .1 .1 .1 .1 .1 .1 .1 .1 .0) (t .last .1 .1 .1 .1 .1 .1 .1 .1 .1 .0) (t .result .n) (t .result .size) (t .ensures) (t .kept .1 .1 .1 .1 .1 .0) (t .kept .1 .1 .1 .1 .1 .1 .0) (t .kept .1 .1 .1 .1 .1 .1 .1 .0) (t .kept .1 .1 .1 .1 .1 .1 .1 .1 .1 .0) (omega (arith, c .before .before .before .before .before .before .before .before .before .before .before .before .before .before .before .before .before .before .before .if3 .left, l .inv .3 .here .few)) in
-    let f = few-coarse (a .n) (a .mesh .now) (a .rows .now) (a .xs .now) (a .ys .now) (a .heads .now) (a .links .now) (a .ps .now) (a .qs .now) (a .mid-heads .now) (a .mid-links .now) (c .before .before .before .before .before .before .before .before .before .before .before .before .before .before .before .before .before .before .before .before .before .before .before .before .before .before .before .before .before .before .before .before .before .before .before .before .before .before .before .before .before .before .before .before .before .before .before .before .before .before .before .before .before .before .before .before .before .before .before .before .before .before .before .before .before .before .pre .0) (i .last .1 .0) (i .result) (i .ensures .0) in (
+    let f = few-coarse (a .n) (a .mesh .now) (a .rows .now) (a .xs .now) (a .ys .now) (a .heads .now) (a .links .now) (a .ps .now) (a .qs .now) (a .mid-heads .now) (a .mid-links .now) (c .before .before .before .before .before .before .before .before .before .before .before .before .before .before .before .before .before .before .before .before .before .before .before .before .before .before .before .before .before .before .before .before .before .before .before .before .before .before .before .before .before .before .before .before .before .before .before .before .before .before .before .before .before .before .before .before .before .before .before .before .before .before .before .before .before .before .before .pre .0) (i .last .1 .0) (i .result) (i .ensures .0) in (
       record { coarse = f; statuses = p .1 .0; kids = rw (i .ensures .0) (p .1 .1 .0) },
       ((omega (arith, g .here .end), omega arith, omega (arith, g .here .few, g .in-table, t .kept .1 .1 .1 .1 .1 .0), omega (arith, z, g .in-old, g .here .few, c .before .before .before .before .before .before .before .before .before .before .before .before .before .before .before .before .before .before .before .if3 .left)), q),
     )
@@ -232,8 +234,8 @@ loop-less c = omega (arith, c .before .before .before .before .before .before .b
 
 loop-again : tie.Need-loop-again Inv-loop μ-loop
 loop-again c =
-    let a = c .before .before .before .before .before .before .before .before .before .before .before .before .before .before .before .before .before .before .before .before .before .before .before .before .before .before .before .before .before .before .before .before .before .before .before .before .before .before .before .before .before .before .before .before .before .before .before .before .before .before .before .before .before .before .before .before .before .before .before .before .before .before .before .before .before .before .before .before .before .args in
-    let p = c .before .before .before .before .before .before .before .before .before .before .before .before .before .before .before .before .before .before .before .before .before .before .before .before .before .before .before .before .before .before .before .before .before .before .before .before .before .before .before .before .before .before .before .before .before .before .before .before .before .before .before .before .before .before .before .before .before .before .before .before .before .before .before .before .before .before .before .before .before .pre in
+    let a = c .before .before .before .before .before .before .before .before .before .before .before .before .before .before .before .before .before .before .before .before .before .before .before .before .before .before .before .before .before .before .before .before .before .before .before .before .before .before .before .before .before .before .before .before .before .before .before .before .before .before .before .before .before .before .before .before .before .before .before .before .before .before .before .before .before .before .before .before .before .before .args in
+    let p = c .before .before .before .before .before .before .before .before .before .before .before .before .before .before .before .before .before .before .before .before .before .before .before .before .before .before .before .before .before .before .before .before .before .before .before .before .before .before .before .before .before .before .before .before .before .before .before .before .before .before .before .before .before .before .before .before .before .before .before .before .before .before .before .before .before .before .before .before .before .before .pre in
     let l = c .before .before .before .before .before .before .before .before .before .before .before .before .before .before .before .before .before .before .before .before .before .before .before .before .before .before .before .before .before .before .before .before .before .before .before .before .before .before .before .before .before .before .before .before .before .loop in
     let t = c .before .before .before .before .before .before .before .before .before .before .before .before .before .before .before .before .before .before .before .before .before .before .before .before .before .before .before .before .before .before .before .before .before .before .before .before .before .make-level in
     let i = c .before .before .before .before .before .before .before .before .before .before .before .before .before .before .before .before .before .before .before .before .before .before .before .before .before .before .before .before .before .before .before .before .before .before .before .before .before .before .before .before .before .before .before .before .before .before .before .before .before .before .before .before .lay-coarse in
@@ -253,7 +255,7 @@ loop-again c =
       },
       o .kept .1 .1 .1 .1 .1 .1 .0 ∙ l .inv .1,
       t .kept .1 .1 .1 .1 .1 .0 ∙ l .inv .2,
-      rw (add-one (l .level)) (going-next (a .n) (fours (a .mesh .now)) (a .status .now) (a .red .now) (l .level) (l .first) (l .last) (l .rows) (l .xs) (l .ys) (l .heads) (l .links) (l .k) (l .ps) (l .qs) (l .mid-heads) (l .mid-links) (l .m) (l .old) (l .table) (l .inv .3) (p .1 .1 .1 .0)
+      rw (add-one (l .level)) (going-next (a .n) (fours (a .mesh .now)) (a .status .now) (a .red .now) (l .level) (l .first) (l .last) (l .rows) (l .xs) (l .ys) (l .heads) (l .links) (l .k) (l .ps) (l .qs) (l .mid-heads) (l .mid-links) (l .m) (l .old) (l .table) (l .inv .3) (p .1 .1 .1 .0 .0)
           (t .last .1 .1 .1 .1 .1 .0) (t .last .1 .1 .1 .1 .1 .1 .0) (t .last .1 .1 .1 .1 .1 .1 .1 .0) (t .last .1 .1 .1 .1 .1 .1 .1 .1 .0) (t .last .1 .1 .1 .1 .1 .1 .1 .1 .1 .0) (t .result .n) (t .result .size) (t .ensures) (t .kept .1 .1 .1 .1 .1 .0) (t .kept .1 .1 .1 .1 .1 .1 .0) (t .kept .1 .1 .1 .1 .1 .1 .1 .0) (t .kept .1 .1 .1 .1 .1 .1 .1 .1 .1 .0) (omega (arith, c .before .before .before .before .before .before .before .before .before .before .before .before .before .before .before .before .before .before .before .before .before .before .if3 .left, l .inv .3 .here .few)) (c .before .before .before .before .before .before .before .before .before .before .before .before .before .before .before .before .before .before .before .before .before .before .before .before .before .if1 .left) (c .before .before .before .before .before .before .before .before .before .before .before .before .before .before .before .before .before .before .before .before .before .before .before .before .if2 .left)
           (g .last .0) (g .last .1 .1 .1 .1 .1 .1 .1 .0) (g .last .1 .1 .1 .1 .1 .1 .1 .1 .0) (g .last .1 .1 .1 .1 .1 .1 .1 .1 .1 .0) (g .last .1 .1 .1 .1 .1 .1 .1 .1 .1 .1 .0) (g .result .at) (g .result .m) (rw (add-one (l .level)) at (g .ensures))
           (g .kept .0) (g .kept .1 .1 .1 .1 .1 .1 .1 .0) (g .kept .1 .1 .1 .1 .1 .1 .1 .1 .0) (g .kept .1 .1 .1 .1 .1 .1 .1 .1 .1 .1 .0)
@@ -270,7 +272,7 @@ fill-spec =
     old-coarse-requires
     loop-holds
     make-level-requires
-    add-t45
+    add-t46
     same-length
     same-length-2
     same-length-3

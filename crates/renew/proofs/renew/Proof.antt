@@ -16,6 +16,9 @@ slice-aggregate-clear-2 c = search needs
 clear-requires-2 : tie.Need-clear-requires-2
 clear-requires-2 c κs = search needs
 
+digit-table-requires : tie.Need-digit-table-requires
+digit-table-requires c κs = search needs
+
 slice-aggregate-fill : tie.Need-slice-aggregate-fill
 slice-aggregate-fill c = search needs
 
@@ -37,24 +40,27 @@ slice-aggregate-fill-6 c = search needs
 slice-aggregate-fill-7 : tie.Need-slice-aggregate-fill-7
 slice-aggregate-fill-7 c = search needs
 
+slice-aggregate-fill-8 : tie.Need-slice-aggregate-fill-8
+slice-aggregate-fill-8 c = search needs
+
 fill-requires : tie.Need-fill-requires
 fill-requires c κs =
-    let p = c .before .before .before .before .before .before .before .before .before .before .before .before .before .before .before .before .before .before .before .before .before .before .before .before .before .pre in (
+    let p = c .before .before .before .before .before .before .before .before .before .before .before .before .before .before .before .before .before .before .before .before .before .before .before .before .before .before .before .pre in (
       record {
         coarse = record { whole = p .0 .whole; few = p .0 .few; long = p .1 .1 .1 .1 };
         some = p .0 .some;
         corners = p .0 .corners;
         cells = p .0 .cells;
-        reds = c .before .before .before .before .before .before .before .before .before .before .before .before .before .before .before .clear .ensures .empty _ _ _;
+        reds = c .before .before .before .before .before .before .before .before .before .before .before .before .before .before .before .before .before .clear .ensures .empty _ _ _;
         in-xs = lit≤ tt;
         in-ys = lit≤ tt;
         in-links = lit≤ tt;
-        mids = c .before .before .before .before .before .before .before .before .before .before .before .before .clear2 .ensures .empty _ _ _;
+        mids = c .before .before .before .before .before .before .before .before .before .before .before .before .before .before .clear2 .ensures .empty _ _ _;
         in-ps = p .1 .1 .1 .2;
         in-qs = p .1 .1 .1 .3;
         in-links′ = lit≤ tt;
       },
-      (p .1 .0, (p .1 .1 .0, (p .1 .1 .1 .0, lit≤ tt, p .1 .1 .1 .4))),
+      (p .1 .0, (p .1 .1 .0, ((p .1 .1 .1 .0, lit≤ tt, p .1 .1 .1 .4), c .before .before .before .before .before .before .before .before .before .before .before .before .digit-table .ensures))),
     )
 
 same-length : tie.Need-same-length
@@ -80,6 +86,7 @@ renew-spec =
     clear-requires
     slice-aggregate-clear-2
     clear-requires-2
+    digit-table-requires
     slice-aggregate-fill
     slice-aggregate-fill-2
     slice-aggregate-fill-3
@@ -87,6 +94,7 @@ renew-spec =
     slice-aggregate-fill-5
     slice-aggregate-fill-6
     slice-aggregate-fill-7
+    slice-aggregate-fill-8
     fill-requires
     same-length
     same-length-2

@@ -20,28 +20,28 @@ use Rattle.tables.proofs.build.Statement.{statement}
 use Rattle.tables.proofs.build.Tie as tie
 
 abbrev Inv-loop : tie.InvT-loop
-Inv-loop mesh status n rows₀ xs₀ ys₀ heads₀ links₀ ps₀ qs₀ mid-heads₀ mid-links₀ first₀ last₀ level₀ k₀ m₀ rows xs ys heads links ps qs mid-heads mid-links first last level k m = Lengths rows₀ xs₀ ys₀ heads₀ links₀ ps₀ qs₀ mid-heads₀ mid-links₀ rows xs ys heads links ps qs mid-heads mid-links
+Inv-loop mesh status n rows₀ xs₀ ys₀ heads₀ links₀ ps₀ qs₀ mid-heads₀ mid-links₀ digits first₀ last₀ level₀ k₀ m₀ rows xs ys heads links ps qs mid-heads mid-links first last level k m = Lengths rows₀ xs₀ ys₀ heads₀ links₀ ps₀ qs₀ mid-heads₀ mid-links₀ rows xs ys heads links ps qs mid-heads mid-links
     × Here n (fours mesh) status level first last rows xs ys heads links k ps qs mid-heads mid-links m
 
 abbrev μ-loop : tie.MeasureT-loop
-μ-loop mesh status n rows₀ xs₀ ys₀ heads₀ links₀ ps₀ qs₀ mid-heads₀ mid-links₀ first₀ last₀ level₀ k₀ m₀ rows xs ys heads links ps qs mid-heads mid-links first last level k m = 11 - level
+μ-loop mesh status n rows₀ xs₀ ys₀ heads₀ links₀ ps₀ qs₀ mid-heads₀ mid-links₀ digits first₀ last₀ level₀ k₀ m₀ rows xs ys heads links ps qs mid-heads mid-links first last level k m = 11 - level
 
 lay-coarse-requires : tie.Need-lay-coarse-requires Inv-loop μ-loop
-lay-coarse-requires c κs = c .before .before .before .before .before .before .before .before .before .before .before .before .pre .1 .coarse
+lay-coarse-requires c κs = c .before .before .before .before .before .before .before .before .before .before .before .before .before .pre .1 .0 .coarse
 
 loop-holds : tie.Need-loop-holds Inv-loop μ-loop
 loop-holds c =
-    let a = c .before .before .before .before .before .before .before .before .before .before .before .before .before .before .before .args in
+    let a = c .before .before .before .before .before .before .before .before .before .before .before .before .before .before .before .before .args in
     let i = c .before .before .lay-coarse in (
       record { l0 = refl; l1 = refl; l2 = refl; l3 = refl; l4 = refl; l5 = refl; l6 = refl; l7 = refl; l8 = refl },
-      here-start (a .n) (a .mesh .now) (a .status .now) (a .rows .now) (a .xs .now) (a .ys .now) (a .heads .now) (a .links .now) (a .ps .now) (a .qs .now) (a .mid-heads .now) (a .mid-links .now) (c .before .before .before .before .before .before .before .before .before .before .before .before .before .before .before .pre .1)
+      here-start (a .n) (a .mesh .now) (a .status .now) (a .rows .now) (a .xs .now) (a .ys .now) (a .heads .now) (a .links .now) (a .ps .now) (a .qs .now) (a .mid-heads .now) (a .mid-links .now) (c .before .before .before .before .before .before .before .before .before .before .before .before .before .before .before .before .pre .1 .0)
           (i .last .1 .0) (i .result) (i .ensures .0) (i .ensures .1) (i .kept .1 .0),
     )
 
 check-level-requires : tie.Need-check-level-requires Inv-loop μ-loop
 check-level-requires c κs =
     let h = c .before .before .before .before .before .loop .inv .1 in
-    (c .before .before .before .before .before .before .before .before .before .before .before .before .before .before .before .before .before .before .before .before .before .pre .0, (h .reds, (omega (arith, h .end), omega (arith, h .few, h .long))))
+    (c .before .before .before .before .before .before .before .before .before .before .before .before .before .before .before .before .before .before .before .before .before .before .pre .0, (h .reds, (omega (arith, h .end), omega (arith, h .few, h .long))))
 
 failed-requires : tie.Need-failed-requires Inv-loop μ-loop
 failed-requires c κs = search needs
@@ -76,13 +76,13 @@ same-length-9 c = c .before .before .before .before .before .before .before .bef
 returns : tie.Need-returns Inv-loop μ-loop
 returns c =
     let l = c .before .before .before .before .before .before .before .before .before .before .before .before .before .before .before .before .before .loop in
-    let a = c .before .before .before .before .before .before .before .before .before .before .before .before .before .before .before .before .before .before .before .before .before .before .before .before .before .before .before .before .before .before .before .before .before .args in
+    let a = c .before .before .before .before .before .before .before .before .before .before .before .before .before .before .before .before .before .before .before .before .before .before .before .before .before .before .before .before .before .before .before .before .before .before .args in
     let t = c .before .before .before .before .before .before .before .before .before .before .before .check-level in
-    let u : soundb (a .n) (fours (a .mesh .now)) (a .status .now) ≡ false = turn-fails (a .n) (fours (a .mesh .now)) (a .status .now) (l .level) (l .first) (l .last) (l .rows) (l .xs) (l .ys) (l .heads) (l .links) (l .k) (l .ps) (l .qs) (l .mid-heads) (l .mid-links) (l .m) (l .inv .1) (c .before .before .before .before .before .before .before .before .before .before .before .before .before .before .before .before .before .before .before .before .before .before .before .before .before .before .before .before .before .before .before .before .before .pre .0) (t .last .1 .1 .1 .1 .0) (t .last .1 .1 .1 .1 .1 .0) (t .last .1 .1 .1 .1 .1 .1 .0) (t .last .1 .1 .1 .1 .1 .1 .1 .0) (t .result .ok) (t .result .n) (t .result .size) (t .ensures) (not-true _ (c .before .if1 .taken)) in
+    let u : soundb (a .n) (fours (a .mesh .now)) (a .status .now) ≡ false = turn-fails (a .n) (fours (a .mesh .now)) (a .status .now) (l .level) (l .first) (l .last) (l .rows) (l .xs) (l .ys) (l .heads) (l .links) (l .k) (l .ps) (l .qs) (l .mid-heads) (l .mid-links) (l .m) (l .inv .1) (c .before .before .before .before .before .before .before .before .before .before .before .before .before .before .before .before .before .before .before .before .before .before .before .before .before .before .before .before .before .before .before .before .before .before .pre .0) (t .last .1 .1 .1 .1 .0) (t .last .1 .1 .1 .1 .1 .0) (t .last .1 .1 .1 .1 .1 .1 .0) (t .last .1 .1 .1 .1 .1 .1 .1 .0) (t .result .ok) (t .result .n) (t .result .size) (t .ensures) (not-true _ (c .before .if1 .taken)) in
     record { fails = λ e. u; level = 0; levels-is = λ e. not-both (c .failed .result .ok) e (c .failed .ensures); top = λ e. not-both (c .failed .result .ok) e (c .failed .ensures) }
 
-add-t33 : tie.Need-add-t33 Inv-loop μ-loop
-add-t33 c = omega (arith, c .before .before .before .before .before .before .before .before .before .before .before .before .before .before .before .before .before .before .loop .inv .1 .low)
+add-t34 : tie.Need-add-t34 Inv-loop μ-loop
+add-t34 c = omega (arith, c .before .before .before .before .before .before .before .before .before .before .before .before .before .before .before .before .before .before .loop .inv .1 .low)
 
 same-length-10 : tie.Need-same-length-10 Inv-loop μ-loop
 same-length-10 c = c .before .before .before .before .before .before .before .before .before .before .before .before .before .before .before .before .before .before .loop .inv .0 .l0 ∙ c .before .before .before .before .before .before .before .before .before .before .before .before .before .before .before .before .before .before .before .before .before .lay-coarse .kept .1 .0
@@ -114,13 +114,13 @@ same-length-18 c = c .before .before .before .before .before .before .before .be
 returns-2 : tie.Need-returns-2 Inv-loop μ-loop
 returns-2 c =
     let l = c .before .before .before .before .before .before .before .before .before .before .before .before .before .before .before .before .before .before .loop in
-    let a = c .before .before .before .before .before .before .before .before .before .before .before .before .before .before .before .before .before .before .before .before .before .before .before .before .before .before .before .before .before .before .before .before .before .before .args in
+    let a = c .before .before .before .before .before .before .before .before .before .before .before .before .before .before .before .before .before .before .before .before .before .before .before .before .before .before .before .before .before .before .before .before .before .before .before .args in
     let t = c .before .before .before .before .before .before .before .before .before .before .before .before .check-level in
     record {
       fails = λ e. not-both true refl e;
       level = l .level;
       levels-is = λ e. add-one (l .level);
-      top = λ e. turn-top (a .n) (fours (a .mesh .now)) (a .status .now) (l .level) (l .first) (l .last) (l .rows) (l .xs) (l .ys) (l .heads) (l .links) (l .k) (l .ps) (l .qs) (l .mid-heads) (l .mid-links) (l .m) (l .inv .1) (c .before .before .before .before .before .before .before .before .before .before .before .before .before .before .before .before .before .before .before .before .before .before .before .before .before .before .before .before .before .before .before .before .before .before .pre .0) (t .last .1 .1 .1 .1 .0) (t .last .1 .1 .1 .1 .1 .0) (t .last .1 .1 .1 .1 .1 .1 .0) (t .last .1 .1 .1 .1 .1 .1 .1 .0) (t .result .ok) (t .result .n) (t .result .size) (t .ensures) (not-false _ (c .before .before .if1 .left)) (c .if2 .taken);
+      top = λ e. turn-top (a .n) (fours (a .mesh .now)) (a .status .now) (l .level) (l .first) (l .last) (l .rows) (l .xs) (l .ys) (l .heads) (l .links) (l .k) (l .ps) (l .qs) (l .mid-heads) (l .mid-links) (l .m) (l .inv .1) (c .before .before .before .before .before .before .before .before .before .before .before .before .before .before .before .before .before .before .before .before .before .before .before .before .before .before .before .before .before .before .before .before .before .before .before .pre .0) (t .last .1 .1 .1 .1 .0) (t .last .1 .1 .1 .1 .1 .0) (t .last .1 .1 .1 .1 .1 .1 .0) (t .last .1 .1 .1 .1 .1 .1 .1 .0) (t .result .ok) (t .result .n) (t .result .size) (t .ensures) (not-false _ (c .before .before .if1 .left)) (c .if2 .taken);
     }
 
 failed-requires-2 : tie.Need-failed-requires-2 Inv-loop μ-loop
@@ -156,10 +156,10 @@ same-length-27 c = c .before .before .before .before .before .before .before .be
 returns-3 : tie.Need-returns-3 Inv-loop μ-loop
 returns-3 c =
     let l = c .before .before .before .before .before .before .before .before .before .before .before .before .before .before .before .before .before .before .before .before .loop in
-    let a = c .before .before .before .before .before .before .before .before .before .before .before .before .before .before .before .before .before .before .before .before .before .before .before .before .before .before .before .before .before .before .before .before .before .before .before .before .args in
+    let a = c .before .before .before .before .before .before .before .before .before .before .before .before .before .before .before .before .before .before .before .before .before .before .before .before .before .before .before .before .before .before .before .before .before .before .before .before .before .args in
     let t = c .before .before .before .before .before .before .before .before .before .before .before .before .before .before .check-level in
     let u : soundb (a .n) (fours (a .mesh .now)) (a .status .now) ≡ false =
-    turn-high (a .n) (fours (a .mesh .now)) (a .status .now) (l .level) (l .first) (l .last) (l .rows) (l .xs) (l .ys) (l .heads) (l .links) (l .k) (l .ps) (l .qs) (l .mid-heads) (l .mid-links) (l .m) (l .inv .1) (c .before .before .before .before .before .before .before .before .before .before .before .before .before .before .before .before .before .before .before .before .before .before .before .before .before .before .before .before .before .before .before .before .before .before .before .before .pre .0) (t .last .1 .1 .1 .1 .0) (t .last .1 .1 .1 .1 .1 .0) (t .last .1 .1 .1 .1 .1 .1 .0) (t .last .1 .1 .1 .1 .1 .1 .1 .0) (t .result .ok) (t .result .n) (t .result .size) (t .ensures) (not-false _ (c .before .before .before .before .if1 .left)) (c .before .before .if2 .left) (c .before .if3 .taken) in
+    turn-high (a .n) (fours (a .mesh .now)) (a .status .now) (l .level) (l .first) (l .last) (l .rows) (l .xs) (l .ys) (l .heads) (l .links) (l .k) (l .ps) (l .qs) (l .mid-heads) (l .mid-links) (l .m) (l .inv .1) (c .before .before .before .before .before .before .before .before .before .before .before .before .before .before .before .before .before .before .before .before .before .before .before .before .before .before .before .before .before .before .before .before .before .before .before .before .before .pre .0) (t .last .1 .1 .1 .1 .0) (t .last .1 .1 .1 .1 .1 .0) (t .last .1 .1 .1 .1 .1 .1 .0) (t .last .1 .1 .1 .1 .1 .1 .1 .0) (t .result .ok) (t .result .n) (t .result .size) (t .ensures) (not-false _ (c .before .before .before .before .if1 .left)) (c .before .before .if2 .left) (c .before .if3 .taken) in
     record { fails = λ e. u; level = 0; levels-is = λ e. not-both (c .failed2 .result .ok) e (c .failed2 .ensures); top = λ e. not-both (c .failed2 .result .ok) e (c .failed2 .ensures) }
 
 add-grow-level : tie.Need-add-grow-level Inv-loop μ-loop
@@ -171,9 +171,9 @@ cast-grow-level c = omega (arith, c .before .before .before .before .before .bef
 grow-level-requires : tie.Need-grow-level-requires Inv-loop μ-loop
 grow-level-requires c κs =
     let l = c .before .before .before .before .before .before .before .before .before .before .before .before .before .before .before .before .before .before .before .before .before .before .before .before .loop in
-    let a = c .before .before .before .before .before .before .before .before .before .before .before .before .before .before .before .before .before .before .before .before .before .before .before .before .before .before .before .before .before .before .before .before .before .before .before .before .before .before .before .before .args in
+    let a = c .before .before .before .before .before .before .before .before .before .before .before .before .before .before .before .before .before .before .before .before .before .before .before .before .before .before .before .before .before .before .before .before .before .before .before .before .before .before .before .before .before .args in
     let t = c .before .before .before .before .before .before .before .before .before .before .before .before .before .before .before .before .before .before .check-level in
-    turn-room (a .n) (fours (a .mesh .now)) (a .status .now) (l .level) (l .first) (l .last) (l .rows) (l .xs) (l .ys) (l .heads) (l .links) (l .k) (l .ps) (l .qs) (l .mid-heads) (l .mid-links) (l .m) (l .inv .1) (c .before .before .before .before .before .before .before .before .before .before .before .before .before .before .before .before .before .before .before .before .before .before .before .before .before .before .before .before .before .before .before .before .before .before .before .before .before .before .before .before .pre .0) (t .last .1 .1 .1 .1 .0) (t .last .1 .1 .1 .1 .1 .0) (t .last .1 .1 .1 .1 .1 .1 .0) (t .last .1 .1 .1 .1 .1 .1 .1 .0) (t .result .ok) (t .result .n) (t .result .size) (t .ensures) (not-false _ (c .before .before .before .before .before .before .before .before .if1 .left)) (c .before .before .before .before .before .before .before .before .before .before .before .before .before .before .before .before .before .before .before .before .before .before .before .before .before .before .before .before .before .before .before .before .before .before .before .before .before .before .before .before .pre .1 .corners)
+    (turn-room (a .n) (fours (a .mesh .now)) (a .status .now) (l .level) (l .first) (l .last) (l .rows) (l .xs) (l .ys) (l .heads) (l .links) (l .k) (l .ps) (l .qs) (l .mid-heads) (l .mid-links) (l .m) (l .inv .1) (c .before .before .before .before .before .before .before .before .before .before .before .before .before .before .before .before .before .before .before .before .before .before .before .before .before .before .before .before .before .before .before .before .before .before .before .before .before .before .before .before .before .pre .0) (t .last .1 .1 .1 .1 .0) (t .last .1 .1 .1 .1 .1 .0) (t .last .1 .1 .1 .1 .1 .1 .0) (t .last .1 .1 .1 .1 .1 .1 .1 .0) (t .result .ok) (t .result .n) (t .result .size) (t .ensures) (not-false _ (c .before .before .before .before .before .before .before .before .if1 .left)) (c .before .before .before .before .before .before .before .before .before .before .before .before .before .before .before .before .before .before .before .before .before .before .before .before .before .before .before .before .before .before .before .before .before .before .before .before .before .before .before .before .before .pre .1 .0 .corners), c .before .before .before .before .before .before .before .before .before .before .before .before .before .before .before .before .before .before .before .before .before .before .before .before .before .before .before .before .before .before .before .before .before .before .before .before .before .before .before .before .before .pre .1 .1)
 
 add-level : tie.Need-add-level Inv-loop μ-loop
 add-level c = omega (arith, c .before .before .before .before .before .before .before .before .before .before .before .before .before .before .before .before .before .before .before .before .before .before .before .before .before .before .before .before .before .before .before .before .before .before .before .loop .inv .1 .low)
@@ -184,7 +184,7 @@ loop-less c = omega (arith, c .before .before .before .before .before .before .b
 loop-again : tie.Need-loop-again Inv-loop μ-loop
 loop-again c =
     let l = c .before .before .before .before .before .before .before .before .before .before .before .before .before .before .before .before .before .before .before .before .before .before .before .before .before .before .before .before .before .before .before .before .before .before .before .loop in
-    let a = c .before .before .before .before .before .before .before .before .before .before .before .before .before .before .before .before .before .before .before .before .before .before .before .before .before .before .before .before .before .before .before .before .before .before .before .before .before .before .before .before .before .before .before .before .before .before .before .before .before .before .before .args in
+    let a = c .before .before .before .before .before .before .before .before .before .before .before .before .before .before .before .before .before .before .before .before .before .before .before .before .before .before .before .before .before .before .before .before .before .before .before .before .before .before .before .before .before .before .before .before .before .before .before .before .before .before .before .before .args in
     let t = c .before .before .before .before .before .before .before .before .before .before .before .before .before .before .before .before .before .before .before .before .before .before .before .before .before .before .before .before .before .check-level in
     let g = c .before .before .before .before .before .before .before .before .before .before .grow-level in
     let w = l .inv .0 in (
@@ -199,7 +199,7 @@ loop-again c =
         l7 = g .kept .1 .1 .1 .1 .1 .1 .1 .1 .1 .0 ∙ w .l7;
         l8 = g .kept .1 .1 .1 .1 .1 .1 .1 .1 .1 .1 .0 ∙ w .l8;
       },
-      rw (add-one (l .level)) (turn-next (a .n) (fours (a .mesh .now)) (a .status .now) (l .level) (l .first) (l .last) (l .rows) (l .xs) (l .ys) (l .heads) (l .links) (l .k) (l .ps) (l .qs) (l .mid-heads) (l .mid-links) (l .m) (l .inv .1) (c .before .before .before .before .before .before .before .before .before .before .before .before .before .before .before .before .before .before .before .before .before .before .before .before .before .before .before .before .before .before .before .before .before .before .before .before .before .before .before .before .before .before .before .before .before .before .before .before .before .before .before .pre .0) (t .last .1 .1 .1 .1 .0) (t .last .1 .1 .1 .1 .1 .0) (t .last .1 .1 .1 .1 .1 .1 .0) (t .last .1 .1 .1 .1 .1 .1 .1 .0) (t .result .ok) (t .result .n) (t .result .size) (t .ensures) (not-false _ (c .before .before .before .before .before .before .before .before .before .before .before .before .before .before .before .before .before .before .before .if1 .left)) (c .before .before .before .before .before .before .before .before .before .before .before .before .before .before .before .before .before .if2 .left) (c .before .before .before .before .before .before .before .before .before .before .before .before .before .before .before .before .if3 .left)
+      rw (add-one (l .level)) (turn-next (a .n) (fours (a .mesh .now)) (a .status .now) (l .level) (l .first) (l .last) (l .rows) (l .xs) (l .ys) (l .heads) (l .links) (l .k) (l .ps) (l .qs) (l .mid-heads) (l .mid-links) (l .m) (l .inv .1) (c .before .before .before .before .before .before .before .before .before .before .before .before .before .before .before .before .before .before .before .before .before .before .before .before .before .before .before .before .before .before .before .before .before .before .before .before .before .before .before .before .before .before .before .before .before .before .before .before .before .before .before .before .pre .0) (t .last .1 .1 .1 .1 .0) (t .last .1 .1 .1 .1 .1 .0) (t .last .1 .1 .1 .1 .1 .1 .0) (t .last .1 .1 .1 .1 .1 .1 .1 .0) (t .result .ok) (t .result .n) (t .result .size) (t .ensures) (not-false _ (c .before .before .before .before .before .before .before .before .before .before .before .before .before .before .before .before .before .before .before .if1 .left)) (c .before .before .before .before .before .before .before .before .before .before .before .before .before .before .before .before .before .if2 .left) (c .before .before .before .before .before .before .before .before .before .before .before .before .before .before .before .before .if3 .left)
           (g .last .0) (g .last .1 .1 .1 .1 .1 .1 .1 .0) (g .last .1 .1 .1 .1 .1 .1 .1 .1 .0) (g .last .1 .1 .1 .1 .1 .1 .1 .1 .1 .0) (g .last .1 .1 .1 .1 .1 .1 .1 .1 .1 .1 .0) (g .result .at) (g .result .m) (rw (add-one (l .level)) at (g .ensures))
           (g .kept .0) (g .kept .1 .1 .1 .1 .1 .1 .1 .0) (g .kept .1 .1 .1 .1 .1 .1 .1 .1 .0) (g .kept .1 .1 .1 .1 .1 .1 .1 .1 .1 .1 .0)),
     )
@@ -224,7 +224,7 @@ build-spec =
     same-length-8
     same-length-9
     returns
-    add-t33
+    add-t34
     same-length-10
     same-length-11
     same-length-12

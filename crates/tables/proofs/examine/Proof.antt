@@ -51,6 +51,9 @@ slice-aggregate-clear-2 c = search needs
 clear-requires-2 : tie.Need-clear-requires-2
 clear-requires-2 c κs = search needs
 
+digit-table-requires : tie.Need-digit-table-requires
+digit-table-requires c κs = search needs
+
 slice-aggregate-build : tie.Need-slice-aggregate-build
 slice-aggregate-build c = search needs
 
@@ -69,24 +72,30 @@ slice-aggregate-build-5 c = search needs
 slice-aggregate-build-6 : tie.Need-slice-aggregate-build-6
 slice-aggregate-build-6 c = search needs
 
+slice-aggregate-build-7 : tie.Need-slice-aggregate-build-7
+slice-aggregate-build-7 c = search needs
+
 build-requires : tie.Need-build-requires
 build-requires c κs =
-    let p = c .before .before .before .before .before .before .before .before .before .before .before .before .before .before .before .before .before .before .before .before .before .before .before .pre in (
-      record { few = c .before .before .before .before .before .before .before .before .before .before .before .before .before .before .before .before .before .if1 .left; fit = sym (c .before .before .before .before .before .before .before .before .before .before .before .before .before .before .before .before .fits2 .ensures) ∙ not-false _ (c .before .before .before .before .before .before .before .before .before .before .before .before .before .before .before .if2 .left) },
-      record {
-        coarse = record { whole = p .0 .whole; few = p .0 .few; long = p .1 .0 };
-        some = p .0 .some;
-        corners = p .0 .corners;
-        cells = p .0 .cells;
-        reds = c .before .before .before .before .before .before .before .before .before .before .before .before .before .clear .ensures .empty _ _ _;
-        in-xs = lit≤ tt;
-        in-ys = lit≤ tt;
-        in-links = lit≤ tt;
-        mids = c .before .before .before .before .before .before .before .before .before .before .clear2 .ensures .empty _ _ _;
-        in-ps = p .1 .1;
-        in-qs = p .1 .2;
-        in-links′ = lit≤ tt;
-      },
+    let p = c .before .before .before .before .before .before .before .before .before .before .before .before .before .before .before .before .before .before .before .before .before .before .before .before .before .pre in (
+      record { few = c .before .before .before .before .before .before .before .before .before .before .before .before .before .before .before .before .before .before .before .if1 .left; fit = sym (c .before .before .before .before .before .before .before .before .before .before .before .before .before .before .before .before .before .before .fits2 .ensures) ∙ not-false _ (c .before .before .before .before .before .before .before .before .before .before .before .before .before .before .before .before .before .if2 .left) },
+      (
+        record {
+          coarse = record { whole = p .0 .whole; few = p .0 .few; long = p .1 .0 };
+          some = p .0 .some;
+          corners = p .0 .corners;
+          cells = p .0 .cells;
+          reds = c .before .before .before .before .before .before .before .before .before .before .before .before .before .before .before .clear .ensures .empty _ _ _;
+          in-xs = lit≤ tt;
+          in-ys = lit≤ tt;
+          in-links = lit≤ tt;
+          mids = c .before .before .before .before .before .before .before .before .before .before .before .before .clear2 .ensures .empty _ _ _;
+          in-ps = p .1 .1;
+          in-qs = p .1 .2;
+          in-links′ = lit≤ tt;
+        },
+        c .before .before .before .before .before .before .before .before .before .before .digit-table .ensures,
+      ),
     )
 
 failed-requires-3 : tie.Need-failed-requires-3
@@ -120,7 +129,7 @@ same-length-6 c = c .before .before .before .before .before .before .before .bef
 
 returns-4 : tie.Need-returns-4
 returns-4 c =
-    let a = c .before .before .before .before .before .before .before .before .before .before .before .before .before .before .before .before .before .before .before .before .before .before .before .before .before .before .before .before .before .before .before .before .before .before .before .before .before .before .before .before .args in
+    let a = c .before .before .before .before .before .before .before .before .before .before .before .before .before .before .before .before .before .before .before .before .before .before .before .before .before .before .before .before .before .before .before .before .before .before .before .before .before .before .before .before .before .before .args in
     let b = c .before .before .before .before .before .before .before .before .before .before .before .before .before .before .before .before .build in
     record {
       answer = c .failed4 .ensures ∙ sym (top-not (a .n) (fours (a .mesh .now)) (a .status .now) (b .ensures .level) (b .result .cells) (b .last .1 .1 .1 .0) (b .last .1 .1 .1 .1 .0) (b .last .1 .1 .1 .1 .1 .0) (b .last .1 .1 .1 .1 .1 .1 .0) (b .last .1 .1 .1 .1 .1 .1 .1 .0) (b .result .reds) (b .last .1 .1 .1 .1 .1 .1 .1 .1 .0) (b .last .1 .1 .1 .1 .1 .1 .1 .1 .1 .0) (b .last .1 .1 .1 .1 .1 .1 .1 .1 .1 .1 .0) (b .last .1 .1 .1 .1 .1 .1 .1 .1 .1 .1 .1 .0) (b .result .mids) (b .ensures .top (not-false _ (c .before .before .if3 .left))) (c .before .if4 .taken));
@@ -141,7 +150,7 @@ slice-aggregate-apart-4 c = search needs
 
 apart-requires : tie.Need-apart-requires
 apart-requires c κs =
-    let a = c .before .before .before .before .before .before .before .before .before .before .before .before .before .before .before .before .before .before .before .before .before .before .before .before .before .before .before .before .before .before .before .before .before .before .before .before .before .before .before .before .before .before .before .before .args in
+    let a = c .before .before .before .before .before .before .before .before .before .before .before .before .before .before .before .before .before .before .before .before .before .before .before .before .before .before .before .before .before .before .before .before .before .before .before .before .before .before .before .before .before .before .before .before .before .before .args in
     let b = c .before .before .before .before .before .before .before .before .before .before .before .before .before .before .before .before .before .before .before .before .build in (
       top-looks (a .n) (fours (a .mesh .now)) (a .status .now) (b .ensures .level) (b .result .cells) (b .last .1 .1 .1 .0) (b .last .1 .1 .1 .1 .0) (b .last .1 .1 .1 .1 .1 .0) (b .last .1 .1 .1 .1 .1 .1 .0) (b .last .1 .1 .1 .1 .1 .1 .1 .0) (b .result .reds) (b .last .1 .1 .1 .1 .1 .1 .1 .1 .0) (b .last .1 .1 .1 .1 .1 .1 .1 .1 .1 .0) (b .last .1 .1 .1 .1 .1 .1 .1 .1 .1 .1 .0) (b .last .1 .1 .1 .1 .1 .1 .1 .1 .1 .1 .1 .0) (b .result .mids) (b .ensures .top (not-false _ (c .before .before .before .before .before .before .if3 .left))),
       top-parents (a .n) (fours (a .mesh .now)) (a .status .now) (b .ensures .level) (b .result .cells) (b .last .1 .1 .1 .0) (b .last .1 .1 .1 .1 .0) (b .last .1 .1 .1 .1 .1 .0) (b .last .1 .1 .1 .1 .1 .1 .0) (b .last .1 .1 .1 .1 .1 .1 .1 .0) (b .result .reds) (b .last .1 .1 .1 .1 .1 .1 .1 .1 .0) (b .last .1 .1 .1 .1 .1 .1 .1 .1 .1 .0) (b .last .1 .1 .1 .1 .1 .1 .1 .1 .1 .1 .0) (b .last .1 .1 .1 .1 .1 .1 .1 .1 .1 .1 .1 .0) (b .result .mids) (b .ensures .top (not-false _ (c .before .before .before .before .before .before .if3 .left))),
@@ -158,7 +167,7 @@ same-length-9 c = c .before .before .before .before .before .before .before .bef
 
 returns-5 : tie.Need-returns-5
 returns-5 c =
-    let a = c .before .before .before .before .before .before .before .before .before .before .before .before .before .before .before .before .before .before .before .before .before .before .before .before .before .before .before .before .before .before .before .before .before .before .before .before .before .before .before .before .before .before .before .before .before .args in
+    let a = c .before .before .before .before .before .before .before .before .before .before .before .before .before .before .before .before .before .before .before .before .before .before .before .before .before .before .before .before .before .before .before .before .before .before .before .before .before .before .before .before .before .before .before .before .before .before .before .args in
     let b = c .before .before .before .before .before .before .before .before .before .before .before .before .before .before .before .before .before .before .before .before .before .build in
     let ok = not-false _ (c .before .before .before .before .before .before .before .if3 .left) in
     let e : length (a .status .now) ≡ b .result .cells = omega (arith, c .before .before .before .before .before .before .if4 .left) in
@@ -180,12 +189,14 @@ examine-spec =
     clear-requires
     slice-aggregate-clear-2
     clear-requires-2
+    digit-table-requires
     slice-aggregate-build
     slice-aggregate-build-2
     slice-aggregate-build-3
     slice-aggregate-build-4
     slice-aggregate-build-5
     slice-aggregate-build-6
+    slice-aggregate-build-7
     build-requires
     failed-requires-3
     same-length

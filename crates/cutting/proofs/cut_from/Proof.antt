@@ -1,4 +1,4 @@
--- `cutting::cut` meets its contract: the digits between two starts are the row's, and the red family is the last row.
+-- `cutting::cut_from` meets its contract: the digits between two starts are the row's, and the red family is the last row.
 -- Assumes nothing.
 use mathlib.Core.Path.{_≡_, refl, sym, _∙_, ap}
 use mathlib.Core.List.{flatten}
@@ -9,17 +9,17 @@ use Rattle.cutting.specs.Answer.{noCut, cutInto, cutOf, cutOf-accepted, 
 use Rattle.cutting.proofs.Data.{rows}
 use Rattle.cutting.proofs.Table.{row, family-row}
 use Rattle.cutting.proofs.Found.{Found, found, accepted}
-use Rattle.cutting.proofs.cut.Statement.{statement}
-use Rattle.cutting.proofs.cut.Tie as tie
+use Rattle.cutting.proofs.cut_from.Statement.{statement}
+use Rattle.cutting.proofs.cut_from.Tie as tie
 
-between : (c : tie.After-start2) → Found (c .before .before .before .before .args .pattern) (c .before .start .result) (c .start2 .result)
+between : (c : tie.After-start2) → Found (c .before .before .before .before .before .args .pattern) (c .before .start .result) (c .start2 .result)
 between c =
-    found (c .before .before .before .before .args .pattern) (c .before .start .result) (c .start2 .result)
+    found (c .before .before .before .before .before .args .pattern) (c .before .start .result) (c .start2 .result)
     (omega arith) (c .before .start .ensures) (c .start2 .ensures)
 
 returns : tie.Need-returns
 unfolding noCut
-returns c = sym (cutOf-refused (c .before .args .pattern) (c .if1 .taken))
+returns c = sym (cutOf-refused (c .before .before .args .pattern) (c .if1 .taken))
 
 returns-2 : tie.Need-returns-2
 unfolding cutInto row rows flatten
@@ -37,19 +37,19 @@ start-requires-2 c κs = search needs
 sub-count : tie.Need-sub-count
 sub-count c = between c .up
 
-cast-t13 : tie.Need-cast-t13
-cast-t13 c = omega (arith, between c)
+cast-t14 : tie.Need-cast-t14
+cast-t14 c = omega (arith, between c)
 
 copied-requires : tie.Need-copied-requires
-copied-requires c κs = omega (arith, between c)
+copied-requires c κs = (c .before .before .before .before .before .pre, omega (arith, between c))
 
 returns-3 : tie.Need-returns-3
 returns-3 c =
     let b = c .before in
-    accepted (b .before .before .before .before .args .pattern) (b .before .start .result) (b .start2 .result)
+    accepted (b .before .before .before .before .before .args .pattern) (b .before .start .result) (b .start2 .result)
     (omega arith) (b .before .start .ensures) (b .start2 .ensures) (c .copied .result) (c .copied .ensures)
 
-pub cut-spec : {M : Type 1} → statement M
-cut-spec =
+pub cut-from-spec : {M : Type 1} → statement M
+cut-from-spec =
     tie.close
-    (tie.spec returns returns-2 start-requires add-start start-requires-2 sub-count cast-t13 copied-requires returns-3)
+    (tie.spec returns returns-2 start-requires add-start start-requires-2 sub-count cast-t14 copied-requires returns-3)

@@ -1,0 +1,7 @@
+pub mod Rest
+pub mod Marking
+pub mod Spreading
+pub mod Steps
+pub mod Resting
+pub mod Turns
+pub mod Ended

@@ -1,0 +1,95 @@
+-- One step in the tables of a replay.
+-- Assumes nothing.
+use mathlib.Core.Path.{_≡_, refl, sym, _∙_, ap}
+use mathlib.Core.Bool.{Bool, true, false, _&&_}
+use mathlib.Core.List.{List, [], _∷_, _++_}
+use Prim.Native.Nat.{ℕ, _+_, _*_, _≤_, _<_}
+use native.Mathlib.Omega.{arith}
+use lib.Dec.{T}
+use lib.ListN.{length, take, drop, length-append, length-drop}
+use lib.Seq.{take-at, length-take-le}
+use Rattle.base.specs.Places.{not-both}
+use Rattle.base.specs.Fours.{fours}
+use Rattle.base.specs.Refuse.{refuse}
+use Rattle.mesh.specs.Table.{levelsOf}
+use Rattle.layout.specs.Opened.{answerOf}
+use Rattle.step.specs.Calls.{marksb, newTable, limitsAnswer}
+use Rattle.step.specs.Advanced.{Held, Advanced}
+use Rattle.replay.specs.Run.{spread, markingb, oneAnswer}
+use Rattle.replay.specs.Scan.{Spread, Fitting}
+use Rattle.replay.specs.Going.{Going, Stepped, Moved}
+
+-- a table with its front written
+pub front : (k : ℕ) (from old new : List ℕ) → k ≤ length from → new ≡ take k from ++ drop k old → take k new ≡ take k from
+front k from old new h e = rw e (take-at (take k from) (drop k old) k (length-take-le k from h))
+
+-- the marks are examined
+module _ (ss : List ℕ) (ms : List (ℕ × ℕ)) (new : List ℕ) where
+  pub fitting-missed : Spread (length ss) ms new false → Fitting ss ms new false
+  fitting-missed s =
+      record {
+        answer = rw (← s .answer);
+        marks = λ z. not-both false z refl;
+      }
+
+  pub fitting-tested : Spread (length ss) ms new true → (r : Bool) → r ≡ marksb ss (take (length ss) new) → Fitting ss ms new r
+  fitting-tested s r e =
+      record {
+        answer = e ∙ rw (← s .answer, s .marks refl);
+        marks = λ z. s .marks refl;
+      }
+
+-- the new table takes the place of the old one
+module _ (n : ℕ) (mesh old ms new-rows ps qs new : List ℕ) (refusal cells levels mids : ℕ)
+    (a : Advanced n mesh old ms new-rows ps qs new refusal cells levels mids) where
+  pub stepped-refused : (rows table : List ℕ) (k c l : ℕ) → k ≡ refusal → (refusal ≡ 0 → ⊥) → Stepped n mesh old ms rows table k c l
+  stepped-refused rows table k c l e z =
+      record {
+        answer = a .answer ∙ ap answerOf (sym e);
+        table-is = λ y. absurd (z (sym e ∙ y));
+        going = λ y. absurd (z (sym e ∙ y));
+        high = λ y. absurd (z (sym e ∙ y));
+      }
+
+  pub stepped-on : refusal ≡ 0 → (rows₀ table₀ rows table : List ℕ) → rows ≡ take (8 * cells) new-rows ++ drop (8 * cells) rows₀ → table ≡ take cells new ++ drop cells table₀
+      → 4096 ≤ length new → 32768 ≤ length rows → 4096 ≤ length table → Stepped n mesh old ms rows table 0 cells levels
+  stepped-on z rows₀ table₀ rows table e f room long lent =
+      let few = a .few z in
+      let h = a .held z in
+      let s = a .laid z in
+      let t : take cells table ≡ newTable n (fours mesh) old ms = front cells new table₀ table (omega arith) f ∙ a .table-is z in
+      let r : take (8 * cells) rows ≡ take (8 * cells) new-rows = front (8 * cells) new-rows rows₀ rows (omega (arith, h .long)) e in
+      record {
+        answer = a .answer ∙ ap answerOf z;
+        table-is = λ y. t;
+        going = λ y.
+            record {
+              held = rw t (record { accepted = h .accepted; sound = h .sound; long = long; table = rw (s .counted) (r ∙ s .table) });
+              few = few;
+              room = lent;
+            };
+        high = λ y. rw t (s .high);
+      }
+
+-- a step by its marked cells
+module _ (n : ℕ) (mesh old : List ℕ) (ms : List (ℕ × ℕ)) (out rows table : List ℕ) where
+  pub moved-missed : Fitting old ms out false → (k c l : ℕ) → k ≡ 7 → Moved n mesh old ms rows table k c l
+  unfolding oneAnswer refuse answerOf
+  moved-missed f k c l e =
+      record {
+        answer = rw (← f .answer, e);
+        table-is = λ y. absurd (omega arith);
+        going = λ y. absurd (omega arith);
+        high = λ y. absurd (omega arith);
+      }
+
+  pub moved-on : Fitting old ms out true → (j : ℕ) → length old ≡ j → (k c l : ℕ) → Stepped n mesh old (take j out) rows table k c l → Moved n mesh old ms rows table k c l
+  unfolding oneAnswer refuse
+  moved-on f j e k c l s =
+      let t : take j out ≡ spread (length old) ms = rw (← e) (f .marks refl) in
+      record {
+        answer = rw (← f .answer) (rw t at (s .answer));
+        table-is = λ y. rw t at (s .table-is y);
+        going = s .going;
+        high = s .high;
+      }

@@ -1,0 +1,127 @@
+use Rattle.replay.proofs.Steps.{stepped-refused, stepped-on}
+use lib.Seq.{length-take-le}
+use lib.ListN.{length}
+use native.Mathlib.Omega.{arith}
+use Prim.Native.Nat.{_*_, _≤_}
+use mathlib.Core.Path.{_≡_, sym, _∙_}
+use borrow.Author.Needs.{needs}
+use Rattle.replay.proofs.advance_here.Statement.{statement}
+use Rattle.replay.proofs.advance_here.Tie as tie
+use Rattle.replay.proofs.advance_here.Reads as reads
+use Rattle.replay.proofs.advance_here.Lts as lts
+use Rattle.layout.proofs.copy.Reads as copy-reads
+use Rattle.replay.proofs.failed.Reads as failed-reads
+use Rattle.step.proofs.advance.Reads as advance-reads
+use Rattle.step.proofs.copy.Reads as copy-reads′
+
+slice-reshare-prefix-advance : tie.Need-slice-reshare-prefix-advance
+slice-reshare-prefix-advance c = search needs
+
+slice-aggregate-advance : tie.Need-slice-aggregate-advance
+slice-aggregate-advance c =
+    let s = c .before .before .before .before .before .before .before .before .before .before in
+    sym (length-take-le (s .args .cells) (s .args .table .now) (omega (arith, s .pre .0 .few, s .pre .0 .room)))
+
+advance-requires : tie.Need-advance-requires
+advance-requires c κs =
+    let s = c .before .before .before .before .before .before .before .before .before .before .before .before .before .before in
+    let m : s .args .cells ≤ length (s .args .table .now) = omega (arith, s .pre .0 .few, s .pre .0 .room) in
+    (s .pre .0 .held, (s .pre .1 .0 ∙ sym (length-take-le (s .args .cells) (s .args .table .now) m), (s .pre .1 .1 .in-rows, s .pre .1 .1 .in-ps, s .pre .1 .1 .in-qs, s .pre .1 .1 .in-table)))
+
+failed-requires : tie.Need-failed-requires
+failed-requires c κs = search needs
+
+same-length : tie.Need-same-length
+same-length c = search needs
+
+same-length-2 : tie.Need-same-length-2
+same-length-2 c = search needs
+
+same-length-3 : tie.Need-same-length-3
+same-length-3 c = search needs
+
+same-length-4 : tie.Need-same-length-4
+same-length-4 c = search needs
+
+same-length-5 : tie.Need-same-length-5
+same-length-5 c = search needs
+
+same-length-6 : tie.Need-same-length-6
+same-length-6 c = search needs
+
+returns : tie.Need-returns
+returns c = stepped-refused _ _ _ _ _ _ _ _ _ _ _ _ (c .before .before .before .before .before .before .before .before .before .before .before .advance .ensures) _ _ _ _ _ (c .failed .ensures) (c .before .if1 .taken)
+
+mul-copy : tie.Need-mul-copy
+mul-copy c =
+    let r = c .before .before .before .before .before .before .before .before .before .before .before .before .advance in
+    let few = r .ensures .few (c .before .before .if1 .left) in
+    omega (arith, few)
+
+copy-requires : tie.Need-copy-requires
+copy-requires c κs =
+    let s = c .before .before .before .before .before .before .before .before .before .before .before .before .before .before .before .before .before .before .before .before .before .before .before .before .before .before .before .before in
+    let r = c .before .before .before .before .before .before .before .before .before .before .before .before .before .advance in
+    let z = c .before .before .before .if1 .left in
+    (omega (arith, r .ensures .few z, r .ensures .held z .long), omega (arith, r .ensures .few z, s .pre .0 .held .long))
+
+copy-requires-2 : tie.Need-copy-requires-2
+copy-requires-2 c κs =
+    let s = c .before .before .before .before .before .before .before .before .before .before .before .before .before .before .before .before .before .before .before .before .before .before .before .before .before .before .before .before .before .before .before .before .before in
+    let r = c .before .before .before .before .before .before .before .before .before .before .before .before .before .before .before .before .before .before .advance in
+    let z = c .before .before .before .before .before .before .before .before .if1 .left in
+    let few = r .ensures .few z in
+    (omega (arith, few, r .kept .1 .1 .1 .1 .1 .1 .1 .1 .0, s .pre .1 .1 .in-table), omega (arith, few, s .pre .0 .room))
+
+same-length-7 : tie.Need-same-length-7
+same-length-7 c = search needs
+
+same-length-8 : tie.Need-same-length-8
+same-length-8 c = search needs
+
+same-length-9 : tie.Need-same-length-9
+same-length-9 c = search needs
+
+same-length-10 : tie.Need-same-length-10
+same-length-10 c = search needs
+
+same-length-11 : tie.Need-same-length-11
+same-length-11 c = search needs
+
+same-length-12 : tie.Need-same-length-12
+same-length-12 c = search needs
+
+returns-2 : tie.Need-returns-2
+returns-2 c =
+    let s = c .before .before .before .before .before .before .before .before .before .before .before .before .before .before .before .before .before .before .before .before .before .before .before .before .before .before .before .before .before .before .before .before .before .before .before .before in
+    let r = c .before .before .before .before .before .before .before .before .before .before .before .before .before .before .before .before .before .before .before .before .before .advance in
+    stepped-on _ _ _ _ _ _ _ _ _ _ _ _ (r .ensures) (c .before .before .before .before .before .before .before .before .before .before .before .if1 .left) _ _ _ _ (c .before .before .before .before .before .before .before .copy .ensures) (c .before .before .copy2 .ensures)
+    (omega (arith, r .kept .1 .1 .1 .1 .1 .1 .1 .1 .0, s .pre .1 .1 .in-table))
+    (omega (arith, c .before .before .before .before .before .before .before .copy .kept .1 .1 .0, s .pre .0 .held .long))
+    (omega (arith, c .before .before .copy2 .kept .1 .1 .0, s .pre .0 .room))
+
+pub advance-here-spec : {M : Type 1} → statement M
+advance-here-spec =
+    tie.close
+    (tie.spec
+    slice-reshare-prefix-advance
+    slice-aggregate-advance
+    advance-requires
+    failed-requires
+    same-length
+    same-length-2
+    same-length-3
+    same-length-4
+    same-length-5
+    same-length-6
+    returns
+    mul-copy
+    copy-requires
+    copy-requires-2
+    same-length-7
+    same-length-8
+    same-length-9
+    same-length-10
+    same-length-11
+    same-length-12
+    returns-2)

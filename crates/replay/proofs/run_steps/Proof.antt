@@ -1,0 +1,129 @@
+use Rattle.replay.proofs.Turns.{length-pairs, Turn, turn-start, turn-refused, turn-next, turn-left, turn-end}
+use Rattle.archive.specs.Tables.{pairs}
+use borrow.Author.Needs.{needs}
+use lib.ListN.{length, take}
+use native.Mathlib.Omega.{arith}
+use Prim.Native.Nat.{_+_, _-_, _≤_, _<_}
+use mathlib.Core.Path.{_≡_, refl, sym, _∙_}
+use Rattle.replay.proofs.run_steps.Statement.{statement}
+use Rattle.replay.proofs.run_steps.Tie as tie
+use Rattle.replay.proofs.run_steps.Reads as reads
+use Rattle.replay.proofs.run_steps.Lts as lts
+use Rattle.replay.proofs.failed.Reads as failed-reads
+use Rattle.replay.proofs.next_step.Reads as next-step-reads
+
+abbrev Inv-loop : tie.InvT-loop
+Inv-loop mesh n marked marks ends first high rows₀ table₀ spread-marks₀ new-rows₀ ps₀ qs₀ new₀ cells₀ levels₀ p₀ g₀ rows table spread-marks new-rows ps qs new cells levels p g =
+    (length rows ≡ length rows₀) × (length table ≡ length table₀) × (length spread-marks ≡ 4096) × (length new-rows ≡ 32768) × (length ps ≡ 4096) × (length qs ≡ 4096) × (length new ≡ 4096) × Turn n mesh (take first table₀) (pairs marked marks) ends rows table cells levels p g × (length ends < 18446744073709551616)
+
+abbrev μ-loop : tie.MeasureT-loop
+μ-loop mesh n marked marks ends first high rows₀ table₀ spread-marks₀ new-rows₀ ps₀ qs₀ new₀ cells₀ levels₀ p₀ g₀ rows table spread-marks new-rows ps qs new cells levels p g = length ends - g
+
+loop-holds : tie.Need-loop-holds Inv-loop μ-loop
+loop-holds c = let s = c .before .before .before .before .before .before in (refl, refl, search needs, search needs, search needs, search needs, search needs, turn-start _ _ _ _ _ _ _ _ (s .pre .0) (s .pre .1 .1), search needs)
+
+mul-e : tie.Need-mul-e Inv-loop μ-loop
+mul-e c = search needs
+
+shared-slice-read-e : tie.Need-shared-slice-read-e Inv-loop μ-loop
+shared-slice-read-e c = search needs
+
+cast-e : tie.Need-cast-e Inv-loop μ-loop
+cast-e c = omega (arith, c .shared-slice-known5 .given (c .before .before .loop .g))
+
+slice-aggregate-next-step : tie.Need-slice-aggregate-next-step Inv-loop μ-loop
+slice-aggregate-next-step c = search needs
+
+slice-aggregate-next-step-2 : tie.Need-slice-aggregate-next-step-2 Inv-loop μ-loop
+slice-aggregate-next-step-2 c = search needs
+
+slice-aggregate-next-step-3 : tie.Need-slice-aggregate-next-step-3 Inv-loop μ-loop
+slice-aggregate-next-step-3 c = search needs
+
+slice-aggregate-next-step-4 : tie.Need-slice-aggregate-next-step-4 Inv-loop μ-loop
+slice-aggregate-next-step-4 c = search needs
+
+slice-aggregate-next-step-5 : tie.Need-slice-aggregate-next-step-5 Inv-loop μ-loop
+slice-aggregate-next-step-5 c = search needs
+
+next-step-requires : tie.Need-next-step-requires Inv-loop μ-loop
+next-step-requires c κs =
+    let i = c .before .before .before .before .before .before .before .before .before .loop .inv in
+    let s = c .before .before .before .before .before .before .before .before .before .before .before .before .before .before .before .before in
+    (i .7 .going, ((s .pre .1 .0, omega (arith, i .2)), record { in-rows = omega (arith, i .3); in-ps = omega (arith, i .4); in-qs = omega (arith, i .5); in-table = omega (arith, i .6) }))
+
+failed-requires : tie.Need-failed-requires Inv-loop μ-loop
+failed-requires c κs = search needs
+
+same-length : tie.Need-same-length Inv-loop μ-loop
+same-length c = omega (arith, c .before .before .before .before .before .before .before .before .before .before .before .before .next-step .kept .1 .1 .1 .1 .1 .1 .1 .0, c .before .before .before .before .before .before .before .before .before .before .before .before .before .before .before .before .before .before .before .before .before .before .loop .inv .0)
+
+same-length-2 : tie.Need-same-length-2 Inv-loop μ-loop
+same-length-2 c = omega (arith, c .before .before .before .before .before .before .before .before .before .before .before .before .next-step .kept .1 .1 .1 .1 .1 .1 .1 .1 .0, c .before .before .before .before .before .before .before .before .before .before .before .before .before .before .before .before .before .before .before .before .before .before .loop .inv .1)
+
+returns : tie.Need-returns Inv-loop μ-loop
+returns c = turn-refused _ _ _ _ _ _ _ _ _ _ _ (c .before .before .before .before .before .before .before .before .before .before .before .before .before .before .before .before .before .before .before .before .before .before .loop .inv .7) (c .before .before .before .before .before .before .before .before .before .before .before .before .before .before .before .before .before .before .before .before .before .loop-test .taken) _ _ _ _ _ (c .before .before .before .before .before .before .before .before .before .before .before .before .next-step .ensures) (c .before .if1 .taken) _ _ _ (c .failed .ensures)
+
+add-g : tie.Need-add-g Inv-loop μ-loop
+add-g c = omega (arith, c .before .before .before .before .before .before .before .before .before .before .before .before .before .before .before .before .before .before .before .before .loop-test .taken, c .before .before .before .before .before .before .before .before .before .before .before .before .before .before .before .before .before .before .before .before .before .loop .inv .8)
+
+loop-less : tie.Need-loop-less Inv-loop μ-loop
+loop-less c = omega (arith, c .before .before .before .before .before .before .before .before .before .before .before .before .before .before .before .before .before .before .before .before .loop-test .taken)
+
+loop-again : tie.Need-loop-again Inv-loop μ-loop
+loop-again c =
+    let i = c .before .before .before .before .before .before .before .before .before .before .before .before .before .before .before .before .before .before .before .before .before .loop .inv in
+    let x = c .before .before .before .before .before .before .before .before .before .before .before .next-step in
+    (omega (arith, x .kept .1 .1 .1 .1 .1 .1 .1 .0, i .0), omega (arith, x .kept .1 .1 .1 .1 .1 .1 .1 .1 .0, i .1), omega (arith, x .kept .1 .1 .1 .1 .1 .1 .1 .1 .1 .0, i .2), omega (arith, x .kept .1 .1 .1 .1 .1 .1 .1 .1 .1 .1 .0, i .3), omega (arith, x .kept .1 .1 .1 .1 .1 .1 .1 .1 .1 .1 .1 .0, i .4), omega (arith, x .kept .1 .1 .1 .1 .1 .1 .1 .1 .1 .1 .1 .1 .0, i .5), omega (arith, x .kept .1 .1 .1 .1 .1 .1 .1 .1 .1 .1 .1 .1 .1 .0, i .6), turn-next _ _ _ _ _ _ _ _ _ _ _ (i .7) (c .before .before .before .before .before .before .before .before .before .before .before .before .before .before .before .before .before .before .before .before .loop-test .taken) _ _ _ _ _ (x .ensures) (c .if1 .left), i .8)
+
+failed-requires-2 : tie.Need-failed-requires-2 Inv-loop μ-loop
+failed-requires-2 c κs = search needs
+
+same-length-3 : tie.Need-same-length-3 Inv-loop μ-loop
+same-length-3 c = search needs
+
+same-length-4 : tie.Need-same-length-4 Inv-loop μ-loop
+same-length-4 c = search needs
+
+returns-2 : tie.Need-returns-2 Inv-loop μ-loop
+returns-2 c = let s = c .before .before .before .before .before .before .before .before .before .before in turn-left _ _ _ _ _ _ _ _ _ _ _ (c .before .before .before .loop .inv .7) (omega (arith, c .before .before .loop-test .left)) (λ z. c .before .if2 .taken (z ∙ length-pairs (s .args .marked .now) (s .args .marks .now) (s .pre .1 .0))) _ _ _ (c .failed2 .ensures)
+
+same-length-5 : tie.Need-same-length-5 Inv-loop μ-loop
+same-length-5 c = search needs
+
+same-length-6 : tie.Need-same-length-6 Inv-loop μ-loop
+same-length-6 c = search needs
+
+returns-3 : tie.Need-returns-3 Inv-loop μ-loop
+returns-3 c = let s = c .before .before .before .before .before .before .before .before .before in turn-end _ _ _ _ _ _ _ _ _ _ _ (c .before .before .loop .inv .7) (omega (arith, c .before .loop-test .left)) (omega (arith, c .if2 .left, length-pairs (s .args .marked .now) (s .args .marks .now) (s .pre .1 .0)))
+
+pub run-steps-spec : {M : Type 1} → statement M
+run-steps-spec =
+    tie.close
+    (tie.spec
+    Inv-loop
+    μ-loop
+    loop-holds
+    mul-e
+    shared-slice-read-e
+    cast-e
+    slice-aggregate-next-step
+    slice-aggregate-next-step-2
+    slice-aggregate-next-step-3
+    slice-aggregate-next-step-4
+    slice-aggregate-next-step-5
+    next-step-requires
+    failed-requires
+    same-length
+    same-length-2
+    returns
+    add-g
+    loop-less
+    loop-again
+    failed-requires-2
+    same-length-3
+    same-length-4
+    returns-2
+    same-length-5
+    same-length-6
+    returns-3)

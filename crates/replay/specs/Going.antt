@@ -1,0 +1,86 @@
+-- What the functions of a replay hold and leave. A refusal is a number, and 0 stands for none.
+--   Going n mesh rows table cells   a sound table of so many cells over an accepted mesh, with the rows of its cells
+--   Room ..       the lengths of the work tables
+--   Rested ..     a mesh at rest
+--   Stepped ..    one step, by one mark a cell
+--   Moved ..      one step, by its marked cells and their marks
+--   Next ..       the step whose marks go from p up to e
+--   Finished ..   the steps in turn
+--   Replayed ..   the mesh, and then the steps in turn
+use mathlib.Core.Path.{_≡_}
+use mathlib.Core.List.{List}
+use mathlib.Core.Bool.{_&&_}
+use Prim.Native.Nat.{ℕ, _-_, _≤_}
+use lib.Dec.{T, leb}
+use lib.IntN.{ℤ}
+use lib.ListN.{length, take, drop}
+use Rattle.base.specs.Fours.{fours}
+use Rattle.base.specs.Refuse.{refuse}
+use Rattle.base.specs.declared.Answer.{Answer}
+use Rattle.mesh.specs.Coarse.{cornerCount, meshAnswer}
+use Rattle.mesh.specs.Table.{levelsOf, soundb}
+use Rattle.layout.specs.Opened.{answerOf}
+use Rattle.step.specs.Calls.{newTable, limitsAnswer}
+use Rattle.step.specs.Advanced.{Held}
+use Rattle.archive.specs.Tables.{stepsFrom, stepsOf}
+use Rattle.replay.specs.Run.{oneAnswer, oneTable, runTable, restTable, flatAnswer, tablesAnswer}
+
+pub record Going (n : ℕ) (mesh rows table : List ℕ) (cells : ℕ) : Type 0 where
+  pub held : Held n mesh rows (take cells table)
+  pub few : cells ≤ 4096
+  pub room : 4096 ≤ length table
+
+pub record Rested (ps : List ℤ) (mesh rows table : List ℕ) (refusal cells levels : ℕ) : Type 0 where
+  pub answer : meshAnswer ps mesh ≡ answerOf refusal
+  pub table-is : refusal ≡ 0 → take cells table ≡ restTable (fours mesh)
+  pub going : refusal ≡ 0 → Going (cornerCount ps) mesh rows table cells
+  pub high : refusal ≡ 0 → length (levelsOf (cornerCount ps) (fours mesh) (take cells table)) ≡ levels
+
+pub record Room (rows ps qs table : List ℕ) : Type 0 where
+  pub in-rows : 32768 ≤ length rows
+  pub in-ps : 4096 ≤ length ps
+  pub in-qs : 4096 ≤ length qs
+  pub in-table : 4096 ≤ length table
+
+pub record Stepped (n : ℕ) (mesh old ms rows table : List ℕ) (refusal cells levels : ℕ) : Type 0 where
+  pub answer : limitsAnswer n (fours mesh) old ms ≡ answerOf refusal
+  pub table-is : refusal ≡ 0 → take cells table ≡ newTable n (fours mesh) old ms
+  pub going : refusal ≡ 0 → Going n mesh rows table cells
+  pub high : refusal ≡ 0 → length (levelsOf n (fours mesh) (take cells table)) ≡ levels
+
+pub record Moved (n : ℕ) (mesh old : List ℕ) (ms : List (ℕ × ℕ)) (rows table : List ℕ) (refusal cells levels : ℕ) : Type 0 where
+  pub answer : oneAnswer n (fours mesh) old ms ≡ answerOf refusal
+  pub table-is : refusal ≡ 0 → take cells table ≡ oneTable n (fours mesh) old ms
+  pub going : refusal ≡ 0 → Going n mesh rows table cells
+  pub high : refusal ≡ 0 → length (levelsOf n (fours mesh) (take cells table)) ≡ levels
+
+abbrev pub partOf : ℕ → ℕ → List (ℕ × ℕ) → List (ℕ × ℕ)
+partOf p e ms = take (e - p) (drop p ms)
+
+unfoldable pub nextAnswer : ℕ → List (List ℕ) → List ℕ → ℕ → ℕ → List (ℕ × ℕ) → Answer
+unfolding refuse oneAnswer
+nextAnswer n qs t p e ms = refuse 7 (leb p e && leb e (length ms)) (oneAnswer n qs t (partOf p e ms))
+
+pub record Next (n : ℕ) (mesh old : List ℕ) (p e : ℕ) (ms : List (ℕ × ℕ)) (rows table : List ℕ) (refusal cells levels : ℕ) : Type 0 where
+  pub answer : nextAnswer n (fours mesh) old p e ms ≡ answerOf refusal
+  pub table-is : refusal ≡ 0 → take cells table ≡ oneTable n (fours mesh) old (partOf p e ms)
+  pub going : refusal ≡ 0 → Going n mesh rows table cells
+  pub high : refusal ≡ 0 → length (levelsOf n (fours mesh) (take cells table)) ≡ levels
+
+pub record Finished (n : ℕ) (mesh old : List ℕ) (ms : List (ℕ × ℕ)) (es rows table : List ℕ) (refusal cells levels : ℕ) : Type 0 where
+  pub answer : flatAnswer n (fours mesh) old 0 ms es ≡ answerOf refusal
+  pub table-is : refusal ≡ 0 → take cells table ≡ runTable n (fours mesh) old (stepsFrom 0 ms es)
+  pub going : refusal ≡ 0 → Going n mesh rows table cells
+  pub high : refusal ≡ 0 → length (levelsOf n (fours mesh) (take cells table)) ≡ levels
+
+-- the table that flat tables replay to
+abbrev pub endTable : List ℤ → List ℕ → List ℕ → List ℕ → List ℕ → List ℕ
+endTable ps ts cs ms es = runTable (cornerCount ps) (fours ts) (restTable (fours ts)) (stepsOf cs ms es)
+
+pub record Replayed (ps : List ℤ) (ts cs ms es table : List ℕ) (refusal cells levels : ℕ) : Type 0 where
+  pub answer : tablesAnswer ps ts cs ms es ≡ answerOf refusal
+  pub counted : refusal ≡ 0 → length (endTable ps ts cs ms es) ≡ cells
+  pub few : refusal ≡ 0 → cells ≤ 4096
+  pub table-is : refusal ≡ 0 → take cells table ≡ endTable ps ts cs ms es
+  pub sound : refusal ≡ 0 → T (soundb (cornerCount ps) (fours ts) (endTable ps ts cs ms es))
+  pub high : refusal ≡ 0 → length (levelsOf (cornerCount ps) (fours ts) (endTable ps ts cs ms es)) ≡ levels

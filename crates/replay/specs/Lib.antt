@@ -1,0 +1,4 @@
+pub mod Run
+pub mod Scan
+pub mod Going
+pub mod Flat

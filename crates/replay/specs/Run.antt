@@ -1,0 +1,87 @@
+-- What a job replays to (document 01, "Archive and listing", "Who can cause a refusal").
+--   spread k ms        the marks of a step as one number a cell, of k cells
+--   markingb k ms      the marked cells ascend strictly and are below k, and each mark is 1 or 2
+--   oneAnswer, oneTable   one step of a job: the answer, 7, 8 or 9, and the table after it
+--   runAnswer, runTable   the steps in turn: the answer, and the table after them
+--   jobAnswer j        the mesh, 1 to 5, and then the steps in turn
+--   jobTable j         the table that the job replays to
+--   flatAnswer, tablesAnswer   the same over flat tables
+use mathlib.Core.Bool.{Bool, true, false, _&&_}
+use mathlib.Core.List.{List, [], _∷_}
+use Prim.Native.Nat.{ℕ, _-_}
+use lib.Dec.{eqb, leb, ltb}
+use lib.IntN.{ℤ}
+use lib.ListN.{length, replicate, set, take, drop}
+use Rattle.base.specs.Lists.{allb}
+use Rattle.base.specs.Fours.{fours}
+use Rattle.base.specs.Refuse.{refuse}
+use Rattle.base.specs.declared.Answer.{Answer}
+use Rattle.base.specs.declared.Answer.the-variants.{Accepted}
+use Rattle.mesh.specs.Coarse.{cornerCount, meshAnswer}
+use Rattle.layout.specs.Calls.{andThen}
+use Rattle.step.specs.Calls.{marksb, newTable, limitsAnswer}
+use Rattle.archive.specs.Job.{Job}
+use Rattle.archive.specs.Tables.{pairs}
+
+unfoldable pub spreadOver : List ℕ → List (ℕ × ℕ) → List ℕ
+spreadOver l [] = l
+spreadOver l (m ∷ ms) = spreadOver (set l (m .0) (m .1)) ms
+
+unfoldable pub spread : ℕ → List (ℕ × ℕ) → List ℕ
+unfolding spreadOver
+spread k ms = spreadOver (replicate k 0) ms
+
+unfoldable pub risingb : List (ℕ × ℕ) → Bool
+risingb [] = true
+risingb (m ∷ []) = true
+risingb (m ∷ n ∷ ms) = ltb (m .0) (n .0) && risingb (n ∷ ms)
+
+unfoldable pub markingb : ℕ → List (ℕ × ℕ) → Bool
+unfolding risingb allb
+markingb k ms = risingb ms && allb (λ m. ltb (m .0) k && (leb 1 (m .1) && leb (m .1) 2)) ms
+
+-- "7 marks of wrong length, above 2, or not 0 on a refined cell (in an archive .., also a cell number not below the count)"
+unfoldable pub oneAnswer : ℕ → List (List ℕ) → List ℕ → List (ℕ × ℕ) → Answer
+unfolding refuse markingb marksb spread limitsAnswer
+oneAnswer n qs t ms = refuse 7 (markingb (length t) ms && marksb t (spread (length t) ms)) (limitsAnswer n qs t (spread (length t) ms))
+
+abbrev pub oneTable : ℕ → List (List ℕ) → List ℕ → List (ℕ × ℕ) → List ℕ
+oneTable n qs t ms = newTable n qs t (spread (length t) ms)
+
+-- "then steps in turn"
+unfoldable pub runAnswer : ℕ → List (List ℕ) → List ℕ → List (List (ℕ × ℕ)) → Answer
+unfolding andThen oneAnswer
+runAnswer n qs t [] = Accepted
+runAnswer n qs t (m ∷ ms) = andThen (oneAnswer n qs t m) (runAnswer n qs (oneTable n qs t m) ms)
+
+unfoldable pub runTable : ℕ → List (List ℕ) → List ℕ → List (List (ℕ × ℕ)) → List ℕ
+runTable n qs t [] = t
+runTable n qs t (m ∷ ms) = runTable n qs (oneTable n qs t m) ms
+
+-- a coarse mesh at rest: each cell a leaf
+abbrev pub restTable : List (List ℕ) → List ℕ
+restTable qs = replicate (length qs) 0
+
+unfoldable pub jobAnswer : Job → Answer
+unfolding andThen meshAnswer runAnswer
+jobAnswer j = andThen (meshAnswer (j .positions) (j .cells)) (runAnswer (cornerCount (j .positions)) (fours (j .cells)) (restTable (fours (j .cells))) (j .steps))
+
+unfoldable pub jobTable : Job → List ℕ
+unfolding runTable
+jobTable j = runTable (cornerCount (j .positions)) (fours (j .cells)) (restTable (fours (j .cells))) (j .steps)
+
+-- The same over the flat tables of a job (archive `Tables`): ms are the marked cells with their marks, es where each step ends, p marks
+-- are done. A step that ends before it begins, or behind the last mark, and marks behind the last step are refused with 7.
+unfoldable pub flatAnswer : ℕ → List (List ℕ) → List ℕ → ℕ → List (ℕ × ℕ) → List ℕ → Answer
+unfolding refuse andThen oneAnswer
+flatAnswer n qs t p ms [] = refuse 7 (eqb p (length ms)) Accepted
+flatAnswer n qs t p ms (e ∷ es) =
+    let m = take (e - p) (drop p ms) in
+    refuse 7 (leb p e && leb e (length ms)) (andThen (oneAnswer n qs t m) (flatAnswer n qs (oneTable n qs t m) e ms es))
+
+-- the mesh, and then the steps in turn
+unfoldable pub tablesAnswer : List ℤ → List ℕ → List ℕ → List ℕ → List ℕ → Answer
+unfolding refuse andThen meshAnswer flatAnswer pairs
+tablesAnswer ps ts cs ms es =
+    andThen (meshAnswer ps ts)
+    (refuse 7 (eqb (length cs) (length ms)) (flatAnswer (cornerCount ps) (fours ts) (restTable (fours ts)) 0 (pairs cs ms) es))

@@ -1,0 +1,320 @@
+// Jobs done again: the steps of a job in turn.
+ghost use mathlib.Core.Path.{_≡_};
+ghost use mathlib.Core.List.{_++_};
+ghost use Prim.Native.Nat.{_+_, _*_, _/_, _≤_, _<_};
+ghost use lib.ListN.{length, take, drop, replicate};
+ghost use Rattle.base.specs.Fours.{fours};
+ghost use Rattle.mesh.specs.Table.{levelsOf};
+ghost use Rattle.archive.specs.Tables.{pairs};
+ghost use Rattle.replay.specs.Scan.{mayb, Spread, Fitting};
+ghost use Rattle.replay.specs.Going.{Going, Room, Rested, Stepped, Moved, Next, Finished, Replayed};
+
+// What the steps of a job come to: the refusal, 0 where there is none, and then how many cells and levels the table has.
+pub struct Ran {
+    pub refusal: u8,
+    pub cells: usize,
+    pub levels: usize,
+}
+
+fn failed(refusal: u8) -> Ran
+    ensures { λ r. ⌜ r .refusal ≡ refusal ⌝ }
+{
+    Ran {
+        refusal,
+        cells: 0,
+        levels: 0,
+    }
+}
+
+// Makes the first k bytes 0.
+fn clear(out: &mut [u8], k: usize)
+    requires { ⌜ k ≤ length (now out) ⌝ }
+    ensures { λ r. ⌜ now (out .exit) ≡ replicate k 0 ++ drop k (now (out .entry)) ⌝ }
+{
+    for i in 0..k {
+        out[i] = 0;
+    }
+}
+
+// Whether a mark may stand at a cell, of k cells of which those below `next` are passed.
+fn may_stand(cell: usize, mark: u8, next: usize, k: usize) -> bool
+    ensures { λ r. ⌜ r ≡ mayb k next cell mark ⌝ }
+{
+    if cell < next {
+        return false;
+    }
+    if cell >= k {
+        return false;
+    }
+    if mark < 1 {
+        return false;
+    }
+    mark <= 2
+}
+
+// The marks of a step as one byte a cell, of k cells. False where the marked cells do not ascend or are not cells, or a mark is not 1 or 2.
+fn spread(marked: &[u16], marks: &[u8], k: usize, out: &mut [u8]) -> bool
+    requires { ⌜ (length (now marked) ≡ length (now marks)) × (k ≤ length (now out)) ⌝ }
+    ensures { λ r. ⌜ Spread k (pairs (now (marked .entry)) (now (marks .entry))) (now (out .exit)) r ⌝ }
+{
+    clear(out, k);
+    let mut i = 0;
+    let mut next: usize = 0;
+    while i < marked.len() {
+        let c = marked[i] as usize;
+        if !may_stand(c, marks[i], next, k) {
+            return false;
+        }
+        out[c] = marks[i];
+        next = c + 1;
+        i += 1;
+    }
+    true
+}
+
+// The marks of a step as one byte a cell. False where they may not stand at the cells of the table.
+fn examine_marks(marked: &[u16], marks: &[u8], status: &[u8], out: &mut [u8]) -> bool
+    requires { ⌜ (length (now marked) ≡ length (now marks)) × (length (now status) ≤ length (now out)) ⌝ }
+    ensures { λ r. ⌜ Fitting (now (status .entry)) (pairs (now (marked .entry)) (now (marks .entry))) (now (out .exit)) r ⌝ }
+{
+    let k = status.len();
+    if !spread(marked, marks, k, out) {
+        return false;
+    }
+    step::marks_fit(status, &out[..k])
+}
+
+// One step on a sound table with its rows, by one mark a cell: the new table and its rows take the place of the old ones. The other tables
+// are for the work. Refusals 8 and 9.
+fn advance_here(
+    mesh: &[u16],
+    n: usize,
+    marks: &[u8],
+    cells: usize,
+    rows: &mut [u16],
+    table: &mut [u8],
+    new_rows: &mut [u16],
+    ps: &mut [u32],
+    qs: &mut [u32],
+    new: &mut [u8],
+) -> Ran
+    requires { ⌜ Going n (now mesh) (now rows) (now table) cells ⌝ }
+    requires { ⌜ length (now marks) ≡ cells ⌝ }
+    requires { ⌜ Room (now «new_rows») (now ps) (now qs) (now «new») ⌝ }
+    ensures { λ r. ⌜ Stepped n (now (mesh .entry)) (take cells (now (table .entry))) (now (marks .entry)) (now (rows .exit)) (now (table .exit)) (r .refusal) (r .cells) (r .levels) ⌝ }
+{
+    let r = step::advance(mesh, n, rows, &table[..cells], marks, new_rows, ps, qs, new);
+    if r.refusal != 0 {
+        return failed(r.refusal);
+    }
+    layout::copy(new_rows, 8 * r.cells, rows);
+    step::copy(new, r.cells, table);
+    Ran {
+        refusal: 0,
+        cells: r.cells,
+        levels: r.levels,
+    }
+}
+
+// One step on a sound table with its rows, by its marked cells and their marks. Refusals 7 to 9.
+fn one_step(
+    mesh: &[u16],
+    n: usize,
+    marked: &[u16],
+    marks: &[u8],
+    cells: usize,
+    rows: &mut [u16],
+    table: &mut [u8],
+    spread_marks: &mut [u8],
+    new_rows: &mut [u16],
+    ps: &mut [u32],
+    qs: &mut [u32],
+    new: &mut [u8],
+) -> Ran
+    requires { ⌜ Going n (now mesh) (now rows) (now table) cells ⌝ }
+    requires { ⌜ (length (now marked) ≡ length (now marks)) × (4096 ≤ length (now «spread_marks»)) ⌝ }
+    requires { ⌜ Room (now «new_rows») (now ps) (now qs) (now «new») ⌝ }
+    ensures { λ r. ⌜ Moved n (now (mesh .entry)) (take cells (now (table .entry))) (pairs (now (marked .entry)) (now (marks .entry))) (now (rows .exit)) (now (table .exit)) (r .refusal) (r .cells) (r .levels) ⌝ }
+{
+    if !examine_marks(marked, marks, &table[..cells], spread_marks) {
+        return failed(7);
+    }
+    advance_here(
+        mesh,
+        n,
+        &spread_marks[..cells],
+        cells,
+        rows,
+        table,
+        new_rows,
+        ps,
+        qs,
+        new,
+    )
+}
+
+// The step whose marks go from p up to e. Refusals 7 to 9.
+fn next_step(
+    mesh: &[u16],
+    n: usize,
+    marked: &[u16],
+    marks: &[u8],
+    p: usize,
+    e: usize,
+    cells: usize,
+    rows: &mut [u16],
+    table: &mut [u8],
+    spread_marks: &mut [u8],
+    new_rows: &mut [u16],
+    ps: &mut [u32],
+    qs: &mut [u32],
+    new: &mut [u8],
+) -> Ran
+    requires { ⌜ Going n (now mesh) (now rows) (now table) cells ⌝ }
+    requires { ⌜ (length (now marked) ≡ length (now marks)) × (4096 ≤ length (now «spread_marks»)) ⌝ }
+    requires { ⌜ Room (now «new_rows») (now ps) (now qs) (now «new») ⌝ }
+    ensures { λ r. ⌜ Next n (now (mesh .entry)) (take cells (now (table .entry))) p e (pairs (now (marked .entry)) (now (marks .entry))) (now (rows .exit)) (now (table .exit)) (r .refusal) (r .cells) (r .levels) ⌝ }
+{
+    if e < p {
+        return failed(7);
+    }
+    if e > marked.len() {
+        return failed(7);
+    }
+    one_step(
+        mesh,
+        n,
+        &marked[p..e],
+        &marks[p..e],
+        cells,
+        rows,
+        table,
+        spread_marks,
+        new_rows,
+        ps,
+        qs,
+        new,
+    )
+}
+
+// A mesh at rest: each cell a leaf, with its rows. Refusals 1 to 5.
+fn at_rest(positions: &[i32], cells: &[u16], rows: &mut [u16], table: &mut [u8]) -> Ran
+    requires { ⌜ (32768 ≤ length (now rows)) × (4096 ≤ length (now table)) ⌝ }
+    ensures { λ r. ⌜ Rested (now (positions .entry)) (now (cells .entry)) (now (rows .exit)) (now (table .exit)) (r .refusal) (r .cells) (r .levels) ⌝ }
+{
+    let k = few(cells.len() / 4);
+    clear(table, k);
+    let mut xs = [0u32; 4096];
+    let mut ys = [0u32; 4096];
+    let f = layout::open(positions, cells, &table[..k], rows, &mut xs, &mut ys);
+    Ran {
+        refusal: f.refusal,
+        cells: k,
+        levels: f.levels,
+    }
+}
+
+// k, and 256 where it is more.
+fn few(k: usize) -> usize
+    ensures { λ r. ⌜ (r ≤ 256) × (k ≤ 256 → r ≡ k) ⌝ }
+{
+    if k <= 256 {
+        return k;
+    }
+    256
+}
+
+// The steps of a job in turn, on a sound table with its rows, of so many cells and levels. Refusals 7 to 9.
+fn run_steps(
+    mesh: &[u16],
+    n: usize,
+    marked: &[u16],
+    marks: &[u8],
+    ends: &[u16],
+    first: usize,
+    high: usize,
+    rows: &mut [u16],
+    table: &mut [u8],
+) -> Ran
+    requires { ⌜ Going n (now mesh) (now rows) (now table) first ⌝ }
+    requires { ⌜ (length (now marked) ≡ length (now marks)) × (length (levelsOf n (fours (now mesh)) (take first (now table))) ≡ high) ⌝ }
+    ensures { λ r. ⌜ Finished n (now (mesh .entry)) (take first (now (table .entry))) (pairs (now (marked .entry)) (now (marks .entry))) (now (ends .entry)) (now (rows .exit)) (now (table .exit)) (r .refusal) (r .cells) (r .levels) ⌝ }
+{
+    let mut spread_marks = [0u8; 4096];
+    let mut new_rows = [0u16; 32768];
+    let mut ps = [0u32; 4096];
+    let mut qs = [0u32; 4096];
+    let mut new = [0u8; 4096];
+    let mut cells = first;
+    let mut levels = high;
+    let mut p: usize = 0;
+    let mut g = 0;
+    while g < ends.len() {
+        let e = ends[g] as usize;
+        let r = next_step(
+            mesh,
+            n,
+            marked,
+            marks,
+            p,
+            e,
+            cells,
+            rows,
+            table,
+            &mut spread_marks,
+            &mut new_rows,
+            &mut ps,
+            &mut qs,
+            &mut new,
+        );
+        if r.refusal != 0 {
+            return failed(r.refusal);
+        }
+        cells = r.cells;
+        levels = r.levels;
+        p = e;
+        g += 1;
+    }
+    if p != marked.len() {
+        return failed(7);
+    }
+    Ran {
+        refusal: 0,
+        cells,
+        levels,
+    }
+}
+
+// The mesh, and then the steps of a job in turn, from its flat tables: the marked cells of all steps one after the other, their marks, and
+// for each step how many marks stand up to its end. The table that they come to is in front of the lent one. Refusals 1 to 5 and 7 to 9.
+pub fn run(
+    positions: &[i32],
+    cells: &[u16],
+    marked: &[u16],
+    marks: &[u8],
+    ends: &[u16],
+    table: &mut [u8],
+) -> Ran
+    requires { ⌜ 4096 ≤ length (now table) ⌝ }
+    ensures { λ r. ⌜ Replayed (now (positions .entry)) (now (cells .entry)) (now (marked .entry)) (now (marks .entry)) (now (ends .entry)) (now (table .exit)) (r .refusal) (r .cells) (r .levels) ⌝ }
+{
+    let mut rows = [0u16; 32768];
+    let r = at_rest(positions, cells, &mut rows, table);
+    if r.refusal != 0 {
+        return failed(r.refusal);
+    }
+    if marked.len() != marks.len() {
+        return failed(7);
+    }
+    run_steps(
+        cells,
+        positions.len() / 3,
+        marked,
+        marks,
+        ends,
+        r.cells,
+        r.levels,
+        &mut rows,
+        table,
+    )
+}
