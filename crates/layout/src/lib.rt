@@ -117,7 +117,7 @@ fn lent(table: &[u16], ends: &[u16], sums: &[i32]) -> bool
 }
 
 // Copies the first n numbers.
-fn copy(from: &[u16], n: usize, to: &mut [u16])
+pub fn copy(from: &[u16], n: usize, to: &mut [u16])
     requires { ⌜ (n ≤ length (now from)) × (n ≤ length (now to)) ⌝ }
     ensures { λ r. ⌜ now (to .exit) ≡ take n (now (from .entry)) ++ drop n (now (to .entry)) ⌝ }
 {

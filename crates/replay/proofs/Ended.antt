@@ -1,26 +1,22 @@
 -- The mesh, and then the steps of a job in turn.
 -- Assumes nothing.
-use mathlib.Core.Path.{_≡_, refl, sym, _∙_, ap}
-use mathlib.Core.Bool.{Bool, true, false}
+use mathlib.Core.Path.{_≡_, sym, _∙_, ap}
 use mathlib.Core.List.{List}
-use Prim.Native.Nat.{ℕ, _+_, _≤_, _<_}
+use Prim.Native.Nat.{ℕ}
 use native.Mathlib.Omega.{arith}
-use lib.Dec.{T, eqb}
 use lib.IntN.{ℤ}
 use lib.ListN.{length, take}
 use lib.Seq.{length-take-le}
 use borrow.Author.Tests.{eq-eqb, ne-eqb}
 use Rattle.base.specs.Fours.{fours}
 use Rattle.base.specs.Refuse.{refuse}
-use Rattle.base.specs.declared.Answer.the-variants.{Accepted, Refused}
-use Rattle.mesh.specs.Coarse.{cornerCount, meshAnswer}
-use Rattle.mesh.specs.Table.{levelsOf, soundb}
+use Rattle.mesh.specs.Coarse.{cornerCount}
 use Rattle.layout.specs.Calls.{andThen}
 use Rattle.layout.specs.Opened.{answerOf}
-use Rattle.layout.proofs.Answers.{answer-refused, answer-none}
-use Rattle.archive.specs.Tables.{pairs, stepsFrom, stepsOf}
-use Rattle.replay.specs.Run.{runTable, restTable, flatAnswer, tablesAnswer}
-use Rattle.replay.specs.Going.{Going, Rested, Finished, endTable, Replayed}
+use Rattle.layout.proofs.Answers.{answer-refused}
+use Rattle.archive.specs.Tables.{pairs, stepsOf}
+use Rattle.replay.specs.Run.{restTable, tablesAnswer}
+use Rattle.replay.specs.Going.{Rested, Finished, endTable, Replayed}
 
 module _ (ps : List ℤ) (ts cs ms es : List ℕ) where
   failed : (table : List ℕ) (k c l : ℕ) → tablesAnswer ps ts cs ms es ≡ answerOf k → (k ≡ 0 → ⊥) → Replayed ps ts cs ms es table k c l

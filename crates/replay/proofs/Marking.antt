@@ -2,16 +2,16 @@
 -- Assumes nothing.
 use mathlib.Core.Path.{_≡_, refl, sym, _∙_, ap, ap₂}
 use mathlib.Core.Bool.{Bool, true, false, _&&_}
-use mathlib.Core.List.{List, [], _∷_, _++_}
-use Prim.Native.Nat.{ℕ, zero, suc, _+_, _-_, _≤_, _<_}
+use mathlib.Core.List.{List, [], _∷_}
+use Prim.Native.Nat.{ℕ, suc, _+_, _≤_, _<_}
 use native.Mathlib.Omega.{arith}
-use lib.Dec.{T, leb, ltb, leb·zero}
-use lib.ListN.{length, getD, take, drop, set, replicate, drop-of-length-le, length-set, length-replicate}
-use lib.Seq.{drop-cons, take-set-lt, take-at}
+use lib.Dec.{leb, ltb, leb·zero}
+use lib.ListN.{length, getD, take, drop, set, drop-of-length-le}
+use lib.Seq.{drop-cons, take-set-lt}
 use borrow.Author.Tests.{le-leb, lt-leb, lt-ltb, le-ltb, ltb-true}
 use Rattle.base.specs.Lists.{allb, and-left, and-right, is-true}
 use Rattle.archive.specs.Tables.{pairs}
-use Rattle.replay.specs.Run.{spreadOver, spread, risingb, markingb}
+use Rattle.replay.specs.Run.{spreadOver, risingb, markingb}
 use Rattle.replay.specs.Scan.{mayb, markingFrom}
 
 -- the marks rise and may stand, at once and one after the other

@@ -1,16 +1,16 @@
 -- A coarse mesh at rest is sound: one level, of leaves.
 -- Assumes nothing.
 use mathlib.Core.Path.{_≡_, refl, sym, _∙_, ap}
-use mathlib.Core.Bool.{Bool, true, false, _&&_, _||_}
-use mathlib.Core.List.{List, [], _∷_, _++_, flatMap, append-nil}
-use Prim.Native.Nat.{ℕ, zero, suc, _+_, _≤_, _<_}
+use mathlib.Core.Bool.{Bool, true, _&&_, _||_}
+use mathlib.Core.List.{List, [], _∷_, flatMap, append-nil}
+use Prim.Native.Nat.{ℕ, zero, suc, _≤_, _<_}
 use native.Mathlib.Omega.{arith}
-use lib.Dec.{T, eqb, leb, ltb}
-use lib.ListN.{length, getD, take, drop, replicate, length-replicate}
-use lib.Seq.{take-all, take-length}
+use lib.Dec.{eqb, leb}
+use lib.ListN.{length, take, replicate, length-replicate}
+use lib.Seq.{take-all}
 use borrow.Author.Tests.{le-leb, eq-eqb}
 use Rattle.base.specs.Lists.{allb, sameb}
-use Rattle.mesh.specs.Cells.{Cell, edges, heldb, redEdges, closedFrom, statusOf, pattern, children, bitsOf, edge}
+use Rattle.mesh.specs.Cells.{Cell, edges, heldb, redEdges, closedFrom, statusOf, pattern, children, bitsOf}
 use Rattle.mesh.specs.Weights.{Point, coarseFrom, coarseCells}
 use Rattle.mesh.specs.Table.{Level, next, levels, levelsOf, cellsOf, closedb, apartb, soundb}
 use Rattle.replay.specs.Run.{restTable}

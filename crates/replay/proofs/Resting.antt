@@ -1,28 +1,26 @@
 -- A mesh at rest, in the tables of a replay.
 -- Assumes nothing.
 use mathlib.Core.Path.{_≡_, refl, sym, _∙_, ap}
-use mathlib.Core.Bool.{Bool, true, false}
-use mathlib.Core.List.{List, [], _∷_, _++_}
-use Prim.Native.Nat.{ℕ, _+_, _*_, _/_, _%_, _≤_, _<_}
+use mathlib.Core.List.{List, _++_}
+use Prim.Native.Nat.{ℕ, _/_, _≤_}
 use native.Mathlib.Omega.{arith}
-use lib.Dec.{T}
 use lib.IntN.{ℤ}
-use lib.ListN.{length, take, drop, replicate, length-replicate}
+use lib.ListN.{length, take, replicate, length-replicate}
 use lib.Seq.{take-at}
 use Rattle.base.specs.Fours.{fours}
 use Rattle.base.specs.Refuse.{refuse}
 use Rattle.base.specs.declared.Answer.{Answer}
 use Rattle.base.specs.declared.Answer.the-variants.{Accepted, Refused}
 use Rattle.mesh.specs.Coarse.{cornerCount, meshAnswer}
-use Rattle.mesh.specs.Table.{levelsOf, soundb}
+use Rattle.mesh.specs.Table.{soundb}
 use Rattle.tables.specs.Sound.{Mesh}
 use Rattle.tables.proofs.CoarseRows.{length-fours}
 use Rattle.layout.specs.Calls.{andThen, tableAnswer}
-use Rattle.layout.specs.Opened.{codeOf, answerOf, Fits, Opened}
+use Rattle.layout.specs.Opened.{codeOf, Opened}
 use Rattle.layout.proofs.Accepted.{mesh-passed}
 use Rattle.step.proofs.Answers.{opened-held}
 use Rattle.replay.specs.Run.{restTable}
-use Rattle.replay.specs.Going.{Going, Rested}
+use Rattle.replay.specs.Going.{Rested}
 use Rattle.replay.proofs.Rest.{rest-sound}
 
 module _ (ps : List ℤ) (mesh : List ℕ) (k : ℕ) (few : length mesh / 4 ≤ 256 → k ≡ length mesh / 4) where

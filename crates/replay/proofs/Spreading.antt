@@ -2,11 +2,11 @@
 --   Scanned cs ms k out i b   the marks before i are in the table, and the rest decides as the whole does
 -- Assumes nothing.
 use mathlib.Core.Path.{_≡_, refl, sym, _∙_, ap}
-use mathlib.Core.Bool.{Bool, true, false}
-use mathlib.Core.List.{List, [], _∷_, _++_}
+use mathlib.Core.Bool.{true, false}
+use mathlib.Core.List.{List, _++_}
 use Prim.Native.Nat.{ℕ, _+_, _≤_, _<_}
 use native.Mathlib.Omega.{arith}
-use lib.ListN.{length, getD, take, drop, set, replicate, length-replicate, length-set}
+use lib.ListN.{length, getD, take, drop, set, replicate, length-replicate}
 use lib.Seq.{take-at}
 use Rattle.base.specs.Places.{not-both}
 use Rattle.archive.specs.Tables.{pairs}

@@ -1,23 +1,21 @@
 -- One step in the tables of a replay.
 -- Assumes nothing.
 use mathlib.Core.Path.{_≡_, refl, sym, _∙_, ap}
-use mathlib.Core.Bool.{Bool, true, false, _&&_}
-use mathlib.Core.List.{List, [], _∷_, _++_}
-use Prim.Native.Nat.{ℕ, _+_, _*_, _≤_, _<_}
+use mathlib.Core.Bool.{Bool, true, false}
+use mathlib.Core.List.{List, _++_}
+use Prim.Native.Nat.{ℕ, _*_, _≤_}
 use native.Mathlib.Omega.{arith}
-use lib.Dec.{T}
-use lib.ListN.{length, take, drop, length-append, length-drop}
+use lib.ListN.{length, take, drop}
 use lib.Seq.{take-at, length-take-le}
 use Rattle.base.specs.Places.{not-both}
 use Rattle.base.specs.Fours.{fours}
 use Rattle.base.specs.Refuse.{refuse}
-use Rattle.mesh.specs.Table.{levelsOf}
 use Rattle.layout.specs.Opened.{answerOf}
-use Rattle.step.specs.Calls.{marksb, newTable, limitsAnswer}
-use Rattle.step.specs.Advanced.{Held, Advanced}
-use Rattle.replay.specs.Run.{spread, markingb, oneAnswer}
+use Rattle.step.specs.Calls.{marksb, newTable}
+use Rattle.step.specs.Advanced.{Advanced}
+use Rattle.replay.specs.Run.{spread, oneAnswer}
 use Rattle.replay.specs.Scan.{Spread, Fitting}
-use Rattle.replay.specs.Going.{Going, Stepped, Moved}
+use Rattle.replay.specs.Going.{Stepped, Moved}
 
 -- a table with its front written
 pub front : (k : ℕ) (from old new : List ℕ) → k ≤ length from → new ≡ take k from ++ drop k old → take k new ≡ take k from

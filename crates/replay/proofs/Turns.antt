@@ -1,19 +1,19 @@
 -- The steps of a job in turn.
 --   Turn ..   the steps before g are done, and the rest comes to what the whole comes to
 -- Assumes nothing.
-use mathlib.Core.Path.{_≡_, refl, sym, _∙_, ap, ap₂}
+use mathlib.Core.Path.{_≡_, refl, sym, _∙_, ap}
 use mathlib.Core.Bool.{Bool, true, false, _&&_, and-false}
-use mathlib.Core.List.{List, [], _∷_, _++_}
-use Prim.Native.Nat.{ℕ, zero, suc, _+_, _-_, _≤_, _<_}
+use mathlib.Core.List.{List, [], _∷_}
+use Prim.Native.Nat.{ℕ, zero, suc, _+_, _≤_, _<_}
 use native.Mathlib.Omega.{arith}
-use lib.Dec.{eqb, leb}
+use lib.Dec.{leb}
 use lib.ListN.{length, getD, take, drop, drop-of-length-le}
 use lib.Seq.{drop-cons}
 use borrow.Author.Tests.{le-leb, lt-leb, eq-eqb, ne-eqb}
 use Rattle.base.specs.Fours.{fours}
 use Rattle.base.specs.Refuse.{refuse}
 use Rattle.base.specs.declared.Answer.{Answer}
-use Rattle.base.specs.declared.Answer.the-variants.{Accepted, Refused}
+use Rattle.base.specs.declared.Answer.the-variants.{Refused}
 use Rattle.mesh.specs.Table.{levelsOf}
 use Rattle.layout.specs.Calls.{andThen}
 use Rattle.layout.specs.Opened.{answerOf}

@@ -30,7 +30,7 @@ fn mark_fits(status: u8, mark: u8) -> bool
 }
 
 // Whether the marks fit the table.
-fn marks_fit(status: &[u8], marks: &[u8]) -> bool
+pub fn marks_fit(status: &[u8], marks: &[u8]) -> bool
     ensures { λ r. ⌜ r ≡ marksb (now (status .entry)) (now (marks .entry)) ⌝ }
 {
     if marks.len() != status.len() {
@@ -116,7 +116,7 @@ pub fn advance(
 }
 
 // Copies the first n bytes.
-fn copy(from: &[u8], n: usize, to: &mut [u8])
+pub fn copy(from: &[u8], n: usize, to: &mut [u8])
     requires { ⌜ (n ≤ length (now from)) × (n ≤ length (now to)) ⌝ }
     ensures { λ r. ⌜ now (to .exit) ≡ take n (now (from .entry)) ++ drop n (now (to .entry)) ⌝ }
 {

@@ -1,18 +1,14 @@
-use Rattle.replay.proofs.Steps.{stepped-refused, stepped-on}
+-- `replay::advance_here` meets its contract: the step is made in the work tables and copied back.
+-- Assumes nothing.
+use mathlib.Core.Path.{sym, _∙_}
+use Prim.Native.Nat.{_≤_}
+use native.Mathlib.Omega.{arith}
 use lib.Seq.{length-take-le}
 use lib.ListN.{length}
-use native.Mathlib.Omega.{arith}
-use Prim.Native.Nat.{_*_, _≤_}
-use mathlib.Core.Path.{_≡_, sym, _∙_}
 use borrow.Author.Needs.{needs}
-use Rattle.replay.proofs.advance_here.Statement.{statement}
+use Rattle.replay.proofs.Steps.{stepped-refused, stepped-on}
 use Rattle.replay.proofs.advance_here.Tie as tie
-use Rattle.replay.proofs.advance_here.Reads as reads
-use Rattle.replay.proofs.advance_here.Lts as lts
-use Rattle.layout.proofs.copy.Reads as copy-reads
-use Rattle.replay.proofs.failed.Reads as failed-reads
-use Rattle.step.proofs.advance.Reads as advance-reads
-use Rattle.step.proofs.copy.Reads as copy-reads′
+use Rattle.replay.proofs.advance_here.Statement.{statement}
 
 slice-reshare-prefix-advance : tie.Need-slice-reshare-prefix-advance
 slice-reshare-prefix-advance c = search needs

@@ -1,17 +1,12 @@
-use Rattle.replay.proofs.Resting.{rested}
-use lib.Seq.{length-take-le}
-use lib.ListN.{length}
+-- `replay::at_rest` meets its contract: a table of leaves is accepted just where its mesh is.
+-- Assumes nothing.
+use mathlib.Core.Path.{sym}
 use native.Mathlib.Omega.{arith}
-use Prim.Native.Nat.{_≤_}
-use mathlib.Core.Path.{_≡_, sym, _∙_}
+use lib.Seq.{length-take-le}
 use borrow.Author.Needs.{needs}
-use Rattle.replay.proofs.at_rest.Statement.{statement}
+use Rattle.replay.proofs.Resting.{rested}
 use Rattle.replay.proofs.at_rest.Tie as tie
-use Rattle.replay.proofs.at_rest.Reads as reads
-use Rattle.replay.proofs.at_rest.Lts as lts
-use Rattle.layout.proofs.open.Reads as open-reads
-use Rattle.replay.proofs.clear.Reads as clear-reads
-use Rattle.replay.proofs.few.Reads as few-reads
+use Rattle.replay.proofs.at_rest.Statement.{statement}
 
 few-requires : tie.Need-few-requires
 few-requires c κs = search needs

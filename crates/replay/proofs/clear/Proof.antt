@@ -7,8 +7,8 @@ use native.Mathlib.Omega.{arith}
 use lib.ListN.{length, drop, replicate}
 use borrow.Author.Needs.{needs}
 use borrow.Author.Fill.{fill-none, fill-more}
-use Rattle.replay.proofs.clear.Statement.{statement}
 use Rattle.replay.proofs.clear.Tie as tie
+use Rattle.replay.proofs.clear.Statement.{statement}
 
 abbrev Inv-loop : tie.InvT-loop
 Inv-loop out₀ k i₀ out i = (i ≤ k) × (length out ≡ length out₀) × (out ≡ replicate i 0 ++ drop i out₀)

@@ -1,18 +1,15 @@
-use Rattle.replay.proofs.Steps.{fitting-missed, fitting-tested}
-use borrow.Author.Tests.{not-true, not-false}
+-- `replay::examine_marks` meets its contract.
+-- Assumes nothing.
+use mathlib.Core.Bool.{true, false}
+use mathlib.Core.Path.{_≡_, sym}
+use native.Mathlib.Omega.{arith}
 use lib.Seq.{length-take-le}
 use lib.ListN.{length}
-use native.Mathlib.Omega.{arith}
-use Prim.Native.Nat.{_≤_}
-use mathlib.Core.Bool.{true, false}
-use mathlib.Core.Path.{_≡_, sym, _∙_}
+use borrow.Author.Tests.{not-true, not-false}
 use borrow.Author.Needs.{needs}
-use Rattle.replay.proofs.examine_marks.Statement.{statement}
+use Rattle.replay.proofs.Steps.{fitting-missed, fitting-tested}
 use Rattle.replay.proofs.examine_marks.Tie as tie
-use Rattle.replay.proofs.examine_marks.Reads as reads
-use Rattle.replay.proofs.examine_marks.Lts as lts
-use Rattle.replay.proofs.spread.Reads as spread-reads
-use Rattle.step.proofs.marks_fit.Reads as marks-fit-reads
+use Rattle.replay.proofs.examine_marks.Statement.{statement}
 
 spread-requires : tie.Need-spread-requires
 spread-requires c κs = search needs

@@ -2,8 +2,8 @@
 -- Assumes nothing.
 use native.Mathlib.Omega.{arith}
 use Rattle.replay.proofs.Marking.{may-early, may-beyond, may-none, may-here}
-use Rattle.replay.proofs.may_stand.Statement.{statement}
 use Rattle.replay.proofs.may_stand.Tie as tie
+use Rattle.replay.proofs.may_stand.Statement.{statement}
 
 returns : tie.Need-returns
 returns c = may-early _ _ _ _ (c .if1 .taken)

@@ -1,16 +1,14 @@
-use Rattle.replay.proofs.Turns.{length-pairs, pairs-part, next-back, next-behind, next-moved}
-use lib.Seq.{length-take-le}
-use lib.ListN.{length, drop, length-drop}
+-- `replay::next_step` meets its contract.
+-- Assumes nothing.
+use mathlib.Core.Path.{sym, _∙_}
+use Prim.Native.Nat.{_-_}
 use native.Mathlib.Omega.{arith}
-use Prim.Native.Nat.{_-_, _≤_}
-use mathlib.Core.Path.{_≡_, sym, _∙_}
+use lib.Seq.{length-take-le}
+use lib.ListN.{drop, length-drop}
 use borrow.Author.Needs.{needs}
-use Rattle.replay.proofs.next_step.Statement.{statement}
+use Rattle.replay.proofs.Turns.{length-pairs, pairs-part, next-back, next-behind, next-moved}
 use Rattle.replay.proofs.next_step.Tie as tie
-use Rattle.replay.proofs.next_step.Reads as reads
-use Rattle.replay.proofs.next_step.Lts as lts
-use Rattle.replay.proofs.failed.Reads as failed-reads
-use Rattle.replay.proofs.one_step.Reads as one-step-reads
+use Rattle.replay.proofs.next_step.Statement.{statement}
 
 failed-requires : tie.Need-failed-requires
 failed-requires c κs = search needs

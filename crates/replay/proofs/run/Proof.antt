@@ -1,15 +1,10 @@
-use Rattle.replay.proofs.Ended.{ended-mesh, ended-lengths, ended}
-use lib.ListN.{length}
+-- `replay::run` meets its contract: the mesh first, then the steps in turn.
+-- Assumes nothing.
 use native.Mathlib.Omega.{arith}
-use mathlib.Core.Path.{_≡_, refl, sym, _∙_}
 use borrow.Author.Needs.{needs}
-use Rattle.replay.proofs.run.Statement.{statement}
+use Rattle.replay.proofs.Ended.{ended-mesh, ended-lengths, ended}
 use Rattle.replay.proofs.run.Tie as tie
-use Rattle.replay.proofs.run.Reads as reads
-use Rattle.replay.proofs.run.Lts as lts
-use Rattle.replay.proofs.at_rest.Reads as at-rest-reads
-use Rattle.replay.proofs.failed.Reads as failed-reads
-use Rattle.replay.proofs.run_steps.Reads as run-steps-reads
+use Rattle.replay.proofs.run.Statement.{statement}
 
 slice-aggregate-at-rest : tie.Need-slice-aggregate-at-rest
 slice-aggregate-at-rest c = search needs

@@ -1,16 +1,14 @@
+-- `replay::run_steps` meets its contract: the rest of the steps comes to what the whole comes to. The measure is what is left of them.
+-- Assumes nothing.
+use mathlib.Core.Path.{_≡_, refl, _∙_}
+use Prim.Native.Nat.{_-_, _<_}
+use native.Mathlib.Omega.{arith}
+use lib.ListN.{length, take}
+use borrow.Author.Needs.{needs}
 use Rattle.replay.proofs.Turns.{length-pairs, Turn, turn-start, turn-refused, turn-next, turn-left, turn-end}
 use Rattle.archive.specs.Tables.{pairs}
-use borrow.Author.Needs.{needs}
-use lib.ListN.{length, take}
-use native.Mathlib.Omega.{arith}
-use Prim.Native.Nat.{_+_, _-_, _≤_, _<_}
-use mathlib.Core.Path.{_≡_, refl, sym, _∙_}
-use Rattle.replay.proofs.run_steps.Statement.{statement}
 use Rattle.replay.proofs.run_steps.Tie as tie
-use Rattle.replay.proofs.run_steps.Reads as reads
-use Rattle.replay.proofs.run_steps.Lts as lts
-use Rattle.replay.proofs.failed.Reads as failed-reads
-use Rattle.replay.proofs.next_step.Reads as next-step-reads
+use Rattle.replay.proofs.run_steps.Statement.{statement}
 
 abbrev Inv-loop : tie.InvT-loop
 Inv-loop mesh n marked marks ends first high rows₀ table₀ spread-marks₀ new-rows₀ ps₀ qs₀ new₀ cells₀ levels₀ p₀ g₀ rows table spread-marks new-rows ps qs new cells levels p g =

@@ -1,0 +1,81 @@
+-- The answers of the call `replay`, and what the lent tables hold after them.
+-- Assumes nothing.
+use mathlib.Core.Path.{_≡_, refl, sym, _∙_, ap}
+use mathlib.Core.Bool.{Bool, true, false, _&&_}
+use mathlib.Core.List.{List, _++_}
+use Prim.Native.Nat.{ℕ, _+_, _*_, _≤_, _<_}
+use native.Mathlib.Omega.{arith}
+use lib.Dec.{T, leb}
+use lib.ListN.{length, take, drop}
+use borrow.Author.Tests.{le-leb, lt-leb}
+use Rattle.base.specs.Lists.{is-true}
+use Rattle.base.specs.Fours.{fours}
+use Rattle.base.specs.Refuse.{refuse}
+use Rattle.base.specs.declared.Answer.{Answer}
+use Rattle.base.specs.declared.Answer.the-variants.{Accepted, Refused}
+use Rattle.mesh.specs.Coarse.{cornerCount}
+use Rattle.mesh.specs.Table.{levelsOf, soundb}
+use Rattle.mesh.specs.Counts.{countTable}
+use Rattle.counting.specs.Levels.{Levels, levelNumber, levelCounts, counts-length}
+use Rattle.counting.proofs.Sound.{sound-levels}
+use Rattle.counting.proofs.Whole.{counts-right}
+use Rattle.layout.specs.Calls.{heldAfter}
+use Rattle.layout.specs.Opened.{answerOf}
+use Rattle.layout.proofs.Answers.{answer-refused, answer-none}
+use Rattle.archive.specs.Job.{Job}
+use Rattle.archive.specs.Form.{jobOf}
+use Rattle.replay.specs.Run.{jobTable}
+use Rattle.jobs.specs.Calls.{archiveAnswer, jobLevels, jobCounts, replayAnswer, sizeOf, replayedOf, Reopened}
+use Rattle.jobs.specs.declared.Size.{Size}
+use Rattle.jobs.specs.declared.Replayed.the-variants as replayed
+
+module _ (bs table counts : List ℕ) where
+  abbrev j : Job
+  j = jobOf bs
+
+  abbrev answer : Answer
+  answer = replayAnswer bs table counts
+
+  pub short-table : length table < 4096 → answer ≡ Refused 15
+  unfolding replayAnswer refuse
+  short-table h = rw (lt-leb 4096 (length table) h)
+
+  pub short-counts : 4096 ≤ length table → length counts < 44 → answer ≡ Refused 15
+  unfolding replayAnswer refuse
+  short-counts g h = rw (le-leb 4096 (length table) g, lt-leb 44 (length counts) h)
+
+  -- a refusal changes nothing
+  pub refused-so : (k : ℕ) → answer ≡ Refused k
+      → (replayed.Refused k ≡ replayedOf answer (sizeOf j)) × ((table ≡ heldAfter answer (jobTable j) table) × (counts ≡ heldAfter answer (jobCounts j) counts))
+  unfolding replayedOf heldAfter
+  refused-so k e = (rw e, (rw e, rw e))
+
+  module _ (g : 4096 ≤ length table) (h : 44 ≤ length counts) where
+    long : answer ≡ archiveAnswer bs
+    unfolding replayAnswer refuse
+    long = rw (le-leb 4096 (length table) g, le-leb 44 (length counts) h)
+
+    module _ (new : List ℕ) (k coarse cells levels : ℕ) (r : Reopened bs new k coarse cells levels) where
+      pub replay-refused : (k ≡ 0 → ⊥)
+          → (replayed.Refused k ≡ replayedOf answer (sizeOf j)) × ((table ≡ heldAfter answer (jobTable j) table) × (counts ≡ heldAfter answer (jobCounts j) counts))
+      replay-refused z = refused-so k (long ∙ r .answer ∙ answer-refused k z)
+
+      module _ (z : k ≡ 0) where
+        pub replay-levels : Levels (take cells new) coarse
+        replay-levels =
+            rw (r .table-is z, ← r .coarse-are z)
+            (sound-levels (cornerCount (j .positions)) (fours (j .cells)) (jobTable j)
+            (is-true (soundb (cornerCount (j .positions)) (fours (j .cells)) (jobTable j)) (r .sound z)))
+
+        pub replay-done : (table′ counts′ : List ℕ) (n : ℕ) → table′ ≡ take cells new ++ drop cells table → n ≡ levelNumber 12 0 coarse (take cells new)
+            → counts′ ≡ levelCounts 12 0 coarse (take cells new) ++ drop (4 * n) counts
+            → (replayed.Done (record { cells = cells; levels = levels }) ≡ replayedOf answer (sizeOf j))
+            × ((table′ ≡ heldAfter answer (jobTable j) table) × (counts′ ≡ heldAfter answer (jobCounts j) counts))
+        unfolding replayedOf heldAfter
+        replay-done table′ counts′ n e m f =
+            let a : answer ≡ Accepted = long ∙ r .answer ∙ answer-none k z in
+            let c : levelCounts 12 0 coarse (take cells new) ≡ jobCounts j =
+            rw (r .table-is z, ← r .coarse-are z) (sym (counts-right (cornerCount (j .positions)) (fours (j .cells)) (jobTable j))) in
+            let l : 4 * n ≡ length (jobCounts j) =
+            ap (λ (x : ℕ). 4 * x) m ∙ sym (counts-length 12 0 coarse (take cells new)) ∙ ap length c in
+            (rw (a, r .counted z, r .high z), (e ∙ rw (a, r .table-is z, r .counted z), f ∙ rw (a, c, l)))

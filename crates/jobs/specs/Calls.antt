@@ -1,0 +1,58 @@
+-- The calls on archives: what each answers, and what the lent tables hold after (document 01, "Archive and listing", "Who can cause a
+-- refusal").
+--   archiveAnswer bs     17 where the bytes are not in the form, and then what the job answers
+--   jobLevels, jobCounts j   the levels of the table that a job replays to, and their counts
+--   replayAnswer ..      15 where a table is too short, and then the same; replayedOf, sizeOf its result
+--   Reopened ..          what replaying an archive leaves
+use mathlib.Core.Path.{_≡_}
+use mathlib.Core.Bool.{_&&_}
+use mathlib.Core.List.{List}
+use Prim.Native.Nat.{ℕ, _≤_}
+use lib.Dec.{T, leb}
+use lib.ListN.{length, take}
+use Rattle.base.specs.Fours.{fours}
+use Rattle.base.specs.Refuse.{refuse}
+use Rattle.base.specs.declared.Answer.{Answer}
+use Rattle.base.specs.declared.Answer.the-variants.{Accepted, Refused}
+use Rattle.mesh.specs.Coarse.{cornerCount}
+use Rattle.mesh.specs.Table.{Level, levelsOf, soundb}
+use Rattle.mesh.specs.Counts.{countTable}
+use Rattle.layout.specs.Opened.{answerOf}
+use Rattle.archive.specs.Job.{Job}
+use Rattle.archive.specs.Form.{formb, jobOf}
+use Rattle.replay.specs.Run.{jobAnswer, jobTable}
+use Rattle.jobs.specs.declared.Size.{Size}
+use Rattle.jobs.specs.declared.Replayed.{Replayed}
+use Rattle.jobs.specs.declared.Replayed.the-variants as replayed
+
+-- "an archive's form (17) is examined whole before its content, then the mesh, then steps in turn"
+unfoldable pub archiveAnswer : List ℕ → Answer
+unfolding refuse formb jobAnswer jobOf
+archiveAnswer bs = refuse 17 (formb bs) (jobAnswer (jobOf bs))
+
+abbrev pub jobLevels : Job → List Level
+jobLevels j = levelsOf (cornerCount (j .positions)) (fours (j .cells)) (jobTable j)
+
+abbrev pub jobCounts : Job → List ℕ
+jobCounts j = countTable (jobLevels j)
+
+-- "15 comes first": 4,096 statuses, four numbers a level
+unfoldable pub replayAnswer : List ℕ → List ℕ → List ℕ → Answer
+unfolding refuse archiveAnswer
+replayAnswer bs table counts = refuse 15 (leb 4096 (length table) && leb 44 (length counts)) (archiveAnswer bs)
+
+abbrev pub sizeOf : Job → Size
+sizeOf j = record { cells = length (jobTable j); levels = length (jobLevels j) }
+
+unfoldable pub replayedOf : Answer → Size → Replayed
+replayedOf Accepted s = replayed.Done s
+replayedOf (Refused k) s = replayed.Refused k
+
+pub record Reopened (bs table : List ℕ) (refusal coarse cells levels : ℕ) : Type 0 where
+  pub answer : archiveAnswer bs ≡ answerOf refusal
+  pub coarse-are : refusal ≡ 0 → length (fours (jobOf bs .cells)) ≡ coarse
+  pub counted : refusal ≡ 0 → length (jobTable (jobOf bs)) ≡ cells
+  pub few : refusal ≡ 0 → cells ≤ 4096
+  pub table-is : refusal ≡ 0 → take cells table ≡ jobTable (jobOf bs)
+  pub sound : refusal ≡ 0 → T (soundb (cornerCount (jobOf bs .positions)) (fours (jobOf bs .cells)) (jobTable (jobOf bs)))
+  pub high : refusal ≡ 0 → length (jobLevels (jobOf bs)) ≡ levels
