@@ -1,5 +1,6 @@
 -- The leaves of every mesh that an accepted job, and so an archive, replays to.
--- Laws: run-sound (steps in turn keep soundness), job-sound (the job's table), job-open, job-meets.
+-- Laws: run-sound (steps in turn keep soundness), job-sound (the job's table), job-open, job-meets, and archive-open, archive-meets (the
+-- bytes of an archive).
 use mathlib.Core.Path.{_≡_, refl}
 use mathlib.Core.Bool.{Bool, true, false, _&&_}
 use mathlib.Core.List.{List, [], _∷_}
@@ -25,6 +26,8 @@ use Rattle.step.specs.Calls.{marksb, newTable, limitsAnswer}
 use Rattle.archive.specs.Job.{Job}
 use Rattle.replay.specs.Run.{spread, markingb, oneAnswer, oneTable, runAnswer, runTable, restTable, jobAnswer, jobTable}
 use Rattle.replay.proofs.Rest.{rest-sound}
+use Rattle.archive.specs.Form.{formb, jobOf}
+use Rattle.jobs.specs.Calls.{archiveAnswer}
 use Rattle.conform.specs.Leaves.{openb, meetb}
 use Rattle.conform.specs.Accepted.{passed, mesh-parts, table-open, table-meets}
 use Rattle.conform.specs.Calls.{both, limits-within}
@@ -77,3 +80,15 @@ module _ (j : Job) (e : jobAnswer j ≡ Accepted) where
 
   pub job-meets : T (meetb (cornerCount (j .positions)) (fours (j .cells)) (jobTable j))
   job-meets = table-meets (j .positions) (j .cells) (parts .0) (jobTable j) job-sound
+
+-- an accepted archive
+module _ (bs : List ℕ) (e : archiveAnswer bs ≡ Accepted) where
+  accepted : jobAnswer (jobOf bs) ≡ Accepted
+  unfolding archiveAnswer
+  accepted = passed 17 (formb bs) (jobAnswer (jobOf bs)) e .1
+
+  pub archive-open : T (openb (cornerCount (jobOf bs .positions)) (fours (jobOf bs .cells)) (jobTable (jobOf bs)))
+  archive-open = job-open (jobOf bs) accepted
+
+  pub archive-meets : T (meetb (cornerCount (jobOf bs .positions)) (fours (jobOf bs .cells)) (jobTable (jobOf bs)))
+  archive-meets = job-meets (jobOf bs) accepted
