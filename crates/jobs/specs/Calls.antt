@@ -3,12 +3,15 @@
 --   archiveAnswer bs     17 where the bytes are not in the form, and then what the job answers
 --   jobLevels, jobCounts j   the levels of the table that a job replays to, and their counts
 --   replayAnswer ..      15 where a table is too short, and then the same; replayedOf, sizeOf its result
+--   readAnswer ..        reading: 15, and then the same; readingOf, lengthsOf its result
+--   writeAnswer ..       writing the job of flat tables: 15, then the mesh and the steps in turn, and last 17; writingOf its result
 --   Reopened ..          what replaying an archive leaves
 use mathlib.Core.Path.{_≡_}
-use mathlib.Core.Bool.{_&&_}
-use mathlib.Core.List.{List}
-use Prim.Native.Nat.{ℕ, _≤_}
+use mathlib.Core.Bool.{Bool, _&&_}
+use mathlib.Core.List.{List, flatten}
+use Prim.Native.Nat.{ℕ, _/_, _≤_}
 use lib.Dec.{T, leb}
+use lib.IntN.{ℤ}
 use lib.ListN.{length, take}
 use Rattle.base.specs.Fours.{fours}
 use Rattle.base.specs.Refuse.{refuse}
@@ -17,13 +20,20 @@ use Rattle.base.specs.declared.Answer.the-variants.{Accepted, Refused}
 use Rattle.mesh.specs.Coarse.{cornerCount}
 use Rattle.mesh.specs.Table.{Level, levelsOf, soundb}
 use Rattle.mesh.specs.Counts.{countTable}
+use Rattle.layout.specs.Calls.{andThen}
 use Rattle.layout.specs.Opened.{answerOf}
-use Rattle.archive.specs.Job.{Job}
+use Rattle.archive.specs.Job.{Job, jobBytes}
 use Rattle.archive.specs.Form.{formb, jobOf}
-use Rattle.replay.specs.Run.{jobAnswer, jobTable}
+use Rattle.archive.specs.Stored.{jobFrom}
+use Rattle.replay.specs.Run.{jobAnswer, jobTable, tablesAnswer}
 use Rattle.jobs.specs.declared.Size.{Size}
 use Rattle.jobs.specs.declared.Replayed.{Replayed}
 use Rattle.jobs.specs.declared.Replayed.the-variants as replayed
+use Rattle.jobs.specs.declared.Lengths.{Lengths}
+use Rattle.jobs.specs.declared.Reading.{Reading}
+use Rattle.jobs.specs.declared.Reading.the-variants as reading
+use Rattle.jobs.specs.declared.Writing.{Writing}
+use Rattle.jobs.specs.declared.Writing.the-variants as writing
 
 -- "an archive's form (17) is examined whole before its content, then the mesh, then steps in turn"
 unfoldable pub archiveAnswer : List ℕ → Answer
@@ -47,6 +57,34 @@ sizeOf j = record { cells = length (jobTable j); levels = length (jobLevels j) }
 unfoldable pub replayedOf : Answer → Size → Replayed
 replayedOf Accepted s = replayed.Done s
 replayedOf (Refused k) s = replayed.Refused k
+
+-- the full lengths: no archive holds more
+unfoldable pub roomb : List ℤ → List ℕ → List ℕ → List ℕ → List ℕ → Bool
+roomb ps ts cs ms es =
+    leb 1536 (length ps) && (leb 1024 (length ts) && (leb 16384 (length cs) && (leb 16384 (length ms) && leb 65536 (length es))))
+
+unfoldable pub readAnswer : List ℕ → List ℤ → List ℕ → List ℕ → List ℕ → List ℕ → Answer
+unfolding refuse roomb archiveAnswer
+readAnswer bs ps ts cs ms es = refuse 15 (roomb ps ts cs ms es) (archiveAnswer bs)
+
+abbrev pub lengthsOf : Job → Lengths
+lengthsOf j =
+    record { corners = length (j .positions) / 3; cells = length (j .cells) / 4; marks = length (flatten (j .steps)); steps = length (j .steps) }
+
+unfoldable pub readingOf : Answer → Lengths → Reading
+readingOf Accepted l = reading.Job l
+readingOf (Refused k) l = reading.Refused k
+
+-- "Writing examines the mesh and then each step as those calls do, 7 to 9 included, and last gives 17 where the bytes would be more."
+unfoldable pub writeAnswer : List ℤ → List ℕ → List ℕ → List ℕ → List ℕ → List ℕ → Answer
+unfolding refuse andThen tablesAnswer jobBytes
+writeAnswer ps ts cs ms es out =
+    refuse 15 (leb 65536 (length out))
+    (andThen (tablesAnswer ps ts cs ms es) (refuse 17 (leb (length (jobBytes (jobFrom ps ts cs ms es))) 65536) Accepted))
+
+unfoldable pub writingOf : Answer → ℕ → Writing
+writingOf Accepted n = writing.Bytes n
+writingOf (Refused k) n = writing.Refused k
 
 pub record Reopened (bs table : List ℕ) (refusal coarse cells levels : ℕ) : Type 0 where
   pub answer : archiveAnswer bs ≡ answerOf refusal

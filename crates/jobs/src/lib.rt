@@ -18,6 +18,24 @@ pub enum Replayed {
     Refused(u8),
 }
 
+// How many corners, cells, marks and steps a job has.
+pub struct Lengths {
+    pub corners: usize,
+    pub cells: usize,
+    pub marks: usize,
+    pub steps: usize,
+}
+
+pub enum Reading {
+    Job(Lengths),
+    Refused(u8),
+}
+
+pub enum Writing {
+    Bytes(usize),
+    Refused(u8),
+}
+
 // What an archive replays to: the refusal, 0 where there is none, and then how many coarse cells, cells and levels the table has.
 struct Done {
     refusal: u8,
