@@ -2,7 +2,7 @@
 --   markedOf s, marksOf s   the marked cells of all steps one after the other, and their marks
 --   endsOf s                for each step how many marks stand up to its end
 --   stepsOf cs ms es        the steps of such tables
---   steps-back              the steps of the tables of s are s
+--   pairs-back, steps-back   the pairs of the two tables are the marks; the steps of the tables of s are s
 --   Counts j v t m g        the job j has v corners, t cells, m marks in all and g steps
 use mathlib.Core.Path.{_≡_, refl, sym, _∙_, ap, ap₂}
 use mathlib.Core.List.{List, [], _∷_, map, flatten}
@@ -57,7 +57,7 @@ pub record Counts (j : Job) (corners cells marks steps : ℕ) : Type 0 where
   pub marks-are : length (flatten (j .steps)) ≡ marks
   pub steps-are : length (j .steps) ≡ steps
 
-pairs-back : (l : List Mark) → pairs (map cellOf l) (map markOf l) ≡ l
+pub pairs-back : (l : List Mark) → pairs (map cellOf l) (map markOf l) ≡ l
 unfolding pairs
 pairs-back [] = refl
 pairs-back (m ∷ l) = ap (λ (t : List Mark). m ∷ t) (pairs-back l)

@@ -26,7 +26,8 @@ use Rattle.lattice.specs.Regular.{Regular, point-sized, children-regular}
 use Rattle.lattice.specs.Edges.{middle, middle-ends}
 use Rattle.lattice.specs.Levels.{IfRegular}
 use Rattle.lattice.specs.Facts.{sound-regular}
-use Rattle.same.specs.Born.{noCell, childOf, Born, length-children, size-refined, children-at}
+use Rattle.rows.specs.Many.{length-children, size-refined}
+use Rattle.same.specs.Born.{noCell, childOf, Born, children-at}
 use Rattle.carriers.specs.Lists.{held-at, all-pass}
 use Rattle.carriers.specs.Joins.{Edge, joins-trans}
 use Rattle.carriers.specs.Carrier.{between-below, edge-between}

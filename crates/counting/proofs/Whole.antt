@@ -10,35 +10,13 @@ use native.Mathlib.Omega.{arith}
 use lib.Dec.{eqb}
 use lib.ListN.{length, take, drop, length-append, length-take}
 use lib.Seq.{drop-drop}
-use Rattle.cutting.specs.Rule.{family}
-use Rattle.mesh.specs.Cells.{Cell, redb, patternOf, childrenFrom, children}
+use Rattle.mesh.specs.Cells.{Cell}
 use Rattle.mesh.specs.Weights.{Point, point, coarseFrom, coarseCells}
 use Rattle.mesh.specs.Table.{Level, next, levels, levelsOf, cellsOf}
 use Rattle.mesh.specs.Counts.{countsOf, countTable}
-use Rattle.rows.specs.Numbered.{sizeOf, sizes, part}
+use Rattle.rows.specs.Numbered.{part}
+use Rattle.rows.specs.Many.{next-size}
 use Rattle.counting.specs.Levels.{nextEnd, countsAt, levelCounts, levelNumber, levelEnd, counts-more, counts-none, number-more, number-none, end-more, end-none}
-
--- a family, and the cells one level up
-length-from : {A : Type 0} (k : ℕ) (c : Cell A) (r : Bool) (f : ℕ → A) (i : ℕ) (ds : List (List ℕ)) → length (childrenFrom k c r f i ds) ≡ length ds
-unfolding childrenFrom
-length-from k c r f i [] = refl
-length-from k c r f i (d ∷ ds) = ap suc (length-from k c r f (suc i) ds)
-
-pub children-size : {A : Type 0} (k : ℕ) (c : Cell A) (s : ℕ) (f : ℕ → A) → length (children k c s f) ≡ sizeOf s
-unfolding children sizeOf
-children-size k c s f = go (eqb s 0) refl
-  where
-    go : (b : Bool) → eqb s 0 ≡ b → length (children k c s f) ≡ sizeOf s
-    go true e = rw (e, children, sizeOf)
-    go false e = rw (e, children, sizeOf) (length-from k c (redb s) f 0 (family (patternOf s)))
-
-pub next-size : (k : ℕ) (cs : List (Cell Point)) (ss : List ℕ) → length ss ≤ length cs → length (next k cs ss) ≡ sizes ss
-unfolding next sizes
-next-size k [] [] h = refl
-next-size k [] (s ∷ ss) h = absurd (omega arith)
-next-size k (c ∷ cs) [] h = refl
-next-size k (c ∷ cs) (s ∷ ss) h =
-    length-append (children k c s (point c)) (next (suc k) cs ss) ∙ ap₂ _+_ (children-size k c s (point c)) (next-size (suc k) cs ss (omega arith))
 
 coarse-size : (n i : ℕ) (qs : List (List ℕ)) → length (coarseFrom n i qs) ≡ length qs
 unfolding coarseFrom

@@ -78,8 +78,8 @@ module _ (bs : List ℕ) where
       few-bytes : 13 * v + 9 * t + 4 * m + g + 1 ≤ 65536
       few-bytes = omega (arith, measure counts, written-read bs o (rw f tt) .1 .few)
 
-      pub job-room : v ≤ 512 → t ≤ 256 → (ps : List ℤ) (ts cs ms es : List ℕ) → length ps ≡ 1536 → length ts ≡ 1024 → length cs ≡ 16384 → length ms ≡ 16384
-          → length es ≡ 65536 → Room j ps ts cs ms es
+      pub job-room : v ≤ 512 → t ≤ 256 → (ps : List ℤ) (ts cs ms es : List ℕ) → 1536 ≤ length ps → 1024 ≤ length ts → 16384 ≤ length cs → 16384 ≤ length ms
+          → 65536 ≤ length es → Room j ps ts cs ms es
       job-room hv ht ps ts cs ms es lp lt lc lm le =
           record {
             positions-fit = omega (arith, counts .corners-are);

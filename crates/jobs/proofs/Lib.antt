@@ -1,2 +1,4 @@
 pub mod Jobs
 pub mod Answers
+pub mod ReadAnswers
+pub mod WriteAnswers

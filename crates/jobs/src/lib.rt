@@ -1,11 +1,16 @@
 // The calls on archives of jobs.
 ghost use mathlib.Core.Path.{_≡_};
-ghost use Prim.Native.Nat.{_≤_};
+ghost use Prim.Native.Nat.{_+_, _*_, _≤_};
+ghost use lib.Dec.{leb};
 ghost use lib.ListN.{length};
 ghost use Rattle.layout.specs.Calls.{heldAfter};
+ghost use Rattle.archive.specs.Job.{jobBytes};
 ghost use Rattle.archive.specs.Form.{jobOf};
+ghost use Rattle.archive.specs.Tables.{markedOf, marksOf, endsOf};
+ghost use Rattle.archive.specs.Stored.{jobFrom};
 ghost use Rattle.replay.specs.Run.{jobTable};
 ghost use Rattle.jobs.specs.Calls.{Reopened, replayAnswer, replayedOf, sizeOf, jobCounts};
+ghost use Rattle.jobs.specs.Calls.{roomb, readAnswer, readingOf, lengthsOf, writeAnswer, writingOf};
 
 // How many cells and levels a table has.
 pub struct Size {
@@ -130,4 +135,123 @@ pub fn replay(bytes: &[u8], table: &mut [u8], counts: &mut [u16]) -> Replayed
         cells: k,
         levels: r.levels,
     })
+}
+
+// Whether the tables lent for a job are long enough.
+fn lent(positions: &[i32], cells: &[u16], marked: &[u16], marks: &[u8], ends: &[u16]) -> bool
+    ensures { λ r. ⌜ r ≡ roomb (now (positions .entry)) (now (cells .entry)) (now (marked .entry)) (now (marks .entry)) (now (ends .entry)) ⌝ }
+{
+    if positions.len() < 1536 {
+        return false;
+    }
+    if cells.len() < 1024 {
+        return false;
+    }
+    if marked.len() < 16384 {
+        return false;
+    }
+    if marks.len() < 16384 {
+        return false;
+    }
+    ends.len() >= 65536
+}
+
+// Reads an archive: its job in the lent tables, the marks of all steps one after the other and where each step ends. The archive is
+// replayed beside them first. Refusals 15, 17, 1 to 5 and 7 to 9.
+pub fn read(
+    bytes: &[u8],
+    positions: &mut [i32],
+    cells: &mut [u16],
+    marked: &mut [u16],
+    marks: &mut [u8],
+    ends: &mut [u16],
+) -> Reading
+    ensures { λ r. ⌜ r
+        ≡ readingOf (readAnswer (now (bytes .entry)) (now (positions .entry)) (now (cells .entry)) (now (marked .entry)) (now (marks .entry)) (now (ends .entry)))
+        (lengthsOf (jobOf (now (bytes .entry)))) ⌝ }
+    ensures { λ r. ⌜ now (positions .exit)
+        ≡ heldAfter (readAnswer (now (bytes .entry)) (now (positions .entry)) (now (cells .entry)) (now (marked .entry)) (now (marks .entry)) (now (ends .entry)))
+        (jobOf (now (bytes .entry)) .positions) (now (positions .entry)) ⌝ }
+    ensures { λ r. ⌜ now (cells .exit)
+        ≡ heldAfter (readAnswer (now (bytes .entry)) (now (positions .entry)) (now (cells .entry)) (now (marked .entry)) (now (marks .entry)) (now (ends .entry)))
+        (jobOf (now (bytes .entry)) .cells) (now (cells .entry)) ⌝ }
+    ensures { λ r. ⌜ now (marked .exit)
+        ≡ heldAfter (readAnswer (now (bytes .entry)) (now (positions .entry)) (now (cells .entry)) (now (marked .entry)) (now (marks .entry)) (now (ends .entry)))
+        (markedOf (jobOf (now (bytes .entry)) .steps)) (now (marked .entry)) ⌝ }
+    ensures { λ r. ⌜ now (marks .exit)
+        ≡ heldAfter (readAnswer (now (bytes .entry)) (now (positions .entry)) (now (cells .entry)) (now (marked .entry)) (now (marks .entry)) (now (ends .entry)))
+        (marksOf (jobOf (now (bytes .entry)) .steps)) (now (marks .entry)) ⌝ }
+    ensures { λ r. ⌜ now (ends .exit)
+        ≡ heldAfter (readAnswer (now (bytes .entry)) (now (positions .entry)) (now (cells .entry)) (now (marked .entry)) (now (marks .entry)) (now (ends .entry)))
+        (endsOf (jobOf (now (bytes .entry)) .steps)) (now (ends .entry)) ⌝ }
+{
+    if !lent(positions, cells, marked, marks, ends) {
+        return Reading::Refused(15);
+    }
+    let mut table = [0u8; 4096];
+    let r = reopen(bytes, &mut table);
+    if r.refusal != 0 {
+        return Reading::Refused(r.refusal);
+    }
+    let f = archive::examine_form(bytes);
+    archive::load(bytes, f, positions, cells, marked, marks, ends);
+    Reading::Job(Lengths {
+        corners: f.corners,
+        cells: f.cells,
+        marks: f.marks,
+        steps: f.steps,
+    })
+}
+
+// Whether an archive with so many corners, cells, marks and steps has at most 65,536 bytes.
+fn fits(corners: usize, cells: usize, marks: usize, steps: usize) -> bool
+    requires { ⌜ (corners ≤ 512) × (cells ≤ 256) ⌝ }
+    ensures { λ r. ⌜ r ≡ leb (13 * corners + 9 * cells + 4 * marks + steps + 1) 65536 ⌝ }
+{
+    if marks > 65536 {
+        return false;
+    }
+    if steps > 65536 {
+        return false;
+    }
+    13 * corners + 9 * cells + 4 * marks + steps + 1 <= 65536
+}
+
+// Writes the archive of a job that is given by flat tables: the marked cells of all steps one after the other, their marks, and for each
+// step how many marks stand up to its end. The archive is in front of the lent bytes. Refusals 15, 1 to 5, 7 to 9 and 17.
+pub fn write(
+    positions: &[i32],
+    cells: &[u16],
+    marked: &[u16],
+    marks: &[u8],
+    ends: &[u16],
+    bytes: &mut [u8],
+) -> Writing
+    ensures { λ r. ⌜ r
+        ≡ writingOf
+        (writeAnswer (now (positions .entry)) (now (cells .entry)) (now (marked .entry)) (now (marks .entry)) (now (ends .entry)) (now (bytes .entry)))
+        (length (jobBytes (jobFrom (now (positions .entry)) (now (cells .entry)) (now (marked .entry)) (now (marks .entry)) (now (ends .entry))))) ⌝ }
+    ensures { λ r. ⌜ now (bytes .exit)
+        ≡ heldAfter
+        (writeAnswer (now (positions .entry)) (now (cells .entry)) (now (marked .entry)) (now (marks .entry)) (now (ends .entry)) (now (bytes .entry)))
+        (jobBytes (jobFrom (now (positions .entry)) (now (cells .entry)) (now (marked .entry)) (now (marks .entry)) (now (ends .entry))))
+        (now (bytes .entry)) ⌝ }
+{
+    if bytes.len() < 65536 {
+        return Writing::Refused(15);
+    }
+    let mut table = [0u8; 4096];
+    let r = replay::run(positions, cells, marked, marks, ends, &mut table);
+    if r.refusal != 0 {
+        return Writing::Refused(r.refusal);
+    }
+    if !fits(
+        positions.len() / 3,
+        cells.len() / 4,
+        marked.len(),
+        ends.len(),
+    ) {
+        return Writing::Refused(17);
+    }
+    Writing::Bytes(archive::store(positions, cells, marked, marks, ends, bytes))
 }

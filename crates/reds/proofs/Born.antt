@@ -15,7 +15,7 @@ use Rattle.mesh.specs.Cells.{Cell, redb, patternOf, children, childrenFrom}
 use Rattle.mesh.specs.Weights.{Point, point}
 use Rattle.mesh.specs.Table.{next}
 use Rattle.rows.specs.Numbered.{sizeOf, sizes}
-use Rattle.counting.proofs.Whole.{children-size}
+use Rattle.rows.specs.Many.{length-children}
 
 from-parent : (k : ℕ) (c : Cell Point) (r : Bool) (f : ℕ → Point) (d : Cell Point) (i : ℕ) (ds : List (List ℕ)) (j : ℕ) → j < length (childrenFrom k c r f i ds)
     → getD (childrenFrom k c r f i ds) j d .parent ≡ k
@@ -40,10 +40,10 @@ born k d (c ∷ cs) [] e i h j g = absurd (omega arith)
 born k d (c ∷ cs) (s ∷ ss) e zero h j g =
     let z : 0 + j ≡ j = omega arith in
     let w : k + 0 ≡ k = omega arith in
-    let l : j < length (children k c s (point c)) = omega (arith, children-size k c s (point c)) in
+    let l : j < length (children k c s (point c)) = omega (arith, length-children k c s (point c)) in
     rw (z, w, List·getD-append (children k c s (point c)) (next (suc k) cs ss) d j l) (child-parent k c s (point c) d j l)
 born k d (c ∷ cs) (s ∷ ss) e (suc i) h j g =
-    let z : sizeOf s + sizes (take i ss) + j ≡ length (children k c s (point c)) + (sizes (take i ss) + j) = omega (arith, children-size k c s (point c)) in
+    let z : sizeOf s + sizes (take i ss) + j ≡ length (children k c s (point c)) + (sizes (take i ss) + j) = omega (arith, length-children k c s (point c)) in
     let w : k + suc i ≡ suc k + i = omega arith in
     rw (z, w, getD-append-add (children k c s (point c)) (next (suc k) cs ss) (sizes (take i ss) + j) d) (born (suc k) d cs ss (omega arith) i (omega arith) j g)
 

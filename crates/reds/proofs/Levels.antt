@@ -21,7 +21,7 @@ use Rattle.rows.specs.Numbered.{cellsAt, sizeOf, sizes}
 use Rattle.lattice.specs.Every.{All}
 use Rattle.numbers.specs.Tests.{cellsIn, Placed}
 use Rattle.closure.proofs.Closed.{cells-cons}
-use Rattle.counting.proofs.Whole.{next-size}
+use Rattle.rows.specs.Many.{next-size}
 use Rattle.tables.proofs.Cells.{strip}
 use Rattle.same.specs.Olds.{firstChild}
 use Rattle.reds.specs.Flags.{range, kidsOf}

@@ -18,7 +18,7 @@ use Rattle.closure.specs.Ready.{redCount}
 use Rattle.same.specs.Olds.{growBy, concat, statusesBy, oldsNext, upTo}
 use Rattle.same.specs.Closed.{Owned, owned-start, owned-next, closed-by}
 use Rattle.same.specs.Levels.{length-statuses}
-use Rattle.tables.specs.Levels.{length-next}
+use Rattle.rows.specs.Many.{length-next}
 use Rattle.tables.specs.Checked as checked
 use Rattle.tables.specs.Checked.{Statuses}
 use Rattle.tables.proofs.Cells.{strip}

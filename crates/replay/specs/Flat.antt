@@ -16,14 +16,9 @@ use Rattle.base.specs.declared.Answer.{Answer}
 use Rattle.mesh.specs.Coarse.{cornerCount, meshAnswer}
 use Rattle.layout.specs.Calls.{andThen}
 use Rattle.archive.specs.Job.{Job}
-use Rattle.archive.specs.Tables.{Mark, cellOf, markOf, markedOf, marksOf, endsFrom, endsOf, pairs, stepsOf, steps-back}
+use Rattle.archive.specs.Tables.{Mark, cellOf, markOf, markedOf, marksOf, endsFrom, endsOf, pairs, stepsOf, pairs-back, steps-back}
 use Rattle.replay.specs.Run.{oneAnswer, oneTable, runAnswer, runTable, restTable, jobAnswer, jobTable, flatAnswer, tablesAnswer}
 use Rattle.replay.specs.Going.{endTable}
-
-pairs-of : (l : List Mark) → pairs (map cellOf l) (map markOf l) ≡ l
-unfolding pairs
-pairs-of [] = refl
-pairs-of (m ∷ l) = ap (λ (t : List Mark). m ∷ t) (pairs-of l)
 
 -- what stands behind the first p marks is s, so the steps from there are those of s
 module _ (n : ℕ) (qs : List (List ℕ)) (all : List Mark) where
@@ -50,7 +45,7 @@ module _ (j : Job) where
 
   all-pairs : pairs (markedOf s) (marksOf s) ≡ flatten s
   unfolding markedOf marksOf
-  all-pairs = pairs-of (flatten s)
+  all-pairs = pairs-back (flatten s)
 
   pub tables-answer : tablesAnswer (j .positions) (j .cells) (markedOf s) (marksOf s) (endsOf s) ≡ jobAnswer j
   unfolding tablesAnswer jobAnswer refuse endsOf

@@ -3,8 +3,8 @@
 --   childOf k c s i    the child i of c, the cell number k with status s
 --   Born k cs ss c     c is a child of one of the cells cs, numbered from k, with statuses ss
 --   BornAt k cs ss t c   so, and t is the child's place in the next level
--- Laws: length-children, size-refined, size-some and length-next (how many), children-at (a family), born (a cell of the next
--- level, by its place), born-below and born-at (the place of a child, and the child there).
+-- Laws: children-at (a family), born (a cell of the next level, by its place), born-below and born-at (the place of a child, and the child
+-- there).
 use mathlib.Core.Path.{_≡_, refl, _∙_, ap, ap₂, subst}
 use mathlib.Core.Logic.{_≢_}
 use mathlib.Core.Bool.{Bool, true, false}
@@ -21,6 +21,7 @@ use Rattle.mesh.specs.Cells.{Cell, redb, patternOf, children, childrenFrom}
 use Rattle.mesh.specs.Weights.{Point, point}
 use Rattle.mesh.specs.Table.{next}
 use Rattle.rows.specs.Numbered.{sizeOf, sizes}
+use Rattle.rows.specs.Many.{length-children, size-refined, size-some}
 
 abbrev pub noCell : Cell Point
 noCell = record { path = []; parent = 0; regular = false; points = [] }
@@ -38,21 +39,8 @@ pub record Born (k : ℕ) (cs : List (Cell Point)) (ss : List ℕ) (c : Cell Poi
   pub child : i < length (family (patternOf (getD ss p 0)))
   pub is : c ≡ childOf (k + p) (getD cs p noCell) (getD ss p 0) i
 
--- how many children
+-- a family
 module _ (k : ℕ) (c : Cell Point) where
-  length-from : (r : Bool) (f : ℕ → Point) (i : ℕ) (ds : List (List ℕ)) → length (childrenFrom k c r f i ds) ≡ length ds
-  unfolding childrenFrom
-  length-from r f i [] = refl
-  length-from r f i (d ∷ ds) = ap suc (length-from r f (suc i) ds)
-
-  pub length-children : (s : ℕ) (f : ℕ → Point) → length (children k c s f) ≡ sizeOf s
-  unfolding children sizeOf
-  length-children s f = go (eqb s 0) refl
-    where
-      go : (b : Bool) → eqb s 0 ≡ b → length (children k c s f) ≡ sizeOf s
-      go true e = rw (e, children, sizeOf)
-      go false e = rw (e, children, sizeOf) (length-from (redb s) f 0 (family (patternOf s)))
-
   from-at : (r : Bool) (f : ℕ → Point) (i : ℕ) (ds : List (List ℕ)) (j : ℕ) → j < length ds
       → getD (childrenFrom k c r f i ds) j noCell ≡ record { path = c .path ++ ((i + j) ∷ []); parent = k; regular = r; points = map f (getD ds j []) }
   unfolding childrenFrom
@@ -69,23 +57,6 @@ module _ (k : ℕ) (c : Cell Point) where
       rw (ne-eqb s 0 z, children)
       (from-at (redb s) (point c) 0 (family (patternOf s)) i h
       ∙ ap {A = ℕ} {B = Cell Point} (λ x. record { path = c .path ++ (x ∷ []); parent = k; regular = redb s; points = map (point c) (getD (family (patternOf s)) i []) }) (omega arith))
-
--- how many children a cell has, where it has any
-pub size-refined : (s : ℕ) → s ≢ 0 → sizeOf s ≡ length (family (patternOf s))
-unfolding sizeOf
-size-refined s z = rw (ne-eqb s 0 z, sizeOf)
-
-pub size-some : (s i : ℕ) → i < sizeOf s → s ≢ 0
-unfolding sizeOf
-size-some s i h e = let w : i < 0 = rw e at h in omega arith
-
-pub length-next : (k : ℕ) (cs : List (Cell Point)) (ss : List ℕ) → length cs ≡ length ss → length (next k cs ss) ≡ sizes ss
-unfolding next sizes
-length-next k [] [] e = refl
-length-next k [] (s ∷ ss) e = absurd (omega arith)
-length-next k (c ∷ cs) [] e = absurd (omega arith)
-length-next k (c ∷ cs) (s ∷ ss) e =
-    length-append (children k c s (point c)) (next (suc k) cs ss) ∙ ap₂ _+_ (length-children k c s (point c)) (length-next (suc k) cs ss (omega arith))
 
 -- a cell of the next level
 abbrev pub BornAt : ℕ → List (Cell Point) → List ℕ → ℕ → Cell Point → Type 0

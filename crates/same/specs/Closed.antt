@@ -18,7 +18,7 @@ use Rattle.mesh.specs.Weights.{Point, point, coarseFrom, coarseCells}
 use Rattle.mesh.specs.Table.{next}
 use Rattle.rows.specs.Numbered.{sizeOf}
 use Rattle.numbers.specs.Refined.{Both, pattern-small}
-use Rattle.same.specs.Born.{length-children}
+use Rattle.rows.specs.Many.{length-children}
 use Rattle.same.specs.Paths.{length-coarse, length-upto}
 use Rattle.same.specs.Same.{both-append, length-olds-of}
 use Rattle.same.specs.Levels.{length-reds}

@@ -16,7 +16,7 @@ use Rattle.mesh.specs.Weights.{Point, coarseCells}
 use Rattle.mesh.specs.Table.{Level, next, levels, levelsOf}
 use Rattle.lattice.specs.Levels.{noLevel}
 use Rattle.same.specs.Olds.{concat, flagTable, upTo, oldsNext, redsBy, closedBy, statusesBy, growBy, stepBy}
-use Rattle.same.specs.Born.{length-next}
+use Rattle.rows.specs.Many.{length-next}
 use Rattle.same.specs.Paths.{length-coarse, length-upto}
 use Rattle.same.specs.Same.{length-olds}
 

@@ -21,7 +21,8 @@ use Rattle.lattice.specs.Every.{getD-map}
 use Rattle.lattice.specs.Levels.{sound-levels}
 use Rattle.numbers.specs.Refined.{Follows, closed-refined}
 use Rattle.same.specs.Olds.{flagOf, flagsOf, flags, concat, flagTable, firstChild}
-use Rattle.same.specs.Born.{noCell, length-next}
+use Rattle.rows.specs.Many.{length-next}
+use Rattle.same.specs.Born.{noCell}
 use Rattle.same.specs.Paths.{Paths, paths-next, paths-coarse, length-coarse}
 use Rattle.same.specs.Same.{Up, both-at}
 use Rattle.same.specs.Levels.{here}

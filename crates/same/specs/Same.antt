@@ -27,7 +27,8 @@ use Rattle.lattice.specs.Every.{getD-map}
 use Rattle.lattice.specs.Levels.{RedRegular}
 use Rattle.numbers.specs.Refined.{Both}
 use Rattle.same.specs.Olds.{firstChild, oldChild, upTo, oldsOf, oldsNext}
-use Rattle.same.specs.Born.{noCell, childOf, BornAt, born, born-below, born-at, length-children, children-at, size-refined, size-some}
+use Rattle.same.specs.Born.{noCell, childOf, BornAt, born, born-below, born-at, children-at}
+use Rattle.rows.specs.Many.{length-children, size-refined, size-some}
 use Rattle.same.specs.Paths.{pathAt, Paths, snoc-inj, length-upto, upto-at}
 
 pub record Is (l : Level) (t : ℕ) (c : Cell Point) : Type 0 where

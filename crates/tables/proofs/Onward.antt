@@ -32,7 +32,8 @@ use Rattle.growth.specs.Written.{written, take-written, length-written}
 use Rattle.growth.specs.Rows.{rowsAll, rows-next, length-rows, flat-append}
 use Rattle.growth.specs.Level.{Grows, Roomy}
 use Rattle.sizes.proofs.Sums.{status-fits}
-use Rattle.tables.specs.Levels.{Reached, reached-short, reached-more, reached-high, reached-open, reached-next, reached-end, length-next}
+use Rattle.rows.specs.Many.{length-next}
+use Rattle.tables.specs.Levels.{Reached, reached-short, reached-more, reached-high, reached-open, reached-next, reached-end}
 use Rattle.tables.specs.Checked.{Statuses, Reds, Whole, Checked, ownCells, ownStatuses, ownReds}
 use Rattle.tables.specs.Here.{Here, Top, Child, Mids}
 use Rattle.tables.proofs.Cells.{strip, Four, cells-at, red-strip, closed-strip, ends-strip, points-strip}

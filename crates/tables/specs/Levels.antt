@@ -16,29 +16,8 @@ use Rattle.cutting.specs.Rule.{family}
 use Rattle.mesh.specs.Cells.{Cell, redb, patternOf, children, childrenFrom, closedFrom, redEdges}
 use Rattle.mesh.specs.Weights.{Point, point, coarseCells}
 use Rattle.mesh.specs.Table.{Level, next, levels, levelsOf, cellsOf, closedb, apartb, soundb}
-use Rattle.rows.specs.Numbered.{sizeOf, sizes, part}
-
--- how many children
-length-from : (k : ℕ) (c : Cell Point) (r : Bool) (f : ℕ → Point) (i : ℕ) (ds : List (List ℕ)) → length (childrenFrom k c r f i ds) ≡ length ds
-unfolding childrenFrom
-length-from k c r f i [] = refl
-length-from k c r f i (d ∷ ds) = ap suc (length-from k c r f (suc i) ds)
-
-length-children : (k : ℕ) (c : Cell Point) (s : ℕ) (f : ℕ → Point) → length (children k c s f) ≡ sizeOf s
-unfolding children sizeOf
-length-children k c s f = go (eqb s 0) refl
-  where
-    go : (b : Bool) → eqb s 0 ≡ b → length (children k c s f) ≡ sizeOf s
-    go true e = rw (e, children, sizeOf)
-    go false e = rw (e, children, sizeOf) (length-from k c (redb s) f 0 (family (patternOf s)))
-
-pub length-next : (k : ℕ) (cs : List (Cell Point)) (ss : List ℕ) → length cs ≡ length ss → length (next k cs ss) ≡ sizes ss
-unfolding next sizes
-length-next k [] [] e = refl
-length-next k [] (s ∷ ss) e = absurd (omega arith)
-length-next k (c ∷ cs) [] e = absurd (omega arith)
-length-next k (c ∷ cs) (s ∷ ss) e =
-    length-append (children k c s (point c)) (next (suc k) cs ss) ∙ ap₂ _+_ (length-children k c s (point c)) (length-next (suc k) cs ss (omega arith))
+use Rattle.rows.specs.Numbered.{sizes, part}
+use Rattle.rows.specs.Many.{length-next}
 
 -- a level, and the levels above it
 module _ (k : ℕ) (cs : List (Cell Point)) (ss : List ℕ) where

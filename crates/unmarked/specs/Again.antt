@@ -22,7 +22,7 @@ use Rattle.rows.specs.Numbered.{sizeOf, sizes}
 use Rattle.lattice.specs.Every.{getD-map}
 use Rattle.numbers.specs.Refined.{Refined, Follows, closed-follows}
 use Rattle.same.specs.Olds.{flagOf, firstChild, oldChild, upTo, oldsOf, oldsNext, redsBy, closedBy, statusesBy, growBy}
-use Rattle.same.specs.Born.{length-children, length-next}
+use Rattle.rows.specs.Many.{length-children, length-next}
 use Rattle.same.specs.Paths.{length-upto, upto-at}
 use Rattle.same.specs.Same.{length-olds-of}
 

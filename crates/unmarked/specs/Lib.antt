@@ -1,3 +1,3 @@
 pub mod Again
 pub mod Flags
-pub mod Same
+pub mod Unmarked

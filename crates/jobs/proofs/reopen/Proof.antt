@@ -72,7 +72,7 @@ load-requires c κs =
     let f : formb bs ≡ true = sym (x .ensures .ok-is) ∙ not-false _ (c .before .before .before .before .before .before .before .before .before .if1 .left) in
     let k = x .ensures .counts (rw f tt) in
     let o : Octets bs = record { small = λ i h. omega (arith, c .before .before .before .before .before .before .before .before .before .before .before .before .before .shared-slice-known .given i) } in
-    (rw f tt, (k, job-room bs f _ _ _ _ k o (omega (arith, c .before .before .before .before .before .before .before .if2 .left)) (omega (arith, c .before .before .before .before .before .if3 .left)) _ _ _ _ _ refl refl refl refl refl))
+    (rw f tt, (k, job-room bs f _ _ _ _ k o (omega (arith, c .before .before .before .before .before .before .before .if2 .left)) (omega (arith, c .before .before .before .before .before .if3 .left)) _ _ _ _ _ (omega arith) (omega arith) (omega arith) (omega arith) (omega arith)))
 
 mul-v : tie.Need-mul-v
 mul-v c = search needs

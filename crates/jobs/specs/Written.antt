@@ -1,0 +1,184 @@
+-- What it says of flat tables that their job is accepted.
+--   passed, both     an accepted answer has passed its test, and both of its parts
+--   Written p ms es  the ends es do not fall from p on, the last is behind all marks ms, and the marks of each step rise
+--   Taken ..         the tables can be stored: positions by threes, cells by fours, few of them, such ends and marks
+--   tables-taken     so it is where the mesh and the steps are accepted
+use mathlib.Core.Path.{_≡_, refl}
+use mathlib.Core.Bool.{Bool, true, false, _&&_}
+use mathlib.Core.List.{List, [], _∷_}
+use Prim.Native.Nat.{ℕ, suc, _-_, _%_, _≤_, _<_}
+use native.Mathlib.Omega.{arith}
+use lib.Dec.{T, eqb, leb, eqb→eq, leb→le, ltb→lt}
+use lib.IntN.{ℤ, pos, negsuc, natAbs}
+use lib.ListN.{length, take, drop, length-replicate}
+use Rattle.base.specs.Lists.{allb, and-left, and-right}
+use Rattle.base.specs.Fours.{fours}
+use Rattle.base.specs.Refuse.{refuse}
+use Rattle.base.specs.declared.Answer.{Answer}
+use Rattle.base.specs.declared.Answer.the-variants.{Accepted, Refused}
+use Rattle.mesh.specs.Coarse.{cornerCount, cellCount, countsb, positionsb, cellb, cellsb, solidb, singleb, meshAnswer}
+use Rattle.mesh.specs.Step.{stepTable}
+use Rattle.tables.proofs.CoarseRows.{length-fours}
+use Rattle.layout.specs.Calls.{andThen}
+use Rattle.step.specs.Calls.{marksb, newTable, limitsAnswer}
+use Rattle.archive.specs.Bytes.{Word}
+use Rattle.archive.specs.Writable.{Each, Rises, Small}
+use Rattle.archive.specs.Tables.{Mark, pairs, stepsFrom}
+use Rattle.archive.specs.Stored.{Storable}
+use Rattle.archive.specs.Ends.{Climbs, lastFrom, climbs-rising, climbs-within}
+use Rattle.replay.specs.Run.{spread, markingb, oneAnswer, oneTable, restTable, flatAnswer, tablesAnswer}
+use Rattle.replay.specs.Scan.{mayb, markingFrom}
+use Rattle.replay.proofs.Marking.{from-start}
+
+pub passed : (n : ℕ) (b : Bool) (a : Answer) → refuse n b a ≡ Accepted → T b × (a ≡ Accepted)
+unfolding refuse
+passed n true a e = (tt, e)
+passed n false a e = let z : _≡_ {A = ℕ} 0 1 = cc in absurd (omega arith)
+
+pub both : (a b : Answer) → andThen a b ≡ Accepted → (a ≡ Accepted) × (b ≡ Accepted)
+unfolding andThen
+both Accepted b e = (refl, e)
+both (Refused k) b e = let z : _≡_ {A = ℕ} 0 1 = cc in absurd (omega arith)
+
+-- the mesh
+record Meshed (ps : List ℤ) (ts : List ℕ) : Type 0 where
+  threes : length ps % 3 ≡ 0
+  fours : length ts % 4 ≡ 0
+  corners : cornerCount ps ≤ 512
+  cells : cellCount ts ≤ 256
+
+meshed : (ps : List ℤ) (ts : List ℕ) → T (countsb ps ts) → Meshed ps ts
+unfolding countsb
+meshed ps ts t = search (and-left, and-right, eqb→eq, leb→le)
+
+word-of : (z : ℤ) → natAbs z ≤ 500000 → Word z
+unfolding Word
+word-of (pos n) h = omega arith
+word-of (negsuc n) h = omega arith
+
+words-of : (ps : List ℤ) → T (positionsb ps) → Each Word ps
+unfolding positionsb allb Each
+words-of [] t = tt
+words-of (z ∷ ps) t =
+    let b = allb (λ z. leb (natAbs z) 500000) ps in
+    (word-of z (leb→le (natAbs z) 500000 (and-left (leb (natAbs z) 500000) b t)), words-of ps (and-right (leb (natAbs z) 500000) b t))
+
+cell-rises : (n a b c d : ℕ) → T (cellb n (a ∷ b ∷ c ∷ d ∷ [])) → (a < b) × (b < c) × (c < d) × (d < n)
+unfolding cellb
+cell-rises n a b c d t = search (and-left, and-right, ltb→lt)
+
+numbers-of : (n : ℕ) (ts : List ℕ) → n ≤ 512 → length ts % 4 ≡ 0 → T (cellsb n (fours ts)) → Each Small ts
+unfolding cellsb allb fours Each
+numbers-of n [] h m t = tt
+numbers-of n (a ∷ []) h m t = absurd (omega arith)
+numbers-of n (a ∷ b ∷ []) h m t = absurd (omega arith)
+numbers-of n (a ∷ b ∷ c ∷ []) h m t = absurd (omega arith)
+numbers-of n (a ∷ b ∷ c ∷ d ∷ ts) h m t =
+    let q = cellb n (a ∷ b ∷ c ∷ d ∷ []) in
+    let (i, j, k, l) = cell-rises n a b c d (and-left q (allb (cellb n) (fours ts)) t) in
+    (omega arith, (omega arith, (omega arith, (omega arith, numbers-of n ts h (omega arith) (and-right q (allb (cellb n) (fours ts)) t)))))
+
+-- the marks of one step
+may-stand : (k b c m : ℕ) → T (mayb k b c m) → (b ≤ c) × (c < k) × (1 ≤ m) × (m ≤ 2)
+unfolding mayb
+may-stand k b c m t = search (and-left, and-right, leb→le, ltb→lt)
+
+rises-from : (k b : ℕ) (ms : List Mark) → k ≤ 4096 → T (markingFrom k b ms) → Rises b ms
+unfolding markingFrom Rises
+rises-from k b [] h t = tt
+rises-from k b (m ∷ ms) h t =
+    let (p, q, r, s) = may-stand k b (m .0) (m .1) (and-left (mayb k b (m .0) (m .1)) (markingFrom k (suc (m .0)) ms) t) in
+    (p, omega arith, r, s, rises-from k (suc (m .0)) ms h (and-right (mayb k b (m .0) (m .1)) (markingFrom k (suc (m .0)) ms) t))
+
+pub record Written (p : ℕ) (ms : List Mark) (es : List ℕ) : Type 0 where
+  pub climbs : Climbs p (length ms) es
+  pub last : lastFrom p es ≡ length ms
+  pub rising : Each (Rises 0) (stepsFrom p ms es)
+
+module _ (n : ℕ) (qs : List (List ℕ)) where
+  one-rises : (t : List ℕ) (m : List Mark) → length t ≤ 4096 → oneAnswer n qs t m ≡ Accepted → Rises 0 m
+  unfolding oneAnswer
+  one-rises t m h e =
+      let ms = spread (length t) m in
+      let (b, _) = passed 7 (markingb (length t) m && marksb t ms) (limitsAnswer n qs t ms) e in
+      rises-from (length t) 0 m h (rw (from-start (length t) m) (and-left (markingb (length t) m) (marksb t ms) b))
+
+  one-few : (t : List ℕ) (m : List Mark) → oneAnswer n qs t m ≡ Accepted → length (oneTable n qs t m) ≤ 4096
+  unfolding oneAnswer limitsAnswer
+  one-few t m e =
+      let ms = spread (length t) m in
+      let (_, a) = passed 7 (markingb (length t) m && marksb t ms) (limitsAnswer n qs t ms) e in
+      let nine = leb (length (newTable n qs t ms)) 4096 in
+      let (_, b) = passed 8 (leb (length (stepTable n qs t ms)) 11) (refuse 9 nine Accepted) a in
+      leb→le (length (newTable n qs t ms)) 4096 (passed 9 nine Accepted b .0)
+
+  flat-written : (t : List ℕ) (p : ℕ) (ms : List Mark) (es : List ℕ) → length t ≤ 4096 → flatAnswer n qs t p ms es ≡ Accepted → Written p ms es
+  unfolding flatAnswer Climbs lastFrom stepsFrom Each
+  flat-written t p ms [] h a = record { climbs = tt; last = eqb→eq p (length ms) (passed 7 (eqb p (length ms)) Accepted a .0); rising = tt }
+  flat-written t p ms (e ∷ es) h a =
+      let m = take (e - p) (drop p ms) in
+      let rest = flatAnswer n qs (oneTable n qs t m) e ms es in
+      let (b, c) = passed 7 (leb p e && leb e (length ms)) (andThen (oneAnswer n qs t m) rest) a in
+      let (d, f) = both (oneAnswer n qs t m) rest c in
+      let i : Written e ms es = flat-written (oneTable n qs t m) e ms es (one-few t m d) f in
+      record {
+        climbs = (leb→le p e (and-left (leb p e) (leb e (length ms)) b), leb→le e (length ms) (and-right (leb p e) (leb e (length ms)) b), i .climbs);
+        last = i .last;
+        rising = (one-rises t m h d, i .rising);
+      }
+
+pub length-pairs : (cs ms : List ℕ) → length cs ≡ length ms → length (pairs cs ms) ≡ length cs
+unfolding pairs
+length-pairs [] ms e = refl
+length-pairs (c ∷ cs) [] e = absurd (omega arith)
+length-pairs (c ∷ cs) (m ∷ ms) e = omega (arith, length-pairs cs ms (omega arith))
+
+pub record Taken (ps : List ℤ) (ts cs ms es : List ℕ) : Type 0 where
+  pub storable : Storable ps ts cs ms es
+  pub corners : cornerCount ps ≤ 512
+  pub cells : cellCount ts ≤ 256
+  pub words : Each Word ps
+  pub numbers : Each Small ts
+  pub same : length cs ≡ length ms
+  pub marks : length (pairs cs ms) ≡ length cs
+  pub written : Written 0 (pairs cs ms) es
+
+module _ (ps : List ℤ) (ts cs ms es : List ℕ) (e : tablesAnswer ps ts cs ms es ≡ Accepted) where
+  pub tables-taken : Taken ps ts cs ms es
+  unfolding tablesAnswer meshAnswer
+  tables-taken =
+      let qs = fours ts in
+      let n = cornerCount ps in
+      let five = refuse 5 (singleb qs) Accepted in
+      let four = refuse 4 (solidb ps qs) five in
+      let three = refuse 3 (cellsb n qs) four in
+      let two = refuse 2 (positionsb ps) three in
+      let flat = flatAnswer n qs (restTable qs) 0 (pairs cs ms) es in
+      let (mesh, steps) = both (meshAnswer ps ts) (refuse 7 (eqb (length cs) (length ms)) flat) e in
+      let (a, b) = passed 1 (countsb ps ts) two mesh in
+      let (c, d) = passed 2 (positionsb ps) three b in
+      let (f, _) = passed 3 (cellsb n qs) four d in
+      let (g, h) = passed 7 (eqb (length cs) (length ms)) flat steps in
+      let k : Meshed ps ts = meshed ps ts a in
+      let l : length (restTable qs) ≤ 4096 = omega (arith, length-replicate {A = ℕ} (length qs) 0, length-fours ts, k .cells) in
+      let w : Written 0 (pairs cs ms) es = flat-written n qs (restTable qs) 0 (pairs cs ms) es l h in
+      let same : length cs ≡ length ms = eqb→eq (length cs) (length ms) g in
+      let many : length (pairs cs ms) ≡ length cs = length-pairs cs ms same in
+      record {
+        storable = record {
+          threes = k .threes;
+          fours = k .fours;
+          ends = record {
+            rising = climbs-rising 0 (length (pairs cs ms)) es (w .climbs);
+            in-marked = λ i h. omega (arith, climbs-within 0 (length (pairs cs ms)) es (w .climbs) i h, many);
+            in-marks = λ i h. omega (arith, climbs-within 0 (length (pairs cs ms)) es (w .climbs) i h, many, same);
+          };
+        };
+        corners = k .corners;
+        cells = k .cells;
+        words = words-of ps c;
+        numbers = numbers-of n ts (k .corners) (k .fours) f;
+        same = same;
+        marks = many;
+        written = w;
+      }

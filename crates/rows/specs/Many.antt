@@ -1,0 +1,49 @@
+-- How many children there are.
+--   length-children   a cell's children are as many as its status says; size-refined, size-some: of a refined cell
+--   next-size, length-next   the cells one level up
+use mathlib.Core.Path.{_≡_, refl, _∙_, ap, ap₂}
+use mathlib.Core.Logic.{_≢_}
+use mathlib.Core.Bool.{Bool, true, false}
+use mathlib.Core.List.{List, [], _∷_}
+use Prim.Native.Nat.{ℕ, suc, _+_, _≤_, _<_}
+use native.Mathlib.Omega.{arith}
+use lib.Dec.{eqb}
+use lib.ListN.{length, length-append}
+use borrow.Author.Tests.{ne-eqb}
+use Rattle.cutting.specs.Rule.{family}
+use Rattle.mesh.specs.Cells.{Cell, redb, patternOf, children, childrenFrom}
+use Rattle.mesh.specs.Weights.{Point, point}
+use Rattle.mesh.specs.Table.{next}
+use Rattle.rows.specs.Numbered.{sizeOf, sizes}
+
+length-from : {A : Type 0} (k : ℕ) (c : Cell A) (r : Bool) (f : ℕ → A) (i : ℕ) (ds : List (List ℕ)) → length (childrenFrom k c r f i ds) ≡ length ds
+unfolding childrenFrom
+length-from k c r f i [] = refl
+length-from k c r f i (d ∷ ds) = ap suc (length-from k c r f (suc i) ds)
+
+pub length-children : {A : Type 0} (k : ℕ) (c : Cell A) (s : ℕ) (f : ℕ → A) → length (children k c s f) ≡ sizeOf s
+unfolding children sizeOf
+length-children k c s f = go (eqb s 0) refl
+  where
+    go : (b : Bool) → eqb s 0 ≡ b → length (children k c s f) ≡ sizeOf s
+    go true e = rw (e, children, sizeOf)
+    go false e = rw (e, children, sizeOf) (length-from k c (redb s) f 0 (family (patternOf s)))
+
+pub size-refined : (s : ℕ) → s ≢ 0 → sizeOf s ≡ length (family (patternOf s))
+unfolding sizeOf
+size-refined s z = rw (ne-eqb s 0 z, sizeOf)
+
+pub size-some : (s i : ℕ) → i < sizeOf s → s ≢ 0
+unfolding sizeOf
+size-some s i h e = let w : i < 0 = rw e at h in omega arith
+
+pub next-size : (k : ℕ) (cs : List (Cell Point)) (ss : List ℕ) → length ss ≤ length cs → length (next k cs ss) ≡ sizes ss
+unfolding next sizes
+next-size k [] [] h = refl
+next-size k [] (s ∷ ss) h = absurd (omega arith)
+next-size k (c ∷ cs) [] h = refl
+next-size k (c ∷ cs) (s ∷ ss) h =
+    length-append (children k c s (point c)) (next (suc k) cs ss) ∙ ap₂ _+_ (length-children k c s (point c)) (next-size (suc k) cs ss (omega arith))
+
+pub length-next : (k : ℕ) (cs : List (Cell Point)) (ss : List ℕ) → length cs ≡ length ss → length (next k cs ss) ≡ sizes ss
+length-next k cs ss e = next-size k cs ss (omega arith)
