@@ -1,31 +1,24 @@
 -- What an accepted mesh and a sound table over it, or an accepted step, say of the leaves.
 -- Laws: mesh-parts (an accepted mesh), table-open, table-meets, stepped-open, stepped-meets.
 use mathlib.Core.Path.{_≡_}
-use mathlib.Core.Bool.{Bool, true, false}
 use mathlib.Core.List.{List}
 use Prim.Native.Nat.{ℕ, _≤_}
-use native.Mathlib.Omega.{arith}
 use lib.Dec.{T}
 use lib.IntN.{ℤ}
 use lib.ListN.{length}
 use Rattle.base.specs.Fours.{fours}
 use Rattle.base.specs.Refuse.{refuse}
-use Rattle.base.specs.declared.Answer.{Answer}
-use Rattle.base.specs.declared.Answer.the-variants.{Accepted, Refused}
+use Rattle.base.specs.declared.Answer.the-variants.{Accepted}
 use Rattle.mesh.specs.Coarse.{cornerCount, countsb, positionsb, cellsb, solidb, singleb, meshAnswer}
 use Rattle.mesh.specs.Table.{soundb}
 use Rattle.mesh.specs.Step.{stepTable}
 use Rattle.lattice.specs.Levels.{fours-four}
 use Rattle.same.specs.Olds.{concat}
+use Rattle.replay.specs.Accepted.{passed}
 use Rattle.conform.specs.Leaves.{openb, meetb}
 use Rattle.conform.specs.Open.{sound-open}
 use Rattle.conform.specs.Meets.{sound-meets}
 use Rattle.conform.specs.Step.{step-open, step-meets}
-
-pub passed : (n : ℕ) (b : Bool) (a : Answer) → refuse n b a ≡ Accepted → T b × (a ≡ Accepted)
-unfolding refuse
-passed n true a e = (tt, e)
-passed n false a e = let z : _≡_ {A = ℕ} 0 1 = cc in absurd (omega arith)
 
 module _ (ps : List ℤ) (ts : List ℕ) (accepted : meshAnswer ps ts ≡ Accepted) where
   abbrev pub corners : ℕ

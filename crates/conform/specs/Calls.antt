@@ -1,38 +1,22 @@
 -- What an accepted call says of the leaves: of a table that is examined, and of the table that a step gives.
 -- Laws: examined-open, examined-meets (a table), step-open, step-meets (a step).
-use mathlib.Core.Path.{_≡_, refl}
-use mathlib.Core.Bool.{Bool, true, false}
+use mathlib.Core.Path.{_≡_}
 use mathlib.Core.List.{List}
 use Prim.Native.Nat.{ℕ, _≤_}
-use native.Mathlib.Omega.{arith}
-use lib.Dec.{T, leb, leb→le}
+use lib.Dec.{T, leb}
 use lib.IntN.{ℤ}
 use lib.ListN.{length}
 use Rattle.base.specs.Fours.{fours}
 use Rattle.base.specs.Refuse.{refuse}
-use Rattle.base.specs.declared.Answer.{Answer}
-use Rattle.base.specs.declared.Answer.the-variants.{Accepted, Refused}
+use Rattle.base.specs.declared.Answer.the-variants.{Accepted}
 use Rattle.mesh.specs.Coarse.{cornerCount, meshAnswer}
 use Rattle.mesh.specs.Table.{soundb}
 use Rattle.mesh.specs.Step.{stepTable}
 use Rattle.layout.specs.Calls.{andThen, tableAnswer}
 use Rattle.step.specs.Calls.{marksb, newTable, limitsAnswer, stepAnswer}
+use Rattle.replay.specs.Accepted.{passed, both, limits-within}
 use Rattle.conform.specs.Leaves.{openb, meetb}
-use Rattle.conform.specs.Accepted.{passed, table-open, table-meets, stepped-open, stepped-meets}
-
--- the limits
-pub limits-within : (n : ℕ) (qs : List (List ℕ)) (ss ms : List ℕ) → limitsAnswer n qs ss ms ≡ Accepted
-    → (length (stepTable n qs ss ms) ≤ 11) × (length (newTable n qs ss ms) ≤ 4096)
-unfolding limitsAnswer
-limits-within n qs ss ms e =
-    let (a, b) = passed 8 (leb (length (stepTable n qs ss ms)) 11) (refuse 9 (leb (length (newTable n qs ss ms)) 4096) Accepted) e in
-    let (c, _) = passed 9 (leb (length (newTable n qs ss ms)) 4096) Accepted b in
-    (leb→le (length (stepTable n qs ss ms)) 11 a, leb→le (length (newTable n qs ss ms)) 4096 c)
-
-pub both : (a b : Answer) → andThen a b ≡ Accepted → (a ≡ Accepted) × (b ≡ Accepted)
-unfolding andThen
-both Accepted b e = (refl, e)
-both (Refused k) b e = let z : _≡_ {A = ℕ} 0 1 = cc in absurd (omega arith)
+use Rattle.conform.specs.Accepted.{table-open, table-meets, stepped-open, stepped-meets}
 
 module _ (ps : List ℤ) (ts ss : List ℕ) where
   -- an accepted table

@@ -51,7 +51,7 @@ module _ (bs table counts : List ℕ) where
   refused-so k e = (rw e, (rw e, rw e))
 
   module _ (g : 4096 ≤ length table) (h : 44 ≤ length counts) where
-    long : answer ≡ archiveAnswer bs
+    pub long : answer ≡ archiveAnswer bs
     unfolding replayAnswer refuse
     long = rw (le-leb 4096 (length table) g, le-leb 44 (length counts) h)
 

@@ -26,8 +26,9 @@ use Rattle.archive.specs.Reading.{read-written}
 use Rattle.archive.specs.Written.{written-read}
 use Rattle.replay.specs.Run.{jobAnswer, tablesAnswer}
 use Rattle.replay.specs.Flat.{tables-answer}
+use Rattle.replay.specs.Accepted.{passed, both}
 use Rattle.jobs.specs.Calls.{archiveAnswer, writeAnswer}
-use Rattle.jobs.specs.Written.{passed, both, Taken, tables-taken}
+use Rattle.jobs.specs.Written.{Taken, tables-taken}
 
 -- the tables of a job that is given by tables
 cells-back : (cs ms : List ℕ) → length cs ≡ length ms → map cellOf (pairs cs ms) ≡ cs

@@ -1,10 +1,9 @@
 -- What it says of flat tables that their job is accepted.
---   passed, both     an accepted answer has passed its test, and both of its parts
 --   Written p ms es  the ends es do not fall from p on, the last is behind all marks ms, and the marks of each step rise
 --   Taken ..         the tables can be stored: positions by threes, cells by fours, few of them, such ends and marks
 --   tables-taken     so it is where the mesh and the steps are accepted
 use mathlib.Core.Path.{_≡_, refl}
-use mathlib.Core.Bool.{Bool, true, false, _&&_}
+use mathlib.Core.Bool.{_&&_}
 use mathlib.Core.List.{List, [], _∷_}
 use Prim.Native.Nat.{ℕ, suc, _-_, _%_, _≤_, _<_}
 use native.Mathlib.Omega.{arith}
@@ -14,13 +13,11 @@ use lib.ListN.{length, take, drop, length-replicate}
 use Rattle.base.specs.Lists.{allb, and-left, and-right}
 use Rattle.base.specs.Fours.{fours}
 use Rattle.base.specs.Refuse.{refuse}
-use Rattle.base.specs.declared.Answer.{Answer}
-use Rattle.base.specs.declared.Answer.the-variants.{Accepted, Refused}
+use Rattle.base.specs.declared.Answer.the-variants.{Accepted}
 use Rattle.mesh.specs.Coarse.{cornerCount, cellCount, countsb, positionsb, cellb, cellsb, solidb, singleb, meshAnswer}
-use Rattle.mesh.specs.Step.{stepTable}
 use Rattle.tables.proofs.CoarseRows.{length-fours}
 use Rattle.layout.specs.Calls.{andThen}
-use Rattle.step.specs.Calls.{marksb, newTable, limitsAnswer}
+use Rattle.step.specs.Calls.{marksb, limitsAnswer}
 use Rattle.archive.specs.Bytes.{Word}
 use Rattle.archive.specs.Writable.{Each, Rises, Small}
 use Rattle.archive.specs.Tables.{Mark, pairs, stepsFrom}
@@ -28,17 +25,8 @@ use Rattle.archive.specs.Stored.{Storable}
 use Rattle.archive.specs.Ends.{Climbs, lastFrom, climbs-rising, climbs-within}
 use Rattle.replay.specs.Run.{spread, markingb, oneAnswer, oneTable, restTable, flatAnswer, tablesAnswer}
 use Rattle.replay.specs.Scan.{mayb, markingFrom}
+use Rattle.replay.specs.Accepted.{passed, both, limits-within}
 use Rattle.replay.proofs.Marking.{from-start}
-
-pub passed : (n : ℕ) (b : Bool) (a : Answer) → refuse n b a ≡ Accepted → T b × (a ≡ Accepted)
-unfolding refuse
-passed n true a e = (tt, e)
-passed n false a e = let z : _≡_ {A = ℕ} 0 1 = cc in absurd (omega arith)
-
-pub both : (a b : Answer) → andThen a b ≡ Accepted → (a ≡ Accepted) × (b ≡ Accepted)
-unfolding andThen
-both Accepted b e = (refl, e)
-both (Refused k) b e = let z : _≡_ {A = ℕ} 0 1 = cc in absurd (omega arith)
 
 -- the mesh
 record Meshed (ps : List ℤ) (ts : List ℕ) : Type 0 where
@@ -104,13 +92,11 @@ module _ (n : ℕ) (qs : List (List ℕ)) where
       rises-from (length t) 0 m h (rw (from-start (length t) m) (and-left (markingb (length t) m) (marksb t ms) b))
 
   one-few : (t : List ℕ) (m : List Mark) → oneAnswer n qs t m ≡ Accepted → length (oneTable n qs t m) ≤ 4096
-  unfolding oneAnswer limitsAnswer
+  unfolding oneAnswer
   one-few t m e =
       let ms = spread (length t) m in
       let (_, a) = passed 7 (markingb (length t) m && marksb t ms) (limitsAnswer n qs t ms) e in
-      let nine = leb (length (newTable n qs t ms)) 4096 in
-      let (_, b) = passed 8 (leb (length (stepTable n qs t ms)) 11) (refuse 9 nine Accepted) a in
-      leb→le (length (newTable n qs t ms)) 4096 (passed 9 nine Accepted b .0)
+      limits-within n qs t ms a .1
 
   flat-written : (t : List ℕ) (p : ℕ) (ms : List Mark) (es : List ℕ) → length t ≤ 4096 → flatAnswer n qs t p ms es ≡ Accepted → Written p ms es
   unfolding flatAnswer Climbs lastFrom stepsFrom Each

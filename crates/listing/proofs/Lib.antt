@@ -2,3 +2,4 @@ pub mod Digits
 pub mod Text
 pub mod Fields
 pub mod Levels
+pub mod Archives

@@ -2,3 +2,5 @@ pub mod Run
 pub mod Scan
 pub mod Going
 pub mod Flat
+pub mod Accepted
+pub mod Sound

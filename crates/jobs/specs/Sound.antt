@@ -1,0 +1,81 @@
+-- The table of an accepted job.
+-- Laws: job-parts (its mesh and its steps are accepted), job-sound (its table is sound), job-high (at most 11 levels), job-counts (four numbers a
+-- level), counts-few (at most 44), archive-job (an accepted archive holds an accepted job).
+use mathlib.Core.Path.{_≡_, refl, _∙_, ap}
+use mathlib.Core.Bool.{true, _&&_}
+use mathlib.Core.List.{List, [], _∷_, flatMap}
+use Prim.Native.Nat.{ℕ, _+_, _*_, _≤_}
+use native.Mathlib.Omega.{arith}
+use lib.Dec.{T, eqb, leb, leb→le}
+use lib.ListN.{length, length-append}
+use Rattle.base.specs.Lists.{allb, and-left, and-right}
+use Rattle.base.specs.Fours.{fours}
+use Rattle.base.specs.declared.Answer.the-variants.{Accepted}
+use Rattle.mesh.specs.Coarse.{cornerCount, meshAnswer}
+use Rattle.mesh.specs.Table.{Level, levelsOf, cellsOf, closedb, apartb, soundb}
+use Rattle.mesh.specs.Counts.{countsOf, countTable}
+use Rattle.lattice.specs.Levels.{fours-four}
+use Rattle.tables.specs.Sound.{Mesh}
+use Rattle.tables.proofs.CoarseRows.{length-fours}
+use Rattle.layout.specs.Opened.{codeOf}
+use Rattle.layout.proofs.Accepted.{mesh-passed}
+use Rattle.archive.specs.Job.{Job}
+use Rattle.archive.specs.Form.{formb, jobOf}
+use Rattle.replay.specs.Run.{runAnswer, restTable, jobAnswer, jobTable}
+use Rattle.replay.specs.Accepted.{passed, both}
+use Rattle.replay.specs.Sound.{run-sound}
+use Rattle.replay.proofs.Rest.{rest-sound}
+use Rattle.jobs.specs.Calls.{archiveAnswer, jobLevels, jobCounts}
+
+-- a sound table has at most 11 levels
+sound-high : (n : ℕ) (qs : List (List ℕ)) (ss : List ℕ) → T (soundb n qs ss) → length (levelsOf n qs ss) ≤ 11
+unfolding soundb
+sound-high n qs ss s =
+    let ls = levelsOf n qs ss in
+    let cs = cellsOf ls in
+    let low = leb (length ls) 11 && leb (length cs) 4096 in
+    let a : T (eqb (length ss) (length cs) && low) = and-left (eqb (length ss) (length cs) && low) (allb closedb ls && apartb cs ss) s in
+    let b : T low = and-right (eqb (length ss) (length cs)) low a in
+    leb→le (length ls) 11 (and-left (leb (length ls) 11) (leb (length cs) 4096) b)
+
+-- four numbers a level
+count-length : (ls : List Level) → length (countTable ls) ≡ 4 * length ls
+unfolding countTable countsOf flatMap
+count-length [] = refl
+count-length (l ∷ ls) = length-append (countsOf l) (countTable ls) ∙ omega (arith, count-length ls)
+
+module _ (j : Job) where
+  pub job-counts : length (jobCounts j) ≡ 4 * length (jobLevels j)
+  job-counts = count-length (jobLevels j)
+
+  module _ (e : jobAnswer j ≡ Accepted) where
+    abbrev n : ℕ
+    n = cornerCount (j .positions)
+
+    abbrev qs : List (List ℕ)
+    qs = fours (j .cells)
+
+    pub job-parts : (meshAnswer (j .positions) (j .cells) ≡ Accepted) × (runAnswer n qs (restTable qs) (j .steps) ≡ Accepted)
+    unfolding jobAnswer
+    job-parts = both (meshAnswer (j .positions) (j .cells)) (runAnswer n qs (restTable qs) (j .steps)) e
+
+    mesh : Mesh n (j .cells)
+    unfolding codeOf
+    mesh = mesh-passed (j .positions) (j .cells) (rw (job-parts .0)) .mesh
+
+    pub job-sound : T (soundb n qs (jobTable j))
+    unfolding jobTable
+    job-sound =
+        let l = length-fours (j .cells) in
+        let r : soundb n qs (restTable qs) ≡ true = rest-sound n qs (omega (arith, l, mesh .some, mesh .whole)) (omega (arith, l, mesh .few)) in
+        run-sound n qs (fours-four (j .cells)) (mesh .cells) (restTable qs) (j .steps) (rw r tt) (job-parts .1)
+
+    pub job-high : length (jobLevels j) ≤ 11
+    job-high = sound-high n qs (jobTable j) job-sound
+
+    pub counts-few : length (jobCounts j) ≤ 44
+    counts-few = omega (arith, job-counts, job-high)
+
+pub archive-job : (bs : List ℕ) → archiveAnswer bs ≡ Accepted → jobAnswer (jobOf bs) ≡ Accepted
+unfolding archiveAnswer
+archive-job bs e = passed 17 (formb bs) (jobAnswer (jobOf bs)) e .1

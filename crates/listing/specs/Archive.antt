@@ -1,0 +1,34 @@
+-- The listing of an archive (document 01, "Archive and listing").
+--   listed a cs     what is printed of an archive with the answer a and the counts cs
+--   listingOf bs    the bytes of the listing of the archive bs
+-- Law: archive-fits (a listing has at most 512 bytes).
+use mathlib.Core.Path.{_≡_, refl}
+use mathlib.Core.List.{List}
+use Prim.Native.Nat.{ℕ, _≤_}
+use native.Mathlib.Omega.{arith}
+use lib.ListN.{length}
+use Rattle.base.specs.declared.Answer.{Answer}
+use Rattle.base.specs.declared.Answer.the-variants.{Accepted, Refused}
+use Rattle.archive.specs.Form.{jobOf}
+use Rattle.jobs.specs.Calls.{archiveAnswer, jobCounts}
+use Rattle.jobs.specs.Sound.{counts-few, archive-job}
+use Rattle.listing.specs.Lines.{listing, refusal}
+use Rattle.listing.specs.Sizes.{listing-fits, refusal-fits}
+
+-- "A refused archive prints only `refused ` and the number, as such a line."
+unfoldable pub listed : Answer → List ℕ → List ℕ
+unfolding listing refusal
+listed Accepted cs = listing cs
+listed (Refused k) cs = refusal k
+
+unfoldable pub listingOf : List ℕ → List ℕ
+unfolding listed archiveAnswer jobOf
+listingOf bs = listed (archiveAnswer bs) (jobCounts (jobOf bs))
+
+pub archive-fits : (bs : List ℕ) → length (listingOf bs) ≤ 512
+unfolding listingOf listed
+archive-fits bs = go (archiveAnswer bs) refl
+  where
+    go : (a : Answer) → archiveAnswer bs ≡ a → length (listed a (jobCounts (jobOf bs))) ≤ 512
+    go Accepted e = listing-fits (jobCounts (jobOf bs)) (counts-few (jobOf bs) (archive-job bs e))
+    go (Refused k) e = omega (arith, refusal-fits k)

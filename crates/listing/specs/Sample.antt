@@ -1,0 +1,37 @@
+-- The case of document 01: "Meshlist on A, M(0,1), G, M(1,1), G, E".
+--   sample          the bytes of this archive
+--   sampleLines     the bytes of its listing
+-- Law: sample-listed.
+use mathlib.Core.Path.{_≡_, refl}
+use mathlib.Core.List.{List, [], _∷_, _++_}
+use Prim.Native.Nat.{ℕ}
+use Rattle.cutting.specs.Rule.{family}
+use Rattle.mesh.specs.Counts.{countTable}
+use Rattle.replay.specs.Run.{jobTable}
+use Rattle.listing.specs.Lines.{header}
+use Rattle.listing.specs.Archive.{listingOf}
+
+pub sample : List ℕ
+sample =
+    86 ∷ 0 ∷ 0 ∷ 0 ∷ 0 ∷ 0 ∷ 0 ∷ 0 ∷ 0 ∷ 0 ∷ 0 ∷ 0 ∷ 0 ∷
+    86 ∷ 16 ∷ 0 ∷ 0 ∷ 0 ∷ 0 ∷ 0 ∷ 0 ∷ 0 ∷ 0 ∷ 0 ∷ 0 ∷ 0 ∷
+    86 ∷ 0 ∷ 0 ∷ 0 ∷ 0 ∷ 16 ∷ 0 ∷ 0 ∷ 0 ∷ 0 ∷ 0 ∷ 0 ∷ 0 ∷
+    86 ∷ 0 ∷ 0 ∷ 0 ∷ 0 ∷ 0 ∷ 0 ∷ 0 ∷ 0 ∷ 16 ∷ 0 ∷ 0 ∷ 0 ∷
+    84 ∷ 0 ∷ 0 ∷ 1 ∷ 0 ∷ 2 ∷ 0 ∷ 3 ∷ 0 ∷
+    77 ∷ 0 ∷ 0 ∷ 1 ∷
+    71 ∷
+    77 ∷ 1 ∷ 0 ∷ 1 ∷
+    71 ∷
+    69 ∷ []
+
+-- "prints exactly": the header, 0 1 1 0 0, 1 8 1 3 4, 2 16 0 0 16
+pub sampleLines : List ℕ
+sampleLines =
+    header
+    ++ (48 ∷ 32 ∷ 49 ∷ 32 ∷ 49 ∷ 32 ∷ 48 ∷ 32 ∷ 48 ∷ 10 ∷
+    49 ∷ 32 ∷ 56 ∷ 32 ∷ 49 ∷ 32 ∷ 51 ∷ 32 ∷ 52 ∷ 10 ∷
+    50 ∷ 32 ∷ 49 ∷ 54 ∷ 32 ∷ 48 ∷ 32 ∷ 48 ∷ 32 ∷ 49 ∷ 54 ∷ 10 ∷ [])
+
+pub sample-listed : listingOf sample ≡ sampleLines
+unfolding sample sampleLines listingOf family countTable jobTable
+sample-listed = refl

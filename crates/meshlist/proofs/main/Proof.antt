@@ -1,0 +1,62 @@
+-- `meshlist::main` faults nowhere: a listing has at most 512 bytes.
+-- Assumes nothing.
+use mathlib.Core.Path.{_≡_, sym}
+use mathlib.Core.List.{List}
+use Prim.Native.Nat.{ℕ, _≤_}
+use native.Mathlib.Omega.{arith}
+use lib.ListN.{length}
+use lib.Seq.{length-take-le}
+use Rattle.listing.specs.Archive.{listingOf, archive-fits}
+use borrow.Author.Needs.{needs}
+use Rattle.meshlist.proofs.main.Statement.{statement}
+use Rattle.meshlist.proofs.main.Tie as tie
+
+room : (bs : List ℕ) (m k : ℕ) → m ≡ length (listingOf bs) → k ≡ 512 → m ≤ k
+room bs m k e f = omega (arith, archive-fits bs)
+
+slice-aggregate-read-full : tie.Need-slice-aggregate-read-full
+slice-aggregate-read-full c = search needs
+
+read-full-requires : tie.Need-read-full-requires
+read-full-requires c κs = search needs
+
+array-share-prefix-bytes : tie.Need-array-share-prefix-bytes
+array-share-prefix-bytes c = search needs
+
+slice-aggregate-list : tie.Need-slice-aggregate-list
+slice-aggregate-list c = search needs
+
+slice-aggregate-list-2 : tie.Need-slice-aggregate-list-2
+slice-aggregate-list-2 c = search needs
+
+list-requires : tie.Need-list-requires
+list-requires c κs = search needs
+
+array-share-prefix-out : tie.Need-array-share-prefix-out
+array-share-prefix-out c = room _ (c .before .list .result) _ (c .before .list .ensures .1) (c .before .list .kept .1 .0)
+
+slice-aggregate-write-all : tie.Need-slice-aggregate-write-all
+slice-aggregate-write-all c =
+    let l = c .before .before .list in
+    sym (length-take-le (l .result) _ (room _ (l .result) _ (l .ensures .1) (l .kept .1 .0)))
+
+write-all-requires : tie.Need-write-all-requires
+write-all-requires c κs = search needs
+
+returns : tie.Need-returns
+returns c = search needs
+
+pub main-spec : {M : Type 1} → statement M
+main-spec =
+    tie.close
+    (tie.spec
+    slice-aggregate-read-full
+    read-full-requires
+    array-share-prefix-bytes
+    slice-aggregate-list
+    slice-aggregate-list-2
+    list-requires
+    array-share-prefix-out
+    slice-aggregate-write-all
+    write-all-requires
+    returns)
