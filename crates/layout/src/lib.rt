@@ -41,7 +41,8 @@ pub struct Found {
     pub mids: usize,
 }
 
-fn code(answer: Answer) -> u8
+// The number of an answer, 0 where it is accepted.
+pub fn code(answer: Answer) -> u8
     ensures { λ r. ⌜ r ≡ codeOf answer ⌝ }
 {
     match answer {

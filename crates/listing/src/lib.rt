@@ -132,8 +132,7 @@ pub fn write_refusal(k: u8, out: &mut [u8]) -> usize
 }
 
 // Lists an archive. Gives how many bytes the listing has.
-pub fn list(bytes: &[u8], out: &mut [u8]) -> usize
-    requires { ⌜ 512 ≤ length (now out) ⌝ }
+pub fn list(bytes: &[u8], out: &mut [u8; 512]) -> usize
     ensures { λ r. ⌜ now (out .exit) ≡ listingOf (now (bytes .entry)) ++ drop (length (listingOf (now (bytes .entry)))) (now (out .entry)) ⌝ }
     ensures { λ r. ⌜ r ≡ length (listingOf (now (bytes .entry))) ⌝ }
 {

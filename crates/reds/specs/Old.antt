@@ -5,6 +5,7 @@
 --   OneLevel ..          the same where they are a level, and an edge table with nothing in it
 --   Above ..             what treating h levels from this one on leaves
 --   Marked ..            a sound table over an accepted mesh of n corners with its rows, and marks
+--   Room ..              the lengths of the work tables
 use mathlib.Core.Path.{_≡_}
 use mathlib.Core.List.{List, _++_}
 use Prim.Native.Nat.{ℕ, suc, _+_, _*_, _-_, _≤_, _<_}
@@ -54,3 +55,9 @@ pub record Marked (n : ℕ) (mesh rows ss ms ks red : List ℕ) : Type 0 where
   pub marks : length ms ≡ length ss
   pub firsts : take (suc (length ss)) ks ≡ firstChildren (length (fours mesh)) ss
   pub room : length ss ≤ length red
+
+pub record Room (xs ys heads links : List ℕ) : Type 0 where
+  pub in-xs : 24576 ≤ length xs
+  pub in-ys : 24576 ≤ length ys
+  pub in-heads : 4096 ≤ length heads
+  pub in-links : 24576 ≤ length links

@@ -11,7 +11,7 @@ ghost use Rattle.edges.specs.Table.{Table};
 ghost use Rattle.closure.specs.Ready.{Looks};
 ghost use Rattle.same.specs.Olds.{flagOf, flagTable};
 ghost use Rattle.reds.specs.Flags.{range, firstChildren, listedb, idleb, touchedb, redAtb, flagsAt, pulledb};
-ghost use Rattle.reds.specs.Old.{Old, Span, OneLevel, Above, Marked};
+ghost use Rattle.reds.specs.Old.{Old, Span, OneLevel, Above, Marked, Room};
 
 // The number of the first child of each cell, and behind them the count of all cells.
 pub fn first_children(status: &[u8], coarse: usize, kids: &mut [u16])
@@ -304,7 +304,7 @@ fn flag_up(
     Entries { from: up.n, n: m }
 }
 
-// Writes 64 for each cell that will be red and 0 for each other.
+// Writes 64 for each cell that will be red and 0 for each other. The last four tables are for the work, whatever they hold.
 pub fn new_reds(
     mesh: &[u16],
     n: usize,
@@ -313,15 +313,16 @@ pub fn new_reds(
     marks: &[u8],
     kids: &[u16],
     red: &mut [u8],
+    xs: &mut [u32],
+    ys: &mut [u32],
+    heads: &mut [u16],
+    links: &mut [u16],
 )
     requires { ⌜ Marked n (now mesh) (now rows) (now status) (now marks) (now kids) (now red) ⌝ }
+    requires { ⌜ Room (now xs) (now ys) (now heads) (now links) ⌝ }
     ensures { λ r. ⌜ now (red .exit) ≡ flagTable n (fours (now (mesh .entry))) (now (status .entry)) (now (marks .entry)) ++ drop (length (now (status .entry))) (now (red .entry)) ⌝ }
 {
-    let mut xs = [0u32; 24576];
-    let mut ys = [0u32; 24576];
-    let mut heads = [0u16; 4096];
-    let mut links = [0u16; 24576];
-    keys::clear(&mut heads);
+    keys::clear(heads);
     flag_up(
         rows,
         status,
@@ -331,9 +332,9 @@ pub fn new_reds(
         0,
         kids[0] as usize,
         12,
-        &mut xs,
-        &mut ys,
-        &mut heads,
-        &mut links,
+        xs,
+        ys,
+        heads,
+        links,
     );
 }

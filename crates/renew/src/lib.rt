@@ -15,7 +15,7 @@ ghost use Rattle.tables.specs.Checked.{Statuses, Reds};
 ghost use Rattle.tables.specs.Start.{Empty};
 ghost use Rattle.tables.specs.Sound.{Mesh};
 ghost use Rattle.renew.specs.Levels.{Kids, Olds, oldIn, Flagged, Closed, Made};
-ghost use Rattle.renew.specs.Result.{Result};
+ghost use Rattle.renew.specs.Result.{Room, Result};
 
 // The flag of a cell by its old number: 64 where it will be red, else 0.
 fn flag_of(red: &[u8], o: usize) -> u8
@@ -290,7 +290,7 @@ fn fill(
 // Builds the table in which the cells with a flag in `red` are red and all others are closed, over an accepted mesh of n corners.
 // Flags go by the numbers of the old table `status`, and `kids` has the number of each old cell's first child. Where the answer is
 // 0, the table's first entries are the new statuses, the rows are those of its cells, and ps and qs have the ends of its new
-// corners.
+// corners. The tables from xs to old are for the work, whatever they hold, and `digits` is the cutting table.
 pub fn renew(
     mesh: &[u16],
     n: usize,
@@ -301,23 +301,25 @@ pub fn renew(
     ps: &mut [u32],
     qs: &mut [u32],
     table: &mut [u8],
+    xs: &mut [u32],
+    ys: &mut [u32],
+    heads: &mut [u16],
+    links: &mut [u16],
+    mid_heads: &mut [u16],
+    mid_links: &mut [u16],
+    old: &mut [u16],
+    digits: &[u8],
 ) -> Renewed
     requires { ⌜ Mesh n (now mesh) ⌝ }
     requires { ⌜ Statuses (now status) ⌝ }
     requires { ⌜ Kids (length (fours (now mesh))) (now status) (now kids) ⌝ }
     requires { ⌜ (length (now red) ≤ 4096) × (32768 ≤ length (now rows)) × (4096 ≤ length (now ps)) × (4096 ≤ length (now qs)) × (4096 ≤ length (now table)) ⌝ }
+    requires { ⌜ Room (now xs) (now ys) (now heads) (now links) (now «mid_heads») (now «mid_links») (now old) ⌝ }
+    requires { ⌜ now digits ≡ digitTable ⌝ }
     ensures { λ r. ⌜ Result n (fours (now (mesh .entry))) (now (status .entry)) (now (red .entry)) (now (rows .exit)) (now (ps .exit)) (now (qs .exit)) (now (table .exit)) (r .refusal) (r .cells) (r .levels) (r .mids) ⌝ }
 {
-    let mut xs = [0u32; 3072];
-    let mut ys = [0u32; 3072];
-    let mut heads = [0u16; 4096];
-    let mut links = [0u16; 3072];
-    let mut mid_heads = [0u16; 4096];
-    let mut mid_links = [0u16; 4096];
-    let mut old = [0u16; 4096];
-    keys::clear(&mut heads);
-    keys::clear(&mut mid_heads);
-    let digits = cutting::digit_table();
+    keys::clear(heads);
+    keys::clear(mid_heads);
     fill(
         mesh,
         n,
@@ -325,16 +327,16 @@ pub fn renew(
         kids,
         red,
         rows,
-        &mut xs,
-        &mut ys,
-        &mut heads,
-        &mut links,
+        xs,
+        ys,
+        heads,
+        links,
         ps,
         qs,
-        &mut mid_heads,
-        &mut mid_links,
-        &mut old,
+        mid_heads,
+        mid_links,
+        old,
         table,
-        &digits,
+        digits,
     )
 }

@@ -4,10 +4,12 @@ ghost use mathlib.Core.List.{_++_};
 ghost use Prim.Native.Nat.{_+_, _*_, _/_, _≤_, _<_};
 ghost use lib.ListN.{length, take, drop, replicate};
 ghost use Rattle.base.specs.Fours.{fours};
+ghost use Rattle.cutting.specs.Answer.{digitTable};
 ghost use Rattle.mesh.specs.Table.{levelsOf};
+ghost use Rattle.step.specs.Advanced.{Work};
 ghost use Rattle.archive.specs.Tables.{pairs};
 ghost use Rattle.replay.specs.Scan.{mayb, Spread, Fitting};
-ghost use Rattle.replay.specs.Going.{Going, Room, Rested, Stepped, Moved, Next, Finished, Replayed};
+ghost use Rattle.replay.specs.Going.{Going, Room, Rested, Stepped, Next, Finished, Replayed};
 
 // What the steps of a job come to: the refusal, 0 where there is none, and then how many cells and levels the table has.
 pub struct Ran {
@@ -85,7 +87,7 @@ fn examine_marks(marked: &[u16], marks: &[u8], status: &[u8], out: &mut [u8]) ->
 }
 
 // One step on a sound table with its rows, by one mark a cell: the new table and its rows take the place of the old ones. The other tables
-// are for the work. Refusals 8 and 9.
+// are for the work, whatever they hold, and `digits` is the cutting table. Refusals 8 and 9.
 fn advance_here(
     mesh: &[u16],
     n: usize,
@@ -97,13 +99,45 @@ fn advance_here(
     ps: &mut [u32],
     qs: &mut [u32],
     new: &mut [u8],
+    xs: &mut [u32],
+    ys: &mut [u32],
+    heads: &mut [u16],
+    links: &mut [u16],
+    mid_heads: &mut [u16],
+    mid_links: &mut [u16],
+    old: &mut [u16],
+    kids: &mut [u16],
+    red: &mut [u8],
+    digits: &[u8],
 ) -> Ran
     requires { ⌜ Going n (now mesh) (now rows) (now table) cells ⌝ }
     requires { ⌜ length (now marks) ≡ cells ⌝ }
     requires { ⌜ Room (now «new_rows») (now ps) (now qs) (now «new») ⌝ }
+    requires { ⌜ Work (now xs) (now ys) (now heads) (now links) (now «mid_heads») (now «mid_links») (now old) (now kids) (now red) ⌝ }
+    requires { ⌜ now digits ≡ digitTable ⌝ }
     ensures { λ r. ⌜ Stepped n (now (mesh .entry)) (take cells (now (table .entry))) (now (marks .entry)) (now (rows .exit)) (now (table .exit)) (r .refusal) (r .cells) (r .levels) ⌝ }
 {
-    let r = step::advance(mesh, n, rows, &table[..cells], marks, new_rows, ps, qs, new);
+    let r = step::advance(
+        mesh,
+        n,
+        rows,
+        &table[..cells],
+        marks,
+        new_rows,
+        ps,
+        qs,
+        new,
+        xs,
+        ys,
+        heads,
+        links,
+        mid_heads,
+        mid_links,
+        old,
+        kids,
+        red,
+        digits,
+    );
     if r.refusal != 0 {
         return failed(r.refusal);
     }
@@ -116,44 +150,7 @@ fn advance_here(
     }
 }
 
-// One step on a sound table with its rows, by its marked cells and their marks. Refusals 7 to 9.
-fn one_step(
-    mesh: &[u16],
-    n: usize,
-    marked: &[u16],
-    marks: &[u8],
-    cells: usize,
-    rows: &mut [u16],
-    table: &mut [u8],
-    spread_marks: &mut [u8],
-    new_rows: &mut [u16],
-    ps: &mut [u32],
-    qs: &mut [u32],
-    new: &mut [u8],
-) -> Ran
-    requires { ⌜ Going n (now mesh) (now rows) (now table) cells ⌝ }
-    requires { ⌜ (length (now marked) ≡ length (now marks)) × (4096 ≤ length (now «spread_marks»)) ⌝ }
-    requires { ⌜ Room (now «new_rows») (now ps) (now qs) (now «new») ⌝ }
-    ensures { λ r. ⌜ Moved n (now (mesh .entry)) (take cells (now (table .entry))) (pairs (now (marked .entry)) (now (marks .entry))) (now (rows .exit)) (now (table .exit)) (r .refusal) (r .cells) (r .levels) ⌝ }
-{
-    if !examine_marks(marked, marks, &table[..cells], spread_marks) {
-        return failed(7);
-    }
-    advance_here(
-        mesh,
-        n,
-        &spread_marks[..cells],
-        cells,
-        rows,
-        table,
-        new_rows,
-        ps,
-        qs,
-        new,
-    )
-}
-
-// The step whose marks go from p up to e. Refusals 7 to 9.
+// One step on a sound table with its rows: the step whose marks go from p up to e. Refusals 7 to 9.
 fn next_step(
     mesh: &[u16],
     n: usize,
@@ -169,10 +166,22 @@ fn next_step(
     ps: &mut [u32],
     qs: &mut [u32],
     new: &mut [u8],
+    xs: &mut [u32],
+    ys: &mut [u32],
+    heads: &mut [u16],
+    links: &mut [u16],
+    mid_heads: &mut [u16],
+    mid_links: &mut [u16],
+    old: &mut [u16],
+    kids: &mut [u16],
+    red: &mut [u8],
+    digits: &[u8],
 ) -> Ran
     requires { ⌜ Going n (now mesh) (now rows) (now table) cells ⌝ }
     requires { ⌜ (length (now marked) ≡ length (now marks)) × (4096 ≤ length (now «spread_marks»)) ⌝ }
     requires { ⌜ Room (now «new_rows») (now ps) (now qs) (now «new») ⌝ }
+    requires { ⌜ Work (now xs) (now ys) (now heads) (now links) (now «mid_heads») (now «mid_links») (now old) (now kids) (now red) ⌝ }
+    requires { ⌜ now digits ≡ digitTable ⌝ }
     ensures { λ r. ⌜ Next n (now (mesh .entry)) (take cells (now (table .entry))) p e (pairs (now (marked .entry)) (now (marks .entry))) (now (rows .exit)) (now (table .exit)) (r .refusal) (r .cells) (r .levels) ⌝ }
 {
     if e < p {
@@ -181,19 +190,30 @@ fn next_step(
     if e > marked.len() {
         return failed(7);
     }
-    one_step(
+    if !examine_marks(&marked[p..e], &marks[p..e], &table[..cells], spread_marks) {
+        return failed(7);
+    }
+    advance_here(
         mesh,
         n,
-        &marked[p..e],
-        &marks[p..e],
+        &spread_marks[..cells],
         cells,
         rows,
         table,
-        spread_marks,
         new_rows,
         ps,
         qs,
         new,
+        xs,
+        ys,
+        heads,
+        links,
+        mid_heads,
+        mid_links,
+        old,
+        kids,
+        red,
+        digits,
     )
 }
 
@@ -245,6 +265,16 @@ fn run_steps(
     let mut ps = [0u32; 4096];
     let mut qs = [0u32; 4096];
     let mut new = [0u8; 4096];
+    let mut xs = [0u32; 24576];
+    let mut ys = [0u32; 24576];
+    let mut heads = [0u16; 4096];
+    let mut links = [0u16; 24576];
+    let mut mid_heads = [0u16; 4096];
+    let mut mid_links = [0u16; 4096];
+    let mut old = [0u16; 4096];
+    let mut kids = [0u16; 4097];
+    let mut red = [0u8; 4096];
+    let digits = cutting::digit_table();
     let mut cells = first;
     let mut levels = high;
     let mut p: usize = 0;
@@ -266,6 +296,16 @@ fn run_steps(
             &mut ps,
             &mut qs,
             &mut new,
+            &mut xs,
+            &mut ys,
+            &mut heads,
+            &mut links,
+            &mut mid_heads,
+            &mut mid_links,
+            &mut old,
+            &mut kids,
+            &mut red,
+            &digits,
         );
         if r.refusal != 0 {
             return failed(r.refusal);

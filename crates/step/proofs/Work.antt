@@ -7,7 +7,8 @@ use mathlib.Core.List.{List, [], _∷_, _++_}
 use Prim.Native.Nat.{ℕ, zero, suc, _+_, _*_, _/_, _≤_, _<_}
 use native.Mathlib.Omega.{arith}
 use lib.Dec.{T, eqb, leb, eqb→eq}
-use lib.ListN.{length, getD, take, drop, replicate, length-replicate}
+use lib.ListN.{length, getD, take, List·getD-append}
+use lib.Seq.{take-at}
 use borrow.Author.Tests.{le-leb, lt-leb}
 use Rattle.base.specs.Lists.{allb, anyb, and-left, and-right, is-true}
 use Rattle.base.specs.Fours.{fours}
@@ -39,10 +40,9 @@ use Rattle.renew.specs.Result.{Result, renewed}
 use Rattle.layout.specs.Opened.{answerOf}
 use Rattle.layout.proofs.Answers.{answer-none}
 use Rattle.step.specs.Calls.{newTable, limitsAnswer}
-use Rattle.step.specs.Deep.{deepFrom}
+use Rattle.step.specs.Deep.{deepFrom, Decided}
 use Rattle.step.specs.Advanced.{Held, Advanced}
 use Rattle.step.proofs.TopLevel.{flags-long, deep-scan}
-use Rattle.step.proofs.Flags.{grow-ext, zeros-behind}
 
 -- the limits
 module _ (n : ℕ) (qs : List (List ℕ)) (ss ms : List ℕ) where
@@ -100,24 +100,29 @@ module _ (n : ℕ) (mesh rows ss : List ℕ) (h : Held n mesh rows ss) where
         record { accepted = h .accepted; sound = h .sound; table = h .table; marks = m; firsts = firsts; room = r }
 
   -- the flags
-  module _ (ms red : List ℕ) (e : red ≡ flagTable n qs ss ms ++ drop (length ss) (replicate 4096 0)) where
-    same-table : renewed n qs ss red ≡ stepTable n qs ss ms
+  module _ (ms red rest : List ℕ) (e : red ≡ flagTable n qs ss ms ++ rest) where
+    counted : length ss ≡ length (tableCells n qs ss)
+    counted = sound-counted n qs ss (h .sound)
+
+    long-flags : length (flagTable n qs ss ms) ≡ length (tableCells n qs ss)
+    long-flags = flags-long n qs ss ms (lattice.sound-levels n qs ss (h .sound) .1)
+
+    same-table : renewed n qs ss (take (length ss) red) ≡ stepTable n qs ss ms
     unfolding stepBy
     same-table =
-        grow-ext red (flagTable n qs ss ms) (λ o. ap (λ (l : List ℕ). getD l o 0) e ∙ zeros-behind (flagTable n qs ss ms) (length ss) 4096 o) (length qs) ss 12 0 (coarseCells n qs) (upTo (length qs))
+        ap (renewed n qs ss) (ap (take (length ss)) e ∙ take-at (flagTable n qs ss ms) rest (length ss) (long-flags ∙ sym counted))
         ∙ sym (step-by n qs ss ms (h .sound))
 
     -- the scan of level 10
     pub held-deep : leb (length (stepTable n qs ss ms)) 11 ≡ not (deepFrom rows red 0 (length ss))
     held-deep =
-        let c : length ss ≡ length (tableCells n qs ss) = sound-counted n qs ss (h .sound) in
         deep n qs ss ms (h .sound)
-        ∙ ap not (sym (ap (deepFrom rows red 0) c ∙ deep-scan n qs ss ms (lattice.sound-levels n qs ss (h .sound) .1) rows red
+        ∙ ap not (sym (ap (deepFrom rows red 0) counted ∙ deep-scan n qs ss ms (lattice.sound-levels n qs ss (h .sound) .1) rows red
         (λ i l. table-level n qs ss (lattice.fours-four mesh) (tableCorners n qs ss) rows (h .table) i l noCell)
-        (λ i l. ap (λ (l : List ℕ). getD l i 0) e ∙ zeros-behind (flagTable n qs ss ms) (length ss) 4096 i)))
+        (λ i l. ap (λ (l : List ℕ). getD l i 0) e ∙ List·getD-append (flagTable n qs ss ms) rest 0 i (omega (arith, long-flags)))))
 
     -- what the building leaves
-    module _ (rows′ ps qs′ table : List ℕ) (refusal cells levels mids : ℕ) (r : Result n qs ss red rows′ ps qs′ table refusal cells levels mids) (long : 32768 ≤ length rows′) where
+    module _ (rows′ ps qs′ table : List ℕ) (refusal cells levels mids : ℕ) (r : Result n qs ss (take (length ss) red) rows′ ps qs′ table refusal cells levels mids) (long : 32768 ≤ length rows′) where
       accepted : refusal ≡ 0 → Advanced n mesh ss ms rows′ ps qs′ table refusal cells levels mids
       accepted z =
           let t = same-table in
@@ -151,22 +156,33 @@ module _ (n : ℕ) (mesh rows ss : List ℕ) (h : Held n mesh rows ss) where
             laid = λ y. absurd (z y);
           }
 
-      pub advanced-at-once : (refusal ≡ 9 → ⊥) → Advanced n mesh ss ms rows′ ps qs′ table refusal cells levels mids
+      high : refusal ≡ 8 → Advanced n mesh ss ms rows′ ps qs′ table refusal cells levels mids
       unfolding answerOf
-      advanced-at-once y =
-          ⊎-elim accepted (⊎-elim (λ (e : refusal ≡ 8).
+      high e =
           let t = same-table in
           let l : length (stepTable n qs ss ms) ≡ 12 = rw t at (r .high e) in
-          refused refusal (λ z. omega arith) (limits-high n qs ss ms (lt-leb (length (stepTable n qs ss ms)) 11 (omega arith)) ∙ rw e) cells levels mids)
-          (λ (e : refusal ≡ 9). absurd (y e))) (r .one)
+          refused refusal (λ z. omega arith) (limits-high n qs ss ms (lt-leb (length (stepTable n qs ss ms)) 11 (omega arith)) ∙ rw e) cells levels mids
 
-      pub advanced-deep : deepFrom rows red 0 (length ss) ≡ true → (k : ℕ) → k ≡ 8 → (c l m : ℕ) → Advanced n mesh ss ms rows′ ps qs′ table k c l m
+      over : deepFrom rows red 0 (length ss) ≡ true → (k : ℕ) → k ≡ 8 → Advanced n mesh ss ms rows′ ps qs′ table k cells levels mids
       unfolding answerOf
-      advanced-deep d k e = refused k (λ z. omega arith) (limits-high n qs ss ms (held-deep ∙ ap not d) ∙ rw e)
+      over d k e = refused k (λ z. omega arith) (limits-high n qs ss ms (held-deep ∙ ap not d) ∙ rw e) cells levels mids
 
-      pub advanced-many : refusal ≡ 9 → deepFrom rows red 0 (length ss) ≡ false → Advanced n mesh ss ms rows′ ps qs′ table refusal cells levels mids
+      many : refusal ≡ 9 → deepFrom rows red 0 (length ss) ≡ false → Advanced n mesh ss ms rows′ ps qs′ table refusal cells levels mids
       unfolding answerOf
-      advanced-many e d =
+      many e d =
           let t = same-table in
           let l : 4096 < length (newTable n qs ss ms) = rw t at (r .many e) in
           refused refusal (λ z. omega arith) (limits-many n qs ss ms (held-deep ∙ ap not d) l ∙ rw e) cells levels mids
+
+      pub advanced : (k : ℕ) → Decided (deepFrom rows red 0 (length ss)) refusal k → Advanced n mesh ss ms rows′ ps qs′ table k cells levels mids
+      advanced k d =
+          ⊎-elim (λ (e : refusal ≡ 0). same (λ z. absurd (omega arith)) (accepted e))
+          (⊎-elim (λ (e : refusal ≡ 8). same (λ z. absurd (omega arith)) (high e)) (λ (e : refusal ≡ 9). go (deepFrom rows red 0 (length ss)) refl e)) (r .one)
+        where
+          same : (refusal ≡ 9 → deepFrom rows red 0 (length ss) ≡ false) → Advanced n mesh ss ms rows′ ps qs′ table refusal cells levels mids
+              → Advanced n mesh ss ms rows′ ps qs′ table k cells levels mids
+          same h a = let q : k ≡ refusal = d .kept h in rw q a
+
+          go : (b : Bool) → deepFrom rows red 0 (length ss) ≡ b → refusal ≡ 9 → Advanced n mesh ss ms rows′ ps qs′ table k cells levels mids
+          go true t e = over t k (d .over e t)
+          go false t e = same (λ x. t) (many e t)

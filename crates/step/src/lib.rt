@@ -5,11 +5,12 @@ ghost use mathlib.Core.List.{_++_};
 ghost use Prim.Native.Nat.{_+_, _*_, _≤_, _<_};
 ghost use lib.ListN.{length, take, drop};
 ghost use Rattle.base.specs.Fours.{fours};
+ghost use Rattle.cutting.specs.Answer.{digitTable};
 ghost use Rattle.mesh.specs.Coarse.{cornerCount};
 ghost use Rattle.layout.specs.Calls.{heldAfter};
 ghost use Rattle.step.specs.Calls.{markb, marksb, newTable, stepAnswer, steppedOf};
-ghost use Rattle.step.specs.Deep.{deepAt, deepFrom};
-ghost use Rattle.step.specs.Advanced.{Held, Advanced};
+ghost use Rattle.step.specs.Deep.{deepAt, deepFrom, Decided};
+ghost use Rattle.step.specs.Advanced.{Held, Work, Advanced};
 
 pub enum Stepped {
     Cells(usize),
@@ -72,19 +73,23 @@ fn is_deep(rows: &[u16], red: &[u8], c: usize) -> bool
     red[c] == 64
 }
 
-fn refused(refusal: u8) -> Renewed
-    ensures { λ r. ⌜ r .refusal ≡ refusal ⌝ }
+// The refusal of a step: 9 gives way to 8 where a cell of level 10 will be red.
+fn decided(refusal: u8, rows: &[u16], red: &[u8], cells: usize) -> u8
+    requires { ⌜ (8 * cells ≤ length (now rows)) × (cells ≤ length (now red)) ⌝ }
+    ensures { λ r. ⌜ Decided (deepFrom (now (rows .entry)) (now (red .entry)) 0 cells) refusal r ⌝ }
 {
-    Renewed {
-        refusal,
-        cells: 0,
-        levels: 0,
-        mids: 0,
+    if refusal != 9 {
+        return refusal;
     }
+    if too_deep(rows, red, cells) {
+        return 8;
+    }
+    9
 }
 
 // The work of a step, on a sound table with its rows and marks that fit it: the new statuses in `table`, the rows of the new cells,
-// and the ends of the new corners. Nothing is examined here. Refusals 8 and 9.
+// and the ends of the new corners. Nothing is examined here. The tables from xs to red are for the work, whatever they hold, and `digits` is
+// the cutting table. Refusals 8 and 9.
 pub fn advance(
     mesh: &[u16],
     n: usize,
@@ -95,24 +100,65 @@ pub fn advance(
     ps: &mut [u32],
     qs: &mut [u32],
     table: &mut [u8],
+    xs: &mut [u32],
+    ys: &mut [u32],
+    heads: &mut [u16],
+    links: &mut [u16],
+    mid_heads: &mut [u16],
+    mid_links: &mut [u16],
+    old: &mut [u16],
+    kids: &mut [u16],
+    red: &mut [u8],
+    digits: &[u8],
 ) -> Renewed
     requires { ⌜ Held n (now mesh) (now rows) (now status) ⌝ }
     requires { ⌜ length (now marks) ≡ length (now status) ⌝ }
     requires { ⌜ (32768 ≤ length (now «new_rows»)) × (4096 ≤ length (now ps)) × (4096 ≤ length (now qs)) × (4096 ≤ length (now table)) ⌝ }
+    requires { ⌜ Work (now xs) (now ys) (now heads) (now links) (now «mid_heads») (now «mid_links») (now old) (now kids) (now red) ⌝ }
+    requires { ⌜ now digits ≡ digitTable ⌝ }
     ensures { λ r. ⌜ Advanced n (now (mesh .entry)) (now (status .entry)) (now (marks .entry)) (now («new_rows» .exit)) (now (ps .exit)) (now (qs .exit)) (now (table .exit)) (r .refusal) (r .cells) (r .levels) (r .mids) ⌝ }
 {
-    let mut kids = [0u16; 4097];
-    let mut red = [0u8; 4096];
-    reds::first_children(status, mesh.len() / 4, &mut kids);
-    reds::new_reds(mesh, n, rows, status, marks, &kids, &mut red);
-    let r = renew::renew(mesh, n, status, &kids, &red, new_rows, ps, qs, table);
-    if r.refusal != 9 {
-        return r;
+    let k = status.len();
+    reds::first_children(status, mesh.len() / 4, kids);
+    reds::new_reds(
+        mesh,
+        n,
+        rows,
+        status,
+        marks,
+        kids,
+        red,
+        xs,
+        ys,
+        heads,
+        links,
+    );
+    let r = renew::renew(
+        mesh,
+        n,
+        status,
+        kids,
+        &red[..k],
+        new_rows,
+        ps,
+        qs,
+        table,
+        xs,
+        ys,
+        heads,
+        links,
+        mid_heads,
+        mid_links,
+        old,
+        digits,
+    );
+    let refusal = decided(r.refusal, rows, red, k);
+    Renewed {
+        refusal,
+        cells: r.cells,
+        levels: r.levels,
+        mids: r.mids,
     }
-    if too_deep(rows, &red, status.len()) {
-        return refused(8);
-    }
-    r
 }
 
 // Copies the first n bytes.
@@ -145,9 +191,9 @@ pub fn step(
         return Stepped::Refused(15);
     }
     let mut rows = [0u16; 32768];
-    let mut xs = [0u32; 4096];
-    let mut ys = [0u32; 4096];
-    let f = layout::open(positions, cells, status, &mut rows, &mut xs, &mut ys);
+    let mut ps = [0u32; 4096];
+    let mut qs = [0u32; 4096];
+    let f = layout::open(positions, cells, status, &mut rows, &mut ps, &mut qs);
     if f.refusal != 0 {
         return Stepped::Refused(f.refusal);
     }
@@ -156,6 +202,16 @@ pub fn step(
     }
     let mut new_rows = [0u16; 32768];
     let mut new = [0u8; 4096];
+    let mut xs = [0u32; 24576];
+    let mut ys = [0u32; 24576];
+    let mut heads = [0u16; 4096];
+    let mut links = [0u16; 24576];
+    let mut mid_heads = [0u16; 4096];
+    let mut mid_links = [0u16; 4096];
+    let mut old = [0u16; 4096];
+    let mut kids = [0u16; 4097];
+    let mut red = [0u8; 4096];
+    let digits = cutting::digit_table();
     let r = advance(
         cells,
         positions.len() / 3,
@@ -163,9 +219,19 @@ pub fn step(
         status,
         marks,
         &mut new_rows,
+        &mut ps,
+        &mut qs,
+        &mut new,
         &mut xs,
         &mut ys,
-        &mut new,
+        &mut heads,
+        &mut links,
+        &mut mid_heads,
+        &mut mid_links,
+        &mut old,
+        &mut kids,
+        &mut red,
+        &digits,
     );
     if r.refusal != 0 {
         return Stepped::Refused(r.refusal);

@@ -1,18 +1,18 @@
 -- `meshlist::main` faults nowhere: a listing has at most 512 bytes.
 -- Assumes nothing.
 use mathlib.Core.Path.{_≡_, sym}
-use mathlib.Core.List.{List}
+use mathlib.Core.List.{List, _++_}
 use Prim.Native.Nat.{ℕ, _≤_}
 use native.Mathlib.Omega.{arith}
-use lib.ListN.{length}
+use lib.ListN.{length, drop, length-append}
 use lib.Seq.{length-take-le}
-use Rattle.listing.specs.Archive.{listingOf, archive-fits}
+use Rattle.listing.specs.Archive.{listingOf}
 use borrow.Author.Needs.{needs}
 use Rattle.meshlist.proofs.main.Statement.{statement}
 use Rattle.meshlist.proofs.main.Tie as tie
 
-room : (bs : List ℕ) (m k : ℕ) → m ≡ length (listingOf bs) → k ≡ 512 → m ≤ k
-room bs m k e f = omega (arith, archive-fits bs)
+room : (bs old new : List ℕ) (m : ℕ) → new ≡ listingOf bs ++ drop (length (listingOf bs)) old → m ≡ length (listingOf bs) → length old ≡ 512 → m ≤ length new
+room bs old new m e f g = rw (e, length-append (listingOf bs) (drop (length (listingOf bs)) old)) (omega arith)
 
 slice-aggregate-read-full : tie.Need-slice-aggregate-read-full
 slice-aggregate-read-full c = search needs
@@ -26,19 +26,16 @@ array-share-prefix-bytes c = search needs
 slice-aggregate-list : tie.Need-slice-aggregate-list
 slice-aggregate-list c = search needs
 
-slice-aggregate-list-2 : tie.Need-slice-aggregate-list-2
-slice-aggregate-list-2 c = search needs
-
 list-requires : tie.Need-list-requires
 list-requires c κs = search needs
 
 array-share-prefix-out : tie.Need-array-share-prefix-out
-array-share-prefix-out c = room _ (c .before .list .result) _ (c .before .list .ensures .1) (c .before .list .kept .1 .0)
+array-share-prefix-out c = room _ _ _ _ (c .list .ensures .0) (c .list .ensures .1) (search needs)
 
 slice-aggregate-write-all : tie.Need-slice-aggregate-write-all
 slice-aggregate-write-all c =
-    let l = c .before .before .list in
-    sym (length-take-le (l .result) _ (room _ (l .result) _ (l .ensures .1) (l .kept .1 .0)))
+    let l = c .before .list in
+    sym (length-take-le (l .result) _ (room _ _ _ _ (l .ensures .0) (l .ensures .1) (search needs)))
 
 write-all-requires : tie.Need-write-all-requires
 write-all-requires c κs = search needs
@@ -54,7 +51,6 @@ main-spec =
     read-full-requires
     array-share-prefix-bytes
     slice-aggregate-list
-    slice-aggregate-list-2
     list-requires
     array-share-prefix-out
     slice-aggregate-write-all

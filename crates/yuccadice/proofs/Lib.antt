@@ -1,0 +1,2 @@
+mod Results
+mod Family
