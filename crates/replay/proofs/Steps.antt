@@ -1,4 +1,5 @@
 -- One step in the tables of a replay.
+--   Moved ..   one step, by its marked cells and their marks
 -- Assumes nothing.
 use mathlib.Core.Path.{_≡_, refl, sym, _∙_, ap}
 use mathlib.Core.Bool.{Bool, true, false}
@@ -10,12 +11,13 @@ use lib.Seq.{take-at, length-take-le}
 use Rattle.base.specs.Places.{not-both}
 use Rattle.base.specs.Fours.{fours}
 use Rattle.base.specs.Refuse.{refuse}
+use Rattle.mesh.specs.Table.{levelsOf}
 use Rattle.layout.specs.Opened.{answerOf}
 use Rattle.step.specs.Calls.{marksb, newTable}
 use Rattle.step.specs.Advanced.{Advanced}
-use Rattle.replay.specs.Run.{spread, oneAnswer}
+use Rattle.replay.specs.Run.{spread, oneAnswer, oneTable}
 use Rattle.replay.specs.Scan.{Spread, Fitting}
-use Rattle.replay.specs.Going.{Stepped, Moved}
+use Rattle.replay.specs.Going.{Going, Stepped}
 
 -- a table with its front written
 pub front : (k : ℕ) (from old new : List ℕ) → k ≤ length from → new ≡ take k from ++ drop k old → take k new ≡ take k from
@@ -70,6 +72,12 @@ module _ (n : ℕ) (mesh old ms new-rows ps qs new : List ℕ) (refusal cells le
       }
 
 -- a step by its marked cells
+pub record Moved (n : ℕ) (mesh old : List ℕ) (ms : List (ℕ × ℕ)) (rows table : List ℕ) (refusal cells levels : ℕ) : Type 0 where
+  pub answer : oneAnswer n (fours mesh) old ms ≡ answerOf refusal
+  pub table-is : refusal ≡ 0 → take cells table ≡ oneTable n (fours mesh) old ms
+  pub going : refusal ≡ 0 → Going n mesh rows table cells
+  pub high : refusal ≡ 0 → length (levelsOf n (fours mesh) (take cells table)) ≡ levels
+
 module _ (n : ℕ) (mesh old : List ℕ) (ms : List (ℕ × ℕ)) (out rows table : List ℕ) where
   pub moved-missed : Fitting old ms out false → (k c l : ℕ) → k ≡ 7 → Moved n mesh old ms rows table k c l
   unfolding oneAnswer refuse answerOf

@@ -20,7 +20,8 @@ use Rattle.layout.specs.Opened.{answerOf}
 use Rattle.layout.proofs.Answers.{answer-refused, answer-none}
 use Rattle.archive.specs.Tables.{pairs, stepsFrom}
 use Rattle.replay.specs.Run.{oneAnswer, oneTable, runTable, flatAnswer}
-use Rattle.replay.specs.Going.{Going, Moved, Next, partOf, nextAnswer, Finished}
+use Rattle.replay.specs.Going.{Going, Next, partOf, nextAnswer, Finished}
+use Rattle.replay.proofs.Steps.{Moved}
 
 -- marks of a part
 no-pairs : (cs : List ℕ) → pairs cs [] ≡ []

@@ -1,9 +1,8 @@
 -- What the functions of a replay hold and leave. A refusal is a number, and 0 stands for none.
 --   Going n mesh rows table cells   a sound table of so many cells over an accepted mesh, with the rows of its cells
---   Room ..       the lengths of the work tables
+--   Room ..       the lengths of the tables for a new table, its rows and the ends of its corners
 --   Rested ..     a mesh at rest
 --   Stepped ..    one step, by one mark a cell
---   Moved ..      one step, by its marked cells and their marks
 --   Next ..       the step whose marks go from p up to e
 --   Finished ..   the steps in turn
 --   Replayed ..   the mesh, and then the steps in turn
@@ -45,12 +44,6 @@ pub record Room (rows ps qs table : List ℕ) : Type 0 where
 pub record Stepped (n : ℕ) (mesh old ms rows table : List ℕ) (refusal cells levels : ℕ) : Type 0 where
   pub answer : limitsAnswer n (fours mesh) old ms ≡ answerOf refusal
   pub table-is : refusal ≡ 0 → take cells table ≡ newTable n (fours mesh) old ms
-  pub going : refusal ≡ 0 → Going n mesh rows table cells
-  pub high : refusal ≡ 0 → length (levelsOf n (fours mesh) (take cells table)) ≡ levels
-
-pub record Moved (n : ℕ) (mesh old : List ℕ) (ms : List (ℕ × ℕ)) (rows table : List ℕ) (refusal cells levels : ℕ) : Type 0 where
-  pub answer : oneAnswer n (fours mesh) old ms ≡ answerOf refusal
-  pub table-is : refusal ≡ 0 → take cells table ≡ oneTable n (fours mesh) old ms
   pub going : refusal ≡ 0 → Going n mesh rows table cells
   pub high : refusal ≡ 0 → length (levelsOf n (fours mesh) (take cells table)) ≡ levels
 

@@ -1,17 +1,19 @@
--- How many children there are.
+-- How many children there are, and how many statuses.
 --   length-children   a cell's children are as many as its status says; size-refined, size-some: of a refined cell
 --   next-size, length-next   the cells one level up
+--   closed-many       a closed level has a status for each cell
 use mathlib.Core.Path.{_≡_, refl, _∙_, ap, ap₂}
 use mathlib.Core.Logic.{_≢_}
 use mathlib.Core.Bool.{Bool, true, false}
 use mathlib.Core.List.{List, [], _∷_}
 use Prim.Native.Nat.{ℕ, suc, _+_, _≤_, _<_}
 use native.Mathlib.Omega.{arith}
-use lib.Dec.{eqb}
+use lib.Dec.{T, eqb}
 use lib.ListN.{length, length-append}
 use borrow.Author.Tests.{ne-eqb}
+use Rattle.base.specs.Lists.{sameb, and-right}
 use Rattle.cutting.specs.Rule.{family}
-use Rattle.mesh.specs.Cells.{Cell, redb, patternOf, children, childrenFrom}
+use Rattle.mesh.specs.Cells.{Cell, redb, patternOf, statusOf, closedFrom, children, childrenFrom}
 use Rattle.mesh.specs.Weights.{Point, point}
 use Rattle.mesh.specs.Table.{next}
 use Rattle.rows.specs.Numbered.{sizeOf, sizes}
@@ -47,3 +49,10 @@ next-size k (c ∷ cs) (s ∷ ss) h =
 
 pub length-next : (k : ℕ) (cs : List (Cell Point)) (ss : List ℕ) → length cs ≡ length ss → length (next k cs ss) ≡ sizes ss
 length-next k cs ss e = next-size k cs ss (omega arith)
+
+pub closed-many : (es : List (Point × Point)) (cs : List (Cell Point)) (ss : List ℕ) → T (closedFrom [] sameb es cs ss) → length ss ≡ length cs
+unfolding closedFrom
+closed-many es [] [] t = refl
+closed-many es [] (s ∷ ss) t = absurd t
+closed-many es (c ∷ cs) [] t = absurd t
+closed-many es (c ∷ cs) (s ∷ ss) t = ap suc (closed-many es cs ss (and-right (eqb s (statusOf [] sameb es (redb s) c)) (closedFrom [] sameb es cs ss) t))

@@ -15,6 +15,7 @@ use Rattle.base.specs.Lists.{sameb, anyb, and-left, and-right}
 use Rattle.mesh.specs.Cells.{Cell, redb, edges, heldb, redEdges, statusOf, closedFrom}
 use Rattle.mesh.specs.Weights.{Point}
 use Rattle.mesh.specs.Table.{Level, closedb}
+use Rattle.rows.specs.Many.{closed-many}
 use Rattle.lattice.specs.Every.{All, all-at}
 use Rattle.lattice.specs.Regular.{Regular}
 use Rattle.lattice.specs.Levels.{IfRegular}
@@ -80,13 +81,6 @@ closed-place es (c ∷ cs) (s ∷ ss) t zero h =
 closed-place es (c ∷ cs) (s ∷ ss) t (suc i) h =
     let (a, b) = closed-place es cs ss (and-right (eqb s (statusOf [] sameb es (redb s) c)) (closedFrom [] sameb es cs ss) t) i (omega arith) in
     (omega arith, b)
-
-closed-many : (es : List Edge) (cs : List (Cell Point)) (ss : List ℕ) → T (closedFrom [] sameb es cs ss) → length ss ≡ length cs
-unfolding closedFrom
-closed-many es [] [] t = refl
-closed-many es [] (s ∷ ss) t = absurd t
-closed-many es (c ∷ cs) [] t = absurd t
-closed-many es (c ∷ cs) (s ∷ ss) t = ap suc (closed-many es cs ss (and-right (eqb s (statusOf [] sameb es (redb s) c)) (closedFrom [] sameb es cs ss) t))
 
 module _ (l : Level) (t : T (closedb l)) where
   pub closed-at : (i : ℕ) → i < length (l .cells) → (i < length (l .statuses)) × StatusIn (redEdges [] (l .cells) (l .statuses)) (getD (l .cells) i noCell) (getD (l .statuses) i 0)

@@ -9,9 +9,10 @@ use lib.Dec.{T, eqb, eqb→eq}
 use lib.ListN.{length, getD, take, drop, length-append, length-map}
 use borrow.Author.Tests.{eq-eqb, ne-eqb}
 use Rattle.base.specs.Lists.{allb, anyb, sameb, and-left, and-right}
-use Rattle.mesh.specs.Cells.{Cell, redb, redEdges, statusOf, closedFrom}
+use Rattle.mesh.specs.Cells.{Cell, redb, redEdges, closedFrom}
 use Rattle.mesh.specs.Weights.{Point, coarseFrom, coarseCells}
 use Rattle.mesh.specs.Table.{Level, next, levels, levelsOf, cellsOf, closedb}
+use Rattle.rows.specs.Many.{closed-many}
 use Rattle.mesh.specs.Counts.{levelOf}
 use Rattle.mesh.specs.Step.{rows}
 use Rattle.same.specs.Olds.{concat, flags, flagsOf, flagTable}
@@ -71,14 +72,6 @@ this-level (c ∷ cs) (f ∷ fs) e t =
     rw l (ap (λ (b : Bool). redb f || b) (this-level cs fs (omega arith) (and-right (eqb (length (c .path)) 11) (deepb 11 cs) t)))
 
 -- all levels
-closed-length : (es : List (Point × Point)) (cs : List (Cell Point)) (ts : List ℕ) → T (closedFrom [] sameb es cs ts) → length ts ≡ length cs
-unfolding closedFrom
-closed-length es [] [] u = refl
-closed-length es [] (t ∷ ts) u = absurd u
-closed-length es (c ∷ cs) [] u = absurd u
-closed-length es (c ∷ cs) (t ∷ ts) u =
-    ap suc (closed-length es cs ts (and-right (eqb t (statusOf [] sameb es (redb t) c)) (closedFrom [] sameb es cs ts) u))
-
 module _ (ms : List ℕ) where
   above-all : (j h k : ℕ) (cs : List (Cell Point)) (rest : List ℕ) → T (allb closedb (levels h k cs rest)) → T (deepb (suc j) cs) → 10 < j
       → deepIn (cellsOf (levels h k cs rest)) (concat (flags (levels h k cs rest) ms)) ≡ false
@@ -92,7 +85,7 @@ module _ (ms : List ℕ) where
       let ls : List Level = levels h (k + length cs′) (next k cs′ ts) (drop (length cs′) rest) in
       let v : T (closedFrom [] sameb (redEdges [] cs′ ts) cs′ ts) = and-left (closedb l) (allb closedb ls) u in
       let fs : List ℕ = flagsOf ls ms (rows l ms) in
-      let n : length fs ≡ length cs′ = length-map (rows l ms) _ ∙ length-rows l ms (closed-length (redEdges [] cs′ ts) cs′ ts v) in
+      let n : length fs ≡ length cs′ = length-map (rows l ms) _ ∙ length-rows l ms (closed-many (redEdges [] cs′ ts) cs′ ts v) in
       deep-both cs′ (cellsOf ls) fs (concat (flags ls ms)) n
       ∙ ap₂ _||_ (other-level j cs′ fs (λ e. omega arith) d) (above-all (suc j) h (k + length cs′) (next k cs′ ts) (drop (length cs′) rest) (and-right (closedb l) (allb closedb ls) u) (deep-next (suc j) k cs′ ts d) (omega arith))
 
@@ -108,7 +101,7 @@ module _ (ms : List ℕ) where
       let ls : List Level = levels h (k + length cs′) (next k cs′ ts) (drop (length cs′) rest) in
       let v : T (closedFrom [] sameb (redEdges [] cs′ ts) cs′ ts) = and-left (closedb l) (allb closedb ls) u in
       let fs : List ℕ = flagsOf ls ms (rows l ms) in
-      let n : length fs ≡ length cs′ = length-map (rows l ms) _ ∙ length-rows l ms (closed-length (redEdges [] cs′ ts) cs′ ts v) in
+      let n : length fs ≡ length cs′ = length-map (rows l ms) _ ∙ length-rows l ms (closed-many (redEdges [] cs′ ts) cs′ ts v) in
       let t : suc j ≡ 11 = omega arith in
       let here : deepIn cs′ fs ≡ anyb redb fs = this-level cs′ fs n (rw t at d) in
       let up : deepIn (cellsOf ls) (concat (flags ls ms)) ≡ false =
@@ -121,7 +114,7 @@ module _ (ms : List ℕ) where
       let ls : List Level = levels h (k + length cs′) (next k cs′ ts) (drop (length cs′) rest) in
       let v : T (closedFrom [] sameb (redEdges [] cs′ ts) cs′ ts) = and-left (closedb l) (allb closedb ls) u in
       let fs : List ℕ = flagsOf ls ms (rows l ms) in
-      let n : length fs ≡ length cs′ = length-map (rows l ms) _ ∙ length-rows l ms (closed-length (redEdges [] cs′ ts) cs′ ts v) in
+      let n : length fs ≡ length cs′ = length-map (rows l ms) _ ∙ length-rows l ms (closed-many (redEdges [] cs′ ts) cs′ ts v) in
       let here : deepIn cs′ fs ≡ false = other-level j cs′ fs (λ x. omega arith) d in
       let up : deepIn (cellsOf ls) (concat (flags ls ms)) ≡ anyb redb (getD (flags ls ms) i []) =
       levels-all i (suc j) h (k + length cs′) (next k cs′ ts) (drop (length cs′) rest) (omega arith) (and-right (closedb l) (allb closedb ls) u) (deep-next (suc j) k cs′ ts d) in
@@ -144,7 +137,7 @@ length-flags ms (suc h) k (c ∷ cs) rest u =
     let ls : List Level = levels h (k + length cs′) (next k cs′ ts) (drop (length cs′) rest) in
     let v : T (closedFrom [] sameb (redEdges [] cs′ ts) cs′ ts) = and-left (closedb l) (allb closedb ls) u in
     let fs : List ℕ = flagsOf ls ms (rows l ms) in
-    let n : length fs ≡ length cs′ = length-map (rows l ms) _ ∙ length-rows l ms (closed-length (redEdges [] cs′ ts) cs′ ts v) in
+    let n : length fs ≡ length cs′ = length-map (rows l ms) _ ∙ length-rows l ms (closed-many (redEdges [] cs′ ts) cs′ ts v) in
     length-append fs (concat (flags ls ms)) ∙ ap₂ _+_ n (length-flags ms h (k + length cs′) (next k cs′ ts) (drop (length cs′) rest) (and-right (closedb l) (allb closedb ls) u))
     ∙ sym (length-append cs′ (cellsOf ls))
 

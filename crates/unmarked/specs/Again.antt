@@ -22,7 +22,7 @@ use Rattle.rows.specs.Numbered.{sizeOf, sizes}
 use Rattle.lattice.specs.Every.{getD-map}
 use Rattle.numbers.specs.Refined.{Refined, Follows, closed-follows}
 use Rattle.same.specs.Olds.{flagOf, firstChild, oldChild, upTo, oldsOf, oldsNext, redsBy, closedBy, statusesBy, growBy}
-use Rattle.rows.specs.Many.{length-children, length-next}
+use Rattle.rows.specs.Many.{length-children, length-next, closed-many}
 use Rattle.same.specs.Paths.{length-upto, upto-at}
 use Rattle.same.specs.Same.{length-olds-of}
 
@@ -190,16 +190,6 @@ closed-own es (c ∷ cs) (t ∷ ts) u =
     let e : t ≡ s = eqb→eq t s (and-left (eqb t s) (closedFrom [] sameb es cs ts) u) in
     ap₂ (λ (x : ℕ) (l : List ℕ). x ∷ l) (rw (red-flag (redb t)) (sym e)) (closed-own es cs ts (and-right (eqb t s) (closedFrom [] sameb es cs ts) u))
 
--- A closed level has a status for each cell.
-pub closed-length : (es : List (Point × Point)) (cs : List (Cell Point)) (ts : List ℕ) → T (closedFrom [] sameb es cs ts) → length cs ≡ length ts
-unfolding closedFrom
-closed-length es [] [] u = refl
-closed-length es [] (t ∷ ts) u = absurd u
-closed-length es (c ∷ cs) [] u = absurd u
-closed-length es (c ∷ cs) (t ∷ ts) u =
-    let s = statusOf [] sameb es (redb t) c in
-    ap suc (closed-length es cs ts (and-right (eqb t s) (closedFrom [] sameb es cs ts) u))
-
 abbrev pub statusLists : List Level → List (List ℕ)
 statusLists ls = map (λ (l : Level). l .statuses) ls
 
@@ -219,7 +209,7 @@ module _ (m : ℕ) (ss : List ℕ) (small : length ss ≤ 65535) where
 
     many : length cs ≡ length ts
     unfolding ts
-    many = closed-length (redEdges [] cs ts) cs ts u
+    many = sym (closed-many (redEdges [] cs ts) cs ts u)
 
     refined : Refined cs ts
     unfolding ts

@@ -20,10 +20,11 @@ use Rattle.mesh.specs.Table.{Level, next, levels, cellsOf, closedb, apartb}
 use Rattle.mesh.specs.Step.{Row, rowsFrom, rows, kids, deletedb, turnedb, newRedb, rowsUp, edgesUp, newReds}
 use Rattle.lattice.specs.Kuhn.{family-red}
 use Rattle.rows.specs.Numbered.{sizes}
+use Rattle.rows.specs.Many.{closed-many}
 use Rattle.same.specs.Olds.{flagOf, flagsOf, flags}
 use Rattle.same.specs.Flags.{noRow, rows-from, length-rows-from}
 use Rattle.same.specs.Born.{noCell, Born, BornAt, born, born-at, born-below}
-use Rattle.unmarked.specs.Again.{flagsIn, red-edges-flags, closed-length}
+use Rattle.unmarked.specs.Again.{flagsIn, red-edges-flags}
 
 abbrev pub Unmarked : List ℕ → Type 0
 Unmarked ms = (i : ℕ) → getD ms i 0 ≡ 0
@@ -220,7 +221,7 @@ module _ (ms : List ℕ) (unmarked : Unmarked ms) (all : List (Cell Point)) (red
       let l : Level = record { first = k; cells = cs′; statuses = us } in
       let ls : List Level = levels n (k + length cs′) (next k cs′ us) (drop (length cs′) rest) in
       let v : T (closedFrom [] sameb (redEdges [] cs′ us) cs′ us) = and-left (closedb l) (allb closedb ls) u in
-      let m : length cs′ ≡ length us = closed-length (redEdges [] cs′ us) cs′ us v in
+      let m : length cs′ ≡ length us = sym (closed-many (redEdges [] cs′ us) cs′ us v) in
       let test : Row → Bool = newRedb (rowsUp ls ms) (edgesUp (newReds ls ms)) in
       let g : map (λ r. flagOf (test r)) (rowsFrom k cs′ us ms) ≡ flagsIn us = ap (λ (x : List (List ℕ)). getD x 0 []) f in
       let q : flatMap (λ (r : Row). edges [] (r .cell)) (filterb test (rowsFrom k cs′ us ms)) ≡ redEdges [] cs′ us =
@@ -280,7 +281,7 @@ module _ (ms : List ℕ) (unmarked : Unmarked ms) (all : List (Cell Point)) (red
       let ls : List Level = levels n k′ (next k cs′ ts) (drop (length cs′) rest) in
       let v : T (closedFrom [] sameb (redEdges [] cs′ ts) cs′ ts) = and-left (closedb l) (allb closedb ls) u in
       let v′ : T (allb closedb ls) = and-right (closedb l) (allb closedb ls) u in
-      let m : length cs′ ≡ length ts = closed-length (redEdges [] cs′ ts) cs′ ts v in
+      let m : length cs′ ≡ length ts = sym (closed-many (redEdges [] cs′ ts) cs′ ts v) in
       let w′ : Within (redLevels ls) reds = λ e t. w e (held-append (redEdges [] cs′ ts) (redLevels ls) e ∙ rw t (or-true (heldb sameb (redEdges [] cs′ ts) e))) in
       let p′ : all ≡ (done ++ cs′) ++ cellsOf ls = p ∙ sym (append-assoc done cs′ (cellsOf ls)) in
       let i : flags ls ms ≡ map (λ (l : Level). flagsIn (l .statuses)) ls =

@@ -14,13 +14,14 @@ use Rattle.mesh.specs.Weights.{Point, coarseFrom, coarseCells}
 use Rattle.mesh.specs.Coarse.{cellsb}
 use Rattle.mesh.specs.Table.{Level, next, levels, levelsOf, cellsOf, closedb, apartb, soundb}
 use Rattle.rows.specs.Numbered.{sizes}
+use Rattle.rows.specs.Many.{closed-many}
 use Rattle.lattice.specs.Every.{All}
 use Rattle.lattice.specs.Levels.{sound-levels}
 use Rattle.same.specs.Olds.{flagOf, concat, flags, flagTable, upTo, growBy, stepBy}
 use Rattle.same.specs.Paths.{length-coarse, length-upto, upto-at}
 use Rattle.same.specs.Step.{step-by}
 use Rattle.mesh.specs.Step.{stepTable}
-use Rattle.unmarked.specs.Again.{orNone, ownOlds, flagsIn, statusLists, closed-length, grow-own, length-own}
+use Rattle.unmarked.specs.Again.{orNone, ownOlds, flagsIn, statusLists, grow-own, length-own}
 use Rattle.unmarked.specs.Flags.{Unmarked, redLevels, Within, flags-own}
 
 -- the coarse cells have their own numbers
@@ -79,7 +80,7 @@ reds-all (suc h) k (c ∷ cs) rest u =
     let ls : List Level = levels h (k + length cs′) (next k cs′ ts) (drop (length cs′) rest) in
     let v : T (closedFrom [] sameb (redEdges [] cs′ ts) cs′ ts) = and-left (closedb l) (allb closedb ls) u in
     let i : redLevels ls ≡ redEdges [] (cellsOf ls) (concat (statusLists ls)) = reds-all h (k + length cs′) (next k cs′ ts) (drop (length cs′) rest) (and-right (closedb l) (allb closedb ls) u) in
-    ap (λ (x : List (Point × Point)). redEdges [] cs′ ts ++ x) i ∙ sym (red-append cs′ (cellsOf ls) ts (concat (statusLists ls)) (closed-length (redEdges [] cs′ ts) cs′ ts v))
+    ap (λ (x : List (Point × Point)). redEdges [] cs′ ts ++ x) i ∙ sym (red-append cs′ (cellsOf ls) ts (concat (statusLists ls)) (sym (closed-many (redEdges [] cs′ ts) cs′ ts v)))
 
 flags-concat : (ls : List Level) → concat (map (λ (l : Level). flagsIn (l .statuses)) ls) ≡ flagsIn (concat (statusLists ls))
 unfolding flatMap
