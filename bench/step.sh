@@ -1,8 +1,9 @@
 #!/usr/bin/env bash
 # Times the proved step beside the plain Rust program, on the same inputs in the same run (see README.md).
 #   bench/step.sh [ROUNDS]           rounds: how often each time is taken (default 5); the best counts
-# The proved program is crates/try_steps: 'rt check try_steps' proves it, compiles it at -O3 and links
-# target/bin/try_steps. PROVED=PATH takes an executable that is there already, PROVED=none times the plain program alone.
+# The proved program is bench/library, which calls yd_step of the library: 'rt staticlib yuccadice' proves it and writes the archive
+# (YUCCADICE_LIB_DIR=DIRECTORY takes one that is there already). PROVED=PATH takes another executable, as target/bin/try_steps,
+# PROVED=none times the plain program alone.
 set -euo pipefail
 cd "$(dirname "$0")/.."
 source bench/timing.sh
@@ -13,8 +14,9 @@ seed=1
 visits=8000000   # cells before a step, between the two repeat counts
 
 if [ -z "${PROVED:-}" ]; then
-    rt check try_steps
-    PROVED=$PWD/target/bin/try_steps
+    if [ -z "${YUCCADICE_LIB_DIR:-}" ]; then rt staticlib yuccadice >&2; fi
+    cargo build --release --quiet --offline --manifest-path bench/library/Cargo.toml
+    PROVED=$PWD/bench/library/target/release/library_step
 fi
 cargo build --release --quiet --offline --manifest-path bench/plain/Cargo.toml --bins --examples
 generate=bench/plain/target/release/examples/generate
@@ -22,7 +24,7 @@ plain=bench/plain/target/release/plain_step
 work=$(mktemp -d)
 trap 'rm -r "$work"' EXIT
 
-# Ends the script unless all answer alike and leave the same tables: fields 1, 2, 3 of a line of try_steps.
+# Ends the script unless all answer alike and leave the same tables: fields 1, 2, 3 of a line.
 compare() { # INPUT
     "$plain" <"$1" >"$work/plain"
     "$plain" trusted <"$1" | cmp "$work/plain" -

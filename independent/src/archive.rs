@@ -33,6 +33,52 @@ pub fn write(job: &Job) -> Result<Vec<u8>, Refusal> {
     Ok(bytes)
 }
 
+/// A job as a program is lent it. One entry a mark, and for each step how many marks stand up to its end.
+#[derive(Clone, Debug, Default, PartialEq)]
+pub struct Flat {
+    pub positions: Vec<i32>,
+    pub cells: Vec<u16>,
+    pub marked: Vec<u16>,
+    pub marks: Vec<u8>,
+    pub ends: Vec<u16>,
+}
+
+pub fn flatten(job: &Job) -> Flat {
+    let mut flat = Flat { positions: job.positions.clone(), cells: job.cells.clone(), ..Flat::default() };
+    for &(cell, mark) in job.steps.iter().flatten() {
+        flat.marked.push(cell);
+        flat.marks.push(mark);
+    }
+    let mut end = 0;
+    for marked in &job.steps {
+        end += marked.len();
+        flat.ends.push(end.try_into().expect("few marks"));
+    }
+    flat
+}
+
+/// The same as `write`. Marked cells and marks of different numbers are refused with 7 after the mesh; so is a step whose end
+/// is before its start or behind the last mark, and a mark behind the last step, in the turn of the steps.
+pub fn write_flat(flat: &Flat) -> Result<Vec<u8>, Refusal> {
+    let mut job = Job { positions: flat.positions.clone(), cells: flat.cells.clone(), steps: Vec::new() };
+    let mut start = 0;
+    let mut fits = flat.marked.len() == flat.marks.len();
+    for &end in &flat.ends {
+        let step = start..end as usize;
+        fits &= step.start <= step.end && step.end <= flat.marked.len();
+        if !fits {
+            break;
+        }
+        start = step.end;
+        job.steps.push(flat.marked[step.clone()].iter().copied().zip(flat.marks[step].iter().copied()).collect());
+    }
+    if !fits || start < flat.marked.len() {
+        run(&job)?;
+        return Err(7);
+    }
+    write(&job)
+}
+
 /// The mesh and the status table after all steps of an archive.
 pub fn replay(bytes: &[u8]) -> Result<(Coarse, Vec<u8>), Refusal> {
     run(&form(bytes).ok_or(17)?)

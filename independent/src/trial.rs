@@ -32,7 +32,7 @@ pub fn words(length: usize) -> Vec<u16> {
     pattern(length).map(|x| x as u16).collect()
 }
 
-fn signed(length: usize) -> Vec<i32> {
+pub fn signed(length: usize) -> Vec<i32> {
     pattern(length).map(|x| x as i32).collect()
 }
 
@@ -48,7 +48,7 @@ pub fn checksum_words(list: &[u16]) -> u64 {
     checksum(list.iter().map(|&x| x as u64))
 }
 
-fn checksum_signed(list: &[i32]) -> u64 {
+pub fn checksum_signed(list: &[i32]) -> u64 {
     checksum(list.iter().map(|&x| (x as i64 + (1 << 31)) as u64))
 }
 
@@ -98,7 +98,7 @@ impl Line {
     }
 }
 
-fn table_rows(layout: &Layout) -> Vec<u16> {
+pub fn table_rows(layout: &Layout) -> Vec<u16> {
     layout
         .cells
         .iter()
@@ -111,7 +111,7 @@ fn table_rows(layout: &Layout) -> Vec<u16> {
 }
 
 /// The two ends of each corner, lower first; a coarse corner's are itself.
-fn end_rows(coarse: &Coarse, layout: &Layout) -> Vec<u16> {
+pub fn end_rows(coarse: &Coarse, layout: &Layout) -> Vec<u16> {
     let numbers: HashMap<&Weights, usize> = layout.corners.iter().zip(0..).collect();
     let mut ends: Vec<Option<Edge>> = vec![None; layout.corners.len()];
     for (k, end) in ends.iter_mut().enumerate().take(coarse.positions.len()) {
@@ -131,7 +131,7 @@ fn end_rows(coarse: &Coarse, layout: &Layout) -> Vec<u16> {
     ends.flat_map(|(a, b)| [a as u16, b as u16]).collect()
 }
 
-fn sum_rows(coarse: &Coarse, layout: &Layout) -> Vec<i32> {
+pub fn sum_rows(coarse: &Coarse, layout: &Layout) -> Vec<i32> {
     let sum = |weights: &Weights, axis: usize| -> i64 {
         weights.iter().map(|&(c, w)| w as i64 * coarse.positions[c as usize][axis] as i64).sum()
     };

@@ -1,6 +1,6 @@
 //! The limits, and the order of refusals.
 
-use independent::archive::{form, put, read, replay, write, Job, MOST_BYTES};
+use independent::archive::{form, put, read, replay, write, write_flat, Flat, Job, MOST_BYTES};
 use independent::conform::conform;
 use independent::mesh::*;
 use independent::random::Random;
@@ -251,6 +251,39 @@ fn steps_in_turn() {
     assert_eq!(both(steps.clone()), (Err(8), Err(8)));
     steps.swap(0, 11);
     assert_eq!(both(steps), (Err(7), Err(7)));
+}
+
+#[test]
+fn flat_tables() {
+    let both = |marked: &[u16], marks: &[u8], ends: &[u16], far: i32| {
+        let mut positions = A.to_vec();
+        positions[0] = far;
+        let (marked, marks, ends) = (marked.to_vec(), marks.to_vec(), ends.to_vec());
+        write_flat(&Flat { positions, cells: vec![0, 1, 2, 3], marked, marks, ends }).map(|bytes| bytes.len())
+    };
+    let answer = |marked: &[u16], marks: &[u8], ends: &[u16]| {
+        let answer = both(marked, marks, ends, 0);
+        // The mesh comes first.
+        assert_eq!(both(marked, marks, ends, 500_001), Err(2));
+        answer
+    };
+    assert_eq!(answer(&[], &[], &[]), Ok(62));
+    assert_eq!(answer(&[], &[], &[0, 0]), Ok(64));
+    assert_eq!(answer(&[0, 1, 3], &[1, 1, 2], &[0, 1, 1, 3]), Ok(78));
+    // Marks behind the last step, an end behind the last mark, an end before its start, different numbers.
+    assert_eq!(answer(&[0], &[1], &[]), Err(7));
+    assert_eq!(answer(&[0], &[1], &[0]), Err(7));
+    assert_eq!(answer(&[0], &[1], &[2]), Err(7));
+    assert_eq!(answer(&[0, 1], &[1, 1], &[1, 0, 2]), Err(7));
+    assert_eq!(answer(&[0, 1], &[1], &[1]), Err(7));
+    assert_eq!(answer(&[0], &[1, 1], &[1]), Err(7));
+    // Within a step cells ascend, over steps they need not.
+    assert_eq!(answer(&[0, 2, 1], &[1, 2, 2], &[1, 3]), Err(7));
+    assert_eq!(answer(&[0, 2, 1], &[1, 2, 2], &[1, 2, 3]), Ok(77));
+    // Too many bytes come last.
+    assert_eq!(answer(&[], &[], &vec![0; 65_475]), Err(17));
+    assert_eq!(answer(&[], &[], &vec![0; 65_474]), Ok(MOST_BYTES));
+    assert_eq!(answer(&[0], &[1], &vec![0; 65_475]), Err(7));
 }
 
 #[test]

@@ -1,6 +1,6 @@
 //! Random meshes, tables, steps and archives.
 
-use independent::archive::{form, listing, put, read, replay, write};
+use independent::archive::{flatten, form, listing, put, read, replay, write, write_flat};
 use independent::conform::conform;
 use independent::mesh::*;
 use independent::random::*;
@@ -165,6 +165,7 @@ fn archives_go_there_and_back() {
         let job = job(&mut r);
         let bytes = write(&job).unwrap();
         assert_eq!(read(&bytes), Ok(job.clone()));
+        assert_eq!(write_flat(&flatten(&job)).as_ref(), Ok(&bytes));
         let (mesh, table) = replay(&bytes).unwrap();
         let layout = examine_table(&mesh, &table).unwrap();
         let lines = String::from_utf8(listing(&bytes)).unwrap();
@@ -187,6 +188,7 @@ fn archives_go_there_and_back() {
             }
         }
         let damaged = damaged_job(&mut r, &job);
+        assert_eq!(write_flat(&flatten(&damaged)), write(&damaged));
         match write(&damaged) {
             Ok(bytes) => assert_eq!(read(&bytes), Ok(damaged)),
             Err(number) => {

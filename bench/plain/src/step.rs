@@ -2,7 +2,8 @@
 
 use crate::families::{CORNER, EDGES, MIDPOINT};
 use crate::layout::{key, keys, Layouter, MOST_CELLS, RED, TOP_LEVEL};
-use crate::mesh;
+use crate::mesh::{self, Face};
+use crate::table::Table;
 use crate::Refusal;
 
 pub const REFINE: u8 = 1;
@@ -14,7 +15,7 @@ pub struct Stepper {
     /// For each status the edges of the children that are not the cell's own: a child, and the places of two of its corners.
     inner: Vec<Vec<(u8, u8, u8)>>,
     /// How many children each status has.
-    sizes: [u8; 65],
+    pub(crate) sizes: [u8; 65],
     /// For each old cell whether it is red after the step, and its first child.
     red: Vec<bool>,
     first: Vec<u16>,
@@ -47,6 +48,11 @@ impl Stepper {
             reds: Vec::new(),
             new: Vec::new(),
         }
+    }
+
+    /// Room to examine a mesh in.
+    pub(crate) fn faces(&mut self) -> &mut Table<Face> {
+        &mut self.layouter.faces
     }
 
     /// The number of cells after the step, whose statuses stand first in `table` then. Refusals 15, 1 to 9 leave it as it is.

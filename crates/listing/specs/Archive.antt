@@ -1,12 +1,12 @@
 -- The listing of an archive (document 01, "Archive and listing").
 --   listed a cs     what is printed of an archive with the answer a and the counts cs
 --   listingOf bs    the bytes of the listing of the archive bs
--- Law: archive-fits (a listing has at most 512 bytes).
+-- Laws: archive-fits (a listing has at most 512 bytes), listing-inside (a table that the listing was written into holds it).
 use mathlib.Core.Path.{_≡_, refl}
-use mathlib.Core.List.{List}
+use mathlib.Core.List.{List, _++_}
 use Prim.Native.Nat.{ℕ, _≤_}
 use native.Mathlib.Omega.{arith}
-use lib.ListN.{length}
+use lib.ListN.{length, drop, length-append}
 use Rattle.base.specs.declared.Answer.{Answer}
 use Rattle.base.specs.declared.Answer.the-variants.{Accepted, Refused}
 use Rattle.archive.specs.Form.{jobOf}
@@ -32,3 +32,6 @@ archive-fits bs = go (archiveAnswer bs) refl
     go : (a : Answer) → archiveAnswer bs ≡ a → length (listed a (jobCounts (jobOf bs))) ≤ 512
     go Accepted e = listing-fits (jobCounts (jobOf bs)) (counts-few (jobOf bs) (archive-job bs e))
     go (Refused k) e = omega (arith, refusal-fits k)
+
+pub listing-inside : (bs old new : List ℕ) (m : ℕ) → new ≡ listingOf bs ++ drop (length (listingOf bs)) old → m ≡ length (listingOf bs) → m ≤ length new
+listing-inside bs old new m e f = rw (e, length-append (listingOf bs) (drop (length (listingOf bs)) old)) (omega (arith, f))

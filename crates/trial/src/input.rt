@@ -39,13 +39,27 @@ fn signed(bits: u32) -> i32 {
     }
 }
 
-fn coordinate(bytes: &[u8], k: usize) -> i32
+// The k-th number of four bytes.
+fn four(bytes: &[u8], k: usize) -> u32
     requires { ⌜ 4 * k + 3 < length (now bytes) ⌝ }
 {
     let at = 4 * k;
     let low = word(bytes[at], bytes[at + 1]);
     let high = word(bytes[at + 2], bytes[at + 3]);
-    signed(low + 65536 * high)
+    low + 65536 * high
+}
+
+// The same as a length.
+pub fn long(bytes: &[u8], k: usize) -> usize
+    requires { ⌜ 4 * k + 3 < length (now bytes) ⌝ }
+{
+    four(bytes, k) as usize
+}
+
+fn coordinate(bytes: &[u8], k: usize) -> i32
+    requires { ⌜ 4 * k + 3 < length (now bytes) ⌝ }
+{
+    signed(four(bytes, k))
 }
 
 fn corner(bytes: &[u8], k: usize) -> u16
@@ -70,7 +84,7 @@ fn decode_positions(bytes: &[u8], list: &mut [i32], n: usize) -> bool {
     true
 }
 
-// The first n corner numbers, from two bytes each. False where a list is too short.
+// The first n corner or cell numbers, from two bytes each. False where a list is too short.
 fn decode_cells(bytes: &[u8], list: &mut [u16], n: usize) -> bool {
     let mut i = 0;
     while i < n {
@@ -86,8 +100,29 @@ fn decode_cells(bytes: &[u8], list: &mut [u16], n: usize) -> bool {
     true
 }
 
-// Reads the lists of a mesh into the first places of the given ones, by way of room. False where a list is too long for them
-// or the input ends.
+// Reads n coordinates into the first places of a list, by way of room. False where one of them is too short or the input ends.
+pub fn read_positions(room: &mut [u8], list: &mut [i32], n: usize) -> bool {
+    if n > room.len() / 4 {
+        return false;
+    }
+    if !read_bytes(room, 4 * n) {
+        return false;
+    }
+    decode_positions(room, list, n)
+}
+
+// The same with corner or cell numbers.
+pub fn read_cells(room: &mut [u8], list: &mut [u16], n: usize) -> bool {
+    if n > room.len() / 2 {
+        return false;
+    }
+    if !read_bytes(room, 2 * n) {
+        return false;
+    }
+    decode_cells(room, list, n)
+}
+
+// Reads the lists of a mesh.
 pub fn read_mesh(
     room: &mut [u8],
     positions: &mut [i32],
@@ -95,20 +130,8 @@ pub fn read_mesh(
     position_count: usize,
     cell_count: usize,
 ) -> bool {
-    if position_count > 2000 {
+    if !read_positions(room, positions, position_count) {
         return false;
     }
-    if cell_count > 2000 {
-        return false;
-    }
-    if !read_bytes(room, 4 * position_count) {
-        return false;
-    }
-    if !decode_positions(room, positions, position_count) {
-        return false;
-    }
-    if !read_bytes(room, 2 * cell_count) {
-        return false;
-    }
-    decode_cells(room, cells, cell_count)
+    read_cells(room, cells, cell_count)
 }

@@ -1,18 +1,11 @@
 -- `meshlist::main` faults nowhere: a listing has at most 512 bytes.
 -- Assumes nothing.
-use mathlib.Core.Path.{_≡_, sym}
-use mathlib.Core.List.{List, _++_}
-use Prim.Native.Nat.{ℕ, _≤_}
-use native.Mathlib.Omega.{arith}
-use lib.ListN.{length, drop, length-append}
+use mathlib.Core.Path.{sym}
 use lib.Seq.{length-take-le}
-use Rattle.listing.specs.Archive.{listingOf}
+use Rattle.listing.specs.Archive.{listing-inside}
 use borrow.Author.Needs.{needs}
 use Rattle.meshlist.proofs.main.Statement.{statement}
 use Rattle.meshlist.proofs.main.Tie as tie
-
-room : (bs old new : List ℕ) (m : ℕ) → new ≡ listingOf bs ++ drop (length (listingOf bs)) old → m ≡ length (listingOf bs) → length old ≡ 512 → m ≤ length new
-room bs old new m e f g = rw (e, length-append (listingOf bs) (drop (length (listingOf bs)) old)) (omega arith)
 
 slice-aggregate-read-full : tie.Need-slice-aggregate-read-full
 slice-aggregate-read-full c = search needs
@@ -30,12 +23,12 @@ list-requires : tie.Need-list-requires
 list-requires c κs = search needs
 
 array-share-prefix-out : tie.Need-array-share-prefix-out
-array-share-prefix-out c = room _ _ _ _ (c .list .ensures .0) (c .list .ensures .1) (search needs)
+array-share-prefix-out c = listing-inside _ _ _ _ (c .list .ensures .0) (c .list .ensures .1)
 
 slice-aggregate-write-all : tie.Need-slice-aggregate-write-all
 slice-aggregate-write-all c =
     let l = c .before .list in
-    sym (length-take-le (l .result) _ (room _ _ _ _ (l .ensures .0) (l .ensures .1) (search needs)))
+    sym (length-take-le (l .result) _ (listing-inside _ _ _ _ (l .ensures .0) (l .ensures .1)))
 
 write-all-requires : tie.Need-write-all-requires
 write-all-requires c κs = search needs

@@ -1,0 +1,139 @@
+//! The cases of document 01 through the wrapper, and what a refusal leaves.
+
+use yuccadice::*;
+
+/// Mesh A: one cell.
+fn mesh_a() -> Mesh {
+    Mesh { positions: vec![0, 0, 0, 16, 0, 0, 0, 16, 0, 0, 0, 16], cells: vec![0, 1, 2, 3] }
+}
+
+fn marked(length: usize, cells: &[usize], mark: u8) -> Vec<u8> {
+    (0..length).map(|k| if cells.contains(&k) { mark } else { 0 }).collect()
+}
+
+fn case_b() -> Vec<u8> {
+    step(&mesh_a(), &[LEAF], &[REFINE]).unwrap()
+}
+
+fn case_c() -> Vec<u8> {
+    step(&mesh_a(), &case_b(), &marked(9, &[1], REFINE)).unwrap()
+}
+
+#[test]
+fn families() {
+    assert_eq!(cut(1).unwrap(), [[0, 1, 7, 9], [1, 4, 7, 9]]);
+    assert_eq!(cut(63).unwrap().len(), 8);
+    assert_eq!(cut(0).unwrap(), [[0, 4, 7, 9]]);
+    assert_eq!(cut(64), Err(Refusal(6)));
+}
+
+#[test]
+fn steps() {
+    let a = mesh_a();
+    assert_eq!(step(&a, &[LEAF], &[DELETE]).unwrap(), [LEAF]);
+    assert_eq!(case_b(), [64, 0, 0, 0, 0, 0, 0, 0, 0]);
+    let c = case_c();
+    assert_eq!(c[..9], [64, 64, 11, 1, 0, 1, 0, 0, 0]);
+    assert_eq!(c[9..], [0; 16]);
+    let d = step(&a, &c, &marked(25, &[17], REFINE)).unwrap();
+    assert_eq!(d[..9], [64, 64, 64, 21, 4, 11, 2, 0, 1]);
+    assert_eq!(d.len(), 39);
+    let family: Vec<usize> = (9..17).collect();
+    assert_eq!(step(&a, &c, &marked(25, &family, DELETE)).unwrap(), case_b());
+    assert_eq!(step(&a, &c, &marked(25, &family[..7], DELETE)).unwrap(), c);
+    let mut marks = marked(25, &family, DELETE);
+    marks[17] = REFINE;
+    assert_eq!(step(&a, &c, &marks).unwrap()[1], 56);
+}
+
+#[test]
+fn layouts() {
+    let (a, c) = (mesh_a(), case_c());
+    assert_eq!(examine_mesh(&a), Ok(()));
+    assert_eq!(examine_table(&a, &c), Ok(()));
+    let layout = lay_out(&a, &c).unwrap();
+    assert_eq!((layout.cells.len(), layout.ends.len(), layout.levels), (25, 16, 3));
+    assert_eq!(layout.cells[0], Cell { level: 0, parent: None, child: 0, regular: true, corners: [0, 1, 2, 3] });
+    assert_eq!(layout.cells[17].parent, Some(2));
+    assert!(!layout.cells[17].regular);
+    assert_eq!(layout.ends[4], [0, 1]);
+    assert_eq!(layout.position(7), Ok([8.0, 8.0, 0.0]));
+    assert_eq!(layout.position(16), Err(Refusal(7)));
+    assert_eq!(ancestor(&a, &c, 24), Ok((0, 2)));
+    assert_eq!(ancestor(&a, &c, 25), Err(Refusal(7)));
+}
+
+#[test]
+fn refusals() {
+    let mut mesh = mesh_a();
+    mesh.positions[0] = 500_000;
+    assert_eq!(examine_mesh(&mesh), Ok(()));
+    mesh.positions[0] = 500_001;
+    assert_eq!(examine_mesh(&mesh), Err(Refusal(2)));
+    assert_eq!(examine_mesh(&Mesh::default()), Err(Refusal(1)));
+    assert_eq!(examine_table(&mesh_a(), &[63]), Err(Refusal(6)));
+    assert_eq!(step(&mesh_a(), &[LEAF], &[3]), Err(Refusal(7)));
+    assert!(Refusal(8).to_string().starts_with("refused 8: "));
+}
+
+#[test]
+fn a_short_table_stays_as_it_was() {
+    let (a, c) = (mesh_a(), case_c());
+    let (mut table, mut count) = (vec![7; STATUS_LENGTH - 1], 77);
+    assert_eq!(lent::step(&a.positions, &a.cells, &c, &[0; 25], &mut table, &mut count), 15);
+    assert!(table.iter().all(|&b| b == 7) && count == 77);
+    table.push(7);
+    assert_eq!(lent::step(&a.positions, &a.cells, &c, &[0; 25], &mut table, &mut count), 0);
+    assert!(table[..25] == c && table[25..].iter().all(|&b| b == 7) && count == 25);
+}
+
+#[test]
+fn archives() {
+    let job = Job { mesh: mesh_a(), steps: vec![vec![(0, REFINE)], vec![(1, REFINE)], vec![]] };
+    let bytes = write(&job).unwrap();
+    assert_eq!(bytes.len(), 4 * 13 + 9 + 4 + 1 + 4 + 1 + 1 + 1);
+    assert_eq!(read(&bytes), Ok(job.clone()));
+    let (table, levels) = replay(&bytes).unwrap();
+    assert_eq!(table, case_c());
+    let rows: Vec<[u16; 4]> = levels.iter().map(|l| [l.cells, l.red, l.green, l.leaves]).collect();
+    assert_eq!(rows, [[1, 1, 0, 0], [8, 1, 3, 4], [16, 0, 0, 16]]);
+    assert_eq!(levels, counts(&job.mesh, &table).unwrap());
+    assert_eq!(replay(&bytes[1..]), Err(Refusal(17)));
+    assert_eq!(read(b"E"), Err(Refusal(1)));
+
+    let refused = |steps| write(&Job { steps, ..job.clone() }).unwrap_err();
+    assert_eq!(refused(vec![vec![(1, REFINE)]]), Refusal(7));
+    assert_eq!(refused(vec![vec![(0, REFINE)], vec![(2, REFINE), (1, REFINE)]]), Refusal(7));
+    assert_eq!(refused(vec![vec![]; 65_536]), Refusal(17));
+    // More marks than the library can be told of.
+    assert_eq!(refused(vec![vec![(0, DELETE)]; 70_000]), Refusal(17));
+    assert_eq!(refused(vec![vec![(0, REFINE)]; 70_000]), Refusal(7));
+}
+
+/// The lengths here, in the header and in the documentation.
+#[test]
+fn lengths_are_the_same_everywhere() {
+    let header = include_str!("../../../include/yuccadice.h");
+    let documentation = include_str!("../../../docs/LIBRARY.md");
+    let lengths = [
+        ("DIGITS", DIGITS_LENGTH),
+        ("TABLE", TABLE_LENGTH),
+        ("ENDS", ENDS_LENGTH),
+        ("SUMS", SUMS_LENGTH),
+        ("COUNTS", COUNTS_LENGTH),
+        ("STATUS", STATUS_LENGTH),
+        ("POSITIONS", POSITIONS_LENGTH),
+        ("COARSE_CELLS", COARSE_CELLS_LENGTH),
+        ("MARKED", MARKED_LENGTH),
+        ("MARKS", MARKS_LENGTH),
+        ("STEP_ENDS", STEP_ENDS_LENGTH),
+        ("BYTES", BYTES_LENGTH),
+    ];
+    let numbers_in = |line: &str| line.chars().filter(|&c| c != ',').collect::<String>();
+    for (name, length) in lengths {
+        assert!(header.contains(&format!("#define YD_{name}_LENGTH {length} ")), "{name}");
+        let row = documentation.lines().find(|l| l.starts_with(&format!("| `YD_{name}_LENGTH` |"))).expect(name);
+        assert!(numbers_in(row).contains(&format!(" | {length} | ")), "{name}");
+    }
+    assert_eq!(header.matches("_LENGTH ").count(), lengths.len());
+}

@@ -1,0 +1,150 @@
+/* Yuccadice: red/green refinement of tetrahedral meshes, every promise proved. The library is target/staticlib/libyuccadice.a
+ * (docs/LIBRARY.md).
+ *
+ * Each function answers YD_ACCEPTED, or the number of a refusal: that of the first condition in its list that holds. It answers on any input.
+ *   - A table is a pointer and then its length, counted in its own numbers and not in bytes.
+ *   - A table that is lent to be written may be longer than its full length (YD_..._LENGTH); where it is shorter the answer is 15. A function
+ *     writes the used part in front, and behind it the table keeps what it held.
+ *   - Beside a refusal every lent table and every lent number is as it was.
+ *   - The caller sees to this: no pointer is null, not even that of an empty table; each points to so many numbers, all of them set; nothing that a
+ *     function writes overlaps anything else that it is lent; nobody writes any of it before the function returns; the stack has YD_STACK bytes.
+ *   - The functions keep nothing between calls, so several threads may call them at a time.
+ */
+#ifndef YUCCADICE_H
+#define YUCCADICE_H
+
+#include <stddef.h>
+#include <stdint.h>
+
+#ifdef __cplusplus
+extern "C" {
+#endif
+
+/* The limits. */
+#define YD_MOST_COARSE_CORNERS 512 /* 4 to 512 corners of a coarse mesh */
+#define YD_MOST_COARSE_CELLS 256   /* 1 to 256 cells of a coarse mesh */
+#define YD_MOST_COORDINATE 500000  /* a coordinate is from -500,000 to 500,000 tenths of a millimetre */
+#define YD_MOST_CELLS 4096         /* cells over all levels */
+#define YD_MOST_CORNERS 16384      /* corners of a table */
+#define YD_MOST_LEVELS 11          /* levels 0 to 10 */
+#define YD_MOST_BYTES 65536        /* bytes of an archive */
+#define YD_STACK 1048576           /* bytes of stack: more than any call needs */
+
+/* The full lengths of lent tables. */
+#define YD_DIGITS_LENGTH 32         /* uint8_t: four digits a child */
+#define YD_TABLE_LENGTH 32768       /* uint16_t: eight numbers a cell */
+#define YD_ENDS_LENGTH 32768        /* uint16_t: two numbers a corner */
+#define YD_SUMS_LENGTH 49152        /* int32_t: three numbers a corner */
+#define YD_COUNTS_LENGTH 44         /* uint16_t: four numbers a level */
+#define YD_STATUS_LENGTH 4096       /* uint8_t: a status a cell */
+#define YD_POSITIONS_LENGTH 1536    /* int32_t: three numbers a coarse corner */
+#define YD_COARSE_CELLS_LENGTH 1024 /* uint16_t: four numbers a coarse cell */
+#define YD_MARKED_LENGTH 16384      /* uint16_t: a cell number a mark */
+#define YD_MARKS_LENGTH 16384       /* uint8_t: 1 or 2 a mark */
+#define YD_STEP_ENDS_LENGTH 65536   /* uint16_t: a number a step */
+#define YD_BYTES_LENGTH 65536       /* uint8_t: the bytes of an archive */
+
+/* Answers. */
+#define YD_ACCEPTED 0
+#define YD_REFUSED_COUNTS 1    /* too few or too many corners or cells, or a list's length no multiple of 3 or 4 */
+#define YD_REFUSED_RANGE 2     /* a coordinate out of its range */
+#define YD_REFUSED_NUMBERS 3   /* a cell's corner numbers do not ascend strictly, or are not below the count */
+#define YD_REFUSED_FLAT 4      /* a flat cell */
+#define YD_REFUSED_FACES 5     /* two cells with the same corners, or a face in three cells */
+#define YD_REFUSED_STATUS 6    /* a status table that is not sound; a pattern above 63 */
+#define YD_REFUSED_MARKS 7     /* marks of wrong length, above 2 or not 0 on a refined cell; a cell or corner number not below the count */
+#define YD_REFUSED_LEVEL 8     /* a level above 10 would arise */
+#define YD_REFUSED_CELLS 9     /* more than 4,096 cells would arise */
+#define YD_REFUSED_SHORT 15    /* a lent table is shorter than its full length */
+#define YD_REFUSED_FORM 17     /* an archive's bytes are not in the form, or would be more than 65,536 */
+
+/* A status, a mark, and the parent of a coarse cell. */
+#define YD_LEAF 0
+#define YD_RED 64 /* 1 to 63: green, closed with that pattern */
+#define YD_REFINE 1
+#define YD_DELETE 2
+#define YD_NO_PARENT 65535
+
+/* A coarse mesh is `positions`, three coordinates a corner, and `cells`, four corner numbers a cell, strictly ascending. A status table is `status`, a
+ * byte a cell; cells are numbered level by level from 0, in each level by parent and then child. */
+
+/* The children of a cell with this pattern of split edges (1, 2, 4, 8, 16, 32 for 12, 13, 14, 23, 24, 34).
+ * After: digits has four digits a child, and zeros up to 32 numbers; *count is the number of children, 1 to 8. The digits of the corners are 0, 4, 7, 9,
+ * those of the midpoints of 12, 13, 14, 23, 24, 34 are 1, 2, 3, 5, 6, 8.
+ * Refusals: 15, 6. */
+uint8_t yd_cut(uint8_t pattern, uint8_t *digits, size_t digits_length, size_t *count);
+
+/* Whether a coarse mesh is accepted.
+ * Refusals: 1 to 5. */
+uint8_t yd_examine_mesh(const int32_t *positions, size_t positions_length, const uint16_t *cells, size_t cells_length);
+
+/* Whether a status table over a coarse mesh is accepted.
+ * Refusals: 1 to 6. */
+uint8_t yd_examine_table(const int32_t *positions, size_t positions_length, const uint16_t *cells, size_t cells_length,
+                         const uint8_t *status, size_t status_length);
+
+/* Lays the cells and corners of a status table out.
+ * After: table has eight numbers a cell: level, parent (65,535 for a coarse cell), place in the parent's family from 0 (0 for a coarse cell), 1 where
+ * the cell is regular and 0 where not, four corner numbers in local order. ends has two numbers a corner: the corners in whose middle it lies, the
+ * lower first; a coarse corner has its own number twice. sums has three numbers a corner: 1,024 times its coordinates. *cell_count is the
+ * number of cells, *corner_count that of corners, *level_count that of levels.
+ * Refusals: 15, 1 to 6. */
+uint8_t yd_lay_out(const int32_t *positions, size_t positions_length, const uint16_t *cells, size_t cells_length,
+                   const uint8_t *status, size_t status_length, uint16_t *table, size_t table_length, uint16_t *ends, size_t ends_length,
+                   int32_t *sums, size_t sums_length, size_t *cell_count, size_t *corner_count, size_t *level_count);
+
+/* The position of a corner of a layout of so many corners, in tenths of a millimetre, exact. sums is lent to be read, at its full length.
+ * After: *x, *y, *z are its coordinates.
+ * Refusals: 15; 7 where corner is not below corners or not below 16,384. */
+uint8_t yd_position(const int32_t *sums, size_t sums_length, size_t corners, size_t corner, double *x, double *y, double *z);
+
+/* The coarse cell that a cell lies in.
+ * After: *coarse is its number, *level the cell's level.
+ * Refusals: 1 to 6; 7 where cell is not below the number of cells. */
+uint8_t yd_ancestor(const int32_t *positions, size_t positions_length, const uint16_t *cells, size_t cells_length,
+                    const uint8_t *status, size_t status_length, size_t cell, size_t *coarse, size_t *level);
+
+/* The counts of each level of a status table.
+ * After: counts has four numbers a level: cells, red, green, leaves. *level_count is the number of levels.
+ * Refusals: 15, 1 to 6. */
+uint8_t yd_counts(const int32_t *positions, size_t positions_length, const uint16_t *cells, size_t cells_length,
+                  const uint8_t *status, size_t status_length, uint16_t *counts, size_t counts_length, size_t *level_count);
+
+/* One step. marks has a byte a cell: 0 none, 1 refine, 2 delete.
+ * After: table has the statuses of the new cells, *cell_count their number.
+ * Refusals: 15, 1 to 9. */
+uint8_t yd_step(const int32_t *positions, size_t positions_length, const uint16_t *cells, size_t cells_length,
+                const uint8_t *status, size_t status_length, const uint8_t *marks, size_t marks_length,
+                uint8_t *table, size_t table_length, size_t *cell_count);
+
+/* The job of an archive. Its marks stand one after the other, those of the first step first; a step's marks are those up to its end from the end
+ * of the step before.
+ * After: positions and cells have the coarse mesh; marked has the cell and marks the mark of each mark; step_ends has, for each step, how many
+ * marks stand up to its end. *corner_count is the number of coarse corners, *cell_count that of coarse cells, *mark_count that of marks, *step_count that
+ * of steps.
+ * Refusals: 15, 17, 1 to 5, then for the steps in turn 7 to 9. */
+uint8_t yd_read(const uint8_t *bytes, size_t bytes_length, int32_t *positions, size_t positions_length,
+                uint16_t *cells, size_t cells_length, uint16_t *marked, size_t marked_length, uint8_t *marks, size_t marks_length,
+                uint16_t *step_ends, size_t step_ends_length,
+                size_t *corner_count, size_t *cell_count, size_t *mark_count, size_t *step_count);
+
+/* The archive of a job, whose tables are those of yd_read at the lengths used.
+ * After: bytes has the archive, *byte_count is the number of its bytes.
+ * Refusals: 15; 1 to 5; 7 where marked and marks differ in length; then for the steps in turn 7 (also where a step ends before it begins or behind the last
+ * mark, or its cells do not ascend strictly, or a mark is not 1 or 2), 8, 9; 7 where marks are left behind the last step; 17. */
+uint8_t yd_write(const int32_t *positions, size_t positions_length, const uint16_t *cells, size_t cells_length,
+                 const uint16_t *marked, size_t marked_length, const uint8_t *marks, size_t marks_length,
+                 const uint16_t *step_ends, size_t step_ends_length, uint8_t *bytes, size_t bytes_length, size_t *byte_count);
+
+/* Does an archive's steps again.
+ * After: table has the statuses of the last cells, counts the counts of each level as in yd_counts. *cell_count is the number of cells, *level_count
+ * that of levels.
+ * Refusals: 15, 17, 1 to 5, then for the steps in turn 7 to 9. */
+uint8_t yd_replay(const uint8_t *bytes, size_t bytes_length, uint8_t *table, size_t table_length, uint16_t *counts, size_t counts_length,
+                  size_t *cell_count, size_t *level_count);
+
+#ifdef __cplusplus
+}
+#endif
+
+#endif
