@@ -2,3 +2,4 @@ pub mod Jobs
 pub mod Answers
 pub mod ReadAnswers
 pub mod WriteAnswers
+pub mod Listings

@@ -1,8 +1,9 @@
 // The calls on archives of jobs.
 ghost use mathlib.Core.Path.{_≡_};
+ghost use mathlib.Core.List.{_++_};
 ghost use Prim.Native.Nat.{_+_, _*_, _≤_};
 ghost use lib.Dec.{leb};
-ghost use lib.ListN.{length};
+ghost use lib.ListN.{length, drop};
 ghost use Rattle.layout.specs.Calls.{heldAfter};
 ghost use Rattle.archive.specs.Job.{jobBytes};
 ghost use Rattle.archive.specs.Form.{jobOf};
@@ -10,6 +11,7 @@ ghost use Rattle.archive.specs.Tables.{markedOf, marksOf, endsOf};
 ghost use Rattle.archive.specs.Stored.{jobFrom};
 ghost use Rattle.replay.specs.Run.{jobTable};
 ghost use Rattle.jobs.specs.Calls.{Reopened, replayAnswer, replayedOf, sizeOf, jobCounts};
+ghost use Rattle.jobs.specs.Listing.{listingOf};
 ghost use Rattle.jobs.specs.Calls.{roomb, readAnswer, readingOf, lengthsOf, writeAnswer, writingOf};
 
 // How many cells and levels a table has.
@@ -254,4 +256,21 @@ pub fn write(
         return Writing::Refused(17);
     }
     Writing::Bytes(archive::store(positions, cells, marked, marks, ends, bytes))
+}
+
+// Lists an archive. Gives how many bytes the listing has.
+pub fn list(bytes: &[u8], out: &mut [u8; 512]) -> usize
+    ensures { λ r. ⌜ now (out .exit) ≡ listingOf (now (bytes .entry)) ++ drop (length (listingOf (now (bytes .entry)))) (now (out .entry)) ⌝ }
+    ensures { λ r. ⌜ r ≡ length (listingOf (now (bytes .entry))) ⌝ }
+{
+    let mut table = [0u8; 4096];
+    let mut counts = [0u16; 44];
+    let r = replay(bytes, &mut table, &mut counts);
+    match r {
+        Replayed::Done(size) => {
+            let n = 4 * size.levels;
+            listing::write_listing(&counts[..n], out)
+        }
+        Replayed::Refused(k) => listing::write_refusal(k, out),
+    }
 }

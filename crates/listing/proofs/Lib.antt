@@ -2,4 +2,3 @@ pub mod Digits
 pub mod Text
 pub mod Fields
 pub mod Levels
-pub mod Archives

@@ -1,5 +1,3 @@
 pub mod Lines
 pub mod Put
 pub mod Sizes
-pub mod Archive
-pub mod Sample

@@ -1,12 +1,10 @@
 // Writes the lines that meshlist prints into a lent table of bytes. Each function answers the place behind what it writes.
-use jobs::Replayed;
 ghost use mathlib.Core.Path.{_≡_};
 ghost use mathlib.Core.List.{[], _∷_, _++_};
 ghost use Prim.Native.Nat.{_+_, _*_, _%_, _≤_, _<_};
 ghost use lib.ListN.{length, drop};
 ghost use Rattle.listing.specs.Lines.{digits, decimal, fields, lines, listing, refusal};
 ghost use Rattle.listing.specs.Put.{Put};
-ghost use Rattle.listing.specs.Archive.{listingOf};
 
 fn put_byte(out: &mut [u8], at: usize, b: u8) -> usize
     requires { ⌜ at < length (now out) ⌝ }
@@ -129,21 +127,4 @@ pub fn write_refusal(k: u8, out: &mut [u8]) -> usize
 {
     let p = put_text(out, 0, b"refused ");
     put_field(out, p, k as u16, b'\n')
-}
-
-// Lists an archive. Gives how many bytes the listing has.
-pub fn list(bytes: &[u8], out: &mut [u8; 512]) -> usize
-    ensures { λ r. ⌜ now (out .exit) ≡ listingOf (now (bytes .entry)) ++ drop (length (listingOf (now (bytes .entry)))) (now (out .entry)) ⌝ }
-    ensures { λ r. ⌜ r ≡ length (listingOf (now (bytes .entry))) ⌝ }
-{
-    let mut table = [0u8; 4096];
-    let mut counts = [0u16; 44];
-    let r = jobs::replay(bytes, &mut table, &mut counts);
-    match r {
-        Replayed::Done(size) => {
-            let n = 4 * size.levels;
-            write_listing(&counts[..n], out)
-        }
-        Replayed::Refused(k) => write_refusal(k, out),
-    }
 }

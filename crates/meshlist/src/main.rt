@@ -7,6 +7,6 @@ fn main() {
     let mut bytes = [0u8; 65537];
     let mut out = [0u8; 512];
     let n = io::read_full(STDIN_FILENO, &mut bytes);
-    let m = listing::list(&bytes[..n], &mut out);
+    let m = jobs::list(&bytes[..n], &mut out);
     io::write_all(STDOUT_FILENO, &out[..m]);
 }

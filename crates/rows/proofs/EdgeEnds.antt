@@ -2,22 +2,14 @@
 -- Assumes nothing.
 use mathlib.Core.Path.{_≡_, refl, ap₂}
 use mathlib.Core.List.{List, [], _∷_}
-use Prim.Native.Nat.{ℕ, zero, suc, _+_, _*_, _<_}
+use Prim.Native.Nat.{ℕ, zero, suc, _+_, _*_, _-_, _≤_, _<_}
 use native.Mathlib.Omega.{arith}
-use mathlib.Core.Bool.{_&&_}
-use lib.Dec.{T, ltb, ltb→lt}
 use lib.ListN.{getD}
-use Rattle.base.specs.Lists.{belowb, belowb-at, and-left, and-right}
 use Rattle.cutting.specs.Rule.{low, high}
 use Rattle.mesh.specs.Cells.{edge}
 use Rattle.rows.specs.Numbered.{cellAt}
+use Rattle.rows.specs.EdgeEnds.{lows, highs}
 use Rattle.edges.specs.Pairs.{Pair}
-
-abbrev pub lows : List ℕ
-lows = 0 ∷ 0 ∷ 0 ∷ 1 ∷ 1 ∷ 2 ∷ []
-
-abbrev pub highs : List ℕ
-highs = 1 ∷ 2 ∷ 3 ∷ 2 ∷ 3 ∷ 3 ∷ []
 
 module _ (t : List ℕ) (k : ℕ) where
   at0 : getD t (8 * k + 4 + 0) 0 ≡ getD t (8 * k + 4) 0
@@ -42,12 +34,20 @@ module _ (t : List ℕ) (k : ℕ) where
   ends-at (suc (suc (suc (suc (suc zero))))) h = ap₂ (λ (a b : ℕ). (a, b)) at2 at3
   ends-at (suc (suc (suc (suc (suc (suc e)))))) h = absurd (omega arith)
 
-low-test : T (belowb (λ e. ltb (getD lows e 0) 4 && ltb (getD highs e 0) 4) 6)
-unfolding belowb
-low-test = tt
+-- the three groups of edges: 0 to 2, 3 and 4, 5
+pub first-ends : (e : ℕ) → e < 3 → (0 ≡ getD lows e 0) × (e + 1 ≡ getD highs e 0)
+first-ends zero h = (refl, refl)
+first-ends (suc zero) h = (refl, refl)
+first-ends (suc (suc zero)) h = (refl, refl)
+first-ends (suc (suc (suc e))) h = absurd (omega arith)
 
-pub lows-below : (e : ℕ) → e < 6 → getD lows e 0 < 4
-lows-below e h = ltb→lt (getD lows e 0) 4 (and-left (ltb (getD lows e 0) 4) (ltb (getD highs e 0) 4) (belowb-at (λ e. ltb (getD lows e 0) 4 && ltb (getD highs e 0) 4) 6 low-test e h))
+pub next-ends : (e : ℕ) → 3 ≤ e → e < 5 → (1 ≡ getD lows e 0) × (e - 1 ≡ getD highs e 0)
+next-ends zero g h = absurd (omega arith)
+next-ends (suc zero) g h = absurd (omega arith)
+next-ends (suc (suc zero)) g h = absurd (omega arith)
+next-ends (suc (suc (suc zero))) g h = (refl, refl)
+next-ends (suc (suc (suc (suc zero)))) g h = (refl, refl)
+next-ends (suc (suc (suc (suc (suc e))))) g h = absurd (omega arith)
 
-pub highs-below : (e : ℕ) → e < 6 → getD highs e 0 < 4
-highs-below e h = ltb→lt (getD highs e 0) 4 (and-right (ltb (getD lows e 0) 4) (ltb (getD highs e 0) 4) (belowb-at (λ e. ltb (getD lows e 0) 4 && ltb (getD highs e 0) 4) 6 low-test e h))
+pub last-ends : (e : ℕ) → 5 ≤ e → e < 6 → (2 ≡ getD lows e 0) × (3 ≡ getD highs e 0)
+last-ends e g h = let z : e ≡ 5 = omega arith in (rw z, rw z)

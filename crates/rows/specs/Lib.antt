@@ -1,2 +1,3 @@
 pub mod Numbered
 pub mod Many
+pub mod EdgeEnds

@@ -2,9 +2,10 @@
 ghost use mathlib.Core.Path.{_≡_};
 ghost use Prim.Native.Nat.{_+_, _*_, _≤_, _<_};
 ghost use lib.Dec.{eqb};
-ghost use lib.ListN.{length};
+ghost use lib.ListN.{length, getD};
 ghost use Rattle.mesh.specs.Cells.{edge};
 ghost use Rattle.rows.specs.Numbered.{cellAt};
+ghost use Rattle.rows.specs.EdgeEnds.{lows, highs};
 
 // The two ends of an edge, in the order of the cell's corners.
 pub struct Ends {
@@ -12,20 +13,43 @@ pub struct Ends {
     pub b: u16,
 }
 
-const LOW: [usize; 6] = [0, 0, 0, 1, 1, 2];
+// The first corner of an edge. A constant list would be copied at each read (docs/SPEED.md); so it is for the second.
+fn low_of(e: usize) -> usize
+    requires { ⌜ e < 6 ⌝ }
+    ensures { λ r. ⌜ (r ≡ getD lows e 0) × (r < 4) ⌝ }
+{
+    if e < 3 {
+        return 0;
+    }
+    if e < 5 {
+        return 1;
+    }
+    2
+}
 
-const HIGH: [usize; 6] = [1, 2, 3, 2, 3, 3];
+// The second corner of an edge.
+fn high_of(e: usize) -> usize
+    requires { ⌜ e < 6 ⌝ }
+    ensures { λ r. ⌜ (r ≡ getD highs e 0) × (r < 4) ⌝ }
+{
+    if e < 3 {
+        return e + 1;
+    }
+    if e < 5 {
+        return e - 1;
+    }
+    3
+}
 
 pub fn edge_of(cells: &[u16], c: usize, e: usize) -> Ends
     requires { ⌜ (8 * c + 8 ≤ length (now cells)) × (e < 6) ⌝ }
     ensures { λ r. ⌜ ((r .a), (r .b)) ≡ edge 0 (cellAt (now (cells .entry)) c) e ⌝ }
 {
-    let low = &LOW;
-    let high = &HIGH;
-    let at = 8 * c + 4;
+    let a = 8 * c + 4 + low_of(e);
+    let b = 8 * c + 4 + high_of(e);
     Ends {
-        a: cells[at + low[e]],
-        b: cells[at + high[e]],
+        a: cells[a],
+        b: cells[b],
     }
 }
 

@@ -89,7 +89,7 @@ fn replay(archive: &[u8], table: &mut [u8], counts: &mut [u16]) -> Replayed {
 
 fn try_list(archive: &[u8]) {
     let mut out = [0u8; 512];
-    let n = listing::list(archive, &mut out);
+    let n = jobs::list(archive, &mut out);
     io::write_all(1, &out[..n]);
 }
 

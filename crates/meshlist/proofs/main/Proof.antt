@@ -2,7 +2,7 @@
 -- Assumes nothing.
 use mathlib.Core.Path.{sym}
 use lib.Seq.{length-take-le}
-use Rattle.listing.specs.Archive.{listing-inside}
+use Rattle.jobs.specs.Listing.{listing-inside}
 use borrow.Author.Needs.{needs}
 use Rattle.meshlist.proofs.main.Statement.{statement}
 use Rattle.meshlist.proofs.main.Tie as tie

@@ -2,7 +2,7 @@
 use mathlib.Core.Path.{sym}
 use lib.Seq.{length-take-le}
 use borrow.Author.Needs.{needs}
-use Rattle.listing.specs.Archive.{listing-inside}
+use Rattle.jobs.specs.Listing.{listing-inside}
 use Rattle.try_archives.proofs.try_list.Statement.{statement}
 use Rattle.try_archives.proofs.try_list.Tie as tie
 

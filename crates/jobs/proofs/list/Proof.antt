@@ -1,13 +1,13 @@
--- `listing::list` meets its contract: the counts in front of the table are those of the archive's levels, at most 44.
+-- `jobs::list` meets its contract: the counts in front of the table are those of the archive's levels, at most 44.
 -- Assumes nothing.
 use mathlib.Core.Path.{sym, _∙_}
 use Prim.Native.Nat.{_*_}
 use native.Mathlib.Omega.{arith}
 use lib.Seq.{length-take-le}
-use Rattle.listing.proofs.Archives.{done-few, done-listing, refused-listing, written-as}
+use Rattle.jobs.proofs.Listings.{done-few, done-listing, refused-listing, written-as}
 use borrow.Author.Needs.{needs}
-use Rattle.listing.proofs.list.Statement.{statement}
-use Rattle.listing.proofs.list.Tie as tie
+use Rattle.jobs.proofs.list.Statement.{statement}
+use Rattle.jobs.proofs.list.Tie as tie
 
 slice-aggregate-replay : tie.Need-slice-aggregate-replay
 slice-aggregate-replay c = search needs

@@ -8,8 +8,8 @@ use Prim.Native.Nat.{ℕ}
 use Rattle.cutting.specs.Rule.{family}
 use Rattle.mesh.specs.Counts.{countTable}
 use Rattle.replay.specs.Run.{jobTable}
 use Rattle.listing.specs.Lines.{header}
-use Rattle.listing.specs.Archive.{listingOf}
+use Rattle.jobs.specs.Listing.{listingOf}
 
 pub sample : List ℕ
 sample =

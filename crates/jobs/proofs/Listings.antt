@@ -12,13 +12,13 @@ use Rattle.base.specs.declared.Answer.the-variants.{Accepted, Refused}
 use Rattle.layout.specs.Calls.{heldAfter}
 use Rattle.archive.specs.Job.{Job}
 use Rattle.archive.specs.Form.{jobOf}
 use Rattle.jobs.specs.Calls.{archiveAnswer, jobLevels, jobCounts, replayAnswer, replayedOf, sizeOf}
 use Rattle.jobs.specs.Sound.{job-counts, job-high, archive-job}
 use Rattle.jobs.specs.declared.Size.{Size}
 use Rattle.jobs.specs.declared.Replayed.the-variants as replayed
 use Rattle.jobs.proofs.Answers.{long}
 use Rattle.listing.specs.Lines.{listing, refusal}
-use Rattle.listing.specs.Archive.{listed, listingOf}
+use Rattle.jobs.specs.Listing.{listed, listingOf}
 
 answer-done : (a : Answer) (s t : Size) → replayed.Done s ≡ replayedOf a t → (a ≡ Accepted) × (s ≡ t)
 unfolding replayedOf
