@@ -22,7 +22,7 @@ use Rattle.archive.specs.Ends.{stored-measure}
 use Rattle.replay.specs.Run.{tablesAnswer}
 use Rattle.replay.specs.Going as going
 use Rattle.jobs.specs.Calls.{writeAnswer, writingOf}
-use Rattle.jobs.specs.Written.{Taken, tables-taken}
+use Rattle.jobs.specs.Taken.{Taken, tables-taken}
 use Rattle.jobs.specs.declared.Writing.{Writing}
 use Rattle.jobs.specs.declared.Writing.the-variants as writing
 

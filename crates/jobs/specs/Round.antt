@@ -28,7 +28,8 @@ use Rattle.replay.specs.Run.{jobAnswer, tablesAnswer}
 use Rattle.replay.specs.Flat.{tables-answer}
 use Rattle.replay.specs.Accepted.{passed, both}
 use Rattle.jobs.specs.Calls.{archiveAnswer, writeAnswer}
-use Rattle.jobs.specs.Written.{Taken, tables-taken}
+use Rattle.jobs.specs.Sound.{archive-parts}
+use Rattle.jobs.specs.Taken.{Taken, tables-taken}
 
 -- the tables of a job that is given by tables
 cells-back : (cs ms : List ℕ) → length cs ≡ length ms → map cellOf (pairs cs ms) ≡ cs
@@ -125,8 +126,7 @@ pub record WrittenAgain (bs out : List ℕ) : Type 0 where
 
 module _ (bs : List ℕ) (o : Octets bs) (e : archiveAnswer bs ≡ Accepted) where
   form : T (formb bs) × (jobAnswer (jobOf bs) ≡ Accepted)
-  unfolding archiveAnswer
-  form = passed 17 (formb bs) (jobAnswer (jobOf bs)) e
+  form = archive-parts bs e
 
   few : length bs ≤ 65536
   few = let (b, w) = written-read bs o (form .0) in rw b at (w .few)

@@ -1,6 +1,7 @@
 -- The table of an accepted job.
--- Laws: job-parts (its mesh and its steps are accepted), job-sound (its table is sound), job-high (at most 11 levels), job-counts (four numbers a
--- level), counts-few (at most 44), archive-job (an accepted archive holds an accepted job).
+-- Laws: job-parts (its mesh and its steps are accepted), job-mesh (what that says of its mesh), job-sound (its table is sound), job-high (at
+-- most 11 levels), job-counts (four numbers a level), counts-few (at most 44); archive-parts, archive-job (an accepted archive is in the form and holds
+-- an accepted job).
 use mathlib.Core.Path.{_≡_, refl, _∙_, ap}
 use mathlib.Core.Bool.{true, _&&_}
 use mathlib.Core.List.{List, [], _∷_, flatMap}
@@ -59,16 +60,16 @@ module _ (j : Job) where
     unfolding jobAnswer
     job-parts = both (meshAnswer (j .positions) (j .cells)) (runAnswer n qs (restTable qs) (j .steps)) e
 
-    mesh : Mesh n (j .cells)
+    pub job-mesh : Mesh n (j .cells)
     unfolding codeOf
-    mesh = mesh-passed (j .positions) (j .cells) (rw (job-parts .0)) .mesh
+    job-mesh = mesh-passed (j .positions) (j .cells) (rw (job-parts .0)) .mesh
 
     pub job-sound : T (soundb n qs (jobTable j))
     unfolding jobTable
     job-sound =
         let l = length-fours (j .cells) in
-        let r : soundb n qs (restTable qs) ≡ true = rest-sound n qs (omega (arith, l, mesh .some, mesh .whole)) (omega (arith, l, mesh .few)) in
-        run-sound n qs (fours-four (j .cells)) (mesh .cells) (restTable qs) (j .steps) (rw r tt) (job-parts .1)
+        let r : soundb n qs (restTable qs) ≡ true = rest-sound n qs (omega (arith, l, job-mesh .some, job-mesh .whole)) (omega (arith, l, job-mesh .few)) in
+        run-sound n qs (fours-four (j .cells)) (job-mesh .cells) (restTable qs) (j .steps) (rw r tt) (job-parts .1)
 
     pub job-high : length (jobLevels j) ≤ 11
     job-high = sound-high n qs (jobTable j) job-sound
@@ -76,6 +77,9 @@ module _ (j : Job) where
     pub counts-few : length (jobCounts j) ≤ 44
     counts-few = omega (arith, job-counts, job-high)
 
-pub archive-job : (bs : List ℕ) → archiveAnswer bs ≡ Accepted → jobAnswer (jobOf bs) ≡ Accepted
+pub archive-parts : (bs : List ℕ) → archiveAnswer bs ≡ Accepted → T (formb bs) × (jobAnswer (jobOf bs) ≡ Accepted)
 unfolding archiveAnswer
-archive-job bs e = passed 17 (formb bs) (jobAnswer (jobOf bs)) e .1
+archive-parts bs e = passed 17 (formb bs) (jobAnswer (jobOf bs)) e
+
+pub archive-job : (bs : List ℕ) → archiveAnswer bs ≡ Accepted → jobAnswer (jobOf bs) ≡ Accepted
+archive-job bs e = archive-parts bs e .1

@@ -52,148 +52,85 @@ module _ {a : Answer} where
   unfolding valueAfter
   value-old new e = rw e
 
--- An enum R that holds a value of S where the call is accepted, and the refusal where it is not: its answer and its value are read back.
-pub record Result (R S : Type 0) (of : Answer → S → R) (answer : R → Answer) (value : S → R → S) : Type 0 where
-  pub answer-of : (a : Answer) (s : S) → answer (of a s) ≡ a
-  pub value-of : (a : Answer) (s : S) → value s (of a s) ≡ s
+-- An enum R that holds a value of S where the call is accepted, and the refusal where it is not: what is read off it is its answer and its value.
+pub record Result (R S : Type 0) (of : Answer → S → R) (read : S → R → Answer × S) : Type 0 where
+  pub back : (a : Answer) (s : S) → _≡_ {A = Answer × S} (read s (of a s)) (a, s)
 
 -- what a case of it tells
-module _ {R S : Type 0} {of : Answer → S → R} {answer : R → Answer} {value : S → R → S} (t : Result R S of answer value)
-    {a : Answer} {s : S} {r v : R} (e : r ≡ of a s) (f : r ≡ v) where
-  pub told : a ≡ answer v
-  told = sym (t .answer-of a s) ∙ ap answer (sym e ∙ f)
+module _ {R S : Type 0} {of : Answer → S → R} {read : S → R → Answer × S} (t : Result R S of read) {a : Answer} {s : S} {r v : R} (e : r ≡ of a s) (f : r ≡ v) where
+  both : _≡_ {A = Answer × S} (a, s) (read s v)
+  both = sym (t .back a s) ∙ ap (read s) (sym e ∙ f)
 
-  pub held : value s v ≡ s
-  held = ap (value s) (sym f ∙ e) ∙ t .value-of a s
+  pub told : a ≡ read s v .0
+  told = ap (λ (x : Answer × S). x .0) both
 
-abbrev pub laid-answer : Laid → Answer
-laid-answer (laid.Out s) = Accepted
-laid-answer (laid.Refused k) = Refused k
+  pub held : read s v .1 ≡ s
+  held = sym (ap (λ (x : Answer × S). x .1) both)
 
-abbrev pub laid-value : Sizes → Laid → Sizes
-laid-value d (laid.Out s) = s
-laid-value d (laid.Refused k) = d
+abbrev laid-read : Sizes → Laid → Answer × Sizes
+laid-read d (laid.Out s) = (Accepted, s)
+laid-read d (laid.Refused k) = (Refused k, d)
 
-pub laid-result : Result Laid Sizes laidOf laid-answer laid-value
+pub laid-result : Result Laid Sizes laidOf laid-read
 unfolding laidOf
-laid-result =
-    record {
-      answer-of = λ a s. elim a [ Accepted ↦ refl | Refused k ↦ refl ];
-      value-of = λ a s. elim a [ Accepted ↦ refl | Refused k ↦ refl ];
-    }
+laid-result = record { back = λ a s. elim a [ Accepted ↦ refl | Refused k ↦ refl ] }
 
-abbrev pub position-answer : Position → Answer
-position-answer (position.At s) = Accepted
-position-answer (position.Refused k) = Refused k
+abbrev position-read : Point → Position → Answer × Point
+position-read d (position.At s) = (Accepted, s)
+position-read d (position.Refused k) = (Refused k, d)
 
-abbrev pub position-value : Point → Position → Point
-position-value d (position.At s) = s
-position-value d (position.Refused k) = d
-
-pub position-result : Result Position Point positioned position-answer position-value
+pub position-result : Result Position Point positioned position-read
 unfolding positioned
-position-result =
-    record {
-      answer-of = λ a s. elim a [ Accepted ↦ refl | Refused k ↦ refl ];
-      value-of = λ a s. elim a [ Accepted ↦ refl | Refused k ↦ refl ];
-    }
+position-result = record { back = λ a s. elim a [ Accepted ↦ refl | Refused k ↦ refl ] }
 
 pub position-so : (sums : List ℤ) (n k : ℕ) → positionOf sums n k ≡ positioned (cornerAnswer sums n k) (pointOf sums k)
 unfolding positionOf
 position-so sums n k = refl
 
-abbrev pub ancestry-answer : Ancestry → Answer
-ancestry-answer (ancestry.Under s) = Accepted
-ancestry-answer (ancestry.Refused k) = Refused k
+abbrev ancestry-read : Ancestor → Ancestry → Answer × Ancestor
+ancestry-read d (ancestry.Under s) = (Accepted, s)
+ancestry-read d (ancestry.Refused k) = (Refused k, d)
 
-abbrev pub ancestry-value : Ancestor → Ancestry → Ancestor
-ancestry-value d (ancestry.Under s) = s
-ancestry-value d (ancestry.Refused k) = d
-
-pub ancestry-result : Result Ancestry Ancestor ancestryOf ancestry-answer ancestry-value
+pub ancestry-result : Result Ancestry Ancestor ancestryOf ancestry-read
 unfolding ancestryOf
-ancestry-result =
-    record {
-      answer-of = λ a s. elim a [ Accepted ↦ refl | Refused k ↦ refl ];
-      value-of = λ a s. elim a [ Accepted ↦ refl | Refused k ↦ refl ];
-    }
+ancestry-result = record { back = λ a s. elim a [ Accepted ↦ refl | Refused k ↦ refl ] }
 
-abbrev pub counted-answer : Counted → Answer
-counted-answer (counted.Levels s) = Accepted
-counted-answer (counted.Refused k) = Refused k
+abbrev counted-read : ℕ → Counted → Answer × ℕ
+counted-read d (counted.Levels s) = (Accepted, s)
+counted-read d (counted.Refused k) = (Refused k, d)
 
-abbrev pub counted-value : ℕ → Counted → ℕ
-counted-value d (counted.Levels s) = s
-counted-value d (counted.Refused k) = d
-
-pub counted-result : Result Counted ℕ countedOf counted-answer counted-value
+pub counted-result : Result Counted ℕ countedOf counted-read
 unfolding countedOf
-counted-result =
-    record {
-      answer-of = λ a s. elim a [ Accepted ↦ refl | Refused k ↦ refl ];
-      value-of = λ a s. elim a [ Accepted ↦ refl | Refused k ↦ refl ];
-    }
+counted-result = record { back = λ a s. elim a [ Accepted ↦ refl | Refused k ↦ refl ] }
 
-abbrev pub stepped-answer : Stepped → Answer
-stepped-answer (stepped.Cells s) = Accepted
-stepped-answer (stepped.Refused k) = Refused k
+abbrev stepped-read : ℕ → Stepped → Answer × ℕ
+stepped-read d (stepped.Cells s) = (Accepted, s)
+stepped-read d (stepped.Refused k) = (Refused k, d)
 
-abbrev pub stepped-value : ℕ → Stepped → ℕ
-stepped-value d (stepped.Cells s) = s
-stepped-value d (stepped.Refused k) = d
-
-pub stepped-result : Result Stepped ℕ steppedOf stepped-answer stepped-value
+pub stepped-result : Result Stepped ℕ steppedOf stepped-read
 unfolding steppedOf
-stepped-result =
-    record {
-      answer-of = λ a s. elim a [ Accepted ↦ refl | Refused k ↦ refl ];
-      value-of = λ a s. elim a [ Accepted ↦ refl | Refused k ↦ refl ];
-    }
+stepped-result = record { back = λ a s. elim a [ Accepted ↦ refl | Refused k ↦ refl ] }
 
-abbrev pub replayed-answer : Replayed → Answer
-replayed-answer (replayed.Done s) = Accepted
-replayed-answer (replayed.Refused k) = Refused k
+abbrev replayed-read : Size → Replayed → Answer × Size
+replayed-read d (replayed.Done s) = (Accepted, s)
+replayed-read d (replayed.Refused k) = (Refused k, d)
 
-abbrev pub replayed-value : Size → Replayed → Size
-replayed-value d (replayed.Done s) = s
-replayed-value d (replayed.Refused k) = d
-
-pub replayed-result : Result Replayed Size replayedOf replayed-answer replayed-value
+pub replayed-result : Result Replayed Size replayedOf replayed-read
 unfolding replayedOf
-replayed-result =
-    record {
-      answer-of = λ a s. elim a [ Accepted ↦ refl | Refused k ↦ refl ];
-      value-of = λ a s. elim a [ Accepted ↦ refl | Refused k ↦ refl ];
-    }
+replayed-result = record { back = λ a s. elim a [ Accepted ↦ refl | Refused k ↦ refl ] }
 
-abbrev pub reading-answer : Reading → Answer
-reading-answer (reading.Job s) = Accepted
-reading-answer (reading.Refused k) = Refused k
+abbrev reading-read : Lengths → Reading → Answer × Lengths
+reading-read d (reading.Job s) = (Accepted, s)
+reading-read d (reading.Refused k) = (Refused k, d)
 
-abbrev pub reading-value : Lengths → Reading → Lengths
-reading-value d (reading.Job s) = s
-reading-value d (reading.Refused k) = d
-
-pub reading-result : Result Reading Lengths readingOf reading-answer reading-value
+pub reading-result : Result Reading Lengths readingOf reading-read
 unfolding readingOf
-reading-result =
-    record {
-      answer-of = λ a s. elim a [ Accepted ↦ refl | Refused k ↦ refl ];
-      value-of = λ a s. elim a [ Accepted ↦ refl | Refused k ↦ refl ];
-    }
+reading-result = record { back = λ a s. elim a [ Accepted ↦ refl | Refused k ↦ refl ] }
 
-abbrev pub writing-answer : Writing → Answer
-writing-answer (writing.Bytes s) = Accepted
-writing-answer (writing.Refused k) = Refused k
+abbrev writing-read : ℕ → Writing → Answer × ℕ
+writing-read d (writing.Bytes s) = (Accepted, s)
+writing-read d (writing.Refused k) = (Refused k, d)
 
-abbrev pub writing-value : ℕ → Writing → ℕ
-writing-value d (writing.Bytes s) = s
-writing-value d (writing.Refused k) = d
-
-pub writing-result : Result Writing ℕ writingOf writing-answer writing-value
+pub writing-result : Result Writing ℕ writingOf writing-read
 unfolding writingOf
-writing-result =
-    record {
-      answer-of = λ a s. elim a [ Accepted ↦ refl | Refused k ↦ refl ];
-      value-of = λ a s. elim a [ Accepted ↦ refl | Refused k ↦ refl ];
-    }
+writing-result = record { back = λ a s. elim a [ Accepted ↦ refl | Refused k ↦ refl ] }
