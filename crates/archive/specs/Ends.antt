@@ -1,18 +1,19 @@
 -- Ends of steps in flat tables, and the bytes that the archive of such tables has.
 --   Climbs p n es     the ends es do not fall, from p on, and none is above n
 --   climbs-of, climbs-rising, climbs-within   the same place by place
---   pairs-long        as many pairs as either list has elements
+--   pairs-long        at least n pairs where both lists have n elements
 --   lastFrom p es     the last end; p where there is none
---   ends-rise         the ends of a job's own tables are such
+--   length-pairs      as many pairs as the lists have elements, where they have as many
+--   cells-back, marks-back, flat-back, ends-back   the tables of the steps of flat tables are those
 --   job-back          the job of a job's own tables is that job
 --   stored-measure    13 bytes a corner, 9 a cell, 4 a mark up to the last end, one an end, and the end of all
-use mathlib.Core.Path.{_≡_, refl, ap}
-use mathlib.Core.List.{List, [], _∷_, flatten}
+use mathlib.Core.Path.{_≡_, refl, sym, _∙_, ap}
+use mathlib.Core.List.{List, [], _∷_, _++_, map, flatten}
 use Prim.Native.Nat.{ℕ, zero, suc, _+_, _*_, _-_, _/_, _≤_, _<_}
 use native.Mathlib.Omega.{arith}
 use lib.IntN.{ℤ}
-use lib.ListN.{length, getD, take, drop, length-append, length-drop, length-map}
-use lib.Seq.{length-take-le}
+use lib.ListN.{length, getD, take, drop, length-append, length-drop, take-append-drop, drop-of-length-le}
+use lib.Seq.{drop-drop, length-take-le}
 use Rattle.archive.specs.Job.{Job, jobBytes}
 use Rattle.archive.specs.Tables.{Mark, cellOf, markOf, markedOf, marksOf, endsFrom, endsOf, pairs, stepsFrom, stepsOf, steps-back}
 use Rattle.archive.specs.Measure.{corner-length, cell-length, steps-length, job-length}
@@ -80,21 +81,41 @@ pairs-long (suc n) [] ks a b = absurd (omega arith)
 pairs-long (suc n) (c ∷ cs) [] a b = absurd (omega arith)
 pairs-long (suc n) (c ∷ cs) (k ∷ ks) a b = omega (arith, pairs-long n cs ks (omega arith) (omega arith))
 
-ends-climb : (p n : ℕ) (s : List (List Mark)) → p + length (flatten s) ≤ n → Climbs p n (endsFrom p s)
-unfolding Climbs endsFrom flatten
-ends-climb p n [] h = tt
-ends-climb p n (ms ∷ s) h =
-    (omega arith, omega (arith, length-append ms (flatten s)), ends-climb (p + length ms) n s (omega (arith, length-append ms (flatten s))))
+pub length-pairs : (cs ms : List ℕ) → length cs ≡ length ms → length (pairs cs ms) ≡ length cs
+unfolding pairs
+length-pairs [] ms e = refl
+length-pairs (c ∷ cs) [] e = absurd (omega arith)
+length-pairs (c ∷ cs) (m ∷ ms) e = omega (arith, length-pairs cs ms (omega arith))
 
-pub ends-rise : (s : List (List Mark)) → EndsRise (markedOf s) (marksOf s) (endsOf s)
-unfolding markedOf marksOf endsOf
-ends-rise s =
-    let c : Climbs 0 (length (flatten s)) (endsFrom 0 s) = ends-climb 0 (length (flatten s)) s (omega arith) in
-    record {
-      rising = climbs-rising 0 (length (flatten s)) (endsFrom 0 s) c;
-      in-marked = λ k h. omega (arith, climbs-within 0 (length (flatten s)) (endsFrom 0 s) c k h, length-map (flatten s) cellOf);
-      in-marks = λ k h. omega (arith, climbs-within 0 (length (flatten s)) (endsFrom 0 s) c k h, length-map (flatten s) markOf);
-    }
+-- the tables of the steps that are given by tables
+pub cells-back : (cs ms : List ℕ) → length cs ≡ length ms → map cellOf (pairs cs ms) ≡ cs
+unfolding pairs
+cells-back [] ms e = refl
+cells-back (c ∷ cs) [] e = absurd (omega arith)
+cells-back (c ∷ cs) (m ∷ ms) e = ap (λ (l : List ℕ). c ∷ l) (cells-back cs ms (omega arith))
+
+pub marks-back : (cs ms : List ℕ) → length cs ≡ length ms → map markOf (pairs cs ms) ≡ ms
+unfolding pairs
+marks-back [] [] e = refl
+marks-back [] (m ∷ ms) e = absurd (omega arith)
+marks-back (c ∷ cs) [] e = absurd (omega arith)
+marks-back (c ∷ cs) (m ∷ ms) e = ap (λ (l : List ℕ). m ∷ l) (marks-back cs ms (omega arith))
+
+pub flat-back : (p : ℕ) (ms : List Mark) (es : List ℕ) → Climbs p (length ms) es → lastFrom p es ≡ length ms → flatten (stepsFrom p ms es) ≡ drop p ms
+unfolding Climbs lastFrom stepsFrom flatten
+flat-back p ms [] c l = sym (drop-of-length-le ms {i = p} (omega arith))
+flat-back p ms (e ∷ es) c l =
+    let k : p + (e - p) ≡ e = omega (arith, c .0) in
+    let d : drop (e - p) (drop p ms) ≡ drop e ms = drop-drop (e - p) p ms ∙ ap (λ (i : ℕ). drop i ms) k in
+    ap (λ (x : List Mark). take (e - p) (drop p ms) ++ x) (flat-back e ms es (c .2) l ∙ sym d) ∙ take-append-drop (e - p) (drop p ms)
+
+pub ends-back : (p : ℕ) (ms : List Mark) (es : List ℕ) → Climbs p (length ms) es → endsFrom p (stepsFrom p ms es) ≡ es
+unfolding Climbs stepsFrom endsFrom
+ends-back p ms [] c = refl
+ends-back p ms (e ∷ es) c =
+    let k : p + length (take (e - p) (drop p ms)) ≡ e =
+    omega (arith, c .0, c .1, length-take-le (e - p) (drop p ms) (omega (arith, c .0, c .1, length-drop p ms))) in
+    rw k (ap (λ (l : List ℕ). e ∷ l) (ends-back e ms es (c .2)))
 
 pub job-back : (j : Job) → jobFrom (j .positions) (j .cells) (markedOf (j .steps)) (marksOf (j .steps)) (endsOf (j .steps)) ≡ j
 job-back j = rw (steps-back (j .steps))

@@ -3,14 +3,12 @@
 --   write-read                 so it is where writing is accepted
 --   WrittenAgain bs out        writing the tables of the archive bs is accepted and gives bs
 --   read-write                 so it is where the archive is accepted and the lent bytes are long enough
-use mathlib.Core.Path.{_≡_, refl, sym, _∙_, ap}
-use mathlib.Core.List.{List, [], _∷_, _++_, map, flatten}
-use Prim.Native.Nat.{ℕ, _+_, _-_, _≤_}
-use native.Mathlib.Omega.{arith}
+use mathlib.Core.Path.{_≡_, sym, _∙_, ap}
+use mathlib.Core.List.{List, map, flatten}
+use Prim.Native.Nat.{ℕ, _≤_}
 use lib.Dec.{T, leb, leb→le}
 use lib.IntN.{ℤ}
-use lib.ListN.{length, take, drop, length-drop, take-append-drop, drop-of-length-le}
-use lib.Seq.{drop-drop, length-take-le}
+use lib.ListN.{length}
 use borrow.Author.Tests.{le-leb}
 use Rattle.base.specs.Refuse.{refuse}
 use Rattle.base.specs.declared.Answer.the-variants.{Accepted}
@@ -18,9 +16,9 @@ use Rattle.layout.specs.Calls.{andThen}
 use Rattle.archive.specs.Job.{Job, jobBytes}
 use Rattle.archive.specs.Form.{formb, jobOf}
 use Rattle.archive.specs.Bytes.{Octets}
-use Rattle.archive.specs.Tables.{Mark, cellOf, markOf, markedOf, marksOf, endsFrom, endsOf, pairs, stepsFrom, stepsOf}
+use Rattle.archive.specs.Tables.{cellOf, markOf, markedOf, marksOf, endsOf, pairs, stepsOf}
 use Rattle.archive.specs.Stored.{jobFrom}
-use Rattle.archive.specs.Ends.{Climbs, lastFrom, job-back}
+use Rattle.archive.specs.Ends.{cells-back, marks-back, flat-back, ends-back, job-back}
 use Rattle.archive.specs.Writable.{Writable}
 use Rattle.archive.specs.Reading.{read-written}
 use Rattle.archive.specs.Written.{written-read}
@@ -30,36 +28,6 @@ use Rattle.replay.specs.Accepted.{passed, both}
 use Rattle.jobs.specs.Calls.{archiveAnswer, writeAnswer}
 use Rattle.jobs.specs.Sound.{archive-parts}
 use Rattle.jobs.specs.Taken.{Taken, tables-taken}
-
--- the tables of a job that is given by tables
-cells-back : (cs ms : List ℕ) → length cs ≡ length ms → map cellOf (pairs cs ms) ≡ cs
-unfolding pairs
-cells-back [] ms e = refl
-cells-back (c ∷ cs) [] e = absurd (omega arith)
-cells-back (c ∷ cs) (m ∷ ms) e = ap (λ (l : List ℕ). c ∷ l) (cells-back cs ms (omega arith))
-
-marks-back : (cs ms : List ℕ) → length cs ≡ length ms → map markOf (pairs cs ms) ≡ ms
-unfolding pairs
-marks-back [] [] e = refl
-marks-back [] (m ∷ ms) e = absurd (omega arith)
-marks-back (c ∷ cs) [] e = absurd (omega arith)
-marks-back (c ∷ cs) (m ∷ ms) e = ap (λ (l : List ℕ). m ∷ l) (marks-back cs ms (omega arith))
-
-flat-back : (p : ℕ) (ms : List Mark) (es : List ℕ) → Climbs p (length ms) es → lastFrom p es ≡ length ms → flatten (stepsFrom p ms es) ≡ drop p ms
-unfolding Climbs lastFrom stepsFrom flatten
-flat-back p ms [] c l = sym (drop-of-length-le ms {i = p} (omega arith))
-flat-back p ms (e ∷ es) c l =
-    let k : p + (e - p) ≡ e = omega (arith, c .0) in
-    let d : drop (e - p) (drop p ms) ≡ drop e ms = drop-drop (e - p) p ms ∙ ap (λ (i : ℕ). drop i ms) k in
-    ap (λ (x : List Mark). take (e - p) (drop p ms) ++ x) (flat-back e ms es (c .2) l ∙ sym d) ∙ take-append-drop (e - p) (drop p ms)
-
-ends-back : (p : ℕ) (ms : List Mark) (es : List ℕ) → Climbs p (length ms) es → endsFrom p (stepsFrom p ms es) ≡ es
-unfolding Climbs stepsFrom endsFrom
-ends-back p ms [] c = refl
-ends-back p ms (e ∷ es) c =
-    let k : p + length (take (e - p) (drop p ms)) ≡ e =
-    omega (arith, c .0, c .1, length-take-le (e - p) (drop p ms) (omega (arith, c .0, c .1, length-drop p ms))) in
-    rw k (ap (λ (l : List ℕ). e ∷ l) (ends-back e ms es (c .2)))
 
 pub record ReadAgain (ps : List ℤ) (ts cs ms es : List ℕ) : Type 0 where
   pub accepted : archiveAnswer (jobBytes (jobFrom ps ts cs ms es)) ≡ Accepted

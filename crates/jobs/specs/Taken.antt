@@ -22,7 +22,7 @@ use Rattle.archive.specs.Bytes.{Word}
 use Rattle.archive.specs.Writable.{Each, Rises, Small}
 use Rattle.archive.specs.Tables.{Mark, pairs, stepsFrom}
 use Rattle.archive.specs.Stored.{Storable}
-use Rattle.archive.specs.Ends.{Climbs, lastFrom, climbs-rising, climbs-within}
+use Rattle.archive.specs.Ends.{Climbs, lastFrom, climbs-rising, climbs-within, length-pairs}
 use Rattle.replay.specs.Run.{spread, markingb, oneAnswer, oneTable, restTable, flatAnswer, tablesAnswer}
 use Rattle.replay.specs.Scan.{mayb, markingFrom}
 use Rattle.replay.specs.Accepted.{passed, both, limits-within}
@@ -112,12 +112,6 @@ module _ (n : ℕ) (qs : List (List ℕ)) where
         last = i .last;
         rising = (one-rises t m h d, i .rising);
       }
-
-pub length-pairs : (cs ms : List ℕ) → length cs ≡ length ms → length (pairs cs ms) ≡ length cs
-unfolding pairs
-length-pairs [] ms e = refl
-length-pairs (c ∷ cs) [] e = absurd (omega arith)
-length-pairs (c ∷ cs) (m ∷ ms) e = omega (arith, length-pairs cs ms (omega arith))
 
 pub record Taken (ps : List ℤ) (ts cs ms es : List ℕ) : Type 0 where
   pub storable : Storable ps ts cs ms es
