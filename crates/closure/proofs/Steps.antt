@@ -9,7 +9,7 @@ use native.Mathlib.Omega.{arith}
 use lib.ListN.{length, getD, take, drop, length-append, length-drop, take-append-drop}
 use lib.Seq.{take-suc, length-take-le, getD-drop, take-take}
 use borrow.Author.Tests.{eq-eqb, ne-eqb}
-use Rattle.keys.specs.Keys.{Room}
+use Rattle.pairs.specs.Keys.{Room}
 use Rattle.mesh.specs.Cells.{Cell, redb, edge, edges, redEdges}
 use Rattle.base.specs.Lists.{one-if}
 use Rattle.rows.specs.Numbered.{cellAt, cellsAt, part}

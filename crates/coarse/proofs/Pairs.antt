@@ -6,7 +6,7 @@ use Prim.Native.Nat.{ℕ, _+_, _-_, _≤_, _<_}
 use native.Mathlib.Omega.{arith}
 use lib.ListN.{length, getD, set, length-set, List·getD-eq-default}
 use lib.Seq.{getD-set-same, getD-set-other}
-use Rattle.keys.specs.Keys.{seek, Room, Added, Found, seek-found, seek-same, seek-other}
+use Rattle.pairs.specs.Keys.{seek, Room, Added, Found, seek-found, seek-same, seek-other}
 use Rattle.coarse.specs.Tally.{times, Tables, Open, Tallied}
 
 -- where a search does not end

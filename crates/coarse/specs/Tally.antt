@@ -9,7 +9,7 @@ use mathlib.Core.Path.{_≡_}
 use mathlib.Core.List.{List}
 use Prim.Native.Nat.{ℕ, _+_, _*_, _≤_, _<_}
 use lib.ListN.{length, getD}
-use Rattle.keys.specs.Keys.{seek, Keys}
+use Rattle.pairs.specs.Keys.{seek, Keys}
 
 unfoldable pub high : List ℕ → ℕ
 high t = getD t 0 0 * 512 + getD t 1 0

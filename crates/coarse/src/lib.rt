@@ -194,9 +194,9 @@ fn tally(
     requires { ⌜ Open (now xs) (now ys) (now heads) (now links) (now counts) n x y ⌝ }
     ensures { λ r. ⌜ Tallied (now (xs .entry)) (now (ys .entry)) (now (counts .entry)) n x y (now (xs .exit)) (now (ys .exit)) (now (heads .exit)) (now (links .exit)) (now (counts .exit)) (r .n) (r .count) ⌝ }
 {
-    let e = keys::find(xs, ys, heads, links, 0, n, x, y);
+    let e = pairs::find(xs, ys, heads, links, 0, n, x, y);
     if e == 65535 {
-        keys::add(xs, ys, heads, links, n, x, y);
+        pairs::add(xs, ys, heads, links, n, x, y);
         counts[n] = 1;
         return Counted { n: n + 1, count: 1 };
     }
@@ -222,7 +222,7 @@ fn cells_differ(cells: &[u16]) -> bool
     let mut heads = [0u16; 4096];
     let mut links = [0u16; 1024];
     let mut counts = [0u8; 1024];
-    keys::clear(&mut heads);
+    pairs::clear(&mut heads);
     let mut n: usize = 0;
     for k in 0..cells.len() / 4 {
         let q = cell_at(cells, k);
@@ -291,7 +291,7 @@ fn faces_ok(cells: &[u16]) -> bool
     let mut heads = [0u16; 4096];
     let mut links = [0u16; 1024];
     let mut counts = [0u8; 1024];
-    keys::clear(&mut heads);
+    pairs::clear(&mut heads);
     let mut n: usize = 0;
     for i in 0..cells.len() {
         let f = face_at(cells, i);

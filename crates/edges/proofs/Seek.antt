@@ -12,7 +12,7 @@ use native.Mathlib.Omega.{arith}
 use lib.ListN.{length, getD, take, set, length-append, List·getD-append}
 use lib.Seq.{getD-append-seam, getD-set-same, getD-set-other, take-set-le, getD-at}
 use Rattle.base.specs.Places.{hasb, placeIn, add, Distinct, has-at, has-append, has-below, place-there, either, not-both, add-old, add-new, distinct-add, place-here, place-behind, distinct-nil}
-use Rattle.keys.specs.Keys.{Keys, Room, Added, seek, seek-found, seek-none, Found}
+use Rattle.pairs.specs.Keys.{Keys, Room, Added, seek, seek-found, seek-none, Found}
 use Rattle.edges.specs.Pairs.{Pair, sorted, isb, addPair, pairsOf, same-pair}
 use Rattle.edges.specs.Table.{listed, Table, Edges, Inserted}
 

@@ -12,7 +12,7 @@ use native.Mathlib.Omega.{arith}
 use lib.ListN.{length, getD, take, length-append}
 use lib.Seq.{take-take}
 use Rattle.base.specs.Places.{placeIn, Distinct}
-use Rattle.keys.specs.Keys.{Keys}
+use Rattle.pairs.specs.Keys.{Keys}
 use Rattle.edges.specs.Pairs.{Pair, sorted, isb, addPair, addPairs, pairsOf, same-pair}
 
 abbrev pub listed : List ℕ → List ℕ → ℕ → ℕ → List Pair

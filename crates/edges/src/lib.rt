@@ -3,7 +3,7 @@
 ghost use mathlib.Core.Path.{_≡_};
 ghost use Prim.Native.Nat.{_-_};
 ghost use Rattle.base.specs.Places.{hasb};
-ghost use Rattle.keys.specs.Keys.{Keys, Room};
+ghost use Rattle.pairs.specs.Keys.{Keys, Room};
 ghost use Rattle.edges.specs.Pairs.{sorted, isb};
 ghost use Rattle.edges.specs.Table.{listed, Table, Edges, Inserted};
 
@@ -45,7 +45,7 @@ pub fn holds(
     ensures { λ r. ⌜ r ≡ hasb isb (listed (now (xs .entry)) (now (ys .entry)) from n) (sorted (a, b)) ⌝ }
 {
     let e = sorted_ends(a, b);
-    let at = keys::find(xs, ys, heads, links, from, n, e.low, e.high);
+    let at = pairs::find(xs, ys, heads, links, from, n, e.low, e.high);
     at != 65535
 }
 
@@ -65,10 +65,10 @@ pub fn insert(
     ensures { λ r. ⌜ Inserted (now (xs .entry)) (now (ys .entry)) from n (a, b) (now (xs .exit)) (now (ys .exit)) (now (heads .exit)) (now (links .exit)) (r .at) (r .n) ⌝ }
 {
     let e = sorted_ends(a, b);
-    let at = keys::find(xs, ys, heads, links, from, n, e.low, e.high);
+    let at = pairs::find(xs, ys, heads, links, from, n, e.low, e.high);
     if at != 65535 {
         return Slot { at, n };
     }
-    keys::add(xs, ys, heads, links, n, e.low, e.high);
+    pairs::add(xs, ys, heads, links, n, e.low, e.high);
     Slot { at: n, n: n + 1 }
 }

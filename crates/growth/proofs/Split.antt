@@ -11,7 +11,7 @@ use Rattle.base.specs.Lists.{filterb}
 use Rattle.base.specs.Places.{placeIn, hasb, has-new, has-below}
 use Rattle.cutting.specs.Rule.{split}
 use Rattle.mesh.specs.Cells.{Cell, edge}
-use Rattle.keys.specs.Keys.{Room}
+use Rattle.pairs.specs.Keys.{Room}
 use Rattle.edges.specs.Pairs.{Pair, sorted, isb, addPair, same-pair}
 use Rattle.edges.specs.Table.{listed, Edges, Inserted, Space, Grown, grown-none, grown-one}
 use Rattle.edges.proofs.Seek.{length-pairs}

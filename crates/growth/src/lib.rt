@@ -10,7 +10,7 @@ ghost use Rattle.cutting.specs.Rule.{split, family};
 ghost use Rattle.cutting.specs.Answer.{digitTable};
 ghost use Rattle.mesh.specs.Cells.{patternOf, edge};
 ghost use Rattle.mesh.specs.Layout.{splitEdges};
-ghost use Rattle.keys.specs.Keys.{Room};
+ghost use Rattle.pairs.specs.Keys.{Room};
 ghost use Rattle.edges.specs.Table.{Edges, Inserted, Grown, Space, listed};
 ghost use Rattle.rows.specs.Numbered.{cellAt, rowsFrom, sizeOf};
 ghost use Rattle.growth.specs.Places.{middle};

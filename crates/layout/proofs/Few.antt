@@ -24,7 +24,7 @@ use Rattle.mesh.specs.Layout.{Corner, weightsOf, coarseCorners, splitEdges, add
 use Rattle.rows.specs.Numbered.{sizeOf, sizes, part}
 use Rattle.sizes.proofs.Sums.{sizes-append}
 use Rattle.growth.specs.Places.{splits-few}
-use Rattle.numbers.specs.Corners.{corners-start}
+use Rattle.numbering.specs.Corners.{corners-start}
 use Rattle.counting.specs.Levels.{nextEnd, levelNumber, levelEnd, number-more, end-more, end-none}
 use Rattle.counting.proofs.Sound.{sound-levels}
 use Rattle.coarse.proofs.Rows.{length-fours}

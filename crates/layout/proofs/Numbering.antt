@@ -10,7 +10,7 @@ use Rattle.mesh.specs.Layout.{Corner}
 use Rattle.edges.specs.Pairs.{Pair, pairsOf}
 use Rattle.edges.specs.Table.{listed}
 use Rattle.edges.proofs.Seek.{length-pairs, at-pairs}
-use Rattle.numbers.specs.Corners.{Corners, Midpoint, endsAt, even-sum}
+use Rattle.numbering.specs.Corners.{Corners, Midpoint, endsAt, even-sum}
 use Rattle.corners.specs.Ends.{Ends}
 use Rattle.corners.specs.Tables.{Numbered}
 

@@ -19,9 +19,9 @@ use Rattle.lattice.specs.Levels.{fours-four}
 use Rattle.corners.specs.Ends.{Ends, endNumbers, coarseEnds, length-coarseEnds, length-addEnds}
 use Rattle.corners.specs.Sums.{Smalls, sumNumbers, coarseSums, length-coarseSums, length-addSums, positions-small}
 use Rattle.corners.specs.Tables.{Numbered, ends-are, sums-are}
-use Rattle.climbing.specs.Climb.{Upward, climbFrom}
-use Rattle.climbing.specs.Linked.{ancestorOf, noCell}
-use Rattle.climbing.proofs.Table.{table-upward, table-climb}
+use Rattle.ancestors.specs.Climb.{Upward, climbFrom}
+use Rattle.ancestors.specs.Linked.{ancestorOf, noCell}
+use Rattle.ancestors.proofs.Table.{table-upward, table-climb}
 use Rattle.counting.specs.Levels.{Levels, levelNumber, levelCounts, counts-length}
 use Rattle.counting.proofs.Sound.{sound-levels}
 use Rattle.counting.proofs.Whole.{counts-right, number-right}

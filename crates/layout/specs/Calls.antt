@@ -20,7 +20,7 @@ use Rattle.mesh.specs.Weights.{Point}
 use Rattle.mesh.specs.Coarse.{cornerCount, meshAnswer}
 use Rattle.mesh.specs.Table.{Level, levelsOf, cellsOf, soundb}
 use Rattle.mesh.specs.Layout.{Corner, cornersOf}
-use Rattle.climbing.specs.declared.Ancestor.{Ancestor}
+use Rattle.ancestors.specs.declared.Ancestor.{Ancestor}
 use Rattle.layout.specs.declared.Sizes.{Sizes}
 use Rattle.layout.specs.declared.Laid.{Laid}
 use Rattle.layout.specs.declared.Laid.the-variants as laid

@@ -1,13 +1,13 @@
 // The calls on a status table over a coarse mesh: examined, laid out, a cell's ancestor, the counts of every level.
 use base::Answer;
-use climbing::Ancestor;
+use ancestors::Ancestor;
 ghost use mathlib.Core.Path.{_≡_};
 ghost use mathlib.Core.List.{_++_};
 ghost use Prim.Native.Nat.{_≤_};
 ghost use lib.ListN.{length, take, drop, getD};
 ghost use Rattle.mesh.specs.Layout.{cellTable, endTable, sumTable};
 ghost use Rattle.mesh.specs.Counts.{countTable};
-ghost use Rattle.climbing.specs.Linked.{ancestorOf, noCell};
+ghost use Rattle.ancestors.specs.Linked.{ancestorOf, noCell};
 ghost use Rattle.layout.specs.Opened.{codeOf, Sized, Opened};
 ghost use Rattle.layout.specs.Calls.{tableAnswer, heldAfter, levelsIn, cellsIn, cornersIn, lentb, layoutAnswer, sizesOf, laidOf, ancestorAnswer, ancestryOf, countsAnswer, countedOf};
 
@@ -189,7 +189,7 @@ pub fn ancestor(positions: &[i32], cells: &[u16], status: &[u8], cell: usize) ->
     if cell >= f.cells {
         return Ancestry::Refused(7);
     }
-    Ancestry::Under(climbing::climb(&rows, cell))
+    Ancestry::Under(ancestors::climb(&rows, cell))
 }
 
 // The counts of every level, four numbers each: cells, red, green, leaf. Refusals 15 and 1 to 6.

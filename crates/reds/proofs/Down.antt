@@ -20,12 +20,12 @@ use Rattle.mesh.specs.Step.{Row, rows, rowsFrom, kids, newRedb, rowsUp, edgesUp
 use Rattle.edges.specs.Pairs.{Pair}
 use Rattle.rows.specs.Numbered.{cellsAt}
 use Rattle.lattice.specs.Every.{All}
-use Rattle.numbers.specs.Lists.{map-same}
-use Rattle.numbers.specs.Corners.{Has}
-use Rattle.numbers.specs.Renamed.{red-edges-in}
-use Rattle.numbers.specs.Tests.{cellsIn, edgeIn, EndsPlaced, red-edges-numbers}
+use Rattle.numbering.specs.Lists.{map-same}
+use Rattle.numbering.specs.Corners.{Has}
+use Rattle.numbering.specs.Renamed.{red-edges-in}
+use Rattle.numbering.specs.Tests.{cellsIn, edgeIn, EndsPlaced, red-edges-numbers}
 use Rattle.tables.proofs.Cells.{red-strip}
-use Rattle.same.specs.Olds.{flagOf, flagsOf, flags, concat, firstChild}
+use Rattle.lineage.specs.Olds.{flagOf, flagsOf, flags, concat, firstChild}
 use Rattle.reds.specs.Flags.{range, kidsOf, redAtb, flagsAt, redsUp, flagsUp}
 use Rattle.reds.proofs.Firsts.{first-up, Firsts, firsts-top, firsts-up}
 use Rattle.reds.proofs.Tests.{rowAt, Seen, all-range, red-row}

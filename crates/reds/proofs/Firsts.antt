@@ -12,7 +12,7 @@ use lib.ListN.{length, getD, take, drop, length-take, length-map}
 use lib.Seq.{take-add, getD-take, take-at}
 use Rattle.rows.specs.Numbered.{sizeOf, sizes}
 use Rattle.lattice.specs.Every.{getD-map}
-use Rattle.same.specs.Olds.{firstChild}
+use Rattle.lineage.specs.Olds.{firstChild}
 use Rattle.reds.specs.Flags.{range, firstChildren}
 use Rattle.reds.proofs.Ranges.{length-range}
 use Rattle.reds.proofs.Born.{sizes-append, sizes-next}

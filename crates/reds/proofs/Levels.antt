@@ -19,11 +19,11 @@ use Rattle.mesh.specs.Layout.{Corner, numberIn, mapCell}
 use Rattle.mesh.specs.Step.{Row, rowsFrom, kids}
 use Rattle.rows.specs.Numbered.{cellsAt, sizeOf, sizes}
 use Rattle.lattice.specs.Every.{All}
-use Rattle.numbers.specs.Tests.{cellsIn, Placed}
+use Rattle.numbering.specs.Tests.{cellsIn, Placed}
 use Rattle.closure.proofs.Closed.{cells-cons}
 use Rattle.rows.specs.Many.{next-size}
 use Rattle.tables.proofs.Cells.{strip}
-use Rattle.same.specs.Olds.{firstChild}
+use Rattle.lineage.specs.Olds.{firstChild}
 use Rattle.reds.specs.Flags.{range, kidsOf}
 use Rattle.reds.proofs.Ranges.{Blocks, blocks, filter-map}
 use Rattle.reds.proofs.Born.{born}

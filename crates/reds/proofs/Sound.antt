@@ -19,8 +19,8 @@ use Rattle.mesh.specs.Table.{levelsOf, cellsOf, closedb, apartb, soundb}
 use Rattle.mesh.specs.Layout.{Corner, numberIn, mapCell, rowOf}
 use Rattle.lattice.specs.Every.{All, all-at, getD-map}
 use Rattle.lattice.specs.Levels.{fours-four}
-use Rattle.numbers.specs.Tests.{cellsIn, Placed}
-use Rattle.numbers.specs.Tables.{sound-numbers}
+use Rattle.numbering.specs.Tests.{cellsIn, Placed}
+use Rattle.numbering.specs.Tables.{sound-numbers}
 use Rattle.counting.specs.Levels.{nextEnd, levelNumber, levelEnd, number-more, end-more, end-none}
 use Rattle.counting.proofs.Sound.{sound-levels}
 use Rattle.tables.specs.Sound.{tableCells, tableCorners}
@@ -28,7 +28,7 @@ use Rattle.tables.proofs.Cells.{strip, Four, cell-at}
 use Rattle.tables.proofs.Onward.{four-in, length-in}
 use Rattle.tables.proofs.Finish.{rows-in}
 use Rattle.tables.proofs.Rising.{length-coarse}
-use Rattle.same.specs.Olds.{firstChild, flagTable}
+use Rattle.lineage.specs.Olds.{firstChild, flagTable}
 use Rattle.reds.specs.Flags.{flagsAt, redsUp, flagsUp}
 use Rattle.reds.specs.Old.{Old, Marked}
 use Rattle.reds.proofs.Firsts.{first-add, first-start, first-at, Firsts, firsts-top, firsts-up, length-firsts}

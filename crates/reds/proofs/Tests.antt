@@ -19,10 +19,10 @@ use Rattle.mesh.specs.Step.{Row, kids, deletedb, turnedb, newRedb}
 use Rattle.edges.specs.Pairs.{Pair}
 use Rattle.rows.specs.Numbered.{cellAt}
 use Rattle.lattice.specs.Every.{All, all-more}
-use Rattle.numbers.specs.Lists.{all-map}
-use Rattle.numbers.specs.Corners.{Has}
-use Rattle.numbers.specs.Renamed.{edges-map, edges-in}
-use Rattle.numbers.specs.Tests.{edgeIn, Placed, EndsPlaced, held-numbers}
+use Rattle.numbering.specs.Lists.{all-map}
+use Rattle.numbering.specs.Corners.{Has}
+use Rattle.numbering.specs.Renamed.{edges-map, edges-in}
+use Rattle.numbering.specs.Tests.{edgeIn, Placed, EndsPlaced, held-numbers}
 use Rattle.tables.proofs.Cells.{strip}
 use Rattle.reds.specs.Flags.{range, kidsOf, idleb, touchedb, pulledb, redAtb}
 

@@ -11,7 +11,7 @@ use native.Mathlib.Omega.{arith}
 use lib.ListN.{length, getD, take, drop, set, length-append, length-map, take-append-drop}
 use lib.Seq.{drop-cons, set-at, drop-at, take-take, take-append-le, length-take-le}
 use Rattle.edges.specs.Pairs.{Pair}
-use Rattle.same.specs.Olds.{firstChild, flagOf}
+use Rattle.lineage.specs.Olds.{firstChild, flagOf}
 use Rattle.reds.specs.Flags.{range, redAtb, flagsAt}
 use Rattle.reds.proofs.Ranges.{length-range, range-snoc}
 

@@ -22,7 +22,7 @@ use Rattle.mesh.specs.Cells.{redb, edges, heldb, redEdges}
 use Rattle.edges.specs.Pairs.{Pair, sorted, isb}
 use Rattle.edges.specs.Table.{listed}
 use Rattle.rows.specs.Numbered.{cellAt, cellsAt}
-use Rattle.same.specs.Olds.{flagOf, firstChild}
+use Rattle.lineage.specs.Olds.{flagOf, firstChild}
 
 unfoldable pub range : ℕ → ℕ → List ℕ
 range k zero = []

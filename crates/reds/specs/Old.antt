@@ -14,7 +14,7 @@ use lib.ListN.{length, getD, take, drop}
 use Rattle.base.specs.Fours.{fours}
 use Rattle.mesh.specs.Table.{soundb}
 use Rattle.mesh.specs.Layout.{cellTable}
-use Rattle.keys.specs.Keys.{Keys}
+use Rattle.pairs.specs.Keys.{Keys}
 use Rattle.edges.specs.Table.{Table, listed}
 use Rattle.closure.proofs.Closed.{Lists}
 use Rattle.tables.specs.Sound.{Mesh, tableCells, tableCorners}

@@ -9,7 +9,7 @@ ghost use Rattle.base.specs.Fours.{fours};
 ghost use Rattle.base.specs.Lists.{allb, anyb};
 ghost use Rattle.edges.specs.Table.{Table};
 ghost use Rattle.closure.specs.Ready.{Looks};
-ghost use Rattle.same.specs.Olds.{flagOf, flagTable};
+ghost use Rattle.lineage.specs.Olds.{flagOf, flagTable};
 ghost use Rattle.reds.specs.Flags.{range, firstChildren, listedb, idleb, touchedb, redAtb, flagsAt, pulledb};
 ghost use Rattle.reds.specs.Old.{Old, Span, OneLevel, Above, Marked, Room};
 
@@ -101,7 +101,7 @@ fn is_touched(
 {
     let mut e = 0;
     while e < 6 {
-        if !apart::apart_edge(rows, j, g, e, xs, ys, heads, links, from, n) {
+        if !separation::apart_edge(rows, j, g, e, xs, ys, heads, links, from, n) {
             return true;
         }
         e += 1;
@@ -322,7 +322,7 @@ pub fn new_reds(
     requires { ⌜ Room (now xs) (now ys) (now heads) (now links) ⌝ }
     ensures { λ r. ⌜ now (red .exit) ≡ flagTable n (fours (now (mesh .entry))) (now (status .entry)) (now (marks .entry)) ++ drop (length (now (status .entry))) (now (red .entry)) ⌝ }
 {
-    keys::clear(heads);
+    pairs::clear(heads);
     flag_up(
         rows,
         status,

@@ -13,8 +13,8 @@ use Rattle.closure.specs.Ready.{redCount}
 use Rattle.closure.proofs.Steps.{count-append}
 use Rattle.growth.specs.Parts.{length-part}
 use Rattle.growth.specs.Written.{written, written-none, length-written}
-use Rattle.same.specs.Olds.{flagOf, redsBy}
-use Rattle.same.specs.Levels.{length-reds}
+use Rattle.lineage.specs.Olds.{flagOf, redsBy}
+use Rattle.lineage.specs.Levels.{length-reds}
 use Rattle.renew.specs.Levels.{Flagged}
 use Rattle.renew.proofs.Writing.{set-written, part-next}
 

@@ -14,10 +14,10 @@ use Rattle.mesh.specs.Cells.{Cell}
 use Rattle.mesh.specs.Weights.{Point}
 use Rattle.mesh.specs.Table.{next}
 use Rattle.rows.specs.Numbered.{part}
-use Rattle.numbers.specs.Refined.{Refined}
-use Rattle.same.specs.Olds.{growBy, concat, statusesBy, oldsNext}
-use Rattle.same.specs.Levels.{length-statuses, length-up}
-use Rattle.same.specs.Step.{refined-statuses}
+use Rattle.numbering.specs.Refined.{Refined}
+use Rattle.lineage.specs.Olds.{growBy, concat, statusesBy, oldsNext}
+use Rattle.lineage.specs.Levels.{length-statuses, length-up}
+use Rattle.lineage.specs.Step.{refined-statuses}
 use Rattle.tables.specs.Levels.{all-append}
 use Rattle.tables.proofs.Onward.{drop-take}
 

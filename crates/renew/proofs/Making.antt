@@ -14,7 +14,7 @@ use Rattle.rows.specs.Numbered.{cellsAt, part, sizes}
 use Rattle.closure.specs.Ready.{redCount, Ready, Looks}
 use Rattle.growth.specs.Parts.{length-part, length-cells}
 use Rattle.growth.specs.Written.{written}
-use Rattle.same.specs.Levels.{length-reds}
+use Rattle.lineage.specs.Levels.{length-reds}
 use Rattle.tables.specs.Checked.{Reds}
 use Rattle.renew.specs.Levels.{listedBy, ownFlags, ownCells, ownReds, ownStatuses, Flagged, Closed, Made}
 use Rattle.renew.proofs.Writing.{part-written, written-over}

@@ -16,9 +16,9 @@ use Rattle.rows.specs.Numbered.{part, sizeOf, sizes}
 use Rattle.sizes.proofs.Sums.{size-leaf, size-red, size-green, green-few, sizes-step}
 use Rattle.growth.specs.Parts.{length-part, sizes-take}
 use Rattle.growth.specs.Written.{written, written-none, written-more, length-written, getD-written}
-use Rattle.same.specs.Olds.{firstChild, oldChild, oldsOf, oldsNext, upTo}
-use Rattle.same.specs.Paths.{length-upto}
-use Rattle.same.specs.Same.{length-olds}
+use Rattle.lineage.specs.Olds.{firstChild, oldChild, oldsOf, oldsNext, upTo}
+use Rattle.lineage.specs.Paths.{length-upto}
+use Rattle.lineage.specs.Same.{length-olds}
 use Rattle.renew.specs.Levels.{Olds, oldIn}
 use Rattle.renew.proofs.Writing.{set-written, part-next}
 

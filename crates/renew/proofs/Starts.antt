@@ -9,9 +9,9 @@ use Rattle.base.specs.Fours.{fours}
 use Rattle.mesh.specs.Weights.{coarseCells}
 use Rattle.rows.specs.Numbered.{part}
 use Rattle.growth.specs.Written.{written}
-use Rattle.same.specs.Olds.{concat, upTo}
-use Rattle.same.specs.Paths.{length-upto}
-use Rattle.same.specs.Closed.{owned-start}
+use Rattle.lineage.specs.Olds.{concat, upTo}
+use Rattle.lineage.specs.Paths.{length-upto}
+use Rattle.lineage.specs.Closed.{owned-start}
 use Rattle.tables.specs.Here.{Here}
 use Rattle.tables.specs.Start.{coarseRow, Empty}
 use Rattle.tables.proofs.Begin.{here-start, cells-start}

@@ -12,14 +12,14 @@ use Rattle.mesh.specs.Weights.{Point}
 use Rattle.mesh.specs.Layout.{Corner, mapCell, numberIn}
 use Rattle.edges.specs.Pairs.{Pair, addPairs}
 use Rattle.lattice.specs.Every.{All}
-use Rattle.numbers.specs.Tests.{cellsIn, edgeIn, Placed, red-edges-numbers, red-status-numbers}
+use Rattle.numbering.specs.Tests.{cellsIn, edgeIn, Placed, red-edges-numbers, red-status-numbers}
 use Rattle.closure.specs.Ready.{redCount}
 use Rattle.closure.proofs.Steps.{length-reds}
 use Rattle.closure.proofs.Closed.{lists-added, status-listed}
-use Rattle.same.specs.Olds.{redsBy, closedBy, statusesBy}
-use Rattle.same.specs.Levels.{length-statuses}
-use Rattle.same.specs.Levels as same
-use Rattle.same.specs.Closed.{Owned, reds-same}
+use Rattle.lineage.specs.Olds.{redsBy, closedBy, statusesBy}
+use Rattle.lineage.specs.Levels.{length-statuses}
+use Rattle.lineage.specs.Levels as same
+use Rattle.lineage.specs.Closed.{Owned, reds-same}
 use Rattle.tables.proofs.Cells.{strip, red-strip}
 use Rattle.renew.specs.Levels.{listedBy}
 

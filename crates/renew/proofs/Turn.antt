@@ -13,11 +13,11 @@ use Rattle.mesh.specs.Cells.{Cell, redEdges, closedFrom}
 use Rattle.mesh.specs.Weights.{Point, coarseCells}
 use Rattle.mesh.specs.Table.{next}
 use Rattle.rows.specs.Numbered.{cellsAt, part, sizes}
-use Rattle.numbers.specs.Tests.{cellsIn}
+use Rattle.numbering.specs.Tests.{cellsIn}
 use Rattle.closure.specs.Ready.{redCount}
-use Rattle.same.specs.Olds.{growBy, concat, statusesBy, oldsNext, upTo}
-use Rattle.same.specs.Closed.{Owned, owned-start, owned-next, closed-by}
-use Rattle.same.specs.Levels.{length-statuses}
+use Rattle.lineage.specs.Olds.{growBy, concat, statusesBy, oldsNext, upTo}
+use Rattle.lineage.specs.Closed.{Owned, owned-start, owned-next, closed-by}
+use Rattle.lineage.specs.Levels.{length-statuses}
 use Rattle.rows.specs.Many.{length-next}
 use Rattle.tables.specs.Checked as checked
 use Rattle.tables.specs.Checked.{Statuses}

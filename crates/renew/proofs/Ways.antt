@@ -16,7 +16,7 @@ use Rattle.closure.proofs.Steps.{length-reds}
 use Rattle.growth.specs.Parts.{length-cells, length-part}
 use Rattle.growth.specs.Written.{written, take-written}
 use Rattle.growth.specs.Level.{Roomy, Grows}
-use Rattle.same.specs.Olds.{concat, oldsNext}
+use Rattle.lineage.specs.Olds.{concat, oldsNext}
 use Rattle.tables.specs.Checked as checked
 use Rattle.tables.specs.Checked.{Reds}
 use Rattle.tables.specs.Here.{Here, Top}
@@ -24,9 +24,9 @@ use Rattle.tables.specs.Sound.{Sound}
 use Rattle.tables.proofs.Space.{red-sizes}
 use Rattle.tables.proofs.Onward.{here-top, here-next, cells-next}
 use Rattle.tables.proofs.Finish.{top-sound}
-use Rattle.same.specs.Levels as same
-use Rattle.same.specs.Same.{length-olds}
-use Rattle.same.specs.Closed.{owned-next}
+use Rattle.lineage.specs.Levels as same
+use Rattle.lineage.specs.Same.{length-olds}
+use Rattle.lineage.specs.Closed.{owned-next}
 use Rattle.renew.specs.Levels.{ownFlags, ownCells, ownReds, ownStatuses, Whole, Made}
 use Rattle.renew.specs.Result.{renewed, Result}
 use Rattle.renew.specs.Going.{roomy, Going}

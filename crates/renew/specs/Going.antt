@@ -7,8 +7,8 @@ use mathlib.Core.List.{List}
 use Prim.Native.Nat.{ℕ, _+_, _-_, _≤_}
 use lib.ListN.{length, take, drop}
 use Rattle.rows.specs.Numbered.{part}
-use Rattle.same.specs.Olds.{growBy, concat}
-use Rattle.same.specs.Closed.{Owned}
+use Rattle.lineage.specs.Olds.{growBy, concat}
+use Rattle.lineage.specs.Closed.{Owned}
 use Rattle.tables.specs.Here.{Here}
 use Rattle.renew.specs.Result.{renewed}
 

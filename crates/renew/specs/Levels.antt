@@ -23,7 +23,7 @@ use Rattle.rows.specs.Numbered.{cellsAt, part, sizes}
 use Rattle.closure.specs.Ready.{redCount, listedStatus}
 use Rattle.growth.specs.Written.{written}
 use Rattle.tables.specs.Checked.{Statuses}
-use Rattle.same.specs.Olds.{firstChild, oldChild, redsBy}
+use Rattle.lineage.specs.Olds.{firstChild, oldChild, redsBy}
 
 pub record Kids (m : ℕ) (ss ks : List ℕ) : Type 0 where
   pub long : length ss ≤ length ks

@@ -9,7 +9,7 @@ use mathlib.Core.List.{List}
 use Prim.Native.Nat.{ℕ, _≤_, _<_}
 use lib.ListN.{length, take}
 use Rattle.mesh.specs.Weights.{coarseCells}
-use Rattle.same.specs.Olds.{growBy, upTo, concat}
+use Rattle.lineage.specs.Olds.{growBy, upTo, concat}
 use Rattle.tables.specs.Sound.{Sound}
 
 abbrev pub renewed : ℕ → List (List ℕ) → List ℕ → List ℕ → List (List ℕ)

@@ -10,7 +10,7 @@ ghost use Rattle.edges.specs.Table.{listed};
 ghost use Rattle.rows.specs.Numbered.{sizeOf, sizes, part};
 ghost use Rattle.closure.specs.Ready.{Looks};
 ghost use Rattle.growth.specs.Written.{written};
-ghost use Rattle.same.specs.Olds.{flagOf, oldsOf, oldsNext, upTo};
+ghost use Rattle.lineage.specs.Olds.{flagOf, oldsOf, oldsNext, upTo};
 ghost use Rattle.tables.specs.Checked.{Statuses, Reds};
 ghost use Rattle.tables.specs.Start.{Empty};
 ghost use Rattle.tables.specs.Sound.{Mesh};
@@ -318,8 +318,8 @@ pub fn renew(
     requires { ⌜ now digits ≡ digitTable ⌝ }
     ensures { λ r. ⌜ Result n (fours (now (mesh .entry))) (now (status .entry)) (now (red .entry)) (now (rows .exit)) (now (ps .exit)) (now (qs .exit)) (now (table .exit)) (r .refusal) (r .cells) (r .levels) (r .mids) ⌝ }
 {
-    keys::clear(heads);
-    keys::clear(mid_heads);
+    pairs::clear(heads);
+    pairs::clear(mid_heads);
     fill(
         mesh,
         n,

@@ -10,7 +10,7 @@ use Rattle.base.specs.declared.Answer.the-variants.{Accepted}
 use Rattle.mesh.specs.Coarse.{cellsb}
 use Rattle.mesh.specs.Table.{soundb}
 use Rattle.lattice.specs.Every.{All}
-use Rattle.steady.specs.Steady.{step-sound}
+use Rattle.soundness.specs.Steady.{step-sound}
 use Rattle.step.specs.Calls.{marksb, limitsAnswer}
 use Rattle.replay.specs.Run.{spread, markingb, oneAnswer, oneTable, runAnswer, runTable}
 use Rattle.replay.specs.Accepted.{passed, both, limits-within}

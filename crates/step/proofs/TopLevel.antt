@@ -15,9 +15,9 @@ use Rattle.mesh.specs.Table.{Level, next, levels, levelsOf, cellsOf, closedb}
 use Rattle.rows.specs.Many.{closed-many}
 use Rattle.mesh.specs.Counts.{levelOf}
 use Rattle.mesh.specs.Step.{rows}
-use Rattle.same.specs.Olds.{concat, flags, flagsOf, flagTable}
-use Rattle.same.specs.Born.{noCell}
-use Rattle.same.specs.Flags.{length-rows}
+use Rattle.lineage.specs.Olds.{concat, flags, flagsOf, flagTable}
+use Rattle.lineage.specs.Born.{noCell}
+use Rattle.lineage.specs.Flags.{length-rows}
 use Rattle.tables.proofs.Rising.{deepb, deep-next}
 use Rattle.step.specs.Deep.{deepAt, deepFrom}
 

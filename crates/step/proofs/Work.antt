@@ -23,12 +23,12 @@ use Rattle.mesh.specs.Step.{stepTable}
 use Rattle.lattice.specs.Levels as lattice
 use Rattle.counting.specs.Levels.{Levels}
 use Rattle.counting.proofs.Sound as counting
-use Rattle.climbing.proofs.Table.{table-level}
-use Rattle.same.specs.Olds.{concat, flags, flagTable, upTo, stepBy}
-use Rattle.same.specs.Step.{step-by}
-use Rattle.same.specs.Deep.{deep}
-use Rattle.same.specs.Born.{noCell}
-use Rattle.steady.specs.Steady.{step-sound}
+use Rattle.ancestors.proofs.Table.{table-level}
+use Rattle.lineage.specs.Olds.{concat, flags, flagTable, upTo, stepBy}
+use Rattle.lineage.specs.Step.{step-by}
+use Rattle.lineage.specs.Deep.{deep}
+use Rattle.lineage.specs.Born.{noCell}
+use Rattle.soundness.specs.Steady.{step-sound}
 use Rattle.tables.specs.Checked.{Statuses}
 use Rattle.tables.specs.Sound.{Mesh, Sound, tableCells, tableCorners}
 use Rattle.tables.proofs.CoarseRows.{length-fours}

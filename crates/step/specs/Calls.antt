@@ -18,7 +18,7 @@ use Rattle.base.specs.declared.Answer.{Answer}
 use Rattle.base.specs.declared.Answer.the-variants.{Accepted, Refused}
 use Rattle.mesh.specs.Coarse.{cornerCount}
 use Rattle.mesh.specs.Step.{stepTable}
-use Rattle.same.specs.Olds.{concat}
+use Rattle.lineage.specs.Olds.{concat}
 use Rattle.layout.specs.Calls.{andThen, tableAnswer}
 use Rattle.step.specs.declared.Stepped.{Stepped}
 use Rattle.step.specs.declared.Stepped.the-variants as stepped

@@ -17,10 +17,10 @@ use Rattle.mesh.specs.Layout.{Corner, rowOf, mapCell, numberIn}
 use Rattle.edges.specs.Pairs.{Pair, sorted, isb}
 use Rattle.rows.specs.Numbered.{cellAt, cellsAt}
 use Rattle.lattice.specs.Every.{All}
-use Rattle.numbers.specs.Renamed.{apartOf}
+use Rattle.numbering.specs.Renamed.{apartOf}
 use Rattle.closure.specs.Ready.{listedApart}
 use Rattle.closure.proofs.Closed.{Lists, held-listed}
-use Rattle.apart.specs.Parents.{Parents, apartAll}
+use Rattle.separation.specs.Parents.{Parents, apartAll}
 use Rattle.tables.specs.Here.{Child}
 use Rattle.tables.proofs.Cells.{strip, Four, noCell, cell-at, cells-at}
 

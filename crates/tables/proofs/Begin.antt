@@ -20,10 +20,10 @@ use Rattle.edges.specs.Table.{listed}
 use Rattle.edges.proofs.Seek.{none-listed}
 use Rattle.lattice.specs.Every.{All}
 use Rattle.lattice.specs.Levels.{fours-four}
-use Rattle.numbers.specs.Corners.{corners-start}
-use Rattle.numbers.specs.Tests.{cellsIn}
-use Rattle.numbers.specs.Coarse.{coarseNumbersFrom, coarseNumbers, coarse-numbers}
-use Rattle.numbers.specs.Stages.{Stage, stage-start}
+use Rattle.numbering.specs.Corners.{corners-start}
+use Rattle.numbering.specs.Tests.{cellsIn}
+use Rattle.numbering.specs.Coarse.{coarseNumbersFrom, coarseNumbers, coarse-numbers}
+use Rattle.numbering.specs.Stages.{Stage, stage-start}
 use Rattle.tables.specs.Levels.{reached-start}
 use Rattle.tables.specs.Here.{Here, Child, Mids}
 use Rattle.tables.specs.Start.{coarseRow, Coarse, Empty}

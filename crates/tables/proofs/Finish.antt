@@ -4,7 +4,7 @@ use mathlib.Core.Path.{_≡_, refl, sym, _∙_, ap}
 use mathlib.Core.Logic.{⊎-elim}
 use mathlib.Core.Bool.{Bool, true, false, _&&_}
 use mathlib.Core.List.{List, [], _∷_, _++_, map, flatMap}
-use Rattle.numbers.specs.Renamed.{apartOf}
+use Rattle.numbering.specs.Renamed.{apartOf}
 use Prim.Native.Nat.{ℕ, zero, suc, _+_, _*_, _-_, _≤_, _<_}
 use native.Mathlib.Omega.{arith}
 use lib.Dec.{T, eqb, leb}
@@ -19,10 +19,10 @@ use Rattle.mesh.specs.Table.{soundb, apartb}
 use Rattle.mesh.specs.Layout.{Corner, rowOf, mapCell, numberIn, cellTable, cornersOf, cornersFrom, coarseCorners}
 use Rattle.edges.specs.Table.{listed}
 use Rattle.lattice.specs.Every.{All}
-use Rattle.numbers.specs.Tests.{cellsIn, Placed, apart-numbers}
+use Rattle.numbering.specs.Tests.{cellsIn, Placed, apart-numbers}
 use Rattle.closure.proofs.Closed.{Lists}
 use Rattle.closure.specs.Ready.{Looks}
-use Rattle.apart.specs.Parents.{Parents, apartAll}
+use Rattle.separation.specs.Parents.{Parents, apartAll}
 use Rattle.counting.specs.Levels.{Levels}
 use Rattle.counting.proofs.Sound.{sound-levels}
 use Rattle.tables.specs.Here.{Top, Child}

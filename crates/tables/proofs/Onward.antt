@@ -19,13 +19,13 @@ use Rattle.edges.specs.Pairs.{Pair, sorted, isb, addPairs, pairsOf}
 use Rattle.edges.specs.Table.{Edges, Grown, listed}
 use Rattle.rows.specs.Numbered.{cellsAt, part, sizes, endsFrom, nextOf}
 use Rattle.lattice.specs.Every.{All, all-append, all-more}
-use Rattle.numbers.specs.Corners.{Kept}
-use Rattle.numbers.specs.Tests.{cellsIn, Placed, closed-numbers}
-use Rattle.numbers.specs.Refined.{Refined, closed-follows}
-use Rattle.numbers.specs.Levels.{placed-kept, cells-kept, level-kept}
-use Rattle.numbers.specs.Stages.{Stage, Next, stage-next}
-use Rattle.numbers.specs.Leaves.{leaf-corners, next-leaves}
-use Rattle.numbers.specs.Tables.{corners-append}
+use Rattle.numbering.specs.Corners.{Kept}
+use Rattle.numbering.specs.Tests.{cellsIn, Placed, closed-numbers}
+use Rattle.numbering.specs.Refined.{Refined, closed-follows}
+use Rattle.numbering.specs.Levels.{placed-kept, cells-kept, level-kept}
+use Rattle.numbering.specs.Stages.{Stage, Next, stage-next}
+use Rattle.numbering.specs.Leaves.{leaf-corners, next-leaves}
+use Rattle.numbering.specs.Tables.{corners-append}
 use Rattle.closure.proofs.Steps.{length-part}
 use Rattle.closure.proofs.Closed.{Lists, lists-added}
 use Rattle.growth.specs.Written.{written, take-written, length-written}

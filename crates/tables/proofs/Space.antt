@@ -10,7 +10,7 @@ use lib.ListN.{length, getD, take, drop}
 use borrow.Author.Tests.{eqb-true, le-leb}
 use Rattle.base.specs.Lists.{allb, one-if, and-left, and-right}
 use Rattle.mesh.specs.Cells.{Cell, redb, redEdges, closedFrom}
-use Rattle.keys.specs.Keys.{Keys}
+use Rattle.pairs.specs.Keys.{Keys}
 use Rattle.edges.specs.Pairs.{Pair, addPairs, pairsOf}
 use Rattle.edges.specs.Table.{Table, Edges, Space, Grown, listed}
 use Rattle.edges.proofs.Seek.{none-listed}

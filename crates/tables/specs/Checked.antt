@@ -9,7 +9,7 @@ use lib.Dec.{eqb, leb}
 use lib.ListN.{length}
 use Rattle.base.specs.Lists.{allb}
 use Rattle.mesh.specs.Cells.{Cell, redEdges, closedFrom}
-use Rattle.keys.specs.Keys.{Keys}
+use Rattle.pairs.specs.Keys.{Keys}
 use Rattle.edges.specs.Table.{Grown}
 use Rattle.rows.specs.Numbered.{cellsAt, part, sizes}
 

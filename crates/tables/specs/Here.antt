@@ -16,9 +16,9 @@ use Rattle.mesh.specs.Table.{cellsOf, levelsOf, soundb, apartb}
 use Rattle.mesh.specs.Layout.{Corner, coarseCorners, cornersFrom, rowOf}
 use Rattle.edges.specs.Table.{Edges, listed}
 use Rattle.lattice.specs.Every.{All}
-use Rattle.numbers.specs.Corners.{Corners}
-use Rattle.numbers.specs.Tests.{cellsIn, Placed}
-use Rattle.numbers.specs.Stages.{Stage}
+use Rattle.numbering.specs.Corners.{Corners}
+use Rattle.numbering.specs.Tests.{cellsIn, Placed}
+use Rattle.numbering.specs.Stages.{Stage}
 use Rattle.closure.proofs.Closed.{Lists}
 use Rattle.tables.specs.Levels.{Reached}
 use Rattle.tables.specs.Checked.{Reds}

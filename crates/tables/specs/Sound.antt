@@ -16,7 +16,7 @@ use Rattle.mesh.specs.Coarse.{cellsb}
 use Rattle.mesh.specs.Table.{levelsOf, cellsOf, soundb}
 use Rattle.mesh.specs.Layout.{Corner, cornersOf, cellTable}
 use Rattle.edges.specs.Table.{listed}
-use Rattle.numbers.specs.Corners.{Corners}
+use Rattle.numbering.specs.Corners.{Corners}
 
 abbrev pub tableCells : ℕ → List (List ℕ) → List ℕ → List (Cell Point)
 tableCells n qs ss = cellsOf (levelsOf n qs ss)

@@ -13,7 +13,7 @@ use Rattle.base.specs.Fours.{fours}
 use Rattle.mesh.specs.Cells.{none}
 use Rattle.mesh.specs.Coarse.{cellsb}
 use Rattle.mesh.specs.Table.{soundb}
-use Rattle.keys.specs.Keys.{Keys}
+use Rattle.pairs.specs.Keys.{Keys}
 use Rattle.tables.specs.Here.{Top}
 
 unfoldable pub coarseRow : List ℕ → List ℕ

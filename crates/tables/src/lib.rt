@@ -190,8 +190,8 @@ pub fn examine(
     let mut links = [0u16; 3072];
     let mut mid_heads = [0u16; 4096];
     let mut mid_links = [0u16; 4096];
-    keys::clear(&mut heads);
-    keys::clear(&mut mid_heads);
+    pairs::clear(&mut heads);
+    pairs::clear(&mut mid_heads);
     let digits = cutting::digit_table();
     let b = build(
         mesh,
@@ -215,7 +215,7 @@ pub fn examine(
     if status.len() != cells {
         return failed();
     }
-    let ok = apart::apart(rows, cells, &xs, &ys, &heads, &links, 0, b.reds);
+    let ok = separation::apart(rows, cells, &xs, &ys, &heads, &links, 0, b.reds);
     Built {
         ok,
         cells,

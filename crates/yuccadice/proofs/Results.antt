@@ -6,7 +6,7 @@ use Prim.Native.Nat.{ℕ}
 use lib.IntN.{ℤ}
 use Rattle.base.specs.declared.Answer.{Answer}
 use Rattle.base.specs.declared.Answer.the-variants.{Accepted, Refused}
-use Rattle.climbing.specs.declared.Ancestor.{Ancestor}
+use Rattle.ancestors.specs.declared.Ancestor.{Ancestor}
 use Rattle.position.specs.Position.{pointOf, cornerAnswer, positioned, positionOf}
 use Rattle.position.specs.declared.Point.{Point}
 use Rattle.position.specs.declared.Position.{Position}

@@ -15,7 +15,7 @@ ghost use Rattle.cutting.specs.Answer.{cutOf};
 ghost use Rattle.mesh.specs.Coarse.{cornerCount, meshAnswer};
 ghost use Rattle.mesh.specs.Counts.{countTable};
 ghost use Rattle.mesh.specs.Layout.{cellTable, endTable, sumTable};
-ghost use Rattle.climbing.specs.Linked.{ancestorOf, noCell};
+ghost use Rattle.ancestors.specs.Linked.{ancestorOf, noCell};
 ghost use Rattle.position.specs.Position.{cornerAnswer, pointOf};
 ghost use Rattle.layout.specs.Opened.{codeOf};
 ghost use Rattle.layout.specs.Calls.{tableAnswer, layoutAnswer, ancestorAnswer, countsAnswer, heldAfter, levelsIn, cellsIn, cornersIn};

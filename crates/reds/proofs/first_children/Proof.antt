@@ -7,7 +7,7 @@ use native.Mathlib.Omega.{arith}
 use lib.Dec.{T, leb, leb→le}
 use lib.ListN.{length, getD, drop, length-set}
 use Rattle.base.specs.Lists.{allb-at}
-use Rattle.same.specs.Olds.{firstChild}
+use Rattle.lineage.specs.Olds.{firstChild}
 use Rattle.reds.specs.Flags.{range, firstChildren}
 use Rattle.reds.proofs.Firsts.{first-next, first-start}
 use Rattle.reds.proofs.Writes.{firsts-more, firsts-none}

@@ -1,7 +1,7 @@
 -- `reds::flag` meets its contract.
 -- Assumes nothing.
 use mathlib.Core.Path.{refl}
-use Rattle.same.specs.Olds.{flagOf}
+use Rattle.lineage.specs.Olds.{flagOf}
 use Rattle.reds.proofs.flag.Statement.{statement}
 use Rattle.reds.proofs.flag.Tie as tie
 

@@ -5,7 +5,7 @@ use mathlib.Core.List.{_++_, append-assoc}
 use Prim.Native.Nat.{_-_, _≤_}
 use native.Mathlib.Omega.{arith}
 use lib.ListN.{length, take, drop, length-set}
-use Rattle.same.specs.Olds.{flagOf}
+use Rattle.lineage.specs.Olds.{flagOf}
 use Rattle.reds.specs.Flags.{listedb, flagsAt}
 use Rattle.reds.proofs.Writes.{flags-start, flags-more}
 use borrow.Author.Needs.{needs}

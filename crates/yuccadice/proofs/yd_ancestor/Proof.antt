@@ -2,7 +2,7 @@
 -- Assumes nothing.
 use mathlib.Core.Path.{ap}
 use Rattle.yuccadice.proofs.Results.{code-none, code-refused, value-new, value-old, told, held, ancestry-result}
-use Rattle.climbing.specs.declared.Ancestor.{Ancestor}
+use Rattle.ancestors.specs.declared.Ancestor.{Ancestor}
 use borrow.Author.Needs.{needs}
 use Rattle.yuccadice.proofs.yd_ancestor.Statement.{statement}
 use Rattle.yuccadice.proofs.yd_ancestor.Tie as tie

@@ -1,0 +1,72 @@
+-- Tests over corner numbers give what they give over weights, for cells whose points are all among the corners ks.
+--   cellsIn ks cs   the cells cs over the numbers of their points
+--   edgeIn ks e     the numbers of the ends of e
+--   Placed ks c     c has four points, each of them a corner
+--   EndsPlaced ks e   both ends of e are corners
+-- Laws: same-number, numbers-below (numbers), held-numbers, status-numbers, red-status-numbers, closed-numbers, apart-numbers
+-- (tests).
+use mathlib.Core.Path.{_≡_, ap}
+use mathlib.Core.Bool.{Bool}
+use mathlib.Core.List.{List, [], map}
+use Prim.Native.Nat.{ℕ, _<_}
+use lib.Dec.{eqb}
+use lib.ListN.{length}
+use borrow.Author.Tests.{eqb-true, eq-eqb}
+use Rattle.base.specs.Lists.{sameb}
+use Rattle.base.specs.Places.{same-list}
+use Rattle.mesh.specs.Cells.{Cell, heldb, statusOf, closedFrom, redEdges}
+use Rattle.mesh.specs.Weights.{Point}
+use Rattle.mesh.specs.Table.{apartb}
+use Rattle.mesh.specs.Layout.{Corner, numberIn, mapCell}
+use Rattle.edges.specs.Pairs.{Pair, test-ext}
+use Rattle.lattice.specs.Every.{All, all-more}
+use Rattle.numbering.specs.Lists.{all-mapped}
+use Rattle.numbering.specs.Corners.{Has, number-below, number-injective}
+use Rattle.numbering.specs.Renamed.{mapEdge, Points, EndsIn, held-map, status-map, closed-map, red-edges-in, red-edges-map, apartOf, apart-map}
+
+abbrev pub cellsIn : List Corner → List (Cell Point) → List (Cell ℕ)
+cellsIn ks cs = map (mapCell (numberIn ks)) cs
+
+abbrev pub edgeIn : List Corner → Point × Point → Pair
+edgeIn ks e = mapEdge (numberIn ks) e
+
+abbrev pub Placed : List Corner → Cell Point → Type 0
+Placed ks c = Points (Has ks) c
+
+abbrev pub EndsPlaced : List Corner → Point × Point → Type 0
+EndsPlaced ks e = EndsIn (Has ks) e
+
+module _ (ks : List Corner) where
+  -- numbers are the same where weights are
+  pub same-number : (p q : Point) → Has ks p → Has ks q → eqb (numberIn ks p) (numberIn ks q) ≡ sameb p q
+  same-number p q hp hq =
+      test-ext (eqb (numberIn ks p) (numberIn ks q)) (sameb p q)
+      (λ t. rw (number-injective ks p q hp hq (eqb-true (numberIn ks p) (numberIn ks q) t)) (same-list .self q))
+      (λ t. eq-eqb (numberIn ks p) (numberIn ks q) (ap (numberIn ks) (same-list .sound p q t)))
+
+  pub numbers-below : (c : Cell Point) → Placed ks c → All (λ i. i < length ks) (mapCell (numberIn ks) c .points)
+  unfolding mapCell
+  numbers-below c p = all-mapped (λ i. i < length ks) (numberIn ks) (c .points) (all-more (Has ks) (λ q. numberIn ks q < length ks) (number-below ks) (c .points) (p .each))
+
+  pub held-numbers : (es : List (Point × Point)) (e : Point × Point) → All (EndsPlaced ks) es → EndsPlaced ks e
+      → heldb eqb (map (edgeIn ks) es) (edgeIn ks e) ≡ heldb sameb es e
+  held-numbers = held-map [] 0 sameb eqb (numberIn ks) (Has ks) same-number
+
+  pub status-numbers : (es : List (Point × Point)) (r : Bool) (c : Cell Point) → All (EndsPlaced ks) es → Placed ks c
+      → statusOf 0 eqb (map (edgeIn ks) es) r (mapCell (numberIn ks) c) ≡ statusOf [] sameb es r c
+  status-numbers = status-map [] 0 sameb eqb (numberIn ks) (Has ks) same-number
+
+  module _ (cs : List (Cell Point)) (ss : List ℕ) (p : All (Placed ks) cs) where
+    pub red-edges-numbers : redEdges 0 (cellsIn ks cs) ss ≡ map (edgeIn ks) (redEdges [] cs ss)
+    red-edges-numbers = red-edges-map [] 0 (numberIn ks) (Has ks) cs ss p
+
+    pub red-status-numbers : (r : Bool) (c : Cell Point) → Placed ks c
+        → statusOf 0 eqb (redEdges 0 (cellsIn ks cs) ss) r (mapCell (numberIn ks) c) ≡ statusOf [] sameb (redEdges [] cs ss) r c
+    red-status-numbers r c q = rw red-edges-numbers (status-numbers (redEdges [] cs ss) r c (red-edges-in [] 0 (numberIn ks) (Has ks) cs ss p) q)
+
+    pub closed-numbers : closedFrom 0 eqb (redEdges 0 (cellsIn ks cs) ss) (cellsIn ks cs) ss ≡ closedFrom [] sameb (redEdges [] cs ss) cs ss
+    closed-numbers = rw red-edges-numbers (closed-map [] 0 sameb eqb (numberIn ks) (Has ks) same-number (redEdges [] cs ss) cs ss (red-edges-in [] 0 (numberIn ks) (Has ks) cs ss p) p)
+
+    pub apart-numbers : apartOf 0 eqb (cellsIn ks cs) ss ≡ apartb cs ss
+    unfolding apartOf apartb
+    apart-numbers = apart-map [] 0 sameb eqb (numberIn ks) (Has ks) same-number cs ss p

@@ -1,0 +1,124 @@
+// The third condition of soundness: no edge of a green cell's child, unless also the green cell's own, is an edge of a red cell.
+use rows::Ends;
+ghost use mathlib.Core.Path.{_≡_};
+ghost use mathlib.Core.Bool.{_&&_, _||_, not, false};
+ghost use Prim.Native.Nat.{_+_, _*_, _≤_, _<_};
+ghost use lib.Dec.{eqb};
+ghost use lib.ListN.{length, getD};
+ghost use Rattle.base.specs.Places.{hasb};
+ghost use Rattle.mesh.specs.Cells.{joinsb, heldb, edge, edges};
+ghost use Rattle.rows.specs.Numbered.{cellAt};
+ghost use Rattle.edges.specs.Pairs.{isb, sorted};
+ghost use Rattle.edges.specs.Table.{listed};
+ghost use Rattle.closure.specs.Ready.{Looks, listedApart};
+ghost use Rattle.separation.specs.Parents.{Parents, apartAll};
+
+fn are(a: u16, b: u16, c: u16, d: u16) -> bool
+    ensures { λ r. ⌜ r ≡ (eqb a c && eqb b d) ⌝ }
+{
+    if a == c { b == d } else { false }
+}
+
+fn joins(a: u16, b: u16, c: u16, d: u16) -> bool
+    ensures { λ r. ⌜ r ≡ joinsb eqb (a, b) (c, d) ⌝ }
+{
+    if are(a, b, c, d) {
+        return true;
+    }
+    are(a, b, d, c)
+}
+
+// Whether an edge is one of the cell's six.
+fn has_edge(cells: &[u16], g: usize, a: u16, b: u16) -> bool
+    requires { ⌜ 8 * g + 8 ≤ length (now cells) ⌝ }
+    ensures { λ r. ⌜ r ≡ heldb eqb (edges 0 (cellAt (now (cells .entry)) g)) (a, b) ⌝ }
+{
+    let mut e = 0;
+    while e < 6 {
+        let own = rows::edge_of(cells, g, e);
+        if joins(a, b, own.a, own.b) {
+            return true;
+        }
+        e += 1;
+    }
+    false
+}
+
+// The condition at edge e of the cell c, whose parent is g.
+pub fn apart_edge(
+    cells: &[u16],
+    c: usize,
+    g: usize,
+    e: usize,
+    xs: &[u32],
+    ys: &[u32],
+    heads: &[u16],
+    links: &[u16],
+    from: usize,
+    n: usize,
+) -> bool
+    requires { ⌜ Looks (now cells) (now xs) (now ys) (now heads) (now links) (c + 1) from n ⌝ }
+    requires { ⌜ (8 * g + 8 ≤ length (now cells)) × (e < 6) ⌝ }
+    ensures { λ r. ⌜ r ≡ (heldb eqb (edges 0 (cellAt (now (cells .entry)) g)) (edge 0 (cellAt (now (cells .entry)) c) e) || not (hasb isb (listed (now (xs .entry)) (now (ys .entry)) from n) (sorted (edge 0 (cellAt (now (cells .entry)) c) e)))) ⌝ }
+{
+    let ends = rows::edge_of(cells, c, e);
+    let held = edges::holds(xs, ys, heads, links, from, n, ends.a, ends.b);
+    if !held {
+        return true;
+    }
+    has_edge(cells, g, ends.a, ends.b)
+}
+
+// The condition at the cell c.
+fn apart_cell(
+    cells: &[u16],
+    c: usize,
+    xs: &[u32],
+    ys: &[u32],
+    heads: &[u16],
+    links: &[u16],
+    from: usize,
+    n: usize,
+) -> bool
+    requires { ⌜ Looks (now cells) (now xs) (now ys) (now heads) (now links) (c + 1) from n ⌝ }
+    requires { ⌜ (cellAt (now cells) c .regular ≡ false → 8 * getD (now cells) (8 * c + 1) 0 + 8 ≤ length (now cells)) ⌝ }
+    ensures { λ r. ⌜ r ≡ listedApart (listed (now (xs .entry)) (now (ys .entry)) from n) (now (cells .entry)) (cellAt (now (cells .entry)) c) ⌝ }
+{
+    if rows::is_regular(cells, c) {
+        return true;
+    }
+    let g = cells[8 * c + 1] as usize;
+    let mut e = 0;
+    while e < 6 {
+        if !apart_edge(cells, c, g, e, xs, ys, heads, links, from, n) {
+            return false;
+        }
+        e += 1;
+    }
+    true
+}
+
+// The condition at each of the cells below last.
+pub fn apart(
+    cells: &[u16],
+    last: usize,
+    xs: &[u32],
+    ys: &[u32],
+    heads: &[u16],
+    links: &[u16],
+    from: usize,
+    n: usize,
+) -> bool
+    requires { ⌜ Looks (now cells) (now xs) (now ys) (now heads) (now links) last from n ⌝ }
+    requires { ⌜ Parents (now cells) last ⌝ }
+    ensures { λ r. ⌜ r ≡ apartAll (listed (now (xs .entry)) (now (ys .entry)) from n) (now (cells .entry)) last ⌝ }
+{
+    let mut c = 0;
+    while c < last {
+        if !apart_cell(cells, c, xs, ys, heads, links, from, n) {
+            return false;
+        }
+        c += 1;
+    }
+    true
+}
