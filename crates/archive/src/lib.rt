@@ -5,6 +5,7 @@ ghost use Prim.Native.Nat.{_+_, _*_, _/_, _%_, _≤_, _<_};
 ghost use lib.Dec.{T};
 ghost use lib.ListN.{length, drop};
 ghost use lib.Seq.{sets};
+ghost use Rattle.base.specs.Lent.{was, is};
 ghost use Rattle.archive.specs.Job.{bytes, word, cornerBytes, cellBytes, markBytes, jobBytes};
 ghost use Rattle.archive.specs.Form.{startsb, whole, signed, i32At, cornersIn, cellsIn, formb, jobOf};
 ghost use Rattle.archive.specs.Tables.{markedOf, marksOf, endsOf, stepsOf};
@@ -34,7 +35,7 @@ struct Scan {
 // Whether a record of so many bytes with this letter stands at a place.
 fn starts(bytes: &[u8], at: usize, letter: u8, size: usize) -> bool
     requires { ⌜ (at ≤ length (now bytes)) × (1 ≤ size) ⌝ }
-    ensures { λ r. ⌜ r ≡ startsb letter size (drop at (now (bytes .entry))) ⌝ }
+    ensures { λ r. ⌜ r ≡ startsb letter size (drop at (was bytes)) ⌝ }
 {
     if bytes.len() - at < size {
         return false;
@@ -45,7 +46,7 @@ fn starts(bytes: &[u8], at: usize, letter: u8, size: usize) -> bool
 // The number of two bytes, least byte first.
 fn number(bytes: &[u8], at: usize) -> usize
     requires { ⌜ at + 2 ≤ length (now bytes) ⌝ }
-    ensures { λ r. ⌜ (r ≡ whole 2 (drop at (now (bytes .entry)))) × (r < 65536) ⌝ }
+    ensures { λ r. ⌜ (r ≡ whole 2 (drop at (was bytes))) × (r < 65536) ⌝ }
 {
     bytes[at] as usize + 256 * (bytes[at + 1] as usize)
 }
@@ -53,7 +54,7 @@ fn number(bytes: &[u8], at: usize) -> usize
 // How many records of one kind stand one after the other from a place on.
 fn count_records(bytes: &[u8], from: usize, letter: u8, size: usize) -> usize
     requires { ⌜ (from ≤ length (now bytes)) × (1 ≤ size) ⌝ }
-    ensures { λ r. ⌜ r ≡ recordsIn letter size (length (now (bytes .entry))) (drop from (now (bytes .entry))) ⌝ }
+    ensures { λ r. ⌜ r ≡ recordsIn letter size (length (was bytes)) (drop from (was bytes)) ⌝ }
 {
     let mut at = from;
     let mut n = 0;
@@ -67,7 +68,7 @@ fn count_records(bytes: &[u8], from: usize, letter: u8, size: usize) -> usize
 // Whether a mark stands at a place, on the cell least or a later one.
 fn is_mark(bytes: &[u8], at: usize, least: usize) -> bool
     requires { ⌜ at ≤ length (now bytes) ⌝ }
-    ensures { λ r. ⌜ r ≡ markb least (drop at (now (bytes .entry))) ⌝ }
+    ensures { λ r. ⌜ r ≡ markb least (drop at (was bytes)) ⌝ }
 {
     if !starts(bytes, at, 77, 4) {
         return false;
@@ -84,7 +85,7 @@ fn is_mark(bytes: &[u8], at: usize, least: usize) -> bool
 // Whether the last record stands at a place, with no mark since the last step and nothing behind it.
 fn is_end(bytes: &[u8], at: usize, least: usize) -> bool
     requires { ⌜ at ≤ length (now bytes) ⌝ }
-    ensures { λ r. ⌜ r ≡ endb least (drop at (now (bytes .entry))) ⌝ }
+    ensures { λ r. ⌜ r ≡ endb least (drop at (was bytes)) ⌝ }
 {
     if !starts(bytes, at, 69, 1) {
         return false;
@@ -98,7 +99,7 @@ fn is_end(bytes: &[u8], at: usize, least: usize) -> bool
 // The marks and steps from a place on. A mark is on the cell least or a later one.
 fn scan_steps(bytes: &[u8], from: usize) -> Scan
     requires { ⌜ from ≤ length (now bytes) ⌝ }
-    ensures { λ r. ⌜ Scanned (now (bytes .entry)) from (r .ok) (r .marks) (r .steps) ⌝ }
+    ensures { λ r. ⌜ Scanned (was bytes) from (r .ok) (r .marks) (r .steps) ⌝ }
 {
     let mut at = from;
     let mut least = 0;
@@ -131,7 +132,7 @@ fn scan_steps(bytes: &[u8], from: usize) -> Scan
 
 // Whether bytes are an archive in the form.
 pub fn examine_form(bytes: &[u8]) -> Form
-    ensures { λ r. ⌜ Examined (now (bytes .entry)) r ⌝ }
+    ensures { λ r. ⌜ Examined (was bytes) r ⌝ }
 {
     if bytes.len() > 65536 {
         return Form {
@@ -157,7 +158,7 @@ pub fn examine_form(bytes: &[u8]) -> Form
 // The number of four bytes, least byte first.
 fn wide_number(bytes: &[u8], at: usize) -> u32
     requires { ⌜ at + 4 ≤ length (now bytes) ⌝ }
-    ensures { λ r. ⌜ r ≡ whole 4 (drop at (now (bytes .entry))) ⌝ }
+    ensures { λ r. ⌜ r ≡ whole 4 (drop at (was bytes)) ⌝ }
 {
     number(bytes, at) as u32 + 65536 * (number(bytes, at + 2) as u32)
 }
@@ -176,7 +177,7 @@ fn signed_of(bits: u32) -> i32
 // The i32 of four bytes.
 fn coordinate(bytes: &[u8], at: usize) -> i32
     requires { ⌜ at + 4 ≤ length (now bytes) ⌝ }
-    ensures { λ r. ⌜ r ≡ i32At (now (bytes .entry)) at ⌝ }
+    ensures { λ r. ⌜ r ≡ i32At (was bytes) at ⌝ }
 {
     signed_of(wide_number(bytes, at))
 }
@@ -185,8 +186,8 @@ fn coordinate(bytes: &[u8], at: usize) -> i32
 fn load_positions(bytes: &[u8], n: usize, positions: &mut [i32])
     requires { ⌜ n ≡ length (cornersIn (length (now bytes)) (now bytes) .0) ⌝ }
     requires { ⌜ n ≤ length (now positions) ⌝ }
-    ensures { λ r. ⌜ now (positions .exit)
-        ≡ inFront (cornersIn (length (now (bytes .entry))) (now (bytes .entry)) .0) (now (positions .entry)) ⌝ }
+    ensures { λ r. ⌜ is positions
+        ≡ inFront (cornersIn (length (was bytes)) (was bytes) .0) (was positions) ⌝ }
 {
     for k in 0..n {
         positions[k] = coordinate(bytes, 13 * (k / 3) + 4 * (k % 3) + 1);
@@ -198,8 +199,8 @@ fn load_cells(bytes: &[u8], from: usize, n: usize, cells: &mut [u16])
     requires { ⌜ from ≤ length (now bytes) ⌝ }
     requires { ⌜ n ≡ length (cellsIn (length (now bytes)) (drop from (now bytes)) .0) ⌝ }
     requires { ⌜ n ≤ length (now cells) ⌝ }
-    ensures { λ r. ⌜ now (cells .exit)
-        ≡ inFront (cellsIn (length (now (bytes .entry))) (drop from (now (bytes .entry))) .0) (now (cells .entry)) ⌝ }
+    ensures { λ r. ⌜ is cells
+        ≡ inFront (cellsIn (length (was bytes)) (drop from (was bytes)) .0) (was cells) ⌝ }
 {
     for k in 0..n {
         cells[k] = number(bytes, from + 9 * (k / 4) + 2 * (k % 4) + 1) as u16;
@@ -209,9 +210,9 @@ fn load_cells(bytes: &[u8], from: usize, n: usize, cells: &mut [u16])
 // The steps from a place on.
 fn load_steps(bytes: &[u8], from: usize, marked: &mut [u16], marks: &mut [u8], ends: &mut [u16])
     requires { ⌜ StepsFit (now bytes) from (now marked) (now marks) (now ends) ⌝ }
-    ensures { λ r. ⌜ now (marked .exit) ≡ inFront (markedOf (stepsAt (now (bytes .entry)) from .steps)) (now (marked .entry)) ⌝ }
-    ensures { λ r. ⌜ now (marks .exit) ≡ inFront (marksOf (stepsAt (now (bytes .entry)) from .steps)) (now (marks .entry)) ⌝ }
-    ensures { λ r. ⌜ now (ends .exit) ≡ inFront (endsOf (stepsAt (now (bytes .entry)) from .steps)) (now (ends .entry)) ⌝ }
+    ensures { λ r. ⌜ is marked ≡ inFront (markedOf (stepsAt (was bytes) from .steps)) (was marked) ⌝ }
+    ensures { λ r. ⌜ is marks ≡ inFront (marksOf (stepsAt (was bytes) from .steps)) (was marks) ⌝ }
+    ensures { λ r. ⌜ is ends ≡ inFront (endsOf (stepsAt (was bytes) from .steps)) (was ends) ⌝ }
 {
     let mut at = from;
     let mut m = 0;
@@ -243,9 +244,9 @@ pub fn load(
     requires { ⌜ T (formb (now bytes)) ⌝ }
     requires { ⌜ CountsOf (now bytes) form ⌝ }
     requires { ⌜ Room (jobOf (now bytes)) (now positions) (now cells) (now marked) (now marks) (now ends) ⌝ }
-    ensures { λ r. ⌜ Loaded (jobOf (now (bytes .entry)))
-        (now (positions .entry)) (now (cells .entry)) (now (marked .entry)) (now (marks .entry)) (now (ends .entry))
-        (now (positions .exit)) (now (cells .exit)) (now (marked .exit)) (now (marks .exit)) (now (ends .exit)) ⌝ }
+    ensures { λ r. ⌜ Loaded (jobOf (was bytes))
+        (was positions) (was cells) (was marked) (was marks) (was ends)
+        (is positions) (is cells) (is marked) (is marks) (is ends) ⌝ }
 {
     load_positions(bytes, 3 * form.corners, positions);
     load_cells(bytes, 13 * form.corners, 4 * form.cells, cells);
@@ -261,7 +262,7 @@ pub fn load(
 // Stores a number as two bytes.
 fn put_number(out: &mut [u8], at: usize, x: u16)
     requires { ⌜ at + 2 ≤ length (now out) ⌝ }
-    ensures { λ r. ⌜ now (out .exit) ≡ sets (now (out .entry)) at (bytes 2 x) ⌝ }
+    ensures { λ r. ⌜ is out ≡ sets (was out) at (bytes 2 x) ⌝ }
 {
     out[at] = (x % 256) as u8;
     out[at + 1] = (x / 256) as u8;
@@ -270,7 +271,7 @@ fn put_number(out: &mut [u8], at: usize, x: u16)
 // Stores a number as four bytes.
 fn put_wide(out: &mut [u8], at: usize, x: u32)
     requires { ⌜ at + 4 ≤ length (now out) ⌝ }
-    ensures { λ r. ⌜ now (out .exit) ≡ sets (now (out .entry)) at (bytes 4 x) ⌝ }
+    ensures { λ r. ⌜ is out ≡ sets (was out) at (bytes 4 x) ⌝ }
 {
     put_number(out, at, (x % 65536) as u16);
     put_number(out, at + 2, (x / 65536) as u16);
@@ -290,7 +291,7 @@ fn bits_of(z: i32) -> u32
 // Stores a corner's record.
 fn put_corner(out: &mut [u8], at: usize, x: i32, y: i32, z: i32)
     requires { ⌜ at + 13 ≤ length (now out) ⌝ }
-    ensures { λ r. ⌜ now (out .exit) ≡ sets (now (out .entry)) at (cornerBytes (x ∷ y ∷ z ∷ [])) ⌝ }
+    ensures { λ r. ⌜ is out ≡ sets (was out) at (cornerBytes (x ∷ y ∷ z ∷ [])) ⌝ }
 {
     out[at] = 86;
     put_wide(out, at + 1, bits_of(x));
@@ -301,7 +302,7 @@ fn put_corner(out: &mut [u8], at: usize, x: i32, y: i32, z: i32)
 // Stores a cell's record.
 fn put_cell(out: &mut [u8], at: usize, a: u16, b: u16, c: u16, d: u16)
     requires { ⌜ at + 9 ≤ length (now out) ⌝ }
-    ensures { λ r. ⌜ now (out .exit) ≡ sets (now (out .entry)) at (cellBytes (a ∷ b ∷ c ∷ d ∷ [])) ⌝ }
+    ensures { λ r. ⌜ is out ≡ sets (was out) at (cellBytes (a ∷ b ∷ c ∷ d ∷ [])) ⌝ }
 {
     out[at] = 84;
     put_number(out, at + 1, a);
@@ -313,7 +314,7 @@ fn put_cell(out: &mut [u8], at: usize, a: u16, b: u16, c: u16, d: u16)
 // Stores a mark's record.
 fn put_mark(out: &mut [u8], at: usize, cell: u16, mark: u8)
     requires { ⌜ at + 4 ≤ length (now out) ⌝ }
-    ensures { λ r. ⌜ now (out .exit) ≡ sets (now (out .entry)) at (markBytes (cell, mark)) ⌝ }
+    ensures { λ r. ⌜ is out ≡ sets (was out) at (markBytes (cell, mark)) ⌝ }
 {
     out[at] = 77;
     put_number(out, at + 1, cell);
@@ -324,7 +325,7 @@ fn put_mark(out: &mut [u8], at: usize, cell: u16, mark: u8)
 fn store_corners(positions: &[i32], out: &mut [u8])
     requires { ⌜ length (now positions) % 3 ≡ 0 ⌝ }
     requires { ⌜ 13 * (length (now positions) / 3) ≤ length (now out) ⌝ }
-    ensures { λ r. ⌜ now (out .exit) ≡ sets (now (out .entry)) 0 (cornerBytes (now (positions .entry))) ⌝ }
+    ensures { λ r. ⌜ is out ≡ sets (was out) 0 (cornerBytes (was positions)) ⌝ }
 {
     let n = positions.len() / 3;
     for i in 0..n {
@@ -342,7 +343,7 @@ fn store_corners(positions: &[i32], out: &mut [u8])
 fn store_cells(cells: &[u16], from: usize, out: &mut [u8])
     requires { ⌜ length (now cells) % 4 ≡ 0 ⌝ }
     requires { ⌜ from + 9 * (length (now cells) / 4) ≤ length (now out) ⌝ }
-    ensures { λ r. ⌜ now (out .exit) ≡ sets (now (out .entry)) from (cellBytes (now (cells .entry))) ⌝ }
+    ensures { λ r. ⌜ is out ≡ sets (was out) from (cellBytes (was cells)) ⌝ }
 {
     let n = cells.len() / 4;
     for i in 0..n {
@@ -361,9 +362,9 @@ fn store_cells(cells: &[u16], from: usize, out: &mut [u8])
 fn store_steps(marked: &[u16], marks: &[u8], ends: &[u16], from: usize, out: &mut [u8]) -> usize
     requires { ⌜ EndsRise (now marked) (now marks) (now ends) ⌝ }
     requires { ⌜ from + length (stepsBytes (stepsOf (now marked) (now marks) (now ends))) ≤ length (now out) ⌝ }
-    ensures { λ r. ⌜ now (out .exit)
-        ≡ sets (now (out .entry)) from (stepsBytes (stepsOf (now (marked .entry)) (now (marks .entry)) (now (ends .entry)))) ⌝ }
-    ensures { λ r. ⌜ r ≡ from + length (stepsBytes (stepsOf (now (marked .entry)) (now (marks .entry)) (now (ends .entry)))) ⌝ }
+    ensures { λ r. ⌜ is out
+        ≡ sets (was out) from (stepsBytes (stepsOf (was marked) (was marks) (was ends))) ⌝ }
+    ensures { λ r. ⌜ r ≡ from + length (stepsBytes (stepsOf (was marked) (was marks) (was ends))) ⌝ }
 {
     let mut at = from;
     let mut m = 0;
@@ -394,11 +395,11 @@ pub fn store(
 ) -> usize
     requires { ⌜ Storable (now positions) (now cells) (now marked) (now marks) (now ends) ⌝ }
     requires { ⌜ length (jobBytes (jobFrom (now positions) (now cells) (now marked) (now marks) (now ends))) ≤ length (now bytes) ⌝ }
-    ensures { λ r. ⌜ now (bytes .exit)
-        ≡ inFront (jobBytes (jobFrom (now (positions .entry)) (now (cells .entry)) (now (marked .entry)) (now (marks .entry)) (now (ends .entry))))
-        (now (bytes .entry)) ⌝ }
+    ensures { λ r. ⌜ is bytes
+        ≡ inFront (jobBytes (jobFrom (was positions) (was cells) (was marked) (was marks) (was ends)))
+        (was bytes) ⌝ }
     ensures { λ r. ⌜ r
-        ≡ length (jobBytes (jobFrom (now (positions .entry)) (now (cells .entry)) (now (marked .entry)) (now (marks .entry)) (now (ends .entry)))) ⌝ }
+        ≡ length (jobBytes (jobFrom (was positions) (was cells) (was marked) (was marks) (was ends))) ⌝ }
 {
     store_corners(positions, bytes);
     let from = 13 * (positions.len() / 3);

@@ -5,6 +5,7 @@ ghost use Prim.Native.Nat.{_+_, _*_, _-_, _≤_, _<_};
 ghost use lib.ListN.{length, getD};
 ghost use Rattle.base.specs.Lists.{one-if};
 ghost use Rattle.base.specs.Places.{hasb};
+ghost use Rattle.base.specs.Lent.{was, is};
 ghost use Rattle.mesh.specs.Cells.{edge, edges, redEdges};
 ghost use Rattle.edges.specs.Pairs.{isb, sorted};
 ghost use Rattle.edges.specs.Table.{Grown, listed};
@@ -23,7 +24,7 @@ fn red_edges(
     n: usize,
 ) -> usize
     requires { ⌜ Ready (now cells) (now xs) (now ys) (now heads) (now links) (c + 1) from n 6 ⌝ }
-    ensures { λ r. ⌜ Grown (now (xs .entry)) (now (ys .entry)) from n (edges 0 (cellAt (now (cells .entry)) c)) (now (xs .exit)) (now (ys .exit)) (now (heads .exit)) (now (links .exit)) r ⌝ }
+    ensures { λ r. ⌜ Grown (was xs) (was ys) from n (edges 0 (cellAt (was cells) c)) (is xs) (is ys) (is heads) (is links) r ⌝ }
 {
     let mut m = n;
     let mut e = 0;
@@ -49,7 +50,7 @@ fn red_cell(
     n: usize,
 ) -> usize
     requires { ⌜ Ready (now cells) (now xs) (now ys) (now heads) (now links) (c + 1) from n (length (redOf status (cellAt (now cells) c))) ⌝ }
-    ensures { λ r. ⌜ Grown (now (xs .entry)) (now (ys .entry)) from n (redOf status (cellAt (now (cells .entry)) c)) (now (xs .exit)) (now (ys .exit)) (now (heads .exit)) (now (links .exit)) r ⌝ }
+    ensures { λ r. ⌜ Grown (was xs) (was ys) from n (redOf status (cellAt (was cells) c)) (is xs) (is ys) (is heads) (is links) r ⌝ }
 {
     if status != 64 {
         return n;
@@ -72,7 +73,7 @@ pub fn red_level(
 ) -> usize
     requires { ⌜ Range (now status) first last ⌝ }
     requires { ⌜ Ready (now cells) (now xs) (now ys) (now heads) (now links) last from n (6 * redCount (part (now status) first (last - first))) ⌝ }
-    ensures { λ r. ⌜ Grown (now (xs .entry)) (now (ys .entry)) from n (redEdges 0 (cellsAt (now (cells .entry)) first (last - first)) (part (now (status .entry)) first (last - first))) (now (xs .exit)) (now (ys .exit)) (now (heads .exit)) (now (links .exit)) r ⌝ }
+    ensures { λ r. ⌜ Grown (was xs) (was ys) from n (redEdges 0 (cellsAt (was cells) first (last - first)) (part (was status) first (last - first))) (is xs) (is ys) (is heads) (is links) r ⌝ }
 {
     let mut m = n;
     let mut c = first;
@@ -104,7 +105,7 @@ fn is_held(
 ) -> bool
     requires { ⌜ Looks (now cells) (now xs) (now ys) (now heads) (now links) (c + 1) from n ⌝ }
     requires { ⌜ e < 6 ⌝ }
-    ensures { λ r. ⌜ r ≡ hasb isb (listed (now (xs .entry)) (now (ys .entry)) from n) (sorted (edge 0 (cellAt (now (cells .entry)) c) e)) ⌝ }
+    ensures { λ r. ⌜ r ≡ hasb isb (listed (was xs) (was ys) from n) (sorted (edge 0 (cellAt (was cells) c) e)) ⌝ }
 {
     let ends = rows::edge_of(cells, c, e);
     edges::holds(xs, ys, heads, links, from, n, ends.a, ends.b)
@@ -122,7 +123,7 @@ pub fn pattern_of(
     n: usize,
 ) -> u8
     requires { ⌜ Looks (now cells) (now xs) (now ys) (now heads) (now links) (c + 1) from n ⌝ }
-    ensures { λ r. ⌜ r ≡ listedPattern (listed (now (xs .entry)) (now (ys .entry)) from n) (cellAt (now (cells .entry)) c) ⌝ }
+    ensures { λ r. ⌜ r ≡ listedPattern (listed (was xs) (was ys) from n) (cellAt (was cells) c) ⌝ }
 {
     let mut p: u8 = 0;
     let mut e = 6;
@@ -147,7 +148,7 @@ pub fn status_of(
     n: usize,
 ) -> u8
     requires { ⌜ Looks (now cells) (now xs) (now ys) (now heads) (now links) (c + 1) from n ⌝ }
-    ensures { λ r. ⌜ r ≡ listedStatus (listed (now (xs .entry)) (now (ys .entry)) from n) red (cellAt (now (cells .entry)) c) ⌝ }
+    ensures { λ r. ⌜ r ≡ listedStatus (listed (was xs) (was ys) from n) red (cellAt (was cells) c) ⌝ }
 {
     if !rows::is_regular(cells, c) {
         return 0;
@@ -173,7 +174,7 @@ pub fn closed_level(
 ) -> bool
     requires { ⌜ Range (now status) first last ⌝ }
     requires { ⌜ Looks (now cells) (now xs) (now ys) (now heads) (now links) last from n ⌝ }
-    ensures { λ r. ⌜ r ≡ listedClosed (listed (now (xs .entry)) (now (ys .entry)) from n) (cellsAt (now (cells .entry)) first (last - first)) (part (now (status .entry)) first (last - first)) ⌝ }
+    ensures { λ r. ⌜ r ≡ listedClosed (listed (was xs) (was ys) from n) (cellsAt (was cells) first (last - first)) (part (was status) first (last - first)) ⌝ }
 {
     let mut c = first;
     while c < last {

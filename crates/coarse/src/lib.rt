@@ -8,6 +8,7 @@ ghost use lib.Dec.{leb};
 ghost use lib.IntN.{natAbs};
 ghost use lib.ListN.{length, getD};
 ghost use Rattle.base.specs.Fours.{fours};
+ghost use Rattle.base.specs.Lent.{was, is};
 ghost use Rattle.cutting.specs.Rule.{zerob};
 ghost use Rattle.mesh.specs.Coarse.{countsb, positionsb, cellb, cellsb, coordinate, determinant, solidb, twiceb, singleb, meshAnswer};
 ghost use Rattle.coarse.specs.Cells.{corners, faceCorners, faceAt, Placed, Ranked, crowdedb};
@@ -31,7 +32,7 @@ struct Face {
 
 // Refusal 1: how many corners and cells.
 fn counts_ok(positions: &[i32], cells: &[u16]) -> bool
-    ensures { λ r. ⌜ r ≡ countsb (now (positions .entry)) (now (cells .entry)) ⌝ }
+    ensures { λ r. ⌜ r ≡ countsb (was positions) (was cells) ⌝ }
 {
     if positions.len() % 3 != 0 {
         return false;
@@ -65,7 +66,7 @@ fn within(z: i32) -> bool
 
 // Refusal 2: each number of a position.
 fn positions_ok(positions: &[i32]) -> bool
-    ensures { λ r. ⌜ r ≡ positionsb (now (positions .entry)) ⌝ }
+    ensures { λ r. ⌜ r ≡ positionsb (was positions) ⌝ }
 {
     for i in 0..positions.len() {
         if !within(positions[i]) {
@@ -78,7 +79,7 @@ fn positions_ok(positions: &[i32]) -> bool
 // Cell k of the flat list.
 fn cell_at(cells: &[u16], k: usize) -> Cell
     requires { ⌜ k < length (now cells) / 4 ⌝ }
-    ensures { λ r. ⌜ corners r ≡ getD (fours (now (cells .entry))) k [] ⌝ }
+    ensures { λ r. ⌜ corners r ≡ getD (fours (was cells)) k [] ⌝ }
 {
     Cell {
         a: cells[4 * k],
@@ -106,7 +107,7 @@ fn ascending(q: Cell, count: usize) -> bool
 
 // Refusal 3: each cell's corner numbers.
 fn cells_ok(cells: &[u16], count: usize) -> bool
-    ensures { λ r. ⌜ r ≡ cellsb count (fours (now (cells .entry))) ⌝ }
+    ensures { λ r. ⌜ r ≡ cellsb count (fours (was cells)) ⌝ }
 {
     for k in 0..cells.len() / 4 {
         if !ascending(cell_at(cells, k), count) {
@@ -120,7 +121,7 @@ fn cells_ok(cells: &[u16], count: usize) -> bool
 fn coordinate_of(positions: &[i32], corner: u16, axis: usize) -> i64
     requires { ⌜ Corner (now positions) corner ⌝ }
     requires { ⌜ axis < 3 ⌝ }
-    ensures { λ r. ⌜ (r ≡ coordinate (now (positions .entry)) corner axis) × Small 500000 r ⌝ }
+    ensures { λ r. ⌜ (r ≡ coordinate (was positions) corner axis) × Small 500000 r ⌝ }
 {
     positions[3 * corner as usize + axis] as i64
 }
@@ -130,7 +131,7 @@ fn edge(positions: &[i32], a: u16, b: u16, axis: usize) -> i64
     requires { ⌜ Corner (now positions) a ⌝ }
     requires { ⌜ Corner (now positions) b ⌝ }
     requires { ⌜ axis < 3 ⌝ }
-    ensures { λ r. ⌜ (r ≡ edgeOf (now (positions .entry)) a b axis) × Small 1000000 r ⌝ }
+    ensures { λ r. ⌜ (r ≡ edgeOf (was positions) a b axis) × Small 1000000 r ⌝ }
 {
     coordinate_of(positions, b, axis) - coordinate_of(positions, a, axis)
 }
@@ -139,7 +140,7 @@ fn edge(positions: &[i32], a: u16, b: u16, axis: usize) -> i64
 fn term(positions: &[i32], a: u16, b: u16, c: u16, d: u16, i: usize, j: usize, k: usize) -> i64
     requires { ⌜ Corners (now positions) a b c d ⌝ }
     requires { ⌜ (i < 3) × (j < 3) × (k < 3) ⌝ }
-    ensures { λ r. ⌜ (r ≡ termOf (now (positions .entry)) a b c d i j k) × Small 2000000000000000000 r ⌝ }
+    ensures { λ r. ⌜ (r ≡ termOf (was positions) a b c d i j k) × Small 2000000000000000000 r ⌝ }
 {
     let p = edge(positions, a, c, j) * edge(positions, a, d, k);
     let q = edge(positions, a, c, k) * edge(positions, a, d, j);
@@ -149,7 +150,7 @@ fn term(positions: &[i32], a: u16, b: u16, c: u16, d: u16, i: usize, j: usize, k
 // Whether a cell is not flat.
 fn solid_cell(positions: &[i32], cell: Cell) -> bool
     requires { ⌜ Corners (now positions) (cell .a) (cell .b) (cell .c) (cell .d) ⌝ }
-    ensures { λ r. ⌜ r ≡ not (zerob (determinant (now (positions .entry)) (corners cell))) ⌝ }
+    ensures { λ r. ⌜ r ≡ not (zerob (determinant (was positions) (corners cell))) ⌝ }
 {
     let a = cell.a;
     let b = cell.b;
@@ -164,7 +165,7 @@ fn solid_cell(positions: &[i32], cell: Cell) -> bool
 // Refusal 4: no cell is flat.
 fn solid(positions: &[i32], cells: &[u16]) -> bool
     requires { ⌜ Placed (now positions) (now cells) ⌝ }
-    ensures { λ r. ⌜ r ≡ solidb (now (positions .entry)) (fours (now (cells .entry))) ⌝ }
+    ensures { λ r. ⌜ r ≡ solidb (was positions) (fours (was cells)) ⌝ }
 {
     for k in 0..cells.len() / 4 {
         if !solid_cell(positions, cell_at(cells, k)) {
@@ -192,7 +193,7 @@ fn tally(
     y: u32,
 ) -> Counted
     requires { ⌜ Open (now xs) (now ys) (now heads) (now links) (now counts) n x y ⌝ }
-    ensures { λ r. ⌜ Tallied (now (xs .entry)) (now (ys .entry)) (now (counts .entry)) n x y (now (xs .exit)) (now (ys .exit)) (now (heads .exit)) (now (links .exit)) (now (counts .exit)) (r .n) (r .count) ⌝ }
+    ensures { λ r. ⌜ Tallied (was xs) (was ys) (was counts) n x y (is xs) (is ys) (is heads) (is links) (is counts) (r .n) (r .count) ⌝ }
 {
     let e = pairs::find(xs, ys, heads, links, 0, n, x, y);
     if e == 65535 {
@@ -215,7 +216,7 @@ fn pair(a: u16, b: u16) -> u32
 // No two cells have the same corners.
 fn cells_differ(cells: &[u16]) -> bool
     requires { ⌜ Ranked (now cells) ⌝ }
-    ensures { λ r. ⌜ r ≡ not (twiceb (fours (now (cells .entry)))) ⌝ }
+    ensures { λ r. ⌜ r ≡ not (twiceb (fours (was cells))) ⌝ }
 {
     let mut xs = [0u32; 1024];
     let mut ys = [0u32; 1024];
@@ -249,7 +250,7 @@ fn cells_differ(cells: &[u16]) -> bool
 // Face i of the cells: the cell i / 4 without its corner i % 4.
 fn face_at(cells: &[u16], i: usize) -> Face
     requires { ⌜ i / 4 < length (now cells) / 4 ⌝ }
-    ensures { λ r. ⌜ faceCorners r ≡ faceAt (now (cells .entry)) i ⌝ }
+    ensures { λ r. ⌜ faceCorners r ≡ faceAt (was cells) i ⌝ }
 {
     let q = cell_at(cells, i / 4);
     let out = i % 4;
@@ -284,7 +285,7 @@ fn face_at(cells: &[u16], i: usize) -> Face
 // No face is in three cells.
 fn faces_ok(cells: &[u16]) -> bool
     requires { ⌜ Ranked (now cells) ⌝ }
-    ensures { λ r. ⌜ r ≡ not (crowdedb (fours (now (cells .entry)))) ⌝ }
+    ensures { λ r. ⌜ r ≡ not (crowdedb (fours (was cells))) ⌝ }
 {
     let mut xs = [0u32; 1024];
     let mut ys = [0u32; 1024];
@@ -318,7 +319,7 @@ fn faces_ok(cells: &[u16]) -> bool
 // Refusal 5: no two cells with the same corners, no face in three cells.
 fn single(cells: &[u16]) -> bool
     requires { ⌜ Ranked (now cells) ⌝ }
-    ensures { λ r. ⌜ r ≡ singleb (fours (now (cells .entry))) ⌝ }
+    ensures { λ r. ⌜ r ≡ singleb (fours (was cells)) ⌝ }
 {
     if !cells_differ(cells) {
         return false;
@@ -328,7 +329,7 @@ fn single(cells: &[u16]) -> bool
 
 // Whether a coarse mesh is accepted, and if not, why.
 pub fn examine_mesh(positions: &[i32], cells: &[u16]) -> Answer
-    ensures { λ r. ⌜ r ≡ meshAnswer (now (positions .entry)) (now (cells .entry)) ⌝ }
+    ensures { λ r. ⌜ r ≡ meshAnswer (was positions) (was cells) ⌝ }
 {
     if !counts_ok(positions, cells) {
         return Answer::Refused(1);

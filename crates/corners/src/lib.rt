@@ -6,6 +6,7 @@ ghost use Prim.Native.Nat.{_+_, _*_, _≤_, _<_};
 ghost use lib.ListN.{length, take, drop};
 ghost use lib.Seq.{sets};
 ghost use lib.IntN.{pos, _+ℤ_, _*ℤ_};
+ghost use Rattle.base.specs.Lent.{was, is};
 ghost use Rattle.mesh.specs.Coarse.{coordinate};
 ghost use Rattle.corners.specs.Ends.{Ends, coarseEnds, addEnds, endNumbers};
 ghost use Rattle.corners.specs.Sums.{Small, Smalls, Held, half, coarseSums, midSums, addSums, sumNumbers};
@@ -13,7 +14,7 @@ ghost use Rattle.corners.specs.Sums.{Small, Smalls, Held, half, coarseSu
 // Stores the two ends of a corner.
 fn put_ends(ends: &mut [u16], at: usize, low: u16, high: u16)
     requires { ⌜ at + 2 ≤ length (now ends) ⌝ }
-    ensures { λ r. ⌜ now (ends .exit) ≡ sets (now (ends .entry)) at (low ∷ high ∷ []) ⌝ }
+    ensures { λ r. ⌜ is ends ≡ sets (was ends) at (low ∷ high ∷ []) ⌝ }
 {
     ends[at] = low;
     ends[at + 1] = high;
@@ -23,7 +24,7 @@ fn put_ends(ends: &mut [u16], at: usize, low: u16, high: u16)
 fn coarse_ends(n: usize, ends: &mut [u16])
     requires { ⌜ n ≤ 16384 ⌝ }
     requires { ⌜ 2 * n ≤ length (now ends) ⌝ }
-    ensures { λ r. ⌜ now (ends .exit) ≡ coarseEnds n ++ drop (2 * n) (now (ends .entry)) ⌝ }
+    ensures { λ r. ⌜ is ends ≡ coarseEnds n ++ drop (2 * n) (was ends) ⌝ }
 {
     for i in 0..n {
         put_ends(ends, 2 * i, i as u16, i as u16);
@@ -35,9 +36,9 @@ fn new_ends(xs: &[u32], ys: &[u32], n: usize, m: usize, ends: &mut [u16])
     requires { ⌜ Ends n (now xs) (now ys) m ⌝ }
     requires { ⌜ n + m ≤ 16384 ⌝ }
     requires { ⌜ 2 * (n + m) ≤ length (now ends) ⌝ }
-    ensures { λ r. ⌜ now (ends .exit)
-        ≡ addEnds (take (2 * n) (now (ends .entry))) (now (xs .entry)) (now (ys .entry)) m
-        ++ drop (2 * (n + m)) (now (ends .entry)) ⌝ }
+    ensures { λ r. ⌜ is ends
+        ≡ addEnds (take (2 * n) (was ends)) (was xs) (was ys) m
+        ++ drop (2 * (n + m)) (was ends) ⌝ }
 {
     for j in 0..m {
         put_ends(ends, 2 * (n + j), xs[j] as u16, ys[j] as u16);
@@ -49,8 +50,8 @@ pub fn fill_ends(xs: &[u32], ys: &[u32], n: usize, m: usize, ends: &mut [u16])
     requires { ⌜ Ends n (now xs) (now ys) m ⌝ }
     requires { ⌜ n + m ≤ 16384 ⌝ }
     requires { ⌜ 2 * (n + m) ≤ length (now ends) ⌝ }
-    ensures { λ r. ⌜ now (ends .exit)
-        ≡ endNumbers n (now (xs .entry)) (now (ys .entry)) m ++ drop (2 * (n + m)) (now (ends .entry)) ⌝ }
+    ensures { λ r. ⌜ is ends
+        ≡ endNumbers n (was xs) (was ys) m ++ drop (2 * (n + m)) (was ends) ⌝ }
 {
     coarse_ends(n, ends);
     new_ends(xs, ys, n, m, ends);
@@ -59,7 +60,7 @@ pub fn fill_ends(xs: &[u32], ys: &[u32], n: usize, m: usize, ends: &mut [u16])
 // Stores the three sums of a corner.
 fn put_sums(sums: &mut [i32], at: usize, x: i32, y: i32, z: i32)
     requires { ⌜ at + 3 ≤ length (now sums) ⌝ }
-    ensures { λ r. ⌜ now (sums .exit) ≡ sets (now (sums .entry)) at (x ∷ y ∷ z ∷ []) ⌝ }
+    ensures { λ r. ⌜ is sums ≡ sets (was sums) at (x ∷ y ∷ z ∷ []) ⌝ }
 {
     sums[at] = x;
     sums[at + 1] = y;
@@ -87,7 +88,7 @@ fn half_sum(a: i32, b: i32) -> i32
 fn coarse_sum(positions: &[i32], i: usize, k: usize) -> i32
     requires { ⌜ 3 * i + k < length (now positions) ⌝ }
     requires { ⌜ Smalls 500000 (now positions) ⌝ }
-    ensures { λ r. ⌜ r ≡ pos 1024 *ℤ coordinate (now (positions .entry)) i k ⌝ }
+    ensures { λ r. ⌜ r ≡ pos 1024 *ℤ coordinate (was positions) i k ⌝ }
 {
     scaled(positions[3 * i + k])
 }
@@ -97,7 +98,7 @@ fn mid_sum(sums: &[i32], a: usize, b: usize, k: usize) -> i32
     requires { ⌜ Held (now sums) a ⌝ }
     requires { ⌜ Held (now sums) b ⌝ }
     requires { ⌜ k < 3 ⌝ }
-    ensures { λ r. ⌜ r ≡ half (coordinate (now (sums .entry)) a k +ℤ coordinate (now (sums .entry)) b k) ⌝ }
+    ensures { λ r. ⌜ r ≡ half (coordinate (was sums) a k +ℤ coordinate (was sums) b k) ⌝ }
 {
     half_sum(sums[3 * a + k], sums[3 * b + k])
 }
@@ -107,7 +108,7 @@ fn put_mid(sums: &mut [i32], at: usize, a: usize, b: usize)
     requires { ⌜ Held (now sums) a ⌝ }
     requires { ⌜ Held (now sums) b ⌝ }
     requires { ⌜ at + 3 ≤ length (now sums) ⌝ }
-    ensures { λ r. ⌜ now (sums .exit) ≡ sets (now (sums .entry)) at (midSums (now (sums .entry)) a b) ⌝ }
+    ensures { λ r. ⌜ is sums ≡ sets (was sums) at (midSums (was sums) a b) ⌝ }
 {
     let x = mid_sum(sums, a, b, 0);
     let y = mid_sum(sums, a, b, 1);
@@ -120,7 +121,7 @@ fn coarse_sums(positions: &[i32], n: usize, sums: &mut [i32])
     requires { ⌜ 3 * n ≤ length (now positions) ⌝ }
     requires { ⌜ Smalls 500000 (now positions) ⌝ }
     requires { ⌜ 3 * n ≤ length (now sums) ⌝ }
-    ensures { λ r. ⌜ now (sums .exit) ≡ coarseSums (now (positions .entry)) n ++ drop (3 * n) (now (sums .entry)) ⌝ }
+    ensures { λ r. ⌜ is sums ≡ coarseSums (was positions) n ++ drop (3 * n) (was sums) ⌝ }
 {
     for i in 0..n {
         let x = coarse_sum(positions, i, 0);
@@ -135,9 +136,9 @@ fn new_sums(xs: &[u32], ys: &[u32], n: usize, m: usize, sums: &mut [i32])
     requires { ⌜ Ends n (now xs) (now ys) m ⌝ }
     requires { ⌜ 3 * (n + m) ≤ length (now sums) ⌝ }
     requires { ⌜ Smalls 512000000 (take (3 * n) (now sums)) ⌝ }
-    ensures { λ r. ⌜ now (sums .exit)
-        ≡ addSums (take (3 * n) (now (sums .entry))) (now (xs .entry)) (now (ys .entry)) m
-        ++ drop (3 * (n + m)) (now (sums .entry)) ⌝ }
+    ensures { λ r. ⌜ is sums
+        ≡ addSums (take (3 * n) (was sums)) (was xs) (was ys) m
+        ++ drop (3 * (n + m)) (was sums) ⌝ }
 {
     for j in 0..m {
         put_mid(sums, 3 * (n + j), xs[j] as usize, ys[j] as usize);
@@ -150,9 +151,9 @@ pub fn fill_sums(positions: &[i32], xs: &[u32], ys: &[u32], n: usize, m: usize, 
     requires { ⌜ Smalls 500000 (now positions) ⌝ }
     requires { ⌜ Ends n (now xs) (now ys) m ⌝ }
     requires { ⌜ 3 * (n + m) ≤ length (now sums) ⌝ }
-    ensures { λ r. ⌜ now (sums .exit)
-        ≡ sumNumbers (now (positions .entry)) n (now (xs .entry)) (now (ys .entry)) m
-        ++ drop (3 * (n + m)) (now (sums .entry)) ⌝ }
+    ensures { λ r. ⌜ is sums
+        ≡ sumNumbers (was positions) n (was xs) (was ys) m
+        ++ drop (3 * (n + m)) (was sums) ⌝ }
 {
     coarse_sums(positions, n, sums);
     new_sums(xs, ys, n, m, sums);

@@ -5,6 +5,7 @@ ghost use Prim.Native.Nat.{_+_, _*_, _≤_, _<_};
 ghost use lib.ListN.{length, drop};
 ghost use lib.Seq.{sets};
 ghost use Rattle.base.specs.Lists.{one-if};
+ghost use Rattle.base.specs.Lent.{was, is};
 ghost use Rattle.mesh.specs.Counts.{greenb};
 ghost use Rattle.counting.specs.Levels.{Levels, countsAt, levelCounts, levelNumber, listed};
 
@@ -34,7 +35,7 @@ fn is_green(status: u8) -> bool
 // The counts of the cells from first to last.
 fn count_range(status: &[u8], first: usize, last: usize) -> Tally
     requires { ⌜ (first ≤ last) × (last ≤ length (now status)) × (length (now status) ≤ 4096) ⌝ }
-    ensures { λ r. ⌜ listed r ≡ countsAt first last (now (status .entry)) ⌝ }
+    ensures { λ r. ⌜ listed r ≡ countsAt first last (was status) ⌝ }
 {
     let mut red: u16 = 0;
     let mut green: u16 = 0;
@@ -58,7 +59,7 @@ fn count_range(status: &[u8], first: usize, last: usize) -> Tally
 // Stores the four numbers of a tally.
 fn put_tally(counts: &mut [u16], at: usize, t: Tally)
     requires { ⌜ at + 4 ≤ length (now counts) ⌝ }
-    ensures { λ r. ⌜ now (counts .exit) ≡ sets (now (counts .entry)) at (listed t) ⌝ }
+    ensures { λ r. ⌜ is counts ≡ sets (was counts) at (listed t) ⌝ }
 {
     counts[at] = t.cells;
     counts[at + 1] = t.red;
@@ -70,9 +71,9 @@ fn put_tally(counts: &mut [u16], at: usize, t: Tally)
 pub fn count_levels(status: &[u8], coarse: usize, counts: &mut [u16]) -> usize
     requires { ⌜ Levels (now status) coarse ⌝ }
     requires { ⌜ 44 ≤ length (now counts) ⌝ }
-    ensures { λ r. ⌜ r ≡ levelNumber 12 0 coarse (now (status .entry)) ⌝ }
-    ensures { λ r. ⌜ now (counts .exit)
-        ≡ levelCounts 12 0 coarse (now (status .entry)) ++ drop (4 * r) (now (counts .entry)) ⌝ }
+    ensures { λ r. ⌜ r ≡ levelNumber 12 0 coarse (was status) ⌝ }
+    ensures { λ r. ⌜ is counts
+        ≡ levelCounts 12 0 coarse (was status) ++ drop (4 * r) (was counts) ⌝ }
 {
     let mut level = 0;
     let mut first = 0;

@@ -3,6 +3,7 @@
 ghost use mathlib.Core.Path.{_≡_};
 ghost use Prim.Native.Nat.{_-_};
 ghost use Rattle.base.specs.Places.{hasb};
+ghost use Rattle.base.specs.Lent.{was, is};
 ghost use Rattle.pairs.specs.Keys.{Keys, Room};
 ghost use Rattle.edges.specs.Pairs.{sorted, isb};
 ghost use Rattle.edges.specs.Table.{listed, Table, Edges, Inserted};
@@ -42,7 +43,7 @@ pub fn holds(
     b: u16,
 ) -> bool
     requires { ⌜ Table (now xs) (now ys) (now heads) (now links) from n ⌝ }
-    ensures { λ r. ⌜ r ≡ hasb isb (listed (now (xs .entry)) (now (ys .entry)) from n) (sorted (a, b)) ⌝ }
+    ensures { λ r. ⌜ r ≡ hasb isb (listed (was xs) (was ys) from n) (sorted (a, b)) ⌝ }
 {
     let e = sorted_ends(a, b);
     let at = pairs::find(xs, ys, heads, links, from, n, e.low, e.high);
@@ -62,7 +63,7 @@ pub fn insert(
 ) -> Slot
     requires { ⌜ Edges (now xs) (now ys) (now heads) (now links) from n ⌝ }
     requires { ⌜ Room (now xs) (now ys) (now links) n ⌝ }
-    ensures { λ r. ⌜ Inserted (now (xs .entry)) (now (ys .entry)) from n (a, b) (now (xs .exit)) (now (ys .exit)) (now (heads .exit)) (now (links .exit)) (r .at) (r .n) ⌝ }
+    ensures { λ r. ⌜ Inserted (was xs) (was ys) from n (a, b) (is xs) (is ys) (is heads) (is links) (r .at) (r .n) ⌝ }
 {
     let e = sorted_ends(a, b);
     let at = pairs::find(xs, ys, heads, links, from, n, e.low, e.high);

@@ -6,6 +6,7 @@ ghost use mathlib.Core.List.{[], _∷_, map};
 ghost use Prim.Native.Nat.{ℕ, _+_, _*_, _-_, _≤_, _<_};
 ghost use lib.ListN.{length, getD};
 ghost use Rattle.base.specs.Lists.{one-if};
+ghost use Rattle.base.specs.Lent.{was, is};
 ghost use Rattle.cutting.specs.Rule.{split, family};
 ghost use Rattle.cutting.specs.Answer.{digitTable};
 ghost use Rattle.mesh.specs.Cells.{patternOf, edge};
@@ -47,7 +48,7 @@ fn middle_of(e: usize) -> usize
 // For each of the ten points of a cell the number of its lower corner: a corner has its own.
 fn corners_of(cells: &[u16], c: usize) -> [u16; 10]
     requires { ⌜ 8 * c + 8 ≤ length (now cells) ⌝ }
-    ensures { λ r. ⌜ r ≡ lowCorners (cellAt (now (cells .entry)) c) ⌝ }
+    ensures { λ r. ⌜ r ≡ lowCorners (cellAt (was cells) c) ⌝ }
 {
     let at = 8 * c + 4;
     let p = cells[at];
@@ -71,7 +72,7 @@ pub fn write_row(
     s: u16,
 )
     requires { ⌜ 8 * at + 8 ≤ length (now cells) ⌝ }
-    ensures { λ u. ⌜ now (cells .exit) ≡ written (now (cells .entry)) (8 * at) (level ∷ parent ∷ child ∷ regular ∷ p ∷ q ∷ r ∷ s ∷ []) ⌝ }
+    ensures { λ u. ⌜ is cells ≡ written (was cells) (8 * at) (level ∷ parent ∷ child ∷ regular ∷ p ∷ q ∷ r ∷ s ∷ []) ⌝ }
 {
     let i = 8 * at;
     cells[i] = level;
@@ -98,7 +99,7 @@ fn add_edge(
     requires { ⌜ (8 * c + 8 ≤ length (now cells)) × (e < 6) ⌝ }
     requires { ⌜ Edges (now xs) (now ys) (now heads) (now links) 0 m ⌝ }
     requires { ⌜ Room (now xs) (now ys) (now links) m ⌝ }
-    ensures { λ r. ⌜ Inserted (now (xs .entry)) (now (ys .entry)) 0 m (edge 0 (cellAt (now (cells .entry)) c) e) (now (xs .exit)) (now (ys .exit)) (now (heads .exit)) (now (links .exit)) (r .at) (r .n) ⌝ }
+    ensures { λ r. ⌜ Inserted (was xs) (was ys) 0 m (edge 0 (cellAt (was cells) c) e) (is xs) (is ys) (is heads) (is links) (r .at) (r .n) ⌝ }
 {
     let ends = rows::edge_of(cells, c, e);
     edges::insert(xs, ys, heads, links, 0, m, ends.a, ends.b)
@@ -122,8 +123,8 @@ fn split_edge(
     requires { ⌜ (8 * c + 8 ≤ length (now cells)) × (e < 6) × (n + m < 65536) ⌝ }
     requires { ⌜ Edges (now xs) (now ys) (now heads) (now links) 0 m ⌝ }
     requires { ⌜ Space (now xs) (now ys) (now links) m (length (splitAt pattern (cellAt (now cells) c) e)) ⌝ }
-    ensures { λ r. ⌜ Grown (now (xs .entry)) (now (ys .entry)) 0 m (splitAt pattern (cellAt (now (cells .entry)) c) e) (now (xs .exit)) (now (ys .exit)) (now (heads .exit)) (now (links .exit)) r ⌝ }
-    ensures { λ r. ⌜ now (points .exit) ≡ marked n (listed (now (xs .exit)) (now (ys .exit)) 0 r) (cellAt (now (cells .entry)) c) pattern e (now (points .entry)) ⌝ }
+    ensures { λ r. ⌜ Grown (was xs) (was ys) 0 m (splitAt pattern (cellAt (was cells) c) e) (is xs) (is ys) (is heads) (is links) r ⌝ }
+    ensures { λ r. ⌜ is points ≡ marked n (listed (is xs) (is ys) 0 r) (cellAt (was cells) c) pattern e (was points) ⌝ }
 {
     if !is_split(pattern, e) {
         return m;
@@ -153,8 +154,8 @@ fn points_of(
     m: usize,
 ) -> Ten
     requires { ⌜ Ready (now cells) (now xs) (now ys) (now heads) (now links) c status n m ⌝ }
-    ensures { λ r. ⌜ Grown (now (xs .entry)) (now (ys .entry)) 0 m (splitEdges 0 (cellAt (now (cells .entry)) c) status) (now (xs .exit)) (now (ys .exit)) (now (heads .exit)) (now (links .exit)) (r .m) ⌝ }
-    ensures { λ r. ⌜ Points n (listed (now (xs .exit)) (now (ys .exit)) 0 (r .m)) (cellAt (now (cells .entry)) c) (patternOf status) (r .numbers) ⌝ }
+    ensures { λ r. ⌜ Grown (was xs) (was ys) 0 m (splitEdges 0 (cellAt (was cells) c) status) (is xs) (is ys) (is heads) (is links) (r .m) ⌝ }
+    ensures { λ r. ⌜ Points n (listed (is xs) (is ys) 0 (r .m)) (cellAt (was cells) c) (patternOf status) (r .numbers) ⌝ }
 {
     let pattern = pattern_of(status);
     let mut points = corners_of(cells, c);
@@ -190,7 +191,7 @@ fn flag(regular: bool) -> u16
 // The number of the point whose digit stands at a place of the family.
 fn number(points: &[u16; 10], digits: &[u8; 32], j: usize) -> u16
     requires { ⌜ (j < 32) × (getD (now digits) j 0 < 10) ⌝ }
-    ensures { λ r. ⌜ r ≡ getD (now (points .entry)) (getD (now (digits .entry)) j 0) 0 ⌝ }
+    ensures { λ r. ⌜ r ≡ getD (was points) (getD (was digits) j 0) 0 ⌝ }
 {
     points[digits[j] as usize]
 }
@@ -208,7 +209,7 @@ fn write_child(
 )
     requires { ⌜ (8 * at + 8 ≤ length (now cells)) × (i < 8) ⌝ }
     requires { ⌜ ((j : ℕ) → getD (now digits) j 0 < 10) ⌝ }
-    ensures { λ u. ⌜ now (cells .exit) ≡ written (now (cells .entry)) (8 * at) (level ∷ parent ∷ i ∷ regular ∷ map (λ d. getD (now (points .entry)) d 0) (fourAt (now (digits .entry)) (4 * i))) ⌝ }
+    ensures { λ u. ⌜ is cells ≡ written (was cells) (8 * at) (level ∷ parent ∷ i ∷ regular ∷ map (λ d. getD (was points) d 0) (fourAt (was digits) (4 * i))) ⌝ }
 {
     let j = 4 * i;
     let p = number(points, digits, j);
@@ -232,7 +233,7 @@ fn write_children(
     requires { ⌜ (pattern < 64) × (8 * (at + length (family pattern)) ≤ length (now cells)) ⌝ }
     requires { ⌜ now digits ≡ digitTable ⌝ }
     ensures { λ r. ⌜ r ≡ at + length (family pattern) ⌝ }
-    ensures { λ r. ⌜ now (cells .exit) ≡ written (now (cells .entry)) (8 * at) (rowsFrom level parent regular (λ d. getD (now (points .entry)) d 0) 0 (family pattern)) ⌝ }
+    ensures { λ r. ⌜ is cells ≡ written (was cells) (8 * at) (rowsFrom level parent regular (λ d. getD (was points) d 0) 0 (family pattern)) ⌝ }
 {
     let whole = cutting::cut_from(digits, pattern);
     let own = whole.digits;
@@ -268,7 +269,7 @@ fn refine(
     requires { ⌜ (c < at) × (status ≤ 64) × (at + sizeOf status ≤ 4096) × (8 * (at + sizeOf status) ≤ length (now cells)) ⌝ }
     requires { ⌜ Ready (now cells) (now xs) (now ys) (now heads) (now links) c status n m ⌝ }
     requires { ⌜ now digits ≡ digitTable ⌝ }
-    ensures { λ r. ⌜ Laid (now (cells .entry)) (now (xs .entry)) (now (ys .entry)) c status level at n m (now (cells .exit)) (now (xs .exit)) (now (ys .exit)) (now (heads .exit)) (now (links .exit)) (r .at) (r .m) ⌝ }
+    ensures { λ r. ⌜ Laid (was cells) (was xs) (was ys) c status level at n m (is cells) (is xs) (is ys) (is heads) (is links) (r .at) (r .m) ⌝ }
 {
     if status == 0 {
         return Refined { at, m };
@@ -309,7 +310,7 @@ pub fn grow_level(
 ) -> Refined
     requires { ⌜ Roomy (now cells) (now xs) (now ys) (now heads) (now links) (now status) first last at n m ⌝ }
     requires { ⌜ now digits ≡ digitTable ⌝ }
-    ensures { λ r. ⌜ Grows (now (cells .entry)) (now (xs .entry)) (now (ys .entry)) (now (status .entry)) first (last - first) level at n m (now (cells .exit)) (now (xs .exit)) (now (ys .exit)) (now (heads .exit)) (now (links .exit)) (r .at) (r .m) ⌝ }
+    ensures { λ r. ⌜ Grows (was cells) (was xs) (was ys) (was status) first (last - first) level at n m (is cells) (is xs) (is ys) (is heads) (is links) (r .at) (r .m) ⌝ }
 {
     let mut next = at;
     let mut k = m;

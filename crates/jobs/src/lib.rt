@@ -4,6 +4,7 @@ ghost use mathlib.Core.List.{_++_};
 ghost use Prim.Native.Nat.{_+_, _*_, _≤_};
 ghost use lib.Dec.{leb};
 ghost use lib.ListN.{length, drop};
+ghost use Rattle.base.specs.Lent.{was, is};
 ghost use Rattle.layout.specs.Calls.{heldAfter};
 ghost use Rattle.archive.specs.Job.{jobBytes};
 ghost use Rattle.archive.specs.Form.{jobOf};
@@ -65,7 +66,7 @@ fn failed(refusal: u8) -> Done
 // Replays an archive; its table is in front of the lent one. Refusals 17, 1 to 5 and 7 to 9.
 fn reopen(bytes: &[u8], table: &mut [u8]) -> Done
     requires { ⌜ 4096 ≤ length (now table) ⌝ }
-    ensures { λ r. ⌜ Reopened (now (bytes .entry)) (now (table .exit)) (r .refusal) (r .coarse) (r .cells) (r .levels) ⌝ }
+    ensures { λ r. ⌜ Reopened (was bytes) (is table) (r .refusal) (r .coarse) (r .cells) (r .levels) ⌝ }
 {
     let f = archive::examine_form(bytes);
     if !f.ok {
@@ -113,11 +114,11 @@ fn reopen(bytes: &[u8], table: &mut [u8]) -> Done
 
 // Replays an archive: its table in the one lent, and the counts of every level. Refusals 15, 17, 1 to 5 and 7 to 9.
 pub fn replay(bytes: &[u8], table: &mut [u8], counts: &mut [u16]) -> Replayed
-    ensures { λ r. ⌜ r ≡ replayedOf (replayAnswer (now (bytes .entry)) (now (table .entry)) (now (counts .entry))) (sizeOf (jobOf (now (bytes .entry)))) ⌝ }
-    ensures { λ r. ⌜ now (table .exit)
-        ≡ heldAfter (replayAnswer (now (bytes .entry)) (now (table .entry)) (now (counts .entry))) (jobTable (jobOf (now (bytes .entry)))) (now (table .entry)) ⌝ }
-    ensures { λ r. ⌜ now (counts .exit)
-        ≡ heldAfter (replayAnswer (now (bytes .entry)) (now (table .entry)) (now (counts .entry))) (jobCounts (jobOf (now (bytes .entry)))) (now (counts .entry)) ⌝ }
+    ensures { λ r. ⌜ r ≡ replayedOf (replayAnswer (was bytes) (was table) (was counts)) (sizeOf (jobOf (was bytes))) ⌝ }
+    ensures { λ r. ⌜ is table
+        ≡ heldAfter (replayAnswer (was bytes) (was table) (was counts)) (jobTable (jobOf (was bytes))) (was table) ⌝ }
+    ensures { λ r. ⌜ is counts
+        ≡ heldAfter (replayAnswer (was bytes) (was table) (was counts)) (jobCounts (jobOf (was bytes))) (was counts) ⌝ }
 {
     if table.len() < 4096 {
         return Replayed::Refused(15);
@@ -141,7 +142,7 @@ pub fn replay(bytes: &[u8], table: &mut [u8], counts: &mut [u16]) -> Replayed
 
 // Whether the tables lent for a job are long enough.
 fn lent(positions: &[i32], cells: &[u16], marked: &[u16], marks: &[u8], ends: &[u16]) -> bool
-    ensures { λ r. ⌜ r ≡ roomb (now (positions .entry)) (now (cells .entry)) (now (marked .entry)) (now (marks .entry)) (now (ends .entry)) ⌝ }
+    ensures { λ r. ⌜ r ≡ roomb (was positions) (was cells) (was marked) (was marks) (was ends) ⌝ }
 {
     if positions.len() < 1536 {
         return false;
@@ -169,23 +170,23 @@ pub fn read(
     ends: &mut [u16],
 ) -> Reading
     ensures { λ r. ⌜ r
-        ≡ readingOf (readAnswer (now (bytes .entry)) (now (positions .entry)) (now (cells .entry)) (now (marked .entry)) (now (marks .entry)) (now (ends .entry)))
-        (lengthsOf (jobOf (now (bytes .entry)))) ⌝ }
-    ensures { λ r. ⌜ now (positions .exit)
-        ≡ heldAfter (readAnswer (now (bytes .entry)) (now (positions .entry)) (now (cells .entry)) (now (marked .entry)) (now (marks .entry)) (now (ends .entry)))
-        (jobOf (now (bytes .entry)) .positions) (now (positions .entry)) ⌝ }
-    ensures { λ r. ⌜ now (cells .exit)
-        ≡ heldAfter (readAnswer (now (bytes .entry)) (now (positions .entry)) (now (cells .entry)) (now (marked .entry)) (now (marks .entry)) (now (ends .entry)))
-        (jobOf (now (bytes .entry)) .cells) (now (cells .entry)) ⌝ }
-    ensures { λ r. ⌜ now (marked .exit)
-        ≡ heldAfter (readAnswer (now (bytes .entry)) (now (positions .entry)) (now (cells .entry)) (now (marked .entry)) (now (marks .entry)) (now (ends .entry)))
-        (markedOf (jobOf (now (bytes .entry)) .steps)) (now (marked .entry)) ⌝ }
-    ensures { λ r. ⌜ now (marks .exit)
-        ≡ heldAfter (readAnswer (now (bytes .entry)) (now (positions .entry)) (now (cells .entry)) (now (marked .entry)) (now (marks .entry)) (now (ends .entry)))
-        (marksOf (jobOf (now (bytes .entry)) .steps)) (now (marks .entry)) ⌝ }
-    ensures { λ r. ⌜ now (ends .exit)
-        ≡ heldAfter (readAnswer (now (bytes .entry)) (now (positions .entry)) (now (cells .entry)) (now (marked .entry)) (now (marks .entry)) (now (ends .entry)))
-        (endsOf (jobOf (now (bytes .entry)) .steps)) (now (ends .entry)) ⌝ }
+        ≡ readingOf (readAnswer (was bytes) (was positions) (was cells) (was marked) (was marks) (was ends))
+        (lengthsOf (jobOf (was bytes))) ⌝ }
+    ensures { λ r. ⌜ is positions
+        ≡ heldAfter (readAnswer (was bytes) (was positions) (was cells) (was marked) (was marks) (was ends))
+        (jobOf (was bytes) .positions) (was positions) ⌝ }
+    ensures { λ r. ⌜ is cells
+        ≡ heldAfter (readAnswer (was bytes) (was positions) (was cells) (was marked) (was marks) (was ends))
+        (jobOf (was bytes) .cells) (was cells) ⌝ }
+    ensures { λ r. ⌜ is marked
+        ≡ heldAfter (readAnswer (was bytes) (was positions) (was cells) (was marked) (was marks) (was ends))
+        (markedOf (jobOf (was bytes) .steps)) (was marked) ⌝ }
+    ensures { λ r. ⌜ is marks
+        ≡ heldAfter (readAnswer (was bytes) (was positions) (was cells) (was marked) (was marks) (was ends))
+        (marksOf (jobOf (was bytes) .steps)) (was marks) ⌝ }
+    ensures { λ r. ⌜ is ends
+        ≡ heldAfter (readAnswer (was bytes) (was positions) (was cells) (was marked) (was marks) (was ends))
+        (endsOf (jobOf (was bytes) .steps)) (was ends) ⌝ }
 {
     if !lent(positions, cells, marked, marks, ends) {
         return Reading::Refused(15);
@@ -231,13 +232,13 @@ pub fn write(
 ) -> Writing
     ensures { λ r. ⌜ r
         ≡ writingOf
-        (writeAnswer (now (positions .entry)) (now (cells .entry)) (now (marked .entry)) (now (marks .entry)) (now (ends .entry)) (now (bytes .entry)))
-        (length (jobBytes (jobFrom (now (positions .entry)) (now (cells .entry)) (now (marked .entry)) (now (marks .entry)) (now (ends .entry))))) ⌝ }
-    ensures { λ r. ⌜ now (bytes .exit)
+        (writeAnswer (was positions) (was cells) (was marked) (was marks) (was ends) (was bytes))
+        (length (jobBytes (jobFrom (was positions) (was cells) (was marked) (was marks) (was ends)))) ⌝ }
+    ensures { λ r. ⌜ is bytes
         ≡ heldAfter
-        (writeAnswer (now (positions .entry)) (now (cells .entry)) (now (marked .entry)) (now (marks .entry)) (now (ends .entry)) (now (bytes .entry)))
-        (jobBytes (jobFrom (now (positions .entry)) (now (cells .entry)) (now (marked .entry)) (now (marks .entry)) (now (ends .entry))))
-        (now (bytes .entry)) ⌝ }
+        (writeAnswer (was positions) (was cells) (was marked) (was marks) (was ends) (was bytes))
+        (jobBytes (jobFrom (was positions) (was cells) (was marked) (was marks) (was ends)))
+        (was bytes) ⌝ }
 {
     if bytes.len() < 65536 {
         return Writing::Refused(15);
@@ -260,8 +261,8 @@ pub fn write(
 
 // Lists an archive. Gives how many bytes the listing has.
 pub fn list(bytes: &[u8], out: &mut [u8; 512]) -> usize
-    ensures { λ r. ⌜ now (out .exit) ≡ listingOf (now (bytes .entry)) ++ drop (length (listingOf (now (bytes .entry)))) (now (out .entry)) ⌝ }
-    ensures { λ r. ⌜ r ≡ length (listingOf (now (bytes .entry))) ⌝ }
+    ensures { λ r. ⌜ is out ≡ listingOf (was bytes) ++ drop (length (listingOf (was bytes))) (was out) ⌝ }
+    ensures { λ r. ⌜ r ≡ length (listingOf (was bytes)) ⌝ }
 {
     let mut table = [0u8; 4096];
     let mut counts = [0u16; 44];

@@ -5,6 +5,7 @@ ghost use mathlib.Core.Path.{_≡_};
 ghost use mathlib.Core.List.{_++_};
 ghost use Prim.Native.Nat.{_≤_};
 ghost use lib.ListN.{length, take, drop, getD};
+ghost use Rattle.base.specs.Lent.{was, is};
 ghost use Rattle.mesh.specs.Layout.{cellTable, endTable, sumTable};
 ghost use Rattle.mesh.specs.Counts.{countTable};
 ghost use Rattle.ancestors.specs.Linked.{ancestorOf, noCell};
@@ -72,7 +73,7 @@ pub fn open(
     ys: &mut [u32],
 ) -> Found
     requires { ⌜ Sized (now rows) (now xs) (now ys) ⌝ }
-    ensures { λ r. ⌜ Opened (now (positions .entry)) (now (cells .entry)) (now (status .entry)) (now (rows .exit)) (now (xs .exit)) (now (ys .exit)) (r .refusal) (r .cells) (r .levels) (r .mids) ⌝ }
+    ensures { λ r. ⌜ Opened (was positions) (was cells) (was status) (is rows) (is xs) (is ys) (r .refusal) (r .cells) (r .levels) (r .mids) ⌝ }
 {
     let refusal = code(coarse::examine_mesh(positions, cells));
     if refusal != 0 {
@@ -92,7 +93,7 @@ pub fn open(
 
 // Whether a mesh and a table over it are accepted, and if not, why: refusals 1 to 6.
 pub fn examine_table(positions: &[i32], cells: &[u16], status: &[u8]) -> Answer
-    ensures { λ r. ⌜ r ≡ tableAnswer (now (positions .entry)) (now (cells .entry)) (now (status .entry)) ⌝ }
+    ensures { λ r. ⌜ r ≡ tableAnswer (was positions) (was cells) (was status) ⌝ }
 {
     let mut rows = [0u16; 32768];
     let mut xs = [0u32; 4096];
@@ -106,7 +107,7 @@ pub fn examine_table(positions: &[i32], cells: &[u16], status: &[u8]) -> Answer
 
 // Whether the lent tables are long enough.
 fn lent(table: &[u16], ends: &[u16], sums: &[i32]) -> bool
-    ensures { λ r. ⌜ r ≡ lentb (now (table .entry)) (now (ends .entry)) (now (sums .entry)) ⌝ }
+    ensures { λ r. ⌜ r ≡ lentb (was table) (was ends) (was sums) ⌝ }
 {
     if table.len() < 32768 {
         return false;
@@ -120,7 +121,7 @@ fn lent(table: &[u16], ends: &[u16], sums: &[i32]) -> bool
 // Copies the first n numbers.
 pub fn copy(from: &[u16], n: usize, to: &mut [u16])
     requires { ⌜ (n ≤ length (now from)) × (n ≤ length (now to)) ⌝ }
-    ensures { λ r. ⌜ now (to .exit) ≡ take n (now (from .entry)) ++ drop n (now (to .entry)) ⌝ }
+    ensures { λ r. ⌜ is to ≡ take n (was from) ++ drop n (was to) ⌝ }
 {
     for i in 0..n {
         to[i] = from[i];
@@ -137,20 +138,20 @@ pub fn lay_out(
     sums: &mut [i32],
 ) -> Laid
     ensures { λ r. ⌜ r
-        ≡ laidOf (layoutAnswer (now (positions .entry)) (now (cells .entry)) (now (status .entry)) (now (table .entry)) (now (ends .entry)) (now (sums .entry)))
-        (sizesOf (now (positions .entry)) (now (cells .entry)) (now (status .entry))) ⌝ }
-    ensures { λ r. ⌜ now (table .exit)
-        ≡ heldAfter (layoutAnswer (now (positions .entry)) (now (cells .entry)) (now (status .entry)) (now (table .entry)) (now (ends .entry)) (now (sums .entry)))
-        (cellTable (cornersIn (now (positions .entry)) (now (cells .entry)) (now (status .entry))) (cellsIn (now (positions .entry)) (now (cells .entry)) (now (status .entry))))
-        (now (table .entry)) ⌝ }
-    ensures { λ r. ⌜ now (ends .exit)
-        ≡ heldAfter (layoutAnswer (now (positions .entry)) (now (cells .entry)) (now (status .entry)) (now (table .entry)) (now (ends .entry)) (now (sums .entry)))
-        (endTable (cornersIn (now (positions .entry)) (now (cells .entry)) (now (status .entry))))
-        (now (ends .entry)) ⌝ }
-    ensures { λ r. ⌜ now (sums .exit)
-        ≡ heldAfter (layoutAnswer (now (positions .entry)) (now (cells .entry)) (now (status .entry)) (now (table .entry)) (now (ends .entry)) (now (sums .entry)))
-        (sumTable (now (positions .entry)) (cornersIn (now (positions .entry)) (now (cells .entry)) (now (status .entry))))
-        (now (sums .entry)) ⌝ }
+        ≡ laidOf (layoutAnswer (was positions) (was cells) (was status) (was table) (was ends) (was sums))
+        (sizesOf (was positions) (was cells) (was status)) ⌝ }
+    ensures { λ r. ⌜ is table
+        ≡ heldAfter (layoutAnswer (was positions) (was cells) (was status) (was table) (was ends) (was sums))
+        (cellTable (cornersIn (was positions) (was cells) (was status)) (cellsIn (was positions) (was cells) (was status)))
+        (was table) ⌝ }
+    ensures { λ r. ⌜ is ends
+        ≡ heldAfter (layoutAnswer (was positions) (was cells) (was status) (was table) (was ends) (was sums))
+        (endTable (cornersIn (was positions) (was cells) (was status)))
+        (was ends) ⌝ }
+    ensures { λ r. ⌜ is sums
+        ≡ heldAfter (layoutAnswer (was positions) (was cells) (was status) (was table) (was ends) (was sums))
+        (sumTable (was positions) (cornersIn (was positions) (was cells) (was status)))
+        (was sums) ⌝ }
 {
     if !lent(table, ends, sums) {
         return Laid::Refused(15);
@@ -176,8 +177,8 @@ pub fn lay_out(
 // A cell's coarse ancestor and level. Refusals 1 to 6, then 7 where there is no such cell.
 pub fn ancestor(positions: &[i32], cells: &[u16], status: &[u8], cell: usize) -> Ancestry
     ensures { λ r. ⌜ r
-        ≡ ancestryOf (ancestorAnswer (now (positions .entry)) (now (cells .entry)) (now (status .entry)) cell)
-        (ancestorOf (getD (cellsIn (now (positions .entry)) (now (cells .entry)) (now (status .entry))) cell noCell)) ⌝ }
+        ≡ ancestryOf (ancestorAnswer (was positions) (was cells) (was status) cell)
+        (ancestorOf (getD (cellsIn (was positions) (was cells) (was status)) cell noCell)) ⌝ }
 {
     let mut rows = [0u16; 32768];
     let mut xs = [0u32; 4096];
@@ -195,12 +196,12 @@ pub fn ancestor(positions: &[i32], cells: &[u16], status: &[u8], cell: usize) ->
 // The counts of every level, four numbers each: cells, red, green, leaf. Refusals 15 and 1 to 6.
 pub fn counts(positions: &[i32], cells: &[u16], status: &[u8], counts: &mut [u16]) -> Counted
     ensures { λ r. ⌜ r
-        ≡ countedOf (countsAnswer (now (positions .entry)) (now (cells .entry)) (now (status .entry)) (now (counts .entry)))
-        (length (levelsIn (now (positions .entry)) (now (cells .entry)) (now (status .entry)))) ⌝ }
-    ensures { λ r. ⌜ now (counts .exit)
-        ≡ heldAfter (countsAnswer (now (positions .entry)) (now (cells .entry)) (now (status .entry)) (now (counts .entry)))
-        (countTable (levelsIn (now (positions .entry)) (now (cells .entry)) (now (status .entry))))
-        (now (counts .entry)) ⌝ }
+        ≡ countedOf (countsAnswer (was positions) (was cells) (was status) (was counts))
+        (length (levelsIn (was positions) (was cells) (was status))) ⌝ }
+    ensures { λ r. ⌜ is counts
+        ≡ heldAfter (countsAnswer (was positions) (was cells) (was status) (was counts))
+        (countTable (levelsIn (was positions) (was cells) (was status)))
+        (was counts) ⌝ }
 {
     if counts.len() < 44 {
         return Counted::Refused(15);

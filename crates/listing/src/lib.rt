@@ -3,12 +3,13 @@ ghost use mathlib.Core.Path.{_≡_};
 ghost use mathlib.Core.List.{[], _∷_, _++_};
 ghost use Prim.Native.Nat.{_+_, _*_, _%_, _≤_, _<_};
 ghost use lib.ListN.{length, drop};
+ghost use Rattle.base.specs.Lent.{was, is};
 ghost use Rattle.listing.specs.Lines.{digits, decimal, fields, lines, listing, refusal};
 ghost use Rattle.listing.specs.Put.{Put};
 
 fn put_byte(out: &mut [u8], at: usize, b: u8) -> usize
     requires { ⌜ at < length (now out) ⌝ }
-    ensures { λ r. ⌜ Put (now (out .entry)) at (b ∷ []) (now (out .exit)) r ⌝ }
+    ensures { λ r. ⌜ Put (was out) at (b ∷ []) (is out) r ⌝ }
 {
     out[at] = b;
     at + 1
@@ -16,7 +17,7 @@ fn put_byte(out: &mut [u8], at: usize, b: u8) -> usize
 
 fn put_text(out: &mut [u8], at: usize, text: &[u8]) -> usize
     requires { ⌜ at + length (now text) ≤ length (now out) ⌝ }
-    ensures { λ r. ⌜ Put (now (out .entry)) at (now (text .entry)) (now (out .exit)) r ⌝ }
+    ensures { λ r. ⌜ Put (was out) at (was text) (is out) r ⌝ }
 {
     let mut i = 0;
     while i < text.len() {
@@ -29,7 +30,7 @@ fn put_text(out: &mut [u8], at: usize, text: &[u8]) -> usize
 // The last digit.
 fn put_digit(out: &mut [u8], at: usize, n: u16) -> usize
     requires { ⌜ at < length (now out) ⌝ }
-    ensures { λ r. ⌜ Put (now (out .entry)) at ((48 + n % 10) ∷ []) (now (out .exit)) r ⌝ }
+    ensures { λ r. ⌜ Put (was out) at ((48 + n % 10) ∷ []) (is out) r ⌝ }
 {
     out[at] = 48 + (n % 10) as u8;
     at + 1
@@ -38,7 +39,7 @@ fn put_digit(out: &mut [u8], at: usize, n: u16) -> usize
 // At most more + 1 digits.
 fn put_digits(out: &mut [u8], at: usize, n: u16, more: usize) -> usize
     requires { ⌜ at + more + 1 ≤ length (now out) ⌝ }
-    ensures { λ r. ⌜ Put (now (out .entry)) at (digits more n) (now (out .exit)) r ⌝ }
+    ensures { λ r. ⌜ Put (was out) at (digits more n) (is out) r ⌝ }
 {
     if more == 0 {
         return put_digit(out, at, n);
@@ -52,7 +53,7 @@ fn put_digits(out: &mut [u8], at: usize, n: u16, more: usize) -> usize
 
 fn put_number(out: &mut [u8], at: usize, n: u16) -> usize
     requires { ⌜ at + 5 ≤ length (now out) ⌝ }
-    ensures { λ r. ⌜ Put (now (out .entry)) at (decimal n) (now (out .exit)) r ⌝ }
+    ensures { λ r. ⌜ Put (was out) at (decimal n) (is out) r ⌝ }
 {
     put_digits(out, at, n, 4)
 }
@@ -60,7 +61,7 @@ fn put_number(out: &mut [u8], at: usize, n: u16) -> usize
 // A number and the byte behind it.
 fn put_field(out: &mut [u8], at: usize, n: u16, end: u8) -> usize
     requires { ⌜ at + 6 ≤ length (now out) ⌝ }
-    ensures { λ r. ⌜ Put (now (out .entry)) at (decimal n ++ (end ∷ [])) (now (out .exit)) r ⌝ }
+    ensures { λ r. ⌜ Put (was out) at (decimal n ++ (end ∷ [])) (is out) r ⌝ }
 {
     let p = put_number(out, at, n);
     put_byte(out, p, end)
@@ -76,7 +77,7 @@ fn put_line(
     leaf: u16,
 ) -> usize
     requires { ⌜ at + 30 ≤ length (now out) ⌝ }
-    ensures { λ r. ⌜ Put (now (out .entry)) at (fields (level ∷ cells ∷ red ∷ green ∷ leaf ∷ [])) (now (out .exit)) r ⌝ }
+    ensures { λ r. ⌜ Put (was out) at (fields (level ∷ cells ∷ red ∷ green ∷ leaf ∷ [])) (is out) r ⌝ }
 {
     let p = put_field(out, at, level, b' ');
     let q = put_field(out, p, cells, b' ');
@@ -88,7 +89,7 @@ fn put_line(
 // A line for each level.
 fn put_lines(out: &mut [u8], at: usize, counts: &[u16]) -> usize
     requires { ⌜ (length (now counts) ≤ 44) × (at + 8 * length (now counts) ≤ length (now out)) ⌝ }
-    ensures { λ r. ⌜ Put (now (out .entry)) at (lines 0 (now (counts .entry))) (now (out .exit)) r ⌝ }
+    ensures { λ r. ⌜ Put (was out) at (lines 0 (was counts)) (is out) r ⌝ }
 {
     let mut level = 0;
     let mut p = at;
@@ -112,8 +113,8 @@ fn put_lines(out: &mut [u8], at: usize, counts: &[u16]) -> usize
 pub fn write_listing(counts: &[u16], out: &mut [u8]) -> usize
     requires { ⌜ length (now counts) ≤ 44 ⌝ }
     requires { ⌜ 512 ≤ length (now out) ⌝ }
-    ensures { λ r. ⌜ now (out .exit) ≡ listing (now (counts .entry)) ++ drop (length (listing (now (counts .entry)))) (now (out .entry)) ⌝ }
-    ensures { λ r. ⌜ r ≡ length (listing (now (counts .entry))) ⌝ }
+    ensures { λ r. ⌜ is out ≡ listing (was counts) ++ drop (length (listing (was counts))) (was out) ⌝ }
+    ensures { λ r. ⌜ r ≡ length (listing (was counts)) ⌝ }
 {
     let p = put_text(out, 0, b"level cells red green leaf\n");
     put_lines(out, p, counts)
@@ -122,7 +123,7 @@ pub fn write_listing(counts: &[u16], out: &mut [u8]) -> usize
 // The line of a refused archive.
 pub fn write_refusal(k: u8, out: &mut [u8]) -> usize
     requires { ⌜ 14 ≤ length (now out) ⌝ }
-    ensures { λ r. ⌜ now (out .exit) ≡ refusal k ++ drop (length (refusal k)) (now (out .entry)) ⌝ }
+    ensures { λ r. ⌜ is out ≡ refusal k ++ drop (length (refusal k)) (was out) ⌝ }
     ensures { λ r. ⌜ r ≡ length (refusal k) ⌝ }
 {
     let p = put_text(out, 0, b"refused ");

@@ -4,6 +4,7 @@
 ghost use mathlib.Core.Path.{_≡_};
 ghost use Prim.Native.Nat.{_+_, _-_, _<_, _≤_};
 ghost use lib.ListN.{length};
+ghost use Rattle.base.specs.Lent.{was, is};
 ghost use Rattle.pairs.specs.Keys.{bucket, hereb, seek, Keys, Room, Clear, Added};
 
 // The bucket that the pair lies in.
@@ -16,7 +17,7 @@ fn bucket_of(x: u32, y: u32) -> usize
 // Whether entry e is the pair.
 fn stands(xs: &[u32], ys: &[u32], e: usize, x: u32, y: u32) -> bool
     requires { ⌜ (e < length (now xs)) × (e < length (now ys)) ⌝ }
-    ensures { λ r. ⌜ r ≡ hereb (now (xs .entry)) (now (ys .entry)) x y e ⌝ }
+    ensures { λ r. ⌜ r ≡ hereb (was xs) (was ys) x y e ⌝ }
 {
     if xs[e] == x { ys[e] == y } else { false }
 }
@@ -24,7 +25,7 @@ fn stands(xs: &[u32], ys: &[u32], e: usize, x: u32, y: u32) -> bool
 // Makes the table empty.
 pub fn clear(heads: &mut [u16])
     requires { ⌜ 4096 ≤ length (now heads) ⌝ }
-    ensures { λ r. ⌜ Clear (now (heads .exit)) ⌝ }
+    ensures { λ r. ⌜ Clear (is heads) ⌝ }
 {
     for b in 0..4096 {
         heads[b] = 65535;
@@ -43,7 +44,7 @@ pub fn find(
     y: u32,
 ) -> usize
     requires { ⌜ Keys (now xs) (now ys) (now heads) (now links) n ⌝ }
-    ensures { λ r. ⌜ r ≡ seek (now (xs .entry)) (now (ys .entry)) x y from (n - from) ⌝ }
+    ensures { λ r. ⌜ r ≡ seek (was xs) (was ys) x y from (n - from) ⌝ }
 {
     let b = bucket_of(x, y);
     let mut e = heads[b];
@@ -72,7 +73,7 @@ pub fn add(
 )
     requires { ⌜ Keys (now xs) (now ys) (now heads) (now links) n ⌝ }
     requires { ⌜ Room (now xs) (now ys) (now links) n ⌝ }
-    ensures { λ r. ⌜ Added (now (xs .entry)) (now (ys .entry)) n x y (now (xs .exit)) (now (ys .exit)) (now (heads .exit)) (now (links .exit)) ⌝ }
+    ensures { λ r. ⌜ Added (was xs) (was ys) n x y (is xs) (is ys) (is heads) (is links) ⌝ }
 {
     let b = bucket_of(x, y);
     let before = heads[b];

@@ -3,6 +3,7 @@ ghost use mathlib.Core.Path.{_≡_};
 ghost use Prim.Native.Nat.{_<_};
 ghost use lib.ListN.{length, getD};
 ghost use lib.IntN.{pos};
+ghost use Rattle.base.specs.Lent.{was};
 ghost use Rattle.position.specs.Position.{coordinateOf, positionOf};
 
 pub struct Point {
@@ -19,7 +20,7 @@ pub enum Position {
 // The weighted sum at a place of the table, over 1,024.
 fn coordinate(sums: &[i32], at: usize) -> f64
     requires { ⌜ at < length (now sums) ⌝ }
-    ensures { λ r. ⌜ r ≡ coordinateOf (getD (now (sums .entry)) at (pos 0)) ⌝ }
+    ensures { λ r. ⌜ r ≡ coordinateOf (getD (was sums) at (pos 0)) ⌝ }
 {
     sums[at] as f64 / 1024.0
 }
@@ -27,7 +28,7 @@ fn coordinate(sums: &[i32], at: usize) -> f64
 // The position of a corner. A mesh of so many corners has three weighted sums for each, in a table of 49,152.
 // 15 where the table is shorter, 7 where there is no such corner.
 pub fn position_of(sums: &[i32], corners: usize, corner: usize) -> Position
-    ensures { λ r. ⌜ r ≡ positionOf (now (sums .entry)) corners corner ⌝ }
+    ensures { λ r. ⌜ r ≡ positionOf (was sums) corners corner ⌝ }
 {
     if sums.len() < 49152 {
         return Position::Refused(15);

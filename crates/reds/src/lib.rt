@@ -7,6 +7,7 @@ ghost use lib.Dec.{leb};
 ghost use lib.ListN.{length, take, drop};
 ghost use Rattle.base.specs.Fours.{fours};
 ghost use Rattle.base.specs.Lists.{allb, anyb};
+ghost use Rattle.base.specs.Lent.{was, is};
 ghost use Rattle.edges.specs.Table.{Table};
 ghost use Rattle.closure.specs.Ready.{Looks};
 ghost use Rattle.lineage.specs.Olds.{flagOf, flagTable};
@@ -17,7 +18,7 @@ ghost use Rattle.reds.specs.Old.{Old, Span, OneLevel, Above, Marked, Roo
 pub fn first_children(status: &[u8], coarse: usize, kids: &mut [u16])
     requires { ⌜ allb (λ s. leb s 64) (now status) ≡ true ⌝ }
     requires { ⌜ (length (now status) ≤ 4096) × (length (now status) < length (now kids)) × (coarse ≤ 256) ⌝ }
-    ensures { λ r. ⌜ now (kids .exit) ≡ firstChildren coarse (now (status .entry)) ++ drop (suc (length (now (status .entry)))) (now (kids .entry)) ⌝ }
+    ensures { λ r. ⌜ is kids ≡ firstChildren coarse (was status) ++ drop (suc (length (was status))) (was kids) ⌝ }
 {
     let mut at = coarse;
     let mut c = 0;
@@ -44,7 +45,7 @@ fn is_idle(
 ) -> bool
     requires { ⌜ Looks (now rows) (now xs) (now ys) (now heads) (now links) (j + 1) from n ⌝ }
     requires { ⌜ (j < length (now status)) × (j < length (now marks)) ⌝ }
-    ensures { λ r. ⌜ r ≡ idleb (now (rows .entry)) (now (status .entry)) (now (marks .entry)) (listedb (now (xs .entry)) (now (ys .entry)) from n) j ⌝ }
+    ensures { λ r. ⌜ r ≡ idleb (was rows) (was status) (was marks) (listedb (was xs) (was ys) from n) j ⌝ }
 {
     if status[j] != 0 {
         return false;
@@ -71,7 +72,7 @@ fn are_idle(
 ) -> bool
     requires { ⌜ Looks (now rows) (now xs) (now ys) (now heads) (now links) last from n ⌝ }
     requires { ⌜ (last ≤ length (now status)) × (last ≤ length (now marks)) ⌝ }
-    ensures { λ r. ⌜ r ≡ allb (idleb (now (rows .entry)) (now (status .entry)) (now (marks .entry)) (listedb (now (xs .entry)) (now (ys .entry)) from n)) (range first (last - first)) ⌝ }
+    ensures { λ r. ⌜ r ≡ allb (idleb (was rows) (was status) (was marks) (listedb (was xs) (was ys) from n)) (range first (last - first)) ⌝ }
 {
     let mut j = first;
     while j < last {
@@ -97,7 +98,7 @@ fn is_touched(
 ) -> bool
     requires { ⌜ Looks (now rows) (now xs) (now ys) (now heads) (now links) (j + 1) from n ⌝ }
     requires { ⌜ 8 * g + 8 ≤ length (now rows) ⌝ }
-    ensures { λ r. ⌜ r ≡ touchedb (now (rows .entry)) (listedb (now (xs .entry)) (now (ys .entry)) from n) g j ⌝ }
+    ensures { λ r. ⌜ r ≡ touchedb (was rows) (listedb (was xs) (was ys) from n) g j ⌝ }
 {
     let mut e = 0;
     while e < 6 {
@@ -124,7 +125,7 @@ fn is_pulled(
 ) -> bool
     requires { ⌜ Looks (now rows) (now xs) (now ys) (now heads) (now links) (j + 1) from n ⌝ }
     requires { ⌜ (8 * g + 8 ≤ length (now rows)) × (j < length (now marks)) ⌝ }
-    ensures { λ r. ⌜ r ≡ pulledb (now (rows .entry)) (now (marks .entry)) (listedb (now (xs .entry)) (now (ys .entry)) from n) g j ⌝ }
+    ensures { λ r. ⌜ r ≡ pulledb (was rows) (was marks) (listedb (was xs) (was ys) from n) g j ⌝ }
 {
     if marks[j] == 1 {
         return true;
@@ -148,7 +149,7 @@ fn one_pulled(
 ) -> bool
     requires { ⌜ Looks (now rows) (now xs) (now ys) (now heads) (now links) last from n ⌝ }
     requires { ⌜ (8 * g + 8 ≤ length (now rows)) × (last ≤ length (now marks)) ⌝ }
-    ensures { λ r. ⌜ r ≡ anyb (pulledb (now (rows .entry)) (now (marks .entry)) (listedb (now (xs .entry)) (now (ys .entry)) from n) g) (range first (last - first)) ⌝ }
+    ensures { λ r. ⌜ r ≡ anyb (pulledb (was rows) (was marks) (listedb (was xs) (was ys) from n) g) (range first (last - first)) ⌝ }
 {
     let mut j = first;
     while j < last {
@@ -177,7 +178,7 @@ fn is_new_red(
     requires { ⌜ Old (now rows) (now status) (now marks) (now kids) ⌝ }
     requires { ⌜ Table (now xs) (now ys) (now heads) (now links) from n ⌝ }
     requires { ⌜ c < length (now status) ⌝ }
-    ensures { λ r. ⌜ r ≡ redAtb (now (rows .entry)) (now (status .entry)) (now (marks .entry)) (now (kids .entry)) (listedb (now (xs .entry)) (now (ys .entry)) from n) c ⌝ }
+    ensures { λ r. ⌜ r ≡ redAtb (was rows) (was status) (was marks) (was kids) (listedb (was xs) (was ys) from n) c ⌝ }
 {
     let s = status[c];
     let first = kids[c] as usize;
@@ -231,7 +232,7 @@ fn flag_level(
     requires { ⌜ Old (now rows) (now status) (now marks) (now kids) ⌝ }
     requires { ⌜ Table (now xs) (now ys) (now heads) (now links) from n ⌝ }
     requires { ⌜ Span (now status) (now red) first last ⌝ }
-    ensures { λ r. ⌜ now (red .exit) ≡ take first (now (red .entry)) ++ (flagsAt (now (rows .entry)) (now (status .entry)) (now (marks .entry)) (now (kids .entry)) (listedb (now (xs .entry)) (now (ys .entry)) from n) first (last - first) ++ drop last (now (red .entry))) ⌝ }
+    ensures { λ r. ⌜ is red ≡ take first (was red) ++ (flagsAt (was rows) (was status) (was marks) (was kids) (listedb (was xs) (was ys) from n) first (last - first) ++ drop last (was red)) ⌝ }
 {
     let mut c = first;
     while c < last {
@@ -265,7 +266,7 @@ fn flag_up(
 ) -> Entries
     requires { ⌜ Old (now rows) (now status) (now marks) (now kids) ⌝ }
     requires { ⌜ OneLevel (now status) (now kids) (now red) (now xs) (now ys) (now heads) (now links) first last ⌝ }
-    ensures { λ r. ⌜ Above (now (rows .entry)) (now (status .entry)) (now (marks .entry)) (now (kids .entry)) depth first last (now (red .entry)) (now (red .exit)) (now (xs .exit)) (now (ys .exit)) (now (heads .exit)) (now (links .exit)) (r .from) (r .n) ⌝ }
+    ensures { λ r. ⌜ Above (was rows) (was status) (was marks) (was kids) depth first last (was red) (is red) (is xs) (is ys) (is heads) (is links) (r .from) (r .n) ⌝ }
 {
     if depth == 0 {
         return Entries { from: 0, n: 0 };
@@ -320,7 +321,7 @@ pub fn new_reds(
 )
     requires { ⌜ Marked n (now mesh) (now rows) (now status) (now marks) (now kids) (now red) ⌝ }
     requires { ⌜ Room (now xs) (now ys) (now heads) (now links) ⌝ }
-    ensures { λ r. ⌜ now (red .exit) ≡ flagTable n (fours (now (mesh .entry))) (now (status .entry)) (now (marks .entry)) ++ drop (length (now (status .entry))) (now (red .entry)) ⌝ }
+    ensures { λ r. ⌜ is red ≡ flagTable n (fours (was mesh)) (was status) (was marks) ++ drop (length (was status)) (was red) ⌝ }
 {
     pairs::clear(heads);
     flag_up(

@@ -4,6 +4,7 @@ ghost use Prim.Native.Nat.{ℕ, _+_, _*_, _-_, _≤_, _<_};
 ghost use lib.ListN.{length, getD};
 ghost use Rattle.base.specs.Lists.{one-if};
 ghost use Rattle.base.specs.Fours.{fours};
+ghost use Rattle.base.specs.Lent.{was, is};
 ghost use Rattle.cutting.specs.Answer.{digitTable};
 ghost use Rattle.mesh.specs.Cells.{redb};
 ghost use Rattle.edges.specs.Table.{listed};
@@ -19,7 +20,7 @@ ghost use Rattle.renew.specs.Result.{Room, Result};
 
 // The flag of a cell by its old number: 64 where it will be red, else 0.
 fn flag_of(red: &[u8], o: usize) -> u8
-    ensures { λ r. ⌜ r ≡ flagOf (redb (getD (now (red .entry)) o 0)) ⌝ }
+    ensures { λ r. ⌜ r ≡ flagOf (redb (getD (was red) o 0)) ⌝ }
 {
     if o >= red.len() {
         return 0;
@@ -39,7 +40,7 @@ fn one_if(b: bool) -> usize
 // Writes the flags of the cells from first to last. Gives how many there are.
 fn flag_level(red: &[u8], old: &[u16], first: usize, last: usize, table: &mut [u8]) -> usize
     requires { ⌜ (first ≤ last) × (last ≤ length (now old)) × (last ≤ length (now table)) ⌝ }
-    ensures { λ r. ⌜ Flagged (now (red .entry)) (now (old .entry)) first last (now (table .entry)) (now (table .exit)) r ⌝ }
+    ensures { λ r. ⌜ Flagged (was red) (was old) first last (was table) (is table) r ⌝ }
 {
     let mut n = 0;
     let mut c = first;
@@ -68,7 +69,7 @@ fn close_level(
 ) -> usize
     requires { ⌜ (first ≤ last) × (last ≤ 4096) × (last ≤ length (now table)) ⌝ }
     requires { ⌜ Looks (now rows) (now xs) (now ys) (now heads) (now links) last from n ⌝ }
-    ensures { λ r. ⌜ Closed (listed (now (xs .entry)) (now (ys .entry)) from n) (now (rows .entry)) first last (now (table .entry)) (now (table .exit)) r ⌝ }
+    ensures { λ r. ⌜ Closed (listed (was xs) (was ys) from n) (was rows) first last (was table) (is table) r ⌝ }
 {
     let mut size = 0;
     let mut c = first;
@@ -104,7 +105,7 @@ fn make_level(
 ) -> Level
     requires { ⌜ Reds (now xs) (now ys) (now heads) (now links) n last ⌝ }
     requires { ⌜ (first ≤ last) × (last ≤ 4096) × (last ≤ length (now old)) × (last ≤ length (now table)) × (8 * last ≤ length (now rows)) ⌝ }
-    ensures { λ r. ⌜ Made (now (red .entry)) (now (old .entry)) (now (rows .entry)) first last (now (table .entry)) (now (xs .entry)) (now (ys .entry)) n (now (table .exit)) (now (xs .exit)) (now (ys .exit)) (now (heads .exit)) (now (links .exit)) (r .n) (r .size) ⌝ }
+    ensures { λ r. ⌜ Made (was red) (was old) (was rows) first last (was table) (was xs) (was ys) n (is table) (is xs) (is ys) (is heads) (is links) (r .n) (r .size) ⌝ }
 {
     let reds = flag_level(red, old, first, last, table);
     if 8 * reds > 4096 - last {
@@ -119,7 +120,7 @@ fn make_level(
 fn old_child(status: &[u8], kids: &[u16], coarse: usize, t: u8, o: usize, i: usize) -> u16
     requires { ⌜ Olds coarse (now status) (now kids) ⌝ }
     requires { ⌜ i < 8 ⌝ }
-    ensures { λ r. ⌜ r ≡ oldIn coarse (now (status .entry)) t o i ⌝ }
+    ensures { λ r. ⌜ r ≡ oldIn coarse (was status) t o i ⌝ }
 {
     if t != 64 {
         return 65535;
@@ -145,7 +146,7 @@ fn old_family(
 ) -> usize
     requires { ⌜ Olds coarse (now status) (now kids) ⌝ }
     requires { ⌜ (t ≤ 64) × (at + sizeOf t ≤ length (now old)) ⌝ }
-    ensures { λ r. ⌜ (r ≡ at + sizeOf t) × (now (old .exit) ≡ written (now (old .entry)) at (oldsOf coarse (now (status .entry)) t o)) ⌝ }
+    ensures { λ r. ⌜ (r ≡ at + sizeOf t) × (is old ≡ written (was old) at (oldsOf coarse (was status) t o)) ⌝ }
 {
     let size = sizes::size_of(t);
     let mut i = 0;
@@ -170,7 +171,7 @@ fn old_level(
     requires { ⌜ Olds coarse (now status) (now kids) ⌝ }
     requires { ⌜ (first ≤ last) × (last ≤ at) × (last ≤ length (now table)) × (at + sizes (part (now table) first (last - first)) ≤ length (now old)) ⌝ }
     requires { ⌜ ((c : ℕ) → first ≤ c → c < last → getD (now table) c 0 ≤ 64) ⌝ }
-    ensures { λ u. ⌜ now (old .exit) ≡ written (now (old .entry)) at (oldsNext coarse (now (status .entry)) (part (now (table .entry)) first (last - first)) (part (now (old .entry)) first (last - first))) ⌝ }
+    ensures { λ u. ⌜ is old ≡ written (was old) at (oldsNext coarse (was status) (part (was table) first (last - first)) (part (was old) first (last - first))) ⌝ }
 {
     let mut k = at;
     let mut c = first;
@@ -184,7 +185,7 @@ fn old_level(
 // Writes the old numbers of the coarse cells: their own.
 fn old_coarse(coarse: usize, old: &mut [u16])
     requires { ⌜ (coarse ≤ 256) × (coarse ≤ length (now old)) ⌝ }
-    ensures { λ u. ⌜ now (old .exit) ≡ written (now (old .entry)) 0 (upTo coarse) ⌝ }
+    ensures { λ u. ⌜ is old ≡ written (was old) 0 (upTo coarse) ⌝ }
 {
     let mut c = 0;
     while c < coarse {
@@ -238,7 +239,7 @@ fn fill(
     requires { ⌜ Kids (length (fours (now mesh))) (now status) (now kids) ⌝ }
     requires { ⌜ (length (now red) ≤ 4096) × (4096 ≤ length (now old)) × (4096 ≤ length (now table)) ⌝ }
     requires { ⌜ now digits ≡ digitTable ⌝ }
-    ensures { λ r. ⌜ Result n (fours (now (mesh .entry))) (now (status .entry)) (now (red .entry)) (now (rows .exit)) (now (ps .exit)) (now (qs .exit)) (now (table .exit)) (r .refusal) (r .cells) (r .levels) (r .mids) ⌝ }
+    ensures { λ r. ⌜ Result n (fours (was mesh)) (was status) (was red) (is rows) (is ps) (is qs) (is table) (r .refusal) (r .cells) (r .levels) (r .mids) ⌝ }
 {
     let coarse = tables::lay_coarse(mesh, rows);
     old_coarse(coarse, old);
@@ -316,7 +317,7 @@ pub fn renew(
     requires { ⌜ (length (now red) ≤ 4096) × (32768 ≤ length (now rows)) × (4096 ≤ length (now ps)) × (4096 ≤ length (now qs)) × (4096 ≤ length (now table)) ⌝ }
     requires { ⌜ Room (now xs) (now ys) (now heads) (now links) (now «mid_heads») (now «mid_links») (now old) ⌝ }
     requires { ⌜ now digits ≡ digitTable ⌝ }
-    ensures { λ r. ⌜ Result n (fours (now (mesh .entry))) (now (status .entry)) (now (red .entry)) (now (rows .exit)) (now (ps .exit)) (now (qs .exit)) (now (table .exit)) (r .refusal) (r .cells) (r .levels) (r .mids) ⌝ }
+    ensures { λ r. ⌜ Result n (fours (was mesh)) (was status) (was red) (is rows) (is ps) (is qs) (is table) (r .refusal) (r .cells) (r .levels) (r .mids) ⌝ }
 {
     pairs::clear(heads);
     pairs::clear(mid_heads);

@@ -4,6 +4,7 @@ ghost use mathlib.Core.List.{_++_};
 ghost use Prim.Native.Nat.{_+_, _*_, _/_, _≤_, _<_};
 ghost use lib.ListN.{length, take, drop, replicate};
 ghost use Rattle.base.specs.Fours.{fours};
+ghost use Rattle.base.specs.Lent.{was, is};
 ghost use Rattle.cutting.specs.Answer.{digitTable};
 ghost use Rattle.mesh.specs.Table.{levelsOf};
 ghost use Rattle.step.specs.Advanced.{Work};
@@ -31,7 +32,7 @@ fn failed(refusal: u8) -> Ran
 // Makes the first k bytes 0.
 fn clear(out: &mut [u8], k: usize)
     requires { ⌜ k ≤ length (now out) ⌝ }
-    ensures { λ r. ⌜ now (out .exit) ≡ replicate k 0 ++ drop k (now (out .entry)) ⌝ }
+    ensures { λ r. ⌜ is out ≡ replicate k 0 ++ drop k (was out) ⌝ }
 {
     for i in 0..k {
         out[i] = 0;
@@ -57,7 +58,7 @@ fn may_stand(cell: usize, mark: u8, next: usize, k: usize) -> bool
 // The marks of a step as one byte a cell, of k cells. False where the marked cells do not ascend or are not cells, or a mark is not 1 or 2.
 fn spread(marked: &[u16], marks: &[u8], k: usize, out: &mut [u8]) -> bool
     requires { ⌜ (length (now marked) ≡ length (now marks)) × (k ≤ length (now out)) ⌝ }
-    ensures { λ r. ⌜ Spread k (pairs (now (marked .entry)) (now (marks .entry))) (now (out .exit)) r ⌝ }
+    ensures { λ r. ⌜ Spread k (pairs (was marked) (was marks)) (is out) r ⌝ }
 {
     clear(out, k);
     let mut i = 0;
@@ -77,7 +78,7 @@ fn spread(marked: &[u16], marks: &[u8], k: usize, out: &mut [u8]) -> bool
 // The marks of a step as one byte a cell. False where they may not stand at the cells of the table.
 fn examine_marks(marked: &[u16], marks: &[u8], status: &[u8], out: &mut [u8]) -> bool
     requires { ⌜ (length (now marked) ≡ length (now marks)) × (length (now status) ≤ length (now out)) ⌝ }
-    ensures { λ r. ⌜ Fitting (now (status .entry)) (pairs (now (marked .entry)) (now (marks .entry))) (now (out .exit)) r ⌝ }
+    ensures { λ r. ⌜ Fitting (was status) (pairs (was marked) (was marks)) (is out) r ⌝ }
 {
     let k = status.len();
     if !spread(marked, marks, k, out) {
@@ -115,7 +116,7 @@ fn advance_here(
     requires { ⌜ Room (now «new_rows») (now ps) (now qs) (now «new») ⌝ }
     requires { ⌜ Work (now xs) (now ys) (now heads) (now links) (now «mid_heads») (now «mid_links») (now old) (now kids) (now red) ⌝ }
     requires { ⌜ now digits ≡ digitTable ⌝ }
-    ensures { λ r. ⌜ Stepped n (now (mesh .entry)) (take cells (now (table .entry))) (now (marks .entry)) (now (rows .exit)) (now (table .exit)) (r .refusal) (r .cells) (r .levels) ⌝ }
+    ensures { λ r. ⌜ Stepped n (was mesh) (take cells (was table)) (was marks) (is rows) (is table) (r .refusal) (r .cells) (r .levels) ⌝ }
 {
     let r = step::advance(
         mesh,
@@ -182,7 +183,7 @@ fn next_step(
     requires { ⌜ Room (now «new_rows») (now ps) (now qs) (now «new») ⌝ }
     requires { ⌜ Work (now xs) (now ys) (now heads) (now links) (now «mid_heads») (now «mid_links») (now old) (now kids) (now red) ⌝ }
     requires { ⌜ now digits ≡ digitTable ⌝ }
-    ensures { λ r. ⌜ Next n (now (mesh .entry)) (take cells (now (table .entry))) p e (pairs (now (marked .entry)) (now (marks .entry))) (now (rows .exit)) (now (table .exit)) (r .refusal) (r .cells) (r .levels) ⌝ }
+    ensures { λ r. ⌜ Next n (was mesh) (take cells (was table)) p e (pairs (was marked) (was marks)) (is rows) (is table) (r .refusal) (r .cells) (r .levels) ⌝ }
 {
     if e < p {
         return failed(7);
@@ -220,7 +221,7 @@ fn next_step(
 // A mesh at rest: each cell a leaf, with its rows. Refusals 1 to 5.
 fn at_rest(positions: &[i32], cells: &[u16], rows: &mut [u16], table: &mut [u8]) -> Ran
     requires { ⌜ (32768 ≤ length (now rows)) × (4096 ≤ length (now table)) ⌝ }
-    ensures { λ r. ⌜ Rested (now (positions .entry)) (now (cells .entry)) (now (rows .exit)) (now (table .exit)) (r .refusal) (r .cells) (r .levels) ⌝ }
+    ensures { λ r. ⌜ Rested (was positions) (was cells) (is rows) (is table) (r .refusal) (r .cells) (r .levels) ⌝ }
 {
     let k = few(cells.len() / 4);
     clear(table, k);
@@ -258,7 +259,7 @@ fn run_steps(
 ) -> Ran
     requires { ⌜ Going n (now mesh) (now rows) (now table) first ⌝ }
     requires { ⌜ (length (now marked) ≡ length (now marks)) × (length (levelsOf n (fours (now mesh)) (take first (now table))) ≡ high) ⌝ }
-    ensures { λ r. ⌜ Finished n (now (mesh .entry)) (take first (now (table .entry))) (pairs (now (marked .entry)) (now (marks .entry))) (now (ends .entry)) (now (rows .exit)) (now (table .exit)) (r .refusal) (r .cells) (r .levels) ⌝ }
+    ensures { λ r. ⌜ Finished n (was mesh) (take first (was table)) (pairs (was marked) (was marks)) (was ends) (is rows) (is table) (r .refusal) (r .cells) (r .levels) ⌝ }
 {
     let mut spread_marks = [0u8; 4096];
     let mut new_rows = [0u16; 32768];
@@ -336,7 +337,7 @@ pub fn run(
     table: &mut [u8],
 ) -> Ran
     requires { ⌜ 4096 ≤ length (now table) ⌝ }
-    ensures { λ r. ⌜ Replayed (now (positions .entry)) (now (cells .entry)) (now (marked .entry)) (now (marks .entry)) (now (ends .entry)) (now (table .exit)) (r .refusal) (r .cells) (r .levels) ⌝ }
+    ensures { λ r. ⌜ Replayed (was positions) (was cells) (was marked) (was marks) (was ends) (is table) (r .refusal) (r .cells) (r .levels) ⌝ }
 {
     let mut rows = [0u16; 32768];
     let r = at_rest(positions, cells, &mut rows, table);

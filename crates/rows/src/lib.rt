@@ -3,6 +3,7 @@ ghost use mathlib.Core.Path.{_≡_};
 ghost use Prim.Native.Nat.{_+_, _*_, _≤_, _<_};
 ghost use lib.Dec.{eqb};
 ghost use lib.ListN.{length, getD};
+ghost use Rattle.base.specs.Lent.{was};
 ghost use Rattle.mesh.specs.Cells.{edge};
 ghost use Rattle.rows.specs.Numbered.{cellAt};
 ghost use Rattle.rows.specs.EdgeEnds.{lows, highs};
@@ -43,7 +44,7 @@ fn high_of(e: usize) -> usize
 
 pub fn edge_of(cells: &[u16], c: usize, e: usize) -> Ends
     requires { ⌜ (8 * c + 8 ≤ length (now cells)) × (e < 6) ⌝ }
-    ensures { λ r. ⌜ ((r .a), (r .b)) ≡ edge 0 (cellAt (now (cells .entry)) c) e ⌝ }
+    ensures { λ r. ⌜ ((r .a), (r .b)) ≡ edge 0 (cellAt (was cells) c) e ⌝ }
 {
     let a = 8 * c + 4 + low_of(e);
     let b = 8 * c + 4 + high_of(e);
@@ -56,7 +57,7 @@ pub fn edge_of(cells: &[u16], c: usize, e: usize) -> Ends
 // Whether the cell is regular.
 pub fn is_regular(cells: &[u16], c: usize) -> bool
     requires { ⌜ 8 * c + 8 ≤ length (now cells) ⌝ }
-    ensures { λ r. ⌜ r ≡ cellAt (now (cells .entry)) c .regular ⌝ }
+    ensures { λ r. ⌜ r ≡ cellAt (was cells) c .regular ⌝ }
 {
     cells[8 * c + 3] == 1
 }

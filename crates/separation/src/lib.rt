@@ -6,6 +6,7 @@ ghost use Prim.Native.Nat.{_+_, _*_, _≤_, _<_};
 ghost use lib.Dec.{eqb};
 ghost use lib.ListN.{length, getD};
 ghost use Rattle.base.specs.Places.{hasb};
+ghost use Rattle.base.specs.Lent.{was};
 ghost use Rattle.mesh.specs.Cells.{joinsb, heldb, edge, edges};
 ghost use Rattle.rows.specs.Numbered.{cellAt};
 ghost use Rattle.edges.specs.Pairs.{isb, sorted};
@@ -31,7 +32,7 @@ fn joins(a: u16, b: u16, c: u16, d: u16) -> bool
 // Whether an edge is one of the cell's six.
 fn has_edge(cells: &[u16], g: usize, a: u16, b: u16) -> bool
     requires { ⌜ 8 * g + 8 ≤ length (now cells) ⌝ }
-    ensures { λ r. ⌜ r ≡ heldb eqb (edges 0 (cellAt (now (cells .entry)) g)) (a, b) ⌝ }
+    ensures { λ r. ⌜ r ≡ heldb eqb (edges 0 (cellAt (was cells) g)) (a, b) ⌝ }
 {
     let mut e = 0;
     while e < 6 {
@@ -59,7 +60,7 @@ pub fn apart_edge(
 ) -> bool
     requires { ⌜ Looks (now cells) (now xs) (now ys) (now heads) (now links) (c + 1) from n ⌝ }
     requires { ⌜ (8 * g + 8 ≤ length (now cells)) × (e < 6) ⌝ }
-    ensures { λ r. ⌜ r ≡ (heldb eqb (edges 0 (cellAt (now (cells .entry)) g)) (edge 0 (cellAt (now (cells .entry)) c) e) || not (hasb isb (listed (now (xs .entry)) (now (ys .entry)) from n) (sorted (edge 0 (cellAt (now (cells .entry)) c) e)))) ⌝ }
+    ensures { λ r. ⌜ r ≡ (heldb eqb (edges 0 (cellAt (was cells) g)) (edge 0 (cellAt (was cells) c) e) || not (hasb isb (listed (was xs) (was ys) from n) (sorted (edge 0 (cellAt (was cells) c) e)))) ⌝ }
 {
     let ends = rows::edge_of(cells, c, e);
     let held = edges::holds(xs, ys, heads, links, from, n, ends.a, ends.b);
@@ -82,7 +83,7 @@ fn apart_cell(
 ) -> bool
     requires { ⌜ Looks (now cells) (now xs) (now ys) (now heads) (now links) (c + 1) from n ⌝ }
     requires { ⌜ (cellAt (now cells) c .regular ≡ false → 8 * getD (now cells) (8 * c + 1) 0 + 8 ≤ length (now cells)) ⌝ }
-    ensures { λ r. ⌜ r ≡ listedApart (listed (now (xs .entry)) (now (ys .entry)) from n) (now (cells .entry)) (cellAt (now (cells .entry)) c) ⌝ }
+    ensures { λ r. ⌜ r ≡ listedApart (listed (was xs) (was ys) from n) (was cells) (cellAt (was cells) c) ⌝ }
 {
     if rows::is_regular(cells, c) {
         return true;
@@ -111,7 +112,7 @@ pub fn apart(
 ) -> bool
     requires { ⌜ Looks (now cells) (now xs) (now ys) (now heads) (now links) last from n ⌝ }
     requires { ⌜ Parents (now cells) last ⌝ }
-    ensures { λ r. ⌜ r ≡ apartAll (listed (now (xs .entry)) (now (ys .entry)) from n) (now (cells .entry)) last ⌝ }
+    ensures { λ r. ⌜ r ≡ apartAll (listed (was xs) (was ys) from n) (was cells) last ⌝ }
 {
     let mut c = 0;
     while c < last {

@@ -5,11 +5,12 @@ ghost use Prim.Native.Nat.{_+_, _*_, _-_, _≤_, _<_};
 ghost use lib.Dec.{leb};
 ghost use lib.ListN.{length};
 ghost use Rattle.base.specs.Lists.{allb};
+ghost use Rattle.base.specs.Lent.{was};
 ghost use Rattle.rows.specs.Numbered.{sizeOf, sizes, part};
 
 // Whether each status is one: 0 to 64.
 pub fn fits(status: &[u8]) -> bool
-    ensures { λ r. ⌜ r ≡ allb (λ s. leb s 64) (now (status .entry)) ⌝ }
+    ensures { λ r. ⌜ r ≡ allb (λ s. leb s 64) (was status) ⌝ }
 {
     let mut c = 0;
     while c < status.len() {
@@ -39,7 +40,7 @@ pub fn size_of(status: u8) -> usize
 pub fn level_size(status: &[u8], first: usize, last: usize) -> usize
     requires { ⌜ (first ≤ last) × (last ≤ length (now status)) × (length (now status) ≤ 4096) ⌝ }
     requires { ⌜ allb (λ s. leb s 64) (now status) ≡ true ⌝ }
-    ensures { λ r. ⌜ r ≡ sizes (part (now (status .entry)) first (last - first)) ⌝ }
+    ensures { λ r. ⌜ r ≡ sizes (part (was status) first (last - first)) ⌝ }
 {
     let mut n = 0;
     let mut c = first;

@@ -5,6 +5,7 @@ ghost use mathlib.Core.List.{_++_};
 ghost use Prim.Native.Nat.{_+_, _*_, _≤_, _<_};
 ghost use lib.ListN.{length, take, drop};
 ghost use Rattle.base.specs.Fours.{fours};
+ghost use Rattle.base.specs.Lent.{was, is};
 ghost use Rattle.cutting.specs.Answer.{digitTable};
 ghost use Rattle.mesh.specs.Coarse.{cornerCount};
 ghost use Rattle.layout.specs.Calls.{heldAfter};
@@ -32,7 +33,7 @@ fn mark_fits(status: u8, mark: u8) -> bool
 
 // Whether the marks fit the table.
 pub fn marks_fit(status: &[u8], marks: &[u8]) -> bool
-    ensures { λ r. ⌜ r ≡ marksb (now (status .entry)) (now (marks .entry)) ⌝ }
+    ensures { λ r. ⌜ r ≡ marksb (was status) (was marks) ⌝ }
 {
     if marks.len() != status.len() {
         return false;
@@ -50,7 +51,7 @@ pub fn marks_fit(status: &[u8], marks: &[u8]) -> bool
 // Whether a cell of level 10 will be red.
 fn too_deep(rows: &[u16], red: &[u8], cells: usize) -> bool
     requires { ⌜ (8 * cells ≤ length (now rows)) × (cells ≤ length (now red)) ⌝ }
-    ensures { λ r. ⌜ r ≡ deepFrom (now (rows .entry)) (now (red .entry)) 0 cells ⌝ }
+    ensures { λ r. ⌜ r ≡ deepFrom (was rows) (was red) 0 cells ⌝ }
 {
     let mut c = 0;
     while c < cells {
@@ -65,7 +66,7 @@ fn too_deep(rows: &[u16], red: &[u8], cells: usize) -> bool
 // Whether the cell c is on level 10 and will be red.
 fn is_deep(rows: &[u16], red: &[u8], c: usize) -> bool
     requires { ⌜ (8 * c + 8 ≤ length (now rows)) × (c < length (now red)) ⌝ }
-    ensures { λ r. ⌜ r ≡ deepAt (now (rows .entry)) (now (red .entry)) c ⌝ }
+    ensures { λ r. ⌜ r ≡ deepAt (was rows) (was red) c ⌝ }
 {
     if rows[8 * c] != 10 {
         return false;
@@ -76,7 +77,7 @@ fn is_deep(rows: &[u16], red: &[u8], c: usize) -> bool
 // The refusal of a step: 9 gives way to 8 where a cell of level 10 will be red.
 fn decided(refusal: u8, rows: &[u16], red: &[u8], cells: usize) -> u8
     requires { ⌜ (8 * cells ≤ length (now rows)) × (cells ≤ length (now red)) ⌝ }
-    ensures { λ r. ⌜ Decided (deepFrom (now (rows .entry)) (now (red .entry)) 0 cells) refusal r ⌝ }
+    ensures { λ r. ⌜ Decided (deepFrom (was rows) (was red) 0 cells) refusal r ⌝ }
 {
     if refusal != 9 {
         return refusal;
@@ -116,7 +117,7 @@ pub fn advance(
     requires { ⌜ (32768 ≤ length (now «new_rows»)) × (4096 ≤ length (now ps)) × (4096 ≤ length (now qs)) × (4096 ≤ length (now table)) ⌝ }
     requires { ⌜ Work (now xs) (now ys) (now heads) (now links) (now «mid_heads») (now «mid_links») (now old) (now kids) (now red) ⌝ }
     requires { ⌜ now digits ≡ digitTable ⌝ }
-    ensures { λ r. ⌜ Advanced n (now (mesh .entry)) (now (status .entry)) (now (marks .entry)) (now («new_rows» .exit)) (now (ps .exit)) (now (qs .exit)) (now (table .exit)) (r .refusal) (r .cells) (r .levels) (r .mids) ⌝ }
+    ensures { λ r. ⌜ Advanced n (was mesh) (was status) (was marks) (is «new_rows») (is ps) (is qs) (is table) (r .refusal) (r .cells) (r .levels) (r .mids) ⌝ }
 {
     let k = status.len();
     reds::first_children(status, mesh.len() / 4, kids);
@@ -164,7 +165,7 @@ pub fn advance(
 // Copies the first n bytes.
 pub fn copy(from: &[u8], n: usize, to: &mut [u8])
     requires { ⌜ (n ≤ length (now from)) × (n ≤ length (now to)) ⌝ }
-    ensures { λ r. ⌜ now (to .exit) ≡ take n (now (from .entry)) ++ drop n (now (to .entry)) ⌝ }
+    ensures { λ r. ⌜ is to ≡ take n (was from) ++ drop n (was to) ⌝ }
 {
     for i in 0..n {
         to[i] = from[i];
@@ -180,12 +181,12 @@ pub fn step(
     table: &mut [u8],
 ) -> Stepped
     ensures { λ r. ⌜ r
-        ≡ steppedOf (stepAnswer (now (positions .entry)) (now (cells .entry)) (now (status .entry)) (now (marks .entry)) (now (table .entry)))
-        (length (newTable (cornerCount (now (positions .entry))) (fours (now (cells .entry))) (now (status .entry)) (now (marks .entry)))) ⌝ }
-    ensures { λ r. ⌜ now (table .exit)
-        ≡ heldAfter (stepAnswer (now (positions .entry)) (now (cells .entry)) (now (status .entry)) (now (marks .entry)) (now (table .entry)))
-        (newTable (cornerCount (now (positions .entry))) (fours (now (cells .entry))) (now (status .entry)) (now (marks .entry)))
-        (now (table .entry)) ⌝ }
+        ≡ steppedOf (stepAnswer (was positions) (was cells) (was status) (was marks) (was table))
+        (length (newTable (cornerCount (was positions)) (fours (was cells)) (was status) (was marks))) ⌝ }
+    ensures { λ r. ⌜ is table
+        ≡ heldAfter (stepAnswer (was positions) (was cells) (was status) (was marks) (was table))
+        (newTable (cornerCount (was positions)) (fours (was cells)) (was status) (was marks))
+        (was table) ⌝ }
 {
     if table.len() < 4096 {
         return Stepped::Refused(15);

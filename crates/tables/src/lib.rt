@@ -5,6 +5,7 @@ ghost use mathlib.Core.List.{flatMap};
 ghost use Prim.Native.Nat.{_*_, _≤_};
 ghost use lib.ListN.{length, take};
 ghost use Rattle.base.specs.Fours.{fours};
+ghost use Rattle.base.specs.Lent.{was, is};
 ghost use Rattle.cutting.specs.Answer.{digitTable};
 ghost use Rattle.tables.specs.Checked.{Statuses, Reds, Checked};
 ghost use Rattle.tables.specs.Start.{Coarse, coarseRow, Empty, Result};
@@ -32,7 +33,7 @@ fn check_level(
     requires { ⌜ Statuses (now status) ⌝ }
     requires { ⌜ Reds (now xs) (now ys) (now heads) (now links) n last ⌝ }
     requires { ⌜ (first ≤ last) × (8 * last ≤ length (now rows)) ⌝ }
-    ensures { λ r. ⌜ Checked (now (rows .entry)) (now (status .entry)) first last (now (xs .entry)) (now (ys .entry)) n (now (xs .exit)) (now (ys .exit)) (now (heads .exit)) (now (links .exit)) (r .ok) (r .n) (r .size) ⌝ }
+    ensures { λ r. ⌜ Checked (was rows) (was status) first last (was xs) (was ys) n (is xs) (is ys) (is heads) (is links) (r .ok) (r .n) (r .size) ⌝ }
 {
     if last > status.len() {
         return Level {
@@ -53,7 +54,7 @@ fn check_level(
 // Lays out the coarse cells.
 pub fn lay_coarse(mesh: &[u16], rows: &mut [u16]) -> usize
     requires { ⌜ Coarse (now mesh) (now rows) ⌝ }
-    ensures { λ r. ⌜ (r ≡ length (fours (now (mesh .entry)))) × (take (8 * r) (now (rows .exit)) ≡ flatMap coarseRow (fours (now (mesh .entry)))) ⌝ }
+    ensures { λ r. ⌜ (r ≡ length (fours (was mesh))) × (take (8 * r) (is rows) ≡ flatMap coarseRow (fours (was mesh))) ⌝ }
 {
     let count = mesh.len() / 4;
     let mut c = 0;
@@ -117,7 +118,7 @@ fn build(
     requires { ⌜ Statuses (now status) ⌝ }
     requires { ⌜ Empty n (now mesh) (now rows) (now xs) (now ys) (now heads) (now links) (now ps) (now qs) (now «mid_heads») (now «mid_links») ⌝ }
     requires { ⌜ now digits ≡ digitTable ⌝ }
-    ensures { λ r. ⌜ Result n (fours (now (mesh .entry))) (now (status .entry)) (now (rows .exit)) (now (xs .exit)) (now (ys .exit)) (now (heads .exit)) (now (links .exit)) (now (ps .exit)) (now (qs .exit)) (now («mid_heads» .exit)) (now («mid_links» .exit)) (r .ok) (r .cells) (r .levels) (r .reds) (r .mids) ⌝ }
+    ensures { λ r. ⌜ Result n (fours (was mesh)) (was status) (is rows) (is xs) (is ys) (is heads) (is links) (is ps) (is qs) (is «mid_heads») (is «mid_links») (r .ok) (r .cells) (r .levels) (r .reds) (r .mids) ⌝ }
 {
     let mut first = 0;
     let mut last = lay_coarse(mesh, rows);
@@ -176,7 +177,7 @@ pub fn examine(
 ) -> Built
     requires { ⌜ Mesh n (now mesh) ⌝ }
     requires { ⌜ (32768 ≤ length (now rows)) × (4096 ≤ length (now ps)) × (4096 ≤ length (now qs)) ⌝ }
-    ensures { λ r. ⌜ Examined n (fours (now (mesh .entry))) (now (status .entry)) (now (rows .exit)) (now (ps .exit)) (now (qs .exit)) (r .ok) (r .cells) (r .levels) (r .mids) ⌝ }
+    ensures { λ r. ⌜ Examined n (fours (was mesh)) (was status) (is rows) (is ps) (is qs) (r .ok) (r .cells) (r .levels) (r .mids) ⌝ }
 {
     if status.len() > 4096 {
         return failed();

@@ -11,6 +11,7 @@ use step::Stepped;
 ghost use mathlib.Core.Path.{_≡_};
 ghost use lib.ListN.{length, getD};
 ghost use Rattle.base.specs.Fours.{fours};
+ghost use Rattle.base.specs.Lent.{was, is};
 ghost use Rattle.cutting.specs.Answer.{cutOf};
 ghost use Rattle.mesh.specs.Coarse.{cornerCount, meshAnswer};
 ghost use Rattle.mesh.specs.Counts.{countTable};
@@ -31,9 +32,9 @@ ghost use Rattle.yuccadice.specs.After.{valueAfter, cutAnswer};
 // The children of a cell by its pattern: four digits a child, 32 in all, zeros behind the last child. Refusals 15 and 6.
 #[no_mangle]
 pub extern "C" fn yd_cut(pattern: u8, digits: &mut [u8], count: &mut usize) -> u8
-    ensures { λ r. ⌜ r ≡ codeOf (cutAnswer pattern (now (digits .entry))) ⌝ }
-    ensures { λ r. ⌜ now (digits .exit) ≡ heldAfter (cutAnswer pattern (now (digits .entry))) (cutOf pattern .digits) (now (digits .entry)) ⌝ }
-    ensures { λ r. ⌜ now (count .exit) ≡ valueAfter (cutAnswer pattern (now (digits .entry))) (cutOf pattern .count) (now (count .entry)) ⌝ }
+    ensures { λ r. ⌜ r ≡ codeOf (cutAnswer pattern (was digits)) ⌝ }
+    ensures { λ r. ⌜ is digits ≡ heldAfter (cutAnswer pattern (was digits)) (cutOf pattern .digits) (was digits) ⌝ }
+    ensures { λ r. ⌜ is count ≡ valueAfter (cutAnswer pattern (was digits)) (cutOf pattern .count) (was count) ⌝ }
 {
     if digits.len() < 32 {
         return 15;
@@ -51,7 +52,7 @@ pub extern "C" fn yd_cut(pattern: u8, digits: &mut [u8], count: &mut usize) -> u
 // Whether a coarse mesh is accepted. Refusals 1 to 5.
 #[no_mangle]
 pub extern "C" fn yd_examine_mesh(positions: &[i32], cells: &[u16]) -> u8
-    ensures { λ r. ⌜ r ≡ codeOf (meshAnswer (now (positions .entry)) (now (cells .entry))) ⌝ }
+    ensures { λ r. ⌜ r ≡ codeOf (meshAnswer (was positions) (was cells)) ⌝ }
 {
     layout::code(coarse::examine_mesh(positions, cells))
 }
@@ -59,7 +60,7 @@ pub extern "C" fn yd_examine_mesh(positions: &[i32], cells: &[u16]) -> u8
 // Whether a status table is accepted. Refusals 1 to 6.
 #[no_mangle]
 pub extern "C" fn yd_examine_table(positions: &[i32], cells: &[u16], status: &[u8]) -> u8
-    ensures { λ r. ⌜ r ≡ codeOf (tableAnswer (now (positions .entry)) (now (cells .entry)) (now (status .entry))) ⌝ }
+    ensures { λ r. ⌜ r ≡ codeOf (tableAnswer (was positions) (was cells) (was status)) ⌝ }
 {
     layout::code(layout::examine_table(positions, cells, status))
 }
@@ -77,31 +78,31 @@ pub extern "C" fn yd_lay_out(
     corner_count: &mut usize,
     level_count: &mut usize,
 ) -> u8
-    ensures { λ r. ⌜ r ≡ codeOf (layoutAnswer (now (positions .entry)) (now (cells .entry)) (now (status .entry)) (now (table .entry)) (now (ends .entry)) (now (sums .entry))) ⌝ }
-    ensures { λ r. ⌜ now (table .exit)
-        ≡ heldAfter (layoutAnswer (now (positions .entry)) (now (cells .entry)) (now (status .entry)) (now (table .entry)) (now (ends .entry)) (now (sums .entry)))
-        (cellTable (cornersIn (now (positions .entry)) (now (cells .entry)) (now (status .entry))) (cellsIn (now (positions .entry)) (now (cells .entry)) (now (status .entry))))
-        (now (table .entry)) ⌝ }
-    ensures { λ r. ⌜ now (ends .exit)
-        ≡ heldAfter (layoutAnswer (now (positions .entry)) (now (cells .entry)) (now (status .entry)) (now (table .entry)) (now (ends .entry)) (now (sums .entry)))
-        (endTable (cornersIn (now (positions .entry)) (now (cells .entry)) (now (status .entry))))
-        (now (ends .entry)) ⌝ }
-    ensures { λ r. ⌜ now (sums .exit)
-        ≡ heldAfter (layoutAnswer (now (positions .entry)) (now (cells .entry)) (now (status .entry)) (now (table .entry)) (now (ends .entry)) (now (sums .entry)))
-        (sumTable (now (positions .entry)) (cornersIn (now (positions .entry)) (now (cells .entry)) (now (status .entry))))
-        (now (sums .entry)) ⌝ }
-    ensures { λ r. ⌜ now («cell_count» .exit)
-        ≡ valueAfter (layoutAnswer (now (positions .entry)) (now (cells .entry)) (now (status .entry)) (now (table .entry)) (now (ends .entry)) (now (sums .entry)))
-        (length (cellsIn (now (positions .entry)) (now (cells .entry)) (now (status .entry))))
-        (now («cell_count» .entry)) ⌝ }
-    ensures { λ r. ⌜ now («corner_count» .exit)
-        ≡ valueAfter (layoutAnswer (now (positions .entry)) (now (cells .entry)) (now (status .entry)) (now (table .entry)) (now (ends .entry)) (now (sums .entry)))
-        (length (cornersIn (now (positions .entry)) (now (cells .entry)) (now (status .entry))))
-        (now («corner_count» .entry)) ⌝ }
-    ensures { λ r. ⌜ now («level_count» .exit)
-        ≡ valueAfter (layoutAnswer (now (positions .entry)) (now (cells .entry)) (now (status .entry)) (now (table .entry)) (now (ends .entry)) (now (sums .entry)))
-        (length (levelsIn (now (positions .entry)) (now (cells .entry)) (now (status .entry))))
-        (now («level_count» .entry)) ⌝ }
+    ensures { λ r. ⌜ r ≡ codeOf (layoutAnswer (was positions) (was cells) (was status) (was table) (was ends) (was sums)) ⌝ }
+    ensures { λ r. ⌜ is table
+        ≡ heldAfter (layoutAnswer (was positions) (was cells) (was status) (was table) (was ends) (was sums))
+        (cellTable (cornersIn (was positions) (was cells) (was status)) (cellsIn (was positions) (was cells) (was status)))
+        (was table) ⌝ }
+    ensures { λ r. ⌜ is ends
+        ≡ heldAfter (layoutAnswer (was positions) (was cells) (was status) (was table) (was ends) (was sums))
+        (endTable (cornersIn (was positions) (was cells) (was status)))
+        (was ends) ⌝ }
+    ensures { λ r. ⌜ is sums
+        ≡ heldAfter (layoutAnswer (was positions) (was cells) (was status) (was table) (was ends) (was sums))
+        (sumTable (was positions) (cornersIn (was positions) (was cells) (was status)))
+        (was sums) ⌝ }
+    ensures { λ r. ⌜ is «cell_count»
+        ≡ valueAfter (layoutAnswer (was positions) (was cells) (was status) (was table) (was ends) (was sums))
+        (length (cellsIn (was positions) (was cells) (was status)))
+        (was «cell_count») ⌝ }
+    ensures { λ r. ⌜ is «corner_count»
+        ≡ valueAfter (layoutAnswer (was positions) (was cells) (was status) (was table) (was ends) (was sums))
+        (length (cornersIn (was positions) (was cells) (was status)))
+        (was «corner_count») ⌝ }
+    ensures { λ r. ⌜ is «level_count»
+        ≡ valueAfter (layoutAnswer (was positions) (was cells) (was status) (was table) (was ends) (was sums))
+        (length (levelsIn (was positions) (was cells) (was status)))
+        (was «level_count») ⌝ }
 {
     let laid = layout::lay_out(positions, cells, status, table, ends, sums);
     match laid {
@@ -125,19 +126,19 @@ pub extern "C" fn yd_position(
     y: &mut f64,
     z: &mut f64,
 ) -> u8
-    ensures { λ r. ⌜ r ≡ codeOf (cornerAnswer (now (sums .entry)) corners corner) ⌝ }
-    ensures { λ r. ⌜ now (x .exit)
-        ≡ valueAfter (cornerAnswer (now (sums .entry)) corners corner)
-        (pointOf (now (sums .entry)) corner .x)
-        (now (x .entry)) ⌝ }
-    ensures { λ r. ⌜ now (y .exit)
-        ≡ valueAfter (cornerAnswer (now (sums .entry)) corners corner)
-        (pointOf (now (sums .entry)) corner .y)
-        (now (y .entry)) ⌝ }
-    ensures { λ r. ⌜ now (z .exit)
-        ≡ valueAfter (cornerAnswer (now (sums .entry)) corners corner)
-        (pointOf (now (sums .entry)) corner .z)
-        (now (z .entry)) ⌝ }
+    ensures { λ r. ⌜ r ≡ codeOf (cornerAnswer (was sums) corners corner) ⌝ }
+    ensures { λ r. ⌜ is x
+        ≡ valueAfter (cornerAnswer (was sums) corners corner)
+        (pointOf (was sums) corner .x)
+        (was x) ⌝ }
+    ensures { λ r. ⌜ is y
+        ≡ valueAfter (cornerAnswer (was sums) corners corner)
+        (pointOf (was sums) corner .y)
+        (was y) ⌝ }
+    ensures { λ r. ⌜ is z
+        ≡ valueAfter (cornerAnswer (was sums) corners corner)
+        (pointOf (was sums) corner .z)
+        (was z) ⌝ }
 {
     let position = position::position_of(sums, corners, corner);
     match position {
@@ -161,15 +162,15 @@ pub extern "C" fn yd_ancestor(
     coarse: &mut usize,
     level: &mut usize,
 ) -> u8
-    ensures { λ r. ⌜ r ≡ codeOf (ancestorAnswer (now (positions .entry)) (now (cells .entry)) (now (status .entry)) cell) ⌝ }
-    ensures { λ r. ⌜ now (coarse .exit)
-        ≡ valueAfter (ancestorAnswer (now (positions .entry)) (now (cells .entry)) (now (status .entry)) cell)
-        (ancestorOf (getD (cellsIn (now (positions .entry)) (now (cells .entry)) (now (status .entry))) cell noCell) .coarse)
-        (now (coarse .entry)) ⌝ }
-    ensures { λ r. ⌜ now (level .exit)
-        ≡ valueAfter (ancestorAnswer (now (positions .entry)) (now (cells .entry)) (now (status .entry)) cell)
-        (ancestorOf (getD (cellsIn (now (positions .entry)) (now (cells .entry)) (now (status .entry))) cell noCell) .level)
-        (now (level .entry)) ⌝ }
+    ensures { λ r. ⌜ r ≡ codeOf (ancestorAnswer (was positions) (was cells) (was status) cell) ⌝ }
+    ensures { λ r. ⌜ is coarse
+        ≡ valueAfter (ancestorAnswer (was positions) (was cells) (was status) cell)
+        (ancestorOf (getD (cellsIn (was positions) (was cells) (was status)) cell noCell) .coarse)
+        (was coarse) ⌝ }
+    ensures { λ r. ⌜ is level
+        ≡ valueAfter (ancestorAnswer (was positions) (was cells) (was status) cell)
+        (ancestorOf (getD (cellsIn (was positions) (was cells) (was status)) cell noCell) .level)
+        (was level) ⌝ }
 {
     let ancestry = layout::ancestor(positions, cells, status, cell);
     match ancestry {
@@ -191,15 +192,15 @@ pub extern "C" fn yd_counts(
     counts: &mut [u16],
     level_count: &mut usize,
 ) -> u8
-    ensures { λ r. ⌜ r ≡ codeOf (countsAnswer (now (positions .entry)) (now (cells .entry)) (now (status .entry)) (now (counts .entry))) ⌝ }
-    ensures { λ r. ⌜ now (counts .exit)
-        ≡ heldAfter (countsAnswer (now (positions .entry)) (now (cells .entry)) (now (status .entry)) (now (counts .entry)))
-        (countTable (levelsIn (now (positions .entry)) (now (cells .entry)) (now (status .entry))))
-        (now (counts .entry)) ⌝ }
-    ensures { λ r. ⌜ now («level_count» .exit)
-        ≡ valueAfter (countsAnswer (now (positions .entry)) (now (cells .entry)) (now (status .entry)) (now (counts .entry)))
-        (length (levelsIn (now (positions .entry)) (now (cells .entry)) (now (status .entry))))
-        (now («level_count» .entry)) ⌝ }
+    ensures { λ r. ⌜ r ≡ codeOf (countsAnswer (was positions) (was cells) (was status) (was counts)) ⌝ }
+    ensures { λ r. ⌜ is counts
+        ≡ heldAfter (countsAnswer (was positions) (was cells) (was status) (was counts))
+        (countTable (levelsIn (was positions) (was cells) (was status)))
+        (was counts) ⌝ }
+    ensures { λ r. ⌜ is «level_count»
+        ≡ valueAfter (countsAnswer (was positions) (was cells) (was status) (was counts))
+        (length (levelsIn (was positions) (was cells) (was status)))
+        (was «level_count») ⌝ }
 {
     let counted = layout::counts(positions, cells, status, counts);
     match counted {
@@ -221,15 +222,15 @@ pub extern "C" fn yd_step(
     table: &mut [u8],
     cell_count: &mut usize,
 ) -> u8
-    ensures { λ r. ⌜ r ≡ codeOf (stepAnswer (now (positions .entry)) (now (cells .entry)) (now (status .entry)) (now (marks .entry)) (now (table .entry))) ⌝ }
-    ensures { λ r. ⌜ now (table .exit)
-        ≡ heldAfter (stepAnswer (now (positions .entry)) (now (cells .entry)) (now (status .entry)) (now (marks .entry)) (now (table .entry)))
-        (newTable (cornerCount (now (positions .entry))) (fours (now (cells .entry))) (now (status .entry)) (now (marks .entry)))
-        (now (table .entry)) ⌝ }
-    ensures { λ r. ⌜ now («cell_count» .exit)
-        ≡ valueAfter (stepAnswer (now (positions .entry)) (now (cells .entry)) (now (status .entry)) (now (marks .entry)) (now (table .entry)))
-        (length (newTable (cornerCount (now (positions .entry))) (fours (now (cells .entry))) (now (status .entry)) (now (marks .entry))))
-        (now («cell_count» .entry)) ⌝ }
+    ensures { λ r. ⌜ r ≡ codeOf (stepAnswer (was positions) (was cells) (was status) (was marks) (was table)) ⌝ }
+    ensures { λ r. ⌜ is table
+        ≡ heldAfter (stepAnswer (was positions) (was cells) (was status) (was marks) (was table))
+        (newTable (cornerCount (was positions)) (fours (was cells)) (was status) (was marks))
+        (was table) ⌝ }
+    ensures { λ r. ⌜ is «cell_count»
+        ≡ valueAfter (stepAnswer (was positions) (was cells) (was status) (was marks) (was table))
+        (length (newTable (cornerCount (was positions)) (fours (was cells)) (was status) (was marks)))
+        (was «cell_count») ⌝ }
 {
     let stepped = step::step(positions, cells, status, marks, table);
     match stepped {
@@ -256,43 +257,43 @@ pub extern "C" fn yd_read(
     mark_count: &mut usize,
     step_count: &mut usize,
 ) -> u8
-    ensures { λ r. ⌜ r ≡ codeOf (readAnswer (now (bytes .entry)) (now (positions .entry)) (now (cells .entry)) (now (marked .entry)) (now (marks .entry)) (now (ends .entry))) ⌝ }
-    ensures { λ r. ⌜ now (positions .exit)
-        ≡ heldAfter (readAnswer (now (bytes .entry)) (now (positions .entry)) (now (cells .entry)) (now (marked .entry)) (now (marks .entry)) (now (ends .entry)))
-        ((jobOf (now (bytes .entry))) .positions)
-        (now (positions .entry)) ⌝ }
-    ensures { λ r. ⌜ now (cells .exit)
-        ≡ heldAfter (readAnswer (now (bytes .entry)) (now (positions .entry)) (now (cells .entry)) (now (marked .entry)) (now (marks .entry)) (now (ends .entry)))
-        ((jobOf (now (bytes .entry))) .cells)
-        (now (cells .entry)) ⌝ }
-    ensures { λ r. ⌜ now (marked .exit)
-        ≡ heldAfter (readAnswer (now (bytes .entry)) (now (positions .entry)) (now (cells .entry)) (now (marked .entry)) (now (marks .entry)) (now (ends .entry)))
-        (markedOf ((jobOf (now (bytes .entry))) .steps))
-        (now (marked .entry)) ⌝ }
-    ensures { λ r. ⌜ now (marks .exit)
-        ≡ heldAfter (readAnswer (now (bytes .entry)) (now (positions .entry)) (now (cells .entry)) (now (marked .entry)) (now (marks .entry)) (now (ends .entry)))
-        (marksOf ((jobOf (now (bytes .entry))) .steps))
-        (now (marks .entry)) ⌝ }
-    ensures { λ r. ⌜ now (ends .exit)
-        ≡ heldAfter (readAnswer (now (bytes .entry)) (now (positions .entry)) (now (cells .entry)) (now (marked .entry)) (now (marks .entry)) (now (ends .entry)))
-        (endsOf ((jobOf (now (bytes .entry))) .steps))
-        (now (ends .entry)) ⌝ }
-    ensures { λ r. ⌜ now («corner_count» .exit)
-        ≡ valueAfter (readAnswer (now (bytes .entry)) (now (positions .entry)) (now (cells .entry)) (now (marked .entry)) (now (marks .entry)) (now (ends .entry)))
-        (lengthsOf (jobOf (now (bytes .entry))) .corners)
-        (now («corner_count» .entry)) ⌝ }
-    ensures { λ r. ⌜ now («cell_count» .exit)
-        ≡ valueAfter (readAnswer (now (bytes .entry)) (now (positions .entry)) (now (cells .entry)) (now (marked .entry)) (now (marks .entry)) (now (ends .entry)))
-        (lengthsOf (jobOf (now (bytes .entry))) .cells)
-        (now («cell_count» .entry)) ⌝ }
-    ensures { λ r. ⌜ now («mark_count» .exit)
-        ≡ valueAfter (readAnswer (now (bytes .entry)) (now (positions .entry)) (now (cells .entry)) (now (marked .entry)) (now (marks .entry)) (now (ends .entry)))
-        (lengthsOf (jobOf (now (bytes .entry))) .marks)
-        (now («mark_count» .entry)) ⌝ }
-    ensures { λ r. ⌜ now («step_count» .exit)
-        ≡ valueAfter (readAnswer (now (bytes .entry)) (now (positions .entry)) (now (cells .entry)) (now (marked .entry)) (now (marks .entry)) (now (ends .entry)))
-        (lengthsOf (jobOf (now (bytes .entry))) .steps)
-        (now («step_count» .entry)) ⌝ }
+    ensures { λ r. ⌜ r ≡ codeOf (readAnswer (was bytes) (was positions) (was cells) (was marked) (was marks) (was ends)) ⌝ }
+    ensures { λ r. ⌜ is positions
+        ≡ heldAfter (readAnswer (was bytes) (was positions) (was cells) (was marked) (was marks) (was ends))
+        ((jobOf (was bytes)) .positions)
+        (was positions) ⌝ }
+    ensures { λ r. ⌜ is cells
+        ≡ heldAfter (readAnswer (was bytes) (was positions) (was cells) (was marked) (was marks) (was ends))
+        ((jobOf (was bytes)) .cells)
+        (was cells) ⌝ }
+    ensures { λ r. ⌜ is marked
+        ≡ heldAfter (readAnswer (was bytes) (was positions) (was cells) (was marked) (was marks) (was ends))
+        (markedOf ((jobOf (was bytes)) .steps))
+        (was marked) ⌝ }
+    ensures { λ r. ⌜ is marks
+        ≡ heldAfter (readAnswer (was bytes) (was positions) (was cells) (was marked) (was marks) (was ends))
+        (marksOf ((jobOf (was bytes)) .steps))
+        (was marks) ⌝ }
+    ensures { λ r. ⌜ is ends
+        ≡ heldAfter (readAnswer (was bytes) (was positions) (was cells) (was marked) (was marks) (was ends))
+        (endsOf ((jobOf (was bytes)) .steps))
+        (was ends) ⌝ }
+    ensures { λ r. ⌜ is «corner_count»
+        ≡ valueAfter (readAnswer (was bytes) (was positions) (was cells) (was marked) (was marks) (was ends))
+        (lengthsOf (jobOf (was bytes)) .corners)
+        (was «corner_count») ⌝ }
+    ensures { λ r. ⌜ is «cell_count»
+        ≡ valueAfter (readAnswer (was bytes) (was positions) (was cells) (was marked) (was marks) (was ends))
+        (lengthsOf (jobOf (was bytes)) .cells)
+        (was «cell_count») ⌝ }
+    ensures { λ r. ⌜ is «mark_count»
+        ≡ valueAfter (readAnswer (was bytes) (was positions) (was cells) (was marked) (was marks) (was ends))
+        (lengthsOf (jobOf (was bytes)) .marks)
+        (was «mark_count») ⌝ }
+    ensures { λ r. ⌜ is «step_count»
+        ≡ valueAfter (readAnswer (was bytes) (was positions) (was cells) (was marked) (was marks) (was ends))
+        (lengthsOf (jobOf (was bytes)) .steps)
+        (was «step_count») ⌝ }
 {
     let reading = jobs::read(bytes, positions, cells, marked, marks, ends);
     match reading {
@@ -318,15 +319,15 @@ pub extern "C" fn yd_write(
     bytes: &mut [u8],
     byte_count: &mut usize,
 ) -> u8
-    ensures { λ r. ⌜ r ≡ codeOf (writeAnswer (now (positions .entry)) (now (cells .entry)) (now (marked .entry)) (now (marks .entry)) (now (ends .entry)) (now (bytes .entry))) ⌝ }
-    ensures { λ r. ⌜ now (bytes .exit)
-        ≡ heldAfter (writeAnswer (now (positions .entry)) (now (cells .entry)) (now (marked .entry)) (now (marks .entry)) (now (ends .entry)) (now (bytes .entry)))
-        (jobBytes (jobFrom (now (positions .entry)) (now (cells .entry)) (now (marked .entry)) (now (marks .entry)) (now (ends .entry))))
-        (now (bytes .entry)) ⌝ }
-    ensures { λ r. ⌜ now («byte_count» .exit)
-        ≡ valueAfter (writeAnswer (now (positions .entry)) (now (cells .entry)) (now (marked .entry)) (now (marks .entry)) (now (ends .entry)) (now (bytes .entry)))
-        (length (jobBytes (jobFrom (now (positions .entry)) (now (cells .entry)) (now (marked .entry)) (now (marks .entry)) (now (ends .entry)))))
-        (now («byte_count» .entry)) ⌝ }
+    ensures { λ r. ⌜ r ≡ codeOf (writeAnswer (was positions) (was cells) (was marked) (was marks) (was ends) (was bytes)) ⌝ }
+    ensures { λ r. ⌜ is bytes
+        ≡ heldAfter (writeAnswer (was positions) (was cells) (was marked) (was marks) (was ends) (was bytes))
+        (jobBytes (jobFrom (was positions) (was cells) (was marked) (was marks) (was ends)))
+        (was bytes) ⌝ }
+    ensures { λ r. ⌜ is «byte_count»
+        ≡ valueAfter (writeAnswer (was positions) (was cells) (was marked) (was marks) (was ends) (was bytes))
+        (length (jobBytes (jobFrom (was positions) (was cells) (was marked) (was marks) (was ends))))
+        (was «byte_count») ⌝ }
 {
     let writing = jobs::write(positions, cells, marked, marks, ends, bytes);
     match writing {
@@ -347,23 +348,23 @@ pub extern "C" fn yd_replay(
     cell_count: &mut usize,
     level_count: &mut usize,
 ) -> u8
-    ensures { λ r. ⌜ r ≡ codeOf (replayAnswer (now (bytes .entry)) (now (table .entry)) (now (counts .entry))) ⌝ }
-    ensures { λ r. ⌜ now (table .exit)
-        ≡ heldAfter (replayAnswer (now (bytes .entry)) (now (table .entry)) (now (counts .entry)))
-        (jobTable (jobOf (now (bytes .entry))))
-        (now (table .entry)) ⌝ }
-    ensures { λ r. ⌜ now (counts .exit)
-        ≡ heldAfter (replayAnswer (now (bytes .entry)) (now (table .entry)) (now (counts .entry)))
-        (jobCounts (jobOf (now (bytes .entry))))
-        (now (counts .entry)) ⌝ }
-    ensures { λ r. ⌜ now («cell_count» .exit)
-        ≡ valueAfter (replayAnswer (now (bytes .entry)) (now (table .entry)) (now (counts .entry)))
-        (sizeOf (jobOf (now (bytes .entry))) .cells)
-        (now («cell_count» .entry)) ⌝ }
-    ensures { λ r. ⌜ now («level_count» .exit)
-        ≡ valueAfter (replayAnswer (now (bytes .entry)) (now (table .entry)) (now (counts .entry)))
-        (sizeOf (jobOf (now (bytes .entry))) .levels)
-        (now («level_count» .entry)) ⌝ }
+    ensures { λ r. ⌜ r ≡ codeOf (replayAnswer (was bytes) (was table) (was counts)) ⌝ }
+    ensures { λ r. ⌜ is table
+        ≡ heldAfter (replayAnswer (was bytes) (was table) (was counts))
+        (jobTable (jobOf (was bytes)))
+        (was table) ⌝ }
+    ensures { λ r. ⌜ is counts
+        ≡ heldAfter (replayAnswer (was bytes) (was table) (was counts))
+        (jobCounts (jobOf (was bytes)))
+        (was counts) ⌝ }
+    ensures { λ r. ⌜ is «cell_count»
+        ≡ valueAfter (replayAnswer (was bytes) (was table) (was counts))
+        (sizeOf (jobOf (was bytes)) .cells)
+        (was «cell_count») ⌝ }
+    ensures { λ r. ⌜ is «level_count»
+        ≡ valueAfter (replayAnswer (was bytes) (was table) (was counts))
+        (sizeOf (jobOf (was bytes)) .levels)
+        (was «level_count») ⌝ }
 {
     let replayed = jobs::replay(bytes, table, counts);
     match replayed {
