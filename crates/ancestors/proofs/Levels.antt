@@ -12,12 +12,12 @@ use lib.ListN.{length, getD, take, drop, length-append, length-map, List·getD-a
 use lib.Seq.{getD-append-add, append-snoc, getD-append-seam}
 use borrow.Author.Tests.{ltb-true, ltb-false}
 use Rattle.cutting.specs.Rule.{family}
-use Rattle.mesh.specs.Cells.{Cell, redb, patternOf, childrenFrom, children}
+use Rattle.mesh.specs.Cells.{Cell, redb, patternOf, childrenFrom, children, noCell}
 use Rattle.mesh.specs.Weights.{Point, point, coarseFrom, coarseCells}
 use Rattle.mesh.specs.Table.{next, levels, levelsOf, cellsOf}
 use Rattle.mesh.specs.Layout.{mapCell}
-use Rattle.lattice.specs.Every.{All, all-append, all-at}
-use Rattle.ancestors.specs.Linked.{noCell, pathAt, parentAt, Child, Linked}
+use Rattle.base.specs.Every.{All, all-append, all-at}
+use Rattle.ancestors.specs.Linked.{pathAt, parentAt, Child, Linked}
 
 -- the cell c is a child of one of the cells l
 pub record Kid {A : Type 0} (l : List (Cell A)) (c : Cell A) : Type 0 where

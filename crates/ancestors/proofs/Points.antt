@@ -8,12 +8,11 @@ use lib.Dec.{eqb}
 use lib.ListN.{length, take, drop, length-map}
 use Rattle.base.specs.Lists.{filterb}
 use Rattle.cutting.specs.Rule.{choose, childb, present, family}
-use Rattle.mesh.specs.Cells.{Cell, redb, patternOf, childrenFrom, children}
+use Rattle.mesh.specs.Cells.{Cell, redb, patternOf, childrenFrom, children, Four}
 use Rattle.mesh.specs.Weights.{Point, point, coarse, coarseFrom, coarseCells}
 use Rattle.mesh.specs.Table.{next, levels, levelsOf, cellsOf}
 use Rattle.mesh.specs.Layout.{mapCell}
-use Rattle.lattice.specs.Every.{All, all-append}
-use Rattle.ancestors.specs.Linked.{Four}
+use Rattle.base.specs.Every.{All, all-append}
 
 abbrev Sized : ℕ → List ℕ → Type 0
 Sized n d = length d ≡ n

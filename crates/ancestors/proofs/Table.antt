@@ -2,29 +2,25 @@
 -- Assumes nothing.
 use mathlib.Core.Path.{_≡_, refl, _∙_, ap}
 use mathlib.Core.List.{List, [], _∷_, _++_, map, flatMap}
-use Prim.Native.Nat.{ℕ, zero, suc, _+_, _*_, _<_, pred}
+use Prim.Native.Nat.{ℕ, _+_, _*_, _<_, pred}
 use native.Mathlib.Omega.{arith}
 use lib.ListN.{length, getD, take, length-map, List·getD-map}
-use Rattle.mesh.specs.Cells.{Cell}
+use Rattle.mesh.specs.Cells.{Cell, noCell, Four}
 use Rattle.mesh.specs.Weights.{Point}
 use Rattle.mesh.specs.Table.{levelsOf, cellsOf}
 use Rattle.mesh.specs.Layout.{Corner, rowOf, mapCell, numberIn, cellTable}
-use Rattle.lattice.specs.Every.{All}
+use Rattle.base.specs.Every.{All}
 use Rattle.ancestors.specs.Climb.{levelIn, Upward, upward-to, climbFrom}
-use Rattle.ancestors.specs.Linked.{noCell, Linked, Four, ancestorOf}
+use Rattle.ancestors.specs.Linked.{Linked, ancestorOf}
 use Rattle.ancestors.proofs.Ways.{upward, level-held, climb-right}
 use Rattle.ancestors.proofs.Levels.{cells-linked, map-linked}
 use Rattle.ancestors.proofs.Points.{cells-four, map-four}
+use Rattle.base.specs.Each.{default-free}
 
 rows-map : (ks : List Corner) (cs : List (Cell Point)) → cellTable ks cs ≡ flatMap rowOf (map (mapCell (numberIn ks)) cs)
 unfolding cellTable flatMap
 rows-map ks [] = refl
 rows-map ks (c ∷ cs) = ap (λ (l : List ℕ). rowOf (mapCell (numberIn ks) c) ++ l) (rows-map ks cs)
-
-default : {A : Type 0} (l : List A) (k : ℕ) (a b : A) → k < length l → getD l k a ≡ getD l k b
-default [] k a b h = absurd (omega arith)
-default (x ∷ l) zero a b h = refl
-default (x ∷ l) (suc k) a b h = default l k a b (omega arith)
 
 -- the rows of linked cells, over the numbers of their corners
 module _ (ks : List Corner) (cs : List (Cell Point)) (l : Linked cs) (four : All Four cs) (t : List ℕ) (rows : take (8 * length cs) t ≡ cellTable ks cs) where
@@ -48,14 +44,14 @@ module _ (ks : List Corner) (cs : List (Cell Point)) (l : Linked cs) (four : All
   unfolding numbered mapCell
   rows-climb c h d =
       climb-right numbered (map-linked (numberIn ks) cs l) (map-four (numberIn ks) cs four) t held c (omega (arith, size))
-      ∙ ap ancestorOf (List·getD-map (mapCell (numberIn ks)) cs c noCell) ∙ ap ancestorOf (default cs c noCell d h)
+      ∙ ap ancestorOf (List·getD-map (mapCell (numberIn ks)) cs c noCell) ∙ ap ancestorOf (default-free cs c noCell d h)
 
   pub rows-level : (c : ℕ) → c < length cs → (d : Cell Point) → levelIn t c ≡ pred (length (getD cs c d .path))
   unfolding numbered mapCell
   rows-level c h d =
       level-held numbered (map-linked (numberIn ks) cs l) (map-four (numberIn ks) cs four) t held c (omega (arith, size))
       ∙ ap (λ (x : Cell ℕ). pred (length (x .path))) (List·getD-map (mapCell (numberIn ks)) cs c noCell)
-      ∙ ap (λ (x : Cell Point). pred (length (x .path))) (default cs c noCell d h)
+      ∙ ap (λ (x : Cell Point). pred (length (x .path))) (default-free cs c noCell d h)
 
 -- the table that a status table over cells of four corners is laid out as
 module _ (n : ℕ) (qs : List (List ℕ)) (ss : List ℕ) (four : All (λ q. length q ≡ 4) qs) (ks : List Corner) (t : List ℕ)

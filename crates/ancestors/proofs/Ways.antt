@@ -1,29 +1,19 @@
 -- In a table of the rows of linked cells the way from a cell leads to its coarse ancestor, in as many turns as its level says.
 -- Assumes nothing.
-use mathlib.Core.Path.{_≡_, refl, sym, _∙_, ap, ap₂}
+use mathlib.Core.Path.{_≡_, sym, _∙_, ap, ap₂}
 use mathlib.Core.Logic.{_⊎_, inl, inr, ⊎-elim}
 use mathlib.Core.List.{List, [], _∷_, _++_, flatMap}
 use Prim.Native.Nat.{ℕ, zero, suc, _+_, _*_, _-_, _≤_, _<_, pred}
 use native.Mathlib.Omega.{arith}
 use lib.ListN.{length, getD, take, length-append, length-take, List·getD-append}
 use lib.Seq.{getD-append-add, getD-take}
-use Rattle.mesh.specs.Cells.{Cell}
+use Rattle.mesh.specs.Cells.{Cell, noCell, Four}
 use Rattle.mesh.specs.Layout.{rowOf}
-use Rattle.lattice.specs.Every.{All}
+use Rattle.base.specs.Every.{All}
 use Rattle.ancestors.specs.declared.Ancestor.{Ancestor}
 use Rattle.ancestors.specs.Climb.{levelIn, parentIn, ancestor, raised, climbFrom, climb-here, climb-up, Upward}
-use Rattle.ancestors.specs.Linked.{noCell, pathAt, parentAt, Child, Linked, Four, ancestorOf}
-
--- a cell has four points, and so a row eight numbers
-row-size : (c : Cell ℕ) → Four c → length (rowOf c) ≡ 8
-unfolding rowOf
-row-size c e = rw e
-
-rows-size : (cs : List (Cell ℕ)) → All Four cs → length (flatMap rowOf cs) ≡ 8 * length cs
-unfolding flatMap
-rows-size [] q = refl
-rows-size (c ∷ cs) q =
-    omega (arith, length-append (rowOf c) (flatMap rowOf cs), row-size c (q .0), rows-size cs (q .1))
+use Rattle.ancestors.specs.Linked.{pathAt, parentAt, Child, Linked, ancestorOf}
+use Rattle.rows.specs.Laws.{row-size, rows-size}
 
 row-at : (cs : List (Cell ℕ)) → All Four cs → (k i : ℕ) → k < length cs → i < 8
     → getD (flatMap rowOf cs) (8 * k + i) 0 ≡ getD (rowOf (getD cs k noCell)) i 0

@@ -1,17 +1,14 @@
 -- Lists of cells in which each cell's place is its number.
---   noCell           stands for a cell that is not there
 --   pathAt cs k      the path of the cell k; parentAt cs k its parent's number
 --   Child cs k       the cell k comes after its parent, and its path is the parent's and one number more
 --   Linked cs        each cell is coarse, with its own number for a path, or a child
---   Four c           the cell c has four points
 --   ancestorOf c     the coarse ancestor and the level of the cell c
 use mathlib.Core.Path.{_≡_}
 use mathlib.Core.Logic.{_⊎_}
-use mathlib.Core.Bool.{false}
 use mathlib.Core.List.{List, [], _∷_, _++_}
 use Prim.Native.Nat.{ℕ, _<_}
 use lib.ListN.{length, getD}
-use Rattle.mesh.specs.Cells.{Cell}
+use Rattle.mesh.specs.Cells.{Cell, noCell}
 use Rattle.mesh.specs.Counts.{coarseOf, levelOf}
 use Rattle.ancestors.specs.declared.Ancestor.{Ancestor}
 use Rattle.ancestors.specs.Climb.{ancestor}
@@ -19,13 +16,7 @@ use Rattle.ancestors.specs.Climb.{ancestor}
 abbrev pub ancestorOf : {A : Type 0} → Cell A → Ancestor
 ancestorOf c = ancestor (coarseOf c) (levelOf c)
 
-abbrev pub Four : {A : Type 0} → Cell A → Type 0
-Four c = length (c .points) ≡ 4
-
 module _ {A : Type 0} where
-  abbrev pub noCell : Cell A
-  noCell = record { path = []; parent = 0; regular = false; points = [] }
-
   abbrev pub pathAt : List (Cell A) → ℕ → List ℕ
   pathAt cs k = getD cs k noCell .path
 

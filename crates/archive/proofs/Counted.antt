@@ -11,7 +11,7 @@ use native.Mathlib.Omega.{arith}
 use lib.Dec.{T, leb, leb→le}
 use lib.IntN.{ℤ}
 use lib.ListN.{length, drop}
-use Rattle.base.specs.Lists.{and-left}
+use Rattle.base.specs.Bools.{and-left}
 use Rattle.archive.specs.Form.{cornersIn, cellsIn, stepsIn, behindCorners, behindCells, formb, jobOf}
 use Rattle.archive.specs.Records.{recordsIn, corners-many, cells-many}
 use Rattle.archive.specs.Tables.{Counts}

@@ -14,7 +14,7 @@ use lib.Dec.{T, eqb, leb, ltb}
 use lib.ListN.{length, getD, drop, length-drop, length-append}
 use lib.Seq.{getD-drop}
 use borrow.Author.Tests.{ltb-true, ltb-false}
-use Rattle.base.specs.Lists.{is-true, and-left, and-right}
+use Rattle.base.specs.Bools.{is-true, and-left, and-right}
 use Rattle.archive.specs.Form.{letter, startsb, stepsIn, Steps, markedb, emptyb, u16At}
 use Rattle.archive.specs.Tables.{Mark}
 use Rattle.archive.specs.Scan.{markb, endb, markIn, On, behind, no-fuel, steps-mark, steps-step, steps-end, stop, same-mark, end-least, least-none, on-out}

@@ -16,7 +16,7 @@ use mir.Syntax.{w32}
 use mir.Val.{SFits, toZ, ofZ}
 use lib.Signed.{ltZ}
 use mir.ValLaws.{toZ-pos, toZ-ofZ}
-use Rattle.base.specs.Places.{not-both}
+use Rattle.base.specs.Bools.{not-both}
 use Rattle.archive.specs.Job.{word}
 use Rattle.archive.specs.Form.{signed}
 

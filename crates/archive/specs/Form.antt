@@ -11,6 +11,7 @@ use Prim.Native.Nat.{ℕ, zero, suc, _+_, _*_, _-_}
 use lib.Dec.{eqb, leb, ltb}
 use lib.IntN.{ℤ, pos, negsuc}
 use lib.ListN.{length, getD, drop}
+use Rattle.base.specs.Limits.{mostBytes}
 use Rattle.archive.specs.Job.{Job}
 
 unfoldable pub whole : ℕ → List ℕ → ℕ
@@ -96,7 +97,7 @@ behindCells bs = cellsIn (length bs) (behindCorners bs) .1
 -- "Order: V, T, then M and G, then E." "An archive has at most 65,536 bytes."
 unfoldable pub formb : List ℕ → Bool
 unfolding stepsIn behindCells
-formb bs = leb (length bs) 65536 && stepsIn (length bs) [] (behindCells bs) .ok
+formb bs = leb (length bs) mostBytes && stepsIn (length bs) [] (behindCells bs) .ok
 
 unfoldable pub jobOf : List ℕ → Job
 unfolding cornersIn cellsIn stepsIn behindCorners behindCells

@@ -12,7 +12,7 @@ use native.Mathlib.Omega.{arith}
 use lib.Dec.{eqb, leb, leb→le}
 use lib.ListN.{length, drop, length-drop}
 use lib.Seq.{drop-drop}
-use Rattle.base.specs.Lists.{and-right}
+use Rattle.base.specs.Bools.{and-right}
 use Rattle.archive.specs.Form.{startsb, letter, cornersIn, cellsIn}
 
 unfoldable pub recordsIn : ℕ → ℕ → ℕ → List ℕ → ℕ

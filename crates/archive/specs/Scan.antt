@@ -16,7 +16,7 @@ use lib.Dec.{T, eqb, leb}
 use lib.ListN.{length, getD, drop, length-drop, length-append, drop-of-length-le}
 use lib.Seq.{drop-drop}
 use borrow.Author.Tests.{eqb-true, le-leb, ne-eqb}
-use Rattle.base.specs.Lists.{is-true, and-left, and-right}
+use Rattle.base.specs.Bools.{is-true, and-left, and-right}
 use Rattle.archive.specs.Form.{whole, u16At, startsb, markedb, followsb, emptyb, Steps, stepsIn}
 use Rattle.archive.specs.Records.{starts-long}
 use Rattle.archive.specs.Tables.{Mark}

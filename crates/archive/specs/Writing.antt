@@ -12,7 +12,7 @@ use lib.IntN.{ℤ}
 use lib.ListN.{length, drop, length-drop, take-append-drop}
 use lib.Seq.{drop-drop, drop-cons}
 use borrow.Author.Tests.{eqb-true}
-use Rattle.base.specs.Lists.{is-true, and-left}
+use Rattle.base.specs.Bools.{is-true, and-left}
 use Rattle.archive.specs.Job.{bytes, word, cornerBytes, cellBytes, markBytes}
 use Rattle.archive.specs.Form.{whole, letter, i32At, u16At, startsb, cornersIn, cellsIn}
 use Rattle.archive.specs.Records.{starts-long, corners-none, cells-none}

@@ -12,7 +12,7 @@ use native.Mathlib.Omega.{arith}
 use lib.Dec.{T, eqb, leb, leb→le}
 use lib.ListN.{length, getD, drop}
 use borrow.Author.Tests.{eqb-true}
-use Rattle.base.specs.Lists.{is-true, and-left, and-right}
+use Rattle.base.specs.Bools.{is-true, and-left, and-right}
 use Rattle.archive.specs.Job.{cornerBytes, cellBytes, markBytes, jobBytes}
 use Rattle.archive.specs.Form.{letter, u16At, startsb, Steps, stepsIn, markedb, emptyb, behindCorners, behindCells, formb, jobOf}
 use Rattle.archive.specs.Records.{recordsIn, starts-long, corners-many, corners-behind, cells-many, cells-behind}

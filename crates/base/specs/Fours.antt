@@ -3,9 +3,11 @@
 --   faces q       the four faces of q, three elements each; face n leaves out the element n (both counted from 0)
 --   holders l t   how many of the fours of l have the face t
 use mathlib.Core.List.{List, [], _∷_}
-use Prim.Native.Nat.{ℕ}
+use Prim.Native.Nat.{ℕ, _/_, _-_}
 use lib.ListN.{length, getD}
 use Rattle.base.specs.Lists.{filterb, anyb, sameb}
+use mathlib.Core.Path.{_≡_, refl}
+use native.Mathlib.Omega.{arith}
 
 unfoldable pub fours : List ℕ → List (List ℕ)
 fours [] = []
@@ -22,3 +24,19 @@ faces q =
 unfoldable pub holders : List (List ℕ) → List ℕ → ℕ
 unfolding faces filterb anyb sameb
 holders l t = length (filterb (λ q. anyb (sameb t) (faces q)) l)
+
+pub length-fours : (ts : List ℕ) → length (fours ts) ≡ length ts / 4
+unfolding fours
+length-fours [] = refl
+length-fours (a ∷ []) = refl
+length-fours (a ∷ b ∷ []) = refl
+length-fours (a ∷ b ∷ c ∷ []) = refl
+length-fours (a ∷ b ∷ c ∷ d ∷ ts) = omega (arith, length-fours ts)
+
+pub four-points : (l : List ℕ) → length l ≡ 4 → getD l 0 0 ∷ getD l 1 0 ∷ getD l 2 0 ∷ getD l 3 0 ∷ [] ≡ l
+four-points [] e = absurd (omega arith)
+four-points (a ∷ []) e = absurd (omega arith)
+four-points (a ∷ b ∷ []) e = absurd (omega arith)
+four-points (a ∷ b ∷ c ∷ []) e = absurd (omega arith)
+four-points (a ∷ b ∷ c ∷ d ∷ []) e = refl
+four-points (a ∷ b ∷ c ∷ d ∷ x ∷ l) e = absurd (omega arith)

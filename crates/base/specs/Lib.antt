@@ -1,5 +1,9 @@
+pub mod Bools
 pub mod Lists
+pub mod Every
+pub mod Each
+pub mod Places
 pub mod Fours
 pub mod Refuse
-pub mod Places
 pub mod Lent
+pub mod Limits

@@ -5,17 +5,17 @@
 --   memberb x l          the number x stands in l
 --   sameb l m            l and m are the same numbers in the same order
 --   samesb l m           the same for lists of lists
---   impb a b             b holds where a does
---   one-if b             1 where b holds, else 0
-use mathlib.Core.Path.{_≡_, refl, ap₂}
-use mathlib.Core.Logic.{⊎-elim}
-use mathlib.Core.Bool.{Bool, true, false, _&&_, _||_, not}
+use mathlib.Core.Path.{_≡_, refl, ap₂, sym}
+use mathlib.Core.Logic.{⊎-elim, _⊎_}
+use mathlib.Core.Bool.{Bool, true, false, _&&_, _||_}
 use mathlib.Core.List.{List, [], _∷_}
 use Prim.Native.Nat.{ℕ, zero, suc, _<_}
 use native.Mathlib.Nat.{eq-or-lt-of-le}
 use native.Mathlib.Omega.{arith}
 use lib.Dec.{T, eqb, eqb→eq}
 use lib.ListN.{length, getD}
+use Rattle.base.specs.Bools.{and-left, and-right, or-either, or-second}
+use borrow.Author.Tests.{eq-eqb}
 
 module _ {A : Type 0} where
   unfoldable pub allb : (A → Bool) → List A → Bool
@@ -51,36 +51,6 @@ samesb [] (y ∷ m) = false
 samesb (x ∷ l) [] = false
 samesb (x ∷ l) (y ∷ m) = sameb x y && samesb l m
 
-unfoldable pub impb : Bool → Bool → Bool
-impb true b = b
-impb false b = true
-
-unfoldable pub one-if : Bool → ℕ
-one-if true = 1
-one-if false = 0
-
--- What a passed test says.
-pub is-true : (b : Bool) → T b → b ≡ true
-is-true true t = refl
-is-true false t = absurd t
-
-pub is-false : (b : Bool) → T (not b) → b ≡ false
-is-false true t = absurd t
-is-false false t = refl
-
-pub and-left : (a b : Bool) → T (a && b) → T a
-and-left true b t = tt
-and-left false b t = t
-
-pub and-right : (a b : Bool) → T (a && b) → T b
-and-right true b t = t
-and-right false b t = absurd t
-
-pub impb-use : (a b : Bool) → T (impb a b) → T a → T b
-unfolding impb
-impb-use true b t u = t
-impb-use false b t u = absurd u
-
 pub allb-at : {A : Type 0} (f : A → Bool) (d : A) (l : List A) → T (allb f l) → (k : ℕ) → k < length l → T (f (getD l k d))
 unfolding allb
 allb-at f d [] t k h = absurd (omega arith)
@@ -110,3 +80,16 @@ samesb-eq [] (y ∷ m) t = absurd t
 samesb-eq (x ∷ l) [] t = absurd t
 samesb-eq (x ∷ l) (y ∷ m) t =
     ap₂ _∷_ (sameb-eq x y (and-left (sameb x y) (samesb l m) t)) (samesb-eq l m (and-right (sameb x y) (samesb l m) t))
+
+pub member-at : (l : List ℕ) (k : ℕ) → k < length l → T (memberb (getD l k 0) l)
+unfolding memberb
+member-at [] k h = absurd (omega arith)
+member-at (x ∷ l) zero h = rw (eq-eqb x x refl) tt
+member-at (x ∷ l) (suc k) h = or-second (eqb (getD l k 0) x) (memberb (getD l k 0) l) (member-at l k (omega arith))
+
+pub member-place : (x : ℕ) (l : List ℕ) → T (memberb x l) → (k : ℕ) × (k < length l) × (getD l k 0 ≡ x)
+unfolding memberb
+member-place x [] t = absurd t
+member-place x (y ∷ l) t =
+    ⊎-elim (λ (u : T (eqb x y)). (0, omega arith, sym (eqb→eq x y u))) (λ (u : T (memberb x l)). let (k, h, e) = member-place x l u in (suc k, omega arith, e))
+    (or-either (eqb x y) (memberb x l) t)

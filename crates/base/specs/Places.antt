@@ -11,11 +11,11 @@ use mathlib.Core.List.{List, [], _∷_, _++_}
 use Prim.Native.Nat.{ℕ, zero, suc, _+_, _≤_, _<_}
 use native.Mathlib.Nat.{zero-add, suc-add, eq-or-lt-of-le}
 use native.Mathlib.Omega.{arith}
-use lib.Dec.{T, eqb}
 use borrow.Author.Tests.{eq-eqb}
 use lib.ListN.{length, getD, length-append, List·getD-append}
 use lib.Seq.{getD-append-seam}
 use Rattle.base.specs.Lists.{sameb, sameb-eq}
+use Rattle.base.specs.Bools.{either, not-both}
 
 module _ {A : Type 0} (same : A → A → Bool) where
   unfoldable pub hasb : List A → A → Bool
@@ -33,14 +33,6 @@ module _ {A : Type 0} (same : A → A → Bool) where
   pub record Same : Type 0 where
     pub sound : (a b : A) → same a b ≡ true → a ≡ b
     pub self : (a : A) → same a a ≡ true
-
--- a test is one of the two, with its equation; and it is not both
-pub either : (b : Bool) → (b ≡ true) ⊎ (b ≡ false)
-either true = inl refl
-either false = inr refl
-
-pub not-both : {A : Type 0} (b : Bool) → b ≡ true → b ≡ false → A
-not-both b p q = let w : _≡_ {A = ℕ} 0 1 = cc in absurd (omega arith)
 
 module _ {A : Type 0} (same : A → A → Bool) where
   pub has-append : (l m : List A) (a : A) → hasb same (l ++ m) a ≡ (hasb same l a || hasb same m a)

@@ -5,26 +5,28 @@
 -- between shared corners is one of both cells), carried (a family of the first cell joins the two points, where the edges that
 -- the second cell has are split), shared (there is such an edge); carried-edge and shared-edge, the same where the two points
 -- are the ends of one edge in some order.
+use mathlib.Core.List.{[]}
 use mathlib.Core.Path.{_≡_, refl, ap₂}
 use mathlib.Core.Logic.{⊎-elim}
 use mathlib.Core.Bool.{Bool, true, false, _&&_}
-use mathlib.Core.List.{[]}
 use Prim.Native.Nat.{ℕ, _<_}
 use native.Mathlib.Omega.{arith}
 use lib.Dec.{T, ltb}
 use borrow.Author.Tests.{ltb-true}
-use Rattle.base.specs.Lists.{allb, sameb, impb}
+use Rattle.base.specs.Lists.{allb, sameb}
+use Rattle.base.specs.Bools.{impb, and-both}
 use Rattle.base.specs.Places.{sameb-self}
 use Rattle.cutting.specs.Rule.{low, high, digit, edgeOf, split, family}
 use Rattle.families.specs.Faces.{joinedb}
 use Rattle.mesh.specs.Cells.{Cell, corner, edge, edges, joinsb, heldb}
 use Rattle.mesh.specs.Weights.{Point, point}
-use Rattle.lattice.specs.Every.{Below, below-at, All}
-use Rattle.lattice.specs.Kuhn.{digit-ends}
+use Rattle.base.specs.Every.{Below, below-at, All, all-pass}
+use Rattle.families.specs.Kuhn.{digit-ends}
 use Rattle.lattice.specs.Regular.{Regular, same-ends}
-use Rattle.lattice.specs.Edges.{middle, joins}
-use Rattle.carriers.specs.Lists.{and-both, all-pass, held-at}
-use Rattle.carriers.specs.Tests.{agreeb, orderedb, cornersOf, joined-alike, joined-split, joined-mid, joined-turned}
+use Rattle.families.specs.Children.{middle}
+use Rattle.lattice.specs.Edges.{joins}
+use Rattle.carriers.specs.Lists.{held-at}
+use Rattle.families.specs.Joining.{agreeb, orderedb, cornersOf, joined-alike, joined-split, joined-mid, joined-turned}
 use Rattle.carriers.specs.Order.{lower-too, agree}
 
 -- the edge between two corners

@@ -1,94 +1,46 @@
 -- The edges of a cell's children, by the digits of their ends.
---   digitsOf p i                the digits of the child i of the family p
---   lowDigit, highDigit p i y   the digits of the ends of its edge y
 --   EdgeAt p d e                an edge of a child of the family p whose ends have the digits d and e
--- Laws: child-four, digits-rise, digits-below, digits-joined (a child's digits), child-edge (an edge by its digits), edge-child
+-- Laws: digits-joined (a child's digits), child-edge (an edge by its digits), edge-child
 -- (two digits that the family joins are the ends of a child's edge), edge-joins (as points), own-or-mid (an edge of a child is the
 -- cell's own, or ends in a midpoint).
-use mathlib.Core.Path.{_≡_, refl, sym, _∙_, ap, ap₂}
-use mathlib.Core.Logic.{_⊎_, inl, inr, ⊎-elim}
-use mathlib.Core.Bool.{Bool, _&&_}
-use mathlib.Core.List.{List, [], _∷_, map}
-use Prim.Native.Nat.{ℕ, zero, suc, _<_}
+use mathlib.Core.Path.{_≡_, sym, _∙_, ap, ap₂}
+use mathlib.Core.Logic.{_⊎_, inl, inr}
+use mathlib.Core.Bool.{_&&_}
+use mathlib.Core.List.{[], map}
+use Prim.Native.Nat.{ℕ, _<_}
 use native.Mathlib.Decide.{decLt}
 use native.Mathlib.Omega.{arith}
-use lib.Dec.{T, eqb, ltb, ltb→lt, eqb→eq}
+use lib.Dec.{T}
 use lib.ListN.{length, getD}
-use borrow.Author.Tests.{eq-eqb}
-use Rattle.base.specs.Lists.{allb, allb-at, belowb, belowb-at, memberb, sameb, and-left, and-right}
+use Rattle.base.specs.Lists.{memberb, sameb, member-at, member-place}
+use Rattle.base.specs.Bools.{and-left, and-right, and-both}
 use Rattle.cutting.specs.Rule.{low, high, digit, edgeOf, family}
-use Rattle.cutting.proofs.Data.{rows}
-use Rattle.cutting.proofs.Table.{row, family-row, family-fours}
 use Rattle.families.specs.Faces.{joinedb}
 use Rattle.mesh.specs.Cells.{Cell, corner, edge, edges, joinsb, heldb}
 use Rattle.mesh.specs.Weights.{Point, point}
-use Rattle.lattice.specs.Every.{getD-map}
-use Rattle.lattice.specs.Kuhn.{digit-ends, digit-named}
-use Rattle.lattice.specs.Edges.{middle, middle-ends, or-either}
+use Rattle.base.specs.Every.{getD-map, any-place, any-at}
+use Rattle.families.specs.Kuhn.{digit-ends, digit-named}
+use Rattle.families.specs.Children.{middle, middle-ends, digitsOf, lowDigit, highDigit, child-four}
 use Rattle.lattice.specs.Facts.{point-corner}
-use Rattle.carriers.specs.Lists.{or-second, and-both, any-place, any-at, held-at}
+use Rattle.carriers.specs.Lists.{held-at}
 use Rattle.carriers.specs.Carrier.{between-below, between-low, between-high, edge-between}
 use Rattle.carriers.specs.Joins.{SameEnds, joins-from}
 
-abbrev pub digitsOf : ℕ → ℕ → List ℕ
-digitsOf p i = getD (family p) i []
+module _ (p i : ℕ) (hp : p < 64) (hi : i < length (family p)) (y : ℕ) (hy : y < 6) where
+  pub digits-joined : T (joinedb (family p) (lowDigit p i y) (highDigit p i y))
+  unfolding joinedb
+  digits-joined =
+      let (a, b, _) = middle-ends y hy in
+      any-at (λ c. memberb (lowDigit p i y) c && memberb (highDigit p i y) c) [] (family p) i hi
+      (and-both (memberb (lowDigit p i y) (digitsOf p i)) (memberb (highDigit p i y) (digitsOf p i))
+      (member-at (digitsOf p i) (low (middle y)) (omega (arith, child-four p i hp hi))) (member-at (digitsOf p i) (high (middle y)) (omega (arith, child-four p i hp hi))))
 
-abbrev pub lowDigit : ℕ → ℕ → ℕ → ℕ
-lowDigit p i y = getD (digitsOf p i) (low (middle y)) 0
-
-abbrev pub highDigit : ℕ → ℕ → ℕ → ℕ
-highDigit p i y = getD (digitsOf p i) (high (middle y)) 0
-
-abbrev riseTest : List ℕ → Bool
-riseTest c = belowb (λ y. ltb (getD c (low (middle y)) 0) (getD c (high (middle y)) 0) && ltb (getD c (high (middle y)) 0) 10) 6
-
-rise-test : T (belowb (λ p. allb riseTest (row p)) 64)
-unfolding belowb allb low high row rows
-rise-test = tt
-
-pub member-at : (l : List ℕ) (k : ℕ) → k < length l → T (memberb (getD l k 0) l)
-unfolding memberb
-member-at [] k h = absurd (omega arith)
-member-at (x ∷ l) zero h = rw (eq-eqb x x refl) tt
-member-at (x ∷ l) (suc k) h = or-second (eqb (getD l k 0) x) (memberb (getD l k 0) l) (member-at l k (omega arith))
-
-pub member-place : (x : ℕ) (l : List ℕ) → T (memberb x l) → (k : ℕ) × (k < length l) × (getD l k 0 ≡ x)
-unfolding memberb
-member-place x [] t = absurd t
-member-place x (y ∷ l) t =
-    ⊎-elim (λ (u : T (eqb x y)). (0, omega arith, sym (eqb→eq x y u))) (λ (u : T (memberb x l)). let (k, h, e) = member-place x l u in (suc k, omega arith, e))
-    (or-either (eqb x y) (memberb x l) t)
-
-module _ (p i : ℕ) (hp : p < 64) (hi : i < length (family p)) where
-  pub child-four : length (digitsOf p i) ≡ 4
-  child-four = eqb→eq (length (digitsOf p i)) 4 (allb-at (λ c. eqb (length c) 4) [] (family p) (family-fours p hp) i hi)
-
-  module _ (y : ℕ) (hy : y < 6) where
-    rise-at : T (ltb (lowDigit p i y) (highDigit p i y) && ltb (highDigit p i y) 10)
-    rise-at =
-        belowb-at (λ y. ltb (lowDigit p i y) (highDigit p i y) && ltb (highDigit p i y) 10) 6
-        (allb-at riseTest [] (family p) (rw (family-row p hp) (belowb-at (λ p. allb riseTest (row p)) 64 rise-test p hp)) i hi) y hy
-
-    pub digits-rise : lowDigit p i y < highDigit p i y
-    digits-rise = ltb→lt (lowDigit p i y) (highDigit p i y) (and-left (ltb (lowDigit p i y) (highDigit p i y)) (ltb (highDigit p i y) 10) rise-at)
-
-    pub digits-below : highDigit p i y < 10
-    digits-below = ltb→lt (highDigit p i y) 10 (and-right (ltb (lowDigit p i y) (highDigit p i y)) (ltb (highDigit p i y) 10) rise-at)
-
-    pub digits-joined : T (joinedb (family p) (lowDigit p i y) (highDigit p i y))
-    unfolding joinedb
-    digits-joined =
-        let (a, b, _) = middle-ends y hy in
-        any-at (λ c. memberb (lowDigit p i y) c && memberb (highDigit p i y) c) [] (family p) i hi
-        (and-both (memberb (lowDigit p i y) (digitsOf p i)) (memberb (highDigit p i y) (digitsOf p i))
-        (member-at (digitsOf p i) (low (middle y)) (omega (arith, child-four))) (member-at (digitsOf p i) (high (middle y)) (omega (arith, child-four))))
-
-    pub child-edge : (g c : Cell Point) → c .points ≡ map (point g) (digitsOf p i) → edge [] c y ≡ (point g (lowDigit p i y), point g (highDigit p i y))
-    unfolding edge
-    child-edge g c e =
-        let (a, b, _) = middle-ends y hy in
-        rw e (ap₂ (λ (x z : Point). (x, z)) (getD-map (point g) (digitsOf p i) (low (middle y)) 0 [] (omega (arith, child-four)))
-        (getD-map (point g) (digitsOf p i) (high (middle y)) 0 [] (omega (arith, child-four))))
+  pub child-edge : (g c : Cell Point) → c .points ≡ map (point g) (digitsOf p i) → edge [] c y ≡ (point g (lowDigit p i y), point g (highDigit p i y))
+  unfolding edge
+  child-edge g c e =
+      let (a, b, _) = middle-ends y hy in
+      rw e (ap₂ (λ (x z : Point). (x, z)) (getD-map (point g) (digitsOf p i) (low (middle y)) 0 [] (omega (arith, child-four p i hp hi)))
+      (getD-map (point g) (digitsOf p i) (high (middle y)) 0 [] (omega (arith, child-four p i hp hi))))
 
 -- two digits that a family joins
 pub record EdgeAt (p d e : ℕ) : Type 0 where

@@ -12,8 +12,8 @@ use Rattle.base.specs.Lists.{anyb, sameb}
 use Rattle.base.specs.Places.{sameb-self}
 use Rattle.mesh.specs.Cells.{joinsb, heldb}
 use Rattle.mesh.specs.Weights.{Point}
-use Rattle.lattice.specs.Edges.{or-either, joins}
-use Rattle.carriers.specs.Lists.{or-first, or-second, and-both}
+use Rattle.base.specs.Bools.{or-either, or-first, or-second, and-both}
+use Rattle.lattice.specs.Edges.{joins}
 
 abbrev pub Edge : Type 0
 Edge = Point × Point

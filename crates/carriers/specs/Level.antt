@@ -1,9 +1,9 @@
 -- An edge that ends in a midpoint of a regular cell is an edge of regular cells of the next level alone.
 -- Laws: not-both-on (not both ends of an edge lie on a lower lattice), next-level, not-own (it is no edge of the cell itself).
+use mathlib.Core.List.{[]}
 use mathlib.Core.Path.{_≡_, refl, _∙_}
 use mathlib.Core.Logic.{_⊎_, inl, inr, ⊎-elim}
 use mathlib.Core.Bool.{Bool, true, false}
-use mathlib.Core.List.{[]}
 use Prim.Native.Nat.{ℕ, suc, _+_, _*_, _<_, _≤_}
 use native.Mathlib.Decide.{decLt}
 use native.Mathlib.Omega.{arith}
@@ -12,10 +12,11 @@ use Rattle.base.specs.Lists.{sameb}
 use Rattle.cutting.specs.Rule.{low, high}
 use Rattle.mesh.specs.Cells.{Cell, corner, edge, edges, joinsb, heldb}
 use Rattle.mesh.specs.Weights.{Point, point}
-use Rattle.lattice.specs.Kuhn.{step, gap}
+use Rattle.families.specs.Kuhn.{step, gap}
 use Rattle.lattice.specs.Tails.{tailSum}
 use Rattle.lattice.specs.Regular.{unit-even, cancel, Regular, On, corner-on, point-on, mid-off}
-use Rattle.lattice.specs.Edges.{middle, middle-ends, joins}
+use Rattle.families.specs.Children.{middle, middle-ends}
+use Rattle.lattice.specs.Edges.{joins}
 use Rattle.carriers.specs.Lists.{held-which}
 
 module _ (n m l : ℕ) (q : Cell Point) (s : Regular n m q) where

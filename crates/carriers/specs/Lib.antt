@@ -1,5 +1,4 @@
 pub mod Lists
-pub mod Tests
 pub mod Order
 pub mod Carrier
 pub mod Patterns

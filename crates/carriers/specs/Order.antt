@@ -1,8 +1,8 @@
 -- Corners that two regular cells share come in the same order in both.
 -- Laws: lower-too (the lower corner of two is so in the other cell), ltb-too (as a test), agree (both ways).
+use mathlib.Core.List.{[]}
 use mathlib.Core.Path.{_≡_, refl, sym, _∙_, ap}
 use mathlib.Core.Bool.{Bool, true, false, Bool·beq}
-use mathlib.Core.List.{[]}
 use Prim.Native.Nat.{ℕ, _<_}
 use native.Mathlib.Decide.{decLt}
 use native.Mathlib.Omega.{arith}
@@ -12,8 +12,8 @@ use Rattle.mesh.specs.Cells.{Cell, corner}
 use Rattle.mesh.specs.Weights.{Point}
 use Rattle.lattice.specs.Regular.{Regular}
 use Rattle.lattice.specs.Edges.{corner-apart, ends-turned}
-use Rattle.carriers.specs.Lists.{and-both}
-use Rattle.carriers.specs.Tests.{agreeb}
+use Rattle.base.specs.Bools.{and-both}
+use Rattle.families.specs.Joining.{agreeb}
 
 module _ (n m : ℕ) (c q : Cell Point) (r : Regular n m c) (s : Regular n m q) where
   pub lower-too : (i j k l : ℕ) → j < 4 → k < 4 → corner [] c i ≡ corner [] q k → corner [] c j ≡ corner [] q l → i < j → k < l

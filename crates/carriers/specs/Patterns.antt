@@ -4,26 +4,15 @@
 use mathlib.Core.Path.{_≡_, refl, _∙_, ap}
 use mathlib.Core.Bool.{Bool, true, false}
 use mathlib.Core.List.{List, [], _∷_, map}
-use Prim.Native.Nat.{ℕ, zero, suc, _+_, _*_, _/_, _%_, _^_, _<_, _≤_}
+use Prim.Native.Nat.{ℕ, zero, suc, _+_, _*_, _/_, _%_, _^_, _<_}
 use native.Mathlib.Nat.{zero-div, pow-succ', div-div-eq-div-mul}
 use native.Mathlib.Omega.{arith}
-use lib.Dec.{eqb}
 use lib.ListN.{getD}
-use Rattle.base.specs.Lists.{one-if}
+use Rattle.base.specs.Bools.{one-if, one-most, eqb-one}
 use Rattle.cutting.specs.Rule.{split}
 use Rattle.mesh.specs.Cells.{Cell, edge, edges, heldb, bitsOf, pattern}
-use Rattle.lattice.specs.Every.{below-at, getD-map}
+use Rattle.base.specs.Every.{below-at, getD-map}
 use Rattle.carriers.specs.Lists.{edge-at, edge-count}
-
-one-at-most : (b : Bool) → one-if b ≤ 1
-unfolding one-if
-one-at-most true = omega arith
-one-at-most false = omega arith
-
-eqb-one : (b : Bool) → eqb (one-if b) 1 ≡ b
-unfolding one-if
-eqb-one true = refl
-eqb-one false = refl
 
 pub split-none : (x : ℕ) → split 0 x ≡ false
 unfolding split
@@ -37,10 +26,10 @@ pub split-bits : (bs : List Bool) (x : ℕ) → split (bitsOf bs) x ≡ getD bs 
 unfolding bitsOf split
 split-bits [] x = split-none x
 split-bits (b ∷ bs) zero =
-    let e : (one-if b + 2 * bitsOf bs) / 1 % 2 ≡ one-if b = omega (arith, one-at-most b) in
+    let e : (one-if b + 2 * bitsOf bs) / 1 % 2 ≡ one-if b = omega (arith, one-most b) in
     rw e (eqb-one b)
 split-bits (b ∷ bs) (suc x) =
-    let e : (one-if b + 2 * bitsOf bs) / 2 ≡ bitsOf bs = omega (arith, one-at-most b) in
+    let e : (one-if b + 2 * bitsOf bs) / 2 ≡ bitsOf bs = omega (arith, one-most b) in
     rw (pow-succ' 2 x, ← div-div-eq-div-mul (one-if b + 2 * bitsOf bs) 2 (2 ^ x), e) (split-bits bs x)
 
 module _ {A : Type 0} (o : A) (same : A → A → Bool) (es : List (A × A)) (c : Cell A) where
@@ -54,4 +43,4 @@ module _ {A : Type 0} (o : A) (same : A → A → Bool) (es : List (A × A)) (c 
   unfolding pattern edges bitsOf
   pattern-below =
       let held : ℕ → Bool = λ e. heldb same es (edge o c e) in
-      omega (arith, one-at-most (held 0), one-at-most (held 1), one-at-most (held 2), one-at-most (held 3), one-at-most (held 4), one-at-most (held 5))
+      omega (arith, one-most (held 0), one-most (held 1), one-most (held 2), one-most (held 3), one-most (held 4), one-most (held 5))

@@ -9,8 +9,8 @@ use mathlib.Core.List.{List, []}
 use Prim.Native.Nat.{ℕ, _<_}
 use native.Mathlib.Omega.{arith}
 use lib.Dec.{T}
-use Rattle.base.specs.Lists.{sameb, is-true}
-use Rattle.base.specs.Places.{not-both}
+use Rattle.base.specs.Lists.{sameb}
+use Rattle.base.specs.Bools.{is-true, not-both}
 use Rattle.cutting.specs.Rule.{split, family}
 use Rattle.families.specs.Faces.{joinedb}
 use Rattle.mesh.specs.Cells.{Cell, redb, patternOf, edge, edges, joinsb, heldb, pattern, statusOf}

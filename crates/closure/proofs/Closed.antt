@@ -1,22 +1,21 @@
 -- Bits from the last to the first, cells from the first to the last, and what listed edges say of the paper's tests.
 -- Assumes nothing.
-use mathlib.Core.Path.{_≡_, refl, sym, _∙_, ap, ap₂, fun-ext}
-use mathlib.Core.Bool.{Bool, true, false, _&&_}
-use mathlib.Core.List.{List, [], _∷_, _++_, map}
-use Prim.Native.Nat.{ℕ, zero, suc, _+_, _*_, _-_, _^_, _≤_, _<_}
-use native.Mathlib.Nat.{add-zero, add-suc, suc-add}
+use mathlib.Core.Path.{_≡_, refl, sym, _∙_, ap, fun-ext}
+use mathlib.Core.Bool.{Bool, true, false}
+use mathlib.Core.List.{List, [], _∷_, map}
+use Prim.Native.Nat.{ℕ, zero, suc, _+_, _*_, _-_, _≤_, _<_}
 use native.Mathlib.Omega.{arith}
-use lib.Dec.{T, eqb}
-use lib.ListN.{length, getD, take, drop}
-use lib.Seq.{drop-cons, take-suc}
-use lib.Pow.{pow-pos}
+use lib.Dec.{eqb}
+use lib.ListN.{length, getD, drop}
+use lib.Seq.{drop-cons}
 use borrow.Author.Tests.{eq-eqb, ne-eqb}
-use Rattle.base.specs.Lists.{one-if}
+use Rattle.base.specs.Bools.{one-if, one-most}
 use Rattle.base.specs.Places.{hasb}
-use Rattle.mesh.specs.Cells.{Cell, redb, edge, edges, bitsOf, heldb, pattern, statusOf, closedFrom, redEdges}
+use Rattle.mesh.specs.Cells.{Cell, redb, edge, edges, bitsOf, heldb, pattern, statusOf, closedFrom}
 use Rattle.rows.specs.Numbered.{cellAt, cellsAt, part}
 use Rattle.edges.specs.Pairs.{Pair, sorted, isb, addPairs, joins-pair, has-pairs}
 use Rattle.closure.specs.Ready.{listedPattern, listedStatus, listedClosed}
+use Rattle.rows.specs.Laws.{cells-cons}
 
 -- the six tests of a cell
 abbrev pub tests : List Pair → Cell ℕ → List Bool
@@ -36,11 +35,6 @@ bits-more es c (suc (suc (suc (suc (suc (suc e)))))) h = absurd (omega arith)
 pub no-bits : (es : List Pair) (c : Cell ℕ) → bitsOf (drop 6 (tests es c)) ≡ 0
 unfolding bitsOf edges
 no-bits es c = refl
-
-one-most : (b : Bool) → one-if b ≤ 1
-unfolding one-if
-one-most true = omega arith
-one-most false = omega arith
 
 -- what is left of the bits is small
 bits-5 : (es : List Pair) (c : Cell ℕ) → bitsOf (drop 5 (tests es c)) ≤ 1
@@ -66,12 +60,6 @@ bits-small es c (suc (suc (suc zero))) h = omega (arith, bits-4 es c)
 bits-small es c (suc (suc (suc (suc zero)))) h = omega (arith, bits-5 es c)
 bits-small es c (suc (suc (suc (suc (suc zero))))) h = omega (arith, no-bits es c)
 bits-small es c (suc (suc (suc (suc (suc (suc e)))))) h = absurd (omega arith)
-
--- a range of cells from its first on
-pub cells-cons : (t : List ℕ) (k m : ℕ) → cellsAt t k (suc m) ≡ cellAt t k ∷ cellsAt t (suc k) m
-unfolding cellsAt
-cells-cons t k zero = rw (add-zero k)
-cells-cons t k (suc m) = rw (cells-cons t k m, add-suc k m, suc-add k m)
 
 pub part-cons : (l : List ℕ) (k m : ℕ) → k < length l → part l k (suc m) ≡ getD l k 0 ∷ part l (suc k) m
 part-cons l k m h = rw (drop-cons l k 0 h)

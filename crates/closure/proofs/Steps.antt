@@ -6,16 +6,17 @@ use mathlib.Core.List.{List, [], _∷_, _++_, append-nil, append-assoc}
 use Prim.Native.Nat.{ℕ, zero, suc, _+_, _*_, _-_, _≤_, _<_}
 use native.Mathlib.Nat.{zero-add}
 use native.Mathlib.Omega.{arith}
-use lib.ListN.{length, getD, take, drop, length-append, length-drop, take-append-drop}
-use lib.Seq.{take-suc, length-take-le, getD-drop, take-take}
+use lib.ListN.{length, getD, take, drop, length-append, take-append-drop}
+use lib.Seq.{take-suc, length-take-le, take-take}
 use borrow.Author.Tests.{eq-eqb, ne-eqb}
 use Rattle.pairs.specs.Keys.{Room}
 use Rattle.mesh.specs.Cells.{Cell, redb, edge, edges, redEdges}
-use Rattle.base.specs.Lists.{one-if}
+use Rattle.base.specs.Bools.{one-if}
 use Rattle.rows.specs.Numbered.{cellAt, cellsAt, part}
 use Rattle.edges.specs.Pairs.{Pair}
 use Rattle.edges.specs.Table.{Edges, Space, Inserted, Grown, grown-none, grown-one, grown-both}
-use Rattle.closure.specs.Ready.{Run, redOf, redCount}
+use Rattle.closure.specs.Ready.{Run, redOf, redCount, count-one}
+use Rattle.rows.specs.Laws.{length-cells, length-part, part-more}
 
 pub run-start : (xs ys heads links : List ℕ) (from n : ℕ) → Edges xs ys heads links from n → Run xs ys heads links from n [] xs ys heads links n
 run-start xs ys heads links from n e = record { grown = grown-none xs ys heads links from n e; same-xs = refl; same-ys = refl; same-heads = refl; same-links = refl }
@@ -126,22 +127,6 @@ pub count-append : (ss ts : List ℕ) → redCount (ss ++ ts) ≡ redCount ss + 
 unfolding redCount
 count-append [] ts = sym (zero-add (redCount ts))
 count-append (s ∷ ss) ts = omega (arith, count-append ss ts)
-
-count-one : (s : ℕ) → redCount (s ∷ []) ≡ one-if (redb s)
-unfolding redCount
-count-one s = omega arith
-
--- the cells of a table, one more; and as many as were asked for
-pub length-cells : (t : List ℕ) (k m : ℕ) → length (cellsAt t k m) ≡ m
-unfolding cellsAt
-length-cells t k zero = refl
-length-cells t k (suc m) = length-append (cellsAt t k m) (cellAt t (k + m) ∷ []) ∙ omega (arith, length-cells t k m)
-
-pub length-part : (l : List ℕ) (k m : ℕ) → k + m ≤ length l → length (part l k m) ≡ m
-length-part l k m h = length-take-le m (drop k l) (simp length-drop (omega arith))
-
-pub part-more : (l : List ℕ) (k m : ℕ) → k + m < length l → part l k (suc m) ≡ part l k m ++ (getD l (k + m) 0 ∷ [])
-part-more l k m h = take-suc (drop k l) m 0 (simp length-drop (omega arith)) ∙ rw (getD-drop k l m 0)
 
 module _ (t l : List ℕ) (first : ℕ) where
   pub reds-more : (m : ℕ) → first + m < length l

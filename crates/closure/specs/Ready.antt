@@ -8,16 +8,18 @@
 --   Run ..               the edges es were inserted into tables that are as long as they were
 use mathlib.Core.Path.{_≡_}
 use mathlib.Core.Bool.{Bool, true, false, _&&_, _||_, not}
-use mathlib.Core.List.{List, [], _∷_, _++_, map}
+use mathlib.Core.List.{List, [], _∷_, map}
 use Prim.Native.Nat.{ℕ, _+_, _*_, _-_, _≤_}
 use lib.Dec.{eqb}
 use lib.ListN.{length}
-use Rattle.base.specs.Lists.{allb, one-if}
+use Rattle.base.specs.Lists.{allb}
+use Rattle.base.specs.Bools.{one-if}
 use Rattle.base.specs.Places.{hasb}
 use Rattle.mesh.specs.Cells.{Cell, redb, edges, bitsOf, heldb}
 use Rattle.rows.specs.Numbered.{cellAt}
 use Rattle.edges.specs.Pairs.{Pair, sorted, isb}
-use Rattle.edges.specs.Table.{Table, Edges, Space, Grown, listed}
+use Rattle.edges.specs.Table.{Table, Edges, Space, Grown}
+use native.Mathlib.Omega.{arith}
 
 unfoldable pub redOf : ℕ → Cell ℕ → List Pair
 redOf s c = elim (redb s) [ true ↦ edges 0 c | false ↦ [] ]
@@ -70,3 +72,7 @@ listedClosed es (c ∷ cs) (s ∷ ss) = eqb s (listedStatus es (redb s) c) && li
 unfoldable pub listedApart : List Pair → List ℕ → Cell ℕ → Bool
 unfolding allb heldb hasb isb sorted edges cellAt
 listedApart es t c = c .regular || allb (λ e. heldb eqb (edges 0 (cellAt t (c .parent))) e || not (hasb isb es (sorted e))) (edges 0 c)
+
+pub count-one : (s : ℕ) → redCount (s ∷ []) ≡ one-if (redb s)
+unfolding redCount
+count-one s = omega arith

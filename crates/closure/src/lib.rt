@@ -2,8 +2,8 @@
 use rows::Ends;
 ghost use mathlib.Core.Path.{_≡_};
 ghost use Prim.Native.Nat.{_+_, _*_, _-_, _≤_, _<_};
-ghost use lib.ListN.{length, getD};
-ghost use Rattle.base.specs.Lists.{one-if};
+ghost use lib.ListN.{length};
+ghost use Rattle.base.specs.Bools.{one-if};
 ghost use Rattle.base.specs.Places.{hasb};
 ghost use Rattle.base.specs.Lent.{was, is};
 ghost use Rattle.mesh.specs.Cells.{edge, edges, redEdges};

@@ -10,7 +10,8 @@ use lib.IntN.{ℤ}
 use lib.ListN.{length, getD}
 use borrow.Author.Tests.{not-true, not-false}
 use mir.Facts.{yes-and}
-use Rattle.base.specs.Lists.{allb, is-true, and-left, and-right}
+use Rattle.base.specs.Lists.{allb}
+use Rattle.base.specs.Bools.{is-true, and-left, and-right}
 use Rattle.base.specs.Fours.{fours}
 use Rattle.base.specs.declared.Answer.the-variants.{Accepted, Refused}
 use Rattle.mesh.specs.Coarse.{cornerCount, countsb, positionsb, cellb, cellsb, solidb, twiceb, singleb, meshAnswer}

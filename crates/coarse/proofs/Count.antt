@@ -6,7 +6,8 @@ use mathlib.Core.List.{List, [], _∷_, _++_}
 use Prim.Native.Nat.{ℕ, zero, suc, _+_, _≤_, _<_}
 use native.Mathlib.Omega.{arith}
 use lib.ListN.{length, getD, take}
-use Rattle.base.specs.Lists.{anyb, filterb, one-if}
+use Rattle.base.specs.Lists.{anyb, filterb}
+use Rattle.base.specs.Bools.{one-if}
 
 pub or-right : (a b : Bool) → b ≡ true → a || b ≡ true
 or-right true b e = refl

@@ -9,7 +9,8 @@ use native.Mathlib.Omega.{arith}
 use lib.Dec.{leb}
 use lib.ListN.{length, getD}
 use borrow.Author.Tests.{eq-eqb, le-leb, lt-leb}
-use Rattle.base.specs.Lists.{anyb, sameb, one-if}
+use Rattle.base.specs.Lists.{anyb, sameb}
+use Rattle.base.specs.Bools.{one-if}
 use Rattle.base.specs.Fours.{faces, holders}
 use Rattle.coarse.specs.Cells.{crowdedb}
 use Rattle.coarse.specs.Tally.{high, lowFace}

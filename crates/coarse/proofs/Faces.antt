@@ -5,9 +5,9 @@ use mathlib.Core.List.{List, [], _∷_, flatMap}
 use Prim.Native.Nat.{ℕ, zero, suc, _*_, _/_, _%_, _<_}
 use native.Mathlib.Omega.{arith}
 use lib.ListN.{length, getD}
-use Rattle.base.specs.Fours.{fours, faces}
+use Rattle.base.specs.Fours.{fours, faces, length-fours}
 use Rattle.coarse.specs.Cells.{faceAt}
-use Rattle.coarse.proofs.Rows.{length-fours, in-fours}
+use Rattle.coarse.proofs.Rows.{in-fours}
 
 pub length-faces : (qs : List (List ℕ)) → length (flatMap faces qs) ≡ 4 * length qs
 unfolding flatMap faces

@@ -10,7 +10,7 @@ use lib.Dec.{eqb, eqb→eq}
 use lib.ListN.{length, getD, take, List·getD-eq-default}
 use lib.Seq.{take-all}
 use borrow.Author.Tests.{eq-eqb}
-use Rattle.base.specs.Lists.{one-if, and-left, and-right}
+use Rattle.base.specs.Bools.{one-if, and-left, and-right}
 use Rattle.pairs.specs.Keys.{seek, Keys, Clear}
 use Rattle.coarse.specs.Tally.{times, Tables, Open, Tallied}
 use Rattle.coarse.proofs.Count.{count, count-next, count-take}

@@ -8,7 +8,8 @@ use Prim.Native.Nat.{ℕ, _+_, _*_, _≤_, _<_}
 use native.Mathlib.Omega.{arith}
 use lib.Dec.{T}
 use borrow.Author.Tests.{eq-eqb}
-use Rattle.base.specs.Lists.{allb, anyb, sameb, sameb-eq, one-if, is-true, and-left, and-right}
+use Rattle.base.specs.Lists.{allb, anyb, sameb, sameb-eq}
+use Rattle.base.specs.Bools.{one-if, is-true, and-left, and-right}
 use Rattle.base.specs.Fours.{fours}
 use Rattle.mesh.specs.Coarse.{cellb, cellsb, twiceb}
 use Rattle.coarse.specs.Tally.{high, lowCell}

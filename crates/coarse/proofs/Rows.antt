@@ -9,19 +9,12 @@ use lib.Dec.{T, ltb, leb, ltb→lt, leb→le}
 use lib.IntN.{ℤ, pos, natAbs}
 use lib.ListN.{length, getD, List·getD-eq-default}
 use borrow.Author.Tests.{ltb-true, ltb-false, lt-ltb, le-ltb}
-use Rattle.base.specs.Lists.{allb, allb-at, is-true, and-left, and-right}
-use Rattle.base.specs.Fours.{fours}
+use Rattle.base.specs.Lists.{allb, allb-at}
+use Rattle.base.specs.Bools.{is-true, and-left, and-right}
+use Rattle.base.specs.Fours.{fours, length-fours}
 use Rattle.mesh.specs.Coarse.{positionsb, cellb, cellsb}
 use Rattle.coarse.specs.Cells.{Placed}
 use Rattle.coarse.specs.Volume.{Small, Corners}
-
-pub length-fours : (ts : List ℕ) → length (fours ts) ≡ length ts / 4
-unfolding fours
-length-fours [] = refl
-length-fours (a ∷ []) = refl
-length-fours (a ∷ b ∷ []) = refl
-length-fours (a ∷ b ∷ c ∷ []) = refl
-length-fours (a ∷ b ∷ c ∷ d ∷ ts) = omega (arith, length-fours ts)
 
 -- the cell k
 abbrev four : List ℕ → ℕ → List ℕ

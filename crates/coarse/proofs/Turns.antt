@@ -8,11 +8,11 @@ use Prim.Native.Nat.{ℕ, _+_, _/_, _≤_, _<_}
 use native.Mathlib.Omega.{arith}
 use lib.Dec.{lit<}
 use lib.ListN.{length, getD, replicate, length-replicate}
-use Rattle.base.specs.Fours.{fours, faces}
+use Rattle.base.specs.Fours.{fours, faces, length-fours}
 use Rattle.mesh.specs.Coarse.{twiceb}
 use Rattle.coarse.specs.Cells.{faceAt, Ranked, crowdedb}
 use Rattle.coarse.specs.Tally.{high, lowCell, lowFace, Tables, Open, Tallied}
-use Rattle.coarse.proofs.Rows.{length-fours, in-fours}
+use Rattle.coarse.proofs.Rows.{in-fours}
 use Rattle.coarse.proofs.Faces.{length-faces, in-faces}
 use Rattle.coarse.proofs.Meets.{Sofar, meets-open, meets-turn, meets-over, meets-end}
 use Rattle.coarse.proofs.Repeats.{cells, twice-none, twice-some}

@@ -1,20 +1,18 @@
 -- What an accepted mesh and a sound table over it, or an accepted step, say of the leaves.
 -- Laws: mesh-parts (an accepted mesh), table-open, table-meets, stepped-open, stepped-meets.
 use mathlib.Core.Path.{_≡_}
-use mathlib.Core.List.{List}
+use mathlib.Core.List.{List, flatten}
 use Prim.Native.Nat.{ℕ, _≤_}
 use lib.Dec.{T}
 use lib.IntN.{ℤ}
 use lib.ListN.{length}
 use Rattle.base.specs.Fours.{fours}
-use Rattle.base.specs.Refuse.{refuse}
+use Rattle.base.specs.Refuse.{refuse, passed}
 use Rattle.base.specs.declared.Answer.the-variants.{Accepted}
 use Rattle.mesh.specs.Coarse.{cornerCount, countsb, positionsb, cellsb, solidb, singleb, meshAnswer}
 use Rattle.mesh.specs.Table.{soundb}
 use Rattle.mesh.specs.Step.{stepTable}
 use Rattle.lattice.specs.Levels.{fours-four}
-use Rattle.lineage.specs.Olds.{concat}
-use Rattle.replay.specs.Accepted.{passed}
 use Rattle.conformity.specs.Leaves.{openb, meetb}
 use Rattle.conformity.specs.Open.{sound-open}
 use Rattle.conformity.specs.Meets.{sound-meets}
@@ -45,9 +43,9 @@ module _ (ps : List ℤ) (ts : List ℕ) (accepted : meshAnswer ps ts ≡ Accept
     pub table-meets : T (meetb corners (fours ts) ss)
     table-meets = sound-meets corners (fours ts) ss (fours-four ts) (mesh-parts .0) (mesh-parts .1) sound
 
-    module _ (ms : List ℕ) (high : length (stepTable corners (fours ts) ss ms) ≤ 11) (few : length (concat (stepTable corners (fours ts) ss ms)) ≤ 4096) where
-      pub stepped-open : T (openb corners (fours ts) (concat (stepTable corners (fours ts) ss ms)))
+    module _ (ms : List ℕ) (high : length (stepTable corners (fours ts) ss ms) ≤ 11) (few : length (flatten (stepTable corners (fours ts) ss ms)) ≤ 4096) where
+      pub stepped-open : T (openb corners (fours ts) (flatten (stepTable corners (fours ts) ss ms)))
       stepped-open = step-open corners (fours ts) ss ms (fours-four ts) (mesh-parts .0) sound high few
 
-      pub stepped-meets : T (meetb corners (fours ts) (concat (stepTable corners (fours ts) ss ms)))
+      pub stepped-meets : T (meetb corners (fours ts) (flatten (stepTable corners (fours ts) ss ms)))
       stepped-meets = step-meets corners (fours ts) ss ms (fours-four ts) (mesh-parts .0) sound high few (mesh-parts .1)

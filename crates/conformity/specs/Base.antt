@@ -8,14 +8,14 @@ use mathlib.Core.List.{List, [], _∷_, map}
 use Prim.Native.Nat.{ℕ, zero, suc, _+_, _*_, _-_, _<_, _≤_, min}
 use native.Mathlib.Omega.{arith}
 use lib.ListN.{length, getD, replicate, set}
-use Rattle.base.specs.Lists.{allb, anyb, filterb, memberb, sameb, sameb-eq, one-if, is-true}
+use Rattle.base.specs.Lists.{allb, anyb, filterb, memberb, sameb, sameb-eq}
+use Rattle.base.specs.Bools.{one-if, is-true, not-both}
 use Rattle.base.specs.Fours.{faces, holders}
-use Rattle.base.specs.Places.{sameb-self, not-both}
+use Rattle.base.specs.Places.{sameb-self}
 use Rattle.mesh.specs.Weights.{Point, coarse, coarseFrom}
 use Rattle.mesh.specs.Coarse.{twiceb}
-use Rattle.lattice.specs.Every.{All}
+use Rattle.base.specs.Every.{All, any-at}
 use Rattle.lattice.specs.Tails.{tailSum, tail-sum-coarse}
-use Rattle.carriers.specs.Lists.{any-at}
 use Rattle.conformity.specs.Leaves.{offb}
 use Rattle.conformity.specs.Having.{false-from, withinb, count, within-map}
 use Rattle.conformity.specs.Fours.{Rise, Rise3, within-face, within-four}

@@ -13,21 +13,20 @@ use native.Mathlib.Omega.{arith}
 use lib.Dec.{T, eqb, eqb→eq}
 use lib.ListN.{length, getD}
 use borrow.Author.Tests.{eq-eqb}
-use Rattle.base.specs.Lists.{allb, anyb, allb-at, memberb, and-left, and-right}
-use Rattle.base.specs.Fours.{faces, holders}
+use Rattle.base.specs.Lists.{allb, anyb, allb-at, memberb}
+use Rattle.base.specs.Bools.{and-left, and-right, or-either, and-both}
+use Rattle.base.specs.Fours.{faces}
 use Rattle.cutting.specs.Rule.{low, high, digit}
 use Rattle.mesh.specs.Cells.{Cell, corner}
 use Rattle.mesh.specs.Weights.{Point, point, mid}
-use Rattle.lattice.specs.Every.{All, all-at, all-of, below-at}
-use Rattle.lattice.specs.Kuhn.{digit-ends}
+use Rattle.base.specs.Every.{All, all-at, all-of, below-at, all-pass, any-place, all-each}
+use Rattle.families.specs.Kuhn.{digit-ends}
 use Rattle.lattice.specs.Tails.{tailSum}
 use Rattle.lattice.specs.Regular.{unit, unit-half, Regular}
-use Rattle.lattice.specs.Edges.{or-either}
-use Rattle.numbering.specs.Lists.{all-filter}
-use Rattle.carriers.specs.Lists.{any-place, all-pass, and-both, all-each}
+use Rattle.base.specs.Each.{all-filter}
 use Rattle.conformity.specs.Leaves.{offb, onFaceb, onBoundaryb, boundaryFaces}
-use Rattle.conformity.specs.Digits.{cornersAt, lift, triples, usesb}
-use Rattle.conformity.specs.Rows.{OnSide}
+use Rattle.families.specs.Digits.{cornersAt, lift, triples, usesb}
+use Rattle.families.specs.FaceKinds.{OnSide}
 use Rattle.conformity.specs.Having.{bool-ext, false-from, all-map}
 use Rattle.conformity.specs.Shared.{Below10, digit-of}
 use Rattle.conformity.specs.Sides.{three-at, triple-small, side-small}

@@ -7,14 +7,14 @@ use lib.Dec.{T, leb}
 use lib.IntN.{ℤ}
 use lib.ListN.{length}
 use Rattle.base.specs.Fours.{fours}
-use Rattle.base.specs.Refuse.{refuse}
+use Rattle.base.specs.Refuse.{refuse, andThen, passed, both}
 use Rattle.base.specs.declared.Answer.the-variants.{Accepted}
 use Rattle.mesh.specs.Coarse.{cornerCount, meshAnswer}
 use Rattle.mesh.specs.Table.{soundb}
 use Rattle.mesh.specs.Step.{stepTable}
-use Rattle.layout.specs.Calls.{andThen, tableAnswer}
-use Rattle.step.specs.Calls.{marksb, newTable, limitsAnswer, stepAnswer}
-use Rattle.replay.specs.Accepted.{passed, both, limits-within}
+use Rattle.mesh.specs.Answers.{tableAnswer, marksb, newTable, limitsAnswer}
+use Rattle.step.specs.Calls.{stepAnswer}
+use Rattle.replay.specs.Accepted.{limits-within}
 use Rattle.conformity.specs.Leaves.{openb, meetb}
 use Rattle.conformity.specs.Accepted.{table-open, table-meets, stepped-open, stepped-meets}
 

@@ -10,11 +10,10 @@ use lib.ListN.{length, getD}
 use Rattle.base.specs.Lists.{filterb, sameb}
 use Rattle.base.specs.Places.{hasb}
 use Rattle.cutting.specs.Rule.{split}
-use Rattle.mesh.specs.Cells.{Cell, edge, patternOf}
+use Rattle.mesh.specs.Cells.{Cell, edge, patternOf, noCell}
 use Rattle.mesh.specs.Weights.{Point, coarse, mid}
 use Rattle.mesh.specs.Layout.{Corner, weightsOf, numberIn, coarseCornersTo, coarseCorners, edgeNumbers, splitEdges, addCorner, addCorners, cornersFrom, cornersOf}
-use Rattle.lattice.specs.Every.{All}
-use Rattle.lineage.specs.Born.{noCell}
+use Rattle.base.specs.Every.{All}
 use Rattle.carriers.specs.Joins.{Edge}
 
 module _ (P : Point → Type 0) where

@@ -10,15 +10,14 @@ use native.Mathlib.Omega.{arith}
 use lib.Dec.{T, eqb, ltb, ltb→lt}
 use lib.ListN.{length, getD, length-map}
 use borrow.Author.Tests.{ne-eqb}
-use Rattle.base.specs.Lists.{allb, belowb, belowb-at, memberb, impb, impb-use, and-left, and-right}
+use Rattle.base.specs.Lists.{allb, belowb, belowb-at, memberb, member-place}
+use Rattle.base.specs.Bools.{impb, impb-use, and-left, and-right, and-both}
 use Rattle.mesh.specs.Cells.{Cell, corner}
 use Rattle.mesh.specs.Weights.{Point}
-use Rattle.lattice.specs.Every.{All, all-at, all-of, below-at, getD-map}
+use Rattle.base.specs.Every.{All, all-at, all-of, below-at, getD-map, all-pass, any-place, any-at}
 use Rattle.carriers.specs.Carrier.{Shares}
-use Rattle.carriers.specs.Child.{member-place}
-use Rattle.carriers.specs.Lists.{any-place, any-at, all-pass, and-both}
 use Rattle.conformity.specs.Leaves.{faceAt, sameFaceb, hasFaceb}
-use Rattle.conformity.specs.Digits.{cornersAt}
+use Rattle.families.specs.Digits.{cornersAt}
 use Rattle.conformity.specs.Having.{bool-ext, inb, withinb, in-at, in-from, all-map}
 use Rattle.conformity.specs.Shared.{within-shares}
 use Rattle.conformity.specs.Sides.{three-at}

@@ -12,14 +12,13 @@ use native.Mathlib.Decide.{decLt}
 use native.Mathlib.Omega.{arith}
 use lib.Dec.{T, ltb→lt}
 use lib.ListN.{length, getD}
-use Rattle.base.specs.Lists.{allb, anyb, allb-at, memberb, sameb, sameb-eq, and-left, and-right}
+use Rattle.base.specs.Lists.{allb, anyb, allb-at, memberb, sameb, sameb-eq, member-at, member-place}
+use Rattle.base.specs.Bools.{and-left, and-right, and-both}
 use Rattle.base.specs.Fours.{faces}
 use Rattle.base.specs.Places.{sameb-self}
 use Rattle.mesh.specs.Coarse.{cellb, cellsb}
-use Rattle.lattice.specs.Every.{Below, below-at, All}
-use Rattle.carriers.specs.Lists.{and-both, any-place, any-at, all-each}
-use Rattle.carriers.specs.Child.{member-at, member-place}
-use Rattle.conformity.specs.Digits.{cornersAt}
+use Rattle.base.specs.Every.{Below, below-at, All, any-place, any-at, all-each}
+use Rattle.families.specs.Digits.{cornersAt}
 use Rattle.conformity.specs.Sides.{three-at, face-of}
 use Rattle.conformity.specs.Having.{bool-ext, four-points}
 

@@ -16,19 +16,18 @@ use native.Mathlib.Omega.{arith}
 use lib.Dec.{T, eqb}
 use lib.ListN.{length, getD}
 use borrow.Author.Tests.{eqb-true, ne-eqb, eq-eqb}
-use Rattle.base.specs.Lists.{allb, anyb, memberb, sameb, sameb-eq, one-if}
-use Rattle.base.specs.Places.{sameb-self, not-both}
+use Rattle.base.specs.Lists.{allb, anyb, memberb, sameb, sameb-eq}
+use Rattle.base.specs.Bools.{one-if, not-both}
+use Rattle.base.specs.Places.{sameb-self}
 use Rattle.cutting.specs.Rule.{low, high, family}
-use Rattle.mesh.specs.Cells.{Cell, corner, redb, patternOf, children, childrenFrom}
+use Rattle.mesh.specs.Cells.{Cell, corner, redb, patternOf, children, childrenFrom, noCell}
 use Rattle.mesh.specs.Weights.{Point, point}
 use Rattle.mesh.specs.Table.{next}
-use Rattle.lattice.specs.Every.{All}
-use Rattle.lattice.specs.Facts.{mid-self}
-use Rattle.lineage.specs.Born.{noCell}
-use Rattle.carriers.specs.Lists.{any-place, any-at}
+use Rattle.base.specs.Every.{All, any-place, any-at}
 use Rattle.conformity.specs.Leaves.{leavesIn}
-use Rattle.conformity.specs.Digits.{holds}
-use Rattle.conformity.specs.Rows.{family-leaf}
+use Rattle.families.specs.Digits.{holds}
+use Rattle.families.specs.FaceKinds.{family-leaf}
+use Rattle.mesh.specs.Laws.{mid-self}
 
 -- tests
 pub bool-ext : (a b : Bool) → (T a → T b) → (T b → T a) → a ≡ b

@@ -10,24 +10,21 @@ use mathlib.Core.List.{List, []}
 use Prim.Native.Nat.{ℕ, suc, _≤_, _<_}
 use native.Mathlib.Decide.{decLt}
 use native.Mathlib.Omega.{arith}
-use lib.Dec.{T, ltb, ltb→lt}
+use lib.Dec.{T}
 use lib.ListN.{length, getD}
 use borrow.Author.Tests.{eqb-true}
-use Rattle.base.specs.Lists.{belowb, belowb-at, sameb, is-true}
-use Rattle.base.specs.Places.{not-both}
-use Rattle.cutting.specs.Rule.{low, high, split, family}
-use Rattle.cutting.proofs.Data.{rows}
-use Rattle.cutting.proofs.Table.{row, family-row}
-use Rattle.mesh.specs.Cells.{Cell, redb, patternOf, edge, heldb, redEdges}
+use Rattle.base.specs.Lists.{sameb}
+use Rattle.base.specs.Bools.{is-true, not-both}
+use Rattle.cutting.specs.Rule.{low, high, split}
+use Rattle.mesh.specs.Cells.{Cell, redb, patternOf, edge, heldb, redEdges, noCell}
 use Rattle.mesh.specs.Weights.{Point, coarse, mid, point}
 use Rattle.mesh.specs.Table.{levelsOf, cellsOf}
-use Rattle.lattice.specs.Every.{All}
+use Rattle.base.specs.Every.{All}
 use Rattle.lattice.specs.Tails.{sized-coarse}
 use Rattle.lattice.specs.Regular.{Regular, point-sized}
-use Rattle.lattice.specs.Edges.{middle, middle-ends}
+use Rattle.families.specs.Children.{middle, middle-ends, some-child}
 use Rattle.lattice.specs.Levels.{IfRegular}
 use Rattle.lattice.specs.Facts.{same-mid, mid-not-coarse, edge-level}
-use Rattle.lineage.specs.Born.{noCell}
 use Rattle.carriers.specs.Lists.{held-which}
 use Rattle.carriers.specs.Carrier.{joins-self}
 use Rattle.carriers.specs.Patterns.{split-none, split-pattern}
@@ -52,13 +49,6 @@ pub record RedMid (n : ℕ) (qs : List (List ℕ)) (ss : List ℕ) (p : Point) :
 
 abbrev pub Kind : ℕ → List (List ℕ) → List ℕ → Point → Type 0
 Kind n qs ss p = ((i : ℕ) × (i < n) × (p ≡ coarse n i)) ⊎ RedMid n qs ss p
-
-some-test : T (belowb (λ p. ltb 0 (length (row p))) 64)
-unfolding belowb row rows
-some-test = tt
-
-some-child : (p : ℕ) → p < 64 → 0 < length (family p)
-some-child p h = rw (family-row p h) (ltb→lt 0 (length (row p)) (belowb-at (λ p. ltb 0 (length (row p))) 64 some-test p h))
 
 split-refined : (s y : ℕ) → T (split (patternOf s) y) → s ≢ 0
 unfolding patternOf

@@ -4,8 +4,6 @@ pub mod Corners
 pub mod Kinds
 pub mod Pairs
 pub mod Open
-pub mod Digits
-pub mod Rows
 pub mod Having
 pub mod Shared
 pub mod Sides

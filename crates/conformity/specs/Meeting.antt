@@ -14,20 +14,20 @@ use Prim.Native.Nat.{ℕ, suc, _+_, _*_, _<_}
 use native.Mathlib.Omega.{arith}
 use lib.Dec.{T}
 use lib.ListN.{length, getD}
-use Rattle.base.specs.Lists.{filterb, one-if}
+use Rattle.base.specs.Lists.{filterb}
+use Rattle.base.specs.Bools.{one-if}
 use Rattle.cutting.specs.Rule.{family}
-use Rattle.mesh.specs.Cells.{Cell, corner, patternOf}
+use Rattle.mesh.specs.Cells.{Cell, corner, patternOf, noCell}
 use Rattle.mesh.specs.Weights.{Point, point}
-use Rattle.lattice.specs.Every.{All, all-at, all-more, getD-map, below-at}
+use Rattle.base.specs.Every.{All, all-at, all-more, getD-map, below-at}
 use Rattle.lattice.specs.Regular.{Regular}
 use Rattle.lattice.specs.Levels.{IfRegular}
-use Rattle.lineage.specs.Born.{noCell}
-use Rattle.carriers.specs.Child.{digitsOf, child-four}
+use Rattle.families.specs.Children.{digitsOf, child-four}
 use Rattle.soundness.specs.Held.{regular-at}
 use Rattle.soundness.specs.Sound.{Sound, lv}
 use Rattle.conformity.specs.Leaves.{onBoundaryb}
-use Rattle.conformity.specs.Digits.{cornersAt, others, without, usesb, holds}
-use Rattle.conformity.specs.Rows.{Inside, OnSide, Present, face-kind, family-present, midb, inside-mid}
+use Rattle.families.specs.Digits.{cornersAt, others, without, usesb, holds}
+use Rattle.families.specs.FaceKinds.{Inside, OnSide, Present, face-kind, family-present, midb, inside-mid}
 use Rattle.conformity.specs.Having.{withinb, count}
 use Rattle.conformity.specs.Shared.{Below10, inside-count}
 use Rattle.conformity.specs.Sides.{three-at, side-count}

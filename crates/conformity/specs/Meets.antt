@@ -11,17 +11,16 @@ use native.Mathlib.Omega.{arith}
 use lib.Dec.{T, eqb}
 use lib.ListN.{length, getD, take, drop}
 use borrow.Author.Tests.{eq-eqb}
-use Rattle.base.specs.Lists.{allb, filterb, one-if}
-use Rattle.mesh.specs.Cells.{Cell}
+use Rattle.base.specs.Lists.{allb, filterb}
+use Rattle.base.specs.Bools.{one-if}
+use Rattle.mesh.specs.Cells.{Cell, noCell}
 use Rattle.mesh.specs.Weights.{Point, coarseCells}
 use Rattle.mesh.specs.Coarse.{cellsb, singleb}
 use Rattle.mesh.specs.Table.{levels, levelsOf, cellsOf, next, soundb}
-use Rattle.lattice.specs.Every.{All}
+use Rattle.base.specs.Every.{All, all-pass}
 use Rattle.lattice.specs.Edges.{corner-apart}
 use Rattle.lattice.specs.Levels.{IfRegular}
 use Rattle.lattice.specs.Facts.{sound-regular}
-use Rattle.lineage.specs.Born.{noCell}
-use Rattle.carriers.specs.Lists.{all-pass}
 use Rattle.soundness.specs.Held.{closed-length, regular-at}
 use Rattle.soundness.specs.Sound.{Sound, sound-parts, lv, level-closed, level-there}
 use Rattle.soundness.specs.Whole.{spot-with}

@@ -9,14 +9,15 @@ use native.Mathlib.Nat.{add-mul}
 use native.Mathlib.Omega.{arith}
 use lib.Dec.{T, eqb, eqb→eq}
 use lib.ListN.{length}
-use Rattle.base.specs.Lists.{sameb, and-left, and-right}
+use Rattle.base.specs.Lists.{sameb}
+use Rattle.base.specs.Bools.{and-left, and-right}
 use Rattle.cutting.specs.Rule.{low, high}
 use Rattle.mesh.specs.Cells.{Cell, edge}
 use Rattle.mesh.specs.Weights.{Point, point}
-use Rattle.lattice.specs.Kuhn.{doubled, step, gap, sum-odd}
+use Rattle.families.specs.Kuhn.{doubled, step, gap, sum-odd}
 use Rattle.lattice.specs.Tails.{sum, tailSum, tail-sums-equal}
 use Rattle.lattice.specs.Regular.{unit, unit-half, Regular, point-sized, point-tails}
-use Rattle.lattice.specs.Edges.{middle, middle-ends}
+use Rattle.families.specs.Children.{middle, middle-ends}
 use Rattle.conformity.specs.Leaves.{middleb}
 
 pub record Middle (p a b : Point) : Type 0 where

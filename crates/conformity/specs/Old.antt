@@ -14,26 +14,25 @@ use native.Mathlib.Decide.{decLt}
 use native.Mathlib.Omega.{arith}
 use lib.Dec.{T, eqb, ltb, eqb→eq, ltb→lt}
 use lib.ListN.{length, getD}
-use Rattle.base.specs.Lists.{allb, allb-at, sameb, one-if, is-true}
-use Rattle.base.specs.Places.{not-both}
+use Rattle.base.specs.Lists.{allb, allb-at, sameb}
+use Rattle.base.specs.Bools.{one-if, is-true, or-either, and-both, not-both}
 use Rattle.cutting.specs.Rule.{low, high, digit, edgeOf, split, family}
-use Rattle.mesh.specs.Cells.{Cell, corner, heldb, redEdges}
+use Rattle.mesh.specs.Cells.{Cell, corner, heldb, redEdges, noCell}
 use Rattle.mesh.specs.Weights.{Point, point}
-use Rattle.lattice.specs.Every.{Below, All, all-at, all-of, below-at}
-use Rattle.lattice.specs.Kuhn.{digit-ends, digit-named}
+use Rattle.base.specs.Every.{Below, All, all-at, all-of, below-at, all-pass, any-place}
+use Rattle.families.specs.Kuhn.{digit-ends, digit-named}
 use Rattle.lattice.specs.Regular.{Regular, On, mid-off}
-use Rattle.lattice.specs.Edges.{or-either, corner-apart}
+use Rattle.lattice.specs.Edges.{corner-apart}
 use Rattle.lattice.specs.Facts.{point-corner}
-use Rattle.carriers.specs.Lists.{any-place, all-pass, and-both, held-which}
+use Rattle.carriers.specs.Lists.{held-which}
 use Rattle.carriers.specs.Joins.{Edge}
 use Rattle.carriers.specs.Carrier.{Shares, between-below, edge-between}
 use Rattle.carriers.specs.Child.{corner-point}
 use Rattle.soundness.specs.Held.{RedHas, red-which}
 use Rattle.soundness.specs.Sound.{lv}
 use Rattle.soundness.specs.Whole.{RedAt}
-use Rattle.lineage.specs.Born.{noCell}
-use Rattle.conformity.specs.Digits.{cornersAt, lift, triples, usesb}
-use Rattle.conformity.specs.Rows.{OnSide, Present, midb}
+use Rattle.families.specs.Digits.{cornersAt, lift, triples, usesb}
+use Rattle.families.specs.FaceKinds.{OnSide, Present, midb}
 use Rattle.conformity.specs.Having.{false-from, inb, withinb, in-at, in-from, all-map, four-points}
 use Rattle.conformity.specs.Shared.{Reads, digit-of, within-shares}
 use Rattle.conformity.specs.Sides.{Three, three-at, triple-small}

@@ -8,20 +8,20 @@ use native.Mathlib.Decide.{decLt}
 use native.Mathlib.Omega.{arith}
 use lib.Dec.{T}
 use lib.ListN.{length, getD, length-map}
-use Rattle.base.specs.Lists.{allb, one-if, and-left, and-right}
+use Rattle.base.specs.Lists.{allb}
+use Rattle.base.specs.Bools.{one-if, and-left, and-right, and-both}
 use Rattle.cutting.specs.Rule.{low, high, digit, edgeOf, split, family}
 use Rattle.mesh.specs.Cells.{Cell, corner}
 use Rattle.mesh.specs.Weights.{Point, point}
-use Rattle.lattice.specs.Every.{All, all-at, all-more, getD-map}
-use Rattle.lattice.specs.Kuhn.{digit-ends}
+use Rattle.base.specs.Every.{All, all-at, all-more, getD-map}
+use Rattle.families.specs.Kuhn.{digit-ends}
 use Rattle.lattice.specs.Regular.{Regular}
 use Rattle.lattice.specs.Edges.{point-injective}
 use Rattle.lattice.specs.Facts.{point-corner}
-use Rattle.carriers.specs.Lists.{and-both}
 use Rattle.carriers.specs.Child.{corner-point}
 use Rattle.carriers.specs.Carrier.{Shares}
-use Rattle.conformity.specs.Digits.{cornersAt}
-use Rattle.conformity.specs.Rows.{whole-face}
+use Rattle.families.specs.Digits.{cornersAt}
+use Rattle.families.specs.FaceKinds.{whole-face}
 use Rattle.conformity.specs.Having.{inb, withinb, in-at, in-from, countDigits, digits-none, digits-holds}
 use Rattle.conformity.specs.Shared.{Below10, Reads, family-small, digit-of, within-shares, one-times, none-times}
 use Rattle.conformity.specs.Sides.{three-at}

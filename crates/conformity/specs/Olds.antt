@@ -11,20 +11,21 @@ use native.Mathlib.Omega.{arith}
 use lib.Dec.{T}
 use lib.ListN.{length, getD, length-map}
 use Rattle.base.specs.Lists.{sameb}
-use Rattle.base.specs.Places.{not-both}
+use Rattle.base.specs.Bools.{not-both}
 use Rattle.cutting.specs.Rule.{low, high, digit, edgeOf, family}
-use Rattle.mesh.specs.Cells.{Cell, corner, redb, patternOf, edge, edges, joinsb, heldb, redEdges}
+use Rattle.mesh.specs.Cells.{Cell, corner, redb, patternOf, edge, edges, joinsb, heldb, redEdges, noCell}
 use Rattle.mesh.specs.Weights.{Point, point}
-use Rattle.lattice.specs.Every.{All, getD-map}
+use Rattle.base.specs.Every.{All, getD-map}
 use Rattle.lattice.specs.Regular.{unit, unit-even, Regular, On, corner-on, point-on}
-use Rattle.lattice.specs.Edges.{middle, middle-ends, corner-apart, ends-same}
+use Rattle.families.specs.Children.{middle, middle-ends, digitsOf, child-four, digits-rise, digits-below}
+use Rattle.lattice.specs.Edges.{corner-apart, ends-same}
 use Rattle.lattice.specs.Levels.{IfRegular}
 use Rattle.lattice.specs.Facts.{points-differ, edge-level}
-use Rattle.lineage.specs.Born.{noCell, Born}
+use Rattle.lineage.specs.Born.{Born}
 use Rattle.carriers.specs.Lists.{held-which, held-at}
 use Rattle.carriers.specs.Joins.{Edge, SameEnds, ends-of, joins-from, joins-sym, joins-trans}
 use Rattle.carriers.specs.Carrier.{between-below, between-low, between-high, edge-between}
-use Rattle.carriers.specs.Child.{digitsOf, child-four, digits-rise, digits-below, own-or-mid}
+use Rattle.carriers.specs.Child.{own-or-mid}
 use Rattle.carriers.specs.Level.{next-level, not-own}
 use Rattle.carriers.specs.Refined.{status-regular, pattern-small}
 use Rattle.soundness.specs.Held.{closed-at, red-regular, regular-at}

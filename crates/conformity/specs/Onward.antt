@@ -9,18 +9,17 @@ use native.Mathlib.Omega.{arith}
 use lib.Dec.{T}
 use lib.ListN.{length, getD}
 use Rattle.cutting.specs.Rule.{family}
-use Rattle.mesh.specs.Cells.{Cell, patternOf, redEdges}
+use Rattle.mesh.specs.Cells.{Cell, patternOf, redEdges, noCell}
 use Rattle.mesh.specs.Weights.{Point, point}
-use Rattle.lattice.specs.Every.{All, all-append, all-from, all-at}
+use Rattle.base.specs.Every.{All, all-append, all-from, all-at}
 use Rattle.lattice.specs.Levels.{IfRegular}
-use Rattle.lineage.specs.Born.{noCell}
-use Rattle.carriers.specs.Child.{digitsOf}
+use Rattle.families.specs.Children.{digitsOf}
 use Rattle.carriers.specs.Refined.{status-regular}
 use Rattle.soundness.specs.Held.{closed-at, red-regular}
 use Rattle.soundness.specs.Family.{RedChild, red-child, born-of}
 use Rattle.soundness.specs.Sound.{Sound, lv, level-closed, level-next}
-use Rattle.conformity.specs.Rows.{Present, family-present, red-whole, red-mid, family-leaf}
-use Rattle.conformity.specs.Digits.{holds}
+use Rattle.families.specs.FaceKinds.{Present, family-present, red-whole, red-mid, family-leaf}
+use Rattle.families.specs.Digits.{holds}
 use Rattle.conformity.specs.Having.{count, corner-points}
 use Rattle.conformity.specs.Open.{leaves-each}
 use Rattle.conformity.specs.Old.{Old}

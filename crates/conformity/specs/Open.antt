@@ -11,27 +11,27 @@ use native.Mathlib.Omega.{arith}
 use lib.Dec.{T, eqb}
 use lib.ListN.{length, getD}
 use borrow.Author.Tests.{eqb-true}
-use Rattle.base.specs.Lists.{allb, sameb, is-true}
-use Rattle.base.specs.Places.{not-both}
+use Rattle.base.specs.Lists.{allb, sameb}
+use Rattle.base.specs.Bools.{is-true, not-both}
 use Rattle.cutting.specs.Rule.{low, high, digit, edgeOf, split, family}
 use Rattle.families.specs.Faces.{joinedb}
 use Rattle.families.specs.Facts.{own-edges}
-use Rattle.mesh.specs.Cells.{Cell, corner, redb, patternOf, edge, heldb, redEdges, children}
+use Rattle.mesh.specs.Cells.{Cell, corner, redb, patternOf, edge, heldb, redEdges, children, noCell}
 use Rattle.mesh.specs.Weights.{Point, point}
 use Rattle.mesh.specs.Coarse.{cellsb}
 use Rattle.mesh.specs.Table.{levelsOf, cellsOf, soundb}
-use Rattle.lattice.specs.Every.{All, all-at}
-use Rattle.lattice.specs.Kuhn.{digit-ends, digit-named}
+use Rattle.base.specs.Every.{All, all-at, all-pass}
+use Rattle.families.specs.Kuhn.{digit-ends, digit-named}
 use Rattle.lattice.specs.Regular.{Regular, point-sized, children-regular}
-use Rattle.lattice.specs.Edges.{middle, middle-ends}
+use Rattle.families.specs.Children.{middle, middle-ends, lowDigit, highDigit, digits-rise, digits-below}
 use Rattle.lattice.specs.Levels.{IfRegular}
 use Rattle.lattice.specs.Facts.{sound-regular}
 use Rattle.rows.specs.Many.{length-children, size-refined}
-use Rattle.lineage.specs.Born.{noCell, childOf, Born, children-at}
-use Rattle.carriers.specs.Lists.{held-at, all-pass}
+use Rattle.lineage.specs.Born.{childOf, Born, children-at}
+use Rattle.carriers.specs.Lists.{held-at}
 use Rattle.carriers.specs.Joins.{Edge, joins-trans}
 use Rattle.carriers.specs.Carrier.{between-below, edge-between}
-use Rattle.carriers.specs.Child.{corner-point, lowDigit, highDigit, digits-rise, digits-below, digits-joined, child-edge, EdgeAt, edge-child, edge-joins}
+use Rattle.carriers.specs.Child.{corner-point, digits-joined, child-edge, EdgeAt, edge-child, edge-joins}
 use Rattle.carriers.specs.Patterns.{split-none, split-pattern}
 use Rattle.carriers.specs.Refined.{status-regular, status-green, pattern-green, pattern-small}
 use Rattle.soundness.specs.Held.{red-at, closed-at, regular-at}

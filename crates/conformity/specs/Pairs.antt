@@ -10,13 +10,12 @@ use native.Mathlib.Nat.{add-mul}
 use native.Mathlib.Omega.{arith}
 use lib.Dec.{T, eqb, ltb, eqb→eq, ltb→lt}
 use borrow.Author.Tests.{eq-eqb, lt-ltb}
-use Rattle.base.specs.Lists.{belowb, belowb-at, one-if, impb, impb-use, is-false, and-left, and-right}
-use Rattle.base.specs.Places.{not-both}
+use Rattle.base.specs.Lists.{belowb, belowb-at}
+use Rattle.base.specs.Bools.{one-if, impb, impb-use, is-false, and-left, and-right, or-second, not-both}
 use Rattle.cutting.specs.Rule.{low, high, digit, family}
 use Rattle.families.specs.Faces.{joinedb}
-use Rattle.lattice.specs.Every.{below-at}
-use Rattle.lattice.specs.Kuhn.{reds, family-red}
-use Rattle.carriers.specs.Lists.{or-second}
+use Rattle.base.specs.Every.{below-at}
+use Rattle.families.specs.Kuhn.{reds, family-red}
 
 -- where one of the two is a corner and the other a midpoint of the opposite edge of a face: the midpoints of the other edges of the
 -- face; where they are 12 and 34, or 14 and 23: 13 and 24

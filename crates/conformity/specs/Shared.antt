@@ -14,20 +14,21 @@ use native.Mathlib.Omega.{arith}
 use lib.Dec.{T, eqb, leb, ltb, eqb→eq, ltb→lt}
 use lib.ListN.{length, getD, length-map}
 use borrow.Author.Tests.{le-leb}
-use Rattle.base.specs.Lists.{allb, allb-at, belowb, belowb-at, impb, impb-use, sameb, one-if, and-left, and-right}
+use Rattle.base.specs.Lists.{allb, allb-at, belowb, belowb-at, sameb}
+use Rattle.base.specs.Bools.{impb, one-if, impb-use, and-left, and-right, or-either, and-both}
 use Rattle.cutting.specs.Rule.{low, high, digit, split, family}
 use Rattle.mesh.specs.Cells.{Cell, corner, edge, heldb}
 use Rattle.mesh.specs.Weights.{Point, point, mid}
-use Rattle.lattice.specs.Every.{below-at, All, all-at, all-of, all-more, getD-map}
-use Rattle.lattice.specs.Kuhn.{digit-ends}
+use Rattle.base.specs.Every.{below-at, All, all-at, all-of, all-more, getD-map, all-pass, any-place}
+use Rattle.families.specs.Kuhn.{digit-ends}
 use Rattle.lattice.specs.Regular.{Regular, same-ends}
-use Rattle.lattice.specs.Edges.{middle, or-either, point-injective}
-use Rattle.carriers.specs.Lists.{any-place, all-pass, and-both}
+use Rattle.families.specs.Children.{middle}
+use Rattle.lattice.specs.Edges.{point-injective}
 use Rattle.carriers.specs.Joins.{Edge}
 use Rattle.carriers.specs.Carrier.{Shares}
 use Rattle.carriers.specs.Order.{lower-too}
-use Rattle.conformity.specs.Digits.{usesb, holds}
-use Rattle.conformity.specs.Rows.{pattern-sum, family-present, Present}
+use Rattle.families.specs.Digits.{usesb, holds}
+use Rattle.families.specs.FaceKinds.{pattern-sum, family-present, Present}
 use Rattle.conformity.specs.Having.{inb, withinb, in-at, in-from, all-map, countDigits, digits-none, digits-holds, four-points}
 
 abbrev pub Below10 : List ℕ → Type 0

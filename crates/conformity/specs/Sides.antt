@@ -8,19 +8,20 @@ use Prim.Native.Nat.{ℕ, _+_, _*_, _-_, _<_, _≤_}
 use native.Mathlib.Omega.{arith}
 use lib.Dec.{T, ltb, ltb→lt}
 use lib.ListN.{getD}
-use Rattle.base.specs.Lists.{allb, allb-at, sameb, one-if}
+use Rattle.base.specs.Lists.{allb, allb-at, sameb}
+use Rattle.base.specs.Bools.{one-if}
 use Rattle.cutting.specs.Rule.{digit, edgeOf, split, family}
-use Rattle.cutting.proofs.Table.{row}
+use Rattle.cutting.specs.Rows.{row}
 use Rattle.mesh.specs.Cells.{Cell, corner, heldb}
 use Rattle.mesh.specs.Weights.{Point, point, mid}
-use Rattle.lattice.specs.Every.{below-at, All, all-of}
+use Rattle.base.specs.Every.{below-at, All, all-of}
 use Rattle.lattice.specs.Regular.{Regular}
 use Rattle.lattice.specs.Edges.{point-injective}
 use Rattle.carriers.specs.Joins.{Edge}
 use Rattle.carriers.specs.Carrier.{Shares, between-below, edge-between}
 use Rattle.carriers.specs.Order.{lower-too}
-use Rattle.conformity.specs.Digits.{cornersAt, lift, triples, holds, alike}
-use Rattle.conformity.specs.Rows.{OnSide, transfer}
+use Rattle.families.specs.Digits.{cornersAt, lift, triples, holds, alike}
+use Rattle.families.specs.FaceKinds.{OnSide, transfer}
 use Rattle.conformity.specs.Having.{withinb, countDigits, digits-holds}
 use Rattle.conformity.specs.Shared.{Below10, Reads, family-small, digit-of, point-digit, within-shares, one-times, none-times, no-child}
 

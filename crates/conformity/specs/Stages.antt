@@ -14,15 +14,14 @@ use native.Mathlib.Omega.{arith}
 use lib.Dec.{T}
 use lib.ListN.{length, getD, take}
 use borrow.Author.Tests.{eqb-true}
-use Rattle.base.specs.Lists.{sameb, one-if, is-true}
-use Rattle.base.specs.Places.{not-both}
+use Rattle.base.specs.Lists.{sameb}
+use Rattle.base.specs.Bools.{one-if, is-true, not-both}
 use Rattle.cutting.specs.Rule.{split, family}
-use Rattle.mesh.specs.Cells.{Cell, redb, patternOf, edge, heldb, redEdges}
+use Rattle.mesh.specs.Cells.{Cell, redb, patternOf, edge, heldb, redEdges, noCell}
 use Rattle.mesh.specs.Weights.{Point, point}
 use Rattle.mesh.specs.Table.{Level, levelsOf, next}
-use Rattle.lattice.specs.Every.{All, all-append, all-more}
+use Rattle.base.specs.Every.{All, all-append, all-more}
 use Rattle.lattice.specs.Levels.{noLevel, IfRegular}
-use Rattle.lineage.specs.Born.{noCell}
 use Rattle.carriers.specs.Lists.{held-at}
 use Rattle.carriers.specs.Carrier.{joins-self}
 use Rattle.carriers.specs.Patterns.{split-red, split-pattern}

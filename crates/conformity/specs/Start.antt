@@ -10,24 +10,21 @@ use native.Mathlib.Omega.{arith}
 use lib.Dec.{T, eqb, leb}
 use lib.ListN.{length, getD}
 use borrow.Author.Tests.{eqb-true, eq-eqb, le-leb}
-use Rattle.base.specs.Lists.{allb, anyb, allb-at, filterb, memberb, sameb, is-true, is-false, and-left, and-right}
+use Rattle.base.specs.Lists.{allb, anyb, allb-at, filterb, memberb, sameb, member-at}
+use Rattle.base.specs.Bools.{is-true, is-false, and-left, and-right, or-either, or-first, or-second, and-both, not-both}
 use Rattle.base.specs.Fours.{faces, holders}
-use Rattle.base.specs.Places.{sameb-self, not-both}
-use Rattle.mesh.specs.Cells.{Cell, corner}
+use Rattle.base.specs.Places.{sameb-self}
+use Rattle.mesh.specs.Cells.{Cell, corner, noCell}
 use Rattle.mesh.specs.Weights.{Point, coarse, coarseCells}
 use Rattle.mesh.specs.Coarse.{cellsb, twiceb, singleb}
 use Rattle.mesh.specs.Table.{levelsOf}
-use Rattle.lattice.specs.Every.{All, all-at, all-from, getD-map}
-use Rattle.lattice.specs.Edges.{or-either}
-use Rattle.numbering.specs.Lists.{all-filter, filter-passes}
-use Rattle.lineage.specs.Born.{noCell}
+use Rattle.base.specs.Every.{All, all-at, all-from, getD-map, any-place, any-at, all-each}
+use Rattle.base.specs.Each.{all-filter, filter-passes}
 use Rattle.lineage.specs.Paths.{length-coarse, coarse-at}
 use Rattle.lineage.specs.Levels.{cells-first}
-use Rattle.carriers.specs.Lists.{any-place, any-at, all-each, or-first, or-second, and-both}
-use Rattle.carriers.specs.Child.{member-at}
 use Rattle.soundness.specs.Sound.{lv}
 use Rattle.conformity.specs.Leaves.{offb, onFaceb, onBoundaryb, boundaryFaces}
-use Rattle.conformity.specs.Digits.{cornersAt}
+use Rattle.families.specs.Digits.{cornersAt}
 use Rattle.conformity.specs.Having.{bool-ext, count}
 use Rattle.conformity.specs.Bounds.{Wide}
 use Rattle.conformity.specs.Fours.{Rise, Rise3, rise-all, faces-at, faces-four, within-three, face-rise, faces-rise, four-in-three}

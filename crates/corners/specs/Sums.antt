@@ -16,7 +16,8 @@ use lib.Dec.{T, leb, leb→le}
 use lib.ListN.{length, getD, length-append}
 use lib.IntN.{ℤ, pos, natAbs, _+ℤ_, _*ℤ_}
 use lib.Signed.{quotZ}
-use Rattle.base.specs.Lists.{allb, and-left, and-right}
+use Rattle.base.specs.Lists.{allb}
+use Rattle.base.specs.Bools.{and-left, and-right}
 use Rattle.mesh.specs.Coarse.{coordinate, positionsb}
 
 pub record Small (n : ℕ) (z : ℤ) : Type 0 where

@@ -5,7 +5,7 @@
 --   sums-are                their table of weighted sums is sumNumbers
 use mathlib.Core.Path.{_≡_, refl, sym, _∙_, ap}
 use mathlib.Core.Logic.{⊎-elim}
-use mathlib.Core.List.{List, [], _∷_, _++_, flatMap, zipWith, append-assoc, append-nil}
+use mathlib.Core.List.{List, [], _∷_, _++_, flatMap, append-assoc, append-nil}
 use Prim.Native.Nat.{ℕ, zero, suc, _+_, _*_, _≤_, _<_}
 use native.Mathlib.Nat.{add-suc, add-zero, zero-add, eq-or-lt-of-le}
 use native.Mathlib.Omega.{arith}
@@ -18,6 +18,7 @@ use Rattle.mesh.specs.Layout.{Corner, coarseCorners, coarseCornersTo, endTable,
 use Rattle.corners.specs.Ends.{Ends, coarseEnds, addEnds, endNumbers}
 use Rattle.corners.specs.Sums.{half, coarseSums, midSums, addSums, sumNumbers}
 use Rattle.corners.specs.Weighted.{Evens, half-mid, weighted-coarse}
+use Rattle.mesh.specs.Laws.{length-mid}
 
 -- corner i; where there is none, one with no weights
 abbrev pub cornerAt : List Corner → ℕ → Corner
@@ -113,13 +114,6 @@ module _ (n : ℕ) where
         weighted-coarse ps 1 n i h,
         weighted-coarse ps 2 n i h,
       )
-
-length-mid : (n : ℕ) (p q : Point) → length p ≡ n → length q ≡ n → length (mid p q) ≡ n
-unfolding mid zipWith
-length-mid n [] q e f = e
-length-mid n (x ∷ p) [] e f = absurd (omega arith)
-length-mid zero (x ∷ p) (y ∷ q) e f = absurd (omega arith)
-length-mid (suc n) (x ∷ p) (y ∷ q) e f = ap suc (length-mid n p q (omega arith) (omega arith))
 
 module _ (n : ℕ) (xs ys : List ℕ) (m : ℕ) (ks : List Corner) (w : Numbered n xs ys m ks) where
   -- each corner has n weights

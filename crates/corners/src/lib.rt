@@ -1,7 +1,7 @@
 // The tables of a mesh's corners, from the ends of the new ones (document 01, "Cells, status, numbers").
 // A mesh has n coarse corners and m new ones. New corner j has the number n + j, and is the midpoint of xs[j] and ys[j].
 ghost use mathlib.Core.Path.{_≡_};
-ghost use mathlib.Core.List.{_++_, _∷_, []};
+ghost use mathlib.Core.List.{[], _++_, _∷_};
 ghost use Prim.Native.Nat.{_+_, _*_, _≤_, _<_};
 ghost use lib.ListN.{length, take, drop};
 ghost use lib.Seq.{sets};

@@ -9,7 +9,8 @@ use lib.Dec.{ltb}
 use lib.ListN.{length, getD, drop, length-take, length-drop}
 use lib.Seq.{take-suc, getD-drop}
 use borrow.Author.Tests.{eq-eqb, ne-eqb}
-use Rattle.base.specs.Lists.{filterb, one-if}
+use Rattle.base.specs.Lists.{filterb}
+use Rattle.base.specs.Bools.{one-if, one-most}
 use Rattle.mesh.specs.Counts.{countIf, greenb}
 use Rattle.rows.specs.Numbered.{part}
 
@@ -21,11 +22,6 @@ green-leaf s e = rw (eq-eqb s 0 e)
 pub green-not-leaf : (s : ℕ) → (s ≡ 0 → ⊥) → greenb s ≡ ltb s 64
 unfolding greenb
 green-not-leaf s e = rw (ne-eqb s 0 e)
-
-pub one-few : (b : Bool) → one-if b ≤ 1
-unfolding one-if
-one-few true = omega arith
-one-few false = omega arith
 
 module _ (f : ℕ → Bool) where
   count-cons : (s : ℕ) (ss : List ℕ) → countIf f (s ∷ ss) ≡ one-if (f s) + countIf f ss
@@ -46,7 +42,7 @@ module _ (f : ℕ → Bool) where
   count-few : (ss : List ℕ) → countIf f ss ≤ length ss
   unfolding countIf filterb
   count-few [] = omega arith
-  count-few (s ∷ ss) = omega (arith, count-cons s ss, one-few (f s), count-few ss)
+  count-few (s ∷ ss) = omega (arith, count-cons s ss, one-most (f s), count-few ss)
 
   pub count-none : (l : List ℕ) (first : ℕ) → countIf f (part l first (first - first)) ≡ 0
   unfolding countIf filterb

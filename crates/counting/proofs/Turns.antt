@@ -8,11 +8,7 @@ use native.Mathlib.Nat.{eq-or-lt-of-le}
 use native.Mathlib.Omega.{arith}
 use lib.ListN.{length, take, drop, length-append, take-append-drop}
 use lib.Seq.{sets, sets-eq, length-sets, length-take-le, take-at, drop-at, drop-drop}
-use Rattle.counting.specs.Levels.{Levels, nextEnd, countsAt, levelCounts, levelNumber, levelEnd, counts-more, counts-none, number-more, number-none, end-more, end-none}
-
-next-after : (first last : ℕ) (ss : List ℕ) → last ≤ nextEnd first last ss
-unfolding nextEnd
-next-after first last ss = omega arith
+use Rattle.counting.specs.Levels.{Levels, nextEnd, countsAt, levelCounts, levelNumber, levelEnd, counts-more, counts-none, number-more, number-none, end-more, end-none, next-after}
 
 -- no level ends before it starts
 first-below : (f first last : ℕ) (ss : List ℕ) → first ≤ last → first ≤ levelEnd f first last ss

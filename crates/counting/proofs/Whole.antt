@@ -2,26 +2,20 @@
 -- says, so that the levels have the same ends.
 -- Assumes nothing.
 use mathlib.Core.Path.{_≡_, refl, sym, _∙_, ap, ap₂}
-use mathlib.Core.Bool.{Bool, true, false}
 use mathlib.Core.List.{List, [], _∷_, _++_, flatMap}
-use Prim.Native.Nat.{ℕ, zero, suc, _+_, _-_, _≤_}
+use Prim.Native.Nat.{ℕ, zero, suc, _+_, _-_}
 use native.Mathlib.Nat.{add-zero}
 use native.Mathlib.Omega.{arith}
-use lib.Dec.{eqb}
 use lib.ListN.{length, take, drop, length-append, length-take}
 use lib.Seq.{drop-drop}
 use Rattle.mesh.specs.Cells.{Cell}
-use Rattle.mesh.specs.Weights.{Point, point, coarseFrom, coarseCells}
+use Rattle.mesh.specs.Weights.{Point, coarseCells}
 use Rattle.mesh.specs.Table.{Level, next, levels, levelsOf, cellsOf}
 use Rattle.mesh.specs.Counts.{countsOf, countTable}
 use Rattle.rows.specs.Numbered.{part}
 use Rattle.rows.specs.Many.{next-size}
 use Rattle.counting.specs.Levels.{nextEnd, countsAt, levelCounts, levelNumber, levelEnd, counts-more, counts-none, number-more, number-none, end-more, end-none}
-
-coarse-size : (n i : ℕ) (qs : List (List ℕ)) → length (coarseFrom n i qs) ≡ length qs
-unfolding coarseFrom
-coarse-size n i [] = refl
-coarse-size n i (q ∷ qs) = ap suc (coarse-size n (suc i) qs)
+use Rattle.mesh.specs.Laws.{length-from}
 
 -- a level of the cells cs, numbered from k, in the table ss
 abbrev own : ℕ → List (Cell Point) → List ℕ → List ℕ
@@ -86,7 +80,7 @@ end-from (suc f) k (c ∷ cs) ss =
 module _ (n : ℕ) (qs : List (List ℕ)) (ss : List ℕ) where
   whole : 0 + length (coarseCells n qs) ≡ length qs
   unfolding coarseCells
-  whole = omega (arith, coarse-size n 0 qs)
+  whole = omega (arith, length-from n 0 qs)
 
   pub counts-right : countTable (levelsOf n qs ss) ≡ levelCounts 12 0 (length qs) ss
   unfolding levelsOf

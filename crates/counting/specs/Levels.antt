@@ -18,7 +18,8 @@ use borrow.Author.Tests.{lt-ltb, le-ltb}
 use Rattle.base.specs.Lists.{allb}
 use Rattle.mesh.specs.Cells.{redb}
 use Rattle.mesh.specs.Counts.{countIf, greenb}
-use Rattle.rows.specs.Numbered.{sizes, part}
+use Rattle.mesh.specs.Table.{sizes}
+use Rattle.rows.specs.Numbered.{part}
 use Rattle.counting.specs.declared.Tally.{Tally}
 
 unfoldable pub nextEnd : ℕ → ℕ → List ℕ → ℕ
@@ -95,3 +96,7 @@ counts-length (suc f) first last ss = go (ltb first last) refl (counts-length f 
         → length (levelCounts (suc f) first last ss) ≡ 4 * levelNumber (suc f) first last ss
     go true e i = rw (e, levelCounts, levelNumber) (omega (arith, i))
     go false e i = rw (e, levelCounts, levelNumber)
+
+pub next-after : (first last : ℕ) (ss : List ℕ) → last ≤ nextEnd first last ss
+unfolding nextEnd
+next-after first last ss = omega arith

@@ -4,7 +4,7 @@ ghost use mathlib.Core.List.{_++_};
 ghost use Prim.Native.Nat.{_+_, _*_, _≤_, _<_};
 ghost use lib.ListN.{length, drop};
 ghost use lib.Seq.{sets};
-ghost use Rattle.base.specs.Lists.{one-if};
+ghost use Rattle.base.specs.Bools.{one-if};
 ghost use Rattle.base.specs.Lent.{was, is};
 ghost use Rattle.mesh.specs.Counts.{greenb};
 ghost use Rattle.counting.specs.Levels.{Levels, countsAt, levelCounts, levelNumber, listed};

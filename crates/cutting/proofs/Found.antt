@@ -1,7 +1,7 @@
 -- What two entries of the starts say of the row between them, and the answer that is made of it.
 -- Assumes nothing.
-use mathlib.Core.Path.{_≡_, refl, _∙_, sym, ap}
-use mathlib.Core.List.{List, _++_, flatten}
+use mathlib.Core.Path.{_≡_}
+use mathlib.Core.List.{List, _++_}
 use Prim.Native.Nat.{ℕ, suc, _+_, _*_, _-_, _/_, _≤_, _<_}
 use native.Mathlib.Numerals.{add-one}
 use native.Mathlib.Omega.{arith}
@@ -10,7 +10,7 @@ use Rattle.base.specs.declared.Answer.the-variants.{Accepted}
 use Rattle.cutting.specs.declared.Family.{Family}
 use Rattle.cutting.specs.Rule.{family}
 use Rattle.cutting.specs.Answer.{digitsBelow, cutInto, cutOf, cutOf-accepted}
-use Rattle.cutting.proofs.Table.{Row, row-at}
+use Rattle.cutting.proofs.Table.{row-at}
 
 pub record Found (p from to : ℕ) : Type 0 where
   pub up : from ≤ to

@@ -1,4 +1,3 @@
-pub mod Data
 pub mod Table
 mod Copy
 mod Found

@@ -1,28 +1,18 @@
 -- The one computed test of the table: each row is the family that the rule gives. From it, what the code reads.
 -- Assumes nothing.
 use mathlib.Core.Path.{_≡_, refl, _∙_, sym, ap, ap₂}
-use mathlib.Core.Bool.{Bool, true, false, _&&_}
 use mathlib.Core.List.{List, [], _∷_, _++_, map, flatten, append-assoc, append-nil}
 use Prim.Native.Nat.{ℕ, zero, suc, _+_, _*_, _-_, _%_, _≤_, _<_}
 use native.Mathlib.Nat.{add-zero, add-suc}
 use native.Mathlib.Omega.{arith}
 use lib.Dec.{T, eqb, leb, eqb→eq, leb→le}
-use lib.ListN.{length, getD, take, drop, replicate, length-append, length-map, List·getD-map}
-use lib.Seq.{take-suc, take-append-seam, drop-append-seam, take-all}
-use Rattle.base.specs.Lists.{belowb, belowb-at, sameb, sameb-eq, samesb, samesb-eq, allb, and-left, and-right, filterb}
-use Rattle.cutting.specs.Rule.{family, choose, present, childb}
+use lib.ListN.{length, getD, take, drop, length-append, length-map, List·getD-map}
+use lib.Seq.{take-suc, take-append-seam, drop-append-seam}
+use Rattle.base.specs.Lists.{belowb, belowb-at, sameb, sameb-eq, allb}
+use Rattle.base.specs.Bools.{and-left, and-right}
+use Rattle.cutting.specs.Rule.{family}
 use Rattle.cutting.specs.Answer.{digitsBelow, digitTable}
-use Rattle.cutting.proofs.Data.{rows}
-
-unfoldable pub row : ℕ → List (List ℕ)
-row p = getD rows p []
-
-tested : T (belowb (λ p. samesb (row p) (family p)) 64)
-unfolding belowb samesb rows row family
-tested = tt
-
-pub family-row : (p : ℕ) → p < 64 → family p ≡ row p
-family-row p h = sym (samesb-eq (row p) (family p) (belowb-at (λ p. samesb (row p) (family p)) 64 tested p h))
+use Rattle.cutting.specs.Rows.{rows, row, family-row, family-few, family-fours}
 
 -- the rows one after the other
 unfoldable pub flat : List (List (List ℕ)) → List ℕ
@@ -113,20 +103,6 @@ digits-length = ap length all-digits ∙ eqb→eq (length (flat rows)) 1172 leng
 pub table-length : (l : List ℕ) → l ≡ digitTable → length l ≡ 1172
 unfolding digitTable
 table-length l e = ap length e ∙ length-map (digitsBelow 64) (λ d. 48 + d) ∙ digits-length
-
--- a family has at most 8 children, of four digits each
-few-test : T (belowb (λ p. leb (length (row p)) 8 && allb (λ c. eqb (length c) 4) (row p)) 64)
-unfolding belowb allb rows row
-few-test = tt
-
-few : (p : ℕ) → p < 64 → T (leb (length (row p)) 8 && allb (λ c. eqb (length c) 4) (row p))
-few = belowb-at (λ p. leb (length (row p)) 8 && allb (λ c. eqb (length c) 4) (row p)) 64 few-test
-
-pub family-few : (p : ℕ) → p < 64 → length (family p) ≤ 8
-family-few p h = rw (family-row p h) (leb→le (length (row p)) 8 (and-left (leb (length (row p)) 8) (allb (λ c. eqb (length c) 4) (row p)) (few p h)))
-
-pub family-fours : (p : ℕ) → p < 64 → T (allb (λ c. eqb (length c) 4) (family p))
-family-fours p h = rw (family-row p h) (and-right (leb (length (row p)) 8) (allb (λ c. eqb (length c) 4) (row p)) (few p h))
 
 length-fours : (f : List (List ℕ)) → T (allb (λ c. eqb (length c) 4) f) → length (flatten f) ≡ 4 * length f
 unfolding allb flatten

@@ -2,9 +2,9 @@
 --   digitsBelow p   the families of the patterns below p, digit after digit
 --   digitTable      all families, digit after digit, in ASCII: the table that the families are read from
 --   cutOf p         the whole answer to the byte p
-use mathlib.Core.Path.{_≡_, refl}
-use mathlib.Core.Bool.{Bool, true, false}
-use mathlib.Core.List.{List, [], _∷_, _++_, map, flatten}
+use mathlib.Core.Path.{_≡_}
+use mathlib.Core.Bool.{true, false}
+use mathlib.Core.List.{List, [], _++_, map, flatten}
 use Prim.Native.Nat.{ℕ, zero, suc, _+_, _-_, _≤_, _<_}
 use lib.Dec.{ltb}
 use lib.ListN.{length, replicate}

@@ -18,7 +18,8 @@ use Prim.Native.Nat.{ℕ, zero, suc, _+_, _*_, _/_, _%_, _^_}
 use lib.Dec.{eqb}
 use lib.ListN.{getD}
 use lib.IntN.{ℤ, pos, negsuc, _+ℤ_, _-ℤ_, _*ℤ_}
-use Rattle.base.specs.Lists.{allb, filterb, memberb, one-if}
+use Rattle.base.specs.Lists.{allb, filterb, memberb}
+use Rattle.base.specs.Bools.{one-if}
 
 -- "Local corners are 1 to 4." Here they are counted from 0: corner n of the paper is n - 1.
 

@@ -1,7 +1,7 @@
 -- From a search of `keys` to the list of pairs: what it finds is the pair's place.
 -- Assumes nothing.
 use mathlib.Core.Path.{_≡_, refl, sym, _∙_, ap, ap₂}
-use mathlib.Core.Logic.{_⊎_, inl, inr, ⊎-elim}
+use mathlib.Core.Logic.{_⊎_, ⊎-elim}
 use mathlib.Core.Bool.{Bool, true, false, not}
 use lib.Dec.{eqb}
 use borrow.Author.Tests.{eqb-true, eqb-false}
@@ -9,10 +9,11 @@ use mathlib.Core.List.{List, [], _∷_, _++_}
 use Prim.Native.Nat.{ℕ, zero, suc, _+_, _-_, _≤_, _<_}
 use native.Mathlib.Nat.{eq-or-lt-of-le}
 use native.Mathlib.Omega.{arith}
-use lib.ListN.{length, getD, take, set, length-append, List·getD-append}
-use lib.Seq.{getD-append-seam, getD-set-same, getD-set-other, take-set-le, getD-at}
-use Rattle.base.specs.Places.{hasb, placeIn, add, Distinct, has-at, has-append, has-below, place-there, either, not-both, add-old, add-new, distinct-add, place-here, place-behind, distinct-nil}
-use Rattle.pairs.specs.Keys.{Keys, Room, Added, seek, seek-found, seek-none, Found}
+use lib.ListN.{length, getD, set, length-append, List·getD-append}
+use lib.Seq.{getD-set-same, getD-set-other, take-set-le, getD-at}
+use Rattle.base.specs.Places.{hasb, placeIn, add, Distinct, has-at, has-below, place-there, add-old, add-new, distinct-add, place-here, place-behind, distinct-nil}
+use Rattle.base.specs.Bools.{either}
+use Rattle.pairs.specs.Keys.{Keys, Room, Added, seek, seek-found, seek-none}
 use Rattle.edges.specs.Pairs.{Pair, sorted, isb, addPair, pairsOf, same-pair}
 use Rattle.edges.specs.Table.{listed, Table, Edges, Inserted}
 

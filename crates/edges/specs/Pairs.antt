@@ -5,18 +5,18 @@
 --   addPair es e      es with the pair of e behind it, where it is not in it; addPairs es l the same for each edge of l
 --   pairsOf xs ys k m the m pairs of two lists from the place k on
 -- Laws: same-pair (isb tells pairs apart), joins-sorted (edges have the same ends where their pairs are the same).
-use mathlib.Core.Path.{_≡_, refl, sym, _∙_, ap, ap₂}
-use mathlib.Core.Logic.{_⊎_, inl, inr, ⊎-elim}
+use mathlib.Core.Path.{_≡_, refl, sym, _∙_, ap₂}
 use mathlib.Core.Bool.{Bool, true, false, _&&_, _||_, or-true, or-false, or-assoc}
 use mathlib.Core.List.{List, [], _∷_, _++_, map}
-use Prim.Native.Nat.{ℕ, zero, suc, _+_, _≤_, _<_, min, max}
+use Prim.Native.Nat.{ℕ, zero, suc, _+_, min, max}
 use native.Mathlib.Decide.{ℕ-discrete}
 use native.Mathlib.Omega.{arith}
 use lib.Dec.{T, eqb, eqb→eq}
-use lib.ListN.{length, getD}
-use borrow.Author.Tests.{eq-eqb, ne-eqb, eqb-true}
-use Rattle.base.specs.Lists.{anyb, and-left, and-right, is-true}
-use Rattle.base.specs.Places.{hasb, add, Same, has-added, either, not-both}
+use lib.ListN.{getD}
+use borrow.Author.Tests.{eq-eqb, eqb-true}
+use Rattle.base.specs.Lists.{anyb}
+use Rattle.base.specs.Bools.{and-left, and-right, not-both}
+use Rattle.base.specs.Places.{hasb, add, Same, has-added}
 use Rattle.mesh.specs.Cells.{joinsb, heldb}
 
 abbrev pub Pair : Type 0

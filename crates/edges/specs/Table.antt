@@ -7,9 +7,9 @@
 --   Grown ..                      what inserting a list of edges leaves; grown-none, grown-more, grown-both make it up
 use mathlib.Core.Path.{_≡_, refl, sym, _∙_, ap}
 use mathlib.Core.List.{List, [], _∷_, _++_}
-use Prim.Native.Nat.{ℕ, _+_, _-_, _≤_, _<_}
+use Prim.Native.Nat.{ℕ, _+_, _-_, _≤_}
 use native.Mathlib.Omega.{arith}
-use lib.ListN.{length, getD, take, length-append}
+use lib.ListN.{length, take, length-append}
 use lib.Seq.{take-take}
 use Rattle.base.specs.Places.{placeIn, Distinct}
 use Rattle.pairs.specs.Keys.{Keys}
@@ -61,7 +61,7 @@ unfolding addPairs
 pairs-append es [] m = refl
 pairs-append es (e ∷ l) m = pairs-append (addPair es e) l m
 
-take-less : (k n : ℕ) (l m : List ℕ) → k ≤ n → take n l ≡ take n m → take k l ≡ take k m
+pub take-less : (k n : ℕ) (l m : List ℕ) → k ≤ n → take n l ≡ take n m → take k l ≡ take k m
 take-less k n l m h e = sym (take-take k n l h) ∙ ap (take k) e ∙ take-take k n m h
 
 module _ (xs ys : List ℕ) (from n : ℕ) (es fs : List Pair) (xs₁ ys₁ heads₁ links₁ : List ℕ) (n₁ : ℕ) (g : Grown xs ys from n es xs₁ ys₁ heads₁ links₁ n₁)

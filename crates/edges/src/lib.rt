@@ -4,7 +4,7 @@ ghost use mathlib.Core.Path.{_≡_};
 ghost use Prim.Native.Nat.{_-_};
 ghost use Rattle.base.specs.Places.{hasb};
 ghost use Rattle.base.specs.Lent.{was, is};
-ghost use Rattle.pairs.specs.Keys.{Keys, Room};
+ghost use Rattle.pairs.specs.Keys.{Room};
 ghost use Rattle.edges.specs.Pairs.{sorted, isb};
 ghost use Rattle.edges.specs.Table.{listed, Table, Edges, Inserted};
 

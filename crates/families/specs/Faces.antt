@@ -8,12 +8,13 @@
 --   bits p n          which of them are split in the pattern p: 1, 2 and 4 added up
 --   side f n          how the family f cuts the face n: its triangles, each by places among the face's own six points
 --   triples           the twenty triples of those six places
-use mathlib.Core.Bool.{Bool, true, false, _&&_, not}
+use mathlib.Core.Bool.{Bool, _&&_, not}
 use mathlib.Core.List.{List, [], _∷_, map, flatMap}
 use Prim.Native.Nat.{ℕ, _+_, _*_}
 use lib.Dec.{eqb}
 use lib.ListN.{getD}
-use Rattle.base.specs.Lists.{allb, anyb, filterb, memberb, sameb, one-if}
+use Rattle.base.specs.Lists.{allb, anyb, filterb, memberb, sameb}
+use Rattle.base.specs.Bools.{one-if}
 use Rattle.base.specs.Fours.{faces}
 use Rattle.cutting.specs.Rule.{low, high, points, split, edgeOf, choose}
 

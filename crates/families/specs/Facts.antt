@@ -3,18 +3,17 @@
 use mathlib.Core.Path.{_≡_, refl, _∙_, sym, ap}
 use mathlib.Core.Logic.{_≢_}
 use mathlib.Core.Bool.{Bool, true, false, _&&_, _||_, not, Bool·beq}
-use mathlib.Core.List.{List, [], _∷_, map, foldr}
-use Prim.Native.Nat.{ℕ, zero, suc, _+_, _*_, _/_, _%_, _<_, _≤_}
-use native.Mathlib.Omega.{arith}
-use lib.Dec.{T, eqb, ltb, leb, eqb→eq, ltb→lt, leb→le}
+use mathlib.Core.List.{List, [], _∷_, foldr}
+use Prim.Native.Nat.{ℕ, zero, suc, _+_, _*_, _/_, _%_, _<_}
+use lib.Dec.{T, eqb, ltb, eqb→eq, ltb→lt}
 use lib.ListN.{length, getD}
 use borrow.Author.Tests.{ne-eqb}
 use lib.IntN.{ℤ, pos, negsuc, natAbs}
-use Rattle.base.specs.Lists.{allb, anyb, filterb, belowb, memberb, sameb, samesb, samesb-eq, is-true, is-false, and-left, and-right, allb-at, belowb-at, impb, impb-use}
+use Rattle.base.specs.Lists.{allb, belowb, memberb, samesb, samesb-eq, allb-at, belowb-at}
+use Rattle.base.specs.Bools.{impb, is-true, is-false, and-left, and-right, impb-use}
 use Rattle.base.specs.Fours.{holders}
-use Rattle.cutting.specs.Rule.{low, high, points, digit, edgeOf, split, present, volume, zerob, choose, rise, family}
-use Rattle.cutting.proofs.Data.{rows}
-use Rattle.cutting.proofs.Table.{row, family-row}
+use Rattle.cutting.specs.Rule.{digit, edgeOf, split, present, volume, zerob, rise, family}
+use Rattle.cutting.specs.Rows.{rows, row, family-row}
 use Rattle.families.specs.Faces.{facesOf, onFaceb, innerb, joinedb, bits, side}
 
 -- a test over every row, carried to the family of each pattern

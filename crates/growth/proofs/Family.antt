@@ -10,11 +10,12 @@ use lib.Dec.{T, eqb, ltb, eqb→eq, ltb→lt}
 use lib.ListN.{length, getD, take, replicate}
 use lib.Seq.{take-suc, take-length, length-take-le, getD-append-add}
 use borrow.Author.Tests.{lt-ltb}
-use Rattle.base.specs.Lists.{allb, memberb, and-left, and-right, is-true, one-if}
+use Rattle.base.specs.Lists.{allb, memberb}
+use Rattle.base.specs.Bools.{one-if, and-left, and-right, is-true}
 use Rattle.cutting.specs.Rule.{present, family}
 use Rattle.cutting.specs.Answer.{cutInto, cutOf, cutOf-accepted}
 use Rattle.cutting.specs.declared.Family.{Family}
-use Rattle.cutting.proofs.Table.{family-fours}
+use Rattle.cutting.specs.Rows.{family-fours}
 use Rattle.rows.specs.Numbered.{rowsFrom}
 use Rattle.growth.specs.Written.{written, written-none, written-more}
 use Rattle.growth.specs.Rows.{length-from}

@@ -10,7 +10,8 @@ use Rattle.cutting.specs.Rule.{family}
 use Rattle.mesh.specs.Cells.{Cell, redb, patternOf}
 use Rattle.mesh.specs.Layout.{splitEdges}
 use Rattle.edges.specs.Table.{listed, Edges, Grown, grown-none}
-use Rattle.rows.specs.Numbered.{cellAt, pointAt, rowsFrom, rowsOf, sizeOf}
+use Rattle.rows.specs.Numbered.{cellAt, pointAt, rowsFrom, rowsOf}
+use Rattle.mesh.specs.Table.{sizeOf}
 use Rattle.growth.specs.Written.{written, written-none}
 use Rattle.growth.specs.Places.{rows-same}
 use Rattle.growth.specs.Points.{Points}

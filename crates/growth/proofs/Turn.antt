@@ -10,8 +10,9 @@ use native.Mathlib.Omega.{arith}
 use lib.Dec.{T, eqb, eqb→eq}
 use lib.ListN.{length, getD, take, drop, set, length-set, length-append, length-map, take-append-drop}
 use lib.Seq.{getD-set-same, getD-set-other, take-suc}
-use Rattle.base.specs.Lists.{belowb, belowb-at, filterb, memberb, and-left, and-right, is-false}
-use Rattle.base.specs.Places.{hasb, placeIn, either, not-both}
+use Rattle.base.specs.Lists.{belowb, belowb-at, filterb, memberb}
+use Rattle.base.specs.Bools.{and-left, and-right, is-false, either, not-both}
+use Rattle.base.specs.Places.{hasb, placeIn}
 use Rattle.cutting.specs.Rule.{low, high, edgeOf, points, split, present}
 use Rattle.mesh.specs.Cells.{Cell, corner, edge, patternOf}
 use Rattle.mesh.specs.Layout.{edgeNumbers, splitEdges}

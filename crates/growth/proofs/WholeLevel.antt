@@ -6,22 +6,20 @@ use Prim.Native.Nat.{ℕ, suc, _+_, _*_, _-_, _≤_, _<_}
 use native.Mathlib.Nat.{add-zero}
 use native.Mathlib.Omega.{arith}
 use lib.Dec.{T, leb}
-use lib.ListN.{length, getD, take, drop}
-use lib.Seq.{take-take}
+use lib.ListN.{length, getD, drop}
 use Rattle.base.specs.Lists.{allb}
 use Rattle.mesh.specs.Layout.{splitEdges}
 use Rattle.edges.specs.Pairs.{addPairs}
-use Rattle.edges.specs.Table.{listed, Edges}
-use Rattle.rows.specs.Numbered.{cellAt, cellsAt, part, endsFrom, pointAt, rowsOf, sizeOf, sizes}
+use Rattle.edges.specs.Table.{listed, Edges, take-less}
+use Rattle.rows.specs.Numbered.{cellAt, cellsAt, part, endsFrom, pointAt, rowsOf}
+use Rattle.mesh.specs.Table.{sizeOf, sizes}
 use Rattle.growth.specs.Written.{written, written-none, written-more, cell-kept}
 use Rattle.growth.specs.Rows.{rowsAll, length-rows, rows-snoc, sizes-snoc}
 use Rattle.growth.specs.Places.{Extends, extends-pairs, rows-kept, splits-few, ends-snoc}
-use Rattle.growth.specs.Parts.{length-cells, length-part, part-more, small-part, sizes-take}
+use Rattle.rows.specs.Laws.{length-cells, length-part, part-more}
+use Rattle.growth.specs.Parts.{small-part, sizes-take}
 use Rattle.growth.specs.Points.{Ready}
 use Rattle.growth.specs.Level.{Laid, Roomy, Grows}
-
-take-less : (k n : ℕ) (l m : List ℕ) → k ≤ n → take n l ≡ take n m → take k l ≡ take k m
-take-less k n l m h e = sym (take-take k n l h) ∙ ap (take k) e ∙ take-take k n m h
 
 module _ (cells xs ys heads links ss : List ℕ) (first l at n m : ℕ) where
   pub grows-none : Edges xs ys heads links 0 m → m ≤ at → Grows cells xs ys ss first 0 l at n m cells xs ys heads links at m

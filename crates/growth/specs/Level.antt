@@ -11,10 +11,12 @@ use native.Mathlib.Omega.{arith}
 use lib.ListN.{length, getD, take}
 use Rattle.mesh.specs.Layout.{splitEdges}
 use Rattle.edges.specs.Table.{listed, Edges, Grown}
-use Rattle.rows.specs.Numbered.{cellAt, cellsAt, part, endsFrom, pointAt, rowsOf, sizeOf, sizes}
+use Rattle.rows.specs.Numbered.{cellAt, cellsAt, part, endsFrom, pointAt, rowsOf}
+use Rattle.mesh.specs.Table.{sizeOf, sizes}
 use Rattle.growth.specs.Written.{written, take-written}
 use Rattle.growth.specs.Rows.{rowsAll, length-rows}
-use Rattle.growth.specs.Parts.{length-cells, length-part, small-part}
+use Rattle.rows.specs.Laws.{length-cells, length-part}
+use Rattle.growth.specs.Parts.{small-part}
 
 pub record Laid (cells xs ys : List ℕ) (c s l at n m : ℕ) (cells′ xs′ ys′ heads′ links′ : List ℕ) (at′ m′ : ℕ) : Type 0 where
   pub table : Grown xs ys 0 m (splitEdges 0 (cellAt cells c) s) xs′ ys′ heads′ links′ m′

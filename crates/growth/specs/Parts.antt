@@ -1,26 +1,16 @@
 -- Parts of lists: how long they are, one element more, and what holds of each.
-use mathlib.Core.Path.{_≡_, refl, _∙_, ap}
-use mathlib.Core.List.{List, [], _∷_, _++_}
+use mathlib.Core.List.{List, [], _∷_}
 use Prim.Native.Nat.{ℕ, zero, suc, _+_, _≤_, _<_}
 use native.Mathlib.Omega.{arith}
 use lib.Dec.{T, leb}
-use lib.ListN.{length, getD, take, drop, length-append, length-take, length-drop}
-use lib.Seq.{take-suc, take-nil, getD-take, getD-drop}
+use lib.ListN.{length, getD, take, drop}
+use lib.Seq.{take-nil, getD-take, getD-drop}
 use borrow.Author.Tests.{le-leb}
 use Rattle.base.specs.Lists.{allb}
-use Rattle.rows.specs.Numbered.{cellAt, cellsAt, part, sizes}
+use Rattle.rows.specs.Numbered.{part}
+use Rattle.mesh.specs.Table.{sizes}
 use Rattle.growth.specs.Places.{allb-from}
-
-pub length-cells : (t : List ℕ) (k m : ℕ) → length (cellsAt t k m) ≡ m
-unfolding cellsAt
-length-cells t k zero = refl
-length-cells t k (suc m) = length-append (cellsAt t k m) (cellAt t (k + m) ∷ []) ∙ omega (arith, length-cells t k m)
-
-pub length-part : (l : List ℕ) (k m : ℕ) → k + m ≤ length l → length (part l k m) ≡ m
-length-part l k m h = simp (length-take, length-drop) (omega arith)
-
-pub part-more : (l : List ℕ) (k m : ℕ) → k + m < length l → part l k (suc m) ≡ part l k m ++ (getD l (k + m) 0 ∷ [])
-part-more l k m h = take-suc (drop k l) m 0 (simp length-drop (omega arith)) ∙ ap (λ (x : ℕ). part l k m ++ (x ∷ [])) (getD-drop k l m 0)
+use Rattle.rows.specs.Laws.{length-part}
 
 pub small-part : (l : List ℕ) (k m : ℕ) → k + m ≤ length l → ((c : ℕ) → k ≤ c → c < k + m → getD l c 0 ≤ 64) → T (allb (λ s. leb s 64) (part l k m))
 small-part l k m h q = allb-from (λ s. leb s 64) 0 (part l k m) at

@@ -14,17 +14,19 @@ use native.Mathlib.Omega.{arith}
 use lib.Dec.{T, eqb, leb, ltb, eqb→eq, leb→le, ltb→lt}
 use lib.ListN.{length, getD, length-map}
 use borrow.Author.Tests.{eqb-true}
-use Rattle.base.specs.Lists.{allb, belowb, belowb-at, filterb, memberb, and-left, and-right, impb, impb-use, is-true}
-use Rattle.base.specs.Places.{hasb, placeIn, kept, place-kept, either, not-both}
+use Rattle.base.specs.Lists.{allb, belowb, belowb-at, filterb, memberb}
+use Rattle.base.specs.Bools.{impb, and-left, and-right, impb-use, is-true, either, not-both}
+use Rattle.base.specs.Places.{hasb, placeIn, kept, place-kept}
 use Rattle.cutting.specs.Rule.{low, high, edgeOf, split, points, present, family}
-use Rattle.cutting.proofs.Data.{rows}
-use Rattle.cutting.proofs.Table.{row, family-row}
 use Rattle.families.specs.Facts.{child-at}
 use Rattle.mesh.specs.Cells.{Cell, corner, redb, patternOf, edge}
 use Rattle.mesh.specs.Layout.{edgeNumbers, splitEdges}
 use Rattle.edges.specs.Pairs.{Pair, sorted, isb, addPair, addPairs, same-pair, has-pairs}
-use Rattle.rows.specs.Numbered.{endsFrom, pointAt, rowsFrom, rowsOf, sizeOf}
-use Rattle.growth.specs.Rows.{rowsAll, pattern-below}
+use Rattle.rows.specs.Numbered.{endsFrom, pointAt, rowsFrom, rowsOf}
+use Rattle.mesh.specs.Table.{sizeOf}
+use Rattle.growth.specs.Rows.{rowsAll}
+use Rattle.mesh.specs.Laws.{pattern-below}
+use Rattle.families.specs.Children.{few-splits}
 
 pub record Extends (es es′ : List Pair) : Type 0 where
   pub has : (p : Pair) → hasb isb es p ≡ true → hasb isb es′ p ≡ true
@@ -193,15 +195,6 @@ module _ (l n : ℕ) (es′ : List Pair) where
       (rows-same l k s (pointAt n es′ c) (pointAt n (endsFrom es₁ cs ss) c) small
       (λ d u. point-kept es c s n es′ (extends-both es₁ (endsFrom es₁ cs ss) es′ y x) d u ∙ sym (point-kept es c s n (endsFrom es₁ cs ss) y d u)))
       (rows-kept es₁ (suc k) cs ss (and-right (leb s 64) (allb (λ s. leb s 64) ss) t) x)
-
--- A family has more children than split edges.
-split-test : T (belowb (λ p. ltb (length (filterb (split p) edgeNumbers)) (length (row p))) 64)
-unfolding belowb filterb split row rows
-split-test = tt
-
-pub few-splits : (p : ℕ) → p < 64 → length (filterb (split p) edgeNumbers) < length (family p)
-few-splits p h =
-    rw (family-row p h) (ltb→lt (length (filterb (split p) edgeNumbers)) (length (row p)) (belowb-at (λ p. ltb (length (filterb (split p) edgeNumbers)) (length (row p))) 64 split-test p h))
 
 pub splits-few : (c : Cell ℕ) (s : ℕ) → s ≤ 64 → length (splitEdges 0 c s) ≤ sizeOf s
 unfolding sizeOf splitEdges

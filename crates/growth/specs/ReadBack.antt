@@ -2,18 +2,19 @@
 --   bare c   the cell without its path, as a table has it
 -- Laws: read-cells (a table that has the rows of cells has these cells), bare-points (with the same points).
 use mathlib.Core.Path.{_≡_, refl, sym, _∙_, ap, ap₂}
-use mathlib.Core.Bool.{Bool, true, false}
 use mathlib.Core.List.{List, [], _∷_, _++_, map, flatMap}
-use Prim.Native.Nat.{ℕ, zero, suc, _+_, _*_, _<_}
-use native.Mathlib.Nat.{add-zero}
+use Prim.Native.Nat.{ℕ, suc, _+_, _*_, _<_}
 use native.Mathlib.Omega.{arith}
 use lib.Dec.{T, eqb, eqb→eq}
 use lib.ListN.{length, getD, take, drop, length-append, length-take}
 use lib.Seq.{take-add, take-at, drop-at, drop-drop, getD-take, getD-drop, length-take-le}
-use Rattle.base.specs.Lists.{allb, and-left, and-right, one-if}
+use Rattle.base.specs.Lists.{allb}
+use Rattle.base.specs.Bools.{and-left, and-right, eqb-one}
 use Rattle.mesh.specs.Cells.{Cell}
 use Rattle.mesh.specs.Layout.{rowOf}
 use Rattle.rows.specs.Numbered.{cellAt, cellsAt, part}
+use Rattle.base.specs.Fours.{four-points}
+use Rattle.rows.specs.Laws.{cells-cons}
 
 unfoldable pub bare : Cell ℕ → Cell ℕ
 bare c = record { path = []; parent = c .parent; regular = c .regular; points = c .points }
@@ -23,30 +24,10 @@ unfolding bare
 bare-points [] = refl
 bare-points (c ∷ cs) = ap (λ (l : List (List ℕ)). c .points ∷ l) (bare-points cs)
 
-pub cells-cons : (t : List ℕ) (k m : ℕ) → cellsAt t k (suc m) ≡ cellAt t k ∷ cellsAt t (suc k) m
-unfolding cellsAt
-cells-cons t k zero = rw add-zero
-cells-cons t k (suc m) =
-    let e : k + suc m ≡ suc k + m = omega arith in
-    ap (λ (l : List (Cell ℕ)). l ++ (cellAt t (k + suc m) ∷ [])) (cells-cons t k m) ∙ rw e
-
-flag-read : (b : Bool) → eqb (one-if b) 1 ≡ b
-unfolding one-if
-flag-read true = refl
-flag-read false = refl
-
 -- one row
 length-row : (c : Cell ℕ) → length (c .points) ≡ 4 → length (rowOf c) ≡ 8
 unfolding rowOf
 length-row c e = omega arith
-
-four : (l : List ℕ) → length l ≡ 4 → getD l 0 0 ∷ getD l 1 0 ∷ getD l 2 0 ∷ getD l 3 0 ∷ [] ≡ l
-four [] e = absurd (omega arith)
-four (a ∷ []) e = absurd (omega arith)
-four (a ∷ b ∷ []) e = absurd (omega arith)
-four (a ∷ b ∷ c ∷ []) e = absurd (omega arith)
-four (a ∷ b ∷ c ∷ d ∷ []) e = refl
-four (a ∷ b ∷ c ∷ d ∷ x ∷ l) e = absurd (omega arith)
 
 module _ (t : List ℕ) (k : ℕ) (c : Cell ℕ) (long : length (c .points) ≡ 4) (e : part t (8 * k) 8 ≡ rowOf c) where
   number : (j : ℕ) → j < 8 → getD t (8 * k + j) 0 ≡ getD (rowOf c) j 0
@@ -55,7 +36,7 @@ module _ (t : List ℕ) (k : ℕ) (c : Cell ℕ) (long : length (c .points) ≡ 
   read-cell : cellAt t k ≡ bare c
   unfolding cellAt bare rowOf
   read-cell =
-      rw (number 1 (omega arith), number 3 (omega arith), number 4 (omega arith), number 5 (omega arith), number 6 (omega arith), number 7 (omega arith), flag-read (c .regular), four (c .points) long)
+      rw (number 1 (omega arith), number 3 (omega arith), number 4 (omega arith), number 5 (omega arith), number 6 (omega arith), number 7 (omega arith), eqb-one (c .regular), four-points (c .points) long)
 
 -- the row in front, and those behind it
 full : (l : List ℕ) (n : ℕ) (a b : List ℕ) → length a ≡ 8 → take (8 + n) l ≡ a ++ b → length (take 8 l) ≡ 8

@@ -5,19 +5,21 @@
 use mathlib.Core.Path.{_≡_, refl, sym, _∙_, ap, ap₂, fun-ext}
 use mathlib.Core.Bool.{Bool, true, false}
 use mathlib.Core.List.{List, [], _∷_, _++_, map, flatMap, append-assoc, append-nil}
-use Prim.Native.Nat.{ℕ, suc, _+_, _*_, pred, _≤_, _<_}
+use Prim.Native.Nat.{ℕ, suc, _+_, _*_, pred, _≤_}
 use native.Mathlib.Nat.{add-zero}
 use native.Mathlib.Omega.{arith}
 use lib.Dec.{T, eqb, leb, eqb→eq, leb→le}
-use borrow.Author.Tests.{eqb-false}
 use lib.ListN.{length, length-append, length-map}
-use Rattle.base.specs.Lists.{allb, and-left, and-right}
+use Rattle.base.specs.Lists.{allb}
+use Rattle.base.specs.Bools.{and-left, and-right}
 use Rattle.cutting.specs.Rule.{family}
-use Rattle.cutting.proofs.Table.{family-fours}
+use Rattle.cutting.specs.Rows.{family-fours}
 use Rattle.mesh.specs.Cells.{Cell, redb, patternOf, children, childrenFrom}
 use Rattle.mesh.specs.Layout.{childNumber, rowOf}
 use Rattle.edges.specs.Pairs.{Pair}
-use Rattle.rows.specs.Numbered.{pointAt, nextOf, rowsFrom, rowsOf, sizeOf, sizes}
+use Rattle.rows.specs.Numbered.{pointAt, nextOf, rowsFrom, rowsOf}
+use Rattle.mesh.specs.Table.{sizeOf, sizes}
+use Rattle.mesh.specs.Laws.{pattern-below}
 
 unfoldable pub rowsAll : ℕ → ℕ → List Pair → ℕ → List (Cell ℕ) → List ℕ → List ℕ
 unfolding rowsOf pointAt
@@ -87,14 +89,6 @@ length-from l k r f i (d ∷ ds) t =
     let e : length d ≡ 4 = eqb→eq (length d) 4 (and-left (eqb (length d) 4) (allb (λ c. eqb (length c) 4) ds) t) in
     let h = length-from l k r f (suc i) ds (and-right (eqb (length d) 4) (allb (λ c. eqb (length c) 4) ds) t) in
     simp (length-append, length-map) (omega arith)
-
-pub pattern-below : (s : ℕ) → s ≤ 64 → patternOf s < 64
-unfolding patternOf
-pattern-below s h = go (eqb s 64) refl
-  where
-    go : (b : Bool) → eqb s 64 ≡ b → patternOf s < 64
-    go true e = rw (e, patternOf) (omega arith)
-    go false e = rw (e, patternOf) (omega (arith, eqb-false s 64 e))
 
 pub length-family : (l k : ℕ) (f : ℕ → ℕ) (s : ℕ) → s ≤ 64 → length (rowsOf l k s f) ≡ 8 * sizeOf s
 unfolding rowsOf sizeOf

@@ -2,29 +2,28 @@
 --   ownOlds k cs   the old numbers of the cells cs, numbered from k, in a table that is its own old one
 -- Laws: olds-own (one level up), reds-own (their flags), closed-own (their statuses), grow-own (all levels).
 use mathlib.Core.Path.{_≡_, refl, sym, _∙_, ap, ap₂}
-use mathlib.Core.Bool.{Bool, true, false, _&&_}
-use mathlib.Core.List.{List, [], _∷_, _++_, map, map-append, flatMap, append-assoc}
+use mathlib.Core.Bool.{Bool, true, false}
+use mathlib.Core.List.{List, [], _∷_, _++_, map, append-assoc}
 use Prim.Native.Nat.{ℕ, zero, suc, _+_, _≤_, _<_}
-use native.Mathlib.Nat.{suc-add, eq-or-lt-of-le}
-use mathlib.Core.Logic.{_⊎_, inl, inr, ⊎-elim}
 use native.Mathlib.Omega.{arith}
 use lib.Dec.{T, eqb, eqb→eq}
-use borrow.Author.Tests.{eqb-true, eqb-false}
-use lib.ListN.{length, getD, take, drop, length-append, length-map, take-append-drop, List·getD-eq-default, List·getD-append, List·getD-map}
-use lib.Seq.{take-append-seam, getD-append-seam, ext-getD, drop-append-seam}
-use Rattle.base.specs.Lists.{allb, sameb, and-left, and-right, is-true}
-use Rattle.base.specs.Places.{not-both}
+use borrow.Author.Tests.{eqb-true}
+use lib.ListN.{length, getD, take, drop, length-append, take-append-drop, List·getD-eq-default, List·getD-map}
+use lib.Seq.{take-append-seam, getD-append-seam, ext-getD}
+use Rattle.base.specs.Lists.{allb, sameb}
+use Rattle.base.specs.Bools.{and-left, and-right, is-true, not-both}
 use Rattle.cutting.specs.Rule.{family}
 use Rattle.mesh.specs.Cells.{Cell, none, redb, patternOf, edges, redEdges, statusOf, closedFrom, children, childrenFrom}
 use Rattle.mesh.specs.Weights.{Point, point}
-use Rattle.mesh.specs.Table.{Level, next, levels, closedb}
-use Rattle.rows.specs.Numbered.{sizeOf, sizes}
-use Rattle.lattice.specs.Every.{getD-map}
+use Rattle.mesh.specs.Table.{Level, next, levels, closedb, sizeOf, sizes}
+use Rattle.base.specs.Every.{getD-map}
 use Rattle.numbering.specs.Refined.{Refined, Follows, closed-follows}
 use Rattle.lineage.specs.Olds.{flagOf, firstChild, oldChild, upTo, oldsOf, oldsNext, redsBy, closedBy, statusesBy, growBy}
 use Rattle.rows.specs.Many.{length-children, length-next, closed-many}
 use Rattle.lineage.specs.Paths.{length-upto, upto-at}
 use Rattle.lineage.specs.Same.{length-olds-of}
+use Rattle.mesh.specs.Laws.{sizes-append, sizes-one}
+use Rattle.lineage.specs.Flags.{flag-red}
 
 unfoldable pub orNone : Bool → ℕ → ℕ
 orNone true k = k
@@ -45,15 +44,6 @@ own-append k [] ds = let e : k + 0 ≡ k = omega arith in rw e
 own-append k (c ∷ cs) ds =
     let e : k + suc (length cs) ≡ suc k + length cs = omega arith in
     rw e (ap (λ (l : List ℕ). orNone (c .regular) k ∷ l) (own-append (suc k) cs ds))
-
-sizes-append : (ss ts : List ℕ) → sizes (ss ++ ts) ≡ sizes ss + sizes ts
-unfolding sizes
-sizes-append [] ts = omega arith
-sizes-append (s ∷ ss) ts = omega (arith, sizes-append ss ts)
-
-sizes-one : (t : ℕ) → sizes (t ∷ []) ≡ sizeOf t
-unfolding sizes
-sizes-one t = omega arith
 
 pub length-own : (k : ℕ) (cs : List (Cell Point)) → length (ownOlds k cs) ≡ length cs
 unfolding ownOlds
@@ -131,12 +121,6 @@ olds-own m pre (t ∷ ts) post (c ∷ cs) e w =
     ≡ ownOlds (m + sizes pre + length (children (length pre) c t (point c))) (next (suc (length pre)) cs ts) = rw (a, n, l, ← z) i in
     ap₂ _++_ f g ∙ sym (own-append (m + sizes pre) (children (length pre) c t (point c)) (next (suc (length pre)) cs ts))
 
--- The flags and the statuses of a level.
-red-flag : (b : Bool) → redb (flagOf b) ≡ b
-unfolding flagOf
-red-flag true = refl
-red-flag false = refl
-
 abbrev pub flagsIn : List ℕ → List ℕ
 flagsIn ss = map (λ s. flagOf (redb s)) ss
 
@@ -147,7 +131,7 @@ zero-of (suc t) h = absurd (h (λ e. omega arith))
 module _ (ss : List ℕ) (small : length ss ≤ 65535) where
   flag-at : (o : ℕ) → redb (getD (flagsIn ss) o 0) ≡ redb (getD ss o 0)
   unfolding flagOf
-  flag-at o = ap redb (List·getD-map (λ s. flagOf (redb s)) ss o 0) ∙ red-flag (redb (getD ss o 0))
+  flag-at o = ap redb (List·getD-map (λ s. flagOf (redb s)) ss o 0) ∙ flag-red (redb (getD ss o 0))
 
   one-own : (pre post : List ℕ) (c : Cell Point) (t : ℕ) → ss ≡ pre ++ (t ∷ post) → Follows c t → redb (getD (flagsIn ss) (orNone (c .regular) (length pre)) 0) ≡ redb t
   unfolding orNone
@@ -177,8 +161,8 @@ red-edges-flags (c ∷ cs) [] = refl
 red-edges-flags (c ∷ cs) (t ∷ ts) = go (redb t) refl (red-edges-flags cs ts)
   where
     go : (b : Bool) → redb t ≡ b → redEdges [] cs (flagsIn ts) ≡ redEdges [] cs ts → redEdges [] (c ∷ cs) (flagsIn (t ∷ ts)) ≡ redEdges [] (c ∷ cs) (t ∷ ts)
-    go true e i = rw (e, red-flag true, redEdges) (ap (λ (l : List (Point × Point)). edges [] c ++ l) i)
-    go false e i = rw (e, red-flag false, redEdges) i
+    go true e i = rw (e, flag-red true, redEdges) (ap (λ (l : List (Point × Point)). edges [] c ++ l) i)
+    go false e i = rw (e, flag-red false, redEdges) i
 
 closed-own : (es : List (Point × Point)) (cs : List (Cell Point)) (ts : List ℕ) → T (closedFrom [] sameb es cs ts) → closedBy es cs (flagsIn ts) ≡ ts
 unfolding closedFrom closedBy
@@ -188,7 +172,7 @@ closed-own es (c ∷ cs) [] u = absurd u
 closed-own es (c ∷ cs) (t ∷ ts) u =
     let s = statusOf [] sameb es (redb t) c in
     let e : t ≡ s = eqb→eq t s (and-left (eqb t s) (closedFrom [] sameb es cs ts) u) in
-    ap₂ (λ (x : ℕ) (l : List ℕ). x ∷ l) (rw (red-flag (redb t)) (sym e)) (closed-own es cs ts (and-right (eqb t s) (closedFrom [] sameb es cs ts) u))
+    ap₂ (λ (x : ℕ) (l : List ℕ). x ∷ l) (rw (flag-red (redb t)) (sym e)) (closed-own es cs ts (and-right (eqb t s) (closedFrom [] sameb es cs ts) u))
 
 abbrev pub statusLists : List Level → List (List ℕ)
 statusLists ls = map (λ (l : Level). l .statuses) ls

@@ -5,26 +5,26 @@ use mathlib.Core.Path.{_≡_, refl, sym, _∙_, ap, ap₂}
 use mathlib.Core.Logic.{_≢_}
 use mathlib.Core.Bool.{Bool, true, false, _&&_, _||_, not, and-false, or-true, or-assoc}
 use mathlib.Core.List.{List, [], _∷_, _++_, map, flatMap, append-assoc}
-use Prim.Native.Nat.{ℕ, zero, suc, _+_, _≤_, _<_}
+use Prim.Native.Nat.{ℕ, zero, suc, _+_, _<_}
 use native.Mathlib.Omega.{arith}
-use lib.Dec.{T, eqb, eqb→eq}
-use borrow.Author.Tests.{eqb-true, eqb-false, eq-eqb}
+use lib.Dec.{T, eqb}
+use borrow.Author.Tests.{eqb-true, eq-eqb}
 use lib.ListN.{length, getD, take, drop, length-append, List·getD-append}
 use lib.Seq.{getD-append-add}
-use Rattle.base.specs.Lists.{allb, anyb, filterb, sameb, allb-at, and-left, and-right, is-true, is-false}
-use Rattle.base.specs.Places.{not-both}
+use Rattle.base.specs.Lists.{allb, anyb, filterb, sameb, allb-at}
+use Rattle.base.specs.Bools.{and-left, and-right, is-true, not-both}
 use Rattle.cutting.specs.Rule.{family}
-use Rattle.mesh.specs.Cells.{Cell, redb, patternOf, edges, joinsb, heldb, redEdges, closedFrom}
+use Rattle.mesh.specs.Cells.{Cell, redb, patternOf, edges, joinsb, heldb, redEdges, closedFrom, noCell}
 use Rattle.mesh.specs.Weights.{Point}
-use Rattle.mesh.specs.Table.{Level, next, levels, cellsOf, closedb, apartb}
-use Rattle.mesh.specs.Step.{Row, rowsFrom, rows, kids, deletedb, turnedb, newRedb, rowsUp, edgesUp, newReds}
-use Rattle.lattice.specs.Kuhn.{family-red}
-use Rattle.rows.specs.Numbered.{sizes}
+use Rattle.mesh.specs.Table.{Level, next, levels, cellsOf, closedb, sizes}
+use Rattle.mesh.specs.Step.{Row, rowsFrom, rows, kids, deletedb, turnedb, newRedb, rowsUp, edgesUp, newReds, redAfterb}
 use Rattle.rows.specs.Many.{closed-many}
 use Rattle.lineage.specs.Olds.{flagOf, flagsOf, flags}
 use Rattle.lineage.specs.Flags.{noRow, rows-from, length-rows-from}
-use Rattle.lineage.specs.Born.{noCell, Born, BornAt, born, born-at, born-below}
+use Rattle.lineage.specs.Born.{born, born-at, born-below}
 use Rattle.identity.specs.Again.{flagsIn, red-edges-flags}
+use Rattle.base.specs.Each.{default-free}
+use Rattle.lineage.specs.Deep.{red-some}
 
 abbrev pub Unmarked : List ℕ → Type 0
 Unmarked ms = (i : ℕ) → getD ms i 0 ≡ 0
@@ -95,10 +95,6 @@ any-none f g (x ∷ l) a = go (f x) (g x) a (any-none f g l)
     go false true a i = not-both false a refl
     go false false a i = i a
 
-eight : 0 < length (family (patternOf 64))
-unfolding patternOf
-eight = rw family-red (omega arith)
-
 -- A level cs, numbered from k, with statuses ts, and the rows above it: those of the next level, or none where that is empty.
 module _ (ms : List ℕ) (unmarked : Unmarked ms) (k : ℕ) (cs : List (Cell Point)) (ts us : List ℕ) (es : List (Point × Point))
     (many : length cs ≡ length ts) (more : length (next k cs ts) ≡ length us) where
@@ -118,7 +114,7 @@ module _ (ms : List ℕ) (unmarked : Unmarked ms) (k : ℕ) (cs : List (Cell Poi
   unfolding deletedb kids
   kept t h e =
       let z : getD ts t 0 ≢ 0 = λ x. omega arith in
-      let i : 0 < length (family (patternOf (getD ts t 0))) = rw e eight in
+      let i : 0 < length (family (patternOf (getD ts t 0))) = rw e red-some in
       let b = born-below k cs ts t 0 h (omega arith) z i in
       let u = sizes (take t ts) + 0 in
       let r = up-row u (omega (arith, up-long)) in
@@ -158,18 +154,13 @@ module _ (ms : List ℕ) (unmarked : Unmarked ms) (k : ℕ) (cs : List (Cell Poi
 
     -- so the new red cells are the old ones
     row-own : (t : ℕ) → t < length cs → newRedb up es (rowAt k cs ts ms t) ≡ redb (getD ts t 0)
-    unfolding newRedb
+    unfolding redAfterb
     row-own t h = go (redb (getD ts t 0)) refl (eqb (getD ts t 0) 0) refl
       where
         go : (r : Bool) → redb (getD ts t 0) ≡ r → (z : Bool) → eqb (getD ts t 0) 0 ≡ z → newRedb up es (rowAt k cs ts ms t) ≡ redb (getD ts t 0)
-        go true e z f = rw (e, newRedb, kept t h (eqb-true (getD ts t 0) 64 e))
-        go false e true f = rw (e, f, newRedb, unmarked (k + t)) (and-false (getD cs t noCell .regular))
-        go false e false f = rw (e, f, newRedb) (stays t h e)
-
-default-free : {A : Type 0} (l : List A) (t : ℕ) (a b : A) → t < length l → getD l t a ≡ getD l t b
-default-free [] t a b h = absurd (omega arith)
-default-free (x ∷ l) zero a b h = refl
-default-free (x ∷ l) (suc t) a b h = default-free l t a b (omega arith)
+        go true e z f = rw (e, redAfterb, kept t h (eqb-true (getD ts t 0) 64 e))
+        go false e true f = rw (e, f, redAfterb, unmarked (k + t)) (and-false (getD cs t noCell .regular))
+        go false e false f = rw (e, f, redAfterb) (stays t h e)
 
 all-less : {A : Type 0} (f g g′ : A → Bool) → ((x : A) → g′ x ≡ true → g x ≡ true) → (l : List A) → allb (λ x. f x || not (g x)) l ≡ true → allb (λ x. f x || not (g′ x)) l ≡ true
 unfolding allb

@@ -1,23 +1,21 @@
 -- A step without marks on a sound table gives the same table.
 --   unmarked-by   so for the step by old numbers
-use mathlib.Core.Path.{_≡_, refl, sym, _∙_, ap, ap₂}
-use mathlib.Core.Bool.{Bool, true, false, _&&_, _||_}
-use mathlib.Core.List.{List, [], _∷_, _++_, map, map-append, flatMap, append-nil, append-assoc}
+use mathlib.Core.Path.{_≡_, refl, sym, _∙_, ap}
+use mathlib.Core.Bool.{Bool, true, false, _&&_}
+use mathlib.Core.List.{List, [], _∷_, _++_, map, map-append, flatMap, append-assoc, flatten}
 use Prim.Native.Nat.{ℕ, zero, suc, _+_, _≤_, _<_}
 use native.Mathlib.Omega.{arith}
 use lib.Dec.{T, eqb, leb, eqb→eq, leb→le}
-use lib.ListN.{length, getD, take, drop, length-append, length-map, take-append-drop}
+use lib.ListN.{length, getD, take, drop, length-append}
 use lib.Seq.{ext-getD, take-length, take-add}
-use Rattle.base.specs.Lists.{allb, sameb, and-left, and-right}
+use Rattle.base.specs.Lists.{allb, sameb}
+use Rattle.base.specs.Bools.{and-left, and-right}
 use Rattle.mesh.specs.Cells.{Cell, none, redb, edges, redEdges, closedFrom}
 use Rattle.mesh.specs.Weights.{Point, coarseFrom, coarseCells}
-use Rattle.mesh.specs.Coarse.{cellsb}
-use Rattle.mesh.specs.Table.{Level, next, levels, levelsOf, cellsOf, closedb, apartb, soundb}
-use Rattle.rows.specs.Numbered.{sizes}
+use Rattle.mesh.specs.Table.{Level, next, levels, levelsOf, cellsOf, closedb, apartb, soundb, sizes}
 use Rattle.rows.specs.Many.{closed-many}
-use Rattle.lattice.specs.Every.{All}
 use Rattle.lattice.specs.Levels.{sound-levels}
-use Rattle.lineage.specs.Olds.{flagOf, concat, flags, flagTable, upTo, growBy, stepBy}
+use Rattle.lineage.specs.Olds.{flagOf, flagTable, upTo, stepBy}
 use Rattle.lineage.specs.Paths.{length-coarse, length-upto, upto-at}
 use Rattle.lineage.specs.Step.{step-by}
 use Rattle.mesh.specs.Step.{stepTable}
@@ -43,8 +41,8 @@ start-own n qs =
 
 -- the statuses of closed levels are the table, as far as it has cells
 statuses-all : (h k : ℕ) (cs : List (Cell Point)) (rest : List ℕ) → T (allb closedb (levels h k cs rest))
-    → concat (statusLists (levels h k cs rest)) ≡ take (length (cellsOf (levels h k cs rest))) rest
-unfolding levels allb closedb cellsOf flatMap
+    → flatten (statusLists (levels h k cs rest)) ≡ take (length (cellsOf (levels h k cs rest))) rest
+unfolding levels allb closedb cellsOf flatMap flatten
 statuses-all zero k cs rest u = refl
 statuses-all (suc h) k [] rest u = refl
 statuses-all (suc h) k (c ∷ cs) rest u =
@@ -52,7 +50,7 @@ statuses-all (suc h) k (c ∷ cs) rest u =
     let ts = take (length cs′) rest in
     let l : Level = record { first = k; cells = cs′; statuses = ts } in
     let ls : List Level = levels h (k + length cs′) (next k cs′ ts) (drop (length cs′) rest) in
-    let i : concat (statusLists ls) ≡ take (length (cellsOf ls)) (drop (length cs′) rest) = statuses-all h (k + length cs′) (next k cs′ ts) (drop (length cs′) rest) (and-right (closedb l) (allb closedb ls) u) in
+    let i : flatten (statusLists ls) ≡ take (length (cellsOf ls)) (drop (length cs′) rest) = statuses-all h (k + length cs′) (next k cs′ ts) (drop (length cs′) rest) (and-right (closedb l) (allb closedb ls) u) in
     ap (λ (x : List ℕ). ts ++ x) i ∙ sym (ap (λ (x : ℕ). take x rest) (length-append cs′ (cellsOf ls)) ∙ take-add (length cs′) (length (cellsOf ls)) rest)
 
 -- the red edges of all levels are those of the table
@@ -69,8 +67,8 @@ red-append (c ∷ cs) ds (s ∷ ss) ts e = go (redb s) refl (red-append cs ds ss
     go false e i = rw (e, redEdges) i
 
 reds-all : (h k : ℕ) (cs : List (Cell Point)) (rest : List ℕ) → T (allb closedb (levels h k cs rest))
-    → redLevels (levels h k cs rest) ≡ redEdges [] (cellsOf (levels h k cs rest)) (concat (statusLists (levels h k cs rest)))
-unfolding levels allb closedb cellsOf flatMap redEdges
+    → redLevels (levels h k cs rest) ≡ redEdges [] (cellsOf (levels h k cs rest)) (flatten (statusLists (levels h k cs rest)))
+unfolding levels allb closedb cellsOf flatMap flatten redEdges
 reds-all zero k cs rest u = refl
 reds-all (suc h) k [] rest u = refl
 reds-all (suc h) k (c ∷ cs) rest u =
@@ -79,14 +77,14 @@ reds-all (suc h) k (c ∷ cs) rest u =
     let l : Level = record { first = k; cells = cs′; statuses = ts } in
     let ls : List Level = levels h (k + length cs′) (next k cs′ ts) (drop (length cs′) rest) in
     let v : T (closedFrom [] sameb (redEdges [] cs′ ts) cs′ ts) = and-left (closedb l) (allb closedb ls) u in
-    let i : redLevels ls ≡ redEdges [] (cellsOf ls) (concat (statusLists ls)) = reds-all h (k + length cs′) (next k cs′ ts) (drop (length cs′) rest) (and-right (closedb l) (allb closedb ls) u) in
-    ap (λ (x : List (Point × Point)). redEdges [] cs′ ts ++ x) i ∙ sym (red-append cs′ (cellsOf ls) ts (concat (statusLists ls)) (sym (closed-many (redEdges [] cs′ ts) cs′ ts v)))
+    let i : redLevels ls ≡ redEdges [] (cellsOf ls) (flatten (statusLists ls)) = reds-all h (k + length cs′) (next k cs′ ts) (drop (length cs′) rest) (and-right (closedb l) (allb closedb ls) u) in
+    ap (λ (x : List (Point × Point)). redEdges [] cs′ ts ++ x) i ∙ sym (red-append cs′ (cellsOf ls) ts (flatten (statusLists ls)) (sym (closed-many (redEdges [] cs′ ts) cs′ ts v)))
 
-flags-concat : (ls : List Level) → concat (map (λ (l : Level). flagsIn (l .statuses)) ls) ≡ flagsIn (concat (statusLists ls))
-unfolding flatMap
+flags-concat : (ls : List Level) → flatten (map (λ (l : Level). flagsIn (l .statuses)) ls) ≡ flagsIn (flatten (statusLists ls))
+unfolding flatMap flatten
 flags-concat [] = refl
 flags-concat (l ∷ ls) =
-    ap (λ (x : List ℕ). flagsIn (l .statuses) ++ x) (flags-concat ls) ∙ sym (map-append (λ s. flagOf (redb s)) (l .statuses) (concat (statusLists ls)))
+    ap (λ (x : List ℕ). flagsIn (l .statuses) ++ x) (flags-concat ls) ∙ sym (map-append (λ s. flagOf (redb s)) (l .statuses) (flatten (statusLists ls)))
 
 module _ (n : ℕ) (qs : List (List ℕ)) (ss ms : List ℕ) (sound : T (soundb n qs ss)) (none : Unmarked ms) where
   ls : List Level
@@ -116,7 +114,7 @@ module _ (n : ℕ) (qs : List (List ℕ)) (ss ms : List ℕ) (sound : T (soundb 
   unfolding ls
   closed = sound-levels n qs ss sound .1
 
-  table-is : concat (statusLists ls) ≡ ss
+  table-is : flatten (statusLists ls) ≡ ss
   unfolding ls cs levelsOf
   table-is =
       statuses-all 12 0 (coarseCells n qs) ss closed ∙ ap (λ (x : ℕ). take x ss) (sym counted) ∙ take-length ss
@@ -126,16 +124,16 @@ module _ (n : ℕ) (qs : List (List ℕ)) (ss ms : List ℕ) (sound : T (soundb 
   flags-are =
       let low : length ls ≤ 11 = sound-levels n qs ss sound .0 in
       let reds : Within (redLevels ls) (redEdges [] cs ss) = λ e t. rw (reds-all 12 0 (coarseCells n qs) ss closed, table-is) at t in
-      ap concat (flags-own ms none cs (redEdges [] cs ss) apart 12 0 (coarseCells n qs) ss [] refl refl (omega arith) closed reds)
+      ap flatten (flags-own ms none cs (redEdges [] cs ss) apart 12 0 (coarseCells n qs) ss [] refl refl (omega arith) closed reds)
       ∙ flags-concat ls ∙ ap flagsIn table-is
 
-  pub unmarked-by : concat (stepBy n qs ss ms) ≡ ss
+  pub unmarked-by : flatten (stepBy n qs ss ms) ≡ ss
   unfolding stepBy ls levelsOf sizes
   unmarked-by =
       let small : length ss ≤ 65535 = omega (arith, counted, few) in
       let m : length qs + sizes [] ≡ 0 + length (coarseCells n qs) = omega (arith, length-coarse n qs) in
-      rw (flags-are, start-own n qs) (ap concat (grow-own (length qs) ss small 12 0 [] ss (coarseCells n qs) refl refl m closed) ∙ table-is)
+      rw (flags-are, start-own n qs) (ap flatten (grow-own (length qs) ss small 12 0 [] ss (coarseCells n qs) refl refl m closed) ∙ table-is)
 
   -- "the new red cells": without marks the table stays
-  pub unmarked : concat (stepTable n qs ss ms) ≡ ss
-  unmarked = ap concat (step-by n qs ss ms sound) ∙ unmarked-by
+  pub unmarked : flatten (stepTable n qs ss ms) ≡ ss
+  unmarked = ap flatten (step-by n qs ss ms sound) ∙ unmarked-by

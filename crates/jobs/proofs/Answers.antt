@@ -1,32 +1,24 @@
 -- The answers of the call `replay`, and what the lent tables hold after them.
 -- Assumes nothing.
-use mathlib.Core.Path.{_≡_, refl, sym, _∙_, ap}
-use mathlib.Core.Bool.{Bool, true, false, _&&_}
+use mathlib.Core.Path.{_≡_, sym, _∙_, ap}
 use mathlib.Core.List.{List, _++_}
 use Prim.Native.Nat.{ℕ, _+_, _*_, _≤_, _<_}
-use native.Mathlib.Omega.{arith}
-use lib.Dec.{T, leb}
 use lib.ListN.{length, take, drop}
 use borrow.Author.Tests.{le-leb, lt-leb}
-use Rattle.base.specs.Lists.{is-true}
+use Rattle.base.specs.Bools.{is-true}
 use Rattle.base.specs.Fours.{fours}
-use Rattle.base.specs.Refuse.{refuse}
+use Rattle.base.specs.Refuse.{refuse, heldAfter, answer-refused, answer-none}
 use Rattle.base.specs.declared.Answer.{Answer}
 use Rattle.base.specs.declared.Answer.the-variants.{Accepted, Refused}
 use Rattle.mesh.specs.Coarse.{cornerCount}
-use Rattle.mesh.specs.Table.{levelsOf, soundb}
-use Rattle.mesh.specs.Counts.{countTable}
+use Rattle.mesh.specs.Table.{soundb}
 use Rattle.counting.specs.Levels.{Levels, levelNumber, levelCounts, counts-length}
 use Rattle.counting.proofs.Sound.{sound-levels}
 use Rattle.counting.proofs.Whole.{counts-right}
-use Rattle.layout.specs.Calls.{heldAfter}
-use Rattle.layout.specs.Opened.{answerOf}
-use Rattle.layout.proofs.Answers.{answer-refused, answer-none}
 use Rattle.archive.specs.Job.{Job}
 use Rattle.archive.specs.Form.{jobOf}
 use Rattle.replay.specs.Run.{jobTable}
-use Rattle.jobs.specs.Calls.{archiveAnswer, jobLevels, jobCounts, replayAnswer, sizeOf, replayedOf, Reopened}
-use Rattle.jobs.specs.declared.Size.{Size}
+use Rattle.jobs.specs.Calls.{archiveAnswer, jobCounts, replayAnswer, sizeOf, replayedOf, Reopened}
 use Rattle.jobs.specs.declared.Replayed.the-variants as replayed
 
 module _ (bs table counts : List ℕ) where

@@ -1,24 +1,18 @@
 -- What replaying an archive comes to.
 -- Assumes nothing.
 use mathlib.Core.Path.{_≡_, refl, sym, _∙_, ap}
-use mathlib.Core.Bool.{Bool, true, false, _&&_, and-false}
+use mathlib.Core.Bool.{true, false, _&&_, and-false}
 use mathlib.Core.List.{List, [], _∷_, _++_, flatten}
 use Prim.Native.Nat.{ℕ, suc, _+_, _*_, _/_, _%_, _≤_, _<_}
 use native.Mathlib.Omega.{arith}
-use lib.Dec.{T, eqb, leb, leb→le}
+use lib.Dec.{eqb, leb}
 use lib.IntN.{ℤ}
 use lib.ListN.{length, take, drop, length-map}
 use lib.Seq.{take-at}
 use borrow.Author.Tests.{lt-leb}
-use Rattle.base.specs.Lists.{and-left, and-right}
-use Rattle.base.specs.Fours.{fours}
-use Rattle.base.specs.Refuse.{refuse}
-use Rattle.base.specs.declared.Answer.the-variants.{Accepted, Refused}
-use Rattle.mesh.specs.Coarse.{cornerCount, cellCount, countsb, meshAnswer}
-use Rattle.tables.proofs.CoarseRows.{length-fours}
-use Rattle.layout.specs.Calls.{andThen}
-use Rattle.layout.specs.Opened.{answerOf}
-use Rattle.archive.specs.Job.{Job, jobBytes}
+use Rattle.base.specs.Refuse.{refuse, andThen, answerOf}
+use Rattle.mesh.specs.Coarse.{countsb, meshAnswer}
+use Rattle.archive.specs.Job.{Job}
 use Rattle.archive.specs.Form.{formb, jobOf}
 use Rattle.archive.specs.Tables.{Counts, markedOf, marksOf, endsFrom, endsOf, cellOf, markOf}
 use Rattle.archive.specs.Bytes.{Octets}
@@ -29,6 +23,7 @@ use Rattle.replay.specs.Run.{jobAnswer}
 use Rattle.replay.specs.Going as going
 use Rattle.replay.specs.Flat.{tables-answer, tables-table}
 use Rattle.jobs.specs.Calls.{archiveAnswer, Reopened}
+use Rattle.base.specs.Fours.{length-fours}
 
 module _ (bs : List ℕ) where
   abbrev j : Job

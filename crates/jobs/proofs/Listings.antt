@@ -9,7 +9,7 @@ use lib.ListN.{length, take, drop}
 use lib.Seq.{take-at}
 use Rattle.base.specs.declared.Answer.{Answer}
 use Rattle.base.specs.declared.Answer.the-variants.{Accepted, Refused}
-use Rattle.layout.specs.Calls.{heldAfter}
+use Rattle.base.specs.Refuse.{heldAfter}
 use Rattle.archive.specs.Job.{Job}
 use Rattle.archive.specs.Form.{jobOf}
 use Rattle.jobs.specs.Calls.{archiveAnswer, jobLevels, jobCounts, replayAnswer, replayedOf, sizeOf}

@@ -8,12 +8,10 @@ use native.Mathlib.Omega.{arith}
 use lib.Dec.{T, leb→le}
 use lib.IntN.{ℤ}
 use lib.ListN.{length}
-use Rattle.base.specs.Lists.{and-left, and-right, is-true}
-use Rattle.base.specs.Refuse.{refuse}
+use Rattle.base.specs.Bools.{and-left, and-right, is-true}
+use Rattle.base.specs.Refuse.{refuse, heldAfter, answer-refused, answer-none}
 use Rattle.base.specs.declared.Answer.{Answer}
 use Rattle.base.specs.declared.Answer.the-variants.{Accepted, Refused}
-use Rattle.layout.specs.Calls.{heldAfter}
-use Rattle.layout.proofs.Answers.{answer-refused, answer-none}
 use Rattle.archive.specs.Job.{Job}
 use Rattle.archive.specs.Form.{formb, jobOf}
 use Rattle.archive.specs.Bytes.{Octets}

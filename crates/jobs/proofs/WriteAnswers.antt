@@ -9,12 +9,10 @@ use lib.Dec.{leb}
 use lib.IntN.{ℤ}
 use lib.ListN.{length}
 use borrow.Author.Tests.{le-leb, lt-leb, leb-true}
-use Rattle.base.specs.Refuse.{refuse}
+use Rattle.base.specs.Refuse.{refuse, andThen, heldAfter, answer-refused, answer-none}
 use Rattle.base.specs.declared.Answer.{Answer}
 use Rattle.base.specs.declared.Answer.the-variants.{Accepted, Refused}
 use Rattle.mesh.specs.Coarse.{cornerCount, cellCount}
-use Rattle.layout.specs.Calls.{andThen, heldAfter}
-use Rattle.layout.proofs.Answers.{answer-refused, answer-none}
 use Rattle.archive.specs.Job.{jobBytes}
 use Rattle.archive.specs.Stored.{jobFrom}
 use Rattle.archive.specs.Loaded.{inFront}

@@ -14,14 +14,13 @@ use lib.Dec.{T, leb}
 use lib.IntN.{ℤ}
 use lib.ListN.{length, take}
 use Rattle.base.specs.Fours.{fours}
-use Rattle.base.specs.Refuse.{refuse}
+use Rattle.base.specs.Refuse.{refuse, andThen, answerOf}
 use Rattle.base.specs.declared.Answer.{Answer}
 use Rattle.base.specs.declared.Answer.the-variants.{Accepted, Refused}
+use Rattle.base.specs.Limits.{mostCells, mostBytes, fullCounts}
 use Rattle.mesh.specs.Coarse.{cornerCount}
 use Rattle.mesh.specs.Table.{Level, levelsOf, soundb}
 use Rattle.mesh.specs.Counts.{countTable}
-use Rattle.layout.specs.Calls.{andThen}
-use Rattle.layout.specs.Opened.{answerOf}
 use Rattle.archive.specs.Job.{Job, jobBytes}
 use Rattle.archive.specs.Form.{formb, jobOf}
 use Rattle.archive.specs.Stored.{jobFrom}
@@ -49,7 +48,7 @@ jobCounts j = countTable (jobLevels j)
 -- "15 comes first": 4,096 statuses, four numbers a level
 unfoldable pub replayAnswer : List ℕ → List ℕ → List ℕ → Answer
 unfolding refuse archiveAnswer
-replayAnswer bs table counts = refuse 15 (leb 4096 (length table) && leb 44 (length counts)) (archiveAnswer bs)
+replayAnswer bs table counts = refuse 15 (leb mostCells (length table) && leb fullCounts (length counts)) (archiveAnswer bs)
 
 abbrev pub sizeOf : Job → Size
 sizeOf j = record { cells = length (jobTable j); levels = length (jobLevels j) }
@@ -61,7 +60,7 @@ replayedOf (Refused k) s = replayed.Refused k
 -- the full lengths: no archive holds more
 unfoldable pub roomb : List ℤ → List ℕ → List ℕ → List ℕ → List ℕ → Bool
 roomb ps ts cs ms es =
-    leb 1536 (length ps) && (leb 1024 (length ts) && (leb 16384 (length cs) && (leb 16384 (length ms) && leb 65536 (length es))))
+    leb 1536 (length ps) && (leb 1024 (length ts) && (leb 16384 (length cs) && (leb 16384 (length ms) && leb mostBytes (length es))))
 
 unfoldable pub readAnswer : List ℕ → List ℤ → List ℕ → List ℕ → List ℕ → List ℕ → Answer
 unfolding refuse roomb archiveAnswer
@@ -79,8 +78,8 @@ readingOf (Refused k) l = reading.Refused k
 unfoldable pub writeAnswer : List ℤ → List ℕ → List ℕ → List ℕ → List ℕ → List ℕ → Answer
 unfolding refuse andThen tablesAnswer jobBytes
 writeAnswer ps ts cs ms es out =
-    refuse 15 (leb 65536 (length out))
-    (andThen (tablesAnswer ps ts cs ms es) (refuse 17 (leb (length (jobBytes (jobFrom ps ts cs ms es))) 65536) Accepted))
+    refuse 15 (leb mostBytes (length out))
+    (andThen (tablesAnswer ps ts cs ms es) (refuse 17 (leb (length (jobBytes (jobFrom ps ts cs ms es))) mostBytes) Accepted))
 
 unfoldable pub writingOf : Answer → ℕ → Writing
 writingOf Accepted n = writing.Bytes n

@@ -10,9 +10,8 @@ use lib.Dec.{T, leb, leb→le}
 use lib.IntN.{ℤ}
 use lib.ListN.{length}
 use borrow.Author.Tests.{le-leb}
-use Rattle.base.specs.Refuse.{refuse}
+use Rattle.base.specs.Refuse.{refuse, andThen, passed, both}
 use Rattle.base.specs.declared.Answer.the-variants.{Accepted}
-use Rattle.layout.specs.Calls.{andThen}
 use Rattle.archive.specs.Job.{Job, jobBytes}
 use Rattle.archive.specs.Form.{formb, jobOf}
 use Rattle.archive.specs.Bytes.{Octets}
@@ -24,7 +23,6 @@ use Rattle.archive.specs.Reading.{read-written}
 use Rattle.archive.specs.Written.{written-read}
 use Rattle.replay.specs.Run.{jobAnswer, tablesAnswer}
 use Rattle.replay.specs.Flat.{tables-answer}
-use Rattle.replay.specs.Accepted.{passed, both}
 use Rattle.jobs.specs.Calls.{archiveAnswer, writeAnswer}
 use Rattle.jobs.specs.Sound.{archive-parts}
 use Rattle.jobs.specs.Taken.{Taken, tables-taken}

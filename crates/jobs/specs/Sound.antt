@@ -2,28 +2,27 @@
 -- Laws: job-parts (its mesh and its steps are accepted), job-mesh (what that says of its mesh), job-sound (its table is sound), job-high (at
 -- most 11 levels), job-counts (four numbers a level), counts-few (at most 44); archive-parts, archive-job (an accepted archive is in the form and holds
 -- an accepted job).
-use mathlib.Core.Path.{_≡_, refl, _∙_, ap}
+use mathlib.Core.Path.{_≡_, refl, _∙_}
 use mathlib.Core.Bool.{true, _&&_}
 use mathlib.Core.List.{List, [], _∷_, flatMap}
-use Prim.Native.Nat.{ℕ, _+_, _*_, _≤_}
+use Prim.Native.Nat.{ℕ, _*_, _≤_}
 use native.Mathlib.Omega.{arith}
 use lib.Dec.{T, eqb, leb, leb→le}
 use lib.ListN.{length, length-append}
-use Rattle.base.specs.Lists.{allb, and-left, and-right}
-use Rattle.base.specs.Fours.{fours}
+use Rattle.base.specs.Lists.{allb}
+use Rattle.base.specs.Bools.{and-left, and-right}
+use Rattle.base.specs.Fours.{fours, length-fours}
 use Rattle.base.specs.declared.Answer.the-variants.{Accepted}
 use Rattle.mesh.specs.Coarse.{cornerCount, meshAnswer}
 use Rattle.mesh.specs.Table.{Level, levelsOf, cellsOf, closedb, apartb, soundb}
 use Rattle.mesh.specs.Counts.{countsOf, countTable}
 use Rattle.lattice.specs.Levels.{fours-four}
 use Rattle.tables.specs.Sound.{Mesh}
-use Rattle.tables.proofs.CoarseRows.{length-fours}
-use Rattle.layout.specs.Opened.{codeOf}
+use Rattle.base.specs.Refuse.{codeOf, passed, both}
 use Rattle.layout.proofs.Accepted.{mesh-passed}
 use Rattle.archive.specs.Job.{Job}
 use Rattle.archive.specs.Form.{formb, jobOf}
 use Rattle.replay.specs.Run.{runAnswer, restTable, jobAnswer, jobTable}
-use Rattle.replay.specs.Accepted.{passed, both}
 use Rattle.replay.specs.Sound.{run-sound}
 use Rattle.replay.proofs.Rest.{rest-sound}
 use Rattle.jobs.specs.Calls.{archiveAnswer, jobLevels, jobCounts}

@@ -2,7 +2,7 @@
 --   Written p ms es  the ends es do not fall from p on, the last is behind all marks ms, and the marks of each step rise
 --   Taken ..         the tables can be stored: positions by threes, cells by fours, few of them, such ends and marks
 --   tables-taken     so it is where the mesh and the steps are accepted
-use mathlib.Core.Path.{_≡_, refl}
+use mathlib.Core.Path.{_≡_}
 use mathlib.Core.Bool.{_&&_}
 use mathlib.Core.List.{List, [], _∷_}
 use Prim.Native.Nat.{ℕ, suc, _-_, _%_, _≤_, _<_}
@@ -10,14 +10,13 @@ use native.Mathlib.Omega.{arith}
 use lib.Dec.{T, eqb, leb, eqb→eq, leb→le, ltb→lt}
 use lib.IntN.{ℤ, pos, negsuc, natAbs}
 use lib.ListN.{length, take, drop, length-replicate}
-use Rattle.base.specs.Lists.{allb, and-left, and-right}
-use Rattle.base.specs.Fours.{fours}
-use Rattle.base.specs.Refuse.{refuse}
+use Rattle.base.specs.Lists.{allb}
+use Rattle.base.specs.Bools.{and-left, and-right}
+use Rattle.base.specs.Fours.{fours, length-fours}
+use Rattle.base.specs.Refuse.{refuse, andThen, passed, both}
 use Rattle.base.specs.declared.Answer.the-variants.{Accepted}
 use Rattle.mesh.specs.Coarse.{cornerCount, cellCount, countsb, positionsb, cellb, cellsb, solidb, singleb, meshAnswer}
-use Rattle.tables.proofs.CoarseRows.{length-fours}
-use Rattle.layout.specs.Calls.{andThen}
-use Rattle.step.specs.Calls.{marksb, limitsAnswer}
+use Rattle.mesh.specs.Answers.{marksb, limitsAnswer}
 use Rattle.archive.specs.Bytes.{Word}
 use Rattle.archive.specs.Writable.{Each, Rises, Small}
 use Rattle.archive.specs.Tables.{Mark, pairs, stepsFrom}
@@ -25,7 +24,7 @@ use Rattle.archive.specs.Stored.{Storable}
 use Rattle.archive.specs.Ends.{Climbs, lastFrom, climbs-rising, climbs-within, length-pairs}
 use Rattle.replay.specs.Run.{spread, markingb, oneAnswer, oneTable, restTable, flatAnswer, tablesAnswer}
 use Rattle.replay.specs.Scan.{mayb, markingFrom}
-use Rattle.replay.specs.Accepted.{passed, both, limits-within}
+use Rattle.replay.specs.Accepted.{limits-within}
 use Rattle.replay.proofs.Marking.{from-start}
 
 -- the mesh

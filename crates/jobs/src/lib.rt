@@ -5,15 +5,14 @@ ghost use Prim.Native.Nat.{_+_, _*_, _≤_};
 ghost use lib.Dec.{leb};
 ghost use lib.ListN.{length, drop};
 ghost use Rattle.base.specs.Lent.{was, is};
-ghost use Rattle.layout.specs.Calls.{heldAfter};
+ghost use Rattle.base.specs.Refuse.{heldAfter};
 ghost use Rattle.archive.specs.Job.{jobBytes};
 ghost use Rattle.archive.specs.Form.{jobOf};
 ghost use Rattle.archive.specs.Tables.{markedOf, marksOf, endsOf};
 ghost use Rattle.archive.specs.Stored.{jobFrom};
 ghost use Rattle.replay.specs.Run.{jobTable};
-ghost use Rattle.jobs.specs.Calls.{Reopened, replayAnswer, replayedOf, sizeOf, jobCounts};
+ghost use Rattle.jobs.specs.Calls.{Reopened, replayAnswer, replayedOf, sizeOf, jobCounts, roomb, readAnswer, readingOf, lengthsOf, writeAnswer, writingOf};
 ghost use Rattle.jobs.specs.Listing.{listingOf};
-ghost use Rattle.jobs.specs.Calls.{roomb, readAnswer, readingOf, lengthsOf, writeAnswer, writingOf};
 
 // How many cells and levels a table has.
 pub struct Size {
@@ -133,7 +132,7 @@ pub fn replay(bytes: &[u8], table: &mut [u8], counts: &mut [u16]) -> Replayed
     }
     let k = r.cells;
     counting::count_levels(&new[..k], r.coarse, counts);
-    step::copy(&new, k, table);
+    base::copy_bytes(&new, k, table);
     Replayed::Done(Size {
         cells: k,
         levels: r.levels,

@@ -1,24 +1,23 @@
 -- Corners, edges and midpoints of regular cells told apart, by their coordinates.
---   middle e   the digit of the midpoint of edge e
 use mathlib.Core.Path.{_≡_, ap, ap₂, sym, _∙_}
 use mathlib.Core.Logic.{_≢_, _⊎_, inl, inr, ⊎-elim}
-use mathlib.Core.Bool.{Bool, true, false, _&&_, _||_}
-use mathlib.Core.List.{[], _∷_}
+use mathlib.Core.Bool.{_&&_}
+use mathlib.Core.List.{[]}
 use Prim.Native.Nat.{ℕ, suc, _*_, _-_, _≤_, _<_}
 use native.Mathlib.Nat.{eq-or-lt-of-le, mul-lt-mul-of-pos-right, mul-le-mul-right}
 use native.Mathlib.Decide.{decLt}
 use native.Mathlib.Omega.{arith}
 use lib.Pow.{pow-lt}
 use lib.Dec.{T}
-use lib.ListN.{getD}
-use Rattle.base.specs.Lists.{sameb, sameb-eq, and-left, and-right}
+use Rattle.base.specs.Lists.{sameb, sameb-eq}
+use Rattle.base.specs.Bools.{and-left, and-right, or-either}
 use Rattle.cutting.specs.Rule.{low, high, digit}
 use Rattle.mesh.specs.Cells.{Cell, corner, edge, joinsb}
 use Rattle.mesh.specs.Weights.{Point, point}
-use Rattle.lattice.specs.Every.{below-at}
-use Rattle.lattice.specs.Kuhn.{Step, step, gap, digit-ends, digit-named}
+use Rattle.families.specs.Kuhn.{Step, step, gap, digit-ends, digit-named}
 use Rattle.lattice.specs.Tails.{tailSum}
 use Rattle.lattice.specs.Regular.{unit, unit-positive, cancel, Regular, same-ends, point-on, mid-off}
+use Rattle.families.specs.Children.{middle, middle-ends}
 
 -- One of two numbers is the lower, or they are equal.
 equal-or : (k l : ℕ) → (k < l → ⊥) → (l < k → ⊥) → k ≡ l
@@ -92,18 +91,6 @@ module _ (n k l : ℕ) (c d : Cell Point) (r : Regular n k c) (s : Regular n l d
         ap (λ (q : Point). tailSum q p) e,
         ap (λ (q : Point). tailSum q p) f,
       )
-
--- The edges of a cell by their number.
-abbrev pub middle : ℕ → ℕ
-middle e = getD (1 ∷ 2 ∷ 3 ∷ 5 ∷ 6 ∷ 8 ∷ []) e 0
-
-pub middle-ends : (e : ℕ) → e < 6 → (low (middle e) < high (middle e)) × (high (middle e) < 4) × (middle e < 10)
-unfolding low high
-middle-ends = below-at (λ e. (low (middle e) < high (middle e)) × (high (middle e) < 4) × (middle e < 10)) 6 (omega arith)
-
-pub or-either : (a b : Bool) → T (a || b) → T a ⊎ T b
-or-either true b t = inl tt
-or-either false b t = inr t
 
 both : (p q p' q' : Point) → T (sameb p p' && sameb q q') → (p ≡ p') × (q ≡ q')
 both p q p' q' t = (sameb-eq p p' (and-left (sameb p p') (sameb q q') t), sameb-eq q q' (and-right (sameb p p') (sameb q q') t))

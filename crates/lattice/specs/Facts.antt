@@ -15,12 +15,14 @@ use Rattle.mesh.specs.Cells.{Cell, corner, edge, joinsb, children}
 use Rattle.mesh.specs.Weights.{Point, coarse, mid, point, coarseCells}
 use Rattle.mesh.specs.Coarse.{cellsb}
 use Rattle.mesh.specs.Table.{Level, levels, levelsOf, closedb, soundb}
-use Rattle.lattice.specs.Every.{All, all-of, all-more}
-use Rattle.lattice.specs.Kuhn.{ends-digit}
+use Rattle.base.specs.Every.{All, all-of, all-more}
+use Rattle.families.specs.Kuhn.{ends-digit}
 use Rattle.lattice.specs.Tails as Tails
 use Rattle.lattice.specs.Regular.{Regular, children-regular, same-ends, corner-on, mid-off}
 use Rattle.lattice.specs.Levels.{IfRegular, RedRegular, cellsAt, coarse-cells-regular, closed-red-regular, levels-regular, sound-levels, above}
-use Rattle.lattice.specs.Edges.{middle, middle-ends, corner-apart, point-injective, mid-level, edges-same}
+use Rattle.families.specs.Children.{middle, middle-ends}
+use Rattle.lattice.specs.Edges.{corner-apart, point-injective, mid-level, edges-same}
+use Rattle.mesh.specs.Laws.{mid-self}
 
 -- Coarse cells are regular of level 0. (`fours-four` of Levels: what `fours` gives has the length that is asked for.)
 pub coarse-regular : (n : ℕ) (qs : List (List ℕ)) → All (λ q. length q ≡ 4) qs → T (cellsb n qs) → All (Regular n 0) (coarseCells n qs)
@@ -49,10 +51,6 @@ sound-regular n qs ss e t u i =
       | yes h ↦ level-regular n qs ss e t closed i (omega arith)
       | no h ↦ above n (levelsOf n qs ss) i (omega arith)
     ]
-
--- A point is the midpoint of itself and itself; so the point with a corner's digit is the corner.
-pub mid-self : (p : Point) → mid p p ≡ p
-mid-self = Tails.mid-self
 
 pub point-corner : (c : Cell Point) (i : ℕ) → i < 4 → point c (digit i i) ≡ corner [] c i
 unfolding point

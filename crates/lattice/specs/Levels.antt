@@ -11,14 +11,15 @@ use native.Mathlib.Omega.{arith}
 use lib.Dec.{T, eqb, leb, eqb→eq, leb→le, ltb→lt}
 use lib.ListN.{length, getD, take, drop, length-map, List·getD-eq-default}
 use borrow.Author.Tests.{eqb-true}
-use Rattle.base.specs.Lists.{allb, and-left, and-right, sameb}
+use Rattle.base.specs.Lists.{allb, sameb}
+use Rattle.base.specs.Bools.{and-left, and-right}
 use Rattle.base.specs.Fours.{fours}
 use Rattle.cutting.specs.Rule.{family}
 use Rattle.mesh.specs.Cells.{Cell, redb, statusOf, closedFrom, redEdges, children, childrenFrom, patternOf}
 use Rattle.mesh.specs.Weights.{Point, point, coarse, coarseFrom, coarseCells}
 use Rattle.mesh.specs.Coarse.{cellb, cellsb}
 use Rattle.mesh.specs.Table.{Level, next, levels, levelsOf, cellsOf, closedb, apartb, soundb}
-use Rattle.lattice.specs.Every.{All, all-append, all-more, below-at, getD-map}
+use Rattle.base.specs.Every.{All, all-append, all-more, below-at, getD-map}
 use Rattle.lattice.specs.Tails.{tail-sum-coarse, sized-coarse}
 use Rattle.lattice.specs.Regular.{Regular, children-regular}
 

@@ -1,5 +1,3 @@
-pub mod Every
-pub mod Kuhn
 pub mod Tails
 pub mod Regular
 pub mod Levels

@@ -13,8 +13,8 @@ use lib.ListN.{length, getD, length-map}
 use Rattle.cutting.specs.Rule.{low, high}
 use Rattle.mesh.specs.Cells.{Cell, corner, children, childrenFrom, patternOf}
 use Rattle.mesh.specs.Weights.{Point, point}
-use Rattle.lattice.specs.Every.{All, getD-map}
-use Rattle.lattice.specs.Kuhn.{Coordinates, Kuhn, doubled, part, Digits, reds, digit-ends, family-red, red-digits, red-kuhn, step, gap, sum-odd, doubled-ends}
+use Rattle.base.specs.Every.{All, getD-map}
+use Rattle.families.specs.Kuhn.{Coordinates, Kuhn, doubled, part, Digits, reds, digit-ends, family-red, red-digits, red-kuhn, step, gap, sum-odd, doubled-ends}
 use Rattle.lattice.specs.Tails.{Sized, tailSum, tail-sums-equal, tail-sum-mid, sized-mid}
 
 abbrev pub unit : ℕ → ℕ

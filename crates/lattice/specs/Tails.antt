@@ -2,13 +2,14 @@
 --   sum p         the weights of p, added up
 --   tailSum p j   the weights of p from place j on, added up
 --   Sized n p     p has n weights, which add to 1,024
-use mathlib.Core.Path.{_≡_, refl, ap, ap₂, sym, _∙_}
+use mathlib.Core.Path.{_≡_, refl, ap₂, sym, _∙_}
 use mathlib.Core.List.{[], _∷_}
 use Prim.Native.Nat.{ℕ, zero, suc, _+_, _*_, _-_, _/_, _<_, min}
 use native.Mathlib.Nat.{suc-inj}
 use native.Mathlib.Omega.{arith}
 use lib.ListN.{length, replicate, length-set, length-replicate}
 use Rattle.mesh.specs.Weights.{Point, coarse, mid}
+use Rattle.mesh.specs.Laws.{length-mid}
 
 abbrev pub sum : Point → ℕ
 sum [] = 0
@@ -29,19 +30,6 @@ tail-sums-equal [] [] e h = refl
 tail-sums-equal [] (y ∷ q) e h = absurd (omega arith)
 tail-sums-equal (x ∷ p) [] e h = absurd (omega arith)
 tail-sums-equal (x ∷ p) (y ∷ q) e h = ap₂ _∷_ (omega (arith, h 0, h 1)) (tail-sums-equal p q (suc-inj e) (λ j. h (suc j)))
-
--- A point is the midpoint of itself and itself.
-pub mid-self : (p : Point) → mid p p ≡ p
-unfolding mid
-mid-self [] = refl
-mid-self (x ∷ p) = ap₂ _∷_ (omega arith) (mid-self p)
-
-length-mid : (n : ℕ) (p q : Point) → length p ≡ n → length q ≡ n → length (mid p q) ≡ n
-unfolding mid
-length-mid n [] q e f = e
-length-mid n (x ∷ p) [] e f = f
-length-mid zero (x ∷ p) (y ∷ q) e f = absurd (omega arith)
-length-mid (suc n) (x ∷ p) (y ∷ q) e f = ap suc (length-mid n p q (suc-inj e) (suc-inj f))
 
 -- The halves of weights are exact where the tail sums are even.
 half-of : (n k : ℕ) → n ≡ 2 * k → n / 2 ≡ k

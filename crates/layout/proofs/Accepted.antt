@@ -1,19 +1,19 @@
 -- An accepted mesh passes its tests; what these say.
 -- Assumes nothing.
-use mathlib.Core.Path.{_≡_, refl, sym, _∙_}
+use mathlib.Core.Path.{_≡_, refl}
 use mathlib.Core.Bool.{Bool, true, false}
 use mathlib.Core.List.{List}
-use Prim.Native.Nat.{ℕ, _*_, _/_, _%_, _≤_}
+use Prim.Native.Nat.{ℕ, _/_, _%_, _≤_}
 use native.Mathlib.Omega.{arith}
 use lib.Dec.{T, eqb→eq, leb→le}
 use lib.IntN.{ℤ}
 use lib.ListN.{length}
-use Rattle.base.specs.Lists.{and-left, and-right}
+use Rattle.base.specs.Bools.{and-left, and-right}
 use Rattle.base.specs.Fours.{fours}
 use Rattle.base.specs.declared.Answer.the-variants.{Accepted}
 use Rattle.mesh.specs.Coarse.{cornerCount, countsb, positionsb, cellsb, solidb, singleb, meshAnswer}
 use Rattle.tables.specs.Sound.{Mesh}
-use Rattle.layout.specs.Opened.{codeOf, answerOf}
+use Rattle.base.specs.Refuse.{codeOf, answerOf}
 
 record Counts (ps : List ℤ) (ts : List ℕ) : Type 0 where
   whole : length ts % 4 ≡ 0

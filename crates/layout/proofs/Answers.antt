@@ -1,31 +1,20 @@
 -- Answers, and what the lent tables hold after them.
 -- Assumes nothing.
-use mathlib.Core.Path.{_≡_, refl, sym, _∙_, ap, subst}
-use mathlib.Core.Bool.{Bool, true, false}
-use mathlib.Core.List.{List, _++_}
-use Prim.Native.Nat.{ℕ, zero, suc, _≤_, _<_}
-use native.Mathlib.Omega.{arith}
-use lib.Dec.{T, leb, ltb}
+use mathlib.Core.Path.{_≡_, sym, _∙_, ap}
+use mathlib.Core.Bool.{true, false}
+use mathlib.Core.List.{List}
+use Prim.Native.Nat.{ℕ, _≤_, _<_}
 use lib.IntN.{ℤ}
-use lib.ListN.{length, drop}
+use lib.ListN.{length}
 use borrow.Author.Tests.{lt-ltb, le-ltb, le-leb, lt-leb}
 use Rattle.base.specs.Fours.{fours}
-use Rattle.base.specs.declared.Answer.{Answer}
 use Rattle.base.specs.declared.Answer.the-variants.{Accepted, Refused}
 use Rattle.mesh.specs.Coarse.{cornerCount, meshAnswer}
 use Rattle.mesh.specs.Table.{soundb}
-use Rattle.layout.specs.Opened.{codeOf, answerOf}
-use Rattle.layout.specs.Calls.{andThen, tableAnswer, cellsIn, lentb, layoutAnswer, ancestorAnswer, countsAnswer}
+use Rattle.base.specs.Refuse.{codeOf, answerOf, andThen, answer-refused, answer-none}
+use Rattle.mesh.specs.Answers.{tableAnswer}
+use Rattle.layout.specs.Calls.{cellsIn, lentb, layoutAnswer, ancestorAnswer, countsAnswer}
 use Rattle.layout.proofs.Accepted.{mesh-code, mesh-passed}
-
-pub answer-refused : (k : ℕ) → (k ≡ 0 → ⊥) → answerOf k ≡ Refused k
-unfolding answerOf
-answer-refused zero h = absurd (h refl)
-answer-refused (suc k) h = refl
-
-pub answer-none : (k : ℕ) → k ≡ 0 → answerOf k ≡ Accepted
-unfolding answerOf
-answer-none k e = rw e
 
 module _ (ps : List ℤ) (ts ss : List ℕ) where
   -- a table over a mesh that is refused, and over one that is not

@@ -3,35 +3,36 @@
 -- Assumes nothing.
 use mathlib.Core.Path.{_≡_, refl, sym, _∙_, ap}
 use mathlib.Core.Logic.{⊎-elim}
-use mathlib.Core.Bool.{Bool, true, false}
-use mathlib.Core.List.{List, [], _∷_, _++_}
+use mathlib.Core.Bool.{true, false}
+use mathlib.Core.List.{List, [], _∷_}
 use Prim.Native.Nat.{ℕ, zero, suc, _+_, _-_, _≤_, _<_}
 use native.Mathlib.Omega.{arith}
 use lib.Dec.{T, eqb, leb, ltb, leb→le}
 use lib.IntN.{ℤ}
-use lib.ListN.{length, take, drop, length-append, length-map}
+use lib.ListN.{length, drop, length-append, length-map}
 use lib.Seq.{take-add, take-all, drop-drop}
 use borrow.Author.Tests.{eqb-true, eqb-false, ltb-true, ltb-false}
-use Rattle.base.specs.Lists.{allb, sameb, and-left, and-right}
-use Rattle.base.specs.Places.{hasb, either}
+use Rattle.base.specs.Lists.{allb, sameb}
+use Rattle.base.specs.Bools.{and-left, and-right, either}
+use Rattle.base.specs.Places.{hasb}
 use Rattle.base.specs.Fours.{fours}
-use Rattle.base.specs.declared.Answer.the-variants.{Accepted, Refused}
+use Rattle.base.specs.declared.Answer.the-variants.{Accepted}
 use Rattle.mesh.specs.Cells.{Cell}
 use Rattle.mesh.specs.Weights.{Point, mid}
 use Rattle.mesh.specs.Coarse.{cornerCount, meshAnswer}
-use Rattle.mesh.specs.Table.{soundb}
+use Rattle.mesh.specs.Table.{soundb, sizeOf, sizes}
 use Rattle.mesh.specs.Layout.{Corner, weightsOf, coarseCorners, splitEdges, addCorner, addCorners, cornersFrom, cornersOf}
-use Rattle.rows.specs.Numbered.{sizeOf, sizes, part}
-use Rattle.sizes.proofs.Sums.{sizes-append}
+use Rattle.rows.specs.Numbered.{part}
+use Rattle.mesh.specs.Laws.{sizes-append}
 use Rattle.growth.specs.Places.{splits-few}
 use Rattle.numbering.specs.Corners.{corners-start}
 use Rattle.counting.specs.Levels.{nextEnd, levelNumber, levelEnd, number-more, end-more, end-none}
 use Rattle.counting.proofs.Sound.{sound-levels}
-use Rattle.coarse.proofs.Rows.{length-fours}
-use Rattle.layout.specs.Opened.{codeOf, answerOf}
-use Rattle.layout.specs.Calls.{tableAnswer, cellsIn, cornersIn}
-use Rattle.layout.proofs.Accepted.{Passed, mesh-passed}
-use Rattle.layout.proofs.Answers.{answer-refused, table-mesh, table-unsound}
+use Rattle.base.specs.Refuse.{codeOf, answerOf, answer-refused}
+use Rattle.mesh.specs.Answers.{tableAnswer}
+use Rattle.layout.specs.Calls.{cellsIn, cornersIn}
+use Rattle.layout.proofs.Accepted.{mesh-passed}
+use Rattle.layout.proofs.Answers.{table-mesh, table-unsound}
 
 -- Corners added, cell by cell.
 module _ (ks : List Corner) where

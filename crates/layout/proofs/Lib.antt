@@ -1,6 +1,5 @@
 pub mod Accepted
 pub mod Numbering
 pub mod Answers
-pub mod Copies
 pub mod Results
 pub mod Few

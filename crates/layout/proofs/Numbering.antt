@@ -1,13 +1,13 @@
 -- The corners of a sound table, from the ends of the new ones.
 -- Assumes nothing.
-use mathlib.Core.Path.{_≡_, refl, sym, _∙_, ap}
+use mathlib.Core.Path.{_≡_, _∙_}
 use mathlib.Core.List.{List}
 use Prim.Native.Nat.{ℕ, _+_, _-_, _≤_, _<_}
 use native.Mathlib.Nat.{zero-add}
 use native.Mathlib.Omega.{arith}
 use lib.ListN.{length, getD}
 use Rattle.mesh.specs.Layout.{Corner}
-use Rattle.edges.specs.Pairs.{Pair, pairsOf}
+use Rattle.edges.specs.Pairs.{Pair}
 use Rattle.edges.specs.Table.{listed}
 use Rattle.edges.proofs.Seek.{length-pairs, at-pairs}
 use Rattle.numbering.specs.Corners.{Corners, Midpoint, endsAt, even-sum}

@@ -1,6 +1,6 @@
 -- What an accepted mesh and a sound table give the calls.
 -- Assumes nothing.
-use mathlib.Core.Path.{_≡_, refl, sym, _∙_, ap}
+use mathlib.Core.Path.{_≡_, sym, _∙_, ap}
 use mathlib.Core.Bool.{true}
 use mathlib.Core.List.{List, _++_}
 use Prim.Native.Nat.{ℕ, _+_, _*_, _/_, _≤_, _<_}
@@ -9,8 +9,8 @@ use lib.Dec.{T, leb→le}
 use lib.IntN.{ℤ}
 use lib.ListN.{length, getD, take, drop}
 use lib.Seq.{length-take-le}
-use Rattle.base.specs.Lists.{is-true, and-left, and-right}
-use Rattle.base.specs.Fours.{fours}
+use Rattle.base.specs.Bools.{is-true, and-left, and-right}
+use Rattle.base.specs.Fours.{fours, length-fours}
 use Rattle.mesh.specs.Coarse.{cornerCount}
 use Rattle.mesh.specs.Table.{soundb}
 use Rattle.mesh.specs.Layout.{cellTable, endTable, sumTable}
@@ -20,12 +20,12 @@ use Rattle.corners.specs.Ends.{Ends, endNumbers, coarseEnds, length-coarseEnds,
 use Rattle.corners.specs.Sums.{Smalls, sumNumbers, coarseSums, length-coarseSums, length-addSums, positions-small}
 use Rattle.corners.specs.Tables.{Numbered, ends-are, sums-are}
 use Rattle.ancestors.specs.Climb.{Upward, climbFrom}
-use Rattle.ancestors.specs.Linked.{ancestorOf, noCell}
+use Rattle.ancestors.specs.Linked.{ancestorOf}
+use Rattle.mesh.specs.Cells.{noCell}
 use Rattle.ancestors.proofs.Table.{table-upward, table-climb}
 use Rattle.counting.specs.Levels.{Levels, levelNumber, levelCounts, counts-length}
 use Rattle.counting.proofs.Sound.{sound-levels}
 use Rattle.counting.proofs.Whole.{counts-right, number-right}
-use Rattle.coarse.proofs.Rows.{length-fours}
 use Rattle.layout.specs.Opened.{Fits}
 use Rattle.layout.specs.Calls.{levelsIn, cellsIn, cornersIn, lentb}
 use Rattle.layout.proofs.Numbering.{corner-count, ends, numbered}

@@ -6,19 +6,20 @@
 --   ancestorAnswer ..        a cell's ancestor: 1 to 6, then 7 where there is no such cell; ancestryOf its result
 --   countsAnswer ..          counts: 15, then 1 to 6; countedOf its result
 use mathlib.Core.Bool.{Bool, _&&_}
-use mathlib.Core.List.{List, _++_}
+use mathlib.Core.List.{List}
 use Prim.Native.Nat.{ℕ}
 use lib.Dec.{leb, ltb}
 use lib.IntN.{ℤ}
-use lib.ListN.{length, drop}
+use lib.ListN.{length}
 use Rattle.base.specs.Fours.{fours}
-use Rattle.base.specs.Refuse.{refuse}
+use Rattle.base.specs.Refuse.{refuse, andThen}
 use Rattle.base.specs.declared.Answer.{Answer}
 use Rattle.base.specs.declared.Answer.the-variants.{Accepted, Refused}
+use Rattle.base.specs.Limits.{fullRows, fullEnds, fullSums, fullCounts}
 use Rattle.mesh.specs.Cells.{Cell}
 use Rattle.mesh.specs.Weights.{Point}
-use Rattle.mesh.specs.Coarse.{cornerCount, meshAnswer}
-use Rattle.mesh.specs.Table.{Level, levelsOf, cellsOf, soundb}
+use Rattle.mesh.specs.Coarse.{cornerCount}
+use Rattle.mesh.specs.Table.{Level, levelsOf, cellsOf}
 use Rattle.mesh.specs.Layout.{Corner, cornersOf}
 use Rattle.ancestors.specs.declared.Ancestor.{Ancestor}
 use Rattle.layout.specs.declared.Sizes.{Sizes}
@@ -28,21 +29,7 @@ use Rattle.layout.specs.declared.Ancestry.{Ancestry}
 use Rattle.layout.specs.declared.Ancestry.the-variants as ancestry
 use Rattle.layout.specs.declared.Counted.{Counted}
 use Rattle.layout.specs.declared.Counted.the-variants as counted
-
--- an answer, and the next where it is accepted
-unfoldable pub andThen : Answer → Answer → Answer
-andThen Accepted b = b
-andThen (Refused k) b = Refused k
-
--- "6 a table that is not sound": of a mesh that is accepted
-unfoldable pub tableAnswer : List ℤ → List ℕ → List ℕ → Answer
-unfolding andThen meshAnswer refuse soundb
-tableAnswer ps ts ss = andThen (meshAnswer ps ts) (refuse 6 (soundb (cornerCount ps) (fours ts) ss) Accepted)
-
--- "a refusal changes nothing"
-unfoldable pub heldAfter : {A : Type 0} → Answer → List A → List A → List A
-heldAfter Accepted new old = new ++ drop (length new) old
-heldAfter (Refused k) new old = old
+use Rattle.mesh.specs.Answers.{tableAnswer}
 
 -- the levels, cells and corners of the table
 abbrev pub levelsIn : List ℤ → List ℕ → List ℕ → List Level
@@ -56,7 +43,7 @@ cornersIn ps ts ss = cornersOf (cornerCount ps) (cellsIn ps ts ss) ss
 
 -- "15 a lent table too short": eight numbers a cell, two and three a corner, of the most that there can be
 unfoldable pub lentb : List ℕ → List ℕ → List ℤ → Bool
-lentb table ends sums = (leb 32768 (length table) && leb 32768 (length ends)) && leb 49152 (length sums)
+lentb table ends sums = (leb fullRows (length table) && leb fullEnds (length ends)) && leb fullSums (length sums)
 
 unfoldable pub layoutAnswer : List ℤ → List ℕ → List ℕ → List ℕ → List ℕ → List ℤ → Answer
 unfolding refuse lentb tableAnswer
@@ -81,7 +68,7 @@ ancestryOf (Refused k) a = ancestry.Refused k
 -- four numbers a level
 unfoldable pub countsAnswer : List ℤ → List ℕ → List ℕ → List ℕ → Answer
 unfolding refuse tableAnswer
-countsAnswer ps ts ss counts = refuse 15 (leb 44 (length counts)) (tableAnswer ps ts ss)
+countsAnswer ps ts ss counts = refuse 15 (leb fullCounts (length counts)) (tableAnswer ps ts ss)
 
 unfoldable pub countedOf : Answer → ℕ → Counted
 countedOf Accepted n = counted.Levels n

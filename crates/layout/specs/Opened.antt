@@ -6,25 +6,16 @@
 --   Opened ..     the answer, and where there is no refusal the rest
 use mathlib.Core.Path.{_≡_}
 use mathlib.Core.List.{List}
-use Prim.Native.Nat.{ℕ, zero, suc, _≤_}
+use Prim.Native.Nat.{ℕ, _≤_}
 use lib.Dec.{T}
 use lib.IntN.{ℤ}
 use lib.ListN.{length}
 use Rattle.base.specs.Fours.{fours}
-use Rattle.base.specs.declared.Answer.{Answer}
-use Rattle.base.specs.declared.Answer.the-variants.{Accepted, Refused}
 use Rattle.mesh.specs.Coarse.{cornerCount, positionsb}
 use Rattle.tables.specs.Sound.{Mesh, Sound}
 use Rattle.mesh.specs.Table.{soundb}
-use Rattle.layout.specs.Calls.{tableAnswer}
-
-unfoldable pub codeOf : Answer → ℕ
-codeOf Accepted = 0
-codeOf (Refused k) = k
-
-unfoldable pub answerOf : ℕ → Answer
-answerOf zero = Accepted
-answerOf (suc k) = Refused (suc k)
+use Rattle.mesh.specs.Answers.{tableAnswer}
+use Rattle.base.specs.Refuse.{answerOf}
 
 pub record Sized (rows xs ys : List ℕ) : Type 0 where
   pub in-rows : 32768 ≤ length rows

@@ -2,15 +2,16 @@
 use base::Answer;
 use ancestors::Ancestor;
 ghost use mathlib.Core.Path.{_≡_};
-ghost use mathlib.Core.List.{_++_};
-ghost use Prim.Native.Nat.{_≤_};
-ghost use lib.ListN.{length, take, drop, getD};
+ghost use lib.ListN.{length, getD};
 ghost use Rattle.base.specs.Lent.{was, is};
 ghost use Rattle.mesh.specs.Layout.{cellTable, endTable, sumTable};
 ghost use Rattle.mesh.specs.Counts.{countTable};
-ghost use Rattle.ancestors.specs.Linked.{ancestorOf, noCell};
-ghost use Rattle.layout.specs.Opened.{codeOf, Sized, Opened};
-ghost use Rattle.layout.specs.Calls.{tableAnswer, heldAfter, levelsIn, cellsIn, cornersIn, lentb, layoutAnswer, sizesOf, laidOf, ancestorAnswer, ancestryOf, countsAnswer, countedOf};
+ghost use Rattle.ancestors.specs.Linked.{ancestorOf};
+ghost use Rattle.mesh.specs.Cells.{noCell};
+ghost use Rattle.base.specs.Refuse.{heldAfter};
+ghost use Rattle.layout.specs.Opened.{Sized, Opened};
+ghost use Rattle.mesh.specs.Answers.{tableAnswer};
+ghost use Rattle.layout.specs.Calls.{levelsIn, cellsIn, cornersIn, lentb, layoutAnswer, sizesOf, laidOf, ancestorAnswer, ancestryOf, countsAnswer, countedOf};
 
 // How many cells, corners and levels a table has.
 pub struct Sizes {
@@ -42,16 +43,6 @@ pub struct Found {
     pub mids: usize,
 }
 
-// The number of an answer, 0 where it is accepted.
-pub fn code(answer: Answer) -> u8
-    ensures { λ r. ⌜ r ≡ codeOf answer ⌝ }
-{
-    match answer {
-        Answer::Accepted => 0,
-        Answer::Refused(k) => k,
-    }
-}
-
 fn refused(refusal: u8) -> Found
     ensures { λ r. ⌜ r .refusal ≡ refusal ⌝ }
 {
@@ -75,7 +66,7 @@ pub fn open(
     requires { ⌜ Sized (now rows) (now xs) (now ys) ⌝ }
     ensures { λ r. ⌜ Opened (was positions) (was cells) (was status) (is rows) (is xs) (is ys) (r .refusal) (r .cells) (r .levels) (r .mids) ⌝ }
 {
-    let refusal = code(coarse::examine_mesh(positions, cells));
+    let refusal = base::code(coarse::examine_mesh(positions, cells));
     if refusal != 0 {
         return refused(refusal);
     }
@@ -118,16 +109,6 @@ fn lent(table: &[u16], ends: &[u16], sums: &[i32]) -> bool
     sums.len() >= 49152
 }
 
-// Copies the first n numbers.
-pub fn copy(from: &[u16], n: usize, to: &mut [u16])
-    requires { ⌜ (n ≤ length (now from)) × (n ≤ length (now to)) ⌝ }
-    ensures { λ r. ⌜ is to ≡ take n (was from) ++ drop n (was to) ⌝ }
-{
-    for i in 0..n {
-        to[i] = from[i];
-    }
-}
-
 // Lays a table out: eight numbers a cell, the two ends and the three weighted sums of each corner. Refusals 15 and 1 to 6.
 pub fn lay_out(
     positions: &[i32],
@@ -164,7 +145,7 @@ pub fn lay_out(
         return Laid::Refused(f.refusal);
     }
     let n = positions.len() / 3;
-    copy(&rows, 8 * f.cells, table);
+    base::copy_numbers(&rows, 8 * f.cells, table);
     corners::fill_ends(&xs, &ys, n, f.mids, ends);
     corners::fill_sums(positions, &xs, &ys, n, f.mids, sums);
     Laid::Out(Sizes {

@@ -1,30 +1,24 @@
 -- A cell of the next level is a child of a refined cell.
---   noCell             stands for a cell that is not there
 --   childOf k c s i    the child i of c, the cell number k with status s
 --   Born k cs ss c     c is a child of one of the cells cs, numbered from k, with statuses ss
 --   BornAt k cs ss t c   so, and t is the child's place in the next level
 -- Laws: children-at (a family), born (a cell of the next level, by its place), born-below and born-at (the place of a child, and the child
 -- there).
-use mathlib.Core.Path.{_≡_, refl, _∙_, ap, ap₂, subst}
+use mathlib.Core.Path.{_≡_, refl, _∙_, ap, subst}
 use mathlib.Core.Logic.{_≢_}
-use mathlib.Core.Bool.{Bool, true, false}
+use mathlib.Core.Bool.{Bool}
 use mathlib.Core.List.{List, [], _∷_, _++_, map}
 use Prim.Native.Nat.{ℕ, zero, suc, _+_, _-_, _<_}
 use native.Mathlib.Decide.{decLt}
 use native.Mathlib.Omega.{arith}
-use lib.Dec.{eqb}
 use lib.ListN.{length, getD, take, length-append, List·getD-append}
 use lib.Seq.{getD-append-add}
 use borrow.Author.Tests.{ne-eqb}
 use Rattle.cutting.specs.Rule.{family}
-use Rattle.mesh.specs.Cells.{Cell, redb, patternOf, children, childrenFrom}
+use Rattle.mesh.specs.Cells.{Cell, redb, patternOf, children, childrenFrom, noCell}
 use Rattle.mesh.specs.Weights.{Point, point}
-use Rattle.mesh.specs.Table.{next}
-use Rattle.rows.specs.Numbered.{sizeOf, sizes}
+use Rattle.mesh.specs.Table.{next, sizeOf, sizes}
 use Rattle.rows.specs.Many.{length-children, size-refined, size-some}
-
-abbrev pub noCell : Cell Point
-noCell = record { path = []; parent = 0; regular = false; points = [] }
 
 abbrev pub childOf : ℕ → Cell Point → ℕ → ℕ → Cell Point
 childOf k c s i = record { path = c .path ++ (i ∷ []); parent = k; regular = redb s; points = map (point c) (getD (family (patternOf s)) i []) }

@@ -11,12 +11,11 @@ use lib.Dec.{eqb}
 use borrow.Author.Tests.{eq-eqb, ne-eqb}
 use lib.ListN.{length, getD, length-append, List·getD-eq-default}
 use Rattle.base.specs.Lists.{sameb}
-use Rattle.base.specs.Places.{not-both}
+use Rattle.base.specs.Bools.{not-both}
 use Rattle.cutting.specs.Rule.{family}
 use Rattle.mesh.specs.Cells.{Cell, none, redb, patternOf, edges, redEdges, pattern, statusOf, closedFrom, children, childrenFrom}
 use Rattle.mesh.specs.Weights.{Point, point, coarseFrom, coarseCells}
-use Rattle.mesh.specs.Table.{next}
-use Rattle.rows.specs.Numbered.{sizeOf}
+use Rattle.mesh.specs.Table.{next, sizeOf}
 use Rattle.numbering.specs.Refined.{Both, pattern-small}
 use Rattle.rows.specs.Many.{length-children}
 use Rattle.lineage.specs.Paths.{length-coarse, length-upto}

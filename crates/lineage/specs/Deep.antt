@@ -13,14 +13,14 @@ use lib.Dec.{T, leb}
 use lib.ListN.{length, getD, drop, length-map, List·getD-eq-default}
 use borrow.Author.Tests.{le-leb, lt-leb}
 use Rattle.base.specs.Lists.{anyb}
-use Rattle.base.specs.Places.{either, not-both}
+use Rattle.base.specs.Bools.{either, not-both}
 use Rattle.cutting.specs.Rule.{family}
 use Rattle.mesh.specs.Cells.{Cell, redb, patternOf}
 use Rattle.mesh.specs.Weights.{Point, coarseCells}
 use Rattle.mesh.specs.Table.{Level, next, levelsOf, soundb}
 use Rattle.mesh.specs.Step.{Row, rows, rowsFrom, rowsUp, edgesUp, newRedb, newReds, stepTable}
-use Rattle.lattice.specs.Every.{getD-map}
-use Rattle.lattice.specs.Kuhn.{family-red}
+use Rattle.base.specs.Every.{getD-map}
+use Rattle.families.specs.Kuhn.{family-red}
 use Rattle.lattice.specs.Levels.{noLevel}
 use Rattle.numbering.specs.Leaves.{leaf-next}
 use Rattle.lineage.specs.Olds.{flagOf, flagsOf, flags, flagTable, upTo, oldsNext, statusesBy, stepBy}
@@ -67,7 +67,7 @@ flags-at (l ∷ ls) ms zero = refl
 flags-at (l ∷ ls) ms (suc j) = flags-at ls ms j
 
 -- a red cell has children
-red-some : 0 < length (family (patternOf 64))
+pub red-some : 0 < length (family (patternOf 64))
 unfolding patternOf
 red-some = rw family-red (omega arith)
 

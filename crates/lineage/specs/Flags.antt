@@ -14,15 +14,15 @@ use native.Mathlib.Omega.{arith}
 use lib.Dec.{T, eqb}
 use lib.ListN.{length, getD, List·getD-eq-default}
 use borrow.Author.Tests.{eqb-true, eqb-false}
-use Rattle.base.specs.Lists.{anyb, filterb, sameb, is-true, and-left}
-use Rattle.base.specs.Places.{either, not-both, sameb-self, same-list}
-use Rattle.mesh.specs.Cells.{Cell, none, redb}
+use Rattle.base.specs.Lists.{anyb, filterb, sameb}
+use Rattle.base.specs.Bools.{is-true, and-left, either, not-both}
+use Rattle.base.specs.Places.{sameb-self, same-list}
+use Rattle.mesh.specs.Cells.{Cell, none, redb, noCell}
 use Rattle.mesh.specs.Weights.{Point}
 use Rattle.mesh.specs.Table.{Level}
-use Rattle.mesh.specs.Step.{Row, rowsFrom, rows, rowsUp, edgesUp, newRedb, newReds, amongb}
+use Rattle.mesh.specs.Step.{Row, rowsFrom, rows, rowsUp, edgesUp, newRedb, newReds, amongb, redAfterb}
 use Rattle.numbering.specs.Refined.{Follows}
 use Rattle.lineage.specs.Olds.{flagOf}
-use Rattle.lineage.specs.Born.{noCell}
 use Rattle.lineage.specs.Paths.{Paths}
 use Rattle.lineage.specs.Same.{Is, Fresh, Old, rowOf}
 
@@ -93,13 +93,13 @@ module _ {A : Type 0} (d : A) (f g : A → Bool) where
 
 -- a new red cell is regular
 pub new-red-regular : (up : List Row) (es : List (Point × Point)) (r : Row) → Follows (r .cell) (r .status) → newRedb up es r ≡ true → T (r .cell .regular)
-unfolding newRedb
+unfolding redAfterb
 new-red-regular up es r w n = go (redb (r .status)) refl (eqb (r .status) 0) refl
   where
     go : (b : Bool) → redb (r .status) ≡ b → (z : Bool) → eqb (r .status) 0 ≡ z → T (r .cell .regular)
     go true e z q = w .regular (λ x. omega (arith, eqb-true (r .status) 64 e))
     go false e true q =
-        let m : (r .cell .regular && eqb (r .mark) 1) ≡ true = rw (e, q, newRedb) at n in
+        let m : (r .cell .regular && eqb (r .mark) 1) ≡ true = rw (e, q, redAfterb) at n in
         and-left (r .cell .regular) (eqb (r .mark) 1) (rw m tt)
     go false e false q = w .regular (eqb-false (r .status) 0 q)
 

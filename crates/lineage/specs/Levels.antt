@@ -6,7 +6,7 @@
 -- up), grow-statuses, grow-levels, new-levels (the levels of the table are these), cells-first, levels-next and levels-first (the
 -- cells one level up, and their numbers).
 use mathlib.Core.Path.{_≡_, refl, sym, _∙_, ap, ap₂}
-use mathlib.Core.List.{List, [], _∷_, _++_, map, flatMap}
+use mathlib.Core.List.{List, [], _∷_, _++_, map, flatMap, flatten}
 use Prim.Native.Nat.{ℕ, zero, suc, _+_, _<_}
 use native.Mathlib.Omega.{arith}
 use lib.ListN.{length, getD, take, drop}
@@ -15,7 +15,7 @@ use Rattle.mesh.specs.Cells.{Cell, redEdges}
 use Rattle.mesh.specs.Weights.{Point, coarseCells}
 use Rattle.mesh.specs.Table.{Level, next, levels, levelsOf}
 use Rattle.lattice.specs.Levels.{noLevel}
-use Rattle.lineage.specs.Olds.{concat, flagTable, upTo, oldsNext, redsBy, closedBy, statusesBy, growBy, stepBy}
+use Rattle.lineage.specs.Olds.{flagTable, upTo, oldsNext, redsBy, closedBy, statusesBy, growBy, stepBy}
 use Rattle.rows.specs.Many.{length-next}
 use Rattle.lineage.specs.Paths.{length-coarse, length-upto}
 use Rattle.lineage.specs.Same.{length-olds}
@@ -74,18 +74,18 @@ module _ (m : ℕ) (ss fs : List ℕ) where
       (take-at ts rs (length (c ∷ cs)) e) (drop-at ts rs (length (c ∷ cs)) e)
 
   pub grow-levels : (h k : ℕ) (cs : List (Cell Point)) (os : List ℕ) → length os ≡ length cs
-      → levels h k cs (concat (growBy m ss fs h k cs os)) ≡ growLevels m ss fs h k cs os
-  unfolding growLevels growBy levels flatMap
+      → levels h k cs (flatten (growBy m ss fs h k cs os)) ≡ growLevels m ss fs h k cs os
+  unfolding growLevels growBy levels flatMap flatten
   grow-levels zero k cs os e = refl
   grow-levels (suc h) k [] os e = refl
   grow-levels (suc h) k (c ∷ cs) os e =
       let ts = statusesBy fs (c ∷ cs) os in
       let up = growBy m ss fs h (k + length (c ∷ cs)) (next k (c ∷ cs) ts) (oldsNext m ss ts os) in
-      levels-cons h k c cs ts (concat up) (length-statuses fs (c ∷ cs) os e)
+      levels-cons h k c cs ts (flatten up) (length-statuses fs (c ∷ cs) os e)
       ∙ ap {A = List Level} {B = List Level} (λ l. record { first = k; cells = c ∷ cs; statuses = ts } ∷ l)
       (grow-levels h (k + length (c ∷ cs)) (next k (c ∷ cs) ts) (oldsNext m ss ts os) (length-up m ss fs k (c ∷ cs) os e))
 
-pub new-levels : (n : ℕ) (qs : List (List ℕ)) (ss ms : List ℕ) → levelsOf n qs (concat (stepBy n qs ss ms)) ≡ newLevels n qs ss ms
+pub new-levels : (n : ℕ) (qs : List (List ℕ)) (ss ms : List ℕ) → levelsOf n qs (flatten (stepBy n qs ss ms)) ≡ newLevels n qs ss ms
 unfolding levelsOf stepBy
 new-levels n qs ss ms =
     grow-levels (length qs) ss (flagTable n qs ss ms) 12 0 (coarseCells n qs) (upTo (length qs)) (length-upto (length qs) ∙ sym (length-coarse n qs))

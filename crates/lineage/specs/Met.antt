@@ -9,24 +9,22 @@
 use mathlib.Core.Path.{_≡_, sym, _∙_, ap, subst}
 use mathlib.Core.Logic.{_≢_, _⊎_, inl, inr}
 use mathlib.Core.Bool.{true, false}
-use mathlib.Core.List.{List, [], _∷_, _++_}
+use mathlib.Core.List.{List, [], _∷_, _++_, flatten}
 use Prim.Native.Nat.{ℕ, suc, _+_, _≤_, _<_}
 use native.Mathlib.Decide.{decLt}
 use native.Mathlib.Omega.{arith}
 use lib.Dec.{T}
 use lib.ListN.{length, getD, take, drop, List·getD-eq-default}
 use borrow.Author.Tests.{eqb-true}
-use Rattle.base.specs.Lists.{is-true}
-use Rattle.base.specs.Places.{not-both}
+use Rattle.base.specs.Bools.{is-true, not-both}
 use Rattle.cutting.specs.Rule.{family}
-use Rattle.mesh.specs.Cells.{Cell, redb, patternOf}
+use Rattle.mesh.specs.Cells.{Cell, redb, patternOf, noCell}
 use Rattle.mesh.specs.Weights.{Point, coarseCells}
-use Rattle.mesh.specs.Table.{Level, next, levels, levelsOf, soundb}
-use Rattle.rows.specs.Numbered.{sizes}
+use Rattle.mesh.specs.Table.{Level, next, levelsOf, soundb, sizes}
 use Rattle.lattice.specs.Levels.{noLevel}
 use Rattle.numbering.specs.Refined.{Follows, Refined}
-use Rattle.lineage.specs.Olds.{flagTable, concat, upTo, stepBy}
-use Rattle.lineage.specs.Born.{noCell, childOf, Born, born, born-below, born-at}
+use Rattle.lineage.specs.Olds.{flagTable, upTo, stepBy}
+use Rattle.lineage.specs.Born.{childOf, Born, born, born-below, born-at}
 use Rattle.lineage.specs.Paths.{pathAt, length-coarse, coarse-at}
 use Rattle.lineage.specs.Same.{Is, Fresh, Old, both-at}
 use Rattle.lineage.specs.Levels.{newLevels, length-statuses, new-levels, levels-next, cells-first}
@@ -67,7 +65,7 @@ module _ (n : ℕ) (qs : List (List ℕ)) (ss ms : List ℕ) where
   unfolding levelsOf
   new-next j h =
       subst (λ (ls : List Level). getD ls (suc j) noLevel .cells ≡ next (getD ls j noLevel .first) (getD ls j noLevel .cells) (getD ls j noLevel .statuses))
-      (new-levels n qs ss ms) (levels-next 12 0 (coarseCells n qs) (concat (stepBy n qs ss ms)) j h)
+      (new-levels n qs ss ms) (levels-next 12 0 (coarseCells n qs) (flatten (stepBy n qs ss ms)) j h)
 
   pub old-coarse : oldAt n qs ss 0 .cells ≡ coarseCells n qs
   unfolding levelsOf
@@ -76,7 +74,7 @@ module _ (n : ℕ) (qs : List (List ℕ)) (ss ms : List ℕ) where
   pub new-coarse : newAt n qs ss ms 0 .cells ≡ coarseCells n qs
   unfolding levelsOf
   new-coarse =
-      subst (λ (ls : List Level). getD ls 0 noLevel .cells ≡ coarseCells n qs) (new-levels n qs ss ms) (cells-first 11 0 (coarseCells n qs) (concat (stepBy n qs ss ms)))
+      subst (λ (ls : List Level). getD ls 0 noLevel .cells ≡ coarseCells n qs) (new-levels n qs ss ms) (cells-first 11 0 (coarseCells n qs) (flatten (stepBy n qs ss ms)))
 
   new-below : (j i : ℕ) → i < length (newAt n qs ss ms j .cells) → j < 12
   new-below j i h =

@@ -10,23 +10,21 @@
 --   growBy m ss fs h k cs os   at most h levels of statuses, from the cells cs numbered from k on, with old numbers os
 --   stepBy n qs ss ms       the step's table, level by level
 use mathlib.Core.Bool.{Bool, true, false}
-use mathlib.Core.List.{List, [], _∷_, _++_, map, flatMap}
+use mathlib.Core.List.{List, [], _∷_, _++_, map, flatten}
 use Prim.Native.Nat.{ℕ, zero, suc, _+_}
-use lib.Dec.{eqb}
 use lib.ListN.{length, getD, take}
 use Rattle.base.specs.Lists.{sameb}
 use Rattle.mesh.specs.Cells.{Cell, none, redb, redEdges, statusOf}
 use Rattle.mesh.specs.Weights.{Point, coarseCells}
-use Rattle.mesh.specs.Table.{Level, levelsOf, next}
-use Rattle.mesh.specs.Step.{Row, rows, rowsUp, edgesUp, newRedb, newReds}
-use Rattle.rows.specs.Numbered.{sizeOf, sizes}
+use Rattle.mesh.specs.Table.{Level, levelsOf, next, sizeOf, sizes}
+use Rattle.mesh.specs.Step.{Row, rows, rowsUp, edgesUp, newRedb, newReds, redAfterb}
 
 unfoldable pub flagOf : Bool → ℕ
 flagOf true = 64
 flagOf false = 0
 
 unfoldable pub flagsOf : List Level → List ℕ → List Row → List ℕ
-unfolding flagOf newRedb rowsUp edgesUp newReds
+unfolding flagOf redAfterb rowsUp edgesUp newReds
 flagsOf ls ms rs = map (λ r. flagOf (newRedb (rowsUp ls ms) (edgesUp (newReds ls ms)) r)) rs
 
 unfoldable pub flags : List Level → List ℕ → List (List ℕ)
@@ -34,12 +32,9 @@ unfolding flagsOf rows
 flags [] ms = []
 flags (l ∷ ls) ms = flagsOf ls ms (rows l ms) ∷ flags ls ms
 
-abbrev pub concat : List (List ℕ) → List ℕ
-concat ls = flatMap (λ l. l) ls
-
 unfoldable pub flagTable : ℕ → List (List ℕ) → List ℕ → List ℕ → List ℕ
 unfolding flags levelsOf
-flagTable n qs ss ms = concat (flags (levelsOf n qs ss) ms)
+flagTable n qs ss ms = flatten (flags (levelsOf n qs ss) ms)
 
 unfoldable pub firstChild : ℕ → List ℕ → ℕ → ℕ
 unfolding sizes

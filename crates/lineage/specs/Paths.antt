@@ -12,12 +12,12 @@ use native.Mathlib.Nat.{eq-or-lt-of-le}
 use native.Mathlib.Omega.{arith}
 use lib.ListN.{length, getD, take, length-append, List·getD-append}
 use lib.Seq.{getD-at}
-use Rattle.mesh.specs.Cells.{Cell, none}
+use Rattle.mesh.specs.Cells.{Cell, none, noCell}
 use Rattle.mesh.specs.Weights.{Point, coarse, coarseFrom, coarseCells}
-use Rattle.mesh.specs.Table.{next}
-use Rattle.rows.specs.Numbered.{sizes}
+use Rattle.mesh.specs.Table.{next, sizes}
 use Rattle.lineage.specs.Olds.{upTo}
-use Rattle.lineage.specs.Born.{noCell, born}
+use Rattle.lineage.specs.Born.{born}
+use Rattle.mesh.specs.Laws.{length-from}
 
 abbrev pub pathAt : List (Cell Point) → ℕ → List ℕ
 pathAt cs t = getD cs t noCell .path
@@ -61,11 +61,6 @@ unfolding coarseCells
 coarse-at n qs t h =
     from-at n 0 qs t h
     ∙ ap {A = ℕ} {B = Cell Point} (λ x. record { path = x ∷ []; parent = none; regular = true; points = map (coarse n) (getD qs t []) }) (omega arith)
-
-length-from : (n i : ℕ) (qs : List (List ℕ)) → length (coarseFrom n i qs) ≡ length qs
-unfolding coarseFrom
-length-from n i [] = refl
-length-from n i (q ∷ qs) = ap suc (length-from n (suc i) qs)
 
 pub length-coarse : (n : ℕ) (qs : List (List ℕ)) → length (coarseCells n qs) ≡ length qs
 unfolding coarseCells

@@ -5,28 +5,28 @@
 -- rest-flagged (the flags of a level).
 use mathlib.Core.Path.{_≡_, refl, sym, _∙_, ap}
 use mathlib.Core.Bool.{Bool, _&&_}
-use mathlib.Core.List.{List, [], _∷_, _++_, flatMap}
+use mathlib.Core.List.{List, [], _∷_, _++_, flatMap, flatten}
 use Prim.Native.Nat.{ℕ, suc, _+_, _≤_, _<_}
 use native.Mathlib.Omega.{arith}
 use lib.Dec.{T, eqb, leb, eqb→eq, leb→le}
 use lib.ListN.{length, getD, take, drop, length-append, length-drop, length-map, List·getD-append}
 use lib.Seq.{length-take-le, drop-drop, drop-at, take-add, take-take, getD-take, getD-drop}
-use Rattle.base.specs.Lists.{allb, and-left, and-right}
-use Rattle.mesh.specs.Cells.{Cell}
+use Rattle.base.specs.Lists.{allb}
+use Rattle.base.specs.Bools.{and-left, and-right}
+use Rattle.mesh.specs.Cells.{Cell, noCell}
 use Rattle.mesh.specs.Weights.{Point, coarseCells}
-use Rattle.mesh.specs.Table.{Level, next, levels, levelsOf, cellsOf, closedb, apartb, soundb}
+use Rattle.mesh.specs.Table.{Level, next, levels, levelsOf, cellsOf, closedb, apartb, soundb, sizes}
 use Rattle.mesh.specs.Step.{Row, rowsFrom, rows, rowsUp, edgesUp, newRedb, newReds}
-use Rattle.rows.specs.Numbered.{sizes}
-use Rattle.lattice.specs.Every.{getD-map}
+use Rattle.base.specs.Every.{getD-map}
 use Rattle.lattice.specs.Levels.{sound-levels}
 use Rattle.numbering.specs.Refined.{Follows, closed-refined}
-use Rattle.lineage.specs.Olds.{flagOf, flagsOf, flags, concat, flagTable, firstChild}
+use Rattle.lineage.specs.Olds.{flagOf, flagsOf, flags, flagTable, firstChild}
 use Rattle.rows.specs.Many.{length-next}
-use Rattle.lineage.specs.Born.{noCell}
 use Rattle.lineage.specs.Paths.{Paths, paths-next, paths-coarse, length-coarse}
 use Rattle.lineage.specs.Same.{Up, both-at}
 use Rattle.lineage.specs.Levels.{here}
 use Rattle.lineage.specs.Flags.{noRow, newRedAt, Flagged, length-rows, rows-at}
+use Rattle.mesh.specs.Laws.{sizes-append}
 
 pub record Rest (m : ℕ) (ss fs ms : List ℕ) (h k : ℕ) (cs : List (Cell Point)) (rs : List ℕ) : Type 0 where
   pub rest : drop k ss ≡ rs
@@ -36,13 +36,8 @@ pub record Rest (m : ℕ) (ss fs ms : List ℕ) (h k : ℕ) (cs : List (Cell Poi
   pub few : length ss ≤ 4096
   pub high : length (levels h k cs rs) < h
   pub first : m + sizes (take k ss) ≡ k + length cs
-  pub flagged : drop k fs ≡ concat (flags (levels h k cs rs) ms)
+  pub flagged : drop k fs ≡ flatten (flags (levels h k cs rs) ms)
   pub small : length fs ≤ 4096
-
-pub sizes-append : (ss ts : List ℕ) → sizes (ss ++ ts) ≡ sizes ss + sizes ts
-unfolding sizes
-sizes-append [] ts = omega arith
-sizes-append (s ∷ ss) ts = omega (arith, sizes-append ss ts)
 
 -- at most one flag for each cell
 length-rows-few : (k : ℕ) (cs : List (Cell Point)) (ss ms : List ℕ) → length (rowsFrom k cs ss ms) ≤ length cs
@@ -59,13 +54,13 @@ length-rows-of : (l : Level) (ms : List ℕ) → length (rows l ms) ≤ length (
 unfolding rows
 length-rows-of l ms = length-rows-few (l .first) (l .cells) (l .statuses) ms
 
-length-flags : (ls : List Level) (ms : List ℕ) → length (concat (flags ls ms)) ≤ length (cellsOf ls)
-unfolding flags cellsOf flatMap
+length-flags : (ls : List Level) (ms : List ℕ) → length (flatten (flags ls ms)) ≤ length (cellsOf ls)
+unfolding flags cellsOf flatMap flatten
 length-flags [] ms = omega arith
 length-flags (l ∷ ls) ms =
     omega (
       arith,
-      length-append (flagsOf ls ms (rows l ms)) (concat (flags ls ms)),
+      length-append (flagsOf ls ms (rows l ms)) (flatten (flags ls ms)),
       length-append (l .cells) (cellsOf ls),
       length-flags-of ls ms (rows l ms),
       length-rows-of l ms,
@@ -115,7 +110,7 @@ module _ (m : ℕ) (ss fs ms : List ℕ) (h k : ℕ) (c : Cell Point) (cs : List
   upper = levels h (k + length (c ∷ cs)) (next k (c ∷ cs) own) (drop (length (c ∷ cs)) rs)
 
   cells-count : k + (length (c ∷ cs) + length (cellsOf upper)) ≡ length ss
-  unfolding levels cellsOf flatMap
+  unfolding levels cellsOf flatMap flatten
   cells-count = ap (λ (x : ℕ). k + x) (sym (length-append (c ∷ cs) (cellsOf upper))) ∙ r .count
 
   pub length-own : length own ≡ length (c ∷ cs)
@@ -125,8 +120,8 @@ module _ (m : ℕ) (ss fs ms : List ℕ) (h k : ℕ) (c : Cell Point) (cs : List
   unfolding levels allb
   closed-here = (and-left (closedb (here k (c ∷ cs) rs)) (allb closedb upper) (r .closed), and-right (closedb (here k (c ∷ cs) rs)) (allb closedb upper) (r .closed))
 
-  flags-here : drop k fs ≡ flagsOf upper ms (rows (here k (c ∷ cs) rs) ms) ++ concat (flags upper ms)
-  unfolding levels flags flatMap
+  flags-here : drop k fs ≡ flagsOf upper ms (rows (here k (c ∷ cs) rs) ms) ++ flatten (flags upper ms)
+  unfolding levels flags flatMap flatten
   flags-here = r .flagged
 
   length-flags-here : length (flagsOf upper ms (rows (here k (c ∷ cs) rs) ms)) ≡ length (c ∷ cs)
@@ -152,7 +147,7 @@ module _ (m : ℕ) (ss fs ms : List ℕ) (h k : ℕ) (c : Cell Point) (cs : List
             omega (arith, e, r .first, length-next k (c ∷ cs) own (sym length-own));
         flagged =
             sym (drop-drop (length (c ∷ cs)) k fs) ∙ ap (drop (length (c ∷ cs))) flags-here
-            ∙ drop-at (flagsOf upper ms (rows (here k (c ∷ cs) rs) ms)) (concat (flags upper ms)) (length (c ∷ cs)) length-flags-here;
+            ∙ drop-at (flagsOf upper ms (rows (here k (c ∷ cs) rs) ms)) (flatten (flags upper ms)) (length (c ∷ cs)) length-flags-here;
         small = r .small;
       }
 
@@ -188,7 +183,7 @@ module _ (m : ℕ) (ss fs ms : List ℕ) (h k : ℕ) (c : Cell Point) (cs : List
   flag-here t l =
       let l' : t < length (rows (here k (c ∷ cs) rs) ms) = omega (arith, length-rows (here k (c ∷ cs) rs) ms length-own) in
       sym (getD-drop k fs t 0) ∙ ap (λ (x : List ℕ). getD x t 0) flags-here
-      ∙ List·getD-append (flagsOf upper ms (rows (here k (c ∷ cs) rs) ms)) (concat (flags upper ms)) 0 t (omega (arith, length-flags-here))
+      ∙ List·getD-append (flagsOf upper ms (rows (here k (c ∷ cs) rs) ms)) (flatten (flags upper ms)) 0 t (omega (arith, length-flags-here))
       ∙ getD-map (λ r. flagOf (newRedb (rowsUp upper ms) (edgesUp (newReds upper ms)) r)) (rows (here k (c ∷ cs) rs) ms) t noRow 0 l'
       ∙ ap (λ (r : Row). flagOf (newRedb (rowsUp upper ms) (edgesUp (newReds upper ms)) r)) (rows-at (here k (c ∷ cs) rs) ms length-own t l)
 

@@ -15,19 +15,17 @@ use native.Mathlib.Omega.{arith}
 use lib.Dec.{T}
 use lib.ListN.{length, getD, take, length-append, length-map, List·getD-eq-default}
 use borrow.Author.Tests.{eqb-true}
-use Rattle.base.specs.Lists.{is-true}
-use Rattle.base.specs.Places.{either, not-both}
+use Rattle.base.specs.Bools.{is-true, either, not-both}
 use Rattle.cutting.specs.Rule.{low, high, family}
-use Rattle.mesh.specs.Cells.{Cell, none, redb, patternOf, children}
+use Rattle.mesh.specs.Cells.{Cell, none, redb, patternOf, children, noCell}
 use Rattle.mesh.specs.Weights.{Point, point, mid}
-use Rattle.mesh.specs.Table.{Level, next}
+use Rattle.mesh.specs.Table.{Level, next, sizeOf, sizes}
 use Rattle.mesh.specs.Step.{Row}
-use Rattle.rows.specs.Numbered.{sizeOf, sizes}
-use Rattle.lattice.specs.Every.{getD-map}
+use Rattle.base.specs.Every.{getD-map}
 use Rattle.lattice.specs.Levels.{RedRegular}
 use Rattle.numbering.specs.Refined.{Both}
 use Rattle.lineage.specs.Olds.{firstChild, oldChild, upTo, oldsOf, oldsNext}
-use Rattle.lineage.specs.Born.{noCell, childOf, BornAt, born, born-below, born-at, children-at}
+use Rattle.lineage.specs.Born.{childOf, BornAt, born, born-below, born-at, children-at}
 use Rattle.rows.specs.Many.{length-children, size-refined, size-some}
 use Rattle.lineage.specs.Paths.{pathAt, Paths, snoc-inj, length-upto, upto-at}
 

@@ -13,15 +13,15 @@ use lib.Dec.{T, eqb}
 use lib.ListN.{length, getD, take}
 use lib.Seq.{getD-drop}
 use borrow.Author.Tests.{eqb-true, eq-eqb, ne-eqb}
-use Rattle.base.specs.Lists.{allb, filterb, is-true, and-right}
+use Rattle.base.specs.Lists.{allb, filterb}
+use Rattle.base.specs.Bools.{is-true, and-right}
 use Rattle.cutting.specs.Rule.{family}
-use Rattle.mesh.specs.Cells.{Cell, redb, patternOf}
+use Rattle.mesh.specs.Cells.{Cell, redb, patternOf, noCell}
 use Rattle.mesh.specs.Weights.{Point}
-use Rattle.mesh.specs.Table.{Level, levelsOf, soundb}
-use Rattle.mesh.specs.Step.{Row, rows, rowsFrom, kids, deletedb, newRedb, rowsUp, edgesUp, newReds}
-use Rattle.rows.specs.Numbered.{sizes}
+use Rattle.mesh.specs.Table.{Level, levelsOf, soundb, sizes}
+use Rattle.mesh.specs.Step.{Row, rows, rowsFrom, kids, deletedb, newRedb, rowsUp, edgesUp, newReds, redAfterb}
 use Rattle.lattice.specs.Levels.{noLevel}
-use Rattle.lineage.specs.Born.{noCell, childOf, Born, born, born-below, born-at}
+use Rattle.lineage.specs.Born.{childOf, Born, born, born-below, born-at}
 use Rattle.lineage.specs.Paths.{pathAt}
 use Rattle.lineage.specs.Same.{Fresh, rowOf}
 use Rattle.lineage.specs.Flags.{noRow, newRedAt, length-rows, rows-at, new-red-regular}
@@ -40,22 +40,22 @@ all-failing d f g (x ∷ l) (suc t) h p q = go (g x) refl (all-failing d f g l t
 
 -- a new red cell is refined already, or marked 1
 pub new-red-kept : (up : List Row) (es : List (Point × Point)) (r : Row) → newRedb up es r ≡ true → (eqb (r .status) 0 && eqb (r .mark) 2) ≡ false
-unfolding newRedb
+unfolding redAfterb
 new-red-kept up es r n = go (eqb (r .status) 0) refl
   where
     go : (z : Bool) → eqb (r .status) 0 ≡ z → (z && eqb (r .mark) 2) ≡ false
     go true q =
         let z : r .status ≡ 0 = eqb-true (r .status) 0 q in
         let e : redb (r .status) ≡ false = ne-eqb (r .status) 64 (λ x. omega arith) in
-        let m : (r .cell .regular && eqb (r .mark) 1) ≡ true = rw (e, q, newRedb) at n in
+        let m : (r .cell .regular && eqb (r .mark) 1) ≡ true = rw (e, q, redAfterb) at n in
         let o : r .mark ≡ 1 = eqb-true (r .mark) 1 (is-true (eqb (r .mark) 1) (and-right (r .cell .regular) (eqb (r .mark) 1) (rw m tt))) in
         ne-eqb (r .mark) 2 (λ x. omega arith)
     go false q = refl
 
 -- so the family of its parent is not deleted
 red-stays : (up : List Row) (es : List (Point × Point)) (r : Row) → redb (r .status) ≡ true → deletedb (kids up (r .number)) es ≡ false → newRedb up es r ≡ true
-unfolding newRedb
-red-stays up es r e d = rw (e, newRedb) (rw d)
+unfolding redAfterb
+red-stays up es r e d = rw (e, redAfterb) (rw d)
 
 not-deleted : (up : List Row) (es : List (Point × Point)) (k t : ℕ) → t < length up → getD up t noRow .cell .parent ≡ k
     → (eqb (getD up t noRow .status) 0 && eqb (getD up t noRow .mark) 2) ≡ false → deletedb (kids up k) es ≡ false

@@ -11,15 +11,15 @@ use Prim.Native.Nat.{ℕ, zero, suc, _+_, _≤_, _<_}
 use native.Mathlib.Omega.{arith}
 use lib.Dec.{T}
 use lib.ListN.{length, getD, take, drop}
-use Rattle.base.specs.Lists.{anyb, one-if, sameb}
-use Rattle.mesh.specs.Cells.{Cell, redb, edges, heldb, bitsOf, pattern, redEdges, statusOf}
+use Rattle.base.specs.Lists.{anyb, sameb}
+use Rattle.base.specs.Bools.{one-if}
+use Rattle.mesh.specs.Cells.{Cell, redb, edges, heldb, bitsOf, pattern, redEdges, statusOf, noCell}
 use Rattle.mesh.specs.Weights.{Point, coarseCells}
 use Rattle.mesh.specs.Table.{Level, next, levels, levelsOf, soundb}
 use Rattle.mesh.specs.Step.{Row, newReds, amongb, redCells, grow, stepTable}
 use Rattle.numbering.specs.Refined.{Both, Refined, refined-red, status-follows}
 use Rattle.numbering.specs.Leaves.{Leaves, leaf-next}
 use Rattle.lineage.specs.Olds.{flagTable, upTo, oldsNext, redsBy, closedBy, statusesBy, growBy, stepBy}
-use Rattle.lineage.specs.Born.{noCell}
 use Rattle.lineage.specs.Paths.{coarse-at, length-coarse, length-upto, upto-at}
 use Rattle.lineage.specs.Same.{Old, both-from, both-more, olds-next}
 use Rattle.lineage.specs.Levels.{here, length-up}

@@ -10,16 +10,16 @@ use native.Mathlib.Omega.{arith}
 use lib.Dec.{T}
 use lib.ListN.{length, getD, take, drop}
 use borrow.Author.Tests.{ne-eqb}
-use Rattle.base.specs.Lists.{is-true, sameb}
-use Rattle.mesh.specs.Cells.{Cell, redb, pattern, redEdges, statusOf}
+use Rattle.base.specs.Bools.{is-true}
+use Rattle.base.specs.Lists.{sameb}
+use Rattle.mesh.specs.Cells.{Cell, redb, pattern, redEdges, statusOf, noCell}
 use Rattle.mesh.specs.Weights.{Point}
 use Rattle.mesh.specs.Table.{Level, next, levels}
-use Rattle.lattice.specs.Every.{getD-map}
+use Rattle.base.specs.Every.{getD-map}
 use Rattle.lattice.specs.Levels.{noLevel}
 use Rattle.numbering.specs.Refined.{Both, refined-red, pattern-small}
 use Rattle.numbering.specs.Leaves.{leaf-next}
 use Rattle.lineage.specs.Olds.{flagOf, oldsNext, redsBy, closedBy, statusesBy}
-use Rattle.lineage.specs.Born.{noCell}
 use Rattle.lineage.specs.Same.{Old, both-more, olds-next}
 use Rattle.lineage.specs.Levels.{growLevels, here, length-reds, length-up}
 use Rattle.lineage.specs.Flags.{Flagged, flag-red}

@@ -2,7 +2,8 @@
 -- program's are corner numbers.
 --   Cell A             a cell: its path (its coarse cell, then child numbers down to it), its parent's number, whether it is
 --                      regular, and its four points in local order
---   none               the parent's number of a coarse cell
+--   none               the parent's number of a coarse cell; noCell stands for a cell that is not there
+--   Four c             the cell c has four points
 --   edge c e           edge e of c as its two ends; edges c all six, in order
 --   redb s, patternOf s  a status that is red; the pattern that a refined cell is cut by
 --   joinsb e f         e and f have the same two ends
@@ -12,12 +13,14 @@
 --   statusOf es r c    the status of c where es are the edges of its level's red cells and r says whether it is one
 --   closedFrom es cs ss  each of the cells cs has the status that the edges es of red cells ask for
 --   children k c s f   the family of c, the cell number k with status s, where f gives the point of a digit
+use mathlib.Core.Path.{_≡_}
 use mathlib.Core.Bool.{Bool, true, false, _&&_, _||_}
 use mathlib.Core.List.{List, [], _∷_, _++_, map}
-use Prim.Native.Nat.{ℕ, zero, suc, _+_, _*_}
+use Prim.Native.Nat.{ℕ, suc, _+_, _*_}
 use lib.Dec.{eqb}
-use lib.ListN.{getD}
-use Rattle.base.specs.Lists.{anyb, one-if}
+use lib.ListN.{length, getD}
+use Rattle.base.specs.Lists.{anyb}
+use Rattle.base.specs.Bools.{one-if}
 use Rattle.cutting.specs.Rule.{low, high, family}
 
 pub record Cell (A : Type 0) : Type 0 where
@@ -28,6 +31,14 @@ pub record Cell (A : Type 0) : Type 0 where
 
 abbrev pub none : ℕ
 none = 65535
+
+-- stands for a cell that is not there
+abbrev pub noCell : {A : Type 0} → Cell A
+noCell = record { path = []; parent = 0; regular = false; points = [] }
+
+-- the cell has four points
+abbrev pub Four : {A : Type 0} → Cell A → Type 0
+Four c = length (c .points) ≡ 4
 
 -- "Status is one byte a cell: 0 leaf, 1 to 63 closed (green) with that pattern, 64 red."
 abbrev pub redb : ℕ → Bool

@@ -7,17 +7,18 @@
 --   solidb ps qs         refusal 4: no cell is flat
 --   singleb qs           refusal 5: no two cells with the same corners, no face in three cells
 --   meshAnswer ps ts     the answer to a mesh: accepted, or 1 to 5
-use mathlib.Core.Bool.{Bool, true, false, _&&_, _||_, not}
+use mathlib.Core.Bool.{Bool, false, _&&_, _||_, not}
 use mathlib.Core.List.{List, [], _∷_, flatMap}
-use Prim.Native.Nat.{ℕ, zero, suc, _+_, _*_, _/_, _%_}
+use Prim.Native.Nat.{ℕ, _+_, _*_, _/_, _%_}
 use lib.Dec.{eqb, leb, ltb}
 use lib.ListN.{length, getD}
-use lib.IntN.{ℤ, pos, negsuc, natAbs, _+ℤ_, _-ℤ_, _*ℤ_}
+use lib.IntN.{ℤ, pos, natAbs, _+ℤ_, _-ℤ_, _*ℤ_}
 use Rattle.base.specs.Lists.{allb, anyb, sameb}
 use Rattle.base.specs.Fours.{fours, faces, holders}
 use Rattle.base.specs.Refuse.{refuse}
 use Rattle.base.specs.declared.Answer.{Answer}
 use Rattle.base.specs.declared.Answer.the-variants.{Accepted}
+use Rattle.base.specs.Limits.{mostCoarseCorners, mostCoarseCells}
 use Rattle.cutting.specs.Rule.{zerob}
 
 -- "4 to 512 corners, 1 to 256 cells." Refusal 1: "counts, or a list's length no multiple of 3 or 4".
@@ -30,7 +31,7 @@ cellCount ts = length ts / 4
 unfoldable pub countsb : List ℤ → List ℕ → Bool
 countsb ps ts =
     (eqb (length ps % 3) 0 && eqb (length ts % 4) 0)
-    && ((leb 4 (cornerCount ps) && leb (cornerCount ps) 512) && (leb 1 (cellCount ts) && leb (cellCount ts) 256))
+    && ((leb 4 (cornerCount ps) && leb (cornerCount ps) mostCoarseCorners) && (leb 1 (cellCount ts) && leb (cellCount ts) mostCoarseCells))
 
 -- "A position is three whole numbers from -500,000 to 500,000."
 unfoldable pub positionsb : List ℤ → Bool

@@ -9,13 +9,13 @@
 --   rowOf ks c           the row of the cell c: level, parent, child number, 1 where it is regular, four corner numbers
 --   weightedSum ps k p   the weighted whole sum of coordinate k
 --   cellTable, endTable, sumTable   what the lent tables of a layout hold: rows of eight, two, three numbers
-use mathlib.Core.Bool.{Bool, true, false}
+use mathlib.Core.Bool.{true, false}
 use mathlib.Core.List.{List, [], _∷_, _++_, map, flatMap}
 use Prim.Native.Nat.{ℕ, zero, suc, _+_, _*_, pred, min, max}
-use lib.Dec.{eqb}
-use lib.ListN.{length, getD}
+use lib.ListN.{length}
 use lib.IntN.{ℤ, pos, _+ℤ_, _*ℤ_}
-use Rattle.base.specs.Lists.{filterb, sameb, one-if}
+use Rattle.base.specs.Lists.{filterb, sameb}
+use Rattle.base.specs.Bools.{one-if}
 use Rattle.base.specs.Places.{hasb, placeIn}
 use Rattle.cutting.specs.Rule.{split}
 use Rattle.mesh.specs.Cells.{Cell, edge, patternOf}

@@ -6,3 +6,5 @@ pub mod Layout
 pub mod Counts
 pub mod Step
 pub mod Samples
+pub mod Answers
+pub mod Laws

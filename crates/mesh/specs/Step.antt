@@ -2,6 +2,7 @@
 --   Row                    a cell of the old table with its number, status and mark
 --   rows l ms              the rows of a level, where ms are the marks of the whole table
 --   kids up k              the rows one level up whose parent is the cell k
+--   redAfterb s m ..       a cell is a new red one, by its status, mark, edges and children
 --   newRedb up es r        the row r is a new red cell, where es are the edges of the new red cells one level up
 --   newReds ls ms          the new red cells of each level
 --   grow reds k cs         the statuses level by level, from the cells cs numbered from k on, where reds are the red cells of
@@ -9,11 +10,11 @@
 --   stepTable n qs ss ms   the table that the rules give, without the limits, level by level
 use mathlib.Core.Bool.{Bool, true, false, _&&_, _||_, not}
 use mathlib.Core.List.{List, [], _∷_, _++_, map, flatMap}
-use Prim.Native.Nat.{ℕ, zero, suc, _+_, _*_}
-use lib.Dec.{eqb, leb}
-use lib.ListN.{length, getD, take, drop}
+use Prim.Native.Nat.{ℕ, suc, _+_}
+use lib.Dec.{eqb}
+use lib.ListN.{length, getD}
 use Rattle.base.specs.Lists.{allb, anyb, filterb, sameb}
-use Rattle.mesh.specs.Cells.{Cell, redb, edges, heldb, redEdges, statusOf}
+use Rattle.mesh.specs.Cells.{Cell, redb, edges, heldb, statusOf}
 use Rattle.mesh.specs.Weights.{Point, coarseCells}
 use Rattle.mesh.specs.Table.{Level, levelsOf, next}
 
@@ -49,18 +50,22 @@ unfolding anyb heldb sameb edges
 turnedb own family es =
     anyb (λ r. eqb (r .mark) 1 || anyb (λ e. not (heldb sameb own e) && heldb sameb es e) (edges [] (r .cell))) family
 
-unfoldable pub newRedb : List Row → List (Point × Point) → Row → Bool
-unfolding kids deletedb turnedb edges
-newRedb up es r =
-    let family = kids up (r .number) in
-    elim (redb (r .status)) [
+-- The test by what a part knows of a cell: its status, mark and own edges, whether it is regular, its children, and the edges of the
+-- new red cells one level up.
+unfoldable pub redAfterb : ℕ → ℕ → Bool → List (Point × Point) → List Row → List (Point × Point) → Bool
+unfolding deletedb turnedb
+redAfterb s m regular own family es =
+    elim (redb s) [
       | true ↦ not (deletedb family es)
-      | false ↦ elim (eqb (r .status) 0) [
-        -- "regular leaves marked 1"
-        | true ↦ r .cell .regular && eqb (r .mark) 1
-        | false ↦ turnedb (edges [] (r .cell)) family es
+      | false ↦ elim (eqb s 0) [
+        -- regular leaves marked 1
+        | true ↦ regular && eqb m 1
+        | false ↦ turnedb own family es
       ]
     ]
+
+abbrev pub newRedb : List Row → List (Point × Point) → Row → Bool
+newRedb up es r = redAfterb (r .status) (r .mark) (r .cell .regular) (edges [] (r .cell)) (kids up (r .number)) es
 
 -- "Levels are treated from the highest down; one level up means the level number higher by one."
 unfoldable pub rowsUp : List Level → List ℕ → List Row
@@ -74,7 +79,7 @@ edgesUp [] = []
 edgesUp (rs ∷ rss) = flatMap (λ r. edges [] (r .cell)) rs
 
 unfoldable pub newReds : List Level → List ℕ → List (List Row)
-unfolding rows rowsUp edgesUp newRedb filterb
+unfolding rows rowsUp edgesUp redAfterb kids edges filterb
 newReds [] ms = []
 newReds (l ∷ ls) ms =
     let above = newReds ls ms in

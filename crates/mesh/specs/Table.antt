@@ -9,12 +9,14 @@
 --   soundb n qs ss      the table is sound
 use mathlib.Core.Bool.{Bool, true, false, _&&_, _||_, not}
 use mathlib.Core.List.{List, [], _∷_, _++_, flatMap}
-use Prim.Native.Nat.{ℕ, zero, suc, _+_, _*_}
+use Prim.Native.Nat.{ℕ, zero, suc, _+_}
 use lib.Dec.{eqb, leb}
 use lib.ListN.{length, getD, take, drop}
-use Rattle.base.specs.Lists.{allb, anyb, sameb}
-use Rattle.mesh.specs.Cells.{Cell, none, redb, edges, heldb, redEdges, closedFrom, children}
+use Rattle.base.specs.Lists.{allb, sameb}
+use Rattle.base.specs.Limits.{mostLevels, mostCells}
+use Rattle.mesh.specs.Cells.{Cell, edges, heldb, redEdges, closedFrom, children, patternOf}
 use Rattle.mesh.specs.Weights.{Point, point, coarseCells}
+use Rattle.cutting.specs.Rule.{family}
 
 -- "Cells are numbered level by level from 0, in each level by parent and then child."
 unfoldable pub next : ℕ → List (Cell Point) → List ℕ → List (Cell Point)
@@ -65,4 +67,13 @@ unfolding levelsOf cellsOf closedb apartb allb
 soundb n qs ss =
     let ls = levelsOf n qs ss in
     let cs = cellsOf ls in
-    (eqb (length ss) (length cs) && (leb (length ls) 11 && leb (length cs) 4096)) && (allb closedb ls && apartb cs ss)
+    (eqb (length ss) (length cs) && (leb (length ls) mostLevels && leb (length cs) mostCells)) && (allb closedb ls && apartb cs ss)
+
+unfoldable pub sizeOf : ℕ → ℕ
+unfolding patternOf
+sizeOf s = elim (eqb s 0) [ true ↦ 0 | false ↦ length (family (patternOf s)) ]
+
+unfoldable pub sizes : List ℕ → ℕ
+unfolding sizeOf
+sizes [] = 0
+sizes (s ∷ ss) = sizeOf s + sizes ss

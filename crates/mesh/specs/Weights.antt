@@ -6,9 +6,8 @@
 --   coarseCells n qs   the coarse cells
 use mathlib.Core.Bool.{true}
 use mathlib.Core.List.{List, [], _∷_, map, zipWith}
-use Prim.Native.Nat.{ℕ, zero, suc, _+_, _/_}
-use lib.Dec.{eqb}
-use lib.ListN.{getD, replicate, set}
+use Prim.Native.Nat.{ℕ, suc, _+_, _/_}
+use lib.ListN.{replicate, set}
 use Rattle.cutting.specs.Rule.{low, high}
 use Rattle.mesh.specs.Cells.{Cell, none, corner}
 

@@ -10,7 +10,8 @@ use native.Mathlib.Omega.{arith}
 use lib.Dec.{T, eqb, ltb, eqb→eq, ltb→lt}
 use lib.ListN.{length-map}
 use borrow.Author.Tests.{eqb-true, eqb-false}
-use Rattle.base.specs.Lists.{belowb, memberb, belowb-at, and-left, and-right}
+use Rattle.base.specs.Lists.{belowb, memberb, belowb-at}
+use Rattle.base.specs.Bools.{and-left, and-right}
 use Rattle.base.specs.Places.{placeIn}
 use Rattle.cutting.specs.Rule.{low, high, points, edgeOf, split, present, family}
 use Rattle.families.specs.Facts.{Child, child-at}
@@ -20,20 +21,20 @@ use Rattle.mesh.specs.Table.{next}
 use Rattle.mesh.specs.Layout.{Corner, numberIn, mapCell, splitEdges, edgeNumbers}
 use Rattle.edges.specs.Pairs.{Pair, isb, sorted}
 use Rattle.rows.specs.Numbered.{pointAt, nextOf}
-use Rattle.lattice.specs.Every.{All, all-more, all-append, all-from, all-of, below-at}
-use Rattle.lattice.specs.Kuhn.{digit-ends}
-use Rattle.lattice.specs.Edges.{middle}
-use Rattle.lattice.specs.Facts.{mid-self}
+use Rattle.base.specs.Every.{All, all-more, all-append, all-from, all-of, below-at}
+use Rattle.families.specs.Kuhn.{digit-ends}
+use Rattle.families.specs.Children.{middle}
 use Rattle.lattice.specs.Regular.{Regular}
 use Rattle.lattice.specs.Levels.{IfRegular}
-use Rattle.numbering.specs.Lists.{all-mapped, all-unmapped, map-more, all-filter, filter-passes, filter-member, member-of}
+use Rattle.base.specs.Each.{all-mapped, all-unmapped, map-more, all-filter, filter-passes, filter-member, member-of}
 use Rattle.numbering.specs.Ends.{Splittable, edge-splittable}
 use Rattle.numbering.specs.Corners.{Has, Kept, Corners, kept-has, kept-number}
 use Rattle.numbering.specs.Midpoints.{number-midpoint}
 use Rattle.numbering.specs.Renamed.{corner-in, corner-map, splitNumbers}
 use Rattle.numbering.specs.Tests.{cellsIn, Placed}
-use Rattle.numbering.specs.Refined.{Both, Follows, Refined, pattern-below}
+use Rattle.numbering.specs.Refined.{Both, Follows, Refined}
 use Rattle.numbering.specs.Levels.{SplitIn}
+use Rattle.mesh.specs.Laws.{mid-self, pattern-below}
 
 -- The digits of present points: corners, and midpoints of split edges.
 middle-test : T (belowb (λ d. eqb (low d) (high d) || (ltb (edgeOf d) 6 && eqb (middle (edgeOf d)) d)) 10)

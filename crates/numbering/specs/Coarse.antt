@@ -8,13 +8,14 @@ use Prim.Native.Nat.{ℕ, suc, _<_}
 use native.Mathlib.Omega.{arith}
 use lib.Dec.{T, ltb→lt}
 use lib.ListN.{length, getD, length-map}
-use Rattle.base.specs.Lists.{allb, and-left, and-right}
+use Rattle.base.specs.Lists.{allb}
+use Rattle.base.specs.Bools.{and-left, and-right}
 use Rattle.mesh.specs.Cells.{Cell, none}
 use Rattle.mesh.specs.Weights.{coarse, coarseFrom, coarseCells}
 use Rattle.mesh.specs.Coarse.{cellb, cellsb}
 use Rattle.mesh.specs.Layout.{Corner, numberIn, mapCell}
 use Rattle.edges.specs.Pairs.{Pair}
-use Rattle.lattice.specs.Every.{All, all-from, below-at}
+use Rattle.base.specs.Every.{All, all-from, below-at}
 use Rattle.numbering.specs.Corners.{Has, Corners, has-corner, weights-coarse, number-coarse}
 use Rattle.numbering.specs.Tests.{cellsIn, Placed}
 

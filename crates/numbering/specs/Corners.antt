@@ -20,7 +20,8 @@ use native.Mathlib.Omega.{arith}
 use lib.ListN.{length, getD, take, replicate, length-append, length-map, length-replicate, getD-replicate, List·getD-append, List·getD-map}
 use lib.Seq.{take-all, getD-take, getD-set-same, getD-set-other, getD-at}
 use Rattle.base.specs.Lists.{sameb}
-use Rattle.base.specs.Places.{hasb, placeIn, Distinct, has-at, has-below, has-append, place-there, place-append, distinct-nil, distinct-snoc, same-list, either}
+use Rattle.base.specs.Places.{hasb, placeIn, Distinct, has-at, has-below, has-append, place-there, place-append, distinct-nil, distinct-snoc, same-list}
+use Rattle.base.specs.Bools.{either}
 use Rattle.mesh.specs.Weights.{Point, coarse, mid}
 use Rattle.mesh.specs.Layout.{Corner, weightsOf, numberIn, coarseCorners, coarseCornersTo}
 use Rattle.edges.specs.Pairs.{Pair}

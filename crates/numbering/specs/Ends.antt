@@ -14,7 +14,8 @@ use Rattle.mesh.specs.Cells.{Cell, corner, edge}
 use Rattle.mesh.specs.Weights.{Point, coarse, mid, point}
 use Rattle.lattice.specs.Tails.{Sized, tailSum}
 use Rattle.lattice.specs.Regular.{Regular, unit, unit-even, point-sized}
-use Rattle.lattice.specs.Edges.{middle, middle-ends, corner-apart}
+use Rattle.families.specs.Children.{middle, middle-ends}
+use Rattle.lattice.specs.Edges.{corner-apart}
 use Rattle.lattice.specs.Facts.{same-mid-edge, mid-not-coarse}
 
 pub record Splittable (n : ℕ) (p q : Point) : Type 0 where

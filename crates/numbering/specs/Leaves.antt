@@ -19,7 +19,8 @@ use Rattle.mesh.specs.Layout.{Corner, addCorners, cornersFrom}
 use Rattle.edges.specs.Pairs.{Pair, addPairs}
 use Rattle.rows.specs.Numbered.{endsFrom, nextOf}
 use Rattle.numbering.specs.Tests.{cellsIn}
-use Rattle.numbering.specs.Refined.{Both, Refined, pattern-below}
+use Rattle.numbering.specs.Refined.{Both, Refined}
+use Rattle.mesh.specs.Laws.{pattern-below}
 
 abbrev pub Leaves : List (Cell Point) → List ℕ → Type 0
 Leaves cs ss = Both (λ c s. s ≡ 0) cs ss

@@ -13,10 +13,10 @@ use Rattle.mesh.specs.Weights.{Point, mid}
 use Rattle.mesh.specs.Layout.{Corner, numberIn, mapCell, splitEdges, addCorner, addCorners, cornersFrom}
 use Rattle.edges.specs.Pairs.{Pair, addPair, addPairs}
 use Rattle.rows.specs.Numbered.{endsFrom}
-use Rattle.lattice.specs.Every.{All, all-more}
+use Rattle.base.specs.Every.{All, all-more}
 use Rattle.lattice.specs.Regular.{Regular}
 use Rattle.lattice.specs.Levels.{IfRegular}
-use Rattle.numbering.specs.Lists.{all-mapped, map-same}
+use Rattle.base.specs.Each.{all-mapped, map-same}
 use Rattle.numbering.specs.Ends.{Splittable, edge-splittable}
 use Rattle.numbering.specs.Corners.{Has, Kept, Corners, kept-same, kept-both, kept-has, kept-number}
 use Rattle.numbering.specs.Midpoints.{added-kept, added-has, corners-add}

@@ -1,4 +1,3 @@
-pub mod Lists
 pub mod Ends
 pub mod Corners
 pub mod Midpoints

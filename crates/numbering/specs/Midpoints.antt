@@ -15,7 +15,8 @@ use native.Mathlib.Omega.{arith}
 use lib.ListN.{length, length-append, List·getD-append}
 use lib.Seq.{take-append-le, getD-at}
 use Rattle.base.specs.Lists.{sameb}
-use Rattle.base.specs.Places.{hasb, placeIn, has-at, has-below, has-append, place-there, distinct-snoc, same-list, sameb-self, either, add-old, add-new}
+use Rattle.base.specs.Places.{hasb, placeIn, has-at, has-below, has-append, place-there, distinct-snoc, same-list, sameb-self, add-old, add-new}
+use Rattle.base.specs.Bools.{either}
 use Rattle.mesh.specs.Weights.{Point, mid}
 use Rattle.mesh.specs.Layout.{Corner, weightsOf, numberIn, addCorner}
 use Rattle.edges.specs.Pairs.{Pair, sorted, isb, addPair, same-pair, test-ext}

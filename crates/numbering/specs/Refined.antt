@@ -11,9 +11,9 @@ use mathlib.Core.List.{List, [], _∷_, map}
 use Prim.Native.Nat.{ℕ, _≤_, _<_}
 use native.Mathlib.Omega.{arith}
 use lib.Dec.{T, eqb, eqb→eq}
-use borrow.Author.Tests.{eqb-false}
-use Rattle.base.specs.Lists.{and-left, and-right, one-if, sameb}
-use Rattle.mesh.specs.Cells.{Cell, redb, patternOf, edge, edges, pattern, bitsOf, heldb, statusOf, closedFrom, redEdges}
+use Rattle.base.specs.Bools.{and-left, and-right, one-most}
+use Rattle.base.specs.Lists.{sameb}
+use Rattle.mesh.specs.Cells.{Cell, redb, edge, edges, pattern, bitsOf, heldb, statusOf, closedFrom, redEdges}
 use Rattle.mesh.specs.Weights.{Point}
 use Rattle.mesh.specs.Table.{Level, closedb}
 use Rattle.lattice.specs.Levels.{RedRegular}
@@ -35,23 +35,9 @@ refined-red [] ss r = tt
 refined-red (c ∷ cs) [] r = tt
 refined-red (c ∷ cs) (s ∷ ss) r = (λ e. r .0 .regular (λ z. omega arith), refined-red cs ss (r .1))
 
-pub pattern-below : (s : ℕ) → s ≤ 64 → patternOf s < 64
-unfolding patternOf
-pattern-below s h = go (redb s) refl
-  where
-    go : (b : Bool) → redb s ≡ b → patternOf s < 64
-    go true t = rw (t, patternOf) (omega arith)
-    go false t = rw (t, patternOf) (omega (arith, eqb-false s 64 t))
-
--- The status that the rules give.
-one-small : (b : Bool) → one-if b ≤ 1
-unfolding one-if
-one-small true = omega arith
-one-small false = omega arith
-
 bits-small : (a b c d e f : Bool) → bitsOf (a ∷ b ∷ c ∷ d ∷ e ∷ f ∷ []) < 64
 unfolding bitsOf
-bits-small a b c d e f = omega (arith, one-small a, one-small b, one-small c, one-small d, one-small e, one-small f)
+bits-small a b c d e f = omega (arith, one-most a, one-most b, one-most c, one-most d, one-most e, one-most f)
 
 module _ {A : Type 0} (o : A) (same : A → A → Bool) (es : List (A × A)) where
   pub pattern-small : (c : Cell A) → pattern o same es c < 64

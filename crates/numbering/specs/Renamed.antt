@@ -17,9 +17,9 @@ use Rattle.base.specs.Lists.{allb, anyb, filterb}
 use Rattle.cutting.specs.Rule.{low, high, split}
 use Rattle.mesh.specs.Cells.{Cell, corner, edge, edges, redb, patternOf, joinsb, heldb, pattern, bitsOf, statusOf, closedFrom, redEdges}
 use Rattle.mesh.specs.Layout.{mapCell, splitEdges, edgeNumbers}
-use Rattle.lattice.specs.Every.{All, all-at, all-append, all-more, getD-map}
-use Rattle.lattice.specs.Edges.{middle, middle-ends}
-use Rattle.numbering.specs.Lists.{all-default, all-mapped, all-map, map-more, all-filter}
+use Rattle.base.specs.Every.{All, all-at, all-append, all-more, getD-map}
+use Rattle.families.specs.Children.{middle, middle-ends}
+use Rattle.base.specs.Each.{all-default, all-mapped, all-map, map-more, all-filter}
 
 abbrev pub mapEdge : {A B : Type 0} → (A → B) → A × A → B × B
 mapEdge f e = (f (e .0), f (e .1))

@@ -15,7 +15,7 @@ use Rattle.mesh.specs.Table.{next}
 use Rattle.mesh.specs.Layout.{Corner, coarseCorners, cornersFrom}
 use Rattle.edges.specs.Pairs.{Pair}
 use Rattle.rows.specs.Numbered.{endsFrom, nextOf}
-use Rattle.lattice.specs.Every.{All, all-more}
+use Rattle.base.specs.Every.{All, all-more}
 use Rattle.lattice.specs.Regular.{Regular}
 use Rattle.lattice.specs.Levels.{IfRegular, next-regular}
 use Rattle.lattice.specs.Facts.{coarse-regular}

@@ -21,7 +21,7 @@ use Rattle.mesh.specs.Table.{Level, next, levels, levelsOf, cellsOf, closedb, s
 use Rattle.mesh.specs.Layout.{Corner, numberIn, mapCell, splitEdges, coarseCorners, addCorners, cornersFrom, cornersOf}
 use Rattle.edges.specs.Pairs.{Pair, addPairs}
 use Rattle.rows.specs.Numbered.{endsFrom, nextOf}
-use Rattle.lattice.specs.Every.{All, all-of, all-more, all-append}
+use Rattle.base.specs.Every.{All, all-of, all-more, all-append}
 use Rattle.lattice.specs.Levels.{sound-levels}
 use Rattle.numbering.specs.Corners.{Kept, kept-both, Corners, corners-start}
 use Rattle.numbering.specs.Tests.{cellsIn, Placed}

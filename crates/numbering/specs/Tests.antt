@@ -19,8 +19,8 @@ use Rattle.mesh.specs.Weights.{Point}
 use Rattle.mesh.specs.Table.{apartb}
 use Rattle.mesh.specs.Layout.{Corner, numberIn, mapCell}
 use Rattle.edges.specs.Pairs.{Pair, test-ext}
-use Rattle.lattice.specs.Every.{All, all-more}
-use Rattle.numbering.specs.Lists.{all-mapped}
+use Rattle.base.specs.Every.{All, all-more}
+use Rattle.base.specs.Each.{all-mapped}
 use Rattle.numbering.specs.Corners.{Has, number-below, number-injective}
 use Rattle.numbering.specs.Renamed.{mapEdge, Points, EndsIn, held-map, status-map, closed-map, red-edges-in, red-edges-map, apartOf, apart-map}
 

@@ -16,6 +16,7 @@ use borrow.Author.Tests.{lt-ltb, le-ltb, le-leb, lt-leb}
 use Rattle.base.specs.Refuse.{refuse}
 use Rattle.base.specs.declared.Answer.{Answer}
 use Rattle.base.specs.declared.Answer.the-variants as answer
+use Rattle.base.specs.Limits.{fullSums, mostCorners}
 use Rattle.position.specs.declared.Point.{Point}
 use Rattle.position.specs.declared.Position.{Position}
 use Rattle.position.specs.declared.Position.the-variants.{At, Refused}
@@ -38,7 +39,7 @@ pointOf sums k =
 -- 7: the corner's number is not below the count, or not below 16,384.
 unfoldable pub cornerAnswer : List ℤ → ℕ → ℕ → Answer
 unfolding refuse
-cornerAnswer sums n k = refuse 15 (leb 49152 (length sums)) (refuse 7 (ltb k n && ltb k 16384) answer.Accepted)
+cornerAnswer sums n k = refuse 15 (leb fullSums (length sums)) (refuse 7 (ltb k n && ltb k mostCorners) answer.Accepted)
 
 unfoldable pub positioned : Answer → Point → Position
 positioned answer.Accepted p = At p

@@ -1,11 +1,10 @@
 -- The cells one level up, by their places: each has the cell as its parent under which it stands.
 -- Laws: born (the parent of a cell of `next`), sizes-append, sizes-next (how many cells there are).
 -- Assumes nothing.
-use mathlib.Core.Path.{_≡_, refl, sym, _∙_, ap}
+use mathlib.Core.Path.{_≡_, refl, _∙_, ap}
 use mathlib.Core.Bool.{Bool, true, false}
-use mathlib.Core.List.{List, [], _∷_, _++_}
+use mathlib.Core.List.{List, [], _∷_}
 use Prim.Native.Nat.{ℕ, zero, suc, _+_, _<_}
-use native.Mathlib.Nat.{zero-add}
 use native.Mathlib.Omega.{arith}
 use lib.Dec.{eqb}
 use lib.ListN.{length, getD, take, List·getD-append}
@@ -13,9 +12,9 @@ use lib.Seq.{getD-append-add, take-suc}
 use Rattle.cutting.specs.Rule.{family}
 use Rattle.mesh.specs.Cells.{Cell, redb, patternOf, children, childrenFrom}
 use Rattle.mesh.specs.Weights.{Point, point}
-use Rattle.mesh.specs.Table.{next}
-use Rattle.rows.specs.Numbered.{sizeOf, sizes}
+use Rattle.mesh.specs.Table.{next, sizeOf, sizes}
 use Rattle.rows.specs.Many.{length-children}
+use Rattle.mesh.specs.Laws.{sizes-append}
 
 from-parent : (k : ℕ) (c : Cell Point) (r : Bool) (f : ℕ → Point) (d : Cell Point) (i : ℕ) (ds : List (List ℕ)) (j : ℕ) → j < length (childrenFrom k c r f i ds)
     → getD (childrenFrom k c r f i ds) j d .parent ≡ k
@@ -46,11 +45,6 @@ born k d (c ∷ cs) (s ∷ ss) e (suc i) h j g =
     let z : sizeOf s + sizes (take i ss) + j ≡ length (children k c s (point c)) + (sizes (take i ss) + j) = omega (arith, length-children k c s (point c)) in
     let w : k + suc i ≡ suc k + i = omega arith in
     rw (z, w, getD-append-add (children k c s (point c)) (next (suc k) cs ss) (sizes (take i ss) + j) d) (born (suc k) d cs ss (omega arith) i (omega arith) j g)
-
-pub sizes-append : (l m : List ℕ) → sizes (l ++ m) ≡ sizes l + sizes m
-unfolding sizes
-sizes-append [] m = sym (zero-add (sizes m))
-sizes-append (s ∷ l) m = omega (arith, sizes-append l m)
 
 pub sizes-next : (ss : List ℕ) (k : ℕ) → k < length ss → sizes (take (suc k) ss) ≡ sizes (take k ss) + sizeOf (getD ss k 0)
 unfolding sizes

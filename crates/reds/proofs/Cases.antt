@@ -13,7 +13,8 @@ use native.Mathlib.Omega.{arith}
 use lib.Dec.{eqb}
 use lib.ListN.{getD}
 use borrow.Author.Tests.{eq-eqb, ne-eqb}
-use Rattle.base.specs.Lists.{allb, anyb, one-if}
+use Rattle.base.specs.Lists.{allb, anyb}
+use Rattle.base.specs.Bools.{one-if}
 use Rattle.base.specs.Places.{hasb}
 use Rattle.mesh.specs.Cells.{edges, heldb, bitsOf}
 use Rattle.edges.specs.Pairs.{Pair, sorted, isb}

@@ -4,7 +4,7 @@
 -- Assumes nothing.
 use mathlib.Core.Path.{_≡_, refl, sym, _∙_, ap, ap₂}
 use mathlib.Core.Bool.{Bool, true, false}
-use mathlib.Core.List.{List, [], _∷_, _++_, map, flatMap}
+use mathlib.Core.List.{List, [], _∷_, _++_, map, flatMap, flatten}
 use Prim.Native.Nat.{ℕ, zero, suc, _+_, _-_, _≤_, _<_}
 use native.Mathlib.Nat.{add-zero}
 use native.Mathlib.Omega.{arith}
@@ -12,33 +12,28 @@ use lib.Dec.{eqb}
 use lib.ListN.{length, getD, take, drop, length-drop}
 use lib.Seq.{drop-drop, drop-append-seam}
 use Rattle.base.specs.Lists.{filterb}
-use Rattle.mesh.specs.Cells.{Cell, redb, edges, heldb, redEdges}
+use Rattle.mesh.specs.Cells.{Cell, edges, heldb, redEdges}
 use Rattle.mesh.specs.Weights.{Point}
 use Rattle.mesh.specs.Table.{Level, next, levels, cellsOf}
 use Rattle.mesh.specs.Layout.{Corner, numberIn}
 use Rattle.mesh.specs.Step.{Row, rows, rowsFrom, kids, newRedb, rowsUp, edgesUp, newReds}
 use Rattle.edges.specs.Pairs.{Pair}
 use Rattle.rows.specs.Numbered.{cellsAt}
-use Rattle.lattice.specs.Every.{All}
-use Rattle.numbering.specs.Lists.{map-same}
+use Rattle.base.specs.Every.{All}
+use Rattle.base.specs.Each.{map-same}
 use Rattle.numbering.specs.Corners.{Has}
 use Rattle.numbering.specs.Renamed.{red-edges-in}
 use Rattle.numbering.specs.Tests.{cellsIn, edgeIn, EndsPlaced, red-edges-numbers}
 use Rattle.tables.proofs.Cells.{red-strip}
-use Rattle.lineage.specs.Olds.{flagOf, flagsOf, flags, concat, firstChild}
+use Rattle.lineage.specs.Olds.{flagOf, flagsOf, flags, firstChild}
 use Rattle.reds.specs.Flags.{range, kidsOf, redAtb, flagsAt, redsUp, flagsUp}
 use Rattle.reds.proofs.Firsts.{first-up, Firsts, firsts-top, firsts-up}
 use Rattle.reds.proofs.Tests.{rowAt, Seen, all-range, red-row}
 use Rattle.reds.proofs.Levels.{Stands, rows-range, cells-of-rows, placed-range, cells-range, up-end, kids-range}
-
--- the edges of the rows that pass a test are those of the cells with its flags
-flag-red : (b : Bool) → redb (flagOf b) ≡ b
-unfolding flagOf
-flag-red true = refl
-flag-red false = refl
+use Rattle.lineage.specs.Flags.{flag-red}
 
 pub filter-red : (f : Row → Bool) (rs : List Row) → flatMap (λ r. edges [] (r .cell)) (filterb f rs) ≡ redEdges [] (map (λ r. r .cell) rs) (map (λ r. flagOf (f r)) rs)
-unfolding filterb redEdges flatMap
+unfolding filterb redEdges flatMap flatten
 filter-red f [] = refl
 filter-red f (r ∷ rs) = go (f r) refl (filter-red f rs)
   where
@@ -66,13 +61,13 @@ module _ (t ss ms firsts : List ℕ) where
 module _ (ks : List Corner) (cs : List (Cell Point)) (t : List ℕ) (s : Seen ks cs t) (m : ℕ) (ss ms firsts : List ℕ) (f : Firsts m ss firsts)
     (count : length cs ≡ length ss) where
   pub record Down (h first : ℕ) (ds : List (Cell Point)) : Type 0 where
-    pub flags-are : concat (flags (levels h first ds (drop first ss)) ms) ≡ flagsUp t ss ms firsts h first (first + length ds)
+    pub flags-are : flatten (flags (levels h first ds (drop first ss)) ms) ≡ flagsUp t ss ms firsts h first (first + length ds)
     pub reds-are : map (edgeIn ks) (edgesUp (newReds (levels h first ds (drop first ss)) ms)) ≡ redsUp t ss ms firsts h first (first + length ds)
     pub ends : All (EndsPlaced ks) (edgesUp (newReds (levels h first ds (drop first ss)) ms))
 
   rows-up : (h k : ℕ) (ds : List (Cell Point)) → k + length ds ≤ length ss → cellsOf (levels h k ds (drop k ss)) ≡ drop k cs
       → rowsUp (levels h k ds (drop k ss)) ms ≡ map (rowAt cs ss ms) (range k (length ds))
-  unfolding levels rowsUp rows cellsOf flatMap range
+  unfolding levels rowsUp rows cellsOf flatMap flatten range
   rows-up zero k [] h e = refl
   rows-up zero k (d ∷ ds) h e = absurd (omega (arith, ap length e, length-drop k cs))
   rows-up (suc n) k [] h e = refl
@@ -81,7 +76,7 @@ module _ (ks : List Corner) (cs : List (Cell Point)) (t : List ℕ) (s : Seen ks
       (cellsOf (levels n (k + length (d ∷ ds)) (next k (d ∷ ds) (take (length (d ∷ ds)) (drop k ss))) (drop (length (d ∷ ds)) (drop k ss)))) (sym e) h
 
   next-stands : (h k : ℕ) (ds : List (Cell Point)) → k + length ds ≤ length ss → cellsOf (levels h k ds (drop k ss)) ≡ drop k cs → Stands cs k ds (drop (length ds) (drop k cs))
-  unfolding levels cellsOf flatMap
+  unfolding levels cellsOf flatMap flatten
   next-stands zero k [] h e = refl
   next-stands zero k (d ∷ ds) h e = absurd (omega (arith, ap length e, length-drop k cs))
   next-stands (suc n) k [] h e = refl
@@ -160,8 +155,8 @@ module _ (ks : List Corner) (cs : List (Cell Point)) (t : List ℕ) (s : Seen ks
           ∙ ap₂ (λ (c : List (Cell ℕ)) (l : List ℕ). redEdges 0 c l) (sym (cells-range ks cs t s first ds (cellsOf above) b) ∙ ap (cellsAt t first) (sym z)) level-flags
 
       module _ (ls : List Level) (l : ls ≡ record { first = first; cells = ds; statuses = own } ∷ above) where
-        flags-here : concat (flags ls ms) ≡ flagsUp t ss ms firsts (suc h) first last
-        unfolding flags rows flagsUp flatMap
+        flags-here : flatten (flags ls ms) ≡ flagsUp t ss ms firsts (suc h) first last
+        unfolding flags rows flagsUp flatMap flatten
         flags-here = rw l (ap₂ _++_ level-flags (i .flags-are ∙ rw above-end))
 
         edges-here : edgesUp (newReds ls ms) ≡ redEdges [] ds (flagsOf above ms (rowsFrom first ds own ms))
@@ -175,7 +170,7 @@ module _ (ks : List Corner) (cs : List (Cell Point)) (t : List ℕ) (s : Seen ks
         ends-here = rw edges-here (red-edges-in [] 0 (numberIn ks) (Has ks) ds (flagsOf above ms (rowsFrom first ds own ms)) (placed-range ks cs t s first ds (cellsOf above) b))
 
   pub down : (h first : ℕ) (ds : List (Cell Point)) → first + length ds ≡ firstChild m ss first → first ≤ length ss → cellsOf (levels h first ds (drop first ss)) ≡ drop first cs → Down h first ds
-  unfolding levels flags flagsUp newReds edgesUp redsUp cellsOf flatMap
+  unfolding levels flags flagsUp newReds edgesUp redsUp cellsOf flatMap flatten
   down zero first ds e g a = record { flags-are = refl; reds-are = refl; ends = tt }
   down (suc h) first [] e g a =
       let w : first + 0 ≡ first = add-zero first in

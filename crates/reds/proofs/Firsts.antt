@@ -10,12 +10,13 @@ use native.Mathlib.Nat.{zero-add}
 use native.Mathlib.Omega.{arith}
 use lib.ListN.{length, getD, take, drop, length-take, length-map}
 use lib.Seq.{take-add, getD-take, take-at}
-use Rattle.rows.specs.Numbered.{sizeOf, sizes}
-use Rattle.lattice.specs.Every.{getD-map}
+use Rattle.mesh.specs.Table.{sizeOf, sizes}
+use Rattle.base.specs.Every.{getD-map}
 use Rattle.lineage.specs.Olds.{firstChild}
 use Rattle.reds.specs.Flags.{range, firstChildren}
 use Rattle.reds.proofs.Ranges.{length-range}
-use Rattle.reds.proofs.Born.{sizes-append, sizes-next}
+use Rattle.reds.proofs.Born.{sizes-next}
+use Rattle.mesh.specs.Laws.{sizes-append}
 
 module _ (m : ℕ) (ss : List ℕ) where
   pub first-add : (a b : ℕ) → firstChild m ss (a + b) ≡ firstChild m ss a + sizes (take b (drop a ss))

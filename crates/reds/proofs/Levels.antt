@@ -12,15 +12,14 @@ use lib.Dec.{eqb}
 use lib.ListN.{length, getD, take, drop, length-drop, List·getD-append}
 use lib.Seq.{drop-cons, drop-drop, getD-drop, getD-take, take-take, length-take-le}
 use Rattle.base.specs.Lists.{filterb}
-use Rattle.mesh.specs.Cells.{Cell}
+use Rattle.mesh.specs.Cells.{Cell, noCell}
 use Rattle.mesh.specs.Weights.{Point}
-use Rattle.mesh.specs.Table.{next}
+use Rattle.mesh.specs.Table.{next, sizeOf, sizes}
 use Rattle.mesh.specs.Layout.{Corner, numberIn, mapCell}
 use Rattle.mesh.specs.Step.{Row, rowsFrom, kids}
-use Rattle.rows.specs.Numbered.{cellsAt, sizeOf, sizes}
-use Rattle.lattice.specs.Every.{All}
+use Rattle.rows.specs.Numbered.{cellsAt}
+use Rattle.base.specs.Every.{All}
 use Rattle.numbering.specs.Tests.{cellsIn, Placed}
-use Rattle.closure.proofs.Closed.{cells-cons}
 use Rattle.rows.specs.Many.{next-size}
 use Rattle.tables.proofs.Cells.{strip}
 use Rattle.lineage.specs.Olds.{firstChild}
@@ -28,7 +27,8 @@ use Rattle.reds.specs.Flags.{range, kidsOf}
 use Rattle.reds.proofs.Ranges.{Blocks, blocks, filter-map}
 use Rattle.reds.proofs.Born.{born}
 use Rattle.reds.proofs.Firsts.{first-add, first-next, first-up, Firsts}
-use Rattle.reds.proofs.Tests.{noCell, rowAt, Seen}
+use Rattle.reds.proofs.Tests.{rowAt, Seen}
+use Rattle.rows.specs.Laws.{cells-cons}
 
 abbrev pub Stands : List (Cell Point) → ℕ → List (Cell Point) → List (Cell Point) → Type 0
 Stands cs k ds es = drop k cs ≡ ds ++ es

@@ -5,41 +5,38 @@
 use mathlib.Core.Path.{_≡_, refl, sym, _∙_, ap, ap₂}
 use mathlib.Core.Bool.{true, _&&_}
 use mathlib.Core.Logic.{⊎-elim}
-use mathlib.Core.List.{List, [], _∷_, _++_, flatMap}
+use mathlib.Core.List.{List, _++_, flatMap}
 use Prim.Native.Nat.{ℕ, zero, suc, _+_, _*_, _-_, _≤_, _<_}
 use native.Mathlib.Nat.{eq-or-lt-of-le, zero-add}
 use native.Mathlib.Omega.{arith}
 use lib.Dec.{T, eqb, leb, eqb→eq}
 use lib.ListN.{length, getD, take, drop, length-append, length-take}
 use Rattle.base.specs.Fours.{fours}
-use Rattle.base.specs.Lists.{is-true, and-left, allb}
-use Rattle.mesh.specs.Cells.{Cell, heldb}
+use Rattle.base.specs.Bools.{is-true, and-left}
+use Rattle.base.specs.Lists.{allb}
+use Rattle.mesh.specs.Cells.{Cell, heldb, Four, noCell}
 use Rattle.mesh.specs.Weights.{Point, coarseCells}
 use Rattle.mesh.specs.Table.{levelsOf, cellsOf, closedb, apartb, soundb}
 use Rattle.mesh.specs.Layout.{Corner, numberIn, mapCell, rowOf}
-use Rattle.lattice.specs.Every.{All, all-at, getD-map}
+use Rattle.base.specs.Every.{All, all-at, getD-map}
 use Rattle.lattice.specs.Levels.{fours-four}
 use Rattle.numbering.specs.Tests.{cellsIn, Placed}
 use Rattle.numbering.specs.Tables.{sound-numbers}
-use Rattle.counting.specs.Levels.{nextEnd, levelNumber, levelEnd, number-more, end-more, end-none}
+use Rattle.counting.specs.Levels.{nextEnd, levelNumber, levelEnd, number-more, end-more, end-none, next-after}
 use Rattle.counting.proofs.Sound.{sound-levels}
 use Rattle.tables.specs.Sound.{tableCells, tableCorners}
-use Rattle.tables.proofs.Cells.{strip, Four, cell-at}
+use Rattle.tables.proofs.Cells.{strip, cell-at}
 use Rattle.tables.proofs.Onward.{four-in, length-in}
 use Rattle.tables.proofs.Finish.{rows-in}
-use Rattle.tables.proofs.Rising.{length-coarse}
+use Rattle.mesh.specs.Laws.{length-from}
 use Rattle.lineage.specs.Olds.{firstChild, flagTable}
 use Rattle.reds.specs.Flags.{flagsAt, redsUp, flagsUp}
 use Rattle.reds.specs.Old.{Old, Marked}
 use Rattle.reds.proofs.Firsts.{first-add, first-start, first-at, Firsts, firsts-top, firsts-up, length-firsts}
-use Rattle.reds.proofs.Tests.{noCell, Seen}
+use Rattle.reds.proofs.Tests.{Seen}
 use Rattle.reds.proofs.Writes.{length-flags}
 use Rattle.reds.proofs.Down.{flags-none, Down, down}
-
--- where the levels end, all children are counted
-next-after : (first last : ℕ) (ss : List ℕ) → last ≤ nextEnd first last ss
-unfolding nextEnd
-next-after first last ss = omega arith
+use Rattle.rows.specs.Laws.{rows-size}
 
 next-first : (m : ℕ) (ss : List ℕ) (first last : ℕ) → first ≤ last → last ≡ firstChild m ss first → nextEnd first last ss ≡ firstChild m ss last
 unfolding nextEnd
@@ -99,11 +96,6 @@ cells-count n qs ss t =
     let b = leb (length ls) 11 && leb (length cs) 4096 in
     eqb→eq (length ss) (length cs) (and-left a b (and-left (a && b) (allb closedb ls && apartb cs ss) t))
 
-length-rows : (zs : List (Cell ℕ)) → All Four zs → length (flatMap rowOf zs) ≡ 8 * length zs
-unfolding flatMap rowOf
-length-rows [] f = refl
-length-rows (z ∷ zs) f = length-append (rowOf z) (flatMap rowOf zs) ∙ omega (arith, f .0, length-rows zs (f .1))
-
 module _ (n : ℕ) (mesh rows ss ms firsts red : List ℕ) (g : Marked n mesh rows ss ms firsts red) where
   abbrev qs : List (List ℕ)
   qs = fours mesh
@@ -148,7 +140,7 @@ module _ (n : ℕ) (mesh rows ss ms firsts red : List ℕ) (g : Marked n mesh ro
         count,
         length-in ks cs,
         length-take (8 * length (cellsIn ks cs)) rows,
-        ap length table ∙ length-rows (cellsIn ks cs) four,
+        ap length table ∙ rows-size (cellsIn ks cs) four,
       )
 
   pub marked-old : Old rows ss ms firsts
@@ -164,7 +156,7 @@ module _ (n : ℕ) (mesh rows ss ms firsts red : List ℕ) (g : Marked n mesh ro
 
   coarse : length (coarseCells n qs) ≡ length qs
   unfolding coarseCells
-  coarse = length-coarse n 0 qs
+  coarse = length-from n 0 qs
 
   pub marked-flags : flagsUp rows ss ms firsts 12 0 (getD firsts 0 0) ≡ flagTable n qs ss ms
   unfolding flagTable levelsOf

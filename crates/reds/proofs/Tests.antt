@@ -1,5 +1,4 @@
 -- The new red cells over rows of numbers are the paper's.
---   noCell             stands for a cell that is not there
 --   rowAt cs ss ms j   the row of the cell j
 --   Seen ks cs t       the rows t are those of the cells cs, whose points are all among the corners ks
 -- Laws: all-range (what holds at each number of a range), red-row (the test of a new red cell).
@@ -12,22 +11,19 @@ use native.Mathlib.Omega.{arith}
 use lib.Dec.{eqb}
 use lib.ListN.{length, getD}
 use Rattle.base.specs.Lists.{allb, anyb, sameb}
-use Rattle.mesh.specs.Cells.{Cell, redb, edge, edges, heldb}
+use Rattle.mesh.specs.Cells.{Cell, redb, edge, edges, heldb, noCell}
 use Rattle.mesh.specs.Weights.{Point}
 use Rattle.mesh.specs.Layout.{Corner, numberIn, mapCell}
-use Rattle.mesh.specs.Step.{Row, kids, deletedb, turnedb, newRedb}
+use Rattle.mesh.specs.Step.{Row, kids, deletedb, turnedb, newRedb, redAfterb}
 use Rattle.edges.specs.Pairs.{Pair}
 use Rattle.rows.specs.Numbered.{cellAt}
-use Rattle.lattice.specs.Every.{All, all-more}
-use Rattle.numbering.specs.Lists.{all-map}
+use Rattle.base.specs.Every.{All, all-more}
+use Rattle.base.specs.Each.{all-map}
 use Rattle.numbering.specs.Corners.{Has}
 use Rattle.numbering.specs.Renamed.{edges-map, edges-in}
 use Rattle.numbering.specs.Tests.{edgeIn, Placed, EndsPlaced, held-numbers}
 use Rattle.tables.proofs.Cells.{strip}
 use Rattle.reds.specs.Flags.{range, kidsOf, idleb, touchedb, pulledb, redAtb}
-
-abbrev pub noCell : Cell Point
-noCell = record { path = []; parent = 0; regular = true; points = [] }
 
 abbrev pub rowAt : List (Cell Point) → List ℕ → List ℕ → ℕ → Row
 rowAt cs ss ms j = record { number = j; cell = getD cs j noCell; status = getD ss j 0; mark = getD ms j 0 }
@@ -105,7 +101,7 @@ module _ (ks : List Corner) (cs : List (Cell Point)) (t ss ms : List ℕ) (s : S
 
   pub red-row : (firsts : List ℕ) (up : List Row) (k : ℕ) → k < length cs → All (λ j. j < length cs) (kidsOf firsts k) → kids up k ≡ map (rowAt cs ss ms) (kidsOf firsts k)
       → newRedb up es (rowAt cs ss ms k) ≡ redAtb t ss ms firsts held k
-  unfolding newRedb redAtb
+  unfolding redAfterb redAtb
   red-row firsts up k h g e =
       let d : deletedb (kids up k) es ≡ allb (idleb t ss ms held) (kidsOf firsts k) = rw e (deleted-rows (kidsOf firsts k) g) in
       let u : turnedb (edges [] (getD cs k noCell)) (kids up k) es ≡ anyb (pulledb t ms held k) (kidsOf firsts k) = rw e (turned-rows k (kidsOf firsts k) h g) in

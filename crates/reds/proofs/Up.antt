@@ -18,16 +18,17 @@ use Rattle.edges.specs.Table.{Grown, listed}
 use Rattle.rows.specs.Numbered.{cellsAt, part}
 use Rattle.closure.specs.Ready.{Ready, Range, redCount}
 use Rattle.closure.proofs.Closed.{lists-added, held-listed}
-use Rattle.closure.proofs.Steps.{length-reds, length-cells}
-use Rattle.counting.proofs.Tallies.{one-few}
+use Rattle.closure.proofs.Steps.{length-reds}
 use Rattle.reds.specs.Flags.{listedb, flagsAt, redsUp, flagsUp}
 use Rattle.reds.specs.Old.{Old, Span, OneLevel, Above}
 use Rattle.reds.proofs.Writes.{length-flags, flags-both}
+use Rattle.base.specs.Bools.{one-most}
+use Rattle.rows.specs.Laws.{length-cells}
 
 reds-few : (ss : List ℕ) → redCount ss ≤ length ss
 unfolding redCount
 reds-few [] = omega arith
-reds-few (s ∷ ss) = omega (arith, reds-few ss, one-few (redb s))
+reds-few (s ∷ ss) = omega (arith, reds-few ss, one-most (redb s))
 
 none-listed : (xs ys : List ℕ) (n : ℕ) → listed xs ys n n ≡ []
 unfolding pairsOf

@@ -6,24 +6,19 @@ use mathlib.Core.List.{List, [], _∷_, _++_}
 use Prim.Native.Nat.{ℕ, suc, _+_, _*_, _-_, _≤_, _<_}
 use native.Mathlib.Omega.{arith}
 use lib.ListN.{length, getD, set, length-set}
-use Rattle.base.specs.Lists.{one-if}
+use Rattle.base.specs.Bools.{one-most}
 use Rattle.base.specs.Places.{hasb}
 use Rattle.mesh.specs.Cells.{Cell, redb, edge}
 use Rattle.edges.specs.Pairs.{Pair, sorted, isb}
-use Rattle.rows.specs.Numbered.{cellAt, cellsAt, part, sizeOf, sizes}
+use Rattle.rows.specs.Numbered.{cellAt, cellsAt, part}
+use Rattle.mesh.specs.Table.{sizeOf, sizes}
 use Rattle.closure.specs.Ready.{listedPattern, listedStatus}
 use Rattle.closure.proofs.Closed.{bits-more, bits-small}
-use Rattle.growth.specs.Parts.{length-part, length-cells}
+use Rattle.rows.specs.Laws.{length-part, length-cells}
 use Rattle.growth.specs.Written.{written, written-none, length-written}
-use Rattle.sizes.proofs.Sums.{sizes-append}
+use Rattle.mesh.specs.Laws.{sizes-append, sizes-one}
 use Rattle.renew.specs.Levels.{listedBy, Closed}
 use Rattle.renew.proofs.Writing.{set-written, getD-behind, part-next}
-
--- a status is at most 64
-one-most : (b : Bool) → one-if b ≤ 1
-unfolding one-if
-one-most true = omega arith
-one-most false = omega arith
 
 pattern-few : (es : List Pair) (c : Cell ℕ) → listedPattern es c ≤ 63
 unfolding listedPattern
@@ -52,10 +47,6 @@ listed-snoc es [] [] c r e = refl
 listed-snoc es [] (x ∷ rs) c r e = absurd (omega arith)
 listed-snoc es (d ∷ cs) [] c r e = absurd (omega arith)
 listed-snoc es (d ∷ cs) (x ∷ rs) c r e = ap (λ (l : List ℕ). listedStatus es (redb x) d ∷ l) (listed-snoc es cs rs c r (omega arith))
-
-sizes-one : (s : ℕ) → sizes (s ∷ []) ≡ sizeOf s
-unfolding sizes
-sizes-one s = omega arith
 
 cells-next : (t : List ℕ) (first c : ℕ) → first ≤ c → cellsAt t first (c + 1 - first) ≡ cellsAt t first (c - first) ++ (cellAt t c ∷ [])
 unfolding cellsAt

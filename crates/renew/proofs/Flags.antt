@@ -6,12 +6,12 @@ use Prim.Native.Nat.{ℕ, _+_, _-_, _≤_, _<_}
 use native.Mathlib.Omega.{arith}
 use lib.ListN.{length, getD, set, length-set, List·getD-eq-default}
 use borrow.Author.Tests.{ne-eqb}
-use Rattle.base.specs.Lists.{one-if}
+use Rattle.base.specs.Bools.{one-if}
 use Rattle.mesh.specs.Cells.{redb}
 use Rattle.rows.specs.Numbered.{part}
-use Rattle.closure.specs.Ready.{redCount}
+use Rattle.closure.specs.Ready.{redCount, count-one}
 use Rattle.closure.proofs.Steps.{count-append}
-use Rattle.growth.specs.Parts.{length-part}
+use Rattle.rows.specs.Laws.{length-part}
 use Rattle.growth.specs.Written.{written, written-none, length-written}
 use Rattle.lineage.specs.Olds.{flagOf, redsBy}
 use Rattle.lineage.specs.Levels.{length-reds}
@@ -21,10 +21,6 @@ use Rattle.renew.proofs.Writing.{set-written, part-next}
 flags-snoc : (fs os : List ℕ) (o : ℕ) → redsBy fs (os ++ (o ∷ [])) ≡ redsBy fs os ++ (flagOf (redb (getD fs o 0)) ∷ [])
 unfolding redsBy
 flags-snoc fs os o = map-append _ os (o ∷ [])
-
-count-one : (s : ℕ) → redCount (s ∷ []) ≡ one-if (redb s)
-unfolding redCount
-count-one s = omega arith
 
 -- the flags of the cells from first to c are written
 pub record Flags (fs old : List ℕ) (first last : ℕ) (table₀ table : List ℕ) (n c : ℕ) : Type 0 where

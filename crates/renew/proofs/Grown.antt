@@ -2,7 +2,7 @@
 -- Assumes nothing.
 use mathlib.Core.Path.{_≡_, refl, sym, _∙_, ap}
 use mathlib.Core.Bool.{true}
-use mathlib.Core.List.{List, [], _∷_, _++_, flatMap}
+use mathlib.Core.List.{List, [], _∷_, _++_, flatMap, flatten}
 use Prim.Native.Nat.{ℕ, zero, suc, _+_, _-_, _≤_, _<_}
 use native.Mathlib.Omega.{arith}
 use lib.Dec.{leb}
@@ -15,7 +15,7 @@ use Rattle.mesh.specs.Weights.{Point}
 use Rattle.mesh.specs.Table.{next}
 use Rattle.rows.specs.Numbered.{part}
 use Rattle.numbering.specs.Refined.{Refined}
-use Rattle.lineage.specs.Olds.{growBy, concat, statusesBy, oldsNext}
+use Rattle.lineage.specs.Olds.{growBy, statusesBy, oldsNext}
 use Rattle.lineage.specs.Levels.{length-statuses, length-up}
 use Rattle.lineage.specs.Step.{refined-statuses}
 use Rattle.tables.specs.Levels.{all-append}
@@ -53,14 +53,14 @@ fit-refined (c ∷ cs) (t ∷ ts) e r = rw (le-leb t 64 (r .0 .small)) (fit-refi
 pub statuses-fit : (fs : List ℕ) (cs : List (Cell Point)) (os : List ℕ) → length os ≡ length cs → allb (λ s. leb s 64) (statusesBy fs cs os) ≡ true
 statuses-fit fs cs os e = fit-refined cs (statusesBy fs cs os) (length-statuses fs cs os e) (refined-statuses fs cs os)
 
-pub grow-fit : (m : ℕ) (ss fs : List ℕ) (h k : ℕ) (cs : List (Cell Point)) (os : List ℕ) → length os ≡ length cs → allb (λ s. leb s 64) (concat (growBy m ss fs h k cs os)) ≡ true
-unfolding growBy flatMap allb
+pub grow-fit : (m : ℕ) (ss fs : List ℕ) (h k : ℕ) (cs : List (Cell Point)) (os : List ℕ) → length os ≡ length cs → allb (λ s. leb s 64) (flatten (growBy m ss fs h k cs os)) ≡ true
+unfolding growBy flatMap flatten allb
 grow-fit m ss fs zero k cs os e = refl
 grow-fit m ss fs (suc h) k [] os e = refl
 grow-fit m ss fs (suc h) k (c ∷ cs) os e =
     let ts : List ℕ = statusesBy fs (c ∷ cs) os in
     let us : List (List ℕ) = growBy m ss fs h (k + length (c ∷ cs)) (next k (c ∷ cs) ts) (oldsNext m ss ts os) in
-    all-append (λ s. leb s 64) ts (concat us)
+    all-append (λ s. leb s 64) ts (flatten us)
     ∙ rw (statuses-fit fs (c ∷ cs) os e, grow-fit m ss fs h (k + length (c ∷ cs)) (next k (c ∷ cs) ts) (oldsNext m ss ts os) (length-up m ss fs k (c ∷ cs) os e))
 
 -- a level of a table whose rest is known

@@ -10,9 +10,10 @@ use Rattle.mesh.specs.Cells.{redEdges}
 use Rattle.edges.specs.Pairs.{addPairs, pairsOf}
 use Rattle.edges.specs.Table.{Space, Grown, listed}
 use Rattle.edges.proofs.Seek.{none-listed}
-use Rattle.rows.specs.Numbered.{cellsAt, part, sizes}
+use Rattle.rows.specs.Numbered.{cellsAt, part}
+use Rattle.mesh.specs.Table.{sizes}
 use Rattle.closure.specs.Ready.{redCount, Ready, Looks}
-use Rattle.growth.specs.Parts.{length-part, length-cells}
+use Rattle.rows.specs.Laws.{length-part, length-cells}
 use Rattle.growth.specs.Written.{written}
 use Rattle.lineage.specs.Levels.{length-reds}
 use Rattle.tables.specs.Checked.{Reds}

@@ -10,11 +10,14 @@ use lib.Dec.{T, leb, leb→le}
 use lib.ListN.{length, getD, take, drop, set, length-set, length-map, List·getD-eq-default}
 use lib.Seq.{take-length}
 use borrow.Author.Tests.{eq-eqb, ne-eqb}
-use Rattle.base.specs.Lists.{allb, and-left, and-right}
+use Rattle.base.specs.Lists.{allb}
+use Rattle.base.specs.Bools.{and-left, and-right}
 use Rattle.mesh.specs.Cells.{redb}
-use Rattle.rows.specs.Numbered.{part, sizeOf, sizes}
+use Rattle.rows.specs.Numbered.{part}
+use Rattle.mesh.specs.Table.{sizeOf, sizes}
 use Rattle.sizes.proofs.Sums.{size-leaf, size-red, size-green, green-few, sizes-step}
-use Rattle.growth.specs.Parts.{length-part, sizes-take}
+use Rattle.rows.specs.Laws.{length-part}
+use Rattle.growth.specs.Parts.{sizes-take}
 use Rattle.growth.specs.Written.{written, written-none, written-more, length-written, getD-written}
 use Rattle.lineage.specs.Olds.{firstChild, oldChild, oldsOf, oldsNext, upTo}
 use Rattle.lineage.specs.Paths.{length-upto}

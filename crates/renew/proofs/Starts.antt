@@ -1,21 +1,20 @@
 -- The building starts with the coarse cells, whose old numbers are their own.
 -- Assumes nothing.
 use mathlib.Core.Path.{_≡_, refl, _∙_, ap}
-use mathlib.Core.List.{List, flatMap}
+use mathlib.Core.List.{List, flatMap, flatten}
 use Prim.Native.Nat.{ℕ, _*_, _-_, _≤_}
 use native.Mathlib.Omega.{arith}
 use lib.ListN.{length, take}
-use Rattle.base.specs.Fours.{fours}
+use Rattle.base.specs.Fours.{fours, length-fours}
 use Rattle.mesh.specs.Weights.{coarseCells}
 use Rattle.rows.specs.Numbered.{part}
 use Rattle.growth.specs.Written.{written}
-use Rattle.lineage.specs.Olds.{concat, upTo}
+use Rattle.lineage.specs.Olds.{upTo}
 use Rattle.lineage.specs.Paths.{length-upto}
 use Rattle.lineage.specs.Closed.{owned-start}
 use Rattle.tables.specs.Here.{Here}
 use Rattle.tables.specs.Start.{coarseRow, Empty}
 use Rattle.tables.proofs.Begin.{here-start, cells-start}
-use Rattle.tables.proofs.CoarseRows.{length-fours}
 use Rattle.renew.specs.Result.{renewed}
 use Rattle.renew.specs.Going.{roomy, Going}
 use Rattle.renew.proofs.Writing.{part-written}
@@ -28,7 +27,7 @@ module _ (n : ℕ) (mesh rows xs ys heads links ps qs heads′ links′ : List �
   module _ (t : take (8 * count) rows₁ ≡ flatMap coarseRow (fours mesh)) (l : length rows₁ ≡ length rows)
       (ss fs old old₁ table : List ℕ) (o : old₁ ≡ written old 0 (upTo count)) (in-old : 4096 ≤ length old₁) (in-table : 4096 ≤ length table) where
     abbrev room : List ℕ
-    room = roomy (concat (renewed n (fours mesh) ss fs))
+    room = roomy (flatten (renewed n (fours mesh) ss fs))
 
     here : Here n (fours mesh) room 0 0 count rows₁ xs ys heads links 0 ps qs heads′ links′ 0
     here = here-start n mesh room rows xs ys heads links ps qs heads′ links′ s rows₁ count c t l

@@ -11,7 +11,7 @@ use Rattle.mesh.specs.Cells.{Cell, redb, edges, edge, redEdges, statusOf, patte
 use Rattle.mesh.specs.Weights.{Point}
 use Rattle.mesh.specs.Layout.{Corner, mapCell, numberIn}
 use Rattle.edges.specs.Pairs.{Pair, addPairs}
-use Rattle.lattice.specs.Every.{All}
+use Rattle.base.specs.Every.{All}
 use Rattle.numbering.specs.Tests.{cellsIn, edgeIn, Placed, red-edges-numbers, red-status-numbers}
 use Rattle.closure.specs.Ready.{redCount}
 use Rattle.closure.proofs.Steps.{length-reds}

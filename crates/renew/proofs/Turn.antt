@@ -3,19 +3,20 @@
 use mathlib.Core.Path.{_≡_, refl, sym, _∙_, ap}
 use mathlib.Core.Logic.{⊎-elim}
 use mathlib.Core.Bool.{true}
-use mathlib.Core.List.{List, [], _∷_, _++_, map, flatMap}
+use mathlib.Core.List.{List, [], _∷_, _++_, map, flatMap, flatten}
 use Prim.Native.Nat.{ℕ, suc, _+_, _-_, _≤_, _<_}
 use native.Mathlib.Omega.{arith}
 use lib.Dec.{T, leb}
 use lib.ListN.{length, take, drop, length-append, length-take}
-use Rattle.base.specs.Lists.{allb, is-true, sameb}
+use Rattle.base.specs.Lists.{allb, sameb}
+use Rattle.base.specs.Bools.{is-true}
 use Rattle.mesh.specs.Cells.{Cell, redEdges, closedFrom}
 use Rattle.mesh.specs.Weights.{Point, coarseCells}
-use Rattle.mesh.specs.Table.{next}
-use Rattle.rows.specs.Numbered.{cellsAt, part, sizes}
+use Rattle.mesh.specs.Table.{next, sizes}
+use Rattle.rows.specs.Numbered.{cellsAt, part}
 use Rattle.numbering.specs.Tests.{cellsIn}
 use Rattle.closure.specs.Ready.{redCount}
-use Rattle.lineage.specs.Olds.{growBy, concat, statusesBy, oldsNext, upTo}
+use Rattle.lineage.specs.Olds.{growBy, statusesBy, oldsNext, upTo}
 use Rattle.lineage.specs.Closed.{Owned, owned-start, owned-next, closed-by}
 use Rattle.lineage.specs.Levels.{length-statuses}
 use Rattle.rows.specs.Many.{length-next}
@@ -30,17 +31,17 @@ use Rattle.renew.specs.Going.{roomy, Going}
 use Rattle.renew.proofs.Grown.{grow-step, grow-none, grow-fit, statuses-fit, whole-length, rest-is, part-cut, take-is}
 use Rattle.renew.proofs.Statuses.{statuses-are, reds-are, counts-are}
 
-concat-one : (l : List ℕ) (ls : List (List ℕ)) → concat (l ∷ ls) ≡ l ++ concat ls
-unfolding flatMap
+concat-one : (l : List ℕ) (ls : List (List ℕ)) → flatten (l ∷ ls) ≡ l ++ flatten ls
+unfolding flatMap flatten
 concat-one l ls = refl
 
 -- the table as far as it has room is one of few statuses
-pub room-fits : (n : ℕ) (qs : List (List ℕ)) (ss fs : List ℕ) → Statuses (roomy (concat (renewed n qs ss fs)))
+pub room-fits : (n : ℕ) (qs : List (List ℕ)) (ss fs : List ℕ) → Statuses (roomy (flatten (renewed n qs ss fs)))
 room-fits n qs ss fs =
     let f = grow-fit (length qs) ss fs 12 0 (coarseCells n qs) (upTo (length qs)) (owned-start n qs .many) in
     record {
       few = simp length-take (omega arith);
-      fit = is-true _ (all-take (λ s. leb s 64) 4096 (concat (renewed n qs ss fs)) (rw f tt));
+      fit = is-true _ (all-take (λ s. leb s 64) 4096 (flatten (renewed n qs ss fs)) (rw f tt));
     }
 
 module _ (n : ℕ) (qs : List (List ℕ)) (ss fs : List ℕ) (j first last : ℕ) (rows xs ys heads links : List ℕ) (k : ℕ) (ps ps′ heads′ links′ : List ℕ) (m : ℕ)
@@ -58,7 +59,7 @@ module _ (n : ℕ) (qs : List (List ℕ)) (ss fs : List ℕ) (j first last : ℕ
   above = growBy (length qs) ss fs (11 - j) last (next first cells own) (oldsNext (length qs) ss own olds)
 
   abbrev pub all : List ℕ
-  all = concat (renewed n qs ss fs)
+  all = flatten (renewed n qs ss fs)
 
   tiny : length fs ≤ 65535
   tiny = omega arith
@@ -75,28 +76,28 @@ module _ (n : ℕ) (qs : List (List ℕ)) (ss fs : List ℕ) (j first last : ℕ
       rw e (grow-step (length qs) ss fs (11 - j) first cells olds (g .here .some))
       ∙ ap (λ (x : ℕ). own ∷ growBy (length qs) ss fs (11 - j) x (next first cells own) (oldsNext (length qs) ss own olds)) (sym (g .here .end))
 
-  split : drop first all ≡ own ++ concat above
-  split = g .rest ∙ ap concat step ∙ concat-one own above
+  split : drop first all ≡ own ++ flatten above
+  split = g .rest ∙ ap flatten step ∙ concat-one own above
 
   some : 0 < length own
   some = omega (arith, length-own, g .here .some)
 
-  pub total : length all ≡ last + length (concat above)
-  total = omega (arith, whole-length all first own (concat above) split some, end-own)
+  pub total : length all ≡ last + length (flatten above)
+  total = omega (arith, whole-length all first own (flatten above) split some, end-own)
 
-  pub rest-above : drop last all ≡ concat above
-  rest-above = rw end-own at (rest-is all first own (concat above) split some)
+  pub rest-above : drop last all ≡ flatten above
+  rest-above = rw end-own at (rest-is all first own (flatten above) split some)
 
   pub height-above : length (renewed n qs ss fs) ≡ suc j + length above
   height-above = g .height ∙ rw step (omega arith)
 
   pub front-own : take last all ≡ take first all ++ own
-  front-own = rw end-own at (take-is all first own (concat above) split some)
+  front-own = rw end-own at (take-is all first own (flatten above) split some)
 
   pub room-own : part (roomy all) first (last - first) ≡ own
   room-own =
       let e : last - first ≡ length own = omega (arith, end-own) in
-      ap (λ (x : ℕ). part (roomy all) first x) e ∙ part-cut all first own (concat above) split some 4096 (omega (arith, end-own, g .here .few))
+      ap (λ (x : ℕ). part (roomy all) first x) e ∙ part-cut all first own (flatten above) split some 4096 (omega (arith, end-own, g .here .few))
 
   pub room-cells : part (roomy all) first (length cells) ≡ own
   room-cells = let e : length cells ≡ last - first = omega (arith, g .here .end) in ap (λ (x : ℕ). part (roomy all) first x) e ∙ room-own
@@ -147,7 +148,7 @@ module _ (n : ℕ) (qs : List (List ℕ)) (ss fs : List ℕ) (j first last : ℕ
         omega (
           arith,
           total,
-          ap length (ap concat step-up ∙ concat-one up (over (10 - j))) ∙ length-append up (concat (over (10 - j))),
+          ap length (ap flatten step-up ∙ concat-one up (over (10 - j))) ∙ length-append up (flatten (over (10 - j))),
           length-statuses fs (next first cells own) (oldsNext (length qs) ss own olds) (owned-above .many),
           length-above,
         )
@@ -165,8 +166,8 @@ module _ (n : ℕ) (qs : List (List ℕ)) (ss fs : List ℕ) (j first last : ℕ
     nothing = grow-none (length qs) ss fs (11 - j) last (next first cells own) (oldsNext (length qs) ss own olds) (length-above ∙ none)
 
     pub all-length : length all ≡ last
-    unfolding flatMap
-    all-length = omega (arith, total, ap (λ (l : List (List ℕ)). length (concat l)) nothing)
+    unfolding flatMap flatten
+    all-length = omega (arith, total, ap (λ (l : List (List ℕ)). length (flatten l)) nothing)
 
     pub all-height : length (renewed n qs ss fs) ≡ suc j
     all-height = omega (arith, height-above, ap length nothing)

@@ -2,21 +2,21 @@
 -- Assumes nothing.
 use mathlib.Core.Path.{_≡_, refl, sym, _∙_, ap}
 use mathlib.Core.Logic.{inl, inr}
-use mathlib.Core.List.{List, _++_}
+use mathlib.Core.List.{List, _++_, flatten}
 use Prim.Native.Nat.{ℕ, suc, _+_, _-_, _≤_, _<_}
 use native.Mathlib.Omega.{arith}
 use lib.Dec.{leb, leb→le}
 use lib.ListN.{length, getD, take, drop, length-take}
 use lib.Seq.{getD-take, getD-drop, take-all}
 use Rattle.base.specs.Lists.{allb-at}
-use Rattle.mesh.specs.Table.{next}
+use Rattle.mesh.specs.Table.{next, sizes}
 use Rattle.edges.specs.Table.{Grown}
-use Rattle.rows.specs.Numbered.{part, sizes}
+use Rattle.rows.specs.Numbered.{part}
 use Rattle.closure.proofs.Steps.{length-reds}
-use Rattle.growth.specs.Parts.{length-cells, length-part}
+use Rattle.rows.specs.Laws.{length-cells, length-part}
 use Rattle.growth.specs.Written.{written, take-written}
 use Rattle.growth.specs.Level.{Roomy, Grows}
-use Rattle.lineage.specs.Olds.{concat, oldsNext}
+use Rattle.lineage.specs.Olds.{oldsNext}
 use Rattle.tables.specs.Checked as checked
 use Rattle.tables.specs.Checked.{Reds}
 use Rattle.tables.specs.Here.{Here, Top}
@@ -47,7 +47,7 @@ module _ (n : ℕ) (qs : List (List ℕ)) (ss fs rows ps ps′ table : List ℕ)
         sound = λ z. absurd (omega arith);
       }
 
-  pub result-many : refusal ≡ 9 → 4096 < length (concat (renewed n qs ss fs)) → Result n qs ss fs rows ps ps′ table refusal cells levels mids
+  pub result-many : refusal ≡ 9 → 4096 < length (flatten (renewed n qs ss fs)) → Result n qs ss fs rows ps ps′ table refusal cells levels mids
   result-many e h =
       record {
         one = inr (inr e);
@@ -86,7 +86,7 @@ module _ (n : ℕ) (qs : List (List ℕ)) (ss fs : List ℕ) (j first last : ℕ
   olds = part old first (last - first)
 
   abbrev all : List ℕ
-  all = concat (renewed n qs ss fs)
+  all = flatten (renewed n qs ss fs)
 
   whole : Whole fs old rows first last table xs ys k table₁ xs₁ ys₁ heads₁ links₁ k₁ size
   whole = d .whole fit

@@ -7,7 +7,7 @@ use native.Mathlib.Omega.{arith}
 use lib.ListN.{length, getD, take, drop, set}
 use lib.Seq.{set-split, getD-drop, take-at, drop-at, length-take-le, take-take, take-append-le}
 use Rattle.rows.specs.Numbered.{part}
-use Rattle.growth.specs.Parts.{part-more}
+use Rattle.rows.specs.Laws.{part-more}
 use Rattle.growth.specs.Written.{written, written-more, drop-written}
 
 set-one : (l : List ℕ) (i v : ℕ) → i < length l → set l i v ≡ written l i (v ∷ [])

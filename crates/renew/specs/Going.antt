@@ -3,11 +3,11 @@
 --   Going ..        the levels below j are made and laid out; the cells of level j are the rows from first to last, and the old
 --                   numbers in `old` are theirs
 use mathlib.Core.Path.{_≡_}
-use mathlib.Core.List.{List}
+use mathlib.Core.List.{List, flatten}
 use Prim.Native.Nat.{ℕ, _+_, _-_, _≤_}
 use lib.ListN.{length, take, drop}
 use Rattle.rows.specs.Numbered.{part}
-use Rattle.lineage.specs.Olds.{growBy, concat}
+use Rattle.lineage.specs.Olds.{growBy}
 use Rattle.lineage.specs.Closed.{Owned}
 use Rattle.tables.specs.Here.{Here}
 use Rattle.renew.specs.Result.{renewed}
@@ -18,10 +18,10 @@ roomy ss = take 4096 ss
 module _ (n : ℕ) (qs : List (List ℕ)) (ss fs : List ℕ) (j first last : ℕ) (rows xs ys heads links : List ℕ) (k : ℕ) (ps ps′ heads′ links′ : List ℕ) (m : ℕ)
     (old table : List ℕ) where
   pub record Going : Type 0 where
-    pub here : Here n qs (roomy (concat (renewed n qs ss fs))) j first last rows xs ys heads links k ps ps′ heads′ links′ m
+    pub here : Here n qs (roomy (flatten (renewed n qs ss fs))) j first last rows xs ys heads links k ps ps′ heads′ links′ m
     pub owned : Owned (here .cells) (part old first (last - first))
     pub height : length (renewed n qs ss fs) ≡ j + length (growBy (length qs) ss fs (12 - j) first (here .cells) (part old first (last - first)))
-    pub rest : drop first (concat (renewed n qs ss fs)) ≡ concat (growBy (length qs) ss fs (12 - j) first (here .cells) (part old first (last - first)))
-    pub front : take first table ≡ take first (concat (renewed n qs ss fs))
+    pub rest : drop first (flatten (renewed n qs ss fs)) ≡ flatten (growBy (length qs) ss fs (12 - j) first (here .cells) (part old first (last - first)))
+    pub front : take first table ≡ take first (flatten (renewed n qs ss fs))
     pub in-table : 4096 ≤ length table
     pub in-old : 4096 ≤ length old

@@ -19,7 +19,8 @@ use lib.ListN.{length, getD}
 use Rattle.mesh.specs.Cells.{Cell, none, redb, redEdges}
 use Rattle.edges.specs.Pairs.{Pair, addPairs}
 use Rattle.edges.specs.Table.{Grown}
-use Rattle.rows.specs.Numbered.{cellsAt, part, sizes}
+use Rattle.rows.specs.Numbered.{cellsAt, part}
+use Rattle.mesh.specs.Table.{sizes}
 use Rattle.closure.specs.Ready.{redCount, listedStatus}
 use Rattle.growth.specs.Written.{written}
 use Rattle.tables.specs.Checked.{Statuses}

@@ -5,11 +5,11 @@
 --   Result ..            the answer: 0, or 8 where a level above 10 would arise, or 9 where more than 4,096 cells would
 use mathlib.Core.Path.{_≡_}
 use mathlib.Core.Logic.{_⊎_}
-use mathlib.Core.List.{List}
+use mathlib.Core.List.{List, flatten}
 use Prim.Native.Nat.{ℕ, _≤_, _<_}
 use lib.ListN.{length, take}
 use Rattle.mesh.specs.Weights.{coarseCells}
-use Rattle.lineage.specs.Olds.{growBy, upTo, concat}
+use Rattle.lineage.specs.Olds.{growBy, upTo}
 use Rattle.tables.specs.Sound.{Sound}
 
 abbrev pub renewed : ℕ → List (List ℕ) → List ℕ → List ℕ → List (List ℕ)
@@ -27,8 +27,8 @@ pub record Room (xs ys heads links heads′ links′ old : List ℕ) : Type 0 wh
 pub record Result (n : ℕ) (qs : List (List ℕ)) (ss fs rows ps ps′ table : List ℕ) (refusal cells levels mids : ℕ) : Type 0 where
   pub one : (refusal ≡ 0) ⊎ ((refusal ≡ 8) ⊎ (refusal ≡ 9))
   pub high : refusal ≡ 8 → length (renewed n qs ss fs) ≡ 12
-  pub many : refusal ≡ 9 → 4096 < length (concat (renewed n qs ss fs))
+  pub many : refusal ≡ 9 → 4096 < length (flatten (renewed n qs ss fs))
   pub low : refusal ≡ 0 → length (renewed n qs ss fs) ≤ 11
-  pub counted : refusal ≡ 0 → length (concat (renewed n qs ss fs)) ≡ cells
-  pub table-is : refusal ≡ 0 → take cells table ≡ concat (renewed n qs ss fs)
-  pub sound : refusal ≡ 0 → Sound n qs (concat (renewed n qs ss fs)) rows ps ps′ cells levels mids
+  pub counted : refusal ≡ 0 → length (flatten (renewed n qs ss fs)) ≡ cells
+  pub table-is : refusal ≡ 0 → take cells table ≡ flatten (renewed n qs ss fs)
+  pub sound : refusal ≡ 0 → Sound n qs (flatten (renewed n qs ss fs)) rows ps ps′ cells levels mids

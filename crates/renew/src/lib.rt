@@ -2,13 +2,14 @@
 ghost use mathlib.Core.Path.{_≡_};
 ghost use Prim.Native.Nat.{ℕ, _+_, _*_, _-_, _≤_, _<_};
 ghost use lib.ListN.{length, getD};
-ghost use Rattle.base.specs.Lists.{one-if};
+ghost use Rattle.base.specs.Bools.{one-if};
 ghost use Rattle.base.specs.Fours.{fours};
 ghost use Rattle.base.specs.Lent.{was, is};
 ghost use Rattle.cutting.specs.Answer.{digitTable};
 ghost use Rattle.mesh.specs.Cells.{redb};
 ghost use Rattle.edges.specs.Table.{listed};
-ghost use Rattle.rows.specs.Numbered.{sizeOf, sizes, part};
+ghost use Rattle.mesh.specs.Table.{sizeOf, sizes};
+ghost use Rattle.rows.specs.Numbered.{part};
 ghost use Rattle.closure.specs.Ready.{Looks};
 ghost use Rattle.growth.specs.Written.{written};
 ghost use Rattle.lineage.specs.Olds.{flagOf, oldsOf, oldsNext, upTo};

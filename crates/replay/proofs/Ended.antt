@@ -9,11 +9,8 @@ use lib.ListN.{length, take}
 use lib.Seq.{length-take-le}
 use borrow.Author.Tests.{eq-eqb, ne-eqb}
 use Rattle.base.specs.Fours.{fours}
-use Rattle.base.specs.Refuse.{refuse}
+use Rattle.base.specs.Refuse.{refuse, andThen, answerOf, answer-refused}
 use Rattle.mesh.specs.Coarse.{cornerCount}
-use Rattle.layout.specs.Calls.{andThen}
-use Rattle.layout.specs.Opened.{answerOf}
-use Rattle.layout.proofs.Answers.{answer-refused}
 use Rattle.archive.specs.Tables.{pairs, stepsOf}
 use Rattle.replay.specs.Run.{restTable, tablesAnswer}
 use Rattle.replay.specs.Going.{Rested, Finished, endTable, Replayed}

@@ -9,7 +9,8 @@ use lib.Dec.{leb, ltb, leb·zero}
 use lib.ListN.{length, getD, take, drop, set, drop-of-length-le}
 use lib.Seq.{drop-cons, take-set-lt}
 use borrow.Author.Tests.{le-leb, lt-leb, lt-ltb, le-ltb, ltb-true}
-use Rattle.base.specs.Lists.{allb, and-left, and-right, is-true}
+use Rattle.base.specs.Lists.{allb}
+use Rattle.base.specs.Bools.{and-left, and-right, is-true}
 use Rattle.archive.specs.Tables.{pairs}
 use Rattle.replay.specs.Run.{spreadOver, risingb, markingb}
 use Rattle.replay.specs.Scan.{mayb, markingFrom}

@@ -14,6 +14,7 @@ use Rattle.mesh.specs.Cells.{Cell, edges, heldb, redEdges, closedFrom, statusOf
 use Rattle.mesh.specs.Weights.{Point, coarseFrom, coarseCells}
 use Rattle.mesh.specs.Table.{Level, next, levels, levelsOf, cellsOf, closedb, apartb, soundb}
 use Rattle.replay.specs.Run.{restTable}
+use Rattle.mesh.specs.Laws.{length-from}
 
 abbrev zeros : ℕ → List ℕ
 zeros k = replicate k 0
@@ -29,11 +30,6 @@ unfolding redEdges
 no-reds [] j = refl
 no-reds (c ∷ cs) zero = refl
 no-reds (c ∷ cs) (suc j) = no-reds cs j
-
-length-coarse : (n i : ℕ) (qs : List (List ℕ)) → length (coarseFrom n i qs) ≡ length qs
-unfolding coarseFrom
-length-coarse n i [] = refl
-length-coarse n i (q ∷ qs) = ap suc (length-coarse n (suc i) qs)
 
 all-closed : (n i : ℕ) (qs : List (List ℕ)) → closedFrom [] sameb [] (coarseFrom n i qs) (zeros (length qs)) ≡ true
 unfolding closedFrom coarseFrom statusOf pattern edges bitsOf heldb
@@ -52,7 +48,7 @@ pub rest-levels : (n : ℕ) (q : List ℕ) (qs : List (List ℕ))
 unfolding levelsOf levels coarseCells coarseFrom
 rest-levels n q qs =
     let t : take (length (coarseFrom n 1 qs)) (zeros (length qs)) ≡ zeros (length qs) =
-    take-all (length (coarseFrom n 1 qs)) (zeros (length qs)) (omega (arith, length-coarse n 1 qs, length-replicate {A = ℕ} (length qs) 0)) in
+    take-all (length (coarseFrom n 1 qs)) (zeros (length qs)) (omega (arith, length-from n 1 qs, length-replicate {A = ℕ} (length qs) 0)) in
     rw (t, no-children 1 (coarseFrom n 1 qs) (length qs))
 
 abbrev tests : List Level → List ℕ → Bool
@@ -73,7 +69,7 @@ module _ (n : ℕ) (qs : List (List ℕ)) where
 
   rest-count : length cs ≡ length qs
   unfolding coarseCells
-  rest-count = length-coarse n 0 qs
+  rest-count = length-from n 0 qs
 
   rest-closed : (k : ℕ) → closedb (record { first = k; cells = cs; statuses = restTable qs }) ≡ true
   unfolding closedb coarseCells

@@ -7,16 +7,15 @@ use native.Mathlib.Omega.{arith}
 use lib.IntN.{ℤ}
 use lib.ListN.{length, take, replicate, length-replicate}
 use lib.Seq.{take-at}
-use Rattle.base.specs.Fours.{fours}
-use Rattle.base.specs.Refuse.{refuse}
+use Rattle.base.specs.Fours.{fours, length-fours}
+use Rattle.base.specs.Refuse.{refuse, andThen, codeOf}
 use Rattle.base.specs.declared.Answer.{Answer}
 use Rattle.base.specs.declared.Answer.the-variants.{Accepted, Refused}
 use Rattle.mesh.specs.Coarse.{cornerCount, meshAnswer}
 use Rattle.mesh.specs.Table.{soundb}
 use Rattle.tables.specs.Sound.{Mesh}
-use Rattle.tables.proofs.CoarseRows.{length-fours}
-use Rattle.layout.specs.Calls.{andThen, tableAnswer}
-use Rattle.layout.specs.Opened.{codeOf, Opened}
+use Rattle.mesh.specs.Answers.{tableAnswer}
+use Rattle.layout.specs.Opened.{Opened}
 use Rattle.layout.proofs.Accepted.{mesh-passed}
 use Rattle.step.proofs.Answers.{opened-held}
 use Rattle.replay.specs.Run.{restTable}

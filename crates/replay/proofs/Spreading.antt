@@ -8,7 +8,7 @@ use Prim.Native.Nat.{ℕ, _+_, _≤_, _<_}
 use native.Mathlib.Omega.{arith}
 use lib.ListN.{length, getD, take, drop, set, replicate, length-replicate}
 use lib.Seq.{take-at}
-use Rattle.base.specs.Places.{not-both}
+use Rattle.base.specs.Bools.{not-both}
 use Rattle.archive.specs.Tables.{pairs}
 use Rattle.replay.specs.Run.{spreadOver, spread, markingb}
 use Rattle.replay.specs.Scan.{mayb, markingFrom, Spread}

@@ -8,12 +8,11 @@ use Prim.Native.Nat.{ℕ, _*_, _≤_}
 use native.Mathlib.Omega.{arith}
 use lib.ListN.{length, take, drop}
 use lib.Seq.{take-at, length-take-le}
-use Rattle.base.specs.Places.{not-both}
+use Rattle.base.specs.Bools.{not-both}
 use Rattle.base.specs.Fours.{fours}
-use Rattle.base.specs.Refuse.{refuse}
+use Rattle.base.specs.Refuse.{refuse, answerOf}
 use Rattle.mesh.specs.Table.{levelsOf}
-use Rattle.layout.specs.Opened.{answerOf}
-use Rattle.step.specs.Calls.{marksb, newTable}
+use Rattle.mesh.specs.Answers.{marksb, newTable}
 use Rattle.step.specs.Advanced.{Advanced}
 use Rattle.replay.specs.Run.{spread, oneAnswer, oneTable}
 use Rattle.replay.specs.Scan.{Spread, Fitting}

@@ -11,13 +11,10 @@ use lib.ListN.{length, getD, take, drop, drop-of-length-le}
 use lib.Seq.{drop-cons}
 use borrow.Author.Tests.{le-leb, lt-leb, eq-eqb, ne-eqb}
 use Rattle.base.specs.Fours.{fours}
-use Rattle.base.specs.Refuse.{refuse}
+use Rattle.base.specs.Refuse.{refuse, andThen, answerOf, answer-refused, answer-none}
 use Rattle.base.specs.declared.Answer.{Answer}
 use Rattle.base.specs.declared.Answer.the-variants.{Refused}
 use Rattle.mesh.specs.Table.{levelsOf}
-use Rattle.layout.specs.Calls.{andThen}
-use Rattle.layout.specs.Opened.{answerOf}
-use Rattle.layout.proofs.Answers.{answer-refused, answer-none}
 use Rattle.archive.specs.Tables.{pairs, stepsFrom}
 use Rattle.replay.specs.Run.{oneAnswer, oneTable, runTable, flatAnswer}
 use Rattle.replay.specs.Going.{Going, Next, partOf, nextAnswer, Finished}
@@ -45,12 +42,6 @@ pairs-take (suc j) (c ∷ cs) (m ∷ ms) = ap (λ (t : List (ℕ × ℕ)). (c, m
 
 pub pairs-part : (j p : ℕ) (cs ms : List ℕ) → pairs (take j (drop p cs)) (take j (drop p ms)) ≡ take j (drop p (pairs cs ms))
 pairs-part j p cs ms = pairs-take j (drop p cs) (drop p ms) ∙ ap (take j) (pairs-drop p cs ms)
-
-pub length-pairs : (cs ms : List ℕ) → length cs ≡ length ms → length (pairs cs ms) ≡ length cs
-unfolding pairs
-length-pairs [] ms e = refl
-length-pairs (c ∷ cs) [] e = absurd (omega arith)
-length-pairs (c ∷ cs) (m ∷ ms) e = ap suc (length-pairs cs ms (omega arith))
 
 -- the next step
 module _ (n : ℕ) (mesh old : List ℕ) (p e : ℕ) (ms : List (ℕ × ℕ)) (rows table : List ℕ) where

@@ -1,22 +1,18 @@
 -- The flat tables of a job replay to what the job does.
 --   tables-answer j   the same answer
 --   tables-table j    the same table
-use mathlib.Core.Path.{_≡_, refl, sym, _∙_, ap, ap₂}
-use mathlib.Core.Bool.{Bool, true, false, _&&_}
-use mathlib.Core.List.{List, [], _∷_, _++_, map, flatten}
-use Prim.Native.Nat.{ℕ, zero, suc, _+_, _-_, _≤_}
+use mathlib.Core.Path.{_≡_, refl, sym, _∙_, ap}
+use mathlib.Core.List.{List, [], _∷_, flatten}
+use Prim.Native.Nat.{ℕ, _+_, _-_, _≤_}
 use native.Mathlib.Omega.{arith}
-use lib.Dec.{eqb, leb}
 use lib.ListN.{length, take, drop, length-append, length-drop, length-map}
 use lib.Seq.{take-at, drop-at, drop-drop}
 use borrow.Author.Tests.{le-leb, eq-eqb}
 use Rattle.base.specs.Fours.{fours}
-use Rattle.base.specs.Refuse.{refuse}
-use Rattle.base.specs.declared.Answer.{Answer}
+use Rattle.base.specs.Refuse.{refuse, andThen}
 use Rattle.mesh.specs.Coarse.{cornerCount, meshAnswer}
-use Rattle.layout.specs.Calls.{andThen}
 use Rattle.archive.specs.Job.{Job}
-use Rattle.archive.specs.Tables.{Mark, cellOf, markOf, markedOf, marksOf, endsFrom, endsOf, pairs, stepsOf, pairs-back, steps-back}
+use Rattle.archive.specs.Tables.{Mark, cellOf, markOf, markedOf, marksOf, endsFrom, endsOf, pairs, pairs-back, steps-back}
 use Rattle.replay.specs.Run.{oneAnswer, oneTable, runAnswer, runTable, restTable, jobAnswer, jobTable, flatAnswer, tablesAnswer}
 use Rattle.replay.specs.Going.{endTable}
 

@@ -14,12 +14,11 @@ use lib.Dec.{T, leb}
 use lib.IntN.{ℤ}
 use lib.ListN.{length, take, drop}
 use Rattle.base.specs.Fours.{fours}
-use Rattle.base.specs.Refuse.{refuse}
+use Rattle.base.specs.Refuse.{refuse, answerOf}
 use Rattle.base.specs.declared.Answer.{Answer}
 use Rattle.mesh.specs.Coarse.{cornerCount, meshAnswer}
 use Rattle.mesh.specs.Table.{levelsOf, soundb}
-use Rattle.layout.specs.Opened.{answerOf}
-use Rattle.step.specs.Calls.{newTable, limitsAnswer}
+use Rattle.mesh.specs.Answers.{newTable, limitsAnswer}
 use Rattle.step.specs.Advanced.{Held}
 use Rattle.archive.specs.Tables.{stepsFrom, stepsOf}
 use Rattle.replay.specs.Run.{oneAnswer, oneTable, runTable, restTable, flatAnswer, tablesAnswer}

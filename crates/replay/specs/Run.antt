@@ -6,7 +6,7 @@
 --   jobAnswer j        the mesh, 1 to 5, and then the steps in turn
 --   jobTable j         the table that the job replays to
 --   flatAnswer, tablesAnswer   the same over flat tables
-use mathlib.Core.Bool.{Bool, true, false, _&&_}
+use mathlib.Core.Bool.{Bool, true, _&&_}
 use mathlib.Core.List.{List, [], _∷_}
 use Prim.Native.Nat.{ℕ, _-_}
 use lib.Dec.{eqb, leb, ltb}
@@ -14,12 +14,11 @@ use lib.IntN.{ℤ}
 use lib.ListN.{length, replicate, set, take, drop}
 use Rattle.base.specs.Lists.{allb}
 use Rattle.base.specs.Fours.{fours}
-use Rattle.base.specs.Refuse.{refuse}
+use Rattle.base.specs.Refuse.{refuse, andThen}
 use Rattle.base.specs.declared.Answer.{Answer}
 use Rattle.base.specs.declared.Answer.the-variants.{Accepted}
 use Rattle.mesh.specs.Coarse.{cornerCount, meshAnswer}
-use Rattle.layout.specs.Calls.{andThen}
-use Rattle.step.specs.Calls.{marksb, newTable, limitsAnswer}
+use Rattle.mesh.specs.Answers.{marksb, newTable, limitsAnswer}
 use Rattle.archive.specs.Job.{Job}
 use Rattle.archive.specs.Tables.{pairs}
 

@@ -9,7 +9,7 @@ use mathlib.Core.List.{List, [], _∷_}
 use Prim.Native.Nat.{ℕ, suc}
 use lib.Dec.{leb, ltb}
 use lib.ListN.{length, take}
-use Rattle.step.specs.Calls.{marksb}
+use Rattle.mesh.specs.Answers.{marksb}
 use Rattle.replay.specs.Run.{spread, markingb}
 
 unfoldable pub mayb : ℕ → ℕ → ℕ → ℕ → Bool

@@ -9,11 +9,12 @@ use lib.ListN.{length}
 use Rattle.base.specs.declared.Answer.the-variants.{Accepted}
 use Rattle.mesh.specs.Coarse.{cellsb}
 use Rattle.mesh.specs.Table.{soundb}
-use Rattle.lattice.specs.Every.{All}
+use Rattle.base.specs.Every.{All}
 use Rattle.soundness.specs.Steady.{step-sound}
-use Rattle.step.specs.Calls.{marksb, limitsAnswer}
+use Rattle.mesh.specs.Answers.{marksb, limitsAnswer}
 use Rattle.replay.specs.Run.{spread, markingb, oneAnswer, oneTable, runAnswer, runTable}
-use Rattle.replay.specs.Accepted.{passed, both, limits-within}
+use Rattle.base.specs.Refuse.{passed, both}
+use Rattle.replay.specs.Accepted.{limits-within}
 
 module _ (n : ℕ) (qs : List (List ℕ)) (four : All (λ q. length q ≡ 4) qs) (cells : T (cellsb n qs)) where
   pub one-sound : (t : List ℕ) (m : List (ℕ × ℕ)) → T (soundb n qs t) → oneAnswer n qs t m ≡ Accepted → T (soundb n qs (oneTable n qs t m))

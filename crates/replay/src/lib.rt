@@ -142,8 +142,8 @@ fn advance_here(
     if r.refusal != 0 {
         return failed(r.refusal);
     }
-    layout::copy(new_rows, 8 * r.cells, rows);
-    step::copy(new, r.cells, table);
+    base::copy_numbers(new_rows, 8 * r.cells, rows);
+    base::copy_bytes(new, r.cells, table);
     Ran {
         refusal: 0,
         cells: r.cells,

@@ -1,11 +1,10 @@
 -- The two corners of an edge in a table of rows.
 -- Assumes nothing.
 use mathlib.Core.Path.{_≡_, refl, ap₂}
-use mathlib.Core.List.{List, [], _∷_}
+use mathlib.Core.List.{List}
 use Prim.Native.Nat.{ℕ, zero, suc, _+_, _*_, _-_, _≤_, _<_}
 use native.Mathlib.Omega.{arith}
 use lib.ListN.{getD}
-use Rattle.cutting.specs.Rule.{low, high}
 use Rattle.mesh.specs.Cells.{edge}
 use Rattle.rows.specs.Numbered.{cellAt}
 use Rattle.rows.specs.EdgeEnds.{lows, highs}

@@ -1,3 +1,4 @@
 pub mod Numbered
 pub mod Many
 pub mod EdgeEnds
+pub mod Laws

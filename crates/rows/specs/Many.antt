@@ -11,12 +11,12 @@ use native.Mathlib.Omega.{arith}
 use lib.Dec.{T, eqb}
 use lib.ListN.{length, length-append}
 use borrow.Author.Tests.{ne-eqb}
-use Rattle.base.specs.Lists.{sameb, and-right}
+use Rattle.base.specs.Lists.{sameb}
+use Rattle.base.specs.Bools.{and-right}
 use Rattle.cutting.specs.Rule.{family}
 use Rattle.mesh.specs.Cells.{Cell, redb, patternOf, statusOf, closedFrom, children, childrenFrom}
 use Rattle.mesh.specs.Weights.{Point, point}
-use Rattle.mesh.specs.Table.{next}
-use Rattle.rows.specs.Numbered.{sizeOf, sizes}
+use Rattle.mesh.specs.Table.{next, sizeOf, sizes}
 
 length-from : {A : Type 0} (k : ℕ) (c : Cell A) (r : Bool) (f : ℕ → A) (i : ℕ) (ds : List (List ℕ)) → length (childrenFrom k c r f i ds) ≡ length ds
 unfolding childrenFrom

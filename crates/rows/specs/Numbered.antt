@@ -13,8 +13,8 @@ use mathlib.Core.Bool.{Bool, true, false}
 use mathlib.Core.List.{List, [], _∷_, _++_, map}
 use Prim.Native.Nat.{ℕ, zero, suc, _+_, _*_}
 use lib.Dec.{eqb}
-use lib.ListN.{length, getD, take, drop}
-use Rattle.base.specs.Lists.{one-if}
+use lib.ListN.{getD, take, drop}
+use Rattle.base.specs.Bools.{one-if}
 use Rattle.base.specs.Places.{placeIn}
 use Rattle.cutting.specs.Rule.{low, high, family}
 use Rattle.mesh.specs.Cells.{Cell, corner, redb, patternOf, children}
@@ -66,12 +66,3 @@ rowsFrom l k r f i (d ∷ ds) = (l ∷ k ∷ i ∷ one-if r ∷ map f d) ++ rows
 unfoldable pub rowsOf : ℕ → ℕ → ℕ → (ℕ → ℕ) → List ℕ
 unfolding rowsFrom patternOf
 rowsOf l k s f = elim (eqb s 0) [ true ↦ [] | false ↦ rowsFrom l k (redb s) f 0 (family (patternOf s)) ]
-
-unfoldable pub sizeOf : ℕ → ℕ
-unfolding patternOf
-sizeOf s = elim (eqb s 0) [ true ↦ 0 | false ↦ length (family (patternOf s)) ]
-
-unfoldable pub sizes : List ℕ → ℕ
-unfolding sizeOf
-sizes [] = 0
-sizes (s ∷ ss) = sizeOf s + sizes ss

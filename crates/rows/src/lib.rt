@@ -1,7 +1,6 @@
 // The table of cells over corner numbers: rows of eight, level, parent, child number, 1 where regular, four corners.
 ghost use mathlib.Core.Path.{_≡_};
 ghost use Prim.Native.Nat.{_+_, _*_, _≤_, _<_};
-ghost use lib.Dec.{eqb};
 ghost use lib.ListN.{length, getD};
 ghost use Rattle.base.specs.Lent.{was};
 ghost use Rattle.mesh.specs.Cells.{edge};

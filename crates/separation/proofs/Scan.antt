@@ -1,19 +1,19 @@
 -- Scans of the six edges of a cell and of the cells of a table: the rest decides as the whole does.
 -- Assumes nothing.
-use mathlib.Core.Path.{_≡_, refl, sym, _∙_, ap}
-use mathlib.Core.Bool.{Bool, true, false, _&&_, _||_, not, or-true, or-false}
+use mathlib.Core.Path.{_≡_, refl, sym, _∙_}
+use mathlib.Core.Bool.{Bool, true, false, _||_, not, or-true, or-false}
 use lib.Dec.{eqb}
 use Rattle.base.specs.Places.{hasb}
-use mathlib.Core.List.{List, [], _∷_}
-use Prim.Native.Nat.{ℕ, zero, suc, _+_, _*_, _-_, _≤_, _<_}
+use mathlib.Core.List.{List, _∷_}
+use Prim.Native.Nat.{ℕ, zero, suc, _+_, _*_, _-_, _<_}
 use native.Mathlib.Omega.{arith}
-use lib.ListN.{length, getD, drop}
+use lib.ListN.{getD, drop}
 use Rattle.base.specs.Lists.{allb, anyb}
 use Rattle.mesh.specs.Cells.{Cell, edge, edges, heldb}
 use Rattle.rows.specs.Numbered.{cellAt, cellsAt}
 use Rattle.edges.specs.Pairs.{Pair, isb, sorted}
 use Rattle.closure.specs.Ready.{listedApart}
-use Rattle.closure.proofs.Closed.{cells-cons}
+use Rattle.rows.specs.Laws.{cells-cons}
 
 drop-edge : (c : Cell ℕ) (e : ℕ) → e < 6 → drop e (edges 0 c) ≡ edge 0 c e ∷ drop (suc e) (edges 0 c)
 unfolding edges

@@ -2,7 +2,7 @@
 --   Parents t last       the parent of each irregular cell below `last` is below it too
 --   apartAll es t last   the condition holds at each of the cells below `last`
 use mathlib.Core.Path.{_≡_}
-use mathlib.Core.Bool.{Bool, true, false}
+use mathlib.Core.Bool.{Bool, false}
 use mathlib.Core.List.{List}
 use Prim.Native.Nat.{ℕ, _+_, _*_, _<_}
 use lib.ListN.{getD}

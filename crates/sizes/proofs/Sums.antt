@@ -1,22 +1,23 @@
 -- Sizes of statuses and of lists of them.
 -- Assumes nothing.
 use mathlib.Core.Path.{_≡_, refl, sym, _∙_, ap}
-use mathlib.Core.Bool.{Bool, true, false, _&&_}
-use mathlib.Core.List.{List, [], _∷_, _++_}
-use Prim.Native.Nat.{ℕ, zero, suc, _+_, _*_, _-_, _≤_, _<_}
-use native.Mathlib.Nat.{zero-add}
+use mathlib.Core.Bool.{true, false}
+use mathlib.Core.List.{List, [], _∷_}
+use Prim.Native.Nat.{ℕ, suc, _+_, _-_, _≤_, _<_}
 use native.Mathlib.Omega.{arith}
-use lib.Dec.{T, eqb, leb, leb→le}
-use lib.ListN.{length, getD, take, drop, length-drop}
+use lib.Dec.{leb, leb→le}
+use lib.ListN.{length, getD, drop, length-drop}
 use lib.Seq.{drop-cons, take-suc, getD-drop}
 use borrow.Author.Tests.{eq-eqb, ne-eqb, le-leb, lt-leb}
 use Rattle.base.specs.Lists.{allb, allb-at}
 use Rattle.cutting.specs.Rule.{family}
 use Rattle.cutting.specs.declared.Family.{Family}
 use Rattle.cutting.specs.Answer.{cutOf, cutInto, cutOf-accepted}
-use Rattle.cutting.proofs.Table.{family-few}
+use Rattle.cutting.specs.Rows.{family-few}
 use Rattle.mesh.specs.Cells.{patternOf}
-use Rattle.rows.specs.Numbered.{sizeOf, sizes, part}
+use Rattle.mesh.specs.Table.{sizeOf, sizes}
+use Rattle.rows.specs.Numbered.{part}
+use Rattle.mesh.specs.Laws.{sizes-append, sizes-one}
 
 -- the three cases of a status
 pub size-leaf : (s : ℕ) → s ≡ 0 → sizeOf s ≡ 0
@@ -46,15 +47,6 @@ size-green s a b h = size-refined s a ∙ rw (pattern-green s b) (sym (ap (λ (f
 pub green-few : (s : ℕ) → (s ≡ 64 → ⊥) → s ≤ 64 → cutOf s .count ≤ 8
 unfolding cutInto
 green-few s b h = rw (cutOf-accepted s (omega (arith, b))) (family-few s (omega (arith, b)))
-
-pub sizes-append : (ss ts : List ℕ) → sizes (ss ++ ts) ≡ sizes ss + sizes ts
-unfolding sizes
-sizes-append [] ts = sym (zero-add (sizes ts))
-sizes-append (s ∷ ss) ts = omega (arith, sizes-append ss ts)
-
-sizes-one : (s : ℕ) → sizes (s ∷ []) ≡ sizeOf s
-unfolding sizes
-sizes-one s = omega arith
 
 pub sizes-step : (l : List ℕ) (first c : ℕ) → first ≤ c → c < length l
     → sizes (part l first (c + 1 - first)) ≡ sizes (part l first (c - first)) + sizeOf (getD l c 0)

@@ -1,12 +1,13 @@
 // How many cells a level's statuses make one level up.
 ghost use mathlib.Core.Path.{_≡_};
 ghost use mathlib.Core.Bool.{true};
-ghost use Prim.Native.Nat.{_+_, _*_, _-_, _≤_, _<_};
+ghost use Prim.Native.Nat.{_+_, _-_, _≤_, _<_};
 ghost use lib.Dec.{leb};
 ghost use lib.ListN.{length};
 ghost use Rattle.base.specs.Lists.{allb};
 ghost use Rattle.base.specs.Lent.{was};
-ghost use Rattle.rows.specs.Numbered.{sizeOf, sizes, part};
+ghost use Rattle.mesh.specs.Table.{sizeOf, sizes};
+ghost use Rattle.rows.specs.Numbered.{part};
 
 // Whether each status is one: 0 to 64.
 pub fn fits(status: &[u8]) -> bool

@@ -8,13 +8,13 @@ use Prim.Native.Nat.{ℕ, _<_}
 use native.Mathlib.Omega.{arith}
 use lib.Dec.{T}
 use lib.ListN.{length, getD}
-use Rattle.base.specs.Lists.{allb, allb-at, sameb, is-false}
-use Rattle.mesh.specs.Cells.{Cell, edge, edges, heldb, redEdges}
+use Rattle.base.specs.Lists.{allb, allb-at, sameb}
+use Rattle.base.specs.Bools.{is-false, or-either}
+use Rattle.mesh.specs.Cells.{Cell, edge, edges, heldb, redEdges, noCell}
 use Rattle.mesh.specs.Weights.{Point}
 use Rattle.mesh.specs.Table.{apartb}
-use Rattle.lineage.specs.Born.{noCell}
-use Rattle.lattice.specs.Edges.{or-either}
-use Rattle.carriers.specs.Lists.{all-each, edge-at, edge-count}
+use Rattle.base.specs.Every.{all-each}
+use Rattle.carriers.specs.Lists.{edge-at, edge-count}
 
 module _ (cs : List (Cell Point)) (ss : List ℕ) where
   abbrev pub parentOf : Cell Point → Cell Point

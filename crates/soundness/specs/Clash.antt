@@ -9,18 +9,17 @@ use Prim.Native.Nat.{ℕ, suc, _+_, _<_}
 use native.Mathlib.Omega.{arith}
 use lib.Dec.{T}
 use lib.ListN.{length, getD}
-use Rattle.base.specs.Lists.{sameb, is-true}
-use Rattle.base.specs.Places.{not-both}
+use Rattle.base.specs.Lists.{sameb}
+use Rattle.base.specs.Bools.{is-true, not-both}
 use Rattle.cutting.specs.Rule.{family}
 use Rattle.families.specs.Faces.{joinedb}
-use Rattle.mesh.specs.Cells.{Cell, redb, edge, edges, joinsb, heldb, redEdges}
+use Rattle.mesh.specs.Cells.{Cell, redb, edge, edges, joinsb, heldb, redEdges, noCell}
 use Rattle.mesh.specs.Weights.{Point, point}
 use Rattle.mesh.specs.Table.{levelsOf, cellsOf}
-use Rattle.lattice.specs.Every.{All}
+use Rattle.base.specs.Every.{All}
 use Rattle.lattice.specs.Levels.{IfRegular}
-use Rattle.lineage.specs.Born.{noCell}
 use Rattle.carriers.specs.Lists.{held-at}
-use Rattle.carriers.specs.Tests.{joined-mid}
+use Rattle.families.specs.Joining.{joined-mid}
 use Rattle.carriers.specs.Level.{not-own}
 use Rattle.carriers.specs.Joins.{Edge, joins-sym, joins-trans}
 use Rattle.soundness.specs.Held.{red-at, red-regular, regular-at}

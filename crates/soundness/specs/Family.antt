@@ -10,14 +10,13 @@ use Prim.Native.Nat.{ℕ, _+_, _<_}
 use lib.Dec.{T}
 use lib.ListN.{length, getD, take}
 use borrow.Author.Tests.{eqb-true}
-use Rattle.base.specs.Lists.{is-true}
+use Rattle.base.specs.Bools.{is-true}
 use Rattle.cutting.specs.Rule.{family}
-use Rattle.mesh.specs.Cells.{Cell, redb, patternOf}
+use Rattle.mesh.specs.Cells.{Cell, redb, patternOf, noCell}
 use Rattle.mesh.specs.Weights.{Point, point}
-use Rattle.mesh.specs.Table.{Level, next}
-use Rattle.rows.specs.Numbered.{sizes}
-use Rattle.lineage.specs.Born.{noCell, childOf, Born, born, born-below, born-at}
-use Rattle.carriers.specs.Child.{digitsOf}
+use Rattle.mesh.specs.Table.{Level, next, sizes}
+use Rattle.lineage.specs.Born.{childOf, Born, born, born-below, born-at}
+use Rattle.families.specs.Children.{digitsOf}
 
 pub record RedChild (l : Level) (c : Cell Point) : Type 0 where
   -- the parent's place, and the child's number

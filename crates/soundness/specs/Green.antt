@@ -11,21 +11,21 @@ use lib.ListN.{length, getD, drop}
 use lib.Seq.{drop-cons}
 use borrow.Author.Tests.{ne-eqb}
 use Rattle.base.specs.Lists.{sameb}
-use Rattle.base.specs.Places.{not-both}
+use Rattle.base.specs.Bools.{not-both}
 use Rattle.cutting.specs.Rule.{family}
-use Rattle.mesh.specs.Cells.{Cell, redb, patternOf, edge, edges, joinsb, heldb}
+use Rattle.mesh.specs.Cells.{Cell, redb, patternOf, edge, edges, joinsb, heldb, noCell}
 use Rattle.mesh.specs.Weights.{Point, point}
 use Rattle.mesh.specs.Table.{Level, levelsOf, closedb}
-use Rattle.lattice.specs.Every.{All}
+use Rattle.base.specs.Every.{All}
 use Rattle.lattice.specs.Levels.{noLevel, IfRegular}
 use Rattle.lattice.specs.Regular.{Regular}
-use Rattle.lineage.specs.Born.{noCell}
 use Rattle.lineage.specs.Same.{Fresh}
 use Rattle.lineage.specs.Flags.{newRedAt}
 use Rattle.lineage.specs.Met.{Matched, Fostered, oldAbove}
 use Rattle.carriers.specs.Lists.{held-which}
 use Rattle.carriers.specs.Carrier.{shared-edge}
-use Rattle.carriers.specs.Child.{digitsOf, lowDigit, highDigit, digits-rise, digits-below, digits-joined, child-edge}
+use Rattle.families.specs.Children.{digitsOf, lowDigit, highDigit, digits-rise, digits-below}
+use Rattle.carriers.specs.Child.{digits-joined, child-edge}
 use Rattle.soundness.specs.Held.{red-regular, regular-at}
 use Rattle.soundness.specs.Family.{RedChild, red-child}
 use Rattle.soundness.specs.Turn.{turns}

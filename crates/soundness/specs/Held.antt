@@ -2,7 +2,7 @@
 --   RedHas cs ss e   a red cell of cs, with statuses ss, has the edge e
 -- Laws: red-which, red-at (the edges of red cells), closed-at, closed-length (the statuses of a closed level), red-regular (its red
 -- cells are regular), regular-at (a regular cell of a level).
-use mathlib.Core.Path.{_≡_, refl, ap}
+use mathlib.Core.Path.{_≡_, refl}
 use mathlib.Core.Logic.{⊎-elim}
 use mathlib.Core.Bool.{Bool, true, false}
 use mathlib.Core.List.{List, [], _∷_, _++_}
@@ -11,15 +11,15 @@ use native.Mathlib.Omega.{arith}
 use lib.Dec.{T, eqb, eqb→eq}
 use lib.ListN.{length, getD}
 use borrow.Author.Tests.{eqb-true}
-use Rattle.base.specs.Lists.{sameb, anyb, and-left, and-right}
-use Rattle.mesh.specs.Cells.{Cell, redb, edges, heldb, redEdges, statusOf, closedFrom}
+use Rattle.base.specs.Lists.{sameb, anyb}
+use Rattle.base.specs.Bools.{and-left, and-right}
+use Rattle.mesh.specs.Cells.{Cell, redb, edges, heldb, redEdges, statusOf, closedFrom, noCell}
 use Rattle.mesh.specs.Weights.{Point}
 use Rattle.mesh.specs.Table.{Level, closedb}
 use Rattle.rows.specs.Many.{closed-many}
-use Rattle.lattice.specs.Every.{All, all-at}
+use Rattle.base.specs.Every.{All, all-at}
 use Rattle.lattice.specs.Regular.{Regular}
 use Rattle.lattice.specs.Levels.{IfRegular}
-use Rattle.lineage.specs.Born.{noCell}
 use Rattle.carriers.specs.Joins.{Edge, held-first, held-second, held-either}
 use Rattle.carriers.specs.Refined.{StatusIn, status-regular}
 

@@ -4,17 +4,16 @@
 use mathlib.Core.Path.{_≡_, refl, sym, ap, subst}
 use mathlib.Core.Logic.{_⊎_}
 use mathlib.Core.Bool.{false}
-use mathlib.Core.List.{List, []}
+use mathlib.Core.List.{List, [], flatten}
 use Prim.Native.Nat.{ℕ, suc, _<_}
 use lib.Dec.{T}
 use lib.ListN.{length, getD}
 use Rattle.cutting.specs.Rule.{low, high}
-use Rattle.mesh.specs.Cells.{Cell, redb, edge, edges}
+use Rattle.mesh.specs.Cells.{Cell, redb, edge, edges, noCell}
 use Rattle.mesh.specs.Weights.{Point, point, mid}
 use Rattle.mesh.specs.Table.{Level, levelsOf, soundb}
 use Rattle.lattice.specs.Levels.{noLevel}
-use Rattle.lineage.specs.Olds.{concat, stepBy}
-use Rattle.lineage.specs.Born.{noCell}
+use Rattle.lineage.specs.Olds.{stepBy}
 use Rattle.lineage.specs.Same.{Fresh}
 use Rattle.lineage.specs.Levels.{new-levels}
 use Rattle.lineage.specs.Met.{Matched, Fostered, oldAt, oldAbove, met, met-coarse, fostered}
@@ -27,7 +26,7 @@ pub record Meets (n : ℕ) (qs : List (List ℕ)) (ss ms : List ℕ) (ls : List 
   pub parent : (j i : ℕ) → i < length (getD ls (suc j) noLevel .cells) → T (getD (getD ls (suc j) noLevel .cells) i noCell .regular)
       → Fresh (oldAt n qs ss (suc j)) (getD (getD ls (suc j) noLevel .cells) i noCell) → Fostered (oldAt n qs ss j) (getD ls j noLevel) (getD (getD ls (suc j) noLevel .cells) i noCell)
 
-pub meets-step : (n : ℕ) (qs : List (List ℕ)) (ss ms : List ℕ) → T (soundb n qs ss) → Meets n qs ss ms (levelsOf n qs (concat (stepBy n qs ss ms)))
+pub meets-step : (n : ℕ) (qs : List (List ℕ)) (ss ms : List ℕ) → T (soundb n qs ss) → Meets n qs ss ms (levelsOf n qs (flatten (stepBy n qs ss ms)))
 meets-step n qs ss ms t =
     subst (Meets n qs ss ms) (sym (new-levels n qs ss ms))
     (record { each = met n qs ss ms t; first = met-coarse n qs ss ms t; parent = fostered n qs ss ms t })

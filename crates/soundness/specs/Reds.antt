@@ -10,15 +10,16 @@ use native.Mathlib.Omega.{arith}
 use lib.Dec.{T, eqb}
 use lib.ListN.{length, getD}
 use borrow.Author.Tests.{eq-eqb, ne-eqb}
-use Rattle.base.specs.Lists.{allb, anyb, filterb, sameb, is-true}
-use Rattle.mesh.specs.Cells.{Cell, redb, edge, edges, heldb}
+use Rattle.base.specs.Lists.{allb, anyb, filterb, sameb}
+use Rattle.base.specs.Bools.{is-true}
+use Rattle.mesh.specs.Cells.{Cell, redb, edge, edges, heldb, noCell}
 use Rattle.mesh.specs.Weights.{Point}
 use Rattle.mesh.specs.Table.{Level}
-use Rattle.mesh.specs.Step.{Row, rows, kids, deletedb, turnedb, newRedb, rowsUp, edgesUp, newReds}
-use Rattle.lineage.specs.Born.{noCell}
+use Rattle.mesh.specs.Step.{Row, rows, kids, deletedb, turnedb, newRedb, rowsUp, edgesUp, newReds, redAfterb}
 use Rattle.lineage.specs.Same.{rowOf}
 use Rattle.lineage.specs.Flags.{noRow, newRedAt, length-rows, rows-at, any-chosen}
-use Rattle.carriers.specs.Lists.{any-at, edge-at, edge-count}
+use Rattle.base.specs.Every.{any-at}
+use Rattle.carriers.specs.Lists.{edge-at, edge-count}
 use Rattle.carriers.specs.Joins.{Edge, held-first, held-second}
 
 abbrev edgesOf : List Row → List Edge
@@ -97,9 +98,9 @@ module _ (l : Level) (ms : List ℕ) (known : length (l .statuses) ≡ length (l
       any-chosen noRow mine turns (rows l ms) u long is-mine (ap turns at ∙ rw w (or-true (eqb (getD ms (l .first + u) 0) 1)))
 
   pub new-red-by : r .status ≢ 0 → heldb sameb (edges [] (r .cell)) (edge [] c y) ≡ false → newRedb (rows l ms) es r ≡ true
-  unfolding newRedb
+  unfolding redAfterb
   new-red-by z n = go (redb (r .status)) refl
     where
       go : (b : Bool) → redb (r .status) ≡ b → newRedb (rows l ms) es r ≡ true
-      go true q = rw (q, newRedb) (rw not-deleted refl)
-      go false q = rw (q, ne-eqb (r .status) 0 z, newRedb) (turned (edges [] (r .cell)) n)
+      go true q = rw (q, redAfterb) (rw not-deleted refl)
+      go false q = rw (q, ne-eqb (r .status) 0 z, redAfterb) (turned (edges [] (r .cell)) n)

@@ -12,13 +12,13 @@ use native.Mathlib.Omega.{arith}
 use lib.Dec.{T, eqb, leb, eqb→eq, leb→le}
 use lib.ListN.{length, getD, List·getD-eq-default}
 use borrow.Author.Tests.{eq-eqb, le-leb}
-use Rattle.base.specs.Lists.{allb, allb-at, and-left, and-right}
+use Rattle.base.specs.Lists.{allb, allb-at}
+use Rattle.base.specs.Bools.{and-left, and-right, and-both}
 use Rattle.mesh.specs.Cells.{closedFrom}
 use Rattle.mesh.specs.Weights.{coarseCells}
 use Rattle.mesh.specs.Table.{Level, next, levelsOf, cellsOf, closedb, apartb, soundb}
 use Rattle.lattice.specs.Levels.{noLevel}
 use Rattle.lineage.specs.Levels.{levels-next}
-use Rattle.carriers.specs.Lists.{and-both}
 
 pub record Sound (n : ℕ) (qs : List (List ℕ)) (ss : List ℕ) : Type 0 where
   pub many : length ss ≡ length (cellsOf (levelsOf n qs ss))

@@ -10,11 +10,10 @@ use native.Mathlib.Decide.{decLt}
 use native.Mathlib.Omega.{arith}
 use lib.ListN.{length, getD, take, drop, length-append, List·getD-append}
 use lib.Seq.{getD-append-add, getD-take, getD-drop}
-use Rattle.mesh.specs.Cells.{Cell}
+use Rattle.mesh.specs.Cells.{Cell, noCell}
 use Rattle.mesh.specs.Weights.{Point}
 use Rattle.mesh.specs.Table.{Level, levels, next, cellsOf}
 use Rattle.lattice.specs.Levels.{noLevel}
-use Rattle.lineage.specs.Born.{noCell}
 
 pub record Spot (ls : List Level) (k : ℕ) (rs : List ℕ) (j p : ℕ) : Type 0 where
   -- how many cells stand on the levels below

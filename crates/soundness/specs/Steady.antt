@@ -3,29 +3,30 @@
 use mathlib.Core.Path.{_≡_, sym, _∙_, ap, subst}
 use mathlib.Core.Logic.{_⊎_, ⊎-elim}
 use mathlib.Core.Bool.{false}
-use mathlib.Core.List.{List, []}
+use mathlib.Core.List.{List, [], flatten}
 use Prim.Native.Nat.{ℕ, suc, zero, _≤_, _<_}
 use native.Mathlib.Omega.{arith}
 use lib.Dec.{T}
 use lib.ListN.{length, getD}
-use Rattle.base.specs.Lists.{allb, sameb, is-true}
-use Rattle.base.specs.Places.{not-both}
+use Rattle.base.specs.Lists.{allb, sameb}
+use Rattle.base.specs.Bools.{is-true, not-both}
 use Rattle.cutting.specs.Rule.{low, high}
-use Rattle.mesh.specs.Cells.{Cell, redb, patternOf, edge, edges, heldb, redEdges}
+use Rattle.mesh.specs.Cells.{Cell, redb, patternOf, edge, edges, heldb, redEdges, noCell}
 use Rattle.mesh.specs.Weights.{Point, point}
 use Rattle.mesh.specs.Coarse.{cellsb}
 use Rattle.mesh.specs.Table.{levelsOf, cellsOf, closedb, apartb, soundb}
 use Rattle.mesh.specs.Step.{stepTable}
-use Rattle.lattice.specs.Every.{All}
+use Rattle.base.specs.Every.{All}
 use Rattle.lattice.specs.Levels.{IfRegular}
 use Rattle.lattice.specs.Regular.{Regular}
 use Rattle.lattice.specs.Facts.{level-regular, sound-regular}
-use Rattle.lineage.specs.Olds.{concat, stepBy}
-use Rattle.lineage.specs.Born.{noCell, Born}
+use Rattle.lineage.specs.Olds.{stepBy}
+use Rattle.lineage.specs.Born.{Born}
 use Rattle.lineage.specs.Step.{step-by}
 use Rattle.carriers.specs.Level.{next-level}
 use Rattle.carriers.specs.Joins.{Edge}
-use Rattle.carriers.specs.Child.{lowDigit, highDigit, digits-rise, digits-below, child-edge, own-or-mid}
+use Rattle.families.specs.Children.{lowDigit, highDigit, digits-rise, digits-below}
+use Rattle.carriers.specs.Child.{child-edge, own-or-mid}
 use Rattle.carriers.specs.Refined.{status-regular, pattern-small}
 use Rattle.soundness.specs.Held.{closed-at, red-regular, regular-at}
 use Rattle.soundness.specs.Apart.{parentOf, apart-from}
@@ -86,9 +87,9 @@ module _ (n : ℕ) (qs : List (List ℕ)) (ss ms ts : List ℕ) (old : Sound n q
       cell-apart (o .j) (o .p) (o .below) (rw e at r) y hy (rw e at own) (rw e at (red-level n qs ts (edge [] (getD (cellsOf (levelsOf n qs ts)) i noCell) y) held)))
 
 sound-by : (n : ℕ) (qs : List (List ℕ)) (ss ms : List ℕ) → All (λ q. length q ≡ 4) qs → T (cellsb n qs) → T (soundb n qs ss)
-    → length (stepBy n qs ss ms) ≤ 11 → length (concat (stepBy n qs ss ms)) ≤ 4096 → T (soundb n qs (concat (stepBy n qs ss ms)))
+    → length (stepBy n qs ss ms) ≤ 11 → length (flatten (stepBy n qs ss ms)) ≤ 4096 → T (soundb n qs (flatten (stepBy n qs ss ms)))
 sound-by n qs ss ms four cells sound high few =
-    let ts = concat (stepBy n qs ss ms) in
+    let ts = flatten (stepBy n qs ss ms) in
     let closed = new-closed n qs ss ms sound in
     let low : length (levelsOf n qs ts) ≤ 11 = rw (new-high n qs ss ms) high in
     sound-from n qs ts (record {
@@ -100,5 +101,5 @@ sound-by n qs ss ms four cells sound high few =
     })
 
 pub step-sound : (n : ℕ) (qs : List (List ℕ)) (ss ms : List ℕ) → All (λ q. length q ≡ 4) qs → T (cellsb n qs) → T (soundb n qs ss)
-    → length (stepTable n qs ss ms) ≤ 11 → length (concat (stepTable n qs ss ms)) ≤ 4096 → T (soundb n qs (concat (stepTable n qs ss ms)))
+    → length (stepTable n qs ss ms) ≤ 11 → length (flatten (stepTable n qs ss ms)) ≤ 4096 → T (soundb n qs (flatten (stepTable n qs ss ms)))
 step-sound n qs ss ms four cells sound = rw (step-by n qs ss ms sound) (sound-by n qs ss ms four cells sound)

@@ -10,20 +10,20 @@ use Prim.Native.Nat.{ℕ, _<_}
 use native.Mathlib.Omega.{arith}
 use lib.Dec.{T}
 use lib.ListN.{length, getD}
-use Rattle.base.specs.Lists.{sameb, is-true}
-use Rattle.base.specs.Places.{not-both}
-use Rattle.mesh.specs.Cells.{Cell, patternOf, edge, edges, joinsb, heldb, redEdges}
+use Rattle.base.specs.Lists.{sameb}
+use Rattle.base.specs.Bools.{is-true, not-both}
+use Rattle.mesh.specs.Cells.{Cell, patternOf, edge, edges, joinsb, heldb, redEdges, noCell}
 use Rattle.mesh.specs.Weights.{Point, point}
 use Rattle.mesh.specs.Table.{Level, next, closedb}
 use Rattle.mesh.specs.Step.{rowsUp, edgesUp, newReds}
-use Rattle.lattice.specs.Every.{All}
+use Rattle.base.specs.Every.{All}
 use Rattle.lattice.specs.Levels.{IfRegular}
-use Rattle.lineage.specs.Born.{noCell}
 use Rattle.lineage.specs.Same.{rowOf}
 use Rattle.lineage.specs.Flags.{newRedAt}
 use Rattle.carriers.specs.Lists.{held-at}
 use Rattle.carriers.specs.Joins.{Edge, joins-sym, joins-trans, held-joined}
-use Rattle.carriers.specs.Child.{lowDigit, highDigit, digits-rise, digits-below, digits-joined, child-edge, EdgeAt, edge-child, edge-joins}
+use Rattle.families.specs.Children.{lowDigit, highDigit, digits-rise, digits-below}
+use Rattle.carriers.specs.Child.{digits-joined, child-edge, EdgeAt, edge-child, edge-joins}
 use Rattle.carriers.specs.Refined.{pattern-small, joined-here, refined-here}
 use Rattle.soundness.specs.Held.{red-at, closed-at, closed-length, red-regular, regular-at}
 use Rattle.soundness.specs.Reds.{held-up, new-red-by}

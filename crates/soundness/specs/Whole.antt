@@ -1,20 +1,19 @@
 -- The cells of a whole table by level and place.
 --   RedAt n qs ss j e       a red cell of the level j has the edge e
 --   RedSomewhere n qs ss e  a red cell of some level has it
--- Laws: any-default (an element that is there), spot-at, spot-with (by level and place, and by number), parent-is (a cell's parent,
+-- Laws: default-free (an element that is there), spot-at, spot-with (by level and place, and by number), parent-is (a cell's parent,
 -- among all cells), red-level (a red cell that has an edge), coarse-level (coarse cells are regular).
-use mathlib.Core.Path.{_≡_, refl, sym, _∙_, ap}
+use mathlib.Core.Path.{_≡_, sym, _∙_, ap}
 use mathlib.Core.Bool.{true}
-use mathlib.Core.List.{List, [], _∷_}
-use Prim.Native.Nat.{ℕ, suc, zero, _+_, _<_}
+use mathlib.Core.List.{List, []}
+use Prim.Native.Nat.{ℕ, _+_, _<_}
 use native.Mathlib.Omega.{arith}
 use lib.Dec.{T}
 use lib.ListN.{length, getD}
 use Rattle.base.specs.Lists.{sameb}
-use Rattle.mesh.specs.Cells.{Cell, edge, edges, joinsb, heldb, redEdges}
+use Rattle.mesh.specs.Cells.{Cell, edge, edges, joinsb, heldb, redEdges, noCell}
 use Rattle.mesh.specs.Weights.{Point, coarseCells}
 use Rattle.mesh.specs.Table.{levelsOf, cellsOf}
-use Rattle.lineage.specs.Born.{noCell}
 use Rattle.lineage.specs.Paths.{length-coarse, coarse-at}
 use Rattle.lineage.specs.Levels.{cells-first}
 use Rattle.carriers.specs.Lists.{held-which}
@@ -23,11 +22,7 @@ use Rattle.soundness.specs.Held.{RedHas, red-which}
 use Rattle.soundness.specs.Spots.{Spot, SpotOf, spot, spot-of}
 use Rattle.soundness.specs.Apart.{parentOf}
 use Rattle.soundness.specs.Sound.{lv}
-
-pub any-default : {A : Type 0} (l : List A) (i : ℕ) (d e : A) → i < length l → getD l i d ≡ getD l i e
-any-default [] i d e h = absurd (omega arith)
-any-default (x ∷ l) zero d e h = refl
-any-default (x ∷ l) (suc i) d e h = any-default l i d e (omega arith)
+use Rattle.base.specs.Each.{default-free}
 
 pub record RedAt (n : ℕ) (qs : List (List ℕ)) (ss : List ℕ) (j : ℕ) (e : Edge) : Type 0 where
   pub u : ℕ
@@ -57,7 +52,7 @@ module _ (n : ℕ) (qs : List (List ℕ)) (ss : List ℕ) where
       let cs = cellsOf (levelsOf n qs ss) in
       let a = spot-at j t h in
       let e : c .parent ≡ a .o + t = q ∙ omega (arith, a .first) in
-      ap (λ (k : ℕ). getD cs k c) e ∙ any-default cs (a .o + t) c noCell (a .inside) ∙ a .cell
+      ap (λ (k : ℕ). getD cs k c) e ∙ default-free cs (a .o + t) c noCell (a .inside) ∙ a .cell
 
   pub red-level : (e : Edge) → T (heldb sameb (redEdges [] (cellsOf (levelsOf n qs ss)) ss) e) → RedSomewhere n qs ss e
   red-level e t =

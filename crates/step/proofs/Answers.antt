@@ -1,26 +1,23 @@
 -- The answers of the step, and what the lent table holds after them.
 -- Assumes nothing.
-use mathlib.Core.Path.{_≡_, refl, sym, _∙_, ap}
-use mathlib.Core.Bool.{Bool, true, false, _&&_}
+use mathlib.Core.Path.{_≡_, refl, _∙_, ap}
+use mathlib.Core.Bool.{true, false, _&&_}
 use mathlib.Core.List.{List, [], _∷_, _++_}
-use Prim.Native.Nat.{ℕ, zero, suc, _≤_, _<_}
-use lib.Dec.{T, leb}
+use Prim.Native.Nat.{ℕ, suc, _≤_, _<_}
+use lib.Dec.{T}
 use lib.IntN.{ℤ}
 use lib.ListN.{length, take, drop}
 use borrow.Author.Tests.{le-leb, lt-leb}
-use Rattle.base.specs.Lists.{and-right, is-true}
-use Rattle.base.specs.Places.{not-both}
+use Rattle.base.specs.Bools.{and-right, is-true, not-both}
 use Rattle.base.specs.Fours.{fours}
-use Rattle.base.specs.Refuse.{refuse}
+use Rattle.base.specs.Refuse.{refuse, andThen, heldAfter, answerOf, answer-refused, answer-none}
 use Rattle.base.specs.declared.Answer.{Answer}
 use Rattle.base.specs.declared.Answer.the-variants.{Accepted, Refused}
 use Rattle.mesh.specs.Coarse.{cornerCount}
-use Rattle.layout.specs.Calls.{andThen, tableAnswer, heldAfter}
-use Rattle.layout.specs.Opened.{answerOf, Fits}
-use Rattle.layout.proofs.Answers.{answer-refused, answer-none}
-use Rattle.step.specs.Calls.{markb, marksb, newTable, limitsAnswer, stepAnswer, steppedOf}
+use Rattle.mesh.specs.Answers.{tableAnswer, markb, marksb, limitsAnswer}
+use Rattle.layout.specs.Opened.{Fits}
+use Rattle.step.specs.Calls.{stepAnswer, steppedOf}
 use Rattle.step.specs.Advanced.{Held}
-use Rattle.step.specs.declared.Stepped.{Stepped}
 use Rattle.step.specs.declared.Stepped.the-variants as stepped
 
 module _ (ps : List ℤ) (ts ss ms table : List ℕ) where

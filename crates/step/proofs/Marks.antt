@@ -3,13 +3,13 @@
 use mathlib.Core.Path.{_≡_, refl, _∙_, ap, ap₂}
 use mathlib.Core.Bool.{Bool, true, false, _&&_, _||_, and-false, or-true}
 use mathlib.Core.List.{List, [], _∷_}
-use Prim.Native.Nat.{ℕ, zero, suc, _+_, _*_, _-_, _≤_, _<_}
+use Prim.Native.Nat.{ℕ, suc, _+_, _*_, _-_, _≤_, _<_}
 use native.Mathlib.Omega.{arith}
 use lib.Dec.{eqb, leb}
 use lib.ListN.{length, getD, drop, drop-of-length-le}
 use lib.Seq.{drop-cons}
-use borrow.Author.Tests.{eq-eqb, ne-eqb}
-use Rattle.step.specs.Calls.{markb, marksb}
+use borrow.Author.Tests.{ne-eqb}
+use Rattle.mesh.specs.Answers.{markb, marksb}
 use Rattle.step.specs.Deep.{deepAt, deepFrom}
 
 pub mark-none : (s m : ℕ) → m ≡ 0 → true ≡ markb s m

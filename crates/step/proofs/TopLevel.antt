@@ -1,25 +1,25 @@
 -- The scan for a red cell of level 10 finds one where the flags of level 10 have one.
 -- Assumes nothing.
 use mathlib.Core.Path.{_≡_, refl, sym, _∙_, ap, ap₂}
-use mathlib.Core.Bool.{Bool, true, false, _&&_, _||_, or-assoc, or-false}
-use mathlib.Core.List.{List, [], _∷_, _++_, flatMap}
-use Prim.Native.Nat.{ℕ, zero, suc, pred, _+_, _*_, _-_, _≤_, _<_}
+use mathlib.Core.Bool.{Bool, false, _&&_, _||_, or-assoc, or-false}
+use mathlib.Core.List.{List, [], _∷_, _++_, flatMap, flatten}
+use Prim.Native.Nat.{ℕ, zero, suc, pred, _+_, _*_, _-_, _<_}
 use native.Mathlib.Omega.{arith}
 use lib.Dec.{T, eqb, eqb→eq}
 use lib.ListN.{length, getD, take, drop, length-append, length-map}
-use borrow.Author.Tests.{eq-eqb, ne-eqb}
-use Rattle.base.specs.Lists.{allb, anyb, sameb, and-left, and-right}
-use Rattle.mesh.specs.Cells.{Cell, redb, redEdges, closedFrom}
+use borrow.Author.Tests.{ne-eqb}
+use Rattle.base.specs.Lists.{allb, anyb, sameb}
+use Rattle.base.specs.Bools.{and-left, and-right}
+use Rattle.mesh.specs.Cells.{Cell, redb, redEdges, closedFrom, noCell}
 use Rattle.mesh.specs.Weights.{Point, coarseFrom, coarseCells}
 use Rattle.mesh.specs.Table.{Level, next, levels, levelsOf, cellsOf, closedb}
 use Rattle.rows.specs.Many.{closed-many}
 use Rattle.mesh.specs.Counts.{levelOf}
 use Rattle.mesh.specs.Step.{rows}
-use Rattle.lineage.specs.Olds.{concat, flags, flagsOf, flagTable}
-use Rattle.lineage.specs.Born.{noCell}
+use Rattle.lineage.specs.Olds.{flags, flagsOf, flagTable}
 use Rattle.lineage.specs.Flags.{length-rows}
 use Rattle.tables.proofs.Rising.{deepb, deep-next}
-use Rattle.step.specs.Deep.{deepAt, deepFrom}
+use Rattle.step.specs.Deep.{deepFrom}
 
 unfoldable deepIn : List (Cell Point) → List ℕ → Bool
 deepIn [] fs = false
@@ -74,8 +74,8 @@ this-level (c ∷ cs) (f ∷ fs) e t =
 -- all levels
 module _ (ms : List ℕ) where
   above-all : (j h k : ℕ) (cs : List (Cell Point)) (rest : List ℕ) → T (allb closedb (levels h k cs rest)) → T (deepb (suc j) cs) → 10 < j
-      → deepIn (cellsOf (levels h k cs rest)) (concat (flags (levels h k cs rest) ms)) ≡ false
-  unfolding levels allb closedb cellsOf flatMap flags flagsOf deepIn
+      → deepIn (cellsOf (levels h k cs rest)) (flatten (flags (levels h k cs rest) ms)) ≡ false
+  unfolding levels allb closedb cellsOf flatMap flatten flags flagsOf deepIn
   above-all j zero k cs rest u d g = refl
   above-all j (suc h) k [] rest u d g = refl
   above-all j (suc h) k (c ∷ cs) rest u d g =
@@ -86,12 +86,12 @@ module _ (ms : List ℕ) where
       let v : T (closedFrom [] sameb (redEdges [] cs′ ts) cs′ ts) = and-left (closedb l) (allb closedb ls) u in
       let fs : List ℕ = flagsOf ls ms (rows l ms) in
       let n : length fs ≡ length cs′ = length-map (rows l ms) _ ∙ length-rows l ms (closed-many (redEdges [] cs′ ts) cs′ ts v) in
-      deep-both cs′ (cellsOf ls) fs (concat (flags ls ms)) n
+      deep-both cs′ (cellsOf ls) fs (flatten (flags ls ms)) n
       ∙ ap₂ _||_ (other-level j cs′ fs (λ e. omega arith) d) (above-all (suc j) h (k + length cs′) (next k cs′ ts) (drop (length cs′) rest) (and-right (closedb l) (allb closedb ls) u) (deep-next (suc j) k cs′ ts d) (omega arith))
 
   levels-all : (i j h k : ℕ) (cs : List (Cell Point)) (rest : List ℕ) → i + j ≡ 10 → T (allb closedb (levels h k cs rest)) → T (deepb (suc j) cs)
-      → deepIn (cellsOf (levels h k cs rest)) (concat (flags (levels h k cs rest) ms)) ≡ anyb redb (getD (flags (levels h k cs rest) ms) i [])
-  unfolding levels allb closedb cellsOf flatMap flags flagsOf deepIn anyb
+      → deepIn (cellsOf (levels h k cs rest)) (flatten (flags (levels h k cs rest) ms)) ≡ anyb redb (getD (flags (levels h k cs rest) ms) i [])
+  unfolding levels allb closedb cellsOf flatMap flatten flags flagsOf deepIn anyb
   levels-all i j zero k cs rest e u d = refl
   levels-all i j (suc h) k [] rest e u d = refl
   levels-all zero j (suc h) k (c ∷ cs) rest e u d =
@@ -104,9 +104,9 @@ module _ (ms : List ℕ) where
       let n : length fs ≡ length cs′ = length-map (rows l ms) _ ∙ length-rows l ms (closed-many (redEdges [] cs′ ts) cs′ ts v) in
       let t : suc j ≡ 11 = omega arith in
       let here : deepIn cs′ fs ≡ anyb redb fs = this-level cs′ fs n (rw t at d) in
-      let up : deepIn (cellsOf ls) (concat (flags ls ms)) ≡ false =
+      let up : deepIn (cellsOf ls) (flatten (flags ls ms)) ≡ false =
       above-all (suc j) h (k + length cs′) (next k cs′ ts) (drop (length cs′) rest) (and-right (closedb l) (allb closedb ls) u) (deep-next (suc j) k cs′ ts d) (omega arith) in
-      deep-both cs′ (cellsOf ls) fs (concat (flags ls ms)) n ∙ ap₂ _||_ here up ∙ or-false (anyb redb fs)
+      deep-both cs′ (cellsOf ls) fs (flatten (flags ls ms)) n ∙ ap₂ _||_ here up ∙ or-false (anyb redb fs)
   levels-all (suc i) j (suc h) k (c ∷ cs) rest e u d =
       let cs′ = c ∷ cs in
       let ts = take (length cs′) rest in
@@ -116,9 +116,9 @@ module _ (ms : List ℕ) where
       let fs : List ℕ = flagsOf ls ms (rows l ms) in
       let n : length fs ≡ length cs′ = length-map (rows l ms) _ ∙ length-rows l ms (closed-many (redEdges [] cs′ ts) cs′ ts v) in
       let here : deepIn cs′ fs ≡ false = other-level j cs′ fs (λ x. omega arith) d in
-      let up : deepIn (cellsOf ls) (concat (flags ls ms)) ≡ anyb redb (getD (flags ls ms) i []) =
+      let up : deepIn (cellsOf ls) (flatten (flags ls ms)) ≡ anyb redb (getD (flags ls ms) i []) =
       levels-all i (suc j) h (k + length cs′) (next k cs′ ts) (drop (length cs′) rest) (omega arith) (and-right (closedb l) (allb closedb ls) u) (deep-next (suc j) k cs′ ts d) in
-      deep-both cs′ (cellsOf ls) fs (concat (flags ls ms)) n ∙ ap₂ _||_ here up
+      deep-both cs′ (cellsOf ls) fs (flatten (flags ls ms)) n ∙ ap₂ _||_ here up
 
 coarse-deep : (n i : ℕ) (qs : List (List ℕ)) → T (deepb 1 (coarseFrom n i qs))
 unfolding coarseFrom allb
@@ -126,8 +126,8 @@ coarse-deep n i [] = tt
 coarse-deep n i (q ∷ qs) = coarse-deep n (suc i) qs
 
 length-flags : (ms : List ℕ) (h k : ℕ) (cs : List (Cell Point)) (rest : List ℕ) → T (allb closedb (levels h k cs rest))
-    → length (concat (flags (levels h k cs rest) ms)) ≡ length (cellsOf (levels h k cs rest))
-unfolding levels allb closedb cellsOf flatMap flags flagsOf
+    → length (flatten (flags (levels h k cs rest) ms)) ≡ length (cellsOf (levels h k cs rest))
+unfolding levels allb closedb cellsOf flatMap flatten flags flagsOf
 length-flags ms zero k cs rest u = refl
 length-flags ms (suc h) k [] rest u = refl
 length-flags ms (suc h) k (c ∷ cs) rest u =
@@ -138,7 +138,7 @@ length-flags ms (suc h) k (c ∷ cs) rest u =
     let v : T (closedFrom [] sameb (redEdges [] cs′ ts) cs′ ts) = and-left (closedb l) (allb closedb ls) u in
     let fs : List ℕ = flagsOf ls ms (rows l ms) in
     let n : length fs ≡ length cs′ = length-map (rows l ms) _ ∙ length-rows l ms (closed-many (redEdges [] cs′ ts) cs′ ts v) in
-    length-append fs (concat (flags ls ms)) ∙ ap₂ _+_ n (length-flags ms h (k + length cs′) (next k cs′ ts) (drop (length cs′) rest) (and-right (closedb l) (allb closedb ls) u))
+    length-append fs (flatten (flags ls ms)) ∙ ap₂ _+_ n (length-flags ms h (k + length cs′) (next k cs′ ts) (drop (length cs′) rest) (and-right (closedb l) (allb closedb ls) u))
     ∙ sym (length-append cs′ (cellsOf ls))
 
 -- the scan over a table's rows and flags

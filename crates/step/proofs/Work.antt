@@ -1,45 +1,39 @@
 -- The work of a step: what its parts ask for, and what they come to.
 -- Assumes nothing.
-use mathlib.Core.Path.{_≡_, refl, sym, _∙_, ap, ap₂}
-use mathlib.Core.Logic.{_⊎_, inl, inr, ⊎-elim}
+use mathlib.Core.Path.{_≡_, refl, sym, _∙_, ap}
+use mathlib.Core.Logic.{_⊎_, ⊎-elim}
 use mathlib.Core.Bool.{Bool, true, false, _&&_, not}
-use mathlib.Core.List.{List, [], _∷_, _++_}
-use Prim.Native.Nat.{ℕ, zero, suc, _+_, _*_, _/_, _≤_, _<_}
+use mathlib.Core.List.{List, _++_}
+use Prim.Native.Nat.{ℕ, suc, _+_, _*_, _/_, _≤_, _<_}
 use native.Mathlib.Omega.{arith}
 use lib.Dec.{T, eqb, leb, eqb→eq}
 use lib.ListN.{length, getD, take, List·getD-append}
 use lib.Seq.{take-at}
 use borrow.Author.Tests.{le-leb, lt-leb}
-use Rattle.base.specs.Lists.{allb, anyb, and-left, and-right, is-true}
-use Rattle.base.specs.Fours.{fours}
-use Rattle.base.specs.Refuse.{refuse}
-use Rattle.base.specs.declared.Answer.{Answer}
+use Rattle.base.specs.Lists.{allb}
+use Rattle.base.specs.Bools.{and-left, is-true}
+use Rattle.base.specs.Fours.{fours, length-fours}
+use Rattle.base.specs.Refuse.{refuse, answerOf, answer-none}
 use Rattle.base.specs.declared.Answer.the-variants.{Accepted, Refused}
-use Rattle.mesh.specs.Cells.{Cell, redb}
-use Rattle.mesh.specs.Weights.{Point, coarseCells}
 use Rattle.mesh.specs.Table.{levelsOf, cellsOf, closedb, apartb, soundb}
-use Rattle.mesh.specs.Layout.{cellTable}
 use Rattle.mesh.specs.Step.{stepTable}
 use Rattle.lattice.specs.Levels as lattice
 use Rattle.counting.specs.Levels.{Levels}
 use Rattle.counting.proofs.Sound as counting
 use Rattle.ancestors.proofs.Table.{table-level}
-use Rattle.lineage.specs.Olds.{concat, flags, flagTable, upTo, stepBy}
+use Rattle.lineage.specs.Olds.{flagTable, stepBy}
 use Rattle.lineage.specs.Step.{step-by}
 use Rattle.lineage.specs.Deep.{deep}
-use Rattle.lineage.specs.Born.{noCell}
+use Rattle.mesh.specs.Cells.{noCell}
 use Rattle.soundness.specs.Steady.{step-sound}
 use Rattle.tables.specs.Checked.{Statuses}
-use Rattle.tables.specs.Sound.{Mesh, Sound, tableCells, tableCorners}
-use Rattle.tables.proofs.CoarseRows.{length-fours}
+use Rattle.tables.specs.Sound.{Sound, tableCells, tableCorners}
 use Rattle.reds.specs.Flags.{firstChildren}
 use Rattle.reds.specs.Old.{Marked}
 use Rattle.reds.proofs.Firsts.{firsts-taken, first-at, length-firsts}
 use Rattle.renew.specs.Levels.{Kids}
 use Rattle.renew.specs.Result.{Result, renewed}
-use Rattle.layout.specs.Opened.{answerOf}
-use Rattle.layout.proofs.Answers.{answer-none}
-use Rattle.step.specs.Calls.{newTable, limitsAnswer}
+use Rattle.mesh.specs.Answers.{newTable, limitsAnswer}
 use Rattle.step.specs.Deep.{deepFrom, Decided}
 use Rattle.step.specs.Advanced.{Held, Advanced}
 use Rattle.step.proofs.TopLevel.{flags-long, deep-scan}

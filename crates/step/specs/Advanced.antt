@@ -11,8 +11,8 @@ use Rattle.base.specs.Fours.{fours}
 use Rattle.mesh.specs.Table.{soundb}
 use Rattle.mesh.specs.Layout.{cellTable}
 use Rattle.tables.specs.Sound.{Mesh, Sound, tableCells, tableCorners}
-use Rattle.layout.specs.Opened.{answerOf}
-use Rattle.step.specs.Calls.{newTable, limitsAnswer}
+use Rattle.base.specs.Refuse.{answerOf}
+use Rattle.mesh.specs.Answers.{newTable, limitsAnswer}
 
 pub record Held (n : ℕ) (mesh rows ss : List ℕ) : Type 0 where
   pub accepted : Mesh n mesh

@@ -1,15 +1,15 @@
 // One step of the multilevel red/green method.
 use renew::Renewed;
 ghost use mathlib.Core.Path.{_≡_};
-ghost use mathlib.Core.List.{_++_};
 ghost use Prim.Native.Nat.{_+_, _*_, _≤_, _<_};
-ghost use lib.ListN.{length, take, drop};
+ghost use lib.ListN.{length};
 ghost use Rattle.base.specs.Fours.{fours};
 ghost use Rattle.base.specs.Lent.{was, is};
 ghost use Rattle.cutting.specs.Answer.{digitTable};
 ghost use Rattle.mesh.specs.Coarse.{cornerCount};
-ghost use Rattle.layout.specs.Calls.{heldAfter};
-ghost use Rattle.step.specs.Calls.{markb, marksb, newTable, stepAnswer, steppedOf};
+ghost use Rattle.base.specs.Refuse.{heldAfter};
+ghost use Rattle.mesh.specs.Answers.{markb, marksb, newTable};
+ghost use Rattle.step.specs.Calls.{stepAnswer, steppedOf};
 ghost use Rattle.step.specs.Deep.{deepAt, deepFrom, Decided};
 ghost use Rattle.step.specs.Advanced.{Held, Work, Advanced};
 
@@ -162,16 +162,6 @@ pub fn advance(
     }
 }
 
-// Copies the first n bytes.
-pub fn copy(from: &[u8], n: usize, to: &mut [u8])
-    requires { ⌜ (n ≤ length (now from)) × (n ≤ length (now to)) ⌝ }
-    ensures { λ r. ⌜ is to ≡ take n (was from) ++ drop n (was to) ⌝ }
-{
-    for i in 0..n {
-        to[i] = from[i];
-    }
-}
-
 // One step: the new status table in the lent one, and how many cells it has. Refusals 15 and 1 to 9.
 pub fn step(
     positions: &[i32],
@@ -237,6 +227,6 @@ pub fn step(
     if r.refusal != 0 {
         return Stepped::Refused(r.refusal);
     }
-    copy(&new, r.cells, table);
+    base::copy_bytes(&new, r.cells, table);
     Stepped::Cells(r.cells)
 }

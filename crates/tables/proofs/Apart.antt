@@ -1,33 +1,26 @@
 -- The third condition over rows is the paper's over weights.
 -- Assumes nothing.
 use mathlib.Core.Path.{_≡_, refl, sym, _∙_, ap, ap₂, fun-ext}
-use mathlib.Core.Logic.{⊎-elim}
 use mathlib.Core.Bool.{Bool, true, false, _&&_, _||_, not}
-use mathlib.Core.List.{List, [], _∷_, _++_, map, flatMap}
-use Prim.Native.Nat.{ℕ, zero, suc, _+_, _*_, _-_, _≤_, _<_}
+use mathlib.Core.List.{List, [], _∷_, map, flatMap}
+use Prim.Native.Nat.{ℕ, zero, suc, _+_, _*_, _-_, _<_}
 use native.Mathlib.Omega.{arith}
-use lib.Dec.{T, eqb}
-use lib.ListN.{length, getD, take, drop, length-map}
+use lib.Dec.{eqb}
+use lib.ListN.{length, getD, take}
 use Rattle.base.specs.Lists.{allb}
-use Rattle.base.specs.Places.{hasb, either}
-use Rattle.mesh.specs.Cells.{Cell, edges, edge, heldb, redEdges}
-use Rattle.mesh.specs.Weights.{Point}
-use Rattle.mesh.specs.Table.{apartb}
-use Rattle.mesh.specs.Layout.{Corner, rowOf, mapCell, numberIn}
+use Rattle.base.specs.Places.{hasb}
+use Rattle.mesh.specs.Cells.{Cell, edges, edge, heldb, redEdges, Four, noCell}
+use Rattle.mesh.specs.Layout.{rowOf}
 use Rattle.edges.specs.Pairs.{Pair, sorted, isb}
-use Rattle.rows.specs.Numbered.{cellAt, cellsAt}
-use Rattle.lattice.specs.Every.{All}
+use Rattle.rows.specs.Numbered.{cellAt}
+use Rattle.base.specs.Every.{All}
 use Rattle.numbering.specs.Renamed.{apartOf}
 use Rattle.closure.specs.Ready.{listedApart}
 use Rattle.closure.proofs.Closed.{Lists, held-listed}
 use Rattle.separation.specs.Parents.{Parents, apartAll}
 use Rattle.tables.specs.Here.{Child}
-use Rattle.tables.proofs.Cells.{strip, Four, noCell, cell-at, cells-at}
-
-getD-same : {A : Type 0} (l : List A) (i : ℕ) (a b : A) → i < length l → getD l i a ≡ getD l i b
-getD-same [] i a b h = absurd (omega arith)
-getD-same (x ∷ l) zero a b h = refl
-getD-same (x ∷ l) (suc i) a b h = getD-same l i a b (omega arith)
+use Rattle.tables.proofs.Cells.{strip, cell-at, cells-at}
+use Rattle.base.specs.Each.{default-free}
 
 module _ (t : List ℕ) (zs : List (Cell ℕ)) (f : All Four zs) (e : take (8 * length zs) t ≡ flatMap rowOf zs) (ss : List ℕ) (es : List Pair)
     (m : Lists es (redEdges 0 zs ss)) where
@@ -42,7 +35,7 @@ module _ (t : List ℕ) (zs : List (Cell ℕ)) (f : All Four zs) (e : take (8 * 
           ≡ (b || allb (λ e. heldb eqb (edges 0 (getD zs (c .parent) c)) e || not (heldb eqb (redEdges 0 zs ss) e)) (edges 0 c))
       go true q = refl
       go false q =
-          let w : cellAt t (c .parent) ≡ strip (getD zs (c .parent) c) = cell-at t zs f e (c .parent) (h q) ∙ ap strip (getD-same zs (c .parent) noCell c (h q)) in
+          let w : cellAt t (c .parent) ≡ strip (getD zs (c .parent) c) = cell-at t zs f e (c .parent) (h q) ∙ ap strip (default-free zs (c .parent) noCell c (h q)) in
           ap (λ (g : Pair → Bool). allb g (edges 0 c))
           (fun-ext (λ (d : Pair). ap₂ (λ (x y : Bool). x || not y) (ap (λ (z : Cell ℕ). heldb eqb (edges 0 z) d) w) (held-listed es (redEdges 0 zs ss) m d)))
 

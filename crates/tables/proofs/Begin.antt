@@ -1,34 +1,28 @@
 -- The building starts with the coarse cells.
 -- Assumes nothing.
-use mathlib.Core.Path.{_≡_, refl, sym, _∙_, ap, ap₂}
-use mathlib.Core.Bool.{Bool, true, false}
-use mathlib.Core.List.{List, [], _∷_, _++_, map, flatMap}
-use Prim.Native.Nat.{ℕ, zero, suc, _+_, _*_, _-_, _≤_, _<_}
+use mathlib.Core.Path.{_≡_, refl, sym, _∙_, ap}
+use mathlib.Core.List.{List, [], _∷_, _++_, flatMap}
+use Prim.Native.Nat.{ℕ, suc, _+_, _*_, _-_}
 use native.Mathlib.Omega.{arith}
-use lib.Dec.{T, eqb}
 use lib.ListN.{length, take}
-use Rattle.base.specs.Lists.{allb, one-if}
+use Rattle.base.specs.Bools.{one-if}
 use Rattle.base.specs.Places.{hasb}
-use Rattle.base.specs.Fours.{fours}
-use Rattle.mesh.specs.Cells.{Cell, none, redEdges}
-use Rattle.mesh.specs.Weights.{Point, coarseFrom, coarseCells}
-use Rattle.mesh.specs.Coarse.{cellsb}
+use Rattle.base.specs.Fours.{fours, length-fours}
+use Rattle.mesh.specs.Cells.{none, redEdges}
+use Rattle.mesh.specs.Weights.{coarseCells}
 use Rattle.mesh.specs.Table.{cellsOf}
 use Rattle.mesh.specs.Layout.{coarseCorners, cornersFrom, rowOf, childNumber}
-use Rattle.edges.specs.Pairs.{Pair, pairsOf}
-use Rattle.edges.specs.Table.{listed}
+use Rattle.edges.specs.Pairs.{pairsOf}
 use Rattle.edges.proofs.Seek.{none-listed}
-use Rattle.lattice.specs.Every.{All}
 use Rattle.lattice.specs.Levels.{fours-four}
 use Rattle.numbering.specs.Corners.{corners-start}
-use Rattle.numbering.specs.Tests.{cellsIn}
 use Rattle.numbering.specs.Coarse.{coarseNumbersFrom, coarseNumbers, coarse-numbers}
-use Rattle.numbering.specs.Stages.{Stage, stage-start}
+use Rattle.numbering.specs.Stages.{stage-start}
 use Rattle.tables.specs.Levels.{reached-start}
-use Rattle.tables.specs.Here.{Here, Child, Mids}
-use Rattle.tables.specs.Start.{coarseRow, Coarse, Empty}
-use Rattle.tables.proofs.CoarseRows.{length-fours}
-use Rattle.tables.proofs.Rising.{deep-coarse, child-coarse, length-coarse}
+use Rattle.tables.specs.Here.{Here}
+use Rattle.tables.specs.Start.{coarseRow, Empty}
+use Rattle.tables.proofs.Rising.{deep-coarse, child-coarse}
+use Rattle.mesh.specs.Laws.{length-from}
 
 rows-from : (i : ℕ) (qs : List (List ℕ)) → flatMap rowOf (coarseNumbersFrom i qs) ≡ flatMap coarseRow qs
 unfolding flatMap coarseNumbersFrom rowOf coarseRow childNumber one-if
@@ -45,7 +39,7 @@ module _ (n : ℕ) (mesh ss rows xs ys heads links ps qs heads′ links′ : Lis
 
   size : length (coarseCells n fs) ≡ length fs
   unfolding coarseCells
-  size = length-coarse n 0 fs
+  size = length-from n 0 fs
 
   module _ (rows′ : List ℕ) (count : ℕ) (c : count ≡ length fs) (t : take (8 * count) rows′ ≡ flatMap coarseRow fs) (l : length rows′ ≡ length rows) where
     pub here-start : Here n fs ss 0 0 count rows′ xs ys heads links 0 ps qs heads′ links′ 0

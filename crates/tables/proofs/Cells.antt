@@ -1,35 +1,26 @@
 -- From rows back to cells: what a table of rows holds of each cell, its path aside.
 -- Assumes nothing.
 use mathlib.Core.Path.{_≡_, refl, sym, _∙_, ap, ap₂}
-use mathlib.Core.Bool.{Bool, true, false, _&&_, _||_}
+use mathlib.Core.Bool.{true, false}
 use mathlib.Core.List.{List, [], _∷_, _++_, map, flatMap}
-use Prim.Native.Nat.{ℕ, zero, suc, _+_, _*_, _-_, pred, _≤_, _<_}
-use native.Mathlib.Nat.{add-zero, add-suc, suc-add}
+use Prim.Native.Nat.{ℕ, zero, suc, _+_, _*_, _-_, _<_}
+use native.Mathlib.Nat.{add-zero}
 use native.Mathlib.Omega.{arith}
-use lib.Dec.{T, eqb}
-use lib.ListN.{length, getD, take, drop, length-append, List·getD-append}
+use lib.Dec.{eqb}
+use lib.ListN.{length, getD, take, length-append, List·getD-append}
 use lib.Seq.{getD-take, getD-append-add}
-use Rattle.base.specs.Lists.{allb, one-if}
-use Rattle.mesh.specs.Cells.{Cell, redb, edges, edge, redEdges, closedFrom, statusOf, pattern}
-use Rattle.mesh.specs.Layout.{rowOf, childNumber, splitEdges}
+use Rattle.base.specs.Bools.{eqb-one}
+use Rattle.mesh.specs.Cells.{Cell, redb, edges, edge, redEdges, closedFrom, statusOf, pattern, noCell, Four}
+use Rattle.mesh.specs.Layout.{rowOf, splitEdges}
 use Rattle.edges.specs.Pairs.{Pair, addPairs}
-use Rattle.rows.specs.Numbered.{cellAt, cellsAt, endsFrom, pointAt, nextOf}
-use Rattle.lattice.specs.Every.{All}
-use Rattle.closure.proofs.Closed.{cells-cons}
+use Rattle.rows.specs.Numbered.{cellAt, cellsAt, endsFrom}
+use Rattle.base.specs.Every.{All}
+use Rattle.base.specs.Fours.{four-points}
+use Rattle.rows.specs.Laws.{cells-cons, row-size}
 
 -- a cell without its path
 abbrev pub strip : Cell ℕ → Cell ℕ
 strip c = record { path = []; parent = c .parent; regular = c .regular; points = c .points }
-
-abbrev pub Four : Cell ℕ → Type 0
-Four c = length (c .points) ≡ 4
-
-abbrev pub noCell : Cell ℕ
-noCell = record { path = []; parent = 0; regular = true; points = [] }
-
-row-eight : (c : Cell ℕ) → Four c → length (rowOf c) ≡ 8
-unfolding rowOf
-row-eight c e = omega arith
 
 -- a number of a row
 row-at : (zs : List (Cell ℕ)) → All Four zs → (i r : ℕ) → i < length zs → r < 8 → getD (flatMap rowOf zs) (8 * i + r) 0 ≡ getD (rowOf (getD zs i noCell)) r 0
@@ -37,23 +28,10 @@ unfolding flatMap
 row-at [] f i r h k = absurd (omega arith)
 row-at (z ∷ zs) f zero r h k =
     let e : 8 * 0 + r ≡ r = omega arith in
-    rw e (List·getD-append (rowOf z) (flatMap rowOf zs) 0 r (omega (arith, row-eight z (f .0))))
+    rw e (List·getD-append (rowOf z) (flatMap rowOf zs) 0 r (omega (arith, row-size z (f .0))))
 row-at (z ∷ zs) f (suc i) r h k =
-    let e : 8 * suc i + r ≡ length (rowOf z) + (8 * i + r) = omega (arith, row-eight z (f .0)) in
+    let e : 8 * suc i + r ≡ length (rowOf z) + (8 * i + r) = omega (arith, row-size z (f .0)) in
     rw e (getD-append-add (rowOf z) (flatMap rowOf zs) (8 * i + r) 0 ∙ row-at zs (f .1) i r (omega arith) k)
-
-four-points : (l : List ℕ) → length l ≡ 4 → getD l 0 0 ∷ getD l 1 0 ∷ getD l 2 0 ∷ getD l 3 0 ∷ [] ≡ l
-four-points [] e = absurd (omega arith)
-four-points (a ∷ []) e = absurd (omega arith)
-four-points (a ∷ b ∷ []) e = absurd (omega arith)
-four-points (a ∷ b ∷ c ∷ []) e = absurd (omega arith)
-four-points (a ∷ b ∷ c ∷ d ∷ []) e = refl
-four-points (a ∷ b ∷ c ∷ d ∷ x ∷ l) e = absurd (omega arith)
-
-flag : (b : Bool) → eqb (one-if b) 1 ≡ b
-unfolding one-if
-flag true = refl
-flag false = refl
 
 all-at : (zs : List (Cell ℕ)) → All Four zs → (i : ℕ) → i < length zs → Four (getD zs i noCell)
 all-at [] f i h = absurd (omega arith)
@@ -76,7 +54,7 @@ module _ (t : List ℕ) (zs : List (Cell ℕ)) (f : All Four zs) (e : take (8 * 
         number i 5 h (omega arith),
         number i 6 h (omega arith),
         number i 7 h (omega arith),
-        flag (z .regular),
+        eqb-one (z .regular),
         four-points (z .points) (all-at zs f i h),
       )
 

@@ -1,23 +1,14 @@
 -- The rows of the coarse cells.
 -- Assumes nothing.
-use mathlib.Core.Path.{_≡_, refl, sym, _∙_, ap, ap₂}
+use mathlib.Core.Path.{_≡_, refl, sym, _∙_}
 use mathlib.Core.List.{List, [], _∷_, _++_, flatMap, append-nil, append-assoc}
-use Prim.Native.Nat.{ℕ, zero, suc, _+_, _*_, _/_, _%_, _≤_, _<_}
+use Prim.Native.Nat.{ℕ, zero, suc, _+_, _*_, _≤_}
 use native.Mathlib.Omega.{arith}
-use lib.ListN.{length, getD, take, drop}
+use lib.ListN.{length, getD, take}
 use lib.Seq.{take-suc}
-use Rattle.base.specs.Fours.{fours}
-use Rattle.mesh.specs.Cells.{none}
+use Rattle.base.specs.Fours.{fours, length-fours}
 use Rattle.growth.specs.Written.{written, take-written}
 use Rattle.tables.specs.Start.{coarseRow}
-
-pub length-fours : (l : List ℕ) → length (fours l) ≡ length l / 4
-unfolding fours
-length-fours [] = refl
-length-fours (a ∷ []) = refl
-length-fours (a ∷ b ∷ []) = refl
-length-fours (a ∷ b ∷ c ∷ []) = refl
-length-fours (a ∷ b ∷ c ∷ d ∷ l) = omega (arith, length-fours l)
 
 pub four-at : (l : List ℕ) (c : ℕ) → 4 * c + 4 ≤ length l
     → getD (fours l) c [] ≡ getD l (4 * c) 0 ∷ getD l (4 * c + 1) 0 ∷ getD l (4 * c + 2) 0 ∷ getD l (4 * c + 3) 0 ∷ []

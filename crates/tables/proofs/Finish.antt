@@ -2,32 +2,29 @@
 -- Assumes nothing.
 use mathlib.Core.Path.{_≡_, refl, sym, _∙_, ap}
 use mathlib.Core.Logic.{⊎-elim}
-use mathlib.Core.Bool.{Bool, true, false, _&&_}
-use mathlib.Core.List.{List, [], _∷_, _++_, map, flatMap}
+use mathlib.Core.Bool.{false}
+use mathlib.Core.List.{List, [], _∷_, _++_, flatMap}
 use Rattle.numbering.specs.Renamed.{apartOf}
-use Prim.Native.Nat.{ℕ, zero, suc, _+_, _*_, _-_, _≤_, _<_}
+use Prim.Native.Nat.{ℕ, suc, _+_, _-_, _<_}
 use native.Mathlib.Omega.{arith}
-use lib.Dec.{T, eqb, leb}
-use lib.ListN.{length, take, length-map}
+use lib.Dec.{eqb, leb}
+use lib.ListN.{length, take}
 use lib.Seq.{take-length}
 use borrow.Author.Tests.{eq-eqb, ne-eqb}
 use Rattle.base.specs.Lists.{allb}
-use Rattle.base.specs.Places.{either, not-both}
-use Rattle.mesh.specs.Cells.{Cell, redEdges}
+use Rattle.base.specs.Bools.{either, not-both}
+use Rattle.mesh.specs.Cells.{Cell}
 use Rattle.mesh.specs.Weights.{Point}
-use Rattle.mesh.specs.Table.{soundb, apartb}
-use Rattle.mesh.specs.Layout.{Corner, rowOf, mapCell, numberIn, cellTable, cornersOf, cornersFrom, coarseCorners}
+use Rattle.mesh.specs.Table.{soundb}
+use Rattle.mesh.specs.Layout.{Corner, rowOf, mapCell, numberIn, cellTable, cornersOf}
 use Rattle.edges.specs.Table.{listed}
-use Rattle.lattice.specs.Every.{All}
-use Rattle.numbering.specs.Tests.{cellsIn, Placed, apart-numbers}
-use Rattle.closure.proofs.Closed.{Lists}
+use Rattle.base.specs.Every.{All}
+use Rattle.numbering.specs.Tests.{cellsIn, apart-numbers}
 use Rattle.closure.specs.Ready.{Looks}
 use Rattle.separation.specs.Parents.{Parents, apartAll}
-use Rattle.counting.specs.Levels.{Levels}
 use Rattle.counting.proofs.Sound.{sound-levels}
 use Rattle.tables.specs.Here.{Top, Child}
-use Rattle.tables.specs.Sound.{Sound, tableCells, tableCorners}
-use Rattle.tables.proofs.Cells.{Four}
+use Rattle.tables.specs.Sound.{Sound, tableCorners}
 use Rattle.tables.proofs.Apart.{apart-rows, parents-rows}
 use Rattle.tables.proofs.Onward.{four-in, length-in}
 

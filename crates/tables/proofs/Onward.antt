@@ -8,36 +8,35 @@ use native.Mathlib.Nat.{add-zero, zero-add, suc-add}
 use native.Mathlib.Omega.{arith}
 use lib.Dec.{T, eqb, leb}
 use lib.ListN.{length, getD, take, drop, length-append, length-map}
-use lib.Seq.{take-add, getD-take, take-take, take-nil}
-use Rattle.base.specs.Lists.{sameb, allb, and-right}
+use lib.Seq.{getD-take, take-take, take-nil}
+use Rattle.base.specs.Lists.{sameb, allb}
+use Rattle.base.specs.Bools.{and-right}
 use Rattle.base.specs.Places.{hasb, has-append}
-use Rattle.mesh.specs.Cells.{Cell, redEdges, closedFrom, redb, edges}
+use Rattle.mesh.specs.Cells.{Cell, redEdges, closedFrom, redb, edges, Four}
 use Rattle.mesh.specs.Weights.{Point}
-use Rattle.mesh.specs.Table.{next, cellsOf, soundb, levelsOf, apartb}
+use Rattle.mesh.specs.Table.{next, cellsOf, soundb, sizes}
 use Rattle.mesh.specs.Layout.{Corner, coarseCorners, cornersFrom, rowOf, mapCell, numberIn}
 use Rattle.edges.specs.Pairs.{Pair, sorted, isb, addPairs, pairsOf}
-use Rattle.edges.specs.Table.{Edges, Grown, listed}
-use Rattle.rows.specs.Numbered.{cellsAt, part, sizes, endsFrom, nextOf}
-use Rattle.lattice.specs.Every.{All, all-append, all-more}
-use Rattle.numbering.specs.Corners.{Kept}
+use Rattle.edges.specs.Table.{Grown, listed}
+use Rattle.rows.specs.Numbered.{cellsAt, part, endsFrom}
+use Rattle.base.specs.Every.{All, all-append, all-more}
 use Rattle.numbering.specs.Tests.{cellsIn, Placed, closed-numbers}
 use Rattle.numbering.specs.Refined.{Refined, closed-follows}
-use Rattle.numbering.specs.Levels.{placed-kept, cells-kept, level-kept}
-use Rattle.numbering.specs.Stages.{Stage, Next, stage-next}
+use Rattle.numbering.specs.Levels.{placed-kept, cells-kept}
+use Rattle.numbering.specs.Stages.{Next, stage-next}
 use Rattle.numbering.specs.Leaves.{leaf-corners, next-leaves}
 use Rattle.numbering.specs.Tables.{corners-append}
-use Rattle.closure.proofs.Steps.{length-part}
 use Rattle.closure.proofs.Closed.{Lists, lists-added}
-use Rattle.growth.specs.Written.{written, take-written, length-written}
+use Rattle.growth.specs.Written.{take-written}
 use Rattle.growth.specs.Rows.{rowsAll, rows-next, length-rows, flat-append}
-use Rattle.growth.specs.Level.{Grows, Roomy}
-use Rattle.sizes.proofs.Sums.{status-fits}
+use Rattle.growth.specs.Level.{Grows}
 use Rattle.rows.specs.Many.{length-next}
-use Rattle.tables.specs.Levels.{Reached, reached-short, reached-more, reached-high, reached-open, reached-next, reached-end}
-use Rattle.tables.specs.Checked.{Statuses, Reds, Whole, Checked, ownCells, ownStatuses, ownReds}
-use Rattle.tables.specs.Here.{Here, Top, Child, Mids}
-use Rattle.tables.proofs.Cells.{strip, Four, cells-at, red-strip, closed-strip, ends-strip, points-strip}
+use Rattle.tables.specs.Levels.{reached-short, reached-more, reached-high, reached-open, reached-next, reached-end}
+use Rattle.tables.specs.Checked.{Statuses, Reds, ownCells, ownStatuses, ownReds}
+use Rattle.tables.specs.Here.{Here, Top, Child}
+use Rattle.tables.proofs.Cells.{strip, cells-at, red-strip, closed-strip, ends-strip, points-strip}
 use Rattle.tables.proofs.Rising.{deep-next, child-next}
+use Rattle.rows.specs.Laws.{length-part}
 
 -- cells over numbers have four points
 pub four-in : (ks : List Corner) (cs : List (Cell Point)) → All (Placed ks) cs → All Four (cellsIn ks cs)

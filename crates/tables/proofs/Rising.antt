@@ -1,19 +1,20 @@
 -- From one level to the next: what holds of `next` over weights.
 -- Assumes nothing.
-use mathlib.Core.Path.{_≡_, refl, sym, _∙_, ap, ap₂}
-use mathlib.Core.Bool.{Bool, true, false, _&&_, _||_}
-use mathlib.Core.List.{List, [], _∷_, _++_, map, flatMap}
-use Prim.Native.Nat.{ℕ, zero, suc, _+_, _*_, _-_, _≤_, _<_}
+use mathlib.Core.Path.{_≡_, refl, _∙_}
+use mathlib.Core.Bool.{Bool, true, false, _&&_}
+use mathlib.Core.List.{List, [], _∷_, _++_}
+use Prim.Native.Nat.{ℕ, suc, _+_, _-_, _≤_, _<_}
 use native.Mathlib.Omega.{arith}
 use lib.Dec.{T, eqb, eqb→eq}
 use lib.ListN.{length, length-append}
 use borrow.Author.Tests.{eq-eqb}
-use Rattle.base.specs.Lists.{allb, and-left, and-right}
+use Rattle.base.specs.Lists.{allb}
+use Rattle.base.specs.Bools.{and-left, and-right}
 use Rattle.cutting.specs.Rule.{family}
 use Rattle.mesh.specs.Cells.{Cell, redb, patternOf, children, childrenFrom}
-use Rattle.mesh.specs.Weights.{Point, point, coarseFrom, coarseCells}
+use Rattle.mesh.specs.Weights.{Point, point, coarseFrom}
 use Rattle.mesh.specs.Table.{next}
-use Rattle.lattice.specs.Every.{All, all-append}
+use Rattle.base.specs.Every.{All, all-append}
 use Rattle.tables.specs.Here.{Child}
 
 abbrev pub deepb : ℕ → List (Cell Point) → Bool
@@ -85,8 +86,3 @@ pub child-coarse : (n m i : ℕ) (qs : List (List ℕ)) → All (Child m) (coars
 unfolding coarseFrom
 child-coarse n m i [] = tt
 child-coarse n m i (q ∷ qs) = (λ e. let w : _≡_ {A = ℕ} 0 1 = cc e in absurd (omega arith), child-coarse n m (suc i) qs)
-
-pub length-coarse : (n i : ℕ) (qs : List (List ℕ)) → length (coarseFrom n i qs) ≡ length qs
-unfolding coarseFrom
-length-coarse n i [] = refl
-length-coarse n i (q ∷ qs) = ap suc (length-coarse n (suc i) qs)

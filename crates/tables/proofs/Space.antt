@@ -1,25 +1,24 @@
 -- Room for the red edges: a red cell has six, and eight children.
 -- Assumes nothing.
-use mathlib.Core.Path.{_≡_, refl, sym, _∙_, ap}
-use mathlib.Core.Bool.{Bool, true, false, _&&_}
-use mathlib.Core.List.{List, [], _∷_, _++_}
-use Prim.Native.Nat.{ℕ, zero, suc, _+_, _*_, _-_, _≤_, _<_}
+use mathlib.Core.Path.{_≡_, refl, sym, _∙_}
+use mathlib.Core.Bool.{Bool, true, false}
+use mathlib.Core.List.{List, [], _∷_}
+use Prim.Native.Nat.{ℕ, _+_, _*_, _-_, _≤_, _<_}
 use native.Mathlib.Omega.{arith}
-use lib.Dec.{T, eqb, leb}
-use lib.ListN.{length, getD, take, drop}
-use borrow.Author.Tests.{eqb-true, le-leb}
-use Rattle.base.specs.Lists.{allb, one-if, and-left, and-right}
-use Rattle.mesh.specs.Cells.{Cell, redb, redEdges, closedFrom}
-use Rattle.pairs.specs.Keys.{Keys}
-use Rattle.edges.specs.Pairs.{Pair, addPairs, pairsOf}
-use Rattle.edges.specs.Table.{Table, Edges, Space, Grown, listed}
+use lib.ListN.{length}
+use borrow.Author.Tests.{eqb-true}
+use Rattle.base.specs.Bools.{one-if}
+use Rattle.mesh.specs.Cells.{redb}
+use Rattle.edges.specs.Pairs.{addPairs, pairsOf}
+use Rattle.edges.specs.Table.{Space, Grown, listed}
 use Rattle.edges.proofs.Seek.{none-listed}
-use Rattle.rows.specs.Numbered.{sizeOf, sizes, part, cellsAt}
+use Rattle.mesh.specs.Table.{sizeOf, sizes}
 use Rattle.sizes.proofs.Sums.{size-red}
 use Rattle.closure.specs.Ready.{redCount, Ready, Looks, listedClosed}
-use Rattle.closure.proofs.Steps.{length-reds, length-cells, length-part}
+use Rattle.closure.proofs.Steps.{length-reds}
 use Rattle.closure.proofs.Closed.{lists-added, closed-listed}
-use Rattle.tables.specs.Checked.{Reds, Whole, Checked, ownCells, ownStatuses, ownReds}
+use Rattle.tables.specs.Checked.{Reds, Checked, ownCells, ownStatuses, ownReds}
+use Rattle.rows.specs.Laws.{length-cells, length-part}
 
 one-size : (s : ℕ) → 8 * one-if (redb s) ≤ sizeOf s
 unfolding one-if

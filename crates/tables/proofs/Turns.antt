@@ -1,23 +1,22 @@
 -- What the check of a level means for the building: the table fails, the level is the highest, or the next one follows.
 -- Assumes nothing.
-use mathlib.Core.Path.{_≡_, refl, sym, _∙_, ap}
+use mathlib.Core.Path.{_≡_, sym, _∙_}
 use mathlib.Core.Bool.{Bool, true, false}
 use mathlib.Core.List.{List, []}
-use Prim.Native.Nat.{ℕ, zero, suc, _+_, _*_, _-_, _≤_, _<_}
+use Prim.Native.Nat.{ℕ, suc, _+_, _-_, _≤_}
 use native.Mathlib.Decide.{decLt}
 use native.Mathlib.Omega.{arith}
-use lib.Dec.{eqb, leb}
-use lib.ListN.{length, getD}
-use Rattle.base.specs.Lists.{allb, sameb}
-use Rattle.base.specs.Places.{not-both}
+use lib.ListN.{length}
+use Rattle.base.specs.Lists.{sameb}
+use Rattle.base.specs.Bools.{not-both}
 use Rattle.mesh.specs.Cells.{closedFrom, redEdges}
-use Rattle.mesh.specs.Table.{soundb}
-use Rattle.rows.specs.Numbered.{sizes, part}
+use Rattle.mesh.specs.Table.{soundb, sizes}
+use Rattle.rows.specs.Numbered.{part}
 use Rattle.growth.specs.Level.{Grows, Roomy}
 use Rattle.sizes.proofs.Sums.{status-fits}
-use Rattle.tables.specs.Checked.{Statuses, Reds, Whole, Checked, ownCells, ownStatuses, ownReds}
-use Rattle.tables.specs.Here.{Here, Top, Mids}
-use Rattle.tables.proofs.Onward.{fails-short, fails-more, fails-high, fails-open, closed-are, own-is, here-next, here-top}
+use Rattle.tables.specs.Checked.{Statuses, Whole, Checked, ownStatuses}
+use Rattle.tables.specs.Here.{Here, Top}
+use Rattle.tables.proofs.Onward.{fails-short, fails-more, fails-high, fails-open, closed-are, here-next, here-top}
 
 module _ (n : ℕ) (qs : List (List ℕ)) (ss : List ℕ) (j first last : ℕ) (rows xs ys heads links : List ℕ) (k : ℕ) (ps ps′ heads′ links′ : List ℕ) (m : ℕ)
     (h : Here n qs ss j first last rows xs ys heads links k ps ps′ heads′ links′ m) (st : Statuses ss)

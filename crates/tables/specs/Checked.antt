@@ -11,7 +11,8 @@ use Rattle.base.specs.Lists.{allb}
 use Rattle.mesh.specs.Cells.{Cell, redEdges, closedFrom}
 use Rattle.pairs.specs.Keys.{Keys}
 use Rattle.edges.specs.Table.{Grown}
-use Rattle.rows.specs.Numbered.{cellsAt, part, sizes}
+use Rattle.rows.specs.Numbered.{cellsAt, part}
+use Rattle.mesh.specs.Table.{sizes}
 
 -- a status table that is short enough, of statuses
 pub record Statuses (ss : List ℕ) : Type 0 where

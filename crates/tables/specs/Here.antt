@@ -4,7 +4,7 @@
 --   Here ..     the levels below j are closed and laid out; the cells of level j are the rows from first to last
 --   Top ..      level j is closed too, and it is the highest
 use mathlib.Core.Path.{_≡_}
-use mathlib.Core.Bool.{Bool, true, false, _&&_}
+use mathlib.Core.Bool.{false, _&&_}
 use mathlib.Core.List.{List, _++_, flatMap}
 use Prim.Native.Nat.{ℕ, suc, _+_, _*_, _-_, _≤_, _<_}
 use lib.Dec.{T, eqb}
@@ -15,7 +15,7 @@ use Rattle.mesh.specs.Weights.{Point}
 use Rattle.mesh.specs.Table.{cellsOf, levelsOf, soundb, apartb}
 use Rattle.mesh.specs.Layout.{Corner, coarseCorners, cornersFrom, rowOf}
 use Rattle.edges.specs.Table.{Edges, listed}
-use Rattle.lattice.specs.Every.{All}
+use Rattle.base.specs.Every.{All}
 use Rattle.numbering.specs.Corners.{Corners}
 use Rattle.numbering.specs.Tests.{cellsIn, Placed}
 use Rattle.numbering.specs.Stages.{Stage}

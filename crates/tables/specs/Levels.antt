@@ -1,23 +1,21 @@
 -- A table's levels one after the other, as a program meets them.
 -- Assumes nothing.
 use mathlib.Core.Path.{_≡_, refl, sym, _∙_, ap, ap₂}
-use mathlib.Core.Bool.{Bool, true, false, _&&_, _||_, not, and-false}
-use mathlib.Core.List.{List, [], _∷_, _++_, map, flatMap, append-assoc, append-nil}
-use Prim.Native.Nat.{ℕ, zero, suc, _+_, _*_, _-_, _≤_, _<_}
-use native.Mathlib.Nat.{zero-add, suc-add}
+use mathlib.Core.Bool.{Bool, true, false, _&&_, and-false}
+use mathlib.Core.List.{List, [], _∷_, _++_, flatMap, append-assoc, append-nil}
+use Prim.Native.Nat.{ℕ, zero, suc, _+_, _-_, _≤_, _<_}
 use native.Mathlib.Omega.{arith}
-use lib.Dec.{T, eqb, leb}
-use lib.ListN.{length, getD, take, drop, length-append, length-take, length-drop}
+use lib.Dec.{eqb, leb}
+use lib.ListN.{length, take, drop, length-append}
 use lib.Seq.{drop-drop}
 use borrow.Author.Tests.{eq-eqb, ne-eqb, eqb-true, eqb-false, le-leb, lt-leb}
 use Rattle.base.specs.Lists.{allb, sameb}
-use Rattle.closure.proofs.Steps.{length-part}
-use Rattle.cutting.specs.Rule.{family}
-use Rattle.mesh.specs.Cells.{Cell, redb, patternOf, children, childrenFrom, closedFrom, redEdges}
-use Rattle.mesh.specs.Weights.{Point, point, coarseCells}
-use Rattle.mesh.specs.Table.{Level, next, levels, levelsOf, cellsOf, closedb, apartb, soundb}
-use Rattle.rows.specs.Numbered.{sizes, part}
+use Rattle.mesh.specs.Cells.{Cell, closedFrom, redEdges}
+use Rattle.mesh.specs.Weights.{Point, coarseCells}
+use Rattle.mesh.specs.Table.{Level, next, levels, levelsOf, cellsOf, closedb, apartb, soundb, sizes}
+use Rattle.rows.specs.Numbered.{part}
 use Rattle.rows.specs.Many.{length-next}
+use Rattle.rows.specs.Laws.{length-part}
 
 -- a level, and the levels above it
 module _ (k : ℕ) (cs : List (Cell Point)) (ss : List ℕ) where

@@ -5,18 +5,16 @@ use mathlib.Core.Bool.{Bool, true, false}
 use mathlib.Core.List.{List, _++_}
 use Prim.Native.Nat.{ℕ, _≤_, _<_}
 use native.Mathlib.Omega.{arith}
-use lib.Dec.{leb, ltb}
+use lib.Dec.{ltb}
 use lib.ListN.{length, take, drop}
 use lib.Seq.{take-length}
 use borrow.Author.Tests.{le-leb, lt-leb}
-use Rattle.base.specs.Refuse.{refuse}
+use Rattle.base.specs.Refuse.{refuse, heldAfter, codeOf, valueAfter}
 use Rattle.base.specs.declared.Answer.{Answer}
 use Rattle.base.specs.declared.Answer.the-variants.{Accepted, Refused}
-use Rattle.cutting.specs.Answer.{cutOf, cutInto, noCut}
+use Rattle.cutting.specs.Answer.{cutOf}
 use Rattle.cutting.specs.declared.Family.{Family}
-use Rattle.layout.specs.Opened.{codeOf}
-use Rattle.layout.specs.Calls.{heldAfter}
-use Rattle.yuccadice.specs.After.{valueAfter, cutAnswer}
+use Rattle.yuccadice.specs.After.{cutAnswer}
 use Rattle.yuccadice.proofs.Results.{code-none, code-refused, value-new, value-old}
 
 -- a number that is not 0 is a refusal's

@@ -11,7 +11,7 @@ use Rattle.position.specs.Position.{pointOf, cornerAnswer, positioned, position
 use Rattle.position.specs.declared.Point.{Point}
 use Rattle.position.specs.declared.Position.{Position}
 use Rattle.position.specs.declared.Position.the-variants as position
-use Rattle.layout.specs.Opened.{codeOf}
+use Rattle.base.specs.Refuse.{codeOf, valueAfter}
 use Rattle.layout.specs.Calls.{laidOf, ancestryOf, countedOf}
 use Rattle.layout.specs.declared.Sizes.{Sizes}
 use Rattle.layout.specs.declared.Laid.{Laid}
@@ -32,7 +32,6 @@ use Rattle.jobs.specs.declared.Reading.{Reading}
 use Rattle.jobs.specs.declared.Reading.the-variants as reading
 use Rattle.jobs.specs.declared.Writing.{Writing}
 use Rattle.jobs.specs.declared.Writing.the-variants as writing
-use Rattle.yuccadice.specs.After.{valueAfter}
 
 -- the number, and a lent number
 module _ {a : Answer} where

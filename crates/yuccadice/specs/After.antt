@@ -8,13 +8,7 @@ use lib.Dec.{leb}
 use lib.ListN.{length}
 use Rattle.base.specs.Refuse.{refuse}
 use Rattle.base.specs.declared.Answer.{Answer}
-use Rattle.base.specs.declared.Answer.the-variants.{Accepted, Refused}
 use Rattle.cutting.specs.Answer.{cutOf}
-
--- "a refusal changes nothing"
-unfoldable pub valueAfter : {A : Type 0} → Answer → A → A → A
-valueAfter Accepted new old = new
-valueAfter (Refused k) new old = old
 
 -- a family has at most eight children of four digits
 unfoldable pub cutAnswer : ℕ → List ℕ → Answer

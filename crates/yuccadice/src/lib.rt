@@ -16,18 +16,20 @@ ghost use Rattle.cutting.specs.Answer.{cutOf};
 ghost use Rattle.mesh.specs.Coarse.{cornerCount, meshAnswer};
 ghost use Rattle.mesh.specs.Counts.{countTable};
 ghost use Rattle.mesh.specs.Layout.{cellTable, endTable, sumTable};
-ghost use Rattle.ancestors.specs.Linked.{ancestorOf, noCell};
+ghost use Rattle.ancestors.specs.Linked.{ancestorOf};
+ghost use Rattle.mesh.specs.Cells.{noCell};
 ghost use Rattle.position.specs.Position.{cornerAnswer, pointOf};
-ghost use Rattle.layout.specs.Opened.{codeOf};
-ghost use Rattle.layout.specs.Calls.{tableAnswer, layoutAnswer, ancestorAnswer, countsAnswer, heldAfter, levelsIn, cellsIn, cornersIn};
-ghost use Rattle.step.specs.Calls.{stepAnswer, newTable};
+ghost use Rattle.base.specs.Refuse.{codeOf, heldAfter, valueAfter};
+ghost use Rattle.mesh.specs.Answers.{tableAnswer, newTable};
+ghost use Rattle.layout.specs.Calls.{layoutAnswer, ancestorAnswer, countsAnswer, levelsIn, cellsIn, cornersIn};
+ghost use Rattle.step.specs.Calls.{stepAnswer};
 ghost use Rattle.archive.specs.Job.{jobBytes};
 ghost use Rattle.archive.specs.Form.{jobOf};
 ghost use Rattle.archive.specs.Tables.{markedOf, marksOf, endsOf};
 ghost use Rattle.archive.specs.Stored.{jobFrom};
 ghost use Rattle.replay.specs.Run.{jobTable};
 ghost use Rattle.jobs.specs.Calls.{readAnswer, writeAnswer, replayAnswer, lengthsOf, sizeOf, jobCounts};
-ghost use Rattle.yuccadice.specs.After.{valueAfter, cutAnswer};
+ghost use Rattle.yuccadice.specs.After.{cutAnswer};
 
 // The children of a cell by its pattern: four digits a child, 32 in all, zeros behind the last child. Refusals 15 and 6.
 #[no_mangle]
@@ -40,11 +42,11 @@ pub extern "C" fn yd_cut(pattern: u8, digits: &mut [u8], count: &mut usize) -> u
         return 15;
     }
     let family = cutting::cut(pattern);
-    let k = layout::code(family.answer);
+    let k = base::code(family.answer);
     if k != 0 {
         return k;
     }
-    step::copy(&family.digits, 32, digits);
+    base::copy_bytes(&family.digits, 32, digits);
     *count = family.count as usize;
     0
 }
@@ -54,7 +56,7 @@ pub extern "C" fn yd_cut(pattern: u8, digits: &mut [u8], count: &mut usize) -> u
 pub extern "C" fn yd_examine_mesh(positions: &[i32], cells: &[u16]) -> u8
     ensures { λ r. ⌜ r ≡ codeOf (meshAnswer (was positions) (was cells)) ⌝ }
 {
-    layout::code(coarse::examine_mesh(positions, cells))
+    base::code(coarse::examine_mesh(positions, cells))
 }
 
 // Whether a status table is accepted. Refusals 1 to 6.
@@ -62,7 +64,7 @@ pub extern "C" fn yd_examine_mesh(positions: &[i32], cells: &[u16]) -> u8
 pub extern "C" fn yd_examine_table(positions: &[i32], cells: &[u16], status: &[u8]) -> u8
     ensures { λ r. ⌜ r ≡ codeOf (tableAnswer (was positions) (was cells) (was status)) ⌝ }
 {
-    layout::code(layout::examine_table(positions, cells, status))
+    base::code(layout::examine_table(positions, cells, status))
 }
 
 // Lays a table out: eight numbers a cell, the two ends and the three weighted sums of each corner. Refusals 15 and 1 to 6.

@@ -1,9 +1,8 @@
 -- `closure::bit` meets its contract.
 -- Assumes nothing.
-use mathlib.Core.Path.{refl, sym}
+use mathlib.Core.Path.{refl}
 use native.Mathlib.Omega.{arith}
-use Rattle.base.specs.Lists.{one-if}
-use borrow.Author.Tests.{eqb-true}
+use Rattle.base.specs.Bools.{one-if}
 use Rattle.closure.proofs.bit.Statement.{statement}
 use Rattle.closure.proofs.bit.Tie as tie
 

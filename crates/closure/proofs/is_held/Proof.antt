@@ -1,6 +1,6 @@
 -- `closure::is_held` meets its contract: it asks for the edge's two ends.
 -- Assumes nothing.
-use mathlib.Core.Path.{_≡_, _∙_, ap}
+use mathlib.Core.Path.{_∙_, ap}
 use Rattle.base.specs.Places.{hasb}
 use Rattle.edges.specs.Pairs.{Pair, isb, sorted}
 use Rattle.edges.specs.Table.{listed}

@@ -1,11 +1,9 @@
 -- `closure::red_cell` meets its contract: a status that is not red asks for nothing.
 -- Assumes nothing.
-use mathlib.Core.Path.{_≡_, refl, ap, _∙_}
+use mathlib.Core.Path.{_≡_, ap, _∙_}
 use mathlib.Core.List.{List}
-use Prim.Native.Nat.{ℕ}
 use native.Mathlib.Omega.{arith}
 use lib.ListN.{length}
-use Rattle.mesh.specs.Cells.{edges}
 use Rattle.edges.specs.Pairs.{Pair}
 use Rattle.edges.specs.Table.{grown-none}
 use Rattle.rows.specs.Numbered.{cellAt}

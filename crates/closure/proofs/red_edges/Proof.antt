@@ -1,13 +1,11 @@
 -- `closure::red_edges` meets its contract: a turn inserts the next of the cell's six edges. The measure is what is left of them.
 -- Assumes nothing.
-use mathlib.Core.Path.{_≡_, refl, sym, _∙_, ap}
-use mathlib.Core.List.{List, [], _∷_, _++_}
-use Prim.Native.Nat.{ℕ, _+_, _-_, _≤_, _<_}
+use mathlib.Core.Path.{_≡_}
+use Prim.Native.Nat.{_-_, _≤_}
 use native.Mathlib.Numerals.{add-one}
 use native.Mathlib.Omega.{arith}
-use lib.ListN.{length, take}
-use Rattle.mesh.specs.Cells.{edges, edge}
-use Rattle.edges.specs.Pairs.{Pair}
+use lib.ListN.{take}
+use Rattle.mesh.specs.Cells.{edges}
 use Rattle.rows.specs.Numbered.{cellAt}
 use Rattle.closure.specs.Ready.{Run}
 use Rattle.closure.proofs.Steps.{run-start, run-one, room-left, next-edge, length-edges, all-edges}

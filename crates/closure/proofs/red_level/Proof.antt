@@ -1,14 +1,12 @@
 -- `closure::red_level` meets its contract: a turn inserts the edges of the next cell, if it is red. The measure is what is left of the range.
 -- Assumes nothing.
-use mathlib.Core.Path.{_≡_, refl, sym, _∙_, ap}
-use mathlib.Core.List.{List, [], _∷_, _++_}
-use Prim.Native.Nat.{ℕ, suc, _+_, _*_, _-_, _≤_, _<_}
+use mathlib.Core.Path.{_≡_}
+use Prim.Native.Nat.{_*_, _-_, _≤_, _<_}
 use native.Mathlib.Omega.{arith}
-use lib.ListN.{length, getD, take}
+use lib.ListN.{length, getD}
 use Rattle.mesh.specs.Cells.{redEdges}
-use Rattle.edges.specs.Pairs.{Pair}
 use Rattle.rows.specs.Numbered.{cellAt, cellsAt, part}
-use Rattle.closure.specs.Ready.{Run, Ready, redOf, redCount}
+use Rattle.closure.specs.Ready.{Run, redOf, redCount}
 use Rattle.closure.proofs.Steps.{run-start, run-more, space-left, reds-step, reds-fit, none-yet}
 use borrow.Author.Needs.{needs}
 use Rattle.closure.proofs.red_level.Statement.{statement}

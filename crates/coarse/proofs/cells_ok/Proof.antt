@@ -1,14 +1,14 @@
 -- `coarse::cells_ok` meets its contract. The invariant: the cells that are left decide. The measure is how many they are.
 -- Assumes nothing.
-use mathlib.Core.Path.{_≡_}
 use mathlib.Core.List.{[]}
+use mathlib.Core.Path.{_≡_}
 use Prim.Native.Nat.{_-_, _/_, _≤_}
 use native.Mathlib.Omega.{arith}
 use lib.ListN.{length}
 use borrow.Author.Needs.{needs}
-use Rattle.base.specs.Fours.{fours}
+use Rattle.base.specs.Fours.{fours, length-fours}
 use Rattle.mesh.specs.Coarse.{cellb, cellsb}
-use Rattle.coarse.proofs.Rows.{length-fours, in-fours, said}
+use Rattle.coarse.proofs.Rows.{in-fours, said}
 use Rattle.coarse.proofs.Scan.{Left, scan-start, scan-turn, scan-fails, scan-ends}
 use Rattle.coarse.proofs.cells_ok.Statement.{statement}
 use Rattle.coarse.proofs.cells_ok.Tie as tie

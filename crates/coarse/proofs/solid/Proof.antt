@@ -1,16 +1,16 @@
 -- `coarse::solid` meets its contract. The invariant: the cells that are left decide. The measure is how many they are.
 -- Assumes nothing.
+use mathlib.Core.List.{[]}
 use mathlib.Core.Path.{_≡_}
 use mathlib.Core.Bool.{not}
-use mathlib.Core.List.{[]}
 use Prim.Native.Nat.{_-_, _/_, _≤_}
 use native.Mathlib.Omega.{arith}
 use lib.ListN.{length}
 use borrow.Author.Needs.{needs}
-use Rattle.base.specs.Fours.{fours}
+use Rattle.base.specs.Fours.{fours, length-fours}
 use Rattle.cutting.specs.Rule.{zerob}
 use Rattle.mesh.specs.Coarse.{determinant, solidb}
-use Rattle.coarse.proofs.Rows.{length-fours, in-fours, said, placed-at}
+use Rattle.coarse.proofs.Rows.{in-fours, said, placed-at}
 use Rattle.coarse.proofs.Scan.{Left, scan-start, scan-turn, scan-fails, scan-ends}
 use Rattle.coarse.proofs.solid.Statement.{statement}
 use Rattle.coarse.proofs.solid.Tie as tie

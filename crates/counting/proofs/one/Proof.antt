@@ -2,7 +2,7 @@
 -- Assumes nothing.
 use mathlib.Core.Path.{refl}
 use native.Mathlib.Omega.{arith}
-use Rattle.base.specs.Lists.{one-if}
+use Rattle.base.specs.Bools.{one-if}
 use Rattle.counting.proofs.one.Statement.{statement}
 use Rattle.counting.proofs.one.Tie as tie
 

@@ -1,11 +1,11 @@
 -- `cutting::copied` meets its contract. The array holds the digits passed, and zeros behind them. The measure is what is left to copy.
 -- Assumes nothing.
-use mathlib.Core.Path.{_≡_, refl, _∙_, sym, ap}
+use mathlib.Core.Path.{_≡_}
 use mathlib.Core.List.{_++_}
-use Prim.Native.Nat.{_+_, _-_, _≤_, _<_}
+use Prim.Native.Nat.{_+_, _-_, _≤_}
 use native.Mathlib.Numerals.{add-one}
 use native.Mathlib.Omega.{arith}
-use lib.ListN.{length, getD, take, drop, replicate}
+use lib.ListN.{take, drop, replicate}
 use borrow.Author.Needs.{needs}
 use Rattle.cutting.specs.Answer.{digitsBelow}
 use Rattle.cutting.proofs.Table.{digits-length}

@@ -1,6 +1,6 @@
 -- `cutting::count` meets its contract: the constant is `counts`.
 -- Assumes nothing.
-use mathlib.Core.Path.{_≡_, sym, _∙_, ap}
+use mathlib.Core.Path.{sym, _∙_, ap}
 use native.Mathlib.Omega.{arith}
 use Rattle.cutting.specs.declared.Family.{Family}
 use Rattle.cutting.specs.Answer.{cutInto, noCut, cutOf-accepted, cutOf-refused}

@@ -1,13 +1,11 @@
 -- `cutting::cut_from` meets its contract: the digits between two starts are the row's, and the red family is the last row.
 -- Assumes nothing.
-use mathlib.Core.Path.{_≡_, refl, sym, _∙_, ap}
+use mathlib.Core.Path.{sym, _∙_, ap}
 use mathlib.Core.List.{flatten}
 use native.Mathlib.Omega.{arith}
 use borrow.Author.Needs.{needs}
-use Rattle.cutting.specs.Rule.{family}
 use Rattle.cutting.specs.Answer.{noCut, cutInto, cutOf, cutOf-accepted, cutOf-refused}
-use Rattle.cutting.proofs.Data.{rows}
-use Rattle.cutting.proofs.Table.{row, family-row}
+use Rattle.cutting.specs.Rows.{rows, row, family-row}
 use Rattle.cutting.proofs.Found.{Found, found, accepted}
 use Rattle.cutting.proofs.cut_from.Statement.{statement}
 use Rattle.cutting.proofs.cut_from.Tie as tie

@@ -2,8 +2,6 @@
 -- Assumes nothing.
 use mathlib.Core.Path.{_≡_, sym, _∙_}
 use native.Mathlib.Omega.{arith}
-use native.Mathlib.Decide.{ℕ-discrete}
-use borrow.Author.Tests.{eqb-true}
 use Rattle.edges.proofs.Seek.{old, new}
 use borrow.Author.Needs.{needs}
 use Rattle.edges.proofs.insert.Statement.{statement}

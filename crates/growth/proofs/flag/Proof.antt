@@ -1,6 +1,6 @@
 -- `growth::flag` meets its contract, by the two cases.
 -- Assumes nothing.
-use Rattle.base.specs.Lists.{one-if}
+use Rattle.base.specs.Bools.{one-if}
 use Rattle.growth.proofs.flag.Statement.{statement}
 use Rattle.growth.proofs.flag.Tie as tie
 

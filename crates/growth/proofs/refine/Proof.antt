@@ -1,6 +1,6 @@
 -- `growth::refine` meets its contract: a leaf changes nothing; the rows of a family have the numbers of its points.
 -- Assumes nothing.
-use Rattle.growth.specs.Rows.{pattern-below}
+use Rattle.mesh.specs.Laws.{pattern-below}
 use Rattle.growth.proofs.OneCell.{size-some, laid-leaf, laid-family}
 use borrow.Author.Needs.{needs}
 use Rattle.growth.proofs.refine.Statement.{statement}

@@ -7,7 +7,7 @@ use native.Mathlib.Omega.{arith}
 use lib.ListN.{length, getD}
 use Rattle.cutting.specs.Rule.{family}
 use Rattle.cutting.specs.declared.Family.{Family}
-use Rattle.cutting.proofs.Table.{family-few}
+use Rattle.cutting.specs.Rows.{family-few}
 use Rattle.growth.proofs.Family.{Rows, rows-none, rows-more, rows-all, digits-below, child-count}
 use borrow.Author.Needs.{needs}
 use Rattle.growth.proofs.write_children.Statement.{statement}

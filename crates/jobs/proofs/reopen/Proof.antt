@@ -3,11 +3,9 @@ use Rattle.archive.specs.Bytes.{Octets}
 use Rattle.archive.specs.Form.{formb}
 use borrow.Author.Tests.{not-true, not-false}
 use lib.Seq.{length-take-le}
-use lib.ListN.{length}
-use lib.Dec.{T}
 use native.Mathlib.Omega.{arith}
-use Prim.Native.Nat.{_*_, _≤_}
-use mathlib.Core.Bool.{true, false}
+use Prim.Native.Nat.{_*_}
+use mathlib.Core.Bool.{true}
 use mathlib.Core.Path.{_≡_, refl, sym, _∙_}
 use borrow.Author.Needs.{needs}
 use Rattle.jobs.proofs.reopen.Statement.{statement}

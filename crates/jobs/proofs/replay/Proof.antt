@@ -1,9 +1,7 @@
 use Rattle.jobs.proofs.Answers.{short-table, short-counts, refused-so, replay-refused, replay-levels, replay-done}
 use lib.Seq.{length-take-le}
-use lib.ListN.{length}
 use native.Mathlib.Omega.{arith}
-use Prim.Native.Nat.{_≤_}
-use mathlib.Core.Path.{_≡_, refl, sym, _∙_}
+use mathlib.Core.Path.{sym}
 use borrow.Author.Needs.{needs}
 use Rattle.jobs.proofs.replay.Statement.{statement}
 use Rattle.jobs.proofs.replay.Tie as tie
@@ -11,7 +9,7 @@ use Rattle.jobs.proofs.replay.Reads as reads
 use Rattle.jobs.proofs.replay.Lts as lts
 use Rattle.counting.proofs.count_levels.Reads as count-levels-reads
 use Rattle.jobs.proofs.reopen.Reads as reopen-reads
-use Rattle.step.proofs.copy.Reads as copy-reads
+use Rattle.base.proofs.copy_bytes.Reads as copy-reads
 
 returns : tie.Need-returns
 returns c = let s = c .before .before .before .before in refused-so (s .args .bytes .now) (s .args .table .now) (s .args .counts .now) 15 (short-table (s .args .bytes .now) (s .args .table .now) (s .args .counts .now) (c .if1 .taken))
@@ -37,11 +35,11 @@ slice-aggregate-count-levels c = sym (length-take-le (c .before .before .before 
 count-levels-requires : tie.Need-count-levels-requires
 count-levels-requires c κs = let s = c .before .before .before .before .before .before .before .before .before .before .before .before in (replay-levels (s .args .bytes .now) (s .args .table .now) (s .args .counts .now) (omega (arith, c .before .before .before .before .before .before .before .before .if1 .left)) (omega (arith, c .before .before .before .before .before .before .before .if2 .left)) _ _ _ _ _ (c .before .before .before .before .before .reopen .ensures) (c .before .before .if3 .left), omega (arith, c .before .before .before .before .before .before .before .if2 .left))
 
-slice-aggregate-copy : tie.Need-slice-aggregate-copy
-slice-aggregate-copy c = search needs
+slice-aggregate-copy-bytes : tie.Need-slice-aggregate-copy-bytes
+slice-aggregate-copy-bytes c = search needs
 
-copy-requires : tie.Need-copy-requires
-copy-requires c κs = let few = c .before .before .before .before .before .before .before .before .before .before .reopen .ensures .few (c .before .before .before .before .before .before .before .if3 .left) in (omega (arith, few, c .before .before .before .before .before .before .before .before .before .before .reopen .kept .1 .0), omega (arith, few, c .before .before .before .before .before .before .before .before .before .before .before .before .before .if1 .left))
+copy-bytes-requires : tie.Need-copy-bytes-requires
+copy-bytes-requires c κs = let few = c .before .before .before .before .before .before .before .before .before .before .reopen .ensures .few (c .before .before .before .before .before .before .before .if3 .left) in (omega (arith, few, c .before .before .before .before .before .before .before .before .before .before .reopen .kept .1 .0), omega (arith, few, c .before .before .before .before .before .before .before .before .before .before .before .before .before .if1 .left))
 
 same-length : tie.Need-same-length
 same-length c = search needs
@@ -50,7 +48,7 @@ same-length-2 : tie.Need-same-length-2
 same-length-2 c = search needs
 
 returns-4 : tie.Need-returns-4
-returns-4 c = let s = c .before .before .before .before .before .before .before .before .before .before .before .before .before .before .before .before .before .before .before .before in replay-done (s .args .bytes .now) (s .args .table .now) (s .args .counts .now) (omega (arith, c .before .before .before .before .before .before .before .before .before .before .before .before .before .before .before .before .if1 .left)) (omega (arith, c .before .before .before .before .before .before .before .before .before .before .before .before .before .before .before .if2 .left)) _ _ _ _ _ (c .before .before .before .before .before .before .before .before .before .before .before .before .before .reopen .ensures) (c .before .before .before .before .before .before .before .before .before .before .if3 .left) _ _ _ (c .before .before .copy .ensures) (c .before .before .before .before .before .before .before .count-levels .ensures .0) (c .before .before .before .before .before .before .before .count-levels .ensures .1)
+returns-4 c = let s = c .before .before .before .before .before .before .before .before .before .before .before .before .before .before .before .before .before .before .before .before in replay-done (s .args .bytes .now) (s .args .table .now) (s .args .counts .now) (omega (arith, c .before .before .before .before .before .before .before .before .before .before .before .before .before .before .before .before .if1 .left)) (omega (arith, c .before .before .before .before .before .before .before .before .before .before .before .before .before .before .before .if2 .left)) _ _ _ _ _ (c .before .before .before .before .before .before .before .before .before .before .before .before .before .reopen .ensures) (c .before .before .before .before .before .before .before .before .before .before .if3 .left) _ _ _ (c .before .before .copy-bytes .ensures) (c .before .before .before .before .before .before .before .count-levels .ensures .0) (c .before .before .before .before .before .before .before .count-levels .ensures .1)
 
 pub replay-spec : {M : Type 1} → statement M
 replay-spec =
@@ -64,8 +62,8 @@ replay-spec =
     array-share-prefix-new
     slice-aggregate-count-levels
     count-levels-requires
-    slice-aggregate-copy
-    copy-requires
+    slice-aggregate-copy-bytes
+    copy-bytes-requires
     same-length
     same-length-2
     returns-4)

@@ -1,7 +1,7 @@
 use Rattle.jobs.proofs.WriteAnswers.{write-short, write-refused, write-taken, write-many, write-few, write-done}
 use borrow.Author.Tests.{not-true, not-false}
 use native.Mathlib.Omega.{arith}
-use mathlib.Core.Path.{_≡_, sym, _∙_}
+use mathlib.Core.Path.{sym, _∙_}
 use borrow.Author.Needs.{needs}
 use Rattle.jobs.proofs.write.Statement.{statement}
 use Rattle.jobs.proofs.write.Tie as tie

@@ -3,8 +3,9 @@
 use mathlib.Core.Path.{_≡_, _∙_, ap}
 use Rattle.layout.specs.declared.Counted.the-variants as counted
 use Rattle.base.specs.declared.Answer.the-variants.{Accepted, Refused}
-use Rattle.layout.specs.Calls.{countsAnswer, countedOf, heldAfter}
-use Rattle.layout.proofs.Answers.{answer-refused, answer-none, counts-short, counts-long}
+use Rattle.layout.specs.Calls.{countsAnswer, countedOf}
+use Rattle.base.specs.Refuse.{heldAfter, answer-refused, answer-none}
+use Rattle.layout.proofs.Answers.{counts-short, counts-long}
 use Rattle.layout.proofs.Results.{fits-levels, number-after, counts-after}
 use borrow.Author.Needs.{needs}
 use Rattle.layout.proofs.counts.Statement.{statement}

@@ -1,7 +1,7 @@
 -- `layout::examine_table` meets its contract.
 -- Assumes nothing.
 use mathlib.Core.Path.{sym, _∙_}
-use Rattle.layout.proofs.Answers.{answer-refused, answer-none}
+use Rattle.base.specs.Refuse.{answer-refused, answer-none}
 use borrow.Author.Needs.{needs}
 use Rattle.layout.proofs.examine_table.Statement.{statement}
 use Rattle.layout.proofs.examine_table.Tie as tie

@@ -5,8 +5,9 @@ use mathlib.Core.Bool.{true}
 use native.Mathlib.Omega.{arith}
 use borrow.Author.Tests.{not-true, not-false}
 use Rattle.base.specs.declared.Answer.the-variants.{Accepted, Refused}
-use Rattle.layout.specs.Calls.{lentb, layoutAnswer, laidOf, heldAfter}
-use Rattle.layout.proofs.Answers.{answer-refused, answer-none, layout-short, layout-long}
+use Rattle.layout.specs.Calls.{lentb, layoutAnswer, laidOf}
+use Rattle.base.specs.Refuse.{heldAfter, answer-refused, answer-none}
+use Rattle.layout.proofs.Answers.{layout-short, layout-long}
 use Rattle.layout.proofs.Results.{Lent, lent-long, fits-rows, fits-few, fits-corners, fits-ends, fits-small, table-after, ends-after, sums-after}
 use borrow.Author.Needs.{needs}
 use Rattle.layout.proofs.lay_out.Statement.{statement}
@@ -68,14 +69,14 @@ returns-2 c =
     layout-long (a .positions .now) (a .cells .now) (a .status .now) (a .table .now) (a .ends .now) (a .sums .now) (long (c .before .before .before .before .before .before .before .before .before)) ∙ o .ensures .answer ∙ answer-refused (o .result .refusal) (c .if2 .taken) in
     (rw e, (rw e, (rw e, rw e)))
 
-slice-aggregate-copy : tie.Need-slice-aggregate-copy
-slice-aggregate-copy c = search needs
+slice-aggregate-copy-numbers : tie.Need-slice-aggregate-copy-numbers
+slice-aggregate-copy-numbers c = search needs
 
-mul-copy : tie.Need-mul-copy
-mul-copy c = omega (arith, c .before .before .before .before .before .before .before .«open» .ensures .fits (c .before .before .if2 .left) .sound .few)
+mul-copy-numbers : tie.Need-mul-copy-numbers
+mul-copy-numbers c = omega (arith, c .before .before .before .before .before .before .before .«open» .ensures .fits (c .before .before .if2 .left) .sound .few)
 
-copy-requires : tie.Need-copy-requires
-copy-requires c κs =
+copy-numbers-requires : tie.Need-copy-numbers-requires
+copy-numbers-requires c κs =
     let f = c .before .before .before .before .before .before .before .before .«open» .ensures .fits (c .before .before .before .if2 .left) in
     (fits-rows _ _ _ _ _ _ _ _ _ f, omega (arith, f .sound .few, lent (c .before .before .before .before .before .before .before .before .before .before .before .before) .long-table))
 
@@ -123,7 +124,7 @@ returns-3 c =
     layout-long (a .positions .now) (a .cells .now) (a .status .now) (a .table .now) (a .ends .now) (a .sums .now) (long (c .before .before .before .before .before .before .before .before .before .before .before .before .before .before .before .before .before .before .before .before .before .before .before .before .before .before .before)) ∙ o .ensures .answer ∙ answer-none (o .result .refusal) (c .before .before .before .before .before .before .before .before .before .before .before .before .before .before .before .before .before .before .if2 .left) in (
       rw (e, f .sound .counted, f .sound .high, fits-corners _ _ _ _ _ _ _ _ _ f),
       (
-        rw e (table-after _ _ _ _ _ _ _ _ _ f (a .table .now) _ (c .before .before .before .before .before .before .before .before .before .before .before .before .before .before .copy .ensures)),
+        rw e (table-after _ _ _ _ _ _ _ _ _ f (a .table .now) _ (c .before .before .before .before .before .before .before .before .before .before .before .before .before .before .copy-numbers .ensures)),
         (
           rw e (ends-after _ _ _ _ _ _ _ _ _ f (a .ends .now) _ (c .before .before .before .before .before .before .before .before .fill-ends .ensures)),
           rw e (sums-after _ _ _ _ _ _ _ _ _ f (a .sums .now) _ (c .before .before .fill-sums .ensures)),
@@ -148,9 +149,9 @@ lay-out-spec =
     same-length-5
     same-length-6
     returns-2
-    slice-aggregate-copy
-    mul-copy
-    copy-requires
+    slice-aggregate-copy-numbers
+    mul-copy-numbers
+    copy-numbers-requires
     slice-aggregate-fill-ends
     slice-aggregate-fill-ends-2
     fill-ends-requires

@@ -4,9 +4,8 @@ use mathlib.Core.Path.{_≡_, sym, _∙_, ap}
 use mathlib.Core.Bool.{true}
 use native.Mathlib.Omega.{arith}
 use borrow.Author.Tests.{not-true, not-false}
-use Rattle.base.specs.Fours.{fours}
 use Rattle.mesh.specs.Coarse.{meshAnswer}
-use Rattle.layout.specs.Opened.{codeOf, answerOf}
+use Rattle.base.specs.Refuse.{codeOf, answerOf}
 use Rattle.layout.proofs.Accepted.{Passed, mesh-passed}
 use Rattle.layout.proofs.Answers.{table-mesh, table-unsound, table-sound}
 use borrow.Author.Needs.{needs}

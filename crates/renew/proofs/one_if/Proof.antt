@@ -1,5 +1,5 @@
 -- `renew::one_if` meets its contract. Assumes nothing.
-use Rattle.base.specs.Lists.{one-if}
+use Rattle.base.specs.Bools.{one-if}
 use native.Mathlib.Omega.{arith}
 use mathlib.Core.Path.{refl}
 use Rattle.renew.proofs.one_if.Statement.{statement}

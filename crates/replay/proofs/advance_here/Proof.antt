@@ -76,28 +76,28 @@ same-length-15 c = c .before .before .before .before .before .before .before .be
 returns : tie.Need-returns
 returns c = stepped-refused _ _ _ _ _ _ _ _ _ _ _ _ (c .before .before .before .before .before .before .before .before .before .before .before .before .before .before .before .before .before .before .before .before .before .before .before .before .before .before .before .before .before .advance .ensures) _ _ _ _ _ (c .failed .ensures) (c .before .if1 .taken)
 
-mul-copy : tie.Need-mul-copy
-mul-copy c = omega (arith, c .before .before .before .before .before .before .before .before .before .before .before .before .before .before .before .before .before .before .before .before .before .before .before .before .before .before .before .before .before .before .advance .ensures .few (c .before .before .if1 .left))
+mul-copy-numbers : tie.Need-mul-copy-numbers
+mul-copy-numbers c = omega (arith, c .before .before .before .before .before .before .before .before .before .before .before .before .before .before .before .before .before .before .before .before .before .before .before .before .before .before .before .before .before .before .advance .ensures .few (c .before .before .if1 .left))
 
-copy-requires : tie.Need-copy-requires
-copy-requires c κs =
+copy-numbers-requires : tie.Need-copy-numbers-requires
+copy-numbers-requires c κs =
     let s = c .before .before .before .before .before .before .before .before .before .before .before .before .before .before .before .before .before .before .before .before .before .before .before .before .before .before .before .before .before .before .before .before .before .before .before .before .before .before .before .before .before .before .before .before .before .before .before .before .before .before .before .before .before .before .before .before .before .before .before .before .before .before .before .before .before in
     let r = c .before .before .before .before .before .before .before .before .before .before .before .before .before .before .before .before .before .before .before .before .before .before .before .before .before .before .before .before .before .before .before .advance in
     let z = c .before .before .before .if1 .left in
     (omega (arith, r .ensures .few z, r .ensures .held z .long), omega (arith, r .ensures .few z, s .pre .0 .held .long))
 
-copy-requires-2 : tie.Need-copy-requires-2
-copy-requires-2 c κs =
+copy-bytes-requires : tie.Need-copy-bytes-requires
+copy-bytes-requires c κs =
     let s = c .before .before .before .before .before .before .before .before .before .before .before .before .before .before .before .before .before .before .before .before .before .before .before .before .before .before .before .before .before .before .before .before .before .before .before .before .before .before .before .before .before .before .before .before .before .before .before .before .before .before .before .before .before .before .before .before .before .before .before .before .before .before .before .before .before .before .before .before .before .before in
     let r = c .before .before .before .before .before .before .before .before .before .before .before .before .before .before .before .before .before .before .before .before .before .before .before .before .before .before .before .before .before .before .before .before .before .before .before .before .advance in
     let few = r .ensures .few (c .before .before .before .before .before .before .before .before .if1 .left) in
     (omega (arith, few, r .kept .1 .1 .1 .1 .1 .1 .1 .1 .0, s .pre .1 .1 .0 .in-table), omega (arith, few, s .pre .0 .room))
 
 same-length-16 : tie.Need-same-length-16
-same-length-16 c = c .before .before .before .before .before .before .before .copy .kept .1 .1 .0
+same-length-16 c = c .before .before .before .before .before .before .before .copy-numbers .kept .1 .1 .0
 
 same-length-17 : tie.Need-same-length-17
-same-length-17 c = c .before .before .copy2 .kept .1 .1 .0
+same-length-17 c = c .before .before .copy-bytes .kept .1 .1 .0
 
 same-length-18 : tie.Need-same-length-18
 same-length-18 c = c .before .before .before .before .before .before .before .before .before .before .before .before .before .before .before .before .before .before .before .before .before .before .before .before .before .before .before .before .before .before .before .before .before .before .before .before .before .before .before .advance .kept .1 .1 .1 .1 .1 .0
@@ -142,10 +142,10 @@ returns-2 : tie.Need-returns-2
 returns-2 c =
     let s = c .before .before .before .before .before .before .before .before .before .before .before .before .before .before .before .before .before .before .before .before .before .before .before .before .before .before .before .before .before .before .before .before .before .before .before .before .before .before .before .before .before .before .before .before .before .before .before .before .before .before .before .before .before .before .before .before .before .before .before .before .before .before .before .before .before .before .before .before .before .before .before .before .before in
     let r = c .before .before .before .before .before .before .before .before .before .before .before .before .before .before .before .before .before .before .before .before .before .before .before .before .before .before .before .before .before .before .before .before .before .before .before .before .before .before .before .advance in
-    stepped-on _ _ _ _ _ _ _ _ _ _ _ _ (r .ensures) (c .before .before .before .before .before .before .before .before .before .before .before .if1 .left) _ _ _ _ (c .before .before .before .before .before .before .before .copy .ensures) (c .before .before .copy2 .ensures)
+    stepped-on _ _ _ _ _ _ _ _ _ _ _ _ (r .ensures) (c .before .before .before .before .before .before .before .before .before .before .before .if1 .left) _ _ _ _ (c .before .before .before .before .before .before .before .copy-numbers .ensures) (c .before .before .copy-bytes .ensures)
     (omega (arith, r .kept .1 .1 .1 .1 .1 .1 .1 .1 .0, s .pre .1 .1 .0 .in-table))
-    (omega (arith, c .before .before .before .before .before .before .before .copy .kept .1 .1 .0, s .pre .0 .held .long))
-    (omega (arith, c .before .before .copy2 .kept .1 .1 .0, s .pre .0 .room))
+    (omega (arith, c .before .before .before .before .before .before .before .copy-numbers .kept .1 .1 .0, s .pre .0 .held .long))
+    (omega (arith, c .before .before .copy-bytes .kept .1 .1 .0, s .pre .0 .room))
 
 pub advance-here-spec : {M : Type 1} → statement M
 advance-here-spec =
@@ -171,9 +171,9 @@ advance-here-spec =
     same-length-14
     same-length-15
     returns
-    mul-copy
-    copy-requires
-    copy-requires-2
+    mul-copy-numbers
+    copy-numbers-requires
+    copy-bytes-requires
     same-length-16
     same-length-17
     same-length-18

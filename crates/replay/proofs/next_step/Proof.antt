@@ -9,9 +9,10 @@ use lib.ListN.{drop, length-drop}
 use borrow.Author.Tests.{not-true, not-false}
 use borrow.Author.Needs.{needs}
 use Rattle.replay.proofs.Steps.{moved-missed, moved-on}
-use Rattle.replay.proofs.Turns.{length-pairs, pairs-part, next-back, next-behind, next-moved}
+use Rattle.replay.proofs.Turns.{pairs-part, next-back, next-behind, next-moved}
 use Rattle.replay.proofs.next_step.Tie as tie
 use Rattle.replay.proofs.next_step.Statement.{statement}
+use Rattle.archive.specs.Ends.{length-pairs}
 
 failed-requires : tie.Need-failed-requires
 failed-requires c κs = search needs

@@ -5,10 +5,11 @@ use Prim.Native.Nat.{_-_, _<_}
 use native.Mathlib.Omega.{arith}
 use lib.ListN.{length, take}
 use borrow.Author.Needs.{needs}
-use Rattle.replay.proofs.Turns.{length-pairs, Turn, turn-start, turn-refused, turn-next, turn-left, turn-end}
+use Rattle.replay.proofs.Turns.{Turn, turn-start, turn-refused, turn-next, turn-left, turn-end}
 use Rattle.archive.specs.Tables.{pairs}
 use Rattle.replay.proofs.run_steps.Tie as tie
 use Rattle.replay.proofs.run_steps.Statement.{statement}
+use Rattle.archive.specs.Ends.{length-pairs}
 
 abbrev Inv-loop : tie.InvT-loop
 Inv-loop mesh n marked marks ends first high rows₀ table₀ spread-marks₀ new-rows₀ ps₀ qs₀ new₀ xs₀ ys₀ heads₀ links₀ mid-heads₀ mid-links₀ old₀ kids₀ red₀ digits cells₀ levels₀ p₀ g₀ rows table spread-marks new-rows ps qs new xs ys heads links mid-heads mid-links old kids red cells levels p g =

@@ -2,9 +2,9 @@ use Rattle.replay.proofs.Spreading.{Scanned, scan-start, scan-next, sca
 use Rattle.replay.proofs.Marking.{may-below}
 use borrow.Author.Tests.{not-true, not-false}
 use borrow.Author.Needs.{needs}
-use lib.ListN.{length, getD}
+use lib.ListN.{length}
 use native.Mathlib.Omega.{arith}
-use Prim.Native.Nat.{_+_, _-_, _≤_, _<_}
+use Prim.Native.Nat.{_-_, _≤_}
 use mathlib.Core.Path.{_≡_, sym, _∙_}
 use Rattle.replay.proofs.spread.Statement.{statement}
 use Rattle.replay.proofs.spread.Tie as tie

@@ -1,15 +1,14 @@
 -- `apart::apart` meets its contract: the cells that are left decide as all do. The measure is their number.
 -- Assumes nothing.
-use mathlib.Core.Path.{_≡_, refl, sym, _∙_, ap}
-use mathlib.Core.Bool.{Bool, true, false}
-use Prim.Native.Nat.{ℕ, _+_, _*_, _-_, _≤_, _<_}
+use mathlib.Core.Path.{_≡_, sym, _∙_}
+use Prim.Native.Nat.{_*_, _-_, _≤_, _<_}
 use native.Mathlib.Omega.{arith}
-use lib.ListN.{length, getD}
+use lib.ListN.{length}
 use borrow.Author.Tests.{not-true, not-false}
 use Rattle.base.specs.Lists.{allb}
 use Rattle.edges.specs.Table.{listed}
-use Rattle.rows.specs.Numbered.{cellAt, cellsAt}
-use Rattle.closure.specs.Ready.{Looks, listedApart}
+use Rattle.rows.specs.Numbered.{cellsAt}
+use Rattle.closure.specs.Ready.{listedApart}
 use Rattle.separation.specs.Parents.{apartAll}
 use Rattle.separation.proofs.Scan.{cells-miss, cells-next, cells-end}
 use borrow.Author.Needs.{needs}

@@ -1,16 +1,13 @@
 -- `apart::apart_cell` meets its contract: the edges that are left decide as all six do. The measure is their number.
 -- Assumes nothing.
-use mathlib.Core.Path.{_≡_, refl, sym, _∙_, ap}
-use mathlib.Core.Bool.{Bool, true, false, _||_, not}
-use Prim.Native.Nat.{ℕ, _+_, _*_, _-_, _≤_, _<_}
+use mathlib.Core.Path.{_≡_, refl, sym, _∙_}
+use mathlib.Core.Bool.{false}
+use Prim.Native.Nat.{_+_, _*_, _-_, _≤_}
 use native.Mathlib.Omega.{arith}
-use lib.Dec.{eqb}
 use lib.ListN.{length, getD, drop}
 use borrow.Author.Tests.{not-true, not-false}
 use Rattle.base.specs.Lists.{allb}
-use Rattle.base.specs.Places.{hasb}
-use Rattle.mesh.specs.Cells.{Cell, edges, edge, heldb}
-use Rattle.edges.specs.Pairs.{Pair, isb, sorted}
+use Rattle.mesh.specs.Cells.{edges}
 use Rattle.edges.specs.Table.{listed}
 use Rattle.rows.specs.Numbered.{cellAt}
 use Rattle.closure.specs.Ready.{listedApart}

@@ -1,6 +1,5 @@
 -- `apart::are` meets its contract.
 -- Assumes nothing.
-use mathlib.Core.Path.{refl}
 use borrow.Author.Tests.{eq-eqb, ne-eqb}
 use Rattle.separation.proofs.are.Statement.{statement}
 use Rattle.separation.proofs.are.Tie as tie

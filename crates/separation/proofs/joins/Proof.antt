@@ -1,6 +1,6 @@
 -- `apart::joins` meets its contract: straight, or crossed.
 -- Assumes nothing.
-use mathlib.Core.Path.{refl, sym, _∙_}
+use mathlib.Core.Path.{sym, _∙_}
 use Rattle.mesh.specs.Cells.{joinsb}
 use borrow.Author.Needs.{needs}
 use Rattle.separation.proofs.joins.Statement.{statement}

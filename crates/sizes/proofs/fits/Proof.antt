@@ -1,9 +1,7 @@
 -- `sizes::fits` meets its contract: the rest decides as the whole does. The measure is what is left.
 -- Assumes nothing.
-use mathlib.Core.Path.{_≡_, refl, sym, _∙_, ap}
-use mathlib.Core.Bool.{Bool, true, false}
-use Prim.Native.Nat.{ℕ, _+_, _-_, _≤_, _<_}
-use native.Mathlib.Omega.{arith}
+use mathlib.Core.Path.{_≡_, sym, _∙_}
+use Prim.Native.Nat.{_-_, _≤_}
 use lib.Dec.{leb}
 use lib.ListN.{length, drop, drop-of-length-le}
 use Rattle.base.specs.Lists.{allb}

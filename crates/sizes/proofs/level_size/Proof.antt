@@ -1,10 +1,10 @@
 -- `sizes::level_size` meets its contract: a turn adds the next cell's children. The measure is what is left of the range.
 -- Assumes nothing.
-use mathlib.Core.Path.{_≡_, refl, sym, _∙_, ap}
-use Prim.Native.Nat.{ℕ, _+_, _*_, _-_, _≤_, _<_}
+use mathlib.Core.Path.{_≡_, sym}
+use Prim.Native.Nat.{_*_, _-_, _≤_}
 use native.Mathlib.Omega.{arith}
-use lib.ListN.{length, getD}
-use Rattle.rows.specs.Numbered.{sizes, sizeOf, part}
+use Rattle.mesh.specs.Table.{sizes}
+use Rattle.rows.specs.Numbered.{part}
 use Rattle.sizes.proofs.Sums.{sizes-step, sizes-none, status-fits}
 use borrow.Author.Needs.{needs}
 use Rattle.sizes.proofs.level_size.Statement.{statement}

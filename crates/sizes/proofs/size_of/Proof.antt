@@ -1,6 +1,6 @@
 -- `sizes::size_of` meets its contract, case by case.
 -- Assumes nothing.
-use mathlib.Core.Path.{_≡_, sym, _∙_}
+use mathlib.Core.Path.{sym, _∙_}
 use native.Mathlib.Omega.{arith}
 use Rattle.sizes.proofs.Sums.{size-leaf, size-red, size-green, green-few}
 use borrow.Author.Needs.{needs}

@@ -2,7 +2,7 @@
 -- Assumes nothing.
 use mathlib.Core.Path.{refl, sym, _∙_}
 use native.Mathlib.Omega.{arith}
-use Rattle.base.specs.Places.{not-both}
+use Rattle.base.specs.Bools.{not-both}
 use borrow.Author.Needs.{needs}
 use Rattle.step.proofs.decided.Statement.{statement}
 use Rattle.step.proofs.decided.Tie as tie

@@ -1,13 +1,12 @@
 -- `step::marks_fit` meets its contract: the rest of the marks decides as the whole does. The measure is what is left of it.
 -- Assumes nothing.
-use mathlib.Core.Path.{_≡_, refl, sym, _∙_, ap}
-use mathlib.Core.Bool.{Bool, true, false, _&&_}
-use Prim.Native.Nat.{ℕ, suc, _+_, _-_, _≤_, _<_}
+use mathlib.Core.Path.{_≡_, refl, sym, _∙_}
+use Prim.Native.Nat.{_-_, _≤_}
 use native.Mathlib.Omega.{arith}
-use lib.ListN.{length, getD, drop}
+use lib.ListN.{length, drop}
 use borrow.Author.Needs.{needs}
 use borrow.Author.Tests.{not-true, not-false}
-use Rattle.step.specs.Calls.{markb, marksb}
+use Rattle.mesh.specs.Answers.{marksb}
 use Rattle.step.proofs.Marks.{marks-differ, marks-next, marks-miss, marks-end}
 use Rattle.step.proofs.marks_fit.Statement.{statement}
 use Rattle.step.proofs.marks_fit.Tie as tie

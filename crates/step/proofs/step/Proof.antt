@@ -1,7 +1,7 @@
 -- `step::step` meets its contract: it answers as the definition does at each return, and fills the table at the last one.
 -- Assumes nothing.
-use mathlib.Core.Path.{_≡_, refl, sym, _∙_, ap}
-use Prim.Native.Nat.{ℕ, _+_, _*_, _≤_, _<_}
+use mathlib.Core.Path.{_≡_, sym, _∙_}
+use Prim.Native.Nat.{_≤_}
 use native.Mathlib.Omega.{arith}
 use lib.Dec.{lit≤}
 use lib.ListN.{length}
@@ -9,9 +9,9 @@ use borrow.Author.Tests.{not-true, not-false}
 use borrow.Author.Needs.{needs}
 use Rattle.base.specs.Fours.{fours}
 use Rattle.mesh.specs.Coarse.{cornerCount}
-use Rattle.layout.specs.Opened.{Fits}
-use Rattle.layout.proofs.Answers.{answer-refused, answer-none}
-use Rattle.step.specs.Calls.{newTable, stepAnswer}
+use Rattle.base.specs.Refuse.{answer-refused, answer-none}
+use Rattle.mesh.specs.Answers.{newTable}
+use Rattle.step.specs.Calls.{stepAnswer}
 use Rattle.step.proofs.Answers.{step-short, step-table, step-marks, step-limits, refused-so, accepted-so, marks-many, opened-held}
 use Rattle.step.proofs.step.Statement.{statement}
 use Rattle.step.proofs.step.Tie as tie
@@ -124,11 +124,11 @@ returns-4 c =
     let m = step-limits (a .positions .now) (a .cells .now) (a .status .now) (a .marks .now) (a .table .now) (omega (arith, c .before .before .before .before .before .before .before .before .before .before .before .before .before .before .before .before .before .before .before .before .before .before .before .before .before .before .before .before .before .before .before .before .before .before .before .before .before .before .before .before .before .before .before .if1 .left)) (o .result .refusal) (o .ensures .answer) (omega (arith, c .before .before .before .before .before .before .before .before .before .before .before .before .before .before .before .before .before .before .before .before .before .before .before .before .before .before .before .before .before .before .before .before .before .before .if2 .left)) (sym (c .before .before .before .before .before .before .before .before .before .before .before .before .before .before .before .before .before .before .before .before .before .before .before .before .before .before .before .before .before .before .before .before .before .marks-fit .ensures) ∙ not-false _ (c .before .before .before .before .before .before .before .before .before .before .before .before .before .before .before .before .before .before .before .before .before .before .before .before .before .before .before .before .before .before .before .before .if3 .left)) in
     refused-so ans new (a .table .now) (r .result .refusal) (m ∙ r .ensures .answer ∙ answer-refused (r .result .refusal) (c .if4 .taken))
 
-slice-aggregate-copy : tie.Need-slice-aggregate-copy
-slice-aggregate-copy c = search needs
+slice-aggregate-copy-bytes : tie.Need-slice-aggregate-copy-bytes
+slice-aggregate-copy-bytes c = search needs
 
-copy-requires : tie.Need-copy-requires
-copy-requires c κs =
+copy-bytes-requires : tie.Need-copy-bytes-requires
+copy-bytes-requires c κs =
     let r = c .before .before .before .before .before .before .before .before .before .before .before .before .before .before .before .before .before .advance in
     let z : r .result .refusal ≡ 0 = omega (arith, c .before .before .if4 .left) in
     let few : r .result .cells ≤ 4096 = r .ensures .few z in
@@ -147,7 +147,7 @@ returns-5 c =
     let r = c .before .before .before .before .before .before .before .before .before .before .before .before .before .before .before .before .before .before .before .before .advance in
     let z : r .result .refusal ≡ 0 = omega (arith, c .before .before .before .before .before .if4 .left) in
     let m = step-limits (a .positions .now) (a .cells .now) (a .status .now) (a .marks .now) (a .table .now) (omega (arith, c .before .before .before .before .before .before .before .before .before .before .before .before .before .before .before .before .before .before .before .before .before .before .before .before .before .before .before .before .before .before .before .before .before .before .before .before .before .before .before .before .before .before .before .before .before .before .before .before .if1 .left)) (o .result .refusal) (o .ensures .answer) (omega (arith, c .before .before .before .before .before .before .before .before .before .before .before .before .before .before .before .before .before .before .before .before .before .before .before .before .before .before .before .before .before .before .before .before .before .before .before .before .before .before .before .if2 .left)) (sym (c .before .before .before .before .before .before .before .before .before .before .before .before .before .before .before .before .before .before .before .before .before .before .before .before .before .before .before .before .before .before .before .before .before .before .before .before .before .before .marks-fit .ensures) ∙ not-false _ (c .before .before .before .before .before .before .before .before .before .before .before .before .before .before .before .before .before .before .before .before .before .before .before .before .before .before .before .before .before .before .before .before .before .before .before .before .before .if3 .left)) in
-    accepted-so ans new (a .table .now) (r .result .cells) _ _ (m ∙ r .ensures .answer ∙ answer-none (r .result .refusal) z) (r .ensures .counted z) (r .ensures .table-is z) (c .before .before .copy .ensures)
+    accepted-so ans new (a .table .now) (r .result .cells) _ _ (m ∙ r .ensures .answer ∙ answer-none (r .result .refusal) z) (r .ensures .counted z) (r .ensures .table-is z) (c .before .before .copy-bytes .ensures)
 
 pub step-spec : {M : Type 1} → statement M
 step-spec =
@@ -179,7 +179,7 @@ step-spec =
     slice-aggregate-advance-15
     advance-requires
     returns-4
-    slice-aggregate-copy
-    copy-requires
+    slice-aggregate-copy-bytes
+    copy-bytes-requires
     same-length
     returns-5)

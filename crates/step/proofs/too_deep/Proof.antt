@@ -1,12 +1,10 @@
 -- `step::too_deep` meets its contract: the rest of the cells decides as the whole does. The measure is what is left of it.
 -- Assumes nothing.
-use mathlib.Core.Path.{_≡_, refl, sym, _∙_}
-use mathlib.Core.Bool.{true, false}
-use Prim.Native.Nat.{ℕ, _+_, _*_, _-_, _≤_, _<_}
+use mathlib.Core.Path.{_≡_, sym, _∙_}
+use Prim.Native.Nat.{_-_, _≤_}
 use native.Mathlib.Omega.{arith}
-use lib.ListN.{length}
 use borrow.Author.Needs.{needs}
-use Rattle.step.specs.Deep.{deepAt, deepFrom}
+use Rattle.step.specs.Deep.{deepFrom}
 use Rattle.step.proofs.Marks.{deep-next, deep-hit, deep-end}
 use Rattle.step.proofs.too_deep.Statement.{statement}
 use Rattle.step.proofs.too_deep.Tie as tie

@@ -1,18 +1,17 @@
 -- `tables::build` meets its contract: the loop holds `Here` (crate's specs), and each way out is one of its laws. The measure is
 -- the number of levels left.
 -- Assumes nothing.
-use mathlib.Core.Path.{_≡_, refl, sym, _∙_, ap}
-use mathlib.Core.Bool.{Bool, true, false}
-use Prim.Native.Nat.{ℕ, suc, _+_, _*_, _-_, _≤_, _<_}
+use mathlib.Core.Path.{_≡_, refl, _∙_}
+use mathlib.Core.Bool.{true, false}
+use Prim.Native.Nat.{_-_}
 use native.Mathlib.Numerals.{add-one}
 use native.Mathlib.Omega.{arith}
-use lib.ListN.{length}
 use borrow.Author.Tests.{not-true, not-false}
-use Rattle.base.specs.Places.{not-both}
+use Rattle.base.specs.Bools.{not-both}
 use Rattle.base.specs.Fours.{fours}
 use Rattle.mesh.specs.Table.{soundb}
 use Rattle.tables.specs.Here.{Here}
-use Rattle.tables.specs.Start.{Lengths, Result}
+use Rattle.tables.specs.Start.{Lengths}
 use Rattle.tables.proofs.Begin.{here-start}
 use Rattle.tables.proofs.Turns.{turn-fails, turn-top, turn-high, turn-room, turn-next}
 use borrow.Author.Needs.{needs}

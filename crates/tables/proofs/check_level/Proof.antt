@@ -1,12 +1,7 @@
 -- `tables::check_level` meets its contract: the sizes are looked at before the red edges are listed, so that they have room.
 -- Assumes nothing.
-use mathlib.Core.Path.{_≡_, refl, sym, _∙_, ap}
-use Prim.Native.Nat.{ℕ, _+_, _*_, _-_, _≤_, _<_}
+use Prim.Native.Nat.{_-_}
 use native.Mathlib.Omega.{arith}
-use lib.ListN.{length}
-use Rattle.rows.specs.Numbered.{sizes, part}
-use Rattle.closure.specs.Ready.{Range, Ready, Looks}
-use Rattle.tables.specs.Checked.{ownStatuses}
 use Rattle.tables.proofs.Space.{ready, looks, checked, checked-short, checked-more}
 use borrow.Author.Needs.{needs}
 use Rattle.tables.proofs.check_level.Statement.{statement}

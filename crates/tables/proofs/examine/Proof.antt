@@ -1,17 +1,14 @@
 -- `tables::examine` meets its contract: a table that is too long, has other statuses, is not closed or has another number of cells
 -- is not sound, and of any other the third condition decides.
 -- Assumes nothing.
-use mathlib.Core.Path.{_≡_, refl, sym, _∙_, ap}
-use mathlib.Core.Bool.{Bool, true, false}
-use Prim.Native.Nat.{ℕ, suc, _≤_}
+use mathlib.Core.Path.{_≡_, sym, _∙_}
+use Prim.Native.Nat.{_≤_}
 use native.Mathlib.Omega.{arith}
 use lib.Dec.{lit≤}
-use lib.ListN.{length, length-replicate}
+use lib.ListN.{length}
 use borrow.Author.Tests.{not-true, not-false}
-use Rattle.base.specs.Places.{not-both}
+use Rattle.base.specs.Bools.{not-both}
 use Rattle.base.specs.Fours.{fours}
-use Rattle.mesh.specs.Table.{soundb}
-use Rattle.tables.specs.Sound.{Sound, Examined}
 use Rattle.tables.proofs.Finish.{unsound-long, unsound-status, top-looks, top-parents, top-not, top-apart, top-sound}
 use borrow.Author.Needs.{needs}
 use Rattle.tables.proofs.examine.Statement.{statement}

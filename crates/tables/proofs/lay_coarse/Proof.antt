@@ -1,14 +1,14 @@
 -- `tables::lay_coarse` meets its contract: a turn writes the row of the next coarse cell. The measure is what is left of them.
 -- Assumes nothing.
-use mathlib.Core.Path.{_≡_, refl, sym, _∙_, ap}
-use mathlib.Core.List.{List, [], _∷_, flatMap}
-use Prim.Native.Nat.{ℕ, _+_, _*_, _/_, _-_, _≤_, _<_}
+use mathlib.Core.Path.{_≡_, refl, sym, _∙_}
+use mathlib.Core.List.{flatMap}
+use Prim.Native.Nat.{_*_, _/_, _-_, _≤_}
 use native.Mathlib.Omega.{arith}
 use lib.ListN.{length, take}
 use lib.Seq.{take-all}
-use Rattle.base.specs.Fours.{fours}
+use Rattle.base.specs.Fours.{fours, length-fours}
 use Rattle.tables.specs.Start.{coarseRow}
-use Rattle.tables.proofs.CoarseRows.{length-fours, row-more}
+use Rattle.tables.proofs.CoarseRows.{row-more}
 use borrow.Author.Needs.{needs}
 use Rattle.tables.proofs.lay_coarse.Statement.{statement}
 use Rattle.tables.proofs.lay_coarse.Tie as tie

@@ -11,8 +11,8 @@ use Rattle.yuccadice.proofs.yd_cut.Tie as tie
 use Rattle.yuccadice.proofs.yd_cut.Reads as reads
 use Rattle.yuccadice.proofs.yd_cut.Lts as lts
 use Rattle.cutting.proofs.cut.Reads as cut-reads
-use Rattle.layout.proofs.code.Reads as code-reads
-use Rattle.step.proofs.copy.Reads as copy-reads
+use Rattle.base.proofs.code.Reads as code-reads
+use Rattle.base.proofs.copy_bytes.Reads as copy-reads
 
 returns : tie.Need-returns
 returns c =
@@ -31,8 +31,8 @@ returns-2 c =
     (cut-refused (s .pattern) (now (s .digits)) (now (s .count)) (omega (arith, c .before .before .before .if1 .left)) _
     (c .before .before .cut .ensures) _ (c .before .code .ensures) (c .if2 .taken))
 
-copy-requires : tie.Need-copy-requires
-copy-requires c κs = search needs
+copy-bytes-requires : tie.Need-copy-bytes-requires
+copy-bytes-requires c κs = search needs
 
 cast-count : tie.Need-cast-count
 cast-count c = search needs
@@ -46,7 +46,7 @@ returns-3 c =
     let s = d .before .before .before .before .before .args in
     let l : length (d .before .before .cut .result .digits) ≡ 32 = search needs in
     cut-done (s .pattern) (now (s .digits)) (now (s .count)) (omega (arith, d .before .before .before .if1 .left)) _
-    (d .before .before .cut .ensures) _ (d .before .code .ensures) (d .if2 .left) l _ (c .before .before .copy .ensures)
+    (d .before .before .cut .ensures) _ (d .before .code .ensures) (d .if2 .left) l _ (c .before .before .copy-bytes .ensures)
 
 pub yd-cut-spec : {M : Type 1} → statement M
 yd-cut-spec =
@@ -56,7 +56,7 @@ yd-cut-spec =
     cut-requires
     code-requires
     returns-2
-    copy-requires
+    copy-bytes-requires
     cast-count
     same-length
     returns-3)

@@ -1,14 +1,14 @@
 -- `yuccadice::yd_examine_mesh` meets its contract.
 -- Assumes nothing.
 use mathlib.Core.Path.{_∙_, ap}
-use Rattle.layout.specs.Opened.{codeOf}
+use Rattle.base.specs.Refuse.{codeOf}
 use borrow.Author.Needs.{needs}
 use Rattle.yuccadice.proofs.yd_examine_mesh.Statement.{statement}
 use Rattle.yuccadice.proofs.yd_examine_mesh.Tie as tie
 use Rattle.yuccadice.proofs.yd_examine_mesh.Reads as reads
 use Rattle.yuccadice.proofs.yd_examine_mesh.Lts as lts
 use Rattle.coarse.proofs.examine_mesh.Reads as examine-mesh-reads
-use Rattle.layout.proofs.code.Reads as code-reads
+use Rattle.base.proofs.code.Reads as code-reads
 
 examine-mesh-requires : tie.Need-examine-mesh-requires
 examine-mesh-requires c κs = search needs

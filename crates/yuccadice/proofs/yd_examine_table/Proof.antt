@@ -1,13 +1,13 @@
 -- `yuccadice::yd_examine_table` meets its contract.
 -- Assumes nothing.
 use mathlib.Core.Path.{_∙_, ap}
-use Rattle.layout.specs.Opened.{codeOf}
+use Rattle.base.specs.Refuse.{codeOf}
 use borrow.Author.Needs.{needs}
 use Rattle.yuccadice.proofs.yd_examine_table.Statement.{statement}
 use Rattle.yuccadice.proofs.yd_examine_table.Tie as tie
 use Rattle.yuccadice.proofs.yd_examine_table.Reads as reads
 use Rattle.yuccadice.proofs.yd_examine_table.Lts as lts
-use Rattle.layout.proofs.code.Reads as code-reads
+use Rattle.base.proofs.code.Reads as code-reads
 use Rattle.layout.proofs.examine_table.Reads as examine-table-reads
 
 examine-table-requires : tie.Need-examine-table-requires

@@ -1,6 +1,13 @@
 -- The families of the 64 patterns, as the constant of src/ has them. A computed test shows that they are the rule's (Table).
 use mathlib.Core.List.{List, [], _∷_}
-use Prim.Native.Nat.{ℕ}
+use Prim.Native.Nat.{ℕ, _-_, _≤_, _<_}
+use mathlib.Core.Path.{_≡_, sym}
+use mathlib.Core.Bool.{_&&_}
+use lib.Dec.{T, eqb, leb, leb→le}
+use lib.ListN.{length, getD}
+use Rattle.base.specs.Lists.{belowb, belowb-at, samesb, samesb-eq, allb}
+use Rattle.base.specs.Bools.{and-left, and-right}
+use Rattle.cutting.specs.Rule.{family}
 
 unfoldable pub rows : List (List (List ℕ))
 rows =
@@ -69,3 +76,27 @@ rows =
     ((0 ∷ 2 ∷ 3 ∷ 6 ∷ []) ∷ (0 ∷ 2 ∷ 5 ∷ 6 ∷ []) ∷ (0 ∷ 4 ∷ 5 ∷ 6 ∷ []) ∷ (2 ∷ 3 ∷ 6 ∷ 8 ∷ []) ∷ (2 ∷ 5 ∷ 6 ∷ 8 ∷ []) ∷ (2 ∷ 5 ∷ 7 ∷ 8 ∷ []) ∷ (3 ∷ 6 ∷ 8 ∷ 9 ∷ []) ∷ []) ∷
     ((0 ∷ 1 ∷ 2 ∷ 3 ∷ []) ∷ (1 ∷ 2 ∷ 3 ∷ 6 ∷ []) ∷ (1 ∷ 2 ∷ 5 ∷ 6 ∷ []) ∷ (1 ∷ 4 ∷ 5 ∷ 6 ∷ []) ∷ (2 ∷ 3 ∷ 6 ∷ 8 ∷ []) ∷ (2 ∷ 5 ∷ 6 ∷ 8 ∷ []) ∷ (2 ∷ 5 ∷ 7 ∷ 8 ∷ []) ∷ (3 ∷ 6 ∷ 8 ∷ 9 ∷ []) ∷ []) ∷
     []
+
+unfoldable pub row : ℕ → List (List ℕ)
+row p = getD rows p []
+
+tested : T (belowb (λ p. samesb (row p) (family p)) 64)
+unfolding belowb samesb rows row family
+tested = tt
+
+pub family-row : (p : ℕ) → p < 64 → family p ≡ row p
+family-row p h = sym (samesb-eq (row p) (family p) (belowb-at (λ p. samesb (row p) (family p)) 64 tested p h))
+
+-- a family has at most 8 children, of four digits each
+few-test : T (belowb (λ p. leb (length (row p)) 8 && allb (λ c. eqb (length c) 4) (row p)) 64)
+unfolding belowb allb rows row
+few-test = tt
+
+few : (p : ℕ) → p < 64 → T (leb (length (row p)) 8 && allb (λ c. eqb (length c) 4) (row p))
+few = belowb-at (λ p. leb (length (row p)) 8 && allb (λ c. eqb (length c) 4) (row p)) 64 few-test
+
+pub family-few : (p : ℕ) → p < 64 → length (family p) ≤ 8
+family-few p h = rw (family-row p h) (leb→le (length (row p)) 8 (and-left (leb (length (row p)) 8) (allb (λ c. eqb (length c) 4) (row p)) (few p h)))
+
+pub family-fours : (p : ℕ) → p < 64 → T (allb (λ c. eqb (length c) 4) (family p))
+family-fours p h = rw (family-row p h) (and-right (leb (length (row p)) 8) (allb (λ c. eqb (length c) 4) (row p)) (few p h))

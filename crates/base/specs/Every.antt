@@ -10,7 +10,8 @@ use native.Mathlib.Nat.{eq-or-lt-of-le}
 use native.Mathlib.Omega.{arith}
 use lib.Dec.{T}
 use lib.ListN.{length, getD}
-use Rattle.base.specs.Lists.{allb, and-left, and-right}
+use Rattle.base.specs.Lists.{allb, anyb}
+use Rattle.base.specs.Bools.{and-left, and-right, and-both, or-either, or-first, or-second}
 
 abbrev pub Below : (ℕ → Type 0) → ℕ → Type 0
 Below P zero = Unit {0}
@@ -53,3 +54,27 @@ pub getD-map : {A B : Type 0} (f : A → B) (l : List A) (k : ℕ) (a : A) (b : 
 getD-map f [] k a b h = absurd (omega arith)
 getD-map f (x ∷ l) zero a b h = refl
 getD-map f (x ∷ l) (suc k) a b h = getD-map f l k a b (omega arith)
+
+-- from what holds of each element
+pub all-pass : {A : Type 0} (P : A → Type 0) (f : A → Bool) → ((x : A) → P x → T (f x)) → (l : List A) → All P l → T (allb f l)
+unfolding allb
+all-pass P f u [] t = tt
+all-pass P f u (x ∷ l) t = and-both (f x) (allb f l) (u x (t .0)) (all-pass P f u l (t .1))
+
+module _ {A : Type 0} (f : A → Bool) (d : A) where
+  pub any-place : (l : List A) → T (anyb f l) → (i : ℕ) × (i < length l) × T (f (getD l i d))
+  unfolding anyb
+  any-place [] t = absurd t
+  any-place (x ∷ l) t =
+      ⊎-elim (λ (u : T (f x)). (0, omega arith, u)) (λ (u : T (anyb f l)). let (i, h, v) = any-place l u in (suc i, omega arith, v)) (or-either (f x) (anyb f l) t)
+
+  pub any-at : (l : List A) (i : ℕ) → i < length l → T (f (getD l i d)) → T (anyb f l)
+  unfolding anyb
+  any-at [] i h t = absurd (omega arith)
+  any-at (x ∷ l) zero h t = or-first (f x) (anyb f l) t
+  any-at (x ∷ l) (suc i) h t = or-second (f x) (anyb f l) (any-at l i (omega arith) t)
+
+  pub all-each : (l : List A) → ((i : ℕ) → i < length l → T (f (getD l i d))) → T (allb f l)
+  unfolding allb
+  all-each [] t = tt
+  all-each (x ∷ l) t = and-both (f x) (allb f l) (t 0 (omega arith)) (all-each l (λ i h. t (suc i) (omega arith)))

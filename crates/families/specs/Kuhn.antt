@@ -20,11 +20,11 @@ use Prim.Native.Nat.{ℕ, suc, _+_, _≤_, _<_}
 use native.Mathlib.Omega.{arith}
 use lib.Dec.{T, eqb, ltb, eqb→eq, ltb→lt}
 use lib.ListN.{length, getD}
-use Rattle.base.specs.Lists.{allb, belowb, belowb-at, and-left, and-right}
+use Rattle.base.specs.Lists.{allb, belowb, belowb-at}
+use Rattle.base.specs.Bools.{and-left, and-right}
 use Rattle.cutting.specs.Rule.{low, high, digit, family}
-use Rattle.cutting.proofs.Data.{rows}
-use Rattle.cutting.proofs.Table.{row, family-row}
-use Rattle.lattice.specs.Every.{Below, below-at, All, all-from, all-of}
+use Rattle.cutting.specs.Rows.{rows, row, family-row}
+use Rattle.base.specs.Every.{Below, below-at, All, all-from, all-of}
 
 abbrev pub Coordinates : Type 0
 Coordinates = ℕ → ℕ → ℕ

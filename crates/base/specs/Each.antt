@@ -5,12 +5,13 @@
 use mathlib.Core.Path.{_≡_, refl, ap₂}
 use mathlib.Core.Bool.{Bool, true, false, _&&_, _||_}
 use mathlib.Core.List.{List, [], _∷_, map}
-use Prim.Native.Nat.{ℕ, zero, suc}
+use Prim.Native.Nat.{ℕ, zero, suc, _<_}
 use lib.Dec.{T, eqb}
-use lib.ListN.{getD}
+use lib.ListN.{getD, length}
 use borrow.Author.Tests.{eqb-true}
 use Rattle.base.specs.Lists.{allb, filterb, memberb}
-use Rattle.lattice.specs.Every.{All}
+use Rattle.base.specs.Every.{All}
+use native.Mathlib.Omega.{arith}
 
 pub all-default : {A : Type 0} (P : A → Type 0) (d : A) (l : List A) → All P l → P d → (k : ℕ) → P (getD l k d)
 all-default P d [] t p k = p
@@ -77,3 +78,8 @@ filter-member g x (y ∷ l) t p = go (eqb x y) refl (g y) refl t (filter-member 
     go true e d f t i = let w : g y ≡ true = rw (eqb-true x y e) at p in rw (w, filterb) (rw e tt)
     go false e true f t i = rw (f, filterb) (rw e (i t p))
     go false e false f t i = rw (f, filterb) (i t p)
+
+pub default-free : {A : Type 0} (l : List A) (t : ℕ) (a b : A) → t < length l → getD l t a ≡ getD l t b
+default-free [] t a b h = absurd (omega arith)
+default-free (x ∷ l) zero a b h = refl
+default-free (x ∷ l) (suc t) a b h = default-free l t a b (omega arith)

@@ -1,14 +1,14 @@
--- `step::copy` meets its contract. The numbers before i are copied; the measure is how many are left.
+-- `base::copy_bytes` meets its contract. The numbers before i are copied; the measure is how many are left.
 -- Assumes nothing.
-use mathlib.Core.Path.{_≡_, refl, _∙_}
+use mathlib.Core.Path.{_≡_, refl}
 use mathlib.Core.List.{_++_}
 use Prim.Native.Nat.{_-_, _≤_}
 use native.Mathlib.Omega.{arith}
 use lib.ListN.{length, take, drop}
-use Rattle.layout.proofs.Copies.{copy-turn}
+use Rattle.base.proofs.Copies.{copy-turn}
 use borrow.Author.Needs.{needs}
-use Rattle.step.proofs.copy.Statement.{statement}
-use Rattle.step.proofs.copy.Tie as tie
+use Rattle.base.proofs.copy_bytes.Statement.{statement}
+use Rattle.base.proofs.copy_bytes.Tie as tie
 
 abbrev Inv-loop : tie.InvT-loop
 Inv-loop from n to₀ i₀ to i = (i ≤ n) × (length to ≡ length to₀) × (to ≡ take i from ++ drop i to₀)
@@ -46,8 +46,8 @@ returns c =
     let e : c .before .loop .i ≡ c .before .before .args .n = omega arith in
     rw (← e) (c .before .loop .inv .2)
 
-pub copy-spec : {M : Type 1} → statement M
-copy-spec =
+pub copy-bytes-spec : {M : Type 1} → statement M
+copy-bytes-spec =
     tie.close
     (tie.spec
     Inv-loop

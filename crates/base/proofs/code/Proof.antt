@@ -1,9 +1,9 @@
--- `layout::code` meets its contract.
+-- `base::code` meets its contract.
 -- Assumes nothing.
-use Rattle.layout.specs.Opened.{codeOf}
+use Rattle.base.specs.Refuse.{codeOf}
 use borrow.Author.Needs.{needs}
-use Rattle.layout.proofs.code.Statement.{statement}
-use Rattle.layout.proofs.code.Tie as tie
+use Rattle.base.proofs.code.Statement.{statement}
+use Rattle.base.proofs.code.Tie as tie
 
 enum-told : tie.Need-enum-told
 enum-told c = search needs

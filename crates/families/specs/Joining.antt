@@ -13,13 +13,12 @@ use mathlib.Core.List.{List, [], _∷_}
 use Prim.Native.Nat.{ℕ, _<_}
 use lib.Dec.{T, eqb, ltb, ltb→lt}
 use borrow.Author.Tests.{ne-eqb}
-use Rattle.base.specs.Lists.{allb, belowb, belowb-at, impb, impb-use}
+use Rattle.base.specs.Lists.{allb, belowb, belowb-at}
+use Rattle.base.specs.Bools.{impb, impb-use, or-either}
 use Rattle.cutting.specs.Rule.{low, high, digit, edgeOf, split, family}
-use Rattle.cutting.proofs.Data.{rows}
-use Rattle.cutting.proofs.Table.{row, family-row}
+use Rattle.cutting.specs.Rows.{rows, row, family-row}
 use Rattle.families.specs.Faces.{joinedb}
-use Rattle.lattice.specs.Kuhn.{reds, family-red}
-use Rattle.lattice.specs.Edges.{or-either}
+use Rattle.families.specs.Kuhn.{reds, family-red}
 
 abbrev pub agreeb : ℕ → ℕ → ℕ → ℕ → Bool
 agreeb i j k l = Bool·beq (ltb i j) (ltb k l) && Bool·beq (ltb j i) (ltb l k)

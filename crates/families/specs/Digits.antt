@@ -15,10 +15,10 @@ use mathlib.Core.List.{List, [], _∷_, map}
 use Prim.Native.Nat.{ℕ, _+_, _*_}
 use lib.Dec.{T, eqb}
 use lib.ListN.{getD}
-use Rattle.base.specs.Lists.{allb, anyb, filterb, belowb, memberb, sameb, one-if}
+use Rattle.base.specs.Lists.{allb, anyb, filterb, belowb, memberb, sameb}
+use Rattle.base.specs.Bools.{one-if}
 use Rattle.cutting.specs.Rule.{low, high, digit, edgeOf, split}
-use Rattle.cutting.proofs.Data.{rows}
-use Rattle.cutting.proofs.Table.{row}
+use Rattle.cutting.specs.Rows.{rows, row}
 
 abbrev pub cornersAt : ℕ → List ℕ
 cornersAt z = getD ((1 ∷ 2 ∷ 3 ∷ []) ∷ (0 ∷ 2 ∷ 3 ∷ []) ∷ (0 ∷ 1 ∷ 3 ∷ []) ∷ (0 ∷ 1 ∷ 2 ∷ []) ∷ []) z []

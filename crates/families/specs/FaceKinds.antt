@@ -16,15 +16,13 @@ use native.Mathlib.Omega.{arith}
 use lib.Dec.{T, eqb, ltb, eqb→eq, ltb→lt}
 use lib.ListN.{length, getD}
 use borrow.Author.Tests.{ne-eqb}
-use Rattle.base.specs.Lists.{allb, anyb, filterb, belowb, belowb-at, allb-at, memberb, sameb, sameb-eq, impb, impb-use, one-if, and-left, and-right}
+use Rattle.base.specs.Lists.{allb, anyb, filterb, belowb, belowb-at, allb-at, memberb, sameb, sameb-eq}
+use Rattle.base.specs.Bools.{impb, one-if, impb-use, and-left, and-right, or-either, and-both}
 use Rattle.cutting.specs.Rule.{low, high, digit, edgeOf, split, family}
-use Rattle.cutting.proofs.Data.{rows}
-use Rattle.cutting.proofs.Table.{row, family-row}
-use Rattle.lattice.specs.Every.{All, all-of, below-at}
-use Rattle.lattice.specs.Kuhn.{reds, family-red}
-use Rattle.lattice.specs.Edges.{or-either}
-use Rattle.carriers.specs.Lists.{any-place, and-both}
-use Rattle.conformity.specs.Digits.{cornersAt, lift, triples, without, usesb, holds, insideb, sidePart, sideb, alike, transferb, kind-test, transfer-test}
+use Rattle.cutting.specs.Rows.{rows, row, family-row}
+use Rattle.base.specs.Every.{All, all-of, below-at, any-place}
+use Rattle.families.specs.Kuhn.{reds, family-red}
+use Rattle.families.specs.Digits.{cornersAt, lift, triples, without, usesb, holds, insideb, sidePart, sideb, alike, transferb, kind-test, transfer-test}
 
 pub record Inside (ds : List (List ℕ)) (f : List ℕ) : Type 0 where
   pub uses : (m : ℕ) → m < 4 → T (usesb f m)

@@ -1,0 +1,41 @@
+-- Laws of reads and rows: how long they are, and how a read goes on.
+use mathlib.Core.Path.{_≡_, _∙_, ap, refl}
+use mathlib.Core.List.{List, [], _∷_, _++_, flatMap}
+use Prim.Native.Nat.{ℕ, zero, suc, _+_, _≤_, _<_, _-_, _*_}
+use native.Mathlib.Nat.{add-zero}
+use native.Mathlib.Omega.{arith}
+use Rattle.mesh.specs.Cells.{Cell, Four}
+use Rattle.rows.specs.Numbered.{cellAt, cellsAt, part}
+use lib.ListN.{length, getD, drop, length-append, length-take, length-drop}
+use lib.Seq.{take-suc, getD-drop}
+use Rattle.mesh.specs.Layout.{rowOf}
+use Rattle.base.specs.Every.{All}
+
+pub cells-cons : (t : List ℕ) (k m : ℕ) → cellsAt t k (suc m) ≡ cellAt t k ∷ cellsAt t (suc k) m
+unfolding cellsAt
+cells-cons t k zero = rw add-zero
+cells-cons t k (suc m) =
+    let e : k + suc m ≡ suc k + m = omega arith in
+    ap (λ (l : List (Cell ℕ)). l ++ (cellAt t (k + suc m) ∷ [])) (cells-cons t k m) ∙ rw e
+
+pub length-cells : (t : List ℕ) (k m : ℕ) → length (cellsAt t k m) ≡ m
+unfolding cellsAt
+length-cells t k zero = refl
+length-cells t k (suc m) = length-append (cellsAt t k m) (cellAt t (k + m) ∷ []) ∙ omega (arith, length-cells t k m)
+
+pub length-part : (l : List ℕ) (k m : ℕ) → k + m ≤ length l → length (part l k m) ≡ m
+length-part l k m h = simp (length-take, length-drop) (omega arith)
+
+pub part-more : (l : List ℕ) (k m : ℕ) → k + m < length l → part l k (suc m) ≡ part l k m ++ (getD l (k + m) 0 ∷ [])
+part-more l k m h = take-suc (drop k l) m 0 (simp length-drop (omega arith)) ∙ ap (λ (x : ℕ). part l k m ++ (x ∷ [])) (getD-drop k l m 0)
+
+-- a cell has four points, and so a row eight numbers
+pub row-size : (c : Cell ℕ) → Four c → length (rowOf c) ≡ 8
+unfolding rowOf
+row-size c e = rw e
+
+pub rows-size : (cs : List (Cell ℕ)) → All Four cs → length (flatMap rowOf cs) ≡ 8 * length cs
+unfolding flatMap
+rows-size [] q = refl
+rows-size (c ∷ cs) q =
+    omega (arith, length-append (rowOf c) (flatMap rowOf cs), row-size c (q .0), rows-size cs (q .1))
