@@ -7,3 +7,4 @@ pub mod Fours
 pub mod Refuse
 pub mod Lent
 pub mod Limits
+pub mod Integers

@@ -28,7 +28,7 @@ use Rattle.lineage.specs.Born.{childOf, Born, born, born-below, born-at}
 use Rattle.lineage.specs.Paths.{pathAt, length-coarse, coarse-at}
 use Rattle.lineage.specs.Same.{Is, Fresh, Old, both-at}
 use Rattle.lineage.specs.Levels.{newLevels, length-statuses, new-levels, levels-next, cells-first}
-use Rattle.lineage.specs.Flags.{newRedAt, Flagged, flag-red, flag-none}
+use Rattle.lineage.specs.Flags.{newRedAt, FlaggedLevel, flag-red, flag-none}
 use Rattle.lineage.specs.Rest.{rest-start}
 use Rattle.lineage.specs.Traced.{Traced, red-status, flagged-at, traced-at, length-grow}
 use Rattle.lineage.specs.Step.{olds-many, olds-start, refined-statuses}
@@ -88,7 +88,7 @@ module _ (n : ℕ) (qs : List (List ℕ)) (ss ms : List ℕ) where
       ]
 
 module _ (n : ℕ) (qs : List (List ℕ)) (ss ms : List ℕ) (t : T (soundb n qs ss)) where
-  pub flagged : (j : ℕ) → Flagged (flagTable n qs ss ms) ms (oldAbove n qs ss j) (oldAt n qs ss j)
+  pub flagged : (j : ℕ) → FlaggedLevel (flagTable n qs ss ms) ms (oldAbove n qs ss j) (oldAt n qs ss j)
   unfolding levelsOf
   flagged = flagged-at (length qs) ss (flagTable n qs ss ms) ms 12 0 (coarseCells n qs) ss (rest-start n qs ss ms t)
 
@@ -125,7 +125,7 @@ module _ (n : ℕ) (qs : List (List ℕ)) (ss ms : List ℕ) (t : T (soundb n qs
       os : List ℕ
       os = x .os
 
-      y : Flagged fs ms (oldAbove n qs ss j) (oldAt n qs ss j)
+      y : FlaggedLevel fs ms (oldAbove n qs ss j) (oldAt n qs ss j)
       y = flagged j
 
       red : redb (getD (newAt n qs ss ms j .statuses) i 0) ≡ redb (getD fs (getD os i 0) 0)

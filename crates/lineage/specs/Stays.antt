@@ -23,7 +23,7 @@ use Rattle.mesh.specs.Step.{Row, rows, rowsFrom, kids, deletedb, newRedb, rowsU
 use Rattle.lattice.specs.Levels.{noLevel}
 use Rattle.lineage.specs.Born.{childOf, Born, born, born-below, born-at}
 use Rattle.lineage.specs.Paths.{pathAt}
-use Rattle.lineage.specs.Same.{Fresh, rowOf}
+use Rattle.lineage.specs.Same.{Fresh, rowIn}
 use Rattle.lineage.specs.Flags.{noRow, newRedAt, length-rows, rows-at, new-red-regular}
 use Rattle.lineage.specs.Met.{oldAt, oldAbove, newAt, Matched, old-next, new-next, old-coarse, new-coarse, flagged, new-known, met}
 
@@ -92,7 +92,7 @@ module _ (n : ℕ) (qs : List (List ℕ)) (ss ms : List ℕ) where
 module _ (n : ℕ) (qs : List (List ℕ)) (ss ms : List ℕ) (s : T (soundb n qs ss)) where
   red-regular : (j t : ℕ) → t < length (oldAt n qs ss j .cells) → Red n qs ss ms j t → T (getD (oldAt n qs ss j .cells) t noCell .regular)
   red-regular j t h e =
-      new-red-regular (rowsUp (oldAbove n qs ss j) ms) (edgesUp (newReds (oldAbove n qs ss j) ms)) (rowOf (oldAt n qs ss j) ms t) (flagged n qs ss ms s j .follows t h) e
+      new-red-regular (rowsUp (oldAbove n qs ss j) ms) (edgesUp (newReds (oldAbove n qs ss j) ms)) (rowIn (oldAt n qs ss j) ms t) (flagged n qs ss ms s j .follows t h) e
 
   -- a cell with the path of a new red cell is that cell
   stays-from : (j t : ℕ) → t < length (oldAt n qs ss j .cells) → Red n qs ss ms j t → (i : ℕ) → i < length (newAt n qs ss ms j .cells)
@@ -133,13 +133,13 @@ module _ (n : ℕ) (qs : List (List ℕ)) (ss ms : List ℕ) (s : T (soundb n qs
     pub parent-stays : Red n qs ss ms j (parent .p)
     parent-stays =
         let known : length (u .statuses) ≡ length (u .cells) = flagged n qs ss ms s (suc j) .known in
-        let at : getD (rowsUp (oldAbove n qs ss j) ms) t noRow ≡ rowOf u ms t = ap (λ (rs : List Row). getD rs t noRow) (up-rows n qs ss ms j) ∙ rows-at u ms known t h in
+        let at : getD (rowsUp (oldAbove n qs ss j) ms) t noRow ≡ rowIn u ms t = ap (λ (rs : List Row). getD rs t noRow) (up-rows n qs ss ms j) ∙ rows-at u ms known t h in
         let many : length (rowsUp (oldAbove n qs ss j) ms) ≡ length (u .cells) = ap length (up-rows n qs ss ms j) ∙ length-rows u ms known in
-        red-stays (rowsUp (oldAbove n qs ss j) ms) (edgesUp (newReds (oldAbove n qs ss j) ms)) (rowOf l ms (parent .p)) (ap redb parent-red)
+        red-stays (rowsUp (oldAbove n qs ss j) ms) (edgesUp (newReds (oldAbove n qs ss j) ms)) (rowIn l ms (parent .p)) (ap redb parent-red)
         (not-deleted (rowsUp (oldAbove n qs ss j) ms) (edgesUp (newReds (oldAbove n qs ss j) ms)) (l .first + parent .p) t (omega (arith, many))
         (ap (λ (r : Row). r .cell .parent) at ∙ ap (λ (c : Cell Point). c .parent) (parent .is))
         (ap (λ (r : Row). eqb (r .status) 0 && eqb (r .mark) 2) at
-        ∙ new-red-kept (rowsUp (oldAbove n qs ss (suc j)) ms) (edgesUp (newReds (oldAbove n qs ss (suc j)) ms)) (rowOf u ms t) e))
+        ∙ new-red-kept (rowsUp (oldAbove n qs ss (suc j)) ms) (edgesUp (newReds (oldAbove n qs ss (suc j)) ms)) (rowIn u ms t) e))
 
     stays-child : Stays n qs ss ms j (parent .p) → Stays n qs ss ms (suc j) t
     stays-child w =

@@ -132,9 +132,9 @@ module _ (es : List Pair) (r : Bool) (c : Cell ℕ) where
   unfolding listedStatus
   status-irregular e = rw (e, listedStatus)
 
-  pub status-red : c .regular ≡ true → r ≡ true → listedStatus es r c ≡ 64
+  pub listed-red : c .regular ≡ true → r ≡ true → listedStatus es r c ≡ 64
   unfolding listedStatus
-  status-red e f = rw (e, f, listedStatus)
+  listed-red e f = rw (e, f, listedStatus)
 
   pub status-pattern : c .regular ≡ true → r ≡ false → listedStatus es r c ≡ listedPattern es c
   unfolding listedStatus

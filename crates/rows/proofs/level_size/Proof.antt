@@ -1,14 +1,14 @@
--- `sizes::level_size` meets its contract: a turn adds the next cell's children. The measure is what is left of the range.
+-- `rows::level_size` meets its contract: a turn adds the next cell's children. The measure is what is left of the range.
 -- Assumes nothing.
 use mathlib.Core.Path.{_≡_, sym}
 use Prim.Native.Nat.{_*_, _-_, _≤_}
 use native.Mathlib.Omega.{arith}
 use Rattle.mesh.specs.Table.{sizes}
 use Rattle.rows.specs.Numbered.{part}
-use Rattle.sizes.proofs.Sums.{sizes-step, sizes-none, status-fits}
+use Rattle.rows.specs.Sizes.{sizes-step, sizes-none, status-fits}
 use borrow.Author.Needs.{needs}
-use Rattle.sizes.proofs.level_size.Statement.{statement}
-use Rattle.sizes.proofs.level_size.Tie as tie
+use Rattle.rows.proofs.level_size.Statement.{statement}
+use Rattle.rows.proofs.level_size.Tie as tie
 
 abbrev Inv-loop : tie.InvT-loop
 Inv-loop status first last n₀ c₀ n c = (first ≤ c) × (c ≤ last) × (n ≡ sizes (part status first (c - first))) × (n ≤ 8 * (c - first))

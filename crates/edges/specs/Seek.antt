@@ -18,17 +18,17 @@ use Rattle.edges.specs.Pairs.{Pair, sorted, isb, addPair, pairsOf, same-
 use Rattle.edges.specs.Table.{listed, Table, Edges, Inserted}
 
 module _ (xs ys : List ℕ) (k : ℕ) where
-  pub length-pairs : (m : ℕ) → length (pairsOf xs ys k m) ≡ m
+  pub length-listed : (m : ℕ) → length (pairsOf xs ys k m) ≡ m
   unfolding pairsOf
-  length-pairs zero = refl
-  length-pairs (suc m) = length-append (pairsOf xs ys k m) ((getD xs (k + m) 0, getD ys (k + m) 0) ∷ []) ∙ omega (arith, length-pairs m)
+  length-listed zero = refl
+  length-listed (suc m) = length-append (pairsOf xs ys k m) ((getD xs (k + m) 0, getD ys (k + m) 0) ∷ []) ∙ omega (arith, length-listed m)
 
   pub at-pairs : (m i : ℕ) → i < m → getD (pairsOf xs ys k m) i (0, 0) ≡ (getD xs (k + i) 0, getD ys (k + i) 0)
   unfolding pairsOf
   at-pairs zero i h = absurd (omega arith)
   at-pairs (suc m) i h =
-      ⊎-elim (λ (e : i ≡ m). rw e (getD-at (pairsOf xs ys k m) (getD xs (k + m) 0, getD ys (k + m) 0) [] (0, 0) m (length-pairs m)))
-      (λ (l : i < m). List·getD-append (pairsOf xs ys k m) ((getD xs (k + m) 0, getD ys (k + m) 0) ∷ []) (0, 0) i (rw (length-pairs m) l) ∙ at-pairs m i l)
+      ⊎-elim (λ (e : i ≡ m). rw e (getD-at (pairsOf xs ys k m) (getD xs (k + m) 0, getD ys (k + m) 0) [] (0, 0) m (length-listed m)))
+      (λ (l : i < m). List·getD-append (pairsOf xs ys k m) ((getD xs (k + m) 0, getD ys (k + m) 0) ∷ []) (0, 0) i (rw (length-listed m) l) ∙ at-pairs m i l)
       (eq-or-lt-of-le (omega arith))
 
   -- a search that finds, and one that does not
@@ -39,7 +39,7 @@ module _ (xs ys : List ℕ) (k : ℕ) where
       let l : e - k < m = omega (arith, f .above, f .below) in
       let w : k + (e - k) ≡ e = omega (arith, f .above) in
       let p : getD (pairsOf xs ys k m) (e - k) (0, 0) ≡ (x, y) = at-pairs m (e - k) l ∙ rw w (ap₂ (λ (a b : ℕ). (a, b)) (f .x-is) (f .y-is)) in
-      rw p at (has-at isb (0, 0) same-pair (pairsOf xs ys k m) (e - k) (rw (length-pairs m) l))
+      rw p at (has-at isb (0, 0) same-pair (pairsOf xs ys k m) (e - k) (rw (length-listed m) l))
 
   pub missing : (x y m : ℕ) → k + m ≤ 65535 → seek xs ys x y k m ≡ 65535 → hasb isb (pairsOf xs ys k m) (x, y) ≡ false
   missing x y m h none = ⊎-elim (λ t. absurd (no t)) (λ t. t) (either (hasb isb (pairsOf xs ys k m) (x, y)))
@@ -47,7 +47,7 @@ module _ (xs ys : List ℕ) (k : ℕ) where
       no : hasb isb (pairsOf xs ys k m) (x, y) ≡ true → ⊥
       no t =
           let i = placeIn isb (pairsOf xs ys k m) (x, y) in
-          let l : i < m = rw (length-pairs m) at (has-below isb (pairsOf xs ys k m) (x, y) t) in
+          let l : i < m = rw (length-listed m) at (has-below isb (pairsOf xs ys k m) (x, y) t) in
           let p : _≡_ {A = Pair} (getD xs (k + i) 0, getD ys (k + i) 0) (x, y) = sym (at-pairs m i l) ∙ place-there isb (0, 0) same-pair (pairsOf xs ys k m) (x, y) t in
           seek-none xs ys x y k (k + i) (omega arith) (ap (λ (q : Pair). q .0) p) (ap (λ (q : Pair). q .1) p) m h none (omega arith)
 
@@ -60,7 +60,7 @@ module _ (xs ys : List ℕ) (k : ℕ) where
       let l : e - k < m = omega (arith, f .above, f .below) in
       let w : k + (e - k) ≡ e = omega (arith, f .above) in
       let p : getD (pairsOf xs ys k m) (e - k) (0, 0) ≡ (x, y) = at-pairs m (e - k) l ∙ rw w (ap₂ (λ (a b : ℕ). (a, b)) (f .x-is) (f .y-is)) in
-      let q : placeIn isb (pairsOf xs ys k m) (x, y) ≡ e - k = rw p at (d .own (e - k) (rw (length-pairs m) l)) in
+      let q : placeIn isb (pairsOf xs ys k m) (x, y) ≡ e - k = rw p at (d .own (e - k) (rw (length-listed m) l)) in
       omega arith
 
 -- the list after a pair is set behind it
@@ -107,7 +107,7 @@ module _ (xs ys heads links : List ℕ) (from n : ℕ) (r : Edges xs ys heads li
       record {
         edges = record { keys = a .keys; up = omega arith; distinct = rw v (distinct-add isb (0, 0) same-pair (listed xs ys from n) (sorted e) (r .distinct)) };
         list = v;
-        place = rw (w, place-behind isb (listed xs ys from n) (sorted e ∷ []) (sorted e) g, place-here isb (sorted e) [] (sorted e) (same-pair .self (sorted e)), length-pairs xs ys from (n - from)) (omega arith);
+        place = rw (w, place-behind isb (listed xs ys from n) (sorted e ∷ []) (sorted e) g, place-here isb (sorted e) [] (sorted e) (same-pair .self (sorted e)), length-listed xs ys from (n - from)) (omega arith);
         more = omega arith;
         one = omega arith;
         kept-xs = rw (a .xs-is) (take-set-le n xs n x (omega arith));

@@ -12,9 +12,9 @@ use Rattle.mesh.specs.Layout.{Corner, rowOf, mapCell, numberIn, cellTable}
 use Rattle.base.specs.Every.{All}
 use Rattle.ancestors.specs.Climb.{levelIn, Upward, upward-to, climbFrom}
 use Rattle.ancestors.specs.Linked.{Linked, ancestorOf}
-use Rattle.ancestors.proofs.Ways.{upward, level-held, climb-right}
-use Rattle.ancestors.proofs.Levels.{cells-linked, map-linked}
-use Rattle.ancestors.proofs.Points.{cells-four, map-four}
+use Rattle.ancestors.specs.Ways.{upward, level-held, climb-right}
+use Rattle.ancestors.specs.Levels.{cells-linked, map-linked}
+use Rattle.ancestors.specs.Points.{cells-four, map-four}
 use Rattle.base.specs.Each.{default-free}
 
 rows-map : (ks : List Corner) (cs : List (Cell Point)) → cellTable ks cs ≡ flatMap rowOf (map (mapCell (numberIn ks)) cs)

@@ -15,7 +15,7 @@ use Rattle.mesh.specs.Cells.{Cell, redb, edge, edges, heldb, bitsOf, pattern, s
 use Rattle.mesh.specs.Weights.{Point, coarseCells}
 use Rattle.mesh.specs.Table.{Level, next, levels, levelsOf, cellsOf, closedb, apartb, soundb}
 use Rattle.counting.specs.Levels.{Levels}
-use Rattle.counting.proofs.Whole.{number-right, end-right}
+use Rattle.counting.specs.Whole.{number-right, end-right}
 
 -- a status that the rule gives is at most 64
 six-bits : (a b c d e f : Bool) → bitsOf (a ∷ b ∷ c ∷ d ∷ e ∷ f ∷ []) ≤ 63
@@ -86,9 +86,9 @@ levels-fit (suc f) k (c ∷ cs) ss t e =
 parts : (a b c d e : Bool) → T ((a && (b && c)) && (d && e)) → T a × T b × T c × T d
 parts a b c d e t = search (and-left, and-right)
 
-pub sound-levels : (n : ℕ) (qs : List (List ℕ)) (ss : List ℕ) → soundb n qs ss ≡ true → Levels ss (length qs)
+pub sound-counted : (n : ℕ) (qs : List (List ℕ)) (ss : List ℕ) → soundb n qs ss ≡ true → Levels ss (length qs)
 unfolding soundb levelsOf
-sound-levels n qs ss t =
+sound-counted n qs ss t =
     let ls = levelsOf n qs ss in
     let cs = cellsOf ls in
     let m = length cs in

@@ -1,11 +1,11 @@
--- `sizes::size_of` meets its contract, case by case.
+-- `rows::size_of` meets its contract, case by case.
 -- Assumes nothing.
 use mathlib.Core.Path.{sym, _∙_}
 use native.Mathlib.Omega.{arith}
-use Rattle.sizes.proofs.Sums.{size-leaf, size-red, size-green, green-few}
+use Rattle.rows.specs.Sizes.{size-leaf, size-red, size-green, green-few}
 use borrow.Author.Needs.{needs}
-use Rattle.sizes.proofs.size_of.Statement.{statement}
-use Rattle.sizes.proofs.size_of.Tie as tie
+use Rattle.rows.proofs.size_of.Statement.{statement}
+use Rattle.rows.proofs.size_of.Tie as tie
 
 returns : tie.Need-returns
 returns c = (sym (size-leaf (c .before .args .status) (c .if1 .taken)), omega arith)

@@ -1,14 +1,14 @@
--- `sizes::fits` meets its contract: the rest decides as the whole does. The measure is what is left.
+-- `rows::fits` meets its contract: the rest decides as the whole does. The measure is what is left.
 -- Assumes nothing.
 use mathlib.Core.Path.{_≡_, sym, _∙_}
 use Prim.Native.Nat.{_-_, _≤_}
 use lib.Dec.{leb}
 use lib.ListN.{length, drop, drop-of-length-le}
 use Rattle.base.specs.Lists.{allb}
-use Rattle.sizes.proofs.Sums.{fits-not, fits-next}
+use Rattle.rows.specs.Sizes.{fits-not, fits-next}
 use borrow.Author.Needs.{needs}
-use Rattle.sizes.proofs.fits.Statement.{statement}
-use Rattle.sizes.proofs.fits.Tie as tie
+use Rattle.rows.proofs.fits.Statement.{statement}
+use Rattle.rows.proofs.fits.Tie as tie
 
 abbrev Inv-loop : tie.InvT-loop
 Inv-loop status c₀ c = (c ≤ length status) × (allb (λ s. leb s 64) (drop c status) ≡ allb (λ s. leb s 64) status)

@@ -17,56 +17,56 @@ use Rattle.mesh.specs.Weights.{Point, point, coarseFrom, coarseCells}
 use Rattle.mesh.specs.Table.{next, levels, levelsOf, cellsOf}
 use Rattle.mesh.specs.Layout.{mapCell}
 use Rattle.base.specs.Every.{All, all-append, all-at}
-use Rattle.ancestors.specs.Linked.{pathAt, parentAt, Child, Linked}
+use Rattle.ancestors.specs.Linked.{linkedPath, parentAt, Descends, Linked}
 
 -- the cell c is a child of one of the cells l
 pub record Kid {A : Type 0} (l : List (Cell A)) (c : Cell A) : Type 0 where
   pub below : c .parent < length l
   pub number : ℕ
-  pub path : c .path ≡ pathAt l (c .parent) ++ (number ∷ [])
+  pub path : c .path ≡ linkedPath l (c .parent) ++ (number ∷ [])
 
 -- children behind linked cells
 module _ {A : Type 0} (l m : List (Cell A)) where
   front : (k : ℕ) → k < length l → getD (l ++ m) k noCell ≡ getD l k noCell
   front k h = List·getD-append l m noCell k h
 
-  old-child : (k : ℕ) → k < length l → Child l k → Child (l ++ m) k
+  old-child : (k : ℕ) → k < length l → Descends l k → Descends (l ++ m) k
   old-child k h c =
       let e : parentAt (l ++ m) k ≡ parentAt l k = ap (λ (d : Cell A). d .parent) (front k h) in
-      let p : pathAt (l ++ m) k ≡ pathAt l k = ap (λ (d : Cell A). d .path) (front k h) in
-      let q : pathAt (l ++ m) (parentAt l k) ≡ pathAt l (parentAt l k) = ap (λ (d : Cell A). d .path) (front (parentAt l k) (omega (arith, c .below))) in
-      record { below = rw e (c .below); number = c .number; path = p ∙ c .path ∙ ap (λ (r : List ℕ). r ++ (c .number ∷ [])) (sym q ∙ ap (pathAt (l ++ m)) (sym e)) }
+      let p : linkedPath (l ++ m) k ≡ linkedPath l k = ap (λ (d : Cell A). d .path) (front k h) in
+      let q : linkedPath (l ++ m) (parentAt l k) ≡ linkedPath l (parentAt l k) = ap (λ (d : Cell A). d .path) (front (parentAt l k) (omega (arith, c .below))) in
+      record { below = rw e (c .below); number = c .number; path = p ∙ c .path ∙ ap (λ (r : List ℕ). r ++ (c .number ∷ [])) (sym q ∙ ap (linkedPath (l ++ m)) (sym e)) }
 
-  new-child : (j : ℕ) → Kid l (getD m j noCell) → Child (l ++ m) (length l + j)
+  new-child : (j : ℕ) → Kid l (getD m j noCell) → Descends (l ++ m) (length l + j)
   new-child j c =
       let w : getD (l ++ m) (length l + j) noCell ≡ getD m j noCell = getD-append-add l m j noCell in
       let e : parentAt (l ++ m) (length l + j) ≡ parentAt m j = ap (λ (d : Cell A). d .parent) w in
-      let p : pathAt (l ++ m) (length l + j) ≡ pathAt m j = ap (λ (d : Cell A). d .path) w in
-      let q : pathAt (l ++ m) (parentAt m j) ≡ pathAt l (parentAt m j) = ap (λ (d : Cell A). d .path) (front (parentAt m j) (c .below)) in
+      let p : linkedPath (l ++ m) (length l + j) ≡ linkedPath m j = ap (λ (d : Cell A). d .path) w in
+      let q : linkedPath (l ++ m) (parentAt m j) ≡ linkedPath l (parentAt m j) = ap (λ (d : Cell A). d .path) (front (parentAt m j) (c .below)) in
       record {
         below = omega (arith, e, c .below);
         number = c .number;
-        path = p ∙ c .path ∙ ap (λ (r : List ℕ). r ++ (c .number ∷ [])) (sym q ∙ ap (pathAt (l ++ m)) (sym e));
+        path = p ∙ c .path ∙ ap (λ (r : List ℕ). r ++ (c .number ∷ [])) (sym q ∙ ap (linkedPath (l ++ m)) (sym e));
       }
 
   pub grown : Linked l → All (Kid l) m → Linked (l ++ m)
   grown o a = record { link = λ k h. go k h (ltb k (length l)) refl }
     where
-      old : (k : ℕ) → k < length l → (pathAt (l ++ m) k ≡ k ∷ []) ⊎ Child (l ++ m) k
+      old : (k : ℕ) → k < length l → (linkedPath (l ++ m) k ≡ k ∷ []) ⊎ Descends (l ++ m) k
       old k h =
-          ⊎-elim (λ (e : pathAt l k ≡ k ∷ []). inl (ap (λ (d : Cell A). d .path) (front k h) ∙ e)) (λ (c : Child l k). inr (old-child k h c))
+          ⊎-elim (λ (e : linkedPath l k ≡ k ∷ []). inl (ap (λ (d : Cell A). d .path) (front k h) ∙ e)) (λ (c : Descends l k). inr (old-child k h c))
           (o .link k h)
 
-      go : (k : ℕ) → k < length (l ++ m) → (b : Bool) → ltb k (length l) ≡ b → (pathAt (l ++ m) k ≡ k ∷ []) ⊎ Child (l ++ m) k
+      go : (k : ℕ) → k < length (l ++ m) → (b : Bool) → ltb k (length l) ≡ b → (linkedPath (l ++ m) k ≡ k ∷ []) ⊎ Descends (l ++ m) k
       go k h true t = old k (ltb-true k (length l) t)
       go k h false t =
           let j = k - length l in
           let e : length l + j ≡ k = omega (arith, ltb-false k (length l) t) in
           let i : j < length m = omega (arith, e, h, length-append l m) in
-          inr (subst (λ (n : ℕ). Child (l ++ m) n) e (new-child j (all-at (Kid l) noCell m a j i)))
+          inr (subst (λ (n : ℕ). Descends (l ++ m) n) e (new-child j (all-at (Kid l) noCell m a j i)))
 
 -- the families of cells that stand in l
-module _ {A : Type 0} (l : List (Cell A)) (k : ℕ) (c : Cell A) (h : k < length l) (p : pathAt l k ≡ c .path) where
+module _ {A : Type 0} (l : List (Cell A)) (k : ℕ) (c : Cell A) (h : k < length l) (p : linkedPath l k ≡ c .path) where
   kids-from : (r : Bool) (f : ℕ → A) (i : ℕ) (ds : List (List ℕ)) → All (Kid l) (childrenFrom k c r f i ds)
   unfolding childrenFrom
   kids-from r f i [] = tt
@@ -86,7 +86,7 @@ next-kids l before [] ss e = tt
 next-kids l before (c ∷ cs) [] e = tt
 next-kids l before (c ∷ cs) (s ∷ ss) e =
     let h : length before < length l = omega (arith, ap length e, length-append before (c ∷ cs)) in
-    let p : pathAt l (length before) ≡ c .path = rw e (ap (λ (d : Cell Point). d .path) (getD-append-seam before c cs noCell)) in
+    let p : linkedPath l (length before) ≡ c .path = rw e (ap (λ (d : Cell Point). d .path) (getD-append-seam before c cs noCell)) in
     let w : length (before ++ (c ∷ [])) ≡ suc (length before) = omega (arith, length-append before (c ∷ [])) in
     let i : All (Kid l) (next (suc (length before)) cs ss) = rw w at (next-kids l (before ++ (c ∷ [])) cs ss (e ∙ sym (append-snoc before c cs))) in
     all-append (Kid l) (children (length before) c s (point c)) (next (suc (length before)) cs ss) (kids l (length before) c h p s (point c)) i
@@ -104,7 +104,7 @@ levels-linked (suc f) before (c ∷ cs) ss o a =
     rw w at (levels-linked f (before ++ (c ∷ cs)) up (drop m ss) a (grown (before ++ (c ∷ cs)) up a (next-kids (before ++ (c ∷ cs)) before (c ∷ cs) (take m ss) refl))) in
     rw append-assoc at i
 
-coarse-path : (n i : ℕ) (qs : List (List ℕ)) (k : ℕ) → k < length (coarseFrom n i qs) → pathAt (coarseFrom n i qs) k ≡ (i + k) ∷ []
+coarse-path : (n i : ℕ) (qs : List (List ℕ)) (k : ℕ) → k < length (coarseFrom n i qs) → linkedPath (coarseFrom n i qs) k ≡ (i + k) ∷ []
 unfolding coarseFrom
 coarse-path n i [] k h = absurd (omega arith)
 coarse-path n i (q ∷ qs) zero h = rw (add-zero i)
@@ -124,18 +124,18 @@ pub map-linked : {A B : Type 0} (f : A → B) (cs : List (Cell A)) → Linked cs
 unfolding mapCell
 map-linked {A} {B} f cs l = record { link = λ k h. go k (l .link k (omega (arith, h, length-map cs (mapCell f)))) }
   where
-    path-same : (k : ℕ) → pathAt (map (mapCell f) cs) k ≡ pathAt cs k
+    path-same : (k : ℕ) → linkedPath (map (mapCell f) cs) k ≡ linkedPath cs k
     path-same k = ap (λ (c : Cell B). c .path) (List·getD-map (mapCell f) cs k noCell)
 
     parent-same : (k : ℕ) → parentAt (map (mapCell f) cs) k ≡ parentAt cs k
     parent-same k = ap (λ (c : Cell B). c .parent) (List·getD-map (mapCell f) cs k noCell)
 
-    go : (k : ℕ) → (pathAt cs k ≡ k ∷ []) ⊎ Child cs k → (pathAt (map (mapCell f) cs) k ≡ k ∷ []) ⊎ Child (map (mapCell f) cs) k
+    go : (k : ℕ) → (linkedPath cs k ≡ k ∷ []) ⊎ Descends cs k → (linkedPath (map (mapCell f) cs) k ≡ k ∷ []) ⊎ Descends (map (mapCell f) cs) k
     go k (inl e) = inl (path-same k ∙ e)
     go k (inr c) =
         inr
         record {
           below = rw (parent-same k) (c .below);
           number = c .number;
-          path = path-same k ∙ c .path ∙ ap (λ (r : List ℕ). r ++ (c .number ∷ [])) (sym (path-same (parentAt cs k)) ∙ ap (pathAt (map (mapCell f) cs)) (sym (parent-same k)));
+          path = path-same k ∙ c .path ∙ ap (λ (r : List ℕ). r ++ (c .number ∷ [])) (sym (path-same (parentAt cs k)) ∙ ap (linkedPath (map (mapCell f) cs)) (sym (parent-same k)));
         }
