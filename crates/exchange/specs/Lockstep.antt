@@ -1,6 +1,6 @@
 -- The rounds in lockstep, and the laws of `Places` from those of one part alone.
 --   lock r p         what p knows at the beginning of the round r, all parts together
---   mail, counts     what one part writes for another in a round, and how much in all rounds before
+--   mail, mailCount  what one part writes for another in a round, and how many messages in all rounds before
 --   post φ q         all that q has written up to a phase
 --   local p r n f    what p's store stands for in the round r, with n messages taken and f fetched
 -- Laws: laws, live, post-length.
@@ -48,21 +48,21 @@ module _ {Part In Body Msg St : Type 0} (F : Finite Part) (Q : Protocol Part In 
     abbrev pub mail : ℕ → Part → Part → List Body
     mail r q p = Q .out r q p (lock r q)
 
-    unfoldable pub counts : ℕ → Part → Part → ℕ
-    counts zero q p = 0
-    counts (suc r) q p = counts r q p + length (mail r q p)
+    unfoldable pub mailCount : ℕ → Part → Part → ℕ
+    mailCount zero q p = 0
+    mailCount (suc r) q p = mailCount r q p + length (mail r q p)
 
     unfoldable pub post : ℕ → Part → List Msg
     post zero q = []
-    post (suc r) q = post r q ++ parcel F Q r q (lock r q) (λ p. counts r q p)
+    post (suc r) q = post r q ++ parcel F Q r q (lock r q) (λ p. mailCount r q p)
 
     abbrev pub local : Part → ℕ → (Part → ℕ) → ℕ → Local Part Body Msg St
     local p r n f = record {
       round = r;
       state = lock r p;
-      before = λ q. counts r q p;
-      got = λ q. take (n q - counts r q p) (mail r q p);
-      sent = λ q. counts (suc r) p q;
+      before = λ q. mailCount r q p;
+      got = λ q. take (n q - mailCount r q p) (mail r q p);
+      sent = λ q. mailCount (suc r) p q;
       queue = drop f (post (suc r) p);
     }
 
@@ -75,7 +75,7 @@ module _ {Part In Body Msg St : Type 0} (F : Finite Part) (Q : Protocol Part In 
       plan = record {
         input = input;
         last = suc (Q .rounds);
-        count = counts;
+        count = mailCount;
         written = λ φ q. length (post φ q);
         msg = λ q j. getD (post (suc (Q .rounds)) q) j junk;
         Is = λ p g. place p (g .phase) (g .taken) (g .fetched);
@@ -158,27 +158,27 @@ module _ {Part In Body Msg St : Type 0} (F : Finite Part) (Q : Protocol Part In 
       -- a message of the atStart F Q rounds
       abbrev Sent : Part → Msg → Type 0
       Sent q m = (p : Part) × (r : ℕ) × (i : ℕ) × (i < length (mail r q p))
-          × (m ≡ Q .pack q p (counts r q p + i) (getD (mail r q p) i blank))
+          × (m ≡ Q .pack q p (mailCount r q p + i) (getD (mail r q p) i blank))
 
       post-in : Ordered F Q → (φ : ℕ) (q : Part) (m : Msg) → List·Memᴰ m (post φ q) → Sent q m
       unfolding post parcel
       post-in ord zero q m h = absurd (List·Memᴰ·not-nil h)
       post-in ord (suc r) q m h = ⊎-elim (λ t. post-in ord r q m t) new (List·Memᴰ·append-cases (post r q) h)
         where
-          new : List·Memᴰ m (number F Q q (λ p. counts r q p) (Q .order r q (lock r q))) → Sent q m
+          new : List·Memᴰ m (number F Q q (λ p. mailCount r q p) (Q .order r q (lock r q))) → Sent q m
           new t =
-              let b = number-in q (λ p. counts r q p) (Q .order r q (lock r q)) m t in
+              let b = number-in q (λ p. mailCount r q p) (Q .order r q (lock r q)) m t in
               let e = ord r q (b .0) (lock r q) in
-              (b .0, r, b .1, rw (← e) (b .2), b .3 ∙ ap (λ v. Q .pack q (b .0) (counts r q (b .0) + b .1) (getD v (b .1) blank)) e)
+              (b .0, r, b .1, rw (← e) (b .2), b .3 ∙ ap (λ v. Q .pack q (b .0) (mailCount r q (b .0) + b .1) (getD v (b .1) blank)) e)
 
       in-post : Ordered F Q → (r : ℕ) (q p : Part) (i : ℕ) → i < length (mail r q p)
-          → List·Memᴰ (Q .pack q p (counts r q p + i) (getD (mail r q p) i blank)) (post (suc r) q)
+          → List·Memᴰ (Q .pack q p (mailCount r q p + i) (getD (mail r q p) i blank)) (post (suc r) q)
       unfolding post parcel
       in-post ord r q p i h =
           let e = ord r q p (lock r q) in
-          Memᴰ·append-right (post r q) (subst (λ v. List·Memᴰ (Q .pack q p (counts r q p + i) (getD v i blank))
-          (number F Q q (λ p. counts r q p) (Q .order r q (lock r q)))) e
-          (in-number q (λ p. counts r q p) (Q .order r q (lock r q)) p i (rw e h)))
+          Memᴰ·append-right (post r q) (subst (λ v. List·Memᴰ (Q .pack q p (mailCount r q p + i) (getD v i blank))
+          (number F Q q (λ p. mailCount r q p) (Q .order r q (lock r q)))) e
+          (in-number q (λ p. mailCount r q p) (Q .order r q (lock r q)) p i (rw e h)))
 
       number-length : (p : Part) (o : Part → ℕ) (l : List (Part × Body)) → length (number F Q p o l) ≡ length l
       unfolding number
@@ -203,14 +203,14 @@ module _ {Part In Body Msg St : Type 0} (F : Finite Part) (Q : Protocol Part In 
           ]
 
       sums : (r : ℕ) (q : Part) (l : List Part)
-          → sumOver (λ p. length (mail r q p)) l + sumOver (counts r q) l ≡ sumOver (counts (suc r) q) l
-      unfolding sumOver counts
+          → sumOver (λ p. length (mail r q p)) l + sumOver (mailCount r q) l ≡ sumOver (mailCount (suc r) q) l
+      unfolding sumOver mailCount
       sums r q [] = refl
       sums r q (p ∷ l) = omega (arith, sums r q l)
 
       -- a part writes what it writes for the parts
-      pub post-length : Ordered F Q → (φ : ℕ) (q : Part) → length (post φ q) ≤ sumOver (counts φ q) (F .list)
-      unfolding post parcel counts
+      pub post-length : Ordered F Q → (φ : ℕ) (q : Part) → length (post φ q) ≤ sumOver (mailCount φ q) (F .list)
+      unfolding post parcel mailCount
       post-length ord zero q = omega arith
       post-length ord (suc r) q =
           let e : sumOver (λ p. length (only F p (Q .order r q (lock r q)))) (F .list) ≡ sumOver (λ p. length (mail r q p)) (F .list) =
@@ -218,15 +218,15 @@ module _ {Part In Body Msg St : Type 0} (F : Finite Part) (Q : Protocol Part In 
           rw length-append (omega (
             arith,
             post-length ord r q,
-            number-length q (λ p. counts r q p) (Q .order r q (lock r q)),
+            number-length q (λ p. mailCount r q p) (Q .order r q (lock r q)),
             order-length (Q .order r q (lock r q)),
             e,
             sums r q (F .list),
           ))
 
-      counts-mono : (q p : Part) (a b : ℕ) → a ≤ b → counts a q p ≤ counts b q p
-      unfolding counts
-      counts-mono q p a b h = le-ind {n = a} (λ m. counts a q p ≤ counts m q p) (omega arith) (λ m _ ih. omega (arith, ih)) b h
+      count-mono : (q p : Part) (a b : ℕ) → a ≤ b → mailCount a q p ≤ mailCount b q p
+      unfolding mailCount
+      count-mono q p a b h = le-ind {n = a} (λ m. mailCount a q p ≤ mailCount m q p) (omega arith) (λ m _ ih. omega (arith, ih)) b h
 
       post-grows : (q : Part) (φ : ℕ) → length (post φ q) ≤ length (post (suc φ) q)
       unfolding post
@@ -244,12 +244,12 @@ module _ {Part In Body Msg St : Type 0} (F : Finite Part) (Q : Protocol Part In 
 
       module _ (Good : Part → Local Part Body Msg St → Type 0) (A : Alone F Q Z Good)
           (good : (p : Part) (r : ℕ) (n : Part → ℕ) (f : ℕ) → Ok plan p (at-place (suc r) n f) → Good p (local p r n f)) where
-        quiet-go : (q p : Part) → counts (suc (Q .rounds)) q p ≤ counts (Q .rounds) q p
-        unfolding counts
+        quiet-go : (q p : Part) → mailCount (suc (Q .rounds)) q p ≤ mailCount (Q .rounds) q p
+        unfolding mailCount
         quiet-go q p = rw (A .silent q p (lock (Q .rounds) q)) (omega arith)
 
         counted : Counted plan
-        unfolding counts
+        unfolding mailCount
         counted = record {
           count-up = λ φ q p. omega arith;
           written-up = λ φ q. post-grows q φ;
@@ -277,13 +277,13 @@ module _ {Part In Body Msg St : Type 0} (F : Finite Part) (Q : Protocol Part In 
             go false e = refl
 
         -- the numbers at a place of a started part
-        taken-fits : (p : Part) (r : ℕ) (n : Part → ℕ) (f : ℕ) → Ok plan p (at-place (suc r) n f) → (q : Part) → (counts r q p ≤ n q)
-            × (n q ≤ counts r q p + length (mail r q p))
-        unfolding counts
+        taken-fits : (p : Part) (r : ℕ) (n : Part → ℕ) (f : ℕ) → Ok plan p (at-place (suc r) n f) → (q : Part) → (mailCount r q p ≤ n q)
+            × (n q ≤ mailCount r q p + length (mail r q p))
+        unfolding mailCount
         taken-fits p r n f o q = (o .low q, o .high q)
 
         first-is : (p : Part) (n : Part → ℕ) (f : ℕ) → Ok plan p (at-place 0 n f) → atStart F Q p (input p) ≡ local p 0 n f
-        unfolding lock counts post
+        unfolding lock mailCount post
         first-is p n f o =
             let z : f ≡ 0 = omega (arith, o .sent) in
             ap₂ (re (atStart F Q p (input p)))
@@ -291,27 +291,27 @@ module _ {Part In Body Msg St : Type 0} (F : Finite Part) (Q : Protocol Part In 
             (rw z)
 
         following-is : (p : Part) (r : ℕ) (n : Part → ℕ) (f : ℕ) → Ok plan p (at-place (suc r) n f)
-            → ((q : Part) → counts (suc r) q p ≤ n q) → following F Q p (local p r n f) ≡ local p (suc r) n f
-        unfolding lock counts post
+            → ((q : Part) → mailCount (suc r) q p ≤ n q) → following F Q p (local p r n f) ≡ local p (suc r) n f
+        unfolding lock mailCount post
         following-is p r n f o h =
             ap (λ t. following F Q p (re (local p r n f) t (drop f (post (suc r) p))))
-            (fun-ext (λ q. take-all (n q - counts r q p) (mail r q p) (omega (arith, h q))))
+            (fun-ext (λ q. take-all (n q - mailCount r q p) (mail r q p) (omega (arith, h q))))
             ∙ ap₂ (re (following F Q p (re (local p r n f) (λ q. mail r q p) (drop f (post (suc r) p)))))
-            (fun-ext (λ q. let z : n q - counts (suc r) q p ≡ 0 = omega (arith, o .high q) in rw z))
+            (fun-ext (λ q. let z : n q - mailCount (suc r) q p ≡ 0 = omega (arith, o .high q) in rw z))
             (sym (drop-append-le f (post (suc r) p) _ (o .sent)))
 
-        withBody-is : (p : Part) (r : ℕ) (n : Part → ℕ) (f : ℕ) → Ok plan p (at-place (suc r) n f) → (q : Part) → n q < counts (suc r) q p
-            → withBody F Q (local p r n f) q (getD (mail r q p) (n q - counts r q p) blank) ≡ local p r (upd F n q (suc (n q))) f
-        unfolding counts
+        withBody-is : (p : Part) (r : ℕ) (n : Part → ℕ) (f : ℕ) → Ok plan p (at-place (suc r) n f) → (q : Part) → n q < mailCount (suc r) q p
+            → withBody F Q (local p r n f) q (getD (mail r q p) (n q - mailCount r q p) blank) ≡ local p r (upd F n q (suc (n q))) f
+        unfolding mailCount
         withBody-is p r n f o q h = ap (λ t. re (local p r n f) t (drop f (post (suc r) p))) (fun-ext
-            (upd-all F (λ x a c. a ≡ take (c - counts r x p) (mail r x p)) (λ x. take (n x - counts r x p) (mail r x p)) n q _ _ grown
+            (upd-all F (λ x a c. a ≡ take (c - mailCount r x p) (mail r x p)) (λ x. take (n x - mailCount r x p) (mail r x p)) n q _ _ grown
             (λ x. refl)))
           where
-            grown : take (n q - counts r q p) (mail r q p)
-                ++ (getD (mail r q p) (n q - counts r q p) blank ∷ []) ≡ take (suc (n q) - counts r q p) (mail r q p)
+            grown : take (n q - mailCount r q p) (mail r q p)
+                ++ (getD (mail r q p) (n q - mailCount r q p) blank ∷ []) ≡ take (suc (n q) - mailCount r q p) (mail r q p)
             grown =
-                let z : suc (n q) - counts r q p ≡ suc (n q - counts r q p) = omega (arith, o .low q) in
-                rw z (sym (take-suc (mail r q p) (n q - counts r q p) blank (omega (arith, o .low q))))
+                let z : suc (n q) - mailCount r q p ≡ suc (n q - mailCount r q p) = omega (arith, o .low q) in
+                rw z (sym (take-suc (mail r q p) (n q - mailCount r q p) blank (omega (arith, o .low q))))
 
         start-gives : (p : Part) (n : Part → ℕ) (f : ℕ) → Ok plan p (at-place 0 n f) → (x : Store) → Z .Idle p x
             → Gives F Q Z (Start (input p)) x (Z .Busy p (local p 0 n f)) []
@@ -327,13 +327,13 @@ module _ {Part In Body Msg St : Type 0} (F : Finite Part) (Q : Protocol Part In 
             (refl, λ h. gives-to Z (Start (input p)) x _ _ (start-gives p n f o x a) y (subst (λ j. Z .act (Start j) x ≡ some y) h e))
         start-go p (suc r) n f o x a i y e = never Z (Start i) x y (A .busy-start p (local p r n f) x a i) e
 
-        all-got : (p : Part) (r : ℕ) (n : Part → ℕ) (f : ℕ) → Ok plan p (at-place (suc r) n f) → ((q : Part) → counts (suc r) q p ≤ n q)
+        all-got : (p : Part) (r : ℕ) (n : Part → ℕ) (f : ℕ) → Ok plan p (at-place (suc r) n f) → ((q : Part) → mailCount (suc r) q p ≤ n q)
             → (q : Part) → Q .whole r q p (local p r n f .got q) ≡ true
-        unfolding counts
-        all-got p r n f o h q = rw (take-all (n q - counts r q p) (mail r q p) (omega (arith, h q))) (A .whole-all r q p (lock r q))
+        unfolding mailCount
+        all-got p r n f o h q = rw (take-all (n q - mailCount r q p) (mail r q p) (omega (arith, h q))) (A .whole-all r q p (lock r q))
 
         step-gives : (p : Part) (r : ℕ) (n : Part → ℕ) (f : ℕ) → Ok plan p (at-place (suc r) n f) → r < Q .rounds
-            → ((q : Part) → counts (suc r) q p ≤ n q) → (x : Store) → Z .Busy p (local p r n f) x
+            → ((q : Part) → mailCount (suc r) q p ≤ n q) → (x : Store) → Z .Busy p (local p r n f) x
             → Gives F Q Z Step x (Z .Busy p (local p (suc r) n f)) []
         step-gives p r n f o k h x a =
             subst (λ l. Good p l → Gives F Q Z Step x (Z .Busy p l) []) (following-is p r n f o h)
@@ -342,20 +342,20 @@ module _ {Part In Body Msg St : Type 0} (F : Finite Part) (Q : Protocol Part In 
 
         step-go : (p : Part) (φ : ℕ) (n : Part → ℕ) (f : ℕ) → Ok plan p (at-place φ n f) → (x : Store) → place p φ n f x
             → (y : Store × List Msg) → Z .act Step x ≡ some y
-            → (0 < φ) × (φ < suc (Q .rounds)) × ((q : Part) → counts φ q p ≤ n q) × place p (suc φ) n f (y .0) × (y .1 ≡ [])
-        unfolding place counts
+            → (0 < φ) × (φ < suc (Q .rounds)) × ((q : Part) → mailCount φ q p ≤ n q) × place p (suc φ) n f (y .0) × (y .1 ≡ [])
+        unfolding place mailCount
         step-go p zero n f o x a y e = never Z Step x y (A .idle-step p x a) e
         step-go p (suc r) n f o x a y e =
             let k = A .step-is p (local p r n f) x a y e in
-            let h : (q : Part) → counts (suc r) q p ≤ n q = λ q. fits q (k .1 q) in
+            let h : (q : Part) → mailCount (suc r) q p ≤ n q = λ q. fits q (k .1 q) in
             let g = gives-to Z Step x _ _ (step-gives p r n f o (k .0) h x a) y e in
             (omega arith, omega (arith, k .0), h, g .0, g .1)
           where
-            fits : (q : Part) → Q .whole r q p (take (n q - counts r q p) (mail r q p)) ≡ true → counts (suc r) q p ≤ n q
+            fits : (q : Part) → Q .whole r q p (take (n q - mailCount r q p) (mail r q p)) ≡ true → mailCount (suc r) q p ≤ n q
             fits q w = omega (
               arith,
               taken-fits p r n f o q,
-              A .whole-is r q p (lock r q) (n q - counts r q p) (omega (arith, taken-fits p r n f o q)) w,
+              A .whole-is r q p (lock r q) (n q - mailCount r q p) (omega (arith, taken-fits p r n f o q)) w,
             )
 
         fetch-gives : (p : Part) (r : ℕ) (n : Part → ℕ) (f : ℕ) → Ok plan p (at-place (suc r) n f) → f < length (post (suc r) p)
@@ -378,55 +378,55 @@ module _ {Part In Body Msg St : Type 0} (F : Finite Part) (Q : Protocol Part In 
             go (no h) = never Z Fetch x y (A .fetch-none p (local p r n f) x a (drop-of-length-le (post (suc r) p) {i = f} (omega arith))) e
 
         -- the number F Q of a message tells its round
-        same-round : (q p : Part) (r r′ : ℕ) (k : ℕ) → counts r q p ≤ k → k < counts (suc r) q p → counts r′ q p ≤ k
-            → k < counts (suc r′) q p → r′ ≡ r
+        same-round : (q p : Part) (r r′ : ℕ) (k : ℕ) → mailCount r q p ≤ k → k < mailCount (suc r) q p → mailCount r′ q p ≤ k
+            → k < mailCount (suc r′) q p → r′ ≡ r
         same-round q p r r′ k a b c d = go (decLt r r′) (decLt r′ r)
           where
             go : Dec (r < r′) → Dec (r′ < r) → r′ ≡ r
-            go (yes h) t = absurd (omega (arith, counts-mono q p (suc r) r′ h))
-            go (no h) (yes t) = absurd (omega (arith, counts-mono q p (suc r′) r t))
+            go (yes h) t = absurd (omega (arith, count-mono q p (suc r) r′ h))
+            go (no h) (yes t) = absurd (omega (arith, count-mono q p (suc r′) r t))
             go (no h) (no t) = omega arith
 
         -- the message that is due
         due : Part → ℕ → (Part → ℕ) → Part → Msg
-        due p r n q = Q .pack q p (counts r q p + length (take (n q - counts r q p) (mail r q p)))
-            (getD (mail r q p) (n q - counts r q p) blank)
+        due p r n q = Q .pack q p (mailCount r q p + length (take (n q - mailCount r q p) (mail r q p)))
+            (getD (mail r q p) (n q - mailCount r q p) blank)
 
-        due-gives : (p : Part) (r : ℕ) (n : Part → ℕ) (f : ℕ) → Ok plan p (at-place (suc r) n f) → (q : Part) → n q < counts (suc r) q p
+        due-gives : (p : Part) (r : ℕ) (n : Part → ℕ) (f : ℕ) → Ok plan p (at-place (suc r) n f) → (q : Part) → n q < mailCount (suc r) q p
             → (x : Store) → Z .Busy p (local p r n f) x
             → Gives F Q Z (Hand (due p r n q)) x (Z .Busy p (local p r (upd F n q (suc (n q))) f)) []
-        unfolding due counts
+        unfolding due mailCount
         due-gives p r n f o q h x a =
             subst (λ l. Good p l → Gives F Q Z (Hand (due p r n q)) x (Z .Busy p l) []) (withBody-is p r n f o q h)
-            (λ g. A .hand-does p (local p r n f) x a q _ g (short-open r q p (n q - counts r q p) (omega (arith, taken-fits p r n f o q))))
+            (λ g. A .hand-does p (local p r n f) x a q _ g (short-open r q p (n q - mailCount r q p) (omega (arith, taken-fits p r n f o q))))
             (good p r (upd F n q (suc (n q))) f (ok-take F plan counted p (at-place (suc r) n f) o q h))
 
         -- a message of q for p that has the number F Q that is due is the one that is due
         is-due : (p : Part) (r : ℕ) (n : Part → ℕ) (f : ℕ) → Ok plan p (at-place (suc r) n f) → (q : Part) (m : Msg)
-            → Q .whole r q p (take (n q - counts r q p) (mail r q p)) ≡ false
-            → (r′ : ℕ) (i : ℕ) → i < length (mail r′ q p) → m ≡ Q .pack q p (counts r′ q p + i) (getD (mail r′ q p) i blank)
-            → counts r′ q p + i ≡ counts r q p + length (take (n q - counts r q p) (mail r q p))
-            → (n q < counts (suc r) q p) × (m ≡ due p r n q)
-        unfolding due counts
+            → Q .whole r q p (take (n q - mailCount r q p) (mail r q p)) ≡ false
+            → (r′ : ℕ) (i : ℕ) → i < length (mail r′ q p) → m ≡ Q .pack q p (mailCount r′ q p + i) (getD (mail r′ q p) i blank)
+            → mailCount r′ q p + i ≡ mailCount r q p + length (take (n q - mailCount r q p) (mail r q p))
+            → (n q < mailCount (suc r) q p) × (m ≡ due p r n q)
+        unfolding due mailCount
         is-due p r n f o q m w r′ i h e k =
-            let l = open-short r q p (n q - counts r q p) w in
-            let t = length-take-le (n q - counts r q p) (mail r q p) (omega arith) in
+            let l = open-short r q p (n q - mailCount r q p) w in
+            let t = length-take-le (n q - mailCount r q p) (mail r q p) (omega arith) in
             let u = taken-fits p r n f o q in
             let a = same-round q p r r′ (n q) (u .0) (omega (arith, l, u)) (omega (arith, k, t, u)) (omega (arith, k, t, u, h)) in
-            let c : counts r′ q p ≡ counts r q p = ap (λ x. counts x q p) a in
+            let c : mailCount r′ q p ≡ mailCount r q p = ap (λ x. mailCount x q p) a in
             (omega (arith, l, u), e ∙ ap₂ (Q .pack q p) k (ap₂ (λ x j. getD (mail x q p) j blank) a (omega (arith, k, t, c, u))))
 
         hand-go : (p : Part) (φ : ℕ) (n : Part → ℕ) (f : ℕ) → Ok plan p (at-place φ n f) → (x : Store) → place p φ n f x
             → (q : Part) (m : Msg) → Sent q m → (y : Store × List Msg) → Z .act (Hand m) x ≡ some y
-            → (0 < φ) × (n q < counts φ q p) × place p φ (upd F n q (suc (n q))) f (y .0) × (y .1 ≡ [])
+            → (0 < φ) × (n q < mailCount φ q p) × place p φ (upd F n q (suc (n q))) f (y .0) × (y .1 ≡ [])
         unfolding place
         hand-go p zero n f o x a q m s y e = never Z (Hand m) x y (A .idle-hand p x a m) e
         hand-go p (suc r) n f o x a q m s y e =
-            let k = A .hand-is p (local p r n f) x a q (s .0) (counts (s .1) q (s .0) + s .2) (getD (mail (s .1) q (s .0)) (s .2) blank) y
+            let k = A .hand-is p (local p r n f) x a q (s .0) (mailCount (s .1) q (s .0) + s .2) (getD (mail (s .1) q (s .0)) (s .2) blank) y
             (subst (λ z. Z .act (Hand z) x ≡ some y) (s .4) e) in
             let t = subst (λ z. (r′ : ℕ) × (i : ℕ) × (i < length (mail r′ q z))
-            × (m ≡ Q .pack q z (counts r′ q z + i) (getD (mail r′ q z) i blank))
-            × (counts r′ q z + i ≡ counts r q p + length (take (n q - counts r q p) (mail r q p)))) (k .0) (s .1, s .2, s .3, s .4, k .2) in
+            × (m ≡ Q .pack q z (mailCount r′ q z + i) (getD (mail r′ q z) i blank))
+            × (mailCount r′ q z + i ≡ mailCount r q p + length (take (n q - mailCount r q p) (mail r q p)))) (k .0) (s .1, s .2, s .3, s .4, k .2) in
             let d = is-due p r n f o q m (k .1) (t .0) (t .1) (t .2) (t .3) (t .4) in
             let g = gives-to Z (Hand (due p r n q)) x _ _ (due-gives p r n f o q (d .0) x a) y
             (subst (λ z. Z .act (Hand z) x ≡ some y) (d .1) e) in
@@ -462,7 +462,7 @@ module _ {Part In Body Msg St : Type 0} (F : Finite Part) (Q : Protocol Part In 
         start-live p (suc r) n f o x a e = absurd (omega arith)
 
         step-live : (p : Part) (φ : ℕ) (n : Part → ℕ) (f : ℕ) → Ok plan p (at-place φ n f) → (x : Store) → place p φ n f x → 0 < φ
-            → φ < suc (Q .rounds) → ((q : Part) → counts φ q p ≤ n q) → Takes Step x
+            → φ < suc (Q .rounds) → ((q : Part) → mailCount φ q p ≤ n q) → Takes Step x
         unfolding place
         step-live p zero n f o x a b c h = absurd (omega arith)
         step-live p (suc r) n f o x a b c h = takes (step-gives p r n f o (omega arith) h x a)
@@ -474,16 +474,16 @@ module _ {Part In Body Msg St : Type 0} (F : Finite Part) (Q : Protocol Part In 
         fetch-live p (suc r) n f o x a h = takes (fetch-gives p r n f o h x a)
 
         hand-live : (p : Part) (φ : ℕ) (n : Part → ℕ) (f : ℕ) → Ok plan p (at-place φ n f) → (x : Store) → place p φ n f x → (q : Part)
-            → n q < counts φ q p
+            → n q < mailCount φ q p
             → (j : ℕ) × (j < length (post φ q)) × Takes (Hand (getD (post (suc (Q .rounds)) q) j junk)) x
-        unfolding place counts due
+        unfolding place mailCount due
         hand-live p zero n f o x a q h = absurd (omega arith)
         hand-live p (suc r) n f o x a q h =
             let u = taken-fits p r n f o q in
-            let t = length-take-le (n q - counts r q p) (mail r q p) (omega (arith, u)) in
-            let w = getD-mem junk (in-post (A .ordered) r q p (n q - counts r q p) (omega (arith, u))) in
+            let t = length-take-le (n q - mailCount r q p) (mail r q p) (omega (arith, u)) in
+            let w = getD-mem junk (in-post (A .ordered) r q p (n q - mailCount r q p) (omega (arith, u))) in
             let e : getD (post (suc (Q .rounds)) q) (w .0) junk ≡ due p r n q = prefix q (w .0) (suc r) (suc (Q .rounds)) (o .top) (w .1) .1
-            ∙ w .2 ∙ ap (λ k. Q .pack q p (counts r q p + k) (getD (mail r q p) (n q - counts r q p) blank)) (sym t) in
+            ∙ w .2 ∙ ap (λ k. Q .pack q p (mailCount r q p + k) (getD (mail r q p) (n q - mailCount r q p) blank)) (sym t) in
             (w .0, w .1, subst (λ m. Takes (Hand m) x) (sym e) (takes (due-gives p r n f o q h x a)))
 
         pub live : Live F (Z .act) plan

@@ -25,13 +25,13 @@ use Rattle.exchange.specs.Places.{Plan, Ok, Laws, Live}
 use Rattle.exchange.specs.Exchange.{storeAt, AtHome, determined, started, ended, rises-only, bounded, most, Goes, progress}
 use Rattle.exchange.specs.Exchange.{more-lawful, more-moves, more-inputs, callOf, completes}
 use Rattle.exchange.specs.Protocol.{Protocol, Machine, Local, Alone}
-use Rattle.exchange.specs.Lockstep.{lock, counts, post, local, place, plan, at-place, laws, live, post-length}
+use Rattle.exchange.specs.Lockstep.{lock, mailCount, post, local, place, plan, at-place, laws, live, post-length}
 
 pub record Can {Part In Body Msg St : Type 0} (F : Finite Part) (Q : Protocol Part In Body Msg St) (input : Part
     → In) (p : Part) (r : ℕ) (n : Part → ℕ) (f : ℕ) : Type 0 where
   pub in-rounds : r ≤ Q .rounds
-  pub low : (q : Part) → counts F Q input r q p ≤ n q
-  pub high : (q : Part) → n q ≤ counts F Q input (suc r) q p
+  pub low : (q : Part) → mailCount F Q input r q p ≤ n q
+  pub high : (q : Part) → n q ≤ mailCount F Q input (suc r) q p
   pub sent : f ≤ length (post F Q input (suc r) p)
 
 module _ {In Body Msg St Store : Type 0} (P : ℕ) (Q : Protocol (Fin P) In Body Msg St) (Z : Machine (Fin P) In Body Msg St Store)
@@ -93,18 +93,18 @@ module _ {In Body Msg St Store : Type 0} (P : ℕ) (Q : Protocol (Fin P) In Body
       e ∙ ap some (h .inputs p i e)
 
   -- what a done part's store stands for: only how many of its messages were fetched is open
-  abbrev pub finished : Fin P → ℕ → Local (Fin P) Body Msg St
-  finished p f = record {
+  abbrev pub atEnd : Fin P → ℕ → Local (Fin P) Body Msg St
+  atEnd p f = record {
     round = Q .rounds;
     state = lock F Q input (Q .rounds) p;
-    before = λ q. counts F Q input (Q .rounds) q p;
+    before = λ q. mailCount F Q input (Q .rounds) q p;
     got = λ q. [];
-    sent = λ q. counts F Q input (suc (Q .rounds)) p q;
+    sent = λ q. mailCount F Q input (suc (Q .rounds)) p q;
     queue = drop f (post F Q input (suc (Q .rounds)) p);
   }
 
   pub result : (cs : List (Call In Msg)) → Allowed cs → (p : Fin P) → phaseAfter cs p ≡ suc (Q .rounds) → (f : ℕ)
-      × Z .Busy p (finished p f) (storeAfter cs p)
+      × Z .Busy p (atEnd p f) (storeAfter cs p)
   unfolding place
   result cs h p e =
       let d = ended P (Z .act) void E K w home cs (h .lawful) (h .inputs) p e in (
@@ -113,14 +113,14 @@ module _ {In Body Msg St Store : Type 0} (P : ℕ) (Q : Protocol (Fin P) In Body
           round = Q .rounds;
           state = lock F Q input (Q .rounds) p;
           before =
-              λ q. counts F Q input (Q .rounds) q p;
+              λ q. mailCount F Q input (Q .rounds) q p;
           got = t;
-          sent = λ q. counts F Q input (suc (Q .rounds)) p q;
+          sent = λ q. mailCount F Q input (suc (Q .rounds)) p q;
           queue =
               drop (d .0) (post F Q input (suc (Q .rounds)) p);
         }) (storeAfter cs p))
             (fun-ext (λ q. rw (A .silent q p (lock F Q input (Q .rounds) q))
-            (take-nil (counts F Q input (suc (Q .rounds)) q p - counts F Q input (Q .rounds) q p)))) (d .2),
+            (take-nil (mailCount F Q input (suc (Q .rounds)) q p - mailCount F Q input (Q .rounds) q p)))) (d .2),
       )
 
   -- DONE STAYS
@@ -128,20 +128,20 @@ module _ {In Body Msg St Store : Type 0} (P : ℕ) (Q : Protocol (Fin P) In Body
       → (phaseAfter cs p ≤ phaseAfter (cs ++ ds) p) × (phaseAfter (cs ++ ds) p ≤ suc (Q .rounds))
   done-stays cs ds h p = rises-only P (Z .act) void E K w home cs ds (h .lawful) (h .inputs) p
 
-  quiet : (q p : Fin P) → counts F Q input (suc (Q .rounds)) q p ≤ counts F Q input (Q .rounds) q p
-  unfolding counts
+  quiet : (q p : Fin P) → mailCount F Q input (suc (Q .rounds)) q p ≤ mailCount F Q input (Q .rounds) q p
+  unfolding mailCount
   quiet q p = rw (A .silent q p (lock F Q input (Q .rounds) q)) (omega arith)
 
   -- BOUND: the rounds and the start of each part, and each message twice, once fetched and once taken
   pub moves-few : (cs : List (Call In Msg)) → Allowed cs
-      → moves (Z .act) cs w ≤ sumOver (λ p. suc (Q .rounds) + sumOver (λ q. counts F Q input (Q .rounds) q p) (F .list)
-      + sumOver (λ q. counts F Q input (Q .rounds) p q) (F .list)) (F .list)
+      → moves (Z .act) cs w ≤ sumOver (λ p. suc (Q .rounds) + sumOver (λ q. mailCount F Q input (Q .rounds) q p) (F .list)
+      + sumOver (λ q. mailCount F Q input (Q .rounds) p q) (F .list)) (F .list)
   unfolding most
   moves-few cs h = le-trans (bounded P (Z .act) void E K w home cs (h .lawful) (h .inputs)) (sum-le _ _ (λ p. omega (
     arith,
     post-length F Q input Z blank junk (A .ordered) (suc (Q .rounds)) p,
-    sum-le (λ q. counts F Q input (suc (Q .rounds)) q p) (λ q. counts F Q input (Q .rounds) q p) (λ q. quiet q p) (F .list),
-    sum-le (λ q. counts F Q input (suc (Q .rounds)) p q) (λ q. counts F Q input (Q .rounds) p q) (λ q. quiet p q) (F .list),
+    sum-le (λ q. mailCount F Q input (suc (Q .rounds)) q p) (λ q. mailCount F Q input (Q .rounds) q p) (λ q. quiet q p) (F .list),
+    sum-le (λ q. mailCount F Q input (suc (Q .rounds)) p q) (λ q. mailCount F Q input (Q .rounds) p q) (λ q. quiet p q) (F .list),
   )) (F .list))
 
   -- PROGRESS
