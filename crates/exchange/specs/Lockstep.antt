@@ -300,7 +300,8 @@ module _ {Part In Body Msg St : Type 0} (F : Finite Part) (Q : Protocol Part In 
             (fun-ext (λ q. let z : n q - mailCount (suc r) q p ≡ 0 = omega (arith, o .high q) in rw z))
             (sym (drop-append-le f (post (suc r) p) _ (o .sent)))
 
-        withBody-is : (p : Part) (r : ℕ) (n : Part → ℕ) (f : ℕ) → Ok plan p (at-place (suc r) n f) → (q : Part) → n q < mailCount (suc r) q p
+        withBody-is : (p : Part) (r : ℕ) (n : Part → ℕ) (f : ℕ) → Ok plan p (at-place (suc r) n f) → (q : Part)
+            → n q < mailCount (suc r) q p
             → withBody F Q (local p r n f) q (getD (mail r q p) (n q - mailCount r q p) blank) ≡ local p r (upd F n q (suc (n q))) f
         unfolding mailCount
         withBody-is p r n f o q h = ap (λ t. re (local p r n f) t (drop f (post (suc r) p))) (fun-ext
@@ -398,7 +399,8 @@ module _ {Part In Body Msg St : Type 0} (F : Finite Part) (Q : Protocol Part In 
         unfolding due mailCount
         due-gives p r n f o q h x a =
             subst (λ l. Good p l → Gives F Q Z (Hand (due p r n q)) x (Z .Busy p l) []) (withBody-is p r n f o q h)
-            (λ g. A .hand-does p (local p r n f) x a q _ g (short-open r q p (n q - mailCount r q p) (omega (arith, taken-fits p r n f o q))))
+            (λ g. A .hand-does p (local p r n f) x a q _ g
+            (short-open r q p (n q - mailCount r q p) (omega (arith, taken-fits p r n f o q))))
             (good p r (upd F n q (suc (n q))) f (ok-take F plan counted p (at-place (suc r) n f) o q h))
 
         -- a message of q for p that has the number F Q that is due is the one that is due
@@ -422,11 +424,18 @@ module _ {Part In Body Msg St : Type 0} (F : Finite Part) (Q : Protocol Part In 
         unfolding place
         hand-go p zero n f o x a q m s y e = never Z (Hand m) x y (A .idle-hand p x a m) e
         hand-go p (suc r) n f o x a q m s y e =
-            let k = A .hand-is p (local p r n f) x a q (s .0) (mailCount (s .1) q (s .0) + s .2) (getD (mail (s .1) q (s .0)) (s .2) blank) y
+            let k = A .hand-is p (local p r n f) x a q (s .0) (mailCount (s .1) q (s .0) + s .2) (getD (mail (s .1) q (s .0)) (s .2) blank)
+            y
             (subst (λ z. Z .act (Hand z) x ≡ some y) (s .4) e) in
             let t = subst (λ z. (r′ : ℕ) × (i : ℕ) × (i < length (mail r′ q z))
             × (m ≡ Q .pack q z (mailCount r′ q z + i) (getD (mail r′ q z) i blank))
-            × (mailCount r′ q z + i ≡ mailCount r q p + length (take (n q - mailCount r q p) (mail r q p)))) (k .0) (s .1, s .2, s .3, s .4, k .2) in
+            × (mailCount r′ q z + i ≡ mailCount r q p + length (take (n q - mailCount r q p) (mail r q p)))) (k .0) (
+              s .1,
+              s .2,
+              s .3,
+              s .4,
+              k .2,
+            ) in
             let d = is-due p r n f o q m (k .1) (t .0) (t .1) (t .2) (t .3) (t .4) in
             let g = gives-to Z (Hand (due p r n q)) x _ _ (due-gives p r n f o q (d .0) x a) y
             (subst (λ z. Z .act (Hand z) x ≡ some y) (d .1) e) in
