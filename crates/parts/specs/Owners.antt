@@ -1,6 +1,6 @@
 -- Who owns which cell, before a step and after it (document 01, "Parts"). n, qs, ss are corners, coarse cells and status table, os the
 -- owners: parts are numbers from 1 on.
---   cellOf c                the cell with the number c
+--   nthCell c                the cell with the number c
 --   childrenOf c            the numbers of its children
 --   firstOr f a l           what f gives for the first of l; a where l is empty
 --   familyOf os c           the owner of the children of c; of a leaf its own
@@ -25,13 +25,13 @@ firstOr f a [] = a
 firstOr f a (x ∷ l) = f x
 
 module _ (n : ℕ) (qs : List (List ℕ)) (ss : List ℕ) where
-  unfoldable pub cellOf : ℕ → Cell Point
+  unfoldable pub nthCell : ℕ → Cell Point
   unfolding levelsOf cellsOf
-  cellOf c = getD (cellsOf (levelsOf n qs ss)) c noCell
+  nthCell c = getD (cellsOf (levelsOf n qs ss)) c noCell
 
   unfoldable pub childrenOf : ℕ → List ℕ
-  unfolding cellOf filterb range
-  childrenOf c = filterb (λ d. eqb (cellOf d .parent) c) (range 0 (length ss))
+  unfolding nthCell filterb range
+  childrenOf c = filterb (λ d. eqb (nthCell d .parent) c) (range 0 (length ss))
 
   unfoldable pub familyOf : List ℕ → ℕ → ℕ
   unfolding childrenOf firstOr
@@ -46,8 +46,8 @@ module _ (n : ℕ) (qs : List (List ℕ)) (ss : List ℕ) where
 
   -- a cell before and one after are the same where their paths agree
   unfoldable pub refinedAt : List ℕ → List ℕ
-  unfolding cellOf filterb sameb range
-  refinedAt l = filterb (λ c. sameb (cellOf c .path) l && not (eqb (getD ss c 0) 0)) (range 0 (length ss))
+  unfolding nthCell filterb sameb range
+  refinedAt l = filterb (λ c. sameb (nthCell c .path) l && not (eqb (getD ss c 0) 0)) (range 0 (length ss))
 
   -- a family keeps its owner; a first one is with its parent's
   unfoldable pub familyAfter : List ℕ → List ℕ → ℕ → ℕ
