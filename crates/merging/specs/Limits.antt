@@ -6,7 +6,7 @@
 use mathlib.Core.Path.{_≡_, refl, sym, _∙_, ap}
 use mathlib.Core.Bool.{false, not}
 use mathlib.Core.List.{List, [], _∷_, List·Memᴰ, List·Memᴰ·head, List·Memᴰ·tail}
-use Prim.Native.Nat.{ℕ, zero, suc, _≤_, _<_, pred, max, min}
+use Prim.Native.Nat.{ℕ, zero, suc, _≤_, _<_, pred}
 use native.Mathlib.Decide.{decLt}
 use native.Mathlib.Omega.{arith}
 use lib.Dec.{leb}
@@ -50,7 +50,8 @@ capped-few x =
 
 -- how many levels there are
 module _ (m : ℕ) (ss fs : List ℕ) where
-  level-filled : (h k : ℕ) (cs : List (Cell Point)) (os : List ℕ) (j : ℕ) → j < length (growLevels m ss fs h k cs os) → 0 < length (getD (growLevels m ss fs h k cs os) j noLevel .cells)
+  level-filled : (h k : ℕ) (cs : List (Cell Point)) (os : List ℕ) (j : ℕ) → j < length (growLevels m ss fs h k cs os)
+      → 0 < length (getD (growLevels m ss fs h k cs os) j noLevel .cells)
   unfolding growLevels
   level-filled zero k cs os j l = absurd (omega arith)
   level-filled (suc h) k [] os j l = absurd (omega arith)
@@ -72,13 +73,18 @@ module _ (n : ℕ) (qs : List (List ℕ)) (ss ms : List ℕ) where
 
   last-empty : length (stepBy n qs ss ms) ≤ 11 → leb 1 (length (last .cells)) ≡ false
   last-empty h =
-      elim (decLt 0 (length (last .cells))) [ yes g ↦ absurd (omega (arith, beyond (newLevels n qs ss ms) 11 g, step-high)) | no g ↦ lt-leb 1 (length (last .cells)) (omega arith) ]
+      elim (decLt 0 (length (last .cells))) [
+        | yes g ↦ absurd (omega (arith, beyond (newLevels n qs ss ms) 11 g, step-high))
+        | no g ↦
+            lt-leb 1 (length (last .cells)) (omega arith)
+      ]
 
   pub levels-eleven : leb (length (stepBy n qs ss ms)) 11 ≡ not (leb 1 (length (last .cells)))
   levels-eleven =
       elim (decLt 11 (length (stepBy n qs ss ms))) [
         | yes h ↦
-            let f = level-filled (length qs) ss (flagTable n qs ss ms) 12 0 (coarseCells n qs) (upTo (length qs)) 11 (omega (arith, step-high)) in
+            let f = level-filled (length qs) ss (flagTable n qs ss ms) 12 0 (coarseCells n qs) (upTo (length qs)) 11
+            (omega (arith, step-high)) in
             lt-leb (length (stepBy n qs ss ms)) 11 h ∙ sym (ap not (le-leb 1 (length (last .cells)) f))
         | no h ↦ le-leb (length (stepBy n qs ss ms)) 11 (omega arith) ∙ sym (ap not (last-empty (omega arith)))
       ]

@@ -1,11 +1,14 @@
 -- Merging gives the table whose cells the masters are, in whatever order these stand.
+--   entryAt k t b        the entry of the cell t of level k; b where it is a ghost
+--   MasterIn n qs ss e   the cell of the table ss that the master e is of
 --   Covers n qs ss es    each cell of the table ss has its master among the entries es, and these have no other masters
--- Laws: lookup-is (a path that is found), next-paths and coarse-paths (the paths of a level), merged-is (the theorem), merged-table (the table
--- as one row), merged-step (the step's table).
+-- Laws: lookup-is (a path that is found), next-paths and coarse-paths (the paths of a level), merged-is (the theorem), merged-table (the
+-- table as one row), merged-step (the step's table).
 use mathlib.Core.Path.{_≡_, refl, sym, _∙_, ap, ap₂, subst}
 use mathlib.Core.Logic.{⊎-elim}
-use mathlib.Core.Bool.{Bool, true, false, _&&_, not}
-use mathlib.Core.List.{List, [], _∷_, _++_, map, map-append, List·Memᴰ, List·Memᴰ·head, List·Memᴰ·tail, List·Memᴰ·not-nil, List·Memᴰ·cases-cons}
+use mathlib.Core.Bool.{Bool, true, false}
+use mathlib.Core.List.{List, [], _∷_, _++_, map, map-append, List·Memᴰ, List·Memᴰ·head, List·Memᴰ·tail, List·Memᴰ·not-nil}
+use mathlib.Core.List.{List·Memᴰ·cases-cons}
 use Prim.Native.Nat.{ℕ, zero, suc, _+_, _<_}
 use native.Mathlib.Omega.{arith}
 use lib.Dec.{T, eqb}
@@ -78,7 +81,8 @@ unfolding next childPaths
 next-paths k [] ts = refl
 next-paths k (c ∷ cs) [] = refl
 next-paths k (c ∷ cs) (t ∷ ts) =
-    map-append (λ (c : Cell Point). c .path) (children k c t (point c)) (next (suc k) cs ts) ∙ ap₂ _++_ (children-paths k c t) (next-paths (suc k) cs ts)
+    map-append (λ (c : Cell Point). c .path) (children k c t (point c)) (next (suc k) cs ts) ∙ ap₂ _++_ (children-paths k c t)
+    (next-paths (suc k) cs ts)
 
 pub coarse-paths : (n i : ℕ) (qs : List (List ℕ)) → pathsOf (coarseFrom n i qs) ≡ map (λ i. i ∷ []) (range i (length qs))
 unfolding coarseFrom range
@@ -88,9 +92,11 @@ coarse-paths n i (q ∷ qs) = ap (λ (l : List (List ℕ)). (i ∷ []) ∷ l) (c
 -- level after level
 module _ (es : List Entry) where
   Found : List Level → Type 0
-  Found ls = (j i : ℕ) → i < length (getD ls j noLevel .cells) → lookup es (pathAt (getD ls j noLevel .cells) i) ≡ getD (getD ls j noLevel .statuses) i 0
+  Found ls = (j i : ℕ) → i < length (getD ls j noLevel .cells) → lookup es (pathAt (getD ls j noLevel .cells) i)
+      ≡ getD (getD ls j noLevel .statuses) i 0
 
-  statuses-found : (cs : List (Cell Point)) (ts : List ℕ) → length ts ≡ length cs → ((i : ℕ) → i < length cs → lookup es (pathAt cs i) ≡ getD ts i 0)
+  statuses-found : (cs : List (Cell Point)) (ts : List ℕ) → length ts ≡ length cs
+      → ((i : ℕ) → i < length cs → lookup es (pathAt cs i) ≡ getD ts i 0)
       → map (lookup es) (pathsOf cs) ≡ ts
   statuses-found [] [] e f = refl
   statuses-found [] (t ∷ ts) e f = absurd (omega arith)
@@ -133,7 +139,8 @@ pub record Covers (n : ℕ) (qs : List (List ℕ)) (ss : List ℕ) (es : List En
 module _ (n : ℕ) (qs : List (List ℕ)) (ss : List ℕ) (es : List Entry) (w : Covers n qs ss es) where
   found : (j i : ℕ) → i < length (lv n qs ss j .cells) → lookup es (pathAt (lv n qs ss j .cells) i) ≡ getD (lv n qs ss j .statuses) i 0
   found j i h =
-      lookup-is es (pathAt (lv n qs ss j .cells) i) (getD (lv n qs ss j .statuses) i 0) (entryAt n qs ss j i false) (w .each j i h) refl refl
+      lookup-is es (pathAt (lv n qs ss j .cells) i) (getD (lv n qs ss j .statuses) i 0) (entryAt n qs ss j i false)
+      (w .each j i h) refl refl
       (λ e m g q.
       let v = w .none-else e m g in
       let (a, b) = one-place n qs ss (v .k) (v .t) j i (v .below) h (sym (v .path) ∙ q) in

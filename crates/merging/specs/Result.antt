@@ -1,15 +1,15 @@
--- What the rounds of a split step come to, for every accepted mesh, sound table, accepted owners and marks, once each part knows of the new
--- red cells among its own: the statements for the exchange's theorem, readable alone.
+-- What the rounds of a split step come to, for every accepted mesh, sound table, accepted owners and marks, once each part knows of the
+-- new red cells among its own: the statements for the exchange's theorem, readable alone.
 --   settle             the split table after the rounds, with the slots of `splitting`
 --   entriesAll X ps    the entries of the parts ps, one behind the other
--- Laws: serial-table (merging gives the step's table, in whatever order of the parts), all-totals (as many masters as cells), serial-answer (the
--- result from the totals is the serial step's), just-held (a part holds its masters and ghosts and nothing else), held-each-once,
--- old-table (masters and ghosts of the split merge to the old table), admissible-before, admissible-after (A1 to A6).
+-- Laws: serial-table (merging gives the step's table, in whatever order of the parts), all-totals (as many masters as cells),
+-- serial-answer (the result from the totals is the serial step's), held-each-once and just-held (a part holds its masters and ghosts, each
+-- once, and nothing else), old-table (the masters of the split merge to the old table), admissible-before and admissible-after (A1 to A6).
 use mathlib.Core.Path.{_≡_, refl, sym, _∙_, ap, subst}
 use mathlib.Core.Logic.{⊎-elim}
 use mathlib.Core.Bool.{false}
-use mathlib.Core.List.{List, [], _∷_, _++_, flatMap, List·Memᴰ, List·Memᴰ·head, List·Memᴰ·tail, List·Memᴰ·not-nil}
-use mathlib.Core.List.{List·Memᴰ·append-cases, Memᴰ·append-left, Memᴰ·append-right}
+use mathlib.Core.List.{List, [], _∷_, _++_, flatMap, List·Memᴰ, List·Memᴰ·head, List·Memᴰ·tail, List·Memᴰ·not-nil, List·Memᴰ·append-cases}
+use mathlib.Core.List.{Memᴰ·append-left, Memᴰ·append-right}
 use Prim.Native.Nat.{ℕ, suc, _≤_, _<_, pred}
 use lib.Dec.{T, leb}
 use lib.ListN.{length, getD}
@@ -20,10 +20,10 @@ use Rattle.mesh.specs.Table.{Level, levelsOf, soundb}
 use Rattle.mesh.specs.Step.{stepTable}
 use Rattle.lattice.specs.Every.{All}
 use Rattle.lattice.specs.Facts.{sound-regular}
-use Rattle.lineage.specs.Olds.{concat, stepBy}
+use Rattle.lineage.specs.Olds.{concat}
 use Rattle.lineage.specs.Paths.{pathAt}
 use Rattle.lineage.specs.Step.{step-by}
-use Rattle.soundness.specs.Sound.{Sound, sound-parts, sound-from, lv}
+use Rattle.soundness.specs.Sound.{Sound, sound-parts}
 use Rattle.soundness.specs.Steady.{step-sound}
 use Rattle.exchange.specs.Finite.{Finite, sumOver}
 use Rattle.rounds.specs.Tests.{Member}
@@ -37,14 +37,14 @@ use Rattle.splitting.specs.Split.{taskOf, owners-fit}
 use Rattle.splitting.specs.Slots.{slotOf, slotsAt, slots-are}
 use Rattle.splitting.specs.Admissible.{Admissible, admissible}
 use Rattle.splitting.specs.Heirs.{heirs-admissible}
-use Rattle.shares.specs.Flat.{Once}
-use Rattle.shares.specs.Settled.{Settled, entriesIn, newIn, ownIn}
+use Rattle.shares.specs.Flat.{NoTwice}
+use Rattle.shares.specs.Settled.{Settled, entriesIn, newLevelIn, ownIn}
 use Rattle.shares.specs.Present.{newEntry, masters-in}
-use Rattle.shares.specs.Entries.{Means, entries-are}
+use Rattle.shares.specs.Entries.{entries-are}
 use Rattle.shares.specs.Once.{each-once}
-use Rattle.shares.specs.Share.{Named, tableIn, ownersIn, share-held, held-share}
+use Rattle.shares.specs.Share.{Named, tableIn, share-held, held-share}
 use Rattle.merging.specs.Distinct.{NoDup}
-use Rattle.merging.specs.Merge.{entryAt, MasterIn, Covers, merged-step}
+use Rattle.merging.specs.Merge.{Covers, merged-step}
 use Rattle.merging.specs.Covered.{split-merged}
 use Rattle.merging.specs.Limits.{endOf}
 use Rattle.merging.specs.Totals.{mastersOf, highIn, totals-are, ends}
@@ -64,13 +64,15 @@ module _ {Part : Type 0} {F : Finite Part} (X : Settled F) where
   unfolding entriesAll
   all-in [] e m = absurd (List·Memᴰ·not-nil m)
   all-in (p ∷ l) e m =
-      ⊎-elim (λ (u : List·Memᴰ e (entriesIn X p)). (p, u)) (λ (u : List·Memᴰ e (entriesAll l)). all-in l e u) (List·Memᴰ·append-cases (entriesIn X p) m)
+      ⊎-elim (λ (u : List·Memᴰ e (entriesIn X p)). (p, u)) (λ (u : List·Memᴰ e (entriesAll l)). all-in l e u)
+      (List·Memᴰ·append-cases (entriesIn X p) m)
 
   pub entries-cover : (l : List Part) → ((p : Part) → List·Memᴰ p l) → Covers (X .n) (X .qs) (tableIn X) (entriesAll l)
   entries-cover l every =
       record {
         each = λ k i h.
-            let g : i < length (newIn X k .cells) = subst (λ (v : Level). i < length (v .cells)) (new-lv (X .n) (X .qs) (X .ss) (X .ms) k) h in
+            let g : i < length (newLevelIn X k .cells) =
+            subst (λ (v : Level). i < length (v .cells)) (new-lv (X .n) (X .qs) (X .ss) (X .ms) k) h in
             let p = ownIn X k i in
             subst (λ (e : Entry). List·Memᴰ e (entriesAll l))
             (sym (ap {A = Level} {B = Entry} (λ v. record { path = pathAt (v .cells) i; status = getD (v .statuses) i 0; ghost = false })
@@ -94,7 +96,7 @@ module _ {Part : Type 0} (F : Finite Part) (n : ℕ) (qs : List (List ℕ)) (ss 
     (accepted : T (cellsb n qs)) (sound : T (soundb n qs ss)) (P : ℕ) (os : List ℕ) (owners : T (ownersb n qs ss P os))
     (part : ℕ → Part) (number : Part → ℕ) (names : Named P part number) (state : Part → State)
     (known : (p : Part) → Known F (taskOf n qs ss (slotOf n qs ss) (slotsAt n qs ss) os part) (λ c. getD ms c 0)
-      (suc (pred (length (levelsOf n qs ss)))) p (state p)) where
+    (suc (pred (length (levelsOf n qs ss)))) p (state p)) where
   abbrev s : Sound n qs ss
   s = sound-parts n qs ss sound
 
@@ -128,13 +130,15 @@ module _ {Part : Type 0} (F : Finite Part) (n : ℕ) (qs : List (List ℕ)) (ss 
   pub serial-answer : NoDup (F .list) → endOf (capped (sumOver (mastersOf settle) (F .list))) (highIn settle)
       ≡ refuse 8 (leb (length (stepTable n qs ss ms)) 11) (refuse 9 (leb (length (concat (stepTable n qs ss ms))) 4096) Accepted)
   serial-answer d =
-      ends settle d ∙ ap (λ (t : List (List ℕ)). refuse 8 (leb (length t) 11) (refuse 9 (leb (length (concat t)) 4096) Accepted)) (sym (step-by n qs ss ms sound))
+      ends settle d ∙ ap (λ (t : List (List ℕ)). refuse 8 (leb (length t) 11) (refuse 9 (leb (length (concat t)) 4096) Accepted))
+      (sym (step-by n qs ss ms sound))
 
-  pub held-each-once : (p : Part) → Once (entriesIn settle p)
+  pub held-each-once : (p : Part) → NoTwice (entriesIn settle p)
   held-each-once p = each-once settle p
 
   -- masters and ghosts before the step
-  pub old-table : (ps : List ℕ) → ((p : ℕ) → 1 ≤ p → p ≤ P → Member p ps) → concat (merged (flatMap (entriesOf n qs ss os) ps) (length qs)) ≡ ss
+  pub old-table : (ps : List ℕ) → ((p : ℕ) → 1 ≤ p → p ≤ P → Member p ps) → concat (merged (flatMap (entriesOf n qs ss os) ps) (length qs))
+      ≡ ss
   old-table ps every = split-merged n qs ss s P os owners ps every
 
   pub admissible-before : Admissible n qs ss P os

@@ -1,11 +1,11 @@
 -- The masters of all parts are as many as the cells of the step's table, and a part has a master on level 11 exactly where that level has
 -- cells: 8 and 9 follow from the totals.
 --   masterPaths es     the paths of the masters among the entries es
+--   grownOf            what a part tells of its masters: how many they are, and their highest level
 --   mastersOf X p      how many masters the part p has after the step
 --   highIn X           the highest level of all masters
---   grownOf            what a part tells of its masters: how many they are, and their highest level
--- Laws: totals-are, deep-from, deep-by, ends (the result that every part finds is the serial step's answer), grown-plain (it does not depend on
--- totals).
+-- Laws: totals-are (as many masters as cells), deep-from and deep-by (masters on level 11), ends (the result that every part finds is the
+-- serial step's answer), grown-plain (what a part tells does not depend on totals).
 use mathlib.Core.Path.{_≡_, refl, sym, _∙_, ap, ap₂, subst}
 use mathlib.Core.Logic.{⊎-elim}
 use mathlib.Core.Bool.{Bool, true, false, not}
@@ -37,11 +37,12 @@ use Rattle.rounds.specs.Among.{largest-in}
 use Rattle.rounds.specs.Totals.{Plain}
 use Rattle.parts.specs.Held.{Entry}
 use Rattle.splitting.specs.Paths.{new-lv, new-length, new-one-place}
-use Rattle.shares.specs.Flat.{Once}
-use Rattle.shares.specs.Grow.{statusNew, pairHeld, freshStatus, staysb, masterEntry, ghostEntry, anewb, childStatus, childEntries, freshEntries, entries}
+use Rattle.shares.specs.Flat.{NoTwice}
+use Rattle.shares.specs.Grow.{statusNew, pairHeld, freshStatus, staysb, masterEntry, ghostEntry, anewb, childStatus, childEntries}
+use Rattle.shares.specs.Grow.{freshEntries, entries}
 use Rattle.shares.specs.Settled.{Settled, entriesIn, ownIn}
 use Rattle.shares.specs.Present.{newEntry, masters-in}
-use Rattle.shares.specs.Entries.{Means, entries-are}
+use Rattle.shares.specs.Entries.{entries-are}
 use Rattle.shares.specs.Once.{each-once}
 use Rattle.merging.specs.Distinct.{NoDup, no-more, place-of, mem-at, no-dup-by, no-dup-append}
 use Rattle.merging.specs.Limits.{topOf, endOf, largest-from, capped-few, levels-eleven}
@@ -51,27 +52,33 @@ unfoldable pub masterPaths : List Entry → List (List ℕ)
 masterPaths [] = []
 masterPaths (e ∷ l) = elim (e .ghost) [ true ↦ masterPaths l | false ↦ e .path ∷ masterPaths l ]
 
-path-from : (es : List Entry) (l : List ℕ) → List·Memᴰ l (masterPaths es) → (e : Entry) × List·Memᴰ e es × (e .ghost ≡ false) × (e .path ≡ l)
+path-from : (es : List Entry) (l : List ℕ) → List·Memᴰ l (masterPaths es) → (e : Entry) × List·Memᴰ e es × (e .ghost ≡ false)
+    × (e .path ≡ l)
 unfolding masterPaths
 path-from [] l m = absurd (List·Memᴰ·not-nil m)
 path-from (e ∷ es) l m = go (e .ghost) refl (path-from es l)
   where
-    go : (b : Bool) → e .ghost ≡ b → (List·Memᴰ l (masterPaths es) → (e : Entry) × List·Memᴰ e es × (e .ghost ≡ false) × (e .path ≡ l)) → (f : Entry) × List·Memᴰ f (e ∷ es) × (f .ghost ≡ false) × (f .path ≡ l)
+    go : (b : Bool) → e .ghost ≡ b → (List·Memᴰ l (masterPaths es) → (e : Entry) × List·Memᴰ e es × (e .ghost ≡ false) × (e .path ≡ l))
+        → (f : Entry) × List·Memᴰ f (e ∷ es) × (f .ghost ≡ false) × (f .path ≡ l)
     go true g r = let (f, u, v, w) = r (rw (g, masterPaths) at m) in (f, List·Memᴰ·tail u, v, w)
     go false g r =
         let m' : List·Memᴰ l (e .path ∷ masterPaths es) = rw (g, masterPaths) at m in
-        ⊎-elim (λ (q : l ≡ e .path). (e, List·Memᴰ·head refl, g, sym q)) (λ (q : List·Memᴰ l (masterPaths es)). let (f, u, v, w) = r q in (f, List·Memᴰ·tail u, v, w)) (List·Memᴰ·cases-cons m')
+        ⊎-elim (λ (q : l ≡ e .path). (e, List·Memᴰ·head refl, g, sym q)) (λ (q : List·Memᴰ l (masterPaths es)). let (f, u, v, w) = r q in
+        (f, List·Memᴰ·tail u, v, w)) (List·Memᴰ·cases-cons m')
 
 path-by : (es : List Entry) (e : Entry) → List·Memᴰ e es → e .ghost ≡ false → List·Memᴰ (e .path) (masterPaths es)
 unfolding masterPaths
 path-by [] e m g = absurd (List·Memᴰ·not-nil m)
 path-by (f ∷ es) e m g = go (f .ghost) refl (path-by es e)
   where
-    go : (b : Bool) → f .ghost ≡ b → (List·Memᴰ e es → e .ghost ≡ false → List·Memᴰ (e .path) (masterPaths es)) → List·Memᴰ (e .path) (masterPaths (f ∷ es))
-    go true q r = rw (q, masterPaths) (⊎-elim (λ (z : e ≡ f). not-both (f .ghost) q (ap (λ (x : Entry). x .ghost) (sym z) ∙ g)) (λ (z : List·Memᴰ e es). r z g) (List·Memᴰ·cases-cons m))
-    go false q r = rw (q, masterPaths) (⊎-elim (λ (z : e ≡ f). List·Memᴰ·head (ap (λ (x : Entry). x .path) z)) (λ (z : List·Memᴰ e es). List·Memᴰ·tail (r z g)) (List·Memᴰ·cases-cons m))
+    go : (b : Bool) → f .ghost ≡ b → (List·Memᴰ e es → e .ghost ≡ false → List·Memᴰ (e .path) (masterPaths es))
+        → List·Memᴰ (e .path) (masterPaths (f ∷ es))
+    go true q r = rw (q, masterPaths) (⊎-elim (λ (z : e ≡ f). not-both (f .ghost) q (ap (λ (x : Entry). x .ghost) (sym z) ∙ g))
+        (λ (z : List·Memᴰ e es). r z g) (List·Memᴰ·cases-cons m))
+    go false q r = rw (q, masterPaths) (⊎-elim (λ (z : e ≡ f). List·Memᴰ·head (ap (λ (x : Entry). x .path) z))
+        (λ (z : List·Memᴰ e es). List·Memᴰ·tail (r z g)) (List·Memᴰ·cases-cons m))
 
-paths-once : (es : List Entry) → Once es → NoDup (masterPaths es)
+paths-once : (es : List Entry) → NoTwice es → NoDup (masterPaths es)
 unfolding masterPaths
 paths-once [] o = tt
 paths-once (e ∷ es) o = go (e .ghost) refl (paths-once es (o .1))
@@ -161,12 +168,14 @@ module _ {Part : Type 0} {F : Finite Part} (X : Settled F) where
   unfolding pathsOf
   paths-in [] x m = absurd (List·Memᴰ·not-nil m)
   paths-in (p ∷ l) x m =
-      ⊎-elim (λ (u : List·Memᴰ x (masterPaths (entriesIn X p))). (p, List·Memᴰ·head refl, where-is p x u)) (λ (u : List·Memᴰ x (pathsOf l)). let (q, a, b) = paths-in l x u in (q, List·Memᴰ·tail a, b))
+      ⊎-elim (λ (u : List·Memᴰ x (masterPaths (entriesIn X p))). (p, List·Memᴰ·head refl, where-is p x u))
+      (λ (u : List·Memᴰ x (pathsOf l)). let (q, a, b) = paths-in l x u in (q, List·Memᴰ·tail a, b))
       (List·Memᴰ·append-cases (masterPaths (entriesIn X p)) m)
 
   in-paths : (l : List Part) (p : Part) (x : List ℕ) → List·Memᴰ p l → List·Memᴰ x (masterPaths (entriesIn X p)) → List·Memᴰ x (pathsOf l)
   unfolding pathsOf
-  in-paths l p x (List·Memᴰ·head {x = y} {xs = ys} e) m = Memᴰ·append-left (pathsOf ys) (subst (λ z. List·Memᴰ x (masterPaths (entriesIn X z))) e m)
+  in-paths l p x (List·Memᴰ·head {x = y} {xs = ys} e) m =
+      Memᴰ·append-left (pathsOf ys) (subst (λ z. List·Memᴰ x (masterPaths (entriesIn X z))) e m)
   in-paths l p x (List·Memᴰ·tail {x = y} {xs = ys} t) m = Memᴰ·append-right (masterPaths (entriesIn X y)) (in-paths ys p x t m)
 
   paths-apart : (l : List Part) → NoDup l → NoDup (pathsOf l)
@@ -183,16 +192,19 @@ module _ {Part : Type 0} {F : Finite Part} (X : Settled F) where
   abbrev cellPaths : List (List ℕ)
   cellPaths = map (λ (c : Cell Point). c .path) (cellsOf (levelsOf n qs ts))
 
-  path-number : (x : ℕ) → x < length (cellsOf (levelsOf n qs ts)) → (k : ℕ) × (i : ℕ) × (k < 12) × (i < length (newAt n qs ss ms k .cells)) × (getD cellPaths x [] ≡ pathAt (newAt n qs ss ms k .cells) i) × (x ≡ lv n qs ts k .first + i)
+  path-number : (x : ℕ) → x < length (cellsOf (levelsOf n qs ts)) → (k : ℕ) × (i : ℕ) × (k < 12) × (i < length (newAt n qs ss ms k .cells))
+      × (getD cellPaths x [] ≡ pathAt (newAt n qs ss ms k .cells) i) × (x ≡ lv n qs ts k .first + i)
   path-number x h =
       let w = spot-with n qs ts x h in
-      let b : w .p < length (newAt n qs ss ms (w .j) .cells) = subst (λ (l : Level). w .p < length (l .cells)) (new-lv n qs ss ms (w .j)) (w .below) in (
+      let b : w .p < length (newAt n qs ss ms (w .j) .cells) = subst (λ (l : Level). w .p < length (l .cells)) (new-lv n qs ss ms (w .j))
+      (w .below) in (
         w .j,
         w .p,
         new-below n qs ss ms (w .j) (w .p) b,
         b,
         getD-map (λ (c : Cell Point). c .path) (cellsOf (levelsOf n qs ts)) x noCell [] h
-            ∙ ap (λ (y : ℕ). getD (cellsOf (levelsOf n qs ts)) y noCell .path) (sym (w .number)) ∙ ap (λ (c : Cell Point). c .path) (w .at .cell) ∙ ap (λ (l : Level). pathAt (l .cells) (w .p)) (new-lv n qs ss ms (w .j)),
+            ∙ ap (λ (y : ℕ). getD (cellsOf (levelsOf n qs ts)) y noCell .path) (sym (w .number)) ∙ ap (λ (c : Cell Point). c .path)
+            (w .at .cell) ∙ ap (λ (l : Level). pathAt (l .cells) (w .p)) (new-lv n qs ss ms (w .j)),
         omega (arith, w .number, w .at .first),
       )
 
@@ -211,7 +223,8 @@ module _ {Part : Type 0} {F : Finite Part} (X : Settled F) where
       let a = spot-at n qs ts k i h' in
       let many = length-map (cellsOf (levelsOf n qs ts)) (λ (c : Cell Point). c .path) in
       let e : getD cellPaths (a .o + i) [] ≡ pathAt (newAt n qs ss ms k .cells) i =
-      getD-map (λ (c : Cell Point). c .path) (cellsOf (levelsOf n qs ts)) (a .o + i) noCell [] (a .inside) ∙ ap (λ (c : Cell Point). c .path) (a .cell) ∙ ap (λ (l : Level). pathAt (l .cells) i) (new-lv n qs ss ms k) in
+      getD-map (λ (c : Cell Point). c .path) (cellsOf (levelsOf n qs ts)) (a .o + i) noCell [] (a .inside)
+      ∙ ap (λ (c : Cell Point). c .path) (a .cell) ∙ ap (λ (l : Level). pathAt (l .cells) i) (new-lv n qs ss ms k) in
       subst (λ (l : List ℕ). List·Memᴰ l cellPaths) e (mem-at [] cellPaths (a .o + i) (omega (arith, a .inside)))
 
   -- as many masters as cells
@@ -220,7 +233,8 @@ module _ {Part : Type 0} {F : Finite Part} (X : Settled F) where
       let many = length-map (cellsOf (levelsOf n qs ts)) (λ (c : Cell Point). c .path) in
       let up : length (pathsOf (F .list)) ≤ length cellPaths =
       no-more (pathsOf (F .list)) cellPaths (paths-apart (F .list) d) (λ x m.
-      let (p, a, w) = paths-in (F .list) x m in subst (λ (l : List ℕ). List·Memᴰ l cellPaths) (sym (w .path)) (cell-there (w .k) (w .i) (w .below))) in
+      let (p, a, w) = paths-in (F .list) x m in subst (λ (l : List ℕ). List·Memᴰ l cellPaths) (sym (w .path))
+      (cell-there (w .k) (w .i) (w .below))) in
       let down : length cellPaths ≤ length (pathsOf (F .list)) =
       no-more cellPaths (pathsOf (F .list)) cells-apart (λ x m.
       let (j, h, e) = place-of [] m in
@@ -235,10 +249,14 @@ module _ {Part : Type 0} {F : Finite Part} (X : Settled F) where
   pub deep-by : (i : ℕ) → i < length (newAt n qs ss ms 11 .cells)
       → (p : Part) × ((l : List ℕ) × List·Memᴰ l (masterPaths (entriesIn X p)) × (length l ≡ 12))
   deep-by i h =
-      let p = ownIn X 11 i in
-      (p, (pathAt (newAt n qs ss ms 11 .cells) i,
-        path-by (entriesIn X p) (newEntry n qs ss ms 11 i false) (masters-in X p 11 i (omega arith) h refl) refl,
-        new-length n qs ss ms 11 i h))
+      let p = ownIn X 11 i in (
+        p,
+        (
+          pathAt (newAt n qs ss ms 11 .cells) i,
+          path-by (entriesIn X p) (newEntry n qs ss ms 11 i false) (masters-in X p 11 i (omega arith) h refl) refl,
+          new-length n qs ss ms 11 i h,
+        ),
+      )
 
   pub deep-from : (p : Part) (l : List ℕ) → List·Memᴰ l (masterPaths (entriesIn X p)) → 12 ≤ length l
       → (i : ℕ) × (i < length (newAt n qs ss ms 11 .cells))
@@ -268,7 +286,12 @@ module _ {Part : Type 0} {F : Finite Part} (X : Settled F) where
           let h = leb→le 1 (length (newAt n qs ss ms 11 .cells)) t in
           let (p, (l, m, e)) = deep-by 0 (omega arith) in
           le→leb 11 highIn
-          (omega (arith, top-by (masterPaths (entriesIn X p)) l m e, largest-in (λ p. topOf (masterPaths (entriesIn X p))) (F .list) p (F .all p)))
+          (omega (
+            arith,
+            top-by (masterPaths (entriesIn X p)) l m e,
+            largest-in (λ p. topOf (masterPaths (entriesIn X p)))
+                (F .list) p (F .all p),
+          ))
 
   -- what every part finds from the totals is what the serial step answers
   pub ends : NoDup (F .list) → endOf (capped (sumOver mastersOf (F .list))) highIn

@@ -1,42 +1,37 @@
 -- The statuses after the step, from the flags and edges of the old table.
--- Laws: new-held (the edges of the red cells of a new level are those of the new red cells), kept-status (the status of a cell that
--- was there), fresh-held (the edges of a new child of a cell that was not red, by the digits of its ends), fresh-status.
+--   Chosen rs        a row of rs that passes a test and has an edge
+--   WillHave k e     an old cell of level k that will be red and has the edge e
+-- Laws: chosen (the edges of chosen rows), will and have (the edges of the new red cells), new-held (the edges of the red cells of a new level
+-- are these), new-closed-at (each new level is closed), new-status (a new status by these edges).
 use mathlib.Core.Path.{_≡_, refl, sym, _∙_, ap, ap₂, subst}
-use mathlib.Core.Logic.{_≢_, _⊎_, inl, inr, ⊎-elim}
-use mathlib.Core.Bool.{Bool, true, false, _&&_, _||_, not}
+use mathlib.Core.Logic.{_⊎_, inl, inr, ⊎-elim}
+use mathlib.Core.Bool.{Bool, true, false}
 use mathlib.Core.List.{List, [], _∷_, _++_, map, flatMap}
-use Prim.Native.Nat.{ℕ, zero, suc, _+_, _-_, _≤_, _<_, pred}
-use native.Mathlib.Decide.{decLt, ℕ-discrete}
+use Prim.Native.Nat.{ℕ, suc, _≤_, _<_}
+use native.Mathlib.Decide.{decLt}
 use native.Mathlib.Omega.{arith}
-use lib.Dec.{T, eqb, eqb→eq}
+use lib.Dec.{T}
 use lib.ListN.{length, getD, drop, drop-of-length-le}
 use lib.Seq.{drop-cons}
-use borrow.Author.Tests.{eq-eqb, eqb-true, ne-eqb}
-use Rattle.base.specs.Lists.{allb, anyb, filterb, memberb, sameb, is-true, and-left, and-right}
-use Rattle.base.specs.Places.{not-both, either}
-use Rattle.cutting.specs.Rule.{family}
-use Rattle.mesh.specs.Cells.{Cell, redb, patternOf, edge, edges, joinsb, heldb, bitsOf, pattern, redEdges, statusOf}
-use Rattle.mesh.specs.Weights.{Point, point}
+use Rattle.base.specs.Lists.{anyb, filterb, sameb}
+use Rattle.base.specs.Places.{not-both}
+use Rattle.mesh.specs.Cells.{redb, edges, heldb, bitsOf, pattern, redEdges}
 use Rattle.mesh.specs.Table.{Level, levelsOf, closedb, soundb}
-use Rattle.mesh.specs.Step.{Row, rows, rowsUp, edgesUp, newReds, newRedb}
-use Rattle.lattice.specs.Every.{All}
-use Rattle.lattice.specs.Levels.{noLevel, IfRegular}
-use Rattle.lattice.specs.Regular.{Regular}
+use Rattle.mesh.specs.Step.{Row, rows, edgesUp, newReds}
+use Rattle.lattice.specs.Levels.{noLevel}
 use Rattle.lineage.specs.Olds.{concat, stepBy}
-use Rattle.lineage.specs.Born.{noCell, Born}
-use Rattle.lineage.specs.Paths.{pathAt}
-use Rattle.lineage.specs.Same.{Is, Fresh, rowOf}
+use Rattle.lineage.specs.Born.{noCell}
+use Rattle.lineage.specs.Same.{Fresh}
 use Rattle.lineage.specs.Levels.{new-levels}
-use Rattle.lineage.specs.Flags.{noRow, newRedAt, new-red-regular, length-rows, rows-at}
-use Rattle.lineage.specs.Met.{Matched, Fostered, oldAt, oldAbove, newAt, flagged, met, new-known}
+use Rattle.lineage.specs.Flags.{noRow, newRedAt, length-rows, rows-at}
+use Rattle.lineage.specs.Met.{Matched, oldAt, oldAbove, newAt, flagged, met, new-known}
 use Rattle.lineage.specs.Stays.{Stays, stays}
-use Rattle.carriers.specs.Joins.{Edge, held-joined, joins-sym, joins-trans, joins-from, held-either}
-use Rattle.carriers.specs.Lists.{held-which, held-at, edge-at}
-use Rattle.carriers.specs.Refined.{StatusIn, status-green, pattern-small, joined-here, refined-here}
-use Rattle.soundness.specs.Held.{RedHas, red-which, red-at, closed-at, closed-length, red-regular}
+use Rattle.carriers.specs.Joins.{Edge, held-either}
+use Rattle.carriers.specs.Refined.{status-green}
+use Rattle.soundness.specs.Held.{RedHas, red-which, red-at, closed-at, red-regular}
 use Rattle.soundness.specs.Reds.{held-up}
-use Rattle.soundness.specs.Sound.{Sound, sound-from, lv, level-closed, level-there}
-use Rattle.soundness.specs.Meets.{edge-same, edges-same, point-same}
+use Rattle.soundness.specs.Sound.{Sound, sound-from, level-closed, level-there}
+use Rattle.soundness.specs.Meets.{edges-same}
 use Rattle.soundness.specs.Grown.{new-closed}
 use Rattle.rounds.specs.Tests.{same-test}
 use Rattle.splitting.specs.Split.{newEdges, newRedRow}
@@ -57,13 +52,16 @@ module _ (f : Row → Bool) (e : Edge) where
   chosen [] t = absurd t
   chosen (r ∷ rs) t = go (f r) refl (chosen rs)
     where
-      go : (b : Bool) → f r ≡ b → (T (heldb sameb (flatMap (λ (r : Row). edges [] (r .cell)) (filterb f rs)) e) → Chosen rs) → Chosen (r ∷ rs)
+      go : (b : Bool) → f r ≡ b → (T (heldb sameb (flatMap (λ (r : Row). edges [] (r .cell)) (filterb f rs)) e) → Chosen rs)
+          → Chosen (r ∷ rs)
       go true q i =
-          let u : T (heldb sameb (edges [] (r .cell) ++ flatMap (λ (r : Row). edges [] (r .cell)) (filterb f rs)) e) = rw (q, filterb) at t in
+          let u : T (heldb sameb (edges [] (r .cell) ++ flatMap (λ (r : Row). edges [] (r .cell)) (filterb f rs)) e) =
+          rw (q, filterb) at t in
           ⊎-elim (λ (v : T (heldb sameb (edges [] (r .cell)) e)). record { u = 0; below = omega arith; passes = q; has = v })
           (λ (v : T (heldb sameb (flatMap (λ (r : Row). edges [] (r .cell)) (filterb f rs)) e)). chosen-later r rs (i v))
           (held-either e (edges [] (r .cell)) (flatMap (λ (r : Row). edges [] (r .cell)) (filterb f rs)) u)
-      go false q i = let u : T (heldb sameb (flatMap (λ (r : Row). edges [] (r .cell)) (filterb f rs)) e) = rw (q, filterb) at t in chosen-later r rs (i u)
+      go false q i = let u : T (heldb sameb (flatMap (λ (r : Row). edges [] (r .cell)) (filterb f rs)) e) =
+          rw (q, filterb) at t in chosen-later r rs (i u)
 
 module _ (n : ℕ) (qs : List (List ℕ)) (ss ms : List ℕ) (s : Sound n qs ss) where
   abbrev sound : T (soundb n qs ss)
@@ -91,7 +89,8 @@ module _ (n : ℕ) (qs : List (List ℕ)) (ss ms : List ℕ) (s : Sound n qs ss)
   unfolding edgesUp newReds
   will-from k h e t =
       let ls = drop (suc k) (levelsOf n qs ss) in
-      let q : newEdges n qs ss ms k ≡ edgesUp (newReds (old k ∷ ls) ms) = ap (λ (ls : List Level). edgesUp (newReds ls ms)) (drop-cons (levelsOf n qs ss) k noLevel h) in
+      let q : newEdges n qs ss ms k ≡ edgesUp (newReds (old k ∷ ls) ms) =
+      ap (λ (ls : List Level). edgesUp (newReds ls ms)) (drop-cons (levelsOf n qs ss) k noLevel h) in
       let f : Row → Bool = newRedRow n qs ss ms k in
       let known = flagged n qs ss ms sound k .known in
       let w = chosen (newRedRow n qs ss ms k) e (rows (old k) ms) (rw q at t) in
@@ -107,7 +106,8 @@ module _ (n : ℕ) (qs : List (List ℕ)) (ss ms : List ℕ) (s : Sound n qs ss)
   none-above : (k : ℕ) → length (levelsOf n qs ss) ≤ k → (e : Edge) → T (heldb sameb (newEdges n qs ss ms k) e) → ⊥
   unfolding edgesUp newReds heldb anyb
   none-above k h e t =
-      let q : newEdges n qs ss ms k ≡ [] = ap (λ (ls : List Level). edgesUp (newReds ls ms)) (drop-of-length-le (levelsOf n qs ss) {i = k} h) in rw q at t
+      let q : newEdges n qs ss ms k ≡ [] =
+      ap (λ (ls : List Level). edgesUp (newReds ls ms)) (drop-of-length-le (levelsOf n qs ss) {i = k} h) in rw q at t
 
   pub will : (k : ℕ) (e : Edge) → T (heldb sameb (newEdges n qs ss ms k) e) → WillHave k e
   will k e t = elim (decLt k (length (levelsOf n qs ss))) [ yes h ↦ will-from k h e t | no h ↦ absurd (none-above k (omega arith) e t) ]
@@ -115,7 +115,8 @@ module _ (n : ℕ) (qs : List (List ℕ)) (ss ms : List ℕ) (s : Sound n qs ss)
   pub have : (k : ℕ) (e : Edge) → WillHave k e → T (heldb sameb (newEdges n qs ss ms k) e)
   have k e w =
       let h = level-there n qs ss k (w .t) (w .below) in
-      rw (drop-cons (levelsOf n qs ss) k noLevel h) (held-up ms (drop (suc k) (levelsOf n qs ss)) (old k) (flagged n qs ss ms sound k .known) (w .t) (w .below) (w .red) e (w .has))
+      rw (drop-cons (levelsOf n qs ss) k noLevel h) (held-up ms (drop (suc k) (levelsOf n qs ss)) (old k)
+      (flagged n qs ss ms sound k .known) (w .t) (w .below) (w .red) e (w .has))
 
   -- the edges of the red cells of a new level
   new-up : (k : ℕ) (e : Edge) → T (heldb sameb (redEdges [] (new k .cells) (new k .statuses)) e) → T (heldb sameb (newEdges n qs ss ms k) e)
@@ -124,9 +125,11 @@ module _ (n : ℕ) (qs : List (List ℕ)) (ss ms : List ℕ) (s : Sound n qs ss)
       let r = red-regular (new k) (new-closed-at k) (w .i) (w .below) (w .red) in
       go (w .i) (w .below) (w .red) (w .has) (met n qs ss ms sound k (w .i) (w .below) r)
     where
-      go : (i : ℕ) → i < length (new k .cells) → getD (new k .statuses) i 0 ≡ 64 → T (heldb sameb (edges [] (getD (new k .cells) i noCell)) e)
+      go : (i : ℕ) → i < length (new k .cells) → getD (new k .statuses) i 0 ≡ 64
+          → T (heldb sameb (edges [] (getD (new k .cells) i noCell)) e)
           → Matched ms (oldAbove n qs ss k) (old k) (getD (new k .cells) i noCell) (getD (new k .statuses) i 0)
-          ⊎ ((redb (getD (new k .statuses) i 0) ≡ false) × Fresh (old k) (getD (new k .cells) i noCell)) → T (heldb sameb (newEdges n qs ss ms k) e)
+          ⊎ ((redb (getD (new k .statuses) i 0) ≡ false) × Fresh (old k) (getD (new k .cells) i noCell))
+          → T (heldb sameb (newEdges n qs ss ms k) e)
       go i h q u (inl m) =
           have k e (record {
             t = m .t;
@@ -136,7 +139,8 @@ module _ (n : ℕ) (qs : List (List ℕ)) (ss ms : List ℕ) (s : Sound n qs ss)
           })
       go i h q u (inr (a, b)) = not-both (redb (getD (new k .statuses) i 0)) (ap redb q) a
 
-  new-down : (k : ℕ) → k < 12 → (e : Edge) → T (heldb sameb (newEdges n qs ss ms k) e) → T (heldb sameb (redEdges [] (new k .cells) (new k .statuses)) e)
+  new-down : (k : ℕ) → k < 12 → (e : Edge) → T (heldb sameb (newEdges n qs ss ms k) e)
+      → T (heldb sameb (redEdges [] (new k .cells) (new k .statuses)) e)
   new-down k g e t =
       let w = will k e t in
       let z : Stays n qs ss ms k (w .t) = stays n qs ss ms sound k (w .t) g (w .below) (w .red) in
@@ -145,10 +149,12 @@ module _ (n : ℕ) (qs : List (List ℕ)) (ss ms : List ℕ) (s : Sound n qs ss)
     where
       go : (w : WillHave k e) (z : Stays n qs ss ms k (w .t))
           → Matched ms (oldAbove n qs ss k) (old k) (getD (new k .cells) (z .i) noCell) (getD (new k .statuses) (z .i) 0)
-          ⊎ ((redb (getD (new k .statuses) (z .i) 0) ≡ false) × Fresh (old k) (getD (new k .cells) (z .i) noCell)) → T (heldb sameb (redEdges [] (new k .cells) (new k .statuses)) e)
+          ⊎ ((redb (getD (new k .statuses) (z .i) 0) ≡ false) × Fresh (old k) (getD (new k .cells) (z .i) noCell))
+          → T (heldb sameb (redEdges [] (new k .cells) (new k .statuses)) e)
       go w z (inl m) =
           let x : m .t ≡ w .t = flagged n qs ss ms sound k .paths (m .t) (w .t) (m .is .below) (w .below) (m .is .path ∙ z .path) in
-          let p : getD (old k .cells) (w .t) noCell .points ≡ getD (new k .cells) (z .i) noCell .points = ap (λ (x : ℕ). getD (old k .cells) x noCell .points) (sym x) ∙ m .is .points in
+          let p : getD (old k .cells) (w .t) noCell .points ≡ getD (new k .cells) (z .i) noCell .points =
+          ap (λ (x : ℕ). getD (old k .cells) x noCell .points) (sym x) ∙ m .is .points in
           red-at e (new k .cells) (new k .statuses) (record {
             i = z .i;
             below = z .below;
@@ -158,8 +164,10 @@ module _ (n : ℕ) (qs : List (List ℕ)) (ss ms : List ℕ) (s : Sound n qs ss)
           })
       go w z (inr (a, b)) = not-both (redb (getD (new k .statuses) (z .i) 0)) (ap redb (z .status)) a
 
-  pub new-held : (k : ℕ) → k < 12 → (e : Edge) → heldb sameb (redEdges [] (new k .cells) (new k .statuses)) e ≡ heldb sameb (newEdges n qs ss ms k) e
-  new-held k g e = same-test (heldb sameb (redEdges [] (new k .cells) (new k .statuses)) e) (heldb sameb (newEdges n qs ss ms k) e) (new-up k e) (new-down k g e)
+  pub new-held : (k : ℕ) → k < 12 → (e : Edge) → heldb sameb (redEdges [] (new k .cells) (new k .statuses)) e ≡ heldb sameb
+      (newEdges n qs ss ms k) e
+  new-held k g e = same-test (heldb sameb (redEdges [] (new k .cells) (new k .statuses)) e) (heldb sameb (newEdges n qs ss ms k) e)
+      (new-up k e) (new-down k g e)
 
   -- a status by its edges
   bits-same : (f g : Edge → Bool) (l : List Edge) → ((e : Edge) → f e ≡ g e) → bitsOf (map f l) ≡ bitsOf (map g l)
@@ -170,10 +178,12 @@ module _ (n : ℕ) (qs : List (List ℕ)) (ss ms : List ℕ) (s : Sound n qs ss)
       map-same [] = refl
       map-same (e ∷ l) = ap₂ _∷_ (h e) (map-same l)
 
-  pub new-status : (k : ℕ) → k < 12 → (i : ℕ) → i < length (new k .cells) → T (getD (new k .cells) i noCell .regular) → redb (getD (new k .statuses) i 0) ≡ false
+  pub new-status : (k : ℕ) → k < 12 → (i : ℕ) → i < length (new k .cells) → T (getD (new k .cells) i noCell .regular)
+      → redb (getD (new k .statuses) i 0) ≡ false
       → getD (new k .statuses) i 0 ≡ bitsOf (map (heldb sameb (newEdges n qs ss ms k)) (edges [] (getD (new k .cells) i noCell)))
   unfolding pattern
   new-status k g i h r e =
       let (_, st) = closed-at (new k) (new-closed-at k) i h in
       status-green (redEdges [] (new k .cells) (new k .statuses)) (getD (new k .cells) i noCell) (getD (new k .statuses) i 0) st r e
-      ∙ bits-same (heldb sameb (redEdges [] (new k .cells) (new k .statuses))) (heldb sameb (newEdges n qs ss ms k)) (edges [] (getD (new k .cells) i noCell)) (new-held k g)
+      ∙ bits-same (heldb sameb (redEdges [] (new k .cells) (new k .statuses))) (heldb sameb (newEdges n qs ss ms k))
+      (edges [] (getD (new k .cells) i noCell)) (new-held k g)

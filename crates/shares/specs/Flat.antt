@@ -1,11 +1,12 @@
 -- Lists that are put together, element by element, and lists of entries with each path once.
---   Once l     no path stands twice among the entries l
--- Laws: in-flat and flat-in (elements of a flat list), in-map and map-in (elements of a map), only (the element of a list of one), once-append,
--- once-range, once-map (Once of lists that are put together).
+--   NoTwice l     no path stands twice among the entries l
+--   Disjoint f l  the lists that f gives for different numbers of l share no path
+-- Laws: in-flat and flat-in (elements of a flat list), in-map and map-in (elements of a map), only-one (the element of a list of one),
+-- once-append, once-range, once-map (NoTwice of lists that are put together).
 use mathlib.Core.Path.{_≡_, refl, sym, _∙_, ap, subst}
 use mathlib.Core.Logic.{_≢_, ⊎-elim}
-use mathlib.Core.List.{List, [], _∷_, _++_, map, flatMap, List·Memᴰ, List·Memᴰ·head, List·Memᴰ·tail, List·Memᴰ·not-nil, List·Memᴰ·cases-cons}
-use mathlib.Core.List.{List·Memᴰ·append-cases, Memᴰ·append-left, Memᴰ·append-right}
+use mathlib.Core.List.{List, [], _∷_, _++_, map, flatMap, List·Memᴰ, List·Memᴰ·head, List·Memᴰ·tail, List·Memᴰ·not-nil}
+use mathlib.Core.List.{List·Memᴰ·cases-cons, List·Memᴰ·append-cases, Memᴰ·append-left, Memᴰ·append-right}
 use Prim.Native.Nat.{ℕ, zero, suc}
 use native.Mathlib.Omega.{arith}
 use Rattle.base.specs.Lists.{memberb}
@@ -13,9 +14,9 @@ use Rattle.base.specs.Range.{range, member-range}
 use Rattle.parts.specs.Held.{Entry}
 use Rattle.rounds.specs.Tests.{Member, member-head, member-tail, member-cases}
 
-abbrev pub Once : List Entry → Type 0
-Once [] = Unit {0}
-Once (e ∷ l) = ((f : Entry) → List·Memᴰ f l → f .path ≡ e .path → ⊥) × Once l
+abbrev pub NoTwice : List Entry → Type 0
+NoTwice [] = Unit {0}
+NoTwice (e ∷ l) = ((f : Entry) → List·Memᴰ f l → f .path ≡ e .path → ⊥) × NoTwice l
 
 module _ {A : Type 0} where
   pub in-flat : (f : ℕ → List A) (l : List ℕ) (x : ℕ) (a : A) → Member x l → List·Memᴰ a (f x) → List·Memᴰ a (flatMap f l)
@@ -44,22 +45,25 @@ module _ {A : Type 0} where
       ⊎-elim (λ (e : a ≡ f y). (y, member-head y l, e))
       (λ (u : List·Memᴰ a (map f l)). let (x, m, v) = map-in f l a u in (x, member-tail x y l m, v)) (List·Memᴰ·cases-cons t)
 
-  pub only : (a x : A) → List·Memᴰ a (x ∷ []) → a ≡ x
-  only a x m = ⊎-elim (λ (q : a ≡ x). q) (λ (q : List·Memᴰ a []). absurd (List·Memᴰ·not-nil q)) (List·Memᴰ·cases-cons m)
+  pub only-one : (a x : A) → List·Memᴰ a (x ∷ []) → a ≡ x
+  only-one a x m = ⊎-elim (λ (q : a ≡ x). q) (λ (q : List·Memᴰ a []). absurd (List·Memᴰ·not-nil q)) (List·Memᴰ·cases-cons m)
 
-pub once-append : (a b : List Entry) → Once a → Once b → ((e f : Entry) → List·Memᴰ e a → List·Memᴰ f b → f .path ≡ e .path → ⊥) → Once (a ++ b)
+pub once-append : (a b : List Entry) → NoTwice a → NoTwice b → ((e f : Entry) → List·Memᴰ e a → List·Memᴰ f b → f .path ≡ e .path → ⊥)
+    → NoTwice (a ++ b)
 once-append [] b x y d = y
 once-append (e ∷ a) b x y d = (
-  (λ f m q. ⊎-elim (λ (u : List·Memᴰ f a). x .0 f u q) (λ (u : List·Memᴰ f b). d e f (List·Memᴰ·head refl) u q) (List·Memᴰ·append-cases a m)),
+  (λ f m q. ⊎-elim (λ (u : List·Memᴰ f a). x .0 f u q) (λ (u : List·Memᴰ f b). d e f (List·Memᴰ·head refl) u q)
+      (List·Memᴰ·append-cases a m)),
   once-append a b (x .1) y (λ e f m. d e f (List·Memᴰ·tail m)),
 )
 
 -- the lists of different numbers share no path
-abbrev pub Apart : (ℕ → List Entry) → List ℕ → Type 0
-Apart f l =
+abbrev pub Disjoint : (ℕ → List Entry) → List ℕ → Type 0
+Disjoint f l =
     (x y : ℕ) → Member x l → Member y l → x ≢ y → (e g : Entry) → List·Memᴰ e (f x) → List·Memᴰ g (f y) → g .path ≡ e .path → ⊥
 
-pub once-range : (f : ℕ → List Entry) (k m : ℕ) → ((x : ℕ) → Member x (range k m) → Once (f x)) → Apart f (range k m) → Once (flatMap f (range k m))
+pub once-range : (f : ℕ → List Entry) (k m : ℕ) → ((x : ℕ) → Member x (range k m) → NoTwice (f x)) → Disjoint f (range k m)
+    → NoTwice (flatMap f (range k m))
 unfolding range flatMap
 once-range f k zero o d = tt
 once-range f k (suc m) o d =
@@ -71,7 +75,7 @@ once-range f k (suc m) o d =
     let (a, b) = member-range (suc k) m y h in
     d k y (member-head k r) (member-tail y k r h) (λ z. omega arith) e g m' w)
 
-pub once-map : (f : ℕ → Entry) (k m : ℕ) → ((x y : ℕ) → f x .path ≡ f y .path → x ≡ y) → Once (map f (range k m))
+pub once-map : (f : ℕ → Entry) (k m : ℕ) → ((x y : ℕ) → f x .path ≡ f y .path → x ≡ y) → NoTwice (map f (range k m))
 unfolding range
 once-map f k zero d = tt
 once-map f k (suc m) d = (

@@ -4,7 +4,7 @@
 --   statusNew st c      the new status of the cell c, if it stays
 --   pairHeld st c a b   an edge of a child of c with the digits a and b is one of a new red cell
 --   freshStatus st c i  the status of the new child i of the cell c, which was not red and will be
---   staysb k c          the cell c of level k is there after the step: it is coarse, refined, or a child of a cell that was red and stays so
+--   staysb k c          the cell c of level k is there after the step: it is coarse, refined, or a child of a cell that stays red
 --   anewb k c           the cell has a family here after the step that is not its old one
 --   masterEntry k c, ghostEntry c, freshEntries k c   the entries that the cell c of level k gives: itself, and its new children and theirs
 --   cellEntries k c, levelEntries k, entries          those of a cell, of a level, of all

@@ -1,14 +1,15 @@
--- What the owners' rule keeps (document 01, "Parts"), for two sound tables ss and ts over one mesh: the second has the owners ownersAfter os ts.
--- Laws: coarse-keeps (a coarse cell keeps its owner), family-keeps (a family keeps its owner, cut anew or not), family-first (a first family is
--- with its parent's owner).
-use mathlib.Core.Path.{_≡_, refl, sym, _∙_, ap}
+-- What the owners' rule keeps (document 01, "Parts"), for two sound tables ss and ts over one mesh, of which the second has the owners
+-- ownersAfter os ts.
+-- Laws: coarse-keeps (a coarse cell keeps its owner), family-keeps (a family keeps its owner, cut anew or not), family-first (a first
+-- family is with its parent's owner).
+use mathlib.Core.Path.{_≡_, sym, _∙_, ap}
 use mathlib.Core.Logic.{_≢_}
 use mathlib.Core.Bool.{Bool, _&&_, not}
 use mathlib.Core.List.{List, [], _∷_}
 use Prim.Native.Nat.{ℕ, _+_, _<_}
 use native.Mathlib.Decide.{ℕ-discrete}
 use native.Mathlib.Omega.{arith}
-use lib.Dec.{T, eqb}
+use lib.Dec.{eqb}
 use lib.ListN.{length, getD}
 use borrow.Author.Tests.{eqb-false, ne-eqb}
 use Rattle.base.specs.Lists.{sameb, sameb-eq, is-false, and-left, and-right}
@@ -36,15 +37,19 @@ module _ (n : ℕ) (qs : List (List ℕ)) (ss : List ℕ) (l : List ℕ) where
   unfolding refinedAt
   refined-in c h e z =
       member-filtered passes (range 0 (length ss)) c (range-member 0 (length ss) c (omega arith) (omega arith))
-      (and-make (sameb (nthCell n qs ss c .path) l) (not (eqb (getD ss c 0) 0)) (rw (e, sameb-self l) tt) (rw (ne-eqb (getD ss c 0) 0 z) tt))
+      (and-make (sameb (nthCell n qs ss c .path) l) (not (eqb (getD ss c 0) 0)) (rw (e, sameb-self l) tt)
+      (rw (ne-eqb (getD ss c 0) 0 z) tt))
 
   in-refined : (c : ℕ) → Member c (refinedAt n qs ss l) → (c < length ss) × (nthCell n qs ss c .path ≡ l) × (getD ss c 0 ≢ 0)
   unfolding refinedAt
   in-refined c m =
       let (a, b) = filtered-member passes (range 0 (length ss)) c m in
-      let (_, h) = member-range 0 (length ss) c a in
-      (omega arith, sameb-eq (nthCell n qs ss c .path) l (and-left (sameb (nthCell n qs ss c .path) l) (not (eqb (getD ss c 0) 0)) b),
-        eqb-false (getD ss c 0) 0 (is-false (eqb (getD ss c 0) 0) (and-right (sameb (nthCell n qs ss c .path) l) (not (eqb (getD ss c 0) 0)) b)))
+      let (_, h) = member-range 0 (length ss) c a in (
+        omega arith,
+        sameb-eq (nthCell n qs ss c .path) l (and-left (sameb (nthCell n qs ss c .path) l) (not (eqb (getD ss c 0) 0)) b),
+        eqb-false (getD ss c 0) 0 (is-false (eqb (getD ss c 0) 0) (and-right (sameb (nthCell n qs ss c .path) l)
+            (not (eqb (getD ss c 0) 0)) b)),
+      )
 
 module _ (n : ℕ) (qs : List (List ℕ)) (ss os ts : List ℕ) (s : Sound n qs ss) (u : Sound n qs ts) where
   abbrev os' : List ℕ
@@ -76,7 +81,8 @@ module _ (n : ℕ) (qs : List (List ℕ)) (ss os ts : List ℕ) (s : Sound n qs 
       ap (familyOf n qs ss os) (same-path n qs ss os 0 s x c h hc (p ∙ sym e)))
       c (refined-in n qs ss (nthCell n qs ts d .path) c hc e zc)
 
-  pub family-first : (d : ℕ) → d < length ts → ((c : ℕ) → c < length ss → nthCell n qs ss c .path ≡ nthCell n qs ts d .path → getD ss c 0 ≡ 0)
+  pub family-first : (d : ℕ) → d < length ts
+      → ((c : ℕ) → c < length ss → nthCell n qs ss c .path ≡ nthCell n qs ts d .path → getD ss c 0 ≡ 0)
       → familyOf n qs ts os' d ≡ getD os' d 0
   unfolding familyAfter
   family-first d hd none = go (ℕ-discrete (getD ts d 0) 0) (level-at n qs ts u d hd)

@@ -1,40 +1,38 @@
--- Owners after the step (document 01, "Parts": a coarse cell keeps its owner; a family has the owner of the same cell's old family, if there
--- was one, else the cell's new owner).
+-- Owners after the step, of cells that were there and of new ones.
 --   ownAt k i, famAt k i    the owner of the new cell i of level k, and of its family
--- Laws: child-owner (a child has its family's owner), matched-owner and matched-family (a cell that
--- was there keeps its owner and its family's), fresh-family (a cell that was not there has its family with it), fostered-owner (a new child
--- of a cell that was there is with that cell's family).
-use mathlib.Core.Path.{_≡_, refl, sym, _∙_, ap, ap₂, subst}
+-- Laws: child-owner (a child has its family's owner), matched-owner and matched-family (a cell that was there keeps its owner and its
+-- family's), fresh-family (a cell that was not there has its family with it), fostered-owner (a new child of a cell that was there is with
+-- that cell's family).
+use mathlib.Core.Path.{_≡_, sym, _∙_, ap, ap₂, subst}
 use mathlib.Core.Logic.{_≢_}
 use mathlib.Core.Bool.{Bool, true, _&&_, not}
-use mathlib.Core.List.{List, [], _∷_, _++_, append-nil, append-assoc}
+use mathlib.Core.List.{List, [], _∷_, _++_}
 use Prim.Native.Nat.{ℕ, zero, suc, _+_, _<_}
 use native.Mathlib.Decide.{ℕ-discrete}
 use native.Mathlib.Omega.{arith}
 use lib.Dec.{T, eqb}
 use lib.ListN.{length, getD}
 use borrow.Author.Tests.{eqb-true, eqb-false, ne-eqb}
-use Rattle.base.specs.Lists.{memberb, sameb, sameb-eq, is-true, is-false, and-left, and-right}
+use Rattle.base.specs.Lists.{sameb, sameb-eq, is-true, is-false, and-left, and-right}
 use Rattle.base.specs.Places.{sameb-self}
 use Rattle.base.specs.Range.{range, member-range, range-member}
-use Rattle.mesh.specs.Cells.{Cell, redb}
-use Rattle.mesh.specs.Weights.{Point, coarseCells}
-use Rattle.mesh.specs.Table.{Level, levelsOf, soundb}
-use Rattle.lattice.specs.Levels.{noLevel}
+use Rattle.mesh.specs.Cells.{Cell}
+use Rattle.mesh.specs.Weights.{Point}
+use Rattle.mesh.specs.Table.{Level, soundb}
 use Rattle.lineage.specs.Born.{noCell, Born}
 use Rattle.lineage.specs.Paths.{pathAt, snoc-inj, coarse-at, length-coarse}
 use Rattle.lineage.specs.Same.{Fresh}
 use Rattle.lineage.specs.Met.{Fostered, newAt, new-next, new-coarse, old-coarse, flagged, new-follows}
 use Rattle.soundness.specs.Family.{born-of}
 use Rattle.soundness.specs.Sound.{Sound, sound-from, lv, level-there}
-use Rattle.rounds.specs.Tests.{Member, and-make, filtered-member, member-filtered, member-head}
-use Rattle.parts.specs.Owners.{nthCell, firstOr, familyOf, refinedAt, familyAfter, ownerDown, ownerAfter}
-use Rattle.splitting.specs.Numbers.{first-zero, at-level, place, level-at}
+use Rattle.rounds.specs.Tests.{Member, and-make, filtered-member, member-filtered}
+use Rattle.parts.specs.Owners.{nthCell, familyOf, refinedAt, familyAfter, ownerDown, ownerAfter}
+use Rattle.splitting.specs.Numbers.{first-zero, at-level, stands, level-at}
 use Rattle.splitting.specs.Members.{first-all, first-none}
 use Rattle.splitting.specs.Paths.{path-length, one-place, new-length}
 use Rattle.splitting.specs.Split.{Owners, leaf-owner}
 use Rattle.splitting.specs.Heirs.{owner-snoc}
-use Rattle.shares.specs.There.{Met, matched-at, RedParent, red-parent, refined-regular, old-kid}
+use Rattle.shares.specs.There.{Met, matched-at, red-parent, refined-regular, old-kid}
 
 module _ (n : ℕ) (qs : List (List ℕ)) (ss ms os : List ℕ) where
   abbrev pub ownAt : ℕ → ℕ → ℕ
@@ -44,12 +42,14 @@ module _ (n : ℕ) (qs : List (List ℕ)) (ss ms os : List ℕ) where
   famAt k i = familyAfter n qs ss os (pathAt (newAt n qs ss ms k .cells) i) (ownAt k i)
 
   pub child-owner : (k i : ℕ)
-      (b : Born (newAt n qs ss ms k .first) (newAt n qs ss ms k .cells) (newAt n qs ss ms k .statuses) (getD (newAt n qs ss ms (suc k) .cells) i noCell))
+      (b : Born (newAt n qs ss ms k .first) (newAt n qs ss ms k .cells) (newAt n qs ss ms k .statuses)
+      (getD (newAt n qs ss ms (suc k) .cells) i noCell))
       → ownAt (suc k) i ≡ famAt k (b .p)
   child-owner k i b =
       let l = pathAt (newAt n qs ss ms k .cells) (b .p) in
       let h : 0 < length l = omega (arith, new-length n qs ss ms k (b .p) (b .below)) in
-      ap (λ (c : Cell Point). ownerAfter n qs ss os (c .path)) (b .is) ∙ owner-snoc n qs ss os (pathAt (newAt n qs ss ms k .cells) (b .p)) (b .i) h
+      ap (λ (c : Cell Point). ownerAfter n qs ss os (c .path)) (b .is) ∙ owner-snoc n qs ss os (pathAt (newAt n qs ss ms k .cells) (b .p))
+      (b .i) h
 
 module _ (n : ℕ) (qs : List (List ℕ)) (ss ms : List ℕ) (s : Sound n qs ss) (os : List ℕ) (own : Owners n qs ss os) where
   abbrev sound : T (soundb n qs ss)
@@ -85,7 +85,7 @@ module _ (n : ℕ) (qs : List (List ℕ)) (ss ms : List ℕ) (s : Sound n qs ss)
       let (a, b) = filtered-member (sameb? l) (range 0 (length ss)) c m in
       let (_, h) = member-range 0 (length ss) c a in
       let (k, w) = level-at n qs ss s c (omega arith) in
-      let p = place n qs ss s k c w in
+      let p = stands n qs ss s k c w in
       let o = at-level n qs ss s k (p .t) (p .below) in
       let x = and-left (sameb (nthCell n qs ss c .path) l) (not (eqb (getD ss c 0) 0)) b in
       let y = and-right (sameb (nthCell n qs ss c .path) l) (not (eqb (getD ss c 0) 0)) b in
@@ -105,7 +105,8 @@ module _ (n : ℕ) (qs : List (List ℕ)) (ss ms : List ℕ) (s : Sound n qs ss)
   in-before l k t h e z =
       let o = at-level n qs ss s k t h in
       let q : nthCell n qs ss (num k t) .path ≡ l = ap (λ (c : Cell Point). c .path) (o .cell-is) ∙ e in
-      member-filtered (sameb? l) (range 0 (length ss)) (num k t) (range-member 0 (length ss) (num k t) (omega arith) (omega (arith, o .inside)))
+      member-filtered (sameb? l) (range 0 (length ss)) (num k t) (range-member 0 (length ss) (num k t) (omega arith)
+      (omega (arith, o .inside)))
       (and-make (sameb (nthCell n qs ss (num k t) .path) l) (not (eqb (getD ss (num k t) 0) 0)) (rw (q, sameb-self l) tt)
       (rw (ne-eqb (getD ss (num k t) 0) 0 z) tt))
 
@@ -163,7 +164,8 @@ module _ (n : ℕ) (qs : List (List ℕ)) (ss ms : List ℕ) (s : Sound n qs ss)
   matched-owner zero i h g r w =
       let q : new 0 .cells ≡ old 0 .cells = new-coarse n qs ss ms ∙ sym (old-coarse n qs ss ms) in
       let e : w .t ≡ i =
-      flagged n qs ss ms sound 0 .paths (w .t) i (w .is .below) (rw (← q) g) (w .is .path ∙ ap (λ (cs : List (Cell Point)). pathAt cs i) q) in
+      flagged n qs ss ms sound 0 .paths (w .t) i (w .is .below) (rw (← q) g) (w .is .path
+      ∙ ap (λ (cs : List (Cell Point)). pathAt cs i) q) in
       let z : old 0 .first + w .t ≡ i = omega (arith, first-zero n qs ss (level-there n qs ss 0 (w .t) (w .is .below))) in
       let few : i < length qs = omega (arith, g, ap length (new-coarse n qs ss ms), length-coarse n qs) in
       let p : pathAt (new 0 .cells) i ≡ i ∷ [] =
@@ -211,4 +213,5 @@ module _ (n : ℕ) (qs : List (List ℕ)) (ss ms : List ℕ) (s : Sound n qs ss)
       → ownAt n qs ss ms os (suc k) i ≡ fam (num k (f .t))
   fostered-owner k i h f =
       let (r, w) = fostered-met k i f in
-      child-owner n qs ss ms os k i (f .born) ∙ matched-family k (f .born .p) h (f .born .below) r (w .0) ∙ ap (λ (x : ℕ). fam (num k x)) (w .1)
+      child-owner n qs ss ms os k i (f .born) ∙ matched-family k (f .born .p) h (f .born .below) r (w .0) ∙ ap (λ (x : ℕ). fam (num k x))
+      (w .1)

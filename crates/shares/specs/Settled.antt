@@ -1,7 +1,7 @@
 -- A split table after the rounds of all levels, in which each part knows of the new red cells among its own.
 --   Settled F       what is given: mesh, table, marks, owners, slots, what the parts know
 --   taskIn X         its job; entriesIn X p the entries that the part p makes
---   oldIn X k, newIn X k    the levels of the old table, and of the step's
+--   oldLevelIn X k, newLevelIn X k    the levels of the old table, and of the step's
 --   numIn X k t     the number of the cell t of the old level k
 --   ownIn X k i, famIn X k i    the part that owns the new cell i of level k, and the one that owns its family
 use mathlib.Core.List.{List}
@@ -35,7 +35,8 @@ pub record Settled {Part : Type 0} (F : Finite Part) : Type 0 where
   pub regular : (i : ℕ) → All (IfRegular n i) (lv n qs ss i .cells)
   pub numbered : Slots n qs ss slot slots
   pub owned : Owners n qs ss os
-  pub known : (p : Part) → Known F (taskOf n qs ss slot slots os part) (λ c. getD ms c 0) (suc (pred (length (levelsOf n qs ss)))) p (state p)
+  pub known : (p : Part) → Known F (taskOf n qs ss slot slots os part) (λ c. getD ms c 0) (suc (pred (length (levelsOf n qs ss)))) p
+      (state p)
 
 module _ {Part : Type 0} {F : Finite Part} (X : Settled F) where
   abbrev pub taskIn : Task Part
@@ -44,14 +45,14 @@ module _ {Part : Type 0} {F : Finite Part} (X : Settled F) where
   abbrev pub entriesIn : Part → List Entry
   entriesIn p = entries F taskIn p (X .state p)
 
-  abbrev pub oldIn : ℕ → Level
-  oldIn k = lv (X .n) (X .qs) (X .ss) k
+  abbrev pub oldLevelIn : ℕ → Level
+  oldLevelIn k = lv (X .n) (X .qs) (X .ss) k
 
-  abbrev pub newIn : ℕ → Level
-  newIn k = newAt (X .n) (X .qs) (X .ss) (X .ms) k
+  abbrev pub newLevelIn : ℕ → Level
+  newLevelIn k = newAt (X .n) (X .qs) (X .ss) (X .ms) k
 
   abbrev pub numIn : ℕ → ℕ → ℕ
-  numIn k t = oldIn k .first + t
+  numIn k t = oldLevelIn k .first + t
 
   abbrev pub ownIn : ℕ → ℕ → Part
   ownIn k i = X .part (ownAt (X .n) (X .qs) (X .ss) (X .ms) (X .os) k i)

@@ -3,7 +3,7 @@
 --   There k t      the old cell t of level k is there: its place in the new level
 --   RedParent k t  the red parent of the regular old cell t of level k + 1
 -- Laws: matched-at (a new cell with the path of an old one), coarse-there, child-there, refined-there (coarse cells, children of cells that
--- stay red, refined cells are there), refined-red (the parent of a refined cell stays red), old-kid (children by their numbers).
+-- stay red, refined cells are there), refined-stays (the parent of a refined cell stays red), old-kid (children by their numbers).
 use mathlib.Core.Path.{_≡_, sym, _∙_, ap, subst}
 use mathlib.Core.Logic.{_≢_, _⊎_, inl, inr}
 use mathlib.Core.Bool.{Bool, true, false, _&&_}
@@ -83,7 +83,8 @@ module _ (n : ℕ) (qs : List (List ℕ)) (ss ms : List ℕ) (s : Sound n qs ss)
       sym (ap (λ (c : Cell Point). c .regular) (b .is)) ∙ is-true (getD (old (suc k) .cells) t noCell .regular) r in
       record { born = b; red = eqb-true (getD (old k .statuses) (b .p) 0) 64 q }
 
-  pub child-there : (k t : ℕ) (h : t < length (old (suc k) .cells)) (r : T (getD (old (suc k) .cells) t noCell .regular)) (b : RedParent k t)
+  pub child-there : (k t : ℕ) (h : t < length (old (suc k) .cells)) (r : T (getD (old (suc k) .cells) t noCell .regular))
+      (b : RedParent k t)
       → newRedAt ms (oldAbove n qs ss k) (old k) (b .born .p) ≡ true → There (suc k) t
   child-there k t h r b red =
       let top = level-there n qs ss (suc k) t h in
@@ -94,7 +95,8 @@ module _ (n : ℕ) (qs : List (List ℕ)) (ss ms : List ℕ) (s : Sound n qs ss)
       subst (λ (x : ℕ). b .born .i < length (family (patternOf x))) (b .red ∙ sym (z .status)) (b .born .child) in
       let w : ChildAt (new k) (new (suc k)) (z .i) (b .born .i) =
       family-child (new k) (new (suc k)) (new-next n qs ss ms k (omega (arith, s .high))) (z .i) (b .born .i) (z .below) known nz fam in
-      let reg : T (getD (new (suc k) .cells) (w .u) noCell .regular) = rw (ap (λ (c : Cell Point). c .regular) (w .is) ∙ ap redb (z .status)) tt in
+      let reg : T (getD (new (suc k) .cells) (w .u) noCell .regular) =
+      rw (ap (λ (c : Cell Point). c .regular) (w .is) ∙ ap redb (z .status)) tt in
       let path : pathAt (new (suc k) .cells) (w .u) ≡ pathAt (old (suc k) .cells) t =
       ap (λ (c : Cell Point). c .path) (w .is) ∙ ap (λ (l : List ℕ). l ++ (b .born .i ∷ [])) (z .path)
       ∙ sym (ap (λ (c : Cell Point). c .path) (b .born .is)) in
@@ -102,9 +104,9 @@ module _ (n : ℕ) (qs : List (List ℕ)) (ss ms : List ℕ) (s : Sound n qs ss)
       record { i = w .u; below = w .below; regular = reg; met-by = m; place-is = e }
 
   -- a cell with a refined child stays red
-  pub refined-red : (k t : ℕ) (h : t < length (old (suc k) .cells)) → getD (old (suc k) .statuses) t 0 ≢ 0 → (b : RedParent k t)
+  pub refined-stays : (k t : ℕ) (h : t < length (old (suc k) .cells)) → getD (old (suc k) .statuses) t 0 ≢ 0 → (b : RedParent k t)
       → newRedAt ms (oldAbove n qs ss k) (old k) (b .born .p) ≡ true
-  refined-red k t h z b =
+  refined-stays k t h z b =
       let u = old (suc k) in
       let known = flagged n qs ss ms sound (suc k) .known in
       let up = rowsUp (oldAbove n qs ss k) ms in
@@ -124,11 +126,12 @@ module _ (n : ℕ) (qs : List (List ℕ)) (ss ms : List ℕ) (s : Sound n qs ss)
   refined-there (suc k) t h z =
       let r = refined-regular (suc k) t h z in
       let b = red-parent k t h r in
-      child-there k t h r b (refined-red k t h z b)
+      child-there k t h r b (refined-stays k t h z b)
 
   pub old-kid : (k t : ℕ) → t < length (old (suc k) .cells)
       → (b : Born (old k .first) (old k .cells) (old k .statuses) (getD (old (suc k) .cells) t noCell))
       → Member (old (suc k) .first + t) (childrenOf n qs ss (old k .first + b .p))
   old-kid k t h b =
       let a = at-level n qs ss s (suc k) t h in
-      kid-in n qs ss s (suc k) (old k .first + b .p) (old (suc k) .first + t) (a .here) (ap (λ (c : Cell Point). c .parent) (a .cell-is ∙ b .is))
+      kid-in n qs ss s (suc k) (old k .first + b .p) (old (suc k) .first + t) (a .here)
+      (ap (λ (c : Cell Point). c .parent) (a .cell-is ∙ b .is))

@@ -27,31 +27,34 @@ module _ (n : ℕ) (qs : List (List ℕ)) (ss : List ℕ) (P : ℕ) (os : List �
     -- with one part only
     pub A3 : (p q c : ℕ) → T (masterb os p c) → T (masterb os q c) → p ≡ q
     -- a child is with its parent, or with its parent's ghost
-    pub A4 : (p c d : ℕ) → c < length ss → Member d (childrenOf n qs ss c) → T (masterb os p d) → T (masterb os p c || ghostb n qs ss os p c)
+    pub A4 : (p c d : ℕ) → c < length ss → Member d (childrenOf n qs ss c) → T (masterb os p d)
+        → T (masterb os p c || ghostb n qs ss os p c)
     -- ghosts have children
     pub A5 : (p c : ℕ) → T (ghostb n qs ss os p c) → (d : ℕ) × Member d (childrenOf n qs ss c)
     -- and have them with them
     pub A6 : (p c d : ℕ) → c < length ss → T (ghostb n qs ss os p c) → Member d (childrenOf n qs ss c) → T (masterb os p d)
 
   -- what the test says of each owner
-  pub record Counted : Type 0 where
+  pub record Ranged : Type 0 where
     pub many : length os ≡ length ss
     pub each : (c : ℕ) → c < length ss → (1 ≤ getD os c 0) × (getD os c 0 ≤ P)
 
-  pub owners-counted : T (ownersb n qs ss P os) → Counted
+  pub owners-counted : T (ownersb n qs ss P os) → Ranged
   unfolding ownersb
   owners-counted t =
       let f : ℕ → Bool = λ o. leb 1 o && leb o P in
       let a = and-left (eqb (length os) (length ss) && allb (λ o. leb 1 o && leb o P) os)
       (allb (λ c. allb (λ d. eqb (getD os d 0) (familyOf n qs ss os c)) (childrenOf n qs ss c)) (range 0 (length ss))) t in
-      let many : length os ≡ length ss = eqb→eq (length os) (length ss) (and-left (eqb (length os) (length ss)) (allb (λ o. leb 1 o && leb o P) os) a) in
+      let many : length os ≡ length ss =
+      eqb→eq (length os) (length ss) (and-left (eqb (length os) (length ss)) (allb (λ o. leb 1 o && leb o P) os) a) in
       let all : T (allb (λ o. leb 1 o && leb o P) os) = and-right (eqb (length os) (length ss)) (allb (λ o. leb 1 o && leb o P) os) a in
       record {
         many = many;
         each = λ c h.
-            let u = allb-at (λ o. leb 1 o && leb o P) 0 os all c (omega arith) in
-            (leb→le 1 (getD os c 0) (and-left (leb 1 (getD os c 0)) (leb (getD os c 0) P) u),
-              leb→le (getD os c 0) P (and-right (leb 1 (getD os c 0)) (leb (getD os c 0) P) u));
+            let u = allb-at (λ o. leb 1 o && leb o P) 0 os all c (omega arith) in (
+              leb→le 1 (getD os c 0) (and-left (leb 1 (getD os c 0)) (leb (getD os c 0) P) u),
+              leb→le (getD os c 0) P (and-right (leb 1 (getD os c 0)) (leb (getD os c 0) P) u),
+            );
       }
 
   some-child : (l : List ℕ) (c : ℕ) → firstOr (λ d. getD os d 0) (getD os c 0) l ≢ getD os c 0 → (d : ℕ) × Member d l

@@ -1,13 +1,15 @@
 -- The owners after a step: from accepted owners of a table come accepted owners of any table over the same mesh.
+--   Under l m                the coarse cell of the path l, which is below m
 --   ts, ownersAfter os ts    a table, and its owners by the rule of document 01
--- Laws: owner-snoc (a child has its family's owner), heir-owner (the owner of a cell by its path), heir-child and heir-family (the owner of a
--- cell's children), owner-in (owners are those of parts), heirs (the theorem), heirs-admissible (A1 to A6 afterwards).
-use mathlib.Core.Path.{_≡_, refl, sym, _∙_, ap, subst}
+-- Laws: owner-snoc (a child has its family's owner), under (each cell lies under a coarse one), heir-number and heir-owner (the owner of a
+-- cell by its path), heir-child and heir-family (the owner of a cell's children), owner-in and number-in (owners are those of parts), heirs
+-- (the theorem), heirs-admissible (A1 to A6 afterwards).
+use mathlib.Core.Path.{_≡_, sym, _∙_, ap, subst}
 use mathlib.Core.Bool.{Bool, _&&_, not}
-use mathlib.Core.List.{List, [], _∷_, _++_, map, append-nil, append-assoc}
+use mathlib.Core.List.{List, [], _∷_, _++_, append-nil, append-assoc}
 use Prim.Native.Nat.{ℕ, zero, suc, _+_, _≤_, _<_}
 use native.Mathlib.Omega.{arith}
-use lib.Dec.{T, eqb, eqb→eq, leb, le→leb}
+use lib.Dec.{T, eqb, leb, le→leb}
 use lib.ListN.{length, getD, length-map}
 use borrow.Author.Tests.{eq-eqb}
 use Rattle.base.specs.Lists.{allb, sameb}
@@ -25,7 +27,7 @@ use Rattle.soundness.specs.Sound.{Sound, lv, level-next}
 use Rattle.rounds.specs.Tests.{Member, filtered-member}
 use Rattle.parts.specs.Owners.{nthCell, childrenOf, familyOf, ownersb, refinedAt, familyAfter, ownerDown, ownerAfter, ownersAfter}
 use Rattle.splitting.specs.Members.{member-all, first-in, first-all}
-use Rattle.splitting.specs.Numbers.{at-level, place, level-at, kid, number-inside}
+use Rattle.splitting.specs.Numbers.{at-level, stands, level-at, kid, number-inside}
 use Rattle.splitting.specs.Paths.{level-below, path-length}
 use Rattle.splitting.specs.Admissible.{Admissible, admissible, owners-counted}
 
@@ -37,7 +39,8 @@ module _ (n : ℕ) (qs : List (List ℕ)) (ss os : List ℕ) where
   down-snoc l o [] i = ap (λ (l : List ℕ). familyAfter n qs ss os l o) (sym (append-nil l))
   down-snoc l o (j ∷ r) i =
       let o' = ownerDown n qs ss os (l ++ (j ∷ [])) (familyAfter n qs ss os l o) r in
-      down-snoc (l ++ (j ∷ [])) (familyAfter n qs ss os l o) r i ∙ ap (λ (k : List ℕ). familyAfter n qs ss os k o') (append-assoc l (j ∷ []) r)
+      down-snoc (l ++ (j ∷ [])) (familyAfter n qs ss os l o) r i ∙ ap (λ (k : List ℕ). familyAfter n qs ss os k o')
+      (append-assoc l (j ∷ []) r)
 
   pub owner-snoc : (l : List ℕ) (i : ℕ) → 0 < length l
       → ownerAfter n qs ss os (l ++ (i ∷ [])) ≡ familyAfter n qs ss os l (ownerAfter n qs ss os l)
@@ -89,7 +92,8 @@ module _ (n : ℕ) (qs : List (List ℕ)) (ss os ts : List ℕ) (u : Sound n qs 
   unfolding ownersAfter nthCell
   heir-number c h = getD-map (λ (c : Cell Point). own (c .path)) (cellsOf (levelsOf n qs ts)) c noCell 0 (omega (arith, u .many))
 
-  pub heir-owner : (k t : ℕ) → t < length (lv n qs ts k .cells) → getD os' (lv n qs ts k .first + t) 0 ≡ own (pathAt (lv n qs ts k .cells) t)
+  pub heir-owner : (k t : ℕ) → t < length (lv n qs ts k .cells) → getD os' (lv n qs ts k .first + t) 0
+      ≡ own (pathAt (lv n qs ts k .cells) t)
   heir-owner k t h =
       let a = at-level n qs ts u k t h in
       heir-number (lv n qs ts k .first + t) (a .inside) ∙ ap (λ (c : Cell Point). own (c .path)) (a .cell-is)
@@ -98,16 +102,17 @@ module _ (n : ℕ) (qs : List (List ℕ)) (ss os ts : List ℕ) (u : Sound n qs 
       → getD os' d 0 ≡ familyAfter n qs ss os (nthCell n qs ts c .path) (getD os' c 0)
   heir-child c d h m =
       let (k, mc) = level-at n qs ts u c h in
-      let pc = place n qs ts u k c mc in
+      let pc = stands n qs ts u k c mc in
       let ac = at-level n qs ts u k (pc .t) (pc .below) in
       let w = kid n qs ts u k c d mc m in
-      let pd = place n qs ts u (suc k) d (w .up) in
+      let pd = stands n qs ts u (suc k) d (w .up) in
       let ad = at-level n qs ts u (suc k) (pd .t) (pd .below) in
       let low = level-below n qs ts (suc k) (pd .t) (pd .below) in
       let b = born-of (lv n qs ts k) (lv n qs ts (suc k)) (level-next n qs ts k (omega arith)) (pd .t) (pd .below) in
       let cd : nthCell n qs ts d ≡ _ = ap (nthCell n qs ts) (pd .number) ∙ ad .cell-is ∙ b .is in
       let cc' : nthCell n qs ts c ≡ _ = ap (nthCell n qs ts) (pc .number) ∙ ac .cell-is in
-      let pp : lv n qs ts k .first + b .p ≡ lv n qs ts k .first + pc .t = sym (ap (λ (c : Cell Point). c .parent) cd) ∙ w .parent ∙ pc .number in
+      let pp : lv n qs ts k .first + b .p ≡ lv n qs ts k .first + pc .t = sym (ap (λ (c : Cell Point). c .parent) cd) ∙ w .parent
+      ∙ pc .number in
       let pt : b .p ≡ pc .t = omega arith in
       let l = pathAt (lv n qs ts k .cells) (b .p) in
       let lc : l ≡ nthCell n qs ts c .path =
@@ -157,16 +162,18 @@ module _ (n : ℕ) (qs : List (List ℕ)) (ss os ts : List ℕ) (u : Sound n qs 
         let e : length (lv n qs ss 0 .cells) ≡ length qs = ap length (old-coarse n qs ss []) ∙ length-coarse n qs in
         omega (arith, at-level n qs ss s 0 c (omega arith) .inside)
 
-    pub owner-in : (k t : ℕ) → t < length (lv n qs ts k .cells) → (1 ≤ own (pathAt (lv n qs ts k .cells) t)) × (own (pathAt (lv n qs ts k .cells) t) ≤ P)
+    pub owner-in : (k t : ℕ) → t < length (lv n qs ts k .cells) → (1 ≤ own (pathAt (lv n qs ts k .cells) t))
+        × (own (pathAt (lv n qs ts k .cells) t) ≤ P)
     unfolding ownerAfter
     owner-in k t h =
         let w = under n qs ts k t h in
-        subst (λ (l : List ℕ). Part? (own l)) (sym (w .is)) (down-in (w .c ∷ []) (getD os (w .c) 0) (w .r) (each (w .c) (coarse-in (w .c) (w .below))))
+        subst (λ (l : List ℕ). Part? (own l)) (sym (w .is)) (down-in (w .c ∷ []) (getD os (w .c) 0) (w .r)
+        (each (w .c) (coarse-in (w .c) (w .below))))
 
     pub number-in : (c : ℕ) → c < length ts → (1 ≤ getD os' c 0) × (getD os' c 0 ≤ P)
     number-in c h =
         let (k, m) = level-at n qs ts u c h in
-        let p = place n qs ts u k c m in
+        let p = stands n qs ts u k c m in
         subst Part? (sym (ap (λ (c : ℕ). getD os' c 0) (p .number) ∙ heir-owner k (p .t) (p .below))) (owner-in k (p .t) (p .below))
 
     pub heirs : T (ownersb n qs ts P os')

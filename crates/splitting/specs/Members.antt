@@ -1,7 +1,7 @@
 -- Tests on lists of numbers by their members.
--- Laws: all-member and member-all (each member passes), any-members and all-members (lists with the same members), filter-map, all-mapped-by
--- and any-mapped-by (tests on mapped numbers), map-agree (two maps that agree on the members), first-in, first-all, first-none (the first of a
--- list), six-below and below-six (the edge numbers).
+-- Laws: all-member and member-all (each member passes), any-members and all-members (lists with the same members), filter-map,
+-- all-mapped-by and any-mapped-by (tests on mapped numbers), map-agree (two maps that agree on the members), first-in, first-all and
+-- first-none (the first of a list), six-below and below-six (the edge numbers).
 use mathlib.Core.Path.{_≡_, refl, ap, ap₂}
 use mathlib.Core.Logic.{⊎-elim}
 use mathlib.Core.Bool.{Bool, true, false, _&&_, _||_}
@@ -92,5 +92,11 @@ six-below e m = elim (decLt e 6) [ yes h ↦ h | no h ↦ absurd (beyond h m) ]
   where
     beyond : (e < 6 → ⊥) → Member e six → ⊥
     beyond h t =
-        rw (ne-eqb e 0 (λ q. h (omega arith)), ne-eqb e 1 (λ q. h (omega arith)), ne-eqb e 2 (λ q. h (omega arith)),
-          ne-eqb e 3 (λ q. h (omega arith)), ne-eqb e 4 (λ q. h (omega arith)), ne-eqb e 5 (λ q. h (omega arith))) at t
+        rw (
+          ne-eqb e 0 (λ q. h (omega arith)),
+          ne-eqb e 1 (λ q. h (omega arith)),
+          ne-eqb e 2 (λ q. h (omega arith)),
+          ne-eqb e 3 (λ q. h (omega arith)),
+          ne-eqb e 4 (λ q. h (omega arith)),
+          ne-eqb e 5 (λ q. h (omega arith)),
+        ) at t

@@ -2,10 +2,11 @@
 --   numbersOf k        the numbers of the cells of level k
 --   rowBy ms c         the row of the cell c, with status and mark
 --   At k t             what the number of the place t of level k stands for
---   Place k c          the place of the cell c of level k
+--   Stands k c         the place of the cell c of level k
 --   Kid k c d          d is a child of the cell c of level k
--- Laws: first-zero (the coarse cells come first), at-level, place, number-inside, level-at (numbers and places), one-level (each cell has one level), kid and kid-in (children stand
--- one level up and have a refined parent), kid-some (a refined cell has one), row-at and rows-numbers (the rows of a level).
+-- Laws: first-zero (the coarse cells come first), at-level, stands, number-inside, level-at (numbers and places), one-level (each cell has
+-- one level), kid and kid-in (children stand one level up and have a refined parent), kid-some (a refined cell has one), row-at and
+-- rows-numbers (the rows of a level).
 use mathlib.Core.Path.{_≡_, sym, _∙_, ap, ap₂, subst}
 use mathlib.Core.Logic.{_≢_}
 use mathlib.Core.List.{List, [], map}
@@ -73,19 +74,19 @@ module _ (n : ℕ) (qs : List (List ℕ)) (ss : List ℕ) where
           status-is = rw e at (a .status);
         }
 
-    pub record Place (k c : ℕ) : Type 0 where
+    pub record Stands (k c : ℕ) : Type 0 where
       pub t : ℕ
       pub below : t < length (lv n qs ss k .cells)
       pub number : c ≡ lv n qs ss k .first + t
 
-    pub place : (k c : ℕ) → Member c (numbersOf k) → Place k c
+    pub stands : (k c : ℕ) → Member c (numbersOf k) → Stands k c
     unfolding numbersOf
-    place k c m =
+    stands k c m =
         let (a, b) = member-range (lv n qs ss k .first) (length (lv n qs ss k .cells)) c m in
         record { t = c - lv n qs ss k .first; below = omega arith; number = omega arith }
 
     pub number-inside : (k c : ℕ) → Member c (numbersOf k) → c < length ss
-    number-inside k c m = let p = place k c m in rw (p .number) (at-level k (p .t) (p .below) .inside)
+    number-inside k c m = let p = stands k c m in rw (p .number) (at-level k (p .t) (p .below) .inside)
 
     -- the level of a number
     pub level-at : (c : ℕ) → c < length ss → (k : ℕ) × Member c (numbersOf k)
@@ -95,7 +96,8 @@ module _ (n : ℕ) (qs : List (List ℕ)) (ss : List ℕ) where
         (w .j, subst (λ (x : ℕ). Member x (numbersOf (w .j))) e (at-level (w .j) (w .p) (w .below) .here))
 
     -- levels stand one behind the other
-    behind : (j d : ℕ) → suc (j + d) < length (levelsOf n qs ss) → lv n qs ss j .first + length (lv n qs ss j .cells) ≤ lv n qs ss (suc (j + d)) .first
+    behind : (j d : ℕ) → suc (j + d) < length (levelsOf n qs ss) → lv n qs ss j .first + length (lv n qs ss j .cells) ≤ lv n qs ss
+        (suc (j + d)) .first
     unfolding levelsOf
     behind j zero h =
         let z : suc (j + 0) ≡ suc j = omega arith in rw z (omega (arith, levels-first 12 0 (coarseCells n qs) ss j (omega arith)))
@@ -105,8 +107,8 @@ module _ (n : ℕ) (qs : List (List ℕ)) (ss : List ℕ) where
 
     apart-levels : (j k c : ℕ) → j < k → Member c (numbersOf j) → Member c (numbersOf k) → ⊥
     apart-levels j k c h a b =
-        let x = place j c a in
-        let y = place k c b in
+        let x = stands j c a in
+        let y = stands k c b in
         let top = level-there n qs ss k (y .t) (y .below) in
         let z : suc (j + (k - suc j)) ≡ k = omega arith in
         let w = behind j (k - suc j) (rw z top) in
@@ -130,16 +132,18 @@ module _ (n : ℕ) (qs : List (List ℕ)) (ss : List ℕ) where
     unfolding levelsOf
     coarse-parent t h =
         let e : lv n qs ss 0 .cells ≡ coarseCells n qs = cells-first 11 0 (coarseCells n qs) ss in
-        ap (λ (cs : List (Cell Point)). getD cs t noCell .parent) e ∙ ap (λ (c : Cell Point). c .parent) (coarse-at n qs t (omega (arith, ap length e, length-coarse n qs)))
+        ap (λ (cs : List (Cell Point)). getD cs t noCell .parent) e ∙ ap (λ (c : Cell Point). c .parent)
+        (coarse-at n qs t (omega (arith, ap length e, length-coarse n qs)))
 
     kid-from : (j k c d : ℕ) → Member c (numbersOf k) → Member d (numbersOf j) → cell d .parent ≡ c → Kid k c d
     kid-from zero k c d m q e =
-        let p = place 0 d q in
+        let p = stands 0 d q in
         let a = at-level 0 (p .t) (p .below) in
-        let z : cell d .parent ≡ none = ap (λ (x : ℕ). cell x .parent) (p .number) ∙ ap (λ (c : Cell Point). c .parent) (a .cell-is) ∙ coarse-parent (p .t) (p .below) in
+        let z : cell d .parent ≡ none = ap (λ (x : ℕ). cell x .parent) (p .number) ∙ ap (λ (c : Cell Point). c .parent) (a .cell-is)
+        ∙ coarse-parent (p .t) (p .below) in
         absurd (omega (arith, number-inside k c m, s .many, s .few))
     kid-from (suc j) k c d m q e =
-        let p = place (suc j) d q in
+        let p = stands (suc j) d q in
         let a = at-level (suc j) (p .t) (p .below) in
         let top = level-there n qs ss (suc j) (p .t) (p .below) in
         let b = born-of (lv n qs ss j) (lv n qs ss (suc j)) (level-next n qs ss j (omega (arith, s .high))) (p .t) (p .below) in
@@ -164,12 +168,13 @@ module _ (n : ℕ) (qs : List (List ℕ)) (ss : List ℕ) where
     pub kid-in : (k c d : ℕ) → Member d (numbersOf k) → cell d .parent ≡ c → Member d (childrenOf n qs ss c)
     unfolding childrenOf
     kid-in k c d m e =
-        member-filtered (λ d. eqb (cell d .parent) c) (range 0 (length ss)) d (range-member 0 (length ss) d (omega arith) (omega (arith, number-inside k d m))) (rw (eq-eqb (cell d .parent) c e) tt)
+        member-filtered (λ d. eqb (cell d .parent) c) (range 0 (length ss)) d (range-member 0 (length ss) d (omega arith)
+        (omega (arith, number-inside k d m))) (rw (eq-eqb (cell d .parent) c e) tt)
 
     -- a refined cell has a child
     pub kid-some : (k c : ℕ) → Member c (numbersOf k) → getD ss c 0 ≢ 0 → (d : ℕ) × Member d (childrenOf n qs ss c)
     kid-some k c m z =
-        let p = place k c m in
+        let p = stands k c m in
         let l = lv n qs ss k in
         let a = at-level k (p .t) (p .below) in
         let top = level-there n qs ss k (p .t) (p .below) in
@@ -178,10 +183,11 @@ module _ (n : ℕ) (qs : List (List ℕ)) (ss : List ℕ) where
         let nz : getD (l .statuses) (p .t) 0 ≢ 0 = (λ e. z (ap (λ (x : ℕ). getD ss x 0) (p .number) ∙ a .status-is ∙ e)) in
         let w = family-child l (lv n qs ss (suc k)) (level-next n qs ss k (omega (arith, s .high))) (p .t) 0 (p .below) known nz
         (family-some (patternOf (getD (l .statuses) (p .t) 0)) small) in
-        let o = at-level (suc k) (w .u) (w .below) in
-        (lv n qs ss (suc k) .first + w .u,
+        let o = at-level (suc k) (w .u) (w .below) in (
+          lv n qs ss (suc k) .first + w .u,
           kid-in (suc k) c (lv n qs ss (suc k) .first + w .u) (o .here)
-              (ap (λ (c : Cell Point). c .parent) (o .cell-is) ∙ child-parent l (lv n qs ss (suc k)) (p .t) 0 w ∙ sym (p .number)))
+              (ap (λ (c : Cell Point). c .parent) (o .cell-is) ∙ child-parent l (lv n qs ss (suc k)) (p .t) 0 w ∙ sym (p .number)),
+        )
 
     -- the row of a place
     pub row-at : (ms : List ℕ) (k t : ℕ) → t < length (lv n qs ss k .cells) → rowBy ms (lv n qs ss k .first + t) ≡ rowOf (lv n qs ss k) ms t
@@ -190,7 +196,8 @@ module _ (n : ℕ) (qs : List (List ℕ)) (ss : List ℕ) where
         let a = at-level k t h in
         let c = lv n qs ss k .first + t in
         ap₂ {A = Cell Point} {B = ℕ} {C = Row}
-        (λ d x. record { number = lv n qs ss k .first + t; cell = d; status = x; mark = getD ms (lv n qs ss k .first + t) 0 }) (a .cell-is) (a .status-is)
+        (λ d x. record { number = lv n qs ss k .first + t; cell = d; status = x; mark = getD ms (lv n qs ss k .first + t) 0 }) (a .cell-is)
+        (a .status-is)
 
     -- the rows of a level
     pub rows-numbers : (ms : List ℕ) (k : ℕ) → rows (lv n qs ss k) ms ≡ map (rowBy ms) (numbersOf k)
@@ -198,7 +205,8 @@ module _ (n : ℕ) (qs : List (List ℕ)) (ss : List ℕ) where
     rows-numbers ms k =
         let l = lv n qs ss k in
         let known = closed-length l (level-closed n qs ss (s .closed) k) in
-        let many : length (map (rowBy ms) (numbersOf k)) ≡ length (l .cells) = length-map (numbersOf k) (rowBy ms) ∙ length-range (l .first) (length (l .cells)) in
+        let many : length (map (rowBy ms) (numbersOf k)) ≡ length (l .cells) =
+        length-map (numbersOf k) (rowBy ms) ∙ length-range (l .first) (length (l .cells)) in
         ext-getD noRow (rows l ms) (map (rowBy ms) (numbersOf k)) (length-rows l ms known ∙ sym many) (λ i h.
         let g : i < length (l .cells) = omega (arith, length-rows l ms known) in
         rows-at l ms known i g ∙ sym (row-at ms k i g)

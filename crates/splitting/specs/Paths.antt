@@ -1,6 +1,6 @@
 -- The paths of the cells of a table, and of the step's.
--- Laws: level-below (there are at most twelve levels), path-length (a path is one longer than its level), level-paths and one-place (paths tell
--- cells apart), new-lv (the levels of the step's table), new-length and new-one-place (the same of its paths).
+-- Laws: level-below (there are at most twelve levels), path-length (a path is one longer than its level), level-paths and one-place (paths
+-- tell cells apart), new-lv (the levels of the step's table), new-length and new-one-place (the same of its paths).
 use mathlib.Core.Path.{_≡_, sym, _∙_, ap, subst}
 use mathlib.Core.List.{List, [], _∷_}
 use Prim.Native.Nat.{ℕ, zero, suc, _+_, _≤_, _<_}

@@ -6,7 +6,7 @@ use mathlib.Core.Path.{_≡_, refl, sym, _∙_, ap, ap₂, subst}
 use mathlib.Core.Logic.{⊎-elim}
 use mathlib.Core.Bool.{Bool, true, false, _||_}
 use mathlib.Core.List.{List, [], _∷_, map, flatMap}
-use Prim.Native.Nat.{ℕ, zero, suc, _+_, _*_, _/_, _<_, pred}
+use Prim.Native.Nat.{ℕ, suc, _+_, _*_, _/_, pred}
 use native.Mathlib.Omega.{arith}
 use lib.Dec.{T, eqb, eqb→eq}
 use lib.ListN.{length, length-append}
@@ -22,7 +22,7 @@ use Rattle.soundness.specs.Sound.{Sound, lv}
 use Rattle.rounds.specs.Tests.{Member, same-test, or-left, or-right, member-cases}
 use Rattle.rounds.specs.Task.{six}
 use Rattle.parts.specs.Owners.{nthCell}
-use Rattle.splitting.specs.Numbers.{numbersOf, at-level, place, one-level}
+use Rattle.splitting.specs.Numbers.{numbersOf, at-level, stands, one-level}
 use Rattle.splitting.specs.Paths.{path-length}
 use Rattle.splitting.specs.Split.{Slots}
 
@@ -43,11 +43,13 @@ unfolding hasb
 joins-place [] a b h e = not-both false h refl
 joins-place (x ∷ l) a b h e = go (joins? x a) refl (joins? x b) refl (joins-place l a b)
   where
-    go : (c : Bool) → joins? x a ≡ c → (d : Bool) → joins? x b ≡ d → (hasb joins? l a ≡ true → placeIn joins? l a ≡ placeIn joins? l b → T (joins? a b)) → T (joins? a b)
+    go : (c : Bool) → joins? x a ≡ c → (d : Bool) → joins? x b ≡ d → (hasb joins? l a ≡ true → placeIn joins? l a ≡ placeIn joins? l b
+        → T (joins? a b)) → T (joins? a b)
     go true p true q i = joins-trans a x b (joins-sym x a (subst (λ (z : Bool). T z) (sym p) tt)) (subst (λ (z : Bool). T z) (sym q) tt)
     go true p false q i = absurd (omega (arith, e, place-here joins? x l a p, place-past joins? x l b q))
     go false p true q i = absurd (omega (arith, e, place-past joins? x l a p, place-here joins? x l b q))
-    go false p false q i = i (sym (ap (λ (z : Bool). z || hasb joins? l a) p) ∙ h) (omega (arith, e, place-past joins? x l a p, place-past joins? x l b q))
+    go false p false q i = i (sym (ap (λ (z : Bool). z || hasb joins? l a) p) ∙ h)
+        (omega (arith, e, place-past joins? x l a p, place-past joins? x l b q))
 
 module _ (n : ℕ) (qs : List (List ℕ)) (ss : List ℕ) where
   abbrev edgeOf : ℕ → ℕ → Edge
@@ -76,7 +78,8 @@ module _ (n : ℕ) (qs : List (List ℕ)) (ss : List ℕ) where
 
   length-edges : (k : ℕ) → length (edgesAt k) ≡ 6 * length (lv n qs ss k .cells)
   unfolding edgesAt numbersOf
-  length-edges k = length-six (numbersOf n qs ss k) ∙ ap (λ (x : ℕ). 6 * x) (length-range (lv n qs ss k .first) (length (lv n qs ss k .cells)))
+  length-edges k = length-six (numbersOf n qs ss k)
+      ∙ ap (λ (x : ℕ). 6 * x) (length-range (lv n qs ss k .first) (length (lv n qs ss k .cells)))
 
   has-map : (c e : ℕ) (l : List ℕ) → Member e l → T (hasb joins? (map (edgeOf c) l) (edgeOf c e))
   unfolding hasb memberb
@@ -110,9 +113,10 @@ module _ (n : ℕ) (qs : List (List ℕ)) (ss : List ℕ) where
   module _ (s : Sound n qs ss) where
     level-is : (k c : ℕ) → Member c (numbersOf n qs ss k) → pred (length (nthCell n qs ss c .path)) ≡ k
     level-is k c m =
-        let p = place n qs ss s k c m in
+        let p = stands n qs ss s k c m in
         let a = at-level n qs ss s k (p .t) (p .below) in
-        ap pred (ap (λ (x : ℕ). length (nthCell n qs ss x .path)) (p .number) ∙ ap (λ (c : Cell Point). length (c .path)) (a .cell-is) ∙ path-length n qs ss k (p .t) (p .below))
+        ap pred (ap (λ (x : ℕ). length (nthCell n qs ss x .path)) (p .number) ∙ ap (λ (c : Cell Point). length (c .path)) (a .cell-is)
+        ∙ path-length n qs ss k (p .t) (p .below))
 
     slot-is : (k c e : ℕ) → Member c (numbersOf n qs ss k) → slotOf c e ≡ 6 * lv n qs ss k .first + placeIn joins? (edgesAt k) (edgeOf c e)
     unfolding slotOf

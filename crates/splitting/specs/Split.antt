@@ -1,13 +1,13 @@
--- The job that a split table is, and that its flags are those of the step (document 01, "One step", "Parts").
+-- The task that a split table is, and that its flags are those of the step (document 01, "One step", "Parts").
 --   newEdges k      the edges of the new red cells of level k; newRedRow k the test that chooses these cells
 --   Slots           numbers for the edges of each level: one for each edge, whichever cells have it
 --   Owners          children of one cell have its family's owner
 --   innerOf d e     the edge e of the cell d is not also its parent's
---   taskOf           the job; part gives the part with a number
--- Laws: owners-fit (the test of the owners), leaf-owner (a leaf has no family), fits (it is a fit job), flags (its flags are the new red cells), hits (its slots of new red
--- cells are their edges).
+--   taskOf          the task; part gives the part with a number
+-- Laws: owners-fit (what the test of the owners says), leaf-owner (a leaf has no family), fits (it is a fit task), flags-red (its flags are
+-- the new red cells), hits (its slots of new red cells are their edges).
 use mathlib.Core.Path.{_≡_, refl, sym, _∙_, ap, ap₂, subst}
-use mathlib.Core.Logic.{_≢_, _⊎_, inl, inr, ⊎-elim}
+use mathlib.Core.Logic.{⊎-elim}
 use mathlib.Core.Bool.{Bool, true, false, _&&_, _||_, not}
 use mathlib.Core.List.{List, [], _∷_, _++_, map, flatMap}
 use Prim.Native.Nat.{ℕ, zero, suc, _-_, _≤_, _<_, pred}
@@ -17,11 +17,11 @@ use lib.Dec.{T, eqb, eqb→eq, leb}
 use lib.ListN.{length, getD, drop, drop-of-length-le}
 use lib.Seq.{drop-cons}
 use borrow.Author.Tests.{eq-eqb}
-use Rattle.base.specs.Lists.{allb, anyb, filterb, memberb, sameb, and-right}
+use Rattle.base.specs.Lists.{allb, anyb, filterb, sameb, and-right}
 use Rattle.base.specs.Range.{range, range-member}
 use Rattle.mesh.specs.Cells.{edge, edges, joinsb, heldb}
 use Rattle.mesh.specs.Table.{Level, levelsOf}
-use Rattle.mesh.specs.Step.{Row, rows, kids, deletedb, turnedb, newRedb, rowsUp, edgesUp, newReds}
+use Rattle.mesh.specs.Step.{Row, kids, deletedb, turnedb, newRedb, rowsUp, edgesUp, newReds}
 use Rattle.lattice.specs.Levels.{noLevel}
 use Rattle.lineage.specs.Stays.{up-rows}
 use Rattle.carriers.specs.Joins.{Edge, held-either, held-first, held-second}
@@ -30,7 +30,7 @@ use Rattle.rounds.specs.Tests.{Member, same-test, or-cases, or-left, or-right, 
 use Rattle.rounds.specs.Task.{Task, Fit, six, has, idle, pulled, rule, redAt, hitAt}
 use Rattle.parts.specs.Owners.{nthCell, childrenOf, familyOf, ownersb}
 use Rattle.splitting.specs.Members.{all-member, first-none, any-members, all-members, filter-map, all-mapped-by, any-mapped-by}
-use Rattle.splitting.specs.Numbers.{numbersOf, rowBy, Kid, kid, kid-in, number-inside, one-level, rows-numbers, place}
+use Rattle.splitting.specs.Numbers.{numbersOf, rowBy, kid, kid-in, number-inside, one-level, rows-numbers, stands}
 
 abbrev pub newEdges : ℕ → List (List ℕ) → List ℕ → List ℕ → ℕ → List Edge
 newEdges n qs ss ms k = edgesUp (newReds (drop k (levelsOf n qs ss)) ms)
@@ -85,10 +85,13 @@ module _ (g : ℕ → Row) (f : Row → Bool) (e : Edge) where
   held-append : (es fs : List Edge) → heldb sameb (es ++ fs) e ≡ (heldb sameb es e || heldb sameb fs e)
   held-append es fs =
       same-test (heldb sameb (es ++ fs) e) (heldb sameb es e || heldb sameb fs e)
-      (λ t. ⊎-elim (λ (u : T (heldb sameb es e)). or-left (heldb sameb es e) (heldb sameb fs e) u) (λ (u : T (heldb sameb fs e)). or-right (heldb sameb es e) (heldb sameb fs e) u) (held-either e es fs t))
-      (λ t. ⊎-elim (λ (u : T (heldb sameb es e)). held-first e es fs u) (λ (u : T (heldb sameb fs e)). held-second e es fs u) (or-cases (heldb sameb es e) (heldb sameb fs e) t))
+      (λ t. ⊎-elim (λ (u : T (heldb sameb es e)). or-left (heldb sameb es e) (heldb sameb fs e) u)
+      (λ (u : T (heldb sameb fs e)). or-right (heldb sameb es e) (heldb sameb fs e) u) (held-either e es fs t))
+      (λ t. ⊎-elim (λ (u : T (heldb sameb es e)). held-first e es fs u) (λ (u : T (heldb sameb fs e)). held-second e es fs u)
+      (or-cases (heldb sameb es e) (heldb sameb fs e) t))
 
-  pub held-rows : (l : List ℕ) → heldb sameb (flatMap (λ (r : Row). edges [] (r .cell)) (filterb f (map g l))) e ≡ anyb (λ d. f (g d) && heldb sameb (edges [] (g d .cell)) e) l
+  pub held-rows : (l : List ℕ) → heldb sameb (flatMap (λ (r : Row). edges [] (r .cell)) (filterb f (map g l))) e ≡ anyb
+      (λ d. f (g d) && heldb sameb (edges [] (g d .cell)) e) l
   unfolding filterb flatMap anyb heldb
   held-rows [] = refl
   held-rows (x ∷ l) = go (f (g x)) refl (held-rows l)
@@ -97,8 +100,10 @@ module _ (g : ℕ → Row) (f : Row → Bool) (e : Edge) where
       rest = flatMap (λ (r : Row). edges [] (r .cell)) (filterb f (map g l))
 
       go : (b : Bool) → f (g x) ≡ b → heldb sameb rest e ≡ anyb (λ d. f (g d) && heldb sameb (edges [] (g d .cell)) e) l
-          → heldb sameb (flatMap (λ (r : Row). edges [] (r .cell)) (filterb f (map g (x ∷ l)))) e ≡ ((f (g x) && heldb sameb (edges [] (g x .cell)) e) || anyb (λ d. f (g d) && heldb sameb (edges [] (g d .cell)) e) l)
-      go true q i = rw (q, filterb) (held-append (edges [] (g x .cell)) rest ∙ ap (λ (b : Bool). heldb sameb (edges [] (g x .cell)) e || b) i)
+          → heldb sameb (flatMap (λ (r : Row). edges [] (r .cell)) (filterb f (map g (x ∷ l)))) e
+          ≡ ((f (g x) && heldb sameb (edges [] (g x .cell)) e) || anyb (λ d. f (g d) && heldb sameb (edges [] (g d .cell)) e) l)
+      go true q i = rw (q, filterb) (held-append (edges [] (g x .cell)) rest
+          ∙ ap (λ (b : Bool). heldb sameb (edges [] (g x .cell)) e || b) i)
       go false q i = rw (q, filterb) i
 
 module _ (n : ℕ) (qs : List (List ℕ)) (ss : List ℕ) (s : Sound n qs ss) (os : List ℕ) where
@@ -106,7 +111,8 @@ module _ (n : ℕ) (qs : List (List ℕ)) (ss : List ℕ) (s : Sound n qs ss) (o
   unfolding familyOf
   leaf-owner k c m z = first-none (λ d. getD os d 0) (getD os c 0) (childrenOf n qs ss c) (λ d q. kid n qs ss s k c d m q .refined z)
 
-module _ {Part : Type 0} (n : ℕ) (qs : List (List ℕ)) (ss : List ℕ) (s : Sound n qs ss) (slot : ℕ → ℕ → ℕ) (slots : ℕ → List ℕ) (sl : Slots n qs ss slot slots)
+module _ {Part : Type 0} (n : ℕ) (qs : List (List ℕ)) (ss : List ℕ) (s : Sound n qs ss) (slot : ℕ → ℕ → ℕ) (slots : ℕ → List ℕ)
+    (sl : Slots n qs ss slot slots)
     (os : List ℕ) (own : Owners n qs ss os) (part : ℕ → Part) where
   abbrev J : Task Part
   J = taskOf n qs ss slot slots os part
@@ -135,11 +141,13 @@ module _ {Part : Type 0} (n : ℕ) (qs : List (List ℕ)) (ss : List ℕ) (s : S
 
     -- the edges of the new red cells of a level
     edges-at : (k : ℕ) → k < length (levelsOf n qs ss)
-        → newEdges n qs ss ms k ≡ flatMap (λ (r : Row). edges [] (r .cell)) (filterb (newRedRow n qs ss ms k) (map (rowBy n qs ss ms) (numbersOf n qs ss k)))
+        → newEdges n qs ss ms k ≡ flatMap (λ (r : Row). edges [] (r .cell))
+        (filterb (newRedRow n qs ss ms k) (map (rowBy n qs ss ms) (numbersOf n qs ss k)))
     unfolding edgesUp newReds
     edges-at k h =
         ap (λ (ls : List Level). edgesUp (newReds ls ms)) (drop-cons (levelsOf n qs ss) k noLevel h)
-        ∙ ap (λ (rs : List Row). flatMap (λ (r : Row). edges [] (r .cell)) (filterb (newRedRow n qs ss ms k) rs)) (rows-numbers n qs ss s ms k)
+        ∙ ap (λ (rs : List Row). flatMap (λ (r : Row). edges [] (r .cell)) (filterb (newRedRow n qs ss ms k) rs))
+        (rows-numbers n qs ss s ms k)
 
     edges-none : (k : ℕ) → length (levelsOf n qs ss) ≤ k → newEdges n qs ss ms k ≡ []
     unfolding edgesUp newReds
@@ -150,10 +158,12 @@ module _ {Part : Type 0} (n : ℕ) (qs : List (List ℕ)) (ss : List ℕ) (s : S
         → has J d (slot c e) ≡ heldb sameb (edges [] (nthCell n qs ss d)) (edge [] (nthCell n qs ss c) e)
     unfolding has heldb edges anyb
     has-held k c d e m q b =
-        any-agree (λ f. eqb (slot d f) (slot c e)) (λ f. joinsb sameb (edge [] (nthCell n qs ss c) e) (edge [] (nthCell n qs ss d) f)) six (λ f g. sl .same k c d e f m q b g)
+        any-agree (λ f. eqb (slot d f) (slot c e)) (λ f. joinsb sameb (edge [] (nthCell n qs ss c) e) (edge [] (nthCell n qs ss d) f)) six
+        (λ f g. sl .same k c d e f m q b g)
 
     module _ (k : ℕ) (h : ℕ → Bool) (c : ℕ) (m : Member c (numbersOf n qs ss k))
-        (hits : (d e : ℕ) → Member d (numbersOf n qs ss (suc k)) → Member e six → h (slot d e) ≡ heldb sameb (newEdges n qs ss ms (suc k)) (edge [] (nthCell n qs ss d) e)) where
+        (hits : (d e : ℕ) → Member d (numbersOf n qs ss (suc k)) → Member e six → h (slot d e) ≡ heldb sameb (newEdges n qs ss ms (suc k))
+        (edge [] (nthCell n qs ss d) e)) where
       abbrev es : List Edge
       es = newEdges n qs ss ms (suc k)
 
@@ -162,10 +172,12 @@ module _ {Part : Type 0} (n : ℕ) (qs : List (List ℕ)) (ss : List ℕ) (s : S
 
       kids-are : kids (rowsUp (drop (suc k) (levelsOf n qs ss)) ms) c ≡ map (rowBy n qs ss ms) (filterb mineb (numbersOf n qs ss (suc k)))
       unfolding kids rowBy
-      kids-are = ap (λ (rs : List Row). kids rs c) (rows-above k) ∙ filter-map (rowBy n qs ss ms) (λ r. eqb (r .cell .parent) c) (numbersOf n qs ss (suc k))
+      kids-are = ap (λ (rs : List Row). kids rs c) (rows-above k) ∙ filter-map (rowBy n qs ss ms) (λ r. eqb (r .cell .parent) c)
+          (numbersOf n qs ss (suc k))
 
       kids-up : (x : ℕ) → Member x (filterb mineb (numbersOf n qs ss (suc k))) → Member x (childrenOf n qs ss c)
-      kids-up x q = let (a, b) = filtered-member mineb (numbersOf n qs ss (suc k)) x q in kid-in n qs ss s (suc k) c x a (eqb→eq (nthCell n qs ss x .parent) c b)
+      kids-up x q = let (a, b) = filtered-member mineb (numbersOf n qs ss (suc k)) x q in kid-in n qs ss s (suc k) c x a
+          (eqb→eq (nthCell n qs ss x .parent) c b)
 
       kids-down : (x : ℕ) → Member x (childrenOf n qs ss c) → Member x (filterb mineb (numbersOf n qs ss (suc k)))
       kids-down x q =
@@ -180,19 +192,25 @@ module _ {Part : Type 0} (n : ℕ) (qs : List (List ℕ)) (ss : List ℕ) (s : S
           ∙ all-members (λ d. f (rowBy n qs ss ms d)) (filterb mineb (numbersOf n qs ss (suc k))) (childrenOf n qs ss c) kids-up kids-down
           ∙ all-agree (λ d. f (rowBy n qs ss ms d)) (idle J h mark) (childrenOf n qs ss c) (λ d q.
           ap (λ (b : Bool). (eqb (getD ss d 0) 0 && eqb (getD ms d 0) 2) && b)
-          (all-agree (λ e. not (heldb sameb es (edge [] (nthCell n qs ss d) e))) (λ e. not (h (slot d e))) six (λ e b. ap not (sym (hits d e (kid n qs ss s k c d m q .up) b)))))
+          (all-agree (λ e. not (heldb sameb es (edge [] (nthCell n qs ss d) e))) (λ e. not (h (slot d e))) six
+          (λ e b. ap not (sym (hits d e (kid n qs ss s k c d m q .up) b)))))
 
-      turned-same : turnedb (edges [] (nthCell n qs ss c)) (kids (rowsUp (drop (suc k) (levelsOf n qs ss)) ms) c) es ≡ anyb (pulled J h mark) (childrenOf n qs ss c)
+      turned-same : turnedb (edges [] (nthCell n qs ss c)) (kids (rowsUp (drop (suc k) (levelsOf n qs ss)) ms) c) es
+          ≡ anyb (pulled J h mark) (childrenOf n qs ss c)
       unfolding turnedb pulled edges anyb rowBy innerOf
       turned-same =
           let own : List Edge = edges [] (nthCell n qs ss c) in
-          let f : Row → Bool = λ r. eqb (r .mark) 1 || anyb (λ e. not (heldb sameb (edges [] (nthCell n qs ss c)) e) && heldb sameb es e) (edges [] (r .cell)) in
-          ap (λ (rs : List Row). turnedb (edges [] (nthCell n qs ss c)) rs es) kids-are ∙ any-mapped-by (rowBy n qs ss ms) f (filterb mineb (numbersOf n qs ss (suc k)))
+          let f : Row → Bool = λ r. eqb (r .mark) 1 || anyb (λ e. not (heldb sameb (edges [] (nthCell n qs ss c)) e) && heldb sameb es e)
+          (edges [] (r .cell)) in
+          ap (λ (rs : List Row). turnedb (edges [] (nthCell n qs ss c)) rs es) kids-are ∙ any-mapped-by (rowBy n qs ss ms) f
+          (filterb mineb (numbersOf n qs ss (suc k)))
           ∙ any-members (λ d. f (rowBy n qs ss ms d)) (filterb mineb (numbersOf n qs ss (suc k))) (childrenOf n qs ss c) kids-up kids-down
           ∙ any-agree (λ d. f (rowBy n qs ss ms d)) (pulled J h mark) (childrenOf n qs ss c) (λ d q.
           ap (λ (b : Bool). eqb (getD ms d 0) 1 || b)
-          (any-agree (λ e. not (heldb sameb (edges [] (nthCell n qs ss c)) (edge [] (nthCell n qs ss d) e)) && heldb sameb es (edge [] (nthCell n qs ss d) e)) (λ e. innerOf n qs ss d e && h (slot d e)) six (λ e b.
-          ap₂ _&&_ (ap (λ (x : ℕ). not (heldb sameb (edges [] (nthCell n qs ss x)) (edge [] (nthCell n qs ss d) e))) (sym (kid n qs ss s k c d m q .parent))) (sym (hits d e (kid n qs ss s k c d m q .up) b)))))
+          (any-agree (λ e. not (heldb sameb (edges [] (nthCell n qs ss c)) (edge [] (nthCell n qs ss d) e)) && heldb sameb es
+          (edge [] (nthCell n qs ss d) e)) (λ e. innerOf n qs ss d e && h (slot d e)) six (λ e b.
+          ap₂ _&&_ (ap (λ (x : ℕ). not (heldb sameb (edges [] (nthCell n qs ss x)) (edge [] (nthCell n qs ss d) e)))
+          (sym (kid n qs ss s k c d m q .parent))) (sym (hits d e (kid n qs ss s k c d m q .up) b)))))
 
       pub rule-is : rule J h mark c ≡ newRed k c
       unfolding rule newRedb rowBy
@@ -206,33 +224,36 @@ module _ {Part : Type 0} (n : ℕ) (qs : List (List ℕ)) (ss : List ℕ) (s : S
     -- from the highest level down
     top-level : (c : ℕ) (k : ℕ) → Member c (numbersOf n qs ss k) → k ≤ J .top
     top-level c k m =
-        let p = place n qs ss s k c m in
+        let p = stands n qs ss s k c m in
         let h = level-there n qs ss k (p .t) (p .below) in
         let z : suc (J .top) ≡ length (levelsOf n qs ss) = suc-pred-eq-of-pos (omega arith) in omega arith
 
-    hit-is : (i : ℕ) → i ≤ J .top → 0 < length (levelsOf n qs ss) → ((c : ℕ) → Member c (numbersOf n qs ss (J .top - i)) → redAt J mark i c ≡ newRed (J .top - i) c)
+    hit-is : (i : ℕ) → i ≤ J .top → 0 < length (levelsOf n qs ss) → ((c : ℕ) → Member c (numbersOf n qs ss (J .top - i)) → redAt J mark i c
+        ≡ newRed (J .top - i) c)
         → (d e : ℕ) → Member d (numbersOf n qs ss (J .top - i)) → Member e six
         → hitAt J mark i (slot d e) ≡ heldb sameb (newEdges n qs ss ms (J .top - i)) (edge [] (nthCell n qs ss d) e)
     unfolding rowBy
     hit-is i h l f d e m b =
         let z : suc (J .top) ≡ length (levelsOf n qs ss) = suc-pred-eq-of-pos l in
-        any-agree (λ c. redAt J mark i c && has J c (slot d e)) (λ c. newRed (J .top - i) c && heldb sameb (edges [] (nthCell n qs ss c)) (edge [] (nthCell n qs ss d) e)) (numbersOf n qs ss (J .top - i))
+        any-agree (λ c. redAt J mark i c && has J c (slot d e)) (λ c. newRed (J .top - i) c && heldb sameb (edges [] (nthCell n qs ss c))
+        (edge [] (nthCell n qs ss d) e)) (numbersOf n qs ss (J .top - i))
         (λ c q. ap₂ _&&_ (f c q) (has-held (J .top - i) d c e m q b))
         ∙ sym (ap (λ (es : List Edge). heldb sameb es (edge [] (nthCell n qs ss d) e)) (edges-at (J .top - i) (omega arith))
         ∙ held-rows (rowBy n qs ss ms) (newRedRow n qs ss ms (J .top - i)) (edge [] (nthCell n qs ss d) e) (numbersOf n qs ss (J .top - i)))
 
-    pub flags : (i : ℕ) → i ≤ J .top → 0 < length (levelsOf n qs ss) → (c : ℕ) → Member c (numbersOf n qs ss (J .top - i)) → redAt J mark i c ≡ newRed (J .top - i) c
+    pub flags-red : (i : ℕ) → i ≤ J .top → 0 < length (levelsOf n qs ss) → (c : ℕ) → Member c (numbersOf n qs ss (J .top - i))
+        → redAt J mark i c ≡ newRed (J .top - i) c
     unfolding redAt heldb anyb
-    flags zero h l c m =
+    flags-red zero h l c m =
         rule-is (J .top - 0) (λ x. false) c m (λ d e q b.
         absurd (let z = top-level d (suc (J .top - 0)) q in omega arith))
-    flags (suc i) h l c m =
+    flags-red (suc i) h l c m =
         let z : suc (J .top - suc i) ≡ J .top - i = omega arith in
         rule-is (J .top - suc i) (λ x. hitAt J mark i x) c m (λ d e q b.
         let u : Member d (numbersOf n qs ss (J .top - i)) = subst (λ (k : ℕ). Member d (numbersOf n qs ss k)) z q in
         subst (λ (k : ℕ). hitAt J mark i (slot d e) ≡ heldb sameb (newEdges n qs ss ms k) (edge [] (nthCell n qs ss d) e)) (sym z)
-        (hit-is i (omega arith) l (λ c w. flags i (omega arith) l c w) d e u b))
+        (hit-is i (omega arith) l (λ c w. flags-red i (omega arith) l c w) d e u b))
 
     pub hits : (i : ℕ) → i ≤ J .top → 0 < length (levelsOf n qs ss) → (d e : ℕ) → Member d (numbersOf n qs ss (J .top - i)) → Member e six
         → hitAt J mark i (slot d e) ≡ heldb sameb (newEdges n qs ss ms (J .top - i)) (edge [] (nthCell n qs ss d) e)
-    hits i h l d e m b = hit-is i h l (flags i h l) d e m b
+    hits i h l d e m b = hit-is i h l (flags-red i h l) d e m b
