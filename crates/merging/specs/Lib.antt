@@ -4,3 +4,4 @@ pub mod Limits
 pub mod Totals
 pub mod Covered
 pub mod Result
+pub mod Run

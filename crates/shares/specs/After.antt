@@ -1,8 +1,8 @@
 -- The statuses after the step, from the flags and edges of the old table.
 --   Chosen rs        a row of rs that passes a test and has an edge
 --   WillHave k e     an old cell of level k that will be red and has the edge e
--- Laws: chosen (the edges of chosen rows), will and have (the edges of the new red cells), new-held (the edges of the red cells of a new level
--- are these), new-closed-at (each new level is closed), new-status (a new status by these edges).
+-- Laws: chosen (the edges of chosen rows), will and have (the edges of the new red cells), new-held (the edges of the red cells of a new
+-- level are these), new-closed-at (each new level is closed), new-status (a new status by these edges).
 use mathlib.Core.Path.{_≡_, refl, sym, _∙_, ap, ap₂, subst}
 use mathlib.Core.Logic.{_⊎_, inl, inr, ⊎-elim}
 use mathlib.Core.Bool.{Bool, true, false}
