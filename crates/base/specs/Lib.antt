@@ -8,3 +8,4 @@ pub mod Refuse
 pub mod Lent
 pub mod Limits
 pub mod Integers
+pub mod Range

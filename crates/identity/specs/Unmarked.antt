@@ -40,7 +40,7 @@ start-own n qs =
     omega (arith, upto-at (length qs) j l))
 
 -- the statuses of closed levels are the table, as far as it has cells
-statuses-all : (h k : ℕ) (cs : List (Cell Point)) (rest : List ℕ) → T (allb closedb (levels h k cs rest))
+pub statuses-all : (h k : ℕ) (cs : List (Cell Point)) (rest : List ℕ) → T (allb closedb (levels h k cs rest))
     → flatten (statusLists (levels h k cs rest)) ≡ take (length (cellsOf (levels h k cs rest))) rest
 unfolding levels allb closedb cellsOf flatMap flatten
 statuses-all zero k cs rest u = refl

@@ -110,7 +110,7 @@ levels-next (suc (suc h)) k (c ∷ cs) rs zero l = cells-first h (k + length (c 
 levels-next (suc (suc h)) k (c ∷ cs) rs (suc j) l =
     levels-next (suc h) (k + length (c ∷ cs)) (next k (c ∷ cs) (take (length (c ∷ cs)) rs)) (drop (length (c ∷ cs)) rs) j (omega arith)
 
-first-first : (h k : ℕ) (cs : List (Cell Point)) (rs : List ℕ) → 0 < length (levels h k cs rs) → getD (levels h k cs rs) 0 noLevel .first ≡ k
+pub first-first : (h k : ℕ) (cs : List (Cell Point)) (rs : List ℕ) → 0 < length (levels h k cs rs) → getD (levels h k cs rs) 0 noLevel .first ≡ k
 unfolding levels
 first-first zero k cs rs l = absurd (omega arith)
 first-first (suc h) k [] rs l = absurd (omega arith)

@@ -1,8 +1,8 @@
 -- A cell that will be red is met in the step's table.
 --   Red n qs ss ms j t     the old cell t of level j will be red
 --   Stays n qs ss ms j t   the old cell t of level j is a cell of the new level j, and red there
--- Laws: new-red-kept (a new red cell is no leaf marked 2), parent and parent-stays (the parent of a new red cell is one), stays
--- (the theorem).
+-- Laws: new-red-kept (a new red cell is no leaf marked 2), red-stays and not-deleted (a red cell with a child that is not a leaf marked 2
+-- stays red), up-rows (the rows one level up), parent and parent-stays (the parent of a new red cell is one), stays (the theorem).
 use mathlib.Core.Path.{_≡_, refl, sym, _∙_, ap}
 use mathlib.Core.Logic.{_≢_, _⊎_, inl, inr}
 use mathlib.Core.Bool.{Bool, true, false, _&&_, and-false}
@@ -53,11 +53,11 @@ new-red-kept up es r n = go (eqb (r .status) 0) refl
     go false q = refl
 
 -- so the family of its parent is not deleted
-red-stays : (up : List Row) (es : List (Point × Point)) (r : Row) → redb (r .status) ≡ true → deletedb (kids up (r .number)) es ≡ false → newRedb up es r ≡ true
+pub red-stays : (up : List Row) (es : List (Point × Point)) (r : Row) → redb (r .status) ≡ true → deletedb (kids up (r .number)) es ≡ false → newRedb up es r ≡ true
 unfolding redAfterb
 red-stays up es r e d = rw (e, redAfterb) (rw d)
 
-not-deleted : (up : List Row) (es : List (Point × Point)) (k t : ℕ) → t < length up → getD up t noRow .cell .parent ≡ k
+pub not-deleted : (up : List Row) (es : List (Point × Point)) (k t : ℕ) → t < length up → getD up t noRow .cell .parent ≡ k
     → (eqb (getD up t noRow .status) 0 && eqb (getD up t noRow .mark) 2) ≡ false → deletedb (kids up k) es ≡ false
 unfolding deletedb kids
 not-deleted up es k t h p q =
@@ -84,7 +84,7 @@ module _ (n : ℕ) (qs : List (List ℕ)) (ss ms : List ℕ) where
   abbrev pub Red : ℕ → ℕ → Type 0
   Red j t = newRedAt ms (oldAbove n qs ss j) (oldAt n qs ss j) t ≡ true
 
-  up-rows : (j : ℕ) → rowsUp (oldAbove n qs ss j) ms ≡ rows (oldAt n qs ss (suc j)) ms
+  pub up-rows : (j : ℕ) → rowsUp (oldAbove n qs ss j) ms ≡ rows (oldAt n qs ss (suc j)) ms
   up-rows j =
       rows-up (oldAbove n qs ss j) ms
       ∙ ap (λ (l : Level). rows l ms) (getD-drop (suc j) (levelsOf n qs ss) 0 noLevel ∙ ap (λ (x : ℕ). getD (levelsOf n qs ss) x noLevel) (omega arith))

@@ -1,7 +1,7 @@
-use mathlib.Core.Path.{refl, sym, _∙_}
+use mathlib.Core.Path.{sym, _∙_}
 use native.Mathlib.Omega.{arith}
 use borrow.Author.Tests.{not-true, not-false}
-use Rattle.store.specs.Fetching.{Fetches, inside, part-small, store-short, bytes-short, header-bad, before-start, none-left, some-left}
+use Rattle.store.specs.Fetching.{inside, part-small, store-short, bytes-short, header-bad, before-start, none-left, some-left}
 use borrow.Author.Needs.{needs}
 use Rattle.mail.proofs.fetch.Statement.{statement}
 use Rattle.mail.proofs.fetch.Tie as tie

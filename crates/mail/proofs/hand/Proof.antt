@@ -1,10 +1,9 @@
 use borrow.Author.Needs.{needs}
-use Rattle.store.specs.Handing.{Hands, cells-few, ranges-of, hand-short, hand-header, hand-before, hand-bad, hand-again, hand-early}
-use Rattle.store.specs.Handing.{hand-done, hand-later, hand-taken}
+use Rattle.store.specs.Handing.{cells-few, ranges-of, hand-short, hand-header, hand-before, hand-bad, hand-again, hand-early, hand-done, hand-later, hand-taken}
 use lib.ListN.{getD}
 use Prim.Native.Nat.{_+_}
 use borrow.Author.Tests.{not-true, not-false}
-use mathlib.Core.Path.{refl, sym, _∙_}
+use mathlib.Core.Path.{sym, _∙_}
 use native.Mathlib.Omega.{arith}
 use Rattle.mail.proofs.hand.Statement.{statement}
 use Rattle.mail.proofs.hand.Tie as tie
