@@ -12,5 +12,5 @@ for program in c c++ vectors; do "$work/$program"; done
 # A stack of YD_STACK bytes is enough; on a small one the program ends by a signal, as the header says.
 (ulimit -s 1024 && "$work/c")
 status=0
-(ulimit -c 0 -s 128 && "$work/c") >"$work/out" 2>&1 || status=$?
+bash -c 'ulimit -c 0 -s 128; "$0"; exit $?' "$work/c" >"$work/out" 2>&1 || status=$?
 [ "$status" = 139 ] || { echo "on a small stack the status is $status, and not 139" >&2; exit 1; }
