@@ -69,7 +69,7 @@ assert yd.write(yd.Job(*rows, job.steps)) == archive
 raised(ValueError, yd.examine_mesh, [(0, 0), (16, 0, 0, 0)], [])
 raised(ValueError, yd.examine_mesh, rows[0], [(0, 1, 2)])
 
-# Corners matched by weights: two bars of cells, random steps. Matched corners have equal positions, and which are matched is told by them too, since no
+# Corners matched by weights: a bar of cells, random steps. Matched corners have equal positions, and which are matched is told by them too, since no
 # two corners of this mesh lie at one place.
 assert layout.weights()[4] == ((0, 512), (1, 512))
 assert yd.match_corners(yd.Layout(*A, b), layout) == list(range(10)) + 6 * [None]
@@ -94,6 +94,7 @@ for _ in range(60):
         assert refused.number in (8, 9)
         continue
     new = yd.Layout(bar, bar_cells, status)
+    assert all(a == b == k if k < len(bar) else a < b < k for k, (a, b) in enumerate(new.ends))
     match = yd.match_corners(old, new)
     places = {old.position(k): k for k in range(len(old.ends))}
     assert match == [places.get(new.position(k)) for k in range(len(new.ends))]
