@@ -21,6 +21,12 @@ def raised(kind, function, *arguments):
     raise AssertionError("%s was not raised" % kind.__name__)
 
 
+def positive(points, cell):
+    """Whether a tetrahedron's volume is."""
+    (a, b, c), (d, e, f), (g, h, i) = ([x - y for x, y in zip(points[k], points[cell[0]])] for k in cell[1:])
+    return a * (e * i - f * h) - b * (d * i - f * g) + c * (d * h - e * g) > 0
+
+
 # The cases of document 01.
 assert yd.cut(1) == [(0, 1, 7, 9), (1, 4, 7, 9)]
 yd.examine_mesh(*A)
@@ -119,14 +125,11 @@ with tempfile.TemporaryDirectory() as empty:
         file.write(archive)
     from picture import read_vtk
 
-    volume = lambda points, cell: (lambda a, b, c: a[0] * (b[1] * c[2] - b[2] * c[1]) - a[1] * (b[0] * c[2] - b[2] * c[0]) + a[2] * (b[0] * c[1] - b[1] * c[0]))(
-        *([x - y for x, y in zip(points[k], points[cell[0]])] for k in cell[1:])
-    )
     for words in [], ["--positive"]:
         assert run(["vtk.py", *words, mesh, out]).returncode == 0
         with open(out) as file:
             points, tetrahedra, data = read_vtk(file.read())
-        signs = {volume(points, cell) > 0 for cell in tetrahedra}
+        signs = {positive(points, cell) for cell in tetrahedra}
         assert signs == ({True} if words else {True, False})
         assert len(tetrahedra) == c.count(0) and set(data) == {"level", "status", "cell", "parent_status", "ancestor"}
         assert data["ancestor"] == [yd.ancestor(*A, c, k)[0] for k in data["cell"]]
