@@ -91,7 +91,6 @@ def archive_records(archive):
 def text_records(text):
     """The records of a text, in any order; an E is put at the end where there is none."""
     last = None
-    number = 0
     for number, line in enumerate(text.split("\n"), 1):
         words = line.split("#")[0].split()
         if words:
@@ -101,7 +100,7 @@ def text_records(text):
                 raise Fault(str(fault), number) from None
             yield last
     if last is None or last.letter != "E":
-        yield Record(number, "E", ())
+        yield Record(last.at if last else 1, "E", ())
 
 
 def _words(words):
