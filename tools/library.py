@@ -6,9 +6,8 @@ import sys
 sys.path.append(os.path.join(os.path.dirname(os.path.abspath(__file__)), "..", "bindings", "python"))
 try:
     import yuccadice as yd
-except (ImportError, OSError) as error:
-    print(f"{os.path.basename(sys.argv[0])}: no library: {error}", file=sys.stderr)
-    print("'rt staticlib yuccadice' and then bindings/build-shared make it; YUCCADICE_LIB_DIR names another place of it", file=sys.stderr)
+except (ImportError, OSError) as error:  # the message says how to make it
+    print(f"{os.path.basename(sys.argv[0])}: {error}", file=sys.stderr)
     sys.exit(2)
 
 
