@@ -139,9 +139,8 @@ def decoded(data):
 
 
 def is_text(data):
-    """Whether bytes are a text: an archive has zeros, or bytes of 255 that no UTF-8 has, in its first position."""
+    """Whether bytes are a text: UTF-8 without control characters. Positions of an archive have zeros, or bytes of 255 that no UTF-8 has."""
     try:
-        text = decoded(data)
+        return not re.search("[\0-\x08\x0b\x0e-\x1f]", decoded(data))
     except Fault:
         return False
-    return all(c.isprintable() or c in "\t\n\r\f" for c in text)
