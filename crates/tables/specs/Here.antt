@@ -31,9 +31,6 @@ Child n c = c .regular ≡ false → c .parent < n
 pub record Mids (xs ys heads links : List ℕ) (m last : ℕ) : Type 0 where
   pub edges : Edges xs ys heads links 0 m
   pub few : m ≤ last
-  pub in-xs : 4096 ≤ length xs
-  pub in-ys : 4096 ≤ length ys
-  pub in-links : 4096 ≤ length links
 
 module _ (n : ℕ) (qs : List (List ℕ)) (ss : List ℕ) (j first last : ℕ) (rows : List ℕ) where
   module _ (xs ys heads links : List ℕ) (k : ℕ) (ps qs′ heads′ links′ : List ℕ) (m : ℕ) where
@@ -51,7 +48,6 @@ module _ (n : ℕ) (qs : List (List ℕ)) (ss : List ℕ) (j first last : ℕ) (
       pub deep : T (allb (λ c. eqb (length (c .path)) (suc j)) cells)
       pub children : All (Child last) (cellsOf (reached .done) ++ cells)
       pub table : take (8 * last) rows ≡ flatMap rowOf (cellsIn corners (cellsOf (reached .done) ++ cells))
-      pub long : 32768 ≤ length rows
       pub red : Lists (listed xs ys 0 k) (redEdges 0 (cellsIn corners (cellsOf (reached .done))) (take first ss))
       pub reds : Reds xs ys heads links k last
       pub mids : Mids ps qs′ heads′ links′ m last
@@ -73,7 +69,6 @@ module _ (n : ℕ) (qs : List (List ℕ)) (ss : List ℕ) (j last : ℕ) (rows :
       pub numbered : Corners n corners (listed ps qs′ 0 m)
       pub children : All (Child last) all
       pub table : take (8 * last) rows ≡ flatMap rowOf (cellsIn corners all)
-      pub long : 32768 ≤ length rows
       pub red : Lists (listed xs ys 0 k) (redEdges 0 (cellsIn corners all) (take last ss))
       pub reds : Reds xs ys heads links k last
       pub mids : Mids ps qs′ heads′ links′ m last
