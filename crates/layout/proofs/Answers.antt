@@ -11,9 +11,9 @@ use Rattle.base.specs.Fours.{fours}
 use Rattle.base.specs.declared.Answer.the-variants.{Accepted, Refused}
 use Rattle.mesh.specs.Coarse.{cornerCount, meshAnswer}
 use Rattle.mesh.specs.Table.{soundb}
-use Rattle.base.specs.Refuse.{codeOf, answerOf, andThen, answer-refused, answer-none}
-use Rattle.mesh.specs.Answers.{tableAnswer}
-use Rattle.layout.specs.Calls.{cellsIn, lentb, layoutAnswer, ancestorAnswer, countsAnswer}
+use Rattle.tables.specs.Sound.{unlessSound}
+use Rattle.layout.specs.Opened.{codeOf, answerOf}
+use Rattle.layout.specs.Calls.{andThen, tableAnswer, cellsIn, lentb, layoutAnswer, ancestorAnswer, countsAnswer}
 use Rattle.layout.proofs.Accepted.{mesh-code, mesh-passed}
 
 module _ (ps : List ℤ) (ts ss : List ℕ) where
@@ -31,6 +31,23 @@ module _ (ps : List ℤ) (ts ss : List ℕ) where
   pub table-sound : codeOf (meshAnswer ps ts) ≡ 0 → soundb (cornerCount ps) (fours ts) ss ≡ true → tableAnswer ps ts ss ≡ answerOf 0
   unfolding tableAnswer andThen answerOf
   table-sound e f = rw (mesh-passed ps ts e .accepted, f)
+
+  -- a table that was examined
+  pub table-examined : (k : ℕ) → codeOf (meshAnswer ps ts) ≡ 0 → k ≡ unlessSound (soundb (cornerCount ps) (fours ts) ss) → tableAnswer ps ts ss ≡ answerOf k
+  unfolding unlessSound
+  table-examined k e = go (soundb (cornerCount ps) (fours ts) ss) refl
+    where
+      go : (b : Bool) → soundb (cornerCount ps) (fours ts) ss ≡ b → k ≡ unlessSound b → tableAnswer ps ts ss ≡ answerOf k
+      go true s u = rw u (table-sound e s)
+      go false s u = rw u (table-unsound e s)
+
+  pub examined-sound : (k : ℕ) → k ≡ unlessSound (soundb (cornerCount ps) (fours ts) ss) → k ≡ 0 → T (soundb (cornerCount ps) (fours ts) ss)
+  unfolding unlessSound
+  examined-sound k = go (soundb (cornerCount ps) (fours ts) ss)
+    where
+      go : (b : Bool) → k ≡ unlessSound b → k ≡ 0 → T b
+      go true u z = tt
+      go false u z = absurd (omega arith)
 
   -- a call that is lent tables
   module _ (table ends : List ℕ) (sums : List ℤ) where

@@ -47,48 +47,40 @@ written : {A : Type 0} (old new a b : List A) (k : ℕ) → new ≡ a ++ drop k 
 written old new a b k e f l = e ∙ rw (← f, l)
 
 module _ (ps : List ℤ) (ts ss rows xs ys : List ℕ) (cells levels m : ℕ) (f : Fits ps ts ss rows xs ys cells levels m) where
-  in-xs : m ≤ length xs
-  in-xs = omega (arith, f .sound .most, f .sound .few, f .tables .in-xs)
-
-  in-ys : m ≤ length ys
-  in-ys = omega (arith, f .sound .most, f .sound .few, f .tables .in-ys)
-
-  pub fits-rows : 8 * cells ≤ length rows
-  fits-rows = omega (arith, f .sound .few, f .tables .in-rows)
-
   pub fits-few : cornerCount ps + m ≤ 4608
   fits-few = omega (arith, f .sound .most, f .sound .few, f .mesh .corners)
 
   pub fits-corners : length (cornersIn ps ts ss) ≡ cornerCount ps + m
   fits-corners = corner-count (cornerCount ps) (cornersIn ps ts ss) xs ys m (f .sound .corners)
 
-  pub fits-ends : Ends (cornerCount ps) xs ys m
-  fits-ends = ends (cornerCount ps) (cornersIn ps ts ss) xs ys m (f .sound .corners) in-xs in-ys
-
-  fits-numbered : CornersNumbered (cornerCount ps) xs ys m (cornersIn ps ts ss)
-  fits-numbered = numbered (cornerCount ps) (cornersIn ps ts ss) xs ys m (f .sound .corners) in-xs in-ys
+  pub fits-ends : m ≤ length xs → m ≤ length ys → Ends (cornerCount ps) xs ys m
+  fits-ends = ends (cornerCount ps) (cornersIn ps ts ss) xs ys m (f .sound .corners)
 
   pub fits-small : Smalls 500000 ps
   fits-small = positions-small ps (f .positions)
 
   -- what a layout leaves
-  pub table-after : (old new : List ℕ) → new ≡ take (8 * cells) rows ++ drop (8 * cells) old
-      → new ≡ cellTable (cornersIn ps ts ss) (cellsIn ps ts ss) ++ drop (length (cellTable (cornersIn ps ts ss) (cellsIn ps ts ss))) old
-  table-after old new e = written old new _ _ (8 * cells) e (f .sound .table) (length-take-le (8 * cells) rows fits-rows)
+  module _ (in-rows : 8 * cells ≤ length rows) (in-xs : m ≤ length xs) (in-ys : m ≤ length ys) where
+    fits-numbered : Numbered (cornerCount ps) xs ys m (cornersIn ps ts ss)
+    fits-numbered = numbered (cornerCount ps) (cornersIn ps ts ss) xs ys m (f .sound .corners) in-xs in-ys
 
-  pub ends-after : (old new : List ℕ) → new ≡ endNumbers (cornerCount ps) xs ys m ++ drop (2 * (cornerCount ps + m)) old
-      → new ≡ endTable (cornersIn ps ts ss) ++ drop (length (endTable (cornersIn ps ts ss))) old
-  unfolding endNumbers
-  ends-after old new e =
-      written old new _ _ (2 * (cornerCount ps + m)) e (sym (ends-are (cornerCount ps) xs ys m (cornersIn ps ts ss) fits-numbered))
-      (length-addEnds (coarseEnds (cornerCount ps)) xs ys m ∙ rw (length-coarseEnds (cornerCount ps)) (omega arith))
+    pub table-after : (old new : List ℕ) → new ≡ take (8 * cells) rows ++ drop (8 * cells) old
+        → new ≡ cellTable (cornersIn ps ts ss) (cellsIn ps ts ss) ++ drop (length (cellTable (cornersIn ps ts ss) (cellsIn ps ts ss))) old
+    table-after old new e = written old new _ _ (8 * cells) e (f .sound .table) (length-take-le (8 * cells) rows in-rows)
 
-  pub sums-after : (old new : List ℤ) → new ≡ sumNumbers ps (cornerCount ps) xs ys m ++ drop (3 * (cornerCount ps + m)) old
-      → new ≡ sumTable ps (cornersIn ps ts ss) ++ drop (length (sumTable ps (cornersIn ps ts ss))) old
-  unfolding sumNumbers
-  sums-after old new e =
-      written old new _ _ (3 * (cornerCount ps + m)) e (sym (sums-are (cornerCount ps) xs ys m (cornersIn ps ts ss) fits-numbered ps))
-      (length-addSums (coarseSums ps (cornerCount ps)) xs ys m ∙ rw (length-coarseSums ps (cornerCount ps)) (omega arith))
+    pub ends-after : (old new : List ℕ) → new ≡ endNumbers (cornerCount ps) xs ys m ++ drop (2 * (cornerCount ps + m)) old
+        → new ≡ endTable (cornersIn ps ts ss) ++ drop (length (endTable (cornersIn ps ts ss))) old
+    unfolding endNumbers
+    ends-after old new e =
+        written old new _ _ (2 * (cornerCount ps + m)) e (sym (ends-are (cornerCount ps) xs ys m (cornersIn ps ts ss) fits-numbered))
+        (length-addEnds (coarseEnds (cornerCount ps)) xs ys m ∙ rw (length-coarseEnds (cornerCount ps)) (omega arith))
+
+    pub sums-after : (old new : List ℤ) → new ≡ sumNumbers ps (cornerCount ps) xs ys m ++ drop (3 * (cornerCount ps + m)) old
+        → new ≡ sumTable ps (cornersIn ps ts ss) ++ drop (length (sumTable ps (cornersIn ps ts ss))) old
+    unfolding sumNumbers
+    sums-after old new e =
+        written old new _ _ (3 * (cornerCount ps + m)) e (sym (sums-are (cornerCount ps) xs ys m (cornersIn ps ts ss) fits-numbered ps))
+        (length-addSums (coarseSums ps (cornerCount ps)) xs ys m ∙ rw (length-coarseSums ps (cornerCount ps)) (omega arith))
 
   -- a cell's way up
   module _ (c : ℕ) (h : c < cells) where

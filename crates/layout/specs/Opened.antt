@@ -1,7 +1,6 @@
 -- What opening a table leaves. A refusal is a number, and 0 stands for none.
 --   codeOf a      the number of an answer
 --   answerOf k    the answer of a number
---   Sized ..      the lengths of the program's tables
 --   Fits ..       an accepted mesh and a sound table: the rows of its cells, and the ends of its new corners
 --   Opened ..     the answer, and where there is no refusal the rest
 use mathlib.Core.Path.{_≡_}
@@ -17,16 +16,10 @@ use Rattle.mesh.specs.Table.{soundb}
 use Rattle.mesh.specs.Answers.{tableAnswer}
 use Rattle.base.specs.Refuse.{answerOf}
 
-pub record Sized (rows xs ys : List ℕ) : Type 0 where
-  pub in-rows : 32768 ≤ length rows
-  pub in-xs : 4096 ≤ length xs
-  pub in-ys : 4096 ≤ length ys
-
 pub record Fits (ps : List ℤ) (ts ss rows xs ys : List ℕ) (cells levels m : ℕ) : Type 0 where
   pub mesh : Mesh (cornerCount ps) ts
   pub positions : T (positionsb ps)
   pub table : T (soundb (cornerCount ps) (fours ts) ss)
-  pub tables : Sized rows xs ys
   pub sound : Sound (cornerCount ps) (fours ts) ss rows xs ys cells levels m
 
 pub record Opened (ps : List ℤ) (ts ss rows xs ys : List ℕ) (refusal cells levels m : ℕ) : Type 0 where

@@ -1,17 +1,19 @@
 // The calls on a status table over a coarse mesh: examined, laid out, a cell's ancestor, the counts of every level.
 use base::Answer;
 use ancestors::Ancestor;
+use tables::Outcome;
 ghost use mathlib.Core.Path.{_≡_};
-ghost use lib.ListN.{length, getD};
-ghost use Rattle.base.specs.Lent.{was, is};
+ghost use mathlib.Core.List.{_++_};
+ghost use Prim.Native.Nat.{_+_, _*_, _≤_};
+ghost use lib.ListN.{length, take, drop, getD};
 ghost use Rattle.mesh.specs.Layout.{cellTable, endTable, sumTable};
 ghost use Rattle.mesh.specs.Counts.{countTable};
-ghost use Rattle.ancestors.specs.Linked.{ancestorOf};
-ghost use Rattle.mesh.specs.Cells.{noCell};
-ghost use Rattle.base.specs.Refuse.{heldAfter};
-ghost use Rattle.layout.specs.Opened.{Sized, Opened};
-ghost use Rattle.mesh.specs.Answers.{tableAnswer};
-ghost use Rattle.layout.specs.Calls.{levelsIn, cellsIn, cornersIn, lentb, layoutAnswer, sizesOf, laidOf, ancestorAnswer, ancestryOf, countsAnswer, countedOf};
+ghost use Rattle.corners.specs.Ends.{Ends, endNumbers};
+ghost use Rattle.corners.specs.Sums.{Smalls, sumNumbers};
+ghost use Rattle.ancestors.specs.Climb.{Upward, climbFrom};
+ghost use Rattle.ancestors.specs.Linked.{ancestorOf, noCell};
+ghost use Rattle.layout.specs.Opened.{codeOf, Opened};
+ghost use Rattle.layout.specs.Calls.{tableAnswer, heldAfter, levelsIn, cellsIn, cornersIn, lentb, layoutAnswer, sizesOf, laidOf, ancestorAnswer, ancestryOf, countsAnswer, countedOf};
 
 // How many cells, corners and levels a table has.
 pub struct Sizes {
@@ -35,51 +37,32 @@ pub enum Counted {
     Refused(u8),
 }
 
-// What opening a table finds: the refusal, 0 where there is none, and then how many cells, levels and new corners there are.
-pub struct Found {
-    pub refusal: u8,
-    pub cells: usize,
-    pub levels: usize,
-    pub mids: usize,
-}
-
-fn refused(refusal: u8) -> Found
-    ensures { λ r. ⌜ r .refusal ≡ refusal ⌝ }
+// The number of an answer, 0 where it is accepted.
+pub fn code(answer: Answer) -> u8
+    ensures { λ r. ⌜ r ≡ codeOf answer ⌝ }
 {
-    Found {
-        refusal,
-        cells: 0,
-        levels: 0,
-        mids: 0,
+    match answer {
+        Answer::Accepted => 0,
+        Answer::Refused(k) => k,
     }
 }
 
-// Examines a mesh and a table over it.
+// Examines a mesh and a table over it. Refusals 1 to 6.
 pub fn open(
     positions: &[i32],
     cells: &[u16],
     status: &[u8],
-    rows: &mut [u16],
-    xs: &mut [u32],
-    ys: &mut [u32],
-) -> Found
-    requires { ⌜ Sized (now rows) (now xs) (now ys) ⌝ }
-    ensures { λ r. ⌜ Opened (was positions) (was cells) (was status) (is rows) (is xs) (is ys) (r .refusal) (r .cells) (r .levels) (r .mids) ⌝ }
+    rows: &mut [u16; 32768],
+    xs: &mut [u32; 4096],
+    ys: &mut [u32; 4096],
+) -> Outcome
+    ensures { λ r. ⌜ Opened (now (positions .entry)) (now (cells .entry)) (now (status .entry)) (now (rows .exit)) (now (xs .exit)) (now (ys .exit)) (r .refusal) (r .cells) (r .levels) (r .mids) ⌝ }
 {
     let refusal = base::code(coarse::examine_mesh(positions, cells));
     if refusal != 0 {
-        return refused(refusal);
+        return tables::refused(refusal);
     }
-    let b = tables::examine(cells, status, positions.len() / 3, rows, xs, ys);
-    if !b.ok {
-        return refused(6);
-    }
-    Found {
-        refusal: 0,
-        cells: b.cells,
-        levels: b.levels,
-        mids: b.mids,
-    }
+    tables::examine(cells, status, positions.len() / 3, rows, xs, ys)
 }
 
 // Whether a mesh and a table over it are accepted, and if not, why: refusals 1 to 6.
@@ -107,6 +90,43 @@ fn lent(table: &[u16], ends: &[u16], sums: &[i32]) -> bool
         return false;
     }
     sums.len() >= 49152
+}
+
+// Copies the first n numbers.
+pub fn copy(from: &[u16], n: usize, to: &mut [u16])
+    requires { ⌜ (n ≤ length (now from)) × (n ≤ length (now to)) ⌝ }
+    ensures { λ r. ⌜ now (to .exit) ≡ take n (now (from .entry)) ++ drop n (now (to .entry)) ⌝ }
+{
+    for i in 0..n {
+        to[i] = from[i];
+    }
+}
+
+// Writes the rows of a table, the ends and the sums of its corners.
+fn write_out(
+    positions: &[i32],
+    n: usize,
+    rows: &[u16; 32768],
+    xs: &[u32; 4096],
+    ys: &[u32; 4096],
+    cells: usize,
+    m: usize,
+    table: &mut [u16],
+    ends: &mut [u16],
+    sums: &mut [i32],
+)
+    requires { ⌜ (cells ≤ 4096) × (m ≤ cells) × (n ≤ 512) × (3 * n ≤ length (now positions)) ⌝ }
+    requires { ⌜ Smalls 500000 (now positions) ⌝ }
+    requires { ⌜ (m ≤ length (now xs) → m ≤ length (now ys) → Ends n (now xs) (now ys) m) ⌝ }
+    requires { ⌜ (32768 ≤ length (now table)) × (32768 ≤ length (now ends)) × (49152 ≤ length (now sums)) ⌝ }
+    ensures { λ r. ⌜ (8 * cells ≤ length (now (rows .entry))) × (m ≤ length (now (xs .entry))) × (m ≤ length (now (ys .entry))) ⌝ }
+    ensures { λ r. ⌜ now (table .exit) ≡ take (8 * cells) (now (rows .entry)) ++ drop (8 * cells) (now (table .entry)) ⌝ }
+    ensures { λ r. ⌜ now (ends .exit) ≡ endNumbers n (now (xs .entry)) (now (ys .entry)) m ++ drop (2 * (n + m)) (now (ends .entry)) ⌝ }
+    ensures { λ r. ⌜ now (sums .exit) ≡ sumNumbers (now (positions .entry)) n (now (xs .entry)) (now (ys .entry)) m ++ drop (3 * (n + m)) (now (sums .entry)) ⌝ }
+{
+    copy(rows, 8 * cells, table);
+    corners::fill_ends(xs, ys, n, m, ends);
+    corners::fill_sums(positions, xs, ys, n, m, sums);
 }
 
 // Lays a table out: eight numbers a cell, the two ends and the three weighted sums of each corner. Refusals 15 and 1 to 6.
@@ -145,14 +165,31 @@ pub fn lay_out(
         return Laid::Refused(f.refusal);
     }
     let n = positions.len() / 3;
-    base::copy_numbers(&rows, 8 * f.cells, table);
-    corners::fill_ends(&xs, &ys, n, f.mids, ends);
-    corners::fill_sums(positions, &xs, &ys, n, f.mids, sums);
+    write_out(
+        positions,
+        n,
+        &rows,
+        &xs,
+        &ys,
+        f.cells,
+        f.mids,
+        table,
+        ends,
+        sums,
+    );
     Laid::Out(Sizes {
         cells: f.cells,
         corners: n + f.mids,
         levels: f.levels,
     })
+}
+
+// A cell's coarse ancestor and level, by the rows.
+fn climb(rows: &[u16; 32768], cell: usize) -> Ancestor
+    requires { ⌜ Upward (now rows) (cell + 1) ⌝ }
+    ensures { λ r. ⌜ r ≡ climbFrom (now (rows .entry)) cell cell ⌝ }
+{
+    ancestors::climb(rows, cell)
 }
 
 // A cell's coarse ancestor and level. Refusals 1 to 6, then 7 where there is no such cell.
@@ -171,7 +208,7 @@ pub fn ancestor(positions: &[i32], cells: &[u16], status: &[u8], cell: usize) ->
     if cell >= f.cells {
         return Ancestry::Refused(7);
     }
-    Ancestry::Under(ancestors::climb(&rows, cell))
+    Ancestry::Under(climb(&rows, cell))
 }
 
 // The counts of every level, four numbers each: cells, red, green, leaf. Refusals 15 and 1 to 6.

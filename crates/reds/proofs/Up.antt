@@ -58,9 +58,6 @@ level-up t ss ms ks red xs ys heads links first last o l =
           };
       children = refl;
       keys = l .keys;
-      in-xs = l .in-xs;
-      in-ys = l .in-ys;
-      in-links = l .in-links;
     }
 
 module _ (t ss ms ks : List ℕ) (h first last : ℕ) (red red₁ xs₁ ys₁ heads₁ links₁ : List ℕ) (from₁ n₁ : ℕ) (o : Old t ss ms ks) (s : Span ss red first last)

@@ -5,7 +5,6 @@
 --   OneLevel ..          the same where they are a level, and an edge table with nothing in it
 --   Above ..             what treating h levels from this one on leaves
 --   Marked ..            a sound table over an accepted mesh of n corners with its rows, and marks
---   Room ..              the lengths of the work tables
 use mathlib.Core.Path.{_≡_}
 use mathlib.Core.List.{List, _++_}
 use Prim.Native.Nat.{ℕ, suc, _+_, _*_, _-_, _≤_, _<_}
@@ -33,14 +32,10 @@ pub record Span (ss red : List ℕ) (first last : ℕ) : Type 0 where
   pub inside : last ≤ length ss
   pub room : length ss ≤ length red
 
--- room for six edges of each of 4,096 cells
 pub record OneLevel (ss ks red xs ys heads links : List ℕ) (first last : ℕ) : Type 0 where
   pub span : Span ss red first last
   pub children : last ≡ getD ks first 0
   pub keys : Keys xs ys heads links 0
-  pub in-xs : 24576 ≤ length xs
-  pub in-ys : 24576 ≤ length ys
-  pub in-links : 24576 ≤ length links
 
 pub record Above (t ss ms ks : List ℕ) (h first last : ℕ) (red red′ xs′ ys′ heads′ links′ : List ℕ) (from n : ℕ) : Type 0 where
   pub flags : red′ ≡ take first red ++ (flagsUp t ss ms ks h first last ++ drop (first + length (flagsUp t ss ms ks h first last)) red)
@@ -55,9 +50,3 @@ pub record Marked (n : ℕ) (mesh rows ss ms ks red : List ℕ) : Type 0 where
   pub marks : length ms ≡ length ss
   pub firsts : take (suc (length ss)) ks ≡ firstChildren (length (fours mesh)) ss
   pub room : length ss ≤ length red
-
-pub record Room (xs ys heads links : List ℕ) : Type 0 where
-  pub in-xs : 24576 ≤ length xs
-  pub in-ys : 24576 ≤ length ys
-  pub in-heads : 4096 ≤ length heads
-  pub in-links : 24576 ≤ length links

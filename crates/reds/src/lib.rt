@@ -12,7 +12,7 @@ ghost use Rattle.edges.specs.Table.{Table};
 ghost use Rattle.closure.specs.Ready.{Looks};
 ghost use Rattle.lineage.specs.Olds.{flagOf, flagTable};
 ghost use Rattle.reds.specs.Flags.{range, firstChildren, listedb, idleb, touchedb, redAtb, flagsAt, pulledb};
-ghost use Rattle.reds.specs.Old.{Old, Span, OneLevel, Above, Marked, Room};
+ghost use Rattle.reds.specs.Old.{Old, Span, OneLevel, Above, Marked};
 
 // The number of the first child of each cell, and behind them the count of all cells.
 pub fn first_children(status: &[u8], coarse: usize, kids: &mut [u16])
@@ -249,7 +249,7 @@ struct Entries {
 }
 
 // Writes the flags of the level from first to last and of those above it, depth levels in all, and lists the edges of its new red
-// cells behind those of the levels above.
+// cells behind those of the levels above. The edge table has room for six edges of each of 4,096 cells.
 fn flag_up(
     rows: &[u16],
     status: &[u8],
@@ -259,10 +259,10 @@ fn flag_up(
     first: usize,
     last: usize,
     depth: usize,
-    xs: &mut [u32],
-    ys: &mut [u32],
-    heads: &mut [u16],
-    links: &mut [u16],
+    xs: &mut [u32; 24576],
+    ys: &mut [u32; 24576],
+    heads: &mut [u16; 4096],
+    links: &mut [u16; 24576],
 ) -> Entries
     requires { ⌜ Old (now rows) (now status) (now marks) (now kids) ⌝ }
     requires { ⌜ OneLevel (now status) (now kids) (now red) (now xs) (now ys) (now heads) (now links) first last ⌝ }
@@ -314,14 +314,13 @@ pub fn new_reds(
     marks: &[u8],
     kids: &[u16],
     red: &mut [u8],
-    xs: &mut [u32],
-    ys: &mut [u32],
-    heads: &mut [u16],
-    links: &mut [u16],
+    xs: &mut [u32; 24576],
+    ys: &mut [u32; 24576],
+    heads: &mut [u16; 4096],
+    links: &mut [u16; 24576],
 )
     requires { ⌜ Marked n (now mesh) (now rows) (now status) (now marks) (now kids) (now red) ⌝ }
-    requires { ⌜ Room (now xs) (now ys) (now heads) (now links) ⌝ }
-    ensures { λ r. ⌜ is red ≡ flagTable n (fours (was mesh)) (was status) (was marks) ++ drop (length (was status)) (was red) ⌝ }
+    ensures { λ r. ⌜ now (red .exit) ≡ flagTable n (fours (now (mesh .entry))) (now (status .entry)) (now (marks .entry)) ++ drop (length (now (status .entry))) (now (red .entry)) ⌝ }
 {
     pairs::clear(heads);
     flag_up(

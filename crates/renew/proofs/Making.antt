@@ -23,6 +23,7 @@ use Rattle.renew.proofs.Closing.{length-listed}
 
 module _ (fs old rows : List ℕ) (first last : ℕ) (table xs ys heads links : List ℕ) (n : ℕ) (r : Reds xs ys heads links n last)
     (up : first ≤ last) (few : last ≤ 4096) (in-old : last ≤ length old) (in-table : last ≤ length table) (in-rows : 8 * last ≤ length rows)
+    (in-xs : 3072 ≤ length xs) (in-ys : 3072 ≤ length ys) (in-links : 3072 ≤ length links)
     (table₁ : List ℕ) (reds : ℕ) (f : Flagged fs old first last table table₁ reds) where
   abbrev rs : List ℕ
   rs = ownFlags fs old rows first last
@@ -42,7 +43,7 @@ module _ (fs old rows : List ℕ) (first last : ℕ) (table xs ys heads links : 
     make-ready =
         let k : redCount (part table₁ first (last - first)) ≡ reds = rw flags-are (sym (f .count)) in
         let s : Space xs ys links n (6 * reds) =
-        record { small = omega (arith, r .few); in-xs = omega (arith, r .few, r .in-xs); in-ys = omega (arith, r .few, r .in-ys); in-links = omega (arith, r .few, r .in-links) } in
+        record { small = omega (arith, r .few); in-xs = omega (arith, r .few, in-xs); in-ys = omega (arith, r .few, in-ys); in-links = omega (arith, r .few, in-links) } in
         record { rows = in-rows; table = none-listed xs ys heads links n (r .keys); space = rw k s }
 
     module _ (xs₁ ys₁ heads₁ links₁ : List ℕ) (m : ℕ)

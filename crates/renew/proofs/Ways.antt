@@ -77,8 +77,7 @@ grows-same cells xs ys ss ts first k l at n m cells′ xs′ ys′ heads′ link
 module _ (n : ℕ) (qs : List (List ℕ)) (ss fs : List ℕ) (j first last : ℕ) (rows xs ys heads links : List ℕ) (k : ℕ) (ps ps′ heads′ links′ : List ℕ) (m : ℕ)
     (old table : List ℕ) (g : Going n qs ss fs j first last rows xs ys heads links k ps ps′ heads′ links′ m old table) (small : length fs ≤ 4096)
     (table₁ xs₁ ys₁ heads₁ links₁ : List ℕ) (k₁ size : ℕ) (d : Made fs old rows first last table xs ys k table₁ xs₁ ys₁ heads₁ links₁ k₁ size)
-    (lt : length table₁ ≡ length table) (lx : length xs₁ ≡ length xs) (ly : length ys₁ ≡ length ys) (ll : length links₁ ≡ length links)
-    (fit : last + size ≤ 4096) where
+    (in-old : 4096 ≤ length old) (in-table : 4096 ≤ length table) (fit : last + size ≤ 4096) where
   abbrev own : List ℕ
   own = turn.own n qs ss fs j first last rows xs ys heads links k ps ps′ heads′ links′ m old table g small
 
@@ -106,11 +105,11 @@ module _ (n : ℕ) (qs : List (List ℕ)) (ss fs : List ℕ) (j first last : ℕ
   pub part-table : part table₁ first (last - first) ≡ own
   part-table =
       let e : length own ≡ last - first = omega (arith, end-own) in
-      ap (λ (l : List ℕ). part l first (last - first)) table-is ∙ part-written table first own (last - first) e (omega (arith, end-own, g .in-table, g .here .few))
+      ap (λ (l : List ℕ). part l first (last - first)) table-is ∙ part-written table first own (last - first) e (omega (arith, end-own, in-table, g .here .few))
 
   front : take last table₁ ≡ take last all
   front =
-      let a : take (first + length own) (written table first own) ≡ take first table ++ own = take-written table first own (omega (arith, end-own, g .in-table, g .here .few)) in
+      let a : take (first + length own) (written table first own) ≡ take first table ++ own = take-written table first own (omega (arith, end-own, in-table, g .here .few)) in
       let b : take last (written table first own) ≡ take first table ++ own = ap (λ (x : ℕ). take x (written table first own)) (sym end-own) ∙ a in
       ap (take last) table-is ∙ b ∙ ap (λ (l : List ℕ). l ++ own) (g .front)
       ∙ sym (turn.front-own n qs ss fs j first last rows xs ys heads links k ps ps′ heads′ links′ m old table g small)
@@ -122,15 +121,12 @@ module _ (n : ℕ) (qs : List (List ℕ)) (ss fs : List ℕ) (j first last : ℕ
   reds =
       let r = g .here .reds in
       let lo : length (ownFlags fs old rows first last) ≡ last - first =
-      same.length-reds fs olds ∙ length-part old first (last - first) (omega (arith, g .here .end, g .here .few, g .in-old)) in
+      same.length-reds fs olds ∙ length-part old first (last - first) (omega (arith, g .here .end, g .here .few, in-old)) in
       let q = length-reds (ownCells fs old rows first last) (ownFlags fs old rows first last) (length-cells rows first (last - first) ∙ sym lo) in
       let c = turn.made-count n qs ss fs j first last rows xs ys heads links k ps ps′ heads′ links′ m old table g small in
       record {
         keys = whole .grown .edges .keys;
         few = omega (arith, whole .grown .most, q, c, red-sizes own, size-is, r .few);
-        in-xs = omega (arith, r .in-xs);
-        in-ys = omega (arith, r .in-ys);
-        in-links = omega (arith, r .in-links);
       }
 
   room-own : part (roomy all) first (last - first) ≡ own
@@ -184,28 +180,28 @@ module _ (n : ℕ) (qs : List (List ℕ)) (ss fs : List ℕ) (j first last : ℕ
   pub room-sizes : sizes (part table₁ first (last - first)) ≡ size
   room-sizes = ap sizes part-table ∙ sym size-is
 
-  pub room-next : n ≤ 512 → Roomy rows ps ps′ heads′ links′ table₁ first last last n m
-  room-next c =
+  pub room-next : n ≤ 512 → last ≤ length table₁ → 32768 ≤ length rows → 4096 ≤ length ps → 4096 ≤ length ps′ → 4096 ≤ length links′
+      → Roomy rows ps ps′ heads′ links′ table₁ first last last n m
+  room-next c inside long lp lq ll =
       let i = g .here .mids in
       record {
         rise = omega (arith, g .here .end);
         done = omega arith;
-        statuses = omega (arith, g .in-table);
+        statuses = inside;
         small = small-own;
-        in-cells = omega (arith, room-sizes, g .here .long);
+        in-cells = omega (arith, room-sizes);
         most = omega (arith, room-sizes);
         coarse = c;
         few = i .few;
         edges = i .edges;
-        in-xs = i .in-xs;
-        in-ys = i .in-ys;
-        in-links = i .in-links;
+        in-xs = lp;
+        in-ys = lq;
+        in-links = ll;
       }
 
-  module _ (more : size ≡ 0 → ⊥) (low : j ≡ 10 → ⊥) (rows₂ ps₂ ps₂′ heads₂ links₂ : List ℕ) (last₂ m₂ : ℕ)
+  module _ (more : size ≡ 0 → ⊥) (low : j ≡ 10 → ⊥) (long : 32768 ≤ length rows) (rows₂ ps₂ ps₂′ heads₂ links₂ : List ℕ) (last₂ m₂ : ℕ)
       (w : Grows rows ps ps′ table₁ first (last - first) (suc j) last n m rows₂ ps₂ ps₂′ heads₂ links₂ last₂ m₂)
-      (sr : length rows₂ ≡ length rows) (sx : length ps₂ ≡ length ps) (sy : length ps₂′ ≡ length ps′) (sl : length links₂ ≡ length links′)
-      (old₂ : List ℕ) (so : length old₂ ≡ length old) (o : old₂ ≡ written old last (oldsNext (length qs) ss (part table₁ first (last - first)) olds)) where
+      (old₂ : List ℕ) (o : old₂ ≡ written old last (oldsNext (length qs) ss (part table₁ first (last - first)) olds)) where
     grows : Grows rows ps ps′ (roomy all) first (last - first) (suc j) last n m rows₂ ps₂ ps₂′ heads₂ links₂ last₂ m₂
     grows = grows-same rows ps ps′ table₁ (roomy all) first (last - first) (suc j) last n m rows₂ ps₂ ps₂′ heads₂ links₂ last₂ m₂ (part-table ∙ sym room-own) w
 
@@ -225,8 +221,8 @@ module _ (n : ℕ) (qs : List (List ℕ)) (ss fs : List ℕ) (j first last : ℕ
         here-next n qs (roomy all) j first last rows xs ys heads links k ps ps′ heads′ links′ m (g .here)
         (turn.closed n qs ss fs j first last rows xs ys heads links k ps ps′ heads′ links′ m old table g small)
         (turn.inside n qs ss fs j first last rows xs ys heads links k ps ps′ heads′ links′ m old table g small)
-        (omega (arith, low, g .here .low)) (turn.room-fits n qs ss fs) in-room (omega (arith, ap sizes room-own, size-is, more))
-        rows₂ ps₂ ps₂′ heads₂ links₂ last₂ m₂ grows xs₁ ys₁ heads₁ links₁ k₁ grown reds-next sx sy sl sr
+        (omega (arith, low, g .here .low)) (turn.room-fits n qs ss fs) in-room (omega (arith, ap sizes room-own, size-is, more)) long
+        rows₂ ps₂ ps₂′ heads₂ links₂ last₂ m₂ grows xs₁ ys₁ heads₁ links₁ k₁ grown reds-next
 
     cells-up : here-up .cells ≡ next first (g .here .cells) own
     unfolding here-up
@@ -234,16 +230,16 @@ module _ (n : ℕ) (qs : List (List ℕ)) (ss fs : List ℕ) (j first last : ℕ
         cells-next n qs (roomy all) j first last rows xs ys heads links k ps ps′ heads′ links′ m (g .here)
         (turn.closed n qs ss fs j first last rows xs ys heads links k ps ps′ heads′ links′ m old table g small)
         (turn.inside n qs ss fs j first last rows xs ys heads links k ps ps′ heads′ links′ m old table g small)
-        (omega (arith, low, g .here .low)) (turn.room-fits n qs ss fs) in-room (omega (arith, ap sizes room-own, size-is, more))
-        rows₂ ps₂ ps₂′ heads₂ links₂ last₂ m₂ grows xs₁ ys₁ heads₁ links₁ k₁ grown reds-next sx sy sl sr
+        (omega (arith, low, g .here .low)) (turn.room-fits n qs ss fs) in-room (omega (arith, ap sizes room-own, size-is, more)) long
+        rows₂ ps₂ ps₂′ heads₂ links₂ last₂ m₂ grows xs₁ ys₁ heads₁ links₁ k₁ grown reds-next
         ∙ ap (next first (g .here .cells)) (turn.room-cells n qs ss fs j first last rows xs ys heads links k ps ps′ heads′ links′ m old table g small)
 
     olds-up : part old₂ last (last₂ - last) ≡ oldsNext (length qs) ss own olds
     olds-up =
-        let lo : length own ≡ length olds = omega (arith, end-own, length-part old first (last - first) (omega (arith, g .here .end, g .here .few, g .in-old))) in
+        let lo : length own ≡ length olds = omega (arith, end-own, length-part old first (last - first) (omega (arith, g .here .end, g .here .few, in-old))) in
         let e : length (oldsNext (length qs) ss own olds) ≡ last₂ - last = length-olds (length qs) ss own olds (sym lo) ∙ omega (arith, end-next) in
         let q : old₂ ≡ written old last (oldsNext (length qs) ss own olds) = o ∙ ap (λ (l : List ℕ). written old last (oldsNext (length qs) ss l olds)) part-table in
-        ap (λ (l : List ℕ). part l last (last₂ - last)) q ∙ part-written old last (oldsNext (length qs) ss own olds) (last₂ - last) e (omega (arith, g .in-old, g .here .few))
+        ap (λ (l : List ℕ). part l last (last₂ - last)) q ∙ part-written old last (oldsNext (length qs) ss own olds) (last₂ - last) e (omega (arith, in-old, g .here .few))
 
     pub going-next : Going n qs ss fs (suc j) last last₂ rows₂ xs₁ ys₁ heads₁ links₁ k₁ ps₂ ps₂′ heads₂ links₂ m₂ old₂ table₁
     going-next =
@@ -254,6 +250,4 @@ module _ (n : ℕ) (qs : List (List ℕ)) (ss fs : List ℕ) (j first last : ℕ
           height = rw (cells-up, olds-up, e) (turn.height-above n qs ss fs j first last rows xs ys heads links k ps ps′ heads′ links′ m old table g small);
           rest = rw (cells-up, olds-up, e) (turn.rest-above n qs ss fs j first last rows xs ys heads links k ps ps′ heads′ links′ m old table g small);
           front = front;
-          in-table = omega (arith, g .in-table);
-          in-old = omega (arith, g .in-old);
         }

@@ -1,7 +1,6 @@
 -- The new table from the red cells, and what building it leaves.
 --   renewed n qs ss fs   the table in which the cells with a flag in fs are red and all others closed, level by level, where ss is
 --                        the old table
---   Room ..              the lengths of the work tables
 --   Result ..            the answer: 0, or 8 where a level above 10 would arise, or 9 where more than 4,096 cells would
 use mathlib.Core.Path.{_≡_}
 use mathlib.Core.Logic.{_⊎_}
@@ -14,15 +13,6 @@ use Rattle.tables.specs.Sound.{Sound}
 
 abbrev pub renewed : ℕ → List (List ℕ) → List ℕ → List ℕ → List (List ℕ)
 renewed n qs ss fs = growBy (length qs) ss fs 12 0 (coarseCells n qs) (upTo (length qs))
-
-pub record Room (xs ys heads links heads′ links′ old : List ℕ) : Type 0 where
-  pub in-xs : 3072 ≤ length xs
-  pub in-ys : 3072 ≤ length ys
-  pub in-heads : 4096 ≤ length heads
-  pub in-links : 3072 ≤ length links
-  pub in-heads′ : 4096 ≤ length heads′
-  pub in-links′ : 4096 ≤ length links′
-  pub in-old : 4096 ≤ length old
 
 pub record Result (n : ℕ) (qs : List (List ℕ)) (ss fs rows ps ps′ table : List ℕ) (refusal cells levels mids : ℕ) : Type 0 where
   pub one : (refusal ≡ 0) ⊎ ((refusal ≡ 8) ⊎ (refusal ≡ 9))

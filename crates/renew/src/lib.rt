@@ -1,4 +1,5 @@
 // The new table from the red cells: level by level, each cell that has a flag is red and each other is closed.
+use tables::Outcome;
 ghost use mathlib.Core.Path.{_≡_};
 ghost use Prim.Native.Nat.{ℕ, _+_, _*_, _-_, _≤_, _<_};
 ghost use lib.ListN.{length, getD};
@@ -14,10 +15,9 @@ ghost use Rattle.closure.specs.Ready.{Looks};
 ghost use Rattle.growth.specs.Written.{written};
 ghost use Rattle.lineage.specs.Olds.{flagOf, oldsOf, oldsNext, upTo};
 ghost use Rattle.tables.specs.Checked.{Statuses, Reds};
-ghost use Rattle.tables.specs.Start.{Empty};
 ghost use Rattle.tables.specs.Sound.{Mesh};
 ghost use Rattle.renew.specs.Levels.{Kids, Olds, oldIn, Flagged, Closed, Made};
-ghost use Rattle.renew.specs.Result.{Room, Result};
+ghost use Rattle.renew.specs.Result.{Result};
 
 // The flag of a cell by its old number: 64 where it will be red, else 0.
 fn flag_of(red: &[u8], o: usize) -> u8
@@ -105,6 +105,7 @@ fn make_level(
     n: usize,
 ) -> Level
     requires { ⌜ Reds (now xs) (now ys) (now heads) (now links) n last ⌝ }
+    requires { ⌜ (3072 ≤ length (now xs)) × (3072 ≤ length (now ys)) × (3072 ≤ length (now links)) ⌝ }
     requires { ⌜ (first ≤ last) × (last ≤ 4096) × (last ≤ length (now old)) × (last ≤ length (now table)) × (8 * last ≤ length (now rows)) ⌝ }
     ensures { λ r. ⌜ Made (was red) (was old) (was rows) first last (was table) (was xs) (was ys) n (is table) (is xs) (is ys) (is heads) (is links) (r .n) (r .size) ⌝ }
 {
@@ -195,53 +196,39 @@ fn old_coarse(coarse: usize, old: &mut [u16])
     }
 }
 
-// What the building finds: 0, or 8 where a level above 10 would arise, or 9 where more than 4,096 cells would; and where it is 0,
-// how many cells, levels and new corners there are.
-pub struct Renewed {
-    pub refusal: u8,
-    pub cells: usize,
-    pub levels: usize,
-    pub mids: usize,
-}
-
-fn refused(refusal: u8) -> Renewed
-    ensures { λ r. ⌜ r .refusal ≡ refusal ⌝ }
-{
-    Renewed {
-        refusal,
-        cells: 0,
-        levels: 0,
-        mids: 0,
-    }
-}
-
-// Builds the new table level by level.
-fn fill(
+// Builds the table in which the cells with a flag in `red` are red and all others are closed, over an accepted mesh of n corners, level
+// by level. Flags go by the numbers of the old table `status`, and `kids` has the number of each old cell's first child. Refusal 8 where
+// a level above 10 would arise, 9 where more than 4,096 cells would; where there is none, the table's first entries are the new statuses,
+// the rows are those of its cells, and ps and qs have the ends of its new corners. The tables from xs to old are for the work, whatever
+// they hold, and `digits` is the cutting table.
+pub fn renew(
     mesh: &[u16],
     n: usize,
     status: &[u8],
     kids: &[u16],
     red: &[u8],
-    rows: &mut [u16],
-    xs: &mut [u32],
-    ys: &mut [u32],
-    heads: &mut [u16],
-    links: &mut [u16],
-    ps: &mut [u32],
-    qs: &mut [u32],
-    mid_heads: &mut [u16],
-    mid_links: &mut [u16],
-    old: &mut [u16],
-    table: &mut [u8],
+    rows: &mut [u16; 32768],
+    ps: &mut [u32; 4096],
+    qs: &mut [u32; 4096],
+    table: &mut [u8; 4096],
+    xs: &mut [u32; 24576],
+    ys: &mut [u32; 24576],
+    heads: &mut [u16; 4096],
+    links: &mut [u16; 24576],
+    mid_heads: &mut [u16; 4096],
+    mid_links: &mut [u16; 4096],
+    old: &mut [u16; 4096],
     digits: &[u8],
-) -> Renewed
-    requires { ⌜ Empty n (now mesh) (now rows) (now xs) (now ys) (now heads) (now links) (now ps) (now qs) (now «mid_heads») (now «mid_links») ⌝ }
+) -> Outcome
+    requires { ⌜ Mesh n (now mesh) ⌝ }
     requires { ⌜ Statuses (now status) ⌝ }
     requires { ⌜ Kids (length (fours (now mesh))) (now status) (now kids) ⌝ }
-    requires { ⌜ (length (now red) ≤ 4096) × (4096 ≤ length (now old)) × (4096 ≤ length (now table)) ⌝ }
+    requires { ⌜ length (now red) ≤ 4096 ⌝ }
     requires { ⌜ now digits ≡ digitTable ⌝ }
     ensures { λ r. ⌜ Result n (fours (was mesh)) (was status) (was red) (is rows) (is ps) (is qs) (is table) (r .refusal) (r .cells) (r .levels) (r .mids) ⌝ }
 {
+    pairs::clear(heads);
+    pairs::clear(mid_heads);
     let coarse = tables::lay_coarse(mesh, rows);
     old_coarse(coarse, old);
     let mut first = 0;
@@ -253,18 +240,19 @@ fn fill(
         let c = make_level(rows, red, old, first, last, table, xs, ys, heads, links, k);
         k = c.n;
         if c.size == 0 {
-            return Renewed {
+            return Outcome {
                 refusal: 0,
+                coarse,
                 cells: last,
                 levels: level + 1,
                 mids: m,
             };
         }
         if level == 10 {
-            return refused(8);
+            return tables::refused(8);
         }
         if c.size > 4096 - last {
-            return refused(9);
+            return tables::refused(9);
         }
         let g = growth::grow_level(
             rows,
@@ -287,58 +275,4 @@ fn fill(
         last = g.at;
         level += 1;
     }
-}
-
-// Builds the table in which the cells with a flag in `red` are red and all others are closed, over an accepted mesh of n corners.
-// Flags go by the numbers of the old table `status`, and `kids` has the number of each old cell's first child. Where the answer is
-// 0, the table's first entries are the new statuses, the rows are those of its cells, and ps and qs have the ends of its new
-// corners. The tables from xs to old are for the work, whatever they hold, and `digits` is the cutting table.
-pub fn renew(
-    mesh: &[u16],
-    n: usize,
-    status: &[u8],
-    kids: &[u16],
-    red: &[u8],
-    rows: &mut [u16],
-    ps: &mut [u32],
-    qs: &mut [u32],
-    table: &mut [u8],
-    xs: &mut [u32],
-    ys: &mut [u32],
-    heads: &mut [u16],
-    links: &mut [u16],
-    mid_heads: &mut [u16],
-    mid_links: &mut [u16],
-    old: &mut [u16],
-    digits: &[u8],
-) -> Renewed
-    requires { ⌜ Mesh n (now mesh) ⌝ }
-    requires { ⌜ Statuses (now status) ⌝ }
-    requires { ⌜ Kids (length (fours (now mesh))) (now status) (now kids) ⌝ }
-    requires { ⌜ (length (now red) ≤ 4096) × (32768 ≤ length (now rows)) × (4096 ≤ length (now ps)) × (4096 ≤ length (now qs)) × (4096 ≤ length (now table)) ⌝ }
-    requires { ⌜ Room (now xs) (now ys) (now heads) (now links) (now «mid_heads») (now «mid_links») (now old) ⌝ }
-    requires { ⌜ now digits ≡ digitTable ⌝ }
-    ensures { λ r. ⌜ Result n (fours (was mesh)) (was status) (was red) (is rows) (is ps) (is qs) (is table) (r .refusal) (r .cells) (r .levels) (r .mids) ⌝ }
-{
-    pairs::clear(heads);
-    pairs::clear(mid_heads);
-    fill(
-        mesh,
-        n,
-        status,
-        kids,
-        red,
-        rows,
-        xs,
-        ys,
-        heads,
-        links,
-        ps,
-        qs,
-        mid_heads,
-        mid_links,
-        old,
-        table,
-        digits,
-    )
 }

@@ -51,19 +51,19 @@ module _ (n : ℕ) (mesh old ms new-rows ps qs new : List ℕ) (refusal cells le
       }
 
   pub stepped-on : refusal ≡ 0 → (rows₀ table₀ rows table : List ℕ) → rows ≡ take (8 * cells) new-rows ++ drop (8 * cells) rows₀ → table ≡ take cells new ++ drop cells table₀
-      → 4096 ≤ length new → 32768 ≤ length rows → 4096 ≤ length table → Stepped n mesh old ms rows table 0 cells levels
-  stepped-on z rows₀ table₀ rows table e f room long lent =
+      → 4096 ≤ length new → 32768 ≤ length new-rows → 4096 ≤ length table → (k : ℕ) → k ≡ 0 → Stepped n mesh old ms rows table k cells levels
+  stepped-on z rows₀ table₀ rows table e f room long lent k q =
       let few = a .few z in
       let h = a .held z in
       let s = a .laid z in
       let t : take cells table ≡ newTable n (fours mesh) old ms = front cells new table₀ table (omega arith) f ∙ a .table-is z in
-      let r : take (8 * cells) rows ≡ take (8 * cells) new-rows = front (8 * cells) new-rows rows₀ rows (omega (arith, h .long)) e in
+      let r : take (8 * cells) rows ≡ take (8 * cells) new-rows = front (8 * cells) new-rows rows₀ rows (omega arith) e in
       record {
-        answer = a .answer ∙ ap answerOf z;
+        answer = a .answer ∙ ap answerOf (z ∙ sym q);
         table-is = λ y. t;
         going = λ y.
             record {
-              held = rw t (record { accepted = h .accepted; sound = h .sound; long = long; table = rw (s .counted) (r ∙ s .table) });
+              held = rw t (record { accepted = h .accepted; sound = h .sound; table = rw (s .counted) (r ∙ s .table) });
               few = few;
               room = lent;
             };

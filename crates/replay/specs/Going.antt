@@ -1,6 +1,5 @@
 -- What the functions of a replay hold and leave. A refusal is a number, and 0 stands for none.
 --   Going n mesh rows table cells   a sound table of so many cells over an accepted mesh, with the rows of its cells
---   Room ..       the lengths of the tables for a new table, its rows and the ends of its corners
 --   Rested ..     a mesh at rest
 --   Stepped ..    one step, by one mark a cell
 --   Next ..       the step whose marks go from p up to e
@@ -33,12 +32,6 @@ pub record Rested (ps : List ℤ) (mesh rows table : List ℕ) (refusal cells le
   pub table-is : refusal ≡ 0 → take cells table ≡ restTable (fours mesh)
   pub going : refusal ≡ 0 → Going (cornerCount ps) mesh rows table cells
   pub high : refusal ≡ 0 → length (levelsOf (cornerCount ps) (fours mesh) (take cells table)) ≡ levels
-
-pub record Room (rows ps qs table : List ℕ) : Type 0 where
-  pub in-rows : 32768 ≤ length rows
-  pub in-ps : 4096 ≤ length ps
-  pub in-qs : 4096 ≤ length qs
-  pub in-table : 4096 ≤ length table
 
 pub record Stepped (n : ℕ) (mesh old ms rows table : List ℕ) (refusal cells levels : ℕ) : Type 0 where
   pub answer : limitsAnswer n (fours mesh) old ms ≡ answerOf refusal

@@ -1,4 +1,5 @@
 // Jobs done again: the steps of a job in turn.
+use tables::Outcome;
 ghost use mathlib.Core.Path.{_≡_};
 ghost use mathlib.Core.List.{_++_};
 ghost use Prim.Native.Nat.{_+_, _*_, _/_, _≤_, _<_};
@@ -7,27 +8,9 @@ ghost use Rattle.base.specs.Fours.{fours};
 ghost use Rattle.base.specs.Lent.{was, is};
 ghost use Rattle.cutting.specs.Answer.{digitTable};
 ghost use Rattle.mesh.specs.Table.{levelsOf};
-ghost use Rattle.step.specs.Advanced.{Work};
 ghost use Rattle.archive.specs.Tables.{pairs};
 ghost use Rattle.replay.specs.Scan.{mayb, Spread, Fitting};
-ghost use Rattle.replay.specs.Going.{Going, Room, Rested, Stepped, Next, Finished, Replayed};
-
-// What the steps of a job come to: the refusal, 0 where there is none, and then how many cells and levels the table has.
-pub struct Ran {
-    pub refusal: u8,
-    pub cells: usize,
-    pub levels: usize,
-}
-
-fn failed(refusal: u8) -> Ran
-    ensures { λ r. ⌜ r .refusal ≡ refusal ⌝ }
-{
-    Ran {
-        refusal,
-        cells: 0,
-        levels: 0,
-    }
-}
+ghost use Rattle.replay.specs.Going.{Going, Rested, Next, Finished, Replayed};
 
 // Makes the first k bytes 0.
 fn clear(out: &mut [u8], k: usize)
@@ -87,43 +70,56 @@ fn examine_marks(marked: &[u16], marks: &[u8], status: &[u8], out: &mut [u8]) ->
     step::marks_fit(status, &out[..k])
 }
 
-// One step on a sound table with its rows, by one mark a cell: the new table and its rows take the place of the old ones. The other tables
-// are for the work, whatever they hold, and `digits` is the cutting table. Refusals 8 and 9.
-fn advance_here(
+// One step on a sound table with its rows: the step whose marks go from p up to e. The new table and its rows take the place of the old
+// ones. The other tables are for the work, whatever they hold, and `digits` is the cutting table. Refusals 7 to 9.
+fn next_step(
     mesh: &[u16],
     n: usize,
+    marked: &[u16],
     marks: &[u8],
+    p: usize,
+    e: usize,
     cells: usize,
-    rows: &mut [u16],
-    table: &mut [u8],
-    new_rows: &mut [u16],
-    ps: &mut [u32],
-    qs: &mut [u32],
-    new: &mut [u8],
-    xs: &mut [u32],
-    ys: &mut [u32],
-    heads: &mut [u16],
-    links: &mut [u16],
-    mid_heads: &mut [u16],
-    mid_links: &mut [u16],
-    old: &mut [u16],
-    kids: &mut [u16],
-    red: &mut [u8],
+    rows: &mut [u16; 32768],
+    table: &mut [u8; 4096],
+    spread_marks: &mut [u8; 4096],
+    new_rows: &mut [u16; 32768],
+    ps: &mut [u32; 4096],
+    qs: &mut [u32; 4096],
+    new: &mut [u8; 4096],
+    xs: &mut [u32; 24576],
+    ys: &mut [u32; 24576],
+    heads: &mut [u16; 4096],
+    links: &mut [u16; 24576],
+    mid_heads: &mut [u16; 4096],
+    mid_links: &mut [u16; 4096],
+    old: &mut [u16; 4096],
+    kids: &mut [u16; 4097],
+    red: &mut [u8; 4096],
     digits: &[u8],
-) -> Ran
+) -> Outcome
     requires { ⌜ Going n (now mesh) (now rows) (now table) cells ⌝ }
-    requires { ⌜ length (now marks) ≡ cells ⌝ }
-    requires { ⌜ Room (now «new_rows») (now ps) (now qs) (now «new») ⌝ }
-    requires { ⌜ Work (now xs) (now ys) (now heads) (now links) (now «mid_heads») (now «mid_links») (now old) (now kids) (now red) ⌝ }
+    requires { ⌜ length (now marked) ≡ length (now marks) ⌝ }
     requires { ⌜ now digits ≡ digitTable ⌝ }
-    ensures { λ r. ⌜ Stepped n (was mesh) (take cells (was table)) (was marks) (is rows) (is table) (r .refusal) (r .cells) (r .levels) ⌝ }
+    ensures { λ r. ⌜ Next n (now (mesh .entry)) (take cells (now (table .entry))) p e (pairs (now (marked .entry)) (now (marks .entry))) (now (rows .exit)) (now (table .exit)) (r .refusal) (r .cells) (r .levels) ⌝ }
 {
+    if e < p {
+        return tables::refused(7);
+    }
+    if e > marked.len() {
+        return tables::refused(7);
+    }
+    let status = &table[..];
+    if !examine_marks(&marked[p..e], &marks[p..e], &status[..cells], spread_marks) {
+        return tables::refused(7);
+    }
+    let spread = &spread_marks[..];
     let r = step::advance(
         mesh,
         n,
         rows,
-        &table[..cells],
-        marks,
+        &status[..cells],
+        &spread[..cells],
         new_rows,
         ps,
         qs,
@@ -140,98 +136,29 @@ fn advance_here(
         digits,
     );
     if r.refusal != 0 {
-        return failed(r.refusal);
+        return r;
     }
-    base::copy_numbers(new_rows, 8 * r.cells, rows);
-    base::copy_bytes(new, r.cells, table);
-    Ran {
-        refusal: 0,
-        cells: r.cells,
-        levels: r.levels,
-    }
-}
-
-// One step on a sound table with its rows: the step whose marks go from p up to e. Refusals 7 to 9.
-fn next_step(
-    mesh: &[u16],
-    n: usize,
-    marked: &[u16],
-    marks: &[u8],
-    p: usize,
-    e: usize,
-    cells: usize,
-    rows: &mut [u16],
-    table: &mut [u8],
-    spread_marks: &mut [u8],
-    new_rows: &mut [u16],
-    ps: &mut [u32],
-    qs: &mut [u32],
-    new: &mut [u8],
-    xs: &mut [u32],
-    ys: &mut [u32],
-    heads: &mut [u16],
-    links: &mut [u16],
-    mid_heads: &mut [u16],
-    mid_links: &mut [u16],
-    old: &mut [u16],
-    kids: &mut [u16],
-    red: &mut [u8],
-    digits: &[u8],
-) -> Ran
-    requires { ⌜ Going n (now mesh) (now rows) (now table) cells ⌝ }
-    requires { ⌜ (length (now marked) ≡ length (now marks)) × (4096 ≤ length (now «spread_marks»)) ⌝ }
-    requires { ⌜ Room (now «new_rows») (now ps) (now qs) (now «new») ⌝ }
-    requires { ⌜ Work (now xs) (now ys) (now heads) (now links) (now «mid_heads») (now «mid_links») (now old) (now kids) (now red) ⌝ }
-    requires { ⌜ now digits ≡ digitTable ⌝ }
-    ensures { λ r. ⌜ Next n (was mesh) (take cells (was table)) p e (pairs (was marked) (was marks)) (is rows) (is table) (r .refusal) (r .cells) (r .levels) ⌝ }
-{
-    if e < p {
-        return failed(7);
-    }
-    if e > marked.len() {
-        return failed(7);
-    }
-    if !examine_marks(&marked[p..e], &marks[p..e], &table[..cells], spread_marks) {
-        return failed(7);
-    }
-    advance_here(
-        mesh,
-        n,
-        &spread_marks[..cells],
-        cells,
-        rows,
-        table,
-        new_rows,
-        ps,
-        qs,
-        new,
-        xs,
-        ys,
-        heads,
-        links,
-        mid_heads,
-        mid_links,
-        old,
-        kids,
-        red,
-        digits,
-    )
+    layout::copy(new_rows, 8 * r.cells, rows);
+    step::copy(new, r.cells, table);
+    r
 }
 
 // A mesh at rest: each cell a leaf, with its rows. Refusals 1 to 5.
-fn at_rest(positions: &[i32], cells: &[u16], rows: &mut [u16], table: &mut [u8]) -> Ran
-    requires { ⌜ (32768 ≤ length (now rows)) × (4096 ≤ length (now table)) ⌝ }
-    ensures { λ r. ⌜ Rested (was positions) (was cells) (is rows) (is table) (r .refusal) (r .cells) (r .levels) ⌝ }
+fn at_rest(positions: &[i32], cells: &[u16], rows: &mut [u16; 32768], table: &mut [u8; 4096]) -> Outcome
+    ensures { λ r. ⌜ Rested (now (positions .entry)) (now (cells .entry)) (now (rows .exit)) (now (table .exit)) (r .refusal) (r .cells) (r .levels) ⌝ }
 {
     let k = few(cells.len() / 4);
     clear(table, k);
+    let status = &table[..];
     let mut xs = [0u32; 4096];
     let mut ys = [0u32; 4096];
-    let f = layout::open(positions, cells, &table[..k], rows, &mut xs, &mut ys);
-    Ran {
+    let f = layout::open(positions, cells, &status[..k], rows, &mut xs, &mut ys);
+    Outcome {
         refusal: f.refusal,
+        coarse: k,
         cells: k,
         levels: f.levels,
+        mids: f.mids,
     }
 }
 
@@ -245,7 +172,7 @@ fn few(k: usize) -> usize
     256
 }
 
-// The steps of a job in turn, on a sound table with its rows, of so many cells and levels. Refusals 7 to 9.
+// The steps of a job in turn, on a sound table with its rows, of so many cells, levels and new corners. Refusals 7 to 9.
 fn run_steps(
     mesh: &[u16],
     n: usize,
@@ -254,9 +181,10 @@ fn run_steps(
     ends: &[u16],
     first: usize,
     high: usize,
-    rows: &mut [u16],
-    table: &mut [u8],
-) -> Ran
+    inner: usize,
+    rows: &mut [u16; 32768],
+    table: &mut [u8; 4096],
+) -> Outcome
     requires { ⌜ Going n (now mesh) (now rows) (now table) first ⌝ }
     requires { ⌜ (length (now marked) ≡ length (now marks)) × (length (levelsOf n (fours (now mesh)) (take first (now table))) ≡ high) ⌝ }
     ensures { λ r. ⌜ Finished n (was mesh) (take first (was table)) (pairs (was marked) (was marks)) (was ends) (is rows) (is table) (r .refusal) (r .cells) (r .levels) ⌝ }
@@ -278,6 +206,7 @@ fn run_steps(
     let digits = cutting::digit_table();
     let mut cells = first;
     let mut levels = high;
+    let mut mids = inner;
     let mut p: usize = 0;
     let mut g = 0;
     while g < ends.len() {
@@ -309,20 +238,23 @@ fn run_steps(
             &digits,
         );
         if r.refusal != 0 {
-            return failed(r.refusal);
+            return r;
         }
         cells = r.cells;
         levels = r.levels;
+        mids = r.mids;
         p = e;
         g += 1;
     }
     if p != marked.len() {
-        return failed(7);
+        return tables::refused(7);
     }
-    Ran {
+    Outcome {
         refusal: 0,
+        coarse: mesh.len() / 4,
         cells,
         levels,
+        mids,
     }
 }
 
@@ -334,18 +266,17 @@ pub fn run(
     marked: &[u16],
     marks: &[u8],
     ends: &[u16],
-    table: &mut [u8],
-) -> Ran
-    requires { ⌜ 4096 ≤ length (now table) ⌝ }
-    ensures { λ r. ⌜ Replayed (was positions) (was cells) (was marked) (was marks) (was ends) (is table) (r .refusal) (r .cells) (r .levels) ⌝ }
+    table: &mut [u8; 4096],
+) -> Outcome
+    ensures { λ r. ⌜ Replayed (now (positions .entry)) (now (cells .entry)) (now (marked .entry)) (now (marks .entry)) (now (ends .entry)) (now (table .exit)) (r .refusal) (r .cells) (r .levels) ⌝ }
 {
     let mut rows = [0u16; 32768];
     let r = at_rest(positions, cells, &mut rows, table);
     if r.refusal != 0 {
-        return failed(r.refusal);
+        return r;
     }
     if marked.len() != marks.len() {
-        return failed(7);
+        return tables::refused(7);
     }
     run_steps(
         cells,
@@ -355,6 +286,7 @@ pub fn run(
         ends,
         r.cells,
         r.levels,
+        r.mids,
         &mut rows,
         table,
     )

@@ -74,6 +74,5 @@ opened-held ps ts ss rows xs ys cells levels m f =
     record {
       accepted = f .mesh;
       sound = f .table;
-      long = f .tables .in-rows;
       table = rw (f .sound .counted) (f .sound .table);
     }

@@ -74,8 +74,8 @@ module _ (n : ℕ) (mesh rows ss : List ℕ) (h : Held n mesh rows ss) where
   pub held-coarse : length mesh / 4 ≤ 256
   held-coarse = omega (arith, h .accepted .few)
 
-  pub held-rows : 8 * length ss ≤ length rows
-  held-rows = omega (arith, h .long, levels .small)
+  pub held-rows : 32768 ≤ length rows → 8 * length ss ≤ length rows
+  held-rows l = omega (arith, levels .small)
 
   -- the numbers of first children
   module _ (ks rest : List ℕ) (e : ks ≡ firstChildren (length mesh / 4) ss ++ rest) where
@@ -116,7 +116,7 @@ module _ (n : ℕ) (mesh rows ss : List ℕ) (h : Held n mesh rows ss) where
         (λ i l. ap (λ (l : List ℕ). getD l i 0) e ∙ List·getD-append (flagTable n qs ss ms) rest 0 i (omega (arith, long-flags)))))
 
     -- what the building leaves
-    module _ (rows′ ps qs′ table : List ℕ) (refusal cells levels mids : ℕ) (r : Result n qs ss (take (length ss) red) rows′ ps qs′ table refusal cells levels mids) (long : 32768 ≤ length rows′) where
+    module _ (rows′ ps qs′ table : List ℕ) (refusal cells levels mids : ℕ) (r : Result n qs ss (take (length ss) red) rows′ ps qs′ table refusal cells levels mids) where
       accepted : refusal ≡ 0 → Advanced n mesh ss ms rows′ ps qs′ table refusal cells levels mids
       accepted z =
           let t = same-table in
@@ -132,7 +132,6 @@ module _ (n : ℕ) (mesh rows ss : List ℕ) (h : Held n mesh rows ss) where
             held = λ y. record {
               accepted = h .accepted;
               sound = step-sound n qs ss ms (lattice.fours-four mesh) (h .accepted .cells) (h .sound) low few;
-              long = long;
               table = rw (s .counted) (s .table);
             };
             laid = λ y. s;

@@ -1,6 +1,5 @@
 -- What the work of a step asks for and leaves.
 --   Held n mesh rows ss   an accepted mesh of n corners and a sound table over it, with the rows of its cells
---   Work ..               the lengths of the work tables: six edges for each of 4,096 cells, and midpoints, old numbers, first children, flags
 --   Advanced ..           the answer, and where there is no refusal the new table, with its rows and the ends of its corners
 use mathlib.Core.Path.{_≡_}
 use mathlib.Core.List.{List}
@@ -17,19 +16,7 @@ use Rattle.mesh.specs.Answers.{newTable, limitsAnswer}
 pub record Held (n : ℕ) (mesh rows ss : List ℕ) : Type 0 where
   pub accepted : Mesh n mesh
   pub sound : T (soundb n (fours mesh) ss)
-  pub long : 32768 ≤ length rows
   pub table : take (8 * length (tableCells n (fours mesh) ss)) rows ≡ cellTable (tableCorners n (fours mesh) ss) (tableCells n (fours mesh) ss)
-
-pub record Work (xs ys heads links heads′ links′ old kids red : List ℕ) : Type 0 where
-  pub in-xs : 24576 ≤ length xs
-  pub in-ys : 24576 ≤ length ys
-  pub in-heads : 4096 ≤ length heads
-  pub in-links : 24576 ≤ length links
-  pub in-heads′ : 4096 ≤ length heads′
-  pub in-links′ : 4096 ≤ length links′
-  pub in-old : 4096 ≤ length old
-  pub in-kids : 4097 ≤ length kids
-  pub in-red : 4096 ≤ length red
 
 pub record Advanced (n : ℕ) (mesh ss ms rows ps qs table : List ℕ) (refusal cells levels mids : ℕ) : Type 0 where
   pub answer : limitsAnswer n (fours mesh) ss ms ≡ answerOf refusal

@@ -1,5 +1,5 @@
 // One step of the multilevel red/green method.
-use renew::Renewed;
+use tables::Outcome;
 ghost use mathlib.Core.Path.{_≡_};
 ghost use Prim.Native.Nat.{_+_, _*_, _≤_, _<_};
 ghost use lib.ListN.{length};
@@ -11,7 +11,7 @@ ghost use Rattle.base.specs.Refuse.{heldAfter};
 ghost use Rattle.mesh.specs.Answers.{markb, marksb, newTable};
 ghost use Rattle.step.specs.Calls.{stepAnswer, steppedOf};
 ghost use Rattle.step.specs.Deep.{deepAt, deepFrom, Decided};
-ghost use Rattle.step.specs.Advanced.{Held, Work, Advanced};
+ghost use Rattle.step.specs.Advanced.{Held, Advanced};
 
 pub enum Stepped {
     Cells(usize),
@@ -94,28 +94,26 @@ fn decided(refusal: u8, rows: &[u16], red: &[u8], cells: usize) -> u8
 pub fn advance(
     mesh: &[u16],
     n: usize,
-    rows: &[u16],
+    rows: &[u16; 32768],
     status: &[u8],
     marks: &[u8],
-    new_rows: &mut [u16],
-    ps: &mut [u32],
-    qs: &mut [u32],
-    table: &mut [u8],
-    xs: &mut [u32],
-    ys: &mut [u32],
-    heads: &mut [u16],
-    links: &mut [u16],
-    mid_heads: &mut [u16],
-    mid_links: &mut [u16],
-    old: &mut [u16],
-    kids: &mut [u16],
-    red: &mut [u8],
+    new_rows: &mut [u16; 32768],
+    ps: &mut [u32; 4096],
+    qs: &mut [u32; 4096],
+    table: &mut [u8; 4096],
+    xs: &mut [u32; 24576],
+    ys: &mut [u32; 24576],
+    heads: &mut [u16; 4096],
+    links: &mut [u16; 24576],
+    mid_heads: &mut [u16; 4096],
+    mid_links: &mut [u16; 4096],
+    old: &mut [u16; 4096],
+    kids: &mut [u16; 4097],
+    red: &mut [u8; 4096],
     digits: &[u8],
-) -> Renewed
+) -> Outcome
     requires { ⌜ Held n (now mesh) (now rows) (now status) ⌝ }
     requires { ⌜ length (now marks) ≡ length (now status) ⌝ }
-    requires { ⌜ (32768 ≤ length (now «new_rows»)) × (4096 ≤ length (now ps)) × (4096 ≤ length (now qs)) × (4096 ≤ length (now table)) ⌝ }
-    requires { ⌜ Work (now xs) (now ys) (now heads) (now links) (now «mid_heads») (now «mid_links») (now old) (now kids) (now red) ⌝ }
     requires { ⌜ now digits ≡ digitTable ⌝ }
     ensures { λ r. ⌜ Advanced n (was mesh) (was status) (was marks) (is «new_rows») (is ps) (is qs) (is table) (r .refusal) (r .cells) (r .levels) (r .mids) ⌝ }
 {
@@ -134,12 +132,13 @@ pub fn advance(
         heads,
         links,
     );
+    let flags = &red[..];
     let r = renew::renew(
         mesh,
         n,
         status,
         kids,
-        &red[..k],
+        &flags[..k],
         new_rows,
         ps,
         qs,
@@ -153,13 +152,32 @@ pub fn advance(
         old,
         digits,
     );
-    let refusal = decided(r.refusal, rows, red, k);
-    Renewed {
+    let refusal = decided(r.refusal, rows, flags, k);
+    Outcome {
         refusal,
+        coarse: r.coarse,
         cells: r.cells,
         levels: r.levels,
         mids: r.mids,
     }
+}
+
+// Copies the first n bytes.
+pub fn copy(from: &[u8], n: usize, to: &mut [u8])
+    requires { ⌜ (n ≤ length (now from)) × (n ≤ length (now to)) ⌝ }
+    ensures { λ r. ⌜ now (to .exit) ≡ take n (now (from .entry)) ++ drop n (now (to .entry)) ⌝ }
+{
+    for i in 0..n {
+        to[i] = from[i];
+    }
+}
+
+// Copies the first n statuses of a new table.
+fn hand_out(new: &[u8; 4096], n: usize, table: &mut [u8])
+    requires { ⌜ (n ≤ 4096) × (n ≤ length (now table)) ⌝ }
+    ensures { λ r. ⌜ now (table .exit) ≡ take n (now (new .entry)) ++ drop n (now (table .entry)) ⌝ }
+{
+    copy(new, n, table);
 }
 
 // One step: the new status table in the lent one, and how many cells it has. Refusals 15 and 1 to 9.
@@ -227,6 +245,6 @@ pub fn step(
     if r.refusal != 0 {
         return Stepped::Refused(r.refusal);
     }
-    base::copy_bytes(&new, r.cells, table);
+    hand_out(&new, r.cells, table);
     Stepped::Cells(r.cells)
 }

@@ -12,17 +12,21 @@ use Rattle.mesh.specs.Cells.{none, redEdges}
 use Rattle.mesh.specs.Weights.{coarseCells}
 use Rattle.mesh.specs.Table.{cellsOf}
 use Rattle.mesh.specs.Layout.{coarseCorners, cornersFrom, rowOf, childNumber}
-use Rattle.edges.specs.Pairs.{pairsOf}
-use Rattle.edges.specs.Seek.{none-listed}
+use Rattle.pairs.specs.Keys.{Clear}
+use Rattle.edges.specs.Pairs.{Pair, pairsOf}
+use Rattle.edges.specs.Table.{listed}
+use Rattle.edges.proofs.Seek.{none-listed}
+use Rattle.lattice.specs.Every.{All}
 use Rattle.lattice.specs.Levels.{fours-four}
 use Rattle.numbering.specs.Corners.{corners-start}
 use Rattle.numbering.specs.Coarse.{coarseNumbersFrom, coarseNumbers, coarse-numbers}
 use Rattle.numbering.specs.Stages.{stage-start}
 use Rattle.tables.specs.Levels.{reached-start}
-use Rattle.tables.specs.Here.{Here}
-use Rattle.tables.specs.Start.{coarseRow, Empty}
-use Rattle.tables.proofs.Rising.{deep-coarse, child-coarse}
-use Rattle.mesh.specs.Laws.{length-from}
+use Rattle.tables.specs.Here.{Here, Child, Mids}
+use Rattle.tables.specs.Start.{coarseRow}
+use Rattle.tables.specs.Sound.{Mesh}
+use Rattle.tables.proofs.CoarseRows.{length-fours}
+use Rattle.tables.proofs.Rising.{deep-coarse, child-coarse, length-coarse}
 
 rows-from : (i : ℕ) (qs : List (List ℕ)) → flatMap rowOf (coarseNumbersFrom i qs) ≡ flatMap coarseRow qs
 unfolding flatMap coarseNumbersFrom rowOf coarseRow childNumber one-if
@@ -33,7 +37,7 @@ rows-coarse : (qs : List (List ℕ)) → flatMap rowOf (coarseNumbers qs) ≡ fl
 unfolding coarseNumbers
 rows-coarse qs = rows-from 0 qs
 
-module _ (n : ℕ) (mesh ss rows xs ys heads links ps qs heads′ links′ : List ℕ) (s : Empty n mesh rows xs ys heads links ps qs heads′ links′) where
+module _ (n : ℕ) (mesh ss : List ℕ) (s : Mesh n mesh) (xs ys heads links ps qs heads′ links′ : List ℕ) (red : Clear heads) (mid : Clear heads′) where
   abbrev fs : List (List ℕ)
   fs = fours mesh
 
@@ -41,8 +45,8 @@ module _ (n : ℕ) (mesh ss rows xs ys heads links ps qs heads′ links′ : Lis
   unfolding coarseCells
   size = length-from n 0 fs
 
-  module _ (rows′ : List ℕ) (count : ℕ) (c : count ≡ length fs) (t : take (8 * count) rows′ ≡ flatMap coarseRow fs) (l : length rows′ ≡ length rows) where
-    pub here-start : Here n fs ss 0 0 count rows′ xs ys heads links 0 ps qs heads′ links′ 0
+  module _ (rows : List ℕ) (count : ℕ) (c : count ≡ length fs) (t : take (8 * count) rows ≡ flatMap coarseRow fs) where
+    pub here-start : Here n fs ss 0 0 count rows xs ys heads links 0 ps qs heads′ links′ 0
     unfolding reached-start cellsOf flatMap cornersFrom redEdges coarseCells hasb pairsOf
     here-start =
         let q = fours-four mesh in
@@ -52,18 +56,17 @@ module _ (n : ℕ) (mesh ss rows xs ys heads links ps qs heads′ links′ : Lis
           reached = reached-start n fs ss;
           stage = stage-start n fs q (s .cells);
           low = omega arith;
-          some = omega (arith, size, length-fours mesh, s .some, s .coarse .whole);
+          some = omega (arith, size, length-fours mesh, s .some, s .whole);
           end = omega (arith, size);
-          few = omega (arith, length-fours mesh, s .coarse .few);
+          few = omega (arith, length-fours mesh, s .few);
           placed = tt;
           named = refl;
           deep = deep-coarse n 0 fs;
           children = child-coarse n count 0 fs;
           table = t ∙ sym (ap (flatMap rowOf) (coarse-numbers n (coarseCorners n) [] (corners-start n) fs q (s .cells)) ∙ rows-coarse fs);
-          long = omega (arith, s .coarse .long);
           red = record { has = λ p. refl };
-          reds = record { keys = s .reds; few = omega arith; in-xs = s .in-xs; in-ys = s .in-ys; in-links = s .in-links };
-          mids = record { edges = none-listed ps qs heads′ links′ 0 (s .mids); few = omega arith; in-xs = s .in-ps; in-ys = s .in-qs; in-links = s .in-links′ };
+          reds = record { keys = red .empty xs ys links; few = omega arith };
+          mids = record { edges = none-listed ps qs heads′ links′ 0 (mid .empty ps qs links′); few = omega arith };
         }
 
     -- its cells

@@ -24,7 +24,8 @@ use Rattle.closure.specs.Ready.{Looks}
 use Rattle.separation.specs.Parents.{Parents, apartAll}
 use Rattle.counting.specs.Sound.{sound-counted}
 use Rattle.tables.specs.Here.{Top, Child}
-use Rattle.tables.specs.Sound.{Sound, tableCorners}
+use Rattle.tables.specs.Sound.{Sound, tableCells, tableCorners, unlessSound, Examined}
+use Rattle.tables.proofs.Cells.{Four}
 use Rattle.tables.proofs.Apart.{apart-rows, parents-rows}
 use Rattle.tables.proofs.Onward.{four-in, length-in}
 
@@ -36,7 +37,13 @@ module _ (n : ℕ) (qs : List (List ℕ)) (ss : List ℕ) where
   pub unsound-status : allb (λ s. leb s 64) ss ≡ false → soundb n qs ss ≡ false
   unsound-status f = ⊎-elim (λ e. not-both (allb (λ s. leb s 64) ss) (sound-counted n qs ss e .statuses) f) (λ e. e) (either (soundb n qs ss))
 
-pub rows-in : (ks : List Corner) (cs : List (Cell Point)) → flatMap rowOf (numberedCells ks cs) ≡ cellTable ks cs
+-- a table that is not sound is refused with 6
+module _ (n : ℕ) (qs : List (List ℕ)) (ss rows ps ps′ : List ℕ) (refusal cells levels m : ℕ) (six : refusal ≡ 6) where
+  pub unsound-examined : soundb n qs ss ≡ false → Examined n qs ss rows ps ps′ refusal cells levels m
+  unfolding unlessSound
+  unsound-examined u = record { answer = six ∙ sym (ap unlessSound u); sound = λ z. absurd (omega arith) }
+
+pub rows-in : (ks : List Corner) (cs : List (Cell Point)) → flatMap rowOf (cellsIn ks cs) ≡ cellTable ks cs
 unfolding flatMap cellTable
 rows-in ks [] = refl
 rows-in ks (c ∷ cs) = ap (λ (l : List ℕ). rowOf (mapCell (numberIn ks) c) ++ l) (rows-in ks cs)
@@ -51,8 +58,8 @@ module _ (n : ℕ) (qs : List (List ℕ)) (ss : List ℕ) (j last : ℕ) (rows x
   size : length (numberedCells (t .corners) (t .all)) ≡ last
   size = length-in (t .corners) (t .all) ∙ t .counted
 
-  pub top-looks : Looks rows xs ys heads links last 0 k
-  top-looks = record { rows = omega (arith, t .few, t .long); table = record { keys = t .reds .keys; up = omega arith } }
+  pub top-looks : 32768 ≤ length rows → Looks rows xs ys heads links last 0 k
+  top-looks long = record { rows = omega (arith, t .few); table = record { keys = t .reds .keys; up = omega arith } }
 
   pub top-parents : Parents rows last
   top-parents =
@@ -90,3 +97,7 @@ module _ (n : ℕ) (qs : List (List ℕ)) (ss : List ℕ) (j last : ℕ) (rows x
           table = t .table ∙ rows-in (t .corners) (t .all) ∙ sym (rw (named, t .cells));
           corners = rw named (t .numbered);
         }
+
+    pub top-examined : (ok : Bool) → ok ≡ apartAll (listed xs ys 0 k) rows last → ok ≡ true → Examined n qs ss rows ps ps′ 0 last (suc j) m
+    unfolding unlessSound
+    top-examined ok a o = record { answer = sym (ap unlessSound (sym top-apart ∙ sym a ∙ o)); sound = λ z. top-sound }

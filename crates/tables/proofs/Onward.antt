@@ -207,7 +207,7 @@ module _ (n : ℕ) (qs : List (List ℕ)) (ss : List ℕ) (j first last : ℕ) (
   closed-whole e = sym closed-are ∙ e
 
   module _ (w : closedFrom [] sameb (redEdges [] (h .cells) own) (h .cells) own ≡ true) (inside : last ≤ length ss) (high : j < 10) (st : Statuses ss)
-      (fit : last + sizes (ownStatuses rows ss first last) ≤ length ss) (grows : 0 < sizes (ownStatuses rows ss first last))
+      (fit : last + sizes (ownStatuses rows ss first last) ≤ length ss) (grows : 0 < sizes (ownStatuses rows ss first last)) (long : 32768 ≤ length rows)
       (rows′ : List ℕ) (ps₁ ps₁′ heads₁ links₁ : List ℕ) (last′ m′ : ℕ)
       (g : Grows rows ps ps′ ss first (last - first) (suc j) last n m rows′ ps₁ ps₁′ heads₁ links₁ last′ m′) where
     abbrev up : List (Cell Point)
@@ -254,8 +254,8 @@ module _ (n : ℕ) (qs : List (List ℕ)) (ss : List ℕ) (j first last : ℕ) (
         rw (cells-are, own-is) (length-rowsOf (suc j) n (listed ps₁ ps₁′ 0 m′) first (map strip (numberedCells (h .corners) (h .cells))) own
         (length-map (numberedCells (h .corners) (h .cells)) strip ∙ length-in (h .corners) (h .cells) ∙ same-length) fits-part) in
         let e : 8 * last′ ≡ 8 * last + length vs = omega (arith, lv, end-is, length-up) in
-        let room : 8 * last + length vs ≤ length rows = omega (arith, lv, h .long, st .few, ap sizes own-is) in
-        let kept : numberedCells ks′ (before ++ h .cells) ≡ numberedCells (h .corners) (before ++ h .cells) = cells-kept (h .corners) ks′ (step .kept) (before ++ h .cells) all-before in
+        let room : 8 * last + length vs ≤ length rows = omega (arith, lv, long, st .few, ap sizes own-is) in
+        let kept : cellsIn ks′ (before ++ h .cells) ≡ cellsIn (h .corners) (before ++ h .cells) = cells-kept (h .corners) ks′ (step .kept) (before ++ h .cells) all-before in
         rw (e, g .rows) (take-written rows (8 * last) vs room
         ∙ ap₂ _++_ (h .table) new-rows
         ∙ sym (ap (flatMap rowOf) (map-append (mapCell (numberIn ks′)) (before ++ h .cells) up ∙ ap (λ (l : List (Cell ℕ)). l ++ numberedCells ks′ up) kept)
@@ -268,8 +268,7 @@ module _ (n : ℕ) (qs : List (List ℕ)) (ss : List ℕ) (j first last : ℕ) (
         corners-append (coarseCorners n) before (h .cells) (take last ss) ∙ rw (h .reached .counted, a, b, h .named)
 
     module _ (xs′ ys′ heads″ links″ : List ℕ) (k′ : ℕ) (grown : Grown xs ys k k (ownReds rows ss first last) xs′ ys′ heads″ links″ k′)
-        (reds : Reds xs′ ys′ heads″ links″ k′ last′) (sx : length ps₁ ≡ length ps) (sy : length ps₁′ ≡ length ps′) (sl : length links₁ ≡ length links′)
-        (sr : length rows′ ≡ length rows) where
+        (reds : Reds xs′ ys′ heads″ links″ k′ last′) where
       pub here-next : Here n qs ss (suc j) last last′ rows′ xs′ ys′ heads″ links″ k′ ps₁ ps₁′ heads₁ links₁ m′
       here-next =
           let r = reached-next n qs ss j first (h .cells) (h .reached) (h .low) (h .some) last (h .end) w in
@@ -291,10 +290,9 @@ module _ (n : ℕ) (qs : List (List ℕ)) (ss : List ℕ) (j first last : ℕ) (
             children = rw b (all-append (Child last′) (before ++ h .cells) up (all-more (Child last) (Child last′) mono (before ++ h .cells) (h .children))
                 (child-next last′ first (h .cells) own (omega (arith, h .end, end-is))));
             table = rw b table-is;
-            long = omega (arith, h .long);
             red = rw (b, kept) (reds-after xs′ ys′ heads″ links″ k′ grown);
             reds = reds;
-            mids = record { edges = g .edges; few = g .few; in-xs = omega (arith, h .mids .in-xs); in-ys = omega (arith, h .mids .in-ys); in-links = omega (arith, h .mids .in-links) };
+            mids = record { edges = g .edges; few = g .few };
           }
 
       -- its cells
@@ -341,7 +339,6 @@ module _ (n : ℕ) (qs : List (List ℕ)) (ss : List ℕ) (j first last : ℕ) (
           numbered = h .stage .corners;
           children = h .children;
           table = h .table;
-          long = h .long;
           red = reds-after xs′ ys′ heads″ links″ k′ grown;
           reds = reds;
           mids = h .mids;

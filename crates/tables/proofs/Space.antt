@@ -5,15 +5,17 @@ use mathlib.Core.Bool.{Bool, true, false}
 use mathlib.Core.List.{List, [], _∷_}
 use Prim.Native.Nat.{ℕ, _+_, _*_, _-_, _≤_, _<_}
 use native.Mathlib.Omega.{arith}
-use lib.ListN.{length}
-use borrow.Author.Tests.{eqb-true}
-use Rattle.base.specs.Bools.{one-if}
-use Rattle.mesh.specs.Cells.{redb}
-use Rattle.edges.specs.Pairs.{addPairs, pairsOf}
-use Rattle.edges.specs.Table.{Space, Grown, listed}
-use Rattle.edges.specs.Seek.{none-listed}
-use Rattle.mesh.specs.Table.{sizeOf, sizes}
-use Rattle.rows.specs.Sizes.{size-red}
+use lib.Dec.{T, eqb, leb}
+use lib.ListN.{length, getD, take, drop}
+use borrow.Author.Tests.{eqb-true, le-leb}
+use Rattle.base.specs.Lists.{allb, one-if, and-left, and-right}
+use Rattle.mesh.specs.Cells.{Cell, redb, redEdges, closedFrom}
+use Rattle.pairs.specs.Keys.{Keys}
+use Rattle.edges.specs.Pairs.{Pair, addPairs, pairsOf}
+use Rattle.edges.specs.Table.{Table, Edges, Grown, listed}
+use Rattle.edges.proofs.Seek.{none-listed}
+use Rattle.rows.specs.Numbered.{sizeOf, sizes, part, cellsAt}
+use Rattle.sizes.proofs.Sums.{size-red}
 use Rattle.closure.specs.Ready.{redCount, Ready, Looks, listedClosed}
 use Rattle.closure.specs.Steps.{length-reds}
 use Rattle.closure.specs.Closed.{lists-added, closed-listed}
@@ -36,17 +38,19 @@ red-sizes (s ∷ ss) = omega (arith, one-size s, red-sizes ss)
 module _ (rows ss : List ℕ) (first last : ℕ) (xs ys heads links : List ℕ) (n : ℕ) (r : Reds xs ys heads links n last)
     (up : first ≤ last) (in-rows : 8 * last ≤ length rows) (inside : last ≤ length ss) (few : length ss ≤ 4096)
     (fit : last + sizes (ownStatuses rows ss first last) ≤ length ss) where
-  pub space : Space xs ys links n (6 * redCount (ownStatuses rows ss first last))
-  space =
+  -- the tables of red edges have room for all red cells of a table
+  pub ready : 3072 ≤ length xs → 3072 ≤ length ys → 3072 ≤ length links
+      → Ready rows xs ys heads links last n n (6 * redCount (ownStatuses rows ss first last))
+  ready lx ly ll =
       let h = red-sizes (ownStatuses rows ss first last) in
       let f = r .few in
-      record { small = omega arith; in-xs = omega (arith, r .in-xs); in-ys = omega (arith, r .in-ys); in-links = omega (arith, r .in-links) }
+      record {
+        rows = in-rows;
+        table = none-listed xs ys heads links n (r .keys);
+        space = record { small = omega arith; in-xs = omega arith; in-ys = omega arith; in-links = omega arith };
+      }
 
-  pub ready : Ready rows xs ys heads links last n n (6 * redCount (ownStatuses rows ss first last))
-  ready = record { rows = in-rows; table = none-listed xs ys heads links n (r .keys); space = space }
-
-  module _ (xs′ ys′ heads′ links′ : List ℕ) (m : ℕ) (g : Grown xs ys n n (ownReds rows ss first last) xs′ ys′ heads′ links′ m)
-      (sx : length xs′ ≡ length xs) (sy : length ys′ ≡ length ys) (sl : length links′ ≡ length links) where
+  module _ (xs′ ys′ heads′ links′ : List ℕ) (m : ℕ) (g : Grown xs ys n n (ownReds rows ss first last) xs′ ys′ heads′ links′ m) where
     pub looks : Looks rows xs′ ys′ heads′ links′ last n m
     looks = record { rows = in-rows; table = record { keys = g .edges .keys; up = g .edges .up } }
 
@@ -56,13 +60,7 @@ module _ (rows ss : List ℕ) (first last : ℕ) (xs ys heads links : List ℕ) 
         let k : length (ownReds rows ss first last) ≡ 6 * redCount (ownStatuses rows ss first last) =
         length-reds (ownCells rows ss first last) (ownStatuses rows ss first last)
         (length-cells rows first (last - first) ∙ sym (length-part ss first (last - first) (omega arith))) in
-        record {
-          keys = g .edges .keys;
-          few = omega (arith, g .most, r .few);
-          in-xs = omega (arith, r .in-xs);
-          in-ys = omega (arith, r .in-ys);
-          in-links = omega (arith, r .in-links);
-        }
+        record { keys = g .edges .keys; few = omega (arith, g .most, r .few) }
 
     nothing : listed xs ys n n ≡ []
     unfolding pairsOf

@@ -63,8 +63,9 @@ module _ (n : ℕ) (qs : List (List ℕ)) (ss : List ℕ) (j first last : ℕ) (
         let s = f .whole .many in
         fails-high n qs ss j first last rows xs ys heads links k ps ps′ heads′ links′ m h t (f .inside) (omega (arith, z))
 
-    pub turn-room : n ≤ 512 → Roomy rows ps ps′ heads′ links′ ss first last last n m
-    turn-room c =
+    pub turn-room : n ≤ 512 → 32768 ≤ length rows → 4096 ≤ length ps → 4096 ≤ length ps′ → 4096 ≤ length links′
+        → Roomy rows ps ps′ heads′ links′ ss first last last n m
+    turn-room c long lp lq ll =
         let f = turn-fits e in
         let d = h .mids in
         record {
@@ -72,23 +73,22 @@ module _ (n : ℕ) (qs : List (List ℕ)) (ss : List ℕ) (j first last : ℕ) (
           done = omega arith;
           statuses = f .inside;
           small = λ i a b. status-fits ss (st .fit) i (omega (arith, f .inside));
-          in-cells = omega (arith, f .fit, st .few, h .long);
+          in-cells = omega (arith, f .fit, st .few);
           most = omega (arith, f .fit, st .few);
           coarse = c;
           few = d .few;
           edges = d .edges;
-          in-xs = d .in-xs;
-          in-ys = d .in-ys;
-          in-links = d .in-links;
+          in-xs = lp;
+          in-ys = lq;
+          in-links = ll;
         }
 
-    pub turn-next : (size ≡ 0 → ⊥) → (j ≡ 10 → ⊥) → (rows₂ ps₂ ps₂′ heads₂ links₂ : List ℕ) (last₂ m₂ : ℕ)
+    pub turn-next : (size ≡ 0 → ⊥) → (j ≡ 10 → ⊥) → 32768 ≤ length rows → (rows₂ ps₂ ps₂′ heads₂ links₂ : List ℕ) (last₂ m₂ : ℕ)
         → Grows rows ps ps′ ss first (last - first) (suc j) last n m rows₂ ps₂ ps₂′ heads₂ links₂ last₂ m₂
-        → length rows₂ ≡ length rows → length ps₂ ≡ length ps → length ps₂′ ≡ length ps′ → length links₂ ≡ length links′
         → Here n qs ss (suc j) last last₂ rows₂ xs₁ ys₁ heads₁ links₁ k₁ ps₂ ps₂′ heads₂ links₂ m₂
-    turn-next z t rows₂ ps₂ ps₂′ heads₂ links₂ last₂ m₂ g sr sx sy sl =
+    turn-next z t long rows₂ ps₂ ps₂′ heads₂ links₂ last₂ m₂ g =
         let f = turn-fits e in
         let s = f .whole .many in
         let q : last + size ≡ last₂ = omega (arith, g .next) in
-        here-next n qs ss j first last rows xs ys heads links k ps ps′ heads′ links′ m h closed (f .inside) (omega (arith, t, h .low)) st (f .fit) (omega (arith, z))
-        rows₂ ps₂ ps₂′ heads₂ links₂ last₂ m₂ g xs₁ ys₁ heads₁ links₁ k₁ (f .whole .grown) (rw q at (f .whole .reds)) sx sy sl sr
+        here-next n qs ss j first last rows xs ys heads links k ps ps′ heads′ links′ m h closed (f .inside) (omega (arith, t, h .low)) st (f .fit) (omega (arith, z)) long
+        rows₂ ps₂ ps₂′ heads₂ links₂ last₂ m₂ g xs₁ ys₁ heads₁ links₁ k₁ (f .whole .grown) (rw q at (f .whole .reds))

@@ -1,5 +1,5 @@
 -- What checking one level asks for and tells, over corner numbers.
---   Reds ..        the table of red edges, with room for all red cells of a table
+--   Reds ..        the table of red edges of cells with `last` cells up to the next level
 --   Checked ..     what the check of the level from first to last tells
 use mathlib.Core.Path.{_≡_}
 use mathlib.Core.Bool.{Bool, true, false}
@@ -23,9 +23,6 @@ pub record Statuses (ss : List ℕ) : Type 0 where
 pub record Reds (xs ys heads links : List ℕ) (n last : ℕ) : Type 0 where
   pub keys : Keys xs ys heads links n
   pub few : 4 * n ≤ 3 * last
-  pub in-xs : 3072 ≤ length xs
-  pub in-ys : 3072 ≤ length ys
-  pub in-links : 3072 ≤ length links
 
 module _ (rows ss : List ℕ) (first last : ℕ) where
   abbrev pub ownCells : List (Cell ℕ)

@@ -31,9 +31,6 @@ Child n c = c .regular ≡ false → c .parent < n
 pub record Mids (xs ys heads links : List ℕ) (m last : ℕ) : Type 0 where
   pub edges : Edges xs ys heads links 0 m
   pub few : m ≤ last
-  pub in-xs : 4096 ≤ length xs
-  pub in-ys : 4096 ≤ length ys
-  pub in-links : 4096 ≤ length links
 
 module _ (n : ℕ) (qs : List (List ℕ)) (ss : List ℕ) (j first last : ℕ) (rows : List ℕ) where
   module _ (xs ys heads links : List ℕ) (k : ℕ) (ps qs′ heads′ links′ : List ℕ) (m : ℕ) where
@@ -50,9 +47,8 @@ module _ (n : ℕ) (qs : List (List ℕ)) (ss : List ℕ) (j first last : ℕ) (
       pub named : cornersFrom (coarseCorners n) (cellsOf (reached .done)) (take first ss) ≡ corners
       pub deep : T (allb (λ c. eqb (length (c .path)) (suc j)) cells)
       pub children : All (Child last) (cellsOf (reached .done) ++ cells)
-      pub table : take (8 * last) rows ≡ flatMap rowOf (numberedCells corners (cellsOf (reached .done) ++ cells))
-      pub long : 32768 ≤ length rows
-      pub red : Lists (listed xs ys 0 k) (redEdges 0 (numberedCells corners (cellsOf (reached .done))) (take first ss))
+      pub table : take (8 * last) rows ≡ flatMap rowOf (cellsIn corners (cellsOf (reached .done) ++ cells))
+      pub red : Lists (listed xs ys 0 k) (redEdges 0 (cellsIn corners (cellsOf (reached .done))) (take first ss))
       pub reds : Reds xs ys heads links k last
       pub mids : Mids ps qs′ heads′ links′ m last
 
@@ -72,8 +68,7 @@ module _ (n : ℕ) (qs : List (List ℕ)) (ss : List ℕ) (j last : ℕ) (rows :
       pub named : cornersFrom (coarseCorners n) all (take last ss) ≡ corners
       pub numbered : NumberedCorners n corners (listed ps qs′ 0 m)
       pub children : All (Child last) all
-      pub table : take (8 * last) rows ≡ flatMap rowOf (numberedCells corners all)
-      pub long : 32768 ≤ length rows
-      pub red : Lists (listed xs ys 0 k) (redEdges 0 (numberedCells corners all) (take last ss))
+      pub table : take (8 * last) rows ≡ flatMap rowOf (cellsIn corners all)
+      pub red : Lists (listed xs ys 0 k) (redEdges 0 (cellsIn corners all) (take last ss))
       pub reds : Reds xs ys heads links k last
       pub mids : Mids ps qs′ heads′ links′ m last

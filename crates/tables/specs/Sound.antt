@@ -1,10 +1,11 @@
 -- What the examination of a table leaves where the table is sound.
 --   tableCells, tableCorners   the paper's cells and corners of a table
 --   Mesh n mesh  an accepted mesh of n corners, as far as it matters here
---   Examined ..  the answer, and where it is yes
+--   unlessSound b  the refusal of a table: 6 where it is not sound
+--   Examined ..  the refusal, and where there is none
 --   Sound ..     the rows, the ends of the new corners, and how many cells, levels and new corners there are
 use mathlib.Core.Path.{_≡_}
-use mathlib.Core.Bool.{Bool, true}
+use mathlib.Core.Bool.{Bool, true, false}
 use mathlib.Core.List.{List}
 use Prim.Native.Nat.{ℕ, _*_, _%_, _≤_, _<_}
 use lib.Dec.{T}
@@ -41,6 +42,10 @@ pub record Mesh (n : ℕ) (mesh : List ℕ) : Type 0 where
   pub corners : n ≤ 512
   pub cells : T (cellsb n (fours mesh))
 
-pub record Examined (n : ℕ) (qs : List (List ℕ)) (ss rows ps qs′ : List ℕ) (ok : Bool) (cells levels m : ℕ) : Type 0 where
-  pub answer : ok ≡ soundb n qs ss
-  pub sound : ok ≡ true → Sound n qs ss rows ps qs′ cells levels m
+unfoldable pub unlessSound : Bool → ℕ
+unlessSound true = 0
+unlessSound false = 6
+
+pub record Examined (n : ℕ) (qs : List (List ℕ)) (ss rows ps qs′ : List ℕ) (refusal cells levels m : ℕ) : Type 0 where
+  pub answer : refusal ≡ unlessSound (soundb n qs ss)
+  pub sound : refusal ≡ 0 → Sound n qs ss rows ps qs′ cells levels m

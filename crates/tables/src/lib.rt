@@ -1,6 +1,5 @@
 // Status tables over a coarse mesh: examined and laid out.
 ghost use mathlib.Core.Path.{_≡_};
-ghost use mathlib.Core.Bool.{false};
 ghost use mathlib.Core.List.{flatMap};
 ghost use Prim.Native.Nat.{_*_, _≤_};
 ghost use lib.ListN.{length, take};
@@ -8,8 +7,31 @@ ghost use Rattle.base.specs.Fours.{fours};
 ghost use Rattle.base.specs.Lent.{was, is};
 ghost use Rattle.cutting.specs.Answer.{digitTable};
 ghost use Rattle.tables.specs.Checked.{Statuses, Reds, Checked};
-ghost use Rattle.tables.specs.Start.{Coarse, coarseRow, Empty, Result};
+ghost use Rattle.tables.specs.Start.{Coarse, coarseRow};
 ghost use Rattle.tables.specs.Sound.{Mesh, Examined};
+
+// What work on a table comes to: the refusal, 0 where there is none, and then how many coarse cells, cells, levels and new corners
+// the table has.
+pub struct Outcome {
+    pub refusal: u8,
+    pub coarse: usize,
+    pub cells: usize,
+    pub levels: usize,
+    pub mids: usize,
+}
+
+// A refusal, and nothing beside it.
+pub fn refused(refusal: u8) -> Outcome
+    ensures { λ r. ⌜ (r .refusal ≡ refusal) × (r .coarse ≡ 0) × (r .cells ≡ 0) × (r .levels ≡ 0) × (r .mids ≡ 0) ⌝ }
+{
+    Outcome {
+        refusal,
+        coarse: 0,
+        cells: 0,
+        levels: 0,
+        mids: 0,
+    }
+}
 
 // What the check of a level finds: whether it is closed, how many red edges are listed, and how many cells lie one level up.
 struct Level {
@@ -20,20 +42,20 @@ struct Level {
 
 // Checks the level from first to last.
 fn check_level(
-    rows: &[u16],
+    rows: &[u16; 32768],
     status: &[u8],
     first: usize,
     last: usize,
-    xs: &mut [u32],
-    ys: &mut [u32],
-    heads: &mut [u16],
-    links: &mut [u16],
+    xs: &mut [u32; 3072],
+    ys: &mut [u32; 3072],
+    heads: &mut [u16; 4096],
+    links: &mut [u16; 3072],
     n: usize,
 ) -> Level
     requires { ⌜ Statuses (now status) ⌝ }
     requires { ⌜ Reds (now xs) (now ys) (now heads) (now links) n last ⌝ }
-    requires { ⌜ (first ≤ last) × (8 * last ≤ length (now rows)) ⌝ }
-    ensures { λ r. ⌜ Checked (was rows) (was status) first last (was xs) (was ys) n (is xs) (is ys) (is heads) (is links) (r .ok) (r .n) (r .size) ⌝ }
+    requires { ⌜ (first ≤ last) × (last ≤ 4096) ⌝ }
+    ensures { λ r. ⌜ Checked (now (rows .entry)) (now (status .entry)) first last (now (xs .entry)) (now (ys .entry)) n (now (xs .exit)) (now (ys .exit)) (now (heads .exit)) (now (links .exit)) (r .ok) (r .n) (r .size) ⌝ }
 {
     if last > status.len() {
         return Level {
@@ -52,9 +74,9 @@ fn check_level(
 }
 
 // Lays out the coarse cells.
-pub fn lay_coarse(mesh: &[u16], rows: &mut [u16]) -> usize
-    requires { ⌜ Coarse (now mesh) (now rows) ⌝ }
-    ensures { λ r. ⌜ (r ≡ length (fours (was mesh))) × (take (8 * r) (is rows) ≡ flatMap coarseRow (fours (was mesh))) ⌝ }
+pub fn lay_coarse(mesh: &[u16], rows: &mut [u16; 32768]) -> usize
+    requires { ⌜ Coarse (now mesh) ⌝ }
+    ensures { λ r. ⌜ (r ≡ length (fours (now (mesh .entry)))) × (take (8 * r) (now (rows .exit)) ≡ flatMap coarseRow (fours (now (mesh .entry)))) ⌝ }
 {
     let count = mesh.len() / 4;
     let mut c = 0;
@@ -77,71 +99,59 @@ pub fn lay_coarse(mesh: &[u16], rows: &mut [u16]) -> usize
     count
 }
 
-// What the building of a table finds: whether all levels are closed, and then how many cells, levels, red edges and new
-// corners there are.
-pub struct Built {
-    pub ok: bool,
-    pub cells: usize,
-    pub levels: usize,
-    pub reds: usize,
-    pub mids: usize,
-}
-
-fn failed() -> Built
-    ensures { λ r. ⌜ r .ok ≡ false ⌝ }
-{
-    Built {
-        ok: false,
-        cells: 0,
-        levels: 0,
-        reds: 0,
-        mids: 0,
-    }
-}
-
-// Builds a table level by level.
+// Builds a table of few statuses level by level, and examines it. The tables from xs to mid_links are for the work, whatever they
+// hold, and `digits` is the cutting table.
 fn build(
     mesh: &[u16],
     status: &[u8],
     n: usize,
-    rows: &mut [u16],
-    xs: &mut [u32],
-    ys: &mut [u32],
-    heads: &mut [u16],
-    links: &mut [u16],
-    ps: &mut [u32],
-    qs: &mut [u32],
-    mid_heads: &mut [u16],
-    mid_links: &mut [u16],
+    rows: &mut [u16; 32768],
+    ps: &mut [u32; 4096],
+    qs: &mut [u32; 4096],
+    xs: &mut [u32; 3072],
+    ys: &mut [u32; 3072],
+    heads: &mut [u16; 4096],
+    links: &mut [u16; 3072],
+    mid_heads: &mut [u16; 4096],
+    mid_links: &mut [u16; 4096],
     digits: &[u8],
-) -> Built
+) -> Outcome
+    requires { ⌜ Mesh n (now mesh) ⌝ }
     requires { ⌜ Statuses (now status) ⌝ }
-    requires { ⌜ Empty n (now mesh) (now rows) (now xs) (now ys) (now heads) (now links) (now ps) (now qs) (now «mid_heads») (now «mid_links») ⌝ }
     requires { ⌜ now digits ≡ digitTable ⌝ }
-    ensures { λ r. ⌜ Result n (fours (was mesh)) (was status) (is rows) (is xs) (is ys) (is heads) (is links) (is ps) (is qs) (is «mid_heads») (is «mid_links») (r .ok) (r .cells) (r .levels) (r .reds) (r .mids) ⌝ }
+    ensures { λ r. ⌜ Examined n (fours (now (mesh .entry))) (now (status .entry)) (now (rows .exit)) (now (ps .exit)) (now (qs .exit)) (r .refusal) (r .cells) (r .levels) (r .mids) ⌝ }
 {
+    pairs::clear(heads);
+    pairs::clear(mid_heads);
+    let coarse = lay_coarse(mesh, rows);
     let mut first = 0;
-    let mut last = lay_coarse(mesh, rows);
+    let mut last = coarse;
     let mut level = 0;
     let mut k = 0;
     let mut m = 0;
     loop {
         let c = check_level(rows, status, first, last, xs, ys, heads, links, k);
         if !c.ok {
-            return failed();
+            return refused(6);
         }
         k = c.n;
         if c.size == 0 {
-            return Built {
-                ok: true,
+            if status.len() != last {
+                return refused(6);
+            }
+            if !separation::apart(rows, last, xs, ys, heads, links, 0, k) {
+                return refused(6);
+            }
+            return Outcome {
+                refusal: 0,
+                coarse,
                 cells: last,
                 levels: level + 1,
-                reds: k,
                 mids: m,
             };
         }
         if level == 10 {
-            return failed();
+            return refused(6);
         }
         let g = growth::grow_level(
             rows,
@@ -165,25 +175,24 @@ fn build(
     }
 }
 
-// Examines a status table over an accepted mesh of n corners. Where it is sound, the rows are those of its cells, and ps and qs
-// have the ends of its new corners.
+// Examines a status table over an accepted mesh of n corners: 6 where it is not sound. Where it is sound, the rows are those of its
+// cells, and ps and qs have the ends of its new corners.
 pub fn examine(
     mesh: &[u16],
     status: &[u8],
     n: usize,
-    rows: &mut [u16],
-    ps: &mut [u32],
-    qs: &mut [u32],
-) -> Built
+    rows: &mut [u16; 32768],
+    ps: &mut [u32; 4096],
+    qs: &mut [u32; 4096],
+) -> Outcome
     requires { ⌜ Mesh n (now mesh) ⌝ }
-    requires { ⌜ (32768 ≤ length (now rows)) × (4096 ≤ length (now ps)) × (4096 ≤ length (now qs)) ⌝ }
-    ensures { λ r. ⌜ Examined n (fours (was mesh)) (was status) (is rows) (is ps) (is qs) (r .ok) (r .cells) (r .levels) (r .mids) ⌝ }
+    ensures { λ r. ⌜ Examined n (fours (now (mesh .entry))) (now (status .entry)) (now (rows .exit)) (now (ps .exit)) (now (qs .exit)) (r .refusal) (r .cells) (r .levels) (r .mids) ⌝ }
 {
     if status.len() > 4096 {
-        return failed();
+        return refused(6);
     }
-    if !rows::fits(status) {
-        return failed();
+    if !sizes::fits(status) {
+        return refused(6);
     }
     let mut xs = [0u32; 3072];
     let mut ys = [0u32; 3072];
@@ -191,37 +200,20 @@ pub fn examine(
     let mut links = [0u16; 3072];
     let mut mid_heads = [0u16; 4096];
     let mut mid_links = [0u16; 4096];
-    pairs::clear(&mut heads);
-    pairs::clear(&mut mid_heads);
     let digits = cutting::digit_table();
-    let b = build(
+    build(
         mesh,
         status,
         n,
         rows,
+        ps,
+        qs,
         &mut xs,
         &mut ys,
         &mut heads,
         &mut links,
-        ps,
-        qs,
         &mut mid_heads,
         &mut mid_links,
         &digits,
-    );
-    if !b.ok {
-        return failed();
-    }
-    let cells = b.cells;
-    if status.len() != cells {
-        return failed();
-    }
-    let ok = separation::apart(rows, cells, &xs, &ys, &heads, &links, 0, b.reds);
-    Built {
-        ok,
-        cells,
-        levels: b.levels,
-        reds: b.reds,
-        mids: b.mids,
-    }
+    )
 }

@@ -12,54 +12,37 @@ clear-requires c κs = search needs
 
 shared-slice-read-flag-up : tie.Need-shared-slice-read-flag-up
 shared-slice-read-flag-up c =
-    let s = c .before .before .before .before .before .before .before .before .before .before .before .before .before .before .before .before in
-    let a = s .args in
-    omega (arith, marked-old (a .n) (a .mesh .now) (a .rows .now) (a .status .now) (a .marks .now) (a .kids .now) (a .red .now) (s .pre .0) .size)
+    let a = c .before .before .before .before .before .before .before .before .before .before .args in
+    omega (arith, marked-old (a .n) (a .mesh .now) (a .rows .now) (a .status .now) (a .marks .now) (a .kids .now) (a .red .now) (c .before .before .before .before .before .before .before .before .before .before .pre) .size)
 
 cast-flag-up : tie.Need-cast-flag-up
 cast-flag-up c = omega (arith, c .shared-slice-known6 .given 0)
 
 flag-up-requires : tie.Need-flag-up-requires
 flag-up-requires c κs =
-    let s = c .before .before .before .before .before .before .before .before .before .before .before .before .before .before .before .before .before .before .before .before in
-    let a = s .args in (
-      marked-old (a .n) (a .mesh .now) (a .rows .now) (a .status .now) (a .marks .now) (a .kids .now) (a .red .now) (s .pre .0),
+    let a = c .before .before .before .before .before .before .before .before .before .before .before .before .before .before .args in
+    let p = c .before .before .before .before .before .before .before .before .before .before .before .before .before .before .pre in (
+      marked-old (a .n) (a .mesh .now) (a .rows .now) (a .status .now) (a .marks .now) (a .kids .now) (a .red .now) p,
       record {
         span =
             record {
               up = omega arith;
-              inside = marked-start (a .n) (a .mesh .now) (a .rows .now) (a .status .now) (a .marks .now) (a .kids .now) (a .red .now) (s .pre .0);
-              room = s .pre .0 .room;
+              inside = marked-start (a .n) (a .mesh .now) (a .rows .now) (a .status .now) (a .marks .now) (a .kids .now) (a .red .now) p;
+              room = p .room;
             };
         children = refl;
-        keys = c .before .before .before .before .before .before .before .before .clear .ensures .empty _ _ _;
-        in-xs = s .pre .1 .in-xs;
-        in-ys = s .pre .1 .in-ys;
-        in-links = s .pre .1 .in-links;
+        keys = c .before .before .before .before .before .before .clear .ensures .empty _ _ _;
       },
     )
 
 same-length : tie.Need-same-length
 same-length c = search needs
 
-same-length-2 : tie.Need-same-length-2
-same-length-2 c = search needs
-
-same-length-3 : tie.Need-same-length-3
-same-length-3 c = search needs
-
-same-length-4 : tie.Need-same-length-4
-same-length-4 c = search needs
-
-same-length-5 : tie.Need-same-length-5
-same-length-5 c = search needs
-
 returns : tie.Need-returns
 returns c =
-    let s = c .before .before .before .before .before .before .before .before .before .before .before .before .before .before .before .before .before .before .before .before .before .before .before .before .before .before .before .before .before .before .before in
-    let a = s .args in
-    let u = c .before .before .before .before .before .before .before .before .before .before .flag-up in
-    marked-result (a .n) (a .mesh .now) (a .rows .now) (a .status .now) (a .marks .now) (a .kids .now) (a .red .now) (s .pre .0) (u .last .1 .1 .1 .1 .0) (u .ensures .flags)
+    let a = c .before .before .before .before .before .before .before .before .before .before .before .before .before .before .before .before .before .args in
+    let u = c .before .before .flag-up in
+    marked-result (a .n) (a .mesh .now) (a .rows .now) (a .status .now) (a .marks .now) (a .kids .now) (a .red .now) (c .before .before .before .before .before .before .before .before .before .before .before .before .before .before .before .before .before .pre) (u .last .1 .1 .1 .1 .0) (u .ensures .flags)
 
 pub new-reds-spec : {M : Type 1} → statement M
 new-reds-spec =
@@ -70,8 +53,4 @@ new-reds-spec =
     cast-flag-up
     flag-up-requires
     same-length
-    same-length-2
-    same-length-3
-    same-length-4
-    same-length-5
     returns)

@@ -14,14 +14,14 @@ use Rattle.tables.proofs.lay_coarse.Statement.{statement}
 use Rattle.tables.proofs.lay_coarse.Tie as tie
 
 abbrev Inv-loop : tie.InvT-loop
-Inv-loop mesh rows₀ count c₀ rows c = (c ≤ count) × (count ≡ length mesh / 4) × (length rows ≡ length rows₀) × (take (8 * c) rows ≡ flatMap coarseRow (take c (fours mesh)))
+Inv-loop mesh rows₀ count c₀ rows c = (c ≤ count) × (count ≡ length mesh / 4) × (take (8 * c) rows ≡ flatMap coarseRow (take c (fours mesh)))
 
 abbrev μ-loop : tie.MeasureT-loop
 μ-loop mesh rows₀ count c₀ rows c = count - c
 
 loop-holds : tie.Need-loop-holds Inv-loop μ-loop
 unfolding flatMap
-loop-holds c = (omega arith, refl, refl, refl)
+loop-holds c = (omega arith, refl, refl)
 
 mul-i : tie.Need-mul-i Inv-loop μ-loop
 mul-i c = search needs
@@ -70,24 +70,20 @@ loop-less c = search needs
 
 loop-again : tie.Need-loop-again Inv-loop μ-loop
 loop-again c =
-    let l = c .before .before .before .before .before .before .before .before .before .loop in
-    let a = c .before .before .before .before .before .before .before .before .before .before .before .before .args in
-    let w = c .before .before .write-row in (
-      omega (arith, c .before .before .before .before .before .before .before .before .loop-test .taken),
+    let l = c .before .before .before .before .before .before .before .loop in
+    let w = c .write-row in
+    let t = c .before .before .before .before .before .before .loop-test .taken in (
+      omega (arith, t),
       refl,
-      w .kept .0 ∙ l .inv .2,
-      rw (w .ensures) (row-more (a .mesh .now) (l .rows) (l .c) (omega (arith, c .before .before .before .before .before .before .before .before .loop-test .taken)) (omega (arith, l .inv .2, c .before .before .before .before .before .before .before .before .loop-test .taken, c .before .before .before .before .before .before .before .before .before .before .before .before .pre .long, c .before .before .before .before .before .before .before .before .before .before .before .before .pre .few)) (l .inv .3)),
+      rw (w .ensures) (row-more (c .before .before .before .before .before .before .before .before .before .args .mesh .now) (l .rows) (l .c) (omega (arith, t)) (omega (arith, t, c .before .before .before .before .before .write-row-arg, c .before .before .before .before .before .before .before .before .before .pre .few)) (l .inv .2)),
     )
-
-same-length : tie.Need-same-length Inv-loop μ-loop
-same-length c = search needs
 
 returns : tie.Need-returns Inv-loop μ-loop
 returns c =
     let l = c .before .loop in
-    let a = c .before .before .before .before .args in
+    let a = c .before .before .before .args in
     let k : l .c ≡ length (a .mesh .now) / 4 = omega (arith, l .inv .0, c .loop-test .left) in
-    let w = l .inv .3 in
+    let w = l .inv .2 in
     let t : take (length (a .mesh .now) / 4) (fours (a .mesh .now)) ≡ fours (a .mesh .now) = take-all (length (a .mesh .now) / 4) (fours (a .mesh .now)) (omega (arith, length-fours (a .mesh .now))) in
     (sym (length-fours (a .mesh .now)), rw (k, t) at w)
 
@@ -114,5 +110,4 @@ lay-coarse-spec =
     add-c
     loop-less
     loop-again
-    same-length
     returns)
