@@ -1,7 +1,7 @@
 -- Answers, and what the lent tables hold after them.
 -- Assumes nothing.
-use mathlib.Core.Path.{_≡_, sym, _∙_, ap}
-use mathlib.Core.Bool.{true, false}
+use mathlib.Core.Path.{_≡_, sym, _∙_, ap, refl}
+use mathlib.Core.Bool.{true, false, Bool}
 use mathlib.Core.List.{List}
 use Prim.Native.Nat.{ℕ, _≤_, _<_}
 use lib.IntN.{ℤ}
@@ -12,9 +12,12 @@ use Rattle.base.specs.declared.Answer.the-variants.{Accepted, Refused}
 use Rattle.mesh.specs.Coarse.{cornerCount, meshAnswer}
 use Rattle.mesh.specs.Table.{soundb}
 use Rattle.tables.specs.Sound.{unlessSound}
-use Rattle.layout.specs.Opened.{codeOf, answerOf}
-use Rattle.layout.specs.Calls.{andThen, tableAnswer, cellsIn, lentb, layoutAnswer, ancestorAnswer, countsAnswer}
+use Rattle.base.specs.Refuse.{answer-refused, answer-none, codeOf, answerOf, andThen}
+use Rattle.mesh.specs.Answers.{tableAnswer}
+use Rattle.layout.specs.Calls.{cellsIn, lentb, layoutAnswer, ancestorAnswer, countsAnswer}
 use Rattle.layout.proofs.Accepted.{mesh-code, mesh-passed}
+use native.Mathlib.Omega.{arith}
+use lib.Dec.{T}
 
 module _ (ps : List ℤ) (ts ss : List ℕ) where
   -- a table over a mesh that is refused, and over one that is not

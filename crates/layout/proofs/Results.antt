@@ -61,7 +61,7 @@ module _ (ps : List ℤ) (ts ss rows xs ys : List ℕ) (cells levels m : ℕ) (f
 
   -- what a layout leaves
   module _ (in-rows : 8 * cells ≤ length rows) (in-xs : m ≤ length xs) (in-ys : m ≤ length ys) where
-    fits-numbered : Numbered (cornerCount ps) xs ys m (cornersIn ps ts ss)
+    fits-numbered : CornersNumbered (cornerCount ps) xs ys m (cornersIn ps ts ss)
     fits-numbered = numbered (cornerCount ps) (cornersIn ps ts ss) xs ys m (f .sound .corners) in-xs in-ys
 
     pub table-after : (old new : List ℕ) → new ≡ take (8 * cells) rows ++ drop (8 * cells) old

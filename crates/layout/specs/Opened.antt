@@ -5,10 +5,9 @@
 --   Opened ..     the answer, and where there is no refusal the rest
 use mathlib.Core.Path.{_≡_}
 use mathlib.Core.List.{List}
-use Prim.Native.Nat.{ℕ, _≤_}
+use Prim.Native.Nat.{ℕ}
 use lib.Dec.{T}
 use lib.IntN.{ℤ}
-use lib.ListN.{length}
 use Rattle.base.specs.Fours.{fours}
 use Rattle.mesh.specs.Coarse.{cornerCount, positionsb}
 use Rattle.tables.specs.Sound.{Mesh, Sound}

@@ -11,9 +11,13 @@ ghost use Rattle.mesh.specs.Counts.{countTable};
 ghost use Rattle.corners.specs.Ends.{Ends, endNumbers};
 ghost use Rattle.corners.specs.Sums.{Smalls, sumNumbers};
 ghost use Rattle.ancestors.specs.Climb.{Upward, climbFrom};
-ghost use Rattle.ancestors.specs.Linked.{ancestorOf, noCell};
-ghost use Rattle.layout.specs.Opened.{codeOf, Opened};
-ghost use Rattle.layout.specs.Calls.{tableAnswer, heldAfter, levelsIn, cellsIn, cornersIn, lentb, layoutAnswer, sizesOf, laidOf, ancestorAnswer, ancestryOf, countsAnswer, countedOf};
+ghost use Rattle.ancestors.specs.Linked.{ancestorOf};
+ghost use Rattle.mesh.specs.Cells.{noCell};
+ghost use Rattle.base.specs.Refuse.{heldAfter};
+ghost use Rattle.base.specs.Lent.{was, is};
+ghost use Rattle.layout.specs.Opened.{Opened};
+ghost use Rattle.mesh.specs.Answers.{tableAnswer};
+ghost use Rattle.layout.specs.Calls.{levelsIn, cellsIn, cornersIn, lentb, layoutAnswer, sizesOf, laidOf, ancestorAnswer, ancestryOf, countsAnswer, countedOf};
 
 // How many cells, corners and levels a table has.
 pub struct Sizes {
@@ -37,16 +41,6 @@ pub enum Counted {
     Refused(u8),
 }
 
-// The number of an answer, 0 where it is accepted.
-pub fn code(answer: Answer) -> u8
-    ensures { λ r. ⌜ r ≡ codeOf answer ⌝ }
-{
-    match answer {
-        Answer::Accepted => 0,
-        Answer::Refused(k) => k,
-    }
-}
-
 // Examines a mesh and a table over it. Refusals 1 to 6.
 pub fn open(
     positions: &[i32],
@@ -56,7 +50,7 @@ pub fn open(
     xs: &mut [u32; 4096],
     ys: &mut [u32; 4096],
 ) -> Outcome
-    ensures { λ r. ⌜ Opened (now (positions .entry)) (now (cells .entry)) (now (status .entry)) (now (rows .exit)) (now (xs .exit)) (now (ys .exit)) (r .refusal) (r .cells) (r .levels) (r .mids) ⌝ }
+    ensures { λ r. ⌜ Opened (was positions) (was cells) (was status) (is rows) (is xs) (is ys) (r .refusal) (r .cells) (r .levels) (r .mids) ⌝ }
 {
     let refusal = base::code(coarse::examine_mesh(positions, cells));
     if refusal != 0 {
@@ -92,16 +86,6 @@ fn lent(table: &[u16], ends: &[u16], sums: &[i32]) -> bool
     sums.len() >= 49152
 }
 
-// Copies the first n numbers.
-pub fn copy(from: &[u16], n: usize, to: &mut [u16])
-    requires { ⌜ (n ≤ length (now from)) × (n ≤ length (now to)) ⌝ }
-    ensures { λ r. ⌜ now (to .exit) ≡ take n (now (from .entry)) ++ drop n (now (to .entry)) ⌝ }
-{
-    for i in 0..n {
-        to[i] = from[i];
-    }
-}
-
 // Writes the rows of a table, the ends and the sums of its corners.
 fn write_out(
     positions: &[i32],
@@ -119,12 +103,12 @@ fn write_out(
     requires { ⌜ Smalls 500000 (now positions) ⌝ }
     requires { ⌜ (m ≤ length (now xs) → m ≤ length (now ys) → Ends n (now xs) (now ys) m) ⌝ }
     requires { ⌜ (32768 ≤ length (now table)) × (32768 ≤ length (now ends)) × (49152 ≤ length (now sums)) ⌝ }
-    ensures { λ r. ⌜ (8 * cells ≤ length (now (rows .entry))) × (m ≤ length (now (xs .entry))) × (m ≤ length (now (ys .entry))) ⌝ }
-    ensures { λ r. ⌜ now (table .exit) ≡ take (8 * cells) (now (rows .entry)) ++ drop (8 * cells) (now (table .entry)) ⌝ }
-    ensures { λ r. ⌜ now (ends .exit) ≡ endNumbers n (now (xs .entry)) (now (ys .entry)) m ++ drop (2 * (n + m)) (now (ends .entry)) ⌝ }
-    ensures { λ r. ⌜ now (sums .exit) ≡ sumNumbers (now (positions .entry)) n (now (xs .entry)) (now (ys .entry)) m ++ drop (3 * (n + m)) (now (sums .entry)) ⌝ }
+    ensures { λ r. ⌜ (8 * cells ≤ length (was rows)) × (m ≤ length (was xs)) × (m ≤ length (was ys)) ⌝ }
+    ensures { λ r. ⌜ is table ≡ take (8 * cells) (was rows) ++ drop (8 * cells) (was table) ⌝ }
+    ensures { λ r. ⌜ is ends ≡ endNumbers n (was xs) (was ys) m ++ drop (2 * (n + m)) (was ends) ⌝ }
+    ensures { λ r. ⌜ is sums ≡ sumNumbers (was positions) n (was xs) (was ys) m ++ drop (3 * (n + m)) (was sums) ⌝ }
 {
-    copy(rows, 8 * cells, table);
+    base::copy_numbers(rows, 8 * cells, table);
     corners::fill_ends(xs, ys, n, m, ends);
     corners::fill_sums(positions, xs, ys, n, m, sums);
 }
@@ -187,7 +171,7 @@ pub fn lay_out(
 // A cell's coarse ancestor and level, by the rows.
 fn climb(rows: &[u16; 32768], cell: usize) -> Ancestor
     requires { ⌜ Upward (now rows) (cell + 1) ⌝ }
-    ensures { λ r. ⌜ r ≡ climbFrom (now (rows .entry)) cell cell ⌝ }
+    ensures { λ r. ⌜ r ≡ climbFrom (was rows) cell cell ⌝ }
 {
     ancestors::climb(rows, cell)
 }

@@ -320,7 +320,7 @@ pub fn new_reds(
     links: &mut [u16; 24576],
 )
     requires { ⌜ Marked n (now mesh) (now rows) (now status) (now marks) (now kids) (now red) ⌝ }
-    ensures { λ r. ⌜ now (red .exit) ≡ flagTable n (fours (now (mesh .entry))) (now (status .entry)) (now (marks .entry)) ++ drop (length (now (status .entry))) (now (red .entry)) ⌝ }
+    ensures { λ r. ⌜ is red ≡ flagTable n (fours (was mesh)) (was status) (was marks) ++ drop (length (was status)) (was red) ⌝ }
 {
     pairs::clear(heads);
     flag_up(

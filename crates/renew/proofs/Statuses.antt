@@ -62,6 +62,6 @@ module _ (ks : List Corner) (cs : List (Cell Point)) (p : All (Placed ks) cs) (f
         omega (
           arith,
           ap length reds-are,
-          length-reds zs (redsBy fs os) (l ∙ sym (same.length-reds fs os ∙ w .many)),
+          length-reds zs (redsBy fs os) (l ∙ sym (same.length-redsBy fs os ∙ w .many)),
           length-reds zs (statusesBy fs cs os) (l ∙ sym (length-statuses fs cs os (w .many))),
         )

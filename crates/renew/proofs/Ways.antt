@@ -121,7 +121,7 @@ module _ (n : ℕ) (qs : List (List ℕ)) (ss fs : List ℕ) (j first last : ℕ
   reds =
       let r = g .here .reds in
       let lo : length (ownFlags fs old rows first last) ≡ last - first =
-      same.length-reds fs olds ∙ length-part old first (last - first) (omega (arith, g .here .end, g .here .few, in-old)) in
+      same.length-redsBy fs olds ∙ length-part old first (last - first) (omega (arith, g .here .end, g .here .few, in-old)) in
       let q = length-reds (ownCells fs old rows first last) (ownFlags fs old rows first last) (length-cells rows first (last - first) ∙ sym lo) in
       let c = turn.made-count n qs ss fs j first last rows xs ys heads links k ps ps′ heads′ links′ m old table g small in
       record {

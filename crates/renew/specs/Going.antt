@@ -4,7 +4,7 @@
 --                   numbers in `old` are theirs
 use mathlib.Core.Path.{_≡_}
 use mathlib.Core.List.{List, flatten}
-use Prim.Native.Nat.{ℕ, _+_, _-_, _≤_}
+use Prim.Native.Nat.{ℕ, _+_, _-_}
 use lib.ListN.{length, take, drop}
 use Rattle.rows.specs.Numbered.{part}
 use Rattle.lineage.specs.Olds.{growBy}
@@ -21,5 +21,5 @@ module _ (n : ℕ) (qs : List (List ℕ)) (ss fs : List ℕ) (j first last : ℕ
     pub here : Here n qs (roomy (flatten (renewed n qs ss fs))) j first last rows xs ys heads links k ps ps′ heads′ links′ m
     pub owned : Owned (here .cells) (part old first (last - first))
     pub height : length (renewed n qs ss fs) ≡ j + length (growBy (length qs) ss fs (12 - j) first (here .cells) (part old first (last - first)))
-    pub rest : drop first (concat (renewed n qs ss fs)) ≡ concat (growBy (length qs) ss fs (12 - j) first (here .cells) (part old first (last - first)))
-    pub front : take first table ≡ take first (concat (renewed n qs ss fs))
+    pub rest : drop first (flatten (renewed n qs ss fs)) ≡ flatten (growBy (length qs) ss fs (12 - j) first (here .cells) (part old first (last - first)))
+    pub front : take first table ≡ take first (flatten (renewed n qs ss fs))

@@ -101,7 +101,7 @@ fn next_step(
     requires { ⌜ Going n (now mesh) (now rows) (now table) cells ⌝ }
     requires { ⌜ length (now marked) ≡ length (now marks) ⌝ }
     requires { ⌜ now digits ≡ digitTable ⌝ }
-    ensures { λ r. ⌜ Next n (now (mesh .entry)) (take cells (now (table .entry))) p e (pairs (now (marked .entry)) (now (marks .entry))) (now (rows .exit)) (now (table .exit)) (r .refusal) (r .cells) (r .levels) ⌝ }
+    ensures { λ r. ⌜ Next n (was mesh) (take cells (was table)) p e (pairs (was marked) (was marks)) (is rows) (is table) (r .refusal) (r .cells) (r .levels) ⌝ }
 {
     if e < p {
         return tables::refused(7);
@@ -138,14 +138,14 @@ fn next_step(
     if r.refusal != 0 {
         return r;
     }
-    layout::copy(new_rows, 8 * r.cells, rows);
-    step::copy(new, r.cells, table);
+    base::copy_numbers(new_rows, 8 * r.cells, rows);
+    base::copy_bytes(new, r.cells, table);
     r
 }
 
 // A mesh at rest: each cell a leaf, with its rows. Refusals 1 to 5.
 fn at_rest(positions: &[i32], cells: &[u16], rows: &mut [u16; 32768], table: &mut [u8; 4096]) -> Outcome
-    ensures { λ r. ⌜ Rested (now (positions .entry)) (now (cells .entry)) (now (rows .exit)) (now (table .exit)) (r .refusal) (r .cells) (r .levels) ⌝ }
+    ensures { λ r. ⌜ Rested (was positions) (was cells) (is rows) (is table) (r .refusal) (r .cells) (r .levels) ⌝ }
 {
     let k = few(cells.len() / 4);
     clear(table, k);
@@ -268,7 +268,7 @@ pub fn run(
     ends: &[u16],
     table: &mut [u8; 4096],
 ) -> Outcome
-    ensures { λ r. ⌜ Replayed (now (positions .entry)) (now (cells .entry)) (now (marked .entry)) (now (marks .entry)) (now (ends .entry)) (now (table .exit)) (r .refusal) (r .cells) (r .levels) ⌝ }
+    ensures { λ r. ⌜ Replayed (was positions) (was cells) (was marked) (was marks) (was ends) (is table) (r .refusal) (r .cells) (r .levels) ⌝ }
 {
     let mut rows = [0u16; 32768];
     let r = at_rest(positions, cells, &mut rows, table);

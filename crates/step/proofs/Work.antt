@@ -66,7 +66,7 @@ module _ (n : ℕ) (mesh rows ss : List ℕ) (h : Held n mesh rows ss) where
   qs = fours mesh
 
   levels : Levels ss (length qs)
-  levels = counting.sound-levels n qs ss (is-true (soundb n qs ss) (h .sound))
+  levels = counting.sound-counted n qs ss (is-true (soundb n qs ss) (h .sound))
 
   pub held-statuses : Statuses ss
   held-statuses = record { few = levels .small; fit = levels .statuses }

@@ -2,16 +2,17 @@
 use tables::Outcome;
 ghost use mathlib.Core.Path.{_≡_};
 ghost use Prim.Native.Nat.{_+_, _*_, _≤_, _<_};
-ghost use lib.ListN.{length};
+ghost use lib.ListN.{length, take, drop};
 ghost use Rattle.base.specs.Fours.{fours};
-ghost use Rattle.base.specs.Lent.{was, is};
 ghost use Rattle.cutting.specs.Answer.{digitTable};
 ghost use Rattle.mesh.specs.Coarse.{cornerCount};
 ghost use Rattle.base.specs.Refuse.{heldAfter};
+ghost use Rattle.base.specs.Lent.{was, is};
 ghost use Rattle.mesh.specs.Answers.{markb, marksb, newTable};
 ghost use Rattle.step.specs.Calls.{stepAnswer, steppedOf};
 ghost use Rattle.step.specs.Deep.{deepAt, deepFrom, Decided};
 ghost use Rattle.step.specs.Advanced.{Held, Advanced};
+ghost use mathlib.Core.List.{_++_};
 
 pub enum Stepped {
     Cells(usize),
@@ -162,22 +163,12 @@ pub fn advance(
     }
 }
 
-// Copies the first n bytes.
-pub fn copy(from: &[u8], n: usize, to: &mut [u8])
-    requires { ⌜ (n ≤ length (now from)) × (n ≤ length (now to)) ⌝ }
-    ensures { λ r. ⌜ now (to .exit) ≡ take n (now (from .entry)) ++ drop n (now (to .entry)) ⌝ }
-{
-    for i in 0..n {
-        to[i] = from[i];
-    }
-}
-
 // Copies the first n statuses of a new table.
 fn hand_out(new: &[u8; 4096], n: usize, table: &mut [u8])
     requires { ⌜ (n ≤ 4096) × (n ≤ length (now table)) ⌝ }
-    ensures { λ r. ⌜ now (table .exit) ≡ take n (now (new .entry)) ++ drop n (now (table .entry)) ⌝ }
+    ensures { λ r. ⌜ is table ≡ take n (was new) ++ drop n (was table) ⌝ }
 {
-    copy(new, n, table);
+    base::copy_bytes(new, n, table);
 }
 
 // One step: the new status table in the lent one, and how many cells it has. Refusals 15 and 1 to 9.

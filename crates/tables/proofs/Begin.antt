@@ -8,25 +8,23 @@ use lib.ListN.{length, take}
 use Rattle.base.specs.Bools.{one-if}
 use Rattle.base.specs.Places.{hasb}
 use Rattle.base.specs.Fours.{fours, length-fours}
+use Rattle.mesh.specs.Laws.{length-from}
 use Rattle.mesh.specs.Cells.{none, redEdges}
 use Rattle.mesh.specs.Weights.{coarseCells}
 use Rattle.mesh.specs.Table.{cellsOf}
 use Rattle.mesh.specs.Layout.{coarseCorners, cornersFrom, rowOf, childNumber}
 use Rattle.pairs.specs.Keys.{Clear}
-use Rattle.edges.specs.Pairs.{Pair, pairsOf}
-use Rattle.edges.specs.Table.{listed}
-use Rattle.edges.proofs.Seek.{none-listed}
-use Rattle.lattice.specs.Every.{All}
+use Rattle.edges.specs.Pairs.{pairsOf}
+use Rattle.edges.specs.Seek.{none-listed}
 use Rattle.lattice.specs.Levels.{fours-four}
 use Rattle.numbering.specs.Corners.{corners-start}
 use Rattle.numbering.specs.Coarse.{coarseNumbersFrom, coarseNumbers, coarse-numbers}
 use Rattle.numbering.specs.Stages.{stage-start}
 use Rattle.tables.specs.Levels.{reached-start}
-use Rattle.tables.specs.Here.{Here, Child, Mids}
+use Rattle.tables.specs.Here.{Here}
 use Rattle.tables.specs.Start.{coarseRow}
 use Rattle.tables.specs.Sound.{Mesh}
-use Rattle.tables.proofs.CoarseRows.{length-fours}
-use Rattle.tables.proofs.Rising.{deep-coarse, child-coarse, length-coarse}
+use Rattle.tables.proofs.Rising.{deep-coarse, child-coarse}
 
 rows-from : (i : ℕ) (qs : List (List ℕ)) → flatMap rowOf (coarseNumbersFrom i qs) ≡ flatMap coarseRow qs
 unfolding flatMap coarseNumbersFrom rowOf coarseRow childNumber one-if

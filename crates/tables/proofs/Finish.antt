@@ -2,10 +2,10 @@
 -- Assumes nothing.
 use mathlib.Core.Path.{_≡_, refl, sym, _∙_, ap}
 use mathlib.Core.Logic.{⊎-elim}
-use mathlib.Core.Bool.{false}
+use mathlib.Core.Bool.{false, Bool, true}
 use mathlib.Core.List.{List, [], _∷_, _++_, flatMap}
 use Rattle.numbering.specs.Renamed.{apartOf}
-use Prim.Native.Nat.{ℕ, suc, _+_, _-_, _<_}
+use Prim.Native.Nat.{ℕ, suc, _+_, _-_, _<_, _≤_}
 use native.Mathlib.Omega.{arith}
 use lib.Dec.{eqb, leb}
 use lib.ListN.{length, take}
@@ -24,8 +24,7 @@ use Rattle.closure.specs.Ready.{Looks}
 use Rattle.separation.specs.Parents.{Parents, apartAll}
 use Rattle.counting.specs.Sound.{sound-counted}
 use Rattle.tables.specs.Here.{Top, Child}
-use Rattle.tables.specs.Sound.{Sound, tableCells, tableCorners, unlessSound, Examined}
-use Rattle.tables.proofs.Cells.{Four}
+use Rattle.tables.specs.Sound.{Sound, tableCorners, unlessSound, Examined}
 use Rattle.tables.proofs.Apart.{apart-rows, parents-rows}
 use Rattle.tables.proofs.Onward.{four-in, length-in}
 
@@ -43,7 +42,7 @@ module _ (n : ℕ) (qs : List (List ℕ)) (ss rows ps ps′ : List ℕ) (refusal
   unfolding unlessSound
   unsound-examined u = record { answer = six ∙ sym (ap unlessSound u); sound = λ z. absurd (omega arith) }
 
-pub rows-in : (ks : List Corner) (cs : List (Cell Point)) → flatMap rowOf (cellsIn ks cs) ≡ cellTable ks cs
+pub rows-in : (ks : List Corner) (cs : List (Cell Point)) → flatMap rowOf (numberedCells ks cs) ≡ cellTable ks cs
 unfolding flatMap cellTable
 rows-in ks [] = refl
 rows-in ks (c ∷ cs) = ap (λ (l : List ℕ). rowOf (mapCell (numberIn ks) c) ++ l) (rows-in ks cs)

@@ -255,7 +255,7 @@ module _ (n : ℕ) (qs : List (List ℕ)) (ss : List ℕ) (j first last : ℕ) (
         (length-map (numberedCells (h .corners) (h .cells)) strip ∙ length-in (h .corners) (h .cells) ∙ same-length) fits-part) in
         let e : 8 * last′ ≡ 8 * last + length vs = omega (arith, lv, end-is, length-up) in
         let room : 8 * last + length vs ≤ length rows = omega (arith, lv, long, st .few, ap sizes own-is) in
-        let kept : cellsIn ks′ (before ++ h .cells) ≡ cellsIn (h .corners) (before ++ h .cells) = cells-kept (h .corners) ks′ (step .kept) (before ++ h .cells) all-before in
+        let kept : numberedCells ks′ (before ++ h .cells) ≡ numberedCells (h .corners) (before ++ h .cells) = cells-kept (h .corners) ks′ (step .kept) (before ++ h .cells) all-before in
         rw (e, g .rows) (take-written rows (8 * last) vs room
         ∙ ap₂ _++_ (h .table) new-rows
         ∙ sym (ap (flatMap rowOf) (map-append (mapCell (numberIn ks′)) (before ++ h .cells) up ∙ ap (λ (l : List (Cell ℕ)). l ++ numberedCells ks′ up) kept)

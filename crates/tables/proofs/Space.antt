@@ -5,17 +5,15 @@ use mathlib.Core.Bool.{Bool, true, false}
 use mathlib.Core.List.{List, [], _∷_}
 use Prim.Native.Nat.{ℕ, _+_, _*_, _-_, _≤_, _<_}
 use native.Mathlib.Omega.{arith}
-use lib.Dec.{T, eqb, leb}
-use lib.ListN.{length, getD, take, drop}
-use borrow.Author.Tests.{eqb-true, le-leb}
-use Rattle.base.specs.Lists.{allb, one-if, and-left, and-right}
-use Rattle.mesh.specs.Cells.{Cell, redb, redEdges, closedFrom}
-use Rattle.pairs.specs.Keys.{Keys}
-use Rattle.edges.specs.Pairs.{Pair, addPairs, pairsOf}
-use Rattle.edges.specs.Table.{Table, Edges, Grown, listed}
-use Rattle.edges.proofs.Seek.{none-listed}
-use Rattle.rows.specs.Numbered.{sizeOf, sizes, part, cellsAt}
-use Rattle.sizes.proofs.Sums.{size-red}
+use lib.ListN.{length}
+use borrow.Author.Tests.{eqb-true}
+use Rattle.base.specs.Bools.{one-if}
+use Rattle.mesh.specs.Cells.{redb}
+use Rattle.edges.specs.Pairs.{addPairs, pairsOf}
+use Rattle.edges.specs.Table.{Grown, listed}
+use Rattle.edges.specs.Seek.{none-listed}
+use Rattle.mesh.specs.Table.{sizeOf, sizes}
+use Rattle.rows.specs.Sizes.{size-red}
 use Rattle.closure.specs.Ready.{redCount, Ready, Looks, listedClosed}
 use Rattle.closure.specs.Steps.{length-reds}
 use Rattle.closure.specs.Closed.{lists-added, closed-listed}

@@ -17,7 +17,7 @@ use Rattle.mesh.specs.Layout.{Corner, coarseCorners, cornersFrom, rowOf}
 use Rattle.edges.specs.Table.{Edges, listed}
 use Rattle.base.specs.Every.{All}
 use Rattle.numbering.specs.Corners.{NumberedCorners}
-use Rattle.numbering.specs.Tests.{numberedCells, Placed}
+use Rattle.numbering.specs.Tests.{Placed, numberedCells}
 use Rattle.numbering.specs.Stages.{Stage}
 use Rattle.closure.specs.Closed.{Lists}
 use Rattle.tables.specs.Levels.{Reached}
@@ -47,8 +47,8 @@ module _ (n : ℕ) (qs : List (List ℕ)) (ss : List ℕ) (j first last : ℕ) (
       pub named : cornersFrom (coarseCorners n) (cellsOf (reached .done)) (take first ss) ≡ corners
       pub deep : T (allb (λ c. eqb (length (c .path)) (suc j)) cells)
       pub children : All (Child last) (cellsOf (reached .done) ++ cells)
-      pub table : take (8 * last) rows ≡ flatMap rowOf (cellsIn corners (cellsOf (reached .done) ++ cells))
-      pub red : Lists (listed xs ys 0 k) (redEdges 0 (cellsIn corners (cellsOf (reached .done))) (take first ss))
+      pub table : take (8 * last) rows ≡ flatMap rowOf (numberedCells corners (cellsOf (reached .done) ++ cells))
+      pub red : Lists (listed xs ys 0 k) (redEdges 0 (numberedCells corners (cellsOf (reached .done))) (take first ss))
       pub reds : Reds xs ys heads links k last
       pub mids : Mids ps qs′ heads′ links′ m last
 
@@ -68,7 +68,7 @@ module _ (n : ℕ) (qs : List (List ℕ)) (ss : List ℕ) (j last : ℕ) (rows :
       pub named : cornersFrom (coarseCorners n) all (take last ss) ≡ corners
       pub numbered : NumberedCorners n corners (listed ps qs′ 0 m)
       pub children : All (Child last) all
-      pub table : take (8 * last) rows ≡ flatMap rowOf (cellsIn corners all)
-      pub red : Lists (listed xs ys 0 k) (redEdges 0 (cellsIn corners all) (take last ss))
+      pub table : take (8 * last) rows ≡ flatMap rowOf (numberedCells corners all)
+      pub red : Lists (listed xs ys 0 k) (redEdges 0 (numberedCells corners all) (take last ss))
       pub reds : Reds xs ys heads links k last
       pub mids : Mids ps qs′ heads′ links′ m last

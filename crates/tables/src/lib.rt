@@ -55,7 +55,7 @@ fn check_level(
     requires { ⌜ Statuses (now status) ⌝ }
     requires { ⌜ Reds (now xs) (now ys) (now heads) (now links) n last ⌝ }
     requires { ⌜ (first ≤ last) × (last ≤ 4096) ⌝ }
-    ensures { λ r. ⌜ Checked (now (rows .entry)) (now (status .entry)) first last (now (xs .entry)) (now (ys .entry)) n (now (xs .exit)) (now (ys .exit)) (now (heads .exit)) (now (links .exit)) (r .ok) (r .n) (r .size) ⌝ }
+    ensures { λ r. ⌜ Checked (was rows) (was status) first last (was xs) (was ys) n (is xs) (is ys) (is heads) (is links) (r .ok) (r .n) (r .size) ⌝ }
 {
     if last > status.len() {
         return Level {
@@ -76,7 +76,7 @@ fn check_level(
 // Lays out the coarse cells.
 pub fn lay_coarse(mesh: &[u16], rows: &mut [u16; 32768]) -> usize
     requires { ⌜ Coarse (now mesh) ⌝ }
-    ensures { λ r. ⌜ (r ≡ length (fours (now (mesh .entry)))) × (take (8 * r) (now (rows .exit)) ≡ flatMap coarseRow (fours (now (mesh .entry)))) ⌝ }
+    ensures { λ r. ⌜ (r ≡ length (fours (was mesh))) × (take (8 * r) (is rows) ≡ flatMap coarseRow (fours (was mesh))) ⌝ }
 {
     let count = mesh.len() / 4;
     let mut c = 0;
@@ -119,7 +119,7 @@ fn build(
     requires { ⌜ Mesh n (now mesh) ⌝ }
     requires { ⌜ Statuses (now status) ⌝ }
     requires { ⌜ now digits ≡ digitTable ⌝ }
-    ensures { λ r. ⌜ Examined n (fours (now (mesh .entry))) (now (status .entry)) (now (rows .exit)) (now (ps .exit)) (now (qs .exit)) (r .refusal) (r .cells) (r .levels) (r .mids) ⌝ }
+    ensures { λ r. ⌜ Examined n (fours (was mesh)) (was status) (is rows) (is ps) (is qs) (r .refusal) (r .cells) (r .levels) (r .mids) ⌝ }
 {
     pairs::clear(heads);
     pairs::clear(mid_heads);
@@ -186,12 +186,12 @@ pub fn examine(
     qs: &mut [u32; 4096],
 ) -> Outcome
     requires { ⌜ Mesh n (now mesh) ⌝ }
-    ensures { λ r. ⌜ Examined n (fours (now (mesh .entry))) (now (status .entry)) (now (rows .exit)) (now (ps .exit)) (now (qs .exit)) (r .refusal) (r .cells) (r .levels) (r .mids) ⌝ }
+    ensures { λ r. ⌜ Examined n (fours (was mesh)) (was status) (is rows) (is ps) (is qs) (r .refusal) (r .cells) (r .levels) (r .mids) ⌝ }
 {
     if status.len() > 4096 {
         return refused(6);
     }
-    if !sizes::fits(status) {
+    if !rows::fits(status) {
         return refused(6);
     }
     let mut xs = [0u32; 3072];

@@ -1,12 +1,12 @@
 -- `layout::lay_out` meets its contract.
 -- Assumes nothing.
 use mathlib.Core.Path.{_≡_, sym, _∙_}
-use mathlib.Core.Bool.{true}
 use native.Mathlib.Omega.{arith}
 use borrow.Author.Tests.{not-true, not-false}
 use Rattle.base.specs.declared.Answer.the-variants.{Accepted, Refused}
-use Rattle.layout.specs.Calls.{lentb, layoutAnswer, laidOf, heldAfter}
-use Rattle.layout.proofs.Answers.{answer-refused, answer-none, layout-short, layout-long}
+use Rattle.layout.specs.Calls.{layoutAnswer, laidOf}
+use Rattle.base.specs.Refuse.{heldAfter, answer-refused, answer-none}
+use Rattle.layout.proofs.Answers.{layout-short, layout-long}
 use Rattle.layout.proofs.Results.{Lent, lent-long, fits-few, fits-corners, fits-ends, fits-small, table-after, ends-after, sums-after}
 use borrow.Author.Needs.{needs}
 use Rattle.layout.proofs.lay_out.Statement.{statement}

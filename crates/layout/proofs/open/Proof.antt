@@ -1,9 +1,7 @@
 -- `layout::open` meets its contract: the mesh is examined first, then the table.
 -- Assumes nothing.
-use mathlib.Core.Path.{_≡_, sym, _∙_, ap}
-use native.Mathlib.Omega.{arith}
-use Rattle.mesh.specs.Coarse.{meshAnswer}
-use Rattle.layout.specs.Opened.{codeOf, answerOf}
+use mathlib.Core.Path.{sym, _∙_, ap}
+use Rattle.base.specs.Refuse.{codeOf, answerOf}
 use Rattle.layout.proofs.Accepted.{mesh-passed}
 use Rattle.layout.proofs.Answers.{table-mesh, table-examined, examined-sound}
 use borrow.Author.Needs.{needs}

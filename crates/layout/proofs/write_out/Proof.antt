@@ -1,16 +1,15 @@
 -- `layout::write_out` meets its contract.
 -- Assumes nothing.
-use mathlib.Core.Path.{_≡_}
 use native.Mathlib.Omega.{arith}
 use borrow.Author.Needs.{needs}
 use Rattle.layout.proofs.write_out.Statement.{statement}
 use Rattle.layout.proofs.write_out.Tie as tie
 
-mul-copy : tie.Need-mul-copy
-mul-copy c = search needs
+mul-copy-numbers : tie.Need-mul-copy-numbers
+mul-copy-numbers c = search needs
 
-copy-requires : tie.Need-copy-requires
-copy-requires c κs = search needs
+copy-numbers-requires : tie.Need-copy-numbers-requires
+copy-numbers-requires c κs = search needs
 
 fill-ends-requires : tie.Need-fill-ends-requires
 fill-ends-requires c κs = let p = c .before .before .before .before .before .before .before .before .before .before .pre in (p .1 .1 .0 (omega (arith, p .0 .0, p .0 .1)) (omega (arith, p .0 .0, p .0 .1)), (omega (arith, p .0), omega (arith, p .0, p .1 .1 .1 .1)))
@@ -28,14 +27,14 @@ same-length-3 : tie.Need-same-length-3
 same-length-3 c = search needs
 
 returns : tie.Need-returns
-returns c = ((omega (arith, c .before .before .before .before .before .before .before .before .before .before .before .before .before .before .before .before .before .before .pre .0 .0, c .before .before .before .before .before .before .before .before .before .before .before .before .before .before .before .copy-arg), omega (arith, c .before .before .before .before .before .before .before .before .before .before .before .before .before .before .before .before .before .before .pre .0, c .before .before .before .before .before .before .before .before .before .before .fill-ends-arg), omega (arith, c .before .before .before .before .before .before .before .before .before .before .before .before .before .before .before .before .before .before .pre .0, c .before .before .before .before .before .before .before .before .before .fill-ends-arg2)), (c .before .before .before .before .before .before .before .before .before .before .before .before .before .copy .ensures, (c .before .before .before .before .before .before .before .fill-ends .ensures, c .before .fill-sums .ensures)))
+returns c = ((omega (arith, c .before .before .before .before .before .before .before .before .before .before .before .before .before .before .before .before .before .before .pre .0 .0, c .before .before .before .before .before .before .before .before .before .before .before .before .before .before .before .copy-numbers-arg), omega (arith, c .before .before .before .before .before .before .before .before .before .before .before .before .before .before .before .before .before .before .pre .0, c .before .before .before .before .before .before .before .before .before .before .fill-ends-arg), omega (arith, c .before .before .before .before .before .before .before .before .before .before .before .before .before .before .before .before .before .before .pre .0, c .before .before .before .before .before .before .before .before .before .fill-ends-arg2)), (c .before .before .before .before .before .before .before .before .before .before .before .before .before .copy-numbers .ensures, (c .before .before .before .before .before .before .before .fill-ends .ensures, c .before .fill-sums .ensures)))
 
 pub write-out-spec : {M : Type 1} → statement M
 write-out-spec =
     tie.close
     (tie.spec
-    mul-copy
-    copy-requires
+    mul-copy-numbers
+    copy-numbers-requires
     fill-ends-requires
     fill-sums-requires
     same-length

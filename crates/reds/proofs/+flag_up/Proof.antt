@@ -7,7 +7,6 @@ use Rattle.reds.proofs.Up.{above-none, level-up, reds-range, reds-ready
 use Prim.Native.Nat.{ℕ, suc, _-_, _<_}
 use borrow.Fn.Kinds.{In}
 use borrow.Fn.PlainCycle.{Measures, is, falls, and}
-use borrow.Author.Needs.{needs}
 use Rattle.reds.proofs.flag_up.Reads as flag-up
 use Rattle.reds.proofs.flag_up.Kinds as flag-up-kinds
 use Rattle.reds.proofs.+flag_up.Lts-flag_up as flag-up-lts

@@ -3,7 +3,6 @@
 use Rattle.renew.proofs.Making.{made-over, make-ready, make-looks, made}
 use native.Mathlib.Omega.{arith}
 use mathlib.Core.Path.{_∙_}
-use borrow.Author.Needs.{needs}
 use Rattle.renew.proofs.make_level.Statement.{statement}
 use Rattle.renew.proofs.make_level.Tie as tie
 

@@ -1,7 +1,6 @@
 -- `renew::renew` meets its contract: the loop holds `Going` (crate's specs), and each way out is one of its laws. The measure is
 -- the number of levels left.
 -- Assumes nothing.
-use mathlib.Core.Path.{_≡_, refl, _∙_}
 use Prim.Native.Nat.{_-_, _≤_}
 use native.Mathlib.Numerals.{add-one}
 use native.Mathlib.Omega.{arith}

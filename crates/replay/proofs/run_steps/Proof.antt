@@ -1,6 +1,6 @@
 -- `replay::run_steps` meets its contract: the rest of the steps comes to what the whole comes to. The measure is what is left of them.
 -- Assumes nothing.
-use mathlib.Core.Path.{_≡_, refl, _∙_}
+use mathlib.Core.Path.{refl, _∙_}
 use Prim.Native.Nat.{_-_, _<_}
 use native.Mathlib.Omega.{arith}
 use lib.ListN.{length, take}

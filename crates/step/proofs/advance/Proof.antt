@@ -1,12 +1,10 @@
 -- `step::advance` meets its contract: each part asks for what the table that is held gives, and their results come to the step's.
 -- Assumes nothing.
 use mathlib.Core.Path.{sym}
-use Prim.Native.Nat.{_≤_}
 use native.Mathlib.Omega.{arith}
 use lib.ListN.{length}
 use lib.Seq.{length-take-le}
 use Rattle.step.proofs.Work.{held-statuses, held-coarse, held-rows, held-kids, held-marked, advanced}
-use borrow.Author.Needs.{needs}
 use Rattle.step.proofs.advance.Statement.{statement}
 use Rattle.step.proofs.advance.Tie as tie
 

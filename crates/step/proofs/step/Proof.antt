@@ -6,8 +6,9 @@ use native.Mathlib.Omega.{arith}
 use borrow.Author.Tests.{not-true, not-false}
 use Rattle.base.specs.Fours.{fours}
 use Rattle.mesh.specs.Coarse.{cornerCount}
-use Rattle.layout.proofs.Answers.{answer-refused, answer-none}
-use Rattle.step.specs.Calls.{newTable, stepAnswer}
+use Rattle.base.specs.Refuse.{answer-refused, answer-none}
+use Rattle.mesh.specs.Answers.{newTable}
+use Rattle.step.specs.Calls.{stepAnswer}
 use Rattle.step.proofs.Answers.{step-short, step-table, step-marks, step-limits, refused-so, accepted-so, marks-many, opened-held}
 use borrow.Author.Needs.{needs}
 use Rattle.step.proofs.step.Statement.{statement}

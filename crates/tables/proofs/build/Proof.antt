@@ -2,7 +2,7 @@
 -- the number of levels left.
 -- Assumes nothing.
 use mathlib.Core.Path.{_≡_, sym, _∙_}
-use Prim.Native.Nat.{_-_, _≤_}
+use Prim.Native.Nat.{_-_}
 use native.Mathlib.Numerals.{add-one}
 use native.Mathlib.Omega.{arith}
 use borrow.Author.Tests.{not-true, not-false}
@@ -14,6 +14,7 @@ use Rattle.tables.proofs.Finish.{unsound-examined, top-looks, top-paren
 use borrow.Author.Needs.{needs}
 use Rattle.tables.proofs.build.Statement.{statement}
 use Rattle.tables.proofs.build.Tie as tie
+use lib.ListN.{length}
 
 abbrev Inv-loop : tie.InvT-loop
 Inv-loop mesh status n rows₀ ps₀ qs₀ xs₀ ys₀ heads₀ links₀ mid-heads₀ mid-links₀ digits coarse first₀ last₀ level₀ k₀ m₀ rows ps qs xs ys heads links mid-heads mid-links first last level k m = Here n (fours mesh) status level first last rows xs ys heads links k ps qs mid-heads mid-links m

@@ -1,6 +1,6 @@
 -- `tables::lay_coarse` meets its contract: a turn writes the row of the next coarse cell. The measure is what is left of them.
 -- Assumes nothing.
-use mathlib.Core.Path.{_≡_, refl, sym, _∙_}
+use mathlib.Core.Path.{_≡_, refl, sym}
 use mathlib.Core.List.{flatMap}
 use Prim.Native.Nat.{_*_, _/_, _-_, _≤_}
 use native.Mathlib.Omega.{arith}
