@@ -1,11 +1,12 @@
 // The calls on archives of jobs.
+use tables::Outcome;
 ghost use mathlib.Core.Path.{_≡_};
 ghost use mathlib.Core.List.{_++_};
 ghost use Prim.Native.Nat.{_+_, _*_, _≤_};
 ghost use lib.Dec.{leb};
-ghost use lib.ListN.{length, drop};
-ghost use Rattle.base.specs.Lent.{was, is};
-ghost use Rattle.base.specs.Refuse.{heldAfter};
+ghost use lib.ListN.{length, take, drop};
+ghost use Rattle.counting.specs.Levels.{Levels, levelNumber, levelCounts};
+ghost use Rattle.layout.specs.Calls.{heldAfter};
 ghost use Rattle.archive.specs.Job.{jobBytes};
 ghost use Rattle.archive.specs.Form.{jobOf};
 ghost use Rattle.archive.specs.Tables.{markedOf, marksOf, endsOf};
@@ -43,39 +44,19 @@ pub enum Writing {
     Refused(u8),
 }
 
-// What an archive replays to: the refusal, 0 where there is none, and then how many coarse cells, cells and levels the table has.
-struct Done {
-    refusal: u8,
-    coarse: usize,
-    cells: usize,
-    levels: usize,
-}
-
-fn failed(refusal: u8) -> Done
-    ensures { λ r. ⌜ r .refusal ≡ refusal ⌝ }
-{
-    Done {
-        refusal,
-        coarse: 0,
-        cells: 0,
-        levels: 0,
-    }
-}
-
 // Replays an archive; its table is in front of the lent one. Refusals 17, 1 to 5 and 7 to 9.
-fn reopen(bytes: &[u8], table: &mut [u8]) -> Done
-    requires { ⌜ 4096 ≤ length (now table) ⌝ }
-    ensures { λ r. ⌜ Reopened (was bytes) (is table) (r .refusal) (r .coarse) (r .cells) (r .levels) ⌝ }
+fn reopen(bytes: &[u8], table: &mut [u8; 4096]) -> Outcome
+    ensures { λ r. ⌜ Reopened (now (bytes .entry)) (now (table .exit)) (r .refusal) (r .coarse) (r .cells) (r .levels) ⌝ }
 {
     let f = archive::examine_form(bytes);
     if !f.ok {
-        return failed(17);
+        return tables::refused(17);
     }
     if f.corners > 512 {
-        return failed(1);
+        return tables::refused(1);
     }
     if f.cells > 256 {
-        return failed(1);
+        return tables::refused(1);
     }
     let mut positions = [0i32; 1536];
     let mut cells = [0u16; 1024];
@@ -103,12 +84,32 @@ fn reopen(bytes: &[u8], table: &mut [u8]) -> Done
         &ends[..g],
         table,
     );
-    Done {
+    Outcome {
         refusal: r.refusal,
         coarse: f.cells,
         cells: r.cells,
         levels: r.levels,
+        mids: r.mids,
     }
+}
+
+// Hands out the first k statuses of a new table over so many coarse cells, and the counts of its levels. Gives how many levels there are.
+fn hand_out(
+    new: &[u8; 4096],
+    coarse: usize,
+    k: usize,
+    table: &mut [u8],
+    counts: &mut [u16],
+) -> usize
+    requires { ⌜ (k ≤ 4096) × (k ≤ length (now table)) × (44 ≤ length (now counts)) ⌝ }
+    requires { ⌜ Levels (take k (now new)) coarse ⌝ }
+    ensures { λ r. ⌜ r ≡ levelNumber 12 0 coarse (take k (now (new .entry))) ⌝ }
+    ensures { λ r. ⌜ now (table .exit) ≡ take k (now (new .entry)) ++ drop k (now (table .entry)) ⌝ }
+    ensures { λ r. ⌜ now (counts .exit) ≡ levelCounts 12 0 coarse (take k (now (new .entry))) ++ drop (4 * r) (now (counts .entry)) ⌝ }
+{
+    let status = &new[..];
+    step::copy(status, k, table);
+    counting::count_levels(&status[..k], coarse, counts)
 }
 
 // Replays an archive: its table in the one lent, and the counts of every level. Refusals 15, 17, 1 to 5 and 7 to 9.
@@ -131,8 +132,7 @@ pub fn replay(bytes: &[u8], table: &mut [u8], counts: &mut [u16]) -> Replayed
         return Replayed::Refused(r.refusal);
     }
     let k = r.cells;
-    counting::count_levels(&new[..k], r.coarse, counts);
-    base::copy_bytes(&new, k, table);
+    hand_out(&new, r.coarse, k, table, counts);
     Replayed::Done(Size {
         cells: k,
         levels: r.levels,

@@ -1,6 +1,6 @@
 // The calls on a status table over a coarse mesh: examined, laid out, a cell's ancestor, the counts of every level.
-use base::Answer;
 use ancestors::Ancestor;
+use base::Answer;
 use tables::Outcome;
 ghost use mathlib.Core.Path.{_≡_};
 ghost use mathlib.Core.List.{_++_};

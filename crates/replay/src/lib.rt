@@ -144,8 +144,13 @@ fn next_step(
 }
 
 // A mesh at rest: each cell a leaf, with its rows. Refusals 1 to 5.
-fn at_rest(positions: &[i32], cells: &[u16], rows: &mut [u16; 32768], table: &mut [u8; 4096]) -> Outcome
-    ensures { λ r. ⌜ Rested (was positions) (was cells) (is rows) (is table) (r .refusal) (r .cells) (r .levels) ⌝ }
+fn at_rest(
+    positions: &[i32],
+    cells: &[u16],
+    rows: &mut [u16; 32768],
+    table: &mut [u8; 4096],
+) -> Outcome
+    ensures { λ r. ⌜ Rested (now (positions .entry)) (now (cells .entry)) (now (rows .exit)) (now (table .exit)) (r .refusal) (r .cells) (r .levels) ⌝ }
 {
     let k = few(cells.len() / 4);
     clear(table, k);

@@ -1,3 +1,5 @@
+-- `jobs::write` meets its contract.
+-- Assumes nothing.
 use Rattle.jobs.proofs.WriteAnswers.{write-short, write-refused, write-taken, write-many, write-few, write-done}
 use borrow.Author.Tests.{not-true, not-false}
 use native.Mathlib.Omega.{arith}
@@ -5,60 +7,45 @@ use mathlib.Core.Path.{sym, _∙_}
 use borrow.Author.Needs.{needs}
 use Rattle.jobs.proofs.write.Statement.{statement}
 use Rattle.jobs.proofs.write.Tie as tie
-use Rattle.jobs.proofs.write.Reads as reads
-use Rattle.jobs.proofs.write.Lts as lts
-use Rattle.archive.proofs.store.Reads as store-reads
-use Rattle.jobs.proofs.fits.Reads as fits-reads
-use Rattle.replay.proofs.run.Reads as run-reads
 
 returns : tie.Need-returns
 returns c =
-    let s = c .before .before .before .before .before .before in
-    write-short (s .args .positions .now) (s .args .cells .now) (s .args .marked .now) (s .args .marks .now) (s .args .ends .now) (s .args .bytes .now) (c .if1 .taken)
-
-slice-aggregate-run : tie.Need-slice-aggregate-run
-slice-aggregate-run c = search needs
+    write-short (c .before .before .before .before .before .before .args .positions .now) (c .before .before .before .before .before .before .args .cells .now) (c .before .before .before .before .before .before .args .marked .now) (c .before .before .before .before .before .before .args .marks .now) (c .before .before .before .before .before .before .args .ends .now) (c .before .before .before .before .before .before .args .bytes .now) (c .if1 .taken)
 
 run-requires : tie.Need-run-requires
 run-requires c κs = search needs
 
 returns-2 : tie.Need-returns-2
 returns-2 c =
-    let s = c .before .before .before .before .before .before .before .before .before .before .before in
-    write-refused (s .args .positions .now) (s .args .cells .now) (s .args .marked .now) (s .args .marks .now) (s .args .ends .now) (s .args .bytes .now) (omega (arith, c .before .before .before .before .before .if1 .left)) _ _ _ _ (c .before .before .before .run .ensures) (c .if2 .taken)
+    write-refused (c .before .before .before .before .before .before .before .before .before .before .args .positions .now) (c .before .before .before .before .before .before .before .before .before .before .args .cells .now) (c .before .before .before .before .before .before .before .before .before .before .args .marked .now) (c .before .before .before .before .before .before .before .before .before .before .args .marks .now) (c .before .before .before .before .before .before .before .before .before .before .args .ends .now) (c .before .before .before .before .before .before .before .before .before .before .args .bytes .now) (omega (arith, c .before .before .before .before .if1 .left)) _ _ _ _ (c .before .before .run .ensures) (c .if2 .taken)
 
 fits-requires : tie.Need-fits-requires
 fits-requires c κs =
-    let s = c .before .before .before .before .before .before .before .before .before .before .before in
-    let t = write-taken (s .args .positions .now) (s .args .cells .now) (s .args .marked .now) (s .args .marks .now) (s .args .ends .now) (s .args .bytes .now) (omega (arith, c .before .before .before .before .before .if1 .left)) _ _ _ _ (c .before .before .before .run .ensures) (c .if2 .left) in
+    let t = write-taken (c .before .before .before .before .before .before .before .before .before .before .args .positions .now) (c .before .before .before .before .before .before .before .before .before .before .args .cells .now) (c .before .before .before .before .before .before .before .before .before .before .args .marked .now) (c .before .before .before .before .before .before .before .before .before .before .args .marks .now) (c .before .before .before .before .before .before .before .before .before .before .args .ends .now) (c .before .before .before .before .before .before .before .before .before .before .args .bytes .now) (omega (arith, c .before .before .before .before .if1 .left)) _ _ _ _ (c .before .before .run .ensures) (c .if2 .left) in
     (t .corners, t .cells)
 
 returns-3 : tie.Need-returns-3
 returns-3 c =
-    let s = c .before .before .before .before .before .before .before .before .before .before .before .before .before in
-    write-many (s .args .positions .now) (s .args .cells .now) (s .args .marked .now) (s .args .marks .now) (s .args .ends .now) (s .args .bytes .now) (omega (arith, c .before .before .before .before .before .before .before .if1 .left)) _ _ _ _ (c .before .before .before .before .before .run .ensures) (c .before .before .if2 .left) (sym (c .before .fits2 .ensures) ∙ not-true _ (c .if3 .taken))
+    write-many (c .before .before .before .before .before .before .before .before .before .before .before .before .args .positions .now) (c .before .before .before .before .before .before .before .before .before .before .before .before .args .cells .now) (c .before .before .before .before .before .before .before .before .before .before .before .before .args .marked .now) (c .before .before .before .before .before .before .before .before .before .before .before .before .args .marks .now) (c .before .before .before .before .before .before .before .before .before .before .before .before .args .ends .now) (c .before .before .before .before .before .before .before .before .before .before .before .before .args .bytes .now) (omega (arith, c .before .before .before .before .before .before .if1 .left)) _ _ _ _ (c .before .before .before .before .run .ensures) (c .before .before .if2 .left) (sym (c .before .fits2 .ensures) ∙ not-true _ (c .if3 .taken))
 
 store-requires : tie.Need-store-requires
 store-requires c κs =
-    let s = c .before .before .before .before .before .before .before .before .before .before .before .before .before .before in
     let f = sym (c .before .before .fits2 .ensures) ∙ not-false _ (c .before .if3 .left) in
-    (write-taken (s .args .positions .now) (s .args .cells .now) (s .args .marked .now) (s .args .marks .now) (s .args .ends .now) (s .args .bytes .now) (omega (arith, c .before .before .before .before .before .before .before .before .if1 .left)) _ _ _ _ (c .before .before .before .before .before .before .run .ensures) (c .before .before .before .if2 .left) .storable, write-few (s .args .positions .now) (s .args .cells .now) (s .args .marked .now) (s .args .marks .now) (s .args .ends .now) (s .args .bytes .now) (omega (arith, c .before .before .before .before .before .before .before .before .if1 .left)) _ _ _ _ (c .before .before .before .before .before .before .run .ensures) (c .before .before .before .if2 .left) f)
+    (write-taken (c .before .before .before .before .before .before .before .before .before .before .before .before .before .args .positions .now) (c .before .before .before .before .before .before .before .before .before .before .before .before .before .args .cells .now) (c .before .before .before .before .before .before .before .before .before .before .before .before .before .args .marked .now) (c .before .before .before .before .before .before .before .before .before .before .before .before .before .args .marks .now) (c .before .before .before .before .before .before .before .before .before .before .before .before .before .args .ends .now) (c .before .before .before .before .before .before .before .before .before .before .before .before .before .args .bytes .now) (omega (arith, c .before .before .before .before .before .before .before .if1 .left)) _ _ _ _ (c .before .before .before .before .before .run .ensures) (c .before .before .before .if2 .left) .storable, write-few (c .before .before .before .before .before .before .before .before .before .before .before .before .before .args .positions .now) (c .before .before .before .before .before .before .before .before .before .before .before .before .before .args .cells .now) (c .before .before .before .before .before .before .before .before .before .before .before .before .before .args .marked .now) (c .before .before .before .before .before .before .before .before .before .before .before .before .before .args .marks .now) (c .before .before .before .before .before .before .before .before .before .before .before .before .before .args .ends .now) (c .before .before .before .before .before .before .before .before .before .before .before .before .before .args .bytes .now) (omega (arith, c .before .before .before .before .before .before .before .if1 .left)) _ _ _ _ (c .before .before .before .before .before .run .ensures) (c .before .before .before .if2 .left) f)
 
 same-length : tie.Need-same-length
 same-length c = search needs
 
 returns-4 : tie.Need-returns-4
 returns-4 c =
-    let s = c .before .before .before .before .before .before .before .before .before .before .before .before .before .before .before .before .before in
     let f = sym (c .before .before .before .before .before .fits2 .ensures) ∙ not-false _ (c .before .before .before .before .if3 .left) in
-    write-done (s .args .positions .now) (s .args .cells .now) (s .args .marked .now) (s .args .marks .now) (s .args .ends .now) (s .args .bytes .now) (omega (arith, c .before .before .before .before .before .before .before .before .before .before .before .if1 .left)) _ _ _ _ (c .before .before .before .before .before .before .before .before .before .run .ensures) (c .before .before .before .before .before .before .if2 .left) f _ _ (c .before .before .store .ensures .0) (c .before .before .store .ensures .1)
+    write-done (c .before .before .before .before .before .before .before .before .before .before .before .before .before .before .before .before .args .positions .now) (c .before .before .before .before .before .before .before .before .before .before .before .before .before .before .before .before .args .cells .now) (c .before .before .before .before .before .before .before .before .before .before .before .before .before .before .before .before .args .marked .now) (c .before .before .before .before .before .before .before .before .before .before .before .before .before .before .before .before .args .marks .now) (c .before .before .before .before .before .before .before .before .before .before .before .before .before .before .before .before .args .ends .now) (c .before .before .before .before .before .before .before .before .before .before .before .before .before .before .before .before .args .bytes .now) (omega (arith, c .before .before .before .before .before .before .before .before .before .before .if1 .left)) _ _ _ _ (c .before .before .before .before .before .before .before .before .run .ensures) (c .before .before .before .before .before .before .if2 .left) f _ _ (c .before .before .store .ensures .0) (c .before .before .store .ensures .1)
 
 pub write-spec : {M : Type 1} → statement M
 write-spec =
     tie.close
     (tie.spec
     returns
-    slice-aggregate-run
     run-requires
     returns-2
     fits-requires
