@@ -6,7 +6,8 @@ ghost use Prim.Native.Nat.{_+_, _*_, _≤_};
 ghost use lib.Dec.{leb};
 ghost use lib.ListN.{length, take, drop};
 ghost use Rattle.counting.specs.Levels.{Levels, levelNumber, levelCounts};
-ghost use Rattle.layout.specs.Calls.{heldAfter};
+ghost use Rattle.base.specs.Refuse.{heldAfter};
+ghost use Rattle.base.specs.Lent.{was, is};
 ghost use Rattle.archive.specs.Job.{jobBytes};
 ghost use Rattle.archive.specs.Form.{jobOf};
 ghost use Rattle.archive.specs.Tables.{markedOf, marksOf, endsOf};
@@ -46,7 +47,7 @@ pub enum Writing {
 
 // Replays an archive; its table is in front of the lent one. Refusals 17, 1 to 5 and 7 to 9.
 fn reopen(bytes: &[u8], table: &mut [u8; 4096]) -> Outcome
-    ensures { λ r. ⌜ Reopened (now (bytes .entry)) (now (table .exit)) (r .refusal) (r .coarse) (r .cells) (r .levels) ⌝ }
+    ensures { λ r. ⌜ Reopened (was bytes) (is table) (r .refusal) (r .coarse) (r .cells) (r .levels) ⌝ }
 {
     let f = archive::examine_form(bytes);
     if !f.ok {
@@ -103,12 +104,12 @@ fn hand_out(
 ) -> usize
     requires { ⌜ (k ≤ 4096) × (k ≤ length (now table)) × (44 ≤ length (now counts)) ⌝ }
     requires { ⌜ Levels (take k (now new)) coarse ⌝ }
-    ensures { λ r. ⌜ r ≡ levelNumber 12 0 coarse (take k (now (new .entry))) ⌝ }
-    ensures { λ r. ⌜ now (table .exit) ≡ take k (now (new .entry)) ++ drop k (now (table .entry)) ⌝ }
-    ensures { λ r. ⌜ now (counts .exit) ≡ levelCounts 12 0 coarse (take k (now (new .entry))) ++ drop (4 * r) (now (counts .entry)) ⌝ }
+    ensures { λ r. ⌜ r ≡ levelNumber 12 0 coarse (take k (was new)) ⌝ }
+    ensures { λ r. ⌜ is table ≡ take k (was new) ++ drop k (was table) ⌝ }
+    ensures { λ r. ⌜ is counts ≡ levelCounts 12 0 coarse (take k (was new)) ++ drop (4 * r) (was counts) ⌝ }
 {
     let status = &new[..];
-    step::copy(status, k, table);
+    base::copy_bytes(status, k, table);
     counting::count_levels(&status[..k], coarse, counts)
 }
 

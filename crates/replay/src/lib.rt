@@ -150,7 +150,7 @@ fn at_rest(
     rows: &mut [u16; 32768],
     table: &mut [u8; 4096],
 ) -> Outcome
-    ensures { λ r. ⌜ Rested (now (positions .entry)) (now (cells .entry)) (now (rows .exit)) (now (table .exit)) (r .refusal) (r .cells) (r .levels) ⌝ }
+    ensures { λ r. ⌜ Rested (was positions) (was cells) (is rows) (is table) (r .refusal) (r .cells) (r .levels) ⌝ }
 {
     let k = few(cells.len() / 4);
     clear(table, k);

@@ -1,11 +1,9 @@
 -- `jobs::read` meets its contract.
 -- Assumes nothing.
-use mathlib.Core.Path.{_≡_, sym, _∙_}
-use mathlib.Core.Bool.{true, false}
+use mathlib.Core.Path.{sym, _∙_}
 use native.Mathlib.Omega.{arith}
 use borrow.Author.Tests.{not-true, not-false}
 use Rattle.archive.specs.Bytes.{Octets}
-use Rattle.jobs.specs.Calls.{roomb}
 use Rattle.jobs.proofs.ReadAnswers.{read-short, read-refused, read-form, read-room, read-done}
 use borrow.Author.Needs.{needs}
 use Rattle.jobs.proofs.read.Statement.{statement}

@@ -2,7 +2,6 @@
 -- Assumes nothing.
 use Rattle.jobs.proofs.Answers.{short-table, short-counts, refused-so, replay-refused, replay-levels, replay-done}
 use native.Mathlib.Omega.{arith}
-use mathlib.Core.Path.{sym}
 use borrow.Author.Needs.{needs}
 use Rattle.jobs.proofs.replay.Statement.{statement}
 use Rattle.jobs.proofs.replay.Tie as tie

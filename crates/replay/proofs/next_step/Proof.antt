@@ -85,14 +85,14 @@ returns-4 c =
     next-moved _ _ _ _ _ _ _ _ (omega (arith, c .before .before .before .before .before .before .before .before .before .before .before .before .before .before .before .before .before .before .before .before .before .before .before .before .before .before .before .before .before .before .if1 .left)) (omega (arith, length-pairs (a .marked .now) (a .marks .now) (c .before .before .before .before .before .before .before .before .before .before .before .before .before .before .before .before .before .before .before .before .before .before .before .before .before .before .before .before .before .before .before .before .before .before .before .pre .1 .0), c .before .before .before .before .before .before .before .before .before .before .before .before .before .before .before .before .before .before .before .before .before .before .before .before .before .before .before .before .before .if2 .left)) _ _ _ _ (pairs-part (a .e - a .p) (a .p) (a .marked .now) (a .marks .now))
     (moved-on _ _ _ _ _ _ _ (rw e at (c .before .before .before .before .before .before .before .before .before .before .before .before .before .before .before .before .before .before .before .before .before .before .examine-marks .ensures)) _ l _ _ _ (stepped-refused _ _ _ _ _ _ _ _ _ _ _ _ (c .before .before .advance .ensures) _ _ _ _ _ refl (c .if4 .taken)))
 
-mul-copy : tie.Need-mul-copy
-mul-copy c = omega (arith, c .before .before .before .before .before .advance .ensures .few (c .before .before .before .if4 .left))
+mul-copy-numbers : tie.Need-mul-copy-numbers
+mul-copy-numbers c = omega (arith, c .before .before .before .before .before .advance .ensures .few (c .before .before .before .if4 .left))
 
-copy-requires : tie.Need-copy-requires
-copy-requires c κs = let few = c .before .before .before .before .before .before .advance .ensures .few (c .before .before .before .before .if4 .left) in (omega (arith, few, c .before .before .copy-arg2), omega (arith, few, c .copy-arg3))
+copy-numbers-requires : tie.Need-copy-numbers-requires
+copy-numbers-requires c κs = let few = c .before .before .before .before .before .before .advance .ensures .few (c .before .before .before .before .if4 .left) in (omega (arith, few, c .before .before .copy-arg2), omega (arith, few, c .copy-arg3))
 
-copy-requires-2 : tie.Need-copy-requires-2
-copy-requires-2 c κs = let few = c .before .before .before .before .before .before .before .before .before .before .advance .ensures .few (c .before .before .before .before .before .before .before .before .if4 .left) in (omega (arith, few, c .before .copy-arg5), omega (arith, few, c .copy-arg6))
+copy-bytes-requires : tie.Need-copy-bytes-requires
+copy-bytes-requires c κs = let few = c .before .before .before .before .before .before .before .before .before .before .advance .ensures .few (c .before .before .before .before .before .before .before .before .if4 .left) in (omega (arith, few, c .before .copy-arg5), omega (arith, few, c .copy-arg6))
 
 returns-5 : tie.Need-returns-5
 returns-5 c =
@@ -102,7 +102,7 @@ returns-5 c =
     let z = c .before .before .before .before .before .before .before .before .before .if4 .left in
     next-moved _ _ _ _ _ _ _ _ (omega (arith, c .before .before .before .before .before .before .before .before .before .before .before .before .before .before .before .before .before .before .before .before .before .before .before .before .before .before .before .before .before .before .before .before .before .before .before .before .before .before .before .if1 .left)) (omega (arith, length-pairs (a .marked .now) (a .marks .now) (c .before .before .before .before .before .before .before .before .before .before .before .before .before .before .before .before .before .before .before .before .before .before .before .before .before .before .before .before .before .before .before .before .before .before .before .before .before .before .before .before .before .before .before .before .pre .1 .0), c .before .before .before .before .before .before .before .before .before .before .before .before .before .before .before .before .before .before .before .before .before .before .before .before .before .before .before .before .before .before .before .before .before .before .before .before .before .before .if2 .left)) _ _ _ _ (pairs-part (a .e - a .p) (a .p) (a .marked .now) (a .marks .now))
     (moved-on _ _ _ _ _ _ _ (rw e at (c .before .before .before .before .before .before .before .before .before .before .before .before .before .before .before .before .before .before .before .before .before .before .before .before .before .before .before .before .before .before .before .examine-marks .ensures)) _ l _ _ _
-    (stepped-on _ _ _ _ _ _ _ _ _ _ _ _ (c .before .before .before .before .before .before .before .before .before .before .before .advance .ensures) z _ _ _ _ (c .before .before .before .before .copy .ensures) (c .copy2 .ensures) (omega (arith, c .before .before .copy-arg5)) (omega (arith, c .before .before .before .before .before .before .before .copy-arg2)) (omega (arith, c .copy2 .kept .1 .1 .0, c .before .copy-arg6)) _ z))
+    (stepped-on _ _ _ _ _ _ _ _ _ _ _ _ (c .before .before .before .before .before .before .before .before .before .before .before .advance .ensures) z _ _ _ _ (c .before .before .before .before .copy-numbers .ensures) (c .copy-bytes .ensures) (omega (arith, c .before .before .copy-arg5)) (omega (arith, c .before .before .before .before .before .before .before .copy-arg2)) (omega (arith, c .copy-bytes .kept .1 .1 .0, c .before .copy-arg6)) _ z))
 
 pub next-step-spec : {M : Type 1} → statement M
 next-step-spec =
@@ -125,7 +125,7 @@ next-step-spec =
     slice-aggregate-advance-2
     advance-requires
     returns-4
-    mul-copy
-    copy-requires
-    copy-requires-2
+    mul-copy-numbers
+    copy-numbers-requires
+    copy-bytes-requires
     returns-5)
