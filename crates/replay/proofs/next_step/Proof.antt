@@ -9,7 +9,8 @@ use lib.Seq.{length-take-le}
 use lib.ListN.{drop, length-drop}
 use borrow.Author.Tests.{not-true, not-false}
 use Rattle.replay.proofs.Steps.{moved-missed, moved-on, stepped-refused, stepped-on}
-use Rattle.replay.proofs.Turns.{length-pairs, pairs-part, next-back, next-behind, next-moved}
+use Rattle.replay.proofs.Turns.{pairs-part, next-back, next-behind, next-moved}
+use Rattle.archive.specs.Ends.{length-pairs}
 use borrow.Author.Needs.{needs}
 use Rattle.replay.proofs.next_step.Statement.{statement}
 use Rattle.replay.proofs.next_step.Tie as tie
@@ -89,10 +90,10 @@ mul-copy-numbers : tie.Need-mul-copy-numbers
 mul-copy-numbers c = omega (arith, c .before .before .before .before .before .advance .ensures .few (c .before .before .before .if4 .left))
 
 copy-numbers-requires : tie.Need-copy-numbers-requires
-copy-numbers-requires c κs = let few = c .before .before .before .before .before .before .advance .ensures .few (c .before .before .before .before .if4 .left) in (omega (arith, few, c .before .before .copy-arg2), omega (arith, few, c .copy-arg3))
+copy-numbers-requires c κs = let few = c .before .before .before .before .before .before .advance .ensures .few (c .before .before .before .before .if4 .left) in (omega (arith, few, c .before .before .copy-numbers-arg2), omega (arith, few, c .copy-numbers-arg3))
 
 copy-bytes-requires : tie.Need-copy-bytes-requires
-copy-bytes-requires c κs = let few = c .before .before .before .before .before .before .before .before .before .before .advance .ensures .few (c .before .before .before .before .before .before .before .before .if4 .left) in (omega (arith, few, c .before .copy-arg5), omega (arith, few, c .copy-arg6))
+copy-bytes-requires c κs = let few = c .before .before .before .before .before .before .before .before .before .before .advance .ensures .few (c .before .before .before .before .before .before .before .before .if4 .left) in (omega (arith, few, c .before .copy-bytes-arg2), omega (arith, few, c .copy-bytes-arg3))
 
 returns-5 : tie.Need-returns-5
 returns-5 c =
@@ -102,7 +103,7 @@ returns-5 c =
     let z = c .before .before .before .before .before .before .before .before .before .if4 .left in
     next-moved _ _ _ _ _ _ _ _ (omega (arith, c .before .before .before .before .before .before .before .before .before .before .before .before .before .before .before .before .before .before .before .before .before .before .before .before .before .before .before .before .before .before .before .before .before .before .before .before .before .before .before .if1 .left)) (omega (arith, length-pairs (a .marked .now) (a .marks .now) (c .before .before .before .before .before .before .before .before .before .before .before .before .before .before .before .before .before .before .before .before .before .before .before .before .before .before .before .before .before .before .before .before .before .before .before .before .before .before .before .before .before .before .before .before .pre .1 .0), c .before .before .before .before .before .before .before .before .before .before .before .before .before .before .before .before .before .before .before .before .before .before .before .before .before .before .before .before .before .before .before .before .before .before .before .before .before .before .if2 .left)) _ _ _ _ (pairs-part (a .e - a .p) (a .p) (a .marked .now) (a .marks .now))
     (moved-on _ _ _ _ _ _ _ (rw e at (c .before .before .before .before .before .before .before .before .before .before .before .before .before .before .before .before .before .before .before .before .before .before .before .before .before .before .before .before .before .before .before .examine-marks .ensures)) _ l _ _ _
-    (stepped-on _ _ _ _ _ _ _ _ _ _ _ _ (c .before .before .before .before .before .before .before .before .before .before .before .advance .ensures) z _ _ _ _ (c .before .before .before .before .copy-numbers .ensures) (c .copy-bytes .ensures) (omega (arith, c .before .before .copy-arg5)) (omega (arith, c .before .before .before .before .before .before .before .copy-arg2)) (omega (arith, c .copy-bytes .kept .1 .1 .0, c .before .copy-arg6)) _ z))
+    (stepped-on _ _ _ _ _ _ _ _ _ _ _ _ (c .before .before .before .before .before .before .before .before .before .before .before .advance .ensures) z _ _ _ _ (c .before .before .before .before .copy-numbers .ensures) (c .copy-bytes .ensures) (omega (arith, c .before .before .copy-bytes-arg2)) (omega (arith, c .before .before .before .before .before .before .before .copy-numbers-arg2)) (omega (arith, c .copy-bytes .kept .1 .1 .0, c .before .copy-bytes-arg3)) _ z))
 
 pub next-step-spec : {M : Type 1} → statement M
 next-step-spec =

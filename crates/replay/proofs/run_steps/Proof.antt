@@ -5,7 +5,8 @@ use Prim.Native.Nat.{_-_, _<_}
 use native.Mathlib.Omega.{arith}
 use lib.ListN.{length, take}
 use Rattle.archive.specs.Tables.{pairs}
-use Rattle.replay.proofs.Turns.{length-pairs, Turn, turn-start, turn-refused, turn-next, turn-left, turn-end}
+use Rattle.replay.proofs.Turns.{Turn, turn-start, turn-refused, turn-next, turn-left, turn-end}
+use Rattle.archive.specs.Ends.{length-pairs}
 use borrow.Author.Needs.{needs}
 use Rattle.replay.proofs.run_steps.Statement.{statement}
 use Rattle.replay.proofs.run_steps.Tie as tie
