@@ -3,7 +3,7 @@ ghost use mathlib.Core.Path.{_≡_};
 ghost use mathlib.Core.List.{_++_};
 ghost use Prim.Native.Nat.{_+_, _*_, _≤_};
 ghost use lib.Dec.{leb};
-ghost use lib.ListN.{length, drop};
+ghost use lib.ListN.{length, take, drop};
 ghost use Rattle.base.specs.Lent.{was, is};
 ghost use Rattle.base.specs.Refuse.{heldAfter};
 ghost use Rattle.archive.specs.Job.{jobBytes};
@@ -273,4 +273,26 @@ pub fn list(bytes: &[u8], out: &mut [u8; 512]) -> usize
         }
         Replayed::Refused(k) => listing::write_refusal(k, out),
     }
+}
+
+// Lists the first bytes of a slice, as many as count says, or all.
+fn list_front(bytes: &[u8], count: usize, out: &mut [u8; 512]) -> usize
+    ensures { λ r. ⌜ is out
+        ≡ listingOf (take count (was bytes)) ++ drop (length (listingOf (take count (was bytes)))) (was out) ⌝ }
+    ensures { λ r. ⌜ r ≡ length (listingOf (take count (was bytes))) ⌝ }
+{
+    if count > bytes.len() {
+        return list(bytes, out);
+    }
+    list(&bytes[..count], out)
+}
+
+// Lists what was read into a buffer: its first bytes, as many as count says, or all. The buffer takes one byte more than an archive
+// may have, so that a longer input is refused; of another size it is no argument.
+pub fn list_read(buffer: &[u8; 65537], count: usize, out: &mut [u8; 512]) -> usize
+    ensures { λ r. ⌜ is out
+        ≡ listingOf (take count (was buffer)) ++ drop (length (listingOf (take count (was buffer)))) (was out) ⌝ }
+    ensures { λ r. ⌜ r ≡ length (listingOf (take count (was buffer))) ⌝ }
+{
+    list_front(buffer, count, out)
 }
