@@ -1,5 +1,6 @@
 -- What examining an archive's form answers.
 --   FormExamined bs r   whether bs is in the form, and how many records of each kind it has where it is
+--                       (where it is not, the numbers of records are free)
 use mathlib.Core.Path.{_≡_}
 use mathlib.Core.List.{List}
 use Prim.Native.Nat.{ℕ}

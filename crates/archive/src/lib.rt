@@ -130,7 +130,8 @@ fn scan_steps(bytes: &[u8], from: usize) -> Scan
     }
 }
 
-// Whether bytes are an archive in the form.
+// Whether bytes are an archive in the form, and if so, how many records of each kind there are. If not, these four numbers are free: no
+// promise speaks of them (they are what was counted, and zeros where there are more than 65,536 bytes).
 pub fn examine_form(bytes: &[u8]) -> Form
     ensures { λ r. ⌜ FormExamined (was bytes) r ⌝ }
 {

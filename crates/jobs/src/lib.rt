@@ -275,3 +275,25 @@ pub fn list(bytes: &[u8], out: &mut [u8; 512]) -> usize
         Replayed::Refused(k) => listing::write_refusal(k, out),
     }
 }
+
+// Lists the first bytes of a slice, as many as count says, or all.
+fn list_front(bytes: &[u8], count: usize, out: &mut [u8; 512]) -> usize
+    ensures { λ r. ⌜ is out
+        ≡ listingOf (take count (was bytes)) ++ drop (length (listingOf (take count (was bytes)))) (was out) ⌝ }
+    ensures { λ r. ⌜ r ≡ length (listingOf (take count (was bytes))) ⌝ }
+{
+    if count > bytes.len() {
+        return list(bytes, out);
+    }
+    list(&bytes[..count], out)
+}
+
+// Lists what was read into a buffer: its first bytes, as many as count says, or all. The buffer takes one byte more than an archive
+// may have, so that a longer input is refused; of another size it is no argument.
+pub fn list_read(buffer: &[u8; 65537], count: usize, out: &mut [u8; 512]) -> usize
+    ensures { λ r. ⌜ is out
+        ≡ listingOf (take count (was buffer)) ++ drop (length (listingOf (take count (was buffer)))) (was out) ⌝ }
+    ensures { λ r. ⌜ r ≡ length (listingOf (take count (was buffer))) ⌝ }
+{
+    list_front(buffer, count, out)
+}

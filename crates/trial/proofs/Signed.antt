@@ -3,12 +3,14 @@
 --   wider       an i32 is an i64
 --   Raised z    z is a number minus-fits 2 ^ 32
 --   raised      an i32 and 2 ^ 31 make such a number
+--   raised-above  it is how far the number lies above the least i32
 --   wide-fits, sum-fits, sum-is   the same of the bits that the program holds
 use mathlib.Core.Path.{_≡_, refl, ap, _∙_}
 use Prim.Native.Nat.{ℕ, suc, _+_, _-_, _<_}
 use native.Mathlib.Omega.{arith}
 use lib.IntN.{ℤ, pos, negsuc, _+ℤ_}
 use borrow.Author.Tests.{le-ltb}
+use Rattle.trial.specs.Pattern.{aboveLeast}
 use mir.Syntax.{w32, w64}
 use mir.Val.{SFits, toZ, ofZ}
 use mir.ValLaws.{toZ-ofZ}
@@ -32,6 +34,10 @@ raised (negsuc n) h =
     }
 
 module _ (z : ℤ) (h : SFits w32 z) where
+  pub raised-above : raised z h .size ≡ aboveLeast z
+  unfolding aboveLeast
+  raised-above = rw (raised z h .same)
+
   pub wide-fits : SFits w64 (toZ w32 (ofZ w32 z))
   wide-fits = rw (toZ-ofZ w32 z h) (wider z h)
 

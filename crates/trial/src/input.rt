@@ -1,10 +1,13 @@
 // Reading numbers and lists from standard input. Every number of more than one byte has its least byte first.
+ghost use mathlib.Core.Path.{_≡_};
 ghost use Prim.Native.Nat.{_+_, _*_, _<_};
 ghost use lib.ListN.{length};
+ghost use Rattle.base.specs.Lent.{was, is};
+ghost use Rattle.trial.specs.Input.{wordAt, longAt, FrontRead};
 
 // Two bytes as a number.
 fn word(low: u8, high: u8) -> u32
-    ensures { λ r. ⌜ r < 65536 ⌝ }
+    ensures { λ r. ⌜ (r ≡ low + 256 * high) × (r < 65536) ⌝ }
 {
     low as u32 + 256 * (high as u32)
 }
@@ -12,18 +15,22 @@ fn word(low: u8, high: u8) -> u32
 // The k-th number of two bytes.
 pub fn number(bytes: &[u8], k: usize) -> usize
     requires { ⌜ 2 * k + 1 < length (now bytes) ⌝ }
-    ensures { λ r. ⌜ r < 65536 ⌝ }
+    ensures { λ r. ⌜ (r ≡ wordAt (was bytes) k) × (r < 65536) ⌝ }
 {
     word(bytes[2 * k], bytes[2 * k + 1]) as usize
 }
 
-// Fills the list with bytes. False where the input ends.
-pub fn read_all(list: &mut [u8]) -> bool {
+// Fills the list with bytes. False where the input ends. Only its length can be promised: what the input holds is free.
+pub fn read_all(list: &mut [u8]) -> bool
+    ensures { λ _. ⌜ length (is list) ≡ length (was list) ⌝ }
+{
     io::read_full(0, list) == list.len()
 }
 
 // Fills the first n places of a list with bytes. False where the list is shorter or the input ends.
-pub fn read_bytes(list: &mut [u8], n: usize) -> bool {
+pub fn read_bytes(list: &mut [u8], n: usize) -> bool
+    ensures { λ r. ⌜ FrontRead r n (was list) (is list) ⌝ }
+{
     if n > list.len() {
         return false;
     }
@@ -42,6 +49,7 @@ fn signed(bits: u32) -> i32 {
 // The k-th number of four bytes.
 fn four(bytes: &[u8], k: usize) -> u32
     requires { ⌜ 4 * k + 3 < length (now bytes) ⌝ }
+    ensures { λ r. ⌜ r ≡ longAt (was bytes) k ⌝ }
 {
     let at = 4 * k;
     let low = word(bytes[at], bytes[at + 1]);
@@ -52,6 +60,7 @@ fn four(bytes: &[u8], k: usize) -> u32
 // The same as a length.
 pub fn long(bytes: &[u8], k: usize) -> usize
     requires { ⌜ 4 * k + 3 < length (now bytes) ⌝ }
+    ensures { λ r. ⌜ r ≡ longAt (was bytes) k ⌝ }
 {
     four(bytes, k) as usize
 }
@@ -69,7 +78,9 @@ fn corner(bytes: &[u8], k: usize) -> u16
 }
 
 // The first n coordinates, from four bytes each. False where a list is too short.
-fn decode_positions(bytes: &[u8], list: &mut [i32], n: usize) -> bool {
+fn decode_positions(bytes: &[u8], list: &mut [i32], n: usize) -> bool
+    ensures { λ r. ⌜ FrontRead r n (was list) (is list) ⌝ }
+{
     let mut i = 0;
     while i < n {
         if i >= list.len() {
@@ -85,7 +96,9 @@ fn decode_positions(bytes: &[u8], list: &mut [i32], n: usize) -> bool {
 }
 
 // The first n corner or cell numbers, from two bytes each. False where a list is too short.
-fn decode_cells(bytes: &[u8], list: &mut [u16], n: usize) -> bool {
+fn decode_cells(bytes: &[u8], list: &mut [u16], n: usize) -> bool
+    ensures { λ r. ⌜ FrontRead r n (was list) (is list) ⌝ }
+{
     let mut i = 0;
     while i < n {
         if i >= list.len() {
@@ -101,7 +114,9 @@ fn decode_cells(bytes: &[u8], list: &mut [u16], n: usize) -> bool {
 }
 
 // Reads n coordinates into the first places of a list, by way of room. False where one of them is too short or the input ends.
-pub fn read_positions(room: &mut [u8], list: &mut [i32], n: usize) -> bool {
+pub fn read_positions(room: &mut [u8], list: &mut [i32], n: usize) -> bool
+    ensures { λ r. ⌜ FrontRead r (4 * n) (was room) (is room) × FrontRead r n (was list) (is list) ⌝ }
+{
     if n > room.len() / 4 {
         return false;
     }
@@ -112,7 +127,9 @@ pub fn read_positions(room: &mut [u8], list: &mut [i32], n: usize) -> bool {
 }
 
 // The same with corner or cell numbers.
-pub fn read_cells(room: &mut [u8], list: &mut [u16], n: usize) -> bool {
+pub fn read_cells(room: &mut [u8], list: &mut [u16], n: usize) -> bool
+    ensures { λ r. ⌜ FrontRead r (2 * n) (was room) (is room) × FrontRead r n (was list) (is list) ⌝ }
+{
     if n > room.len() / 2 {
         return false;
     }
@@ -122,14 +139,16 @@ pub fn read_cells(room: &mut [u8], list: &mut [u16], n: usize) -> bool {
     decode_cells(room, list, n)
 }
 
-// Reads the lists of a mesh.
+// Reads the lists of a mesh. What the room holds after is free.
 pub fn read_mesh(
     room: &mut [u8],
     positions: &mut [i32],
     cells: &mut [u16],
     position_count: usize,
     cell_count: usize,
-) -> bool {
+) -> bool
+    ensures { λ r. ⌜ FrontRead r «position_count» (was positions) (is positions) × FrontRead r «cell_count» (was cells) (is cells) ⌝ }
+{
     if !read_positions(room, positions, position_count) {
         return false;
     }

@@ -1,14 +1,19 @@
 // What tables hold before a call, and a checksum of what they hold after it.
-ghost use Prim.Native.Nat.{_<_, _≤_};
+ghost use mathlib.Core.Path.{_≡_};
+ghost use Prim.Native.Nat.{_-_, _<_, _≤_};
+ghost use lib.ListN.{length};
+ghost use Rattle.base.specs.Bools.{one-if};
+ghost use Rattle.base.specs.Lent.{was, is};
+ghost use Rattle.trial.specs.Pattern.{turned, tabOf, byteFill, wordFill, signedFill, checkFrom, aboveLeast};
 
 fn narrow(x: u8) -> u64
-    ensures { λ r. ⌜ r < 256 ⌝ }
+    ensures { λ r. ⌜ (r ≡ x) × (r < 256) ⌝ }
 {
     x as u64
 }
 
 fn wide(x: u16) -> u64
-    ensures { λ r. ⌜ r < 65536 ⌝ }
+    ensures { λ r. ⌜ (r ≡ x) × (r < 65536) ⌝ }
 {
     x as u64
 }
@@ -17,12 +22,15 @@ fn wide(x: u16) -> u64
 fn turn(sum: u64, x: u64) -> u64
     requires { ⌜ sum < 2147483647 ⌝ }
     requires { ⌜ x < 4294967296 ⌝ }
-    ensures { λ r. ⌜ r < 2147483647 ⌝ }
+    ensures { λ r. ⌜ (r ≡ turned sum x) × (r < 2147483647) ⌝ }
 {
     (sum * 48271 + x) % 2147483647
 }
 
-pub fn fill_bytes(list: &mut [u8]) {
+// Fills a list with the first numbers of the pattern, as many as it has places; so do the next two.
+pub fn fill_bytes(list: &mut [u8])
+    ensures { λ _. ⌜ is list ≡ tabOf byteFill (length (was list)) ⌝ }
+{
     let n = list.len();
     let mut x = 1;
     let mut i = 0;
@@ -33,7 +41,9 @@ pub fn fill_bytes(list: &mut [u8]) {
     }
 }
 
-pub fn fill(list: &mut [u16]) {
+pub fn fill(list: &mut [u16])
+    ensures { λ _. ⌜ is list ≡ tabOf wordFill (length (was list)) ⌝ }
+{
     let n = list.len();
     let mut x = 1;
     let mut i = 0;
@@ -44,7 +54,9 @@ pub fn fill(list: &mut [u16]) {
     }
 }
 
-pub fn fill_signed(list: &mut [i32]) {
+pub fn fill_signed(list: &mut [i32])
+    ensures { λ _. ⌜ is list ≡ tabOf signedFill (length (was list)) ⌝ }
+{
     let n = list.len();
     let mut x = 1;
     let mut i = 0;
@@ -57,12 +69,14 @@ pub fn fill_signed(list: &mut [i32]) {
 
 // How far a number lies above the least i32.
 fn above(x: i32) -> u64
-    ensures { λ r. ⌜ r < 4294967296 ⌝ }
+    ensures { λ r. ⌜ (r ≡ aboveLeast x) × (r < 4294967296) ⌝ }
 {
     (x as i64 + 2147483648) as u64
 }
 
-pub fn checksum_bytes(list: &[u8]) -> u64 {
+pub fn checksum_bytes(list: &[u8]) -> u64
+    ensures { λ r. ⌜ r ≡ checkFrom (λ x. x) 1 (was list) ⌝ }
+{
     let mut sum = 1;
     let mut i = 0;
     while i < list.len() {
@@ -72,7 +86,9 @@ pub fn checksum_bytes(list: &[u8]) -> u64 {
     sum
 }
 
-pub fn checksum(list: &[u16]) -> u64 {
+pub fn checksum(list: &[u16]) -> u64
+    ensures { λ r. ⌜ r ≡ checkFrom (λ x. x) 1 (was list) ⌝ }
+{
     let mut sum = 1;
     let mut i = 0;
     while i < list.len() {
@@ -82,7 +98,9 @@ pub fn checksum(list: &[u16]) -> u64 {
     sum
 }
 
-pub fn checksum_signed(list: &[i32]) -> u64 {
+pub fn checksum_signed(list: &[i32]) -> u64
+    ensures { λ r. ⌜ r ≡ checkFrom aboveLeast 1 (was list) ⌝ }
+{
     let mut sum = 1;
     let mut i = 0;
     while i < list.len() {
@@ -94,7 +112,7 @@ pub fn checksum_signed(list: &[i32]) -> u64 {
 
 // The length at which a table is lent: one less where it is to be short.
 pub fn lent(full: usize, short: bool) -> usize
-    ensures { λ r. ⌜ r ≤ full ⌝ }
+    ensures { λ r. ⌜ (r ≡ full - one-if short) × (r ≤ full) ⌝ }
 {
     if !short {
         return full;

@@ -1,4 +1,5 @@
-// Printing a line of numbers. Zeros stand for what a refusal does not give.
+// Printing a line of numbers. Zeros stand for what a refusal does not give. These functions have no `ensures`: no contract can say
+// what is written, and they are lent no table.
 use layout::Laid;
 
 // The first number of a line.

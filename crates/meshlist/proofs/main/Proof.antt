@@ -13,21 +13,15 @@ slice-aggregate-read-full c = search needs
 read-full-requires : tie.Need-read-full-requires
 read-full-requires c κs = search needs
 
-array-share-prefix-bytes : tie.Need-array-share-prefix-bytes
-array-share-prefix-bytes c = search needs
-
-slice-aggregate-list : tie.Need-slice-aggregate-list
-slice-aggregate-list c = search needs
-
-list-requires : tie.Need-list-requires
-list-requires c κs = search needs
+list-read-requires : tie.Need-list-read-requires
+list-read-requires c κs = search needs
 
 array-share-prefix-out : tie.Need-array-share-prefix-out
-array-share-prefix-out c = listing-inside _ _ _ _ (c .list .ensures .0) (c .list .ensures .1)
+array-share-prefix-out c = listing-inside _ _ _ _ (c .list-read .ensures .0) (c .list-read .ensures .1)
 
 slice-aggregate-write-all : tie.Need-slice-aggregate-write-all
 slice-aggregate-write-all c =
-    let l = c .before .list in
+    let l = c .before .list-read in
     sym (length-take-le (l .result) _ (listing-inside _ _ _ _ (l .ensures .0) (l .ensures .1)))
 
 write-all-requires : tie.Need-write-all-requires
@@ -42,9 +36,7 @@ main-spec =
     (tie.spec
     slice-aggregate-read-full
     read-full-requires
-    array-share-prefix-bytes
-    slice-aggregate-list
-    list-requires
+    list-read-requires
     array-share-prefix-out
     slice-aggregate-write-all
     write-all-requires
