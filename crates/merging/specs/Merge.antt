@@ -91,11 +91,11 @@ coarse-paths n i (q ∷ qs) = ap (λ (l : List (List ℕ)). (i ∷ []) ∷ l) (c
 
 -- level after level
 module _ (es : List Entry) where
-  Found : List Level → Type 0
-  Found ls = (j i : ℕ) → i < length (getD ls j noLevel .cells) → lookup es (pathAt (getD ls j noLevel .cells) i)
+  abbrev pub FoundAll : List Level → Type 0
+  FoundAll ls = (j i : ℕ) → i < length (getD ls j noLevel .cells) → lookup es (pathAt (getD ls j noLevel .cells) i)
       ≡ getD (getD ls j noLevel .statuses) i 0
 
-  statuses-found : (cs : List (Cell Point)) (ts : List ℕ) → length ts ≡ length cs
+  pub statuses-found : (cs : List (Cell Point)) (ts : List ℕ) → length ts ≡ length cs
       → ((i : ℕ) → i < length cs → lookup es (pathAt cs i) ≡ getD ts i 0)
       → map (lookup es) (pathsOf cs) ≡ ts
   statuses-found [] [] e f = refl
@@ -103,9 +103,9 @@ module _ (es : List Entry) where
   statuses-found (c ∷ cs) [] e f = absurd (omega arith)
   statuses-found (c ∷ cs) (t ∷ ts) e f = ap₂ _∷_ (f 0 (omega arith)) (statuses-found cs ts (omega arith) (λ i h. f (suc i) (omega arith)))
 
-  gather-is : (h k : ℕ) (cs : List (Cell Point)) (rs : List ℕ) → T (allb closedb (levels h k cs rs)) → Found (levels h k cs rs)
+  gather-is : (h k : ℕ) (cs : List (Cell Point)) (rs : List ℕ) → T (allb closedb (levels h k cs rs)) → FoundAll (levels h k cs rs)
       → gather h es (pathsOf cs) ≡ map (λ (l : Level). l .statuses) (levels h k cs rs)
-  unfolding Found gather levels allb
+  unfolding gather levels allb
   gather-is zero k cs rs t f = refl
   gather-is (suc h) k [] rs t f = refl
   gather-is (suc h) k (c ∷ cs) rs t f =
@@ -137,7 +137,7 @@ pub record Covers (n : ℕ) (qs : List (List ℕ)) (ss : List ℕ) (es : List En
   pub none-else : (e : Entry) → List·Memᴰ e es → e .ghost ≡ false → MasterIn n qs ss e
 
 module _ (n : ℕ) (qs : List (List ℕ)) (ss : List ℕ) (es : List Entry) (w : Covers n qs ss es) where
-  found : (j i : ℕ) → i < length (lv n qs ss j .cells) → lookup es (pathAt (lv n qs ss j .cells) i) ≡ getD (lv n qs ss j .statuses) i 0
+  pub found : (j i : ℕ) → i < length (lv n qs ss j .cells) → lookup es (pathAt (lv n qs ss j .cells) i) ≡ getD (lv n qs ss j .statuses) i 0
   found j i h =
       lookup-is es (pathAt (lv n qs ss j .cells) i) (getD (lv n qs ss j .statuses) i 0) (entryAt n qs ss j i false)
       (w .each j i h) refl refl
@@ -147,7 +147,7 @@ module _ (n : ℕ) (qs : List (List ℕ)) (ss : List ℕ) (es : List Entry) (w :
       v .status ∙ ap₂ (λ (k t : ℕ). getD (lv n qs ss k .statuses) t 0) a b)
 
   pub merged-is : T (allb closedb (levelsOf n qs ss)) → merged es (length qs) ≡ statusLists (levelsOf n qs ss)
-  unfolding merged levelsOf coarseCells Found
+  unfolding merged levelsOf coarseCells
   merged-is c = ap (gather 12 es) (sym (coarse-paths n 0 qs)) ∙ gather-is es 12 0 (coarseCells n qs) ss c found
 
   -- the table as one row

@@ -1,16 +1,14 @@
 -- What the rounds of a split step come to, for every accepted mesh, sound table, accepted owners and marks, once each part knows of the
 -- new red cells among its own: the statements for the exchange's theorem, readable alone.
---   settle             the split table after the rounds, with the slots of `splitting`
---   entriesAll X ps    the entries of the parts ps, one behind the other
+--   settle    the split table after the rounds, with the slots of `splitting`
 -- Laws: serial-table (merging gives the step's table, in whatever order of the parts), all-totals (as many masters as cells),
--- serial-answer (the result from the totals is the serial step's), held-each-once and just-held (a part holds its masters and ghosts, each
--- once, and nothing else), old-table (the masters of the split merge to the old table), admissible-before and admissible-after (A1 to A6).
-use mathlib.Core.Path.{_≡_, refl, sym, _∙_, ap, subst}
-use mathlib.Core.Logic.{⊎-elim}
-use mathlib.Core.Bool.{false}
-use mathlib.Core.List.{List, [], _∷_, _++_, flatMap, List·Memᴰ, List·Memᴰ·head, List·Memᴰ·tail, List·Memᴰ·not-nil, List·Memᴰ·append-cases}
-use mathlib.Core.List.{Memᴰ·append-left, Memᴰ·append-right}
+-- serial-answer (the result from the totals is the serial step's), held-each-once, just-held, held-few (a part holds its masters and
+-- ghosts, each once, and nothing else), serial-complete (merging finds them all), old-table and old-complete (the masters of the split
+-- merge to the old table), admissible-before and admissible-after (A1 to A6).
+use mathlib.Core.Path.{_≡_, sym, _∙_, ap, subst}
+use mathlib.Core.List.{List, flatMap, List·Memᴰ}
 use Prim.Native.Nat.{ℕ, suc, _≤_, _<_, pred}
+use native.Mathlib.Omega.{arith}
 use lib.Dec.{T, leb}
 use lib.ListN.{length, getD}
 use Rattle.base.specs.Refuse.{refuse}
@@ -31,66 +29,24 @@ use Rattle.rounds.specs.Rounds.{State, capped}
 use Rattle.rounds.specs.Enough.{Known}
 use Rattle.parts.specs.Owners.{ownersb, ownersAfter}
 use Rattle.parts.specs.Held.{Entry, entriesOf}
-use Rattle.parts.specs.Merge.{merged}
-use Rattle.splitting.specs.Paths.{level-below, new-lv}
+use Rattle.parts.specs.Merge.{merged, completeb}
+use Rattle.splitting.specs.Paths.{new-lv}
 use Rattle.splitting.specs.Split.{taskOf, owners-fit}
 use Rattle.splitting.specs.Slots.{slotOf, slotsAt, slots-are}
 use Rattle.splitting.specs.Admissible.{Admissible, admissible}
 use Rattle.splitting.specs.Heirs.{heirs-admissible}
 use Rattle.shares.specs.Flat.{NoTwice}
-use Rattle.shares.specs.Settled.{Settled, entriesIn, newLevelIn, ownIn}
-use Rattle.shares.specs.Present.{newEntry, masters-in}
+use Rattle.shares.specs.Settled.{Settled, entriesIn}
 use Rattle.shares.specs.Entries.{entries-are}
 use Rattle.shares.specs.Once.{each-once}
 use Rattle.shares.specs.Share.{Named, tableIn, share-held, held-share}
 use Rattle.merging.specs.Distinct.{NoDup}
-use Rattle.merging.specs.Merge.{Covers, merged-step}
-use Rattle.merging.specs.Covered.{split-merged}
+use Rattle.merging.specs.Merge.{merged-step}
+use Rattle.merging.specs.Complete.{no-more-held, complete-is}
+use Rattle.merging.specs.Covered.{split-merged, split-complete}
+use Rattle.merging.specs.All.{entriesAll, entries-cover, all-apart}
 use Rattle.merging.specs.Limits.{endOf}
 use Rattle.merging.specs.Totals.{mastersOf, highIn, totals-are, ends}
-
--- the entries of parts
-module _ {Part : Type 0} {F : Finite Part} (X : Settled F) where
-  unfoldable pub entriesAll : List Part → List Entry
-  entriesAll [] = []
-  entriesAll (p ∷ l) = entriesIn X p ++ entriesAll l
-
-  in-all : (l : List Part) (p : Part) (e : Entry) → List·Memᴰ p l → List·Memᴰ e (entriesIn X p) → List·Memᴰ e (entriesAll l)
-  unfolding entriesAll
-  in-all l p e (List·Memᴰ·head {x = x} {xs = xs} q) m = Memᴰ·append-left (entriesAll xs) (subst (λ y. List·Memᴰ e (entriesIn X y)) q m)
-  in-all l p e (List·Memᴰ·tail {x = x} {xs = xs} t) m = Memᴰ·append-right (entriesIn X x) (in-all xs p e t m)
-
-  all-in : (l : List Part) (e : Entry) → List·Memᴰ e (entriesAll l) → (p : Part) × List·Memᴰ e (entriesIn X p)
-  unfolding entriesAll
-  all-in [] e m = absurd (List·Memᴰ·not-nil m)
-  all-in (p ∷ l) e m =
-      ⊎-elim (λ (u : List·Memᴰ e (entriesIn X p)). (p, u)) (λ (u : List·Memᴰ e (entriesAll l)). all-in l e u)
-      (List·Memᴰ·append-cases (entriesIn X p) m)
-
-  pub entries-cover : (l : List Part) → ((p : Part) → List·Memᴰ p l) → Covers (X .n) (X .qs) (tableIn X) (entriesAll l)
-  entries-cover l every =
-      record {
-        each = λ k i h.
-            let g : i < length (newLevelIn X k .cells) =
-            subst (λ (v : Level). i < length (v .cells)) (new-lv (X .n) (X .qs) (X .ss) (X .ms) k) h in
-            let p = ownIn X k i in
-            subst (λ (e : Entry). List·Memᴰ e (entriesAll l))
-            (sym (ap {A = Level} {B = Entry} (λ v. record { path = pathAt (v .cells) i; status = getD (v .statuses) i 0; ghost = false })
-            (new-lv (X .n) (X .qs) (X .ss) (X .ms) k)))
-            (in-all l (ownIn X k i) (newEntry (X .n) (X .qs) (X .ss) (X .ms) k i false) (every (ownIn X k i))
-            (masters-in X (ownIn X k i) k i (level-below (X .n) (X .qs) (tableIn X) k i h) g refl));
-        none-else = λ e m g.
-            let (p, x) = all-in l e m in
-            let w = entries-are X p e x in
-            let q = sym (new-lv (X .n) (X .qs) (X .ss) (X .ms) (w .k)) in
-            record {
-              k = w .k;
-              t = w .i;
-              below = subst (λ (v : Level). w .i < length (v .cells)) q (w .below);
-              path = w .path ∙ ap (λ (v : Level). pathAt (v .cells) (w .i)) q;
-              status = w .status ∙ ap (λ (v : Level). getD (v .statuses) (w .i) 0) q;
-            };
-      }
 
 module _ {Part : Type 0} (F : Finite Part) (n : ℕ) (qs : List (List ℕ)) (ss ms : List ℕ) (four : All (λ q. length q ≡ 4) qs)
     (accepted : T (cellsb n qs)) (sound : T (soundb n qs ss)) (P : ℕ) (os : List ℕ) (owners : T (ownersb n qs ss P os))
@@ -125,7 +81,7 @@ module _ {Part : Type 0} (F : Finite Part) (n : ℕ) (qs : List (List ℕ)) (ss 
 
   -- as many masters as cells, and the serial answer from the totals
   pub all-totals : NoDup (F .list) → sumOver (mastersOf settle) (F .list) ≡ length (concat (stepTable n qs ss ms))
-  all-totals d = totals-are settle d ∙ ap (λ (t : List (List ℕ)). length (concat t)) (sym (step-by n qs ss ms sound))
+  all-totals d = totals-are settle (F .list) (F .all) d ∙ ap (λ (t : List (List ℕ)). length (concat t)) (sym (step-by n qs ss ms sound))
 
   pub serial-answer : NoDup (F .list) → endOf (capped (sumOver (mastersOf settle) (F .list))) (highIn settle)
       ≡ refuse 8 (leb (length (stepTable n qs ss ms)) 11) (refuse 9 (leb (length (concat (stepTable n qs ss ms))) 4096) Accepted)
@@ -140,6 +96,10 @@ module _ {Part : Type 0} (F : Finite Part) (n : ℕ) (qs : List (List ℕ)) (ss 
   pub old-table : (ps : List ℕ) → ((p : ℕ) → 1 ≤ p → p ≤ P → Member p ps) → concat (merged (flatMap (entriesOf n qs ss os) ps) (length qs))
       ≡ ss
   old-table ps every = split-merged n qs ss s P os owners ps every
+
+  pub old-complete : (ps : List ℕ) → ((p : ℕ) → 1 ≤ p → p ≤ P → Member p ps) → NoDup ps
+      → T (completeb (flatMap (entriesOf n qs ss os) ps) (length qs))
+  old-complete ps every d = split-complete n qs ss s P os owners ps every d
 
   pub admissible-before : Admissible n qs ss P os
   admissible-before = admissible n qs ss P os owners
@@ -166,6 +126,26 @@ module _ {Part : Type 0} (F : Finite Part) (n : ℕ) (qs : List (List ℕ)) (ss 
         subst (λ (t : List ℕ). (List·Memᴰ e (entriesIn settle p) → List·Memᴰ e (entriesOf n qs t (ownersAfter n qs ss os t) (number p)))
         × (List·Memᴰ e (entriesOf n qs t (ownersAfter n qs ss os t) (number p)) → List·Memᴰ e (entriesIn settle p))) (sym by)
         (share-held settle P number names owners u p e, held-share settle P number names owners u p e)
+
+    -- merging finds each place, and no other masters
+    pub serial-complete : (l : List Part) → ((p : Part) → List·Memᴰ p l) → NoDup l → T (completeb (entriesAll settle l) (length qs))
+    serial-complete l every d =
+        complete-is n qs (tableIn settle) (entriesAll settle l) (subst (Sound n qs) by new-sound) (entries-cover settle l every)
+        (all-apart settle l d)
+
+    pub held-few : (p : Part) → length (entriesIn settle p) ≤ length ts
+    held-few p =
+        let u : Sound n qs (tableIn settle) = subst (Sound n qs) by new-sound in
+        let up = no-more-held n qs (tableIn settle) (entriesIn settle p) (each-once settle p) (λ e m.
+        let w = entries-are settle p e m in
+        let q = sym (new-lv n qs ss ms (w .k)) in (
+          w .k,
+          w .i,
+          subst (λ (v : Level). w .i < length (v .cells)) q (w .below),
+          w .path
+              ∙ ap (λ (v : Level). pathAt (v .cells) (w .i)) q,
+        )) in
+        omega (arith, u .many, ap length by)
 
     pub admissible-after : Admissible n qs ts P os'
     admissible-after = heirs-admissible n qs ss os ts new-sound s P owners

@@ -2,8 +2,8 @@
 --   partOf Q o, numberOf p    the part with a number, and its number
 --   task, final p             the task of a split table; what the part p knows after the last round
 --   ran                       the split table after the rounds: `Result` speaks of it
--- Laws: named (numbers and parts), parts-once (each part stands once), entries-last (the round of totals changes no entry), run-answer (each
--- part's result is the serial step's answer).
+-- Laws: named (numbers and parts), parts-once (each part stands once), entries-last (the round of totals changes no entry), run-answer
+-- (each part's result is the serial step's answer).
 use mathlib.Core.Path.{_≡_, sym, _∙_, ap, ap₂, fun-ext}
 use mathlib.Core.Logic.{⊎-elim}
 use mathlib.Core.List.{List, List·Memᴰ, List·Memᴰ·not-nil, List·Memᴰ·cases-cons}
@@ -37,7 +37,8 @@ use Rattle.shares.specs.Settled.{Settled}
 use Rattle.shares.specs.Share.{Named}
 use Rattle.merging.specs.Distinct.{NoDup}
 use Rattle.merging.specs.Limits.{topOf, endOf}
-use Rattle.merging.specs.Totals.{masterPaths, grownOf, grown-plain}
+use Rattle.merging.specs.Complete.{masterPaths}
+use Rattle.merging.specs.Totals.{grownOf, grown-plain}
 use Rattle.merging.specs.Result.{settle, serial-answer}
 
 -- parts and their numbers
