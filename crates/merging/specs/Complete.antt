@@ -33,7 +33,7 @@ use Rattle.parts.specs.Merge.{lookup, childPaths, merged, masters, filledb, com
 use Rattle.splitting.specs.Paths.{one-place}
 use Rattle.shares.specs.Flat.{NoTwice}
 use Rattle.merging.specs.Distinct.{NoDup, no-more, place-of, mem-at, no-dup-by}
-use Rattle.merging.specs.Merge.{entryAt, Covers, FoundAll, next-paths, coarse-paths, statuses-found, found, merged-table}
+use Rattle.merging.specs.Merge.{entryAt, Covers, FoundAll, next-paths, coarse-paths, statuses-found, found-at, merged-table}
 
 unfoldable pub masterPaths : List Entry → List (List ℕ)
 masterPaths [] = []
@@ -233,7 +233,7 @@ unfolding completeb levelsOf coarseCells
 complete-is n qs ss es s w d =
     and-both (filledb 12 es (map (λ i. i ∷ []) (range 0 (length qs)))) (eqb (length (masters es)) (length (concat (merged es (length qs)))))
     (subst (λ (ls : List (List ℕ)). T (filledb 12 es ls)) (coarse-paths n 0 qs)
-    (filled-is es 12 0 (coarseCells n qs) ss (s .closed) (found n qs ss es w)
+    (filled-is es 12 0 (coarseCells n qs) ss (s .closed) (found-at n qs ss es w)
     (λ j i h. mastered es (entryAt n qs ss j i false) (w .each j i h) refl)))
     (rw (eq-eqb (length (masters es)) (length (concat (merged es (length qs))))
     (length-masters es ∙ counted n qs ss es w d ∙ sym (s .many) ∙ ap length (sym (merged-table n qs ss es w s)))) tt)

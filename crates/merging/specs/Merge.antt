@@ -137,8 +137,8 @@ pub record Covers (n : ℕ) (qs : List (List ℕ)) (ss : List ℕ) (es : List En
   pub none-else : (e : Entry) → List·Memᴰ e es → e .ghost ≡ false → MasterIn n qs ss e
 
 module _ (n : ℕ) (qs : List (List ℕ)) (ss : List ℕ) (es : List Entry) (w : Covers n qs ss es) where
-  pub found : (j i : ℕ) → i < length (lv n qs ss j .cells) → lookup es (pathAt (lv n qs ss j .cells) i) ≡ getD (lv n qs ss j .statuses) i 0
-  found j i h =
+  pub found-at : (j i : ℕ) → i < length (lv n qs ss j .cells) → lookup es (pathAt (lv n qs ss j .cells) i) ≡ getD (lv n qs ss j .statuses) i 0
+  found-at j i h =
       lookup-is es (pathAt (lv n qs ss j .cells) i) (getD (lv n qs ss j .statuses) i 0) (entryAt n qs ss j i false)
       (w .each j i h) refl refl
       (λ e m g q.
@@ -148,7 +148,7 @@ module _ (n : ℕ) (qs : List (List ℕ)) (ss : List ℕ) (es : List Entry) (w :
 
   pub merged-is : T (allb closedb (levelsOf n qs ss)) → merged es (length qs) ≡ statusLists (levelsOf n qs ss)
   unfolding merged levelsOf coarseCells
-  merged-is c = ap (gather 12 es) (sym (coarse-paths n 0 qs)) ∙ gather-is es 12 0 (coarseCells n qs) ss c found
+  merged-is c = ap (gather 12 es) (sym (coarse-paths n 0 qs)) ∙ gather-is es 12 0 (coarseCells n qs) ss c found-at
 
   -- the table as one row
   pub merged-table : Sound n qs ss → concat (merged es (length qs)) ≡ ss

@@ -1,5 +1,5 @@
 -- The rounds in lockstep on the parts 1 to Q + 1: each part ends with the serial step's answer, and its entries are its share.
---   partOf Q o, numberOf p    the part with a number, and its number
+--   nthPart Q o, numberOf p    the part with a number, and its number
 --   task, final p             the task of a split table; what the part p knows after the last round
 --   ran                       the split table after the rounds: `Result` speaks of it
 -- Laws: named (numbers and parts), parts-once (each part stands once), entries-last (the round of totals changes no entry), run-answer
@@ -42,13 +42,13 @@ use Rattle.merging.specs.Totals.{grownOf, grown-plain}
 use Rattle.merging.specs.Result.{settle, serial-answer}
 
 -- parts and their numbers
-abbrev pub partOf : (Q : ℕ) → ℕ → Fin (suc Q)
-partOf Q o = (min (pred o) Q, omega arith)
+abbrev pub nthPart : (Q : ℕ) → ℕ → Fin (suc Q)
+nthPart Q o = (min (pred o) Q, omega arith)
 
 abbrev pub numberOf : {P : ℕ} → Fin P → ℕ
 numberOf p = suc (p .0)
 
-pub named : (Q : ℕ) → Named (suc Q) (partOf Q) numberOf
+pub named : (Q : ℕ) → Named (suc Q) (nthPart Q) numberOf
 named Q = record { back = λ p. Fin·val-path (low (p .0) (p .1)); forth = λ o a b. number o a b }
   where
     low : (x : ℕ) → x < suc Q → min x Q ≡ x
@@ -76,7 +76,7 @@ parts-once P = fins-once P P (le-refl P)
 module _ (Q n : ℕ) (qs : List (List ℕ)) (ss ms : List ℕ) (four : All (λ q. length q ≡ 4) qs) (accepted : T (cellsb n qs))
     (sound : T (soundb n qs ss)) (os : List ℕ) (owners : T (ownersb n qs ss (suc Q) os)) (ps : List (Fin (suc Q))) {Msg : Type 0}
     (pack : Fin (suc Q) → Fin (suc Q) → ℕ → Body → Msg) (input : Fin (suc Q) → ℕ → ℕ)
-    (starts : (p : Fin (suc Q)) (c : ℕ) → partOf Q (getD os c 0) ≡ p → input p c ≡ getD ms c 0) where
+    (starts : (p : Fin (suc Q)) (c : ℕ) → nthPart Q (getD os c 0) ≡ p → input p c ≡ getD ms c 0) where
   abbrev P : ℕ
   P = suc Q
 
@@ -87,7 +87,7 @@ module _ (Q n : ℕ) (qs : List (List ℕ)) (ss ms : List ℕ) (four : All (λ q
   s = sound-parts n qs ss sound
 
   abbrev pub task : Task (Fin P)
-  task = taskOf n qs ss (slotOf n qs ss) (slotsAt n qs ss) os (partOf Q)
+  task = taskOf n qs ss (slotOf n qs ss) (slotsAt n qs ss) os (nthPart Q)
 
   abbrev plain : (p : Fin P) (t : State) (g : ℕ × ℕ) → grownOf F task p (sized g t) ≡ grownOf F task p t
   plain = grown-plain F task
@@ -99,11 +99,11 @@ module _ (Q n : ℕ) (qs : List (List ℕ)) (ss ms : List ℕ) (four : All (λ q
   final = afterTotals P task (grownOf F task) plain ps pack input
 
   pub task-fit : Fit task
-  task-fit = fits n qs ss s (slotOf n qs ss) (slotsAt n qs ss) (slots-are n qs ss s) os (owners-fit n qs ss P os owners) (partOf Q)
+  task-fit = fits n qs ss s (slotOf n qs ss) (slotsAt n qs ss) (slots-are n qs ss s) os (owners-fit n qs ss P os owners) (nthPart Q)
 
   abbrev pub ran : Settled F
   ran =
-      settle F n qs ss ms four accepted sound P os owners (partOf Q) numberOf (named Q) final
+      settle F n qs ss ms four accepted sound P os owners (nthPart Q) numberOf (named Q) final
       (λ p. enough-last P task (grownOf F task) plain ps pack input p task-fit (λ c. getD ms c 0) starts)
 
   -- the round of totals changes no entry
@@ -131,5 +131,5 @@ module _ (Q n : ℕ) (qs : List (List ℕ)) (ss ms : List ℕ) (four : All (λ q
       ≡ refuse 8 (leb (length (stepTable n qs ss ms)) 11) (refuse 9 (leb (length (concat (stepTable n qs ss ms))) 4096) Accepted)
   run-answer p =
       ap₂ endOf (told-masters p) (told-top p)
-      ∙ serial-answer F n qs ss ms four accepted sound P os owners (partOf Q) numberOf (named Q) final
+      ∙ serial-answer F n qs ss ms four accepted sound P os owners (nthPart Q) numberOf (named Q) final
       (λ p. enough-last P task (grownOf F task) plain ps pack input p task-fit (λ c. getD ms c 0) starts) (parts-once P)
