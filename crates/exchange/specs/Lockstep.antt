@@ -85,7 +85,7 @@ module _ {Part In Body Msg St : Type 0} (F : Finite Part) (Q : Protocol Part In 
       abbrev Among : Part → (Part → ℕ) → List (Part × Body) → Msg → Type 0
       Among p o l m = (q : Part) × (i : ℕ) × (i < length (only F q l)) × (m ≡ Q .pack p q (o q + i) (getD (only F q l) i blank))
 
-      number-in : (p : Part) (o : Part → ℕ) (l : List (Part × Body)) (m : Msg) → List·Memᴰ m (number F Q p o l) → Among p o l m
+      number-in : (p : Part) (o : Part → ℕ) (l : List (Part × Body)) (m : Msg) → List·Memᴰ m (number F (Q .pack) p o l) → Among p o l m
       unfolding number
       number-in p o [] m h = absurd (List·Memᴰ·not-nil h)
       number-in p o ((t, b) ∷ l) m h = go (λ k. number-in p (upd F o t (suc (o t))) l m k) (List·Memᴰ·cases-cons h)
@@ -113,8 +113,9 @@ module _ {Part In Body Msg St : Type 0} (F : Finite Part) (Q : Protocol Part In 
                     (u .0, u .1, rw a (u .2), u .3 ∙ ap₂ (λ k v. Q .pack p (u .0) (k + u .1) (getD v (u .1) blank)) c (sym a))
               ]
 
-          go : (List·Memᴰ m (number F Q p (upd F o t (suc (o t))) l) → Among p (upd F o t (suc (o t))) l m) → (m ≡ Q .pack p t (o t) b)
-              ⊎ List·Memᴰ m (number F Q p (upd F o t (suc (o t))) l) → Among p o ((t, b) ∷ l) m
+          go : (List·Memᴰ m (number F (Q .pack) p (upd F o t (suc (o t))) l) → Among p (upd F o t (suc (o t))) l m)
+              → (m ≡ Q .pack p t (o t) b)
+              ⊎ List·Memᴰ m (number F (Q .pack) p (upd F o t (suc (o t))) l) → Among p o ((t, b) ∷ l) m
           go r (inl e) =
               let a = only-same F t b l in
               let z : o t ≡ o t + 0 = omega arith in
@@ -122,15 +123,15 @@ module _ {Part In Body Msg St : Type 0} (F : Finite Part) (Q : Protocol Part In 
           go r (inr k) = later (r k)
 
       in-number : (p : Part) (o : Part → ℕ) (l : List (Part × Body)) (q : Part) (i : ℕ) → i < length (only F q l)
-          → List·Memᴰ (Q .pack p q (o q + i) (getD (only F q l) i blank)) (number F Q p o l)
+          → List·Memᴰ (Q .pack p q (o q + i) (getD (only F q l) i blank)) (number F (Q .pack) p o l)
       unfolding number only
       in-number p o [] q i h = absurd (omega arith)
       in-number p o ((t, b) ∷ l) q i h = go (F .same? q t) i h (λ k g. in-number p (upd F o t (suc (o t))) l q k g)
         where
           go : Dec (q ≡ t) → (i : ℕ) → i < length (only F q ((t, b) ∷ l))
               → ((k : ℕ) → k < length (only F q l) → List·Memᴰ (Q .pack p q (upd F o t (suc (o t)) q + k) (getD (only F q l) k blank))
-              (number F Q p (upd F o t (suc (o t))) l))
-              → List·Memᴰ (Q .pack p q (o q + i) (getD (only F q ((t, b) ∷ l)) i blank)) (number F Q p o ((t, b) ∷ l))
+              (number F (Q .pack) p (upd F o t (suc (o t))) l))
+              → List·Memᴰ (Q .pack p q (o q + i) (getD (only F q ((t, b) ∷ l)) i blank)) (number F (Q .pack) p o ((t, b) ∷ l))
           go (yes e) zero g r =
               let a : only F q ((t, b) ∷ l) ≡ b ∷ only F q l =
               subst (λ z. only F z ((t, b) ∷ l) ≡ b ∷ only F z l) (sym e) (only-same F t b l) in
@@ -146,14 +147,16 @@ module _ {Part In Body Msg St : Type 0} (F : Finite Part) (Q : Protocol Part In 
               let d : Q .pack p q (upd F o t (suc (o t)) q + k) (getD (only F q l) k blank)
               ≡ Q .pack p q (o q + suc k) (getD (only F q ((t, b) ∷ l)) (suc k) blank) =
               ap (λ n. Q .pack p q n (getD (only F q l) k blank)) z ∙ ap (λ v. Q .pack p q (o q + suc k) (getD v (suc k) blank)) (sym a) in
-              List·Memᴰ·tail (subst (λ y. List·Memᴰ y (number F Q p (upd F o t (suc (o t))) l)) d (r k (omega (arith, ap length a))))
+              List·Memᴰ·tail (subst (λ y. List·Memᴰ y (number F (Q .pack) p (upd F o t (suc (o t))) l)) d
+              (r k (omega (arith, ap length a))))
           go (no n) i g r =
               let a = only-other F q t b l n in
               let c = upd-other F o t (suc (o t)) q n in
               let d : Q .pack p q (upd F o t (suc (o t)) q + i) (getD (only F q l) i blank)
               ≡ Q .pack p q (o q + i) (getD (only F q ((t, b) ∷ l)) i blank) =
               ap₂ (λ k v. Q .pack p q (k + i) (getD v i blank)) c (sym a) in
-              List·Memᴰ·tail (subst (λ y. List·Memᴰ y (number F Q p (upd F o t (suc (o t))) l)) d (r i (omega (arith, ap length a))))
+              List·Memᴰ·tail (subst (λ y. List·Memᴰ y (number F (Q .pack) p (upd F o t (suc (o t))) l)) d
+              (r i (omega (arith, ap length a))))
 
       -- a message of the atStart F Q rounds
       abbrev Sent : Part → Msg → Type 0
@@ -165,7 +168,7 @@ module _ {Part In Body Msg St : Type 0} (F : Finite Part) (Q : Protocol Part In 
       post-in ord zero q m h = absurd (List·Memᴰ·not-nil h)
       post-in ord (suc r) q m h = ⊎-elim (λ t. post-in ord r q m t) new (List·Memᴰ·append-cases (post r q) h)
         where
-          new : List·Memᴰ m (number F Q q (λ p. mailCount r q p) (Q .order r q (lock r q))) → Sent q m
+          new : List·Memᴰ m (number F (Q .pack) q (λ p. mailCount r q p) (Q .order r q (lock r q))) → Sent q m
           new t =
               let b = number-in q (λ p. mailCount r q p) (Q .order r q (lock r q)) m t in
               let e = ord r q (b .0) (lock r q) in
@@ -177,10 +180,10 @@ module _ {Part In Body Msg St : Type 0} (F : Finite Part) (Q : Protocol Part In 
       in-post ord r q p i h =
           let e = ord r q p (lock r q) in
           Memᴰ·append-right (post r q) (subst (λ v. List·Memᴰ (Q .pack q p (mailCount r q p + i) (getD v i blank))
-          (number F Q q (λ p. mailCount r q p) (Q .order r q (lock r q)))) e
+          (number F (Q .pack) q (λ p. mailCount r q p) (Q .order r q (lock r q)))) e
           (in-number q (λ p. mailCount r q p) (Q .order r q (lock r q)) p i (rw e h)))
 
-      number-length : (p : Part) (o : Part → ℕ) (l : List (Part × Body)) → length (number F Q p o l) ≡ length l
+      number-length : (p : Part) (o : Part → ℕ) (l : List (Part × Body)) → length (number F (Q .pack) p o l) ≡ length l
       unfolding number
       number-length p o [] = refl
       number-length p o (t ∷ l) = ap suc (number-length p (upd F o (t .0) (suc (o (t .0)))) l)
@@ -300,8 +303,9 @@ module _ {Part In Body Msg St : Type 0} (F : Finite Part) (Q : Protocol Part In 
             (fun-ext (λ q. let z : n q - mailCount (suc r) q p ≡ 0 = omega (arith, o .high q) in rw z))
             (sym (drop-append-le f (post (suc r) p) _ (o .sent)))
 
-        withBody-is : (p : Part) (r : ℕ) (n : Part → ℕ) (f : ℕ) → Ok plan p (at-place (suc r) n f) → (q : Part) → n q < mailCount (suc r) q p
-            → withBody F Q (local p r n f) q (getD (mail r q p) (n q - mailCount r q p) blank) ≡ local p r (upd F n q (suc (n q))) f
+        withBody-is : (p : Part) (r : ℕ) (n : Part → ℕ) (f : ℕ) → Ok plan p (at-place (suc r) n f) → (q : Part)
+            → n q < mailCount (suc r) q p
+            → withBody F (local p r n f) q (getD (mail r q p) (n q - mailCount r q p) blank) ≡ local p r (upd F n q (suc (n q))) f
         unfolding mailCount
         withBody-is p r n f o q h = ap (λ t. re (local p r n f) t (drop f (post (suc r) p))) (fun-ext
             (upd-all F (λ x a c. a ≡ take (c - mailCount r x p) (mail r x p)) (λ x. take (n x - mailCount r x p) (mail r x p)) n q _ _ grown
@@ -377,7 +381,7 @@ module _ {Part In Body Msg St : Type 0} (F : Finite Part) (Q : Protocol Part In 
             go (yes h) = let g = gives-to Z Fetch x _ _ (fetch-gives p r n f o h x a) y e in (omega arith, h, g .0, g .1)
             go (no h) = never Z Fetch x y (A .fetch-none p (local p r n f) x a (drop-of-length-le (post (suc r) p) {i = f} (omega arith))) e
 
-        -- the number F Q of a message tells its round
+        -- the number F (Q .pack) of a message tells its round
         same-round : (q p : Part) (r r′ : ℕ) (k : ℕ) → mailCount r q p ≤ k → k < mailCount (suc r) q p → mailCount r′ q p ≤ k
             → k < mailCount (suc r′) q p → r′ ≡ r
         same-round q p r r′ k a b c d = go (decLt r r′) (decLt r′ r)
@@ -398,10 +402,11 @@ module _ {Part In Body Msg St : Type 0} (F : Finite Part) (Q : Protocol Part In 
         unfolding due mailCount
         due-gives p r n f o q h x a =
             subst (λ l. Good p l → Gives F Q Z (Hand (due p r n q)) x (Z .Busy p l) []) (withBody-is p r n f o q h)
-            (λ g. A .hand-does p (local p r n f) x a q _ g (short-open r q p (n q - mailCount r q p) (omega (arith, taken-fits p r n f o q))))
+            (λ g. A .hand-does p (local p r n f) x a q _ g
+            (short-open r q p (n q - mailCount r q p) (omega (arith, taken-fits p r n f o q))))
             (good p r (upd F n q (suc (n q))) f (ok-take F plan counted p (at-place (suc r) n f) o q h))
 
-        -- a message of q for p that has the number F Q that is due is the one that is due
+        -- a message of q for p that has the number F (Q .pack) that is due is the one that is due
         is-due : (p : Part) (r : ℕ) (n : Part → ℕ) (f : ℕ) → Ok plan p (at-place (suc r) n f) → (q : Part) (m : Msg)
             → Q .whole r q p (take (n q - mailCount r q p) (mail r q p)) ≡ false
             → (r′ : ℕ) (i : ℕ) → i < length (mail r′ q p) → m ≡ Q .pack q p (mailCount r′ q p + i) (getD (mail r′ q p) i blank)
@@ -422,11 +427,18 @@ module _ {Part In Body Msg St : Type 0} (F : Finite Part) (Q : Protocol Part In 
         unfolding place
         hand-go p zero n f o x a q m s y e = never Z (Hand m) x y (A .idle-hand p x a m) e
         hand-go p (suc r) n f o x a q m s y e =
-            let k = A .hand-is p (local p r n f) x a q (s .0) (mailCount (s .1) q (s .0) + s .2) (getD (mail (s .1) q (s .0)) (s .2) blank) y
+            let k = A .hand-is p (local p r n f) x a q (s .0) (mailCount (s .1) q (s .0) + s .2) (getD (mail (s .1) q (s .0)) (s .2) blank)
+            y
             (subst (λ z. Z .act (Hand z) x ≡ some y) (s .4) e) in
             let t = subst (λ z. (r′ : ℕ) × (i : ℕ) × (i < length (mail r′ q z))
             × (m ≡ Q .pack q z (mailCount r′ q z + i) (getD (mail r′ q z) i blank))
-            × (mailCount r′ q z + i ≡ mailCount r q p + length (take (n q - mailCount r q p) (mail r q p)))) (k .0) (s .1, s .2, s .3, s .4, k .2) in
+            × (mailCount r′ q z + i ≡ mailCount r q p + length (take (n q - mailCount r q p) (mail r q p)))) (k .0) (
+              s .1,
+              s .2,
+              s .3,
+              s .4,
+              k .2,
+            ) in
             let d = is-due p r n f o q m (k .1) (t .0) (t .1) (t .2) (t .3) (t .4) in
             let g = gives-to Z (Hand (due p r n q)) x _ _ (due-gives p r n f o q (d .0) x a) y
             (subst (λ z. Z .act (Hand z) x ≡ some y) (d .1) e) in

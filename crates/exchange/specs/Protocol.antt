@@ -42,6 +42,20 @@ pub record Machine (Part In Body Msg St Store : Type 0) : Type 1 where
   pub Busy : Part → Local Part Body Msg St → Store → Type 0  -- the store is one of a part that has started
   pub phase-of : Part → Store → ℕ
 
+-- with another queue; with one message more taken
+abbrev pub withQueue : {Part Body Msg St : Type 0} → Local Part Body Msg St → List Msg → Local Part Body Msg St
+withQueue l w = record { round = l .round; state = l .state; before = l .before; got = l .got; sent = l .sent; queue = w }
+
+abbrev pub withBody : {Part Body Msg St : Type 0} → Finite Part → Local Part Body Msg St → Part → Body → Local Part Body Msg St
+withBody F l q b = record {
+  round = l .round;
+  state = l .state;
+  before = l .before;
+  got = upd F (l .got) q (l .got q ++ (b ∷ []));
+  sent = l .sent;
+  queue = l .queue;
+}
+
 module _ {Part Body : Type 0} (F : Finite Part) where
   -- the messages of a list for one part
   unfoldable pub only : Part → List (Part × Body) → List Body
@@ -64,20 +78,21 @@ module _ {Part Body : Type 0} (F : Finite Part) where
       go (yes e) = absurd (h e)
       go (no n) = refl
 
-module _ {Part In Body Msg St : Type 0} (F : Finite Part) (Q : Protocol Part In Body Msg St) where
+module _ {Part Body Msg : Type 0} (F : Finite Part) (pack : Part → Part → ℕ → Body → Msg) where
   -- the messages of a list, where o counts those written before for each part
   unfoldable pub number : Part → (Part → ℕ) → List (Part × Body) → List Msg
   unfolding upd
   number p o [] = []
-  number p o (t ∷ l) = Q .pack p (t .0) (o (t .0)) (t .1) ∷ number p (upd F o (t .0) (suc (o (t .0)))) l
+  number p o (t ∷ l) = pack p (t .0) (o (t .0)) (t .1) ∷ number p (upd F o (t .0) (suc (o (t .0)))) l
 
+module _ {Part In Body Msg St : Type 0} (F : Finite Part) (Q : Protocol Part In Body Msg St) where
   abbrev pub Ordered : Type 0
   Ordered = (r : ℕ) (p q : Part) (s : St) → only F q (Q .order r p s) ≡ Q .out r p q s
 
   -- what p writes in round r, with `o` messages written before
   unfoldable pub parcel : ℕ → Part → St → (Part → ℕ) → List Msg
   unfolding number
-  parcel r p s o = number p o (Q .order r p s)
+  parcel r p s o = number F (Q .pack) p o (Q .order r p s)
 
   abbrev pub enter : ℕ → Part → St → (Part → ℕ) → (Part → ℕ) → List Msg → Local Part Body Msg St
   enter r p s b o w = record {
@@ -96,20 +111,6 @@ module _ {Part In Body Msg St : Type 0} (F : Finite Part) (Q : Protocol Part In 
   abbrev pub following : Part → Local Part Body Msg St → Local Part Body Msg St
   following p l = enter (suc (l .round)) p (Q .next (l .round) p (l .state) (l .got)) (λ q. l .before q + length (l .got q)) (l .sent)
       (l .queue)
-
-  abbrev pub withQueue : Local Part Body Msg St → List Msg → Local Part Body Msg St
-  withQueue l w = record { round = l .round; state = l .state; before = l .before; got = l .got; sent = l .sent; queue = w }
-
-  abbrev pub withBody : Local Part Body Msg St → Part → Body → Local Part Body Msg St
-  withBody l q b = record {
-    round = l .round;
-    state = l .state;
-    before = l .before;
-    got = upd F (l .got) q (l .got q ++ (b ∷ []));
-    sent =
-        l .sent;
-    queue = l .queue;
-  }
 
   module _ {Store : Type 0} (Z : Machine Part In Body Msg St Store) where
     -- the call is accepted, leads to such a store and gives out these messages
@@ -143,6 +144,7 @@ module _ {Part In Body Msg St : Type 0} (F : Finite Part) (Q : Protocol Part In 
       pub hand-is : (p : Part) (l : Local Part Body Msg St) (x : Store) → Z .Busy p l x
           → (q p′ : Part) (k : ℕ) (b : Body) (y : Store × List Msg) → Z .act (Hand (Q .pack q p′ k b)) x ≡ some y
           → (p′ ≡ p) × (Q .whole (l .round) q p (l .got q) ≡ false) × (k ≡ l .before q + length (l .got q))
-      pub hand-does : (p : Part) (l : Local Part Body Msg St) (x : Store) → Z .Busy p l x → (q : Part) (b : Body) → Good p (withBody l q b)
+      pub hand-does : (p : Part) (l : Local Part Body Msg St) (x : Store) → Z .Busy p l x → (q : Part) (b : Body)
+          → Good p (withBody F l q b)
           → Q .whole (l .round) q p (l .got q) ≡ false
-          → Gives (Hand (Q .pack q p (l .before q + length (l .got q)) b)) x (Z .Busy p (withBody l q b)) []
+          → Gives (Hand (Q .pack q p (l .before q + length (l .got q)) b)) x (Z .Busy p (withBody F l q b)) []

@@ -75,53 +75,18 @@ overb (counts i) = false
 overb totals = false
 overb over = true
 
-module _ {Part : Type 0} (F : Finite Part) (J : Task Part) (grown : Part → State → ℕ × ℕ) (ps : List Part) {Msg : Type 0} (pack : Part
-    → Part → ℕ → Body → Msg) where
+-- the totals of the own masters are known
+unfoldable pub sizedb : Phase → Bool
+sizedb (marks i) = false
+sizedb (counts i) = false
+sizedb totals = true
+sizedb over = true
+
+module _ {Part : Type 0} (F : Finite Part) (J : Task Part) where
   -- own messages and those after the last round: there are none
   unfoldable pub wholeb : ℕ → Part → Part → List Body → Bool
   unfolding endedb overb is phase
   wholeb r q p l = is F q p || (overb (phase (J .top) r) || endedb l)
-
-  abbrev pub protocol : Protocol Part (ℕ → ℕ) Body Msg State
-  protocol =
-      record {
-        rounds = suc (suc (suc (J .top + J .top)));
-        init = starting F J;
-        out = λ r p q s. writing F J (phase (J .top) r) p q s;
-        order = λ r p s. orderOf F J ps (phase (J .top) r) p s;
-        next = λ r p s got. taking F J grown (phase (J .top) r) p s got;
-        whole = wholeb;
-        pack = pack;
-      }
-
-  module _ (fit : Fit J) (ms : ℕ → ℕ) (input : Part → ℕ → ℕ) (given : (p : Part) (c : ℕ) → J .owner c ≡ p → input p c ≡ ms c) where
-    abbrev at : ℕ → Part → State
-    at r p = lock F protocol input r p
-
-    lock-on : (r : ℕ) (f : Phase) → phase (J .top) r ≡ f → (p : Part)
-        → at (suc r) p ≡ taking F J grown f p (at r p) (λ q. writing F J f q p (at r q))
-    unfolding lock
-    lock-on r f e p = ap (λ (f : Phase). taking F J grown f p (at r p) (λ q. writing F J f q p (at r q))) e
-
-    to-counts : (i : ℕ) → i ≤ J .top → ((p : Part) → Marking F J ms i p (at (i + i) p)) → (p : Part)
-        → Counting F J ms i p (at (suc (i + i)) p)
-    to-counts i h w p = rw (lock-on (i + i) (marks i) (phase-marks (J .top) i h) p) (marks-known F J ms fit i h (at (i + i)) w p grown)
-
-    marking : (i : ℕ) → i ≤ J .top → (p : Part) → Marking F J ms i p (at (i + i) p)
-    unfolding lock
-    marking zero h p = at-start F J ms fit p (input p) (given p)
-    marking (suc i) h p =
-        let z : suc i + suc i ≡ suc (suc (i + i)) = omega arith in
-        let w : (q : Part) → Counting F J ms i q (at (suc (i + i)) q) = to-counts i (omega arith) (λ q. marking i (omega arith) q) in
-        subst (λ (r : ℕ). Marking F J ms (suc i) p (at r p)) (sym z)
-        (rw (lock-on (suc (i + i)) (counts i) (phase-counts (J .top) i (omega arith)) p)
-        (counts-known F J ms fit i (omega arith) (at (suc (i + i))) w p grown (omega arith)))
-
-    pub enough : (p : Part) → Known F J ms (suc (J .top)) p (at (suc (suc (J .top + J .top))) p)
-    enough p =
-        let t = J .top in
-        rw (lock-on (suc (t + t)) (counts t) (phase-counts t t (omega arith)) p)
-        (last-known F J ms fit t (omega arith) (at (suc (t + t))) (to-counts t (omega arith) (marking t (omega arith))) p grown)
 
   -- what the exchange asks of what is written
   ended-last : (l : List Body) → endedb (l ++ (end ∷ [])) ≡ true
@@ -168,7 +133,7 @@ module _ {Part : Type 0} (F : Finite Part) (J : Task Part) (grown : Part → Sta
   says-all totals q p s = refl
   says-all over q p s = refl
 
-  pub silent : (p q : Part) (s : State) → writing F J (phase (J .top) (protocol .rounds)) p q s ≡ []
+  pub silent : (p q : Part) (s : State) → writing F J (phase (J .top) (suc (suc (suc (J .top + J .top))))) p q s ≡ []
   unfolding writing says
   silent p q s = rw (phase-over (J .top)) (go (is F p q) refl)
     where
@@ -219,3 +184,46 @@ module _ {Part : Type 0} (F : Finite Part) (J : Task Part) (grown : Part → Sta
           ap (λ (l : List Body). endedb (take k l)) (sym w) ∙ sym (whole-other r q p (take k (writing F J (phase (J .top) r) q p s)) e g)
           ∙ t in
           omega (arith, ap length w, says-is (phase (J .top) r) q p s k g u)
+
+module _ {Part : Type 0} (F : Finite Part) (J : Task Part) (grown : Part → State → ℕ × ℕ) (ps : List Part) {Msg : Type 0} (pack : Part
+    → Part → ℕ → Body → Msg) where
+  abbrev pub protocol : Protocol Part (ℕ → ℕ) Body Msg State
+  protocol =
+      record {
+        rounds = suc (suc (suc (J .top + J .top)));
+        init = starting F J;
+        out = λ r p q s. writing F J (phase (J .top) r) p q s;
+        order = λ r p s. orderOf F J ps (phase (J .top) r) p s;
+        next = λ r p s got. taking F J grown (phase (J .top) r) p s got;
+        whole = wholeb F J;
+        pack = pack;
+      }
+
+  module _ (fit : Fit J) (ms : ℕ → ℕ) (input : Part → ℕ → ℕ) (given : (p : Part) (c : ℕ) → J .owner c ≡ p → input p c ≡ ms c) where
+    abbrev at : ℕ → Part → State
+    at r p = lock F protocol input r p
+
+    lock-on : (r : ℕ) (f : Phase) → phase (J .top) r ≡ f → (p : Part)
+        → at (suc r) p ≡ taking F J grown f p (at r p) (λ q. writing F J f q p (at r q))
+    unfolding lock
+    lock-on r f e p = ap (λ (f : Phase). taking F J grown f p (at r p) (λ q. writing F J f q p (at r q))) e
+
+    to-counts : (i : ℕ) → i ≤ J .top → ((p : Part) → Marking F J ms i p (at (i + i) p)) → (p : Part)
+        → Counting F J ms i p (at (suc (i + i)) p)
+    to-counts i h w p = rw (lock-on (i + i) (marks i) (phase-marks (J .top) i h) p) (marks-known F J ms fit i h (at (i + i)) w p grown)
+
+    marking : (i : ℕ) → i ≤ J .top → (p : Part) → Marking F J ms i p (at (i + i) p)
+    unfolding lock
+    marking zero h p = at-start F J ms fit p (input p) (given p)
+    marking (suc i) h p =
+        let z : suc i + suc i ≡ suc (suc (i + i)) = omega arith in
+        let w : (q : Part) → Counting F J ms i q (at (suc (i + i)) q) = to-counts i (omega arith) (λ q. marking i (omega arith) q) in
+        subst (λ (r : ℕ). Marking F J ms (suc i) p (at r p)) (sym z)
+        (rw (lock-on (suc (i + i)) (counts i) (phase-counts (J .top) i (omega arith)) p)
+        (counts-known F J ms fit i (omega arith) (at (suc (i + i))) w p grown (omega arith)))
+
+    pub enough : (p : Part) → Known F J ms (suc (J .top)) p (at (suc (suc (J .top + J .top))) p)
+    enough p =
+        let t = J .top in
+        rw (lock-on (suc (t + t)) (counts t) (phase-counts t t (omega arith)) p)
+        (last-known F J ms fit t (omega arith) (at (suc (t + t))) (to-counts t (omega arith) (marking t (omega arith))) p grown)
