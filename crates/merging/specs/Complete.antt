@@ -1,7 +1,7 @@
 -- Entries that cover a table, each master once, are complete: merging finds each place, and as many masters as cells.
 --   masterPaths es    the paths of the masters among the entries es
 -- Laws: path-from and path-by (masters and their paths), paths-once and paths-append (of lists without repetition, and put together),
--- counted (as many masters as cells), complete-is (the theorem).
+-- masters-counted (as many masters as cells), complete-is (the theorem).
 use mathlib.Core.Path.{_≡_, refl, sym, _∙_, ap, ap₂, subst}
 use mathlib.Core.Logic.{⊎-elim}
 use mathlib.Core.Bool.{Bool, true, false}
@@ -139,9 +139,9 @@ module _ (n : ℕ) (qs : List (List ℕ)) (ss : List ℕ) where
       getD-map (λ (c : Cell Point). c .path) cells (a .o + t) noCell [] (a .inside) ∙ ap (λ (c : Cell Point). c .path) (a .cell) in
       subst (λ (l : List ℕ). List·Memᴰ l cellPaths) e (mem-at [] cellPaths (a .o + t) (omega (arith, a .inside, many)))
 
-  pub counted : (es : List Entry) → Covers n qs ss es → NoDup (masterPaths es) → length (masterPaths es)
+  pub masters-counted : (es : List Entry) → Covers n qs ss es → NoDup (masterPaths es) → length (masterPaths es)
       ≡ length (cellsOf (levelsOf n qs ss))
-  counted es w d =
+  masters-counted es w d =
       let up : length (masterPaths es) ≤ length cellPaths =
       no-more (masterPaths es) cellPaths d (λ l m.
       let (e, u, g, q) = path-from es l m in
@@ -236,4 +236,4 @@ complete-is n qs ss es s w d =
     (filled-is es 12 0 (coarseCells n qs) ss (s .closed) (found-at n qs ss es w)
     (λ j i h. mastered es (entryAt n qs ss j i false) (w .each j i h) refl)))
     (rw (eq-eqb (length (masters es)) (length (concat (merged es (length qs))))
-    (length-masters es ∙ counted n qs ss es w d ∙ sym (s .many) ∙ ap length (sym (merged-table n qs ss es w s)))) tt)
+    (length-masters es ∙ masters-counted n qs ss es w d ∙ sym (s .many) ∙ ap length (sym (merged-table n qs ss es w s)))) tt)

@@ -137,7 +137,8 @@ pub record Covers (n : ℕ) (qs : List (List ℕ)) (ss : List ℕ) (es : List En
   pub none-else : (e : Entry) → List·Memᴰ e es → e .ghost ≡ false → MasterIn n qs ss e
 
 module _ (n : ℕ) (qs : List (List ℕ)) (ss : List ℕ) (es : List Entry) (w : Covers n qs ss es) where
-  pub found-at : (j i : ℕ) → i < length (lv n qs ss j .cells) → lookup es (pathAt (lv n qs ss j .cells) i) ≡ getD (lv n qs ss j .statuses) i 0
+  pub found-at : (j i : ℕ) → i < length (lv n qs ss j .cells) → lookup es (pathAt (lv n qs ss j .cells) i)
+      ≡ getD (lv n qs ss j .statuses) i 0
   found-at j i h =
       lookup-is es (pathAt (lv n qs ss j .cells) i) (getD (lv n qs ss j .statuses) i 0) (entryAt n qs ss j i false)
       (w .each j i h) refl refl

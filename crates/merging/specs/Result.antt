@@ -2,10 +2,12 @@
 -- new red cells among its own: the statements for the exchange's theorem, readable alone.
 --   settle    the split table after the rounds, with the slots of `splitting`
 -- Laws: serial-table (merging gives the step's table, in whatever order of the parts), all-totals (as many masters as cells),
--- serial-answer (the result from the totals is the serial step's), held-each-once, just-held, held-few (a part holds its masters and
+-- serial-answer (the result from the totals is the serial step's), held-each-once, just-held, share-few (a part holds its masters and
 -- ghosts, each once, and nothing else), serial-complete (merging finds them all), old-table and old-complete (the masters of the split
--- merge to the old table), admissible-before and admissible-after (A1 to A6).
+-- merge to the old table), owners-after, coarse-owner, family-same, family-new (the owners after the step are accepted, and what they
+-- keep), admissible-before and admissible-after (A1 to A6).
 use mathlib.Core.Path.{_≡_, sym, _∙_, ap, subst}
+use mathlib.Core.Logic.{_≢_}
 use mathlib.Core.List.{List, flatMap, List·Memᴰ}
 use Prim.Native.Nat.{ℕ, suc, _≤_, _<_, pred}
 use native.Mathlib.Omega.{arith}
@@ -27,19 +29,20 @@ use Rattle.exchange.specs.Finite.{Finite, sumOver}
 use Rattle.rounds.specs.Tests.{Member}
 use Rattle.rounds.specs.Rounds.{State, capped}
 use Rattle.rounds.specs.Enough.{Known}
-use Rattle.parts.specs.Owners.{ownersb, ownersAfter}
+use Rattle.parts.specs.Owners.{nthCell, familyOf, ownersb, ownersAfter}
 use Rattle.parts.specs.Held.{Entry, entriesOf}
 use Rattle.parts.specs.Merge.{merged, completeb}
 use Rattle.splitting.specs.Paths.{new-lv}
 use Rattle.splitting.specs.Split.{taskOf, owners-fit}
 use Rattle.splitting.specs.Slots.{slotOf, slotsAt, slots-are}
 use Rattle.splitting.specs.Admissible.{Admissible, admissible}
-use Rattle.splitting.specs.Heirs.{heirs-admissible}
+use Rattle.splitting.specs.Heirs.{heirs, heirs-admissible}
 use Rattle.shares.specs.Flat.{NoTwice}
 use Rattle.shares.specs.Settled.{Settled, entriesIn}
 use Rattle.shares.specs.Entries.{entries-are}
 use Rattle.shares.specs.Once.{each-once}
 use Rattle.shares.specs.Share.{Named, tableIn, share-held, held-share}
+use Rattle.shares.specs.Keeps.{coarse-keeps, family-keeps, family-first}
 use Rattle.merging.specs.Distinct.{NoDup}
 use Rattle.merging.specs.Merge.{merged-step}
 use Rattle.merging.specs.Complete.{no-more-held, complete-is}
@@ -133,8 +136,8 @@ module _ {Part : Type 0} (F : Finite Part) (n : ℕ) (qs : List (List ℕ)) (ss 
         complete-is n qs (tableIn settle) (entriesAll settle l) (subst (Sound n qs) by new-sound) (entries-cover settle l every)
         (all-apart settle l d)
 
-    pub held-few : (p : Part) → length (entriesIn settle p) ≤ length ts
-    held-few p =
+    pub share-few : (p : Part) → length (entriesIn settle p) ≤ length ts
+    share-few p =
         let u : Sound n qs (tableIn settle) = subst (Sound n qs) by new-sound in
         let up = no-more-held n qs (tableIn settle) (entriesIn settle p) (each-once settle p) (λ e m.
         let w = entries-are settle p e m in
@@ -146,6 +149,22 @@ module _ {Part : Type 0} (F : Finite Part) (n : ℕ) (qs : List (List ℕ)) (ss 
               ∙ ap (λ (v : Level). pathAt (v .cells) (w .i)) q,
         )) in
         omega (arith, u .many, ap length by)
+
+    -- the owners after the step: accepted again; what they keep
+    pub owners-after : T (ownersb n qs ts P os')
+    owners-after = heirs n qs ss os ts new-sound s P owners
+
+    pub coarse-owner : (c : ℕ) → c < length qs → getD os' c 0 ≡ getD os c 0
+    coarse-owner = coarse-keeps n qs ss os ts s new-sound
+
+    pub family-same : (c d : ℕ) → c < length ss → d < length ts → nthCell n qs ss c .path ≡ nthCell n qs ts d .path → getD ss c 0 ≢ 0
+        → getD ts d 0 ≢ 0 → familyOf n qs ts os' d ≡ familyOf n qs ss os c
+    family-same = family-keeps n qs ss os ts s new-sound
+
+    pub family-new : (d : ℕ) → d < length ts
+        → ((c : ℕ) → c < length ss → nthCell n qs ss c .path ≡ nthCell n qs ts d .path → getD ss c 0 ≡ 0)
+        → familyOf n qs ts os' d ≡ getD os' d 0
+    family-new = family-first n qs ss os ts s new-sound
 
     pub admissible-after : Admissible n qs ts P os'
     admissible-after = heirs-admissible n qs ss os ts new-sound s P owners

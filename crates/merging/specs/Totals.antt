@@ -30,7 +30,7 @@ use Rattle.shares.specs.Grow.{freshEntries, entries}
 use Rattle.shares.specs.Settled.{Settled, entriesIn, ownIn}
 use Rattle.shares.specs.Present.{newEntry, masters-in}
 use Rattle.merging.specs.Distinct.{NoDup}
-use Rattle.merging.specs.Complete.{masterPaths, path-by, paths-append, counted}
+use Rattle.merging.specs.Complete.{masterPaths, path-by, paths-append, masters-counted}
 use Rattle.merging.specs.All.{entriesAll, entries-cover, where-is, all-apart}
 use Rattle.merging.specs.Limits.{topOf, endOf, largest-from, capped-few, levels-eleven}
 
@@ -85,7 +85,7 @@ module _ {Part : Type 0} {F : Finite Part} (X : Settled F) where
   -- as many masters as cells
   pub totals-are : (l : List Part) → ((p : Part) → List·Memᴰ p l) → NoDup l → sumOver mastersOf l ≡ length (concat (stepBy n qs ss ms))
   totals-are l every d =
-      length-all l ∙ counted n qs (concat (stepBy n qs ss ms)) (entriesAll X l) (entries-cover X l every) (all-apart X l d)
+      length-all l ∙ masters-counted n qs (concat (stepBy n qs ss ms)) (entriesAll X l) (entries-cover X l every) (all-apart X l d)
       ∙ sym (new-many n qs ss ms)
 
   -- a master on level 11
