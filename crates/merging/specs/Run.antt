@@ -1,18 +1,21 @@
 -- The rounds in lockstep on the parts 1 to Q + 1: each part ends with the serial step's answer, and its entries are its share.
 --   nthPart Q o, numberOf p    the part with a number, and its number
---   task, final p             the task of a split table; what the part p knows after the last round
---   ran                       the split table after the rounds: `Result` speaks of it
--- Laws: named (numbers and parts), parts-once (each part stands once), entries-last (the round of totals changes no entry), run-answer
--- (each part's result is the serial step's answer).
+--   marksFrom os given p c     the mark of the cell c that the part p started with; 0 where it is no master of p
+--   task, final p              the task of a split table; what the part p knows after the last round
+--   ran                        the split table after the rounds: `Result` speaks of it
+-- Laws: named (numbers and parts), parts-once (each part stands once), starts-together (the marks of the starts are the serial ones),
+-- task-fit, entries-last (the round of totals changes no entry), run-answer (each part's result is the serial step's answer).
 use mathlib.Core.Path.{_≡_, sym, _∙_, ap, ap₂, fun-ext}
 use mathlib.Core.Logic.{⊎-elim}
+use mathlib.Core.Bool.{true, false, _&&_}
 use mathlib.Core.List.{List, List·Memᴰ, List·Memᴰ·not-nil, List·Memᴰ·cases-cons}
 use Prim.Native.Nat.{ℕ, zero, suc, _≤_, _<_, pred, min, Fin}
-use native.Mathlib.Decide.{Fin·val-path}
+use native.Mathlib.Decide.{decLt, Fin·val-path}
 use native.Mathlib.Nat.{le-refl}
 use native.Mathlib.Omega.{arith}
-use lib.Dec.{T, leb}
-use lib.ListN.{length, getD}
+use lib.Dec.{T, leb, ltb}
+use lib.ListN.{length, getD, List·getD-eq-default}
+use borrow.Author.Tests.{eq-eqb, lt-ltb, le-ltb}
 use Rattle.base.specs.Refuse.{refuse}
 use Rattle.base.specs.declared.Answer.the-variants.{Accepted}
 use Rattle.mesh.specs.Coarse.{cellsb}
@@ -28,7 +31,10 @@ use Rattle.rounds.specs.Rounds.{Body, Phase, State, writing, taking, sized, cap
 use Rattle.rounds.specs.Rounded.{phase-totals}
 use Rattle.rounds.specs.Totals.{beforeTotals, afterTotals, totals-known, enough-last}
 use Rattle.parts.specs.Owners.{ownersb}
-use Rattle.parts.specs.Held.{Entry}
+use Rattle.parts.specs.Held.{Entry, masterb}
+use Rattle.parts.specs.Starts.{placeOn, putTogether}
+use Rattle.splitting.specs.Admissible.{owners-counted}
+use Rattle.splitting.specs.Starts.{together-at, length-together}
 use Rattle.splitting.specs.Split.{taskOf, fits, owners-fit}
 use Rattle.splitting.specs.Slots.{slotOf, slotsAt, slots-are}
 use Rattle.shares.specs.Grow.{statusNew, pairHeld, freshStatus, staysb, masterEntry, ghostEntry, anewb, childStatus, childEntries}
@@ -72,6 +78,29 @@ fins-once P (suc k) h = ((λ m. let z = fins-below P k (step-down h) (k, h) m in
 
 pub parts-once : (P : ℕ) → NoDup (parts P .list)
 parts-once P = fins-once P P (le-refl P)
+
+-- the marks that a part starts with, by cell
+module _ (os : List ℕ) (given : ℕ → List ℕ) where
+  unfoldable pub marksFrom : {P : ℕ} → Fin P → ℕ → ℕ
+  unfolding masterb placeOn
+  marksFrom p c =
+      elim (ltb c (length os) && masterb os (numberOf p) c) [ true ↦ getD (given (numberOf p)) (placeOn os c) 0 | false ↦ 0 ]
+
+  pub starts-together : (Q n : ℕ) (qs : List (List ℕ)) (ss : List ℕ) → T (ownersb n qs ss (suc Q) os) → (p : Fin (suc Q)) (c : ℕ)
+      → nthPart Q (getD os c 0) ≡ p → marksFrom p c ≡ getD (putTogether os given) c 0
+  unfolding marksFrom masterb
+  starts-together Q n qs ss t p c e =
+      elim (decLt c (length os)) [
+        | yes h ↦
+            let w = owners-counted n qs ss (suc Q) os t in
+            let (a, b) = w .each c (omega (arith, w .many)) in
+            let o : getD os c 0 ≡ numberOf p = sym (named Q .forth (getD os c 0) a b) ∙ ap (λ (x : Fin (suc Q)). numberOf x) e in
+            rw (lt-ltb c (length os) h, eq-eqb (getD os c 0) (numberOf p) o, marksFrom)
+            (ap (λ (x : ℕ). getD (given x) (placeOn os c) 0) (sym o) ∙ sym (together-at os given c h))
+        | no h ↦
+            rw (le-ltb c (length os) (omega arith), marksFrom)
+            (sym (List·getD-eq-default (putTogether os given) 0 {n = c} (omega (arith, length-together os given))))
+      ]
 
 module _ (Q n : ℕ) (qs : List (List ℕ)) (ss ms : List ℕ) (four : All (λ q. length q ≡ 4) qs) (accepted : T (cellsb n qs))
     (sound : T (soundb n qs ss)) (os : List ℕ) (owners : T (ownersb n qs ss (suc Q) os)) (ps : List (Fin (suc Q))) {Msg : Type 0}

@@ -5,3 +5,4 @@ pub mod Split
 pub mod Slots
 pub mod Admissible
 pub mod Heirs
+pub mod Starts
