@@ -1,6 +1,6 @@
 -- What the rounds of a split step come to, for every accepted mesh, sound table, accepted owners and marks, once each part knows of the
 -- new red cells among its own: the statements for the exchange's theorem, readable alone.
---   settle    the split table after the rounds, with the slots of `splitting`
+--   settle    the split table after the rounds, with any slots
 -- Laws: serial-table (merging gives the step's table, in whatever order of the parts), all-totals (as many masters as cells),
 -- serial-answer (the result from the totals is the serial step's), held-each-once, just-held, share-few (a part holds its masters and
 -- ghosts, each once, and nothing else), serial-complete (merging finds them all), old-table and old-complete (the masters of the split
@@ -33,8 +33,7 @@ use Rattle.parts.specs.Owners.{nthCell, familyOf, ownersb, ownersAfter}
 use Rattle.parts.specs.Held.{Entry, entriesOf}
 use Rattle.parts.specs.Merge.{merged, completeb}
 use Rattle.splitting.specs.Paths.{new-lv}
-use Rattle.splitting.specs.Split.{taskOf, owners-fit}
-use Rattle.splitting.specs.Slots.{slotOf, slotsAt, slots-are}
+use Rattle.splitting.specs.Split.{Slots, taskOf, owners-fit}
 use Rattle.splitting.specs.Admissible.{Admissible, admissible}
 use Rattle.splitting.specs.Heirs.{heirs, heirs-admissible}
 use Rattle.shares.specs.Flat.{NoTwice}
@@ -53,8 +52,9 @@ use Rattle.merging.specs.Totals.{mastersOf, highIn, totals-are, ends}
 
 module _ {Part : Type 0} (F : Finite Part) (n : ℕ) (qs : List (List ℕ)) (ss ms : List ℕ) (four : All (λ q. length q ≡ 4) qs)
     (accepted : T (cellsb n qs)) (sound : T (soundb n qs ss)) (P : ℕ) (os : List ℕ) (owners : T (ownersb n qs ss P os))
-    (part : ℕ → Part) (number : Part → ℕ) (names : Named P part number) (state : Part → State)
-    (known : (p : Part) → Known F (taskOf n qs ss (slotOf n qs ss) (slotsAt n qs ss) os part) (λ c. getD ms c 0)
+    (slot : ℕ → ℕ → ℕ) (slots : ℕ → List ℕ) (numbered : Slots n qs ss slot slots) (part : ℕ → Part) (number : Part → ℕ)
+    (names : Named P part number) (state : Part → State) (known : (p : Part)
+    → Known F (taskOf n qs ss slot slots os part) (λ c. getD ms c 0)
     (suc (pred (length (levelsOf n qs ss)))) p (state p)) where
   abbrev s : Sound n qs ss
   s = sound-parts n qs ss sound
@@ -68,12 +68,12 @@ module _ {Part : Type 0} (F : Finite Part) (n : ℕ) (qs : List (List ℕ)) (ss 
         ms = ms;
         os = os;
         part = part;
-        slot = slotOf n qs ss;
-        slots = slotsAt n qs ss;
+        slot = slot;
+        slots = slots;
         state = state;
         sound = s;
         regular = sound-regular n qs ss four accepted sound;
-        numbered = slots-are n qs ss s;
+        numbered = numbered;
         owned = owners-fit n qs ss P os owners;
         known = known;
       }

@@ -35,8 +35,7 @@ use Rattle.parts.specs.Held.{Entry, masterb}
 use Rattle.parts.specs.Starts.{placeOn, putTogether}
 use Rattle.splitting.specs.Admissible.{owners-counted}
 use Rattle.splitting.specs.Starts.{together-at, length-together}
-use Rattle.splitting.specs.Split.{taskOf, fits, owners-fit}
-use Rattle.splitting.specs.Slots.{slotOf, slotsAt, slots-are}
+use Rattle.splitting.specs.Split.{Slots, taskOf, fits, owners-fit}
 use Rattle.shares.specs.Grow.{statusNew, pairHeld, freshStatus, staysb, masterEntry, ghostEntry, anewb, childStatus, childEntries}
 use Rattle.shares.specs.Grow.{freshEntries, entries}
 use Rattle.shares.specs.Settled.{Settled}
@@ -103,7 +102,8 @@ module _ (os : List ℕ) (given : ℕ → List ℕ) where
       ]
 
 module _ (Q n : ℕ) (qs : List (List ℕ)) (ss ms : List ℕ) (four : All (λ q. length q ≡ 4) qs) (accepted : T (cellsb n qs))
-    (sound : T (soundb n qs ss)) (os : List ℕ) (owners : T (ownersb n qs ss (suc Q) os)) (ps : List (Fin (suc Q))) {Msg : Type 0}
+    (sound : T (soundb n qs ss)) (os : List ℕ) (owners : T (ownersb n qs ss (suc Q) os)) (slot : ℕ → ℕ → ℕ) (slots : ℕ → List ℕ)
+    (numbered : Slots n qs ss slot slots) (ps : List (Fin (suc Q))) {Msg : Type 0}
     (pack : Fin (suc Q) → Fin (suc Q) → ℕ → Body → Msg) (input : Fin (suc Q) → ℕ → ℕ)
     (starts : (p : Fin (suc Q)) (c : ℕ) → nthPart Q (getD os c 0) ≡ p → input p c ≡ getD ms c 0) where
   abbrev P : ℕ
@@ -116,7 +116,7 @@ module _ (Q n : ℕ) (qs : List (List ℕ)) (ss ms : List ℕ) (four : All (λ q
   s = sound-parts n qs ss sound
 
   abbrev pub task : Task (Fin P)
-  task = taskOf n qs ss (slotOf n qs ss) (slotsAt n qs ss) os (nthPart Q)
+  task = taskOf n qs ss slot slots os (nthPart Q)
 
   abbrev plain : (p : Fin P) (t : State) (g : ℕ × ℕ) → grownOf F task p (sized g t) ≡ grownOf F task p t
   plain = grown-plain F task
@@ -128,11 +128,11 @@ module _ (Q n : ℕ) (qs : List (List ℕ)) (ss ms : List ℕ) (four : All (λ q
   final = afterTotals P task (grownOf F task) plain ps pack input
 
   pub task-fit : Fit task
-  task-fit = fits n qs ss s (slotOf n qs ss) (slotsAt n qs ss) (slots-are n qs ss s) os (owners-fit n qs ss P os owners) (nthPart Q)
+  task-fit = fits n qs ss s slot slots numbered os (owners-fit n qs ss P os owners) (nthPart Q)
 
   abbrev pub ran : Settled F
   ran =
-      settle F n qs ss ms four accepted sound P os owners (nthPart Q) numberOf (named Q) final
+      settle F n qs ss ms four accepted sound P os owners slot slots numbered (nthPart Q) numberOf (named Q) final
       (λ p. enough-last P task (grownOf F task) plain ps pack input p task-fit (λ c. getD ms c 0) starts)
 
   -- the round of totals changes no entry
@@ -160,5 +160,5 @@ module _ (Q n : ℕ) (qs : List (List ℕ)) (ss ms : List ℕ) (four : All (λ q
       ≡ refuse 8 (leb (length (stepTable n qs ss ms)) 11) (refuse 9 (leb (length (concat (stepTable n qs ss ms))) 4096) Accepted)
   run-answer p =
       ap₂ endOf (told-masters p) (told-top p)
-      ∙ serial-answer F n qs ss ms four accepted sound P os owners (nthPart Q) numberOf (named Q) final
+      ∙ serial-answer F n qs ss ms four accepted sound P os owners slot slots numbered (nthPart Q) numberOf (named Q) final
       (λ p. enough-last P task (grownOf F task) plain ps pack input p task-fit (λ c. getD ms c 0) starts) (parts-once P)
