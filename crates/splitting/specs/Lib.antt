@@ -6,3 +6,4 @@ pub mod Slots
 pub mod Admissible
 pub mod Heirs
 pub mod Starts
+pub mod Keyed

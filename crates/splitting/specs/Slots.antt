@@ -111,8 +111,8 @@ module _ (n : ℕ) (qs : List (List ℕ)) (ss : List ℕ) where
   has-at k c e m b = is-true (hasb joins? (edgesAt k) (edgeOf c e)) (has-in (numbersOf n qs ss k) c e m b)
 
   module _ (s : Sound n qs ss) where
-    level-is : (k c : ℕ) → Member c (numbersOf n qs ss k) → pred (length (nthCell n qs ss c .path)) ≡ k
-    level-is k c m =
+    pub level-of : (k c : ℕ) → Member c (numbersOf n qs ss k) → pred (length (nthCell n qs ss c .path)) ≡ k
+    level-of k c m =
         let p = stands n qs ss s k c m in
         let a = at-level n qs ss s k (p .t) (p .below) in
         ap pred (ap (λ (x : ℕ). length (nthCell n qs ss x .path)) (p .number) ∙ ap (λ (c : Cell Point). length (c .path)) (a .cell-is)
@@ -120,7 +120,7 @@ module _ (n : ℕ) (qs : List (List ℕ)) (ss : List ℕ) where
 
     slot-is : (k c e : ℕ) → Member c (numbersOf n qs ss k) → slotOf c e ≡ 6 * lv n qs ss k .first + placeIn joins? (edgesAt k) (edgeOf c e)
     unfolding slotOf
-    slot-is k c e m = ap (λ (k : ℕ). 6 * lv n qs ss k .first + placeIn joins? (edgesAt k) (edgeOf c e)) (level-is k c m)
+    slot-is k c e m = ap (λ (k : ℕ). 6 * lv n qs ss k .first + placeIn joins? (edgesAt k) (edgeOf c e)) (level-of k c m)
 
     in-level : (k x : ℕ) → Member x (slotsAt k) → Member (x / 6) (numbersOf n qs ss k)
     unfolding slotsAt numbersOf
