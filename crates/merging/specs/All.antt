@@ -50,7 +50,6 @@ module _ {Part : Type 0} {F : Finite Part} (X : Settled F) where
         each = λ k i h.
             let g : i < length (newLevelIn X k .cells) =
             subst (λ (v : Level). i < length (v .cells)) (new-lv (X .n) (X .qs) (X .ss) (X .ms) k) h in
-            let p = ownIn X k i in
             subst (λ (e : Entry). List·Memᴰ e (entriesAll l))
             (sym (ap {A = Level} {B = Entry} (λ v. record { path = pathAt (v .cells) i; status = getD (v .statuses) i 0; ghost = false })
             (new-lv (X .n) (X .qs) (X .ss) (X .ms) k)))

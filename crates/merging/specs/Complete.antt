@@ -187,10 +187,8 @@ module _ (es : List Entry) where
   filled-is zero k cs rs t f g = tt
   filled-is (suc h) k [] rs t f g = tt
   filled-is (suc h) k (c ∷ cs) rs t f g =
-      let own = take (length (c ∷ cs)) rs in
       let l : Level = record { first = k; cells = c ∷ cs; statuses = take (length (c ∷ cs)) rs } in
       let up : List Level = levels h (k + length (c ∷ cs)) (next k (c ∷ cs) (take (length (c ∷ cs)) rs)) (drop (length (c ∷ cs)) rs) in
-      let ps : List (List ℕ) = map (λ (c : Cell Point). c .path) (c ∷ cs) in
       let known : length (take (length (c ∷ cs)) rs) ≡ length (c ∷ cs) = closed-length l (and-left (closedb l) (allb closedb up) t) in
       let q : map (lookup es) (map (λ (c : Cell Point). c .path) (c ∷ cs)) ≡ take (length (c ∷ cs)) rs =
       statuses-found es (c ∷ cs) (take (length (c ∷ cs)) rs) known (λ i b. f 0 i b) in

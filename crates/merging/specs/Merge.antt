@@ -109,8 +109,6 @@ module _ (es : List Entry) where
   gather-is zero k cs rs t f = refl
   gather-is (suc h) k [] rs t f = refl
   gather-is (suc h) k (c ∷ cs) rs t f =
-      let m = length (c ∷ cs) in
-      let own = take (length (c ∷ cs)) rs in
       let l : Level = record { first = k; cells = c ∷ cs; statuses = take (length (c ∷ cs)) rs } in
       let up : List Level = levels h (k + length (c ∷ cs)) (next k (c ∷ cs) (take (length (c ∷ cs)) rs)) (drop (length (c ∷ cs)) rs) in
       let many : length (take (length (c ∷ cs)) rs) ≡ length (c ∷ cs) = closed-length l (and-left (closedb l) (allb closedb up) t) in

@@ -91,7 +91,6 @@ module _ (n : ℕ) (qs : List (List ℕ)) (ss ms : List ℕ) (s : Sound n qs ss)
       let ls = drop (suc k) (levelsOf n qs ss) in
       let q : newEdges n qs ss ms k ≡ edgesUp (newReds (old k ∷ ls) ms) =
       ap (λ (ls : List Level). edgesUp (newReds ls ms)) (drop-cons (levelsOf n qs ss) k noLevel h) in
-      let f : Row → Bool = newRedRow n qs ss ms k in
       let known = flagged n qs ss ms sound k .known in
       let w = chosen (newRedRow n qs ss ms k) e (rows (old k) ms) (rw q at t) in
       let b : w .u < length (old k .cells) = omega (arith, w .below, length-rows (old k) ms known) in

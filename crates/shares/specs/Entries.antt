@@ -218,8 +218,6 @@ module _ {Part : Type 0} {F : Finite Part} (X : Settled F) (p : Part) where
   pub anew-of : (k t : ℕ) → t < length (old k .cells) → T (anewb F J p st k (num k t)) → Anew k t
   unfolding anewb
   anew-of k t h y =
-      let c = num k t in
-      let S = stNow k t in
       let y1 = and-right (is F (J .family (num k t)) p) (staysb F J p st k (num k t)
       && (not (eqb (stNow k t) 0) && not (eqb (stWas k t) 64 && eqb (stNow k t) 64))) y in
       let y2 = and-right (staysb F J p st k (num k t)) (not (eqb (stNow k t) 0) && not (eqb (stWas k t) 64 && eqb (stNow k t) 64)) y1 in

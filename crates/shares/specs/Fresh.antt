@@ -105,7 +105,6 @@ module _ (n : ℕ) (qs : List (List ℕ)) (ss ms : List ℕ) (s : Sound n qs ss)
       let l = lv n qs ss k in
       let up = lv n qs ss (suc k) in
       let g = getD (l .cells) t noCell in
-      let f : Edge = (point g d, point g e) in
       let w : WillHave n qs ss ms s (suc k) (point g d, point g e) = will n qs ss ms s (suc k) (point g d, point g e) held in
       let top = level-there n qs ss (suc k) (w .t) (w .below) in
       let h : k < 10 = omega (arith, s .high) in
@@ -119,7 +118,6 @@ module _ (n : ℕ) (qs : List (List ℕ)) (ss ms : List ℕ) (s : Sound n qs ss)
       let x : Sharing l up t (point g d, point g e) = sharing n k h l up nx cl (regular k) t ht rt d e (omega arith) he (λ z. omega arith) r
       (red-child l up nx (w .t) (w .below) ru) y hy js in
       let st = closed-at l cl t ht .1 in
-      let q = patternOf (getD (l .statuses) t 0) in
       let small : patternOf (getD (l .statuses) t 0) < 64 = pattern-small _ g (getD (l .statuses) t 0) st in
       let c = getD (up .cells) (x .child .u) noCell in
       let inside = inside-child k t (x .i) ht (x .child) in
@@ -314,7 +312,6 @@ module _ {Part : Type 0} {F : Finite Part} (X : Settled F) (p : Part) where
           o .cell-is,
         ) (w .held) in
         let q : T (fits-digits a b (num (suc k) (w .child .u)) (w .y)) =
-        let D : ℕ = num (suc k) (w .child .u) in
         and-make (eqb a (lowDigit (patternOf (getD ss (num k t) 0)) (lastOf (nthCell n qs ss (num (suc k) (w .child .u)) .path)) (w .y)))
         (eqb b (highDigit (patternOf (getD ss (num k t) 0)) (lastOf (nthCell n qs ss (num (suc k) (w .child .u)) .path)) (w .y)))
         (eq-T a (lowDigit (patternOf (getD ss (num k t) 0)) (lastOf (nthCell n qs ss (num (suc k) (w .child .u)) .path)) (w .y))
@@ -402,7 +399,6 @@ module _ {Part : Type 0} {F : Finite Part} (X : Settled F) (p : Part) where
       → (f : Fostered (lv n qs ss k) (new k) (newCell (suc k) i)) → J .family (num k (f .t)) ≡ p
       → newStatus (suc k) i ≡ freshStatus J st (num k (f .t)) (f .born .i)
   fresh-status k i g h r e f fam =
-      let c = newCell (suc k) i in
       new-status n qs ss ms s (suc k) g i h r e
       ∙ ap bitsOf (edges-six (heldb sameb (newEdges n qs ss ms (suc k))) (newCell (suc k) i)
       ∙ map-agree (λ y. heldb sameb (newEdges n qs ss ms (suc k)) (edge [] (newCell (suc k) i) y))

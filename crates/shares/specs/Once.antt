@@ -130,7 +130,6 @@ module _ {Part : Type 0} {F : Finite Part} (X : Settled F) (p : Part) where
   not-child k t k' t' h h' w a i hi e =
       let q : suc k ≡ suc (suc k') = sym (P-length k t h) ∙ ap length e ∙ snoc-length (P k' t') i ∙ ap suc (P-length k' t' h') in
       let z : k ≡ suc k' = omega arith in
-      let l = old-low X p k t h in
       let v = anew-child X p k' t' h' a i hi in
       let w' : There n qs ss ms s (suc k') t = subst (λ (x : ℕ). There n qs ss ms s x t) z w in
       let h2 : t < length (old (suc k') .cells) = subst (λ (x : ℕ). t < length (old x .cells)) z h in

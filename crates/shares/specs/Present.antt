@@ -404,7 +404,6 @@ module _ {Part : Type 0} {F : Finite Part} (X : Settled F) (p : Part) where
 
     fresh-there : List·Memᴰ (newEntry n qs ss ms (suc k) i false) (entriesIn X p)
     fresh-there =
-        let c = num k (f .t) in
         let e : newEntry n qs ss ms (suc k) i false ≡ entryBy (pathOf k (f .t) ++ (f .born .i ∷ [])) (kidNow k (f .t) (f .born .i)) false =
         ap₂ (λ (l : List ℕ) (x : ℕ). entryBy l x false) (sym foster-path) foster-status in
         subst (λ (x : Entry). List·Memᴰ x (entriesIn X p)) (sym e)
@@ -447,7 +446,6 @@ module _ {Part : Type 0} {F : Finite Part} (X : Settled F) (p : Part) where
 
     under-old : Met n qs ss ms k (b .p) → List·Memᴰ (newEntry n qs ss ms (suc k) i false) (entriesIn X p)
     under-old w =
-        let c = num k (w .t) in
         let fc : J .family (num k (w .t)) ≡ p = sym (family-met k (b .p) (omega arith) (b .below) parent-regular w) ∙ parent-family in
         let ks = kept-new k (b .p) (omega arith) (b .below) parent-regular w (mine-family (num k (w .t)) fc) in
         let n64 : stNow k (w .t) ≢ 64 = (λ e. not-both (redb (newStatus k (b .p))) (ap redb (ks ∙ e)) not-red) in

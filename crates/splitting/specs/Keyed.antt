@@ -2,7 +2,7 @@
 -- numbers the edges of a table by first appearance.
 --   keyedSlot c e, keyedSlots k    the slot of the edge e of the cell c; those of level k
 -- Law: keyed-slots (they are slots).
-use mathlib.Core.Path.{_≡_, refl, sym, _∙_, ap, ap₂, subst}
+use mathlib.Core.Path.{_≡_, sym, _∙_, ap, subst}
 use mathlib.Core.Bool.{Bool, true}
 use mathlib.Core.List.{List, []}
 use Prim.Native.Nat.{ℕ, zero, suc, _+_, _-_, _≤_, _<_, pred}
@@ -36,7 +36,7 @@ module _ (n : ℕ) (qs : List (List ℕ)) (ss : List ℕ) {A : Type 0} (same : A
   module _ (s : Sound n qs ss) (o : A) (equal : Same same) (follows : (k : ℕ) → base (suc k) ≡ base k + length (keys k))
       (has : (k c e : ℕ) → Member c (numbersOf n qs ss k) → Member e six → hasb same (keys k) (key c e) ≡ true)
       (means : (k c d e f : ℕ) → Member c (numbersOf n qs ss k) → Member d (numbersOf n qs ss k) → Member e six → Member f six
-        → same (key d f) (key c e) ≡ joinsb sameb (edge [] (nthCell n qs ss c) e) (edge [] (nthCell n qs ss d) f)) where
+      → same (key d f) (key c e) ≡ joinsb sameb (edge [] (nthCell n qs ss c) e) (edge [] (nthCell n qs ss d) f)) where
     slot-at : (k c e : ℕ) → Member c (numbersOf n qs ss k) → keyedSlot c e ≡ base k + placeIn same (keys k) (key c e)
     unfolding keyedSlot
     slot-at k c e m = ap (λ (k : ℕ). base k + placeIn same (keys k) (key c e)) (level-of n qs ss s k c m)

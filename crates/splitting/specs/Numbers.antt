@@ -194,7 +194,6 @@ module _ (n : ℕ) (qs : List (List ℕ)) (ss : List ℕ) where
     unfolding rowBy
     row-at ms k t h =
         let a = at-level k t h in
-        let c = lv n qs ss k .first + t in
         ap₂ {A = Cell Point} {B = ℕ} {C = Row}
         (λ d x. record { number = lv n qs ss k .first + t; cell = d; status = x; mark = getD ms (lv n qs ss k .first + t) 0 }) (a .cell-is)
         (a .status-is)

@@ -22,7 +22,6 @@ unfolding levels
 levels-few zero k cs rs = omega arith
 levels-few (suc h) k [] rs = omega arith
 levels-few (suc h) k (c ∷ cs) rs =
-    let m = length (c ∷ cs) in
     omega (arith, levels-few h (k + length (c ∷ cs)) (next k (c ∷ cs) (take (length (c ∷ cs)) rs)) (drop (length (c ∷ cs)) rs))
 
 module _ (n : ℕ) (qs : List (List ℕ)) (ss : List ℕ) where

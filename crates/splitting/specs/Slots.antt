@@ -98,8 +98,6 @@ module _ (n : ℕ) (qs : List (List ℕ)) (ss : List ℕ) where
   unfolding flatMap memberb
   has-in [] c e m b = absurd m
   has-in (x ∷ l) c e m b =
-      let rest = flatMap sixOf l in
-      let f : Edge = edgeOf c e in
       subst (λ (z : Bool). T z) (sym (has-append joins? (sixOf x) (flatMap sixOf l) (edgeOf c e)))
       (⊎-elim (λ (q : c ≡ x). or-left (hasb joins? (sixOf x) (edgeOf c e)) (hasb joins? (flatMap sixOf l) (edgeOf c e))
       (subst (λ (z : ℕ). T (hasb joins? (sixOf z) (edgeOf c e))) q (has-edge c e b)))

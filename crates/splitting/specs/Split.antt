@@ -50,7 +50,6 @@ Owners n qs ss os = (c d : ℕ) → c < length ss → Member d (childrenOf n qs 
 pub owners-fit : (n : ℕ) (qs : List (List ℕ)) (ss : List ℕ) (P : ℕ) (os : List ℕ) → T (ownersb n qs ss P os) → Owners n qs ss os
 unfolding ownersb
 owners-fit n qs ss P os t c d h m =
-    let f : ℕ → Bool = λ d. eqb (getD os d 0) (familyOf n qs ss os c) in
     let each = and-right (eqb (length os) (length ss) && allb (λ o. leb 1 o && leb o P) os)
     (allb (λ c. allb (λ d. eqb (getD os d 0) (familyOf n qs ss os c)) (childrenOf n qs ss c)) (range 0 (length ss))) t in
     let one = all-member (λ c. allb (λ d. eqb (getD os d 0) (familyOf n qs ss os c)) (childrenOf n qs ss c)) (range 0 (length ss)) each c
@@ -199,7 +198,6 @@ module _ {Part : Type 0} (n : ℕ) (qs : List (List ℕ)) (ss : List ℕ) (s : S
           ≡ anyb (pulled J h mark) (childrenOf n qs ss c)
       unfolding turnedb pulled edges anyb rowBy innerOf
       turned-same =
-          let own : List Edge = edges [] (nthCell n qs ss c) in
           let f : Row → Bool = λ r. eqb (r .mark) 1 || anyb (λ e. not (heldb sameb (edges [] (nthCell n qs ss c)) e) && heldb sameb es e)
           (edges [] (r .cell)) in
           ap (λ (rs : List Row). turnedb (edges [] (nthCell n qs ss c)) rs es) kids-are ∙ any-mapped-by (rowBy n qs ss ms) f

@@ -106,7 +106,6 @@ together-fits f n qs ss P os given t starts =
     each-from f ss (putTogether os given) (length-together os given ∙ w .many) (λ c h.
     let g : c < length os = omega (arith, w .many) in
     let (a, b) = w .each c h in
-    let l = mastersOn os (getD os c 0) in
     let below = place-below os c g in
     let u = each-at f (map (λ c. getD ss c 0) (mastersOn os (getD os c 0))) (given (getD os c 0)) (starts (getD os c 0) a b) (placeOn os c)
     (omega (arith, length-map (mastersOn os (getD os c 0)) (λ c. getD ss c 0))) in
