@@ -7,3 +7,4 @@ pub mod Admissible
 pub mod Heirs
 pub mod Starts
 pub mod Keyed
+pub mod Small
