@@ -8,3 +8,4 @@ pub mod Heirs
 pub mod Starts
 pub mod Keyed
 pub mod Small
+pub mod Digits
