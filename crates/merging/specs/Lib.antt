@@ -1,5 +1,7 @@
-pub mod Merge
 pub mod Distinct
+pub mod Merge
+pub mod Complete
+pub mod All
 pub mod Limits
 pub mod Totals
 pub mod Covered

@@ -7,23 +7,24 @@
 use mathlib.Core.Path.{_≡_, refl, sym, _∙_, ap, ap₂, subst}
 use mathlib.Core.Logic.{⊎-elim}
 use mathlib.Core.Bool.{Bool, true, false}
-use mathlib.Core.List.{List, [], _∷_, _++_, map, map-append, List·Memᴰ, List·Memᴰ·head, List·Memᴰ·tail, List·Memᴰ·not-nil, flatten, List·Memᴰ·cases-cons}
+use mathlib.Core.List.{List, [], _∷_, _++_, map, map-append, List·Memᴰ, List·Memᴰ·head, List·Memᴰ·tail, List·Memᴰ·not-nil}
+use mathlib.Core.List.{List·Memᴰ·cases-cons}
 use Prim.Native.Nat.{ℕ, zero, suc, _+_, _<_}
 use native.Mathlib.Omega.{arith}
 use lib.Dec.{T, eqb}
 use lib.ListN.{length, getD, take, drop}
 use lib.Seq.{take-length}
-use Rattle.base.specs.Lists.{allb, sameb, sameb-eq}
-use Rattle.base.specs.Bools.{and-left, and-right, not-both}
-use Rattle.base.specs.Places.{sameb-self}
+use Rattle.base.specs.Lists.{allb, sameb, sameb-eq, and-left, and-right}
+use Rattle.base.specs.Places.{sameb-self, not-both}
 use Rattle.base.specs.Range.{range}
 use Rattle.cutting.specs.Rule.{family}
 use Rattle.mesh.specs.Cells.{Cell, patternOf, redb, children, childrenFrom}
 use Rattle.mesh.specs.Weights.{Point, point, coarseFrom, coarseCells}
-use Rattle.mesh.specs.Table.{Level, next, levels, levelsOf, closedb, soundb, sizeOf}
+use Rattle.mesh.specs.Table.{Level, next, levels, levelsOf, closedb, soundb}
 use Rattle.mesh.specs.Step.{stepTable}
+use Rattle.rows.specs.Numbered.{sizeOf}
 use Rattle.lattice.specs.Levels.{noLevel}
-use Rattle.lineage.specs.Olds.{flagTable, upTo, stepBy}
+use Rattle.lineage.specs.Olds.{concat, flagTable, upTo, stepBy}
 use Rattle.lineage.specs.Paths.{pathAt}
 use Rattle.lineage.specs.Levels.{grow-statuses, new-levels}
 use Rattle.lineage.specs.Step.{step-by}
@@ -90,11 +91,11 @@ coarse-paths n i (q ∷ qs) = ap (λ (l : List (List ℕ)). (i ∷ []) ∷ l) (c
 
 -- level after level
 module _ (es : List Entry) where
-  Found : List Level → Type 0
-  Found ls = (j i : ℕ) → i < length (getD ls j noLevel .cells) → lookup es (pathAt (getD ls j noLevel .cells) i)
+  abbrev pub FoundAll : List Level → Type 0
+  FoundAll ls = (j i : ℕ) → i < length (getD ls j noLevel .cells) → lookup es (pathAt (getD ls j noLevel .cells) i)
       ≡ getD (getD ls j noLevel .statuses) i 0
 
-  statuses-found : (cs : List (Cell Point)) (ts : List ℕ) → length ts ≡ length cs
+  pub statuses-found : (cs : List (Cell Point)) (ts : List ℕ) → length ts ≡ length cs
       → ((i : ℕ) → i < length cs → lookup es (pathAt cs i) ≡ getD ts i 0)
       → map (lookup es) (pathsOf cs) ≡ ts
   statuses-found [] [] e f = refl
@@ -102,14 +103,12 @@ module _ (es : List Entry) where
   statuses-found (c ∷ cs) [] e f = absurd (omega arith)
   statuses-found (c ∷ cs) (t ∷ ts) e f = ap₂ _∷_ (f 0 (omega arith)) (statuses-found cs ts (omega arith) (λ i h. f (suc i) (omega arith)))
 
-  gather-is : (h k : ℕ) (cs : List (Cell Point)) (rs : List ℕ) → T (allb closedb (levels h k cs rs)) → Found (levels h k cs rs)
+  gather-is : (h k : ℕ) (cs : List (Cell Point)) (rs : List ℕ) → T (allb closedb (levels h k cs rs)) → FoundAll (levels h k cs rs)
       → gather h es (pathsOf cs) ≡ map (λ (l : Level). l .statuses) (levels h k cs rs)
-  unfolding Found gather levels allb
+  unfolding gather levels allb
   gather-is zero k cs rs t f = refl
   gather-is (suc h) k [] rs t f = refl
   gather-is (suc h) k (c ∷ cs) rs t f =
-      let m = length (c ∷ cs) in
-      let own = take (length (c ∷ cs)) rs in
       let l : Level = record { first = k; cells = c ∷ cs; statuses = take (length (c ∷ cs)) rs } in
       let up : List Level = levels h (k + length (c ∷ cs)) (next k (c ∷ cs) (take (length (c ∷ cs)) rs)) (drop (length (c ∷ cs)) rs) in
       let many : length (take (length (c ∷ cs)) rs) ≡ length (c ∷ cs) = closed-length l (and-left (closedb l) (allb closedb up) t) in
@@ -136,8 +135,9 @@ pub record Covers (n : ℕ) (qs : List (List ℕ)) (ss : List ℕ) (es : List En
   pub none-else : (e : Entry) → List·Memᴰ e es → e .ghost ≡ false → MasterIn n qs ss e
 
 module _ (n : ℕ) (qs : List (List ℕ)) (ss : List ℕ) (es : List Entry) (w : Covers n qs ss es) where
-  found : (j i : ℕ) → i < length (lv n qs ss j .cells) → lookup es (pathAt (lv n qs ss j .cells) i) ≡ getD (lv n qs ss j .statuses) i 0
-  found j i h =
+  pub found-at : (j i : ℕ) → i < length (lv n qs ss j .cells) → lookup es (pathAt (lv n qs ss j .cells) i)
+      ≡ getD (lv n qs ss j .statuses) i 0
+  found-at j i h =
       lookup-is es (pathAt (lv n qs ss j .cells) i) (getD (lv n qs ss j .statuses) i 0) (entryAt n qs ss j i false)
       (w .each j i h) refl refl
       (λ e m g q.
@@ -146,20 +146,20 @@ module _ (n : ℕ) (qs : List (List ℕ)) (ss : List ℕ) (es : List Entry) (w :
       v .status ∙ ap₂ (λ (k t : ℕ). getD (lv n qs ss k .statuses) t 0) a b)
 
   pub merged-is : T (allb closedb (levelsOf n qs ss)) → merged es (length qs) ≡ statusLists (levelsOf n qs ss)
-  unfolding merged levelsOf coarseCells Found
-  merged-is c = ap (gather 12 es) (sym (coarse-paths n 0 qs)) ∙ gather-is es 12 0 (coarseCells n qs) ss c found
+  unfolding merged levelsOf coarseCells
+  merged-is c = ap (gather 12 es) (sym (coarse-paths n 0 qs)) ∙ gather-is es 12 0 (coarseCells n qs) ss c found-at
 
   -- the table as one row
-  pub merged-table : Sound n qs ss → flatten (merged es (length qs)) ≡ ss
+  pub merged-table : Sound n qs ss → concat (merged es (length qs)) ≡ ss
   unfolding levelsOf
   merged-table s =
-      ap flatten (merged-is (s .closed)) ∙ statuses-all 12 0 (coarseCells n qs) ss (s .closed) ∙ ap (λ (x : ℕ). take x ss) (sym (s .many))
+      ap concat (merged-is (s .closed)) ∙ statuses-all 12 0 (coarseCells n qs) ss (s .closed) ∙ ap (λ (x : ℕ). take x ss) (sym (s .many))
       ∙ take-length ss
 
 -- the step's table, without the limits
 pub merged-step : (n : ℕ) (qs : List (List ℕ)) (ss ms : List ℕ) (es : List Entry) → T (soundb n qs ss)
-    → Covers n qs (flatten (stepBy n qs ss ms)) es → merged es (length qs) ≡ stepTable n qs ss ms
+    → Covers n qs (concat (stepBy n qs ss ms)) es → merged es (length qs) ≡ stepTable n qs ss ms
 unfolding stepBy
 merged-step n qs ss ms es sound w =
-    merged-is n qs (flatten (stepBy n qs ss ms)) es w (new-closed n qs ss ms sound) ∙ ap statusLists (new-levels n qs ss ms)
+    merged-is n qs (concat (stepBy n qs ss ms)) es w (new-closed n qs ss ms sound) ∙ ap statusLists (new-levels n qs ss ms)
     ∙ grow-statuses (length qs) ss (flagTable n qs ss ms) 12 0 (coarseCells n qs) (upTo (length qs)) ∙ sym (step-by n qs ss ms sound)

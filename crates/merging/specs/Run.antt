@@ -1,24 +1,28 @@
 -- The rounds in lockstep on the parts 1 to Q + 1: each part ends with the serial step's answer, and its entries are its share.
---   partOf Q o, numberOf p    the part with a number, and its number
---   task, final p             the task of a split table; what the part p knows after the last round
---   ran                       the split table after the rounds: `Result` speaks of it
--- Laws: named (numbers and parts), parts-once (each part stands once), entries-last (the round of totals changes no entry), run-answer (each
--- part's result is the serial step's answer).
+--   nthPart Q o, numberOf p    the part with a number, and its number
+--   marksFrom os given p c     the mark of the cell c that the part p started with; 0 where it is no master of p
+--   task, final p              the task of a split table; what the part p knows after the last round
+--   ran                        the split table after the rounds: `Result` speaks of it
+-- Laws: named (numbers and parts), parts-once (each part stands once), starts-together (the marks of the starts are the serial ones),
+-- task-fit, entries-last (the round of totals changes no entry), run-answer (each part's result is the serial step's answer).
 use mathlib.Core.Path.{_≡_, sym, _∙_, ap, ap₂, fun-ext}
 use mathlib.Core.Logic.{⊎-elim}
-use mathlib.Core.List.{List, List·Memᴰ, List·Memᴰ·not-nil, List·Memᴰ·cases-cons, flatten}
+use mathlib.Core.Bool.{true, false, _&&_}
+use mathlib.Core.List.{List, List·Memᴰ, List·Memᴰ·not-nil, List·Memᴰ·cases-cons}
 use Prim.Native.Nat.{ℕ, zero, suc, _≤_, _<_, pred, min, Fin}
-use native.Mathlib.Decide.{Fin·val-path}
+use native.Mathlib.Decide.{decLt, Fin·val-path}
 use native.Mathlib.Nat.{le-refl}
 use native.Mathlib.Omega.{arith}
-use lib.Dec.{T, leb}
-use lib.ListN.{length, getD}
+use lib.Dec.{T, leb, ltb}
+use lib.ListN.{length, getD, List·getD-eq-default}
+use borrow.Author.Tests.{eq-eqb, lt-ltb, le-ltb}
 use Rattle.base.specs.Refuse.{refuse}
 use Rattle.base.specs.declared.Answer.the-variants.{Accepted}
 use Rattle.mesh.specs.Coarse.{cellsb}
 use Rattle.mesh.specs.Table.{soundb}
 use Rattle.mesh.specs.Step.{stepTable}
-use Rattle.base.specs.Every.{All}
+use Rattle.lattice.specs.Every.{All}
+use Rattle.lineage.specs.Olds.{concat}
 use Rattle.soundness.specs.Sound.{Sound, sound-parts}
 use Rattle.exchange.specs.Finite.{Finite, step-down, fins, parts, sumOver}
 use Rattle.exchange.specs.Lockstep.{lock}
@@ -27,25 +31,29 @@ use Rattle.rounds.specs.Rounds.{Body, Phase, State, writing, taking, sized, cap
 use Rattle.rounds.specs.Rounded.{phase-totals}
 use Rattle.rounds.specs.Totals.{beforeTotals, afterTotals, totals-known, enough-last}
 use Rattle.parts.specs.Owners.{ownersb}
-use Rattle.parts.specs.Held.{Entry}
-use Rattle.splitting.specs.Split.{taskOf, fits, owners-fit}
-use Rattle.splitting.specs.Slots.{slotOf, slotsAt, slots-are}
-use Rattle.shares.specs.Grow.{statusNew, pairHeld, freshStatus, staysb, masterEntry, ghostEntry, anewb, childStatus, childEntries, freshEntries, entries}
+use Rattle.parts.specs.Held.{Entry, masterb}
+use Rattle.parts.specs.Starts.{placeOn, putTogether}
+use Rattle.splitting.specs.Admissible.{owners-counted}
+use Rattle.splitting.specs.Starts.{together-at, length-together}
+use Rattle.splitting.specs.Split.{Slots, taskOf, fits, owners-fit}
+use Rattle.shares.specs.Grow.{statusNew, pairHeld, freshStatus, staysb, masterEntry, ghostEntry, anewb, childStatus, childEntries}
+use Rattle.shares.specs.Grow.{freshEntries, entries}
 use Rattle.shares.specs.Settled.{Settled}
 use Rattle.shares.specs.Share.{Named}
 use Rattle.merging.specs.Distinct.{NoDup}
 use Rattle.merging.specs.Limits.{topOf, endOf}
-use Rattle.merging.specs.Totals.{masterPaths, grownOf, grown-plain}
+use Rattle.merging.specs.Complete.{masterPaths}
+use Rattle.merging.specs.Totals.{grownOf, grown-plain}
 use Rattle.merging.specs.Result.{settle, serial-answer}
 
 -- parts and their numbers
-abbrev pub partOf : (Q : ℕ) → ℕ → Fin (suc Q)
-partOf Q o = (min (pred o) Q, omega arith)
+abbrev pub nthPart : (Q : ℕ) → ℕ → Fin (suc Q)
+nthPart Q o = (min (pred o) Q, omega arith)
 
 abbrev pub numberOf : {P : ℕ} → Fin P → ℕ
 numberOf p = suc (p .0)
 
-pub named : (Q : ℕ) → Named (suc Q) (partOf Q) numberOf
+pub named : (Q : ℕ) → Named (suc Q) (nthPart Q) numberOf
 named Q = record { back = λ p. Fin·val-path (low (p .0) (p .1)); forth = λ o a b. number o a b }
   where
     low : (x : ℕ) → x < suc Q → min x Q ≡ x
@@ -70,10 +78,34 @@ fins-once P (suc k) h = ((λ m. let z = fins-below P k (step-down h) (k, h) m in
 pub parts-once : (P : ℕ) → NoDup (parts P .list)
 parts-once P = fins-once P P (le-refl P)
 
+-- the marks that a part starts with, by cell
+module _ (os : List ℕ) (given : ℕ → List ℕ) where
+  unfoldable pub marksFrom : {P : ℕ} → Fin P → ℕ → ℕ
+  unfolding masterb placeOn
+  marksFrom p c =
+      elim (ltb c (length os) && masterb os (numberOf p) c) [ true ↦ getD (given (numberOf p)) (placeOn os c) 0 | false ↦ 0 ]
+
+  pub starts-together : (Q n : ℕ) (qs : List (List ℕ)) (ss : List ℕ) → T (ownersb n qs ss (suc Q) os) → (p : Fin (suc Q)) (c : ℕ)
+      → nthPart Q (getD os c 0) ≡ p → marksFrom p c ≡ getD (putTogether os given) c 0
+  unfolding marksFrom masterb
+  starts-together Q n qs ss t p c e =
+      elim (decLt c (length os)) [
+        | yes h ↦
+            let w = owners-counted n qs ss (suc Q) os t in
+            let (a, b) = w .each c (omega (arith, w .many)) in
+            let o : getD os c 0 ≡ numberOf p = sym (named Q .forth (getD os c 0) a b) ∙ ap (λ (x : Fin (suc Q)). numberOf x) e in
+            rw (lt-ltb c (length os) h, eq-eqb (getD os c 0) (numberOf p) o, marksFrom)
+            (ap (λ (x : ℕ). getD (given x) (placeOn os c) 0) (sym o) ∙ sym (together-at os given c h))
+        | no h ↦
+            rw (le-ltb c (length os) (omega arith), marksFrom)
+            (sym (List·getD-eq-default (putTogether os given) 0 {n = c} (omega (arith, length-together os given))))
+      ]
+
 module _ (Q n : ℕ) (qs : List (List ℕ)) (ss ms : List ℕ) (four : All (λ q. length q ≡ 4) qs) (accepted : T (cellsb n qs))
-    (sound : T (soundb n qs ss)) (os : List ℕ) (owners : T (ownersb n qs ss (suc Q) os)) (ps : List (Fin (suc Q))) {Msg : Type 0}
+    (sound : T (soundb n qs ss)) (os : List ℕ) (owners : T (ownersb n qs ss (suc Q) os)) (slot : ℕ → ℕ → ℕ) (slots : ℕ → List ℕ)
+    (numbered : Slots n qs ss slot slots) (ps : List (Fin (suc Q))) {Msg : Type 0}
     (pack : Fin (suc Q) → Fin (suc Q) → ℕ → Body → Msg) (input : Fin (suc Q) → ℕ → ℕ)
-    (starts : (p : Fin (suc Q)) (c : ℕ) → partOf Q (getD os c 0) ≡ p → input p c ≡ getD ms c 0) where
+    (starts : (p : Fin (suc Q)) (c : ℕ) → nthPart Q (getD os c 0) ≡ p → input p c ≡ getD ms c 0) where
   abbrev P : ℕ
   P = suc Q
 
@@ -84,7 +116,7 @@ module _ (Q n : ℕ) (qs : List (List ℕ)) (ss ms : List ℕ) (four : All (λ q
   s = sound-parts n qs ss sound
 
   abbrev pub task : Task (Fin P)
-  task = taskOf n qs ss (slotOf n qs ss) (slotsAt n qs ss) os (partOf Q)
+  task = taskOf n qs ss slot slots os (nthPart Q)
 
   abbrev plain : (p : Fin P) (t : State) (g : ℕ × ℕ) → grownOf F task p (sized g t) ≡ grownOf F task p t
   plain = grown-plain F task
@@ -96,11 +128,11 @@ module _ (Q n : ℕ) (qs : List (List ℕ)) (ss ms : List ℕ) (four : All (λ q
   final = afterTotals P task (grownOf F task) plain ps pack input
 
   pub task-fit : Fit task
-  task-fit = fits n qs ss s (slotOf n qs ss) (slotsAt n qs ss) (slots-are n qs ss s) os (owners-fit n qs ss P os owners) (partOf Q)
+  task-fit = fits n qs ss s slot slots numbered os (owners-fit n qs ss P os owners) (nthPart Q)
 
   abbrev pub ran : Settled F
   ran =
-      settle F n qs ss ms four accepted sound P os owners (partOf Q) numberOf (named Q) final
+      settle F n qs ss ms four accepted sound P os owners slot slots numbered (nthPart Q) numberOf (named Q) final
       (λ p. enough-last P task (grownOf F task) plain ps pack input p task-fit (λ c. getD ms c 0) starts)
 
   -- the round of totals changes no entry
@@ -125,8 +157,8 @@ module _ (Q n : ℕ) (qs : List (List ℕ)) (ss ms : List ℕ) (four : All (λ q
       ∙ ap (λ (f : Fin P → ℕ). largest f (F .list)) (fun-ext (λ q. ap (λ (es : List Entry). topOf (masterPaths es)) (sym (entries-last q))))
 
   pub run-answer : (p : Fin P) → endOf (final p .total) (final p .high)
-      ≡ refuse 8 (leb (length (stepTable n qs ss ms)) 11) (refuse 9 (leb (length (flatten (stepTable n qs ss ms))) 4096) Accepted)
+      ≡ refuse 8 (leb (length (stepTable n qs ss ms)) 11) (refuse 9 (leb (length (concat (stepTable n qs ss ms))) 4096) Accepted)
   run-answer p =
       ap₂ endOf (told-masters p) (told-top p)
-      ∙ serial-answer F n qs ss ms four accepted sound P os owners (partOf Q) numberOf (named Q) final
+      ∙ serial-answer F n qs ss ms four accepted sound P os owners slot slots numbered (nthPart Q) numberOf (named Q) final
       (λ p. enough-last P task (grownOf F task) plain ps pack input p task-fit (λ c. getD ms c 0) starts) (parts-once P)

@@ -1,4 +1,5 @@
 pub mod Owners
 pub mod Held
 pub mod Merge
+pub mod Starts
 pub mod Samples

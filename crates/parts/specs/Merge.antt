@@ -3,12 +3,18 @@
 --   childPaths ls ts       the paths one level up of the cells with the paths ls and the statuses ts
 --   gather h es ls         at most h levels of statuses, from the cells with the paths ls on
 --   merged es m            the table that the entries es make over m coarse cells, level by level
-use mathlib.Core.Bool.{true, false, _&&_, not}
-use mathlib.Core.List.{List, [], _∷_, _++_, map}
+--   masters es             the masters among the entries es
+--   filledb h es ls        each of the places ls, and of those that the statuses ask for up to h levels, has a master
+--   completeb es m         the entries have a master for each place of the table that they make, and no other masters
+use mathlib.Core.Bool.{Bool, true, false, _&&_, not}
+use mathlib.Core.List.{List, [], _∷_, _++_, map, flatMap}
 use Prim.Native.Nat.{ℕ, zero, suc}
-use Rattle.base.specs.Lists.{sameb}
+use lib.Dec.{eqb}
+use lib.ListN.{length}
+use Rattle.base.specs.Lists.{allb, anyb, filterb, sameb}
 use Rattle.base.specs.Range.{range}
-use Rattle.mesh.specs.Table.{sizeOf}
+use Rattle.rows.specs.Numbered.{sizeOf}
+use Rattle.lineage.specs.Olds.{concat}
 use Rattle.parts.specs.Held.{Entry}
 
 unfoldable pub lookup : List Entry → List ℕ → ℕ
@@ -32,3 +38,18 @@ gather (suc h) es (l ∷ ls) = let ts = map (lookup es) (l ∷ ls) in ts ∷ gat
 unfoldable pub merged : List Entry → ℕ → List (List ℕ)
 unfolding gather range
 merged es m = gather 12 es (map (λ i. i ∷ []) (range 0 m))
+
+unfoldable pub masters : List Entry → List Entry
+unfolding filterb
+masters es = filterb (λ e. not (e .ghost)) es
+
+unfoldable pub filledb : ℕ → List Entry → List (List ℕ) → Bool
+unfolding masters lookup childPaths allb anyb sameb
+filledb zero es ls = true
+filledb (suc h) es [] = true
+filledb (suc h) es (l ∷ ls) =
+    allb (λ k. anyb (λ e. sameb (e .path) k) (masters es)) (l ∷ ls) && filledb h es (childPaths (l ∷ ls) (map (lookup es) (l ∷ ls)))
+
+unfoldable pub completeb : List Entry → ℕ → Bool
+unfolding filledb masters merged range flatMap
+completeb es m = filledb 12 es (map (λ i. i ∷ []) (range 0 m)) && eqb (length (masters es)) (length (concat (merged es m)))

@@ -1,12 +1,13 @@
 -- Who owns which cell, before a step and after it (document 01, "Parts"). n, qs, ss are corners, coarse cells and status table, os the
 -- owners: parts are numbers from 1 on.
---   nthCell c                the cell with the number c
+--   nthCell c               the cell with the number c
 --   childrenOf c            the numbers of its children
 --   firstOr f a l           what f gives for the first of l; a where l is empty
 --   familyOf os c           the owner of the children of c; of a leaf its own
 --   ownersb P os            the owners fit the table and P parts (else 11)
 --   refinedAt l             the refined cells with the path l: one, or none
 --   familyAfter os l o      the owner, after a step, of the family of the cell with the path l, whose new owner is o
+--   ownerDown os l o r      the owner, after a step, of the cell that is reached from there by the child numbers r
 --   ownerAfter os l         the owner, after a step, of the cell with the path l; ownersAfter os ts of all cells of the table ts
 use mathlib.Core.Bool.{Bool, _&&_, not}
 use mathlib.Core.List.{List, [], _∷_, _++_, map}
@@ -15,9 +16,10 @@ use lib.Dec.{eqb, leb}
 use lib.ListN.{length, getD}
 use Rattle.base.specs.Lists.{allb, filterb, sameb}
 use Rattle.base.specs.Range.{range}
-use Rattle.mesh.specs.Cells.{Cell, noCell}
+use Rattle.mesh.specs.Cells.{Cell}
 use Rattle.mesh.specs.Weights.{Point}
 use Rattle.mesh.specs.Table.{levelsOf, cellsOf}
+use Rattle.lineage.specs.Born.{noCell}
 
 unfoldable pub firstOr : {A : Type 0} → (ℕ → A) → A → List ℕ → A
 firstOr f a [] = a

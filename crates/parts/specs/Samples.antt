@@ -4,7 +4,7 @@
 --   C, owners-C  the table after a step with cell 1 marked 1, and its owners
 -- Laws: fits (the owners are accepted), torn (a family with two owners is not), split-1 and split-2 (what the parts hold); emptied,
 -- emptied-1, emptied-2 (all eight marked 2 leave part 2 empty); kept-C, cut-1, cut-2 (the owners after the step to C, the masters and the
--- ghost there); put-together (merging them gives the table C).
+-- ghost there); put-together, whole-C, part-missing (merging them gives the table C; merging part 2 alone gives none).
 use mathlib.Core.Path.{_≡_, refl}
 use mathlib.Core.Bool.{true, false}
 use mathlib.Core.List.{List, [], _∷_, _++_, map}
@@ -14,7 +14,7 @@ use Rattle.cutting.specs.Rule.{family}
 use Rattle.mesh.specs.Step.{stepTable}
 use Rattle.parts.specs.Owners.{ownersb, ownersAfter}
 use Rattle.parts.specs.Held.{Entry, entriesOf}
-use Rattle.parts.specs.Merge.{merged}
+use Rattle.parts.specs.Merge.{merged, completeb}
 
 A : List (List ℕ)
 A = (0 ∷ 1 ∷ 2 ∷ 3 ∷ []) ∷ []
@@ -92,3 +92,12 @@ cut-2 = refl
 put-together : merged (held-2 ++ (M (0 ∷ []) 64 ∷ [])) 1 ≡ (64 ∷ []) ∷ (64 ∷ 11 ∷ 1 ∷ 0 ∷ 1 ∷ 0 ∷ 0 ∷ 0 ∷ []) ∷ replicate 16 0 ∷ []
 unfolding held-2 merged family
 put-together = refl
+
+whole-C : completeb (held-2 ++ (M (0 ∷ []) 64 ∷ [])) 1 ≡ true
+unfolding held-2 completeb family
+whole-C = refl
+
+-- without part 1, cell 0 has no master
+part-missing : completeb held-2 1 ≡ false
+unfolding held-2 completeb family
+part-missing = refl

@@ -13,14 +13,16 @@ use native.Mathlib.Omega.{arith}
 use lib.Dec.{T, eqb, eqb→eq}
 use lib.ListN.{length, getD}
 use borrow.Author.Tests.{eq-eqb, eqb-true, ne-eqb}
-use Rattle.base.specs.Bools.{is-true, and-left, and-right, not-both, either}
+use Rattle.base.specs.Lists.{is-true, and-left, and-right}
+use Rattle.base.specs.Places.{not-both, either}
 use Rattle.base.specs.Range.{range, range-member}
 use Rattle.cutting.specs.Rule.{family}
-use Rattle.mesh.specs.Cells.{Cell, redb, patternOf, noCell}
+use Rattle.mesh.specs.Cells.{Cell, redb, patternOf}
 use Rattle.mesh.specs.Weights.{Point}
-use Rattle.mesh.specs.Table.{Level, levelsOf, soundb, sizeOf}
+use Rattle.mesh.specs.Table.{Level, levelsOf, soundb}
+use Rattle.rows.specs.Numbered.{sizeOf}
 use Rattle.rows.specs.Many.{size-refined}
-use Rattle.lineage.specs.Born.{Born}
+use Rattle.lineage.specs.Born.{noCell, Born}
 use Rattle.lineage.specs.Paths.{pathAt, snoc-inj}
 use Rattle.lineage.specs.Same.{Fresh}
 use Rattle.lineage.specs.Flags.{newRedAt}
@@ -38,7 +40,8 @@ use Rattle.parts.specs.Held.{Entry}
 use Rattle.splitting.specs.Numbers.{at-level, row-at}
 use Rattle.splitting.specs.Split.{newRedRow, Slots, Owners, fits}
 use Rattle.shares.specs.Flat.{in-flat, in-map}
-use Rattle.shares.specs.Grow.{statusNew, freshStatus, coarseb, staysb, masterEntry, ghostEntry, anewb, childStatus, childEntries, freshEntries, entries, entryBy, cellEntries, levelEntries}
+use Rattle.shares.specs.Grow.{statusNew, freshStatus, coarseb, staysb, masterEntry, ghostEntry, anewb, childStatus, childEntries}
+use Rattle.shares.specs.Grow.{freshEntries, entries, entryBy, cellEntries, levelEntries}
 use Rattle.shares.specs.Fresh.{known-red, kept-status, fresh-status}
 use Rattle.shares.specs.There.{Met, There, coarse-there, red-parent, child-there, refined-there, matched-at, old-kid}
 use Rattle.shares.specs.Owned.{child-owner, matched-owner, matched-family, fresh-family, fostered-met, fostered-owner, new-born}
@@ -401,7 +404,6 @@ module _ {Part : Type 0} {F : Finite Part} (X : Settled F) (p : Part) where
 
     fresh-there : List·Memᴰ (newEntry n qs ss ms (suc k) i false) (entriesIn X p)
     fresh-there =
-        let c = num k (f .t) in
         let e : newEntry n qs ss ms (suc k) i false ≡ entryBy (pathOf k (f .t) ++ (f .born .i ∷ [])) (kidNow k (f .t) (f .born .i)) false =
         ap₂ (λ (l : List ℕ) (x : ℕ). entryBy l x false) (sym foster-path) foster-status in
         subst (λ (x : Entry). List·Memᴰ x (entriesIn X p)) (sym e)
@@ -444,7 +446,6 @@ module _ {Part : Type 0} {F : Finite Part} (X : Settled F) (p : Part) where
 
     under-old : Met n qs ss ms k (b .p) → List·Memᴰ (newEntry n qs ss ms (suc k) i false) (entriesIn X p)
     under-old w =
-        let c = num k (w .t) in
         let fc : J .family (num k (w .t)) ≡ p = sym (family-met k (b .p) (omega arith) (b .below) parent-regular w) ∙ parent-family in
         let ks = kept-new k (b .p) (omega arith) (b .below) parent-regular w (mine-family (num k (w .t)) fc) in
         let n64 : stNow k (w .t) ≢ 64 = (λ e. not-both (redb (newStatus k (b .p))) (ap redb (ks ∙ e)) not-red) in

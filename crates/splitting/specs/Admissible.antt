@@ -10,8 +10,8 @@ use native.Mathlib.Omega.{arith}
 use lib.Dec.{T, eqb, eqb→eq, leb, leb→le}
 use lib.ListN.{length, getD}
 use borrow.Author.Tests.{eq-eqb}
-use Rattle.base.specs.Lists.{allb, allb-at}
-use Rattle.base.specs.Bools.{is-true, is-false, and-left, and-right, not-both}
+use Rattle.base.specs.Lists.{allb, allb-at, is-true, is-false, and-left, and-right}
+use Rattle.base.specs.Places.{not-both}
 use Rattle.base.specs.Range.{range}
 use Rattle.rounds.specs.Tests.{Member, member-head}
 use Rattle.parts.specs.Owners.{childrenOf, firstOr, familyOf, ownersb}
@@ -42,7 +42,6 @@ module _ (n : ℕ) (qs : List (List ℕ)) (ss : List ℕ) (P : ℕ) (os : List �
   pub owners-counted : T (ownersb n qs ss P os) → Ranged
   unfolding ownersb
   owners-counted t =
-      let f : ℕ → Bool = λ o. leb 1 o && leb o P in
       let a = and-left (eqb (length os) (length ss) && allb (λ o. leb 1 o && leb o P) os)
       (allb (λ c. allb (λ d. eqb (getD os d 0) (familyOf n qs ss os c)) (childrenOf n qs ss c)) (range 0 (length ss))) t in
       let many : length os ≡ length ss =

@@ -5,7 +5,7 @@
 -- cell by its path), heir-child and heir-family (the owner of a cell's children), owner-in and number-in (owners are those of parts), heirs
 -- (the theorem), heirs-admissible (A1 to A6 afterwards).
 use mathlib.Core.Path.{_≡_, sym, _∙_, ap, subst}
-use mathlib.Core.Bool.{Bool, _&&_, not}
+use mathlib.Core.Bool.{_&&_, not}
 use mathlib.Core.List.{List, [], _∷_, _++_, append-nil, append-assoc}
 use Prim.Native.Nat.{ℕ, zero, suc, _+_, _≤_, _<_}
 use native.Mathlib.Omega.{arith}
@@ -14,13 +14,14 @@ use lib.ListN.{length, getD, length-map}
 use borrow.Author.Tests.{eq-eqb}
 use Rattle.base.specs.Lists.{allb, sameb}
 use Rattle.base.specs.Range.{range, member-range}
-use Rattle.mesh.specs.Cells.{Cell, noCell}
+use Rattle.mesh.specs.Cells.{Cell}
 use Rattle.mesh.specs.Weights.{Point, coarseCells}
 use Rattle.mesh.specs.Table.{levelsOf, cellsOf}
-use Rattle.base.specs.Every.{getD-map, all-each}
+use Rattle.lattice.specs.Every.{getD-map}
+use Rattle.lineage.specs.Born.{noCell}
 use Rattle.lineage.specs.Paths.{pathAt, coarse-at, length-coarse}
 use Rattle.lineage.specs.Met.{old-coarse}
-use Rattle.base.specs.Bools.{and-both}
+use Rattle.carriers.specs.Lists.{and-both, all-each}
 use Rattle.soundness.specs.Family.{born-of}
 use Rattle.soundness.specs.Sound.{Sound, lv, level-next}
 use Rattle.rounds.specs.Tests.{Member, filtered-member}
@@ -178,7 +179,6 @@ module _ (n : ℕ) (qs : List (List ℕ)) (ss os ts : List ℕ) (u : Sound n qs 
     pub heirs : T (ownersb n qs ts P os')
     unfolding ownersb
     heirs =
-        let f : ℕ → Bool = λ o. leb 1 o && leb o P in
         let one : T (eqb (length os') (length ts)) = rw (eq-eqb (length os') (length ts) heirs-many) tt in
         let all : T (allb (λ o. leb 1 o && leb o P) os') =
         all-each (λ o. leb 1 o && leb o P) 0 os' (λ i h.

@@ -5,3 +5,7 @@ pub mod Split
 pub mod Slots
 pub mod Admissible
 pub mod Heirs
+pub mod Starts
+pub mod Keyed
+pub mod Small
+pub mod Digits

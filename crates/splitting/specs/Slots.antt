@@ -11,9 +11,8 @@ use native.Mathlib.Omega.{arith}
 use lib.Dec.{T, eqb, eqb→eq}
 use lib.ListN.{length, length-append}
 use borrow.Author.Tests.{eq-eqb}
-use Rattle.base.specs.Lists.{memberb, sameb}
-use Rattle.base.specs.Bools.{is-true, not-both}
-use Rattle.base.specs.Places.{hasb, placeIn, place-here, place-past, has-below, has-append}
+use Rattle.base.specs.Lists.{memberb, sameb, is-true}
+use Rattle.base.specs.Places.{hasb, placeIn, place-here, place-past, has-below, not-both, has-append}
 use Rattle.base.specs.Range.{range, length-range, member-range, range-member}
 use Rattle.mesh.specs.Cells.{Cell, edge, edges, joinsb}
 use Rattle.mesh.specs.Weights.{Point}
@@ -99,8 +98,6 @@ module _ (n : ℕ) (qs : List (List ℕ)) (ss : List ℕ) where
   unfolding flatMap memberb
   has-in [] c e m b = absurd m
   has-in (x ∷ l) c e m b =
-      let rest = flatMap sixOf l in
-      let f : Edge = edgeOf c e in
       subst (λ (z : Bool). T z) (sym (has-append joins? (sixOf x) (flatMap sixOf l) (edgeOf c e)))
       (⊎-elim (λ (q : c ≡ x). or-left (hasb joins? (sixOf x) (edgeOf c e)) (hasb joins? (flatMap sixOf l) (edgeOf c e))
       (subst (λ (z : ℕ). T (hasb joins? (sixOf z) (edgeOf c e))) q (has-edge c e b)))
@@ -112,8 +109,8 @@ module _ (n : ℕ) (qs : List (List ℕ)) (ss : List ℕ) where
   has-at k c e m b = is-true (hasb joins? (edgesAt k) (edgeOf c e)) (has-in (numbersOf n qs ss k) c e m b)
 
   module _ (s : Sound n qs ss) where
-    level-is : (k c : ℕ) → Member c (numbersOf n qs ss k) → pred (length (nthCell n qs ss c .path)) ≡ k
-    level-is k c m =
+    pub level-of : (k c : ℕ) → Member c (numbersOf n qs ss k) → pred (length (nthCell n qs ss c .path)) ≡ k
+    level-of k c m =
         let p = stands n qs ss s k c m in
         let a = at-level n qs ss s k (p .t) (p .below) in
         ap pred (ap (λ (x : ℕ). length (nthCell n qs ss x .path)) (p .number) ∙ ap (λ (c : Cell Point). length (c .path)) (a .cell-is)
@@ -121,7 +118,7 @@ module _ (n : ℕ) (qs : List (List ℕ)) (ss : List ℕ) where
 
     slot-is : (k c e : ℕ) → Member c (numbersOf n qs ss k) → slotOf c e ≡ 6 * lv n qs ss k .first + placeIn joins? (edgesAt k) (edgeOf c e)
     unfolding slotOf
-    slot-is k c e m = ap (λ (k : ℕ). 6 * lv n qs ss k .first + placeIn joins? (edgesAt k) (edgeOf c e)) (level-is k c m)
+    slot-is k c e m = ap (λ (k : ℕ). 6 * lv n qs ss k .first + placeIn joins? (edgesAt k) (edgeOf c e)) (level-of k c m)
 
     in-level : (k x : ℕ) → Member x (slotsAt k) → Member (x / 6) (numbersOf n qs ss k)
     unfolding slotsAt numbersOf

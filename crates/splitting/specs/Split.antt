@@ -17,12 +17,11 @@ use lib.Dec.{T, eqb, eqb→eq, leb}
 use lib.ListN.{length, getD, drop, drop-of-length-le}
 use lib.Seq.{drop-cons}
 use borrow.Author.Tests.{eq-eqb}
-use Rattle.base.specs.Lists.{allb, anyb, filterb, sameb}
-use Rattle.base.specs.Bools.{and-right}
+use Rattle.base.specs.Lists.{allb, anyb, filterb, sameb, and-right}
 use Rattle.base.specs.Range.{range, range-member}
 use Rattle.mesh.specs.Cells.{edge, edges, joinsb, heldb}
 use Rattle.mesh.specs.Table.{Level, levelsOf}
-use Rattle.mesh.specs.Step.{Row, kids, deletedb, turnedb, newRedb, rowsUp, edgesUp, newReds, redAfterb}
+use Rattle.mesh.specs.Step.{Row, kids, deletedb, turnedb, newRedb, rowsUp, edgesUp, newReds}
 use Rattle.lattice.specs.Levels.{noLevel}
 use Rattle.lineage.specs.Stays.{up-rows}
 use Rattle.carriers.specs.Joins.{Edge, held-either, held-first, held-second}
@@ -51,7 +50,6 @@ Owners n qs ss os = (c d : ℕ) → c < length ss → Member d (childrenOf n qs 
 pub owners-fit : (n : ℕ) (qs : List (List ℕ)) (ss : List ℕ) (P : ℕ) (os : List ℕ) → T (ownersb n qs ss P os) → Owners n qs ss os
 unfolding ownersb
 owners-fit n qs ss P os t c d h m =
-    let f : ℕ → Bool = λ d. eqb (getD os d 0) (familyOf n qs ss os c) in
     let each = and-right (eqb (length os) (length ss) && allb (λ o. leb 1 o && leb o P) os)
     (allb (λ c. allb (λ d. eqb (getD os d 0) (familyOf n qs ss os c)) (childrenOf n qs ss c)) (range 0 (length ss))) t in
     let one = all-member (λ c. allb (λ d. eqb (getD os d 0) (familyOf n qs ss os c)) (childrenOf n qs ss c)) (range 0 (length ss)) each c
@@ -200,7 +198,6 @@ module _ {Part : Type 0} (n : ℕ) (qs : List (List ℕ)) (ss : List ℕ) (s : S
           ≡ anyb (pulled J h mark) (childrenOf n qs ss c)
       unfolding turnedb pulled edges anyb rowBy innerOf
       turned-same =
-          let own : List Edge = edges [] (nthCell n qs ss c) in
           let f : Row → Bool = λ r. eqb (r .mark) 1 || anyb (λ e. not (heldb sameb (edges [] (nthCell n qs ss c)) e) && heldb sameb es e)
           (edges [] (r .cell)) in
           ap (λ (rs : List Row). turnedb (edges [] (nthCell n qs ss c)) rs es) kids-are ∙ any-mapped-by (rowBy n qs ss ms) f
@@ -214,13 +211,13 @@ module _ {Part : Type 0} (n : ℕ) (qs : List (List ℕ)) (ss : List ℕ) (s : S
           (sym (kid n qs ss s k c d m q .parent))) (sym (hits d e (kid n qs ss s k c d m q .up) b)))))
 
       pub rule-is : rule J h mark c ≡ newRed k c
-      unfolding rule redAfterb rowBy
+      unfolding rule newRedb rowBy
       rule-is = go (eqb (getD ss c 0) 64) refl (eqb (getD ss c 0) 0) refl
         where
           go : (a : Bool) → eqb (getD ss c 0) 64 ≡ a → (b : Bool) → eqb (getD ss c 0) 0 ≡ b → rule J h mark c ≡ newRed k c
-          go true p b q = rw (p, rule, redAfterb) (ap not (sym deleted-same))
-          go false p true q = rw (p, q, rule, redAfterb) refl
-          go false p false q = rw (p, q, rule, redAfterb) (sym turned-same)
+          go true p b q = rw (p, rule, newRedb) (ap not (sym deleted-same))
+          go false p true q = rw (p, q, rule, newRedb) refl
+          go false p false q = rw (p, q, rule, newRedb) (sym turned-same)
 
     -- from the highest level down
     top-level : (c : ℕ) (k : ℕ) → Member c (numbersOf n qs ss k) → k ≤ J .top
