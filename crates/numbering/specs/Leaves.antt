@@ -51,9 +51,9 @@ leaf-numbers n j ks es (c ∷ cs) [] l = refl
 leaf-numbers n j ks es (c ∷ cs) (s ∷ ss) l = rw (l .0) (leaf-numbers n (suc j) ks es cs ss (l .1))
 
 -- A cell with a status other than 0 has children.
-some-child : (p : ℕ) → p < 64 → family p ≢ []
+family-some : (p : ℕ) → p < 64 → family p ≢ []
 unfolding volumes volume
-some-child p h e = let z : _≡_ {A = ℕ} 0 8 = rw e at (volumes-add-up p h) in omega arith
+family-some p h e = let z : _≡_ {A = ℕ} 0 8 = rw e at (volumes-add-up p h) in omega arith
 
 children-none : (j : ℕ) (c : Cell Point) (s : ℕ) → s ≤ 64 → length (children j c s (point c)) ≡ 0 → s ≡ 0
 unfolding children childrenFrom
@@ -61,7 +61,7 @@ children-none j c s h e = go (eqb s 0) refl (family (patternOf s)) refl
   where
     go : (z : Bool) → eqb s 0 ≡ z → (f : List (List ℕ)) → family (patternOf s) ≡ f → s ≡ 0
     go true t f u = eqb-true s 0 t
-    go false t [] u = absurd (some-child (patternOf s) (pattern-below s h) u)
+    go false t [] u = absurd (family-some (patternOf s) (pattern-below s h) u)
     go false t (d ∷ f) u = let z : length (childrenFrom j c (redb s) (point c) 0 (d ∷ f)) ≡ 0 = rw (t, u, children) at e in absurd (omega arith)
 
 pub next-leaves : (j : ℕ) (cs : List (Cell Point)) (ss : List ℕ) → Refined cs ss → length (next j cs ss) ≡ 0 → Leaves cs ss

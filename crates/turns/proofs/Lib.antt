@@ -1,0 +1,4 @@
+-- Laws for the proofs of the functions.
+pub mod Deciding
+pub mod Posting
+pub mod Starting

@@ -1,0 +1,60 @@
+use Rattle.turns.proofs.Deciding.{decide-here, decide-else}
+use native.Mathlib.Numerals.{add-one}
+use Prim.Native.Nat.{_+_, _-_, _<_, _≤_}
+use mathlib.Core.Path.{_≡_, refl, sym, _∙_}
+use native.Mathlib.Omega.{arith}
+use borrow.Author.Needs.{needs}
+use Rattle.turns.proofs.decide_one.Statement.{statement}
+use Rattle.turns.proofs.decide_one.Tie as tie
+use Rattle.turns.proofs.decide_one.Reads as reads
+use Rattle.turns.proofs.decide_one.Lts as lts
+use Rattle.turns.proofs.flag_of.Reads as flag-of-reads
+
+add-if1 : tie.Need-add-if1
+add-if1 c = search needs
+
+mul-if1 : tie.Need-mul-if1
+mul-if1 c = search needs
+
+slice-read-if1 : tie.Need-slice-read-if1
+slice-read-if1 c = search needs
+
+slice-read-if1-2 : tie.Need-slice-read-if1-2
+slice-read-if1-2 c = search needs
+
+returns : tie.Need-returns
+returns c = decide-else _ _ (c .if1 .taken)
+
+flag-of-requires : tie.Need-flag-of-requires
+flag-of-requires c κs = search needs
+
+add-store : tie.Need-add-store
+add-store c = search needs
+
+mul-store : tie.Need-mul-store
+mul-store c = search needs
+
+slice-write-store : tie.Need-slice-write-store
+slice-write-store c = search needs
+
+same-length : tie.Need-same-length
+same-length c = search needs
+
+returns-2 : tie.Need-returns-2
+returns-2 c = decide-here _ _ _ (c .before .before .if1 .left) (c .flag-of .ensures)
+
+pub decide-one-spec : {M : Type 1} → statement M
+decide-one-spec =
+    tie.close
+    (tie.spec
+    add-if1
+    mul-if1
+    slice-read-if1
+    slice-read-if1-2
+    returns
+    flag-of-requires
+    add-store
+    mul-store
+    slice-write-store
+    same-length
+    returns-2)

@@ -1,0 +1,50 @@
+use Rattle.turns.proofs.Deciding.{pull-not, pull-is}
+use native.Mathlib.Omega.{arith}
+use borrow.Author.Needs.{needs}
+use Rattle.turns.proofs.is_pull.Statement.{statement}
+use Rattle.turns.proofs.is_pull.Tie as tie
+use Rattle.turns.proofs.is_pull.Reads as reads
+use Rattle.turns.proofs.is_pull.Lts as lts
+use Rattle.turns.proofs.is_hit.Reads as is-hit-reads
+use Rattle.turns.proofs.slot_of.Reads as slot-of-reads
+
+add-if1 : tie.Need-add-if1
+add-if1 c = search needs
+
+mul-if1 : tie.Need-mul-if1
+mul-if1 c = search needs
+
+shared-slice-read-if1 : tie.Need-shared-slice-read-if1
+shared-slice-read-if1 c = search needs
+
+cast-if1 : tie.Need-cast-if1
+cast-if1 c = search needs
+
+shr-if1 : tie.Need-shr-if1
+shr-if1 c = search needs
+
+returns : tie.Need-returns
+returns c = pull-not _ _ _ (c .if1 .taken)
+
+slot-of-requires : tie.Need-slot-of-requires
+slot-of-requires c κs = search needs
+
+is-hit-requires : tie.Need-is-hit-requires
+is-hit-requires c κs = search needs
+
+returns-2 : tie.Need-returns-2
+returns-2 c = pull-is _ _ _ _ _ (c .before .before .if1 .left) (c .before .slot-of .ensures) (c .is-hit .ensures)
+
+pub is-pull-spec : {M : Type 1} → statement M
+is-pull-spec =
+    tie.close
+    (tie.spec
+    add-if1
+    mul-if1
+    shared-slice-read-if1
+    cast-if1
+    shr-if1
+    returns
+    slot-of-requires
+    is-hit-requires
+    returns-2)

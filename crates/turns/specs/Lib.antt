@@ -1,0 +1,5 @@
+pub mod Loops
+pub mod Usable
+pub mod Decide
+pub mod Post
+pub mod Start

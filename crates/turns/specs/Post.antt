@@ -1,0 +1,37 @@
+-- Entries that a part writes on entering a round, behind those that it has written.
+--   posted x k v m    the store with the entry of code k and value v for the receivers m, if there are any and there is room
+--   othersOf x        all parts but the own one
+--   markOne x c       the mark of the cell c for its master, if it is a ghost
+--   postEnd x         the end of the round, for all others
+use mathlib.Core.Bool.{Bool, true, false, _&&_, not}
+use mathlib.Core.List.{List}
+use Prim.Native.Nat.{ℕ, _+_, _-_, _^_}
+use lib.Dec.{eqb, ltb, leb}
+use lib.ListN.{set}
+use Rattle.store.specs.Fields.{field, PART, PARTS, WRITTEN, OWNER, FAMILY, RED, CODE, VALUE, RECEIVERS}
+
+unfoldable pub entered : List ℕ → ℕ → ℕ → ℕ → List ℕ
+entered x k v m =
+    set (set (set (set x (CODE + field x WRITTEN) k) (VALUE + field x WRITTEN) v) (RECEIVERS + field x WRITTEN) m) WRITTEN
+    (field x WRITTEN + 1)
+
+unfoldable pub posted : List ℕ → ℕ → ℕ → ℕ → List ℕ
+unfolding entered
+posted x k v m = elim (not (eqb m 0) && ltb (field x WRITTEN) 28696) [ true ↦ entered x k v m | false ↦ x ]
+
+unfoldable pub othersOf : List ℕ → ℕ
+othersOf x = 2 ^ field x PARTS - 1 - 2 ^ (field x PART - 1)
+
+-- the family is here, and another part has the cell
+unfoldable pub ghostAt : List ℕ → ℕ → Bool
+ghostAt x c =
+    eqb (field x (FAMILY + c)) (field x PART)
+    && (not (eqb (field x (OWNER + c)) (field x PART)) && (leb 1 (field x (OWNER + c)) && leb (field x (OWNER + c)) 16))
+
+unfoldable pub markOne : List ℕ → ℕ → List ℕ
+unfolding ghostAt posted
+markOne x c = elim (ghostAt x c) [ true ↦ posted x c (field x (RED + c)) (2 ^ (field x (OWNER + c) - 1)) | false ↦ x ]
+
+unfoldable pub postEnd : List ℕ → List ℕ
+unfolding posted othersOf
+postEnd x = posted x 65535 0 (othersOf x)

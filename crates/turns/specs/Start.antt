@@ -1,0 +1,78 @@
+-- Starting a part.
+--   ownb x c              the part has the cell as master
+--   marksFrom x ms n c j  the marks from j on are one for each master among n cells from c on, 0 to 2, and 0 on a refined cell
+--   markedFrom x ms n c j    the store with these marks
+--   levelFrom x k         the first cell of a level, at most the number of cells
+--   enterMarks x k        on entering the round of marks of the level k: flags decided, the ghosts' marks and the end written
+--   startAnswer x ms      15, 16, 7 in this order
+--   startAfter x ms       the store after the call
+use mathlib.Core.Bool.{Bool, true, false, _&&_, _||_}
+use mathlib.Core.List.{List}
+use Prim.Native.Nat.{ℕ, zero, suc, _+_, _-_, min}
+use lib.Dec.{eqb, ltb, leb}
+use lib.ListN.{length, getD, set}
+use Rattle.base.specs.Refuse.{refuse}
+use Rattle.base.specs.declared.Answer.{Answer}
+use Rattle.base.specs.declared.Answer.the-variants.{Accepted, Refused}
+use Rattle.store.specs.Fields.{field, full, STAGE, PART, CELLS, LEVELS, FIRST_CELL, OWNER, STATUS, MARK}
+use Rattle.store.specs.Header.{headerb}
+use Rattle.turns.specs.Loops.{eachFrom}
+use Rattle.turns.specs.Decide.{decideOne}
+use Rattle.turns.specs.Post.{markOne, postEnd}
+
+unfoldable pub ownb : List ℕ → ℕ → Bool
+ownb x c = eqb (field x (OWNER + c)) (field x PART)
+
+unfoldable pub markOk : List ℕ → ℕ → ℕ → Bool
+markOk x c m = leb m 2 && (eqb m 0 || eqb (field x (STATUS + c)) 0)
+
+unfoldable pub markAt : List ℕ → List ℕ → ℕ → ℕ → Bool
+unfolding ownb markOk
+markAt x ms c j = elim (ownb x c) [ true ↦ ltb j (length ms) && markOk x c (getD ms j 0) | false ↦ true ]
+
+unfoldable pub nextMark : List ℕ → ℕ → ℕ → ℕ
+unfolding ownb
+nextMark x c j = elim (ownb x c) [ true ↦ suc j | false ↦ j ]
+
+unfoldable pub marksFrom : List ℕ → List ℕ → ℕ → ℕ → ℕ → Bool
+unfolding markAt nextMark
+marksFrom x ms zero c j = eqb (length ms) j
+marksFrom x ms (suc n) c j = markAt x ms c j && marksFrom x ms n (suc c) (nextMark x c j)
+
+unfoldable pub markSet : List ℕ → List ℕ → ℕ → ℕ → List ℕ
+unfolding ownb
+markSet x ms c j = elim (ownb x c && ltb j (length ms)) [ true ↦ set x (MARK + c) (getD ms j 0) | false ↦ x ]
+
+unfoldable pub markedFrom : List ℕ → List ℕ → ℕ → ℕ → ℕ → List ℕ
+unfolding markSet nextMark
+markedFrom x ms zero c j = x
+markedFrom x ms (suc n) c j = markedFrom (markSet x ms c j) ms n (suc c) (nextMark x c j)
+
+unfoldable pub levelFrom : List ℕ → ℕ → ℕ
+levelFrom x k = min (field x (FIRST_CELL + k)) (field x CELLS)
+
+unfoldable pub enterMarks : List ℕ → ℕ → List ℕ
+unfolding levelFrom eachFrom decideOne markOne postEnd
+enterMarks x k =
+    postEnd (eachFrom markOne (levelFrom x (k + 1) - levelFrom x k) (levelFrom x k)
+    (eachFrom decideOne (levelFrom x (k + 1) - levelFrom x k) (levelFrom x k) x))
+
+unfoldable pub startAnswer : List ℕ → List ℕ → Answer
+unfolding refuse headerb marksFrom
+startAnswer x ms =
+    refuse 15 (leb full (length x)) (
+    refuse 16 (headerb x && eqb (field x STAGE) 0) (
+    refuse 7 (marksFrom x ms (field x CELLS) 0 0) Accepted))
+
+unfoldable pub startedStore : List ℕ → List ℕ → List ℕ
+unfolding markedFrom enterMarks
+startedStore x ms = enterMarks (set (markedFrom x ms (field x CELLS) 0 0) STAGE 1) (field x LEVELS - 1)
+
+unfoldable pub startedIn : Answer → List ℕ → List ℕ → List ℕ
+unfolding startedStore
+startedIn Accepted x ms = startedStore x ms
+startedIn (Refused k) x ms = x
+
+unfoldable pub startAfter : List ℕ → List ℕ → List ℕ
+unfolding startedIn startAnswer
+startAfter x ms = startedIn (startAnswer x ms) x ms

@@ -1,0 +1,443 @@
+// The turns of a part: its start, with the work on entering a round of marks: flags of the cells whose family it has, and the entries that
+// it writes.
+use base::Answer;
+use mail::header_fits;
+use store::CELLS;
+use store::CHILD;
+use store::CODE;
+use store::FAMILY;
+use store::FIRST_CELL;
+use store::FULL;
+use store::INNER;
+use store::LEVELS;
+use store::MARK;
+use store::OWNER;
+use store::PARENT;
+use store::PART;
+use store::PARTS;
+use store::RECEIVERS;
+use store::RED;
+use store::REGULAR;
+use store::SLOT;
+use store::STAGE;
+use store::STATUS;
+use store::SUM;
+use store::VALUE;
+use store::WRITTEN;
+ghost use mathlib.Core.Path.{_≡_};
+ghost use mathlib.Core.Bool.{_&&_};
+ghost use Prim.Native.Nat.{_+_, _-_, _*_, _^_, _≤_, _<_};
+ghost use lib.ListN.{length};
+ghost use Rattle.base.specs.Lists.{one-if};
+ghost use Rattle.store.specs.Fields.{field, full};
+ghost use Rattle.store.specs.Fetch.{bitb};
+ghost use Rattle.turns.specs.Loops.{someFrom, runSome, eachFrom};
+ghost use Rattle.turns.specs.Decide.{slotAt, hitb, hitOf, pullOf, idleKid, pulledKid, kidb, busyb, ruleb, decideOne};
+ghost use Rattle.turns.specs.Post.{posted, markOne, othersOf, postEnd};
+ghost use Rattle.turns.specs.Usable.{Usable};
+ghost use Rattle.turns.specs.Start.{markOk, markAt, nextMark, marksFrom, markSet, markedFrom, levelFrom, enterMarks, startAnswer};
+ghost use Rattle.turns.specs.Start.{startAfter};
+
+// The slot of an edge of a cell.
+fn slot_of(store: &[u16], c: usize, e: usize) -> usize
+    requires { ⌜ (full ≤ length (now store)) × (c < 4096) × (e < 6) ⌝ }
+    ensures { λ r. ⌜ r ≡ slotAt (now (store .entry)) c e ⌝ }
+{
+    store[SLOT + (6 * c + e)] as usize
+}
+
+// Whether a cell one level up that will be red has the slot.
+fn is_hit(store: &[u16], slot: usize) -> bool
+    requires { ⌜ full ≤ length (now store) ⌝ }
+    ensures { λ r. ⌜ r ≡ hitb (now (store .entry)) slot ⌝ }
+{
+    if slot >= 24576 {
+        return false;
+    }
+    store[SUM + slot] != 0
+}
+
+// Whether some edge of a cell is hit.
+fn some_hit(store: &[u16], c: usize) -> bool
+    requires { ⌜ (full ≤ length (now store)) × (c < 4096) ⌝ }
+    ensures { λ r. ⌜ r ≡ someFrom (hitOf (now (store .entry)) c) 6 0 ⌝ }
+{
+    let mut e = 0;
+    while e < 6 {
+        let slot = slot_of(store, c, e);
+        if is_hit(store, slot) {
+            return true;
+        }
+        e += 1;
+    }
+    false
+}
+
+// Whether an edge is hit that is not also the parent's.
+fn is_pull(store: &[u16], c: usize, e: usize) -> bool
+    requires { ⌜ (full ≤ length (now store)) × (c < 4096) × (e < 6) ⌝ }
+    ensures { λ r. ⌜ r ≡ pullOf (now (store .entry)) c e ⌝ }
+{
+    if (store[INNER + c] >> e) % 2 != 1 {
+        return false;
+    }
+    let slot = slot_of(store, c, e);
+    is_hit(store, slot)
+}
+
+// Whether some edge of a cell is so.
+fn some_pull(store: &[u16], c: usize) -> bool
+    requires { ⌜ (full ≤ length (now store)) × (c < 4096) ⌝ }
+    ensures { λ r. ⌜ r ≡ someFrom (pullOf (now (store .entry)) c) 6 0 ⌝ }
+{
+    let mut e = 0;
+    while e < 6 {
+        if is_pull(store, c, e) {
+            return true;
+        }
+        e += 1;
+    }
+    false
+}
+
+// Whether a cell is not a leaf that is marked for deletion and has no hit edge.
+fn is_busy(store: &[u16], d: usize) -> bool
+    requires { ⌜ (full ≤ length (now store)) × (d < 4096) ⌝ }
+    ensures { λ r. ⌜ r ≡ busyb (now (store .entry)) d ⌝ }
+{
+    if store[STATUS + d] != 0 {
+        return true;
+    }
+    if store[MARK + d] != 2 {
+        return true;
+    }
+    some_hit(store, d)
+}
+
+// Whether a green cell's child turns its parent red.
+fn is_pulled(store: &[u16], d: usize) -> bool
+    requires { ⌜ (full ≤ length (now store)) × (d < 4096) ⌝ }
+    ensures { λ r. ⌜ r ≡ pulledKid (now (store .entry)) d ⌝ }
+{
+    if store[MARK + d] == 1 {
+        return true;
+    }
+    some_pull(store, d)
+}
+
+// Whether d is a child of c.
+fn is_kid(store: &[u16], c: usize, d: usize) -> bool
+    requires { ⌜ (full ≤ length (now store)) × (field (now store) 5 ≤ 4096) ⌝ }
+    ensures { λ r. ⌜ r ≡ kidb (now (store .entry)) c d ⌝ }
+{
+    if d >= store[CELLS] as usize {
+        return false;
+    }
+    store[PARENT + d] as usize == c
+}
+
+// Whether some child of a cell is busy.
+fn some_busy(store: &[u16], c: usize) -> bool
+    requires { ⌜ (full ≤ length (now store)) × (field (now store) 5 ≤ 4096) × (c < 4096) ⌝ }
+    ensures { λ r. ⌜ r ≡ runSome (kidb (now (store .entry)) c) (busyb (now (store .entry))) 8 (field (now (store .entry)) (16496 + c)) ⌝ }
+{
+    let mut d = store[CHILD + c] as usize;
+    let mut i: usize = 0;
+    while i < 8 {
+        if !is_kid(store, c, d) {
+            return false;
+        }
+        if is_busy(store, d) {
+            return true;
+        }
+        d += 1;
+        i += 1;
+    }
+    false
+}
+
+// Whether some child of a cell is pulled.
+fn some_pulled(store: &[u16], c: usize) -> bool
+    requires { ⌜ (full ≤ length (now store)) × (field (now store) 5 ≤ 4096) × (c < 4096) ⌝ }
+    ensures { λ r. ⌜ r ≡ runSome (kidb (now (store .entry)) c) (pulledKid (now (store .entry))) 8 (field (now (store .entry)) (16496 + c)) ⌝ }
+{
+    let mut d = store[CHILD + c] as usize;
+    let mut i: usize = 0;
+    while i < 8 {
+        if !is_kid(store, c, d) {
+            return false;
+        }
+        if is_pulled(store, d) {
+            return true;
+        }
+        d += 1;
+        i += 1;
+    }
+    false
+}
+
+// Whether a cell will be red: 1 or 0.
+fn flag_of(store: &[u16], c: usize) -> u16
+    requires { ⌜ (full ≤ length (now store)) × (field (now store) 5 ≤ 4096) × (c < 4096) ⌝ }
+    ensures { λ r. ⌜ r ≡ one-if (ruleb (now (store .entry)) c) ⌝ }
+{
+    if store[STATUS + c] == 64 {
+        if some_busy(store, c) {
+            return 1;
+        }
+        return 0;
+    }
+    if store[STATUS + c] != 0 {
+        if some_pulled(store, c) {
+            return 1;
+        }
+        return 0;
+    }
+    if store[REGULAR + c] != 1 {
+        return 0;
+    }
+    if store[MARK + c] != 1 {
+        return 0;
+    }
+    1
+}
+
+// Decides on a cell, if its family is here.
+fn decide_one(store: &mut [u16], c: usize)
+    requires { ⌜ (full ≤ length (now store)) × (field (now store) 5 ≤ 4096) × (c < 4096) ⌝ }
+    ensures { λ r. ⌜ now (store .exit) ≡ decideOne (now (store .entry)) c ⌝ }
+{
+    if store[FAMILY + c] != store[PART] {
+        return;
+    }
+    let flag = flag_of(store, c);
+    store[RED + c] = flag;
+}
+
+// Decides on the cells from `first` to `last`.
+fn decide(store: &mut [u16], first: usize, last: usize)
+    requires { ⌜ (full ≤ length (now store)) × (field (now store) 5 ≤ 4096) × (last ≤ 4096) ⌝ }
+    ensures { λ r. ⌜ now (store .exit) ≡ eachFrom decideOne (last - first) first (now (store .entry)) ⌝ }
+{
+    let mut c = first;
+    while c < last {
+        decide_one(store, c);
+        c += 1;
+    }
+}
+
+// Writes an entry behind the others, if it has receivers and there is room.
+fn post(store: &mut [u16], code: u16, value: u16, mask: u16)
+    requires { ⌜ full ≤ length (now store) ⌝ }
+    ensures { λ r. ⌜ now (store .exit) ≡ posted (now (store .entry)) code value mask ⌝ }
+{
+    if mask == 0 {
+        return;
+    }
+    let n = store[WRITTEN] as usize;
+    if n >= 28696 {
+        return;
+    }
+    store[CODE + n] = code;
+    store[VALUE + n] = value;
+    store[RECEIVERS + n] = mask;
+    store[WRITTEN] = (n + 1) as u16;
+}
+
+// The bit of a part.
+fn bit_of(part: usize) -> usize
+    requires { ⌜ (1 ≤ part) × (part ≤ 16) ⌝ }
+    ensures { λ r. ⌜ (r ≡ 2 ^ (part - 1)) × (r < 65536) ⌝ }
+{
+    1 << (part - 1)
+}
+
+// Writes the mark of a cell for its master, if it is a ghost.
+fn mark_one(store: &mut [u16], c: usize)
+    requires { ⌜ (full ≤ length (now store)) × (c < 4096) ⌝ }
+    ensures { λ r. ⌜ now (store .exit) ≡ markOne (now (store .entry)) c ⌝ }
+{
+    if store[FAMILY + c] != store[PART] {
+        return;
+    }
+    let owner = store[OWNER + c] as usize;
+    if owner == store[PART] as usize {
+        return;
+    }
+    if owner < 1 {
+        return;
+    }
+    if owner > 16 {
+        return;
+    }
+    let mask = bit_of(owner);
+    let flag = store[RED + c];
+    post(store, c as u16, flag, mask as u16);
+}
+
+// Writes the marks of the ghosts among the cells from `first` to `last`.
+fn post_marks(store: &mut [u16], first: usize, last: usize)
+    requires { ⌜ (full ≤ length (now store)) × (last ≤ 4096) ⌝ }
+    ensures { λ r. ⌜ now (store .exit) ≡ eachFrom markOne (last - first) first (now (store .entry)) ⌝ }
+{
+    let mut c = first;
+    while c < last {
+        mark_one(store, c);
+        c += 1;
+    }
+}
+
+// All parts but the own one, as bits.
+fn others_of(store: &[u16]) -> usize
+    requires { ⌜ Usable (now store) ⌝ }
+    ensures { λ r. ⌜ (r ≡ othersOf (now (store .entry))) × (r < 65536) ⌝ }
+{
+    let parts = store[PARTS] as usize;
+    let part = store[PART] as usize;
+    let top = bit_of(parts);
+    let own = bit_of(part);
+    2 * top - 1 - own
+}
+
+// Writes the end of the round for all others.
+fn post_end(store: &mut [u16])
+    requires { ⌜ Usable (now store) ⌝ }
+    ensures { λ r. ⌜ now (store .exit) ≡ postEnd (now (store .entry)) ⌝ }
+{
+    let mask = others_of(store);
+    post(store, 65535, 0, mask as u16);
+}
+
+// The first cell of a level, at most the number of cells.
+fn level_from(store: &[u16], k: usize) -> usize
+    requires { ⌜ Usable (now store) × (k ≤ 11) ⌝ }
+    ensures { λ r. ⌜ (r ≡ levelFrom (now (store .entry)) k) × (r ≤ 4096) ⌝ }
+{
+    let first = store[FIRST_CELL + k] as usize;
+    let cells = store[CELLS] as usize;
+    if first < cells { first } else { cells }
+}
+
+// Enters the round of marks of a level.
+fn enter_marks(store: &mut [u16], k: usize)
+    requires { ⌜ Usable (now store) × (k ≤ 10) ⌝ }
+    ensures { λ r. ⌜ now (store .exit) ≡ enterMarks (now (store .entry)) k ⌝ }
+{
+    let first = level_from(store, k);
+    let last = level_from(store, k + 1);
+    decide(store, first, last);
+    post_marks(store, first, last);
+    post_end(store);
+}
+
+// Whether a mark is 0 to 2, and 0 on a refined cell.
+fn mark_fits(store: &[u16], c: usize, mark: u8) -> bool
+    requires { ⌜ (full ≤ length (now store)) × (c < 4096) ⌝ }
+    ensures { λ r. ⌜ r ≡ markOk (now (store .entry)) c mark ⌝ }
+{
+    if mark > 2 {
+        return false;
+    }
+    if mark == 0 {
+        return true;
+    }
+    store[STATUS + c] == 0
+}
+
+// Whether the mark that is due fits a cell, if it is a master.
+fn is_marked(store: &[u16], marks: &[u8], c: usize, j: usize) -> bool
+    requires { ⌜ (full ≤ length (now store)) × (c < 4096) ⌝ }
+    ensures { λ r. ⌜ r ≡ markAt (now (store .entry)) (now (marks .entry)) c j ⌝ }
+{
+    if store[OWNER + c] != store[PART] {
+        return true;
+    }
+    if j >= marks.len() {
+        return false;
+    }
+    mark_fits(store, c, marks[j])
+}
+
+// The mark that is due behind a cell.
+fn next_mark(store: &[u16], c: usize, j: usize) -> usize
+    requires { ⌜ (full ≤ length (now store)) × (c < 4096) × (j < 65536) ⌝ }
+    ensures { λ r. ⌜ r ≡ nextMark (now (store .entry)) c j ⌝ }
+{
+    if store[OWNER + c] == store[PART] {
+        j + 1
+    } else {
+        j
+    }
+}
+
+// Whether the marks are one for each master, and fit.
+fn marks_fit(store: &[u16], marks: &[u8]) -> bool
+    requires { ⌜ Usable (now store) ⌝ }
+    ensures { λ r. ⌜ r ≡ marksFrom (now (store .entry)) (now (marks .entry)) (field (now (store .entry)) 5) 0 0 ⌝ }
+{
+    let cells = store[CELLS] as usize;
+    let mut c: usize = 0;
+    let mut j: usize = 0;
+    while c < cells {
+        if !is_marked(store, marks, c, j) {
+            return false;
+        }
+        j = next_mark(store, c, j);
+        c += 1;
+    }
+    marks.len() == j
+}
+
+// Stores the mark that is due, if a cell is a master.
+fn set_mark(store: &mut [u16], marks: &[u8], c: usize, j: usize)
+    requires { ⌜ (full ≤ length (now store)) × (c < 4096) ⌝ }
+    ensures { λ r. ⌜ now (store .exit) ≡ markSet (now (store .entry)) (now (marks .entry)) c j ⌝ }
+{
+    if store[OWNER + c] != store[PART] {
+        return;
+    }
+    if j >= marks.len() {
+        return;
+    }
+    store[MARK + c] = marks[j] as u16;
+}
+
+// Stores the marks of all masters.
+fn set_marks(store: &mut [u16], marks: &[u8])
+    requires { ⌜ Usable (now store) ⌝ }
+    ensures { λ r. ⌜ now (store .exit) ≡ markedFrom (now (store .entry)) (now (marks .entry)) (field (now (store .entry)) 5) 0 0 ⌝ }
+{
+    let cells = store[CELLS] as usize;
+    let mut c: usize = 0;
+    let mut j: usize = 0;
+    while c < cells {
+        let next = next_mark(store, c, j);
+        set_mark(store, marks, c, j);
+        j = next;
+        c += 1;
+    }
+}
+
+// Starts a part with one mark for each of its masters.
+pub fn start(store: &mut [u16], marks: &[u8]) -> Answer
+    ensures { λ r. ⌜ r ≡ startAnswer (now (store .entry)) (now (marks .entry)) ⌝ }
+    ensures { λ r. ⌜ now (store .exit) ≡ startAfter (now (store .entry)) (now (marks .entry)) ⌝ }
+{
+    if store.len() < FULL {
+        return Answer::Refused(15);
+    }
+    if !header_fits(store) {
+        return Answer::Refused(16);
+    }
+    if store[STAGE] != 0 {
+        return Answer::Refused(16);
+    }
+    if !marks_fit(store, marks) {
+        return Answer::Refused(7);
+    }
+    let top = store[LEVELS] as usize - 1;
+    set_marks(store, marks);
+    store[STAGE] = 1;
+    enter_marks(store, top);
+    Answer::Accepted
+}
