@@ -19,7 +19,4 @@ pub mod Base
 pub mod Start
 pub mod Faces
 pub mod Meets
-pub mod Step
 pub mod Accepted
-pub mod Calls
-pub mod Jobs
