@@ -1,4 +1,5 @@
 pub mod Leaves
+pub mod Samples
 pub mod Middles
 pub mod Corners
 pub mod Kinds
