@@ -12,7 +12,8 @@ use lib.IntN.{ℤ, pos, _*ℤ_}
 use Rattle.mesh.specs.Coarse.{coordinate}
 use Rattle.corners.specs.Sums.{Small, Smalls, Held, coarseSums, midSums, addSums, sumNumbers, length-coarseSums, length-addSums}
 use Rattle.corners.proofs.Rows.{row, behind, same-size}
-use Rattle.corners.proofs.Size.{small-scaled, half-sum-small}
+use Rattle.corners.specs.Sizes.{small-scaled}
+use Rattle.corners.proofs.Size.{half-sum-small}
 
 -- sizes
 module _ (n : ℕ) where
