@@ -1,5 +1,1 @@
 pub mod Turns
-pub mod Ways
-pub mod Levels
-pub mod Points
-pub mod Table

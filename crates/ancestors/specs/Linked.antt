@@ -1,6 +1,6 @@
 -- Lists of cells in which each cell's place is its number.
---   pathAt cs k      the path of the cell k; parentAt cs k its parent's number
---   Child cs k       the cell k comes after its parent, and its path is the parent's and one number more
+--   linkedPath cs k      the path of the cell k; parentAt cs k its parent's number
+--   Descends cs k       the cell k comes after its parent, and its path is the parent's and one number more
 --   Linked cs        each cell is coarse, with its own number for a path, or a child
 --   ancestorOf c     the coarse ancestor and the level of the cell c
 use mathlib.Core.Path.{_≡_}
@@ -17,16 +17,16 @@ abbrev pub ancestorOf : {A : Type 0} → Cell A → Ancestor
 ancestorOf c = ancestor (coarseOf c) (levelOf c)
 
 module _ {A : Type 0} where
-  abbrev pub pathAt : List (Cell A) → ℕ → List ℕ
-  pathAt cs k = getD cs k noCell .path
+  abbrev pub linkedPath : List (Cell A) → ℕ → List ℕ
+  linkedPath cs k = getD cs k noCell .path
 
   abbrev pub parentAt : List (Cell A) → ℕ → ℕ
   parentAt cs k = getD cs k noCell .parent
 
-  pub record Child (cs : List (Cell A)) (k : ℕ) : Type 0 where
+  pub record Descends (cs : List (Cell A)) (k : ℕ) : Type 0 where
     pub below : parentAt cs k < k
     pub number : ℕ
-    pub path : pathAt cs k ≡ pathAt cs (parentAt cs k) ++ (number ∷ [])
+    pub path : linkedPath cs k ≡ linkedPath cs (parentAt cs k) ++ (number ∷ [])
 
   pub record Linked (cs : List (Cell A)) : Type 0 where
-    pub link : (k : ℕ) → k < length cs → (pathAt cs k ≡ k ∷ []) ⊎ Child cs k
+    pub link : (k : ℕ) → k < length cs → (linkedPath cs k ≡ k ∷ []) ⊎ Descends cs k

@@ -12,10 +12,10 @@ use lib.Dec.{T, leb, leb→le}
 use lib.IntN.{ℤ}
 use lib.ListN.{length, drop}
 use Rattle.base.specs.Bools.{and-left}
-use Rattle.archive.specs.Form.{cornersIn, cellsIn, stepsIn, behindCorners, behindCells, formb, jobOf}
+use Rattle.archive.specs.Form.{cornerRecords, cellRecords, stepsIn, behindCorners, behindCells, formb, jobOf}
 use Rattle.archive.specs.Records.{recordsIn, corners-many, cells-many}
 use Rattle.archive.specs.Tables.{Counts}
-use Rattle.archive.specs.Loaded.{stepsAt, Room, StepsFit}
+use Rattle.archive.specs.Loaded.{stepsAt, LoadRoom, StepsFit}
 use Rattle.archive.proofs.Whole.{Found, corners-fit, found-fits, found-corners, found-cells, form-is}
 
 form-short : (bs : List ℕ) → T (formb bs) → length bs ≤ 65536
@@ -33,9 +33,9 @@ module _ (bs : List ℕ) {v t m g : ℕ} (c : Counts (jobOf bs) v t m g) where
   behind : behindCorners bs ≡ drop (13 * v) bs
   behind = found-corners (record { corners = corners-counted; cells = refl })
 
-  pub cells-are : jobOf bs .cells ≡ cellsIn (length bs) (drop (13 * v) bs) .0
+  pub cells-are : jobOf bs .cells ≡ cellRecords (length bs) (drop (13 * v) bs) .0
   unfolding jobOf
-  cells-are = ap (λ (b : List ℕ). cellsIn (length bs) b .0) behind
+  cells-are = ap (λ (b : List ℕ). cellRecords (length bs) b .0) behind
 
   pub counted : Found bs v t
   counted =
@@ -48,14 +48,14 @@ module _ (bs : List ℕ) {v t m g : ℕ} (c : Counts (jobOf bs) v t m g) where
   unfolding jobOf
   steps-are = rw (found-cells counted)
 
-  pub positions-many : 3 * v ≡ length (cornersIn (length bs) bs .0)
+  pub positions-many : 3 * v ≡ length (cornerRecords (length bs) bs .0)
   unfolding jobOf
   positions-many = sym (c .corners-are)
 
-  pub cells-many-are : 4 * t ≡ length (cellsIn (length bs) (drop (13 * v) bs) .0)
+  pub cells-many-are : 4 * t ≡ length (cellRecords (length bs) (drop (13 * v) bs) .0)
   cells-many-are = sym (c .cells-are) ∙ ap (λ (l : List ℕ). length l) cells-are
 
-  pub steps-fit : T (formb bs) → {ps : List ℤ} {cs ms ks es : List ℕ} → Room (jobOf bs) ps cs ms ks es → StepsFit bs (13 * v + 9 * t) ms ks es
+  pub steps-fit : T (formb bs) → {ps : List ℤ} {cs ms ks es : List ℕ} → LoadRoom (jobOf bs) ps cs ms ks es → StepsFit bs (13 * v + 9 * t) ms ks es
   steps-fit w r =
       let n : length bs ≤ 65536 = form-short bs w in
       record {

@@ -12,8 +12,8 @@ use native.Mathlib.Omega.{arith}
 use lib.IntN.{ℤ, pos}
 use lib.ListN.{length, getD, drop, length-drop}
 use lib.Seq.{drop-cons, drop-drop}
-use Rattle.archive.specs.Form.{whole, i32At, u16At, startsb, cornersIn, cellsIn}
-use Rattle.archive.specs.Writing.{corners-first, cells-first}
+use Rattle.archive.specs.Form.{whole, i32At, u16At, startsb, cornerRecords, cellRecords}
+use Rattle.archive.specs.Writing.{corners-first, cell-records-first}
 use Rattle.archive.specs.Records.{records-fit, corners-none, cells-none, corners-many, cells-many}
 
 pub whole-four : (bs : List ℕ) (at : ℕ) → at + 4 ≤ length bs → whole 2 (drop at bs) + 65536 * whole 2 (drop (at + 2) bs) ≡ whole 4 (drop at bs)
@@ -40,17 +40,17 @@ module _ (bs : List ℕ) (x y z : ℤ) (ps : List ℤ)
       let e : 13 + cornerPlace k ≡ cornerPlace (suc (suc (suc k))) = omega arith in
       i k (omega arith) ∙ rw (drop-drop (cornerPlace k) 13 bs, e)
 
-pub corner-at : (f : ℕ) (bs : List ℕ) (k : ℕ) → k < length (cornersIn f bs .0) → getD (cornersIn f bs .0) k (pos 0) ≡ i32At bs (cornerPlace k)
-unfolding cornersIn
+pub corner-at : (f : ℕ) (bs : List ℕ) (k : ℕ) → k < length (cornerRecords f bs .0) → getD (cornerRecords f bs .0) k (pos 0) ≡ i32At bs (cornerPlace k)
+unfolding cornerRecords
 corner-at zero bs k h = absurd (omega arith)
 corner-at (suc f) bs k h = go (startsb 86 13 bs) refl k h (corner-at f (drop 13 bs))
   where
-    go : (b : Bool) → startsb 86 13 bs ≡ b → (k : ℕ) → k < length (cornersIn (suc f) bs .0)
-        → ((k : ℕ) → k < length (cornersIn f (drop 13 bs) .0) → getD (cornersIn f (drop 13 bs) .0) k (pos 0) ≡ i32At (drop 13 bs) (cornerPlace k))
-        → getD (cornersIn (suc f) bs .0) k (pos 0) ≡ i32At bs (cornerPlace k)
+    go : (b : Bool) → startsb 86 13 bs ≡ b → (k : ℕ) → k < length (cornerRecords (suc f) bs .0)
+        → ((k : ℕ) → k < length (cornerRecords f (drop 13 bs) .0) → getD (cornerRecords f (drop 13 bs) .0) k (pos 0) ≡ i32At (drop 13 bs) (cornerPlace k))
+        → getD (cornerRecords (suc f) bs .0) k (pos 0) ≡ i32At bs (cornerPlace k)
     go true t k h i =
         let e = corners-first f bs t in
-        rw e (three-at bs (i32At bs 1) (i32At bs 5) (i32At bs 9) (cornersIn f (drop 13 bs) .0) refl refl refl i k (rw e at h))
+        rw e (three-at bs (i32At bs 1) (i32At bs 5) (i32At bs 9) (cornerRecords f (drop 13 bs) .0) refl refl refl i k (rw e at h))
     go false t k h i = absurd (omega (arith, rw (corners-none f bs t) at h))
 
 module _ (bs : List ℕ) (w x y z : ℕ) (ts : List ℕ)
@@ -65,27 +65,27 @@ module _ (bs : List ℕ) (w x y z : ℕ) (ts : List ℕ)
       let e : 9 + cellPlace k ≡ cellPlace (suc (suc (suc (suc k)))) = omega arith in
       i k (omega arith) ∙ rw (drop-drop (cellPlace k) 9 bs, e)
 
-pub cell-at : (f : ℕ) (bs : List ℕ) (k : ℕ) → k < length (cellsIn f bs .0) → getD (cellsIn f bs .0) k 0 ≡ u16At bs (cellPlace k)
-unfolding cellsIn
+pub cell-at : (f : ℕ) (bs : List ℕ) (k : ℕ) → k < length (cellRecords f bs .0) → getD (cellRecords f bs .0) k 0 ≡ u16At bs (cellPlace k)
+unfolding cellRecords
 cell-at zero bs k h = absurd (omega arith)
 cell-at (suc f) bs k h = go (startsb 84 9 bs) refl k h (cell-at f (drop 9 bs))
   where
-    go : (b : Bool) → startsb 84 9 bs ≡ b → (k : ℕ) → k < length (cellsIn (suc f) bs .0)
-        → ((k : ℕ) → k < length (cellsIn f (drop 9 bs) .0) → getD (cellsIn f (drop 9 bs) .0) k 0 ≡ u16At (drop 9 bs) (cellPlace k))
-        → getD (cellsIn (suc f) bs .0) k 0 ≡ u16At bs (cellPlace k)
+    go : (b : Bool) → startsb 84 9 bs ≡ b → (k : ℕ) → k < length (cellRecords (suc f) bs .0)
+        → ((k : ℕ) → k < length (cellRecords f (drop 9 bs) .0) → getD (cellRecords f (drop 9 bs) .0) k 0 ≡ u16At (drop 9 bs) (cellPlace k))
+        → getD (cellRecords (suc f) bs .0) k 0 ≡ u16At bs (cellPlace k)
     go true t k h i =
-        let e = cells-first f bs t in
-        rw e (four-at bs (u16At bs 1) (u16At bs 3) (u16At bs 5) (u16At bs 7) (cellsIn f (drop 9 bs) .0) refl refl refl refl i k (rw e at h))
+        let e = cell-records-first f bs t in
+        rw e (four-at bs (u16At bs 1) (u16At bs 3) (u16At bs 5) (u16At bs 7) (cellRecords f (drop 9 bs) .0) refl refl refl refl i k (rw e at h))
     go false t k h i = absurd (omega (arith, rw (cells-none f bs t) at h))
 
-pub corner-inside : (bs : List ℕ) (k : ℕ) → k < length (cornersIn (length bs) bs .0) → cornerPlace k + 4 ≤ length bs
+pub corner-inside : (bs : List ℕ) (k : ℕ) → k < length (cornerRecords (length bs) bs .0) → cornerPlace k + 4 ≤ length bs
 corner-inside bs k h = omega (arith, corners-many (length bs) bs, records-fit 86 13 (length bs) bs)
 
-module _ (bs : List ℕ) (from k : ℕ) (g : from ≤ length bs) (h : k < length (cellsIn (length bs) (drop from bs) .0)) where
+module _ (bs : List ℕ) (from k : ℕ) (g : from ≤ length bs) (h : k < length (cellRecords (length bs) (drop from bs) .0)) where
   pub cell-inside : from + 9 * (k / 4) + 2 * (k % 4) + 1 + 2 ≤ length bs
   cell-inside = omega (arith, cells-many (length bs) (drop from bs), records-fit 84 9 (length bs) (drop from bs), length-drop from bs)
 
-  pub cell-from : whole 2 (drop (from + 9 * (k / 4) + 2 * (k % 4) + 1) bs) ≡ getD (cellsIn (length bs) (drop from bs) .0) k 0
+  pub cell-from : whole 2 (drop (from + 9 * (k / 4) + 2 * (k % 4) + 1) bs) ≡ getD (cellRecords (length bs) (drop from bs) .0) k 0
   cell-from =
       let e : from + cellPlace k ≡ from + 9 * (k / 4) + 2 * (k % 4) + 1 = omega arith in
       sym (cell-at (length bs) (drop from bs) k h ∙ rw (drop-drop (cellPlace k) from bs, e))

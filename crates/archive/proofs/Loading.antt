@@ -17,13 +17,13 @@ use borrow.Author.Tests.{ltb-true, ltb-false}
 use Rattle.base.specs.Bools.{is-true, and-left, and-right}
 use Rattle.archive.specs.Form.{letter, startsb, stepsIn, Steps, markedb, emptyb, u16At}
 use Rattle.archive.specs.Tables.{Mark}
-use Rattle.archive.specs.Scan.{markb, endb, markIn, On, behind, no-fuel, steps-mark, steps-step, steps-end, stop, same-mark, end-least, least-none, on-out}
+use Rattle.archive.specs.Scan.{markRecordb, endb, markIn, ScanAt, behind, no-fuel, steps-mark, steps-step, steps-end, stop, same-mark, end-least, least-none, on-out}
 use Rattle.archive.specs.Reading.{no-start}
 use Rattle.archive.specs.Writing.{starts-letter}
 use Rattle.archive.specs.Loaded.{stepsAt}
 
-mark-letter : (least : ℕ) (bs : List ℕ) → markb least bs ≡ true → letter bs ≡ 77
-unfolding markb
+mark-letter : (least : ℕ) (bs : List ℕ) → markRecordb least bs ≡ true → letter bs ≡ 77
+unfolding markRecordb
 mark-letter least bs t =
     starts-letter 77 4 bs
     (is-true (startsb 77 4 bs) (and-left (startsb 77 4 bs) ((leb 1 (getD bs 3 0) && leb (getD bs 3 0) 2) && leb least (u16At bs 1)) (rw t tt)))
@@ -45,8 +45,8 @@ true-else : (b : Bool) → (b ≡ false → ⊥) → b ≡ true
 true-else true h = refl
 true-else false h = absurd (h refl)
 
-module _ {bs : List ℕ} {from at least marks steps : ℕ} (o : On bs from at least marks steps) (k : T (stepsAt bs from .ok)) where
-  ends : markb least (drop at bs) ≡ false → startsb 71 1 (drop at bs) ≡ false
+module _ {bs : List ℕ} {from at least marks steps : ℕ} (o : ScanAt bs from at least marks steps) (k : T (stepsAt bs from .ok)) where
+  ends : markRecordb least (drop at bs) ≡ false → startsb 71 1 (drop at bs) ≡ false
       → stepsAt bs from ≡ record { ok = endb least (drop at bs); steps = o .done }
   ends t u =
       o .rest
@@ -57,12 +57,12 @@ module _ {bs : List ℕ} {from at least marks steps : ℕ} (o : On bs from at le
         append-nil (o .done),
       )
 
-  ended : markb least (drop at bs) ≡ false → startsb 71 1 (drop at bs) ≡ false → T (endb least (drop at bs))
+  ended : markRecordb least (drop at bs) ≡ false → startsb 71 1 (drop at bs) ≡ false → T (endb least (drop at bs))
   ended t u = rw (ends t u) at k
 
-  pub mark-next : getD bs at 0 ≡ 77 → markb least (drop at bs) ≡ true
+  pub mark-next : getD bs at 0 ≡ 77 → markRecordb least (drop at bs) ≡ true
   mark-next e =
-      true-else (markb least (drop at bs))
+      true-else (markRecordb least (drop at bs))
       (λ t. omega (
         arith,
         front bs at,
@@ -70,10 +70,10 @@ module _ {bs : List ℕ} {from at least marks steps : ℕ} (o : On bs from at le
             (ended t (no-start 71 1 (drop at bs) (λ g. omega (arith, front bs at)))),
       ))
 
-  not-mark : (getD bs at 0 ≡ 77 → ⊥) → markb least (drop at bs) ≡ false
-  not-mark h = untrue (markb least (drop at bs)) (λ t. h (sym (front bs at) ∙ mark-letter least (drop at bs) t))
+  not-mark : (getD bs at 0 ≡ 77 → ⊥) → markRecordb least (drop at bs) ≡ false
+  not-mark h = untrue (markRecordb least (drop at bs)) (λ t. h (sym (front bs at) ∙ mark-letter least (drop at bs) t))
 
-  pub step-next : (getD bs at 0 ≡ 69 → ⊥) → (getD bs at 0 ≡ 77 → ⊥) → (markb least (drop at bs) ≡ false) × (startsb 71 1 (drop at bs) ≡ true)
+  pub step-next : (getD bs at 0 ≡ 69 → ⊥) → (getD bs at 0 ≡ 77 → ⊥) → (markRecordb least (drop at bs) ≡ false) × (startsb 71 1 (drop at bs) ≡ true)
   step-next h g = (
     not-mark g,
     true-else (startsb 71 1 (drop at bs)) (λ t. h (sym (front bs at) ∙ end-letter least (drop at bs) (ended (not-mark g) t))),
@@ -88,7 +88,7 @@ module _ {bs : List ℕ} {from at least marks steps : ℕ} (o : On bs from at le
 
   pub on-all : getD bs at 0 ≡ 69 → (o .since ≡ []) × (stepsAt bs from .steps ≡ o .done)
   on-all e =
-      let t : markb least (drop at bs) ≡ false = not-mark (λ g. omega arith) in
+      let t : markRecordb least (drop at bs) ≡ false = not-mark (λ g. omega arith) in
       let u : startsb 71 1 (drop at bs) ≡ false = no-start 71 1 (drop at bs) (λ g. omega (arith, front bs at)) in
       (least-none (o .since) (o .least-is ∙ end-least least (drop at bs) (ended t u)), rw (ends t u))
 
@@ -125,7 +125,7 @@ since-fits (suc f) ms bs t = go (markedb ms bs) refl (startsb 71 1 bs) refl (sin
     go false d true e i = rw (steps-step f ms bs d e) (since-step f ms bs (stepsIn f [] (drop 1 bs)))
     go false d false e i = omega (arith, since-end f ms bs (rw (steps-end f ms bs d e) at t))
 
-module _ {bs : List ℕ} {from at least marks steps : ℕ} (o : On bs from at least marks steps) (k : T (stepsAt bs from .ok)) where
+module _ {bs : List ℕ} {from at least marks steps : ℕ} (o : ScanAt bs from at least marks steps) (k : T (stepsAt bs from .ok)) where
   abbrev left : Steps
   left = stepsIn (length bs - (marks + steps)) (o .since) (drop at bs)
 

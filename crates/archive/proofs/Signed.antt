@@ -1,8 +1,8 @@
 -- An i32 from its 32 bits.
---   below        -1 less a number below 2 ^ 31 is an i32
+--   minus-fits        -1 less a number minus-fits 2 ^ 31 is an i32
 --   low, high    the two halves
 -- The 32 bits of an i32.
---   under z      n where z is -1 - n; under-fits, under-is, under-small, under-bits where z is below 0
+--   under z      n where z is -1 - n; under-fits, under-is, under-small, under-bits where z is minus-fits 0
 --   bits-is      z itself where it is not
 -- Assumes nothing.
 use mathlib.Core.Path.{_≡_, refl, sym, ap, _∙_}
@@ -19,13 +19,7 @@ use mir.ValLaws.{toZ-pos, toZ-ofZ}
 use Rattle.base.specs.Bools.{not-both}
 use Rattle.archive.specs.Job.{word}
 use Rattle.archive.specs.Form.{signed}
-
-pub below : (k : ℕ) → k < 2147483648 → SFits w32 (negsuc 0 -ℤ toZ w32 k)
-below k h = rw (toZ-pos w32 k h) (go k h)
-  where
-    go : (k : ℕ) → k < 2147483648 → SFits w32 (negsuc 0 -ℤ pos k)
-    go zero h = record { sfits = omega arith }
-    go (suc k) h = record { sfits = omega (arith, h) }
+use Rattle.base.specs.Integers.{minus-fits}
 
 pub low : (x : ℕ) → x < 2147483648 → toZ w32 x ≡ signed x
 unfolding signed
@@ -39,7 +33,7 @@ pub high : (x : ℕ) → 2147483648 ≤ x → toZ w32 (ofZ w32 (negsuc 0 -ℤ to
 unfolding signed
 high x h =
     let l : 4294967295 - x < 2147483648 = omega arith in
-    toZ-ofZ w32 (negsuc 0 -ℤ toZ w32 (4294967295 - x)) (below (4294967295 - x) l)
+    toZ-ofZ w32 (negsuc 0 -ℤ toZ w32 (4294967295 - x)) (minus-fits (4294967295 - x) l)
     ∙ rw (toZ-pos w32 (4294967295 - x) l, less (4294967295 - x), le-ltb x 2147483648 h, signed)
 
 -- n where z is -1 - n

@@ -12,8 +12,8 @@ use native.Mathlib.Omega.{arith}
 use lib.ListN.{length, getD, drop, set, length-drop, length-append, length-map}
 use lib.Seq.{getD-drop, drop-drop}
 use Rattle.archive.specs.Form.{whole}
-use Rattle.archive.specs.Tables.{Mark, cellOf, markOf, markedOf, marksOf, endsOf, endsFrom}
-use Rattle.archive.specs.Scan.{markIn, On, on-start, on-mark, on-step}
+use Rattle.archive.specs.Tables.{Mark, cellOf, markOf, markedOf, marksOf, endsOf, endsAfter}
+use Rattle.archive.specs.Scan.{markIn, ScanAt, on-start, on-mark, on-step}
 use Rattle.archive.specs.Loaded.{inFront, stepsAt, StepsFit}
 use Rattle.archive.proofs.Fill.{put}
 use Rattle.archive.proofs.Loading.{ok-inside, mark-next, step-next, on-all, marks-room, steps-room}
@@ -31,24 +31,24 @@ flatten-one (a ∷ s) ms =
     ∙ ap (λ (t : List Mark). a ++ t) (flatten-one s ms)
     ∙ sym (append-assoc a (flatten s) ms)
 
-ends-length : (p : ℕ) (s : List (List Mark)) → length (endsFrom p s) ≡ length s
-unfolding endsFrom
+ends-length : (p : ℕ) (s : List (List Mark)) → length (endsAfter p s) ≡ length s
+unfolding endsAfter
 ends-length p [] = refl
 ends-length p (ms ∷ s) = ap suc (ends-length (p + length ms) s)
 
 ends-snoc : (p : ℕ) (s : List (List Mark)) (ms : List Mark) (m : ℕ) → p + (length (flatten s) + length ms) ≡ m
-    → endsFrom p (s ++ (ms ∷ [])) ≡ endsFrom p s ++ (m ∷ [])
-unfolding endsFrom flatten
+    → endsAfter p (s ++ (ms ∷ [])) ≡ endsAfter p s ++ (m ∷ [])
+unfolding endsAfter flatten
 ends-snoc p [] ms m e = let q : p + length ms ≡ m = omega arith in rw q
 ends-snoc p (a ∷ s) ms m e =
     ap (λ (t : List ℕ). (p + length a) ∷ t) (ends-snoc (p + length a) s ms m (omega (arith, length-append a (flatten s))))
 
-abbrev passed : {bs : List ℕ} {from at least m s : ℕ} → On bs from at least m s → List Mark
+abbrev passed : {bs : List ℕ} {from at least m s : ℕ} → ScanAt bs from at least m s → List Mark
 passed o = flatten (o .done) ++ o .since
 
 pub record Load (bs : List ℕ) (from : ℕ) (cs₀ ks₀ es₀ cs ks es : List ℕ) (at m s : ℕ) : Type 0 where
   pub least : ℕ
-  pub on : On bs from at least m s
+  pub on : ScanAt bs from at least m s
   pub cells : cs ≡ map cellOf (passed on) ++ drop m cs₀
   pub marks : ks ≡ map markOf (passed on) ++ drop m ks₀
   pub ends : es ≡ endsOf (on .done) ++ drop s es₀
@@ -85,7 +85,7 @@ module _ {bs : List ℕ} {from : ℕ} {cs₀ ks₀ es₀ : List ℕ} (f : StepsF
         rw (l .ends) (front-length (endsOf (l .on .done)) es₀ s ends-many (omega (arith, steps-room (l .on) (f .well), f .ends-fit)))
 
     module _ (e : getD bs at 0 ≡ 77) where
-      next-mark : (c : ℕ) → c ≡ whole 2 (drop (at + 1) bs) → On bs from (at + 4) (c + 1) (m + 1) s
+      next-mark : (c : ℕ) → c ≡ whole 2 (drop (at + 1) bs) → ScanAt bs from (at + 4) (c + 1) (m + 1) s
       next-mark c q = on-mark (l .on) (mark-next (l .on) (f .well) e) c q
 
       pub mark-inside : at + 4 ≤ length bs
@@ -121,7 +121,7 @@ module _ {bs : List ℕ} {from : ℕ} {cs₀ ks₀ es₀ : List ℕ} (f : StepsF
           }
 
     module _ (e : getD bs at 0 ≡ 69 → ⊥) (d : getD bs at 0 ≡ 77 → ⊥) where
-      next-step : On bs from (at + 1) 0 m (s + 1)
+      next-step : ScanAt bs from (at + 1) 0 m (s + 1)
       next-step = let n = step-next (l .on) (f .well) e d in on-step (l .on) (n .0) (n .1)
 
       pub step-room : s + 1 ≤ length (stepsAt bs from .steps)

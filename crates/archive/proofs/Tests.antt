@@ -16,7 +16,7 @@ use lib.Seq.{drop-cons, drop-drop, getD-drop}
 use borrow.Author.Tests.{le-leb, lt-leb, eq-eqb, ne-eqb}
 use Rattle.archive.specs.Form.{startsb, whole}
 use Rattle.archive.specs.Records.{recordsIn, records-none, records-more, starts-long}
-use Rattle.archive.specs.Scan.{markb, endb}
+use Rattle.archive.specs.Scan.{markRecordb, endb}
 
 pub whole-two : (bs : List ℕ) (at : ℕ) → at + 2 ≤ length bs → getD bs at 0 + 256 * getD bs (at + 1) 0 ≡ whole 2 (drop at bs)
 unfolding whole
@@ -43,21 +43,21 @@ module _ (bs : List ℕ) (at l k : ℕ) where
       and-one false = refl
 
 module _ (bs : List ℕ) (at least : ℕ) where
-  pub mark-other : startsb 77 4 (drop at bs) ≡ false → false ≡ markb least (drop at bs)
-  unfolding markb
+  pub mark-other : startsb 77 4 (drop at bs) ≡ false → false ≡ markRecordb least (drop at bs)
+  unfolding markRecordb
   mark-other t = sym (rw t)
 
   module _ (s : startsb 77 4 (drop at bs) ≡ true) where
-    pub mark-low : getD bs (at + 3) 0 < 1 → false ≡ markb least (drop at bs)
-    unfolding markb
+    pub mark-low : getD bs (at + 3) 0 < 1 → false ≡ markRecordb least (drop at bs)
+    unfolding markRecordb
     mark-low h = sym (rw (s, front bs at 3, lt-leb 1 (getD bs (at + 3) 0) h))
 
-    pub mark-high : 2 < getD bs (at + 3) 0 → false ≡ markb least (drop at bs)
-    unfolding markb
+    pub mark-high : 2 < getD bs (at + 3) 0 → false ≡ markRecordb least (drop at bs)
+    unfolding markRecordb
     mark-high h = sym (rw (s, front bs at 3, lt-leb (getD bs (at + 3) 0) 2 h, and-false (leb 1 (getD bs (at + 3) 0))))
 
-    pub mark-there : 1 ≤ getD bs (at + 3) 0 → getD bs (at + 3) 0 ≤ 2 → (n : ℕ) → n ≡ whole 2 (drop (at + 1) bs) → leb least n ≡ markb least (drop at bs)
-    unfolding markb
+    pub mark-there : 1 ≤ getD bs (at + 3) 0 → getD bs (at + 3) 0 ≤ 2 → (n : ℕ) → n ≡ whole 2 (drop (at + 1) bs) → leb least n ≡ markRecordb least (drop at bs)
+    unfolding markRecordb
     mark-there h i n e =
         sym (rw (s, front bs at 3, le-leb 1 (getD bs (at + 3) 0) h, le-leb (getD bs (at + 3) 0) 2 i, drop-drop 1 at bs, e))
 

@@ -14,10 +14,10 @@ use lib.Dec.{T}
 use lib.ListN.{length, drop, length-drop}
 use lib.Seq.{drop-drop}
 use borrow.Author.Tests.{le-leb, lt-leb}
-use Rattle.archive.specs.Form.{cellsIn, stepsIn, behindCorners, behindCells, formb, jobOf}
+use Rattle.archive.specs.Form.{cellRecords, stepsIn, behindCorners, behindCells, formb, jobOf}
 use Rattle.archive.specs.Records.{recordsIn, records-fit, corners-many, corners-behind, cells-many, cells-behind}
 use Rattle.archive.specs.Scan.{Scanned}
-use Rattle.archive.specs.Examined.{Examined}
+use Rattle.archive.specs.Examined.{FormExamined}
 
 pub record Found (bs : List ℕ) (v t : ℕ) : Type 0 where
   pub corners : v ≡ recordsIn 86 13 (length bs) bs
@@ -39,7 +39,7 @@ module _ {bs : List ℕ} {v t : ℕ} (f : Found bs v t) where
   pub found-cells : behindCells bs ≡ drop (13 * v + 9 * t) bs
   unfolding behindCells
   found-cells =
-      ap (λ (b : List ℕ). cellsIn (length bs) b .1) found-corners
+      ap (λ (b : List ℕ). cellRecords (length bs) b .1) found-corners
       ∙ cells-behind (length bs) (drop (13 * v) bs)
       ∙ rw (← f .cells) (drop-drop (9 * t) (13 * v) bs)
 
@@ -48,7 +48,7 @@ module _ {bs : List ℕ} {v t : ℕ} (f : Found bs v t) where
   form-is h = rw (le-leb (length bs) 65536 h, found-cells)
 
   pub examined : length bs ≤ 65536 → (ok : Bool) (m g : ℕ) → Scanned bs (13 * v + 9 * t) ok m g
-      → Examined bs (record { ok = ok; corners = v; cells = t; marks = m; steps = g })
+      → FormExamined bs (record { ok = ok; corners = v; cells = t; marks = m; steps = g })
   unfolding jobOf
   examined h ok m g s =
       let e : ok ≡ formb bs = s .ok-is ∙ sym (form-is h) in
@@ -64,7 +64,7 @@ module _ {bs : List ℕ} {v t : ℕ} (f : Found bs v t) where
             };
       }
 
-pub too-long : (bs : List ℕ) → 65536 < length bs → Examined bs (record { ok = false; corners = 0; cells = 0; marks = 0; steps = 0 })
+pub too-long : (bs : List ℕ) → 65536 < length bs → FormExamined bs (record { ok = false; corners = 0; cells = 0; marks = 0; steps = 0 })
 unfolding formb
 too-long bs h =
     let e : formb bs ≡ false = rw (lt-leb (length bs) 65536 h) in

@@ -15,7 +15,7 @@ use lib.IntN.{ℤ}
 use lib.ListN.{length, getD, take, drop, length-append, length-drop, take-append-drop, drop-of-length-le}
 use lib.Seq.{drop-drop, length-take-le}
 use Rattle.archive.specs.Job.{Job, jobBytes}
-use Rattle.archive.specs.Tables.{Mark, cellOf, markOf, markedOf, marksOf, endsFrom, endsOf, pairs, stepsFrom, stepsOf, steps-back}
+use Rattle.archive.specs.Tables.{Mark, cellOf, markOf, markedOf, marksOf, endsAfter, endsOf, pairs, stepsFrom, stepsOf, steps-back}
 use Rattle.archive.specs.Measure.{corner-length, cell-length, steps-length, job-length}
 use Rattle.archive.specs.Stored.{jobFrom, EndsRise, Storable}
 
@@ -109,8 +109,8 @@ flat-back p ms (e ∷ es) c l =
     let d : drop (e - p) (drop p ms) ≡ drop e ms = drop-drop (e - p) p ms ∙ ap (λ (i : ℕ). drop i ms) k in
     ap (λ (x : List Mark). take (e - p) (drop p ms) ++ x) (flat-back e ms es (c .2) l ∙ sym d) ∙ take-append-drop (e - p) (drop p ms)
 
-pub ends-back : (p : ℕ) (ms : List Mark) (es : List ℕ) → Climbs p (length ms) es → endsFrom p (stepsFrom p ms es) ≡ es
-unfolding Climbs stepsFrom endsFrom
+pub ends-back : (p : ℕ) (ms : List Mark) (es : List ℕ) → Climbs p (length ms) es → endsAfter p (stepsFrom p ms es) ≡ es
+unfolding Climbs stepsFrom endsAfter
 ends-back p ms [] c = refl
 ends-back p ms (e ∷ es) c =
     let k : p + length (take (e - p) (drop p ms)) ≡ e =

@@ -1,5 +1,5 @@
 -- What examining an archive's form answers.
---   Examined bs r   whether bs is in the form, and how many records of each kind it has where it is
+--   FormExamined bs r   whether bs is in the form, and how many records of each kind it has where it is
 use mathlib.Core.Path.{_≡_}
 use mathlib.Core.List.{List}
 use Prim.Native.Nat.{ℕ}
@@ -11,6 +11,6 @@ use Rattle.archive.specs.declared.Form.{Form}
 abbrev pub CountsOf : List ℕ → Form → Type 0
 CountsOf bs r = Counts (jobOf bs) (r .corners) (r .cells) (r .marks) (r .steps)
 
-pub record Examined (bs : List ℕ) (r : Form) : Type 0 where
+pub record FormExamined (bs : List ℕ) (r : Form) : Type 0 where
   pub ok-is : r .ok ≡ formb bs
   pub counts : T (formb bs) → CountsOf bs r

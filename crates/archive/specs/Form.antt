@@ -2,7 +2,7 @@
 --   whole k bs           the number of the first k bytes, least first
 --   signed x             the i32 with the 32 bits x
 --   startsb l k bs       a record of k bytes with the letter l stands at the front
---   cornersIn f bs, cellsIn f bs   the records V, T that the bytes start with, at most f, and the bytes behind them
+--   cornerRecords f bs, cellRecords f bs   the records V, T that the bytes start with, at most f, and the bytes behind them
 --   stepsIn f ms bs      the steps in the bytes, at most f records, where ms are the marks since the last G; ok where they end as they should
 --   formb bs, jobOf bs   the whole
 use mathlib.Core.Bool.{Bool, true, false, _&&_}
@@ -36,21 +36,21 @@ i32At bs i = signed (whole 4 (drop i bs))
 abbrev pub u16At : List ℕ → ℕ → ℕ
 u16At bs i = whole 2 (drop i bs)
 
-unfoldable pub cornersIn : ℕ → List ℕ → List ℤ × List ℕ
+unfoldable pub cornerRecords : ℕ → List ℕ → List ℤ × List ℕ
 unfolding startsb signed whole
-cornersIn zero bs = ([], bs)
-cornersIn (suc f) bs =
+cornerRecords zero bs = ([], bs)
+cornerRecords (suc f) bs =
     elim (startsb 86 13 bs) [
-      | true ↦ let r = cornersIn f (drop 13 bs) in (i32At bs 1 ∷ i32At bs 5 ∷ i32At bs 9 ∷ r .0, r .1)
+      | true ↦ let r = cornerRecords f (drop 13 bs) in (i32At bs 1 ∷ i32At bs 5 ∷ i32At bs 9 ∷ r .0, r .1)
       | false ↦ ([], bs)
     ]
 
-unfoldable pub cellsIn : ℕ → List ℕ → List ℕ × List ℕ
+unfoldable pub cellRecords : ℕ → List ℕ → List ℕ × List ℕ
 unfolding startsb whole
-cellsIn zero bs = ([], bs)
-cellsIn (suc f) bs =
+cellRecords zero bs = ([], bs)
+cellRecords (suc f) bs =
     elim (startsb 84 9 bs) [
-      | true ↦ let r = cellsIn f (drop 9 bs) in (u16At bs 1 ∷ u16At bs 3 ∷ u16At bs 5 ∷ u16At bs 7 ∷ r .0, r .1)
+      | true ↦ let r = cellRecords f (drop 9 bs) in (u16At bs 1 ∷ u16At bs 3 ∷ u16At bs 5 ∷ u16At bs 7 ∷ r .0, r .1)
       | false ↦ ([], bs)
     ]
 
@@ -87,12 +87,12 @@ stepsIn (suc f) ms bs =
     ]
 
 unfoldable pub behindCorners : List ℕ → List ℕ
-unfolding cornersIn
-behindCorners bs = cornersIn (length bs) bs .1
+unfolding cornerRecords
+behindCorners bs = cornerRecords (length bs) bs .1
 
 unfoldable pub behindCells : List ℕ → List ℕ
-unfolding behindCorners cellsIn
-behindCells bs = cellsIn (length bs) (behindCorners bs) .1
+unfolding behindCorners cellRecords
+behindCells bs = cellRecords (length bs) (behindCorners bs) .1
 
 -- "Order: V, T, then M and G, then E." "An archive has at most 65,536 bytes."
 unfoldable pub formb : List ℕ → Bool
@@ -100,10 +100,10 @@ unfolding stepsIn behindCells
 formb bs = leb (length bs) mostBytes && stepsIn (length bs) [] (behindCells bs) .ok
 
 unfoldable pub jobOf : List ℕ → Job
-unfolding cornersIn cellsIn stepsIn behindCorners behindCells
+unfolding cornerRecords cellRecords stepsIn behindCorners behindCells
 jobOf bs =
     record {
-      positions = cornersIn (length bs) bs .0;
-      cells = cellsIn (length bs) (behindCorners bs) .0;
+      positions = cornerRecords (length bs) bs .0;
+      cells = cellRecords (length bs) (behindCorners bs) .0;
       steps = stepsIn (length bs) [] (behindCells bs) .steps;
     }

@@ -1,6 +1,6 @@
 -- What loading an archive leaves in the lent tables.
 --   inFront xs t    the table t with xs over its first places
---   Room j ..       the tables are long enough for the job j
+--   LoadRoom j ..       the tables are long enough for the job j
 --   Loaded j ..     the job's lists stand in front in the tables
 --   stepsAt bs i    the steps in the bytes from the place i on
 --   StepsFit bs i ..   they are in the form, and the tables are long enough for them
@@ -20,7 +20,7 @@ inFront xs t = xs ++ drop (length xs) t
 abbrev pub stepsAt : List ℕ → ℕ → Steps
 stepsAt bs i = stepsIn (length bs) [] (drop i bs)
 
-pub record Room (j : Job) (positions : List ℤ) (cells marked marks ends : List ℕ) : Type 0 where
+pub record LoadRoom (j : Job) (positions : List ℤ) (cells marked marks ends : List ℕ) : Type 0 where
   pub positions-fit : length (j .positions) ≤ length positions
   pub cells-fit : length (j .cells) ≤ length cells
   pub marked-fit : length (flatten (j .steps)) ≤ length marked

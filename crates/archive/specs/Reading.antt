@@ -11,12 +11,12 @@ use lib.IntN.{ℤ}
 use lib.ListN.{length}
 use borrow.Author.Tests.{ne-eqb, eq-eqb, le-leb}
 use Rattle.archive.specs.Job.{Job, bytes, word, cornerBytes, cellBytes, markBytes, stepBytes, jobBytes}
-use Rattle.archive.specs.Form.{whole, signed, letter, startsb, cornersIn, cellsIn, stepsIn, markedb, behindCorners, behindCells, formb, jobOf}
+use Rattle.archive.specs.Form.{whole, signed, letter, startsb, cornerRecords, cellRecords, stepsIn, markedb, behindCorners, behindCells, formb, jobOf}
 use Rattle.archive.specs.Tables.{Mark}
-use Rattle.archive.specs.Scan.{leastOf, least-snoc, markb, marked-least, markIn, steps-mark, steps-step}
+use Rattle.archive.specs.Scan.{leastOf, least-snoc, markRecordb, marked-least, markIn, steps-mark, steps-step}
 use Rattle.archive.specs.Measure.{stepsBytes, corner-length, cell-length, job-length}
 use Rattle.archive.specs.Bytes.{Word, two-back, four-back, word-below, word-back}
-use Rattle.archive.specs.Writable.{Each, Rises, Small, Writable}
+use Rattle.archive.specs.Writable.{Each, Rises, TwoBytes, Writable}
 
 -- no record with another letter starts
 pub no-start : (l k : ℕ) (bs : List ℕ) → (letter bs ≡ l → ⊥) → startsb l k bs ≡ false
@@ -30,49 +30,49 @@ start l k bs e h = rw (eq-eqb (letter bs) l e, le-leb k (length bs) h)
 back : (z : ℤ) (l : List ℕ) → Word z → signed (whole 4 (bytes 4 (word z) ++ l)) ≡ z
 back z l h = rw (four-back (word z) l (word-below z h)) (word-back z h)
 
-corners-stop : (f : ℕ) (bs : List ℕ) → (letter bs ≡ 86 → ⊥) → cornersIn f bs ≡ ([], bs)
-unfolding cornersIn
+corners-stop : (f : ℕ) (bs : List ℕ) → (letter bs ≡ 86 → ⊥) → cornerRecords f bs ≡ ([], bs)
+unfolding cornerRecords
 corners-stop zero bs h = refl
-corners-stop (suc f) bs h = rw (no-start 86 13 bs h, cornersIn)
+corners-stop (suc f) bs h = rw (no-start 86 13 bs h, cornerRecords)
 
-cells-stop : (f : ℕ) (bs : List ℕ) → (letter bs ≡ 84 → ⊥) → cellsIn f bs ≡ ([], bs)
-unfolding cellsIn
+cells-stop : (f : ℕ) (bs : List ℕ) → (letter bs ≡ 84 → ⊥) → cellRecords f bs ≡ ([], bs)
+unfolding cellRecords
 cells-stop zero bs h = refl
-cells-stop (suc f) bs h = rw (no-start 84 9 bs h, cellsIn)
+cells-stop (suc f) bs h = rw (no-start 84 9 bs h, cellRecords)
 
 -- a record V in front
 corner-first : (f : ℕ) (x y z : ℤ) (l : List ℕ) → Word x → Word y → Word z
-    → cornersIn (suc f) (86 ∷ (bytes 4 (word x) ++ (bytes 4 (word y) ++ (bytes 4 (word z) ++ l))))
-    ≡ (x ∷ y ∷ z ∷ cornersIn f l .0, cornersIn f l .1)
-unfolding cornersIn bytes
+    → cornerRecords (suc f) (86 ∷ (bytes 4 (word x) ++ (bytes 4 (word y) ++ (bytes 4 (word z) ++ l))))
+    ≡ (x ∷ y ∷ z ∷ cornerRecords f l .0, cornerRecords f l .1)
+unfolding cornerRecords bytes
 corner-first f x y z l a b c =
     let bs : List ℕ = 86 ∷ (bytes 4 (word x) ++ (bytes 4 (word y) ++ (bytes 4 (word z) ++ l))) in
     let t : startsb 86 13 bs ≡ true = start 86 13 bs refl (omega arith) in
-    rw (t, cornersIn, back x (bytes 4 (word y) ++ (bytes 4 (word z) ++ l)) a, back y (bytes 4 (word z) ++ l) b, back z l c)
+    rw (t, cornerRecords, back x (bytes 4 (word y) ++ (bytes 4 (word z) ++ l)) a, back y (bytes 4 (word z) ++ l) b, back z l c)
 
 pub corners-read : (f : ℕ) (ps : List ℤ) (l : List ℕ) → length ps % 3 ≡ 0 → Each Word ps → (letter l ≡ 86 → ⊥) → length ps ≤ f
-    → cornersIn f (cornerBytes ps ++ l) ≡ (ps, l)
+    → cornerRecords f (cornerBytes ps ++ l) ≡ (ps, l)
 unfolding cornerBytes Each
 corners-read f [] l m w n h = corners-stop f l n
 corners-read f (x ∷ []) l m w n h = absurd (omega arith)
 corners-read f (x ∷ y ∷ []) l m w n h = absurd (omega arith)
 corners-read zero (x ∷ y ∷ z ∷ ps) l m w n h = absurd (omega arith)
 corners-read (suc f) (x ∷ y ∷ z ∷ ps) l m w n h =
-    let i : cornersIn f (cornerBytes ps ++ l) ≡ (ps, l) = corners-read f ps l (omega arith) (w .1 .1 .1) n (omega arith) in
+    let i : cornerRecords f (cornerBytes ps ++ l) ≡ (ps, l) = corners-read f ps l (omega arith) (w .1 .1 .1) n (omega arith) in
     simp append-assoc (corner-first f x y z (cornerBytes ps ++ l) (w .0) (w .1 .0) (w .1 .1 .0) ∙ rw i)
 
 -- a record T in front
-cell-first : (f a b c d : ℕ) (l : List ℕ) → Small a → Small b → Small c → Small d
-    → cellsIn (suc f) (84 ∷ (bytes 2 a ++ (bytes 2 b ++ (bytes 2 c ++ (bytes 2 d ++ l)))))
-    ≡ (a ∷ b ∷ c ∷ d ∷ cellsIn f l .0, cellsIn f l .1)
-unfolding cellsIn bytes
+cell-first : (f a b c d : ℕ) (l : List ℕ) → TwoBytes a → TwoBytes b → TwoBytes c → TwoBytes d
+    → cellRecords (suc f) (84 ∷ (bytes 2 a ++ (bytes 2 b ++ (bytes 2 c ++ (bytes 2 d ++ l)))))
+    ≡ (a ∷ b ∷ c ∷ d ∷ cellRecords f l .0, cellRecords f l .1)
+unfolding cellRecords bytes
 cell-first f a b c d l p q r s =
     let bs : List ℕ = 84 ∷ (bytes 2 a ++ (bytes 2 b ++ (bytes 2 c ++ (bytes 2 d ++ l)))) in
     let t : startsb 84 9 bs ≡ true = start 84 9 bs refl (omega arith) in
-    rw (t, cellsIn, two-back a (bytes 2 b ++ (bytes 2 c ++ (bytes 2 d ++ l))) p, two-back b (bytes 2 c ++ (bytes 2 d ++ l)) q, two-back c (bytes 2 d ++ l) r, two-back d l s)
+    rw (t, cellRecords, two-back a (bytes 2 b ++ (bytes 2 c ++ (bytes 2 d ++ l))) p, two-back b (bytes 2 c ++ (bytes 2 d ++ l)) q, two-back c (bytes 2 d ++ l) r, two-back d l s)
 
-pub cells-read : (f : ℕ) (ts : List ℕ) (l : List ℕ) → length ts % 4 ≡ 0 → Each Small ts → (letter l ≡ 84 → ⊥) → length ts ≤ f
-    → cellsIn f (cellBytes ts ++ l) ≡ (ts, l)
+pub cells-read : (f : ℕ) (ts : List ℕ) (l : List ℕ) → length ts % 4 ≡ 0 → Each TwoBytes ts → (letter l ≡ 84 → ⊥) → length ts ≤ f
+    → cellRecords f (cellBytes ts ++ l) ≡ (ts, l)
 unfolding cellBytes Each
 cells-read f [] l m w n h = cells-stop f l n
 cells-read f (a ∷ []) l m w n h = absurd (omega arith)
@@ -80,22 +80,22 @@ cells-read f (a ∷ b ∷ []) l m w n h = absurd (omega arith)
 cells-read f (a ∷ b ∷ c ∷ []) l m w n h = absurd (omega arith)
 cells-read zero (a ∷ b ∷ c ∷ d ∷ ts) l m w n h = absurd (omega arith)
 cells-read (suc f) (a ∷ b ∷ c ∷ d ∷ ts) l m w n h =
-    let i : cellsIn f (cellBytes ts ++ l) ≡ (ts, l) = cells-read f ts l (omega arith) (w .1 .1 .1 .1) n (omega arith) in
+    let i : cellRecords f (cellBytes ts ++ l) ≡ (ts, l) = cells-read f ts l (omega arith) (w .1 .1 .1 .1) n (omega arith) in
     simp append-assoc (cell-first f a b c d (cellBytes ts ++ l) (w .0) (w .1 .0) (w .1 .1 .0) (w .1 .1 .1 .0) ∙ rw i)
 
-mark-passes : (least c k : ℕ) (l : List ℕ) → least ≤ c → Small c → 1 ≤ k → k ≤ 2 → markb least (77 ∷ (bytes 2 c ++ (k ∷ l))) ≡ true
-unfolding markb startsb bytes
+mark-passes : (least c k : ℕ) (l : List ℕ) → least ≤ c → TwoBytes c → 1 ≤ k → k ≤ 2 → markRecordb least (77 ∷ (bytes 2 c ++ (k ∷ l))) ≡ true
+unfolding markRecordb startsb bytes
 mark-passes least c k l a b h i =
     rw (le-leb 4 (suc (suc (suc (suc (length l))))) (omega arith), le-leb 1 k h, le-leb k 2 i, two-back c (k ∷ l) b, le-leb least c a)
 
 -- a record M in front, on a cell that may follow
-mark-first : (f : ℕ) (ms : List Mark) (m : Mark) (l : List ℕ) → leastOf ms ≤ m .0 → Small (m .0) → 1 ≤ m .1 → m .1 ≤ 2
+mark-first : (f : ℕ) (ms : List Mark) (m : Mark) (l : List ℕ) → leastOf ms ≤ m .0 → TwoBytes (m .0) → 1 ≤ m .1 → m .1 ≤ 2
     → stepsIn (suc f) ms (markBytes m ++ l) ≡ stepsIn f (ms ++ (m ∷ [])) l
 unfolding markBytes bytes
 mark-first f ms m l a b c d =
     let bs : List ℕ = 77 ∷ (bytes 2 (m .0) ++ (m .1 ∷ l)) in
     let w : whole 2 (bytes 2 (m .0) ++ (m .1 ∷ l)) ≡ m .0 = two-back (m .0) (m .1 ∷ l) b in
-    let t : markb (leastOf ms) bs ≡ true = mark-passes (leastOf ms) (m .0) (m .1) l a b c d in
+    let t : markRecordb (leastOf ms) bs ≡ true = mark-passes (leastOf ms) (m .0) (m .1) l a b c d in
     let e : markIn bs ≡ m = ap (λ (c : ℕ). (c, m .1)) w in
     steps-mark f ms bs (marked-least ms bs ∙ t) ∙ ap (λ (n : Mark). stepsIn f (ms ++ (n ∷ [])) l) e
 
@@ -167,14 +167,14 @@ letter-cells (a ∷ b ∷ c ∷ []) s = omega (arith, letter-steps s)
 letter-cells (a ∷ b ∷ c ∷ d ∷ ts) s = omega arith
 
 module _ {j : Job} (w : Writable j) where
-  corners-back : cornersIn (length (jobBytes j)) (jobBytes j) ≡ (j .positions, cellBytes (j .cells) ++ stepsBytes (j .steps))
+  corners-back : cornerRecords (length (jobBytes j)) (jobBytes j) ≡ (j .positions, cellBytes (j .cells) ++ stepsBytes (j .steps))
   unfolding jobBytes stepsBytes
   corners-back =
       corners-read (length (jobBytes j)) (j .positions) (cellBytes (j .cells) ++ stepsBytes (j .steps)) (w .threes) (w .words)
       (λ e. omega (arith, letter-cells (j .cells) (j .steps)))
       (omega (arith, corner-length (j .positions) (w .threes), job-length j))
 
-  cells-back : cellsIn (length (jobBytes j)) (behindCorners (jobBytes j)) ≡ (j .cells, stepsBytes (j .steps))
+  cells-back : cellRecords (length (jobBytes j)) (behindCorners (jobBytes j)) ≡ (j .cells, stepsBytes (j .steps))
   unfolding behindCorners
   cells-back =
       let e : behindCorners (jobBytes j) ≡ cellBytes (j .cells) ++ stepsBytes (j .steps) = ap (λ (p : List ℤ × List ℕ). p .1) corners-back in

@@ -1,10 +1,10 @@
 -- Going through the marks and steps of an archive.
 --   leastOf ms          the least cell that may follow the marks ms
---   markb least bs      a mark stands at the front, on the cell least or a later one
+--   markRecordb least bs      a mark stands at the front, on the cell least or a later one
 --   endb least bs       the bytes are E alone, and no mark stands since the last step
 --   behind ss r         the steps ss, and then those of r
 --   no-fuel, steps-mark, steps-step, steps-end, stop   what stepsIn finds at a mark, at a step and where neither stands
---   On bs from at least marks steps   where the scan from the place from has come
+--   ScanAt bs from at least marks steps   where the scan from the place from has come
 --   on-start, on-mark, on-step, on-end, on-out   its turns
 --   Scanned bs from ok marks steps    what the scan finds
 use mathlib.Core.Path.{_≡_, refl, sym, _∙_, ap}
@@ -26,8 +26,8 @@ leastOf [] = 0
 leastOf (m ∷ []) = suc (m .0)
 leastOf (m ∷ n ∷ ms) = leastOf (n ∷ ms)
 
-unfoldable pub markb : ℕ → List ℕ → Bool
-markb least bs = startsb 77 4 bs && ((leb 1 (getD bs 3 0) && leb (getD bs 3 0) 2) && leb least (u16At bs 1))
+unfoldable pub markRecordb : ℕ → List ℕ → Bool
+markRecordb least bs = startsb 77 4 bs && ((leb 1 (getD bs 3 0) && leb (getD bs 3 0) 2) && leb least (u16At bs 1))
 
 unfoldable pub endb : ℕ → List ℕ → Bool
 endb least bs = startsb 69 1 bs && (eqb least 0 && eqb (length bs) 1)
@@ -58,12 +58,12 @@ pub least-none : (ms : List Mark) → leastOf ms ≡ 0 → ms ≡ []
 least-none [] e = refl
 least-none (m ∷ ms) e = absurd (omega (arith, least-above m ms))
 
-pub marked-least : (ms : List Mark) (bs : List ℕ) → markedb ms bs ≡ markb (leastOf ms) bs
-unfolding markedb markb
+pub marked-least : (ms : List Mark) (bs : List ℕ) → markedb ms bs ≡ markRecordb (leastOf ms) bs
+unfolding markedb markRecordb
 marked-least ms bs = rw (follows-least ms (u16At bs 1))
 
-pub mark-long : (least : ℕ) (bs : List ℕ) → markb least bs ≡ true → 4 ≤ length bs
-unfolding markb
+pub mark-long : (least : ℕ) (bs : List ℕ) → markRecordb least bs ≡ true → 4 ≤ length bs
+unfolding markRecordb
 mark-long least bs t =
     starts-long 77 4 bs (is-true (startsb 77 4 bs) (and-left (startsb 77 4 bs) ((leb 1 (getD bs 3 0) && leb (getD bs 3 0) 2) && leb least (u16At bs 1)) (rw t tt)))
 
@@ -97,7 +97,7 @@ unfolding flatten
 flatten-snoc [] ms = rw (append-nil ms) (omega arith)
 flatten-snoc (a ∷ s) ms = omega (arith, length-append a (flatten (s ++ (ms ∷ []))), length-append a (flatten s), flatten-snoc s ms)
 
-pub record On (bs : List ℕ) (from at least marks steps : ℕ) : Type 0 where
+pub record ScanAt (bs : List ℕ) (from at least marks steps : ℕ) : Type 0 where
   pub since : List Mark
   pub done : List (List Mark)
   pub near : at ≤ length bs
@@ -107,7 +107,7 @@ pub record On (bs : List ℕ) (from at least marks steps : ℕ) : Type 0 where
   pub steps-are : length done ≡ steps
   pub rest : stepsIn (length bs) [] (drop from bs) ≡ behind done (stepsIn (length bs - (marks + steps)) since (drop at bs))
 
-unfoldable pub on-start : (bs : List ℕ) (from : ℕ) → from ≤ length bs → On bs from from 0 0 0
+unfoldable pub on-start : (bs : List ℕ) (from : ℕ) → from ≤ length bs → ScanAt bs from from 0 0 0
 unfolding leastOf flatten
 on-start bs from h =
     record {
@@ -124,15 +124,15 @@ on-start bs from h =
 pub behind-behind : (a b : List (List Mark)) (r : Steps) → behind a (behind b r) ≡ behind (a ++ b) r
 behind-behind a b r = rw (append-assoc a b (r .steps))
 
-module _ {bs : List ℕ} {from at least marks steps : ℕ} (o : On bs from at least marks steps) where
-  pub same-mark : markedb (o .since) (drop at bs) ≡ markb least (drop at bs)
+module _ {bs : List ℕ} {from at least marks steps : ℕ} (o : ScanAt bs from at least marks steps) where
+  pub same-mark : markedb (o .since) (drop at bs) ≡ markRecordb least (drop at bs)
   same-mark = marked-least (o .since) (drop at bs) ∙ rw (o .least-is)
 
   -- so much of the fuel is left
   pub fuel-left : at < length bs → (k : ℕ) → k ≡ suc (marks + steps) → length bs - (marks + steps) ≡ suc (length bs - k)
   fuel-left h k e = omega (arith, o .way)
 
-  unfoldable pub on-mark : markb least (drop at bs) ≡ true → (n : ℕ) → n ≡ whole 2 (drop (at + 1) bs) → On bs from (at + 4) (n + 1) (marks + 1) steps
+  unfoldable pub on-mark : markRecordb least (drop at bs) ≡ true → (n : ℕ) → n ≡ whole 2 (drop (at + 1) bs) → ScanAt bs from (at + 4) (n + 1) (marks + 1) steps
   on-mark t c e =
       let l : 4 ≤ length (drop at bs) = mark-long least (drop at bs) t in
       let n : at + 4 ≤ length bs = omega (arith, length-drop at bs) in
@@ -153,7 +153,7 @@ module _ {bs : List ℕ} {from at least marks steps : ℕ} (o : On bs from at le
             );
       }
 
-  unfoldable pub on-step : markb least (drop at bs) ≡ false → startsb 71 1 (drop at bs) ≡ true → On bs from (at + 1) 0 marks (steps + 1)
+  unfoldable pub on-step : markRecordb least (drop at bs) ≡ false → startsb 71 1 (drop at bs) ≡ true → ScanAt bs from (at + 1) 0 marks (steps + 1)
   unfolding leastOf
   on-step t u =
       let l : 1 ≤ length (drop at bs) = starts-long 71 1 (drop at bs) u in
@@ -196,8 +196,8 @@ end-least least bs t =
     (is-true (eqb least 0)
     (and-left (eqb least 0) (eqb (length bs) 1) (and-right (startsb 69 1 bs) (eqb least 0 && eqb (length bs) 1) t)))
 
-module _ {bs : List ℕ} {from at least marks steps : ℕ} (o : On bs from at least marks steps) where
-  pub on-end : markb least (drop at bs) ≡ false → startsb 71 1 (drop at bs) ≡ false → (ok : Bool) → ok ≡ endb least (drop at bs)
+module _ {bs : List ℕ} {from at least marks steps : ℕ} (o : ScanAt bs from at least marks steps) where
+  pub on-end : markRecordb least (drop at bs) ≡ false → startsb 71 1 (drop at bs) ≡ false → (ok : Bool) → ok ≡ endb least (drop at bs)
       → Scanned bs from ok marks steps
   on-end t u ok q =
       let e : stepsIn (length bs) [] (drop from bs) ≡ record { ok = endb least (drop at bs); steps = o .done } =
@@ -217,7 +217,7 @@ module _ {bs : List ℕ} {from at least marks steps : ℕ} (o : On bs from at le
       }
 
   pub on-out : length bs ≤ at → Scanned bs from false marks steps
-  unfolding markb startsb endb
+  unfolding markRecordb startsb endb
   on-out h =
       let n : drop at bs ≡ [] = drop-of-length-le bs h in
       on-end (rw n) (rw n) false (rw n)

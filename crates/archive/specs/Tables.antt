@@ -30,13 +30,13 @@ unfolding flatten
 marksOf s = map markOf (flatten s)
 
 -- p marks stand before
-unfoldable pub endsFrom : ℕ → List (List Mark) → List ℕ
-endsFrom p [] = []
-endsFrom p (ms ∷ s) = (p + length ms) ∷ endsFrom (p + length ms) s
+unfoldable pub endsAfter : ℕ → List (List Mark) → List ℕ
+endsAfter p [] = []
+endsAfter p (ms ∷ s) = (p + length ms) ∷ endsAfter (p + length ms) s
 
 unfoldable pub endsOf : List (List Mark) → List ℕ
-unfolding endsFrom
-endsOf s = endsFrom 0 s
+unfolding endsAfter
+endsOf s = endsAfter 0 s
 
 unfoldable pub pairs : List ℕ → List ℕ → List Mark
 pairs [] ms = []
@@ -63,8 +63,8 @@ pairs-back [] = refl
 pairs-back (m ∷ l) = ap (λ (t : List Mark). m ∷ t) (pairs-back l)
 
 -- what stands behind the first p marks is s, so the steps from there are s
-from-back : (p : ℕ) (all : List Mark) (s : List (List Mark)) → drop p all ≡ flatten s → stepsFrom p all (endsFrom p s) ≡ s
-unfolding stepsFrom endsFrom flatten
+from-back : (p : ℕ) (all : List Mark) (s : List (List Mark)) → drop p all ≡ flatten s → stepsFrom p all (endsAfter p s) ≡ s
+unfolding stepsFrom endsAfter flatten
 from-back p all [] h = refl
 from-back p all (ms ∷ s) h =
     let n : p + length ms - p ≡ length ms = omega arith in

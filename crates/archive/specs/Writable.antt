@@ -18,13 +18,13 @@ unfoldable pub Rises : ℕ → List Mark → Type 0
 Rises least [] = Unit {0}
 Rises least (m ∷ ms) = (least ≤ m .0) × (m .0 < 65536) × (1 ≤ m .1) × (m .1 ≤ 2) × Rises (suc (m .0)) ms
 
-abbrev pub Small : ℕ → Type 0
-Small x = x < 65536
+abbrev pub TwoBytes : ℕ → Type 0
+TwoBytes x = x < 65536
 
 pub record Writable (j : Job) : Type 0 where
   pub threes : length (j .positions) % 3 ≡ 0
   pub words : Each Word (j .positions)
   pub fours : length (j .cells) % 4 ≡ 0
-  pub numbers : Each Small (j .cells)
+  pub numbers : Each TwoBytes (j .cells)
   pub rising : Each (Rises 0) (j .steps)
   pub few : length (jobBytes j) ≤ 65536

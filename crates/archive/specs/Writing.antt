@@ -1,6 +1,6 @@
 -- What is read is written back.
 --   piece, word-piece     a field and what stands behind it
---   Corners bs r, Cells bs r   the corners or cells r .0 can be written, and with r .1 behind them are bs
+--   CornersRead bs r, Cells bs r   the corners or cells r .0 can be written, and with r .1 behind them are bs
 --   corners-written, cells-written   so it is with those that are read
 use mathlib.Core.Path.{_≡_, refl, sym, ap}
 use mathlib.Core.Bool.{Bool, true, false}
@@ -14,11 +14,11 @@ use lib.Seq.{drop-drop, drop-cons}
 use borrow.Author.Tests.{eqb-true}
 use Rattle.base.specs.Bools.{is-true, and-left}
 use Rattle.archive.specs.Job.{bytes, word, cornerBytes, cellBytes, markBytes}
-use Rattle.archive.specs.Form.{whole, letter, i32At, u16At, startsb, cornersIn, cellsIn}
+use Rattle.archive.specs.Form.{whole, letter, i32At, u16At, startsb, cornerRecords, cellRecords}
 use Rattle.archive.specs.Records.{starts-long, corners-none, cells-none}
 use Rattle.archive.specs.Scan.{markIn}
 use Rattle.archive.specs.Bytes.{Octets, octets-drop, over, whole-below, bytes-back, Word, signed-word, signed-back}
-use Rattle.archive.specs.Writable.{Each, Small}
+use Rattle.archive.specs.Writable.{Each, TwoBytes}
 
 pub starts-letter : (l k : ℕ) (bs : List ℕ) → startsb l k bs ≡ true → letter bs ≡ l
 unfolding startsb
@@ -40,7 +40,7 @@ module _ {bs : List ℕ} (o : Octets bs) where
   unfolding over
   four-below i = omega (arith, whole-below 4 (drop i bs) (octets-drop o i))
 
-  pub two-below : (i : ℕ) → Small (u16At bs i)
+  pub two-below : (i : ℕ) → TwoBytes (u16At bs i)
   unfolding over
   two-below i = omega (arith, whole-below 2 (drop i bs) (octets-drop o i))
 
@@ -75,48 +75,48 @@ module _ {bs : List ℕ} (o : Octets bs) where
 
 module _ (f : ℕ) (bs : List ℕ) where
   pub corners-first : startsb 86 13 bs ≡ true
-      → cornersIn (suc f) bs ≡ (i32At bs 1 ∷ i32At bs 5 ∷ i32At bs 9 ∷ cornersIn f (drop 13 bs) .0, cornersIn f (drop 13 bs) .1)
-  unfolding cornersIn
-  corners-first t = rw (t, cornersIn)
+      → cornerRecords (suc f) bs ≡ (i32At bs 1 ∷ i32At bs 5 ∷ i32At bs 9 ∷ cornerRecords f (drop 13 bs) .0, cornerRecords f (drop 13 bs) .1)
+  unfolding cornerRecords
+  corners-first t = rw (t, cornerRecords)
 
-  pub cells-first : startsb 84 9 bs ≡ true
-      → cellsIn (suc f) bs ≡ (u16At bs 1 ∷ u16At bs 3 ∷ u16At bs 5 ∷ u16At bs 7 ∷ cellsIn f (drop 9 bs) .0, cellsIn f (drop 9 bs) .1)
-  unfolding cellsIn
-  cells-first t = rw (t, cellsIn)
+  pub cell-records-first : startsb 84 9 bs ≡ true
+      → cellRecords (suc f) bs ≡ (u16At bs 1 ∷ u16At bs 3 ∷ u16At bs 5 ∷ u16At bs 7 ∷ cellRecords f (drop 9 bs) .0, cellRecords f (drop 9 bs) .1)
+  unfolding cellRecords
+  cell-records-first t = rw (t, cellRecords)
 
 -- the list r .0 can be written, and with the rest r .1 behind it is bs
-pub record Corners (bs : List ℕ) (r : List ℤ × List ℕ) : Type 0 where
+pub record CornersRead (bs : List ℕ) (r : List ℤ × List ℕ) : Type 0 where
   pub written : cornerBytes (r .0) ++ r .1 ≡ bs
   pub words : Each Word (r .0)
 
 pub record Cells (bs : List ℕ) (r : List ℕ × List ℕ) : Type 0 where
   pub written : cellBytes (r .0) ++ r .1 ≡ bs
-  pub numbers : Each Small (r .0)
+  pub numbers : Each TwoBytes (r .0)
 
-pub corners-written : (f : ℕ) (bs : List ℕ) → Octets bs → Corners bs (cornersIn f bs)
-unfolding cornersIn cornerBytes Each
+pub corners-written : (f : ℕ) (bs : List ℕ) → Octets bs → CornersRead bs (cornerRecords f bs)
+unfolding cornerRecords cornerBytes Each
 corners-written zero bs o = record { written = refl; words = tt }
 corners-written (suc f) bs o = go (startsb 86 13 bs) refl (corners-written f (drop 13 bs) (octets-drop o 13))
   where
-    go : (b : Bool) → startsb 86 13 bs ≡ b → Corners (drop 13 bs) (cornersIn f (drop 13 bs)) → Corners bs (cornersIn (suc f) bs)
+    go : (b : Bool) → startsb 86 13 bs ≡ b → CornersRead (drop 13 bs) (cornerRecords f (drop 13 bs)) → CornersRead bs (cornerRecords (suc f) bs)
     go true t i =
         rw (corners-first f bs t)
         (record {
-          written = corner-written o t (cornersIn f (drop 13 bs) .0) (cornersIn f (drop 13 bs) .1) (i .written);
+          written = corner-written o t (cornerRecords f (drop 13 bs) .0) (cornerRecords f (drop 13 bs) .1) (i .written);
           words = (signed-word _ (four-below o 1), (signed-word _ (four-below o 5), (signed-word _ (four-below o 9), i .words)));
         })
     go false t i = rw (corners-none f bs t) (record { written = refl; words = tt })
 
-pub cells-written : (f : ℕ) (bs : List ℕ) → Octets bs → Cells bs (cellsIn f bs)
-unfolding cellsIn cellBytes Each
+pub cells-written : (f : ℕ) (bs : List ℕ) → Octets bs → Cells bs (cellRecords f bs)
+unfolding cellRecords cellBytes Each
 cells-written zero bs o = record { written = refl; numbers = tt }
 cells-written (suc f) bs o = go (startsb 84 9 bs) refl (cells-written f (drop 9 bs) (octets-drop o 9))
   where
-    go : (b : Bool) → startsb 84 9 bs ≡ b → Cells (drop 9 bs) (cellsIn f (drop 9 bs)) → Cells bs (cellsIn (suc f) bs)
+    go : (b : Bool) → startsb 84 9 bs ≡ b → Cells (drop 9 bs) (cellRecords f (drop 9 bs)) → Cells bs (cellRecords (suc f) bs)
     go true t i =
-        rw (cells-first f bs t)
+        rw (cell-records-first f bs t)
         (record {
-          written = cell-written o t (cellsIn f (drop 9 bs) .0) (cellsIn f (drop 9 bs) .1) (i .written);
+          written = cell-written o t (cellRecords f (drop 9 bs) .0) (cellRecords f (drop 9 bs) .1) (i .written);
           numbers = (two-below o 1, (two-below o 3, (two-below o 5, (two-below o 7, i .numbers))));
         })
     go false t i = rw (cells-none f bs t) (record { written = refl; numbers = tt })

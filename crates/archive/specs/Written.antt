@@ -17,10 +17,10 @@ use Rattle.archive.specs.Job.{cornerBytes, cellBytes, markBytes, jobByte
 use Rattle.archive.specs.Form.{letter, u16At, startsb, Steps, stepsIn, markedb, emptyb, behindCorners, behindCells, formb, jobOf}
 use Rattle.archive.specs.Records.{recordsIn, starts-long, corners-many, corners-behind, cells-many, cells-behind}
 use Rattle.archive.specs.Tables.{Mark}
-use Rattle.archive.specs.Scan.{leastOf, markb, marked-least, markIn, no-fuel, steps-mark, steps-step, steps-end}
+use Rattle.archive.specs.Scan.{leastOf, markRecordb, marked-least, markIn, no-fuel, steps-mark, steps-step, steps-end}
 use Rattle.archive.specs.Measure.{stepsBytes}
 use Rattle.archive.specs.Bytes.{Octets, octets-drop}
-use Rattle.archive.specs.Writable.{Each, Rises, Small, Writable}
+use Rattle.archive.specs.Writable.{Each, Rises, TwoBytes, Writable}
 use Rattle.archive.specs.Reading.{tailBytes, tail-is}
 use Rattle.archive.specs.Writing.{starts-letter, head-is, two-below, mark-written, corners-written, cells-written}
 
@@ -38,7 +38,7 @@ unfolding leastOf leastFrom
 least-first [] = refl
 least-first (m ∷ ms) = least-from 0 m ms
 
-rises-snoc : (k : ℕ) (ms : List Mark) (m : Mark) → Rises k ms → leastFrom k ms ≤ m .0 → Small (m .0) → 1 ≤ m .1 → m .1 ≤ 2 → Rises k (ms ++ (m ∷ []))
+rises-snoc : (k : ℕ) (ms : List Mark) (m : Mark) → Rises k ms → leastFrom k ms ≤ m .0 → TwoBytes (m .0) → 1 ≤ m .1 → m .1 ≤ 2 → Rises k (ms ++ (m ∷ []))
 unfolding Rises leastFrom
 rises-snoc k [] m r a b c d = (a, b, c, d, tt)
 rises-snoc k (n ∷ ms) m r a b c d = (r .0, r .1, r .2, r .3, rises-snoc (suc (n .0)) ms m (r .4) a b c d)
@@ -50,8 +50,8 @@ record Passed (least : ℕ) (bs : List ℕ) : Type 0 where
   high : getD bs 3 0 ≤ 2
   follows : least ≤ u16At bs 1
 
-passed : (least : ℕ) (bs : List ℕ) → T (markb least bs) → Passed least bs
-unfolding markb
+passed : (least : ℕ) (bs : List ℕ) → T (markRecordb least bs) → Passed least bs
+unfolding markRecordb
 passed least bs t =
     let s = startsb 77 4 bs in
     let a = leb 1 (getD bs 3 0) in

@@ -7,14 +7,14 @@ ghost use lib.ListN.{length, drop};
 ghost use lib.Seq.{sets};
 ghost use Rattle.base.specs.Lent.{was, is};
 ghost use Rattle.archive.specs.Job.{bytes, word, cornerBytes, cellBytes, markBytes, jobBytes};
-ghost use Rattle.archive.specs.Form.{startsb, whole, signed, i32At, cornersIn, cellsIn, formb, jobOf};
+ghost use Rattle.archive.specs.Form.{startsb, whole, signed, i32At, cornerRecords, cellRecords, formb, jobOf};
 ghost use Rattle.archive.specs.Tables.{markedOf, marksOf, endsOf, stepsOf};
 ghost use Rattle.archive.specs.Measure.{stepsBytes};
 ghost use Rattle.archive.specs.Stored.{jobFrom, EndsRise, Storable};
-ghost use Rattle.archive.specs.Loaded.{inFront, stepsAt, StepsFit, Room, Loaded};
+ghost use Rattle.archive.specs.Loaded.{inFront, stepsAt, StepsFit, LoadRoom, Loaded};
 ghost use Rattle.archive.specs.Records.{recordsIn};
-ghost use Rattle.archive.specs.Scan.{markb, endb, Scanned};
-ghost use Rattle.archive.specs.Examined.{Examined, CountsOf};
+ghost use Rattle.archive.specs.Scan.{markRecordb, endb, Scanned};
+ghost use Rattle.archive.specs.Examined.{FormExamined, CountsOf};
 
 // Whether an archive is in the form, and how many records of each kind it has where it is.
 pub struct Form {
@@ -68,7 +68,7 @@ fn count_records(bytes: &[u8], from: usize, letter: u8, size: usize) -> usize
 // Whether a mark stands at a place, on the cell least or a later one.
 fn is_mark(bytes: &[u8], at: usize, least: usize) -> bool
     requires { ⌜ at ≤ length (now bytes) ⌝ }
-    ensures { λ r. ⌜ r ≡ markb least (drop at (was bytes)) ⌝ }
+    ensures { λ r. ⌜ r ≡ markRecordb least (drop at (was bytes)) ⌝ }
 {
     if !starts(bytes, at, 77, 4) {
         return false;
@@ -132,7 +132,7 @@ fn scan_steps(bytes: &[u8], from: usize) -> Scan
 
 // Whether bytes are an archive in the form.
 pub fn examine_form(bytes: &[u8]) -> Form
-    ensures { λ r. ⌜ Examined (was bytes) r ⌝ }
+    ensures { λ r. ⌜ FormExamined (was bytes) r ⌝ }
 {
     if bytes.len() > 65536 {
         return Form {
@@ -184,10 +184,10 @@ fn coordinate(bytes: &[u8], at: usize) -> i32
 
 // The n numbers of the corners, three a record.
 fn load_positions(bytes: &[u8], n: usize, positions: &mut [i32])
-    requires { ⌜ n ≡ length (cornersIn (length (now bytes)) (now bytes) .0) ⌝ }
+    requires { ⌜ n ≡ length (cornerRecords (length (now bytes)) (now bytes) .0) ⌝ }
     requires { ⌜ n ≤ length (now positions) ⌝ }
     ensures { λ r. ⌜ is positions
-        ≡ inFront (cornersIn (length (was bytes)) (was bytes) .0) (was positions) ⌝ }
+        ≡ inFront (cornerRecords (length (was bytes)) (was bytes) .0) (was positions) ⌝ }
 {
     for k in 0..n {
         positions[k] = coordinate(bytes, 13 * (k / 3) + 4 * (k % 3) + 1);
@@ -197,10 +197,10 @@ fn load_positions(bytes: &[u8], n: usize, positions: &mut [i32])
 // The n numbers of the cells, four a record, from a place on.
 fn load_cells(bytes: &[u8], from: usize, n: usize, cells: &mut [u16])
     requires { ⌜ from ≤ length (now bytes) ⌝ }
-    requires { ⌜ n ≡ length (cellsIn (length (now bytes)) (drop from (now bytes)) .0) ⌝ }
+    requires { ⌜ n ≡ length (cellRecords (length (now bytes)) (drop from (now bytes)) .0) ⌝ }
     requires { ⌜ n ≤ length (now cells) ⌝ }
     ensures { λ r. ⌜ is cells
-        ≡ inFront (cellsIn (length (was bytes)) (drop from (was bytes)) .0) (was cells) ⌝ }
+        ≡ inFront (cellRecords (length (was bytes)) (drop from (was bytes)) .0) (was cells) ⌝ }
 {
     for k in 0..n {
         cells[k] = number(bytes, from + 9 * (k / 4) + 2 * (k % 4) + 1) as u16;
@@ -243,7 +243,7 @@ pub fn load(
 )
     requires { ⌜ T (formb (now bytes)) ⌝ }
     requires { ⌜ CountsOf (now bytes) form ⌝ }
-    requires { ⌜ Room (jobOf (now bytes)) (now positions) (now cells) (now marked) (now marks) (now ends) ⌝ }
+    requires { ⌜ LoadRoom (jobOf (now bytes)) (now positions) (now cells) (now marked) (now marks) (now ends) ⌝ }
     ensures { λ r. ⌜ Loaded (jobOf (was bytes))
         (was positions) (was cells) (was marked) (was marks) (was ends)
         (is positions) (is cells) (is marked) (is marks) (is ends) ⌝ }

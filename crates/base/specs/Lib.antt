@@ -7,3 +7,5 @@ pub mod Fours
 pub mod Refuse
 pub mod Lent
 pub mod Limits
+pub mod Integers
+pub mod Range

@@ -12,7 +12,7 @@ use Rattle.base.specs.Lists.{sameb}
 use Rattle.cutting.specs.Rule.{low, high}
 use Rattle.mesh.specs.Cells.{Cell, corner, edge, edges, joinsb, heldb}
 use Rattle.mesh.specs.Weights.{Point, point}
-use Rattle.families.specs.Kuhn.{step, gap}
+use Rattle.families.specs.Kuhn.{steps-between, gap}
 use Rattle.lattice.specs.Tails.{tailSum}
 use Rattle.lattice.specs.Regular.{unit-even, cancel, Regular, On, corner-on, point-on, mid-off}
 use Rattle.families.specs.Children.{middle, middle-ends}
@@ -24,7 +24,7 @@ module _ (n m l : ℕ) (q : Cell Point) (s : Regular n m q) where
   not-both-on h g i j hi hj a b =
       let x = s .coordinates in
       let (p, w) = gap x (s .kuhn) i j hi hj in
-      let t = step x (s .kuhn) i j (omega arith) hj p in
+      let t = steps-between x (s .kuhn) i j (omega arith) hj p in
       let (v, _, u) = unit-even l m h g in
       let y = a .0 p * v in
       let z = b .0 p * v in

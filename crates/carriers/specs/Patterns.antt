@@ -1,5 +1,5 @@
 -- A pattern splits the edges that it is the pattern of.
--- Laws: split-bits (bits), split-pattern (a pattern's edges), pattern-below (it is below 64), split-none (the pattern 0 splits
+-- Laws: split-bits (bits), split-pattern (a pattern's edges), pattern-six (it is below 64), split-none (the pattern 0 splits
 -- nothing), split-red (the pattern 63 splits all six).
 use mathlib.Core.Path.{_≡_, refl, _∙_, ap}
 use mathlib.Core.Bool.{Bool, true, false}
@@ -39,8 +39,8 @@ module _ {A : Type 0} (o : A) (same : A → A → Bool) (es : List (A × A)) (c 
       split-bits (map (heldb same es) (edges o c)) x
       ∙ getD-map (heldb same es) (edges o c) x (o, o) false (omega (arith, edge-count o c)) ∙ ap (heldb same es) (edge-at o c x h)
 
-  pub pattern-below : pattern o same es c < 64
+  pub pattern-six : pattern o same es c < 64
   unfolding pattern edges bitsOf
-  pattern-below =
+  pattern-six =
       let held : ℕ → Bool = λ e. heldb same es (edge o c e) in
       omega (arith, one-most (held 0), one-most (held 1), one-most (held 2), one-most (held 3), one-most (held 4), one-most (held 5))

@@ -17,7 +17,7 @@ use Rattle.mesh.specs.Cells.{Cell, redb, patternOf, edge, edges, joinsb, heldb,
 use Rattle.mesh.specs.Weights.{Point, point}
 use Rattle.lattice.specs.Regular.{Regular}
 use Rattle.carriers.specs.Carrier.{carried-edge, shared-edge}
-use Rattle.carriers.specs.Patterns.{split-none, split-red, split-pattern, pattern-below}
+use Rattle.carriers.specs.Patterns.{split-none, split-red, split-pattern, pattern-six}
 use Rattle.carriers.specs.Joins.{Edge}
 
 abbrev pub StatusIn : List Edge → Cell Point → ℕ → Type 0
@@ -50,7 +50,7 @@ pattern-small es c s q = go (redb s) refl (c .regular) refl
   where
     go : (b : Bool) → redb s ≡ b → (d : Bool) → c .regular ≡ d → patternOf s < 64
     go true e d f = rw (pattern-red s e) (omega arith)
-    go false e true f = let w : s ≡ pattern [] sameb es c = status-green es c s q (rw f tt) e in rw (pattern-green s e, w) (pattern-below [] sameb es c)
+    go false e true f = let w : s ≡ pattern [] sameb es c = status-green es c s q (rw f tt) e in rw (pattern-green s e, w) (pattern-six [] sameb es c)
     go false e false f = let w : s ≡ 0 = rw (f, statusOf) at q in rw (pattern-green s e, w) (omega arith)
 
 module _ (n k : ℕ) (g p : Cell Point) (h : k < 10) (r : Regular n k g) (s : Regular n k p) (es : List Edge) (reds : (e : Edge) → T (heldb sameb (edges [] p) e) → T (heldb sameb es e))

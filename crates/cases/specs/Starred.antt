@@ -29,8 +29,8 @@ unfolding level1
 C = 64 ∷ (level1 ++ replicate 16 0)
 
 -- marks of C: those of the cells 9 to 16, and then 17 to 24
-pub marksOf : List ℕ → List ℕ → List ℕ
-marksOf l m = replicate 9 0 ++ (l ++ m)
+pub marksOfC : List ℕ → List ℕ → List ℕ
+marksOfC l m = replicate 9 0 ++ (l ++ m)
 
 pub record Starred : Type 0 where
   pub pattern1 : family 1 ≡ map child (0179 ∷ 1479 ∷ [])
@@ -45,16 +45,16 @@ pub record Starred : Type 0 where
   -- B, cell 1 marked 1: level 1 is 64 11 1 0 1 0 0 0, level 2 sixteen leaves. Call it C.
   pub B-refined : step B (0 ∷ 1 ∷ replicate 7 0) ≡ (64 ∷ []) ∷ level1 ∷ replicate 16 0 ∷ []
   -- C, cell 17 marked 1: level 1 is 64 64 21 4 11 2 0 1, level 2 has 30.
-  pub C-refined : getD (step C (marksOf (replicate 8 0) (1 ∷ replicate 7 0))) 1 [] ≡ 64 ∷ 64 ∷ 21 ∷ 4 ∷ 11 ∷ 2 ∷ 0 ∷ 1 ∷ []
-  pub C-refined-above : length (getD (step C (marksOf (replicate 8 0) (1 ∷ replicate 7 0))) 2 []) ≡ 30
+  pub C-refined : getD (step C (marksOfC (replicate 8 0) (1 ∷ replicate 7 0))) 1 [] ≡ 64 ∷ 64 ∷ 21 ∷ 4 ∷ 11 ∷ 2 ∷ 0 ∷ 1 ∷ []
+  pub C-refined-above : length (getD (step C (marksOfC (replicate 8 0) (1 ∷ replicate 7 0))) 2 []) ≡ 30
   -- C, cells 9 to 16 marked 2: B. Only 9 to 15: C.
-  pub C-deleted : step C (marksOf (replicate 8 2) (replicate 8 0)) ≡ (64 ∷ []) ∷ replicate 8 0 ∷ []
-  pub C-kept : step C (marksOf (replicate 7 2 ++ (0 ∷ [])) (replicate 8 0)) ≡ (64 ∷ []) ∷ level1 ∷ replicate 16 0 ∷ []
+  pub C-deleted : step C (marksOfC (replicate 8 2) (replicate 8 0)) ≡ (64 ∷ []) ∷ replicate 8 0 ∷ []
+  pub C-kept : step C (marksOfC (replicate 7 2 ++ (0 ∷ [])) (replicate 8 0)) ≡ (64 ∷ []) ∷ level1 ∷ replicate 16 0 ∷ []
   -- C, 9 to 16 marked 2 and 17 marked 1: cell 1 is closed with 56.
-  pub C-both : getD (getD (step C (marksOf (replicate 8 2) (1 ∷ replicate 7 0))) 1 []) 0 0 ≡ 56
+  pub C-both : getD (getD (step C (marksOfC (replicate 8 2) (1 ∷ replicate 7 0))) 1 []) 0 0 ≡ 56
 
 pub starred : Starred
-unfolding family step level1 B C marksOf
+unfolding family step level1 B C marksOfC
 starred =
     record {
       pattern1 = refl;

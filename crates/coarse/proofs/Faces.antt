@@ -6,7 +6,7 @@ use Prim.Native.Nat.{ℕ, zero, suc, _*_, _/_, _%_, _<_}
 use native.Mathlib.Omega.{arith}
 use lib.ListN.{length, getD}
 use Rattle.base.specs.Fours.{fours, faces, length-fours}
-use Rattle.coarse.specs.Cells.{faceAt}
+use Rattle.coarse.specs.Cells.{faceOfFour}
 use Rattle.coarse.proofs.Rows.{in-fours}
 
 pub length-faces : (qs : List (List ℕ)) → length (flatMap faces qs) ≡ 4 * length qs
@@ -27,8 +27,8 @@ four-faces (q ∷ qs) (suc (suc (suc (suc i)))) h =
     rw (m, k) (four-faces qs i (omega arith))
 
 -- the face i from its cell
-pub face-of : (ts : List ℕ) (i : ℕ) → i / 4 < length ts / 4 → {q : List ℕ} → q ≡ getD (fours ts) (i / 4) [] → (k : ℕ) → i % 4 ≡ k → getD (faces q) k [] ≡ faceAt ts i
-unfolding faceAt
+pub face-of : (ts : List ℕ) (i : ℕ) → i / 4 < length ts / 4 → {q : List ℕ} → q ≡ getD (fours ts) (i / 4) [] → (k : ℕ) → i % 4 ≡ k → getD (faces q) k [] ≡ faceOfFour ts i
+unfolding faceOfFour
 face-of ts i h e k m =
     ap (λ (u : List ℕ). getD (faces u) k []) e ∙ ap (λ (j : ℕ). getD (faces (getD (fours ts) (i / 4) [])) j []) (sym m)
     ∙ sym (four-faces (fours ts) i (in-fours ts (i / 4) h))

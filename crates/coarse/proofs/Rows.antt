@@ -13,8 +13,8 @@ use Rattle.base.specs.Lists.{allb, allb-at}
 use Rattle.base.specs.Bools.{is-true, and-left, and-right}
 use Rattle.base.specs.Fours.{fours, length-fours}
 use Rattle.mesh.specs.Coarse.{positionsb, cellb, cellsb}
-use Rattle.coarse.specs.Cells.{Placed}
-use Rattle.coarse.specs.Volume.{Small, Corners}
+use Rattle.coarse.specs.Cells.{PlacedCells}
+use Rattle.coarse.specs.Volume.{Small, CornersThere}
 
 -- the cell k
 abbrev four : List ℕ → ℕ → List ℕ
@@ -94,7 +94,7 @@ cell-passes : (n : ℕ) (ts : List ℕ) → cellsb n (fours ts) ≡ true → (k 
 unfolding cellsb
 cell-passes n ts e k h = all-at (cellb n) [] (fours ts) e k (in-fours ts k h)
 
-pub placed-at : {ps : List ℤ} {ts : List ℕ} → Placed ps ts → (k : ℕ) → k < length ts / 4 → {a b c d : ℕ} → a ∷ b ∷ c ∷ d ∷ [] ≡ getD (fours ts) k [] → Corners ps a b c d
+pub placed-at : {ps : List ℤ} {ts : List ℕ} → PlacedCells ps ts → (k : ℕ) → k < length ts / 4 → {a b c d : ℕ} → a ∷ b ∷ c ∷ d ∷ [] ≡ getD (fours ts) k [] → CornersThere ps a b c d
 placed-at {ps} {ts} p k h {a} {b} {c} {d} e =
     let n = near ps (p .positions) in
     let r = rising (length ps / 3) a b c d (rw e (cell-passes (length ps / 3) ts (p .cells) k h)) in

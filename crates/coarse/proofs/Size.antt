@@ -2,18 +2,19 @@
 -- the width's power.
 -- Assumes nothing.
 use mathlib.Core.Path.{_≡_, refl, sym, _∙_}
-use mathlib.Core.Bool.{Bool, true, false, cond}
-use Prim.Native.Nat.{ℕ, zero, suc, _+_, _-_, _*_, _^_, _≤_, _<_}
+use mathlib.Core.Bool.{Bool, true, false}
+use Prim.Native.Nat.{ℕ, zero, suc, _+_, _-_, _*_, _^_, _<_}
 use native.Mathlib.Nat.{mul-le-mul}
 use native.Mathlib.Omega.{arith}
-use lib.Dec.{ltb, leb}
-use lib.IntN.{ℤ, pos, negsuc, natAbs, negℤ, subℕ, _+ℤ_, _-ℤ_, _*ℤ_}
+use lib.Dec.{leb}
+use lib.IntN.{ℤ, pos, negsuc, natAbs, negℤ, _+ℤ_, _-ℤ_, _*ℤ_}
 use lib.Signed.{mag, ltZ, leZ}
 use borrow.Author.Tests.{ltb-true, ltb-false, le-leb, lt-leb}
 use mir.Syntax.{Width, w32, w64}
 use mir.Val.{SFits, hbits, toZ, ofZ}
 use mir.Facts.{toZ-ofZ}
 use Rattle.coarse.specs.Volume.{Small}
+use Rattle.base.specs.Integers.{add-size}
 
 neg-size : (z : ℤ) → natAbs (negℤ z) ≡ natAbs z
 neg-size (pos zero) = refl
@@ -25,19 +26,6 @@ mul-size (pos a) (pos b) = refl
 mul-size (pos a) (negsuc b) = neg-size (pos (a * suc b))
 mul-size (negsuc a) (pos b) = neg-size (pos (suc a * b))
 mul-size (negsuc a) (negsuc b) = refl
-
-subℕ-size : (a b : ℕ) → natAbs (subℕ a b) ≤ a + b
-subℕ-size a b = go (ltb a b) refl
-  where
-    go : (t : Bool) → ltb a b ≡ t → natAbs (cond t (negsuc (b - suc a)) (pos (a - b))) ≤ a + b
-    go true q = omega (arith, ltb-true a b q)
-    go false q = omega (arith, ltb-false a b q)
-
-add-size : (x y : ℤ) → natAbs (x +ℤ y) ≤ natAbs x + natAbs y
-add-size (pos a) (pos b) = omega arith
-add-size (pos a) (negsuc b) = subℕ-size a (suc b)
-add-size (negsuc a) (pos b) = omega (arith, subℕ-size b (suc a))
-add-size (negsuc a) (negsuc b) = omega arith
 
 small-fits : {w : Width} {n : ℕ} {z : ℤ} → Small n z → n < 2 ^ hbits w → SFits w z
 small-fits {z = pos a} p h = record { sfits = omega (arith, p .size) }

@@ -10,7 +10,7 @@ use lib.Dec.{lit<}
 use lib.ListN.{length, getD, replicate, length-replicate}
 use Rattle.base.specs.Fours.{fours, faces, length-fours}
 use Rattle.mesh.specs.Coarse.{twiceb}
-use Rattle.coarse.specs.Cells.{faceAt, Ranked, crowdedb}
+use Rattle.coarse.specs.Cells.{faceOfFour, Ranked, crowdedb}
 use Rattle.coarse.specs.Tally.{high, lowCell, lowFace, Tables, Open, Tallied}
 use Rattle.coarse.proofs.Rows.{in-fours}
 use Rattle.coarse.proofs.Faces.{length-faces, in-faces}
@@ -55,14 +55,14 @@ module _ {ts : List ℕ} (r : Ranked ts) where
       faces-open x y =
           meets-open high lowFace 2 (flatMap faces (fours ts)) s (in-faces ts i (r .whole) h) (omega (arith, length-faces (fours ts), length-fours ts, r .few)) (lit< tt) x y
 
-      module _ {t : List ℕ} (e : t ≡ faceAt ts i) {x y : ℕ} (ex : x ≡ high t) (ey : y ≡ lowFace t)
+      module _ {t : List ℕ} (e : t ≡ faceOfFour ts i) {x y : ℕ} (ex : x ≡ high t) (ey : y ≡ lowFace t)
           {xs′ ys′ heads′ links′ counts′ : List ℕ} {n′ c : ℕ} (a : Tallied xs ys counts n x y xs′ ys′ heads′ links′ counts′ n′ c) where
         pub faces-turn : c ≤ 2 → Sofar high lowFace 2 (flatMap faces (fours ts)) xs′ ys′ heads′ links′ counts′ n′ (i + 1)
-        unfolding faceAt
+        unfolding faceOfFour
         faces-turn l = meets-turn high lowFace 2 (flatMap faces (fours ts)) s (in-faces ts i (r .whole) h) (ex ∙ ap high e) (ey ∙ ap lowFace e) a l
 
         pub faces-over : 2 < c → false ≡ not (crowdedb (fours ts))
-        unfolding faceAt
+        unfolding faceOfFour
         faces-over l =
             sym (ap not (crowd-some (cells ts (rw (r .cells) tt)) i (in-faces ts i (r .whole) h)
             (meets-over high lowFace 2 (flatMap faces (fours ts)) s (in-faces ts i (r .whole) h) (ex ∙ ap high e) (ey ∙ ap lowFace e) a l)))

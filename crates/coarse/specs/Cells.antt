@@ -1,7 +1,7 @@
 -- The code's cells and faces, and what of a mesh is known once its first tests have passed.
---   corners q, faceCorners f   the corner numbers of the cell q, of the face f
---   faceAt ts i                the face i of the cells ts, four faces a cell
---   Placed ps ts               the mesh passes refusals 2 and 3
+--   cornersOfCell q, faceCorners f   the corner numbers of the cell q, of the face f
+--   faceOfFour ts i                the face i of the cells ts, four faces a cell
+--   PlacedCells ps ts               the mesh passes refusals 2 and 3
 --   Ranked ts                  whole cells, at most 256 of them, each four rising corner numbers below 512
 --   crowdedb qs                a face is in three of the cells qs
 use mathlib.Core.Path.{_≡_}
@@ -17,17 +17,17 @@ use Rattle.mesh.specs.Coarse.{cornerCount, positionsb, cellsb}
 use Rattle.coarse.specs.declared.Cell.{Cell}
 use Rattle.coarse.specs.declared.Face.{Face}
 
-abbrev pub corners : Cell → List ℕ
-corners q = q .a ∷ q .b ∷ q .c ∷ q .d ∷ []
+abbrev pub cornersOfCell : Cell → List ℕ
+cornersOfCell q = q .a ∷ q .b ∷ q .c ∷ q .d ∷ []
 
 abbrev pub faceCorners : Face → List ℕ
 faceCorners f = f .a ∷ f .b ∷ f .c ∷ []
 
-unfoldable pub faceAt : List ℕ → ℕ → List ℕ
+unfoldable pub faceOfFour : List ℕ → ℕ → List ℕ
 unfolding flatMap faces fours
-faceAt ts i = getD (flatMap faces (fours ts)) i []
+faceOfFour ts i = getD (flatMap faces (fours ts)) i []
 
-pub record Placed (ps : List ℤ) (ts : List ℕ) : Type 0 where
+pub record PlacedCells (ps : List ℤ) (ts : List ℕ) : Type 0 where
   pub positions : positionsb ps ≡ true
   pub cells : cellsb (cornerCount ps) (fours ts) ≡ true
 

@@ -10,9 +10,9 @@ ghost use lib.ListN.{length, getD};
 ghost use Rattle.base.specs.Fours.{fours};
 ghost use Rattle.base.specs.Lent.{was, is};
 ghost use Rattle.cutting.specs.Rule.{zerob};
-ghost use Rattle.mesh.specs.Coarse.{countsb, positionsb, cellb, cellsb, coordinate, determinant, solidb, twiceb, singleb, meshAnswer};
-ghost use Rattle.coarse.specs.Cells.{corners, faceCorners, faceAt, Placed, Ranked, crowdedb};
-ghost use Rattle.coarse.specs.Volume.{Small, Corner, Corners, edgeOf, termOf};
+ghost use Rattle.mesh.specs.Coarse.{countsb, positionsb, cellb, cellsb, coordinateAt, determinant, solidb, twiceb, singleb, meshAnswer};
+ghost use Rattle.coarse.specs.Cells.{cornersOfCell, faceCorners, faceOfFour, PlacedCells, Ranked, crowdedb};
+ghost use Rattle.coarse.specs.Volume.{Small, CornerThere, CornersThere, edgeVector, termOf};
 ghost use Rattle.coarse.specs.Tally.{Open, Tallied};
 
 // A cell's corner numbers.
@@ -30,7 +30,7 @@ struct Face {
     c: u16,
 }
 
-// Refusal 1: how many corners and cells.
+// Refusal 1: how many cornersOfCell and cells.
 fn counts_ok(positions: &[i32], cells: &[u16]) -> bool
     ensures { λ r. ⌜ r ≡ countsb (was positions) (was cells) ⌝ }
 {
@@ -40,11 +40,11 @@ fn counts_ok(positions: &[i32], cells: &[u16]) -> bool
     if cells.len() % 4 != 0 {
         return false;
     }
-    let corners = positions.len() / 3;
-    if corners < 4 {
+    let cornersOfCell = positions.len() / 3;
+    if cornersOfCell < 4 {
         return false;
     }
-    if corners > 512 {
+    if cornersOfCell > 512 {
         return false;
     }
     let count = cells.len() / 4;
@@ -79,7 +79,7 @@ fn positions_ok(positions: &[i32]) -> bool
 // Cell k of the flat list.
 fn cell_at(cells: &[u16], k: usize) -> Cell
     requires { ⌜ k < length (now cells) / 4 ⌝ }
-    ensures { λ r. ⌜ corners r ≡ getD (fours (was cells)) k [] ⌝ }
+    ensures { λ r. ⌜ cornersOfCell r ≡ getD (fours (was cells)) k [] ⌝ }
 {
     Cell {
         a: cells[4 * k],
@@ -89,9 +89,9 @@ fn cell_at(cells: &[u16], k: usize) -> Cell
     }
 }
 
-// Whether a cell's corner numbers rise, and are of so many corners.
+// Whether a cell's corner numbers rise, and are of so many cornersOfCell.
 fn ascending(q: Cell, count: usize) -> bool
-    ensures { λ r. ⌜ r ≡ cellb count (corners q) ⌝ }
+    ensures { λ r. ⌜ r ≡ cellb count (cornersOfCell q) ⌝ }
 {
     if q.a >= q.b {
         return false;
@@ -117,28 +117,28 @@ fn cells_ok(cells: &[u16], count: usize) -> bool
     true
 }
 
-// A coordinate of a corner.
+// A coordinateAt of a corner.
 fn coordinate_of(positions: &[i32], corner: u16, axis: usize) -> i64
-    requires { ⌜ Corner (now positions) corner ⌝ }
+    requires { ⌜ CornerThere (now positions) corner ⌝ }
     requires { ⌜ axis < 3 ⌝ }
-    ensures { λ r. ⌜ (r ≡ coordinate (was positions) corner axis) × Small 500000 r ⌝ }
+    ensures { λ r. ⌜ (r ≡ coordinateAt (was positions) corner axis) × Small 500000 r ⌝ }
 {
     positions[3 * corner as usize + axis] as i64
 }
 
-// A coordinate of the vector from corner a to corner b.
+// A coordinateAt of the vector from corner a to corner b.
 fn edge(positions: &[i32], a: u16, b: u16, axis: usize) -> i64
-    requires { ⌜ Corner (now positions) a ⌝ }
-    requires { ⌜ Corner (now positions) b ⌝ }
+    requires { ⌜ CornerThere (now positions) a ⌝ }
+    requires { ⌜ CornerThere (now positions) b ⌝ }
     requires { ⌜ axis < 3 ⌝ }
-    ensures { λ r. ⌜ (r ≡ edgeOf (was positions) a b axis) × Small 1000000 r ⌝ }
+    ensures { λ r. ⌜ (r ≡ edgeVector (was positions) a b axis) × Small 1000000 r ⌝ }
 {
     coordinate_of(positions, b, axis) - coordinate_of(positions, a, axis)
 }
 
-// One of the three terms of the determinant: a coordinate of the vector to b times a minor of those to c and d.
+// One of the three terms of the determinant: a coordinateAt of the vector to b times a minor of those to c and d.
 fn term(positions: &[i32], a: u16, b: u16, c: u16, d: u16, i: usize, j: usize, k: usize) -> i64
-    requires { ⌜ Corners (now positions) a b c d ⌝ }
+    requires { ⌜ CornersThere (now positions) a b c d ⌝ }
     requires { ⌜ (i < 3) × (j < 3) × (k < 3) ⌝ }
     ensures { λ r. ⌜ (r ≡ termOf (was positions) a b c d i j k) × Small 2000000000000000000 r ⌝ }
 {
@@ -149,8 +149,8 @@ fn term(positions: &[i32], a: u16, b: u16, c: u16, d: u16, i: usize, j: usize, k
 
 // Whether a cell is not flat.
 fn solid_cell(positions: &[i32], cell: Cell) -> bool
-    requires { ⌜ Corners (now positions) (cell .a) (cell .b) (cell .c) (cell .d) ⌝ }
-    ensures { λ r. ⌜ r ≡ not (zerob (determinant (was positions) (corners cell))) ⌝ }
+    requires { ⌜ CornersThere (now positions) (cell .a) (cell .b) (cell .c) (cell .d) ⌝ }
+    ensures { λ r. ⌜ r ≡ not (zerob (determinant (was positions) (cornersOfCell cell))) ⌝ }
 {
     let a = cell.a;
     let b = cell.b;
@@ -164,7 +164,7 @@ fn solid_cell(positions: &[i32], cell: Cell) -> bool
 
 // Refusal 4: no cell is flat.
 fn solid(positions: &[i32], cells: &[u16]) -> bool
-    requires { ⌜ Placed (now positions) (now cells) ⌝ }
+    requires { ⌜ PlacedCells (now positions) (now cells) ⌝ }
     ensures { λ r. ⌜ r ≡ solidb (was positions) (fours (was cells)) ⌝ }
 {
     for k in 0..cells.len() / 4 {
@@ -213,7 +213,7 @@ fn pair(a: u16, b: u16) -> u32
     a as u32 * 512 + b as u32
 }
 
-// No two cells have the same corners.
+// No two cells have the same cornersOfCell.
 fn cells_differ(cells: &[u16]) -> bool
     requires { ⌜ Ranked (now cells) ⌝ }
     ensures { λ r. ⌜ r ≡ not (twiceb (fours (was cells))) ⌝ }
@@ -250,7 +250,7 @@ fn cells_differ(cells: &[u16]) -> bool
 // Face i of the cells: the cell i / 4 without its corner i % 4.
 fn face_at(cells: &[u16], i: usize) -> Face
     requires { ⌜ i / 4 < length (now cells) / 4 ⌝ }
-    ensures { λ r. ⌜ faceCorners r ≡ faceAt (was cells) i ⌝ }
+    ensures { λ r. ⌜ faceCorners r ≡ faceOfFour (was cells) i ⌝ }
 {
     let q = cell_at(cells, i / 4);
     let out = i % 4;
@@ -316,7 +316,7 @@ fn faces_ok(cells: &[u16]) -> bool
     true
 }
 
-// Refusal 5: no two cells with the same corners, no face in three cells.
+// Refusal 5: no two cells with the same cornersOfCell, no face in three cells.
 fn single(cells: &[u16]) -> bool
     requires { ⌜ Ranked (now cells) ⌝ }
     ensures { λ r. ⌜ r ≡ singleb (fours (was cells)) ⌝ }

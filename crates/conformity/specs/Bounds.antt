@@ -24,10 +24,10 @@ use Rattle.families.specs.Kuhn.{digit-ends}
 use Rattle.lattice.specs.Tails.{tailSum}
 use Rattle.lattice.specs.Regular.{unit, unit-half, Regular}
 use Rattle.base.specs.Each.{all-filter}
-use Rattle.conformity.specs.Leaves.{offb, onFaceb, onBoundaryb, boundaryFaces}
-use Rattle.families.specs.Digits.{cornersAt, lift, triples, usesb}
+use Rattle.conformity.specs.Leaves.{offb, onCoarseFaceb, onBoundaryb, boundaryFaces}
+use Rattle.families.specs.Digits.{cornersAt, lift, digitTriples, usesb}
 use Rattle.families.specs.FaceKinds.{OnSide}
-use Rattle.conformity.specs.Having.{bool-ext, false-from, all-map}
+use Rattle.conformity.specs.Having.{bool-ext, false-from, all-through}
 use Rattle.conformity.specs.Shared.{Below10, digit-of}
 use Rattle.conformity.specs.Sides.{three-at, triple-small, side-small}
 
@@ -84,7 +84,7 @@ module _ (n k : ℕ) (c : Cell Point) (h : k < 10) (r : Regular n k c) (t : List
   -- the corners that some points use lie where the points do
   pub off-used : (f : List ℕ) → Below10 f → T (allb (λ p. offb 0 p t) (map (point c) f)) → (m : ℕ) → T (usesb f m) → T (offb 0 (corner [] c m) t)
   off-used f a w m u =
-      let w' : T (allb (λ x. offb 0 (point c x) t) f) = rw (all-map (point c) (λ p. offb 0 p t) f) at w in
+      let w' : T (allb (λ x. offb 0 (point c x) t) f) = rw (all-through (point c) (λ p. offb 0 p t) f) at w in
       let (i, hi, v) = any-place (λ x. eqb (low x) m || eqb (high x) m) 0 f u in
       let x = getD f i 0 in
       let hx : x < 10 = all-at (λ x. x < 10) 0 f a i hi in
@@ -119,23 +119,23 @@ module _ (n k : ℕ) (c : Cell Point) (h : k < 10) (r : Regular n k c) (t : List
         and-both (offb 0 (point c (lift (z0 ∷ z1 ∷ z2 ∷ []) k)) t) (allb (λ p. offb 0 p t) (map (point c) (map (lift (z0 ∷ z1 ∷ z2 ∷ [])) s)))
         (off-lift k (a .0)) (off-lifts s (a .1))
 
-  pub side-off : (ds : List (List ℕ)) (f : List ℕ) → (w : OnSide ds f) → onFaceb (map (point c) f) t ≡ onFaceb (map (corner [] c) (cornersAt (w .z))) t
-  unfolding onFaceb
+  pub side-off : (ds : List (List ℕ)) (f : List ℕ) → (w : OnSide ds f) → onCoarseFaceb (map (point c) f) t ≡ onCoarseFaceb (map (corner [] c) (cornersAt (w .z))) t
+  unfolding onCoarseFaceb
   side-off ds f w =
       bool-ext (allb (λ p. offb 0 p t) (map (point c) f)) (allb (λ p. offb 0 p t) (map (corner [] c) (cornersAt (w .z)))) there back
     where
       there : T (allb (λ p. offb 0 p t) (map (point c) f)) → T (allb (λ p. offb 0 p t) (map (corner [] c) (cornersAt (w .z))))
       there u =
-          rw (all-map (corner [] c) (λ p. offb 0 p t) (cornersAt (w .z)))
+          rw (all-through (corner [] c) (λ p. offb 0 p t) (cornersAt (w .z)))
           (all-pass (λ m. T (usesb f m)) (λ m. offb 0 (corner [] c m) t) (λ m v. off-used f (side-small ds f w) u m v)
           (cornersAt (w .z)) (all-of (λ m. T (usesb f m)) (usesb f) (λ m t. t) (cornersAt (w .z)) (w .uses)))
 
       back : T (allb (λ p. offb 0 p t) (map (corner [] c) (cornersAt (w .z)))) → T (allb (λ p. offb 0 p t) (map (point c) f))
       back u =
           let v = three-at (w .z) (w .face) in
-          let u' : T (allb (λ m. offb 0 (corner [] c m) t) (cornersAt (w .z))) = rw (all-map (corner [] c) (λ p. offb 0 p t) (cornersAt (w .z))) at u in
+          let u' : T (allb (λ m. offb 0 (corner [] c m) t) (cornersAt (w .z))) = rw (all-through (corner [] c) (λ p. offb 0 p t) (cornersAt (w .z))) at u in
           let a : All (λ m. T (offb 0 (corner [] c m) t)) (v .a ∷ v .b ∷ v .c ∷ []) = rw (v .is) at (all-of (λ m. T (offb 0 (corner [] c m) t)) (λ m. offb 0 (corner [] c m) t) (λ m t. t) (cornersAt (w .z)) u') in
-          let tr = getD triples (w .t) [] in
+          let tr = getD digitTriples (w .t) [] in
           let e : f ≡ map (lift (v .a ∷ v .b ∷ v .c ∷ [])) tr = w .is ∙ ap (λ (z : List ℕ). map (lift z) tr) (v .is) in
           subst (λ (f : List ℕ). T (allb (λ p. offb 0 p t) (map (point c) f))) (sym e)
           (off-lifts (v .a) (v .b) (v .c) (v .ab) (v .bc) (v .c4) (a .0) (a .1 .0) (a .1 .1 .0) tr (triple-small (w .t) (w .below)))
@@ -149,7 +149,7 @@ pub side-bound : (n k : ℕ) (c : Cell Point) → k < 10 → Regular n k c → (
     → onBoundaryb qs (map (point c) f) ≡ onBoundaryb qs (map (corner [] c) (cornersAt (w .z)))
 unfolding onBoundaryb
 side-bound n k c h r qs ds f w =
-    any-same (onFaceb (map (point c) f)) (onFaceb (map (corner [] c) (cornersAt (w .z)))) (boundaryFaces qs) (λ t. side-off n k c h r t ds f w)
+    any-same (onCoarseFaceb (map (point c) f)) (onCoarseFaceb (map (corner [] c) (cornersAt (w .z)))) (boundaryFaces qs) (λ t. side-off n k c h r t ds f w)
 
 -- the faces of the boundary have three corners
 faces-three : (qs : List (List ℕ)) → All (λ t. length t ≡ 3) (flatMap faces qs)
@@ -173,8 +173,8 @@ module _ (n k : ℕ) (c : Cell Point) (h : k < 10) (r : Regular n k c) (wide : W
   wide-child v e t l w = wide-points t l (rw e at w)
 
   pub inside-bound : (qs : List (List ℕ)) → onBoundaryb qs (map (point c) f) ≡ false
-  unfolding onBoundaryb onFaceb
+  unfolding onBoundaryb onCoarseFaceb
   inside-bound qs =
-      false-from (anyb (onFaceb (map (point c) f)) (boundaryFaces qs)) (λ t.
-      let (i, hi, w) = any-place (onFaceb (map (point c) f)) [] (boundaryFaces qs) t in
+      false-from (anyb (onCoarseFaceb (map (point c) f)) (boundaryFaces qs)) (λ t.
+      let (i, hi, w) = any-place (onCoarseFaceb (map (point c) f)) [] (boundaryFaces qs) t in
       (wide-points (getD (boundaryFaces qs) i []) (all-at (λ t. length t ≡ 3) [] (boundaryFaces qs) (bound-three qs) i hi) w))

@@ -18,7 +18,7 @@ use Rattle.base.specs.Every.{All, all-at, all-of, below-at, getD-map, all-pass,
 use Rattle.carriers.specs.Carrier.{Shares}
 use Rattle.conformity.specs.Leaves.{faceAt, sameFaceb, hasFaceb}
 use Rattle.families.specs.Digits.{cornersAt}
-use Rattle.conformity.specs.Having.{bool-ext, inb, withinb, in-at, in-from, all-map}
+use Rattle.conformity.specs.Having.{bool-ext, inb, withinb, in-at, in-from, all-through}
 use Rattle.conformity.specs.Shared.{within-shares}
 use Rattle.conformity.specs.Sides.{three-at}
 use Rattle.conformity.specs.Meeting.{faceOf, corners-below, others-are}
@@ -64,7 +64,7 @@ rest-of x y z hx hy hz xy xz yz =
 -- lists of corners, by their numbers
 among : (c : Cell Point) (l k : List ℕ) → T (allb (λ i. memberb i k) l) → T (withinb (map (corner [] c) l) (map (corner [] c) k))
 among c l k t =
-    rw (all-map (corner [] c) (λ p. inb p (map (corner [] c) k)) l)
+    rw (all-through (corner [] c) (λ p. inb p (map (corner [] c) k)) l)
     (all-pass (λ i. T (memberb i k)) (λ i. inb (corner [] c i) (map (corner [] c) k)) (λ i u.
     let (j, hj, e) = member-place i k u in
     in-from (corner [] c i) (map (corner [] c) k) j (rw (length-map k (corner [] c)) hj) (ap (corner [] c) (sym e) ∙ sym (getD-map (corner [] c) k j 0 [] hj)))

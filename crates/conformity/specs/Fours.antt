@@ -20,7 +20,7 @@ use Rattle.mesh.specs.Coarse.{cellb, cellsb}
 use Rattle.base.specs.Every.{Below, below-at, All, any-place, any-at, all-each}
 use Rattle.families.specs.Digits.{cornersAt}
 use Rattle.conformity.specs.Sides.{three-at, face-of}
-use Rattle.conformity.specs.Having.{bool-ext, four-points}
+use Rattle.conformity.specs.Having.{bool-ext, four-elements}
 
 pub record Rise (n : ℕ) (q : List ℕ) : Type 0 where
   pub a : ℕ
@@ -56,7 +56,7 @@ unfolding cellsb allb
 rise-all n [] e t = tt
 rise-all n (q ∷ qs) e t =
     let u = up-of n q (and-left (cellb n q) (allb (cellb n) qs) t) in (
-      record { a = getD q 0 0; b = getD q 1 0; c = getD q 2 0; d = getD q 3 0; is = four-points 0 q (e .0); ab = u .ab; bc = u .bc; cd = u .cd; dn = u .dn },
+      record { a = getD q 0 0; b = getD q 1 0; c = getD q 2 0; d = getD q 3 0; is = four-elements 0 q (e .0); ab = u .ab; bc = u .bc; cd = u .cd; dn = u .dn },
       rise-all n qs (e .1) (and-right (cellb n q) (allb (cellb n) qs) t),
     )
 

@@ -3,8 +3,8 @@
 --   count u cs           how many of the cells cs have all points of u
 --   countDigits u f ds   how many of the children ds have them, where f gives the point of a digit
 --   Scaled u t h c       c counts for u as often as h times for t; Carried u t h c s  so do c with status s and its children
--- Laws: bool-ext, false-from (tests), in-at, in-from (by places), all-map, count-append, count-scaled (one count by another),
--- count-children (a family's), digits-none (no child has them), four-points, corner-points, digits-leaf (a cell that is not refined),
+-- Laws: bool-ext, false-from (tests), in-at, in-from (by places), all-through, count-both, count-scaled (one count by another),
+-- count-children (a family's), digits-none (no child has them), four-elements, corner-points, digits-leaf (a cell that is not refined),
 -- count-level (the leaves and the children of a level), within-map, digits-holds (points by their numbers).
 use mathlib.Core.Path.{_≡_, refl, sym, _∙_, ap, ap₂}
 use mathlib.Core.Logic.{_≢_}
@@ -53,10 +53,10 @@ pub in-from : (p : Point) (l : List Point) (i : ℕ) → i < length l → p ≡ 
 in-from p l i h e = any-at (sameb p) [] l i h (rw (e, sameb-self (getD l i [])) tt)
 
 -- a test on a map
-pub all-map : {A B : Type 0} (f : A → B) (t : B → Bool) (l : List A) → allb t (map f l) ≡ allb (λ x. t (f x)) l
+pub all-through : {A B : Type 0} (f : A → B) (t : B → Bool) (l : List A) → allb t (map f l) ≡ allb (λ x. t (f x)) l
 unfolding allb
-all-map f t [] = refl
-all-map f t (x ∷ l) = ap (λ (b : Bool). t (f x) && b) (all-map f t l)
+all-through f t [] = refl
+all-through f t (x ∷ l) = ap (λ (b : Bool). t (f x) && b) (all-through f t l)
 
 abbrev pub count : List Point → List (Cell Point) → ℕ
 count u [] = 0
@@ -66,9 +66,9 @@ abbrev pub countDigits : List Point → (ℕ → Point) → List (List ℕ) → 
 countDigits u f [] = 0
 countDigits u f (d ∷ ds) = one-if (withinb u (map f d)) + countDigits u f ds
 
-pub count-append : (u : List Point) (cs ds : List (Cell Point)) → count u (cs ++ ds) ≡ count u cs + count u ds
-count-append u [] ds = omega arith
-count-append u (c ∷ cs) ds = omega (arith, count-append u cs ds)
+pub count-both : (u : List Point) (cs ds : List (Cell Point)) → count u (cs ++ ds) ≡ count u cs + count u ds
+count-both u [] ds = omega arith
+count-both u (c ∷ cs) ds = omega (arith, count-both u cs ds)
 
 module _ (u t : List Point) (h : ℕ) where
   abbrev pub Scaled : Cell Point → Type 0
@@ -98,19 +98,19 @@ digits-none u f (d ∷ ds) a = go (withinb u (map f d)) (a .0) (digits-none u f 
     go false n e = omega arith
 
 -- a cell that is not refined
-pub four-points : {A : Type 0} (o : A) (l : List A) → length l ≡ 4 → l ≡ getD l 0 o ∷ getD l 1 o ∷ getD l 2 o ∷ getD l 3 o ∷ []
-four-points o [] e = absurd (omega arith)
-four-points o (a ∷ []) e = absurd (omega arith)
-four-points o (a ∷ b ∷ []) e = absurd (omega arith)
-four-points o (a ∷ b ∷ c ∷ []) e = absurd (omega arith)
-four-points o (a ∷ b ∷ c ∷ d ∷ []) e = refl
-four-points o (a ∷ b ∷ c ∷ d ∷ x ∷ l) e = absurd (omega arith)
+pub four-elements : {A : Type 0} (o : A) (l : List A) → length l ≡ 4 → l ≡ getD l 0 o ∷ getD l 1 o ∷ getD l 2 o ∷ getD l 3 o ∷ []
+four-elements o [] e = absurd (omega arith)
+four-elements o (a ∷ []) e = absurd (omega arith)
+four-elements o (a ∷ b ∷ []) e = absurd (omega arith)
+four-elements o (a ∷ b ∷ c ∷ []) e = absurd (omega arith)
+four-elements o (a ∷ b ∷ c ∷ d ∷ []) e = refl
+four-elements o (a ∷ b ∷ c ∷ d ∷ x ∷ l) e = absurd (omega arith)
 
 pub corner-points : (c : Cell Point) → length (c .points) ≡ 4 → map (point c) (0 ∷ 4 ∷ 7 ∷ 9 ∷ []) ≡ c .points
 unfolding point low high
 corner-points c e =
     ap₂ _∷_ (mid-self (corner [] c 0)) (ap₂ _∷_ (mid-self (corner [] c 1)) (ap₂ _∷_ (mid-self (corner [] c 2)) (ap₂ _∷_ (mid-self (corner [] c 3)) refl)))
-    ∙ sym (four-points [] (c .points) e)
+    ∙ sym (four-elements [] (c .points) e)
 
 pub digits-leaf : (u : List Point) (c : Cell Point) → length (c .points) ≡ 4 → countDigits u (point c) (family (patternOf 0)) ≡ one-if (withinb u (c .points))
 unfolding patternOf
@@ -144,7 +144,7 @@ module _ (u t : List Point) (h : ℕ) where
       go false q i =
           let z : s ≢ 0 = (λ w. not-both (eqb s 0) (eq-eqb s 0 w) q) in
           let v = f 0 (omega arith) .1 z in
-          rw (q, leavesIn, mul-add h (one-if (withinb t (c .points))) (count t cs), count-append u (children k c s (point c)) (next (suc k) cs ss), count-children u k c s z, v) (omega arith)
+          rw (q, leavesIn, mul-add h (one-if (withinb t (c .points))) (count t cs), count-both u (children k c s (point c)) (next (suc k) cs ss), count-children u k c s z, v) (omega arith)
 
 -- points that are named by numbers below b
 module _ (b : ℕ) (g : ℕ → Point) (inj : (x y : ℕ) → x < b → y < b → g x ≡ g y → x ≡ y) where

@@ -34,7 +34,7 @@ use Rattle.soundness.specs.Family.{family-child}
 use Rattle.soundness.specs.Sound.{Sound, lv, level-closed, level-next, level-there}
 use Rattle.soundness.specs.Whole.{RedAt, spot-with}
 use Rattle.conformity.specs.Leaves.{pointsOf}
-use Rattle.conformity.specs.Middles.{Middle, middle-point, middle-none}
+use Rattle.conformity.specs.Middles.{IsMiddle, middle-point, middle-none}
 use Rattle.conformity.specs.Corners.{corners-each}
 
 pub record RedMid (n : ℕ) (qs : List (List ℕ)) (ss : List ℕ) (p : Point) : Type 0 where
@@ -123,7 +123,7 @@ module _ (n : ℕ) (qs : List (List ℕ)) (ss : List ℕ) (s : Sound n qs ss) wh
         rw (w .is) (point-sized n (w .j) q (w .low)
         (regular-at n (w .j) l (regular (w .j)) (w .u) (w .below) (red-regular l (level-closed n qs ss (s .closed) (w .j)) (w .u) (w .below) (w .red))) (middle (w .y)) z .places)
 
-    pub kind-held : (p : Point) → Kind n qs ss p → (m : ℕ) → m ≤ 10 → (v : Cell Point) → Regular n m v → (y : ℕ) → y < 6 → Middle p (edge [] v y .0) (edge [] v y .1)
+    pub kind-held : (p : Point) → Kind n qs ss p → (m : ℕ) → m ≤ 10 → (v : Cell Point) → Regular n m v → (y : ℕ) → y < 6 → IsMiddle p (edge [] v y .0) (edge [] v y .1)
         → RedAt n qs ss m (edge [] v y)
     unfolding edge
     kind-held p k m h v r y hy e =

@@ -9,7 +9,7 @@
 --   hasFaceb f c          f is a face of c
 --   leavesWith n qs ss f  how many leaves have the face f
 --   boundaryFaces qs      the coarse boundary: the coarse faces that belong to one cell
---   onFaceb f t           the weights of f are on the coarse corners t alone
+--   onCoarseFaceb f t           the weights of f are on the coarse corners t alone
 --   onBoundaryb qs f      f lies on the coarse boundary
 --   openb n qs ss         no leaf edge has a corner in its middle
 --   meetb n qs ss         each leaf face is in two leaves, or in one where it lies on the coarse boundary
@@ -69,13 +69,13 @@ unfoldable pub offb : ℕ → Point → List ℕ → Bool
 offb i [] t = true
 offb i (w ∷ p) t = (eqb w 0 || memberb i t) && offb (suc i) p t
 
-unfoldable pub onFaceb : List Point → List ℕ → Bool
+unfoldable pub onCoarseFaceb : List Point → List ℕ → Bool
 unfolding allb offb
-onFaceb f t = allb (λ p. offb 0 p t) f
+onCoarseFaceb f t = allb (λ p. offb 0 p t) f
 
 unfoldable pub onBoundaryb : List (List ℕ) → List Point → Bool
-unfolding anyb onFaceb boundaryFaces
-onBoundaryb qs f = anyb (onFaceb f) (boundaryFaces qs)
+unfolding anyb onCoarseFaceb boundaryFaces
+onBoundaryb qs f = anyb (onCoarseFaceb f) (boundaryFaces qs)
 
 -- "In the result no leaf edge has a corner in its middle, and each leaf face is in exactly two leaves, or in one and on the coarse
 -- boundary": one that lies on the boundary is in exactly one leaf, one that does not in exactly two.

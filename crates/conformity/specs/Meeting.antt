@@ -31,7 +31,7 @@ use Rattle.families.specs.FaceKinds.{Inside, OnSide, Present, face-kind, family
 use Rattle.conformity.specs.Having.{withinb, count}
 use Rattle.conformity.specs.Shared.{Below10, inside-count}
 use Rattle.conformity.specs.Sides.{three-at, side-count}
-use Rattle.conformity.specs.Old.{Old, redsAt, old-none, old-side}
+use Rattle.conformity.specs.Old.{OldCell, redsAt, old-none, old-side}
 use Rattle.conformity.specs.OldFaces.{old-count}
 use Rattle.conformity.specs.Bounds.{side-bound, Wide, inside-bound}
 use Rattle.conformity.specs.Stages.{below, stage, pattern-at, reads-at, carry}
@@ -105,7 +105,7 @@ module _ (n : ℕ) (qs : List (List ℕ)) (ss : List ℕ) (s : Sound n qs ss) (r
   reg v hv rv = regular-at n j (lv n qs ss j) (regular j) v hv rv
 
   -- an old cell keeps its faces
-  pub old-right : (o : Cell Point) → Old n qs ss j o → Right n qs ss j o → Right n qs ss (suc j) o
+  pub old-right : (o : Cell Point) → OldCell n qs ss j o → Right n qs ss j o → Right n qs ss (suc j) o
   old-right o old right i hi =
       carry n qs ss s regular j hj (faceOf o i) (faceOf o i) 1
       (λ v hv rv. old-count n qs ss j hj (getD (lv n qs ss j .cells) v noCell) (reg v hv rv) (patternOf (getD (lv n qs ss j .statuses) v 0)) (pattern-at n qs ss s regular j v hv)

@@ -1,5 +1,5 @@
 -- In a sound table leaves meet face to face.
--- Laws: leaves-stage (the leaves are the last stage), apart-at (a cell of a table has four different corners), meeting (at each level),
+-- Laws: leaves-stage (the leaves are the last stage), apart-here (a cell of a table has four different corners), meeting (at each level),
 -- sound-meets.
 use mathlib.Core.Path.{_≡_, refl, sym, _∙_, ap, subst}
 use mathlib.Core.Logic.{inr}
@@ -92,8 +92,8 @@ module _ (n : ℕ) (qs : List (List ℕ)) (ss : List ℕ) (s : Sound n qs ss) wh
       ∙ ap (λ (l : List (Cell Point)). below n qs ss 10 ++ l) (all-leaves (lv n qs ss 10 .cells) (lv n qs ss 10 .statuses) (closed-length (lv n qs ss 10) (level-closed n qs ss (s .closed) 10)) leaf-top)
 
   module _ (regular : (i : ℕ) → All (IfRegular n i) (lv n qs ss i .cells)) where
-    pub apart-at : (j u : ℕ) → u < length (lv n qs ss j .cells) → Apart (getD (lv n qs ss j .cells) u noCell)
-    apart-at j u hu = go (getD (lv n qs ss j .cells) u noCell .regular) refl
+    pub apart-here : (j u : ℕ) → u < length (lv n qs ss j .cells) → Apart (getD (lv n qs ss j .cells) u noCell)
+    apart-here j u hu = go (getD (lv n qs ss j .cells) u noCell .regular) refl
       where
         go : (b : Bool) → getD (lv n qs ss j .cells) u noCell .regular ≡ b → Apart (getD (lv n qs ss j .cells) u noCell)
         go true e =
@@ -111,7 +111,7 @@ module _ (n : ℕ) (qs : List (List ℕ)) (ss : List ℕ) (s : Sound n qs ss) wh
         leaves-each Apart cs ss (λ i h _ _.
         let o = spot-with n qs ss i h in
         let c : getD cs i noCell ≡ getD (lv n qs ss (o .j) .cells) (o .p) noCell = rw (o .number) at (o .at .cell) in
-        rw c (apart-at (o .j) (o .p) (o .below)))
+        rw c (apart-here (o .j) (o .p) (o .below)))
 
 -- how many cells have a face
 count-faces : (o : Cell Point) → Apart o → (i : ℕ) → i < 4 → (cs : List (Cell Point)) → All Apart cs → length (filterb (hasFaceb (faceOf o i)) cs) ≡ count (faceOf o i) cs

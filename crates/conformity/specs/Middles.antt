@@ -1,5 +1,5 @@
 -- The middle of an edge of a regular cell, by tail sums.
---   Middle p a b   p is in the middle of a and b: each tail sum of p is half the sum of theirs
+--   IsMiddle p a b   p is in the middle of a and b: each tail sum of p is half the sum of theirs
 -- Laws: middle-of (the test says so), middle-point (the middle of two corners of a regular cell below level 10 is a point of its
 -- cut), middle-none (at level 10 there is none), middle-other (two pairs of points of a cut with the same sums).
 use mathlib.Core.Path.{_≡_, refl, sym, _∙_, ap}
@@ -14,13 +14,13 @@ use Rattle.base.specs.Bools.{and-left, and-right}
 use Rattle.cutting.specs.Rule.{low, high}
 use Rattle.mesh.specs.Cells.{Cell, edge}
 use Rattle.mesh.specs.Weights.{Point, point}
-use Rattle.families.specs.Kuhn.{doubled, step, gap, sum-odd}
+use Rattle.families.specs.Kuhn.{doubled, steps-between, gap, sum-odd}
 use Rattle.lattice.specs.Tails.{sum, tailSum, tail-sums-equal}
 use Rattle.lattice.specs.Regular.{unit, unit-half, Regular, point-sized, point-tails}
 use Rattle.families.specs.Children.{middle, middle-ends}
 use Rattle.conformity.specs.Leaves.{middleb}
 
-pub record Middle (p a b : Point) : Type 0 where
+pub record IsMiddle (p a b : Point) : Type 0 where
   pub half : (j : ℕ) → 2 * tailSum p j ≡ tailSum a j + tailSum b j
 
 sum-middle : (p a b : Point) → length a ≡ length b → T (sameb (map (λ w. 2 * w) p) (zipWith _+_ a b)) → 2 * sum p ≡ sum a + sum b
@@ -47,12 +47,12 @@ tail-middle (w ∷ p) (x ∷ a) [] e t (suc j) = absurd t
 tail-middle (w ∷ p) (x ∷ a) (y ∷ b) e t (suc j) =
     tail-middle p a b (omega arith) (and-right (eqb (2 * w) (x + y)) (sameb (map (λ w. 2 * w) p) (zipWith _+_ a b)) t) j
 
-pub middle-of : (p a b : Point) → length a ≡ length b → T (middleb p (a, b)) → Middle p a b
+pub middle-of : (p a b : Point) → length a ≡ length b → T (middleb p (a, b)) → IsMiddle p a b
 unfolding middleb
 middle-of p a b e t = record { half = tail-middle p a b e t }
 
 -- The middle of a regular cell's edge.
-module _ (n k : ℕ) (c : Cell Point) (r : Regular n k c) (y : ℕ) (hy : y < 6) (p : Point) (m : Middle p (edge [] c y .0) (edge [] c y .1)) where
+module _ (n k : ℕ) (c : Cell Point) (r : Regular n k c) (y : ℕ) (hy : y < 6) (p : Point) (m : IsMiddle p (edge [] c y .0) (edge [] c y .1)) where
   sums : (j : ℕ) → 2 * tailSum p j ≡ doubled (r .coordinates) (middle y) j * unit k
   unfolding edge
   sums j =
@@ -76,12 +76,12 @@ module _ (n k : ℕ) (c : Cell Point) (r : Regular n k c) (y : ℕ) (hy : y < 6)
       let (j, w) = gap x (r .kuhn) (low (middle y)) (high (middle y)) a b in
       let s = sums j in
       let s' : 2 * tailSum p j ≡ doubled x (middle y) j * 1 = rw e at s in
-      sum-odd (x (low (middle y)) j) (x (high (middle y)) j) (step x (r .kuhn) (low (middle y)) (high (middle y)) (omega arith) b j) w (tailSum p j) (omega arith)
+      sum-odd (x (low (middle y)) j) (x (high (middle y)) j) (steps-between x (r .kuhn) (low (middle y)) (high (middle y)) (omega arith) b j) w (tailSum p j) (omega arith)
 
 -- Two pairs of points of a cut with the same sums have the same middle.
 pub middle-other : (n k : ℕ) (g : Cell Point) → k < 10 → (r : Regular n k g) → (d e a b : ℕ) → d < 10 → e < 10 → a < 10 → b < 10
     → ((j : ℕ) → doubled (r .coordinates) d j + doubled (r .coordinates) e j ≡ doubled (r .coordinates) a j + doubled (r .coordinates) b j)
-    → (p : Point) → Middle p (point g d) (point g e) → Middle p (point g a) (point g b)
+    → (p : Point) → IsMiddle p (point g d) (point g e) → IsMiddle p (point g a) (point g b)
 middle-other n k g h r d e a b hd he ha hb f p m =
     record {
       half = λ j.

@@ -1,6 +1,6 @@
 -- An old cell beside the regular cells of a level: one whose corners lie on the level's lattice and none of whose edges a red cell of
 -- the level holds. A cell of a lower level is one, and so is a green cell's child on the level (Olds).
---   Old n qs ss j o   o is old beside the level j
+--   OldCell n qs ss j o   o is old beside the level j
 --   redsAt n qs ss j  the edges of the level's red cells
 -- Laws: held-red (such an edge, by a red cell), digit-turned, old-unsplit (an edge of both is not split), old-corner (a point of a regular
 -- cell that an old one has is a corner), old-none (an old cell has no face inside, and no whole child), old-side (it has a triangle on a
@@ -31,13 +31,13 @@ use Rattle.carriers.specs.Child.{corner-point}
 use Rattle.soundness.specs.Held.{RedHas, red-which}
 use Rattle.soundness.specs.Sound.{lv}
 use Rattle.soundness.specs.Whole.{RedAt}
-use Rattle.families.specs.Digits.{cornersAt, lift, triples, usesb}
+use Rattle.families.specs.Digits.{cornersAt, lift, digitTriples, usesb}
 use Rattle.families.specs.FaceKinds.{OnSide, Present, midb}
-use Rattle.conformity.specs.Having.{false-from, inb, withinb, in-at, in-from, all-map, four-points}
+use Rattle.conformity.specs.Having.{false-from, inb, withinb, in-at, in-from, all-through, four-elements}
 use Rattle.conformity.specs.Shared.{Reads, digit-of, within-shares}
 use Rattle.conformity.specs.Sides.{Three, three-at, triple-small}
 
-pub record Old (n : ℕ) (qs : List (List ℕ)) (ss : List ℕ) (j : ℕ) (o : Cell Point) : Type 0 where
+pub record OldCell (n : ℕ) (qs : List (List ℕ)) (ss : List ℕ) (j : ℕ) (o : Cell Point) : Type 0 where
   pub four : length (o .points) ≡ 4
   pub differ : (a b : ℕ) → a < b → b < 4 → corner [] o a ≢ corner [] o b
   pub on : (m : ℕ) → m < 4 → On j (corner [] o m)
@@ -71,7 +71,7 @@ none-one h true b f g = absurd (f tt)
 none-one h false true f g = absurd (g tt)
 none-one h false false f g = omega arith
 
-module _ (n : ℕ) (qs : List (List ℕ)) (ss : List ℕ) (j : ℕ) (h : j < 10) (c : Cell Point) (r : Regular n j c) (p : ℕ) (rp : Reads (redsAt n qs ss j) c p) (o : Cell Point) (old : Old n qs ss j o) where
+module _ (n : ℕ) (qs : List (List ℕ)) (ss : List ℕ) (j : ℕ) (h : j < 10) (c : Cell Point) (r : Regular n j c) (p : ℕ) (rp : Reads (redsAt n qs ss j) c p) (o : Cell Point) (old : OldCell n qs ss j o) where
   -- the edge between two corners that the old cell has too is not split
   pub old-unsplit : (a b : ℕ) → a < b → b < 4 → Shares c o a → Shares c o b → split p (edgeOf (digit a b)) ≡ false
   old-unsplit a b ab b4 (x, _, hx, ex) (y, _, hy, ey) =
@@ -100,9 +100,9 @@ module _ (n : ℕ) (qs : List (List ℕ)) (ss : List ℕ) (j : ℕ) (h : j < 10)
       let q : Present p x = all-at (Present p) 0 f a i hi in
       let l : low x < high x = ltb→lt (low x) (high x) w in
       none-one h (withinb (map (point c) f) (o .points)) (withinb (c .points) (o .points))
-      (λ t. let t' : T (allb (λ x. inb (point c x) (o .points)) f) = rw (all-map (point c) (λ p. inb p (o .points)) f) at t in
+      (λ t. let t' : T (allb (λ x. inb (point c x) (o .points)) f) = rw (all-through (point c) (λ p. inb p (o .points)) f) at t in
       omega (arith, old-corner x (q .small) (allb-at (λ x. inb (point c x) (o .points)) 0 f t' i hi)))
-      (λ t. let t' : T (withinb (map (corner [] c) (0 ∷ 1 ∷ 2 ∷ 3 ∷ [])) (o .points)) = subst (λ (l : List Point). T (withinb l (o .points))) (four-points [] (c .points) (r .four)) t in
+      (λ t. let t' : T (withinb (map (corner [] c) (0 ∷ 1 ∷ 2 ∷ 3 ∷ [])) (o .points)) = subst (λ (l : List Point). T (withinb l (o .points))) (four-elements [] (c .points) (r .four)) t in
       let s = within-shares c o (old .four) (0 ∷ 1 ∷ 2 ∷ 3 ∷ []) (omega arith) t' in
       let s' : (m : ℕ) → m < 4 → Shares c o m = below-at (Shares c o) 4 ((((tt, s .0), s .1 .0), s .1 .1 .0), s .1 .1 .1 .0) in
       let (x0, x1) = digit-ends x (q .small) in
@@ -142,8 +142,8 @@ module _ (n : ℕ) (qs : List (List ℕ)) (ss : List ℕ) (j : ℕ) (h : j < 10)
 
       there : T (withinb (map (point c) f) (o .points)) → T (withinb (map (corner [] c) (cornersAt (w .z))) (o .points))
       there t =
-          let t' : T (allb (λ x. inb (point c x) (o .points)) f) = rw (all-map (point c) (λ p. inb p (o .points)) f) at t in
-          rw (all-map (corner [] c) (λ p. inb p (o .points)) (cornersAt (w .z)))
+          let t' : T (allb (λ x. inb (point c x) (o .points)) f) = rw (all-through (point c) (λ p. inb p (o .points)) f) at t in
+          rw (all-through (corner [] c) (λ p. inb p (o .points)) (cornersAt (w .z)))
           (all-pass (λ m. T (usesb f m)) (λ m. inb (corner [] c m) (o .points)) (λ m u.
           let (i, hi, v) = any-place (λ x. eqb (low x) m || eqb (high x) m) 0 f u in
           let x = getD f i 0 in
@@ -160,7 +160,7 @@ module _ (n : ℕ) (qs : List (List ℕ)) (ss : List ℕ) (j : ℕ) (h : j < 10)
           let v = three-at (w .z) (w .face) in
           let below : All (λ m. m < 4) (cornersAt (w .z)) = rw (v .is) (omega (arith, v .ab, v .bc, v .c4)) in
           let s : All (Shares c o) (v .a ∷ v .b ∷ v .c ∷ []) = rw (v .is) at (within-shares c o (old .four) (cornersAt (w .z)) below t) in
-          let tr = getD triples (w .t) [] in
+          let tr = getD digitTriples (w .t) [] in
           let e : f ≡ map (lift (v .a ∷ v .b ∷ v .c ∷ [])) tr = w .is ∙ ap (λ (z : List ℕ). map (lift z) tr) (v .is) in
           subst (λ (f : List ℕ). T (withinb (map (point c) f) (o .points))) (sym e)
           (lifts-in (v .a) (v .b) (v .c) (v .ab) (v .bc) (v .c4) (s .0) (s .1 .0) (s .1 .1 .0) tr (triple-small (w .t) (w .below)) (subst (All (Present p)) e a))

@@ -1,4 +1,4 @@
--- The children of a regular cell that have an old cell's face (Old): one where the regular cell has that face, none where it has not.
+-- The children of a regular cell that have an old cell's face (OldCell): one where the regular cell has that face, none where it has not.
 -- Laws: old-count.
 use mathlib.Core.Path.{_≡_, refl, sym, _∙_, ap, ap₂}
 use mathlib.Core.Bool.{Bool, true, false}
@@ -25,9 +25,9 @@ use Rattle.families.specs.FaceKinds.{whole-face}
 use Rattle.conformity.specs.Having.{inb, withinb, in-at, in-from, countDigits, digits-none, digits-holds}
 use Rattle.conformity.specs.Shared.{Below10, Reads, family-small, digit-of, within-shares, one-times, none-times}
 use Rattle.conformity.specs.Sides.{three-at}
-use Rattle.conformity.specs.Old.{Old, redsAt, digit-turned, old-unsplit, old-corner}
+use Rattle.conformity.specs.Old.{OldCell, redsAt, digit-turned, old-unsplit, old-corner}
 
-module _ (n : ℕ) (qs : List (List ℕ)) (ss : List ℕ) (j : ℕ) (h : j < 10) (c : Cell Point) (r : Regular n j c) (p : ℕ) (hp : p < 64) (rp : Reads (redsAt n qs ss j) c p) (o : Cell Point) (old : Old n qs ss j o) where
+module _ (n : ℕ) (qs : List (List ℕ)) (ss : List ℕ) (j : ℕ) (h : j < 10) (c : Cell Point) (r : Regular n j c) (p : ℕ) (hp : p < 64) (rp : Reads (redsAt n qs ss j) c p) (o : Cell Point) (old : OldCell n qs ss j o) where
   -- an edge of both is not split
   unsplit-both : (a b x y : ℕ) → a < b → b < 4 → x < 4 → y < 4 → corner [] o a ≡ corner [] c x → corner [] o b ≡ corner [] c y
       → (x ≡ y → ⊥) × (split p (edgeOf (digit x y)) ≡ false)

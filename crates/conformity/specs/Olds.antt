@@ -1,4 +1,4 @@
--- Which cells are old beside a level (Old): those of lower levels, and the green cells' children on it.
+-- Which cells are old beside a level (OldCell): those of lower levels, and the green cells' children on it.
 -- Laws: red-turned (an edge of a red cell, turned), on-up (a lattice lies on the finer ones), corner-at (a child's corner by its digit),
 -- old-regular, old-child, old-at.
 use mathlib.Core.Path.{_≡_, refl, sym, _∙_, ap, ap₂, subst}
@@ -34,7 +34,7 @@ use Rattle.soundness.specs.Sound.{Sound, lv, level-closed, level-next}
 use Rattle.soundness.specs.Whole.{RedAt, coarse-level}
 use Rattle.soundness.specs.Clash.{clash}
 use Rattle.conformity.specs.Kinds.{refined-low}
-use Rattle.conformity.specs.Old.{Old}
+use Rattle.conformity.specs.Old.{OldCell}
 
 pub red-turned : (n : ℕ) (qs : List (List ℕ)) (ss : List ℕ) (j : ℕ) (p q : Point) → RedAt n qs ss j (p, q) → RedAt n qs ss j (q, p)
 red-turned n qs ss j p q w =
@@ -105,7 +105,7 @@ module _ (n : ℕ) (qs : List (List ℕ)) (ss : List ℕ) (s : Sound n qs ss) (r
       let l = lv n qs ss j in
       regular-at n j l (regular j) (w .u) (w .below) (red-regular l (level-closed n qs ss (s .closed) j) (w .u) (w .below) (w .red))
 
-  pub old-regular : (i j : ℕ) → i < j → j ≤ 10 → (c : Cell Point) → Regular n i c → Old n qs ss j c
+  pub old-regular : (i j : ℕ) → i < j → j ≤ 10 → (c : Cell Point) → Regular n i c → OldCell n qs ss j c
   unfolding edge
   old-regular i j h l c r =
       record {
@@ -164,7 +164,7 @@ module _ (n : ℕ) (qs : List (List ℕ)) (ss : List ℕ) (s : Sound n qs ss) (r
       (own-or-mid g dx dy xr yb)
 
   pub old-child : (k u j : ℕ) → suc k ≤ j → j ≤ 10 → u < length (lv n qs ss (suc k) .cells) → getD (lv n qs ss (suc k) .cells) u noCell .regular ≡ false
-      → Old n qs ss j (getD (lv n qs ss (suc k) .cells) u noCell)
+      → OldCell n qs ss j (getD (lv n qs ss (suc k) .cells) u noCell)
   old-child k u j h l hu irr =
       let lo = lv n qs ss k in
       let c = getD (lv n qs ss (suc k) .cells) u noCell in
@@ -187,11 +187,11 @@ module _ (n : ℕ) (qs : List (List ℕ)) (ss : List ℕ) (s : Sound n qs ss) (r
 
   -- a cell of a lower level, or one that is not regular
   pub old-at : (i u j : ℕ) → i ≤ j → j ≤ 10 → u < length (lv n qs ss i .cells) → (i < j) ⊎ (getD (lv n qs ss i .cells) u noCell .regular ≡ false)
-      → Old n qs ss j (getD (lv n qs ss i .cells) u noCell)
+      → OldCell n qs ss j (getD (lv n qs ss i .cells) u noCell)
   old-at i u j h l hu z = go i h hu z (getD (lv n qs ss i .cells) u noCell .regular) refl
     where
       go : (i : ℕ) → i ≤ j → u < length (lv n qs ss i .cells) → (i < j) ⊎ (getD (lv n qs ss i .cells) u noCell .regular ≡ false)
-          → (b : Bool) → getD (lv n qs ss i .cells) u noCell .regular ≡ b → Old n qs ss j (getD (lv n qs ss i .cells) u noCell)
+          → (b : Bool) → getD (lv n qs ss i .cells) u noCell .regular ≡ b → OldCell n qs ss j (getD (lv n qs ss i .cells) u noCell)
       go i h hu (inl g) true q = old-regular i j g l (getD (lv n qs ss i .cells) u noCell) (regular-at n i (lv n qs ss i) (regular i) u hu (rw q tt))
       go i h hu (inr g) true q = not-both (getD (lv n qs ss i .cells) u noCell .regular) q g
       go zero h hu z false q = not-both (getD (lv n qs ss 0 .cells) u noCell .regular) (coarse-level n qs ss u hu) q

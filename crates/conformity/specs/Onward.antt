@@ -22,7 +22,7 @@ use Rattle.families.specs.FaceKinds.{Present, family-present, red-whole, red-mi
 use Rattle.families.specs.Digits.{holds}
 use Rattle.conformity.specs.Having.{count, corner-points}
 use Rattle.conformity.specs.Open.{leaves-each}
-use Rattle.conformity.specs.Old.{Old}
+use Rattle.conformity.specs.Old.{OldCell}
 use Rattle.conformity.specs.Olds.{old-at}
 use Rattle.conformity.specs.Bounds.{Wide, wide-child}
 use Rattle.conformity.specs.Stages.{leavesAt, below, stage, below-next, below-old}
@@ -93,7 +93,7 @@ module _ (n : ℕ) (qs : List (List ℕ)) (ss : List ℕ) (s : Sound n qs ss) (r
             all-append (Right n qs ss (suc j)) (below n qs ss (suc j)) (lv n qs ss (suc j) .cells)
             (subst (All (Right n qs ss (suc j))) (sym (below-next n qs ss j))
             (all-append (Right n qs ss (suc j)) (below n qs ss j) (leavesAt n qs ss j)
-            (all-both (Old n qs ss j) (Right n qs ss j) (Right n qs ss (suc j)) (old-right n qs ss s regular j hj meet) (below n qs ss j) (below-old n qs ss s regular j j (omega arith) (omega arith))
+            (all-both (OldCell n qs ss j) (Right n qs ss j) (Right n qs ss (suc j)) (old-right n qs ss s regular j hj meet) (below n qs ss j) (below-old n qs ss s regular j j (omega arith) (omega arith))
             (all-first (Right n qs ss j) (below n qs ss j) (lv n qs ss j .cells) (meet .faces)))
             (leaves-each (Right n qs ss (suc j)) (lv n qs ss j .cells) (lv n qs ss j .statuses) (λ v hv _ z. leaf-right v hv z))))
             (all-from (Right n qs ss (suc j)) noCell (lv n qs ss (suc j) .cells) child-right);

@@ -40,7 +40,7 @@ use Rattle.soundness.specs.Sound.{Sound, sound-parts, lv, level-closed, level-n
 use Rattle.soundness.specs.Whole.{RedAt, spot-with, coarse-level}
 use Rattle.soundness.specs.Clash.{no-share}
 use Rattle.conformity.specs.Leaves.{leavesIn, leavesOf, pointsOf, middleb, openb}
-use Rattle.conformity.specs.Middles.{Middle, middle-of, middle-other}
+use Rattle.conformity.specs.Middles.{IsMiddle, middle-of, middle-other}
 use Rattle.conformity.specs.Kinds.{Kind, refined-low, points-kinds, kind-held}
 use Rattle.conformity.specs.Pairs.{Other, other-of, corners-rise}
 
@@ -56,7 +56,7 @@ leaves-each P (c ∷ cs) (s ∷ ss) f = go (eqb s 0) refl (leaves-each P cs ss (
     go true q i = rw (q, leavesIn) (f 0 (omega arith) (omega arith) (eqb-true s 0 q), i)
     go false q i = rw (q, leavesIn) i
 
-turn : (p a b : Point) → Middle p a b → Middle p b a
+turn : (p a b : Point) → IsMiddle p a b → IsMiddle p b a
 turn p a b m = record { half = λ j. omega (arith, m .half j) }
 
 module _ (n : ℕ) (qs : List (List ℕ)) (ss : List ℕ) (s : Sound n qs ss) where
@@ -93,14 +93,14 @@ module _ (n : ℕ) (qs : List (List ℕ)) (ss : List ℕ) (s : Sound n qs ss) wh
         let rc = regular-at n j l (regular j) p h r in
         let there = level-there n qs ss j p h in
         let (a, b, _) = middle-ends y hy in
-        let mid : Middle x (edge [] c y .0) (edge [] c y .1) =
+        let mid : IsMiddle x (edge [] c y .0) (edge [] c y .1) =
         middle-of x (edge [] c y .0) (edge [] c y .1) (rc .sized (low (middle y)) (omega arith) .places ∙ sym (rc .sized (high (middle y)) b .places)) m in
         unsplit j p h r (rw leaf refl) y hy (rw leaf (split-none y)) (kind-held n qs ss s regular x k j (omega (arith, s .high)) c rc y hy mid)
 
     -- the middle of two points of a cut that the red family joins
     red-middle : (j : ℕ) → j < 10 → (p : ℕ) → p < length (lv n qs ss j .cells) → T (getD (lv n qs ss j .cells) p noCell .regular) → redb (getD (lv n qs ss j .statuses) p 0) ≡ false
         → (d e : ℕ) → d < 10 → e < 10 → (d ≡ e → ⊥) → T (joinedb (family 63) d e)
-        → Middle x (point (getD (lv n qs ss j .cells) p noCell) d) (point (getD (lv n qs ss j .cells) p noCell) e) → ⊥
+        → IsMiddle x (point (getD (lv n qs ss j .cells) p noCell) d) (point (getD (lv n qs ss j .cells) p noCell) e) → ⊥
     unfolding patternOf
     red-middle j h p hp r green d e hd he ne joined m =
         let g = getD (lv n qs ss j .cells) p noCell in
@@ -113,19 +113,19 @@ module _ (n : ℕ) (qs : List (List ℕ)) (ss : List ℕ) (s : Sound n qs ss) wh
         let js = edge-joins 63 d e up63 w g v refl in
         let eq : edge [] v (w .number) ≡ (point g (lowDigit 63 (w .child) (w .number)), point g (highDigit 63 (w .child) (w .number))) =
         child-edge 63 (w .child) up63 (w .inside) (w .number) (w .below) g v refl in
-        let mid : Middle x (edge [] v (w .number) .0) (edge [] v (w .number) .1) = rw eq (ends g (lowDigit 63 (w .child) (w .number)) (highDigit 63 (w .child) (w .number)) (w .ends) m) in
+        let mid : IsMiddle x (edge [] v (w .number) .0) (edge [] v (w .number) .1) = rw eq (ends g (lowDigit 63 (w .child) (w .number)) (highDigit 63 (w .child) (w .number)) (w .ends) m) in
         let o = kind-held n qs ss s regular x k (suc j) (omega arith) v rv (w .number) (w .below) mid in
         no-share n qs ss s regular j h p hp r green d e hd he ne joined (o .u) (o .below) (o .red) (o .y) (o .small)
         (joins-trans (point g d, point g e) (edge [] v (w .number)) (edge [] (getD (lv n qs ss (suc j) .cells) (o .u) noCell) (o .y)) js (o .joins))
       where
-        ends : (g : Cell Point) (a b : ℕ) → ((d ≡ a) × (e ≡ b)) ⊎ ((d ≡ b) × (e ≡ a)) → Middle x (point g d) (point g e) → Middle x (point g a) (point g b)
+        ends : (g : Cell Point) (a b : ℕ) → ((d ≡ a) × (e ≡ b)) ⊎ ((d ≡ b) × (e ≡ a)) → IsMiddle x (point g d) (point g e) → IsMiddle x (point g a) (point g b)
         ends g a b (inl (p, q)) m = rw (← p, ← q) m
         ends g a b (inr (p, q)) m = rw (← p, ← q) (turn x (point g d) (point g e) m)
 
     -- a green cell's child
     green-open : (j p : ℕ) → p < length (lv n qs ss j .cells) → getD (lv n qs ss j .statuses) p 0 ≢ 0 → redb (getD (lv n qs ss j .statuses) p 0) ≡ false
         → (d e : ℕ) → d < e → e < 10 → T (joinedb (family (patternOf (getD (lv n qs ss j .statuses) p 0))) d e)
-        → Middle x (point (getD (lv n qs ss j .cells) p noCell) d) (point (getD (lv n qs ss j .cells) p noCell) e) → ⊥
+        → IsMiddle x (point (getD (lv n qs ss j .cells) p noCell) d) (point (getD (lv n qs ss j .cells) p noCell) e) → ⊥
     green-open j p h z green d e de he joins m =
         let l = lv n qs ss j in
         let g = getD (l .cells) p noCell in
@@ -160,7 +160,7 @@ module _ (n : ℕ) (qs : List (List ℕ)) (ss : List ℕ) (s : Sound n qs ss) wh
                 let y = edgeOf (digit a b) in
                 let hy = between-below a b ab (omega arith) in
                 let eq : edge [] g y ≡ (corner [] g a, corner [] g b) = edge-between [] g a b ab (omega arith) in
-                let mid : Middle x (edge [] g y .0) (edge [] g y .1) = rw (eq, ← pa, ← pb) m in
+                let mid : IsMiddle x (edge [] g y .0) (edge [] g y .1) = rw (eq, ← pa, ← pb) m in
                 unsplit j p h r green y hy f (kind-held n qs ss s regular x k j (omega arith) g rg y hy mid)
           ]
         ]
@@ -187,7 +187,7 @@ module _ (n : ℕ) (qs : List (List ℕ)) (ss : List ℕ) (s : Sound n qs ss) wh
         let he = digits-below (patternOf t) (b .i) small (b .child) y hy in
         let eq : edge [] c y ≡ (point g d, point g e) = child-edge (patternOf t) (b .i) small (b .child) y hy g c (ap (λ (c : Cell Point). c .points) (b .is)) in
         let m' : T (middleb x (point g d, point g e)) = rw eq at m in
-        let mid : Middle x (point g d) (point g e) =
+        let mid : IsMiddle x (point g d) (point g e) =
         middle-of x (point g d) (point g e) (point-sized n j g low10 reg d (omega arith) .places ∙ sym (point-sized n j g low10 reg e he .places)) m' in
         green-open j (b .p) (b .below) (b .refined) green d e de he (digits-joined (patternOf t) (b .i) small (b .child) y hy) mid
 

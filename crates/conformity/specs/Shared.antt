@@ -1,7 +1,7 @@
 -- Two regular cells of one level: how many children of the second have points of a child of the first.
 --   Below10 f      the digits of f are below 10
 --   Reads es c p   the pattern p of c says which of its edges stand in es
--- Laws: family-small, digit-of, point-digit (the point between two corners), found (the corners that points use are corners of both),
+-- Laws: family-small, digit-of, point-digit (the point between two corners), found-within (the corners that points use are corners of both),
 -- shares-within, within-shares (corners of both), same-points, points-point, points-edge (cells with the same corners), map-all,
 -- all-every, one-times, none-times, no-child (no child has them, where the second cell has not those corners), inside-count (points that
 -- use every corner: the second cell is the first).
@@ -29,7 +29,7 @@ use Rattle.carriers.specs.Carrier.{Shares}
 use Rattle.carriers.specs.Order.{lower-too}
 use Rattle.families.specs.Digits.{usesb, holds}
 use Rattle.families.specs.FaceKinds.{pattern-sum, family-present, Present}
-use Rattle.conformity.specs.Having.{inb, withinb, in-at, in-from, all-map, countDigits, digits-none, digits-holds, four-points}
+use Rattle.conformity.specs.Having.{inb, withinb, in-at, in-from, all-through, countDigits, digits-none, digits-holds, four-elements}
 
 abbrev pub Below10 : List ℕ → Type 0
 Below10 f = All (λ x. x < 10) f
@@ -71,9 +71,9 @@ module _ (n k : ℕ) (c g : Cell Point) (h : k < 10) (r : Regular n k c) (s : Re
       let hi' : i < length d = rw (length-map d (point g)) at hi in
       (getD d i 0, all-at (λ x. x < 10) 0 d a i hi', e ∙ getD-map (point g) d i 0 [] hi')
 
-  pub found : (f d : List ℕ) → Below10 f → Below10 d → T (withinb (map (point c) f) (map (point g) d)) → (m : ℕ) → m < 4 → T (usesb f m) → Shares c g m
-  found f d a b t m hm u =
-      let t' : T (allb (λ x. inb (point c x) (map (point g) d)) f) = rw (all-map (point c) (λ p. inb p (map (point g) d)) f) at t in
+  pub found-within : (f d : List ℕ) → Below10 f → Below10 d → T (withinb (map (point c) f) (map (point g) d)) → (m : ℕ) → m < 4 → T (usesb f m) → Shares c g m
+  found-within f d a b t m hm u =
+      let t' : T (allb (λ x. inb (point c x) (map (point g) d)) f) = rw (all-through (point c) (λ p. inb p (map (point g) d)) f) at t in
       let (i, hi, v) = any-place (λ x. eqb (low x) m || eqb (high x) m) 0 f u in
       let x = getD f i 0 in
       let hx : x < 10 = all-at (λ x. x < 10) 0 f a i hi in
@@ -87,7 +87,7 @@ module _ (n k : ℕ) (c g : Cell Point) (h : k < 10) (r : Regular n k c) (s : Re
 -- corners of both
 pub shares-within : (c g : Cell Point) → length (g .points) ≡ 4 → (z : List ℕ) → All (Shares c g) z → T (withinb (map (corner [] c) z) (g .points))
 shares-within c g e z a =
-    rw (all-map (corner [] c) (λ p. inb p (g .points)) z)
+    rw (all-through (corner [] c) (λ p. inb p (g .points)) z)
     (all-pass (Shares c g) (λ m. inb (corner [] c m) (g .points)) (λ m (i, _, hi, q). in-from (corner [] c m) (g .points) i (omega arith) q) z a)
 
 pub within-shares : (c g : Cell Point) → length (g .points) ≡ 4 → (z : List ℕ) → All (λ m. m < 4) z → T (withinb (map (corner [] c) z) (g .points)) → All (Shares c g) z
@@ -114,9 +114,9 @@ module _ (n k : ℕ) (c g : Cell Point) (r : Regular n k c) (s : Regular n k g) 
       let pb : b ≡ 1 = omega arith in
       let pd : d ≡ 2 = omega arith in
       let pe : e ≡ 3 = omega arith in
-      four-points [] (c .points) (r .four)
+      four-elements [] (c .points) (r .four)
       ∙ ap₂ _∷_ (ea ∙ ap (corner [] g) pa) (ap₂ _∷_ (eb ∙ ap (corner [] g) pb) (ap₂ _∷_ (ed ∙ ap (corner [] g) pd) (ap₂ _∷_ (ee ∙ ap (corner [] g) pe) refl)))
-      ∙ sym (four-points [] (g .points) (s .four))
+      ∙ sym (four-elements [] (g .points) (s .four))
 
 pub points-point : (c g : Cell Point) → c .points ≡ g .points → (x : ℕ) → point c x ≡ point g x
 unfolding point
@@ -154,7 +154,7 @@ module _ (n k : ℕ) (c g : Cell Point) (h : k < 10) (r : Regular n k c) (s : Re
   no-child z a u no' =
       digits-none (map (point c) f) (point g) (family q)
       (all-more Below10 (λ d. T (withinb (map (point c) f) (map (point g) d)) → ⊥)
-      (λ d b t. no' (shares-within c g (s .four) z (both z a (all-of (λ m. T (usesb f m)) (usesb f) (λ m t. t) z u) (λ m hm v. found n k c g h r s f d small b t m hm v))))
+      (λ d b t. no' (shares-within c g (s .four) z (both z a (all-of (λ m. T (usesb f m)) (usesb f) (λ m t. t) z u) (λ m hm v. found-within n k c g h r s f d small b t m hm v))))
       (family q) (family-small q hq))
     where
       both : (z : List ℕ) → All (λ m. m < 4) z → All (λ m. T (usesb f m)) z → ((m : ℕ) → m < 4 → T (usesb f m) → Shares c g m) → All (Shares c g) z
@@ -166,7 +166,7 @@ module _ (n k : ℕ) (c g : Cell Point) (h : k < 10) (r : Regular n k c) (s : Re
   inside-count u = go (withinb (c .points) (g .points)) refl
     where
       corners : map (corner [] c) (0 ∷ 1 ∷ 2 ∷ 3 ∷ []) ≡ c .points
-      corners = sym (four-points [] (c .points) (r .four))
+      corners = sym (four-elements [] (c .points) (r .four))
 
       go : (b : Bool) → withinb (c .points) (g .points) ≡ b → countDigits (map (point c) f) (point g) (family q) ≡ holds (family p) f * one-if (withinb (c .points) (g .points))
       go true e =

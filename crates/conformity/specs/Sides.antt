@@ -20,7 +20,7 @@ use Rattle.lattice.specs.Edges.{point-injective}
 use Rattle.carriers.specs.Joins.{Edge}
 use Rattle.carriers.specs.Carrier.{Shares, between-below, edge-between}
 use Rattle.carriers.specs.Order.{lower-too}
-use Rattle.families.specs.Digits.{cornersAt, lift, triples, holds, alike}
+use Rattle.families.specs.Digits.{cornersAt, lift, digitTriples, holds, alike}
 use Rattle.families.specs.FaceKinds.{OnSide, transfer}
 use Rattle.conformity.specs.Having.{withinb, countDigits, digits-holds}
 use Rattle.conformity.specs.Shared.{Below10, Reads, family-small, digit-of, point-digit, within-shares, one-times, none-times, no-child}
@@ -120,17 +120,17 @@ lift-small m0 m1 m2 h l m (k ∷ t) a = (
   lift-small m0 m1 m2 h l m t (a .1),
 )
 
-triple-test : T (allb (allb (λ k. ltb k 6)) triples)
+triple-test : T (allb (allb (λ k. ltb k 6)) digitTriples)
 unfolding allb
 triple-test = tt
 
-pub triple-small : (t : ℕ) → t < 20 → All (λ k. k < 6) (getD triples t [])
-triple-small t h = all-of (λ k. k < 6) (λ k. ltb k 6) (λ k u. ltb→lt k 6 u) (getD triples t []) (allb-at (allb (λ k. ltb k 6)) [] triples triple-test t h)
+pub triple-small : (t : ℕ) → t < 20 → All (λ k. k < 6) (getD digitTriples t [])
+triple-small t h = all-of (λ k. k < 6) (λ k. ltb k 6) (λ k u. ltb→lt k 6 u) (getD digitTriples t []) (allb-at (allb (λ k. ltb k 6)) [] digitTriples triple-test t h)
 
 pub side-small : (ds : List (List ℕ)) (f : List ℕ) → OnSide ds f → Below10 f
 side-small ds f o =
     let w = three-at (o .z) (o .face) in
-    rw (o .is, w .is) (lift-small (w .a) (w .b) (w .c) (w .ab) (w .bc) (w .c4) (getD triples (o .t) []) (triple-small (o .t) (o .below)))
+    rw (o .is, w .is) (lift-small (w .a) (w .b) (w .c) (w .ab) (w .bc) (w .c4) (getD digitTriples (o .t) []) (triple-small (o .t) (o .below)))
 
 module _ (n k : ℕ) (c g : Cell Point) (h : k < 10) (r : Regular n k c) (s : Regular n k g) (es : List Edge) (p q : ℕ) (hp : p < 64) (hq : q < 64) (rp : Reads es c p) (rq : Reads es g q)
     (f : List ℕ) (o : OnSide (family p) f) where
@@ -140,7 +140,7 @@ module _ (n k : ℕ) (c g : Cell Point) (h : k < 10) (r : Regular n k c) (s : Re
       let m01 = lower-too n k c g r s z0 z1 m0 m1 (omega arith) h0 e0 e1 z01 in
       let m12 = lower-too n k c g r s z1 z2 m1 m2 z4 h1 e1 e2 z12 in
       let (y, hy, ey) = face-of m0 m1 m2 m01 m12 h2 in
-      let t = getD triples (o .t) [] in
+      let t = getD digitTriples (o .t) [] in
       let ht = triple-small (o .t) (o .below) in
       let f' : f ≡ map (lift (z0 ∷ z1 ∷ z2 ∷ [])) t = o .is ∙ ap (λ (z : List ℕ). map (lift z) t) is in
       let m = m0 ∷ m1 ∷ m2 ∷ [] in

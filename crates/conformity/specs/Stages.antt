@@ -29,10 +29,10 @@ use Rattle.carriers.specs.Refined.{status-regular, status-green, pattern-red, p
 use Rattle.soundness.specs.Held.{red-at, closed-at, closed-length, regular-at}
 use Rattle.soundness.specs.Sound.{Sound, lv, level-closed, level-next}
 use Rattle.conformity.specs.Leaves.{leavesIn}
-use Rattle.conformity.specs.Having.{withinb, count, countDigits, count-append, Scaled, count-scaled, digits-leaf, Carried, count-level}
+use Rattle.conformity.specs.Having.{withinb, count, countDigits, count-both, Scaled, count-scaled, digits-leaf, Carried, count-level}
 use Rattle.conformity.specs.Shared.{Reads}
 use Rattle.conformity.specs.Open.{leaves-each}
-use Rattle.conformity.specs.Old.{Old, redsAt}
+use Rattle.conformity.specs.Old.{OldCell, redsAt}
 use Rattle.conformity.specs.Olds.{old-at}
 
 abbrev pub leavesOn : Level → List (Cell Point)
@@ -61,13 +61,13 @@ unfolding below
 below-next n qs ss j = take-next (levelsOf n qs ss) j
 
 module _ (n : ℕ) (qs : List (List ℕ)) (ss : List ℕ) (s : Sound n qs ss) (regular : (i : ℕ) → All (IfRegular n i) (lv n qs ss i .cells)) where
-  pub below-old : (j i : ℕ) → i ≤ j → j ≤ 10 → All (Old n qs ss j) (below n qs ss i)
+  pub below-old : (j i : ℕ) → i ≤ j → j ≤ 10 → All (OldCell n qs ss j) (below n qs ss i)
   unfolding below
   below-old j zero h l = tt
   below-old j (suc i) h l =
-      subst (All (Old n qs ss j)) (sym (below-next n qs ss i))
-      (all-append (Old n qs ss j) (below n qs ss i) (leavesAt n qs ss i) (below-old j i (omega arith) l)
-      (leaves-each (Old n qs ss j) (lv n qs ss i .cells) (lv n qs ss i .statuses) (λ u hu g e. old-at n qs ss s regular i u j (omega arith) l hu (inl (omega arith)))))
+      subst (All (OldCell n qs ss j)) (sym (below-next n qs ss i))
+      (all-append (OldCell n qs ss j) (below n qs ss i) (leavesAt n qs ss i) (below-old j i (omega arith) l)
+      (leaves-each (OldCell n qs ss j) (lv n qs ss i .cells) (lv n qs ss i .statuses) (λ u hu g e. old-at n qs ss s regular i u j (omega arith) l hu (inl (omega arith)))))
 
   -- the pattern of a regular cell
   module _ (j v : ℕ) (hv : v < length (lv n qs ss j .cells)) where
@@ -102,18 +102,18 @@ module _ (n : ℕ) (qs : List (List ℕ)) (ss : List ℕ) (s : Sound n qs ss) (r
   pub carry : (j : ℕ) → j < 10 → (u t : List Point) (h : ℕ)
       → ((v : ℕ) → v < length (lv n qs ss j .cells) → T (getD (lv n qs ss j .cells) v noCell .regular)
       → countDigits u (point (getD (lv n qs ss j .cells) v noCell)) (family (patternOf (getD (lv n qs ss j .statuses) v 0))) ≡ h * one-if (withinb t (getD (lv n qs ss j .cells) v noCell .points)))
-      → ((o : Cell Point) → Old n qs ss j o → Scaled u t h o)
+      → ((o : Cell Point) → OldCell n qs ss j o → Scaled u t h o)
       → count u (stage n qs ss (suc j)) ≡ h * count t (stage n qs ss j)
   carry j hj u t h f g =
       let l = lv n qs ss j in
       let a : count u (below n qs ss j) ≡ h * count t (below n qs ss j) =
-      count-scaled u t h (below n qs ss j) (all-more (Old n qs ss j) (Scaled u t h) g (below n qs ss j) (below-old j j (omega arith) (omega arith))) in
+      count-scaled u t h (below n qs ss j) (all-more (OldCell n qs ss j) (Scaled u t h) g (below n qs ss j) (below-old j j (omega arith) (omega arith))) in
       let b : count u (leavesAt n qs ss j) + count u (next (l .first) (l .cells) (l .statuses)) ≡ h * count t (l .cells) =
       count-level u t h (l .first) (l .cells) (l .statuses) (closed-length l (level-closed n qs ss (s .closed) j)) (λ v hv. at v hv (getD (l .cells) v noCell .regular) refl) in
       let e0 : stage n qs ss (suc j) ≡ (below n qs ss j ++ leavesAt n qs ss j) ++ next (l .first) (l .cells) (l .statuses) = ap₂ _++_ (below-next n qs ss j) (level-next n qs ss j (omega arith)) in
-      let e1 = count-append u (below n qs ss j ++ leavesAt n qs ss j) (next (l .first) (l .cells) (l .statuses)) in
-      let e2 = count-append u (below n qs ss j) (leavesAt n qs ss j) in
-      let e3 = count-append t (below n qs ss j) (l .cells) in
+      let e1 = count-both u (below n qs ss j ++ leavesAt n qs ss j) (next (l .first) (l .cells) (l .statuses)) in
+      let e2 = count-both u (below n qs ss j) (leavesAt n qs ss j) in
+      let e3 = count-both t (below n qs ss j) (l .cells) in
       ap (count u) e0 ∙ e1 ∙ ap (λ (m : ℕ). m + count u (next (l .first) (l .cells) (l .statuses))) e2
       ∙ omega (arith, a, b) ∙ sym (mul-add h (count t (below n qs ss j)) (count t (l .cells))) ∙ ap (λ (m : ℕ). h * m) (sym e3)
     where

@@ -23,7 +23,7 @@ use Rattle.base.specs.Each.{all-filter, filter-passes}
 use Rattle.lineage.specs.Paths.{length-coarse, coarse-at}
 use Rattle.lineage.specs.Levels.{cells-first}
 use Rattle.soundness.specs.Sound.{lv}
-use Rattle.conformity.specs.Leaves.{offb, onFaceb, onBoundaryb, boundaryFaces}
+use Rattle.conformity.specs.Leaves.{offb, onCoarseFaceb, onBoundaryb, boundaryFaces}
 use Rattle.families.specs.Digits.{cornersAt}
 use Rattle.conformity.specs.Having.{bool-ext, count}
 use Rattle.conformity.specs.Bounds.{Wide}
@@ -79,8 +79,8 @@ face-below n q r m hm = rw (faces-at q m hm) (go (cornersAt m) (corners-below m 
     go (i ∷ l) a = (all-at (λ x. x < n) 0 q (rise-below n q r) i (rw (r .is) (a .0)), go l (a .1))
 
 -- coarse corners on a coarse face
-on-coarse : (n : ℕ) (t u : List ℕ) → All (λ x. x < n) t → onFaceb (map (coarse n) t) u ≡ allb (λ x. memberb x u) t
-unfolding onFaceb allb
+on-coarse : (n : ℕ) (t u : List ℕ) → All (λ x. x < n) t → onCoarseFaceb (map (coarse n) t) u ≡ allb (λ x. memberb x u) t
+unfolding onCoarseFaceb allb
 on-coarse n [] u a = refl
 on-coarse n (x ∷ t) u a = ap₂ _&&_ (off-coarse n x u (a .0)) (on-coarse n t u (a .1))
 
@@ -114,16 +114,16 @@ module _ (n : ℕ) (qs : List (List ℕ)) (r : All (Rise n) qs) (single : T (sin
   on-bound =
       let below = face-below n (getD qs k []) own m hm in
       let rise = face-rise n (getD qs k []) own m hm in
-      bool-ext (anyb (onFaceb (map (coarse n) cut)) (boundaryFaces qs)) (eqb (holders qs cut) 1)
-      (λ t. let (i, hi, w) = any-place (onFaceb (map (coarse n) cut)) [] (boundaryFaces qs) t in
+      bool-ext (anyb (onCoarseFaceb (map (coarse n) cut)) (boundaryFaces qs)) (eqb (holders qs cut) 1)
+      (λ t. let (i, hi, w) = any-place (onCoarseFaceb (map (coarse n) cut)) [] (boundaryFaces qs) t in
       let u = getD (boundaryFaces qs) i [] in
       let one : eqb (holders qs u) 1 ≡ true = all-at (λ t. eqb (holders qs t) 1 ≡ true) [] (boundaryFaces qs) (filter-passes (λ t. eqb (holders qs t) 1) (flatMap faces qs)) i hi in
       let ru : Rise3 u = all-at Rise3 [] (boundaryFaces qs) (all-filter (λ t. eqb (holders qs t) 1) Rise3 (flatMap faces qs) (faces-rise n qs r)) i hi in
       let same : cut ≡ u = within-three cut u rise ru (rw (on-coarse n cut u below) at w) in
       rw (same, one) tt)
-      (λ t. any-filter (λ t. eqb (holders qs t) 1) (onFaceb (map (coarse n) cut)) (flatMap faces qs)
-      (any-faces (λ u. eqb (holders qs u) 1 && onFaceb (map (coarse n) cut) u) qs k m hk hm
-      (and-both (eqb (holders qs cut) 1) (onFaceb (map (coarse n) cut) cut) t
+      (λ t. any-filter (λ t. eqb (holders qs t) 1) (onCoarseFaceb (map (coarse n) cut)) (flatMap faces qs)
+      (any-faces (λ u. eqb (holders qs u) 1 && onCoarseFaceb (map (coarse n) cut) u) qs k m hk hm
+      (and-both (eqb (holders qs cut) 1) (onCoarseFaceb (map (coarse n) cut) cut) t
       (rw (on-coarse n cut cut below) (all-each (λ x. memberb x cut) 0 cut (member-at cut))))))
 
   pub bound-coarse : holders qs cut ≡ bound qs (map (coarse n) cut)
@@ -137,8 +137,8 @@ module _ (n : ℕ) (qs : List (List ℕ)) (r : All (Rise n) qs) (single : T (sin
             | no h ↦ omega (arith, holders-few, bound-two qs (map (coarse n) cut) (on-bound ∙ e))
           ]
 
-on-from : (f : List Point) (t : List ℕ) → T (allb (λ p. offb 0 p t) f) → T (onFaceb f t)
-unfolding onFaceb
+on-from : (f : List Point) (t : List ℕ) → T (allb (λ p. offb 0 p t) f) → T (onCoarseFaceb f t)
+unfolding onCoarseFaceb
 on-from f t w = w
 
 -- the stage 0

@@ -9,24 +9,23 @@ use native.Mathlib.Omega.{arith}
 use lib.ListN.{length, getD, take, drop, List·getD-append}
 use lib.Seq.{sets, take-at}
 use lib.IntN.{ℤ, pos, _*ℤ_}
-use Rattle.mesh.specs.Coarse.{coordinate}
-use Rattle.corners.specs.Sums.{Small, Smalls, Held, coarseSums, midSums, addSums, sumNumbers, length-coarseSums, length-addSums}
+use Rattle.mesh.specs.Coarse.{coordinateAt}
+use Rattle.corners.specs.Sums.{SmallSum, Smalls, SumHeld, coarseSums, midSums, addSums, sumNumbers, length-coarseSums, length-addSums}
 use Rattle.corners.proofs.Rows.{row, behind, same-size}
-use Rattle.corners.specs.Sizes.{small-scaled}
-use Rattle.corners.proofs.Size.{half-sum-small}
+use Rattle.corners.proofs.Size.{small-scaled, half-sum-small}
 
 -- sizes
 module _ (n : ℕ) where
-  small-zero : Small n (pos 0)
+  small-zero : SmallSum n (pos 0)
   small-zero = record { size = omega arith }
 
-  append-at : (l k : List ℤ) → ((i : ℕ) → Small n (getD l i (pos 0))) → ((i : ℕ) → Small n (getD k i (pos 0)))
-      → (i : ℕ) → Small n (getD (l ++ k) i (pos 0))
+  append-at : (l k : List ℤ) → ((i : ℕ) → SmallSum n (getD l i (pos 0))) → ((i : ℕ) → SmallSum n (getD k i (pos 0)))
+      → (i : ℕ) → SmallSum n (getD (l ++ k) i (pos 0))
   append-at [] k f g i = g i
   append-at (x ∷ l) k f g zero = f zero
   append-at (x ∷ l) k f g (suc i) = append-at l k (λ j. f (suc j)) g i
 
-  three-at : (x y z : ℤ) → Small n x → Small n y → Small n z → (i : ℕ) → Small n (getD (x ∷ y ∷ z ∷ []) i (pos 0))
+  three-at : (x y z : ℤ) → SmallSum n x → SmallSum n y → SmallSum n z → (i : ℕ) → SmallSum n (getD (x ∷ y ∷ z ∷ []) i (pos 0))
   three-at x y z p q r zero = p
   three-at x y z p q r (suc zero) = q
   three-at x y z p q r (suc (suc zero)) = r
@@ -35,7 +34,7 @@ module _ (n : ℕ) where
   none : Smalls n []
   none = record { at = λ i. small-zero }
 
-  more : (l : List ℤ) (x y z : ℤ) → Smalls n l → Small n x → Small n y → Small n z → Smalls n (l ++ (x ∷ y ∷ z ∷ []))
+  more : (l : List ℤ) (x y z : ℤ) → Smalls n l → SmallSum n x → SmallSum n y → SmallSum n z → Smalls n (l ++ (x ∷ y ∷ z ∷ []))
   more l x y z s p q r = record { at = append-at l (x ∷ y ∷ z ∷ []) (s .at) (three-at x y z p q r) }
 
 coarse-small : (ps : List ℤ) → Smalls 500000 ps → (n : ℕ) → Smalls 512000000 (coarseSums ps n)
@@ -43,9 +42,9 @@ unfolding coarseSums
 coarse-small ps s zero = none 512000000
 coarse-small ps s (suc i) =
     more 512000000 (coarseSums ps i) _ _ _ (coarse-small ps s i)
-    (small-scaled (coordinate ps i 0) (s .at (3 * i + 0)))
-    (small-scaled (coordinate ps i 1) (s .at (3 * i + 1)))
-    (small-scaled (coordinate ps i 2) (s .at (3 * i + 2)))
+    (small-scaled (coordinateAt ps i 0) (s .at (3 * i + 0)))
+    (small-scaled (coordinateAt ps i 1) (s .at (3 * i + 1)))
+    (small-scaled (coordinateAt ps i 2) (s .at (3 * i + 2)))
 
 pub new-small : (l : List ℤ) (xs ys : List ℕ) → Smalls 512000000 l → (m : ℕ) → Smalls 512000000 (addSums l xs ys m)
 unfolding addSums
@@ -56,15 +55,15 @@ new-small l xs ys s (suc j) =
     let x : ℕ = getD xs j 0 in
     let y : ℕ = getD ys j 0 in
     more 512000000 t _ _ _ b
-    (half-sum-small (coordinate t x 0) (coordinate t y 0) (b .at (3 * x + 0)) (b .at (3 * y + 0)))
-    (half-sum-small (coordinate t x 1) (coordinate t y 1) (b .at (3 * x + 1)) (b .at (3 * y + 1)))
-    (half-sum-small (coordinate t x 2) (coordinate t y 2) (b .at (3 * x + 2)) (b .at (3 * y + 2)))
+    (half-sum-small (coordinateAt t x 0) (coordinateAt t y 0) (b .at (3 * x + 0)) (b .at (3 * y + 0)))
+    (half-sum-small (coordinateAt t x 1) (coordinateAt t y 1) (b .at (3 * x + 1)) (b .at (3 * y + 1)))
+    (half-sum-small (coordinateAt t x 2) (coordinateAt t y 2) (b .at (3 * x + 2)) (b .at (3 * y + 2)))
 
 -- turns
 module _ (l : List ℤ) where
   pub coarse-turn : (ps : List ℤ) (i : ℕ) → 3 * i + 3 ≤ length l
       → sets (coarseSums ps i ++ drop (3 * i) l) (3 * i)
-      ((pos 1024 *ℤ coordinate ps i 0) ∷ (pos 1024 *ℤ coordinate ps i 1) ∷ (pos 1024 *ℤ coordinate ps i 2) ∷ [])
+      ((pos 1024 *ℤ coordinateAt ps i 0) ∷ (pos 1024 *ℤ coordinateAt ps i 1) ∷ (pos 1024 *ℤ coordinateAt ps i 2) ∷ [])
       ≡ coarseSums ps (i + 1) ++ drop (3 * (i + 1)) l
   unfolding coarseSums
   coarse-turn ps i h =
@@ -76,14 +75,14 @@ module _ (l : List ℤ) where
     length-before : length (addSums p xs ys j) ≡ 3 * (n + j)
     length-before = omega (arith, length-addSums p xs ys j)
 
-    before : (i k : ℕ) → i < n + j → k < 3 → coordinate s i k ≡ coordinate (addSums p xs ys j) i k
-    unfolding coordinate
+    before : (i k : ℕ) → i < n + j → k < 3 → coordinateAt s i k ≡ coordinateAt (addSums p xs ys j) i k
+    unfolding coordinateAt
     before i k g h =
         rw f
         (List·getD-append (addSums p xs ys j) (drop (3 * (n + j)) l) (pos 0) (3 * i + k) (omega (arith, length-before)))
 
-    pub held : Smalls 512000000 p → 3 * (n + j) ≤ length l → (i : ℕ) → i < n + j → Held s i
-    unfolding coordinate
+    pub held : Smalls 512000000 p → 3 * (n + j) ≤ length l → (i : ℕ) → i < n + j → SumHeld s i
+    unfolding coordinateAt
     held q h i g =
         record {
           there = rw (f, same-size l (addSums p xs ys j) (3 * (n + j)) length-before h) (omega arith);

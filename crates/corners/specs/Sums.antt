@@ -1,8 +1,8 @@
 -- The weighted sums of a mesh's corners, three numbers a corner, without weights: a coarse corner has 1,024 times its
 -- position, a new one half the sum of its ends' numbers. No odd number is halved (Tables).
---   Small n z                 z is at most n in size
+--   SmallSum n z                 z is at most n in size
 --   Smalls n l                each number of l is
---   Held l x                  l holds the sums of corner x, each at most 1,024 times 500,000
+--   SumHeld l x                  l holds the sums of corner x, each at most 1,024 times 500,000
 --   half z                    z over 2, rounded toward zero
 --   coarseSums ps n           the sums of n coarse corners with positions ps
 --   midSums l x y             the sums of the midpoint of the corners x and y, where l holds theirs
@@ -18,34 +18,34 @@ use lib.IntN.{ℤ, pos, natAbs, _+ℤ_, _*ℤ_}
 use lib.Signed.{quotZ}
 use Rattle.base.specs.Lists.{allb}
 use Rattle.base.specs.Bools.{and-left, and-right}
-use Rattle.mesh.specs.Coarse.{coordinate, positionsb}
+use Rattle.mesh.specs.Coarse.{coordinateAt, positionsb}
 
-pub record Small (n : ℕ) (z : ℤ) : Type 0 where
+pub record SmallSum (n : ℕ) (z : ℤ) : Type 0 where
   pub size : natAbs z ≤ n
 
 pub record Smalls (n : ℕ) (l : List ℤ) : Type 0 where
-  pub at : (i : ℕ) → Small n (getD l i (pos 0))
+  pub at : (i : ℕ) → SmallSum n (getD l i (pos 0))
 
-pub record Held (l : List ℤ) (x : ℕ) : Type 0 where
+pub record SumHeld (l : List ℤ) (x : ℕ) : Type 0 where
   pub there : 3 * x + 3 ≤ length l
-  pub small : (k : ℕ) → k < 3 → Small 512000000 (coordinate l x k)
+  pub small : (k : ℕ) → k < 3 → SmallSum 512000000 (coordinateAt l x k)
 
 unfoldable pub half : ℤ → ℤ
 half z = quotZ z (pos 2)
 
 unfoldable pub coarseSums : List ℤ → ℕ → List ℤ
-unfolding coordinate
+unfolding coordinateAt
 coarseSums ps zero = []
 coarseSums ps (suc i) =
     coarseSums ps i
-    ++ ((pos 1024 *ℤ coordinate ps i 0) ∷ (pos 1024 *ℤ coordinate ps i 1) ∷ (pos 1024 *ℤ coordinate ps i 2) ∷ [])
+    ++ ((pos 1024 *ℤ coordinateAt ps i 0) ∷ (pos 1024 *ℤ coordinateAt ps i 1) ∷ (pos 1024 *ℤ coordinateAt ps i 2) ∷ [])
 
 unfoldable pub midSums : List ℤ → ℕ → ℕ → List ℤ
-unfolding coordinate half
+unfolding coordinateAt half
 midSums l x y =
-    half (coordinate l x 0 +ℤ coordinate l y 0)
-    ∷ half (coordinate l x 1 +ℤ coordinate l y 1)
-    ∷ half (coordinate l x 2 +ℤ coordinate l y 2)
+    half (coordinateAt l x 0 +ℤ coordinateAt l y 0)
+    ∷ half (coordinateAt l x 1 +ℤ coordinateAt l y 1)
+    ∷ half (coordinateAt l x 2 +ℤ coordinateAt l y 2)
     ∷ []
 
 unfoldable pub addSums : List ℤ → List ℕ → List ℕ → ℕ → List ℤ
@@ -72,7 +72,7 @@ pub positions-small : (ps : List ℤ) → T (positionsb ps) → Smalls 500000 ps
 unfolding positionsb allb
 positions-small ps t = record { at = go ps t }
   where
-    go : (ps : List ℤ) → T (positionsb ps) → (i : ℕ) → Small 500000 (getD ps i (pos 0))
+    go : (ps : List ℤ) → T (positionsb ps) → (i : ℕ) → SmallSum 500000 (getD ps i (pos 0))
     go [] t i = record { size = omega arith }
     go (z ∷ ps) t zero = record { size = leb→le (natAbs z) 500000 (and-left (leb (natAbs z) 500000) (positionsb ps) t) }
     go (z ∷ ps) t (suc i) = go ps (and-right (leb (natAbs z) 500000) (positionsb ps) t) i

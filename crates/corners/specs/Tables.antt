@@ -1,5 +1,5 @@
 -- The tables that a layout hands out of its corners are the numbers that Ends and Sums compute from the ends alone.
---   Numbered n xs ys m ks   ks are the corners of a mesh with n coarse corners and m new ones, whose ends' numbers stand in
+--   CornersNumbered n xs ys m ks   ks are the corners of a mesh with n coarse corners and m new ones, whose ends' numbers stand in
 --                           xs and ys
 --   ends-are                their table of ends is endNumbers
 --   sums-are                their table of weighted sums is sumNumbers
@@ -13,7 +13,7 @@ use native.Mathlib.Omega.{arith}
 use lib.ListN.{length, getD, take, replicate, length-append, length-set, length-replicate, List·getD-append}
 use lib.Seq.{take-suc, take-all, getD-take, length-take-le, getD-at}
 use lib.IntN.{ℤ, pos, _+ℤ_}
-use Rattle.mesh.specs.Coarse.{coordinate}
+use Rattle.mesh.specs.Coarse.{coordinateAt}
 use Rattle.mesh.specs.Weights.{Point, coarse, mid}
 use Rattle.mesh.specs.Layout.{Corner, coarseCorners, coarseCornersTo, endTable, weightedSum, sumTable}
 use Rattle.corners.specs.Ends.{Ends, coarseEnds, addEnds, endNumbers}
@@ -28,7 +28,7 @@ cornerAt ks i = getD ks i (record { weights = []; low = 0; high = 0 })
 abbrev pub weightsAt : List Corner → ℕ → Point
 weightsAt ks i = cornerAt ks i .weights
 
-pub record Numbered (n : ℕ) (xs ys : List ℕ) (m : ℕ) (ks : List Corner) : Type 0 where
+pub record CornersNumbered (n : ℕ) (xs ys : List ℕ) (m : ℕ) (ks : List Corner) : Type 0 where
   pub count : length ks ≡ n + m
   pub coarse-first : take n ks ≡ coarseCorners n
   pub ends : Ends n xs ys m
@@ -67,8 +67,8 @@ unfolding sumTable
 sums-snoc ps ks k = flat-snoc (λ (c : Corner). sumsOf ps (c .weights)) ks k
 
 pub sums-at : (ps : List ℤ) (k : ℕ) → k < 3 → (ks : List Corner) (i : ℕ) → i < length ks
-    → coordinate (sumTable ps ks) i k ≡ weightedSum ps k (weightsAt ks i)
-unfolding coordinate sumTable flatMap
+    → coordinateAt (sumTable ps ks) i k ≡ weightedSum ps k (weightsAt ks i)
+unfolding coordinateAt sumTable flatMap
 sums-at ps k h [] i l = absurd (omega arith)
 sums-at ps k h (c ∷ ks) zero l = rw (zero-add k) (first k h)
   where
@@ -116,7 +116,7 @@ module _ (n : ℕ) where
         weighted-coarse ps 2 n i h,
       )
 
-module _ (n : ℕ) (xs ys : List ℕ) (m : ℕ) (ks : List Corner) (w : Numbered n xs ys m ks) where
+module _ (n : ℕ) (xs ys : List ℕ) (m : ℕ) (ks : List Corner) (w : CornersNumbered n xs ys m ks) where
   -- each corner has n weights
   sized : (j : ℕ) → j ≤ m → (i : ℕ) → i < n + j → length (weightsAt ks i) ≡ n
   unfolding coarseCorners coarse
@@ -147,7 +147,7 @@ module _ (n : ℕ) (xs ys : List ℕ) (m : ℕ) (ks : List Corner) (w : Numbered
   -- a new corner's sums, from those of the corners before it
   module _ (ps : List ℤ) (j : ℕ) (h : j < m) where
     sum-before : (k : ℕ) → k < 3 → (i : ℕ) → i < n + j
-        → coordinate (sumTable ps (take (n + j) ks)) i k ≡ weightedSum ps k (weightsAt ks i)
+        → coordinateAt (sumTable ps (take (n + j) ks)) i k ≡ weightedSum ps k (weightsAt ks i)
     sum-before k l i g =
         sums-at ps k l (take (n + j) ks) i (rw (length-take-le (n + j) ks (omega (arith, w .count))) g)
         ∙ ap (λ (c : Corner). weightedSum ps k (c .weights)) (getD-take (n + j) ks i _ g)
@@ -155,8 +155,8 @@ module _ (n : ℕ) (xs ys : List ℕ) (m : ℕ) (ks : List Corner) (w : Numbered
     sum-new : (k : ℕ) → k < 3
         → weightedSum ps k (weightsAt ks (n + j))
         ≡ half
-        (coordinate (sumTable ps (take (n + j) ks)) (getD xs j 0) k
-        +ℤ coordinate (sumTable ps (take (n + j) ks)) (getD ys j 0) k)
+        (coordinateAt (sumTable ps (take (n + j) ks)) (getD xs j 0) k
+        +ℤ coordinateAt (sumTable ps (take (n + j) ks)) (getD ys j 0) k)
     sum-new k l =
         let a : getD xs j 0 < n + j = w .ends .below-x j h in
         let b : getD ys j 0 < n + j = w .ends .below-y j h in

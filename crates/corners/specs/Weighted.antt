@@ -1,7 +1,7 @@
 -- Weighted sums of a midpoint and of a coarse corner.
 --   Evens p q   the weights of p and q add to an even number at each place
 -- Laws: weighted-mid (twice the sum of a midpoint is the sum of its ends' sums), half-mid (so it is half of that),
--- weighted-coarse (the sum of a coarse corner is 1,024 times its coordinate).
+-- weighted-coarse (the sum of a coarse corner is 1,024 times its coordinateAt).
 use mathlib.Core.Path.{_≡_, refl, sym, _∙_, ap, ap₂}
 use mathlib.Core.List.{List, [], _∷_, zipWith}
 use Prim.Native.Nat.{ℕ, zero, suc, _+_, _*_, _/_, _%_, _<_}
@@ -9,7 +9,7 @@ use native.Mathlib.Nat.{add-mul, add-suc, suc-add, add-zero, zero-add}
 use native.Mathlib.Omega.{arith}
 use lib.ListN.{length, getD, set, replicate}
 use lib.IntN.{ℤ, pos, negsuc, negℤ, _+ℤ_, _*ℤ_, +ℤ-assoc, +ℤ-comm, +ℤ-idl, +ℤ-idr, zero-*ℤ, negℤ-+ℤ}
-use Rattle.mesh.specs.Coarse.{coordinate}
+use Rattle.mesh.specs.Coarse.{coordinateAt}
 use Rattle.mesh.specs.Weights.{Point, coarse, mid}
 use Rattle.mesh.specs.Layout.{weightedFrom, weightedSum}
 use Rattle.corners.specs.Sums.{half}
@@ -37,7 +37,7 @@ module _ (ps : List ℤ) (k : ℕ) where
   mid-from i [] (y ∷ q) e h = absurd (omega arith)
   mid-from i (x ∷ p) [] e h = absurd (omega arith)
   mid-from i (x ∷ p) (y ∷ q) e h =
-      let z : ℤ = coordinate ps i k in
+      let z : ℤ = coordinateAt ps i k in
       let w : ℕ = (x + y) / 2 in
       let m : w + w ≡ x + y = omega (arith, h 0) in
       let r : ℤ = weightedFrom ps k (suc i) (mid p q) in
@@ -56,17 +56,17 @@ module _ (ps : List ℤ) (k : ℕ) where
   from-none : (i n : ℕ) → weightedFrom ps k i (replicate n 0) ≡ pos 0
   unfolding weightedFrom
   from-none i zero = refl
-  from-none i (suc n) = rw (zero-*ℤ (coordinate ps i k), from-none (suc i) n)
+  from-none i (suc n) = rw (zero-*ℤ (coordinateAt ps i k), from-none (suc i) n)
 
-  from-one : (i n j : ℕ) → j < n → weightedFrom ps k i (set (replicate n 0) j 1024) ≡ pos 1024 *ℤ coordinate ps (i + j) k
+  from-one : (i n j : ℕ) → j < n → weightedFrom ps k i (set (replicate n 0) j 1024) ≡ pos 1024 *ℤ coordinateAt ps (i + j) k
   unfolding weightedFrom
   from-one i zero j h = absurd (omega arith)
-  from-one i (suc n) zero h = rw (from-none (suc i) n, add-zero i) (+ℤ-idr (pos 1024 *ℤ coordinate ps i k))
+  from-one i (suc n) zero h = rw (from-none (suc i) n, add-zero i) (+ℤ-idr (pos 1024 *ℤ coordinateAt ps i k))
   from-one i (suc n) (suc j) h =
-      rw (zero-*ℤ (coordinate ps i k), from-one (suc i) n j (omega arith), suc-add i j, add-suc i j)
-      (+ℤ-idl (pos 1024 *ℤ coordinate ps (suc (i + j)) k))
+      rw (zero-*ℤ (coordinateAt ps i k), from-one (suc i) n j (omega arith), suc-add i j, add-suc i j)
+      (+ℤ-idl (pos 1024 *ℤ coordinateAt ps (suc (i + j)) k))
 
-  pub weighted-coarse : (n j : ℕ) → j < n → weightedSum ps k (coarse n j) ≡ pos 1024 *ℤ coordinate ps j k
+  pub weighted-coarse : (n j : ℕ) → j < n → weightedSum ps k (coarse n j) ≡ pos 1024 *ℤ coordinateAt ps j k
   unfolding weightedSum coarse
   weighted-coarse n j h = from-one 0 n j h ∙ rw (zero-add j)
 

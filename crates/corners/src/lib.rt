@@ -7,9 +7,9 @@ ghost use lib.ListN.{length, take, drop};
 ghost use lib.Seq.{sets};
 ghost use lib.IntN.{pos, _+ℤ_, _*ℤ_};
 ghost use Rattle.base.specs.Lent.{was, is};
-ghost use Rattle.mesh.specs.Coarse.{coordinate};
+ghost use Rattle.mesh.specs.Coarse.{coordinateAt};
 ghost use Rattle.corners.specs.Ends.{Ends, coarseEnds, addEnds, endNumbers};
-ghost use Rattle.corners.specs.Sums.{Small, Smalls, Held, half, coarseSums, midSums, addSums, sumNumbers};
+ghost use Rattle.corners.specs.Sums.{SmallSum, Smalls, SumHeld, half, coarseSums, midSums, addSums, sumNumbers};
 
 // Stores the two ends of a corner.
 fn put_ends(ends: &mut [u16], at: usize, low: u16, high: u16)
@@ -69,7 +69,7 @@ fn put_sums(sums: &mut [i32], at: usize, x: i32, y: i32, z: i32)
 
 // 1,024 times a number of a position.
 fn scaled(z: i32) -> i32
-    requires { ⌜ Small 500000 z ⌝ }
+    requires { ⌜ SmallSum 500000 z ⌝ }
     ensures { λ r. ⌜ r ≡ pos 1024 *ℤ z ⌝ }
 {
     1024 * z
@@ -77,36 +77,36 @@ fn scaled(z: i32) -> i32
 
 // Half the sum of two numbers of corners.
 fn half_sum(a: i32, b: i32) -> i32
-    requires { ⌜ Small 512000000 a ⌝ }
-    requires { ⌜ Small 512000000 b ⌝ }
+    requires { ⌜ SmallSum 512000000 a ⌝ }
+    requires { ⌜ SmallSum 512000000 b ⌝ }
     ensures { λ r. ⌜ r ≡ half (a +ℤ b) ⌝ }
 {
     (a + b) / 2
 }
 
-// 1,024 times coordinate k of a coarse corner.
+// 1,024 times coordinateAt k of a coarse corner.
 fn coarse_sum(positions: &[i32], i: usize, k: usize) -> i32
     requires { ⌜ 3 * i + k < length (now positions) ⌝ }
     requires { ⌜ Smalls 500000 (now positions) ⌝ }
-    ensures { λ r. ⌜ r ≡ pos 1024 *ℤ coordinate (was positions) i k ⌝ }
+    ensures { λ r. ⌜ r ≡ pos 1024 *ℤ coordinateAt (was positions) i k ⌝ }
 {
     scaled(positions[3 * i + k])
 }
 
 // Coordinate k of the midpoint of the corners a and b.
 fn mid_sum(sums: &[i32], a: usize, b: usize, k: usize) -> i32
-    requires { ⌜ Held (now sums) a ⌝ }
-    requires { ⌜ Held (now sums) b ⌝ }
+    requires { ⌜ SumHeld (now sums) a ⌝ }
+    requires { ⌜ SumHeld (now sums) b ⌝ }
     requires { ⌜ k < 3 ⌝ }
-    ensures { λ r. ⌜ r ≡ half (coordinate (was sums) a k +ℤ coordinate (was sums) b k) ⌝ }
+    ensures { λ r. ⌜ r ≡ half (coordinateAt (was sums) a k +ℤ coordinateAt (was sums) b k) ⌝ }
 {
     half_sum(sums[3 * a + k], sums[3 * b + k])
 }
 
 // Stores the sums of the midpoint of the corners a and b.
 fn put_mid(sums: &mut [i32], at: usize, a: usize, b: usize)
-    requires { ⌜ Held (now sums) a ⌝ }
-    requires { ⌜ Held (now sums) b ⌝ }
+    requires { ⌜ SumHeld (now sums) a ⌝ }
+    requires { ⌜ SumHeld (now sums) b ⌝ }
     requires { ⌜ at + 3 ≤ length (now sums) ⌝ }
     ensures { λ r. ⌜ is sums ≡ sets (was sums) at (midSums (was sums) a b) ⌝ }
 {

@@ -1,4 +1,2 @@
 pub mod Tallies
 pub mod Turns
-pub mod Whole
-pub mod Sound

@@ -7,7 +7,7 @@ ghost use lib.Seq.{sets};
 ghost use Rattle.base.specs.Bools.{one-if};
 ghost use Rattle.base.specs.Lent.{was, is};
 ghost use Rattle.mesh.specs.Counts.{greenb};
-ghost use Rattle.counting.specs.Levels.{Levels, countsAt, levelCounts, levelNumber, listed};
+ghost use Rattle.counting.specs.Levels.{Levels, countsAt, levelCounts, levelNumber, tallied};
 
 // The counts of one level.
 pub struct Tally {
@@ -35,7 +35,7 @@ fn is_green(status: u8) -> bool
 // The counts of the cells from first to last.
 fn count_range(status: &[u8], first: usize, last: usize) -> Tally
     requires { ⌜ (first ≤ last) × (last ≤ length (now status)) × (length (now status) ≤ 4096) ⌝ }
-    ensures { λ r. ⌜ listed r ≡ countsAt first last (was status) ⌝ }
+    ensures { λ r. ⌜ tallied r ≡ countsAt first last (was status) ⌝ }
 {
     let mut red: u16 = 0;
     let mut green: u16 = 0;
@@ -59,7 +59,7 @@ fn count_range(status: &[u8], first: usize, last: usize) -> Tally
 // Stores the four numbers of a tally.
 fn put_tally(counts: &mut [u16], at: usize, t: Tally)
     requires { ⌜ at + 4 ≤ length (now counts) ⌝ }
-    ensures { λ r. ⌜ is counts ≡ sets (was counts) at (listed t) ⌝ }
+    ensures { λ r. ⌜ is counts ≡ sets (was counts) at (tallied t) ⌝ }
 {
     counts[at] = t.cells;
     counts[at + 1] = t.red;
@@ -81,7 +81,7 @@ pub fn count_levels(status: &[u8], coarse: usize, counts: &mut [u16]) -> usize
     while first < last {
         let t = count_range(status, first, last);
         put_tally(counts, 4 * level, t);
-        let above = last + sizes::level_size(status, first, last);
+        let above = last + rows::level_size(status, first, last);
         first = last;
         last = above;
         level += 1;

@@ -12,9 +12,9 @@ use Rattle.base.specs.Lists.{belowb, belowb-at, sameb, sameb-eq, allb}
 use Rattle.base.specs.Bools.{and-left, and-right}
 use Rattle.cutting.specs.Rule.{family}
 use Rattle.cutting.specs.Answer.{digitsBelow, digitTable}
-use Rattle.cutting.specs.Rows.{rows, row, family-row, family-few, family-fours}
+use Rattle.cutting.specs.Rows.{familyRows, row, family-row, family-few, family-fours}
 
--- the rows one after the other
+-- the familyRows one after the other
 unfoldable pub flat : List (List (List ℕ)) → List ℕ
 flat [] = []
 flat (f ∷ fs) = flatten f ++ flat fs
@@ -24,42 +24,42 @@ unfolding flat
 flat-snoc [] f = append-nil (flatten f)
 flat-snoc (x ∷ fs) f = rw (flat-snoc fs f) (sym (append-assoc (flatten x) (flat fs) (flatten f)))
 
-below-flat : (p : ℕ) → p ≤ 64 → digitsBelow p ≡ flat (take p rows)
-unfolding digitsBelow flat rows row
+below-flat : (p : ℕ) → p ≤ 64 → digitsBelow p ≡ flat (take p familyRows)
+unfolding digitsBelow flat familyRows row
 below-flat zero h = refl
 below-flat (suc p) h =
-    ap₂ _++_ (below-flat p (omega arith)) (ap flatten (family-row p h)) ∙ sym (ap flat (take-suc rows p [] h) ∙ flat-snoc (take p rows) (row p))
+    ap₂ _++_ (below-flat p (omega arith)) (ap flatten (family-row p h)) ∙ sym (ap flat (take-suc familyRows p [] h) ∙ flat-snoc (take p familyRows) (row p))
 
 -- The two constants of src/, from the rows: ASCII digits, and where each row starts.
 unfoldable pub digits : List ℕ
-unfolding flat rows
-digits = map (λ d. 48 + d) (flat rows)
+unfolding flat familyRows
+digits = map (λ d. 48 + d) (flat familyRows)
 
 startsFrom : ℕ → List (List (List ℕ)) → List ℕ
 startsFrom n [] = n ∷ []
 startsFrom n (f ∷ fs) = n ∷ startsFrom (n + length (flatten f)) fs
 
 unfoldable pub starts : List ℕ
-unfolding startsFrom rows flatten
-starts = startsFrom 0 rows
+unfolding startsFrom familyRows flatten
+starts = startsFrom 0 familyRows
 
-all-rows : take 64 rows ≡ rows
-unfolding rows
+all-rows : take 64 familyRows ≡ familyRows
+unfolding familyRows
 all-rows = refl
 
-digits-test : T (sameb (map (λ b. b % 16) digits) (flat rows))
+digits-test : T (sameb (map (λ b. b % 16) digits) (flat familyRows))
 unfolding sameb digits flatten
 digits-test = tt
 
-starts-test : T (belowb (λ p. eqb (getD starts p 0) (length (flat (take p rows)))) 65)
-unfolding belowb starts flat rows flatten
+starts-test : T (belowb (λ p. eqb (getD starts p 0) (length (flat (take p familyRows)))) 65)
+unfolding belowb starts flat familyRows flatten
 starts-test = tt
 
-length-test : T (eqb (length (flat rows)) 1172)
-unfolding flat rows flatten
+length-test : T (eqb (length (flat familyRows)) 1172)
+unfolding flat familyRows flatten
 length-test = tt
 
-all-digits : digitsBelow 64 ≡ flat rows
+all-digits : digitsBelow 64 ≡ flat familyRows
 all-digits = below-flat 64 (omega arith) ∙ ap flat all-rows
 
 pub digits-table : digits ≡ digitTable
@@ -70,15 +70,15 @@ pub digits-right : (l : List ℕ) → l ≡ digitTable → (at : ℕ) → getD l
 digits-right l e at =
     ap (λ (m : List ℕ). getD m at 0 % 16) (e ∙ sym digits-table)
     ∙ sym (List·getD-map (λ b. b % 16) digits at 0)
-    ∙ ap (λ (m : List ℕ). getD m at 0) (sameb-eq (map (λ b. b % 16) digits) (flat rows) digits-test ∙ sym all-digits)
+    ∙ ap (λ (m : List ℕ). getD m at 0) (sameb-eq (map (λ b. b % 16) digits) (flat familyRows) digits-test ∙ sym all-digits)
 
 pub starts-right : (p : ℕ) → p < 65 → getD starts p 0 ≡ length (digitsBelow p)
 starts-right p h =
-    eqb→eq (getD starts p 0) (length (flat (take p rows))) (belowb-at (λ p. eqb (getD starts p 0) (length (flat (take p rows)))) 65 starts-test p h)
+    eqb→eq (getD starts p 0) (length (flat (take p familyRows))) (belowb-at (λ p. eqb (getD starts p 0) (length (flat (take p familyRows)))) 65 starts-test p h)
     ∙ ap length (sym (below-flat p (omega arith)))
 
 small-test : T (belowb (λ p. leb (getD starts p 0) 1172) 65)
-unfolding belowb starts rows flatten
+unfolding belowb starts familyRows flatten
 small-test = tt
 
 pub starts-small : (p : ℕ) → p < 65 → getD starts p 0 ≤ 1172
@@ -86,11 +86,11 @@ starts-small p h = leb→le (getD starts p 0) 1172 (belowb-at (λ p. leb (getD s
 
 -- how many children each family has, in ASCII digits
 unfoldable pub counts : List ℕ
-unfolding rows
-counts = map (λ f. 48 + length f) rows
+unfolding familyRows
+counts = map (λ f. 48 + length f) familyRows
 
 counts-test : T (belowb (λ p. eqb (getD counts p 0 % 16) (length (row p))) 64)
-unfolding belowb counts row rows
+unfolding belowb counts row familyRows
 counts-test = tt
 
 pub counts-right : (p : ℕ) → p < 64 → getD counts p 0 % 16 ≡ length (family p)
@@ -98,7 +98,7 @@ counts-right p h =
     eqb→eq (getD counts p 0 % 16) (length (row p)) (belowb-at (λ p. eqb (getD counts p 0 % 16) (length (row p))) 64 counts-test p h) ∙ ap length (sym (family-row p h))
 
 pub digits-length : length (digitsBelow 64) ≡ 1172
-digits-length = ap length all-digits ∙ eqb→eq (length (flat rows)) 1172 length-test
+digits-length = ap length all-digits ∙ eqb→eq (length (flat familyRows)) 1172 length-test
 
 pub table-length : (l : List ℕ) → l ≡ digitTable → length l ≡ 1172
 unfolding digitTable

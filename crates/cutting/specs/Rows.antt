@@ -9,8 +9,8 @@ use Rattle.base.specs.Lists.{belowb, belowb-at, samesb, samesb-eq, allb}
 use Rattle.base.specs.Bools.{and-left, and-right}
 use Rattle.cutting.specs.Rule.{family}
 
-unfoldable pub rows : List (List (List ℕ))
-rows =
+unfoldable pub familyRows : List (List (List ℕ))
+familyRows =
     ((0 ∷ 4 ∷ 7 ∷ 9 ∷ []) ∷ []) ∷
     ((0 ∷ 1 ∷ 7 ∷ 9 ∷ []) ∷ (1 ∷ 4 ∷ 7 ∷ 9 ∷ []) ∷ []) ∷
     ((0 ∷ 2 ∷ 4 ∷ 9 ∷ []) ∷ (2 ∷ 4 ∷ 7 ∷ 9 ∷ []) ∷ []) ∷
@@ -78,10 +78,10 @@ rows =
     []
 
 unfoldable pub row : ℕ → List (List ℕ)
-row p = getD rows p []
+row p = getD familyRows p []
 
 tested : T (belowb (λ p. samesb (row p) (family p)) 64)
-unfolding belowb samesb rows row family
+unfolding belowb samesb familyRows row family
 tested = tt
 
 pub family-row : (p : ℕ) → p < 64 → family p ≡ row p
@@ -89,7 +89,7 @@ family-row p h = sym (samesb-eq (row p) (family p) (belowb-at (λ p. samesb (row
 
 -- a family has at most 8 children, of four digits each
 few-test : T (belowb (λ p. leb (length (row p)) 8 && allb (λ c. eqb (length c) 4) (row p)) 64)
-unfolding belowb allb rows row
+unfolding belowb allb familyRows row
 few-test = tt
 
 few : (p : ℕ) → p < 64 → T (leb (length (row p)) 8 && allb (λ c. eqb (length c) 4) (row p))

@@ -14,7 +14,7 @@ use mathlib.Core.Path.{_≡_}
 use lib.Dec.{T, eqb, ltb, eqb→eq, ltb→lt}
 use Rattle.base.specs.Lists.{allb, allb-at, belowb, belowb-at, filterb}
 use Rattle.base.specs.Bools.{and-left, and-right}
-use Rattle.cutting.specs.Rows.{rows, row, family-row, family-fours}
+use Rattle.cutting.specs.Rows.{familyRows, row, family-row, family-fours}
 
 -- The edges of a cell by their number.
 abbrev pub middle : ℕ → ℕ
@@ -37,12 +37,12 @@ abbrev riseTest : List ℕ → Bool
 riseTest c = belowb (λ y. ltb (getD c (low (middle y)) 0) (getD c (high (middle y)) 0) && ltb (getD c (high (middle y)) 0) 10) 6
 
 rise-test : T (belowb (λ p. allb riseTest (row p)) 64)
-unfolding belowb allb low high row rows
+unfolding belowb allb low high row familyRows
 rise-test = tt
 
 -- A family has more children than split edges.
 split-test : T (belowb (λ p. ltb (length (filterb (split p) (0 ∷ 1 ∷ 2 ∷ 3 ∷ 4 ∷ 5 ∷ []))) (length (row p))) 64)
-unfolding belowb filterb split row rows
+unfolding belowb filterb split row familyRows
 split-test = tt
 
 pub few-splits : (p : ℕ) → p < 64 → length (filterb (split p) (0 ∷ 1 ∷ 2 ∷ 3 ∷ 4 ∷ 5 ∷ [])) < length (family p)
@@ -50,7 +50,7 @@ few-splits p h =
     rw (family-row p h) (ltb→lt (length (filterb (split p) (0 ∷ 1 ∷ 2 ∷ 3 ∷ 4 ∷ 5 ∷ []))) (length (row p)) (belowb-at (λ p. ltb (length (filterb (split p) (0 ∷ 1 ∷ 2 ∷ 3 ∷ 4 ∷ 5 ∷ []))) (length (row p))) 64 split-test p h))
 
 some-test : T (belowb (λ p. ltb 0 (length (row p))) 64)
-unfolding belowb row rows
+unfolding belowb row familyRows
 some-test = tt
 
 pub some-child : (p : ℕ) → p < 64 → 0 < length (family p)

@@ -1,7 +1,7 @@
--- The faces of a family's children by their digits, computed over the 64 rows. Corners and faces are counted from 0.
+-- The faces of a family's children by their digits, computed over the 64 familyRows. Corners and faces are counted from 0.
 --   cornersAt z     the three corners of a cell's face z
 --   lift m k        the point with place k on the face with corners m: its six points are pairs of these corners (first k, second k)
---   triples         the twenty triples of those six places
+--   digitTriples         the twenty digitTriples of those six places
 --   others i        the places but i; without d i  the digits d but the one at place i
 --   usesb f m       some digit of f lies at the corner m, or beside it
 --   holds ds f      how many of the children ds have all digits of f
@@ -18,7 +18,7 @@ use lib.ListN.{getD}
 use Rattle.base.specs.Lists.{allb, anyb, filterb, belowb, memberb, sameb}
 use Rattle.base.specs.Bools.{one-if}
 use Rattle.cutting.specs.Rule.{low, high, digit, edgeOf, split}
-use Rattle.cutting.specs.Rows.{rows, row}
+use Rattle.cutting.specs.Rows.{familyRows, row}
 
 abbrev pub cornersAt : ℕ → List ℕ
 cornersAt z = getD ((1 ∷ 2 ∷ 3 ∷ []) ∷ (0 ∷ 2 ∷ 3 ∷ []) ∷ (0 ∷ 1 ∷ 3 ∷ []) ∷ (0 ∷ 1 ∷ 2 ∷ []) ∷ []) z []
@@ -32,8 +32,8 @@ second k = getD (0 ∷ 1 ∷ 2 ∷ 1 ∷ 2 ∷ 2 ∷ []) k 0
 abbrev pub lift : List ℕ → ℕ → ℕ
 lift m k = digit (getD m (first k) 0) (getD m (second k) 0)
 
-abbrev pub triples : List (List ℕ)
-triples =
+abbrev pub digitTriples : List (List ℕ)
+digitTriples =
     (0 ∷ 1 ∷ 2 ∷ []) ∷ (0 ∷ 1 ∷ 3 ∷ []) ∷ (0 ∷ 1 ∷ 4 ∷ []) ∷ (0 ∷ 1 ∷ 5 ∷ []) ∷ (0 ∷ 2 ∷ 3 ∷ []) ∷ (0 ∷ 2 ∷ 4 ∷ []) ∷ (0 ∷ 2 ∷ 5 ∷ [])
     ∷ (0 ∷ 3 ∷ 4 ∷ []) ∷ (0 ∷ 3 ∷ 5 ∷ []) ∷ (0 ∷ 4 ∷ 5 ∷ []) ∷ (1 ∷ 2 ∷ 3 ∷ []) ∷ (1 ∷ 2 ∷ 4 ∷ []) ∷ (1 ∷ 2 ∷ 5 ∷ []) ∷ (1 ∷ 3 ∷ 4 ∷ [])
     ∷ (1 ∷ 3 ∷ 5 ∷ []) ∷ (1 ∷ 4 ∷ 5 ∷ []) ∷ (2 ∷ 3 ∷ 4 ∷ []) ∷ (2 ∷ 3 ∷ 5 ∷ []) ∷ (2 ∷ 4 ∷ 5 ∷ []) ∷ (3 ∷ 4 ∷ 5 ∷ []) ∷ []
@@ -60,10 +60,10 @@ abbrev pub sidePart : List (List ℕ) → List ℕ → ℕ → List ℕ → Bool
 sidePart ds f z t = sameb f (map (lift (cornersAt z)) t) && (allb (usesb f) (cornersAt z) && eqb (holds ds f) 1)
 
 abbrev pub sideb : List (List ℕ) → List ℕ → Bool
-sideb ds f = anyb (λ z. anyb (sidePart ds f z) triples) (0 ∷ 1 ∷ 2 ∷ 3 ∷ [])
+sideb ds f = anyb (λ z. anyb (sidePart ds f z) digitTriples) (0 ∷ 1 ∷ 2 ∷ 3 ∷ [])
 
 pub kind-test : T (belowb (λ p. allb (λ d. belowb (λ i. insideb (row p) (without d i) || sideb (row p) (without d i)) 4) (row p)) 64)
-unfolding belowb allb anyb filterb memberb sameb one-if low high digit holds row rows
+unfolding belowb allb anyb filterb memberb sameb one-if low high digit holds row familyRows
 kind-test = tt
 
 -- 2. a face's triangles by its split edges
@@ -75,6 +75,6 @@ alike p m =
 abbrev pub transferb : ℕ → ℕ → List ℕ → Bool
 transferb p z t = eqb (holds (row p) (map (lift (cornersAt z)) t)) (holds (row (alike p (cornersAt z))) (map (lift (cornersAt 3)) t))
 
-pub transfer-test : T (belowb (λ p. belowb (λ z. allb (transferb p z) triples) 4) 64)
-unfolding belowb allb memberb one-if digit edgeOf split holds row rows
+pub transfer-test : T (belowb (λ p. belowb (λ z. allb (transferb p z) digitTriples) 4) 64)
+unfolding belowb allb memberb one-if digit edgeOf split holds row familyRows
 transfer-test = tt

@@ -19,10 +19,10 @@ use borrow.Author.Tests.{ne-eqb}
 use Rattle.base.specs.Lists.{allb, anyb, filterb, belowb, belowb-at, allb-at, memberb, sameb, sameb-eq}
 use Rattle.base.specs.Bools.{impb, one-if, impb-use, and-left, and-right, or-either, and-both}
 use Rattle.cutting.specs.Rule.{low, high, digit, edgeOf, split, family}
-use Rattle.cutting.specs.Rows.{rows, row, family-row}
+use Rattle.cutting.specs.Rows.{familyRows, row, family-row}
 use Rattle.base.specs.Every.{All, all-of, below-at, any-place}
 use Rattle.families.specs.Kuhn.{reds, family-red}
-use Rattle.families.specs.Digits.{cornersAt, lift, triples, without, usesb, holds, insideb, sidePart, sideb, alike, transferb, kind-test, transfer-test}
+use Rattle.families.specs.Digits.{cornersAt, lift, digitTriples, without, usesb, holds, insideb, sidePart, sideb, alike, transferb, kind-test, transfer-test}
 
 pub record Inside (ds : List (List ℕ)) (f : List ℕ) : Type 0 where
   pub uses : (m : ℕ) → m < 4 → T (usesb f m)
@@ -31,10 +31,10 @@ pub record Inside (ds : List (List ℕ)) (f : List ℕ) : Type 0 where
 pub record OnSide (ds : List (List ℕ)) (f : List ℕ) : Type 0 where
   pub z : ℕ
   pub face : z < 4
-  -- the triangle, by its number among the triples
+  -- the triangle, by its number among the digitTriples
   pub t : ℕ
   pub below : t < 20
-  pub is : f ≡ map (lift (cornersAt z)) (getD triples t [])
+  pub is : f ≡ map (lift (cornersAt z)) (getD digitTriples t [])
   pub uses : T (allb (usesb f) (cornersAt z))
   pub once : holds ds f ≡ 1
 
@@ -46,9 +46,9 @@ module _ (ds : List (List ℕ)) (f : List ℕ) where
         twice = eqb→eq (holds ds f) 2 (and-right (belowb (usesb f) 4) (eqb (holds ds f) 2) w);
       }
 
-  side-part : (z t : ℕ) → z < 4 → t < 20 → T (sidePart ds f z (getD triples t [])) → OnSide ds f
+  side-part : (z t : ℕ) → z < 4 → t < 20 → T (sidePart ds f z (getD digitTriples t [])) → OnSide ds f
   side-part z t hz ht w =
-      let s = getD triples t [] in
+      let s = getD digitTriples t [] in
       let a = and-left (sameb f (map (lift (cornersAt z)) s)) (allb (usesb f) (cornersAt z) && eqb (holds ds f) 1) w in
       let b = and-right (sameb f (map (lift (cornersAt z)) s)) (allb (usesb f) (cornersAt z) && eqb (holds ds f) 1) w in
       record {
@@ -66,9 +66,9 @@ module _ (ds : List (List ℕ)) (f : List ℕ) where
 
   side-of : T (sideb ds f) → OnSide ds f
   side-of w =
-      let (z, hz, v) = any-place (λ z. anyb (sidePart ds f z) triples) 0 (0 ∷ 1 ∷ 2 ∷ 3 ∷ []) w in
-      let v' : T (anyb (sidePart ds f z) triples) = rw (four z hz) at v in
-      let (t, ht, x) = any-place (sidePart ds f z) [] triples v' in
+      let (z, hz, v) = any-place (λ z. anyb (sidePart ds f z) digitTriples) 0 (0 ∷ 1 ∷ 2 ∷ 3 ∷ []) w in
+      let v' : T (anyb (sidePart ds f z) digitTriples) = rw (four z hz) at v in
+      let (t, ht, x) = any-place (sidePart ds f z) [] digitTriples v' in
       side-part z t hz ht x
 
 abbrev kindb : List (List ℕ) → List ℕ → Bool
@@ -85,10 +85,10 @@ face-kind p k i hp hk hi =
     (or-either (insideb ds (without d i)) (sideb ds (without d i)) v)
 
 pub transfer : (p z t : ℕ) → p < 64 → z < 4 → t < 20
-    → holds (family p) (map (lift (cornersAt z)) (getD triples t [])) ≡ holds (row (alike p (cornersAt z))) (map (lift (cornersAt 3)) (getD triples t []))
+    → holds (family p) (map (lift (cornersAt z)) (getD digitTriples t [])) ≡ holds (row (alike p (cornersAt z))) (map (lift (cornersAt 3)) (getD digitTriples t []))
 transfer p z t hp hz ht =
-    let s = getD triples t [] in
-    let w : T (transferb p z s) = allb-at (transferb p z) [] triples (belowb-at (λ z. allb (transferb p z) triples) 4 (belowb-at (λ p. belowb (λ z. allb (transferb p z) triples) 4) 64 transfer-test p hp) z hz) t ht in
+    let s = getD digitTriples t [] in
+    let w : T (transferb p z s) = allb-at (transferb p z) [] digitTriples (belowb-at (λ z. allb (transferb p z) digitTriples) 4 (belowb-at (λ p. belowb (λ z. allb (transferb p z) digitTriples) 4) 64 transfer-test p hp) z hz) t ht in
     rw (family-row p hp) (eqb→eq (holds (row p) (map (lift (cornersAt z)) s)) (holds (row (alike p (cornersAt z))) (map (lift (cornersAt 3)) s)) w)
 
 -- digits of children
@@ -96,7 +96,7 @@ abbrev presentb : ℕ → ℕ → Bool
 presentb p x = ltb x 10 && (eqb (low x) (high x) || split p (edgeOf x))
 
 present-test : T (belowb (λ p. allb (allb (presentb p)) (row p)) 64)
-unfolding belowb allb low high edgeOf split row rows
+unfolding belowb allb low high edgeOf split row familyRows
 present-test = tt
 
 pub record Present (p x : ℕ) : Type 0 where
@@ -126,7 +126,7 @@ abbrev wholeb : ℕ → ℕ → ℕ → ℕ → Bool
 wholeb p a b c = impb (apartb p a b c) (eqb (holds (row p) (digit a a ∷ digit b b ∷ digit c c ∷ [])) 1)
 
 whole-test : T (belowb (λ p. belowb (λ a. belowb (λ b. belowb (λ c. wholeb p a b c) 4) 4) 4) 64)
-unfolding belowb impb digit edgeOf split holds allb memberb one-if row rows
+unfolding belowb impb digit edgeOf split holds allb memberb one-if row familyRows
 whole-test = tt
 
 pub whole-face : (p a b c : ℕ) → p < 64 → a < 4 → b < 4 → c < 4 → (a ≡ b → ⊥) → (a ≡ c → ⊥) → (b ≡ c → ⊥)
@@ -172,7 +172,7 @@ pattern-sum p q hp hq e =
     a ∙ rw (e 0 (omega arith), e 1 (omega arith), e 2 (omega arith), e 3 (omega arith), e 4 (omega arith), e 5 (omega arith)) (sym b)
 
 pub family-leaf : family 0 ≡ (0 ∷ 4 ∷ 7 ∷ 9 ∷ []) ∷ []
-unfolding row rows
+unfolding row familyRows
 family-leaf = family-row 0 (omega arith)
 
 -- a face inside, and a red child, have a midpoint among their points
@@ -180,7 +180,7 @@ abbrev pub midb : List ℕ → Bool
 midb f = anyb (λ x. ltb (low x) (high x)) f
 
 inside-mid-test : T (belowb (λ p. allb (λ d. belowb (λ i. impb (belowb (usesb (without d i)) 4) (midb (without d i))) 4) (row p)) 64)
-unfolding belowb allb anyb filterb impb low high row rows
+unfolding belowb allb anyb filterb impb low high row familyRows
 inside-mid-test = tt
 
 pub inside-mid : (p k i : ℕ) → p < 64 → k < length (family p) → i < 4 → Inside (family p) (without (getD (family p) k []) i) → T (midb (without (getD (family p) k []) i))

@@ -1,4 +1,4 @@
--- What holds of every family, by one computed test over the 64 rows and a lemma for each fact. The statements speak of
+-- What holds of every family, by one computed test over the 64 familyRows and a lemma for each fact. The statements speak of
 -- `family` alone, so that a caller never looks at the table.
 use mathlib.Core.Path.{_≡_, refl, _∙_, sym, ap}
 use mathlib.Core.Logic.{_≢_}
@@ -13,7 +13,7 @@ use Rattle.base.specs.Lists.{allb, belowb, memberb, samesb, samesb-eq, allb-at,
 use Rattle.base.specs.Bools.{impb, is-true, is-false, and-left, and-right, impb-use}
 use Rattle.base.specs.Fours.{holders}
 use Rattle.cutting.specs.Rule.{digit, edgeOf, split, present, volume, zerob, rise, family}
-use Rattle.cutting.specs.Rows.{rows, row, family-row}
+use Rattle.cutting.specs.Rows.{familyRows, row, family-row}
 use Rattle.families.specs.Faces.{facesOf, onFaceb, innerb, joinedb, bits, side}
 
 -- a test over every row, carried to the family of each pattern
@@ -31,7 +31,7 @@ unfolding zerob
 nonzero v t e = let z : T (not (zerob (pos 0))) = rw e at t in z
 
 -- 1. Each child has four different present points in rising order and is not flat.
-pub record Child (p : ℕ) (c : List ℕ) : Type 0 where
+pub record ChildFacts (p : ℕ) (c : List ℕ) : Type 0 where
   pub four : length c ≡ 4
   pub rise01 : getD c 0 0 < getD c 1 0
   pub rise12 : getD c 1 0 < getD c 2 0
@@ -45,13 +45,13 @@ childTest p c =
     && (allb (λ d. memberb d (present p)) c && not (zerob (volume (getD c 0 0) (getD c 1 0) (getD c 2 0) (getD c 3 0)))))))
 
 children-test : T (belowb (λ p. allb (childTest p) (row p)) 64)
-unfolding belowb allb memberb present volume zerob row rows
+unfolding belowb allb memberb present volume zerob row familyRows
 children-test = tt
 
-child-of : (p : ℕ) (c : List ℕ) → T (childTest p c) → Child p c
+child-of : (p : ℕ) (c : List ℕ) → T (childTest p c) → ChildFacts p c
 child-of p c t = search (and-left, and-right, eqb→eq, ltb→lt, nonzero)
 
-pub child-at : (p k : ℕ) → p < 64 → k < length (family p) → Child p (getD (family p) k [])
+pub child-at : (p k : ℕ) → p < 64 → k < length (family p) → ChildFacts p (getD (family p) k [])
 child-at p k h l = child-of p (getD (family p) k []) (allb-at (childTest p) [] (family p) (every (λ p f. allb (childTest p) f) children-test p h) k l)
 
 -- 2. The children's volumes add up to the cell's: nothing is missing, nothing is there twice.
@@ -60,11 +60,20 @@ unfolding volume
 volumes f = foldr (λ c n. natAbs (volume (getD c 0 0) (getD c 1 0) (getD c 2 0) (getD c 3 0)) + n) 0 f
 
 volumes-test : T (belowb (λ p. eqb (volumes (row p)) (natAbs (volume 0 4 7 9))) 64)
-unfolding belowb volumes row rows
+unfolding belowb volumes row familyRows
 volumes-test = tt
 
 pub volumes-add-up : (p : ℕ) → p < 64 → volumes (family p) ≡ natAbs (volume 0 4 7 9)
 volumes-add-up p h = eqb→eq (volumes (family p)) (natAbs (volume 0 4 7 9)) (every (λ p f. eqb (volumes f) (natAbs (volume 0 4 7 9))) volumes-test p h)
+
+-- So there is a child.
+pub family-some : (p : ℕ) → p < 64 → 0 < length (family p)
+unfolding volumes volume
+family-some p h = go (family p) (volumes-add-up p h)
+  where
+    go : (f : List (List ℕ)) → volumes f ≡ natAbs (volume 0 4 7 9) → 0 < length f
+    go [] e = absurd (omega (arith, e))
+    go (c ∷ f) e = omega arith
 
 -- 3, 4. A face of a child that lies on no face of the cell is in exactly two children; one that lies on a face of the cell
 -- is in exactly one.
@@ -74,7 +83,7 @@ faceTest f t =
     impb (innerb t) (eqb n 2) && belowb (λ s. impb (onFaceb s t) (eqb n 1)) 4
 
 faces-test : T (belowb (λ p. allb (faceTest (row p)) (facesOf (row p))) 64)
-unfolding belowb allb impb innerb onFaceb holders facesOf row rows
+unfolding belowb allb impb innerb onFaceb holders facesOf row familyRows
 faces-test = tt
 
 module _ (f : List (List ℕ)) (t : List ℕ) (r : T (faceTest f t)) where
@@ -88,25 +97,25 @@ module _ (f : List (List ℕ)) (t : List ℕ) (r : T (faceTest f t)) where
       (and-right (impb (innerb t) (eqb (holders f t) 2)) (belowb (λ n. impb (onFaceb n t) (eqb (holders f t) 1)) 4) r) n g) i)
 
 -- the k-th face of the family p
-abbrev pub faceAt : ℕ → ℕ → List ℕ
-faceAt p k = getD (facesOf (family p)) k []
+abbrev pub faceDigits : ℕ → ℕ → List ℕ
+faceDigits p k = getD (facesOf (family p)) k []
 
 module _ (p k : ℕ) (h : p < 64) (l : k < length (facesOf (family p))) where
-  face-right : T (faceTest (family p) (faceAt p k))
+  face-right : T (faceTest (family p) (faceDigits p k))
   face-right = allb-at (faceTest (family p)) [] (facesOf (family p)) (every (λ p f. allb (faceTest f) (facesOf f)) faces-test p h) k l
 
-  pub inner-face-twice : T (innerb (faceAt p k)) → holders (family p) (faceAt p k) ≡ 2
-  inner-face-twice = inner-twice (family p) (faceAt p k) face-right
+  pub inner-face-twice : T (innerb (faceDigits p k)) → holders (family p) (faceDigits p k) ≡ 2
+  inner-face-twice = inner-twice (family p) (faceDigits p k) face-right
 
-  pub side-face-once : (n : ℕ) → n < 4 → T (onFaceb n (faceAt p k)) → holders (family p) (faceAt p k) ≡ 1
-  side-face-once = side-once (family p) (faceAt p k) face-right
+  pub side-face-once : (n : ℕ) → n < 4 → T (onFaceb n (faceDigits p k)) → holders (family p) (faceDigits p k) ≡ 1
+  side-face-once = side-once (family p) (faceDigits p k) face-right
 
 -- 5. How a face of the cell is cut depends only on which of its own three edges are split: as face 3 with those bits is.
 abbrev alike : ℕ → ℕ
 alike b = b % 4 + 8 * (b / 4)
 
 side-test : T (belowb (λ p. belowb (λ n. samesb (side (row p) n) (side (row (alike (bits p n))) 3) && ltb (alike (bits p n)) 64) 4) 64)
-unfolding belowb samesb side bits row rows
+unfolding belowb samesb side bits row familyRows
 side-test = tt
 
 side-alike : (p n : ℕ) → p < 64 → n < 4 → side (family p) n ≡ side (row (alike (bits p n))) 3
@@ -137,7 +146,7 @@ abbrev linesTest : ℕ → List (List ℕ) → Bool
 linesTest p f = belowb (λ y. belowb (λ x. belowb (λ z. lineTest p f x y z) 4) y) 4
 
 line-test : T (belowb (λ p. linesTest p (row p)) 64)
-unfolding belowb impb split edgeOf digit joinedb row rows
+unfolding belowb impb split edgeOf digit joinedb row familyRows
 line-test = tt
 
 line-right : (p x y z : ℕ) → p < 64 → x < y → y < 4 → z < 4 → T (lineTest p (family p) x y z)
@@ -168,7 +177,7 @@ abbrev ownsTest : ℕ → List (List ℕ) → Bool
 ownsTest p f = belowb (λ j. belowb (λ i. ownTest p f i j) j) 4
 
 own-test : T (belowb (λ p. ownsTest p (row p)) 64)
-unfolding belowb split edgeOf digit joinedb row rows
+unfolding belowb split edgeOf digit joinedb row familyRows
 own-test = tt
 
 beq-eq : (a b : Bool) → T (Bool·beq a b) → a ≡ b

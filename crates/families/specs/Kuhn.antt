@@ -5,12 +5,12 @@
 --   Chain         four numbers rise, by 1 at most in all
 --   Kuhn x        x are the coordinates of a Kuhn simplex: chains at every place, and no two corners alike
 --   doubled x d   the point with digit d, on the lattice twice as fine
---   part x f      the child with the digits f, on that lattice
+--   partOf x f      the child with the digits f, on that lattice
 --   Digits f      f are four digits
 --   reds          the family of a red cell
 --   red x m       the red child number m of the cell x, on the lattice twice as fine
---   order m i     which of its parent's three steps the step i of the red child m is
---   SameStep      the step i of the red child m is its parent's step order m i, at the place j
+--   order m i     which of its parent's three steps the steps-between i of the red child m is
+--   SameStep      the steps-between i of the red child m is its parent's steps-between order m i, at the place j
 --   Step x y      x rises to y, by 1 at most
 use mathlib.Core.Path.{_≡_, refl}
 use mathlib.Core.Logic.{_≢_}
@@ -23,7 +23,7 @@ use lib.ListN.{length, getD}
 use Rattle.base.specs.Lists.{allb, belowb, belowb-at}
 use Rattle.base.specs.Bools.{and-left, and-right}
 use Rattle.cutting.specs.Rule.{low, high, digit, family}
-use Rattle.cutting.specs.Rows.{rows, row, family-row}
+use Rattle.cutting.specs.Rows.{familyRows, row, family-row}
 use Rattle.base.specs.Every.{Below, below-at, All, all-from, all-of}
 
 abbrev pub Coordinates : Type 0
@@ -44,8 +44,8 @@ pub record Kuhn (x : Coordinates) : Type 0 where
 abbrev pub doubled : Coordinates → ℕ → ℕ → ℕ
 doubled x d j = x (low d) j + x (high d) j
 
-abbrev pub part : Coordinates → List ℕ → Coordinates
-part x f i = doubled x (getD f i 0)
+abbrev pub partOf : Coordinates → List ℕ → Coordinates
+partOf x f i = doubled x (getD f i 0)
 
 -- the digits
 pub digit-ends : (d : ℕ) → d < 10 → (low d ≤ high d) × (high d < 4)
@@ -67,7 +67,7 @@ reds =
     ∷ (2 ∷ 3 ∷ 6 ∷ 8 ∷ []) ∷ (2 ∷ 5 ∷ 6 ∷ 8 ∷ []) ∷ (2 ∷ 5 ∷ 7 ∷ 8 ∷ []) ∷ (3 ∷ 6 ∷ 8 ∷ 9 ∷ []) ∷ []
 
 pub family-red : family 63 ≡ reds
-unfolding row rows
+unfolding row familyRows
 family-red = family-row 63 (omega arith)
 
 pub record Digits (f : List ℕ) : Type 0 where
@@ -101,7 +101,7 @@ pub order-differs : (m : ℕ) → m < 8 → (order m 0 ≢ order m 1) × (order 
 order-differs = below-at (λ m. (order m 0 ≢ order m 1) × (order m 0 ≢ order m 2) × (order m 1 ≢ order m 2)) 8 (omega arith)
 
 abbrev pub red : Coordinates → ℕ → Coordinates
-red x m = part x (getD reds m [])
+red x m = partOf x (getD reds m [])
 
 abbrev pub SameStep : Coordinates → ℕ → ℕ → ℕ → Type 0
 SameStep x j m i = red x m (suc i) j + x (order m i) j ≡ red x m i j + x (suc (order m i)) j
@@ -122,9 +122,9 @@ module _ (x : Coordinates) (r : Kuhn x) where
   red-strict : (m i : ℕ) → m < 8 → i < 3 → (j : ℕ) × (red x m i j < red x m (suc i) j)
   red-strict m i h l = let (j, w) = strict (order m i) (order-below m i h l) in (j, omega (arith, red-step x m i j h l))
 
-  pub red-kuhn : All (λ f. Kuhn (part x f)) reds
+  pub red-kuhn : All (λ f. Kuhn (partOf x f)) reds
   red-kuhn =
-      all-from (λ f. Kuhn (part x f)) [] reds
+      all-from (λ f. Kuhn (partOf x f)) [] reds
       (λ m h. record { chain = red-chain m h; step01 = red-strict m 0 h (omega arith); step12 = red-strict m 1 h (omega arith); step23 = red-strict m 2 h (omega arith) })
 
 -- four numbers that rise, by their places
@@ -140,8 +140,8 @@ module _ (x : Coordinates) (r : Kuhn x) where
   rise : (a b : ℕ) → a ≤ b → b < 4 → (j : ℕ) → x a j ≤ x b j
   rise a b h l j = let c = r .chain j in rises (λ i. x i j) (c .xy) (c .yz) (c .zt) b l a (omega arith) h
 
-  pub step : (a b : ℕ) → a ≤ b → b < 4 → (j : ℕ) → Step (x a j) (x b j)
-  step a b h l j =
+  pub steps-between : (a b : ℕ) → a ≤ b → b < 4 → (j : ℕ) → Step (x a j) (x b j)
+  steps-between a b h l j =
       let c = r .chain j in
       omega (arith, rise a b h l j, rise 0 a (omega arith) (omega arith) j, rise b 3 (omega arith) (omega arith) j)
 
@@ -162,4 +162,4 @@ pub doubled-ends : (x y : Coordinates) → Kuhn x → Kuhn y → (f g : ℕ) →
 doubled-ends x y r s f g hf hg e j =
     let (a, b) = digit-ends f hf in
     let (c, d) = digit-ends g hg in
-    sum-ends (x (low f) j) (x (high f) j) (y (low g) j) (y (high g) j) (step x r (low f) (high f) a b j) (step y s (low g) (high g) c d j) (e j)
+    sum-ends (x (low f) j) (x (high f) j) (y (low g) j) (y (high g) j) (steps-between x r (low f) (high f) a b j) (steps-between y s (low g) (high g) c d j) (e j)

@@ -16,10 +16,10 @@ use Rattle.cutting.specs.Rule.{present, family}
 use Rattle.cutting.specs.Answer.{cutInto, cutOf, cutOf-accepted}
 use Rattle.cutting.specs.declared.Family.{Family}
 use Rattle.cutting.specs.Rows.{family-fours}
-use Rattle.rows.specs.Numbered.{rowsFrom}
+use Rattle.rows.specs.Numbered.{childRows}
 use Rattle.growth.specs.Written.{written, written-none, written-more}
-use Rattle.growth.specs.Rows.{length-from}
-use Rattle.growth.specs.Places.{present-point, family-present}
+use Rattle.growth.specs.Rows.{length-rows-from}
+use Rattle.growth.specs.Places.{present-point, family-has}
 use Rattle.growth.specs.Points.{fourAt}
 
 pub four-numbers : (f : ℕ → ℕ) (ds : List ℕ) (j p q r s : ℕ)
@@ -66,7 +66,7 @@ unfolding cutInto
 digits-below p h j =
     let q : (d : ℕ) → T (memberb d (present p)) → T (ltb d 10) = λ d t. rw (lt-ltb d 10 (present-point p d t .0)) tt in
     let f : T (allb (allb (λ d. ltb d 10)) (family p)) =
-    all-more (allb (λ d. memberb d (present p))) (allb (λ d. ltb d 10)) (all-more (λ d. memberb d (present p)) (λ d. ltb d 10) q) (family p) (family-present p h) in
+    all-more (allb (λ d. memberb d (present p))) (allb (λ d. ltb d 10)) (all-more (λ d. memberb d (present p)) (λ d. ltb d 10) q) (family p) (family-has p h) in
     rw (cutOf-accepted p h)
     (all-below (flatten (family p) ++ replicate (32 - length (flatten (family p))) 0)
     (all-append (λ d. ltb d 10) (flatten (family p)) (replicate (32 - length (flatten (family p))) 0) (all-flat (λ d. ltb d 10) (family p) f)
@@ -107,44 +107,44 @@ child-count p h = ap (λ (f : Family). f .count) (cutOf-accepted p h)
 
 -- one row more
 from-append : (l k : ℕ) (r : Bool) (f : ℕ → ℕ) (i : ℕ) (ds : List (List ℕ)) (d : List ℕ)
-    → rowsFrom l k r f i (ds ++ (d ∷ [])) ≡ rowsFrom l k r f i ds ++ (l ∷ k ∷ (i + length ds) ∷ one-if r ∷ map f d)
-unfolding rowsFrom
+    → childRows l k r f i (ds ++ (d ∷ [])) ≡ childRows l k r f i ds ++ (l ∷ k ∷ (i + length ds) ∷ one-if r ∷ map f d)
+unfolding childRows
 from-append l k r f i [] d = rw (add-zero, append-nil)
 from-append l k r f i (c ∷ ds) d =
     let e : i + suc (length ds) ≡ suc i + length ds = omega arith in
     rw (from-append l k r f (suc i) ds d, e)
-    (sym (append-assoc (l ∷ k ∷ i ∷ one-if r ∷ map f c) (rowsFrom l k r f (suc i) ds) (l ∷ k ∷ (suc i + length ds) ∷ one-if r ∷ map f d)))
+    (sym (append-assoc (l ∷ k ∷ i ∷ one-if r ∷ map f c) (childRows l k r f (suc i) ds) (l ∷ k ∷ (suc i + length ds) ∷ one-if r ∷ map f d)))
 
 -- the loop's invariant, and one child more
 pub record Rows (cells₀ : List ℕ) (at l k : ℕ) (r : Bool) (f : ℕ → ℕ) (p : ℕ) (cells : List ℕ) (i : ℕ) : Type 0 where
   pub below : i ≤ length (family p)
   pub long : length cells ≡ length cells₀
-  pub rows : cells ≡ written cells₀ (8 * at) (rowsFrom l k r f 0 (take i (family p)))
+  pub rows : cells ≡ written cells₀ (8 * at) (childRows l k r f 0 (take i (family p)))
 
 module _ (cells₀ : List ℕ) (at l k : ℕ) (r : Bool) (f : ℕ → ℕ) (p : ℕ) where
   pub rows-none : Rows cells₀ at l k r f p cells₀ 0
-  unfolding rowsFrom
+  unfolding childRows
   rows-none = record { below = omega arith; long = refl; rows = sym (written-none cells₀ (8 * at)) }
 
   module _ (h : p < 64) (room : 8 * (at + length (family p)) ≤ length cells₀) (cells : List ℕ) (i : ℕ) (x : Rows cells₀ at l k r f p cells i) where
-    length-some : length (rowsFrom l k r f 0 (take i (family p))) ≡ 8 * i
+    length-some : length (childRows l k r f 0 (take i (family p))) ≡ 8 * i
     length-some =
-        length-from l k r f 0 (take i (family p)) (all-take (λ c. eqb (length c) 4) i (family p) (family-fours p h)) ∙ rw (length-take-le i (family p) (x .below))
+        length-rows-from l k r f 0 (take i (family p)) (all-take (λ c. eqb (length c) 4) i (family p) (family-fours p h)) ∙ rw (length-take-le i (family p) (x .below))
 
     pub rows-more : i < length (family p) → (cells′ : List ℕ) → length cells′ ≡ length cells
         → cells′ ≡ written cells (8 * (at + i)) (l ∷ k ∷ i ∷ one-if r ∷ map f (fourAt (cutOf p .digits) (4 * i))) → Rows cells₀ at l k r f p cells′ (suc i)
     rows-more g cells′ long w =
-        let vs = rowsFrom l k r f 0 (take i (family p)) in
+        let vs = childRows l k r f 0 (take i (family p)) in
         let row = l ∷ k ∷ i ∷ one-if r ∷ map f (getD (family p) i []) in
         let e : 8 * (at + i) ≡ 8 * at + length vs = omega (arith, length-some) in
         let n : 0 + length (take i (family p)) ≡ i = omega (arith, length-take-le i (family p) (x .below)) in
-        let v : rowsFrom l k r f 0 (take (suc i) (family p)) ≡ vs ++ row =
-        ap (rowsFrom l k r f 0) (take-suc (family p) i [] g) ∙ rw n at (from-append l k r f 0 (take i (family p)) (getD (family p) i [])) in
+        let v : childRows l k r f 0 (take (suc i) (family p)) ≡ vs ++ row =
+        ap (childRows l k r f 0) (take-suc (family p) i [] g) ∙ rw n at (from-append l k r f 0 (take i (family p)) (getD (family p) i [])) in
         record {
           below = g;
           long = long ∙ x .long;
           rows = w ∙ rw (child-digits p h i g, e, x .rows, v) (written-more cells₀ (8 * at) vs (omega (arith, length-some, x .below)) row);
         }
 
-    pub rows-all : i ≡ length (family p) → cells ≡ written cells₀ (8 * at) (rowsFrom l k r f 0 (family p))
-    rows-all e = x .rows ∙ ap (λ (ds : List (List ℕ)). written cells₀ (8 * at) (rowsFrom l k r f 0 ds)) (rw e (take-length (family p)))
+    pub rows-all : i ≡ length (family p) → cells ≡ written cells₀ (8 * at) (childRows l k r f 0 (family p))
+    rows-all e = x .rows ∙ ap (λ (ds : List (List ℕ)). written cells₀ (8 * at) (childRows l k r f 0 ds)) (rw e (take-length (family p)))

@@ -8,12 +8,12 @@ use lib.Dec.{ltb, ltb→lt}
 use lib.ListN.{getD}
 use Rattle.base.specs.Lists.{belowb, belowb-at}
 use Rattle.rows.specs.Numbered.{cellAt}
-use Rattle.growth.specs.Places.{middle}
+use Rattle.growth.specs.Places.{middleEdge}
 use Rattle.growth.specs.Points.{lowCorners}
 
-pub middle-below : (e : ℕ) → e < 6 → middle e < 10
-unfolding middle belowb
-middle-below e h = ltb→lt (middle e) 10 (belowb-at (λ e. ltb (middle e) 10) 6 tt e h)
+pub middle-below : (e : ℕ) → e < 6 → middleEdge e < 10
+unfolding middleEdge belowb
+middle-below e h = ltb→lt (middleEdge e) 10 (belowb-at (λ e. ltb (middleEdge e) 10) 6 tt e h)
 
 module _ (t : List ℕ) (c : ℕ) where
   pub corners-read : (p q r s : ℕ) → p ≡ getD t (8 * c + 4) 0 → q ≡ getD t (8 * c + 4 + 1) 0 → r ≡ getD t (8 * c + 4 + 2) 0 → s ≡ getD t (8 * c + 4 + 3) 0

@@ -10,11 +10,11 @@ use Rattle.cutting.specs.Rule.{family}
 use Rattle.mesh.specs.Cells.{Cell, redb, patternOf}
 use Rattle.mesh.specs.Layout.{splitEdges}
 use Rattle.edges.specs.Table.{listed, Edges, Grown, grown-none}
-use Rattle.rows.specs.Numbered.{cellAt, pointAt, rowsFrom, rowsOf}
+use Rattle.rows.specs.Numbered.{cellAt, pointAt, childRows, rowsOf}
 use Rattle.mesh.specs.Table.{sizeOf}
 use Rattle.growth.specs.Written.{written, written-none}
 use Rattle.growth.specs.Places.{rows-same}
-use Rattle.growth.specs.Points.{Points}
+use Rattle.growth.specs.Points.{PointsSet}
 use Rattle.growth.specs.Level.{Laid}
 
 pub no-edges : (c : Cell ℕ) → splitEdges 0 c 0 ≡ []
@@ -22,7 +22,7 @@ unfolding splitEdges
 no-edges c = refl
 
 module _ (s : ℕ) (ne : s ≡ 0 → ⊥) where
-  rows-some : (l k : ℕ) (f : ℕ → ℕ) → rowsOf l k s f ≡ rowsFrom l k (redb s) f 0 (family (patternOf s))
+  rows-some : (l k : ℕ) (f : ℕ → ℕ) → rowsOf l k s f ≡ childRows l k (redb s) f 0 (family (patternOf s))
   unfolding rowsOf
   rows-some l k f = rw (ne-eqb s 0 ne, rowsOf)
 
@@ -41,8 +41,8 @@ module _ (cells xs ys heads links : List ℕ) (c s l at n m : ℕ) where
       }
 
   pub laid-family : (s ≡ 0 → ⊥) → s ≤ 64 → (cells′ xs′ ys′ heads′ links′ ps : List ℕ) (at′ m′ : ℕ)
-      → Grown xs ys 0 m (splitEdges 0 (cellAt cells c) s) xs′ ys′ heads′ links′ m′ → Points n (listed xs′ ys′ 0 m′) (cellAt cells c) (patternOf s) ps
-      → cells′ ≡ written cells (8 * at) (rowsFrom l c (redb s) (λ d. getD ps d 0) 0 (family (patternOf s))) → at′ ≡ at + length (family (patternOf s))
+      → Grown xs ys 0 m (splitEdges 0 (cellAt cells c) s) xs′ ys′ heads′ links′ m′ → PointsSet n (listed xs′ ys′ 0 m′) (cellAt cells c) (patternOf s) ps
+      → cells′ ≡ written cells (8 * at) (childRows l c (redb s) (λ d. getD ps d 0) 0 (family (patternOf s))) → at′ ≡ at + length (family (patternOf s))
       → Laid cells xs ys c s l at n m cells′ xs′ ys′ heads′ links′ at′ m′
   laid-family ne small cells′ xs′ ys′ heads′ links′ ps at′ m′ g p w e =
       let f = pointAt n (listed xs′ ys′ 0 m′) (cellAt cells c) in

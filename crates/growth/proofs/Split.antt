@@ -14,8 +14,8 @@ use Rattle.mesh.specs.Cells.{Cell, edge}
 use Rattle.pairs.specs.Keys.{Room}
 use Rattle.edges.specs.Pairs.{Pair, sorted, isb, addPair, same-pair}
 use Rattle.edges.specs.Table.{listed, Edges, Inserted, Space, Grown, grown-none, grown-one}
-use Rattle.edges.proofs.Seek.{length-pairs}
-use Rattle.growth.specs.Places.{middle}
+use Rattle.edges.specs.Seek.{length-listed}
+use Rattle.growth.specs.Places.{middleEdge}
 use Rattle.growth.specs.Points.{splitAt, marked}
 
 module _ (p : ℕ) (c : Cell ℕ) (e : ℕ) where
@@ -32,7 +32,7 @@ module _ (p : ℕ) (c : Cell ℕ) (e : ℕ) where
     unfolding marked
     marked-none t = rw (t, marked)
 
-    pub marked-one : split p e ≡ true → marked n es c p e ps ≡ set ps (middle e) (n + placeIn isb es (sorted (edge 0 c e)))
+    pub marked-one : split p e ≡ true → marked n es c p e ps ≡ set ps (middleEdge e) (n + placeIn isb es (sorted (edge 0 c e)))
     unfolding marked
     marked-one t = rw (t, marked)
 
@@ -51,9 +51,9 @@ module _ (p : ℕ) (c : Cell ℕ) (e : ℕ) where
       unfolding addPair
       slot-below =
           let h : hasb isb (listed xs′ ys′ 0 m′) (sorted (edge 0 c e)) ≡ true = rw (i .list) (has-new isb (0, 0) same-pair (listed xs ys 0 m) (sorted (edge 0 c e))) in
-          omega (arith, i .place, i .one, has-below isb (listed xs′ ys′ 0 m′) (sorted (edge 0 c e)) h, length-pairs xs′ ys′ 0 (m′ - 0))
+          omega (arith, i .place, i .one, has-below isb (listed xs′ ys′ 0 m′) (sorted (edge 0 c e)) h, length-listed xs′ ys′ 0 (m′ - 0))
 
-      pub halved : split p e ≡ true → (d : ℕ) → d ≡ middle e
+      pub halved : split p e ≡ true → (d : ℕ) → d ≡ middleEdge e
           → Grown xs ys 0 m (splitAt p c e) xs′ ys′ heads′ links′ m′ × (set ps d (n + at) ≡ marked n (listed xs′ ys′ 0 m′) c p e ps)
       halved t d q =
           let a : at ≡ placeIn isb (listed xs′ ys′ 0 m′) (sorted (edge 0 c e)) = i .place ∙ zero-add (placeIn isb (listed xs′ ys′ 0 m′) (sorted (edge 0 c e))) in

@@ -19,8 +19,8 @@ use Rattle.mesh.specs.Layout.{edgeNumbers, splitEdges}
 use Rattle.edges.specs.Pairs.{Pair, sorted, isb, addPairs, same-pair, has-pairs}
 use Rattle.edges.specs.Table.{listed, Edges, Space, Grown, grown-none, grown-both}
 use Rattle.rows.specs.Numbered.{pointAt}
-use Rattle.growth.specs.Places.{middle, extends-pairs, present-point, middle-of, point-corner, point-middle}
-use Rattle.growth.specs.Points.{splitAt, lowCorners, marked, Points}
+use Rattle.growth.specs.Places.{middleEdge, extends-pairs, present-point, middle-digit, pointAt-corner, point-middle}
+use Rattle.growth.specs.Points.{splitAt, lowCorners, marked, PointsSet}
 use Rattle.growth.proofs.Found.{middle-below}
 use Rattle.growth.proofs.Split.{split-one, marked-none, marked-one}
 
@@ -69,26 +69,26 @@ unfolding splitsTo splitEdges
 splits-all s c = refl
 
 -- the six digits of midpoints are different from each other and from those of the corners
-digits-test : T (belowb (λ e. not (eqb (low (middle e)) (high (middle e))) && eqb (edgeOf (middle e)) e) 6)
-unfolding belowb low high edgeOf middle
+digits-test : T (belowb (λ e. not (eqb (low (middleEdge e)) (high (middleEdge e))) && eqb (edgeOf (middleEdge e)) e) 6)
+unfolding belowb low high edgeOf middleEdge
 digits-test = tt
 
 module _ (e : ℕ) (h : e < 6) where
-  digit-right : T (not (eqb (low (middle e)) (high (middle e))) && eqb (edgeOf (middle e)) e)
-  digit-right = belowb-at (λ e. not (eqb (low (middle e)) (high (middle e))) && eqb (edgeOf (middle e)) e) 6 digits-test e h
+  digit-right : T (not (eqb (low (middleEdge e)) (high (middleEdge e))) && eqb (edgeOf (middleEdge e)) e)
+  digit-right = belowb-at (λ e. not (eqb (low (middleEdge e)) (high (middleEdge e))) && eqb (edgeOf (middleEdge e)) e) 6 digits-test e h
 
-  no-corner : eqb (low (middle e)) (high (middle e)) ≡ false
-  no-corner = is-false (eqb (low (middle e)) (high (middle e))) (and-left (not (eqb (low (middle e)) (high (middle e)))) (eqb (edgeOf (middle e)) e) digit-right)
+  no-corner : eqb (low (middleEdge e)) (high (middleEdge e)) ≡ false
+  no-corner = is-false (eqb (low (middleEdge e)) (high (middleEdge e))) (and-left (not (eqb (low (middleEdge e)) (high (middleEdge e)))) (eqb (edgeOf (middleEdge e)) e) digit-right)
 
-  edge-back : edgeOf (middle e) ≡ e
-  edge-back = eqb→eq (edgeOf (middle e)) e (and-right (not (eqb (low (middle e)) (high (middle e)))) (eqb (edgeOf (middle e)) e) digit-right)
+  edge-back : edgeOf (middleEdge e) ≡ e
+  edge-back = eqb→eq (edgeOf (middleEdge e)) e (and-right (not (eqb (low (middleEdge e)) (high (middleEdge e)))) (eqb (edgeOf (middleEdge e)) e) digit-right)
 
 -- the numbers after the edges below e
 pub record Numbered (n : ℕ) (es : List Pair) (c : Cell ℕ) (p e : ℕ) (ps : List ℕ) : Type 0 where
   pub long : length ps ≡ 10
   pub corners : (d : ℕ) → d < 10 → eqb (low d) (high d) ≡ true → getD ps d 0 ≡ corner 0 c (low d)
   pub has : (f : ℕ) → f < e → split p f ≡ true → hasb isb es (sorted (edge 0 c f)) ≡ true
-  pub middles : (f : ℕ) → f < e → split p f ≡ true → getD ps (middle f) 0 ≡ n + placeIn isb es (sorted (edge 0 c f))
+  pub middles : (f : ℕ) → f < e → split p f ≡ true → getD ps (middleEdge f) 0 ≡ n + placeIn isb es (sorted (edge 0 c f))
 
 mapped : (f : ℕ → ℕ) (l : List ℕ) (k a b : ℕ) → k < length l → getD (map f l) k b ≡ f (getD l k a)
 mapped f [] k a b h = absurd (omega arith)
@@ -139,41 +139,41 @@ module _ (n : ℕ) (es : List Pair) (c : Cell ℕ) (p e : ℕ) (ps : List ℕ) (
     halved-more t =
         rw (marked-one p c e n es′ ps t)
         (record {
-          long = length-set ps (middle e) (n + placeIn isb es′ (sorted (edge 0 c e))) ∙ r .long;
-          corners = λ d l u. getD-set-other ps (middle e) d (n + placeIn isb es′ (sorted (edge 0 c e))) 0 (apart d u) ∙ r .corners d l u;
+          long = length-set ps (middleEdge e) (n + placeIn isb es′ (sorted (edge 0 c e))) ∙ r .long;
+          corners = λ d l u. getD-set-other ps (middleEdge e) d (n + placeIn isb es′ (sorted (edge 0 c e))) 0 (apart d u) ∙ r .corners d l u;
           has = λ f l u. rw q (has-more f (omega arith) u);
           middles = λ f l u. ⊎-elim (same f) (λ (w : f < e). older f w u) (eq-or-lt-of-le (omega arith));
         })
       where
-        apart : (d : ℕ) → eqb (low d) (high d) ≡ true → d ≡ middle e → ⊥
-        apart d u w = not-both (eqb (low (middle e)) (high (middle e))) (rw w at u) (no-corner e h)
+        apart : (d : ℕ) → eqb (low d) (high d) ≡ true → d ≡ middleEdge e → ⊥
+        apart d u w = not-both (eqb (low (middleEdge e)) (high (middleEdge e))) (rw w at u) (no-corner e h)
 
-        same : (f : ℕ) → f ≡ e → getD (set ps (middle e) (n + placeIn isb es′ (sorted (edge 0 c e)))) (middle f) 0 ≡ n + placeIn isb es′ (sorted (edge 0 c f))
-        same f w = rw w (getD-set-same ps (middle e) (n + placeIn isb es′ (sorted (edge 0 c e))) 0 (rw (r .long) (middle-below e h)))
+        same : (f : ℕ) → f ≡ e → getD (set ps (middleEdge e) (n + placeIn isb es′ (sorted (edge 0 c e)))) (middleEdge f) 0 ≡ n + placeIn isb es′ (sorted (edge 0 c f))
+        same f w = rw w (getD-set-same ps (middleEdge e) (n + placeIn isb es′ (sorted (edge 0 c e))) 0 (rw (r .long) (middle-below e h)))
 
-        older : (f : ℕ) → f < e → split p f ≡ true → getD (set ps (middle e) (n + placeIn isb es′ (sorted (edge 0 c e)))) (middle f) 0 ≡ n + placeIn isb es′ (sorted (edge 0 c f))
+        older : (f : ℕ) → f < e → split p f ≡ true → getD (set ps (middleEdge e) (n + placeIn isb es′ (sorted (edge 0 c e)))) (middleEdge f) 0 ≡ n + placeIn isb es′ (sorted (edge 0 c f))
         older f w u =
-            let other : middle f ≡ middle e → ⊥ = λ v. let z : f ≡ e = sym (edge-back f (omega arith)) ∙ ap edgeOf v ∙ edge-back e h in omega arith in
-            getD-set-other ps (middle e) (middle f) (n + placeIn isb es′ (sorted (edge 0 c e))) 0 other
+            let other : middleEdge f ≡ middleEdge e → ⊥ = λ v. let z : f ≡ e = sym (edge-back f (omega arith)) ∙ ap edgeOf v ∙ edge-back e h in omega arith in
+            getD-set-other ps (middleEdge e) (middleEdge f) (n + placeIn isb es′ (sorted (edge 0 c e))) 0 other
             ∙ r .middles f w u ∙ ap (λ (k : ℕ). n + k) (sym (stays f w u))
 
     pub numbered-more : Numbered n es′ c p (suc e) (marked n es′ c p e ps)
     numbered-more = ⊎-elim halved-more whole-more (either (split p e))
 
 -- after all six edges, each present point has its number
-pub numbered-all : (n : ℕ) (es : List Pair) (c : Cell ℕ) (p : ℕ) (ps : List ℕ) → Numbered n es c p 6 ps → Points n es c p ps
-unfolding middle
+pub numbered-all : (n : ℕ) (es : List Pair) (c : Cell ℕ) (p : ℕ) (ps : List ℕ) → Numbered n es c p 6 ps → PointsSet n es c p ps
+unfolding middleEdge
 numbered-all n es c p ps r = record { at = λ d t. ⊎-elim (own d t) (between d t) (either (eqb (low d) (high d))) }
   where
     own : (d : ℕ) → T (memberb d (present p)) → eqb (low d) (high d) ≡ true → getD ps d 0 ≡ pointAt n es c d
-    own d t e = r .corners d (present-point p d t .0) e ∙ sym (point-corner n es c d e)
+    own d t e = r .corners d (present-point p d t .0) e ∙ sym (pointAt-corner n es c d e)
 
     between : (d : ℕ) → T (memberb d (present p)) → eqb (low d) (high d) ≡ false → getD ps d 0 ≡ pointAt n es c d
     between d t e =
         let q = present-point p d t in
-        let m = middle-of d (q .0) e in
+        let m = middle-digit d (q .0) e in
         let u : split p (edgeOf d) ≡ true = rw e at (q .1) in
-        let v : middle (edgeOf d) ≡ d = m .digit in
+        let v : middleEdge (edgeOf d) ≡ d = m .digit in
         rw v at (r .middles (edgeOf d) (m .edge) u) ∙ sym (point-middle n es c d e (q .0))
 
 -- the loop's invariant
@@ -232,7 +232,7 @@ module _ (c : Cell ℕ) (p n : ℕ) (xs₀ ys₀ heads₀ links₀ : List ℕ) (
         }
 
   pub turn-all : (xs ys heads links ps : List ℕ) (k e : ℕ) → Turn c p n xs₀ ys₀ heads₀ links₀ m xs ys heads links ps k e → 6 ≤ e → (s : ℕ) → p ≡ patternOf s
-      → Grown xs₀ ys₀ 0 m (splitEdges 0 c s) xs ys heads links k × Points n (listed xs ys 0 k) c (patternOf s) ps
+      → Grown xs₀ ys₀ 0 m (splitEdges 0 c s) xs ys heads links k × PointsSet n (listed xs ys 0 k) c (patternOf s) ps
   turn-all xs ys heads links ps k e r h s q =
       let w : e ≡ 6 = omega (arith, r .below) in
       let v : splitsTo p c e ≡ splitEdges 0 c s = rw (w, q) (splits-all s c) in

@@ -14,11 +14,11 @@ use Rattle.edges.specs.Table.{listed, Edges, take-less}
 use Rattle.rows.specs.Numbered.{cellAt, cellsAt, part, endsFrom, pointAt, rowsOf}
 use Rattle.mesh.specs.Table.{sizeOf, sizes}
 use Rattle.growth.specs.Written.{written, written-none, written-more, cell-kept}
-use Rattle.growth.specs.Rows.{rowsAll, length-rows, rows-snoc, sizes-snoc}
+use Rattle.growth.specs.Rows.{rowsAll, length-rowsOf, rows-snoc, sizes-snoc}
 use Rattle.growth.specs.Places.{Extends, extends-pairs, rows-kept, splits-few, ends-snoc}
 use Rattle.rows.specs.Laws.{length-cells, length-part, part-more}
 use Rattle.growth.specs.Parts.{small-part, sizes-take}
-use Rattle.growth.specs.Points.{Ready}
+use Rattle.growth.specs.Points.{ReadyToGrow}
 use Rattle.growth.specs.Level.{Laid, Roomy, Grows}
 
 module _ (cells xs ys heads links ss : List ℕ) (first l at n m : ℕ) where
@@ -69,7 +69,7 @@ module _ (cells xs ys heads links ss : List ℕ) (first l at n m : ℕ) where
     refine-asked e = (omega (arith, r .done, g .next), small, omega (arith, within, r .most), omega (arith, within, r .in-cells))
 
     pub refine-ready : length cells₁ ≡ length cells → length xs₁ ≡ length xs → length ys₁ ≡ length ys → length links₁ ≡ length links
-        → Ready cells₁ xs₁ ys₁ heads₁ links₁ (first + k) (getD ss (first + k) 0) n m₁
+        → ReadyToGrow cells₁ xs₁ ys₁ heads₁ links₁ (first + k) (getD ss (first + k) 0) n m₁
     refine-ready e ex ey el =
         record {
           inside = omega (arith, r .done, r .in-cells);
@@ -107,7 +107,7 @@ module _ (cells xs ys heads links ss : List ℕ) (first l at n m : ℕ) where
           let vs = rowsAll l n es first (cellsAt cells first k) (part ss first k) in
           let c = cellAt cells (first + k) in
           let s = getD ss (first + k) 0 in
-          let long : length vs ≡ 8 * sizes (part ss first k) = length-rows l n es first (cellsAt cells first k) (part ss first k) alike all-small in
+          let long : length vs ≡ 8 * sizes (part ss first k) = length-rowsOf l n es first (cellsAt cells first k) (part ss first k) alike all-small in
           let e : 8 * at₁ ≡ 8 * at + length vs = omega (arith, g .next) in
           let q : cells₁ ≡ written cells (8 * at) vs = g .rows ∙ ap (written cells (8 * at)) rows-stay in
           let v : rowsAll l n es first (cellsAt cells first k ++ (c ∷ [])) (part ss first (suc k)) ≡ vs ++ rowsOf l (first + k) s (pointAt n es c) =
@@ -156,7 +156,7 @@ module _ (cells xs ys heads links ss : List ℕ) (first last l at n m : ℕ) (r 
   module _ (cells₁ xs₁ ys₁ heads₁ links₁ : List ℕ) (at₁ m₁ c : ℕ) (b : Between cells xs ys heads links ss first last l at n m cells₁ xs₁ ys₁ heads₁ links₁ at₁ m₁ c) where
     pub between-asked : c < last
         → ((c < at₁) × (getD ss c 0 ≤ 64) × (at₁ + sizeOf (getD ss c 0) ≤ 4096) × (8 * (at₁ + sizeOf (getD ss c 0)) ≤ length cells₁))
-        × Ready cells₁ xs₁ ys₁ heads₁ links₁ c (getD ss c 0) n m₁
+        × ReadyToGrow cells₁ xs₁ ys₁ heads₁ links₁ c (getD ss c 0) n m₁
     between-asked h =
         let w : first + (c - first) ≡ c = omega (arith, b .above) in
         let g : first + (c - first) < last = omega (arith, w) in (

@@ -14,7 +14,7 @@ use Rattle.edges.specs.Table.{listed, Edges, Grown}
 use Rattle.rows.specs.Numbered.{cellAt, cellsAt, part, endsFrom, pointAt, rowsOf}
 use Rattle.mesh.specs.Table.{sizeOf, sizes}
 use Rattle.growth.specs.Written.{written, take-written}
-use Rattle.growth.specs.Rows.{rowsAll, length-rows}
+use Rattle.growth.specs.Rows.{rowsAll, length-rowsOf}
 use Rattle.rows.specs.Laws.{length-cells, length-part}
 use Rattle.growth.specs.Parts.{small-part}
 
@@ -56,7 +56,7 @@ module _ (cells xs ys heads links ss : List ℕ) (first last l at n m : ℕ) (r 
       let vs : List ℕ = rowsAll l n (listed xs′ ys′ 0 m′) first (cellsAt cells first k) (part ss first k) in
       let h : first + k ≤ length ss = omega (arith, r .rise, r .statuses) in
       let long : length vs ≡ 8 * sizes (part ss first k) =
-      length-rows l n (listed xs′ ys′ 0 m′) first (cellsAt cells first k) (part ss first k) (length-cells cells first k ∙ sym (length-part ss first k h))
+      length-rowsOf l n (listed xs′ ys′ 0 m′) first (cellsAt cells first k) (part ss first k) (length-cells cells first k ∙ sym (length-part ss first k h))
       (small-part ss first k h (λ c a b. r .small c a (omega (arith, r .rise)))) in
       let e : 8 * at′ ≡ 8 * at + length vs = omega (arith, g .next) in
       rw (e, g .rows) (take-written cells (8 * at) vs (omega (arith, r .in-cells)))

@@ -1,7 +1,7 @@
 -- Corners keep their numbers while the list of ends grows.
 --   Extends es es′   es′ has what es has, at the same places
---   middle e         the digit of the midpoint of the edge e
---   Middle d         d is the midpoint of the edge edgeOf d
+--   middleEdge e         the digit of the midpoint of the edge e
+--   MiddleDigit d         d is the midpoint of the edge edgeOf d
 -- Laws: extends-ends (what a level of cells adds extends the list), point-kept (a present point keeps its number),
 -- rows-kept (the rows of a level stay as they are), splits-few (a family has at least as many children as its cell has split
 -- edges), ends-snoc (one cell more).
@@ -22,7 +22,7 @@ use Rattle.families.specs.Facts.{child-at}
 use Rattle.mesh.specs.Cells.{Cell, corner, redb, patternOf, edge}
 use Rattle.mesh.specs.Layout.{edgeNumbers, splitEdges}
 use Rattle.edges.specs.Pairs.{Pair, sorted, isb, addPair, addPairs, same-pair, has-pairs}
-use Rattle.rows.specs.Numbered.{endsFrom, pointAt, rowsFrom, rowsOf}
+use Rattle.rows.specs.Numbered.{endsFrom, pointAt, childRows, rowsOf}
 use Rattle.mesh.specs.Table.{sizeOf}
 use Rattle.growth.specs.Rows.{rowsAll}
 use Rattle.mesh.specs.Laws.{pattern-below}
@@ -96,37 +96,37 @@ pub present-point : (p d : ℕ) → T (memberb d (present p)) → (d < 10) × ((
 unfolding present
 present-point p d t = let q = picked (λ d. eqb (low d) (high d) || split p (edgeOf d)) d points t in (below-ten d (q .1), q .0)
 
-unfoldable pub middle : ℕ → ℕ
-middle e = getD (1 ∷ 2 ∷ 3 ∷ 5 ∷ 6 ∷ 8 ∷ []) e 0
+unfoldable pub middleEdge : ℕ → ℕ
+middleEdge e = getD (1 ∷ 2 ∷ 3 ∷ 5 ∷ 6 ∷ 8 ∷ []) e 0
 
 -- the midpoint d is that of the edge edgeOf d
-middle-test : T (belowb (λ d. impb (not (eqb (low d) (high d))) (eqb (middle (edgeOf d)) d && ltb (edgeOf d) 6)) 10)
-unfolding belowb impb low high edgeOf middle
+middle-test : T (belowb (λ d. impb (not (eqb (low d) (high d))) (eqb (middleEdge (edgeOf d)) d && ltb (edgeOf d) 6)) 10)
+unfolding belowb impb low high edgeOf middleEdge
 middle-test = tt
 
-pub record Middle (d : ℕ) : Type 0 where
-  pub digit : middle (edgeOf d) ≡ d
+pub record MiddleDigit (d : ℕ) : Type 0 where
+  pub digit : middleEdge (edgeOf d) ≡ d
   pub edge : edgeOf d < 6
 
-pub middle-of : (d : ℕ) → d < 10 → eqb (low d) (high d) ≡ false → Middle d
-middle-of d h e =
-    let w : T (impb (not (eqb (low d) (high d))) (eqb (middle (edgeOf d)) d && ltb (edgeOf d) 6)) =
-    belowb-at (λ d. impb (not (eqb (low d) (high d))) (eqb (middle (edgeOf d)) d && ltb (edgeOf d) 6)) 10 middle-test d h in
-    let v : T (eqb (middle (edgeOf d)) d && ltb (edgeOf d) 6) =
-    impb-use (not (eqb (low d) (high d))) (eqb (middle (edgeOf d)) d && ltb (edgeOf d) 6) w (rw e tt) in
+pub middle-digit : (d : ℕ) → d < 10 → eqb (low d) (high d) ≡ false → MiddleDigit d
+middle-digit d h e =
+    let w : T (impb (not (eqb (low d) (high d))) (eqb (middleEdge (edgeOf d)) d && ltb (edgeOf d) 6)) =
+    belowb-at (λ d. impb (not (eqb (low d) (high d))) (eqb (middleEdge (edgeOf d)) d && ltb (edgeOf d) 6)) 10 middle-test d h in
+    let v : T (eqb (middleEdge (edgeOf d)) d && ltb (edgeOf d) 6) =
+    impb-use (not (eqb (low d) (high d))) (eqb (middleEdge (edgeOf d)) d && ltb (edgeOf d) 6) w (rw e tt) in
     record {
-      digit = eqb→eq (middle (edgeOf d)) d (and-left (eqb (middle (edgeOf d)) d) (ltb (edgeOf d) 6) v);
-      edge = ltb→lt (edgeOf d) 6 (and-right (eqb (middle (edgeOf d)) d) (ltb (edgeOf d) 6) v);
+      digit = eqb→eq (middleEdge (edgeOf d)) d (and-left (eqb (middleEdge (edgeOf d)) d) (ltb (edgeOf d) 6) v);
+      edge = ltb→lt (edgeOf d) 6 (and-right (eqb (middleEdge (edgeOf d)) d) (ltb (edgeOf d) 6) v);
     }
 
 module _ (n : ℕ) (es : List Pair) (c : Cell ℕ) (d : ℕ) where
-  pub point-corner : eqb (low d) (high d) ≡ true → pointAt n es c d ≡ corner 0 c (low d)
+  pub pointAt-corner : eqb (low d) (high d) ≡ true → pointAt n es c d ≡ corner 0 c (low d)
   unfolding pointAt
-  point-corner e = rw (e, pointAt)
+  pointAt-corner e = rw (e, pointAt)
 
   pub point-middle : eqb (low d) (high d) ≡ false → d < 10 → pointAt n es c d ≡ n + placeIn isb es (sorted (edge 0 c (edgeOf d)))
-  unfolding pointAt edge middle
-  point-middle e h = rw (middle-of d h e .digit, e, pointAt)
+  unfolding pointAt edge middleEdge
+  point-middle e h = rw (middle-digit d h e .digit, e, pointAt)
 
 -- An edge that the status splits is in the list behind it.
 edge-number : (e : ℕ) → e < 6 → T (memberb e edgeNumbers)
@@ -143,13 +143,13 @@ module _ (es : List Pair) (c : Cell ℕ) (s : ℕ) where
   point-kept n es′ x d t = ⊎-elim same other (either (eqb (low d) (high d)))
     where
       same : eqb (low d) (high d) ≡ true → pointAt n es′ c d ≡ pointAt n (addPairs es (splitEdges 0 c s)) c d
-      same e = point-corner n es′ c d e ∙ sym (point-corner n (addPairs es (splitEdges 0 c s)) c d e)
+      same e = pointAt-corner n es′ c d e ∙ sym (pointAt-corner n (addPairs es (splitEdges 0 c s)) c d e)
 
       other : eqb (low d) (high d) ≡ false → pointAt n es′ c d ≡ pointAt n (addPairs es (splitEdges 0 c s)) c d
       other e =
           let q = present-point (patternOf s) d t in
           let u : split (patternOf s) (edgeOf d) ≡ true = rw e at (q .1) in
-          let m = middle-of d (q .0) e in
+          let m = middle-digit d (q .0) e in
           point-middle n es′ c d e (q .0)
           ∙ ap (λ (k : ℕ). n + k) (x .place (sorted (edge 0 c (edgeOf d))) (has-split (edgeOf d) (m .edge) u))
           ∙ sym (point-middle n (addPairs es (splitEdges 0 c s)) c d e (q .0))
@@ -161,8 +161,8 @@ module _ (q : ℕ → Bool) (f g : ℕ → ℕ) (same : (d : ℕ) → T (q d) �
   map-same [] t = refl
   map-same (d ∷ l) t = ap₂ _∷_ (same d (and-left (q d) (allb q l) t)) (map-same l (and-right (q d) (allb q l) t))
 
-  from-same : (l k : ℕ) (r : Bool) (i : ℕ) (ds : List (List ℕ)) → T (allb (allb q) ds) → rowsFrom l k r f i ds ≡ rowsFrom l k r g i ds
-  unfolding rowsFrom allb
+  from-same : (l k : ℕ) (r : Bool) (i : ℕ) (ds : List (List ℕ)) → T (allb (allb q) ds) → childRows l k r f i ds ≡ childRows l k r g i ds
+  unfolding childRows allb
   from-same l k r i [] t = refl
   from-same l k r i (d ∷ ds) t = rw (map-same d (and-left (allb q d) (allb (allb q) ds) t), from-same l k r (suc i) ds (and-right (allb q d) (allb (allb q) ds) t))
 
@@ -171,15 +171,15 @@ unfolding allb
 allb-from f o [] t = tt
 allb-from f o (x ∷ l) t = rw (is-true (f x) (t 0 (omega arith))) (allb-from f o l (λ k h. t (suc k) (omega arith)))
 
-pub family-present : (p : ℕ) → p < 64 → T (allb (allb (λ d. memberb d (present p))) (family p))
-family-present p h = allb-from (allb (λ d. memberb d (present p))) [] (family p) (λ k l. child-at p k h l .present)
+pub family-has : (p : ℕ) → p < 64 → T (allb (allb (λ d. memberb d (present p))) (family p))
+family-has p h = allb-from (allb (λ d. memberb d (present p))) [] (family p) (λ k l. child-at p k h l .present)
 
 pub rows-same : (l k s : ℕ) (f g : ℕ → ℕ) → s ≤ 64 → ((d : ℕ) → T (memberb d (present (patternOf s))) → f d ≡ g d) → rowsOf l k s f ≡ rowsOf l k s g
 unfolding rowsOf
 rows-same l k s f g h same = ⊎-elim (λ (e : eqb s 0 ≡ true). rw (e, rowsOf)) (λ (e : eqb s 0 ≡ false). rw (e, rowsOf) more) (either (eqb s 0))
   where
-    more : rowsFrom l k (redb s) f 0 (family (patternOf s)) ≡ rowsFrom l k (redb s) g 0 (family (patternOf s))
-    more = from-same (λ d. memberb d (present (patternOf s))) f g same l k (redb s) 0 (family (patternOf s)) (family-present (patternOf s) (pattern-below s h))
+    more : childRows l k (redb s) f 0 (family (patternOf s)) ≡ childRows l k (redb s) g 0 (family (patternOf s))
+    more = from-same (λ d. memberb d (present (patternOf s))) f g same l k (redb s) 0 (family (patternOf s)) (family-has (patternOf s) (pattern-below s h))
 
 module _ (l n : ℕ) (es′ : List Pair) where
   pub rows-kept : (es : List Pair) (k : ℕ) (cs : List (Cell ℕ)) (ss : List ℕ) → T (allb (λ s. leb s 64) ss) → Extends (endsFrom es cs ss) es′

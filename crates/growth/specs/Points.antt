@@ -2,9 +2,9 @@
 --   splitAt p c e            the edge e of c where the pattern splits it, else nothing
 --   lowCorners c             for each of the ten points the number of its lower corner: a corner's own
 --   marked n es c p e ps     the numbers ps with that of the midpoint of the edge e set, where the pattern splits it
---   Points n es c p ps       each point that is present has its number in ps
+--   PointsSet n es c p ps       each point that is present has its number in ps
 --   fourAt ds j              the four digits of ds from the place j on
---   Ready .. c s n m         the tables have room for the edges of the cell c that the status s splits
+--   ReadyToGrow .. c s n m         the tables have room for the edges of the cell c that the status s splits
 use mathlib.Core.Path.{_≡_}
 use mathlib.Core.Bool.{true, false}
 use mathlib.Core.List.{List, [], _∷_, map}
@@ -19,7 +19,7 @@ use Rattle.mesh.specs.Layout.{splitEdges}
 use Rattle.edges.specs.Pairs.{Pair, sorted, isb}
 use Rattle.edges.specs.Table.{Edges, Space}
 use Rattle.rows.specs.Numbered.{cellAt, pointAt}
-use Rattle.growth.specs.Places.{middle}
+use Rattle.growth.specs.Places.{middleEdge}
 
 unfoldable pub splitAt : ℕ → Cell ℕ → ℕ → List Pair
 unfolding edge filterb split
@@ -30,16 +30,16 @@ unfolding low
 lowCorners c = map (λ d. corner 0 c (low d)) points
 
 unfoldable pub marked : ℕ → List Pair → Cell ℕ → ℕ → ℕ → List ℕ → List ℕ
-unfolding middle edge split placeIn isb sorted
-marked n es c p e ps = elim (split p e) [ true ↦ set ps (middle e) (n + placeIn isb es (sorted (edge 0 c e))) | false ↦ ps ]
+unfolding middleEdge edge split placeIn isb sorted
+marked n es c p e ps = elim (split p e) [ true ↦ set ps (middleEdge e) (n + placeIn isb es (sorted (edge 0 c e))) | false ↦ ps ]
 
-pub record Points (n : ℕ) (es : List Pair) (c : Cell ℕ) (p : ℕ) (ps : List ℕ) : Type 0 where
+pub record PointsSet (n : ℕ) (es : List Pair) (c : Cell ℕ) (p : ℕ) (ps : List ℕ) : Type 0 where
   pub at : (d : ℕ) → T (memberb d (present p)) → getD ps d 0 ≡ pointAt n es c d
 
 unfoldable pub fourAt : List ℕ → ℕ → List ℕ
 fourAt ds j = getD ds j 0 ∷ getD ds (j + 1) 0 ∷ getD ds (j + 2) 0 ∷ getD ds (j + 3) 0 ∷ []
 
-pub record Ready (cells xs ys heads links : List ℕ) (c s n m : ℕ) : Type 0 where
+pub record ReadyToGrow (cells xs ys heads links : List ℕ) (c s n m : ℕ) : Type 0 where
   pub inside : 8 * c + 8 ≤ length cells
   pub edges : Edges xs ys heads links 0 m
   pub space : Space xs ys links m (length (splitEdges 0 (cellAt cells c) s))

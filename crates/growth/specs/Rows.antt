@@ -1,7 +1,7 @@
 -- The rows of all children of a level, in cell order.
 --   rowsAll l n es k cs ss   the rows, on level l, of the families of the cells cs, numbered from k, with statuses ss, where
 --                            the corners behind the n coarse ones have the ends es
--- Laws: rows-next (they are the rows of the cells one level up), length-rows, rows-snoc (one cell more).
+-- Laws: rows-next (they are the rows of the cells one level up), length-rowsOf, rows-snoc (one cell more).
 use mathlib.Core.Path.{_≡_, refl, sym, _∙_, ap, ap₂, fun-ext}
 use mathlib.Core.Bool.{Bool, true, false}
 use mathlib.Core.List.{List, [], _∷_, _++_, map, flatMap, append-assoc, append-nil}
@@ -17,7 +17,7 @@ use Rattle.cutting.specs.Rows.{family-fours}
 use Rattle.mesh.specs.Cells.{Cell, redb, patternOf, children, childrenFrom}
 use Rattle.mesh.specs.Layout.{childNumber, rowOf}
 use Rattle.edges.specs.Pairs.{Pair}
-use Rattle.rows.specs.Numbered.{pointAt, nextOf, rowsFrom, rowsOf}
+use Rattle.rows.specs.Numbered.{pointAt, nextOf, childRows, rowsOf}
 use Rattle.mesh.specs.Table.{sizeOf, sizes}
 use Rattle.mesh.specs.Laws.{pattern-below}
 
@@ -42,8 +42,8 @@ flat-append (c ∷ l) m = rw (flat-append l m) (sym (append-assoc (rowOf c) (fla
 
 -- one family
 module _ (l k : ℕ) (c : Cell ℕ) (deep : length (c .path) ≡ l) (up : 1 ≤ l) (f : ℕ → ℕ) where
-  from-children : (r : Bool) (i : ℕ) (ds : List (List ℕ)) → rowsFrom l k r f i ds ≡ flatMap rowOf (childrenFrom k c r f i ds)
-  unfolding rowsFrom childrenFrom rowOf flatMap
+  from-children : (r : Bool) (i : ℕ) (ds : List (List ℕ)) → childRows l k r f i ds ≡ flatMap rowOf (childrenFrom k c r f i ds)
+  unfolding childRows childrenFrom rowOf flatMap
   from-children r i [] = refl
   from-children r i (d ∷ ds) =
       let e : pred (length (c .path ++ (i ∷ []))) ≡ l = omega (arith, length-append (c .path) (i ∷ [])) in
@@ -58,9 +58,9 @@ module _ (l k : ℕ) (c : Cell ℕ) (deep : length (c .path) ≡ l) (up : 1 ≤ 
       go false e = rw (e, rowsOf, children) (from-children (redb s) 0 (family (patternOf s)))
 
 -- the number of a point goes by the cell's points alone
-pub point-same : (n : ℕ) (es : List Pair) (c c′ : Cell ℕ) → c .points ≡ c′ .points → pointAt n es c ≡ pointAt n es c′
+pub pointAt-same : (n : ℕ) (es : List Pair) (c c′ : Cell ℕ) → c .points ≡ c′ .points → pointAt n es c ≡ pointAt n es c′
 unfolding pointAt
-point-same n es c c′ e = fun-ext at
+pointAt-same n es c c′ e = fun-ext at
   where
     at : (d : ℕ) → pointAt n es c d ≡ pointAt n es c′ d
     at d = rw e
@@ -78,16 +78,16 @@ module _ (l n : ℕ) (es : List Pair) (up : 1 ≤ l) where
       let rest : T (allb (λ c. eqb (length (c .path)) l) cs′) = and-right (eqb (length (c′ .path)) l) (allb (λ c. eqb (length (c .path)) l) cs′) t in
       let p : c .points ≡ c′ .points = cc in
       let q : map (λ c. c .points) cs ≡ map (λ c. c .points) cs′ = cc in
-      ap₂ _++_ (ap (rowsOf l k s) (point-same n es c c′ p) ∙ of-children l k c′ deep up (pointAt n es c′) s) (rows-next (suc k) cs cs′ ss q rest)
+      ap₂ _++_ (ap (rowsOf l k s) (pointAt-same n es c c′ p) ∙ of-children l k c′ deep up (pointAt n es c′) s) (rows-next (suc k) cs cs′ ss q rest)
       ∙ sym (flat-append (children k c′ s (pointAt n es c′)) (nextOf n es (suc k) cs′ ss))
 
 -- eight numbers a child
-pub length-from : (l k : ℕ) (r : Bool) (f : ℕ → ℕ) (i : ℕ) (ds : List (List ℕ)) → T (allb (λ c. eqb (length c) 4) ds) → length (rowsFrom l k r f i ds) ≡ 8 * length ds
-unfolding rowsFrom allb
-length-from l k r f i [] t = refl
-length-from l k r f i (d ∷ ds) t =
+pub length-rows-from : (l k : ℕ) (r : Bool) (f : ℕ → ℕ) (i : ℕ) (ds : List (List ℕ)) → T (allb (λ c. eqb (length c) 4) ds) → length (childRows l k r f i ds) ≡ 8 * length ds
+unfolding childRows allb
+length-rows-from l k r f i [] t = refl
+length-rows-from l k r f i (d ∷ ds) t =
     let e : length d ≡ 4 = eqb→eq (length d) 4 (and-left (eqb (length d) 4) (allb (λ c. eqb (length c) 4) ds) t) in
-    let h = length-from l k r f (suc i) ds (and-right (eqb (length d) 4) (allb (λ c. eqb (length c) 4) ds) t) in
+    let h = length-rows-from l k r f (suc i) ds (and-right (eqb (length d) 4) (allb (λ c. eqb (length c) 4) ds) t) in
     simp (length-append, length-map) (omega arith)
 
 pub length-family : (l k : ℕ) (f : ℕ → ℕ) (s : ℕ) → s ≤ 64 → length (rowsOf l k s f) ≡ 8 * sizeOf s
@@ -96,21 +96,21 @@ length-family l k f s h = go (eqb s 0) refl
   where
     go : (b : Bool) → eqb s 0 ≡ b → length (rowsOf l k s f) ≡ 8 * sizeOf s
     go true e = rw (e, rowsOf, sizeOf)
-    go false e = rw (e, rowsOf, sizeOf) (length-from l k (redb s) f 0 (family (patternOf s)) (family-fours (patternOf s) (pattern-below s h)))
+    go false e = rw (e, rowsOf, sizeOf) (length-rows-from l k (redb s) f 0 (family (patternOf s)) (family-fours (patternOf s) (pattern-below s h)))
 
-pub length-rows : (l n : ℕ) (es : List Pair) (k : ℕ) (cs : List (Cell ℕ)) (ss : List ℕ) → length cs ≡ length ss → T (allb (λ s. leb s 64) ss)
+pub length-rowsOf : (l n : ℕ) (es : List Pair) (k : ℕ) (cs : List (Cell ℕ)) (ss : List ℕ) → length cs ≡ length ss → T (allb (λ s. leb s 64) ss)
     → length (rowsAll l n es k cs ss) ≡ 8 * sizes ss
 unfolding rowsAll sizes allb
-length-rows l n es k [] [] e t = refl
-length-rows l n es k [] (s ∷ ss) e t = absurd (omega arith)
-length-rows l n es k (c ∷ cs) [] e t = absurd (omega arith)
-length-rows l n es k (c ∷ cs) (s ∷ ss) e t =
+length-rowsOf l n es k [] [] e t = refl
+length-rowsOf l n es k [] (s ∷ ss) e t = absurd (omega arith)
+length-rowsOf l n es k (c ∷ cs) [] e t = absurd (omega arith)
+length-rowsOf l n es k (c ∷ cs) (s ∷ ss) e t =
     let h : s ≤ 64 = leb→le s 64 (and-left (leb s 64) (allb (λ s. leb s 64) ss) t) in
     omega (
       arith,
       length-append (rowsOf l k s (pointAt n es c)) (rowsAll l n es (suc k) cs ss),
       length-family l k (pointAt n es c) s h,
-      length-rows l n es (suc k) cs ss (omega arith) (and-right (leb s 64) (allb (λ s. leb s 64) ss) t),
+      length-rowsOf l n es (suc k) cs ss (omega arith) (and-right (leb s 64) (allb (λ s. leb s 64) ss) t),
     )
 
 -- one cell more

@@ -1,7 +1,7 @@
 -- A list with a part written over.
 --   written l i vs   l with vs from the place i on
 -- Laws: written-none, written-more (two parts, one behind the other), written-rows (rows of eight), what stands before and
--- behind (take-written, drop-written, getD-written), and the cells before (cell-kept, cells-kept).
+-- behind (take-written, drop-written, getD-written), and the cells before (cell-kept, written-cells-kept).
 use mathlib.Core.Path.{_≡_, refl, sym, _∙_, ap}
 use mathlib.Core.List.{List, [], _++_, append-assoc}
 use Prim.Native.Nat.{ℕ, zero, suc, _+_, _*_, _≤_, _<_}
@@ -71,7 +71,7 @@ module _ (t : List ℕ) (at : ℕ) (vs : List ℕ) (h : 8 * at ≤ length t) whe
         getD-written t (8 * at) vs h (8 * k + 7) 0 (omega arith),
       )
 
-  pub cells-kept : (k m : ℕ) → k + m ≤ at → cellsAt (written t (8 * at) vs) k m ≡ cellsAt t k m
+  pub written-cells-kept : (k m : ℕ) → k + m ≤ at → cellsAt (written t (8 * at) vs) k m ≡ cellsAt t k m
   unfolding cellsAt
-  cells-kept k zero l = refl
-  cells-kept k (suc m) l = rw (cells-kept k m (omega arith), cell-kept (k + m) (omega arith))
+  written-cells-kept k zero l = refl
+  written-cells-kept k (suc m) l = rw (written-cells-kept k m (omega arith), cell-kept (k + m) (omega arith))

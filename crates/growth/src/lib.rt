@@ -13,11 +13,11 @@ ghost use Rattle.mesh.specs.Cells.{patternOf, edge};
 ghost use Rattle.mesh.specs.Layout.{splitEdges};
 ghost use Rattle.pairs.specs.Keys.{Room};
 ghost use Rattle.edges.specs.Table.{Edges, Inserted, Grown, Space, listed};
-ghost use Rattle.rows.specs.Numbered.{cellAt, rowsFrom};
+ghost use Rattle.rows.specs.Numbered.{cellAt, childRows};
 ghost use Rattle.mesh.specs.Table.{sizeOf};
-ghost use Rattle.growth.specs.Places.{middle};
+ghost use Rattle.growth.specs.Places.{middleEdge};
 ghost use Rattle.growth.specs.Written.{written};
-ghost use Rattle.growth.specs.Points.{splitAt, lowCorners, marked, fourAt, Points, Ready};
+ghost use Rattle.growth.specs.Points.{splitAt, lowCorners, marked, fourAt, PointsSet, ReadyToGrow};
 ghost use Rattle.growth.specs.Level.{Laid, Roomy, Grows};
 
 // The pattern that a refined cell is cut by: all edges where it is red.
@@ -40,10 +40,10 @@ const MIDDLE: [usize; 6] = [1, 2, 3, 5, 6, 8];
 // The digit of an edge's midpoint.
 fn middle_of(e: usize) -> usize
     requires { ⌜ e < 6 ⌝ }
-    ensures { λ r. ⌜ (r ≡ middle e) × (r < 10) ⌝ }
+    ensures { λ r. ⌜ (r ≡ middleEdge e) × (r < 10) ⌝ }
 {
-    let middle = &MIDDLE;
-    middle[e]
+    let middleEdge = &MIDDLE;
+    middleEdge[e]
 }
 
 // For each of the ten points of a cell the number of its lower corner: a corner has its own.
@@ -154,9 +154,9 @@ fn points_of(
     links: &mut [u16],
     m: usize,
 ) -> Ten
-    requires { ⌜ Ready (now cells) (now xs) (now ys) (now heads) (now links) c status n m ⌝ }
+    requires { ⌜ ReadyToGrow (now cells) (now xs) (now ys) (now heads) (now links) c status n m ⌝ }
     ensures { λ r. ⌜ Grown (was xs) (was ys) 0 m (splitEdges 0 (cellAt (was cells) c) status) (is xs) (is ys) (is heads) (is links) (r .m) ⌝ }
-    ensures { λ r. ⌜ Points n (listed (is xs) (is ys) 0 (r .m)) (cellAt (was cells) c) (patternOf status) (r .numbers) ⌝ }
+    ensures { λ r. ⌜ PointsSet n (listed (is xs) (is ys) 0 (r .m)) (cellAt (was cells) c) (patternOf status) (r .numbers) ⌝ }
 {
     let pattern = pattern_of(status);
     let mut points = corners_of(cells, c);
@@ -234,7 +234,7 @@ fn write_children(
     requires { ⌜ (pattern < 64) × (8 * (at + length (family pattern)) ≤ length (now cells)) ⌝ }
     requires { ⌜ now digits ≡ digitTable ⌝ }
     ensures { λ r. ⌜ r ≡ at + length (family pattern) ⌝ }
-    ensures { λ r. ⌜ is cells ≡ written (was cells) (8 * at) (rowsFrom level parent regular (λ d. getD (was points) d 0) 0 (family pattern)) ⌝ }
+    ensures { λ r. ⌜ is cells ≡ written (was cells) (8 * at) (childRows level parent regular (λ d. getD (was points) d 0) 0 (family pattern)) ⌝ }
 {
     let whole = cutting::cut_from(digits, pattern);
     let own = whole.digits;
@@ -268,7 +268,7 @@ fn refine(
     digits: &[u8],
 ) -> Refined
     requires { ⌜ (c < at) × (status ≤ 64) × (at + sizeOf status ≤ 4096) × (8 * (at + sizeOf status) ≤ length (now cells)) ⌝ }
-    requires { ⌜ Ready (now cells) (now xs) (now ys) (now heads) (now links) c status n m ⌝ }
+    requires { ⌜ ReadyToGrow (now cells) (now xs) (now ys) (now heads) (now links) c status n m ⌝ }
     requires { ⌜ now digits ≡ digitTable ⌝ }
     ensures { λ r. ⌜ Laid (was cells) (was xs) (was ys) c status level at n m (is cells) (is xs) (is ys) (is heads) (is links) (r .at) (r .m) ⌝ }
 {

@@ -13,12 +13,12 @@ use Rattle.base.specs.declared.Answer.the-variants.{Accepted, Refused}
 use Rattle.mesh.specs.Coarse.{cornerCount}
 use Rattle.mesh.specs.Table.{soundb}
 use Rattle.counting.specs.Levels.{Levels, levelNumber, levelCounts, counts-length}
-use Rattle.counting.proofs.Sound.{sound-levels}
-use Rattle.counting.proofs.Whole.{counts-right}
+use Rattle.counting.specs.Sound.{sound-counted}
+use Rattle.counting.specs.Whole.{counts-right}
 use Rattle.archive.specs.Job.{Job}
 use Rattle.archive.specs.Form.{jobOf}
 use Rattle.replay.specs.Run.{jobTable}
-use Rattle.jobs.specs.Calls.{archiveAnswer, jobCounts, replayAnswer, sizeOf, replayedOf, Reopened}
+use Rattle.jobs.specs.Calls.{archiveAnswer, jobCounts, replayAnswer, replaySize, replayedOf, Reopened}
 use Rattle.jobs.specs.declared.Replayed.the-variants as replayed
 
 module _ (bs table counts : List ℕ) where
@@ -38,7 +38,7 @@ module _ (bs table counts : List ℕ) where
 
   -- a refusal changes nothing
   pub refused-so : (k : ℕ) → answer ≡ Refused k
-      → (replayed.Refused k ≡ replayedOf answer (sizeOf j)) × ((table ≡ heldAfter answer (jobTable j) table) × (counts ≡ heldAfter answer (jobCounts j) counts))
+      → (replayed.Refused k ≡ replayedOf answer (replaySize j)) × ((table ≡ heldAfter answer (jobTable j) table) × (counts ≡ heldAfter answer (jobCounts j) counts))
   unfolding replayedOf heldAfter
   refused-so k e = (rw e, (rw e, rw e))
 
@@ -49,19 +49,19 @@ module _ (bs table counts : List ℕ) where
 
     module _ (new : List ℕ) (k coarse cells levels : ℕ) (r : Reopened bs new k coarse cells levels) where
       pub replay-refused : (k ≡ 0 → ⊥)
-          → (replayed.Refused k ≡ replayedOf answer (sizeOf j)) × ((table ≡ heldAfter answer (jobTable j) table) × (counts ≡ heldAfter answer (jobCounts j) counts))
+          → (replayed.Refused k ≡ replayedOf answer (replaySize j)) × ((table ≡ heldAfter answer (jobTable j) table) × (counts ≡ heldAfter answer (jobCounts j) counts))
       replay-refused z = refused-so k (long ∙ r .answer ∙ answer-refused k z)
 
       module _ (z : k ≡ 0) where
         pub replay-levels : Levels (take cells new) coarse
         replay-levels =
             rw (r .table-is z, ← r .coarse-are z)
-            (sound-levels (cornerCount (j .positions)) (fours (j .cells)) (jobTable j)
+            (sound-counted (cornerCount (j .positions)) (fours (j .cells)) (jobTable j)
             (is-true (soundb (cornerCount (j .positions)) (fours (j .cells)) (jobTable j)) (r .sound z)))
 
         pub replay-done : (table′ counts′ : List ℕ) (n : ℕ) → table′ ≡ take cells new ++ drop cells table → n ≡ levelNumber 12 0 coarse (take cells new)
             → counts′ ≡ levelCounts 12 0 coarse (take cells new) ++ drop (4 * n) counts
-            → (replayed.Done (record { cells = cells; levels = levels }) ≡ replayedOf answer (sizeOf j))
+            → (replayed.Done (record { cells = cells; levels = levels }) ≡ replayedOf answer (replaySize j))
             × ((table′ ≡ heldAfter answer (jobTable j) table) × (counts′ ≡ heldAfter answer (jobCounts j) counts))
         unfolding replayedOf heldAfter
         replay-done table′ counts′ n e m f =

@@ -14,11 +14,11 @@ use Rattle.base.specs.Refuse.{refuse, andThen, answerOf}
 use Rattle.mesh.specs.Coarse.{countsb, meshAnswer}
 use Rattle.archive.specs.Job.{Job}
 use Rattle.archive.specs.Form.{formb, jobOf}
-use Rattle.archive.specs.Tables.{Counts, markedOf, marksOf, endsFrom, endsOf, cellOf, markOf}
+use Rattle.archive.specs.Tables.{Counts, markedOf, marksOf, endsAfter, endsOf, cellOf, markOf}
 use Rattle.archive.specs.Bytes.{Octets}
 use Rattle.archive.specs.Measure.{measure}
 use Rattle.archive.specs.Written.{written-read}
-use Rattle.archive.specs.Loaded.{Room, Loaded}
+use Rattle.archive.specs.Loaded.{LoadRoom, Loaded}
 use Rattle.replay.specs.Run.{jobAnswer}
 use Rattle.replay.specs.Going as going
 use Rattle.replay.specs.Flat.{tables-answer, tables-table}
@@ -74,7 +74,7 @@ module _ (bs : List ℕ) where
       few-bytes = omega (arith, measure counts, written-read bs o (rw f tt) .1 .few)
 
       pub job-room : v ≤ 512 → t ≤ 256 → (ps : List ℤ) (ts cs ms es : List ℕ) → 1536 ≤ length ps → 1024 ≤ length ts → 16384 ≤ length cs → 16384 ≤ length ms
-          → 65536 ≤ length es → Room j ps ts cs ms es
+          → 65536 ≤ length es → LoadRoom j ps ts cs ms es
       job-room hv ht ps ts cs ms es lp lt lc lm le =
           record {
             positions-fit = omega (arith, counts .corners-are);
@@ -94,8 +94,8 @@ module _ (bs : List ℕ) where
     front : {A : Type 0} (x l l₀ : List A) (k : ℕ) → l ≡ x ++ drop (length x) l₀ → length x ≡ k → take k l ≡ x
     front x l l₀ k e n = rw e (take-at x (drop (length x) l₀) k n)
 
-    length-ends : (p : ℕ) (s : List (List (ℕ × ℕ))) → length (endsFrom p s) ≡ length s
-    unfolding endsFrom
+    length-ends : (p : ℕ) (s : List (List (ℕ × ℕ))) → length (endsAfter p s) ≡ length s
+    unfolding endsAfter
     length-ends p [] = refl
     length-ends p (x ∷ s) = ap suc (length-ends (p + length x) s)
 

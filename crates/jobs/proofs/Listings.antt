@@ -12,13 +12,13 @@ use Rattle.base.specs.declared.Answer.the-variants.{Accepted, Refused}
 use Rattle.base.specs.Refuse.{heldAfter}
 use Rattle.archive.specs.Job.{Job}
 use Rattle.archive.specs.Form.{jobOf}
-use Rattle.jobs.specs.Calls.{archiveAnswer, jobLevels, jobCounts, replayAnswer, replayedOf, sizeOf}
+use Rattle.jobs.specs.Calls.{archiveAnswer, jobLevels, jobCounts, replayAnswer, replayedOf, replaySize}
 use Rattle.jobs.specs.Sound.{job-counts, job-high, archive-job}
 use Rattle.jobs.specs.declared.Size.{Size}
 use Rattle.jobs.specs.declared.Replayed.the-variants as replayed
 use Rattle.jobs.proofs.Answers.{long}
 use Rattle.listing.specs.Lines.{listing, refusal}
-use Rattle.jobs.specs.Listing.{listed, listingOf}
+use Rattle.jobs.specs.Listing.{listedBytes, listingOf}
 
 answer-done : (a : Answer) (s t : Size) → replayed.Done s ≡ replayedOf a t → (a ≡ Accepted) × (s ≡ t)
 unfolding replayedOf
@@ -37,25 +37,25 @@ module _ (bs table counts : List ℕ) (g : 4096 ≤ length table) (h : 44 ≤ le
   abbrev answer : Answer
   answer = replayAnswer bs table counts
 
-  pub refused-listing : (k : ℕ) → replayed.Refused k ≡ replayedOf answer (sizeOf j) → refusal k ≡ listingOf bs
-  unfolding listingOf listed
-  refused-listing k e = rw (sym (long bs table counts g h) ∙ answer-refused answer k (sizeOf j) e)
+  pub refused-listing : (k : ℕ) → replayed.Refused k ≡ replayedOf answer (replaySize j) → refusal k ≡ listingOf bs
+  unfolding listingOf listedBytes
+  refused-listing k e = rw (sym (long bs table counts g h) ∙ answer-refused answer k (replaySize j) e)
 
-  module _ (s : Size) (e : replayed.Done s ≡ replayedOf answer (sizeOf j)) where
+  module _ (s : Size) (e : replayed.Done s ≡ replayedOf answer (replaySize j)) where
     accepted : answer ≡ Accepted
-    accepted = answer-done answer s (sizeOf j) e .0
+    accepted = answer-done answer s (replaySize j) e .0
 
     archive : archiveAnswer bs ≡ Accepted
     archive = sym (long bs table counts g h) ∙ accepted
 
     levels : s .levels ≡ length (jobLevels j)
-    levels = ap (λ (x : Size). x .levels) (answer-done answer s (sizeOf j) e .1)
+    levels = ap (λ (x : Size). x .levels) (answer-done answer s (replaySize j) e .1)
 
     pub done-few : s .levels ≤ 11
     done-few = omega (arith, levels, job-high j (archive-job bs archive))
 
     pub done-listing : (counts′ : List ℕ) → counts′ ≡ heldAfter answer (jobCounts j) counts → listing (take (4 * s .levels) counts′) ≡ listingOf bs
-    unfolding listingOf listed heldAfter
+    unfolding listingOf listedBytes heldAfter
     done-listing counts′ f =
         let l : length (jobCounts j) ≡ 4 * s .levels = omega (arith, levels, job-counts j) in
         let t : take (4 * s .levels) counts′ ≡ jobCounts j =

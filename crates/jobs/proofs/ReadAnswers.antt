@@ -16,7 +16,7 @@ use Rattle.archive.specs.Job.{Job}
 use Rattle.archive.specs.Form.{formb, jobOf}
 use Rattle.archive.specs.Bytes.{Octets}
 use Rattle.archive.specs.Tables.{Counts, markedOf, marksOf, endsOf}
-use Rattle.archive.specs.Loaded.{Room, Loaded}
+use Rattle.archive.specs.Loaded.{LoadRoom, Loaded}
 use Rattle.jobs.specs.Calls.{archiveAnswer, roomb, readAnswer, lengthsOf, readingOf, Reopened}
 use Rattle.jobs.specs.Sound.{job-mesh, archive-parts, archive-job}
 use Rattle.jobs.specs.declared.Reading.{Reading}
@@ -73,7 +73,7 @@ module _ (bs : List ℕ) where
         read-form = archive-parts bs accepted .0
 
         module _ (v t m g : ℕ) (n : Counts j v t m g) where
-          pub read-room : Octets bs → Room j ps ts cs ms es
+          pub read-room : Octets bs → LoadRoom j ps ts cs ms es
           read-room o =
               let f = job-mesh j (archive-job bs accepted) in
               let w = lent-long ps ts cs ms es (rw l tt) in

@@ -2,7 +2,7 @@
 -- refusal").
 --   archiveAnswer bs     17 where the bytes are not in the form, and then what the job answers
 --   jobLevels, jobCounts j   the levels of the table that a job replays to, and their counts
---   replayAnswer ..      15 where a table is too short, and then the same; replayedOf, sizeOf its result
+--   replayAnswer ..      15 where a table is too short, and then the same; replayedOf, replaySize its result
 --   readAnswer ..        reading: 15, and then the same; readingOf, lengthsOf its result
 --   writeAnswer ..       writing the job of flat tables: 15, then the mesh and the steps in turn, and last 17; writingOf its result
 --   Reopened ..          what replaying an archive leaves
@@ -50,8 +50,8 @@ unfoldable pub replayAnswer : List ℕ → List ℕ → List ℕ → Answer
 unfolding refuse archiveAnswer
 replayAnswer bs table counts = refuse 15 (leb mostCells (length table) && leb fullCounts (length counts)) (archiveAnswer bs)
 
-abbrev pub sizeOf : Job → Size
-sizeOf j = record { cells = length (jobTable j); levels = length (jobLevels j) }
+abbrev pub replaySize : Job → Size
+replaySize j = record { cells = length (jobTable j); levels = length (jobLevels j) }
 
 unfoldable pub replayedOf : Answer → Size → Replayed
 replayedOf Accepted s = replayed.Done s

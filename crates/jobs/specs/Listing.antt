@@ -1,5 +1,5 @@
 -- The listing of an archive (document 01, "Archive and listing").
---   listed a cs     what is printed of an archive with the answer a and the counts cs
+--   listedBytes a cs     what is printed of an archive with the answer a and the counts cs
 --   listingOf bs    the bytes of the listing of the archive bs
 -- Laws: archive-fits (a listing has at most 512 bytes), listing-inside (a table that the listing was written into holds it).
 use mathlib.Core.Path.{_≡_, refl}
@@ -16,20 +16,20 @@ use Rattle.listing.specs.Lines.{listing, refusal}
 use Rattle.listing.specs.Sizes.{listing-fits, refusal-fits}
 
 -- "A refused archive prints only `refused ` and the number, as such a line."
-unfoldable pub listed : Answer → List ℕ → List ℕ
+unfoldable pub listedBytes : Answer → List ℕ → List ℕ
 unfolding listing refusal
-listed Accepted cs = listing cs
-listed (Refused k) cs = refusal k
+listedBytes Accepted cs = listing cs
+listedBytes (Refused k) cs = refusal k
 
 unfoldable pub listingOf : List ℕ → List ℕ
-unfolding listed archiveAnswer jobOf
-listingOf bs = listed (archiveAnswer bs) (jobCounts (jobOf bs))
+unfolding listedBytes archiveAnswer jobOf
+listingOf bs = listedBytes (archiveAnswer bs) (jobCounts (jobOf bs))
 
 pub archive-fits : (bs : List ℕ) → length (listingOf bs) ≤ 512
-unfolding listingOf listed
+unfolding listingOf listedBytes
 archive-fits bs = go (archiveAnswer bs) refl
   where
-    go : (a : Answer) → archiveAnswer bs ≡ a → length (listed a (jobCounts (jobOf bs))) ≤ 512
+    go : (a : Answer) → archiveAnswer bs ≡ a → length (listedBytes a (jobCounts (jobOf bs))) ≤ 512
     go Accepted e = listing-fits (jobCounts (jobOf bs)) (counts-few (jobOf bs) (archive-job bs e))
     go (Refused k) e = omega (arith, refusal-fits k)
 

@@ -18,7 +18,7 @@ use Rattle.base.specs.declared.Answer.the-variants.{Accepted}
 use Rattle.mesh.specs.Coarse.{cornerCount, cellCount, countsb, positionsb, cellb, cellsb, solidb, singleb, meshAnswer}
 use Rattle.mesh.specs.Answers.{marksb, limitsAnswer}
 use Rattle.archive.specs.Bytes.{Word}
-use Rattle.archive.specs.Writable.{Each, Rises, Small}
+use Rattle.archive.specs.Writable.{Each, Rises, TwoBytes}
 use Rattle.archive.specs.Tables.{Mark, pairs, stepsFrom}
 use Rattle.archive.specs.Stored.{Storable}
 use Rattle.archive.specs.Ends.{Climbs, lastFrom, climbs-rising, climbs-within, length-pairs}
@@ -54,7 +54,7 @@ cell-rises : (n a b c d : ℕ) → T (cellb n (a ∷ b ∷ c ∷ d ∷ [])) → 
 unfolding cellb
 cell-rises n a b c d t = search (and-left, and-right, ltb→lt)
 
-numbers-of : (n : ℕ) (ts : List ℕ) → n ≤ 512 → length ts % 4 ≡ 0 → T (cellsb n (fours ts)) → Each Small ts
+numbers-of : (n : ℕ) (ts : List ℕ) → n ≤ 512 → length ts % 4 ≡ 0 → T (cellsb n (fours ts)) → Each TwoBytes ts
 unfolding cellsb allb fours Each
 numbers-of n [] h m t = tt
 numbers-of n (a ∷ []) h m t = absurd (omega arith)
@@ -117,7 +117,7 @@ pub record Taken (ps : List ℤ) (ts cs ms es : List ℕ) : Type 0 where
   pub corners : cornerCount ps ≤ 512
   pub cells : cellCount ts ≤ 256
   pub words : Each Word ps
-  pub numbers : Each Small ts
+  pub numbers : Each TwoBytes ts
   pub same : length cs ≡ length ms
   pub marks : length (pairs cs ms) ≡ length cs
   pub written : Written 0 (pairs cs ms) es

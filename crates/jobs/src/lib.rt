@@ -11,7 +11,7 @@ ghost use Rattle.archive.specs.Form.{jobOf};
 ghost use Rattle.archive.specs.Tables.{markedOf, marksOf, endsOf};
 ghost use Rattle.archive.specs.Stored.{jobFrom};
 ghost use Rattle.replay.specs.Run.{jobTable};
-ghost use Rattle.jobs.specs.Calls.{Reopened, replayAnswer, replayedOf, sizeOf, jobCounts, roomb, readAnswer, readingOf, lengthsOf, writeAnswer, writingOf};
+ghost use Rattle.jobs.specs.Calls.{Reopened, replayAnswer, replayedOf, replaySize, jobCounts, roomb, readAnswer, readingOf, lengthsOf, writeAnswer, writingOf};
 ghost use Rattle.jobs.specs.Listing.{listingOf};
 
 // How many cells and levels a table has.
@@ -113,7 +113,7 @@ fn reopen(bytes: &[u8], table: &mut [u8]) -> Done
 
 // Replays an archive: its table in the one lent, and the counts of every level. Refusals 15, 17, 1 to 5 and 7 to 9.
 pub fn replay(bytes: &[u8], table: &mut [u8], counts: &mut [u16]) -> Replayed
-    ensures { λ r. ⌜ r ≡ replayedOf (replayAnswer (was bytes) (was table) (was counts)) (sizeOf (jobOf (was bytes))) ⌝ }
+    ensures { λ r. ⌜ r ≡ replayedOf (replayAnswer (was bytes) (was table) (was counts)) (replaySize (jobOf (was bytes))) ⌝ }
     ensures { λ r. ⌜ is table
         ≡ heldAfter (replayAnswer (was bytes) (was table) (was counts)) (jobTable (jobOf (was bytes))) (was table) ⌝ }
     ensures { λ r. ⌜ is counts

@@ -14,7 +14,7 @@ use Rattle.base.specs.Bools.{and-left, and-right, or-either}
 use Rattle.cutting.specs.Rule.{low, high, digit}
 use Rattle.mesh.specs.Cells.{Cell, corner, edge, joinsb}
 use Rattle.mesh.specs.Weights.{Point, point}
-use Rattle.families.specs.Kuhn.{Step, step, gap, digit-ends, digit-named}
+use Rattle.families.specs.Kuhn.{Step, steps-between, gap, digit-ends, digit-named}
 use Rattle.lattice.specs.Tails.{tailSum}
 use Rattle.lattice.specs.Regular.{unit, unit-positive, cancel, Regular, same-ends, point-on, mid-off}
 use Rattle.families.specs.Children.{middle, middle-ends}
@@ -57,8 +57,8 @@ module _ (n k l : ℕ) (c d : Cell Point) (r : Regular n k c) (s : Regular n l d
       let x = r .coordinates in
       let y = s .coordinates in
       let (p, w) = gap x (r .kuhn) a b ha hb in
-      let t = step x (r .kuhn) a b (omega arith) hb p in
-      let t' = step y (s .kuhn) i j (omega arith) hj p in
+      let t = steps-between x (r .kuhn) a b (omega arith) hb p in
+      let t' = steps-between y (s .kuhn) i j (omega arith) hj p in
       let u : unit k ≡ unit l = same-unit (x a p) (x b p) (y i p) (y j p) (unit k) (unit l) (unit-positive k) t w t'
       (sym (r .tails a (omega arith) p) ∙ ap (λ (q : Point). tailSum q p) e ∙ s .tails i (omega arith) p)
       (sym (r .tails b hb p) ∙ ap (λ (q : Point). tailSum q p) f ∙ s .tails j hj p) in
@@ -79,7 +79,7 @@ module _ (n k l : ℕ) (c d : Cell Point) (r : Regular n k c) (s : Regular n l d
       let x = r .coordinates in
       let y = s .coordinates in
       let (p, w) = gap x (r .kuhn) a b ha hb in
-      let v : y i p ≤ y j p = step y (s .kuhn) i j (omega arith) hj p .up in
+      let v : y i p ≤ y j p = steps-between y (s .kuhn) i j (omega arith) hj p .up in
       omega (
         arith,
         mul-lt-mul-of-pos-right w (unit-positive k),

@@ -19,14 +19,10 @@ use Rattle.base.specs.Every.{All, all-of, all-more}
 use Rattle.families.specs.Kuhn.{ends-digit}
 use Rattle.lattice.specs.Tails as Tails
 use Rattle.lattice.specs.Regular.{Regular, children-regular, same-ends, corner-on, mid-off}
-use Rattle.lattice.specs.Levels.{IfRegular, RedRegular, cellsAt, coarse-cells-regular, closed-red-regular, levels-regular, sound-levels, above}
+use Rattle.lattice.specs.Levels.{IfRegular, RedRegular, levelCells, coarse-cells-regular, closed-red-regular, levels-regular, sound-levels, above-none}
 use Rattle.families.specs.Children.{middle, middle-ends}
 use Rattle.lattice.specs.Edges.{corner-apart, point-injective, mid-level, edges-same}
 use Rattle.mesh.specs.Laws.{mid-self}
-
--- Coarse cells are regular of level 0. (`fours-four` of Levels: what `fours` gives has the length that is asked for.)
-pub coarse-regular : (n : ℕ) (qs : List (List ℕ)) → All (λ q. length q ≡ 4) qs → T (cellsb n qs) → All (Regular n 0) (coarseCells n qs)
-coarse-regular = coarse-cells-regular
 
 -- The eight children of a red cell are regular of the next level.
 pub child-regular : (n k j : ℕ) (c : Cell Point) → k < 10 → Regular n k c → All (Regular n (suc k)) (children j c 64 (point c))
@@ -35,21 +31,21 @@ child-regular n k j c h r = children-regular n k c h r j
 -- In a table whose levels are closed the cells that are called regular are so, each of its own level. (`levels-regular` of
 -- Levels: the same from any level on, where only regular cells are red.)
 pub level-regular : (n : ℕ) (qs : List (List ℕ)) (ss : List ℕ) → All (λ q. length q ≡ 4) qs → T (cellsb n qs) → T (allb closedb (levelsOf n qs ss))
-    → (i : ℕ) → i ≤ 10 → All (IfRegular n i) (cellsAt (levelsOf n qs ss) i)
+    → (i : ℕ) → i ≤ 10 → All (IfRegular n i) (levelCells (levelsOf n qs ss) i)
 unfolding levelsOf
 level-regular n qs ss e t u i h =
     rw (zero-add i) at (levels-regular n 0 12 0 (coarseCells n qs) ss
-    (all-more (Regular n 0) (IfRegular n 0) (λ c r t. r) (coarseCells n qs) (coarse-regular n qs e t))
+    (all-more (Regular n 0) (IfRegular n 0) (λ c r t. r) (coarseCells n qs) (coarse-cells-regular n qs e t))
     (all-of (λ (l : Level). RedRegular (l .cells) (l .statuses)) closedb closed-red-regular (levels 12 0 (coarseCells n qs) ss) u) i (omega arith))
 
 -- So in a sound table, on every level.
 pub sound-regular : (n : ℕ) (qs : List (List ℕ)) (ss : List ℕ) → All (λ q. length q ≡ 4) qs → T (cellsb n qs) → T (soundb n qs ss)
-    → (i : ℕ) → All (IfRegular n i) (cellsAt (levelsOf n qs ss) i)
+    → (i : ℕ) → All (IfRegular n i) (levelCells (levelsOf n qs ss) i)
 sound-regular n qs ss e t u i =
     let (few, closed) = sound-levels n qs ss u in
     elim (decLt i 11) [
       | yes h ↦ level-regular n qs ss e t closed i (omega arith)
-      | no h ↦ above n (levelsOf n qs ss) i (omega arith)
+      | no h ↦ above-none n (levelsOf n qs ss) i (omega arith)
     ]
 
 pub point-corner : (c : Cell Point) (i : ℕ) → i < 4 → point c (digit i i) ≡ corner [] c i

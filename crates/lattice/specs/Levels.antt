@@ -1,7 +1,7 @@
 -- Regular cells level by level: the coarse cells are regular of level 0, and each level hands it on to the next.
 --   IfRegular n k c    c is regular of level k where its table says that it is regular
 --   RedRegular cs ss   only regular cells are red, where ss are the statuses of the cells cs
---   cellsAt ls i       the cells of the level i; none above the top level (noLevel)
+--   levelCells ls i       the cells of the level i; none above-none the top level (noLevel)
 use mathlib.Core.Path.{_≡_, refl, sym, _∙_, subst}
 use mathlib.Core.Bool.{Bool, true, false, _&&_}
 use mathlib.Core.List.{List, [], _∷_, map}
@@ -143,12 +143,12 @@ closed-red-regular l t = closed-from (redEdges [] (l .cells) (l .statuses)) (l .
 abbrev pub noLevel : Level
 noLevel = record { first = 0; cells = []; statuses = [] }
 
-abbrev pub cellsAt : List Level → ℕ → List (Cell Point)
-cellsAt ls i = getD ls i noLevel .cells
+abbrev pub levelCells : List Level → ℕ → List (Cell Point)
+levelCells ls i = getD ls i noLevel .cells
 
 pub levels-regular : (n k m j : ℕ) (cs : List (Cell Point)) (ss : List ℕ) → All (IfRegular n k) cs
     → All (λ l. RedRegular (l .cells) (l .statuses)) (levels m j cs ss)
-    → (i : ℕ) → k + i ≤ 10 → All (IfRegular n (k + i)) (cellsAt (levels m j cs ss) i)
+    → (i : ℕ) → k + i ≤ 10 → All (IfRegular n (k + i)) (levelCells (levels m j cs ss) i)
 unfolding levels
 levels-regular n k zero j cs ss g e i h = tt
 levels-regular n k (suc m) j [] ss g e i h = tt
@@ -158,8 +158,8 @@ levels-regular n k (suc m) j (c ∷ cs) ss g e (suc i) h =
     (next-regular n k j (c ∷ cs) (take (length (c ∷ cs)) ss) (omega arith) g (e .0)) (e .1) i (omega arith))
 
 -- A sound table has closed levels, at most eleven.
-pub above : (n : ℕ) (ls : List Level) (i : ℕ) → length ls ≤ i → All (IfRegular n i) (cellsAt ls i)
-above n ls i h = subst (λ (l : Level). All (IfRegular n i) (l .cells)) (sym (List·getD-eq-default ls noLevel h)) tt
+pub above-none : (n : ℕ) (ls : List Level) (i : ℕ) → length ls ≤ i → All (IfRegular n i) (levelCells ls i)
+above-none n ls i h = subst (λ (l : Level). All (IfRegular n i) (l .cells)) (sym (List·getD-eq-default ls noLevel h)) tt
 
 pub sound-levels : (n : ℕ) (qs : List (List ℕ)) (ss : List ℕ) → T (soundb n qs ss) → (length (levelsOf n qs ss) ≤ 11) × T (allb closedb (levelsOf n qs ss))
 unfolding soundb

@@ -14,7 +14,7 @@ use Rattle.cutting.specs.Rule.{low, high}
 use Rattle.mesh.specs.Cells.{Cell, corner, children, childrenFrom, patternOf}
 use Rattle.mesh.specs.Weights.{Point, point}
 use Rattle.base.specs.Every.{All, getD-map}
-use Rattle.families.specs.Kuhn.{Coordinates, Kuhn, doubled, part, Digits, reds, digit-ends, family-red, red-digits, red-kuhn, step, gap, sum-odd, doubled-ends}
+use Rattle.families.specs.Kuhn.{Coordinates, Kuhn, doubled, partOf, Digits, reds, digit-ends, family-red, red-digits, red-kuhn, steps-between, gap, sum-odd, doubled-ends}
 use Rattle.lattice.specs.Tails.{Sized, tailSum, tail-sums-equal, tail-sum-mid, sized-mid}
 
 abbrev pub unit : ℕ → ℕ
@@ -69,12 +69,12 @@ module _ (n k : ℕ) (c : Cell Point) (h : k < 10) (r : Regular n k c) where
       ∙ sym (add-mul (r .coordinates (low d) j) (r .coordinates (high d) j) (unit (suc k)))
 
   -- The children of a red cell are regular of the next level.
-  pub part-regular : (f : List ℕ) → Digits f → Kuhn (part (r .coordinates) f) → (path : List ℕ) (parent : ℕ) (b : Bool)
+  pub part-regular : (f : List ℕ) → Digits f → Kuhn (partOf (r .coordinates) f) → (path : List ℕ) (parent : ℕ) (b : Bool)
       → Regular n (suc k) (record { path = path; parent = parent; regular = b; points = map (point c) f })
   part-regular f g w path parent b =
       record {
         four = length-map f (point c) ∙ g .four;
-        coordinates = part (r .coordinates) f;
+        coordinates = partOf (r .coordinates) f;
         kuhn = w;
         sized = λ i l. rw (at i l) (point-sized (getD f i 0) (g .small i l));
         tails = λ i l j. rw (at i l) (point-tails (getD f i 0) (g .small i l) j);
@@ -83,7 +83,7 @@ module _ (n k : ℕ) (c : Cell Point) (h : k < 10) (r : Regular n k c) where
       at : (i : ℕ) → i < 4 → getD (map (point c) f) i [] ≡ point c (getD f i 0)
       at i l = getD-map (point c) f i 0 [] (rw (g .four) l)
 
-  parts-regular : (j i : ℕ) (fs : List (List ℕ)) → All Digits fs → All (λ f. Kuhn (part (r .coordinates) f)) fs
+  parts-regular : (j i : ℕ) (fs : List (List ℕ)) → All Digits fs → All (λ f. Kuhn (partOf (r .coordinates) f)) fs
       → All (Regular n (suc k)) (childrenFrom j c true (point c) i fs)
   unfolding childrenFrom
   parts-regular j i [] d w = tt
@@ -131,4 +131,4 @@ mid-off n k l c p h r g o f hf z e =
     let y = o .0 j * m in
     let q : doubled x f j ≡ y + y = cancel (suc k) (doubled x f j) (y + y) (tailSum (point c f) j) (tailSum p j) (point-tails n k c h r f hf j)
     (o .1 j ∙ rw u (omega arith)) (ap (λ (p : Point). tailSum p j) e) in
-    sum-odd (x (low f) j) (x (high f) j) (step x (r .kuhn) (low f) (high f) a b j) w y q
+    sum-odd (x (low f) j) (x (high f) j) (steps-between x (r .kuhn) (low f) (high f) a b j) w y q

@@ -27,7 +27,7 @@ use Rattle.mesh.specs.Laws.{sizes-append}
 use Rattle.growth.specs.Places.{splits-few}
 use Rattle.numbering.specs.Corners.{corners-start}
 use Rattle.counting.specs.Levels.{nextEnd, levelNumber, levelEnd, number-more, end-more, end-none}
-use Rattle.counting.proofs.Sound.{sound-levels}
+use Rattle.counting.specs.Sound.{sound-counted}
 use Rattle.base.specs.Refuse.{codeOf, answerOf, answer-refused}
 use Rattle.mesh.specs.Answers.{tableAnswer}
 use Rattle.layout.specs.Calls.{cellsIn, cornersIn}
@@ -119,7 +119,7 @@ module _ (ps : List ℤ) (ts ss : List ℕ) (a : tableAnswer ps ts ss ≡ Accept
   pub corners-few : length (cornersIn ps ts ss) ≤ 16384
   unfolding cornersOf
   corners-few =
-      let l = sound-levels (cornerCount ps) (fours ts) ss sound in
+      let l = sound-counted (cornerCount ps) (fours ts) ss sound in
       let m = mesh-passed ps ts none .mesh in
       let e = end-sizes ss 12 0 (length (fours ts)) (omega arith) (omega (arith, l .few)) in
       let w : part ss 0 (levelEnd 12 0 (length (fours ts)) ss - 0) ≡ ss = take-all (levelEnd 12 0 (length (fours ts)) ss - 0) ss (omega (arith, l .whole)) in

@@ -9,14 +9,14 @@ use lib.ListN.{length, getD}
 use Rattle.mesh.specs.Layout.{Corner}
 use Rattle.edges.specs.Pairs.{Pair}
 use Rattle.edges.specs.Table.{listed}
-use Rattle.edges.proofs.Seek.{length-pairs, at-pairs}
-use Rattle.numbering.specs.Corners.{Corners, Midpoint, endsAt, even-sum}
+use Rattle.edges.specs.Seek.{length-listed, at-pairs}
+use Rattle.numbering.specs.Corners.{NumberedCorners, Midpoint, endsAt, even-sum}
 use Rattle.corners.specs.Ends.{Ends}
-use Rattle.corners.specs.Tables.{Numbered}
+use Rattle.corners.specs.Tables.{CornersNumbered}
 
-module _ (n : ℕ) (ks : List Corner) (xs ys : List ℕ) (m : ℕ) (c : Corners n ks (listed xs ys 0 m)) where
+module _ (n : ℕ) (ks : List Corner) (xs ys : List ℕ) (m : ℕ) (c : NumberedCorners n ks (listed xs ys 0 m)) where
   size : length (listed xs ys 0 m) ≡ m
-  size = length-pairs xs ys 0 (m - 0) ∙ omega arith
+  size = length-listed xs ys 0 (m - 0) ∙ omega arith
 
   pub corner-count : length ks ≡ n + m
   corner-count = omega (arith, c .count, size)
@@ -37,7 +37,7 @@ module _ (n : ℕ) (ks : List Corner) (xs ys : List ℕ) (m : ℕ) (c : Corners 
           below-y = λ j h. middle j h .before;
         }
 
-    pub numbered : Numbered n xs ys m ks
+    pub numbered : CornersNumbered n xs ys m ks
     numbered =
         record {
           count = corner-count;

@@ -18,14 +18,14 @@ use Rattle.mesh.specs.Counts.{countTable}
 use Rattle.lattice.specs.Levels.{fours-four}
 use Rattle.corners.specs.Ends.{Ends, endNumbers, coarseEnds, length-coarseEnds, length-addEnds}
 use Rattle.corners.specs.Sums.{Smalls, sumNumbers, coarseSums, length-coarseSums, length-addSums, positions-small}
-use Rattle.corners.specs.Tables.{Numbered, ends-are, sums-are}
+use Rattle.corners.specs.Tables.{CornersNumbered, ends-are, sums-are}
 use Rattle.ancestors.specs.Climb.{Upward, climbFrom}
 use Rattle.ancestors.specs.Linked.{ancestorOf}
 use Rattle.mesh.specs.Cells.{noCell}
-use Rattle.ancestors.proofs.Table.{table-upward, table-climb}
+use Rattle.ancestors.specs.Table.{table-upward, table-climb}
 use Rattle.counting.specs.Levels.{Levels, levelNumber, levelCounts, counts-length}
-use Rattle.counting.proofs.Sound.{sound-levels}
-use Rattle.counting.proofs.Whole.{counts-right, number-right}
+use Rattle.counting.specs.Sound.{sound-counted}
+use Rattle.counting.specs.Whole.{counts-right, number-right}
 use Rattle.layout.specs.Opened.{Fits}
 use Rattle.layout.specs.Calls.{levelsIn, cellsIn, cornersIn, lentb}
 use Rattle.layout.proofs.Numbering.{corner-count, ends, numbered}
@@ -65,7 +65,7 @@ module _ (ps : List ℤ) (ts ss rows xs ys : List ℕ) (cells levels m : ℕ) (f
   pub fits-ends : Ends (cornerCount ps) xs ys m
   fits-ends = ends (cornerCount ps) (cornersIn ps ts ss) xs ys m (f .sound .corners) in-xs in-ys
 
-  fits-numbered : Numbered (cornerCount ps) xs ys m (cornersIn ps ts ss)
+  fits-numbered : CornersNumbered (cornerCount ps) xs ys m (cornersIn ps ts ss)
   fits-numbered = numbered (cornerCount ps) (cornersIn ps ts ss) xs ys m (f .sound .corners) in-xs in-ys
 
   pub fits-small : Smalls 500000 ps
@@ -106,7 +106,7 @@ module _ (ps : List ℤ) (ts ss rows xs ys : List ℕ) (cells levels m : ℕ) (f
 
   -- counts
   pub fits-levels : Levels ss (length ts / 4)
-  fits-levels = rw (length-fours ts) at (sound-levels (cornerCount ps) (fours ts) ss (is-true (soundb (cornerCount ps) (fours ts) ss) (f .table)))
+  fits-levels = rw (length-fours ts) at (sound-counted (cornerCount ps) (fours ts) ss (is-true (soundb (cornerCount ps) (fours ts) ss) (f .table)))
 
   pub number-after : (r : ℕ) → r ≡ levelNumber 12 0 (length ts / 4) ss → r ≡ length (levelsIn ps ts ss)
   number-after r e = e ∙ rw (← length-fours ts) (sym (number-right (cornerCount ps) (fours ts) ss))

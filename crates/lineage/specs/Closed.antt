@@ -16,11 +16,11 @@ use Rattle.cutting.specs.Rule.{family}
 use Rattle.mesh.specs.Cells.{Cell, none, redb, patternOf, edges, redEdges, pattern, statusOf, closedFrom, children, childrenFrom}
 use Rattle.mesh.specs.Weights.{Point, point, coarseFrom, coarseCells}
 use Rattle.mesh.specs.Table.{next, sizeOf}
-use Rattle.numbering.specs.Refined.{Both, pattern-small}
+use Rattle.numbering.specs.Refined.{Both, pattern-in-six}
 use Rattle.rows.specs.Many.{length-children}
 use Rattle.lineage.specs.Paths.{length-coarse, length-upto}
 use Rattle.lineage.specs.Same.{both-append, length-olds-of}
-use Rattle.lineage.specs.Levels.{length-reds}
+use Rattle.lineage.specs.Levels.{length-redsBy}
 use Rattle.lineage.specs.Olds.{flagOf, oldsOf, oldsNext, oldChild, upTo, redsBy, closedBy, statusesBy}
 
 pub record Owned (cs : List (Cell Point)) (os : List ℕ) : Type 0 where
@@ -101,7 +101,7 @@ red-status es r c h = go (c .regular) refl (redb r) refl
   where
     go : (b : Bool) → c .regular ≡ b → (d : Bool) → redb r ≡ d → redb (statusOf [] sameb es (redb r) c) ≡ redb r
     go true e true f = rw (e, f, statusOf)
-    go true e false f = rw (e, f, statusOf) (ne-eqb (pattern [] sameb es c) 64 (λ x. omega (arith, pattern-small [] sameb es c)))
+    go true e false f = rw (e, f, statusOf) (ne-eqb (pattern [] sameb es c) 64 (λ x. omega (arith, pattern-in-six [] sameb es c)))
     go false e d f = rw (e, h e, statusOf)
 
 red-edges-one : (c : Cell Point) (cs : List (Cell Point)) (s t : ℕ) (ss ts : List ℕ) → redb s ≡ redb t → redEdges [] cs ss ≡ redEdges [] cs ts
@@ -142,4 +142,4 @@ module _ (fs : List ℕ) (small : length fs ≤ 65535) where
 
     pub closed-by : closedFrom [] sameb (redEdges [] cs (statusesBy fs cs os)) cs (statusesBy fs cs os) ≡ true
     unfolding statusesBy
-    closed-by = rw reds-same (closed-from (redEdges [] cs (redsBy fs os)) cs (redsBy fs os) (length-reds fs os ∙ w .many) (flagged cs os (w .each)))
+    closed-by = rw reds-same (closed-from (redEdges [] cs (redsBy fs os)) cs (redsBy fs os) (length-redsBy fs os ∙ w .many) (flagged cs os (w .each)))

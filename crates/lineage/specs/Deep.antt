@@ -1,5 +1,5 @@
 -- A level above 10 arises where a cell of level 10 will be red, and nowhere else.
--- Laws: any-at and none-at (a test on a list), flags-at (the flags of a level), nothing-above and some-above (the level above one
+-- Laws: any-true-at and none-at (a test on a list), flags-at (the flags of a level), nothing-above and some-above (the level above one
 -- without, and with, a cell that will be red), grow-some (no level is empty), step-height (the levels of the step's table), deep
 -- (the theorem).
 use mathlib.Core.Path.{_≡_, refl, sym, _∙_, ap}
@@ -34,10 +34,10 @@ use Rattle.lineage.specs.Stays.{Stays, stays}
 
 -- a test on a list
 module _ {A : Type 0} (d : A) (f : A → Bool) where
-  pub any-at : (l : List A) → anyb f l ≡ true → (t : ℕ) × (t < length l) × (f (getD l t d) ≡ true)
+  pub any-true-at : (l : List A) → anyb f l ≡ true → (t : ℕ) × (t < length l) × (f (getD l t d) ≡ true)
   unfolding anyb
-  any-at [] e = not-both false e refl
-  any-at (x ∷ l) e = go (f x) refl e (any-at l)
+  any-true-at [] e = not-both false e refl
+  any-true-at (x ∷ l) e = go (f x) refl e (any-true-at l)
     where
       go : (b : Bool) → f x ≡ b → (b || anyb f l) ≡ true → (anyb f l ≡ true → (t : ℕ) × (t < length l) × (f (getD l t d) ≡ true))
           → (t : ℕ) × (t < length (x ∷ l)) × (f (getD (x ∷ l) t d) ≡ true)
@@ -110,7 +110,7 @@ module _ (n : ℕ) (qs : List (List ℕ)) (ss ms : List ℕ) (s : T (soundb n qs
   -- a flag: a red cell, and its children
   pub some-above : suc j < 12 → anyb redb here ≡ true → 0 < length (newAt n qs ss ms (suc j) .cells)
   some-above g e =
-      let (t, h, p) = any-at 0 redb here e in
+      let (t, h, p) = any-true-at 0 redb here e in
       let h' : t < length (oldAt n qs ss j .cells) = rw flags-many at h in
       let w : Stays n qs ss ms j t = stays n qs ss ms s j t (omega arith) h' (sym (flags-red t h') ∙ p) in
       let l' = newAt n qs ss ms j in

@@ -1,7 +1,7 @@
 -- A new cell is among the new red cells where its old cell has a flag.
 --   newRedAt ms ls l t    the cell t of the old level l will be red, where ls are the old levels above l
 --   redRows ms ls l       the rows of the cells of l that will be red
---   Flagged fs ms ls l    the flags fs of the old table say which cells of l will be red
+--   FlaggedLevel fs ms ls l    the flags fs of the old table say which cells of l will be red
 -- Laws: rows-at and length-rows (the rows of a level), any-chosen and none-chosen (a test on chosen elements), new-red-regular (a new
 -- red cell is regular), flag-red and flag-none (a flag), among-old (the new red cells of a level by old numbers), among-none (where
 -- there are none).
@@ -24,15 +24,15 @@ use Rattle.mesh.specs.Step.{Row, rowsFrom, rows, rowsUp, edgesUp, newRedb, newR
 use Rattle.numbering.specs.Refined.{Follows}
 use Rattle.lineage.specs.Olds.{flagOf}
 use Rattle.lineage.specs.Paths.{Paths}
-use Rattle.lineage.specs.Same.{Is, Fresh, Old, rowOf}
+use Rattle.lineage.specs.Same.{Is, Fresh, Old, rowIn}
 
 abbrev pub newRedAt : List ℕ → List Level → Level → ℕ → Bool
-newRedAt ms ls l t = newRedb (rowsUp ls ms) (edgesUp (newReds ls ms)) (rowOf l ms t)
+newRedAt ms ls l t = newRedb (rowsUp ls ms) (edgesUp (newReds ls ms)) (rowIn l ms t)
 
 abbrev pub redRows : List ℕ → List Level → Level → List Row
 redRows ms ls l = filterb (newRedb (rowsUp ls ms) (edgesUp (newReds ls ms))) (rows l ms)
 
-pub record Flagged (fs ms : List ℕ) (ls : List Level) (l : Level) : Type 0 where
+pub record FlaggedLevel (fs ms : List ℕ) (ls : List Level) (l : Level) : Type 0 where
   pub known : length (l .statuses) ≡ length (l .cells)
   pub paths : Paths (l .cells)
   pub follows : (t : ℕ) → t < length (l .cells) → Follows (getD (l .cells) t noCell) (getD (l .statuses) t 0)
@@ -65,7 +65,7 @@ module _ (l : Level) (ms : List ℕ) (e : length (l .statuses) ≡ length (l .ce
   unfolding rows
   length-rows = length-rows-from (l .first) (l .cells) (l .statuses) ms e
 
-  pub rows-at : (t : ℕ) → t < length (l .cells) → getD (rows l ms) t noRow ≡ rowOf l ms t
+  pub rows-at : (t : ℕ) → t < length (l .cells) → getD (rows l ms) t noRow ≡ rowIn l ms t
   unfolding rows
   rows-at = rows-from (l .first) (l .cells) (l .statuses) ms e
 
@@ -112,14 +112,14 @@ pub flag-none : (fs : List ℕ) → length fs ≤ 4096 → getD fs none 0 ≡ 0
 flag-none fs h = List·getD-eq-default fs 0 {n = none} (omega arith)
 
 -- by old numbers
-module _ (fs ms : List ℕ) (ls : List Level) (l : Level) (w : Flagged fs ms ls l) (c : Cell Point) where
+module _ (fs ms : List ℕ) (ls : List Level) (l : Level) (w : FlaggedLevel fs ms ls l) (c : Cell Point) where
   abbrev f : Row → Bool
   f = newRedb (rowsUp ls ms) (edgesUp (newReds ls ms))
 
   abbrev g : Row → Bool
   g r = sameb (r .cell .path) (c .path)
 
-  row : (t : ℕ) → t < length (rows l ms) → getD (rows l ms) t noRow ≡ rowOf l ms t
+  row : (t : ℕ) → t < length (rows l ms) → getD (rows l ms) t noRow ≡ rowIn l ms t
   row t h = rows-at l ms (w .known) t (omega (arith, length-rows l ms (w .known)))
 
   any-matched : (t : ℕ) → Is l t c → anyb g (redRows ms ls l) ≡ newRedAt ms ls l t
@@ -142,7 +142,7 @@ module _ (fs ms : List ℕ) (ls : List Level) (l : Level) (w : Flagged fs ms ls 
       none-chosen noRow f g (rows l ms) (λ u h p q.
       let x = row u h in
       let i : u < length (l .cells) = omega (arith, length-rows l ms (w .known)) in
-      v u i (new-red-regular (rowsUp ls ms) (edgesUp (newReds ls ms)) (rowOf l ms u) (w .follows u i) (sym (ap f x) ∙ p))
+      v u i (new-red-regular (rowsUp ls ms) (edgesUp (newReds ls ms)) (rowIn l ms u) (w .follows u i) (sym (ap f x) ∙ p))
       (same-list .sound (getD (l .cells) u noCell .path) (c .path) (sym (ap g x) ∙ q)))
 
   pub among-old : (o : ℕ) → Old l c o → amongb (redRows ms ls l) c ≡ redb (getD fs o 0)

@@ -2,7 +2,7 @@
 --   growLevels m ss fs h k cs os   as growBy, with the whole levels
 --   newLevels n qs ss ms           the levels of the step's table
 --   here k cs rs                   the level of the cells cs, numbered from k, where rs is the rest of the table
--- Laws: length-closed, length-reds and length-statuses (one status for each cell), length-up (one old number for each cell one level
+-- Laws: length-closed, length-redsBy and length-statuses (one status for each cell), length-up (one old number for each cell one level
 -- up), grow-statuses, grow-levels, new-levels (the levels of the table are these), cells-first, levels-next and levels-first (the
 -- cells one level up, and their numbers).
 use mathlib.Core.Path.{_≡_, refl, sym, _∙_, ap, ap₂}
@@ -41,14 +41,14 @@ length-closed es [] rs e = refl
 length-closed es (c ∷ cs) [] e = absurd (omega arith)
 length-closed es (c ∷ cs) (r ∷ rs) e = ap suc (length-closed es cs rs (omega arith))
 
-pub length-reds : (fs os : List ℕ) → length (redsBy fs os) ≡ length os
+pub length-redsBy : (fs os : List ℕ) → length (redsBy fs os) ≡ length os
 unfolding redsBy
-length-reds fs [] = refl
-length-reds fs (o ∷ os) = ap suc (length-reds fs os)
+length-redsBy fs [] = refl
+length-redsBy fs (o ∷ os) = ap suc (length-redsBy fs os)
 
 pub length-statuses : (fs : List ℕ) (cs : List (Cell Point)) (os : List ℕ) → length os ≡ length cs → length (statusesBy fs cs os) ≡ length cs
 unfolding statusesBy
-length-statuses fs cs os e = length-closed (redEdges [] cs (redsBy fs os)) cs (redsBy fs os) (length-reds fs os ∙ e)
+length-statuses fs cs os e = length-closed (redEdges [] cs (redsBy fs os)) cs (redsBy fs os) (length-redsBy fs os ∙ e)
 
 -- as many old numbers as cells one level up
 pub length-up : (m : ℕ) (ss fs : List ℕ) (k : ℕ) (cs : List (Cell Point)) (os : List ℕ) → length os ≡ length cs
@@ -110,7 +110,7 @@ levels-next (suc (suc h)) k (c ∷ cs) rs zero l = cells-first h (k + length (c 
 levels-next (suc (suc h)) k (c ∷ cs) rs (suc j) l =
     levels-next (suc h) (k + length (c ∷ cs)) (next k (c ∷ cs) (take (length (c ∷ cs)) rs)) (drop (length (c ∷ cs)) rs) j (omega arith)
 
-first-first : (h k : ℕ) (cs : List (Cell Point)) (rs : List ℕ) → 0 < length (levels h k cs rs) → getD (levels h k cs rs) 0 noLevel .first ≡ k
+pub first-first : (h k : ℕ) (cs : List (Cell Point)) (rs : List ℕ) → 0 < length (levels h k cs rs) → getD (levels h k cs rs) 0 noLevel .first ≡ k
 unfolding levels
 first-first zero k cs rs l = absurd (omega arith)
 first-first (suc h) k [] rs l = absurd (omega arith)

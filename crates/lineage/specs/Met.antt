@@ -3,8 +3,8 @@
 --   Matched ms ls l c s    c with new status s is the cell t of the old level l, and is red where that will be red; ls are the old
 --                          levels above l
 --   Fostered l l' c        c is a child of a red cell of the new level l', which is the cell t of the old level l that was not red
--- Laws: old-next and new-next (neighbouring levels), old-coarse and new-coarse (the coarse level), flagged and traced (each level),
--- new-known and new-follows (the statuses of a new level), met (each regular cell), met-coarse (a coarse cell is met), fostered (a
+-- Laws: old-next and new-next (neighbouring levels), old-coarse and new-coarse (the coarse level), new-below (at most twelve levels),
+-- flagged and traced (each level), new-known and new-follows (the statuses of a new level), met (each regular cell), met-coarse (a coarse cell is met), fostered (a
 -- regular cell that is not met).
 use mathlib.Core.Path.{_≡_, sym, _∙_, ap, subst}
 use mathlib.Core.Logic.{_≢_, _⊎_, inl, inr}
@@ -28,7 +28,7 @@ use Rattle.lineage.specs.Born.{childOf, Born, born, born-below, born-at}
 use Rattle.lineage.specs.Paths.{pathAt, length-coarse, coarse-at}
 use Rattle.lineage.specs.Same.{Is, Fresh, Old, both-at}
 use Rattle.lineage.specs.Levels.{newLevels, length-statuses, new-levels, levels-next, cells-first}
-use Rattle.lineage.specs.Flags.{newRedAt, Flagged, flag-red, flag-none}
+use Rattle.lineage.specs.Flags.{newRedAt, FlaggedLevel, flag-red, flag-none}
 use Rattle.lineage.specs.Rest.{rest-start}
 use Rattle.lineage.specs.Traced.{Traced, red-status, flagged-at, traced-at, length-grow}
 use Rattle.lineage.specs.Step.{olds-many, olds-start, refined-statuses}
@@ -76,7 +76,7 @@ module _ (n : ℕ) (qs : List (List ℕ)) (ss ms : List ℕ) where
   new-coarse =
       subst (λ (ls : List Level). getD ls 0 noLevel .cells ≡ coarseCells n qs) (new-levels n qs ss ms) (cells-first 11 0 (coarseCells n qs) (flatten (stepBy n qs ss ms)))
 
-  new-below : (j i : ℕ) → i < length (newAt n qs ss ms j .cells) → j < 12
+  pub new-below : (j i : ℕ) → i < length (newAt n qs ss ms j .cells) → j < 12
   new-below j i h =
       elim (decLt j 12) [
         | yes u ↦ u
@@ -88,7 +88,7 @@ module _ (n : ℕ) (qs : List (List ℕ)) (ss ms : List ℕ) where
       ]
 
 module _ (n : ℕ) (qs : List (List ℕ)) (ss ms : List ℕ) (t : T (soundb n qs ss)) where
-  pub flagged : (j : ℕ) → Flagged (flagTable n qs ss ms) ms (oldAbove n qs ss j) (oldAt n qs ss j)
+  pub flagged : (j : ℕ) → FlaggedLevel (flagTable n qs ss ms) ms (oldAbove n qs ss j) (oldAt n qs ss j)
   unfolding levelsOf
   flagged = flagged-at (length qs) ss (flagTable n qs ss ms) ms 12 0 (coarseCells n qs) ss (rest-start n qs ss ms t)
 
@@ -125,7 +125,7 @@ module _ (n : ℕ) (qs : List (List ℕ)) (ss ms : List ℕ) (t : T (soundb n qs
       os : List ℕ
       os = x .os
 
-      y : Flagged fs ms (oldAbove n qs ss j) (oldAt n qs ss j)
+      y : FlaggedLevel fs ms (oldAbove n qs ss j) (oldAt n qs ss j)
       y = flagged j
 
       red : redb (getD (newAt n qs ss ms j .statuses) i 0) ≡ redb (getD fs (getD os i 0) 0)

@@ -25,7 +25,7 @@ use Rattle.rows.specs.Many.{length-next}
 use Rattle.lineage.specs.Paths.{Paths, paths-next, paths-coarse, length-coarse}
 use Rattle.lineage.specs.Same.{Up, both-at}
 use Rattle.lineage.specs.Levels.{here}
-use Rattle.lineage.specs.Flags.{noRow, newRedAt, Flagged, length-rows, rows-at}
+use Rattle.lineage.specs.Flags.{noRow, newRedAt, FlaggedLevel, length-rows, rows-at}
 use Rattle.mesh.specs.Laws.{sizes-append}
 
 pub record Rest (m : ℕ) (ss fs ms : List ℕ) (h k : ℕ) (cs : List (Cell Point)) (rs : List ℕ) : Type 0 where
@@ -187,5 +187,5 @@ module _ (m : ℕ) (ss fs ms : List ℕ) (h k : ℕ) (c : Cell Point) (cs : List
       ∙ getD-map (λ r. flagOf (newRedb (rowsUp upper ms) (edgesUp (newReds upper ms)) r)) (rows (here k (c ∷ cs) rs) ms) t noRow 0 l'
       ∙ ap (λ (r : Row). flagOf (newRedb (rowsUp upper ms) (edgesUp (newReds upper ms)) r)) (rows-at (here k (c ∷ cs) rs) ms length-own t l)
 
-  pub rest-flagged : Flagged fs ms upper (here k (c ∷ cs) rs)
+  pub rest-flagged : FlaggedLevel fs ms upper (here k (c ∷ cs) rs)
   rest-flagged = record { known = length-own; paths = r .paths; follows = follows-here; flag = flag-here; small = r .small }

@@ -2,7 +2,7 @@
 --   Is l t c       the cell t of the old level l has the path and the points of c, and is regular
 --   Fresh l c      no regular cell of l has the path of c
 --   Old l c o      o is the old number of the new cell c
---   rowOf l ms t   the row of the cell t
+--   rowIn l ms t   the row of the cell t
 --   Up m ss l u    u is the level above l, in a table ss over m coarse cells
 -- Laws: both-from, both-at, both-append, both-more (cells with their numbers), length-olds-of and length-olds (how many), olds-next
 -- (the old numbers one level up).
@@ -41,8 +41,8 @@ Fresh l c = (t : ℕ) → t < length (l .cells) → T (getD (l .cells) t noCell 
 abbrev pub Old : Level → Cell Point → ℕ → Type 0
 Old l c o = ((t : ℕ) × (o ≡ l .first + t) × T (c .regular) × Is l t c) ⊎ ((o ≡ none) × (T (c .regular) → Fresh l c))
 
-abbrev pub rowOf : Level → List ℕ → ℕ → Row
-rowOf l ms t = record { number = l .first + t; cell = getD (l .cells) t noCell; status = getD (l .statuses) t 0; mark = getD ms (l .first + t) 0 }
+abbrev pub rowIn : Level → List ℕ → ℕ → Row
+rowIn l ms t = record { number = l .first + t; cell = getD (l .cells) t noCell; status = getD (l .statuses) t 0; mark = getD ms (l .first + t) 0 }
 
 pub record Up (m : ℕ) (ss : List ℕ) (l u : Level) : Type 0 where
   pub known : length (l .statuses) ≡ length (l .cells)

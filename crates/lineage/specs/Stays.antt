@@ -1,8 +1,8 @@
 -- A cell that will be red is met in the step's table.
 --   Red n qs ss ms j t     the old cell t of level j will be red
 --   Stays n qs ss ms j t   the old cell t of level j is a cell of the new level j, and red there
--- Laws: new-red-kept (a new red cell is no leaf marked 2), parent and parent-stays (the parent of a new red cell is one), stays
--- (the theorem).
+-- Laws: new-red-kept (a new red cell is no leaf marked 2), red-stays and not-deleted (a red cell with a child that is not a leaf marked 2
+-- stays red), up-rows (the rows one level up), parent and parent-stays (the parent of a new red cell is one), stays (the theorem).
 use mathlib.Core.Path.{_≡_, refl, sym, _∙_, ap}
 use mathlib.Core.Logic.{_≢_, _⊎_, inl, inr}
 use mathlib.Core.Bool.{Bool, true, false, _&&_, and-false}
@@ -23,7 +23,7 @@ use Rattle.mesh.specs.Step.{Row, rows, rowsFrom, kids, deletedb, newRedb, rowsU
 use Rattle.lattice.specs.Levels.{noLevel}
 use Rattle.lineage.specs.Born.{childOf, Born, born, born-below, born-at}
 use Rattle.lineage.specs.Paths.{pathAt}
-use Rattle.lineage.specs.Same.{Fresh, rowOf}
+use Rattle.lineage.specs.Same.{Fresh, rowIn}
 use Rattle.lineage.specs.Flags.{noRow, newRedAt, length-rows, rows-at, new-red-regular}
 use Rattle.lineage.specs.Met.{oldAt, oldAbove, newAt, Matched, old-next, new-next, old-coarse, new-coarse, flagged, new-known, met}
 
@@ -53,11 +53,11 @@ new-red-kept up es r n = go (eqb (r .status) 0) refl
     go false q = refl
 
 -- so the family of its parent is not deleted
-red-stays : (up : List Row) (es : List (Point × Point)) (r : Row) → redb (r .status) ≡ true → deletedb (kids up (r .number)) es ≡ false → newRedb up es r ≡ true
+pub red-stays : (up : List Row) (es : List (Point × Point)) (r : Row) → redb (r .status) ≡ true → deletedb (kids up (r .number)) es ≡ false → newRedb up es r ≡ true
 unfolding redAfterb
 red-stays up es r e d = rw (e, redAfterb) (rw d)
 
-not-deleted : (up : List Row) (es : List (Point × Point)) (k t : ℕ) → t < length up → getD up t noRow .cell .parent ≡ k
+pub not-deleted : (up : List Row) (es : List (Point × Point)) (k t : ℕ) → t < length up → getD up t noRow .cell .parent ≡ k
     → (eqb (getD up t noRow .status) 0 && eqb (getD up t noRow .mark) 2) ≡ false → deletedb (kids up k) es ≡ false
 unfolding deletedb kids
 not-deleted up es k t h p q =
@@ -84,7 +84,7 @@ module _ (n : ℕ) (qs : List (List ℕ)) (ss ms : List ℕ) where
   abbrev pub Red : ℕ → ℕ → Type 0
   Red j t = newRedAt ms (oldAbove n qs ss j) (oldAt n qs ss j) t ≡ true
 
-  up-rows : (j : ℕ) → rowsUp (oldAbove n qs ss j) ms ≡ rows (oldAt n qs ss (suc j)) ms
+  pub up-rows : (j : ℕ) → rowsUp (oldAbove n qs ss j) ms ≡ rows (oldAt n qs ss (suc j)) ms
   up-rows j =
       rows-up (oldAbove n qs ss j) ms
       ∙ ap (λ (l : Level). rows l ms) (getD-drop (suc j) (levelsOf n qs ss) 0 noLevel ∙ ap (λ (x : ℕ). getD (levelsOf n qs ss) x noLevel) (omega arith))
@@ -92,7 +92,7 @@ module _ (n : ℕ) (qs : List (List ℕ)) (ss ms : List ℕ) where
 module _ (n : ℕ) (qs : List (List ℕ)) (ss ms : List ℕ) (s : T (soundb n qs ss)) where
   red-regular : (j t : ℕ) → t < length (oldAt n qs ss j .cells) → Red n qs ss ms j t → T (getD (oldAt n qs ss j .cells) t noCell .regular)
   red-regular j t h e =
-      new-red-regular (rowsUp (oldAbove n qs ss j) ms) (edgesUp (newReds (oldAbove n qs ss j) ms)) (rowOf (oldAt n qs ss j) ms t) (flagged n qs ss ms s j .follows t h) e
+      new-red-regular (rowsUp (oldAbove n qs ss j) ms) (edgesUp (newReds (oldAbove n qs ss j) ms)) (rowIn (oldAt n qs ss j) ms t) (flagged n qs ss ms s j .follows t h) e
 
   -- a cell with the path of a new red cell is that cell
   stays-from : (j t : ℕ) → t < length (oldAt n qs ss j .cells) → Red n qs ss ms j t → (i : ℕ) → i < length (newAt n qs ss ms j .cells)
@@ -133,13 +133,13 @@ module _ (n : ℕ) (qs : List (List ℕ)) (ss ms : List ℕ) (s : T (soundb n qs
     pub parent-stays : Red n qs ss ms j (parent .p)
     parent-stays =
         let known : length (u .statuses) ≡ length (u .cells) = flagged n qs ss ms s (suc j) .known in
-        let at : getD (rowsUp (oldAbove n qs ss j) ms) t noRow ≡ rowOf u ms t = ap (λ (rs : List Row). getD rs t noRow) (up-rows n qs ss ms j) ∙ rows-at u ms known t h in
+        let at : getD (rowsUp (oldAbove n qs ss j) ms) t noRow ≡ rowIn u ms t = ap (λ (rs : List Row). getD rs t noRow) (up-rows n qs ss ms j) ∙ rows-at u ms known t h in
         let many : length (rowsUp (oldAbove n qs ss j) ms) ≡ length (u .cells) = ap length (up-rows n qs ss ms j) ∙ length-rows u ms known in
-        red-stays (rowsUp (oldAbove n qs ss j) ms) (edgesUp (newReds (oldAbove n qs ss j) ms)) (rowOf l ms (parent .p)) (ap redb parent-red)
+        red-stays (rowsUp (oldAbove n qs ss j) ms) (edgesUp (newReds (oldAbove n qs ss j) ms)) (rowIn l ms (parent .p)) (ap redb parent-red)
         (not-deleted (rowsUp (oldAbove n qs ss j) ms) (edgesUp (newReds (oldAbove n qs ss j) ms)) (l .first + parent .p) t (omega (arith, many))
         (ap (λ (r : Row). r .cell .parent) at ∙ ap (λ (c : Cell Point). c .parent) (parent .is))
         (ap (λ (r : Row). eqb (r .status) 0 && eqb (r .mark) 2) at
-        ∙ new-red-kept (rowsUp (oldAbove n qs ss (suc j)) ms) (edgesUp (newReds (oldAbove n qs ss (suc j)) ms)) (rowOf u ms t) e))
+        ∙ new-red-kept (rowsUp (oldAbove n qs ss (suc j)) ms) (edgesUp (newReds (oldAbove n qs ss (suc j)) ms)) (rowIn u ms t) e))
 
     stays-child : Stays n qs ss ms j (parent .p) → Stays n qs ss ms (suc j) t
     stays-child w =

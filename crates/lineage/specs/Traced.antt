@@ -17,12 +17,12 @@ use Rattle.mesh.specs.Weights.{Point}
 use Rattle.mesh.specs.Table.{Level, next, levels}
 use Rattle.base.specs.Every.{getD-map}
 use Rattle.lattice.specs.Levels.{noLevel}
-use Rattle.numbering.specs.Refined.{Both, refined-red, pattern-small}
+use Rattle.numbering.specs.Refined.{Both, refined-red, pattern-in-six}
 use Rattle.numbering.specs.Leaves.{leaf-next}
 use Rattle.lineage.specs.Olds.{flagOf, oldsNext, redsBy, closedBy, statusesBy}
 use Rattle.lineage.specs.Same.{Old, both-more, olds-next}
-use Rattle.lineage.specs.Levels.{growLevels, here, length-reds, length-up}
-use Rattle.lineage.specs.Flags.{Flagged, flag-red}
+use Rattle.lineage.specs.Levels.{growLevels, here, length-redsBy, length-up}
+use Rattle.lineage.specs.Flags.{FlaggedLevel, flag-red}
 use Rattle.lineage.specs.Rest.{Rest, rest-next, rest-up, rest-flagged}
 use Rattle.lineage.specs.Step.{Dark, refined-statuses, no-reds, dark-empty}
 
@@ -36,7 +36,7 @@ pub record Traced (fs : List ℕ) (l l' : Level) : Type 0 where
 status-redb : (es : List (Point × Point)) (r : Bool) (c : Cell Point) → T (c .regular) → redb (statusOf [] sameb es r c) ≡ r
 unfolding statusOf
 status-redb es true c t = rw (is-true (c .regular) t, statusOf) refl
-status-redb es false c t = rw (is-true (c .regular) t, statusOf) (ne-eqb (pattern [] sameb es c) 64 (λ e. omega (arith, pattern-small [] sameb es c)))
+status-redb es false c t = rw (is-true (c .regular) t, statusOf) (ne-eqb (pattern [] sameb es c) 64 (λ e. omega (arith, pattern-in-six [] sameb es c)))
 
 closed-at : (es : List (Point × Point)) (cs : List (Cell Point)) (rs : List ℕ) → length rs ≡ length cs → (i : ℕ) → i < length cs
     → getD (closedBy es cs rs) i 0 ≡ statusOf [] sameb es (redb (getD rs i 0)) (getD cs i noCell)
@@ -54,11 +54,11 @@ pub red-status : (fs : List ℕ) (cs : List (Cell Point)) (os : List ℕ) → le
     → redb (getD (statusesBy fs cs os) i 0) ≡ redb (getD fs (getD os i 0) 0)
 unfolding statusesBy
 red-status fs cs os e i h t =
-    ap redb (closed-at (redEdges [] cs (redsBy fs os)) cs (redsBy fs os) (length-reds fs os ∙ e) i h)
+    ap redb (closed-at (redEdges [] cs (redsBy fs os)) cs (redsBy fs os) (length-redsBy fs os ∙ e) i h)
     ∙ status-redb (redEdges [] cs (redsBy fs os)) (redb (getD (redsBy fs os) i 0)) (getD cs i noCell) t ∙ reds-at fs os i (omega arith)
 
 -- each level
-flagged-none : (fs ms : List ℕ) (ls : List Level) → length fs ≤ 4096 → Flagged fs ms ls noLevel
+flagged-none : (fs ms : List ℕ) (ls : List Level) → length fs ≤ 4096 → FlaggedLevel fs ms ls noLevel
 flagged-none fs ms ls h =
     record {
       known = refl;
@@ -79,7 +79,7 @@ grow-none m ss fs (suc h) k os = refl
 
 module _ (m : ℕ) (ss fs ms : List ℕ) where
   pub flagged-at : (h k : ℕ) (cs : List (Cell Point)) (rs : List ℕ) → Rest m ss fs ms h k cs rs → (j : ℕ)
-      → Flagged fs ms (drop (suc j) (levels h k cs rs)) (getD (levels h k cs rs) j noLevel)
+      → FlaggedLevel fs ms (drop (suc j) (levels h k cs rs)) (getD (levels h k cs rs) j noLevel)
   unfolding levels
   flagged-at zero k cs rs r j = absurd (omega (arith, r .high))
   flagged-at (suc h) k [] rs r j = flagged-none fs ms [] (r .small)

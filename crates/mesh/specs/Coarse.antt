@@ -47,16 +47,16 @@ unfolding allb cellb
 cellsb n qs = allb (cellb n) qs
 
 -- "Flat means that the determinant of its three edge vectors is zero; its sign is free."
-unfoldable pub coordinate : List ℤ → ℕ → ℕ → ℤ
-coordinate ps i k = getD ps (3 * i + k) (pos 0)
+unfoldable pub coordinateAt : List ℤ → ℕ → ℕ → ℤ
+coordinateAt ps i k = getD ps (3 * i + k) (pos 0)
 
 unfoldable pub determinant : List ℤ → List ℕ → ℤ
-unfolding coordinate
+unfolding coordinateAt
 determinant ps q =
-    let ax = coordinate ps (getD q 0 0) 0 in let ay = coordinate ps (getD q 0 0) 1 in let az = coordinate ps (getD q 0 0) 2 in
-    let bx = coordinate ps (getD q 1 0) 0 -ℤ ax in let by = coordinate ps (getD q 1 0) 1 -ℤ ay in let bz = coordinate ps (getD q 1 0) 2 -ℤ az in
-    let cx = coordinate ps (getD q 2 0) 0 -ℤ ax in let cy = coordinate ps (getD q 2 0) 1 -ℤ ay in let cz = coordinate ps (getD q 2 0) 2 -ℤ az in
-    let dx = coordinate ps (getD q 3 0) 0 -ℤ ax in let dy = coordinate ps (getD q 3 0) 1 -ℤ ay in let dz = coordinate ps (getD q 3 0) 2 -ℤ az in
+    let ax = coordinateAt ps (getD q 0 0) 0 in let ay = coordinateAt ps (getD q 0 0) 1 in let az = coordinateAt ps (getD q 0 0) 2 in
+    let bx = coordinateAt ps (getD q 1 0) 0 -ℤ ax in let by = coordinateAt ps (getD q 1 0) 1 -ℤ ay in let bz = coordinateAt ps (getD q 1 0) 2 -ℤ az in
+    let cx = coordinateAt ps (getD q 2 0) 0 -ℤ ax in let cy = coordinateAt ps (getD q 2 0) 1 -ℤ ay in let cz = coordinateAt ps (getD q 2 0) 2 -ℤ az in
+    let dx = coordinateAt ps (getD q 3 0) 0 -ℤ ax in let dy = coordinateAt ps (getD q 3 0) 1 -ℤ ay in let dz = coordinateAt ps (getD q 3 0) 2 -ℤ az in
     bx *ℤ (cy *ℤ dz -ℤ cz *ℤ dy) -ℤ by *ℤ (cx *ℤ dz -ℤ cz *ℤ dx) +ℤ bz *ℤ (cx *ℤ dy -ℤ cy *ℤ dx)
 
 unfoldable pub solidb : List ℤ → List (List ℕ) → Bool

@@ -7,7 +7,7 @@
 --   addCorner ks e       the list with the midpoint of the edge e behind it, where it is not in it
 --   cornersOf n cs ss    the corners of a table with cells cs, in the order of their numbers
 --   rowOf ks c           the row of the cell c: level, parent, child number, 1 where it is regular, four corner numbers
---   weightedSum ps k p   the weighted whole sum of coordinate k
+--   weightedSum ps k p   the weighted whole sum of coordinateAt k
 --   cellTable, endTable, sumTable   what the lent tables of a layout hold: rows of eight, two, three numbers
 use mathlib.Core.Bool.{true, false}
 use mathlib.Core.List.{List, [], _∷_, _++_, map, flatMap}
@@ -20,7 +20,7 @@ use Rattle.base.specs.Places.{hasb, placeIn}
 use Rattle.cutting.specs.Rule.{split}
 use Rattle.mesh.specs.Cells.{Cell, edge, patternOf}
 use Rattle.mesh.specs.Weights.{Point, coarse, mid}
-use Rattle.mesh.specs.Coarse.{coordinate}
+use Rattle.mesh.specs.Coarse.{coordinateAt}
 
 pub record Corner : Type 0 where
   pub weights : Point
@@ -102,9 +102,9 @@ unfolding flatMap
 endTable ks = flatMap (λ k. k .low ∷ k .high ∷ []) ks
 
 unfoldable pub weightedFrom : List ℤ → ℕ → ℕ → Point → ℤ
-unfolding coordinate
+unfolding coordinateAt
 weightedFrom ps k i [] = pos 0
-weightedFrom ps k i (w ∷ ws) = pos w *ℤ coordinate ps i k +ℤ weightedFrom ps k (suc i) ws
+weightedFrom ps k i (w ∷ ws) = pos w *ℤ coordinateAt ps i k +ℤ weightedFrom ps k (suc i) ws
 
 unfoldable pub weightedSum : List ℤ → ℕ → Point → ℤ
 unfolding weightedFrom

@@ -14,7 +14,7 @@ use Rattle.base.specs.Lists.{belowb, memberb, belowb-at}
 use Rattle.base.specs.Bools.{and-left, and-right}
 use Rattle.base.specs.Places.{placeIn}
 use Rattle.cutting.specs.Rule.{low, high, points, edgeOf, split, present, family}
-use Rattle.families.specs.Facts.{Child, child-at}
+use Rattle.families.specs.Facts.{ChildFacts, child-at}
 use Rattle.mesh.specs.Cells.{Cell, corner, edge, redb, patternOf, childrenFrom, children}
 use Rattle.mesh.specs.Weights.{Point, mid, point}
 use Rattle.mesh.specs.Table.{next}
@@ -28,10 +28,10 @@ use Rattle.lattice.specs.Regular.{Regular}
 use Rattle.lattice.specs.Levels.{IfRegular}
 use Rattle.base.specs.Each.{all-mapped, all-unmapped, map-more, all-filter, filter-passes, filter-member, member-of}
 use Rattle.numbering.specs.Ends.{Splittable, edge-splittable}
-use Rattle.numbering.specs.Corners.{Has, Kept, Corners, kept-has, kept-number}
+use Rattle.numbering.specs.Corners.{Has, Kept, NumberedCorners, kept-has, kept-number}
 use Rattle.numbering.specs.Midpoints.{number-midpoint}
 use Rattle.numbering.specs.Renamed.{corner-in, corner-map, splitNumbers}
-use Rattle.numbering.specs.Tests.{cellsIn, Placed}
+use Rattle.numbering.specs.Tests.{numberedCells, Placed}
 use Rattle.numbering.specs.Refined.{Both, Follows, Refined}
 use Rattle.numbering.specs.Levels.{SplitIn}
 use Rattle.mesh.specs.Laws.{mid-self, pattern-below}
@@ -82,7 +82,7 @@ module _ (n : ℕ) (es : List Pair) (c : Cell ℕ) (d : ℕ) where
   unfolding pointAt
   point-at-middle t = rw (t, pointAt)
 
-module _ (n k : ℕ) (h : k < 10) (ks ks′ : List Corner) (es : List Pair) (w : Corners n ks′ es) (kept : Kept ks ks′)
+module _ (n k : ℕ) (h : k < 10) (ks ks′ : List Corner) (es : List Pair) (w : NumberedCorners n ks′ es) (kept : Kept ks ks′)
     (c : Cell Point) (p : Placed ks c) (r : Regular n k c) (s : ℕ) (a : SplitIn ks′ c s) where
   corner-has : (i : ℕ) → i < 4 → Has ks (corner [] c i)
   corner-has = corner-in [] 0 (numberIn ks) (Has ks) c p
@@ -127,17 +127,17 @@ module _ (n k : ℕ) (h : k < 10) (ks ks′ : List Corner) (es : List Pair) (w :
       go l true e u = numbered-corner d l e
       go l false e u = numbered-middle d l e u
 
-family-children : (p : ℕ) → p < 64 → All (Child p) (family p)
-family-children p h = all-from (Child p) [] (family p) (λ k l. child-at p k h l)
+family-children : (p : ℕ) → p < 64 → All (ChildFacts p) (family p)
+family-children p h = all-from (ChildFacts p) [] (family p) (λ k l. child-at p k h l)
 
-module _ (n k : ℕ) (h : k < 10) (ks ks′ : List Corner) (es : List Pair) (w : Corners n ks′ es) (kept : Kept ks ks′) where
+module _ (n k : ℕ) (h : k < 10) (ks ks′ : List Corner) (es : List Pair) (w : NumberedCorners n ks′ es) (kept : Kept ks ks′) where
   -- One family.
   module _ (c : Cell Point) (p : Placed ks c) (s : ℕ) (a : SplitIn ks′ c s) where
     module _ (r : Regular n k c) where
-      child-numbered : (d : List ℕ) → Child (patternOf s) d → All (Numbered n ks ks′ es c) d
+      child-numbered : (d : List ℕ) → ChildFacts (patternOf s) d → All (Numbered n ks ks′ es c) d
       child-numbered d f = all-of (Numbered n ks ks′ es c) (λ x. memberb x (present (patternOf s))) (numbered-present n k h ks ks′ es w kept c p r s a) d (f .present)
 
-      family-placed : (j i : ℕ) (b : Bool) (ds : List (List ℕ)) → All (Child (patternOf s)) ds → All (Placed ks′) (childrenFrom j c b (point c) i ds)
+      family-placed : (j i : ℕ) (b : Bool) (ds : List (List ℕ)) → All (ChildFacts (patternOf s)) ds → All (Placed ks′) (childrenFrom j c b (point c) i ds)
       unfolding childrenFrom
       family-placed j i b [] f = tt
       family-placed j i b (d ∷ ds) f = (
@@ -148,8 +148,8 @@ module _ (n k : ℕ) (h : k < 10) (ks ks′ : List Corner) (es : List Pair) (w :
         family-placed j (suc i) b ds (f .1),
       )
 
-      family-numbers : (j i : ℕ) (b : Bool) (ds : List (List ℕ)) → All (Child (patternOf s)) ds
-          → childrenFrom j (mapCell (numberIn ks) c) b (pointAt n es (mapCell (numberIn ks) c)) i ds ≡ cellsIn ks′ (childrenFrom j c b (point c) i ds)
+      family-numbers : (j i : ℕ) (b : Bool) (ds : List (List ℕ)) → All (ChildFacts (patternOf s)) ds
+          → childrenFrom j (mapCell (numberIn ks) c) b (pointAt n es (mapCell (numberIn ks) c)) i ds ≡ numberedCells ks′ (childrenFrom j c b (point c) i ds)
       unfolding childrenFrom mapCell
       family-numbers j i b [] f = refl
       family-numbers j i b (d ∷ ds) f =
@@ -168,11 +168,11 @@ module _ (n k : ℕ) (h : k < 10) (ks ks′ : List Corner) (es : List Pair) (w :
           go true e = rw (e, children) tt
           go false e = rw (e, children) (family-placed (r (f .regular (eqb-false s 0 e))) j 0 (redb s) (family (patternOf s)) (family-children (patternOf s) (pattern-below s (f .small))))
 
-      children-numbers : (j : ℕ) → children j (mapCell (numberIn ks) c) s (pointAt n es (mapCell (numberIn ks) c)) ≡ cellsIn ks′ (children j c s (point c))
+      children-numbers : (j : ℕ) → children j (mapCell (numberIn ks) c) s (pointAt n es (mapCell (numberIn ks) c)) ≡ numberedCells ks′ (children j c s (point c))
       unfolding children
       children-numbers j = go (eqb s 0) refl
         where
-          go : (z : Bool) → eqb s 0 ≡ z → children j (mapCell (numberIn ks) c) s (pointAt n es (mapCell (numberIn ks) c)) ≡ cellsIn ks′ (children j c s (point c))
+          go : (z : Bool) → eqb s 0 ≡ z → children j (mapCell (numberIn ks) c) s (pointAt n es (mapCell (numberIn ks) c)) ≡ numberedCells ks′ (children j c s (point c))
           go true e = rw (e, children) refl
           go false e = rw (e, children) (family-numbers (r (f .regular (eqb-false s 0 e))) j 0 (redb s) (family (patternOf s)) (family-children (patternOf s) (pattern-below s (f .small))))
 
@@ -187,7 +187,7 @@ module _ (n k : ℕ) (h : k < 10) (ks ks′ : List Corner) (es : List Pair) (w :
       (next-placed (suc j) cs ss (p .1) (r .1) (f .1) (a .1))
 
   pub next-numbers : (j : ℕ) (cs : List (Cell Point)) (ss : List ℕ) → All (Placed ks) cs → All (IfRegular n k) cs → Refined cs ss → Both (SplitIn ks′) cs ss
-      → nextOf n es j (cellsIn ks cs) ss ≡ cellsIn ks′ (next j cs ss)
+      → nextOf n es j (numberedCells ks cs) ss ≡ numberedCells ks′ (next j cs ss)
   unfolding next nextOf
   next-numbers j [] ss p r f a = refl
   next-numbers j (c ∷ cs) [] p r f a = refl

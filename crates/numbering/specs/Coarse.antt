@@ -16,8 +16,8 @@ use Rattle.mesh.specs.Coarse.{cellb, cellsb}
 use Rattle.mesh.specs.Layout.{Corner, numberIn, mapCell}
 use Rattle.edges.specs.Pairs.{Pair}
 use Rattle.base.specs.Every.{All, all-from, below-at}
-use Rattle.numbering.specs.Corners.{Has, Corners, has-corner, weights-coarse, number-coarse}
-use Rattle.numbering.specs.Tests.{cellsIn, Placed}
+use Rattle.numbering.specs.Corners.{Has, NumberedCorners, has-corner, weights-coarse, number-coarse}
+use Rattle.numbering.specs.Tests.{numberedCells, Placed}
 
 unfoldable pub coarseNumbersFrom : ℕ → List (List ℕ) → List (Cell ℕ)
 coarseNumbersFrom i [] = []
@@ -36,7 +36,7 @@ cell-below n q e t =
     let (a, b, c, d) = rising n q t in
     all-from (λ i. i < n) 0 q (λ k h. below-at (λ k. getD q k 0 < n) 4 (omega arith) k (omega arith))
 
-module _ (n : ℕ) (ks : List Corner) (es : List Pair) (c : Corners n ks es) where
+module _ (n : ℕ) (ks : List Corner) (es : List Pair) (c : NumberedCorners n ks es) where
   coarse-has : (q : List ℕ) → All (λ i. i < n) q → All (Has ks) (map (coarse n) q)
   coarse-has [] h = tt
   coarse-has (i ∷ q) h = (rw (weights-coarse n ks es c i (h .0)) at (has-corner ks i (omega (arith, h .0, c .count))), coarse-has q (h .1))
@@ -53,7 +53,7 @@ module _ (n : ℕ) (ks : List Corner) (es : List Pair) (c : Corners n ks es) whe
     coarse-placed-from (suc i) qs (e .1) (and-right (cellb n q) (allb (cellb n) qs) t),
   )
 
-  coarse-numbers-from : (i : ℕ) (qs : List (List ℕ)) → All (λ q. length q ≡ 4) qs → T (cellsb n qs) → cellsIn ks (coarseFrom n i qs) ≡ coarseNumbersFrom i qs
+  coarse-numbers-from : (i : ℕ) (qs : List (List ℕ)) → All (λ q. length q ≡ 4) qs → T (cellsb n qs) → numberedCells ks (coarseFrom n i qs) ≡ coarseNumbersFrom i qs
   unfolding coarseFrom coarseNumbersFrom cellsb allb mapCell
   coarse-numbers-from i [] e t = refl
   coarse-numbers-from i (q ∷ qs) e t =
@@ -67,6 +67,6 @@ module _ (n : ℕ) (ks : List Corner) (es : List Pair) (c : Corners n ks es) whe
     unfolding coarseCells
     coarse-placed = coarse-placed-from 0 qs e t
 
-    pub coarse-numbers : cellsIn ks (coarseCells n qs) ≡ coarseNumbers qs
+    pub coarse-numbers : numberedCells ks (coarseCells n qs) ≡ coarseNumbers qs
     unfolding coarseCells coarseNumbers
     coarse-numbers = coarse-numbers-from 0 qs e t

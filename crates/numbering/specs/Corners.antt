@@ -1,11 +1,11 @@
--- Corners by weights beside the program's list of ends: the corner n + j is the midpoint of the two corners that the j-th
+-- NumberedCorners by weights beside the program's list of ends: the corner n + j is the midpoint of the two corners that the j-th
 -- pair names, where n is the number of coarse corners.
 --   cornerAt ks i, weightsAt ks i   the corner i, and its weights
 --   endsAt es j          the j-th pair
 --   Has ks p             some corner has the weights p
 --   Kept ks ks′          ks′ has the corners of ks with their numbers, and perhaps more behind them
 --   Midpoint n ks i e    corner i is the midpoint of the corners e, which are the ends of an edge of a regular cell
---   Corners n ks es      the corners ks are the coarse ones and behind them the midpoints of the pairs es, no two alike
+--   NumberedCorners n ks es      the corners ks are the coarse ones and behind them the midpoints of the pairs es, no two alike
 -- Laws: number-there, number-below, number-own, number-injective (numbers and weights), has-corner, kept-same, kept-both (Kept is
 -- an order), kept-corner, kept-has, kept-number (what it says), corners-start (the coarse corners), corner-coarse,
 -- number-coarse (they are the first), corner-sized, even-sum (weights).
@@ -55,7 +55,7 @@ pub record Midpoint (n : ℕ) (ks : List Corner) (i : ℕ) (e : Pair) : Type 0 w
 abbrev pub endsAt : List Pair → ℕ → Pair
 endsAt es j = getD es j (0, 0)
 
-pub record Corners (n : ℕ) (ks : List Corner) (es : List Pair) : Type 0 where
+pub record NumberedCorners (n : ℕ) (ks : List Corner) (es : List Pair) : Type 0 where
   pub count : length ks ≡ n + length es
   pub first : take n ks ≡ coarseCorners n
   pub distinct : Distinct sameb [] same-list (weightsOf ks)
@@ -84,7 +84,7 @@ module _ (ks : List Corner) where
   pub number-injective : (p q : Point) → Has ks p → Has ks q → numberIn ks p ≡ numberIn ks q → p ≡ q
   number-injective p q hp hq e = sym (number-there p hp) ∙ ap (weightsAt ks) e ∙ number-there q hq
 
--- Corners added behind keep the numbers of the others.
+-- NumberedCorners added behind keep the numbers of the others.
 pub kept-same : (ks : List Corner) → Kept ks ks
 kept-same ks = record { more = []; longer = sym (append-nil ks) }
 
@@ -146,7 +146,7 @@ module _ (n : ℕ) where
           coarse-differ i m (omega arith) (omega arith) (λ e. omega arith)
           (ap (λ (k : Corner). k .weights) (sym (coarse-at m i l)) ∙ number-there (coarseCornersTo n m) (coarse n m) t)
 
-pub corners-start : (n : ℕ) → Corners n (coarseCorners n) []
+pub corners-start : (n : ℕ) → NumberedCorners n (coarseCorners n) []
 unfolding coarseCorners
 corners-start n =
     record {
@@ -158,7 +158,7 @@ corners-start n =
 
 -- The coarse corners are the first. Every corner has n weights that add to 1,024, and the weights of a midpoint's ends have
 -- even sums.
-module _ (n : ℕ) (ks : List Corner) (es : List Pair) (c : Corners n ks es) where
+module _ (n : ℕ) (ks : List Corner) (es : List Pair) (c : NumberedCorners n ks es) where
   pub corner-coarse : (i : ℕ) → i < n → cornerAt ks i ≡ coarseCorner n i
   unfolding coarseCorners
   corner-coarse i h = sym (getD-take n ks i noCorner h) ∙ ap (λ (l : List Corner). cornerAt l i) (c .first) ∙ coarse-at n n i h

@@ -18,7 +18,7 @@ use Rattle.mesh.specs.Table.{next}
 use Rattle.mesh.specs.Layout.{Corner, addCorners, cornersFrom}
 use Rattle.edges.specs.Pairs.{Pair, addPairs}
 use Rattle.rows.specs.Numbered.{endsFrom, nextOf}
-use Rattle.numbering.specs.Tests.{cellsIn}
+use Rattle.numbering.specs.Tests.{numberedCells}
 use Rattle.numbering.specs.Refined.{Both, Refined}
 use Rattle.mesh.specs.Laws.{pattern-below}
 
@@ -32,7 +32,7 @@ module _ (ks : List Corner) (es : List Pair) where
   leaf-corners (c ∷ cs) [] l = refl
   leaf-corners (c ∷ cs) (s ∷ ss) l = rw (l .0) (leaf-corners cs ss (l .1))
 
-  pub leaf-ends : (cs : List (Cell Point)) (ss : List ℕ) → Leaves cs ss → endsFrom es (cellsIn ks cs) ss ≡ es
+  pub leaf-ends : (cs : List (Cell Point)) (ss : List ℕ) → Leaves cs ss → endsFrom es (numberedCells ks cs) ss ≡ es
   unfolding endsFrom addPairs
   leaf-ends [] ss l = refl
   leaf-ends (c ∷ cs) [] l = refl
@@ -44,7 +44,7 @@ leaf-next j [] ss l = refl
 leaf-next j (c ∷ cs) [] l = refl
 leaf-next j (c ∷ cs) (s ∷ ss) l = rw (l .0) (leaf-next (suc j) cs ss (l .1))
 
-pub leaf-numbers : (n j : ℕ) (ks : List Corner) (es : List Pair) (cs : List (Cell Point)) (ss : List ℕ) → Leaves cs ss → nextOf n es j (cellsIn ks cs) ss ≡ []
+pub leaf-numbers : (n j : ℕ) (ks : List Corner) (es : List Pair) (cs : List (Cell Point)) (ss : List ℕ) → Leaves cs ss → nextOf n es j (numberedCells ks cs) ss ≡ []
 unfolding nextOf children
 leaf-numbers n j ks es [] ss l = refl
 leaf-numbers n j ks es (c ∷ cs) [] l = refl

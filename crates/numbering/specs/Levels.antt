@@ -18,10 +18,10 @@ use Rattle.lattice.specs.Regular.{Regular}
 use Rattle.lattice.specs.Levels.{IfRegular}
 use Rattle.base.specs.Each.{all-mapped, map-same}
 use Rattle.numbering.specs.Ends.{Splittable, edge-splittable}
-use Rattle.numbering.specs.Corners.{Has, Kept, Corners, kept-same, kept-both, kept-has, kept-number}
+use Rattle.numbering.specs.Corners.{Has, Kept, NumberedCorners, kept-same, kept-both, kept-has, kept-number}
 use Rattle.numbering.specs.Midpoints.{added-kept, added-has, corners-add}
 use Rattle.numbering.specs.Renamed.{splitNumbers, split-numbers, split-edges-in, split-edges-map}
-use Rattle.numbering.specs.Tests.{cellsIn, edgeIn, Placed, EndsPlaced}
+use Rattle.numbering.specs.Tests.{numberedCells, edgeIn, Placed, EndsPlaced}
 use Rattle.numbering.specs.Refined.{Both, Follows, Refined}
 
 -- What has its points among the corners keeps them, and their numbers, among more corners.
@@ -45,7 +45,7 @@ module _ (ks ks′ : List Corner) (k : Kept ks ks′) where
       (map-same (numberIn ks′) (numberIn ks) (c .points)
       (all-more (Has ks) (λ q. numberIn ks′ q ≡ numberIn ks q) (kept-number ks ks′ k) (c .points) (p .each)))
 
-  pub cells-kept : (cs : List (Cell Point)) → All (Placed ks) cs → cellsIn ks′ cs ≡ cellsIn ks cs
+  pub cells-kept : (cs : List (Cell Point)) → All (Placed ks) cs → numberedCells ks′ cs ≡ numberedCells ks cs
   cells-kept cs p =
       map-same (mapCell (numberIn ks′)) (mapCell (numberIn ks)) cs
       (all-more (Placed ks) (λ c. mapCell (numberIn ks′) c ≡ mapCell (numberIn ks) c) cell-kept cs p)
@@ -64,8 +64,8 @@ edges-has ks (e ∷ l) = (
   edges-has (addCorner ks e) l,
 )
 
-edges-corners : (n : ℕ) (ks : List Corner) (es : List Pair) (l : List (Point × Point)) → Corners n ks es → All (λ e. Splittable n (e .0) (e .1)) l
-    → All (EndsPlaced ks) l → Corners n (addCorners ks l) (addPairs es (map (edgeIn ks) l))
+edges-corners : (n : ℕ) (ks : List Corner) (es : List Pair) (l : List (Point × Point)) → NumberedCorners n ks es → All (λ e. Splittable n (e .0) (e .1)) l
+    → All (EndsPlaced ks) l → NumberedCorners n (addCorners ks l) (addPairs es (map (edgeIn ks) l))
 unfolding addCorners addPairs
 edges-corners n ks es [] c s p = c
 edges-corners n ks es (e ∷ l) c s p =
@@ -85,20 +85,20 @@ split-splittable n k h c r s =
     (all-more (λ e. e < 6) (λ e. Splittable n (edge [] c e .0) (edge [] c e .1)) (edge-splittable n k c h r) (splitNumbers s) (split-numbers s))
 
 module _ (n k : ℕ) (h : k < 10) where
-  cell-corners : (ks : List Corner) (es : List Pair) (c : Cell Point) (s : ℕ) → Corners n ks es → Placed ks c → IfRegular n k c → Follows c s
-      → Corners n (addCorners ks (splitEdges [] c s)) (addPairs es (splitEdges 0 (mapCell (numberIn ks) c) s))
+  cell-corners : (ks : List Corner) (es : List Pair) (c : Cell Point) (s : ℕ) → NumberedCorners n ks es → Placed ks c → IfRegular n k c → Follows c s
+      → NumberedCorners n (addCorners ks (splitEdges [] c s)) (addPairs es (splitEdges 0 (mapCell (numberIn ks) c) s))
   unfolding addCorners addPairs
   cell-corners ks es c s w p r f = go (eqb s 0) refl
     where
-      go : (b : Bool) → eqb s 0 ≡ b → Corners n (addCorners ks (splitEdges [] c s)) (addPairs es (splitEdges 0 (mapCell (numberIn ks) c) s))
+      go : (b : Bool) → eqb s 0 ≡ b → NumberedCorners n (addCorners ks (splitEdges [] c s)) (addPairs es (splitEdges 0 (mapCell (numberIn ks) c) s))
       go true e = rw (eqb-true s 0 e, split-none [] c, split-none 0 (mapCell (numberIn ks) c)) w
       go false e =
           rw (split-edges-map [] 0 (numberIn ks) (Has ks) c p s)
           (edges-corners n ks es (splitEdges [] c s) w (split-splittable n k h c (r (f .regular (eqb-false s 0 e))) s) (split-edges-in [] 0 (numberIn ks) (Has ks) c p s))
 
   -- The cells of a level, one after another.
-  pub level-corners : (ks : List Corner) (es : List Pair) (cs : List (Cell Point)) (ss : List ℕ) → Corners n ks es → All (Placed ks) cs → All (IfRegular n k) cs → Refined cs ss
-      → Corners n (cornersFrom ks cs ss) (endsFrom es (cellsIn ks cs) ss)
+  pub level-corners : (ks : List Corner) (es : List Pair) (cs : List (Cell Point)) (ss : List ℕ) → NumberedCorners n ks es → All (Placed ks) cs → All (IfRegular n k) cs → Refined cs ss
+      → NumberedCorners n (cornersFrom ks cs ss) (endsFrom es (numberedCells ks cs) ss)
   unfolding cornersFrom endsFrom
   level-corners ks es [] ss w p r f = w
   level-corners ks es (c ∷ cs) [] w p r f = w

@@ -21,7 +21,7 @@ use Rattle.mesh.specs.Weights.{Point, mid}
 use Rattle.mesh.specs.Layout.{Corner, weightsOf, numberIn, addCorner}
 use Rattle.edges.specs.Pairs.{Pair, sorted, isb, addPair, same-pair, test-ext}
 use Rattle.numbering.specs.Ends.{Splittable, splittable-turned, mid-comm, mid-fine, mid-ends, ends-differ}
-use Rattle.numbering.specs.Corners.{noCorner, cornerAt, weightsAt, endsAt, Has, Kept, Midpoint, Corners, number-there, number-below, number-own, number-injective, has-corner, kept-corner, kept-weights, kept-has, kept-number, weights-coarse}
+use Rattle.numbering.specs.Corners.{noCorner, cornerAt, weightsAt, endsAt, Has, Kept, Midpoint, NumberedCorners, number-there, number-below, number-own, number-injective, has-corner, kept-corner, kept-weights, kept-has, kept-number, weights-coarse}
 
 -- the pair of the numbers of two points
 abbrev pub pairIn : List Corner → Point → Point → Pair
@@ -78,7 +78,7 @@ midpoint-kept n ks ks′ i e k h m =
     }
 
 -- The midpoint of an edge is among the corners where the pair of the edge's ends is among the ends, and at its place.
-module _ (n : ℕ) (ks : List Corner) (es : List Pair) (c : Corners n ks es) (p q : Point) (s : Splittable n p q) (hp : Has ks p) (hq : Has ks q) where
+module _ (n : ℕ) (ks : List Corner) (es : List Pair) (c : NumberedCorners n ks es) (p q : Point) (s : Splittable n p q) (hp : Has ks p) (hq : Has ks q) where
   -- a pair whose corners have these weights is the pair of these ends
   pair-of : (e : Pair) → e .0 < e .1 → e .1 < length ks → EndsOf ks e p q → e ≡ pairIn ks p q
   unfolding sorted
@@ -191,7 +191,7 @@ module _ (n : ℕ) (ks : List Corner) (es : List Pair) (c : Corners n ks es) (p 
           ends = rw (x, y) pair-splittable;
         }
 
-    corners-longer : Corners n longer (es ++ (pairIn ks p q ∷ []))
+    corners-longer : NumberedCorners n longer (es ++ (pairIn ks p q ∷ []))
     corners-longer =
         record {
           count = omega (arith, length-append ks (newCorner ks (p, q) ∷ []), length-append es (pairIn ks p q ∷ []), c .count);
@@ -209,14 +209,14 @@ module _ (n : ℕ) (ks : List Corner) (es : List Pair) (c : Corners n ks es) (p 
             rw (List·getD-append es (pairIn ks p q ∷ []) (0, 0) j h)
             (midpoint-kept n ks longer (n + j) (endsAt es j) behind (omega (arith, c .count)) (c .midpoint j h))
 
-  pub corners-add : Corners n (addCorner ks (p, q)) (addPair es (numberIn ks p, numberIn ks q))
+  pub corners-add : NumberedCorners n (addCorner ks (p, q)) (addPair es (numberIn ks p, numberIn ks q))
   unfolding addPair
   corners-add =
       ⊎-elim (λ (t : Has ks (mid p q)). rw (corner-old ks (p, q) t, add-old isb es (pairIn ks p q) (sym has-midpoint ∙ t)) c)
       (λ (t : hasb sameb (weightsOf ks) (mid p q) ≡ false). rw (corner-new ks (p, q) t, add-new isb es (pairIn ks p q) (sym has-midpoint ∙ t)) (corners-longer t))
       (either (hasb sameb (weightsOf ks) (mid p q)))
 
-module _ (n : ℕ) (ks : List Corner) (es : List Pair) (c : Corners n ks es) (p q : Point) (s : Splittable n p q) (hp : Has ks p) (hq : Has ks q) where
+module _ (n : ℕ) (ks : List Corner) (es : List Pair) (c : NumberedCorners n ks es) (p q : Point) (s : Splittable n p q) (hp : Has ks p) (hq : Has ks q) where
   pub number-added : numberIn (addCorner ks (p, q)) (mid p q) ≡ n + placeIn isb (addPair es (numberIn ks p, numberIn ks q)) (pairIn ks p q)
   number-added =
       let ks₁ = addCorner ks (p, q) in

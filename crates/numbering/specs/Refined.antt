@@ -40,9 +40,9 @@ unfolding bitsOf
 bits-small a b c d e f = omega (arith, one-most a, one-most b, one-most c, one-most d, one-most e, one-most f)
 
 module _ {A : Type 0} (o : A) (same : A → A → Bool) (es : List (A × A)) where
-  pub pattern-small : (c : Cell A) → pattern o same es c < 64
+  pub pattern-in-six : (c : Cell A) → pattern o same es c < 64
   unfolding pattern edges
-  pattern-small c =
+  pattern-in-six c =
       bits-small (heldb same es (edge o c 0)) (heldb same es (edge o c 1)) (heldb same es (edge o c 2)) (heldb same es (edge o c 3))
       (heldb same es (edge o c 4)) (heldb same es (edge o c 5))
 
@@ -52,7 +52,7 @@ module _ {A : Type 0} (o : A) (same : A → A → Bool) (es : List (A × A)) whe
     where
       go : (b : Bool) → c .regular ≡ b → (r : Bool) → Follows c (statusOf o same es r c)
       go true e true = rw (e, statusOf) (record { small = omega arith; regular = λ z. tt })
-      go true e false = rw (e, statusOf) (record { small = omega (arith, pattern-small c); regular = λ z. tt })
+      go true e false = rw (e, statusOf) (record { small = omega (arith, pattern-in-six c); regular = λ z. tt })
       go false e r = rw (e, statusOf) (record { small = omega arith; regular = λ z. absurd (z refl) })
 
   pub status-refined : (f : Cell A → Bool) (cs : List (Cell A)) → Refined cs (map (λ c. statusOf o same es (f c) c) cs)

@@ -1,6 +1,6 @@
 -- The mesh level by level, as a program builds it: the corners so far, their ends, and the cells of the level.
 --   Stage n k ks es cs   cs are the cells of level k, and their points are among the corners ks with the ends es
---   Next n k j ks es cs ss ks′ es′   what a level with statuses ss leaves, where its first cell has the number j
+--   NextStage n k j ks es cs ss ks′ es′   what a level with statuses ss leaves, where its first cell has the number j
 -- Laws: stage-start (the coarse level), stage-next (one level up), stage-leaves (the same on the highest level, where there are
 -- leaves alone).
 use mathlib.Core.Path.{_≡_, refl, _∙_}
@@ -17,10 +17,9 @@ use Rattle.edges.specs.Pairs.{Pair}
 use Rattle.rows.specs.Numbered.{endsFrom, nextOf}
 use Rattle.base.specs.Every.{All, all-more}
 use Rattle.lattice.specs.Regular.{Regular}
-use Rattle.lattice.specs.Levels.{IfRegular, next-regular}
-use Rattle.lattice.specs.Facts.{coarse-regular}
-use Rattle.numbering.specs.Corners.{Kept, Corners, corners-start}
-use Rattle.numbering.specs.Tests.{cellsIn, Placed}
+use Rattle.lattice.specs.Levels.{IfRegular, next-regular, coarse-cells-regular}
+use Rattle.numbering.specs.Corners.{Kept, NumberedCorners, corners-start}
+use Rattle.numbering.specs.Tests.{numberedCells, Placed}
 use Rattle.numbering.specs.Refined.{Refined, refined-red}
 use Rattle.numbering.specs.Levels.{level-corners, level-kept, level-split}
 use Rattle.numbering.specs.Children.{next-placed, next-numbers}
@@ -28,7 +27,7 @@ use Rattle.numbering.specs.Coarse.{coarse-placed}
 use Rattle.numbering.specs.Leaves.{Leaves, leaf-corners, leaf-ends, leaf-next, leaf-numbers}
 
 pub record Stage (n k : ℕ) (ks : List Corner) (es : List Pair) (cs : List (Cell Point)) : Type 0 where
-  pub corners : Corners n ks es
+  pub corners : NumberedCorners n ks es
   pub placed : All (Placed ks) cs
   pub regular : All (IfRegular n k) cs
 
@@ -37,20 +36,20 @@ stage-start n qs e t =
     record {
       corners = corners-start n;
       placed = coarse-placed n (coarseCorners n) [] (corners-start n) qs e t;
-      regular = all-more (Regular n 0) (IfRegular n 0) (λ c r u. r) (coarseCells n qs) (coarse-regular n qs e t);
+      regular = all-more (Regular n 0) (IfRegular n 0) (λ c r u. r) (coarseCells n qs) (coarse-cells-regular n qs e t);
     }
 
 -- One level up.
-pub record Next (n k j : ℕ) (ks : List Corner) (es : List Pair) (cs : List (Cell Point)) (ss : List ℕ) (ks′ : List Corner) (es′ : List Pair) : Type 0 where
+pub record NextStage (n k j : ℕ) (ks : List Corner) (es : List Pair) (cs : List (Cell Point)) (ss : List ℕ) (ks′ : List Corner) (es′ : List Pair) : Type 0 where
   pub stage : Stage n (suc k) ks′ es′ (next j cs ss)
   pub kept : Kept ks ks′
-  pub cells : nextOf n es′ j (cellsIn ks cs) ss ≡ cellsIn ks′ (next j cs ss)
+  pub cells : nextOf n es′ j (numberedCells ks cs) ss ≡ numberedCells ks′ (next j cs ss)
 
 pub stage-next : (n k j : ℕ) (ks : List Corner) (es : List Pair) (cs : List (Cell Point)) (ss : List ℕ) → Stage n k ks es cs → k < 10 → Refined cs ss
-    → Next n k j ks es cs ss (cornersFrom ks cs ss) (endsFrom es (cellsIn ks cs) ss)
+    → NextStage n k j ks es cs ss (cornersFrom ks cs ss) (endsFrom es (numberedCells ks cs) ss)
 stage-next n k j ks es cs ss s h f =
     let ks′ = cornersFrom ks cs ss in
-    let es′ = endsFrom es (cellsIn ks cs) ss in
+    let es′ = endsFrom es (numberedCells ks cs) ss in
     let w = level-corners n k h ks es cs ss (s .corners) (s .placed) (s .regular) f in
     let kept = level-kept ks cs ss in
     record {
@@ -65,7 +64,7 @@ stage-next n k j ks es cs ss s h f =
     }
 
 pub stage-leaves : (n k j : ℕ) (ks : List Corner) (es : List Pair) (cs : List (Cell Point)) (ss : List ℕ) → Stage n k ks es cs → Leaves cs ss
-    → Next n k j ks es cs ss (cornersFrom ks cs ss) (endsFrom es (cellsIn ks cs) ss)
+    → NextStage n k j ks es cs ss (cornersFrom ks cs ss) (endsFrom es (numberedCells ks cs) ss)
 stage-leaves n k j ks es cs ss s l =
     let x = leaf-corners ks es cs ss l in
     let y = leaf-ends ks es cs ss l in
@@ -73,5 +72,5 @@ stage-leaves n k j ks es cs ss s l =
     record {
       stage = rw (x, y, z) (record { corners = s .corners; placed = tt; regular = tt });
       kept = level-kept ks cs ss;
-      cells = leaf-numbers n j ks (endsFrom es (cellsIn ks cs) ss) cs ss l ∙ rw z refl;
+      cells = leaf-numbers n j ks (endsFrom es (numberedCells ks cs) ss) cs ss l ∙ rw z refl;
     }

@@ -23,13 +23,13 @@ use Rattle.edges.specs.Pairs.{Pair, addPairs}
 use Rattle.rows.specs.Numbered.{endsFrom, nextOf}
 use Rattle.base.specs.Every.{All, all-of, all-more, all-append}
 use Rattle.lattice.specs.Levels.{sound-levels}
-use Rattle.numbering.specs.Corners.{Kept, kept-both, Corners, corners-start}
-use Rattle.numbering.specs.Tests.{cellsIn, Placed}
+use Rattle.numbering.specs.Corners.{Kept, kept-both, NumberedCorners, corners-start}
+use Rattle.numbering.specs.Tests.{numberedCells, Placed}
 use Rattle.numbering.specs.Refined.{Refined, closed-refined}
 use Rattle.numbering.specs.Levels.{placed-kept, cells-kept, level-kept}
 use Rattle.numbering.specs.Coarse.{coarseNumbers, coarse-numbers}
 use Rattle.numbering.specs.Leaves.{next-leaves}
-use Rattle.numbering.specs.Stages.{Stage, Next, stage-start, stage-next, stage-leaves}
+use Rattle.numbering.specs.Stages.{Stage, NextStage, stage-start, stage-next, stage-leaves}
 
 unfoldable pub numberLevels : ℕ → ℕ → ℕ → List Pair → List (Cell ℕ) → List ℕ → List (List (Cell ℕ))
 unfolding endsFrom nextOf
@@ -42,8 +42,8 @@ numberLevels n (suc m) j es (c ∷ cs) ss =
     (c ∷ cs) ∷ numberLevels n m (j + l) es′ (nextOf n es′ j (c ∷ cs) own) (drop l ss)
 
 pub record Numbers (n : ℕ) (ks : List Corner) (es : List Pair) (ls : List Level) (ns : List (List (Cell ℕ))) : Type 0 where
-  pub cells : ns ≡ map (λ l. cellsIn ks (l .cells)) ls
-  pub corners : Corners n ks es
+  pub cells : ns ≡ map (λ l. numberedCells ks (l .cells)) ls
+  pub corners : NumberedCorners n ks es
   pub placed : All (Placed ks) (cellsOf ls)
 
 -- A level and what is above it, in one list.
@@ -63,23 +63,23 @@ ends-append es (c ∷ cs) [] [] = refl
 ends-append es (c ∷ cs) (d ∷ ds) [] = refl
 ends-append es (c ∷ cs) ds (s ∷ ss) = ends-append (addPairs es (splitEdges 0 c s)) cs ds ss
 
-ends-up : (ks ks′ : List Corner) (es : List Pair) (cs ds : List (Cell Point)) (ss : List ℕ) → cellsIn ks′ cs ≡ cellsIn ks cs
-    → endsFrom es (cellsIn ks′ (cs ++ ds)) ss ≡ endsFrom (endsFrom es (cellsIn ks cs) (take (length cs) ss)) (cellsIn ks′ ds) (drop (length cs) ss)
+ends-up : (ks ks′ : List Corner) (es : List Pair) (cs ds : List (Cell Point)) (ss : List ℕ) → numberedCells ks′ cs ≡ numberedCells ks cs
+    → endsFrom es (numberedCells ks′ (cs ++ ds)) ss ≡ endsFrom (endsFrom es (numberedCells ks cs) (take (length cs) ss)) (numberedCells ks′ ds) (drop (length cs) ss)
 ends-up ks ks′ es cs ds ss e =
-    rw (map-append (mapCell (numberIn ks′)) cs ds, e) (ends-append es (cellsIn ks cs) (cellsIn ks′ ds) ss ∙ rw (length-map cs (mapCell (numberIn ks))))
+    rw (map-append (mapCell (numberIn ks′)) cs ds, e) (ends-append es (numberedCells ks cs) (numberedCells ks′ ds) ss ∙ rw (length-map cs (mapCell (numberIn ks))))
 
 abbrev Onward : ℕ → List Corner → List Pair → List ℕ → List Level → List (List (Cell ℕ)) → Type 0
 Onward n ks es ss ls ns =
     let last = cornersFrom ks (cellsOf ls) ss in
-    Numbers n last (endsFrom es (cellsIn last (cellsOf ls)) ss) ls ns
+    Numbers n last (endsFrom es (numberedCells last (cellsOf ls)) ss) ls ns
 
-onward-none : (n : ℕ) (ks : List Corner) (es : List Pair) (ss : List ℕ) (ns : List (List (Cell ℕ))) → Corners n ks es → ns ≡ [] → Onward n ks es ss [] ns
+onward-none : (n : ℕ) (ks : List Corner) (es : List Pair) (ss : List ℕ) (ns : List (List (Cell ℕ))) → NumberedCorners n ks es → ns ≡ [] → Onward n ks es ss [] ns
 unfolding cellsOf cornersFrom endsFrom
 onward-none n ks es ss ns c e = record { cells = e; corners = c; placed = tt }
 
 onward-more : (n : ℕ) (ks : List Corner) (es : List Pair) (ss : List ℕ) (l : Level) (ls : List Level) (ns ns′ : List (List (Cell ℕ)))
-    → All (Placed ks) (l .cells) → ns′ ≡ cellsIn ks (l .cells) ∷ ns
-    → Onward n (cornersFrom ks (l .cells) (take (length (l .cells)) ss)) (endsFrom es (cellsIn ks (l .cells)) (take (length (l .cells)) ss))
+    → All (Placed ks) (l .cells) → ns′ ≡ numberedCells ks (l .cells) ∷ ns
+    → Onward n (cornersFrom ks (l .cells) (take (length (l .cells)) ss)) (endsFrom es (numberedCells ks (l .cells)) (take (length (l .cells)) ss))
     (drop (length (l .cells)) ss) ls ns
     → Onward n ks es ss (l ∷ ls) ns′
 unfolding cellsOf
@@ -90,7 +90,7 @@ onward-more n ks es ss l ls ns ns′ p f w =
     let ks₁ = cornersFrom ks cs own in
     let last = cornersFrom ks₁ (cellsOf ls) rest in
     let kept : Kept ks last = kept-both ks ks₁ last (level-kept ks cs own) (level-kept ks₁ (cellsOf ls) rest) in
-    let e : cellsIn last cs ≡ cellsIn ks cs = cells-kept ks last kept cs p in
+    let e : numberedCells last cs ≡ numberedCells ks cs = cells-kept ks last kept cs p in
     rw (corners-append ks cs (cellsOf ls) ss, ends-up ks last es cs (cellsOf ls) ss e)
     (record {
       cells = f ∙ ap₂ _∷_ (sym e) (w .cells);
@@ -105,7 +105,7 @@ levels-none m j [] ss e = refl
 levels-none m j (c ∷ cs) ss e = absurd (omega arith)
 
 stage-up : (n k m j : ℕ) (ks : List Corner) (es : List Pair) (cs : List (Cell Point)) (own rest : List ℕ) → k + suc m ≡ 12 → Stage n k ks es cs → Refined cs own
-    → (i : ℕ) → k + suc (length (levels m i (next j cs own) rest)) ≤ 11 → Next n k j ks es cs own (cornersFrom ks cs own) (endsFrom es (cellsIn ks cs) own)
+    → (i : ℕ) → k + suc (length (levels m i (next j cs own) rest)) ≤ 11 → NextStage n k j ks es cs own (cornersFrom ks cs own) (endsFrom es (numberedCells ks cs) own)
 stage-up n k zero j ks es cs own rest h s f i l = absurd (omega arith)
 stage-up n k (suc m) j ks es cs own rest h s f i l =
     elim (decLt k 10) [
@@ -126,7 +126,7 @@ abbrev Claim : ℕ → ℕ → Type 0
 Claim n m =
     (k j : ℕ) (ks : List Corner) (es : List Pair) (cs : List (Cell Point)) (ss : List ℕ) → k + m ≡ 12 → Stage n k ks es cs
     → All (λ l. Refined (l .cells) (l .statuses)) (levels m j cs ss) → k + length (levels m j cs ss) ≤ 11
-    → Onward n ks es ss (levels m j cs ss) (numberLevels n m j es (cellsIn ks cs) ss)
+    → Onward n ks es ss (levels m j cs ss) (numberLevels n m j es (numberedCells ks cs) ss)
 
 claim-none : (n : ℕ) → Claim n 0
 unfolding levels numberLevels
@@ -145,11 +145,11 @@ claim-more n m i k j ks es (c ∷ cs) ss h s f l =
     let rest = drop a ss in
     let up = next j (c ∷ cs) own in
     let ks₁ = cornersFrom ks (c ∷ cs) own in
-    let es₁ = endsFrom es (cellsIn ks (c ∷ cs)) own in
-    let x : Next n k j ks es (c ∷ cs) own ks₁ es₁ = stage-up n k m j ks es (c ∷ cs) own rest h s (f .0) (j + a) l in
-    onward-more n ks es ss (record { first = j; cells = c ∷ cs; statuses = own }) (levels m (j + a) up rest) (numberLevels n m (j + a) es₁ (cellsIn ks₁ up) rest)
-    (numberLevels n (suc m) j es (cellsIn ks (c ∷ cs)) ss) (s .placed)
-    (number-levels n m j es (mapCell (numberIn ks) c) (cellsIn ks cs) (cellsIn ks₁ up) ss a (ap suc (length-map cs (mapCell (numberIn ks)))) (x .cells))
+    let es₁ = endsFrom es (numberedCells ks (c ∷ cs)) own in
+    let x : NextStage n k j ks es (c ∷ cs) own ks₁ es₁ = stage-up n k m j ks es (c ∷ cs) own rest h s (f .0) (j + a) l in
+    onward-more n ks es ss (record { first = j; cells = c ∷ cs; statuses = own }) (levels m (j + a) up rest) (numberLevels n m (j + a) es₁ (numberedCells ks₁ up) rest)
+    (numberLevels n (suc m) j es (numberedCells ks (c ∷ cs)) ss) (s .placed)
+    (number-levels n m j es (mapCell (numberIn ks) c) (numberedCells ks cs) (numberedCells ks₁ up) ss a (ap suc (length-map cs (mapCell (numberIn ks)))) (x .cells))
     (i (suc k) (j + a) ks₁ es₁ up rest (omega arith) (x .stage) (f .1) (omega arith))
 
 levels-numbers : (n m : ℕ) → Claim n m
@@ -161,7 +161,7 @@ abbrev pub tableCorners : ℕ → List (List ℕ) → List ℕ → List Corner
 tableCorners n qs ss = cornersOf n (cellsOf (levelsOf n qs ss)) ss
 
 abbrev pub tableEnds : ℕ → List (List ℕ) → List ℕ → List Pair
-tableEnds n qs ss = endsFrom [] (cellsIn (tableCorners n qs ss) (cellsOf (levelsOf n qs ss))) ss
+tableEnds n qs ss = endsFrom [] (numberedCells (tableCorners n qs ss) (cellsOf (levelsOf n qs ss))) ss
 
 module _ (n : ℕ) (qs : List (List ℕ)) (ss : List ℕ) (e : All (λ q. length q ≡ 4) qs) (t : T (cellsb n qs)) where
   pub table-numbers : T (allb closedb (levelsOf n qs ss)) → length (levelsOf n qs ss) ≤ 11

@@ -1,5 +1,5 @@
 -- Tests over corner numbers give what they give over weights, for cells whose points are all among the corners ks.
---   cellsIn ks cs   the cells cs over the numbers of their points
+--   numberedCells ks cs   the cells cs over the numbers of their points
 --   edgeIn ks e     the numbers of the ends of e
 --   Placed ks c     c has four points, each of them a corner
 --   EndsPlaced ks e   both ends of e are corners
@@ -24,8 +24,8 @@ use Rattle.base.specs.Each.{all-mapped}
 use Rattle.numbering.specs.Corners.{Has, number-below, number-injective}
 use Rattle.numbering.specs.Renamed.{mapEdge, Points, EndsIn, held-map, status-map, closed-map, red-edges-in, red-edges-map, apartOf, apart-map}
 
-abbrev pub cellsIn : List Corner → List (Cell Point) → List (Cell ℕ)
-cellsIn ks cs = map (mapCell (numberIn ks)) cs
+abbrev pub numberedCells : List Corner → List (Cell Point) → List (Cell ℕ)
+numberedCells ks cs = map (mapCell (numberIn ks)) cs
 
 abbrev pub edgeIn : List Corner → Point × Point → Pair
 edgeIn ks e = mapEdge (numberIn ks) e
@@ -57,16 +57,16 @@ module _ (ks : List Corner) where
   status-numbers = status-map [] 0 sameb eqb (numberIn ks) (Has ks) same-number
 
   module _ (cs : List (Cell Point)) (ss : List ℕ) (p : All (Placed ks) cs) where
-    pub red-edges-numbers : redEdges 0 (cellsIn ks cs) ss ≡ map (edgeIn ks) (redEdges [] cs ss)
+    pub red-edges-numbers : redEdges 0 (numberedCells ks cs) ss ≡ map (edgeIn ks) (redEdges [] cs ss)
     red-edges-numbers = red-edges-map [] 0 (numberIn ks) (Has ks) cs ss p
 
     pub red-status-numbers : (r : Bool) (c : Cell Point) → Placed ks c
-        → statusOf 0 eqb (redEdges 0 (cellsIn ks cs) ss) r (mapCell (numberIn ks) c) ≡ statusOf [] sameb (redEdges [] cs ss) r c
+        → statusOf 0 eqb (redEdges 0 (numberedCells ks cs) ss) r (mapCell (numberIn ks) c) ≡ statusOf [] sameb (redEdges [] cs ss) r c
     red-status-numbers r c q = rw red-edges-numbers (status-numbers (redEdges [] cs ss) r c (red-edges-in [] 0 (numberIn ks) (Has ks) cs ss p) q)
 
-    pub closed-numbers : closedFrom 0 eqb (redEdges 0 (cellsIn ks cs) ss) (cellsIn ks cs) ss ≡ closedFrom [] sameb (redEdges [] cs ss) cs ss
+    pub closed-numbers : closedFrom 0 eqb (redEdges 0 (numberedCells ks cs) ss) (numberedCells ks cs) ss ≡ closedFrom [] sameb (redEdges [] cs ss) cs ss
     closed-numbers = rw red-edges-numbers (closed-map [] 0 sameb eqb (numberIn ks) (Has ks) same-number (redEdges [] cs ss) cs ss (red-edges-in [] 0 (numberIn ks) (Has ks) cs ss p) p)
 
-    pub apart-numbers : apartOf 0 eqb (cellsIn ks cs) ss ≡ apartb cs ss
+    pub apart-numbers : apartOf 0 eqb (numberedCells ks cs) ss ≡ apartb cs ss
     unfolding apartOf apartb
     apart-numbers = apart-map [] 0 sameb eqb (numberIn ks) (Has ks) same-number cs ss p

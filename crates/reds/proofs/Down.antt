@@ -23,7 +23,7 @@ use Rattle.base.specs.Every.{All}
 use Rattle.base.specs.Each.{map-same}
 use Rattle.numbering.specs.Corners.{Has}
 use Rattle.numbering.specs.Renamed.{red-edges-in}
-use Rattle.numbering.specs.Tests.{cellsIn, edgeIn, EndsPlaced, red-edges-numbers}
+use Rattle.numbering.specs.Tests.{numberedCells, edgeIn, EndsPlaced, red-edges-numbers}
 use Rattle.tables.proofs.Cells.{red-strip}
 use Rattle.lineage.specs.Olds.{flagOf, flagsOf, flags, firstChild}
 use Rattle.reds.specs.Flags.{range, kidsOf, redAtb, flagsAt, redsUp, flagsUp}
@@ -151,7 +151,7 @@ module _ (ks : List Corner) (cs : List (Cell Point)) (t : List ℕ) (s : Seen ks
       reds-numbers =
           let z : last - first ≡ length ds = omega arith in
           sym (red-edges-numbers ks ds (flagsOf above ms (rowsFrom first ds own ms)) (placed-range ks cs t s first ds (cellsOf above) b))
-          ∙ sym (red-strip (cellsIn ks ds) (flagsOf above ms (rowsFrom first ds own ms)))
+          ∙ sym (red-strip (numberedCells ks ds) (flagsOf above ms (rowsFrom first ds own ms)))
           ∙ ap₂ (λ (c : List (Cell ℕ)) (l : List ℕ). redEdges 0 c l) (sym (cells-range ks cs t s first ds (cellsOf above) b) ∙ ap (cellsAt t first) (sym z)) level-flags
 
       module _ (ls : List Level) (l : ls ≡ record { first = first; cells = ds; statuses = own } ∷ above) where

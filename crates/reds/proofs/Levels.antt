@@ -19,7 +19,7 @@ use Rattle.mesh.specs.Layout.{Corner, numberIn, mapCell}
 use Rattle.mesh.specs.Step.{Row, rowsFrom, kids}
 use Rattle.rows.specs.Numbered.{cellsAt}
 use Rattle.base.specs.Every.{All}
-use Rattle.numbering.specs.Tests.{cellsIn, Placed}
+use Rattle.numbering.specs.Tests.{numberedCells, Placed}
 use Rattle.rows.specs.Many.{next-size}
 use Rattle.tables.proofs.Cells.{strip}
 use Rattle.lineage.specs.Olds.{firstChild}
@@ -67,7 +67,7 @@ module _ (ks : List Corner) (cs : List (Cell Point)) (t : List ℕ) (s : Seen ks
   placed-range k [] es b = tt
   placed-range k (d ∷ ds) es b = (rw (stands-first cs k d ds es b) at (s .placed k (stands-in cs k d ds es b)), placed-range (suc k) ds es (stands-rest cs k d ds es b))
 
-  pub cells-range : (k : ℕ) (ds es : List (Cell Point)) → Stands cs k ds es → cellsAt t k (length ds) ≡ map strip (cellsIn ks ds)
+  pub cells-range : (k : ℕ) (ds es : List (Cell Point)) → Stands cs k ds es → cellsAt t k (length ds) ≡ map strip (numberedCells ks ds)
   unfolding cellsAt
   cells-range k [] es b = refl
   cells-range k (d ∷ ds) es b =

@@ -20,10 +20,10 @@ use Rattle.mesh.specs.Table.{levelsOf, cellsOf, closedb, apartb, soundb}
 use Rattle.mesh.specs.Layout.{Corner, numberIn, mapCell, rowOf}
 use Rattle.base.specs.Every.{All, all-at, getD-map}
 use Rattle.lattice.specs.Levels.{fours-four}
-use Rattle.numbering.specs.Tests.{cellsIn, Placed}
+use Rattle.numbering.specs.Tests.{numberedCells, Placed}
 use Rattle.numbering.specs.Tables.{sound-numbers}
 use Rattle.counting.specs.Levels.{nextEnd, levelNumber, levelEnd, number-more, end-more, end-none, next-after}
-use Rattle.counting.proofs.Sound.{sound-levels}
+use Rattle.counting.specs.Sound.{sound-counted}
 use Rattle.tables.specs.Sound.{tableCells, tableCorners}
 use Rattle.tables.proofs.Cells.{strip, cell-at}
 use Rattle.tables.proofs.Onward.{four-in, length-in}
@@ -57,7 +57,7 @@ whole-from m ss (suc h) first last u e k =
 
 pub count-whole : (n : ℕ) (qs : List (List ℕ)) (ss : List ℕ) → soundb n qs ss ≡ true → firstChild (length qs) ss (length ss) ≡ length ss
 count-whole n qs ss t =
-    let l = sound-levels n qs ss t in
+    let l = sound-counted n qs ss t in
     rw (l .whole) at (whole-from (length qs) ss 12 0 (length qs) (omega arith) (sym (first-start (length qs) ss)) (omega (arith, l .few)))
 
 -- a flag for each cell of the levels
@@ -115,10 +115,10 @@ module _ (n : ℕ) (mesh rows ss ms firsts red : List ℕ) (g : Marked n mesh ro
   placed : All (Placed ks) cs
   placed = sound-numbers n qs ss (fours-four mesh) (g .accepted .cells) (g .sound) .placed
 
-  four : All Four (cellsIn ks cs)
+  four : All Four (numberedCells ks cs)
   four = four-in ks cs placed
 
-  table : take (8 * length (cellsIn ks cs)) rows ≡ flatMap rowOf (cellsIn ks cs)
+  table : take (8 * length (numberedCells ks cs)) rows ≡ flatMap rowOf (numberedCells ks cs)
   table = rw (length-in ks cs) (g .table ∙ sym (rows-in ks cs))
 
   seen : Seen ks cs rows
@@ -126,7 +126,7 @@ module _ (n : ℕ) (mesh rows ss ms firsts red : List ℕ) (g : Marked n mesh ro
       record {
         placed = all-at (Placed ks) noCell cs placed;
         cells = λ j h.
-            cell-at rows (cellsIn ks cs) four table j (rw (length-in ks cs) h)
+            cell-at rows (numberedCells ks cs) four table j (rw (length-in ks cs) h)
             ∙ ap strip (getD-map (mapCell (numberIn ks)) cs j noCell _ h);
       }
 
@@ -139,14 +139,14 @@ module _ (n : ℕ) (mesh rows ss ms firsts red : List ℕ) (g : Marked n mesh ro
         arith,
         count,
         length-in ks cs,
-        length-take (8 * length (cellsIn ks cs)) rows,
-        ap length table ∙ rows-size (cellsIn ks cs) four,
+        length-take (8 * length (numberedCells ks cs)) rows,
+        ap length table ∙ rows-size (numberedCells ks cs) four,
       )
 
   pub marked-old : Old rows ss ms firsts
   marked-old =
       record {
-        few = sound-levels n qs ss sound .small;
+        few = sound-counted n qs ss sound .small;
         rows = rows-inside;
         marks = g .marks;
         size = length-firsts (length qs) ss firsts (g .firsts);
@@ -176,7 +176,7 @@ module _ (n : ℕ) (mesh rows ss ms firsts red : List ℕ) (g : Marked n mesh ro
       ∙ omega (
         arith,
         flags-end (length qs) rows ss ms firsts firsts-are 12 0 (getD firsts 0 0) (omega arith) marked-start (firsts-are .at 0 (omega arith)),
-        ap (λ (x : ℕ). levelEnd 12 0 x ss) e ∙ sound-levels n qs ss sound .whole,
+        ap (λ (x : ℕ). levelEnd 12 0 x ss) e ∙ sound-counted n qs ss sound .whole,
       )
 
   pub marked-result : (red′ : List ℕ)

@@ -17,8 +17,8 @@ use Rattle.edges.specs.Pairs.{Pair, isb, same-pair, addPairs, pairsOf}
 use Rattle.edges.specs.Table.{Grown, listed}
 use Rattle.rows.specs.Numbered.{cellsAt, part}
 use Rattle.closure.specs.Ready.{Ready, Range, redCount}
-use Rattle.closure.proofs.Closed.{lists-added, held-listed}
-use Rattle.closure.proofs.Steps.{length-reds}
+use Rattle.closure.specs.Closed.{lists-added, held-listed}
+use Rattle.closure.specs.Steps.{length-reds}
 use Rattle.reds.specs.Flags.{listedb, flagsAt, redsUp, flagsUp}
 use Rattle.reds.specs.Old.{Old, Span, OneLevel, Above}
 use Rattle.reds.proofs.Writes.{length-flags, flags-both}

@@ -16,7 +16,7 @@ use Rattle.mesh.specs.Table.{soundb}
 use Rattle.mesh.specs.Layout.{cellTable}
 use Rattle.pairs.specs.Keys.{Keys}
 use Rattle.edges.specs.Table.{Table, listed}
-use Rattle.closure.proofs.Closed.{Lists}
+use Rattle.closure.specs.Closed.{Lists}
 use Rattle.tables.specs.Sound.{Mesh, tableCells, tableCorners}
 use Rattle.reds.specs.Flags.{firstChildren, redsUp, flagsUp}
 

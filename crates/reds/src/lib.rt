@@ -24,7 +24,7 @@ pub fn first_children(status: &[u8], coarse: usize, kids: &mut [u16])
     let mut c = 0;
     while c < status.len() {
         kids[c] = at as u16;
-        at += sizes::size_of(status[c]);
+        at += rows::size_of(status[c]);
         c += 1;
     }
     kids[c] = at as u16;

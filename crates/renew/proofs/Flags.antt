@@ -10,11 +10,11 @@ use Rattle.base.specs.Bools.{one-if}
 use Rattle.mesh.specs.Cells.{redb}
 use Rattle.rows.specs.Numbered.{part}
 use Rattle.closure.specs.Ready.{redCount, count-one}
-use Rattle.closure.proofs.Steps.{count-append}
+use Rattle.closure.specs.Steps.{count-append}
 use Rattle.rows.specs.Laws.{length-part}
 use Rattle.growth.specs.Written.{written, written-none, length-written}
 use Rattle.lineage.specs.Olds.{flagOf, redsBy}
-use Rattle.lineage.specs.Levels.{length-reds}
+use Rattle.lineage.specs.Levels.{length-redsBy}
 use Rattle.renew.specs.Levels.{Flagged}
 use Rattle.renew.proofs.Writing.{set-written, part-next}
 
@@ -46,7 +46,7 @@ module _ (fs old : List ℕ) (first last : ℕ) (table₀ : List ℕ) where
         let up : first ≤ c = r .above in
         let e : redsBy fs (part old first (c + 1 - first)) ≡ redsBy fs os ++ (f ∷ []) =
         ap (redsBy fs) (part-next old first c up (omega arith)) ∙ flags-snoc fs os (getD old c 0) ∙ rw ef in
-        let k : length (redsBy fs os) ≡ c - first = length-reds fs os ∙ length-part old first (c - first) (omega arith) in
+        let k : length (redsBy fs os) ≡ c - first = length-redsBy fs os ∙ length-part old first (c - first) (omega arith) in
         let w : first + length (redsBy fs os) ≡ c = omega arith in
         let l : length (written table₀ first (redsBy fs os)) ≡ length table₀ = length-written table₀ first (redsBy fs os) (omega arith) in
         record {

@@ -9,13 +9,13 @@ use lib.ListN.{length}
 use Rattle.mesh.specs.Cells.{redEdges}
 use Rattle.edges.specs.Pairs.{addPairs, pairsOf}
 use Rattle.edges.specs.Table.{Space, Grown, listed}
-use Rattle.edges.proofs.Seek.{none-listed}
+use Rattle.edges.specs.Seek.{none-listed}
 use Rattle.rows.specs.Numbered.{cellsAt, part}
 use Rattle.mesh.specs.Table.{sizes}
 use Rattle.closure.specs.Ready.{redCount, Ready, Looks}
 use Rattle.rows.specs.Laws.{length-part, length-cells}
 use Rattle.growth.specs.Written.{written}
-use Rattle.lineage.specs.Levels.{length-reds}
+use Rattle.lineage.specs.Levels.{length-redsBy}
 use Rattle.tables.specs.Checked.{Reds}
 use Rattle.renew.specs.Levels.{listedBy, ownFlags, ownCells, ownReds, ownStatuses, Flagged, Closed, Made}
 use Rattle.renew.proofs.Writing.{part-written, written-over}
@@ -28,7 +28,7 @@ module _ (fs old rows : List ℕ) (first last : ℕ) (table xs ys heads links : 
   rs = ownFlags fs old rows first last
 
   long : length rs ≡ last - first
-  long = length-reds fs (part old first (last - first)) ∙ length-part old first (last - first) (omega arith)
+  long = length-redsBy fs (part old first (last - first)) ∙ length-part old first (last - first) (omega arith)
 
   flags-are : part table₁ first (last - first) ≡ rs
   flags-are = rw (f .written-is) (part-written table first rs (last - first) long (omega arith))

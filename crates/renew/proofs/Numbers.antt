@@ -15,7 +15,7 @@ use Rattle.base.specs.Bools.{and-left, and-right}
 use Rattle.mesh.specs.Cells.{redb}
 use Rattle.rows.specs.Numbered.{part}
 use Rattle.mesh.specs.Table.{sizeOf, sizes}
-use Rattle.sizes.proofs.Sums.{size-leaf, size-red, size-green, green-few, sizes-step}
+use Rattle.rows.specs.Sizes.{size-leaf, size-red, size-green, green-few, sizes-step}
 use Rattle.rows.specs.Laws.{length-part}
 use Rattle.growth.specs.Parts.{sizes-take}
 use Rattle.growth.specs.Written.{written, written-none, written-more, length-written, getD-written}

@@ -12,10 +12,10 @@ use Rattle.mesh.specs.Weights.{Point}
 use Rattle.mesh.specs.Layout.{Corner, mapCell, numberIn}
 use Rattle.edges.specs.Pairs.{Pair, addPairs}
 use Rattle.base.specs.Every.{All}
-use Rattle.numbering.specs.Tests.{cellsIn, edgeIn, Placed, red-edges-numbers, red-status-numbers}
+use Rattle.numbering.specs.Tests.{numberedCells, edgeIn, Placed, red-edges-numbers, red-status-numbers}
 use Rattle.closure.specs.Ready.{redCount}
-use Rattle.closure.proofs.Steps.{length-reds}
-use Rattle.closure.proofs.Closed.{lists-added, status-listed}
+use Rattle.closure.specs.Steps.{length-reds}
+use Rattle.closure.specs.Closed.{lists-added, status-listed}
 use Rattle.lineage.specs.Olds.{redsBy, closedBy, statusesBy}
 use Rattle.lineage.specs.Levels.{length-statuses}
 use Rattle.lineage.specs.Levels as same
@@ -30,9 +30,9 @@ status-strip es r c = refl
 -- the statuses over numbers
 module _ (ks : List Corner) (ds : List (Cell Point)) (rs : List ℕ) (pd : All (Placed ks) ds) where
   abbrev reds : List Pair
-  reds = redEdges 0 (cellsIn ks ds) rs
+  reds = redEdges 0 (numberedCells ks ds) rs
 
-  listed-are : (cs : List (Cell Point)) (ss : List ℕ) → All (Placed ks) cs → listedBy (addPairs [] reds) (map strip (cellsIn ks cs)) ss ≡ closedBy (redEdges [] ds rs) cs ss
+  listed-are : (cs : List (Cell Point)) (ss : List ℕ) → All (Placed ks) cs → listedBy (addPairs [] reds) (map strip (numberedCells ks cs)) ss ≡ closedBy (redEdges [] ds rs) cs ss
   unfolding listedBy closedBy
   listed-are [] ss p = refl
   listed-are (c ∷ cs) [] p = refl
@@ -44,21 +44,21 @@ module _ (ks : List Corner) (ds : List (Cell Point)) (rs : List ℕ) (pd : All (
 
 module _ (ks : List Corner) (cs : List (Cell Point)) (p : All (Placed ks) cs) (fs os : List ℕ) where
   abbrev zs : List (Cell ℕ)
-  zs = map strip (cellsIn ks cs)
+  zs = map strip (numberedCells ks cs)
 
   pub statuses-are : listedBy (addPairs [] (redEdges 0 zs (redsBy fs os))) zs (redsBy fs os) ≡ statusesBy fs cs os
   unfolding statusesBy
-  statuses-are = rw (red-strip (cellsIn ks cs) (redsBy fs os)) (listed-are ks cs (redsBy fs os) p cs (redsBy fs os) p)
+  statuses-are = rw (red-strip (numberedCells ks cs) (redsBy fs os)) (listed-are ks cs (redsBy fs os) p cs (redsBy fs os) p)
 
   module _ (small : length fs ≤ 65535) (w : Owned cs os) where
     pub reds-are : redEdges 0 zs (redsBy fs os) ≡ redEdges 0 zs (statusesBy fs cs os)
     reds-are =
-        red-strip (cellsIn ks cs) (redsBy fs os) ∙ red-edges-numbers ks cs (redsBy fs os) p ∙ ap (map (edgeIn ks)) (sym (reds-same fs small cs os w))
-        ∙ sym (red-strip (cellsIn ks cs) (statusesBy fs cs os) ∙ red-edges-numbers ks cs (statusesBy fs cs os) p)
+        red-strip (numberedCells ks cs) (redsBy fs os) ∙ red-edges-numbers ks cs (redsBy fs os) p ∙ ap (map (edgeIn ks)) (sym (reds-same fs small cs os w))
+        ∙ sym (red-strip (numberedCells ks cs) (statusesBy fs cs os) ∙ red-edges-numbers ks cs (statusesBy fs cs os) p)
 
     pub counts-are : redCount (redsBy fs os) ≡ redCount (statusesBy fs cs os)
     counts-are =
-        let l : length zs ≡ length cs = length-map (cellsIn ks cs) strip ∙ length-map cs (mapCell (numberIn ks)) in
+        let l : length zs ≡ length cs = length-map (numberedCells ks cs) strip ∙ length-map cs (mapCell (numberIn ks)) in
         omega (
           arith,
           ap length reds-are,

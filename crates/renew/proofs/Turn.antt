@@ -14,7 +14,7 @@ use Rattle.mesh.specs.Cells.{Cell, redEdges, closedFrom}
 use Rattle.mesh.specs.Weights.{Point, coarseCells}
 use Rattle.mesh.specs.Table.{next, sizes}
 use Rattle.rows.specs.Numbered.{cellsAt, part}
-use Rattle.numbering.specs.Tests.{cellsIn}
+use Rattle.numbering.specs.Tests.{numberedCells}
 use Rattle.closure.specs.Ready.{redCount}
 use Rattle.lineage.specs.Olds.{growBy, statusesBy, oldsNext, upTo}
 use Rattle.lineage.specs.Closed.{Owned, owned-start, owned-next, closed-by}
@@ -109,7 +109,7 @@ module _ (n : ℕ) (qs : List (List ℕ)) (ss fs : List ℕ) (j first last : ℕ
   inside = simp length-take (omega (arith, total, g .here .few))
 
   -- over numbers
-  rows-are : cellsAt rows first (last - first) ≡ map strip (cellsIn (g .here .corners) cells)
+  rows-are : cellsAt rows first (last - first) ≡ map strip (numberedCells (g .here .corners) cells)
   rows-are = cells-are n qs (roomy all) j first last rows xs ys heads links k ps ps′ heads′ links′ m (g .here)
 
   pub made-statuses : ownStatuses fs old rows first last ≡ own

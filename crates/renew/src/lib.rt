@@ -76,7 +76,7 @@ fn close_level(
     let mut c = first;
     while c < last {
         let s = closure::status_of(rows, c, table[c] == 64, xs, ys, heads, links, from, n);
-        size += sizes::size_of(s);
+        size += rows::size_of(s);
         table[c] = s;
         c += 1;
     }
@@ -149,7 +149,7 @@ fn old_family(
     requires { ⌜ (t ≤ 64) × (at + sizeOf t ≤ length (now old)) ⌝ }
     ensures { λ r. ⌜ (r ≡ at + sizeOf t) × (is old ≡ written (was old) at (oldsOf coarse (was status) t o)) ⌝ }
 {
-    let size = sizes::size_of(t);
+    let size = rows::size_of(t);
     let mut i = 0;
     while i < size {
         old[at + i] = old_child(status, kids, coarse, t, o, i);

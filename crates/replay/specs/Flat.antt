@@ -12,14 +12,14 @@ use Rattle.base.specs.Fours.{fours}
 use Rattle.base.specs.Refuse.{refuse, andThen}
 use Rattle.mesh.specs.Coarse.{cornerCount, meshAnswer}
 use Rattle.archive.specs.Job.{Job}
-use Rattle.archive.specs.Tables.{Mark, cellOf, markOf, markedOf, marksOf, endsFrom, endsOf, pairs, pairs-back, steps-back}
+use Rattle.archive.specs.Tables.{Mark, cellOf, markOf, markedOf, marksOf, endsAfter, endsOf, pairs, pairs-back, steps-back}
 use Rattle.replay.specs.Run.{oneAnswer, oneTable, runAnswer, runTable, restTable, jobAnswer, jobTable, flatAnswer, tablesAnswer}
 use Rattle.replay.specs.Going.{endTable}
 
 -- what stands behind the first p marks is s, so the steps from there are those of s
 module _ (n : ℕ) (qs : List (List ℕ)) (all : List Mark) where
-  flat-run : (t : List ℕ) (p : ℕ) (s : List (List Mark)) → p ≤ length all → drop p all ≡ flatten s → flatAnswer n qs t p all (endsFrom p s) ≡ runAnswer n qs t s
-  unfolding flatAnswer runAnswer endsFrom flatten refuse
+  flat-run : (t : List ℕ) (p : ℕ) (s : List (List Mark)) → p ≤ length all → drop p all ≡ flatten s → flatAnswer n qs t p all (endsAfter p s) ≡ runAnswer n qs t s
+  unfolding flatAnswer runAnswer endsAfter flatten refuse
   flat-run t p [] l h =
       let d : length all - p ≡ 0 = sym (length-drop p all) ∙ ap length h in
       rw (eq-eqb p (length all) (omega arith))

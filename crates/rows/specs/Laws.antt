@@ -4,10 +4,10 @@ use mathlib.Core.List.{List, [], _∷_, _++_, flatMap}
 use Prim.Native.Nat.{ℕ, zero, suc, _+_, _≤_, _<_, _-_, _*_}
 use native.Mathlib.Nat.{add-zero}
 use native.Mathlib.Omega.{arith}
-use Rattle.mesh.specs.Cells.{Cell, Four}
+use Rattle.mesh.specs.Cells.{Cell, Four, noCell}
 use Rattle.rows.specs.Numbered.{cellAt, cellsAt, part}
-use lib.ListN.{length, getD, drop, length-append, length-take, length-drop}
-use lib.Seq.{take-suc, getD-drop}
+use lib.ListN.{length, getD, drop, length-append, length-take, length-drop, List·getD-append}
+use lib.Seq.{take-suc, getD-drop, getD-append-add}
 use Rattle.mesh.specs.Layout.{rowOf}
 use Rattle.base.specs.Every.{All}
 
@@ -39,3 +39,14 @@ unfolding flatMap
 rows-size [] q = refl
 rows-size (c ∷ cs) q =
     omega (arith, length-append (rowOf c) (flatMap rowOf cs), row-size c (q .0), rows-size cs (q .1))
+
+pub row-at : (cs : List (Cell ℕ)) → All Four cs → (k i : ℕ) → k < length cs → i < 8
+    → getD (flatMap rowOf cs) (8 * k + i) 0 ≡ getD (rowOf (getD cs k noCell)) i 0
+unfolding flatMap
+row-at [] q k i h g = absurd (omega arith)
+row-at (c ∷ cs) q zero i h g =
+    let e : 8 * 0 + i ≡ i = omega arith in
+    rw e (List·getD-append (rowOf c) (flatMap rowOf cs) 0 i (omega (arith, row-size c (q .0))))
+row-at (c ∷ cs) q (suc k) i h g =
+    let e : 8 * suc k + i ≡ length (rowOf c) + (8 * k + i) = omega (arith, row-size c (q .0)) in
+    rw e (getD-append-add (rowOf c) (flatMap rowOf cs) (8 * k + i) 0 ∙ row-at cs (q .1) k i (omega arith) g)

@@ -6,7 +6,7 @@
 --   endsFrom es cs ss    the ends of the corners, with those that the cells cs with statuses ss add
 --   pointAt n es c d     the number of the point d of c
 --   nextOf n es k cs ss  the cells one level up of cs, numbered from k, with statuses ss
---   rowsFrom l k r f i ds  the rows of children on level l of the cell k, from child number i on
+--   childRows l k r f i ds  the rows of children on level l of the cell k, from child number i on
 --   rowsOf l k s f       the rows of the whole family, where f gives the point of a digit
 --   sizeOf s             how many children a cell with status s has; sizes ss, of a list
 use mathlib.Core.Bool.{Bool, true, false}
@@ -58,11 +58,11 @@ nextOf n es k [] ss = []
 nextOf n es k (c ∷ cs) [] = []
 nextOf n es k (c ∷ cs) (s ∷ ss) = children k c s (pointAt n es c) ++ nextOf n es (suc k) cs ss
 
-unfoldable pub rowsFrom : ℕ → ℕ → Bool → (ℕ → ℕ) → ℕ → List (List ℕ) → List ℕ
+unfoldable pub childRows : ℕ → ℕ → Bool → (ℕ → ℕ) → ℕ → List (List ℕ) → List ℕ
 unfolding one-if
-rowsFrom l k r f i [] = []
-rowsFrom l k r f i (d ∷ ds) = (l ∷ k ∷ i ∷ one-if r ∷ map f d) ++ rowsFrom l k r f (suc i) ds
+childRows l k r f i [] = []
+childRows l k r f i (d ∷ ds) = (l ∷ k ∷ i ∷ one-if r ∷ map f d) ++ childRows l k r f (suc i) ds
 
 unfoldable pub rowsOf : ℕ → ℕ → ℕ → (ℕ → ℕ) → List ℕ
-unfolding rowsFrom patternOf
-rowsOf l k s f = elim (eqb s 0) [ true ↦ [] | false ↦ rowsFrom l k (redb s) f 0 (family (patternOf s)) ]
+unfolding childRows patternOf
+rowsOf l k s f = elim (eqb s 0) [ true ↦ [] | false ↦ childRows l k (redb s) f 0 (family (patternOf s)) ]

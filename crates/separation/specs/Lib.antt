@@ -1,1 +1,2 @@
 pub mod Parents
+pub mod Scan

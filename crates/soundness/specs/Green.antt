@@ -32,7 +32,7 @@ use Rattle.soundness.specs.Turn.{turns}
 use Rattle.soundness.specs.Sound.{Sound, lv, level-closed, level-next, level-there}
 use Rattle.soundness.specs.Whole.{RedAt}
 use Rattle.soundness.specs.Clash.{no-share}
-use Rattle.soundness.specs.Meets.{Meets, point-same, edge-same, edges-same}
+use Rattle.soundness.specs.Meets.{Meets, point-same, edge-same, edges-alike}
 
 module _ (n : ℕ) (qs : List (List ℕ)) (ss ms ts : List ℕ) (old : Sound n qs ss) (regular : (i : ℕ) → All (IfRegular n i) (lv n qs ss i .cells)) where
   -- a cell that was there: it would be red
@@ -47,7 +47,7 @@ module _ (n : ℕ) (qs : List (List ℕ)) (ss ms ts : List ℕ) (old : Sound n q
       let x' : T (joinsb sameb (point c d, point c e) (edge [] q y)) =
       rw (point-same c g (w .is .points) d, point-same c g (w .is .points) e, edge-same q r (v .is .points) y) x in
       let own' : heldb sameb (edges [] c) (point c d, point c e) ≡ false =
-      rw (point-same c g (w .is .points) d, point-same c g (w .is .points) e, edges-same c g (w .is .points)) own in
+      rw (point-same c g (w .is .points) d, point-same c g (w .is .points) e, edges-alike c g (w .is .points)) own in
       let a : newRedAt ms (up ∷ drop (suc (suc j)) (levelsOf n qs ss)) l (w .t) ≡ true =
       turns n j h l up (level-next n qs ss j (omega arith)) (level-closed n qs ss (old .closed) j) (regular j) (level-closed n qs ss (old .closed) (suc j)) ms
       (drop (suc (suc j)) (levelsOf n qs ss)) (w .t) (w .is .below) (w .is .regular) (v .t) (v .is .below) (v .is .regular) (sym (v .red)) y hy d e hd he ne x' own' in

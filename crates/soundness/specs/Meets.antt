@@ -1,6 +1,6 @@
 -- New cells and old ones, for any list of new levels that is the step's.
 --   Meets n qs ss ms ls   the laws of crate `same` on the new levels ls
--- Laws: meets-step (the step's table), point-same, edge-same, edges-same (cells with the same points).
+-- Laws: meets-step (the step's table), point-same, edge-same, edges-alike (cells with the same points).
 use mathlib.Core.Path.{_≡_, refl, sym, ap, subst}
 use mathlib.Core.Logic.{_⊎_}
 use mathlib.Core.Bool.{false}
@@ -40,6 +40,6 @@ module _ (c g : Cell Point) (e : c .points ≡ g .points) where
   unfolding edge
   edge-same y = rw e refl
 
-  pub edges-same : edges [] c ≡ edges [] g
+  pub edges-alike : edges [] c ≡ edges [] g
   unfolding edges
-  edges-same = rw e refl
+  edges-alike = rw e refl

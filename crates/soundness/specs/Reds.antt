@@ -16,7 +16,7 @@ use Rattle.mesh.specs.Cells.{Cell, redb, edge, edges, heldb, noCell}
 use Rattle.mesh.specs.Weights.{Point}
 use Rattle.mesh.specs.Table.{Level}
 use Rattle.mesh.specs.Step.{Row, rows, kids, deletedb, turnedb, newRedb, rowsUp, edgesUp, newReds, redAfterb}
-use Rattle.lineage.specs.Same.{rowOf}
+use Rattle.lineage.specs.Same.{rowIn}
 use Rattle.lineage.specs.Flags.{noRow, newRedAt, length-rows, rows-at, any-chosen}
 use Rattle.base.specs.Every.{any-at}
 use Rattle.carriers.specs.Lists.{edge-at, edge-count}
@@ -40,7 +40,7 @@ pub held-up : (ms : List ℕ) (ls : List Level) (l : Level) → length (l .statu
     → (e : Edge) → T (heldb sameb (edges [] (getD (l .cells) u noCell)) e) → T (heldb sameb (edgesUp (newReds (l ∷ ls) ms)) e)
 unfolding edgesUp newReds
 held-up ms ls l k u h q e t =
-    let x : getD (rows l ms) u noRow ≡ rowOf l ms u = rows-at l ms k u h in
+    let x : getD (rows l ms) u noRow ≡ rowIn l ms u = rows-at l ms k u h in
     held-chosen (newRedb (rowsUp ls ms) (edgesUp (newReds ls ms))) e (rows l ms) u (omega (arith, length-rows l ms k))
     (ap (newRedb (rowsUp ls ms) (edgesUp (newReds ls ms))) x ∙ q) (rw x t)
 
@@ -69,7 +69,7 @@ module _ (l : Level) (ms : List ℕ) (known : length (l .statuses) ≡ length (l
   abbrev mine : Row → Bool
   mine s = eqb (s .cell .parent) (r .number)
 
-  at : getD (rows l ms) u noRow ≡ rowOf l ms u
+  at : getD (rows l ms) u noRow ≡ rowIn l ms u
   at = rows-at l ms known u below
 
   long : u < length (rows l ms)

@@ -18,7 +18,7 @@ use Rattle.mesh.specs.Table.{Level, next, closedb}
 use Rattle.mesh.specs.Step.{rowsUp, edgesUp, newReds}
 use Rattle.base.specs.Every.{All}
 use Rattle.lattice.specs.Levels.{IfRegular}
-use Rattle.lineage.specs.Same.{rowOf}
+use Rattle.lineage.specs.Same.{rowIn}
 use Rattle.lineage.specs.Flags.{newRedAt}
 use Rattle.carriers.specs.Lists.{held-at}
 use Rattle.carriers.specs.Joins.{Edge, joins-sym, joins-trans, held-joined}
@@ -95,5 +95,5 @@ module _ (n k : ℕ) (h : k < 10) (l up : Level) (next-up : up .cells ≡ next (
         let known = closed-length up closed-up in
         let held : T (heldb sameb (edgesUp (newReds (up ∷ ls) ms)) o) =
         held-up ms ls up known u hu new o (held-at [] r sameb o y hy (joins-trans o f (edge [] r y) (joins-sym f o (w .joins)) x)) in
-        new-red-by up ms known (edgesUp (newReds (up ∷ ls) ms)) (rowOf l ms t) (w .child .u) (w .child .below) (child-parent l up t (w .i) (w .child)) (w .y) (w .below) held
+        new-red-by up ms known (edgesUp (newReds (up ∷ ls) ms)) (rowIn l ms t) (w .child .u) (w .child .below) (child-parent l up t (w .i) (w .child)) (w .y) (w .below) held
         (w .refined) (held-not (edges [] g) f o (w .joins) own)

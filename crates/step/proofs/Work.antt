@@ -19,8 +19,8 @@ use Rattle.mesh.specs.Table.{levelsOf, cellsOf, closedb, apartb, soundb}
 use Rattle.mesh.specs.Step.{stepTable}
 use Rattle.lattice.specs.Levels as lattice
 use Rattle.counting.specs.Levels.{Levels}
-use Rattle.counting.proofs.Sound as counting
-use Rattle.ancestors.proofs.Table.{table-level}
+use Rattle.counting.specs.Sound as counting
+use Rattle.ancestors.specs.Table.{table-level}
 use Rattle.lineage.specs.Olds.{flagTable, stepBy}
 use Rattle.lineage.specs.Step.{step-by}
 use Rattle.lineage.specs.Deep.{deep}

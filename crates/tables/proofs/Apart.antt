@@ -16,7 +16,7 @@ use Rattle.rows.specs.Numbered.{cellAt}
 use Rattle.base.specs.Every.{All}
 use Rattle.numbering.specs.Renamed.{apartOf}
 use Rattle.closure.specs.Ready.{listedApart}
-use Rattle.closure.proofs.Closed.{Lists, held-listed}
+use Rattle.closure.specs.Closed.{Lists, held-listed}
 use Rattle.separation.specs.Parents.{Parents, apartAll}
 use Rattle.tables.specs.Here.{Child}
 use Rattle.tables.proofs.Cells.{strip, cell-at, cells-at}

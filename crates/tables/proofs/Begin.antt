@@ -13,7 +13,7 @@ use Rattle.mesh.specs.Weights.{coarseCells}
 use Rattle.mesh.specs.Table.{cellsOf}
 use Rattle.mesh.specs.Layout.{coarseCorners, cornersFrom, rowOf, childNumber}
 use Rattle.edges.specs.Pairs.{pairsOf}
-use Rattle.edges.proofs.Seek.{none-listed}
+use Rattle.edges.specs.Seek.{none-listed}
 use Rattle.lattice.specs.Levels.{fours-four}
 use Rattle.numbering.specs.Corners.{corners-start}
 use Rattle.numbering.specs.Coarse.{coarseNumbersFrom, coarseNumbers, coarse-numbers}

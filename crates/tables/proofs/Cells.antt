@@ -7,7 +7,7 @@ use Prim.Native.Nat.{ℕ, zero, suc, _+_, _*_, _-_, _<_}
 use native.Mathlib.Nat.{add-zero}
 use native.Mathlib.Omega.{arith}
 use lib.Dec.{eqb}
-use lib.ListN.{length, getD, take, length-append, List·getD-append}
+use lib.ListN.{length, getD, take, length-append}
 use lib.Seq.{getD-take, getD-append-add}
 use Rattle.base.specs.Bools.{eqb-one}
 use Rattle.mesh.specs.Cells.{Cell, redb, edges, edge, redEdges, closedFrom, statusOf, pattern, noCell, Four}
@@ -16,22 +16,11 @@ use Rattle.edges.specs.Pairs.{Pair, addPairs}
 use Rattle.rows.specs.Numbered.{cellAt, cellsAt, endsFrom}
 use Rattle.base.specs.Every.{All}
 use Rattle.base.specs.Fours.{four-points}
-use Rattle.rows.specs.Laws.{cells-cons, row-size}
+use Rattle.rows.specs.Laws.{cells-cons, row-at}
 
 -- a cell without its path
 abbrev pub strip : Cell ℕ → Cell ℕ
 strip c = record { path = []; parent = c .parent; regular = c .regular; points = c .points }
-
--- a number of a row
-row-at : (zs : List (Cell ℕ)) → All Four zs → (i r : ℕ) → i < length zs → r < 8 → getD (flatMap rowOf zs) (8 * i + r) 0 ≡ getD (rowOf (getD zs i noCell)) r 0
-unfolding flatMap
-row-at [] f i r h k = absurd (omega arith)
-row-at (z ∷ zs) f zero r h k =
-    let e : 8 * 0 + r ≡ r = omega arith in
-    rw e (List·getD-append (rowOf z) (flatMap rowOf zs) 0 r (omega (arith, row-size z (f .0))))
-row-at (z ∷ zs) f (suc i) r h k =
-    let e : 8 * suc i + r ≡ length (rowOf z) + (8 * i + r) = omega (arith, row-size z (f .0)) in
-    rw e (getD-append-add (rowOf z) (flatMap rowOf zs) (8 * i + r) 0 ∙ row-at zs (f .1) i r (omega arith) k)
 
 all-at : (zs : List (Cell ℕ)) → All Four zs → (i : ℕ) → i < length zs → Four (getD zs i noCell)
 all-at [] f i h = absurd (omega arith)

@@ -19,10 +19,10 @@ use Rattle.mesh.specs.Table.{soundb}
 use Rattle.mesh.specs.Layout.{Corner, rowOf, mapCell, numberIn, cellTable, cornersOf}
 use Rattle.edges.specs.Table.{listed}
 use Rattle.base.specs.Every.{All}
-use Rattle.numbering.specs.Tests.{cellsIn, apart-numbers}
+use Rattle.numbering.specs.Tests.{numberedCells, apart-numbers}
 use Rattle.closure.specs.Ready.{Looks}
 use Rattle.separation.specs.Parents.{Parents, apartAll}
-use Rattle.counting.proofs.Sound.{sound-levels}
+use Rattle.counting.specs.Sound.{sound-counted}
 use Rattle.tables.specs.Here.{Top, Child}
 use Rattle.tables.specs.Sound.{Sound, tableCorners}
 use Rattle.tables.proofs.Apart.{apart-rows, parents-rows}
@@ -31,24 +31,24 @@ use Rattle.tables.proofs.Onward.{four-in, length-in}
 -- what a sound table cannot be
 module _ (n : ℕ) (qs : List (List ℕ)) (ss : List ℕ) where
   pub unsound-long : 4096 < length ss → soundb n qs ss ≡ false
-  unsound-long h = ⊎-elim (λ e. absurd (omega (arith, sound-levels n qs ss e .small))) (λ e. e) (either (soundb n qs ss))
+  unsound-long h = ⊎-elim (λ e. absurd (omega (arith, sound-counted n qs ss e .small))) (λ e. e) (either (soundb n qs ss))
 
   pub unsound-status : allb (λ s. leb s 64) ss ≡ false → soundb n qs ss ≡ false
-  unsound-status f = ⊎-elim (λ e. not-both (allb (λ s. leb s 64) ss) (sound-levels n qs ss e .statuses) f) (λ e. e) (either (soundb n qs ss))
+  unsound-status f = ⊎-elim (λ e. not-both (allb (λ s. leb s 64) ss) (sound-counted n qs ss e .statuses) f) (λ e. e) (either (soundb n qs ss))
 
-pub rows-in : (ks : List Corner) (cs : List (Cell Point)) → flatMap rowOf (cellsIn ks cs) ≡ cellTable ks cs
+pub rows-in : (ks : List Corner) (cs : List (Cell Point)) → flatMap rowOf (numberedCells ks cs) ≡ cellTable ks cs
 unfolding flatMap cellTable
 rows-in ks [] = refl
 rows-in ks (c ∷ cs) = ap (λ (l : List ℕ). rowOf (mapCell (numberIn ks) c) ++ l) (rows-in ks cs)
 
-child-in : (n : ℕ) (ks : List Corner) (cs : List (Cell Point)) → All (Child n) cs → All (Child n) (cellsIn ks cs)
+child-in : (n : ℕ) (ks : List Corner) (cs : List (Cell Point)) → All (Child n) cs → All (Child n) (numberedCells ks cs)
 unfolding mapCell
 child-in n ks [] h = tt
 child-in n ks (c ∷ cs) h = (h .0, child-in n ks cs (h .1))
 
 module _ (n : ℕ) (qs : List (List ℕ)) (ss : List ℕ) (j last : ℕ) (rows xs ys heads links : List ℕ) (k : ℕ) (ps ps′ heads′ links′ : List ℕ) (m : ℕ)
     (t : Top n qs ss j last rows xs ys heads links k ps ps′ heads′ links′ m) where
-  size : length (cellsIn (t .corners) (t .all)) ≡ last
+  size : length (numberedCells (t .corners) (t .all)) ≡ last
   size = length-in (t .corners) (t .all) ∙ t .counted
 
   pub top-looks : Looks rows xs ys heads links last 0 k
@@ -56,8 +56,8 @@ module _ (n : ℕ) (qs : List (List ℕ)) (ss : List ℕ) (j last : ℕ) (rows x
 
   pub top-parents : Parents rows last
   top-parents =
-      let z = parents-rows rows (cellsIn (t .corners) (t .all)) (four-in (t .corners) (t .all) (t .placed)) (rw size (t .table)) (take last ss) (listed xs ys 0 k) (t .red)
-      (child-in (length (cellsIn (t .corners) (t .all))) (t .corners) (t .all) (rw size (t .children))) in
+      let z = parents-rows rows (numberedCells (t .corners) (t .all)) (four-in (t .corners) (t .all) (t .placed)) (rw size (t .table)) (take last ss) (listed xs ys 0 k) (t .red)
+      (child-in (length (numberedCells (t .corners) (t .all))) (t .corners) (t .all) (rw size (t .children))) in
       rw size at z
 
   pub top-not : (length ss ≡ last → ⊥) → soundb n qs ss ≡ false
@@ -69,10 +69,10 @@ module _ (n : ℕ) (qs : List (List ℕ)) (ss : List ℕ) (j last : ℕ) (rows x
 
     pub top-apart : apartAll (listed xs ys 0 k) rows last ≡ soundb n qs ss
     top-apart =
-        let z : apartAll (listed xs ys 0 k) rows (length (cellsIn (t .corners) (t .all))) ≡ apartOf 0 eqb (cellsIn (t .corners) (t .all)) (take last ss) =
-        apart-rows rows (cellsIn (t .corners) (t .all)) (four-in (t .corners) (t .all) (t .placed)) (rw size (t .table)) (take last ss) (listed xs ys 0 k) (t .red)
-        (child-in (length (cellsIn (t .corners) (t .all))) (t .corners) (t .all) (rw size (t .children))) in
-        let w : apartAll (listed xs ys 0 k) rows last ≡ apartOf 0 eqb (cellsIn (t .corners) (t .all)) ss = rw (size, all-of) at z in
+        let z : apartAll (listed xs ys 0 k) rows (length (numberedCells (t .corners) (t .all))) ≡ apartOf 0 eqb (numberedCells (t .corners) (t .all)) (take last ss) =
+        apart-rows rows (numberedCells (t .corners) (t .all)) (four-in (t .corners) (t .all) (t .placed)) (rw size (t .table)) (take last ss) (listed xs ys 0 k) (t .red)
+        (child-in (length (numberedCells (t .corners) (t .all))) (t .corners) (t .all) (rw size (t .children))) in
+        let w : apartAll (listed xs ys 0 k) rows last ≡ apartOf 0 eqb (numberedCells (t .corners) (t .all)) ss = rw (size, all-of) at z in
         w ∙ apart-numbers (t .corners) (t .all) ss (t .placed) ∙ sym (t .sound ∙ rw (eq-eqb (length ss) last e))
 
     named : tableCorners n qs ss ≡ t .corners

@@ -20,15 +20,15 @@ use Rattle.edges.specs.Pairs.{Pair, sorted, isb, addPairs, pairsOf}
 use Rattle.edges.specs.Table.{Grown, listed}
 use Rattle.rows.specs.Numbered.{cellsAt, part, endsFrom}
 use Rattle.base.specs.Every.{All, all-append, all-more}
-use Rattle.numbering.specs.Tests.{cellsIn, Placed, closed-numbers}
+use Rattle.numbering.specs.Tests.{numberedCells, Placed, closed-numbers}
 use Rattle.numbering.specs.Refined.{Refined, closed-follows}
 use Rattle.numbering.specs.Levels.{placed-kept, cells-kept}
-use Rattle.numbering.specs.Stages.{Next, stage-next}
+use Rattle.numbering.specs.Stages.{NextStage, stage-next}
 use Rattle.numbering.specs.Leaves.{leaf-corners, next-leaves}
 use Rattle.numbering.specs.Tables.{corners-append}
-use Rattle.closure.proofs.Closed.{Lists, lists-added}
+use Rattle.closure.specs.Closed.{Lists, lists-added}
 use Rattle.growth.specs.Written.{take-written}
-use Rattle.growth.specs.Rows.{rowsAll, rows-next, length-rows, flat-append}
+use Rattle.growth.specs.Rows.{rowsAll, rows-next, length-rowsOf, flat-append}
 use Rattle.growth.specs.Level.{Grows}
 use Rattle.rows.specs.Many.{length-next}
 use Rattle.tables.specs.Levels.{reached-short, reached-more, reached-high, reached-open, reached-next, reached-end}
@@ -39,12 +39,12 @@ use Rattle.tables.proofs.Rising.{deep-next, child-next}
 use Rattle.rows.specs.Laws.{length-part}
 
 -- cells over numbers have four points
-pub four-in : (ks : List Corner) (cs : List (Cell Point)) → All (Placed ks) cs → All Four (cellsIn ks cs)
+pub four-in : (ks : List Corner) (cs : List (Cell Point)) → All (Placed ks) cs → All Four (numberedCells ks cs)
 unfolding mapCell
 four-in ks [] p = tt
 four-in ks (c ∷ cs) p = (length-map (c .points) (numberIn ks) ∙ p .0 .four, four-in ks cs (p .1))
 
-pub length-in : (ks : List Corner) (cs : List (Cell Point)) → length (cellsIn ks cs) ≡ length cs
+pub length-in : (ks : List Corner) (cs : List (Cell Point)) → length (numberedCells ks cs) ≡ length cs
 length-in ks cs = length-map cs (mapCell (numberIn ks))
 
 -- red edges of two lists, one behind the other
@@ -104,13 +104,13 @@ all-drop f (suc m) (x ∷ l) t = all-drop f m l (and-right (f x) (allb f l) t)
 part-fits : (ss : List ℕ) → allb (λ s. leb s 64) ss ≡ true → (k m : ℕ) → T (allb (λ s. leb s 64) (part ss k m))
 part-fits ss t k m = all-take (λ s. leb s 64) m (drop k ss) (all-drop (λ s. leb s 64) k ss (rw t tt))
 
-deep-in : (ks : List Corner) (l : ℕ) (cs : List (Cell Point)) → T (allb (λ c. eqb (length (c .path)) l) cs) → T (allb (λ c. eqb (length (c .path)) l) (cellsIn ks cs))
+deep-in : (ks : List Corner) (l : ℕ) (cs : List (Cell Point)) → T (allb (λ c. eqb (length (c .path)) l) cs) → T (allb (λ c. eqb (length (c .path)) l) (numberedCells ks cs))
 unfolding allb mapCell
 deep-in ks l [] t = tt
 deep-in ks l (c ∷ cs) t = go (eqb (length (c .path)) l) t (deep-in ks l cs)
   where
-    go : (b : Bool) → T (b && allb (λ c. eqb (length (c .path)) l) cs) → (T (allb (λ c. eqb (length (c .path)) l) cs) → T (allb (λ c. eqb (length (c .path)) l) (cellsIn ks cs)))
-        → T (b && allb (λ c. eqb (length (c .path)) l) (cellsIn ks cs))
+    go : (b : Bool) → T (b && allb (λ c. eqb (length (c .path)) l) cs) → (T (allb (λ c. eqb (length (c .path)) l) cs) → T (allb (λ c. eqb (length (c .path)) l) (numberedCells ks cs)))
+        → T (b && allb (λ c. eqb (length (c .path)) l) (numberedCells ks cs))
     go true u i = i u
     go false u i = u
 
@@ -128,31 +128,31 @@ module _ (n : ℕ) (qs : List (List ℕ)) (ss : List ℕ) (j first last : ℕ) (
   pub own-is : ownStatuses rows ss first last ≡ part ss first (length (h .cells))
   own-is = rw many
 
-  halves : cellsIn (h .corners) (before ++ h .cells) ≡ cellsIn (h .corners) before ++ cellsIn (h .corners) (h .cells)
+  halves : numberedCells (h .corners) (before ++ h .cells) ≡ numberedCells (h .corners) before ++ numberedCells (h .corners) (h .cells)
   halves = map-append (mapCell (numberIn (h .corners))) before (h .cells)
 
-  counted : length (cellsIn (h .corners) before) ≡ first
+  counted : length (numberedCells (h .corners) before) ≡ first
   counted = length-in (h .corners) before ∙ h .reached .counted
 
-  whole-length : length (cellsIn (h .corners) before ++ cellsIn (h .corners) (h .cells)) ≡ last
-  whole-length = length-append (cellsIn (h .corners) before) (cellsIn (h .corners) (h .cells)) ∙ omega (arith, counted, length-in (h .corners) (h .cells), h .end)
+  whole-length : length (numberedCells (h .corners) before ++ numberedCells (h .corners) (h .cells)) ≡ last
+  whole-length = length-append (numberedCells (h .corners) before) (numberedCells (h .corners) (h .cells)) ∙ omega (arith, counted, length-in (h .corners) (h .cells), h .end)
 
-  pub cells-are : ownCells rows ss first last ≡ map strip (cellsIn (h .corners) (h .cells))
+  pub cells-are : ownCells rows ss first last ≡ map strip (numberedCells (h .corners) (h .cells))
   cells-are =
-      let z = cells-at rows (cellsIn (h .corners) before) (cellsIn (h .corners) (h .cells))
-      (all-append Four (cellsIn (h .corners) before) (cellsIn (h .corners) (h .cells)) (four-in (h .corners) before (h .placed)) (four-in (h .corners) (h .cells) (h .stage .placed)))
+      let z = cells-at rows (numberedCells (h .corners) before) (numberedCells (h .corners) (h .cells))
+      (all-append Four (numberedCells (h .corners) before) (numberedCells (h .corners) (h .cells)) (four-in (h .corners) before (h .placed)) (four-in (h .corners) (h .cells) (h .stage .placed)))
       (rw (whole-length, ← halves) (h .table)) in
-      let e : length (cellsIn (h .corners) (h .cells)) ≡ last - first = length-in (h .corners) (h .cells) ∙ sym many in
+      let e : length (numberedCells (h .corners) (h .cells)) ≡ last - first = length-in (h .corners) (h .cells) ∙ sym many in
       rw (counted, e) at z
 
-  reds-are : ownReds rows ss first last ≡ redEdges 0 (cellsIn (h .corners) (h .cells)) own
-  reds-are = rw (cells-are, own-is) (red-strip (cellsIn (h .corners) (h .cells)) own)
+  reds-are : ownReds rows ss first last ≡ redEdges 0 (numberedCells (h .corners) (h .cells)) own
+  reds-are = rw (cells-are, own-is) (red-strip (numberedCells (h .corners) (h .cells)) own)
 
   pub closed-are : closedFrom 0 eqb (ownReds rows ss first last) (ownCells rows ss first last) (ownStatuses rows ss first last)
       ≡ closedFrom [] sameb (redEdges [] (h .cells) own) (h .cells) own
   closed-are =
       rw (reds-are, cells-are, own-is)
-      (closed-strip (redEdges 0 (cellsIn (h .corners) (h .cells)) own) (cellsIn (h .corners) (h .cells)) own ∙ closed-numbers (h .corners) (h .cells) own (h .stage .placed))
+      (closed-strip (redEdges 0 (numberedCells (h .corners) (h .cells)) own) (numberedCells (h .corners) (h .cells)) own ∙ closed-numbers (h .corners) (h .cells) own (h .stage .placed))
 
   -- The ways to fail.
   pub fails-short : length ss < last → soundb n qs ss ≡ false
@@ -170,7 +170,7 @@ module _ (n : ℕ) (qs : List (List ℕ)) (ss : List ℕ) (j first last : ℕ) (
 
   -- What is listed after the level's red edges are.
   module _ (xs′ ys′ : List ℕ) (heads″ links″ : List ℕ) (k′ : ℕ) (g : Grown xs ys k k (ownReds rows ss first last) xs′ ys′ heads″ links″ k′) where
-    both : (p : Pair) → hasb isb (listed xs′ ys′ 0 k′) p ≡ (hasb isb (listed xs ys 0 k) p || hasb isb (map sorted (redEdges 0 (cellsIn (h .corners) (h .cells)) own)) p)
+    both : (p : Pair) → hasb isb (listed xs′ ys′ 0 k′) p ≡ (hasb isb (listed xs ys 0 k) p || hasb isb (map sorted (redEdges 0 (numberedCells (h .corners) (h .cells)) own)) p)
     unfolding pairsOf
     both p =
         let e : k′ - 0 ≡ k + (k′ - k) = omega (arith, g .more) in
@@ -185,20 +185,20 @@ module _ (n : ℕ) (qs : List (List ℕ)) (ss : List ℕ) (j first last : ℕ) (
         rw all (has-append isb (listed xs ys 0 k) (addPairs [] (ownReds rows ss first last)) p
         ∙ rw (lists-added (ownReds rows ss first last) .has p, reds-are))
 
-    red-halves : redEdges 0 (cellsIn (h .corners) (before ++ h .cells)) (take last ss)
-        ≡ redEdges 0 (cellsIn (h .corners) before) (take first ss) ++ redEdges 0 (cellsIn (h .corners) (h .cells)) own
+    red-halves : redEdges 0 (numberedCells (h .corners) (before ++ h .cells)) (take last ss)
+        ≡ redEdges 0 (numberedCells (h .corners) before) (take first ss) ++ redEdges 0 (numberedCells (h .corners) (h .cells)) own
     red-halves =
         let a : take first (take last ss) ≡ take first ss = take-take first last ss (omega (arith, h .end)) in
         let b : drop first (take last ss) ≡ own = rw (h .end) (drop-take first (length (h .cells)) ss) in
-        rw halves (red-append (cellsIn (h .corners) before) (cellsIn (h .corners) (h .cells)) (take last ss) ∙ rw (counted, a, b))
+        rw halves (red-append (numberedCells (h .corners) before) (numberedCells (h .corners) (h .cells)) (take last ss) ∙ rw (counted, a, b))
 
-    pub reds-after : Lists (listed xs′ ys′ 0 k′) (redEdges 0 (cellsIn (h .corners) (before ++ h .cells)) (take last ss))
+    pub reds-after : Lists (listed xs′ ys′ 0 k′) (redEdges 0 (numberedCells (h .corners) (before ++ h .cells)) (take last ss))
     reds-after =
         record {
           has = λ p.
-              both p ∙ ap (λ (b : Bool). b || hasb isb (map sorted (redEdges 0 (cellsIn (h .corners) (h .cells)) own)) p) (h .red .has p)
-              ∙ sym (rw (red-halves, map-append sorted (redEdges 0 (cellsIn (h .corners) before) (take first ss)) (redEdges 0 (cellsIn (h .corners) (h .cells)) own))
-              (has-append isb (map sorted (redEdges 0 (cellsIn (h .corners) before) (take first ss))) (map sorted (redEdges 0 (cellsIn (h .corners) (h .cells)) own)) p));
+              both p ∙ ap (λ (b : Bool). b || hasb isb (map sorted (redEdges 0 (numberedCells (h .corners) (h .cells)) own)) p) (h .red .has p)
+              ∙ sym (rw (red-halves, map-append sorted (redEdges 0 (numberedCells (h .corners) before) (take first ss)) (redEdges 0 (numberedCells (h .corners) (h .cells)) own))
+              (has-append isb (map sorted (redEdges 0 (numberedCells (h .corners) before) (take first ss))) (map sorted (redEdges 0 (numberedCells (h .corners) (h .cells)) own)) p));
         }
 
   -- The next level.
@@ -219,11 +219,11 @@ module _ (n : ℕ) (qs : List (List ℕ)) (ss : List ℕ) (j first last : ℕ) (
     refined : Refined (h .cells) own
     refined = closed-follows [] sameb (redEdges [] (h .cells) own) (h .cells) own (rw w tt)
 
-    step : Next n j first (h .corners) (listed ps ps′ 0 m) (h .cells) own ks′ (endsFrom (listed ps ps′ 0 m) (cellsIn (h .corners) (h .cells)) own)
+    step : NextStage n j first (h .corners) (listed ps ps′ 0 m) (h .cells) own ks′ (endsFrom (listed ps ps′ 0 m) (numberedCells (h .corners) (h .cells)) own)
     step = stage-next n j first (h .corners) (listed ps ps′ 0 m) (h .cells) own (h .stage) high refined
 
-    ends-are : listed ps₁ ps₁′ 0 m′ ≡ endsFrom (listed ps ps′ 0 m) (cellsIn (h .corners) (h .cells)) own
-    ends-are = g .list ∙ rw (cells-are, own-is) (ends-strip (listed ps ps′ 0 m) (cellsIn (h .corners) (h .cells)) own)
+    ends-are : listed ps₁ ps₁′ 0 m′ ≡ endsFrom (listed ps ps′ 0 m) (numberedCells (h .corners) (h .cells)) own
+    ends-are = g .list ∙ rw (cells-are, own-is) (ends-strip (listed ps ps′ 0 m) (numberedCells (h .corners) (h .cells)) own)
 
     same-length : length (h .cells) ≡ length own
     same-length = sym (length-part ss first (length (h .cells)) (omega (arith, h .end)))
@@ -240,26 +240,26 @@ module _ (n : ℕ) (qs : List (List ℕ)) (ss : List ℕ) (j first last : ℕ) (
     fits-part : T (allb (λ s. leb s 64) own)
     fits-part = part-fits ss (st .fit) first (length (h .cells))
 
-    new-rows : rowsAll (suc j) n (listed ps₁ ps₁′ 0 m′) first (cellsAt rows first (last - first)) (part ss first (last - first)) ≡ flatMap rowOf (cellsIn ks′ up)
+    new-rows : rowsAll (suc j) n (listed ps₁ ps₁′ 0 m′) first (cellsAt rows first (last - first)) (part ss first (last - first)) ≡ flatMap rowOf (numberedCells ks′ up)
     new-rows =
         rw (cells-are, own-is, ends-are)
-        (rows-next (suc j) n (endsFrom (listed ps ps′ 0 m) (cellsIn (h .corners) (h .cells)) own) (omega arith) first
-        (map strip (cellsIn (h .corners) (h .cells))) (cellsIn (h .corners) (h .cells)) own (points-strip (cellsIn (h .corners) (h .cells))) (deep-in (h .corners) (suc j) (h .cells) (h .deep))
+        (rows-next (suc j) n (endsFrom (listed ps ps′ 0 m) (numberedCells (h .corners) (h .cells)) own) (omega arith) first
+        (map strip (numberedCells (h .corners) (h .cells))) (numberedCells (h .corners) (h .cells)) own (points-strip (numberedCells (h .corners) (h .cells))) (deep-in (h .corners) (suc j) (h .cells) (h .deep))
         ∙ ap (flatMap rowOf) (step .cells))
 
-    table-is : take (8 * last′) rows′ ≡ flatMap rowOf (cellsIn ks′ ((before ++ h .cells) ++ up))
+    table-is : take (8 * last′) rows′ ≡ flatMap rowOf (numberedCells ks′ ((before ++ h .cells) ++ up))
     table-is =
         let vs = rowsAll (suc j) n (listed ps₁ ps₁′ 0 m′) first (cellsAt rows first (last - first)) (part ss first (last - first)) in
         let lv : length vs ≡ 8 * sizes own =
-        rw (cells-are, own-is) (length-rows (suc j) n (listed ps₁ ps₁′ 0 m′) first (map strip (cellsIn (h .corners) (h .cells))) own
-        (length-map (cellsIn (h .corners) (h .cells)) strip ∙ length-in (h .corners) (h .cells) ∙ same-length) fits-part) in
+        rw (cells-are, own-is) (length-rowsOf (suc j) n (listed ps₁ ps₁′ 0 m′) first (map strip (numberedCells (h .corners) (h .cells))) own
+        (length-map (numberedCells (h .corners) (h .cells)) strip ∙ length-in (h .corners) (h .cells) ∙ same-length) fits-part) in
         let e : 8 * last′ ≡ 8 * last + length vs = omega (arith, lv, end-is, length-up) in
         let room : 8 * last + length vs ≤ length rows = omega (arith, lv, h .long, st .few, ap sizes own-is) in
-        let kept : cellsIn ks′ (before ++ h .cells) ≡ cellsIn (h .corners) (before ++ h .cells) = cells-kept (h .corners) ks′ (step .kept) (before ++ h .cells) all-before in
+        let kept : numberedCells ks′ (before ++ h .cells) ≡ numberedCells (h .corners) (before ++ h .cells) = cells-kept (h .corners) ks′ (step .kept) (before ++ h .cells) all-before in
         rw (e, g .rows) (take-written rows (8 * last) vs room
         ∙ ap₂ _++_ (h .table) new-rows
-        ∙ sym (ap (flatMap rowOf) (map-append (mapCell (numberIn ks′)) (before ++ h .cells) up ∙ ap (λ (l : List (Cell ℕ)). l ++ cellsIn ks′ up) kept)
-        ∙ flat-append (cellsIn (h .corners) (before ++ h .cells)) (cellsIn ks′ up)))
+        ∙ sym (ap (flatMap rowOf) (map-append (mapCell (numberIn ks′)) (before ++ h .cells) up ∙ ap (λ (l : List (Cell ℕ)). l ++ numberedCells ks′ up) kept)
+        ∙ flat-append (numberedCells (h .corners) (before ++ h .cells)) (numberedCells ks′ up)))
 
     named-next : cornersFrom (coarseCorners n) (before ++ h .cells) (take last ss) ≡ ks′
     named-next =
@@ -274,7 +274,7 @@ module _ (n : ℕ) (qs : List (List ℕ)) (ss : List ℕ) (j first last : ℕ) (
       here-next =
           let r = reached-next n qs ss j first (h .cells) (h .reached) (h .low) (h .some) last (h .end) w in
           let b : cellsOf (r .reached .done) ≡ before ++ h .cells = r .before in
-          let kept : cellsIn ks′ (before ++ h .cells) ≡ cellsIn (h .corners) (before ++ h .cells) = cells-kept (h .corners) ks′ (step .kept) (before ++ h .cells) all-before in
+          let kept : numberedCells ks′ (before ++ h .cells) ≡ numberedCells (h .corners) (before ++ h .cells) = cells-kept (h .corners) ks′ (step .kept) (before ++ h .cells) all-before in
           let mono : (c : Cell Point) → Child last c → Child last′ c = λ c f q. omega (arith, f q, end-is) in
           record {
             cells = up;

@@ -11,12 +11,12 @@ use Rattle.base.specs.Bools.{one-if}
 use Rattle.mesh.specs.Cells.{redb}
 use Rattle.edges.specs.Pairs.{addPairs, pairsOf}
 use Rattle.edges.specs.Table.{Space, Grown, listed}
-use Rattle.edges.proofs.Seek.{none-listed}
+use Rattle.edges.specs.Seek.{none-listed}
 use Rattle.mesh.specs.Table.{sizeOf, sizes}
-use Rattle.sizes.proofs.Sums.{size-red}
+use Rattle.rows.specs.Sizes.{size-red}
 use Rattle.closure.specs.Ready.{redCount, Ready, Looks, listedClosed}
-use Rattle.closure.proofs.Steps.{length-reds}
-use Rattle.closure.proofs.Closed.{lists-added, closed-listed}
+use Rattle.closure.specs.Steps.{length-reds}
+use Rattle.closure.specs.Closed.{lists-added, closed-listed}
 use Rattle.tables.specs.Checked.{Reds, Checked, ownCells, ownStatuses, ownReds}
 use Rattle.rows.specs.Laws.{length-cells, length-part}
 

@@ -13,7 +13,7 @@ use Rattle.mesh.specs.Cells.{closedFrom, redEdges}
 use Rattle.mesh.specs.Table.{soundb, sizes}
 use Rattle.rows.specs.Numbered.{part}
 use Rattle.growth.specs.Level.{Grows, Roomy}
-use Rattle.sizes.proofs.Sums.{status-fits}
+use Rattle.rows.specs.Sizes.{status-fits}
 use Rattle.tables.specs.Checked.{Statuses, Whole, Checked, ownStatuses}
 use Rattle.tables.specs.Here.{Here, Top}
 use Rattle.tables.proofs.Onward.{fails-short, fails-more, fails-high, fails-open, closed-are, here-next, here-top}

@@ -16,10 +16,10 @@ use Rattle.mesh.specs.Table.{cellsOf, levelsOf, soundb, apartb}
 use Rattle.mesh.specs.Layout.{Corner, coarseCorners, cornersFrom, rowOf}
 use Rattle.edges.specs.Table.{Edges, listed}
 use Rattle.base.specs.Every.{All}
-use Rattle.numbering.specs.Corners.{Corners}
-use Rattle.numbering.specs.Tests.{cellsIn, Placed}
+use Rattle.numbering.specs.Corners.{NumberedCorners}
+use Rattle.numbering.specs.Tests.{numberedCells, Placed}
 use Rattle.numbering.specs.Stages.{Stage}
-use Rattle.closure.proofs.Closed.{Lists}
+use Rattle.closure.specs.Closed.{Lists}
 use Rattle.tables.specs.Levels.{Reached}
 use Rattle.tables.specs.Checked.{Reds}
 
@@ -50,9 +50,9 @@ module _ (n : ℕ) (qs : List (List ℕ)) (ss : List ℕ) (j first last : ℕ) (
       pub named : cornersFrom (coarseCorners n) (cellsOf (reached .done)) (take first ss) ≡ corners
       pub deep : T (allb (λ c. eqb (length (c .path)) (suc j)) cells)
       pub children : All (Child last) (cellsOf (reached .done) ++ cells)
-      pub table : take (8 * last) rows ≡ flatMap rowOf (cellsIn corners (cellsOf (reached .done) ++ cells))
+      pub table : take (8 * last) rows ≡ flatMap rowOf (numberedCells corners (cellsOf (reached .done) ++ cells))
       pub long : 32768 ≤ length rows
-      pub red : Lists (listed xs ys 0 k) (redEdges 0 (cellsIn corners (cellsOf (reached .done))) (take first ss))
+      pub red : Lists (listed xs ys 0 k) (redEdges 0 (numberedCells corners (cellsOf (reached .done))) (take first ss))
       pub reds : Reds xs ys heads links k last
       pub mids : Mids ps qs′ heads′ links′ m last
 
@@ -70,10 +70,10 @@ module _ (n : ℕ) (qs : List (List ℕ)) (ss : List ℕ) (j last : ℕ) (rows :
       pub few : last ≤ 4096
       pub placed : All (Placed corners) all
       pub named : cornersFrom (coarseCorners n) all (take last ss) ≡ corners
-      pub numbered : Corners n corners (listed ps qs′ 0 m)
+      pub numbered : NumberedCorners n corners (listed ps qs′ 0 m)
       pub children : All (Child last) all
-      pub table : take (8 * last) rows ≡ flatMap rowOf (cellsIn corners all)
+      pub table : take (8 * last) rows ≡ flatMap rowOf (numberedCells corners all)
       pub long : 32768 ≤ length rows
-      pub red : Lists (listed xs ys 0 k) (redEdges 0 (cellsIn corners all) (take last ss))
+      pub red : Lists (listed xs ys 0 k) (redEdges 0 (numberedCells corners all) (take last ss))
       pub reds : Reds xs ys heads links k last
       pub mids : Mids ps qs′ heads′ links′ m last

@@ -16,7 +16,7 @@ use Rattle.mesh.specs.Coarse.{cellsb}
 use Rattle.mesh.specs.Table.{levelsOf, cellsOf, soundb}
 use Rattle.mesh.specs.Layout.{Corner, cornersOf, cellTable}
 use Rattle.edges.specs.Table.{listed}
-use Rattle.numbering.specs.Corners.{Corners}
+use Rattle.numbering.specs.Corners.{NumberedCorners}
 
 abbrev pub tableCells : ℕ → List (List ℕ) → List ℕ → List (Cell Point)
 tableCells n qs ss = cellsOf (levelsOf n qs ss)
@@ -31,7 +31,7 @@ pub record Sound (n : ℕ) (qs : List (List ℕ)) (ss rows ps qs′ : List ℕ) 
   pub low : levels ≤ 11
   pub most : m ≤ cells
   pub table : take (8 * cells) rows ≡ cellTable (tableCorners n qs ss) (tableCells n qs ss)
-  pub corners : Corners n (tableCorners n qs ss) (listed ps qs′ 0 m)
+  pub corners : NumberedCorners n (tableCorners n qs ss) (listed ps qs′ 0 m)
 
 -- an accepted mesh, as far as it matters here
 pub record Mesh (n : ℕ) (mesh : List ℕ) : Type 0 where

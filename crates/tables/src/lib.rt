@@ -42,7 +42,7 @@ fn check_level(
             size: 0,
         };
     }
-    let size = sizes::level_size(status, first, last);
+    let size = rows::level_size(status, first, last);
     if size > status.len() - last {
         return Level { ok: false, n, size };
     }
@@ -182,7 +182,7 @@ pub fn examine(
     if status.len() > 4096 {
         return failed();
     }
-    if !sizes::fits(status) {
+    if !rows::fits(status) {
         return failed();
     }
     let mut xs = [0u32; 3072];

@@ -1,24 +1,17 @@
 -- Numbers of 32 bits with a sign, made from their bits or raised by 2 ^ 31, stay in range.
---   below       -1 less a number below 2 ^ 31 is an i32
+--   minus-fits       -1 less a number minus-fits 2 ^ 31 is an i32
 --   wider       an i32 is an i64
---   Raised z    z is a number below 2 ^ 32
+--   Raised z    z is a number minus-fits 2 ^ 32
 --   raised      an i32 and 2 ^ 31 make such a number
 --   wide-fits, sum-fits, sum-is   the same of the bits that the program holds
 use mathlib.Core.Path.{_≡_, refl, ap, _∙_}
-use Prim.Native.Nat.{ℕ, zero, suc, _+_, _-_, _<_}
+use Prim.Native.Nat.{ℕ, suc, _+_, _-_, _<_}
 use native.Mathlib.Omega.{arith}
-use lib.IntN.{ℤ, pos, negsuc, _+ℤ_, _-ℤ_}
+use lib.IntN.{ℤ, pos, negsuc, _+ℤ_}
 use borrow.Author.Tests.{le-ltb}
 use mir.Syntax.{w32, w64}
 use mir.Val.{SFits, toZ, ofZ}
-use mir.ValLaws.{toZ-pos, toZ-ofZ}
-
-pub below : (k : ℕ) → k < 2147483648 → SFits w32 (negsuc 0 -ℤ toZ w32 k)
-below k h = rw (toZ-pos w32 k h) (go k h)
-  where
-    go : (k : ℕ) → k < 2147483648 → SFits w32 (negsuc 0 -ℤ pos k)
-    go zero h = record { sfits = omega arith }
-    go (suc k) h = record { sfits = omega (arith, h) }
+use mir.ValLaws.{toZ-ofZ}
 
 wider : (z : ℤ) → SFits w32 z → SFits w64 z
 wider (pos n) h = record { sfits = omega (arith, h .sfits) }

@@ -28,7 +28,7 @@ ghost use Rattle.archive.specs.Form.{jobOf};
 ghost use Rattle.archive.specs.Tables.{markedOf, marksOf, endsOf};
 ghost use Rattle.archive.specs.Stored.{jobFrom};
 ghost use Rattle.replay.specs.Run.{jobTable};
-ghost use Rattle.jobs.specs.Calls.{readAnswer, writeAnswer, replayAnswer, lengthsOf, sizeOf, jobCounts};
+ghost use Rattle.jobs.specs.Calls.{readAnswer, writeAnswer, replayAnswer, lengthsOf, replaySize, jobCounts};
 ghost use Rattle.yuccadice.specs.After.{cutAnswer};
 
 // The children of a cell by its pattern: four digits a child, 32 in all, zeros behind the last child. Refusals 15 and 6.
@@ -361,11 +361,11 @@ pub extern "C" fn yd_replay(
         (was counts) ⌝ }
     ensures { λ r. ⌜ is «cell_count»
         ≡ valueAfter (replayAnswer (was bytes) (was table) (was counts))
-        (sizeOf (jobOf (was bytes)) .cells)
+        (replaySize (jobOf (was bytes)) .cells)
         (was «cell_count») ⌝ }
     ensures { λ r. ⌜ is «level_count»
         ≡ valueAfter (replayAnswer (was bytes) (was table) (was counts))
-        (sizeOf (jobOf (was bytes)) .levels)
+        (replaySize (jobOf (was bytes)) .levels)
         (was «level_count») ⌝ }
 {
     let replayed = jobs::replay(bytes, table, counts);

@@ -6,12 +6,12 @@ use native.Mathlib.Omega.{arith}
 use lib.ListN.{length}
 use borrow.Author.Tests.{not-true, not-false}
 use borrow.Author.Needs.{needs}
-use Rattle.archive.specs.Scan.{On, on-start, on-mark, on-step, on-end, on-out}
+use Rattle.archive.specs.Scan.{ScanAt, on-start, on-mark, on-step, on-end, on-out}
 use Rattle.archive.proofs.scan_steps.Statement.{statement}
 use Rattle.archive.proofs.scan_steps.Tie as tie
 
 abbrev Inv-loop : tie.InvT-loop
-Inv-loop bytes from at₀ least₀ marks₀ steps₀ at least marks steps = On bytes from at least marks steps
+Inv-loop bytes from at₀ least₀ marks₀ steps₀ at least marks steps = ScanAt bytes from at least marks steps
 
 abbrev μ-loop : tie.MeasureT-loop
 μ-loop bytes from at₀ least₀ marks₀ steps₀ at least marks steps = length bytes - at

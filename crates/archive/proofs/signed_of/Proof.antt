@@ -3,7 +3,8 @@
 use Prim.Native.Nat.{_-_}
 use native.Mathlib.Omega.{arith}
 use borrow.Author.Needs.{needs}
-use Rattle.archive.proofs.Signed.{below, low, high}
+use Rattle.base.specs.Integers.{minus-fits}
+use Rattle.archive.proofs.Signed.{low, high}
 use Rattle.archive.proofs.signed_of.Statement.{statement}
 use Rattle.archive.proofs.signed_of.Tie as tie
 
@@ -17,7 +18,7 @@ cast-result-2 : tie.Need-cast-result-2
 cast-result-2 c = search needs
 
 sub-result-2 : tie.Need-sub-result-2
-sub-result-2 c = below (4294967295 - c .before .args .bits) (omega arith)
+sub-result-2 c = minus-fits (4294967295 - c .before .args .bits) (omega arith)
 
 returns : tie.Need-returns
 returns c = low (c .before .args .bits) (c .if1 .taken)

@@ -8,7 +8,7 @@ use Rattle.mesh.specs.Cells.{redb}
 use Rattle.edges.specs.Table.{listed}
 use Rattle.rows.specs.Numbered.{cellAt, cellsAt, part}
 use Rattle.closure.specs.Ready.{listedClosed, listedStatus}
-use Rattle.closure.proofs.Closed.{closed-next, closed-not, closed-end}
+use Rattle.closure.specs.Closed.{closed-next, closed-not, closed-end}
 use borrow.Author.Needs.{needs}
 use Rattle.closure.proofs.closed_level.Statement.{statement}
 use Rattle.closure.proofs.closed_level.Tie as tie

@@ -9,7 +9,7 @@ use Rattle.mesh.specs.Cells.{bitsOf}
 use Rattle.edges.specs.Table.{listed}
 use Rattle.rows.specs.Numbered.{cellAt}
 use Rattle.closure.specs.Ready.{listedPattern}
-use Rattle.closure.proofs.Closed.{tests, no-bits, small-bits, bit-turn}
+use Rattle.closure.specs.Closed.{tests, no-bits, small-bits, bit-turn}
 use borrow.Author.Needs.{needs}
 use Rattle.closure.proofs.pattern_of.Statement.{statement}
 use Rattle.closure.proofs.pattern_of.Tie as tie

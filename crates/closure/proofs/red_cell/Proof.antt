@@ -8,7 +8,7 @@ use Rattle.edges.specs.Pairs.{Pair}
 use Rattle.edges.specs.Table.{grown-none}
 use Rattle.rows.specs.Numbered.{cellAt}
 use Rattle.closure.specs.Ready.{redOf}
-use Rattle.closure.proofs.Steps.{red-is, red-not, six}
+use Rattle.closure.specs.Steps.{red-is, red-not, six}
 use borrow.Author.Needs.{needs}
 use Rattle.closure.proofs.red_cell.Statement.{statement}
 use Rattle.closure.proofs.red_cell.Tie as tie

@@ -8,7 +8,7 @@ use lib.ListN.{take}
 use Rattle.mesh.specs.Cells.{edges}
 use Rattle.rows.specs.Numbered.{cellAt}
 use Rattle.closure.specs.Ready.{Run}
-use Rattle.closure.proofs.Steps.{run-start, run-one, room-left, next-edge, length-edges, all-edges}
+use Rattle.closure.specs.Steps.{run-start, run-one, room-left, next-edge, length-edges, all-edges}
 use borrow.Author.Needs.{needs}
 use Rattle.closure.proofs.red_edges.Statement.{statement}
 use Rattle.closure.proofs.red_edges.Tie as tie

@@ -7,7 +7,7 @@ use lib.ListN.{length, getD}
 use Rattle.mesh.specs.Cells.{redEdges}
 use Rattle.rows.specs.Numbered.{cellAt, cellsAt, part}
 use Rattle.closure.specs.Ready.{Run, redOf, redCount}
-use Rattle.closure.proofs.Steps.{run-start, run-more, space-left, reds-step, reds-fit, none-yet}
+use Rattle.closure.specs.Steps.{run-start, run-more, space-left, reds-step, reds-fit, none-yet}
 use borrow.Author.Needs.{needs}
 use Rattle.closure.proofs.red_level.Statement.{statement}
 use Rattle.closure.proofs.red_level.Tie as tie

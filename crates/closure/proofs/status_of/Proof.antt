@@ -4,7 +4,7 @@ use mathlib.Core.Path.{sym, _∙_}
 use borrow.Author.Tests.{not-true, not-false}
 use Rattle.edges.specs.Table.{listed}
 use Rattle.rows.specs.Numbered.{cellAt}
-use Rattle.closure.proofs.Closed.{status-irregular, status-red, status-pattern}
+use Rattle.closure.specs.Closed.{status-irregular, listed-red, status-pattern}
 use borrow.Author.Needs.{needs}
 use Rattle.closure.proofs.status_of.Statement.{statement}
 use Rattle.closure.proofs.status_of.Tie as tie
@@ -20,7 +20,7 @@ returns c =
 returns-2 : tie.Need-returns-2
 returns-2 c =
     let a = c .before .before .before .before .before .before .before .before .args in
-    sym (status-red (listed (a .xs .now) (a .ys .now) (a .from) (a .n)) (a .red) (cellAt (a .cells .now) (a .c)) (sym (c .before .before .is-regular .ensures) ∙ not-false _ (c .before .if1 .left)) (c .if2 .taken))
+    sym (listed-red (listed (a .xs .now) (a .ys .now) (a .from) (a .n)) (a .red) (cellAt (a .cells .now) (a .c)) (sym (c .before .before .is-regular .ensures) ∙ not-false _ (c .before .if1 .left)) (c .if2 .taken))
 
 pattern-of-requires : tie.Need-pattern-of-requires
 pattern-of-requires c κs = search needs

@@ -3,7 +3,7 @@
 use Prim.Native.Nat.{_+_, _*_}
 use lib.Dec.{lit<}
 use borrow.Author.Needs.{needs}
-use Rattle.mesh.specs.Coarse.{coordinate}
+use Rattle.mesh.specs.Coarse.{coordinateAt}
 use Rattle.coarse.proofs.Size.{kept-32, kept-fits, kept-read, kept-tells}
 use Rattle.coarse.proofs.coordinate_of.Statement.{statement}
 use Rattle.coarse.proofs.coordinate_of.Tie as tie
@@ -27,7 +27,7 @@ cast-result c =
     kept-fits k (lit< tt)
 
 returns : tie.Need-returns
-unfolding coordinate
+unfolding coordinateAt
 returns c =
     let s = c .before in
     let k = kept-32 (s .pre .0 .near (3 * s .args .corner + s .args .axis)) (lit< tt) in

@@ -2,7 +2,7 @@
 -- Assumes nothing.
 use lib.Dec.{lit<}
 use borrow.Author.Needs.{needs}
-use Rattle.coarse.specs.Volume.{edgeOf}
+use Rattle.coarse.specs.Volume.{edgeVector}
 use Rattle.coarse.proofs.Size.{kept-told, kept-sub, kept-fits, kept-read, kept-tells}
 use Rattle.coarse.proofs.edge.Statement.{statement}
 use Rattle.coarse.proofs.edge.Tie as tie
@@ -19,7 +19,7 @@ sub-result c =
     kept-fits k (lit< tt)
 
 returns : tie.Need-returns
-unfolding edgeOf
+unfolding edgeVector
 returns c =
     let k = kept-sub (kept-told (c .before .coordinate-of .ensures) (lit< tt)) (kept-told (c .coordinate-of2 .ensures) (lit< tt)) in
     kept-tells (kept-read k (lit< tt))

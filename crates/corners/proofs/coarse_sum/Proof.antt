@@ -1,10 +1,10 @@
--- `corners::coarse_sum` meets its contract: the number read is the corner's coordinate, and it is small.
+-- `corners::coarse_sum` meets its contract: the number read is the corner's coordinateAt, and it is small.
 -- Assumes nothing.
 use mathlib.Core.Path.{_∙_}
 use Prim.Native.Nat.{_+_, _*_}
 use borrow.Author.Needs.{needs}
 use mir.Facts.{toZ-ofZ}
-use Rattle.mesh.specs.Coarse.{coordinate}
+use Rattle.mesh.specs.Coarse.{coordinateAt}
 use Rattle.corners.proofs.coarse_sum.Statement.{statement}
 use Rattle.corners.proofs.coarse_sum.Tie as tie
 
@@ -26,7 +26,7 @@ scaled-requires c κs =
     rw (toZ-ofZ (record { sfits = c .scaled-arg .given })) (c .before .pre .1 .at (3 * s .i + s .k))
 
 returns : tie.Need-returns
-unfolding coordinate
+unfolding coordinateAt
 returns c =
     toZ-ofZ (record { sfits = c .scaled .ok })
     ∙ c .scaled .ensures

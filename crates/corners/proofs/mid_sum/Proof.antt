@@ -5,7 +5,7 @@ use Prim.Native.Nat.{_+_, _*_}
 use lib.ListN.{getD}
 use lib.IntN.{pos}
 use borrow.Author.Needs.{needs}
-use Rattle.mesh.specs.Coarse.{coordinate}
+use Rattle.mesh.specs.Coarse.{coordinateAt}
 use Rattle.corners.proofs.Size.{read}
 use Rattle.corners.proofs.mid_sum.Statement.{statement}
 use Rattle.corners.proofs.mid_sum.Tie as tie
@@ -35,7 +35,7 @@ shared-slice-copy-out-half-sum-2 : tie.Need-shared-slice-copy-out-half-sum-2
 shared-slice-copy-out-half-sum-2 c = search needs
 
 half-sum-requires : tie.Need-half-sum-requires
-unfolding coordinate
+unfolding coordinateAt
 half-sum-requires c κs =
     let s = c .before .before .args in
     let p = c .before .before .pre in
@@ -46,7 +46,7 @@ half-sum-requires c κs =
     (p .0 .small (s .k) (p .1 .1), p .1 .0 .small (s .k) (p .1 .1))
 
 returns : tie.Need-returns
-unfolding coordinate
+unfolding coordinateAt
 returns c =
     let s = c .before .before .before .args in
     read (c .half-sum .result) (c .half-sum .ok)

@@ -5,7 +5,7 @@ use mathlib.Core.List.{flatten}
 use native.Mathlib.Omega.{arith}
 use borrow.Author.Needs.{needs}
 use Rattle.cutting.specs.Answer.{noCut, cutInto, cutOf, cutOf-accepted, cutOf-refused}
-use Rattle.cutting.specs.Rows.{rows, row, family-row}
+use Rattle.cutting.specs.Rows.{familyRows, row, family-row}
 use Rattle.cutting.proofs.Found.{Found, found, accepted}
 use Rattle.cutting.proofs.cut_from.Statement.{statement}
 use Rattle.cutting.proofs.cut_from.Tie as tie
@@ -20,7 +20,7 @@ unfolding noCut
 returns c = sym (cutOf-refused (c .before .before .args .pattern) (c .if1 .taken))
 
 returns-2 : tie.Need-returns-2
-unfolding cutInto row rows flatten
+unfolding cutInto row familyRows flatten
 returns-2 c = sym (ap cutOf (c .if2 .taken) ∙ cutOf-accepted 63 (omega arith) ∙ ap cutInto (family-row 63 (omega arith)))
 
 start-requires : tie.Need-start-requires

@@ -1,6 +1,6 @@
 -- `edges::holds` meets its contract: a search that finds is a pair that is listed.
 -- Assumes nothing.
-use Rattle.edges.proofs.Seek.{told}
+use Rattle.edges.specs.Seek.{told}
 use borrow.Author.Needs.{needs}
 use Rattle.edges.proofs.holds.Statement.{statement}
 use Rattle.edges.proofs.holds.Tie as tie

@@ -2,7 +2,7 @@
 -- Assumes nothing.
 use mathlib.Core.Path.{_≡_, sym, _∙_}
 use native.Mathlib.Omega.{arith}
-use Rattle.edges.proofs.Seek.{old, new}
+use Rattle.edges.specs.Seek.{old, new}
 use borrow.Author.Needs.{needs}
 use Rattle.edges.proofs.insert.Statement.{statement}
 use Rattle.edges.proofs.insert.Tie as tie

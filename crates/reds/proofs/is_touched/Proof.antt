@@ -9,7 +9,7 @@ use Rattle.base.specs.Lists.{anyb}
 use Rattle.mesh.specs.Cells.{edges, edge, heldb}
 use Rattle.edges.specs.Pairs.{Pair}
 use Rattle.rows.specs.Numbered.{cellAt}
-use Rattle.separation.proofs.Scan.{any-hit, any-next, any-none}
+use Rattle.separation.specs.Scan.{any-hit, any-next, any-none}
 use Rattle.reds.specs.Flags.{listedb, touchedb}
 use Rattle.reds.proofs.Cases.{touch-edge, touchTest, touched-is}
 use borrow.Author.Needs.{needs}

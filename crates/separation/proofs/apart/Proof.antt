@@ -10,7 +10,7 @@ use Rattle.edges.specs.Table.{listed}
 use Rattle.rows.specs.Numbered.{cellsAt}
 use Rattle.closure.specs.Ready.{listedApart}
 use Rattle.separation.specs.Parents.{apartAll}
-use Rattle.separation.proofs.Scan.{cells-miss, cells-next, cells-end}
+use Rattle.separation.specs.Scan.{cells-miss, cells-next, cells-end}
 use borrow.Author.Needs.{needs}
 use Rattle.separation.proofs.apart.Statement.{statement}
 use Rattle.separation.proofs.apart.Tie as tie

@@ -11,7 +11,7 @@ use Rattle.mesh.specs.Cells.{edges}
 use Rattle.edges.specs.Table.{listed}
 use Rattle.rows.specs.Numbered.{cellAt}
 use Rattle.closure.specs.Ready.{listedApart}
-use Rattle.separation.proofs.Scan.{all-miss, all-next, all-end, apartTest, regular-apart, irregular-apart}
+use Rattle.separation.specs.Scan.{all-miss, all-next, all-end, apartTest, regular-apart, irregular-apart}
 use borrow.Author.Needs.{needs}
 use Rattle.separation.proofs.apart_cell.Statement.{statement}
 use Rattle.separation.proofs.apart_cell.Tie as tie

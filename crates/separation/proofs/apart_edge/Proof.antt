@@ -4,7 +4,7 @@ use borrow.Author.Tests.{not-true, not-false}
 use Rattle.mesh.specs.Cells.{edges, edge}
 use Rattle.rows.specs.Numbered.{cellAt}
 use Rattle.edges.specs.Table.{listed}
-use Rattle.separation.proofs.Scan.{free, own-or-not}
+use Rattle.separation.specs.Scan.{free, own-or-not}
 use borrow.Author.Needs.{needs}
 use Rattle.separation.proofs.apart_edge.Statement.{statement}
 use Rattle.separation.proofs.apart_edge.Tie as tie

@@ -10,7 +10,7 @@ use Rattle.base.specs.Lists.{anyb}
 use Rattle.mesh.specs.Cells.{edges, edge, joinsb, heldb}
 use Rattle.edges.specs.Pairs.{Pair}
 use Rattle.rows.specs.Numbered.{cellAt}
-use Rattle.separation.proofs.Scan.{any-hit, any-next, any-none}
+use Rattle.separation.specs.Scan.{any-hit, any-next, any-none}
 use borrow.Author.Needs.{needs}
 use Rattle.separation.proofs.has_edge.Statement.{statement}
 use Rattle.separation.proofs.has_edge.Tie as tie

@@ -1,10 +1,10 @@
--- `trial::input::signed` is safe: -1 less a number below 2 ^ 31 is an i32. Assumes nothing.
+-- `trial::input::signed` is safe: -1 less a number minus-fits 2 ^ 31 is an i32. Assumes nothing.
 use Prim.Native.Nat.{_-_}
 use borrow.Author.Needs.{needs}
 use native.Mathlib.Omega.{arith}
-use Rattle.trial.proofs.Signed.{below}
 use Rattle.trial.proofs.input.signed.Statement.{statement}
 use Rattle.trial.proofs.input.signed.Tie as tie
+use Rattle.base.specs.Integers.{minus-fits}
 
 cast-result : tie.Need-cast-result
 cast-result c = search needs
@@ -16,7 +16,7 @@ cast-result-2 : tie.Need-cast-result-2
 cast-result-2 c = search needs
 
 sub-result-2 : tie.Need-sub-result-2
-sub-result-2 c = below (4294967295 - c .before .args .bits) (omega arith)
+sub-result-2 c = minus-fits (4294967295 - c .before .args .bits) (omega arith)
 
 returns : tie.Need-returns
 returns c = search needs

@@ -1,0 +1,74 @@
+-- In a table of the rows of linked cells the way from a cell leads to its coarse ancestor, in as many turns as its level says.
+-- Assumes nothing.
+use mathlib.Core.Path.{_≡_, sym, _∙_, ap, ap₂}
+use mathlib.Core.Logic.{_⊎_, inl, inr, ⊎-elim}
+use mathlib.Core.List.{List, [], _∷_, _++_, flatMap}
+use Prim.Native.Nat.{ℕ, zero, suc, _+_, _*_, _-_, _≤_, _<_, pred}
+use native.Mathlib.Omega.{arith}
+use lib.ListN.{length, getD, take, length-append, length-take, List·getD-append}
+use lib.Seq.{getD-take}
+use Rattle.mesh.specs.Cells.{Cell, noCell, Four}
+use Rattle.mesh.specs.Layout.{rowOf}
+use Rattle.base.specs.Every.{All}
+use Rattle.ancestors.specs.declared.Ancestor.{Ancestor}
+use Rattle.ancestors.specs.Climb.{levelIn, parentIn, ancestor, raised, climbFrom, climb-here, climb-up, Upward}
+use Rattle.ancestors.specs.Linked.{linkedPath, parentAt, Descends, Linked, ancestorOf}
+use Rattle.rows.specs.Laws.{rows-size, row-at}
+
+-- a path has at least one number
+module _ {A : Type 0} (cs : List (Cell A)) (l : Linked cs) where
+  pub path-some : (k : ℕ) → k < length cs → 0 < length (linkedPath cs k)
+  path-some k h =
+      ⊎-elim (λ (e : linkedPath cs k ≡ k ∷ []). rw e (omega arith))
+      (λ (c : Descends cs k). rw (c .path) (omega (arith, length-append (linkedPath cs (parentAt cs k)) (c .number ∷ []))))
+      (l .link k h)
+
+abbrev pathAncestor : List ℕ → Ancestor
+pathAncestor p = ancestor (getD p 0 0) (pred (length p))
+
+child-ancestor : (p : List ℕ) (i : ℕ) → 0 < length p → raised (pathAncestor p) ≡ pathAncestor (p ++ (i ∷ []))
+child-ancestor p i h =
+    let e : suc (pred (length p)) ≡ pred (length (p ++ (i ∷ []))) = omega (arith, length-append p (i ∷ [])) in
+    ap₂ ancestor (sym (List·getD-append p (i ∷ []) 0 0 h)) e
+
+module _ (cs : List (Cell ℕ)) (l : Linked cs) (four : All Four cs) (t : List ℕ) (rows : take (8 * length cs) t ≡ flatMap rowOf cs) where
+  long : 8 * length cs ≤ length t
+  long = omega (arith, ap length rows, rows-size cs four, length-take (8 * length cs) t)
+
+  held : (k i : ℕ) → k < length cs → i < 8 → getD t (8 * k + i) 0 ≡ getD (rowOf (getD cs k noCell)) i 0
+  held k i h g =
+      sym (getD-take (8 * length cs) t (8 * k + i) 0 (omega arith)) ∙ ap (λ (m : List ℕ). getD m (8 * k + i) 0) rows ∙ row-at cs four k i h g
+
+  pub level-held : (k : ℕ) → k < length cs → levelIn t k ≡ pred (length (linkedPath cs k))
+  unfolding rowOf
+  level-held k h = let e : 8 * k + 0 ≡ 8 * k = omega arith in rw e at (held k 0 h (omega arith))
+
+  parent-held : (k : ℕ) → k < length cs → parentIn t k ≡ parentAt cs k
+  unfolding rowOf
+  parent-held k h = held k 1 h (omega arith)
+
+  pub upward : Upward t (length cs)
+  upward = record { long = long; up = λ k h p. go k h p (l .link k h) }
+    where
+      go : (k : ℕ) → k < length cs → 0 < levelIn t k → (linkedPath cs k ≡ k ∷ []) ⊎ Descends cs k → parentIn t k < k
+      go k h p (inl e) = let w : levelIn t k ≡ 0 = level-held k h ∙ rw e in absurd (omega arith)
+      go k h p (inr c) = rw (parent-held k h) (c .below)
+
+  way : (f k : ℕ) → k ≤ f → k < length cs → climbFrom t f k ≡ ancestorOf (getD cs k noCell)
+  way zero k g h =
+      ⊎-elim (λ (e : linkedPath cs k ≡ k ∷ []). climb-here t zero k (level-held k h ∙ rw e) ∙ rw e) (λ (c : Descends cs k). absurd (omega (arith, c .below)))
+      (l .link k h)
+  way (suc f) k g h =
+      ⊎-elim (λ (e : linkedPath cs k ≡ k ∷ []). climb-here t (suc f) k (level-held k h ∙ rw e) ∙ rw e)
+      (λ (c : Descends cs k).
+      let p : ℕ = parentAt cs k in
+      let b : p < length cs = omega (arith, c .below) in
+      let some : 0 < length (linkedPath cs p) = path-some cs l p b in
+      let up : levelIn t k ≡ 0 → ⊥ =
+      λ z. let w : _≡_ {A = ℕ} 0 (pred (length (linkedPath cs p ++ (c .number ∷ [])))) = sym z ∙ level-held k h ∙ rw (c .path) in omega (arith, w, length-append (linkedPath cs p) (c .number ∷ [])) in
+      climb-up t f k up ∙ ap (λ (q : ℕ). raised (climbFrom t f q)) (parent-held k h) ∙ ap raised (way f p (omega (arith, c .below)) b)
+      ∙ child-ancestor (linkedPath cs p) (c .number) some ∙ rw (c .path))
+      (l .link k h)
+
+  pub climb-right : (c : ℕ) → c < length cs → climbFrom t c c ≡ ancestorOf (getD cs c noCell)
+  climb-right c h = way c c (omega arith) h

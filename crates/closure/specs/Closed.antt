@@ -1,0 +1,141 @@
+-- Bits from the last to the first, cells from the first to the last, and what listed edges say of the paper's tests.
+-- Assumes nothing.
+use mathlib.Core.Path.{_≡_, refl, sym, _∙_, ap, fun-ext}
+use mathlib.Core.Bool.{Bool, true, false}
+use mathlib.Core.List.{List, [], _∷_, map}
+use Prim.Native.Nat.{ℕ, zero, suc, _+_, _*_, _-_, _≤_, _<_}
+use native.Mathlib.Omega.{arith}
+use lib.Dec.{eqb}
+use lib.ListN.{length, getD, drop}
+use lib.Seq.{drop-cons}
+use borrow.Author.Tests.{eq-eqb, ne-eqb}
+use Rattle.base.specs.Bools.{one-if, one-most}
+use Rattle.base.specs.Places.{hasb}
+use Rattle.mesh.specs.Cells.{Cell, redb, edge, edges, bitsOf, heldb, pattern, statusOf, closedFrom}
+use Rattle.rows.specs.Numbered.{cellAt, cellsAt, part}
+use Rattle.edges.specs.Pairs.{Pair, sorted, isb, addPairs, joins-pair, has-pairs}
+use Rattle.closure.specs.Ready.{listedPattern, listedStatus, listedClosed}
+use Rattle.rows.specs.Laws.{cells-cons}
+
+-- the six tests of a cell
+abbrev pub tests : List Pair → Cell ℕ → List Bool
+tests es c = map (λ e. hasb isb es (sorted e)) (edges 0 c)
+
+pub bits-more : (es : List Pair) (c : Cell ℕ) (e : ℕ) → e < 6
+    → bitsOf (drop e (tests es c)) ≡ one-if (hasb isb es (sorted (edge 0 c e))) + 2 * bitsOf (drop (suc e) (tests es c))
+unfolding bitsOf edges
+bits-more es c zero h = refl
+bits-more es c (suc zero) h = refl
+bits-more es c (suc (suc zero)) h = refl
+bits-more es c (suc (suc (suc zero))) h = refl
+bits-more es c (suc (suc (suc (suc zero)))) h = refl
+bits-more es c (suc (suc (suc (suc (suc zero))))) h = refl
+bits-more es c (suc (suc (suc (suc (suc (suc e)))))) h = absurd (omega arith)
+
+pub no-bits : (es : List Pair) (c : Cell ℕ) → bitsOf (drop 6 (tests es c)) ≡ 0
+unfolding bitsOf edges
+no-bits es c = refl
+
+-- what is left of the bits is small
+bits-5 : (es : List Pair) (c : Cell ℕ) → bitsOf (drop 5 (tests es c)) ≤ 1
+bits-5 es c = omega (arith, bits-more es c 5 (omega arith), no-bits es c, one-most (hasb isb es (sorted (edge 0 c 5))))
+
+bits-4 : (es : List Pair) (c : Cell ℕ) → bitsOf (drop 4 (tests es c)) ≤ 3
+bits-4 es c = omega (arith, bits-more es c 4 (omega arith), bits-5 es c, one-most (hasb isb es (sorted (edge 0 c 4))))
+
+bits-3 : (es : List Pair) (c : Cell ℕ) → bitsOf (drop 3 (tests es c)) ≤ 7
+bits-3 es c = omega (arith, bits-more es c 3 (omega arith), bits-4 es c, one-most (hasb isb es (sorted (edge 0 c 3))))
+
+bits-2 : (es : List Pair) (c : Cell ℕ) → bitsOf (drop 2 (tests es c)) ≤ 15
+bits-2 es c = omega (arith, bits-more es c 2 (omega arith), bits-3 es c, one-most (hasb isb es (sorted (edge 0 c 2))))
+
+bits-1 : (es : List Pair) (c : Cell ℕ) → bitsOf (drop 1 (tests es c)) ≤ 31
+bits-1 es c = omega (arith, bits-more es c 1 (omega arith), bits-2 es c, one-most (hasb isb es (sorted (edge 0 c 1))))
+
+pub bits-small : (es : List Pair) (c : Cell ℕ) (e : ℕ) → e < 6 → bitsOf (drop (suc e) (tests es c)) ≤ 31
+bits-small es c zero h = bits-1 es c
+bits-small es c (suc zero) h = omega (arith, bits-2 es c)
+bits-small es c (suc (suc zero)) h = omega (arith, bits-3 es c)
+bits-small es c (suc (suc (suc zero))) h = omega (arith, bits-4 es c)
+bits-small es c (suc (suc (suc (suc zero)))) h = omega (arith, bits-5 es c)
+bits-small es c (suc (suc (suc (suc (suc zero))))) h = omega (arith, no-bits es c)
+bits-small es c (suc (suc (suc (suc (suc (suc e)))))) h = absurd (omega arith)
+
+pub part-cons : (l : List ℕ) (k m : ℕ) → k < length l → part l k (suc m) ≡ getD l k 0 ∷ part l (suc k) m
+part-cons l k m h = rw (drop-cons l k 0 h)
+
+module _ (es : List Pair) (t l : List ℕ) where
+  -- what a range from c on decides, as far as its first cell decides it
+  pub closed-next : (c last : ℕ) → c < last → last ≤ length l → getD l c 0 ≡ listedStatus es (redb (getD l c 0)) (cellAt t c)
+      → listedClosed es (cellsAt t c (last - c)) (part l c (last - c)) ≡ listedClosed es (cellsAt t (c + 1) (last - (c + 1))) (part l (c + 1) (last - (c + 1)))
+  unfolding listedClosed
+  closed-next c last h g e =
+      let k : last - c ≡ suc (last - (c + 1)) = omega arith in
+      let w : c + 1 ≡ suc c = omega arith in
+      rw (k, cells-cons t c (last - (c + 1)), part-cons l c (last - (c + 1)) (omega arith), eq-eqb (getD l c 0) (listedStatus es (redb (getD l c 0)) (cellAt t c)) e, w)
+
+  pub closed-not : (c last : ℕ) → c < last → last ≤ length l → (getD l c 0 ≡ listedStatus es (redb (getD l c 0)) (cellAt t c) → ⊥)
+      → listedClosed es (cellsAt t c (last - c)) (part l c (last - c)) ≡ false
+  unfolding listedClosed
+  closed-not c last h g e =
+      let k : last - c ≡ suc (last - (c + 1)) = omega arith in
+      rw (k, cells-cons t c (last - (c + 1)), part-cons l c (last - (c + 1)) (omega arith), ne-eqb (getD l c 0) (listedStatus es (redb (getD l c 0)) (cellAt t c)) e)
+
+  pub closed-end : (last : ℕ) → listedClosed es (cellsAt t last (last - last)) (part l last (last - last)) ≡ true
+  unfolding listedClosed cellsAt
+  closed-end last = let e : last - last ≡ 0 = omega arith in rw e
+
+-- Listed edges and the edges of red cells.
+pub record Lists (es reds : List Pair) : Type 0 where
+  pub has : (p : Pair) → hasb isb es p ≡ hasb isb (map sorted reds) p
+
+pub lists-added : (reds : List Pair) → Lists (addPairs [] reds) reds
+unfolding hasb
+lists-added reds = record { has = λ p. has-pairs [] reds p }
+
+module _ (es reds : List Pair) (m : Lists es reds) where
+  pub held-listed : (e : Pair) → hasb isb es (sorted e) ≡ heldb eqb reds e
+  held-listed e = m .has (sorted e) ∙ sym (joins-pair reds e)
+
+  pub pattern-listed : (c : Cell ℕ) → listedPattern es c ≡ pattern 0 eqb reds c
+  unfolding listedPattern pattern
+  pattern-listed c = ap (λ (f : Pair → Bool). bitsOf (map f (edges 0 c))) (fun-ext held-listed)
+
+  pub status-listed : (r : Bool) (c : Cell ℕ) → listedStatus es r c ≡ statusOf 0 eqb reds r c
+  unfolding listedStatus statusOf
+  status-listed r c = ap (λ (p : ℕ). elim (c .regular) [ true ↦ elim r [ true ↦ 64 | false ↦ p ] | false ↦ 0 ]) (pattern-listed c)
+
+  pub closed-listed : (cs : List (Cell ℕ)) (ss : List ℕ) → listedClosed es cs ss ≡ closedFrom 0 eqb reds cs ss
+  unfolding listedClosed closedFrom
+  closed-listed [] [] = refl
+  closed-listed [] (s ∷ ss) = refl
+  closed-listed (c ∷ cs) [] = refl
+  closed-listed (c ∷ cs) (s ∷ ss) = rw (status-listed (redb s) c, closed-listed cs ss)
+
+-- one turn of the loop over the bits
+module _ (es : List Pair) (c : Cell ℕ) (p e : ℕ) (h : 0 < e) (g : e ≤ 6) (i : p ≡ bitsOf (drop e (tests es c))) where
+  before : suc (e - 1) ≡ e
+  before = omega arith
+
+  pub small-bits : p ≤ 31
+  small-bits = rw i (rw before at (bits-small es c (e - 1) (omega arith)))
+
+  pub bit-turn : (b : ℕ) → b ≡ one-if (hasb isb es (sorted (edge 0 c (e - 1)))) → b + 2 * p ≡ bitsOf (drop (e - 1) (tests es c))
+  bit-turn b k =
+      let w : bitsOf (drop (e - 1) (tests es c)) ≡ one-if (hasb isb es (sorted (edge 0 c (e - 1)))) + 2 * bitsOf (drop e (tests es c)) =
+      rw before at (bits-more es c (e - 1) (omega arith)) in
+      omega arith
+
+-- the three cases of a status
+module _ (es : List Pair) (r : Bool) (c : Cell ℕ) where
+  pub status-irregular : c .regular ≡ false → listedStatus es r c ≡ 0
+  unfolding listedStatus
+  status-irregular e = rw (e, listedStatus)
+
+  pub listed-red : c .regular ≡ true → r ≡ true → listedStatus es r c ≡ 64
+  unfolding listedStatus
+  listed-red e f = rw (e, f, listedStatus)
+
+  pub status-pattern : c .regular ≡ true → r ≡ false → listedStatus es r c ≡ listedPattern es c
+  unfolding listedStatus
+  status-pattern e f = rw (e, f, listedStatus)

@@ -1,0 +1,9 @@
+pub mod Calls
+pub mod Played
+pub mod Finite
+pub mod Places
+pub mod Exchange
+pub mod Protocol
+pub mod Lockstep
+pub mod Theorem
+pub mod Sample

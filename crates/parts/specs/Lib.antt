@@ -1,0 +1,4 @@
+pub mod Owners
+pub mod Held
+pub mod Merge
+pub mod Samples

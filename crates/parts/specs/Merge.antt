@@ -1,0 +1,34 @@
+-- Merging: the masters among the entries of all parts, put in the order of a table, level by level (document 01, "Parts").
+--   lookup es l            the status of the master with the path l among the entries es; 0 where there is none
+--   childPaths ls ts       the paths one level up of the cells with the paths ls and the statuses ts
+--   gather h es ls         at most h levels of statuses, from the cells with the paths ls on
+--   merged es m            the table that the entries es make over m coarse cells, level by level
+use mathlib.Core.Bool.{true, false, _&&_, not}
+use mathlib.Core.List.{List, [], _∷_, _++_, map}
+use Prim.Native.Nat.{ℕ, zero, suc}
+use Rattle.base.specs.Lists.{sameb}
+use Rattle.base.specs.Range.{range}
+use Rattle.mesh.specs.Table.{sizeOf}
+use Rattle.parts.specs.Held.{Entry}
+
+unfoldable pub lookup : List Entry → List ℕ → ℕ
+unfolding sameb
+lookup [] l = 0
+lookup (e ∷ es) l = elim (not (e .ghost) && sameb (e .path) l) [ true ↦ e .status | false ↦ lookup es l ]
+
+unfoldable pub childPaths : List (List ℕ) → List ℕ → List (List ℕ)
+unfolding sizeOf range
+childPaths [] ts = []
+childPaths (l ∷ ls) [] = []
+childPaths (l ∷ ls) (t ∷ ts) = map (λ i. l ++ (i ∷ [])) (range 0 (sizeOf t)) ++ childPaths ls ts
+
+unfoldable pub gather : ℕ → List Entry → List (List ℕ) → List (List ℕ)
+unfolding lookup childPaths
+gather zero es ls = []
+gather (suc h) es [] = []
+gather (suc h) es (l ∷ ls) = let ts = map (lookup es) (l ∷ ls) in ts ∷ gather h es (childPaths (l ∷ ls) ts)
+
+-- twelve levels, as in a table: one more than is allowed
+unfoldable pub merged : List Entry → ℕ → List (List ℕ)
+unfolding gather range
+merged es m = gather 12 es (map (λ i. i ∷ []) (range 0 m))

@@ -1,0 +1,11 @@
+pub mod Tests
+pub mod Task
+pub mod Rounds
+pub mod Among
+pub mod Enough
+pub mod Take
+pub mod Order
+pub mod Rounded
+pub mod Upward
+pub mod Totals
+pub mod Bound

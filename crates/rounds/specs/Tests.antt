@@ -1,0 +1,106 @@
+-- Tests on lists by membership.
+--   same-test      two tests that pass together are equal
+--   any-member, member-any   an element that passes
+--   Member x l     x stands in l
+use mathlib.Core.Path.{_≡_, refl, ap₂}
+use mathlib.Core.Logic.{_⊎_, inl, inr, ⊎-elim}
+use mathlib.Core.Bool.{Bool, true, false, _&&_, _||_}
+use mathlib.Core.List.{List, [], _∷_}
+use Prim.Native.Nat.{ℕ}
+use lib.Dec.{T, eqb, eqb→eq}
+use borrow.Author.Tests.{eq-eqb}
+use Rattle.base.specs.Lists.{allb, anyb, filterb, memberb}
+
+abbrev pub Member : ℕ → List ℕ → Type 0
+Member x l = T (memberb x l)
+
+pub same-test : (a b : Bool) → (T a → T b) → (T b → T a) → a ≡ b
+same-test true true f g = refl
+same-test true false f g = absurd (f tt)
+same-test false true f g = absurd (g tt)
+same-test false false f g = refl
+
+pub or-cases : (a b : Bool) → T (a || b) → T a ⊎ T b
+or-cases true b t = inl tt
+or-cases false b t = inr t
+
+pub or-left : (a b : Bool) → T a → T (a || b)
+or-left true b t = tt
+or-left false b t = absurd t
+
+pub or-right : (a b : Bool) → T b → T (a || b)
+or-right true b t = tt
+or-right false b t = t
+
+pub and-make : (a b : Bool) → T a → T b → T (a && b)
+and-make true b s t = t
+and-make false b s t = absurd s
+
+pub member-head : (x : ℕ) (l : List ℕ) → Member x (x ∷ l)
+unfolding memberb
+member-head x l = rw (eq-eqb x x refl) tt
+
+pub member-cases : (x y : ℕ) (l : List ℕ) → Member x (y ∷ l) → (x ≡ y) ⊎ Member x l
+unfolding memberb
+member-cases x y l t = ⊎-elim (λ (u : T (eqb x y)). inl (eqb→eq x y u)) (λ (u : T (memberb x l)). inr u)
+    (or-cases (eqb x y) (memberb x l) t)
+
+pub member-tail : (x y : ℕ) (l : List ℕ) → Member x l → Member x (y ∷ l)
+unfolding memberb
+member-tail x y l t = or-right (eqb x y) (memberb x l) t
+
+module _ (f : ℕ → Bool) where
+  pub any-member : (l : List ℕ) → T (anyb f l) → (x : ℕ) × Member x l × T (f x)
+  unfolding anyb
+  any-member [] t = absurd t
+  any-member (x ∷ l) t =
+      ⊎-elim (λ (u : T (f x)). (x, member-head x l, u)) (λ (u : T (anyb f l)). let (y, m, v) = any-member l u in
+      (y, member-tail y x l m, v))
+      (or-cases (f x) (anyb f l) t)
+
+  pub member-any : (l : List ℕ) (x : ℕ) → Member x l → T (f x) → T (anyb f l)
+  unfolding anyb memberb
+  member-any [] x m t = absurd m
+  member-any (y ∷ l) x m t =
+      ⊎-elim (λ (e : x ≡ y). or-left (f y) (anyb f l) (rw e at t)) (λ (n : Member x l). or-right (f y) (anyb f l) (member-any l x n t))
+      (member-cases x y l m)
+
+  pub filtered-member : (l : List ℕ) (x : ℕ) → Member x (filterb f l) → Member x l × T (f x)
+  unfolding filterb memberb
+  filtered-member [] x m = absurd m
+  filtered-member (y ∷ l) x m = go (f y) refl (filtered-member l x)
+    where
+      go : (b : Bool) → f y ≡ b → (Member x (filterb f l) → Member x l × T (f x)) → Member x (y ∷ l) × T (f x)
+      go true e r =
+          let n : Member x (y ∷ filterb f l) = rw (e, filterb) at m in
+          ⊎-elim (λ (q : x ≡ y). (rw q (member-head y l), rw (q, e) tt)) (λ (q : Member x (filterb f l)). let (a, b) = r q in
+          (member-tail x y l a, b)) (member-cases x y (filterb f l) n)
+      go false e r = let n : Member x (filterb f l) = rw (e, filterb) at m in let (a, b) = r n in (member-tail x y l a, b)
+
+  pub member-filtered : (l : List ℕ) (x : ℕ) → Member x l → T (f x) → Member x (filterb f l)
+  unfolding filterb memberb
+  member-filtered [] x m t = absurd m
+  member-filtered (y ∷ l) x m t = go (f y) refl (member-filtered l x)
+    where
+      go : (b : Bool) → f y ≡ b → (Member x l → T (f x) → Member x (filterb f l)) → Member x (filterb f (y ∷ l))
+      go true e r = rw (e, filterb) (⊎-elim (λ (q : x ≡ y). rw q (member-head y (filterb f l)))
+          (λ (q : Member x l). member-tail x y (filterb f l) (r q t)) (member-cases x y l m))
+      go false e r = rw (e, filterb) (⊎-elim (λ (q : x ≡ y). absurd (rw (q, e) at t)) (λ (q : Member x l). r q t) (member-cases x y l m))
+
+-- two tests that agree on a list
+module _ (f g : ℕ → Bool) where
+  pub any-agree : (l : List ℕ) → ((x : ℕ) → Member x l → f x ≡ g x) → anyb f l ≡ anyb g l
+  unfolding anyb
+  any-agree [] h = refl
+  any-agree (x ∷ l) h = ap₂ _||_ (h x (member-head x l)) (any-agree l (λ y m. h y (member-tail y x l m)))
+
+  pub all-agree : (l : List ℕ) → ((x : ℕ) → Member x l → f x ≡ g x) → allb f l ≡ allb g l
+  unfolding allb
+  all-agree [] h = refl
+  all-agree (x ∷ l) h = ap₂ _&&_ (h x (member-head x l)) (all-agree l (λ y m. h y (member-tail y x l m)))
+
+  pub filter-agree : (l : List ℕ) → ((x : ℕ) → Member x l → f x ≡ g x) → filterb f l ≡ filterb g l
+  unfolding filterb
+  filter-agree [] h = refl
+  filter-agree (x ∷ l) h = ap₂ (λ (b : Bool) (m : List ℕ). elim b [ true ↦ x ∷ m | false ↦ m ]) (h x (member-head x l))
+      (filter-agree l (λ y m. h y (member-tail y x l m)))

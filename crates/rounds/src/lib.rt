@@ -1,0 +1,1 @@
+// The rounds of a split step. There is no code here: see specs/.

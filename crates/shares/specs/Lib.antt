@@ -1,0 +1,13 @@
+pub mod Flat
+pub mod After
+pub mod Grow
+pub mod There
+pub mod Owned
+pub mod Settled
+pub mod Fresh
+pub mod Present
+pub mod Entries
+pub mod Once
+pub mod Held
+pub mod Share
+pub mod Keeps

@@ -1,0 +1,11 @@
+pub mod Fields
+pub mod Header
+pub mod Message
+pub mod Fetch
+pub mod Hand
+pub mod Headed
+pub mod Bytes
+pub mod Seek
+pub mod Fetching
+pub mod Checks
+pub mod Handing

@@ -1,0 +1,40 @@
+-- The bytes of messages.
+--   two x           a number's two bytes, least first
+--   bodyOf c v      the bytes behind the heading of the written message c with the value v, and kindOf c its kind
+--   messageOf p q k c v    the message from p to q with the count k
+use mathlib.Core.Bool.{true, false}
+use mathlib.Core.List.{List, [], _∷_, _++_}
+use Prim.Native.Nat.{ℕ, _+_, _-_, _/_, _%_}
+use lib.Dec.{ltb}
+
+abbrev pub two : ℕ → List ℕ
+two x = x % 256 ∷ x / 256 % 256 ∷ []
+
+-- below 4,096 a cell's mark, then a slot's count, then totals with the top level, then a round's end
+unfoldable pub kindOf : ℕ → ℕ
+kindOf c =
+    elim (ltb c 4096) [
+      | true ↦ 1
+      | false ↦ elim (ltb c 28672) [
+        | true ↦ 2
+        | false ↦ elim (ltb c 28928) [ true ↦ 3 | false ↦ 4 ]
+      ]
+    ]
+
+unfoldable pub bodyOf : ℕ → ℕ → List ℕ
+bodyOf c v =
+    elim (ltb c 4096) [
+      | true ↦ two c ++ (v % 256 ∷ [])
+      | false ↦ elim (ltb c 28672) [
+        | true ↦ two (c - 4096) ++ two v
+        | false ↦ elim (ltb c 28928) [ true ↦ two v ++ ((c - 28672) ∷ []) | false ↦ [] ]
+      ]
+    ]
+
+unfoldable pub headOf : ℕ → ℕ → ℕ → ℕ → List ℕ
+unfolding kindOf
+headOf p q k c = kindOf c ∷ p ∷ q ∷ two k
+
+unfoldable pub messageOf : ℕ → ℕ → ℕ → ℕ → ℕ → List ℕ
+unfolding headOf bodyOf
+messageOf p q k c v = headOf p q k c ++ bodyOf c v

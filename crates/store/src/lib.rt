@@ -1,0 +1,101 @@
+// A part's store and the calls that carry messages, as definitions on numbers: see specs/. The types that the calls answer with.
+// The offsets of specs/Fields.
+pub const FULL: usize = 226488;
+
+pub const STAGE: usize = 0;
+
+pub const PART: usize = 1;
+
+pub const PARTS: usize = 2;
+
+pub const CORNERS: usize = 3;
+
+pub const COARSE: usize = 4;
+
+pub const CELLS: usize = 5;
+
+pub const LEVELS: usize = 6;
+
+pub const ROUND: usize = 7;
+
+pub const RESULT: usize = 8;
+
+pub const ENTRIES: usize = 9;
+
+pub const TOTAL: usize = 10;
+
+pub const HIGH: usize = 11;
+
+pub const CURSOR: usize = 12;
+
+pub const BIT: usize = 13;
+
+pub const WRITTEN: usize = 14;
+
+pub const FIRST_CELL: usize = 16;
+
+pub const FIRST_SLOT: usize = 28;
+
+pub const TAKEN: usize = 63;
+
+pub const ENDED: usize = 79;
+
+pub const GIVEN: usize = 96;
+
+pub const OWNER: usize = 112;
+
+pub const FAMILY: usize = 4208;
+
+pub const STATUS: usize = 8304;
+
+pub const REGULAR: usize = 12400;
+
+pub const CHILD: usize = 16496;
+
+pub const PARENT: usize = 20592;
+
+pub const HEAD: usize = 24688;
+
+pub const DIGITS: usize = 28784;
+
+pub const MORE: usize = 32880;
+
+pub const INNER: usize = 36976;
+
+pub const MARK: usize = 41072;
+
+pub const RED: usize = 45168;
+
+pub const CORNER: usize = 49264;
+
+pub const SLOT: usize = 50288;
+
+pub const HOLDERS: usize = 74864;
+
+pub const SUM: usize = 99440;
+
+pub const CODE: usize = 124016;
+
+pub const VALUE: usize = 152712;
+
+pub const RECEIVERS: usize = 181408;
+
+pub const PLACE_HEAD: usize = 210104;
+
+pub const PLACE_DIGITS: usize = 214200;
+
+pub const PLACE_MORE: usize = 218296;
+
+pub const PLACE_STATUS: usize = 222392;
+
+// A written message: its entry and the receiver's bit.
+pub struct Spot {
+    pub entry: usize,
+    pub bit: usize,
+}
+
+pub enum Fetched {
+    Message(usize),
+    Nothing,
+    Refused(u8),
+}
