@@ -1,4 +1,4 @@
-/* Yuccadice: red/green refinement of tetrahedral meshes, every promise proved. The library is target/staticlib/libyuccadice.a
+/* Yuccadice: red/green refinement of tetrahedral meshes, every promise proved. The library is libyuccadice.a, or libyuccadice.so
  * (docs/LIBRARY.md).
  *
  * Each function answers YD_ACCEPTED, or the number of a refusal: that of the first condition in its list that holds. It answers on any input.
@@ -9,6 +9,13 @@
  *   - The caller sees to this: no pointer is null, not even that of an empty table; each points to so many numbers, all of them set; nothing that a
  *     function writes overlaps anything else that it is lent; nobody writes any of it before the function returns; the stack has YD_STACK bytes.
  *   - The functions keep nothing between calls, so several threads may call them at a time.
+ *   - An empty table's pointer must not be null, but is not read. Where the language's own empty one is null, as data() of an empty std::vector may be,
+ *     lend any other pointer to such numbers with the length 0: in C++ YD_DATA, at the end, does so. A job without marks has two such tables.
+ *   - Work tables are on the stack. Where it is too small a call does not answer: it meets the guard page below the stack and the program ends by a
+ *     signal (SIGSEGV). A stack without a guard page is overrun without a word. The main thread has 8 MiB as a rule; a thread that you start should
+ *     have YD_STACK bytes beside what it needs itself (pthread_attr_setstacksize).
+ *   - A step may renumber cells, and corners that stay. A corner's name is its weights on the coarse corners, which yd_lay_out's ends give: go by them to
+ *     carry values over (docs/LIBRARY.md).
  */
 #ifndef YUCCADICE_H
 #define YUCCADICE_H
@@ -17,8 +24,13 @@
 #include <stdint.h>
 
 #ifdef __cplusplus
+#include <type_traits>
 extern "C" {
 #endif
+
+/* The version of this header and its library: 10,000 times the first number, 100 times the second, the third. */
+#define YD_VERSION "1.1.0"
+#define YD_VERSION_NUMBER 10100
 
 /* The limits. */
 #define YD_MOST_COARSE_CORNERS 512 /* 4 to 512 corners of a coarse mesh */
@@ -46,17 +58,17 @@ extern "C" {
 
 /* Answers. */
 #define YD_ACCEPTED 0
-#define YD_REFUSED_COUNTS 1    /* too few or too many corners or cells, or a list's length no multiple of 3 or 4 */
-#define YD_REFUSED_RANGE 2     /* a coordinate out of its range */
-#define YD_REFUSED_NUMBERS 3   /* a cell's corner numbers do not ascend strictly, or are not below the count */
-#define YD_REFUSED_FLAT 4      /* a flat cell */
-#define YD_REFUSED_FACES 5     /* two cells with the same corners, or a face in three cells */
-#define YD_REFUSED_STATUS 6    /* a status table that is not sound; a pattern above 63 */
-#define YD_REFUSED_MARKS 7     /* marks of wrong length, above 2 or not 0 on a refined cell; a cell or corner number not below the count */
-#define YD_REFUSED_LEVEL 8     /* a level above 10 would arise */
-#define YD_REFUSED_CELLS 9     /* more than 4,096 cells would arise */
-#define YD_REFUSED_SHORT 15    /* a lent table is shorter than its full length */
-#define YD_REFUSED_FORM 17     /* an archive's bytes are not in the form, or would be more than 65,536 */
+#define YD_REFUSED_COUNTS 1  /* too few or too many corners or cells, or a list's length no multiple of 3 or 4 */
+#define YD_REFUSED_RANGE 2   /* a coordinate out of its range */
+#define YD_REFUSED_NUMBERS 3 /* a cell's corner numbers do not ascend strictly, or are not below the count */
+#define YD_REFUSED_FLAT 4    /* a flat cell */
+#define YD_REFUSED_FACES 5   /* two cells with the same corners, or a face in three cells */
+#define YD_REFUSED_STATUS 6  /* a status table that is not sound, or a pattern above 63 */
+#define YD_REFUSED_MARKS 7   /* marks of wrong length, above 2 or not 0 on a refined cell, or a cell or corner number not below the count */
+#define YD_REFUSED_LEVEL 8   /* a level above 10 would arise */
+#define YD_REFUSED_CELLS 9   /* more than 4,096 cells would arise */
+#define YD_REFUSED_SHORT 15  /* a lent table is shorter than its full length */
+#define YD_REFUSED_FORM 17   /* an archive's bytes are not in the form, or would be more than 65,536 */
 
 /* A status, a mark, and the parent of a coarse cell. */
 #define YD_LEAF 0
@@ -111,7 +123,7 @@ uint8_t yd_counts(const int32_t *positions, size_t positions_length, const uint1
                   const uint8_t *status, size_t status_length, uint16_t *counts, size_t counts_length, size_t *level_count);
 
 /* One step. marks has a byte a cell: 0 none, 1 refine, 2 delete.
- * After: table has the statuses of the new cells, *cell_count their number.
+ * After: table has the statuses of the new cells, *cell_count their number. Corners that stay may have other numbers in the new layout.
  * Refusals: 15, 1 to 9. */
 uint8_t yd_step(const int32_t *positions, size_t positions_length, const uint16_t *cells, size_t cells_length,
                 const uint8_t *status, size_t status_length, const uint8_t *marks, size_t marks_length,
@@ -143,8 +155,36 @@ uint8_t yd_write(const int32_t *positions, size_t positions_length, const uint16
 uint8_t yd_replay(const uint8_t *bytes, size_t bytes_length, uint8_t *table, size_t table_length, uint16_t *counts, size_t counts_length,
                   size_t *cell_count, size_t *level_count);
 
+/* An answer in words; what is no answer of this library is told as such. Not proved. */
+static inline const char *yd_says(uint8_t answer) {
+    switch (answer) {
+    case YD_ACCEPTED: return "accepted";
+    case YD_REFUSED_COUNTS: return "too few or too many corners or cells, or a list's length no multiple of 3 or 4";
+    case YD_REFUSED_RANGE: return "a coordinate out of its range";
+    case YD_REFUSED_NUMBERS: return "a cell's corner numbers do not ascend strictly, or are not below the count";
+    case YD_REFUSED_FLAT: return "a flat cell";
+    case YD_REFUSED_FACES: return "two cells with the same corners, or a face in three cells";
+    case YD_REFUSED_STATUS: return "a status table that is not sound, or a pattern above 63";
+    case YD_REFUSED_MARKS:
+        return "marks of wrong length, above 2 or not 0 on a refined cell, or a cell or corner number not below the count";
+    case YD_REFUSED_LEVEL: return "a level above 10 would arise";
+    case YD_REFUSED_CELLS: return "more than 4,096 cells would arise";
+    case YD_REFUSED_SHORT: return "a lent table is shorter than its full length";
+    case YD_REFUSED_FORM: return "an archive's bytes are not in the form, or would be more than 65,536";
+    default: return "no answer of this library";
+    }
+}
+
 #ifdef __cplusplus
 }
+
+/* A vector, or any container with data() and size(), as a pointer that is not null and a length:
+ *     yd_examine_mesh(YD_DATA(positions), YD_DATA(cells)) */
+template <typename Container> inline auto yd_data(Container &table) -> decltype(table.data()) {
+    static typename std::remove_const<typename std::remove_pointer<decltype(table.data())>::type>::type nothing;
+    return table.size() == 0 ? &nothing : table.data();
+}
+#define YD_DATA(table) yd_data(table), (table).size()
 #endif
 
 #endif

@@ -24,11 +24,11 @@ def read_vtk(text):
             points = [tuple(float(next(words)) for _ in range(3)) for _ in range(_count(words))]
         elif word == "CELLS":
             cells = [tuple(int(next(words)) for _ in range(5))[1:] for _ in range(_count(words))]
-        elif word == "SCALARS":
-            name = next(words)
-            for _ in range(4):  # int 1 LOOKUP_TABLE default
-                next(words)
-            data[name] = [int(next(words)) for _ in cells]
+        elif word == "FIELD":
+            next(words)  # the block's name
+            for _ in range(int(next(words))):
+                name, _, count, _ = (next(words) for _ in range(4))
+                data[name] = [int(next(words)) for _ in range(int(count))]
     return points, cells, data
 
 

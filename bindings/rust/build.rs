@@ -1,4 +1,4 @@
-//! Links libyuccadice.a of $YUCCADICE_LIB_DIR, or else of target/staticlib, where `rt staticlib yuccadice` writes it.
+//! Links libyuccadice.a of $YUCCADICE_LIB_DIR, or of the repository's target/staticlib, where `rt staticlib yuccadice` writes it, or of the installed tree.
 
 use std::env;
 use std::path::PathBuf;
@@ -8,7 +8,8 @@ fn main() {
     let here = PathBuf::from(env::var("CARGO_MANIFEST_DIR").expect("cargo sets it"));
     let directory = match env::var("YUCCADICE_LIB_DIR") {
         Ok(directory) => PathBuf::from(directory),
-        Err(_) => here.join("../../target/staticlib"),
+        Err(_) if here.join("../../include").is_dir() => here.join("../../target/staticlib"),
+        Err(_) => here.join("../../../lib"), // PREFIX/share/yuccadice/rust
     };
     let archive = directory.join("libyuccadice.a");
     println!("cargo:rerun-if-changed={}", archive.display());

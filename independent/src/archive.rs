@@ -174,7 +174,7 @@ pub fn form(bytes: &[u8]) -> Option<Job> {
             [b'M'] => {
                 let cell = u16::from_le_bytes(take(&mut rest)?);
                 let [mark] = take(&mut rest)?;
-                let ascends = marked.last().is_none_or(|&(last, _)| last < cell);
+                let ascends = marked.last().map_or(true, |&(last, _)| last < cell);
                 if !ascends || !(1..=2).contains(&mark) {
                     return None;
                 }
@@ -188,7 +188,7 @@ pub fn form(bytes: &[u8]) -> Option<Job> {
 }
 
 fn take<const N: usize>(rest: &mut &[u8]) -> Option<[u8; N]> {
-    let (first, after) = rest.split_first_chunk::<N>()?;
-    *rest = after;
-    Some(*first)
+    let first = rest.get(..N)?.try_into().ok()?;
+    *rest = &rest[N..];
+    Some(first)
 }

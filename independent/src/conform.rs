@@ -22,7 +22,7 @@ pub fn conform(coarse: &Coarse, layout: &Layout) -> Result<(), String> {
     for (i, leaf) in layout.cells.iter().enumerate().filter(|(_, c)| c.status == LEAF) {
         for (a, b) in edges(leaf) {
             let middle = half_sum(&layout.corners[a], &layout.corners[b]);
-            if middle.is_some_and(|m| corners.contains(&m)) {
+            if middle.map_or(false, |m| corners.contains(&m)) {
                 return Err(format!("leaf {i} has a corner in the middle of edge {a} {b}"));
             }
         }

@@ -1,7 +1,6 @@
 //! Cutting one cell: the families of the 64 patterns, from the heights rule.
 
 use crate::Refusal;
-use std::sync::OnceLock;
 
 /// The two local corners (from 0) of each edge: 12, 13, 14, 23, 24, 34.
 pub const EDGES: [(usize, usize); 6] = [(0, 1), (0, 2), (0, 3), (1, 2), (1, 3), (2, 3)];
@@ -24,11 +23,13 @@ struct Point {
     height: i64,
 }
 
+thread_local! {
+    static TABLE: Vec<Vec<[u8; 4]>> = (0..64).map(by_heights).collect();
+}
+
 /// The children of a cell with this pattern, each as its four digits.
 pub fn family(pattern: u8) -> Result<Vec<[u8; 4]>, Refusal> {
-    static TABLE: OnceLock<Vec<Vec<[u8; 4]>>> = OnceLock::new();
-    let table = TABLE.get_or_init(|| (0..64).map(by_heights).collect());
-    table.get(pattern as usize).cloned().ok_or(6)
+    TABLE.with(|table| table.get(pattern as usize).cloned().ok_or(6))
 }
 
 /// The corners, and the midpoints of the split edges, by rising digit.

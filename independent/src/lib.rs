@@ -5,8 +5,10 @@
 pub mod archive;
 pub mod conform;
 pub mod cutting;
+pub mod fingerprint;
 pub mod mesh;
 pub mod random;
+pub mod sha256;
 pub mod step;
 pub mod trial;
 

@@ -47,7 +47,7 @@ pub fn step_without_count(coarse: &Coarse, old: &Layout, marks: &[u8]) -> Result
             });
         }
         let top = cells[level.start].level == TOP_LEVEL;
-        let statuses = close(cells, level, |i| same[i].is_some_and(|o| red[o]));
+        let statuses = close(cells, level, |i| same[i].map_or(false, |o| red[o]));
         if top && statuses.iter().any(|&s| s != LEAF) {
             return Err(8);
         }

@@ -137,7 +137,7 @@ fn third_condition_alone(mesh: &Coarse, table: &[u8]) -> bool {
         }
         Ok(statuses)
     });
-    right.is_ok_and(|layout| layout.cells.len() == table.len()) && table.len() <= MOST_CELLS
+    right.map_or(false, |layout| layout.cells.len() == table.len()) && table.len() <= MOST_CELLS
 }
 
 #[test]

@@ -1,47 +1,126 @@
-//! Yuccadice for Rust. The functions here make the tables that the library fills; those of `lent` take them from the caller, of any length. What each
-//! table holds is said in include/yuccadice.h.
+//! Yuccadice for Rust: red/green refinement of tetrahedral meshes, every promise of the library proved. The functions here make the tables that the
+//! library fills; those of [`lent`] take them from the caller, of any length. What each table holds is said in include/yuccadice.h.
+//!
+//! ```
+//! use yuccadice::{lay_out, step, Mesh, LEAF, REFINE};
+//! let mesh = Mesh { positions: vec![0, 0, 0, 16, 0, 0, 0, 16, 0, 0, 0, 16], cells: vec![0, 1, 2, 3] };
+//! let status = step(&mesh, &[LEAF], &[REFINE])?;
+//! let layout = lay_out(&mesh, &status)?;
+//! assert_eq!((layout.cells.len(), layout.position(4)?), (9, [8.0, 0.0, 0.0]));
+//! # Ok::<(), yuccadice::Refusal>(())
+//! ```
+#![deny(missing_docs)]
 
+use std::collections::HashMap;
 use std::fmt;
 
 pub mod lent;
 
+/// The version of the library that this crate belongs to.
+pub const VERSION: &str = "1.1.0";
+/// The version as one number: 10,000 times its first, 100 times its second, its third.
+pub const VERSION_NUMBER: u32 = 10_100;
+
+/// A coarse mesh has 4 to so many corners.
+pub const MOST_COARSE_CORNERS: usize = 512;
+/// A coarse mesh has 1 to so many cells.
+pub const MOST_COARSE_CELLS: usize = 256;
+/// A coordinate is within this, on both sides of 0, in tenths of a millimetre.
+pub const MOST_COORDINATE: i32 = 500_000;
+/// A table has at most so many cells, over all levels.
+pub const MOST_CELLS: usize = 4096;
+/// A table has at most so many corners.
+pub const MOST_CORNERS: usize = 16_384;
+/// Levels are 0 to 10.
+pub const MOST_LEVELS: usize = 11;
+/// An archive has at most so many bytes.
+pub const MOST_BYTES: usize = 65_536;
+/// Bytes of stack: more than any call needs. A thread that is started with less ends the program by a signal.
+pub const STACK: usize = 1_048_576;
+
+/// The full length of `digits`: four digits for each of eight children.
 pub const DIGITS_LENGTH: usize = 32;
+/// The full length of `table` of a layout: eight numbers a cell.
 pub const TABLE_LENGTH: usize = 32_768;
+/// The full length of `ends`: two numbers a corner.
 pub const ENDS_LENGTH: usize = 32_768;
+/// The full length of `sums`: three numbers a corner.
 pub const SUMS_LENGTH: usize = 49_152;
+/// The full length of `counts`: four numbers a level.
 pub const COUNTS_LENGTH: usize = 44;
+/// The full length of a step's table: a status a cell.
 pub const STATUS_LENGTH: usize = 4096;
+/// The full length of `positions` of an archive: three numbers a coarse corner.
 pub const POSITIONS_LENGTH: usize = 1536;
+/// The full length of `cells` of an archive: four numbers a coarse cell.
 pub const COARSE_CELLS_LENGTH: usize = 1024;
+/// The full length of `marked` of an archive: a cell number a mark.
 pub const MARKED_LENGTH: usize = 16_384;
+/// The full length of `marks` of an archive: 1 or 2 a mark.
 pub const MARKS_LENGTH: usize = 16_384;
+/// The full length of `step_ends` of an archive: a number a step.
 pub const STEP_ENDS_LENGTH: usize = 65_536;
+/// The full length of `bytes`.
 pub const BYTES_LENGTH: usize = 65_536;
 
+/// The status of a leaf.
 pub const LEAF: u8 = 0;
+/// The status of a red cell. From 1 to 63: green, closed with that pattern.
 pub const RED: u8 = 64;
+/// The mark that refines a cell; 0 is no mark.
 pub const REFINE: u8 = 1;
+/// The mark that deletes a cell.
 pub const DELETE: u8 = 2;
+/// The parent of a coarse cell in the library's own table; [`Cell::parent`] is `None`.
+pub const NO_PARENT: u16 = 65_535;
+
+/// What the functions of [`lent`] answer where the call is accepted.
+pub const ACCEPTED: u8 = 0;
 
 /// The number of a refusal.
-#[derive(Clone, Copy, Debug, PartialEq, Eq)]
+#[derive(Clone, Copy, Debug, PartialEq, Eq, Hash)]
 pub struct Refusal(pub u8);
+
+impl Refusal {
+    /// Too few or too many corners or cells, or a list's length no multiple of 3 or 4.
+    pub const COUNTS: Refusal = Refusal(1);
+    /// A coordinate out of its range.
+    pub const RANGE: Refusal = Refusal(2);
+    /// A cell's corner numbers do not ascend strictly, or are not below the count.
+    pub const NUMBERS: Refusal = Refusal(3);
+    /// A flat cell.
+    pub const FLAT: Refusal = Refusal(4);
+    /// Two cells with the same corners, or a face in three cells.
+    pub const FACES: Refusal = Refusal(5);
+    /// A status table that is not sound, or a pattern above 63.
+    pub const STATUS: Refusal = Refusal(6);
+    /// Marks of wrong length, above 2 or not 0 on a refined cell, or a cell or corner number not below the count.
+    pub const MARKS: Refusal = Refusal(7);
+    /// A level above 10 would arise.
+    pub const LEVEL: Refusal = Refusal(8);
+    /// More than 4,096 cells would arise.
+    pub const CELLS: Refusal = Refusal(9);
+    /// A lent table is shorter than its full length.
+    pub const SHORT: Refusal = Refusal(15);
+    /// An archive's bytes are not in the form, or would be more than 65,536.
+    pub const FORM: Refusal = Refusal(17);
+}
 
 impl fmt::Display for Refusal {
     fn fmt(&self, f: &mut fmt::Formatter) -> fmt::Result {
-        let why = match self.0 {
-            1 => "too few or too many corners or cells, or a list's length no multiple of 3 or 4",
-            2 => "a coordinate out of its range",
-            3 => "a cell's corner numbers",
-            4 => "a flat cell",
-            5 => "two cells with the same corners, or a face in three cells",
-            6 => "a status table that is not sound, or a pattern above 63",
-            7 => "marks that do not fit, or a cell or corner number not below the count",
-            8 => "a level above 10 would arise",
-            9 => "more than 4,096 cells would arise",
-            15 => "a lent table is too short",
-            17 => "an archive's bytes are not in the form, or would be too many",
-            _ => "no number of this library",
+        let why = match *self {
+            Refusal::COUNTS => "too few or too many corners or cells, or a list's length no multiple of 3 or 4",
+            Refusal::RANGE => "a coordinate out of its range",
+            Refusal::NUMBERS => "a cell's corner numbers do not ascend strictly, or are not below the count",
+            Refusal::FLAT => "a flat cell",
+            Refusal::FACES => "two cells with the same corners, or a face in three cells",
+            Refusal::STATUS => "a status table that is not sound, or a pattern above 63",
+            Refusal::MARKS => "marks of wrong length, above 2 or not 0 on a refined cell, or a cell or corner number not below the count",
+            Refusal::LEVEL => "a level above 10 would arise",
+            Refusal::CELLS => "more than 4,096 cells would arise",
+            Refusal::SHORT => "a lent table is shorter than its full length",
+            Refusal::FORM => "an archive's bytes are not in the form, or would be more than 65,536",
+            _ => "no answer of this library",
         };
         write!(f, "refused {}: {why}", self.0)
     }
@@ -50,7 +129,7 @@ impl fmt::Display for Refusal {
 impl std::error::Error for Refusal {}
 
 fn accepted(answer: u8) -> Result<(), Refusal> {
-    if answer == 0 {
+    if answer == ACCEPTED {
         Ok(())
     } else {
         Err(Refusal(answer))
@@ -60,27 +139,35 @@ fn accepted(answer: u8) -> Result<(), Refusal> {
 /// A coarse mesh: three coordinates a corner, four corner numbers a cell.
 #[derive(Clone, Debug, Default, PartialEq)]
 pub struct Mesh {
+    /// Three coordinates a corner, in tenths of a millimetre.
     pub positions: Vec<i32>,
+    /// Four corner numbers a cell, strictly ascending.
     pub cells: Vec<u16>,
 }
 
 /// A row of the table of cells.
 #[derive(Clone, Copy, Debug, PartialEq)]
 pub struct Cell {
+    /// 0 for a coarse cell.
     pub level: u16,
     /// None for a coarse cell.
     pub parent: Option<u16>,
     /// Its place in its parent's family, from 0.
     pub child: u16,
+    /// Coarse cells and children of red cells are regular.
     pub regular: bool,
+    /// In local order.
     pub corners: [u16; 4],
 }
 
+/// The cells and corners of a status table.
 #[derive(Clone, Debug, PartialEq)]
 pub struct Layout {
+    /// Level by level, in each level by parent and then child.
     pub cells: Vec<Cell>,
-    /// For each corner the two in whose middle it lies; a coarse corner's own number twice.
+    /// For each corner the two in whose middle it lies, both of them lower numbers than its own; a coarse corner's own number twice.
     pub ends: Vec<[u16; 2]>,
+    /// How many levels there are.
     pub levels: usize,
     /// For each corner 1,024 times its coordinates, at the full length.
     sums: Vec<i32>,
@@ -93,14 +180,47 @@ impl Layout {
         accepted(lent::position(&self.sums, self.ends.len(), corner, &mut x, &mut y, &mut z))?;
         Ok([x, y, z])
     }
+
+    /// Each corner's name, which no step changes: pairs of a coarse corner and its weight, the corners ascending. Weights add to 1,024.
+    pub fn weights(&self) -> Vec<Vec<(u16, u16)>> {
+        let mut all: Vec<Vec<(u16, u16)>> = Vec::with_capacity(self.ends.len());
+        for (corner, &[a, b]) in self.ends.iter().enumerate() {
+            if a == b {
+                all.push(vec![(corner as u16, 1024)]);
+                continue;
+            }
+            let mut sums = all[a as usize].clone();
+            for &(coarse, weight) in &all[b as usize] {
+                match sums.iter_mut().find(|sum| sum.0 == coarse) {
+                    Some(sum) => sum.1 += weight,
+                    None => sums.push((coarse, weight)),
+                }
+            }
+            sums.sort_unstable();
+            all.push(sums.into_iter().map(|(coarse, weight)| (coarse, weight / 2)).collect());
+        }
+        all
+    }
+}
+
+/// For each corner of `new` the number that it had in `old`, or `None` where it was not there; both lay tables over one coarse mesh out.
+///
+/// A step may renumber corners that stay, so values at corners are carried over by this. It goes by weights; it is not proved.
+pub fn match_corners(old: &Layout, new: &Layout) -> Vec<Option<usize>> {
+    let known: HashMap<_, _> = old.weights().into_iter().enumerate().map(|(corner, weights)| (weights, corner)).collect();
+    new.weights().iter().map(|weights| known.get(weights).copied()).collect()
 }
 
 /// How many cells a level has, and of which kinds.
 #[derive(Clone, Copy, Debug, PartialEq)]
 pub struct Counts {
+    /// All its cells.
     pub cells: u16,
+    /// Those with status 64.
     pub red: u16,
+    /// Those with a status from 1 to 63.
     pub green: u16,
+    /// Those with status 0.
     pub leaves: u16,
 }
 
@@ -112,7 +232,9 @@ fn by_level(counts: &[u16], levels: usize) -> Vec<Counts> {
 /// A mesh and, for each step, its marked cells with their marks.
 #[derive(Clone, Debug, Default, PartialEq)]
 pub struct Job {
+    /// The coarse mesh.
     pub mesh: Mesh,
+    /// For each step its marked cells, ascending, each with its mark.
     pub steps: Vec<Vec<(u16, u8)>>,
 }
 
@@ -123,14 +245,17 @@ pub fn cut(pattern: u8) -> Result<Vec<[u8; 4]>, Refusal> {
     Ok(digits[..4 * count].chunks(4).map(|d| [d[0], d[1], d[2], d[3]]).collect())
 }
 
+/// Whether a coarse mesh is accepted.
 pub fn examine_mesh(mesh: &Mesh) -> Result<(), Refusal> {
     accepted(lent::examine_mesh(&mesh.positions, &mesh.cells))
 }
 
+/// Whether a coarse mesh and a status table over it are accepted.
 pub fn examine_table(mesh: &Mesh, status: &[u8]) -> Result<(), Refusal> {
     accepted(lent::examine_table(&mesh.positions, &mesh.cells, status))
 }
 
+/// Lays the cells and corners of a status table out.
 pub fn lay_out(mesh: &Mesh, status: &[u8]) -> Result<Layout, Refusal> {
     let (mut table, mut ends, mut sums) = (vec![0; TABLE_LENGTH], vec![0; ENDS_LENGTH], vec![0; SUMS_LENGTH]);
     let [mut cells, mut corners, mut levels] = [0; 3];
@@ -138,7 +263,7 @@ pub fn lay_out(mesh: &Mesh, status: &[u8]) -> Result<Layout, Refusal> {
     accepted(lent::lay_out(p, c, status, &mut table, &mut ends, &mut sums, &mut cells, &mut corners, &mut levels))?;
     let cell = |r: &[u16]| Cell {
         level: r[0],
-        parent: (r[1] != 65_535).then_some(r[1]),
+        parent: (r[1] != NO_PARENT).then_some(r[1]),
         child: r[2],
         regular: r[3] == 1,
         corners: [r[4], r[5], r[6], r[7]],
@@ -158,13 +283,14 @@ pub fn ancestor(mesh: &Mesh, status: &[u8], cell: usize) -> Result<(usize, usize
     Ok((coarse, level))
 }
 
+/// For each level how many cells it has, and of which kinds.
 pub fn counts(mesh: &Mesh, status: &[u8]) -> Result<Vec<Counts>, Refusal> {
     let (mut counts, mut levels) = ([0; COUNTS_LENGTH], 0);
     accepted(lent::counts(&mesh.positions, &mesh.cells, status, &mut counts, &mut levels))?;
     Ok(by_level(&counts, levels))
 }
 
-/// The status table after one step.
+/// The status table after one step. It may renumber cells, and corners that stay: see [`match_corners`].
 pub fn step(mesh: &Mesh, status: &[u8], marks: &[u8]) -> Result<Vec<u8>, Refusal> {
     let (mut table, mut cells) = (vec![0; STATUS_LENGTH], 0);
     accepted(lent::step(&mesh.positions, &mesh.cells, status, marks, &mut table, &mut cells))?;
@@ -172,6 +298,7 @@ pub fn step(mesh: &Mesh, status: &[u8], marks: &[u8]) -> Result<Vec<u8>, Refusal
     Ok(table)
 }
 
+/// The job of an archive's bytes.
 pub fn read(bytes: &[u8]) -> Result<Job, Refusal> {
     let (mut positions, mut cells) = (vec![0; POSITIONS_LENGTH], vec![0; COARSE_CELLS_LENGTH]);
     let (mut marked, mut marks, mut ends) = (vec![0; MARKED_LENGTH], vec![0; MARKS_LENGTH], vec![0; STEP_ENDS_LENGTH]);
@@ -220,12 +347,12 @@ fn too_long(job: &Job) -> Refusal {
                 let rises = k == 0 || marked[k - 1].0 < cell;
                 match marks.get_mut(cell as usize) {
                     Some(place) if rises && mark != 0 => *place = mark,
-                    _ => return Err(Refusal(7)),
+                    _ => return Err(Refusal::MARKS),
                 }
             }
             status = step(&job.mesh, &status, &marks)?;
         }
-        Ok(Refusal(17))
+        Ok(Refusal::FORM)
     };
     run().unwrap_or_else(|refusal| refusal)
 }

@@ -24,7 +24,7 @@ fn families() {
     assert_eq!(cut(1).unwrap(), [[0, 1, 7, 9], [1, 4, 7, 9]]);
     assert_eq!(cut(63).unwrap().len(), 8);
     assert_eq!(cut(0).unwrap(), [[0, 4, 7, 9]]);
-    assert_eq!(cut(64), Err(Refusal(6)));
+    assert_eq!(cut(64), Err(Refusal::STATUS));
 }
 
 #[test]
@@ -58,9 +58,35 @@ fn layouts() {
     assert!(!layout.cells[17].regular);
     assert_eq!(layout.ends[4], [0, 1]);
     assert_eq!(layout.position(7), Ok([8.0, 8.0, 0.0]));
-    assert_eq!(layout.position(16), Err(Refusal(7)));
+    assert_eq!(layout.position(16), Err(Refusal::MARKS));
     assert_eq!(ancestor(&a, &c, 24), Ok((0, 2)));
-    assert_eq!(ancestor(&a, &c, 25), Err(Refusal(7)));
+    assert_eq!(ancestor(&a, &c, 25), Err(Refusal::MARKS));
+}
+
+/// Corners are matched by weights; no two corners of mesh A's tables lie at one place, so positions tell the same.
+#[test]
+fn corners_that_stay() {
+    let a = mesh_a();
+    let (b, c) = (lay_out(&a, &case_b()).unwrap(), lay_out(&a, &case_c()).unwrap());
+    assert_eq!(c.weights()[4], [(0, 512), (1, 512)]);
+    assert!(c.weights().iter().all(|weights| weights.iter().map(|w| w.1).sum::<u16>() == 1024));
+    assert_eq!(match_corners(&b, &c), (0..16).map(|k| (k < 10).then_some(k)).collect::<Vec<_>>());
+    assert_eq!(match_corners(&c, &b), (0..10).map(Some).collect::<Vec<_>>());
+
+    // Cell 2 of B is refined, which closes cell 1; then a child of cell 1 is marked and cell 1 turns red: its new corners stand before those that stay.
+    let first = step(&a, &case_b(), &marked(9, &[2], REFINE)).unwrap();
+    let second = step(&a, &first, &marked(first.len(), &[9], REFINE)).unwrap();
+    let (old, new) = (lay_out(&a, &first).unwrap(), lay_out(&a, &second).unwrap());
+    assert!(old.cells[9].parent == Some(1) && second[1] == RED);
+    let place = |layout: &Layout, corner| layout.position(corner).unwrap();
+    let matched = match_corners(&old, &new);
+    let mut renumbered = 0;
+    for (corner, was) in matched.iter().enumerate() {
+        let there = (0..old.ends.len()).find(|&k| place(&old, k) == place(&new, corner));
+        assert_eq!(*was, there);
+        renumbered += was.is_some_and(|was| was != corner) as usize;
+    }
+    assert!(renumbered > 0);
 }
 
 #[test]
@@ -69,11 +95,15 @@ fn refusals() {
     mesh.positions[0] = 500_000;
     assert_eq!(examine_mesh(&mesh), Ok(()));
     mesh.positions[0] = 500_001;
-    assert_eq!(examine_mesh(&mesh), Err(Refusal(2)));
-    assert_eq!(examine_mesh(&Mesh::default()), Err(Refusal(1)));
-    assert_eq!(examine_table(&mesh_a(), &[63]), Err(Refusal(6)));
-    assert_eq!(step(&mesh_a(), &[LEAF], &[3]), Err(Refusal(7)));
-    assert!(Refusal(8).to_string().starts_with("refused 8: "));
+    assert_eq!(examine_mesh(&mesh), Err(Refusal::RANGE));
+    assert_eq!(examine_mesh(&Mesh::default()), Err(Refusal::COUNTS));
+    assert_eq!(examine_table(&mesh_a(), &[63]), Err(Refusal::STATUS));
+    assert_eq!(step(&mesh_a(), &[LEAF], &[3]), Err(Refusal::MARKS));
+    let mut flat = mesh_a();
+    flat.positions[11] = 0;
+    assert_eq!(examine_mesh(&flat), Err(Refusal::FLAT));
+    assert_eq!(Refusal::FLAT.to_string(), "refused 4: a flat cell");
+    assert_eq!(Refusal(10).to_string(), "refused 10: no answer of this library");
 }
 
 #[test]
@@ -98,16 +128,16 @@ fn archives() {
     let rows: Vec<[u16; 4]> = levels.iter().map(|l| [l.cells, l.red, l.green, l.leaves]).collect();
     assert_eq!(rows, [[1, 1, 0, 0], [8, 1, 3, 4], [16, 0, 0, 16]]);
     assert_eq!(levels, counts(&job.mesh, &table).unwrap());
-    assert_eq!(replay(&bytes[1..]), Err(Refusal(17)));
-    assert_eq!(read(b"E"), Err(Refusal(1)));
+    assert_eq!(replay(&bytes[1..]), Err(Refusal::FORM));
+    assert_eq!(read(b"E"), Err(Refusal::COUNTS));
 
     let refused = |steps| write(&Job { steps, ..job.clone() }).unwrap_err();
-    assert_eq!(refused(vec![vec![(1, REFINE)]]), Refusal(7));
-    assert_eq!(refused(vec![vec![(0, REFINE)], vec![(2, REFINE), (1, REFINE)]]), Refusal(7));
-    assert_eq!(refused(vec![vec![]; 65_536]), Refusal(17));
+    assert_eq!(refused(vec![vec![(1, REFINE)]]), Refusal::MARKS);
+    assert_eq!(refused(vec![vec![(0, REFINE)], vec![(2, REFINE), (1, REFINE)]]), Refusal::MARKS);
+    assert_eq!(refused(vec![vec![]; 65_536]), Refusal::FORM);
     // More marks than the library can be told of.
-    assert_eq!(refused(vec![vec![(0, DELETE)]; 70_000]), Refusal(17));
-    assert_eq!(refused(vec![vec![(0, REFINE)]; 70_000]), Refusal(7));
+    assert_eq!(refused(vec![vec![(0, DELETE)]; 70_000]), Refusal::FORM);
+    assert_eq!(refused(vec![vec![(0, REFINE)]; 70_000]), Refusal::MARKS);
 }
 
 /// The lengths here, in the header and in the documentation.

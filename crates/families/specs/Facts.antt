@@ -66,15 +66,6 @@ volumes-test = tt
 pub volumes-add-up : (p : ℕ) → p < 64 → volumes (family p) ≡ natAbs (volume 0 4 7 9)
 volumes-add-up p h = eqb→eq (volumes (family p)) (natAbs (volume 0 4 7 9)) (every (λ p f. eqb (volumes f) (natAbs (volume 0 4 7 9))) volumes-test p h)
 
--- So there is a child.
-pub family-some : (p : ℕ) → p < 64 → 0 < length (family p)
-unfolding volumes volume
-family-some p h = go (family p) (volumes-add-up p h)
-  where
-    go : (f : List (List ℕ)) → volumes f ≡ natAbs (volume 0 4 7 9) → 0 < length f
-    go [] e = absurd (omega (arith, e))
-    go (c ∷ f) e = omega arith
-
 -- 3, 4. A face of a child that lies on no face of the cell is in exactly two children; one that lies on a face of the cell
 -- is in exactly one.
 abbrev faceTest : List (List ℕ) → List ℕ → Bool

@@ -18,7 +18,6 @@ use lib.ListN.{length, getD, length-map}
 use lib.Seq.{ext-getD}
 use borrow.Author.Tests.{eq-eqb}
 use Rattle.base.specs.Range.{range, length-range, range-at, member-range, range-member}
-use Rattle.families.specs.Facts.{family-some}
 use Rattle.mesh.specs.Cells.{Cell, none, patternOf, redEdges, noCell}
 use Rattle.mesh.specs.Weights.{Point, coarseCells}
 use Rattle.mesh.specs.Table.{levelsOf}
@@ -35,6 +34,7 @@ use Rattle.soundness.specs.Sound.{Sound, lv, level-closed, level-next, level-th
 use Rattle.soundness.specs.Whole.{spot-at, spot-with}
 use Rattle.rounds.specs.Tests.{Member, filtered-member, member-filtered}
 use Rattle.parts.specs.Owners.{nthCell, childrenOf}
+use Rattle.families.specs.Children.{some-child}
 
 pub first-zero : (n : ℕ) (qs : List (List ℕ)) (ss : List ℕ) → 0 < length (levelsOf n qs ss) → lv n qs ss 0 .first ≡ 0
 unfolding levelsOf
@@ -181,7 +181,7 @@ module _ (n : ℕ) (qs : List (List ℕ)) (ss : List ℕ) where
         let small = pattern-small (redEdges [] (l .cells) (l .statuses)) (getD (l .cells) (p .t) noCell) (getD (l .statuses) (p .t) 0) st in
         let nz : getD (l .statuses) (p .t) 0 ≢ 0 = (λ e. z (ap (λ (x : ℕ). getD ss x 0) (p .number) ∙ a .status-is ∙ e)) in
         let w = family-child l (lv n qs ss (suc k)) (level-next n qs ss k (omega (arith, s .high))) (p .t) 0 (p .below) known nz
-        (family-some (patternOf (getD (l .statuses) (p .t) 0)) small) in
+        (some-child (patternOf (getD (l .statuses) (p .t) 0)) small) in
         let o = at-level (suc k) (w .u) (w .below) in (
           lv n qs ss (suc k) .first + w .u,
           kid-in (suc k) c (lv n qs ss (suc k) .first + w .u) (o .here)

@@ -153,15 +153,18 @@ fn count_kinds(
         (false, 0) => hit("accepted"),
         (false, k) => hit(&k.to_string()),
     }
-    let Ok(coarse) = mesh else { return };
-    if short {
-        return;
-    }
-    let Ok(old) = examine_table(coarse, status) else {
-        if marks.iter().any(|&m| m > 2) || marks.len() != status.len() {
-            hit("6 and 7 at once");
+    let coarse = match mesh {
+        Ok(coarse) if !short => coarse,
+        _ => return,
+    };
+    let old = match examine_table(coarse, status) {
+        Ok(old) => old,
+        Err(_) => {
+            if marks.iter().any(|&m| m > 2) || marks.len() != status.len() {
+                hit("6 and 7 at once");
+            }
+            return;
         }
-        return;
     };
     if refusal == 7 {
         for (name, wrong) in [
@@ -189,9 +192,9 @@ fn count_kinds(
     }
     for (name, there) in [
         ("no marks", marks.iter().all(|&m| m == 0)),
-        ("unchanged with marks", long.as_ref().is_ok_and(|new| new == status) && marks.iter().any(|&m| m != 0)),
+        ("unchanged with marks", long.as_ref().map_or(false, |new| new == status) && marks.iter().any(|&m| m != 0)),
         ("4096 cells before", status.len() == MOST_CELLS && marks.iter().any(|&m| m != 0)),
-        ("4096 cells", long.as_ref().is_ok_and(|new| new.len() == MOST_CELLS && new != status)),
+        ("4096 cells", long.as_ref().map_or(false, |new| new.len() == MOST_CELLS && new != status)),
     ] {
         if there {
             hit(name);
@@ -202,7 +205,7 @@ fn count_kinds(
         let marked = |&k: &usize| marks[k] == DELETE;
         let leaf = |&k: &usize| old.cells[k].status == LEAF;
         let deleted = children[i].iter().filter(|&k| marked(k)).count();
-        let green_child = cell.parent.is_some_and(|p| green(&old.cells[p]));
+        let green_child = cell.parent.map_or(false, |p| green(&old.cells[p]));
         for (name, there) in [
             ("2 on a coarse leaf", cell.parent.is_none() && marks[i] == DELETE),
             ("2 on a green child", green_child && marks[i] == DELETE),
@@ -224,8 +227,10 @@ fn count_kinds(
             }
         }
     }
-    let Ok(new) = long else { return };
-    let new = examine_table(coarse, new).expect("a step gives a sound table");
+    let new = match long {
+        Ok(new) => examine_table(coarse, new).expect("a step gives a sound table"),
+        Err(_) => return,
+    };
     for (name, there) in [
         ("level 10 made", new.levels == 11 && old.levels < 11),
         ("level 10 gone", old.levels == 11 && new.levels < 11),
@@ -236,7 +241,10 @@ fn count_kinds(
     }
     let after = by_path(&new);
     for (path, before) in by_path(&old) {
-        let Some(&now) = after.get(&path) else { continue };
+        let now = match after.get(&path) {
+            Some(&now) => now,
+            None => continue,
+        };
         let (was_green, is_green) = ((1..RED).contains(&before), (1..RED).contains(&now));
         let below_top = path.len() + 1 == old.levels && new.levels > old.levels;
         for (name, there) in [
@@ -398,7 +406,7 @@ fn random_steps(cases: &mut Cases, count: usize, most_cells: usize) {
 fn damaged_tables(cases: &mut Cases, count: usize) {
     let names = ["above 64", "not regular", "too short", "too long", "pattern", "third condition"];
     let mut found: BTreeMap<&str, usize> = BTreeMap::new();
-    while names.iter().any(|name| found.get(name).is_none_or(|&n| n < count)) {
+    while names.iter().any(|name| found.get(name).map_or(true, |&n| n < count)) {
         let coarse = cases.small();
         let sound = sound_table(&mut cases.r, &coarse);
         let status = damaged_table(&mut cases.r, &coarse, &sound);
@@ -550,8 +558,11 @@ fn short_tables(cases: &mut Cases, count: usize) {
     let mut more = Vec::new();
     for case in &cases.all {
         let size = case.positions.len() + case.cells.len() + case.status.len();
-        let Some(first) = case.steps.first().filter(|_| size < 400) else { continue };
-        let Err(refusal) = answer(&case.positions, &case.cells, &case.status, &first.marks) else { continue };
+        let first = case.steps.first().filter(|_| size < 400);
+        let refusal = match first.map(|first| answer(&case.positions, &case.cells, &case.status, &first.marks)) {
+            Some(Err(refusal)) => refusal,
+            _ => continue,
+        };
         let n = left.get_mut(&refusal).expect("a refusal from 1 to 9");
         if *n > 0 {
             *n -= 1;

@@ -154,7 +154,7 @@ fn sound_cases(cases: &mut Cases, count: usize) {
 fn damaged_tables(cases: &mut Cases, count: usize) {
     let names = ["above 64", "not regular", "too short", "too long", "pattern", "third condition"];
     let mut met: BTreeMap<&str, usize> = BTreeMap::new();
-    while names.iter().any(|name| met.get(name).is_none_or(|&n| n < count)) {
+    while names.iter().any(|name| met.get(name).map_or(true, |&n| n < count)) {
         let coarse = cases.any();
         let sound = sound_table(&mut cases.r, &coarse);
         let status = damaged_table(&mut cases.r, &coarse, &sound);
