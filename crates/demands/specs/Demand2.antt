@@ -33,7 +33,7 @@ use Rattle.replay.specs.Run.{jobAnswer, jobTable}
 use Rattle.jobs.specs.Calls.{archiveAnswer, writeAnswer}
 use Rattle.jobs.specs.Round.{ReadAgain, WrittenAgain, write-read, read-write}
 use Rattle.demands.specs.Again.{step-again, job-again, archive-again}
-use Rattle.demands.specs.Positions.{Exactly, sumsAfter, placed}
+use Rattle.demands.specs.Positions.{Exactly, sumsAfter, position-exact}
 use Rattle.demands.specs.Accepting.{StarredAccepted, starred-accepted}
 
 abbrev pub FaceToFace : List ℤ → List ℕ → List ℕ → Type 0
@@ -91,7 +91,7 @@ demand2 =
       archive-again = archive-again;
       rows = λ ps ts ss table ends sums e. rw e;
       ends = λ ps ts ss table ends sums e. rw e;
-      positions = placed;
+      positions = position-exact;
       table-leaves = faces;
       step-leaves = λ ps ts ss ms table e. faces ps ts (newTable (cornerCount ps) (fours ts) ss ms) (step-again ps ts ss ms table e);
       job-leaves = λ j e. faces (j .positions) (j .cells) (jobTable j) (job-again j e);

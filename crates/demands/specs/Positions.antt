@@ -3,7 +3,7 @@
 --   Exactly ps p r     the answer r is a point whose coordinates are the weighted sums of the weights p over 1,024; these sums are whole
 --                      numbers of at most 512,000,000 in size
 --   sumsAfter ..       the lent table of sums after laying out
--- Law: placed.
+-- Law: position-exact.
 use mathlib.Core.Path.{_≡_, refl, sym, _∙_, ap}
 use mathlib.Core.List.{List, [], _∷_, _++_, flatMap}
 use Prim.Native.Nat.{ℕ, _+_, _*_, _≤_, _<_}
@@ -122,9 +122,9 @@ module _ (ps : List ℤ) (ts ss table ends : List ℕ) (sums : List ℤ) (e : la
     over : (k : ℕ) → k < 3 → Over (coordinateOf (getD (sumsAfter ps ts ss table ends sums) (3 * i + k) (pos 0))) (weightedSum ps k p)
     over k h = rw (sum-at k h) (exact (weightedSum ps k p) (omega (arith, within k)))
 
-    pub placed : Exactly ps p (positionOf (sumsAfter ps ts ss table ends sums) (length ks) i)
+    pub position-exact : Exactly ps p (positionOf (sumsAfter ps ts ss table ends sums) (length ks) i)
     unfolding pointOf
-    placed =
+    position-exact =
         record {
           point = pointOf (sumsAfter ps ts ss table ends sums) i;
           answer = positionOf-at (sumsAfter ps ts ss table ends sums) (length ks) i full there below;

@@ -3,7 +3,7 @@
 --   sampleLines     the bytes of its listing
 -- Law: sample-listed.
 use mathlib.Core.Path.{_≡_, refl}
-use mathlib.Core.List.{List, [], _∷_, _++_}
+use mathlib.Core.List.{List, [], _∷_, _++_, flatten}
 use Prim.Native.Nat.{ℕ}
 use Rattle.cutting.specs.Rule.{family}
 use Rattle.mesh.specs.Counts.{countTable}
@@ -33,5 +33,5 @@ sampleLines =
     50 ∷ 32 ∷ 49 ∷ 54 ∷ 32 ∷ 48 ∷ 32 ∷ 48 ∷ 32 ∷ 49 ∷ 54 ∷ 10 ∷ [])
 
 pub sample-listed : listingOf sample ≡ sampleLines
-unfolding sample sampleLines listingOf family countTable jobTable
+unfolding sample sampleLines listingOf family countTable jobTable flatten
 sample-listed = refl
