@@ -4,16 +4,19 @@
 --                         boundary (`conformity` `Leaves`)
 --   Exactly, sumsAfter    see `Positions`; ReadAgain, WrittenAgain: `jobs` `Round`; Starred: `cases`; StarredAccepted: `Accepting`
 use mathlib.Core.Path.{_≡_}
-use mathlib.Core.List.{List, _++_, flatten}
+use mathlib.Core.Logic.{_≢_}
+use mathlib.Core.Bool.{false}
+use mathlib.Core.List.{List, [], _++_, flatten}
 use Prim.Native.Nat.{ℕ, _≤_, _<_}
 use lib.Dec.{T}
-use lib.IntN.{ℤ}
-use lib.ListN.{length, drop}
+use lib.IntN.{ℤ, pos}
+use lib.ListN.{length, getD, drop}
 use Rattle.base.specs.Fours.{fours}
+use Rattle.base.specs.Lists.{memberb}
 use Rattle.base.specs.Limits.{mostBytes}
 use Rattle.base.specs.Refuse.{heldAfter}
 use Rattle.base.specs.declared.Answer.the-variants.{Accepted}
-use Rattle.cutting.specs.Rule.{family}
+use Rattle.cutting.specs.Rule.{present, family}
 use Rattle.cutting.specs.Answer.{cutInto, cutOf, cutOf-accepted}
 use Rattle.mesh.specs.Coarse.{cornerCount}
 use Rattle.mesh.specs.Step.{stepTable}
@@ -32,6 +35,7 @@ use Rattle.archive.specs.Bytes.{Octets}
 use Rattle.replay.specs.Run.{jobAnswer, jobTable}
 use Rattle.jobs.specs.Calls.{archiveAnswer, writeAnswer}
 use Rattle.jobs.specs.Round.{ReadAgain, WrittenAgain, write-read, read-write}
+use Rattle.demands.specs.Ties.{corners4, riseOver, child-no-tie}
 use Rattle.demands.specs.Again.{step-again, job-again, archive-again}
 use Rattle.demands.specs.Positions.{Exactly, sumsAfter, position-exact}
 use Rattle.demands.specs.Accepting.{StarredAccepted, starred-accepted}
@@ -42,6 +46,9 @@ FaceToFace ps ts ss = T (openb (cornerCount ps) (fours ts) ss) × T (meetb (corn
 pub record Demand2 : Type 0 where
   -- cutting gives the family of the height rule (Rules 2.5 to 2.7)
   pub families : (p : ℕ) → p < 64 → cutOf p ≡ cutInto (family p)
+  -- and that rule never meets a tie: a present point is not on the affine function of a child that it is not a point of
+  pub no-tie : (p k x : ℕ) → p < 64 → k < length (family p) → T (memberb x (present p))
+      → memberb x (corners4 (getD (family p) k [])) ≡ false → riseOver (getD (family p) k []) x ≢ pos 0
   -- the step (Rules 7.1 to 7.8): its table, level after level, in front of the lent one
   pub step-table : (ps : List ℤ) (ts ss ms table : List ℕ) → stepAnswer ps ts ss ms table ≡ Accepted
       → heldAfter (stepAnswer ps ts ss ms table) (newTable (cornerCount ps) (fours ts) ss ms) table
@@ -85,6 +92,7 @@ unfolding heldAfter
 demand2 =
     record {
       families = cutOf-accepted;
+      no-tie = child-no-tie;
       step-table = λ ps ts ss ms table e. rw e;
       step-again = step-again;
       job-again = job-again;

@@ -2,6 +2,7 @@
 pub mod Order
 pub mod Tests
 pub mod Answered
+pub mod Ties
 pub mod Again
 pub mod Positions
 pub mod Accepting
