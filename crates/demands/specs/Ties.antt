@@ -25,7 +25,8 @@ riseOver c x = rise (getD c 0 0) (getD c 1 0) (getD c 2 0) (getD c 3 0) x
 present-below : (p d : ℕ) → T (memberb d (present p)) → d < 10
 unfolding present
 present-below p d t =
-    member-of (λ d. d < 10) d (present p) (all-filter (λ d. eqb (low d) (high d) || split p (edgeOf d)) (λ d. d < 10) points (omega arith)) t
+    let small = all-filter (λ d. eqb (low d) (high d) || split p (edgeOf d)) (λ d. d < 10) points (omega arith) in
+    member-of (λ d. d < 10) d (present p) small t
 
 pub child-no-tie : (p k x : ℕ) → p < 64 → k < length (family p) → T (memberb x (present p))
     → memberb x (corners4 (getD (family p) k [])) ≡ false → riseOver (getD (family p) k []) x ≢ pos 0
