@@ -14,22 +14,22 @@ abbrev child : ℕ → List ℕ
 child n = n / 1000 ∷ n / 100 % 10 ∷ n / 10 % 10 ∷ n % 10 ∷ []
 
 -- "Mesh A: corners (0,0,0), (16,0,0), (0,16,0), (0,0,16), one cell."
-pub step : List ℕ → List ℕ → List (List ℕ)
+unfoldable pub step : List ℕ → List ℕ → List (List ℕ)
 unfolding stepTable family
 step ss ms = stepTable 4 ((0 ∷ 1 ∷ 2 ∷ 3 ∷ []) ∷ []) ss ms
 
-pub level1 : List ℕ
+unfoldable pub level1 : List ℕ
 level1 = 64 ∷ 11 ∷ 1 ∷ 0 ∷ 1 ∷ 0 ∷ 0 ∷ 0 ∷ []
 
-pub B : List ℕ
+unfoldable pub B : List ℕ
 B = 64 ∷ replicate 8 0
 
-pub C : List ℕ
+unfoldable pub C : List ℕ
 unfolding level1
 C = 64 ∷ (level1 ++ replicate 16 0)
 
 -- marks of C: those of the cells 9 to 16, and then 17 to 24
-pub marksOfC : List ℕ → List ℕ → List ℕ
+unfoldable pub marksOfC : List ℕ → List ℕ → List ℕ
 marksOfC l m = replicate 9 0 ++ (l ++ m)
 
 pub record Starred : Type 0 where

@@ -1,4 +1,5 @@
 pub mod Leaves
+pub mod Samples
 pub mod Middles
 pub mod Corners
 pub mod Kinds
@@ -19,7 +20,4 @@ pub mod Base
 pub mod Start
 pub mod Faces
 pub mod Meets
-pub mod Step
 pub mod Accepted
-pub mod Calls
-pub mod Jobs

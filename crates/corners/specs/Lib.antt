@@ -1,4 +1,5 @@
 pub mod Ends
 pub mod Sums
+pub mod Sizes
 pub mod Weighted
 pub mod Tables

@@ -3,6 +3,7 @@
 --                           xs and ys
 --   ends-are                their table of ends is endNumbers
 --   sums-are                their table of weighted sums is sumNumbers
+--   sums-at                 what stands there of corner i
 use mathlib.Core.Path.{_≡_, refl, sym, _∙_, ap}
 use mathlib.Core.Logic.{⊎-elim}
 use mathlib.Core.List.{List, [], _∷_, _++_, flatMap, append-assoc, append-nil}
@@ -65,7 +66,7 @@ sums-snoc : (ps : List ℤ) (ks : List Corner) (k : Corner)
 unfolding sumTable
 sums-snoc ps ks k = flat-snoc (λ (c : Corner). sumsOf ps (c .weights)) ks k
 
-sums-at : (ps : List ℤ) (k : ℕ) → k < 3 → (ks : List Corner) (i : ℕ) → i < length ks
+pub sums-at : (ps : List ℤ) (k : ℕ) → k < 3 → (ks : List Corner) (i : ℕ) → i < length ks
     → coordinateAt (sumTable ps ks) i k ≡ weightedSum ps k (weightsAt ks i)
 unfolding coordinateAt sumTable flatMap
 sums-at ps k h [] i l = absurd (omega arith)

@@ -1,26 +1,23 @@
--- Corners never exceed 16,384 (01, "Cells, status, numbers"). A cell has at least as many children as split edges, and every cell
--- that is not coarse is a child, so new corners are no more than cells.
--- Assumes nothing.
-use mathlib.Core.Path.{_≡_, refl, sym, _∙_, ap}
+-- Corners never exceed 16,384 (Rule 5.7). A cell has at least as many children as split edges, and every cell that is not coarse is a
+-- child, so new corners are no more than cells.
+-- Law: corners-few.
+use mathlib.Core.Path.{_≡_, sym, _∙_}
 use mathlib.Core.Logic.{⊎-elim}
 use mathlib.Core.Bool.{true, false}
 use mathlib.Core.List.{List, [], _∷_}
 use Prim.Native.Nat.{ℕ, zero, suc, _+_, _-_, _≤_, _<_}
 use native.Mathlib.Omega.{arith}
-use lib.Dec.{T, eqb, leb, ltb, leb→le}
-use lib.IntN.{ℤ}
+use lib.Dec.{T, leb, ltb, leb→le}
 use lib.ListN.{length, drop, length-append, length-map}
 use lib.Seq.{take-add, take-all, drop-drop}
-use borrow.Author.Tests.{eqb-true, eqb-false, ltb-true, ltb-false}
+use borrow.Author.Tests.{ltb-true, ltb-false}
 use Rattle.base.specs.Lists.{allb, sameb}
-use Rattle.base.specs.Bools.{and-left, and-right, either}
+use Rattle.base.specs.Bools.{and-left, and-right, either, is-true}
 use Rattle.base.specs.Places.{hasb}
-use Rattle.base.specs.Fours.{fours}
-use Rattle.base.specs.declared.Answer.the-variants.{Accepted}
+use Rattle.base.specs.Limits.{mostCoarseCorners, mostCorners}
 use Rattle.mesh.specs.Cells.{Cell}
 use Rattle.mesh.specs.Weights.{Point, mid}
-use Rattle.mesh.specs.Coarse.{cornerCount, meshAnswer}
-use Rattle.mesh.specs.Table.{soundb, sizeOf, sizes}
+use Rattle.mesh.specs.Table.{levelsOf, cellsOf, soundb, sizeOf, sizes}
 use Rattle.mesh.specs.Layout.{Corner, weightsOf, coarseCorners, splitEdges, addCorner, addCorners, cornersFrom, cornersOf}
 use Rattle.rows.specs.Numbered.{part}
 use Rattle.mesh.specs.Laws.{sizes-append}
@@ -28,11 +25,6 @@ use Rattle.growth.specs.Places.{splits-few}
 use Rattle.numbering.specs.Corners.{corners-start}
 use Rattle.counting.specs.Levels.{nextEnd, levelNumber, levelEnd, number-more, end-more, end-none}
 use Rattle.counting.specs.Sound.{sound-counted}
-use Rattle.base.specs.Refuse.{codeOf, answerOf, answer-refused}
-use Rattle.mesh.specs.Answers.{tableAnswer}
-use Rattle.layout.specs.Calls.{cellsIn, cornersIn}
-use Rattle.layout.proofs.Accepted.{mesh-passed}
-use Rattle.layout.proofs.Answers.{table-mesh, table-unsound}
 
 -- Corners added, cell by cell.
 module _ (ks : List Corner) where
@@ -41,7 +33,8 @@ module _ (ks : List Corner) where
   one-more e =
       let m = mid (e .0) (e .1) in
       ⊎-elim (λ (t : hasb sameb (weightsOf ks) m ≡ true). rw (t, addCorner) (omega arith))
-      (λ (t : hasb sameb (weightsOf ks) m ≡ false). rw (t, addCorner) (simp length-append (omega arith))) (either (hasb sameb (weightsOf ks) m))
+      (λ (t : hasb sameb (weightsOf ks) m ≡ false). rw (t, addCorner) (simp length-append (omega arith)))
+      (either (hasb sameb (weightsOf ks) m))
 
 all-more : (ks : List Corner) (es : List (Point × Point)) → length (addCorners ks es) ≤ length ks + length es
 unfolding addCorners
@@ -83,7 +76,8 @@ module _ (ss : List ℕ) where
   unfolding sizes nextEnd
   end-sizes zero first last h g = absurd (omega arith)
   end-sizes (suc f) first last h g =
-      ⊎-elim (λ (t : ltb first last ≡ true). more (ltb-true first last t) (end-sizes f last (nextEnd first last ss))) (λ (t : ltb first last ≡ false). none (ltb-false first last t)) (either (ltb first last))
+      ⊎-elim (λ (t : ltb first last ≡ true). more (ltb-true first last t) (end-sizes f last (nextEnd first last ss)))
+      (λ (t : ltb first last ≡ false). none (ltb-false first last t)) (either (ltb first last))
     where
       none : last ≤ first → levelEnd (suc f) first last ss ≡ last + sizes (part ss first (levelEnd (suc f) first last ss - first))
       none l =
@@ -92,7 +86,8 @@ module _ (ss : List ℕ) where
           rw (end-none (suc f) first last ss l, e, z) (omega arith)
 
       more : first < last → (last ≤ nextEnd first last ss → levelNumber f last (nextEnd first last ss) ss < f
-          → levelEnd f last (nextEnd first last ss) ss ≡ nextEnd first last ss + sizes (part ss last (levelEnd f last (nextEnd first last ss) ss - last)))
+          → levelEnd f last (nextEnd first last ss) ss
+          ≡ nextEnd first last ss + sizes (part ss last (levelEnd f last (nextEnd first last ss) ss - last)))
           → levelEnd (suc f) first last ss ≡ last + sizes (part ss first (levelEnd (suc f) first last ss - first))
       more l hyp =
           let up = nextEnd first last ss in
@@ -101,34 +96,19 @@ module _ (ss : List ℕ) where
           let e = levelEnd f last up ss in
           rw (end-more f first last ss l) (omega (arith, i, joined first last e (omega arith) (omega (arith, i))))
 
--- A table that is accepted has an accepted mesh and is sound.
-module _ (ps : List ℤ) (ts ss : List ℕ) (a : tableAnswer ps ts ss ≡ Accepted) where
-  none : codeOf (meshAnswer ps ts) ≡ 0
-  unfolding codeOf
-  none = ⊎-elim (λ (t : eqb (codeOf (meshAnswer ps ts)) 0 ≡ true). eqb-true (codeOf (meshAnswer ps ts)) 0 t) (λ (t : eqb (codeOf (meshAnswer ps ts)) 0 ≡ false). absurd (some (eqb-false (codeOf (meshAnswer ps ts)) 0 t))) (either (eqb (codeOf (meshAnswer ps ts)) 0))
-    where
-      some : (codeOf (meshAnswer ps ts) ≡ 0 → ⊥) → ⊥
-      some h = h (ap codeOf (sym (answer-refused (codeOf (meshAnswer ps ts)) h) ∙ sym (table-mesh ps ts ss (codeOf (meshAnswer ps ts)) refl h) ∙ a))
-
-  sound : soundb (cornerCount ps) (fours ts) ss ≡ true
-  unfolding codeOf answerOf
-  sound =
-      ⊎-elim (λ t. t) (λ (t : soundb (cornerCount ps) (fours ts) ss ≡ false). absurd (omega (arith, ap codeOf (sym (table-unsound ps ts ss none t) ∙ a))))
-      (either (soundb (cornerCount ps) (fours ts) ss))
-
-  pub corners-few : length (cornersIn ps ts ss) ≤ 16384
-  unfolding cornersOf
-  corners-few =
-      let l = sound-counted (cornerCount ps) (fours ts) ss sound in
-      let m = mesh-passed ps ts none .mesh in
-      let e = end-sizes ss 12 0 (length (fours ts)) (omega arith) (omega (arith, l .few)) in
-      let w : part ss 0 (levelEnd 12 0 (length (fours ts)) ss - 0) ≡ ss = take-all (levelEnd 12 0 (length (fours ts)) ss - 0) ss (omega (arith, l .whole)) in
-      let s : length ss ≡ length (fours ts) + sizes ss = sym (l .whole) ∙ rw w at e in
-      omega (
-        arith,
-        s,
-        l .small,
-        m .corners,
-        corners-start (cornerCount ps) .count,
-        cells-more (coarseCorners (cornerCount ps)) (cellsIn ps ts ss) ss (rw (l .statuses) tt),
-      )
+-- Rule 5.7
+pub corners-few : (n : ℕ) (qs : List (List ℕ)) (ss : List ℕ) → n ≤ mostCoarseCorners → T (soundb n qs ss)
+    → length (cornersOf n (cellsOf (levelsOf n qs ss)) ss) ≤ mostCorners
+unfolding cornersOf
+corners-few n qs ss h t =
+    let l = sound-counted n qs ss (is-true (soundb n qs ss) t) in
+    let e = end-sizes ss 12 0 (length qs) (omega arith) (omega (arith, l .few)) in
+    let w : part ss 0 (levelEnd 12 0 (length qs) ss - 0) ≡ ss = take-all (levelEnd 12 0 (length qs) ss - 0) ss (omega (arith, l .whole)) in
+    let s : length ss ≡ length qs + sizes ss = sym (l .whole) ∙ rw w at e in
+    omega (
+      arith,
+      s,
+      l .small,
+      corners-start n .count,
+      cells-more (coarseCorners n) (cellsOf (levelsOf n qs ss)) ss (rw (l .statuses) tt),
+    )
