@@ -5,7 +5,7 @@
 --   Answered a ts ns   the answer a is that of the tests ts, and no number but ns comes
 -- Laws: first-then (tests behind tests), first-passed (accepted: all are passed), answered-by.
 use mathlib.Core.Path.{_≡_, refl, subst, sym}
-use mathlib.Core.Bool.{Bool, true, false, _&&_}
+use mathlib.Core.Bool.{Bool, true, false}
 use mathlib.Core.List.{List, [], _∷_, _++_}
 use Prim.Native.Nat.{ℕ}
 use lib.Dec.{T}

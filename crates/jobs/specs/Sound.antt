@@ -19,12 +19,12 @@ use Rattle.mesh.specs.Counts.{countsOf, countTable}
 use Rattle.lattice.specs.Levels.{fours-four}
 use Rattle.tables.specs.Sound.{Mesh}
 use Rattle.base.specs.Refuse.{codeOf, passed, both}
-use Rattle.layout.proofs.Accepted.{mesh-passed}
+use Rattle.layout.specs.Accepted.{mesh-passed}
 use Rattle.archive.specs.Job.{Job}
 use Rattle.archive.specs.Form.{formb, jobOf}
 use Rattle.replay.specs.Run.{runAnswer, restTable, jobAnswer, jobTable}
 use Rattle.replay.specs.Sound.{run-sound}
-use Rattle.replay.proofs.Rest.{rest-sound}
+use Rattle.replay.specs.Rest.{rest-sound}
 use Rattle.jobs.specs.Calls.{archiveAnswer, jobLevels, jobCounts}
 
 -- a sound table has at most 11 levels

@@ -25,7 +25,7 @@ use Rattle.archive.specs.Ends.{Climbs, lastFrom, climbs-rising, climbs-within, 
 use Rattle.replay.specs.Run.{spread, markingb, oneAnswer, oneTable, restTable, flatAnswer, tablesAnswer}
 use Rattle.replay.specs.Scan.{mayb, markingFrom}
 use Rattle.replay.specs.Accepted.{limits-within}
-use Rattle.replay.proofs.Marking.{from-start}
+use Rattle.replay.specs.Marking.{from-start}
 
 -- the mesh
 record Meshed (ps : List ℤ) (ts : List ℕ) : Type 0 where

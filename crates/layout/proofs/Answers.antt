@@ -15,7 +15,7 @@ use Rattle.tables.specs.Sound.{unlessSound}
 use Rattle.base.specs.Refuse.{answer-refused, answer-none, codeOf, answerOf, andThen}
 use Rattle.mesh.specs.Answers.{tableAnswer}
 use Rattle.layout.specs.Calls.{cellsIn, lentb, layoutAnswer, ancestorAnswer, countsAnswer}
-use Rattle.layout.proofs.Accepted.{mesh-code, mesh-passed}
+use Rattle.layout.specs.Accepted.{mesh-code, mesh-passed}
 use native.Mathlib.Omega.{arith}
 use lib.Dec.{T}
 

@@ -1,4 +1,3 @@
-pub mod Accepted
 pub mod Numbering
 pub mod Answers
 pub mod Results

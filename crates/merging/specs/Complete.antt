@@ -5,25 +5,22 @@
 use mathlib.Core.Path.{_≡_, refl, sym, _∙_, ap, ap₂, subst}
 use mathlib.Core.Logic.{⊎-elim}
 use mathlib.Core.Bool.{Bool, true, false}
-use mathlib.Core.List.{List, [], _∷_, _++_, map, List·Memᴰ, List·Memᴰ·head, List·Memᴰ·tail, List·Memᴰ·not-nil, List·Memᴰ·cases-cons}
-use mathlib.Core.List.{Memᴰ·of-map}
+use mathlib.Core.List.{List, [], _∷_, _++_, map, List·Memᴰ, List·Memᴰ·head, List·Memᴰ·tail, List·Memᴰ·not-nil, List·Memᴰ·cases-cons, flatten, Memᴰ·of-map}
 use Prim.Native.Nat.{ℕ, zero, suc, _+_, _≤_, _<_}
 use native.Mathlib.Omega.{arith}
 use lib.Dec.{T, eqb}
 use lib.ListN.{length, getD, take, drop, length-map}
 use borrow.Author.Tests.{eq-eqb}
-use Rattle.base.specs.Lists.{allb, anyb, filterb, sameb, and-left, and-right}
-use Rattle.base.specs.Places.{sameb-self, not-both}
+use Rattle.base.specs.Lists.{allb, anyb, filterb, sameb}
+use Rattle.base.specs.Bools.{and-left, and-right, not-both, and-both}
+use Rattle.base.specs.Places.{sameb-self}
 use Rattle.base.specs.Range.{range}
-use Rattle.mesh.specs.Cells.{Cell}
+use Rattle.mesh.specs.Cells.{Cell, noCell}
 use Rattle.mesh.specs.Weights.{Point, coarseCells}
 use Rattle.mesh.specs.Table.{Level, next, levels, levelsOf, cellsOf, closedb}
-use Rattle.lattice.specs.Every.{getD-map}
+use Rattle.base.specs.Every.{getD-map, all-each}
 use Rattle.lattice.specs.Levels.{noLevel}
-use Rattle.lineage.specs.Olds.{concat}
-use Rattle.lineage.specs.Born.{noCell}
 use Rattle.lineage.specs.Paths.{pathAt}
-use Rattle.carriers.specs.Lists.{and-both, all-each}
 use Rattle.soundness.specs.Held.{closed-length}
 use Rattle.soundness.specs.Sound.{Sound, lv}
 use Rattle.soundness.specs.Whole.{spot-at, spot-with}
@@ -229,9 +226,9 @@ pub complete-is : (n : ℕ) (qs : List (List ℕ)) (ss : List ℕ) (es : List En
     → T (completeb es (length qs))
 unfolding completeb levelsOf coarseCells
 complete-is n qs ss es s w d =
-    and-both (filledb 12 es (map (λ i. i ∷ []) (range 0 (length qs)))) (eqb (length (masters es)) (length (concat (merged es (length qs)))))
+    and-both (filledb 12 es (map (λ i. i ∷ []) (range 0 (length qs)))) (eqb (length (masters es)) (length (flatten (merged es (length qs)))))
     (subst (λ (ls : List (List ℕ)). T (filledb 12 es ls)) (coarse-paths n 0 qs)
     (filled-is es 12 0 (coarseCells n qs) ss (s .closed) (found-at n qs ss es w)
     (λ j i h. mastered es (entryAt n qs ss j i false) (w .each j i h) refl)))
-    (rw (eq-eqb (length (masters es)) (length (concat (merged es (length qs))))
+    (rw (eq-eqb (length (masters es)) (length (flatten (merged es (length qs))))
     (length-masters es ∙ masters-counted n qs ss es w d ∙ sym (s .many) ∙ ap length (sym (merged-table n qs ss es w s)))) tt)

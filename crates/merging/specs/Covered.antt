@@ -4,16 +4,15 @@
 use mathlib.Core.Path.{_≡_, sym, _∙_, ap, ap₂, subst}
 use mathlib.Core.Logic.{⊎-elim}
 use mathlib.Core.Bool.{false}
-use mathlib.Core.List.{List, [], _∷_, flatMap, List·Memᴰ, List·Memᴰ·head, List·Memᴰ·tail}
+use mathlib.Core.List.{List, [], _∷_, flatMap, List·Memᴰ, List·Memᴰ·head, List·Memᴰ·tail, flatten}
 use Prim.Native.Nat.{ℕ, _+_, _≤_}
 use native.Mathlib.Omega.{arith}
 use lib.Dec.{T}
 use lib.ListN.{length, getD}
 use Rattle.base.specs.Lists.{memberb}
-use Rattle.base.specs.Places.{not-both}
+use Rattle.base.specs.Bools.{not-both}
 use Rattle.mesh.specs.Cells.{Cell}
 use Rattle.mesh.specs.Weights.{Point}
-use Rattle.lineage.specs.Olds.{concat}
 use Rattle.soundness.specs.Sound.{Sound, lv}
 use Rattle.rounds.specs.Tests.{Member, member-cases}
 use Rattle.parts.specs.Owners.{nthCell, ownersb}
@@ -58,7 +57,7 @@ module _ (n : ℕ) (qs : List (List ℕ)) (ss : List ℕ) (s : Sound n qs ss) (P
             };
       }
 
-  pub split-merged : concat (merged (flatMap (entriesOf n qs ss os) ps) (length qs)) ≡ ss
+  pub split-merged : flatten (merged (flatMap (entriesOf n qs ss os) ps) (length qs)) ≡ ss
   split-merged = merged-table n qs ss (flatMap (entriesOf n qs ss os) ps) covered s
 
 module _ (n : ℕ) (qs : List (List ℕ)) (ss : List ℕ) (s : Sound n qs ss) (P : ℕ) (os : List ℕ) (t : T (ownersb n qs ss P os)) where
@@ -83,7 +82,7 @@ module _ (n : ℕ) (qs : List (List ℕ)) (ss : List ℕ) (s : Sound n qs ss) (P
       admissible n qs ss P os t .A3 p q (v .c) a (subst (λ (c : ℕ). T (masterb os q c)) (sym same) b)
 
   pub split-apart : (ps : List ℕ) → NoDup ps → NoDup (masterPaths (flatMap (entriesOf n qs ss os) ps))
-  unfolding flatMap masterPaths
+  unfolding flatMap flatten masterPaths
   split-apart [] d = tt
   split-apart (p ∷ l) d =
       subst NoDup (sym (paths-append (entriesOf n qs ss os p) (flatMap (entriesOf n qs ss os) l)))

@@ -7,24 +7,23 @@
 use mathlib.Core.Path.{_≡_, refl, sym, _∙_, ap, ap₂, subst}
 use mathlib.Core.Logic.{⊎-elim}
 use mathlib.Core.Bool.{Bool, true, false}
-use mathlib.Core.List.{List, [], _∷_, _++_, map, map-append, List·Memᴰ, List·Memᴰ·head, List·Memᴰ·tail, List·Memᴰ·not-nil}
-use mathlib.Core.List.{List·Memᴰ·cases-cons}
+use mathlib.Core.List.{List, [], _∷_, _++_, map, map-append, List·Memᴰ, List·Memᴰ·head, List·Memᴰ·tail, List·Memᴰ·not-nil, flatten, List·Memᴰ·cases-cons}
 use Prim.Native.Nat.{ℕ, zero, suc, _+_, _<_}
 use native.Mathlib.Omega.{arith}
 use lib.Dec.{T, eqb}
 use lib.ListN.{length, getD, take, drop}
 use lib.Seq.{take-length}
-use Rattle.base.specs.Lists.{allb, sameb, sameb-eq, and-left, and-right}
-use Rattle.base.specs.Places.{sameb-self, not-both}
+use Rattle.base.specs.Lists.{allb, sameb, sameb-eq}
+use Rattle.base.specs.Bools.{and-left, and-right, not-both}
+use Rattle.base.specs.Places.{sameb-self}
 use Rattle.base.specs.Range.{range}
 use Rattle.cutting.specs.Rule.{family}
 use Rattle.mesh.specs.Cells.{Cell, patternOf, redb, children, childrenFrom}
 use Rattle.mesh.specs.Weights.{Point, point, coarseFrom, coarseCells}
-use Rattle.mesh.specs.Table.{Level, next, levels, levelsOf, closedb, soundb}
+use Rattle.mesh.specs.Table.{Level, next, levels, levelsOf, closedb, soundb, sizeOf}
 use Rattle.mesh.specs.Step.{stepTable}
-use Rattle.rows.specs.Numbered.{sizeOf}
 use Rattle.lattice.specs.Levels.{noLevel}
-use Rattle.lineage.specs.Olds.{concat, flagTable, upTo, stepBy}
+use Rattle.lineage.specs.Olds.{flagTable, upTo, stepBy}
 use Rattle.lineage.specs.Paths.{pathAt}
 use Rattle.lineage.specs.Levels.{grow-statuses, new-levels}
 use Rattle.lineage.specs.Step.{step-by}
@@ -150,16 +149,16 @@ module _ (n : ℕ) (qs : List (List ℕ)) (ss : List ℕ) (es : List Entry) (w :
   merged-is c = ap (gather 12 es) (sym (coarse-paths n 0 qs)) ∙ gather-is es 12 0 (coarseCells n qs) ss c found-at
 
   -- the table as one row
-  pub merged-table : Sound n qs ss → concat (merged es (length qs)) ≡ ss
+  pub merged-table : Sound n qs ss → flatten (merged es (length qs)) ≡ ss
   unfolding levelsOf
   merged-table s =
-      ap concat (merged-is (s .closed)) ∙ statuses-all 12 0 (coarseCells n qs) ss (s .closed) ∙ ap (λ (x : ℕ). take x ss) (sym (s .many))
+      ap flatten (merged-is (s .closed)) ∙ statuses-all 12 0 (coarseCells n qs) ss (s .closed) ∙ ap (λ (x : ℕ). take x ss) (sym (s .many))
       ∙ take-length ss
 
 -- the step's table, without the limits
 pub merged-step : (n : ℕ) (qs : List (List ℕ)) (ss ms : List ℕ) (es : List Entry) → T (soundb n qs ss)
-    → Covers n qs (concat (stepBy n qs ss ms)) es → merged es (length qs) ≡ stepTable n qs ss ms
+    → Covers n qs (flatten (stepBy n qs ss ms)) es → merged es (length qs) ≡ stepTable n qs ss ms
 unfolding stepBy
 merged-step n qs ss ms es sound w =
-    merged-is n qs (concat (stepBy n qs ss ms)) es w (new-closed n qs ss ms sound) ∙ ap statusLists (new-levels n qs ss ms)
+    merged-is n qs (flatten (stepBy n qs ss ms)) es w (new-closed n qs ss ms sound) ∙ ap statusLists (new-levels n qs ss ms)
     ∙ grow-statuses (length qs) ss (flagTable n qs ss ms) 12 0 (coarseCells n qs) (upTo (length qs)) ∙ sym (step-by n qs ss ms sound)

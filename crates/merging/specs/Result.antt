@@ -8,7 +8,7 @@
 -- keep), admissible-before and admissible-after (A1 to A6).
 use mathlib.Core.Path.{_≡_, sym, _∙_, ap, subst}
 use mathlib.Core.Logic.{_≢_}
-use mathlib.Core.List.{List, flatMap, List·Memᴰ}
+use mathlib.Core.List.{List, flatMap, List·Memᴰ, flatten}
 use Prim.Native.Nat.{ℕ, suc, _≤_, _<_, pred}
 use native.Mathlib.Omega.{arith}
 use lib.Dec.{T, leb}
@@ -18,9 +18,8 @@ use Rattle.base.specs.declared.Answer.the-variants.{Accepted}
 use Rattle.mesh.specs.Coarse.{cellsb}
 use Rattle.mesh.specs.Table.{Level, levelsOf, soundb}
 use Rattle.mesh.specs.Step.{stepTable}
-use Rattle.lattice.specs.Every.{All}
+use Rattle.base.specs.Every.{All}
 use Rattle.lattice.specs.Facts.{sound-regular}
-use Rattle.lineage.specs.Olds.{concat}
 use Rattle.lineage.specs.Paths.{pathAt}
 use Rattle.lineage.specs.Step.{step-by}
 use Rattle.soundness.specs.Sound.{Sound, sound-parts}
@@ -83,20 +82,20 @@ module _ {Part : Type 0} (F : Finite Part) (n : ℕ) (qs : List (List ℕ)) (ss 
   serial-table l every = merged-step n qs ss ms (entriesAll settle l) sound (entries-cover settle l every)
 
   -- as many masters as cells, and the serial answer from the totals
-  pub all-totals : NoDup (F .list) → sumOver (mastersOf settle) (F .list) ≡ length (concat (stepTable n qs ss ms))
-  all-totals d = totals-are settle (F .list) (F .all) d ∙ ap (λ (t : List (List ℕ)). length (concat t)) (sym (step-by n qs ss ms sound))
+  pub all-totals : NoDup (F .list) → sumOver (mastersOf settle) (F .list) ≡ length (flatten (stepTable n qs ss ms))
+  all-totals d = totals-are settle (F .list) (F .all) d ∙ ap (λ (t : List (List ℕ)). length (flatten t)) (sym (step-by n qs ss ms sound))
 
   pub serial-answer : NoDup (F .list) → endOf (capped (sumOver (mastersOf settle) (F .list))) (highIn settle)
-      ≡ refuse 8 (leb (length (stepTable n qs ss ms)) 11) (refuse 9 (leb (length (concat (stepTable n qs ss ms))) 4096) Accepted)
+      ≡ refuse 8 (leb (length (stepTable n qs ss ms)) 11) (refuse 9 (leb (length (flatten (stepTable n qs ss ms))) 4096) Accepted)
   serial-answer d =
-      ends settle d ∙ ap (λ (t : List (List ℕ)). refuse 8 (leb (length t) 11) (refuse 9 (leb (length (concat t)) 4096) Accepted))
+      ends settle d ∙ ap (λ (t : List (List ℕ)). refuse 8 (leb (length t) 11) (refuse 9 (leb (length (flatten t)) 4096) Accepted))
       (sym (step-by n qs ss ms sound))
 
   pub held-each-once : (p : Part) → NoTwice (entriesIn settle p)
   held-each-once p = each-once settle p
 
   -- masters and ghosts before the step
-  pub old-table : (ps : List ℕ) → ((p : ℕ) → 1 ≤ p → p ≤ P → Member p ps) → concat (merged (flatMap (entriesOf n qs ss os) ps) (length qs))
+  pub old-table : (ps : List ℕ) → ((p : ℕ) → 1 ≤ p → p ≤ P → Member p ps) → flatten (merged (flatMap (entriesOf n qs ss os) ps) (length qs))
       ≡ ss
   old-table ps every = split-merged n qs ss s P os owners ps every
 
@@ -108,15 +107,15 @@ module _ {Part : Type 0} (F : Finite Part) (n : ℕ) (qs : List (List ℕ)) (ss 
   admissible-before = admissible n qs ss P os owners
 
   -- within the limits: what each part holds, and the conditions after the step
-  module _ (low : length (stepTable n qs ss ms) ≤ 11) (few : length (concat (stepTable n qs ss ms)) ≤ 4096) where
+  module _ (low : length (stepTable n qs ss ms) ≤ 11) (few : length (flatten (stepTable n qs ss ms)) ≤ 4096) where
     abbrev ts : List ℕ
-    ts = concat (stepTable n qs ss ms)
+    ts = flatten (stepTable n qs ss ms)
 
     abbrev os' : List ℕ
     os' = ownersAfter n qs ss os ts
 
     by : ts ≡ tableIn settle
-    by = ap concat (step-by n qs ss ms sound)
+    by = ap flatten (step-by n qs ss ms sound)
 
     new-sound : Sound n qs ts
     new-sound = sound-parts n qs ts (step-sound n qs ss ms four accepted sound low few)

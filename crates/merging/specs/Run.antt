@@ -8,7 +8,7 @@
 use mathlib.Core.Path.{_≡_, sym, _∙_, ap, ap₂, fun-ext}
 use mathlib.Core.Logic.{⊎-elim}
 use mathlib.Core.Bool.{true, false, _&&_}
-use mathlib.Core.List.{List, List·Memᴰ, List·Memᴰ·not-nil, List·Memᴰ·cases-cons}
+use mathlib.Core.List.{List, List·Memᴰ, List·Memᴰ·not-nil, List·Memᴰ·cases-cons, flatten}
 use Prim.Native.Nat.{ℕ, zero, suc, _≤_, _<_, pred, min, Fin}
 use native.Mathlib.Decide.{decLt, Fin·val-path}
 use native.Mathlib.Nat.{le-refl}
@@ -21,8 +21,7 @@ use Rattle.base.specs.declared.Answer.the-variants.{Accepted}
 use Rattle.mesh.specs.Coarse.{cellsb}
 use Rattle.mesh.specs.Table.{soundb}
 use Rattle.mesh.specs.Step.{stepTable}
-use Rattle.lattice.specs.Every.{All}
-use Rattle.lineage.specs.Olds.{concat}
+use Rattle.base.specs.Every.{All}
 use Rattle.soundness.specs.Sound.{Sound, sound-parts}
 use Rattle.exchange.specs.Finite.{Finite, step-down, fins, parts, sumOver}
 use Rattle.exchange.specs.Lockstep.{lock}
@@ -36,8 +35,7 @@ use Rattle.parts.specs.Starts.{placeOn, putTogether}
 use Rattle.splitting.specs.Admissible.{owners-counted}
 use Rattle.splitting.specs.Starts.{together-at, length-together}
 use Rattle.splitting.specs.Split.{Slots, taskOf, fits, owners-fit}
-use Rattle.shares.specs.Grow.{statusNew, pairHeld, freshStatus, staysb, masterEntry, ghostEntry, anewb, childStatus, childEntries}
-use Rattle.shares.specs.Grow.{freshEntries, entries}
+use Rattle.shares.specs.Grow.{statusNew, pairHeld, freshStatus, staysb, masterEntry, ghostEntry, anewb, childStatus, childEntries, freshEntries, entries}
 use Rattle.shares.specs.Settled.{Settled}
 use Rattle.shares.specs.Share.{Named}
 use Rattle.merging.specs.Distinct.{NoDup}
@@ -157,7 +155,7 @@ module _ (Q n : ℕ) (qs : List (List ℕ)) (ss ms : List ℕ) (four : All (λ q
       ∙ ap (λ (f : Fin P → ℕ). largest f (F .list)) (fun-ext (λ q. ap (λ (es : List Entry). topOf (masterPaths es)) (sym (entries-last q))))
 
   pub run-answer : (p : Fin P) → endOf (final p .total) (final p .high)
-      ≡ refuse 8 (leb (length (stepTable n qs ss ms)) 11) (refuse 9 (leb (length (concat (stepTable n qs ss ms))) 4096) Accepted)
+      ≡ refuse 8 (leb (length (stepTable n qs ss ms)) 11) (refuse 9 (leb (length (flatten (stepTable n qs ss ms))) 4096) Accepted)
   run-answer p =
       ap₂ endOf (told-masters p) (told-top p)
       ∙ serial-answer F n qs ss ms four accepted sound P os owners slot slots numbered (nthPart Q) numberOf (named Q) final

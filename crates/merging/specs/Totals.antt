@@ -7,14 +7,14 @@
 -- serial step's answer), grown-plain (what a part tells does not depend on totals).
 use mathlib.Core.Path.{_≡_, refl, sym, _∙_, ap, ap₂, subst}
 use mathlib.Core.Bool.{Bool, false, not}
-use mathlib.Core.List.{List, [], _∷_, List·Memᴰ}
+use mathlib.Core.List.{List, [], _∷_, List·Memᴰ, flatten}
 use Prim.Native.Nat.{ℕ, zero, suc, _+_, _≤_, _<_, pred}
 use native.Mathlib.Omega.{arith}
 use lib.Dec.{T, leb, leb→le, le→leb}
 use lib.ListN.{length, length-append}
 use Rattle.base.specs.Refuse.{refuse}
 use Rattle.base.specs.declared.Answer.the-variants.{Accepted}
-use Rattle.lineage.specs.Olds.{concat, stepBy}
+use Rattle.lineage.specs.Olds.{stepBy}
 use Rattle.lineage.specs.Paths.{pathAt}
 use Rattle.lineage.specs.Met.{newAt}
 use Rattle.soundness.specs.Grown.{new-many}
@@ -25,8 +25,7 @@ use Rattle.rounds.specs.Rounds.{State, capped, largest, sized}
 use Rattle.rounds.specs.Among.{largest-in}
 use Rattle.rounds.specs.Totals.{Plain}
 use Rattle.splitting.specs.Paths.{new-length}
-use Rattle.shares.specs.Grow.{statusNew, pairHeld, freshStatus, staysb, masterEntry, ghostEntry, anewb, childStatus, childEntries}
-use Rattle.shares.specs.Grow.{freshEntries, entries}
+use Rattle.shares.specs.Grow.{statusNew, pairHeld, freshStatus, staysb, masterEntry, ghostEntry, anewb, childStatus, childEntries, freshEntries, entries}
 use Rattle.shares.specs.Settled.{Settled, entriesIn, ownIn}
 use Rattle.shares.specs.Present.{newEntry, masters-in}
 use Rattle.merging.specs.Distinct.{NoDup}
@@ -83,9 +82,9 @@ module _ {Part : Type 0} {F : Finite Part} (X : Settled F) where
       ∙ ap length (sym (paths-append (entriesIn X p) (entriesAll X l)))
 
   -- as many masters as cells
-  pub totals-are : (l : List Part) → ((p : Part) → List·Memᴰ p l) → NoDup l → sumOver mastersOf l ≡ length (concat (stepBy n qs ss ms))
+  pub totals-are : (l : List Part) → ((p : Part) → List·Memᴰ p l) → NoDup l → sumOver mastersOf l ≡ length (flatten (stepBy n qs ss ms))
   totals-are l every d =
-      length-all l ∙ masters-counted n qs (concat (stepBy n qs ss ms)) (entriesAll X l) (entries-cover X l every) (all-apart X l d)
+      length-all l ∙ masters-counted n qs (flatten (stepBy n qs ss ms)) (entriesAll X l) (entries-cover X l every) (all-apart X l d)
       ∙ sym (new-many n qs ss ms)
 
   -- a master on level 11
@@ -138,7 +137,7 @@ module _ {Part : Type 0} {F : Finite Part} (X : Settled F) where
 
   -- what every part finds from the totals is what the serial step answers
   pub ends : NoDup (F .list) → endOf (capped (sumOver mastersOf (F .list))) highIn
-      ≡ refuse 8 (leb (length (stepBy n qs ss ms)) 11) (refuse 9 (leb (length (concat (stepBy n qs ss ms))) 4096) Accepted)
+      ≡ refuse 8 (leb (length (stepBy n qs ss ms)) 11) (refuse 9 (leb (length (flatten (stepBy n qs ss ms))) 4096) Accepted)
   unfolding endOf
   ends d =
       ap₂ (λ (a b : Bool). refuse 8 a (refuse 9 b Accepted)) (ap not high-is ∙ sym (levels-eleven n qs ss ms))

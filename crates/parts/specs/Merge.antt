@@ -7,14 +7,13 @@
 --   filledb h es ls        each of the places ls, and of those that the statuses ask for up to h levels, has a master
 --   completeb es m         the entries have a master for each place of the table that they make, and no other masters
 use mathlib.Core.Bool.{Bool, true, false, _&&_, not}
-use mathlib.Core.List.{List, [], _∷_, _++_, map, flatMap}
+use mathlib.Core.List.{List, [], _∷_, _++_, map, flatMap, flatten}
 use Prim.Native.Nat.{ℕ, zero, suc}
 use lib.Dec.{eqb}
 use lib.ListN.{length}
 use Rattle.base.specs.Lists.{allb, anyb, filterb, sameb}
 use Rattle.base.specs.Range.{range}
-use Rattle.rows.specs.Numbered.{sizeOf}
-use Rattle.lineage.specs.Olds.{concat}
+use Rattle.mesh.specs.Table.{sizeOf}
 use Rattle.parts.specs.Held.{Entry}
 
 unfoldable pub lookup : List Entry → List ℕ → ℕ
@@ -51,5 +50,5 @@ filledb (suc h) es (l ∷ ls) =
     allb (λ k. anyb (λ e. sameb (e .path) k) (masters es)) (l ∷ ls) && filledb h es (childPaths (l ∷ ls) (map (lookup es) (l ∷ ls)))
 
 unfoldable pub completeb : List Entry → ℕ → Bool
-unfolding filledb masters merged range flatMap
-completeb es m = filledb 12 es (map (λ i. i ∷ []) (range 0 m)) && eqb (length (masters es)) (length (concat (merged es m)))
+unfolding filledb masters merged range flatMap flatten
+completeb es m = filledb 12 es (map (λ i. i ∷ []) (range 0 m)) && eqb (length (masters es)) (length (flatten (merged es m)))

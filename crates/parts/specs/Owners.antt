@@ -16,10 +16,9 @@ use lib.Dec.{eqb, leb}
 use lib.ListN.{length, getD}
 use Rattle.base.specs.Lists.{allb, filterb, sameb}
 use Rattle.base.specs.Range.{range}
-use Rattle.mesh.specs.Cells.{Cell}
+use Rattle.mesh.specs.Cells.{Cell, noCell}
 use Rattle.mesh.specs.Weights.{Point}
 use Rattle.mesh.specs.Table.{levelsOf, cellsOf}
-use Rattle.lineage.specs.Born.{noCell}
 
 unfoldable pub firstOr : {A : Type 0} → (ℕ → A) → A → List ℕ → A
 firstOr f a [] = a

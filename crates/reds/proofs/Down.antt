@@ -24,10 +24,10 @@ use Rattle.base.specs.Each.{map-same}
 use Rattle.numbering.specs.Corners.{Has}
 use Rattle.numbering.specs.Renamed.{red-edges-in}
 use Rattle.numbering.specs.Tests.{numberedCells, edgeIn, EndsPlaced, red-edges-numbers}
-use Rattle.tables.proofs.Cells.{red-strip}
+use Rattle.tables.specs.Cells.{red-strip}
 use Rattle.lineage.specs.Olds.{flagOf, flagsOf, flags, firstChild}
 use Rattle.reds.specs.Flags.{range, kidsOf, redAtb, flagsAt, redsUp, flagsUp}
-use Rattle.reds.proofs.Firsts.{first-up, Firsts, firsts-top, firsts-up}
+use Rattle.reds.specs.Firsts.{first-up, Firsts, firsts-top, firsts-up}
 use Rattle.reds.proofs.Tests.{rowAt, Seen, all-range, red-row}
 use Rattle.reds.proofs.Levels.{Stands, rows-range, cells-of-rows, placed-range, cells-range, up-end, kids-range}
 use Rattle.lineage.specs.Flags.{flag-red}

@@ -21,12 +21,12 @@ use Rattle.rows.specs.Numbered.{cellsAt}
 use Rattle.base.specs.Every.{All}
 use Rattle.numbering.specs.Tests.{numberedCells, Placed}
 use Rattle.rows.specs.Many.{next-size}
-use Rattle.tables.proofs.Cells.{strip}
+use Rattle.tables.specs.Cells.{strip}
 use Rattle.lineage.specs.Olds.{firstChild}
 use Rattle.reds.specs.Flags.{range, kidsOf}
-use Rattle.reds.proofs.Ranges.{Blocks, blocks, filter-map}
-use Rattle.reds.proofs.Born.{born}
-use Rattle.reds.proofs.Firsts.{first-add, first-next, first-up, Firsts}
+use Rattle.reds.specs.Ranges.{Blocks, blocks, filter-map}
+use Rattle.reds.specs.Born.{born}
+use Rattle.reds.specs.Firsts.{first-add, first-next, first-up, Firsts}
 use Rattle.reds.proofs.Tests.{rowAt, Seen}
 use Rattle.rows.specs.Laws.{cells-cons}
 

@@ -1,6 +1,3 @@
-pub mod Ranges
-pub mod Born
-pub mod Firsts
 pub mod Tests
 pub mod Levels
 pub mod Down

@@ -25,14 +25,14 @@ use Rattle.numbering.specs.Tables.{sound-numbers}
 use Rattle.counting.specs.Levels.{nextEnd, levelNumber, levelEnd, number-more, end-more, end-none, next-after}
 use Rattle.counting.specs.Sound.{sound-counted}
 use Rattle.tables.specs.Sound.{tableCells, tableCorners}
-use Rattle.tables.proofs.Cells.{strip, cell-at}
-use Rattle.tables.proofs.Onward.{four-in, length-in}
-use Rattle.tables.proofs.Finish.{rows-in}
+use Rattle.tables.specs.Cells.{strip, cell-at}
+use Rattle.tables.specs.Onward.{four-in, length-in}
+use Rattle.tables.specs.Finish.{rows-in}
 use Rattle.mesh.specs.Laws.{length-from}
 use Rattle.lineage.specs.Olds.{firstChild, flagTable}
 use Rattle.reds.specs.Flags.{flagsAt, redsUp, flagsUp}
 use Rattle.reds.specs.Old.{Old, Marked}
-use Rattle.reds.proofs.Firsts.{first-add, first-start, first-at, Firsts, firsts-top, firsts-up, length-firsts}
+use Rattle.reds.specs.Firsts.{first-add, first-start, first-at, Firsts, firsts-top, firsts-up, length-firsts}
 use Rattle.reds.proofs.Tests.{Seen}
 use Rattle.reds.proofs.Writes.{length-flags}
 use Rattle.reds.proofs.Down.{flags-none, Down, down}

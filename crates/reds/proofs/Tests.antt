@@ -22,7 +22,7 @@ use Rattle.base.specs.Each.{all-map}
 use Rattle.numbering.specs.Corners.{Has}
 use Rattle.numbering.specs.Renamed.{edges-map, edges-in}
 use Rattle.numbering.specs.Tests.{edgeIn, Placed, EndsPlaced, held-numbers}
-use Rattle.tables.proofs.Cells.{strip}
+use Rattle.tables.specs.Cells.{strip}
 use Rattle.reds.specs.Flags.{range, kidsOf, idleb, touchedb, pulledb, redAtb}
 
 abbrev pub rowAt : List (Cell Point) → List ℕ → List ℕ → ℕ → Row

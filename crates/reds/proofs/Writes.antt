@@ -13,7 +13,7 @@ use lib.Seq.{drop-cons, set-at, drop-at, take-take, take-append-le, length-take-
 use Rattle.edges.specs.Pairs.{Pair}
 use Rattle.lineage.specs.Olds.{firstChild, flagOf}
 use Rattle.reds.specs.Flags.{range, redAtb, flagsAt}
-use Rattle.reds.proofs.Ranges.{length-range, range-snoc}
+use Rattle.reds.specs.Ranges.{length-range, range-snoc}
 
 -- one number more behind those that are written
 pub written-more : (l p out : List ℕ) (n v : ℕ) → out ≡ p ++ drop n l → length p ≡ n → n < length l → set out n v ≡ (p ++ (v ∷ [])) ++ drop (suc n) l

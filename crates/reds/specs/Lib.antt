@@ -1,2 +1,5 @@
 pub mod Flags
 pub mod Old
+pub mod Ranges
+pub mod Born
+pub mod Firsts

@@ -19,7 +19,7 @@ use Rattle.lineage.specs.Olds.{growBy, statusesBy, oldsNext}
 use Rattle.lineage.specs.Levels.{length-statuses, length-up}
 use Rattle.lineage.specs.Step.{refined-statuses}
 use Rattle.tables.specs.Levels.{all-append}
-use Rattle.tables.proofs.Onward.{drop-take}
+use Rattle.tables.specs.Onward.{drop-take}
 
 -- the lowest level of cells that there are
 module _ (m : ℕ) (ss fs : List ℕ) (h k : ℕ) (cs : List (Cell Point)) (os : List ℕ) where

@@ -16,7 +16,7 @@ use Rattle.tables.specs.Here.{Here}
 use Rattle.pairs.specs.Keys.{Clear}
 use Rattle.tables.specs.Start.{coarseRow}
 use Rattle.tables.specs.Sound.{Mesh}
-use Rattle.tables.proofs.Begin.{here-start, cells-start}
+use Rattle.tables.specs.Begin.{here-start, cells-start}
 use Rattle.renew.specs.Result.{renewed}
 use Rattle.renew.specs.Going.{roomy, Going}
 use Rattle.renew.proofs.Writing.{part-written}

@@ -20,7 +20,7 @@ use Rattle.lineage.specs.Olds.{redsBy, closedBy, statusesBy}
 use Rattle.lineage.specs.Levels.{length-statuses}
 use Rattle.lineage.specs.Levels as same
 use Rattle.lineage.specs.Closed.{Owned, reds-same}
-use Rattle.tables.proofs.Cells.{strip, red-strip}
+use Rattle.tables.specs.Cells.{strip, red-strip}
 use Rattle.renew.specs.Levels.{listedBy}
 
 status-strip : (es : List Pair) (r : Bool) (c : Cell ℕ) → statusOf 0 eqb es r (strip c) ≡ statusOf 0 eqb es r c

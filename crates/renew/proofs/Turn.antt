@@ -22,9 +22,9 @@ use Rattle.lineage.specs.Levels.{length-statuses}
 use Rattle.rows.specs.Many.{length-next}
 use Rattle.tables.specs.Checked as checked
 use Rattle.tables.specs.Checked.{Statuses}
-use Rattle.tables.proofs.Cells.{strip}
-use Rattle.tables.proofs.Space.{red-sizes}
-use Rattle.tables.proofs.Onward.{all-take, cells-are}
+use Rattle.tables.specs.Cells.{strip}
+use Rattle.tables.specs.Space.{red-sizes}
+use Rattle.tables.specs.Onward.{all-take, cells-are}
 use Rattle.renew.specs.Levels.{ownFlags, ownReds, ownStatuses, Made}
 use Rattle.renew.specs.Result.{renewed}
 use Rattle.renew.specs.Going.{roomy, Going}

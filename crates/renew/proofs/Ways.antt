@@ -21,9 +21,9 @@ use Rattle.tables.specs.Checked as checked
 use Rattle.tables.specs.Checked.{Reds}
 use Rattle.tables.specs.Here.{Here, Top}
 use Rattle.tables.specs.Sound.{Sound}
-use Rattle.tables.proofs.Space.{red-sizes}
-use Rattle.tables.proofs.Onward.{here-top, here-next, cells-next}
-use Rattle.tables.proofs.Finish.{top-sound}
+use Rattle.tables.specs.Space.{red-sizes}
+use Rattle.tables.specs.Onward.{here-top, here-next, cells-next}
+use Rattle.tables.specs.Finish.{top-sound}
 use Rattle.lineage.specs.Levels as same
 use Rattle.lineage.specs.Same.{length-olds}
 use Rattle.lineage.specs.Closed.{owned-next}

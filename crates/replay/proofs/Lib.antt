@@ -1,5 +1,3 @@
-pub mod Rest
-pub mod Marking
 pub mod Spreading
 pub mod Steps
 pub mod Resting

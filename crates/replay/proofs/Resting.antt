@@ -16,11 +16,11 @@ use Rattle.mesh.specs.Table.{soundb}
 use Rattle.tables.specs.Sound.{Mesh}
 use Rattle.mesh.specs.Answers.{tableAnswer}
 use Rattle.layout.specs.Opened.{Opened}
-use Rattle.layout.proofs.Accepted.{mesh-passed}
-use Rattle.step.proofs.Answers.{opened-held}
+use Rattle.layout.specs.Accepted.{mesh-passed}
+use Rattle.step.specs.Answers.{opened-held}
 use Rattle.replay.specs.Run.{restTable}
 use Rattle.replay.specs.Going.{Rested}
-use Rattle.replay.proofs.Rest.{rest-sound}
+use Rattle.replay.specs.Rest.{rest-sound}
 
 module _ (ps : List ℤ) (mesh : List ℕ) (k : ℕ) (few : length mesh / 4 ≤ 256 → k ≡ length mesh / 4) where
   abbrev zeros : List ℕ

@@ -12,7 +12,7 @@ use Rattle.base.specs.Bools.{not-both}
 use Rattle.archive.specs.Tables.{pairs}
 use Rattle.replay.specs.Run.{spreadOver, spread, markingb}
 use Rattle.replay.specs.Scan.{mayb, markingFrom, Spread}
-use Rattle.replay.proofs.Marking.{from-start, marking-next, marking-miss, spread-next, pairs-end, may-below}
+use Rattle.replay.specs.Marking.{from-start, marking-next, marking-miss, spread-next, pairs-end, may-below}
 
 pub record Scanned (cs ms : List ℕ) (k : ℕ) (out : List ℕ) (i b : ℕ) : Type 0 where
   pub passed : i ≤ length cs

@@ -4,3 +4,5 @@ pub mod Going
 pub mod Flat
 pub mod Accepted
 pub mod Sound
+pub mod Rest
+pub mod Marking

@@ -6,7 +6,7 @@
 use mathlib.Core.Path.{_≡_, refl, sym, _∙_, ap, ap₂, subst}
 use mathlib.Core.Logic.{_⊎_, inl, inr, ⊎-elim}
 use mathlib.Core.Bool.{Bool, true, false}
-use mathlib.Core.List.{List, [], _∷_, _++_, map, flatMap}
+use mathlib.Core.List.{List, [], _∷_, _++_, map, flatMap, flatten}
 use Prim.Native.Nat.{ℕ, suc, _≤_, _<_}
 use native.Mathlib.Decide.{decLt}
 use native.Mathlib.Omega.{arith}
@@ -14,13 +14,12 @@ use lib.Dec.{T}
 use lib.ListN.{length, getD, drop, drop-of-length-le}
 use lib.Seq.{drop-cons}
 use Rattle.base.specs.Lists.{anyb, filterb, sameb}
-use Rattle.base.specs.Places.{not-both}
-use Rattle.mesh.specs.Cells.{redb, edges, heldb, bitsOf, pattern, redEdges}
+use Rattle.base.specs.Bools.{not-both}
+use Rattle.mesh.specs.Cells.{redb, edges, heldb, bitsOf, pattern, redEdges, noCell}
 use Rattle.mesh.specs.Table.{Level, levelsOf, closedb, soundb}
 use Rattle.mesh.specs.Step.{Row, rows, edgesUp, newReds}
 use Rattle.lattice.specs.Levels.{noLevel}
-use Rattle.lineage.specs.Olds.{concat, stepBy}
-use Rattle.lineage.specs.Born.{noCell}
+use Rattle.lineage.specs.Olds.{stepBy}
 use Rattle.lineage.specs.Same.{Fresh}
 use Rattle.lineage.specs.Levels.{new-levels}
 use Rattle.lineage.specs.Flags.{noRow, newRedAt, length-rows, rows-at}
@@ -31,7 +30,7 @@ use Rattle.carriers.specs.Refined.{status-green}
 use Rattle.soundness.specs.Held.{RedHas, red-which, red-at, closed-at, red-regular}
 use Rattle.soundness.specs.Reds.{held-up}
 use Rattle.soundness.specs.Sound.{Sound, sound-from, level-closed, level-there}
-use Rattle.soundness.specs.Meets.{edges-same}
+use Rattle.soundness.specs.Meets.{edges-alike}
 use Rattle.soundness.specs.Grown.{new-closed}
 use Rattle.rounds.specs.Tests.{same-test}
 use Rattle.splitting.specs.Split.{newEdges, newRedRow}
@@ -48,7 +47,7 @@ module _ (f : Row → Bool) (e : Edge) where
   chosen-later r rs w = record { u = suc (w .u); below = omega (arith, w .below); passes = w .passes; has = w .has }
 
   pub chosen : (rs : List Row) → T (heldb sameb (flatMap (λ (r : Row). edges [] (r .cell)) (filterb f rs)) e) → Chosen rs
-  unfolding flatMap filterb heldb anyb
+  unfolding flatMap flatten filterb heldb anyb
   chosen [] t = absurd t
   chosen (r ∷ rs) t = go (f r) refl (chosen rs)
     where
@@ -76,7 +75,7 @@ module _ (n : ℕ) (qs : List (List ℕ)) (ss ms : List ℕ) (s : Sound n qs ss)
   pub new-closed-at : (k : ℕ) → T (closedb (new k))
   new-closed-at k =
       subst (λ (ls : List Level). T (closedb (getD ls k noLevel))) (new-levels n qs ss ms)
-      (level-closed n qs (concat (stepBy n qs ss ms)) (new-closed n qs ss ms sound) k)
+      (level-closed n qs (flatten (stepBy n qs ss ms)) (new-closed n qs ss ms sound) k)
 
   -- an old cell that will be red and has an edge
   pub record WillHave (k : ℕ) (e : Edge) : Type 0 where
@@ -134,7 +133,7 @@ module _ (n : ℕ) (qs : List (List ℕ)) (ss ms : List ℕ) (s : Sound n qs ss)
             t = m .t;
             below = m .is .below;
             red = sym (m .red) ∙ ap redb q;
-            has = rw (edges-same (getD (old k .cells) (m .t) noCell) (getD (new k .cells) i noCell) (m .is .points)) u;
+            has = rw (edges-alike (getD (old k .cells) (m .t) noCell) (getD (new k .cells) i noCell) (m .is .points)) u;
           })
       go i h q u (inr (a, b)) = not-both (redb (getD (new k .statuses) i 0)) (ap redb q) a
 
@@ -159,7 +158,7 @@ module _ (n : ℕ) (qs : List (List ℕ)) (ss ms : List ℕ) (s : Sound n qs ss)
             below = z .below;
             known = omega (arith, new-known n qs ss ms sound k, z .below);
             red = z .status;
-            has = rw (← edges-same (getD (old k .cells) (w .t) noCell) (getD (new k .cells) (z .i) noCell) p) (w .has);
+            has = rw (← edges-alike (getD (old k .cells) (w .t) noCell) (getD (new k .cells) (z .i) noCell) p) (w .has);
           })
       go w z (inr (a, b)) = not-both (redb (getD (new k .statuses) (z .i) 0)) (ap redb (z .status)) a
 

@@ -12,16 +12,15 @@ use native.Mathlib.Omega.{arith}
 use lib.Dec.{T, eqb}
 use lib.ListN.{length, getD}
 use borrow.Author.Tests.{eq-eqb, eqb-false, ne-eqb}
-use Rattle.base.specs.Lists.{sameb, is-true, is-false, and-left, and-right, one-if}
-use Rattle.base.specs.Places.{not-both}
+use Rattle.base.specs.Lists.{sameb}
+use Rattle.base.specs.Bools.{is-true, is-false, and-left, and-right, one-if, not-both}
 use Rattle.base.specs.Range.{range, member-range}
 use Rattle.cutting.specs.Rule.{family}
-use Rattle.mesh.specs.Cells.{Cell, redb, patternOf, edges, heldb, bitsOf}
+use Rattle.mesh.specs.Cells.{Cell, redb, patternOf, edges, heldb, bitsOf, noCell}
 use Rattle.mesh.specs.Weights.{Point}
-use Rattle.mesh.specs.Table.{Level, soundb}
-use Rattle.rows.specs.Numbered.{sizeOf}
+use Rattle.mesh.specs.Table.{Level, soundb, sizeOf}
 use Rattle.rows.specs.Many.{size-refined, size-some}
-use Rattle.lineage.specs.Born.{noCell, Born}
+use Rattle.lineage.specs.Born.{Born}
 use Rattle.lineage.specs.Paths.{pathAt, snoc-inj}
 use Rattle.lineage.specs.Same.{Fresh}
 use Rattle.lineage.specs.Met.{Fostered, new-next, flagged, met, fostered, new-known, new-follows}
@@ -37,13 +36,11 @@ use Rattle.splitting.specs.Numbers.{at-level, stands}
 use Rattle.splitting.specs.Split.{newEdges, Owners}
 use Rattle.shares.specs.Flat.{flat-in, map-in, only-one}
 use Rattle.shares.specs.After.{will, new-status}
-use Rattle.shares.specs.Grow.{statusNew, staysb, masterEntry, ghostEntry, anewb, childStatus, childEntries, freshEntries, entries}
-use Rattle.shares.specs.Grow.{entryBy, cellEntries, levelEntries}
+use Rattle.shares.specs.Grow.{statusNew, staysb, masterEntry, ghostEntry, anewb, childStatus, childEntries, freshEntries, entries, entryBy, cellEntries, levelEntries}
 use Rattle.shares.specs.There.{Met, There, red-parent, refined-there}
 use Rattle.shares.specs.Owned.{child-owner, fresh-family, new-born}
 use Rattle.shares.specs.Settled.{Settled, taskIn, entriesIn, oldLevelIn, newLevelIn, numIn, ownIn, famIn}
-use Rattle.shares.specs.Present.{mine-owner, mine-family, stays-there, kept-new, old-path, owner-met, family-met, here-either}
-use Rattle.shares.specs.Present.{child-green, foster-status, irregular-leaf}
+use Rattle.shares.specs.Present.{mine-owner, mine-family, stays-there, kept-new, old-path, owner-met, family-met, here-either, child-green, foster-status, irregular-leaf}
 
 dark-bits : (f : Edge → Bool) (l : List Edge) → ((e : Edge) → f e ≡ false) → bitsOf (map f l) ≡ 0
 unfolding bitsOf one-if

@@ -12,31 +12,32 @@ use native.Mathlib.Omega.{arith}
 use lib.Dec.{T, eqb, eqb→eq, eqb-refl}
 use lib.ListN.{length, getD}
 use borrow.Author.Tests.{eqb-true}
-use Rattle.base.specs.Lists.{anyb, sameb, is-true, and-left, and-right}
+use Rattle.base.specs.Lists.{anyb, sameb}
+use Rattle.base.specs.Bools.{is-true, and-left, and-right}
 use Rattle.cutting.specs.Rule.{family}
-use Rattle.mesh.specs.Cells.{Cell, redb, patternOf, edge, edges, heldb, bitsOf}
+use Rattle.mesh.specs.Cells.{Cell, redb, patternOf, edge, edges, heldb, bitsOf, noCell}
 use Rattle.mesh.specs.Weights.{Point, point}
 use Rattle.mesh.specs.Table.{Level, levelsOf, soundb}
 use Rattle.mesh.specs.Step.{rowsUp, edgesUp, newReds}
-use Rattle.lattice.specs.Every.{All}
+use Rattle.base.specs.Every.{All}
 use Rattle.lattice.specs.Levels.{IfRegular}
 use Rattle.lattice.specs.Regular.{Regular}
 use Rattle.lattice.specs.Edges.{point-injective}
-use Rattle.lineage.specs.Born.{noCell}
 use Rattle.lineage.specs.Paths.{snoc-inj}
-use Rattle.lineage.specs.Same.{rowOf}
+use Rattle.lineage.specs.Same.{rowIn}
 use Rattle.lineage.specs.Flags.{new-red-regular}
 use Rattle.lineage.specs.Met.{Matched, Fostered, oldAbove, flagged}
 use Rattle.exchange.specs.Finite.{Finite}
 use Rattle.carriers.specs.Joins.{Edge, SameEnds, ends-of, held-joined, joins-sym}
 use Rattle.carriers.specs.Lists.{held-which}
-use Rattle.carriers.specs.Child.{digitsOf, lowDigit, highDigit, digits-rise, digits-below, child-edge}
+use Rattle.families.specs.Children.{digitsOf, lowDigit, highDigit, digits-rise, digits-below}
+use Rattle.carriers.specs.Child.{child-edge}
 use Rattle.carriers.specs.Refined.{pattern-small}
 use Rattle.soundness.specs.Held.{closed-at, regular-at}
 use Rattle.soundness.specs.Family.{ChildAt, child-points, child-parent, red-child, born-of}
 use Rattle.soundness.specs.Turn.{Sharing, sharing}
 use Rattle.soundness.specs.Sound.{Sound, sound-from, lv, level-closed, level-next, level-there}
-use Rattle.soundness.specs.Meets.{edges-same, point-same}
+use Rattle.soundness.specs.Meets.{edges-alike, point-same}
 use Rattle.rounds.specs.Tests.{Member, same-test, and-make, or-left, any-member, member-any}
 use Rattle.rounds.specs.Task.{Task, six, redAt, hitAt}
 use Rattle.rounds.specs.Rounds.{State, is, mine}
@@ -110,7 +111,7 @@ module _ (n : ℕ) (qs : List (List ℕ)) (ss ms : List ℕ) (s : Sound n qs ss)
       let h : k < 10 = omega (arith, s .high) in
       let r = getD (up .cells) (w .t) noCell in
       let ru : T (r .regular) =
-      new-red-regular (rowsUp (oldAbove n qs ss (suc k)) ms) (edgesUp (newReds (oldAbove n qs ss (suc k)) ms)) (rowOf up ms (w .t))
+      new-red-regular (rowsUp (oldAbove n qs ss (suc k)) ms) (edgesUp (newReds (oldAbove n qs ss (suc k)) ms)) (rowIn up ms (w .t))
       (flagged n qs ss ms sound (suc k) .follows (w .t) (w .below)) (w .red) in
       let nx = level-next n qs ss k (omega arith) in
       let cl = level-closed n qs ss (s .closed) k in
@@ -266,7 +267,7 @@ module _ {Part : Type 0} {F : Finite Part} (X : Settled F) (p : Part) where
           rw (reg, red ∙ e, statusNew)
           (new-status n qs ss ms s k g i h r e
           ∙ ap (λ (es : List Edge). bitsOf (map (heldb sameb (newEdges n qs ss ms k)) es))
-          (sym (edges-same (nthCell n qs ss (num k (w .t))) (newCell k i) (ap (λ (c : Cell Point). c .points) q ∙ w .is .points)))
+          (sym (edges-alike (nthCell n qs ss (num k (w .t))) (newCell k i) (ap (λ (c : Cell Point). c .points) q ∙ w .is .points)))
           ∙ ap bitsOf (edges-six (heldb sameb (newEdges n qs ss ms k)) (nthCell n qs ss (num k (w .t)))
           ∙ map-agree (λ e. heldb sameb (newEdges n qs ss ms k) (edge [] (nthCell n qs ss (num k (w .t))) e))
           (λ e. heldNow J st (slot (num k (w .t)) e)) six (λ e b. sym (known-held k (num k (w .t)) e m o b))))

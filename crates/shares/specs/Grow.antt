@@ -17,8 +17,8 @@ use Rattle.base.specs.Lists.{anyb}
 use Rattle.base.specs.Range.{range}
 use Rattle.cutting.specs.Rule.{family, low, high}
 use Rattle.mesh.specs.Cells.{patternOf, bitsOf}
-use Rattle.rows.specs.Numbered.{sizeOf}
-use Rattle.carriers.specs.Child.{lowDigit, highDigit}
+use Rattle.mesh.specs.Table.{sizeOf}
+use Rattle.families.specs.Children.{lowDigit, highDigit}
 use Rattle.exchange.specs.Finite.{Finite}
 use Rattle.rounds.specs.Task.{Task, six}
 use Rattle.rounds.specs.Rounds.{State, is}

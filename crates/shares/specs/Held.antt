@@ -9,7 +9,7 @@ use Prim.Native.Nat.{ℕ, _<_}
 use native.Mathlib.Omega.{arith}
 use lib.Dec.{T}
 use lib.ListN.{length, getD}
-use Rattle.base.specs.Lists.{is-true}
+use Rattle.base.specs.Bools.{is-true}
 use Rattle.base.specs.Range.{range, member-range, range-member}
 use Rattle.mesh.specs.Cells.{Cell}
 use Rattle.mesh.specs.Weights.{Point}

@@ -12,7 +12,8 @@ use native.Mathlib.Omega.{arith}
 use lib.Dec.{eqb}
 use lib.ListN.{length, getD}
 use borrow.Author.Tests.{eqb-false, ne-eqb}
-use Rattle.base.specs.Lists.{sameb, sameb-eq, is-false, and-left, and-right}
+use Rattle.base.specs.Lists.{sameb, sameb-eq}
+use Rattle.base.specs.Bools.{is-false, and-left, and-right}
 use Rattle.base.specs.Places.{sameb-self}
 use Rattle.base.specs.Range.{range, member-range, range-member}
 use Rattle.mesh.specs.Cells.{Cell}

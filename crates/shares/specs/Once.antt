@@ -10,16 +10,13 @@ use native.Mathlib.Omega.{arith}
 use lib.Dec.{T, eqb}
 use lib.ListN.{length, getD, length-append}
 use borrow.Author.Tests.{ne-eqb}
-use Rattle.base.specs.Lists.{is-true, is-false, and-left, and-right}
-use Rattle.base.specs.Places.{not-both}
+use Rattle.base.specs.Bools.{is-true, is-false, and-left, and-right, not-both}
 use Rattle.base.specs.Range.{range, member-range}
 use Rattle.cutting.specs.Rule.{family}
-use Rattle.mesh.specs.Cells.{Cell, redb}
+use Rattle.mesh.specs.Cells.{Cell, redb, noCell}
 use Rattle.mesh.specs.Weights.{Point}
-use Rattle.mesh.specs.Table.{Level, soundb}
-use Rattle.rows.specs.Numbered.{sizeOf}
+use Rattle.mesh.specs.Table.{Level, soundb, sizeOf}
 use Rattle.rows.specs.Many.{size-some}
-use Rattle.lineage.specs.Born.{noCell}
 use Rattle.lineage.specs.Paths.{pathAt, snoc-inj}
 use Rattle.lineage.specs.Met.{flagged}
 use Rattle.soundness.specs.Sound.{Sound, sound-from}
@@ -32,8 +29,7 @@ use Rattle.splitting.specs.Numbers.{numbersOf, at-level, stands}
 use Rattle.splitting.specs.Paths.{path-length, new-one-place}
 use Rattle.splitting.specs.Split.{Owners}
 use Rattle.shares.specs.Flat.{NoTwice, flat-in, map-in, only-one, once-append, once-range, once-map}
-use Rattle.shares.specs.Grow.{statusNew, staysb, masterEntry, ghostEntry, anewb, childStatus, childEntries, freshEntries, entries}
-use Rattle.shares.specs.Grow.{entryBy, cellEntries, levelEntries}
+use Rattle.shares.specs.Grow.{statusNew, staysb, masterEntry, ghostEntry, anewb, childStatus, childEntries, freshEntries, entries, entryBy, cellEntries, levelEntries}
 use Rattle.shares.specs.There.{There, refined-there}
 use Rattle.shares.specs.Owned.{new-born}
 use Rattle.shares.specs.Settled.{Settled, taskIn, entriesIn, oldLevelIn, newLevelIn, numIn}

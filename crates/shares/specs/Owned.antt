@@ -13,13 +13,14 @@ use native.Mathlib.Omega.{arith}
 use lib.Dec.{T, eqb}
 use lib.ListN.{length, getD}
 use borrow.Author.Tests.{eqb-true, eqb-false, ne-eqb}
-use Rattle.base.specs.Lists.{sameb, sameb-eq, is-true, is-false, and-left, and-right}
+use Rattle.base.specs.Lists.{sameb, sameb-eq}
+use Rattle.base.specs.Bools.{is-true, is-false, and-left, and-right}
 use Rattle.base.specs.Places.{sameb-self}
 use Rattle.base.specs.Range.{range, member-range, range-member}
-use Rattle.mesh.specs.Cells.{Cell}
+use Rattle.mesh.specs.Cells.{Cell, noCell}
 use Rattle.mesh.specs.Weights.{Point}
 use Rattle.mesh.specs.Table.{Level, soundb}
-use Rattle.lineage.specs.Born.{noCell, Born}
+use Rattle.lineage.specs.Born.{Born}
 use Rattle.lineage.specs.Paths.{pathAt, snoc-inj, coarse-at, length-coarse}
 use Rattle.lineage.specs.Same.{Fresh}
 use Rattle.lineage.specs.Met.{Fostered, newAt, new-next, new-coarse, old-coarse, flagged, new-follows}

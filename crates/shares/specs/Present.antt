@@ -13,16 +13,14 @@ use native.Mathlib.Omega.{arith}
 use lib.Dec.{T, eqb, eqb→eq}
 use lib.ListN.{length, getD}
 use borrow.Author.Tests.{eq-eqb, eqb-true, ne-eqb}
-use Rattle.base.specs.Lists.{is-true, and-left, and-right}
-use Rattle.base.specs.Places.{not-both, either}
+use Rattle.base.specs.Bools.{is-true, and-left, and-right, not-both, either}
 use Rattle.base.specs.Range.{range, range-member}
 use Rattle.cutting.specs.Rule.{family}
-use Rattle.mesh.specs.Cells.{Cell, redb, patternOf}
+use Rattle.mesh.specs.Cells.{Cell, redb, patternOf, noCell}
 use Rattle.mesh.specs.Weights.{Point}
-use Rattle.mesh.specs.Table.{Level, levelsOf, soundb}
-use Rattle.rows.specs.Numbered.{sizeOf}
+use Rattle.mesh.specs.Table.{Level, levelsOf, soundb, sizeOf}
 use Rattle.rows.specs.Many.{size-refined}
-use Rattle.lineage.specs.Born.{noCell, Born}
+use Rattle.lineage.specs.Born.{Born}
 use Rattle.lineage.specs.Paths.{pathAt, snoc-inj}
 use Rattle.lineage.specs.Same.{Fresh}
 use Rattle.lineage.specs.Flags.{newRedAt}
@@ -40,8 +38,7 @@ use Rattle.parts.specs.Held.{Entry}
 use Rattle.splitting.specs.Numbers.{at-level, row-at}
 use Rattle.splitting.specs.Split.{newRedRow, Slots, Owners, fits}
 use Rattle.shares.specs.Flat.{in-flat, in-map}
-use Rattle.shares.specs.Grow.{statusNew, freshStatus, coarseb, staysb, masterEntry, ghostEntry, anewb, childStatus, childEntries}
-use Rattle.shares.specs.Grow.{freshEntries, entries, entryBy, cellEntries, levelEntries}
+use Rattle.shares.specs.Grow.{statusNew, freshStatus, coarseb, staysb, masterEntry, ghostEntry, anewb, childStatus, childEntries, freshEntries, entries, entryBy, cellEntries, levelEntries}
 use Rattle.shares.specs.Fresh.{known-red, kept-status, fresh-status}
 use Rattle.shares.specs.There.{Met, There, coarse-there, red-parent, child-there, refined-there, matched-at, old-kid}
 use Rattle.shares.specs.Owned.{child-owner, matched-owner, matched-family, fresh-family, fostered-met, fostered-owner, new-born}

@@ -8,7 +8,7 @@ use mathlib.Core.List.{List}
 use Prim.Native.Nat.{ℕ, suc, _+_, pred}
 use lib.ListN.{length, getD}
 use Rattle.mesh.specs.Table.{Level, levelsOf}
-use Rattle.lattice.specs.Every.{All}
+use Rattle.base.specs.Every.{All}
 use Rattle.lattice.specs.Levels.{IfRegular}
 use Rattle.lineage.specs.Met.{newAt}
 use Rattle.soundness.specs.Sound.{Sound, lv}

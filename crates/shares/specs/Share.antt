@@ -5,7 +5,7 @@
 use mathlib.Core.Path.{_≡_, sym, _∙_, ap, ap₂, subst}
 use mathlib.Core.Logic.{_≢_, _⊎_, inl, inr}
 use mathlib.Core.Bool.{Bool, true, false, not}
-use mathlib.Core.List.{List, List·Memᴰ}
+use mathlib.Core.List.{List, List·Memᴰ, flatten}
 use Prim.Native.Nat.{ℕ, suc, _+_, _≤_, _<_}
 use native.Mathlib.Omega.{arith}
 use lib.Dec.{T, eqb, eqb→eq}
@@ -14,7 +14,7 @@ use borrow.Author.Tests.{eq-eqb, ne-eqb, eqb-false}
 use Rattle.mesh.specs.Cells.{Cell}
 use Rattle.mesh.specs.Weights.{Point}
 use Rattle.mesh.specs.Table.{Level}
-use Rattle.lineage.specs.Olds.{concat, stepBy}
+use Rattle.lineage.specs.Olds.{stepBy}
 use Rattle.lineage.specs.Paths.{pathAt}
 use Rattle.soundness.specs.Sound.{Sound, lv}
 use Rattle.exchange.specs.Finite.{Finite}
@@ -39,7 +39,7 @@ pub record Named {Part : Type 0} (P : ℕ) (part : ℕ → Part) (number : Part 
 
 module _ {Part : Type 0} {F : Finite Part} (X : Settled F) where
   abbrev pub tableIn : List ℕ
-  tableIn = concat (stepBy (X .n) (X .qs) (X .ss) (X .ms))
+  tableIn = flatten (stepBy (X .n) (X .qs) (X .ss) (X .ms))
 
   abbrev pub ownersIn : List ℕ
   ownersIn = ownersAfter (X .n) (X .qs) (X .ss) (X .os) tableIn

@@ -13,15 +13,15 @@ use native.Mathlib.Omega.{arith}
 use lib.Dec.{T, eqb}
 use lib.ListN.{length, getD}
 use borrow.Author.Tests.{eqb-true, ne-eqb}
-use Rattle.base.specs.Lists.{is-true}
+use Rattle.base.specs.Bools.{is-true}
 use Rattle.cutting.specs.Rule.{family}
-use Rattle.mesh.specs.Cells.{Cell, redb, patternOf}
+use Rattle.mesh.specs.Cells.{Cell, redb, patternOf, noCell}
 use Rattle.mesh.specs.Weights.{Point}
 use Rattle.mesh.specs.Table.{Level, soundb}
 use Rattle.mesh.specs.Step.{Row, rowsUp}
-use Rattle.lineage.specs.Born.{noCell, Born}
+use Rattle.lineage.specs.Born.{Born}
 use Rattle.lineage.specs.Paths.{pathAt}
-use Rattle.lineage.specs.Same.{Fresh, rowOf}
+use Rattle.lineage.specs.Same.{Fresh, rowIn}
 use Rattle.lineage.specs.Flags.{noRow, newRedAt, length-rows, rows-at}
 use Rattle.lineage.specs.Met.{Matched, oldAbove, newAt, new-next, new-coarse, old-coarse, flagged, met, new-known}
 use Rattle.lineage.specs.Stays.{Stays, stays, red-stays, not-deleted, up-rows}
@@ -110,9 +110,9 @@ module _ (n : ℕ) (qs : List (List ℕ)) (ss ms : List ℕ) (s : Sound n qs ss)
       let u = old (suc k) in
       let known = flagged n qs ss ms sound (suc k) .known in
       let up = rowsUp (oldAbove n qs ss k) ms in
-      let at : getD up t noRow ≡ rowOf u ms t = ap (λ (rs : List Row). getD rs t noRow) (up-rows n qs ss ms k) ∙ rows-at u ms known t h in
+      let at : getD up t noRow ≡ rowIn u ms t = ap (λ (rs : List Row). getD rs t noRow) (up-rows n qs ss ms k) ∙ rows-at u ms known t h in
       let many : length up ≡ length (u .cells) = ap length (up-rows n qs ss ms k) ∙ length-rows u ms known in
-      red-stays (rowsUp (oldAbove n qs ss k) ms) (newEdges n qs ss ms (suc k)) (rowOf (old k) ms (b .born .p)) (ap redb (b .red))
+      red-stays (rowsUp (oldAbove n qs ss k) ms) (newEdges n qs ss ms (suc k)) (rowIn (old k) ms (b .born .p)) (ap redb (b .red))
       (not-deleted (rowsUp (oldAbove n qs ss k) ms) (newEdges n qs ss ms (suc k)) (old k .first + b .born .p) t (omega (arith, many))
       (ap (λ (r : Row). r .cell .parent) at ∙ ap (λ (c : Cell Point). c .parent) (b .born .is))
       (ap (λ (r : Row). eqb (r .status) 0 && eqb (r .mark) 2) at

@@ -10,8 +10,8 @@ use native.Mathlib.Omega.{arith}
 use lib.Dec.{T, eqb, eqb→eq, leb, leb→le}
 use lib.ListN.{length, getD}
 use borrow.Author.Tests.{eq-eqb}
-use Rattle.base.specs.Lists.{allb, allb-at, is-true, is-false, and-left, and-right}
-use Rattle.base.specs.Places.{not-both}
+use Rattle.base.specs.Lists.{allb, allb-at}
+use Rattle.base.specs.Bools.{is-true, is-false, and-left, and-right, not-both}
 use Rattle.base.specs.Range.{range}
 use Rattle.rounds.specs.Tests.{Member, member-head}
 use Rattle.parts.specs.Owners.{childrenOf, firstOr, familyOf, ownersb}

@@ -9,9 +9,8 @@ use native.Mathlib.Omega.{arith}
 use lib.ListN.{length, getD, List·getD-append}
 use lib.Seq.{getD-append-seam}
 use Rattle.cutting.specs.Rows.{family-few}
-use Rattle.mesh.specs.Cells.{Cell, patternOf, redEdges}
+use Rattle.mesh.specs.Cells.{Cell, patternOf, redEdges, noCell}
 use Rattle.mesh.specs.Weights.{Point}
-use Rattle.lineage.specs.Born.{noCell}
 use Rattle.lineage.specs.Paths.{pathAt}
 use Rattle.carriers.specs.Refined.{pattern-small}
 use Rattle.soundness.specs.Held.{closed-at}

@@ -14,14 +14,13 @@ use lib.ListN.{length, getD, length-map}
 use borrow.Author.Tests.{eq-eqb}
 use Rattle.base.specs.Lists.{allb, sameb}
 use Rattle.base.specs.Range.{range, member-range}
-use Rattle.mesh.specs.Cells.{Cell}
+use Rattle.mesh.specs.Cells.{Cell, noCell}
 use Rattle.mesh.specs.Weights.{Point, coarseCells}
 use Rattle.mesh.specs.Table.{levelsOf, cellsOf}
-use Rattle.lattice.specs.Every.{getD-map}
-use Rattle.lineage.specs.Born.{noCell}
+use Rattle.base.specs.Every.{getD-map, all-each}
 use Rattle.lineage.specs.Paths.{pathAt, coarse-at, length-coarse}
 use Rattle.lineage.specs.Met.{old-coarse}
-use Rattle.carriers.specs.Lists.{and-both, all-each}
+use Rattle.base.specs.Bools.{and-both}
 use Rattle.soundness.specs.Family.{born-of}
 use Rattle.soundness.specs.Sound.{Sound, lv, level-next}
 use Rattle.rounds.specs.Tests.{Member, filtered-member}

@@ -11,7 +11,8 @@ use native.Mathlib.Omega.{arith}
 use lib.Dec.{T, eqb, eqb→eq}
 use lib.ListN.{length, getD}
 use borrow.Author.Tests.{eq-eqb}
-use Rattle.base.specs.Lists.{sameb, is-true}
+use Rattle.base.specs.Lists.{sameb}
+use Rattle.base.specs.Bools.{is-true}
 use Rattle.base.specs.Places.{Same, hasb, placeIn, has-below, place-there}
 use Rattle.base.specs.Range.{range, member-range, range-member}
 use Rattle.mesh.specs.Cells.{edge, joinsb}

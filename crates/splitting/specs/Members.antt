@@ -11,8 +11,9 @@ use native.Mathlib.Decide.{decLt}
 use native.Mathlib.Omega.{arith}
 use lib.Dec.{T}
 use borrow.Author.Tests.{ne-eqb}
-use Rattle.base.specs.Lists.{allb, anyb, filterb, memberb, and-left, and-right}
-use Rattle.lattice.specs.Every.{below-at}
+use Rattle.base.specs.Lists.{allb, anyb, filterb, memberb}
+use Rattle.base.specs.Bools.{and-left, and-right}
+use Rattle.base.specs.Every.{below-at}
 use Rattle.rounds.specs.Tests.{Member, same-test, and-make, member-head, member-tail, member-cases, any-member, member-any}
 use Rattle.rounds.specs.Task.{six}
 use Rattle.parts.specs.Owners.{firstOr}

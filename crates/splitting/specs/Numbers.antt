@@ -19,15 +19,14 @@ use lib.Seq.{ext-getD}
 use borrow.Author.Tests.{eq-eqb}
 use Rattle.base.specs.Range.{range, length-range, range-at, member-range, range-member}
 use Rattle.families.specs.Children.{some-child}
-use Rattle.mesh.specs.Cells.{Cell, none, patternOf, redEdges}
+use Rattle.mesh.specs.Cells.{Cell, none, patternOf, redEdges, noCell}
 use Rattle.mesh.specs.Weights.{Point, coarseCells}
 use Rattle.mesh.specs.Table.{levelsOf}
 use Rattle.mesh.specs.Step.{Row, rows}
-use Rattle.lattice.specs.Every.{getD-map}
-use Rattle.lineage.specs.Born.{noCell}
+use Rattle.base.specs.Every.{getD-map}
 use Rattle.lineage.specs.Paths.{length-coarse, coarse-at}
 use Rattle.lineage.specs.Levels.{first-first, levels-first, cells-first}
-use Rattle.lineage.specs.Same.{rowOf}
+use Rattle.lineage.specs.Same.{rowIn}
 use Rattle.lineage.specs.Flags.{noRow, rows-at, length-rows}
 use Rattle.carriers.specs.Refined.{pattern-small}
 use Rattle.soundness.specs.Held.{closed-at, closed-length}
@@ -190,7 +189,7 @@ module _ (n : ℕ) (qs : List (List ℕ)) (ss : List ℕ) where
         )
 
     -- the row of a place
-    pub row-at : (ms : List ℕ) (k t : ℕ) → t < length (lv n qs ss k .cells) → rowBy ms (lv n qs ss k .first + t) ≡ rowOf (lv n qs ss k) ms t
+    pub row-at : (ms : List ℕ) (k t : ℕ) → t < length (lv n qs ss k .cells) → rowBy ms (lv n qs ss k .first + t) ≡ rowIn (lv n qs ss k) ms t
     unfolding rowBy
     row-at ms k t h =
         let a = at-level k t h in

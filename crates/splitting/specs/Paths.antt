@@ -2,7 +2,7 @@
 -- Laws: level-below (there are at most twelve levels), path-length (a path is one longer than its level), level-paths and one-place (paths
 -- tell cells apart), new-lv (the levels of the step's table), new-length and new-one-place (the same of its paths).
 use mathlib.Core.Path.{_≡_, sym, _∙_, ap, subst}
-use mathlib.Core.List.{List, [], _∷_}
+use mathlib.Core.List.{List, [], _∷_, flatten}
 use Prim.Native.Nat.{ℕ, zero, suc, _+_, _≤_, _<_}
 use native.Mathlib.Omega.{arith}
 use lib.ListN.{length, getD, take, drop, length-append}
@@ -10,7 +10,7 @@ use Rattle.mesh.specs.Cells.{Cell}
 use Rattle.mesh.specs.Weights.{Point, coarseCells}
 use Rattle.mesh.specs.Table.{Level, next, levels, levelsOf}
 use Rattle.lattice.specs.Levels.{noLevel}
-use Rattle.lineage.specs.Olds.{concat, stepBy}
+use Rattle.lineage.specs.Olds.{stepBy}
 use Rattle.lineage.specs.Paths.{pathAt, Paths, paths-next, paths-coarse, coarse-at, length-coarse}
 use Rattle.lineage.specs.Levels.{new-levels}
 use Rattle.lineage.specs.Met.{old-coarse, newAt}
@@ -65,7 +65,7 @@ module _ (n : ℕ) (qs : List (List ℕ)) (ss : List ℕ) where
 
 module _ (n : ℕ) (qs : List (List ℕ)) (ss ms : List ℕ) where
   abbrev ts : List ℕ
-  ts = concat (stepBy n qs ss ms)
+  ts = flatten (stepBy n qs ss ms)
 
   abbrev new : ℕ → List (Cell Point)
   new k = newAt n qs ss ms k .cells

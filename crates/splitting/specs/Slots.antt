@@ -11,8 +11,9 @@ use native.Mathlib.Omega.{arith}
 use lib.Dec.{T, eqb, eqb→eq}
 use lib.ListN.{length, length-append}
 use borrow.Author.Tests.{eq-eqb}
-use Rattle.base.specs.Lists.{memberb, sameb, is-true}
-use Rattle.base.specs.Places.{hasb, placeIn, place-here, place-past, has-below, not-both, has-append}
+use Rattle.base.specs.Lists.{memberb, sameb}
+use Rattle.base.specs.Bools.{is-true, not-both}
+use Rattle.base.specs.Places.{hasb, placeIn, place-here, place-past, has-below, has-append}
 use Rattle.base.specs.Range.{range, length-range, member-range, range-member}
 use Rattle.mesh.specs.Cells.{Cell, edge, edges, joinsb}
 use Rattle.mesh.specs.Weights.{Point}

@@ -17,11 +17,12 @@ use lib.Dec.{T, eqb, eqb→eq, leb}
 use lib.ListN.{length, getD, drop, drop-of-length-le}
 use lib.Seq.{drop-cons}
 use borrow.Author.Tests.{eq-eqb}
-use Rattle.base.specs.Lists.{allb, anyb, filterb, sameb, and-right}
+use Rattle.base.specs.Lists.{allb, anyb, filterb, sameb}
+use Rattle.base.specs.Bools.{and-right}
 use Rattle.base.specs.Range.{range, range-member}
 use Rattle.mesh.specs.Cells.{edge, edges, joinsb, heldb}
 use Rattle.mesh.specs.Table.{Level, levelsOf}
-use Rattle.mesh.specs.Step.{Row, kids, deletedb, turnedb, newRedb, rowsUp, edgesUp, newReds}
+use Rattle.mesh.specs.Step.{Row, kids, deletedb, turnedb, newRedb, rowsUp, edgesUp, newReds, redAfterb}
 use Rattle.lattice.specs.Levels.{noLevel}
 use Rattle.lineage.specs.Stays.{up-rows}
 use Rattle.carriers.specs.Joins.{Edge, held-either, held-first, held-second}
@@ -211,13 +212,13 @@ module _ {Part : Type 0} (n : ℕ) (qs : List (List ℕ)) (ss : List ℕ) (s : S
           (sym (kid n qs ss s k c d m q .parent))) (sym (hits d e (kid n qs ss s k c d m q .up) b)))))
 
       pub rule-is : rule J h mark c ≡ newRed k c
-      unfolding rule newRedb rowBy
+      unfolding rule redAfterb rowBy
       rule-is = go (eqb (getD ss c 0) 64) refl (eqb (getD ss c 0) 0) refl
         where
           go : (a : Bool) → eqb (getD ss c 0) 64 ≡ a → (b : Bool) → eqb (getD ss c 0) 0 ≡ b → rule J h mark c ≡ newRed k c
-          go true p b q = rw (p, rule, newRedb) (ap not (sym deleted-same))
-          go false p true q = rw (p, q, rule, newRedb) refl
-          go false p false q = rw (p, q, rule, newRedb) (sym turned-same)
+          go true p b q = rw (p, rule, redAfterb) (ap not (sym deleted-same))
+          go false p true q = rw (p, q, rule, redAfterb) refl
+          go false p false q = rw (p, q, rule, redAfterb) (sym turned-same)
 
     -- from the highest level down
     top-level : (c : ℕ) (k : ℕ) → Member c (numbersOf n qs ss k) → k ≤ J .top

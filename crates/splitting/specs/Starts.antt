@@ -12,10 +12,10 @@ use lib.Dec.{T}
 use lib.ListN.{length, getD, length-map}
 use lib.Seq.{ext-getD}
 use borrow.Author.Tests.{eq-eqb}
-use Rattle.base.specs.Lists.{filterb, and-left, and-right}
+use Rattle.base.specs.Lists.{filterb}
+use Rattle.base.specs.Bools.{and-left, and-right, and-both}
 use Rattle.base.specs.Range.{range, length-range, range-at}
-use Rattle.lattice.specs.Every.{getD-map}
-use Rattle.carriers.specs.Lists.{and-both}
+use Rattle.base.specs.Every.{getD-map}
 use Rattle.parts.specs.Owners.{ownersb}
 use Rattle.parts.specs.Held.{masterb}
 use Rattle.parts.specs.Starts.{mastersOn, eachb, startb, placeOn, putTogether, marksOn}

@@ -1,4 +1,3 @@
 pub mod Marks
 pub mod TopLevel
 pub mod Work
-pub mod Answers

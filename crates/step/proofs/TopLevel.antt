@@ -18,7 +18,7 @@ use Rattle.mesh.specs.Counts.{levelOf}
 use Rattle.mesh.specs.Step.{rows}
 use Rattle.lineage.specs.Olds.{flags, flagsOf, flagTable}
 use Rattle.lineage.specs.Flags.{length-rows}
-use Rattle.tables.proofs.Rising.{deepb, deep-next}
+use Rattle.tables.specs.Rising.{deepb, deep-next}
 use Rattle.step.specs.Deep.{deepFrom}
 
 unfoldable deepIn : List (Cell Point) → List ℕ → Bool

@@ -30,7 +30,7 @@ use Rattle.tables.specs.Checked.{Statuses}
 use Rattle.tables.specs.Sound.{Sound, tableCells, tableCorners}
 use Rattle.reds.specs.Flags.{firstChildren}
 use Rattle.reds.specs.Old.{Marked}
-use Rattle.reds.proofs.Firsts.{firsts-taken, first-at, length-firsts}
+use Rattle.reds.specs.Firsts.{firsts-taken, first-at, length-firsts}
 use Rattle.renew.specs.Levels.{Kids}
 use Rattle.renew.specs.Result.{Result, renewed}
 use Rattle.mesh.specs.Answers.{newTable, limitsAnswer}

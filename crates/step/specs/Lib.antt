@@ -1,3 +1,4 @@
 pub mod Calls
 pub mod Deep
 pub mod Advanced
+pub mod Answers

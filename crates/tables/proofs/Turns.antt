@@ -16,7 +16,7 @@ use Rattle.growth.specs.Level.{Grows, Roomy}
 use Rattle.rows.specs.Sizes.{status-fits}
 use Rattle.tables.specs.Checked.{Statuses, Whole, Checked, ownStatuses}
 use Rattle.tables.specs.Here.{Here, Top}
-use Rattle.tables.proofs.Onward.{fails-short, fails-more, fails-high, fails-open, closed-are, here-next, here-top}
+use Rattle.tables.specs.Onward.{fails-short, fails-more, fails-high, fails-open, closed-are, here-next, here-top}
 
 module _ (n : ℕ) (qs : List (List ℕ)) (ss : List ℕ) (j first last : ℕ) (rows xs ys heads links : List ℕ) (k : ℕ) (ps ps′ heads′ links′ : List ℕ) (m : ℕ)
     (h : Here n qs ss j first last rows xs ys heads links k ps ps′ heads′ links′ m) (st : Statuses ss)

@@ -3,3 +3,10 @@ pub mod Levels
 pub mod Here
 pub mod Start
 pub mod Sound
+pub mod Cells
+pub mod Rising
+pub mod Apart
+pub mod Onward
+pub mod Space
+pub mod Finish
+pub mod Begin

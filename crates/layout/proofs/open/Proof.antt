@@ -2,7 +2,7 @@
 -- Assumes nothing.
 use mathlib.Core.Path.{sym, _∙_, ap}
 use Rattle.base.specs.Refuse.{codeOf, answerOf}
-use Rattle.layout.proofs.Accepted.{mesh-passed}
+use Rattle.layout.specs.Accepted.{mesh-passed}
 use Rattle.layout.proofs.Answers.{table-mesh, table-examined, examined-sound}
 use borrow.Author.Needs.{needs}
 use Rattle.layout.proofs.open.Statement.{statement}

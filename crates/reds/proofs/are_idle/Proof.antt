@@ -6,7 +6,7 @@ use native.Mathlib.Omega.{arith}
 use borrow.Author.Tests.{not-true, not-false}
 use Rattle.base.specs.Lists.{allb}
 use Rattle.reds.specs.Flags.{range, listedb, idleb}
-use Rattle.reds.proofs.Ranges.{all-range-miss, all-range-next, all-range-end}
+use Rattle.reds.specs.Ranges.{all-range-miss, all-range-next, all-range-end}
 use borrow.Author.Needs.{needs}
 use Rattle.reds.proofs.are_idle.Statement.{statement}
 use Rattle.reds.proofs.are_idle.Tie as tie

@@ -9,7 +9,7 @@ use lib.ListN.{length, getD, drop, length-set}
 use Rattle.base.specs.Lists.{allb-at}
 use Rattle.lineage.specs.Olds.{firstChild}
 use Rattle.reds.specs.Flags.{range, firstChildren}
-use Rattle.reds.proofs.Firsts.{first-next, first-start}
+use Rattle.reds.specs.Firsts.{first-next, first-start}
 use Rattle.reds.proofs.Writes.{firsts-more, firsts-none}
 use borrow.Author.Needs.{needs}
 use Rattle.reds.proofs.first_children.Statement.{statement}

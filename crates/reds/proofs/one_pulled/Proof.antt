@@ -5,7 +5,7 @@ use Prim.Native.Nat.{_-_}
 use native.Mathlib.Omega.{arith}
 use Rattle.base.specs.Lists.{anyb}
 use Rattle.reds.specs.Flags.{range, listedb, pulledb}
-use Rattle.reds.proofs.Ranges.{any-range-hit, any-range-next, any-range-end}
+use Rattle.reds.specs.Ranges.{any-range-hit, any-range-next, any-range-end}
 use borrow.Author.Needs.{needs}
 use Rattle.reds.proofs.one_pulled.Statement.{statement}
 use Rattle.reds.proofs.one_pulled.Tie as tie

@@ -1,7 +1,7 @@
 -- `replay::may_stand` meets its contract.
 -- Assumes nothing.
 use native.Mathlib.Omega.{arith}
-use Rattle.replay.proofs.Marking.{may-early, may-beyond, may-none, may-here}
+use Rattle.replay.specs.Marking.{may-early, may-beyond, may-none, may-here}
 use Rattle.replay.proofs.may_stand.Tie as tie
 use Rattle.replay.proofs.may_stand.Statement.{statement}
 

@@ -1,5 +1,5 @@
 use Rattle.replay.proofs.Spreading.{Scanned, scan-start, scan-next, scan-miss, scan-end}
-use Rattle.replay.proofs.Marking.{may-below}
+use Rattle.replay.specs.Marking.{may-below}
 use borrow.Author.Tests.{not-true, not-false}
 use borrow.Author.Needs.{needs}
 use lib.ListN.{length}

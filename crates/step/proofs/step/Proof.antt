@@ -9,7 +9,7 @@ use Rattle.mesh.specs.Coarse.{cornerCount}
 use Rattle.base.specs.Refuse.{answer-refused, answer-none}
 use Rattle.mesh.specs.Answers.{newTable}
 use Rattle.step.specs.Calls.{stepAnswer}
-use Rattle.step.proofs.Answers.{step-short, step-table, step-marks, step-limits, refused-so, accepted-so, marks-many, opened-held}
+use Rattle.step.specs.Answers.{step-short, step-table, step-marks, step-limits, refused-so, accepted-so, marks-many, opened-held}
 use borrow.Author.Needs.{needs}
 use Rattle.step.proofs.step.Statement.{statement}
 use Rattle.step.proofs.step.Tie as tie

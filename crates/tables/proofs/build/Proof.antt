@@ -8,9 +8,9 @@ use native.Mathlib.Omega.{arith}
 use borrow.Author.Tests.{not-true, not-false}
 use Rattle.base.specs.Fours.{fours}
 use Rattle.tables.specs.Here.{Here, Top}
-use Rattle.tables.proofs.Begin.{here-start}
+use Rattle.tables.specs.Begin.{here-start}
 use Rattle.tables.proofs.Turns.{turn-fails, turn-top, turn-high, turn-room, turn-next}
-use Rattle.tables.proofs.Finish.{unsound-examined, top-looks, top-parents, top-not, top-apart, top-examined}
+use Rattle.tables.specs.Finish.{unsound-examined, top-looks, top-parents, top-not, top-apart, top-examined}
 use borrow.Author.Needs.{needs}
 use Rattle.tables.proofs.build.Statement.{statement}
 use Rattle.tables.proofs.build.Tie as tie

@@ -3,7 +3,7 @@
 use Prim.Native.Nat.{_*_, _≤_}
 use native.Mathlib.Omega.{arith}
 use lib.ListN.{length}
-use Rattle.tables.proofs.Space.{ready, looks, checked, checked-short, checked-more}
+use Rattle.tables.specs.Space.{ready, looks, checked, checked-short, checked-more}
 use borrow.Author.Needs.{needs}
 use Rattle.tables.proofs.check_level.Statement.{statement}
 use Rattle.tables.proofs.check_level.Tie as tie

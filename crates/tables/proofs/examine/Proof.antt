@@ -3,7 +3,7 @@
 use mathlib.Core.Path.{sym, _∙_}
 use borrow.Author.Tests.{not-true, not-false}
 use Rattle.base.specs.Fours.{fours}
-use Rattle.tables.proofs.Finish.{unsound-examined, unsound-long, unsound-status}
+use Rattle.tables.specs.Finish.{unsound-examined, unsound-long, unsound-status}
 use borrow.Author.Needs.{needs}
 use Rattle.tables.proofs.examine.Statement.{statement}
 use Rattle.tables.proofs.examine.Tie as tie

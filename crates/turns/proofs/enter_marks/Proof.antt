@@ -1,9 +1,6 @@
 use Rattle.turns.proofs.Starting.{enter-head, enter-is}
 use Rattle.turns.specs.Usable.{usable-same}
-use native.Mathlib.Numerals.{add-one}
-use Prim.Native.Nat.{suc, _+_, _-_, _<_, _≤_}
-use mathlib.Core.Path.{_≡_, refl, sym, _∙_}
-use native.Mathlib.Omega.{arith}
+use Prim.Native.Nat.{_-_}
 use borrow.Author.Needs.{needs}
 use Rattle.turns.proofs.enter_marks.Statement.{statement}
 use Rattle.turns.proofs.enter_marks.Tie as tie

@@ -1,8 +1,8 @@
 use Rattle.turns.proofs.Starting.{start-short, start-header, start-stage, start-usable, start-marks, start-done, begun-by}
 use lib.ListN.{length-set}
 use borrow.Author.Tests.{not-true, not-false}
-use Prim.Native.Nat.{suc, _+_, _-_, _<_, _≤_}
-use mathlib.Core.Path.{_≡_, refl, sym, _∙_}
+use Prim.Native.Nat.{_-_}
+use mathlib.Core.Path.{refl, sym, _∙_}
 use native.Mathlib.Omega.{arith}
 use borrow.Author.Needs.{needs}
 use Rattle.turns.proofs.start.Statement.{statement}

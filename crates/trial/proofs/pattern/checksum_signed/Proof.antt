@@ -1,7 +1,7 @@
 -- `trial::pattern::checksum_signed` meets its contract: the rest, from the sum so far, has the checksum of the whole. The measure is
 -- what is left of the list. Assumes nothing.
 use mathlib.Core.Path.{_≡_, refl, sym, _∙_}
-use Prim.Native.Nat.{ℕ, _≤_, _<_, _-_}
+use Prim.Native.Nat.{_≤_, _<_, _-_}
 use native.Mathlib.Omega.{arith}
 use lib.ListN.{drop, length}
 use lib.IntN.{pos}

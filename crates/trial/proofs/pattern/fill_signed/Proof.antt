@@ -1,7 +1,7 @@
 -- `trial::pattern::fill_signed` meets its contract: the places passed hold the pattern. The measure is the number of places left.
 -- Assumes nothing.
 use mathlib.Core.Path.{refl, ap, _∙_, _≡_}
-use Prim.Native.Nat.{ℕ, _%_, _<_, _-_}
+use Prim.Native.Nat.{_<_, _-_}
 use native.Mathlib.Omega.{arith}
 use lib.IntN.{pos}
 use mir.Syntax.{w32}

@@ -25,8 +25,8 @@ use Rattle.separation.specs.Parents.{Parents, apartAll}
 use Rattle.counting.specs.Sound.{sound-counted}
 use Rattle.tables.specs.Here.{Top, Child}
 use Rattle.tables.specs.Sound.{Sound, tableCorners, unlessSound, Examined}
-use Rattle.tables.proofs.Apart.{apart-rows, parents-rows}
-use Rattle.tables.proofs.Onward.{four-in, length-in}
+use Rattle.tables.specs.Apart.{apart-rows, parents-rows}
+use Rattle.tables.specs.Onward.{four-in, length-in}
 
 -- what a sound table cannot be
 module _ (n : ℕ) (qs : List (List ℕ)) (ss : List ℕ) where

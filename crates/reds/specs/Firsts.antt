@@ -14,8 +14,8 @@ use Rattle.mesh.specs.Table.{sizeOf, sizes}
 use Rattle.base.specs.Every.{getD-map}
 use Rattle.lineage.specs.Olds.{firstChild}
 use Rattle.reds.specs.Flags.{range, firstChildren}
-use Rattle.reds.proofs.Ranges.{length-range}
-use Rattle.reds.proofs.Born.{sizes-next}
+use Rattle.reds.specs.Ranges.{length-range}
+use Rattle.reds.specs.Born.{sizes-next}
 use Rattle.mesh.specs.Laws.{sizes-append}
 
 module _ (m : ℕ) (ss : List ℕ) where

@@ -19,7 +19,7 @@ use Rattle.closure.specs.Ready.{listedApart}
 use Rattle.closure.specs.Closed.{Lists, held-listed}
 use Rattle.separation.specs.Parents.{Parents, apartAll}
 use Rattle.tables.specs.Here.{Child}
-use Rattle.tables.proofs.Cells.{strip, cell-at, cells-at}
+use Rattle.tables.specs.Cells.{strip, cell-at, cells-at}
 use Rattle.base.specs.Each.{default-free}
 
 module _ (t : List ℕ) (zs : List (Cell ℕ)) (f : All Four zs) (e : take (8 * length zs) t ≡ flatMap rowOf zs) (ss : List ℕ) (es : List Pair)

@@ -34,8 +34,8 @@ use Rattle.rows.specs.Many.{length-next}
 use Rattle.tables.specs.Levels.{reached-short, reached-more, reached-high, reached-open, reached-next, reached-end}
 use Rattle.tables.specs.Checked.{Statuses, Reds, ownCells, ownStatuses, ownReds}
 use Rattle.tables.specs.Here.{Here, Top, Child}
-use Rattle.tables.proofs.Cells.{strip, cells-at, red-strip, closed-strip, ends-strip, points-strip}
-use Rattle.tables.proofs.Rising.{deep-next, child-next}
+use Rattle.tables.specs.Cells.{strip, cells-at, red-strip, closed-strip, ends-strip, points-strip}
+use Rattle.tables.specs.Rising.{deep-next, child-next}
 use Rattle.rows.specs.Laws.{length-part}
 
 -- cells over numbers have four points

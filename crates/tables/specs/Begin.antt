@@ -24,7 +24,7 @@ use Rattle.tables.specs.Levels.{reached-start}
 use Rattle.tables.specs.Here.{Here}
 use Rattle.tables.specs.Start.{coarseRow}
 use Rattle.tables.specs.Sound.{Mesh}
-use Rattle.tables.proofs.Rising.{deep-coarse, child-coarse}
+use Rattle.tables.specs.Rising.{deep-coarse, child-coarse}
 
 rows-from : (i : ℕ) (qs : List (List ℕ)) → flatMap rowOf (coarseNumbersFrom i qs) ≡ flatMap coarseRow qs
 unfolding flatMap coarseNumbersFrom rowOf coarseRow childNumber one-if
