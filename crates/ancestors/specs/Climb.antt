@@ -13,9 +13,11 @@ use lib.ListN.{length, getD}
 use borrow.Author.Tests.{eq-eqb, ne-eqb}
 use Rattle.ancestors.specs.declared.Ancestor.{Ancestor}
 
+-- Rule 9.2: the level in a row.
 abbrev pub levelIn : List ℕ → ℕ → ℕ
 levelIn t k = getD t (8 * k) 0
 
+-- Rule 9.2: the parent in a row.
 abbrev pub parentIn : List ℕ → ℕ → ℕ
 parentIn t k = getD t (8 * k + 1) 0
 
@@ -26,6 +28,7 @@ ancestor c l = record { coarse = c; level = l }
 abbrev pub raised : Ancestor → Ancestor
 raised a = ancestor (a .coarse) (suc (a .level))
 
+-- Rules 3.3, 12.9: from parent to parent to level 0.
 unfoldable pub climbFrom : List ℕ → ℕ → ℕ → Ancestor
 climbFrom t zero c = ancestor c 0
 climbFrom t (suc f) c = elim (eqb (levelIn t c) 0) [ true ↦ ancestor c 0 | false ↦ raised (climbFrom t f (parentIn t c)) ]
@@ -39,6 +42,7 @@ pub climb-up : (t : List ℕ) (f c : ℕ) → (levelIn t c ≡ 0 → ⊥) → cl
 unfolding climbFrom
 climb-up t f c e = rw (ne-eqb (levelIn t c) 0 e, climbFrom)
 
+-- Rules 3.2, 9.2: parents come before their children.
 pub record Upward (t : List ℕ) (n : ℕ) : Type 0 where
   pub long : 8 * n ≤ length t
   pub up : (k : ℕ) → k < n → 0 < levelIn t k → parentIn t k < k

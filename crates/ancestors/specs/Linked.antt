@@ -13,6 +13,7 @@ use Rattle.mesh.specs.Counts.{coarseOf, levelOf}
 use Rattle.ancestors.specs.declared.Ancestor.{Ancestor}
 use Rattle.ancestors.specs.Climb.{ancestor}
 
+-- Rule 12.9: coarse cell and level.
 abbrev pub ancestorOf : {A : Type 0} → Cell A → Ancestor
 ancestorOf c = ancestor (coarseOf c) (levelOf c)
 
@@ -23,10 +24,12 @@ module _ {A : Type 0} where
   abbrev pub parentAt : List (Cell A) → ℕ → ℕ
   parentAt cs k = getD cs k noCell .parent
 
+  -- Rules 3.2, 3.3: after its parent, with the parent's path and one number more.
   pub record Descends (cs : List (Cell A)) (k : ℕ) : Type 0 where
     pub below : parentAt cs k < k
     pub number : ℕ
     pub path : linkedPath cs k ≡ linkedPath cs (parentAt cs k) ++ (number ∷ [])
 
+  -- Rules 3.1 to 3.3: each cell is coarse or a child.
   pub record Linked (cs : List (Cell A)) : Type 0 where
     pub link : (k : ℕ) → k < length cs → (linkedPath cs k ≡ k ∷ []) ⊎ Descends cs k

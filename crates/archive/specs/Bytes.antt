@@ -19,6 +19,7 @@ use borrow.Author.Tests.{lt-ltb, le-ltb, ltb-true, ltb-false}
 use Rattle.archive.specs.Job.{bytes, word}
 use Rattle.archive.specs.Form.{whole, signed}
 
+-- Rule 10.2: bytes.
 pub record Octets (bs : List ℕ) : Type 0 where
   pub small : (k : ℕ) → k < length bs → getD bs k 0 < 256
 
@@ -26,7 +27,7 @@ pub octets-drop : {bs : List ℕ} → Octets bs → (i : ℕ) → Octets (drop i
 octets-drop {bs} o i =
     record { small = λ k h. rw (getD-drop i bs k 0) (o .small (i + k) (omega (arith, length-drop i bs))) }
 
-pub octets-tail : {b : ℕ} {bs : List ℕ} → Octets (b ∷ bs) → Octets bs
+octets-tail : {b : ℕ} {bs : List ℕ} → Octets (b ∷ bs) → Octets bs
 octets-tail o = octets-drop o 1
 
 pub two-back : (x : ℕ) (l : List ℕ) → x < 65536 → whole 2 (bytes 2 x ++ l) ≡ x
@@ -62,7 +63,7 @@ whole-below (suc k) [] o = none (suc k)
     none (suc k) = omega (arith, none k)
 whole-below (suc k) (b ∷ bs) o = omega (arith, o .small 0 (omega arith), whole-below k bs (octets-tail o))
 
--- "three i32"
+-- Rule 10.2: an i32.
 unfoldable pub Word : ℤ → Type 0
 Word (pos n) = n < 2147483648
 Word (negsuc n) = n < 2147483648

@@ -19,6 +19,7 @@ use Rattle.archive.specs.Tables.{Mark, cellOf, markOf, markedOf, marksOf
 use Rattle.archive.specs.Measure.{corner-length, cell-length, steps-length, job-length}
 use Rattle.archive.specs.Stored.{jobFrom, EndsRise, Storable}
 
+-- Rule 12.14: the ends do not fall.
 unfoldable pub Climbs : ℕ → ℕ → List ℕ → Type 0
 Climbs p n [] = Unit {0}
 Climbs p n (e ∷ es) = (p ≤ e) × (e ≤ n) × Climbs e n es

@@ -12,6 +12,7 @@ use Rattle.archive.specs.declared.Form.{Form}
 abbrev pub CountsOf : List ℕ → Form → Type 0
 CountsOf bs r = Counts (jobOf bs) (r .corners) (r .cells) (r .marks) (r .steps)
 
+-- Rules 10.3 to 10.5: whether the bytes are in the form, and then how many records there are.
 pub record FormExamined (bs : List ℕ) (r : Form) : Type 0 where
   pub ok-is : r .ok ≡ formb bs
   pub counts : T (formb bs) → CountsOf bs r

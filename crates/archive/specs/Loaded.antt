@@ -20,6 +20,7 @@ inFront xs t = xs ++ drop (length xs) t
 abbrev pub stepsAt : List ℕ → ℕ → Steps
 stepsAt bs i = stepsIn (length bs) [] (drop i bs)
 
+-- Rule 9.7: the tables are long enough for the job.
 pub record LoadRoom (j : Job) (positions : List ℤ) (cells marked marks ends : List ℕ) : Type 0 where
   pub positions-fit : length (j .positions) ≤ length positions
   pub cells-fit : length (j .cells) ≤ length cells
@@ -35,7 +36,7 @@ pub record StepsFit (bs : List ℕ) (from : ℕ) (marked marks ends : List ℕ) 
   pub marks-fit : length (flatten (stepsAt bs from .steps)) ≤ length marks
   pub ends-fit : length (stepsAt bs from .steps) ≤ length ends
 
--- each table after the call, from the job and the tables before it
+-- Rules 9.1, 9.7: each table after the call, from the job and the tables before it.
 pub record Loaded (j : Job) (ps₀ : List ℤ) (ts₀ cs₀ ks₀ es₀ : List ℕ) (ps : List ℤ) (ts cs ks es : List ℕ) : Type 0 where
   pub positions : ps ≡ inFront (j .positions) ps₀
   pub cells : ts ≡ inFront (j .cells) ts₀

@@ -11,6 +11,7 @@ use lib.ListN.{length, length-append}
 use Rattle.archive.specs.Job.{Job, bytes, cornerBytes, cellBytes, markBytes, stepBytes, jobBytes}
 use Rattle.archive.specs.Tables.{Mark, Counts}
 
+-- Rules 10.2, 10.3: the records of the steps, and the end.
 unfoldable pub stepsBytes : List (List Mark) → List ℕ
 unfolding stepBytes flatMap
 stepsBytes s = flatMap stepBytes s ++ (69 ∷ [])

@@ -21,14 +21,17 @@ use Rattle.archive.specs.Form.{whole, u16At, startsb, markedb, followsb,
 use Rattle.archive.specs.Records.{starts-long}
 use Rattle.archive.specs.Tables.{Mark}
 
+-- Rule 10.4: the least cell that may follow the marks.
 unfoldable pub leastOf : List Mark → ℕ
 leastOf [] = 0
 leastOf (m ∷ []) = suc (m .0)
 leastOf (m ∷ n ∷ ms) = leastOf (n ∷ ms)
 
+-- Rules 10.2, 10.4: a record M with an ascending cell stands at the front.
 unfoldable pub markRecordb : ℕ → List ℕ → Bool
 markRecordb least bs = startsb 77 4 bs && ((leb 1 (getD bs 3 0) && leb (getD bs 3 0) 2) && leb least (u16At bs 1))
 
+-- Rules 10.3, 10.4: E alone is left, and no mark is.
 unfoldable pub endb : ℕ → List ℕ → Bool
 endb least bs = startsb 69 1 bs && (eqb least 0 && eqb (length bs) 1)
 
@@ -62,7 +65,7 @@ pub marked-least : (ms : List Mark) (bs : List ℕ) → markedb ms bs ≡ markRe
 unfolding markedb markRecordb
 marked-least ms bs = rw (follows-least ms (u16At bs 1))
 
-pub mark-long : (least : ℕ) (bs : List ℕ) → markRecordb least bs ≡ true → 4 ≤ length bs
+mark-long : (least : ℕ) (bs : List ℕ) → markRecordb least bs ≡ true → 4 ≤ length bs
 unfolding markRecordb
 mark-long least bs t =
     starts-long 77 4 bs (is-true (startsb 77 4 bs) (and-left (startsb 77 4 bs) ((leb 1 (getD bs 3 0) && leb (getD bs 3 0) 2) && leb least (u16At bs 1)) (rw t tt)))
@@ -92,7 +95,7 @@ module _ (f : ℕ) (ms : List Mark) (bs : List ℕ) where
   unfolding stepsIn
   steps-end t u = rw (t, u, stepsIn)
 
-pub flatten-snoc : (s : List (List Mark)) (ms : List Mark) → length (flatten (s ++ (ms ∷ []))) ≡ length (flatten s) + length ms
+flatten-snoc : (s : List (List Mark)) (ms : List Mark) → length (flatten (s ++ (ms ∷ []))) ≡ length (flatten s) + length ms
 unfolding flatten
 flatten-snoc [] ms = rw (append-nil ms) (omega arith)
 flatten-snoc (a ∷ s) ms = omega (arith, length-append a (flatten (s ++ (ms ∷ []))), length-append a (flatten s), flatten-snoc s ms)
@@ -121,7 +124,7 @@ on-start bs from h =
       rest = let w : length bs - (0 + 0) ≡ length bs = omega arith in rw w;
     }
 
-pub behind-behind : (a b : List (List Mark)) (r : Steps) → behind a (behind b r) ≡ behind (a ++ b) r
+behind-behind : (a b : List (List Mark)) (r : Steps) → behind a (behind b r) ≡ behind (a ++ b) r
 behind-behind a b r = rw (append-assoc a b (r .steps))
 
 module _ {bs : List ℕ} {from at least marks steps : ℕ} (o : ScanAt bs from at least marks steps) where

@@ -12,6 +12,7 @@ use lib.ListN.{length, take, drop}
 use lib.Seq.{take-at, drop-at, drop-drop}
 use Rattle.archive.specs.Job.{Job}
 
+-- Rule 10.1: a cell and its mark.
 abbrev pub Mark : Type 0
 Mark = ℕ × ℕ
 
@@ -21,36 +22,43 @@ cellOf m = m .0
 abbrev pub markOf : Mark → ℕ
 markOf m = m .1
 
+-- Rule 9.7: the marked cells, step after step.
 unfoldable pub markedOf : List (List Mark) → List ℕ
 unfolding flatten
 markedOf s = map cellOf (flatten s)
 
+-- Rule 9.7: their marks.
 unfoldable pub marksOf : List (List Mark) → List ℕ
 unfolding flatten
 marksOf s = map markOf (flatten s)
 
--- p marks stand before
+-- Rule 9.7: the steps' ends, where p marks stand before.
 unfoldable pub endsAfter : ℕ → List (List Mark) → List ℕ
 endsAfter p [] = []
 endsAfter p (ms ∷ s) = (p + length ms) ∷ endsAfter (p + length ms) s
 
+-- Rule 9.7: how many marks stand up to each step's end.
 unfoldable pub endsOf : List (List Mark) → List ℕ
 unfolding endsAfter
 endsOf s = endsAfter 0 s
 
+-- Rule 9.7: each marked cell with its mark.
 unfoldable pub pairs : List ℕ → List ℕ → List Mark
 pairs [] ms = []
 pairs (c ∷ cs) [] = []
 pairs (c ∷ cs) (m ∷ ms) = (c, m) ∷ pairs cs ms
 
+-- Rule 9.7: a step's marks reach from the last end to its own.
 unfoldable pub stepsFrom : ℕ → List Mark → List ℕ → List (List Mark)
 stepsFrom p ms [] = []
 stepsFrom p ms (e ∷ es) = take (e - p) (drop p ms) ∷ stepsFrom e ms es
 
+-- Rule 9.7: the steps of flat tables.
 unfoldable pub stepsOf : List ℕ → List ℕ → List ℕ → List (List Mark)
 unfolding pairs stepsFrom
 stepsOf cs ms es = stepsFrom 0 (pairs cs ms) es
 
+-- Rule 12.13: how many corners, cells, marks and steps a job has.
 pub record Counts (j : Job) (corners cells marks steps : ℕ) : Type 0 where
   pub corners-are : length (j .positions) ≡ 3 * corners
   pub cells-are : length (j .cells) ≡ 4 * cells

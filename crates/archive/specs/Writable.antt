@@ -14,6 +14,7 @@ unfoldable pub Each : {A : Type 0} → (A → Type 0) → List A → Type 0
 Each P [] = Unit {0}
 Each P (x ∷ l) = P x × Each P l
 
+-- Rules 10.2, 10.4: marks that an archive can hold.
 unfoldable pub Rises : ℕ → List Mark → Type 0
 Rises least [] = Unit {0}
 Rises least (m ∷ ms) = (least ≤ m .0) × (m .0 < 65536) × (1 ≤ m .1) × (m .1 ≤ 2) × Rises (suc (m .0)) ms
@@ -21,6 +22,7 @@ Rises least (m ∷ ms) = (least ≤ m .0) × (m .0 < 65536) × (1 ≤ m .1) × (
 abbrev pub TwoBytes : ℕ → Type 0
 TwoBytes x = x < 65536
 
+-- Rules 10.2 to 10.5: a job that an archive can hold.
 pub record Writable (j : Job) : Type 0 where
   pub threes : length (j .positions) % 3 ≡ 0
   pub words : Each Word (j .positions)

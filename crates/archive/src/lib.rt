@@ -1,4 +1,4 @@
-// Archives of jobs (document 01, "Archive and listing").
+// Archives of jobs (docs/METHOD.md, section 10).
 ghost use mathlib.Core.Path.{_≡_};
 ghost use mathlib.Core.List.{[], _∷_};
 ghost use Prim.Native.Nat.{_+_, _*_, _/_, _%_, _≤_, _<_};

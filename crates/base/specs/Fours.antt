@@ -9,6 +9,7 @@ use Rattle.base.specs.Lists.{filterb, anyb, sameb}
 use mathlib.Core.Path.{_≡_, refl}
 use native.Mathlib.Omega.{arith}
 
+-- Rule 1.1: cells stand by fours in a flat table.
 unfoldable pub fours : List ℕ → List (List ℕ)
 fours [] = []
 fours (a ∷ []) = []
@@ -16,11 +17,13 @@ fours (a ∷ b ∷ []) = []
 fours (a ∷ b ∷ c ∷ []) = []
 fours (a ∷ b ∷ c ∷ d ∷ l) = (a ∷ b ∷ c ∷ d ∷ []) ∷ fours l
 
+-- Rules 2.1, 1.6: a face leaves out one corner.
 unfoldable pub faces : List ℕ → List (List ℕ)
 faces q =
     let a = getD q 0 0 in let b = getD q 1 0 in let c = getD q 2 0 in let d = getD q 3 0 in
     (b ∷ c ∷ d ∷ []) ∷ (a ∷ c ∷ d ∷ []) ∷ (a ∷ b ∷ d ∷ []) ∷ (a ∷ b ∷ c ∷ []) ∷ []
 
+-- Rules 1.6, 5.8: in how many cells a face is.
 unfoldable pub holders : List (List ℕ) → List ℕ → ℕ
 unfolding faces filterb anyb sameb
 holders l t = length (filterb (λ q. anyb (sameb t) (faces q)) l)

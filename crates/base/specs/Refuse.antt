@@ -1,4 +1,4 @@
--- Refusals in their order ("a number is given where its condition holds and no earlier one does, and nowhere else").
+-- Refusals in their order (rules 12.1, 12.2).
 --   refuse n ok rest   the refusal n where ok fails, else the rest
 use mathlib.Core.Bool.{Bool, true, false}
 use Prim.Native.Nat.{ℕ, zero, suc}
@@ -10,29 +10,32 @@ use mathlib.Core.Path.{_≡_, refl}
 use native.Mathlib.Omega.{arith}
 use lib.Dec.{T}
 
+-- Rule 12.1: the first condition that fails gives the number.
 unfoldable pub refuse : ℕ → Bool → Answer → Answer
 refuse n true rest = rest
 refuse n false rest = Refused n
 
--- an answer, and the next where it is accepted
+-- Rule 12.1: an answer, and the next where it is accepted.
 unfoldable pub andThen : Answer → Answer → Answer
 andThen Accepted b = b
 andThen (Refused k) b = Refused k
 
--- "a refusal changes nothing"
+-- Rules 9.1, 12.1: written in front where accepted, as it was where refused.
 unfoldable pub heldAfter : {A : Type 0} → Answer → List A → List A → List A
 heldAfter Accepted new old = new ++ drop (length new) old
 heldAfter (Refused k) new old = old
 
+-- Rule 12.17: 0, or the refusal's number.
 unfoldable pub codeOf : Answer → ℕ
 codeOf Accepted = 0
 codeOf (Refused k) = k
 
+-- Rule 12.17, backwards.
 unfoldable pub answerOf : ℕ → Answer
 answerOf zero = Accepted
 answerOf (suc k) = Refused (suc k)
 
--- "a refusal changes nothing"
+-- Rule 12.17: the new number where accepted, as it was where refused.
 unfoldable pub valueAfter : {A : Type 0} → Answer → A → A → A
 valueAfter Accepted new old = new
 valueAfter (Refused k) new old = old

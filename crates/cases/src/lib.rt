@@ -1,1 +1,1 @@
-// The starred cases of document 01, one table. There is no code here: see specs/.
+// The cases of docs/METHOD.md, section 14, one table. There is no code here: see specs/.

@@ -4,7 +4,7 @@
 --   Ready ..             the cells below `last` have rows, and the edge table is in order with room for k entries more
 --   Range ..             the cells from first to last have statuses
 --   Looks ..             the rows below `last`, and an edge table
---   listedPattern, listedStatus, listedClosed, listedApart   the paper's tests where the red cells' edges are listed
+--   listedPattern, listedStatus, listedClosed, listedApart   the tests of `mesh` where the red cells' edges are listed
 --   Run ..               the edges es were inserted into tables that are as long as they were
 use mathlib.Core.Path.{_≡_}
 use mathlib.Core.Bool.{Bool, true, false, _&&_, _||_, not}
@@ -21,10 +21,11 @@ use Rattle.edges.specs.Pairs.{Pair, sorted, isb}
 use Rattle.edges.specs.Table.{Table, Edges, Space, Grown}
 use native.Mathlib.Omega.{arith}
 
+-- Rule 6.2: what a cell of this status holds as a red one.
 unfoldable pub redOf : ℕ → Cell ℕ → List Pair
 redOf s c = elim (redb s) [ true ↦ edges 0 c | false ↦ [] ]
 
--- how many statuses of a list are red
+-- Rule 4.1: how many statuses of a list are red.
 unfoldable pub redCount : List ℕ → ℕ
 unfolding one-if
 redCount [] = 0
@@ -52,15 +53,17 @@ pub record Looks (cells xs ys heads links : List ℕ) (last from n : ℕ) : Type
   pub rows : 8 * last ≤ length cells
   pub table : Table xs ys heads links from n
 
--- The statuses of a level where the edges es of its red cells are listed.
+-- Rule 6.2, where the edges es of a level's red cells are listed.
 unfoldable pub listedPattern : List Pair → Cell ℕ → ℕ
 unfolding hasb isb sorted bitsOf edges
 listedPattern es c = bitsOf (map (λ e. hasb isb es (sorted e)) (edges 0 c))
 
+-- Rules 6.2, 6.3, so.
 unfoldable pub listedStatus : List Pair → Bool → Cell ℕ → ℕ
 unfolding listedPattern
 listedStatus es r c = elim (c .regular) [ true ↦ elim r [ true ↦ 64 | false ↦ listedPattern es c ] | false ↦ 0 ]
 
+-- Rules 6.2, 6.3, so, of all cells.
 unfoldable pub listedClosed : List Pair → List (Cell ℕ) → List ℕ → Bool
 unfolding listedStatus
 listedClosed es [] [] = true
@@ -68,7 +71,7 @@ listedClosed es [] (s ∷ ss) = false
 listedClosed es (c ∷ cs) [] = false
 listedClosed es (c ∷ cs) (s ∷ ss) = eqb s (listedStatus es (redb s) c) && listedClosed es cs ss
 
--- the third condition of soundness at a cell, where the edges es of all red cells are listed
+-- Rule 6.4 at one cell, where the edges es of all red cells are listed.
 unfoldable pub listedApart : List Pair → List ℕ → Cell ℕ → Bool
 unfolding allb heldb hasb isb sorted edges cellAt
 listedApart es t c = c .regular || allb (λ e. heldb eqb (edges 0 (cellAt t (c .parent))) e || not (hasb isb es (sorted e))) (edges 0 c)

@@ -17,25 +17,31 @@ use Rattle.mesh.specs.Coarse.{cornerCount, positionsb, cellsb}
 use Rattle.coarse.specs.declared.Cell.{Cell}
 use Rattle.coarse.specs.declared.Face.{Face}
 
+-- Rule 1.1: a cell's four corner numbers.
 abbrev pub cornersOfCell : Cell → List ℕ
 cornersOfCell q = q .a ∷ q .b ∷ q .c ∷ q .d ∷ []
 
+-- Rule 1.6: a face's three.
 abbrev pub faceCorners : Face → List ℕ
 faceCorners f = f .a ∷ f .b ∷ f .c ∷ []
 
+-- Rule 1.6: the faces of all cells, four a cell.
 unfoldable pub faceOfFour : List ℕ → ℕ → List ℕ
 unfolding flatMap faces fours
 faceOfFour ts i = getD (flatMap faces (fours ts)) i []
 
+-- Rules 1.3, 1.4: what refusals 2 and 3 leave.
 pub record PlacedCells (ps : List ℤ) (ts : List ℕ) : Type 0 where
   pub positions : positionsb ps ≡ true
   pub cells : cellsb (cornerCount ps) (fours ts) ≡ true
 
+-- Rules 1.2, 1.4: what refusals 1 and 3 leave.
 pub record Ranked (ts : List ℕ) : Type 0 where
   pub whole : length ts % 4 ≡ 0
   pub few : length ts ≤ 1024
   pub cells : cellsb 512 (fours ts) ≡ true
 
+-- Rule 1.6: a face in three cells.
 unfoldable pub crowdedb : List (List ℕ) → Bool
 unfolding anyb holders faces flatMap
 crowdedb qs = anyb (λ t. leb 3 (holders qs t)) (flatMap faces qs)

@@ -1,4 +1,4 @@
--- Counting the keys of cells and faces. A key is a pair of numbers, kept as `keys` keeps it with a count beside each entry.
+-- Counting the keys of cells and faces. A key is a pair of numbers, kept as `pairs` keeps it with a count beside each entry.
 --   high t                     the first number of the key of a cell or a face
 --   lowCell q, lowFace t       its second number
 --   times xs ys counts n x y   how often the pair x, y was counted: what stands beside its entry, 0 where it has none
@@ -11,15 +11,19 @@ use Prim.Native.Nat.{ℕ, _+_, _*_, _≤_, _<_}
 use lib.ListN.{length, getD}
 use Rattle.pairs.specs.Keys.{seek, Keys}
 
+-- Rule 1.6: a cell or face as a key of two numbers.
 unfoldable pub high : List ℕ → ℕ
 high t = getD t 0 0 * 512 + getD t 1 0
 
+-- Rule 1.6: the second number of a cell's key.
 unfoldable pub lowCell : List ℕ → ℕ
 lowCell q = getD q 2 0 * 512 + getD q 3 0
 
+-- Rule 1.6: the second number of a face's key.
 unfoldable pub lowFace : List ℕ → ℕ
 lowFace t = getD t 2 0
 
+-- Rule 1.6: how often a key was met.
 unfoldable pub times : List ℕ → List ℕ → List ℕ → ℕ → ℕ → ℕ → ℕ
 unfolding seek
 times xs ys counts n x y = getD counts (seek xs ys x y 0 n) 0

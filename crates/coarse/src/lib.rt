@@ -1,4 +1,4 @@
-// The refusals 1 to 5 of a coarse mesh (document 01, "Coarse mesh").
+// The refusals 1 to 5 of a coarse mesh (docs/METHOD.md, section 1).
 use base::Answer;
 ghost use mathlib.Core.Path.{_≡_};
 ghost use mathlib.Core.Bool.{not};

@@ -36,7 +36,7 @@ use Rattle.soundness.specs.Clash.{clash}
 use Rattle.conformity.specs.Kinds.{refined-low}
 use Rattle.conformity.specs.Old.{OldCell}
 
-pub red-turned : (n : ℕ) (qs : List (List ℕ)) (ss : List ℕ) (j : ℕ) (p q : Point) → RedAt n qs ss j (p, q) → RedAt n qs ss j (q, p)
+red-turned : (n : ℕ) (qs : List (List ℕ)) (ss : List ℕ) (j : ℕ) (p q : Point) → RedAt n qs ss j (p, q) → RedAt n qs ss j (q, p)
 red-turned n qs ss j p q w =
     record {
       u = w .u;
@@ -54,7 +54,7 @@ red-turned n qs ss j p q w =
         go (inl (a, b)) = inr (b, a)
         go (inr (a, b)) = inl (b, a)
 
-pub on-up : (i j : ℕ) (p : Point) → i ≤ j → j ≤ 10 → On i p → On j p
+on-up : (i j : ℕ) (p : Point) → i ≤ j → j ≤ 10 → On i p → On j p
 on-up i j p h l (x, e) =
     elim (decLt i j) [
       | yes g ↦ let (m, _, u) = unit-even i j g l in ((λ k. x k * (m + m)), (λ k. e k ∙ rw u (omega arith)))
@@ -77,7 +77,7 @@ module _ (n k : ℕ) (h : k < 10) (g c : Cell Point) (r : Regular n k g) (p i : 
   length-child : length (c .points) ≡ 4
   length-child = rw e (length-map (digitsOf p i) (point g) ∙ child-four p i hp hi)
 
-  pub corner-at : (m : ℕ) → m < 4 → corner [] c m ≡ point g (getD (digitsOf p i) m 0)
+  corner-at : (m : ℕ) → m < 4 → corner [] c m ≡ point g (getD (digitsOf p i) m 0)
   corner-at m l = rw e (getD-map (point g) (digitsOf p i) m 0 [] (omega (arith, child-four p i hp hi)))
 
   rises : (a b : ℕ) → a < b → b < 4 → (at a < at b) × (at b < 10)
@@ -105,7 +105,7 @@ module _ (n : ℕ) (qs : List (List ℕ)) (ss : List ℕ) (s : Sound n qs ss) (r
       let l = lv n qs ss j in
       regular-at n j l (regular j) (w .u) (w .below) (red-regular l (level-closed n qs ss (s .closed) j) (w .u) (w .below) (w .red))
 
-  pub old-regular : (i j : ℕ) → i < j → j ≤ 10 → (c : Cell Point) → Regular n i c → OldCell n qs ss j c
+  old-regular : (i j : ℕ) → i < j → j ≤ 10 → (c : Cell Point) → Regular n i c → OldCell n qs ss j c
   unfolding edge
   old-regular i j h l c r =
       record {
@@ -163,7 +163,7 @@ module _ (n : ℕ) (qs : List (List ℕ)) (ss : List ℕ) (s : Sound n qs ss) (r
       omega arith)
       (own-or-mid g dx dy xr yb)
 
-  pub old-child : (k u j : ℕ) → suc k ≤ j → j ≤ 10 → u < length (lv n qs ss (suc k) .cells) → getD (lv n qs ss (suc k) .cells) u noCell .regular ≡ false
+  old-child : (k u j : ℕ) → suc k ≤ j → j ≤ 10 → u < length (lv n qs ss (suc k) .cells) → getD (lv n qs ss (suc k) .cells) u noCell .regular ≡ false
       → OldCell n qs ss j (getD (lv n qs ss (suc k) .cells) u noCell)
   old-child k u j h l hu irr =
       let lo = lv n qs ss k in

@@ -10,20 +10,24 @@ use Prim.Native.Nat.{ℕ, zero, suc, _+_, _*_, _≤_, _<_}
 use native.Mathlib.Omega.{arith}
 use lib.ListN.{length, getD, length-append}
 
+-- Rule 9.3: both ends of a new corner are below it.
 pub record Ends (n : ℕ) (xs ys : List ℕ) (m : ℕ) : Type 0 where
   pub many-x : m ≤ length xs
   pub many-y : m ≤ length ys
   pub below-x : (j : ℕ) → j < m → getD xs j 0 < n + j
   pub below-y : (j : ℕ) → j < m → getD ys j 0 < n + j
 
+-- Rule 9.3: a coarse corner is both its own ends.
 unfoldable pub coarseEnds : ℕ → List ℕ
 coarseEnds zero = []
 coarseEnds (suc i) = coarseEnds i ++ (i ∷ i ∷ [])
 
+-- Rule 9.3: new corners behind them.
 unfoldable pub addEnds : List ℕ → List ℕ → List ℕ → ℕ → List ℕ
 addEnds l xs ys zero = l
 addEnds l xs ys (suc j) = addEnds l xs ys j ++ (getD xs j 0 ∷ getD ys j 0 ∷ [])
 
+-- Rule 9.3: the table of ends.
 unfoldable pub endNumbers : ℕ → List ℕ → List ℕ → ℕ → List ℕ
 unfolding addEnds coarseEnds
 endNumbers n xs ys m = addEnds (coarseEnds n) xs ys m

@@ -26,13 +26,16 @@ pub record SmallSum (n : ℕ) (z : ℤ) : Type 0 where
 pub record Smalls (n : ℕ) (l : List ℤ) : Type 0 where
   pub at : (i : ℕ) → SmallSum n (getD l i (pos 0))
 
+-- Rule 8.1: the sums of a corner are there, each at most 512,000,000 in size.
 pub record SumHeld (l : List ℤ) (x : ℕ) : Type 0 where
   pub there : 3 * x + 3 ≤ length l
   pub small : (k : ℕ) → k < 3 → SmallSum 512000000 (coordinateAt l x k)
 
+-- Rule 5.2: half a number; no odd one comes.
 unfoldable pub half : ℤ → ℤ
 half z = quotZ z (pos 2)
 
+-- Rule 8.1: 1,024 times the position.
 unfoldable pub coarseSums : List ℤ → ℕ → List ℤ
 unfolding coordinateAt
 coarseSums ps zero = []
@@ -40,6 +43,7 @@ coarseSums ps (suc i) =
     coarseSums ps i
     ++ ((pos 1024 *ℤ coordinateAt ps i 0) ∷ (pos 1024 *ℤ coordinateAt ps i 1) ∷ (pos 1024 *ℤ coordinateAt ps i 2) ∷ [])
 
+-- Rules 5.2, 8.1: half the sum of the ends' sums.
 unfoldable pub midSums : List ℤ → ℕ → ℕ → List ℤ
 unfolding coordinateAt half
 midSums l x y =
@@ -48,11 +52,13 @@ midSums l x y =
     ∷ half (coordinateAt l x 2 +ℤ coordinateAt l y 2)
     ∷ []
 
+-- Rule 9.4: new corners behind them.
 unfoldable pub addSums : List ℤ → List ℕ → List ℕ → ℕ → List ℤ
 unfolding midSums
 addSums l xs ys zero = l
 addSums l xs ys (suc j) = let t = addSums l xs ys j in t ++ midSums t (getD xs j 0) (getD ys j 0)
 
+-- Rule 9.4: the table of sums.
 unfoldable pub sumNumbers : List ℤ → ℕ → List ℕ → List ℕ → ℕ → List ℤ
 unfolding addSums coarseSums
 sumNumbers ps n xs ys m = addSums (coarseSums ps n) xs ys m

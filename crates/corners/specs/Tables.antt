@@ -22,12 +22,13 @@ use Rattle.corners.specs.Weighted.{Evens, half-mid, weighted-coarse}
 use Rattle.mesh.specs.Laws.{length-mid}
 
 -- corner i; where there is none, one with no weights
-abbrev pub cornerAt : List Corner → ℕ → Corner
+abbrev cornerAt : List Corner → ℕ → Corner
 cornerAt ks i = getD ks i (record { weights = []; low = 0; high = 0 })
 
-abbrev pub weightsAt : List Corner → ℕ → Point
+abbrev weightsAt : List Corner → ℕ → Point
 weightsAt ks i = cornerAt ks i .weights
 
+-- Rules 5.2, 5.5, 9.3: coarse corners first, then midpoints of corners before them.
 pub record CornersNumbered (n : ℕ) (xs ys : List ℕ) (m : ℕ) (ks : List Corner) : Type 0 where
   pub count : length ks ≡ n + m
   pub coarse-first : take n ks ≡ coarseCorners n

@@ -1,4 +1,4 @@
-// The tables of a mesh's corners, from the ends of the new ones (document 01, "Cells, status, numbers").
+// The tables of a mesh's corners, from the ends of the new ones (docs/METHOD.md, rules 9.3 and 9.4).
 // A mesh has n coarse corners and m new ones. New corner j has the number n + j, and is the midpoint of xs[j] and ys[j].
 ghost use mathlib.Core.Path.{_≡_};
 ghost use mathlib.Core.List.{[], _++_, _∷_};

@@ -22,35 +22,42 @@ use Rattle.mesh.specs.Table.{sizes}
 use Rattle.rows.specs.Numbered.{part}
 use Rattle.counting.specs.declared.Tally.{Tally}
 
+-- Rules 3.2, 4.4: where the next level ends, by how many children there are.
 unfoldable pub nextEnd : ℕ → ℕ → List ℕ → ℕ
 unfolding sizes
 nextEnd first last ss = last + sizes (part ss first (last - first))
 
+-- Rule 9.5: the row of a level.
 unfoldable pub countsAt : ℕ → ℕ → List ℕ → List ℕ
 unfolding countIf greenb
 countsAt first last ss =
     let own = part ss first (last - first) in
     (last - first) ∷ countIf redb own ∷ countIf greenb own ∷ countIf (λ s. eqb s 0) own ∷ []
 
+-- Rule 9.5: the rows from this level on.
 unfoldable pub levelCounts : ℕ → ℕ → ℕ → List ℕ → List ℕ
 unfolding countsAt nextEnd
 levelCounts zero first last ss = []
 levelCounts (suc f) first last ss =
     elim (ltb first last) [ true ↦ countsAt first last ss ++ levelCounts f last (nextEnd first last ss) ss | false ↦ [] ]
 
+-- Rule 4.4: how many levels have cells.
 unfoldable pub levelNumber : ℕ → ℕ → ℕ → List ℕ → ℕ
 unfolding nextEnd
 levelNumber zero first last ss = 0
 levelNumber (suc f) first last ss = elim (ltb first last) [ true ↦ suc (levelNumber f last (nextEnd first last ss) ss) | false ↦ 0 ]
 
+-- Rule 4.4: where the last of them ends.
 unfoldable pub levelEnd : ℕ → ℕ → ℕ → List ℕ → ℕ
 unfolding nextEnd
 levelEnd zero first last ss = first
 levelEnd (suc f) first last ss = elim (ltb first last) [ true ↦ levelEnd f last (nextEnd first last ss) ss | false ↦ first ]
 
+-- Rule 9.5: cells, red, green, leaves.
 unfoldable pub tallied : Tally → List ℕ
 tallied t = t .cells ∷ t .red ∷ t .green ∷ t .leaf ∷ []
 
+-- Rules 3.4, 4.1, 6.1: statuses within the limits, one for each cell.
 pub record Levels (ss : List ℕ) (coarse : ℕ) : Type 0 where
   pub statuses : allb (λ s. leb s 64) ss ≡ true
   pub small : length ss ≤ 4096

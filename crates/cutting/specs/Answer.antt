@@ -13,14 +13,16 @@ use Rattle.base.specs.declared.Answer.the-variants.{Accepted, Refused}
 use Rattle.cutting.specs.Rule.{family}
 use Rattle.cutting.specs.declared.Family.{Family}
 
+-- Rule 2.9: the families one after the other.
 unfoldable pub digitsBelow : ℕ → List ℕ
 digitsBelow zero = []
 digitsBelow (suc p) = digitsBelow p ++ flatten (family p)
 
+-- Rule 2.9: the table of the families, as it is kept.
 unfoldable pub digitTable : List ℕ
 digitTable = map (λ d. 48 + d) (digitsBelow 64)
 
--- the family as its number of children and 32 digits, child after child, zeros behind them
+-- Rule 12.4: a family as its number of children and 32 digits, child after child, zeros behind them.
 unfoldable pub cutInto : List (List ℕ) → Family
 unfolding flatten
 cutInto f =
@@ -30,11 +32,11 @@ cutInto f =
       digits = flatten f ++ replicate (32 - length (flatten f)) 0;
     }
 
--- no family: zeros beside the refusal
+-- Rule 12.4: no family; zeros stand beside the refusal.
 unfoldable pub noCut : Family
 noCut = record { answer = Refused 6; count = 0; digits = replicate 32 0 }
 
--- refusal 6: "in the cutting call a pattern above 63"
+-- Rule 12.4: the whole answer; 6 above 63.
 unfoldable pub cutOf : ℕ → Family
 unfolding cutInto noCut
 cutOf p = elim (ltb p 64) [ true ↦ cutInto (family p) | false ↦ noCut ]

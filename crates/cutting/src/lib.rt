@@ -1,4 +1,4 @@
-// The children of one cell by the pattern of its split edges (document 01, "Cutting one cell").
+// The children of one cell by the pattern of its split edges (docs/METHOD.md, section 2).
 use base::Answer;
 ghost use mathlib.Core.Path.{_≡_};
 ghost use mathlib.Core.List.{_++_};

@@ -19,19 +19,24 @@ use Rattle.base.specs.Bools.{and-left, and-right, not-both}
 use Rattle.base.specs.Places.{hasb, add, Same, has-added}
 use Rattle.mesh.specs.Cells.{joinsb, heldb}
 
+-- Rule 5.4: an edge by its ends' numbers.
 abbrev pub Pair : Type 0
 Pair = ℕ × ℕ
 
+-- Rule 5.4: an edge has no direction, so the lower end is first.
 unfoldable pub sorted : Pair → Pair
 sorted e = (min (e .0) (e .1), max (e .0) (e .1))
 
+-- Rule 5.4: the same two ends.
 unfoldable pub isb : Pair → Pair → Bool
 isb p q = eqb (p .0) (q .0) && eqb (p .1) (q .1)
 
+-- Rule 5.5: one that is not there yet comes next.
 unfoldable pub addPair : List Pair → Pair → List Pair
 unfolding add isb sorted
 addPair es e = add isb es (sorted e)
 
+-- Rule 5.5, edge by edge.
 unfoldable pub addPairs : List Pair → List Pair → List Pair
 unfolding addPair
 addPairs es [] = es
@@ -96,7 +101,7 @@ module _ (a b c d : ℕ) where
         | no e ↦ let f : a ≡ d = omega (arith, e) in let g : b ≡ c = omega (arith, e) in rw (eq-eqb a d f, eq-eqb b c g, or-true)
       ]
 
-pub joins-sorted : (e f : Pair) → joinsb eqb e f ≡ isb (sorted f) (sorted e)
+joins-sorted : (e f : Pair) → joinsb eqb e f ≡ isb (sorted f) (sorted e)
 unfolding joinsb isb sorted joins sort
 joins-sorted e f = test-ext (joins (e .0) (e .1) (f .0) (f .1)) (sort (e .0) (e .1) (f .0) (f .1)) (to (e .0) (e .1) (f .0) (f .1)) (from (e .0) (e .1) (f .0) (f .1))
 

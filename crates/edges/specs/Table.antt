@@ -56,7 +56,7 @@ pub grown-none : (xs ys heads links : List ℕ) (from n : ℕ) → Edges xs ys h
 unfolding addPairs
 grown-none xs ys heads links from n e = record { edges = e; list = refl; more = omega arith; most = omega arith; kept-xs = refl; kept-ys = refl }
 
-pub pairs-append : (es l m : List Pair) → addPairs es (l ++ m) ≡ addPairs (addPairs es l) m
+pairs-append : (es l m : List Pair) → addPairs es (l ++ m) ≡ addPairs (addPairs es l) m
 unfolding addPairs
 pairs-append es [] m = refl
 pairs-append es (e ∷ l) m = pairs-append (addPair es e) l m

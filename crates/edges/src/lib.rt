@@ -1,4 +1,4 @@
-// A table of edges, each the pair of its two corner numbers, over `keys`: the entries from `from` on are different edges in the
+// A table of edges, each the pair of its two corner numbers, over `pairs`: the entries from `from` on are different edges in the
 // order of their first appearance.
 ghost use mathlib.Core.Path.{_≡_};
 ghost use Prim.Native.Nat.{_-_};

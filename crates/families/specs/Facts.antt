@@ -30,7 +30,7 @@ nonzero : (v : ℤ) → T (not (zerob v)) → v ≢ pos 0
 unfolding zerob
 nonzero v t e = let z : T (not (zerob (pos 0))) = rw e at t in z
 
--- 1. Each child has four different present points in rising order and is not flat.
+-- 1. Rules 2.6, 2.7: each child has four different present points in rising order and is not flat.
 pub record ChildFacts (p : ℕ) (c : List ℕ) : Type 0 where
   pub four : length c ≡ 4
   pub rise01 : getD c 0 0 < getD c 1 0
@@ -88,7 +88,7 @@ module _ (f : List (List ℕ)) (t : List ℕ) (r : T (faceTest f t)) where
       (and-right (impb (innerb t) (eqb (holders f t) 2)) (belowb (λ n. impb (onFaceb n t) (eqb (holders f t) 1)) 4) r) n g) i)
 
 -- the k-th face of the family p
-abbrev pub faceDigits : ℕ → ℕ → List ℕ
+abbrev faceDigits : ℕ → ℕ → List ℕ
 faceDigits p k = getD (facesOf (family p)) k []
 
 module _ (p k : ℕ) (h : p < 64) (l : k < length (facesOf (family p))) where
@@ -121,7 +121,7 @@ pub side-by-bits : (p q n m : ℕ) → p < 64 → q < 64 → n < 4 → m < 4 →
 side-by-bits p q n m hp hq hn hm e =
     side-alike p n hp hn ∙ ap (λ (b : ℕ). side (row (alike b)) 3) e ∙ sym (side-alike q m hq hm)
 
--- With two edges of a face split, the line runs from the lower of the two corners on the unsplit edge: where x < y are the
+-- Rule 2.9: with two edges of a face split, the line starts at the lower end of the third: where x < y are the
 -- corners of that edge and z is the third corner, from x to the midpoint of y and z, and not from y to that of x and z.
 abbrev apart : ℕ → ℕ → ℕ → Bool
 apart x y z = not (eqb x z) && not (eqb y z)
@@ -183,7 +183,7 @@ own-edges p i j h l m =
     (belowb-at (λ i. ownTest p (family p) i j) j
     (belowb-at (λ j. belowb (λ i. ownTest p (family p) i j) j) 4 (every ownsTest own-test p h) j m) i l)
 
--- 7. "No tie occurs": of any four points not in one plane and any other point, whatever is present.
+-- 7. Rule 2.6: 0 never comes, of any four points not in one plane and any other point, whatever is present.
 abbrev tieTest : ℕ → ℕ → ℕ → ℕ → ℕ → Bool
 tieTest a b c d x = memberb x (a ∷ b ∷ c ∷ d ∷ []) || (zerob (volume a b c d) || not (zerob (rise a b c d x)))
 

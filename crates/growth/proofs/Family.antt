@@ -44,7 +44,7 @@ module _ {A : Type 0} (f : A → Bool) where
   all-repeat x t zero = tt
   all-repeat x t (suc n) = rw (is-true (f x) t) (all-repeat x t n)
 
-  pub all-take : (n : ℕ) (l : List A) → T (allb f l) → T (allb f (take n l))
+  all-take : (n : ℕ) (l : List A) → T (allb f l) → T (allb f (take n l))
   unfolding allb
   all-take zero l t = tt
   all-take (suc n) [] t = tt
@@ -97,7 +97,7 @@ child-four (c ∷ f) t z (suc i) h =
     let w : 4 * suc i ≡ length c + 4 * i = omega arith in
     rw (append-assoc c (flatten f) z, w, four-behind c (flatten f ++ z) (4 * i)) (child-four f (and-right (eqb (length c) 4) (allb (λ c. eqb (length c) 4) f) t) z i (omega arith))
 
-pub child-digits : (p : ℕ) → p < 64 → (i : ℕ) → i < length (family p) → fourAt (cutOf p .digits) (4 * i) ≡ getD (family p) i []
+child-digits : (p : ℕ) → p < 64 → (i : ℕ) → i < length (family p) → fourAt (cutOf p .digits) (4 * i) ≡ getD (family p) i []
 unfolding cutInto
 child-digits p h i l = rw (cutOf-accepted p h) (child-four (family p) (family-fours p h) (replicate (32 - length (flatten (family p))) 0) i l)
 

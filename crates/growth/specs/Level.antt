@@ -18,6 +18,7 @@ use Rattle.growth.specs.Rows.{rowsAll, length-rowsOf}
 use Rattle.rows.specs.Laws.{length-cells, length-part}
 use Rattle.growth.specs.Parts.{small-part}
 
+-- Rules 5.5, 9.2: a family's rows and its new corners.
 pub record Laid (cells xs ys : List ℕ) (c s l at n m : ℕ) (cells′ xs′ ys′ heads′ links′ : List ℕ) (at′ m′ : ℕ) : Type 0 where
   pub table : Grown xs ys 0 m (splitEdges 0 (cellAt cells c) s) xs′ ys′ heads′ links′ m′
   pub rows : cells′ ≡ written cells (8 * at) (rowsOf l c s (pointAt n (listed xs′ ys′ 0 m′) (cellAt cells c)))

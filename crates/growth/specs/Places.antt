@@ -32,10 +32,10 @@ pub record Extends (es es′ : List Pair) : Type 0 where
   pub has : (p : Pair) → hasb isb es p ≡ true → hasb isb es′ p ≡ true
   pub place : (p : Pair) → hasb isb es p ≡ true → placeIn isb es′ p ≡ placeIn isb es p
 
-pub extends-self : (es : List Pair) → Extends es es
+extends-self : (es : List Pair) → Extends es es
 extends-self es = record { has = λ p t. t; place = λ p t. refl }
 
-pub extends-both : (a b c : List Pair) → Extends a b → Extends b c → Extends a c
+extends-both : (a b c : List Pair) → Extends a b → Extends b c → Extends a c
 extends-both a b c f g = record { has = λ p t. g .has p (f .has p t); place = λ p t. g .place p (f .has p t) ∙ f .place p t }
 
 extends-pair : (es : List Pair) (e : Pair) → Extends es (addPair es e)
@@ -47,7 +47,7 @@ unfolding addPairs
 extends-pairs es [] = extends-self es
 extends-pairs es (e ∷ l) = extends-both es (addPair es e) (addPairs (addPair es e) l) (extends-pair es e) (extends-pairs (addPair es e) l)
 
-pub extends-ends : (es : List Pair) (cs : List (Cell ℕ)) (ss : List ℕ) → Extends es (endsFrom es cs ss)
+extends-ends : (es : List Pair) (cs : List (Cell ℕ)) (ss : List ℕ) → Extends es (endsFrom es cs ss)
 unfolding endsFrom
 extends-ends es [] ss = extends-self es
 extends-ends es (c ∷ cs) [] = extends-self es
@@ -96,6 +96,7 @@ pub present-point : (p d : ℕ) → T (memberb d (present p)) → (d < 10) × ((
 unfolding present
 present-point p d t = let q = picked (λ d. eqb (low d) (high d) || split p (edgeOf d)) d points t in (below-ten d (q .1), q .0)
 
+-- Rule 2.3: the digit of an edge's midpoint.
 unfoldable pub middleEdge : ℕ → ℕ
 middleEdge e = getD (1 ∷ 2 ∷ 3 ∷ 5 ∷ 6 ∷ 8 ∷ []) e 0
 
@@ -134,11 +135,11 @@ unfolding belowb memberb
 edge-number = belowb-at (λ e. memberb e edgeNumbers) 6 tt
 
 module _ (es : List Pair) (c : Cell ℕ) (s : ℕ) where
-  pub has-split : (e : ℕ) → e < 6 → split (patternOf s) e ≡ true → hasb isb (addPairs es (splitEdges 0 c s)) (sorted (edge 0 c e)) ≡ true
+  has-split : (e : ℕ) → e < 6 → split (patternOf s) e ≡ true → hasb isb (addPairs es (splitEdges 0 c s)) (sorted (edge 0 c e)) ≡ true
   unfolding splitEdges
   has-split e h t = has-pairs es (splitEdges 0 c s) (sorted (edge 0 c e)) ∙ rw (has-picked (split (patternOf s)) (edge 0 c) e t edgeNumbers (edge-number e h), or-true)
 
-  pub point-kept : (n : ℕ) (es′ : List Pair) → Extends (addPairs es (splitEdges 0 c s)) es′ → (d : ℕ) → T (memberb d (present (patternOf s)))
+  point-kept : (n : ℕ) (es′ : List Pair) → Extends (addPairs es (splitEdges 0 c s)) es′ → (d : ℕ) → T (memberb d (present (patternOf s)))
       → pointAt n es′ c d ≡ pointAt n (addPairs es (splitEdges 0 c s)) c d
   point-kept n es′ x d t = ⊎-elim same other (either (eqb (low d) (high d)))
     where

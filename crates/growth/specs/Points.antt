@@ -21,10 +21,12 @@ use Rattle.edges.specs.Table.{Edges, Space}
 use Rattle.rows.specs.Numbered.{cellAt, pointAt}
 use Rattle.growth.specs.Places.{middleEdge}
 
+-- Rule 2.2: the edge where the pattern splits it.
 unfoldable pub splitAt : ℕ → Cell ℕ → ℕ → List Pair
 unfolding edge filterb split
 splitAt p c e = map (edge 0 c) (filterb (split p) (e ∷ []))
 
+-- Rule 2.3: the lower corner of each of the ten points.
 unfoldable pub lowCorners : Cell ℕ → List ℕ
 unfolding low
 lowCorners c = map (λ d. corner 0 c (low d)) points
@@ -33,6 +35,7 @@ unfoldable pub marked : ℕ → List Pair → Cell ℕ → ℕ → ℕ → List 
 unfolding middleEdge edge split placeIn isb sorted
 marked n es c p e ps = elim (split p e) [ true ↦ set ps (middleEdge e) (n + placeIn isb es (sorted (edge 0 c e))) | false ↦ ps ]
 
+-- Rules 2.4, 5.5: each present point has its number.
 pub record PointsSet (n : ℕ) (es : List Pair) (c : Cell ℕ) (p : ℕ) (ps : List ℕ) : Type 0 where
   pub at : (d : ℕ) → T (memberb d (present p)) → getD ps d 0 ≡ pointAt n es c d
 

@@ -26,6 +26,7 @@ use Rattle.identity.specs.Again.{flagsIn, red-edges-flags}
 use Rattle.base.specs.Each.{default-free}
 use Rattle.lineage.specs.Deep.{red-some}
 
+-- Rule 7.10: each mark is 0.
 abbrev pub Unmarked : List ℕ → Type 0
 Unmarked ms = (i : ℕ) → getD ms i 0 ≡ 0
 

@@ -127,13 +127,13 @@ module _ (n : ℕ) (qs : List (List ℕ)) (ss ms : List ℕ) (sound : T (soundb 
       ap flatten (flags-own ms none cs (redEdges [] cs ss) apart 12 0 (coarseCells n qs) ss [] refl refl (omega arith) closed reds)
       ∙ flags-concat ls ∙ ap flagsIn table-is
 
-  pub unmarked-by : flatten (stepBy n qs ss ms) ≡ ss
+  unmarked-by : flatten (stepBy n qs ss ms) ≡ ss
   unfolding stepBy ls levelsOf sizes
   unmarked-by =
       let small : length ss ≤ 65535 = omega (arith, counted, few) in
       let m : length qs + sizes [] ≡ 0 + length (coarseCells n qs) = omega (arith, length-coarse n qs) in
       rw (flags-are, start-own n qs) (ap flatten (grow-own (length qs) ss small 12 0 [] ss (coarseCells n qs) refl refl m closed) ∙ table-is)
 
-  -- "the new red cells": without marks the table stays
+  -- Rule 7.10: without marks the table stays
   pub unmarked : flatten (stepTable n qs ss ms) ≡ ss
   unmarked = ap flatten (step-by n qs ss ms sound) ∙ unmarked-by

@@ -1,5 +1,4 @@
--- The calls on archives: what each answers, and what the lent tables hold after (document 01, "Archive and listing", "Who can cause a
--- refusal").
+-- The calls on archives: what each answers, and what the lent tables hold after (docs/METHOD.md, rules 12.13 to 12.16).
 --   archiveAnswer bs     17 where the bytes are not in the form, and then what the job answers
 --   jobLevels, jobCounts j   the levels of the table that a job replays to, and their counts
 --   replayAnswer ..      15 where a table is too short, and then the same; replayedOf, replaySize its result
@@ -34,57 +33,66 @@ use Rattle.jobs.specs.declared.Reading.the-variants as reading
 use Rattle.jobs.specs.declared.Writing.{Writing}
 use Rattle.jobs.specs.declared.Writing.the-variants as writing
 
--- "an archive's form (17) is examined whole before its content, then the mesh, then steps in turn"
+-- Rule 12.2: the form first, then the mesh, then the steps in turn.
 unfoldable pub archiveAnswer : List ℕ → Answer
 unfolding refuse formb jobAnswer jobOf
 archiveAnswer bs = refuse 17 (formb bs) (jobAnswer (jobOf bs))
 
+-- Rules 4.4, 10.1: the levels of the table that a job replays to.
 abbrev pub jobLevels : Job → List Level
 jobLevels j = levelsOf (cornerCount (j .positions)) (fours (j .cells)) (jobTable j)
 
+-- Rule 9.5: and their counts.
 abbrev pub jobCounts : Job → List ℕ
 jobCounts j = countTable (jobLevels j)
 
--- "15 comes first": 4,096 statuses, four numbers a level
+-- Rule 12.15: 15 for 4,096 statuses and four numbers a level, then as the archive.
 unfoldable pub replayAnswer : List ℕ → List ℕ → List ℕ → Answer
 unfolding refuse archiveAnswer
 replayAnswer bs table counts = refuse 15 (leb mostCells (length table) && leb fullCounts (length counts)) (archiveAnswer bs)
 
+-- Rule 12.15: how many cells and levels.
 abbrev pub replaySize : Job → Size
 replaySize j = record { cells = length (jobTable j); levels = length (jobLevels j) }
 
+-- Rule 12.1: sizes, or a number alone.
 unfoldable pub replayedOf : Answer → Size → Replayed
 replayedOf Accepted s = replayed.Done s
 replayedOf (Refused k) s = replayed.Refused k
 
--- the full lengths: no archive holds more
+-- Rule 9.7: the full lengths; no archive holds more.
 unfoldable pub roomb : List ℤ → List ℕ → List ℕ → List ℕ → List ℕ → Bool
 roomb ps ts cs ms es =
     leb 1536 (length ps) && (leb 1024 (length ts) && (leb 16384 (length cs) && (leb 16384 (length ms) && leb mostBytes (length es))))
 
+-- Rule 12.13: 15, then as the archive.
 unfoldable pub readAnswer : List ℕ → List ℤ → List ℕ → List ℕ → List ℕ → List ℕ → Answer
 unfolding refuse roomb archiveAnswer
 readAnswer bs ps ts cs ms es = refuse 15 (roomb ps ts cs ms es) (archiveAnswer bs)
 
+-- Rule 12.13: how many corners, cells, marks and steps.
 abbrev pub lengthsOf : Job → Lengths
 lengthsOf j =
     record { corners = length (j .positions) / 3; cells = length (j .cells) / 4; marks = length (flatten (j .steps)); steps = length (j .steps) }
 
+-- Rule 12.1: lengths, or a number alone.
 unfoldable pub readingOf : Answer → Lengths → Reading
 readingOf Accepted l = reading.Job l
 readingOf (Refused k) l = reading.Refused k
 
--- "Writing examines the mesh and then each step as those calls do, 7 to 9 included, and last gives 17 where the bytes would be more."
+-- Rule 12.14: 15, the mesh, the steps in turn, and last 17.
 unfoldable pub writeAnswer : List ℤ → List ℕ → List ℕ → List ℕ → List ℕ → List ℕ → Answer
 unfolding refuse andThen tablesAnswer jobBytes
 writeAnswer ps ts cs ms es out =
     refuse 15 (leb mostBytes (length out))
     (andThen (tablesAnswer ps ts cs ms es) (refuse 17 (leb (length (jobBytes (jobFrom ps ts cs ms es))) mostBytes) Accepted))
 
+-- Rule 12.1: how many bytes, or a number alone.
 unfoldable pub writingOf : Answer → ℕ → Writing
 writingOf Accepted n = writing.Bytes n
 writingOf (Refused k) n = writing.Refused k
 
+-- Rules 10.1, 12.15: what replaying an archive leaves.
 pub record Reopened (bs table : List ℕ) (refusal coarse cells levels : ℕ) : Type 0 where
   pub answer : archiveAnswer bs ≡ answerOf refusal
   pub coarse-are : refusal ≡ 0 → length (fours (jobOf bs .cells)) ≡ coarse

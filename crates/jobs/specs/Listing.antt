@@ -1,4 +1,4 @@
--- The listing of an archive (document 01, "Archive and listing").
+-- The listing of an archive (docs/METHOD.md, section 11).
 --   listedBytes a cs     what is printed of an archive with the answer a and the counts cs
 --   listingOf bs    the bytes of the listing of the archive bs
 -- Laws: archive-fits (a listing has at most 512 bytes), listing-inside (a table that the listing was written into holds it).
@@ -15,12 +15,13 @@ use Rattle.jobs.specs.Sound.{counts-few, archive-job}
 use Rattle.listing.specs.Lines.{listing, refusal}
 use Rattle.listing.specs.Sizes.{listing-fits, refusal-fits}
 
--- "A refused archive prints only `refused ` and the number, as such a line."
+-- Rules 11.1, 11.3: the lines of the counts, or the line of the refusal.
 unfoldable pub listedBytes : Answer → List ℕ → List ℕ
 unfolding listing refusal
 listedBytes Accepted cs = listing cs
 listedBytes (Refused k) cs = refusal k
 
+-- Rules 11.1, 12.16: what is printed of these bytes.
 unfoldable pub listingOf : List ℕ → List ℕ
 unfolding listedBytes archiveAnswer jobOf
 listingOf bs = listedBytes (archiveAnswer bs) (jobCounts (jobOf bs))

@@ -1,4 +1,4 @@
--- Round trips (document 01, "Archive and listing"): a job that is written is read again, and an archive that is read is written again.
+-- Round trips (rule 10.7): a job that is written is read again, and an archive that is read is written again.
 --   ReadAgain ps ts cs ms es   the archive of the tables is accepted and holds their job, whose tables they are
 --   write-read                 so it is where writing is accepted
 --   WrittenAgain bs out        writing the tables of the archive bs is accepted and gives bs
@@ -27,6 +27,7 @@ use Rattle.jobs.specs.Calls.{archiveAnswer, writeAnswer}
 use Rattle.jobs.specs.Sound.{archive-parts}
 use Rattle.jobs.specs.Taken.{Taken, tables-taken}
 
+-- Rule 10.7: what is written is read again.
 pub record ReadAgain (ps : List ℤ) (ts cs ms es : List ℕ) : Type 0 where
   pub accepted : archiveAnswer (jobBytes (jobFrom ps ts cs ms es)) ≡ Accepted
   pub job : jobOf (jobBytes (jobFrom ps ts cs ms es)) ≡ jobFrom ps ts cs ms es
@@ -86,6 +87,7 @@ module _ (ps : List ℤ) (ts cs ms es out : List ℕ) (e : writeAnswer ps ts cs 
       let (f, b) = read-written writable in
       record { accepted = rw f (ap jobAnswer b ∙ answer); job = b; marked = marked; marks = marks; ends = ends }
 
+-- Rule 10.7: what is read is written again.
 pub record WrittenAgain (bs out : List ℕ) : Type 0 where
   pub accepted : writeAnswer (jobOf bs .positions) (jobOf bs .cells) (markedOf (jobOf bs .steps)) (marksOf (jobOf bs .steps)) (endsOf (jobOf bs .steps)) out ≡ Accepted
   pub bytes : jobBytes (jobFrom (jobOf bs .positions) (jobOf bs .cells) (markedOf (jobOf bs .steps)) (marksOf (jobOf bs .steps)) (endsOf (jobOf bs .steps))) ≡ bs

@@ -1,4 +1,4 @@
--- The case of document 01: "Meshlist on A, M(0,1), G, M(1,1), G, E".
+-- The case of rule 14.7: mesh A, its cell refined, and then its second child.
 --   sample          the bytes of this archive
 --   sampleLines     the bytes of its listing
 -- Law: sample-listed.
@@ -11,7 +11,7 @@ use Rattle.replay.specs.Run.{jobTable}
 use Rattle.listing.specs.Lines.{header}
 use Rattle.jobs.specs.Listing.{listingOf}
 
-pub sample : List ℕ
+sample : List ℕ
 sample =
     86 ∷ 0 ∷ 0 ∷ 0 ∷ 0 ∷ 0 ∷ 0 ∷ 0 ∷ 0 ∷ 0 ∷ 0 ∷ 0 ∷ 0 ∷
     86 ∷ 16 ∷ 0 ∷ 0 ∷ 0 ∷ 0 ∷ 0 ∷ 0 ∷ 0 ∷ 0 ∷ 0 ∷ 0 ∷ 0 ∷
@@ -24,8 +24,8 @@ sample =
     71 ∷
     69 ∷ []
 
--- "prints exactly": the header, 0 1 1 0 0, 1 8 1 3 4, 2 16 0 0 16
-pub sampleLines : List ℕ
+-- Rule 14.7: the header, 0 1 1 0 0, 1 8 1 3 4, 2 16 0 0 16
+sampleLines : List ℕ
 sampleLines =
     header
     ++ (48 ∷ 32 ∷ 49 ∷ 32 ∷ 49 ∷ 32 ∷ 48 ∷ 32 ∷ 48 ∷ 10 ∷

@@ -112,6 +112,7 @@ module _ (n : ℕ) (qs : List (List ℕ)) where
         rising = (one-rises t m h d, i .rising);
       }
 
+-- Rules 1.2, 12.12, 12.14: tables of an accepted job.
 pub record Taken (ps : List ℤ) (ts cs ms es : List ℕ) : Type 0 where
   pub storable : Storable ps ts cs ms es
   pub corners : cornerCount ps ≤ 512

@@ -1,5 +1,5 @@
--- The calls on a status table over a coarse mesh: what each answers, and what the lent tables hold after (document 01, "Refusals",
--- "Calls"). A mesh is ps and ts, a table ss.
+-- The calls on a status table over a coarse mesh: what each answers, and what the lent tables hold after (docs/METHOD.md, rules 12.6
+-- to 12.10). A mesh is ps and ts, a table ss.
 --   tableAnswer ps ts ss     a mesh and a table: accepted, or 1 to 6
 --   heldAfter a new old      a lent table after the answer a: changed in front where it is accepted, as it was where it is not
 --   layoutAnswer ..          laying out: 15 where a table is too short, then 1 to 6; laidOf, sizesOf, its result
@@ -31,45 +31,53 @@ use Rattle.layout.specs.declared.Counted.{Counted}
 use Rattle.layout.specs.declared.Counted.the-variants as counted
 use Rattle.mesh.specs.Answers.{tableAnswer}
 
--- the levels, cells and corners of the table
+-- Rule 4.4.
 abbrev pub levelsIn : List ℤ → List ℕ → List ℕ → List Level
 levelsIn ps ts ss = levelsOf (cornerCount ps) (fours ts) ss
 
+-- Rule 4.4.
 abbrev pub cellsIn : List ℤ → List ℕ → List ℕ → List (Cell Point)
 cellsIn ps ts ss = cellsOf (levelsIn ps ts ss)
 
+-- Rule 5.5.
 abbrev pub cornersIn : List ℤ → List ℕ → List ℕ → List Corner
 cornersIn ps ts ss = cornersOf (cornerCount ps) (cellsIn ps ts ss) ss
 
--- "15 a lent table too short": eight numbers a cell, two and three a corner, of the most that there can be
+-- Rules 9.2 to 9.4: the full lengths.
 unfoldable pub lentb : List ℕ → List ℕ → List ℤ → Bool
 lentb table ends sums = (leb fullRows (length table) && leb fullEnds (length ends)) && leb fullSums (length sums)
 
+-- Rule 12.7: 15, then 1 to 6.
 unfoldable pub layoutAnswer : List ℤ → List ℕ → List ℕ → List ℕ → List ℕ → List ℤ → Answer
 unfolding refuse lentb tableAnswer
 layoutAnswer ps ts ss table ends sums = refuse 15 (lentb table ends sums) (tableAnswer ps ts ss)
 
+-- Rule 12.7: how many cells, corners and levels.
 abbrev pub sizesOf : List ℤ → List ℕ → List ℕ → Sizes
 sizesOf ps ts ss =
     record { cells = length (cellsIn ps ts ss); corners = length (cornersIn ps ts ss); levels = length (levelsIn ps ts ss) }
 
+-- Rule 12.1: sizes, or a number alone.
 unfoldable pub laidOf : Answer → Sizes → Laid
 laidOf Accepted s = laid.Out s
 laidOf (Refused k) s = laid.Refused k
 
+-- Rule 12.9: 1 to 6, then 7.
 unfoldable pub ancestorAnswer : List ℤ → List ℕ → List ℕ → ℕ → Answer
 unfolding andThen refuse tableAnswer
 ancestorAnswer ps ts ss c = andThen (tableAnswer ps ts ss) (refuse 7 (ltb c (length (cellsIn ps ts ss))) Accepted)
 
+-- Rule 12.1: an ancestor, or a number alone.
 unfoldable pub ancestryOf : Answer → Ancestor → Ancestry
 ancestryOf Accepted a = ancestry.Under a
 ancestryOf (Refused k) a = ancestry.Refused k
 
--- four numbers a level
+-- Rule 12.10: 15, then 1 to 6.
 unfoldable pub countsAnswer : List ℤ → List ℕ → List ℕ → List ℕ → Answer
 unfolding refuse tableAnswer
 countsAnswer ps ts ss counts = refuse 15 (leb fullCounts (length counts)) (tableAnswer ps ts ss)
 
+-- Rule 12.1: how many levels, or a number alone.
 unfoldable pub countedOf : Answer → ℕ → Counted
 countedOf Accepted n = counted.Levels n
 countedOf (Refused k) n = counted.Refused k

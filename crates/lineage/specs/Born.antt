@@ -20,9 +20,11 @@ use Rattle.mesh.specs.Weights.{Point, point}
 use Rattle.mesh.specs.Table.{next, sizeOf, sizes}
 use Rattle.rows.specs.Many.{length-children, size-refined, size-some}
 
+-- Rule 3.2: a child by its place in the family.
 abbrev pub childOf : ℕ → Cell Point → ℕ → ℕ → Cell Point
 childOf k c s i = record { path = c .path ++ (i ∷ []); parent = k; regular = redb s; points = map (point c) (getD (family (patternOf s)) i []) }
 
+-- Rules 3.1, 3.2: one of these cells is the parent.
 pub record Born (k : ℕ) (cs : List (Cell Point)) (ss : List ℕ) (c : Cell Point) : Type 0 where
   -- the parent's place in cs, and the child's number
   pub p : ℕ

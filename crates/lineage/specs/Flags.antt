@@ -26,6 +26,7 @@ use Rattle.lineage.specs.Olds.{flagOf}
 use Rattle.lineage.specs.Paths.{Paths}
 use Rattle.lineage.specs.Same.{Is, Fresh, Old, rowIn}
 
+-- Rules 7.3 to 7.6, of an old cell by its place.
 abbrev pub newRedAt : List ℕ → List Level → Level → ℕ → Bool
 newRedAt ms ls l t = newRedb (rowsUp ls ms) (edgesUp (newReds ls ms)) (rowIn l ms t)
 
@@ -81,7 +82,7 @@ module _ {A : Type 0} (d : A) (f g : A → Bool) where
       go true e i = rw (e, filterb) (rw i (or-true (g x)))
       go false e i = rw (e, filterb) i
 
-  pub none-chosen : (l : List A) → ((t : ℕ) → t < length l → f (getD l t d) ≡ true → g (getD l t d) ≡ true → ⊥) → anyb g (filterb f l) ≡ false
+  none-chosen : (l : List A) → ((t : ℕ) → t < length l → f (getD l t d) ≡ true → g (getD l t d) ≡ true → ⊥) → anyb g (filterb f l) ≡ false
   unfolding anyb filterb
   none-chosen [] u = refl
   none-chosen (x ∷ l) u = go (f x) refl (g x) refl (none-chosen l (λ t h. u (suc t) (omega arith)))

@@ -28,6 +28,7 @@ growLevels m ss fs (suc h) k (c ∷ cs) os =
     let ts = statusesBy fs (c ∷ cs) os in
     record { first = k; cells = c ∷ cs; statuses = ts } ∷ growLevels m ss fs h (k + length (c ∷ cs)) (next k (c ∷ cs) ts) (oldsNext m ss ts os)
 
+-- Rule 7.7: the levels of the step's table.
 abbrev pub newLevels : ℕ → List (List ℕ) → List ℕ → List ℕ → List Level
 newLevels n qs ss ms = growLevels (length qs) ss (flagTable n qs ss ms) 12 0 (coarseCells n qs) (upTo (length qs))
 

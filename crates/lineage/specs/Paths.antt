@@ -22,6 +22,7 @@ use Rattle.mesh.specs.Laws.{length-from}
 abbrev pub pathAt : List (Cell Point) → ℕ → List ℕ
 pathAt cs t = getD cs t noCell .path
 
+-- Rule 3.3: a path belongs to one cell.
 abbrev pub Paths : List (Cell Point) → Type 0
 Paths cs = (t u : ℕ) → t < length cs → u < length cs → pathAt cs t ≡ pathAt cs u → t ≡ u
 

@@ -29,6 +29,7 @@ use Rattle.lineage.specs.Born.{childOf, BornAt, born, born-below, born-a
 use Rattle.rows.specs.Many.{length-children, size-refined, size-some}
 use Rattle.lineage.specs.Paths.{pathAt, Paths, snoc-inj, length-upto, upto-at}
 
+-- Rule 3.3: the same cell.
 pub record Is (l : Level) (t : ℕ) (c : Cell Point) : Type 0 where
   pub below : t < length (l .cells)
   pub path : getD (l .cells) t noCell .path ≡ c .path

@@ -1,4 +1,4 @@
--- The step by old numbers is the paper's step.
+-- The step by old numbers is the step of rules 7.2 to 7.7.
 --   Agrees reds fs c o   c is among the new red cells reds where its old number o has a flag in fs
 --   Dark fs c o          the old number o has no flag
 -- Laws: olds-many and olds-start (the coarse cells' old numbers), statuses-same (the statuses of a level), refined-statuses, no-reds
@@ -41,7 +41,7 @@ module _ (n : ℕ) (qs : List (List ℕ)) (ss : List ℕ) where
   olds-start = both-from (Old (here 0 (coarseCells n qs) ss)) (coarseCells n qs) (upTo (length qs)) olds-many olds-coarse
 
 -- the statuses of a level
-abbrev pub Agrees : List Row → List ℕ → Cell Point → ℕ → Type 0
+abbrev Agrees : List Row → List ℕ → Cell Point → ℕ → Type 0
 Agrees reds fs c o = amongb reds c ≡ redb (getD fs o 0)
 
 module _ (reds : List Row) (fs : List ℕ) where
@@ -61,7 +61,7 @@ module _ (reds : List Row) (fs : List ℕ) where
   closed-same es (c ∷ cs) (o ∷ os) e b =
       ap₂ _∷_ (ap (λ (x : Bool). statusOf [] sameb es x c) (b .0 ∙ sym (flag-red (redb (getD fs o 0))))) (closed-same es cs os (omega arith) (b .1))
 
-  pub statuses-same : (cs : List (Cell Point)) (os : List ℕ) → length os ≡ length cs → Both (Agrees reds fs) cs os
+  statuses-same : (cs : List (Cell Point)) (os : List ℕ) → length os ≡ length cs → Both (Agrees reds fs) cs os
       → map (λ c. statusOf [] sameb (redCells reds cs) (amongb reds c) c) cs ≡ statusesBy fs cs os
   unfolding statusesBy
   statuses-same cs os e b =
@@ -113,7 +113,7 @@ module _ (fs : List ℕ) where
   no-reds cs os b = rw (no-edges cs os b) (closed-leaves cs os b)
 
 -- level after level
-pub grow-nothing : (m : ℕ) (ss fs : List ℕ) (h k : ℕ) (os : List ℕ) → growBy m ss fs h k [] os ≡ []
+grow-nothing : (m : ℕ) (ss fs : List ℕ) (h k : ℕ) (os : List ℕ) → growBy m ss fs h k [] os ≡ []
 unfolding growBy
 grow-nothing m ss fs zero k os = refl
 grow-nothing m ss fs (suc h) k os = refl

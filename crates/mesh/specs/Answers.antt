@@ -20,15 +20,16 @@ use lib.Dec.{eqb, leb}
 use lib.ListN.{length}
 use Rattle.mesh.specs.Step.{stepTable}
 
--- "6 a table that is not sound": of a mesh that is accepted
+-- Rule 12.6: the mesh, then 6 where the table is not sound.
 unfoldable pub tableAnswer : List ℤ → List ℕ → List ℕ → Answer
 unfolding andThen meshAnswer refuse soundb
 tableAnswer ps ts ss = andThen (meshAnswer ps ts) (refuse 6 (soundb (cornerCount ps) (fours ts) ss) Accepted)
 
--- "7 marks of wrong length, above 2, or not 0 on a refined cell"
+-- Rule 7.1: at most 2, and 0 on a refined cell.
 unfoldable pub markb : ℕ → ℕ → Bool
 markb s m = leb m 2 && (eqb s 0 || eqb m 0)
 
+-- Rule 7.1: one mark for each cell, each allowed there.
 unfoldable pub marksb : List ℕ → List ℕ → Bool
 unfolding markb
 marksb [] [] = true
@@ -36,10 +37,11 @@ marksb [] (m ∷ ms) = false
 marksb (s ∷ ss) [] = false
 marksb (s ∷ ss) (m ∷ ms) = markb s m && marksb ss ms
 
+-- Rules 7.7, 9.6: the new statuses by cell number, whatever the limits.
 abbrev pub newTable : ℕ → List (List ℕ) → List ℕ → List ℕ → List ℕ
 newTable n qs ss ms = flatten (stepTable n qs ss ms)
 
--- "8 a level above 10 would arise; 9 more than 4,096 cells would"
+-- Rule 7.8: 8 for a level too many, then 9 for too many cells.
 unfoldable pub limitsAnswer : ℕ → List (List ℕ) → List ℕ → List ℕ → Answer
 unfolding refuse stepTable
 limitsAnswer n qs ss ms = refuse 8 (leb (length (stepTable n qs ss ms)) mostLevels) (refuse 9 (leb (length (newTable n qs ss ms)) mostCells) Accepted)

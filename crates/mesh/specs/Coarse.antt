@@ -1,4 +1,4 @@
--- Coarse meshes (document 01, "Coarse mesh") and their refusals 1 to 5. A mesh is two flat lists: three numbers a corner,
+-- Coarse meshes (docs/METHOD.md, section 1) and their refusals 1 to 5. A mesh is two flat lists: three numbers a corner,
 -- four corner numbers a cell.
 --   countsb ps ts        refusal 1: whole corners and cells, and how many
 --   positionsb ps        refusal 2: each number of a position
@@ -21,35 +21,39 @@ use Rattle.base.specs.declared.Answer.the-variants.{Accepted}
 use Rattle.base.specs.Limits.{mostCoarseCorners, mostCoarseCells}
 use Rattle.cutting.specs.Rule.{zerob}
 
--- "4 to 512 corners, 1 to 256 cells." Refusal 1: "counts, or a list's length no multiple of 3 or 4".
+-- Rule 1.1: three numbers a corner.
 abbrev pub cornerCount : List ℤ → ℕ
 cornerCount ps = length ps / 3
 
+-- Rule 1.1: four numbers a cell.
 abbrev pub cellCount : List ℕ → ℕ
 cellCount ts = length ts / 4
 
+-- Rule 1.2: whole corners and cells, 4 to 512 and 1 to 256 of them.
 unfoldable pub countsb : List ℤ → List ℕ → Bool
 countsb ps ts =
     (eqb (length ps % 3) 0 && eqb (length ts % 4) 0)
     && ((leb 4 (cornerCount ps) && leb (cornerCount ps) mostCoarseCorners) && (leb 1 (cellCount ts) && leb (cellCount ts) mostCoarseCells))
 
--- "A position is three whole numbers from -500,000 to 500,000."
+-- Rule 1.3: every coordinate within 500,000 of 0.
 unfoldable pub positionsb : List ℤ → Bool
 unfolding allb
 positionsb ps = allb (λ z. leb (natAbs z) 500000) ps
 
--- "A cell is four corner numbers, strictly ascending."
+-- Rule 1.4: four ascending numbers of corners that are there.
 unfoldable pub cellb : ℕ → List ℕ → Bool
 cellb n q = (ltb (getD q 0 0) (getD q 1 0) && ltb (getD q 1 0) (getD q 2 0)) && (ltb (getD q 2 0) (getD q 3 0) && ltb (getD q 3 0) n)
 
+-- Rule 1.4, of all cells.
 unfoldable pub cellsb : ℕ → List (List ℕ) → Bool
 unfolding allb cellb
 cellsb n qs = allb (cellb n) qs
 
--- "Flat means that the determinant of its three edge vectors is zero; its sign is free."
+-- Rule 1.1: coordinate k of corner i.
 unfoldable pub coordinateAt : List ℤ → ℕ → ℕ → ℤ
 coordinateAt ps i k = getD ps (3 * i + k) (pos 0)
 
+-- Rule 1.5: the determinant of the vectors from the first corner to the others.
 unfoldable pub determinant : List ℤ → List ℕ → ℤ
 unfolding coordinateAt
 determinant ps q =
@@ -59,20 +63,23 @@ determinant ps q =
     let dx = coordinateAt ps (getD q 3 0) 0 -ℤ ax in let dy = coordinateAt ps (getD q 3 0) 1 -ℤ ay in let dz = coordinateAt ps (getD q 3 0) 2 -ℤ az in
     bx *ℤ (cy *ℤ dz -ℤ cz *ℤ dy) -ℤ by *ℤ (cx *ℤ dz -ℤ cz *ℤ dx) +ℤ bz *ℤ (cx *ℤ dy -ℤ cy *ℤ dx)
 
+-- Rule 1.5: it is 0 for no cell, whatever its sign.
 unfoldable pub solidb : List ℤ → List (List ℕ) → Bool
 unfolding allb determinant zerob
 solidb ps qs = allb (λ q. not (zerob (determinant ps q))) qs
 
--- Refusal 5: "two cells with the same corners, or a face in three cells".
+-- Rule 1.6: the same four corners again.
 unfoldable pub twiceb : List (List ℕ) → Bool
 unfolding anyb sameb
 twiceb [] = false
 twiceb (q ∷ qs) = anyb (sameb q) qs || twiceb qs
 
+-- Rule 1.6: no cell twice, no face in three cells or more.
 unfoldable pub singleb : List (List ℕ) → Bool
 unfolding twiceb anyb holders faces flatMap
 singleb qs = not (twiceb qs) && not (anyb (λ t. leb 3 (holders qs t)) (flatMap faces qs))
 
+-- Rule 12.5: 1 to 5, each on the whole mesh before the next.
 unfoldable pub meshAnswer : List ℤ → List ℕ → Answer
 unfolding refuse countsb positionsb cellsb solidb singleb fours
 meshAnswer ps ts =

@@ -1,4 +1,4 @@
--- Two tables over mesh A of document 01 ("Cases"): case C, and one that breaks the third condition of soundness alone. They show what
+-- Two tables over mesh A (rule 14.3): case C, and one that breaks the third condition of soundness (rule 6.4) alone. They show what
 -- the conditions ask for, and hold the definitions fast.
 --   C        level 1 is 64 11 1 0 1 0 0 0, and sixteen leaves lie above it
 --   nearC    C with cell 12 red and its level closed: cell 2 stays green, though a red cell has an edge of its children

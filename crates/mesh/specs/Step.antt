@@ -1,4 +1,4 @@
--- One step (document 01, "One step").
+-- One step (docs/METHOD.md, section 7).
 --   Row                    a cell of the old table with its number, status and mark
 --   rows l ms              the rows of a level, where ms are the marks of the whole table
 --   kids up k              the rows one level up whose parent is the cell k
@@ -18,33 +18,36 @@ use Rattle.mesh.specs.Cells.{Cell, redb, edges, heldb, statusOf}
 use Rattle.mesh.specs.Weights.{Point, coarseCells}
 use Rattle.mesh.specs.Table.{Level, levelsOf, next}
 
+-- Rules 4.1, 7.1: an old cell with its number, status and mark.
 pub record Row : Type 0 where
   pub number : ℕ
   pub cell : Cell Point
   pub status : ℕ
   pub mark : ℕ
 
+-- Rule 7.1: one mark a cell, by cell number.
 unfoldable pub rowsFrom : ℕ → List (Cell Point) → List ℕ → List ℕ → List Row
 rowsFrom k [] ss ms = []
 rowsFrom k (c ∷ cs) [] ms = []
 rowsFrom k (c ∷ cs) (s ∷ ss) ms = record { number = k; cell = c; status = s; mark = getD ms k 0 } ∷ rowsFrom (suc k) cs ss ms
 
+-- Rule 7.1, of a level.
 unfoldable pub rows : Level → List ℕ → List Row
 unfolding rowsFrom
 rows l ms = rowsFrom (l .first) (l .cells) (l .statuses) ms
 
+-- Rule 3.2: children know their parent's number.
 unfoldable pub kids : List Row → ℕ → List Row
 unfolding filterb
 kids up k = filterb (λ r. eqb (r .cell .parent) k) up
 
--- "old red ones, except where all eight children were leaves marked 2 and no new red cell one level up has an edge of any of
--- them"
+-- Rule 7.3: all are leaves marked 2, and no new red cell of their level has an edge of theirs.
 unfoldable pub deletedb : List Row → List (Point × Point) → Bool
 unfolding allb heldb sameb edges
 deletedb family es =
     allb (λ r. (eqb (r .status) 0 && eqb (r .mark) 2) && allb (λ e. not (heldb sameb es e)) (edges [] (r .cell))) family
 
--- "green ones with a child marked 1, or with a child's edge, not their own, that a new red cell one level up has"
+-- Rule 7.5: a child is marked 1, or has an edge that is not the green cell's own and that a new red cell of the child's level has.
 unfoldable pub turnedb : List (Point × Point) → List Row → List (Point × Point) → Bool
 unfolding anyb heldb sameb edges
 turnedb own family es =
@@ -64,20 +67,23 @@ redAfterb s m regular own family es =
       ]
     ]
 
+-- Rules 7.3 to 7.6: whether an old cell will be red.
 abbrev pub newRedb : List Row → List (Point × Point) → Row → Bool
 newRedb up es r = redAfterb (r .status) (r .mark) (r .cell .regular) (edges [] (r .cell)) (kids up (r .number)) es
 
--- "Levels are treated from the highest down; one level up means the level number higher by one."
+-- Rules 3.1, 7.2: the rows one level up, none above the highest.
 unfoldable pub rowsUp : List Level → List ℕ → List Row
 unfolding rows
 rowsUp [] ms = []
 rowsUp (l ∷ ls) ms = rows l ms
 
+-- Rule 7.2: the edges of the new red cells one level up.
 unfoldable pub edgesUp : List (List Row) → List (Point × Point)
 unfolding edges flatMap
 edgesUp [] = []
 edgesUp (rs ∷ rss) = flatMap (λ r. edges [] (r .cell)) rs
 
+-- Rule 7.2: the highest level is treated first.
 unfoldable pub newReds : List Level → List ℕ → List (List Row)
 unfolding rows rowsUp edgesUp redAfterb kids edges filterb
 newReds [] ms = []
@@ -85,17 +91,18 @@ newReds (l ∷ ls) ms =
     let above = newReds ls ms in
     filterb (newRedb (rowsUp ls ms) (edgesUp above)) (rows l ms) ∷ above
 
--- "A cell before and one after are the same when coarse cell and child numbers down to them agree."
+-- Rules 3.3, 7.7: regular, and the same as one that will be red.
 unfoldable pub amongb : List Row → Cell Point → Bool
 unfolding anyb sameb
 amongb reds c = c .regular && anyb (λ r. sameb (r .cell .path) (c .path)) reds
 
+-- Rule 7.7: the red edges of a new level.
 unfoldable pub redCells : List Row → List (Cell Point) → List (Point × Point)
 unfolding amongb edges
 redCells reds [] = []
 redCells reds (c ∷ cs) = elim (amongb reds c) [ true ↦ edges [] c ++ redCells reds cs | false ↦ redCells reds cs ]
 
--- "Then patterns follow as for a sound table."
+-- Rule 7.7: the new table, from level 0 up.
 unfoldable pub grow : List (List Row) → ℕ → List (Cell Point) → List (List ℕ)
 unfolding redCells amongb statusOf sameb next
 grow [] k cs = []
@@ -105,7 +112,7 @@ grow (reds ∷ rest) k (c ∷ cs) =
     let ss = map (λ c. statusOf [] sameb es (amongb reds c) c) (c ∷ cs) in
     ss ∷ grow rest (k + length (c ∷ cs)) (next k (c ∷ cs) ss)
 
--- The table that the rules give has at most one level more than the old one, and no red cell there.
+-- Rules 7.2, 7.7: the whole step without its limits. It has at most one level more than the old table, and no red cell there.
 unfoldable pub stepTable : ℕ → List (List ℕ) → List ℕ → List ℕ → List (List ℕ)
 unfolding levelsOf newReds grow coarseCells
 stepTable n qs ss ms = grow (newReds (levelsOf n qs ss) ms ++ ([] ∷ [])) 0 (coarseCells n qs)

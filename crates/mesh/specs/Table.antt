@@ -5,7 +5,7 @@
 --   levelsOf n qs ss    the levels of a table; one more than the highest that is allowed
 --   cellsOf ls          all cells of the levels, in cell order
 --   closedb l           each cell of the level has the status that its red cells ask for
---   apartb cs ss        no edge of a green cell's child, unless also the green cell's own, is an edge of a red cell
+--   apartb cs ss        the third condition (rule 6.4)
 --   soundb n qs ss      the table is sound
 use mathlib.Core.Bool.{Bool, true, false, _&&_, _||_, not}
 use mathlib.Core.List.{List, [], _∷_, _++_, flatMap}
@@ -18,18 +18,20 @@ use Rattle.mesh.specs.Cells.{Cell, edges, heldb, redEdges, closedFrom, c
 use Rattle.mesh.specs.Weights.{Point, point, coarseCells}
 use Rattle.cutting.specs.Rule.{family}
 
--- "Cells are numbered level by level from 0, in each level by parent and then child."
+-- Rules 3.2, 4.4: one level up, by parent and then by place in the family.
 unfoldable pub next : ℕ → List (Cell Point) → List ℕ → List (Cell Point)
 unfolding children point
 next k [] ss = []
 next k (c ∷ cs) [] = []
 next k (c ∷ cs) (s ∷ ss) = children k c s (point c) ++ next (suc k) cs ss
 
+-- Rules 3.1, 4.1: a level's cells and statuses.
 pub record Level : Type 0 where
   pub first : ℕ
   pub cells : List (Cell Point)
   pub statuses : List ℕ
 
+-- Rule 4.4: level after level, to the first without cells.
 unfoldable pub levels : ℕ → ℕ → List (Cell Point) → List ℕ → List Level
 unfolding next
 levels zero k cs ss = []
@@ -39,21 +41,22 @@ levels (suc n) k (c ∷ cs) ss =
     let own = take m ss in
     record { first = k; cells = c ∷ cs; statuses = own } ∷ levels n (k + m) (next k (c ∷ cs) own) (drop m ss)
 
--- "Levels are 0 to 10": the twelfth is looked for so that it can be refused.
+-- Rules 3.4, 4.4: 11 levels are allowed; the twelfth is looked for so that it can be refused.
 unfoldable pub levelsOf : ℕ → List (List ℕ) → List ℕ → List Level
 unfolding levels coarseCells
 levelsOf n qs ss = levels 12 0 (coarseCells n qs) ss
 
+-- Rule 3.2: in the order of cell numbers.
 unfoldable pub cellsOf : List Level → List (Cell Point)
 unfolding flatMap
 cellsOf ls = flatMap (λ l. l .cells) ls
 
+-- Rules 6.2, 6.3: the first two conditions, on one level.
 unfoldable pub closedb : Level → Bool
 unfolding closedFrom redEdges sameb
 closedb l = closedFrom [] sameb (redEdges [] (l .cells) (l .statuses)) (l .cells) (l .statuses)
 
--- "no edge of a green cell's child, unless also the green cell's own, is an edge of a red cell": a cell that is not regular
--- is a green cell's child.
+-- Rule 6.4: the third condition. A cell that is not regular is a green cell's child.
 unfoldable pub apartb : List (Cell Point) → List ℕ → Bool
 unfolding allb edges heldb redEdges sameb
 apartb cs ss =
@@ -61,7 +64,7 @@ apartb cs ss =
     allb (λ c. c .regular
     || allb (λ e. heldb sameb (edges [] (getD cs (c .parent) c)) e || not (heldb sameb reds e)) (edges [] c)) cs
 
--- "Levels are 0 to 10; cells over all levels at most 4,096". The table has one status for each of its cells.
+-- Rules 6.1 to 6.4: sound tables.
 unfoldable pub soundb : ℕ → List (List ℕ) → List ℕ → Bool
 unfolding levelsOf cellsOf closedb apartb allb
 soundb n qs ss =
@@ -69,10 +72,12 @@ soundb n qs ss =
     let cs = cellsOf ls in
     (eqb (length ss) (length cs) && (leb (length ls) mostLevels && leb (length cs) mostCells)) && (allb closedb ls && apartb cs ss)
 
+-- Rule 4.1: how many children a status gives.
 unfoldable pub sizeOf : ℕ → ℕ
 unfolding patternOf
 sizeOf s = elim (eqb s 0) [ true ↦ 0 | false ↦ length (family (patternOf s)) ]
 
+-- Rule 4.4: how many cells a level's statuses give one level up.
 unfoldable pub sizes : List ℕ → ℕ
 unfolding sizeOf
 sizes [] = 0

@@ -1,1 +1,1 @@
-// The definitions of document 01 on coarse meshes, tables and steps. There is no code here: see specs/.
+// The rules of docs/METHOD.md on coarse meshes, tables and steps. There is no code here: see specs/.

@@ -120,7 +120,7 @@ module _ (n k : ℕ) (h : k < 10) (ks ks′ : List Corner) (es : List Pair) (w :
             ∙ sym (number-midpoint n ks′ es w q₀ q₁ b (kept-has ks ks′ kept q₀ (corner-has (low d) x4)) (kept-has ks ks′ kept q₁ (corner-has (high d) y)) v);
       }
 
-  pub numbered-present : (d : ℕ) → T (memberb d (present (patternOf s))) → Numbered n ks ks′ es c d
+  numbered-present : (d : ℕ) → T (memberb d (present (patternOf s))) → Numbered n ks ks′ es c d
   numbered-present d t = let (l, u) = present-digit (patternOf s) d t in go l (eqb (low d) (high d)) refl u
     where
       go : d < 10 → (b : Bool) → eqb (low d) (high d) ≡ b → (b || split (patternOf s) (edgeOf d)) ≡ true → Numbered n ks ks′ es c d

@@ -1,6 +1,6 @@
 -- The coarse cells over corner numbers: their points are the numbers that the mesh is given by.
 --   coarseNumbers qs   the coarse cells over corner numbers
--- Laws: coarse-placed (their points are corners), coarse-numbers (they are the paper's coarse cells).
+-- Laws: coarse-placed (their points are corners), coarse-numbers (they are the coarse cells of `mesh`).
 use mathlib.Core.Path.{_≡_, refl, _∙_, ap, ap₂}
 use mathlib.Core.Bool.{true}
 use mathlib.Core.List.{List, [], _∷_, map}
@@ -19,10 +19,12 @@ use Rattle.base.specs.Every.{All, all-from, below-at}
 use Rattle.numbering.specs.Corners.{Has, NumberedCorners, has-corner, weights-coarse, number-coarse}
 use Rattle.numbering.specs.Tests.{numberedCells, Placed}
 
+-- Rule 3.1, over numbers, from cell i on.
 unfoldable pub coarseNumbersFrom : ℕ → List (List ℕ) → List (Cell ℕ)
 coarseNumbersFrom i [] = []
 coarseNumbersFrom i (q ∷ qs) = record { path = i ∷ []; parent = none; regular = true; points = q } ∷ coarseNumbersFrom (suc i) qs
 
+-- Rule 3.1, over numbers.
 unfoldable pub coarseNumbers : List (List ℕ) → List (Cell ℕ)
 unfolding coarseNumbersFrom
 coarseNumbers qs = coarseNumbersFrom 0 qs

@@ -44,6 +44,7 @@ pub record Kept (ks ks′ : List Corner) : Type 0 where
   pub more : List Corner
   pub longer : ks′ ≡ ks ++ more
 
+-- Rules 5.2, 5.5: a midpoint by its ends' numbers.
 pub record Midpoint (n : ℕ) (ks : List Corner) (i : ℕ) (e : Pair) : Type 0 where
   pub order : e .0 < e .1
   pub before : e .1 < i
@@ -55,6 +56,7 @@ pub record Midpoint (n : ℕ) (ks : List Corner) (i : ℕ) (e : Pair) : Type 0 w
 abbrev pub endsAt : List Pair → ℕ → Pair
 endsAt es j = getD es j (0, 0)
 
+-- Rule 5.5: the coarse corners, then midpoints, no two alike.
 pub record NumberedCorners (n : ℕ) (ks : List Corner) (es : List Pair) : Type 0 where
   pub count : length ks ≡ n + length es
   pub first : take n ks ≡ coarseCorners n
@@ -107,7 +109,7 @@ module _ (ks ks′ : List Corner) (k : Kept ks ks′) where
 
 -- The coarse corners.
 module _ (n : ℕ) where
-  abbrev pub coarseCorner : ℕ → Corner
+  abbrev coarseCorner : ℕ → Corner
   coarseCorner i = record { weights = coarse n i; low = i; high = i }
 
   length-coarse : (m : ℕ) → length (coarseCornersTo n m) ≡ m
@@ -159,7 +161,7 @@ corners-start n =
 -- The coarse corners are the first. Every corner has n weights that add to 1,024, and the weights of a midpoint's ends have
 -- even sums.
 module _ (n : ℕ) (ks : List Corner) (es : List Pair) (c : NumberedCorners n ks es) where
-  pub corner-coarse : (i : ℕ) → i < n → cornerAt ks i ≡ coarseCorner n i
+  corner-coarse : (i : ℕ) → i < n → cornerAt ks i ≡ coarseCorner n i
   unfolding coarseCorners
   corner-coarse i h = sym (getD-take n ks i noCorner h) ∙ ap (λ (l : List Corner). cornerAt l i) (c .first) ∙ coarse-at n n i h
 

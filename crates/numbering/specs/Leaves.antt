@@ -22,6 +22,7 @@ use Rattle.numbering.specs.Tests.{numberedCells}
 use Rattle.numbering.specs.Refined.{Both, Refined}
 use Rattle.mesh.specs.Laws.{pattern-below}
 
+-- Rule 4.1: no cell is refined.
 abbrev pub Leaves : List (Cell Point) → List ℕ → Type 0
 Leaves cs ss = Both (λ c s. s ≡ 0) cs ss
 

@@ -1,5 +1,5 @@
 -- New corners: a midpoint is among the corners exactly where the pair of its ends' numbers is among the ends, so that the
--- program, which sees pairs alone, adds the paper's corners.
+-- program, which sees pairs alone, adds the corners of rule 5.5.
 --   pairIn ks p q    the pair of the numbers of two points
 --   newCorner ks e   the corner that the midpoint of the edge e makes
 -- Laws: added-kept, added-has (any edge), has-midpoint, number-midpoint (where a midpoint is), corners-add (one edge more),
@@ -24,7 +24,7 @@ use Rattle.numbering.specs.Ends.{Splittable, splittable-turned, mid-comm
 use Rattle.numbering.specs.Corners.{noCorner, cornerAt, weightsAt, endsAt, Has, Kept, Midpoint, NumberedCorners, number-there, number-below, number-own, number-injective, has-corner, kept-corner, kept-weights, kept-has, kept-number, weights-coarse}
 
 -- the pair of the numbers of two points
-abbrev pub pairIn : List Corner → Point → Point → Pair
+abbrev pairIn : List Corner → Point → Point → Pair
 pairIn ks p q = sorted (numberIn ks p, numberIn ks q)
 
 -- the corners e have the weights p and q, in either order
@@ -144,7 +144,7 @@ module _ (n : ℕ) (ks : List Corner) (es : List Pair) (c : NumberedCorners n ks
   pair-below : hasb isb es (pairIn ks p q) ≡ true → n + placeIn isb es (pairIn ks p q) < length ks
   pair-below t = omega (arith, has-below isb es (pairIn ks p q) t, c .count)
 
-  pub has-midpoint : hasb sameb (weightsOf ks) (mid p q) ≡ hasb isb es (pairIn ks p q)
+  has-midpoint : hasb sameb (weightsOf ks) (mid p q) ≡ hasb isb es (pairIn ks p q)
   has-midpoint =
       test-ext (hasb sameb (weightsOf ks) (mid p q)) (hasb isb es (pairIn ks p q)) pair-has
       (λ t. rw (← pair-there t) (has-corner ks (n + placeIn isb es (pairIn ks p q)) (pair-below t)))

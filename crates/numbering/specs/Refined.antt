@@ -23,6 +23,7 @@ Both P [] ss = Unit {0}
 Both P (c ∷ cs) [] = Unit {0}
 Both P (c ∷ cs) (s ∷ ss) = P c s × Both P cs ss
 
+-- Rules 4.1, 4.2: s may be the status of c: at most 64, and 0 where c is not regular.
 pub record Follows {A : Type 0} (c : Cell A) (s : ℕ) : Type 0 where
   pub small : s ≤ 64
   pub regular : s ≢ 0 → T (c .regular)
@@ -55,7 +56,7 @@ module _ {A : Type 0} (o : A) (same : A → A → Bool) (es : List (A × A)) whe
       go true e false = rw (e, statusOf) (record { small = omega (arith, pattern-in-six c); regular = λ z. tt })
       go false e r = rw (e, statusOf) (record { small = omega arith; regular = λ z. absurd (z refl) })
 
-  pub status-refined : (f : Cell A → Bool) (cs : List (Cell A)) → Refined cs (map (λ c. statusOf o same es (f c) c) cs)
+  status-refined : (f : Cell A → Bool) (cs : List (Cell A)) → Refined cs (map (λ c. statusOf o same es (f c) c) cs)
   status-refined f [] = tt
   status-refined f (c ∷ cs) = (status-follows (f c) c, status-refined f cs)
 

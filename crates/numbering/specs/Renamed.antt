@@ -35,6 +35,7 @@ EndsIn Q e = Q (e .0) × Q (e .1)
 six : All (λ e. e < 6) edgeNumbers
 six = (omega arith, (omega arith, (omega arith, (omega arith, (omega arith, (omega arith, tt))))))
 
+-- Rules 2.1, 4.1: the edges that a status splits.
 abbrev pub splitNumbers : ℕ → List ℕ
 splitNumbers s = filterb (split (patternOf s)) edgeNumbers
 
@@ -45,6 +46,7 @@ split-numbers s = all-filter (split (patternOf s)) (λ e. e < 6) edgeNumbers six
 abbrev apartCell : {A : Type 0} → A → (A → A → Bool) → List (A × A) → Cell A → Cell A → Bool
 apartCell o same es d c = allb (λ e. heldb same (edges o d) e || not (heldb same es e)) (edges o c)
 
+-- Rule 6.4, over points of any kind.
 unfoldable pub apartOf : {A : Type 0} → A → (A → A → Bool) → List (Cell A) → List ℕ → Bool
 unfolding allb edges heldb redEdges
 apartOf o same cs ss =
@@ -61,13 +63,13 @@ module _ {A B : Type 0} (o : A) (o′ : B) (f : A → B) (Q : A → Type 0) wher
     unfolding mapCell
     corner-map i h = getD-map f (c .points) i o o′ (rw (p .four) h)
 
-    pub edge-in : (e : ℕ) → e < 6 → EndsIn Q (edge o c e)
+    edge-in : (e : ℕ) → e < 6 → EndsIn Q (edge o c e)
     unfolding edge
     edge-in e h =
         let (a, b, _) = middle-ends e h in
         (corner-in (low (middle e)) (omega arith), corner-in (high (middle e)) b)
 
-    pub edge-map : (e : ℕ) → e < 6 → edge o′ (mapCell f c) e ≡ mapEdge f (edge o c e)
+    edge-map : (e : ℕ) → e < 6 → edge o′ (mapCell f c) e ≡ mapEdge f (edge o c e)
     unfolding edge
     edge-map e h =
         let (a, b, _) = middle-ends e h in
@@ -139,7 +141,7 @@ module _ {A B : Type 0} (o : A) (o′ : B) (same : A → A → Bool) (same′ : 
   helds-map es [] p q = refl
   helds-map es (e ∷ l) p q = ap₂ _∷_ (held-map es e p (q .0)) (helds-map es l p (q .1))
 
-  pub pattern-map : (es : List (A × A)) (c : Cell A) → All (EndsIn Q) es → Points Q c
+  pattern-map : (es : List (A × A)) (c : Cell A) → All (EndsIn Q) es → Points Q c
       → pattern o′ same′ (map (mapEdge f) es) (mapCell f c) ≡ pattern o same es c
   unfolding pattern
   pattern-map es c p q = ap bitsOf (ap (map (heldb same′ (map (mapEdge f) es))) (edges-map o o′ f Q c q) ∙ helds-map es (edges o c) p (edges-in o o′ f Q c q))

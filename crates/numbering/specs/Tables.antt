@@ -1,4 +1,4 @@
--- Whole tables: the levels that a program builds over corner numbers are the paper's, under the numbers of the layout. (A
+-- Whole tables: the levels that a program builds over corner numbers are those of rule 4.4, under the numbers of the layout. (A
 -- program that works level by level uses Stages.)
 --   numberLevels n m j es cs ss   at most m levels over numbers, from the cells cs numbered from j on, where es are the ends of
 --                                 the corners so far and ss is the rest of the table
@@ -31,7 +31,8 @@ use Rattle.numbering.specs.Coarse.{coarseNumbers, coarse-numbers}
 use Rattle.numbering.specs.Leaves.{next-leaves}
 use Rattle.numbering.specs.Stages.{Stage, NextStage, stage-start, stage-next, stage-leaves}
 
-unfoldable pub numberLevels : ℕ → ℕ → ℕ → List Pair → List (Cell ℕ) → List ℕ → List (List (Cell ℕ))
+-- Rule 4.4, over numbers.
+unfoldable numberLevels : ℕ → ℕ → ℕ → List Pair → List (Cell ℕ) → List ℕ → List (List (Cell ℕ))
 unfolding endsFrom nextOf
 numberLevels n zero j es cs ss = []
 numberLevels n (suc m) j es [] ss = []
@@ -41,6 +42,7 @@ numberLevels n (suc m) j es (c ∷ cs) ss =
     let es′ = endsFrom es (c ∷ cs) own in
     (c ∷ cs) ∷ numberLevels n m (j + l) es′ (nextOf n es′ j (c ∷ cs) own) (drop l ss)
 
+-- Rules 4.4, 5.5: levels over the numbers of their corners.
 pub record Numbers (n : ℕ) (ks : List Corner) (es : List Pair) (ls : List Level) (ns : List (List (Cell ℕ))) : Type 0 where
   pub cells : ns ≡ map (λ l. numberedCells ks (l .cells)) ls
   pub corners : NumberedCorners n ks es
@@ -55,7 +57,7 @@ corners-append ks (c ∷ cs) [] [] = refl
 corners-append ks (c ∷ cs) (d ∷ ds) [] = refl
 corners-append ks (c ∷ cs) ds (s ∷ ss) = corners-append (addCorners ks (splitEdges [] c s)) cs ds ss
 
-pub ends-append : (es : List Pair) (cs ds : List (Cell ℕ)) (ss : List ℕ)
+ends-append : (es : List Pair) (cs ds : List (Cell ℕ)) (ss : List ℕ)
     → endsFrom es (cs ++ ds) ss ≡ endsFrom (endsFrom es cs (take (length cs) ss)) ds (drop (length cs) ss)
 unfolding endsFrom
 ends-append es [] ds ss = refl
@@ -157,14 +159,14 @@ levels-numbers n zero = claim-none n
 levels-numbers n (suc m) = claim-more n m (levels-numbers n m)
 
 -- A table whose levels are closed, at most eleven; so a sound table.
-abbrev pub tableCorners : ℕ → List (List ℕ) → List ℕ → List Corner
+abbrev tableCorners : ℕ → List (List ℕ) → List ℕ → List Corner
 tableCorners n qs ss = cornersOf n (cellsOf (levelsOf n qs ss)) ss
 
 abbrev pub tableEnds : ℕ → List (List ℕ) → List ℕ → List Pair
 tableEnds n qs ss = endsFrom [] (numberedCells (tableCorners n qs ss) (cellsOf (levelsOf n qs ss))) ss
 
 module _ (n : ℕ) (qs : List (List ℕ)) (ss : List ℕ) (e : All (λ q. length q ≡ 4) qs) (t : T (cellsb n qs)) where
-  pub table-numbers : T (allb closedb (levelsOf n qs ss)) → length (levelsOf n qs ss) ≤ 11
+  table-numbers : T (allb closedb (levelsOf n qs ss)) → length (levelsOf n qs ss) ≤ 11
       → Numbers n (tableCorners n qs ss) (tableEnds n qs ss) (levelsOf n qs ss) (numberLevels n 12 0 [] (coarseNumbers qs) ss)
   unfolding levelsOf cornersOf
   table-numbers u l =

@@ -1,1 +1,1 @@
-// The mesh over corner numbers is the paper's mesh over weights. There is no code here: see specs/.
+// The mesh over corner numbers is the mesh over weights of docs/METHOD.md. There is no code here: see specs/.

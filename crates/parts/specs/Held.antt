@@ -1,4 +1,4 @@
--- The masters and ghosts of a part (document 01, "Parts").
+-- The masters and ghosts of a part (section 15 of the method).
 --   Entry               a master or ghost: its path (the coarse cell, then child numbers down to it), its status, whether it is a ghost
 --   masterb os p c      the part p has the cell c as master
 --   ghostb os p c       the part p has the cell c as ghost

@@ -1,4 +1,4 @@
--- Merging: the masters among the entries of all parts, put in the order of a table, level by level (document 01, "Parts").
+-- Merging: the masters among the entries of all parts, put in the order of a table, level by level (section 15 of the method).
 --   lookup es l            the status of the master with the path l among the entries es; 0 where there is none
 --   childPaths ls ts       the paths one level up of the cells with the paths ls and the statuses ts
 --   gather h es ls         at most h levels of statuses, from the cells with the paths ls on

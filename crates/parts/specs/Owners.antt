@@ -1,4 +1,4 @@
--- Who owns which cell, before a step and after it (document 01, "Parts"). n, qs, ss are corners, coarse cells and status table, os the
+-- Who owns which cell, before a step and after it (section 15 of the method). n, qs, ss are corners, coarse cells and status table, os the
 -- owners: parts are numbers from 1 on.
 --   nthCell c               the cell with the number c
 --   childrenOf c            the numbers of its children

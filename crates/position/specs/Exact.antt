@@ -18,6 +18,7 @@ use lib.Ieee.Back.{round-whole}
 use lib.Ieee.Scale.{round-same}
 use Rattle.position.specs.Position.{coordinateOf}
 
+-- Rule 8.2: the sign.
 abbrev pub negative : ℤ → Bool
 negative (pos n) = false
 negative (negsuc n) = true

@@ -21,11 +21,12 @@ use Rattle.position.specs.declared.Point.{Point}
 use Rattle.position.specs.declared.Position.{Position}
 use Rattle.position.specs.declared.Position.the-variants.{At, Refused}
 
--- "Weighted whole sum cast without loss and divided by 1,024": 1,024 is 1 * 2 ^ 10.
+-- Rule 8.2: the sum as an f64, over 1,024, which is 1 * 2 ^ 10.
 unfoldable pub coordinateOf : ℤ → Float
 unfolding ofInt div
 coordinateOf z = div binary64 (ofInt binary64 z) (fin false 1 (pos 10))
 
+-- Rule 8.2: three of them.
 unfoldable pub pointOf : List ℤ → ℕ → Point
 unfolding coordinateOf
 pointOf sums k =
@@ -35,16 +36,18 @@ pointOf sums k =
       z = coordinateOf (getD sums (3 * k + 2) (pos 0));
     }
 
--- 15: the lent table is shorter than its full length, three sums for each of 16,384 corners.
--- 7: the corner's number is not below the count, or not below 16,384.
+-- Rule 12.8: 15 where the table is shorter than three sums for each of 16,384 corners; 7 where the number is not below the count, or not
+-- below 16,384.
 unfoldable pub cornerAnswer : List ℤ → ℕ → ℕ → Answer
 unfolding refuse
 cornerAnswer sums n k = refuse 15 (leb fullSums (length sums)) (refuse 7 (ltb k n && ltb k mostCorners) answer.Accepted)
 
+-- Rule 12.1: a position, or a number alone.
 unfoldable pub positioned : Answer → Point → Position
 positioned answer.Accepted p = At p
 positioned (answer.Refused c) p = Refused c
 
+-- Rule 12.8: the whole answer.
 unfoldable pub positionOf : List ℤ → ℕ → ℕ → Position
 unfolding positioned cornerAnswer pointOf
 positionOf sums n k = positioned (cornerAnswer sums n k) (pointOf sums k)

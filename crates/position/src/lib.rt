@@ -1,4 +1,4 @@
-// The position of a corner as three f64 numbers (document 01, "Cells, status, numbers").
+// The position of a corner as three f64 numbers (docs/METHOD.md, section 8).
 ghost use mathlib.Core.Path.{_≡_};
 ghost use Prim.Native.Nat.{_<_};
 ghost use lib.ListN.{length, getD};

@@ -1,4 +1,4 @@
--- The new red cells over rows of numbers are the paper's.
+-- The new red cells over rows of numbers are those of rules 7.3 to 7.6.
 --   rowAt cs ss ms j   the row of the cell j
 --   Seen ks cs t       the rows t are those of the cells cs, whose points are all among the corners ks
 -- Laws: all-range (what holds at each number of a range), red-row (the test of a new red cell).

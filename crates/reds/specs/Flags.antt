@@ -28,10 +28,12 @@ unfoldable pub range : ℕ → ℕ → List ℕ
 range k zero = []
 range k (suc m) = k ∷ range (suc k) m
 
+-- Rule 3.2: where each family begins.
 unfoldable pub firstChildren : ℕ → List ℕ → List ℕ
 unfolding firstChild range
 firstChildren m ss = map (firstChild m ss) (range 0 (suc (length ss)))
 
+-- Rule 3.2: the children of a cell, by number.
 unfoldable pub kidsOf : List ℕ → ℕ → List ℕ
 unfolding range
 kidsOf ks k = range (getD ks k 0) (getD ks (suc k) 0 - getD ks k 0)
@@ -39,19 +41,23 @@ kidsOf ks k = range (getD ks k 0) (getD ks (suc k) 0 - getD ks k 0)
 abbrev pub listedb : List ℕ → List ℕ → ℕ → ℕ → Pair → Bool
 listedb xs ys from n e = hasb isb (listed xs ys from n) (sorted e)
 
+-- Rule 7.3, at one child.
 unfoldable pub idleb : List ℕ → List ℕ → List ℕ → (Pair → Bool) → ℕ → Bool
 unfolding allb edges cellAt
 idleb t ss ms held j = (eqb (getD ss j 0) 0 && eqb (getD ms j 0) 2) && allb (λ e. not (held e)) (edges 0 (cellAt t j))
 
+-- Rule 7.5: an edge of the child, not of its parent, is held.
 unfoldable pub touchedb : List ℕ → (Pair → Bool) → ℕ → ℕ → Bool
 unfolding anyb heldb edges cellAt
 touchedb t held g j = anyb (λ e. not (heldb eqb (edges 0 (cellAt t g)) e) && held e) (edges 0 (cellAt t j))
 
+-- Rule 7.5, at one child.
 unfoldable pub pulledb : List ℕ → List ℕ → (Pair → Bool) → ℕ → ℕ → Bool
 unfolding touchedb
 pulledb t ms held g j = eqb (getD ms j 0) 1 || touchedb t held g j
 
 module _ (t ss ms ks : List ℕ) where
+  -- Rules 7.3 to 7.6, over rows.
   unfoldable pub redAtb : (Pair → Bool) → ℕ → Bool
   unfolding idleb pulledb kidsOf allb anyb cellAt
   redAtb held k =
@@ -63,16 +69,19 @@ module _ (t ss ms ks : List ℕ) where
         ]
       ]
 
+  -- Rule 7.2: the flags of some cells of a level.
   unfoldable pub flagsAt : (Pair → Bool) → ℕ → ℕ → List ℕ
   unfolding redAtb range flagOf
   flagsAt held k m = map (λ k. flagOf (redAtb held k)) (range k m)
 
+  -- Rule 7.2: the edges of the new red cells of a level.
   unfoldable pub redsUp : ℕ → ℕ → ℕ → List Pair
   unfolding flagsAt redEdges cellsAt heldb
   redsUp zero first last = []
   redsUp (suc h) first last =
       redEdges 0 (cellsAt t first (last - first)) (flagsAt (heldb eqb (redsUp h last (getD ks last 0))) first (last - first))
 
+  -- Rule 7.2: the flags from this level up.
   unfoldable pub flagsUp : ℕ → ℕ → ℕ → List ℕ
   unfolding flagsAt redsUp heldb
   flagsUp zero first last = []

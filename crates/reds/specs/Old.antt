@@ -43,6 +43,7 @@ pub record Above (t ss ms ks : List ℕ) (h first last : ℕ) (red red′ xs′ 
   pub lists : Lists (listed xs′ ys′ from n) (redsUp t ss ms ks h first last)
   pub few : n ≤ 6 * (length ss - first)
 
+-- Rules 6.1 to 6.4, 7.1: a sound table with its rows, and one mark for each cell.
 pub record Marked (n : ℕ) (mesh rows ss ms ks red : List ℕ) : Type 0 where
   pub accepted : Mesh n mesh
   pub sound : T (soundb n (fours mesh) ss)

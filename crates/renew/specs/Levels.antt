@@ -35,11 +35,12 @@ pub record Olds (m : ℕ) (ss ks : List ℕ) : Type 0 where
   pub statuses : Statuses ss
   pub kids : Kids m ss ks
 
--- the old number of the child i of a cell with new status t and old number o
+-- Rule 3.3: the old number of the child i of a cell with new status t and old number o.
 unfoldable pub oldIn : ℕ → List ℕ → ℕ → ℕ → ℕ → ℕ
 unfolding oldChild
 oldIn m ss t o i = elim (redb t) [ true ↦ oldChild m ss o i | false ↦ none ]
 
+-- Rule 7.7, where the edges of the red cells are listed.
 unfoldable pub listedBy : List Pair → List (Cell ℕ) → List ℕ → List ℕ
 unfolding listedStatus
 listedBy es [] rs = []
@@ -47,6 +48,7 @@ listedBy es (c ∷ cs) [] = []
 listedBy es (c ∷ cs) (r ∷ rs) = listedStatus es (redb r) c ∷ listedBy es cs rs
 
 module _ (fs old rows : List ℕ) (first last : ℕ) where
+  -- Rule 7.2: the flags of a level's cells.
   abbrev pub ownFlags : List ℕ
   ownFlags = redsBy fs (part old first (last - first))
 
@@ -56,6 +58,7 @@ module _ (fs old rows : List ℕ) (first last : ℕ) where
   abbrev pub ownReds : List Pair
   ownReds = redEdges 0 ownCells ownFlags
 
+  -- Rule 7.7: the statuses of a new level.
   abbrev pub ownStatuses : List ℕ
   ownStatuses = listedBy (addPairs [] ownReds) ownCells ownFlags
 

@@ -11,9 +11,11 @@ use Rattle.mesh.specs.Weights.{coarseCells}
 use Rattle.lineage.specs.Olds.{growBy, upTo}
 use Rattle.tables.specs.Sound.{Sound}
 
+-- Rules 7.7, 7.8: the new table, as far as its limits are looked for.
 abbrev pub renewed : ℕ → List (List ℕ) → List ℕ → List ℕ → List (List ℕ)
 renewed n qs ss fs = growBy (length qs) ss fs 12 0 (coarseCells n qs) (upTo (length qs))
 
+-- Rules 7.7, 7.8: the new table, or 8 or 9.
 pub record Result (n : ℕ) (qs : List (List ℕ)) (ss fs rows ps ps′ table : List ℕ) (refusal cells levels mids : ℕ) : Type 0 where
   pub one : (refusal ≡ 0) ⊎ ((refusal ≡ 8) ⊎ (refusal ≡ 9))
   pub high : refusal ≡ 8 → length (renewed n qs ss fs) ≡ 12

@@ -22,46 +22,54 @@ use Rattle.step.specs.Advanced.{Held}
 use Rattle.archive.specs.Tables.{stepsFrom, stepsOf}
 use Rattle.replay.specs.Run.{oneAnswer, oneTable, runTable, restTable, flatAnswer, tablesAnswer}
 
+-- Rules 6.1 to 6.4, 9.2: a sound table with its rows.
 pub record Going (n : ℕ) (mesh rows table : List ℕ) (cells : ℕ) : Type 0 where
   pub held : Held n mesh rows (take cells table)
   pub few : cells ≤ 4096
   pub room : 4096 ≤ length table
 
+-- Rules 10.1, 12.5: a mesh at rest.
 pub record Rested (ps : List ℤ) (mesh rows table : List ℕ) (refusal cells levels : ℕ) : Type 0 where
   pub answer : meshAnswer ps mesh ≡ answerOf refusal
   pub table-is : refusal ≡ 0 → take cells table ≡ restTable (fours mesh)
   pub going : refusal ≡ 0 → Going (cornerCount ps) mesh rows table cells
   pub high : refusal ≡ 0 → length (levelsOf (cornerCount ps) (fours mesh) (take cells table)) ≡ levels
 
+-- Rules 7.7, 7.8: one step, by one mark a cell.
 pub record Stepped (n : ℕ) (mesh old ms rows table : List ℕ) (refusal cells levels : ℕ) : Type 0 where
   pub answer : limitsAnswer n (fours mesh) old ms ≡ answerOf refusal
   pub table-is : refusal ≡ 0 → take cells table ≡ newTable n (fours mesh) old ms
   pub going : refusal ≡ 0 → Going n mesh rows table cells
   pub high : refusal ≡ 0 → length (levelsOf n (fours mesh) (take cells table)) ≡ levels
 
+-- Rule 9.7: the marks of one step.
 abbrev pub partOf : ℕ → ℕ → List (ℕ × ℕ) → List (ℕ × ℕ)
 partOf p e ms = take (e - p) (drop p ms)
 
+-- Rule 12.14, of one step.
 unfoldable pub nextAnswer : ℕ → List (List ℕ) → List ℕ → ℕ → ℕ → List (ℕ × ℕ) → Answer
 unfolding refuse oneAnswer
 nextAnswer n qs t p e ms = refuse 7 (leb p e && leb e (length ms)) (oneAnswer n qs t (partOf p e ms))
 
+-- Rule 12.14: one step of flat tables.
 pub record Next (n : ℕ) (mesh old : List ℕ) (p e : ℕ) (ms : List (ℕ × ℕ)) (rows table : List ℕ) (refusal cells levels : ℕ) : Type 0 where
   pub answer : nextAnswer n (fours mesh) old p e ms ≡ answerOf refusal
   pub table-is : refusal ≡ 0 → take cells table ≡ oneTable n (fours mesh) old (partOf p e ms)
   pub going : refusal ≡ 0 → Going n mesh rows table cells
   pub high : refusal ≡ 0 → length (levelsOf n (fours mesh) (take cells table)) ≡ levels
 
+-- Rule 12.14: the steps in turn.
 pub record Finished (n : ℕ) (mesh old : List ℕ) (ms : List (ℕ × ℕ)) (es rows table : List ℕ) (refusal cells levels : ℕ) : Type 0 where
   pub answer : flatAnswer n (fours mesh) old 0 ms es ≡ answerOf refusal
   pub table-is : refusal ≡ 0 → take cells table ≡ runTable n (fours mesh) old (stepsFrom 0 ms es)
   pub going : refusal ≡ 0 → Going n mesh rows table cells
   pub high : refusal ≡ 0 → length (levelsOf n (fours mesh) (take cells table)) ≡ levels
 
--- the table that flat tables replay to
+-- Rules 9.7, 10.1: the table that flat tables replay to.
 abbrev pub endTable : List ℤ → List ℕ → List ℕ → List ℕ → List ℕ → List ℕ
 endTable ps ts cs ms es = runTable (cornerCount ps) (fours ts) (restTable (fours ts)) (stepsOf cs ms es)
 
+-- Rule 12.14: the mesh, and then the steps in turn.
 pub record Replayed (ps : List ℤ) (ts cs ms es table : List ℕ) (refusal cells levels : ℕ) : Type 0 where
   pub answer : tablesAnswer ps ts cs ms es ≡ answerOf refusal
   pub counted : refusal ≡ 0 → length (endTable ps ts cs ms es) ≡ cells

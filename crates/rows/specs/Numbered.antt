@@ -21,6 +21,7 @@ use Rattle.mesh.specs.Cells.{Cell, corner, redb, patternOf, children}
 use Rattle.mesh.specs.Layout.{splitEdges}
 use Rattle.edges.specs.Pairs.{Pair, sorted, isb, addPairs}
 
+-- Rule 9.2: the cell of a row.
 unfoldable pub cellAt : List ℕ → ℕ → Cell ℕ
 cellAt t k =
     record {
@@ -30,6 +31,7 @@ cellAt t k =
       points = getD t (8 * k + 4) 0 ∷ getD t (8 * k + 5) 0 ∷ getD t (8 * k + 6) 0 ∷ getD t (8 * k + 7) 0 ∷ [];
     }
 
+-- Rule 9.2: of consecutive rows.
 unfoldable pub cellsAt : List ℕ → ℕ → ℕ → List (Cell ℕ)
 unfolding cellAt
 cellsAt t k zero = []
@@ -38,12 +40,14 @@ cellsAt t k (suc m) = cellsAt t k m ++ (cellAt t (k + m) ∷ [])
 abbrev pub part : {A : Type 0} → List A → ℕ → ℕ → List A
 part l k m = take m (drop k l)
 
+-- Rule 5.5, by the ends' numbers: pairs by first appearance.
 unfoldable pub endsFrom : List Pair → List (Cell ℕ) → List ℕ → List Pair
 unfolding addPairs splitEdges
 endsFrom es [] ss = es
 endsFrom es (c ∷ cs) [] = es
 endsFrom es (c ∷ cs) (s ∷ ss) = endsFrom (addPairs es (splitEdges 0 c s)) cs ss
 
+-- Rule 5.5: a midpoint's number, found by its ends.
 unfoldable pub pointAt : ℕ → List Pair → Cell ℕ → ℕ → ℕ
 unfolding low high placeIn isb sorted
 pointAt n es c d =
@@ -52,17 +56,20 @@ pointAt n es c d =
       | false ↦ n + placeIn isb es (sorted (corner 0 c (low d), corner 0 c (high d)))
     ]
 
+-- Rules 3.2, 4.4: one level up, over numbers.
 unfoldable pub nextOf : ℕ → List Pair → ℕ → List (Cell ℕ) → List ℕ → List (Cell ℕ)
 unfolding children pointAt
 nextOf n es k [] ss = []
 nextOf n es k (c ∷ cs) [] = []
 nextOf n es k (c ∷ cs) (s ∷ ss) = children k c s (pointAt n es c) ++ nextOf n es (suc k) cs ss
 
+-- Rule 9.2: the rows of a family from child i on.
 unfoldable pub childRows : ℕ → ℕ → Bool → (ℕ → ℕ) → ℕ → List (List ℕ) → List ℕ
 unfolding one-if
 childRows l k r f i [] = []
 childRows l k r f i (d ∷ ds) = (l ∷ k ∷ i ∷ one-if r ∷ map f d) ++ childRows l k r f (suc i) ds
 
+-- Rules 4.1, 9.2: the rows of a cell's family; a leaf has none.
 unfoldable pub rowsOf : ℕ → ℕ → ℕ → (ℕ → ℕ) → List ℕ
 unfolding childRows patternOf
 rowsOf l k s f = elim (eqb s 0) [ true ↦ [] | false ↦ childRows l k (redb s) f 0 (family (patternOf s)) ]

@@ -11,9 +11,11 @@ use Rattle.rows.specs.Numbered.{cellAt, cellsAt}
 use Rattle.edges.specs.Pairs.{Pair}
 use Rattle.closure.specs.Ready.{listedApart}
 
+-- Rule 3.2: the parent of a cell that is not regular comes before it.
 pub record Parents (t : List ℕ) (last : ℕ) : Type 0 where
   pub below : (k : ℕ) → k < last → cellAt t k .regular ≡ false → getD t (8 * k + 1) 0 < last
 
+-- Rule 6.4 at each of the cells below `last`.
 unfoldable pub apartAll : List Pair → List ℕ → ℕ → Bool
 unfolding allb listedApart cellsAt
 apartAll es t last = allb (listedApart es t) (cellsAt t 0 last)

@@ -1,4 +1,4 @@
-// The third condition of soundness: no edge of a green cell's child, unless also the green cell's own, is an edge of a red cell.
+// The third condition of soundness: an edge that a green cell's child has and the green cell has not is held by no red cell.
 use rows::Ends;
 ghost use mathlib.Core.Path.{_≡_};
 ghost use mathlib.Core.Bool.{_&&_, _||_, not, false};

@@ -1,4 +1,4 @@
--- What the owners' rule keeps (document 01, "Parts"), for two sound tables ss and ts over one mesh, of which the second has the owners
+-- What the owners' rule keeps (section 15 of the method), for two sound tables ss and ts over one mesh, of which the second has the owners
 -- ownersAfter os ts.
 -- Laws: coarse-keeps (a coarse cell keeps its owner), family-keeps (a family keeps its owner, cut anew or not), family-first (a first
 -- family is with its parent's owner).

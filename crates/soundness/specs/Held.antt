@@ -23,7 +23,7 @@ use Rattle.lattice.specs.Levels.{IfRegular}
 use Rattle.carriers.specs.Joins.{Edge, held-first, held-second, held-either}
 use Rattle.carriers.specs.Refined.{StatusIn, status-regular}
 
--- the cell i is red and has the edge e
+-- Rule 6.2: a red cell has the edge.
 pub record RedHas (cs : List (Cell Point)) (ss : List ℕ) (e : Edge) : Type 0 where
   pub i : ℕ
   pub below : i < length cs

@@ -1,5 +1,5 @@
 -- New cells and old ones, for any list of new levels that is the step's.
---   Meets n qs ss ms ls   the laws of crate `same` on the new levels ls
+--   Meets n qs ss ms ls   the laws of crate `lineage` on the new levels ls
 -- Laws: meets-step (the step's table), point-same, edge-same, edges-alike (cells with the same points).
 use mathlib.Core.Path.{_≡_, refl, sym, ap, subst}
 use mathlib.Core.Logic.{_⊎_}

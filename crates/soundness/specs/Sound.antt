@@ -20,6 +20,7 @@ use Rattle.mesh.specs.Table.{Level, next, levelsOf, cellsOf, closedb, apartb, s
 use Rattle.lattice.specs.Levels.{noLevel}
 use Rattle.lineage.specs.Levels.{levels-next}
 
+-- Rules 6.1 to 6.4, one by one.
 pub record Sound (n : ℕ) (qs : List (List ℕ)) (ss : List ℕ) : Type 0 where
   pub many : length ss ≡ length (cellsOf (levelsOf n qs ss))
   pub high : length (levelsOf n qs ss) ≤ 11

@@ -24,6 +24,7 @@ use Rattle.soundness.specs.Apart.{parentOf}
 use Rattle.soundness.specs.Sound.{lv}
 use Rattle.base.specs.Each.{default-free}
 
+-- Rule 6.2: one of a level.
 pub record RedAt (n : ℕ) (qs : List (List ℕ)) (ss : List ℕ) (j : ℕ) (e : Edge) : Type 0 where
   pub u : ℕ
   pub below : u < length (lv n qs ss j .cells)
@@ -32,6 +33,7 @@ pub record RedAt (n : ℕ) (qs : List (List ℕ)) (ss : List ℕ) (j : ℕ) (e :
   pub small : y < 6
   pub joins : T (joinsb sameb e (edge [] (getD (lv n qs ss j .cells) u noCell) y))
 
+-- Rule 6.4: one of any level.
 pub record RedSomewhere (n : ℕ) (qs : List (List ℕ)) (ss : List ℕ) (e : Edge) : Type 0 where
   pub j : ℕ
   pub high : j < length (levelsOf n qs ss)

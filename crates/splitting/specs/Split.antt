@@ -1,4 +1,4 @@
--- The task that a split table is, and that its flags are those of the step (document 01, "One step", "Parts").
+-- The task that a split table is, and that its flags are those of the step (sections 7 and 15 of the method).
 --   newEdges k      the edges of the new red cells of level k; newRedRow k the test that chooses these cells
 --   Slots           numbers for the edges of each level: one for each edge, whichever cells have it
 --   Owners          children of one cell have its family's owner

@@ -13,11 +13,13 @@ use Rattle.tables.specs.Sound.{Mesh, Sound, tableCells, tableCorners}
 use Rattle.base.specs.Refuse.{answerOf}
 use Rattle.mesh.specs.Answers.{newTable, limitsAnswer}
 
+-- Rules 6.1 to 6.4, 9.2: a sound table over an accepted mesh, with its rows.
 pub record Held (n : ℕ) (mesh rows ss : List ℕ) : Type 0 where
   pub accepted : Mesh n mesh
   pub sound : T (soundb n (fours mesh) ss)
   pub table : take (8 * length (tableCells n (fours mesh) ss)) rows ≡ cellTable (tableCorners n (fours mesh) ss) (tableCells n (fours mesh) ss)
 
+-- Rules 7.7, 7.8: the answer, and the new table with its rows and ends.
 pub record Advanced (n : ℕ) (mesh ss ms rows ps qs table : List ℕ) (refusal cells levels mids : ℕ) : Type 0 where
   pub answer : limitsAnswer n (fours mesh) ss ms ≡ answerOf refusal
   pub counted : refusal ≡ 0 → length (newTable n (fours mesh) ss ms) ≡ cells

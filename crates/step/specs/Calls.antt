@@ -1,4 +1,4 @@
--- The step's call: what it answers, and what the lent table holds after (document 01, "One step", "Who can cause a refusal"). A mesh
+-- The step's call: what it answers, and what the lent table holds after (docs/METHOD.md, sections 7 and 12). A mesh
 -- is ps and ts, the old table ss, the marks ms.
 --   markb s m              the mark m may stand at a cell with status s
 --   marksb ss ms           refusal 7: the marks fit the table
@@ -19,11 +19,12 @@ use Rattle.step.specs.declared.Stepped.{Stepped}
 use Rattle.step.specs.declared.Stepped.the-variants as stepped
 use Rattle.mesh.specs.Answers.{markedAnswer}
 
--- "15 comes first .., then by number"
+-- Rule 12.11: 15, 1 to 6, 7, 8, 9.
 unfoldable pub stepAnswer : List ℤ → List ℕ → List ℕ → List ℕ → List ℕ → Answer
 unfolding refuse markedAnswer
 stepAnswer ps ts ss ms table = refuse 15 (leb mostCells (length table)) (markedAnswer ps ts ss ms)
 
+-- Rule 12.1: how many cells, or a number alone.
 unfoldable pub steppedOf : Answer → ℕ → Stepped
 steppedOf Accepted k = stepped.Cells k
 steppedOf (Refused n) k = stepped.Refused n

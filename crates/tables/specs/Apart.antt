@@ -1,4 +1,4 @@
--- The third condition over rows is the paper's over weights.
+-- The third condition over rows is rule 6.4 over weights.
 -- Assumes nothing.
 use mathlib.Core.Path.{_≡_, refl, sym, _∙_, ap, ap₂, fun-ext}
 use mathlib.Core.Bool.{Bool, true, false, _&&_, _||_, not}

@@ -14,7 +14,7 @@ use Rattle.edges.specs.Table.{Grown}
 use Rattle.rows.specs.Numbered.{cellsAt, part}
 use Rattle.mesh.specs.Table.{sizes}
 
--- a status table that is short enough, of statuses
+-- Rules 3.4, 4.1: a status table that is short enough, of statuses.
 pub record Statuses (ss : List ℕ) : Type 0 where
   pub few : length ss ≤ 4096
   pub fit : allb (λ s. leb s 64) ss ≡ true
@@ -41,6 +41,7 @@ module _ (rows ss : List ℕ) (first last : ℕ) (xs ys : List ℕ) (n : ℕ) (x
     pub grown : Grown xs ys n n (ownReds rows ss first last) xs′ ys′ heads′ links′ n′
     pub reds : Reds xs′ ys′ heads′ links′ n′ (last + size)
 
+  -- Rules 6.2, 6.3: what the check of a level tells.
   pub record Checked : Type 0 where
     pub short : length ss < last → ok ≡ false
     pub more : last ≤ length ss → length ss < last + sizes (ownStatuses rows ss first last) → ok ≡ false

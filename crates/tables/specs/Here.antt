@@ -1,4 +1,4 @@
--- How far the building of a table has come: the paper's levels and corners beside the program's tables.
+-- How far the building of a table has come: levels and corners by weights beside the program's tables.
 --   Child n c   an irregular cell has one of the first n cells as parent
 --   Mids ..     the table of new corners
 --   Here ..     the levels below j are closed and laid out; the cells of level j are the rows from first to last

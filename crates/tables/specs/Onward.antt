@@ -125,7 +125,7 @@ module _ (n : ℕ) (qs : List (List ℕ)) (ss : List ℕ) (j first last : ℕ) (
   many : last - first ≡ length (h .cells)
   many = omega (arith, h .end)
 
-  pub own-is : ownStatuses rows ss first last ≡ part ss first (length (h .cells))
+  own-is : ownStatuses rows ss first last ≡ part ss first (length (h .cells))
   own-is = rw many
 
   halves : numberedCells (h .corners) (before ++ h .cells) ≡ numberedCells (h .corners) before ++ numberedCells (h .corners) (h .cells)
@@ -192,7 +192,7 @@ module _ (n : ℕ) (qs : List (List ℕ)) (ss : List ℕ) (j first last : ℕ) (
         let b : drop first (take last ss) ≡ own = rw (h .end) (drop-take first (length (h .cells)) ss) in
         rw halves (red-append (numberedCells (h .corners) before) (numberedCells (h .corners) (h .cells)) (take last ss) ∙ rw (counted, a, b))
 
-    pub reds-after : Lists (listed xs′ ys′ 0 k′) (redEdges 0 (numberedCells (h .corners) (before ++ h .cells)) (take last ss))
+    reds-after : Lists (listed xs′ ys′ 0 k′) (redEdges 0 (numberedCells (h .corners) (before ++ h .cells)) (take last ss))
     reds-after =
         record {
           has = λ p.

@@ -1,5 +1,5 @@
 -- What the examination of a table leaves where the table is sound.
---   tableCells, tableCorners   the paper's cells and corners of a table
+--   tableCells, tableCorners   the cells and corners of a table, by weights
 --   Mesh n mesh  an accepted mesh of n corners, as far as it matters here
 --   unlessSound b  the refusal of a table: 6 where it is not sound
 --   Examined ..  the refusal, and where there is none
@@ -19,12 +19,15 @@ use Rattle.mesh.specs.Layout.{Corner, cornersOf, cellTable}
 use Rattle.edges.specs.Table.{listed}
 use Rattle.numbering.specs.Corners.{NumberedCorners}
 
+-- Rule 4.4.
 abbrev pub tableCells : ℕ → List (List ℕ) → List ℕ → List (Cell Point)
 tableCells n qs ss = cellsOf (levelsOf n qs ss)
 
+-- Rule 5.5.
 abbrev pub tableCorners : ℕ → List (List ℕ) → List ℕ → List Corner
 tableCorners n qs ss = cornersOf n (tableCells n qs ss) ss
 
+-- Rules 9.2, 9.3: rows and ends of a sound table.
 pub record Sound (n : ℕ) (qs : List (List ℕ)) (ss rows ps qs′ : List ℕ) (cells levels m : ℕ) : Type 0 where
   pub counted : length (tableCells n qs ss) ≡ cells
   pub high : length (levelsOf n qs ss) ≡ levels
@@ -34,7 +37,7 @@ pub record Sound (n : ℕ) (qs : List (List ℕ)) (ss rows ps qs′ : List ℕ) 
   pub table : take (8 * cells) rows ≡ cellTable (tableCorners n qs ss) (tableCells n qs ss)
   pub corners : NumberedCorners n (tableCorners n qs ss) (listed ps qs′ 0 m)
 
--- an accepted mesh, as far as it matters here
+-- Rules 1.2, 1.4: an accepted mesh, as far as it matters here.
 pub record Mesh (n : ℕ) (mesh : List ℕ) : Type 0 where
   pub whole : length mesh % 4 ≡ 0
   pub few : length mesh ≤ 1024
@@ -46,6 +49,7 @@ unfoldable pub unlessSound : Bool → ℕ
 unlessSound true = 0
 unlessSound false = 6
 
+-- Rules 6.1 to 6.4: the answer, and where it is yes the rest.
 pub record Examined (n : ℕ) (qs : List (List ℕ)) (ss rows ps qs′ : List ℕ) (refusal cells levels m : ℕ) : Type 0 where
   pub answer : refusal ≡ unlessSound (soundb n qs ss)
   pub sound : refusal ≡ 0 → Sound n qs ss rows ps qs′ cells levels m

@@ -10,7 +10,7 @@ use Rattle.base.specs.Refuse.{refuse}
 use Rattle.base.specs.declared.Answer.{Answer}
 use Rattle.cutting.specs.Answer.{cutOf}
 
--- a family has at most eight children of four digits
+-- Rule 12.4: 15 first, since a family has at most eight children of four digits.
 unfoldable pub cutAnswer : ℕ → List ℕ → Answer
 unfolding refuse cutOf
 cutAnswer p digits = refuse 15 (leb 32 (length digits)) (cutOf p .answer)
