@@ -22,7 +22,8 @@ module _ {t : List ℕ} {c at level : ℕ} (o : On t c at level) where
       let p : parentIn t at < at = u .up at (omega (arith, o .near)) h in
       let f : c - level ≡ suc (c - (level + 1)) = omega (arith, o .near, p) in
       let z : levelIn t at ≡ 0 → ⊥ = λ e. omega (arith, h, e) in
-      let e : climbFrom t (c - level) at ≡ raised (climbFrom t (c - (level + 1)) (parentIn t at)) = rw f (climb-up t (c - (level + 1)) at z) in
+      let e : climbFrom t (c - level) at ≡ raised (climbFrom t (c - (level + 1)) (parentIn t at)) = rw f
+      (climb-up t (c - (level + 1)) at z) in
       record {
         near = omega (arith, o .near, p);
         same = sym (ap (λ (a : Ancestor). a .coarse) e) ∙ o .same;

@@ -34,15 +34,22 @@ module _ {A : Type 0} (l m : List (Cell A)) where
   old-child k h c =
       let e : parentAt (l ++ m) k ≡ parentAt l k = ap (λ (d : Cell A). d .parent) (front k h) in
       let p : linkedPath (l ++ m) k ≡ linkedPath l k = ap (λ (d : Cell A). d .path) (front k h) in
-      let q : linkedPath (l ++ m) (parentAt l k) ≡ linkedPath l (parentAt l k) = ap (λ (d : Cell A). d .path) (front (parentAt l k) (omega (arith, c .below))) in
-      record { below = rw e (c .below); number = c .number; path = p ∙ c .path ∙ ap (λ (r : List ℕ). r ++ (c .number ∷ [])) (sym q ∙ ap (linkedPath (l ++ m)) (sym e)) }
+      let q : linkedPath (l ++ m) (parentAt l k) ≡ linkedPath l (parentAt l k) = ap (λ (d : Cell A). d .path)
+      (front (parentAt l k) (omega (arith, c .below))) in
+      record {
+        below = rw e (c .below);
+        number = c .number;
+        path = p ∙ c .path ∙ ap (λ (r : List ℕ). r ++ (c .number ∷ []))
+            (sym q ∙ ap (linkedPath (l ++ m)) (sym e));
+      }
 
   new-child : (j : ℕ) → Kid l (getD m j noCell) → Descends (l ++ m) (length l + j)
   new-child j c =
       let w : getD (l ++ m) (length l + j) noCell ≡ getD m j noCell = getD-append-add l m j noCell in
       let e : parentAt (l ++ m) (length l + j) ≡ parentAt m j = ap (λ (d : Cell A). d .parent) w in
       let p : linkedPath (l ++ m) (length l + j) ≡ linkedPath m j = ap (λ (d : Cell A). d .path) w in
-      let q : linkedPath (l ++ m) (parentAt m j) ≡ linkedPath l (parentAt m j) = ap (λ (d : Cell A). d .path) (front (parentAt m j) (c .below)) in
+      let q : linkedPath (l ++ m) (parentAt m j) ≡ linkedPath l (parentAt m j) = ap (λ (d : Cell A). d .path)
+      (front (parentAt m j) (c .below)) in
       record {
         below = omega (arith, e, c .below);
         number = c .number;
@@ -54,7 +61,8 @@ module _ {A : Type 0} (l m : List (Cell A)) where
     where
       old : (k : ℕ) → k < length l → (linkedPath (l ++ m) k ≡ k ∷ []) ⊎ Descends (l ++ m) k
       old k h =
-          ⊎-elim (λ (e : linkedPath l k ≡ k ∷ []). inl (ap (λ (d : Cell A). d .path) (front k h) ∙ e)) (λ (c : Descends l k). inr (old-child k h c))
+          ⊎-elim (λ (e : linkedPath l k ≡ k ∷ []). inl (ap (λ (d : Cell A). d .path) (front k h) ∙ e))
+          (λ (c : Descends l k). inr (old-child k h c))
           (o .link k h)
 
       go : (k : ℕ) → k < length (l ++ m) → (b : Bool) → ltb k (length l) ≡ b → (linkedPath (l ++ m) k ≡ k ∷ []) ⊎ Descends (l ++ m) k
@@ -88,8 +96,10 @@ next-kids l before (c ∷ cs) (s ∷ ss) e =
     let h : length before < length l = omega (arith, ap length e, length-append before (c ∷ cs)) in
     let p : linkedPath l (length before) ≡ c .path = rw e (ap (λ (d : Cell Point). d .path) (getD-append-seam before c cs noCell)) in
     let w : length (before ++ (c ∷ [])) ≡ suc (length before) = omega (arith, length-append before (c ∷ [])) in
-    let i : All (Kid l) (next (suc (length before)) cs ss) = rw w at (next-kids l (before ++ (c ∷ [])) cs ss (e ∙ sym (append-snoc before c cs))) in
-    all-append (Kid l) (children (length before) c s (point c)) (next (suc (length before)) cs ss) (kids l (length before) c h p s (point c)) i
+    let i : All (Kid l) (next (suc (length before)) cs ss) = rw w at
+    (next-kids l (before ++ (c ∷ [])) cs ss (e ∙ sym (append-snoc before c cs))) in
+    all-append (Kid l) (children (length before) c s (point c)) (next (suc (length before)) cs ss)
+    (kids l (length before) c h p s (point c)) i
 
 levels-linked : (f : ℕ) (before cs : List (Cell Point)) (ss : List ℕ) → Linked before → Linked (before ++ cs)
     → Linked (before ++ cellsOf (levels f (length before) cs ss))
@@ -101,7 +111,8 @@ levels-linked (suc f) before (c ∷ cs) ss o a =
     let up = next (length before) (c ∷ cs) (take m ss) in
     let w : length (before ++ (c ∷ cs)) ≡ length before + m = length-append before (c ∷ cs) in
     let i : Linked ((before ++ (c ∷ cs)) ++ cellsOf (levels f (length before + m) up (drop m ss))) =
-    rw w at (levels-linked f (before ++ (c ∷ cs)) up (drop m ss) a (grown (before ++ (c ∷ cs)) up a (next-kids (before ++ (c ∷ cs)) before (c ∷ cs) (take m ss) refl))) in
+    rw w at (levels-linked f (before ++ (c ∷ cs)) up (drop m ss) a
+    (grown (before ++ (c ∷ cs)) up a (next-kids (before ++ (c ∷ cs)) before (c ∷ cs) (take m ss) refl))) in
     rw append-assoc at i
 
 coarse-path : (n i : ℕ) (qs : List (List ℕ)) (k : ℕ) → k < length (coarseFrom n i qs) → linkedPath (coarseFrom n i qs) k ≡ (i + k) ∷ []
@@ -130,12 +141,14 @@ map-linked {A} {B} f cs l = record { link = λ k h. go k (l .link k (omega (arit
     parent-same : (k : ℕ) → parentAt (map (mapCell f) cs) k ≡ parentAt cs k
     parent-same k = ap (λ (c : Cell B). c .parent) (List·getD-map (mapCell f) cs k noCell)
 
-    go : (k : ℕ) → (linkedPath cs k ≡ k ∷ []) ⊎ Descends cs k → (linkedPath (map (mapCell f) cs) k ≡ k ∷ []) ⊎ Descends (map (mapCell f) cs) k
+    go : (k : ℕ) → (linkedPath cs k ≡ k ∷ []) ⊎ Descends cs k → (linkedPath (map (mapCell f) cs) k ≡ k ∷ []) ⊎ Descends (map (mapCell f) cs)
+        k
     go k (inl e) = inl (path-same k ∙ e)
     go k (inr c) =
         inr
         record {
           below = rw (parent-same k) (c .below);
           number = c .number;
-          path = path-same k ∙ c .path ∙ ap (λ (r : List ℕ). r ++ (c .number ∷ [])) (sym (path-same (parentAt cs k)) ∙ ap (linkedPath (map (mapCell f) cs)) (sym (parent-same k)));
+          path = path-same k ∙ c .path ∙ ap (λ (r : List ℕ). r ++ (c .number ∷ []))
+              (sym (path-same (parentAt cs k)) ∙ ap (linkedPath (map (mapCell f) cs)) (sym (parent-same k)));
         }

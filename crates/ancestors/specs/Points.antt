@@ -26,7 +26,8 @@ unfolding choose
 choose-size zero l = (refl, tt)
 choose-size (suc n) [] = tt
 choose-size (suc n) (x ∷ l) =
-    all-append (Sized (suc n)) (map (λ (t : List ℕ). x ∷ t) (choose n l)) (choose (suc n) l) (all-cons n x (choose n l) (choose-size n l)) (choose-size (suc n) l)
+    all-append (Sized (suc n)) (map (λ (t : List ℕ). x ∷ t) (choose n l)) (choose (suc n) l) (all-cons n x (choose n l) (choose-size n l))
+    (choose-size (suc n) l)
 
 all-filter : {A : Type 0} (P : A → Type 0) (f : A → Bool) (l : List A) → All P l → All P (filterb f l)
 unfolding filterb
@@ -41,7 +42,8 @@ family-size : (p : ℕ) → All (Sized 4) (family p)
 unfolding family
 family-size p = all-filter (Sized 4) (childb (present p)) (choose 4 (present p)) (choose-size 4 (present p))
 
-from-four : {A : Type 0} (k : ℕ) (c : Cell A) (r : Bool) (f : ℕ → A) (i : ℕ) (ds : List (List ℕ)) → All (Sized 4) ds → All Four (childrenFrom k c r f i ds)
+from-four : {A : Type 0} (k : ℕ) (c : Cell A) (r : Bool) (f : ℕ → A) (i : ℕ) (ds : List (List ℕ)) → All (Sized 4) ds
+    → All Four (childrenFrom k c r f i ds)
 unfolding childrenFrom
 from-four k c r f i [] a = tt
 from-four k c r f i (d ∷ ds) a = (length-map d f ∙ a .0, from-four k c r f (suc i) ds (a .1))

@@ -23,7 +23,8 @@ rows-map ks [] = refl
 rows-map ks (c ∷ cs) = ap (λ (l : List ℕ). rowOf (mapCell (numberIn ks) c) ++ l) (rows-map ks cs)
 
 -- the rows of linked cells, over the numbers of their corners
-module _ (ks : List Corner) (cs : List (Cell Point)) (l : Linked cs) (four : All Four cs) (t : List ℕ) (rows : take (8 * length cs) t ≡ cellTable ks cs) where
+module _ (ks : List Corner) (cs : List (Cell Point)) (l : Linked cs) (four : All Four cs) (t : List ℕ)
+    (rows : take (8 * length cs) t ≡ cellTable ks cs) where
   numbered : List (Cell ℕ)
   numbered = map (mapCell (numberIn ks)) cs
 
@@ -55,7 +56,8 @@ module _ (ks : List Corner) (cs : List (Cell Point)) (l : Linked cs) (four : All
 
 -- the table that a status table over cells of four corners is laid out as
 module _ (n : ℕ) (qs : List (List ℕ)) (ss : List ℕ) (four : All (λ q. length q ≡ 4) qs) (ks : List Corner) (t : List ℕ)
-    (rows : take (8 * length (cellsOf (levelsOf n qs ss))) t ≡ cellTable ks (cellsOf (levelsOf n qs ss))) (c : ℕ) (h : c < length (cellsOf (levelsOf n qs ss))) where
+    (rows : take (8 * length (cellsOf (levelsOf n qs ss))) t ≡ cellTable ks (cellsOf (levelsOf n qs ss))) (c : ℕ)
+    (h : c < length (cellsOf (levelsOf n qs ss))) where
   pub table-upward : Upward t (c + 1)
   table-upward = rows-upward ks (cellsOf (levelsOf n qs ss)) (cells-linked n qs ss) (cells-four n qs ss four) t rows c h
 

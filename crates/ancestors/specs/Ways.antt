@@ -37,7 +37,8 @@ module _ (cs : List (Cell ℕ)) (l : Linked cs) (four : All Four cs) (t : List �
 
   held : (k i : ℕ) → k < length cs → i < 8 → getD t (8 * k + i) 0 ≡ getD (rowOf (getD cs k noCell)) i 0
   held k i h g =
-      sym (getD-take (8 * length cs) t (8 * k + i) 0 (omega arith)) ∙ ap (λ (m : List ℕ). getD m (8 * k + i) 0) rows ∙ row-at cs four k i h g
+      sym (getD-take (8 * length cs) t (8 * k + i) 0 (omega arith)) ∙ ap (λ (m : List ℕ). getD m (8 * k + i) 0) rows
+      ∙ row-at cs four k i h g
 
   pub level-held : (k : ℕ) → k < length cs → levelIn t k ≡ pred (length (linkedPath cs k))
   unfolding rowOf
@@ -56,7 +57,8 @@ module _ (cs : List (Cell ℕ)) (l : Linked cs) (four : All Four cs) (t : List �
 
   way : (f k : ℕ) → k ≤ f → k < length cs → climbFrom t f k ≡ ancestorOf (getD cs k noCell)
   way zero k g h =
-      ⊎-elim (λ (e : linkedPath cs k ≡ k ∷ []). climb-here t zero k (level-held k h ∙ rw e) ∙ rw e) (λ (c : Descends cs k). absurd (omega (arith, c .below)))
+      ⊎-elim (λ (e : linkedPath cs k ≡ k ∷ []). climb-here t zero k (level-held k h ∙ rw e) ∙ rw e)
+      (λ (c : Descends cs k). absurd (omega (arith, c .below)))
       (l .link k h)
   way (suc f) k g h =
       ⊎-elim (λ (e : linkedPath cs k ≡ k ∷ []). climb-here t (suc f) k (level-held k h ∙ rw e) ∙ rw e)
@@ -65,7 +67,8 @@ module _ (cs : List (Cell ℕ)) (l : Linked cs) (four : All Four cs) (t : List �
       let b : p < length cs = omega (arith, c .below) in
       let some : 0 < length (linkedPath cs p) = path-some cs l p b in
       let up : levelIn t k ≡ 0 → ⊥ =
-      λ z. let w : _≡_ {A = ℕ} 0 (pred (length (linkedPath cs p ++ (c .number ∷ [])))) = sym z ∙ level-held k h ∙ rw (c .path) in omega (arith, w, length-append (linkedPath cs p) (c .number ∷ [])) in
+      λ z. let w : _≡_ {A = ℕ} 0 (pred (length (linkedPath cs p ++ (c .number ∷ [])))) = sym z ∙ level-held k h ∙ rw (c .path) in
+      omega (arith, w, length-append (linkedPath cs p) (c .number ∷ [])) in
       climb-up t f k up ∙ ap (λ (q : ℕ). raised (climbFrom t f q)) (parent-held k h) ∙ ap raised (way f p (omega (arith, c .below)) b)
       ∙ child-ancestor (linkedPath cs p) (c .number) some ∙ rw (c .path))
       (l .link k h)

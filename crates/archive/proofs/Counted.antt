@@ -55,7 +55,8 @@ module _ (bs : List ℕ) {v t m g : ℕ} (c : Counts (jobOf bs) v t m g) where
   pub cells-many-are : 4 * t ≡ length (cellRecords (length bs) (drop (13 * v) bs) .0)
   cells-many-are = sym (c .cells-are) ∙ ap (λ (l : List ℕ). length l) cells-are
 
-  pub steps-fit : T (formb bs) → {ps : List ℤ} {cs ms ks es : List ℕ} → LoadRoom (jobOf bs) ps cs ms ks es → StepsFit bs (13 * v + 9 * t) ms ks es
+  pub steps-fit : T (formb bs) → {ps : List ℤ} {cs ms ks es : List ℕ} → LoadRoom (jobOf bs) ps cs ms ks es
+      → StepsFit bs (13 * v + 9 * t) ms ks es
   steps-fit w r =
       let n : length bs ≤ 65536 = form-short bs w in
       record {

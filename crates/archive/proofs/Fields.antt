@@ -16,11 +16,19 @@ use Rattle.archive.specs.Form.{whole, i32At, u16At, startsb, cornerRecor
 use Rattle.archive.specs.Writing.{corners-first, cell-records-first}
 use Rattle.archive.specs.Records.{records-fit, corners-none, cells-none, corners-many, cells-many}
 
-pub whole-four : (bs : List ℕ) (at : ℕ) → at + 4 ≤ length bs → whole 2 (drop at bs) + 65536 * whole 2 (drop (at + 2) bs) ≡ whole 4 (drop at bs)
+pub whole-four : (bs : List ℕ) (at : ℕ) → at + 4 ≤ length bs → whole 2 (drop at bs) + 65536 * whole 2 (drop (at + 2) bs) ≡ whole 4
+    (drop at bs)
 unfolding whole
 whole-four bs at h =
     let k : at + 2 ≡ suc (suc at) = omega arith in
-    rw (k, drop-cons bs at 0 (omega arith), drop-cons bs (suc at) 0 (omega arith), drop-cons bs (suc (suc at)) 0 (omega arith), drop-cons bs (suc (suc (suc at))) 0 (omega arith))
+    rw (
+      k,
+      drop-cons bs at 0 (omega arith),
+      drop-cons bs (suc at) 0 (omega arith),
+      drop-cons bs (suc (suc at)) 0 (omega arith),
+      drop-cons bs
+          (suc (suc (suc at))) 0 (omega arith),
+    )
     (omega arith)
 
 abbrev cornerPlace : ℕ → ℕ
@@ -40,13 +48,15 @@ module _ (bs : List ℕ) (x y z : ℤ) (ps : List ℤ)
       let e : 13 + cornerPlace k ≡ cornerPlace (suc (suc (suc k))) = omega arith in
       i k (omega arith) ∙ rw (drop-drop (cornerPlace k) 13 bs, e)
 
-pub corner-at : (f : ℕ) (bs : List ℕ) (k : ℕ) → k < length (cornerRecords f bs .0) → getD (cornerRecords f bs .0) k (pos 0) ≡ i32At bs (cornerPlace k)
+pub corner-at : (f : ℕ) (bs : List ℕ) (k : ℕ) → k < length (cornerRecords f bs .0) → getD (cornerRecords f bs .0) k (pos 0) ≡ i32At bs
+    (cornerPlace k)
 unfolding cornerRecords
 corner-at zero bs k h = absurd (omega arith)
 corner-at (suc f) bs k h = go (startsb 86 13 bs) refl k h (corner-at f (drop 13 bs))
   where
     go : (b : Bool) → startsb 86 13 bs ≡ b → (k : ℕ) → k < length (cornerRecords (suc f) bs .0)
-        → ((k : ℕ) → k < length (cornerRecords f (drop 13 bs) .0) → getD (cornerRecords f (drop 13 bs) .0) k (pos 0) ≡ i32At (drop 13 bs) (cornerPlace k))
+        → ((k : ℕ) → k < length (cornerRecords f (drop 13 bs) .0) → getD (cornerRecords f (drop 13 bs) .0) k (pos 0) ≡ i32At (drop 13 bs)
+        (cornerPlace k))
         → getD (cornerRecords (suc f) bs .0) k (pos 0) ≡ i32At bs (cornerPlace k)
     go true t k h i =
         let e = corners-first f bs t in
@@ -75,7 +85,8 @@ cell-at (suc f) bs k h = go (startsb 84 9 bs) refl k h (cell-at f (drop 9 bs))
         → getD (cellRecords (suc f) bs .0) k 0 ≡ u16At bs (cellPlace k)
     go true t k h i =
         let e = cell-records-first f bs t in
-        rw e (four-at bs (u16At bs 1) (u16At bs 3) (u16At bs 5) (u16At bs 7) (cellRecords f (drop 9 bs) .0) refl refl refl refl i k (rw e at h))
+        rw e (four-at bs (u16At bs 1) (u16At bs 3) (u16At bs 5) (u16At bs 7) (cellRecords f (drop 9 bs) .0) refl refl refl refl i k
+        (rw e at h))
     go false t k h i = absurd (omega (arith, rw (cells-none f bs t) at h))
 
 pub corner-inside : (bs : List ℕ) (k : ℕ) → k < length (cornerRecords (length bs) bs .0) → cornerPlace k + 4 ≤ length bs

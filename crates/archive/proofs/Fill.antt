@@ -12,7 +12,8 @@ use lib.ListN.{length, getD, take, drop, set, length-append, length-drop}
 use lib.Seq.{take-suc, drop-cons, set-at, take-all, length-take-le}
 use Rattle.archive.specs.Loaded.{inFront}
 
-pub put : {A : Type 0} (d : A) (l t : List A) (m : ℕ) (a : A) → length l ≡ m → m < length t → set (l ++ drop m t) m a ≡ (l ++ (a ∷ [])) ++ drop (m + 1) t
+pub put : {A : Type 0} (d : A) (l t : List A) (m : ℕ) (a : A) → length l ≡ m → m < length t
+    → set (l ++ drop m t) m a ≡ (l ++ (a ∷ [])) ++ drop (m + 1) t
 put d l t m a e h =
     rw (add-one m, append-assoc l (a ∷ []) (drop (suc m) t), drop-cons t m d h) (set-at l (getD t m d) (drop (suc m) t) a m e)
 
@@ -37,7 +38,13 @@ module _ {A : Type 0} (xs t₀ : List A) where
           within = omega arith;
           fits = f .fits;
           table =
-              rw (f .table, e, put d (take k xs) t₀ k (getD xs k d) (length-take-le k xs (f .within)) (omega (arith, f .fits)), add-one k, take-suc xs k d h);
+              rw (
+                f .table,
+                e,
+                put d (take k xs) t₀ k (getD xs k d) (length-take-le k xs (f .within)) (omega (arith, f .fits)),
+                add-one k,
+                take-suc xs k d h,
+              );
         }
 
     pub filled-all : length xs ≤ k → t ≡ inFront xs t₀

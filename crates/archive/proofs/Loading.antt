@@ -17,7 +17,8 @@ use borrow.Author.Tests.{ltb-true, ltb-false}
 use Rattle.base.specs.Bools.{is-true, and-left, and-right}
 use Rattle.archive.specs.Form.{letter, startsb, stepsIn, Steps, markedb, emptyb, u16At}
 use Rattle.archive.specs.Tables.{Mark}
-use Rattle.archive.specs.Scan.{markRecordb, endb, markIn, ScanAt, behind, no-fuel, steps-mark, steps-step, steps-end, stop, same-mark, end-least, least-none, on-out}
+use Rattle.archive.specs.Scan.{markRecordb, endb, markIn, ScanAt, behind, no-fuel, steps-mark, steps-step, steps-end, stop}
+use Rattle.archive.specs.Scan.{same-mark, end-least, least-none, on-out}
 use Rattle.archive.specs.Reading.{no-start}
 use Rattle.archive.specs.Writing.{starts-letter}
 use Rattle.archive.specs.Loaded.{stepsAt}
@@ -26,7 +27,8 @@ mark-letter : (least : ℕ) (bs : List ℕ) → markRecordb least bs ≡ true �
 unfolding markRecordb
 mark-letter least bs t =
     starts-letter 77 4 bs
-    (is-true (startsb 77 4 bs) (and-left (startsb 77 4 bs) ((leb 1 (getD bs 3 0) && leb (getD bs 3 0) 2) && leb least (u16At bs 1)) (rw t tt)))
+    (is-true (startsb 77 4 bs) (and-left (startsb 77 4 bs) ((leb 1 (getD bs 3 0) && leb (getD bs 3 0) 2) && leb least (u16At bs 1))
+    (rw t tt)))
 
 end-letter : (least : ℕ) (bs : List ℕ) → T (endb least bs) → letter bs ≡ 69
 unfolding endb
@@ -73,7 +75,8 @@ module _ {bs : List ℕ} {from at least marks steps : ℕ} (o : ScanAt bs from a
   not-mark : (getD bs at 0 ≡ 77 → ⊥) → markRecordb least (drop at bs) ≡ false
   not-mark h = untrue (markRecordb least (drop at bs)) (λ t. h (sym (front bs at) ∙ mark-letter least (drop at bs) t))
 
-  pub step-next : (getD bs at 0 ≡ 69 → ⊥) → (getD bs at 0 ≡ 77 → ⊥) → (markRecordb least (drop at bs) ≡ false) × (startsb 71 1 (drop at bs) ≡ true)
+  pub step-next : (getD bs at 0 ≡ 69 → ⊥) → (getD bs at 0 ≡ 77 → ⊥)
+      → (markRecordb least (drop at bs) ≡ false) × (startsb 71 1 (drop at bs) ≡ true)
   step-next h g = (
     not-mark g,
     true-else (startsb 71 1 (drop at bs)) (λ t. h (sym (front bs at) ∙ end-letter least (drop at bs) (ended (not-mark g) t))),
@@ -118,7 +121,8 @@ since-fits zero ms bs t = absurd (no-fuel ms bs t)
 since-fits (suc f) ms bs t = go (markedb ms bs) refl (startsb 71 1 bs) refl (since-fits f (ms ++ (markIn bs ∷ [])) (drop 4 bs))
   where
     go : (a : Bool) → markedb ms bs ≡ a → (b : Bool) → startsb 71 1 bs ≡ b
-        → (T (stepsIn f (ms ++ (markIn bs ∷ [])) (drop 4 bs) .ok) → length (ms ++ (markIn bs ∷ [])) ≤ marksIn (stepsIn f (ms ++ (markIn bs ∷ [])) (drop 4 bs)))
+        → (T (stepsIn f (ms ++ (markIn bs ∷ [])) (drop 4 bs) .ok)
+        → length (ms ++ (markIn bs ∷ [])) ≤ marksIn (stepsIn f (ms ++ (markIn bs ∷ [])) (drop 4 bs)))
         → length ms ≤ marksIn (stepsIn (suc f) ms bs)
     go true d b e i =
         rw (steps-mark f ms bs d) (omega (arith, i (rw (steps-mark f ms bs d) at t), length-append ms (markIn bs ∷ [])))

@@ -74,11 +74,13 @@ module _ {bs : List ℕ} {from : ℕ} {cs₀ ks₀ es₀ : List ℕ} (f : StepsF
 
     pub cells-length : length cs ≡ length cs₀
     cells-length =
-        rw (l .cells) (front-length (map cellOf (passed (l .on))) cs₀ m (many cellOf) (omega (arith, marks-room (l .on) (f .well), f .marked-fit)))
+        rw (l .cells) (front-length (map cellOf (passed (l .on))) cs₀ m (many cellOf)
+        (omega (arith, marks-room (l .on) (f .well), f .marked-fit)))
 
     pub marks-length : length ks ≡ length ks₀
     marks-length =
-        rw (l .marks) (front-length (map markOf (passed (l .on))) ks₀ m (many markOf) (omega (arith, marks-room (l .on) (f .well), f .marks-fit)))
+        rw (l .marks) (front-length (map markOf (passed (l .on))) ks₀ m (many markOf)
+        (omega (arith, marks-room (l .on) (f .well), f .marks-fit)))
 
     pub ends-length-is : length es ≡ length es₀
     ends-length-is =

@@ -45,7 +45,8 @@ module _ {ps : List ℤ} {ts cs ks es : List ℕ} (s : Storable ps ts cs ks es) 
     unfolding jobBytes stepsBytes
     stored-all e f g =
         let f′ = f ∙ then-sets l 0 (cornerBytes ps) (cellBytes ts) e (omega (arith, corner-places)) in
-        let n : cellsEnd ≡ 0 + length (cornerBytes ps ++ cellBytes ts) = omega (arith, cell-places, length-append (cornerBytes ps) (cellBytes ts)) in
+        let n : cellsEnd ≡ 0 + length (cornerBytes ps ++ cellBytes ts) = omega
+        (arith, cell-places, length-append (cornerBytes ps) (cellBytes ts)) in
         let z : 0 + length (jobBytes job) ≡ length (jobBytes job) = omega arith in
         g
         ∙ then-sets l 0 (cornerBytes ps ++ cellBytes ts) (stepsBytes (stepsOf cs ks es)) f′ n

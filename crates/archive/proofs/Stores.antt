@@ -19,7 +19,8 @@ sets-append : (l : List ℕ) (i : ℕ) (u v : List ℕ) → sets (sets l i u) (i
 sets-append l i [] v = let e : i + 0 ≡ i = omega arith in rw e
 sets-append l i (a ∷ u) v = let e : i + suc (length u) ≡ suc i + length u = omega arith in rw e (sets-append (set l i a) (suc i) u v)
 
-pub then-sets : (l : List ℕ) (i : ℕ) {t : List ℕ} {j : ℕ} (u v : List ℕ) → t ≡ sets l i u → j ≡ i + length u → sets t j v ≡ sets l i (u ++ v)
+pub then-sets : (l : List ℕ) (i : ℕ) {t : List ℕ} {j : ℕ} (u v : List ℕ) → t ≡ sets l i u → j ≡ i + length u
+    → sets t j v ≡ sets l i (u ++ v)
 then-sets l i u v e q = rw (e, q) (sets-append l i u v)
 
 pub sets-length : (l : List ℕ) (i : ℕ) {t : List ℕ} (u : List ℕ) → t ≡ sets l i u → length t ≡ length l
@@ -106,17 +107,36 @@ take-three ps i h =
     let k = 3 * i in
     let a : 3 * (i + 1) ≡ suc (suc (suc k)) = omega arith in
     let b : k + 2 ≡ suc (suc k) = omega arith in
-    rw (a, b, add-one k, take-suc ps (suc (suc k)) (pos 0) (omega arith), take-suc ps (suc k) (pos 0) (omega arith), take-suc ps k (pos 0) (omega arith))
+    rw (
+      a,
+      b,
+      add-one k,
+      take-suc ps (suc (suc k)) (pos 0) (omega arith),
+      take-suc ps (suc k) (pos 0) (omega arith),
+      take-suc ps k (pos 0)
+          (omega arith),
+    )
     (simp append-assoc)
 
 take-four : (ts : List ℕ) (i : ℕ) → 4 * i + 4 ≤ length ts
-    → take (4 * (i + 1)) ts ≡ take (4 * i) ts ++ (getD ts (4 * i) 0 ∷ getD ts (4 * i + 1) 0 ∷ getD ts (4 * i + 2) 0 ∷ getD ts (4 * i + 3) 0 ∷ [])
+    → take (4 * (i + 1)) ts ≡ take (4 * i) ts ++ (getD ts (4 * i) 0 ∷ getD ts (4 * i + 1) 0 ∷ getD ts (4 * i + 2) 0 ∷ getD ts (4 * i + 3)
+    0 ∷ [])
 take-four ts i h =
     let k = 4 * i in
     let a : 4 * (i + 1) ≡ suc (suc (suc (suc k))) = omega arith in
     let b : k + 2 ≡ suc (suc k) = omega arith in
     let c : k + 3 ≡ suc (suc (suc k)) = omega arith in
-    rw (a, b, c, add-one k, take-suc ts (suc (suc (suc k))) 0 (omega arith), take-suc ts (suc (suc k)) 0 (omega arith), take-suc ts (suc k) 0 (omega arith), take-suc ts k 0 (omega arith))
+    rw (
+      a,
+      b,
+      c,
+      add-one k,
+      take-suc ts (suc (suc (suc k))) 0 (omega arith),
+      take-suc ts (suc (suc k)) 0 (omega arith),
+      take-suc ts (suc k)
+          0 (omega arith),
+      take-suc ts k 0 (omega arith),
+    )
     (simp append-assoc)
 
 -- the records of the first i corners are stored
@@ -133,7 +153,8 @@ module _ (ps : List ℤ) (l : List ℕ) where
     pub corners-length : length t ≡ length l
     corners-length = sets-length l 0 (cornerBytes (take (3 * i) ps)) (c .table)
 
-    pub corners-turn : (x y z : ℤ) {u : List ℕ} → 3 * i + 3 ≤ length ps → x ≡ getD ps (3 * i) (pos 0) → y ≡ getD ps (3 * i + 1) (pos 0) → z ≡ getD ps (3 * i + 2) (pos 0)
+    pub corners-turn : (x y z : ℤ) {u : List ℕ} → 3 * i + 3 ≤ length ps → x ≡ getD ps (3 * i) (pos 0) → y ≡ getD ps (3 * i + 1) (pos 0)
+        → z ≡ getD ps (3 * i + 2) (pos 0)
         → u ≡ sets t (13 * i) (cornerBytes (x ∷ y ∷ z ∷ [])) → CornersTo ps l u (i + 1)
     corners-turn x y z h p q r e =
         let m : length (take (3 * i) ps) ≡ 3 * i = length-take-le (3 * i) ps (omega arith) in
@@ -143,7 +164,14 @@ module _ (ps : List ℤ) (l : List ℕ) where
           table =
               e
               ∙ then-sets l 0 (cornerBytes (take (3 * i) ps)) (cornerBytes (x ∷ y ∷ z ∷ [])) (c .table) n
-              ∙ rw (take-three ps i h, corners-append (take (3 * i) ps) (getD ps (3 * i) (pos 0) ∷ getD ps (3 * i + 1) (pos 0) ∷ getD ps (3 * i + 2) (pos 0) ∷ []) (omega arith), p, q, r);
+              ∙ rw (
+                take-three ps i h,
+                corners-append (take (3 * i) ps)
+                    (getD ps (3 * i) (pos 0) ∷ getD ps (3 * i + 1) (pos 0) ∷ getD ps (3 * i + 2) (pos 0) ∷ []) (omega arith),
+                p,
+                q,
+                r,
+              );
         }
 
     pub corners-all : length ps ≤ 3 * i → t ≡ sets l 0 (cornerBytes ps)
@@ -164,7 +192,8 @@ module _ (ts : List ℕ) (from : ℕ) (l : List ℕ) where
     cells-length = sets-length l from (cellBytes (take (4 * i) ts)) (c .table)
 
     pub cells-turn : {u : List ℕ} → 4 * i + 4 ≤ length ts
-        → u ≡ sets t (from + 9 * i) (cellBytes (getD ts (4 * i) 0 ∷ getD ts (4 * i + 1) 0 ∷ getD ts (4 * i + 2) 0 ∷ getD ts (4 * i + 3) 0 ∷ []))
+        → u ≡ sets t (from + 9 * i) (cellBytes (getD ts (4 * i) 0 ∷ getD ts (4 * i + 1) 0 ∷ getD ts (4 * i + 2) 0 ∷ getD ts (4 * i + 3)
+        0 ∷ []))
         → CellsTo ts from l u (i + 1)
     cells-turn h e =
         let m : length (take (4 * i) ts) ≡ 4 * i = length-take-le (4 * i) ts (omega arith) in

@@ -14,7 +14,8 @@ use Rattle.archive.specs.Measure.{stepsBytes}
 use Rattle.archive.specs.Stored.{EndsRise}
 use Rattle.archive.specs.Ends.{pairs-long}
 use Rattle.archive.proofs.Stores.{then-sets, sets-length}
-use Rattle.archive.proofs.Way.{wayBytes, none, Way, way-start, way-mark, way-step, way-end, way-room, way-bytes-mark, way-bytes-step, way-bytes-end}
+use Rattle.archive.proofs.Way.{wayBytes, none, Way, way-start, way-mark, way-step, way-end, way-room, way-bytes-mark}
+use Rattle.archive.proofs.Way.{way-bytes-step, way-bytes-end}
 
 pairs-at : (m : ℕ) (cs ks : List ℕ) → m < length cs → m < length ks → getD (pairs cs ks) m none ≡ (getD cs m 0, getD ks m 0)
 unfolding pairs
@@ -27,7 +28,8 @@ pub record Storing (cs ks es : List ℕ) (from : ℕ) (l t : List ℕ) (at m s :
   pub way : Way (pairs cs ks) es from at m s
   pub table : t ≡ sets l from (wayBytes (way .done) (way .since))
 
-module _ {cs ks es : List ℕ} (r : EndsRise cs ks es) (from : ℕ) (l : List ℕ) (fits : from + length (stepsBytes (stepsOf cs ks es)) ≤ length l) where
+module _ {cs ks es : List ℕ} (r : EndsRise cs ks es) (from : ℕ) (l : List ℕ)
+    (fits : from + length (stepsBytes (stepsOf cs ks es)) ≤ length l) where
   pub storing-start : Storing cs ks es from l l from 0 0
   unfolding way-start wayBytes flatMap
   storing-start = record { way = way-start (pairs cs ks) es from; table = refl }
@@ -59,7 +61,8 @@ module _ {cs ks es : List ℕ} (r : EndsRise cs ks es) (from : ℕ) (l : List �
             way = way-mark (p .way) h g long;
             table =
                 e
-                ∙ then-sets l from (wayBytes (p .way .done) (p .way .since)) (markBytes (getD cs m 0, getD ks m 0)) (p .table) (sym (p .way .place))
+                ∙ then-sets l from (wayBytes (p .way .done) (p .way .since)) (markBytes (getD cs m 0, getD ks m 0)) (p .table)
+                (sym (p .way .place))
                 ∙ ap (λ (v : List ℕ). sets l from v)
                 (ap (λ (x : Mark). wayBytes (p .way .done) (p .way .since) ++ markBytes x) (sym q)
                 ∙ sym (way-bytes-mark (p .way .done) (p .way .since) (getD (pairs cs ks) m none)));

@@ -56,7 +56,8 @@ module _ (bs : List ℕ) (at least : ℕ) where
     unfolding markRecordb
     mark-high h = sym (rw (s, front bs at 3, lt-leb (getD bs (at + 3) 0) 2 h, and-false (leb 1 (getD bs (at + 3) 0))))
 
-    pub mark-there : 1 ≤ getD bs (at + 3) 0 → getD bs (at + 3) 0 ≤ 2 → (n : ℕ) → n ≡ whole 2 (drop (at + 1) bs) → leb least n ≡ markRecordb least (drop at bs)
+    pub mark-there : 1 ≤ getD bs (at + 3) 0 → getD bs (at + 3) 0 ≤ 2 → (n : ℕ) → n ≡ whole 2 (drop (at + 1) bs)
+        → leb least n ≡ markRecordb least (drop at bs)
     unfolding markRecordb
     mark-there h i n e =
         sym (rw (s, front bs at 3, le-leb 1 (getD bs (at + 3) 0) h, le-leb (getD bs (at + 3) 0) 2 i, drop-drop 1 at bs, e))

@@ -28,7 +28,8 @@ unfolding flatMap
 flatMap-snoc f [] x = append-nil (f x)
 flatMap-snoc f (y ∷ xs) x = ap (λ (t : List ℕ). f y ++ t) (flatMap-snoc f xs x) ∙ sym (append-assoc (f y) (flatMap f xs) (f x))
 
-pub way-bytes-mark : (done : List (List Mark)) (since : List Mark) (x : Mark) → wayBytes done (since ++ (x ∷ [])) ≡ wayBytes done since ++ markBytes x
+pub way-bytes-mark : (done : List (List Mark)) (since : List Mark) (x : Mark) → wayBytes done (since ++ (x ∷ [])) ≡ wayBytes done since
+    ++ markBytes x
 unfolding wayBytes
 way-bytes-mark done since x =
     ap (λ (t : List ℕ). flatMap stepBytes done ++ t) (flatMap-snoc markBytes since x)
@@ -49,7 +50,8 @@ done-length : (done : List (List Mark)) → length (stepsBytes done) ≡ length 
 unfolding stepsBytes
 done-length done = length-append (flatMap stepBytes done) (69 ∷ [])
 
-way-length : (done : List (List Mark)) (since : List Mark) → length (wayBytes done since) ≡ 4 * length (flatten done) + length done + 4 * length since
+way-length : (done : List (List Mark)) (since : List Mark) → length (wayBytes done since) ≡ 4 * length (flatten done) + length done + 4
+    * length since
 unfolding wayBytes
 way-length done since =
     omega (arith, length-append (flatMap stepBytes done) (flatMap markBytes since), marks-length since, steps-length done, done-length done)
@@ -78,7 +80,8 @@ rest-mark since m ms e es g h =
     let b : m + 1 ≡ suc m = omega arith in
     rw (a, drop-cons ms m none (omega arith), b, append-assoc since (getD ms m none ∷ []) (take (e - suc m) (drop (suc m) ms)))
 
-rest-step : (since : List Mark) (m : ℕ) (ms : List Mark) (e : ℕ) (es : List ℕ) → e ≡ m → restFrom since m ms (e ∷ es) ≡ since ∷ restFrom [] m ms es
+rest-step : (since : List Mark) (m : ℕ) (ms : List Mark) (e : ℕ) (es : List ℕ) → e ≡ m → restFrom since m ms (e ∷ es) ≡ since ∷ restFrom []
+    m ms es
 unfolding restFrom
 rest-step since m ms e es q =
     let a : m - m ≡ 0 = omega arith in
@@ -87,7 +90,12 @@ rest-step since m ms e es q =
 first : (since : List Mark) (m : ℕ) (ms : List Mark) (e : ℕ) (es : List ℕ) → length since ≤ length (flatten (restFrom since m ms (e ∷ es)))
 unfolding restFrom flatten
 first since m ms e es =
-    omega (arith, length-append (since ++ take (e - m) (drop m ms)) (flatten (stepsFrom e ms es)), length-append since (take (e - m) (drop m ms)))
+    omega (
+      arith,
+      length-append (since ++ take (e - m) (drop m ms)) (flatten (stepsFrom e ms es)),
+      length-append since
+          (take (e - m) (drop m ms)),
+    )
 
 pub record Way (ms : List Mark) (es : List ℕ) (from at m s : ℕ) : Type 0 where
   pub done : List (List Mark)
@@ -140,7 +148,8 @@ module _ {ms : List Mark} {es : List ℕ} {from at m s : ℕ} (w : Way ms es fro
       let n : s + 1 ≡ suc s = omega arith in
       rw (n, drop-cons es s 0 h) (rest-step (w .since) m ms (getD es s 0) (drop (suc s) es) (omega (arith, w .low h)))
 
-  unfoldable pub way-step : s < length es → getD es s 0 ≤ m → (s + 1 < length es → getD es s 0 ≤ getD es (s + 1) 0) → Way ms es from (at + 1) m (s + 1)
+  unfoldable pub way-step : s < length es → getD es s 0 ≤ m → (s + 1 < length es → getD es s 0 ≤ getD es (s + 1) 0)
+      → Way ms es from (at + 1) m (s + 1)
   way-step h g r =
       record {
         done = w .done ++ (w .since ∷ []);

@@ -24,7 +24,8 @@ unfoldable pub Climbs : ℕ → ℕ → List ℕ → Type 0
 Climbs p n [] = Unit {0}
 Climbs p n (e ∷ es) = (p ≤ e) × (e ≤ n) × Climbs e n es
 
-pub climbs-of : (p n : ℕ) (es : List ℕ) → (0 < length es → p ≤ getD es 0 0) → ((k : ℕ) → k + 1 < length es → getD es k 0 ≤ getD es (k + 1) 0)
+pub climbs-of : (p n : ℕ) (es : List ℕ) → (0 < length es → p ≤ getD es 0 0)
+    → ((k : ℕ) → k + 1 < length es → getD es k 0 ≤ getD es (k + 1) 0)
     → ((k : ℕ) → k < length es → getD es k 0 ≤ n) → Climbs p n es
 unfolding Climbs
 climbs-of p n [] a b c = tt
@@ -102,7 +103,8 @@ marks-back [] (m ∷ ms) e = absurd (omega arith)
 marks-back (c ∷ cs) [] e = absurd (omega arith)
 marks-back (c ∷ cs) (m ∷ ms) e = ap (λ (l : List ℕ). m ∷ l) (marks-back cs ms (omega arith))
 
-pub flat-back : (p : ℕ) (ms : List Mark) (es : List ℕ) → Climbs p (length ms) es → lastFrom p es ≡ length ms → flatten (stepsFrom p ms es) ≡ drop p ms
+pub flat-back : (p : ℕ) (ms : List Mark) (es : List ℕ) → Climbs p (length ms) es → lastFrom p es ≡ length ms
+    → flatten (stepsFrom p ms es) ≡ drop p ms
 unfolding Climbs lastFrom stepsFrom flatten
 flat-back p ms [] c l = sym (drop-of-length-le ms {i = p} (omega arith))
 flat-back p ms (e ∷ es) c l =

@@ -3,7 +3,8 @@
 --   signed x             the i32 with the 32 bits x
 --   startsb l k bs       a record of k bytes with the letter l stands at the front
 --   cornerRecords f bs, cellRecords f bs   the records V, T that the bytes start with, at most f, and the bytes behind them
---   stepsIn f ms bs      the steps in the bytes, at most f records, where ms are the marks since the last G; ok where they end as they should
+-- stepsIn f ms bs      the steps in the bytes, at most f records, where ms are the marks since the last G; ok where they end as they
+-- should
 --   formb bs, jobOf bs   the whole
 use mathlib.Core.Bool.{Bool, true, false, _&&_}
 use mathlib.Core.List.{List, [], _∷_, _++_}

@@ -51,7 +51,8 @@ steps-length (ms ∷ s) =
       length-append ms (flatten s),
     )
 
-pub job-length : (j : Job) → length (jobBytes j) ≡ length (cornerBytes (j .positions)) + (length (cellBytes (j .cells)) + length (stepsBytes (j .steps)))
+pub job-length : (j : Job) → length (jobBytes j) ≡ length (cornerBytes (j .positions))
+    + (length (cellBytes (j .cells)) + length (stepsBytes (j .steps)))
 unfolding jobBytes stepsBytes
 job-length j =
     length-append (cornerBytes (j .positions)) (cellBytes (j .cells) ++ stepsBytes (j .steps))

@@ -11,7 +11,8 @@ use lib.IntN.{ℤ}
 use lib.ListN.{length}
 use borrow.Author.Tests.{ne-eqb, eq-eqb, le-leb}
 use Rattle.archive.specs.Job.{Job, bytes, word, cornerBytes, cellBytes, markBytes, stepBytes, jobBytes}
-use Rattle.archive.specs.Form.{whole, signed, letter, startsb, cornerRecords, cellRecords, stepsIn, markedb, behindCorners, behindCells, formb, jobOf}
+use Rattle.archive.specs.Form.{whole, signed, letter, startsb, cornerRecords, cellRecords, stepsIn, markedb, behindCorners}
+use Rattle.archive.specs.Form.{behindCells, formb, jobOf}
 use Rattle.archive.specs.Tables.{Mark}
 use Rattle.archive.specs.Scan.{leastOf, least-snoc, markRecordb, marked-least, markIn, steps-mark, steps-step}
 use Rattle.archive.specs.Measure.{stepsBytes, corner-length, cell-length, job-length}
@@ -69,7 +70,15 @@ unfolding cellRecords bytes
 cell-first f a b c d l p q r s =
     let bs : List ℕ = 84 ∷ (bytes 2 a ++ (bytes 2 b ++ (bytes 2 c ++ (bytes 2 d ++ l)))) in
     let t : startsb 84 9 bs ≡ true = start 84 9 bs refl (omega arith) in
-    rw (t, cellRecords, two-back a (bytes 2 b ++ (bytes 2 c ++ (bytes 2 d ++ l))) p, two-back b (bytes 2 c ++ (bytes 2 d ++ l)) q, two-back c (bytes 2 d ++ l) r, two-back d l s)
+    rw (
+      t,
+      cellRecords,
+      two-back a (bytes 2 b ++ (bytes 2 c ++ (bytes 2 d ++ l))) p,
+      two-back b (bytes 2 c ++ (bytes 2 d ++ l)) q,
+      two-back
+          c (bytes 2 d ++ l) r,
+      two-back d l s,
+    )
 
 cells-read : (f : ℕ) (ts : List ℕ) (l : List ℕ) → length ts % 4 ≡ 0 → Each TwoBytes ts → (letter l ≡ 84 → ⊥) → length ts ≤ f
     → cellRecords f (cellBytes ts ++ l) ≡ (ts, l)
@@ -113,7 +122,8 @@ last-read zero h = absurd (omega arith)
 last-read (suc f) h = refl
 
 -- a record G in front
-step-first : (f : ℕ) (ms : List Mark) (l : List ℕ) → stepsIn (suc f) ms (71 ∷ l) ≡ record { ok = stepsIn f [] l .ok; steps = ms ∷ stepsIn f [] l .steps }
+step-first : (f : ℕ) (ms : List Mark) (l : List ℕ)
+    → stepsIn (suc f) ms (71 ∷ l) ≡ record { ok = stepsIn f [] l .ok; steps = ms ∷ stepsIn f [] l .steps }
 unfolding markedb startsb
 step-first f ms l = steps-step f ms (71 ∷ l) refl (start 71 1 (71 ∷ l) refl (omega arith))
 
@@ -135,17 +145,20 @@ steps-read zero ms [] s r e h = absurd (omega arith)
 steps-read zero ms (n ∷ ns) s r e h = absurd (omega (arith, ap length (tail-mark n ns s), mark-longer n (tailBytes ns s)))
 steps-read (suc f) ms (n ∷ ns) s r e h =
     let i : stepsIn f (ms ++ (n ∷ [])) (tailBytes ns s) ≡ record { ok = true; steps = ((ms ++ (n ∷ [])) ++ ns) ∷ s } =
-    steps-read f (ms ++ (n ∷ [])) ns s (least-next ms n ns (r .4)) e (omega (arith, ap length (tail-mark n ns s), mark-longer n (tailBytes ns s))) in
+    steps-read f (ms ++ (n ∷ [])) ns s (least-next ms n ns (r .4)) e
+    (omega (arith, ap length (tail-mark n ns s), mark-longer n (tailBytes ns s))) in
     ap (stepsIn (suc f) ms) (tail-mark n ns s)
     ∙ mark-first f ms n (tailBytes ns s) (r .0) (r .1) (r .2) (r .3)
     ∙ i
     ∙ rw (append-assoc ms (n ∷ []) ns)
 steps-read (suc f) ms [] [] r e h = step-first f ms (69 ∷ []) ∙ rw (last-read f (omega arith), append-nil ms)
 steps-read (suc f) ms [] (ns ∷ s) r e h =
-    let i : stepsIn f [] (tailBytes ns s) ≡ record { ok = true; steps = ns ∷ s } = steps-read f [] ns s (e .0) (e .1) (omega (arith, ap length (tail-is ns s))) in
+    let i : stepsIn f [] (tailBytes ns s) ≡ record { ok = true; steps = ns ∷ s } = steps-read f [] ns s (e .0) (e .1)
+    (omega (arith, ap length (tail-is ns s))) in
     step-first f ms (stepsBytes (ns ∷ s)) ∙ rw (tail-is ns s, i, append-nil ms)
 
-steps-all : (f : ℕ) (s : List (List Mark)) → Each (Rises 0) s → length (stepsBytes s) ≤ f → stepsIn f [] (stepsBytes s) ≡ record { ok = true; steps = s }
+steps-all : (f : ℕ) (s : List (List Mark)) → Each (Rises 0) s → length (stepsBytes s) ≤ f
+    → stepsIn f [] (stepsBytes s) ≡ record { ok = true; steps = s }
 unfolding stepsBytes flatMap Each leastOf
 steps-all f [] e h = last-read f (omega arith)
 steps-all f (ns ∷ s) e h =
@@ -177,7 +190,8 @@ module _ {j : Job} (w : Writable j) where
   cells-back : cellRecords (length (jobBytes j)) (behindCorners (jobBytes j)) ≡ (j .cells, stepsBytes (j .steps))
   unfolding behindCorners
   cells-back =
-      let e : behindCorners (jobBytes j) ≡ cellBytes (j .cells) ++ stepsBytes (j .steps) = ap (λ (p : List ℤ × List ℕ). p .1) corners-back in
+      let e : behindCorners (jobBytes j) ≡ cellBytes (j .cells) ++ stepsBytes (j .steps) = ap (λ (p : List ℤ × List ℕ). p .1)
+      corners-back in
       rw e
       (cells-read (length (jobBytes j)) (j .cells) (stepsBytes (j .steps)) (w .fours) (w .numbers)
       (λ e. omega (arith, letter-steps (j .steps)))

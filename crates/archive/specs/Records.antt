@@ -41,7 +41,8 @@ records-fit l k zero bs = omega arith
 records-fit l k (suc f) bs = go (startsb l k bs) refl (records-fit l k f (drop k bs))
   where
     go : (b : Bool) → startsb l k bs ≡ b → k * recordsIn l k f (drop k bs) ≤ length (drop k bs) → k * recordsIn l k (suc f) bs ≤ length bs
-    go true e i = rw (records-more l k bs f e, mul-suc k (recordsIn l k f (drop k bs))) (omega (arith, length-drop k bs, starts-long l k bs e))
+    go true e i = rw (records-more l k bs f e, mul-suc k (recordsIn l k f (drop k bs)))
+        (omega (arith, length-drop k bs, starts-long l k bs e))
     go false e i = rw (records-none l k bs (suc f) e) (omega arith)
 
 module _ (f : ℕ) (bs : List ℕ) where
@@ -57,7 +58,8 @@ module _ (f : ℕ) (bs : List ℕ) where
   unfolding cornerRecords
   corners-next t = rw (t, cornerRecords)
 
-  corners-longer : startsb 86 13 bs ≡ true → length (cornerRecords (suc f) bs .0) ≡ suc (suc (suc (length (cornerRecords f (drop 13 bs) .0))))
+  corners-longer : startsb 86 13 bs ≡ true
+      → length (cornerRecords (suc f) bs .0) ≡ suc (suc (suc (length (cornerRecords f (drop 13 bs) .0))))
   unfolding cornerRecords
   corners-longer t = rw (t, cornerRecords)
 

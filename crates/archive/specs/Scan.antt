@@ -68,7 +68,8 @@ marked-least ms bs = rw (follows-least ms (u16At bs 1))
 mark-long : (least : ℕ) (bs : List ℕ) → markRecordb least bs ≡ true → 4 ≤ length bs
 unfolding markRecordb
 mark-long least bs t =
-    starts-long 77 4 bs (is-true (startsb 77 4 bs) (and-left (startsb 77 4 bs) ((leb 1 (getD bs 3 0) && leb (getD bs 3 0) 2) && leb least (u16At bs 1)) (rw t tt)))
+    starts-long 77 4 bs (is-true (startsb 77 4 bs)
+    (and-left (startsb 77 4 bs) ((leb 1 (getD bs 3 0) && leb (getD bs 3 0) 2) && leb least (u16At bs 1)) (rw t tt)))
 
 -- the steps ss stand before those of r
 abbrev pub behind : List (List Mark) → Steps → Steps
@@ -135,7 +136,8 @@ module _ {bs : List ℕ} {from at least marks steps : ℕ} (o : ScanAt bs from a
   pub fuel-left : at < length bs → (k : ℕ) → k ≡ suc (marks + steps) → length bs - (marks + steps) ≡ suc (length bs - k)
   fuel-left h k e = omega (arith, o .way)
 
-  unfoldable pub on-mark : markRecordb least (drop at bs) ≡ true → (n : ℕ) → n ≡ whole 2 (drop (at + 1) bs) → ScanAt bs from (at + 4) (n + 1) (marks + 1) steps
+  unfoldable pub on-mark : markRecordb least (drop at bs) ≡ true → (n : ℕ) → n ≡ whole 2 (drop (at + 1) bs)
+      → ScanAt bs from (at + 4) (n + 1) (marks + 1) steps
   on-mark t c e =
       let l : 4 ≤ length (drop at bs) = mark-long least (drop at bs) t in
       let n : at + 4 ≤ length bs = omega (arith, length-drop at bs) in
@@ -156,7 +158,8 @@ module _ {bs : List ℕ} {from at least marks steps : ℕ} (o : ScanAt bs from a
             );
       }
 
-  unfoldable pub on-step : markRecordb least (drop at bs) ≡ false → startsb 71 1 (drop at bs) ≡ true → ScanAt bs from (at + 1) 0 marks (steps + 1)
+  unfoldable pub on-step : markRecordb least (drop at bs) ≡ false → startsb 71 1 (drop at bs) ≡ true
+      → ScanAt bs from (at + 1) 0 marks (steps + 1)
   unfolding leastOf
   on-step t u =
       let l : 1 ≤ length (drop at bs) = starts-long 71 1 (drop at bs) u in

@@ -80,7 +80,11 @@ module _ (f : ℕ) (bs : List ℕ) where
   corners-first t = rw (t, cornerRecords)
 
   pub cell-records-first : startsb 84 9 bs ≡ true
-      → cellRecords (suc f) bs ≡ (u16At bs 1 ∷ u16At bs 3 ∷ u16At bs 5 ∷ u16At bs 7 ∷ cellRecords f (drop 9 bs) .0, cellRecords f (drop 9 bs) .1)
+      → cellRecords (suc f) bs ≡ (
+        u16At bs 1 ∷ u16At bs 3 ∷ u16At bs 5 ∷ u16At bs 7 ∷ cellRecords f (drop 9 bs) .0,
+        cellRecords f
+            (drop 9 bs) .1,
+      )
   unfolding cellRecords
   cell-records-first t = rw (t, cellRecords)
 
@@ -98,7 +102,8 @@ unfolding cornerRecords cornerBytes Each
 corners-written zero bs o = record { written = refl; words = tt }
 corners-written (suc f) bs o = go (startsb 86 13 bs) refl (corners-written f (drop 13 bs) (octets-drop o 13))
   where
-    go : (b : Bool) → startsb 86 13 bs ≡ b → CornersRead (drop 13 bs) (cornerRecords f (drop 13 bs)) → CornersRead bs (cornerRecords (suc f) bs)
+    go : (b : Bool) → startsb 86 13 bs ≡ b → CornersRead (drop 13 bs) (cornerRecords f (drop 13 bs))
+        → CornersRead bs (cornerRecords (suc f) bs)
     go true t i =
         rw (corners-first f bs t)
         (record {

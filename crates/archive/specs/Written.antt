@@ -38,7 +38,8 @@ unfolding leastOf leastFrom
 least-first [] = refl
 least-first (m ∷ ms) = least-from 0 m ms
 
-rises-snoc : (k : ℕ) (ms : List Mark) (m : Mark) → Rises k ms → leastFrom k ms ≤ m .0 → TwoBytes (m .0) → 1 ≤ m .1 → m .1 ≤ 2 → Rises k (ms ++ (m ∷ []))
+rises-snoc : (k : ℕ) (ms : List Mark) (m : Mark) → Rises k ms → leastFrom k ms ≤ m .0 → TwoBytes (m .0) → 1 ≤ m .1 → m .1 ≤ 2
+    → Rises k (ms ++ (m ∷ []))
 unfolding Rises leastFrom
 rises-snoc k [] m r a b c d = (a, b, c, d, tt)
 rises-snoc k (n ∷ ms) m r a b c d = (r .0, r .1, r .2, r .3, rises-snoc (suc (n .0)) ms m (r .4) a b c d)
@@ -79,7 +80,8 @@ pub record Behind (ms : List Mark) (bs : List ℕ) (r : Steps) : Type 0 where
   pub rising : Each (Rises 0) (r .steps)
 
 -- E alone
-only-end : (ms : List Mark) (bs : List ℕ) → T (startsb 69 1 bs && (emptyb ms && eqb (length bs) 1)) → stepsBytes [] ≡ flatMap markBytes ms ++ bs
+only-end : (ms : List Mark) (bs : List ℕ) → T (startsb 69 1 bs && (emptyb ms && eqb (length bs) 1))
+    → stepsBytes [] ≡ flatMap markBytes ms ++ bs
 unfolding emptyb flatMap stepsBytes
 only-end (m ∷ ms) bs t = absurd (and-right (startsb 69 1 bs) false t)
 only-end [] bs t =
@@ -144,7 +146,8 @@ steps-written (suc f) ms bs o r t =
     (steps-written f [] (drop 1 bs) (octets-drop o 1) none)
   where
     go : (a : Bool) → markedb ms bs ≡ a → (b : Bool) → startsb 71 1 bs ≡ b
-        → (Rises 0 (marked f ms bs) → T (stepsIn f (marked f ms bs) (drop 4 bs) .ok) → Behind (marked f ms bs) (drop 4 bs) (stepsIn f (marked f ms bs) (drop 4 bs)))
+        → (Rises 0 (marked f ms bs) → T (stepsIn f (marked f ms bs) (drop 4 bs) .ok)
+        → Behind (marked f ms bs) (drop 4 bs) (stepsIn f (marked f ms bs) (drop 4 bs)))
         → (T (stepsIn f [] (drop 1 bs) .ok) → Behind [] (drop 1 bs) (stepsIn f [] (drop 1 bs)))
         → Behind ms bs (stepsIn (suc f) ms bs)
     go true d b e i j = mark-read f ms bs o r d i t
@@ -158,7 +161,8 @@ module _ (bs : List ℕ) (o : Octets bs) (t : T (formb bs)) where
 
   octets-cells : Octets (behindCells bs)
   unfolding behindCells
-  octets-cells = rw (cells-behind (length bs) (behindCorners bs)) (octets-drop octets-corners (9 * recordsIn 84 9 (length bs) (behindCorners bs)))
+  octets-cells = rw (cells-behind (length bs) (behindCorners bs))
+      (octets-drop octets-corners (9 * recordsIn 84 9 (length bs) (behindCorners bs)))
 
   steps-in : Behind [] (behindCells bs) (stepsIn (length bs) [] (behindCells bs))
   unfolding formb

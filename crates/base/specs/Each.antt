@@ -73,7 +73,8 @@ unfolding filterb memberb
 filter-member g x [] t p = t
 filter-member g x (y ∷ l) t p = go (eqb x y) refl (g y) refl t (filter-member g x l)
   where
-    go : (b : Bool) → eqb x y ≡ b → (d : Bool) → g y ≡ d → T (b || memberb x l) → (T (memberb x l) → g x ≡ true → T (memberb x (filterb g l)))
+    go : (b : Bool) → eqb x y ≡ b → (d : Bool) → g y ≡ d → T (b || memberb x l)
+        → (T (memberb x l) → g x ≡ true → T (memberb x (filterb g l)))
         → T (memberb x (filterb g (y ∷ l)))
     go true e d f t i = let w : g y ≡ true = rw (eqb-true x y e) at p in rw (w, filterb) (rw e tt)
     go false e true f t i = rw (f, filterb) (rw e (i t p))

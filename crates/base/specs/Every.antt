@@ -66,7 +66,8 @@ module _ {A : Type 0} (f : A → Bool) (d : A) where
   unfolding anyb
   any-place [] t = absurd t
   any-place (x ∷ l) t =
-      ⊎-elim (λ (u : T (f x)). (0, omega arith, u)) (λ (u : T (anyb f l)). let (i, h, v) = any-place l u in (suc i, omega arith, v)) (or-either (f x) (anyb f l) t)
+      ⊎-elim (λ (u : T (f x)). (0, omega arith, u)) (λ (u : T (anyb f l)). let (i, h, v) = any-place l u in (suc i, omega arith, v))
+      (or-either (f x) (anyb f l) t)
 
   pub any-at : (l : List A) (i : ℕ) → i < length l → T (f (getD l i d)) → T (anyb f l)
   unfolding anyb

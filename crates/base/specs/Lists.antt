@@ -91,5 +91,6 @@ pub member-place : (x : ℕ) (l : List ℕ) → T (memberb x l) → (k : ℕ) ×
 unfolding memberb
 member-place x [] t = absurd t
 member-place x (y ∷ l) t =
-    ⊎-elim (λ (u : T (eqb x y)). (0, omega arith, sym (eqb→eq x y u))) (λ (u : T (memberb x l)). let (k, h, e) = member-place x l u in (suc k, omega arith, e))
+    ⊎-elim (λ (u : T (eqb x y)). (0, omega arith, sym (eqb→eq x y u)))
+    (λ (u : T (memberb x l)). let (k, h, e) = member-place x l u in (suc k, omega arith, e))
     (or-either (eqb x y) (memberb x l) t)

@@ -40,7 +40,8 @@ module _ {A : Type 0} (same : A → A → Bool) where
   has-append [] m a = refl
   has-append (x ∷ l) m a = go (same x a) (has-append l m a)
     where
-      go : (b : Bool) → hasb same (l ++ m) a ≡ (hasb same l a || hasb same m a) → (b || hasb same (l ++ m) a) ≡ ((b || hasb same l a) || hasb same m a)
+      go : (b : Bool) → hasb same (l ++ m) a ≡ (hasb same l a || hasb same m a)
+          → (b || hasb same (l ++ m) a) ≡ ((b || hasb same l a) || hasb same m a)
       go true i = refl
       go false i = i
 
@@ -57,7 +58,8 @@ module _ {A : Type 0} (same : A → A → Bool) where
   has-below [] a t = not-both false t refl
   has-below (x ∷ l) a t = go (same x a) refl t (has-below l a)
     where
-      go : (b : Bool) → same x a ≡ b → (b || hasb same l a) ≡ true → (hasb same l a ≡ true → placeIn same l a < length l) → placeIn same (x ∷ l) a < suc (length l)
+      go : (b : Bool) → same x a ≡ b → (b || hasb same l a) ≡ true → (hasb same l a ≡ true → placeIn same l a < length l)
+          → placeIn same (x ∷ l) a < suc (length l)
       go true e u i = rw (place-here x l a e) (omega arith)
       go false e u i = rw (place-past x l a e) (omega (arith, i u))
 
@@ -66,7 +68,8 @@ module _ {A : Type 0} (same : A → A → Bool) where
   place-missing [] a t = refl
   place-missing (x ∷ l) a t = go (same x a) refl t (place-missing l a)
     where
-      go : (b : Bool) → same x a ≡ b → (b || hasb same l a) ≡ false → (hasb same l a ≡ false → placeIn same l a ≡ length l) → placeIn same (x ∷ l) a ≡ suc (length l)
+      go : (b : Bool) → same x a ≡ b → (b || hasb same l a) ≡ false → (hasb same l a ≡ false → placeIn same l a ≡ length l)
+          → placeIn same (x ∷ l) a ≡ suc (length l)
       go true e u i = not-both true refl u
       go false e u i = place-past x l a e ∙ ap suc (i u)
 
@@ -86,7 +89,8 @@ module _ {A : Type 0} (same : A → A → Bool) where
   place-behind [] m a t = sym (zero-add (placeIn same m a))
   place-behind (x ∷ l) m a t = go (same x a) refl t (place-behind l m a)
     where
-      go : (b : Bool) → same x a ≡ b → (b || hasb same l a) ≡ false → (hasb same l a ≡ false → placeIn same (l ++ m) a ≡ length l + placeIn same m a)
+      go : (b : Bool) → same x a ≡ b → (b || hasb same l a) ≡ false
+          → (hasb same l a ≡ false → placeIn same (l ++ m) a ≡ length l + placeIn same m a)
           → placeIn same (x ∷ (l ++ m)) a ≡ suc (length l) + placeIn same m a
       go true e u i = not-both true refl u
       go false e u i = place-past x (l ++ m) a e ∙ ap suc (i u) ∙ sym (suc-add (length l) (placeIn same m a))
@@ -112,14 +116,16 @@ module _ {A : Type 0} (same : A → A → Bool) (o : A) (q : Same same) where
   place-there [] a t = not-both false t refl
   place-there (x ∷ l) a t = go (same x a) refl t (place-there l a)
     where
-      go : (b : Bool) → same x a ≡ b → (b || hasb same l a) ≡ true → (hasb same l a ≡ true → getD l (placeIn same l a) o ≡ a) → getD (x ∷ l) (placeIn same (x ∷ l) a) o ≡ a
+      go : (b : Bool) → same x a ≡ b → (b || hasb same l a) ≡ true → (hasb same l a ≡ true → getD l (placeIn same l a) o ≡ a)
+          → getD (x ∷ l) (placeIn same (x ∷ l) a) o ≡ a
       go true e u i = rw (place-here same x l a e) (q .sound x a e)
       go false e u i = rw (place-past same x l a e) (i u)
 
   pub has-added : (l : List A) (a b : A) → hasb same (add same l a) b ≡ (hasb same l b || same a b)
   unfolding hasb
   has-added l a b =
-      ⊎-elim (λ t. rw (add-old same l a t) (old t (same a b) refl)) (λ t. rw (add-new same l a t) (has-append same l (a ∷ []) b ∙ rw (or-false (same a b))))
+      ⊎-elim (λ t. rw (add-old same l a t) (old t (same a b) refl))
+      (λ t. rw (add-new same l a t) (has-append same l (a ∷ []) b ∙ rw (or-false (same a b))))
       (either (hasb same l a))
     where
       old : hasb same l a ≡ true → (s : Bool) → same a b ≡ s → hasb same l b ≡ (hasb same l b || s)

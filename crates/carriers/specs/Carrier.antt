@@ -32,7 +32,8 @@ use Rattle.carriers.specs.Order.{lower-too, agree}
 -- the edge between two corners
 pub between-below : (i j : ℕ) → i < j → j < 4 → edgeOf (digit i j) < 6
 unfolding edgeOf digit
-between-below i j h l = below-at (λ i. i < j → edgeOf (digit i j) < 6) 4 (below-at (λ j. Below (λ i. i < j → edgeOf (digit i j) < 6) 4) 4 (omega arith) j l) i (omega arith) h
+between-below i j h l = below-at (λ i. i < j → edgeOf (digit i j) < 6) 4
+    (below-at (λ j. Below (λ i. i < j → edgeOf (digit i j) < 6) 4) 4 (omega arith) j l) i (omega arith) h
 
 pub between-low : (i j : ℕ) → i < j → j < 4 → low (middle (edgeOf (digit i j))) ≡ i
 unfolding edgeOf digit low high
@@ -46,7 +47,8 @@ between-high i j h l =
     below-at (λ i. i < j → high (middle (edgeOf (digit i j))) ≡ j) 4
     (below-at (λ j. Below (λ i. i < j → high (middle (edgeOf (digit i j))) ≡ j) 4) 4 (omega arith) j l) i (omega arith) h
 
-pub edge-between : {A : Type 0} (o : A) (c : Cell A) (i j : ℕ) → i < j → j < 4 → edge o c (edgeOf (digit i j)) ≡ (corner o c i, corner o c j)
+pub edge-between : {A : Type 0} (o : A) (c : Cell A) (i j : ℕ) → i < j → j < 4
+    → edge o c (edgeOf (digit i j)) ≡ (corner o c i, corner o c j)
 unfolding edge
 edge-between o c i j h l =
     ap₂ (λ (a b : ℕ). (corner o c a, corner o c b)) (between-low i j h l) (between-high i j h l)
@@ -69,7 +71,8 @@ module _ (n k : ℕ) (c q : Cell Point) (h : k < 10) (r : Regular n k c) (s : Re
       held-at [] q sameb (edge [] c (edgeOf (digit i j))) (edgeOf (digit m m')) (between-below m m' w hm')
       (rw (edge-between [] c i j l hj, edge-between [] q m m' w hm', e, e') (joins-self (corner [] q m, corner [] q m')))
 
-  module _ (d e a b : ℕ) (hd : d < 10) (he : e < 10) (ha : a < 10) (hb : b < 10) (x : point c d ≡ point q a) (y : point c e ≡ point q b) (t : T (joinedb (family 63) a b)) where
+  module _ (d e a b : ℕ) (hd : d < 10) (he : e < 10) (ha : a < 10) (hb : b < 10) (x : point c d ≡ point q a) (y : point c e ≡ point q b)
+      (t : T (joinedb (family 63) a b)) where
     ordered : T (orderedb d e a b)
     ordered =
         let (x0, x1) = same-ends n k c q r s h d a hd ha x in
@@ -81,9 +84,12 @@ module _ (n k : ℕ) (c q : Cell Point) (h : k < 10) (r : Regular n k c) (s : Re
         let ag = agree n k c q r s in
         six (agreeb (low d) (high d) (low a) (high a)) (agreeb (low e) (high e) (low b) (high b)) (agreeb (low d) (low e) (low a) (low b))
         (agreeb (low d) (high e) (low a) (high b)) (agreeb (high d) (low e) (high a) (low b)) (agreeb (high d) (high e) (high a) (high b))
-        (ag (low d) (high d) (low a) (high a) (omega arith) d1 (omega arith) a1 x0 x1) (ag (low e) (high e) (low b) (high b) (omega arith) e1 (omega arith) b1 y0 y1)
-        (ag (low d) (low e) (low a) (low b) (omega arith) (omega arith) (omega arith) (omega arith) x0 y0) (ag (low d) (high e) (low a) (high b) (omega arith) e1 (omega arith) b1 x0 y1)
-        (ag (high d) (low e) (high a) (low b) d1 (omega arith) a1 (omega arith) x1 y0) (ag (high d) (high e) (high a) (high b) d1 e1 a1 b1 x1 y1)
+        (ag (low d) (high d) (low a) (high a) (omega arith) d1 (omega arith) a1 x0 x1)
+        (ag (low e) (high e) (low b) (high b) (omega arith) e1 (omega arith) b1 y0 y1)
+        (ag (low d) (low e) (low a) (low b) (omega arith) (omega arith) (omega arith) (omega arith) x0 y0)
+        (ag (low d) (high e) (low a) (high b) (omega arith) e1 (omega arith) b1 x0 y1)
+        (ag (high d) (low e) (high a) (low b) d1 (omega arith) a1 (omega arith) x1 y0)
+        (ag (high d) (high e) (high a) (high b) d1 e1 a1 b1 x1 y1)
 
     joined : T (joinedb (family 63) d e)
     joined = joined-alike d e hd he a b ha hb t ordered
@@ -103,7 +109,8 @@ module _ (n k : ℕ) (c q : Cell Point) (h : k < 10) (r : Regular n k c) (s : Re
     carried p hp f =
         joined-split d e hd he p hp joined
         (all-pass (Shares c q) (λ i. allb (λ j. impb (ltb i j) (split p (edgeOf (digit i j)))) (faceCorners d e))
-        (λ i u. all-pass (Shares c q) (λ j. impb (ltb i j) (split p (edgeOf (digit i j)))) (λ j v. go i j u v (ltb i j) refl) (faceCorners d e) corners-shared)
+        (λ i u. all-pass (Shares c q) (λ j. impb (ltb i j) (split p (edgeOf (digit i j)))) (λ j v. go i j u v (ltb i j) refl)
+        (faceCorners d e) corners-shared)
         (faceCorners d e) corners-shared)
       where
         go : (i j : ℕ) → Shares c q i → Shares c q j → (z : Bool) → ltb i j ≡ z → T (impb z (split p (edgeOf (digit i j))))
@@ -113,17 +120,28 @@ module _ (n k : ℕ) (c q : Cell Point) (h : k < 10) (r : Regular n k c) (s : Re
     shared : (d ≡ e → ⊥) → (z : ℕ) × (z < 6) × T (heldb sameb (edges [] q) (edge [] c z))
     shared w =
         let u = corners-shared in
-        ⊎-elim (λ (l : low d < high d). (edgeOf (digit (low d) (high d)), between-below (low d) (high d) l (digit-ends d hd .1), held-between (low d) (high d) l (u .0) (u .1 .0)))
-        (λ (l : low e < high e). (edgeOf (digit (low e) (high e)), between-below (low e) (high e) l (digit-ends e he .1), held-between (low e) (high e) l (u .1 .1 .0) (u .1 .1 .1 .0)))
+        ⊎-elim (λ (l : low d < high d). (
+          edgeOf (digit (low d) (high d)),
+          between-below (low d) (high d) l (digit-ends d hd .1),
+          held-between (low d) (high d) l (u .0) (u .1 .0),
+        ))
+        (λ (l : low e < high e). (
+          edgeOf (digit (low e) (high e)),
+          between-below (low e) (high e) l (digit-ends e he .1),
+          held-between
+              (low e) (high e) l (u .1 .1 .0) (u .1 .1 .1 .0),
+        ))
         (joined-mid d e hd he joined w)
 
   -- where the two points are the ends of an edge
   module _ (d e a b : ℕ) (hd : d < 10) (he : e < 10) (ha : a < 10) (hb : b < 10) (t : T (joinedb (family 63) a b))
       (x : T (joinsb sameb (point c d, point c e) (point q a, point q b))) where
-    pub carried-edge : (p : ℕ) → p < 64 → ((z : ℕ) → z < 6 → T (heldb sameb (edges [] q) (edge [] c z)) → T (split p z)) → T (joinedb (family p) d e)
+    pub carried-edge : (p : ℕ) → p < 64 → ((z : ℕ) → z < 6 → T (heldb sameb (edges [] q) (edge [] c z)) → T (split p z))
+        → T (joinedb (family p) d e)
     carried-edge p hp f =
         ⊎-elim (λ (u : (point c d ≡ point q a) × (point c e ≡ point q b)). carried d e a b hd he ha hb (u .0) (u .1) t p hp f)
-        (λ (u : (point c d ≡ point q b) × (point c e ≡ point q a)). carried d e b a hd he hb ha (u .0) (u .1) (joined-turned a b ha hb t) p hp f)
+        (λ (u : (point c d ≡ point q b) × (point c e ≡ point q a)). carried d e b a hd he hb ha (u .0) (u .1) (joined-turned a b ha hb t) p
+        hp f)
         (joins (point c d) (point c e) (point q a) (point q b) x)
 
     pub shared-edge : (d ≡ e → ⊥) → (z : ℕ) × (z < 6) × T (heldb sameb (edges [] q) (edge [] c z))

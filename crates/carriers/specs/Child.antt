@@ -33,9 +33,11 @@ module _ (p i : ℕ) (hp : p < 64) (hi : i < length (family p)) (y : ℕ) (hy : 
       let (a, b, _) = middle-ends y hy in
       any-at (λ c. memberb (lowDigit p i y) c && memberb (highDigit p i y) c) [] (family p) i hi
       (and-both (memberb (lowDigit p i y) (digitsOf p i)) (memberb (highDigit p i y) (digitsOf p i))
-      (member-at (digitsOf p i) (low (middle y)) (omega (arith, child-four p i hp hi))) (member-at (digitsOf p i) (high (middle y)) (omega (arith, child-four p i hp hi))))
+      (member-at (digitsOf p i) (low (middle y)) (omega (arith, child-four p i hp hi)))
+      (member-at (digitsOf p i) (high (middle y)) (omega (arith, child-four p i hp hi))))
 
-  pub child-edge : (g c : Cell Point) → c .points ≡ map (point g) (digitsOf p i) → edge [] c y ≡ (point g (lowDigit p i y), point g (highDigit p i y))
+  pub child-edge : (g c : Cell Point) → c .points ≡ map (point g) (digitsOf p i)
+      → edge [] c y ≡ (point g (lowDigit p i y), point g (highDigit p i y))
   unfolding edge
   child-edge g c e =
       let (a, b, _) = middle-ends y hy in
@@ -48,10 +50,12 @@ pub record EdgeAt (p d e : ℕ) : Type 0 where
   pub inside : child < length (family p)
   pub number : ℕ
   pub below : number < 6
-  pub ends : ((d ≡ lowDigit p child number) × (e ≡ highDigit p child number)) ⊎ ((d ≡ highDigit p child number) × (e ≡ lowDigit p child number))
+  pub ends : ((d ≡ lowDigit p child number) × (e ≡ highDigit p child number))
+      ⊎ ((d ≡ highDigit p child number) × (e ≡ lowDigit p child number))
 
 module _ (p d e : ℕ) (hp : p < 64) where
-  at-places : (i : ℕ) → i < length (family p) → (u v : ℕ) → u < v → v < 4 → getD (digitsOf p i) u 0 ≡ d → getD (digitsOf p i) v 0 ≡ e → EdgeAt p d e
+  at-places : (i : ℕ) → i < length (family p) → (u v : ℕ) → u < v → v < 4 → getD (digitsOf p i) u 0 ≡ d → getD (digitsOf p i) v 0 ≡ e
+      → EdgeAt p d e
   at-places i hi u v h l x y =
       record {
         child = i;
@@ -64,8 +68,10 @@ module _ (p d e : ℕ) (hp : p < 64) where
   turned : EdgeAt p e d → EdgeAt p d e
   turned w = record { child = w .child; inside = w .inside; number = w .number; below = w .below; ends = go (w .ends) }
     where
-      go : ((e ≡ lowDigit p (w .child) (w .number)) × (d ≡ highDigit p (w .child) (w .number))) ⊎ ((e ≡ highDigit p (w .child) (w .number)) × (d ≡ lowDigit p (w .child) (w .number)))
-          → ((d ≡ lowDigit p (w .child) (w .number)) × (e ≡ highDigit p (w .child) (w .number))) ⊎ ((d ≡ highDigit p (w .child) (w .number)) × (e ≡ lowDigit p (w .child) (w .number)))
+      go : ((e ≡ lowDigit p (w .child) (w .number)) × (d ≡ highDigit p (w .child) (w .number)))
+          ⊎ ((e ≡ highDigit p (w .child) (w .number)) × (d ≡ lowDigit p (w .child) (w .number)))
+          → ((d ≡ lowDigit p (w .child) (w .number)) × (e ≡ highDigit p (w .child) (w .number)))
+          ⊎ ((d ≡ highDigit p (w .child) (w .number)) × (e ≡ lowDigit p (w .child) (w .number)))
       go (inl (a, b)) = inr (b, a)
       go (inr (a, b)) = inl (b, a)
 
@@ -89,9 +95,11 @@ pub edge-joins : (p d e : ℕ) → p < 64 → (w : EdgeAt p d e) → (g c : Cell
     → T (joinsb sameb (point g d, point g e) (edge [] c (w .number)))
 edge-joins p d e hp w g c x =
     rw (child-edge p (w .child) hp (w .inside) (w .number) (w .below) g c x)
-    (joins-from (point g d, point g e) (point g (lowDigit p (w .child) (w .number)), point g (highDigit p (w .child) (w .number))) (go (w .ends)))
+    (joins-from (point g d, point g e) (point g (lowDigit p (w .child) (w .number)), point g (highDigit p (w .child) (w .number)))
+    (go (w .ends)))
   where
-    go : ((d ≡ lowDigit p (w .child) (w .number)) × (e ≡ highDigit p (w .child) (w .number))) ⊎ ((d ≡ highDigit p (w .child) (w .number)) × (e ≡ lowDigit p (w .child) (w .number)))
+    go : ((d ≡ lowDigit p (w .child) (w .number)) × (e ≡ highDigit p (w .child) (w .number)))
+        ⊎ ((d ≡ highDigit p (w .child) (w .number)) × (e ≡ lowDigit p (w .child) (w .number)))
         → SameEnds (point g d, point g e) (point g (lowDigit p (w .child) (w .number)), point g (highDigit p (w .child) (w .number)))
     go (inl (a, b)) = inl (ap (point g) a, ap (point g) b)
     go (inr (a, b)) = inr (ap (point g) a, ap (point g) b)
@@ -102,11 +110,14 @@ corner-point g d h e =
     let x : digit (low d) (low d) ≡ d = ap (digit (low d)) e ∙ digit-named d h in
     ap (point g) (sym x) ∙ point-corner g (low d) (omega (arith, digit-ends d h))
 
-between-corners : (g : Cell Point) (i j : ℕ) (a b : Point) → i < j → j < 4 → SameEnds (a, b) (corner [] g i, corner [] g j) → T (heldb sameb (edges [] g) (a, b))
+between-corners : (g : Cell Point) (i j : ℕ) (a b : Point) → i < j → j < 4 → SameEnds (a, b) (corner [] g i, corner [] g j)
+    → T (heldb sameb (edges [] g) (a, b))
 between-corners g i j a b h l e =
-    held-at [] g sameb (a, b) (edgeOf (digit i j)) (between-below i j h l) (rw (edge-between [] g i j h l) (joins-from (a, b) (corner [] g i, corner [] g j) e))
+    held-at [] g sameb (a, b) (edgeOf (digit i j)) (between-below i j h l)
+    (rw (edge-between [] g i j h l) (joins-from (a, b) (corner [] g i, corner [] g j) e))
 
-pub own-or-mid : (g : Cell Point) (d e : ℕ) → d < e → e < 10 → ((low d < high d) ⊎ (low e < high e)) ⊎ T (heldb sameb (edges [] g) (point g d, point g e))
+pub own-or-mid : (g : Cell Point) (d e : ℕ) → d < e → e < 10
+    → ((low d < high d) ⊎ (low e < high e)) ⊎ T (heldb sameb (edges [] g) (point g d, point g e))
 own-or-mid g d e h l =
     let (d0, d1) = digit-ends d (omega arith) in
     let (e0, e1) = digit-ends e l in

@@ -57,7 +57,8 @@ unfolding heldb anyb
 held-joined [] e f t u = u
 held-joined (g ∷ es) e f t u =
     ⊎-elim (λ (v : T (joinsb sameb f g)). or-first (joinsb sameb e g) (heldb sameb es e) (joins-trans e f g t v))
-    (λ (v : T (heldb sameb es f)). or-second (joinsb sameb e g) (heldb sameb es e) (held-joined es e f t v)) (or-either (joinsb sameb f g) (heldb sameb es f) u)
+    (λ (v : T (heldb sameb es f)). or-second (joinsb sameb e g) (heldb sameb es e) (held-joined es e f t v))
+    (or-either (joinsb sameb f g) (heldb sameb es f) u)
 
 module _ (e : Edge) where
   pub held-first : (es fs : List Edge) → T (heldb sameb es e) → T (heldb sameb (es ++ fs) e)
@@ -65,7 +66,8 @@ module _ (e : Edge) where
   held-first [] fs t = absurd t
   held-first (g ∷ es) fs t =
       ⊎-elim (λ (v : T (joinsb sameb e g)). or-first (joinsb sameb e g) (heldb sameb (es ++ fs) e) v)
-      (λ (v : T (heldb sameb es e)). or-second (joinsb sameb e g) (heldb sameb (es ++ fs) e) (held-first es fs v)) (or-either (joinsb sameb e g) (heldb sameb es e) t)
+      (λ (v : T (heldb sameb es e)). or-second (joinsb sameb e g) (heldb sameb (es ++ fs) e) (held-first es fs v))
+      (or-either (joinsb sameb e g) (heldb sameb es e) t)
 
   pub held-second : (es fs : List Edge) → T (heldb sameb fs e) → T (heldb sameb (es ++ fs) e)
   unfolding heldb anyb
@@ -78,5 +80,6 @@ module _ (e : Edge) where
   held-either (g ∷ es) fs t =
       ⊎-elim (λ (v : T (joinsb sameb e g)). inl (or-first (joinsb sameb e g) (heldb sameb es e) v))
       (λ (v : T (heldb sameb (es ++ fs) e)).
-      ⊎-elim (λ (w : T (heldb sameb es e)). inl (or-second (joinsb sameb e g) (heldb sameb es e) w)) (λ (w : T (heldb sameb fs e)). inr w) (held-either es fs v))
+      ⊎-elim (λ (w : T (heldb sameb es e)). inl (or-second (joinsb sameb e g) (heldb sameb es e) w)) (λ (w : T (heldb sameb fs e)). inr w)
+      (held-either es fs v))
       (or-either (joinsb sameb e g) (heldb sameb (es ++ fs) e) t)

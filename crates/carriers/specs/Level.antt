@@ -28,22 +28,28 @@ module _ (n m l : ℕ) (q : Cell Point) (s : Regular n m q) where
       let (v, _, u) = unit-even l m h g in
       let y = a .0 p * v in
       let z = b .0 p * v in
-      let e : x i p ≡ y + y = cancel m (x i p) (y + y) (tailSum (corner [] q i) p) (tailSum (corner [] q i) p) (s .tails i (omega arith) p) (a .1 p ∙ rw u (omega arith)) refl in
-      let f : x j p ≡ z + z = cancel m (x j p) (z + z) (tailSum (corner [] q j) p) (tailSum (corner [] q j) p) (s .tails j hj p) (b .1 p ∙ rw u (omega arith)) refl in
+      let e : x i p ≡ y + y = cancel m (x i p) (y + y) (tailSum (corner [] q i) p) (tailSum (corner [] q i) p) (s .tails i (omega arith) p)
+      (a .1 p ∙ rw u (omega arith)) refl in
+      let f : x j p ≡ z + z = cancel m (x j p) (z + z) (tailSum (corner [] q j) p) (tailSum (corner [] q j) p) (s .tails j hj p)
+      (b .1 p ∙ rw u (omega arith)) refl in
       omega arith
 
-module _ (n k m : ℕ) (c q : Cell Point) (h : k < 10) (g : m ≤ 10) (r : Regular n k c) (s : Regular n m q) (d e : ℕ) (hd : d < 10) (he : e < 10) where
-  level-from : (low d < high d) ⊎ (low e < high e) → (i j : ℕ) → i < 4 → j < 4 → (i < j) ⊎ (j < i) → point c d ≡ corner [] q i → point c e ≡ corner [] q j → m ≡ suc k
+module _ (n k m : ℕ) (c q : Cell Point) (h : k < 10) (g : m ≤ 10) (r : Regular n k c) (s : Regular n m q) (d e : ℕ) (hd : d < 10)
+    (he : e < 10) where
+  level-from : (low d < high d) ⊎ (low e < high e) → (i j : ℕ) → i < 4 → j < 4 → (i < j) ⊎ (j < i) → point c d ≡ corner [] q i
+      → point c e ≡ corner [] q j → m ≡ suc k
   level-from z i j hi hj o x y =
       elim (decLt k m) [
-        | no l ↦ absurd (⊎-elim (λ (w : low d < high d). mid-off n k m c (corner [] q i) h r (omega arith) (corner-on n m q s i hi) d hd w x)
+        | no l ↦ absurd (⊎-elim (λ (w : low d < high d). mid-off n k m c (corner [] q i) h r (omega arith) (corner-on n m q s i hi) d hd w
+            x)
             (λ (w : low e < high e). mid-off n k m c (corner [] q j) h r (omega arith) (corner-on n m q s j hj) e he w y) z)
         | yes l ↦ elim (decLt (suc k) m) [
           | no u ↦ omega arith
           | yes u ↦
               let a : On (suc k) (corner [] q i) = rw (← x) (point-on n k c h r d hd) in
               let b : On (suc k) (corner [] q j) = rw (← y) (point-on n k c h r e he) in
-              absurd (⊎-elim (λ (w : i < j). not-both-on n m (suc k) q s u g i j w hj a b) (λ (w : j < i). not-both-on n m (suc k) q s u g j i w hi b a) o)
+              absurd (⊎-elim (λ (w : i < j). not-both-on n m (suc k) q s u g i j w hj a b)
+              (λ (w : j < i). not-both-on n m (suc k) q s u g j i w hi b a) o)
         ]
       ]
 

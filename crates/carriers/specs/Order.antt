@@ -31,7 +31,8 @@ beq-self true = tt
 beq-self false = tt
 
 module _ (n m : ℕ) (c q : Cell Point) (r : Regular n m c) (s : Regular n m q) where
-  ltb-too : (i j k l : ℕ) → i < 4 → j < 4 → k < 4 → l < 4 → corner [] c i ≡ corner [] q k → corner [] c j ≡ corner [] q l → ltb i j ≡ ltb k l
+  ltb-too : (i j k l : ℕ) → i < 4 → j < 4 → k < 4 → l < 4 → corner [] c i ≡ corner [] q k → corner [] c j ≡ corner [] q l
+      → ltb i j ≡ ltb k l
   ltb-too i j k l hi hj hk hl e f = go (ltb i j) refl (ltb k l) refl
     where
       go : (a : Bool) → ltb i j ≡ a → (b : Bool) → ltb k l ≡ b → a ≡ b
@@ -39,7 +40,8 @@ module _ (n m : ℕ) (c q : Cell Point) (r : Regular n m c) (s : Regular n m q) 
       go false p true x = sym p ∙ lt-ltb i j (lower-too n m q c s r k l i j hl hi (sym e) (sym f) (ltb-true k l x))
       go false p false x = refl
 
-  pub agree : (i j k l : ℕ) → i < 4 → j < 4 → k < 4 → l < 4 → corner [] c i ≡ corner [] q k → corner [] c j ≡ corner [] q l → T (agreeb i j k l)
+  pub agree : (i j k l : ℕ) → i < 4 → j < 4 → k < 4 → l < 4 → corner [] c i ≡ corner [] q k → corner [] c j ≡ corner [] q l
+      → T (agreeb i j k l)
   agree i j k l hi hj hk hl e f =
       rw (ltb-too i j k l hi hj hk hl e f, ltb-too j i l k hj hi hl hk f e)
       (and-both (Bool·beq (ltb k l) (ltb k l)) (Bool·beq (ltb l k) (ltb l k)) (beq-self (ltb k l)) (beq-self (ltb l k)))

@@ -50,14 +50,18 @@ pattern-small es c s q = go (redb s) refl (c .regular) refl
   where
     go : (b : Bool) → redb s ≡ b → (d : Bool) → c .regular ≡ d → patternOf s < 64
     go true e d f = rw (pattern-red s e) (omega arith)
-    go false e true f = let w : s ≡ pattern [] sameb es c = status-green es c s q (rw f tt) e in rw (pattern-green s e, w) (pattern-six [] sameb es c)
+    go false e true f = let w : s ≡ pattern [] sameb es c = status-green es c s q (rw f tt) e in
+        rw (pattern-green s e, w) (pattern-six [] sameb es c)
     go false e false f = let w : s ≡ 0 = rw (f, statusOf) at q in rw (pattern-green s e, w) (omega arith)
 
-module _ (n k : ℕ) (g p : Cell Point) (h : k < 10) (r : Regular n k g) (s : Regular n k p) (es : List Edge) (reds : (e : Edge) → T (heldb sameb (edges [] p) e) → T (heldb sameb es e))
+module _ (n k : ℕ) (g p : Cell Point) (h : k < 10) (r : Regular n k g) (s : Regular n k p) (es : List Edge)
+    (reds : (e : Edge) → T (heldb sameb (edges [] p) e) → T (heldb sameb es e))
     (t : ℕ) (q : StatusIn es g t) (regular : T (g .regular))
-    (d e a b : ℕ) (hd : d < 10) (he : e < 10) (ha : a < 10) (hb : b < 10) (j : T (joinedb (family 63) a b)) (x : T (joinsb sameb (point g d, point g e) (point p a, point p b))) where
+    (d e a b : ℕ) (hd : d < 10) (he : e < 10) (ha : a < 10) (hb : b < 10) (j : T (joinedb (family 63) a b))
+    (x : T (joinsb sameb (point g d, point g e) (point p a, point p b))) where
   pub joined-here : T (joinedb (family (patternOf t)) d e)
-  joined-here = carried-edge n k g p h r s d e a b hd he ha hb j x (patternOf t) (pattern-small es g t q) (λ z hz u. go (redb t) refl z hz (reds (edge [] g z) u))
+  joined-here = carried-edge n k g p h r s d e a b hd he ha hb j x (patternOf t) (pattern-small es g t q)
+      (λ z hz u. go (redb t) refl z hz (reds (edge [] g z) u))
     where
       go : (b : Bool) → redb t ≡ b → (z : ℕ) → z < 6 → T (heldb sameb es (edge [] g z)) → T (split (patternOf t) z)
       go true e z hz u = rw (pattern-red t e, split-red z hz) tt
@@ -68,5 +72,6 @@ module _ (n k : ℕ) (g p : Cell Point) (h : k < 10) (r : Regular n k g) (s : Re
       let (z, hz, u) = shared-edge n k g p h r s d e a b hd he ha hb j x w in
       let f : redb t ≡ false = rw y refl in
       let v : pattern [] sameb es g ≡ 0 = sym (status-green es g t q regular f) ∙ y in
-      let o : split 0 z ≡ true = ap (λ (m : ℕ). split m z) (sym v) ∙ split-pattern [] sameb es g z hz ∙ is-true (heldb sameb es (edge [] g z)) (reds (edge [] g z) u) in
+      let o : split 0 z ≡ true = ap (λ (m : ℕ). split m z) (sym v) ∙ split-pattern [] sameb es g z hz
+      ∙ is-true (heldb sameb es (edge [] g z)) (reds (edge [] g z) u) in
       not-both (split 0 z) o (split-none z)

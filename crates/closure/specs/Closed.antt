@@ -67,19 +67,33 @@ part-cons l k m h = rw (drop-cons l k 0 h)
 module _ (es : List Pair) (t l : List ℕ) where
   -- what a range from c on decides, as far as its first cell decides it
   pub closed-next : (c last : ℕ) → c < last → last ≤ length l → getD l c 0 ≡ listedStatus es (redb (getD l c 0)) (cellAt t c)
-      → listedClosed es (cellsAt t c (last - c)) (part l c (last - c)) ≡ listedClosed es (cellsAt t (c + 1) (last - (c + 1))) (part l (c + 1) (last - (c + 1)))
+      → listedClosed es (cellsAt t c (last - c)) (part l c (last - c)) ≡ listedClosed es (cellsAt t (c + 1) (last - (c + 1)))
+      (part l (c + 1) (last - (c + 1)))
   unfolding listedClosed
   closed-next c last h g e =
       let k : last - c ≡ suc (last - (c + 1)) = omega arith in
       let w : c + 1 ≡ suc c = omega arith in
-      rw (k, cells-cons t c (last - (c + 1)), part-cons l c (last - (c + 1)) (omega arith), eq-eqb (getD l c 0) (listedStatus es (redb (getD l c 0)) (cellAt t c)) e, w)
+      rw (
+        k,
+        cells-cons t c (last - (c + 1)),
+        part-cons l c (last - (c + 1)) (omega arith),
+        eq-eqb (getD l c 0)
+            (listedStatus es (redb (getD l c 0)) (cellAt t c)) e,
+        w,
+      )
 
   pub closed-not : (c last : ℕ) → c < last → last ≤ length l → (getD l c 0 ≡ listedStatus es (redb (getD l c 0)) (cellAt t c) → ⊥)
       → listedClosed es (cellsAt t c (last - c)) (part l c (last - c)) ≡ false
   unfolding listedClosed
   closed-not c last h g e =
       let k : last - c ≡ suc (last - (c + 1)) = omega arith in
-      rw (k, cells-cons t c (last - (c + 1)), part-cons l c (last - (c + 1)) (omega arith), ne-eqb (getD l c 0) (listedStatus es (redb (getD l c 0)) (cellAt t c)) e)
+      rw (
+        k,
+        cells-cons t c (last - (c + 1)),
+        part-cons l c (last - (c + 1)) (omega arith),
+        ne-eqb (getD l c 0)
+            (listedStatus es (redb (getD l c 0)) (cellAt t c)) e,
+      )
 
   pub closed-end : (last : ℕ) → listedClosed es (cellsAt t last (last - last)) (part l last (last - last)) ≡ true
   unfolding listedClosed cellsAt

@@ -18,8 +18,16 @@ use Rattle.edges.specs.Table.{Edges, Space, Inserted, Grown, grown-none, grown-
 use Rattle.closure.specs.Ready.{Run, redOf, redCount, count-one}
 use Rattle.rows.specs.Laws.{length-cells, length-part, part-more}
 
-pub run-start : (xs ys heads links : List ℕ) (from n : ℕ) → Edges xs ys heads links from n → Run xs ys heads links from n [] xs ys heads links n
-run-start xs ys heads links from n e = record { grown = grown-none xs ys heads links from n e; same-xs = refl; same-ys = refl; same-heads = refl; same-links = refl }
+pub run-start : (xs ys heads links : List ℕ) (from n : ℕ) → Edges xs ys heads links from n
+    → Run xs ys heads links from n [] xs ys heads links n
+run-start xs ys heads links from n e = record {
+  grown = grown-none xs ys heads links from n e;
+  same-xs = refl;
+  same-ys = refl;
+  same-heads =
+      refl;
+  same-links = refl;
+}
 
 module _ (xs₀ ys₀ heads₀ links₀ : List ℕ) (from n : ℕ) (es : List Pair) (xs ys heads links : List ℕ) (m : ℕ)
     (r : Run xs₀ ys₀ heads₀ links₀ from n es xs ys heads links m) where
@@ -36,11 +44,19 @@ module _ (xs₀ ys₀ heads₀ links₀ : List ℕ) (from n : ℕ) (es : List Pa
   pub room-left : (k : ℕ) → Space xs₀ ys₀ links₀ n k → length es < k → Room xs ys links m
   room-left k s h =
       let t = space-left 1 k s (omega arith) in
-      record { small = omega (arith, t .small); in-xs = omega (arith, t .in-xs); in-ys = omega (arith, t .in-ys); in-links = omega (arith, t .in-links) }
+      record {
+        small = omega (arith, t .small);
+        in-xs = omega (arith, t .in-xs);
+        in-ys = omega (arith, t .in-ys);
+        in-links = omega
+            (arith, t .in-links);
+      }
 
-  module _ (xs′ ys′ heads′ links′ : List ℕ) (m′ : ℕ) (sx : length xs′ ≡ length xs) (sy : length ys′ ≡ length ys) (sh : length heads′ ≡ length heads)
+  module _ (xs′ ys′ heads′ links′ : List ℕ) (m′ : ℕ) (sx : length xs′ ≡ length xs) (sy : length ys′ ≡ length ys)
+      (sh : length heads′ ≡ length heads)
       (sl : length links′ ≡ length links) where
-    pub run-more : (fs : List Pair) → Grown xs ys from m fs xs′ ys′ heads′ links′ m′ → Run xs₀ ys₀ heads₀ links₀ from n (es ++ fs) xs′ ys′ heads′ links′ m′
+    pub run-more : (fs : List Pair) → Grown xs ys from m fs xs′ ys′ heads′ links′ m′ → Run xs₀ ys₀ heads₀ links₀ from n (es ++ fs) xs′ ys′
+        heads′ links′ m′
     run-more fs g =
         record {
           grown = grown-both xs₀ ys₀ from n es fs xs ys heads links m (r .grown) xs′ ys′ heads′ links′ m′ g;
@@ -50,7 +66,8 @@ module _ (xs₀ ys₀ heads₀ links₀ : List ℕ) (from n : ℕ) (es : List Pa
           same-links = sl ∙ r .same-links;
         }
 
-    pub run-one : (e : Pair) (at : ℕ) → Inserted xs ys from m e xs′ ys′ heads′ links′ at m′ → Run xs₀ ys₀ heads₀ links₀ from n (es ++ (e ∷ [])) xs′ ys′ heads′ links′ m′
+    pub run-one : (e : Pair) (at : ℕ) → Inserted xs ys from m e xs′ ys′ heads′ links′ at m′
+        → Run xs₀ ys₀ heads₀ links₀ from n (es ++ (e ∷ [])) xs′ ys′ heads′ links′ m′
     run-one e at i = run-more (e ∷ []) (grown-one xs ys from m e xs′ ys′ heads′ links′ at m′ i)
 
 -- the edges of a cell, one after the other
@@ -79,7 +96,8 @@ unfolding edges
 all-edges c = refl
 
 -- the red cells of a range, one cell more
-red-snoc : (cs : List (Cell ℕ)) (ss : List ℕ) (c : Cell ℕ) (s : ℕ) → length cs ≡ length ss → redEdges 0 (cs ++ (c ∷ [])) (ss ++ (s ∷ [])) ≡ redEdges 0 cs ss ++ redOf s c
+red-snoc : (cs : List (Cell ℕ)) (ss : List ℕ) (c : Cell ℕ) (s : ℕ) → length cs ≡ length ss
+    → redEdges 0 (cs ++ (c ∷ [])) (ss ++ (s ∷ [])) ≡ redEdges 0 cs ss ++ redOf s c
 unfolding redEdges redOf
 red-snoc [] [] c s e = go (redb s)
   where
@@ -91,7 +109,11 @@ red-snoc (d ∷ cs) [] c s e = absurd (omega arith)
 red-snoc (d ∷ cs) (t ∷ ss) c s e = go (redb t) (red-snoc cs ss c s (omega arith))
   where
     go : (b : Bool) → redEdges 0 (cs ++ (c ∷ [])) (ss ++ (s ∷ [])) ≡ redEdges 0 cs ss ++ redOf s c
-        → _≡_ {A = List Pair} (elim b [ true ↦ edges 0 d ++ redEdges 0 (cs ++ (c ∷ [])) (ss ++ (s ∷ [])) | false ↦ redEdges 0 (cs ++ (c ∷ [])) (ss ++ (s ∷ [])) ])
+        → _≡_ {A = List Pair} (elim b [
+          | true ↦ edges 0 d ++ redEdges 0 (cs ++ (c ∷ [])) (ss ++ (s ∷ []))
+          | false ↦ redEdges 0
+              (cs ++ (c ∷ [])) (ss ++ (s ∷ []))
+        ])
         (_++_ {A = Pair} (elim b [ true ↦ edges 0 d ++ redEdges 0 cs ss | false ↦ redEdges 0 cs ss ]) (redOf s c))
     go true i = rw i (sym (append-assoc (edges 0 d) (redEdges 0 cs ss) (redOf s c)))
     go false i = i
@@ -119,7 +141,8 @@ length-reds [] (t ∷ ss) e = absurd (omega arith)
 length-reds (d ∷ cs) [] e = absurd (omega arith)
 length-reds (d ∷ cs) (t ∷ ss) e = go (redb t) (length-reds cs ss (omega arith))
   where
-    go : (b : Bool) → length (redEdges 0 cs ss) ≡ 6 * redCount ss → length {A = Pair} (elim b [ true ↦ edges 0 d ++ redEdges 0 cs ss | false ↦ redEdges 0 cs ss ]) ≡ 6 * (one-if b + redCount ss)
+    go : (b : Bool) → length (redEdges 0 cs ss) ≡ 6 * redCount ss
+        → length {A = Pair} (elim b [ true ↦ edges 0 d ++ redEdges 0 cs ss | false ↦ redEdges 0 cs ss ]) ≡ 6 * (one-if b + redCount ss)
     go true i = length-append (edges 0 d) (redEdges 0 cs ss) ∙ omega (arith, six d)
     go false i = i ∙ omega arith
 
@@ -130,7 +153,8 @@ count-append (s ∷ ss) ts = omega (arith, count-append ss ts)
 
 module _ (t l : List ℕ) (first : ℕ) where
   reds-more : (m : ℕ) → first + m < length l
-      → redEdges 0 (cellsAt t first (suc m)) (part l first (suc m)) ≡ redEdges 0 (cellsAt t first m) (part l first m) ++ redOf (getD l (first + m) 0) (cellAt t (first + m))
+      → redEdges 0 (cellsAt t first (suc m)) (part l first (suc m)) ≡ redEdges 0 (cellsAt t first m) (part l first m) ++ redOf
+      (getD l (first + m) 0) (cellAt t (first + m))
   unfolding cellsAt
   reds-more m h =
       rw (part-more l first m h)
@@ -139,10 +163,12 @@ module _ (t l : List ℕ) (first : ℕ) where
 
   -- the red edges of the cells so far and the next one's are within those of the whole range
   reds-within : (m k : ℕ) → m < k → first + k ≤ length l
-      → length (redEdges 0 (cellsAt t first m) (part l first m)) + length (redOf (getD l (first + m) 0) (cellAt t (first + m))) ≤ 6 * redCount (part l first k)
+      → length (redEdges 0 (cellsAt t first m) (part l first m)) + length (redOf (getD l (first + m) 0) (cellAt t (first + m))) ≤ 6
+      * redCount (part l first k)
   reds-within m k h g =
       let e : part l first k ≡ part l first (suc m) ++ drop (suc m) (part l first k) =
-      sym (take-append-drop (suc m) (part l first k)) ∙ ap (λ (x : List ℕ). x ++ drop (suc m) (part l first k)) (take-take (suc m) k (drop first l) (omega arith)) in
+      sym (take-append-drop (suc m) (part l first k)) ∙ ap (λ (x : List ℕ). x ++ drop (suc m) (part l first k))
+      (take-take (suc m) k (drop first l) (omega arith)) in
       omega (
         arith,
         ap redCount e ∙ count-append (part l first (suc m)) (drop (suc m) (part l first k)),
@@ -155,14 +181,16 @@ module _ (t l : List ℕ) (first : ℕ) where
   -- the same by the cell's number
   module _ (c : ℕ) (h : first ≤ c) where
     pub reds-step : c < length l
-        → redEdges 0 (cellsAt t first (c + 1 - first)) (part l first (c + 1 - first)) ≡ redEdges 0 (cellsAt t first (c - first)) (part l first (c - first)) ++ redOf (getD l c 0) (cellAt t c)
+        → redEdges 0 (cellsAt t first (c + 1 - first)) (part l first (c + 1 - first)) ≡ redEdges 0 (cellsAt t first (c - first))
+        (part l first (c - first)) ++ redOf (getD l c 0) (cellAt t c)
     reds-step g =
         let e : c + 1 - first ≡ suc (c - first) = omega arith in
         let w : first + (c - first) ≡ c = omega arith in
         rw e (rw w at (reds-more (c - first) (omega arith)))
 
     pub reds-fit : (last : ℕ) → c < last → last ≤ length l
-        → length (redEdges 0 (cellsAt t first (c - first)) (part l first (c - first))) + length (redOf (getD l c 0) (cellAt t c)) ≤ 6 * redCount (part l first (last - first))
+        → length (redEdges 0 (cellsAt t first (c - first)) (part l first (c - first))) + length (redOf (getD l c 0) (cellAt t c)) ≤ 6
+        * redCount (part l first (last - first))
     reds-fit last k g =
         let w : first + (c - first) ≡ c = omega arith in
         rw w at (reds-within (c - first) (last - first) (omega arith) (omega arith))

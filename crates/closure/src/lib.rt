@@ -72,8 +72,11 @@ pub fn red_level(
     n: usize,
 ) -> usize
     requires { ⌜ Range (now status) first last ⌝ }
-    requires { ⌜ Ready (now cells) (now xs) (now ys) (now heads) (now links) last from n (6 * redCount (part (now status) first (last - first))) ⌝ }
-    ensures { λ r. ⌜ Grown (was xs) (was ys) from n (redEdges 0 (cellsAt (was cells) first (last - first)) (part (was status) first (last - first))) (is xs) (is ys) (is heads) (is links) r ⌝ }
+    requires { ⌜ Ready (now cells) (now xs) (now ys) (now heads) (now links) last from n
+        (6 * redCount (part (now status) first (last - first))) ⌝ }
+    ensures { λ r. ⌜ Grown (was xs) (was ys) from n
+        (redEdges 0 (cellsAt (was cells) first (last - first)) (part (was status) first (last - first))) (is xs) (is ys) (is heads)
+        (is links) r ⌝ }
 {
     let mut m = n;
     let mut c = first;
@@ -174,7 +177,8 @@ pub fn closed_level(
 ) -> bool
     requires { ⌜ Range (now status) first last ⌝ }
     requires { ⌜ Looks (now cells) (now xs) (now ys) (now heads) (now links) last from n ⌝ }
-    ensures { λ r. ⌜ r ≡ listedClosed (listed (was xs) (was ys) from n) (cellsAt (was cells) first (last - first)) (part (was status) first (last - first)) ⌝ }
+    ensures { λ r. ⌜ r ≡ listedClosed (listed (was xs) (was ys) from n) (cellsAt (was cells) first (last - first))
+        (part (was status) first (last - first)) ⌝ }
 {
     let mut c = first;
     while c < last {

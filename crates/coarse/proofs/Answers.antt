@@ -89,7 +89,8 @@ cells-mono : (n : ℕ) → n ≤ 512 → (qs : List (List ℕ)) → T (cellsb n 
 unfolding cellsb allb
 cells-mono n h [] t = tt
 cells-mono n h (q ∷ qs) t =
-    yes-and (cellb 512 q) (allb (cellb 512) qs) (cell-mono n h q (and-left (cellb n q) (allb (cellb n) qs) t)) (cells-mono n h qs (and-right (cellb n q) (allb (cellb n) qs) t))
+    yes-and (cellb 512 q) (allb (cellb 512) qs) (cell-mono n h q (and-left (cellb n q) (allb (cellb n) qs) t))
+    (cells-mono n h qs (and-right (cellb n q) (allb (cellb n) qs) t))
 
 pub ranked : (ps : List ℤ) (ts : List ℕ) → countsb ps ts ≡ true → cellsb (cornerCount ps) (fours ts) ≡ true → Ranked ts
 ranked ps ts a c =

@@ -29,7 +29,8 @@ module _ {A : Type 0} where
   count-filter f [] = refl
   count-filter f (x ∷ l) = go (f x) (count-filter f l)
     where
-      go : (b : Bool) → length (filterb f l) ≡ count f l → length {A = A} (elim b [ true ↦ x ∷ filterb f l | false ↦ filterb f l ]) ≡ one-if b + count f l
+      go : (b : Bool) → length (filterb f l) ≡ count f l → length {A = A} (elim b [ true ↦ x ∷ filterb f l | false ↦ filterb f l ]) ≡ one-if
+          b + count f l
       go true e = omega arith
       go false e = omega arith
 
@@ -38,7 +39,8 @@ module _ {A : Type 0} where
   count-append f [] m = omega arith
   count-append f (x ∷ l) m = omega (arith, count-append f l m)
 
-  pub count-next : (f : A → Bool) (d : A) (l : List A) (i : ℕ) → i < length l → count f (take (suc i) l) ≡ count f (take i l) + one-if (f (getD l i d))
+  pub count-next : (f : A → Bool) (d : A) (l : List A) (i : ℕ) → i < length l → count f (take (suc i) l) ≡ count f (take i l) + one-if
+      (f (getD l i d))
   unfolding count
   count-next f d [] i h = absurd (omega arith)
   count-next f d (x ∷ l) zero h = omega arith

@@ -48,7 +48,14 @@ pub crowd-none : (qs : List (List ℕ)) → ((x y : ℕ) → count (keyb high lo
 unfolding crowdedb
 crowd-none qs h =
     any-never (λ t. leb 3 (holders qs t))
-    (λ t. lt-leb 3 (holders qs t) (omega (arith, holders-count qs t, holders-le t qs, count-le (sameb t) (keyb high lowFace (high t) (lowFace t)) (same-key high lowFace t) (flatMap faces qs), h (high t) (lowFace t))))
+    (λ t. lt-leb 3 (holders qs t) (omega (
+      arith,
+      holders-count qs t,
+      holders-le t qs,
+      count-le (sameb t) (keyb high lowFace (high t) (lowFace t)) (same-key high lowFace t)
+          (flatMap faces qs),
+      h (high t) (lowFace t),
+    )))
     (flatMap faces qs)
 
 -- a test that passes at most one of a list
@@ -70,12 +77,15 @@ module _ (x y a b c d : ℕ) (r : Rising 512 a b c d) where
   abbrev k : List ℕ → Bool
   k t = keyb high lowFace x y t
 
-  another : (p q s u v w : ℕ) → keyb high lowFace x y (p ∷ q ∷ s ∷ []) ≡ true → ((p * 512 + q ≡ u * 512 + v) → s ≡ w → ⊥) → keyb high lowFace x y (u ∷ v ∷ w ∷ []) ≡ false
+  another : (p q s u v w : ℕ) → keyb high lowFace x y (p ∷ q ∷ s ∷ []) ≡ true → ((p * 512 + q ≡ u * 512 + v) → s ≡ w → ⊥)
+      → keyb high lowFace x y (u ∷ v ∷ w ∷ []) ≡ false
   unfolding high lowFace
   another p q s u v w e ne =
-      key-not high lowFace x y (u ∷ v ∷ w ∷ []) (λ i j. ne (key-x high lowFace x y (p ∷ q ∷ s ∷ []) e ∙ sym i) (key-y high lowFace x y (p ∷ q ∷ s ∷ []) e ∙ sym j))
+      key-not high lowFace x y (u ∷ v ∷ w ∷ [])
+      (λ i j. ne (key-x high lowFace x y (p ∷ q ∷ s ∷ []) e ∙ sym i) (key-y high lowFace x y (p ∷ q ∷ s ∷ []) e ∙ sym j))
 
-  faces-once : count (keyb high lowFace x y) (faces (a ∷ b ∷ c ∷ d ∷ [])) ≤ one-if (anyb (keyb high lowFace x y) (faces (a ∷ b ∷ c ∷ d ∷ [])))
+  faces-once : count (keyb high lowFace x y) (faces (a ∷ b ∷ c ∷ d ∷ [])) ≤ one-if
+      (anyb (keyb high lowFace x y) (faces (a ∷ b ∷ c ∷ d ∷ [])))
   unfolding faces count anyb
   faces-once =
       once-more k (b ∷ c ∷ d ∷ []) ((a ∷ c ∷ d ∷ []) ∷ (a ∷ b ∷ d ∷ []) ∷ (a ∷ b ∷ c ∷ []) ∷ [])
@@ -97,7 +107,8 @@ or-imp false b a′ b′ f g e = or-right a′ b′ (g e)
 
 -- a face with the key of t is t
 module _ (p q r : ℕ) (h : q < 512) where
-  face-same : (u v w : ℕ) → v < 512 → keyb high lowFace (high (p ∷ q ∷ r ∷ [])) (lowFace (p ∷ q ∷ r ∷ [])) (u ∷ v ∷ w ∷ []) ≡ true → sameb (p ∷ q ∷ r ∷ []) (u ∷ v ∷ w ∷ []) ≡ true
+  face-same : (u v w : ℕ) → v < 512 → keyb high lowFace (high (p ∷ q ∷ r ∷ [])) (lowFace (p ∷ q ∷ r ∷ [])) (u ∷ v ∷ w ∷ []) ≡ true
+      → sameb (p ∷ q ∷ r ∷ []) (u ∷ v ∷ w ∷ []) ≡ true
   unfolding high lowFace sameb
   face-same u v w l e =
       let i : u * 512 + v ≡ p * 512 + q = key-x high lowFace (p * 512 + q) r (u ∷ v ∷ w ∷ []) e in
@@ -110,7 +121,8 @@ module _ (p q r : ℕ) (h : q < 512) where
   abbrev same : List ℕ → Bool
   same t = sameb (p ∷ q ∷ r ∷ []) t
 
-  has-face : {a b c d : ℕ} → Rising 512 a b c d → anyb key (faces (a ∷ b ∷ c ∷ d ∷ [])) ≡ true → anyb same (faces (a ∷ b ∷ c ∷ d ∷ [])) ≡ true
+  has-face : {a b c d : ℕ} → Rising 512 a b c d → anyb key (faces (a ∷ b ∷ c ∷ d ∷ [])) ≡ true
+      → anyb same (faces (a ∷ b ∷ c ∷ d ∷ [])) ≡ true
   unfolding anyb faces
   has-face {a} {b} {c} {d} s =
       or-imp (key (b ∷ c ∷ d ∷ [])) (anyb key ((a ∷ c ∷ d ∷ []) ∷ (a ∷ b ∷ d ∷ []) ∷ (a ∷ b ∷ c ∷ []) ∷ []))
@@ -126,15 +138,23 @@ module _ (p q r : ℕ) (h : q < 512) where
   held-le none = omega arith
   held-le (cell {a} {b} {c} {d} {qs} s cs) =
       let f = faces (a ∷ b ∷ c ∷ d ∷ []) in
-      omega
-      (arith, count-append key f (flatMap faces qs), faces-once (high (p ∷ q ∷ r ∷ [])) (lowFace (p ∷ q ∷ r ∷ [])) a b c d s, one-le (anyb key f) (anyb same f) (has-face s), held-le cs)
+      omega (
+        arith,
+        count-append key f (flatMap faces qs),
+        faces-once (high (p ∷ q ∷ r ∷ [])) (lowFace (p ∷ q ∷ r ∷ [])) a b c d s,
+        one-le
+            (anyb key f) (anyb same f) (has-face s),
+        held-le cs,
+      )
 
 module _ {qs : List (List ℕ)} (cs : Cells qs) where
   many : (t : List ℕ) → Shape t → 2 < count (keyb high lowFace (high t) (lowFace t)) (flatMap faces qs) → leb 3 (holders qs t) ≡ true
-  many t (shape {p} {q} {r} h) l = le-leb 3 (holders qs (p ∷ q ∷ r ∷ [])) (omega (arith, holders-count qs (p ∷ q ∷ r ∷ []), held-le p q r h cs))
+  many t (shape {p} {q} {r} h) l = le-leb 3 (holders qs (p ∷ q ∷ r ∷ []))
+      (omega (arith, holders-count qs (p ∷ q ∷ r ∷ []), held-le p q r h cs))
 
   pub crowd-some : (i : ℕ) → i < length (flatMap faces qs)
-      → 2 < count (keyb high lowFace (high (getD (flatMap faces qs) i [])) (lowFace (getD (flatMap faces qs) i []))) (flatMap faces qs) → crowdedb qs ≡ true
+      → 2 < count (keyb high lowFace (high (getD (flatMap faces qs) i [])) (lowFace (getD (flatMap faces qs) i []))) (flatMap faces qs)
+      → crowdedb qs ≡ true
   unfolding crowdedb
   crowd-some i h l =
       any-at (λ t. leb 3 (holders qs t)) [] (flatMap faces qs) i h (many (getD (flatMap faces qs) i []) (face-shape cs i h) l)

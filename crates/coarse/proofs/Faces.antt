@@ -27,7 +27,8 @@ four-faces (q ∷ qs) (suc (suc (suc (suc i)))) h =
     rw (m, k) (four-faces qs i (omega arith))
 
 -- the face i from its cell
-pub face-of : (ts : List ℕ) (i : ℕ) → i / 4 < length ts / 4 → {q : List ℕ} → q ≡ getD (fours ts) (i / 4) [] → (k : ℕ) → i % 4 ≡ k → getD (faces q) k [] ≡ faceOfFour ts i
+pub face-of : (ts : List ℕ) (i : ℕ) → i / 4 < length ts / 4 → {q : List ℕ} → q ≡ getD (fours ts) (i / 4) [] → (k : ℕ) → i % 4 ≡ k
+    → getD (faces q) k [] ≡ faceOfFour ts i
 unfolding faceOfFour
 face-of ts i h e k m =
     ap (λ (u : List ℕ). getD (faces u) k []) e ∙ ap (λ (j : ℕ). getD (faces (getD (fours ts) (i / 4) [])) j []) (sym m)

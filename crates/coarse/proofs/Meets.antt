@@ -93,7 +93,8 @@ module _ (kx ky : List ℕ → ℕ) (most : ℕ) (fs : List (List ℕ)) where
       unfolding one-if
       kept v w b =
           let e : met (i + 1) v w ≡ met i v w + 0 = next v w ∙ rw b in
-          let ne : x ≡ v → y ≡ w → ⊥ = λ p q. let z : _≡_ {A = ℕ} 0 1 = cc (key-is kx ky v w (getD fs i []) (sym ex ∙ p) (sym ey ∙ q)) in omega arith in
+          let ne : x ≡ v → y ≡ w → ⊥ = λ p q. let z : _≡_ {A = ℕ} 0 1 = cc (key-is kx ky v w (getD fs i []) (sym ex ∙ p) (sym ey ∙ q)) in
+          omega arith in
           (omega arith, a .others v w ne ∙ s .right v w)
 
       own-key : (v w : ℕ) → keyb kx ky v w (getD fs i []) ≡ true → (x ≡ v) × (y ≡ w)
@@ -114,7 +115,13 @@ module _ (kx ky : List ℕ → ℕ) (most : ℕ) (fs : List (List ℕ)) where
           go false b = omega (arith, kept v w b .0, s .few v w)
 
       pub meets-turn : c ≤ most → Sofar xs′ ys′ heads′ links′ counts′ n′ (i + 1)
-      meets-turn l = record { tables = a .tables; keys = a .keys; inside = omega (arith, s .inside, a .grown); right = grows; few = stays l }
+      meets-turn l = record {
+        tables = a .tables;
+        keys = a .keys;
+        inside = omega (arith, s .inside, a .grown);
+        right = grows;
+        few = stays l;
+      }
 
       pub meets-over : most < c → most < count (keyb kx ky (kx (getD fs i [])) (ky (getD fs i []))) fs
       meets-over l = rw (← ex, ← ey) (omega (arith, own, count-take (keyb kx ky x y) fs (i + 1)))

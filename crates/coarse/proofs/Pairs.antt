@@ -33,7 +33,12 @@ module _ {xs ys heads links counts : List ℕ} {n x y : ℕ} (o : Open xs ys hea
   room =
       let t = o .tables in
       let r = o .room in
-      record { small = omega arith; in-xs = omega (arith, t .in-xs); in-ys = omega (arith, t .in-ys); in-links = omega (arith, t .in-links) }
+      record {
+        small = omega arith;
+        in-xs = omega (arith, t .in-xs);
+        in-ys = omega (arith, t .in-ys);
+        in-links = omega (arith, t .in-links);
+      }
 
   in-counts : n < length counts
   in-counts = omega (arith, o .tables .in-counts, o .room)
@@ -60,7 +65,8 @@ module _ {xs ys heads links counts : List ℕ} {n x y : ℕ} (o : Open xs ys hea
               short = rw length-set (t .short);
             }
 
-        pub tally-new : length heads′ ≡ length heads → length links′ ≡ length links → Tallied xs ys counts n x y xs′ ys′ heads′ links′ (set counts n 1) (n + 1) 1
+        pub tally-new : length heads′ ≡ length heads → length links′ ≡ length links → Tallied xs ys counts n x y xs′ ys′ heads′ links′
+            (set counts n 1) (n + 1) 1
         unfolding times
         tally-new h l =
             let r = room in
@@ -71,11 +77,13 @@ module _ {xs ys heads links counts : List ℕ} {n x y : ℕ} (o : Open xs ys hea
               count-is = omega (arith, count-none);
               same =
                   rw (a .xs-is, a .ys-is, count-none)
-                  (ap (λ (i : ℕ). getD (set counts n 1) i 0) (sym (from-first (set xs n x) (set ys n y) x y (n + 1)) ∙ seek-same xs ys n (r .in-xs) (r .in-ys) x y 0 (omega arith))
+                  (ap (λ (i : ℕ). getD (set counts n 1) i 0) (sym (from-first (set xs n x) (set ys n y) x y (n + 1))
+                  ∙ seek-same xs ys n (r .in-xs) (r .in-ys) x y 0 (omega arith))
                   ∙ getD-set-same counts n 1 0 in-counts);
               others = λ v w ne.
                   rw (a .xs-is, a .ys-is)
-                  (ap (λ (i : ℕ). getD (set counts n 1) i 0) (sym (from-first (set xs n x) (set ys n y) v w (n + 1)) ∙ seek-other xs ys n (r .in-xs) (r .in-ys) v w 0 (omega arith) x y ne ∙ from-first xs ys v w n)
+                  (ap (λ (i : ℕ). getD (set counts n 1) i 0) (sym (from-first (set xs n x) (set ys n y) v w (n + 1))
+                  ∙ seek-other xs ys n (r .in-xs) (r .in-ys) v w 0 (omega arith) x y ne ∙ from-first xs ys v w n)
                   ∙ getD-set-other counts n (seek xs ys v w 0 n) 1 0 (not-last xs ys n v w (r .small)));
             }
 
@@ -96,7 +104,15 @@ module _ {xs ys heads links counts : List ℕ} {n x y : ℕ} (o : Open xs ys hea
           let t = o .tables in
           let h : e < length counts = omega (arith, entry-in, t .in-counts) in
           record {
-            tables = record { in-xs = t .in-xs; in-ys = t .in-ys; in-heads = t .in-heads; in-links = t .in-links; in-counts = rw length-set (t .in-counts); short = rw length-set (t .short) };
+            tables = record {
+              in-xs = t .in-xs;
+              in-ys = t .in-ys;
+              in-heads = t .in-heads;
+              in-links = t .in-links;
+              in-counts = rw length-set
+                  (t .in-counts);
+              short = rw length-set (t .short);
+            };
             keys = o .keys;
             grown = omega arith;
             count-is = rw at;

@@ -29,7 +29,8 @@ cells (a ∷ []) t = none
 cells (a ∷ b ∷ []) t = none
 cells (a ∷ b ∷ c ∷ []) t = none
 cells (a ∷ b ∷ c ∷ d ∷ ts) t =
-    cell (rising 512 a b c d (is-true (cellb 512 (a ∷ b ∷ c ∷ d ∷ [])) (and-left (cellb 512 (a ∷ b ∷ c ∷ d ∷ [])) (allb (cellb 512) (fours ts)) t)))
+    cell (rising 512 a b c d (is-true (cellb 512 (a ∷ b ∷ c ∷ d ∷ []))
+    (and-left (cellb 512 (a ∷ b ∷ c ∷ d ∷ [])) (allb (cellb 512) (fours ts)) t)))
     (cells ts (and-right (cellb 512 (a ∷ b ∷ c ∷ d ∷ [])) (allb (cellb 512) (fours ts)) t))
 
 pub same-key : (kx ky : List ℕ → ℕ) (t u : List ℕ) → sameb t u ≡ true → keyb kx ky (kx t) (ky t) u ≡ true
@@ -57,7 +58,8 @@ twice-none (cell {a} {b} {c} {d} {qs} r cs) h =
 
 -- one of the cells has the key of a cell: it is the cell
 module _ (x y a b c d : ℕ) (r : Rising 512 a b c d) (k : keyb high lowCell x y (a ∷ b ∷ c ∷ d ∷ []) ≡ true) where
-  one-same : {p q s t : ℕ} → Rising 512 p q s t → keyb high lowCell x y (p ∷ q ∷ s ∷ t ∷ []) ≡ true → sameb (a ∷ b ∷ c ∷ d ∷ []) (p ∷ q ∷ s ∷ t ∷ []) ≡ true
+  one-same : {p q s t : ℕ} → Rising 512 p q s t → keyb high lowCell x y (p ∷ q ∷ s ∷ t ∷ []) ≡ true
+      → sameb (a ∷ b ∷ c ∷ d ∷ []) (p ∷ q ∷ s ∷ t ∷ []) ≡ true
   unfolding sameb high lowCell
   one-same {p} {q} {s} {t} r′ l =
       let e : a * 512 + b ≡ x = key-x high lowCell x y (a ∷ b ∷ c ∷ d ∷ []) k in
@@ -71,11 +73,13 @@ module _ (x y a b c d : ℕ) (r : Rising 512 a b c d) (k : keyb high lowCell x y
   any-same none h = absurd (omega arith)
   any-same (cell {a = p} {b = q} {c = s} {d = t} {qs = qs} r′ cs) h = go (keyb high lowCell x y (p ∷ q ∷ s ∷ t ∷ [])) refl (any-same cs) h
     where
-      go : (m : Bool) → keyb high lowCell x y (p ∷ q ∷ s ∷ t ∷ []) ≡ m → (1 ≤ count (keyb high lowCell x y) qs → anyb (sameb (a ∷ b ∷ c ∷ d ∷ [])) qs ≡ true)
+      go : (m : Bool) → keyb high lowCell x y (p ∷ q ∷ s ∷ t ∷ []) ≡ m
+          → (1 ≤ count (keyb high lowCell x y) qs → anyb (sameb (a ∷ b ∷ c ∷ d ∷ [])) qs ≡ true)
           → 1 ≤ one-if m + count (keyb high lowCell x y) qs
           → sameb (a ∷ b ∷ c ∷ d ∷ []) (p ∷ q ∷ s ∷ t ∷ []) || anyb (sameb (a ∷ b ∷ c ∷ d ∷ [])) qs ≡ true
       go true e less h = rw (one-same r′ e)
-      go false e less h = or-right (sameb (a ∷ b ∷ c ∷ d ∷ []) (p ∷ q ∷ s ∷ t ∷ [])) (anyb (sameb (a ∷ b ∷ c ∷ d ∷ [])) qs) (less (omega arith))
+      go false e less h = or-right (sameb (a ∷ b ∷ c ∷ d ∷ []) (p ∷ q ∷ s ∷ t ∷ [])) (anyb (sameb (a ∷ b ∷ c ∷ d ∷ [])) qs)
+          (less (omega arith))
 
 pub twice-some : (x y : ℕ) {qs : List (List ℕ)} → Cells qs → 1 < count (keyb high lowCell x y) qs → twiceb qs ≡ true
 unfolding twiceb count one-if

@@ -86,7 +86,8 @@ near ps e k = go (ltb k (length ps)) refl
   where
     go : (t : Bool) → ltb k (length ps) ≡ t → Small 500000 (getD ps k (pos 0))
     go true t =
-        let b : leb (natAbs (getD ps k (pos 0))) 500000 ≡ true = all-at (λ z. leb (natAbs z) 500000) (pos 0) ps e k (ltb-true k (length ps) t) in
+        let b : leb (natAbs (getD ps k (pos 0))) 500000 ≡ true = all-at (λ z. leb (natAbs z) 500000) (pos 0) ps e k
+        (ltb-true k (length ps) t) in
         record { size = leb→le (natAbs (getD ps k (pos 0))) 500000 (rw b tt) }
     go false t = rw (List·getD-eq-default ps (pos 0) (ltb-false k (length ps) t)) (record { size = omega arith })
 
@@ -94,7 +95,8 @@ cell-passes : (n : ℕ) (ts : List ℕ) → cellsb n (fours ts) ≡ true → (k 
 unfolding cellsb
 cell-passes n ts e k h = all-at (cellb n) [] (fours ts) e k (in-fours ts k h)
 
-pub placed-at : {ps : List ℤ} {ts : List ℕ} → PlacedCells ps ts → (k : ℕ) → k < length ts / 4 → {a b c d : ℕ} → a ∷ b ∷ c ∷ d ∷ [] ≡ getD (fours ts) k [] → CornersThere ps a b c d
+pub placed-at : {ps : List ℤ} {ts : List ℕ} → PlacedCells ps ts → (k : ℕ) → k < length ts / 4 → {a b c d : ℕ}
+    → a ∷ b ∷ c ∷ d ∷ [] ≡ getD (fours ts) k [] → CornersThere ps a b c d
 placed-at {ps} {ts} p k h {a} {b} {c} {d} e =
     let n = near ps (p .positions) in
     let r = rising (length ps / 3) a b c d (rw e (cell-passes (length ps / 3) ts (p .cells) k h)) in

@@ -60,7 +60,11 @@ module _ {m n : ℕ} {x y x′ y′ : ℤ} (p : Kept m x x′) (q : Kept n y y�
   kept-add = record { is = rw (p .is, q .is); small = record { size = omega (arith, add-size x y, p .small .size, q .small .size) } }
 
   pub kept-sub : Kept (m + n) (x -ℤ y) (x′ -ℤ y′)
-  kept-sub = record { is = rw (p .is, q .is); small = record { size = omega (arith, add-size x (negℤ y), neg-size y, p .small .size, q .small .size) } }
+  kept-sub = record {
+    is = rw (p .is, q .is);
+    small = record
+        { size = omega (arith, add-size x (negℤ y), neg-size y, p .small .size, q .small .size) };
+  }
 
 pub read-size : {b : Bool} (z : ℤ) → mag z < 2 ^ 31 → b ≡ leb (natAbs (toZ w32 (ofZ w32 z))) 500000 → b ≡ leb (natAbs z) 500000
 read-size z h e = let f : SFits w32 z = record { sfits = h } in rw (toZ-ofZ f) at e

@@ -19,16 +19,26 @@ use Rattle.coarse.proofs.Repeats.{cells, twice-none, twice-some}
 use Rattle.coarse.proofs.Crowds.{crowd-none, crowd-some}
 
 -- tables of zeros, with no entry
-pub fresh : (heads : List ℕ) → length heads ≡ 4096 → Tables (replicate 1024 0) (replicate 1024 0) heads (replicate 1024 0) (replicate 1024 0)
+pub fresh : (heads : List ℕ) → length heads ≡ 4096 → Tables (replicate 1024 0) (replicate 1024 0) heads (replicate 1024 0)
+    (replicate 1024 0)
 fresh heads e =
     let l : length {A = ℕ} (replicate 1024 0) ≡ 1024 = length-replicate {A = ℕ} 1024 0 in
-    record { in-xs = omega arith; in-ys = omega arith; in-heads = omega arith; in-links = omega arith; in-counts = omega arith; short = omega arith }
+    record {
+      in-xs = omega arith;
+      in-ys = omega arith;
+      in-heads = omega arith;
+      in-links = omega arith;
+      in-counts = omega arith;
+      short =
+          omega arith;
+    }
 
 module _ {ts : List ℕ} (r : Ranked ts) where
   -- of the cells, k have been counted
   module _ {xs ys heads links counts : List ℕ} {n k : ℕ} (s : Sofar high lowCell 1 (fours ts) xs ys heads links counts n k) where
     pub cells-end : length ts / 4 ≤ k → true ≡ not (twiceb (fours ts))
-    cells-end h = sym (ap not (twice-none (cells ts (rw (r .cells) tt)) (meets-end high lowCell 1 (fours ts) s (omega (arith, length-fours ts)))))
+    cells-end h = sym (ap not (twice-none (cells ts (rw (r .cells) tt))
+        (meets-end high lowCell 1 (fours ts) s (omega (arith, length-fours ts)))))
 
     module _ (h : k < length ts / 4) where
       pub cells-open : (x y : ℕ) → Open xs ys heads links counts n x y
@@ -46,23 +56,29 @@ module _ {ts : List ℕ} (r : Ranked ts) where
             (meets-over high lowCell 1 (fours ts) s (in-fours ts k h) (ex ∙ ap high e) (ey ∙ ap lowCell e) a l)))
 
   -- of their faces, i have been counted
-  module _ {xs ys heads links counts : List ℕ} {n i : ℕ} (s : Sofar high lowFace 2 (flatMap faces (fours ts)) xs ys heads links counts n i) where
-    pub faces-end : length ts ≤ i → true ≡ not (crowdedb (fours ts))
-    faces-end h = sym (ap not (crowd-none (fours ts) (meets-end high lowFace 2 (flatMap faces (fours ts)) s (omega (arith, length-faces (fours ts), length-fours ts)))))
+  module _ {xs ys heads links counts : List ℕ} {n i : ℕ} (s : Sofar high lowFace 2 (flatMap faces (fours ts)) xs ys heads links counts n i)
+    where
+      pub faces-end : length ts ≤ i → true ≡ not (crowdedb (fours ts))
+      faces-end h = sym
+          (ap not (crowd-none (fours ts)
+          (meets-end high lowFace 2 (flatMap faces (fours ts)) s (omega (arith, length-faces (fours ts), length-fours ts)))))
 
-    module _ (h : i < length ts) where
-      pub faces-open : (x y : ℕ) → Open xs ys heads links counts n x y
-      faces-open x y =
-          meets-open high lowFace 2 (flatMap faces (fours ts)) s (in-faces ts i (r .whole) h) (omega (arith, length-faces (fours ts), length-fours ts, r .few)) (lit< tt) x y
+      module _ (h : i < length ts) where
+        pub faces-open : (x y : ℕ) → Open xs ys heads links counts n x y
+        faces-open x y =
+            meets-open high lowFace 2 (flatMap faces (fours ts)) s (in-faces ts i (r .whole) h)
+            (omega (arith, length-faces (fours ts), length-fours ts, r .few)) (lit< tt) x y
 
-      module _ {t : List ℕ} (e : t ≡ faceOfFour ts i) {x y : ℕ} (ex : x ≡ high t) (ey : y ≡ lowFace t)
-          {xs′ ys′ heads′ links′ counts′ : List ℕ} {n′ c : ℕ} (a : Tallied xs ys counts n x y xs′ ys′ heads′ links′ counts′ n′ c) where
-        pub faces-turn : c ≤ 2 → Sofar high lowFace 2 (flatMap faces (fours ts)) xs′ ys′ heads′ links′ counts′ n′ (i + 1)
-        unfolding faceOfFour
-        faces-turn l = meets-turn high lowFace 2 (flatMap faces (fours ts)) s (in-faces ts i (r .whole) h) (ex ∙ ap high e) (ey ∙ ap lowFace e) a l
+        module _ {t : List ℕ} (e : t ≡ faceOfFour ts i) {x y : ℕ} (ex : x ≡ high t) (ey : y ≡ lowFace t)
+            {xs′ ys′ heads′ links′ counts′ : List ℕ} {n′ c : ℕ} (a : Tallied xs ys counts n x y xs′ ys′ heads′ links′ counts′ n′ c) where
+          pub faces-turn : c ≤ 2 → Sofar high lowFace 2 (flatMap faces (fours ts)) xs′ ys′ heads′ links′ counts′ n′ (i + 1)
+          unfolding faceOfFour
+          faces-turn l = meets-turn high lowFace 2 (flatMap faces (fours ts)) s (in-faces ts i (r .whole) h) (ex ∙ ap high e)
+              (ey ∙ ap lowFace e) a l
 
-        pub faces-over : 2 < c → false ≡ not (crowdedb (fours ts))
-        unfolding faceOfFour
-        faces-over l =
-            sym (ap not (crowd-some (cells ts (rw (r .cells) tt)) i (in-faces ts i (r .whole) h)
-            (meets-over high lowFace 2 (flatMap faces (fours ts)) s (in-faces ts i (r .whole) h) (ex ∙ ap high e) (ey ∙ ap lowFace e) a l)))
+          pub faces-over : 2 < c → false ≡ not (crowdedb (fours ts))
+          unfolding faceOfFour
+          faces-over l =
+              sym (ap not (crowd-some (cells ts (rw (r .cells) tt)) i (in-faces ts i (r .whole) h)
+              (meets-over high lowFace 2 (flatMap faces (fours ts)) s (in-faces ts i (r .whole) h) (ex ∙ ap high e) (ey ∙ ap lowFace e) a
+              l)))

@@ -41,7 +41,8 @@ module _ {x y z w x′ y′ z′ w′ : ℤ} (fx : Told 1000000 x x′) (fy : To
     pub term-fits : SFits w64 (seen v′ *ℤ seen (seen (seen x′ *ℤ seen y′) -ℤ seen (seen z′ *ℤ seen w′)))
     term-fits = kept-fits term (lit< tt)
 
-    pub term-told : Told 2000000000000000000 (v *ℤ (x *ℤ y -ℤ z *ℤ w)) (seen (seen v′ *ℤ seen (seen (seen x′ *ℤ seen y′) -ℤ seen (seen z′ *ℤ seen w′))))
+    pub term-told : Told 2000000000000000000 (v *ℤ (x *ℤ y -ℤ z *ℤ w))
+        (seen (seen v′ *ℤ seen (seen (seen x′ *ℤ seen y′) -ℤ seen (seen z′ *ℤ seen w′))))
     term-told = kept-tells (kept-read term (lit< tt))
 
 -- the bits of a number are zero where the number is

@@ -51,7 +51,8 @@ pub off-coarse : (n i : ℕ) (t : List ℕ) → i < n → offb 0 (coarse n i) t 
 unfolding coarse
 off-coarse n i t h = off-set 0 n i t h ∙ ap (λ (m : ℕ). memberb m t) (omega arith)
 
-coarse-within : (n : ℕ) (t q : List ℕ) → All (λ x. x < n) t → All (λ x. x < n) q → withinb (map (coarse n) t) (map (coarse n) q) ≡ allb (λ x. memberb x q) t
+coarse-within : (n : ℕ) (t q : List ℕ) → All (λ x. x < n) t → All (λ x. x < n) q → withinb (map (coarse n) t) (map (coarse n) q) ≡ allb
+    (λ x. memberb x q) t
 coarse-within n t q a b = within-map n (coarse n) (λ x y hx hy e. coarse-injective n x y hx hy e) t q a b
 
 pub rise-below : (n : ℕ) (q : List ℕ) → Rise n q → All (λ x. x < n) q
@@ -81,7 +82,8 @@ module _ (n : ℕ) (t : List ℕ) (a : All (λ x. x < n) t) where
   unfolding coarseFrom
   count-same s i [] r = refl
   count-same s i (q ∷ qs) r =
-      ap₂ (λ (b : Bool) (m : ℕ). one-if b + m) (coarse-within n t q a (rise-below n q (r .0)) ∙ within-four n t q s (r .0)) (count-same s (suc i) qs (r .1))
+      ap₂ (λ (b : Bool) (m : ℕ). one-if b + m) (coarse-within n t q a (rise-below n q (r .0)) ∙ within-four n t q s (r .0))
+      (count-same s (suc i) qs (r .1))
 
   sames-none : (qs : List (List ℕ)) → anyb (sameb t) qs ≡ false → sames qs ≡ 0
   unfolding anyb one-if
@@ -100,9 +102,11 @@ none-else false b e = (refl, e)
 no-same : (q : List ℕ) (qs : List (List ℕ)) (k : ℕ) → k < length qs → anyb (sameb q) qs ≡ false → sameb (getD qs k []) q ≡ false
 no-same q qs k h e =
     false-from (sameb (getD qs k []) q)
-    (λ t. not-both {A = ⊥} (anyb (sameb q) qs) (is-true (anyb (sameb q) qs) (any-at (sameb q) [] qs k h (rw (sameb-eq (getD qs k []) q t, sameb-self q) tt))) e)
+    (λ t. not-both {A = ⊥} (anyb (sameb q) qs)
+    (is-true (anyb (sameb q) qs) (any-at (sameb q) [] qs k h (rw (sameb-eq (getD qs k []) q t, sameb-self q) tt))) e)
 
-pub once-same : (n : ℕ) (qs : List (List ℕ)) → twiceb qs ≡ false → (k : ℕ) → k < length qs → (a : All (λ x. x < n) (getD qs k [])) → sames n (getD qs k []) a qs ≡ 1
+pub once-same : (n : ℕ) (qs : List (List ℕ)) → twiceb qs ≡ false → (k : ℕ) → k < length qs → (a : All (λ x. x < n) (getD qs k []))
+    → sames n (getD qs k []) a qs ≡ 1
 unfolding twiceb one-if
 once-same n [] e k h a = absurd (omega arith)
 once-same n (q ∷ qs) e zero h a =

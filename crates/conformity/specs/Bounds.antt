@@ -57,7 +57,8 @@ regroup true false false true q = refl
 regroup true false false false q = refl
 regroup false b false p q = refl
 
-off-mid : (i : ℕ) (p q : Point) (t : List ℕ) (x y : ℕ → ℕ) → length p ≡ length q → ((j : ℕ) → tailSum p j ≡ 2 * x j) → ((j : ℕ) → tailSum q j ≡ 2 * y j)
+off-mid : (i : ℕ) (p q : Point) (t : List ℕ) (x y : ℕ → ℕ) → length p ≡ length q → ((j : ℕ) → tailSum p j ≡ 2 * x j)
+    → ((j : ℕ) → tailSum q j ≡ 2 * y j)
     → offb i (mid p q) t ≡ (offb i p t && offb i q t)
 unfolding offb mid
 off-mid i [] [] t x y e f g = refl
@@ -78,22 +79,28 @@ module _ (n k : ℕ) (c : Cell Point) (h : k < 10) (r : Regular n k c) (t : List
   unfolding point
   off-point x hx =
       let (a, b) = digit-ends x hx in
-      off-mid 0 (corner [] c (low x)) (corner [] c (high x)) t (λ j. r .coordinates (low x) j * unit (suc k)) (λ j. r .coordinates (high x) j * unit (suc k))
+      off-mid 0 (corner [] c (low x)) (corner [] c (high x)) t (λ j. r .coordinates (low x) j * unit (suc k))
+      (λ j. r .coordinates (high x) j * unit (suc k))
       (r .sized (low x) (omega arith) .places ∙ sym (r .sized (high x) b .places)) (even (low x) (omega arith)) (even (high x) b)
 
   -- the corners that some points use lie where the points do
-  off-used : (f : List ℕ) → Below10 f → T (allb (λ p. offb 0 p t) (map (point c) f)) → (m : ℕ) → T (usesb f m) → T (offb 0 (corner [] c m) t)
+  off-used : (f : List ℕ) → Below10 f → T (allb (λ p. offb 0 p t) (map (point c) f)) → (m : ℕ) → T (usesb f m)
+      → T (offb 0 (corner [] c m) t)
   off-used f a w m u =
       let w' : T (allb (λ x. offb 0 (point c x) t) f) = rw (all-through (point c) (λ p. offb 0 p t) f) at w in
       let (i, hi, v) = any-place (λ x. eqb (low x) m || eqb (high x) m) 0 f u in
       let x = getD f i 0 in
       let hx : x < 10 = all-at (λ x. x < 10) 0 f a i hi in
-      let o : T (offb 0 (corner [] c (low x)) t && offb 0 (corner [] c (high x)) t) = rw (off-point x hx) at (allb-at (λ x. offb 0 (point c x) t) 0 f w' i hi) in
-      ⊎-elim (λ (d : T (eqb (low x) m)). let e : low x ≡ m = eqb→eq (low x) m d in rw e at (and-left (offb 0 (corner [] c (low x)) t) (offb 0 (corner [] c (high x)) t) o))
-      (λ (d : T (eqb (high x) m)). let e : high x ≡ m = eqb→eq (high x) m d in rw e at (and-right (offb 0 (corner [] c (low x)) t) (offb 0 (corner [] c (high x)) t) o))
+      let o : T (offb 0 (corner [] c (low x)) t && offb 0 (corner [] c (high x)) t) = rw (off-point x hx) at
+      (allb-at (λ x. offb 0 (point c x) t) 0 f w' i hi) in
+      ⊎-elim (λ (d : T (eqb (low x) m)). let e : low x ≡ m = eqb→eq (low x) m d in rw e at
+      (and-left (offb 0 (corner [] c (low x)) t) (offb 0 (corner [] c (high x)) t) o))
+      (λ (d : T (eqb (high x) m)). let e : high x ≡ m = eqb→eq (high x) m d in rw e at
+      (and-right (offb 0 (corner [] c (low x)) t) (offb 0 (corner [] c (high x)) t) o))
       (or-either (eqb (low x) m) (eqb (high x) m) v)
 
-  module _ (z0 z1 z2 : ℕ) (z01 : z0 < z1) (z12 : z1 < z2) (z4 : z2 < 4) (o0 : T (offb 0 (corner [] c z0) t)) (o1 : T (offb 0 (corner [] c z1) t)) (o2 : T (offb 0 (corner [] c z2) t)) where
+  module _ (z0 z1 z2 : ℕ) (z01 : z0 < z1) (z12 : z1 < z2) (z4 : z2 < 4) (o0 : T (offb 0 (corner [] c z0) t))
+      (o1 : T (offb 0 (corner [] c z1) t)) (o2 : T (offb 0 (corner [] c z2) t)) where
     off-digit : (a b : ℕ) → a ≤ b → b < 4 → T (offb 0 (corner [] c a) t) → T (offb 0 (corner [] c b) t) → T (offb 0 (point c (digit a b)) t)
     off-digit a b h l oa ob =
         let (e0, e1, d) = digit-of a b h l in
@@ -104,7 +111,11 @@ module _ (n k : ℕ) (c : Cell Point) (h : k < 10) (r : Regular n k c) (t : List
         below-at (λ k. T (offb 0 (point c (lift (z0 ∷ z1 ∷ z2 ∷ []) k)) t)) 6 (
           (
             (
-              (((tt, off-digit z0 z0 (omega arith) (omega arith) o0 o0), off-digit z0 z1 (omega arith) (omega arith) o0 o1), off-digit z0 z2 (omega arith) z4 o0 o2),
+              (
+                ((tt, off-digit z0 z0 (omega arith) (omega arith) o0 o0), off-digit z0 z1 (omega arith) (omega arith) o0 o1),
+                off-digit z0 z2
+                    (omega arith) z4 o0 o2,
+              ),
               off-digit z1 z1 (omega arith) (omega arith) o1 o1,
             ),
             off-digit z1 z2 (omega arith) z4 o1 o2,
@@ -116,10 +127,12 @@ module _ (n k : ℕ) (c : Cell Point) (h : k < 10) (r : Regular n k c) (t : List
     unfolding allb
     off-lifts [] a = tt
     off-lifts (k ∷ s) a =
-        and-both (offb 0 (point c (lift (z0 ∷ z1 ∷ z2 ∷ []) k)) t) (allb (λ p. offb 0 p t) (map (point c) (map (lift (z0 ∷ z1 ∷ z2 ∷ [])) s)))
+        and-both (offb 0 (point c (lift (z0 ∷ z1 ∷ z2 ∷ []) k)) t)
+        (allb (λ p. offb 0 p t) (map (point c) (map (lift (z0 ∷ z1 ∷ z2 ∷ [])) s)))
         (off-lift k (a .0)) (off-lifts s (a .1))
 
-  side-off : (ds : List (List ℕ)) (f : List ℕ) → (w : OnSide ds f) → onCoarseFaceb (map (point c) f) t ≡ onCoarseFaceb (map (corner [] c) (cornersAt (w .z))) t
+  side-off : (ds : List (List ℕ)) (f : List ℕ) → (w : OnSide ds f) → onCoarseFaceb (map (point c) f) t ≡ onCoarseFaceb
+      (map (corner [] c) (cornersAt (w .z))) t
   unfolding onCoarseFaceb
   side-off ds f w =
       bool-ext (allb (λ p. offb 0 p t) (map (point c) f)) (allb (λ p. offb 0 p t) (map (corner [] c) (cornersAt (w .z)))) there back
@@ -133,8 +146,10 @@ module _ (n k : ℕ) (c : Cell Point) (h : k < 10) (r : Regular n k c) (t : List
       back : T (allb (λ p. offb 0 p t) (map (corner [] c) (cornersAt (w .z)))) → T (allb (λ p. offb 0 p t) (map (point c) f))
       back u =
           let v = three-at (w .z) (w .face) in
-          let u' : T (allb (λ m. offb 0 (corner [] c m) t) (cornersAt (w .z))) = rw (all-through (corner [] c) (λ p. offb 0 p t) (cornersAt (w .z))) at u in
-          let a : All (λ m. T (offb 0 (corner [] c m) t)) (v .a ∷ v .b ∷ v .c ∷ []) = rw (v .is) at (all-of (λ m. T (offb 0 (corner [] c m) t)) (λ m. offb 0 (corner [] c m) t) (λ m t. t) (cornersAt (w .z)) u') in
+          let u' : T (allb (λ m. offb 0 (corner [] c m) t) (cornersAt (w .z))) = rw
+          (all-through (corner [] c) (λ p. offb 0 p t) (cornersAt (w .z))) at u in
+          let a : All (λ m. T (offb 0 (corner [] c m) t)) (v .a ∷ v .b ∷ v .c ∷ []) = rw (v .is) at
+          (all-of (λ m. T (offb 0 (corner [] c m) t)) (λ m. offb 0 (corner [] c m) t) (λ m t. t) (cornersAt (w .z)) u') in
           let tr = getD digitTriples (w .t) [] in
           let e : f ≡ map (lift (v .a ∷ v .b ∷ v .c ∷ [])) tr = w .is ∙ ap (λ (z : List ℕ). map (lift z) tr) (v .is) in
           subst (λ (f : List ℕ). T (allb (λ p. offb 0 p t) (map (point c) f))) (sym e)
@@ -145,11 +160,13 @@ unfolding anyb
 any-same f g [] e = refl
 any-same f g (x ∷ l) e = ap₂ _||_ (e x) (any-same f g l e)
 
-pub side-bound : (n k : ℕ) (c : Cell Point) → k < 10 → Regular n k c → (qs : List (List ℕ)) (ds : List (List ℕ)) (f : List ℕ) → (w : OnSide ds f)
+pub side-bound : (n k : ℕ) (c : Cell Point) → k < 10 → Regular n k c → (qs : List (List ℕ)) (ds : List (List ℕ)) (f : List ℕ)
+    → (w : OnSide ds f)
     → onBoundaryb qs (map (point c) f) ≡ onBoundaryb qs (map (corner [] c) (cornersAt (w .z)))
 unfolding onBoundaryb
 side-bound n k c h r qs ds f w =
-    any-same (onCoarseFaceb (map (point c) f)) (onCoarseFaceb (map (corner [] c) (cornersAt (w .z)))) (boundaryFaces qs) (λ t. side-off n k c h r t ds f w)
+    any-same (onCoarseFaceb (map (point c) f)) (onCoarseFaceb (map (corner [] c) (cornersAt (w .z)))) (boundaryFaces qs)
+    (λ t. side-off n k c h r t ds f w)
 
 -- the faces of the boundary have three corners
 faces-three : (qs : List (List ℕ)) → All (λ t. length t ≡ 3) (flatMap faces qs)
@@ -165,9 +182,11 @@ bound-three qs = all-filter _ (λ t. length t ≡ 3) (flatMap faces qs) (faces-t
 abbrev pub Wide : Cell Point → Type 0
 Wide c = (t : List ℕ) → length t ≡ 3 → T (allb (λ p. offb 0 p t) (c .points)) → ⊥
 
-module _ (n k : ℕ) (c : Cell Point) (h : k < 10) (r : Regular n k c) (wide : Wide c) (f : List ℕ) (small : Below10 f) (uses : (m : ℕ) → m < 4 → T (usesb f m)) where
+module _ (n k : ℕ) (c : Cell Point) (h : k < 10) (r : Regular n k c) (wide : Wide c) (f : List ℕ) (small : Below10 f)
+    (uses : (m : ℕ) → m < 4 → T (usesb f m)) where
   wide-points : (t : List ℕ) → length t ≡ 3 → T (allb (λ p. offb 0 p t) (map (point c) f)) → ⊥
-  wide-points t e w = wide t e (all-each (λ p. offb 0 p t) [] (c .points) (λ i hi. let hi' : i < 4 = omega (arith, r .four) in off-used n k c h r t f small w i (uses i hi')))
+  wide-points t e w = wide t e (all-each (λ p. offb 0 p t) [] (c .points)
+      (λ i hi. let hi' : i < 4 = omega (arith, r .four) in off-used n k c h r t f small w i (uses i hi')))
 
   pub wide-child : (v : Cell Point) → v .points ≡ map (point c) f → Wide v
   wide-child v e t l w = wide-points t l (rw e at w)

@@ -109,10 +109,12 @@ four-elements o (a ∷ b ∷ c ∷ d ∷ x ∷ l) e = absurd (omega arith)
 pub corner-points : (c : Cell Point) → length (c .points) ≡ 4 → map (point c) (0 ∷ 4 ∷ 7 ∷ 9 ∷ []) ≡ c .points
 unfolding point low high
 corner-points c e =
-    ap₂ _∷_ (mid-self (corner [] c 0)) (ap₂ _∷_ (mid-self (corner [] c 1)) (ap₂ _∷_ (mid-self (corner [] c 2)) (ap₂ _∷_ (mid-self (corner [] c 3)) refl)))
+    ap₂ _∷_ (mid-self (corner [] c 0))
+    (ap₂ _∷_ (mid-self (corner [] c 1)) (ap₂ _∷_ (mid-self (corner [] c 2)) (ap₂ _∷_ (mid-self (corner [] c 3)) refl)))
     ∙ sym (four-elements [] (c .points) e)
 
-pub digits-leaf : (u : List Point) (c : Cell Point) → length (c .points) ≡ 4 → countDigits u (point c) (family (patternOf 0)) ≡ one-if (withinb u (c .points))
+pub digits-leaf : (u : List Point) (c : Cell Point) → length (c .points) ≡ 4 → countDigits u (point c) (family (patternOf 0)) ≡ one-if
+    (withinb u (c .points))
 unfolding patternOf
 digits-leaf u c e = rw (family-leaf, corner-points c e) (omega arith)
 
@@ -122,13 +124,15 @@ module _ (u t : List Point) (h : ℕ) where
   Carried c s = (s ≡ 0 → one-if (withinb u (c .points)) ≡ h * one-if (withinb t (c .points)))
       × (s ≢ 0 → countDigits u (point c) (family (patternOf s)) ≡ h * one-if (withinb t (c .points)))
 
-  leaf-here : (k : ℕ) (c : Cell Point) (cs : List (Cell Point)) (s : ℕ) (ss : List ℕ) → s ≡ 0 → one-if (withinb u (c .points)) ≡ h * one-if (withinb t (c .points))
+  leaf-here : (k : ℕ) (c : Cell Point) (cs : List (Cell Point)) (s : ℕ) (ss : List ℕ) → s ≡ 0
+      → one-if (withinb u (c .points)) ≡ h * one-if (withinb t (c .points))
       → count u (leavesIn cs ss) + count u (next (suc k) cs ss) ≡ h * count t cs
       → count u (leavesIn (c ∷ cs) (s ∷ ss)) + count u (next k (c ∷ cs) (s ∷ ss)) ≡ h * (one-if (withinb t (c .points)) + count t cs)
   unfolding leavesIn next children
   leaf-here k c cs s ss z v i = rw (z, mul-add h (one-if (withinb t (c .points))) (count t cs)) (omega arith)
 
-  pub count-level : (k : ℕ) (cs : List (Cell Point)) (ss : List ℕ) → length ss ≡ length cs → ((i : ℕ) → i < length cs → Carried (getD cs i noCell) (getD ss i 0))
+  pub count-level : (k : ℕ) (cs : List (Cell Point)) (ss : List ℕ) → length ss ≡ length cs
+      → ((i : ℕ) → i < length cs → Carried (getD cs i noCell) (getD ss i 0))
       → count u (leavesIn cs ss) + count u (next k cs ss) ≡ h * count t cs
   unfolding leavesIn next
   count-level k [] ss e f = omega arith
@@ -144,7 +148,15 @@ module _ (u t : List Point) (h : ℕ) where
       go false q i =
           let z : s ≢ 0 = (λ w. not-both (eqb s 0) (eq-eqb s 0 w) q) in
           let v = f 0 (omega arith) .1 z in
-          rw (q, leavesIn, mul-add h (one-if (withinb t (c .points))) (count t cs), count-both u (children k c s (point c)) (next (suc k) cs ss), count-children u k c s z, v) (omega arith)
+          rw (
+            q,
+            leavesIn,
+            mul-add h (one-if (withinb t (c .points))) (count t cs),
+            count-both u (children k c s (point c))
+                (next (suc k) cs ss),
+            count-children u k c s z,
+            v,
+          ) (omega arith)
 
 -- points that are named by numbers below b
 module _ (b : ℕ) (g : ℕ → Point) (inj : (x y : ℕ) → x < b → y < b → g x ≡ g y → x ≡ y) where
@@ -164,7 +176,8 @@ module _ (b : ℕ) (g : ℕ → Point) (inj : (x y : ℕ) → x < b → y < b �
   within-map [] d a c = refl
   within-map (x ∷ f) d a c = ap₂ _&&_ (in-map x (a .0) d c) (within-map f d (a .1) c)
 
-  pub digits-holds : (f : List ℕ) → All (λ y. y < b) f → (ds : List (List ℕ)) → All (All (λ y. y < b)) ds → countDigits (map g f) g ds ≡ holds ds f
+  pub digits-holds : (f : List ℕ) → All (λ y. y < b) f → (ds : List (List ℕ)) → All (All (λ y. y < b)) ds
+      → countDigits (map g f) g ds ≡ holds ds f
   unfolding holds
   digits-holds f a [] c = refl
   digits-holds f a (d ∷ ds) c = ap₂ (λ (x : Bool) (m : ℕ). one-if x + m) (within-map f d a (c .0)) (digits-holds f a ds (c .1))

@@ -96,13 +96,25 @@ module _ (n : ℕ) (qs : List (List ℕ)) (ss : List ℕ) (s : Sound n qs ss) wh
             let z = split-refined s' y t in
             let low = refined-low j p h z in
             let rc : T (c .regular) = status-regular es c s' st z in
-            let held : T (heldb sameb es (edge [] c y)) = rw (pattern-green s' e, status-green es c s' st rc e, split-pattern [] sameb es c y hy) at t in
+            let held : T (heldb sameb es (edge [] c y)) = rw
+            (pattern-green s' e, status-green es c s' st rc e, split-pattern [] sameb es c y hy) at t in
             let w : RedHas (l .cells) (l .statuses) (edge [] c y) = red-which (edge [] c y) (l .cells) (l .statuses) held in
             let q = getD (l .cells) (w .i) noCell in
             let (x, hx, js) = held-which [] q sameb (edge [] c y) (w .has) in
             let rq = red-regular l (level-closed n qs ss (s .closed) j) (w .i) (w .below) (w .red) in
-            let (eq, _) = edge-level n j j c q (omega arith) (omega arith) (regular-at n j l (regular j) p h rc) (regular-at n j l (regular j) (w .i) (w .below) rq) y x hy hx js in
-            record { j = j; low = low; u = w .i; below = w .below; red = w .red; y = x; small = hx; is = ap (λ (e : Point × Point). mid (e .0) (e .1)) eq }
+            let (eq, _) = edge-level n j j c q (omega arith) (omega arith) (regular-at n j l (regular j) p h rc)
+            (regular-at n j l (regular j) (w .i) (w .below) rq) y x hy hx js in
+            record {
+              j = j;
+              low = low;
+              u = w .i;
+              below = w .below;
+              red = w .red;
+              y = x;
+              small = hx;
+              is = ap
+                  (λ (e : Point × Point). mid (e .0) (e .1)) eq;
+            }
 
     pub points-kinds : All (Kind n qs ss) (pointsOf n qs ss)
     unfolding pointsOf
@@ -121,9 +133,11 @@ module _ (n : ℕ) (qs : List (List ℕ)) (ss : List ℕ) (s : Sound n qs ss) wh
         let q = getD (l .cells) (w .u) noCell in
         let (_, _, z) = middle-ends (w .y) (w .small) in
         rw (w .is) (point-sized n (w .j) q (w .low)
-        (regular-at n (w .j) l (regular (w .j)) (w .u) (w .below) (red-regular l (level-closed n qs ss (s .closed) (w .j)) (w .u) (w .below) (w .red))) (middle (w .y)) z .places)
+        (regular-at n (w .j) l (regular (w .j)) (w .u) (w .below)
+        (red-regular l (level-closed n qs ss (s .closed) (w .j)) (w .u) (w .below) (w .red))) (middle (w .y)) z .places)
 
-    pub kind-held : (p : Point) → Kind n qs ss p → (m : ℕ) → m ≤ 10 → (v : Cell Point) → Regular n m v → (y : ℕ) → y < 6 → IsMiddle p (edge [] v y .0) (edge [] v y .1)
+    pub kind-held : (p : Point) → Kind n qs ss p → (m : ℕ) → m ≤ 10 → (v : Cell Point) → Regular n m v → (y : ℕ) → y < 6
+        → IsMiddle p (edge [] v y .0) (edge [] v y .1)
         → RedAt n qs ss m (edge [] v y)
     unfolding edge
     kind-held p k m h v r y hy e =
@@ -137,7 +151,8 @@ module _ (n : ℕ) (qs : List (List ℕ)) (ss : List ℕ) (s : Sound n qs ss) wh
         go g q (inr w) =
             let l = lv n qs ss (w .j) in
             let c = getD (l .cells) (w .u) noCell in
-            let rc = regular-at n (w .j) l (regular (w .j)) (w .u) (w .below) (red-regular l (level-closed n qs ss (s .closed) (w .j)) (w .u) (w .below) (w .red)) in
+            let rc = regular-at n (w .j) l (regular (w .j)) (w .u) (w .below)
+            (red-regular l (level-closed n qs ss (s .closed) (w .j)) (w .u) (w .below) (w .red)) in
             let (a, _, z) = middle-ends y hy in
             let (a', _, z') = middle-ends (w .y) (w .small) in
             let (e0, e1, em) = same-mid n m (w .j) v c g (w .low) r rc (middle y) (middle (w .y)) z z' a a' (sym q ∙ w .is) in

@@ -96,4 +96,5 @@ openb n qs ss =
 unfoldable pub meetb : ℕ → List (List ℕ) → List ℕ → Bool
 unfolding allb leavesWith leavesOf onBoundaryb faceAt
 meetb n qs ss =
-    allb (λ c. allb (λ i. eqb (leavesWith n qs ss (faceAt c i)) (elim (onBoundaryb qs (faceAt c i)) [ true ↦ 1 | false ↦ 2 ])) (0 ∷ 1 ∷ 2 ∷ 3 ∷ [])) (leavesOf n qs ss)
+    allb (λ c. allb (λ i. eqb (leavesWith n qs ss (faceAt c i)) (elim (onBoundaryb qs (faceAt c i)) [ true ↦ 1 | false ↦ 2 ]))
+    (0 ∷ 1 ∷ 2 ∷ 3 ∷ [])) (leavesOf n qs ss)

@@ -41,7 +41,8 @@ unfolding leavesIn
 no-leaves [] = refl
 no-leaves (c ∷ cs) = refl
 
-leaves-append : (cs ds : List (Cell Point)) (ss : List ℕ) → leavesIn (cs ++ ds) ss ≡ leavesIn cs (take (length cs) ss) ++ leavesIn ds (drop (length cs) ss)
+leaves-append : (cs ds : List (Cell Point)) (ss : List ℕ) → leavesIn (cs ++ ds) ss ≡ leavesIn cs (take (length cs) ss) ++ leavesIn ds
+    (drop (length cs) ss)
 unfolding leavesIn
 leaves-append [] ds ss = refl
 leaves-append (c ∷ cs) ds [] = sym (no-leaves ds)
@@ -52,7 +53,8 @@ leaves-append (c ∷ cs) ds (s ∷ ss) = go (eqb s 0) refl (leaves-append cs ds 
     go true e i = rw (e, leavesIn) (ap (λ (l : List (Cell Point)). c ∷ l) i)
     go false e i = rw (e, leavesIn) i
 
-leaves-levels : (h k : ℕ) (cs : List (Cell Point)) (ss : List ℕ) → leavesIn (cellsOf (levels h k cs ss)) ss ≡ flatMap leavesOn (levels h k cs ss)
+leaves-levels : (h k : ℕ) (cs : List (Cell Point)) (ss : List ℕ) → leavesIn (cellsOf (levels h k cs ss)) ss ≡ flatMap leavesOn
+    (levels h k cs ss)
 unfolding levels cellsOf flatMap leavesIn
 leaves-levels zero k cs ss = refl
 leaves-levels (suc h) k [] ss = refl
@@ -60,7 +62,8 @@ leaves-levels (suc h) k (c ∷ cs) ss =
     let m = length (c ∷ cs) in
     let up = levels h (k + m) (next k (c ∷ cs) (take m ss)) (drop m ss) in
     leaves-append (c ∷ cs) (cellsOf up) ss
-    ∙ ap (λ (l : List (Cell Point)). leavesIn (c ∷ cs) (take (length (c ∷ cs)) ss) ++ l) (leaves-levels h (k + m) (next k (c ∷ cs) (take m ss)) (drop m ss))
+    ∙ ap (λ (l : List (Cell Point)). leavesIn (c ∷ cs) (take (length (c ∷ cs)) ss) ++ l)
+    (leaves-levels h (k + m) (next k (c ∷ cs) (take m ss)) (drop m ss))
 
 take-all : {A : Type 0} (m : ℕ) (l : List A) → length l ≤ m → take m l ≡ l
 take-all zero [] h = refl
@@ -68,11 +71,13 @@ take-all zero (x ∷ l) h = absurd (omega arith)
 take-all (suc m) [] h = refl
 take-all (suc m) (x ∷ l) h = ap (λ (l : List _). x ∷ l) (take-all m l (omega arith))
 
-all-leaves : (cs : List (Cell Point)) (ss : List ℕ) → length ss ≡ length cs → ((i : ℕ) → i < length cs → getD ss i 0 ≡ 0) → leavesIn cs ss ≡ cs
+all-leaves : (cs : List (Cell Point)) (ss : List ℕ) → length ss ≡ length cs → ((i : ℕ) → i < length cs → getD ss i 0 ≡ 0)
+    → leavesIn cs ss ≡ cs
 unfolding leavesIn
 all-leaves [] ss e f = refl
 all-leaves (c ∷ cs) [] e f = absurd (omega arith)
-all-leaves (c ∷ cs) (s ∷ ss) e f = rw (eq-eqb s 0 (f 0 (omega arith)), leavesIn) (ap (λ (l : List (Cell Point)). c ∷ l) (all-leaves cs ss (omega arith) (λ i h. f (suc i) (omega arith))))
+all-leaves (c ∷ cs) (s ∷ ss) e f = rw (eq-eqb s 0 (f 0 (omega arith)), leavesIn)
+    (ap (λ (l : List (Cell Point)). c ∷ l) (all-leaves cs ss (omega arith) (λ i h. f (suc i) (omega arith))))
 
 module _ (n : ℕ) (qs : List (List ℕ)) (ss : List ℕ) (s : Sound n qs ss) where
   leaf-top : (v : ℕ) → v < length (lv n qs ss 10 .cells) → getD (lv n qs ss 10 .statuses) v 0 ≡ 0
@@ -89,7 +94,9 @@ module _ (n : ℕ) (qs : List (List ℕ)) (ss : List ℕ) (s : Sound n qs ss) wh
   leaves-stage =
       leaves-levels 12 0 (coarseCells n qs) ss ∙ below-all
       ∙ below-next n qs ss 10
-      ∙ ap (λ (l : List (Cell Point)). below n qs ss 10 ++ l) (all-leaves (lv n qs ss 10 .cells) (lv n qs ss 10 .statuses) (closed-length (lv n qs ss 10) (level-closed n qs ss (s .closed) 10)) leaf-top)
+      ∙ ap (λ (l : List (Cell Point)). below n qs ss 10 ++ l)
+      (all-leaves (lv n qs ss 10 .cells) (lv n qs ss 10 .statuses) (closed-length (lv n qs ss 10) (level-closed n qs ss (s .closed) 10))
+      leaf-top)
 
   module _ (regular : (i : ℕ) → All (IfRegular n i) (lv n qs ss i .cells)) where
     apart-here : (j u : ℕ) → u < length (lv n qs ss j .cells) → Apart (getD (lv n qs ss j .cells) u noCell)
@@ -114,7 +121,8 @@ module _ (n : ℕ) (qs : List (List ℕ)) (ss : List ℕ) (s : Sound n qs ss) wh
         rw c (apart-here (o .j) (o .p) (o .below)))
 
 -- how many cells have a face
-count-faces : (o : Cell Point) → Apart o → (i : ℕ) → i < 4 → (cs : List (Cell Point)) → All Apart cs → length (filterb (hasFaceb (faceOf o i)) cs) ≡ count (faceOf o i) cs
+count-faces : (o : Cell Point) → Apart o → (i : ℕ) → i < 4 → (cs : List (Cell Point)) → All Apart cs
+    → length (filterb (hasFaceb (faceOf o i)) cs) ≡ count (faceOf o i) cs
 unfolding filterb one-if
 count-faces o a i hi [] b = refl
 count-faces o a i hi (c ∷ cs) b = go (hasFaceb (faceOf o i) c) refl (count-faces o a i hi cs (b .1))
@@ -127,12 +135,14 @@ count-faces o a i hi (c ∷ cs) b = go (hasFaceb (faceOf o i) c) refl (count-fac
     go true f k = rw (← e, f, filterb) (omega arith)
     go false f k = rw (← e, f, filterb) (omega arith)
 
-module _ (n : ℕ) (qs : List (List ℕ)) (ss : List ℕ) (four : All (λ q. length q ≡ 4) qs) (cells : T (cellsb n qs)) (single : T (singleb qs)) (s : Sound n qs ss) (regular : (i : ℕ) → All (IfRegular n i) (lv n qs ss i .cells)) where
+module _ (n : ℕ) (qs : List (List ℕ)) (ss : List ℕ) (four : All (λ q. length q ≡ 4) qs) (cells : T (cellsb n qs)) (single : T (singleb qs))
+    (s : Sound n qs ss) (regular : (i : ℕ) → All (IfRegular n i) (lv n qs ss i .cells)) where
   meeting : (j : ℕ) → j ≤ 10 → Meeting n qs ss j
   meeting zero h = meeting-zero n qs ss four cells single
   meeting (suc j) h = meeting-next n qs ss s regular j (omega arith) (meeting j (omega arith))
 
-pub sound-meets : (n : ℕ) (qs : List (List ℕ)) (ss : List ℕ) → All (λ q. length q ≡ 4) qs → T (cellsb n qs) → T (singleb qs) → T (soundb n qs ss) → T (meetb n qs ss)
+pub sound-meets : (n : ℕ) (qs : List (List ℕ)) (ss : List ℕ) → All (λ q. length q ≡ 4) qs → T (cellsb n qs) → T (singleb qs)
+    → T (soundb n qs ss) → T (meetb n qs ss)
 unfolding meetb leavesWith bound
 sound-meets n qs ss four cells single sound =
     let s = sound-parts n qs ss sound in
@@ -141,7 +151,8 @@ sound-meets n qs ss four cells single sound =
     let e = leaves-stage n qs ss s in
     let right : All (Right n qs ss 10) (leavesOf n qs ss) = subst (All (Right n qs ss 10)) (sym e) (m .faces) in
     let apart = leaves-apart n qs ss s regular in
-    all-pass Both test (λ c (a, r). one c a r) (leavesOf n qs ss) (all-both Apart (Right n qs ss 10) Both (λ c a r. (a, r)) (leavesOf n qs ss) apart right)
+    all-pass Both test (λ c (a, r). one c a r) (leavesOf n qs ss)
+    (all-both Apart (Right n qs ss 10) Both (λ c a r. (a, r)) (leavesOf n qs ss) apart right)
   where
     Both : Cell Point → Type 0
     Both c = Apart c × Right n qs ss 10 c
@@ -155,6 +166,7 @@ sound-meets n qs ss four cells single sound =
         let s = sound-parts n qs ss sound in
         let regular = sound-regular n qs ss four cells sound in
         let q : leavesWith n qs ss (faceOf c i) ≡ bound qs (faceOf c i) =
-        count-faces c a i hi (leavesOf n qs ss) (leaves-apart n qs ss s regular) ∙ ap (count (faceOf c i)) (leaves-stage n qs ss s) ∙ r i hi in
+        count-faces c a i hi (leavesOf n qs ss) (leaves-apart n qs ss s regular) ∙ ap (count (faceOf c i)) (leaves-stage n qs ss s)
+        ∙ r i hi in
         rw (face-at c i hi, eq-eqb (leavesWith n qs ss (faceOf c i)) (bound qs (faceOf c i)) q) tt)
         (0 ∷ 1 ∷ 2 ∷ 3 ∷ []) (omega arith)

@@ -56,7 +56,8 @@ held-red n qs ss j e t =
 
 pub digit-turned : (a b : ℕ) → a < 4 → b < 4 → digit a b ≡ digit b a
 unfolding digit
-digit-turned a b ha hb = below-at (λ a. digit a b ≡ digit b a) 4 (below-at (λ b. Below (λ a. digit a b ≡ digit b a) 4) 4 (omega arith) b hb) a ha
+digit-turned a b ha hb = below-at (λ a. digit a b ≡ digit b a) 4 (below-at (λ b. Below (λ a. digit a b ≡ digit b a) 4) 4 (omega arith) b hb)
+    a ha
 
 same-one : (a b : Bool) → (T a → T b) → (T b → T a) → one-if a ≡ 1 * one-if b
 unfolding one-if
@@ -71,7 +72,8 @@ none-one h true b f g = absurd (f tt)
 none-one h false true f g = absurd (g tt)
 none-one h false false f g = omega arith
 
-module _ (n : ℕ) (qs : List (List ℕ)) (ss : List ℕ) (j : ℕ) (h : j < 10) (c : Cell Point) (r : Regular n j c) (p : ℕ) (rp : Reads (redsAt n qs ss j) c p) (o : Cell Point) (old : OldCell n qs ss j o) where
+module _ (n : ℕ) (qs : List (List ℕ)) (ss : List ℕ) (j : ℕ) (h : j < 10) (c : Cell Point) (r : Regular n j c) (p : ℕ)
+    (rp : Reads (redsAt n qs ss j) c p) (o : Cell Point) (old : OldCell n qs ss j o) where
   -- the edge between two corners that the old cell has too is not split
   pub old-unsplit : (a b : ℕ) → a < b → b < 4 → Shares c o a → Shares c o b → split p (edgeOf (digit a b)) ≡ false
   old-unsplit a b ab b4 (x, _, hx, ex) (y, _, hy, ey) =
@@ -93,7 +95,8 @@ module _ (n : ℕ) (qs : List (List ℕ)) (ss : List ℕ) (j : ℕ) (h : j < 10)
         | no w ↦ omega arith
       ]
 
-  pub old-none : (f : List ℕ) → All (Present p) f → T (midb f) → (h : ℕ) → one-if (withinb (map (point c) f) (o .points)) ≡ h * one-if (withinb (c .points) (o .points))
+  pub old-none : (f : List ℕ) → All (Present p) f → T (midb f) → (h : ℕ) → one-if (withinb (map (point c) f) (o .points)) ≡ h * one-if
+      (withinb (c .points) (o .points))
   old-none f a m h =
       let (i, hi, w) = any-place (λ x. ltb (low x) (high x)) 0 f m in
       let x = getD f i 0 in
@@ -102,12 +105,15 @@ module _ (n : ℕ) (qs : List (List ℕ)) (ss : List ℕ) (j : ℕ) (h : j < 10)
       none-one h (withinb (map (point c) f) (o .points)) (withinb (c .points) (o .points))
       (λ t. let t' : T (allb (λ x. inb (point c x) (o .points)) f) = rw (all-through (point c) (λ p. inb p (o .points)) f) at t in
       omega (arith, old-corner x (q .small) (allb-at (λ x. inb (point c x) (o .points)) 0 f t' i hi)))
-      (λ t. let t' : T (withinb (map (corner [] c) (0 ∷ 1 ∷ 2 ∷ 3 ∷ [])) (o .points)) = subst (λ (l : List Point). T (withinb l (o .points))) (four-elements [] (c .points) (r .four)) t in
+      (λ t. let t' : T (withinb (map (corner [] c) (0 ∷ 1 ∷ 2 ∷ 3 ∷ [])) (o .points)) = subst
+      (λ (l : List Point). T (withinb l (o .points))) (four-elements [] (c .points) (r .four)) t in
       let s = within-shares c o (old .four) (0 ∷ 1 ∷ 2 ∷ 3 ∷ []) (omega arith) t' in
       let s' : (m : ℕ) → m < 4 → Shares c o m = below-at (Shares c o) 4 ((((tt, s .0), s .1 .0), s .1 .1 .0), s .1 .1 .1 .0) in
       let (x0, x1) = digit-ends x (q .small) in
-      let u : split p (edgeOf x) ≡ false = rw (digit-named x (q .small)) at (old-unsplit (low x) (high x) l x1 (s' (low x) (omega arith)) (s' (high x) x1)) in
-      ⊎-elim (λ (e : low x ≡ high x). omega arith) (λ (e : T (split p (edgeOf x))). not-both {A = ⊥} (split p (edgeOf x)) (is-true (split p (edgeOf x)) e) u) (q .on))
+      let u : split p (edgeOf x) ≡ false = rw (digit-named x (q .small)) at
+      (old-unsplit (low x) (high x) l x1 (s' (low x) (omega arith)) (s' (high x) x1)) in
+      ⊎-elim (λ (e : low x ≡ high x). omega arith)
+      (λ (e : T (split p (edgeOf x))). not-both {A = ⊥} (split p (edgeOf x)) (is-true (split p (edgeOf x)) e) u) (q .on))
 
   -- a triangle on a face
   module _ (z0 z1 z2 : ℕ) (z01 : z0 < z1) (z12 : z1 < z2) (z4 : z2 < 4) (s0 : Shares c o z0) (s1 : Shares c o z1) (s2 : Shares c o z2) where
@@ -118,18 +124,31 @@ module _ (n : ℕ) (qs : List (List ℕ)) (ss : List ℕ) (j : ℕ) (h : j < 10)
     not-mid a b ab b4 sa sb q =
         let u = old-unsplit a b ab b4 sa sb in
         let (e0, e1, _) = digit-of a b (omega arith) b4 in
-        absurd (⊎-elim (λ (e : low (digit a b) ≡ high (digit a b)). omega arith) (λ (e : T (split p (edgeOf (digit a b)))). not-both {A = ⊥} (split p (edgeOf (digit a b))) (is-true (split p (edgeOf (digit a b))) e) u) (q .on))
+        absurd (⊎-elim (λ (e : low (digit a b) ≡ high (digit a b)). omega arith)
+        (λ (e : T (split p (edgeOf (digit a b)))). not-both {A = ⊥} (split p (edgeOf (digit a b)))
+        (is-true (split p (edgeOf (digit a b))) e) u) (q .on))
 
     lift-in : (k : ℕ) → k < 6 → Present p (lift (z0 ∷ z1 ∷ z2 ∷ []) k) → T (inb (point c (lift (z0 ∷ z1 ∷ z2 ∷ []) k)) (o .points))
     lift-in =
-        below-at (λ k. Present p (lift (z0 ∷ z1 ∷ z2 ∷ []) k) → T (inb (point c (lift (z0 ∷ z1 ∷ z2 ∷ []) k)) (o .points))) 6
-        ((((((tt, λ q. at-corner z0 s0), λ q. not-mid z0 z1 z01 (omega arith) s0 s1 q), λ q. not-mid z0 z2 (omega arith) z4 s0 s2 q), λ q. at-corner z1 s1), λ q. not-mid z1 z2 z12 z4 s1 s2 q), λ q. at-corner z2 s2)
+        below-at (λ k. Present p (lift (z0 ∷ z1 ∷ z2 ∷ []) k) → T (inb (point c (lift (z0 ∷ z1 ∷ z2 ∷ []) k)) (o .points))) 6 (
+          (
+            (
+              (((tt, λ q. at-corner z0 s0), λ q. not-mid z0 z1 z01 (omega arith) s0 s1 q), λ q. not-mid z0 z2 (omega arith) z4 s0 s2 q),
+              λ q.
+                  at-corner z1 s1,
+            ),
+            λ q. not-mid z1 z2 z12 z4 s1 s2 q,
+          ),
+          λ q. at-corner z2 s2,
+        )
 
-    lifts-in : (t : List ℕ) → All (λ k. k < 6) t → All (Present p) (map (lift (z0 ∷ z1 ∷ z2 ∷ [])) t) → T (withinb (map (point c) (map (lift (z0 ∷ z1 ∷ z2 ∷ [])) t)) (o .points))
+    lifts-in : (t : List ℕ) → All (λ k. k < 6) t → All (Present p) (map (lift (z0 ∷ z1 ∷ z2 ∷ [])) t)
+        → T (withinb (map (point c) (map (lift (z0 ∷ z1 ∷ z2 ∷ [])) t)) (o .points))
     unfolding allb
     lifts-in [] a q = tt
     lifts-in (k ∷ t) a q =
-        and-both (inb (point c (lift (z0 ∷ z1 ∷ z2 ∷ []) k)) (o .points)) (withinb (map (point c) (map (lift (z0 ∷ z1 ∷ z2 ∷ [])) t)) (o .points))
+        and-both (inb (point c (lift (z0 ∷ z1 ∷ z2 ∷ []) k)) (o .points))
+        (withinb (map (point c) (map (lift (z0 ∷ z1 ∷ z2 ∷ [])) t)) (o .points))
         (lift-in k (a .0) (q .0)) (lifts-in t (a .1) (q .1))
 
   pub old-side : (f : List ℕ) → All (Present p) f → (w : OnSide (family p) f)
@@ -150,7 +169,8 @@ module _ (n : ℕ) (qs : List (List ℕ)) (ss : List ℕ) (j : ℕ) (h : j < 10)
           let q : Present p x = all-at (Present p) 0 f a i hi in
           let g : T (inb (point c x) (o .points)) = allb-at (λ x. inb (point c x) (o .points)) 0 f t' i hi in
           let e = old-corner x (q .small) g in
-          let lm : low x ≡ m = ⊎-elim (λ (d : T (eqb (low x) m)). eqb→eq (low x) m d) (λ (d : T (eqb (high x) m)). e ∙ eqb→eq (high x) m d) (or-either (eqb (low x) m) (eqb (high x) m) v) in
+          let lm : low x ≡ m = ⊎-elim (λ (d : T (eqb (low x) m)). eqb→eq (low x) m d) (λ (d : T (eqb (high x) m)). e ∙ eqb→eq (high x) m d)
+          (or-either (eqb (low x) m) (eqb (high x) m) v) in
           let pc : point c x ≡ corner [] c m = corner-point c x (q .small) e ∙ ap (corner [] c) lm in
           subst (λ (y : Point). T (inb y (o .points))) pc g)
           (cornersAt (w .z)) (all-of (λ m. T (usesb f m)) (usesb f) (λ m t. t) (cornersAt (w .z)) (w .uses)))
@@ -163,4 +183,5 @@ module _ (n : ℕ) (qs : List (List ℕ)) (ss : List ℕ) (j : ℕ) (h : j < 10)
           let tr = getD digitTriples (w .t) [] in
           let e : f ≡ map (lift (v .a ∷ v .b ∷ v .c ∷ [])) tr = w .is ∙ ap (λ (z : List ℕ). map (lift z) tr) (v .is) in
           subst (λ (f : List ℕ). T (withinb (map (point c) f) (o .points))) (sym e)
-          (lifts-in (v .a) (v .b) (v .c) (v .ab) (v .bc) (v .c4) (s .0) (s .1 .0) (s .1 .1 .0) tr (triple-small (w .t) (w .below)) (subst (All (Present p)) e a))
+          (lifts-in (v .a) (v .b) (v .c) (v .ab) (v .bc) (v .c4) (s .0) (s .1 .0) (s .1 .1 .0) tr (triple-small (w .t) (w .below))
+          (subst (All (Present p)) e a))

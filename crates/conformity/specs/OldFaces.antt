@@ -27,7 +27,8 @@ use Rattle.conformity.specs.Shared.{Below10, Reads, family-small, digit-
 use Rattle.conformity.specs.Sides.{three-at}
 use Rattle.conformity.specs.Old.{OldCell, redsAt, digit-turned, old-unsplit, old-corner}
 
-module _ (n : ℕ) (qs : List (List ℕ)) (ss : List ℕ) (j : ℕ) (h : j < 10) (c : Cell Point) (r : Regular n j c) (p : ℕ) (hp : p < 64) (rp : Reads (redsAt n qs ss j) c p) (o : Cell Point) (old : OldCell n qs ss j o) where
+module _ (n : ℕ) (qs : List (List ℕ)) (ss : List ℕ) (j : ℕ) (h : j < 10) (c : Cell Point) (r : Regular n j c) (p : ℕ) (hp : p < 64)
+    (rp : Reads (redsAt n qs ss j) c p) (o : Cell Point) (old : OldCell n qs ss j o) where
   -- an edge of both is not split
   unsplit-both : (a b x y : ℕ) → a < b → b < 4 → x < 4 → y < 4 → corner [] o a ≡ corner [] c x → corner [] o b ≡ corner [] c y
       → (x ≡ y → ⊥) × (split p (edgeOf (digit x y)) ≡ false)
@@ -36,7 +37,11 @@ module _ (n : ℕ) (qs : List (List ℕ)) (ss : List ℕ) (j : ℕ) (h : j < 10)
       elim (decLt x y) [
         | yes l ↦ (ne, old-unsplit n qs ss j h c r p rp o old x y l hy (a, hx, omega arith, sym ex) (b, hy, b4, sym ey))
         | no l ↦ elim (decLt y x) [
-          | yes l' ↦ (ne, rw (digit-turned x y hx hy) (old-unsplit n qs ss j h c r p rp o old y x l' hx (b, hy, b4, sym ey) (a, hx, omega arith, sym ex)))
+          | yes l' ↦ (
+            ne,
+            rw (digit-turned x y hx hy)
+                (old-unsplit n qs ss j h c r p rp o old y x l' hx (b, hy, b4, sym ey) (a, hx, omega arith, sym ex)),
+          )
           | no l' ↦ absurd (ne (omega arith))
         ]
       ]
@@ -52,36 +57,43 @@ module _ (n : ℕ) (qs : List (List ℕ)) (ss : List ℕ) (j : ℕ) (h : j < 10)
       ap₂ _∷_ (ex ∙ sym (point-corner c x hx)) (ap₂ _∷_ (ey ∙ sym (point-corner c y hy)) (ap₂ _∷_ (ez ∙ sym (point-corner c z hz)) refl)) in
       ap (λ (u : List Point). countDigits u (point c) (family p)) e
       ∙ digits-holds 10 (point c) (λ x y hx hy w. point-injective n j c r h x y hx hy w) (digit x x ∷ digit y y ∷ digit z z ∷ [])
-      (digit-of x x (omega arith) hx .2, (digit-of y y (omega arith) hy .2, (digit-of z z (omega arith) hz .2, tt))) (family p) (family-small p hp)
+      (digit-of x x (omega arith) hx .2, (digit-of y y (omega arith) hy .2, (digit-of z z (omega arith) hz .2, tt))) (family p)
+      (family-small p hp)
       ∙ whole-face p x y z hp hx hy hz xy xz yz sxy sxz syz
 
   -- a child that has old points has them as the cell's corners
-  child-corners : (z : List ℕ) → All (λ m. m < 4) z → (d : List ℕ) → Below10 d → T (withinb (map (corner [] o) z) (map (point c) d)) → T (withinb (map (corner [] o) z) (c .points))
+  child-corners : (z : List ℕ) → All (λ m. m < 4) z → (d : List ℕ) → Below10 d → T (withinb (map (corner [] o) z) (map (point c) d))
+      → T (withinb (map (corner [] o) z) (c .points))
   unfolding allb
   child-corners [] a d b t = tt
-  child-corners (m ∷ z) a d b t = and-both (inb (corner [] o m) (c .points)) (withinb (map (corner [] o) z) (c .points)) here (child-corners z (a .1) d b rest)
+  child-corners (m ∷ z) a d b t = and-both (inb (corner [] o m) (c .points)) (withinb (map (corner [] o) z) (c .points)) here
+      (child-corners z (a .1) d b rest)
     where
       rest : T (withinb (map (corner [] o) z) (map (point c) d))
       rest = and-right (inb (corner [] o m) (map (point c) d)) (withinb (map (corner [] o) z) (map (point c) d)) t
 
       here : T (inb (corner [] o m) (c .points))
       here =
-          let (i, hi, e) = in-at (corner [] o m) (map (point c) d) (and-left (inb (corner [] o m) (map (point c) d)) (withinb (map (corner [] o) z) (map (point c) d)) t) in
+          let (i, hi, e) = in-at (corner [] o m) (map (point c) d)
+          (and-left (inb (corner [] o m) (map (point c) d)) (withinb (map (corner [] o) z) (map (point c) d)) t) in
           let hi' : i < length d = rw (length-map d (point c)) at hi in
           let x = getD d i 0 in
           let hx : x < 10 = all-at (λ x. x < 10) 0 d b i hi' in
           let e' : corner [] o m ≡ point c x = e ∙ getD-map (point c) d i 0 [] hi' in
-          let lh : low x ≡ high x = old-corner n qs ss j h c r p rp o old x hx (in-from (point c x) (o .points) m (omega (arith, a .0, old .four)) (sym e')) in
+          let lh : low x ≡ high x = old-corner n qs ss j h c r p rp o old x hx
+          (in-from (point c x) (o .points) m (omega (arith, a .0, old .four)) (sym e')) in
           in-from (corner [] o m) (c .points) (low x) (omega (arith, digit-ends x hx, r .four)) (e' ∙ corner-point c x hx lh)
 
-  pub old-count : (i : ℕ) → i < 4 → countDigits (map (corner [] o) (cornersAt i)) (point c) (family p) ≡ 1 * one-if (withinb (map (corner [] o) (cornersAt i)) (c .points))
+  pub old-count : (i : ℕ) → i < 4 → countDigits (map (corner [] o) (cornersAt i)) (point c) (family p) ≡ 1 * one-if
+      (withinb (map (corner [] o) (cornersAt i)) (c .points))
   old-count i hi = go (withinb (map (corner [] o) (cornersAt i)) (c .points)) refl
     where
       below : All (λ m. m < 4) (cornersAt i)
       below = let w = three-at i hi in rw (w .is) (omega (arith, w .ab, w .bc, w .c4))
 
       go : (b : Bool) → withinb (map (corner [] o) (cornersAt i)) (c .points) ≡ b
-          → countDigits (map (corner [] o) (cornersAt i)) (point c) (family p) ≡ 1 * one-if (withinb (map (corner [] o) (cornersAt i)) (c .points))
+          → countDigits (map (corner [] o) (cornersAt i)) (point c) (family p) ≡ 1 * one-if
+          (withinb (map (corner [] o) (cornersAt i)) (c .points))
       go true e =
           let w = three-at i hi in
           let a : All (Shares o c) (w .a ∷ w .b ∷ w .c ∷ []) = rw (w .is) at (within-shares o c (r .four) (cornersAt i) below (rw e tt)) in
@@ -91,5 +103,6 @@ module _ (n : ℕ) (qs : List (List ℕ)) (ss : List ℕ) (j : ℕ) (h : j < 10)
       go false e =
           let no' : T (withinb (map (corner [] o) (cornersAt i)) (c .points)) → ⊥ = (λ t. rw e at t) in
           digits-none (map (corner [] o) (cornersAt i)) (point c) (family p)
-          (all-more Below10 (λ d. T (withinb (map (corner [] o) (cornersAt i)) (map (point c) d)) → ⊥) (λ d b t. no' (child-corners (cornersAt i) below d b t)) (family p) (family-small p hp))
+          (all-more Below10 (λ d. T (withinb (map (corner [] o) (cornersAt i)) (map (point c) d)) → ⊥)
+          (λ d b t. no' (child-corners (cornersAt i) below d b t)) (family p) (family-small p hp))
           ∙ sym (none-times 1 (withinb (map (corner [] o) (cornersAt i)) (c .points)) no')

@@ -71,20 +71,24 @@ module _ (n : ℕ) (qs : List (List ℕ)) (ss : List ℕ) (s : Sound n qs ss) wh
         has = held-at [] (getD (l .cells) (w .u) noCell) sameb e (w .y) (w .small) (w .joins);
       })
 
-  pub unsplit : (j p : ℕ) → p < length (lv n qs ss j .cells) → T (getD (lv n qs ss j .cells) p noCell .regular) → redb (getD (lv n qs ss j .statuses) p 0) ≡ false
-      → (y : ℕ) → y < 6 → split (getD (lv n qs ss j .statuses) p 0) y ≡ false → RedAt n qs ss j (edge [] (getD (lv n qs ss j .cells) p noCell) y) → ⊥
+  pub unsplit : (j p : ℕ) → p < length (lv n qs ss j .cells) → T (getD (lv n qs ss j .cells) p noCell .regular)
+      → redb (getD (lv n qs ss j .statuses) p 0) ≡ false
+      → (y : ℕ) → y < 6 → split (getD (lv n qs ss j .statuses) p 0) y ≡ false
+      → RedAt n qs ss j (edge [] (getD (lv n qs ss j .cells) p noCell) y) → ⊥
   unsplit j p h r green y hy f w =
       let l = lv n qs ss j in
       let c = getD (l .cells) p noCell in
       let t = getD (l .statuses) p 0 in
       let es = redEdges [] (l .cells) (l .statuses) in
       let st = closed-at l (level-closed n qs ss (s .closed) j) p h .1 in
-      let e : split t y ≡ heldb sameb es (edge [] c y) = ap (λ (q : ℕ). split q y) (status-green es c t st r green) ∙ split-pattern [] sameb es c y hy in
+      let e : split t y ≡ heldb sameb es (edge [] c y) = ap (λ (q : ℕ). split q y) (status-green es c t st r green)
+      ∙ split-pattern [] sameb es c y hy in
       not-both {A = ⊥} (split t y) (e ∙ is-true (heldb sameb es (edge [] c y)) (red-held j (edge [] c y) w)) f
 
   module _ (regular : (i : ℕ) → All (IfRegular n i) (lv n qs ss i .cells)) (x : Point) (k : Kind n qs ss x) where
     -- a regular leaf
-    regular-open : (j p : ℕ) → p < length (lv n qs ss j .cells) → T (getD (lv n qs ss j .cells) p noCell .regular) → getD (lv n qs ss j .statuses) p 0 ≡ 0
+    regular-open : (j p : ℕ) → p < length (lv n qs ss j .cells) → T (getD (lv n qs ss j .cells) p noCell .regular)
+        → getD (lv n qs ss j .statuses) p 0 ≡ 0
         → (y : ℕ) → y < 6 → T (middleb x (edge [] (getD (lv n qs ss j .cells) p noCell) y)) → ⊥
     unfolding edge
     regular-open j p h r leaf y hy m =
@@ -94,11 +98,14 @@ module _ (n : ℕ) (qs : List (List ℕ)) (ss : List ℕ) (s : Sound n qs ss) wh
         let there = level-there n qs ss j p h in
         let (a, b, _) = middle-ends y hy in
         let mid : IsMiddle x (edge [] c y .0) (edge [] c y .1) =
-        middle-of x (edge [] c y .0) (edge [] c y .1) (rc .sized (low (middle y)) (omega arith) .places ∙ sym (rc .sized (high (middle y)) b .places)) m in
-        unsplit j p h r (rw leaf refl) y hy (rw leaf (split-none y)) (kind-held n qs ss s regular x k j (omega (arith, s .high)) c rc y hy mid)
+        middle-of x (edge [] c y .0) (edge [] c y .1) (rc .sized (low (middle y)) (omega arith) .places
+        ∙ sym (rc .sized (high (middle y)) b .places)) m in
+        unsplit j p h r (rw leaf refl) y hy (rw leaf (split-none y))
+        (kind-held n qs ss s regular x k j (omega (arith, s .high)) c rc y hy mid)
 
     -- the middle of two points of a cut that the red family joins
-    red-middle : (j : ℕ) → j < 10 → (p : ℕ) → p < length (lv n qs ss j .cells) → T (getD (lv n qs ss j .cells) p noCell .regular) → redb (getD (lv n qs ss j .statuses) p 0) ≡ false
+    red-middle : (j : ℕ) → j < 10 → (p : ℕ) → p < length (lv n qs ss j .cells) → T (getD (lv n qs ss j .cells) p noCell .regular)
+        → redb (getD (lv n qs ss j .statuses) p 0) ≡ false
         → (d e : ℕ) → d < 10 → e < 10 → (d ≡ e → ⊥) → T (joinedb (family 63) d e)
         → IsMiddle x (point (getD (lv n qs ss j .cells) p noCell) d) (point (getD (lv n qs ss j .cells) p noCell) e) → ⊥
     unfolding patternOf
@@ -107,23 +114,29 @@ module _ (n : ℕ) (qs : List (List ℕ)) (ss : List ℕ) (s : Sound n qs ss) wh
         let up63 : 63 < 64 = omega arith in
         let w : EdgeAt 63 d e = edge-child 63 d e up63 joined ne in
         let v : Cell Point = childOf 0 g 64 (w .child) in
-        let many : length (children 0 g 64 (point g)) ≡ length (family 63) = length-children 0 g 64 (point g) ∙ size-refined 64 (λ z. omega arith) in
+        let many : length (children 0 g 64 (point g)) ≡ length (family 63) = length-children 0 g 64 (point g)
+        ∙ size-refined 64 (λ z. omega arith) in
         let rv : Regular n (suc j) v = rw (children-at 0 g 64 (w .child) (λ z. omega arith) (w .inside)) at
-        (all-at (Regular n (suc j)) noCell (children 0 g 64 (point g)) (children-regular n j g h (regular-at n j (lv n qs ss j) (regular j) p hp r) 0) (w .child) (omega (arith, w .inside))) in
+        (all-at (Regular n (suc j)) noCell (children 0 g 64 (point g))
+        (children-regular n j g h (regular-at n j (lv n qs ss j) (regular j) p hp r) 0) (w .child) (omega (arith, w .inside))) in
         let js = edge-joins 63 d e up63 w g v refl in
         let eq : edge [] v (w .number) ≡ (point g (lowDigit 63 (w .child) (w .number)), point g (highDigit 63 (w .child) (w .number))) =
         child-edge 63 (w .child) up63 (w .inside) (w .number) (w .below) g v refl in
-        let mid : IsMiddle x (edge [] v (w .number) .0) (edge [] v (w .number) .1) = rw eq (ends g (lowDigit 63 (w .child) (w .number)) (highDigit 63 (w .child) (w .number)) (w .ends) m) in
+        let mid : IsMiddle x (edge [] v (w .number) .0) (edge [] v (w .number) .1) = rw eq
+        (ends g (lowDigit 63 (w .child) (w .number)) (highDigit 63 (w .child) (w .number)) (w .ends) m) in
         let o = kind-held n qs ss s regular x k (suc j) (omega arith) v rv (w .number) (w .below) mid in
         no-share n qs ss s regular j h p hp r green d e hd he ne joined (o .u) (o .below) (o .red) (o .y) (o .small)
-        (joins-trans (point g d, point g e) (edge [] v (w .number)) (edge [] (getD (lv n qs ss (suc j) .cells) (o .u) noCell) (o .y)) js (o .joins))
+        (joins-trans (point g d, point g e) (edge [] v (w .number)) (edge [] (getD (lv n qs ss (suc j) .cells) (o .u) noCell) (o .y)) js
+        (o .joins))
       where
-        ends : (g : Cell Point) (a b : ℕ) → ((d ≡ a) × (e ≡ b)) ⊎ ((d ≡ b) × (e ≡ a)) → IsMiddle x (point g d) (point g e) → IsMiddle x (point g a) (point g b)
+        ends : (g : Cell Point) (a b : ℕ) → ((d ≡ a) × (e ≡ b)) ⊎ ((d ≡ b) × (e ≡ a)) → IsMiddle x (point g d) (point g e)
+            → IsMiddle x (point g a) (point g b)
         ends g a b (inl (p, q)) m = rw (← p, ← q) m
         ends g a b (inr (p, q)) m = rw (← p, ← q) (turn x (point g d) (point g e) m)
 
     -- a green cell's child
-    green-open : (j p : ℕ) → p < length (lv n qs ss j .cells) → getD (lv n qs ss j .statuses) p 0 ≢ 0 → redb (getD (lv n qs ss j .statuses) p 0) ≡ false
+    green-open : (j p : ℕ) → p < length (lv n qs ss j .cells) → getD (lv n qs ss j .statuses) p 0 ≢ 0
+        → redb (getD (lv n qs ss j .statuses) p 0) ≡ false
         → (d e : ℕ) → d < e → e < 10 → T (joinedb (family (patternOf (getD (lv n qs ss j .statuses) p 0))) d e)
         → IsMiddle x (point (getD (lv n qs ss j .cells) p noCell) d) (point (getD (lv n qs ss j .cells) p noCell) e) → ⊥
     green-open j p h z green d e de he joins m =
@@ -141,7 +154,8 @@ module _ (n : ℕ) (qs : List (List ℕ)) (ss : List ℕ) (s : Sound n qs ss) wh
         let mids : (low d < high d) ⊎ (low e < high e) → ⊥ =
         (λ w. let o : Other d e = other-of d e de he w in
         red-middle j low10 p h r green (o .a) (o .b) (o .a-small) (o .b-small) (o .differ) (o .joined)
-        (middle-other n j g low10 rg d e (o .a) (o .b) (omega arith) he (o .a-small) (o .b-small) (λ i. o .sum (λ c. rg .coordinates c i)) x m)) in
+        (middle-other n j g low10 rg d e (o .a) (o .b) (omega arith) he (o .a-small) (o .b-small) (λ i. o .sum (λ c. rg .coordinates c i)) x
+        m)) in
         elim (decLt (low d) (high d)) [
           | yes w ↦ mids (inl w)
           | no w ↦ elim (decLt (low e) (high e)) [
@@ -154,8 +168,10 @@ module _ (n : ℕ) (qs : List (List ℕ)) (ss : List ℕ) (s : Sound n qs ss) wh
                 let pa = corner-point g d (omega arith) (omega arith) in
                 let pb = corner-point g e he (omega arith) in
                 let ab : a < b = corners-rise d e de he (omega arith) (omega arith) in
-                let own : joinedb (family t) (digit a a) (digit b b) ≡ not (split t (edgeOf (digit a b))) = own-edges t a b small ab (omega arith) in
-                let own' : not (split t (edgeOf (digit a b))) ≡ true = sym own ∙ ap₂ (joinedb (family t)) da db ∙ is-true (joinedb (family t) d e) joined in
+                let own : joinedb (family t) (digit a a) (digit b b) ≡ not (split t (edgeOf (digit a b))) = own-edges t a b small ab
+                (omega arith) in
+                let own' : not (split t (edgeOf (digit a b))) ≡ true = sym own ∙ ap₂ (joinedb (family t)) da db
+                ∙ is-true (joinedb (family t) d e) joined in
                 let f : split t (edgeOf (digit a b)) ≡ false = not-true (split t (edgeOf (digit a b))) own' in
                 let y = edgeOf (digit a b) in
                 let hy = between-below a b ab (omega arith) in
@@ -169,7 +185,8 @@ module _ (n : ℕ) (qs : List (List ℕ)) (ss : List ℕ) (s : Sound n qs ss) wh
         not-true true q = not-both false q refl
         not-true false q = refl
 
-    child-open : (j : ℕ) → (c : Cell Point) → Born (lv n qs ss j .first) (lv n qs ss j .cells) (lv n qs ss j .statuses) c → c .regular ≡ false
+    child-open : (j : ℕ) → (c : Cell Point) → Born (lv n qs ss j .first) (lv n qs ss j .cells) (lv n qs ss j .statuses) c
+        → c .regular ≡ false
         → (y : ℕ) → y < 6 → T (middleb x (edge [] c y)) → ⊥
     child-open j c b r y hy m =
         let l = lv n qs ss j in
@@ -185,29 +202,34 @@ module _ (n : ℕ) (qs : List (List ℕ)) (ss : List ℕ) (s : Sound n qs ss) wh
         let e = highDigit (patternOf t) (b .i) y in
         let de = digits-rise (patternOf t) (b .i) small (b .child) y hy in
         let he = digits-below (patternOf t) (b .i) small (b .child) y hy in
-        let eq : edge [] c y ≡ (point g d, point g e) = child-edge (patternOf t) (b .i) small (b .child) y hy g c (ap (λ (c : Cell Point). c .points) (b .is)) in
+        let eq : edge [] c y ≡ (point g d, point g e) = child-edge (patternOf t) (b .i) small (b .child) y hy g c
+        (ap (λ (c : Cell Point). c .points) (b .is)) in
         let m' : T (middleb x (point g d, point g e)) = rw eq at m in
         let mid : IsMiddle x (point g d) (point g e) =
-        middle-of x (point g d) (point g e) (point-sized n j g low10 reg d (omega arith) .places ∙ sym (point-sized n j g low10 reg e he .places)) m' in
+        middle-of x (point g d) (point g e) (point-sized n j g low10 reg d (omega arith) .places
+        ∙ sym (point-sized n j g low10 reg e he .places)) m' in
         green-open j (b .p) (b .below) (b .refined) green d e de he (digits-joined (patternOf t) (b .i) small (b .child) y hy) mid
 
     pub leaf-open : (j p : ℕ) → p < length (lv n qs ss j .cells) → getD (lv n qs ss j .statuses) p 0 ≡ 0
         → (y : ℕ) → y < 6 → T (middleb x (edge [] (getD (lv n qs ss j .cells) p noCell) y)) → ⊥
     leaf-open j p h leaf y hy m = go j h leaf m (getD (lv n qs ss j .cells) p noCell .regular) refl
       where
-        go : (j : ℕ) → p < length (lv n qs ss j .cells) → getD (lv n qs ss j .statuses) p 0 ≡ 0 → T (middleb x (edge [] (getD (lv n qs ss j .cells) p noCell) y))
+        go : (j : ℕ) → p < length (lv n qs ss j .cells) → getD (lv n qs ss j .statuses) p 0 ≡ 0
+            → T (middleb x (edge [] (getD (lv n qs ss j .cells) p noCell) y))
             → (b : Bool) → getD (lv n qs ss j .cells) p noCell .regular ≡ b → ⊥
         go j h leaf m true q = regular-open j p h (rw q tt) leaf y hy m
         go zero h leaf m false q = not-both (getD (lv n qs ss 0 .cells) p noCell .regular) (coarse-level n qs ss p h) q
         go (suc j) h leaf m false q =
             let there = level-there n qs ss (suc j) p h in
-            child-open j (getD (lv n qs ss (suc j) .cells) p noCell) (born-of (lv n qs ss j) (lv n qs ss (suc j)) (level-next n qs ss j (omega (arith, s .high))) p h) q y hy m
+            child-open j (getD (lv n qs ss (suc j) .cells) p noCell)
+            (born-of (lv n qs ss j) (lv n qs ss (suc j)) (level-next n qs ss j (omega (arith, s .high))) p h) q y hy m
 
 not-from : (b : Bool) → (T b → ⊥) → T (not b)
 not-from true f = f tt
 not-from false f = tt
 
-pub sound-open : (n : ℕ) (qs : List (List ℕ)) (ss : List ℕ) → All (λ q. length q ≡ 4) qs → T (cellsb n qs) → T (soundb n qs ss) → T (openb n qs ss)
+pub sound-open : (n : ℕ) (qs : List (List ℕ)) (ss : List ℕ) → All (λ q. length q ≡ 4) qs → T (cellsb n qs) → T (soundb n qs ss)
+    → T (openb n qs ss)
 unfolding openb leavesOf
 sound-open n qs ss four cells sound =
     let s = sound-parts n qs ss sound in
@@ -228,6 +250,7 @@ sound-open n qs ss four cells sound =
     one : (c : Cell Point) → Open c → T (test c)
     one c f =
         all-pass (λ y. y < 6) (λ e. allb (λ p. not (middleb p (edge [] c e))) (pointsOf n qs ss))
-        (λ y hy. all-pass (Kind n qs ss) (λ p. not (middleb p (edge [] c y))) (λ x k. not-from (middleb x (edge [] c y)) (f y hy x k)) (pointsOf n qs ss)
+        (λ y hy. all-pass (Kind n qs ss) (λ p. not (middleb p (edge [] c y))) (λ x k. not-from (middleb x (edge [] c y)) (f y hy x k))
+        (pointsOf n qs ss)
         (points-kinds n qs ss (sound-parts n qs ss sound) (sound-regular n qs ss four cells sound)))
         (0 ∷ 1 ∷ 2 ∷ 3 ∷ 4 ∷ 5 ∷ []) (omega arith)

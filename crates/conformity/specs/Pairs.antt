@@ -56,16 +56,20 @@ pub record Other (d e : ℕ) : Type 0 where
   pub joined : T (joinedb (family 63) a b)
   pub sum : (x : ℕ → ℕ) → (x (low d) + x (high d)) + (x (low e) + x (high e)) ≡ (x (low a) + x (high a)) + (x (low b) + x (high b))
 
-times-sum : (x : ℕ → ℕ) (d : ℕ) → d < 10 → x (low d) + x (high d) ≡ (times d 0 * x 0 + times d 1 * x 1) + (times d 2 * x 2 + times d 3 * x 3)
+times-sum : (x : ℕ → ℕ) (d : ℕ) → d < 10 → x (low d) + x (high d) ≡ (times d 0 * x 0 + times d 1 * x 1)
+    + (times d 2 * x 2 + times d 3 * x 3)
 unfolding low high one-if
-times-sum x = below-at (λ d. x (low d) + x (high d) ≡ (times d 0 * x 0 + times d 1 * x 1) + (times d 2 * x 2 + times d 3 * x 3)) 10 (omega arith)
+times-sum x = below-at (λ d. x (low d) + x (high d) ≡ (times d 0 * x 0 + times d 1 * x 1) + (times d 2 * x 2 + times d 3 * x 3)) 10
+    (omega arith)
 
 by-times : (d e a b z : ℕ) → d + e ≡ a + b → d * z + e * z ≡ a * z + b * z
 by-times d e a b z h = sym (add-mul d e z) ∙ ap (λ (w : ℕ). w * z) h ∙ add-mul a b z
 
-module _ (d e a b : ℕ) (hd : d < 10) (he : e < 10) (ha : a < 10) (hb : b < 10) (t : T (belowb (λ i. eqb (times d i + times e i) (times a i + times b i)) 4)) where
+module _ (d e a b : ℕ) (hd : d < 10) (he : e < 10) (ha : a < 10) (hb : b < 10)
+    (t : T (belowb (λ i. eqb (times d i + times e i) (times a i + times b i)) 4)) where
   times-at : (i : ℕ) → i < 4 → times d i + times e i ≡ times a i + times b i
-  times-at i h = eqb→eq (times d i + times e i) (times a i + times b i) (belowb-at (λ i. eqb (times d i + times e i) (times a i + times b i)) 4 t i h)
+  times-at i h = eqb→eq (times d i + times e i) (times a i + times b i)
+      (belowb-at (λ i. eqb (times d i + times e i) (times a i + times b i)) 4 t i h)
 
   same-sum : (x : ℕ → ℕ) → (x (low d) + x (high d)) + (x (low e) + x (high e)) ≡ (x (low a) + x (high a)) + (x (low b) + x (high b))
   same-sum x =
@@ -81,18 +85,25 @@ module _ (d e a b : ℕ) (hd : d < 10) (he : e < 10) (ha : a < 10) (hb : b < 10)
 pub other-of : (d e : ℕ) → d < e → e < 10 → (low d < high d) ⊎ (low e < high e) → Other d e
 unfolding otherTest
 other-of d e h l z =
-    let w : T (otherTest d e) = belowb-at (λ e. otherTest d e) 10 (belowb-at (λ d. belowb (λ e. otherTest d e) 10) 10 other-test d (omega arith)) e l in
-    go (other d e .0) (other d e .1) (impb-use (ltb d e && (ltb (low d) (high d) || ltb (low e) (high e))) (otherb d e (other d e .0) (other d e .1)) w
-    (rw (lt-ltb d e h) (⊎-elim (λ (u : low d < high d). rw (lt-ltb (low d) (high d) u) tt) (λ (u : low e < high e). or-second (ltb (low d) (high d)) (ltb (low e) (high e)) (rw (lt-ltb (low e) (high e) u) tt)) z)))
+    let w : T (otherTest d e) = belowb-at (λ e. otherTest d e) 10
+    (belowb-at (λ d. belowb (λ e. otherTest d e) 10) 10 other-test d (omega arith)) e l in
+    go (other d e .0) (other d e .1)
+    (impb-use (ltb d e && (ltb (low d) (high d) || ltb (low e) (high e))) (otherb d e (other d e .0) (other d e .1)) w
+    (rw (lt-ltb d e h) (⊎-elim (λ (u : low d < high d). rw (lt-ltb (low d) (high d) u) tt)
+    (λ (u : low e < high e). or-second (ltb (low d) (high d)) (ltb (low e) (high e)) (rw (lt-ltb (low e) (high e) u) tt)) z)))
   where
     go : (a b : ℕ) → T (otherb d e a b) → Other d e
     go a b t =
-        let p : T (ltb a 10 && ltb b 10) = and-left (ltb a 10 && ltb b 10) ((not (eqb a b) && joinedb reds a b) && belowb (λ i. eqb (times d i + times e i) (times a i + times b i)) 4) t in
-        let q = and-right (ltb a 10 && ltb b 10) ((not (eqb a b) && joinedb reds a b) && belowb (λ i. eqb (times d i + times e i) (times a i + times b i)) 4) t in
+        let p : T (ltb a 10 && ltb b 10) = and-left (ltb a 10 && ltb b 10)
+        ((not (eqb a b) && joinedb reds a b) && belowb (λ i. eqb (times d i + times e i) (times a i + times b i)) 4) t in
+        let q = and-right (ltb a 10 && ltb b 10)
+        ((not (eqb a b) && joinedb reds a b) && belowb (λ i. eqb (times d i + times e i) (times a i + times b i)) 4) t in
         let r = and-left (not (eqb a b) && joinedb reds a b) (belowb (λ i. eqb (times d i + times e i) (times a i + times b i)) 4) q in
         let u = and-right (not (eqb a b) && joinedb reds a b) (belowb (λ i. eqb (times d i + times e i) (times a i + times b i)) 4) q in
-        other-from d e a b (omega arith) l (ltb→lt a 10 (and-left (ltb a 10) (ltb b 10) p)) (ltb→lt b 10 (and-right (ltb a 10) (ltb b 10) p)) u
-        (λ x. let f : eqb a b ≡ false = is-false (eqb a b) (and-left (not (eqb a b)) (joinedb reds a b) r) in not-both {A = ⊥} (eqb a b) (eq-eqb a b x) f)
+        other-from d e a b (omega arith) l (ltb→lt a 10 (and-left (ltb a 10) (ltb b 10) p))
+        (ltb→lt b 10 (and-right (ltb a 10) (ltb b 10) p)) u
+        (λ x. let f : eqb a b ≡ false = is-false (eqb a b) (and-left (not (eqb a b)) (joinedb reds a b) r) in not-both {A = ⊥} (eqb a b)
+        (eq-eqb a b x) f)
         (and-right (not (eqb a b)) (joinedb reds a b) r)
 
 -- two corners by their digits
@@ -106,6 +117,7 @@ corner-test = tt
 pub corners-rise : (d e : ℕ) → d < e → e < 10 → low d ≡ high d → low e ≡ high e → low d < low e
 unfolding cornerTest
 corners-rise d e h l x y =
-    let w : T (cornerTest d e) = belowb-at (λ e. cornerTest d e) 10 (belowb-at (λ d. belowb (λ e. cornerTest d e) 10) 10 corner-test d (omega arith)) e l in
+    let w : T (cornerTest d e) = belowb-at (λ e. cornerTest d e) 10
+    (belowb-at (λ d. belowb (λ e. cornerTest d e) 10) 10 corner-test d (omega arith)) e l in
     ltb→lt (low d) (low e) (impb-use (ltb d e && (eqb (low d) (high d) && eqb (low e) (high e))) (ltb (low d) (low e)) w
     (rw (lt-ltb d e h, eq-eqb (low d) (high d) x, eq-eqb (low e) (high e) y) tt))

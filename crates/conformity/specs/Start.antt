@@ -38,7 +38,8 @@ module _ {A : Type 0} (f : A → Bool) where
   unfolding anyb
   any-first [] m t = absurd t
   any-first (x ∷ l) m t =
-      ⊎-elim (λ (u : T (f x)). or-first (f x) (anyb f (l ++ m)) u) (λ (u : T (anyb f l)). or-second (f x) (anyb f (l ++ m)) (any-first l m u)) (or-either (f x) (anyb f l) t)
+      ⊎-elim (λ (u : T (f x)). or-first (f x) (anyb f (l ++ m)) u)
+      (λ (u : T (anyb f l)). or-second (f x) (anyb f (l ++ m)) (any-first l m u)) (or-either (f x) (anyb f l) t)
 
   any-second : (l m : List A) → T (anyb f m) → T (anyb f (l ++ m))
   unfolding anyb
@@ -50,9 +51,11 @@ module _ {A : Type 0} (f : A → Bool) where
   any-filter g [] t = t
   any-filter g (x ∷ l) t = go (f x) refl t (any-filter g l)
     where
-      go : (b : Bool) → f x ≡ b → T ((b && g x) || anyb (λ x. f x && g x) l) → (T (anyb (λ x. f x && g x) l) → T (anyb g (filterb f l))) → T (anyb g (filterb f (x ∷ l)))
+      go : (b : Bool) → f x ≡ b → T ((b && g x) || anyb (λ x. f x && g x) l) → (T (anyb (λ x. f x && g x) l) → T (anyb g (filterb f l)))
+          → T (anyb g (filterb f (x ∷ l)))
       go true e t i =
-          rw (e, filterb) (⊎-elim (λ (u : T (g x)). or-first (g x) (anyb g (filterb f l)) u) (λ (u : T (anyb (λ x. f x && g x) l)). or-second (g x) (anyb g (filterb f l)) (i u))
+          rw (e, filterb) (⊎-elim (λ (u : T (g x)). or-first (g x) (anyb g (filterb f l)) u)
+          (λ (u : T (anyb (λ x. f x && g x) l)). or-second (g x) (anyb g (filterb f l)) (i u))
           (or-either (g x) (anyb (λ x. f x && g x) l) t))
       go false e t i = rw (e, filterb) (i t)
 
@@ -65,7 +68,8 @@ module _ {A : Type 0} (f : A → Bool) where
       go true e t i = rw (e, filterb) (omega arith)
       go false e t i = rw (e, filterb) (i t)
 
-any-faces : (f : List ℕ → Bool) (qs : List (List ℕ)) (k m : ℕ) → k < length qs → m < 4 → T (f (getD (faces (getD qs k [])) m [])) → T (anyb f (flatMap faces qs))
+any-faces : (f : List ℕ → Bool) (qs : List (List ℕ)) (k m : ℕ) → k < length qs → m < 4 → T (f (getD (faces (getD qs k [])) m []))
+    → T (anyb f (flatMap faces qs))
 unfolding flatMap
 any-faces f [] k m h l t = absurd (omega arith)
 any-faces f (q ∷ qs) zero m h l t = any-first f (faces q) (flatMap faces qs) (any-at f [] (faces q) m (omega (arith, faces-four q)) t)
@@ -95,9 +99,11 @@ module _ (n : ℕ) (qs : List (List ℕ)) (r : All (Rise n) qs) (single : T (sin
   unfolding singleb
   holders-few =
       let e : anyb (λ t. leb 3 (holders qs t)) (flatMap faces qs) ≡ false =
-      is-false (anyb (λ t. leb 3 (holders qs t)) (flatMap faces qs)) (and-right (not (twiceb qs)) (not (anyb (λ t. leb 3 (holders qs t)) (flatMap faces qs))) single) in
+      is-false (anyb (λ t. leb 3 (holders qs t)) (flatMap faces qs))
+      (and-right (not (twiceb qs)) (not (anyb (λ t. leb 3 (holders qs t)) (flatMap faces qs))) single) in
       elim (decLt 2 (holders qs cut)) [
-        | yes h ↦ not-both (anyb (λ t. leb 3 (holders qs t)) (flatMap faces qs)) (is-true (anyb (λ t. leb 3 (holders qs t)) (flatMap faces qs))
+        | yes h ↦ not-both (anyb (λ t. leb 3 (holders qs t)) (flatMap faces qs))
+            (is-true (anyb (λ t. leb 3 (holders qs t)) (flatMap faces qs))
             (any-faces (λ t. leb 3 (holders qs t)) qs k m hk hm (rw (le-leb 3 (holders qs cut) (omega arith)) tt))) e
         | no h ↦ omega arith
       ]
@@ -117,8 +123,10 @@ module _ (n : ℕ) (qs : List (List ℕ)) (r : All (Rise n) qs) (single : T (sin
       bool-ext (anyb (onCoarseFaceb (map (coarse n) cut)) (boundaryFaces qs)) (eqb (holders qs cut) 1)
       (λ t. let (i, hi, w) = any-place (onCoarseFaceb (map (coarse n) cut)) [] (boundaryFaces qs) t in
       let u = getD (boundaryFaces qs) i [] in
-      let one : eqb (holders qs u) 1 ≡ true = all-at (λ t. eqb (holders qs t) 1 ≡ true) [] (boundaryFaces qs) (filter-passes (λ t. eqb (holders qs t) 1) (flatMap faces qs)) i hi in
-      let ru : Rise3 u = all-at Rise3 [] (boundaryFaces qs) (all-filter (λ t. eqb (holders qs t) 1) Rise3 (flatMap faces qs) (faces-rise n qs r)) i hi in
+      let one : eqb (holders qs u) 1 ≡ true = all-at (λ t. eqb (holders qs t) 1 ≡ true) [] (boundaryFaces qs)
+      (filter-passes (λ t. eqb (holders qs t) 1) (flatMap faces qs)) i hi in
+      let ru : Rise3 u = all-at Rise3 [] (boundaryFaces qs)
+      (all-filter (λ t. eqb (holders qs t) 1) Rise3 (flatMap faces qs) (faces-rise n qs r)) i hi in
       let same : cut ≡ u = within-three cut u rise ru (rw (on-coarse n cut u below) at w) in
       rw (same, one) tt)
       (λ t. any-filter (λ t. eqb (holders qs t) 1) (onCoarseFaceb (map (coarse n) cut)) (flatMap faces qs)
@@ -142,73 +150,83 @@ unfolding onCoarseFaceb
 on-from f t w = w
 
 -- the stage 0
-module _ (n : ℕ) (qs : List (List ℕ)) (ss : List ℕ) (four : All (λ q. length q ≡ 4) qs) (cells : T (cellsb n qs)) (single : T (singleb qs)) where
-  rise : All (Rise n) qs
-  rise = rise-all n qs four cells
+module _ (n : ℕ) (qs : List (List ℕ)) (ss : List ℕ) (four : All (λ q. length q ≡ 4) qs) (cells : T (cellsb n qs)) (single : T (singleb qs))
+  where
+    rise : All (Rise n) qs
+    rise = rise-all n qs four cells
 
-  first-cells : lv n qs ss 0 .cells ≡ coarseCells n qs
-  unfolding levelsOf
-  first-cells = cells-first 11 0 (coarseCells n qs) ss
+    first-cells : lv n qs ss 0 .cells ≡ coarseCells n qs
+    unfolding levelsOf
+    first-cells = cells-first 11 0 (coarseCells n qs) ss
 
-  first-stage : stage n qs ss 0 ≡ coarseCells n qs
-  unfolding below flatMap
-  first-stage = first-cells
+    first-stage : stage n qs ss 0 ≡ coarseCells n qs
+    unfolding below flatMap
+    first-stage = first-cells
 
-  module _ (u : ℕ) (hu : u < length (lv n qs ss 0 .cells)) where
-    place : u < length qs
-    place = omega (arith, ap length first-cells, length-coarse n qs)
+    module _ (u : ℕ) (hu : u < length (lv n qs ss 0 .cells)) where
+      place : u < length qs
+      place = omega (arith, ap length first-cells, length-coarse n qs)
 
-    points : getD (lv n qs ss 0 .cells) u noCell .points ≡ map (coarse n) (getD qs u [])
-    points = ap (λ (cs : List (Cell Point)). getD cs u noCell .points) first-cells ∙ ap (λ (c : Cell Point). c .points) (coarse-at n qs u place)
+      points : getD (lv n qs ss 0 .cells) u noCell .points ≡ map (coarse n) (getD qs u [])
+      points = ap (λ (cs : List (Cell Point)). getD cs u noCell .points) first-cells
+          ∙ ap (λ (c : Cell Point). c .points) (coarse-at n qs u place)
 
-    rises : Rise n (getD qs u [])
-    rises = all-at (Rise n) [] qs rise u place
+      rises : Rise n (getD qs u [])
+      rises = all-at (Rise n) [] qs rise u place
 
-    face-is : (i : ℕ) → i < 4 → faceOf (getD (lv n qs ss 0 .cells) u noCell) i ≡ map (coarse n) (getD (faces (getD qs u [])) i [])
-    face-is i hi = go (cornersAt i) (corners-below i hi) ∙ ap (map (coarse n)) (sym (faces-at (getD qs u []) i hi))
-      where
-        go : (l : List ℕ) → All (λ m. m < 4) l → map (corner [] (getD (lv n qs ss 0 .cells) u noCell)) l ≡ map (coarse n) (map (λ m. getD (getD qs u []) m 0) l)
-        go [] a = refl
-        go (m ∷ l) a =
-            ap₂ _∷_ (ap (λ (p : List Point). getD p m []) points ∙ getD-map (coarse n) (getD qs u []) m 0 [] (rw (rises .is) (a .0))) (go l (a .1))
+      face-is : (i : ℕ) → i < 4 → faceOf (getD (lv n qs ss 0 .cells) u noCell) i ≡ map (coarse n) (getD (faces (getD qs u [])) i [])
+      face-is i hi = go (cornersAt i) (corners-below i hi) ∙ ap (map (coarse n)) (sym (faces-at (getD qs u []) i hi))
+        where
+          go : (l : List ℕ) → All (λ m. m < 4) l → map (corner [] (getD (lv n qs ss 0 .cells) u noCell)) l ≡ map (coarse n)
+              (map (λ m. getD (getD qs u []) m 0) l)
+          go [] a = refl
+          go (m ∷ l) a =
+              ap₂ _∷_ (ap (λ (p : List Point). getD p m []) points ∙ getD-map (coarse n) (getD qs u []) m 0 [] (rw (rises .is) (a .0)))
+              (go l (a .1))
 
-    coarse-right : Right n qs ss 0 (getD (lv n qs ss 0 .cells) u noCell)
-    unfolding coarseCells
-    coarse-right i hi =
-        let t = getD (faces (getD qs u [])) i [] in
-        subst (λ (f : List Point). count f (stage n qs ss 0) ≡ bound qs f) (sym (face-is i hi))
-        (ap (count (map (coarse n) (getD (faces (getD qs u [])) i []))) first-stage
-        ∙ count-holders n (getD (faces (getD qs u [])) i []) (face-below n (getD qs u []) rises i hi) (face-rise n (getD qs u []) rises i hi) 0 qs rise
-        ∙ bound-coarse n qs rise single u i place hi)
+      coarse-right : Right n qs ss 0 (getD (lv n qs ss 0 .cells) u noCell)
+      unfolding coarseCells
+      coarse-right i hi =
+          let t = getD (faces (getD qs u [])) i [] in
+          subst (λ (f : List Point). count f (stage n qs ss 0) ≡ bound qs f) (sym (face-is i hi))
+          (ap (count (map (coarse n) (getD (faces (getD qs u [])) i []))) first-stage
+          ∙ count-holders n (getD (faces (getD qs u [])) i []) (face-below n (getD qs u []) rises i hi)
+          (face-rise n (getD qs u []) rises i hi) 0 qs rise
+          ∙ bound-coarse n qs rise single u i place hi)
 
-    coarse-whole : count (getD (lv n qs ss 0 .cells) u noCell .points) (stage n qs ss 0) ≡ 1
-    unfolding coarseCells singleb
-    coarse-whole =
-        let a = rise-below n (getD qs u []) rises in
-        subst (λ (f : List Point). count f (stage n qs ss 0) ≡ 1) (sym points)
-        (ap (count (map (coarse n) (getD qs u []))) first-stage ∙ count-same n (getD qs u []) a rises 0 qs rise
-        ∙ once-same n qs (is-false (twiceb qs) (and-left (not (twiceb qs)) (not (anyb (λ t. leb 3 (holders qs t)) (flatMap faces qs))) single)) u place a)
+      coarse-whole : count (getD (lv n qs ss 0 .cells) u noCell .points) (stage n qs ss 0) ≡ 1
+      unfolding coarseCells singleb
+      coarse-whole =
+          let a = rise-below n (getD qs u []) rises in
+          subst (λ (f : List Point). count f (stage n qs ss 0) ≡ 1) (sym points)
+          (ap (count (map (coarse n) (getD qs u []))) first-stage ∙ count-same n (getD qs u []) a rises 0 qs rise
+          ∙ once-same n qs (is-false (twiceb qs) (and-left (not (twiceb qs)) (not (anyb (λ t. leb 3 (holders qs t)) (flatMap faces qs)))
+          single)) u place a)
 
-    coarse-wide : Wide (getD (lv n qs ss 0 .cells) u noCell)
-    coarse-wide t l w =
-        let w' : T (allb (λ p. offb 0 p t) (map (coarse n) (getD qs u []))) = subst (λ (f : List Point). T (allb (λ p. offb 0 p t) f)) points w in
-        let w'' : T (allb (λ x. memberb x t) (getD qs u [])) = rw (on-coarse n (getD qs u []) t (rise-below n (getD qs u []) rises)) at (on-from (map (coarse n) (getD qs u [])) t w') in
-        none t l (rises .a) (rises .b) (rises .c) (rises .d) (rises .ab) (rises .bc) (rises .cd) (subst (λ (q : List ℕ). T (allb (λ x. memberb x t) q)) (rises .is) w'')
-      where
-        none : (t : List ℕ) → length t ≡ 3 → (x y z v : ℕ) → x < y → y < z → z < v → T (allb (λ e. memberb e t) (x ∷ y ∷ z ∷ v ∷ [])) → ⊥
-        none [] l x y z v xy yz zv w = omega arith
-        none (a ∷ []) l x y z v xy yz zv w = omega arith
-        none (a ∷ b ∷ []) l x y z v xy yz zv w = omega arith
-        none (a ∷ b ∷ c ∷ []) l x y z v xy yz zv w =
-            let m : (k : ℕ) → k < 4 → T (memberb (getD (x ∷ y ∷ z ∷ v ∷ []) k 0) (a ∷ b ∷ c ∷ [])) = (λ k h. allb-at (λ e. memberb e (a ∷ b ∷ c ∷ [])) 0 (x ∷ y ∷ z ∷ v ∷ []) w k h) in
-            four-in-three x y z v xy yz zv a b c (m 0 (omega arith)) (m 1 (omega arith)) (m 2 (omega arith)) (m 3 (omega arith))
-        none (a ∷ b ∷ c ∷ d ∷ t) l x y z v xy yz zv w = omega arith
+      coarse-wide : Wide (getD (lv n qs ss 0 .cells) u noCell)
+      coarse-wide t l w =
+          let w' : T (allb (λ p. offb 0 p t) (map (coarse n) (getD qs u []))) = subst (λ (f : List Point). T (allb (λ p. offb 0 p t) f))
+          points w in
+          let w'' : T (allb (λ x. memberb x t) (getD qs u [])) = rw (on-coarse n (getD qs u []) t (rise-below n (getD qs u []) rises)) at
+          (on-from (map (coarse n) (getD qs u [])) t w') in
+          none t l (rises .a) (rises .b) (rises .c) (rises .d) (rises .ab) (rises .bc) (rises .cd)
+          (subst (λ (q : List ℕ). T (allb (λ x. memberb x t) q)) (rises .is) w'')
+        where
+          none : (t : List ℕ) → length t ≡ 3 → (x y z v : ℕ) → x < y → y < z → z < v → T (allb (λ e. memberb e t) (x ∷ y ∷ z ∷ v ∷ [])) → ⊥
+          none [] l x y z v xy yz zv w = omega arith
+          none (a ∷ []) l x y z v xy yz zv w = omega arith
+          none (a ∷ b ∷ []) l x y z v xy yz zv w = omega arith
+          none (a ∷ b ∷ c ∷ []) l x y z v xy yz zv w =
+              let m : (k : ℕ) → k < 4 → T (memberb (getD (x ∷ y ∷ z ∷ v ∷ []) k 0) (a ∷ b ∷ c ∷ [])) =
+              (λ k h. allb-at (λ e. memberb e (a ∷ b ∷ c ∷ [])) 0 (x ∷ y ∷ z ∷ v ∷ []) w k h) in
+              four-in-three x y z v xy yz zv a b c (m 0 (omega arith)) (m 1 (omega arith)) (m 2 (omega arith)) (m 3 (omega arith))
+          none (a ∷ b ∷ c ∷ d ∷ t) l x y z v xy yz zv w = omega arith
 
-  pub meeting-zero : Meeting n qs ss 0
-  unfolding below flatMap
-  meeting-zero =
-      record {
-        faces = all-from (Right n qs ss 0) noCell (lv n qs ss 0 .cells) coarse-right;
-        whole = λ u hu _. coarse-whole u hu;
-        wide = λ u hu _. coarse-wide u hu;
-      }
+    pub meeting-zero : Meeting n qs ss 0
+    unfolding below flatMap
+    meeting-zero =
+        record {
+          faces = all-from (Right n qs ss 0) noCell (lv n qs ss 0 .cells) coarse-right;
+          whole = λ u hu _. coarse-whole u hu;
+          wide = λ u hu _. coarse-wide u hu;
+        }

@@ -8,7 +8,8 @@ use native.Mathlib.Nat.{eq-or-lt-of-le}
 use native.Mathlib.Omega.{arith}
 use lib.ListN.{length, take, drop, length-append, take-append-drop}
 use lib.Seq.{sets, sets-eq, length-sets, length-take-le, take-at, drop-at, drop-drop}
-use Rattle.counting.specs.Levels.{Levels, nextEnd, countsAt, levelCounts, levelNumber, levelEnd, counts-more, counts-none, number-more, number-none, end-more, end-none, next-after}
+use Rattle.counting.specs.Levels.{Levels, nextEnd, countsAt, levelCounts, levelNumber, levelEnd, counts-more, counts-none}
+use Rattle.counting.specs.Levels.{number-more, number-none, end-more, end-none, next-after}
 
 -- no level ends before it starts
 first-below : (f first last : ℕ) (ss : List ℕ) → first ≤ last → first ≤ levelEnd f first last ss
@@ -16,7 +17,8 @@ unfolding levelEnd
 first-below zero first last ss h = omega arith
 first-below (suc f) first last ss h =
     ⊎-elim (λ (e : first ≡ last). rw (end-none (suc f) first last ss (omega arith)) (omega arith))
-    (λ (l : first < last). rw (end-more f first last ss l) (omega (arith, first-below f last (nextEnd first last ss) ss (next-after first last ss))))
+    (λ (l : first < last). rw (end-more f first last ss l)
+    (omega (arith, first-below f last (nextEnd first last ss) ss (next-after first last ss))))
     (eq-or-lt-of-le h)
 
 last-below : (f first last : ℕ) (ss : List ℕ) → first ≤ last → last ≤ levelEnd (suc f) first last ss
@@ -68,7 +70,8 @@ module _ {ss : List ℕ} {coarse : ℕ} {before : List ℕ} (g : Levels ss coars
         let w : levelEnd (suc (11 - level)) first last ss ≡ length ss = rw k at (a .ends) ∙ g .whole in
         omega (arith, last-below (11 - level) first last ss (a .rising), w)
 
-  module _ (room : 44 ≤ length before) {level first last : ℕ} {counts : List ℕ} (a : At ss coarse before level first last counts) (h : first < last) where
+  module _ (room : 44 ≤ length before) {level first last : ℕ} {counts : List ℕ} (a : At ss coarse before level first last counts)
+      (h : first < last) where
     fuel : 12 - level ≡ suc (12 - (level + 1))
     fuel = omega (arith, few-levels a)
 
@@ -84,7 +87,8 @@ module _ {ss : List ℕ} {coarse : ℕ} {before : List ℕ} (g : Levels ss coars
         let m : 4 * (level + 1) ≡ 4 * level + 4 = omega arith in
         let e : levelEnd (12 - level) first last ss ≡ levelEnd (12 - (level + 1)) last (nextEnd first last ss) ss =
         rw fuel (end-more (12 - (level + 1)) first last ss h) in
-        let c : levelCounts (12 - level) first last ss ≡ countsAt first last ss ++ levelCounts (12 - (level + 1)) last (nextEnd first last ss) ss =
+        let c : levelCounts (12 - level) first last ss ≡ countsAt first last ss ++ levelCounts (12 - (level + 1)) last
+        (nextEnd first last ss) ss =
         rw fuel (counts-more (12 - (level + 1)) first last ss h) in
         let four : length t ≡ 4 = ap length p ∙ length-counts first last ss in
         record {
@@ -107,7 +111,8 @@ module _ {ss : List ℕ} {coarse : ℕ} {before : List ℕ} (g : Levels ss coars
         last-inside (at-next t (sets counts (4 * level) t) refl refl)
 
 -- where no level is left
-module _ {ss : List ℕ} {coarse : ℕ} {before : List ℕ} {level first last : ℕ} {counts : List ℕ} (a : At ss coarse before level first last counts) (h : last ≤ first) where
+module _ {ss : List ℕ} {coarse : ℕ} {before : List ℕ} {level first last : ℕ} {counts : List ℕ}
+    (a : At ss coarse before level first last counts) (h : last ≤ first) where
   pub at-number : level ≡ levelNumber 12 0 coarse ss
   at-number = omega (arith, a .number, number-none (12 - level) first last ss h)
 

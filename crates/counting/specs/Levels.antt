@@ -66,7 +66,8 @@ pub record Levels (ss : List ℕ) (coarse : ℕ) : Type 0 where
 
 -- a level with cells, and the end
 module _ (f first last : ℕ) (ss : List ℕ) where
-  pub counts-more : first < last → levelCounts (suc f) first last ss ≡ countsAt first last ss ++ levelCounts f last (nextEnd first last ss) ss
+  pub counts-more : first < last → levelCounts (suc f) first last ss ≡ countsAt first last ss ++ levelCounts f last (nextEnd first last ss)
+      ss
   unfolding levelCounts
   counts-more h = rw (lt-ltb first last h, levelCounts)
 
@@ -99,7 +100,8 @@ unfolding levelCounts levelNumber
 counts-length zero first last ss = refl
 counts-length (suc f) first last ss = go (ltb first last) refl (counts-length f last (nextEnd first last ss) ss)
   where
-    go : (b : Bool) → ltb first last ≡ b → length (levelCounts f last (nextEnd first last ss) ss) ≡ 4 * levelNumber f last (nextEnd first last ss) ss
+    go : (b : Bool) → ltb first last ≡ b → length (levelCounts f last (nextEnd first last ss) ss) ≡ 4 * levelNumber f last
+        (nextEnd first last ss) ss
         → length (levelCounts (suc f) first last ss) ≡ 4 * levelNumber (suc f) first last ss
     go true e i = rw (e, levelCounts, levelNumber) (omega (arith, i))
     go false e i = rw (e, levelCounts, levelNumber)

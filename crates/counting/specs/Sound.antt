@@ -40,7 +40,8 @@ status-few es r c = go (c .regular) refl r refl
 abbrev fit : List ℕ → Bool
 fit ss = allb (λ s. leb s 64) ss
 
-closed-fit : (es : List (Point × Point)) (cs : List (Cell Point)) (ss : List ℕ) → T (closedFrom [] sameb es cs ss) → (fit ss ≡ true) × (length ss ≡ length cs)
+closed-fit : (es : List (Point × Point)) (cs : List (Cell Point)) (ss : List ℕ) → T (closedFrom [] sameb es cs ss)
+    → (fit ss ≡ true) × (length ss ≡ length cs)
 unfolding closedFrom allb
 closed-fit es [] [] t = (refl, refl)
 closed-fit es [] (s ∷ ss) t = absurd t
@@ -67,7 +68,8 @@ fit-append (s ∷ ss) ts p q = go (leb s 64) p (λ r. fit-append ss ts r q)
     go false r f = r
 
 -- the statuses of closed levels that are the whole table
-levels-fit : (f k : ℕ) (cs : List (Cell Point)) (ss : List ℕ) → T (allb closedb (levels f k cs ss)) → length (cellsOf (levels f k cs ss)) ≡ length ss → fit ss ≡ true
+levels-fit : (f k : ℕ) (cs : List (Cell Point)) (ss : List ℕ) → T (allb closedb (levels f k cs ss))
+    → length (cellsOf (levels f k cs ss)) ≡ length ss → fit ss ≡ true
 unfolding levels cellsOf closedb flatMap allb
 levels-fit zero k cs ss t e = fit-empty ss e
 levels-fit (suc f) k [] ss t e = fit-empty ss e
@@ -80,7 +82,8 @@ levels-fit (suc f) k (c ∷ cs) ss t e =
     let w : length ((c ∷ cs) ++ cellsOf up) ≡ m + length (cellsOf up) = length-append (c ∷ cs) (cellsOf up) in
     let v : length (cellsOf up) ≡ length (drop m ss) = omega (arith, e, w, length-drop m ss) in
     subst (λ (l : List ℕ). fit l ≡ true) (take-append-drop m ss)
-    (fit-append front (drop m ss) (o .0) (levels-fit f (k + m) (next k (c ∷ cs) front) (drop m ss) (and-right (closedb l) (allb closedb up) t) v))
+    (fit-append front (drop m ss) (o .0)
+    (levels-fit f (k + m) (next k (c ∷ cs) front) (drop m ss) (and-right (closedb l) (allb closedb up) t) v))
 
 -- what soundness is made of
 parts : (a b c d e : Bool) → T ((a && (b && c)) && (d && e)) → T a × T b × T c × T d

@@ -14,7 +14,8 @@ use Rattle.mesh.specs.Table.{Level, next, levels, levelsOf, cellsOf}
 use Rattle.mesh.specs.Counts.{countsOf, countTable}
 use Rattle.rows.specs.Numbered.{part}
 use Rattle.rows.specs.Many.{next-size}
-use Rattle.counting.specs.Levels.{nextEnd, countsAt, levelCounts, levelNumber, levelEnd, counts-more, counts-none, number-more, number-none, end-more, end-none}
+use Rattle.counting.specs.Levels.{nextEnd, countsAt, levelCounts, levelNumber, levelEnd, counts-more, counts-none, number-more}
+use Rattle.counting.specs.Levels.{number-none, end-more, end-none}
 use Rattle.mesh.specs.Laws.{length-from}
 
 -- a level of the cells cs, numbered from k, in the table ss
@@ -62,9 +63,11 @@ number-from (suc f) k [] ss = sym (number-none (suc f) k (k + 0) ss (omega arith
 number-from (suc f) k (c ∷ cs) ss =
     let l = k + length (c ∷ cs) in
     let up = next k (c ∷ cs) (own k (c ∷ cs) ss) in
-    ap length (levels-more f k c cs ss) ∙ ap suc (number-from f l up ss ∙ rw (up-size k (c ∷ cs) ss)) ∙ sym (number-more f k l ss (omega arith))
+    ap length (levels-more f k c cs ss) ∙ ap suc (number-from f l up ss ∙ rw (up-size k (c ∷ cs) ss))
+    ∙ sym (number-more f k l ss (omega arith))
 
-end-from : (f k : ℕ) (cs : List (Cell Point)) (ss : List ℕ) → k + length (cellsOf (levels f k cs (drop k ss))) ≡ levelEnd f k (k + length cs) ss
+end-from : (f k : ℕ) (cs : List (Cell Point)) (ss : List ℕ) → k + length (cellsOf (levels f k cs (drop k ss))) ≡ levelEnd f k
+    (k + length cs) ss
 unfolding levels levelEnd cellsOf flatMap
 end-from zero k cs ss = omega arith
 end-from (suc f) k [] ss = add-zero k ∙ sym (end-none (suc f) k (k + 0) ss (omega arith))

@@ -13,4 +13,5 @@ copy-more n l from i h g =
     let e : n - i ≡ suc (n - suc i) = omega arith in
     let w : i < length (drop from l) = simp length-drop (omega arith) in
     let k : length (take i (drop from l)) ≡ i = simp (length-take, length-drop) (omega arith) in
-    rw (e, take-suc (drop from l) i 0 w, append-assoc, getD-drop from l i 0) (set-at (take i (drop from l)) 0 (replicate (n - suc i) 0) (getD l (from + i) 0) i k)
+    rw (e, take-suc (drop from l) i 0 w, append-assoc, getD-drop from l i 0)
+    (set-at (take i (drop from l)) 0 (replicate (n - suc i) 0) (getD l (from + i) 0) i k)

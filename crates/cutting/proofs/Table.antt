@@ -28,7 +28,8 @@ below-flat : (p : ℕ) → p ≤ 64 → digitsBelow p ≡ flat (take p familyRow
 unfolding digitsBelow flat familyRows row
 below-flat zero h = refl
 below-flat (suc p) h =
-    ap₂ _++_ (below-flat p (omega arith)) (ap flatten (family-row p h)) ∙ sym (ap flat (take-suc familyRows p [] h) ∙ flat-snoc (take p familyRows) (row p))
+    ap₂ _++_ (below-flat p (omega arith)) (ap flatten (family-row p h))
+    ∙ sym (ap flat (take-suc familyRows p [] h) ∙ flat-snoc (take p familyRows) (row p))
 
 -- The two constants of src/, from the rows: ASCII digits, and where each row starts.
 unfoldable pub digits : List ℕ
@@ -74,7 +75,8 @@ digits-right l e at =
 
 pub starts-right : (p : ℕ) → p < 65 → getD starts p 0 ≡ length (digitsBelow p)
 starts-right p h =
-    eqb→eq (getD starts p 0) (length (flat (take p familyRows))) (belowb-at (λ p. eqb (getD starts p 0) (length (flat (take p familyRows)))) 65 starts-test p h)
+    eqb→eq (getD starts p 0) (length (flat (take p familyRows)))
+    (belowb-at (λ p. eqb (getD starts p 0) (length (flat (take p familyRows)))) 65 starts-test p h)
     ∙ ap length (sym (below-flat p (omega arith)))
 
 small-test : T (belowb (λ p. leb (getD starts p 0) 1172) 65)
@@ -95,7 +97,8 @@ counts-test = tt
 
 pub counts-right : (p : ℕ) → p < 64 → getD counts p 0 % 16 ≡ length (family p)
 counts-right p h =
-    eqb→eq (getD counts p 0 % 16) (length (row p)) (belowb-at (λ p. eqb (getD counts p 0 % 16) (length (row p))) 64 counts-test p h) ∙ ap length (sym (family-row p h))
+    eqb→eq (getD counts p 0 % 16) (length (row p)) (belowb-at (λ p. eqb (getD counts p 0 % 16) (length (row p))) 64 counts-test p h)
+    ∙ ap length (sym (family-row p h))
 
 pub digits-length : length (digitsBelow 64) ≡ 1172
 digits-length = ap length all-digits ∙ eqb→eq (length (flat familyRows)) 1172 length-test
@@ -117,8 +120,11 @@ more : (n p : ℕ) → (r : List ℕ) × (digitsBelow (p + n) ≡ digitsBelow p 
 unfolding digitsBelow
 more zero p = ([], rw add-zero (sym (append-nil (digitsBelow p))))
 more (suc n) p =
-    let (r, e) = more n p in
-    (r ++ flatten (family (p + n)), rw add-suc (ap (λ (l : List ℕ). l ++ flatten (family (p + n))) e ∙ append-assoc (digitsBelow p) r (flatten (family (p + n)))))
+    let (r, e) = more n p in (
+      r ++ flatten (family (p + n)),
+      rw add-suc (ap (λ (l : List ℕ). l ++ flatten (family (p + n))) e
+          ∙ append-assoc (digitsBelow p) r (flatten (family (p + n)))),
+    )
 
 -- what the cutting call reads of the constant
 pub record Row (p : ℕ) : Type 0 where

@@ -30,7 +30,9 @@ use Rattle.replay.specs.Run.{oneAnswer, oneTable, runAnswer, restTable, jobAnsw
 use Rattle.jobs.specs.Calls.{archiveAnswer, replayAnswer, roomb, readAnswer, writeAnswer}
 use Rattle.yuccadice.specs.After.{cutAnswer}
 use Rattle.demands.specs.Order.{Test, firstOf, numbersb, first-then}
-use Rattle.demands.specs.Tests.{cutTests, meshTests, tableTests, layoutTests, cornerTests, ancestorTests, countsTests, limitTests, stepTests, oneTests, runTests, jobTests, archiveTests, replayTests, readTests, flatTests, writeTests}
+use Rattle.demands.specs.Tests.{cutTests, meshTests, tableTests, layoutTests, cornerTests, ancestorTests, countsTests, limitTests}
+use Rattle.demands.specs.Tests.{stepTests, oneTests, runTests, jobTests, archiveTests, replayTests, readTests, flatTests}
+use Rattle.demands.specs.Tests.{writeTests}
 
 after : (a : Answer) (ts us : List Test) → a ≡ firstOf ts → andThen a (firstOf us) ≡ firstOf (ts ++ us)
 after a ts us e = ap (λ (b : Answer). andThen b (firstOf us)) e ∙ sym (first-then ts us)

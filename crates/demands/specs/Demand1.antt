@@ -32,8 +32,10 @@ use Rattle.jobs.specs.Calls.{archiveAnswer, jobCounts, replayAnswer, readAnswer
 use Rattle.jobs.specs.Listing.{listedBytes, listingOf, archive-fits}
 use Rattle.yuccadice.specs.After.{cutAnswer}
 use Rattle.demands.specs.Order.{Test, Answered, numbersb, answered-by}
-use Rattle.demands.specs.Tests.{cutTests, meshTests, tableTests, layoutTests, cornerTests, ancestorTests, countsTests, stepTests, archiveTests, replayTests, readTests, flatTests, writeTests}
-use Rattle.demands.specs.Answered.{cut-six, cut-first, corner-first, mesh-first, table-first, layout-first, ancestor-first, counts-first, step-first, replay-first, read-first, write-first, run-numbers, flat-numbers}
+use Rattle.demands.specs.Tests.{cutTests, meshTests, tableTests, layoutTests, cornerTests, ancestorTests, countsTests, stepTests}
+use Rattle.demands.specs.Tests.{archiveTests, replayTests, readTests, flatTests, writeTests}
+use Rattle.demands.specs.Answered.{cut-six, cut-first, corner-first, mesh-first, table-first, layout-first, ancestor-first}
+use Rattle.demands.specs.Answered.{counts-first, step-first, replay-first, read-first, write-first, run-numbers, flat-numbers}
 
 pub record Demand1 : Type 1 where
   -- the calls, each with its numbers in order

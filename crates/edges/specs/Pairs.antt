@@ -103,7 +103,8 @@ module _ (a b c d : ℕ) where
 
 joins-sorted : (e f : Pair) → joinsb eqb e f ≡ isb (sorted f) (sorted e)
 unfolding joinsb isb sorted joins sort
-joins-sorted e f = test-ext (joins (e .0) (e .1) (f .0) (f .1)) (sort (e .0) (e .1) (f .0) (f .1)) (to (e .0) (e .1) (f .0) (f .1)) (from (e .0) (e .1) (f .0) (f .1))
+joins-sorted e f = test-ext (joins (e .0) (e .1) (f .0) (f .1)) (sort (e .0) (e .1) (f .0) (f .1)) (to (e .0) (e .1) (f .0) (f .1))
+    (from (e .0) (e .1) (f .0) (f .1))
 
 pub joins-pair : (es : List Pair) (e : Pair) → heldb eqb es e ≡ hasb isb (map sorted es) (sorted e)
 unfolding heldb anyb hasb
@@ -114,4 +115,5 @@ joins-pair (f ∷ es) e = rw (joins-sorted e f, joins-pair es e)
 pub has-pairs : (es l : List Pair) (p : Pair) → hasb isb (addPairs es l) p ≡ (hasb isb es p || hasb isb (map sorted l) p)
 unfolding addPairs addPair hasb
 has-pairs es [] p = sym (or-false (hasb isb es p))
-has-pairs es (e ∷ l) p = has-pairs (addPair es e) l p ∙ rw (has-added isb (0, 0) same-pair es (sorted e) p) (or-assoc (hasb isb es p) (isb (sorted e) p) (hasb isb (map sorted l) p))
+has-pairs es (e ∷ l) p = has-pairs (addPair es e) l p ∙ rw (has-added isb (0, 0) same-pair es (sorted e) p)
+    (or-assoc (hasb isb es p) (isb (sorted e) p) (hasb isb (map sorted l) p))

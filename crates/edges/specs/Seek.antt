@@ -11,7 +11,8 @@ use native.Mathlib.Nat.{eq-or-lt-of-le}
 use native.Mathlib.Omega.{arith}
 use lib.ListN.{length, getD, set, length-append, List·getD-append}
 use lib.Seq.{getD-set-same, getD-set-other, take-set-le, getD-at}
-use Rattle.base.specs.Places.{hasb, placeIn, add, Distinct, has-at, has-below, place-there, add-old, add-new, distinct-add, place-here, place-behind, distinct-nil}
+use Rattle.base.specs.Places.{hasb, placeIn, add, Distinct, has-at, has-below, place-there, add-old, add-new, distinct-add, place-here}
+use Rattle.base.specs.Places.{place-behind, distinct-nil}
 use Rattle.base.specs.Bools.{either}
 use Rattle.pairs.specs.Keys.{Keys, Room, Added, seek, seek-found, seek-none}
 use Rattle.edges.specs.Pairs.{Pair, sorted, isb, addPair, pairsOf, same-pair}
@@ -28,7 +29,8 @@ module _ (xs ys : List ℕ) (k : ℕ) where
   at-pairs zero i h = absurd (omega arith)
   at-pairs (suc m) i h =
       ⊎-elim (λ (e : i ≡ m). rw e (getD-at (pairsOf xs ys k m) (getD xs (k + m) 0, getD ys (k + m) 0) [] (0, 0) m (length-listed m)))
-      (λ (l : i < m). List·getD-append (pairsOf xs ys k m) ((getD xs (k + m) 0, getD ys (k + m) 0) ∷ []) (0, 0) i (rw (length-listed m) l) ∙ at-pairs m i l)
+      (λ (l : i < m). List·getD-append (pairsOf xs ys k m) ((getD xs (k + m) 0, getD ys (k + m) 0) ∷ []) (0, 0) i (rw (length-listed m) l)
+      ∙ at-pairs m i l)
       (eq-or-lt-of-le (omega arith))
 
   -- a search that finds, and one that does not
@@ -38,7 +40,8 @@ module _ (xs ys : List ℕ) (k : ℕ) where
       let e = seek xs ys x y k m in
       let l : e - k < m = omega (arith, f .above, f .below) in
       let w : k + (e - k) ≡ e = omega (arith, f .above) in
-      let p : getD (pairsOf xs ys k m) (e - k) (0, 0) ≡ (x, y) = at-pairs m (e - k) l ∙ rw w (ap₂ (λ (a b : ℕ). (a, b)) (f .x-is) (f .y-is)) in
+      let p : getD (pairsOf xs ys k m) (e - k) (0, 0) ≡ (x, y) = at-pairs m (e - k) l
+      ∙ rw w (ap₂ (λ (a b : ℕ). (a, b)) (f .x-is) (f .y-is)) in
       rw p at (has-at isb (0, 0) same-pair (pairsOf xs ys k m) (e - k) (rw (length-listed m) l))
 
   missing : (x y m : ℕ) → k + m ≤ 65535 → seek xs ys x y k m ≡ 65535 → hasb isb (pairsOf xs ys k m) (x, y) ≡ false
@@ -48,7 +51,8 @@ module _ (xs ys : List ℕ) (k : ℕ) where
       no t =
           let i = placeIn isb (pairsOf xs ys k m) (x, y) in
           let l : i < m = rw (length-listed m) at (has-below isb (pairsOf xs ys k m) (x, y) t) in
-          let p : _≡_ {A = Pair} (getD xs (k + i) 0, getD ys (k + i) 0) (x, y) = sym (at-pairs m i l) ∙ place-there isb (0, 0) same-pair (pairsOf xs ys k m) (x, y) t in
+          let p : _≡_ {A = Pair} (getD xs (k + i) 0, getD ys (k + i) 0) (x, y) = sym (at-pairs m i l)
+          ∙ place-there isb (0, 0) same-pair (pairsOf xs ys k m) (x, y) t in
           seek-none xs ys x y k (k + i) (omega arith) (ap (λ (q : Pair). q .0) p) (ap (λ (q : Pair). q .1) p) m h none (omega arith)
 
   -- where different pairs are listed, a search finds the pair's place
@@ -59,7 +63,8 @@ module _ (xs ys : List ℕ) (k : ℕ) where
       let e = seek xs ys x y k m in
       let l : e - k < m = omega (arith, f .above, f .below) in
       let w : k + (e - k) ≡ e = omega (arith, f .above) in
-      let p : getD (pairsOf xs ys k m) (e - k) (0, 0) ≡ (x, y) = at-pairs m (e - k) l ∙ rw w (ap₂ (λ (a b : ℕ). (a, b)) (f .x-is) (f .y-is)) in
+      let p : getD (pairsOf xs ys k m) (e - k) (0, 0) ≡ (x, y) = at-pairs m (e - k) l
+      ∙ rw w (ap₂ (λ (a b : ℕ). (a, b)) (f .x-is) (f .y-is)) in
       let q : placeIn isb (pairsOf xs ys k m) (x, y) ≡ e - k = rw p at (d .own (e - k) (rw (length-listed m) l)) in
       omega arith
 
@@ -95,19 +100,33 @@ module _ (xs ys heads links : List ℕ) (from n : ℕ) (r : Edges xs ys heads li
         kept-ys = refl;
       }
 
-  pub new : seek xs ys x y from (n - from) ≡ 65535 → Room xs ys links n → (xs′ ys′ heads′ links′ : List ℕ) → Added xs ys n x y xs′ ys′ heads′ links′
+  pub new : seek xs ys x y from (n - from) ≡ 65535 → Room xs ys links n → (xs′ ys′ heads′ links′ : List ℕ)
+      → Added xs ys n x y xs′ ys′ heads′ links′
       → Inserted xs ys from n e xs′ ys′ heads′ links′ n (n + 1)
   unfolding addPair
   new none m xs′ ys′ heads′ links′ a =
       let up = r .up in
-      let g : hasb isb (listed xs ys from n) (sorted e) ≡ false = rw s at (missing xs ys from x y (n - from) (omega (arith, m .small)) none) in
+      let g : hasb isb (listed xs ys from n) (sorted e) ≡ false = rw s at
+      (missing xs ys from x y (n - from) (omega (arith, m .small)) none) in
       let w : listed xs′ ys′ from (n + 1) ≡ listed xs ys from n ++ (sorted e ∷ []) =
       rw (a .xs-is, a .ys-is, ← s) (listed-more xs ys from n x y up (m .in-xs) (m .in-ys)) in
-      let v : listed xs′ ys′ from (n + 1) ≡ add isb (listed xs ys from n) (sorted e) = w ∙ sym (add-new isb (listed xs ys from n) (sorted e) g) in
+      let v : listed xs′ ys′ from (n + 1) ≡ add isb (listed xs ys from n) (sorted e) = w
+      ∙ sym (add-new isb (listed xs ys from n) (sorted e) g) in
       record {
-        edges = record { keys = a .keys; up = omega arith; distinct = rw v (distinct-add isb (0, 0) same-pair (listed xs ys from n) (sorted e) (r .distinct)) };
+        edges = record {
+          keys = a .keys;
+          up = omega arith;
+          distinct = rw v
+              (distinct-add isb (0, 0) same-pair (listed xs ys from n) (sorted e) (r .distinct));
+        };
         list = v;
-        place = rw (w, place-behind isb (listed xs ys from n) (sorted e ∷ []) (sorted e) g, place-here isb (sorted e) [] (sorted e) (same-pair .self (sorted e)), length-listed xs ys from (n - from)) (omega arith);
+        place = rw (
+          w,
+          place-behind isb (listed xs ys from n) (sorted e ∷ []) (sorted e) g,
+          place-here isb (sorted e) [] (sorted e)
+              (same-pair .self (sorted e)),
+          length-listed xs ys from (n - from),
+        ) (omega arith);
         more = omega arith;
         one = omega arith;
         kept-xs = rw (a .xs-is) (take-set-le n xs n x (omega arith));
@@ -117,10 +136,12 @@ module _ (xs ys heads links : List ℕ) (from n : ℕ) (r : Edges xs ys heads li
 -- a table with no entry
 pub none-listed : (xs ys heads links : List ℕ) (n : ℕ) → Keys xs ys heads links n → Edges xs ys heads links n n
 unfolding pairsOf
-none-listed xs ys heads links n k = let e : n - n ≡ 0 = omega arith in record { keys = k; up = omega arith; distinct = rw e (distinct-nil isb (0, 0) same-pair) }
+none-listed xs ys heads links n k = let e : n - n ≡ 0 = omega arith in
+    record { keys = k; up = omega arith; distinct = rw e (distinct-nil isb (0, 0) same-pair) }
 
 -- what `holds` answers
-pub told : (xs ys heads links : List ℕ) (from n : ℕ) → Table xs ys heads links from n → (e : Pair) (x y : ℕ) → _≡_ {A = Pair} (x, y) (sorted e)
+pub told : (xs ys heads links : List ℕ) (from n : ℕ) → Table xs ys heads links from n → (e : Pair) (x y : ℕ)
+    → _≡_ {A = Pair} (x, y) (sorted e)
     → (at : ℕ) → at ≡ seek xs ys x y from (n - from) → not (eqb at 65535) ≡ hasb isb (listed xs ys from n) (sorted e)
 told xs ys heads links from n r e x y s at q = go (eqb at 65535) refl
   where

@@ -54,7 +54,15 @@ pub record Grown (xs ys : List ℕ) (from n : ℕ) (es : List Pair) (xs′ ys′
 
 pub grown-none : (xs ys heads links : List ℕ) (from n : ℕ) → Edges xs ys heads links from n → Grown xs ys from n [] xs ys heads links n
 unfolding addPairs
-grown-none xs ys heads links from n e = record { edges = e; list = refl; more = omega arith; most = omega arith; kept-xs = refl; kept-ys = refl }
+grown-none xs ys heads links from n e = record {
+  edges = e;
+  list = refl;
+  more = omega arith;
+  most = omega arith;
+  kept-xs = refl;
+  kept-ys =
+      refl;
+}
 
 pairs-append : (es l m : List Pair) → addPairs es (l ++ m) ≡ addPairs (addPairs es l) m
 unfolding addPairs
@@ -64,7 +72,8 @@ pairs-append es (e ∷ l) m = pairs-append (addPair es e) l m
 pub take-less : (k n : ℕ) (l m : List ℕ) → k ≤ n → take n l ≡ take n m → take k l ≡ take k m
 take-less k n l m h e = sym (take-take k n l h) ∙ ap (take k) e ∙ take-take k n m h
 
-module _ (xs ys : List ℕ) (from n : ℕ) (es fs : List Pair) (xs₁ ys₁ heads₁ links₁ : List ℕ) (n₁ : ℕ) (g : Grown xs ys from n es xs₁ ys₁ heads₁ links₁ n₁)
+module _ (xs ys : List ℕ) (from n : ℕ) (es fs : List Pair) (xs₁ ys₁ heads₁ links₁ : List ℕ) (n₁ : ℕ)
+    (g : Grown xs ys from n es xs₁ ys₁ heads₁ links₁ n₁)
     (xs₂ ys₂ heads₂ links₂ : List ℕ) (n₂ : ℕ) where
   pub grown-both : Grown xs₁ ys₁ from n₁ fs xs₂ ys₂ heads₂ links₂ n₂ → Grown xs ys from n (es ++ fs) xs₂ ys₂ heads₂ links₂ n₂
   grown-both h =

@@ -12,15 +12,20 @@ use mathlib.Core.Path.{_≡_, refl, sym, ap, subst, subst₂, _∙_, fun-ext}
 use mathlib.Core.Logic.{_⊎_, inl, inr, ⊎-elim}
 use mathlib.Core.Bool.{Bool, true, false}
 use mathlib.Core.Option.{Option, none, some, Option·elim}
-use mathlib.Core.List.{List, [], _∷_, _++_, append-nil, append-assoc, List·Memᴰ, List·Memᴰ·head, List·Memᴰ·not-nil, List·Memᴰ·eq-of-singleton, List·Memᴰ·append-cases, Memᴰ·append-left, Memᴰ·append-right}
+use mathlib.Core.List.{List, [], _∷_, _++_, append-nil, append-assoc, List·Memᴰ, List·Memᴰ·head, List·Memᴰ·not-nil}
+use mathlib.Core.List.{List·Memᴰ·eq-of-singleton, List·Memᴰ·append-cases, Memᴰ·append-left, Memᴰ·append-right}
 use lib.Dec.{eqb}
 use lib.ListN.{length, getD, set, length-set}
 use lib.Seq.{getD-set-same, getD-set-other}
 use borrow.Author.Tests.{eq-eqb, ne-eqb, eqb-true}
-use Rattle.exchange.specs.Calls.{Request, Start, Step, Fetch, Hand, Call, World, Program, answer, changed, play, moves, begun, startedWith, toCome, IsWritten, Fair, Lawful}
-use Rattle.exchange.specs.Played.{mem-getD, getD-mem, answer-at, answer-there, play-none, play-some, moves-none, moves-some, lawful-none, lawful-some, started-none, started-some, play-append, moves-append, lawful-append, lawful-split, started-append}
+use Rattle.exchange.specs.Calls.{Request, Start, Step, Fetch, Hand, Call, World, Program, answer, changed, play, moves, begun}
+use Rattle.exchange.specs.Calls.{startedWith, toCome, IsWritten, Fair, Lawful}
+use Rattle.exchange.specs.Played.{mem-getD, getD-mem, answer-at, answer-there, play-none, play-some, moves-none, moves-some}
+use Rattle.exchange.specs.Played.{lawful-none, lawful-some, started-none, started-some, play-append, moves-append, lawful-append}
+use Rattle.exchange.specs.Played.{lawful-split, started-append}
 use Rattle.exchange.specs.Finite.{Finite, parts, sumOver, sum-le, sum-lt, find, upd, upd-all, upd-same, upd-other}
-use Rattle.exchange.specs.Places.{Place, Plan, Ok, Counted, Laws, Live, Accepts, home, on, took, gave, ok-on, ok-begin, ok-give, ok-take}
+use Rattle.exchange.specs.Places.{Place, Plan, Ok, Counted, Laws, Live, Accepts, home, on, took, gave, ok-on, ok-begin, ok-give}
+use Rattle.exchange.specs.Places.{ok-take}
 
 mono : (f : ℕ → ℕ) → ((n : ℕ) → f n ≤ f (suc n)) → (a b : ℕ) → a ≤ b → f a ≤ f b
 mono f up a b h = le-ind {n = a} (λ m. f a ≤ f m) (omega arith) (λ m _ ih. omega (arith, up m, ih)) b h

@@ -12,13 +12,15 @@ use mathlib.Core.Path.{_≡_, refl, sym, ap, ap₂, subst, _∙_, fun-ext}
 use mathlib.Core.Logic.{_⊎_, inl, inr, ⊎-elim}
 use mathlib.Core.Bool.{Bool, true, false}
 use mathlib.Core.Option.{Option, none, some}
-use mathlib.Core.List.{List, [], _∷_, _++_, List·Memᴰ, List·Memᴰ·head, List·Memᴰ·tail, List·Memᴰ·not-nil, List·Memᴰ·cases-cons, List·Memᴰ·append-cases, Memᴰ·append-right}
+use mathlib.Core.List.{List, [], _∷_, _++_, List·Memᴰ, List·Memᴰ·head, List·Memᴰ·tail, List·Memᴰ·not-nil, List·Memᴰ·cases-cons}
+use mathlib.Core.List.{List·Memᴰ·append-cases, Memᴰ·append-right}
 use lib.ListN.{length, getD, take, drop, length-append, List·getD-append, drop-of-length-le}
 use lib.Seq.{take-suc, take-all, drop-cons, drop-append-le, length-take-le}
 use Rattle.exchange.specs.Calls.{Request, Start, Step, Fetch, Hand}
 use Rattle.exchange.specs.Finite.{Finite, sumOver, sum-lt, upd, upd-all, upd-same, upd-other}
 use Rattle.exchange.specs.Places.{Place, Plan, Ok, Counted, Laws, Live, Accepts, ok-on, ok-begin, ok-take}
-use Rattle.exchange.specs.Protocol.{Local, Protocol, Machine, only, only-same, only-other, number, Ordered, parcel, atStart, following, withBody, Gives, Alone}
+use Rattle.exchange.specs.Protocol.{Local, Protocol, Machine, only, only-same, only-other, number, Ordered, parcel, atStart}
+use Rattle.exchange.specs.Protocol.{following, withBody, Gives, Alone}
 use Rattle.exchange.specs.Played.{mem-getD, getD-mem}
 
 -- what an answer says

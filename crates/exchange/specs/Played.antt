@@ -12,7 +12,8 @@ use mathlib.Core.List.{List, [], _∷_, _++_, List·Memᴰ, List·Memᴰ·head, 
 use lib.Dec.{T, eqb}
 use lib.ListN.{length, getD}
 use Rattle.base.specs.Bools.{one-if}
-use Rattle.exchange.specs.Calls.{Request, Start, Step, Fetch, Hand, Call, World, Program, answerAt, answer, changed, apply, play, acceptsb, moves, begun, startedWith, Fair, Lawful}
+use Rattle.exchange.specs.Calls.{Request, Start, Step, Fetch, Hand, Call, World, Program, answerAt, answer, changed, apply, play}
+use Rattle.exchange.specs.Calls.{acceptsb, moves, begun, startedWith, Fair, Lawful}
 
 -- the j-th of a list is in it, and what is in it is the j-th for some j
 module _ {A : Type 0} (d : A) where

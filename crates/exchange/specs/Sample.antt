@@ -4,7 +4,8 @@ use Prim.Native.Nat.{ℕ, zero, suc}
 use mathlib.Core.Path.{_≡_, refl}
 use mathlib.Core.Option.{none, some, Option·elim}
 use mathlib.Core.List.{List, [], _∷_}
-use Rattle.exchange.specs.Calls.{Request, Start, Step, Fetch, Hand, Call, World, Program, answerAt, answer, changed, play, acceptsb, moves, begun, startedWith, toCome}
+use Rattle.exchange.specs.Calls.{Request, Start, Step, Fetch, Hand, Call, World, Program, answerAt, answer, changed, play, acceptsb}
+use Rattle.exchange.specs.Calls.{moves, begun, startedWith, toCome}
 
 does : Program ℕ ℕ (List ℕ)
 does (Start v) [] = some (v ∷ 1 ∷ [], [])

@@ -22,7 +22,8 @@ use lib.Seq.{take-nil, drop-cons}
 use Rattle.exchange.specs.Calls.{Fetch, Call, World, play, moves, startedWith, Lawful}
 use Rattle.exchange.specs.Finite.{Finite, parts, sumOver, sum-le}
 use Rattle.exchange.specs.Places.{Plan, Ok, Laws, Live}
-use Rattle.exchange.specs.Exchange.{storeAt, AtHome, determined, started, ended, rises-only, bounded, most, Goes, progress, more-lawful, more-moves, more-inputs, callOf, completes}
+use Rattle.exchange.specs.Exchange.{storeAt, AtHome, determined, started, ended, rises-only, bounded, most, Goes, progress}
+use Rattle.exchange.specs.Exchange.{more-lawful, more-moves, more-inputs, callOf, completes}
 use Rattle.exchange.specs.Protocol.{Protocol, Machine, Local, Alone}
 use Rattle.exchange.specs.Lockstep.{lock, mailCount, post, local, place, plan, at-place, laws, live, post-length}
 

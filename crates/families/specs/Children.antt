@@ -47,7 +47,8 @@ split-test = tt
 
 pub few-splits : (p : ℕ) → p < 64 → length (filterb (split p) (0 ∷ 1 ∷ 2 ∷ 3 ∷ 4 ∷ 5 ∷ [])) < length (family p)
 few-splits p h =
-    rw (family-row p h) (ltb→lt (length (filterb (split p) (0 ∷ 1 ∷ 2 ∷ 3 ∷ 4 ∷ 5 ∷ []))) (length (row p)) (belowb-at (λ p. ltb (length (filterb (split p) (0 ∷ 1 ∷ 2 ∷ 3 ∷ 4 ∷ 5 ∷ []))) (length (row p))) 64 split-test p h))
+    rw (family-row p h) (ltb→lt (length (filterb (split p) (0 ∷ 1 ∷ 2 ∷ 3 ∷ 4 ∷ 5 ∷ []))) (length (row p))
+    (belowb-at (λ p. ltb (length (filterb (split p) (0 ∷ 1 ∷ 2 ∷ 3 ∷ 4 ∷ 5 ∷ []))) (length (row p))) 64 split-test p h))
 
 some-test : T (belowb (λ p. ltb 0 (length (row p))) 64)
 unfolding belowb row familyRows
@@ -67,7 +68,8 @@ module _ (p i : ℕ) (hp : p < 64) (hi : i < length (family p)) where
         (allb-at riseTest [] (family p) (rw (family-row p hp) (belowb-at (λ p. allb riseTest (row p)) 64 rise-test p hp)) i hi) y hy
 
     pub digits-rise : lowDigit p i y < highDigit p i y
-    digits-rise = ltb→lt (lowDigit p i y) (highDigit p i y) (and-left (ltb (lowDigit p i y) (highDigit p i y)) (ltb (highDigit p i y) 10) rise-at)
+    digits-rise = ltb→lt (lowDigit p i y) (highDigit p i y)
+        (and-left (ltb (lowDigit p i y) (highDigit p i y)) (ltb (highDigit p i y) 10) rise-at)
 
     pub digits-below : highDigit p i y < 10
     digits-below = ltb→lt (highDigit p i y) 10 (and-right (ltb (lowDigit p i y) (highDigit p i y)) (ltb (highDigit p i y) 10) rise-at)

@@ -22,7 +22,8 @@ use Rattle.cutting.specs.Rule.{low, high, digit, edgeOf, split, family}
 use Rattle.cutting.specs.Rows.{familyRows, row, family-row}
 use Rattle.base.specs.Every.{All, all-of, below-at, any-place}
 use Rattle.families.specs.Kuhn.{reds, family-red}
-use Rattle.families.specs.Digits.{cornersAt, lift, digitTriples, without, usesb, holds, insideb, sidePart, sideb, alike, transferb, kind-test, transfer-test}
+use Rattle.families.specs.Digits.{cornersAt, lift, digitTriples, without, usesb, holds, insideb, sidePart, sideb, alike, transferb}
+use Rattle.families.specs.Digits.{kind-test, transfer-test}
 
 pub record Inside (ds : List (List ℕ)) (f : List ℕ) : Type 0 where
   pub uses : (m : ℕ) → m < 4 → T (usesb f m)
@@ -80,16 +81,22 @@ face-kind p k i hp hk hi =
     let ds = family p in
     let d = getD ds k [] in
     let w : T (allb (kindb ds) ds) = rw (family-row p hp) (belowb-at (λ p. allb (kindb (row p)) (row p)) 64 kind-test p hp) in
-    let v : T (insideb ds (without d i) || sideb ds (without d i)) = belowb-at (λ i. insideb ds (without d i) || sideb ds (without d i)) 4 (allb-at (kindb ds) [] ds w k hk) i hi in
-    ⊎-elim (λ (x : T (insideb ds (without d i))). inl (inside-of ds (without d i) x)) (λ (x : T (sideb ds (without d i))). inr (side-of ds (without d i) x))
+    let v : T (insideb ds (without d i) || sideb ds (without d i)) = belowb-at (λ i. insideb ds (without d i) || sideb ds (without d i)) 4
+    (allb-at (kindb ds) [] ds w k hk) i hi in
+    ⊎-elim (λ (x : T (insideb ds (without d i))). inl (inside-of ds (without d i) x))
+    (λ (x : T (sideb ds (without d i))). inr (side-of ds (without d i) x))
     (or-either (insideb ds (without d i)) (sideb ds (without d i)) v)
 
 pub transfer : (p z t : ℕ) → p < 64 → z < 4 → t < 20
-    → holds (family p) (map (lift (cornersAt z)) (getD digitTriples t [])) ≡ holds (row (alike p (cornersAt z))) (map (lift (cornersAt 3)) (getD digitTriples t []))
+    → holds (family p) (map (lift (cornersAt z)) (getD digitTriples t [])) ≡ holds (row (alike p (cornersAt z)))
+    (map (lift (cornersAt 3)) (getD digitTriples t []))
 transfer p z t hp hz ht =
     let s = getD digitTriples t [] in
-    let w : T (transferb p z s) = allb-at (transferb p z) [] digitTriples (belowb-at (λ z. allb (transferb p z) digitTriples) 4 (belowb-at (λ p. belowb (λ z. allb (transferb p z) digitTriples) 4) 64 transfer-test p hp) z hz) t ht in
-    rw (family-row p hp) (eqb→eq (holds (row p) (map (lift (cornersAt z)) s)) (holds (row (alike p (cornersAt z))) (map (lift (cornersAt 3)) s)) w)
+    let w : T (transferb p z s) = allb-at (transferb p z) [] digitTriples
+    (belowb-at (λ z. allb (transferb p z) digitTriples) 4
+    (belowb-at (λ p. belowb (λ z. allb (transferb p z) digitTriples) 4) 64 transfer-test p hp) z hz) t ht in
+    rw (family-row p hp) (eqb→eq (holds (row p) (map (lift (cornersAt z)) s))
+    (holds (row (alike p (cornersAt z))) (map (lift (cornersAt 3)) s)) w)
 
 -- digits of children
 abbrev presentb : ℕ → ℕ → Bool
@@ -108,7 +115,8 @@ present-of p x t =
     let w = and-right (ltb x 10) (eqb (low x) (high x) || split p (edgeOf x)) t in
     record {
       small = ltb→lt x 10 (and-left (ltb x 10) (eqb (low x) (high x) || split p (edgeOf x)) t);
-      on = ⊎-elim (λ (u : T (eqb (low x) (high x))). inl (eqb→eq (low x) (high x) u)) (λ (u : T (split p (edgeOf x))). inr u) (or-either (eqb (low x) (high x)) (split p (edgeOf x)) w);
+      on = ⊎-elim (λ (u : T (eqb (low x) (high x))). inl (eqb→eq (low x) (high x) u)) (λ (u : T (split p (edgeOf x))). inr u)
+          (or-either (eqb (low x) (high x)) (split p (edgeOf x)) w);
     }
 
 pub family-present : (p : ℕ) → p < 64 → All (All (Present p)) (family p)
@@ -134,10 +142,12 @@ pub whole-face : (p a b c : ℕ) → p < 64 → a < 4 → b < 4 → c < 4 → (a
     → holds (family p) (digit a a ∷ digit b b ∷ digit c c ∷ []) ≡ 1
 whole-face p a b c hp ha hb hc ab ac bc x y z =
     let w : T (wholeb p a b c) =
-    belowb-at (λ c. wholeb p a b c) 4 (belowb-at (λ b. belowb (λ c. wholeb p a b c) 4) 4 (belowb-at (λ a. belowb (λ b. belowb (λ c. wholeb p a b c) 4) 4) 4
+    belowb-at (λ c. wholeb p a b c) 4
+    (belowb-at (λ b. belowb (λ c. wholeb p a b c) 4) 4 (belowb-at (λ a. belowb (λ b. belowb (λ c. wholeb p a b c) 4) 4) 4
     (belowb-at (λ p. belowb (λ a. belowb (λ b. belowb (λ c. wholeb p a b c) 4) 4) 4) 64 whole-test p hp) a ha) b hb) c hc in
     rw (family-row p hp) (eqb→eq (holds (row p) (digit a a ∷ digit b b ∷ digit c c ∷ [])) 1
-    (impb-use (apartb p a b c) (eqb (holds (row p) (digit a a ∷ digit b b ∷ digit c c ∷ [])) 1) w (rw (ne-eqb a b ab, ne-eqb a c ac, ne-eqb b c bc, x, y, z) tt)))
+    (impb-use (apartb p a b c) (eqb (holds (row p) (digit a a ∷ digit b b ∷ digit c c ∷ [])) 1) w
+    (rw (ne-eqb a b ab, ne-eqb a c ac, ne-eqb b c bc, x, y, z) tt)))
 
 -- red children
 abbrev redb : List ℕ → Bool
@@ -147,12 +157,17 @@ red-test : T (allb redb reds)
 unfolding belowb allb anyb low high holds memberb one-if
 red-test = tt
 
-pub red-whole : (k : ℕ) → k < length (family 63) → ((m : ℕ) → m < 4 → T (usesb (getD (family 63) k []) m)) × (holds (family 63) (getD (family 63) k []) ≡ 1)
+pub red-whole : (k : ℕ) → k < length (family 63) → ((m : ℕ) → m < 4 → T (usesb (getD (family 63) k []) m))
+    × (holds (family 63) (getD (family 63) k []) ≡ 1)
 red-whole k h =
     let h' : k < length reds = rw family-red at h in
     let d = getD reds k [] in
     let w : T (redb d) = allb-at redb [] reds red-test k h' in
-    rw family-red (λ m g. belowb-at (usesb d) 4 (and-left (belowb (usesb d) 4) (eqb (holds reds d) 1) w) m g, eqb→eq (holds reds d) 1 (and-right (belowb (usesb d) 4) (eqb (holds reds d) 1) w))
+    rw family-red (
+      λ m g. belowb-at (usesb d) 4 (and-left (belowb (usesb d) 4) (eqb (holds reds d) 1) w) m g,
+      eqb→eq (holds reds d) 1
+          (and-right (belowb (usesb d) 4) (eqb (holds reds d) 1) w),
+    )
 
 -- a pattern by its edges
 abbrev bit : ℕ → ℕ → ℕ
@@ -183,18 +198,24 @@ inside-mid-test : T (belowb (λ p. allb (λ d. belowb (λ i. impb (belowb (usesb
 unfolding belowb allb anyb filterb impb low high row familyRows
 inside-mid-test = tt
 
-pub inside-mid : (p k i : ℕ) → p < 64 → k < length (family p) → i < 4 → Inside (family p) (without (getD (family p) k []) i) → T (midb (without (getD (family p) k []) i))
+pub inside-mid : (p k i : ℕ) → p < 64 → k < length (family p) → i < 4 → Inside (family p) (without (getD (family p) k []) i)
+    → T (midb (without (getD (family p) k []) i))
 unfolding belowb
 inside-mid p k i hp hk hi o =
     let ds = family p in
     let d = getD ds k [] in
     let w : T (allb (λ d. belowb (λ i. impb (belowb (usesb (without d i)) 4) (midb (without d i))) 4) ds) =
-    rw (family-row p hp) (belowb-at (λ p. allb (λ d. belowb (λ i. impb (belowb (usesb (without d i)) 4) (midb (without d i))) 4) (row p)) 64 inside-mid-test p hp) in
-    let v = belowb-at (λ i. impb (belowb (usesb (without d i)) 4) (midb (without d i))) 4 (allb-at (λ d. belowb (λ i. impb (belowb (usesb (without d i)) 4) (midb (without d i))) 4) [] ds w k hk) i hi in
-    impb-use (belowb (usesb (without d i)) 4) (midb (without d i)) v (four-below (usesb (without d i)) (o .uses 0 (omega arith)) (o .uses 1 (omega arith)) (o .uses 2 (omega arith)) (o .uses 3 (omega arith)))
+    rw (family-row p hp) (belowb-at (λ p. allb (λ d. belowb (λ i. impb (belowb (usesb (without d i)) 4) (midb (without d i))) 4) (row p)) 64
+    inside-mid-test p hp) in
+    let v = belowb-at (λ i. impb (belowb (usesb (without d i)) 4) (midb (without d i))) 4
+    (allb-at (λ d. belowb (λ i. impb (belowb (usesb (without d i)) 4) (midb (without d i))) 4) [] ds w k hk) i hi in
+    impb-use (belowb (usesb (without d i)) 4) (midb (without d i)) v
+    (four-below (usesb (without d i)) (o .uses 0 (omega arith)) (o .uses 1 (omega arith)) (o .uses 2 (omega arith))
+    (o .uses 3 (omega arith)))
   where
     four-below : (t : ℕ → Bool) → T (t 0) → T (t 1) → T (t 2) → T (t 3) → T (belowb t 4)
-    four-below t a b c d = and-both (((true && t 0) && t 1) && t 2) (t 3) (and-both ((true && t 0) && t 1) (t 2) (and-both (true && t 0) (t 1) a b) c) d
+    four-below t a b c d = and-both (((true && t 0) && t 1) && t 2) (t 3)
+        (and-both ((true && t 0) && t 1) (t 2) (and-both (true && t 0) (t 1) a b) c) d
 
 red-mid-test : T (allb midb reds)
 unfolding allb anyb low high

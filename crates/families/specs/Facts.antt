@@ -52,7 +52,8 @@ child-of : (p : ℕ) (c : List ℕ) → T (childTest p c) → ChildFacts p c
 child-of p c t = search (and-left, and-right, eqb→eq, ltb→lt, nonzero)
 
 pub child-at : (p k : ℕ) → p < 64 → k < length (family p) → ChildFacts p (getD (family p) k [])
-child-at p k h l = child-of p (getD (family p) k []) (allb-at (childTest p) [] (family p) (every (λ p f. allb (childTest p) f) children-test p h) k l)
+child-at p k h l = child-of p (getD (family p) k [])
+    (allb-at (childTest p) [] (family p) (every (λ p f. allb (childTest p) f) children-test p h) k l)
 
 -- 2. The children's volumes add up to the cell's: nothing is missing, nothing is there twice.
 unfoldable pub volumes : List (List ℕ) → ℕ
@@ -64,7 +65,8 @@ unfolding belowb volumes row familyRows
 volumes-test = tt
 
 pub volumes-add-up : (p : ℕ) → p < 64 → volumes (family p) ≡ natAbs (volume 0 4 7 9)
-volumes-add-up p h = eqb→eq (volumes (family p)) (natAbs (volume 0 4 7 9)) (every (λ p f. eqb (volumes f) (natAbs (volume 0 4 7 9))) volumes-test p h)
+volumes-add-up p h = eqb→eq (volumes (family p)) (natAbs (volume 0 4 7 9))
+    (every (λ p f. eqb (volumes f) (natAbs (volume 0 4 7 9))) volumes-test p h)
 
 -- 3, 4. A face of a child that lies on no face of the cell is in exactly two children; one that lies on a face of the cell
 -- is in exactly one.
@@ -115,7 +117,8 @@ side-alike p n h g =
     ∙ samesb-eq (side (row p) n) (side (row (alike (bits p n))) 3)
     (and-left (samesb (side (row p) n) (side (row (alike (bits p n))) 3)) (ltb (alike (bits p n)) 64)
     (belowb-at (λ n. samesb (side (row p) n) (side (row (alike (bits p n))) 3) && ltb (alike (bits p n)) 64) 4
-    (belowb-at (λ p. belowb (λ n. samesb (side (row p) n) (side (row (alike (bits p n))) 3) && ltb (alike (bits p n)) 64) 4) 64 side-test p h) n g))
+    (belowb-at (λ p. belowb (λ n. samesb (side (row p) n) (side (row (alike (bits p n))) 3) && ltb (alike (bits p n)) 64) 4) 64 side-test p
+    h) n g))
 
 pub side-by-bits : (p q n m : ℕ) → p < 64 → q < 64 → n < 4 → m < 4 → bits p n ≡ bits q m → side (family p) n ≡ side (family q) m
 side-by-bits p q n m hp hq hn hm e =
@@ -147,17 +150,21 @@ line-right p x y z h l m n =
     (belowb-at (λ y. belowb (λ x. belowb (λ z. lineTest p (family p) x y z) 4) y) 4 (every linesTest line-test p h) y m) x l) z n
 
 module _ (p x y z : ℕ) (h : p < 64) (l : x < y) (m : y < 4) (n : z < 4) (hx : x ≢ z) (hy : y ≢ z)
-    (whole : split p (edgeOf (digit x y)) ≡ false) (first : split p (edgeOf (digit x z)) ≡ true) (second : split p (edgeOf (digit y z)) ≡ true) where
+    (whole : split p (edgeOf (digit x y)) ≡ false) (first : split p (edgeOf (digit x z)) ≡ true)
+    (second : split p (edgeOf (digit y z)) ≡ true) where
   drawn : T (joinedb (family p) (digit x x) (digit y z) && not (joinedb (family p) (digit y y) (digit x z)))
   drawn =
-      impb-use (apart x y z && twoSplit p x y z) (joinedb (family p) (digit x x) (digit y z) && not (joinedb (family p) (digit y y) (digit x z)))
+      impb-use (apart x y z && twoSplit p x y z)
+      (joinedb (family p) (digit x x) (digit y z) && not (joinedb (family p) (digit y y) (digit x z)))
       (line-right p x y z h l m n) (rw (ne-eqb x z hx, ne-eqb y z hy, whole, first, second) tt)
 
   pub line-from-lower : joinedb (family p) (digit x x) (digit y z) ≡ true
-  line-from-lower = is-true (joinedb (family p) (digit x x) (digit y z)) (and-left (joinedb (family p) (digit x x) (digit y z)) (not (joinedb (family p) (digit y y) (digit x z))) drawn)
+  line-from-lower = is-true (joinedb (family p) (digit x x) (digit y z))
+      (and-left (joinedb (family p) (digit x x) (digit y z)) (not (joinedb (family p) (digit y y) (digit x z))) drawn)
 
   pub no-line-from-upper : joinedb (family p) (digit y y) (digit x z) ≡ false
-  no-line-from-upper = is-false (joinedb (family p) (digit y y) (digit x z)) (and-right (joinedb (family p) (digit x x) (digit y z)) (not (joinedb (family p) (digit y y) (digit x z))) drawn)
+  no-line-from-upper = is-false (joinedb (family p) (digit y y) (digit x z))
+      (and-right (joinedb (family p) (digit x x) (digit y z)) (not (joinedb (family p) (digit y y) (digit x z))) drawn)
 
 -- 6. Of a child's edges those between two corners are the cell's own, and they are the cell's unsplit edges: two corners
 -- are joined in some child exactly where the edge between them is not split.
@@ -201,4 +208,5 @@ tie-right a b c d x ha hb hc hd hx =
 
 pub no-tie : (a b c d x : ℕ) → a < b → b < c → c < d → d < 10 → x < 10 → memberb x (a ∷ b ∷ c ∷ d ∷ []) ≡ false → volume a b c d ≢ pos 0
     → rise a b c d x ≢ pos 0
-no-tie a b c d x ha hb hc hd hx o v = nonzero (rise a b c d x) (rw (o, zerob-not (volume a b c d) v) at (tie-right a b c d x ha hb hc hd hx))
+no-tie a b c d x ha hb hc hd hx o v = nonzero (rise a b c d x)
+    (rw (o, zerob-not (volume a b c d) v) at (tie-right a b c d x ha hb hc hd hx))

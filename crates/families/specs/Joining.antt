@@ -69,8 +69,10 @@ module _ (d e : ℕ) (hd : d < 10) (he : e < 10) where
   unfolding alikeTest
   joined-alike a b ha hb t o =
       rw family-red (⊎-elim (λ (u : T (joinedb reds d e)). u) (λ (u : T (belowb (λ a. belowb (λ b. alikeTest d e a b) 10) 10)).
-      let w : T (alikeTest d e a b) = belowb-at (λ b. alikeTest d e a b) 10 (belowb-at (λ a. belowb (λ b. alikeTest d e a b) 10) 10 u a ha) b hb in
-      impb-use (orderedb d e a b) (joinedb reds d e) (impb-use (joinedb reds a b) (impb (orderedb d e a b) (joinedb reds d e)) w (rw family-red at t)) o)
+      let w : T (alikeTest d e a b) = belowb-at (λ b. alikeTest d e a b) 10 (belowb-at (λ a. belowb (λ b. alikeTest d e a b) 10) 10 u a ha)
+      b hb in
+      impb-use (orderedb d e a b) (joinedb reds d e)
+      (impb-use (joinedb reds a b) (impb (orderedb d e a b) (joinedb reds d e)) w (rw family-red at t)) o)
       (or-either (joinedb reds d e) (belowb (λ a. belowb (λ b. alikeTest d e a b) 10) 10)
       (belowb-at (λ e. joinedb reds d e || belowb (λ a. belowb (λ b. alikeTest d e a b) 10) 10) 10
       (belowb-at (λ d. belowb (λ e. joinedb reds d e || belowb (λ a. belowb (λ b. alikeTest d e a b) 10) 10) 10) 10 alike-test d hd) e he)))
@@ -89,8 +91,10 @@ module _ (d e : ℕ) (hd : d < 10) (he : e < 10) where
   unfolding midTest
   joined-mid t n =
       let w : T (midTest d e) = belowb-at (λ e. midTest d e) 10 (belowb-at (λ d. belowb (λ e. midTest d e) 10) 10 mid-test d hd) e he in
-      let u : T (eqb d e || (ltb (low d) (high d) || ltb (low e) (high e))) = impb-use (joinedb reds d e) (eqb d e || (ltb (low d) (high d) || ltb (low e) (high e))) w (rw family-red at t) in
-      ⊎-elim (λ (v : T (ltb (low d) (high d))). inl (ltb→lt (low d) (high d) v)) (λ (v : T (ltb (low e) (high e))). inr (ltb→lt (low e) (high e) v))
+      let u : T (eqb d e || (ltb (low d) (high d) || ltb (low e) (high e))) = impb-use (joinedb reds d e)
+      (eqb d e || (ltb (low d) (high d) || ltb (low e) (high e))) w (rw family-red at t) in
+      ⊎-elim (λ (v : T (ltb (low d) (high d))). inl (ltb→lt (low d) (high d) v))
+      (λ (v : T (ltb (low e) (high e))). inr (ltb→lt (low e) (high e) v))
       (or-either (ltb (low d) (high d)) (ltb (low e) (high e)) (rw (ne-eqb d e n) at u))
 
   pub joined-turned : T (joinedb (family 63) d e) → T (joinedb (family 63) e d)

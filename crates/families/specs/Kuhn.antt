@@ -54,7 +54,8 @@ digit-ends = below-at (λ d. (low d ≤ high d) × (high d < 4)) 10 (omega arith
 
 pub ends-digit : (i : ℕ) → i < 4 → (low (digit i i) ≡ i) × (high (digit i i) ≡ i)
 unfolding low high digit
-ends-digit = below-at (λ i. (low (digit i i) ≡ i) × (high (digit i i) ≡ i)) 4 ((((tt, (refl, refl)), (refl, refl)), (refl, refl)), (refl, refl))
+ends-digit = below-at (λ i. (low (digit i i) ≡ i) × (high (digit i i) ≡ i)) 4
+    ((((tt, (refl, refl)), (refl, refl)), (refl, refl)), (refl, refl))
 
 pub digit-named : (d : ℕ) → d < 10 → digit (low d) (high d) ≡ d
 unfolding low high digit
@@ -81,7 +82,8 @@ digits-of : (f : List ℕ) → T (digitsb f) → Digits f
 digits-of f t =
     record {
       four = eqb→eq (length f) 4 (and-left (eqb (length f) 4) (belowb (λ i. ltb (getD f i 0) 10) 4) t);
-      small = λ i l. ltb→lt (getD f i 0) 10 (belowb-at (λ i. ltb (getD f i 0) 10) 4 (and-right (eqb (length f) 4) (belowb (λ i. ltb (getD f i 0) 10) 4) t) i l);
+      small = λ i l. ltb→lt (getD f i 0) 10
+          (belowb-at (λ i. ltb (getD f i 0) 10) 4 (and-right (eqb (length f) 4) (belowb (λ i. ltb (getD f i 0) 10) 4) t) i l);
     }
 
 pub red-digits : All Digits reds
@@ -125,7 +127,13 @@ module _ (x : Coordinates) (r : Kuhn x) where
   pub red-kuhn : All (λ f. Kuhn (partOf x f)) reds
   red-kuhn =
       all-from (λ f. Kuhn (partOf x f)) [] reds
-      (λ m h. record { chain = red-chain m h; step01 = red-strict m 0 h (omega arith); step12 = red-strict m 1 h (omega arith); step23 = red-strict m 2 h (omega arith) })
+      (λ m h. record {
+        chain = red-chain m h;
+        step01 = red-strict m 0 h (omega arith);
+        step12 = red-strict m 1 h (omega arith);
+        step23 =
+            red-strict m 2 h (omega arith);
+      })
 
 -- four numbers that rise, by their places
 rises : (f : ℕ → ℕ) → f 0 ≤ f 1 → f 1 ≤ f 2 → f 2 ≤ f 3 → (b : ℕ) → b < 4 → (a : ℕ) → a < 4 → a ≤ b → f a ≤ f b
@@ -162,4 +170,5 @@ pub doubled-ends : (x y : Coordinates) → Kuhn x → Kuhn y → (f g : ℕ) →
 doubled-ends x y r s f g hf hg e j =
     let (a, b) = digit-ends f hf in
     let (c, d) = digit-ends g hg in
-    sum-ends (x (low f) j) (x (high f) j) (y (low g) j) (y (high g) j) (steps-between x r (low f) (high f) a b j) (steps-between y s (low g) (high g) c d j) (e j)
+    sum-ends (x (low f) j) (x (high f) j) (y (low g) j) (y (high g) j) (steps-between x r (low f) (high f) a b j)
+    (steps-between y s (low g) (high g) c d j) (e j)

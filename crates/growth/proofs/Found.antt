@@ -16,7 +16,8 @@ unfolding middleEdge belowb
 middle-below e h = ltb→lt (middleEdge e) 10 (belowb-at (λ e. ltb (middleEdge e) 10) 6 tt e h)
 
 module _ (t : List ℕ) (c : ℕ) where
-  pub corners-read : (p q r s : ℕ) → p ≡ getD t (8 * c + 4) 0 → q ≡ getD t (8 * c + 4 + 1) 0 → r ≡ getD t (8 * c + 4 + 2) 0 → s ≡ getD t (8 * c + 4 + 3) 0
+  pub corners-read : (p q r s : ℕ) → p ≡ getD t (8 * c + 4) 0 → q ≡ getD t (8 * c + 4 + 1) 0 → r ≡ getD t (8 * c + 4 + 2) 0
+      → s ≡ getD t (8 * c + 4 + 3) 0
       → _≡_ {A = List ℕ} (p ∷ p ∷ p ∷ p ∷ q ∷ q ∷ q ∷ r ∷ r ∷ s ∷ []) (lowCorners (cellAt t c))
   unfolding lowCorners cellAt
   corners-read p q r s ep eq er es =

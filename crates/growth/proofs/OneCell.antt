@@ -41,13 +41,16 @@ module _ (cells xs ys heads links : List ℕ) (c s l at n m : ℕ) where
       }
 
   pub laid-family : (s ≡ 0 → ⊥) → s ≤ 64 → (cells′ xs′ ys′ heads′ links′ ps : List ℕ) (at′ m′ : ℕ)
-      → Grown xs ys 0 m (splitEdges 0 (cellAt cells c) s) xs′ ys′ heads′ links′ m′ → PointsSet n (listed xs′ ys′ 0 m′) (cellAt cells c) (patternOf s) ps
-      → cells′ ≡ written cells (8 * at) (childRows l c (redb s) (λ d. getD ps d 0) 0 (family (patternOf s))) → at′ ≡ at + length (family (patternOf s))
+      → Grown xs ys 0 m (splitEdges 0 (cellAt cells c) s) xs′ ys′ heads′ links′ m′ → PointsSet n (listed xs′ ys′ 0 m′) (cellAt cells c)
+      (patternOf s) ps
+      → cells′ ≡ written cells (8 * at) (childRows l c (redb s) (λ d. getD ps d 0) 0 (family (patternOf s)))
+      → at′ ≡ at + length (family (patternOf s))
       → Laid cells xs ys c s l at n m cells′ xs′ ys′ heads′ links′ at′ m′
   laid-family ne small cells′ xs′ ys′ heads′ links′ ps at′ m′ g p w e =
       let f = pointAt n (listed xs′ ys′ 0 m′) (cellAt cells c) in
       record {
         table = g;
-        rows = w ∙ ap (written cells (8 * at)) (sym (rows-some s ne l c (λ d. getD ps d 0)) ∙ rows-same l c s (λ d. getD ps d 0) f small (p .at));
+        rows = w ∙ ap (written cells (8 * at)) (sym (rows-some s ne l c (λ d. getD ps d 0)) ∙ rows-same l c s (λ d. getD ps d 0) f small
+            (p .at));
         next = e ∙ ap (λ (k : ℕ). at + k) (sym (size-some s ne));
       }

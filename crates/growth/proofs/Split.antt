@@ -44,17 +44,28 @@ module _ (p : ℕ) (c : Cell ℕ) (e : ℕ) where
     pub room : split p e ≡ true → Space xs ys links m (length (splitAt p c e)) → Room xs ys links m
     room t s =
         let v : length (splitAt p c e) ≡ 1 = ap length (split-one t) in
-        record { small = omega (arith, s .small); in-xs = omega (arith, s .in-xs); in-ys = omega (arith, s .in-ys); in-links = omega (arith, s .in-links) }
+        record {
+          small = omega (arith, s .small);
+          in-xs = omega (arith, s .in-xs);
+          in-ys = omega (arith, s .in-ys);
+          in-links = omega
+              (arith, s .in-links);
+        }
 
     module _ (xs′ ys′ heads′ links′ : List ℕ) (at m′ : ℕ) (i : Inserted xs ys 0 m (edge 0 c e) xs′ ys′ heads′ links′ at m′) where
       pub slot-below : at ≤ m
       unfolding addPair
       slot-below =
-          let h : hasb isb (listed xs′ ys′ 0 m′) (sorted (edge 0 c e)) ≡ true = rw (i .list) (has-new isb (0, 0) same-pair (listed xs ys 0 m) (sorted (edge 0 c e))) in
+          let h : hasb isb (listed xs′ ys′ 0 m′) (sorted (edge 0 c e)) ≡ true = rw (i .list)
+          (has-new isb (0, 0) same-pair (listed xs ys 0 m) (sorted (edge 0 c e))) in
           omega (arith, i .place, i .one, has-below isb (listed xs′ ys′ 0 m′) (sorted (edge 0 c e)) h, length-listed xs′ ys′ 0 (m′ - 0))
 
       pub halved : split p e ≡ true → (d : ℕ) → d ≡ middleEdge e
           → Grown xs ys 0 m (splitAt p c e) xs′ ys′ heads′ links′ m′ × (set ps d (n + at) ≡ marked n (listed xs′ ys′ 0 m′) c p e ps)
       halved t d q =
-          let a : at ≡ placeIn isb (listed xs′ ys′ 0 m′) (sorted (edge 0 c e)) = i .place ∙ zero-add (placeIn isb (listed xs′ ys′ 0 m′) (sorted (edge 0 c e))) in
-          (rw (split-one t) (grown-one xs ys 0 m (edge 0 c e) xs′ ys′ heads′ links′ at m′ i), rw (q, a) (sym (marked-one n (listed xs′ ys′ 0 m′) ps t)))
+          let a : at ≡ placeIn isb (listed xs′ ys′ 0 m′) (sorted (edge 0 c e)) = i .place
+          ∙ zero-add (placeIn isb (listed xs′ ys′ 0 m′) (sorted (edge 0 c e))) in (
+            rw (split-one t) (grown-one xs ys 0 m (edge 0 c e) xs′ ys′ heads′ links′ at m′ i),
+            rw (q, a)
+                (sym (marked-one n (listed xs′ ys′ 0 m′) ps t)),
+          )

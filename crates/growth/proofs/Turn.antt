@@ -35,7 +35,8 @@ filter-append f [] m = refl
 filter-append f (x ∷ l) m = go (f x) refl (filter-append f l m)
   where
     go : (b : Bool) → f x ≡ b → filterb f (l ++ m) ≡ filterb f l ++ filterb f m
-        → elim b [ true ↦ x ∷ filterb f (l ++ m) | false ↦ filterb f (l ++ m) ] ≡ elim b [ true ↦ x ∷ filterb f l | false ↦ filterb f l ] ++ filterb f m
+        → elim b [ true ↦ x ∷ filterb f (l ++ m) | false ↦ filterb f (l ++ m) ] ≡ elim b [ true ↦ x ∷ filterb f l | false ↦ filterb f l ]
+        ++ filterb f m
     go true e i = ap (λ (r : List ℕ). x ∷ r) i
     go false e i = i
 
@@ -47,7 +48,8 @@ edges-more : (e : ℕ) → e < 6 → take (suc e) edgeNumbers ≡ take e edgeNum
 unfolding belowb
 edges-more e h =
     take-suc edgeNumbers e 0 h
-    ∙ ap (λ (x : ℕ). take e edgeNumbers ++ (x ∷ [])) (eqb→eq (getD edgeNumbers e 0) e (belowb-at (λ e. eqb (getD edgeNumbers e 0) e) 6 tt e h))
+    ∙ ap (λ (x : ℕ). take e edgeNumbers ++ (x ∷ []))
+    (eqb→eq (getD edgeNumbers e 0) e (belowb-at (λ e. eqb (getD edgeNumbers e 0) e) 6 tt e h))
 
 module _ (p : ℕ) (c : Cell ℕ) where
   splits-more : (e : ℕ) → e < 6 → splitsTo p c (suc e) ≡ splitsTo p c e ++ splitAt p c e
@@ -62,7 +64,12 @@ module _ (p : ℕ) (c : Cell ℕ) where
   splits-within e =
       let w : filterb (split p) edgeNumbers ≡ filterb (split p) (take e edgeNumbers) ++ filterb (split p) (drop e edgeNumbers) =
       ap (filterb (split p)) (sym (take-append-drop e edgeNumbers)) ∙ filter-append (split p) (take e edgeNumbers) (drop e edgeNumbers) in
-      simp length-map (omega (arith, ap length w, length-append (filterb (split p) (take e edgeNumbers)) (filterb (split p) (drop e edgeNumbers))))
+      simp length-map (omega (
+        arith,
+        ap length w,
+        length-append (filterb (split p) (take e edgeNumbers))
+            (filterb (split p) (drop e edgeNumbers)),
+      ))
 
 pub splits-all : (s : ℕ) (c : Cell ℕ) → splitsTo (patternOf s) c 6 ≡ splitEdges 0 c s
 unfolding splitsTo splitEdges
@@ -78,10 +85,12 @@ module _ (e : ℕ) (h : e < 6) where
   digit-right = belowb-at (λ e. not (eqb (low (middleEdge e)) (high (middleEdge e))) && eqb (edgeOf (middleEdge e)) e) 6 digits-test e h
 
   no-corner : eqb (low (middleEdge e)) (high (middleEdge e)) ≡ false
-  no-corner = is-false (eqb (low (middleEdge e)) (high (middleEdge e))) (and-left (not (eqb (low (middleEdge e)) (high (middleEdge e)))) (eqb (edgeOf (middleEdge e)) e) digit-right)
+  no-corner = is-false (eqb (low (middleEdge e)) (high (middleEdge e)))
+      (and-left (not (eqb (low (middleEdge e)) (high (middleEdge e)))) (eqb (edgeOf (middleEdge e)) e) digit-right)
 
   edge-back : edgeOf (middleEdge e) ≡ e
-  edge-back = eqb→eq (edgeOf (middleEdge e)) e (and-right (not (eqb (low (middleEdge e)) (high (middleEdge e)))) (eqb (edgeOf (middleEdge e)) e) digit-right)
+  edge-back = eqb→eq (edgeOf (middleEdge e)) e
+      (and-right (not (eqb (low (middleEdge e)) (high (middleEdge e)))) (eqb (edgeOf (middleEdge e)) e) digit-right)
 
 -- the numbers after the edges below e
 pub record Numbered (n : ℕ) (es : List Pair) (c : Cell ℕ) (p e : ℕ) (ps : List ℕ) : Type 0 where
@@ -140,7 +149,8 @@ module _ (n : ℕ) (es : List Pair) (c : Cell ℕ) (p e : ℕ) (ps : List ℕ) (
         rw (marked-one p c e n es′ ps t)
         (record {
           long = length-set ps (middleEdge e) (n + placeIn isb es′ (sorted (edge 0 c e))) ∙ r .long;
-          corners = λ d l u. getD-set-other ps (middleEdge e) d (n + placeIn isb es′ (sorted (edge 0 c e))) 0 (apart d u) ∙ r .corners d l u;
+          corners = λ d l u. getD-set-other ps (middleEdge e) d (n + placeIn isb es′ (sorted (edge 0 c e))) 0 (apart d u)
+              ∙ r .corners d l u;
           has = λ f l u. rw q (has-more f (omega arith) u);
           middles = λ f l u. ⊎-elim (same f) (λ (w : f < e). older f w u) (eq-or-lt-of-le (omega arith));
         })
@@ -148,12 +158,15 @@ module _ (n : ℕ) (es : List Pair) (c : Cell ℕ) (p e : ℕ) (ps : List ℕ) (
         apart : (d : ℕ) → eqb (low d) (high d) ≡ true → d ≡ middleEdge e → ⊥
         apart d u w = not-both (eqb (low (middleEdge e)) (high (middleEdge e))) (rw w at u) (no-corner e h)
 
-        same : (f : ℕ) → f ≡ e → getD (set ps (middleEdge e) (n + placeIn isb es′ (sorted (edge 0 c e)))) (middleEdge f) 0 ≡ n + placeIn isb es′ (sorted (edge 0 c f))
+        same : (f : ℕ) → f ≡ e → getD (set ps (middleEdge e) (n + placeIn isb es′ (sorted (edge 0 c e)))) (middleEdge f) 0 ≡ n + placeIn isb
+            es′ (sorted (edge 0 c f))
         same f w = rw w (getD-set-same ps (middleEdge e) (n + placeIn isb es′ (sorted (edge 0 c e))) 0 (rw (r .long) (middle-below e h)))
 
-        older : (f : ℕ) → f < e → split p f ≡ true → getD (set ps (middleEdge e) (n + placeIn isb es′ (sorted (edge 0 c e)))) (middleEdge f) 0 ≡ n + placeIn isb es′ (sorted (edge 0 c f))
+        older : (f : ℕ) → f < e → split p f ≡ true → getD (set ps (middleEdge e) (n + placeIn isb es′ (sorted (edge 0 c e)))) (middleEdge f)
+            0 ≡ n + placeIn isb es′ (sorted (edge 0 c f))
         older f w u =
-            let other : middleEdge f ≡ middleEdge e → ⊥ = λ v. let z : f ≡ e = sym (edge-back f (omega arith)) ∙ ap edgeOf v ∙ edge-back e h in omega arith in
+            let other : middleEdge f ≡ middleEdge e → ⊥ = λ v. let z : f ≡ e = sym (edge-back f (omega arith)) ∙ ap edgeOf v
+            ∙ edge-back e h in omega arith in
             getD-set-other ps (middleEdge e) (middleEdge f) (n + placeIn isb es′ (sorted (edge 0 c e))) 0 other
             ∙ r .middles f w u ∙ ap (λ (k : ℕ). n + k) (sym (stays f w u))
 
@@ -203,7 +216,14 @@ module _ (c : Cell ℕ) (p n : ℕ) (xs₀ ys₀ heads₀ links₀ : List ℕ) (
   module _ (xs ys heads links ps : List ℕ) (k e : ℕ) (r : Turn c p n xs₀ ys₀ heads₀ links₀ m xs ys heads links ps k e) (h : e < 6) where
     within : k + length (splitAt p c e) ≤ m + length (splitsTo p c 6)
     within =
-        omega (arith, r .grown .most, splits-within p c (suc e), ap length (splits-more p c e h), length-append (splitsTo p c e) (splitAt p c e))
+        omega (
+          arith,
+          r .grown .most,
+          splits-within p c (suc e),
+          ap length (splits-more p c e h),
+          length-append (splitsTo p c e)
+              (splitAt p c e),
+        )
 
     pub turn-room : Space xs₀ ys₀ links₀ m (length (splitsTo p c 6)) → Space xs ys links k (length (splitAt p c e))
     turn-room s =
@@ -217,7 +237,8 @@ module _ (c : Cell ℕ) (p n : ℕ) (xs₀ ys₀ heads₀ links₀ : List ℕ) (
     pub turn-small : n + m + length (splitsTo p c 6) < 65536 → n + k < 65536
     turn-small s = omega (arith, within)
 
-    pub turn-more : (xs′ ys′ heads′ links′ ps′ : List ℕ) (k′ : ℕ) → length xs′ ≡ length xs → length ys′ ≡ length ys → length heads′ ≡ length heads → length links′ ≡ length links
+    pub turn-more : (xs′ ys′ heads′ links′ ps′ : List ℕ) (k′ : ℕ) → length xs′ ≡ length xs → length ys′ ≡ length ys
+        → length heads′ ≡ length heads → length links′ ≡ length links
         → Grown xs ys 0 k (splitAt p c e) xs′ ys′ heads′ links′ k′ → ps′ ≡ marked n (listed xs′ ys′ 0 k′) c p e ps
         → Turn c p n xs₀ ys₀ heads₀ links₀ m xs′ ys′ heads′ links′ ps′ k′ (suc e)
     turn-more xs′ ys′ heads′ links′ ps′ k′ lx ly lh ll g w =
@@ -227,11 +248,13 @@ module _ (c : Cell ℕ) (p n : ℕ) (xs₀ ys₀ heads₀ links₀ : List ℕ) (
           ys-long = ly ∙ r .ys-long;
           heads-long = lh ∙ r .heads-long;
           links-long = ll ∙ r .links-long;
-          grown = rw (splits-more p c e h) (grown-both xs₀ ys₀ 0 m (splitsTo p c e) (splitAt p c e) xs ys heads links k (r .grown) xs′ ys′ heads′ links′ k′ g);
+          grown = rw (splits-more p c e h) (grown-both xs₀ ys₀ 0 m (splitsTo p c e) (splitAt p c e) xs ys heads links k (r .grown) xs′ ys′
+              heads′ links′ k′ g);
           numbered = rw w (numbered-more n (listed xs ys 0 k) c p e ps h (r .numbered) (listed xs′ ys′ 0 k′) (g .list));
         }
 
-  pub turn-all : (xs ys heads links ps : List ℕ) (k e : ℕ) → Turn c p n xs₀ ys₀ heads₀ links₀ m xs ys heads links ps k e → 6 ≤ e → (s : ℕ) → p ≡ patternOf s
+  pub turn-all : (xs ys heads links ps : List ℕ) (k e : ℕ) → Turn c p n xs₀ ys₀ heads₀ links₀ m xs ys heads links ps k e → 6 ≤ e → (s : ℕ)
+      → p ≡ patternOf s
       → Grown xs₀ ys₀ 0 m (splitEdges 0 c s) xs ys heads links k × PointsSet n (listed xs ys 0 k) c (patternOf s) ps
   turn-all xs ys heads links ps k e r h s q =
       let w : e ≡ 6 = omega (arith, r .below) in

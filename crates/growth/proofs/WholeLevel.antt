@@ -36,7 +36,8 @@ module _ (cells xs ys heads links ss : List ℕ) (first l at n m : ℕ) where
         few = h;
       }
 
-  module _ (last : ℕ) (r : Roomy cells xs ys heads links ss first last at n m) (k : ℕ) (h : first + k < last) (cells₁ xs₁ ys₁ heads₁ links₁ : List ℕ) (at₁ m₁ : ℕ)
+  module _ (last : ℕ) (r : Roomy cells xs ys heads links ss first last at n m) (k : ℕ) (h : first + k < last)
+      (cells₁ xs₁ ys₁ heads₁ links₁ : List ℕ) (at₁ m₁ : ℕ)
       (g : Grows cells xs ys ss first k l at n m cells₁ xs₁ ys₁ heads₁ links₁ at₁ m₁) where
     small : getD ss (first + k) 0 ≤ 64
     small = r .small (first + k) (omega arith) h
@@ -59,13 +60,15 @@ module _ (cells xs ys heads links ss : List ℕ) (first l at n m : ℕ) where
     own : cellAt cells₁ (first + k) ≡ cellAt cells (first + k)
     own =
         ap (λ (t : List ℕ). cellAt t (first + k)) (g .rows)
-        ∙ cell-kept cells at (rowsAll l n (listed xs₁ ys₁ 0 m₁) first (cellsAt cells first k) (part ss first k)) (omega (arith, r .in-cells)) (first + k) (omega (arith, r .done))
+        ∙ cell-kept cells at (rowsAll l n (listed xs₁ ys₁ 0 m₁) first (cellsAt cells first k) (part ss first k))
+        (omega (arith, r .in-cells)) (first + k) (omega (arith, r .done))
 
     splits : m₁ + length (splitEdges 0 (cellAt cells₁ (first + k)) (getD ss (first + k) 0)) ≤ at + sizes (part ss first (last - first))
     splits = omega (arith, within, g .few, splits-few (cellAt cells₁ (first + k)) (getD ss (first + k) 0) small)
 
     refine-asked : length cells₁ ≡ length cells
-        → (first + k < at₁) × (getD ss (first + k) 0 ≤ 64) × (at₁ + sizeOf (getD ss (first + k) 0) ≤ 4096) × (8 * (at₁ + sizeOf (getD ss (first + k) 0)) ≤ length cells₁)
+        → (first + k < at₁) × (getD ss (first + k) 0 ≤ 64) × (at₁ + sizeOf (getD ss (first + k) 0) ≤ 4096)
+        × (8 * (at₁ + sizeOf (getD ss (first + k) 0)) ≤ length cells₁)
     refine-asked e = (omega (arith, r .done, g .next), small, omega (arith, within, r .most), omega (arith, within, r .in-cells))
 
     refine-ready : length cells₁ ≡ length cells → length xs₁ ≡ length xs → length ys₁ ≡ length ys → length links₁ ≡ length links
@@ -91,28 +94,37 @@ module _ (cells xs ys heads links ss : List ℕ) (first l at n m : ℕ) where
       list-more =
           d .table .list
           ∙ rw (own, g .list, parts)
-          (sym (ends-snoc (listed xs ys 0 m) (cellsAt cells first k) (part ss first k) (cellAt cells (first + k)) (getD ss (first + k) 0) alike))
+          (sym (ends-snoc (listed xs ys 0 m) (cellsAt cells first k) (part ss first k) (cellAt cells (first + k)) (getD ss (first + k) 0)
+          alike))
 
-      rows-stay : rowsAll l n (listed xs₁ ys₁ 0 m₁) first (cellsAt cells first k) (part ss first k) ≡ rowsAll l n (listed xs₂ ys₂ 0 m₂) first (cellsAt cells first k) (part ss first k)
+      rows-stay : rowsAll l n (listed xs₁ ys₁ 0 m₁) first (cellsAt cells first k) (part ss first k) ≡ rowsAll l n (listed xs₂ ys₂ 0 m₂)
+          first (cellsAt cells first k) (part ss first k)
       rows-stay =
           let es = endsFrom (listed xs ys 0 m) (cellsAt cells first k) (part ss first k) in
-          let w : listed xs₂ ys₂ 0 m₂ ≡ addPairs es (splitEdges 0 (cellAt cells₁ (first + k)) (getD ss (first + k) 0)) = rw (g .list) at (d .table .list) in
-          let x : Extends es (listed xs₂ ys₂ 0 m₂) = rw w (extends-pairs es (splitEdges 0 (cellAt cells₁ (first + k)) (getD ss (first + k) 0))) in
-          rw (g .list) (sym (rows-kept l n (listed xs₂ ys₂ 0 m₂) (listed xs ys 0 m) first (cellsAt cells first k) (part ss first k) all-small x))
+          let w : listed xs₂ ys₂ 0 m₂ ≡ addPairs es (splitEdges 0 (cellAt cells₁ (first + k)) (getD ss (first + k) 0)) = rw (g .list) at
+          (d .table .list) in
+          let x : Extends es (listed xs₂ ys₂ 0 m₂) = rw w
+          (extends-pairs es (splitEdges 0 (cellAt cells₁ (first + k)) (getD ss (first + k) 0))) in
+          rw (g .list) (sym (rows-kept l n (listed xs₂ ys₂ 0 m₂) (listed xs ys 0 m) first (cellsAt cells first k) (part ss first k)
+          all-small x))
 
-      rows-more : cells₂ ≡ written cells (8 * at) (rowsAll l n (listed xs₂ ys₂ 0 m₂) first (cellsAt cells first (suc k)) (part ss first (suc k)))
+      rows-more : cells₂ ≡ written cells (8 * at)
+          (rowsAll l n (listed xs₂ ys₂ 0 m₂) first (cellsAt cells first (suc k)) (part ss first (suc k)))
       unfolding cellsAt
       rows-more =
           let es = listed xs₂ ys₂ 0 m₂ in
           let vs = rowsAll l n es first (cellsAt cells first k) (part ss first k) in
           let c = cellAt cells (first + k) in
           let s = getD ss (first + k) 0 in
-          let long : length vs ≡ 8 * sizes (part ss first k) = length-rowsOf l n es first (cellsAt cells first k) (part ss first k) alike all-small in
+          let long : length vs ≡ 8 * sizes (part ss first k) = length-rowsOf l n es first (cellsAt cells first k) (part ss first k) alike
+          all-small in
           let e : 8 * at₁ ≡ 8 * at + length vs = omega (arith, g .next) in
           let q : cells₁ ≡ written cells (8 * at) vs = g .rows ∙ ap (written cells (8 * at)) rows-stay in
-          let v : rowsAll l n es first (cellsAt cells first k ++ (c ∷ [])) (part ss first (suc k)) ≡ vs ++ rowsOf l (first + k) s (pointAt n es c) =
+          let v : rowsAll l n es first (cellsAt cells first k ++ (c ∷ [])) (part ss first (suc k)) ≡ vs ++ rowsOf l (first + k) s
+          (pointAt n es c) =
           rw parts (rw (length-cells cells first k) at (rows-snoc l n es first (cellsAt cells first k) (part ss first k) c s alike)) in
-          d .rows ∙ rw (own, e, v, q) (written-more cells (8 * at) vs (omega (arith, within, g .next, r .in-cells)) (rowsOf l (first + k) s (pointAt n es c)))
+          d .rows ∙ rw (own, e, v, q) (written-more cells (8 * at) vs (omega (arith, within, g .next, r .in-cells))
+          (rowsOf l (first + k) s (pointAt n es c)))
 
       grows-more : Grows cells xs ys ss first (suc k) l at n m cells₂ xs₂ ys₂ heads₂ links₂ at₂ m₂
       grows-more =
@@ -128,7 +140,8 @@ module _ (cells xs ys heads links ss : List ℕ) (first l at n m : ℕ) where
           }
 
 -- the loop's invariant at the cell c
-pub record Between (cells xs ys heads links ss : List ℕ) (first last l at n m : ℕ) (cells₁ xs₁ ys₁ heads₁ links₁ : List ℕ) (at₁ m₁ c : ℕ) : Type 0 where
+pub record Between (cells xs ys heads links ss : List ℕ) (first last l at n m : ℕ) (cells₁ xs₁ ys₁ heads₁ links₁ : List ℕ)
+    (at₁ m₁ c : ℕ) : Type 0 where
   pub above : first ≤ c
   pub below : c ≤ last
   pub cells-long : length cells₁ ≡ length cells
@@ -153,26 +166,31 @@ module _ (cells xs ys heads links ss : List ℕ) (first last l at n m : ℕ) (r 
         grows = rw e (grows-none cells xs ys heads links ss first l at n m (r .edges) (r .few));
       }
 
-  module _ (cells₁ xs₁ ys₁ heads₁ links₁ : List ℕ) (at₁ m₁ c : ℕ) (b : Between cells xs ys heads links ss first last l at n m cells₁ xs₁ ys₁ heads₁ links₁ at₁ m₁ c) where
+  module _ (cells₁ xs₁ ys₁ heads₁ links₁ : List ℕ) (at₁ m₁ c : ℕ)
+      (b : Between cells xs ys heads links ss first last l at n m cells₁ xs₁ ys₁ heads₁ links₁ at₁ m₁ c) where
     pub between-asked : c < last
         → ((c < at₁) × (getD ss c 0 ≤ 64) × (at₁ + sizeOf (getD ss c 0) ≤ 4096) × (8 * (at₁ + sizeOf (getD ss c 0)) ≤ length cells₁))
         × ReadyToGrow cells₁ xs₁ ys₁ heads₁ links₁ c (getD ss c 0) n m₁
     between-asked h =
         let w : first + (c - first) ≡ c = omega (arith, b .above) in
         let g : first + (c - first) < last = omega (arith, w) in (
-          rw w at (refine-asked cells xs ys heads links ss first l at n m last r (c - first) g cells₁ xs₁ ys₁ heads₁ links₁ at₁ m₁ (b .grows) (b .cells-long)),
-          rw w at (refine-ready cells xs ys heads links ss first l at n m last r (c - first) g cells₁ xs₁ ys₁ heads₁ links₁ at₁ m₁ (b .grows) (b .cells-long) (b .xs-long) (b .ys-long) (b .links-long)),
+          rw w at (refine-asked cells xs ys heads links ss first l at n m last r (c - first) g cells₁ xs₁ ys₁ heads₁ links₁ at₁ m₁
+              (b .grows) (b .cells-long)),
+          rw w at (refine-ready cells xs ys heads links ss first l at n m last r (c - first) g cells₁ xs₁ ys₁ heads₁ links₁ at₁ m₁
+              (b .grows) (b .cells-long) (b .xs-long) (b .ys-long) (b .links-long)),
         )
 
     pub between-more : c < last → (cells₂ xs₂ ys₂ heads₂ links₂ : List ℕ) (at₂ m₂ : ℕ)
         → Laid cells₁ xs₁ ys₁ c (getD ss c 0) l at₁ n m₁ cells₂ xs₂ ys₂ heads₂ links₂ at₂ m₂
-        → length cells₂ ≡ length cells₁ → length xs₂ ≡ length xs₁ → length ys₂ ≡ length ys₁ → length heads₂ ≡ length heads₁ → length links₂ ≡ length links₁
+        → length cells₂ ≡ length cells₁ → length xs₂ ≡ length xs₁ → length ys₂ ≡ length ys₁ → length heads₂ ≡ length heads₁
+        → length links₂ ≡ length links₁
         → Between cells xs ys heads links ss first last l at n m cells₂ xs₂ ys₂ heads₂ links₂ at₂ m₂ (suc c)
     between-more h cells₂ xs₂ ys₂ heads₂ links₂ at₂ m₂ d lc lx ly lh ll =
         let w : first + (c - first) ≡ c = omega (arith, b .above) in
         let e : suc c - first ≡ suc (c - first) = omega (arith, b .above) in
         let g : first + (c - first) < last = omega (arith, w) in
-        let d′ : Laid cells₁ xs₁ ys₁ (first + (c - first)) (getD ss (first + (c - first)) 0) l at₁ n m₁ cells₂ xs₂ ys₂ heads₂ links₂ at₂ m₂ = rw w d in
+        let d′ : Laid cells₁ xs₁ ys₁ (first + (c - first)) (getD ss (first + (c - first)) 0) l at₁ n m₁ cells₂ xs₂ ys₂ heads₂ links₂ at₂
+        m₂ = rw w d in
         record {
           above = omega (arith, b .above);
           below = h;
@@ -181,7 +199,8 @@ module _ (cells xs ys heads links ss : List ℕ) (first last l at n m : ℕ) (r 
           ys-long = ly ∙ b .ys-long;
           heads-long = lh ∙ b .heads-long;
           links-long = ll ∙ b .links-long;
-          grows = rw e (grows-more cells xs ys heads links ss first l at n m last r (c - first) g cells₁ xs₁ ys₁ heads₁ links₁ at₁ m₁ (b .grows) cells₂ xs₂ ys₂ heads₂ links₂ at₂ m₂ d′);
+          grows = rw e (grows-more cells xs ys heads links ss first l at n m last r (c - first) g cells₁ xs₁ ys₁ heads₁ links₁ at₁ m₁
+              (b .grows) cells₂ xs₂ ys₂ heads₂ links₂ at₂ m₂ d′);
         }
 
     pub between-all : last ≤ c → Grows cells xs ys ss first (last - first) l at n m cells₁ xs₁ ys₁ heads₁ links₁ at₁ m₁

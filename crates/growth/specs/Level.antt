@@ -50,14 +50,17 @@ pub record Grows (cells xs ys ss : List ℕ) (first k l at n m : ℕ) (cells′ 
 
 -- the table of cells up to the last row that is written
 module _ (cells xs ys heads links ss : List ℕ) (first last l at n m : ℕ) (r : Roomy cells xs ys heads links ss first last at n m)
-    (cells′ xs′ ys′ heads′ links′ : List ℕ) (at′ m′ : ℕ) (g : Grows cells xs ys ss first (last - first) l at n m cells′ xs′ ys′ heads′ links′ at′ m′) where
-  pub grows-front : take (8 * at′) cells′ ≡ take (8 * at) cells ++ rowsAll l n (listed xs′ ys′ 0 m′) first (cellsAt cells first (last - first)) (part ss first (last - first))
+    (cells′ xs′ ys′ heads′ links′ : List ℕ) (at′ m′ : ℕ)
+    (g : Grows cells xs ys ss first (last - first) l at n m cells′ xs′ ys′ heads′ links′ at′ m′) where
+  pub grows-front : take (8 * at′) cells′ ≡ take (8 * at) cells ++ rowsAll l n (listed xs′ ys′ 0 m′) first
+      (cellsAt cells first (last - first)) (part ss first (last - first))
   grows-front =
       let k : ℕ = last - first in
       let vs : List ℕ = rowsAll l n (listed xs′ ys′ 0 m′) first (cellsAt cells first k) (part ss first k) in
       let h : first + k ≤ length ss = omega (arith, r .rise, r .statuses) in
       let long : length vs ≡ 8 * sizes (part ss first k) =
-      length-rowsOf l n (listed xs′ ys′ 0 m′) first (cellsAt cells first k) (part ss first k) (length-cells cells first k ∙ sym (length-part ss first k h))
+      length-rowsOf l n (listed xs′ ys′ 0 m′) first (cellsAt cells first k) (part ss first k)
+      (length-cells cells first k ∙ sym (length-part ss first k h))
       (small-part ss first k h (λ c a b. r .small c a (omega (arith, r .rise)))) in
       let e : 8 * at′ ≡ 8 * at + length vs = omega (arith, g .next) in
       rw (e, g .rows) (take-written cells (8 * at) vs (omega (arith, r .in-cells)))

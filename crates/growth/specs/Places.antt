@@ -40,7 +40,11 @@ extends-both a b c f g = record { has = λ p t. g .has p (f .has p t); place = �
 
 extends-pair : (es : List Pair) (e : Pair) → Extends es (addPair es e)
 unfolding addPair
-extends-pair es e = record { has = λ p t. kept isb (0, 0) same-pair es (sorted e) p t; place = λ p t. place-kept isb (0, 0) same-pair es (sorted e) p t }
+extends-pair es e = record {
+  has = λ p t. kept isb (0, 0) same-pair es (sorted e) p t;
+  place = λ p t. place-kept isb (0, 0) same-pair es
+      (sorted e) p t;
+}
 
 pub extends-pairs : (es l : List Pair) → Extends es (addPairs es l)
 unfolding addPairs
@@ -56,12 +60,14 @@ extends-ends es (c ∷ cs) (s ∷ ss) =
     extends-both es es₁ (endsFrom es₁ cs ss) (extends-pairs es (splitEdges 0 c s)) (extends-ends es₁ cs ss)
 
 -- lists that a test picks
-has-picked : (f : ℕ → Bool) (g : ℕ → Pair) (x : ℕ) → f x ≡ true → (l : List ℕ) → T (memberb x l) → hasb isb (map sorted (map g (filterb f l))) (sorted (g x)) ≡ true
+has-picked : (f : ℕ → Bool) (g : ℕ → Pair) (x : ℕ) → f x ≡ true → (l : List ℕ) → T (memberb x l)
+    → hasb isb (map sorted (map g (filterb f l))) (sorted (g x)) ≡ true
 unfolding hasb filterb memberb
 has-picked f g x q [] t = absurd t
 has-picked f g x q (y ∷ l) t = go (eqb x y) refl (f y) refl t (has-picked f g x q l)
   where
-    go : (a : Bool) → eqb x y ≡ a → (b : Bool) → f y ≡ b → T (a || memberb x l) → (T (memberb x l) → hasb isb (map sorted (map g (filterb f l))) (sorted (g x)) ≡ true)
+    go : (a : Bool) → eqb x y ≡ a → (b : Bool) → f y ≡ b → T (a || memberb x l)
+        → (T (memberb x l) → hasb isb (map sorted (map g (filterb f l))) (sorted (g x)) ≡ true)
         → hasb isb (map sorted (map g (filterb f (y ∷ l)))) (sorted (g x)) ≡ true
     go true a true b u less = rw (b, filterb, eqb-true x y a, same-pair .self (sorted (g y)))
     go true a false b u less = not-both (f y) (rw (eqb-true x y a) at q) b
@@ -75,7 +81,8 @@ picked f x (y ∷ l) t = go (f y) refl t (picked f x l)
   where
     go : (b : Bool) → f y ≡ b → T (memberb x (elim b [ true ↦ y ∷ filterb f l | false ↦ filterb f l ]))
         → (T (memberb x (filterb f l)) → (f x ≡ true) × T (memberb x l)) → (f x ≡ true) × T (eqb x y || memberb x l)
-    go true b u less = ⊎-elim (λ e. (rw (eqb-true x y e) b, rw e tt)) (λ e. (less (rw e at u) .0, rw e (less (rw e at u) .1))) (either (eqb x y))
+    go true b u less = ⊎-elim (λ e. (rw (eqb-true x y e) b, rw e tt)) (λ e. (less (rw e at u) .0, rw e (less (rw e at u) .1)))
+        (either (eqb x y))
     go false b u less = (less u .0, rw (is-true (memberb x l) (less u .1), or-true (eqb x y)) tt)
 
 member-below : (x : ℕ) (l : List ℕ) (n : ℕ) → T (allb (λ y. ltb y n) l) → T (memberb x l) → T (ltb x n)
@@ -137,7 +144,8 @@ edge-number = belowb-at (λ e. memberb e edgeNumbers) 6 tt
 module _ (es : List Pair) (c : Cell ℕ) (s : ℕ) where
   has-split : (e : ℕ) → e < 6 → split (patternOf s) e ≡ true → hasb isb (addPairs es (splitEdges 0 c s)) (sorted (edge 0 c e)) ≡ true
   unfolding splitEdges
-  has-split e h t = has-pairs es (splitEdges 0 c s) (sorted (edge 0 c e)) ∙ rw (has-picked (split (patternOf s)) (edge 0 c) e t edgeNumbers (edge-number e h), or-true)
+  has-split e h t = has-pairs es (splitEdges 0 c s) (sorted (edge 0 c e))
+      ∙ rw (has-picked (split (patternOf s)) (edge 0 c) e t edgeNumbers (edge-number e h), or-true)
 
   point-kept : (n : ℕ) (es′ : List Pair) → Extends (addPairs es (splitEdges 0 c s)) es′ → (d : ℕ) → T (memberb d (present (patternOf s)))
       → pointAt n es′ c d ≡ pointAt n (addPairs es (splitEdges 0 c s)) c d
@@ -165,7 +173,11 @@ module _ (q : ℕ → Bool) (f g : ℕ → ℕ) (same : (d : ℕ) → T (q d) �
   from-same : (l k : ℕ) (r : Bool) (i : ℕ) (ds : List (List ℕ)) → T (allb (allb q) ds) → childRows l k r f i ds ≡ childRows l k r g i ds
   unfolding childRows allb
   from-same l k r i [] t = refl
-  from-same l k r i (d ∷ ds) t = rw (map-same d (and-left (allb q d) (allb (allb q) ds) t), from-same l k r (suc i) ds (and-right (allb q d) (allb (allb q) ds) t))
+  from-same l k r i (d ∷ ds) t = rw (
+    map-same d (and-left (allb q d) (allb (allb q) ds) t),
+    from-same l k r (suc i) ds
+        (and-right (allb q d) (allb (allb q) ds) t),
+  )
 
 pub allb-from : {A : Type 0} (f : A → Bool) (o : A) (l : List A) → ((k : ℕ) → k < length l → T (f (getD l k o))) → T (allb f l)
 unfolding allb
@@ -175,15 +187,19 @@ allb-from f o (x ∷ l) t = rw (is-true (f x) (t 0 (omega arith))) (allb-from f 
 pub family-has : (p : ℕ) → p < 64 → T (allb (allb (λ d. memberb d (present p))) (family p))
 family-has p h = allb-from (allb (λ d. memberb d (present p))) [] (family p) (λ k l. child-at p k h l .present)
 
-pub rows-same : (l k s : ℕ) (f g : ℕ → ℕ) → s ≤ 64 → ((d : ℕ) → T (memberb d (present (patternOf s))) → f d ≡ g d) → rowsOf l k s f ≡ rowsOf l k s g
+pub rows-same : (l k s : ℕ) (f g : ℕ → ℕ) → s ≤ 64 → ((d : ℕ) → T (memberb d (present (patternOf s))) → f d ≡ g d)
+    → rowsOf l k s f ≡ rowsOf l k s g
 unfolding rowsOf
-rows-same l k s f g h same = ⊎-elim (λ (e : eqb s 0 ≡ true). rw (e, rowsOf)) (λ (e : eqb s 0 ≡ false). rw (e, rowsOf) more) (either (eqb s 0))
+rows-same l k s f g h same = ⊎-elim (λ (e : eqb s 0 ≡ true). rw (e, rowsOf)) (λ (e : eqb s 0 ≡ false). rw (e, rowsOf) more)
+    (either (eqb s 0))
   where
     more : childRows l k (redb s) f 0 (family (patternOf s)) ≡ childRows l k (redb s) g 0 (family (patternOf s))
-    more = from-same (λ d. memberb d (present (patternOf s))) f g same l k (redb s) 0 (family (patternOf s)) (family-has (patternOf s) (pattern-below s h))
+    more = from-same (λ d. memberb d (present (patternOf s))) f g same l k (redb s) 0 (family (patternOf s))
+        (family-has (patternOf s) (pattern-below s h))
 
 module _ (l n : ℕ) (es′ : List Pair) where
-  pub rows-kept : (es : List Pair) (k : ℕ) (cs : List (Cell ℕ)) (ss : List ℕ) → T (allb (λ s. leb s 64) ss) → Extends (endsFrom es cs ss) es′
+  pub rows-kept : (es : List Pair) (k : ℕ) (cs : List (Cell ℕ)) (ss : List ℕ) → T (allb (λ s. leb s 64) ss)
+      → Extends (endsFrom es cs ss) es′
       → rowsAll l n es′ k cs ss ≡ rowsAll l n (endsFrom es cs ss) k cs ss
   unfolding rowsAll endsFrom allb
   rows-kept es k [] ss t x = refl
@@ -194,7 +210,8 @@ module _ (l n : ℕ) (es′ : List Pair) where
       let y = extends-ends es₁ cs ss in
       ap₂ _++_
       (rows-same l k s (pointAt n es′ c) (pointAt n (endsFrom es₁ cs ss) c) small
-      (λ d u. point-kept es c s n es′ (extends-both es₁ (endsFrom es₁ cs ss) es′ y x) d u ∙ sym (point-kept es c s n (endsFrom es₁ cs ss) y d u)))
+      (λ d u. point-kept es c s n es′ (extends-both es₁ (endsFrom es₁ cs ss) es′ y x) d u
+      ∙ sym (point-kept es c s n (endsFrom es₁ cs ss) y d u)))
       (rows-kept es₁ (suc k) cs ss (and-right (leb s 64) (allb (λ s. leb s 64) ss) t) x)
 
 pub splits-few : (c : Cell ℕ) (s : ℕ) → s ≤ 64 → length (splitEdges 0 c s) ≤ sizeOf s

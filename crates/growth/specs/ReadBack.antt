@@ -36,7 +36,17 @@ module _ (t : List ℕ) (k : ℕ) (c : Cell ℕ) (long : length (c .points) ≡ 
   read-cell : cellAt t k ≡ bare c
   unfolding cellAt bare rowOf
   read-cell =
-      rw (number 1 (omega arith), number 3 (omega arith), number 4 (omega arith), number 5 (omega arith), number 6 (omega arith), number 7 (omega arith), eqb-one (c .regular), four-points (c .points) long)
+      rw (
+        number 1 (omega arith),
+        number 3 (omega arith),
+        number 4 (omega arith),
+        number 5 (omega arith),
+        number 6 (omega arith),
+        number 7
+            (omega arith),
+        eqb-one (c .regular),
+        four-points (c .points) long,
+      )
 
 -- the row in front, and those behind it
 full : (l : List ℕ) (n : ℕ) (a b : List ℕ) → length a ≡ 8 → take (8 + n) l ≡ a ++ b → length (take 8 l) ≡ 8
@@ -52,12 +62,14 @@ module _ (l : List ℕ) (n : ℕ) (a b : List ℕ) (h : length a ≡ 8) (q : tak
   behind : take n (drop 8 l) ≡ b
   behind = sym (drop-at (take 8 l) (take n (drop 8 l)) 8 (full l n a b h q)) ∙ ap (drop 8) both ∙ drop-at a b 8 h
 
-read-cells : (t : List ℕ) (k : ℕ) (cs : List (Cell ℕ)) → T (allb (λ c. eqb (length (c .points)) 4) cs) → part t (8 * k) (8 * length cs) ≡ flatMap rowOf cs
+read-cells : (t : List ℕ) (k : ℕ) (cs : List (Cell ℕ)) → T (allb (λ c. eqb (length (c .points)) 4) cs)
+    → part t (8 * k) (8 * length cs) ≡ flatMap rowOf cs
     → cellsAt t k (length cs) ≡ map bare cs
 unfolding allb flatMap cellsAt
 read-cells t k [] s e = refl
 read-cells t k (c ∷ cs) s e =
-    let long : length (c .points) ≡ 4 = eqb→eq (length (c .points)) 4 (and-left (eqb (length (c .points)) 4) (allb (λ c. eqb (length (c .points)) 4) cs) s) in
+    let long : length (c .points) ≡ 4 = eqb→eq (length (c .points)) 4
+    (and-left (eqb (length (c .points)) 4) (allb (λ c. eqb (length (c .points)) 4) cs) s) in
     let n : 8 * suc (length cs) ≡ 8 + 8 * length cs = omega arith in
     let q : take (8 + 8 * length cs) (drop (8 * k) t) ≡ rowOf c ++ flatMap rowOf cs = rw n at e in
     let v : 8 * suc k ≡ 8 * k + 8 = omega arith in

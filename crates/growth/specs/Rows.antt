@@ -75,15 +75,19 @@ module _ (l n : ℕ) (es : List Pair) (up : 1 ≤ l) where
   rows-next k (c ∷ cs) [] ss e t = let z : _≡_ {A = ℕ} 0 1 = cc in absurd (omega arith)
   rows-next k (c ∷ cs) (c′ ∷ cs′) [] e t = refl
   rows-next k (c ∷ cs) (c′ ∷ cs′) (s ∷ ss) e t =
-      let deep : length (c′ .path) ≡ l = eqb→eq (length (c′ .path)) l (and-left (eqb (length (c′ .path)) l) (allb (λ c. eqb (length (c .path)) l) cs′) t) in
-      let rest : T (allb (λ c. eqb (length (c .path)) l) cs′) = and-right (eqb (length (c′ .path)) l) (allb (λ c. eqb (length (c .path)) l) cs′) t in
+      let deep : length (c′ .path) ≡ l = eqb→eq (length (c′ .path)) l
+      (and-left (eqb (length (c′ .path)) l) (allb (λ c. eqb (length (c .path)) l) cs′) t) in
+      let rest : T (allb (λ c. eqb (length (c .path)) l) cs′) = and-right (eqb (length (c′ .path)) l)
+      (allb (λ c. eqb (length (c .path)) l) cs′) t in
       let p : c .points ≡ c′ .points = cc in
       let q : map (λ c. c .points) cs ≡ map (λ c. c .points) cs′ = cc in
-      ap₂ _++_ (ap (rowsOf l k s) (pointAt-same n es c c′ p) ∙ of-children l k c′ deep up (pointAt n es c′) s) (rows-next (suc k) cs cs′ ss q rest)
+      ap₂ _++_ (ap (rowsOf l k s) (pointAt-same n es c c′ p) ∙ of-children l k c′ deep up (pointAt n es c′) s)
+      (rows-next (suc k) cs cs′ ss q rest)
       ∙ sym (flat-append (children k c′ s (pointAt n es c′)) (nextOf n es (suc k) cs′ ss))
 
 -- eight numbers a child
-pub length-rows-from : (l k : ℕ) (r : Bool) (f : ℕ → ℕ) (i : ℕ) (ds : List (List ℕ)) → T (allb (λ c. eqb (length c) 4) ds) → length (childRows l k r f i ds) ≡ 8 * length ds
+pub length-rows-from : (l k : ℕ) (r : Bool) (f : ℕ → ℕ) (i : ℕ) (ds : List (List ℕ)) → T (allb (λ c. eqb (length c) 4) ds)
+    → length (childRows l k r f i ds) ≡ 8 * length ds
 unfolding childRows allb
 length-rows-from l k r f i [] t = refl
 length-rows-from l k r f i (d ∷ ds) t =
@@ -97,9 +101,11 @@ length-family l k f s h = go (eqb s 0) refl
   where
     go : (b : Bool) → eqb s 0 ≡ b → length (rowsOf l k s f) ≡ 8 * sizeOf s
     go true e = rw (e, rowsOf, sizeOf)
-    go false e = rw (e, rowsOf, sizeOf) (length-rows-from l k (redb s) f 0 (family (patternOf s)) (family-fours (patternOf s) (pattern-below s h)))
+    go false e = rw (e, rowsOf, sizeOf)
+        (length-rows-from l k (redb s) f 0 (family (patternOf s)) (family-fours (patternOf s) (pattern-below s h)))
 
-pub length-rowsOf : (l n : ℕ) (es : List Pair) (k : ℕ) (cs : List (Cell ℕ)) (ss : List ℕ) → length cs ≡ length ss → T (allb (λ s. leb s 64) ss)
+pub length-rowsOf : (l n : ℕ) (es : List Pair) (k : ℕ) (cs : List (Cell ℕ)) (ss : List ℕ) → length cs ≡ length ss
+    → T (allb (λ s. leb s 64) ss)
     → length (rowsAll l n es k cs ss) ≡ 8 * sizes ss
 unfolding rowsAll sizes allb
 length-rowsOf l n es k [] [] e t = refl

@@ -24,11 +24,13 @@ module _ (l : List ℕ) (i : ℕ) (vs : List ℕ) (h : i + length vs ≤ length 
 
   pub take-written : take (i + length vs) (written l i vs) ≡ take i l ++ vs
   unfolding written
-  take-written = rw (← append-assoc (take i l) vs (drop (i + length vs) l)) (take-at (take i l ++ vs) (drop (i + length vs) l) (i + length vs) front)
+  take-written = rw (← append-assoc (take i l) vs (drop (i + length vs) l))
+      (take-at (take i l ++ vs) (drop (i + length vs) l) (i + length vs) front)
 
   pub drop-written : drop (i + length vs) (written l i vs) ≡ drop (i + length vs) l
   unfolding written
-  drop-written = rw (← append-assoc (take i l) vs (drop (i + length vs) l)) (drop-at (take i l ++ vs) (drop (i + length vs) l) (i + length vs) front)
+  drop-written = rw (← append-assoc (take i l) vs (drop (i + length vs) l))
+      (drop-at (take i l ++ vs) (drop (i + length vs) l) (i + length vs) front)
 
   pub length-written : length (written l i vs) ≡ length l
   unfolding written
@@ -40,7 +42,8 @@ module _ (l : List ℕ) (i : ℕ) (vs : List ℕ) (h : i + length vs ≤ length 
   unfolding written
   written-more ws =
       let e : drop (i + length vs + length ws) (written l i vs) ≡ drop (i + length (vs ++ ws)) l =
-      sym (drop-drop (length ws) (i + length vs) (written l i vs)) ∙ ap (drop (length ws)) drop-written ∙ drop-drop (length ws) (i + length vs) l
+      sym (drop-drop (length ws) (i + length vs) (written l i vs)) ∙ ap (drop (length ws)) drop-written
+      ∙ drop-drop (length ws) (i + length vs) l
       ∙ rw (length-append vs ws, add-assoc) in
       ap (λ (r : List ℕ). r ++ (ws ++ drop (i + length vs + length ws) (written l i vs))) take-written
       ∙ ap (λ (r : List ℕ). (take i l ++ vs) ++ (ws ++ r)) e
@@ -48,7 +51,8 @@ module _ (l : List ℕ) (i : ℕ) (vs : List ℕ) (h : i + length vs ≤ length 
       ∙ ap (λ (r : List ℕ). take i l ++ r) (sym (append-assoc vs ws (drop (i + length (vs ++ ws)) l)))
 
 -- k rows of eight from row `at` on
-pub written-rows : (t : List ℕ) (at k : ℕ) (vs : List ℕ) → length vs ≡ 8 * k → written t (8 * at) vs ≡ take (8 * at) t ++ (vs ++ drop (8 * (at + k)) t)
+pub written-rows : (t : List ℕ) (at k : ℕ) (vs : List ℕ) → length vs ≡ 8 * k
+    → written t (8 * at) vs ≡ take (8 * at) t ++ (vs ++ drop (8 * (at + k)) t)
 unfolding written
 written-rows t at k vs e = let w : 8 * at + length vs ≡ 8 * (at + k) = omega arith in rw w
 

@@ -210,7 +210,8 @@ fn write_child(
 )
     requires { ⌜ (8 * at + 8 ≤ length (now cells)) × (i < 8) ⌝ }
     requires { ⌜ ((j : ℕ) → getD (now digits) j 0 < 10) ⌝ }
-    ensures { λ u. ⌜ is cells ≡ written (was cells) (8 * at) (level ∷ parent ∷ i ∷ regular ∷ map (λ d. getD (was points) d 0) (fourAt (was digits) (4 * i))) ⌝ }
+    ensures { λ u. ⌜ is cells ≡ written (was cells) (8 * at)
+        (level ∷ parent ∷ i ∷ regular ∷ map (λ d. getD (was points) d 0) (fourAt (was digits) (4 * i))) ⌝ }
 {
     let j = 4 * i;
     let p = number(points, digits, j);
@@ -234,7 +235,8 @@ fn write_children(
     requires { ⌜ (pattern < 64) × (8 * (at + length (family pattern)) ≤ length (now cells)) ⌝ }
     requires { ⌜ now digits ≡ digitTable ⌝ }
     ensures { λ r. ⌜ r ≡ at + length (family pattern) ⌝ }
-    ensures { λ r. ⌜ is cells ≡ written (was cells) (8 * at) (childRows level parent regular (λ d. getD (was points) d 0) 0 (family pattern)) ⌝ }
+    ensures { λ r. ⌜ is cells ≡ written (was cells) (8 * at)
+        (childRows level parent regular (λ d. getD (was points) d 0) 0 (family pattern)) ⌝ }
 {
     let whole = cutting::cut_from(digits, pattern);
     let own = whole.digits;
@@ -270,7 +272,8 @@ fn refine(
     requires { ⌜ (c < at) × (status ≤ 64) × (at + sizeOf status ≤ 4096) × (8 * (at + sizeOf status) ≤ length (now cells)) ⌝ }
     requires { ⌜ ReadyToGrow (now cells) (now xs) (now ys) (now heads) (now links) c status n m ⌝ }
     requires { ⌜ now digits ≡ digitTable ⌝ }
-    ensures { λ r. ⌜ Laid (was cells) (was xs) (was ys) c status level at n m (is cells) (is xs) (is ys) (is heads) (is links) (r .at) (r .m) ⌝ }
+    ensures { λ r. ⌜ Laid (was cells) (was xs) (was ys) c status level at n m (is cells) (is xs) (is ys) (is heads) (is links) (r .at)
+        (r .m) ⌝ }
 {
     if status == 0 {
         return Refined { at, m };
@@ -311,7 +314,8 @@ pub fn grow_level(
 ) -> Refined
     requires { ⌜ Roomy (now cells) (now xs) (now ys) (now heads) (now links) (now status) first last at n m ⌝ }
     requires { ⌜ now digits ≡ digitTable ⌝ }
-    ensures { λ r. ⌜ Grows (was cells) (was xs) (was ys) (was status) first (last - first) level at n m (is cells) (is xs) (is ys) (is heads) (is links) (r .at) (r .m) ⌝ }
+    ensures { λ r. ⌜ Grows (was cells) (was xs) (was ys) (was status) first (last - first) level at n m (is cells) (is xs) (is ys)
+        (is heads) (is links) (r .at) (r .m) ⌝ }
 {
     let mut next = at;
     let mut k = m;

@@ -56,7 +56,8 @@ from-own : (a k : ℕ) (c : Cell Point) (r : Bool) (f : ℕ → Point) (i : ℕ)
 unfolding ownOlds childrenFrom
 from-own a k c r f i [] j h = absurd (omega arith)
 from-own a k c r f i (d ∷ ds) zero h = let e : a + 0 ≡ a = omega arith in rw e
-from-own a k c r f i (d ∷ ds) (suc j) h = let e : a + suc j ≡ suc a + j = omega arith in rw e (from-own (suc a) k c r f (suc i) ds j (omega arith))
+from-own a k c r f i (d ∷ ds) (suc j) h = let e : a + suc j ≡ suc a + j = omega arith in
+    rw e (from-own (suc a) k c r f (suc i) ds j (omega arith))
 
 module _ (m : ℕ) (pre post : List ℕ) where
   -- the old child of the cell behind the front part
@@ -85,11 +86,13 @@ module _ (m : ℕ) (pre post : List ℕ) where
         go true e = let f : t ≡ 64 = eqb-true t 64 e in rw (e, regular f) (child-own t i f)
         go false e = rw e refl
 
-    at-next : (i : ℕ) → i < sizeOf t → getD (ownOlds (m + sizes pre) (children k c t (point c))) i none ≡ orNone (redb t) (m + sizes pre + i)
+    at-next : (i : ℕ) → i < sizeOf t → getD (ownOlds (m + sizes pre) (children k c t (point c))) i none ≡ orNone (redb t)
+        (m + sizes pre + i)
     unfolding children sizeOf
     at-next i h = go (eqb t 0) refl
       where
-        go : (z : Bool) → eqb t 0 ≡ z → getD (ownOlds (m + sizes pre) (children k c t (point c))) i none ≡ orNone (redb t) (m + sizes pre + i)
+        go : (z : Bool) → eqb t 0 ≡ z → getD (ownOlds (m + sizes pre) (children k c t (point c))) i none ≡ orNone (redb t)
+            (m + sizes pre + i)
         go true e = let n : i < 0 = rw (e, sizeOf) at h in absurd (omega arith)
         go false e =
             let n : i < length (family (patternOf t)) = rw (e, sizeOf) at h in
@@ -114,8 +117,10 @@ olds-own m pre (t ∷ ts) post (c ∷ cs) e w =
     let n : suc (length pre) ≡ length pre′ = omega (arith, length-append pre (t ∷ [])) in
     let z : m + sizes pre′ ≡ m + sizes pre + sizeOf t = omega (arith, sizes-append pre (t ∷ []), sizes-one t) in
     let l : length (children (length pre) c t (point c)) ≡ sizeOf t = length-children (length pre) c t (point c) in
-    let i : oldsNext m (pre′ ++ (ts ++ post)) ts (ownOlds (length pre′) cs) ≡ ownOlds (m + sizes pre′) (next (length pre′) cs ts) = olds-own m pre′ ts post cs (omega arith) (w .1) in
-    let f : oldsOf m (pre ++ (t ∷ (ts ++ post))) t (orNone (c .regular) (length pre)) ≡ ownOlds (m + sizes pre) (children (length pre) c t (point c)) =
+    let i : oldsNext m (pre′ ++ (ts ++ post)) ts (ownOlds (length pre′) cs) ≡ ownOlds (m + sizes pre′) (next (length pre′) cs ts) = olds-own
+    m pre′ ts post cs (omega arith) (w .1) in
+    let f : oldsOf m (pre ++ (t ∷ (ts ++ post))) t (orNone (c .regular) (length pre)) ≡ ownOlds (m + sizes pre)
+    (children (length pre) c t (point c)) =
     family-own m pre (ts ++ post) (length pre) c t (w .0) in
     let g : oldsNext m (pre ++ (t ∷ (ts ++ post))) ts (ownOlds (suc (length pre)) cs)
     ≡ ownOlds (m + sizes pre + length (children (length pre) c t (point c))) (next (suc (length pre)) cs ts) = rw (a, n, l, ← z) i in
@@ -133,7 +138,8 @@ module _ (ss : List ℕ) (small : length ss ≤ 65535) where
   unfolding flagOf
   flag-at o = ap redb (List·getD-map (λ s. flagOf (redb s)) ss o 0) ∙ flag-red (redb (getD ss o 0))
 
-  one-own : (pre post : List ℕ) (c : Cell Point) (t : ℕ) → ss ≡ pre ++ (t ∷ post) → Follows c t → redb (getD (flagsIn ss) (orNone (c .regular) (length pre)) 0) ≡ redb t
+  one-own : (pre post : List ℕ) (c : Cell Point) (t : ℕ) → ss ≡ pre ++ (t ∷ post) → Follows c t
+      → redb (getD (flagsIn ss) (orNone (c .regular) (length pre)) 0) ≡ redb t
   unfolding orNone
   one-own pre post c t e w = flag-at (orNone (c .regular) (length pre)) ∙ go (c .regular) refl
     where
@@ -160,11 +166,13 @@ red-edges-flags [] ts = refl
 red-edges-flags (c ∷ cs) [] = refl
 red-edges-flags (c ∷ cs) (t ∷ ts) = go (redb t) refl (red-edges-flags cs ts)
   where
-    go : (b : Bool) → redb t ≡ b → redEdges [] cs (flagsIn ts) ≡ redEdges [] cs ts → redEdges [] (c ∷ cs) (flagsIn (t ∷ ts)) ≡ redEdges [] (c ∷ cs) (t ∷ ts)
+    go : (b : Bool) → redb t ≡ b → redEdges [] cs (flagsIn ts) ≡ redEdges [] cs ts → redEdges [] (c ∷ cs) (flagsIn (t ∷ ts)) ≡ redEdges []
+        (c ∷ cs) (t ∷ ts)
     go true e i = rw (e, flag-red true, redEdges) (ap (λ (l : List (Point × Point)). edges [] c ++ l) i)
     go false e i = rw (e, flag-red false, redEdges) i
 
-closed-own : (es : List (Point × Point)) (cs : List (Cell Point)) (ts : List ℕ) → T (closedFrom [] sameb es cs ts) → closedBy es cs (flagsIn ts) ≡ ts
+closed-own : (es : List (Point × Point)) (cs : List (Cell Point)) (ts : List ℕ) → T (closedFrom [] sameb es cs ts)
+    → closedBy es cs (flagsIn ts) ≡ ts
 unfolding closedFrom closedBy
 closed-own es [] [] u = refl
 closed-own es [] (t ∷ ts) u = absurd u
@@ -172,7 +180,8 @@ closed-own es (c ∷ cs) [] u = absurd u
 closed-own es (c ∷ cs) (t ∷ ts) u =
     let s = statusOf [] sameb es (redb t) c in
     let e : t ≡ s = eqb→eq t s (and-left (eqb t s) (closedFrom [] sameb es cs ts) u) in
-    ap₂ (λ (x : ℕ) (l : List ℕ). x ∷ l) (rw (flag-red (redb t)) (sym e)) (closed-own es cs ts (and-right (eqb t s) (closedFrom [] sameb es cs ts) u))
+    ap₂ (λ (x : ℕ) (l : List ℕ). x ∷ l) (rw (flag-red (redb t)) (sym e))
+    (closed-own es cs ts (and-right (eqb t s) (closedFrom [] sameb es cs ts) u))
 
 abbrev pub statusLists : List Level → List (List ℕ)
 statusLists ls = map (λ (l : Level). l .statuses) ls
@@ -203,7 +212,8 @@ module _ (m : ℕ) (ss : List ℕ) (small : length ss ≤ 65535) where
     unfolding statusesBy ts
     statuses-own = rw (reds-own ss small pre ts post cs whole many refined, red-edges-flags cs ts) (closed-own (redEdges [] cs ts) cs ts u)
 
-    next-own : oldsNext m ss (take (length cs) rest) (ownOlds (length pre) cs) ≡ ownOlds (length pre + length cs) (next (length pre) cs (take (length cs) rest))
+    next-own : oldsNext m ss (take (length cs) rest) (ownOlds (length pre) cs) ≡ ownOlds (length pre + length cs)
+        (next (length pre) cs (take (length cs) rest))
     unfolding ts
     next-own =
         ap (λ (l : List ℕ). oldsNext m l ts (ownOlds (length pre) cs)) whole ∙ olds-own m pre ts post cs many refined
@@ -222,9 +232,17 @@ module _ (m : ℕ) (ss : List ℕ) (small : length ss ≤ 65535) where
 
     front-counted : m + sizes front ≡ length front + length (next (length pre) cs (take (length cs) rest))
     unfolding ts
-    front-counted = omega (arith, counted, front-long, sizes-append pre (take (length cs) rest), length-next (length pre) cs (take (length cs) rest) many)
+    front-counted = omega (
+      arith,
+      counted,
+      front-long,
+      sizes-append pre (take (length cs) rest),
+      length-next (length pre) cs
+          (take (length cs) rest) many,
+    )
 
-  pub grow-own : (h k : ℕ) (pre rest : List ℕ) (cs : List (Cell Point)) → length pre ≡ k → ss ≡ pre ++ rest → m + sizes pre ≡ length pre + length cs
+  pub grow-own : (h k : ℕ) (pre rest : List ℕ) (cs : List (Cell Point)) → length pre ≡ k → ss ≡ pre ++ rest
+      → m + sizes pre ≡ length pre + length cs
       → T (allb closedb (levels h k cs rest)) → growBy m ss (flagsIn ss) h k cs (ownOlds k cs) ≡ statusLists (levels h k cs rest)
   unfolding growBy levels allb closedb
   grow-own zero k pre rest cs a e n u = refl
@@ -241,7 +259,8 @@ module _ (m : ℕ) (ss : List ℕ) (small : length ss ≤ 65535) where
       let x : statusesBy (flagsIn ss) cs′ os ≡ ts = rw (← a) (statuses-own pre rest cs′ e n v) in
       let y : oldsNext m ss ts os ≡ ownOlds k′ (next k cs′ ts) = rw (← a) (next-own pre rest cs′ e n v) in
       let b : length (front pre rest cs′ e n v) ≡ k′ = rw (← a) (front-long pre rest cs′ e n v) in
-      let z : m + sizes (front pre rest cs′ e n v) ≡ length (front pre rest cs′ e n v) + length (next k cs′ ts) = rw (← a) (front-counted pre rest cs′ e n v) in
+      let z : m + sizes (front pre rest cs′ e n v) ≡ length (front pre rest cs′ e n v) + length (next k cs′ ts) = rw (← a)
+      (front-counted pre rest cs′ e n v) in
       let i : growBy m ss (flagsIn ss) h k′ (next k cs′ ts) (ownOlds k′ (next k cs′ ts)) ≡ statusLists up =
       grow-own h k′ (front pre rest cs′ e n v) (drop (length cs′) rest) (next k cs′ ts) b (front-whole pre rest cs′ e n v) z w in
       ap (λ (t : List ℕ). t ∷ growBy m ss (flagsIn ss) h k′ (next k cs′ t) (oldsNext m ss t os)) x

@@ -57,7 +57,8 @@ module _ {A : Type 0} (o : A) (f q : A → Bool) where
 
 -- The edges of the new red cells of a level, by their flags.
 red-rows : (f : Row → Bool) (k : ℕ) (cs : List (Cell Point)) (ss ms : List ℕ) → length cs ≡ length ss
-    → flatMap (λ (r : Row). edges [] (r .cell)) (filterb f (rowsFrom k cs ss ms)) ≡ redEdges [] cs (map (λ r. flagOf (f r)) (rowsFrom k cs ss ms))
+    → flatMap (λ (r : Row). edges [] (r .cell)) (filterb f (rowsFrom k cs ss ms)) ≡ redEdges [] cs
+    (map (λ r. flagOf (f r)) (rowsFrom k cs ss ms))
 unfolding rowsFrom filterb redEdges flatMap flagOf
 red-rows f k [] ss ms e = refl
 red-rows f k (c ∷ cs) [] ms e = absurd (omega arith)
@@ -90,7 +91,8 @@ unfolding allb anyb
 any-none f g [] a = refl
 any-none f g (x ∷ l) a = go (f x) (g x) a (any-none f g l)
   where
-    go : (b c : Bool) → ((b || not c) && allb (λ e. f e || not (g e)) l) ≡ true → (allb (λ e. f e || not (g e)) l ≡ true → anyb (λ e. not (f e) && g e) l ≡ false)
+    go : (b c : Bool) → ((b || not c) && allb (λ e. f e || not (g e)) l) ≡ true
+        → (allb (λ e. f e || not (g e)) l ≡ true → anyb (λ e. not (f e) && g e) l ≡ false)
         → ((not b && c) || anyb (λ e. not (f e) && g e) l) ≡ false
     go true c a i = i a
     go false true a i = not-both false a refl
@@ -138,38 +140,44 @@ module _ (ms : List ℕ) (unmarked : Unmarked ms) (k : ℕ) (cs : List (Cell Poi
       ap (λ (c : Cell Point). c .regular) (b .is) ∙ rw x e
 
   -- a green cell is not turned: apart says that the edges of the next level are own or held by no red cell
-  module _ (apart : (t u : ℕ) → t < length cs → u < length (next k cs ts) → getD (next k cs ts) u noCell .regular ≡ false → getD (next k cs ts) u noCell .parent ≡ k + t
-      → allb (λ e. heldb sameb (edges [] (getD cs t noCell)) e || not (heldb sameb es e)) (edges [] (getD (next k cs ts) u noCell)) ≡ true) where
-    stays : (t : ℕ) → t < length cs → redb (getD ts t 0) ≡ false → turnedb (edges [] (getD cs t noCell)) (kids up (k + t)) es ≡ false
-    unfolding turnedb kids
-    stays t h e =
-        any-fails noRow _ (λ r. eqb (r .cell .parent) (k + t)) up (λ u g q.
-        let r = up-row u g in
-        let i : u < length (next k cs ts) = omega (arith, up-long) in
-        let p : getD (next k cs ts) u noCell .parent ≡ k + t = eqb-true (getD (next k cs ts) u noCell .parent) (k + t) (rw r at q) in
-        rw (r, unmarked (k + length cs + u)) (none-of (edges [] (getD (next k cs ts) u noCell)) (apart t u h i (green-child t u e i p) p)))
-      where
-        none-of : (l : List (Point × Point)) → allb (λ e. heldb sameb (edges [] (getD cs t noCell)) e || not (heldb sameb es e)) l ≡ true
-            → anyb (λ e. not (heldb sameb (edges [] (getD cs t noCell)) e) && heldb sameb es e) l ≡ false
-        none-of l a = any-none (heldb sameb (edges [] (getD cs t noCell))) (heldb sameb es) l a
+  module _ (apart : (t u : ℕ) → t < length cs → u < length (next k cs ts) → getD (next k cs ts) u noCell .regular ≡ false
+      → getD (next k cs ts) u noCell .parent ≡ k + t
+      → allb (λ e. heldb sameb (edges [] (getD cs t noCell)) e || not (heldb sameb es e)) (edges [] (getD (next k cs ts) u noCell)) ≡ true)
+    where
+      stays : (t : ℕ) → t < length cs → redb (getD ts t 0) ≡ false → turnedb (edges [] (getD cs t noCell)) (kids up (k + t)) es ≡ false
+      unfolding turnedb kids
+      stays t h e =
+          any-fails noRow _ (λ r. eqb (r .cell .parent) (k + t)) up (λ u g q.
+          let r = up-row u g in
+          let i : u < length (next k cs ts) = omega (arith, up-long) in
+          let p : getD (next k cs ts) u noCell .parent ≡ k + t = eqb-true (getD (next k cs ts) u noCell .parent) (k + t) (rw r at q) in
+          rw (r, unmarked (k + length cs + u))
+          (none-of (edges [] (getD (next k cs ts) u noCell)) (apart t u h i (green-child t u e i p) p)))
+        where
+          none-of : (l : List (Point × Point)) → allb (λ e. heldb sameb (edges [] (getD cs t noCell)) e || not (heldb sameb es e)) l ≡ true
+              → anyb (λ e. not (heldb sameb (edges [] (getD cs t noCell)) e) && heldb sameb es e) l ≡ false
+          none-of l a = any-none (heldb sameb (edges [] (getD cs t noCell))) (heldb sameb es) l a
 
-    -- so the new red cells are the old ones
-    row-own : (t : ℕ) → t < length cs → newRedb up es (rowAt k cs ts ms t) ≡ redb (getD ts t 0)
-    unfolding redAfterb
-    row-own t h = go (redb (getD ts t 0)) refl (eqb (getD ts t 0) 0) refl
-      where
-        go : (r : Bool) → redb (getD ts t 0) ≡ r → (z : Bool) → eqb (getD ts t 0) 0 ≡ z → newRedb up es (rowAt k cs ts ms t) ≡ redb (getD ts t 0)
-        go true e z f = rw (e, redAfterb, kept t h (eqb-true (getD ts t 0) 64 e))
-        go false e true f = rw (e, f, redAfterb, unmarked (k + t)) (and-false (getD cs t noCell .regular))
-        go false e false f = rw (e, f, redAfterb) (stays t h e)
+      -- so the new red cells are the old ones
+      row-own : (t : ℕ) → t < length cs → newRedb up es (rowAt k cs ts ms t) ≡ redb (getD ts t 0)
+      unfolding redAfterb
+      row-own t h = go (redb (getD ts t 0)) refl (eqb (getD ts t 0) 0) refl
+        where
+          go : (r : Bool) → redb (getD ts t 0) ≡ r → (z : Bool) → eqb (getD ts t 0) 0 ≡ z
+              → newRedb up es (rowAt k cs ts ms t) ≡ redb (getD ts t 0)
+          go true e z f = rw (e, redAfterb, kept t h (eqb-true (getD ts t 0) 64 e))
+          go false e true f = rw (e, f, redAfterb, unmarked (k + t)) (and-false (getD cs t noCell .regular))
+          go false e false f = rw (e, f, redAfterb) (stays t h e)
 
-all-less : {A : Type 0} (f g g′ : A → Bool) → ((x : A) → g′ x ≡ true → g x ≡ true) → (l : List A) → allb (λ x. f x || not (g x)) l ≡ true → allb (λ x. f x || not (g′ x)) l ≡ true
+all-less : {A : Type 0} (f g g′ : A → Bool) → ((x : A) → g′ x ≡ true → g x ≡ true) → (l : List A) → allb (λ x. f x || not (g x)) l ≡ true
+    → allb (λ x. f x || not (g′ x)) l ≡ true
 unfolding allb
 all-less f g g′ w [] a = refl
 all-less f g g′ w (x ∷ l) a = go (f x) (g x) (g′ x) (w x) a (all-less f g g′ w l)
   where
     go : (b c d : Bool) → (d ≡ true → c ≡ true) → ((b || not c) && allb (λ x. f x || not (g x)) l) ≡ true
-        → (allb (λ x. f x || not (g x)) l ≡ true → allb (λ x. f x || not (g′ x)) l ≡ true) → ((b || not d) && allb (λ x. f x || not (g′ x)) l) ≡ true
+        → (allb (λ x. f x || not (g x)) l ≡ true → allb (λ x. f x || not (g′ x)) l ≡ true)
+        → ((b || not d) && allb (λ x. f x || not (g′ x)) l) ≡ true
     go true c d w a i = i a
     go false true d w a i = not-both false a refl
     go false false true w a i = not-both false (w refl) refl
@@ -200,13 +208,23 @@ record Above (ls : List Level) (k : ℕ) (cs : List (Cell Point)) (ms : List ℕ
   within : Within (edgesUp (newReds ls ms)) reds
 
 module _ (ms : List ℕ) (unmarked : Unmarked ms) (all : List (Cell Point)) (reds : List (Point × Point))
-    (apart : T (allb (λ c. c .regular || allb (λ e. heldb sameb (edges [] (getD all (c .parent) c)) e || not (heldb sameb reds e)) (edges [] c)) all)) where
+    (apart : T (allb (λ c. c .regular || allb (λ e. heldb sameb (edges [] (getD all (c .parent) c)) e || not (heldb sameb reds e))
+    (edges [] c)) all)) where
   above : (h k : ℕ) (cs : List (Cell Point)) (rest : List ℕ) → length (levels h k cs rest) < h → T (allb closedb (levels h k cs rest))
-      → Within (redLevels (levels h k cs rest)) reds → flags (levels h k cs rest) ms ≡ map (λ (l : Level). flagsIn (l .statuses)) (levels h k cs rest)
+      → Within (redLevels (levels h k cs rest)) reds → flags (levels h k cs rest) ms ≡ map (λ (l : Level). flagsIn (l .statuses))
+      (levels h k cs rest)
       → Above (levels h k cs rest) k cs ms reds
   unfolding levels rowsUp rowsFrom edgesUp newReds allb closedb flatMap rows flags flagsOf cellsOf
   above zero k cs rest h u w f = absurd (omega arith)
-  above (suc n) k [] rest h u w f = record { us = []; many = refl; rows-up = refl; tail = []; cells-up = refl; within = λ e t. not-both false t refl }
+  above (suc n) k [] rest h u w f = record {
+    us = [];
+    many = refl;
+    rows-up = refl;
+    tail = [];
+    cells-up = refl;
+    within = λ e t. not-both
+        false t refl;
+  }
   above (suc n) k (c ∷ cs) rest h u w f =
       let cs′ = c ∷ cs in
       let us = take (length cs′) rest in
@@ -224,7 +242,8 @@ module _ (ms : List ℕ) (unmarked : Unmarked ms) (all : List (Cell Point)) (red
         rows-up = refl;
         tail = cellsOf ls;
         cells-up = refl;
-        within = λ e t. w e (held-append (redEdges [] cs′ us) (redLevels ls) e ∙ ap (λ (b : Bool). b || heldb sameb (redLevels ls) e) (rw q at t));
+        within = λ e t. w e (held-append (redEdges [] cs′ us) (redLevels ls) e ∙ ap (λ (b : Bool). b || heldb sameb (redLevels ls) e)
+            (rw q at t));
       }
 
   -- the third condition of soundness, at a child of the level cs
@@ -239,27 +258,37 @@ module _ (ms : List ℕ) (unmarked : Unmarked ms) (all : List (Cell Point)) (red
     cell-above : (u : ℕ) (d : Cell Point) → u < length (next k cs ts) → getD all (k + length cs + u) d ≡ getD (next k cs ts) u d
     cell-above u d h =
         let x : k + length cs + u ≡ length done + (length cs + u) = omega arith in
-        rw x (ap (λ (l : List (Cell Point)). getD l (length done + (length cs + u)) d) parts ∙ getD-append-add done (cs ++ (next k cs ts ++ tail)) (length cs + u) d
+        rw x (ap (λ (l : List (Cell Point)). getD l (length done + (length cs + u)) d) parts
+        ∙ getD-append-add done (cs ++ (next k cs ts ++ tail)) (length cs + u) d
         ∙ getD-append-add cs (next k cs ts ++ tail) u d ∙ List·getD-append (next k cs ts) tail d u h)
 
     inside : (u : ℕ) → u < length (next k cs ts) → k + length cs + u < length all
     inside u h =
-        omega (arith, ap length parts ∙ length-append done (cs ++ (next k cs ts ++ tail)), length-append cs (next k cs ts ++ tail), length-append (next k cs ts) tail)
+        omega (
+          arith,
+          ap length parts ∙ length-append done (cs ++ (next k cs ts ++ tail)),
+          length-append cs (next k cs ts ++ tail),
+          length-append (next k cs ts) tail,
+        )
 
     level-apart : (es : List (Point × Point)) → Within es reds → (t u : ℕ) → t < length cs → u < length (next k cs ts)
         → getD (next k cs ts) u noCell .regular ≡ false → getD (next k cs ts) u noCell .parent ≡ k + t
         → allb (λ e. heldb sameb (edges [] (getD cs t noCell)) e || not (heldb sameb es e)) (edges [] (getD (next k cs ts) u noCell)) ≡ true
     level-apart es w t u ht hu r p =
         let c = getD (next k cs ts) u noCell in
-        let test : Cell Point → Bool = λ c. c .regular || allb (λ e. heldb sameb (edges [] (getD all (c .parent) c)) e || not (heldb sameb reds e)) (edges [] c) in
+        let test : Cell Point → Bool = λ c. c .regular || allb
+        (λ e. heldb sameb (edges [] (getD all (c .parent) c)) e || not (heldb sameb reds e)) (edges [] c) in
         let a : T (test (getD all (k + length cs + u) noCell)) = allb-at test noCell all apart (k + length cs + u) (inside u hu) in
         let b : T (test c) = rw (cell-above u noCell hu) at a in
         let d : T (allb (λ e. heldb sameb (edges [] (getD all (c .parent) c)) e || not (heldb sameb reds e)) (edges [] c)) = rw r at b in
-        let g : getD all (c .parent) c ≡ getD cs t noCell = ap (λ (x : ℕ). getD all x c) p ∙ cell-here t c ht ∙ default-free cs t c noCell ht in
+        let g : getD all (c .parent) c ≡ getD cs t noCell = ap (λ (x : ℕ). getD all x c) p ∙ cell-here t c ht
+        ∙ default-free cs t c noCell ht in
         let f : T (allb (λ e. heldb sameb (edges [] (getD cs t noCell)) e || not (heldb sameb reds e)) (edges [] c)) = rw g at d in
-        all-less (heldb sameb (edges [] (getD cs t noCell))) (heldb sameb reds) (heldb sameb es) w (edges [] c) (is-true (allb (λ e. heldb sameb (edges [] (getD cs t noCell)) e || not (heldb sameb reds e)) (edges [] c)) f)
+        all-less (heldb sameb (edges [] (getD cs t noCell))) (heldb sameb reds) (heldb sameb es) w (edges [] c)
+        (is-true (allb (λ e. heldb sameb (edges [] (getD cs t noCell)) e || not (heldb sameb reds e)) (edges [] c)) f)
 
-  pub flags-own : (h k : ℕ) (cs : List (Cell Point)) (rest : List ℕ) (done : List (Cell Point)) → all ≡ done ++ cellsOf (levels h k cs rest) → length done ≡ k
+  pub flags-own : (h k : ℕ) (cs : List (Cell Point)) (rest : List ℕ) (done : List (Cell Point)) → all ≡ done ++ cellsOf (levels h k cs rest)
+      → length done ≡ k
       → length (levels h k cs rest) < h → T (allb closedb (levels h k cs rest)) → Within (redLevels (levels h k cs rest)) reds
       → flags (levels h k cs rest) ms ≡ map (λ (l : Level). flagsIn (l .statuses)) (levels h k cs rest)
   unfolding levels allb closedb flatMap flags flagsOf cellsOf rows up
@@ -274,10 +303,12 @@ module _ (ms : List ℕ) (unmarked : Unmarked ms) (all : List (Cell Point)) (red
       let v : T (closedFrom [] sameb (redEdges [] cs′ ts) cs′ ts) = and-left (closedb l) (allb closedb ls) u in
       let v′ : T (allb closedb ls) = and-right (closedb l) (allb closedb ls) u in
       let m : length cs′ ≡ length ts = sym (closed-many (redEdges [] cs′ ts) cs′ ts v) in
-      let w′ : Within (redLevels ls) reds = λ e t. w e (held-append (redEdges [] cs′ ts) (redLevels ls) e ∙ rw t (or-true (heldb sameb (redEdges [] cs′ ts) e))) in
+      let w′ : Within (redLevels ls) reds = λ e t. w e (held-append (redEdges [] cs′ ts) (redLevels ls) e
+      ∙ rw t (or-true (heldb sameb (redEdges [] cs′ ts) e))) in
       let p′ : all ≡ (done ++ cs′) ++ cellsOf ls = p ∙ sym (append-assoc done cs′ (cellsOf ls)) in
       let i : flags ls ms ≡ map (λ (l : Level). flagsIn (l .statuses)) ls =
-      flags-own n k′ (next k cs′ ts) (drop (length cs′) rest) (done ++ cs′) p′ (length-append done cs′ ∙ omega (arith, f)) (omega arith) v′ w′ in
+      flags-own n k′ (next k cs′ ts) (drop (length cs′) rest) (done ++ cs′) p′ (length-append done cs′ ∙ omega (arith, f)) (omega arith) v′
+      w′ in
       let a : Above ls k′ (next k cs′ ts) ms reds = above n k′ (next k cs′ ts) (drop (length cs′) rest) (omega arith) v′ w′ i in
       let es = edgesUp (newReds ls ms) in
       let q : all ≡ done ++ (cs′ ++ (next k cs′ ts ++ a .tail)) = p ∙ ap (λ (x : List (Cell Point)). done ++ (cs′ ++ x)) (a .cells-up) in

@@ -50,11 +50,14 @@ statuses-all (suc h) k (c ∷ cs) rest u =
     let ts = take (length cs′) rest in
     let l : Level = record { first = k; cells = cs′; statuses = ts } in
     let ls : List Level = levels h (k + length cs′) (next k cs′ ts) (drop (length cs′) rest) in
-    let i : flatten (statusLists ls) ≡ take (length (cellsOf ls)) (drop (length cs′) rest) = statuses-all h (k + length cs′) (next k cs′ ts) (drop (length cs′) rest) (and-right (closedb l) (allb closedb ls) u) in
-    ap (λ (x : List ℕ). ts ++ x) i ∙ sym (ap (λ (x : ℕ). take x rest) (length-append cs′ (cellsOf ls)) ∙ take-add (length cs′) (length (cellsOf ls)) rest)
+    let i : flatten (statusLists ls) ≡ take (length (cellsOf ls)) (drop (length cs′) rest) = statuses-all h (k + length cs′) (next k cs′ ts)
+    (drop (length cs′) rest) (and-right (closedb l) (allb closedb ls) u) in
+    ap (λ (x : List ℕ). ts ++ x) i
+    ∙ sym (ap (λ (x : ℕ). take x rest) (length-append cs′ (cellsOf ls)) ∙ take-add (length cs′) (length (cellsOf ls)) rest)
 
 -- the red edges of all levels are those of the table
-red-append : (cs ds : List (Cell Point)) (ss ts : List ℕ) → length cs ≡ length ss → redEdges [] (cs ++ ds) (ss ++ ts) ≡ redEdges [] cs ss ++ redEdges [] ds ts
+red-append : (cs ds : List (Cell Point)) (ss ts : List ℕ) → length cs ≡ length ss → redEdges [] (cs ++ ds) (ss ++ ts) ≡ redEdges [] cs ss
+    ++ redEdges [] ds ts
 unfolding redEdges
 red-append [] ds [] ts e = refl
 red-append [] ds (s ∷ ss) ts e = absurd (omega arith)
@@ -63,7 +66,8 @@ red-append (c ∷ cs) ds (s ∷ ss) ts e = go (redb s) refl (red-append cs ds ss
   where
     go : (b : Bool) → redb s ≡ b → redEdges [] (cs ++ ds) (ss ++ ts) ≡ redEdges [] cs ss ++ redEdges [] ds ts
         → redEdges [] (c ∷ (cs ++ ds)) (s ∷ (ss ++ ts)) ≡ redEdges [] (c ∷ cs) (s ∷ ss) ++ redEdges [] ds ts
-    go true e i = rw (e, redEdges) (ap (λ (l : List (Point × Point)). edges [] c ++ l) i ∙ sym (append-assoc (edges [] c) (redEdges [] cs ss) (redEdges [] ds ts)))
+    go true e i = rw (e, redEdges) (ap (λ (l : List (Point × Point)). edges [] c ++ l) i
+        ∙ sym (append-assoc (edges [] c) (redEdges [] cs ss) (redEdges [] ds ts)))
     go false e i = rw (e, redEdges) i
 
 reds-all : (h k : ℕ) (cs : List (Cell Point)) (rest : List ℕ) → T (allb closedb (levels h k cs rest))
@@ -77,14 +81,17 @@ reds-all (suc h) k (c ∷ cs) rest u =
     let l : Level = record { first = k; cells = cs′; statuses = ts } in
     let ls : List Level = levels h (k + length cs′) (next k cs′ ts) (drop (length cs′) rest) in
     let v : T (closedFrom [] sameb (redEdges [] cs′ ts) cs′ ts) = and-left (closedb l) (allb closedb ls) u in
-    let i : redLevels ls ≡ redEdges [] (cellsOf ls) (flatten (statusLists ls)) = reds-all h (k + length cs′) (next k cs′ ts) (drop (length cs′) rest) (and-right (closedb l) (allb closedb ls) u) in
-    ap (λ (x : List (Point × Point)). redEdges [] cs′ ts ++ x) i ∙ sym (red-append cs′ (cellsOf ls) ts (flatten (statusLists ls)) (sym (closed-many (redEdges [] cs′ ts) cs′ ts v)))
+    let i : redLevels ls ≡ redEdges [] (cellsOf ls) (flatten (statusLists ls)) = reds-all h (k + length cs′) (next k cs′ ts)
+    (drop (length cs′) rest) (and-right (closedb l) (allb closedb ls) u) in
+    ap (λ (x : List (Point × Point)). redEdges [] cs′ ts ++ x) i
+    ∙ sym (red-append cs′ (cellsOf ls) ts (flatten (statusLists ls)) (sym (closed-many (redEdges [] cs′ ts) cs′ ts v)))
 
 flags-concat : (ls : List Level) → flatten (map (λ (l : Level). flagsIn (l .statuses)) ls) ≡ flagsIn (flatten (statusLists ls))
 unfolding flatMap flatten
 flags-concat [] = refl
 flags-concat (l ∷ ls) =
-    ap (λ (x : List ℕ). flagsIn (l .statuses) ++ x) (flags-concat ls) ∙ sym (map-append (λ s. flagOf (redb s)) (l .statuses) (flatten (statusLists ls)))
+    ap (λ (x : List ℕ). flagsIn (l .statuses) ++ x) (flags-concat ls)
+    ∙ sym (map-append (λ s. flagOf (redb s)) (l .statuses) (flatten (statusLists ls)))
 
 module _ (n : ℕ) (qs : List (List ℕ)) (ss ms : List ℕ) (sound : T (soundb n qs ss)) (none : Unmarked ms) where
   ls : List Level
@@ -102,13 +109,15 @@ module _ (n : ℕ) (qs : List (List ℕ)) (ss ms : List ℕ) (sound : T (soundb 
   few : length cs ≤ 4096
   unfolding soundb ls cs
   few =
-      leb→le (length cs) 4096 (and-right (leb (length ls) 11) (leb (length cs) 4096) (and-right (eqb (length ss) (length cs)) (leb (length ls) 11 && leb (length cs) 4096)
+      leb→le (length cs) 4096 (and-right (leb (length ls) 11) (leb (length cs) 4096)
+      (and-right (eqb (length ss) (length cs)) (leb (length ls) 11 && leb (length cs) 4096)
       (and-left (eqb (length ss) (length cs) && (leb (length ls) 11 && leb (length cs) 4096)) (allb closedb ls && apartb cs ss) sound)))
 
   apart : T (apartb cs ss)
   unfolding soundb ls cs
   apart =
-      and-right (allb closedb ls) (apartb cs ss) (and-right (eqb (length ss) (length cs) && (leb (length ls) 11 && leb (length cs) 4096)) (allb closedb ls && apartb cs ss) sound)
+      and-right (allb closedb ls) (apartb cs ss) (and-right (eqb (length ss) (length cs) && (leb (length ls) 11 && leb (length cs) 4096))
+      (allb closedb ls && apartb cs ss) sound)
 
   closed : T (allb closedb ls)
   unfolding ls
@@ -132,7 +141,8 @@ module _ (n : ℕ) (qs : List (List ℕ)) (ss ms : List ℕ) (sound : T (soundb 
   unmarked-by =
       let small : length ss ≤ 65535 = omega (arith, counted, few) in
       let m : length qs + sizes [] ≡ 0 + length (coarseCells n qs) = omega (arith, length-coarse n qs) in
-      rw (flags-are, start-own n qs) (ap flatten (grow-own (length qs) ss small 12 0 [] ss (coarseCells n qs) refl refl m closed) ∙ table-is)
+      rw (flags-are, start-own n qs) (ap flatten (grow-own (length qs) ss small 12 0 [] ss (coarseCells n qs) refl refl m closed)
+      ∙ table-is)
 
   -- Rule 7.10: without marks the table stays
   pub unmarked : flatten (stepTable n qs ss ms) ≡ ss

@@ -38,7 +38,8 @@ module _ (bs table counts : List ℕ) where
 
   -- a refusal changes nothing
   pub refused-so : (k : ℕ) → answer ≡ Refused k
-      → (replayed.Refused k ≡ replayedOf answer (replaySize j)) × ((table ≡ heldAfter answer (jobTable j) table) × (counts ≡ heldAfter answer (jobCounts j) counts))
+      → (replayed.Refused k ≡ replayedOf answer (replaySize j))
+      × ((table ≡ heldAfter answer (jobTable j) table) × (counts ≡ heldAfter answer (jobCounts j) counts))
   unfolding replayedOf heldAfter
   refused-so k e = (rw e, (rw e, rw e))
 
@@ -49,7 +50,8 @@ module _ (bs table counts : List ℕ) where
 
     module _ (new : List ℕ) (k coarse cells levels : ℕ) (r : Reopened bs new k coarse cells levels) where
       pub replay-refused : (k ≡ 0 → ⊥)
-          → (replayed.Refused k ≡ replayedOf answer (replaySize j)) × ((table ≡ heldAfter answer (jobTable j) table) × (counts ≡ heldAfter answer (jobCounts j) counts))
+          → (replayed.Refused k ≡ replayedOf answer (replaySize j))
+          × ((table ≡ heldAfter answer (jobTable j) table) × (counts ≡ heldAfter answer (jobCounts j) counts))
       replay-refused z = refused-so k (long ∙ r .answer ∙ answer-refused k z)
 
       module _ (z : k ≡ 0) where
@@ -59,7 +61,8 @@ module _ (bs table counts : List ℕ) where
             (sound-counted (cornerCount (j .positions)) (fours (j .cells)) (jobTable j)
             (is-true (soundb (cornerCount (j .positions)) (fours (j .cells)) (jobTable j)) (r .sound z)))
 
-        pub replay-done : (table′ counts′ : List ℕ) (n : ℕ) → table′ ≡ take cells new ++ drop cells table → n ≡ levelNumber 12 0 coarse (take cells new)
+        pub replay-done : (table′ counts′ : List ℕ) (n : ℕ) → table′ ≡ take cells new ++ drop cells table
+            → n ≡ levelNumber 12 0 coarse (take cells new)
             → counts′ ≡ levelCounts 12 0 coarse (take cells new) ++ drop (4 * n) counts
             → (replayed.Done (record { cells = cells; levels = levels }) ≡ replayedOf answer (replaySize j))
             × ((table′ ≡ heldAfter answer (jobTable j) table) × (counts′ ≡ heldAfter answer (jobCounts j) counts))

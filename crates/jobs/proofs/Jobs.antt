@@ -59,21 +59,33 @@ module _ (bs : List ℕ) where
     reopened-corners h =
         let p = j .positions in
         let q = j .cells in
-        uncounted (rw (lt-leb (length p / 3) 512 (omega (arith, counts .corners-are)), and-false (leb 4 (length p / 3)), and-false (eqb (length p % 3) 0 && eqb (length q % 4) 0)))
+        uncounted (rw (
+          lt-leb (length p / 3) 512 (omega (arith, counts .corners-are)),
+          and-false (leb 4 (length p / 3)),
+          and-false
+              (eqb (length p % 3) 0 && eqb (length q % 4) 0),
+        ))
 
     pub reopened-cells : 256 < t → (table : List ℕ) (k a b c : ℕ) → k ≡ 1 → Reopened bs table k a b c
     unfolding countsb
     reopened-cells h =
         let p = j .positions in
         let q = j .cells in
-        uncounted (rw (lt-leb (length q / 4) 256 (omega (arith, counts .cells-are)), and-false (leb 1 (length q / 4)), and-false (leb 4 (length p / 3) && leb (length p / 3) 512), and-false (eqb (length p % 3) 0 && eqb (length q % 4) 0)))
+        uncounted (rw (
+          lt-leb (length q / 4) 256 (omega (arith, counts .cells-are)),
+          and-false (leb 1 (length q / 4)),
+          and-false
+              (leb 4 (length p / 3) && leb (length p / 3) 512),
+          and-false (eqb (length p % 3) 0 && eqb (length q % 4) 0),
+        ))
 
     -- the tables are long enough
     module _ (o : Octets bs) where
       few-bytes : 13 * v + 9 * t + 4 * m + g + 1 ≤ 65536
       few-bytes = omega (arith, measure counts, written-read bs o (rw f tt) .1 .few)
 
-      pub job-room : v ≤ 512 → t ≤ 256 → (ps : List ℤ) (ts cs ms es : List ℕ) → 1536 ≤ length ps → 1024 ≤ length ts → 16384 ≤ length cs → 16384 ≤ length ms
+      pub job-room : v ≤ 512 → t ≤ 256 → (ps : List ℤ) (ts cs ms es : List ℕ) → 1536 ≤ length ps → 1024 ≤ length ts → 16384 ≤ length cs
+          → 16384 ≤ length ms
           → 65536 ≤ length es → LoadRoom j ps ts cs ms es
       job-room hv ht ps ts cs ms es lp lt lc lm le =
           record {
@@ -99,7 +111,8 @@ module _ (bs : List ℕ) where
     length-ends p [] = refl
     length-ends p (x ∷ s) = ap suc (length-ends (p + length x) s)
 
-    module _ (ps₀ : List ℤ) (ts₀ cs₀ ks₀ es₀ : List ℕ) (ps : List ℤ) (ts cs ks es : List ℕ) (l : Loaded j ps₀ ts₀ cs₀ ks₀ es₀ ps ts cs ks es) where
+    module _ (ps₀ : List ℤ) (ts₀ cs₀ ks₀ es₀ : List ℕ) (ps : List ℤ) (ts cs ks es : List ℕ)
+        (l : Loaded j ps₀ ts₀ cs₀ ks₀ es₀ ps ts cs ks es) where
       loaded-positions : (k : ℕ) → 3 * v ≡ k → take k ps ≡ j .positions
       loaded-positions k e = front (j .positions) ps ps₀ k (l .positions) (counts .corners-are ∙ e)
 
@@ -118,7 +131,8 @@ module _ (bs : List ℕ) where
       unfolding endsOf
       loaded-ends = front (endsOf (j .steps)) es es₀ g (l .ends) (length-ends 0 (j .steps) ∙ counts .steps-are)
 
-      pub reopened : (table : List ℕ) (v′ t′ k c h : ℕ) → 3 * v ≡ v′ → 4 * t ≡ t′ → going.Replayed (take v′ ps) (take t′ ts) (take m cs) (take m ks) (take g es) table k c h
+      pub reopened : (table : List ℕ) (v′ t′ k c h : ℕ) → 3 * v ≡ v′ → 4 * t ≡ t′ → going.Replayed (take v′ ps) (take t′ ts) (take m cs)
+          (take m ks) (take g es) table k c h
           → Reopened bs table k t c h
       reopened table v′ t′ k c h ev et r =
           let w : going.Replayed (j .positions) (j .cells) (markedOf (j .steps)) (marksOf (j .steps)) (endsOf (j .steps)) table k c h =

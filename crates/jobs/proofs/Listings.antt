@@ -54,7 +54,8 @@ module _ (bs table counts : List ℕ) (g : 4096 ≤ length table) (h : 44 ≤ le
     pub done-few : s .levels ≤ 11
     done-few = omega (arith, levels, job-high j (archive-job bs archive))
 
-    pub done-listing : (counts′ : List ℕ) → counts′ ≡ heldAfter answer (jobCounts j) counts → listing (take (4 * s .levels) counts′) ≡ listingOf bs
+    pub done-listing : (counts′ : List ℕ) → counts′ ≡ heldAfter answer (jobCounts j) counts
+        → listing (take (4 * s .levels) counts′) ≡ listingOf bs
     unfolding listingOf listedBytes heldAfter
     done-listing counts′ f =
         let l : length (jobCounts j) ≡ 4 * s .levels = omega (arith, levels, job-counts j) in

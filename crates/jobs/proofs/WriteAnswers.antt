@@ -78,6 +78,7 @@ module _ (ps : List ℤ) (ts cs ms es out : List ℕ) where
       pub write-few : leb size 65536 ≡ true → length archive ≤ length out
       write-few e = omega (arith, measured, leb-true size 65536 e)
 
-      pub write-done : leb size 65536 ≡ true → (n : ℕ) (out′ : List ℕ) → out′ ≡ inFront archive out → n ≡ length archive → Answers (writing.Bytes n) out′
+      pub write-done : leb size 65536 ≡ true → (n : ℕ) (out′ : List ℕ) → out′ ≡ inFront archive out → n ≡ length archive
+          → Answers (writing.Bytes n) out′
       unfolding writingOf heldAfter refuse
       write-done e n out′ o m = let a : answer ≡ Accepted = last ∙ rw e in (rw (a, m), o ∙ rw a)

@@ -73,7 +73,13 @@ readAnswer bs ps ts cs ms es = refuse 15 (roomb ps ts cs ms es) (archiveAnswer b
 -- Rule 12.13: how many corners, cells, marks and steps.
 abbrev pub lengthsOf : Job → Lengths
 lengthsOf j =
-    record { corners = length (j .positions) / 3; cells = length (j .cells) / 4; marks = length (flatten (j .steps)); steps = length (j .steps) }
+    record {
+      corners = length (j .positions) / 3;
+      cells = length (j .cells) / 4;
+      marks = length (flatten (j .steps));
+      steps = length
+          (j .steps);
+    }
 
 -- Rule 12.1: lengths, or a number alone.
 unfoldable pub readingOf : Answer → Lengths → Reading

@@ -34,5 +34,6 @@ archive-fits bs = go (archiveAnswer bs) refl
     go Accepted e = listing-fits (jobCounts (jobOf bs)) (counts-few (jobOf bs) (archive-job bs e))
     go (Refused k) e = omega (arith, refusal-fits k)
 
-pub listing-inside : (bs old new : List ℕ) (m : ℕ) → new ≡ listingOf bs ++ drop (length (listingOf bs)) old → m ≡ length (listingOf bs) → m ≤ length new
+pub listing-inside : (bs old new : List ℕ) (m : ℕ) → new ≡ listingOf bs ++ drop (length (listingOf bs)) old → m ≡ length (listingOf bs)
+    → m ≤ length new
 listing-inside bs old new m e f = rw (e, length-append (listingOf bs) (drop (length (listingOf bs)) old)) (omega (arith, f))

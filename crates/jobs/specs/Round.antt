@@ -89,8 +89,10 @@ module _ (ps : List ℤ) (ts cs ms es out : List ℕ) (e : writeAnswer ps ts cs 
 
 -- Rule 10.7: what is read is written again.
 pub record WrittenAgain (bs out : List ℕ) : Type 0 where
-  pub accepted : writeAnswer (jobOf bs .positions) (jobOf bs .cells) (markedOf (jobOf bs .steps)) (marksOf (jobOf bs .steps)) (endsOf (jobOf bs .steps)) out ≡ Accepted
-  pub bytes : jobBytes (jobFrom (jobOf bs .positions) (jobOf bs .cells) (markedOf (jobOf bs .steps)) (marksOf (jobOf bs .steps)) (endsOf (jobOf bs .steps))) ≡ bs
+  pub accepted : writeAnswer (jobOf bs .positions) (jobOf bs .cells) (markedOf (jobOf bs .steps)) (marksOf (jobOf bs .steps))
+      (endsOf (jobOf bs .steps)) out ≡ Accepted
+  pub bytes : jobBytes (jobFrom (jobOf bs .positions) (jobOf bs .cells) (markedOf (jobOf bs .steps)) (marksOf (jobOf bs .steps))
+      (endsOf (jobOf bs .steps))) ≡ bs
 
 module _ (bs : List ℕ) (o : Octets bs) (e : archiveAnswer bs ≡ Accepted) where
   form : T (formb bs) × (jobAnswer (jobOf bs) ≡ Accepted)
@@ -99,7 +101,8 @@ module _ (bs : List ℕ) (o : Octets bs) (e : archiveAnswer bs ≡ Accepted) whe
   few : length bs ≤ 65536
   few = let (b, w) = written-read bs o (form .0) in rw b at (w .few)
 
-  bytes : jobBytes (jobFrom (jobOf bs .positions) (jobOf bs .cells) (markedOf (jobOf bs .steps)) (marksOf (jobOf bs .steps)) (endsOf (jobOf bs .steps))) ≡ bs
+  bytes : jobBytes (jobFrom (jobOf bs .positions) (jobOf bs .cells) (markedOf (jobOf bs .steps)) (marksOf (jobOf bs .steps))
+      (endsOf (jobOf bs .steps))) ≡ bs
   bytes = ap jobBytes (job-back (jobOf bs)) ∙ written-read bs o (form .0) .0
 
   pub read-write : (out : List ℕ) → 65536 ≤ length out → WrittenAgain bs out

@@ -1,6 +1,8 @@
 -- The table of an accepted job.
--- Laws: job-parts (its mesh and its steps are accepted), job-mesh (what that says of its mesh), job-sound (its table is sound), job-high (at
--- most 11 levels), job-counts (four numbers a level), counts-few (at most 44); archive-parts, archive-job (an accepted archive is in the form and holds
+-- Laws: job-parts (its mesh and its steps are accepted), job-mesh (what that says of its mesh), job-sound (its table is sound), job-high
+-- (at
+-- most 11 levels), job-counts (four numbers a level), counts-few (at most 44); archive-parts, archive-job (an accepted archive is in the
+-- form and holds
 -- an accepted job).
 use mathlib.Core.Path.{_≡_, refl, _∙_}
 use mathlib.Core.Bool.{true, _&&_}
@@ -67,7 +69,8 @@ module _ (j : Job) where
     unfolding jobTable
     job-sound =
         let l = length-fours (j .cells) in
-        let r : soundb n qs (restTable qs) ≡ true = rest-sound n qs (omega (arith, l, job-mesh .some, job-mesh .whole)) (omega (arith, l, job-mesh .few)) in
+        let r : soundb n qs (restTable qs) ≡ true = rest-sound n qs (omega (arith, l, job-mesh .some, job-mesh .whole))
+        (omega (arith, l, job-mesh .few)) in
         run-sound n qs (fours-four (j .cells)) (job-mesh .cells) (restTable qs) (j .steps) (rw r tt) (job-parts .1)
 
     pub job-high : length (jobLevels j) ≤ 11

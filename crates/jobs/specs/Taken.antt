@@ -97,7 +97,8 @@ module _ (n : ℕ) (qs : List (List ℕ)) where
       let (_, a) = passed 7 (markingb (length t) m && marksb t ms) (limitsAnswer n qs t ms) e in
       limits-within n qs t ms a .1
 
-  flat-written : (t : List ℕ) (p : ℕ) (ms : List Mark) (es : List ℕ) → length t ≤ 4096 → flatAnswer n qs t p ms es ≡ Accepted → Written p ms es
+  flat-written : (t : List ℕ) (p : ℕ) (ms : List Mark) (es : List ℕ) → length t ≤ 4096 → flatAnswer n qs t p ms es ≡ Accepted
+      → Written p ms es
   unfolding flatAnswer Climbs lastFrom stepsFrom Each
   flat-written t p ms [] h a = record { climbs = tt; last = eqb→eq p (length ms) (passed 7 (eqb p (length ms)) Accepted a .0); rising = tt }
   flat-written t p ms (e ∷ es) h a =
@@ -107,7 +108,11 @@ module _ (n : ℕ) (qs : List (List ℕ)) where
       let (d, f) = both (oneAnswer n qs t m) rest c in
       let i : Written e ms es = flat-written (oneTable n qs t m) e ms es (one-few t m d) f in
       record {
-        climbs = (leb→le p e (and-left (leb p e) (leb e (length ms)) b), leb→le e (length ms) (and-right (leb p e) (leb e (length ms)) b), i .climbs);
+        climbs = (
+          leb→le p e (and-left (leb p e) (leb e (length ms)) b),
+          leb→le e (length ms) (and-right (leb p e) (leb e (length ms)) b),
+          i .climbs,
+        );
         last = i .last;
         rising = (one-rises t m h d, i .rising);
       }

@@ -13,7 +13,8 @@ ghost use Rattle.archive.specs.Form.{jobOf};
 ghost use Rattle.archive.specs.Tables.{markedOf, marksOf, endsOf};
 ghost use Rattle.archive.specs.Stored.{jobFrom};
 ghost use Rattle.replay.specs.Run.{jobTable};
-ghost use Rattle.jobs.specs.Calls.{Reopened, replayAnswer, replayedOf, replaySize, jobCounts, roomb, readAnswer, readingOf, lengthsOf, writeAnswer, writingOf};
+ghost use Rattle.jobs.specs.Calls.{Reopened, replayAnswer, replayedOf, replaySize, jobCounts, roomb, readAnswer, readingOf};
+ghost use Rattle.jobs.specs.Calls.{lengthsOf, writeAnswer, writingOf};
 ghost use Rattle.jobs.specs.Listing.{listingOf};
 
 // How many cells and levels a table has.

@@ -52,7 +52,8 @@ module _ (n k l : ℕ) (c d : Cell Point) (r : Regular n k c) (s : Regular n l d
       (λ h. mid-off n k (suc l) c (point d g) hk r h (point-on n l d hl s g hg) f hf zf e)
 
   -- An edge belongs to one level: where its ends differ they differ by the unit. Its lower end is told by the coordinates.
-  ends-level : k ≤ 10 → l ≤ 10 → (a b i j : ℕ) → a < b → b < 4 → i < j → j < 4 → corner [] c a ≡ corner [] d i → corner [] c b ≡ corner [] d j → k ≡ l
+  ends-level : k ≤ 10 → l ≤ 10 → (a b i j : ℕ) → a < b → b < 4 → i < j → j < 4 → corner [] c a ≡ corner [] d i
+      → corner [] c b ≡ corner [] d j → k ≡ l
   ends-level hk hl a b i j ha hb hi hj e f =
       let x = r .coordinates in
       let y = s .coordinates in
@@ -103,11 +104,14 @@ joins p q p' q' t =
 
 -- Two pairs of corners in order with the same two points have them in the same order.
 module _ (n k l : ℕ) (c d : Cell Point) (hk : k ≤ 10) (hl : l ≤ 10) (r : Regular n k c) (s : Regular n l d) where
-  pub ends-same : (a b i j : ℕ) → a < b → b < 4 → i < j → j < 4 → T (joinsb sameb (corner [] c a, corner [] c b) (corner [] d i, corner [] d j))
+  pub ends-same : (a b i j : ℕ) → a < b → b < 4 → i < j → j < 4
+      → T (joinsb sameb (corner [] c a, corner [] c b) (corner [] d i, corner [] d j))
       → (corner [] c a ≡ corner [] d i) × (corner [] c b ≡ corner [] d j) × (k ≡ l)
   ends-same a b i j ha hb hi hj t =
-      ⊎-elim (λ (m : (corner [] c a ≡ corner [] d i) × (corner [] c b ≡ corner [] d j)). (m .0, m .1, ends-level n k l c d r s hk hl a b i j ha hb hi hj (m .0) (m .1)))
-      (λ (m : (corner [] c a ≡ corner [] d j) × (corner [] c b ≡ corner [] d i)). absurd (ends-turned n k l c d r s a b i j ha hb hi hj (m .0) (m .1)))
+      ⊎-elim (λ (m : (corner [] c a ≡ corner [] d i) × (corner [] c b ≡ corner [] d j)).
+      (m .0, m .1, ends-level n k l c d r s hk hl a b i j ha hb hi hj (m .0) (m .1)))
+      (λ (m : (corner [] c a ≡ corner [] d j) × (corner [] c b ≡ corner [] d i)). absurd
+      (ends-turned n k l c d r s a b i j ha hb hi hj (m .0) (m .1)))
       (joins (corner [] c a) (corner [] c b) (corner [] d i) (corner [] d j) t)
 
   pub edges-same : (e f : ℕ) → e < 6 → f < 6 → T (joinsb sameb (edge [] c e) (edge [] d f)) → (edge [] c e ≡ edge [] d f) × (k ≡ l)

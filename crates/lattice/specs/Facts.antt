@@ -19,7 +19,8 @@ use Rattle.base.specs.Every.{All, all-of, all-more}
 use Rattle.families.specs.Kuhn.{ends-digit}
 use Rattle.lattice.specs.Tails as Tails
 use Rattle.lattice.specs.Regular.{Regular, children-regular, same-ends, corner-on, mid-off}
-use Rattle.lattice.specs.Levels.{IfRegular, RedRegular, levelCells, coarse-cells-regular, closed-red-regular, levels-regular, sound-levels, above-none}
+use Rattle.lattice.specs.Levels.{IfRegular, RedRegular, levelCells, coarse-cells-regular, closed-red-regular, levels-regular}
+use Rattle.lattice.specs.Levels.{sound-levels, above-none}
 use Rattle.families.specs.Children.{middle, middle-ends}
 use Rattle.lattice.specs.Edges.{corner-apart, point-injective, mid-level, edges-same}
 use Rattle.mesh.specs.Laws.{mid-self}
@@ -30,13 +31,15 @@ child-regular n k j c h r = children-regular n k c h r j
 
 -- In a table whose levels are closed the cells that are called regular are so, each of its own level. (`levels-regular` of
 -- Levels: the same from any level on, where only regular cells are red.)
-pub level-regular : (n : ℕ) (qs : List (List ℕ)) (ss : List ℕ) → All (λ q. length q ≡ 4) qs → T (cellsb n qs) → T (allb closedb (levelsOf n qs ss))
+pub level-regular : (n : ℕ) (qs : List (List ℕ)) (ss : List ℕ) → All (λ q. length q ≡ 4) qs → T (cellsb n qs)
+    → T (allb closedb (levelsOf n qs ss))
     → (i : ℕ) → i ≤ 10 → All (IfRegular n i) (levelCells (levelsOf n qs ss) i)
 unfolding levelsOf
 level-regular n qs ss e t u i h =
     rw (zero-add i) at (levels-regular n 0 12 0 (coarseCells n qs) ss
     (all-more (Regular n 0) (IfRegular n 0) (λ c r t. r) (coarseCells n qs) (coarse-cells-regular n qs e t))
-    (all-of (λ (l : Level). RedRegular (l .cells) (l .statuses)) closedb closed-red-regular (levels 12 0 (coarseCells n qs) ss) u) i (omega arith))
+    (all-of (λ (l : Level). RedRegular (l .cells) (l .statuses)) closedb closed-red-regular (levels 12 0 (coarseCells n qs) ss) u) i
+    (omega arith))
 
 -- So in a sound table, on every level.
 pub sound-regular : (n : ℕ) (qs : List (List ℕ)) (ss : List ℕ) → All (λ q. length q ≡ 4) qs → T (cellsb n qs) → T (soundb n qs ss)
@@ -50,7 +53,8 @@ sound-regular n qs ss e t u i =
 
 pub point-corner : (c : Cell Point) (i : ℕ) → i < 4 → point c (digit i i) ≡ corner [] c i
 unfolding point
-point-corner c i h = ap₂ (λ (a b : ℕ). mid (corner [] c a) (corner [] c b)) (ends-digit i h .0) (ends-digit i h .1) ∙ mid-self (corner [] c i)
+point-corner c i h = ap₂ (λ (a b : ℕ). mid (corner [] c a) (corner [] c b)) (ends-digit i h .0) (ends-digit i h .1)
+    ∙ mid-self (corner [] c i)
 
 -- The corners of a cell differ, and so do its ten points.
 pub corners-differ : (n k : ℕ) (c : Cell Point) → Regular n k c → (i j : ℕ) → i < j → j < 4 → corner [] c i ≢ corner [] c j
@@ -70,7 +74,8 @@ same-mid n k l c d hk hl r s f g hf hg zf zg e =
     (a, b, q)
 
 pub same-mid-edge : (n k l : ℕ) (c d : Cell Point) → k < 10 → l < 10 → Regular n k c → Regular n l d
-    → (e f : ℕ) → e < 6 → f < 6 → mid (edge [] c e .0) (edge [] c e .1) ≡ mid (edge [] d f .0) (edge [] d f .1) → (edge [] c e ≡ edge [] d f) × (k ≡ l)
+    → (e f : ℕ) → e < 6 → f < 6 → mid (edge [] c e .0) (edge [] c e .1) ≡ mid (edge [] d f .0) (edge [] d f .1)
+    → (edge [] c e ≡ edge [] d f) × (k ≡ l)
 unfolding edge point
 same-mid-edge n k l c d hk hl r s e f he hf m =
     let (a, _, b) = middle-ends e he in
@@ -83,7 +88,8 @@ pub mid-not-corner : (n k l : ℕ) (c d : Cell Point) → k < 10 → l ≤ k →
     → (f i : ℕ) → f < 10 → low f < high f → i < 4 → point c f ≢ corner [] d i
 mid-not-corner n k l c d h g r s f i hf z hi = mid-off n k l c (corner [] d i) h r g (corner-on n l d s i hi) f hf z
 
-pub mid-not-coarse : (n k : ℕ) (c : Cell Point) → k < 10 → Regular n k c → (f i : ℕ) → f < 10 → low f < high f → i < n → point c f ≢ coarse n i
+pub mid-not-coarse : (n k : ℕ) (c : Cell Point) → k < 10 → Regular n k c → (f i : ℕ) → f < 10 → low f < high f → i < n
+    → point c f ≢ coarse n i
 mid-not-coarse n k c h r f i hf z hi =
     mid-off n k 0 c (coarse n i) h r (omega arith) ((λ j. min 1 (suc i - j)), (λ j. Tails.tail-sum-coarse n i j hi)) f hf z
 

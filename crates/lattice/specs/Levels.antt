@@ -65,7 +65,8 @@ coarse-from n i (q ∷ qs) e t = (
   coarse-from n (suc i) qs (e .1) (and-right (cellb n q) (allb (cellb n) qs) t),
 )
 
-pub coarse-cells-regular : (n : ℕ) (qs : List (List ℕ)) → All (λ q. length q ≡ 4) qs → T (cellsb n qs) → All (Regular n 0) (coarseCells n qs)
+pub coarse-cells-regular : (n : ℕ) (qs : List (List ℕ)) → All (λ q. length q ≡ 4) qs → T (cellsb n qs)
+    → All (Regular n 0) (coarseCells n qs)
 unfolding coarseCells
 coarse-cells-regular n qs = coarse-from n 0 qs
 
@@ -99,7 +100,8 @@ family-regular n k j c h g s e = go (redb s) refl (eqb s 0) refl
     go : (r : Bool) → redb s ≡ r → (z : Bool) → eqb s 0 ≡ z → All (IfRegular n (suc k)) (children j c s (point c))
     go true p z q =
         let w : s ≡ 64 = eqb-true s 64 p in
-        rw w (all-more (Regular n (suc k)) (IfRegular n (suc k)) (λ c r t. r) (children j c 64 (point c)) (children-regular n k c h (g (e w)) j))
+        rw w (all-more (Regular n (suc k)) (IfRegular n (suc k)) (λ c r t. r) (children j c 64 (point c))
+        (children-regular n k c h (g (e w)) j))
     go false p true q = rw (q, children) tt
     go false p false q = rw (q, p, children) (green-children n (suc k) j 0 c (point c) (family (patternOf s)))
 
@@ -113,7 +115,8 @@ next-regular n k j (c ∷ cs) (s ∷ ss) h g e =
     (next-regular n k (suc j) cs ss h (g .1) (e .1))
 
 -- Only regular cells are red where statuses follow the rule, in a closed level and in the level that a step makes.
-pub status-red : {A : Type 0} (o : A) (same : A → A → Bool) (es : List (A × A)) (r : Bool) (c : Cell A) → statusOf o same es r c ≡ 64 → T (c .regular)
+pub status-red : {A : Type 0} (o : A) (same : A → A → Bool) (es : List (A × A)) (r : Bool) (c : Cell A) → statusOf o same es r c ≡ 64
+    → T (c .regular)
 unfolding statusOf
 status-red o same es r c e = go (c .regular) refl
   where
@@ -121,7 +124,8 @@ status-red o same es r c e = go (c .regular) refl
     go true q = rw q tt
     go false q = let z : _≡_ {A = ℕ} 0 64 = rw (q, statusOf) at e in absurd (omega arith)
 
-pub map-red-regular : (f : Cell Point → ℕ) → ((c : Cell Point) → f c ≡ 64 → T (c .regular)) → (cs : List (Cell Point)) → RedRegular cs (map f cs)
+pub map-red-regular : (f : Cell Point → ℕ) → ((c : Cell Point) → f c ≡ 64 → T (c .regular)) → (cs : List (Cell Point))
+    → RedRegular cs (map f cs)
 map-red-regular f u [] = tt
 map-red-regular f u (c ∷ cs) = (u c, map-red-regular f u cs)
 
@@ -131,7 +135,8 @@ closed-from es [] ss t = tt
 closed-from es (c ∷ cs) [] t = tt
 closed-from es (c ∷ cs) (s ∷ ss) t = (
   λ e. status-red [] sameb es (redb s) c
-      (sym (eqb→eq s (statusOf [] sameb es (redb s) c) (and-left (eqb s (statusOf [] sameb es (redb s) c)) (closedFrom [] sameb es cs ss) t)) ∙ e),
+      (sym (eqb→eq s (statusOf [] sameb es (redb s) c) (and-left (eqb s (statusOf [] sameb es (redb s) c)) (closedFrom [] sameb es cs ss)
+      t)) ∙ e),
   closed-from es cs ss (and-right (eqb s (statusOf [] sameb es (redb s) c)) (closedFrom [] sameb es cs ss) t),
 )
 
@@ -154,14 +159,16 @@ levels-regular n k zero j cs ss g e i h = tt
 levels-regular n k (suc m) j [] ss g e i h = tt
 levels-regular n k (suc m) j (c ∷ cs) ss g e zero h = rw (add-zero k) g
 levels-regular n k (suc m) j (c ∷ cs) ss g e (suc i) h =
-    rw (add-suc k i, ← suc-add k i) (levels-regular n (suc k) m (j + length (c ∷ cs)) (next j (c ∷ cs) (take (length (c ∷ cs)) ss)) (drop (length (c ∷ cs)) ss)
+    rw (add-suc k i, ← suc-add k i) (levels-regular n (suc k) m (j + length (c ∷ cs)) (next j (c ∷ cs) (take (length (c ∷ cs)) ss))
+    (drop (length (c ∷ cs)) ss)
     (next-regular n k j (c ∷ cs) (take (length (c ∷ cs)) ss) (omega arith) g (e .0)) (e .1) i (omega arith))
 
 -- A sound table has closed levels, at most eleven.
 pub above-none : (n : ℕ) (ls : List Level) (i : ℕ) → length ls ≤ i → All (IfRegular n i) (levelCells ls i)
 above-none n ls i h = subst (λ (l : Level). All (IfRegular n i) (l .cells)) (sym (List·getD-eq-default ls noLevel h)) tt
 
-pub sound-levels : (n : ℕ) (qs : List (List ℕ)) (ss : List ℕ) → T (soundb n qs ss) → (length (levelsOf n qs ss) ≤ 11) × T (allb closedb (levelsOf n qs ss))
+pub sound-levels : (n : ℕ) (qs : List (List ℕ)) (ss : List ℕ) → T (soundb n qs ss)
+    → (length (levelsOf n qs ss) ≤ 11) × T (allb closedb (levelsOf n qs ss))
 unfolding soundb
 sound-levels n qs ss t =
     let ls = levelsOf n qs ss in

@@ -14,7 +14,8 @@ use Rattle.cutting.specs.Rule.{low, high}
 use Rattle.mesh.specs.Cells.{Cell, corner, children, childrenFrom, patternOf}
 use Rattle.mesh.specs.Weights.{Point, point}
 use Rattle.base.specs.Every.{All, getD-map}
-use Rattle.families.specs.Kuhn.{Coordinates, Kuhn, doubled, partOf, Digits, reds, digit-ends, family-red, red-digits, red-kuhn, steps-between, gap, sum-odd, doubled-ends}
+use Rattle.families.specs.Kuhn.{Coordinates, Kuhn, doubled, partOf, Digits, reds, digit-ends, family-red, red-digits, red-kuhn}
+use Rattle.families.specs.Kuhn.{steps-between, gap, sum-odd, doubled-ends}
 use Rattle.lattice.specs.Tails.{Sized, tailSum, tail-sums-equal, tail-sum-mid, sized-mid}
 
 abbrev pub unit : ℕ → ℕ
@@ -57,15 +58,18 @@ module _ (n k : ℕ) (c : Cell Point) (h : k < 10) (r : Regular n k c) where
   unfolding point
   point-sized d l =
       let (a, b) = digit-ends d l in
-      sized-mid n (corner [] c (low d)) (corner [] c (high d)) (halved (low d)) (halved (high d)) (r .sized (low d) (omega arith)) (r .sized (high d) b)
+      sized-mid n (corner [] c (low d)) (corner [] c (high d)) (halved (low d)) (halved (high d)) (r .sized (low d) (omega arith))
+      (r .sized (high d) b)
       (even (low d) (omega arith)) (even (high d) b)
 
   pub point-tails : (d : ℕ) → d < 10 → (j : ℕ) → tailSum (point c d) j ≡ doubled (r .coordinates) d j * unit (suc k)
   unfolding point halved
   point-tails d l j =
       let (a, b) = digit-ends d l in
-      let s : length (corner [] c (low d)) ≡ length (corner [] c (high d)) = r .sized (low d) (omega arith) .places ∙ sym (r .sized (high d) b .places) in
-      tail-sum-mid (corner [] c (low d)) (corner [] c (high d)) (halved (low d)) (halved (high d)) s (even (low d) (omega arith)) (even (high d) b) j
+      let s : length (corner [] c (low d)) ≡ length (corner [] c (high d)) = r .sized (low d) (omega arith) .places
+      ∙ sym (r .sized (high d) b .places) in
+      tail-sum-mid (corner [] c (low d)) (corner [] c (high d)) (halved (low d)) (halved (high d)) s (even (low d) (omega arith))
+      (even (high d) b) j
       ∙ sym (add-mul (r .coordinates (low d) j) (r .coordinates (high d) j) (unit (suc k)))
 
   -- The children of a red cell are regular of the next level.
@@ -107,7 +111,8 @@ module _ (n k : ℕ) (c d : Cell Point) (r : Regular n k c) (s : Regular n k d) 
       let (a', b') = digit-ends g hg in
       let x = r .coordinates in
       let y = s .coordinates in
-      let m : (j : ℕ) → doubled x f j ≡ doubled y g j = λ j. cancel (suc k) (doubled x f j) (doubled y g j) (tailSum (point c f) j) (tailSum (point d g) j)
+      let m : (j : ℕ) → doubled x f j ≡ doubled y g j = λ j. cancel (suc k) (doubled x f j) (doubled y g j) (tailSum (point c f) j)
+      (tailSum (point d g) j)
       (point-tails n k c h r f hf j) (point-tails n k d h s g hg j) (ap (λ (p : Point). tailSum p j) e) in
       let w = doubled-ends x y (r .kuhn) (s .kuhn) f g hf hg m in
       (corner-equal (low f) (low g) (omega arith) (omega arith) (λ j. w j .0), corner-equal (high f) (high g) b b' (λ j. w j .1))
@@ -122,13 +127,15 @@ corner-on n k c r i l = (r .coordinates i, r .tails i l)
 pub point-on : (n k : ℕ) (c : Cell Point) → k < 10 → Regular n k c → (d : ℕ) → d < 10 → On (suc k) (point c d)
 point-on n k c h r d l = (doubled (r .coordinates) d, point-tails n k c h r d l)
 
-pub mid-off : (n k l : ℕ) (c : Cell Point) (p : Point) → k < 10 → Regular n k c → l ≤ k → On l p → (f : ℕ) → f < 10 → low f < high f → point c f ≡ p → ⊥
+pub mid-off : (n k l : ℕ) (c : Cell Point) (p : Point) → k < 10 → Regular n k c → l ≤ k → On l p → (f : ℕ) → f < 10 → low f < high f
+    → point c f ≡ p → ⊥
 mid-off n k l c p h r g o f hf z e =
     let (a, b) = digit-ends f hf in
     let x = r .coordinates in
     let (j, w) = gap x (r .kuhn) (low f) (high f) z b in
     let (m, _, u) = unit-even l (suc k) (omega arith) (omega arith) in
     let y = o .0 j * m in
-    let q : doubled x f j ≡ y + y = cancel (suc k) (doubled x f j) (y + y) (tailSum (point c f) j) (tailSum p j) (point-tails n k c h r f hf j)
+    let q : doubled x f j ≡ y + y = cancel (suc k) (doubled x f j) (y + y) (tailSum (point c f) j) (tailSum p j)
+    (point-tails n k c h r f hf j)
     (o .1 j ∙ rw u (omega arith)) (ap (λ (p : Point). tailSum p j) e) in
     sum-odd (x (low f) j) (x (high f) j) (steps-between x (r .kuhn) (low f) (high f) a b j) w y q

@@ -51,7 +51,8 @@ tail-sum-mid (a ∷ p) (b ∷ q) x y e f g zero =
 tail-sum-mid (a ∷ p) (b ∷ q) x y e f g (suc j) =
     tail-sum-mid p q (λ j. x (suc j)) (λ j. y (suc j)) (suc-inj e) (λ j. f (suc j)) (λ j. g (suc j)) j
 
-pub sized-mid : (n : ℕ) (p q : Point) (x y : ℕ → ℕ) → Sized n p → Sized n q → ((j : ℕ) → tailSum p j ≡ 2 * x j) → ((j : ℕ) → tailSum q j ≡ 2 * y j)
+pub sized-mid : (n : ℕ) (p q : Point) (x y : ℕ → ℕ) → Sized n p → Sized n q → ((j : ℕ) → tailSum p j ≡ 2 * x j)
+    → ((j : ℕ) → tailSum q j ≡ 2 * y j)
     → Sized n (mid p q)
 sized-mid n p q x y s t f g =
     record {

@@ -36,7 +36,8 @@ module _ (ps : List ℤ) (ts ss : List ℕ) where
   table-sound e f = rw (mesh-passed ps ts e .accepted, f)
 
   -- a table that was examined
-  pub table-examined : (k : ℕ) → codeOf (meshAnswer ps ts) ≡ 0 → k ≡ unlessSound (soundb (cornerCount ps) (fours ts) ss) → tableAnswer ps ts ss ≡ answerOf k
+  pub table-examined : (k : ℕ) → codeOf (meshAnswer ps ts) ≡ 0 → k ≡ unlessSound (soundb (cornerCount ps) (fours ts) ss)
+      → tableAnswer ps ts ss ≡ answerOf k
   unfolding unlessSound
   table-examined k e = go (soundb (cornerCount ps) (fours ts) ss) refl
     where

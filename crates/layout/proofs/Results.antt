@@ -98,14 +98,17 @@ module _ (ps : List ℤ) (ts ss rows xs ys : List ℕ) (cells levels m : ℕ) (f
 
   -- counts
   pub fits-levels : Levels ss (length ts / 4)
-  fits-levels = rw (length-fours ts) at (sound-counted (cornerCount ps) (fours ts) ss (is-true (soundb (cornerCount ps) (fours ts) ss) (f .table)))
+  fits-levels = rw (length-fours ts) at
+      (sound-counted (cornerCount ps) (fours ts) ss (is-true (soundb (cornerCount ps) (fours ts) ss) (f .table)))
 
   pub number-after : (r : ℕ) → r ≡ levelNumber 12 0 (length ts / 4) ss → r ≡ length (levelsIn ps ts ss)
   number-after r e = e ∙ rw (← length-fours ts) (sym (number-right (cornerCount ps) (fours ts) ss))
 
-  pub counts-after : (old new : List ℕ) (r : ℕ) → r ≡ levelNumber 12 0 (length ts / 4) ss → new ≡ levelCounts 12 0 (length ts / 4) ss ++ drop (4 * r) old
+  pub counts-after : (old new : List ℕ) (r : ℕ) → r ≡ levelNumber 12 0 (length ts / 4) ss
+      → new ≡ levelCounts 12 0 (length ts / 4) ss ++ drop (4 * r) old
       → new ≡ countTable (levelsIn ps ts ss) ++ drop (length (countTable (levelsIn ps ts ss))) old
   counts-after old new r e g =
-      let c : levelCounts 12 0 (length ts / 4) ss ≡ countTable (levelsIn ps ts ss) = rw (← length-fours ts) (sym (counts-right (cornerCount ps) (fours ts) ss)) in
+      let c : levelCounts 12 0 (length ts / 4) ss ≡ countTable (levelsIn ps ts ss) = rw (← length-fours ts)
+      (sym (counts-right (cornerCount ps) (fours ts) ss)) in
       written old new _ _ (4 * r) g c
       (counts-length 12 0 (length ts / 4) ss ∙ ap (λ (k : ℕ). 4 * k) (sym e))

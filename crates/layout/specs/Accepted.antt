@@ -43,7 +43,8 @@ module _ (ps : List ℤ) (ts : List ℕ) where
   coded true false c d e f g h i j = record { tells = rw (f, g); passed = λ z. absurd (omega (arith, rw (f, g) at z)) }
   coded true true false d e f g h i j = record { tells = rw (f, g, h); passed = λ z. absurd (omega (arith, rw (f, g, h) at z)) }
   coded true true true false e f g h i j = record { tells = rw (f, g, h, i); passed = λ z. absurd (omega (arith, rw (f, g, h, i) at z)) }
-  coded true true true true false f g h i j = record { tells = rw (f, g, h, i, j); passed = λ z. absurd (omega (arith, rw (f, g, h, i, j) at z)) }
+  coded true true true true false f g h i j = record
+      { tells = rw (f, g, h, i, j); passed = λ z. absurd (omega (arith, rw (f, g, h, i, j) at z)) }
   coded true true true true true f g h i j =
       let k = counts ps ts (rw f tt) in
       record {
@@ -51,12 +52,19 @@ module _ (ps : List ℤ) (ts : List ℕ) where
         passed = λ z. record {
           accepted = rw (f, g, h, i, j);
           positions = rw g tt;
-          mesh = record { whole = k .whole; few = omega (arith, k .whole, k .few); some = omega (arith, k .some); corners = k .corners; cells = rw h tt };
+          mesh = record {
+            whole = k .whole;
+            few = omega (arith, k .whole, k .few);
+            some = omega (arith, k .some);
+            corners = k .corners;
+            cells = rw h tt;
+          };
         };
       }
 
   all : Coded
-  all = coded (countsb ps ts) (positionsb ps) (cellsb (cornerCount ps) (fours ts)) (solidb ps (fours ts)) (singleb (fours ts)) refl refl refl refl refl
+  all = coded (countsb ps ts) (positionsb ps) (cellsb (cornerCount ps) (fours ts)) (solidb ps (fours ts)) (singleb (fours ts)) refl refl
+      refl refl refl
 
   pub mesh-code : meshAnswer ps ts ≡ answerOf (codeOf (meshAnswer ps ts))
   mesh-code = all .tells

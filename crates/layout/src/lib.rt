@@ -17,7 +17,8 @@ ghost use Rattle.base.specs.Refuse.{heldAfter};
 ghost use Rattle.base.specs.Lent.{was, is};
 ghost use Rattle.layout.specs.Opened.{Opened};
 ghost use Rattle.mesh.specs.Answers.{tableAnswer};
-ghost use Rattle.layout.specs.Calls.{levelsIn, cellsIn, cornersIn, lentb, layoutAnswer, sizesOf, laidOf, ancestorAnswer, ancestryOf, countsAnswer, countedOf};
+ghost use Rattle.layout.specs.Calls.{levelsIn, cellsIn, cornersIn, lentb, layoutAnswer, sizesOf, laidOf, ancestorAnswer, ancestryOf};
+ghost use Rattle.layout.specs.Calls.{countsAnswer, countedOf};
 
 // How many cells, corners and levels a table has.
 pub struct Sizes {
@@ -50,7 +51,8 @@ pub fn open(
     xs: &mut [u32; 4096],
     ys: &mut [u32; 4096],
 ) -> Outcome
-    ensures { λ r. ⌜ Opened (was positions) (was cells) (was status) (is rows) (is xs) (is ys) (r .refusal) (r .cells) (r .levels) (r .mids) ⌝ }
+    ensures { λ r. ⌜ Opened (was positions) (was cells) (was status) (is rows) (is xs) (is ys) (r .refusal) (r .cells) (r .levels) (r .mids)
+        ⌝ }
 {
     let refusal = base::code(coarse::examine_mesh(positions, cells));
     if refusal != 0 {

@@ -49,21 +49,25 @@ from-owned k c r f i (d ∷ ds) (o ∷ os) h = (λ e. h e 0 (omega arith), from-
 
 module _ (m : ℕ) (ss : List ℕ) where
   -- the old numbers of a family that is not red
-  all-none : (t o : ℕ) → redb t ≡ false → (l : List ℕ) (j : ℕ) → getD (map (λ i. elim (redb t) [ true ↦ oldChild m ss o i | false ↦ none ]) l) j none ≡ none
+  all-none : (t o : ℕ) → redb t ≡ false → (l : List ℕ) (j : ℕ)
+      → getD (map (λ i. elim (redb t) [ true ↦ oldChild m ss o i | false ↦ none ]) l) j none ≡ none
   all-none t o e [] j = refl
   all-none t o e (x ∷ l) zero = rw e
   all-none t o e (x ∷ l) (suc j) = all-none t o e l j
 
-  family-owned : (k : ℕ) (c : Cell Point) (t o : ℕ) → Both (λ c o. c .regular ≡ false → o ≡ none) (children k c t (point c)) (oldsOf m ss t o)
+  family-owned : (k : ℕ) (c : Cell Point) (t o : ℕ) → Both (λ c o. c .regular ≡ false → o ≡ none) (children k c t (point c))
+      (oldsOf m ss t o)
   unfolding children oldsOf
   family-owned k c t o = go (eqb t 0) refl
     where
       go : (b : Bool) → eqb t 0 ≡ b → Both (λ c o. c .regular ≡ false → o ≡ none) (children k c t (point c)) (oldsOf m ss t o)
       go true e = rw (e, children) tt
       go false e =
-          rw (e, children) (from-owned k c (redb t) (point c) 0 (family (patternOf t)) (oldsOf m ss t o) (λ u j l. all-none t o u (upTo (sizeOf t)) j))
+          rw (e, children) (from-owned k c (redb t) (point c) 0 (family (patternOf t)) (oldsOf m ss t o)
+          (λ u j l. all-none t o u (upTo (sizeOf t)) j))
 
-  next-each : (k : ℕ) (cs : List (Cell Point)) (ts os : List ℕ) → Both (λ c o. c .regular ≡ false → o ≡ none) (next k cs ts) (oldsNext m ss ts os)
+  next-each : (k : ℕ) (cs : List (Cell Point)) (ts os : List ℕ) → Both (λ c o. c .regular ≡ false → o ≡ none) (next k cs ts)
+      (oldsNext m ss ts os)
   unfolding next oldsNext
   next-each k [] ts os = tt
   next-each k (c ∷ cs) [] os = tt
@@ -73,10 +77,12 @@ module _ (m : ℕ) (ss : List ℕ) where
       no-both [] = tt
       no-both (x ∷ l) = tt
   next-each k (c ∷ cs) (t ∷ ts) (o ∷ os) =
-      both-append (λ c o. c .regular ≡ false → o ≡ none) (children k c t (point c)) (next (suc k) cs ts) (oldsOf m ss t o) (oldsNext m ss ts os)
+      both-append (λ c o. c .regular ≡ false → o ≡ none) (children k c t (point c)) (next (suc k) cs ts) (oldsOf m ss t o)
+      (oldsNext m ss ts os)
       (length-olds-of m ss t o ∙ sym (length-children k c t (point c))) (family-owned k c t o) (next-each (suc k) cs ts os)
 
-  next-many : (k : ℕ) (cs : List (Cell Point)) (ts os : List ℕ) → length os ≡ length cs → length (oldsNext m ss ts os) ≡ length (next k cs ts)
+  next-many : (k : ℕ) (cs : List (Cell Point)) (ts os : List ℕ) → length os ≡ length cs
+      → length (oldsNext m ss ts os) ≡ length (next k cs ts)
   unfolding next oldsNext
   next-many k [] [] os e = refl
   next-many k [] (t ∷ ts) [] e = refl
@@ -95,7 +101,8 @@ module _ (m : ℕ) (ss : List ℕ) where
 abbrev Flagged : List (Cell Point) → List ℕ → Type 0
 Flagged cs rs = Both (λ c r. c .regular ≡ false → redb r ≡ false) cs rs
 
-red-status : (es : List (Point × Point)) (r : ℕ) (c : Cell Point) → (c .regular ≡ false → redb r ≡ false) → redb (statusOf [] sameb es (redb r) c) ≡ redb r
+red-status : (es : List (Point × Point)) (r : ℕ) (c : Cell Point) → (c .regular ≡ false → redb r ≡ false)
+    → redb (statusOf [] sameb es (redb r) c) ≡ redb r
 unfolding statusOf
 red-status es r c h = go (c .regular) refl (redb r) refl
   where
@@ -104,7 +111,8 @@ red-status es r c h = go (c .regular) refl (redb r) refl
     go true e false f = rw (e, f, statusOf) (ne-eqb (pattern [] sameb es c) 64 (λ x. omega (arith, pattern-in-six [] sameb es c)))
     go false e d f = rw (e, h e, statusOf)
 
-red-edges-one : (c : Cell Point) (cs : List (Cell Point)) (s t : ℕ) (ss ts : List ℕ) → redb s ≡ redb t → redEdges [] cs ss ≡ redEdges [] cs ts
+red-edges-one : (c : Cell Point) (cs : List (Cell Point)) (s t : ℕ) (ss ts : List ℕ) → redb s ≡ redb t
+    → redEdges [] cs ss ≡ redEdges [] cs ts
     → redEdges [] (c ∷ cs) (s ∷ ss) ≡ redEdges [] (c ∷ cs) (t ∷ ts)
 unfolding redEdges
 red-edges-one c cs s t ss ts e i = go (redb t) refl
@@ -113,14 +121,16 @@ red-edges-one c cs s t ss ts e i = go (redb t) refl
     go true f = rw (e ∙ f, f, redEdges) (ap (λ (l : List (Point × Point)). edges [] c ++ l) i)
     go false f = rw (e ∙ f, f, redEdges) i
 
-reds-closed : (es : List (Point × Point)) (cs : List (Cell Point)) (rs : List ℕ) → Flagged cs rs → redEdges [] cs (closedBy es cs rs) ≡ redEdges [] cs rs
+reds-closed : (es : List (Point × Point)) (cs : List (Cell Point)) (rs : List ℕ) → Flagged cs rs
+    → redEdges [] cs (closedBy es cs rs) ≡ redEdges [] cs rs
 unfolding closedBy redEdges
 reds-closed es [] rs h = refl
 reds-closed es (c ∷ cs) [] h = refl
 reds-closed es (c ∷ cs) (r ∷ rs) h =
     red-edges-one c cs (statusOf [] sameb es (redb r) c) r (closedBy es cs rs) rs (red-status es r c (h .0)) (reds-closed es cs rs (h .1))
 
-closed-from : (es : List (Point × Point)) (cs : List (Cell Point)) (rs : List ℕ) → length rs ≡ length cs → Flagged cs rs → closedFrom [] sameb es cs (closedBy es cs rs) ≡ true
+closed-from : (es : List (Point × Point)) (cs : List (Cell Point)) (rs : List ℕ) → length rs ≡ length cs → Flagged cs rs
+    → closedFrom [] sameb es cs (closedBy es cs rs) ≡ true
 unfolding closedBy closedFrom
 closed-from es [] rs e h = refl
 closed-from es (c ∷ cs) [] e h = absurd (omega arith)
@@ -142,4 +152,5 @@ module _ (fs : List ℕ) (small : length fs ≤ 65535) where
 
     pub closed-by : closedFrom [] sameb (redEdges [] cs (statusesBy fs cs os)) cs (statusesBy fs cs os) ≡ true
     unfolding statusesBy
-    closed-by = rw reds-same (closed-from (redEdges [] cs (redsBy fs os)) cs (redsBy fs os) (length-redsBy fs os ∙ w .many) (flagged cs os (w .each)))
+    closed-by = rw reds-same (closed-from (redEdges [] cs (redsBy fs os)) cs (redsBy fs os) (length-redsBy fs os ∙ w .many)
+        (flagged cs os (w .each)))

@@ -78,7 +78,8 @@ module _ (n : ℕ) (qs : List (List ℕ)) (ss ms : List ℕ) (s : T (soundb n qs
   flags-many : length here ≡ length (oldAt n qs ss j .cells)
   unfolding flagsOf
   flags-many =
-      ap length (flags-at (levelsOf n qs ss) ms j) ∙ length-map (rows (oldAt n qs ss j) ms) _ ∙ length-rows (oldAt n qs ss j) ms (flagged n qs ss ms s j .known)
+      ap length (flags-at (levelsOf n qs ss) ms j) ∙ length-map (rows (oldAt n qs ss j) ms) _
+      ∙ length-rows (oldAt n qs ss j) ms (flagged n qs ss ms s j .known)
 
   flags-red : (t : ℕ) → t < length (oldAt n qs ss j .cells) → redb (getD here t 0) ≡ newRedAt ms (oldAbove n qs ss j) (oldAt n qs ss j) t
   unfolding flagsOf
@@ -95,8 +96,10 @@ module _ (n : ℕ) (qs : List (List ℕ)) (ss ms : List ℕ) (s : T (soundb n qs
   dark : anyb redb here ≡ false → (c : Cell Point) (o : ℕ) → Old (oldAt n qs ss j) c o → Dark (flagTable n qs ss ms) c o
   dark e c o (inl (t, p, r, is)) =
       ap redb (ap (λ (x : ℕ). getD (flagTable n qs ss ms) x 0) p ∙ flagged n qs ss ms s j .flag t (is .below))
-      ∙ flag-red (newRedAt ms (oldAbove n qs ss j) (oldAt n qs ss j) t) ∙ sym (flags-red t (is .below)) ∙ none-at 0 redb here e t (rw flags-many (is .below))
-  dark e c o (inr (p, f)) = ap redb (ap (λ (x : ℕ). getD (flagTable n qs ss ms) x 0) p ∙ flag-none (flagTable n qs ss ms) (flagged n qs ss ms s j .small))
+      ∙ flag-red (newRedAt ms (oldAbove n qs ss j) (oldAt n qs ss j) t) ∙ sym (flags-red t (is .below))
+      ∙ none-at 0 redb here e t (rw flags-many (is .below))
+  dark e c o (inr (p, f)) = ap redb (ap (λ (x : ℕ). getD (flagTable n qs ss ms) x 0) p
+      ∙ flag-none (flagTable n qs ss ms) (flagged n qs ss ms s j .small))
 
   nothing-above : suc j < 12 → anyb redb here ≡ false → newAt n qs ss ms (suc j) .cells ≡ []
   nothing-above g e =
@@ -137,7 +140,8 @@ module _ (n : ℕ) (qs : List (List ℕ)) (ss ms : List ℕ) where
   step-length : length (stepBy n qs ss ms) ≡ length (newLevels n qs ss ms)
   unfolding stepBy
   step-length =
-      ap length (sym (grow-statuses (length qs) ss (flagTable n qs ss ms) 12 0 (coarseCells n qs) (upTo (length qs)))) ∙ length-map (newLevels n qs ss ms) (λ l. l .statuses)
+      ap length (sym (grow-statuses (length qs) ss (flagTable n qs ss ms) 12 0 (coarseCells n qs) (upTo (length qs))))
+      ∙ length-map (newLevels n qs ss ms) (λ l. l .statuses)
 
   module _ (s : T (soundb n qs ss)) where
     step-height : length (stepTable n qs ss ms) ≡ length (newLevels n qs ss ms)
@@ -161,7 +165,12 @@ module _ (n : ℕ) (qs : List (List ℕ)) (ss ms : List ℕ) where
             let none : newAt n qs ss ms 11 .cells ≡ [] = nothing-above n qs ss ms s 10 (omega arith) e in
             let low : length (newLevels n qs ss ms) ≤ 11 = elim (decLt 11 (length (newLevels n qs ss ms))) [
               | yes u ↦
-                  absurd (omega (arith, ap length none, grow-some (length qs) ss (flagTable n qs ss ms) 12 0 (coarseCells n qs) (upTo (length qs)) 11 u))
+                  absurd (omega (
+                    arith,
+                    ap length none,
+                    grow-some (length qs) ss (flagTable n qs ss ms) 12 0 (coarseCells n qs)
+                        (upTo (length qs)) 11 u,
+                  ))
               | no u ↦ omega arith
             ] in
             rw e (le-leb (length (stepTable n qs ss ms)) 11 (omega (arith, step-height)))

@@ -45,7 +45,12 @@ abbrev pub noRow : Row
 noRow = record { number = 0; cell = noCell; status = 0; mark = 0 }
 
 pub rows-from : (k : ℕ) (cs : List (Cell Point)) (ss ms : List ℕ) → length ss ≡ length cs → (t : ℕ) → t < length cs
-    → getD (rowsFrom k cs ss ms) t noRow ≡ record { number = k + t; cell = getD cs t noCell; status = getD ss t 0; mark = getD ms (k + t) 0 }
+    → getD (rowsFrom k cs ss ms) t noRow ≡ record {
+      number = k + t;
+      cell = getD cs t noCell;
+      status = getD ss t 0;
+      mark = getD ms (k + t) 0;
+    }
 unfolding rowsFrom
 rows-from k [] ss ms e t h = absurd (omega arith)
 rows-from k (c ∷ cs) [] ms e t h = absurd (omega arith)
@@ -93,7 +98,8 @@ module _ {A : Type 0} (d : A) (f g : A → Bool) where
       go false e c q i = rw (e, filterb) i
 
 -- a new red cell is regular
-pub new-red-regular : (up : List Row) (es : List (Point × Point)) (r : Row) → Follows (r .cell) (r .status) → newRedb up es r ≡ true → T (r .cell .regular)
+pub new-red-regular : (up : List Row) (es : List (Point × Point)) (r : Row) → Follows (r .cell) (r .status) → newRedb up es r ≡ true
+    → T (r .cell .regular)
 unfolding redAfterb
 new-red-regular up es r w n = go (redb (r .status)) refl (eqb (r .status) 0) refl
   where
@@ -129,7 +135,8 @@ module _ (fs ms : List ℕ) (ls : List Level) (l : Level) (w : FlaggedLevel fs m
       go : (newRedAt ms ls l t ≡ true) ⊎ (newRedAt ms ls l t ≡ false) → anyb g (redRows ms ls l) ≡ newRedAt ms ls l t
       go (inl e) =
           let x = rows-at l ms (w .known) t (is .below) in
-          any-chosen noRow f g (rows l ms) t (omega (arith, is .below, length-rows l ms (w .known))) (ap f x ∙ e) (ap g x ∙ rw (is .path) (sameb-self (c .path))) ∙ sym e
+          any-chosen noRow f g (rows l ms) t (omega (arith, is .below, length-rows l ms (w .known))) (ap f x ∙ e)
+          (ap g x ∙ rw (is .path) (sameb-self (c .path))) ∙ sym e
       go (inr e) =
           none-chosen noRow f g (rows l ms) (λ u h p q.
           let x = row u h in

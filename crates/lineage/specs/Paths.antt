@@ -47,21 +47,24 @@ paths-next k cs ss d t u ht hu e =
 
 -- coarse cells
 from-at : (n i : ℕ) (qs : List (List ℕ)) (t : ℕ) → t < length qs
-    → getD (coarseFrom n i qs) t noCell ≡ record { path = (i + t) ∷ []; parent = none; regular = true; points = map (coarse n) (getD qs t []) }
+    → getD (coarseFrom n i qs) t noCell ≡ record
+    { path = (i + t) ∷ []; parent = none; regular = true; points = map (coarse n) (getD qs t []) }
 unfolding coarseFrom
 from-at n i [] t h = absurd (omega arith)
 from-at n i (q ∷ qs) zero h =
     ap {A = ℕ} {B = Cell Point} (λ x. record { path = x ∷ []; parent = none; regular = true; points = map (coarse n) q }) (omega arith)
 from-at n i (q ∷ qs) (suc t) h =
     from-at n (suc i) qs t (omega arith)
-    ∙ ap {A = ℕ} {B = Cell Point} (λ x. record { path = x ∷ []; parent = none; regular = true; points = map (coarse n) (getD qs t []) }) (omega arith)
+    ∙ ap {A = ℕ} {B = Cell Point} (λ x. record { path = x ∷ []; parent = none; regular = true; points = map (coarse n) (getD qs t []) })
+    (omega arith)
 
 pub coarse-at : (n : ℕ) (qs : List (List ℕ)) (t : ℕ) → t < length qs
     → getD (coarseCells n qs) t noCell ≡ record { path = t ∷ []; parent = none; regular = true; points = map (coarse n) (getD qs t []) }
 unfolding coarseCells
 coarse-at n qs t h =
     from-at n 0 qs t h
-    ∙ ap {A = ℕ} {B = Cell Point} (λ x. record { path = x ∷ []; parent = none; regular = true; points = map (coarse n) (getD qs t []) }) (omega arith)
+    ∙ ap {A = ℕ} {B = Cell Point} (λ x. record { path = x ∷ []; parent = none; regular = true; points = map (coarse n) (getD qs t []) })
+    (omega arith)
 
 pub length-coarse : (n : ℕ) (qs : List (List ℕ)) → length (coarseCells n qs) ≡ length qs
 unfolding coarseCells

@@ -102,7 +102,8 @@ module _ (n : ℕ) (qs : List (List ℕ)) (ss ms : List ℕ) (t : T (soundb n qs
       }
 
 -- a level, and the level above it
-module _ (m : ℕ) (ss fs ms : List ℕ) (h k : ℕ) (c : Cell Point) (cs : List (Cell Point)) (rs : List ℕ) (r : Rest m ss fs ms (suc h) k (c ∷ cs) rs) where
+module _ (m : ℕ) (ss fs ms : List ℕ) (h k : ℕ) (c : Cell Point) (cs : List (Cell Point)) (rs : List ℕ)
+    (r : Rest m ss fs ms (suc h) k (c ∷ cs) rs) where
   abbrev own : List ℕ
   own = take (length (c ∷ cs)) rs
 
@@ -118,7 +119,11 @@ module _ (m : ℕ) (ss fs ms : List ℕ) (h k : ℕ) (c : Cell Point) (cs : List
 
   closed-here : T (closedb (here k (c ∷ cs) rs)) × T (allb closedb upper)
   unfolding levels allb
-  closed-here = (and-left (closedb (here k (c ∷ cs) rs)) (allb closedb upper) (r .closed), and-right (closedb (here k (c ∷ cs) rs)) (allb closedb upper) (r .closed))
+  closed-here = (
+    and-left (closedb (here k (c ∷ cs) rs)) (allb closedb upper) (r .closed),
+    and-right (closedb (here k (c ∷ cs) rs))
+        (allb closedb upper) (r .closed),
+  )
 
   flags-here : drop k fs ≡ flagsOf upper ms (rows (here k (c ∷ cs) rs) ms) ++ flatten (flags upper ms)
   unfolding levels flags flatMap flatten

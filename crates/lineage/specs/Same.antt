@@ -43,7 +43,13 @@ abbrev pub Old : Level → Cell Point → ℕ → Type 0
 Old l c o = ((t : ℕ) × (o ≡ l .first + t) × T (c .regular) × Is l t c) ⊎ ((o ≡ none) × (T (c .regular) → Fresh l c))
 
 abbrev pub rowIn : Level → List ℕ → ℕ → Row
-rowIn l ms t = record { number = l .first + t; cell = getD (l .cells) t noCell; status = getD (l .statuses) t 0; mark = getD ms (l .first + t) 0 }
+rowIn l ms t = record {
+  number = l .first + t;
+  cell = getD (l .cells) t noCell;
+  status = getD (l .statuses) t 0;
+  mark = getD ms
+      (l .first + t) 0;
+}
 
 pub record Up (m : ℕ) (ss : List ℕ) (l u : Level) : Type 0 where
   pub known : length (l .statuses) ≡ length (l .cells)
@@ -56,24 +62,28 @@ pub record Up (m : ℕ) (ss : List ℕ) (l u : Level) : Type 0 where
 
 -- cells with their numbers
 module _ (P : Cell Point → ℕ → Type 0) where
-  pub both-from : (cs : List (Cell Point)) (os : List ℕ) → length os ≡ length cs → ((i : ℕ) → i < length cs → P (getD cs i noCell) (getD os i 0)) → Both P cs os
+  pub both-from : (cs : List (Cell Point)) (os : List ℕ) → length os ≡ length cs
+      → ((i : ℕ) → i < length cs → P (getD cs i noCell) (getD os i 0)) → Both P cs os
   both-from [] os e f = tt
   both-from (c ∷ cs) [] e f = tt
   both-from (c ∷ cs) (o ∷ os) e f = (f 0 (omega arith), both-from cs os (omega arith) (λ i h. f (suc i) (omega arith)))
 
-  pub both-at : (cs : List (Cell Point)) (os : List ℕ) → length os ≡ length cs → Both P cs os → (i : ℕ) → i < length cs → P (getD cs i noCell) (getD os i 0)
+  pub both-at : (cs : List (Cell Point)) (os : List ℕ) → length os ≡ length cs → Both P cs os → (i : ℕ) → i < length cs
+      → P (getD cs i noCell) (getD os i 0)
   both-at [] os e b i h = absurd (omega arith)
   both-at (c ∷ cs) [] e b i h = absurd (omega arith)
   both-at (c ∷ cs) (o ∷ os) e b zero h = b .0
   both-at (c ∷ cs) (o ∷ os) e b (suc i) h = both-at cs os (omega arith) (b .1) i (omega arith)
 
-  pub both-append : (cs ds : List (Cell Point)) (os ps : List ℕ) → length os ≡ length cs → Both P cs os → Both P ds ps → Both P (cs ++ ds) (os ++ ps)
+  pub both-append : (cs ds : List (Cell Point)) (os ps : List ℕ) → length os ≡ length cs → Both P cs os → Both P ds ps
+      → Both P (cs ++ ds) (os ++ ps)
   both-append [] ds [] ps e b d = d
   both-append [] ds (o ∷ os) ps e b d = absurd (omega arith)
   both-append (c ∷ cs) ds [] ps e b d = absurd (omega arith)
   both-append (c ∷ cs) ds (o ∷ os) ps e b d = (b .0, both-append cs ds os ps (omega arith) (b .1) d)
 
-pub both-more : (P Q : Cell Point → ℕ → Type 0) → ((c : Cell Point) (o : ℕ) → P c o → Q c o) → (cs : List (Cell Point)) (os : List ℕ) → Both P cs os → Both Q cs os
+pub both-more : (P Q : Cell Point → ℕ → Type 0) → ((c : Cell Point) (o : ℕ) → P c o → Q c o) → (cs : List (Cell Point)) (os : List ℕ)
+    → Both P cs os → Both Q cs os
 both-more P Q f [] os b = tt
 both-more P Q f (c ∷ cs) [] b = tt
 both-more P Q f (c ∷ cs) (o ∷ os) b = (f c o (b .0), both-more P Q f cs os (b .1))
@@ -93,18 +103,22 @@ module _ (m : ℕ) (ss : List ℕ) (o i : ℕ) where
   unfolding oldChild
   old-none e = rw (e, oldChild)
 
-module _ (m : ℕ) (ss : List ℕ) (l u : Level) (up : Up m ss l u) (k : ℕ) (c : Cell Point) (i : ℕ) (small : i < length (family (patternOf 64))) where
+module _ (m : ℕ) (ss : List ℕ) (l u : Level) (up : Up m ss l u) (k : ℕ) (c : Cell Point) (i : ℕ)
+    (small : i < length (family (patternOf 64))) where
   -- a regular cell above is a child of a red cell
-  fresh-child : ((p : ℕ) → p < length (l .cells) → getD (l .statuses) p 0 ≡ 64 → pathAt (l .cells) p ≡ c .path → ⊥) → Fresh u (childOf k c 64 i)
+  fresh-child : ((p : ℕ) → p < length (l .cells) → getD (l .statuses) p 0 ≡ 64 → pathAt (l .cells) p ≡ c .path → ⊥)
+      → Fresh u (childOf k c 64 i)
   fresh-child f = rw (up .cells) (λ t h r e. go t h (born (l .first) (l .cells) (l .statuses) t h) r e)
     where
       go : (t : ℕ) → t < length (next (l .first) (l .cells) (l .statuses))
           → BornAt (l .first) (l .cells) (l .statuses) t (getD (next (l .first) (l .cells) (l .statuses)) t noCell)
-          → T (getD (next (l .first) (l .cells) (l .statuses)) t noCell .regular) → getD (next (l .first) (l .cells) (l .statuses)) t noCell .path ≡ c .path ++ (i ∷ []) → ⊥
+          → T (getD (next (l .first) (l .cells) (l .statuses)) t noCell .regular) → getD (next (l .first) (l .cells) (l .statuses)) t
+          noCell .path ≡ c .path ++ (i ∷ []) → ⊥
       go t h (b, x) r e =
           let w : pathAt (l .cells) (b .p) ++ (b .i ∷ []) ≡ c .path ++ (i ∷ []) = sym (ap (λ (c : Cell Point). c .path) (b .is)) ∙ e in
           let v : redb (getD (l .statuses) (b .p) 0) ≡ true =
-          sym (ap (λ (c : Cell Point). c .regular) (b .is)) ∙ is-true (getD (next (l .first) (l .cells) (l .statuses)) t noCell .regular) r in
+          sym (ap (λ (c : Cell Point). c .regular) (b .is)) ∙ is-true (getD (next (l .first) (l .cells) (l .statuses)) t noCell .regular)
+          r in
           f (b .p) (b .below) (eqb-true (getD (l .statuses) (b .p) 0) 64 v) (snoc-inj (pathAt (l .cells) (b .p)) (c .path) (b .i) i w .0)
 
   kept-child : (t o : ℕ) → o ≡ l .first + t → Is l t c → getD (l .statuses) t 0 ≡ 64 → Old u (childOf k c 64 i) (firstChild m ss o + i)
@@ -123,7 +137,8 @@ module _ (m : ℕ) (ss : List ℕ) (l u : Level) (up : Up m ss l u) (k : ℕ) (c
         record {
           below = rw (up .cells) (born-below (l .first) (l .cells) (l .statuses) t i (is .below) known nz fam);
           path = ap (λ (c : Cell Point). c .path) at ∙ ap (λ (p : List ℕ). p ++ (i ∷ [])) (is .path);
-          points = ap (λ (c : Cell Point). c .points) at ∙ points-same (getD (l .cells) t noCell) c (getD (family (patternOf 64)) i []) (is .points);
+          points = ap (λ (c : Cell Point). c .points) at ∙ points-same (getD (l .cells) t noCell) c (getD (family (patternOf 64)) i [])
+              (is .points);
           regular = rw at tt;
         },
       )
@@ -188,7 +203,8 @@ module _ (m : ℕ) (ss : List ℕ) (l u : Level) (up : Up m ss l u) where
           rw (children-at k c s i z f, olds-of-red m ss s o i h' e, q) (red-child m ss l u up k c i (rw q at f) o (r q) old)
       go (inr e) = rw (children-at k c s i z f, olds-of-none m ss s o i h' e) (inr (refl, λ t. not-both (redb s) (is-true (redb s) t) e))
 
-  pub olds-next : (k : ℕ) (cs : List (Cell Point)) (ts os : List ℕ) → RedRegular cs ts → Both (Old l) cs os → Both (Old u) (next k cs ts) (oldsNext m ss ts os)
+  pub olds-next : (k : ℕ) (cs : List (Cell Point)) (ts os : List ℕ) → RedRegular cs ts → Both (Old l) cs os
+      → Both (Old u) (next k cs ts) (oldsNext m ss ts os)
   unfolding next oldsNext
   olds-next k [] ts os r b = tt
   olds-next k (c ∷ cs) [] os r b = tt
@@ -198,7 +214,8 @@ module _ (m : ℕ) (ss : List ℕ) (l u : Level) (up : Up m ss l u) where
       nothing [] = tt
       nothing (c ∷ cs) = tt
   olds-next k (c ∷ cs) (s ∷ ts) (o ∷ os) r b =
-      let e : length (oldsOf m ss s o) ≡ length (children k c s (point c)) = length-olds-of m ss s o ∙ sym (length-children k c s (point c)) in
+      let e : length (oldsOf m ss s o) ≡ length (children k c s (point c)) = length-olds-of m ss s o
+      ∙ sym (length-children k c s (point c)) in
       both-append (Old u) (children k c s (point c)) (next (suc k) cs ts) (oldsOf m ss s o) (oldsNext m ss ts os) e
       (both-from (Old u) (children k c s (point c)) (oldsOf m ss s o) e (old-family k c s o (r .0) (b .0)))
       (olds-next (suc k) cs ts os (r .1) (b .1))

@@ -28,7 +28,8 @@ use Rattle.lineage.specs.Flags.{noRow, newRedAt, length-rows, rows-at, n
 use Rattle.lineage.specs.Met.{oldAt, oldAbove, newAt, Matched, old-next, new-next, old-coarse, new-coarse, flagged, new-known, met}
 
 -- a chosen element that fails a test
-all-failing : {A : Type 0} (d : A) (f g : A → Bool) (l : List A) (t : ℕ) → t < length l → g (getD l t d) ≡ true → f (getD l t d) ≡ false → allb f (filterb g l) ≡ false
+all-failing : {A : Type 0} (d : A) (f g : A → Bool) (l : List A) (t : ℕ) → t < length l → g (getD l t d) ≡ true → f (getD l t d) ≡ false
+    → allb f (filterb g l) ≡ false
 unfolding allb filterb
 all-failing d f g [] t h p q = absurd (omega arith)
 all-failing d f g (x ∷ l) zero h p q = rw (p, filterb) (rw q)
@@ -39,7 +40,8 @@ all-failing d f g (x ∷ l) (suc t) h p q = go (g x) refl (all-failing d f g l t
     go false e i = rw (e, filterb) i
 
 -- a new red cell is refined already, or marked 1
-new-red-kept : (up : List Row) (es : List (Point × Point)) (r : Row) → newRedb up es r ≡ true → (eqb (r .status) 0 && eqb (r .mark) 2) ≡ false
+new-red-kept : (up : List Row) (es : List (Point × Point)) (r : Row) → newRedb up es r ≡ true
+    → (eqb (r .status) 0 && eqb (r .mark) 2) ≡ false
 unfolding redAfterb
 new-red-kept up es r n = go (eqb (r .status) 0) refl
   where
@@ -53,7 +55,8 @@ new-red-kept up es r n = go (eqb (r .status) 0) refl
     go false q = refl
 
 -- so the family of its parent is not deleted
-pub red-stays : (up : List Row) (es : List (Point × Point)) (r : Row) → redb (r .status) ≡ true → deletedb (kids up (r .number)) es ≡ false → newRedb up es r ≡ true
+pub red-stays : (up : List Row) (es : List (Point × Point)) (r : Row) → redb (r .status) ≡ true → deletedb (kids up (r .number)) es ≡ false
+    → newRedb up es r ≡ true
 unfolding redAfterb
 red-stays up es r e d = rw (e, redAfterb) (rw d)
 
@@ -88,23 +91,29 @@ module _ (n : ℕ) (qs : List (List ℕ)) (ss ms : List ℕ) where
   pub up-rows : (j : ℕ) → rowsUp (oldAbove n qs ss j) ms ≡ rows (oldAt n qs ss (suc j)) ms
   up-rows j =
       rows-up (oldAbove n qs ss j) ms
-      ∙ ap (λ (l : Level). rows l ms) (getD-drop (suc j) (levelsOf n qs ss) 0 noLevel ∙ ap (λ (x : ℕ). getD (levelsOf n qs ss) x noLevel) (omega arith))
+      ∙ ap (λ (l : Level). rows l ms) (getD-drop (suc j) (levelsOf n qs ss) 0 noLevel ∙ ap (λ (x : ℕ). getD (levelsOf n qs ss) x noLevel)
+      (omega arith))
 
 module _ (n : ℕ) (qs : List (List ℕ)) (ss ms : List ℕ) (s : T (soundb n qs ss)) where
   red-regular : (j t : ℕ) → t < length (oldAt n qs ss j .cells) → Red n qs ss ms j t → T (getD (oldAt n qs ss j .cells) t noCell .regular)
   red-regular j t h e =
-      new-red-regular (rowsUp (oldAbove n qs ss j) ms) (edgesUp (newReds (oldAbove n qs ss j) ms)) (rowIn (oldAt n qs ss j) ms t) (flagged n qs ss ms s j .follows t h) e
+      new-red-regular (rowsUp (oldAbove n qs ss j) ms) (edgesUp (newReds (oldAbove n qs ss j) ms)) (rowIn (oldAt n qs ss j) ms t)
+      (flagged n qs ss ms s j .follows t h) e
 
   -- a cell with the path of a new red cell is that cell
   stays-from : (j t : ℕ) → t < length (oldAt n qs ss j .cells) → Red n qs ss ms j t → (i : ℕ) → i < length (newAt n qs ss ms j .cells)
-      → T (getD (newAt n qs ss ms j .cells) i noCell .regular) → pathAt (newAt n qs ss ms j .cells) i ≡ pathAt (oldAt n qs ss j .cells) t → Stays n qs ss ms j t
+      → T (getD (newAt n qs ss ms j .cells) i noCell .regular) → pathAt (newAt n qs ss ms j .cells) i ≡ pathAt (oldAt n qs ss j .cells) t
+      → Stays n qs ss ms j t
   stays-from j t h e i g r p = go (met n qs ss ms s j i g r)
     where
-      go : Matched ms (oldAbove n qs ss j) (oldAt n qs ss j) (getD (newAt n qs ss ms j .cells) i noCell) (getD (newAt n qs ss ms j .statuses) i 0)
-          ⊎ ((redb (getD (newAt n qs ss ms j .statuses) i 0) ≡ false) × Fresh (oldAt n qs ss j) (getD (newAt n qs ss ms j .cells) i noCell)) → Stays n qs ss ms j t
+      go : Matched ms (oldAbove n qs ss j) (oldAt n qs ss j) (getD (newAt n qs ss ms j .cells) i noCell)
+          (getD (newAt n qs ss ms j .statuses) i 0)
+          ⊎ ((redb (getD (newAt n qs ss ms j .statuses) i 0) ≡ false) × Fresh (oldAt n qs ss j) (getD (newAt n qs ss ms j .cells) i noCell))
+          → Stays n qs ss ms j t
       go (inl w) =
           let x : w .t ≡ t = flagged n qs ss ms s j .paths (w .t) t (w .is .below) h (w .is .path ∙ p) in
-          let y : redb (getD (newAt n qs ss ms j .statuses) i 0) ≡ true = w .red ∙ ap (newRedAt ms (oldAbove n qs ss j) (oldAt n qs ss j)) x ∙ e in
+          let y : redb (getD (newAt n qs ss ms j .statuses) i 0) ≡ true = w .red ∙ ap (newRedAt ms (oldAbove n qs ss j) (oldAt n qs ss j)) x
+          ∙ e in
           record { i = i; below = g; path = p; status = eqb-true (getD (newAt n qs ss ms j .statuses) i 0) 64 y }
       go (inr w) = absurd (w .1 t h (red-regular j t h e) (sym p))
 
@@ -134,10 +143,13 @@ module _ (n : ℕ) (qs : List (List ℕ)) (ss ms : List ℕ) (s : T (soundb n qs
     parent-stays : Red n qs ss ms j (parent .p)
     parent-stays =
         let known : length (u .statuses) ≡ length (u .cells) = flagged n qs ss ms s (suc j) .known in
-        let at : getD (rowsUp (oldAbove n qs ss j) ms) t noRow ≡ rowIn u ms t = ap (λ (rs : List Row). getD rs t noRow) (up-rows n qs ss ms j) ∙ rows-at u ms known t h in
-        let many : length (rowsUp (oldAbove n qs ss j) ms) ≡ length (u .cells) = ap length (up-rows n qs ss ms j) ∙ length-rows u ms known in
+        let at : getD (rowsUp (oldAbove n qs ss j) ms) t noRow ≡ rowIn u ms t = ap (λ (rs : List Row). getD rs t noRow)
+        (up-rows n qs ss ms j) ∙ rows-at u ms known t h in
+        let many : length (rowsUp (oldAbove n qs ss j) ms) ≡ length (u .cells) = ap length (up-rows n qs ss ms j)
+        ∙ length-rows u ms known in
         red-stays (rowsUp (oldAbove n qs ss j) ms) (edgesUp (newReds (oldAbove n qs ss j) ms)) (rowIn l ms (parent .p)) (ap redb parent-red)
-        (not-deleted (rowsUp (oldAbove n qs ss j) ms) (edgesUp (newReds (oldAbove n qs ss j) ms)) (l .first + parent .p) t (omega (arith, many))
+        (not-deleted (rowsUp (oldAbove n qs ss j) ms) (edgesUp (newReds (oldAbove n qs ss j) ms)) (l .first + parent .p) t
+        (omega (arith, many))
         (ap (λ (r : Row). r .cell .parent) at ∙ ap (λ (c : Cell Point). c .parent) (parent .is))
         (ap (λ (r : Row). eqb (r .status) 0 && eqb (r .mark) 2) at
         ∙ new-red-kept (rowsUp (oldAbove n qs ss (suc j)) ms) (edgesUp (newReds (oldAbove n qs ss (suc j)) ms)) (rowIn u ms t) e))
@@ -150,12 +162,16 @@ module _ (n : ℕ) (qs : List (List ℕ)) (ss ms : List ℕ) (s : T (soundb n qs
         let fam : parent .i < length (family (patternOf (getD (l' .statuses) (w .i) 0))) = rw (w .status, ← parent-red) (parent .child) in
         let place : ℕ = sizes (take (w .i) (l' .statuses)) + parent .i in
         let q = new-next n qs ss ms j g in
-        let at : getD (newAt n qs ss ms (suc j) .cells) place noCell ≡ childOf (l' .first + w .i) (getD (l' .cells) (w .i) noCell) (getD (l' .statuses) (w .i) 0) (parent .i) =
-        ap (λ (cs : List (Cell Point)). getD cs place noCell) q ∙ born-at (l' .first) (l' .cells) (l' .statuses) (w .i) (parent .i) (w .below) known nz fam in
+        let at : getD (newAt n qs ss ms (suc j) .cells) place noCell ≡ childOf (l' .first + w .i) (getD (l' .cells) (w .i) noCell)
+        (getD (l' .statuses) (w .i) 0) (parent .i) =
+        ap (λ (cs : List (Cell Point)). getD cs place noCell) q ∙ born-at (l' .first) (l' .cells) (l' .statuses) (w .i) (parent .i)
+        (w .below) known nz fam in
         stays-from (suc j) t h e place (rw q (born-below (l' .first) (l' .cells) (l' .statuses) (w .i) (parent .i) (w .below) known nz fam))
         (rw (ap (λ (c : Cell Point). c .regular) at ∙ ap redb (w .status)) tt)
-        (ap (λ (c : Cell Point). c .path) at ∙ ap (λ (x : List ℕ). x ++ (parent .i ∷ [])) (w .path) ∙ sym (ap (λ (c : Cell Point). c .path) (parent .is)))
+        (ap (λ (c : Cell Point). c .path) at ∙ ap (λ (x : List ℕ). x ++ (parent .i ∷ [])) (w .path)
+        ∙ sym (ap (λ (c : Cell Point). c .path) (parent .is)))
 
   pub stays : (j t : ℕ) → j < 12 → t < length (oldAt n qs ss j .cells) → Red n qs ss ms j t → Stays n qs ss ms j t
   stays zero t g h e = stays-coarse t h e
-  stays (suc j) t g h e = stays-child j t g h e (stays j (parent j t g h e .p) (omega arith) (parent j t g h e .below) (parent-stays j t g h e))
+  stays (suc j) t g h e = stays-child j t g h e
+      (stays j (parent j t g h e .p) (omega arith) (parent j t g h e .below) (parent-stays j t g h e))

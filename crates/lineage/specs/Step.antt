@@ -31,7 +31,8 @@ module _ (n : ℕ) (qs : List (List ℕ)) (ss : List ℕ) where
   pub olds-many : length (upTo (length qs)) ≡ length (coarseCells n qs)
   olds-many = length-upto (length qs) ∙ sym (length-coarse n qs)
 
-  olds-coarse : (i : ℕ) → i < length (coarseCells n qs) → Old (here 0 (coarseCells n qs) ss) (getD (coarseCells n qs) i noCell) (getD (upTo (length qs)) i 0)
+  olds-coarse : (i : ℕ) → i < length (coarseCells n qs) → Old (here 0 (coarseCells n qs) ss) (getD (coarseCells n qs) i noCell)
+      (getD (upTo (length qs)) i 0)
   olds-coarse i h =
       let h' : i < length qs = omega (arith, length-coarse n qs) in
       let r : T (getD (coarseCells n qs) i noCell .regular) = rw (coarse-at n qs i h') tt in
@@ -45,12 +46,14 @@ abbrev Agrees : List Row → List ℕ → Cell Point → ℕ → Type 0
 Agrees reds fs c o = amongb reds c ≡ redb (getD fs o 0)
 
 module _ (reds : List Row) (fs : List ℕ) where
-  edges-same : (cs : List (Cell Point)) (os : List ℕ) → length os ≡ length cs → Both (Agrees reds fs) cs os → redCells reds cs ≡ redEdges [] cs (redsBy fs os)
+  edges-same : (cs : List (Cell Point)) (os : List ℕ) → length os ≡ length cs → Both (Agrees reds fs) cs os
+      → redCells reds cs ≡ redEdges [] cs (redsBy fs os)
   unfolding redCells redEdges redsBy
   edges-same [] os e b = refl
   edges-same (c ∷ cs) [] e b = absurd (omega arith)
   edges-same (c ∷ cs) (o ∷ os) e b =
-      ap₂ (λ (x : Bool) (l : List (Point × Point)). elim x [ true ↦ edges [] c ++ l | false ↦ l ]) (b .0 ∙ sym (flag-red (redb (getD fs o 0))))
+      ap₂ (λ (x : Bool) (l : List (Point × Point)). elim x [ true ↦ edges [] c ++ l | false ↦ l ])
+      (b .0 ∙ sym (flag-red (redb (getD fs o 0))))
       (edges-same cs os (omega arith) (b .1))
 
   closed-same : (es : List (Point × Point)) (cs : List (Cell Point)) (os : List ℕ) → length os ≡ length cs → Both (Agrees reds fs) cs os
@@ -59,7 +62,8 @@ module _ (reds : List Row) (fs : List ℕ) where
   closed-same es [] os e b = refl
   closed-same es (c ∷ cs) [] e b = absurd (omega arith)
   closed-same es (c ∷ cs) (o ∷ os) e b =
-      ap₂ _∷_ (ap (λ (x : Bool). statusOf [] sameb es x c) (b .0 ∙ sym (flag-red (redb (getD fs o 0))))) (closed-same es cs os (omega arith) (b .1))
+      ap₂ _∷_ (ap (λ (x : Bool). statusOf [] sameb es x c) (b .0 ∙ sym (flag-red (redb (getD fs o 0)))))
+      (closed-same es cs os (omega arith) (b .1))
 
   statuses-same : (cs : List (Cell Point)) (os : List ℕ) → length os ≡ length cs → Both (Agrees reds fs) cs os
       → map (λ c. statusOf [] sameb (redCells reds cs) (amongb reds c) c) cs ≡ statusesBy fs cs os
@@ -99,7 +103,8 @@ module _ (fs : List ℕ) where
   no-edges [] os b = refl
   no-edges (c ∷ cs) [] b = refl
   no-edges (c ∷ cs) (o ∷ os) b =
-      ap₂ (λ (x : Bool) (l : List (Point × Point)). elim x [ true ↦ edges [] c ++ l | false ↦ l ]) (flag-red (redb (getD fs o 0)) ∙ b .0) (no-edges cs os (b .1))
+      ap₂ (λ (x : Bool) (l : List (Point × Point)). elim x [ true ↦ edges [] c ++ l | false ↦ l ]) (flag-red (redb (getD fs o 0)) ∙ b .0)
+      (no-edges cs os (b .1))
 
   closed-leaves : (cs : List (Cell Point)) (os : List ℕ) → Both (Dark fs) cs os → Leaves cs (closedBy [] cs (redsBy fs os))
   unfolding closedBy redsBy
@@ -124,7 +129,8 @@ module _ (m : ℕ) (ss fs ms : List ℕ) (small : length fs ≤ 4096) where
   dark-empty l z c o (inl (t, e, r, is)) = absurd (omega (arith, is .below, ap length z))
   dark-empty l z c o (inr (e, f)) = rw (e, flag-none fs small) refl
 
-  step-top : (h : ℕ) (l : Level) → l .cells ≡ [] → (k : ℕ) (cs : List (Cell Point)) (os : List ℕ) → length os ≡ length cs → Both (Old l) cs os
+  step-top : (h : ℕ) (l : Level) → l .cells ≡ [] → (k : ℕ) (cs : List (Cell Point)) (os : List ℕ) → length os ≡ length cs
+      → Both (Old l) cs os
       → grow ([] ∷ []) k cs ≡ growBy m ss fs (suc h) k cs os
   unfolding grow growBy
   step-top h l z k [] os e b = refl
@@ -133,11 +139,14 @@ module _ (m : ℕ) (ss fs ms : List ℕ) (small : length fs ≤ 4096) where
       let d : Both (Dark fs) (c ∷ cs) os = both-more (Old l) (Dark fs) (dark-empty l z) (c ∷ cs) os b in
       let a : Both (Agrees [] fs) (c ∷ cs) os = both-more (Dark fs) (Agrees [] fs) (λ c o q. among-none c ∙ sym q) (c ∷ cs) os d in
       ap₂ _∷_ (statuses-same [] fs (c ∷ cs) os e a)
-      (sym (ap (λ (up : List (Cell Point)). growBy m ss fs h (k + length (c ∷ cs)) up (oldsNext m ss ts os)) (leaf-next k (c ∷ cs) ts (no-reds fs (c ∷ cs) os d))
+      (sym (ap (λ (up : List (Cell Point)). growBy m ss fs h (k + length (c ∷ cs)) up (oldsNext m ss ts os))
+      (leaf-next k (c ∷ cs) ts (no-reds fs (c ∷ cs) os d))
       ∙ grow-nothing m ss fs h (k + length (c ∷ cs)) (oldsNext m ss ts os)))
 
-  step-cons : (reds : List Row) (rest : List (List Row)) (h k : ℕ) (cs : List (Cell Point)) (os : List ℕ) → length os ≡ length cs → Both (Agrees reds fs) cs os
-      → grow rest (k + length cs) (next k cs (statusesBy fs cs os)) ≡ growBy m ss fs h (k + length cs) (next k cs (statusesBy fs cs os)) (oldsNext m ss (statusesBy fs cs os) os)
+  step-cons : (reds : List Row) (rest : List (List Row)) (h k : ℕ) (cs : List (Cell Point)) (os : List ℕ) → length os ≡ length cs
+      → Both (Agrees reds fs) cs os
+      → grow rest (k + length cs) (next k cs (statusesBy fs cs os)) ≡ growBy m ss fs h (k + length cs) (next k cs (statusesBy fs cs os))
+      (oldsNext m ss (statusesBy fs cs os) os)
       → grow (reds ∷ rest) k cs ≡ growBy m ss fs (suc h) k cs os
   unfolding grow growBy
   step-cons reds rest h k [] os e a i = refl
@@ -145,7 +154,8 @@ module _ (m : ℕ) (ss fs ms : List ℕ) (small : length fs ≤ 4096) where
       ap (λ (ts : List ℕ). ts ∷ grow rest (k + length (c ∷ cs)) (next k (c ∷ cs) ts)) (statuses-same reds fs (c ∷ cs) os e a)
       ∙ ap (λ (l : List (List ℕ)). statusesBy fs (c ∷ cs) os ∷ l) i
 
-  step-levels : (h j : ℕ) (cs : List (Cell Point)) (rs : List ℕ) → Rest m ss fs ms h j cs rs → (k : ℕ) (ds : List (Cell Point)) (os : List ℕ) → length os ≡ length ds
+  step-levels : (h j : ℕ) (cs : List (Cell Point)) (rs : List ℕ) → Rest m ss fs ms h j cs rs
+      → (k : ℕ) (ds : List (Cell Point)) (os : List ℕ) → length os ≡ length ds
       → Both (Old (here j cs rs)) ds os → grow (newReds (levels h j cs rs) ms ++ ([] ∷ [])) k ds ≡ growBy m ss fs h k ds os
   unfolding levels newReds
   step-levels zero j cs rs r k ds os e b = absurd (omega (arith, r .high))
@@ -156,15 +166,19 @@ module _ (m : ℕ) (ss fs ms : List ℕ) (small : length fs ≤ 4096) where
       let l = here j (c ∷ cs) rs in
       let ts = statusesBy fs ds os in
       step-cons (redRows ms ls l) (newReds ls ms ++ ([] ∷ [])) h k ds os e
-      (both-more (Old l) (Agrees (redRows ms ls l) fs) (λ d o q. among-old fs ms ls l (rest-flagged m ss fs ms h j c cs rs r) d o q) ds os b)
-      (step-levels h (j + length (c ∷ cs)) (next j (c ∷ cs) own) (drop (length (c ∷ cs)) rs) (rest-next m ss fs ms h j c cs rs r) (k + length ds) (next k ds ts)
+      (both-more (Old l) (Agrees (redRows ms ls l) fs) (λ d o q. among-old fs ms ls l (rest-flagged m ss fs ms h j c cs rs r) d o q) ds os
+      b)
+      (step-levels h (j + length (c ∷ cs)) (next j (c ∷ cs) own) (drop (length (c ∷ cs)) rs) (rest-next m ss fs ms h j c cs rs r)
+      (k + length ds) (next k ds ts)
       (oldsNext m ss ts os) (length-up m ss fs k ds os e)
-      (olds-next m ss l (here (j + length (c ∷ cs)) (next j (c ∷ cs) own) (drop (length (c ∷ cs)) rs)) (rest-up m ss fs ms h j c cs rs r) k ds ts os
+      (olds-next m ss l (here (j + length (c ∷ cs)) (next j (c ∷ cs) own) (drop (length (c ∷ cs)) rs)) (rest-up m ss fs ms h j c cs rs r) k
+      ds ts os
       (refined-red ds ts (refined-statuses fs ds os)) b))
 
 pub step-by : (n : ℕ) (qs : List (List ℕ)) (ss ms : List ℕ) → T (soundb n qs ss) → stepTable n qs ss ms ≡ stepBy n qs ss ms
 unfolding stepTable stepBy levelsOf
 step-by n qs ss ms t =
     let r = rest-start n qs ss ms t in
-    step-levels (length qs) ss (flagTable n qs ss ms) ms (r .small) 12 0 (coarseCells n qs) ss r 0 (coarseCells n qs) (upTo (length qs)) (olds-many n qs ss)
+    step-levels (length qs) ss (flagTable n qs ss ms) ms (r .small) 12 0 (coarseCells n qs) ss r 0 (coarseCells n qs) (upTo (length qs))
+    (olds-many n qs ss)
     (olds-start n qs ss)

@@ -36,7 +36,8 @@ pub record Traced (fs : List ℕ) (l l' : Level) : Type 0 where
 status-redb : (es : List (Point × Point)) (r : Bool) (c : Cell Point) → T (c .regular) → redb (statusOf [] sameb es r c) ≡ r
 unfolding statusOf
 status-redb es true c t = rw (is-true (c .regular) t, statusOf) refl
-status-redb es false c t = rw (is-true (c .regular) t, statusOf) (ne-eqb (pattern [] sameb es c) 64 (λ e. omega (arith, pattern-in-six [] sameb es c)))
+status-redb es false c t = rw (is-true (c .regular) t, statusOf)
+    (ne-eqb (pattern [] sameb es c) 64 (λ e. omega (arith, pattern-in-six [] sameb es c)))
 
 closed-at : (es : List (Point × Point)) (cs : List (Cell Point)) (rs : List ℕ) → length rs ≡ length cs → (i : ℕ) → i < length cs
     → getD (closedBy es cs rs) i 0 ≡ statusOf [] sameb es (redb (getD rs i 0)) (getD cs i noCell)
@@ -50,7 +51,8 @@ reds-at : (fs os : List ℕ) (i : ℕ) → i < length os → redb (getD (redsBy 
 unfolding redsBy
 reds-at fs os i h = ap redb (getD-map (λ o. flagOf (redb (getD fs o 0))) os i 0 0 h) ∙ flag-red (redb (getD fs (getD os i 0) 0))
 
-pub red-status : (fs : List ℕ) (cs : List (Cell Point)) (os : List ℕ) → length os ≡ length cs → (i : ℕ) → i < length cs → T (getD cs i noCell .regular)
+pub red-status : (fs : List ℕ) (cs : List (Cell Point)) (os : List ℕ) → length os ≡ length cs → (i : ℕ) → i < length cs
+    → T (getD cs i noCell .regular)
     → redb (getD (statusesBy fs cs os) i 0) ≡ redb (getD fs (getD os i 0) 0)
 unfolding statusesBy
 red-status fs cs os e i h t =
@@ -85,13 +87,15 @@ module _ (m : ℕ) (ss fs ms : List ℕ) where
   flagged-at (suc h) k [] rs r j = flagged-none fs ms [] (r .small)
   flagged-at (suc h) k (c ∷ cs) rs r zero = rest-flagged m ss fs ms h k c cs rs r
   flagged-at (suc h) k (c ∷ cs) rs r (suc j) =
-      flagged-at h (k + length (c ∷ cs)) (next k (c ∷ cs) (take (length (c ∷ cs)) rs)) (drop (length (c ∷ cs)) rs) (rest-next m ss fs ms h k c cs rs r) j
+      flagged-at h (k + length (c ∷ cs)) (next k (c ∷ cs) (take (length (c ∷ cs)) rs)) (drop (length (c ∷ cs)) rs)
+      (rest-next m ss fs ms h k c cs rs r) j
 
   old-empty : (l : Level) → l .cells ≡ [] → (c : Cell Point) (o : ℕ) → Old l c o → Old noLevel c o
   old-empty l z c o (inl (t, e, r, is)) = absurd (omega (arith, is .below, ap length z))
   old-empty l z c o (inr (e, f)) = inr (e, λ r t h. absurd (omega arith))
 
-  traced-top : length fs ≤ 4096 → (h : ℕ) (l : Level) → l .cells ≡ [] → (k : ℕ) (ds : List (Cell Point)) (os : List ℕ) → length os ≡ length ds → Both (Old l) ds os
+  traced-top : length fs ≤ 4096 → (h : ℕ) (l : Level) → l .cells ≡ [] → (k : ℕ) (ds : List (Cell Point)) (os : List ℕ)
+      → length os ≡ length ds → Both (Old l) ds os
       → (j : ℕ) → Traced fs noLevel (getD (growLevels m ss fs (suc h) k ds os) j noLevel)
   unfolding growLevels
   traced-top s h l z k [] os e b j = traced-none fs noLevel
@@ -99,14 +103,17 @@ module _ (m : ℕ) (ss fs ms : List ℕ) where
       record { os = os; many = e; olds = both-more (Old l) (Old noLevel) (old-empty l z) (d ∷ ds) os b; statuses = refl }
   traced-top s h l z k (d ∷ ds) os e b (suc j) =
       let ts = statusesBy fs (d ∷ ds) os in
-      let n : next k (d ∷ ds) ts ≡ [] = leaf-next k (d ∷ ds) ts (no-reds fs (d ∷ ds) os (both-more (Old l) (Dark fs) (dark-empty m ss fs ms s l z) (d ∷ ds) os b)) in
+      let n : next k (d ∷ ds) ts ≡ [] = leaf-next k (d ∷ ds) ts
+      (no-reds fs (d ∷ ds) os (both-more (Old l) (Dark fs) (dark-empty m ss fs ms s l z) (d ∷ ds) os b)) in
       let g : growLevels m ss fs h (k + length (d ∷ ds)) (next k (d ∷ ds) ts) (oldsNext m ss ts os) ≡ [] =
       ap (λ (x : List (Cell Point)). growLevels m ss fs h (k + length (d ∷ ds)) x (oldsNext m ss ts os)) n
       ∙ grow-none m ss fs h (k + length (d ∷ ds)) (oldsNext m ss ts os) in
       subst (λ (x : List Level). Traced fs noLevel (getD x j noLevel)) (sym g) (traced-none fs noLevel)
 
-  pub traced-at : (h i : ℕ) (cs : List (Cell Point)) (rs : List ℕ) → Rest m ss fs ms h i cs rs → (k : ℕ) (ds : List (Cell Point)) (os : List ℕ) → length os ≡ length ds
-      → Both (Old (here i cs rs)) ds os → (j : ℕ) → Traced fs (getD (levels h i cs rs) j noLevel) (getD (growLevels m ss fs h k ds os) j noLevel)
+  pub traced-at : (h i : ℕ) (cs : List (Cell Point)) (rs : List ℕ) → Rest m ss fs ms h i cs rs
+      → (k : ℕ) (ds : List (Cell Point)) (os : List ℕ) → length os ≡ length ds
+      → Both (Old (here i cs rs)) ds os → (j : ℕ)
+      → Traced fs (getD (levels h i cs rs) j noLevel) (getD (growLevels m ss fs h k ds os) j noLevel)
   unfolding levels growLevels
   traced-at zero i cs rs r k ds os e b j = absurd (omega (arith, r .high))
   traced-at (suc h) i [] rs r k ds os e b j = traced-top (r .small) h (here i [] rs) refl k ds os e b j
@@ -115,9 +122,11 @@ module _ (m : ℕ) (ss fs ms : List ℕ) where
   traced-at (suc h) i (c ∷ cs) rs r k (d ∷ ds) os e b (suc j) =
       let own = take (length (c ∷ cs)) rs in
       let ts = statusesBy fs (d ∷ ds) os in
-      traced-at h (i + length (c ∷ cs)) (next i (c ∷ cs) own) (drop (length (c ∷ cs)) rs) (rest-next m ss fs ms h i c cs rs r) (k + length (d ∷ ds)) (next k (d ∷ ds) ts)
+      traced-at h (i + length (c ∷ cs)) (next i (c ∷ cs) own) (drop (length (c ∷ cs)) rs) (rest-next m ss fs ms h i c cs rs r)
+      (k + length (d ∷ ds)) (next k (d ∷ ds) ts)
       (oldsNext m ss ts os) (length-up m ss fs k (d ∷ ds) os e)
-      (olds-next m ss (here i (c ∷ cs) rs) (here (i + length (c ∷ cs)) (next i (c ∷ cs) own) (drop (length (c ∷ cs)) rs)) (rest-up m ss fs ms h i c cs rs r) k (d ∷ ds) ts os
+      (olds-next m ss (here i (c ∷ cs) rs) (here (i + length (c ∷ cs)) (next i (c ∷ cs) own) (drop (length (c ∷ cs)) rs))
+      (rest-up m ss fs ms h i c cs rs r) k (d ∷ ds) ts os
       (refined-red (d ∷ ds) ts (refined-statuses fs (d ∷ ds) os)) b) j
 
 -- at most so many levels
@@ -126,4 +135,5 @@ unfolding growLevels
 length-grow m ss fs zero k cs os = omega arith
 length-grow m ss fs (suc h) k [] os = omega arith
 length-grow m ss fs (suc h) k (c ∷ cs) os =
-    let ts = statusesBy fs (c ∷ cs) os in omega (arith, length-grow m ss fs h (k + length (c ∷ cs)) (next k (c ∷ cs) ts) (oldsNext m ss ts os))
+    let ts = statusesBy fs (c ∷ cs) os in
+    omega (arith, length-grow m ss fs h (k + length (c ∷ cs)) (next k (c ∷ cs) ts) (oldsNext m ss ts os))

@@ -16,7 +16,8 @@ pub field-room : {l m : List ℕ} {at r : ℕ} (n e k : ℕ) → at + (6 + k) �
 field-room n e k h p = omega (arith, p .behind, put-length p, length-decimal n, length-append (decimal n) (e ∷ []))
 
 pub five-fields : (a b c d e : ℕ)
-    → (decimal a ++ (32 ∷ [])) ++ ((decimal b ++ (32 ∷ [])) ++ ((decimal c ++ (32 ∷ [])) ++ ((decimal d ++ (32 ∷ [])) ++ (decimal e ++ (10 ∷ [])))))
+    → (decimal a ++ (32 ∷ [])) ++ ((decimal b ++ (32 ∷ []))
+    ++ ((decimal c ++ (32 ∷ [])) ++ ((decimal d ++ (32 ∷ [])) ++ (decimal e ++ (10 ∷ [])))))
     ≡ fields (a ∷ b ∷ c ∷ d ∷ e ∷ [])
 unfolding fields
 five-fields a b c d e = simp append-assoc

@@ -30,9 +30,16 @@ four-on : (cs : List ℕ) (k : ℕ) → k + 4 ≤ length cs
     → drop k cs ≡ getD cs k 0 ∷ getD cs (k + 1) 0 ∷ getD cs (k + 2) 0 ∷ getD cs (k + 3) 0 ∷ drop (k + 4) cs
 four-on cs k h =
     simp towards-suc
-    (rw (drop-cons cs k 0 (omega arith), drop-cons cs (suc k) 0 (omega arith), drop-cons cs (suc (suc k)) 0 (omega arith), drop-cons cs (suc (suc (suc k))) 0 (omega arith)))
+    (rw (
+      drop-cons cs k 0 (omega arith),
+      drop-cons cs (suc k) 0 (omega arith),
+      drop-cons cs (suc (suc k)) 0 (omega arith),
+      drop-cons cs
+          (suc (suc (suc k))) 0 (omega arith),
+    ))
 
-lines-next : (i : ℕ) (cs : List ℕ) → 4 * i + 4 ≤ length cs → fields (row i cs) ++ lines (i + 1) (drop (4 * (i + 1)) cs) ≡ lines i (drop (4 * i) cs)
+lines-next : (i : ℕ) (cs : List ℕ) → 4 * i + 4 ≤ length cs → fields (row i cs) ++ lines (i + 1) (drop (4 * (i + 1)) cs) ≡ lines i
+    (drop (4 * i) cs)
 unfolding lines
 lines-next i cs h =
     let e : 4 * (i + 1) ≡ 4 * i + 4 = omega arith in

@@ -23,7 +23,8 @@ decimal n = digits 4 n
 -- Rule 11.1: the words of the first line, and a line feed.
 abbrev pub header : List ℕ
 header =
-    108 ∷ 101 ∷ 118 ∷ 101 ∷ 108 ∷ 32 ∷ 99 ∷ 101 ∷ 108 ∷ 108 ∷ 115 ∷ 32 ∷ 114 ∷ 101 ∷ 100 ∷ 32 ∷ 103 ∷ 114 ∷ 101 ∷ 101 ∷ 110 ∷ 32 ∷ 108 ∷ 101 ∷ 97 ∷ 102 ∷ 10 ∷ []
+    108 ∷ 101 ∷ 118 ∷ 101 ∷ 108 ∷ 32 ∷ 99 ∷ 101 ∷ 108 ∷ 108 ∷ 115 ∷ 32 ∷ 114 ∷ 101 ∷ 100 ∷ 32 ∷ 103 ∷ 114 ∷ 101 ∷ 101 ∷ 110 ∷ 32 ∷ 108 ∷ 101
+    ∷ 97 ∷ 102 ∷ 10 ∷ []
 
 -- Rule 11.2: a space between, a line feed behind.
 unfoldable pub fields : List ℕ → List ℕ

@@ -41,7 +41,8 @@ put-as e p = rw e at p
 
 module _ {l bs m : List ℕ} where
   put-parts : {at r : ℕ} → Put l at bs m r → m ≡ take at l ++ (bs ++ drop (at + length bs) l)
-  put-parts {at} p = p .bytes ∙ sets-eq bs l at (omega (arith, p .behind, p .inside)) ∙ append-assoc (take at l) bs (drop (at + length bs) l)
+  put-parts {at} p = p .bytes ∙ sets-eq bs l at (omega (arith, p .behind, p .inside))
+      ∙ append-assoc (take at l) bs (drop (at + length bs) l)
 
   -- from the first place on
   pub put-front : {r : ℕ} → Put l 0 bs m r → (m ≡ bs ++ drop (length bs) l) × (r ≡ length bs)

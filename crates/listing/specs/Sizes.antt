@@ -26,7 +26,8 @@ length-decimal n = length-digits 4 n
 -- five numbers
 pub length-line : (i a b c d : ℕ) → length (fields (i ∷ a ∷ b ∷ c ∷ d ∷ [])) ≤ 30
 unfolding fields
-length-line i a b c d = simp length-append (omega (arith, length-decimal i, length-decimal a, length-decimal b, length-decimal c, length-decimal d))
+length-line i a b c d = simp length-append
+    (omega (arith, length-decimal i, length-decimal a, length-decimal b, length-decimal c, length-decimal d))
 
 length-lines : (i : ℕ) (cs : List ℕ) → length (lines i cs) ≤ 8 * length cs
 unfolding lines

@@ -38,7 +38,8 @@ ghost use Rattle.store.specs.Fields.{field, full};
 ghost use Rattle.store.specs.Header.{stageb, headerb};
 ghost use Rattle.store.specs.Message.{two, kindOf, bodyOf, messageOf};
 ghost use Rattle.store.specs.Fetch.{entryCount, bitFrom, nextToGive, given, passedBy, spotAt, fetchAnswer, fetchBytes, fetchAfter};
-ghost use Rattle.store.specs.Hand.{numberAt, lengthOf, shapeb, routeb, ghostMarkb, edgeCountb, cellTotalb, contentb, wellb, handAnswer, Ranges, absorbed, counted, handAfter};
+ghost use Rattle.store.specs.Hand.{numberAt, lengthOf, shapeb, routeb, ghostMarkb, edgeCountb, cellTotalb, contentb, wellb, handAnswer};
+ghost use Rattle.store.specs.Hand.{Ranges, absorbed, counted, handAfter};
 
 // Whether the stage fits the round and the result.
 fn stage_fits(store: &[u16]) -> bool

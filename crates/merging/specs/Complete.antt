@@ -5,7 +5,8 @@
 use mathlib.Core.Path.{_≡_, refl, sym, _∙_, ap, ap₂, subst}
 use mathlib.Core.Logic.{⊎-elim}
 use mathlib.Core.Bool.{Bool, true, false}
-use mathlib.Core.List.{List, [], _∷_, _++_, map, List·Memᴰ, List·Memᴰ·head, List·Memᴰ·tail, List·Memᴰ·not-nil, List·Memᴰ·cases-cons, flatten, Memᴰ·of-map}
+use mathlib.Core.List.{List, [], _∷_, _++_, map, List·Memᴰ, List·Memᴰ·head, List·Memᴰ·tail, List·Memᴰ·not-nil, List·Memᴰ·cases-cons}
+use mathlib.Core.List.{flatten, Memᴰ·of-map}
 use Prim.Native.Nat.{ℕ, zero, suc, _+_, _≤_, _<_}
 use native.Mathlib.Omega.{arith}
 use lib.Dec.{T, eqb}
@@ -226,7 +227,8 @@ pub complete-is : (n : ℕ) (qs : List (List ℕ)) (ss : List ℕ) (es : List En
     → T (completeb es (length qs))
 unfolding completeb levelsOf coarseCells
 complete-is n qs ss es s w d =
-    and-both (filledb 12 es (map (λ i. i ∷ []) (range 0 (length qs)))) (eqb (length (masters es)) (length (flatten (merged es (length qs)))))
+    and-both (filledb 12 es (map (λ i. i ∷ []) (range 0 (length qs))))
+    (eqb (length (masters es)) (length (flatten (merged es (length qs)))))
     (subst (λ (ls : List (List ℕ)). T (filledb 12 es ls)) (coarse-paths n 0 qs)
     (filled-is es 12 0 (coarseCells n qs) ss (s .closed) (found-at n qs ss es w)
     (λ j i h. mastered es (entryAt n qs ss j i false) (w .each j i h) refl)))

@@ -35,7 +35,8 @@ use Rattle.parts.specs.Starts.{placeOn, putTogether}
 use Rattle.splitting.specs.Admissible.{owners-counted}
 use Rattle.splitting.specs.Starts.{together-at, length-together}
 use Rattle.splitting.specs.Split.{Slots, taskOf, fits, owners-fit}
-use Rattle.shares.specs.Grow.{statusNew, pairHeld, freshStatus, staysb, masterEntry, ghostEntry, anewb, childStatus, childEntries, freshEntries, entries}
+use Rattle.shares.specs.Grow.{statusNew, pairHeld, freshStatus, staysb, masterEntry, ghostEntry, anewb, childStatus, childEntries}
+use Rattle.shares.specs.Grow.{freshEntries, entries}
 use Rattle.shares.specs.Settled.{Settled}
 use Rattle.shares.specs.Share.{Named}
 use Rattle.merging.specs.Distinct.{NoDup}

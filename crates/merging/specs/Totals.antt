@@ -25,7 +25,8 @@ use Rattle.rounds.specs.Rounds.{State, capped, largest, sized}
 use Rattle.rounds.specs.Among.{largest-in}
 use Rattle.rounds.specs.Totals.{Plain}
 use Rattle.splitting.specs.Paths.{new-length}
-use Rattle.shares.specs.Grow.{statusNew, pairHeld, freshStatus, staysb, masterEntry, ghostEntry, anewb, childStatus, childEntries, freshEntries, entries}
+use Rattle.shares.specs.Grow.{statusNew, pairHeld, freshStatus, staysb, masterEntry, ghostEntry, anewb, childStatus, childEntries}
+use Rattle.shares.specs.Grow.{freshEntries, entries}
 use Rattle.shares.specs.Settled.{Settled, entriesIn, ownIn}
 use Rattle.shares.specs.Present.{newEntry, masters-in}
 use Rattle.merging.specs.Distinct.{NoDup}

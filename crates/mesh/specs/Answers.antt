@@ -44,7 +44,8 @@ newTable n qs ss ms = flatten (stepTable n qs ss ms)
 -- Rule 7.8: 8 for a level too many, then 9 for too many cells.
 unfoldable pub limitsAnswer : ℕ → List (List ℕ) → List ℕ → List ℕ → Answer
 unfolding refuse stepTable
-limitsAnswer n qs ss ms = refuse 8 (leb (length (stepTable n qs ss ms)) mostLevels) (refuse 9 (leb (length (newTable n qs ss ms)) mostCells) Accepted)
+limitsAnswer n qs ss ms = refuse 8 (leb (length (stepTable n qs ss ms)) mostLevels)
+    (refuse 9 (leb (length (newTable n qs ss ms)) mostCells) Accepted)
 
 unfoldable pub markedAnswer : List ℤ → List ℕ → List ℕ → List ℕ → Answer
 unfolding refuse andThen tableAnswer marksb limitsAnswer

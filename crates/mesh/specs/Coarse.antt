@@ -58,9 +58,12 @@ unfoldable pub determinant : List ℤ → List ℕ → ℤ
 unfolding coordinateAt
 determinant ps q =
     let ax = coordinateAt ps (getD q 0 0) 0 in let ay = coordinateAt ps (getD q 0 0) 1 in let az = coordinateAt ps (getD q 0 0) 2 in
-    let bx = coordinateAt ps (getD q 1 0) 0 -ℤ ax in let by = coordinateAt ps (getD q 1 0) 1 -ℤ ay in let bz = coordinateAt ps (getD q 1 0) 2 -ℤ az in
-    let cx = coordinateAt ps (getD q 2 0) 0 -ℤ ax in let cy = coordinateAt ps (getD q 2 0) 1 -ℤ ay in let cz = coordinateAt ps (getD q 2 0) 2 -ℤ az in
-    let dx = coordinateAt ps (getD q 3 0) 0 -ℤ ax in let dy = coordinateAt ps (getD q 3 0) 1 -ℤ ay in let dz = coordinateAt ps (getD q 3 0) 2 -ℤ az in
+    let bx = coordinateAt ps (getD q 1 0) 0 -ℤ ax in let by = coordinateAt ps (getD q 1 0) 1 -ℤ ay in
+    let bz = coordinateAt ps (getD q 1 0) 2 -ℤ az in
+    let cx = coordinateAt ps (getD q 2 0) 0 -ℤ ax in let cy = coordinateAt ps (getD q 2 0) 1 -ℤ ay in
+    let cz = coordinateAt ps (getD q 2 0) 2 -ℤ az in
+    let dx = coordinateAt ps (getD q 3 0) 0 -ℤ ax in let dy = coordinateAt ps (getD q 3 0) 1 -ℤ ay in
+    let dz = coordinateAt ps (getD q 3 0) 2 -ℤ az in
     bx *ℤ (cy *ℤ dz -ℤ cz *ℤ dy) -ℤ by *ℤ (cx *ℤ dz -ℤ cz *ℤ dx) +ℤ bz *ℤ (cx *ℤ dy -ℤ cy *ℤ dx)
 
 -- Rule 1.5: it is 0 for no cell, whatever its sign.

@@ -43,8 +43,12 @@ middle-test = tt
 
 middle-named : (d : ℕ) → d < 10 → eqb (low d) (high d) ≡ false → (edgeOf d < 6) × (middle (edgeOf d) ≡ d)
 middle-named d h e =
-    let t : T (ltb (edgeOf d) 6 && eqb (middle (edgeOf d)) d) = rw e at (belowb-at (λ d. eqb (low d) (high d) || (ltb (edgeOf d) 6 && eqb (middle (edgeOf d)) d)) 10 middle-test d h) in
-    (ltb→lt (edgeOf d) 6 (and-left (ltb (edgeOf d) 6) (eqb (middle (edgeOf d)) d) t), eqb→eq (middle (edgeOf d)) d (and-right (ltb (edgeOf d) 6) (eqb (middle (edgeOf d)) d) t))
+    let t : T (ltb (edgeOf d) 6 && eqb (middle (edgeOf d)) d) = rw e at
+    (belowb-at (λ d. eqb (low d) (high d) || (ltb (edgeOf d) 6 && eqb (middle (edgeOf d)) d)) 10 middle-test d h) in (
+      ltb→lt (edgeOf d) 6 (and-left (ltb (edgeOf d) 6) (eqb (middle (edgeOf d)) d) t),
+      eqb→eq (middle (edgeOf d)) d
+          (and-right (ltb (edgeOf d) 6) (eqb (middle (edgeOf d)) d) t),
+    )
 
 edge-named : (c : Cell Point) (d : ℕ) → middle (edgeOf d) ≡ d → edge [] c (edgeOf d) ≡ (corner [] c (low d), corner [] c (high d))
 unfolding edge
@@ -66,7 +70,8 @@ unfolding splitEdges memberb
 split-has ks c s a e h t =
     member-of (λ e. Has ks (mid (edge [] c e .0) (edge [] c e .1))) e (splitNumbers s)
     (all-unmapped (λ (e : Point × Point). Has ks (mid (e .0) (e .1))) (edge [] c) (splitNumbers s) a)
-    (filter-member (split (patternOf s)) e edgeNumbers (below-at (λ e. T (memberb e edgeNumbers)) 6 ((((((tt, tt), tt), tt), tt), tt), tt) e h) t)
+    (filter-member (split (patternOf s)) e edgeNumbers (below-at (λ e. T (memberb e edgeNumbers)) 6 ((((((tt, tt), tt), tt), tt), tt), tt) e
+    h) t)
 
 -- The point of a digit.
 pub record Numbered (n : ℕ) (ks ks′ : List Corner) (es : List Pair) (c : Cell Point) (d : ℕ) : Type 0 where
@@ -117,7 +122,8 @@ module _ (n k : ℕ) (h : k < 10) (ks ks′ : List Corner) (es : List Pair) (w :
         number =
             point-at-middle n es (mapCell (numberIn ks) c) d t
             ∙ ap₂ (λ (i j : ℕ). n + placeIn isb es (sorted (i, j))) (corner-number (low d) x4) (corner-number (high d) y)
-            ∙ sym (number-midpoint n ks′ es w q₀ q₁ b (kept-has ks ks′ kept q₀ (corner-has (low d) x4)) (kept-has ks ks′ kept q₁ (corner-has (high d) y)) v);
+            ∙ sym (number-midpoint n ks′ es w q₀ q₁ b (kept-has ks ks′ kept q₀ (corner-has (low d) x4))
+            (kept-has ks ks′ kept q₁ (corner-has (high d) y)) v);
       }
 
   numbered-present : (d : ℕ) → T (memberb d (present (patternOf s))) → Numbered n ks ks′ es c d
@@ -135,28 +141,33 @@ module _ (n k : ℕ) (h : k < 10) (ks ks′ : List Corner) (es : List Pair) (w :
   module _ (c : Cell Point) (p : Placed ks c) (s : ℕ) (a : SplitIn ks′ c s) where
     module _ (r : Regular n k c) where
       child-numbered : (d : List ℕ) → ChildFacts (patternOf s) d → All (Numbered n ks ks′ es c) d
-      child-numbered d f = all-of (Numbered n ks ks′ es c) (λ x. memberb x (present (patternOf s))) (numbered-present n k h ks ks′ es w kept c p r s a) d (f .present)
+      child-numbered d f = all-of (Numbered n ks ks′ es c) (λ x. memberb x (present (patternOf s)))
+          (numbered-present n k h ks ks′ es w kept c p r s a) d (f .present)
 
-      family-placed : (j i : ℕ) (b : Bool) (ds : List (List ℕ)) → All (ChildFacts (patternOf s)) ds → All (Placed ks′) (childrenFrom j c b (point c) i ds)
+      family-placed : (j i : ℕ) (b : Bool) (ds : List (List ℕ)) → All (ChildFacts (patternOf s)) ds
+          → All (Placed ks′) (childrenFrom j c b (point c) i ds)
       unfolding childrenFrom
       family-placed j i b [] f = tt
       family-placed j i b (d ∷ ds) f = (
         record {
           four = length-map d (point c) ∙ f .0 .four;
-          each = all-mapped (Has ks′) (point c) d (all-more (Numbered n ks ks′ es c) (λ x. Has ks′ (point c x)) (λ x m. m .has) d (child-numbered d (f .0)));
+          each = all-mapped (Has ks′) (point c) d
+              (all-more (Numbered n ks ks′ es c) (λ x. Has ks′ (point c x)) (λ x m. m .has) d (child-numbered d (f .0)));
         },
         family-placed j (suc i) b ds (f .1),
       )
 
       family-numbers : (j i : ℕ) (b : Bool) (ds : List (List ℕ)) → All (ChildFacts (patternOf s)) ds
-          → childrenFrom j (mapCell (numberIn ks) c) b (pointAt n es (mapCell (numberIn ks) c)) i ds ≡ numberedCells ks′ (childrenFrom j c b (point c) i ds)
+          → childrenFrom j (mapCell (numberIn ks) c) b (pointAt n es (mapCell (numberIn ks) c)) i ds ≡ numberedCells ks′
+          (childrenFrom j c b (point c) i ds)
       unfolding childrenFrom mapCell
       family-numbers j i b [] f = refl
       family-numbers j i b (d ∷ ds) f =
           ap₂ _∷_
           (ap {A = List ℕ} {B = Cell ℕ} (λ l. record { path = c .path ++ (i ∷ []); parent = j; regular = b; points = l })
           (map-more (point c) (numberIn ks′) (pointAt n es (mapCell (numberIn ks) c)) d
-          (all-more (Numbered n ks ks′ es c) (λ x. pointAt n es (mapCell (numberIn ks) c) x ≡ numberIn ks′ (point c x)) (λ x m. m .number) d (child-numbered d (f .0)))))
+          (all-more (Numbered n ks ks′ es c) (λ x. pointAt n es (mapCell (numberIn ks) c) x ≡ numberIn ks′ (point c x)) (λ x m. m .number) d
+          (child-numbered d (f .0)))))
           (family-numbers j (suc i) b ds (f .1))
 
     module _ (r : IfRegular n k c) (f : Follows c s) where
@@ -166,18 +177,23 @@ module _ (n k : ℕ) (h : k < 10) (ks ks′ : List Corner) (es : List Pair) (w :
         where
           go : (z : Bool) → eqb s 0 ≡ z → All (Placed ks′) (children j c s (point c))
           go true e = rw (e, children) tt
-          go false e = rw (e, children) (family-placed (r (f .regular (eqb-false s 0 e))) j 0 (redb s) (family (patternOf s)) (family-children (patternOf s) (pattern-below s (f .small))))
+          go false e = rw (e, children) (family-placed (r (f .regular (eqb-false s 0 e))) j 0 (redb s) (family (patternOf s))
+              (family-children (patternOf s) (pattern-below s (f .small))))
 
-      children-numbers : (j : ℕ) → children j (mapCell (numberIn ks) c) s (pointAt n es (mapCell (numberIn ks) c)) ≡ numberedCells ks′ (children j c s (point c))
+      children-numbers : (j : ℕ) → children j (mapCell (numberIn ks) c) s (pointAt n es (mapCell (numberIn ks) c)) ≡ numberedCells ks′
+          (children j c s (point c))
       unfolding children
       children-numbers j = go (eqb s 0) refl
         where
-          go : (z : Bool) → eqb s 0 ≡ z → children j (mapCell (numberIn ks) c) s (pointAt n es (mapCell (numberIn ks) c)) ≡ numberedCells ks′ (children j c s (point c))
+          go : (z : Bool) → eqb s 0 ≡ z → children j (mapCell (numberIn ks) c) s (pointAt n es (mapCell (numberIn ks) c)) ≡ numberedCells
+              ks′ (children j c s (point c))
           go true e = rw (e, children) refl
-          go false e = rw (e, children) (family-numbers (r (f .regular (eqb-false s 0 e))) j 0 (redb s) (family (patternOf s)) (family-children (patternOf s) (pattern-below s (f .small))))
+          go false e = rw (e, children) (family-numbers (r (f .regular (eqb-false s 0 e))) j 0 (redb s) (family (patternOf s))
+              (family-children (patternOf s) (pattern-below s (f .small))))
 
   -- The families of a level.
-  pub next-placed : (j : ℕ) (cs : List (Cell Point)) (ss : List ℕ) → All (Placed ks) cs → All (IfRegular n k) cs → Refined cs ss → Both (SplitIn ks′) cs ss
+  pub next-placed : (j : ℕ) (cs : List (Cell Point)) (ss : List ℕ) → All (Placed ks) cs → All (IfRegular n k) cs → Refined cs ss
+      → Both (SplitIn ks′) cs ss
       → All (Placed ks′) (next j cs ss)
   unfolding next
   next-placed j [] ss p r f a = tt
@@ -186,7 +202,8 @@ module _ (n k : ℕ) (h : k < 10) (ks ks′ : List Corner) (es : List Pair) (w :
       all-append (Placed ks′) (children j c s (point c)) (next (suc j) cs ss) (children-placed c (p .0) s (a .0) (r .0) (f .0) j)
       (next-placed (suc j) cs ss (p .1) (r .1) (f .1) (a .1))
 
-  pub next-numbers : (j : ℕ) (cs : List (Cell Point)) (ss : List ℕ) → All (Placed ks) cs → All (IfRegular n k) cs → Refined cs ss → Both (SplitIn ks′) cs ss
+  pub next-numbers : (j : ℕ) (cs : List (Cell Point)) (ss : List ℕ) → All (Placed ks) cs → All (IfRegular n k) cs → Refined cs ss
+      → Both (SplitIn ks′) cs ss
       → nextOf n es j (numberedCells ks cs) ss ≡ numberedCells ks′ (next j cs ss)
   unfolding next nextOf
   next-numbers j [] ss p r f a = refl

@@ -29,7 +29,8 @@ unfoldable pub coarseNumbers : List (List ℕ) → List (Cell ℕ)
 unfolding coarseNumbersFrom
 coarseNumbers qs = coarseNumbersFrom 0 qs
 
-rising : (n : ℕ) (q : List ℕ) → T (cellb n q) → (getD q 0 0 < getD q 1 0) × (getD q 1 0 < getD q 2 0) × (getD q 2 0 < getD q 3 0) × (getD q 3 0 < n)
+rising : (n : ℕ) (q : List ℕ) → T (cellb n q) → (getD q 0 0 < getD q 1 0) × (getD q 1 0 < getD q 2 0) × (getD q 2 0 < getD q 3 0)
+    × (getD q 3 0 < n)
 unfolding cellb
 rising n q t = search (and-left, and-right, ltb→lt)
 
@@ -51,11 +52,15 @@ module _ (n : ℕ) (ks : List Corner) (es : List Pair) (c : NumberedCorners n ks
   unfolding coarseFrom cellsb allb
   coarse-placed-from i [] e t = tt
   coarse-placed-from i (q ∷ qs) e t = (
-    record { four = length-map q (coarse n) ∙ e .0; each = coarse-has q (cell-below n q (e .0) (and-left (cellb n q) (allb (cellb n) qs) t)) },
+    record {
+      four = length-map q (coarse n) ∙ e .0;
+      each = coarse-has q (cell-below n q (e .0) (and-left (cellb n q) (allb (cellb n) qs) t));
+    },
     coarse-placed-from (suc i) qs (e .1) (and-right (cellb n q) (allb (cellb n) qs) t),
   )
 
-  coarse-numbers-from : (i : ℕ) (qs : List (List ℕ)) → All (λ q. length q ≡ 4) qs → T (cellsb n qs) → numberedCells ks (coarseFrom n i qs) ≡ coarseNumbersFrom i qs
+  coarse-numbers-from : (i : ℕ) (qs : List (List ℕ)) → All (λ q. length q ≡ 4) qs → T (cellsb n qs)
+      → numberedCells ks (coarseFrom n i qs) ≡ coarseNumbersFrom i qs
   unfolding coarseFrom coarseNumbersFrom cellsb allb mapCell
   coarse-numbers-from i [] e t = refl
   coarse-numbers-from i (q ∷ qs) e t =

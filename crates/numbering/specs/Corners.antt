@@ -20,7 +20,8 @@ use native.Mathlib.Omega.{arith}
 use lib.ListN.{length, getD, take, replicate, length-append, length-map, length-replicate, getD-replicate, List·getD-append, List·getD-map}
 use lib.Seq.{take-all, getD-take, getD-set-same, getD-set-other, getD-at}
 use Rattle.base.specs.Lists.{sameb}
-use Rattle.base.specs.Places.{hasb, placeIn, Distinct, has-at, has-below, has-append, place-there, place-append, distinct-nil, distinct-snoc, same-list}
+use Rattle.base.specs.Places.{hasb, placeIn, Distinct, has-at, has-below, has-append, place-there, place-append, distinct-nil}
+use Rattle.base.specs.Places.{distinct-snoc, same-list}
 use Rattle.base.specs.Bools.{either}
 use Rattle.mesh.specs.Weights.{Point, coarse, mid}
 use Rattle.mesh.specs.Layout.{Corner, weightsOf, numberIn, coarseCorners, coarseCornersTo}
@@ -139,7 +140,8 @@ module _ (n : ℕ) where
   coarse-distinct zero h = distinct-nil sameb [] same-list
   coarse-distinct (suc m) h =
       rw map-append (distinct-snoc sameb [] same-list (weightsOf (coarseCornersTo n m)) (coarse n m) (coarse-distinct m (omega arith))
-      (⊎-elim (λ (t : Has (coarseCornersTo n m) (coarse n m)). absurd (old t)) (λ t. t) (either (hasb sameb (weightsOf (coarseCornersTo n m)) (coarse n m)))))
+      (⊎-elim (λ (t : Has (coarseCornersTo n m) (coarse n m)). absurd (old t)) (λ t. t)
+      (either (hasb sameb (weightsOf (coarseCornersTo n m)) (coarse n m)))))
     where
       old : Has (coarseCornersTo n m) (coarse n m) → ⊥
       old t =
@@ -181,5 +183,6 @@ module _ (n : ℕ) (ks : List Corner) (es : List Pair) (c : NumberedCorners n ks
       fine : (j : ℕ) → i ≡ n + j → j < length es → Sized n (weightsAt ks i)
       fine j e l = let m = c .midpoint j l in rw (e, m .middle) (mid-sized n _ _ (m .ends))
 
-  pub even-sum : (j : ℕ) → j < length es → (i : ℕ) → (getD (weightsAt ks (endsAt es j .0)) i 0 + getD (weightsAt ks (endsAt es j .1)) i 0) % 2 ≡ 0
+  pub even-sum : (j : ℕ) → j < length es → (i : ℕ) → (getD (weightsAt ks (endsAt es j .0)) i 0 + getD (weightsAt ks (endsAt es j .1)) i 0) %
+      2 ≡ 0
   even-sum j h i = ends-even n _ _ (c .midpoint j h .ends) i

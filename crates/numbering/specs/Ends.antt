@@ -100,7 +100,8 @@ pub mid-ends : (n : ℕ) (p q p' q' : Point) → Splittable n p q → Splittable
     → ((p ≡ p') × (q ≡ q')) ⊎ ((p ≡ q') × (q ≡ p'))
 mid-ends n p q p' q' s t m =
     go (s .ends) (t .ends)
-    (same-mid-edge n (s .level) (t .level) (s .cell) (t .cell) (s .fine) (t .fine) (s .regular) (t .regular) (s .number) (t .number) (s .sixth) (t .sixth)
+    (same-mid-edge n (s .level) (t .level) (s .cell) (t .cell) (s .fine) (t .fine) (s .regular) (t .regular) (s .number) (t .number)
+    (s .sixth) (t .sixth)
     (mid-edge n p q s ∙ m ∙ sym (mid-edge n p' q' t)) .0)
   where
     go : (edge [] (s .cell) (s .number) ≡ (p, q)) ⊎ (edge [] (s .cell) (s .number) ≡ (q, p))

@@ -45,7 +45,8 @@ leaf-next j [] ss l = refl
 leaf-next j (c ∷ cs) [] l = refl
 leaf-next j (c ∷ cs) (s ∷ ss) l = rw (l .0) (leaf-next (suc j) cs ss (l .1))
 
-pub leaf-numbers : (n j : ℕ) (ks : List Corner) (es : List Pair) (cs : List (Cell Point)) (ss : List ℕ) → Leaves cs ss → nextOf n es j (numberedCells ks cs) ss ≡ []
+pub leaf-numbers : (n j : ℕ) (ks : List Corner) (es : List Pair) (cs : List (Cell Point)) (ss : List ℕ) → Leaves cs ss
+    → nextOf n es j (numberedCells ks cs) ss ≡ []
 unfolding nextOf children
 leaf-numbers n j ks es [] ss l = refl
 leaf-numbers n j ks es (c ∷ cs) [] l = refl
@@ -63,7 +64,8 @@ children-none j c s h e = go (eqb s 0) refl (family (patternOf s)) refl
     go : (z : Bool) → eqb s 0 ≡ z → (f : List (List ℕ)) → family (patternOf s) ≡ f → s ≡ 0
     go true t f u = eqb-true s 0 t
     go false t [] u = absurd (family-some (patternOf s) (pattern-below s h) u)
-    go false t (d ∷ f) u = let z : length (childrenFrom j c (redb s) (point c) 0 (d ∷ f)) ≡ 0 = rw (t, u, children) at e in absurd (omega arith)
+    go false t (d ∷ f) u = let z : length (childrenFrom j c (redb s) (point c) 0 (d ∷ f)) ≡ 0 = rw (t, u, children) at e in
+        absurd (omega arith)
 
 pub next-leaves : (j : ℕ) (cs : List (Cell Point)) (ss : List ℕ) → Refined cs ss → length (next j cs ss) ≡ 0 → Leaves cs ss
 unfolding next

@@ -60,44 +60,53 @@ edges-has : (ks : List Corner) (l : List (Point × Point)) → All (λ e. Has (a
 unfolding addCorners
 edges-has ks [] = tt
 edges-has ks (e ∷ l) = (
-  kept-has (addCorner ks e) (addCorners (addCorner ks e) l) (edges-added (addCorner ks e) l) (mid (e .0) (e .1)) (added-has ks (e .0) (e .1)),
+  kept-has (addCorner ks e) (addCorners (addCorner ks e) l) (edges-added (addCorner ks e) l) (mid (e .0) (e .1))
+      (added-has ks (e .0) (e .1)),
   edges-has (addCorner ks e) l,
 )
 
-edges-corners : (n : ℕ) (ks : List Corner) (es : List Pair) (l : List (Point × Point)) → NumberedCorners n ks es → All (λ e. Splittable n (e .0) (e .1)) l
+edges-corners : (n : ℕ) (ks : List Corner) (es : List Pair) (l : List (Point × Point)) → NumberedCorners n ks es
+    → All (λ e. Splittable n (e .0) (e .1)) l
     → All (EndsPlaced ks) l → NumberedCorners n (addCorners ks l) (addPairs es (map (edgeIn ks) l))
 unfolding addCorners addPairs
 edges-corners n ks es [] c s p = c
 edges-corners n ks es (e ∷ l) c s p =
     let k = added-kept ks e in
     rw (edges-kept ks (addCorner ks e) k l (p .1)) at (edges-corners n (addCorner ks e) (addPair es (edgeIn ks e)) l
-    (corners-add n ks es c (e .0) (e .1) (s .0) (p .0 .0) (p .0 .1)) (s .1) (all-more (EndsPlaced ks) (EndsPlaced (addCorner ks e)) (ends-kept ks (addCorner ks e) k) l (p .1)))
+    (corners-add n ks es c (e .0) (e .1) (s .0) (p .0 .0) (p .0 .1)) (s .1)
+    (all-more (EndsPlaced ks) (EndsPlaced (addCorner ks e)) (ends-kept ks (addCorner ks e) k) l (p .1)))
 
 -- One cell: its split edges.
 split-none : {A : Type 0} (o : A) (c : Cell A) → splitEdges o c 0 ≡ []
 unfolding splitEdges
 split-none o c = refl
 
-split-splittable : (n k : ℕ) → k < 10 → (c : Cell Point) → Regular n k c → (s : ℕ) → All (λ e. Splittable n (e .0) (e .1)) (splitEdges [] c s)
+split-splittable : (n k : ℕ) → k < 10 → (c : Cell Point) → Regular n k c → (s : ℕ)
+    → All (λ e. Splittable n (e .0) (e .1)) (splitEdges [] c s)
 unfolding splitEdges
 split-splittable n k h c r s =
     all-mapped (λ (e : Point × Point). Splittable n (e .0) (e .1)) (edge [] c) (splitNumbers s)
-    (all-more (λ e. e < 6) (λ e. Splittable n (edge [] c e .0) (edge [] c e .1)) (edge-splittable n k c h r) (splitNumbers s) (split-numbers s))
+    (all-more (λ e. e < 6) (λ e. Splittable n (edge [] c e .0) (edge [] c e .1)) (edge-splittable n k c h r) (splitNumbers s)
+    (split-numbers s))
 
 module _ (n k : ℕ) (h : k < 10) where
-  cell-corners : (ks : List Corner) (es : List Pair) (c : Cell Point) (s : ℕ) → NumberedCorners n ks es → Placed ks c → IfRegular n k c → Follows c s
+  cell-corners : (ks : List Corner) (es : List Pair) (c : Cell Point) (s : ℕ) → NumberedCorners n ks es → Placed ks c → IfRegular n k c
+      → Follows c s
       → NumberedCorners n (addCorners ks (splitEdges [] c s)) (addPairs es (splitEdges 0 (mapCell (numberIn ks) c) s))
   unfolding addCorners addPairs
   cell-corners ks es c s w p r f = go (eqb s 0) refl
     where
-      go : (b : Bool) → eqb s 0 ≡ b → NumberedCorners n (addCorners ks (splitEdges [] c s)) (addPairs es (splitEdges 0 (mapCell (numberIn ks) c) s))
+      go : (b : Bool) → eqb s 0 ≡ b → NumberedCorners n (addCorners ks (splitEdges [] c s))
+          (addPairs es (splitEdges 0 (mapCell (numberIn ks) c) s))
       go true e = rw (eqb-true s 0 e, split-none [] c, split-none 0 (mapCell (numberIn ks) c)) w
       go false e =
           rw (split-edges-map [] 0 (numberIn ks) (Has ks) c p s)
-          (edges-corners n ks es (splitEdges [] c s) w (split-splittable n k h c (r (f .regular (eqb-false s 0 e))) s) (split-edges-in [] 0 (numberIn ks) (Has ks) c p s))
+          (edges-corners n ks es (splitEdges [] c s) w (split-splittable n k h c (r (f .regular (eqb-false s 0 e))) s)
+          (split-edges-in [] 0 (numberIn ks) (Has ks) c p s))
 
   -- The cells of a level, one after another.
-  pub level-corners : (ks : List Corner) (es : List Pair) (cs : List (Cell Point)) (ss : List ℕ) → NumberedCorners n ks es → All (Placed ks) cs → All (IfRegular n k) cs → Refined cs ss
+  pub level-corners : (ks : List Corner) (es : List Pair) (cs : List (Cell Point)) (ss : List ℕ) → NumberedCorners n ks es
+      → All (Placed ks) cs → All (IfRegular n k) cs → Refined cs ss
       → NumberedCorners n (cornersFrom ks cs ss) (endsFrom es (numberedCells ks cs) ss)
   unfolding cornersFrom endsFrom
   level-corners ks es [] ss w p r f = w

@@ -15,13 +15,16 @@ use native.Mathlib.Omega.{arith}
 use lib.ListN.{length, length-append, List·getD-append}
 use lib.Seq.{take-append-le, getD-at}
 use Rattle.base.specs.Lists.{sameb}
-use Rattle.base.specs.Places.{hasb, placeIn, has-at, has-below, has-append, place-there, distinct-snoc, same-list, sameb-self, add-old, add-new}
+use Rattle.base.specs.Places.{hasb, placeIn, has-at, has-below, has-append, place-there, distinct-snoc, same-list, sameb-self, add-old}
+use Rattle.base.specs.Places.{add-new}
 use Rattle.base.specs.Bools.{either}
 use Rattle.mesh.specs.Weights.{Point, mid}
 use Rattle.mesh.specs.Layout.{Corner, weightsOf, numberIn, addCorner}
 use Rattle.edges.specs.Pairs.{Pair, sorted, isb, addPair, same-pair, test-ext}
 use Rattle.numbering.specs.Ends.{Splittable, splittable-turned, mid-comm, mid-fine, mid-ends, ends-differ}
-use Rattle.numbering.specs.Corners.{noCorner, cornerAt, weightsAt, endsAt, Has, Kept, Midpoint, NumberedCorners, number-there, number-below, number-own, number-injective, has-corner, kept-corner, kept-weights, kept-has, kept-number, weights-coarse}
+use Rattle.numbering.specs.Corners.{noCorner, cornerAt, weightsAt, endsAt, Has, Kept, Midpoint, NumberedCorners, number-there}
+use Rattle.numbering.specs.Corners.{number-below, number-own, number-injective, has-corner, kept-corner, kept-weights, kept-has}
+use Rattle.numbering.specs.Corners.{kept-number, weights-coarse}
 
 -- the pair of the numbers of two points
 abbrev pairIn : List Corner → Point → Point → Pair
@@ -51,7 +54,8 @@ module _ (ks : List Corner) (e : Point × Point) where
 
   pub added-kept : Kept ks (addCorner ks e)
   added-kept =
-      ⊎-elim (λ t. record { more = []; longer = corner-old t ∙ sym (append-nil ks) }) (λ t. record { more = newCorner ∷ []; longer = corner-new t })
+      ⊎-elim (λ t. record { more = []; longer = corner-old t ∙ sym (append-nil ks) })
+      (λ t. record { more = newCorner ∷ []; longer = corner-new t })
       (either (hasb sameb (weightsOf ks) (mid (e .0) (e .1))))
 
 pub added-has : (ks : List Corner) (p q : Point) → Has (addCorner ks (p, q)) (mid p q)
@@ -78,7 +82,8 @@ midpoint-kept n ks ks′ i e k h m =
     }
 
 -- The midpoint of an edge is among the corners where the pair of the edge's ends is among the ends, and at its place.
-module _ (n : ℕ) (ks : List Corner) (es : List Pair) (c : NumberedCorners n ks es) (p q : Point) (s : Splittable n p q) (hp : Has ks p) (hq : Has ks q) where
+module _ (n : ℕ) (ks : List Corner) (es : List Pair) (c : NumberedCorners n ks es) (p q : Point) (s : Splittable n p q) (hp : Has ks p)
+    (hq : Has ks q) where
   -- a pair whose corners have these weights is the pair of these ends
   pair-of : (e : Pair) → e .0 < e .1 → e .1 < length ks → EndsOf ks e p q → e ≡ pairIn ks p q
   unfolding sorted
@@ -104,8 +109,10 @@ module _ (n : ℕ) (ks : List Corner) (es : List Pair) (c : NumberedCorners n ks
       fine : (j : ℕ) → i ≡ n + j → j < length es → hasb isb es (pairIn ks p q) ≡ true
       fine j e h =
           let m = c .midpoint j h in
-          let w : mid (weightsAt ks (endsAt es j .0)) (weightsAt ks (endsAt es j .1)) ≡ mid p q = sym (m .middle) ∙ ap (weightsAt ks) (sym e) ∙ number-there ks (mid p q) t in
-          let f : endsAt es j ≡ pairIn ks p q = pair-of (endsAt es j) (m .order) (omega (arith, m .before, c .count)) (mid-ends n _ _ p q (m .ends) s w) in
+          let w : mid (weightsAt ks (endsAt es j .0)) (weightsAt ks (endsAt es j .1)) ≡ mid p q = sym (m .middle)
+          ∙ ap (weightsAt ks) (sym e) ∙ number-there ks (mid p q) t in
+          let f : endsAt es j ≡ pairIn ks p q = pair-of (endsAt es j) (m .order) (omega (arith, m .before, c .count))
+          (mid-ends n _ _ p q (m .ends) s w) in
           rw (← f) (has-at isb (0, 0) same-pair es j h)
 
   -- the pair names the two ends, in one order or the other
@@ -117,8 +124,10 @@ module _ (n : ℕ) (ks : List Corner) (es : List Pair) (c : NumberedCorners n ks
       let x : weightsAt ks a ≡ p = number-there ks p hp in
       let y : weightsAt ks b ≡ q = number-there ks q hq in
       elim (decLt a b) [
-        | yes h ↦ let u : min a b ≡ a = omega arith in let v : max a b ≡ b = omega arith in inl (ap (weightsAt ks) u ∙ x, ap (weightsAt ks) v ∙ y)
-        | no h ↦ let u : min a b ≡ b = omega arith in let v : max a b ≡ a = omega arith in inr (ap (weightsAt ks) u ∙ y, ap (weightsAt ks) v ∙ x)
+        | yes h ↦ let u : min a b ≡ a = omega arith in let v : max a b ≡ b = omega arith in
+            inl (ap (weightsAt ks) u ∙ x, ap (weightsAt ks) v ∙ y)
+        | no h ↦ let u : min a b ≡ b = omega arith in let v : max a b ≡ a = omega arith in
+            inr (ap (weightsAt ks) u ∙ y, ap (weightsAt ks) v ∙ x)
       ]
 
   pair-mid : mid (weightsAt ks (pairIn ks p q .0)) (weightsAt ks (pairIn ks p q .1)) ≡ mid p q
@@ -139,7 +148,8 @@ module _ (n : ℕ) (ks : List Corner) (es : List Pair) (c : NumberedCorners n ks
   pair-there t =
       let j = placeIn isb es (pairIn ks p q) in
       let m = c .midpoint j (has-below isb es (pairIn ks p q) t) in
-      m .middle ∙ ap (λ (e : Pair). mid (weightsAt ks (e .0)) (weightsAt ks (e .1))) (place-there isb (0, 0) same-pair es (pairIn ks p q) t) ∙ pair-mid
+      m .middle ∙ ap (λ (e : Pair). mid (weightsAt ks (e .0)) (weightsAt ks (e .1))) (place-there isb (0, 0) same-pair es (pairIn ks p q) t)
+      ∙ pair-mid
 
   pair-below : hasb isb es (pairIn ks p q) ≡ true → n + placeIn isb es (pairIn ks p q) < length ks
   pair-below t = omega (arith, has-below isb es (pairIn ks p q) t, c .count)
@@ -213,14 +223,17 @@ module _ (n : ℕ) (ks : List Corner) (es : List Pair) (c : NumberedCorners n ks
   unfolding addPair
   corners-add =
       ⊎-elim (λ (t : Has ks (mid p q)). rw (corner-old ks (p, q) t, add-old isb es (pairIn ks p q) (sym has-midpoint ∙ t)) c)
-      (λ (t : hasb sameb (weightsOf ks) (mid p q) ≡ false). rw (corner-new ks (p, q) t, add-new isb es (pairIn ks p q) (sym has-midpoint ∙ t)) (corners-longer t))
+      (λ (t : hasb sameb (weightsOf ks) (mid p q) ≡ false). rw
+      (corner-new ks (p, q) t, add-new isb es (pairIn ks p q) (sym has-midpoint ∙ t)) (corners-longer t))
       (either (hasb sameb (weightsOf ks) (mid p q)))
 
-module _ (n : ℕ) (ks : List Corner) (es : List Pair) (c : NumberedCorners n ks es) (p q : Point) (s : Splittable n p q) (hp : Has ks p) (hq : Has ks q) where
+module _ (n : ℕ) (ks : List Corner) (es : List Pair) (c : NumberedCorners n ks es) (p q : Point) (s : Splittable n p q) (hp : Has ks p)
+    (hq : Has ks q) where
   pub number-added : numberIn (addCorner ks (p, q)) (mid p q) ≡ n + placeIn isb (addPair es (numberIn ks p, numberIn ks q)) (pairIn ks p q)
   number-added =
       let ks₁ = addCorner ks (p, q) in
       let es₁ = addPair es (numberIn ks p, numberIn ks q) in
       let k = added-kept ks (p, q) in
-      number-midpoint n ks₁ es₁ (corners-add n ks es c p q s hp hq) p q s (kept-has ks ks₁ k p hp) (kept-has ks ks₁ k q hq) (added-has ks p q)
+      number-midpoint n ks₁ es₁ (corners-add n ks es c p q s hp hq) p q s (kept-has ks ks₁ k p hp) (kept-has ks ks₁ k q hq)
+      (added-has ks p q)
       ∙ ap₂ (λ (a b : ℕ). n + placeIn isb es₁ (sorted (a, b))) (kept-number ks ks₁ k p hp) (kept-number ks ks₁ k q hq)

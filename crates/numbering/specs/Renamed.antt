@@ -109,7 +109,8 @@ module _ {A B : Type 0} (o : A) (o′ : B) (f : A → B) (Q : A → Type 0) wher
       go true e i = rw (e, redEdges) (all-append (EndsIn Q) (edges o c) (redEdges o cs ss) (edges-in c (p .0)) i)
       go false e i = rw (e, redEdges) i
 
-  pub red-edges-map : (cs : List (Cell A)) (ss : List ℕ) → All (Points Q) cs → redEdges o′ (map (mapCell f) cs) ss ≡ map (mapEdge f) (redEdges o cs ss)
+  pub red-edges-map : (cs : List (Cell A)) (ss : List ℕ) → All (Points Q) cs → redEdges o′ (map (mapCell f) cs) ss ≡ map (mapEdge f)
+      (redEdges o cs ss)
   unfolding redEdges
   red-edges-map [] ss p = refl
   red-edges-map (c ∷ cs) [] p = refl
@@ -130,21 +131,30 @@ module _ {A B : Type 0} (o : A) (o′ : B) (same : A → A → Bool) (same′ : 
   joins-map : (e g : A × A) → EndsIn Q e → EndsIn Q g → joinsb same′ (mapEdge f e) (mapEdge f g) ≡ joinsb same e g
   unfolding joinsb
   joins-map e g p q =
-      rw (keeps (e .0) (g .0) (p .0) (q .0), keeps (e .1) (g .1) (p .1) (q .1), keeps (e .0) (g .1) (p .0) (q .1), keeps (e .1) (g .0) (p .1) (q .0))
+      rw (
+        keeps (e .0) (g .0) (p .0) (q .0),
+        keeps (e .1) (g .1) (p .1) (q .1),
+        keeps (e .0) (g .1) (p .0) (q .1),
+        keeps (e .1) (g .0)
+            (p .1) (q .0),
+      )
 
-  pub held-map : (es : List (A × A)) (e : A × A) → All (EndsIn Q) es → EndsIn Q e → heldb same′ (map (mapEdge f) es) (mapEdge f e) ≡ heldb same es e
+  pub held-map : (es : List (A × A)) (e : A × A) → All (EndsIn Q) es → EndsIn Q e → heldb same′ (map (mapEdge f) es) (mapEdge f e) ≡ heldb
+      same es e
   unfolding heldb anyb
   held-map [] e p q = refl
   held-map (g ∷ es) e p q = rw (joins-map e g q (p .0), held-map es e (p .1) q)
 
-  helds-map : (es l : List (A × A)) → All (EndsIn Q) es → All (EndsIn Q) l → map (heldb same′ (map (mapEdge f) es)) (map (mapEdge f) l) ≡ map (heldb same es) l
+  helds-map : (es l : List (A × A)) → All (EndsIn Q) es → All (EndsIn Q) l → map (heldb same′ (map (mapEdge f) es)) (map (mapEdge f) l)
+      ≡ map (heldb same es) l
   helds-map es [] p q = refl
   helds-map es (e ∷ l) p q = ap₂ _∷_ (held-map es e p (q .0)) (helds-map es l p (q .1))
 
   pattern-map : (es : List (A × A)) (c : Cell A) → All (EndsIn Q) es → Points Q c
       → pattern o′ same′ (map (mapEdge f) es) (mapCell f c) ≡ pattern o same es c
   unfolding pattern
-  pattern-map es c p q = ap bitsOf (ap (map (heldb same′ (map (mapEdge f) es))) (edges-map o o′ f Q c q) ∙ helds-map es (edges o c) p (edges-in o o′ f Q c q))
+  pattern-map es c p q = ap bitsOf (ap (map (heldb same′ (map (mapEdge f) es))) (edges-map o o′ f Q c q)
+      ∙ helds-map es (edges o c) p (edges-in o o′ f Q c q))
 
   pub status-map : (es : List (A × A)) (r : Bool) (c : Cell A) → All (EndsIn Q) es → Points Q c
       → statusOf o′ same′ (map (mapEdge f) es) r (mapCell f c) ≡ statusOf o same es r c
@@ -164,7 +174,8 @@ module _ {A B : Type 0} (o : A) (o′ : B) (same : A → A → Bool) (same′ : 
   apart-cell es d c p q r =
       rw (edges-map o o′ f Q d q, edges-map o o′ f Q c r)
       (all-map (mapEdge f) _ _ (edges o c)
-      (all-more (EndsIn Q) _ (λ e h. ap₂ (λ (x y : Bool). x || not y) (held-map (edges o d) e (edges-in o o′ f Q d q) h) (held-map es e p h)) (edges o c)
+      (all-more (EndsIn Q) _ (λ e h. ap₂ (λ (x y : Bool). x || not y) (held-map (edges o d) e (edges-in o o′ f Q d q) h)
+      (held-map es e p h)) (edges o c)
       (edges-in o o′ f Q c r)))
 
   pub apart-map : (cs : List (Cell A)) (ss : List ℕ) → All (Points Q) cs → apartOf o′ same′ (map (mapCell f) cs) ss ≡ apartOf o same cs ss
@@ -176,4 +187,5 @@ module _ {A B : Type 0} (o : A) (o′ : B) (same : A → A → Bool) (same′ : 
           ≡ apartCell o same (redEdges o cs ss) (getD cs (c .parent) c) c
       at c q =
           rw (red-edges-map o o′ f Q cs ss p, List·getD-map (mapCell f) cs (c .parent) c)
-          (apart-cell (redEdges o cs ss) (getD cs (c .parent) c) c (red-edges-in o o′ f Q cs ss p) (all-default (Points Q) c cs p q (c .parent)) q)
+          (apart-cell (redEdges o cs ss) (getD cs (c .parent) c) c (red-edges-in o o′ f Q cs ss p)
+          (all-default (Points Q) c cs p q (c .parent)) q)

@@ -31,7 +31,8 @@ pub record Stage (n k : ℕ) (ks : List Corner) (es : List Pair) (cs : List (Cel
   pub placed : All (Placed ks) cs
   pub regular : All (IfRegular n k) cs
 
-pub stage-start : (n : ℕ) (qs : List (List ℕ)) → All (λ q. length q ≡ 4) qs → T (cellsb n qs) → Stage n 0 (coarseCorners n) [] (coarseCells n qs)
+pub stage-start : (n : ℕ) (qs : List (List ℕ)) → All (λ q. length q ≡ 4) qs → T (cellsb n qs)
+    → Stage n 0 (coarseCorners n) [] (coarseCells n qs)
 stage-start n qs e t =
     record {
       corners = corners-start n;
@@ -40,12 +41,14 @@ stage-start n qs e t =
     }
 
 -- One level up.
-pub record NextStage (n k j : ℕ) (ks : List Corner) (es : List Pair) (cs : List (Cell Point)) (ss : List ℕ) (ks′ : List Corner) (es′ : List Pair) : Type 0 where
+pub record NextStage (n k j : ℕ) (ks : List Corner) (es : List Pair) (cs : List (Cell Point)) (ss : List ℕ) (ks′ : List Corner)
+    (es′ : List Pair) : Type 0 where
   pub stage : Stage n (suc k) ks′ es′ (next j cs ss)
   pub kept : Kept ks ks′
   pub cells : nextOf n es′ j (numberedCells ks cs) ss ≡ numberedCells ks′ (next j cs ss)
 
-pub stage-next : (n k j : ℕ) (ks : List Corner) (es : List Pair) (cs : List (Cell Point)) (ss : List ℕ) → Stage n k ks es cs → k < 10 → Refined cs ss
+pub stage-next : (n k j : ℕ) (ks : List Corner) (es : List Pair) (cs : List (Cell Point)) (ss : List ℕ) → Stage n k ks es cs → k < 10
+    → Refined cs ss
     → NextStage n k j ks es cs ss (cornersFrom ks cs ss) (endsFrom es (numberedCells ks cs) ss)
 stage-next n k j ks es cs ss s h f =
     let ks′ = cornersFrom ks cs ss in
@@ -63,7 +66,8 @@ stage-next n k j ks es cs ss s h f =
       cells = next-numbers n k h ks ks′ es′ w kept j cs ss (s .placed) (s .regular) f (level-split ks cs ss);
     }
 
-pub stage-leaves : (n k j : ℕ) (ks : List Corner) (es : List Pair) (cs : List (Cell Point)) (ss : List ℕ) → Stage n k ks es cs → Leaves cs ss
+pub stage-leaves : (n k j : ℕ) (ks : List Corner) (es : List Pair) (cs : List (Cell Point)) (ss : List ℕ) → Stage n k ks es cs
+    → Leaves cs ss
     → NextStage n k j ks es cs ss (cornersFrom ks cs ss) (endsFrom es (numberedCells ks cs) ss)
 stage-leaves n k j ks es cs ss s l =
     let x = leaf-corners ks es cs ss l in

@@ -66,22 +66,26 @@ ends-append es (c ∷ cs) (d ∷ ds) [] = refl
 ends-append es (c ∷ cs) ds (s ∷ ss) = ends-append (addPairs es (splitEdges 0 c s)) cs ds ss
 
 ends-up : (ks ks′ : List Corner) (es : List Pair) (cs ds : List (Cell Point)) (ss : List ℕ) → numberedCells ks′ cs ≡ numberedCells ks cs
-    → endsFrom es (numberedCells ks′ (cs ++ ds)) ss ≡ endsFrom (endsFrom es (numberedCells ks cs) (take (length cs) ss)) (numberedCells ks′ ds) (drop (length cs) ss)
+    → endsFrom es (numberedCells ks′ (cs ++ ds)) ss ≡ endsFrom (endsFrom es (numberedCells ks cs) (take (length cs) ss))
+    (numberedCells ks′ ds) (drop (length cs) ss)
 ends-up ks ks′ es cs ds ss e =
-    rw (map-append (mapCell (numberIn ks′)) cs ds, e) (ends-append es (numberedCells ks cs) (numberedCells ks′ ds) ss ∙ rw (length-map cs (mapCell (numberIn ks))))
+    rw (map-append (mapCell (numberIn ks′)) cs ds, e) (ends-append es (numberedCells ks cs) (numberedCells ks′ ds) ss
+    ∙ rw (length-map cs (mapCell (numberIn ks))))
 
 abbrev Onward : ℕ → List Corner → List Pair → List ℕ → List Level → List (List (Cell ℕ)) → Type 0
 Onward n ks es ss ls ns =
     let last = cornersFrom ks (cellsOf ls) ss in
     Numbers n last (endsFrom es (numberedCells last (cellsOf ls)) ss) ls ns
 
-onward-none : (n : ℕ) (ks : List Corner) (es : List Pair) (ss : List ℕ) (ns : List (List (Cell ℕ))) → NumberedCorners n ks es → ns ≡ [] → Onward n ks es ss [] ns
+onward-none : (n : ℕ) (ks : List Corner) (es : List Pair) (ss : List ℕ) (ns : List (List (Cell ℕ))) → NumberedCorners n ks es → ns ≡ []
+    → Onward n ks es ss [] ns
 unfolding cellsOf cornersFrom endsFrom
 onward-none n ks es ss ns c e = record { cells = e; corners = c; placed = tt }
 
 onward-more : (n : ℕ) (ks : List Corner) (es : List Pair) (ss : List ℕ) (l : Level) (ls : List Level) (ns ns′ : List (List (Cell ℕ)))
     → All (Placed ks) (l .cells) → ns′ ≡ numberedCells ks (l .cells) ∷ ns
-    → Onward n (cornersFrom ks (l .cells) (take (length (l .cells)) ss)) (endsFrom es (numberedCells ks (l .cells)) (take (length (l .cells)) ss))
+    → Onward n (cornersFrom ks (l .cells) (take (length (l .cells)) ss))
+    (endsFrom es (numberedCells ks (l .cells)) (take (length (l .cells)) ss))
     (drop (length (l .cells)) ss) ls ns
     → Onward n ks es ss (l ∷ ls) ns′
 unfolding cellsOf
@@ -106,8 +110,10 @@ unfolding levels
 levels-none m j [] ss e = refl
 levels-none m j (c ∷ cs) ss e = absurd (omega arith)
 
-stage-up : (n k m j : ℕ) (ks : List Corner) (es : List Pair) (cs : List (Cell Point)) (own rest : List ℕ) → k + suc m ≡ 12 → Stage n k ks es cs → Refined cs own
-    → (i : ℕ) → k + suc (length (levels m i (next j cs own) rest)) ≤ 11 → NextStage n k j ks es cs own (cornersFrom ks cs own) (endsFrom es (numberedCells ks cs) own)
+stage-up : (n k m j : ℕ) (ks : List Corner) (es : List Pair) (cs : List (Cell Point)) (own rest : List ℕ) → k + suc m ≡ 12
+    → Stage n k ks es cs → Refined cs own
+    → (i : ℕ) → k + suc (length (levels m i (next j cs own) rest)) ≤ 11 → NextStage n k j ks es cs own (cornersFrom ks cs own)
+    (endsFrom es (numberedCells ks cs) own)
 stage-up n k zero j ks es cs own rest h s f i l = absurd (omega arith)
 stage-up n k (suc m) j ks es cs own rest h s f i l =
     elim (decLt k 10) [
@@ -120,7 +126,8 @@ number-levels : (n m j : ℕ) (es : List Pair) (c : Cell ℕ) (cs ds : List (Cel
     → numberLevels n (suc m) j es (c ∷ cs) ss ≡ (c ∷ cs) ∷ numberLevels n m (j + k) (endsFrom es (c ∷ cs) (take k ss)) ds (drop k ss)
 unfolding numberLevels
 number-levels n m j es c cs ds ss k e f =
-    ap (λ (k : ℕ). (c ∷ cs) ∷ numberLevels n m (j + k) (endsFrom es (c ∷ cs) (take k ss)) (nextOf n (endsFrom es (c ∷ cs) (take k ss)) j (c ∷ cs) (take k ss)) (drop k ss)) e
+    ap (λ (k : ℕ). (c ∷ cs) ∷ numberLevels n m (j + k) (endsFrom es (c ∷ cs) (take k ss))
+    (nextOf n (endsFrom es (c ∷ cs) (take k ss)) j (c ∷ cs) (take k ss)) (drop k ss)) e
     ∙ ap (λ (d : List (Cell ℕ)). (c ∷ cs) ∷ numberLevels n m (j + k) (endsFrom es (c ∷ cs) (take k ss)) d (drop k ss)) f
 
 -- what is to be shown of m levels
@@ -149,9 +156,11 @@ claim-more n m i k j ks es (c ∷ cs) ss h s f l =
     let ks₁ = cornersFrom ks (c ∷ cs) own in
     let es₁ = endsFrom es (numberedCells ks (c ∷ cs)) own in
     let x : NextStage n k j ks es (c ∷ cs) own ks₁ es₁ = stage-up n k m j ks es (c ∷ cs) own rest h s (f .0) (j + a) l in
-    onward-more n ks es ss (record { first = j; cells = c ∷ cs; statuses = own }) (levels m (j + a) up rest) (numberLevels n m (j + a) es₁ (numberedCells ks₁ up) rest)
+    onward-more n ks es ss (record { first = j; cells = c ∷ cs; statuses = own }) (levels m (j + a) up rest)
+    (numberLevels n m (j + a) es₁ (numberedCells ks₁ up) rest)
     (numberLevels n (suc m) j es (numberedCells ks (c ∷ cs)) ss) (s .placed)
-    (number-levels n m j es (mapCell (numberIn ks) c) (numberedCells ks cs) (numberedCells ks₁ up) ss a (ap suc (length-map cs (mapCell (numberIn ks)))) (x .cells))
+    (number-levels n m j es (mapCell (numberIn ks) c) (numberedCells ks cs) (numberedCells ks₁ up) ss a
+    (ap suc (length-map cs (mapCell (numberIn ks)))) (x .cells))
     (i (suc k) (j + a) ks₁ es₁ up rest (omega arith) (x .stage) (f .1) (omega arith))
 
 levels-numbers : (n m : ℕ) → Claim n m
@@ -170,8 +179,11 @@ module _ (n : ℕ) (qs : List (List ℕ)) (ss : List ℕ) (e : All (λ q. length
       → Numbers n (tableCorners n qs ss) (tableEnds n qs ss) (levelsOf n qs ss) (numberLevels n 12 0 [] (coarseNumbers qs) ss)
   unfolding levelsOf cornersOf
   table-numbers u l =
-      rw (coarse-numbers n (coarseCorners n) [] (corners-start n) qs e t) at (levels-numbers n 12 0 0 (coarseCorners n) [] (coarseCells n qs) ss refl
-      (stage-start n qs e t) (all-of (λ (l : Level). Refined (l .cells) (l .statuses)) closedb closed-refined (levels 12 0 (coarseCells n qs) ss) u) (omega arith))
+      rw (coarse-numbers n (coarseCorners n) [] (corners-start n) qs e t) at
+      (levels-numbers n 12 0 0 (coarseCorners n) [] (coarseCells n qs) ss refl
+      (stage-start n qs e t) (all-of (λ (l : Level). Refined (l .cells) (l .statuses)) closedb closed-refined
+      (levels 12 0 (coarseCells n qs) ss) u) (omega arith))
 
-  pub sound-numbers : T (soundb n qs ss) → Numbers n (tableCorners n qs ss) (tableEnds n qs ss) (levelsOf n qs ss) (numberLevels n 12 0 [] (coarseNumbers qs) ss)
+  pub sound-numbers : T (soundb n qs ss) → Numbers n (tableCorners n qs ss) (tableEnds n qs ss) (levelsOf n qs ss)
+      (numberLevels n 12 0 [] (coarseNumbers qs) ss)
   sound-numbers u = let (l, c) = sound-levels n qs ss u in table-numbers c l

@@ -22,7 +22,8 @@ use Rattle.edges.specs.Pairs.{Pair, test-ext}
 use Rattle.base.specs.Every.{All, all-more}
 use Rattle.base.specs.Each.{all-mapped}
 use Rattle.numbering.specs.Corners.{Has, number-below, number-injective}
-use Rattle.numbering.specs.Renamed.{mapEdge, Points, EndsIn, held-map, status-map, closed-map, red-edges-in, red-edges-map, apartOf, apart-map}
+use Rattle.numbering.specs.Renamed.{mapEdge, Points, EndsIn, held-map, status-map, closed-map, red-edges-in, red-edges-map, apartOf}
+use Rattle.numbering.specs.Renamed.{apart-map}
 
 abbrev pub numberedCells : List Corner → List (Cell Point) → List (Cell ℕ)
 numberedCells ks cs = map (mapCell (numberIn ks)) cs
@@ -46,7 +47,8 @@ module _ (ks : List Corner) where
 
   pub numbers-below : (c : Cell Point) → Placed ks c → All (λ i. i < length ks) (mapCell (numberIn ks) c .points)
   unfolding mapCell
-  numbers-below c p = all-mapped (λ i. i < length ks) (numberIn ks) (c .points) (all-more (Has ks) (λ q. numberIn ks q < length ks) (number-below ks) (c .points) (p .each))
+  numbers-below c p = all-mapped (λ i. i < length ks) (numberIn ks) (c .points)
+      (all-more (Has ks) (λ q. numberIn ks q < length ks) (number-below ks) (c .points) (p .each))
 
   pub held-numbers : (es : List (Point × Point)) (e : Point × Point) → All (EndsPlaced ks) es → EndsPlaced ks e
       → heldb eqb (map (edgeIn ks) es) (edgeIn ks e) ≡ heldb sameb es e
@@ -62,10 +64,13 @@ module _ (ks : List Corner) where
 
     pub red-status-numbers : (r : Bool) (c : Cell Point) → Placed ks c
         → statusOf 0 eqb (redEdges 0 (numberedCells ks cs) ss) r (mapCell (numberIn ks) c) ≡ statusOf [] sameb (redEdges [] cs ss) r c
-    red-status-numbers r c q = rw red-edges-numbers (status-numbers (redEdges [] cs ss) r c (red-edges-in [] 0 (numberIn ks) (Has ks) cs ss p) q)
+    red-status-numbers r c q = rw red-edges-numbers
+        (status-numbers (redEdges [] cs ss) r c (red-edges-in [] 0 (numberIn ks) (Has ks) cs ss p) q)
 
-    pub closed-numbers : closedFrom 0 eqb (redEdges 0 (numberedCells ks cs) ss) (numberedCells ks cs) ss ≡ closedFrom [] sameb (redEdges [] cs ss) cs ss
-    closed-numbers = rw red-edges-numbers (closed-map [] 0 sameb eqb (numberIn ks) (Has ks) same-number (redEdges [] cs ss) cs ss (red-edges-in [] 0 (numberIn ks) (Has ks) cs ss p) p)
+    pub closed-numbers : closedFrom 0 eqb (redEdges 0 (numberedCells ks cs) ss) (numberedCells ks cs) ss ≡ closedFrom [] sameb
+        (redEdges [] cs ss) cs ss
+    closed-numbers = rw red-edges-numbers (closed-map [] 0 sameb eqb (numberIn ks) (Has ks) same-number (redEdges [] cs ss) cs ss
+        (red-edges-in [] 0 (numberIn ks) (Has ks) cs ss p) p)
 
     pub apart-numbers : apartOf 0 eqb (numberedCells ks cs) ss ≡ apartb cs ss
     unfolding apartOf apartb

@@ -55,7 +55,8 @@ module _ (xs ys : List ℕ) (x y from : ℕ) where
   here m h k = record { none = λ e. absurd (omega arith); below = λ ne. omega arith; key = λ ne. k; rest = λ ne. refl }
 
   -- the same chain, said of more entries, none of which is the pair
-  longer : (m n e : ℕ) → m ≤ n → seek xs ys x y from (n - from) ≡ seek xs ys x y from (m - from) → On xs ys x y from m e → On xs ys x y from n e
+  longer : (m n e : ℕ) → m ≤ n → seek xs ys x y from (n - from) ≡ seek xs ys x y from (m - from) → On xs ys x y from m e
+      → On xs ys x y from n e
   longer m n e h s o =
       record {
         none = λ z. s ∙ o .none z;
@@ -101,7 +102,8 @@ module _ {xs ys heads links : List ℕ} {from n x y : ℕ} (k : Keys xs ys heads
     link-on = rw link (latest-on xs ys x y from e (omega (arith, o .below ne, k .small)))
 
     pub turn : {b : Bool} → b ≡ hereb xs ys x y e → b ≡ false → On xs ys x y from n (getD links e 0)
-    turn t u = longer xs ys x y from e n (getD links e 0) (omega (arith, o .below ne)) (o .rest ne ∙ passed xs ys x y from e (sym t ∙ u)) link-on
+    turn t u = longer xs ys x y from e n (getD links e 0) (omega (arith, o .below ne)) (o .rest ne ∙ passed xs ys x y from e (sym t ∙ u))
+        link-on
 
     pub less : getD links e 0 ≤ 65535 → (getD links e 0 + 1) % 65536 < (e + 1) % 65536
     less h = go (ℕ-discrete (getD links e 0) 65535)

@@ -147,7 +147,8 @@ module _ (xs ys : List ℕ) (n : ℕ) (in-xs : n < length xs) (in-ys : n < lengt
   seek-same =
       let e : n + 1 - from ≡ suc (n - from) = omega arith in
       let k : from + (n - from) ≡ n = omega arith in
-      let t : hereb (set xs n x) (set ys n y) x y n ≡ true = here-eq (set xs n x) (set ys n y) x y n (getD-set-same xs n x 0 in-xs) (getD-set-same ys n y 0 in-ys) in
+      let t : hereb (set xs n x) (set ys n y) x y n ≡ true = here-eq (set xs n x) (set ys n y) x y n (getD-set-same xs n x 0 in-xs)
+      (getD-set-same ys n y 0 in-ys) in
       rw e (seek-here (set xs n x) (set ys n y) x y from (n - from) (rw k t) ∙ k)
 
   pub seek-other : (v w : ℕ) → (v ≡ x → w ≡ y → ⊥) → seek (set xs n v) (set ys n w) x y from (n + 1 - from) ≡ seek xs ys x y from (n - from)
@@ -155,5 +156,6 @@ module _ (xs ys : List ℕ) (n : ℕ) (in-xs : n < length xs) (in-ys : n < lengt
   seek-other v w ne =
       let e : n + 1 - from ≡ suc (n - from) = omega arith in
       let k : from + (n - from) ≡ n = omega arith in
-      let t : hereb (set xs n v) (set ys n w) x y n ≡ false = rw (getD-set-same xs n v 0 in-xs, getD-set-same ys n w 0 in-ys) (other v x w y ne) in
+      let t : hereb (set xs n v) (set ys n w) x y n ≡ false = rw (getD-set-same xs n v 0 in-xs, getD-set-same ys n w 0 in-ys)
+      (other v x w y ne) in
       rw e (seek-past (set xs n v) (set ys n w) x y from (n - from) (rw k t) ∙ seek-set xs ys x y from n v w (n - from) (omega arith))

@@ -1,4 +1,5 @@
--- Case B (section 14 of the method) on two parts, cell 0 with part 1 and its family with part 2: what the definitions give, and what holds them
+-- Case B (section 14 of the method) on two parts, cell 0 with part 1 and its family with part 2: what the definitions give, and what
+-- holds them
 -- fast.
 --   B, owners    the table and its owners
 --   C, owners-C  the table after a step with cell 1 marked 1, and its owners

@@ -1,4 +1,5 @@
--- What the parts start with: one mark for each master, in cell order, and the marks of all parts put together (section 15 of the method). f is
+-- What the parts start with: one mark for each master, in cell order, and the marks of all parts put together (section 15 of the method).
+-- f is
 -- the test of a mark beside its cell's status.
 --   mastersOn os p         the numbers of the masters of the part p
 --   eachb f ss ms          one mark for each status, and each passes

@@ -35,7 +35,8 @@ unfolding bitsOf allb one-if
 bits-none f [] = refl
 bits-none f (e ∷ l) = go (f e) (bits-none f l)
   where
-    go : (b : Bool) → eqb (bitsOf (map f l)) 0 ≡ allb (λ e. not (f e)) l → eqb (one-if b + 2 * bitsOf (map f l)) 0 ≡ (not b && allb (λ e. not (f e)) l)
+    go : (b : Bool) → eqb (bitsOf (map f l)) 0 ≡ allb (λ e. not (f e)) l
+        → eqb (one-if b + 2 * bitsOf (map f l)) 0 ≡ (not b && allb (λ e. not (f e)) l)
     go true i = ne-eqb (1 + 2 * bitsOf (map f l)) 0 (λ z. omega arith)
     go false i = double (bitsOf (map f l)) ∙ i
 
@@ -92,7 +93,8 @@ module _ (t ss ms ks : List ℕ) (held : Pair → Bool) (k : ℕ) where
   unfolding redAtb
   red-old h r e = ap not (e ∙ ap (allb (idleb t ss ms held)) kids-are) ∙ sym (rw (eq-eqb (getD ss k 0) 64 h, redAtb))
 
-  pub red-green : (getD ss k 0 ≡ 64 → ⊥) → (getD ss k 0 ≡ 0 → ⊥) → (r : Bool) → r ≡ anyb (pulledb t ms held k) between → r ≡ redAtb t ss ms ks held k
+  pub red-green : (getD ss k 0 ≡ 64 → ⊥) → (getD ss k 0 ≡ 0 → ⊥) → (r : Bool) → r ≡ anyb (pulledb t ms held k) between
+      → r ≡ redAtb t ss ms ks held k
   unfolding redAtb
   red-green h g r e = e ∙ ap (anyb (pulledb t ms held k)) kids-are ∙ sym (rw (ne-eqb (getD ss k 0) 64 h, ne-eqb (getD ss k 0) 0 g, redAtb))
 

@@ -32,13 +32,16 @@ use Rattle.reds.proofs.Tests.{rowAt, Seen, all-range, red-row}
 use Rattle.reds.proofs.Levels.{Stands, rows-range, cells-of-rows, placed-range, cells-range, up-end, kids-range}
 use Rattle.lineage.specs.Flags.{flag-red}
 
-filter-red : (f : Row → Bool) (rs : List Row) → flatMap (λ r. edges [] (r .cell)) (filterb f rs) ≡ redEdges [] (map (λ r. r .cell) rs) (map (λ r. flagOf (f r)) rs)
+filter-red : (f : Row → Bool) (rs : List Row) → flatMap (λ r. edges [] (r .cell)) (filterb f rs) ≡ redEdges [] (map (λ r. r .cell) rs)
+    (map (λ r. flagOf (f r)) rs)
 unfolding filterb redEdges flatMap flatten
 filter-red f [] = refl
 filter-red f (r ∷ rs) = go (f r) refl (filter-red f rs)
   where
-    go : (b : Bool) → f r ≡ b → flatMap (λ r. edges [] (r .cell)) (filterb f rs) ≡ redEdges [] (map (λ r. r .cell) rs) (map (λ r. flagOf (f r)) rs)
-        → flatMap (λ r. edges [] (r .cell)) (filterb f (r ∷ rs)) ≡ redEdges [] (map (λ r. r .cell) (r ∷ rs)) (map (λ r. flagOf (f r)) (r ∷ rs))
+    go : (b : Bool) → f r ≡ b → flatMap (λ r. edges [] (r .cell)) (filterb f rs) ≡ redEdges [] (map (λ r. r .cell) rs)
+        (map (λ r. flagOf (f r)) rs)
+        → flatMap (λ r. edges [] (r .cell)) (filterb f (r ∷ rs)) ≡ redEdges [] (map (λ r. r .cell) (r ∷ rs))
+        (map (λ r. flagOf (f r)) (r ∷ rs))
     go true e i = rw (e, filterb, flag-red true, redEdges) (ap (λ (l : List (Point × Point)). edges [] (r .cell) ++ l) i)
     go false e i = rw (e, filterb, flag-red false, redEdges) i
 
@@ -58,11 +61,13 @@ module _ (t ss ms firsts : List ℕ) where
   reds-none zero k = refl
   reds-none (suc h) k = let z : k - k ≡ 0 = omega arith in rw z
 
-module _ (ks : List Corner) (cs : List (Cell Point)) (t : List ℕ) (s : Seen ks cs t) (m : ℕ) (ss ms firsts : List ℕ) (f : Firsts m ss firsts)
+module _ (ks : List Corner) (cs : List (Cell Point)) (t : List ℕ) (s : Seen ks cs t) (m : ℕ) (ss ms firsts : List ℕ)
+    (f : Firsts m ss firsts)
     (count : length cs ≡ length ss) where
   pub record Down (h first : ℕ) (ds : List (Cell Point)) : Type 0 where
     pub flags-are : flatten (flags (levels h first ds (drop first ss)) ms) ≡ flagsUp t ss ms firsts h first (first + length ds)
-    pub reds-are : map (edgeIn ks) (edgesUp (newReds (levels h first ds (drop first ss)) ms)) ≡ redsUp t ss ms firsts h first (first + length ds)
+    pub reds-are : map (edgeIn ks) (edgesUp (newReds (levels h first ds (drop first ss)) ms)) ≡ redsUp t ss ms firsts h first
+        (first + length ds)
     pub ends : All (EndsPlaced ks) (edgesUp (newReds (levels h first ds (drop first ss)) ms))
 
   rows-up : (h k : ℕ) (ds : List (Cell Point)) → k + length ds ≤ length ss → cellsOf (levels h k ds (drop k ss)) ≡ drop k cs
@@ -73,15 +78,18 @@ module _ (ks : List Corner) (cs : List (Cell Point)) (t : List ℕ) (s : Seen ks
   rows-up (suc n) k [] h e = refl
   rows-up (suc n) k (d ∷ ds) h e =
       rows-range cs ss ms k (d ∷ ds)
-      (cellsOf (levels n (k + length (d ∷ ds)) (next k (d ∷ ds) (take (length (d ∷ ds)) (drop k ss))) (drop (length (d ∷ ds)) (drop k ss)))) (sym e) h
+      (cellsOf (levels n (k + length (d ∷ ds)) (next k (d ∷ ds) (take (length (d ∷ ds)) (drop k ss))) (drop (length (d ∷ ds)) (drop k ss))))
+      (sym e) h
 
-  next-stands : (h k : ℕ) (ds : List (Cell Point)) → k + length ds ≤ length ss → cellsOf (levels h k ds (drop k ss)) ≡ drop k cs → Stands cs k ds (drop (length ds) (drop k cs))
+  next-stands : (h k : ℕ) (ds : List (Cell Point)) → k + length ds ≤ length ss → cellsOf (levels h k ds (drop k ss)) ≡ drop k cs
+      → Stands cs k ds (drop (length ds) (drop k cs))
   unfolding levels cellsOf flatMap flatten
   next-stands zero k [] h e = refl
   next-stands zero k (d ∷ ds) h e = absurd (omega (arith, ap length e, length-drop k cs))
   next-stands (suc n) k [] h e = refl
   next-stands (suc n) k (d ∷ ds) h e =
-      let rest = cellsOf (levels n (k + length (d ∷ ds)) (next k (d ∷ ds) (take (length (d ∷ ds)) (drop k ss))) (drop (length (d ∷ ds)) (drop k ss))) in
+      let rest = cellsOf (levels n (k + length (d ∷ ds)) (next k (d ∷ ds) (take (length (d ∷ ds)) (drop k ss)))
+      (drop (length (d ∷ ds)) (drop k ss))) in
       let w : drop (length (d ∷ ds)) (drop k cs) ≡ rest = ap (drop (length (d ∷ ds))) (sym e) ∙ drop-append-seam (d ∷ ds) rest in
       sym e ∙ ap (λ (l : List (Cell Point)). (d ∷ ds) ++ l) (sym w)
 
@@ -127,32 +135,39 @@ module _ (ks : List Corner) (cs : List (Cell Point)) (t : List ℕ) (s : Seen ks
       reds-up : map (edgeIn ks) es ≡ redsUp t ss ms firsts h last (getD firsts last 0)
       reds-up = i .reds-are ∙ rw above-end
 
-      level-flags : flagsOf above ms (rowsFrom first ds own ms) ≡ flagsAt t ss ms firsts (heldb eqb (redsUp t ss ms firsts h last (getD firsts last 0))) first (last - first)
+      level-flags : flagsOf above ms (rowsFrom first ds own ms) ≡ flagsAt t ss ms firsts
+          (heldb eqb (redsUp t ss ms firsts h last (getD firsts last 0))) first (last - first)
       unfolding flagsOf flagsAt
       level-flags =
           let z : last - first ≡ length ds = omega arith in
-          let below : All (λ k. flagOf (newRedb (rowsUp above ms) es (rowAt cs ss ms k)) ≡ flagOf (redAtb t ss ms firsts (heldb eqb (map (edgeIn ks) es)) k)) (range first (length ds)) =
+          let below : All (λ k. flagOf (newRedb (rowsUp above ms) es (rowAt cs ss ms k)) ≡ flagOf
+          (redAtb t ss ms firsts (heldb eqb (map (edgeIn ks) es)) k)) (range first (length ds)) =
           all-range _ first (length ds)
-          (λ k p q. ap flagOf (red-row ks cs t ss ms s es (i .ends) firsts (rowsUp above ms) k (omega (arith, count, inside)) (kids-inside k p q) (kids-are k p q))) in
+          (λ k p q. ap flagOf (red-row ks cs t ss ms s es (i .ends) firsts (rowsUp above ms) k (omega (arith, count, inside))
+          (kids-inside k p q) (kids-are k p q))) in
           ap (flagsOf above ms) (rows-range cs ss ms first ds (cellsOf above) b inside)
           ∙ map-map (λ r. flagOf (newRedb (rowsUp above ms) es r)) (rowAt cs ss ms) (range first (length ds))
           ∙ map-same _ _ (range first (length ds)) below
           ∙ ap₂ (λ (l : List Pair) (n : ℕ). flagsAt t ss ms firsts (heldb eqb l) first n) reds-up (sym z)
 
-      level-reds : edgesUp (filterb (newRedb (rowsUp above ms) es) (rowsFrom first ds own ms) ∷ newReds above ms) ≡ redEdges [] ds (flagsOf above ms (rowsFrom first ds own ms))
+      level-reds : edgesUp (filterb (newRedb (rowsUp above ms) es) (rowsFrom first ds own ms) ∷ newReds above ms) ≡ redEdges [] ds
+          (flagsOf above ms (rowsFrom first ds own ms))
       unfolding edgesUp flagsOf
       level-reds =
           filter-red (newRedb (rowsUp above ms) es) (rowsFrom first ds own ms)
           ∙ ap (λ (l : List (Cell Point)). redEdges [] l (flagsOf above ms (rowsFrom first ds own ms)))
-          (ap (map (λ (r : Row). r .cell)) (rows-range cs ss ms first ds (cellsOf above) b inside) ∙ cells-of-rows cs ss ms first ds (cellsOf above) b)
+          (ap (map (λ (r : Row). r .cell)) (rows-range cs ss ms first ds (cellsOf above) b inside)
+          ∙ cells-of-rows cs ss ms first ds (cellsOf above) b)
 
-      reds-numbers : map (edgeIn ks) (redEdges [] ds (flagsOf above ms (rowsFrom first ds own ms))) ≡ redsUp t ss ms firsts (suc h) first last
+      reds-numbers : map (edgeIn ks) (redEdges [] ds (flagsOf above ms (rowsFrom first ds own ms))) ≡ redsUp t ss ms firsts (suc h) first
+          last
       unfolding redsUp
       reds-numbers =
           let z : last - first ≡ length ds = omega arith in
           sym (red-edges-numbers ks ds (flagsOf above ms (rowsFrom first ds own ms)) (placed-range ks cs t s first ds (cellsOf above) b))
           ∙ sym (red-strip (numberedCells ks ds) (flagsOf above ms (rowsFrom first ds own ms)))
-          ∙ ap₂ (λ (c : List (Cell ℕ)) (l : List ℕ). redEdges 0 c l) (sym (cells-range ks cs t s first ds (cellsOf above) b) ∙ ap (cellsAt t first) (sym z)) level-flags
+          ∙ ap₂ (λ (c : List (Cell ℕ)) (l : List ℕ). redEdges 0 c l) (sym (cells-range ks cs t s first ds (cellsOf above) b)
+          ∙ ap (cellsAt t first) (sym z)) level-flags
 
       module _ (ls : List Level) (l : ls ≡ record { first = first; cells = ds; statuses = own } ∷ above) where
         flags-here : flatten (flags ls ms) ≡ flagsUp t ss ms firsts (suc h) first last
@@ -167,9 +182,11 @@ module _ (ks : List Corner) (cs : List (Cell Point)) (t : List ℕ) (s : Seen ks
         reds-here = ap (map (edgeIn ks)) edges-here ∙ reds-numbers
 
         ends-here : All (EndsPlaced ks) (edgesUp (newReds ls ms))
-        ends-here = rw edges-here (red-edges-in [] 0 (numberIn ks) (Has ks) ds (flagsOf above ms (rowsFrom first ds own ms)) (placed-range ks cs t s first ds (cellsOf above) b))
+        ends-here = rw edges-here (red-edges-in [] 0 (numberIn ks) (Has ks) ds (flagsOf above ms (rowsFrom first ds own ms))
+            (placed-range ks cs t s first ds (cellsOf above) b))
 
-  pub down : (h first : ℕ) (ds : List (Cell Point)) → first + length ds ≡ firstChild m ss first → first ≤ length ss → cellsOf (levels h first ds (drop first ss)) ≡ drop first cs → Down h first ds
+  pub down : (h first : ℕ) (ds : List (Cell Point)) → first + length ds ≡ firstChild m ss first → first ≤ length ss
+      → cellsOf (levels h first ds (drop first ss)) ≡ drop first cs → Down h first ds
   unfolding levels flags flagsUp newReds edgesUp redsUp cellsOf flatMap flatten
   down zero first ds e g a = record { flags-are = refl; reds-are = refl; ends = tt }
   down (suc h) first [] e g a =
@@ -186,9 +203,11 @@ module _ (ks : List Corner) (cs : List (Cell Point)) (t : List ℕ) (s : Seen ks
       let own = take (length cells) (drop first ss) in
       let up = next first cells own in
       let above = levels h last up (drop last ss) in
-      let l : levels (suc h) first cells (drop first ss) ≡ record { first = first; cells = cells; statuses = own } ∷ above = rw (drop-drop (length cells) first ss) in
+      let l : levels (suc h) first cells (drop first ss) ≡ record { first = first; cells = cells; statuses = own } ∷ above = rw
+      (drop-drop (length cells) first ss) in
       let b : drop first cs ≡ cells ++ cellsOf above = sym a ∙ ap cellsOf l in
-      let w : cellsOf above ≡ drop last cs = sym (drop-append-seam cells (cellsOf above)) ∙ ap (drop (length cells)) (sym b) ∙ drop-drop (length cells) first cs in
+      let w : cellsOf above ≡ drop last cs = sym (drop-append-seam cells (cellsOf above)) ∙ ap (drop (length cells)) (sym b)
+      ∙ drop-drop (length cells) first cs in
       let n : last ≤ length ss = inside h first cells e g in
       let i : Down h last up = down h last up (up-end m ss first cells e n) n w in
       record {

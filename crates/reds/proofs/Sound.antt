@@ -38,7 +38,8 @@ use Rattle.reds.proofs.Writes.{length-flags}
 use Rattle.reds.proofs.Down.{flags-none, Down, down}
 use Rattle.rows.specs.Laws.{rows-size}
 
-next-first : (m : ℕ) (ss : List ℕ) (first last : ℕ) → first ≤ last → last ≡ firstChild m ss first → nextEnd first last ss ≡ firstChild m ss last
+next-first : (m : ℕ) (ss : List ℕ) (first last : ℕ) → first ≤ last → last ≡ firstChild m ss first
+    → nextEnd first last ss ≡ firstChild m ss last
 unfolding nextEnd
 next-first m ss first last u e =
     let w : first + (last - first) ≡ last = omega arith in
@@ -52,7 +53,8 @@ whole-from m ss (suc h) first last u e k =
     (λ (z : first ≡ last). rw (end-none (suc h) first last ss (omega arith)) (omega arith))
     (λ (l : first < last).
     rw (end-more h first last ss l)
-    (whole-from m ss h last (nextEnd first last ss) (next-after first last ss) (next-first m ss first last u e) (omega (arith, number-more h first last ss l))))
+    (whole-from m ss h last (nextEnd first last ss) (next-after first last ss) (next-first m ss first last u e)
+    (omega (arith, number-more h first last ss l))))
     (eq-or-lt-of-le u)
 
 count-whole : (n : ℕ) (qs : List (List ℕ)) (ss : List ℕ) → soundb n qs ss ≡ true → firstChild (length qs) ss (length ss) ≡ length ss
@@ -62,7 +64,8 @@ count-whole n qs ss t =
 
 -- a flag for each cell of the levels
 module _ (m : ℕ) (t ss ms firsts : List ℕ) (f : Firsts m ss firsts) where
-  flags-end : (h first last : ℕ) → first ≤ last → last ≤ length ss → last ≡ firstChild m ss first → first + length (flagsUp t ss ms firsts h first last) ≡ levelEnd h first last ss
+  flags-end : (h first last : ℕ) → first ≤ last → last ≤ length ss → last ≡ firstChild m ss first
+      → first + length (flagsUp t ss ms firsts h first last) ≡ levelEnd h first last ss
   unfolding flagsUp levelEnd
   flags-end zero first last u i e = omega arith
   flags-end (suc h) first last u i e =
@@ -161,7 +164,8 @@ module _ (n : ℕ) (mesh rows ss ms firsts red : List ℕ) (g : Marked n mesh ro
   marked-flags : flagsUp rows ss ms firsts 12 0 (getD firsts 0 0) ≡ flagTable n qs ss ms
   unfolding flagTable levelsOf
   marked-flags =
-      let e : 0 + length (coarseCells n qs) ≡ firstChild (length qs) ss 0 = zero-add (length (coarseCells n qs)) ∙ coarse ∙ sym (first-start (length qs) ss) in
+      let e : 0 + length (coarseCells n qs) ≡ firstChild (length qs) ss 0 = zero-add (length (coarseCells n qs)) ∙ coarse
+      ∙ sym (first-start (length qs) ss) in
       let d : Down ks cs rows seen (length qs) ss ms firsts firsts-are count 12 0 (coarseCells n qs) =
       down ks cs rows seen (length qs) ss ms firsts firsts-are count 12 0 (coarseCells n qs) e (omega arith) refl in
       ap (flagsUp rows ss ms firsts 12 0) (firsts-are .at 0 (omega arith) ∙ sym e) ∙ sym (d .flags-are)
@@ -175,12 +179,14 @@ module _ (n : ℕ) (mesh rows ss ms firsts red : List ℕ) (g : Marked n mesh ro
       sym (ap length marked-flags)
       ∙ omega (
         arith,
-        flags-end (length qs) rows ss ms firsts firsts-are 12 0 (getD firsts 0 0) (omega arith) marked-start (firsts-are .at 0 (omega arith)),
+        flags-end (length qs) rows ss ms firsts firsts-are 12 0 (getD firsts 0 0) (omega arith) marked-start
+            (firsts-are .at 0 (omega arith)),
         ap (λ (x : ℕ). levelEnd 12 0 x ss) e ∙ sound-counted n qs ss sound .whole,
       )
 
   pub marked-result : (red′ : List ℕ)
-      → red′ ≡ take 0 red ++ (flagsUp rows ss ms firsts 12 0 (getD firsts 0 0) ++ drop (0 + length (flagsUp rows ss ms firsts 12 0 (getD firsts 0 0))) red)
+      → red′ ≡ take 0 red ++ (flagsUp rows ss ms firsts 12 0 (getD firsts 0 0) ++ drop
+      (0 + length (flagsUp rows ss ms firsts 12 0 (getD firsts 0 0))) red)
       → red′ ≡ flagTable n qs ss ms ++ drop (length ss) red
   marked-result red′ e =
       let up : List ℕ = flagsUp rows ss ms firsts 12 0 (getD firsts 0 0) in

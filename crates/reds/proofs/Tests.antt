@@ -32,7 +32,8 @@ pub record Seen (ks : List Corner) (cs : List (Cell Point)) (t : List ℕ) : Typ
   pub placed : (j : ℕ) → j < length cs → Placed ks (getD cs j noCell)
   pub cells : (j : ℕ) → j < length cs → cellAt t j ≡ strip (mapCell (numberIn ks) (getD cs j noCell))
 
-any-map : {A B : Type 0} (h : A → B) (g : A → Bool) (g′ : B → Bool) (l : List A) → All (λ x. g′ (h x) ≡ g x) l → anyb g′ (map h l) ≡ anyb g l
+any-map : {A B : Type 0} (h : A → B) (g : A → Bool) (g′ : B → Bool) (l : List A) → All (λ x. g′ (h x) ≡ g x) l
+    → anyb g′ (map h l) ≡ anyb g l
 unfolding anyb
 any-map h g g′ [] e = refl
 any-map h g g′ (x ∷ l) e = ap₂ _||_ (e .0) (any-map h g g′ l (e .1))
@@ -46,7 +47,8 @@ unfolding range
 all-range P k zero h = tt
 all-range P k (suc m) h = (h k (omega arith) (omega arith), all-range P (suc k) m (λ j a b. h j (omega arith) (omega arith)))
 
-module _ (ks : List Corner) (cs : List (Cell Point)) (t ss ms : List ℕ) (s : Seen ks cs t) (es : List (Point × Point)) (p : All (EndsPlaced ks) es) where
+module _ (ks : List Corner) (cs : List (Cell Point)) (t ss ms : List ℕ) (s : Seen ks cs t) (es : List (Point × Point))
+    (p : All (EndsPlaced ks) es) where
   abbrev held : Pair → Bool
   held = heldb eqb (map (edgeIn ks) es)
 
@@ -59,24 +61,30 @@ module _ (ks : List Corner) (cs : List (Cell Point)) (t ss ms : List ℕ) (s : S
   edges-placed j h = edges-in [] 0 (numberIn ks) (Has ks) (getD cs j noCell) (s .placed j h)
 
   idle-row : (j : ℕ) → j < length cs
-      → ((eqb (getD ss j 0) 0 && eqb (getD ms j 0) 2) && allb (λ e. not (heldb sameb es e)) (edges [] (getD cs j noCell))) ≡ idleb t ss ms held j
+      → ((eqb (getD ss j 0) 0 && eqb (getD ms j 0) 2) && allb (λ e. not (heldb sameb es e)) (edges [] (getD cs j noCell))) ≡ idleb t ss ms
+      held j
   unfolding idleb
   idle-row j h =
       ap (λ (b : Bool). (eqb (getD ss j 0) 0 && eqb (getD ms j 0) 2) && b)
       (sym (ap (allb (λ (e : Pair). not (held e))) (edges-at j h)
       ∙ all-map (edgeIn ks) (λ e. not (heldb sameb es e)) (λ e. not (held e)) (edges [] (getD cs j noCell))
-      (all-more (EndsPlaced ks) (λ e. not (held (edgeIn ks e)) ≡ not (heldb sameb es e)) (λ e q. ap not (held-numbers ks es e p q)) (edges [] (getD cs j noCell)) (edges-placed j h))))
+      (all-more (EndsPlaced ks) (λ e. not (held (edgeIn ks e)) ≡ not (heldb sameb es e)) (λ e q. ap not (held-numbers ks es e p q))
+      (edges [] (getD cs j noCell)) (edges-placed j h))))
 
   touched-row : (g j : ℕ) → g < length cs → j < length cs
-      → anyb (λ e. not (heldb sameb (edges [] (getD cs g noCell)) e) && heldb sameb es e) (edges [] (getD cs j noCell)) ≡ touchedb t held g j
+      → anyb (λ e. not (heldb sameb (edges [] (getD cs g noCell)) e) && heldb sameb es e) (edges [] (getD cs j noCell)) ≡ touchedb t held g
+      j
   unfolding touchedb
   touched-row g j k h =
       sym (ap (anyb (λ (e : Pair). not (heldb eqb (edges 0 (cellAt t g)) e) && held e)) (edges-at j h)
-      ∙ any-map (edgeIn ks) (λ e. not (heldb sameb (edges [] (getD cs g noCell)) e) && heldb sameb es e) (λ e. not (heldb eqb (edges 0 (cellAt t g)) e) && held e) (edges [] (getD cs j noCell))
-      (all-more (EndsPlaced ks) (λ e. (not (heldb eqb (edges 0 (cellAt t g)) (edgeIn ks e)) && held (edgeIn ks e)) ≡ (not (heldb sameb (edges [] (getD cs g noCell)) e) && heldb sameb es e))
+      ∙ any-map (edgeIn ks) (λ e. not (heldb sameb (edges [] (getD cs g noCell)) e) && heldb sameb es e)
+      (λ e. not (heldb eqb (edges 0 (cellAt t g)) e) && held e) (edges [] (getD cs j noCell))
+      (all-more (EndsPlaced ks) (λ e. (not (heldb eqb (edges 0 (cellAt t g)) (edgeIn ks e)) && held (edgeIn ks e))
+      ≡ (not (heldb sameb (edges [] (getD cs g noCell)) e) && heldb sameb es e))
       (λ e q.
       ap₂ (λ (x y : Bool). not x && y)
-      (ap (λ (l : List Pair). heldb eqb l (edgeIn ks e)) (edges-at g k) ∙ held-numbers ks (edges [] (getD cs g noCell)) e (edges-placed g k) q)
+      (ap (λ (l : List Pair). heldb eqb l (edgeIn ks e)) (edges-at g k) ∙ held-numbers ks (edges [] (getD cs g noCell)) e (edges-placed g k)
+      q)
       (held-numbers ks es e p q))
       (edges [] (getD cs j noCell)) (edges-placed j h)))
 
@@ -84,7 +92,8 @@ module _ (ks : List Corner) (cs : List (Cell Point)) (t ss ms : List ℕ) (s : S
   deleted-rows : (js : List ℕ) → All (λ j. j < length cs) js → deletedb (map (rowAt cs ss ms) js) es ≡ allb (idleb t ss ms held) js
   unfolding deletedb
   deleted-rows js h =
-      all-map (rowAt cs ss ms) (idleb t ss ms held) (λ r. (eqb (r .status) 0 && eqb (r .mark) 2) && allb (λ e. not (heldb sameb es e)) (edges [] (r .cell))) js
+      all-map (rowAt cs ss ms) (idleb t ss ms held) (λ r. (eqb (r .status) 0 && eqb (r .mark) 2) && allb (λ e. not (heldb sameb es e))
+      (edges [] (r .cell))) js
       (all-more (λ j. j < length cs) _ idle-row js h)
 
   turned-rows : (g : ℕ) (js : List ℕ) → g < length cs → All (λ j. j < length cs) js
@@ -99,14 +108,20 @@ module _ (ks : List Corner) (cs : List (Cell Point)) (t ss ms : List ℕ) (s : S
   unfolding mapCell
   regular-row k h = ap (λ (c : Cell ℕ). c .regular) (s .cells k h)
 
-  pub red-row : (firsts : List ℕ) (up : List Row) (k : ℕ) → k < length cs → All (λ j. j < length cs) (kidsOf firsts k) → kids up k ≡ map (rowAt cs ss ms) (kidsOf firsts k)
+  pub red-row : (firsts : List ℕ) (up : List Row) (k : ℕ) → k < length cs → All (λ j. j < length cs) (kidsOf firsts k)
+      → kids up k ≡ map (rowAt cs ss ms) (kidsOf firsts k)
       → newRedb up es (rowAt cs ss ms k) ≡ redAtb t ss ms firsts held k
   unfolding redAfterb redAtb
   red-row firsts up k h g e =
       let d : deletedb (kids up k) es ≡ allb (idleb t ss ms held) (kidsOf firsts k) = rw e (deleted-rows (kidsOf firsts k) g) in
-      let u : turnedb (edges [] (getD cs k noCell)) (kids up k) es ≡ anyb (pulledb t ms held k) (kidsOf firsts k) = rw e (turned-rows k (kidsOf firsts k) h g) in
+      let u : turnedb (edges [] (getD cs k noCell)) (kids up k) es ≡ anyb (pulledb t ms held k) (kidsOf firsts k) = rw e
+      (turned-rows k (kidsOf firsts k) h g) in
       let f : Bool → Bool → Bool → Bool =
-      λ x y z. elim (redb (getD ss k 0)) [ true ↦ not x | false ↦ elim (eqb (getD ss k 0) 0) [ true ↦ y && eqb (getD ms k 0) 1 | false ↦ z ] ] in
+      λ x y z. elim (redb (getD ss k 0)) [
+        | true ↦ not x
+        | false ↦ elim (eqb (getD ss k 0) 0) [ true ↦ y && eqb (getD ms k 0) 1 | false ↦ z ]
+      ] in
       ap (λ (x : Bool). f x (getD cs k noCell .regular) (turnedb (edges [] (getD cs k noCell)) (kids up k) es)) d
       ∙ ap (λ (z : Bool). f (allb (idleb t ss ms held) (kidsOf firsts k)) (getD cs k noCell .regular) z) u
-      ∙ ap (λ (y : Bool). f (allb (idleb t ss ms held) (kidsOf firsts k)) y (anyb (pulledb t ms held k) (kidsOf firsts k))) (sym (regular-row k h))
+      ∙ ap (λ (y : Bool). f (allb (idleb t ss ms held) (kidsOf firsts k)) y (anyb (pulledb t ms held k) (kidsOf firsts k)))
+      (sym (regular-row k h))

@@ -46,7 +46,8 @@ above-none t ss ms ks first last red xs ys heads links l depth d =
       few = omega arith;
     })
 
-pub level-up : (t ss ms ks red xs ys heads links : List ℕ) (first last : ℕ) → Old t ss ms ks → OneLevel ss ks red xs ys heads links first last
+pub level-up : (t ss ms ks red xs ys heads links : List ℕ) (first last : ℕ) → Old t ss ms ks
+    → OneLevel ss ks red xs ys heads links first last
     → OneLevel ss ks red xs ys heads links last (getD ks last 0)
 level-up t ss ms ks red xs ys heads links first last o l =
     record {
@@ -60,73 +61,82 @@ level-up t ss ms ks red xs ys heads links first last o l =
       keys = l .keys;
     }
 
-module _ (t ss ms ks : List ℕ) (h first last : ℕ) (red red₁ xs₁ ys₁ heads₁ links₁ : List ℕ) (from₁ n₁ : ℕ) (o : Old t ss ms ks) (s : Span ss red first last)
+module _ (t ss ms ks : List ℕ) (h first last : ℕ) (red red₁ xs₁ ys₁ heads₁ links₁ : List ℕ) (from₁ n₁ : ℕ) (o : Old t ss ms ks)
+    (s : Span ss red first last)
     (above : Above t ss ms ks h last (getD ks last 0) red red₁ xs₁ ys₁ heads₁ links₁ from₁ n₁) (same : length red₁ ≡ length red)
-    (red₂ : List ℕ) (e : red₂ ≡ take first red₁ ++ (flagsAt t ss ms ks (listedb xs₁ ys₁ from₁ n₁) first (last - first) ++ drop last red₁)) where
-  abbrev own : List ℕ
-  own = flagsAt t ss ms ks (listedb xs₁ ys₁ from₁ n₁) first (last - first)
+    (red₂ : List ℕ) (e : red₂ ≡ take first red₁ ++ (flagsAt t ss ms ks (listedb xs₁ ys₁ from₁ n₁) first (last - first) ++ drop last red₁))
+  where
+    abbrev own : List ℕ
+    own = flagsAt t ss ms ks (listedb xs₁ ys₁ from₁ n₁) first (last - first)
 
-  -- the flags of the level
-  own-are : own ≡ flagsAt t ss ms ks (heldb eqb (redsUp t ss ms ks h last (getD ks last 0))) first (last - first)
-  own-are =
-      ap (λ (f : Pair → Bool). flagsAt t ss ms ks f first (last - first))
-      (fun-ext (held-listed (listed xs₁ ys₁ from₁ n₁) (redsUp t ss ms ks h last (getD ks last 0)) (above .lists)))
+    -- the flags of the level
+    own-are : own ≡ flagsAt t ss ms ks (heldb eqb (redsUp t ss ms ks h last (getD ks last 0))) first (last - first)
+    own-are =
+        ap (λ (f : Pair → Bool). flagsAt t ss ms ks f first (last - first))
+        (fun-ext (held-listed (listed xs₁ ys₁ from₁ n₁) (redsUp t ss ms ks h last (getD ks last 0)) (above .lists)))
 
-  own-length : length own ≡ last - first
-  own-length = length-flags t ss ms ks (listedb xs₁ ys₁ from₁ n₁) first (last - first)
+    own-length : length own ≡ last - first
+    own-length = length-flags t ss ms ks (listedb xs₁ ys₁ from₁ n₁) first (last - first)
 
-  own-part : part red₂ first (last - first) ≡ own
-  own-part =
-      let k : length (take first red₁) ≡ first = length-take-le first red₁ (omega (arith, s .up, s .inside, s .room, same)) in
-      ap (λ (l : List ℕ). part l first (last - first)) e
-      ∙ ap (take (last - first)) (drop-at (take first red₁) (own ++ drop last red₁) first k) ∙ take-at own (drop last red₁) (last - first) own-length
+    own-part : part red₂ first (last - first) ≡ own
+    own-part =
+        let k : length (take first red₁) ≡ first = length-take-le first red₁ (omega (arith, s .up, s .inside, s .room, same)) in
+        ap (λ (l : List ℕ). part l first (last - first)) e
+        ∙ ap (take (last - first)) (drop-at (take first red₁) (own ++ drop last red₁) first k) ∙ take-at own (drop last red₁) (last - first)
+        own-length
 
-  few-own : redCount (part red₂ first (last - first)) ≤ last - first
-  few-own = omega (arith, ap redCount own-part, reds-few own, own-length)
+    few-own : redCount (part red₂ first (last - first)) ≤ last - first
+    few-own = omega (arith, ap redCount own-part, reds-few own, own-length)
 
-  module _ (ix : 24576 ≤ length xs₁) (iy : 24576 ≤ length ys₁) (il : 24576 ≤ length links₁) (same₂ : length red₂ ≡ length red₁) where
-    pub reds-range : Range red₂ first last
-    reds-range = record { up = s .up; inside = omega (arith, s .inside, s .room, same, same₂) }
+    module _ (ix : 24576 ≤ length xs₁) (iy : 24576 ≤ length ys₁) (il : 24576 ≤ length links₁) (same₂ : length red₂ ≡ length red₁) where
+      pub reds-range : Range red₂ first last
+      reds-range = record { up = s .up; inside = omega (arith, s .inside, s .room, same, same₂) }
 
-    pub reds-ready : Ready t xs₁ ys₁ heads₁ links₁ last n₁ n₁ (6 * redCount (part red₂ first (last - first)))
-    reds-ready =
-        let w : n₁ + 6 * redCount (part red₂ first (last - first)) ≤ 24576 = omega (arith, few-own, above .few, o .few, s .up, s .inside) in
-        record {
-          rows = omega (arith, o .rows, s .inside);
-          table = record { keys = above .table .keys; up = omega arith; distinct = rw (none-listed xs₁ ys₁ n₁) (distinct-nil isb (0, 0) same-pair) };
-          space = record { small = omega arith; in-xs = omega arith; in-ys = omega arith; in-links = omega arith };
-        }
+      pub reds-ready : Ready t xs₁ ys₁ heads₁ links₁ last n₁ n₁ (6 * redCount (part red₂ first (last - first)))
+      reds-ready =
+          let w : n₁ + 6 * redCount (part red₂ first (last - first)) ≤ 24576 = omega
+          (arith, few-own, above .few, o .few, s .up, s .inside) in
+          record {
+            rows = omega (arith, o .rows, s .inside);
+            table = record {
+              keys = above .table .keys;
+              up = omega arith;
+              distinct = rw (none-listed xs₁ ys₁ n₁)
+                  (distinct-nil isb (0, 0) same-pair);
+            };
+            space = record { small = omega arith; in-xs = omega arith; in-ys = omega arith; in-links = omega arith };
+          }
 
-  module _ (xs₂ ys₂ heads₂ links₂ : List ℕ) (m : ℕ) where
-    abbrev es : List Pair
-    es = redEdges 0 (cellsAt t first (last - first)) (part red₂ first (last - first))
+    module _ (xs₂ ys₂ heads₂ links₂ : List ℕ) (m : ℕ) where
+      abbrev es : List Pair
+      es = redEdges 0 (cellsAt t first (last - first)) (part red₂ first (last - first))
 
-    es-are : es ≡ redsUp t ss ms ks (suc h) first last
-    unfolding redsUp
-    es-are = ap (redEdges 0 (cellsAt t first (last - first))) (own-part ∙ own-are)
+      es-are : es ≡ redsUp t ss ms ks (suc h) first last
+      unfolding redsUp
+      es-are = ap (redEdges 0 (cellsAt t first (last - first))) (own-part ∙ own-are)
 
-    es-few : length es ≤ 6 * (last - first)
-    es-few =
-        omega (
-          arith,
-          few-own,
-          length-reds (cellsAt t first (last - first)) (part red₂ first (last - first))
-              (length-cells t first (last - first) ∙ sym (ap length own-part ∙ own-length)),
-        )
+      es-few : length es ≤ 6 * (last - first)
+      es-few =
+          omega (
+            arith,
+            few-own,
+            length-reds (cellsAt t first (last - first)) (part red₂ first (last - first))
+                (length-cells t first (last - first) ∙ sym (ap length own-part ∙ own-length)),
+          )
 
-    pub above-more : (depth : ℕ) → depth ≡ suc h → Grown xs₁ ys₁ n₁ n₁ es xs₂ ys₂ heads₂ links₂ m
-        → Above t ss ms ks depth first last red red₂ xs₂ ys₂ heads₂ links₂ n₁ m
-    unfolding flagsUp
-    above-more depth d g =
-        let up : List ℕ = flagsUp t ss ms ks h last (getD ks last 0) in
-        let l : listed xs₂ ys₂ n₁ m ≡ addPairs [] (redsUp t ss ms ks (suc h) first last) =
-        g .list ∙ ap₂ addPairs (none-listed xs₁ ys₁ n₁) es-are in
-        let f : red₂ ≡ take first red ++ ((own ++ up) ++ drop (first + length (own ++ up)) red) =
-        flags-both red red₁ red₂ own up first last (s .up) (omega (arith, s .inside, s .room)) own-length (above .flags) e in
-        rw d
-        (record {
-          flags = rw own-are at f;
-          table = record { keys = g .edges .keys; up = g .more };
-          lists = rw l (lists-added (redsUp t ss ms ks (suc h) first last));
-          few = omega (arith, g .most, es-few, above .few, s .up, s .inside);
-        })
+      pub above-more : (depth : ℕ) → depth ≡ suc h → Grown xs₁ ys₁ n₁ n₁ es xs₂ ys₂ heads₂ links₂ m
+          → Above t ss ms ks depth first last red red₂ xs₂ ys₂ heads₂ links₂ n₁ m
+      unfolding flagsUp
+      above-more depth d g =
+          let up : List ℕ = flagsUp t ss ms ks h last (getD ks last 0) in
+          let l : listed xs₂ ys₂ n₁ m ≡ addPairs [] (redsUp t ss ms ks (suc h) first last) =
+          g .list ∙ ap₂ addPairs (none-listed xs₁ ys₁ n₁) es-are in
+          let f : red₂ ≡ take first red ++ ((own ++ up) ++ drop (first + length (own ++ up)) red) =
+          flags-both red red₁ red₂ own up first last (s .up) (omega (arith, s .inside, s .room)) own-length (above .flags) e in
+          rw d
+          (record {
+            flags = rw own-are at f;
+            table = record { keys = g .edges .keys; up = g .more };
+            lists = rw l (lists-added (redsUp t ss ms ks (suc h) first last));
+            few = omega (arith, g .most, es-few, above .few, s .up, s .inside);
+          })

@@ -57,7 +57,8 @@ module _ (m : ℕ) (ss ks : List ℕ) where
   unfolding firstChildren
   firsts-taken rest e =
       ap (take (suc (length ss))) e
-      ∙ take-at (firstChildren m ss) rest (suc (length ss)) (length-map (range 0 (suc (length ss))) (firstChild m ss) ∙ length-range 0 (suc (length ss)))
+      ∙ take-at (firstChildren m ss) rest (suc (length ss)) (length-map (range 0 (suc (length ss))) (firstChild m ss)
+      ∙ length-range 0 (suc (length ss)))
 
   -- as many as cells, and one
   pub length-firsts : take (suc (length ss)) ks ≡ firstChildren m ss → length ss < length ks

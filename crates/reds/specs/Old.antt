@@ -47,7 +47,8 @@ pub record Above (t ss ms ks : List ℕ) (h first last : ℕ) (red red′ xs′ 
 pub record Marked (n : ℕ) (mesh rows ss ms ks red : List ℕ) : Type 0 where
   pub accepted : Mesh n mesh
   pub sound : T (soundb n (fours mesh) ss)
-  pub table : take (8 * length (tableCells n (fours mesh) ss)) rows ≡ cellTable (tableCorners n (fours mesh) ss) (tableCells n (fours mesh) ss)
+  pub table : take (8 * length (tableCells n (fours mesh) ss)) rows ≡ cellTable (tableCorners n (fours mesh) ss)
+      (tableCells n (fours mesh) ss)
   pub marks : length ms ≡ length ss
   pub firsts : take (suc (length ss)) ks ≡ firstChildren (length (fours mesh)) ss
   pub room : length ss ≤ length red

@@ -80,7 +80,8 @@ module _ {A : Type 0} (f : A → Bool) where
   filter-append (x ∷ l) m = go (f x) (filter-append l m)
     where
       go : (b : Bool) → filterb f (l ++ m) ≡ filterb f l ++ filterb f m
-          → _≡_ {A = List A} (elim b [ true ↦ x ∷ filterb f (l ++ m) | false ↦ filterb f (l ++ m) ]) (_++_ {A = A} (elim b [ true ↦ x ∷ filterb f l | false ↦ filterb f l ]) (filterb f m))
+          → _≡_ {A = List A} (elim b [ true ↦ x ∷ filterb f (l ++ m) | false ↦ filterb f (l ++ m) ])
+          (_++_ {A = A} (elim b [ true ↦ x ∷ filterb f l | false ↦ filterb f l ]) (filterb f m))
       go true i = ap (λ (l : List A). x ∷ l) i
       go false i = i
 
@@ -90,7 +91,8 @@ filter-map {A} {B} f g [] = refl
 filter-map {A} {B} f g (x ∷ l) = go (f (g x)) (filter-map f g l)
   where
     go : (b : Bool) → filterb f (map g l) ≡ map g (filterb (λ x. f (g x)) l)
-        → _≡_ {A = List B} (elim b [ true ↦ g x ∷ filterb f (map g l) | false ↦ filterb f (map g l) ]) (map {A = A} g (elim b [ true ↦ x ∷ filterb (λ x. f (g x)) l | false ↦ filterb (λ x. f (g x)) l ]))
+        → _≡_ {A = List B} (elim b [ true ↦ g x ∷ filterb f (map g l) | false ↦ filterb f (map g l) ])
+        (map {A = A} g (elim b [ true ↦ x ∷ filterb (λ x. f (g x)) l | false ↦ filterb (λ x. f (g x)) l ]))
     go true i = ap (λ (l : List B). g x ∷ l) i
     go false i = i
 
@@ -99,7 +101,8 @@ module _ (f : ℕ → Bool) where
   unfolding filterb range
   filter-range-all k zero h = refl
   filter-range-all k (suc m) h =
-      rw (h k (omega arith) (omega arith), filterb) (ap (λ (l : List ℕ). k ∷ l) (filter-range-all (suc k) m (λ j a b. h j (omega arith) (omega arith))))
+      rw (h k (omega arith) (omega arith), filterb)
+      (ap (λ (l : List ℕ). k ∷ l) (filter-range-all (suc k) m (λ j a b. h j (omega arith) (omega arith))))
 
   filter-range-none : (k m : ℕ) → ((j : ℕ) → k ≤ j → j < k + m → f j ≡ false) → filterb f (range k m) ≡ []
   unfolding filterb range
@@ -124,8 +127,15 @@ module _ (par at : ℕ → ℕ) where
       let v = b .up (suc lo) hi (omega arith) (omega arith) (omega arith) in
       let s : at hi - at lo ≡ (at (suc lo) - at lo) + (at hi - at (suc lo)) = omega arith in
       let f : at lo + (at (suc lo) - at lo) ≡ at (suc lo) = omega arith in
-      rw (s, range-append (at lo) (at (suc lo) - at lo) (at hi - at (suc lo)), f, filter-append (λ j. eqb (par j) k) (range (at lo) (at (suc lo) - at lo)) (range (at (suc lo)) (at hi - at (suc lo))))
-      (ap₂ _++_ (filter-range-none (λ j. eqb (par j) k) (at lo) (at (suc lo) - at lo) (λ j p q. ne-eqb (par j) k (λ x. omega (arith, b .own lo j (omega arith) (omega arith) p (omega arith)))))
+      rw (
+        s,
+        range-append (at lo) (at (suc lo) - at lo) (at hi - at (suc lo)),
+        f,
+        filter-append (λ j. eqb (par j) k)
+            (range (at lo) (at (suc lo) - at lo)) (range (at (suc lo)) (at hi - at (suc lo))),
+      )
+      (ap₂ _++_ (filter-range-none (λ j. eqb (par j) k) (at lo) (at (suc lo) - at lo)
+      (λ j p q. ne-eqb (par j) k (λ x. omega (arith, b .own lo j (omega arith) (omega arith) p (omega arith)))))
       (apart-from m (suc lo) hi k (omega arith) (less lo hi b) (omega arith)))
 
   pub blocks : (m lo hi k : ℕ) → lo + m ≡ hi → Blocks lo hi → lo ≤ k → k < hi
@@ -136,12 +146,20 @@ module _ (par at : ℕ → ℕ) where
       let v = b .up (suc lo) hi (omega arith) (omega arith) (omega arith) in
       let s : at hi - at lo ≡ (at (suc lo) - at lo) + (at hi - at (suc lo)) = omega arith in
       let f : at lo + (at (suc lo) - at lo) ≡ at (suc lo) = omega arith in
-      rw (s, range-append (at lo) (at (suc lo) - at lo) (at hi - at (suc lo)), f, filter-append (λ j. eqb (par j) k) (range (at lo) (at (suc lo) - at lo)) (range (at (suc lo)) (at hi - at (suc lo))))
+      rw (
+        s,
+        range-append (at lo) (at (suc lo) - at lo) (at hi - at (suc lo)),
+        f,
+        filter-append (λ j. eqb (par j) k)
+            (range (at lo) (at (suc lo) - at lo)) (range (at (suc lo)) (at hi - at (suc lo))),
+      )
       (⊎-elim
       (λ (z : lo ≡ k).
-      ap₂ _++_ (filter-range-all (λ j. eqb (par j) k) (at lo) (at (suc lo) - at lo) (λ j p q. eq-eqb (par j) k (b .own lo j (omega arith) (omega arith) p (omega arith) ∙ z)))
+      ap₂ _++_ (filter-range-all (λ j. eqb (par j) k) (at lo) (at (suc lo) - at lo)
+      (λ j p q. eq-eqb (par j) k (b .own lo j (omega arith) (omega arith) p (omega arith) ∙ z)))
       (apart-from m (suc lo) hi k (omega arith) (less lo hi b) (omega arith)) ∙ append-nil (range (at lo) (at (suc lo) - at lo)) ∙ rw z)
       (λ (z : lo < k).
-      ap₂ _++_ (filter-range-none (λ j. eqb (par j) k) (at lo) (at (suc lo) - at lo) (λ j p q. ne-eqb (par j) k (λ x. omega (arith, b .own lo j (omega arith) (omega arith) p (omega arith)))))
+      ap₂ _++_ (filter-range-none (λ j. eqb (par j) k) (at lo) (at (suc lo) - at lo)
+      (λ j p q. ne-eqb (par j) k (λ x. omega (arith, b .own lo j (omega arith) (omega arith) p (omega arith)))))
       (blocks m (suc lo) hi k (omega arith) (less lo hi b) (omega arith) g))
       (eq-or-lt-of-le h))

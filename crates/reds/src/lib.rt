@@ -232,7 +232,8 @@ fn flag_level(
     requires { ⌜ Old (now rows) (now status) (now marks) (now kids) ⌝ }
     requires { ⌜ Table (now xs) (now ys) (now heads) (now links) from n ⌝ }
     requires { ⌜ Span (now status) (now red) first last ⌝ }
-    ensures { λ r. ⌜ is red ≡ take first (was red) ++ (flagsAt (was rows) (was status) (was marks) (was kids) (listedb (was xs) (was ys) from n) first (last - first) ++ drop last (was red)) ⌝ }
+    ensures { λ r. ⌜ is red ≡ take first (was red) ++ (flagsAt (was rows) (was status) (was marks) (was kids) (listedb (was xs) (was ys) from n)
+        first (last - first) ++ drop last (was red)) ⌝ }
 {
     let mut c = first;
     while c < last {
@@ -266,7 +267,8 @@ fn flag_up(
 ) -> Entries
     requires { ⌜ Old (now rows) (now status) (now marks) (now kids) ⌝ }
     requires { ⌜ OneLevel (now status) (now kids) (now red) (now xs) (now ys) (now heads) (now links) first last ⌝ }
-    ensures { λ r. ⌜ Above (was rows) (was status) (was marks) (was kids) depth first last (was red) (is red) (is xs) (is ys) (is heads) (is links) (r .from) (r .n) ⌝ }
+    ensures { λ r. ⌜ Above (was rows) (was status) (was marks) (was kids) depth first last (was red) (is red) (is xs) (is ys) (is heads)
+        (is links) (r .from) (r .n) ⌝ }
 {
     if depth == 0 {
         return Entries { from: 0, n: 0 };

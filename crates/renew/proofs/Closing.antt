@@ -22,7 +22,13 @@ use Rattle.renew.proofs.Writing.{set-written, getD-behind, part-next}
 
 pattern-few : (es : List Pair) (c : Cell ℕ) → listedPattern es c ≤ 63
 unfolding listedPattern
-pattern-few es c = omega (arith, bits-more es c 0 (omega arith), bits-small es c 0 (omega arith), one-most (hasb isb es (sorted (edge 0 c 0))))
+pattern-few es c = omega (
+  arith,
+  bits-more es c 0 (omega arith),
+  bits-small es c 0 (omega arith),
+  one-most
+      (hasb isb es (sorted (edge 0 c 0))),
+)
 
 pub listed-few : (es : List Pair) (r : Bool) (c : Cell ℕ) → listedStatus es r c ≤ 64
 unfolding listedStatus
@@ -69,10 +75,19 @@ module _ (es : List Pair) (rows : List ℕ) (first last : ℕ) (table₀ : List 
   unfolding listedBy sizes cellsAt
   closing-start h =
       let e : first - first ≡ 0 = omega arith in
-      record { above = omega arith; below = h; long = refl; written-is = rw e (sym (written-none table₀ first)); many = rw e; few = omega arith }
+      record {
+        above = omega arith;
+        below = h;
+        long = refl;
+        written-is = rw e (sym (written-none table₀ first));
+        many = rw e;
+        few = omega
+            arith;
+      }
 
   module _ (table : List ℕ) (size c : ℕ) (r : Closing es rows first last table₀ table size c) where
-    pub closing-more : c < last → last ≤ length table₀ → (s z : ℕ) → s ≡ listedStatus es (redb (getD table c 0)) (cellAt rows c) → z ≡ sizeOf s → z ≤ 8
+    pub closing-more : c < last → last ≤ length table₀ → (s z : ℕ) → s ≡ listedStatus es (redb (getD table c 0)) (cellAt rows c)
+        → z ≡ sizeOf s → z ≤ 8
         → Closing es rows first last table₀ (set table c s) (size + z) (c + 1)
     closing-more h g s z es-is ez ze =
         let cs : List (Cell ℕ) = cellsAt rows first (c - first) in
@@ -82,10 +97,13 @@ module _ (es : List Pair) (rows : List ℕ) (first last : ℕ) (table₀ : List 
         let lc : length cs ≡ length rs = length-cells rows first (c - first) ∙ sym lr in
         let k : length (listedBy es cs rs) ≡ c - first = length-listed es cs rs lc ∙ lr in
         let w : first + length (listedBy es cs rs) ≡ c = omega arith in
-        let l : length (written table₀ first (listedBy es cs rs)) ≡ length table₀ = length-written table₀ first (listedBy es cs rs) (omega arith) in
-        let u : getD table c 0 ≡ getD table₀ c 0 = rw (r .written-is) (getD-behind table₀ first (listedBy es cs rs) (omega arith) c (omega arith)) in
+        let l : length (written table₀ first (listedBy es cs rs)) ≡ length table₀ = length-written table₀ first (listedBy es cs rs)
+        (omega arith) in
+        let u : getD table c 0 ≡ getD table₀ c 0 = rw (r .written-is)
+        (getD-behind table₀ first (listedBy es cs rs) (omega arith) c (omega arith)) in
         let e : listedBy es (cellsAt rows first (c + 1 - first)) (part table₀ first (c + 1 - first)) ≡ listedBy es cs rs ++ (s ∷ []) =
-        ap₂ (listedBy es) (cells-next rows first c up) (part-next table₀ first c up (omega arith)) ∙ listed-snoc es cs rs (cellAt rows c) (getD table₀ c 0) lc
+        ap₂ (listedBy es) (cells-next rows first c up) (part-next table₀ first c up (omega arith))
+        ∙ listed-snoc es cs rs (cellAt rows c) (getD table₀ c 0) lc
         ∙ ap (λ (x : ℕ). listedBy es cs rs ++ (x ∷ [])) (sym (es-is ∙ rw u)) in
         record {
           above = omega arith;

@@ -36,10 +36,19 @@ module _ (fs old : List ℕ) (first last : ℕ) (table₀ : List ℕ) where
   unfolding redsBy redCount
   flags-start h =
       let e : first - first ≡ 0 = omega arith in
-      record { above = omega arith; below = h; long = refl; written-is = rw e (sym (written-none table₀ first)); count = rw e; few = omega arith }
+      record {
+        above = omega arith;
+        below = h;
+        long = refl;
+        written-is = rw e (sym (written-none table₀ first));
+        count = rw e;
+        few = omega
+            arith;
+      }
 
   module _ (table : List ℕ) (n c : ℕ) (r : Flags fs old first last table₀ table n c) where
-    pub flags-more : c < last → last ≤ length old → last ≤ length table₀ → (f b : ℕ) → f ≡ flagOf (redb (getD fs (getD old c 0) 0)) → b ≡ one-if (redb f) → b ≤ 1
+    pub flags-more : c < last → last ≤ length old → last ≤ length table₀ → (f b : ℕ) → f ≡ flagOf (redb (getD fs (getD old c 0) 0))
+        → b ≡ one-if (redb f) → b ≤ 1
         → Flags fs old first last table₀ (set table c f) (n + b) (c + 1)
     flags-more h go gt f b ef eb one =
         let os : List ℕ = part old first (c - first) in

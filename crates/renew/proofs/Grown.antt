@@ -29,7 +29,8 @@ module _ (m : ℕ) (ss fs : List ℕ) (h k : ℕ) (cs : List (Cell Point)) (os :
   grow-step g = go cs g
     where
       go : (cs : List (Cell Point)) → 0 < length cs → growBy m ss fs (suc h) k cs os
-          ≡ statusesBy fs cs os ∷ growBy m ss fs h (k + length cs) (next k cs (statusesBy fs cs os)) (oldsNext m ss (statusesBy fs cs os) os)
+          ≡ statusesBy fs cs os ∷ growBy m ss fs h (k + length cs) (next k cs (statusesBy fs cs os))
+          (oldsNext m ss (statusesBy fs cs os) os)
       go [] g = absurd (omega arith)
       go (c ∷ cs) g = refl
 
@@ -50,10 +51,12 @@ fit-refined [] (t ∷ ts) e r = absurd (omega arith)
 fit-refined (c ∷ cs) [] e r = absurd (omega arith)
 fit-refined (c ∷ cs) (t ∷ ts) e r = rw (le-leb t 64 (r .0 .small)) (fit-refined cs ts (omega arith) (r .1))
 
-pub statuses-fit : (fs : List ℕ) (cs : List (Cell Point)) (os : List ℕ) → length os ≡ length cs → allb (λ s. leb s 64) (statusesBy fs cs os) ≡ true
+pub statuses-fit : (fs : List ℕ) (cs : List (Cell Point)) (os : List ℕ) → length os ≡ length cs
+    → allb (λ s. leb s 64) (statusesBy fs cs os) ≡ true
 statuses-fit fs cs os e = fit-refined cs (statusesBy fs cs os) (length-statuses fs cs os e) (refined-statuses fs cs os)
 
-pub grow-fit : (m : ℕ) (ss fs : List ℕ) (h k : ℕ) (cs : List (Cell Point)) (os : List ℕ) → length os ≡ length cs → allb (λ s. leb s 64) (flatten (growBy m ss fs h k cs os)) ≡ true
+pub grow-fit : (m : ℕ) (ss fs : List ℕ) (h k : ℕ) (cs : List (Cell Point)) (os : List ℕ) → length os ≡ length cs
+    → allb (λ s. leb s 64) (flatten (growBy m ss fs h k cs os)) ≡ true
 unfolding growBy flatMap flatten allb
 grow-fit m ss fs zero k cs os e = refl
 grow-fit m ss fs (suc h) k [] os e = refl
@@ -61,7 +64,11 @@ grow-fit m ss fs (suc h) k (c ∷ cs) os e =
     let ts : List ℕ = statusesBy fs (c ∷ cs) os in
     let us : List (List ℕ) = growBy m ss fs h (k + length (c ∷ cs)) (next k (c ∷ cs) ts) (oldsNext m ss ts os) in
     all-append (λ s. leb s 64) ts (flatten us)
-    ∙ rw (statuses-fit fs (c ∷ cs) os e, grow-fit m ss fs h (k + length (c ∷ cs)) (next k (c ∷ cs) ts) (oldsNext m ss ts os) (length-up m ss fs k (c ∷ cs) os e))
+    ∙ rw (
+      statuses-fit fs (c ∷ cs) os e,
+      grow-fit m ss fs h (k + length (c ∷ cs)) (next k (c ∷ cs) ts) (oldsNext m ss ts os)
+          (length-up m ss fs k (c ∷ cs) os e),
+    )
 
 -- a level of a table whose rest is known
 module _ (all : List ℕ) (first : ℕ) (ts us : List ℕ) (e : drop first all ≡ ts ++ us) (some : 0 < length ts) where

@@ -43,41 +43,51 @@ module _ (fs old rows : List ℕ) (first last : ℕ) (table xs ys heads links : 
     make-ready =
         let k : redCount (part table₁ first (last - first)) ≡ reds = rw flags-are (sym (f .count)) in
         let s : Space xs ys links n (6 * reds) =
-        record { small = omega (arith, r .few); in-xs = omega (arith, r .few, in-xs); in-ys = omega (arith, r .few, in-ys); in-links = omega (arith, r .few, in-links) } in
+        record {
+          small = omega (arith, r .few);
+          in-xs = omega (arith, r .few, in-xs);
+          in-ys = omega (arith, r .few, in-ys);
+          in-links = omega
+              (arith, r .few, in-links);
+        } in
         record { rows = in-rows; table = none-listed xs ys heads links n (r .keys); space = rw k s }
 
     module _ (xs₁ ys₁ heads₁ links₁ : List ℕ) (m : ℕ)
-        (g : Grown xs ys n n (redEdges 0 (cellsAt rows first (last - first)) (part table₁ first (last - first))) xs₁ ys₁ heads₁ links₁ m) where
-      pub make-looks : Looks rows xs₁ ys₁ heads₁ links₁ last n m
-      make-looks = record { rows = in-rows; table = record { keys = g .edges .keys; up = g .edges .up } }
+        (g : Grown xs ys n n (redEdges 0 (cellsAt rows first (last - first)) (part table₁ first (last - first))) xs₁ ys₁ heads₁ links₁ m)
+      where
+        pub make-looks : Looks rows xs₁ ys₁ heads₁ links₁ last n m
+        make-looks = record { rows = in-rows; table = record { keys = g .edges .keys; up = g .edges .up } }
 
-      nothing : listed xs ys n n ≡ []
-      unfolding pairsOf
-      nothing = let e : n - n ≡ 0 = omega arith in rw e
+        nothing : listed xs ys n n ≡ []
+        unfolding pairsOf
+        nothing = let e : n - n ≡ 0 = omega arith in rw e
 
-      grown-is : Grown xs ys n n (ownReds fs old rows first last) xs₁ ys₁ heads₁ links₁ m
-      grown-is = rw flags-are at g
+        grown-is : Grown xs ys n n (ownReds fs old rows first last) xs₁ ys₁ heads₁ links₁ m
+        grown-is = rw flags-are at g
 
-      list-is : listed xs₁ ys₁ n m ≡ addPairs [] (ownReds fs old rows first last)
-      list-is = grown-is .list ∙ rw nothing
+        list-is : listed xs₁ ys₁ n m ≡ addPairs [] (ownReds fs old rows first last)
+        list-is = grown-is .list ∙ rw nothing
 
-      module _ (table₂ : List ℕ) (size : ℕ) (c : Closed (listed xs₁ ys₁ n m) rows first last table₁ table₂ size) where
-        statuses-are : listedBy (listed xs₁ ys₁ n m) (cellsAt rows first (last - first)) (part table₁ first (last - first)) ≡ ownStatuses fs old rows first last
-        statuses-are = rw (list-is, flags-are)
+        module _ (table₂ : List ℕ) (size : ℕ) (c : Closed (listed xs₁ ys₁ n m) rows first last table₁ table₂ size) where
+          statuses-are : listedBy (listed xs₁ ys₁ n m) (cellsAt rows first (last - first)) (part table₁ first (last - first)) ≡ ownStatuses
+              fs
+              old rows first last
+          statuses-are = rw (list-is, flags-are)
 
-        same : length (ownStatuses fs old rows first last) ≡ length rs
-        same = length-listed (addPairs [] (ownReds fs old rows first last)) (ownCells fs old rows first last) rs (length-cells rows first (last - first) ∙ sym long)
+          same : length (ownStatuses fs old rows first last) ≡ length rs
+          same = length-listed (addPairs [] (ownReds fs old rows first last)) (ownCells fs old rows first last) rs
+              (length-cells rows first (last - first) ∙ sym long)
 
-        pub made : Made fs old rows first last table xs ys n table₂ xs₁ ys₁ heads₁ links₁ m size
-        made =
-            let z : size ≡ sizes (ownStatuses fs old rows first last) = c .many ∙ ap sizes statuses-are in
-            record {
-              least = inl z;
-              whole = λ h.
-                  record {
-                    written-is = c .written-is ∙ ap₂ (λ (a b : List ℕ). written a first b) (f .written-is) statuses-are
-                        ∙ written-over table first rs (ownStatuses fs old rows first last) same (omega (arith, long));
-                    many = z;
-                    grown = grown-is;
-                  };
-            }
+          pub made : Made fs old rows first last table xs ys n table₂ xs₁ ys₁ heads₁ links₁ m size
+          made =
+              let z : size ≡ sizes (ownStatuses fs old rows first last) = c .many ∙ ap sizes statuses-are in
+              record {
+                least = inl z;
+                whole = λ h.
+                    record {
+                      written-is = c .written-is ∙ ap₂ (λ (a b : List ℕ). written a first b) (f .written-is) statuses-are
+                          ∙ written-over table first rs (ownStatuses fs old rows first last) same (omega (arith, long));
+                      many = z;
+                      grown = grown-is;
+                    };
+              }

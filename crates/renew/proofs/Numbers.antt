@@ -38,7 +38,12 @@ sizes-few : (ss : List ℕ) → T (allb (λ s. leb s 64) ss) → sizes ss ≤ 8 
 unfolding sizes allb
 sizes-few [] t = omega arith
 sizes-few (s ∷ ss) t =
-    omega (arith, size-few s (leb→le s 64 (and-left (leb s 64) (allb (λ s. leb s 64) ss) t)), sizes-few ss (and-right (leb s 64) (allb (λ s. leb s 64) ss) t))
+    omega (
+      arith,
+      size-few s (leb→le s 64 (and-left (leb s 64) (allb (λ s. leb s 64) ss) t)),
+      sizes-few ss
+          (and-right (leb s 64) (allb (λ s. leb s 64) ss) t),
+    )
 
 module _ (m : ℕ) (ss ks : List ℕ) (w : Olds m ss ks) (o : ℕ) (h : o < length ss) where
   pub kid-few : getD ks o 0 ≤ 33024
@@ -104,7 +109,8 @@ module _ (m : ℕ) (ss : List ℕ) (t o : ℕ) (old₀ : List ℕ) (at size : �
   family-start = record { below = omega arith; long = refl; written-is = sym (written-none old₀ at) }
 
   module _ (old : List ℕ) (i : ℕ) (r : Family m ss t o old₀ at size old i) where
-    pub family-more : i < size → at + size ≤ length old₀ → (v : ℕ) → v ≡ oldIn m ss t o i → Family m ss t o old₀ at size (set old (at + i) v) (i + 1)
+    pub family-more : i < size → at + size ≤ length old₀ → (v : ℕ) → v ≡ oldIn m ss t o i
+        → Family m ss t o old₀ at size (set old (at + i) v) (i + 1)
     unfolding upTo
     family-more h g v e =
         let vs : List ℕ = map (oldIn m ss t o) (upTo i) in
@@ -115,7 +121,8 @@ module _ (m : ℕ) (ss : List ℕ) (t o : ℕ) (old₀ : List ℕ) (at size : �
         record {
           below = omega arith;
           long = length-set old (at + i) v ∙ r .long;
-          written-is = rw (r .written-is, s, map-append (oldIn m ss t o) (upTo i) (i ∷ []), ← e) (rw w at (set-written old₀ at vs v (omega arith) l));
+          written-is = rw (r .written-is, s, map-append (oldIn m ss t o) (upTo i) (i ∷ []), ← e)
+              (rw w at (set-written old₀ at vs v (omega arith) l));
         }
 
     pub family-all : size ≡ sizeOf t → size ≤ i → old ≡ written old₀ at (oldsOf m ss t o)
@@ -123,13 +130,15 @@ module _ (m : ℕ) (ss : List ℕ) (t o : ℕ) (old₀ : List ℕ) (at size : �
     family-all e h = let w : i ≡ sizeOf t = omega (arith, r .below) in rw w at (r .written-is)
 
 -- the numbers of the families of a level
-olds-snoc : (m : ℕ) (ss ts os : List ℕ) (t o : ℕ) → length ts ≡ length os → oldsNext m ss (ts ++ (t ∷ [])) (os ++ (o ∷ [])) ≡ oldsNext m ss ts os ++ oldsOf m ss t o
+olds-snoc : (m : ℕ) (ss ts os : List ℕ) (t o : ℕ) → length ts ≡ length os → oldsNext m ss (ts ++ (t ∷ [])) (os ++ (o ∷ [])) ≡ oldsNext m ss
+    ts os ++ oldsOf m ss t o
 unfolding oldsNext
 olds-snoc m ss [] [] t o e = append-nil (oldsOf m ss t o)
 olds-snoc m ss [] (p ∷ os) t o e = absurd (omega arith)
 olds-snoc m ss (s ∷ ts) [] t o e = absurd (omega arith)
 olds-snoc m ss (s ∷ ts) (p ∷ os) t o e =
-    ap (λ (l : List ℕ). oldsOf m ss s p ++ l) (olds-snoc m ss ts os t o (omega arith)) ∙ sym (append-assoc (oldsOf m ss s p) (oldsNext m ss ts os) (oldsOf m ss t o))
+    ap (λ (l : List ℕ). oldsOf m ss s p ++ l) (olds-snoc m ss ts os t o (omega arith))
+    ∙ sym (append-assoc (oldsOf m ss s p) (oldsNext m ss ts os) (oldsOf m ss t o))
 
 pub record Families (m : ℕ) (ss table : List ℕ) (first last : ℕ) (old₀ : List ℕ) (at : ℕ) (old : List ℕ) (k c : ℕ) : Type 0 where
   pub above : first ≤ c
@@ -145,15 +154,25 @@ module _ (m : ℕ) (ss table : List ℕ) (first last : ℕ) (old₀ : List ℕ) 
       let e : first - first ≡ 0 = omega arith in
       record { above = omega arith; below = h; long = refl; written-is = rw e (sym (written-none old₀ at)); next = rw e (omega arith) }
 
-  module _ (old : List ℕ) (k c : ℕ) (r : Families m ss table first last old₀ at old k c) (h : c < last) (done : last ≤ at) (inside : last ≤ length table)
+  module _ (old : List ℕ) (k c : ℕ) (r : Families m ss table first last old₀ at old k c) (h : c < last) (done : last ≤ at)
+      (inside : last ≤ length table)
       (room : at + sizes (part table first (last - first)) ≤ length old₀) where
     one : sizes (part table first (c + 1 - first)) ≡ sizes (part table first (c - first)) + sizeOf (getD table c 0)
     one = sizes-step table first c (r .above) (omega arith)
 
     pub families-room : k + sizeOf (getD table c 0) ≤ length old
-    families-room = omega (arith, one, r .next, r .long, r .above, sizes-take (drop first table) (c + 1 - first) (last - first) (omega (arith, r .above)))
+    families-room = omega (
+      arith,
+      one,
+      r .next,
+      r .long,
+      r .above,
+      sizes-take (drop first table) (c + 1 - first) (last - first)
+          (omega (arith, r .above)),
+    )
 
-    pub families-more : (old₁ : List ℕ) (k₁ : ℕ) → k₁ ≡ k + sizeOf (getD table c 0) → old₁ ≡ written old k (oldsOf m ss (getD table c 0) (getD old c 0)) → length old₁ ≡ length old
+    pub families-more : (old₁ : List ℕ) (k₁ : ℕ) → k₁ ≡ k + sizeOf (getD table c 0)
+        → old₁ ≡ written old k (oldsOf m ss (getD table c 0) (getD old c 0)) → length old₁ ≡ length old
         → Families m ss table first last old₀ at old₁ k₁ (c + 1)
     families-more old₁ k₁ ek e l =
         let up : first ≤ c = r .above in
@@ -165,8 +184,10 @@ module _ (m : ℕ) (ss table : List ℕ) (first last : ℕ) (old₀ : List ℕ) 
         let lv : length vs ≡ sizes ts = length-olds m ss ts os (lo ∙ sym lt) in
         let w : k ≡ at + length vs = omega (arith, r .next) in
         let u : getD old c 0 ≡ getD old₀ c 0 = rw (r .written-is) (getD-written old₀ at vs (omega arith) c 0 (omega arith)) in
-        let n : oldsNext m ss (part table first (c + 1 - first)) (part old₀ first (c + 1 - first)) ≡ vs ++ oldsOf m ss (getD table c 0) (getD old₀ c 0) =
-        ap₂ (oldsNext m ss) (part-next table first c up (omega arith)) (part-next old₀ first c up (omega arith)) ∙ olds-snoc m ss ts os (getD table c 0) (getD old₀ c 0) (lt ∙ sym lo) in
+        let n : oldsNext m ss (part table first (c + 1 - first)) (part old₀ first (c + 1 - first)) ≡ vs ++ oldsOf m ss (getD table c 0)
+        (getD old₀ c 0) =
+        ap₂ (oldsNext m ss) (part-next table first c up (omega arith)) (part-next old₀ first c up (omega arith))
+        ∙ olds-snoc m ss ts os (getD table c 0) (getD old₀ c 0) (lt ∙ sym lo) in
         let b : at + length vs ≤ length old₀ = omega (arith, families-room, r .long) in
         record {
           above = omega arith;

@@ -32,13 +32,15 @@ module _ (ks : List Corner) (ds : List (Cell Point)) (rs : List ℕ) (pd : All (
   abbrev reds : List Pair
   reds = redEdges 0 (numberedCells ks ds) rs
 
-  listed-are : (cs : List (Cell Point)) (ss : List ℕ) → All (Placed ks) cs → listedBy (addPairs [] reds) (map strip (numberedCells ks cs)) ss ≡ closedBy (redEdges [] ds rs) cs ss
+  listed-are : (cs : List (Cell Point)) (ss : List ℕ) → All (Placed ks) cs → listedBy (addPairs [] reds) (map strip (numberedCells ks cs))
+      ss ≡ closedBy (redEdges [] ds rs) cs ss
   unfolding listedBy closedBy
   listed-are [] ss p = refl
   listed-are (c ∷ cs) [] p = refl
   listed-are (c ∷ cs) (s ∷ ss) p =
       ap₂ _∷_
-      (status-listed (addPairs [] reds) reds (lists-added reds) (redb s) (strip (mapCell (numberIn ks) c)) ∙ status-strip reds (redb s) (mapCell (numberIn ks) c)
+      (status-listed (addPairs [] reds) reds (lists-added reds) (redb s) (strip (mapCell (numberIn ks) c))
+      ∙ status-strip reds (redb s) (mapCell (numberIn ks) c)
       ∙ red-status-numbers ks ds rs pd (redb s) c (p .0))
       (listed-are cs ss (p .1))
 
@@ -53,7 +55,8 @@ module _ (ks : List Corner) (cs : List (Cell Point)) (p : All (Placed ks) cs) (f
   module _ (small : length fs ≤ 65535) (w : Owned cs os) where
     pub reds-are : redEdges 0 zs (redsBy fs os) ≡ redEdges 0 zs (statusesBy fs cs os)
     reds-are =
-        red-strip (numberedCells ks cs) (redsBy fs os) ∙ red-edges-numbers ks cs (redsBy fs os) p ∙ ap (map (edgeIn ks)) (sym (reds-same fs small cs os w))
+        red-strip (numberedCells ks cs) (redsBy fs os) ∙ red-edges-numbers ks cs (redsBy fs os) p
+        ∙ ap (map (edgeIn ks)) (sym (reds-same fs small cs os w))
         ∙ sym (red-strip (numberedCells ks cs) (statusesBy fs cs os) ∙ red-edges-numbers ks cs (statusesBy fs cs os) p)
 
     pub counts-are : redCount (redsBy fs os) ≡ redCount (statusesBy fs cs os)

@@ -44,8 +44,10 @@ room-fits n qs ss fs =
       fit = is-true _ (all-take (λ s. leb s 64) 4096 (flatten (renewed n qs ss fs)) (rw f tt));
     }
 
-module _ (n : ℕ) (qs : List (List ℕ)) (ss fs : List ℕ) (j first last : ℕ) (rows xs ys heads links : List ℕ) (k : ℕ) (ps ps′ heads′ links′ : List ℕ) (m : ℕ)
-    (old table : List ℕ) (g : Going n qs ss fs j first last rows xs ys heads links k ps ps′ heads′ links′ m old table) (small : length fs ≤ 4096) where
+module _ (n : ℕ) (qs : List (List ℕ)) (ss fs : List ℕ) (j first last : ℕ) (rows xs ys heads links : List ℕ) (k : ℕ)
+    (ps ps′ heads′ links′ : List ℕ) (m : ℕ)
+    (old table : List ℕ) (g : Going n qs ss fs j first last rows xs ys heads links k ps ps′ heads′ links′ m old table)
+    (small : length fs ≤ 4096) where
   abbrev pub cells : List (Cell Point)
   cells = g .here .cells
 
@@ -74,7 +76,8 @@ module _ (n : ℕ) (qs : List (List ℕ)) (ss fs : List ℕ) (j first last : ℕ
   step =
       let e : 12 - j ≡ suc (11 - j) = omega (arith, g .here .low) in
       rw e (grow-step (length qs) ss fs (11 - j) first cells olds (g .here .some))
-      ∙ ap (λ (x : ℕ). own ∷ growBy (length qs) ss fs (11 - j) x (next first cells own) (oldsNext (length qs) ss own olds)) (sym (g .here .end))
+      ∙ ap (λ (x : ℕ). own ∷ growBy (length qs) ss fs (11 - j) x (next first cells own) (oldsNext (length qs) ss own olds))
+      (sym (g .here .end))
 
   split : drop first all ≡ own ++ flatten above
   split = g .rest ∙ ap flatten step ∙ concat-one own above
@@ -97,12 +100,14 @@ module _ (n : ℕ) (qs : List (List ℕ)) (ss fs : List ℕ) (j first last : ℕ
   pub room-own : part (roomy all) first (last - first) ≡ own
   room-own =
       let e : last - first ≡ length own = omega (arith, end-own) in
-      ap (λ (x : ℕ). part (roomy all) first x) e ∙ part-cut all first own (flatten above) split some 4096 (omega (arith, end-own, g .here .few))
+      ap (λ (x : ℕ). part (roomy all) first x) e ∙ part-cut all first own (flatten above) split some 4096
+      (omega (arith, end-own, g .here .few))
 
   pub room-cells : part (roomy all) first (length cells) ≡ own
   room-cells = let e : length cells ≡ last - first = omega (arith, g .here .end) in ap (λ (x : ℕ). part (roomy all) first x) e ∙ room-own
 
-  pub closed : closedFrom [] sameb (redEdges [] cells (part (roomy all) first (length cells))) cells (part (roomy all) first (length cells)) ≡ true
+  pub closed : closedFrom [] sameb (redEdges [] cells (part (roomy all) first (length cells))) cells (part (roomy all) first (length cells))
+      ≡ true
   closed = rw room-cells (closed-by fs tiny cells olds (g .owned))
 
   pub inside : last ≤ length (roomy all)
@@ -135,13 +140,15 @@ module _ (n : ℕ) (qs : List (List ℕ)) (ss fs : List ℕ) (j first last : ℕ
   up = statusesBy fs (next first cells own) (oldsNext (length qs) ss own olds)
 
   abbrev over : ℕ → List (List ℕ)
-  over h = growBy (length qs) ss fs h (last + length (next first cells own)) (next last (next first cells own) up) (oldsNext (length qs) ss up (oldsNext (length qs) ss own olds))
+  over h = growBy (length qs) ss fs h (last + length (next first cells own)) (next last (next first cells own) up)
+      (oldsNext (length qs) ss up (oldsNext (length qs) ss own olds))
 
   module _ (more : 0 < sizes own) where
     step-up : above ≡ up ∷ over (10 - j)
     step-up =
         let e : 11 - j ≡ suc (10 - j) = omega (arith, g .here .low) in
-        rw e (grow-step (length qs) ss fs (10 - j) last (next first cells own) (oldsNext (length qs) ss own olds) (omega (arith, length-above)))
+        rw e (grow-step (length qs) ss fs (10 - j) last (next first cells own) (oldsNext (length qs) ss own olds)
+        (omega (arith, length-above)))
 
     pub has-more : last + sizes own ≤ length all
     has-more =
@@ -173,7 +180,8 @@ module _ (n : ℕ) (qs : List (List ℕ)) (ss fs : List ℕ) (j first last : ℕ
     all-height = omega (arith, height-above, ap length nothing)
 
   -- What making the level finds.
-  module _ (table₁ xs₁ ys₁ heads₁ links₁ : List ℕ) (k₁ size : ℕ) (d : Made fs old rows first last table xs ys k table₁ xs₁ ys₁ heads₁ links₁ k₁ size) where
+  module _ (table₁ xs₁ ys₁ heads₁ links₁ : List ℕ) (k₁ size : ℕ)
+      (d : Made fs old rows first last table xs ys k table₁ xs₁ ys₁ heads₁ links₁ k₁ size) where
     pub size-least : size ≤ sizes own
     size-least =
         ⊎-elim (λ e. omega (arith, e, ap sizes made-statuses))

@@ -47,7 +47,8 @@ module _ (n : ℕ) (qs : List (List ℕ)) (ss fs rows ps ps′ table : List ℕ)
         sound = λ z. absurd (omega arith);
       }
 
-  pub result-many : refusal ≡ 9 → 4096 < length (flatten (renewed n qs ss fs)) → Result n qs ss fs rows ps ps′ table refusal cells levels mids
+  pub result-many : refusal ≡ 9 → 4096 < length (flatten (renewed n qs ss fs)) → Result n qs ss fs rows ps ps′ table refusal cells levels
+      mids
   result-many e h =
       record {
         one = inr (inr e);
@@ -60,8 +61,10 @@ module _ (n : ℕ) (qs : List (List ℕ)) (ss fs rows ps ps′ table : List ℕ)
       }
 
 -- growing speaks of the statuses of its cells alone
-grows-same : (cells xs ys ss ts : List ℕ) (first k l at n m : ℕ) (cells′ xs′ ys′ heads′ links′ : List ℕ) (at′ m′ : ℕ) → part ss first k ≡ part ts first k
-    → Grows cells xs ys ss first k l at n m cells′ xs′ ys′ heads′ links′ at′ m′ → Grows cells xs ys ts first k l at n m cells′ xs′ ys′ heads′ links′ at′ m′
+grows-same : (cells xs ys ss ts : List ℕ) (first k l at n m : ℕ) (cells′ xs′ ys′ heads′ links′ : List ℕ) (at′ m′ : ℕ)
+    → part ss first k ≡ part ts first k
+    → Grows cells xs ys ss first k l at n m cells′ xs′ ys′ heads′ links′ at′ m′ → Grows cells xs ys ts first k l at n m cells′ xs′ ys′
+    heads′ links′ at′ m′
 grows-same cells xs ys ss ts first k l at n m cells′ xs′ ys′ heads′ links′ at′ m′ e g =
     record {
       edges = g .edges;
@@ -74,9 +77,12 @@ grows-same cells xs ys ss ts first k l at n m cells′ xs′ ys′ heads′ link
       few = g .few;
     }
 
-module _ (n : ℕ) (qs : List (List ℕ)) (ss fs : List ℕ) (j first last : ℕ) (rows xs ys heads links : List ℕ) (k : ℕ) (ps ps′ heads′ links′ : List ℕ) (m : ℕ)
-    (old table : List ℕ) (g : Going n qs ss fs j first last rows xs ys heads links k ps ps′ heads′ links′ m old table) (small : length fs ≤ 4096)
-    (table₁ xs₁ ys₁ heads₁ links₁ : List ℕ) (k₁ size : ℕ) (d : Made fs old rows first last table xs ys k table₁ xs₁ ys₁ heads₁ links₁ k₁ size)
+module _ (n : ℕ) (qs : List (List ℕ)) (ss fs : List ℕ) (j first last : ℕ) (rows xs ys heads links : List ℕ) (k : ℕ)
+    (ps ps′ heads′ links′ : List ℕ) (m : ℕ)
+    (old table : List ℕ) (g : Going n qs ss fs j first last rows xs ys heads links k ps ps′ heads′ links′ m old table)
+    (small : length fs ≤ 4096)
+    (table₁ xs₁ ys₁ heads₁ links₁ : List ℕ) (k₁ size : ℕ)
+    (d : Made fs old rows first last table xs ys k table₁ xs₁ ys₁ heads₁ links₁ k₁ size)
     (in-old : 4096 ≤ length old) (in-table : 4096 ≤ length table) (fit : last + size ≤ 4096) where
   abbrev own : List ℕ
   own = turn.own n qs ss fs j first last rows xs ys heads links k ps ps′ heads′ links′ m old table g small
@@ -105,12 +111,15 @@ module _ (n : ℕ) (qs : List (List ℕ)) (ss fs : List ℕ) (j first last : ℕ
   part-table : part table₁ first (last - first) ≡ own
   part-table =
       let e : length own ≡ last - first = omega (arith, end-own) in
-      ap (λ (l : List ℕ). part l first (last - first)) table-is ∙ part-written table first own (last - first) e (omega (arith, end-own, in-table, g .here .few))
+      ap (λ (l : List ℕ). part l first (last - first)) table-is ∙ part-written table first own (last - first) e
+      (omega (arith, end-own, in-table, g .here .few))
 
   front : take last table₁ ≡ take last all
   front =
-      let a : take (first + length own) (written table first own) ≡ take first table ++ own = take-written table first own (omega (arith, end-own, in-table, g .here .few)) in
-      let b : take last (written table first own) ≡ take first table ++ own = ap (λ (x : ℕ). take x (written table first own)) (sym end-own) ∙ a in
+      let a : take (first + length own) (written table first own) ≡ take first table ++ own = take-written table first own
+      (omega (arith, end-own, in-table, g .here .few)) in
+      let b : take last (written table first own) ≡ take first table ++ own = ap (λ (x : ℕ). take x (written table first own)) (sym end-own)
+      ∙ a in
       ap (take last) table-is ∙ b ∙ ap (λ (l : List ℕ). l ++ own) (g .front)
       ∙ sym (turn.front-own n qs ss fs j first last rows xs ys heads links k ps ps′ heads′ links′ m old table g small)
 
@@ -122,7 +131,8 @@ module _ (n : ℕ) (qs : List (List ℕ)) (ss fs : List ℕ) (j first last : ℕ
       let r = g .here .reds in
       let lo : length (ownFlags fs old rows first last) ≡ last - first =
       same.length-redsBy fs olds ∙ length-part old first (last - first) (omega (arith, g .here .end, g .here .few, in-old)) in
-      let q = length-reds (ownCells fs old rows first last) (ownFlags fs old rows first last) (length-cells rows first (last - first) ∙ sym lo) in
+      let q = length-reds (ownCells fs old rows first last) (ownFlags fs old rows first last) (length-cells rows first (last - first)
+      ∙ sym lo) in
       let c = turn.made-count n qs ss fs j first last rows xs ys heads links k ps ps′ heads′ links′ m old table g small in
       record {
         keys = whole .grown .edges .keys;
@@ -172,8 +182,11 @@ module _ (n : ℕ) (qs : List (List ℕ)) (ss fs : List ℕ) (j first last : ℕ
   small-own c a b =
       let w : first + (c - first) ≡ c = omega arith in
       let e : getD own (c - first) 0 ≡ getD table₁ c 0 =
-      sym (ap (λ (l : List ℕ). getD l (c - first) 0) part-table) ∙ getD-take (last - first) (drop first table₁) (c - first) 0 (omega arith) ∙ getD-drop first table₁ (c - first) 0 ∙ rw w in
-      let f = leb→le (getD own (c - first) 0) 64 (allb-at (λ s. leb s 64) 0 own (turn.own-fits n qs ss fs j first last rows xs ys heads links k ps ps′ heads′ links′ m old table g small) (c - first)
+      sym (ap (λ (l : List ℕ). getD l (c - first) 0) part-table) ∙ getD-take (last - first) (drop first table₁) (c - first) 0 (omega arith)
+      ∙ getD-drop first table₁ (c - first) 0 ∙ rw w in
+      let f = leb→le (getD own (c - first) 0) 64
+      (allb-at (λ s. leb s 64) 0 own (turn.own-fits n qs ss fs j first last rows xs ys heads links k ps ps′ heads′ links′ m old table g
+      small) (c - first)
       (omega (arith, end-own))) in
       omega (arith, e, f)
 
@@ -203,14 +216,16 @@ module _ (n : ℕ) (qs : List (List ℕ)) (ss fs : List ℕ) (j first last : ℕ
       (w : Grows rows ps ps′ table₁ first (last - first) (suc j) last n m rows₂ ps₂ ps₂′ heads₂ links₂ last₂ m₂)
       (old₂ : List ℕ) (o : old₂ ≡ written old last (oldsNext (length qs) ss (part table₁ first (last - first)) olds)) where
     grows : Grows rows ps ps′ (roomy all) first (last - first) (suc j) last n m rows₂ ps₂ ps₂′ heads₂ links₂ last₂ m₂
-    grows = grows-same rows ps ps′ table₁ (roomy all) first (last - first) (suc j) last n m rows₂ ps₂ ps₂′ heads₂ links₂ last₂ m₂ (part-table ∙ sym room-own) w
+    grows = grows-same rows ps ps′ table₁ (roomy all) first (last - first) (suc j) last n m rows₂ ps₂ ps₂′ heads₂ links₂ last₂ m₂
+        (part-table ∙ sym room-own) w
 
     end-next : last₂ ≡ last + sizes own
     end-next = omega (arith, w .next, room-sizes, size-is)
 
     in-room : last + sizes (part (roomy all) first (last - first)) ≤ length (roomy all)
     in-room =
-        let a = turn.has-more n qs ss fs j first last rows xs ys heads links k ps ps′ heads′ links′ m old table g small (omega (arith, size-is, more)) in
+        let a = turn.has-more n qs ss fs j first last rows xs ys heads links k ps ps′ heads′ links′ m old table g small
+        (omega (arith, size-is, more)) in
         simp length-take (omega (arith, a, ap sizes room-own, size-is))
 
     reds-next : Reds xs₁ ys₁ heads₁ links₁ k₁ last₂
@@ -232,14 +247,19 @@ module _ (n : ℕ) (qs : List (List ℕ)) (ss fs : List ℕ) (j first last : ℕ
         (turn.inside n qs ss fs j first last rows xs ys heads links k ps ps′ heads′ links′ m old table g small)
         (omega (arith, low, g .here .low)) (turn.room-fits n qs ss fs) in-room (omega (arith, ap sizes room-own, size-is, more)) long
         rows₂ ps₂ ps₂′ heads₂ links₂ last₂ m₂ grows xs₁ ys₁ heads₁ links₁ k₁ grown reds-next
-        ∙ ap (next first (g .here .cells)) (turn.room-cells n qs ss fs j first last rows xs ys heads links k ps ps′ heads′ links′ m old table g small)
+        ∙ ap (next first (g .here .cells)) (turn.room-cells n qs ss fs j first last rows xs ys heads links k ps ps′ heads′ links′ m old
+        table g small)
 
     olds-up : part old₂ last (last₂ - last) ≡ oldsNext (length qs) ss own olds
     olds-up =
-        let lo : length own ≡ length olds = omega (arith, end-own, length-part old first (last - first) (omega (arith, g .here .end, g .here .few, in-old))) in
-        let e : length (oldsNext (length qs) ss own olds) ≡ last₂ - last = length-olds (length qs) ss own olds (sym lo) ∙ omega (arith, end-next) in
-        let q : old₂ ≡ written old last (oldsNext (length qs) ss own olds) = o ∙ ap (λ (l : List ℕ). written old last (oldsNext (length qs) ss l olds)) part-table in
-        ap (λ (l : List ℕ). part l last (last₂ - last)) q ∙ part-written old last (oldsNext (length qs) ss own olds) (last₂ - last) e (omega (arith, in-old, g .here .few))
+        let lo : length own ≡ length olds = omega
+        (arith, end-own, length-part old first (last - first) (omega (arith, g .here .end, g .here .few, in-old))) in
+        let e : length (oldsNext (length qs) ss own olds) ≡ last₂ - last = length-olds (length qs) ss own olds (sym lo)
+        ∙ omega (arith, end-next) in
+        let q : old₂ ≡ written old last (oldsNext (length qs) ss own olds) = o
+        ∙ ap (λ (l : List ℕ). written old last (oldsNext (length qs) ss l olds)) part-table in
+        ap (λ (l : List ℕ). part l last (last₂ - last)) q ∙ part-written old last (oldsNext (length qs) ss own olds) (last₂ - last) e
+        (omega (arith, in-old, g .here .few))
 
     pub going-next : Going n qs ss fs (suc j) last last₂ rows₂ xs₁ ys₁ heads₁ links₁ k₁ ps₂ ps₂′ heads₂ links₂ m₂ old₂ table₁
     going-next =
@@ -247,7 +267,9 @@ module _ (n : ℕ) (qs : List (List ℕ)) (ss fs : List ℕ) (j first last : ℕ
         record {
           here = here-up;
           owned = rw (cells-up, olds-up) (owned-next (length qs) ss first (g .here .cells) own olds (g .owned));
-          height = rw (cells-up, olds-up, e) (turn.height-above n qs ss fs j first last rows xs ys heads links k ps ps′ heads′ links′ m old table g small);
-          rest = rw (cells-up, olds-up, e) (turn.rest-above n qs ss fs j first last rows xs ys heads links k ps ps′ heads′ links′ m old table g small);
+          height = rw (cells-up, olds-up, e) (turn.height-above n qs ss fs j first last rows xs ys heads links k ps ps′ heads′ links′ m old
+              table g small);
+          rest = rw (cells-up, olds-up, e) (turn.rest-above n qs ss fs j first last rows xs ys heads links k ps ps′ heads′ links′ m old
+              table g small);
           front = front;
         }

@@ -22,15 +22,18 @@ take-before l i k vs h g =
 
 module _ (l : List ℕ) (i : ℕ) (vs : List ℕ) where
   -- one element more
-  pub set-written : (v : ℕ) → i + length vs < length l → length (written l i vs) ≡ length l → set (written l i vs) (i + length vs) v ≡ written l i (vs ++ (v ∷ []))
+  pub set-written : (v : ℕ) → i + length vs < length l → length (written l i vs) ≡ length l
+      → set (written l i vs) (i + length vs) v ≡ written l i (vs ++ (v ∷ []))
   set-written v h e = set-one (written l i vs) (i + length vs) v (omega arith) ∙ written-more l i vs (omega arith) (v ∷ [])
 
   -- what stands behind
   pub getD-behind : i + length vs ≤ length l → (j : ℕ) → i + length vs ≤ j → getD (written l i vs) j 0 ≡ getD l j 0
   getD-behind h j g =
       let w : i + length vs + (j - (i + length vs)) ≡ j = omega arith in
-      let a : getD (drop (i + length vs) (written l i vs)) (j - (i + length vs)) 0 ≡ getD (written l i vs) j 0 = getD-drop (i + length vs) (written l i vs) (j - (i + length vs)) 0 ∙ rw w in
-      let b : getD (drop (i + length vs) l) (j - (i + length vs)) 0 ≡ getD l j 0 = getD-drop (i + length vs) l (j - (i + length vs)) 0 ∙ rw w in
+      let a : getD (drop (i + length vs) (written l i vs)) (j - (i + length vs)) 0 ≡ getD (written l i vs) j 0 = getD-drop (i + length vs)
+      (written l i vs) (j - (i + length vs)) 0 ∙ rw w in
+      let b : getD (drop (i + length vs) l) (j - (i + length vs)) 0 ≡ getD l j 0 = getD-drop (i + length vs) l (j - (i + length vs)) 0
+      ∙ rw w in
       sym a ∙ ap (λ (r : List ℕ). getD r (j - (i + length vs)) 0) (drop-written l i vs h) ∙ b
 
   drop-front : i ≤ length l → drop i (written l i vs) ≡ vs ++ drop (i + length vs) l
@@ -48,7 +51,8 @@ module _ (l : List ℕ) (i : ℕ) (vs : List ℕ) where
       ap₂ (λ (a b : List ℕ). a ++ (ws ++ b)) (take-before l i i vs (omega arith) (omega arith)) (rw e (drop-written l i vs h))
 
 -- a part, one element more
-pub part-next : (l : List ℕ) (first c : ℕ) → first ≤ c → c < length l → part l first (c + 1 - first) ≡ part l first (c - first) ++ (getD l c 0 ∷ [])
+pub part-next : (l : List ℕ) (first c : ℕ) → first ≤ c → c < length l → part l first (c + 1 - first) ≡ part l first (c - first)
+    ++ (getD l c 0 ∷ [])
 part-next l first c h g =
     let e : c + 1 - first ≡ suc (c - first) = omega arith in
     let w : first + (c - first) ≡ c = omega arith in

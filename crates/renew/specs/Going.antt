@@ -15,11 +15,14 @@ use Rattle.renew.specs.Result.{renewed}
 abbrev pub roomy : List ℕ → List ℕ
 roomy ss = take 4096 ss
 
-module _ (n : ℕ) (qs : List (List ℕ)) (ss fs : List ℕ) (j first last : ℕ) (rows xs ys heads links : List ℕ) (k : ℕ) (ps ps′ heads′ links′ : List ℕ) (m : ℕ)
+module _ (n : ℕ) (qs : List (List ℕ)) (ss fs : List ℕ) (j first last : ℕ) (rows xs ys heads links : List ℕ) (k : ℕ)
+    (ps ps′ heads′ links′ : List ℕ) (m : ℕ)
     (old table : List ℕ) where
   pub record Going : Type 0 where
     pub here : Here n qs (roomy (flatten (renewed n qs ss fs))) j first last rows xs ys heads links k ps ps′ heads′ links′ m
     pub owned : Owned (here .cells) (part old first (last - first))
-    pub height : length (renewed n qs ss fs) ≡ j + length (growBy (length qs) ss fs (12 - j) first (here .cells) (part old first (last - first)))
-    pub rest : drop first (flatten (renewed n qs ss fs)) ≡ flatten (growBy (length qs) ss fs (12 - j) first (here .cells) (part old first (last - first)))
+    pub height : length (renewed n qs ss fs) ≡ j + length
+        (growBy (length qs) ss fs (12 - j) first (here .cells) (part old first (last - first)))
+    pub rest : drop first (flatten (renewed n qs ss fs)) ≡ flatten
+        (growBy (length qs) ss fs (12 - j) first (here .cells) (part old first (last - first)))
     pub front : take first table ≡ take first (flatten (renewed n qs ss fs))

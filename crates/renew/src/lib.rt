@@ -107,7 +107,8 @@ fn make_level(
     requires { ⌜ Reds (now xs) (now ys) (now heads) (now links) n last ⌝ }
     requires { ⌜ (3072 ≤ length (now xs)) × (3072 ≤ length (now ys)) × (3072 ≤ length (now links)) ⌝ }
     requires { ⌜ (first ≤ last) × (last ≤ 4096) × (last ≤ length (now old)) × (last ≤ length (now table)) × (8 * last ≤ length (now rows)) ⌝ }
-    ensures { λ r. ⌜ Made (was red) (was old) (was rows) first last (was table) (was xs) (was ys) n (is table) (is xs) (is ys) (is heads) (is links) (r .n) (r .size) ⌝ }
+    ensures { λ r. ⌜ Made (was red) (was old) (was rows) first last (was table) (was xs) (was ys) n (is table) (is xs) (is ys) (is heads)
+        (is links) (r .n) (r .size) ⌝ }
 {
     let reds = flag_level(red, old, first, last, table);
     if 8 * reds > 4096 - last {
@@ -171,9 +172,11 @@ fn old_level(
     at: usize,
 )
     requires { ⌜ Olds coarse (now status) (now kids) ⌝ }
-    requires { ⌜ (first ≤ last) × (last ≤ at) × (last ≤ length (now table)) × (at + sizes (part (now table) first (last - first)) ≤ length (now old)) ⌝ }
+    requires { ⌜ (first ≤ last) × (last ≤ at) × (last ≤ length (now table))
+        × (at + sizes (part (now table) first (last - first)) ≤ length (now old)) ⌝ }
     requires { ⌜ ((c : ℕ) → first ≤ c → c < last → getD (now table) c 0 ≤ 64) ⌝ }
-    ensures { λ u. ⌜ is old ≡ written (was old) at (oldsNext coarse (was status) (part (was table) first (last - first)) (part (was old) first (last - first))) ⌝ }
+    ensures { λ u. ⌜ is old ≡ written (was old) at
+        (oldsNext coarse (was status) (part (was table) first (last - first)) (part (was old) first (last - first))) ⌝ }
 {
     let mut k = at;
     let mut c = first;
@@ -225,7 +228,8 @@ pub fn renew(
     requires { ⌜ Kids (length (fours (now mesh))) (now status) (now kids) ⌝ }
     requires { ⌜ length (now red) ≤ 4096 ⌝ }
     requires { ⌜ now digits ≡ digitTable ⌝ }
-    ensures { λ r. ⌜ Result n (fours (was mesh)) (was status) (was red) (is rows) (is ps) (is qs) (is table) (r .refusal) (r .cells) (r .levels) (r .mids) ⌝ }
+    ensures { λ r. ⌜ Result n (fours (was mesh)) (was status) (was red) (is rows) (is ps) (is qs) (is table) (r .refusal) (r .cells)
+        (r .levels) (r .mids) ⌝ }
 {
     pairs::clear(heads);
     pairs::clear(mid_heads);

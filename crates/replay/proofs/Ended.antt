@@ -30,14 +30,16 @@ module _ (ps : List ℤ) (ts cs ms es : List ℕ) where
   module _ (rows table : List ℕ) (k c l : ℕ) (r : Rested ps ts rows table k c l) where
     pub ended-mesh : (k ≡ 0 → ⊥) → (table′ : List ℕ) (k′ c′ l′ : ℕ) → k′ ≡ k → Replayed ps ts cs ms es table′ k′ c′ l′
     unfolding tablesAnswer andThen
-    ended-mesh z table′ k′ c′ l′ e = failed table′ k′ c′ l′ (rw (r .answer, answer-refused k z, e) (sym (answer-refused k z))) (λ y. z (sym e ∙ y))
+    ended-mesh z table′ k′ c′ l′ e = failed table′ k′ c′ l′ (rw (r .answer, answer-refused k z, e) (sym (answer-refused k z)))
+        (λ y. z (sym e ∙ y))
 
     module _ (z : k ≡ 0) where
       pub ended-lengths : (length cs ≡ length ms → ⊥) → (table′ : List ℕ) (k′ c′ l′ : ℕ) → k′ ≡ 7 → Replayed ps ts cs ms es table′ k′ c′ l′
       unfolding tablesAnswer andThen refuse answerOf
       ended-lengths d table′ k′ c′ l′ e = failed table′ k′ c′ l′ (rw (r .answer, z, ne-eqb (length cs) (length ms) d, e)) (λ y. omega arith)
 
-      pub ended : length cs ≡ length ms → (rows′ table′ : List ℕ) (k′ c′ l′ : ℕ) → Finished (cornerCount ps) ts (take c table) (pairs cs ms) es rows′ table′ k′ c′ l′ → Replayed ps ts cs ms es table′ k′ c′ l′
+      pub ended : length cs ≡ length ms → (rows′ table′ : List ℕ) (k′ c′ l′ : ℕ) → Finished (cornerCount ps) ts (take c table) (pairs cs ms)
+          es rows′ table′ k′ c′ l′ → Replayed ps ts cs ms es table′ k′ c′ l′
       unfolding tablesAnswer andThen refuse answerOf stepsOf
       ended d rows′ table′ k′ c′ l′ f =
           let t : take c table ≡ restTable (fours ts) = r .table-is z in

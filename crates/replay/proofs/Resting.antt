@@ -38,7 +38,11 @@ module _ (ps : List ℤ) (mesh : List ℕ) (k : ℕ) (few : length mesh / 4 ≤ 
       go (Refused r) e = refl
       go Accepted e =
           let m = mesh-passed ps mesh (ap codeOf e) .mesh in
-          rw (rest-is m, rest-sound (cornerCount ps) (fours mesh) (omega (arith, length-fours mesh, m .some, m .whole)) (omega (arith, length-fours mesh, m .few)))
+          rw (
+            rest-is m,
+            rest-sound (cornerCount ps) (fours mesh) (omega (arith, length-fours mesh, m .some, m .whole))
+                (omega (arith, length-fours mesh, m .few)),
+          )
 
   pub rested : (table rest rows xs ys : List ℕ) (refusal cells levels mids : ℕ) → table ≡ zeros ++ rest → k ≤ 256 → 4096 ≤ length table
       → Opened ps mesh (take k table) rows xs ys refusal cells levels mids → Rested ps mesh rows table refusal k levels
@@ -47,6 +51,11 @@ module _ (ps : List ℤ) (mesh : List ℕ) (k : ℕ) (few : length mesh / 4 ≤ 
       record {
         answer = sym rest-answer ∙ (rw t at (o .answer));
         table-is = λ z. t ∙ rest-is (o .fits z .mesh);
-        going = λ z. record { held = opened-held ps mesh (take k table) rows xs ys cells levels mids (o .fits z); few = omega arith; room = room };
+        going = λ z. record {
+          held = opened-held ps mesh (take k table) rows xs ys cells levels mids (o .fits z);
+          few = omega arith;
+          room =
+              room;
+        };
         high = λ z. o .fits z .sound .high;
       }

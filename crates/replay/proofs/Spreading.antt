@@ -28,7 +28,8 @@ module _ (cs ms : List ℕ) (k : ℕ) where
 
   module _ (out : List ℕ) (i b : ℕ) (s : Scanned cs ms k out i b) where
     module _ (h : i < length cs) (e : length cs ≡ length ms) where
-      pub scan-next : mayb k b (getD cs i 0) (getD ms i 0) ≡ true → Scanned cs ms k (set out (getD cs i 0) (getD ms i 0)) (i + 1) (getD cs i 0 + 1)
+      pub scan-next : mayb k b (getD cs i 0) (getD ms i 0) ≡ true → Scanned cs ms k (set out (getD cs i 0) (getD ms i 0)) (i + 1)
+          (getD cs i 0 + 1)
       scan-next t =
           record {
             passed = omega arith;

@@ -50,8 +50,10 @@ module _ (n : ℕ) (mesh old ms new-rows ps qs new : List ℕ) (refusal cells le
         high = λ y. absurd (z (sym e ∙ y));
       }
 
-  pub stepped-on : refusal ≡ 0 → (rows₀ table₀ rows table : List ℕ) → rows ≡ take (8 * cells) new-rows ++ drop (8 * cells) rows₀ → table ≡ take cells new ++ drop cells table₀
-      → 4096 ≤ length new → 32768 ≤ length new-rows → 4096 ≤ length table → (k : ℕ) → k ≡ 0 → Stepped n mesh old ms rows table k cells levels
+  pub stepped-on : refusal ≡ 0 → (rows₀ table₀ rows table : List ℕ) → rows ≡ take (8 * cells) new-rows ++ drop (8 * cells) rows₀
+      → table ≡ take cells new ++ drop cells table₀
+      → 4096 ≤ length new → 32768 ≤ length new-rows → 4096 ≤ length table → (k : ℕ) → k ≡ 0
+      → Stepped n mesh old ms rows table k cells levels
   stepped-on z rows₀ table₀ rows table e f room long lent k q =
       let few = a .few z in
       let h = a .held z in
@@ -88,7 +90,8 @@ module _ (n : ℕ) (mesh old : List ℕ) (ms : List (ℕ × ℕ)) (out rows tabl
         high = λ y. absurd (omega arith);
       }
 
-  pub moved-on : Fitting old ms out true → (j : ℕ) → length old ≡ j → (k c l : ℕ) → Stepped n mesh old (take j out) rows table k c l → Moved n mesh old ms rows table k c l
+  pub moved-on : Fitting old ms out true → (j : ℕ) → length old ≡ j → (k c l : ℕ) → Stepped n mesh old (take j out) rows table k c l
+      → Moved n mesh old ms rows table k c l
   unfolding oneAnswer refuse
   moved-on f j e k c l s =
       let t : take j out ≡ spread (length old) ms = rw (← e) (f .marks refl) in

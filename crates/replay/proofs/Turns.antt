@@ -48,7 +48,12 @@ module _ (n : ℕ) (mesh old : List ℕ) (p e : ℕ) (ms : List (ℕ × ℕ)) (r
   next-failed : nextAnswer n (fours mesh) old p e ms ≡ Refused 7 → (k c l : ℕ) → k ≡ 7 → Next n mesh old p e ms rows table k c l
   unfolding answerOf
   next-failed a k c l z =
-      record { answer = a ∙ rw z; table-is = λ y. absurd (omega arith); going = λ y. absurd (omega arith); high = λ y. absurd (omega arith) }
+      record {
+        answer = a ∙ rw z;
+        table-is = λ y. absurd (omega arith);
+        going = λ y. absurd (omega arith);
+        high = λ y. absurd (omega arith);
+      }
 
   pub next-back : e < p → (k c l : ℕ) → k ≡ 7 → Next n mesh old p e ms rows table k c l
   unfolding nextAnswer refuse
@@ -58,7 +63,8 @@ module _ (n : ℕ) (mesh old : List ℕ) (p e : ℕ) (ms : List (ℕ × ℕ)) (r
   unfolding nextAnswer refuse
   next-behind h = next-failed (rw (lt-leb e (length ms) h, and-false (leb p e)))
 
-  pub next-moved : p ≤ e → e ≤ length ms → (k c l : ℕ) (m : List (ℕ × ℕ)) → m ≡ partOf p e ms → Moved n mesh old m rows table k c l → Next n mesh old p e ms rows table k c l
+  pub next-moved : p ≤ e → e ≤ length ms → (k c l : ℕ) (m : List (ℕ × ℕ)) → m ≡ partOf p e ms → Moved n mesh old m rows table k c l
+      → Next n mesh old p e ms rows table k c l
   unfolding nextAnswer refuse
   next-moved h g k c l m q s =
       record {
@@ -85,7 +91,8 @@ module _ (n : ℕ) (mesh : List ℕ) (ms : List (ℕ × ℕ)) (es : List ℕ) wh
   abbrev qs : List (List ℕ)
   qs = fours mesh
 
-  pub turn-start : (rows table : List ℕ) (cells levels : ℕ) → Going n mesh rows table cells → length (levelsOf n qs (take cells table)) ≡ levels
+  pub turn-start : (rows table : List ℕ) (cells levels : ℕ) → Going n mesh rows table cells
+      → length (levelsOf n qs (take cells table)) ≡ levels
       → Turn n mesh (take cells table) ms es rows table cells levels 0 0
   turn-start rows table cells levels h l = record { passed = omega arith; answer = refl; table-is = refl; going = h; high = l }
 
@@ -101,11 +108,13 @@ module _ (n : ℕ) (mesh : List ℕ) (ms : List (ℕ × ℕ)) (es : List ℕ) wh
       ends : drop g es ≡ e ∷ drop (g + 1) es
       ends = let m : g + 1 ≡ suc g = omega arith in rw m (drop-cons es g 0 h)
 
-      one-more : flatAnswer n qs now p ms (drop g es) ≡ andThen (nextAnswer n qs now p e ms) (flatAnswer n qs (oneTable n qs now (partOf p e ms)) e ms (drop (g + 1) es))
+      one-more : flatAnswer n qs now p ms (drop g es) ≡ andThen (nextAnswer n qs now p e ms)
+          (flatAnswer n qs (oneTable n qs now (partOf p e ms)) e ms (drop (g + 1) es))
       unfolding flatAnswer nextAnswer
       one-more =
           ap (flatAnswer n qs now p ms) ends
-          ∙ refuse-then (leb p e && leb e (length ms)) (oneAnswer n qs now (partOf p e ms)) (flatAnswer n qs (oneTable n qs now (partOf p e ms)) e ms (drop (g + 1) es))
+          ∙ refuse-then (leb p e && leb e (length ms)) (oneAnswer n qs now (partOf p e ms))
+          (flatAnswer n qs (oneTable n qs now (partOf p e ms)) e ms (drop (g + 1) es))
 
       pub turn-refused : (k ≡ 0 → ⊥) → (k′ c′ l′ : ℕ) → k′ ≡ k → Finished n mesh old ms es rows′ table′ k′ c′ l′
       unfolding andThen

@@ -18,7 +18,8 @@ use Rattle.replay.specs.Going.{endTable}
 
 -- what stands behind the first p marks is s, so the steps from there are those of s
 module _ (n : ℕ) (qs : List (List ℕ)) (all : List Mark) where
-  flat-run : (t : List ℕ) (p : ℕ) (s : List (List Mark)) → p ≤ length all → drop p all ≡ flatten s → flatAnswer n qs t p all (endsAfter p s) ≡ runAnswer n qs t s
+  flat-run : (t : List ℕ) (p : ℕ) (s : List (List Mark)) → p ≤ length all → drop p all ≡ flatten s
+      → flatAnswer n qs t p all (endsAfter p s) ≡ runAnswer n qs t s
   unfolding flatAnswer runAnswer endsAfter flatten refuse
   flat-run t p [] l h =
       let d : length all - p ≡ 0 = sym (length-drop p all) ∙ ap length h in
@@ -47,7 +48,8 @@ module _ (j : Job) where
   unfolding tablesAnswer jobAnswer refuse endsOf
   tables-answer =
       rw (eq-eqb (length (markedOf s)) (length (marksOf s)) lengths, all-pairs)
-      (ap (andThen (meshAnswer (j .positions) (j .cells))) (flat-run (cornerCount (j .positions)) (fours (j .cells)) (flatten s) (restTable (fours (j .cells))) 0 s (omega arith) refl))
+      (ap (andThen (meshAnswer (j .positions) (j .cells)))
+      (flat-run (cornerCount (j .positions)) (fours (j .cells)) (flatten s) (restTable (fours (j .cells))) 0 s (omega arith) refl))
 
   pub tables-table : endTable (j .positions) (j .cells) (markedOf s) (marksOf s) (endsOf s) ≡ jobTable j
   unfolding jobTable

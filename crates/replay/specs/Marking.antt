@@ -35,7 +35,8 @@ unfolding markingb risingb allb markingFrom mayb
 from-first k m [] = refl
 from-first k m (l ∷ ms) =
     swap (ltb (m .0) (l .0)) (risingb (l ∷ ms)) (standsb k m) (allb (standsb k) (l ∷ ms))
-    ∙ ap (λ (b : Bool). standsb k m && b) (ap (λ (b : Bool). ltb (m .0) (l .0) && b) (from-first k l ms) ∙ sym (group (ltb (m .0) (l .0)) (standsb k l) (markingFrom k (suc (l .0)) ms)))
+    ∙ ap (λ (b : Bool). standsb k m && b) (ap (λ (b : Bool). ltb (m .0) (l .0) && b) (from-first k l ms)
+    ∙ sym (group (ltb (m .0) (l .0)) (standsb k l) (markingFrom k (suc (l .0)) ms)))
 
 pub from-start : (k : ℕ) (ms : List (ℕ × ℕ)) → markingFrom k 0 ms ≡ markingb k ms
 unfolding markingFrom mayb markingb risingb allb
@@ -51,7 +52,8 @@ module _ (cs ms : List ℕ) (i : ℕ) (h : i < length cs) (e : length cs ≡ len
   unfolding pairs
   pairs-next = let n : i + 1 ≡ suc i = omega arith in rw n (ap₂ pairs (drop-cons cs i 0 h) (drop-cons ms i 0 (omega arith)))
 
-  pub marking-next : (k b : ℕ) → mayb k b (getD cs i 0) (getD ms i 0) ≡ true → markingFrom k b (pairs (drop i cs) (drop i ms)) ≡ markingFrom k (getD cs i 0 + 1) rest
+  pub marking-next : (k b : ℕ) → mayb k b (getD cs i 0) (getD ms i 0) ≡ true → markingFrom k b (pairs (drop i cs) (drop i ms)) ≡ markingFrom
+      k (getD cs i 0 + 1) rest
   unfolding markingFrom
   marking-next k b t = let n : getD cs i 0 + 1 ≡ suc (getD cs i 0) = omega arith in rw (pairs-next, t, n)
 
@@ -59,7 +61,8 @@ module _ (cs ms : List ℕ) (i : ℕ) (h : i < length cs) (e : length cs ≡ len
   unfolding markingFrom
   marking-miss k b t = rw (pairs-next, t)
 
-  pub spread-next : (k : ℕ) (out : List ℕ) → getD cs i 0 < k → spreadOver (take k out) (pairs (drop i cs) (drop i ms)) ≡ spreadOver (take k (set out (getD cs i 0) (getD ms i 0))) rest
+  pub spread-next : (k : ℕ) (out : List ℕ) → getD cs i 0 < k → spreadOver (take k out) (pairs (drop i cs) (drop i ms)) ≡ spreadOver
+      (take k (set out (getD cs i 0) (getD ms i 0))) rest
   unfolding spreadOver
   spread-next k out l = rw (pairs-next, take-set-lt k out (getD cs i 0) (getD ms i 0) l)
 
@@ -71,7 +74,8 @@ pairs-end cs ms i h = rw (drop-of-length-le cs h)
 -- a mark that may stand stands at a cell
 pub may-below : (k b c m : ℕ) → mayb k b c m ≡ true → c < k
 unfolding mayb
-may-below k b c m t = ltb-true c k (is-true (ltb c k) (and-left (ltb c k) (leb 1 m && leb m 2) (and-right (leb b c) (ltb c k && (leb 1 m && leb m 2)) (rw t tt))))
+may-below k b c m t = ltb-true c k
+    (is-true (ltb c k) (and-left (ltb c k) (leb 1 m && leb m 2) (and-right (leb b c) (ltb c k && (leb 1 m && leb m 2)) (rw t tt))))
 
 module _ (k b c m : ℕ) where
   pub may-early : c < b → false ≡ mayb k b c m

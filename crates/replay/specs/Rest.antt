@@ -53,7 +53,8 @@ rest-levels n q qs =
 
 abbrev tests : List Level → List ℕ → Bool
 tests ls ss =
-    (eqb (length ss) (length (cellsOf ls)) && (leb (length ls) 11 && leb (length (cellsOf ls)) 4096)) && (allb closedb ls && apartb (cellsOf ls) ss)
+    (eqb (length ss) (length (cellsOf ls)) && (leb (length ls) 11 && leb (length (cellsOf ls)) 4096))
+    && (allb closedb ls && apartb (cellsOf ls) ss)
 
 sound-tests : (n : ℕ) (qs : List (List ℕ)) (ss : List ℕ) → soundb n qs ss ≡ tests (levelsOf n qs ss) ss
 unfolding soundb
@@ -82,9 +83,17 @@ module _ (n : ℕ) (qs : List (List ℕ)) where
   rest-tests : length qs ≤ 4096 → tests (record { first = 0; cells = cs; statuses = restTable qs } ∷ []) (restTable qs) ≡ true
   unfolding allb
   rest-tests f =
-      rw (rest-cells 0, rest-closed 0, rest-apart, eq-eqb (length (restTable qs)) (length cs) (length-replicate {A = ℕ} (length qs) 0 ∙ sym rest-count), le-leb (length cs) 4096 (omega (arith, rest-count)))
+      rw (
+        rest-cells 0,
+        rest-closed 0,
+        rest-apart,
+        eq-eqb (length (restTable qs)) (length cs) (length-replicate {A = ℕ} (length qs) 0
+            ∙ sym rest-count),
+        le-leb (length cs) 4096 (omega (arith, rest-count)),
+      )
 
 pub rest-sound : (n : ℕ) (qs : List (List ℕ)) → 0 < length qs → length qs ≤ 4096 → soundb n qs (restTable qs) ≡ true
 rest-sound n [] s f = absurd (omega arith)
 rest-sound n (q ∷ qs) s f =
-    sound-tests n (q ∷ qs) (restTable (q ∷ qs)) ∙ ap (λ (ls : List Level). tests ls (restTable (q ∷ qs))) (rest-levels n q qs) ∙ rest-tests n (q ∷ qs) f
+    sound-tests n (q ∷ qs) (restTable (q ∷ qs)) ∙ ap (λ (ls : List Level). tests ls (restTable (q ∷ qs))) (rest-levels n q qs)
+    ∙ rest-tests n (q ∷ qs) f

@@ -70,7 +70,8 @@ restTable qs = replicate (length qs) 0
 -- Rules 12.5, 12.12: the mesh, then the steps.
 unfoldable pub jobAnswer : Job → Answer
 unfolding andThen meshAnswer runAnswer
-jobAnswer j = andThen (meshAnswer (j .positions) (j .cells)) (runAnswer (cornerCount (j .positions)) (fours (j .cells)) (restTable (fours (j .cells))) (j .steps))
+jobAnswer j = andThen (meshAnswer (j .positions) (j .cells))
+    (runAnswer (cornerCount (j .positions)) (fours (j .cells)) (restTable (fours (j .cells))) (j .steps))
 
 -- Rule 10.1: the table that a job replays to.
 unfoldable pub jobTable : Job → List ℕ

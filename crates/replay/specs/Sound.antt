@@ -25,7 +25,8 @@ module _ (n : ℕ) (qs : List (List ℕ)) (four : All (λ q. length q ≡ 4) qs)
       let (a, b) = limits-within n qs t ms l in
       step-sound n qs t ms four cells s a b
 
-  pub run-sound : (t : List ℕ) (ms : List (List (ℕ × ℕ))) → T (soundb n qs t) → runAnswer n qs t ms ≡ Accepted → T (soundb n qs (runTable n qs t ms))
+  pub run-sound : (t : List ℕ) (ms : List (List (ℕ × ℕ))) → T (soundb n qs t) → runAnswer n qs t ms ≡ Accepted
+      → T (soundb n qs (runTable n qs t ms))
   unfolding runAnswer runTable
   run-sound t [] s e = s
   run-sound t (m ∷ ms) s e =

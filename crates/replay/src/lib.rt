@@ -101,7 +101,8 @@ fn next_step(
     requires { ⌜ Going n (now mesh) (now rows) (now table) cells ⌝ }
     requires { ⌜ length (now marked) ≡ length (now marks) ⌝ }
     requires { ⌜ now digits ≡ digitTable ⌝ }
-    ensures { λ r. ⌜ Next n (was mesh) (take cells (was table)) p e (pairs (was marked) (was marks)) (is rows) (is table) (r .refusal) (r .cells) (r .levels) ⌝ }
+    ensures { λ r. ⌜ Next n (was mesh) (take cells (was table)) p e (pairs (was marked) (was marks)) (is rows) (is table) (r .refusal)
+        (r .cells) (r .levels) ⌝ }
 {
     if e < p {
         return tables::refused(7);
@@ -192,7 +193,8 @@ fn run_steps(
 ) -> Outcome
     requires { ⌜ Going n (now mesh) (now rows) (now table) first ⌝ }
     requires { ⌜ (length (now marked) ≡ length (now marks)) × (length (levelsOf n (fours (now mesh)) (take first (now table))) ≡ high) ⌝ }
-    ensures { λ r. ⌜ Finished n (was mesh) (take first (was table)) (pairs (was marked) (was marks)) (was ends) (is rows) (is table) (r .refusal) (r .cells) (r .levels) ⌝ }
+    ensures { λ r. ⌜ Finished n (was mesh) (take first (was table)) (pairs (was marked) (was marks)) (was ends) (is rows) (is table)
+        (r .refusal) (r .cells) (r .levels) ⌝ }
 {
     let mut spread_marks = [0u8; 4096];
     let mut new_rows = [0u16; 32768];
@@ -273,7 +275,8 @@ pub fn run(
     ends: &[u16],
     table: &mut [u8; 4096],
 ) -> Outcome
-    ensures { λ r. ⌜ Replayed (was positions) (was cells) (was marked) (was marks) (was ends) (is table) (r .refusal) (r .cells) (r .levels) ⌝ }
+    ensures { λ r. ⌜ Replayed (was positions) (was cells) (was marked) (was marks) (was ends) (is table) (r .refusal) (r .cells) (r .levels)
+        ⌝ }
 {
     let mut rows = [0u16; 32768];
     let r = at_rest(positions, cells, &mut rows, table);

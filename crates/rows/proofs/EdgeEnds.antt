@@ -23,7 +23,8 @@ module _ (t : List ℕ) (k : ℕ) where
   at3 : getD t (8 * k + 4 + 3) 0 ≡ getD t (8 * k + 7) 0
   at3 = let e : 8 * k + 4 + 3 ≡ 8 * k + 7 = omega arith in rw e
 
-  pub ends-at : (e : ℕ) → e < 6 → _≡_ {A = Pair} (getD t (8 * k + 4 + getD lows e 0) 0, getD t (8 * k + 4 + getD highs e 0) 0) (edge 0 (cellAt t k) e)
+  pub ends-at : (e : ℕ) → e < 6 → _≡_ {A = Pair} (getD t (8 * k + 4 + getD lows e 0) 0, getD t (8 * k + 4 + getD highs e 0) 0)
+      (edge 0 (cellAt t k) e)
   unfolding edge cellAt
   ends-at zero h = ap₂ (λ (a b : ℕ). (a, b)) at0 at1
   ends-at (suc zero) h = ap₂ (λ (a b : ℕ). (a, b)) at0 at2

@@ -18,7 +18,8 @@ use Rattle.mesh.specs.Cells.{Cell, redb, patternOf, statusOf, closedFrom, child
 use Rattle.mesh.specs.Weights.{Point, point}
 use Rattle.mesh.specs.Table.{next, sizeOf, sizes}
 
-length-from : {A : Type 0} (k : ℕ) (c : Cell A) (r : Bool) (f : ℕ → A) (i : ℕ) (ds : List (List ℕ)) → length (childrenFrom k c r f i ds) ≡ length ds
+length-from : {A : Type 0} (k : ℕ) (c : Cell A) (r : Bool) (f : ℕ → A) (i : ℕ) (ds : List (List ℕ))
+    → length (childrenFrom k c r f i ds) ≡ length ds
 unfolding childrenFrom
 length-from k c r f i [] = refl
 length-from k c r f i (d ∷ ds) = ap suc (length-from k c r f (suc i) ds)
@@ -45,14 +46,17 @@ next-size k [] [] h = refl
 next-size k [] (s ∷ ss) h = absurd (omega arith)
 next-size k (c ∷ cs) [] h = refl
 next-size k (c ∷ cs) (s ∷ ss) h =
-    length-append (children k c s (point c)) (next (suc k) cs ss) ∙ ap₂ _+_ (length-children k c s (point c)) (next-size (suc k) cs ss (omega arith))
+    length-append (children k c s (point c)) (next (suc k) cs ss)
+    ∙ ap₂ _+_ (length-children k c s (point c)) (next-size (suc k) cs ss (omega arith))
 
 pub length-next : (k : ℕ) (cs : List (Cell Point)) (ss : List ℕ) → length cs ≡ length ss → length (next k cs ss) ≡ sizes ss
 length-next k cs ss e = next-size k cs ss (omega arith)
 
-pub closed-many : (es : List (Point × Point)) (cs : List (Cell Point)) (ss : List ℕ) → T (closedFrom [] sameb es cs ss) → length ss ≡ length cs
+pub closed-many : (es : List (Point × Point)) (cs : List (Cell Point)) (ss : List ℕ) → T (closedFrom [] sameb es cs ss)
+    → length ss ≡ length cs
 unfolding closedFrom
 closed-many es [] [] t = refl
 closed-many es [] (s ∷ ss) t = absurd t
 closed-many es (c ∷ cs) [] t = absurd t
-closed-many es (c ∷ cs) (s ∷ ss) t = ap suc (closed-many es cs ss (and-right (eqb s (statusOf [] sameb es (redb s) c)) (closedFrom [] sameb es cs ss) t))
+closed-many es (c ∷ cs) (s ∷ ss) t = ap suc
+    (closed-many es cs ss (and-right (eqb s (statusOf [] sameb es (redb s) c)) (closedFrom [] sameb es cs ss) t))

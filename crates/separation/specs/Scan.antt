@@ -92,6 +92,7 @@ module _ (es : List Pair) (t : List ℕ) (c : ℕ) where
   unfolding listedApart
   regular-apart e = rw (e, listedApart)
 
-  pub irregular-apart : cellAt t c .regular ≡ false → allb (apartTest es t (getD t (8 * c + 1) 0)) (edges 0 (cellAt t c)) ≡ listedApart es t (cellAt t c)
+  pub irregular-apart : cellAt t c .regular ≡ false → allb (apartTest es t (getD t (8 * c + 1) 0)) (edges 0 (cellAt t c)) ≡ listedApart es t
+      (cellAt t c)
   unfolding listedApart cellAt
   irregular-apart e = sym (rw e)

@@ -60,7 +60,8 @@ pub fn apart_edge(
 ) -> bool
     requires { ⌜ Looks (now cells) (now xs) (now ys) (now heads) (now links) (c + 1) from n ⌝ }
     requires { ⌜ (8 * g + 8 ≤ length (now cells)) × (e < 6) ⌝ }
-    ensures { λ r. ⌜ r ≡ (heldb eqb (edges 0 (cellAt (was cells) g)) (edge 0 (cellAt (was cells) c) e) || not (hasb isb (listed (was xs) (was ys) from n) (sorted (edge 0 (cellAt (was cells) c) e)))) ⌝ }
+    ensures { λ r. ⌜ r ≡ (heldb eqb (edges 0 (cellAt (was cells) g)) (edge 0 (cellAt (was cells) c) e) || not
+        (hasb isb (listed (was xs) (was ys) from n) (sorted (edge 0 (cellAt (was cells) c) e)))) ⌝ }
 {
     let ends = rows::edge_of(cells, c, e);
     let held = edges::holds(xs, ys, heads, links, from, n, ends.a, ends.b);

@@ -36,11 +36,13 @@ use Rattle.splitting.specs.Numbers.{at-level, stands}
 use Rattle.splitting.specs.Split.{newEdges, Owners}
 use Rattle.shares.specs.Flat.{flat-in, map-in, only-one}
 use Rattle.shares.specs.After.{will, new-status}
-use Rattle.shares.specs.Grow.{statusNew, staysb, masterEntry, ghostEntry, anewb, childStatus, childEntries, freshEntries, entries, entryBy, cellEntries, levelEntries}
+use Rattle.shares.specs.Grow.{statusNew, staysb, masterEntry, ghostEntry, anewb, childStatus, childEntries, freshEntries, entries}
+use Rattle.shares.specs.Grow.{entryBy, cellEntries, levelEntries}
 use Rattle.shares.specs.There.{Met, There, red-parent, refined-there}
 use Rattle.shares.specs.Owned.{child-owner, fresh-family, new-born}
 use Rattle.shares.specs.Settled.{Settled, taskIn, entriesIn, oldLevelIn, newLevelIn, numIn, ownIn, famIn}
-use Rattle.shares.specs.Present.{mine-owner, mine-family, stays-there, kept-new, old-path, owner-met, family-met, here-either, child-green, foster-status, irregular-leaf}
+use Rattle.shares.specs.Present.{mine-owner, mine-family, stays-there, kept-new, old-path, owner-met, family-met, here-either}
+use Rattle.shares.specs.Present.{child-green, foster-status, irregular-leaf}
 
 dark-bits : (f : Edge → Bool) (l : List Edge) → ((e : Edge) → f e ≡ false) → bitsOf (map f l) ≡ 0
 unfolding bitsOf one-if

@@ -38,7 +38,8 @@ use Rattle.parts.specs.Held.{Entry}
 use Rattle.splitting.specs.Numbers.{at-level, row-at}
 use Rattle.splitting.specs.Split.{newRedRow, Slots, Owners, fits}
 use Rattle.shares.specs.Flat.{in-flat, in-map}
-use Rattle.shares.specs.Grow.{statusNew, freshStatus, coarseb, staysb, masterEntry, ghostEntry, anewb, childStatus, childEntries, freshEntries, entries, entryBy, cellEntries, levelEntries}
+use Rattle.shares.specs.Grow.{statusNew, freshStatus, coarseb, staysb, masterEntry, ghostEntry, anewb, childStatus, childEntries}
+use Rattle.shares.specs.Grow.{freshEntries, entries, entryBy, cellEntries, levelEntries}
 use Rattle.shares.specs.Fresh.{known-red, kept-status, fresh-status}
 use Rattle.shares.specs.There.{Met, There, coarse-there, red-parent, child-there, refined-there, matched-at, old-kid}
 use Rattle.shares.specs.Owned.{child-owner, matched-owner, matched-family, fresh-family, fostered-met, fostered-owner, new-born}

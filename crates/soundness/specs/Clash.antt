@@ -30,10 +30,13 @@ use Rattle.soundness.specs.Turn.{held-not, Sharing, sharing}
 use Rattle.soundness.specs.Sound.{Sound, lv, level-closed, level-next}
 
 module _ (n : ℕ) (qs : List (List ℕ)) (ss : List ℕ) (s : Sound n qs ss) where
-  pub clash : (j t i : ℕ) → t < length (lv n qs ss j .cells) → redb (getD (lv n qs ss j .statuses) t 0) ≡ false → (w : ChildAt (lv n qs ss j) (lv n qs ss (suc j)) t i)
-      → (y : ℕ) → y < 6 → heldb sameb (edges [] (getD (lv n qs ss j .cells) t noCell)) (edge [] (getD (lv n qs ss (suc j) .cells) (w .u) noCell) y) ≡ false
+  pub clash : (j t i : ℕ) → t < length (lv n qs ss j .cells) → redb (getD (lv n qs ss j .statuses) t 0) ≡ false
+      → (w : ChildAt (lv n qs ss j) (lv n qs ss (suc j)) t i)
+      → (y : ℕ) → y < 6 → heldb sameb (edges [] (getD (lv n qs ss j .cells) t noCell))
+      (edge [] (getD (lv n qs ss (suc j) .cells) (w .u) noCell) y) ≡ false
       → (p : ℕ) → p < length (lv n qs ss (suc j) .cells) → getD (lv n qs ss (suc j) .statuses) p 0 ≡ 64
-      → T (heldb sameb (edges [] (getD (lv n qs ss (suc j) .cells) p noCell)) (edge [] (getD (lv n qs ss (suc j) .cells) (w .u) noCell) y)) → ⊥
+      → T (heldb sameb (edges [] (getD (lv n qs ss (suc j) .cells) p noCell)) (edge [] (getD (lv n qs ss (suc j) .cells) (w .u) noCell) y))
+      → ⊥
   clash j t i h g w y hy own p hp red has =
       let c = getD (lv n qs ss (suc j) .cells) (w .u) noCell in
       let cs = cellsOf (levelsOf n qs ss) in
@@ -42,21 +45,32 @@ module _ (n : ℕ) (qs : List (List ℕ)) (ss : List ℕ) (s : Sound n qs ss) wh
       let e : getD cs (a .o + w .u) noCell ≡ c = a .cell in
       let r : getD cs (a .o + w .u) noCell .regular ≡ false = ap (λ (c : Cell Point). c .regular) (e ∙ w .is) ∙ g in
       let f : T (heldb sameb (redEdges [] cs ss) (edge [] c y)) =
-      red-at (edge [] c y) cs ss (record { i = b .o + p; below = b .inside; known = omega (arith, b .inside, s .many); red = b .status ∙ red; has = rw (b .cell) has }) in
+      red-at (edge [] c y) cs ss (record {
+        i = b .o + p;
+        below = b .inside;
+        known = omega (arith, b .inside, s .many);
+        red = b .status
+            ∙ red;
+        has = rw (b .cell) has;
+      }) in
       ⊎-elim (λ (x : T (heldb sameb (edges [] (parentOf cs ss (getD cs (a .o + w .u) noCell))) (edge [] (getD cs (a .o + w .u) noCell) y))).
       let x' : T (heldb sameb (edges [] (parentOf cs ss c)) (edge [] c y)) = rw e at x in
-      let x'' : T (heldb sameb (edges [] (getD (lv n qs ss j .cells) t noCell)) (edge [] c y)) = rw (parent-is n qs ss j t h c (child-parent (lv n qs ss j) (lv n qs ss (suc j)) t i w)) at x' in
-      not-both {A = ⊥} (heldb sameb (edges [] (getD (lv n qs ss j .cells) t noCell)) (edge [] c y)) (is-true (heldb sameb (edges [] (getD (lv n qs ss j .cells) t noCell)) (edge [] c y)) x'') own)
+      let x'' : T (heldb sameb (edges [] (getD (lv n qs ss j .cells) t noCell)) (edge [] c y)) = rw
+      (parent-is n qs ss j t h c (child-parent (lv n qs ss j) (lv n qs ss (suc j)) t i w)) at x' in
+      not-both {A = ⊥} (heldb sameb (edges [] (getD (lv n qs ss j .cells) t noCell)) (edge [] c y))
+      (is-true (heldb sameb (edges [] (getD (lv n qs ss j .cells) t noCell)) (edge [] c y)) x'') own)
       (λ (x : heldb sameb (redEdges [] cs ss) (edge [] (getD cs (a .o + w .u) noCell) y) ≡ false).
       let x' : heldb sameb (redEdges [] cs ss) (edge [] c y) ≡ false = rw e at x in
       not-both {A = ⊥} (heldb sameb (redEdges [] cs ss) (edge [] c y)) (is-true (heldb sameb (redEdges [] cs ss) (edge [] c y)) f) x')
       (apart-at cs ss (s .apart) (a .o + w .u) (a .inside) r y hy)
 
   module _ (regular : (i : ℕ) → All (IfRegular n i) (lv n qs ss i .cells)) where
-    pub no-share : (j : ℕ) → j < 10 → (t : ℕ) → t < length (lv n qs ss j .cells) → T (getD (lv n qs ss j .cells) t noCell .regular) → redb (getD (lv n qs ss j .statuses) t 0) ≡ false
+    pub no-share : (j : ℕ) → j < 10 → (t : ℕ) → t < length (lv n qs ss j .cells) → T (getD (lv n qs ss j .cells) t noCell .regular)
+        → redb (getD (lv n qs ss j .statuses) t 0) ≡ false
         → (d e : ℕ) → d < 10 → e < 10 → (d ≡ e → ⊥) → T (joinedb (family 63) d e)
         → (p : ℕ) → p < length (lv n qs ss (suc j) .cells) → getD (lv n qs ss (suc j) .statuses) p 0 ≡ 64
-        → (x : ℕ) → x < 6 → T (joinsb sameb (point (getD (lv n qs ss j .cells) t noCell) d, point (getD (lv n qs ss j .cells) t noCell) e) (edge [] (getD (lv n qs ss (suc j) .cells) p noCell) x)) → ⊥
+        → (x : ℕ) → x < 6 → T (joinsb sameb (point (getD (lv n qs ss j .cells) t noCell) d, point (getD (lv n qs ss j .cells) t noCell) e)
+        (edge [] (getD (lv n qs ss (suc j) .cells) p noCell) x)) → ⊥
     no-share j h t ht rt green d e hd he ne joined p hp red x hx js =
         let l = lv n qs ss j in
         let up = lv n qs ss (suc j) in

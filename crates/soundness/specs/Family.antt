@@ -32,7 +32,8 @@ pub record RedChild (l : Level) (c : Cell Point) : Type 0 where
 born-red : (l : Level) (c : Cell Point) → Born (l .first) (l .cells) (l .statuses) c → T (c .regular) → RedChild l c
 unfolding patternOf
 born-red l c b r =
-    let q : getD (l .statuses) (b .p) 0 ≡ 64 = eqb-true (getD (l .statuses) (b .p) 0) 64 (is-true (redb (getD (l .statuses) (b .p) 0)) (rw (b .is) at r)) in
+    let q : getD (l .statuses) (b .p) 0 ≡ 64 = eqb-true (getD (l .statuses) (b .p) 0) 64
+    (is-true (redb (getD (l .statuses) (b .p) 0)) (rw (b .is) at r)) in
     record {
       p = b .p;
       i = b .i;
@@ -49,7 +50,8 @@ pub record ChildAt (l up : Level) (p i : ℕ) : Type 0 where
   pub is : getD (up .cells) u noCell ≡ childOf (l .first + p) (getD (l .cells) p noCell) (getD (l .statuses) p 0) i
 
 module _ (l up : Level) (p i : ℕ) (w : ChildAt l up p i) where
-  pub child-points : getD (up .cells) (w .u) noCell .points ≡ map (point (getD (l .cells) p noCell)) (digitsOf (patternOf (getD (l .statuses) p 0)) i)
+  pub child-points : getD (up .cells) (w .u) noCell .points ≡ map (point (getD (l .cells) p noCell))
+      (digitsOf (patternOf (getD (l .statuses) p 0)) i)
   child-points = ap (λ (c : Cell Point). c .points) (w .is)
 
   pub child-parent : getD (up .cells) (w .u) noCell .parent ≡ l .first + p
@@ -62,7 +64,8 @@ module _ (l up : Level) (e : up .cells ≡ next (l .first) (l .cells) (l .status
   pub red-child : (u : ℕ) → u < length (up .cells) → T (getD (up .cells) u noCell .regular) → RedChild l (getD (up .cells) u noCell)
   red-child u h r = born-red l (getD (up .cells) u noCell) (born-of u h) r
 
-  pub family-child : (p i : ℕ) → p < length (l .cells) → p < length (l .statuses) → getD (l .statuses) p 0 ≢ 0 → i < length (family (patternOf (getD (l .statuses) p 0))) → ChildAt l up p i
+  pub family-child : (p i : ℕ) → p < length (l .cells) → p < length (l .statuses) → getD (l .statuses) p 0 ≢ 0
+      → i < length (family (patternOf (getD (l .statuses) p 0))) → ChildAt l up p i
   family-child p i h g z f =
       record {
         u = sizes (take p (l .statuses)) + i;

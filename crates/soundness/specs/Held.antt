@@ -44,11 +44,13 @@ module _ (e : Edge) where
       go : (b : Bool) → redb s ≡ b → (T (heldb sameb (redEdges [] cs ss) e) → RedHas cs ss e) → RedHas (c ∷ cs) (s ∷ ss) e
       go true q f =
           let u : T (heldb sameb (edges [] c ++ redEdges [] cs ss) e) = rw (q, redEdges) at t in
-          ⊎-elim (λ (v : T (heldb sameb (edges [] c) e)). record { i = 0; below = omega arith; known = omega arith; red = eqb-true s 64 q; has = v })
+          ⊎-elim (λ (v : T (heldb sameb (edges [] c) e)). record
+          { i = 0; below = omega arith; known = omega arith; red = eqb-true s 64 q; has = v })
           (λ (v : T (heldb sameb (redEdges [] cs ss) e)). later (f v)) (held-either e (edges [] c) (redEdges [] cs ss) u)
       go false q f = let u : T (heldb sameb (redEdges [] cs ss) e) = rw (q, redEdges) at t in later (f u)
 
-  red-more : (c : Cell Point) (cs : List (Cell Point)) (s : ℕ) (ss : List ℕ) → T (heldb sameb (redEdges [] cs ss) e) → T (heldb sameb (redEdges [] (c ∷ cs) (s ∷ ss)) e)
+  red-more : (c : Cell Point) (cs : List (Cell Point)) (s : ℕ) (ss : List ℕ) → T (heldb sameb (redEdges [] cs ss) e)
+      → T (heldb sameb (redEdges [] (c ∷ cs) (s ∷ ss)) e)
   unfolding redEdges
   red-more c cs s ss t = go (redb s) refl
     where
@@ -56,11 +58,13 @@ module _ (e : Edge) where
       go true q = rw (q, redEdges) (held-second e (edges [] c) (redEdges [] cs ss) t)
       go false q = rw (q, redEdges) t
 
-  red-here : (c : Cell Point) (cs : List (Cell Point)) (s : ℕ) (ss : List ℕ) → s ≡ 64 → T (heldb sameb (edges [] c) e) → T (heldb sameb (redEdges [] (c ∷ cs) (s ∷ ss)) e)
+  red-here : (c : Cell Point) (cs : List (Cell Point)) (s : ℕ) (ss : List ℕ) → s ≡ 64 → T (heldb sameb (edges [] c) e)
+      → T (heldb sameb (redEdges [] (c ∷ cs) (s ∷ ss)) e)
   unfolding redEdges
   red-here c cs s ss q t = rw q (held-first e (edges [] c) (redEdges [] cs ss) t)
 
-  red-place : (cs : List (Cell Point)) (ss : List ℕ) (i : ℕ) → i < length cs → i < length ss → getD ss i 0 ≡ 64 → T (heldb sameb (edges [] (getD cs i noCell)) e)
+  red-place : (cs : List (Cell Point)) (ss : List ℕ) (i : ℕ) → i < length cs → i < length ss → getD ss i 0 ≡ 64
+      → T (heldb sameb (edges [] (getD cs i noCell)) e)
       → T (heldb sameb (redEdges [] cs ss) e)
   red-place [] ss i h g q t = absurd (omega arith)
   red-place (c ∷ cs) [] i h g q t = absurd (omega arith)
@@ -76,14 +80,19 @@ closed-place : (es : List Edge) (cs : List (Cell Point)) (ss : List ℕ) → T (
 unfolding closedFrom
 closed-place es [] ss t i h = absurd (omega arith)
 closed-place es (c ∷ cs) [] t i h = absurd t
-closed-place es (c ∷ cs) (s ∷ ss) t zero h =
-    (omega arith, eqb→eq s (statusOf [] sameb es (redb s) c) (and-left (eqb s (statusOf [] sameb es (redb s) c)) (closedFrom [] sameb es cs ss) t))
+closed-place es (c ∷ cs) (s ∷ ss) t zero h = (
+  omega arith,
+  eqb→eq s (statusOf [] sameb es (redb s) c)
+      (and-left (eqb s (statusOf [] sameb es (redb s) c)) (closedFrom [] sameb es cs ss) t),
+)
 closed-place es (c ∷ cs) (s ∷ ss) t (suc i) h =
-    let (a, b) = closed-place es cs ss (and-right (eqb s (statusOf [] sameb es (redb s) c)) (closedFrom [] sameb es cs ss) t) i (omega arith) in
+    let (a, b) = closed-place es cs ss (and-right (eqb s (statusOf [] sameb es (redb s) c)) (closedFrom [] sameb es cs ss) t) i
+    (omega arith) in
     (omega arith, b)
 
 module _ (l : Level) (t : T (closedb l)) where
-  pub closed-at : (i : ℕ) → i < length (l .cells) → (i < length (l .statuses)) × StatusIn (redEdges [] (l .cells) (l .statuses)) (getD (l .cells) i noCell) (getD (l .statuses) i 0)
+  pub closed-at : (i : ℕ) → i < length (l .cells) → (i < length (l .statuses)) × StatusIn (redEdges [] (l .cells) (l .statuses))
+      (getD (l .cells) i noCell) (getD (l .statuses) i 0)
   unfolding closedb
   closed-at i h = closed-place (redEdges [] (l .cells) (l .statuses)) (l .cells) (l .statuses) t i h
 
@@ -94,7 +103,9 @@ module _ (l : Level) (t : T (closedb l)) where
   -- red cells are regular
   pub red-regular : (i : ℕ) → i < length (l .cells) → getD (l .statuses) i 0 ≡ 64 → T (getD (l .cells) i noCell .regular)
   red-regular i h q =
-      status-regular (redEdges [] (l .cells) (l .statuses)) (getD (l .cells) i noCell) (getD (l .statuses) i 0) (closed-at i h .1) (λ z. omega (arith, z, q))
+      status-regular (redEdges [] (l .cells) (l .statuses)) (getD (l .cells) i noCell) (getD (l .statuses) i 0) (closed-at i h .1)
+      (λ z. omega (arith, z, q))
 
-pub regular-at : (n k : ℕ) (l : Level) → All (IfRegular n k) (l .cells) → (i : ℕ) → i < length (l .cells) → T (getD (l .cells) i noCell .regular) → Regular n k (getD (l .cells) i noCell)
+pub regular-at : (n k : ℕ) (l : Level) → All (IfRegular n k) (l .cells) → (i : ℕ) → i < length (l .cells)
+    → T (getD (l .cells) i noCell .regular) → Regular n k (getD (l .cells) i noCell)
 regular-at n k l a i h r = all-at (IfRegular n k) noCell (l .cells) a i h r

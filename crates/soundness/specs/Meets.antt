@@ -20,13 +20,16 @@ use Rattle.lineage.specs.Met.{Matched, Fostered, oldAt, oldAbove, met, met-coar
 
 pub record Meets (n : ℕ) (qs : List (List ℕ)) (ss ms : List ℕ) (ls : List Level) : Type 0 where
   pub each : (j i : ℕ) → i < length (getD ls j noLevel .cells) → T (getD (getD ls j noLevel .cells) i noCell .regular)
-      → Matched ms (oldAbove n qs ss j) (oldAt n qs ss j) (getD (getD ls j noLevel .cells) i noCell) (getD (getD ls j noLevel .statuses) i 0)
+      → Matched ms (oldAbove n qs ss j) (oldAt n qs ss j) (getD (getD ls j noLevel .cells) i noCell)
+      (getD (getD ls j noLevel .statuses) i 0)
       ⊎ ((redb (getD (getD ls j noLevel .statuses) i 0) ≡ false) × Fresh (oldAt n qs ss j) (getD (getD ls j noLevel .cells) i noCell))
   pub first : (i : ℕ) → i < length (getD ls 0 noLevel .cells) → Fresh (oldAt n qs ss 0) (getD (getD ls 0 noLevel .cells) i noCell) → ⊥
   pub parent : (j i : ℕ) → i < length (getD ls (suc j) noLevel .cells) → T (getD (getD ls (suc j) noLevel .cells) i noCell .regular)
-      → Fresh (oldAt n qs ss (suc j)) (getD (getD ls (suc j) noLevel .cells) i noCell) → Fostered (oldAt n qs ss j) (getD ls j noLevel) (getD (getD ls (suc j) noLevel .cells) i noCell)
+      → Fresh (oldAt n qs ss (suc j)) (getD (getD ls (suc j) noLevel .cells) i noCell)
+      → Fostered (oldAt n qs ss j) (getD ls j noLevel) (getD (getD ls (suc j) noLevel .cells) i noCell)
 
-pub meets-step : (n : ℕ) (qs : List (List ℕ)) (ss ms : List ℕ) → T (soundb n qs ss) → Meets n qs ss ms (levelsOf n qs (flatten (stepBy n qs ss ms)))
+pub meets-step : (n : ℕ) (qs : List (List ℕ)) (ss ms : List ℕ) → T (soundb n qs ss)
+    → Meets n qs ss ms (levelsOf n qs (flatten (stepBy n qs ss ms)))
 meets-step n qs ss ms t =
     subst (Meets n qs ss ms) (sym (new-levels n qs ss ms))
     (record { each = met n qs ss ms t; first = met-coarse n qs ss ms t; parent = fostered n qs ss ms t })

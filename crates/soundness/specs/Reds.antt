@@ -25,7 +25,8 @@ use Rattle.carriers.specs.Joins.{Edge, held-first, held-second}
 abbrev edgesOf : List Row → List Edge
 edgesOf rs = flatMap (λ r. edges [] (r .cell)) rs
 
-held-chosen : (f : Row → Bool) (e : Edge) (rs : List Row) (u : ℕ) → u < length rs → f (getD rs u noRow) ≡ true → T (heldb sameb (edges [] (getD rs u noRow .cell)) e)
+held-chosen : (f : Row → Bool) (e : Edge) (rs : List Row) (u : ℕ) → u < length rs → f (getD rs u noRow) ≡ true
+    → T (heldb sameb (edges [] (getD rs u noRow .cell)) e)
     → T (heldb sameb (edgesOf (filterb f rs)) e)
 unfolding filterb flatMap
 held-chosen f e [] u h q t = absurd (omega arith)
@@ -36,7 +37,8 @@ held-chosen f e (r ∷ rs) (suc u) h q t = go (f r) refl (held-chosen f e rs u (
     go true p i = rw (p, filterb) (held-second e (edges [] (r .cell)) (edgesOf (filterb f rs)) i)
     go false p i = rw (p, filterb) i
 
-pub held-up : (ms : List ℕ) (ls : List Level) (l : Level) → length (l .statuses) ≡ length (l .cells) → (u : ℕ) → u < length (l .cells) → newRedAt ms ls l u ≡ true
+pub held-up : (ms : List ℕ) (ls : List Level) (l : Level) → length (l .statuses) ≡ length (l .cells) → (u : ℕ) → u < length (l .cells)
+    → newRedAt ms ls l u ≡ true
     → (e : Edge) → T (heldb sameb (edges [] (getD (l .cells) u noCell)) e) → T (heldb sameb (edgesUp (newReds (l ∷ ls) ms)) e)
 unfolding edgesUp newReds
 held-up ms ls l k u h q e t =
@@ -45,7 +47,8 @@ held-up ms ls l k u h q e t =
     (ap (newRedb (rowsUp ls ms) (edgesUp (newReds ls ms))) x ∙ q) (rw x t)
 
 -- a chosen element that fails a test
-all-chosen : {A : Type 0} (d : A) (f g : A → Bool) (l : List A) (t : ℕ) → t < length l → f (getD l t d) ≡ true → g (getD l t d) ≡ false → allb g (filterb f l) ≡ false
+all-chosen : {A : Type 0} (d : A) (f g : A → Bool) (l : List A) (t : ℕ) → t < length l → f (getD l t d) ≡ true → g (getD l t d) ≡ false
+    → allb g (filterb f l) ≡ false
 unfolding allb filterb
 all-chosen d f g [] t h p q = absurd (omega arith)
 all-chosen d f g (x ∷ l) zero h p q = rw (p, filterb) (rw q)
@@ -61,8 +64,10 @@ all-fails d g [] t h q = absurd (omega arith)
 all-fails d g (x ∷ l) zero h q = rw q
 all-fails d g (x ∷ l) (suc t) h q = rw (all-fails d g l t (omega arith) q) (and-false (g x))
 
-module _ (l : Level) (ms : List ℕ) (known : length (l .statuses) ≡ length (l .cells)) (es : List Edge) (r : Row) (u : ℕ) (below : u < length (l .cells))
-    (child : getD (l .cells) u noCell .parent ≡ r .number) (y : ℕ) (hy : y < 6) (held : T (heldb sameb es (edge [] (getD (l .cells) u noCell) y))) where
+module _ (l : Level) (ms : List ℕ) (known : length (l .statuses) ≡ length (l .cells)) (es : List Edge) (r : Row) (u : ℕ)
+    (below : u < length (l .cells))
+    (child : getD (l .cells) u noCell .parent ≡ r .number) (y : ℕ) (hy : y < 6)
+    (held : T (heldb sameb es (edge [] (getD (l .cells) u noCell) y))) where
   abbrev c : Cell Point
   c = getD (l .cells) u noCell
 
@@ -84,8 +89,10 @@ module _ (l : Level) (ms : List ℕ) (known : length (l .statuses) ≡ length (l
       let free : Edge → Bool = λ e. not (heldb sameb es e) in
       let gone : Row → Bool = λ s. (eqb (s .status) 0 && eqb (s .mark) 2) && allb (λ e. not (heldb sameb es e)) (edges [] (s .cell)) in
       let w : allb free (edges [] c) ≡ false =
-      all-fails ([], []) free (edges [] c) y (omega (arith, edge-count [] c)) (ap free (edge-at [] c y hy) ∙ rw (is-true (heldb sameb es (edge [] c y)) held) refl) in
-      all-chosen noRow mine gone (rows l ms) u long is-mine (ap gone at ∙ rw w (and-false (eqb (getD (l .statuses) u 0) 0 && eqb (getD ms (l .first + u) 0) 2)))
+      all-fails ([], []) free (edges [] c) y (omega (arith, edge-count [] c))
+      (ap free (edge-at [] c y hy) ∙ rw (is-true (heldb sameb es (edge [] c y)) held) refl) in
+      all-chosen noRow mine gone (rows l ms) u long is-mine
+      (ap gone at ∙ rw w (and-false (eqb (getD (l .statuses) u 0) 0 && eqb (getD ms (l .first + u) 0) 2)))
 
   turned : (own : List Edge) → heldb sameb own (edge [] c y) ≡ false → turnedb own (kids (rows l ms) (r .number)) es ≡ true
   unfolding turnedb kids

@@ -38,8 +38,16 @@ module _ (n : ℕ) (qs : List (List ℕ)) (ss : List ℕ) where
   sound-parts t =
       let ls = levelsOf n qs ss in
       let cs = cellsOf ls in
-      let (a, b, c, d, e) = parts (eqb (length ss) (length cs)) (leb (length ls) 11) (leb (length cs) 4096) (allb closedb ls) (apartb cs ss) t in
-      record { many = eqb→eq (length ss) (length cs) a; high = leb→le (length ls) 11 b; few = leb→le (length cs) 4096 c; closed = d; apart = e }
+      let (a, b, c, d, e) = parts (eqb (length ss) (length cs)) (leb (length ls) 11) (leb (length cs) 4096) (allb closedb ls) (apartb cs ss)
+      t in
+      record {
+        many = eqb→eq (length ss) (length cs) a;
+        high = leb→le (length ls) 11 b;
+        few = leb→le (length cs) 4096 c;
+        closed = d;
+        apart =
+            e;
+      }
     where
       parts : (a b c d e : Bool) → T ((a && (b && c)) && (d && e)) → T a × T b × T c × T d × T e
       parts a b c d e t =
@@ -53,7 +61,8 @@ module _ (n : ℕ) (qs : List (List ℕ)) (ss : List ℕ) where
   sound-from s =
       let ls = levelsOf n qs ss in
       let cs = cellsOf ls in
-      rw (eq-eqb (length ss) (length cs) (s .many), le-leb (length ls) 11 (s .high), le-leb (length cs) 4096 (s .few)) (and-both (allb closedb ls) (apartb cs ss) (s .closed) (s .apart))
+      rw (eq-eqb (length ss) (length cs) (s .many), le-leb (length ls) 11 (s .high), le-leb (length cs) 4096 (s .few))
+      (and-both (allb closedb ls) (apartb cs ss) (s .closed) (s .apart))
 
   abbrev pub lv : ℕ → Level
   lv j = getD (levelsOf n qs ss) j noLevel
@@ -74,6 +83,7 @@ module _ (n : ℕ) (qs : List (List ℕ)) (ss : List ℕ) where
       elim (decLt j (length (levelsOf n qs ss))) [
         | yes g ↦ g
         | no g ↦
-            let e : length (lv j .cells) ≡ 0 = ap (λ (l : Level). length (l .cells)) (List·getD-eq-default (levelsOf n qs ss) noLevel {n = j} (omega arith)) in
+            let e : length (lv j .cells) ≡ 0 = ap (λ (l : Level). length (l .cells))
+            (List·getD-eq-default (levelsOf n qs ss) noLevel {n = j} (omega arith)) in
             absurd (omega arith)
       ]

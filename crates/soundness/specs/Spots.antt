@@ -61,7 +61,8 @@ module _ (k : ℕ) (cs : List (Cell Point)) (rs : List ℕ) (up : List Level) wh
         status = rw e (sym (getD-drop (length cs) rs (s .o + p) 0) ∙ s .status);
       }
 
-pub spot : (h k : ℕ) (cs : List (Cell Point)) (rs : List ℕ) (j p : ℕ) → p < length (getD (levels h k cs rs) j noLevel .cells) → Spot (levels h k cs rs) k rs j p
+pub spot : (h k : ℕ) (cs : List (Cell Point)) (rs : List ℕ) (j p : ℕ) → p < length (getD (levels h k cs rs) j noLevel .cells)
+    → Spot (levels h k cs rs) k rs j p
 unfolding levels
 spot zero k cs rs j p l = absurd (omega arith)
 spot (suc h) k [] rs j p l = absurd (omega arith)
@@ -97,7 +98,8 @@ module _ (k : ℕ) (cs : List (Cell Point)) (rs : List ℕ) (up : List Level) wh
         number = omega (arith, w .number);
       }
 
-  of-either : (i : ℕ) → i < length (cellsOf (low k cs rs up ∷ up)) → ((i : ℕ) → i < length (cellsOf up) → SpotOf up (k + length cs) (drop (length cs) rs) i)
+  of-either : (i : ℕ) → i < length (cellsOf (low k cs rs up ∷ up))
+      → ((i : ℕ) → i < length (cellsOf up) → SpotOf up (k + length cs) (drop (length cs) rs) i)
       → SpotOf (low k cs rs up ∷ up) k rs i
   of-either i h f =
       elim (decLt i (length cs)) [
@@ -107,7 +109,8 @@ module _ (k : ℕ) (cs : List (Cell Point)) (rs : List ℕ) (up : List Level) wh
             rw e at (of-up (i - length cs) (f (i - length cs) (omega (arith, length-cells k cs rs up))))
       ]
 
-pub spot-of : (h k : ℕ) (cs : List (Cell Point)) (rs : List ℕ) (i : ℕ) → i < length (cellsOf (levels h k cs rs)) → SpotOf (levels h k cs rs) k rs i
+pub spot-of : (h k : ℕ) (cs : List (Cell Point)) (rs : List ℕ) (i : ℕ) → i < length (cellsOf (levels h k cs rs))
+    → SpotOf (levels h k cs rs) k rs i
 unfolding levels cellsOf flatMap
 spot-of zero k cs rs i l = absurd (omega arith)
 spot-of (suc h) k [] rs i l = absurd (omega arith)

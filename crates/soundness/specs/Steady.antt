@@ -37,11 +37,14 @@ use Rattle.soundness.specs.Meets.{Meets, meets-step}
 use Rattle.soundness.specs.Green.{no-green}
 use Rattle.soundness.specs.Grown.{new-closed, new-many, new-high}
 
-module _ (n : ℕ) (qs : List (List ℕ)) (ss ms ts : List ℕ) (old : Sound n qs ss) (regular : (i : ℕ) → All (IfRegular n i) (lv n qs ss i .cells))
-    (closed : T (allb closedb (levelsOf n qs ts))) (few : length (levelsOf n qs ts) ≤ 11) (new : (i : ℕ) → i ≤ 10 → All (IfRegular n i) (lv n qs ts i .cells))
+module _ (n : ℕ) (qs : List (List ℕ)) (ss ms ts : List ℕ) (old : Sound n qs ss)
+    (regular : (i : ℕ) → All (IfRegular n i) (lv n qs ss i .cells))
+    (closed : T (allb closedb (levelsOf n qs ts))) (few : length (levelsOf n qs ts) ≤ 11)
+    (new : (i : ℕ) → i ≤ 10 → All (IfRegular n i) (lv n qs ts i .cells))
     (m : Meets n qs ss ms (levelsOf n qs ts)) where
   -- an edge of a child that is not regular, by the parent's digits
-  child-apart : (j : ℕ) → j < 10 → (c : Cell Point) → Born (lv n qs ts j .first) (lv n qs ts j .cells) (lv n qs ts j .statuses) c → c .regular ≡ false → (y : ℕ) → y < 6
+  child-apart : (j : ℕ) → j < 10 → (c : Cell Point) → Born (lv n qs ts j .first) (lv n qs ts j .cells) (lv n qs ts j .statuses) c
+      → c .regular ≡ false → (y : ℕ) → y < 6
       → heldb sameb (edges [] (parentOf (cellsOf (levelsOf n qs ts)) ts c)) (edge [] c y) ≡ false → RedSomewhere n qs ts (edge [] c y) → ⊥
   child-apart j h c b r y hy own w =
       let l = lv n qs ts j in
@@ -64,27 +67,34 @@ module _ (n : ℕ) (qs : List (List ℕ)) (ss ms ts : List ℕ) (old : Sound n q
       let u = w' .at in
       let k = w' .j in
       let q = getD (lv n qs ts k .cells) (u .u) noCell in
-      let rq : Regular n k q = regular-at n k (lv n qs ts k) (new k (omega (arith, w' .high))) (u .u) (u .below) (red-regular (lv n qs ts k) (cl k) (u .u) (u .below) (u .red)) in
+      let rq : Regular n k q = regular-at n k (lv n qs ts k) (new k (omega (arith, w' .high))) (u .u) (u .below)
+      (red-regular (lv n qs ts k) (cl k) (u .u) (u .below) (u .red)) in
       ⊎-elim (λ (z : (low d < high d) ⊎ (low e < high e)).
-      let up : k ≡ suc j = next-level n j k g q h (omega (arith, w' .high)) (regular-at n j l (new j (omega arith)) (b .p) (b .below) rg) rq d e (omega arith) he z (u .y) (u .small) (u .joins) in
-      no-green n qs ss ms ts old regular m new cl j h (b .p) (b .below) rg green d e (omega arith) he (λ t. omega arith) own' (subst (λ (k : ℕ). RedAt n qs ts k f) up u))
+      let up : k ≡ suc j = next-level n j k g q h (omega (arith, w' .high)) (regular-at n j l (new j (omega arith)) (b .p) (b .below) rg) rq
+      d e (omega arith) he z (u .y) (u .small) (u .joins) in
+      no-green n qs ss ms ts old regular m new cl j h (b .p) (b .below) rg green d e (omega arith) he (λ t. omega arith) own'
+      (subst (λ (k : ℕ). RedAt n qs ts k f) up u))
       (λ (z : T (heldb sameb (edges [] g) f)). not-both {A = ⊥} (heldb sameb (edges [] g) f) (is-true (heldb sameb (edges [] g) f) z) own')
       (own-or-mid g d e de he)
 
   cell-apart : (j p : ℕ) → p < length (lv n qs ts j .cells) → getD (lv n qs ts j .cells) p noCell .regular ≡ false → (y : ℕ) → y < 6
-      → heldb sameb (edges [] (parentOf (cellsOf (levelsOf n qs ts)) ts (getD (lv n qs ts j .cells) p noCell))) (edge [] (getD (lv n qs ts j .cells) p noCell) y) ≡ false
+      → heldb sameb (edges [] (parentOf (cellsOf (levelsOf n qs ts)) ts (getD (lv n qs ts j .cells) p noCell)))
+      (edge [] (getD (lv n qs ts j .cells) p noCell) y) ≡ false
       → RedSomewhere n qs ts (edge [] (getD (lv n qs ts j .cells) p noCell) y) → ⊥
   cell-apart zero p h r y hy own w = not-both (getD (lv n qs ts 0 .cells) p noCell .regular) (coarse-level n qs ts p h) r
   cell-apart (suc j) p h r y hy own w =
       let top : suc j < length (levelsOf n qs ts) = level-there n qs ts (suc j) p h in
-      child-apart j (omega arith) (getD (lv n qs ts (suc j) .cells) p noCell) (born-of (lv n qs ts j) (lv n qs ts (suc j)) (level-next n qs ts j (omega arith)) p h) r y hy own w
+      child-apart j (omega arith) (getD (lv n qs ts (suc j) .cells) p noCell)
+      (born-of (lv n qs ts j) (lv n qs ts (suc j)) (level-next n qs ts j (omega arith)) p h) r y hy own w
 
   new-apart : T (apartb (cellsOf (levelsOf n qs ts)) ts)
   new-apart =
       apart-from (cellsOf (levelsOf n qs ts)) ts (λ i h r y hy own held.
       let o = spot-with n qs ts i h in
-      let e : getD (cellsOf (levelsOf n qs ts)) i noCell ≡ getD (lv n qs ts (o .j) .cells) (o .p) noCell = rw (o .number) at (o .at .cell) in
-      cell-apart (o .j) (o .p) (o .below) (rw e at r) y hy (rw e at own) (rw e at (red-level n qs ts (edge [] (getD (cellsOf (levelsOf n qs ts)) i noCell) y) held)))
+      let e : getD (cellsOf (levelsOf n qs ts)) i noCell ≡ getD (lv n qs ts (o .j) .cells) (o .p) noCell = rw (o .number) at
+      (o .at .cell) in
+      cell-apart (o .j) (o .p) (o .below) (rw e at r) y hy (rw e at own)
+      (rw e at (red-level n qs ts (edge [] (getD (cellsOf (levelsOf n qs ts)) i noCell) y) held)))
 
 sound-by : (n : ℕ) (qs : List (List ℕ)) (ss ms : List ℕ) → All (λ q. length q ≡ 4) qs → T (cellsb n qs) → T (soundb n qs ss)
     → length (stepBy n qs ss ms) ≤ 11 → length (flatten (stepBy n qs ss ms)) ≤ 4096 → T (soundb n qs (flatten (stepBy n qs ss ms)))
@@ -97,7 +107,8 @@ sound-by n qs ss ms four cells sound high few =
       high = low;
       few = rw (← new-many n qs ss ms) few;
       closed = closed;
-      apart = new-apart n qs ss ms ts (sound-parts n qs ss sound) (sound-regular n qs ss four cells sound) closed low (level-regular n qs ts four cells closed) (meets-step n qs ss ms sound);
+      apart = new-apart n qs ss ms ts (sound-parts n qs ss sound) (sound-regular n qs ss four cells sound) closed low
+          (level-regular n qs ts four cells closed) (meets-step n qs ss ms sound);
     })
 
 pub step-sound : (n : ℕ) (qs : List (List ℕ)) (ss ms : List ℕ) → All (λ q. length q ≡ 4) qs → T (cellsb n qs) → T (soundb n qs ss)

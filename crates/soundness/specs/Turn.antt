@@ -44,9 +44,12 @@ pub record Sharing (l up : Level) (t : ℕ) (e : Edge) : Type 0 where
   pub below : y < 6
   pub joins : T (joinsb sameb e (edge [] (getD (up .cells) (child .u) noCell) y))
 
-module _ (n k : ℕ) (h : k < 10) (l up : Level) (next-up : up .cells ≡ next (l .first) (l .cells) (l .statuses)) (closed : T (closedb l)) (regular : All (IfRegular n k) (l .cells)) where
-  module _ (t : ℕ) (ht : t < length (l .cells)) (rt : T (getD (l .cells) t noCell .regular)) (d e : ℕ) (hd : d < 10) (he : e < 10) (ne : d ≡ e → ⊥)
-      (c : Cell Point) (w : RedChild l c) (y : ℕ) (hy : y < 6) (x : T (joinsb sameb (point (getD (l .cells) t noCell) d, point (getD (l .cells) t noCell) e) (edge [] c y))) where
+module _ (n k : ℕ) (h : k < 10) (l up : Level) (next-up : up .cells ≡ next (l .first) (l .cells) (l .statuses)) (closed : T (closedb l))
+    (regular : All (IfRegular n k) (l .cells)) where
+  module _ (t : ℕ) (ht : t < length (l .cells)) (rt : T (getD (l .cells) t noCell .regular)) (d e : ℕ) (hd : d < 10) (he : e < 10)
+      (ne : d ≡ e → ⊥)
+      (c : Cell Point) (w : RedChild l c) (y : ℕ) (hy : y < 6)
+      (x : T (joinsb sameb (point (getD (l .cells) t noCell) d, point (getD (l .cells) t noCell) e) (edge [] c y))) where
     pub sharing : Sharing l up t (point (getD (l .cells) t noCell) d, point (getD (l .cells) t noCell) e)
     sharing =
         let g = getD (l .cells) t noCell in
@@ -62,12 +65,14 @@ module _ (n k : ℕ) (h : k < 10) (l up : Level) (next-up : up .cells ≡ next (
         let up63 : 63 < 64 = omega arith in
         let ab = digits-rise 63 (w .i) up63 (w .inside) y hy in
         let hb = digits-below 63 (w .i) up63 (w .inside) y hy in
-        let x' : T (joinsb sameb (point g d, point g e) (point p a, point p b)) = rw (child-edge 63 (w .i) up63 (w .inside) y hy p c (w .points)) at x in
+        let x' : T (joinsb sameb (point g d, point g e) (point p a, point p b)) = rw
+        (child-edge 63 (w .i) up63 (w .inside) y hy p c (w .points)) at x in
         let rg = regular-at n k l regular t ht rt in
         let rp = regular-at n k l regular (w .p) (w .below) (red-regular l closed (w .p) (w .below) (w .red)) in
         let j = digits-joined 63 (w .i) up63 (w .inside) y hy in
         let z = refined-here n k g p h rg rp es reds s st rt d e a b hd he (omega arith) hb j x' ne in
-        let v : EdgeAt (patternOf s) d e = edge-child (patternOf s) d e small (joined-here n k g p h rg rp es reds s st rt d e a b hd he (omega arith) hb j x') ne in
+        let v : EdgeAt (patternOf s) d e = edge-child (patternOf s) d e small
+        (joined-here n k g p h rg rp es reds s st rt d e a b hd he (omega arith) hb j x') ne in
         let q : ChildAt l up t (v .child) = family-child l up next-up t (v .child) ht known z (v .inside) in
         record {
           refined = z;
@@ -78,8 +83,10 @@ module _ (n k : ℕ) (h : k < 10) (l up : Level) (next-up : up .cells ≡ next (
           joins = edge-joins (patternOf s) d e small v g (getD (up .cells) (q .u) noCell) (child-points l up t (v .child) q);
         }
 
-  module _ (closed-up : T (closedb up)) (ms : List ℕ) (ls : List Level) (t : ℕ) (ht : t < length (l .cells)) (rt : T (getD (l .cells) t noCell .regular))
-      (u : ℕ) (hu : u < length (up .cells)) (ru : T (getD (up .cells) u noCell .regular)) (new : newRedAt ms ls up u ≡ true) (y : ℕ) (hy : y < 6) where
+  module _ (closed-up : T (closedb up)) (ms : List ℕ) (ls : List Level) (t : ℕ) (ht : t < length (l .cells))
+      (rt : T (getD (l .cells) t noCell .regular))
+      (u : ℕ) (hu : u < length (up .cells)) (ru : T (getD (up .cells) u noCell .regular)) (new : newRedAt ms ls up u ≡ true) (y : ℕ)
+      (hy : y < 6) where
     pub turns : (d e : ℕ) → d < 10 → e < 10 → (d ≡ e → ⊥)
         → T (joinsb sameb (point (getD (l .cells) t noCell) d, point (getD (l .cells) t noCell) e) (edge [] (getD (up .cells) u noCell) y))
         → heldb sameb (edges [] (getD (l .cells) t noCell)) (point (getD (l .cells) t noCell) d, point (getD (l .cells) t noCell) e) ≡ false
@@ -95,5 +102,6 @@ module _ (n k : ℕ) (h : k < 10) (l up : Level) (next-up : up .cells ≡ next (
         let known = closed-length up closed-up in
         let held : T (heldb sameb (edgesUp (newReds (up ∷ ls) ms)) o) =
         held-up ms ls up known u hu new o (held-at [] r sameb o y hy (joins-trans o f (edge [] r y) (joins-sym f o (w .joins)) x)) in
-        new-red-by up ms known (edgesUp (newReds (up ∷ ls) ms)) (rowIn l ms t) (w .child .u) (w .child .below) (child-parent l up t (w .i) (w .child)) (w .y) (w .below) held
+        new-red-by up ms known (edgesUp (newReds (up ∷ ls) ms)) (rowIn l ms t) (w .child .u) (w .child .below)
+        (child-parent l up t (w .i) (w .child)) (w .y) (w .below) held
         (w .refined) (held-not (edges [] g) f o (w .joins) own)

@@ -60,7 +60,8 @@ module _ (n : ℕ) (qs : List (List ℕ)) (ss : List ℕ) where
   red-level e t =
       let w : RedHas (cellsOf (levelsOf n qs ss)) ss e = red-which e (cellsOf (levelsOf n qs ss)) ss t in
       let o = spot-with (w .i) (w .below) in
-      let c : getD (cellsOf (levelsOf n qs ss)) (w .i) noCell ≡ getD (lv n qs ss (o .j) .cells) (o .p) noCell = rw (o .number) at (o .at .cell) in
+      let c : getD (cellsOf (levelsOf n qs ss)) (w .i) noCell ≡ getD (lv n qs ss (o .j) .cells) (o .p) noCell = rw (o .number) at
+      (o .at .cell) in
       let s : getD ss (w .i) 0 ≡ getD (lv n qs ss (o .j) .statuses) (o .p) 0 = rw (o .number) at (o .at .status) in
       let h : T (heldb sameb (edges [] (getD (lv n qs ss (o .j) .cells) (o .p) noCell)) e) = rw c at (w .has) in
       let (y, hy, js) = held-which [] (getD (lv n qs ss (o .j) .cells) (o .p) noCell) sameb e h in
@@ -70,4 +71,5 @@ module _ (n : ℕ) (qs : List (List ℕ)) (ss : List ℕ) where
   unfolding levelsOf
   coarse-level p h =
       let e : lv n qs ss 0 .cells ≡ coarseCells n qs = cells-first 11 0 (coarseCells n qs) ss in
-      ap (λ (cs : List (Cell Point)). getD cs p noCell .regular) e ∙ ap (λ (c : Cell Point). c .regular) (coarse-at n qs p (omega (arith, ap length e, length-coarse n qs)))
+      ap (λ (cs : List (Cell Point)). getD cs p noCell .regular) e
+      ∙ ap (λ (c : Cell Point). c .regular) (coarse-at n qs p (omega (arith, ap length e, length-coarse n qs)))

@@ -40,14 +40,17 @@ marks-differ (s ∷ ss) (m ∷ ms) h = rw (← marks-differ ss ms (λ e. h (ap s
     go false = refl
 
 module _ (ss ms : List ℕ) (c : ℕ) where
-  marks-step : c < length ss → length ms ≡ length ss → marksb (drop c ss) (drop c ms) ≡ (markb (getD ss c 0) (getD ms c 0) && marksb (drop (c + 1) ss) (drop (c + 1) ms))
+  marks-step : c < length ss → length ms ≡ length ss
+      → marksb (drop c ss) (drop c ms) ≡ (markb (getD ss c 0) (getD ms c 0) && marksb (drop (c + 1) ss) (drop (c + 1) ms))
   unfolding marksb
   marks-step h e = let n : c + 1 ≡ suc c = omega arith in rw n (ap₂ marksb (drop-cons ss c 0 h) (drop-cons ms c 0 (omega arith)))
 
-  pub marks-next : c < length ss → length ms ≡ length ss → markb (getD ss c 0) (getD ms c 0) ≡ true → marksb (drop c ss) (drop c ms) ≡ marksb (drop (c + 1) ss) (drop (c + 1) ms)
+  pub marks-next : c < length ss → length ms ≡ length ss → markb (getD ss c 0) (getD ms c 0) ≡ true
+      → marksb (drop c ss) (drop c ms) ≡ marksb (drop (c + 1) ss) (drop (c + 1) ms)
   marks-next h e t = marks-step h e ∙ ap (λ (b : Bool). b && marksb (drop (c + 1) ss) (drop (c + 1) ms)) t
 
-  pub marks-miss : c < length ss → length ms ≡ length ss → markb (getD ss c 0) (getD ms c 0) ≡ false → marksb (drop c ss) (drop c ms) ≡ false
+  pub marks-miss : c < length ss → length ms ≡ length ss → markb (getD ss c 0) (getD ms c 0) ≡ false
+      → marksb (drop c ss) (drop c ms) ≡ false
   marks-miss h e t = marks-step h e ∙ ap (λ (b : Bool). b && marksb (drop (c + 1) ss) (drop (c + 1) ms)) t
 
   pub marks-end : length ss ≤ c → length ms ≡ length ss → marksb (drop c ss) (drop c ms) ≡ true

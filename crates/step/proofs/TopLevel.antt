@@ -28,7 +28,8 @@ deepIn (c ∷ cs) (f ∷ fs) = (eqb (levelOf c) 10 && redb f) || deepIn cs fs
 
 -- the scan over the rows is one over cells and flags
 scan : (t red : List ℕ) (k : ℕ) (cs : List (Cell Point)) (fs : List ℕ) → length fs ≡ length cs
-    → ((i : ℕ) → i < length cs → getD t (8 * (k + i)) 0 ≡ levelOf (getD cs i noCell)) → ((i : ℕ) → i < length cs → getD red (k + i) 0 ≡ getD fs i 0)
+    → ((i : ℕ) → i < length cs → getD t (8 * (k + i)) 0 ≡ levelOf (getD cs i noCell))
+    → ((i : ℕ) → i < length cs → getD red (k + i) 0 ≡ getD fs i 0)
     → deepFrom t red k (length cs) ≡ deepIn cs fs
 unfolding deepFrom deepIn
 scan t red k [] fs e h g = refl
@@ -43,13 +44,15 @@ scan t red k (c ∷ cs) (f ∷ fs) e h g =
     rw (a, b, i)
 
 -- a level
-deep-both : (cs ds : List (Cell Point)) (fs gs : List ℕ) → length fs ≡ length cs → deepIn (cs ++ ds) (fs ++ gs) ≡ (deepIn cs fs || deepIn ds gs)
+deep-both : (cs ds : List (Cell Point)) (fs gs : List ℕ) → length fs ≡ length cs
+    → deepIn (cs ++ ds) (fs ++ gs) ≡ (deepIn cs fs || deepIn ds gs)
 unfolding deepIn
 deep-both [] ds [] gs e = refl
 deep-both [] ds (f ∷ fs) gs e = absurd (omega arith)
 deep-both (c ∷ cs) ds [] gs e = absurd (omega arith)
 deep-both (c ∷ cs) ds (f ∷ fs) gs e =
-    ap (λ (b : Bool). (eqb (levelOf c) 10 && redb f) || b) (deep-both cs ds fs gs (omega arith)) ∙ sym (or-assoc (eqb (levelOf c) 10 && redb f) (deepIn cs fs) (deepIn ds gs))
+    ap (λ (b : Bool). (eqb (levelOf c) 10 && redb f) || b) (deep-both cs ds fs gs (omega arith))
+    ∙ sym (or-assoc (eqb (levelOf c) 10 && redb f) (deepIn cs fs) (deepIn ds gs))
 
 level-of : (j : ℕ) (c : Cell Point) → T (eqb (length (c .path)) (suc j)) → levelOf c ≡ j
 level-of j c t = ap pred (eqb→eq (length (c .path)) (suc j) t)
@@ -87,10 +90,14 @@ module _ (ms : List ℕ) where
       let fs : List ℕ = flagsOf ls ms (rows l ms) in
       let n : length fs ≡ length cs′ = length-map (rows l ms) _ ∙ length-rows l ms (closed-many (redEdges [] cs′ ts) cs′ ts v) in
       deep-both cs′ (cellsOf ls) fs (flatten (flags ls ms)) n
-      ∙ ap₂ _||_ (other-level j cs′ fs (λ e. omega arith) d) (above-all (suc j) h (k + length cs′) (next k cs′ ts) (drop (length cs′) rest) (and-right (closedb l) (allb closedb ls) u) (deep-next (suc j) k cs′ ts d) (omega arith))
+      ∙ ap₂ _||_ (other-level j cs′ fs (λ e. omega arith) d)
+      (above-all (suc j) h (k + length cs′) (next k cs′ ts) (drop (length cs′) rest) (and-right (closedb l) (allb closedb ls) u)
+      (deep-next (suc j) k cs′ ts d) (omega arith))
 
-  levels-all : (i j h k : ℕ) (cs : List (Cell Point)) (rest : List ℕ) → i + j ≡ 10 → T (allb closedb (levels h k cs rest)) → T (deepb (suc j) cs)
-      → deepIn (cellsOf (levels h k cs rest)) (flatten (flags (levels h k cs rest) ms)) ≡ anyb redb (getD (flags (levels h k cs rest) ms) i [])
+  levels-all : (i j h k : ℕ) (cs : List (Cell Point)) (rest : List ℕ) → i + j ≡ 10 → T (allb closedb (levels h k cs rest))
+      → T (deepb (suc j) cs)
+      → deepIn (cellsOf (levels h k cs rest)) (flatten (flags (levels h k cs rest) ms)) ≡ anyb redb
+      (getD (flags (levels h k cs rest) ms) i [])
   unfolding levels allb closedb cellsOf flatMap flatten flags flagsOf deepIn anyb
   levels-all i j zero k cs rest e u d = refl
   levels-all i j (suc h) k [] rest e u d = refl
@@ -105,7 +112,8 @@ module _ (ms : List ℕ) where
       let t : suc j ≡ 11 = omega arith in
       let here : deepIn cs′ fs ≡ anyb redb fs = this-level cs′ fs n (rw t at d) in
       let up : deepIn (cellsOf ls) (flatten (flags ls ms)) ≡ false =
-      above-all (suc j) h (k + length cs′) (next k cs′ ts) (drop (length cs′) rest) (and-right (closedb l) (allb closedb ls) u) (deep-next (suc j) k cs′ ts d) (omega arith) in
+      above-all (suc j) h (k + length cs′) (next k cs′ ts) (drop (length cs′) rest) (and-right (closedb l) (allb closedb ls) u)
+      (deep-next (suc j) k cs′ ts d) (omega arith) in
       deep-both cs′ (cellsOf ls) fs (flatten (flags ls ms)) n ∙ ap₂ _||_ here up ∙ or-false (anyb redb fs)
   levels-all (suc i) j (suc h) k (c ∷ cs) rest e u d =
       let cs′ = c ∷ cs in
@@ -117,7 +125,8 @@ module _ (ms : List ℕ) where
       let n : length fs ≡ length cs′ = length-map (rows l ms) _ ∙ length-rows l ms (closed-many (redEdges [] cs′ ts) cs′ ts v) in
       let here : deepIn cs′ fs ≡ false = other-level j cs′ fs (λ x. omega arith) d in
       let up : deepIn (cellsOf ls) (flatten (flags ls ms)) ≡ anyb redb (getD (flags ls ms) i []) =
-      levels-all i (suc j) h (k + length cs′) (next k cs′ ts) (drop (length cs′) rest) (omega arith) (and-right (closedb l) (allb closedb ls) u) (deep-next (suc j) k cs′ ts d) in
+      levels-all i (suc j) h (k + length cs′) (next k cs′ ts) (drop (length cs′) rest) (omega arith)
+      (and-right (closedb l) (allb closedb ls) u) (deep-next (suc j) k cs′ ts d) in
       deep-both cs′ (cellsOf ls) fs (flatten (flags ls ms)) n ∙ ap₂ _||_ here up
 
 coarse-deep : (n i : ℕ) (qs : List (List ℕ)) → T (deepb 1 (coarseFrom n i qs))
@@ -138,7 +147,9 @@ length-flags ms (suc h) k (c ∷ cs) rest u =
     let v : T (closedFrom [] sameb (redEdges [] cs′ ts) cs′ ts) = and-left (closedb l) (allb closedb ls) u in
     let fs : List ℕ = flagsOf ls ms (rows l ms) in
     let n : length fs ≡ length cs′ = length-map (rows l ms) _ ∙ length-rows l ms (closed-many (redEdges [] cs′ ts) cs′ ts v) in
-    length-append fs (flatten (flags ls ms)) ∙ ap₂ _+_ n (length-flags ms h (k + length cs′) (next k cs′ ts) (drop (length cs′) rest) (and-right (closedb l) (allb closedb ls) u))
+    length-append fs (flatten (flags ls ms))
+    ∙ ap₂ _+_ n (length-flags ms h (k + length cs′) (next k cs′ ts) (drop (length cs′) rest)
+    (and-right (closedb l) (allb closedb ls) u))
     ∙ sym (length-append cs′ (cellsOf ls))
 
 -- the scan over a table's rows and flags
@@ -150,7 +161,8 @@ module _ (n : ℕ) (qs : List (List ℕ)) (ss ms : List ℕ) (closed : T (allb c
   unfolding flagTable levelsOf
   flags-long = length-flags ms 12 0 (coarseCells n qs) ss closed
 
-  pub deep-scan : (t red : List ℕ) → ((i : ℕ) → i < length cs → getD t (8 * i) 0 ≡ levelOf (getD cs i noCell)) → ((i : ℕ) → i < length cs → getD red i 0 ≡ getD (flagTable n qs ss ms) i 0)
+  pub deep-scan : (t red : List ℕ) → ((i : ℕ) → i < length cs → getD t (8 * i) 0 ≡ levelOf (getD cs i noCell))
+      → ((i : ℕ) → i < length cs → getD red i 0 ≡ getD (flagTable n qs ss ms) i 0)
       → deepFrom t red 0 (length cs) ≡ anyb redb (getD (flags (levelsOf n qs ss) ms) 10 [])
   unfolding flagTable levelsOf coarseCells
   deep-scan t red h g =

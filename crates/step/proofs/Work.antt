@@ -116,7 +116,8 @@ module _ (n : ℕ) (mesh rows ss : List ℕ) (h : Held n mesh rows ss) where
         (λ i l. ap (λ (l : List ℕ). getD l i 0) e ∙ List·getD-append (flagTable n qs ss ms) rest 0 i (omega (arith, long-flags)))))
 
     -- what the building leaves
-    module _ (rows′ ps qs′ table : List ℕ) (refusal cells levels mids : ℕ) (r : Result n qs ss (take (length ss) red) rows′ ps qs′ table refusal cells levels mids) where
+    module _ (rows′ ps qs′ table : List ℕ) (refusal cells levels mids : ℕ)
+        (r : Result n qs ss (take (length ss) red) rows′ ps qs′ table refusal cells levels mids) where
       accepted : refusal ≡ 0 → Advanced n mesh ss ms rows′ ps qs′ table refusal cells levels mids
       accepted z =
           let t = same-table in
@@ -138,7 +139,8 @@ module _ (n : ℕ) (mesh rows ss : List ℕ) (h : Held n mesh rows ss) where
           }
 
       -- a refusal
-      refused : (k : ℕ) → (k ≡ 0 → ⊥) → limitsAnswer n qs ss ms ≡ answerOf k → (c l m : ℕ) → Advanced n mesh ss ms rows′ ps qs′ table k c l m
+      refused : (k : ℕ) → (k ≡ 0 → ⊥) → limitsAnswer n qs ss ms ≡ answerOf k → (c l m : ℕ)
+          → Advanced n mesh ss ms rows′ ps qs′ table k c l m
       refused k z a c l m =
           record {
             answer = a;
@@ -154,7 +156,8 @@ module _ (n : ℕ) (mesh rows ss : List ℕ) (h : Held n mesh rows ss) where
       high e =
           let t = same-table in
           let l : length (stepTable n qs ss ms) ≡ 12 = rw t at (r .high e) in
-          refused refusal (λ z. omega arith) (limits-high n qs ss ms (lt-leb (length (stepTable n qs ss ms)) 11 (omega arith)) ∙ rw e) cells levels mids
+          refused refusal (λ z. omega arith) (limits-high n qs ss ms (lt-leb (length (stepTable n qs ss ms)) 11 (omega arith)) ∙ rw e) cells
+          levels mids
 
       over : deepFrom rows red 0 (length ss) ≡ true → (k : ℕ) → k ≡ 8 → Advanced n mesh ss ms rows′ ps qs′ table k cells levels mids
       unfolding answerOf
@@ -167,12 +170,15 @@ module _ (n : ℕ) (mesh rows ss : List ℕ) (h : Held n mesh rows ss) where
           let l : 4096 < length (newTable n qs ss ms) = rw t at (r .many e) in
           refused refusal (λ z. omega arith) (limits-many n qs ss ms (held-deep ∙ ap not d) l ∙ rw e) cells levels mids
 
-      pub advanced : (k : ℕ) → Decided (deepFrom rows red 0 (length ss)) refusal k → Advanced n mesh ss ms rows′ ps qs′ table k cells levels mids
+      pub advanced : (k : ℕ) → Decided (deepFrom rows red 0 (length ss)) refusal k → Advanced n mesh ss ms rows′ ps qs′ table k cells levels
+          mids
       advanced k d =
           ⊎-elim (λ (e : refusal ≡ 0). same (λ z. absurd (omega arith)) (accepted e))
-          (⊎-elim (λ (e : refusal ≡ 8). same (λ z. absurd (omega arith)) (high e)) (λ (e : refusal ≡ 9). go (deepFrom rows red 0 (length ss)) refl e)) (r .one)
+          (⊎-elim (λ (e : refusal ≡ 8). same (λ z. absurd (omega arith)) (high e))
+          (λ (e : refusal ≡ 9). go (deepFrom rows red 0 (length ss)) refl e)) (r .one)
         where
-          same : (refusal ≡ 9 → deepFrom rows red 0 (length ss) ≡ false) → Advanced n mesh ss ms rows′ ps qs′ table refusal cells levels mids
+          same : (refusal ≡ 9 → deepFrom rows red 0 (length ss) ≡ false) → Advanced n mesh ss ms rows′ ps qs′ table refusal cells levels
+              mids
               → Advanced n mesh ss ms rows′ ps qs′ table k cells levels mids
           same h a = let q : k ≡ refusal = d .kept h in rw q a
 

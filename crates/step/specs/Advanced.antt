@@ -17,7 +17,8 @@ use Rattle.mesh.specs.Answers.{newTable, limitsAnswer}
 pub record Held (n : ℕ) (mesh rows ss : List ℕ) : Type 0 where
   pub accepted : Mesh n mesh
   pub sound : T (soundb n (fours mesh) ss)
-  pub table : take (8 * length (tableCells n (fours mesh) ss)) rows ≡ cellTable (tableCorners n (fours mesh) ss) (tableCells n (fours mesh) ss)
+  pub table : take (8 * length (tableCells n (fours mesh) ss)) rows ≡ cellTable (tableCorners n (fours mesh) ss)
+      (tableCells n (fours mesh) ss)
 
 -- Rules 7.7, 7.8: the answer, and the new table with its rows and ends.
 pub record Advanced (n : ℕ) (mesh ss ms rows ps qs table : List ℕ) (refusal cells levels mids : ℕ) : Type 0 where

@@ -26,7 +26,8 @@ module _ (ps : List ℤ) (ts ss ms table : List ℕ) where
   step-short h = rw (lt-leb 4096 (length table) h)
 
   module _ (long : 4096 ≤ length table) where
-    lent : stepAnswer ps ts ss ms table ≡ andThen (tableAnswer ps ts ss) (refuse 7 (marksb ss ms) (limitsAnswer (cornerCount ps) (fours ts) ss ms))
+    lent : stepAnswer ps ts ss ms table ≡ andThen (tableAnswer ps ts ss)
+        (refuse 7 (marksb ss ms) (limitsAnswer (cornerCount ps) (fours ts) ss ms))
     unfolding stepAnswer refuse
     lent = rw (le-leb 4096 (length table) long)
 
@@ -69,7 +70,8 @@ marks-many (s ∷ ss) (m ∷ ms) t =
     ap suc (marks-many ss ms (is-true (marksb ss ms) (and-right (markb s m) (marksb ss ms) u)))
 
 -- a table that is opened is held
-pub opened-held : (ps : List ℤ) (ts ss rows xs ys : List ℕ) (cells levels m : ℕ) → Fits ps ts ss rows xs ys cells levels m → Held (cornerCount ps) ts rows ss
+pub opened-held : (ps : List ℤ) (ts ss rows xs ys : List ℕ) (cells levels m : ℕ) → Fits ps ts ss rows xs ys cells levels m
+    → Held (cornerCount ps) ts rows ss
 opened-held ps ts ss rows xs ys cells levels m f =
     record {
       accepted = f .mesh;

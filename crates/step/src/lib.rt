@@ -90,7 +90,8 @@ fn decided(refusal: u8, rows: &[u16], red: &[u8], cells: usize) -> u8
 }
 
 // The work of a step, on a sound table with its rows and marks that fit it: the new statuses in `table`, the rows of the new cells,
-// and the ends of the new corners. Nothing is examined here. The tables from xs to red are for the work, whatever they hold, and `digits` is
+// and the ends of the new corners. Nothing is examined here. The tables from xs to red are for the work, whatever they hold, and `digits`
+// is
 // the cutting table. Refusals 8 and 9.
 pub fn advance(
     mesh: &[u16],
@@ -116,7 +117,8 @@ pub fn advance(
     requires { ⌜ Held n (now mesh) (now rows) (now status) ⌝ }
     requires { ⌜ length (now marks) ≡ length (now status) ⌝ }
     requires { ⌜ now digits ≡ digitTable ⌝ }
-    ensures { λ r. ⌜ Advanced n (was mesh) (was status) (was marks) (is «new_rows») (is ps) (is qs) (is table) (r .refusal) (r .cells) (r .levels) (r .mids) ⌝ }
+    ensures { λ r. ⌜ Advanced n (was mesh) (was status) (was marks) (is «new_rows») (is ps) (is qs) (is table) (r .refusal) (r .cells)
+        (r .levels) (r .mids) ⌝ }
 {
     let k = status.len();
     reds::first_children(status, mesh.len() / 4, kids);

@@ -14,7 +14,8 @@ use Rattle.base.specs.declared.Answer.{Answer}
 use Rattle.base.specs.declared.Answer.the-variants.{Accepted, Refused}
 use Rattle.store.specs.Fields.{field, full, STAGE, PART, PARTS, CELLS, ROUND, TOTAL, HIGH, TAKEN, ENDED, OWNER, RED, HOLDERS, SUM}
 use Rattle.store.specs.Header.{headerb}
-use Rattle.store.specs.Hand.{numberAt, shapeb, routeb, ghostMarkb, edgeCountb, contentb, wellb, takenAt, endedAt, Ranges, handAnswer, absorbed, counted, takenIn, handAfter}
+use Rattle.store.specs.Hand.{numberAt, shapeb, routeb, ghostMarkb, edgeCountb, contentb, wellb, takenAt, endedAt, Ranges}
+use Rattle.store.specs.Hand.{handAnswer, absorbed, counted, takenIn, handAfter}
 use Rattle.store.specs.Headed.{header-is}
 use Rattle.store.specs.Checks.{shape-first, shape-second, shape-third, shape-least, content-first, content-second}
 

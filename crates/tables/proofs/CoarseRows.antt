@@ -31,13 +31,17 @@ flat-snoc [] q = append-nil (coarseRow q)
 flat-snoc (x ∷ l) q = rw (flat-snoc l q) (sym (append-assoc (coarseRow x) (flatMap coarseRow l) (coarseRow q)))
 
 -- one row more
-pub row-more : (mesh rows : List ℕ) (c : ℕ) → 4 * c + 4 ≤ length mesh → 8 * c + 8 ≤ length rows → take (8 * c) rows ≡ flatMap coarseRow (take c (fours mesh))
-    → take (8 * (c + 1)) (written rows (8 * c) (0 ∷ 65535 ∷ 0 ∷ 1 ∷ getD mesh (4 * c) 0 ∷ getD mesh (4 * c + 1) 0 ∷ getD mesh (4 * c + 2) 0 ∷ getD mesh (4 * c + 3) 0 ∷ []))
+pub row-more : (mesh rows : List ℕ) (c : ℕ) → 4 * c + 4 ≤ length mesh → 8 * c + 8 ≤ length rows
+    → take (8 * c) rows ≡ flatMap coarseRow (take c (fours mesh))
+    → take (8 * (c + 1)) (written rows (8 * c) (0 ∷ 65535 ∷ 0 ∷ 1 ∷ getD mesh (4 * c) 0 ∷ getD mesh (4 * c + 1) 0 ∷ getD mesh (4 * c + 2)
+    0 ∷ getD mesh (4 * c + 3) 0 ∷ []))
     ≡ flatMap coarseRow (take (c + 1) (fours mesh))
 unfolding coarseRow
 row-more mesh rows c h g e =
     let w : 8 * (c + 1) ≡ 8 * c + 8 = omega arith in
     let k : c + 1 ≡ suc c = omega arith in
     rw (w, k, take-suc (fours mesh) c [] (omega (arith, length-fours mesh)), four-at mesh c h)
-    (take-written rows (8 * c) (0 ∷ 65535 ∷ 0 ∷ 1 ∷ getD mesh (4 * c) 0 ∷ getD mesh (4 * c + 1) 0 ∷ getD mesh (4 * c + 2) 0 ∷ getD mesh (4 * c + 3) 0 ∷ []) g
-    ∙ rw e (sym (flat-snoc (take c (fours mesh)) (getD mesh (4 * c) 0 ∷ getD mesh (4 * c + 1) 0 ∷ getD mesh (4 * c + 2) 0 ∷ getD mesh (4 * c + 3) 0 ∷ []))))
+    (take-written rows (8 * c) (0 ∷ 65535 ∷ 0 ∷ 1 ∷ getD mesh (4 * c) 0 ∷ getD mesh (4 * c + 1) 0 ∷ getD mesh (4 * c + 2) 0 ∷ getD mesh
+    (4 * c + 3) 0 ∷ []) g
+    ∙ rw e (sym (flat-snoc (take c (fours mesh)) (getD mesh (4 * c) 0 ∷ getD mesh (4 * c + 1) 0 ∷ getD mesh (4 * c + 2) 0 ∷ getD mesh
+    (4 * c + 3) 0 ∷ []))))

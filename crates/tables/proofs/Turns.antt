@@ -18,77 +18,85 @@ use Rattle.tables.specs.Checked.{Statuses, Whole, Checked, ownStatuses}
 use Rattle.tables.specs.Here.{Here, Top}
 use Rattle.tables.specs.Onward.{fails-short, fails-more, fails-high, fails-open, closed-are, here-next, here-top}
 
-module _ (n : ℕ) (qs : List (List ℕ)) (ss : List ℕ) (j first last : ℕ) (rows xs ys heads links : List ℕ) (k : ℕ) (ps ps′ heads′ links′ : List ℕ) (m : ℕ)
+module _ (n : ℕ) (qs : List (List ℕ)) (ss : List ℕ) (j first last : ℕ) (rows xs ys heads links : List ℕ) (k : ℕ)
+    (ps ps′ heads′ links′ : List ℕ) (m : ℕ)
     (h : Here n qs ss j first last rows xs ys heads links k ps ps′ heads′ links′ m) (st : Statuses ss)
-    (xs₁ ys₁ heads₁ links₁ : List ℕ) (ok : Bool) (k₁ size : ℕ) (c : Checked rows ss first last xs ys k xs₁ ys₁ heads₁ links₁ ok k₁ size) where
-  pub turn-fails : ok ≡ false → soundb n qs ss ≡ false
-  turn-fails e =
-      elim (decLt (length ss) last) [
-        | yes l ↦ fails-short n qs ss j first last rows xs ys heads links k ps ps′ heads′ links′ m h l
-        | no l ↦ elim (decLt (length ss) (last + sizes (ownStatuses rows ss first last))) [
-          | yes g ↦ fails-more n qs ss j first last rows xs ys heads links k ps ps′ heads′ links′ m h (omega (arith, l)) g
-          | no g ↦ fails-open n qs ss j first last rows xs ys heads links k ps ps′ heads′ links′ m h (sym (c .whole (omega (arith, l)) (omega (arith, g)) .closed) ∙ e)
+    (xs₁ ys₁ heads₁ links₁ : List ℕ) (ok : Bool) (k₁ size : ℕ) (c : Checked rows ss first last xs ys k xs₁ ys₁ heads₁ links₁ ok k₁ size)
+  where
+    pub turn-fails : ok ≡ false → soundb n qs ss ≡ false
+    turn-fails e =
+        elim (decLt (length ss) last) [
+          | yes l ↦ fails-short n qs ss j first last rows xs ys heads links k ps ps′ heads′ links′ m h l
+          | no l ↦ elim (decLt (length ss) (last + sizes (ownStatuses rows ss first last))) [
+            | yes g ↦ fails-more n qs ss j first last rows xs ys heads links k ps ps′ heads′ links′ m h (omega (arith, l)) g
+            | no g ↦ fails-open n qs ss j first last rows xs ys heads links k ps ps′ heads′ links′ m h
+                (sym (c .whole (omega (arith, l)) (omega (arith, g)) .closed) ∙ e)
+          ]
         ]
-      ]
 
-  pub record Fitting : Type 0 where
-    pub inside : last ≤ length ss
-    pub fit : last + sizes (ownStatuses rows ss first last) ≤ length ss
-    pub whole : Whole rows ss first last xs ys k xs₁ ys₁ heads₁ links₁ ok k₁ size
+    pub record Fitting : Type 0 where
+      pub inside : last ≤ length ss
+      pub fit : last + sizes (ownStatuses rows ss first last) ≤ length ss
+      pub whole : Whole rows ss first last xs ys k xs₁ ys₁ heads₁ links₁ ok k₁ size
 
-  turn-fits : ok ≡ true → Fitting
-  turn-fits e =
-      elim (decLt (length ss) last) [
-        | yes l ↦ not-both ok e (c .short l)
-        | no l ↦ elim (decLt (length ss) (last + sizes (ownStatuses rows ss first last))) [
-          | yes g ↦ not-both ok e (c .more (omega (arith, l)) g)
-          | no g ↦ record { inside = omega (arith, l); fit = omega (arith, g); whole = c .whole (omega (arith, l)) (omega (arith, g)) }
+    turn-fits : ok ≡ true → Fitting
+    turn-fits e =
+        elim (decLt (length ss) last) [
+          | yes l ↦ not-both ok e (c .short l)
+          | no l ↦ elim (decLt (length ss) (last + sizes (ownStatuses rows ss first last))) [
+            | yes g ↦ not-both ok e (c .more (omega (arith, l)) g)
+            | no g ↦ record { inside = omega (arith, l); fit = omega (arith, g); whole = c .whole (omega (arith, l)) (omega (arith, g)) }
+          ]
         ]
-      ]
 
-  module _ (e : ok ≡ true) where
-    closed : closedFrom [] sameb (redEdges [] (h .cells) (part ss first (length (h .cells)))) (h .cells) (part ss first (length (h .cells))) ≡ true
-    closed = sym (closed-are n qs ss j first last rows xs ys heads links k ps ps′ heads′ links′ m h) ∙ sym (turn-fits e .whole .closed) ∙ e
+    module _ (e : ok ≡ true) where
+      closed : closedFrom [] sameb (redEdges [] (h .cells) (part ss first (length (h .cells)))) (h .cells)
+          (part ss first (length (h .cells)))
+          ≡ true
+      closed = sym (closed-are n qs ss j first last rows xs ys heads links k ps ps′ heads′ links′ m h) ∙ sym (turn-fits e .whole .closed)
+          ∙ e
 
-    pub turn-top : size ≡ 0 → Top n qs ss j last rows xs₁ ys₁ heads₁ links₁ k₁ ps ps′ heads′ links′ m
-    turn-top z =
-        let f = turn-fits e in
-        let s : sizes (ownStatuses rows ss first last) ≡ 0 = sym (f .whole .many) ∙ z in
-        let q : last + size ≡ last = omega arith in
-        here-top n qs ss j first last rows xs ys heads links k ps ps′ heads′ links′ m h closed (f .inside) st s xs₁ ys₁ heads₁ links₁ k₁ (f .whole .grown) (rw q at (f .whole .reds))
+      pub turn-top : size ≡ 0 → Top n qs ss j last rows xs₁ ys₁ heads₁ links₁ k₁ ps ps′ heads′ links′ m
+      turn-top z =
+          let f = turn-fits e in
+          let s : sizes (ownStatuses rows ss first last) ≡ 0 = sym (f .whole .many) ∙ z in
+          let q : last + size ≡ last = omega arith in
+          here-top n qs ss j first last rows xs ys heads links k ps ps′ heads′ links′ m h closed (f .inside) st s xs₁ ys₁ heads₁ links₁ k₁
+          (f .whole .grown) (rw q at (f .whole .reds))
 
-    pub turn-high : (size ≡ 0 → ⊥) → j ≡ 10 → soundb n qs ss ≡ false
-    turn-high z t =
-        let f = turn-fits e in
-        let s = f .whole .many in
-        fails-high n qs ss j first last rows xs ys heads links k ps ps′ heads′ links′ m h t (f .inside) (omega (arith, z))
+      pub turn-high : (size ≡ 0 → ⊥) → j ≡ 10 → soundb n qs ss ≡ false
+      turn-high z t =
+          let f = turn-fits e in
+          let s = f .whole .many in
+          fails-high n qs ss j first last rows xs ys heads links k ps ps′ heads′ links′ m h t (f .inside) (omega (arith, z))
 
-    pub turn-room : n ≤ 512 → 32768 ≤ length rows → 4096 ≤ length ps → 4096 ≤ length ps′ → 4096 ≤ length links′
-        → Roomy rows ps ps′ heads′ links′ ss first last last n m
-    turn-room c long lp lq ll =
-        let f = turn-fits e in
-        let d = h .mids in
-        record {
-          rise = omega (arith, h .end);
-          done = omega arith;
-          statuses = f .inside;
-          small = λ i a b. status-fits ss (st .fit) i (omega (arith, f .inside));
-          in-cells = omega (arith, f .fit, st .few);
-          most = omega (arith, f .fit, st .few);
-          coarse = c;
-          few = d .few;
-          edges = d .edges;
-          in-xs = lp;
-          in-ys = lq;
-          in-links = ll;
-        }
+      pub turn-room : n ≤ 512 → 32768 ≤ length rows → 4096 ≤ length ps → 4096 ≤ length ps′ → 4096 ≤ length links′
+          → Roomy rows ps ps′ heads′ links′ ss first last last n m
+      turn-room c long lp lq ll =
+          let f = turn-fits e in
+          let d = h .mids in
+          record {
+            rise = omega (arith, h .end);
+            done = omega arith;
+            statuses = f .inside;
+            small = λ i a b. status-fits ss (st .fit) i (omega (arith, f .inside));
+            in-cells = omega (arith, f .fit, st .few);
+            most = omega (arith, f .fit, st .few);
+            coarse = c;
+            few = d .few;
+            edges = d .edges;
+            in-xs = lp;
+            in-ys = lq;
+            in-links = ll;
+          }
 
-    pub turn-next : (size ≡ 0 → ⊥) → (j ≡ 10 → ⊥) → 32768 ≤ length rows → (rows₂ ps₂ ps₂′ heads₂ links₂ : List ℕ) (last₂ m₂ : ℕ)
-        → Grows rows ps ps′ ss first (last - first) (suc j) last n m rows₂ ps₂ ps₂′ heads₂ links₂ last₂ m₂
-        → Here n qs ss (suc j) last last₂ rows₂ xs₁ ys₁ heads₁ links₁ k₁ ps₂ ps₂′ heads₂ links₂ m₂
-    turn-next z t long rows₂ ps₂ ps₂′ heads₂ links₂ last₂ m₂ g =
-        let f = turn-fits e in
-        let s = f .whole .many in
-        let q : last + size ≡ last₂ = omega (arith, g .next) in
-        here-next n qs ss j first last rows xs ys heads links k ps ps′ heads′ links′ m h closed (f .inside) (omega (arith, t, h .low)) st (f .fit) (omega (arith, z)) long
-        rows₂ ps₂ ps₂′ heads₂ links₂ last₂ m₂ g xs₁ ys₁ heads₁ links₁ k₁ (f .whole .grown) (rw q at (f .whole .reds))
+      pub turn-next : (size ≡ 0 → ⊥) → (j ≡ 10 → ⊥) → 32768 ≤ length rows → (rows₂ ps₂ ps₂′ heads₂ links₂ : List ℕ) (last₂ m₂ : ℕ)
+          → Grows rows ps ps′ ss first (last - first) (suc j) last n m rows₂ ps₂ ps₂′ heads₂ links₂ last₂ m₂
+          → Here n qs ss (suc j) last last₂ rows₂ xs₁ ys₁ heads₁ links₁ k₁ ps₂ ps₂′ heads₂ links₂ m₂
+      turn-next z t long rows₂ ps₂ ps₂′ heads₂ links₂ last₂ m₂ g =
+          let f = turn-fits e in
+          let s = f .whole .many in
+          let q : last + size ≡ last₂ = omega (arith, g .next) in
+          here-next n qs ss j first last rows xs ys heads links k ps ps′ heads′ links′ m h closed (f .inside) (omega (arith, t, h .low)) st
+          (f .fit) (omega (arith, z)) long
+          rows₂ ps₂ ps₂′ heads₂ links₂ last₂ m₂ g xs₁ ys₁ heads₁ links₁ k₁ (f .whole .grown) (rw q at (f .whole .reds))

@@ -26,7 +26,8 @@ module _ (t : List ℕ) (zs : List (Cell ℕ)) (f : All Four zs) (e : take (8 * 
     (m : Lists es (redEdges 0 zs ss)) where
   -- the condition at one cell
   one : (c : Cell ℕ) → Child (length zs) c
-      → listedApart es t (strip c) ≡ (c .regular || allb (λ e. heldb eqb (edges 0 (getD zs (c .parent) c)) e || not (heldb eqb (redEdges 0 zs ss) e)) (edges 0 c))
+      → listedApart es t (strip c) ≡
+      (c .regular || allb (λ e. heldb eqb (edges 0 (getD zs (c .parent) c)) e || not (heldb eqb (redEdges 0 zs ss) e)) (edges 0 c))
   unfolding listedApart edges edge
   one c h = go (c .regular) refl
     where
@@ -35,12 +36,16 @@ module _ (t : List ℕ) (zs : List (Cell ℕ)) (f : All Four zs) (e : take (8 * 
           ≡ (b || allb (λ e. heldb eqb (edges 0 (getD zs (c .parent) c)) e || not (heldb eqb (redEdges 0 zs ss) e)) (edges 0 c))
       go true q = refl
       go false q =
-          let w : cellAt t (c .parent) ≡ strip (getD zs (c .parent) c) = cell-at t zs f e (c .parent) (h q) ∙ ap strip (default-free zs (c .parent) noCell c (h q)) in
+          let w : cellAt t (c .parent) ≡ strip (getD zs (c .parent) c) = cell-at t zs f e (c .parent) (h q)
+          ∙ ap strip (default-free zs (c .parent) noCell c (h q)) in
           ap (λ (g : Pair → Bool). allb g (edges 0 c))
-          (fun-ext (λ (d : Pair). ap₂ (λ (x y : Bool). x || not y) (ap (λ (z : Cell ℕ). heldb eqb (edges 0 z) d) w) (held-listed es (redEdges 0 zs ss) m d)))
+          (fun-ext (λ (d : Pair). ap₂ (λ (x y : Bool). x || not y) (ap (λ (z : Cell ℕ). heldb eqb (edges 0 z) d) w)
+          (held-listed es (redEdges 0 zs ss) m d)))
 
   each : (cs : List (Cell ℕ)) → All (Child (length zs)) cs
-      → allb (listedApart es t) (map strip cs) ≡ allb (λ c. c .regular || allb (λ e. heldb eqb (edges 0 (getD zs (c .parent) c)) e || not (heldb eqb (redEdges 0 zs ss) e)) (edges 0 c)) cs
+      → allb (listedApart es t) (map strip cs) ≡ allb
+      (λ c. c .regular || allb (λ e. heldb eqb (edges 0 (getD zs (c .parent) c)) e || not (heldb eqb (redEdges 0 zs ss) e)) (edges 0 c))
+      cs
   unfolding allb
   each [] h = refl
   each (c ∷ cs) h = ap₂ _&&_ (one c (h .0)) (each cs (h .1))

@@ -35,7 +35,8 @@ rows-coarse : (qs : List (List ℕ)) → flatMap rowOf (coarseNumbers qs) ≡ fl
 unfolding coarseNumbers
 rows-coarse qs = rows-from 0 qs
 
-module _ (n : ℕ) (mesh ss : List ℕ) (s : Mesh n mesh) (xs ys heads links ps qs heads′ links′ : List ℕ) (red : Clear heads) (mid : Clear heads′) where
+module _ (n : ℕ) (mesh ss : List ℕ) (s : Mesh n mesh) (xs ys heads links ps qs heads′ links′ : List ℕ) (red : Clear heads)
+    (mid : Clear heads′) where
   abbrev fs : List (List ℕ)
   fs = fours mesh
 

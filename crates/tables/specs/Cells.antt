@@ -30,7 +30,8 @@ all-at (z ∷ zs) f (suc i) h = all-at zs (f .1) i (omega arith)
 -- the table's first rows are those of the cells zs
 module _ (t : List ℕ) (zs : List (Cell ℕ)) (f : All Four zs) (e : take (8 * length zs) t ≡ flatMap rowOf zs) where
   number : (i r : ℕ) → i < length zs → r < 8 → getD t (8 * i + r) 0 ≡ getD (rowOf (getD zs i noCell)) r 0
-  number i r h k = sym (getD-take (8 * length zs) t (8 * i + r) 0 (omega arith)) ∙ ap (λ (l : List ℕ). getD l (8 * i + r) 0) e ∙ row-at zs f i r h k
+  number i r h k = sym (getD-take (8 * length zs) t (8 * i + r) 0 (omega arith)) ∙ ap (λ (l : List ℕ). getD l (8 * i + r) 0) e
+      ∙ row-at zs f i r h k
 
   pub cell-at : (i : ℕ) → i < length zs → cellAt t i ≡ strip (getD zs i noCell)
   unfolding cellAt rowOf
@@ -50,7 +51,8 @@ module _ (t : List ℕ) (zs : List (Cell ℕ)) (f : All Four zs) (e : take (8 * 
 getD-middle : (xs ys : List (Cell ℕ)) (i : ℕ) → getD (xs ++ ys) (length xs + i) noCell ≡ getD ys i noCell
 getD-middle xs ys i = getD-append-add xs ys i noCell
 
-from-cells : (t : List ℕ) (k : ℕ) (ys : List (Cell ℕ)) → ((i : ℕ) → i < length ys → cellAt t (k + i) ≡ strip (getD ys i noCell)) → cellsAt t k (length ys) ≡ map strip ys
+from-cells : (t : List ℕ) (k : ℕ) (ys : List (Cell ℕ)) → ((i : ℕ) → i < length ys → cellAt t (k + i) ≡ strip (getD ys i noCell))
+    → cellsAt t k (length ys) ≡ map strip ys
 unfolding cellsAt
 from-cells t k [] h = refl
 from-cells t k (y ∷ ys) h =
@@ -59,9 +61,11 @@ from-cells t k (y ∷ ys) h =
     (from-cells t (suc k) ys (λ i l. let w : k + suc i ≡ suc k + i = omega arith in rw w at (h (suc i) (omega arith))))
 
 -- the cells of a range
-pub cells-at : (t : List ℕ) (xs ys : List (Cell ℕ)) → All Four (xs ++ ys) → take (8 * length (xs ++ ys)) t ≡ flatMap rowOf (xs ++ ys) → cellsAt t (length xs) (length ys) ≡ map strip ys
+pub cells-at : (t : List ℕ) (xs ys : List (Cell ℕ)) → All Four (xs ++ ys) → take (8 * length (xs ++ ys)) t ≡ flatMap rowOf (xs ++ ys)
+    → cellsAt t (length xs) (length ys) ≡ map strip ys
 cells-at t xs ys f e =
-    from-cells t (length xs) ys (λ i l. cell-at t (xs ++ ys) f e (length xs + i) (omega (arith, length-append xs ys)) ∙ ap strip (getD-middle xs ys i))
+    from-cells t (length xs) ys (λ i l. cell-at t (xs ++ ys) f e (length xs + i) (omega (arith, length-append xs ys))
+    ∙ ap strip (getD-middle xs ys i))
 
 -- Paths count for nothing in red edges, statuses and ends.
 pub red-strip : (cs : List (Cell ℕ)) (ss : List ℕ) → redEdges 0 (map strip cs) ss ≡ redEdges 0 cs ss

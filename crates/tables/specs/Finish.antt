@@ -34,7 +34,8 @@ module _ (n : ℕ) (qs : List (List ℕ)) (ss : List ℕ) where
   unsound-long h = ⊎-elim (λ e. absurd (omega (arith, sound-counted n qs ss e .small))) (λ e. e) (either (soundb n qs ss))
 
   pub unsound-status : allb (λ s. leb s 64) ss ≡ false → soundb n qs ss ≡ false
-  unsound-status f = ⊎-elim (λ e. not-both (allb (λ s. leb s 64) ss) (sound-counted n qs ss e .statuses) f) (λ e. e) (either (soundb n qs ss))
+  unsound-status f = ⊎-elim (λ e. not-both (allb (λ s. leb s 64) ss) (sound-counted n qs ss e .statuses) f) (λ e. e)
+      (either (soundb n qs ss))
 
 -- a table that is not sound is refused with 6
 module _ (n : ℕ) (qs : List (List ℕ)) (ss rows ps ps′ : List ℕ) (refusal cells levels m : ℕ) (six : refusal ≡ 6) where
@@ -52,7 +53,8 @@ unfolding mapCell
 child-in n ks [] h = tt
 child-in n ks (c ∷ cs) h = (h .0, child-in n ks cs (h .1))
 
-module _ (n : ℕ) (qs : List (List ℕ)) (ss : List ℕ) (j last : ℕ) (rows xs ys heads links : List ℕ) (k : ℕ) (ps ps′ heads′ links′ : List ℕ) (m : ℕ)
+module _ (n : ℕ) (qs : List (List ℕ)) (ss : List ℕ) (j last : ℕ) (rows xs ys heads links : List ℕ) (k : ℕ) (ps ps′ heads′ links′ : List ℕ)
+    (m : ℕ)
     (t : Top n qs ss j last rows xs ys heads links k ps ps′ heads′ links′ m) where
   size : length (numberedCells (t .corners) (t .all)) ≡ last
   size = length-in (t .corners) (t .all) ∙ t .counted
@@ -62,7 +64,8 @@ module _ (n : ℕ) (qs : List (List ℕ)) (ss : List ℕ) (j last : ℕ) (rows x
 
   pub top-parents : Parents rows last
   top-parents =
-      let z = parents-rows rows (numberedCells (t .corners) (t .all)) (four-in (t .corners) (t .all) (t .placed)) (rw size (t .table)) (take last ss) (listed xs ys 0 k) (t .red)
+      let z = parents-rows rows (numberedCells (t .corners) (t .all)) (four-in (t .corners) (t .all) (t .placed)) (rw size (t .table))
+      (take last ss) (listed xs ys 0 k) (t .red)
       (child-in (length (numberedCells (t .corners) (t .all))) (t .corners) (t .all) (rw size (t .children))) in
       rw size at z
 
@@ -75,8 +78,10 @@ module _ (n : ℕ) (qs : List (List ℕ)) (ss : List ℕ) (j last : ℕ) (rows x
 
     pub top-apart : apartAll (listed xs ys 0 k) rows last ≡ soundb n qs ss
     top-apart =
-        let z : apartAll (listed xs ys 0 k) rows (length (numberedCells (t .corners) (t .all))) ≡ apartOf 0 eqb (numberedCells (t .corners) (t .all)) (take last ss) =
-        apart-rows rows (numberedCells (t .corners) (t .all)) (four-in (t .corners) (t .all) (t .placed)) (rw size (t .table)) (take last ss) (listed xs ys 0 k) (t .red)
+        let z : apartAll (listed xs ys 0 k) rows (length (numberedCells (t .corners) (t .all))) ≡ apartOf 0 eqb
+        (numberedCells (t .corners) (t .all)) (take last ss) =
+        apart-rows rows (numberedCells (t .corners) (t .all)) (four-in (t .corners) (t .all) (t .placed)) (rw size (t .table))
+        (take last ss) (listed xs ys 0 k) (t .red)
         (child-in (length (numberedCells (t .corners) (t .all))) (t .corners) (t .all) (rw size (t .children))) in
         let w : apartAll (listed xs ys 0 k) rows last ≡ apartOf 0 eqb (numberedCells (t .corners) (t .all)) ss = rw (size, all-of) at z in
         w ∙ apart-numbers (t .corners) (t .all) ss (t .placed) ∙ sym (t .sound ∙ rw (eq-eqb (length ss) last e))

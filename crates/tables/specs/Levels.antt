@@ -65,7 +65,8 @@ module _ (n : ℕ) (qs : List (List ℕ)) (ss : List ℕ) where
   abbrev cs : List (Cell Point)
   cs = cellsOf (levelsOf n qs ss)
 
-  whole : soundb n qs ss ≡ ((eqb (length ss) (length cs) && (leb (length ls) 11 && leb (length cs) 4096)) && (allb closedb ls && apartb cs ss))
+  whole : soundb n qs ss ≡ ((eqb (length ss) (length cs) && (leb (length ls) 11 && leb (length cs) 4096))
+      && (allb closedb ls && apartb cs ss))
   unfolding soundb
   whole = refl
 
@@ -97,7 +98,8 @@ unfoldable pub reached-start : (n : ℕ) (qs : List (List ℕ)) (ss : List ℕ) 
 unfolding levelsOf cellsOf flatMap allb
 reached-start n qs ss = record { done = []; rest = refl; closed = refl; many = refl; counted = refl }
 
-module _ (n : ℕ) (qs : List (List ℕ)) (ss : List ℕ) (j first : ℕ) (cells : List (Cell Point)) (r : Reached n qs ss j first cells) (low : j ≤ 10) (some : 0 < length cells) where
+module _ (n : ℕ) (qs : List (List ℕ)) (ss : List ℕ) (j first : ℕ) (cells : List (Cell Point)) (r : Reached n qs ss j first cells)
+    (low : j ≤ 10) (some : 0 < length cells) where
   abbrev statuses : List ℕ
   statuses = part ss first (length cells)
 
@@ -111,7 +113,8 @@ module _ (n : ℕ) (qs : List (List ℕ)) (ss : List ℕ) (j first : ℕ) (cells
   unfolding here up
   split =
       let e : 12 - j ≡ suc (11 - j) = omega arith in
-      let w : levels (12 - j) first cells (drop first ss) ≡ here ∷ up = rw (e, ← drop-drop (length cells) first ss) (levels-step (11 - j) first cells (drop first ss) some) in
+      let w : levels (12 - j) first cells (drop first ss) ≡ here ∷ up = rw (e, ← drop-drop (length cells) first ss)
+      (levels-step (11 - j) first cells (drop first ss) some) in
       r .rest ∙ ap (λ (l : List Level). r .done ++ l) w
 
   all-closed : allb closedb (levelsOf n qs ss) ≡ (closedb here && allb closedb up)
@@ -125,7 +128,8 @@ module _ (n : ℕ) (qs : List (List ℕ)) (ss : List ℕ) (j first : ℕ) (cells
 
   cells-are : cellsOf (levelsOf n qs ss) ≡ cellsOf (r .done) ++ (cells ++ cellsOf up)
   unfolding here
-  cells-are = ap cellsOf split ∙ cells-append (r .done) (here ∷ up) ∙ ap (λ (l : List (Cell Point)). cellsOf (r .done) ++ l) (cells-one here up)
+  cells-are = ap cellsOf split ∙ cells-append (r .done) (here ∷ up) ∙ ap (λ (l : List (Cell Point)). cellsOf (r .done) ++ l)
+      (cells-one here up)
 
   length-cells : length (cellsOf (levelsOf n qs ss)) ≡ first + (length cells + length (cellsOf up))
   length-cells =
@@ -144,11 +148,16 @@ module _ (n : ℕ) (qs : List (List ℕ)) (ss : List ℕ) (j first : ℕ) (cells
       let w : length (next first cells statuses) ≡ sizes statuses = length-next first cells statuses k in
       let m : 11 - j ≡ suc (10 - j) = omega arith in
       let v : levels (11 - j) (first + length cells) (next first cells statuses) (drop (first + length cells) ss)
-      ≡ level (first + length cells) (next first cells statuses) (drop (first + length cells) ss) ∷ above (first + length cells) (next first cells statuses) (drop (first + length cells) ss) (10 - j) =
+      ≡ level (first + length cells) (next first cells statuses) (drop (first + length cells) ss) ∷ above (first + length cells)
+      (next first cells statuses) (drop (first + length cells) ss) (10 - j) =
       rw m (levels-step (10 - j) (first + length cells) (next first cells statuses) (drop (first + length cells) ss) (omega arith)) in
-      let u : length (cellsOf up) ≡ length (next first cells statuses) + length (cellsOf (above (first + length cells) (next first cells statuses) (drop (first + length cells) ss) (10 - j))) =
-      ap (λ (l : List Level). length (cellsOf l)) v ∙ ap length (cells-one (level (first + length cells) (next first cells statuses) (drop (first + length cells) ss)) (above (first + length cells) (next first cells statuses) (drop (first + length cells) ss) (10 - j)))
-      ∙ length-append (next first cells statuses) (cellsOf (above (first + length cells) (next first cells statuses) (drop (first + length cells) ss) (10 - j))) in
+      let u : length (cellsOf up) ≡ length (next first cells statuses) + length
+      (cellsOf (above (first + length cells) (next first cells statuses) (drop (first + length cells) ss) (10 - j))) =
+      ap (λ (l : List Level). length (cellsOf l)) v
+      ∙ ap length (cells-one (level (first + length cells) (next first cells statuses) (drop (first + length cells) ss))
+      (above (first + length cells) (next first cells statuses) (drop (first + length cells) ss) (10 - j)))
+      ∙ length-append (next first cells statuses)
+      (cellsOf (above (first + length cells) (next first cells statuses) (drop (first + length cells) ss) (10 - j))) in
       unsound-count n qs ss (λ e. omega (arith, length-cells))
 
   -- a twelfth level
@@ -167,7 +176,8 @@ module _ (n : ℕ) (qs : List (List ℕ)) (ss : List ℕ) (j first : ℕ) (cells
     pub reached : Reached n qs ss (suc j) last (next first cells statuses)
     pub before : cellsOf (reached .done) ≡ cellsOf (r .done) ++ cells
 
-  pub reached-next : (last : ℕ) → last ≡ first + length cells → closedFrom [] sameb (redEdges [] cells statuses) cells statuses ≡ true → Next last
+  pub reached-next : (last : ℕ) → last ≡ first + length cells → closedFrom [] sameb (redEdges [] cells statuses) cells statuses ≡ true
+      → Next last
   unfolding here up closedb allb cellsOf
   reached-next last f e =
       let m : 12 - suc j ≡ 11 - j = omega arith in
@@ -191,19 +201,23 @@ module _ (n : ℕ) (qs : List (List ℕ)) (ss : List ℕ) (j first : ℕ) (cells
     pub cells-all : cellsOf (levelsOf n qs ss) ≡ cellsOf (r .done) ++ cells
     pub high : length (levelsOf n qs ss) ≡ suc j
 
-  pub reached-end : closedFrom [] sameb (redEdges [] cells statuses) cells statuses ≡ true → sizes statuses ≡ 0 → first + length cells ≤ length ss → length ss ≤ 4096 → Ended
+  pub reached-end : closedFrom [] sameb (redEdges [] cells statuses) cells statuses ≡ true → sizes statuses ≡ 0
+      → first + length cells ≤ length ss → length ss ≤ 4096 → Ended
   unfolding here up closedb allb cellsOf flatMap
   reached-end e z g s =
       let k : length cells ≡ length statuses = sym (length-part ss first (length cells) g) in
       let w : length (next first cells statuses) ≡ 0 = length-next first cells statuses k ∙ z in
       let v : up ≡ [] = levels-none (11 - j) (first + length cells) (next first cells statuses) (drop (first + length cells) ss) w in
-      let c : cellsOf (levelsOf n qs ss) ≡ cellsOf (r .done) ++ cells = cells-are ∙ rw v (ap (λ (l : List (Cell Point)). cellsOf (r .done) ++ l) (append-nil cells)) in
+      let c : cellsOf (levelsOf n qs ss) ≡ cellsOf (r .done) ++ cells = cells-are
+      ∙ rw v (ap (λ (l : List (Cell Point)). cellsOf (r .done) ++ l) (append-nil cells)) in
       let h : length (levelsOf n qs ss) ≡ suc j = ap length split ∙ rw v (length-append (r .done) (here ∷ []) ∙ omega (arith, r .many)) in
       let t : allb closedb (levelsOf n qs ss) ≡ true = all-closed ∙ rw (e, v) in
-      let l : length (cellsOf (levelsOf n qs ss)) ≡ first + length cells = ap length c ∙ length-append (cellsOf (r .done)) cells ∙ omega (arith, r .counted) in
+      let l : length (cellsOf (levelsOf n qs ss)) ≡ first + length cells = ap length c ∙ length-append (cellsOf (r .done)) cells
+      ∙ omega (arith, r .counted) in
       record { sound = go (eqb (length ss) (first + length cells)) refl c h t l; cells-all = c; high = h }
     where
-      go : (b : Bool) → eqb (length ss) (first + length cells) ≡ b → cellsOf (levelsOf n qs ss) ≡ cellsOf (r .done) ++ cells → length (levelsOf n qs ss) ≡ suc j
+      go : (b : Bool) → eqb (length ss) (first + length cells) ≡ b → cellsOf (levelsOf n qs ss) ≡ cellsOf (r .done) ++ cells
+          → length (levelsOf n qs ss) ≡ suc j
           → allb closedb (levelsOf n qs ss) ≡ true → length (cellsOf (levelsOf n qs ss)) ≡ first + length cells
           → soundb n qs ss ≡ (b && apartb (cellsOf (r .done) ++ cells) ss)
       go true q c h t l =

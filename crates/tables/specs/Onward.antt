@@ -48,7 +48,8 @@ pub length-in : (ks : List Corner) (cs : List (Cell Point)) → length (numbered
 length-in ks cs = length-map cs (mapCell (numberIn ks))
 
 -- red edges of two lists, one behind the other
-red-append : (cs ds : List (Cell ℕ)) (ss : List ℕ) → redEdges 0 (cs ++ ds) ss ≡ redEdges 0 cs (take (length cs) ss) ++ redEdges 0 ds (drop (length cs) ss)
+red-append : (cs ds : List (Cell ℕ)) (ss : List ℕ) → redEdges 0 (cs ++ ds) ss ≡ redEdges 0 cs (take (length cs) ss) ++ redEdges 0 ds
+    (drop (length cs) ss)
 unfolding redEdges
 red-append [] ds ss = refl
 red-append (c ∷ cs) [] [] = refl
@@ -57,7 +58,8 @@ red-append (c ∷ cs) ds (s ∷ ss) = go (redb s) (red-append cs ds ss)
   where
     go : (b : Bool) → redEdges 0 (cs ++ ds) ss ≡ redEdges 0 cs (take (length cs) ss) ++ redEdges 0 ds (drop (length cs) ss)
         → _≡_ {A = List Pair} (elim b [ true ↦ edges 0 c ++ redEdges 0 (cs ++ ds) ss | false ↦ redEdges 0 (cs ++ ds) ss ])
-        (_++_ {A = Pair} (elim b [ true ↦ edges 0 c ++ redEdges 0 cs (take (length cs) ss) | false ↦ redEdges 0 cs (take (length cs) ss) ]) (redEdges 0 ds (drop (length cs) ss)))
+        (_++_ {A = Pair} (elim b [ true ↦ edges 0 c ++ redEdges 0 cs (take (length cs) ss) | false ↦ redEdges 0 cs (take (length cs) ss) ])
+        (redEdges 0 ds (drop (length cs) ss)))
     go true i = rw i (sym (append-assoc (edges 0 c) (redEdges 0 cs (take (length cs) ss)) (redEdges 0 ds (drop (length cs) ss))))
     go false i = i
 
@@ -68,15 +70,19 @@ pairs-split xs ys k m zero = rw (add-zero m) (sym (append-nil (pairsOf xs ys k m
 pairs-split xs ys k m (suc l) =
     let e : m + suc l ≡ suc (m + l) = omega arith in
     let w : k + (m + l) ≡ k + m + l = omega arith in
-    rw (e, w, pairs-split xs ys k m l) (append-assoc (pairsOf xs ys k m) (pairsOf xs ys (k + m) l) ((getD xs (k + m + l) 0, getD ys (k + m + l) 0) ∷ []))
+    rw (e, w, pairs-split xs ys k m l)
+    (append-assoc (pairsOf xs ys k m) (pairsOf xs ys (k + m) l) ((getD xs (k + m + l) 0, getD ys (k + m + l) 0) ∷ []))
 
 -- entries that were kept
-pairs-kept : (xs ys xs′ ys′ : List ℕ) (n : ℕ) → take n xs′ ≡ take n xs → take n ys′ ≡ take n ys → (k m : ℕ) → k + m ≤ n → pairsOf xs′ ys′ k m ≡ pairsOf xs ys k m
+pairs-kept : (xs ys xs′ ys′ : List ℕ) (n : ℕ) → take n xs′ ≡ take n xs → take n ys′ ≡ take n ys → (k m : ℕ) → k + m ≤ n
+    → pairsOf xs′ ys′ k m ≡ pairsOf xs ys k m
 unfolding pairsOf
 pairs-kept xs ys xs′ ys′ n ex ey k zero h = refl
 pairs-kept xs ys xs′ ys′ n ex ey k (suc m) h =
-    let a : getD xs′ (k + m) 0 ≡ getD xs (k + m) 0 = sym (getD-take n xs′ (k + m) 0 (omega arith)) ∙ ap (λ (l : List ℕ). getD l (k + m) 0) ex ∙ getD-take n xs (k + m) 0 (omega arith) in
-    let b : getD ys′ (k + m) 0 ≡ getD ys (k + m) 0 = sym (getD-take n ys′ (k + m) 0 (omega arith)) ∙ ap (λ (l : List ℕ). getD l (k + m) 0) ey ∙ getD-take n ys (k + m) 0 (omega arith) in
+    let a : getD xs′ (k + m) 0 ≡ getD xs (k + m) 0 = sym (getD-take n xs′ (k + m) 0 (omega arith))
+    ∙ ap (λ (l : List ℕ). getD l (k + m) 0) ex ∙ getD-take n xs (k + m) 0 (omega arith) in
+    let b : getD ys′ (k + m) 0 ≡ getD ys (k + m) 0 = sym (getD-take n ys′ (k + m) 0 (omega arith))
+    ∙ ap (λ (l : List ℕ). getD l (k + m) 0) ey ∙ getD-take n ys (k + m) 0 (omega arith) in
     rw (pairs-kept xs ys xs′ ys′ n ex ey k m (omega arith), a, b)
 
 pub drop-take : (a b : ℕ) (l : List ℕ) → drop a (take (a + b) l) ≡ take b (drop a l)
@@ -104,17 +110,20 @@ all-drop f (suc m) (x ∷ l) t = all-drop f m l (and-right (f x) (allb f l) t)
 part-fits : (ss : List ℕ) → allb (λ s. leb s 64) ss ≡ true → (k m : ℕ) → T (allb (λ s. leb s 64) (part ss k m))
 part-fits ss t k m = all-take (λ s. leb s 64) m (drop k ss) (all-drop (λ s. leb s 64) k ss (rw t tt))
 
-deep-in : (ks : List Corner) (l : ℕ) (cs : List (Cell Point)) → T (allb (λ c. eqb (length (c .path)) l) cs) → T (allb (λ c. eqb (length (c .path)) l) (numberedCells ks cs))
+deep-in : (ks : List Corner) (l : ℕ) (cs : List (Cell Point)) → T (allb (λ c. eqb (length (c .path)) l) cs)
+    → T (allb (λ c. eqb (length (c .path)) l) (numberedCells ks cs))
 unfolding allb mapCell
 deep-in ks l [] t = tt
 deep-in ks l (c ∷ cs) t = go (eqb (length (c .path)) l) t (deep-in ks l cs)
   where
-    go : (b : Bool) → T (b && allb (λ c. eqb (length (c .path)) l) cs) → (T (allb (λ c. eqb (length (c .path)) l) cs) → T (allb (λ c. eqb (length (c .path)) l) (numberedCells ks cs)))
+    go : (b : Bool) → T (b && allb (λ c. eqb (length (c .path)) l) cs)
+        → (T (allb (λ c. eqb (length (c .path)) l) cs) → T (allb (λ c. eqb (length (c .path)) l) (numberedCells ks cs)))
         → T (b && allb (λ c. eqb (length (c .path)) l) (numberedCells ks cs))
     go true u i = i u
     go false u i = u
 
-module _ (n : ℕ) (qs : List (List ℕ)) (ss : List ℕ) (j first last : ℕ) (rows xs ys heads links : List ℕ) (k : ℕ) (ps ps′ heads′ links′ : List ℕ) (m : ℕ)
+module _ (n : ℕ) (qs : List (List ℕ)) (ss : List ℕ) (j first last : ℕ) (rows xs ys heads links : List ℕ) (k : ℕ)
+    (ps ps′ heads′ links′ : List ℕ) (m : ℕ)
     (h : Here n qs ss j first last rows xs ys heads links k ps ps′ heads′ links′ m) where
   abbrev before : List (Cell Point)
   before = cellsOf (h .reached .done)
@@ -135,12 +144,14 @@ module _ (n : ℕ) (qs : List (List ℕ)) (ss : List ℕ) (j first last : ℕ) (
   counted = length-in (h .corners) before ∙ h .reached .counted
 
   whole-length : length (numberedCells (h .corners) before ++ numberedCells (h .corners) (h .cells)) ≡ last
-  whole-length = length-append (numberedCells (h .corners) before) (numberedCells (h .corners) (h .cells)) ∙ omega (arith, counted, length-in (h .corners) (h .cells), h .end)
+  whole-length = length-append (numberedCells (h .corners) before) (numberedCells (h .corners) (h .cells))
+      ∙ omega (arith, counted, length-in (h .corners) (h .cells), h .end)
 
   pub cells-are : ownCells rows ss first last ≡ map strip (numberedCells (h .corners) (h .cells))
   cells-are =
       let z = cells-at rows (numberedCells (h .corners) before) (numberedCells (h .corners) (h .cells))
-      (all-append Four (numberedCells (h .corners) before) (numberedCells (h .corners) (h .cells)) (four-in (h .corners) before (h .placed)) (four-in (h .corners) (h .cells) (h .stage .placed)))
+      (all-append Four (numberedCells (h .corners) before) (numberedCells (h .corners) (h .cells)) (four-in (h .corners) before (h .placed))
+      (four-in (h .corners) (h .cells) (h .stage .placed)))
       (rw (whole-length, ← halves) (h .table)) in
       let e : length (numberedCells (h .corners) (h .cells)) ≡ last - first = length-in (h .corners) (h .cells) ∙ sym many in
       rw (counted, e) at z
@@ -152,7 +163,8 @@ module _ (n : ℕ) (qs : List (List ℕ)) (ss : List ℕ) (j first last : ℕ) (
       ≡ closedFrom [] sameb (redEdges [] (h .cells) own) (h .cells) own
   closed-are =
       rw (reds-are, cells-are, own-is)
-      (closed-strip (redEdges 0 (numberedCells (h .corners) (h .cells)) own) (numberedCells (h .corners) (h .cells)) own ∙ closed-numbers (h .corners) (h .cells) own (h .stage .placed))
+      (closed-strip (redEdges 0 (numberedCells (h .corners) (h .cells)) own) (numberedCells (h .corners) (h .cells)) own
+      ∙ closed-numbers (h .corners) (h .cells) own (h .stage .placed))
 
   -- The ways to fail.
   pub fails-short : length ss < last → soundb n qs ss ≡ false
@@ -160,54 +172,69 @@ module _ (n : ℕ) (qs : List (List ℕ)) (ss : List ℕ) (j first last : ℕ) (
 
   pub fails-more : last ≤ length ss → length ss < last + sizes (ownStatuses rows ss first last) → soundb n qs ss ≡ false
   fails-more g l =
-      reached-more n qs ss j first (h .cells) (h .reached) (h .low) (h .some) (omega (arith, h .end, ap sizes own-is)) (omega (arith, h .end))
+      reached-more n qs ss j first (h .cells) (h .reached) (h .low) (h .some) (omega (arith, h .end, ap sizes own-is))
+      (omega (arith, h .end))
 
   pub fails-high : j ≡ 10 → last ≤ length ss → 0 < sizes (ownStatuses rows ss first last) → soundb n qs ss ≡ false
-  fails-high e g l = reached-high n qs ss j first (h .cells) (h .reached) (h .low) (h .some) e (omega (arith, ap sizes own-is)) (omega (arith, h .end))
+  fails-high e g l = reached-high n qs ss j first (h .cells) (h .reached) (h .low) (h .some) e (omega (arith, ap sizes own-is))
+      (omega (arith, h .end))
 
-  pub fails-open : closedFrom 0 eqb (ownReds rows ss first last) (ownCells rows ss first last) (ownStatuses rows ss first last) ≡ false → soundb n qs ss ≡ false
+  pub fails-open : closedFrom 0 eqb (ownReds rows ss first last) (ownCells rows ss first last) (ownStatuses rows ss first last) ≡ false
+      → soundb n qs ss ≡ false
   fails-open e = reached-open n qs ss j first (h .cells) (h .reached) (h .low) (h .some) (sym closed-are ∙ e)
 
   -- What is listed after the level's red edges are.
-  module _ (xs′ ys′ : List ℕ) (heads″ links″ : List ℕ) (k′ : ℕ) (g : Grown xs ys k k (ownReds rows ss first last) xs′ ys′ heads″ links″ k′) where
-    both : (p : Pair) → hasb isb (listed xs′ ys′ 0 k′) p ≡ (hasb isb (listed xs ys 0 k) p || hasb isb (map sorted (redEdges 0 (numberedCells (h .corners) (h .cells)) own)) p)
-    unfolding pairsOf
-    both p =
-        let e : k′ - 0 ≡ k + (k′ - k) = omega (arith, g .more) in
-        let z : 0 + k ≡ k = omega arith in
-        let u : k - 0 ≡ k = omega arith in
-        let d : k - k ≡ 0 = omega arith in
-        let new : listed xs′ ys′ k k′ ≡ addPairs [] (ownReds rows ss first last) = g .list ∙ rw d in
-        let new₀ : pairsOf xs′ ys′ (0 + k) (k′ - k) ≡ addPairs [] (ownReds rows ss first last) = rw z new in
-        let old : pairsOf xs′ ys′ 0 k ≡ listed xs ys 0 k = rw u (pairs-kept xs ys xs′ ys′ k (g .kept-xs) (g .kept-ys) 0 k (omega arith)) in
-        let all : listed xs′ ys′ 0 k′ ≡ listed xs ys 0 k ++ addPairs [] (ownReds rows ss first last) =
-        rw e (pairs-split xs′ ys′ 0 k (k′ - k) ∙ ap₂ _++_ old new₀) in
-        rw all (has-append isb (listed xs ys 0 k) (addPairs [] (ownReds rows ss first last)) p
-        ∙ rw (lists-added (ownReds rows ss first last) .has p, reds-are))
+  module _ (xs′ ys′ : List ℕ) (heads″ links″ : List ℕ) (k′ : ℕ) (g : Grown xs ys k k (ownReds rows ss first last) xs′ ys′ heads″ links″ k′)
+    where
+      both : (p : Pair) → hasb isb (listed xs′ ys′ 0 k′) p
+          ≡ (hasb isb (listed xs ys 0 k) p || hasb isb (map sorted (redEdges 0 (numberedCells (h .corners) (h .cells)) own)) p)
+      unfolding pairsOf
+      both p =
+          let e : k′ - 0 ≡ k + (k′ - k) = omega (arith, g .more) in
+          let z : 0 + k ≡ k = omega arith in
+          let u : k - 0 ≡ k = omega arith in
+          let d : k - k ≡ 0 = omega arith in
+          let new : listed xs′ ys′ k k′ ≡ addPairs [] (ownReds rows ss first last) = g .list ∙ rw d in
+          let new₀ : pairsOf xs′ ys′ (0 + k) (k′ - k) ≡ addPairs [] (ownReds rows ss first last) = rw z new in
+          let old : pairsOf xs′ ys′ 0 k ≡ listed xs ys 0 k = rw u
+          (pairs-kept xs ys xs′ ys′ k (g .kept-xs) (g .kept-ys) 0 k (omega arith)) in
+          let all : listed xs′ ys′ 0 k′ ≡ listed xs ys 0 k ++ addPairs [] (ownReds rows ss first last) =
+          rw e (pairs-split xs′ ys′ 0 k (k′ - k) ∙ ap₂ _++_ old new₀) in
+          rw all (has-append isb (listed xs ys 0 k) (addPairs [] (ownReds rows ss first last)) p
+          ∙ rw (lists-added (ownReds rows ss first last) .has p, reds-are))
 
-    red-halves : redEdges 0 (numberedCells (h .corners) (before ++ h .cells)) (take last ss)
-        ≡ redEdges 0 (numberedCells (h .corners) before) (take first ss) ++ redEdges 0 (numberedCells (h .corners) (h .cells)) own
-    red-halves =
-        let a : take first (take last ss) ≡ take first ss = take-take first last ss (omega (arith, h .end)) in
-        let b : drop first (take last ss) ≡ own = rw (h .end) (drop-take first (length (h .cells)) ss) in
-        rw halves (red-append (numberedCells (h .corners) before) (numberedCells (h .corners) (h .cells)) (take last ss) ∙ rw (counted, a, b))
+      red-halves : redEdges 0 (numberedCells (h .corners) (before ++ h .cells)) (take last ss)
+          ≡ redEdges 0 (numberedCells (h .corners) before) (take first ss) ++ redEdges 0 (numberedCells (h .corners) (h .cells)) own
+      red-halves =
+          let a : take first (take last ss) ≡ take first ss = take-take first last ss (omega (arith, h .end)) in
+          let b : drop first (take last ss) ≡ own = rw (h .end) (drop-take first (length (h .cells)) ss) in
+          rw halves (red-append (numberedCells (h .corners) before) (numberedCells (h .corners) (h .cells)) (take last ss)
+          ∙ rw (counted, a, b))
 
-    reds-after : Lists (listed xs′ ys′ 0 k′) (redEdges 0 (numberedCells (h .corners) (before ++ h .cells)) (take last ss))
-    reds-after =
-        record {
-          has = λ p.
-              both p ∙ ap (λ (b : Bool). b || hasb isb (map sorted (redEdges 0 (numberedCells (h .corners) (h .cells)) own)) p) (h .red .has p)
-              ∙ sym (rw (red-halves, map-append sorted (redEdges 0 (numberedCells (h .corners) before) (take first ss)) (redEdges 0 (numberedCells (h .corners) (h .cells)) own))
-              (has-append isb (map sorted (redEdges 0 (numberedCells (h .corners) before) (take first ss))) (map sorted (redEdges 0 (numberedCells (h .corners) (h .cells)) own)) p));
-        }
+      reds-after : Lists (listed xs′ ys′ 0 k′) (redEdges 0 (numberedCells (h .corners) (before ++ h .cells)) (take last ss))
+      reds-after =
+          record {
+            has = λ p.
+                both p ∙ ap (λ (b : Bool). b || hasb isb (map sorted (redEdges 0 (numberedCells (h .corners) (h .cells)) own)) p)
+                (h .red .has p)
+                ∙ sym (rw (
+                  red-halves,
+                  map-append sorted (redEdges 0 (numberedCells (h .corners) before) (take first ss))
+                      (redEdges 0 (numberedCells (h .corners) (h .cells)) own),
+                )
+                (has-append isb (map sorted (redEdges 0 (numberedCells (h .corners) before) (take first ss)))
+                (map sorted (redEdges 0 (numberedCells (h .corners) (h .cells)) own)) p));
+          }
 
   -- The next level.
   closed-whole : closedFrom 0 eqb (ownReds rows ss first last) (ownCells rows ss first last) (ownStatuses rows ss first last) ≡ true
       → closedFrom [] sameb (redEdges [] (h .cells) own) (h .cells) own ≡ true
   closed-whole e = sym closed-are ∙ e
 
-  module _ (w : closedFrom [] sameb (redEdges [] (h .cells) own) (h .cells) own ≡ true) (inside : last ≤ length ss) (high : j < 10) (st : Statuses ss)
-      (fit : last + sizes (ownStatuses rows ss first last) ≤ length ss) (grows : 0 < sizes (ownStatuses rows ss first last)) (long : 32768 ≤ length rows)
+  module _ (w : closedFrom [] sameb (redEdges [] (h .cells) own) (h .cells) own ≡ true) (inside : last ≤ length ss) (high : j < 10)
+      (st : Statuses ss)
+      (fit : last + sizes (ownStatuses rows ss first last) ≤ length ss) (grows : 0 < sizes (ownStatuses rows ss first last))
+      (long : 32768 ≤ length rows)
       (rows′ : List ℕ) (ps₁ ps₁′ heads₁ links₁ : List ℕ) (last′ m′ : ℕ)
       (g : Grows rows ps ps′ ss first (last - first) (suc j) last n m rows′ ps₁ ps₁′ heads₁ links₁ last′ m′) where
     abbrev up : List (Cell Point)
@@ -219,7 +246,8 @@ module _ (n : ℕ) (qs : List (List ℕ)) (ss : List ℕ) (j first last : ℕ) (
     refined : Refined (h .cells) own
     refined = closed-follows [] sameb (redEdges [] (h .cells) own) (h .cells) own (rw w tt)
 
-    step : NextStage n j first (h .corners) (listed ps ps′ 0 m) (h .cells) own ks′ (endsFrom (listed ps ps′ 0 m) (numberedCells (h .corners) (h .cells)) own)
+    step : NextStage n j first (h .corners) (listed ps ps′ 0 m) (h .cells) own ks′
+        (endsFrom (listed ps ps′ 0 m) (numberedCells (h .corners) (h .cells)) own)
     step = stage-next n j first (h .corners) (listed ps ps′ 0 m) (h .cells) own (h .stage) high refined
 
     ends-are : listed ps₁ ps₁′ 0 m′ ≡ endsFrom (listed ps ps′ 0 m) (numberedCells (h .corners) (h .cells)) own
@@ -240,11 +268,13 @@ module _ (n : ℕ) (qs : List (List ℕ)) (ss : List ℕ) (j first last : ℕ) (
     fits-part : T (allb (λ s. leb s 64) own)
     fits-part = part-fits ss (st .fit) first (length (h .cells))
 
-    new-rows : rowsAll (suc j) n (listed ps₁ ps₁′ 0 m′) first (cellsAt rows first (last - first)) (part ss first (last - first)) ≡ flatMap rowOf (numberedCells ks′ up)
+    new-rows : rowsAll (suc j) n (listed ps₁ ps₁′ 0 m′) first (cellsAt rows first (last - first)) (part ss first (last - first)) ≡ flatMap
+        rowOf (numberedCells ks′ up)
     new-rows =
         rw (cells-are, own-is, ends-are)
         (rows-next (suc j) n (endsFrom (listed ps ps′ 0 m) (numberedCells (h .corners) (h .cells)) own) (omega arith) first
-        (map strip (numberedCells (h .corners) (h .cells))) (numberedCells (h .corners) (h .cells)) own (points-strip (numberedCells (h .corners) (h .cells))) (deep-in (h .corners) (suc j) (h .cells) (h .deep))
+        (map strip (numberedCells (h .corners) (h .cells))) (numberedCells (h .corners) (h .cells)) own
+        (points-strip (numberedCells (h .corners) (h .cells))) (deep-in (h .corners) (suc j) (h .cells) (h .deep))
         ∙ ap (flatMap rowOf) (step .cells))
 
     table-is : take (8 * last′) rows′ ≡ flatMap rowOf (numberedCells ks′ ((before ++ h .cells) ++ up))
@@ -255,10 +285,12 @@ module _ (n : ℕ) (qs : List (List ℕ)) (ss : List ℕ) (j first last : ℕ) (
         (length-map (numberedCells (h .corners) (h .cells)) strip ∙ length-in (h .corners) (h .cells) ∙ same-length) fits-part) in
         let e : 8 * last′ ≡ 8 * last + length vs = omega (arith, lv, end-is, length-up) in
         let room : 8 * last + length vs ≤ length rows = omega (arith, lv, long, st .few, ap sizes own-is) in
-        let kept : numberedCells ks′ (before ++ h .cells) ≡ numberedCells (h .corners) (before ++ h .cells) = cells-kept (h .corners) ks′ (step .kept) (before ++ h .cells) all-before in
+        let kept : numberedCells ks′ (before ++ h .cells) ≡ numberedCells (h .corners) (before ++ h .cells) = cells-kept (h .corners) ks′
+        (step .kept) (before ++ h .cells) all-before in
         rw (e, g .rows) (take-written rows (8 * last) vs room
         ∙ ap₂ _++_ (h .table) new-rows
-        ∙ sym (ap (flatMap rowOf) (map-append (mapCell (numberIn ks′)) (before ++ h .cells) up ∙ ap (λ (l : List (Cell ℕ)). l ++ numberedCells ks′ up) kept)
+        ∙ sym (ap (flatMap rowOf) (map-append (mapCell (numberIn ks′)) (before ++ h .cells) up
+        ∙ ap (λ (l : List (Cell ℕ)). l ++ numberedCells ks′ up) kept)
         ∙ flat-append (numberedCells (h .corners) (before ++ h .cells)) (numberedCells ks′ up)))
 
     named-next : cornersFrom (coarseCorners n) (before ++ h .cells) (take last ss) ≡ ks′
@@ -273,7 +305,8 @@ module _ (n : ℕ) (qs : List (List ℕ)) (ss : List ℕ) (j first last : ℕ) (
       here-next =
           let r = reached-next n qs ss j first (h .cells) (h .reached) (h .low) (h .some) last (h .end) w in
           let b : cellsOf (r .reached .done) ≡ before ++ h .cells = r .before in
-          let kept : numberedCells ks′ (before ++ h .cells) ≡ numberedCells (h .corners) (before ++ h .cells) = cells-kept (h .corners) ks′ (step .kept) (before ++ h .cells) all-before in
+          let kept : numberedCells ks′ (before ++ h .cells) ≡ numberedCells (h .corners) (before ++ h .cells) = cells-kept (h .corners) ks′
+          (step .kept) (before ++ h .cells) all-before in
           let mono : (c : Cell Point) → Child last c → Child last′ c = λ c f q. omega (arith, f q, end-is) in
           record {
             cells = up;
@@ -284,10 +317,12 @@ module _ (n : ℕ) (qs : List (List ℕ)) (ss : List ℕ) (j first last : ℕ) (
             some = omega (arith, length-up, ap sizes own-is);
             end = end-is;
             few = omega (arith, end-is, length-up, ap sizes own-is, st .few);
-            placed = rw b (all-more (Placed (h .corners)) (Placed ks′) (placed-kept (h .corners) ks′ (step .kept)) (before ++ h .cells) all-before);
+            placed = rw b (all-more (Placed (h .corners)) (Placed ks′) (placed-kept (h .corners) ks′ (step .kept)) (before ++ h .cells)
+                all-before);
             named = rw b named-next;
             deep = deep-next (suc j) first (h .cells) own (h .deep);
-            children = rw b (all-append (Child last′) (before ++ h .cells) up (all-more (Child last) (Child last′) mono (before ++ h .cells) (h .children))
+            children = rw b (all-append (Child last′) (before ++ h .cells) up
+                (all-more (Child last) (Child last′) mono (before ++ h .cells) (h .children))
                 (child-next last′ first (h .cells) own (omega (arith, h .end, end-is))));
             table = rw b table-is;
             red = rw (b, kept) (reds-after xs′ ys′ heads″ links″ k′ grown);
@@ -303,7 +338,8 @@ module _ (n : ℕ) (qs : List (List ℕ)) (ss : List ℕ) (j first last : ℕ) (
   -- The highest level.
   module _ (w : closedFrom [] sameb (redEdges [] (h .cells) own) (h .cells) own ≡ true) (inside : last ≤ length ss) (st : Statuses ss)
       (none : sizes (ownStatuses rows ss first last) ≡ 0)
-      (xs′ ys′ heads″ links″ : List ℕ) (k′ : ℕ) (grown : Grown xs ys k k (ownReds rows ss first last) xs′ ys′ heads″ links″ k′) (reds : Reds xs′ ys′ heads″ links″ k′ last) where
+      (xs′ ys′ heads″ links″ : List ℕ) (k′ : ℕ) (grown : Grown xs ys k k (ownReds rows ss first last) xs′ ys′ heads″ links″ k′)
+      (reds : Reds xs′ ys′ heads″ links″ k′ last) where
     abbrev all : List (Cell Point)
     all = before ++ h .cells
 

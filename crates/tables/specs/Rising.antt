@@ -74,7 +74,8 @@ unfolding next
 child-next n k [] ss h = tt
 child-next n k (c ∷ cs) [] h = tt
 child-next n k (c ∷ cs) (s ∷ ss) h =
-    all-append (Child n) (children k c s (point c)) (next (suc k) cs ss) (child-children n k c (omega arith) (point c) s) (child-next n (suc k) cs ss (omega arith))
+    all-append (Child n) (children k c s (point c)) (next (suc k) cs ss) (child-children n k c (omega arith) (point c) s)
+    (child-next n (suc k) cs ss (omega arith))
 
 -- coarse cells
 pub deep-coarse : (n i : ℕ) (qs : List (List ℕ)) → T (deepb 1 (coarseFrom n i qs))

@@ -74,7 +74,8 @@ module _ (rows ss : List ℕ) (first last : ℕ) (xs ys heads links : List ℕ) 
           more = λ a b. absurd (omega arith);
           whole = λ a b.
               record {
-                closed = c ∙ rw e (closed-listed (addPairs [] (ownReds rows ss first last)) (ownReds rows ss first last) (lists-added (ownReds rows ss first last))
+                closed = c ∙ rw e (closed-listed (addPairs [] (ownReds rows ss first last)) (ownReds rows ss first last)
+                    (lists-added (ownReds rows ss first last))
                     (ownCells rows ss first last) (ownStatuses rows ss first last));
                 many = s;
                 grown = g;
@@ -87,5 +88,6 @@ module _ (rows ss : List ℕ) (first last : ℕ) (xs ys : List ℕ) (n : ℕ) (x
   pub checked-short : length ss < last → Checked rows ss first last xs ys n xs′ ys′ heads′ links′ false m size
   checked-short h = record { short = λ a. refl; more = λ a b. absurd (omega arith); whole = λ a b. absurd (omega arith) }
 
-  pub checked-more : last ≤ length ss → length ss < last + sizes (ownStatuses rows ss first last) → Checked rows ss first last xs ys n xs′ ys′ heads′ links′ false m size
+  pub checked-more : last ≤ length ss → length ss < last + sizes (ownStatuses rows ss first last)
+      → Checked rows ss first last xs ys n xs′ ys′ heads′ links′ false m size
   checked-more g h = record { short = λ a. absurd (omega arith); more = λ a b. refl; whole = λ a b. absurd (omega arith) }

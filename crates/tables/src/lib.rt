@@ -55,7 +55,8 @@ fn check_level(
     requires { ⌜ Statuses (now status) ⌝ }
     requires { ⌜ Reds (now xs) (now ys) (now heads) (now links) n last ⌝ }
     requires { ⌜ (first ≤ last) × (last ≤ 4096) ⌝ }
-    ensures { λ r. ⌜ Checked (was rows) (was status) first last (was xs) (was ys) n (is xs) (is ys) (is heads) (is links) (r .ok) (r .n) (r .size) ⌝ }
+    ensures { λ r. ⌜ Checked (was rows) (was status) first last (was xs) (was ys) n (is xs) (is ys) (is heads) (is links) (r .ok) (r .n)
+        (r .size) ⌝ }
 {
     if last > status.len() {
         return Level {

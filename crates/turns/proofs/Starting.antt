@@ -20,7 +20,8 @@ use Rattle.turns.specs.Loops.{eachFrom, SameHead, head-self, head-on, he
 use Rattle.turns.specs.Usable.{Usable}
 use Rattle.turns.specs.Decide.{decideOne}
 use Rattle.turns.specs.Post.{posted, markOne, othersOf, postEnd}
-use Rattle.turns.specs.Start.{ownb, markOk, markAt, nextMark, marksFrom, markSet, markedFrom, levelFrom, enterMarks, startAnswer, startedStore, startedIn, startAfter}
+use Rattle.turns.specs.Start.{ownb, markOk, markAt, nextMark, marksFrom, markSet, markedFrom, levelFrom, enterMarks, startAnswer}
+use Rattle.turns.specs.Start.{startedStore, startedIn, startAfter}
 use Rattle.turns.proofs.Deciding.{decide-head}
 use Rattle.turns.proofs.Posting.{mark-head}
 

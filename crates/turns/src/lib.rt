@@ -34,7 +34,8 @@ ghost use Rattle.turns.specs.Loops.{someFrom, runSome, eachFrom};
 ghost use Rattle.turns.specs.Decide.{slotAt, hitb, hitOf, pullOf, pulledKid, kidb, busyb, ruleb, decideOne};
 ghost use Rattle.turns.specs.Post.{posted, markOne, othersOf, postEnd};
 ghost use Rattle.turns.specs.Usable.{Usable};
-ghost use Rattle.turns.specs.Start.{markOk, markAt, nextMark, marksFrom, markSet, markedFrom, levelFrom, enterMarks, startAnswer, startAfter};
+ghost use Rattle.turns.specs.Start.{markOk, markAt, nextMark, marksFrom, markSet, markedFrom, levelFrom, enterMarks, startAnswer};
+ghost use Rattle.turns.specs.Start.{startAfter};
 
 // The slot of an edge of a cell.
 fn slot_of(store: &[u16], c: usize, e: usize) -> usize

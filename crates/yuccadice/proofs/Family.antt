@@ -58,7 +58,8 @@ module _ (p : ℕ) (digits : List ℕ) (count : ℕ) where
     cut-refused z = long ∙ code-not (f .answer) k c z
 
     pub cut-done : k ≡ 0 → length (f .digits) ≡ 32 → (digits′ : List ℕ) → digits′ ≡ take 32 (f .digits) ++ drop 32 digits
-        → (0 ≡ codeOf answer) × ((digits′ ≡ heldAfter answer (cutOf p .digits) digits) × (f .count ≡ valueAfter answer (cutOf p .count) count))
+        → (0 ≡ codeOf answer) × ((digits′ ≡ heldAfter answer (cutOf p .digits) digits)
+        × (f .count ≡ valueAfter answer (cutOf p .count) count))
     unfolding heldAfter
     cut-done z l digits′ e =
         let n : codeOf (cutOf p .answer) ≡ 0 = rw (← g) (sym c ∙ z) in

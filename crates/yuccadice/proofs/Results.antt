@@ -51,12 +51,14 @@ module _ {a : Answer} where
   unfolding valueAfter
   value-old new e = rw e
 
--- An enum R that holds a value of S where the call is accepted, and the refusal where it is not: what is read off it is its answer and its value.
+-- An enum R that holds a value of S where the call is accepted, and the refusal where it is not: what is read off it is its answer and
+-- its value.
 pub record Result (R S : Type 0) (of : Answer → S → R) (read : S → R → Answer × S) : Type 0 where
   pub back : (a : Answer) (s : S) → _≡_ {A = Answer × S} (read s (of a s)) (a, s)
 
 -- what a case of it tells
-module _ {R S : Type 0} {of : Answer → S → R} {read : S → R → Answer × S} (t : Result R S of read) {a : Answer} {s : S} {r v : R} (e : r ≡ of a s) (f : r ≡ v) where
+module _ {R S : Type 0} {of : Answer → S → R} {read : S → R → Answer × S} (t : Result R S of read) {a : Answer} {s : S} {r v : R}
+    (e : r ≡ of a s) (f : r ≡ v) where
   both : _≡_ {A = Answer × S} (a, s) (read s v)
   both = sym (t .back a s) ∙ ap (read s) (sym e ∙ f)
 

@@ -1,4 +1,5 @@
-// The calls for programs in other languages. Each function answers the refusal's number, 0 where the call is accepted, and hands its results back
+// The calls for programs in other languages. Each function answers the refusal's number, 0 where the call is accepted, and hands its
+// results back
 // in lent tables and lent numbers. include/yuccadice.h says the same for C.
 use jobs::Reading;
 use jobs::Replayed;
@@ -244,7 +245,8 @@ pub extern "C" fn yd_step(
     }
 }
 
-// The job of an archive: its mesh, the marked cells of all steps one after the other with their marks, and for each step how many marks stand up to
+// The job of an archive: its mesh, the marked cells of all steps one after the other with their marks, and for each step how many marks
+// stand up to
 // its end. Refusals 15, 17, 1 to 5 and 7 to 9.
 #[no_mangle]
 pub extern "C" fn yd_read(

@@ -45,7 +45,8 @@ add-level : tie.Need-add-level Inv-loop μ-loop
 add-level c = search needs
 
 loop-less : tie.Need-loop-less Inv-loop μ-loop
-loop-less c = c .before .before .before .before .pre .up (c .before .before .before .loop .at) (omega (arith, c .before .before .before .loop .inv .near)) (c .before .if1 .taken)
+loop-less c = c .before .before .before .before .pre .up (c .before .before .before .loop .at)
+    (omega (arith, c .before .before .before .loop .inv .near)) (c .before .if1 .taken)
 
 loop-again : tie.Need-loop-again Inv-loop μ-loop
 loop-again c = on-next (c .before .before .before .loop .inv) (c .before .before .before .before .pre) (c .before .if1 .taken)

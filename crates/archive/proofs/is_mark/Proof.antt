@@ -14,34 +14,60 @@ starts-requires : tie.Need-starts-requires
 starts-requires c κs = search needs
 
 returns : tie.Need-returns
-returns c = let s = c .before .before .before .args in mark-other (s .bytes .now) (s .at) (s .least) (sym (c .before .starts .ensures) ∙ not-true _ (c .if1 .taken))
+returns c = let s = c .before .before .before .args in
+    mark-other (s .bytes .now) (s .at) (s .least) (sym (c .before .starts .ensures) ∙ not-true _ (c .if1 .taken))
 
 add-if2 : tie.Need-add-if2
 add-if2 c = search needs
 
 shared-slice-read-if2 : tie.Need-shared-slice-read-if2
-shared-slice-read-if2 c = let s = c .before .before .before .before .args in omega (arith, length-drop (s .at) (s .bytes .now), starts-long 77 4 (drop (s .at) (s .bytes .now)) (sym (c .before .before .starts .ensures) ∙ not-false _ (c .before .if1 .left)))
+shared-slice-read-if2 c = let s = c .before .before .before .before .args in
+    omega (
+      arith,
+      length-drop (s .at) (s .bytes .now),
+      starts-long 77 4 (drop (s .at) (s .bytes .now))
+          (sym (c .before .before .starts .ensures) ∙ not-false _ (c .before .if1 .left)),
+    )
 
 returns-2 : tie.Need-returns-2
-returns-2 c = let s = c .before .before .before .before .before .args in mark-low (s .bytes .now) (s .at) (s .least) (sym (c .before .before .before .starts .ensures) ∙ not-false _ (c .before .before .if1 .left)) (c .if2 .taken)
+returns-2 c = let s = c .before .before .before .before .before .args in
+    mark-low (s .bytes .now) (s .at) (s .least) (sym (c .before .before .before .starts .ensures)
+    ∙ not-false _ (c .before .before .if1 .left)) (c .if2 .taken)
 
 add-if3 : tie.Need-add-if3
 add-if3 c = search needs
 
 shared-slice-read-if3 : tie.Need-shared-slice-read-if3
-shared-slice-read-if3 c = let s = c .before .before .before .before .before .before .args in omega (arith, length-drop (s .at) (s .bytes .now), starts-long 77 4 (drop (s .at) (s .bytes .now)) (sym (c .before .before .before .before .starts .ensures) ∙ not-false _ (c .before .before .before .if1 .left)))
+shared-slice-read-if3 c = let s = c .before .before .before .before .before .before .args in
+    omega (
+      arith,
+      length-drop (s .at) (s .bytes .now),
+      starts-long 77 4 (drop (s .at) (s .bytes .now))
+          (sym (c .before .before .before .before .starts .ensures) ∙ not-false _ (c .before .before .before .if1 .left)),
+    )
 
 returns-3 : tie.Need-returns-3
-returns-3 c = let s = c .before .before .before .before .before .before .before .args in mark-high (s .bytes .now) (s .at) (s .least) (sym (c .before .before .before .before .before .starts .ensures) ∙ not-false _ (c .before .before .before .before .if1 .left)) (c .if3 .taken)
+returns-3 c = let s = c .before .before .before .before .before .before .before .args in
+    mark-high (s .bytes .now) (s .at) (s .least) (sym (c .before .before .before .before .before .starts .ensures)
+    ∙ not-false _ (c .before .before .before .before .if1 .left)) (c .if3 .taken)
 
 add-number : tie.Need-add-number
 add-number c = search needs
 
 number-requires : tie.Need-number-requires
-number-requires c κs = let s = c .before .before .before .before .before .before .before .args in omega (arith, length-drop (s .at) (s .bytes .now), starts-long 77 4 (drop (s .at) (s .bytes .now)) (sym (c .before .before .before .before .before .starts .ensures) ∙ not-false _ (c .before .before .before .before .if1 .left)))
+number-requires c κs = let s = c .before .before .before .before .before .before .before .args in
+    omega (
+      arith,
+      length-drop (s .at) (s .bytes .now),
+      starts-long 77 4 (drop (s .at) (s .bytes .now))
+          (sym (c .before .before .before .before .before .starts .ensures) ∙ not-false _ (c .before .before .before .before .if1 .left)),
+    )
 
 returns-4 : tie.Need-returns-4
-returns-4 c = let s = c .before .before .before .before .before .before .before .before .args in mark-there (s .bytes .now) (s .at) (s .least) (sym (c .before .before .before .before .before .before .starts .ensures) ∙ not-false _ (c .before .before .before .before .before .if1 .left)) (c .before .before .before .if2 .left) (c .before .if3 .left) (c .number .result) (c .number .ensures .0)
+returns-4 c = let s = c .before .before .before .before .before .before .before .before .args in
+    mark-there (s .bytes .now) (s .at) (s .least) (sym (c .before .before .before .before .before .before .starts .ensures)
+    ∙ not-false _ (c .before .before .before .before .before .if1 .left)) (c .before .before .before .if2 .left) (c .before .if3 .left)
+    (c .number .result) (c .number .ensures .0)
 
 pub is-mark-spec : {M : Type 1} → statement M
 is-mark-spec =

@@ -12,28 +12,45 @@ mul-load-positions : tie.Need-mul-load-positions
 mul-load-positions c = search needs
 
 load-positions-requires : tie.Need-load-positions-requires
-load-positions-requires c κs = let e = c .before .before .before .before .before .before .before in let p = e .pre in (positions-many (e .args .bytes .now) (p .1 .0), omega (arith, p .1 .0 .corners-are, p .1 .1 .positions-fit))
+load-positions-requires c κs = let e = c .before .before .before .before .before .before .before in let p = e .pre in
+    (positions-many (e .args .bytes .now) (p .1 .0), omega (arith, p .1 .0 .corners-are, p .1 .1 .positions-fit))
 
 mul-load-cells : tie.Need-mul-load-cells
-mul-load-cells c = let e = c .before .before .before .before .before .before .before .before .before .before in omega (arith, corners-inside (e .args .bytes .now) (e .pre .1 .0))
+mul-load-cells c = let e = c .before .before .before .before .before .before .before .before .before .before in
+    omega (arith, corners-inside (e .args .bytes .now) (e .pre .1 .0))
 
 mul-load-cells-2 : tie.Need-mul-load-cells-2
 mul-load-cells-2 c = search needs
 
 load-cells-requires : tie.Need-load-cells-requires
-load-cells-requires c κs = let e = c .before .before .before .before .before .before .before .before .before .before .before .before in let p = e .pre in (corners-inside (e .args .bytes .now) (p .1 .0), (cells-many-are (e .args .bytes .now) (p .1 .0), omega (arith, p .1 .0 .cells-are, p .1 .1 .cells-fit)))
+load-cells-requires c κs = let e = c .before .before .before .before .before .before .before .before .before .before .before .before in
+    let p = e .pre in (
+      corners-inside (e .args .bytes .now) (p .1 .0),
+      (cells-many-are (e .args .bytes .now) (p .1 .0), omega (arith, p .1 .0 .cells-are, p .1 .1 .cells-fit)),
+    )
 
 mul-load-steps : tie.Need-mul-load-steps
-mul-load-steps c = let e = c .before .before .before .before .before .before .before .before .before .before .before .before .before .before .before .before in omega (arith, found-fits (counted (e .args .bytes .now) (e .pre .1 .0)))
+mul-load-steps c = let
+    e = c .before .before .before .before .before .before .before .before .before .before .before .before .before .before .before .before in
+    omega (arith, found-fits (counted (e .args .bytes .now) (e .pre .1 .0)))
 
 mul-load-steps-2 : tie.Need-mul-load-steps-2
-mul-load-steps-2 c = let e = c .before .before .before .before .before .before .before .before .before .before .before .before .before .before .before .before .before in omega (arith, found-fits (counted (e .args .bytes .now) (e .pre .1 .0)))
+mul-load-steps-2 c = let
+    e =
+    c .before .before .before .before .before .before .before .before .before .before .before .before .before .before .before .before
+    .before in omega (arith, found-fits (counted (e .args .bytes .now) (e .pre .1 .0)))
 
 add-load-steps : tie.Need-add-load-steps
-add-load-steps c = let e = c .before .before .before .before .before .before .before .before .before .before .before .before .before .before .before .before .before in omega (arith, found-fits (counted (e .args .bytes .now) (e .pre .1 .0)))
+add-load-steps c = let
+    e =
+    c .before .before .before .before .before .before .before .before .before .before .before .before .before .before .before .before
+    .before in omega (arith, found-fits (counted (e .args .bytes .now) (e .pre .1 .0)))
 
 load-steps-requires : tie.Need-load-steps-requires
-load-steps-requires c κs = let e = c .before .before .before .before .before .before .before .before .before .before .before .before .before .before .before .before .before .before .before .before in steps-fit (e .args .bytes .now) (e .pre .1 .0) (e .pre .0) (e .pre .1 .1)
+load-steps-requires c κs = let
+    e =
+    c .before .before .before .before .before .before .before .before .before .before .before .before .before .before .before .before
+    .before .before .before .before in steps-fit (e .args .bytes .now) (e .pre .1 .0) (e .pre .0) (e .pre .1 .1)
 
 same-length : tie.Need-same-length
 same-length c = search needs

@@ -18,25 +18,31 @@ abbrev μ-loop : tie.MeasureT-loop
 μ-loop bytes from n cells₀ k₀ cells k = n - k
 
 loop-holds : tie.Need-loop-holds Inv-loop μ-loop
-loop-holds c = let s = c .before .before .args in filled-start (cellRecords (length (s .bytes .now)) (drop (s .from) (s .bytes .now)) .0) (s .cells .now) (omega arith)
+loop-holds c = let s = c .before .before .args in filled-start (cellRecords (length (s .bytes .now)) (drop (s .from) (s .bytes .now)) .0)
+    (s .cells .now) (omega arith)
 
 mul-number : tie.Need-mul-number Inv-loop μ-loop
-mul-number c = let p = c .before .before .before .before in omega (arith, cell-inside (p .args .bytes .now) (p .args .from) (c .before .loop .k) (p .pre .0) (omega (arith, c .loop-test .taken)))
+mul-number c = let p = c .before .before .before .before in
+    omega (arith, cell-inside (p .args .bytes .now) (p .args .from) (c .before .loop .k) (p .pre .0) (omega (arith, c .loop-test .taken)))
 
 add-number : tie.Need-add-number Inv-loop μ-loop
-add-number c = let p = c .before .before .before .before in omega (arith, cell-inside (p .args .bytes .now) (p .args .from) (c .before .loop .k) (p .pre .0) (omega (arith, c .loop-test .taken)))
+add-number c = let p = c .before .before .before .before in
+    omega (arith, cell-inside (p .args .bytes .now) (p .args .from) (c .before .loop .k) (p .pre .0) (omega (arith, c .loop-test .taken)))
 
 mul-number-2 : tie.Need-mul-number-2 Inv-loop μ-loop
 mul-number-2 c = search needs
 
 add-number-2 : tie.Need-add-number-2 Inv-loop μ-loop
-add-number-2 c = let p = c .before .before .before .before in omega (arith, cell-inside (p .args .bytes .now) (p .args .from) (c .before .loop .k) (p .pre .0) (omega (arith, c .loop-test .taken)))
+add-number-2 c = let p = c .before .before .before .before in
+    omega (arith, cell-inside (p .args .bytes .now) (p .args .from) (c .before .loop .k) (p .pre .0) (omega (arith, c .loop-test .taken)))
 
 add-number-3 : tie.Need-add-number-3 Inv-loop μ-loop
-add-number-3 c = let p = c .before .before .before .before in omega (arith, cell-inside (p .args .bytes .now) (p .args .from) (c .before .loop .k) (p .pre .0) (omega (arith, c .loop-test .taken)))
+add-number-3 c = let p = c .before .before .before .before in
+    omega (arith, cell-inside (p .args .bytes .now) (p .args .from) (c .before .loop .k) (p .pre .0) (omega (arith, c .loop-test .taken)))
 
 number-requires : tie.Need-number-requires Inv-loop μ-loop
-number-requires c κs = let p = c .before .before .before .before in cell-inside (p .args .bytes .now) (p .args .from) (c .before .loop .k) (p .pre .0) (omega (arith, c .loop-test .taken))
+number-requires c κs = let p = c .before .before .before .before in
+    cell-inside (p .args .bytes .now) (p .args .from) (c .before .loop .k) (p .pre .0) (omega (arith, c .loop-test .taken))
 
 cast-cells : tie.Need-cast-cells Inv-loop μ-loop
 cast-cells c = omega (arith, c .number .ensures .1)
@@ -45,7 +51,14 @@ mul-cells : tie.Need-mul-cells Inv-loop μ-loop
 mul-cells c = search needs
 
 slice-write-cells : tie.Need-slice-write-cells Inv-loop μ-loop
-slice-write-cells c = let p = c .before .before .before .before .before in omega (arith, c .before .loop-test .taken, filled-length (cellRecords (length (p .args .bytes .now)) (drop (p .args .from) (p .args .bytes .now)) .0) (p .args .cells .now) (c .before .before .loop .inv))
+slice-write-cells c = let p = c .before .before .before .before .before in
+    omega (
+      arith,
+      c .before .loop-test .taken,
+      filled-length
+          (cellRecords (length (p .args .bytes .now)) (drop (p .args .from) (p .args .bytes .now)) .0) (p .args .cells .now)
+          (c .before .before .loop .inv),
+    )
 
 add-k : tie.Need-add-k Inv-loop μ-loop
 add-k c = search needs
@@ -54,13 +67,21 @@ loop-less : tie.Need-loop-less Inv-loop μ-loop
 loop-less c = search needs
 
 loop-again : tie.Need-loop-again Inv-loop μ-loop
-loop-again c = let p = c .before .before .before .before .before in filled-more (cellRecords (length (p .args .bytes .now)) (drop (p .args .from) (p .args .bytes .now)) .0) (p .args .cells .now) (c .before .before .loop .inv) 0 (c .number .result) (omega (arith, c .before .loop-test .taken)) (c .number .ensures .0 ∙ cell-from (p .args .bytes .now) (p .args .from) (c .before .before .loop .k) (p .pre .0) (omega (arith, c .before .loop-test .taken)))
+loop-again c = let p = c .before .before .before .before .before in
+    filled-more (cellRecords (length (p .args .bytes .now)) (drop (p .args .from) (p .args .bytes .now)) .0) (p .args .cells .now)
+    (c .before .before .loop .inv) 0 (c .number .result) (omega (arith, c .before .loop-test .taken))
+    (c .number .ensures .0 ∙ cell-from (p .args .bytes .now) (p .args .from) (c .before .before .loop .k) (p .pre .0)
+    (omega (arith, c .before .loop-test .taken)))
 
 same-length : tie.Need-same-length Inv-loop μ-loop
-same-length c = let p = c .before .before .before .before in filled-length (cellRecords (length (p .args .bytes .now)) (drop (p .args .from) (p .args .bytes .now)) .0) (p .args .cells .now) (c .before .loop .inv)
+same-length c = let p = c .before .before .before .before in
+    filled-length (cellRecords (length (p .args .bytes .now)) (drop (p .args .from) (p .args .bytes .now)) .0) (p .args .cells .now)
+    (c .before .loop .inv)
 
 returns : tie.Need-returns Inv-loop μ-loop
-returns c = let p = c .before .before .before .before in filled-all (cellRecords (length (p .args .bytes .now)) (drop (p .args .from) (p .args .bytes .now)) .0) (p .args .cells .now) (c .before .loop .inv) (omega (arith, c .loop-test .left))
+returns c = let p = c .before .before .before .before in
+    filled-all (cellRecords (length (p .args .bytes .now)) (drop (p .args .from) (p .args .bytes .now)) .0) (p .args .cells .now)
+    (c .before .loop .inv) (omega (arith, c .loop-test .left))
 
 pub load-cells-spec : {M : Type 1} → statement M
 load-cells-spec =

@@ -26,10 +26,23 @@ mul-result : tie.Need-mul-result
 mul-result c = omega (arith, c .shared-slice-known2 .given (c .before .before .args .at + 1))
 
 add-result-2 : tie.Need-add-result-2
-add-result-2 c = omega (arith, c .before .shared-slice-known .given (c .before .before .args .at), c .shared-slice-known2 .given (c .before .before .args .at + 1))
+add-result-2 c = omega (
+  arith,
+  c .before .shared-slice-known .given (c .before .before .args .at),
+  c .shared-slice-known2 .given
+      (c .before .before .args .at + 1),
+)
 
 returns : tie.Need-returns
-returns c = (whole-two (c .before .before .args .bytes .now) (c .before .before .args .at) (omega arith), omega (arith, c .before .shared-slice-known .given (c .before .before .args .at), c .shared-slice-known2 .given (c .before .before .args .at + 1)))
+returns c = (
+  whole-two (c .before .before .args .bytes .now) (c .before .before .args .at) (omega arith),
+  omega (
+    arith,
+    c .before .shared-slice-known .given (c .before .before .args .at),
+    c .shared-slice-known2 .given
+        (c .before .before .args .at + 1),
+  ),
+)
 
 pub number-spec : {M : Type 1} → statement M
 number-spec =

@@ -23,25 +23,58 @@ add-put-number-2 : tie.Need-add-put-number-2
 add-put-number-2 c = search needs
 
 put-number-requires-2 : tie.Need-put-number-requires-2
-put-number-requires-2 c κs = let s = c .before .before .before .before .before .before .args in omega (arith, letter-length (s .out .now) (s .at) 84 (s .at + 1) (bytes 2 (s .a)) (c .before .before .before .put-number .ensures))
+put-number-requires-2 c κs = let s = c .before .before .before .before .before .before .args in
+    omega (arith, letter-length (s .out .now) (s .at) 84 (s .at + 1) (bytes 2 (s .a)) (c .before .before .before .put-number .ensures))
 
 add-put-number-3 : tie.Need-add-put-number-3
 add-put-number-3 c = search needs
 
 put-number-requires-3 : tie.Need-put-number-requires-3
-put-number-requires-3 c κs = let s = c .before .before .before .before .before .before .before .before .before .before .args in omega (arith, letter-length (s .out .now) (s .at) 84 (s .at + 1) (bytes 2 (s .a)) (c .before .before .before .before .before .before .before .put-number .ensures), sets-length _ (s .at + 3) (bytes 2 (s .b)) (c .before .before .before .put-number2 .ensures))
+put-number-requires-3 c κs = let s = c .before .before .before .before .before .before .before .before .before .before .args in
+    omega (
+      arith,
+      letter-length (s .out .now) (s .at) 84 (s .at + 1) (bytes 2 (s .a))
+          (c .before .before .before .before .before .before .before .put-number .ensures),
+      sets-length _ (s .at + 3) (bytes 2 (s .b))
+          (c .before .before .before .put-number2 .ensures),
+    )
 
 add-put-number-4 : tie.Need-add-put-number-4
 add-put-number-4 c = search needs
 
 put-number-requires-4 : tie.Need-put-number-requires-4
-put-number-requires-4 c κs = let s = c .before .before .before .before .before .before .before .before .before .before .before .before .before .before .args in omega (arith, letter-length (s .out .now) (s .at) 84 (s .at + 1) (bytes 2 (s .a)) (c .before .before .before .before .before .before .before .before .before .before .before .put-number .ensures), sets-length _ (s .at + 3) (bytes 2 (s .b)) (c .before .before .before .before .before .before .before .put-number2 .ensures), sets-length _ (s .at + 5) (bytes 2 (s .c)) (c .before .before .before .put-number3 .ensures))
+put-number-requires-4 c κs = let
+    s = c .before .before .before .before .before .before .before .before .before .before .before .before .before .before .args in
+    omega (
+      arith,
+      letter-length (s .out .now) (s .at) 84 (s .at + 1) (bytes 2 (s .a))
+          (c .before .before .before .before .before .before .before .before .before .before .before .put-number .ensures),
+      sets-length _
+          (s .at + 3) (bytes 2 (s .b)) (c .before .before .before .before .before .before .before .put-number2 .ensures),
+      sets-length _
+          (s .at + 5) (bytes 2 (s .c)) (c .before .before .before .put-number3 .ensures),
+    )
 
 same-length : tie.Need-same-length
-same-length c = let s = c .before .before .before .before .before .before .before .before .before .before .before .before .before .before .before .before .before .args in sets-length _ (s .at + 7) (bytes 2 (s .d)) (c .before .before .put-number4 .ensures) ∙ sets-length _ (s .at + 5) (bytes 2 (s .c)) (c .before .before .before .before .before .before .put-number3 .ensures) ∙ sets-length _ (s .at + 3) (bytes 2 (s .b)) (c .before .before .before .before .before .before .before .before .before .before .put-number2 .ensures) ∙ letter-length (s .out .now) (s .at) 84 (s .at + 1) (bytes 2 (s .a)) (c .before .before .before .before .before .before .before .before .before .before .before .before .before .before .put-number .ensures)
+same-length c = let
+    s =
+    c .before .before .before .before .before .before .before .before .before .before .before .before .before .before .before .before
+    .before .args in sets-length _ (s .at + 7) (bytes 2 (s .d)) (c .before .before .put-number4 .ensures)
+    ∙ sets-length _ (s .at + 5) (bytes 2 (s .c)) (c .before .before .before .before .before .before .put-number3 .ensures)
+    ∙ sets-length _ (s .at + 3) (bytes 2 (s .b))
+    (c .before .before .before .before .before .before .before .before .before .before .put-number2 .ensures)
+    ∙ letter-length (s .out .now) (s .at) 84 (s .at + 1) (bytes 2 (s .a))
+    (c .before .before .before .before .before .before .before .before .before .before .before .before .before .before .put-number
+    .ensures)
 
 returns : tie.Need-returns
-returns c = let s = c .before .before .before .before .before .before .before .before .before .before .before .before .before .before .before .before .before .args in cell-stores (s .out .now) (s .at) (s .a) (s .b) (s .c) (s .d) (c .before .before .before .before .before .before .before .before .before .before .before .before .before .before .put-number .ensures) (c .before .before .before .before .before .before .before .before .before .before .put-number2 .ensures) (c .before .before .before .before .before .before .put-number3 .ensures) (c .before .before .put-number4 .ensures)
+returns c = let
+    s =
+    c .before .before .before .before .before .before .before .before .before .before .before .before .before .before .before .before
+    .before .args in cell-stores (s .out .now) (s .at) (s .a) (s .b) (s .c) (s .d)
+    (c .before .before .before .before .before .before .before .before .before .before .before .before .before .before .put-number
+    .ensures) (c .before .before .before .before .before .before .before .before .before .before .put-number2 .ensures)
+    (c .before .before .before .before .before .before .put-number3 .ensures) (c .before .before .put-number4 .ensures)
 
 pub put-cell-spec : {M : Type 1} → statement M
 put-cell-spec =

@@ -22,13 +22,16 @@ add-out : tie.Need-add-out
 add-out c = search needs
 
 slice-write-out-2 : tie.Need-slice-write-out-2
-slice-write-out-2 c = let s = c .before .before .before .before .before .args in omega (arith, letter-length (s .out .now) (s .at) 77 (s .at + 1) (bytes 2 (s .cell)) (c .before .before .put-number .ensures))
+slice-write-out-2 c = let s = c .before .before .before .before .before .args in
+    omega (arith, letter-length (s .out .now) (s .at) 77 (s .at + 1) (bytes 2 (s .cell)) (c .before .before .put-number .ensures))
 
 same-length : tie.Need-same-length
-same-length c = let s = c .before .before .before .before .before .args in simp length-set (letter-length (s .out .now) (s .at) 77 (s .at + 1) (bytes 2 (s .cell)) (c .before .before .put-number .ensures))
+same-length c = let s = c .before .before .before .before .before .args in
+    simp length-set (letter-length (s .out .now) (s .at) 77 (s .at + 1) (bytes 2 (s .cell)) (c .before .before .put-number .ensures))
 
 returns : tie.Need-returns
-returns c = let s = c .before .before .before .before .before .args in mark-stores (s .out .now) (s .at) (s .cell) (s .mark) (c .before .before .put-number .ensures)
+returns c = let s = c .before .before .before .before .before .args in
+    mark-stores (s .out .now) (s .at) (s .cell) (s .mark) (c .before .before .put-number .ensures)
 
 pub put-mark-spec : {M : Type 1} → statement M
 put-mark-spec =

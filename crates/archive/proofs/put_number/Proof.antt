@@ -31,7 +31,8 @@ same-length : tie.Need-same-length
 same-length c = search needs
 
 returns : tie.Need-returns
-returns c = rw (add-one (c .args .at)) (ap (λ (v : List ℕ). sets (c .args .out .now) (c .args .at) v) (two-bytes (c .args .x) (omega arith)))
+returns c = rw (add-one (c .args .at))
+    (ap (λ (v : List ℕ). sets (c .args .out .now) (c .args .at) v) (two-bytes (c .args .x) (omega arith)))
 
 pub put-number-spec : {M : Type 1} → statement M
 put-number-spec =

@@ -30,7 +30,10 @@ same-length c = search needs
 
 returns : tie.Need-returns
 unfolding bytes
-returns c = let s = c .before .before .before .before .before .before .before .before .before .args in c .before .before .put-number2 .ensures ∙ then-sets (s .out .now) (s .at) (bytes 2 (s .x % 65536)) (bytes 2 (s .x / 65536)) (c .before .before .before .before .before .before .put-number .ensures) refl ∙ ap (λ (v : List ℕ). sets (s .out .now) (s .at) v) (wide-bytes (s .x))
+returns c = let s = c .before .before .before .before .before .before .before .before .before .args in
+    c .before .before .put-number2 .ensures ∙ then-sets (s .out .now) (s .at) (bytes 2 (s .x % 65536)) (bytes 2 (s .x / 65536))
+    (c .before .before .before .before .before .before .put-number .ensures) refl ∙ ap (λ (v : List ℕ). sets (s .out .now) (s .at) v)
+    (wide-bytes (s .x))
 
 pub put-wide-spec : {M : Type 1} → statement M
 put-wide-spec =

@@ -1,4 +1,5 @@
--- `archive::store_cells` meets its contract: the records of the cells passed stand behind the place. The measure is the number of cells left.
+-- `archive::store_cells` meets its contract: the records of the cells passed stand behind the place. The measure is the number of cells
+-- left.
 -- Assumes nothing.
 use Prim.Native.Nat.{_-_}
 use native.Mathlib.Omega.{arith}
@@ -68,7 +69,14 @@ shared-slice-read-put-cell-4 : tie.Need-shared-slice-read-put-cell-4 Inv-loop μ
 shared-slice-read-put-cell-4 c = search needs
 
 put-cell-requires : tie.Need-put-cell-requires Inv-loop μ-loop
-put-cell-requires c κs = let s = c .before .before .before .before .before .before .before .before .before .args in omega (arith, c .before .before .before .before .before .loop-test .taken, cells-length (s .cells .now) (s .from) (s .out .now) (c .before .before .before .before .before .before .loop .inv), c .before .before .before .before .before .before .before .before .before .pre)
+put-cell-requires c κs = let s = c .before .before .before .before .before .before .before .before .before .args in
+    omega (
+      arith,
+      c .before .before .before .before .before .loop-test .taken,
+      cells-length (s .cells .now) (s .from) (s .out .now)
+          (c .before .before .before .before .before .before .loop .inv),
+      c .before .before .before .before .before .before .before .before .before .pre,
+    )
 
 add-i : tie.Need-add-i Inv-loop μ-loop
 add-i c = search needs
@@ -77,13 +85,20 @@ loop-less : tie.Need-loop-less Inv-loop μ-loop
 loop-less c = search needs
 
 loop-again : tie.Need-loop-again Inv-loop μ-loop
-loop-again c = let s = c .before .before .before .before .before .before .before .before .before .before .before .before .args in cells-turn (s .cells .now) (s .from) (s .out .now) (c .before .before .before .before .before .before .before .before .before .loop .inv) (omega (arith, c .before .before .before .before .before .before .before .before .loop-test .taken)) (c .before .before .put-cell .ensures)
+loop-again c = let s = c .before .before .before .before .before .before .before .before .before .before .before .before .args in
+    cells-turn (s .cells .now) (s .from) (s .out .now)
+    (c .before .before .before .before .before .before .before .before .before .loop .inv)
+    (omega (arith, c .before .before .before .before .before .before .before .before .loop-test .taken))
+    (c .before .before .put-cell .ensures)
 
 same-length : tie.Need-same-length Inv-loop μ-loop
-same-length c = let s = c .before .before .before .before .args in cells-length (s .cells .now) (s .from) (s .out .now) (c .before .loop .inv)
+same-length c = let s = c .before .before .before .before .args in
+    cells-length (s .cells .now) (s .from) (s .out .now) (c .before .loop .inv)
 
 returns : tie.Need-returns Inv-loop μ-loop
-returns c = let s = c .before .before .before .before .args in cells-all (s .cells .now) (s .from) (s .out .now) (c .before .loop .inv) (omega (arith, c .loop-test .left, c .before .before .before .before .pre))
+returns c = let s = c .before .before .before .before .args in
+    cells-all (s .cells .now) (s .from) (s .out .now) (c .before .loop .inv)
+    (omega (arith, c .loop-test .left, c .before .before .before .before .pre))
 
 pub store-cells-spec : {M : Type 1} → statement M
 store-cells-spec =

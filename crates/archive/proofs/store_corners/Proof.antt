@@ -54,7 +54,14 @@ shared-slice-copy-out-put-corner-3 : tie.Need-shared-slice-copy-out-put-corner-3
 shared-slice-copy-out-put-corner-3 c = search needs
 
 put-corner-requires : tie.Need-put-corner-requires Inv-loop μ-loop
-put-corner-requires c κs = let s = c .before .before .before .before .before .before .before .args in omega (arith, c .before .before .before .before .loop-test .taken, corners-length (s .positions .now) (s .out .now) (c .before .before .before .before .before .loop .inv), c .before .before .before .before .before .before .before .pre)
+put-corner-requires c κs = let s = c .before .before .before .before .before .before .before .args in
+    omega (
+      arith,
+      c .before .before .before .before .loop-test .taken,
+      corners-length (s .positions .now) (s .out .now)
+          (c .before .before .before .before .before .loop .inv),
+      c .before .before .before .before .before .before .before .pre,
+    )
 
 add-i : tie.Need-add-i Inv-loop μ-loop
 add-i c = search needs
@@ -63,13 +70,19 @@ loop-less : tie.Need-loop-less Inv-loop μ-loop
 loop-less c = search needs
 
 loop-again : tie.Need-loop-again Inv-loop μ-loop
-loop-again c = let s = c .before .before .before .before .before .before .before .before .before .before .args in corners-turn (s .positions .now) (s .out .now) (c .before .before .before .before .before .before .before .before .loop .inv) _ _ _ (omega (arith, c .before .before .before .before .before .before .before .loop-test .taken)) (toZ-ofZ (record { sfits = c .before .before .before .before .before .put-corner-arg2 .given })) (toZ-ofZ (record { sfits = c .before .before .before .before .put-corner-arg3 .given })) (toZ-ofZ (record { sfits = c .before .before .before .put-corner-arg4 .given })) (c .before .before .put-corner .ensures)
+loop-again c = let s = c .before .before .before .before .before .before .before .before .before .before .args in
+    corners-turn (s .positions .now) (s .out .now) (c .before .before .before .before .before .before .before .before .loop .inv) _ _ _
+    (omega (arith, c .before .before .before .before .before .before .before .loop-test .taken))
+    (toZ-ofZ (record { sfits = c .before .before .before .before .before .put-corner-arg2 .given }))
+    (toZ-ofZ (record { sfits = c .before .before .before .before .put-corner-arg3 .given }))
+    (toZ-ofZ (record { sfits = c .before .before .before .put-corner-arg4 .given })) (c .before .before .put-corner .ensures)
 
 same-length : tie.Need-same-length Inv-loop μ-loop
 same-length c = let s = c .before .before .before .args in corners-length (s .positions .now) (s .out .now) (c .before .loop .inv)
 
 returns : tie.Need-returns Inv-loop μ-loop
-returns c = let s = c .before .before .before .args in corners-all (s .positions .now) (s .out .now) (c .before .loop .inv) (omega (arith, c .loop-test .left, c .before .before .before .pre))
+returns c = let s = c .before .before .before .args in
+    corners-all (s .positions .now) (s .out .now) (c .before .loop .inv) (omega (arith, c .loop-test .left, c .before .before .before .pre))
 
 pub store-corners-spec : {M : Type 1} → statement M
 store-corners-spec =

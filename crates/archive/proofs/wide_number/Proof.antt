@@ -27,7 +27,8 @@ add-result : tie.Need-add-result
 add-result c = search needs
 
 returns : tie.Need-returns
-returns c = let s = c .before .before .before .args in rw (c .before .number .ensures .0, c .number2 .ensures .0) (whole-four (s .bytes .now) (s .at) (c .before .before .before .pre))
+returns c = let s = c .before .before .before .args in
+    rw (c .before .number .ensures .0, c .number2 .ensures .0) (whole-four (s .bytes .now) (s .at) (c .before .before .before .pre))
 
 pub wide-number-spec : {M : Type 1} → statement M
 wide-number-spec =

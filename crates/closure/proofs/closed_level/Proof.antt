@@ -15,7 +15,8 @@ use Rattle.closure.proofs.closed_level.Tie as tie
 
 abbrev Inv-loop : tie.InvT-loop
 Inv-loop cells status first last xs ys heads links from n c₀ c = (first ≤ c) × (c ≤ last)
-    × (listedClosed (listed xs ys from n) (cellsAt cells c (last - c)) (part status c (last - c)) ≡ listedClosed (listed xs ys from n) (cellsAt cells first (last - first)) (part status first (last - first)))
+    × (listedClosed (listed xs ys from n) (cellsAt cells c (last - c)) (part status c (last - c)) ≡ listedClosed (listed xs ys from n)
+    (cellsAt cells first (last - first)) (part status first (last - first)))
 
 abbrev μ-loop : tie.MeasureT-loop
 μ-loop cells status first last xs ys heads links from n c₀ c = last - c
@@ -33,9 +34,12 @@ returns : tie.Need-returns Inv-loop μ-loop
 returns c =
     let a = c .before .before .before .before .before .before .before .before .before .before .before .args in
     let l = c .before .before .before .before .loop in
-    let no : getD (a .status .now) (l .c) 0 ≡ listedStatus (listed (a .xs .now) (a .ys .now) (a .from) (a .n)) (redb (getD (a .status .now) (l .c) 0)) (cellAt (a .cells .now) (l .c)) → ⊥ =
+    let no : getD (a .status .now) (l .c) 0 ≡ listedStatus (listed (a .xs .now) (a .ys .now) (a .from) (a .n))
+    (redb (getD (a .status .now) (l .c) 0)) (cellAt (a .cells .now) (l .c)) → ⊥ =
     λ e. c .if1 .taken (e ∙ sym (c .before .status-of .ensures)) in
-    sym (sym (l .inv .2) ∙ closed-not (listed (a .xs .now) (a .ys .now) (a .from) (a .n)) (a .cells .now) (a .status .now) (l .c) (a .last) (c .before .before .before .loop-test .taken) (c .before .before .before .before .before .before .before .before .before .before .before .pre .0 .inside) no)
+    sym (sym (l .inv .2) ∙ closed-not (listed (a .xs .now) (a .ys .now) (a .from) (a .n)) (a .cells .now) (a .status .now) (l .c) (a .last)
+    (c .before .before .before .loop-test .taken)
+    (c .before .before .before .before .before .before .before .before .before .before .before .pre .0 .inside) no)
 
 add-c : tie.Need-add-c Inv-loop μ-loop
 add-c c = search needs
@@ -50,7 +54,9 @@ loop-again c =
     let same : getD (a .status .now) (l .c) 0 ≡ c .before .status-of .result = omega (arith, c .if1 .left) in (
       omega (arith, l .inv .0),
       omega (arith, c .before .before .before .loop-test .taken),
-      sym (closed-next (listed (a .xs .now) (a .ys .now) (a .from) (a .n)) (a .cells .now) (a .status .now) (l .c) (a .last) (c .before .before .before .loop-test .taken) (c .before .before .before .before .before .before .before .before .before .before .before .pre .0 .inside)
+      sym (closed-next (listed (a .xs .now) (a .ys .now) (a .from) (a .n)) (a .cells .now) (a .status .now) (l .c) (a .last)
+          (c .before .before .before .loop-test .taken)
+          (c .before .before .before .before .before .before .before .before .before .before .before .pre .0 .inside)
           (same ∙ c .before .status-of .ensures)) ∙ l .inv .2,
     )
 

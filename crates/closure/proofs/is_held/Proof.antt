@@ -17,7 +17,8 @@ holds-requires c κs = search needs
 returns : tie.Need-returns
 returns c =
     let a = c .before .before .before .before .before .before .before .args in
-    c .holds .ensures ∙ ap (λ (p : Pair). hasb isb (listed (a .xs .now) (a .ys .now) (a .from) (a .n)) (sorted p)) (c .before .edge-of .ensures)
+    c .holds .ensures ∙ ap (λ (p : Pair). hasb isb (listed (a .xs .now) (a .ys .now) (a .from) (a .n)) (sorted p))
+    (c .before .edge-of .ensures)
 
 pub is-held-spec : {M : Type 1} → statement M
 is-held-spec = tie.close (tie.spec edge-of-requires holds-requires returns)

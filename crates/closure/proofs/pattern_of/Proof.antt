@@ -24,10 +24,17 @@ few : (c : tie.After-bit Inv-loop μ-loop) → c .before .before .before .loop .
 few c =
     let a = c .before .before .before .before .before .before .before .before .before .args in
     let l = c .before .before .before .loop in
-    small-bits (listed (a .xs .now) (a .ys .now) (a .from) (a .n)) (cellAt (a .cells .now) (a .c)) (l .p) (l .e) (c .before .before .loop-test .taken) (l .inv .0) (l .inv .1)
+    small-bits (listed (a .xs .now) (a .ys .now) (a .from) (a .n)) (cellAt (a .cells .now) (a .c)) (l .p) (l .e)
+    (c .before .before .loop-test .taken) (l .inv .0) (l .inv .1)
 
 loop-holds : tie.Need-loop-holds Inv-loop μ-loop
-loop-holds c = (omega arith, sym (no-bits (listed (c .before .before .before .before .before .args .xs .now) (c .before .before .before .before .before .args .ys .now) (c .before .before .before .before .before .args .from) (c .before .before .before .before .before .args .n)) (cellAt (c .before .before .before .before .before .args .cells .now) (c .before .before .before .before .before .args .c))))
+loop-holds c = (
+  omega arith,
+  sym
+      (no-bits (listed (c .before .before .before .before .before .args .xs .now) (c .before .before .before .before .before .args .ys .now)
+      (c .before .before .before .before .before .args .from) (c .before .before .before .before .before .args .n))
+      (cellAt (c .before .before .before .before .before .args .cells .now) (c .before .before .before .before .before .args .c))),
+)
 
 sub-e : tie.Need-sub-e Inv-loop μ-loop
 sub-e c = search needs
@@ -52,7 +59,8 @@ loop-again c =
     let a = c .before .before .before .before .before .before .before .before .before .args in
     let l = c .before .before .before .loop in (
       omega (arith, l .inv .0),
-      bit-turn (listed (a .xs .now) (a .ys .now) (a .from) (a .n)) (cellAt (a .cells .now) (a .c)) (l .p) (l .e) (c .before .before .loop-test .taken) (l .inv .0) (l .inv .1)
+      bit-turn (listed (a .xs .now) (a .ys .now) (a .from) (a .n)) (cellAt (a .cells .now) (a .c)) (l .p) (l .e)
+          (c .before .before .loop-test .taken) (l .inv .0) (l .inv .1)
           (c .bit .result) (c .bit .ensures .0 ∙ ap one-if (c .before .is-held .ensures)),
     )
 

@@ -17,14 +17,16 @@ returns : tie.Need-returns
 returns c =
     let a = c .before .before .before .before .before .before .args in
     rw (red-not (a .status) (cellAt (a .cells .now) (a .c)) (c .if1 .taken))
-    (grown-none (a .xs .now) (a .ys .now) (a .heads .now) (a .links .now) (a .from) (a .n) (c .before .before .before .before .before .before .pre .table))
+    (grown-none (a .xs .now) (a .ys .now) (a .heads .now) (a .links .now) (a .from) (a .n)
+    (c .before .before .before .before .before .before .pre .table))
 
 red-edges-requires : tie.Need-red-edges-requires
 red-edges-requires c κs =
     let a = c .before .before .before .before .before .before .before .before .before .before .args in
     let d = cellAt (a .cells .now) (a .c) in
     let p = c .before .before .before .before .before .before .before .before .before .before .pre in
-    let e : length (redOf (a .status) d) ≡ 6 = ap (λ (l : List Pair). length l) (red-is (a .status) d (omega (arith, c .before .before .before .before .if1 .left))) ∙ six d in
+    let e : length (redOf (a .status) d) ≡ 6 = ap (λ (l : List Pair). length l)
+    (red-is (a .status) d (omega (arith, c .before .before .before .before .if1 .left))) ∙ six d in
     rw e at p
 
 same-length : tie.Need-same-length
@@ -41,8 +43,14 @@ same-length-4 c = search needs
 
 returns-2 : tie.Need-returns-2
 returns-2 c =
-    let a = c .before .before .before .before .before .before .before .before .before .before .before .before .before .before .before .before .before .before .before .args in
-    rw (red-is (a .status) (cellAt (a .cells .now) (a .c)) (omega (arith, c .before .before .before .before .before .before .before .before .before .before .before .before .before .if1 .left))) (c .before .before .before .before .before .before .before .before .red-edges .ensures)
+    let
+    a =
+    c .before .before .before .before .before .before .before .before .before .before .before .before .before .before .before .before
+    .before .before .before .args in
+    rw (red-is (a .status) (cellAt (a .cells .now) (a .c))
+    (omega
+    (arith, c .before .before .before .before .before .before .before .before .before .before .before .before .before .if1 .left)))
+    (c .before .before .before .before .before .before .before .before .red-edges .ensures)
 
 pub red-cell-spec : {M : Type 1} → statement M
 red-cell-spec =

@@ -14,13 +14,20 @@ use Rattle.closure.proofs.red_edges.Statement.{statement}
 use Rattle.closure.proofs.red_edges.Tie as tie
 
 abbrev Inv-loop : tie.InvT-loop
-Inv-loop cells c xs₀ ys₀ heads₀ links₀ from n m₀ e₀ xs ys heads links m e = (e ≤ 6) × Run xs₀ ys₀ heads₀ links₀ from n (take e (edges 0 (cellAt cells c))) xs ys heads links m
+Inv-loop cells c xs₀ ys₀ heads₀ links₀ from n m₀ e₀ xs ys heads links m e = (e ≤ 6) × Run xs₀ ys₀ heads₀ links₀ from n
+    (take e (edges 0 (cellAt cells c))) xs ys heads links m
 
 abbrev μ-loop : tie.MeasureT-loop
 μ-loop cells c xs₀ ys₀ heads₀ links₀ from n m₀ e₀ xs ys heads links m e = 6 - e
 
 loop-holds : tie.Need-loop-holds Inv-loop μ-loop
-loop-holds c = (omega arith, run-start (c .before .before .before .before .before .args .xs .now) (c .before .before .before .before .before .args .ys .now) (c .before .before .before .before .before .args .heads .now) (c .before .before .before .before .before .args .links .now) (c .before .before .before .before .before .args .from) (c .before .before .before .before .before .args .n) (c .before .before .before .before .before .pre .table))
+loop-holds c = (
+  omega arith,
+  run-start (c .before .before .before .before .before .args .xs .now)
+      (c .before .before .before .before .before .args .ys .now) (c .before .before .before .before .before .args .heads .now)
+      (c .before .before .before .before .before .args .links .now) (c .before .before .before .before .before .args .from)
+      (c .before .before .before .before .before .args .n) (c .before .before .before .before .before .pre .table),
+)
 
 edge-of-requires : tie.Need-edge-of-requires Inv-loop μ-loop
 edge-of-requires c κs = search needs
@@ -31,8 +38,10 @@ insert-requires c κs =
     let a = c .before .before .before .before .before .before .before .before .before .before .before .before .args in
     let es = take (l .e) (edges 0 (cellAt (a .cells .now) (a .c))) in (
       l .inv .1 .grown .edges,
-      room-left (a .xs .now) (a .ys .now) (a .heads .now) (a .links .now) (a .from) (a .n) es (l .xs) (l .ys) (l .heads) (l .links) (l .m) (l .inv .1) 6
-          (c .before .before .before .before .before .before .before .before .before .before .before .before .pre .space) (omega (arith, length-edges (cellAt (a .cells .now) (a .c)) (l .e) (omega arith))),
+      room-left (a .xs .now) (a .ys .now) (a .heads .now) (a .links .now) (a .from) (a .n) es (l .xs) (l .ys) (l .heads) (l .links) (l .m)
+          (l .inv .1) 6
+          (c .before .before .before .before .before .before .before .before .before .before .before .before .pre .space)
+          (omega (arith, length-edges (cellAt (a .cells .now) (a .c)) (l .e) (omega arith))),
     )
 
 add-e : tie.Need-add-e Inv-loop μ-loop
@@ -43,15 +52,30 @@ loop-less c = search needs
 
 loop-again : tie.Need-loop-again Inv-loop μ-loop
 loop-again c =
-    let l = c .before .before .before .before .before .before .before .before .before .before .before .before .before .before .before .loop in
-    let a = c .before .before .before .before .before .before .before .before .before .before .before .before .before .before .before .before .before .before .before .before .before .args in
+    let l = c .before .before .before .before .before .before .before .before .before .before .before .before .before .before .before .loop
+    in
+    let
+    a =
+    c .before .before .before .before .before .before .before .before .before .before .before .before .before .before .before .before
+    .before .before .before .before .before .args in
     let i = c .before .before .before .before .before .before .before .before .insert in
     let d = cellAt (a .cells .now) (a .c) in (
       search needs,
-      rw (add-one, next-edge d (l .e) (c .before .before .before .before .before .before .before .before .before .before .before .before .before .before .loop-test .taken), ← c .before .before .before .before .before .before .before .before .before .before .before .before .before .edge-of .ensures)
-          (run-one (a .xs .now) (a .ys .now) (a .heads .now) (a .links .now) (a .from) (a .n) (take (l .e) (edges 0 d)) (l .xs) (l .ys) (l .heads) (l .links) (l .m) (l .inv .1)
-          (i .last .0) (i .last .1 .0) (i .last .1 .1 .0) (i .last .1 .1 .1 .0) (i .result .n) (i .kept .0) (i .kept .1 .0) (i .kept .1 .1 .0) (i .kept .1 .1 .1 .0)
-          (c .before .before .before .before .before .before .before .before .before .before .before .before .before .edge-of .result .a, c .before .before .before .before .before .before .before .before .before .before .before .before .before .edge-of .result .b) (i .result .at) (i .ensures)),
+      rw (
+        add-one,
+        next-edge d (l .e)
+            (c .before .before .before .before .before .before .before .before .before .before .before .before .before .before .loop-test
+            .taken),
+        ← c .before .before .before .before .before .before .before .before .before .before .before .before .before .edge-of .ensures,
+      )
+          (run-one (a .xs .now) (a .ys .now) (a .heads .now) (a .links .now) (a .from) (a .n) (take (l .e) (edges 0 d)) (l .xs) (l .ys)
+          (l .heads) (l .links) (l .m) (l .inv .1)
+          (i .last .0) (i .last .1 .0) (i .last .1 .1 .0) (i .last .1 .1 .1 .0) (i .result .n) (i .kept .0) (i .kept .1 .0)
+          (i .kept .1 .1 .0) (i .kept .1 .1 .1 .0) (
+            c .before .before .before .before .before .before .before .before .before .before .before .before .before .edge-of .result .a,
+            c .before .before .before .before .before .before .before .before .before .before .before .before .before .edge-of .result .b,
+          )
+          (i .result .at) (i .ensures)),
     )
 
 same-length : tie.Need-same-length Inv-loop μ-loop

@@ -1,4 +1,5 @@
--- `closure::red_level` meets its contract: a turn inserts the edges of the next cell, if it is red. The measure is what is left of the range.
+-- `closure::red_level` meets its contract: a turn inserts the edges of the next cell, if it is red. The measure is what is left of the
+-- range.
 -- Assumes nothing.
 use mathlib.Core.Path.{_≡_}
 use Prim.Native.Nat.{_*_, _-_, _≤_, _<_}
@@ -13,7 +14,8 @@ use Rattle.closure.proofs.red_level.Statement.{statement}
 use Rattle.closure.proofs.red_level.Tie as tie
 
 abbrev Inv-loop : tie.InvT-loop
-Inv-loop cells status first last xs₀ ys₀ heads₀ links₀ from n m₀ c₀ xs ys heads links m c = (first ≤ c) × (c ≤ last) × Run xs₀ ys₀ heads₀ links₀ from n (redEdges 0 (cellsAt cells first (c - first)) (part status first (c - first))) xs ys heads links m
+Inv-loop cells status first last xs₀ ys₀ heads₀ links₀ from n m₀ c₀ xs ys heads links m c = (first ≤ c) × (c ≤ last) × Run xs₀ ys₀ heads₀
+    links₀ from n (redEdges 0 (cellsAt cells first (c - first)) (part status first (c - first))) xs ys heads links m
 
 abbrev μ-loop : tie.MeasureT-loop
 μ-loop cells status first last xs₀ ys₀ heads₀ links₀ from n m₀ c₀ xs ys heads links m c = last - c
@@ -23,7 +25,9 @@ loop-holds c =
     let a = c .before .before .before .before .before .before .args in (
       omega arith,
       c .before .before .before .before .before .before .pre .0 .up,
-      rw (none-yet (a .cells .now) (a .status .now) (a .first)) (run-start (a .xs .now) (a .ys .now) (a .heads .now) (a .links .now) (a .from) (a .n) (c .before .before .before .before .before .before .pre .1 .table)),
+      rw (none-yet (a .cells .now) (a .status .now) (a .first))
+          (run-start (a .xs .now) (a .ys .now) (a .heads .now) (a .links .now) (a .from) (a .n)
+          (c .before .before .before .before .before .before .pre .1 .table)),
     )
 
 shared-slice-read-s : tie.Need-shared-slice-read-s Inv-loop μ-loop
@@ -38,9 +42,12 @@ red-cell-requires c κs =
     record {
       rows = omega (arith, p .1 .rows, c .before .before .before .before .before .loop-test .taken);
       table = l .inv .2 .grown .edges;
-      space = space-left (a .xs .now) (a .ys .now) (a .heads .now) (a .links .now) (a .from) (a .n) es (l .xs) (l .ys) (l .heads) (l .links) (l .m) (l .inv .2)
-          (length (redOf (getD (a .status .now) (l .c) 0) (cellAt (a .cells .now) (l .c)))) (6 * redCount (part (a .status .now) (a .first) (a .last - a .first))) (p .1 .space)
-          (reds-fit (a .cells .now) (a .status .now) (a .first) (l .c) (l .inv .0) (a .last) (c .before .before .before .before .before .loop-test .taken) (p .0 .inside));
+      space = space-left (a .xs .now) (a .ys .now) (a .heads .now) (a .links .now) (a .from) (a .n) es (l .xs) (l .ys) (l .heads) (l .links)
+          (l .m) (l .inv .2)
+          (length (redOf (getD (a .status .now) (l .c) 0) (cellAt (a .cells .now) (l .c))))
+          (6 * redCount (part (a .status .now) (a .first) (a .last - a .first))) (p .1 .space)
+          (reds-fit (a .cells .now) (a .status .now) (a .first) (l .c) (l .inv .0) (a .last)
+          (c .before .before .before .before .before .loop-test .taken) (p .0 .inside));
     }
 
 add-c : tie.Need-add-c Inv-loop μ-loop
@@ -51,16 +58,30 @@ loop-less c = search needs
 
 loop-again : tie.Need-loop-again Inv-loop μ-loop
 loop-again c =
-    let l = c .before .before .before .before .before .before .before .before .before .before .before .before .before .before .before .loop in
-    let a = c .before .before .before .before .before .before .before .before .before .before .before .before .before .before .before .before .before .before .before .before .before .before .args in
+    let l = c .before .before .before .before .before .before .before .before .before .before .before .before .before .before .before .loop
+    in
+    let
+    a =
+    c .before .before .before .before .before .before .before .before .before .before .before .before .before .before .before .before
+    .before .before .before .before .before .before .args in
     let i = c .before .before .before .before .before .before .before .before .red-cell in
     let es = redEdges 0 (cellsAt (a .cells .now) (a .first) (l .c - a .first)) (part (a .status .now) (a .first) (l .c - a .first)) in
-    let h : l .c < length (a .status .now) = omega (arith, c .before .before .before .before .before .before .before .before .before .before .before .before .before .before .loop-test .taken, c .before .before .before .before .before .before .before .before .before .before .before .before .before .before .before .before .before .before .before .before .before .before .pre .0 .inside) in (
+    let h : l .c < length (a .status .now) = omega (
+      arith,
+      c .before .before .before .before .before .before .before .before .before .before .before .before .before .before .loop-test .taken,
+      c .before .before .before .before .before .before .before .before .before .before .before .before .before .before .before .before
+          .before .before .before .before .before .before .pre .0 .inside,
+    ) in (
       omega (arith, l .inv .0),
-      omega (arith, c .before .before .before .before .before .before .before .before .before .before .before .before .before .before .loop-test .taken),
+      omega (
+        arith,
+        c .before .before .before .before .before .before .before .before .before .before .before .before .before .before .loop-test .taken,
+      ),
       rw (reds-step (a .cells .now) (a .status .now) (a .first) (l .c) (l .inv .0) h)
-          (run-more (a .xs .now) (a .ys .now) (a .heads .now) (a .links .now) (a .from) (a .n) es (l .xs) (l .ys) (l .heads) (l .links) (l .m) (l .inv .2)
-          (i .last .1 .1 .1 .0) (i .last .1 .1 .1 .1 .0) (i .last .1 .1 .1 .1 .1 .0) (i .last .1 .1 .1 .1 .1 .1 .0) (i .result) (i .kept .1 .1 .1 .0) (i .kept .1 .1 .1 .1 .0) (i .kept .1 .1 .1 .1 .1 .0) (i .kept .1 .1 .1 .1 .1 .1 .0)
+          (run-more (a .xs .now) (a .ys .now) (a .heads .now) (a .links .now) (a .from) (a .n) es (l .xs) (l .ys) (l .heads) (l .links)
+          (l .m) (l .inv .2)
+          (i .last .1 .1 .1 .0) (i .last .1 .1 .1 .1 .0) (i .last .1 .1 .1 .1 .1 .0) (i .last .1 .1 .1 .1 .1 .1 .0) (i .result)
+          (i .kept .1 .1 .1 .0) (i .kept .1 .1 .1 .1 .0) (i .kept .1 .1 .1 .1 .1 .0) (i .kept .1 .1 .1 .1 .1 .1 .0)
           (redOf (getD (a .status .now) (l .c) 0) (cellAt (a .cells .now) (l .c))) (i .ensures)),
     )
 

@@ -15,12 +15,14 @@ is-regular-requires c κs = search needs
 returns : tie.Need-returns
 returns c =
     let a = c .before .before .before .before .before .before .before .args in
-    sym (status-irregular (listed (a .xs .now) (a .ys .now) (a .from) (a .n)) (a .red) (cellAt (a .cells .now) (a .c)) (sym (c .before .is-regular .ensures) ∙ not-true _ (c .if1 .taken)))
+    sym (status-irregular (listed (a .xs .now) (a .ys .now) (a .from) (a .n)) (a .red) (cellAt (a .cells .now) (a .c))
+    (sym (c .before .is-regular .ensures) ∙ not-true _ (c .if1 .taken)))
 
 returns-2 : tie.Need-returns-2
 returns-2 c =
     let a = c .before .before .before .before .before .before .before .before .args in
-    sym (listed-red (listed (a .xs .now) (a .ys .now) (a .from) (a .n)) (a .red) (cellAt (a .cells .now) (a .c)) (sym (c .before .before .is-regular .ensures) ∙ not-false _ (c .before .if1 .left)) (c .if2 .taken))
+    sym (listed-red (listed (a .xs .now) (a .ys .now) (a .from) (a .n)) (a .red) (cellAt (a .cells .now) (a .c))
+    (sym (c .before .before .is-regular .ensures) ∙ not-false _ (c .before .if1 .left)) (c .if2 .taken))
 
 pattern-of-requires : tie.Need-pattern-of-requires
 pattern-of-requires c κs = search needs
@@ -29,7 +31,8 @@ returns-3 : tie.Need-returns-3
 returns-3 c =
     let a = c .before .before .before .before .before .before .before .before .before .args in
     c .pattern-of .ensures
-    ∙ sym (status-pattern (listed (a .xs .now) (a .ys .now) (a .from) (a .n)) (a .red) (cellAt (a .cells .now) (a .c)) (sym (c .before .before .before .is-regular .ensures) ∙ not-false _ (c .before .before .if1 .left)) (c .before .if2 .left))
+    ∙ sym (status-pattern (listed (a .xs .now) (a .ys .now) (a .from) (a .n)) (a .red) (cellAt (a .cells .now) (a .c))
+    (sym (c .before .before .before .is-regular .ensures) ∙ not-false _ (c .before .before .if1 .left)) (c .before .if2 .left))
 
 pub status-of-spec : {M : Type 1} → statement M
 status-of-spec =

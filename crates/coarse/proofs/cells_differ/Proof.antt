@@ -14,7 +14,8 @@ use Rattle.coarse.proofs.cells_differ.Statement.{statement}
 use Rattle.coarse.proofs.cells_differ.Tie as tie
 
 abbrev Inv-loop : tie.InvT-loop
-Inv-loop cells xs₀ ys₀ heads₀ links₀ counts₀ n₀ k₀ k-end xs ys heads links counts n k = (k ≤ k-end) × (k-end ≡ length cells / 4) × Sofar high lowCell 1 (fours cells) xs ys heads links counts n k
+Inv-loop cells xs₀ ys₀ heads₀ links₀ counts₀ n₀ k₀ k-end xs ys heads links counts n k = (k ≤ k-end) × (k-end ≡ length cells / 4) × Sofar
+    high lowCell 1 (fours cells) xs ys heads links counts n k
 
 abbrev μ-loop : tie.MeasureT-loop
 μ-loop cells xs₀ ys₀ heads₀ links₀ counts₀ n₀ k₀ k-end xs ys heads links counts n k = k-end - k
@@ -61,7 +62,8 @@ returns c =
     let p = a .before .before .before .before .before .before in
     let q = p .before .before in
     let l = top q in
-    cells-over (entry l .pre) (l .loop .inv .2) (q .before .loop-test .taken) (q .cell-at .ensures) (p .before .pair .ensures) (p .pair2 .ensures) (a .tally .ensures) (omega (arith, c .if1 .taken))
+    cells-over (entry l .pre) (l .loop .inv .2) (q .before .loop-test .taken) (q .cell-at .ensures) (p .before .pair .ensures)
+    (p .pair2 .ensures) (a .tally .ensures) (omega (arith, c .if1 .taken))
 
 add-k : tie.Need-add-k Inv-loop μ-loop
 add-k c = search needs
@@ -75,8 +77,12 @@ loop-again c =
     let a = c .before .before in
     let p = a .before .before .before .before .before .before in
     let q = p .before .before in
-    let l = top q in
-    (omega arith, l .loop .inv .1, cells-turn (entry l .pre) (l .loop .inv .2) (q .before .loop-test .taken) (q .cell-at .ensures) (p .before .pair .ensures) (p .pair2 .ensures) (a .tally .ensures) (omega (arith, c .if1 .left)))
+    let l = top q in (
+      omega arith,
+      l .loop .inv .1,
+      cells-turn (entry l .pre) (l .loop .inv .2) (q .before .loop-test .taken) (q .cell-at .ensures)
+          (p .before .pair .ensures) (p .pair2 .ensures) (a .tally .ensures) (omega (arith, c .if1 .left)),
+    )
 
 returns-2 : tie.Need-returns-2 Inv-loop μ-loop
 returns-2 c = cells-end (entry (c .before) .pre) (c .before .loop .inv .2) (omega arith)

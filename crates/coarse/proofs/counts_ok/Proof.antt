@@ -21,19 +21,39 @@ returns-4 : tie.Need-returns-4
 unfolding countsb
 returns-4 c =
     let b = c .before in
-    simp (eq-eqb _ _ (b .before .before .if1 .left), eq-eqb _ _ (b .before .if2 .left), le-leb _ _ (b .if3 .left), lt-leb _ _ (c .if4 .taken))
+    simp (
+      eq-eqb _ _ (b .before .before .if1 .left),
+      eq-eqb _ _ (b .before .if2 .left),
+      le-leb _ _ (b .if3 .left),
+      lt-leb _ _
+          (c .if4 .taken),
+    )
 
 returns-5 : tie.Need-returns-5
 unfolding countsb
 returns-5 c =
     let b = c .before .before in
-    simp (eq-eqb _ _ (b .before .before .if1 .left), eq-eqb _ _ (b .before .if2 .left), le-leb _ _ (b .if3 .left), le-leb _ _ (c .before .if4 .left), lt-leb _ _ (c .if5 .taken))
+    simp (
+      eq-eqb _ _ (b .before .before .if1 .left),
+      eq-eqb _ _ (b .before .if2 .left),
+      le-leb _ _ (b .if3 .left),
+      le-leb _ _
+          (c .before .if4 .left),
+      lt-leb _ _ (c .if5 .taken),
+    )
 
 returns-6 : tie.Need-returns-6
 unfolding countsb
 returns-6 c =
     let b = c .before .before in
-    simp (eq-eqb _ _ (b .before .before .if1 .left), eq-eqb _ _ (b .before .if2 .left), le-leb _ _ (b .if3 .left), le-leb _ _ (c .before .if4 .left), le-leb _ _ (c .if5 .left))
+    simp (
+      eq-eqb _ _ (b .before .before .if1 .left),
+      eq-eqb _ _ (b .before .if2 .left),
+      le-leb _ _ (b .if3 .left),
+      le-leb _ _
+          (c .before .if4 .left),
+      le-leb _ _ (c .if5 .left),
+    )
 
 pub counts-ok-spec : {M : Type 1} → statement M
 counts-ok-spec = tie.close (tie.spec returns returns-2 returns-3 returns-4 returns-5 returns-6)

@@ -16,10 +16,12 @@ counts c = passed (c .before .counts-ok .ensures) (c .if1 .left)
 positions : (c : tie.Else2) → positionsb (c .before .before .before .before .before .args .positions .now) ≡ true
 positions c = passed (c .before .positions-ok .ensures) (c .if2 .left)
 
-cells : (c : tie.Else3) → cellsb (cornerCount (c .before .before .before .before .before .before .before .args .positions .now)) (fours (c .before .before .before .before .before .before .before .args .cells .now)) ≡ true
+cells : (c : tie.Else3) → cellsb (cornerCount (c .before .before .before .before .before .before .before .args .positions .now))
+    (fours (c .before .before .before .before .before .before .before .args .cells .now)) ≡ true
 cells c = passed (c .before .cells-ok .ensures) (c .if3 .left)
 
-solids : (c : tie.Else4) → solidb (c .before .before .before .before .before .before .before .before .before .args .positions .now) (fours (c .before .before .before .before .before .before .before .before .before .args .cells .now)) ≡ true
+solids : (c : tie.Else4) → solidb (c .before .before .before .before .before .before .before .before .before .args .positions .now)
+    (fours (c .before .before .before .before .before .before .before .before .before .args .cells .now)) ≡ true
 solids c = passed (c .before .solid .ensures) (c .if4 .left)
 
 counts-ok-requires : tie.Need-counts-ok-requires
@@ -74,7 +76,8 @@ returns-5 c =
     let q = r .before .before in
     let p = q .before .before in
     let s = p .before .before .before .args in
-    answer-5 (s .positions .now) (s .cells .now) (counts p) (positions q) (cells r) (solids u) (failed (c .before .single .ensures) (c .if5 .taken))
+    answer-5 (s .positions .now) (s .cells .now) (counts p) (positions q) (cells r) (solids u)
+    (failed (c .before .single .ensures) (c .if5 .taken))
 
 returns-6 : tie.Need-returns-6
 returns-6 c =
@@ -83,7 +86,8 @@ returns-6 c =
     let q = r .before .before in
     let p = q .before .before in
     let s = p .before .before .before .args in
-    answer-0 (s .positions .now) (s .cells .now) (counts p) (positions q) (cells r) (solids u) (passed (c .before .single .ensures) (c .if5 .left))
+    answer-0 (s .positions .now) (s .cells .now) (counts p) (positions q) (cells r) (solids u)
+    (passed (c .before .single .ensures) (c .if5 .left))
 
 pub examine-mesh-spec : {M : Type 1} → statement M
 examine-mesh-spec =

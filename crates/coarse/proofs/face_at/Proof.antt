@@ -39,7 +39,8 @@ unfolding faces
 returns-4 c =
     let q = c .before .before .before in
     let s = entry q in
-    face-of (s .args .cells .now) (s .args .i) (s .pre) (q .cell-at .ensures) 3 (omega (arith, c .if3 .left, c .before .if2 .left, c .before .before .if1 .left))
+    face-of (s .args .cells .now) (s .args .i) (s .pre) (q .cell-at .ensures) 3
+    (omega (arith, c .if3 .left, c .before .if2 .left, c .before .before .if1 .left))
 
 pub face-at-spec : {M : Type 1} → statement M
 face-at-spec = tie.close (tie.spec cell-at-requires returns returns-2 returns-3 returns-4)

@@ -15,7 +15,8 @@ use Rattle.coarse.proofs.faces_ok.Statement.{statement}
 use Rattle.coarse.proofs.faces_ok.Tie as tie
 
 abbrev Inv-loop : tie.InvT-loop
-Inv-loop cells xs₀ ys₀ heads₀ links₀ counts₀ n₀ i₀ i-end xs ys heads links counts n i = (i ≤ i-end) × (i-end ≡ length cells) × Sofar high lowFace 2 (flatMap faces (fours cells)) xs ys heads links counts n i
+Inv-loop cells xs₀ ys₀ heads₀ links₀ counts₀ n₀ i₀ i-end xs ys heads links counts n i = (i ≤ i-end) × (i-end ≡ length cells) × Sofar high
+    lowFace 2 (flatMap faces (fours cells)) xs ys heads links counts n i
 
 abbrev μ-loop : tie.MeasureT-loop
 μ-loop cells xs₀ ys₀ heads₀ links₀ counts₀ n₀ i₀ i-end xs ys heads links counts n i = i-end - i
@@ -36,8 +37,12 @@ clear-requires c κs = search needs
 loop-holds : tie.Need-loop-holds Inv-loop μ-loop
 loop-holds c =
     let s = c .before .before .before .before in
-    let k = c .before .clear in
-    (omega arith, refl, meets-start high lowFace 2 (flatMap faces (fours (s .args .cells .now))) (fresh (k .last .0) (k .kept .0)) (k .ensures))
+    let k = c .before .clear in (
+      omega arith,
+      refl,
+      meets-start high lowFace 2 (flatMap faces (fours (s .args .cells .now))) (fresh (k .last .0) (k .kept .0))
+          (k .ensures),
+    )
 
 face-at-requires : tie.Need-face-at-requires Inv-loop μ-loop
 face-at-requires c κs = omega (arith, entry (c .before) .pre .whole, c .loop-test .taken)
@@ -62,7 +67,8 @@ returns c =
     let p = a .before .before .before .before .before .before .before in
     let q = p .before in
     let l = top q in
-    faces-over (entry l .pre) (l .loop .inv .2) (q .before .loop-test .taken) (q .face-at .ensures) (p .pair .ensures) refl (a .tally .ensures) (omega (arith, c .if1 .taken))
+    faces-over (entry l .pre) (l .loop .inv .2) (q .before .loop-test .taken) (q .face-at .ensures) (p .pair .ensures) refl
+    (a .tally .ensures) (omega (arith, c .if1 .taken))
 
 add-i : tie.Need-add-i Inv-loop μ-loop
 add-i c = search needs
@@ -76,8 +82,12 @@ loop-again c =
     let a = c .before .before in
     let p = a .before .before .before .before .before .before .before in
     let q = p .before in
-    let l = top q in
-    (omega arith, l .loop .inv .1, faces-turn (entry l .pre) (l .loop .inv .2) (q .before .loop-test .taken) (q .face-at .ensures) (p .pair .ensures) refl (a .tally .ensures) (omega (arith, c .if1 .left)))
+    let l = top q in (
+      omega arith,
+      l .loop .inv .1,
+      faces-turn (entry l .pre) (l .loop .inv .2) (q .before .loop-test .taken) (q .face-at .ensures)
+          (p .pair .ensures) refl (a .tally .ensures) (omega (arith, c .if1 .left)),
+    )
 
 returns-2 : tie.Need-returns-2 Inv-loop μ-loop
 returns-2 c = faces-end (entry (c .before) .pre) (c .before .loop .inv .2) (omega arith)

@@ -37,7 +37,8 @@ returns c =
     let p = c .before .before .before in
     let l = p .before .loop in
     scan-fails (l .inv .2) (pos 0) (omega arith)
-    (read-size (getD (p .before .before .args .positions .now) (l .i) (pos 0)) (c .before .before .within-arg .given) (c .before .within .ensures)) (c .if1 .taken)
+    (read-size (getD (p .before .before .args .positions .now) (l .i) (pos 0)) (c .before .before .within-arg .given)
+    (c .before .within .ensures)) (c .if1 .taken)
 
 add-i : tie.Need-add-i Inv-loop μ-loop
 add-i c = search needs
@@ -52,7 +53,8 @@ loop-again c =
       omega arith,
       omega arith,
       scan-turn (l .inv .2) (pos 0) (omega arith)
-          (read-size (getD (p .before .before .args .positions .now) (l .i) (pos 0)) (c .before .before .within-arg .given) (c .before .within .ensures)) (c .if1 .left),
+          (read-size (getD (p .before .before .args .positions .now) (l .i) (pos 0)) (c .before .before .within-arg .given)
+          (c .before .within .ensures)) (c .if1 .left),
     )
 
 returns-2 : tie.Need-returns-2 Inv-loop μ-loop

@@ -16,7 +16,8 @@ use Rattle.coarse.proofs.solid.Statement.{statement}
 use Rattle.coarse.proofs.solid.Tie as tie
 
 abbrev Inv-loop : tie.InvT-loop
-Inv-loop positions cells k₀ k-end k = (k ≤ k-end) × (k-end ≡ length cells / 4) × Left (λ q. not (zerob (determinant positions q))) (fours cells) k
+Inv-loop positions cells k₀ k-end k = (k ≤ k-end) × (k-end ≡ length cells / 4) × Left (λ q. not (zerob (determinant positions q)))
+    (fours cells) k
 
 abbrev μ-loop : tie.MeasureT-loop
 μ-loop positions cells k₀ k-end k = k-end - k
@@ -40,7 +41,8 @@ returns c =
     let p = c .before .before .before in
     let s = p .before .before .before .args in
     scan-fails (p .before .loop .inv .2) [] (in-fours (s .cells .now) (p .before .loop .k) (p .loop-test .taken))
-    (said (λ q. not (zerob (determinant (s .positions .now) q))) (c .before .solid-cell .ensures) (c .before .before .cell-at .ensures)) (c .if1 .taken)
+    (said (λ q. not (zerob (determinant (s .positions .now) q))) (c .before .solid-cell .ensures) (c .before .before .cell-at .ensures))
+    (c .if1 .taken)
 
 add-k : tie.Need-add-k Inv-loop μ-loop
 add-k c = search needs
@@ -55,7 +57,8 @@ loop-again c =
       omega arith,
       omega arith,
       scan-turn (p .before .loop .inv .2) [] (in-fours (s .cells .now) (p .before .loop .k) (p .loop-test .taken))
-          (said (λ q. not (zerob (determinant (s .positions .now) q))) (c .before .solid-cell .ensures) (c .before .before .cell-at .ensures)) (c .if1 .left),
+          (said (λ q. not (zerob (determinant (s .positions .now) q))) (c .before .solid-cell .ensures)
+          (c .before .before .cell-at .ensures)) (c .if1 .left),
     )
 
 returns-2 : tie.Need-returns-2 Inv-loop μ-loop

@@ -35,13 +35,15 @@ sub-result c =
 mul-result : tie.Need-mul-result
 mul-result c =
     let b = c .before .before .before in
-    term-fits (b .before .edge .ensures) (b .edge2 .ensures) (c .before .before .edge3 .ensures) (c .before .edge4 .ensures) (c .edge5 .ensures)
+    term-fits (b .before .edge .ensures) (b .edge2 .ensures) (c .before .before .edge3 .ensures) (c .before .edge4 .ensures)
+    (c .edge5 .ensures)
 
 returns : tie.Need-returns
 unfolding termOf
 returns c =
     let b = c .before .before .before in
-    term-told (b .before .edge .ensures) (b .edge2 .ensures) (c .before .before .edge3 .ensures) (c .before .edge4 .ensures) (c .edge5 .ensures)
+    term-told (b .before .edge .ensures) (b .edge2 .ensures) (c .before .before .edge3 .ensures) (c .before .edge4 .ensures)
+    (c .edge5 .ensures)
 
 pub term-spec : {M : Type 1} → statement M
 term-spec =

@@ -24,10 +24,15 @@ count-range-requires c κs =
     (l .inv .rising, last-inside (s .pre .0) (l .inv), s .pre .0 .small)
 
 mul-put-tally : tie.Need-mul-put-tally Inv-loop μ-loop
-mul-put-tally c = omega (arith, few-levels (c .before .before .before .before .before .before .pre .0) (c .before .before .before .loop .inv))
+mul-put-tally c = omega (
+  arith,
+  few-levels (c .before .before .before .before .before .before .pre .0)
+      (c .before .before .before .loop .inv),
+)
 
 put-tally-requires : tie.Need-put-tally-requires Inv-loop μ-loop
-put-tally-requires c κs = room-here (c .before .before .before .before .before .before .pre .0) (c .before .before .before .before .before .before .pre .1) (c .before .before .before .loop .inv) (c .before .before .loop-test .taken)
+put-tally-requires c κs = room-here (c .before .before .before .before .before .before .pre .0)
+    (c .before .before .before .before .before .before .pre .1) (c .before .before .before .loop .inv) (c .before .before .loop-test .taken)
 
 level-size-requires : tie.Need-level-size-requires Inv-loop μ-loop
 level-size-requires c κs =
@@ -39,13 +44,28 @@ add-above : tie.Need-add-above Inv-loop μ-loop
 unfolding nextEnd
 add-above c =
     let s = c .before .before .before .before .before .before .before .before .before .before in
-    omega (arith, s .pre .0 .small, c .level-size .ensures, next-inside (s .pre .0) (s .pre .1) (c .before .before .before .before .before .before .before .loop .inv) (c .before .before .before .before .before .before .loop-test .taken))
+    omega (
+      arith,
+      s .pre .0 .small,
+      c .level-size .ensures,
+      next-inside (s .pre .0) (s .pre .1)
+          (c .before .before .before .before .before .before .before .loop .inv)
+          (c .before .before .before .before .before .before .loop-test .taken),
+    )
 
 add-level : tie.Need-add-level Inv-loop μ-loop
-add-level c = omega (arith, few-levels (c .before .before .before .before .before .before .before .before .before .before .pre .0) (c .before .before .before .before .before .before .before .loop .inv))
+add-level c = omega (
+  arith,
+  few-levels (c .before .before .before .before .before .before .before .before .before .before .pre .0)
+      (c .before .before .before .before .before .before .before .loop .inv),
+)
 
 loop-less : tie.Need-loop-less Inv-loop μ-loop
-loop-less c = omega (arith, few-levels (c .before .before .before .before .before .before .before .before .before .before .pre .0) (c .before .before .before .before .before .before .before .loop .inv))
+loop-less c = omega (
+  arith,
+  few-levels (c .before .before .before .before .before .before .before .before .before .before .pre .0)
+      (c .before .before .before .before .before .before .before .loop .inv),
+)
 
 loop-again : tie.Need-loop-again Inv-loop μ-loop
 unfolding nextEnd
@@ -53,7 +73,9 @@ loop-again c =
     let s = c .before .before .before .before .before .before .before .before .before .before in
     let l = c .before .before .before .before .before .before .before .loop in
     rw (c .level-size .ensures)
-    (at-next (s .pre .0) (s .pre .1) (l .inv) (c .before .before .before .before .before .before .loop-test .taken) (tallied (c .before .before .before .before .before .count-range .result)) (c .before .before .before .put-tally .last .0) (c .before .before .before .before .before .count-range .ensures) (c .before .before .before .put-tally .ensures))
+    (at-next (s .pre .0) (s .pre .1) (l .inv) (c .before .before .before .before .before .before .loop-test .taken)
+    (tallied (c .before .before .before .before .before .count-range .result)) (c .before .before .before .put-tally .last .0)
+    (c .before .before .before .before .before .count-range .ensures) (c .before .before .before .put-tally .ensures))
 
 same-length : tie.Need-same-length Inv-loop μ-loop
 same-length c = c .before .loop .inv .size

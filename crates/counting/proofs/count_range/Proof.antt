@@ -16,7 +16,9 @@ use Rattle.counting.proofs.count_range.Statement.{statement}
 use Rattle.counting.proofs.count_range.Tie as tie
 
 abbrev Inv-loop : tie.InvT-loop
-Inv-loop status first last red₀ green₀ leaf₀ c₀ red green leaf c = (first ≤ c) × (c ≤ last) × (red ≡ countIf redb (part status first (c - first))) × (green ≡ countIf greenb (part status first (c - first))) × (leaf ≡ countIf (λ s. eqb s 0) (part status first (c - first)))
+Inv-loop status first last red₀ green₀ leaf₀ c₀ red green leaf c = (first ≤ c) × (c ≤ last)
+    × (red ≡ countIf redb (part status first (c - first))) × (green ≡ countIf greenb (part status first (c - first)))
+    × (leaf ≡ countIf (λ s. eqb s 0) (part status first (c - first)))
 
 abbrev μ-loop : tie.MeasureT-loop
 μ-loop status first last red₀ green₀ leaf₀ c₀ red green leaf c = last - c
@@ -71,11 +73,16 @@ loop-again c =
     let l = c .before .before .before .before .before .before .loop in
     let a = c .before .before .before .before .before .before .before .before .args in
     let t = a .status .now in
-    let h : l .c < length t = omega (arith, c .before .before .before .before .before .loop-test .taken, c .before .before .before .before .before .before .before .before .pre .1) in (
+    let h : l .c < length t = omega (
+      arith,
+      c .before .before .before .before .before .loop-test .taken,
+      c .before .before .before .before .before .before .before .before .pre .1,
+    ) in (
       omega (arith, l .inv .0),
       omega (arith, c .before .before .before .before .before .loop-test .taken),
       count-turn redb t (a .first) (l .c) (l .inv .0) h (l .red) _ _ (l .inv .2) (c .before .before .before .one .ensures .0) refl,
-      count-turn greenb t (a .first) (l .c) (l .inv .0) h (l .green) _ _ (l .inv .3) (c .before .one2 .ensures .0) (c .before .before .is-green .ensures),
+      count-turn greenb t (a .first) (l .c) (l .inv .0) h (l .green) _ _ (l .inv .3) (c .before .one2 .ensures .0)
+          (c .before .before .is-green .ensures),
       count-turn (λ s. eqb s 0) t (a .first) (l .c) (l .inv .0) h (l .leaf) _ _ (l .inv .4) (c .one3 .ensures .0) refl,
     )
 

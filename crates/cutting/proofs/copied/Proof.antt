@@ -39,8 +39,11 @@ loop-less c = search needs
 
 loop-again : tie.Need-loop-again Inv-loop μ-loop
 loop-again c =
-    let b = c .before .before in
-    (search needs, rw (add-one, b .loop .inv .1, c .digit .ensures) (copy-more 32 (digitsBelow 64) (b .before .before .args .from) (b .loop .i) (omega (arith, digits-length)) (omega arith)))
+    let b = c .before .before in (
+      search needs,
+      rw (add-one, b .loop .inv .1, c .digit .ensures)
+          (copy-more 32 (digitsBelow 64) (b .before .before .args .from) (b .loop .i) (omega (arith, digits-length)) (omega arith)),
+    )
 
 returns : tie.Need-returns Inv-loop μ-loop
 returns c =

@@ -10,7 +10,8 @@ use Rattle.cutting.proofs.Found.{Found, found, accepted}
 use Rattle.cutting.proofs.cut_from.Statement.{statement}
 use Rattle.cutting.proofs.cut_from.Tie as tie
 
-between : (c : tie.After-start2) → Found (c .before .before .before .before .before .args .pattern) (c .before .start .result) (c .start2 .result)
+between : (c : tie.After-start2) → Found (c .before .before .before .before .before .args .pattern) (c .before .start .result)
+    (c .start2 .result)
 between c =
     found (c .before .before .before .before .before .args .pattern) (c .before .start .result) (c .start2 .result)
     (omega arith) (c .before .start .ensures) (c .start2 .ensures)

@@ -15,7 +15,8 @@ returns : tie.Need-returns
 returns c =
     let s = c .before .before .before .before .before .before in
     told (s .args .xs .now) (s .args .ys .now) (s .args .heads .now) (s .args .links .now) (s .args .from) (s .args .n) (s .pre)
-    (s .args .a, s .args .b) (c .before .sorted-ends .result .low) (c .before .sorted-ends .result .high) (c .before .sorted-ends .ensures) (c .find .result) (c .find .ensures)
+    (s .args .a, s .args .b) (c .before .sorted-ends .result .low) (c .before .sorted-ends .result .high) (c .before .sorted-ends .ensures)
+    (c .find .result) (c .find .ensures)
 
 pub holds-spec : {M : Type 1} → statement M
 holds-spec = tie.close (tie.spec sorted-ends-requires find-requires returns)

@@ -29,7 +29,10 @@ returns : tie.Need-returns
 returns c =
     let s = c .before .before .before .before .before .before .before .before .before .before .before in
     old (s .args .xs .now) (s .args .ys .now) (s .args .heads .now) (s .args .links .now) (s .args .from) (s .args .n) (s .pre .0)
-    (s .args .a, s .args .b) (c .before .before .before .before .before .before .sorted-ends .result .low) (c .before .before .before .before .before .before .sorted-ends .result .high) (c .before .before .before .before .before .before .sorted-ends .ensures) (c .before .find .result) (c .before .find .ensures) (c .if1 .taken)
+    (s .args .a, s .args .b) (c .before .before .before .before .before .before .sorted-ends .result .low)
+    (c .before .before .before .before .before .before .sorted-ends .result .high)
+    (c .before .before .before .before .before .before .sorted-ends .ensures) (c .before .find .result) (c .before .find .ensures)
+    (c .if1 .taken)
 
 add-requires : tie.Need-add-requires
 add-requires c κs = search needs
@@ -51,12 +54,26 @@ same-length-8 c = search needs
 
 returns-2 : tie.Need-returns-2
 returns-2 c =
-    let s = c .before .before .before .before .before .before .before .before .before .before .before .before .before .before .before .before .before .before .before .before .before .before .before .before in
+    let
+    s =
+    c .before .before .before .before .before .before .before .before .before .before .before .before .before .before .before .before
+    .before .before .before .before .before .before .before .before in
     let a = c .before .before .before .before .before .before .before .before .add in
-    let missing : c .before .before .before .before .before .before .before .before .before .before .before .before .before .before .find .result ≡ 65535 = omega (arith, c .before .before .before .before .before .before .before .before .before .before .before .before .before .if1 .left) in
+    let
+    missing :
+    c .before .before .before .before .before .before .before .before .before .before .before .before .before .before .find .result
+    ≡ 65535 = omega
+    (arith, c .before .before .before .before .before .before .before .before .before .before .before .before .before .if1 .left) in
     new (s .args .xs .now) (s .args .ys .now) (s .args .heads .now) (s .args .links .now) (s .args .from) (s .args .n) (s .pre .0)
-    (s .args .a, s .args .b) (c .before .before .before .before .before .before .before .before .before .before .before .before .before .before .before .before .before .before .before .sorted-ends .result .low) (c .before .before .before .before .before .before .before .before .before .before .before .before .before .before .before .before .before .before .before .sorted-ends .result .high) (c .before .before .before .before .before .before .before .before .before .before .before .before .before .before .before .before .before .before .before .sorted-ends .ensures)
-    (sym (c .before .before .before .before .before .before .before .before .before .before .before .before .before .before .find .ensures) ∙ missing) (s .pre .1) (a .last .0) (a .last .1 .0) (a .last .1 .1 .0) (a .last .1 .1 .1 .0) (a .ensures)
+    (s .args .a, s .args .b)
+    (c .before .before .before .before .before .before .before .before .before .before .before .before .before .before .before .before
+    .before .before .before .sorted-ends .result .low)
+    (c .before .before .before .before .before .before .before .before .before .before .before .before .before .before .before .before
+    .before .before .before .sorted-ends .result .high)
+    (c .before .before .before .before .before .before .before .before .before .before .before .before .before .before .before .before
+    .before .before .before .sorted-ends .ensures)
+    (sym (c .before .before .before .before .before .before .before .before .before .before .before .before .before .before .find .ensures)
+    ∙ missing) (s .pre .1) (a .last .0) (a .last .1 .0) (a .last .1 .1 .0) (a .last .1 .1 .1 .0) (a .ensures)
 
 pub insert-spec : {M : Type 1} → statement M
 insert-spec =

@@ -23,7 +23,9 @@ same-length-4 : tie.Need-same-length-4
 same-length-4 c = search needs
 
 returns : tie.Need-returns
-returns c = rw (← c .before .before .before .before .before .before .before .before .before .before .before .before .before .edge-of .ensures) (c .before .before .before .before .before .before .before .before .insert .ensures)
+returns c = rw
+    (← c .before .before .before .before .before .before .before .before .before .before .before .before .before .edge-of .ensures)
+    (c .before .before .before .before .before .before .before .before .insert .ensures)
 
 pub add-edge-spec : {M : Type 1} → statement M
 add-edge-spec =

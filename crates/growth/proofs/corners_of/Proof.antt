@@ -46,7 +46,8 @@ shared-slice-read-s : tie.Need-shared-slice-read-s
 shared-slice-read-s c = search needs
 
 returns : tie.Need-returns
-returns c = corners-read (c .before .before .before .before .args .cells .now) (c .before .before .before .before .args .c) _ _ _ _ refl refl refl refl
+returns c = corners-read (c .before .before .before .before .args .cells .now) (c .before .before .before .before .args .c) _ _ _ _ refl
+    refl refl refl
 
 pub corners-of-spec : {M : Type 1} → statement M
 corners-of-spec =

@@ -13,7 +13,8 @@ use Rattle.growth.proofs.points_of.Statement.{statement}
 use Rattle.growth.proofs.points_of.Tie as tie
 
 abbrev Inv-loop : tie.InvT-loop
-Inv-loop cells c status n xs₀ ys₀ heads₀ links₀ m pattern points₀ k₀ e₀ xs ys heads links points k e = Turn (cellAt cells c) pattern n xs₀ ys₀ heads₀ links₀ m xs ys heads links points k e
+Inv-loop cells c status n xs₀ ys₀ heads₀ links₀ m pattern points₀ k₀ e₀ xs ys heads links points k e = Turn (cellAt cells c) pattern n xs₀
+    ys₀ heads₀ links₀ m xs ys heads links points k e
 
 abbrev μ-loop : tie.MeasureT-loop
 μ-loop cells c status n xs₀ ys₀ heads₀ links₀ m pattern points₀ k₀ e₀ xs ys heads links points k e = 6 - e
@@ -27,7 +28,8 @@ corners-of-requires c κs = search needs
 loop-holds : tie.Need-loop-holds Inv-loop μ-loop
 loop-holds c =
     let a = c .before .before .before .before .before .before .before .args in
-    rw (c .corners-of .ensures) (turn-start (cellAt (a .cells .now) (a .c)) (c .before .pattern-of .result) (a .n) (a .xs .now) (a .ys .now) (a .heads .now) (a .links .now) (a .m) (c .before .before .before .before .before .before .before .pre .edges))
+    rw (c .corners-of .ensures) (turn-start (cellAt (a .cells .now) (a .c)) (c .before .pattern-of .result) (a .n) (a .xs .now) (a .ys .now)
+    (a .heads .now) (a .links .now) (a .m) (c .before .before .before .before .before .before .before .pre .edges))
 
 split-edge-requires : tie.Need-split-edge-requires Inv-loop μ-loop
 split-edge-requires c κs =
@@ -36,12 +38,22 @@ split-edge-requires c κs =
     let t = cellAt (a .cells .now) (a .c) in
     let p = c .before .before .before .before .before .before .before .before .pattern-of .result in
     let r = c .before .before .before .before .before .before .before .before .before .before .before .before .before .before .pre in
-    let v : splitsTo p t 6 ≡ splitEdges 0 t (a .status) = rw (c .before .before .before .before .before .before .before .before .pattern-of .ensures) (splits-all (a .status) t) in
+    let v : splitsTo p t 6 ≡ splitEdges 0 t (a .status) = rw
+    (c .before .before .before .before .before .before .before .before .pattern-of .ensures) (splits-all (a .status) t) in
     let room : Space (a .xs .now) (a .ys .now) (a .links .now) (a .m) (length (splitsTo p t 6)) = rw v (r .space) in
     let fits : a .n + a .m + length (splitsTo p t 6) < 65536 = rw v (r .small) in
     let e : l .e < 6 = c .before .before .before .before .before .loop-test .taken in (
-      (r .inside, e, turn-small t p (a .n) (a .xs .now) (a .ys .now) (a .heads .now) (a .links .now) (a .m) (l .xs) (l .ys) (l .heads) (l .links) (l .points) (l .k) (l .e) (l .inv) e fits),
-      (l .inv .grown .edges, turn-room t p (a .n) (a .xs .now) (a .ys .now) (a .heads .now) (a .links .now) (a .m) (l .xs) (l .ys) (l .heads) (l .links) (l .points) (l .k) (l .e) (l .inv) e room),
+      (
+        r .inside,
+        e,
+        turn-small t p (a .n) (a .xs .now) (a .ys .now) (a .heads .now) (a .links .now) (a .m) (l .xs) (l .ys) (l .heads)
+            (l .links) (l .points) (l .k) (l .e) (l .inv) e fits,
+      ),
+      (
+        l .inv .grown .edges,
+        turn-room t p (a .n) (a .xs .now) (a .ys .now) (a .heads .now) (a .links .now) (a .m) (l .xs) (l .ys)
+            (l .heads) (l .links) (l .points) (l .k) (l .e) (l .inv) e room,
+      ),
     )
 
 add-e : tie.Need-add-e Inv-loop μ-loop
@@ -52,13 +64,24 @@ loop-less c = search needs
 
 loop-again : tie.Need-loop-again Inv-loop μ-loop
 loop-again c =
-    let a = c .before .before .before .before .before .before .before .before .before .before .before .before .before .before .before .before .before .before .before .before .before .before .before .args in
-    let l = c .before .before .before .before .before .before .before .before .before .before .before .before .before .before .before .loop in
+    let
+    a =
+    c .before .before .before .before .before .before .before .before .before .before .before .before .before .before .before .before
+    .before .before .before .before .before .before .before .args in
+    let l = c .before .before .before .before .before .before .before .before .before .before .before .before .before .before .before .loop
+    in
     let s = c .before .before .before .before .before .before .before .before .split-edge in
     rw (add-one (l .e))
-    (turn-more (cellAt (a .cells .now) (a .c)) (c .before .before .before .before .before .before .before .before .before .before .before .before .before .before .before .before .before .pattern-of .result) (a .n) (a .xs .now) (a .ys .now) (a .heads .now) (a .links .now) (a .m) (l .xs) (l .ys) (l .heads) (l .links) (l .points) (l .k) (l .e) (l .inv) (c .before .before .before .before .before .before .before .before .before .before .before .before .before .before .loop-test .taken)
-    (s .last .1 .1 .1 .1 .1 .1 .0) (s .last .1 .1 .1 .1 .1 .1 .1 .0) (s .last .1 .1 .1 .1 .1 .1 .1 .1 .0) (s .last .1 .1 .1 .1 .1 .1 .1 .1 .1 .0) (s .last .1 .1 .1 .1 .1 .0) (s .result)
-    (s .kept .1 .1 .1 .1 .1 .1 .0) (s .kept .1 .1 .1 .1 .1 .1 .1 .0) (s .kept .1 .1 .1 .1 .1 .1 .1 .1 .0) (s .kept .1 .1 .1 .1 .1 .1 .1 .1 .1 .0) (s .ensures .0) (s .ensures .1))
+    (turn-more (cellAt (a .cells .now) (a .c))
+    (c .before .before .before .before .before .before .before .before .before .before .before .before .before .before .before .before
+    .before .pattern-of .result) (a .n) (a .xs .now) (a .ys .now) (a .heads .now) (a .links .now) (a .m) (l .xs) (l .ys) (l .heads)
+    (l .links) (l .points) (l .k) (l .e) (l .inv)
+    (c .before .before .before .before .before .before .before .before .before .before .before .before .before .before .loop-test
+    .taken)
+    (s .last .1 .1 .1 .1 .1 .1 .0) (s .last .1 .1 .1 .1 .1 .1 .1 .0) (s .last .1 .1 .1 .1 .1 .1 .1 .1 .0)
+    (s .last .1 .1 .1 .1 .1 .1 .1 .1 .1 .0) (s .last .1 .1 .1 .1 .1 .0) (s .result)
+    (s .kept .1 .1 .1 .1 .1 .1 .0) (s .kept .1 .1 .1 .1 .1 .1 .1 .0) (s .kept .1 .1 .1 .1 .1 .1 .1 .1 .0)
+    (s .kept .1 .1 .1 .1 .1 .1 .1 .1 .1 .0) (s .ensures .0) (s .ensures .1))
 
 same-length : tie.Need-same-length Inv-loop μ-loop
 same-length c = c .before .loop .inv .xs-long
@@ -76,7 +99,9 @@ returns : tie.Need-returns Inv-loop μ-loop
 returns c =
     let a = c .before .before .before .before .before .before .before .before .before .args in
     let l = c .before .loop in
-    turn-all (cellAt (a .cells .now) (a .c)) (c .before .before .before .pattern-of .result) (a .n) (a .xs .now) (a .ys .now) (a .heads .now) (a .links .now) (a .m) (l .xs) (l .ys) (l .heads) (l .links) (l .points) (l .k) (l .e) (l .inv) (c .loop-test .left) (a .status) (c .before .before .before .pattern-of .ensures)
+    turn-all (cellAt (a .cells .now) (a .c)) (c .before .before .before .pattern-of .result) (a .n) (a .xs .now) (a .ys .now)
+    (a .heads .now) (a .links .now) (a .m) (l .xs) (l .ys) (l .heads) (l .links) (l .points) (l .k) (l .e) (l .inv) (c .loop-test .left)
+    (a .status) (c .before .before .before .pattern-of .ensures)
 
 pub points-of-spec : {M : Type 1} → statement M
 points-of-spec =

@@ -48,8 +48,13 @@ returns c =
     let a = c .before .before .before .before .before .before .before .before .before .args in
     c .before .before .write-row .ensures
     ∙ ap (λ (l : List ℕ). written (a .cells .now) (8 * a .at) (a .level ∷ a .parent ∷ a .i ∷ a .regular ∷ l))
-    (four-numbers (λ d. getD (a .points .now) d 0) (a .digits .now) (4 * a .i) (c .before .before .before .before .before .before .before .number .result) (c .before .before .before .before .before .before .number2 .result) (c .before .before .before .before .before .number3 .result) (c .before .before .before .before .number4 .result)
-    (c .before .before .before .before .before .before .before .number .ensures) (c .before .before .before .before .before .before .number2 .ensures) (c .before .before .before .before .before .number3 .ensures) (c .before .before .before .before .number4 .ensures))
+    (four-numbers (λ d. getD (a .points .now) d 0) (a .digits .now) (4 * a .i)
+    (c .before .before .before .before .before .before .before .number .result)
+    (c .before .before .before .before .before .before .number2 .result) (c .before .before .before .before .before .number3 .result)
+    (c .before .before .before .before .number4 .result)
+    (c .before .before .before .before .before .before .before .number .ensures)
+    (c .before .before .before .before .before .before .number2 .ensures) (c .before .before .before .before .before .number3 .ensures)
+    (c .before .before .before .before .number4 .ensures))
 
 pub write-child-spec : {M : Type 1} → statement M
 write-child-spec =

@@ -14,14 +14,16 @@ use Rattle.growth.proofs.write_children.Statement.{statement}
 use Rattle.growth.proofs.write_children.Tie as tie
 
 abbrev Inv-loop : tie.InvT-loop
-Inv-loop cells₀ at level parent regular points pattern digits own count kind i₀ cells i = Rows cells₀ at level parent regular (λ d. getD points d 0) pattern cells i
+Inv-loop cells₀ at level parent regular points pattern digits own count kind i₀ cells i = Rows cells₀ at level parent regular
+    (λ d. getD points d 0) pattern cells i
 
 abbrev μ-loop : tie.MeasureT-loop
 μ-loop cells₀ at level parent regular points pattern digits own count kind i₀ cells i = count - i
 
 -- how many children there are
 size : (c : tie.After-cut-from Inv-loop μ-loop) → c .cut-from .result .count ≡ length (family (c .before .before .before .args .pattern))
-size c = ap (λ (f : Family). f .count) (c .cut-from .ensures) ∙ child-count (c .before .before .before .args .pattern) (c .before .before .before .pre .0 .0)
+size c = ap (λ (f : Family). f .count) (c .cut-from .ensures) ∙ child-count (c .before .before .before .args .pattern)
+    (c .before .before .before .pre .0 .0)
 
 few : (c : tie.After-cut-from Inv-loop μ-loop) → length (family (c .before .before .before .args .pattern)) ≤ 8
 few c = family-few (c .before .before .before .args .pattern) (c .before .before .before .pre .0 .0)
@@ -41,12 +43,29 @@ loop-holds c =
     rows-none (a .cells .now) (a .at) (a .level) (a .parent) (a .regular) (λ d. getD (a .points .now) d 0) (a .pattern)
 
 add-write-child : tie.Need-add-write-child Inv-loop μ-loop
-add-write-child c = omega (arith, size (c .before .before .before .before .before .before), few (c .before .before .before .before .before .before))
+add-write-child c = omega (
+  arith,
+  size (c .before .before .before .before .before .before),
+  few
+      (c .before .before .before .before .before .before),
+)
 
 write-child-requires : tie.Need-write-child-requires Inv-loop μ-loop
 write-child-requires c κs =
-    let a = c .before .before .before .before .before .before .before .before .before .before .args in
-    ((omega (arith, size (c .before .before .before .before .before .before .before)), omega (arith, size (c .before .before .before .before .before .before .before), few (c .before .before .before .before .before .before .before))), λ j. rw (ap (λ (f : Family). f .digits) (c .before .before .before .before .before .before .before .cut-from .ensures)) (digits-below (a .pattern) (c .before .before .before .before .before .before .before .before .before .before .pre .0 .0) j))
+    let a = c .before .before .before .before .before .before .before .before .before .before .args in (
+      (
+        omega (arith, size (c .before .before .before .before .before .before .before)),
+        omega (
+          arith,
+          size (c .before .before .before .before .before .before .before),
+          few
+              (c .before .before .before .before .before .before .before),
+        ),
+      ),
+      λ j. rw
+          (ap (λ (f : Family). f .digits) (c .before .before .before .before .before .before .before .cut-from .ensures))
+          (digits-below (a .pattern) (c .before .before .before .before .before .before .before .before .before .before .pre .0 .0) j),
+    )
 
 add-i : tie.Need-add-i Inv-loop μ-loop
 add-i c = search needs
@@ -61,7 +80,10 @@ loop-again c =
     let w = c .before .before .write-child in
     let f = c .before .before .before .before .before .before .before .before .before .before .cut-from in
     rw (add-one (l .i))
-    (rows-more (a .cells .now) (a .at) (a .level) (a .parent) (a .regular) (λ d. getD (a .points .now) d 0) (a .pattern) (c .before .before .before .before .before .before .before .before .before .before .before .before .before .pre .0 .0) (c .before .before .before .before .before .before .before .before .before .before .before .before .before .pre .0 .1) (l .cells) (l .i) (l .inv)
+    (rows-more (a .cells .now) (a .at) (a .level) (a .parent) (a .regular) (λ d. getD (a .points .now) d 0) (a .pattern)
+    (c .before .before .before .before .before .before .before .before .before .before .before .before .before .pre .0 .0)
+    (c .before .before .before .before .before .before .before .before .before .before .before .before .before .pre .0 .1) (l .cells)
+    (l .i) (l .inv)
     (omega (arith, size (c .before .before .before .before .before .before .before .before .before .before))) (w .last .0) (w .kept .0)
     (w .ensures
     ∙ rw (c .before .before .before .before .before .before .before .flag .ensures, ap (λ (g : Family). g .digits) (f .ensures))))
@@ -77,7 +99,9 @@ returns c =
     let a = c .before .before .before .before .before .before .before .before .args in
     let l = c .before .loop in (
       rw (size (c .before .before .before .before .before)),
-      rows-all (a .cells .now) (a .at) (a .level) (a .parent) (a .regular) (λ d. getD (a .points .now) d 0) (a .pattern) (c .before .before .before .before .before .before .before .before .pre .0 .0) (c .before .before .before .before .before .before .before .before .pre .0 .1) (l .cells) (l .i) (l .inv)
+      rows-all (a .cells .now) (a .at) (a .level) (a .parent) (a .regular) (λ d. getD (a .points .now) d 0) (a .pattern)
+          (c .before .before .before .before .before .before .before .before .pre .0 .0)
+          (c .before .before .before .before .before .before .before .before .pre .0 .1) (l .cells) (l .i) (l .inv)
           (omega (arith, size (c .before .before .before .before .before), l .inv .below)),
     )
 

@@ -84,7 +84,8 @@ same-length : tie.Need-same-length
 same-length c = simp length-set
 
 returns : tie.Need-returns
-returns c = row-stored (c .args .cells .now) (8 * c .args .at) (omega arith) (c .args .level) (c .args .parent) (c .args .child) (c .args .regular) (c .args .p) (c .args .q) (c .args .r) (c .args .s)
+returns c = row-stored (c .args .cells .now) (8 * c .args .at) (omega arith) (c .args .level) (c .args .parent) (c .args .child)
+    (c .args .regular) (c .args .p) (c .args .q) (c .args .r) (c .args .s)
 
 pub write-row-spec : {M : Type 1} → statement M
 write-row-spec =

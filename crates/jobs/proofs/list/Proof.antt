@@ -23,25 +23,30 @@ enum-known-r c = search needs
 
 mul-n : tie.Need-mul-n
 mul-n c =
-    let few = done-few (c .before .before .before .before .before .before .before .before .before .before .args .bytes .now) _ _ (omega arith) (omega arith) _ (sym (c .before .before .r .given .1) ∙ c .before .before .before .before .before .before .replay .ensures .0) in
+    let few = done-few (c .before .before .before .before .before .before .before .before .before .before .args .bytes .now) _ _
+    (omega arith) (omega arith) _ (sym (c .before .before .r .given .1)
+    ∙ c .before .before .before .before .before .before .replay .ensures .0) in
     omega (arith, few)
 
 array-share-prefix-counts : tie.Need-array-share-prefix-counts
 array-share-prefix-counts c =
     let r = c .before .before .before .before .before .before .replay in
-    let few = done-few (c .before .before .before .before .before .before .before .before .before .before .args .bytes .now) _ _ (omega arith) (omega arith) _ (sym (c .before .before .r .given .1) ∙ r .ensures .0) in
+    let few = done-few (c .before .before .before .before .before .before .before .before .before .before .args .bytes .now) _ _
+    (omega arith) (omega arith) _ (sym (c .before .before .r .given .1) ∙ r .ensures .0) in
     omega (arith, few, r .kept .1 .1 .0)
 
 slice-aggregate-write-listing : tie.Need-slice-aggregate-write-listing
 slice-aggregate-write-listing c =
     let r = c .before .before .before .before .before .before .before .replay in
-    let few = done-few (c .before .before .before .before .before .before .before .before .before .before .before .args .bytes .now) _ _ (omega arith) (omega arith) _ (sym (c .before .before .before .r .given .1) ∙ r .ensures .0) in
+    let few = done-few (c .before .before .before .before .before .before .before .before .before .before .before .args .bytes .now) _ _
+    (omega arith) (omega arith) _ (sym (c .before .before .before .r .given .1) ∙ r .ensures .0) in
     sym (length-take-le _ _ (omega (arith, few, r .kept .1 .1 .0)))
 
 write-listing-requires : tie.Need-write-listing-requires
 write-listing-requires c κs =
     let r = c .before .before .before .before .before .before .before .before .replay in
-    let few = done-few (c .before .before .before .before .before .before .before .before .before .before .before .before .args .bytes .now) _ _ (omega arith) (omega arith) _ (sym (c .before .before .before .before .r .given .1) ∙ r .ensures .0) in
+    let few = done-few (c .before .before .before .before .before .before .before .before .before .before .before .before .args .bytes .now)
+    _ _ (omega arith) (omega arith) _ (sym (c .before .before .before .before .r .given .1) ∙ r .ensures .0) in
     let n = 4 * c .before .before .before .before .r .given .0 .0 .levels in
     (omega (arith, few, length-take-le n (r .last .1 .1 .0) (omega (arith, few, r .kept .1 .1 .0))), search needs)
 
@@ -54,11 +59,18 @@ write-refusal-requires c κs = search needs
 returns : tie.Need-returns
 returns c =
     let r = c .before .before .before .before .before .before .before .before .before .replay in
-    written-as _ (done-listing (c .before .before .before .before .before .before .before .before .before .before .before .before .before .args .bytes .now) _ _ (omega arith) (omega arith) _ (sym (c .before .before .before .before .before .r .given .1) ∙ r .ensures .0) _ (r .ensures .1 .1)) (c .write-listing .ensures)
+    written-as _
+    (done-listing
+    (c .before .before .before .before .before .before .before .before .before .before .before .before .before .args .bytes .now) _ _
+    (omega arith) (omega arith) _ (sym (c .before .before .before .before .before .r .given .1) ∙ r .ensures .0) _ (r .ensures .1 .1))
+    (c .write-listing .ensures)
 
 returns-2 : tie.Need-returns-2
 returns-2 c =
-    written-as _ (refused-listing (c .before .before .before .before .before .before .before .before .before .before .before .args .bytes .now) _ _ (omega arith) (omega arith) _ (sym (c .before .before .before .r2 .given .1) ∙ c .before .before .before .before .before .before .before .replay .ensures .0)) (c .write-refusal .ensures)
+    written-as _
+    (refused-listing (c .before .before .before .before .before .before .before .before .before .before .before .args .bytes .now) _ _
+    (omega arith) (omega arith) _ (sym (c .before .before .before .r2 .given .1)
+    ∙ c .before .before .before .before .before .before .before .replay .ensures .0)) (c .write-refusal .ensures)
 
 pub list-spec : {M : Type 1} → statement M
 list-spec =

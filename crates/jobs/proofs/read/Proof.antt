@@ -30,7 +30,8 @@ same-length-5 c = search needs
 returns : tie.Need-returns
 returns c =
     let a = c .before .before .before .before .before .before .before .before .before .before .before .before .args in
-    read-short (a .bytes .now) (a .positions .now) (a .cells .now) (a .marked .now) (a .marks .now) (a .ends .now) (sym (c .before .lent .ensures) ∙ not-true _ (c .if1 .taken))
+    read-short (a .bytes .now) (a .positions .now) (a .cells .now) (a .marked .now) (a .marks .now) (a .ends .now)
+    (sym (c .before .lent .ensures) ∙ not-true _ (c .if1 .taken))
 
 reopen-requires : tie.Need-reopen-requires
 reopen-requires c κs = search needs
@@ -52,21 +53,43 @@ same-length-10 c = search needs
 
 returns-2 : tie.Need-returns-2
 returns-2 c =
-    let a = c .before .before .before .before .before .before .before .before .before .before .before .before .before .before .before .before .args in
-    read-refused (a .bytes .now) (a .positions .now) (a .cells .now) (a .marked .now) (a .marks .now) (a .ends .now) (sym (c .before .before .before .before .before .lent .ensures) ∙ not-false _ (c .before .before .before .before .if1 .left)) _ _ _ _ _ (c .before .before .reopen .ensures) (c .if2 .taken)
+    let
+    a =
+    c .before .before .before .before .before .before .before .before .before .before .before .before .before .before .before .before .args
+    in
+    read-refused (a .bytes .now) (a .positions .now) (a .cells .now) (a .marked .now) (a .marks .now) (a .ends .now)
+    (sym (c .before .before .before .before .before .lent .ensures) ∙ not-false _ (c .before .before .before .before .if1 .left)) _ _ _
+    _ _ (c .before .before .reopen .ensures) (c .if2 .taken)
 
 examine-form-requires : tie.Need-examine-form-requires
 examine-form-requires c κs = search needs
 
 load-requires : tie.Need-load-requires
 load-requires c κs =
-    let a = c .before .before .before .before .before .before .before .before .before .before .before .before .before .before .before .before .before .before .before .before .before .before .args in
-    let l = (sym (c .before .before .before .before .before .before .before .before .before .before .before .lent .ensures) ∙ not-false _ (c .before .before .before .before .before .before .before .before .before .before .if1 .left)) in
+    let
+    a =
+    c .before .before .before .before .before .before .before .before .before .before .before .before .before .before .before .before
+    .before .before .before .before .before .before .args in
+    let l = (sym (c .before .before .before .before .before .before .before .before .before .before .before .lent .ensures)
+    ∙ not-false _ (c .before .before .before .before .before .before .before .before .before .before .if1 .left)) in
     let r = c .before .before .before .before .before .before .before .before .reopen .ensures in
-    let f = read-form (a .bytes .now) (a .positions .now) (a .cells .now) (a .marked .now) (a .marks .now) (a .ends .now) l _ _ _ _ _ r (c .before .before .before .before .before .before .if2 .left) in
+    let f = read-form (a .bytes .now) (a .positions .now) (a .cells .now) (a .marked .now) (a .marks .now) (a .ends .now) l _ _ _ _ _ r
+    (c .before .before .before .before .before .before .if2 .left) in
     let n = c .before .before .before .before .before .examine-form .ensures .counts f in
-    let o : Octets (a .bytes .now) = record { small = λ i h. omega (arith, c .before .before .before .before .before .before .before .before .before .before .before .before .before .before .before .before .before .before .before .before .before .shared-slice-known .given i) } in
-    (f, (n, read-room (a .bytes .now) (a .positions .now) (a .cells .now) (a .marked .now) (a .marks .now) (a .ends .now) l _ _ _ _ _ r (c .before .before .before .before .before .before .if2 .left) _ _ _ _ n o))
+    let o : Octets (a .bytes .now) = record {
+      small = λ i h. omega (
+        arith,
+        c .before .before .before .before .before .before .before .before .before .before .before .before .before .before .before .before
+            .before .before .before .before .before .shared-slice-known .given i,
+      );
+    } in (
+      f,
+      (
+        n,
+        read-room (a .bytes .now) (a .positions .now) (a .cells .now) (a .marked .now) (a .marks .now) (a .ends .now) l _ _ _ _ _ r
+            (c .before .before .before .before .before .before .if2 .left) _ _ _ _ n o,
+      ),
+    )
 
 same-length-11 : tie.Need-same-length-11
 same-length-11 c = search needs
@@ -85,11 +108,32 @@ same-length-15 c = search needs
 
 returns-3 : tie.Need-returns-3
 returns-3 c =
-    let a = c .before .before .before .before .before .before .before .before .before .before .before .before .before .before .before .before .before .before .before .before .before .before .before .before .before .before .before .before .before .before .before .before .args in
-    let l = (sym (c .before .before .before .before .before .before .before .before .before .before .before .before .before .before .before .before .before .before .before .before .before .lent .ensures) ∙ not-false _ (c .before .before .before .before .before .before .before .before .before .before .before .before .before .before .before .before .before .before .before .before .if1 .left)) in
-    let r = c .before .before .before .before .before .before .before .before .before .before .before .before .before .before .before .before .before .before .reopen .ensures in
-    let f = read-form (a .bytes .now) (a .positions .now) (a .cells .now) (a .marked .now) (a .marks .now) (a .ends .now) l _ _ _ _ _ r (c .before .before .before .before .before .before .before .before .before .before .before .before .before .before .before .before .if2 .left) in
-    read-done (a .bytes .now) (a .positions .now) (a .cells .now) (a .marked .now) (a .marks .now) (a .ends .now) l _ _ _ _ _ r (c .before .before .before .before .before .before .before .before .before .before .before .before .before .before .before .before .if2 .left) _ _ _ _ (c .before .before .before .before .before .before .before .before .before .before .before .before .before .before .before .examine-form .ensures .counts f) _ _ _ _ _ (c .before .before .before .before .before .before .before .before .before .load .ensures)
+    let
+    a =
+    c .before .before .before .before .before .before .before .before .before .before .before .before .before .before .before .before
+    .before .before .before .before .before .before .before .before .before .before .before .before .before .before .before .before
+    .args in
+    let
+    l =
+    (sym
+    (c .before .before .before .before .before .before .before .before .before .before .before .before .before .before .before .before
+    .before .before .before .before .before .lent .ensures)
+    ∙ not-false _
+    (c .before .before .before .before .before .before .before .before .before .before .before .before .before .before .before .before
+    .before .before .before .before .if1 .left)) in
+    let
+    r =
+    c .before .before .before .before .before .before .before .before .before .before .before .before .before .before .before .before
+    .before .before .reopen .ensures in
+    let f = read-form (a .bytes .now) (a .positions .now) (a .cells .now) (a .marked .now) (a .marks .now) (a .ends .now) l _ _ _ _ _ r
+    (c .before .before .before .before .before .before .before .before .before .before .before .before .before .before .before .before .if2
+    .left) in
+    read-done (a .bytes .now) (a .positions .now) (a .cells .now) (a .marked .now) (a .marks .now) (a .ends .now) l _ _ _ _ _ r
+    (c .before .before .before .before .before .before .before .before .before .before .before .before .before .before .before .before .if2
+    .left) _ _ _ _
+    (c .before .before .before .before .before .before .before .before .before .before .before .before .before .before .before
+    .examine-form .ensures .counts f) _ _ _ _ _
+    (c .before .before .before .before .before .before .before .before .before .load .ensures)
 
 pub read-spec : {M : Type 1} → statement M
 read-spec =

@@ -18,25 +18,32 @@ unfolding ancestryOf
 returns c =
     let a = c .before .before .before .before .before .before .before .before .args in
     let o = c .before .before .«open» in
-    rw (ancestor-refused (a .positions .now) (a .cells .now) (a .status .now) (o .result .refusal) (a .cell) (o .ensures .answer) (c .if1 .taken))
+    rw (ancestor-refused (a .positions .now) (a .cells .now) (a .status .now) (o .result .refusal) (a .cell) (o .ensures .answer)
+    (c .if1 .taken))
 
 returns-2 : tie.Need-returns-2
 unfolding ancestryOf
 returns-2 c =
     let a = c .before .before .before .before .before .before .before .before .before .before .args in
     let o = c .before .before .before .before .«open» in
-    rw (ancestor-beyond (a .positions .now) (a .cells .now) (a .status .now) (o .result .refusal) (a .cell) (o .ensures .answer) (c .before .before .if1 .left) (omega (arith, o .ensures .fits (c .before .before .if1 .left) .sound .counted)))
+    rw (ancestor-beyond (a .positions .now) (a .cells .now) (a .status .now) (o .result .refusal) (a .cell) (o .ensures .answer)
+    (c .before .before .if1 .left) (omega (arith, o .ensures .fits (c .before .before .if1 .left) .sound .counted)))
 
 climb-requires : tie.Need-climb-requires
-climb-requires c κs = fits-upward _ _ _ _ _ _ _ _ _ (c .before .before .before .before .before .«open» .ensures .fits (c .before .before .before .if1 .left)) (c .before .before .before .before .before .before .before .before .before .before .before .args .cell) (omega arith)
+climb-requires c κs = fits-upward _ _ _ _ _ _ _ _ _
+    (c .before .before .before .before .before .«open» .ensures .fits (c .before .before .before .if1 .left))
+    (c .before .before .before .before .before .before .before .before .before .before .before .args .cell) (omega arith)
 
 returns-3 : tie.Need-returns-3
 unfolding ancestryOf
 returns-3 c =
     let a = c .before .before .before .before .before .before .before .before .before .before .before .before .args in
     let o = c .before .before .before .before .before .before .«open» in
-    rw (ancestor-there (a .positions .now) (a .cells .now) (a .status .now) (o .result .refusal) (a .cell) (o .ensures .answer) (c .before .before .before .before .if1 .left) (omega (arith, o .ensures .fits (c .before .before .before .before .if1 .left) .sound .counted)))
-    (ap Under (c .climb .ensures ∙ fits-climb _ _ _ _ _ _ _ _ _ (o .ensures .fits (c .before .before .before .before .if1 .left)) (a .cell) (omega arith)))
+    rw (ancestor-there (a .positions .now) (a .cells .now) (a .status .now) (o .result .refusal) (a .cell) (o .ensures .answer)
+    (c .before .before .before .before .if1 .left)
+    (omega (arith, o .ensures .fits (c .before .before .before .before .if1 .left) .sound .counted)))
+    (ap Under (c .climb .ensures ∙ fits-climb _ _ _ _ _ _ _ _ _ (o .ensures .fits (c .before .before .before .before .if1 .left)) (a .cell)
+    (omega arith)))
 
 pub ancestor-spec : {M : Type 1} → statement M
 ancestor-spec =

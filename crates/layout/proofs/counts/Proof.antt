@@ -27,11 +27,16 @@ returns-2 c =
     let a = c .before .before .before .before .before .before .before .before .before .before .args in
     let o = c .before .before .«open» in
     let e : countsAnswer (a .positions .now) (a .cells .now) (a .status .now) (a .counts .now) ≡ Refused (o .result .refusal) =
-    counts-long (a .positions .now) (a .cells .now) (a .status .now) (a .counts .now) (c .before .before .before .before .before .before .if1 .left) ∙ o .ensures .answer ∙ answer-refused (o .result .refusal) (c .if2 .taken) in
+    counts-long (a .positions .now) (a .cells .now) (a .status .now) (a .counts .now)
+    (c .before .before .before .before .before .before .if1 .left) ∙ o .ensures .answer
+    ∙ answer-refused (o .result .refusal) (c .if2 .taken) in
     (rw e, rw e)
 
 count-levels-requires : tie.Need-count-levels-requires
-count-levels-requires c κs = (fits-levels _ _ _ _ _ _ _ _ _ (c .before .before .before .«open» .ensures .fits (c .before .if2 .left)), c .before .before .before .before .before .before .before .if1 .left)
+count-levels-requires c κs = (
+  fits-levels _ _ _ _ _ _ _ _ _ (c .before .before .before .«open» .ensures .fits (c .before .if2 .left)),
+  c .before .before .before .before .before .before .before .if1 .left,
+)
 
 same-length : tie.Need-same-length
 same-length c = search needs
@@ -44,7 +49,9 @@ returns-3 c =
     let f = o .ensures .fits (c .before .before .before .before .if2 .left) in
     let r = c .before .before .count-levels in
     let e : countsAnswer (a .positions .now) (a .cells .now) (a .status .now) (a .counts .now) ≡ Accepted =
-    counts-long (a .positions .now) (a .cells .now) (a .status .now) (a .counts .now) (c .before .before .before .before .before .before .before .before .before .before .if1 .left) ∙ o .ensures .answer ∙ answer-none (o .result .refusal) (c .before .before .before .before .if2 .left) in (
+    counts-long (a .positions .now) (a .cells .now) (a .status .now) (a .counts .now)
+    (c .before .before .before .before .before .before .before .before .before .before .if1 .left) ∙ o .ensures .answer
+    ∙ answer-none (o .result .refusal) (c .before .before .before .before .if2 .left) in (
       rw e (ap counted.Levels (number-after _ _ _ _ _ _ _ _ _ f (r .result) (r .ensures .0))),
       rw e (counts-after _ _ _ _ _ _ _ _ _ f (a .counts .now) _ (r .result) (r .ensures .0) (r .ensures .1)),
     )

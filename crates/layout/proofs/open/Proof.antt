@@ -22,22 +22,34 @@ returns c =
     let a = c .before .before .before .before .before .before .args in
     let e = c .refused .ensures .0 in
     record {
-      answer = table-mesh (a .positions .now) (a .cells .now) (a .status .now) (c .before .before .code .result) (c .before .before .code .ensures ∙ ap codeOf (c .before .before .before .examine-mesh .ensures)) (c .before .if1 .taken) ∙ ap answerOf (sym e);
+      answer = table-mesh (a .positions .now) (a .cells .now) (a .status .now) (c .before .before .code .result)
+          (c .before .before .code .ensures ∙ ap codeOf (c .before .before .before .examine-mesh .ensures)) (c .before .if1 .taken)
+          ∙ ap answerOf (sym e);
       fits = λ z. absurd (c .before .if1 .taken (sym e ∙ z));
     }
 
 examine-requires : tie.Need-examine-requires
-examine-requires c κs = mesh-passed (c .before .before .before .before .before .before .before .before .args .positions .now) (c .before .before .before .before .before .before .before .before .args .cells .now) (ap codeOf (sym (c .before .before .before .before .before .examine-mesh .ensures)) ∙ sym (c .before .before .before .before .code .ensures) ∙ c .before .before .before .if1 .left) .mesh
+examine-requires c κs = mesh-passed (c .before .before .before .before .before .before .before .before .args .positions .now)
+    (c .before .before .before .before .before .before .before .before .args .cells .now)
+    (ap codeOf (sym (c .before .before .before .before .before .examine-mesh .ensures))
+    ∙ sym (c .before .before .before .before .code .ensures) ∙ c .before .before .before .if1 .left) .mesh
 
 returns-2 : tie.Need-returns-2
 returns-2 c =
     let a = c .before .before .before .before .before .before .before .before .before .args in
     let x = c .examine in
-    let e = ap codeOf (sym (c .before .before .before .before .before .before .examine-mesh .ensures)) ∙ sym (c .before .before .before .before .before .code .ensures) ∙ c .before .before .before .before .if1 .left in
+    let e = ap codeOf (sym (c .before .before .before .before .before .before .examine-mesh .ensures))
+    ∙ sym (c .before .before .before .before .before .code .ensures) ∙ c .before .before .before .before .if1 .left in
     let p = mesh-passed (a .positions .now) (a .cells .now) e in
     record {
       answer = table-examined (a .positions .now) (a .cells .now) (a .status .now) (x .result .refusal) e (x .ensures .answer);
-      fits = λ z. record { mesh = p .mesh; positions = p .positions; table = examined-sound (a .positions .now) (a .cells .now) (a .status .now) (x .result .refusal) (x .ensures .answer) z; sound = x .ensures .sound z };
+      fits = λ z. record {
+        mesh = p .mesh;
+        positions = p .positions;
+        table = examined-sound (a .positions .now) (a .cells .now)
+            (a .status .now) (x .result .refusal) (x .ensures .answer) z;
+        sound = x .ensures .sound z;
+      };
     }
 
 pub open-spec : {M : Type 1} → statement M

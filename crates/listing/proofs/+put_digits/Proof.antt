@@ -31,7 +31,9 @@ same-length : (t : ℕ) → lts.Need-same-length (known t) (given t) fn.Post
 same-length t c = c .before .before .put-digit .kept .0
 
 returns : (t : ℕ) → lts.Need-returns (known t) (given t) fn.Post
-returns t c = put-as (no-more (c .before .before .before .before .before .before .args .more) (c .before .before .before .before .before .before .args .n) (c .before .before .before .before .if1 .taken)) (c .before .before .put-digit .ensures)
+returns t c = put-as (no-more (c .before .before .before .before .before .before .args .more)
+    (c .before .before .before .before .before .before .args .n) (c .before .before .before .before .if1 .taken))
+    (c .before .before .put-digit .ensures)
 
 put-digit-requires-2 : (t : ℕ) → lts.Need-put-digit-requires-2 (known t) (given t) fn.Post
 put-digit-requires-2 t c κs = omega (arith, c .before .before .before .before .pre .1)
@@ -40,7 +42,9 @@ same-length-2 : (t : ℕ) → lts.Need-same-length-2 (known t) (given t) fn.Post
 same-length-2 t c = c .before .before .put-digit2 .kept .0
 
 returns-2 : (t : ℕ) → lts.Need-returns-2 (known t) (given t) fn.Post
-returns-2 t c = put-as (one-digit (c .before .before .before .before .before .before .before .args .more) (c .before .before .before .before .before .before .before .args .n) (c .before .before .before .before .if2 .taken)) (c .before .before .put-digit2 .ensures)
+returns-2 t c = put-as (one-digit (c .before .before .before .before .before .before .before .args .more)
+    (c .before .before .before .before .before .before .before .args .n) (c .before .before .before .before .if2 .taken))
+    (c .before .before .put-digit2 .ensures)
 
 sub-put-digits : (t : ℕ) → lts.Need-sub-put-digits (known t) (given t) fn.Post
 sub-put-digits t c = omega (arith, c .before .before .if1 .left)
@@ -62,7 +66,9 @@ same-length-3 t c = c .before .before .put-digit3 .kept .0 ∙ c .before .before
 returns-3 : (t : ℕ) → lts.Need-returns-3 (known t) (given t) fn.Post
 returns-3 t c =
     let s = c .before .before .before .before .before .before .before .before .before .before .before in
-    put-as (more-digits (s .args .more) (s .args .n) (c .before .before .before .before .before .before .before .before .before .if1 .left) (c .before .before .before .before .before .before .before .before .if2 .left)) (put-more (c .before .before .before .before .before .before .put-digits .ensures) (c .before .before .put-digit3 .ensures))
+    put-as (more-digits (s .args .more) (s .args .n) (c .before .before .before .before .before .before .before .before .before .if1 .left)
+    (c .before .before .before .before .before .before .before .before .if2 .left))
+    (put-more (c .before .before .before .before .before .before .put-digits .ensures) (c .before .before .put-digit3 .ensures))
 
 pub +put-digits-spec : {M : Type 1} → statement M
 +put-digits-spec =

@@ -10,7 +10,8 @@ put-number-requires : tie.Need-put-number-requires
 put-number-requires c κs = search needs
 
 put-byte-requires : tie.Need-put-byte-requires
-put-byte-requires c κs = number-room (c .before .before .before .before .before .before .args .n) (c .before .before .before .before .before .before .pre) (c .before .before .before .put-number .ensures)
+put-byte-requires c κs = number-room (c .before .before .before .before .before .before .args .n)
+    (c .before .before .before .before .before .before .pre) (c .before .before .before .put-number .ensures)
 
 same-length : tie.Need-same-length
 same-length c = search needs

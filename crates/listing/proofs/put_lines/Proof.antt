@@ -14,7 +14,8 @@ abbrev μ-loop : tie.MeasureT-loop
 μ-loop out₀ at counts level₀ p₀ out level p = length counts - 4 * level
 
 loop-holds : tie.Need-loop-holds Inv-loop μ-loop
-loop-holds c = lined-start (c .before .before .args .out .now) (c .before .before .args .at) (c .before .before .args .counts .now) (c .before .before .pre .1)
+loop-holds c = lined-start (c .before .before .args .out .now) (c .before .before .args .at) (c .before .before .args .counts .now)
+    (c .before .before .pre .1)
 
 mul-loop : tie.Need-mul-loop Inv-loop μ-loop
 mul-loop c = omega arith
@@ -62,7 +63,8 @@ shared-slice-read-put-line-4 : tie.Need-shared-slice-read-put-line-4 Inv-loop μ
 shared-slice-read-put-line-4 c = omega arith
 
 put-line-requires : tie.Need-put-line-requires Inv-loop μ-loop
-put-line-requires c κs = lined-room (c .before .before .before .before .before .before .loop .inv) (c .before .before .before .before .before .loop-test .taken)
+put-line-requires c κs = lined-room (c .before .before .before .before .before .before .loop .inv)
+    (c .before .before .before .before .before .loop-test .taken)
 
 add-level : tie.Need-add-level Inv-loop μ-loop
 add-level c = omega arith
@@ -71,7 +73,8 @@ loop-less : tie.Need-loop-less Inv-loop μ-loop
 loop-less c = omega arith
 
 loop-again : tie.Need-loop-again Inv-loop μ-loop
-loop-again c = lined-next (c .before .before .before .before .before .before .before .before .before .loop .inv) (c .before .before .before .before .before .before .before .before .loop-test .taken) (c .before .before .put-line .ensures)
+loop-again c = lined-next (c .before .before .before .before .before .before .before .before .before .loop .inv)
+    (c .before .before .before .before .before .before .before .before .loop-test .taken) (c .before .before .put-line .ensures)
 
 same-length : tie.Need-same-length Inv-loop μ-loop
 same-length c = c .before .loop .inv .size

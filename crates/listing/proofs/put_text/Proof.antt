@@ -36,8 +36,11 @@ loop-less c = search needs
 loop-again : tie.Need-loop-again Inv-loop μ-loop
 loop-again c =
     let s = c .before .before .before in
-    let l = c .before .before .loop in
-    (search needs, text-more (s .args .out .now) (l .out) (s .args .text .now) (s .args .at) (l .i) (s .pre) (c .before .loop-test .taken) (l .inv .1))
+    let l = c .before .before .loop in (
+      search needs,
+      text-more (s .args .out .now) (l .out) (s .args .text .now) (s .args .at) (l .i) (s .pre) (c .before .loop-test .taken)
+          (l .inv .1),
+    )
 
 add-result : tie.Need-add-result Inv-loop μ-loop
 add-result c = search needs
@@ -48,7 +51,8 @@ same-length c = put-length (c .before .loop .inv .1)
 returns : tie.Need-returns Inv-loop μ-loop
 returns c =
     let s = c .before .before in
-    text-end (s .args .out .now) (c .before .loop .out) (s .args .text .now) (s .args .at) (c .before .loop .i) (c .loop-test .left) (c .before .loop .inv .1)
+    text-end (s .args .out .now) (c .before .loop .out) (s .args .text .now) (s .args .at) (c .before .loop .i) (c .loop-test .left)
+    (c .before .loop .inv .1)
 
 pub put-text-spec : {M : Type 1} → statement M
 put-text-spec =

@@ -20,7 +20,8 @@ same-length c = search needs
 
 returns : tie.Need-returns
 unfolding listing
-returns c = put-front (put-more (c .before .before .before .before .before .before .put-text .ensures) (c .before .before .put-lines .ensures))
+returns c = put-front (put-more (c .before .before .before .before .before .before .put-text .ensures)
+    (c .before .before .put-lines .ensures))
 
 pub write-listing-spec : {M : Type 1} → statement M
 write-listing-spec =

@@ -20,7 +20,8 @@ same-length c = search needs
 
 returns : tie.Need-returns
 unfolding refusal
-returns c = put-front (put-more (c .before .before .before .before .before .before .put-text .ensures) (c .before .before .put-field .ensures))
+returns c = put-front (put-more (c .before .before .before .before .before .before .put-text .ensures)
+    (c .before .before .put-field .ensures))
 
 pub write-refusal-spec : {M : Type 1} → statement M
 write-refusal-spec =

@@ -1,4 +1,5 @@
-use Rattle.store.specs.Checks.{shape-first, shape-second, shape-third, shape-least, content-first, content-second, content-third, content-other}
+use Rattle.store.specs.Checks.{shape-first, shape-second, shape-third, shape-least, content-first, content-second, content-third}
+use Rattle.store.specs.Checks.{content-other}
 use mathlib.Core.Path.{_∙_}
 use native.Mathlib.Omega.{arith}
 use Rattle.mail.proofs.content_fits.Statement.{statement}

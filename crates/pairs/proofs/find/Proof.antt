@@ -29,8 +29,11 @@ shared-slice-read-e c = search needs
 
 loop-holds : tie.Need-loop-holds Inv-loop μ-loop
 loop-holds c =
-    let b = c .before .bucket-of in
-    (start (c .before .before .before .before .before .before .pre) (b .result) (b .ensures .0) (b .ensures .1), omega (arith, c .shared-slice-known5 .given (b .result)))
+    let b = c .before .bucket-of in (
+      start (c .before .before .before .before .before .before .pre) (b .result) (b .ensures .0) (b .ensures .1),
+      omega
+          (arith, c .shared-slice-known5 .given (b .result)),
+    )
 
 cast-i : tie.Need-cast-i Inv-loop μ-loop
 cast-i c = search needs
@@ -48,7 +51,8 @@ stands-requires c κs =
 returns-2 : tie.Need-returns-2 Inv-loop μ-loop
 returns-2 c =
     let p = c .before .before .before in
-    hit (entry (p .before) .pre) (p .before .loop .inv .0) (p .loop-test .taken) (c .before .before .if1 .left) (c .before .stands .ensures) (c .if2 .taken)
+    hit (entry (p .before) .pre) (p .before .loop .inv .0) (p .loop-test .taken) (c .before .before .if1 .left) (c .before .stands .ensures)
+    (c .if2 .taken)
 
 mul-e-2 : tie.Need-mul-e-2 Inv-loop μ-loop
 mul-e-2 c =
@@ -63,12 +67,16 @@ shared-slice-read-e-2 c =
 loop-less : tie.Need-loop-less Inv-loop μ-loop
 loop-less c =
     let p = c .before .before .before .before in
-    less (entry (p .before) .pre) (p .before .loop .inv .0) (p .loop-test .taken) (omega (arith, c .shared-slice-known6 .given (p .before .loop .e)))
+    less (entry (p .before) .pre) (p .before .loop .inv .0) (p .loop-test .taken)
+    (omega (arith, c .shared-slice-known6 .given (p .before .loop .e)))
 
 loop-again : tie.Need-loop-again Inv-loop μ-loop
 loop-again c =
-    let p = c .before .before .before .before in
-    (turn (entry (p .before) .pre) (p .before .loop .inv .0) (p .loop-test .taken) (c .before .before .stands .ensures) (c .before .if2 .left), omega (arith, c .shared-slice-known6 .given (p .before .loop .e)))
+    let p = c .before .before .before .before in (
+      turn (entry (p .before) .pre) (p .before .loop .inv .0) (p .loop-test .taken) (c .before .before .stands .ensures)
+          (c .before .if2 .left),
+      omega (arith, c .shared-slice-known6 .given (p .before .loop .e)),
+    )
 
 returns-3 : tie.Need-returns-3 Inv-loop μ-loop
 returns-3 c = sym (c .before .loop .inv .0 .none (c .loop-test .left))

@@ -13,7 +13,8 @@ use Rattle.reds.proofs.are_idle.Tie as tie
 
 abbrev Inv-loop : tie.InvT-loop
 Inv-loop rows status marks first last xs ys heads links from n j₀ j =
-    allb (idleb rows status marks (listedb xs ys from n)) (range j (last - j)) ≡ allb (idleb rows status marks (listedb xs ys from n)) (range first (last - first))
+    allb (idleb rows status marks (listedb xs ys from n)) (range j (last - j)) ≡ allb (idleb rows status marks (listedb xs ys from n))
+    (range first (last - first))
 
 abbrev μ-loop : tie.MeasureT-loop
 μ-loop rows status marks first last xs ys heads links from n j₀ j = last - j
@@ -28,7 +29,9 @@ returns : tie.Need-returns Inv-loop μ-loop
 returns c =
     let a = c .before .before .before .before .before .before .before .before .before .before .before .args in
     let l = c .before .before .before .loop in
-    sym (sym (l .inv) ∙ all-range-miss (idleb (a .rows .now) (a .status .now) (a .marks .now) (listedb (a .xs .now) (a .ys .now) (a .from) (a .n))) (l .j) (a .last) (c .before .before .loop-test .taken)
+    sym (sym (l .inv) ∙ all-range-miss
+    (idleb (a .rows .now) (a .status .now) (a .marks .now) (listedb (a .xs .now) (a .ys .now) (a .from) (a .n))) (l .j) (a .last)
+    (c .before .before .loop-test .taken)
     (sym (c .before .is-idle .ensures) ∙ not-true _ (c .if1 .taken)))
 
 add-j : tie.Need-add-j Inv-loop μ-loop
@@ -41,14 +44,17 @@ loop-again : tie.Need-loop-again Inv-loop μ-loop
 loop-again c =
     let a = c .before .before .before .before .before .before .before .before .before .before .before .args in
     let l = c .before .before .before .loop in
-    sym (all-range-next (idleb (a .rows .now) (a .status .now) (a .marks .now) (listedb (a .xs .now) (a .ys .now) (a .from) (a .n))) (l .j) (a .last) (c .before .before .loop-test .taken)
+    sym (all-range-next (idleb (a .rows .now) (a .status .now) (a .marks .now) (listedb (a .xs .now) (a .ys .now) (a .from) (a .n))) (l .j)
+    (a .last) (c .before .before .loop-test .taken)
     (sym (c .before .is-idle .ensures) ∙ not-false _ (c .if1 .left))) ∙ l .inv
 
 returns-2 : tie.Need-returns-2 Inv-loop μ-loop
 returns-2 c =
     let a = c .before .before .before .before .before .before .before .before .before .args in
     let l = c .before .loop in
-    sym (sym (l .inv) ∙ all-range-end (idleb (a .rows .now) (a .status .now) (a .marks .now) (listedb (a .xs .now) (a .ys .now) (a .from) (a .n))) (l .j) (a .last) (omega (arith, c .loop-test .left)))
+    sym (sym (l .inv) ∙ all-range-end
+    (idleb (a .rows .now) (a .status .now) (a .marks .now) (listedb (a .xs .now) (a .ys .now) (a .from) (a .n))) (l .j) (a .last)
+    (omega (arith, c .loop-test .left)))
 
 pub are-idle-spec : {M : Type 1} → statement M
 are-idle-spec =

@@ -16,7 +16,8 @@ use Rattle.reds.proofs.first_children.Statement.{statement}
 use Rattle.reds.proofs.first_children.Tie as tie
 
 abbrev Inv-loop : tie.InvT-loop
-Inv-loop status coarse kids₀ at₀ c₀ kids at c = (c ≤ length status) × (at ≡ firstChild coarse status c) × (at ≤ 256 + 8 * c) × (length kids ≡ length kids₀)
+Inv-loop status coarse kids₀ at₀ c₀ kids at c = (c ≤ length status) × (at ≡ firstChild coarse status c) × (at ≤ 256 + 8 * c)
+    × (length kids ≡ length kids₀)
     × (kids ≡ map (firstChild coarse status) (range 0 c) ++ drop c kids₀)
 
 abbrev μ-loop : tie.MeasureT-loop
@@ -24,8 +25,14 @@ abbrev μ-loop : tie.MeasureT-loop
 
 loop-holds : tie.Need-loop-holds Inv-loop μ-loop
 loop-holds c =
-    let s = c .before .before in
-    (omega arith, sym (first-start (s .args .coarse) (s .args .status .now)), omega (arith, s .pre .1 .2), refl, firsts-none (s .args .kids .now) (s .args .coarse) (s .args .status .now))
+    let s = c .before .before in (
+      omega arith,
+      sym (first-start (s .args .coarse) (s .args .status .now)),
+      omega (arith, s .pre .1 .2),
+      refl,
+      firsts-none
+          (s .args .kids .now) (s .args .coarse) (s .args .status .now),
+    )
 
 cast-kids : tie.Need-cast-kids Inv-loop μ-loop
 cast-kids c = omega (arith, c .before .loop .inv .2, c .loop-test .taken, c .before .before .before .before .pre .1 .0)
@@ -43,11 +50,18 @@ size-of-requires : tie.Need-size-of-requires Inv-loop μ-loop
 size-of-requires c κs =
     let s = c .before .before .before .before .before in
     let l = c .before .before .loop in
-    let w : T (leb (getD (s .args .status .now) (l .c) 0) 64) = allb-at (λ s. leb s 64) 0 (s .args .status .now) (rw (s .pre .0) tt) (l .c) (c .before .loop-test .taken) in
+    let w : T (leb (getD (s .args .status .now) (l .c) 0) 64) = allb-at (λ s. leb s 64) 0 (s .args .status .now) (rw (s .pre .0) tt) (l .c)
+    (c .before .loop-test .taken) in
     leb→le (getD (s .args .status .now) (l .c) 0) 64 w
 
 add-at : tie.Need-add-at Inv-loop μ-loop
-add-at c = omega (arith, c .before .before .before .loop .inv .2, c .before .before .loop-test .taken, c .before .before .before .before .before .before .pre .1 .0, c .size-of .ensures .1)
+add-at c = omega (
+  arith,
+  c .before .before .before .loop .inv .2,
+  c .before .before .loop-test .taken,
+  c .before .before .before .before .before .before .pre .1 .0,
+  c .size-of .ensures .1,
+)
 
 add-c : tie.Need-add-c Inv-loop μ-loop
 add-c c = search needs
@@ -66,7 +80,8 @@ loop-again c =
       omega (arith, first-next (s .args .coarse) (s .args .status .now) (l .c) h, l .inv .1, c .size-of .ensures .0),
       omega (arith, l .inv .2, c .size-of .ensures .1),
       length-set (l .kids) (l .c) (l .at) ∙ l .inv .3,
-      firsts-more (s .args .kids .now) (l .kids) (s .args .coarse) (s .args .status .now) (l .c) (l .at) (l .inv .4) (omega (arith, s .pre .1 .1)) (l .inv .1),
+      firsts-more (s .args .kids .now) (l .kids) (s .args .coarse) (s .args .status .now) (l .c) (l .at) (l .inv .4)
+          (omega (arith, s .pre .1 .1)) (l .inv .1),
     )
 
 cast-kids-2 : tie.Need-cast-kids-2 Inv-loop μ-loop
@@ -87,7 +102,8 @@ returns c =
     let s = c .before .before .before .before in
     let l = c .before .loop in
     let k : l .c ≡ length (s .args .status .now) = omega (arith, l .inv .0, c .loop-test .left) in
-    let w = firsts-more (s .args .kids .now) (l .kids) (s .args .coarse) (s .args .status .now) (l .c) (l .at) (l .inv .4) (omega (arith, s .pre .1 .1)) (l .inv .1) in
+    let w = firsts-more (s .args .kids .now) (l .kids) (s .args .coarse) (s .args .status .now) (l .c) (l .at) (l .inv .4)
+    (omega (arith, s .pre .1 .1)) (l .inv .1) in
     w ∙ rw k
 
 pub first-children-spec : {M : Type 1} → statement M

@@ -22,8 +22,13 @@ abbrev μ-loop : tie.MeasureT-loop
 loop-holds : tie.Need-loop-holds Inv-loop μ-loop
 loop-holds c =
     let s = c .before .before .before .before .before .before .before .before .before in
-    let a = s .args in
-    (omega arith, s .pre .1 .1 .up, refl, flags-start (a .rows .now) (a .status .now) (a .marks .now) (a .kids .now) (listedb (a .xs .now) (a .ys .now) (a .from) (a .n)) (a .red .now) (a .first))
+    let a = s .args in (
+      omega arith,
+      s .pre .1 .1 .up,
+      refl,
+      flags-start (a .rows .now) (a .status .now) (a .marks .now) (a .kids .now)
+          (listedb (a .xs .now) (a .ys .now) (a .from) (a .n)) (a .red .now) (a .first),
+    )
 
 is-new-red-requires : tie.Need-is-new-red-requires Inv-loop μ-loop
 is-new-red-requires c κs =
@@ -34,7 +39,13 @@ flag-requires : tie.Need-flag-requires Inv-loop μ-loop
 flag-requires c κs = search needs
 
 slice-write-red : tie.Need-slice-write-red Inv-loop μ-loop
-slice-write-red c = omega (arith, c .before .before .before .loop .inv .2, c .before .before .loop-test .taken, c .before .before .before .before .before .before .before .before .before .before .before .before .before .pre .1 .1 .inside, c .before .before .before .before .before .before .before .before .before .before .before .before .before .pre .1 .1 .room)
+slice-write-red c = omega (
+  arith,
+  c .before .before .before .loop .inv .2,
+  c .before .before .loop-test .taken,
+  c .before .before .before .before .before .before .before .before .before .before .before .before .before .pre .1 .1 .inside,
+  c .before .before .before .before .before .before .before .before .before .before .before .before .before .pre .1 .1 .room,
+)
 
 add-c : tie.Need-add-c Inv-loop μ-loop
 add-c c = search needs
@@ -51,8 +62,10 @@ loop-again c =
       omega (arith, l .inv .0),
       omega arith,
       length-set (l .red) (l .c) (c .flag .result) ∙ l .inv .2,
-      flags-more (a .rows .now) (a .status .now) (a .marks .now) (a .kids .now) (listedb (a .xs .now) (a .ys .now) (a .from) (a .n)) (a .red .now) (a .first) (l .red) (l .c) (c .flag .result) (l .inv .0)
-          (omega (arith, h, s .pre .1 .1 .inside, s .pre .1 .1 .room)) (l .inv .3) (c .flag .ensures ∙ ap flagOf (c .before .is-new-red .ensures)),
+      flags-more (a .rows .now) (a .status .now) (a .marks .now) (a .kids .now) (listedb (a .xs .now) (a .ys .now) (a .from) (a .n))
+          (a .red .now) (a .first) (l .red) (l .c) (c .flag .result) (l .inv .0)
+          (omega (arith, h, s .pre .1 .1 .inside, s .pre .1 .1 .room)) (l .inv .3)
+          (c .flag .ensures ∙ ap flagOf (c .before .is-new-red .ensures)),
     )
 
 same-length : tie.Need-same-length Inv-loop μ-loop
@@ -64,7 +77,9 @@ returns c =
     let l = c .before .loop in
     let k : l .c ≡ a .last = omega (arith, l .inv .1, c .loop-test .left) in
     let w = l .inv .3 in
-    rw k at w ∙ append-assoc (take (a .first) (a .red .now)) (flagsAt (a .rows .now) (a .status .now) (a .marks .now) (a .kids .now) (listedb (a .xs .now) (a .ys .now) (a .from) (a .n)) (a .first) (a .last - a .first)) (drop (a .last) (a .red .now))
+    rw k at w ∙ append-assoc (take (a .first) (a .red .now))
+    (flagsAt (a .rows .now) (a .status .now) (a .marks .now) (a .kids .now) (listedb (a .xs .now) (a .ys .now) (a .from) (a .n))
+    (a .first) (a .last - a .first)) (drop (a .last) (a .red .now))
 
 pub flag-level-spec : {M : Type 1} → statement M
 flag-level-spec =

@@ -22,7 +22,8 @@ returns-2 : tie.Need-returns-2
 returns-2 c =
     let a = c .before .before .before .before .before .before .before .before .before .args in
     c .is-touched .ensures
-    ∙ sym (pulled-touch (a .rows .now) (a .marks .now) (listedb (a .xs .now) (a .ys .now) (a .from) (a .n)) (a .g) (a .j) (c .before .if1 .left))
+    ∙ sym (pulled-touch (a .rows .now) (a .marks .now) (listedb (a .xs .now) (a .ys .now) (a .from) (a .n)) (a .g) (a .j)
+    (c .before .if1 .left))
 
 pub is-pulled-spec : {M : Type 1} → statement M
 is-pulled-spec = tie.close (tie.spec shared-slice-read-if1 returns is-touched-requires returns-2)

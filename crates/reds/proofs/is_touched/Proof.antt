@@ -37,8 +37,10 @@ returns c =
     let l = c .before .before .before .loop in
     let held = listedb (a .xs .now) (a .ys .now) (a .from) (a .n) in
     let d : Pair = edge 0 (cellAt (a .rows .now) (a .j)) (l .e) in
-    sym (sym (l .inv .1) ∙ any-hit (touchTest (a .rows .now) held (a .g)) (cellAt (a .rows .now) (a .j)) (l .e) (c .before .before .loop-test .taken)
-    (touch-edge (heldb eqb (edges 0 (cellAt (a .rows .now) (a .g))) d) (held d) (c .before .apart-edge .result) (c .before .apart-edge .ensures) ∙ c .if1 .taken))
+    sym (sym (l .inv .1) ∙ any-hit (touchTest (a .rows .now) held (a .g)) (cellAt (a .rows .now) (a .j)) (l .e)
+    (c .before .before .loop-test .taken)
+    (touch-edge (heldb eqb (edges 0 (cellAt (a .rows .now) (a .g))) d) (held d) (c .before .apart-edge .result)
+    (c .before .apart-edge .ensures) ∙ c .if1 .taken))
 
 add-e : tie.Need-add-e Inv-loop μ-loop
 add-e c = search needs
@@ -54,7 +56,8 @@ loop-again c =
     let d : Pair = edge 0 (cellAt (a .rows .now) (a .j)) (l .e) in (
       omega (arith, c .before .before .loop-test .taken),
       sym (any-next (touchTest (a .rows .now) held (a .g)) (cellAt (a .rows .now) (a .j)) (l .e) (c .before .before .loop-test .taken)
-          (touch-edge (heldb eqb (edges 0 (cellAt (a .rows .now) (a .g))) d) (held d) (c .before .apart-edge .result) (c .before .apart-edge .ensures) ∙ c .if1 .left)) ∙ l .inv .1,
+          (touch-edge (heldb eqb (edges 0 (cellAt (a .rows .now) (a .g))) d) (held d) (c .before .apart-edge .result)
+          (c .before .apart-edge .ensures) ∙ c .if1 .left)) ∙ l .inv .1,
     )
 
 returns-2 : tie.Need-returns-2 Inv-loop μ-loop
@@ -63,7 +66,8 @@ returns-2 c =
     let l = c .before .loop in
     let k : l .e ≡ 6 = omega (arith, l .inv .0, c .loop-test .left) in
     let w = l .inv .1 in
-    sym (sym (rw k at w) ∙ any-none (touchTest (a .rows .now) (listedb (a .xs .now) (a .ys .now) (a .from) (a .n)) (a .g)) (cellAt (a .rows .now) (a .j)))
+    sym (sym (rw k at w) ∙ any-none (touchTest (a .rows .now) (listedb (a .xs .now) (a .ys .now) (a .from) (a .n)) (a .g))
+    (cellAt (a .rows .now) (a .j)))
 
 pub is-touched-spec : {M : Type 1} → statement M
 is-touched-spec =

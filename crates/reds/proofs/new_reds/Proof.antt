@@ -13,7 +13,11 @@ clear-requires c κs = search needs
 shared-slice-read-flag-up : tie.Need-shared-slice-read-flag-up
 shared-slice-read-flag-up c =
     let a = c .before .before .before .before .before .before .before .before .before .before .args in
-    omega (arith, marked-old (a .n) (a .mesh .now) (a .rows .now) (a .status .now) (a .marks .now) (a .kids .now) (a .red .now) (c .before .before .before .before .before .before .before .before .before .before .pre) .size)
+    omega (
+      arith,
+      marked-old (a .n) (a .mesh .now) (a .rows .now) (a .status .now) (a .marks .now) (a .kids .now) (a .red .now)
+          (c .before .before .before .before .before .before .before .before .before .before .pre) .size,
+    )
 
 cast-flag-up : tie.Need-cast-flag-up
 cast-flag-up c = omega (arith, c .shared-slice-known6 .given 0)
@@ -40,9 +44,14 @@ same-length c = search needs
 
 returns : tie.Need-returns
 returns c =
-    let a = c .before .before .before .before .before .before .before .before .before .before .before .before .before .before .before .before .before .args in
+    let
+    a =
+    c .before .before .before .before .before .before .before .before .before .before .before .before .before .before .before .before
+    .before .args in
     let u = c .before .before .flag-up in
-    marked-result (a .n) (a .mesh .now) (a .rows .now) (a .status .now) (a .marks .now) (a .kids .now) (a .red .now) (c .before .before .before .before .before .before .before .before .before .before .before .before .before .before .before .before .before .pre) (u .last .1 .1 .1 .1 .0) (u .ensures .flags)
+    marked-result (a .n) (a .mesh .now) (a .rows .now) (a .status .now) (a .marks .now) (a .kids .now) (a .red .now)
+    (c .before .before .before .before .before .before .before .before .before .before .before .before .before .before .before .before
+    .before .pre) (u .last .1 .1 .1 .1 .0) (u .ensures .flags)
 
 pub new-reds-spec : {M : Type 1} → statement M
 new-reds-spec =

@@ -12,7 +12,8 @@ use Rattle.reds.proofs.one_pulled.Tie as tie
 
 abbrev Inv-loop : tie.InvT-loop
 Inv-loop rows marks g first last xs ys heads links from n j₀ j =
-    anyb (pulledb rows marks (listedb xs ys from n) g) (range j (last - j)) ≡ anyb (pulledb rows marks (listedb xs ys from n) g) (range first (last - first))
+    anyb (pulledb rows marks (listedb xs ys from n) g) (range j (last - j)) ≡ anyb (pulledb rows marks (listedb xs ys from n) g)
+    (range first (last - first))
 
 abbrev μ-loop : tie.MeasureT-loop
 μ-loop rows marks g first last xs ys heads links from n j₀ j = last - j
@@ -27,7 +28,8 @@ returns : tie.Need-returns Inv-loop μ-loop
 returns c =
     let a = c .before .before .before .before .before .before .before .before .before .before .args in
     let l = c .before .before .before .loop in
-    sym (sym (l .inv) ∙ any-range-hit (pulledb (a .rows .now) (a .marks .now) (listedb (a .xs .now) (a .ys .now) (a .from) (a .n)) (a .g)) (l .j) (a .last) (c .before .before .loop-test .taken)
+    sym (sym (l .inv) ∙ any-range-hit (pulledb (a .rows .now) (a .marks .now) (listedb (a .xs .now) (a .ys .now) (a .from) (a .n)) (a .g))
+    (l .j) (a .last) (c .before .before .loop-test .taken)
     (sym (c .before .is-pulled .ensures) ∙ c .if1 .taken))
 
 add-j : tie.Need-add-j Inv-loop μ-loop
@@ -40,14 +42,16 @@ loop-again : tie.Need-loop-again Inv-loop μ-loop
 loop-again c =
     let a = c .before .before .before .before .before .before .before .before .before .before .args in
     let l = c .before .before .before .loop in
-    sym (any-range-next (pulledb (a .rows .now) (a .marks .now) (listedb (a .xs .now) (a .ys .now) (a .from) (a .n)) (a .g)) (l .j) (a .last) (c .before .before .loop-test .taken)
+    sym (any-range-next (pulledb (a .rows .now) (a .marks .now) (listedb (a .xs .now) (a .ys .now) (a .from) (a .n)) (a .g)) (l .j)
+    (a .last) (c .before .before .loop-test .taken)
     (sym (c .before .is-pulled .ensures) ∙ c .if1 .left)) ∙ l .inv
 
 returns-2 : tie.Need-returns-2 Inv-loop μ-loop
 returns-2 c =
     let a = c .before .before .before .before .before .before .before .before .args in
     let l = c .before .loop in
-    sym (sym (l .inv) ∙ any-range-end (pulledb (a .rows .now) (a .marks .now) (listedb (a .xs .now) (a .ys .now) (a .from) (a .n)) (a .g)) (l .j) (a .last) (omega (arith, c .loop-test .left)))
+    sym (sym (l .inv) ∙ any-range-end (pulledb (a .rows .now) (a .marks .now) (listedb (a .xs .now) (a .ys .now) (a .from) (a .n)) (a .g))
+    (l .j) (a .last) (omega (arith, c .loop-test .left)))
 
 pub one-pulled-spec : {M : Type 1} → statement M
 one-pulled-spec =

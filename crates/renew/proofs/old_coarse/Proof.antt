@@ -33,13 +33,15 @@ loop-less : tie.Need-loop-less Inv-loop μ-loop
 loop-less c = search needs
 
 loop-again : tie.Need-loop-again Inv-loop μ-loop
-loop-again c = ups-more (c .before .before .args .coarse) (c .before .before .args .old .now) (c .before .loop .old) (c .before .loop .c) (c .before .loop .inv) (c .loop-test .taken) (c .before .before .pre .1)
+loop-again c = ups-more (c .before .before .args .coarse) (c .before .before .args .old .now) (c .before .loop .old) (c .before .loop .c)
+    (c .before .loop .inv) (c .loop-test .taken) (c .before .before .pre .1)
 
 same-length : tie.Need-same-length Inv-loop μ-loop
 same-length c = c .before .loop .inv .long
 
 returns : tie.Need-returns Inv-loop μ-loop
-returns c = let e : c .before .loop .c ≡ c .before .before .args .coarse = omega (arith, c .before .loop .inv .below, c .loop-test .left) in rw e at (c .before .loop .inv .written-is)
+returns c = let e : c .before .loop .c ≡ c .before .before .args .coarse = omega (arith, c .before .loop .inv .below, c .loop-test .left) in
+    rw e at (c .before .loop .inv .written-is)
 
 pub old-coarse-spec : {M : Type 1} → statement M
 old-coarse-spec =

@@ -18,7 +18,8 @@ same-length : tie.Need-same-length
 same-length c = search needs
 
 returns : tie.Need-returns
-returns c = let e : c .before .before .before .spread .result ≡ false = not-true _ (c .if1 .taken) in fitting-missed _ _ _ (rw e at (c .before .before .before .spread .ensures))
+returns c = let e : c .before .before .before .spread .result ≡ false = not-true _ (c .if1 .taken) in
+    fitting-missed _ _ _ (rw e at (c .before .before .before .spread .ensures))
 
 slice-reshare-prefix-marks-fit : tie.Need-slice-reshare-prefix-marks-fit
 slice-reshare-prefix-marks-fit c = search needs
@@ -26,7 +27,8 @@ slice-reshare-prefix-marks-fit c = search needs
 slice-aggregate-marks-fit : tie.Need-slice-aggregate-marks-fit
 slice-aggregate-marks-fit c =
     let s = c .before .before .before .before .before .before .before .before .before .before in
-    sym (length-take-le (length (s .args .status .now)) _ (omega (arith, s .pre .1, c .before .before .before .before .spread .kept .1 .1 .1 .0)))
+    sym (length-take-le (length (s .args .status .now)) _
+    (omega (arith, s .pre .1, c .before .before .before .before .spread .kept .1 .1 .1 .0)))
 
 marks-fit-requires : tie.Need-marks-fit-requires
 marks-fit-requires c κs = search needs
@@ -35,7 +37,8 @@ same-length-2 : tie.Need-same-length-2
 same-length-2 c = search needs
 
 returns-2 : tie.Need-returns-2
-returns-2 c = let e : c .before .before .before .before .before .spread .result ≡ true = not-false _ (c .before .before .if1 .left) in fitting-tested _ _ _ (rw e at (c .before .before .before .before .before .spread .ensures)) _ (c .marks-fit .ensures)
+returns-2 c = let e : c .before .before .before .before .before .spread .result ≡ true = not-false _ (c .before .before .if1 .left) in
+    fitting-tested _ _ _ (rw e at (c .before .before .before .before .before .spread .ensures)) _ (c .marks-fit .ensures)
 
 pub examine-marks-spec : {M : Type 1} → statement M
 examine-marks-spec =

@@ -25,7 +25,14 @@ refused-requires-2 : tie.Need-refused-requires-2
 refused-requires-2 c κs = search needs
 
 returns-2 : tie.Need-returns-2
-returns-2 c = next-behind _ _ _ _ _ _ _ _ (omega (arith, length-pairs (c .before .before .before .before .before .before .before .args .marked .now) (c .before .before .before .before .before .before .before .args .marks .now) (c .before .before .before .before .before .before .before .pre .1 .0), c .before .if2 .taken)) _ _ _ (c .refused2 .ensures .0)
+returns-2 c = next-behind _ _ _ _ _ _ _ _
+    (omega (
+      arith,
+      length-pairs (c .before .before .before .before .before .before .before .args .marked .now)
+          (c .before .before .before .before .before .before .before .args .marks .now)
+          (c .before .before .before .before .before .before .before .pre .1 .0),
+      c .before .if2 .taken,
+    )) _ _ _ (c .refused2 .ensures .0)
 
 mul-examine-marks : tie.Need-mul-examine-marks
 mul-examine-marks c = search needs
@@ -43,14 +50,34 @@ part-examine-marks-end-2 : tie.Need-part-examine-marks-end-2
 part-examine-marks-end-2 c = search needs
 
 slice-aggregate-examine-marks : tie.Need-slice-aggregate-examine-marks
-slice-aggregate-examine-marks c = sym (length-take-le (c .before .before .before .before .before .before .before .before .before .before .before .args .cells) (c .before .before .before .before .before .before .before .before .before .before .before .args .table .now) (omega (arith, c .before .before .before .before .before .before .before .before .before .before .before .pre .0 .few, c .before .before .before .before .before .before .before .before .before .before .before .pre .0 .room)))
+slice-aggregate-examine-marks c = sym
+    (length-take-le (c .before .before .before .before .before .before .before .before .before .before .before .args .cells)
+    (c .before .before .before .before .before .before .before .before .before .before .before .args .table .now)
+    (omega (
+      arith,
+      c .before .before .before .before .before .before .before .before .before .before .before .pre .0 .few,
+      c .before .before .before .before .before .before .before .before .before .before .before .pre .0 .room,
+    )))
 
 examine-marks-requires : tie.Need-examine-marks-requires
 examine-marks-requires c κs =
     let a = c .before .before .before .before .before .before .before .before .before .before .before .before .args in
     let p = c .before .before .before .before .before .before .before .before .before .before .before .before .pre in
-    let f = length-take-le (a .e - a .p) (drop (a .p) (a .marked .now)) (omega (arith, length-drop (a .p) (a .marked .now), c .before .before .before .before .before .before .if2 .left, c .before .before .before .before .before .before .before .if1 .left)) in
-    let g = length-take-le (a .e - a .p) (drop (a .p) (a .marks .now)) (omega (arith, length-drop (a .p) (a .marks .now), p .1 .0, c .before .before .before .before .before .before .if2 .left, c .before .before .before .before .before .before .before .if1 .left)) in
+    let f = length-take-le (a .e - a .p) (drop (a .p) (a .marked .now))
+    (omega (
+      arith,
+      length-drop (a .p) (a .marked .now),
+      c .before .before .before .before .before .before .if2 .left,
+      c .before .before .before .before .before .before .before .if1 .left,
+    )) in
+    let g = length-take-le (a .e - a .p) (drop (a .p) (a .marks .now))
+    (omega (
+      arith,
+      length-drop (a .p) (a .marks .now),
+      p .1 .0,
+      c .before .before .before .before .before .before .if2 .left,
+      c .before .before .before .before .before .before .before .if1 .left,
+    )) in
     let l = length-take-le (a .cells) (a .table .now) (omega (arith, p .0 .few, p .0 .room)) in
     (f ∙ sym g, omega (arith, l, p .0 .few, c .examine-marks-arg4))
 
@@ -59,51 +86,177 @@ refused-requires-3 c κs = search needs
 
 returns-3 : tie.Need-returns-3
 returns-3 c =
-    let a = c .before .before .before .before .before .before .before .before .before .before .before .before .before .before .before .args in
+    let a = c .before .before .before .before .before .before .before .before .before .before .before .before .before .before .before .args
+    in
     let e : c .before .before .examine-marks .result ≡ false = not-true _ (c .before .if3 .taken) in
-    next-moved _ _ _ _ _ _ _ _ (omega (arith, c .before .before .before .before .before .before .before .before .before .before .if1 .left)) (omega (arith, length-pairs (a .marked .now) (a .marks .now) (c .before .before .before .before .before .before .before .before .before .before .before .before .before .before .before .pre .1 .0), c .before .before .before .before .before .before .before .before .before .if2 .left)) _ _ _ _ (pairs-part (a .e - a .p) (a .p) (a .marked .now) (a .marks .now))
+    next-moved _ _ _ _ _ _ _ _ (omega (arith, c .before .before .before .before .before .before .before .before .before .before .if1 .left))
+    (omega (
+      arith,
+      length-pairs (a .marked .now) (a .marks .now)
+          (c .before .before .before .before .before .before .before .before .before .before .before .before .before .before .before .pre .1
+          .0),
+      c .before .before .before .before .before .before .before .before .before .if2 .left,
+    )) _ _ _ _ (pairs-part (a .e - a .p) (a .p) (a .marked .now) (a .marks .now))
     (moved-missed _ _ _ _ _ _ _ (rw e at (c .before .before .examine-marks .ensures)) _ _ _ (c .refused3 .ensures .0))
 
 slice-aggregate-advance : tie.Need-slice-aggregate-advance
-slice-aggregate-advance c = sym (length-take-le (c .before .before .before .before .before .before .before .before .before .before .before .before .before .before .before .before .before .before .args .cells) (c .before .before .before .before .before .before .before .before .before .before .before .before .before .before .before .before .before .before .args .table .now) (omega (arith, c .before .before .before .before .before .before .before .before .before .before .before .before .before .before .before .before .before .before .pre .0 .few, c .before .before .before .before .before .before .before .before .before .before .before .before .before .before .before .before .before .before .pre .0 .room)))
+slice-aggregate-advance c = sym
+    (length-take-le
+    (c .before .before .before .before .before .before .before .before .before .before .before .before .before .before .before .before
+    .before .before .args .cells)
+    (c .before .before .before .before .before .before .before .before .before .before .before .before .before .before .before .before
+    .before .before .args .table .now)
+    (omega (
+      arith,
+      c .before .before .before .before .before .before .before .before .before .before .before .before .before .before .before .before
+          .before .before .pre .0 .few,
+      c .before .before .before .before .before .before .before .before .before .before .before .before .before .before .before .before
+          .before .before .pre .0 .room,
+    )))
 
 slice-aggregate-advance-2 : tie.Need-slice-aggregate-advance-2
-slice-aggregate-advance-2 c = sym (length-take-le (c .before .before .before .before .before .before .before .before .before .before .before .before .before .before .before .before .before .before .before .args .cells) (c .before .before .before .before .before .before .examine-marks .last .1 .1 .1 .0) (omega (arith, c .before .before .before .before .before .before .before .before .before .before .before .before .before .before .before .before .before .before .before .pre .0 .few, c .before .before .before .spread2)))
+slice-aggregate-advance-2 c = sym
+    (length-take-le
+    (c .before .before .before .before .before .before .before .before .before .before .before .before .before .before .before .before
+    .before .before .before .args .cells) (c .before .before .before .before .before .before .examine-marks .last .1 .1 .1 .0)
+    (omega (
+      arith,
+      c .before .before .before .before .before .before .before .before .before .before .before .before .before .before .before .before
+          .before .before .before .pre .0 .few,
+      c .before .before .before .spread2,
+    )))
 
 advance-requires : tie.Need-advance-requires
 advance-requires c κs =
-    let a = c .before .before .before .before .before .before .before .before .before .before .before .before .before .before .before .before .before .before .before .before .before .before .before .before .before .before .before .before .before .before .before .before .args in
-    let p = c .before .before .before .before .before .before .before .before .before .before .before .before .before .before .before .before .before .before .before .before .before .before .before .before .before .before .before .before .before .before .before .before .pre in
-    let m = length-take-le (a .cells) (c .before .before .before .before .before .before .before .before .before .before .before .before .before .before .before .before .before .before .before .examine-marks .last .1 .1 .1 .0) (omega (arith, p .0 .few, c .before .before .before .before .before .before .before .before .before .before .before .before .before .before .before .before .spread2)) in
+    let
+    a =
+    c .before .before .before .before .before .before .before .before .before .before .before .before .before .before .before .before
+    .before .before .before .before .before .before .before .before .before .before .before .before .before .before .before .before
+    .args in
+    let
+    p =
+    c .before .before .before .before .before .before .before .before .before .before .before .before .before .before .before .before
+    .before .before .before .before .before .before .before .before .before .before .before .before .before .before .before .before .pre
+    in
+    let m = length-take-le (a .cells)
+    (c .before .before .before .before .before .before .before .before .before .before .before .before .before .before .before .before
+    .before .before .before .examine-marks .last .1 .1 .1 .0)
+    (omega (
+      arith,
+      p .0 .few,
+      c .before .before .before .before .before .before .before .before .before .before .before .before .before .before .before .before
+          .spread2,
+    )) in
     let l = length-take-le (a .cells) (a .table .now) (omega (arith, p .0 .few, p .0 .room)) in
     (p .0 .held, (m ∙ sym l, p .1 .1))
 
 returns-4 : tie.Need-returns-4
 returns-4 c =
-    let a = c .before .before .before .before .before .before .before .before .before .before .before .before .before .before .before .before .before .before .before .before .before .before .before .before .before .before .before .before .before .before .before .before .before .before .before .args in
-    let e : c .before .before .before .before .before .before .before .before .before .before .before .before .before .before .before .before .before .before .before .before .before .before .examine-marks .result ≡ true = not-false _ (c .before .before .before .before .before .before .before .before .before .before .before .before .before .before .before .before .before .before .before .before .before .if3 .left) in
-    let l = length-take-le (a .cells) (a .table .now) (omega (arith, c .before .before .before .before .before .before .before .before .before .before .before .before .before .before .before .before .before .before .before .before .before .before .before .before .before .before .before .before .before .before .before .before .before .before .before .pre .0 .few, c .before .before .before .before .before .before .before .before .before .before .before .before .before .before .before .before .before .before .before .before .before .before .before .before .before .before .before .before .before .before .before .before .before .before .before .pre .0 .room)) in
-    next-moved _ _ _ _ _ _ _ _ (omega (arith, c .before .before .before .before .before .before .before .before .before .before .before .before .before .before .before .before .before .before .before .before .before .before .before .before .before .before .before .before .before .before .if1 .left)) (omega (arith, length-pairs (a .marked .now) (a .marks .now) (c .before .before .before .before .before .before .before .before .before .before .before .before .before .before .before .before .before .before .before .before .before .before .before .before .before .before .before .before .before .before .before .before .before .before .before .pre .1 .0), c .before .before .before .before .before .before .before .before .before .before .before .before .before .before .before .before .before .before .before .before .before .before .before .before .before .before .before .before .before .if2 .left)) _ _ _ _ (pairs-part (a .e - a .p) (a .p) (a .marked .now) (a .marks .now))
-    (moved-on _ _ _ _ _ _ _ (rw e at (c .before .before .before .before .before .before .before .before .before .before .before .before .before .before .before .before .before .before .before .before .before .before .examine-marks .ensures)) _ l _ _ _ (stepped-refused _ _ _ _ _ _ _ _ _ _ _ _ (c .before .before .advance .ensures) _ _ _ _ _ refl (c .if4 .taken)))
+    let
+    a =
+    c .before .before .before .before .before .before .before .before .before .before .before .before .before .before .before .before
+    .before .before .before .before .before .before .before .before .before .before .before .before .before .before .before .before
+    .before .before .before .args in
+    let
+    e :
+    c .before .before .before .before .before .before .before .before .before .before .before .before .before .before .before .before
+    .before .before .before .before .before .before .examine-marks .result ≡ true = not-false _
+    (c .before .before .before .before .before .before .before .before .before .before .before .before .before .before .before .before
+    .before .before .before .before .before .if3 .left) in
+    let l = length-take-le (a .cells) (a .table .now)
+    (omega (
+      arith,
+      c .before .before .before .before .before .before .before .before .before .before .before .before .before .before .before .before
+          .before .before .before .before .before .before .before .before .before .before .before .before .before .before .before .before
+          .before .before .before .pre .0 .few,
+      c .before .before .before .before .before .before .before .before .before .before .before .before .before .before .before .before
+          .before .before .before .before .before .before .before .before .before .before .before .before .before .before .before .before
+          .before .before .before .pre .0 .room,
+    )) in
+    next-moved _ _ _ _ _ _ _ _ (omega (
+      arith,
+      c .before .before .before .before .before .before .before .before .before .before .before .before .before .before .before .before
+          .before .before .before .before .before .before .before .before .before .before .before .before .before .before .if1 .left,
+    )) (omega (
+      arith,
+      length-pairs (a .marked .now) (a .marks .now)
+          (c .before .before .before .before .before .before .before .before .before .before .before .before .before .before .before .before
+          .before .before .before .before .before .before .before .before .before .before .before .before .before .before .before .before
+          .before .before .before .pre .1 .0),
+      c .before .before .before .before .before .before .before .before .before .before .before .before .before .before .before .before
+          .before .before .before .before .before .before .before .before .before .before .before .before .before .if2 .left,
+    )) _ _ _ _
+    (pairs-part (a .e - a .p) (a .p) (a .marked .now) (a .marks .now))
+    (moved-on _ _ _ _ _ _ _ (rw e at
+    (c .before .before .before .before .before .before .before .before .before .before .before .before .before .before .before .before
+    .before .before .before .before .before .before .examine-marks .ensures)) _ l _ _ _
+    (stepped-refused _ _ _ _ _ _ _ _ _ _ _ _ (c .before .before .advance .ensures) _ _ _ _ _ refl (c .if4 .taken)))
 
 mul-copy-numbers : tie.Need-mul-copy-numbers
 mul-copy-numbers c = omega (arith, c .before .before .before .before .before .advance .ensures .few (c .before .before .before .if4 .left))
 
 copy-numbers-requires : tie.Need-copy-numbers-requires
-copy-numbers-requires c κs = let few = c .before .before .before .before .before .before .advance .ensures .few (c .before .before .before .before .if4 .left) in (omega (arith, few, c .before .before .copy-numbers-arg2), omega (arith, few, c .copy-numbers-arg3))
+copy-numbers-requires c κs = let few = c .before .before .before .before .before .before .advance .ensures .few
+    (c .before .before .before .before .if4 .left) in
+    (omega (arith, few, c .before .before .copy-numbers-arg2), omega (arith, few, c .copy-numbers-arg3))
 
 copy-bytes-requires : tie.Need-copy-bytes-requires
-copy-bytes-requires c κs = let few = c .before .before .before .before .before .before .before .before .before .before .advance .ensures .few (c .before .before .before .before .before .before .before .before .if4 .left) in (omega (arith, few, c .before .copy-bytes-arg2), omega (arith, few, c .copy-bytes-arg3))
+copy-bytes-requires c κs = let
+    few = c .before .before .before .before .before .before .before .before .before .before .advance .ensures .few
+    (c .before .before .before .before .before .before .before .before .if4 .left) in
+    (omega (arith, few, c .before .copy-bytes-arg2), omega (arith, few, c .copy-bytes-arg3))
 
 returns-5 : tie.Need-returns-5
 returns-5 c =
-    let a = c .before .before .before .before .before .before .before .before .before .before .before .before .before .before .before .before .before .before .before .before .before .before .before .before .before .before .before .before .before .before .before .before .before .before .before .before .before .before .before .before .before .before .before .before .args in
-    let e : c .before .before .before .before .before .before .before .before .before .before .before .before .before .before .before .before .before .before .before .before .before .before .before .before .before .before .before .before .before .before .before .examine-marks .result ≡ true = not-false _ (c .before .before .before .before .before .before .before .before .before .before .before .before .before .before .before .before .before .before .before .before .before .before .before .before .before .before .before .before .before .before .if3 .left) in
-    let l = length-take-le (a .cells) (a .table .now) (omega (arith, c .before .before .before .before .before .before .before .before .before .before .before .before .before .before .before .before .before .before .before .before .before .before .before .before .before .before .before .before .before .before .before .before .before .before .before .before .before .before .before .before .before .before .before .before .pre .0 .few, c .before .before .before .before .before .before .before .before .before .before .before .before .before .before .before .before .before .before .before .before .before .before .before .before .before .before .before .before .before .before .before .before .before .before .before .before .before .before .before .before .before .before .before .before .pre .0 .room)) in
+    let
+    a =
+    c .before .before .before .before .before .before .before .before .before .before .before .before .before .before .before .before
+    .before .before .before .before .before .before .before .before .before .before .before .before .before .before .before .before
+    .before .before .before .before .before .before .before .before .before .before .before .before .args in
+    let
+    e :
+    c .before .before .before .before .before .before .before .before .before .before .before .before .before .before .before .before
+    .before .before .before .before .before .before .before .before .before .before .before .before .before .before .before
+    .examine-marks .result ≡ true = not-false _
+    (c .before .before .before .before .before .before .before .before .before .before .before .before .before .before .before .before
+    .before .before .before .before .before .before .before .before .before .before .before .before .before .before .if3 .left) in
+    let l = length-take-le (a .cells) (a .table .now)
+    (omega (
+      arith,
+      c .before .before .before .before .before .before .before .before .before .before .before .before .before .before .before .before
+          .before .before .before .before .before .before .before .before .before .before .before .before .before .before .before .before
+          .before .before .before .before .before .before .before .before .before .before .before .before .pre .0 .few,
+      c .before .before .before .before .before .before .before .before .before .before .before .before .before .before .before .before
+          .before .before .before .before .before .before .before .before .before .before .before .before .before .before .before .before
+          .before .before .before .before .before .before .before .before .before .before .before .before .pre .0 .room,
+    )) in
     let z = c .before .before .before .before .before .before .before .before .before .if4 .left in
-    next-moved _ _ _ _ _ _ _ _ (omega (arith, c .before .before .before .before .before .before .before .before .before .before .before .before .before .before .before .before .before .before .before .before .before .before .before .before .before .before .before .before .before .before .before .before .before .before .before .before .before .before .before .if1 .left)) (omega (arith, length-pairs (a .marked .now) (a .marks .now) (c .before .before .before .before .before .before .before .before .before .before .before .before .before .before .before .before .before .before .before .before .before .before .before .before .before .before .before .before .before .before .before .before .before .before .before .before .before .before .before .before .before .before .before .before .pre .1 .0), c .before .before .before .before .before .before .before .before .before .before .before .before .before .before .before .before .before .before .before .before .before .before .before .before .before .before .before .before .before .before .before .before .before .before .before .before .before .before .if2 .left)) _ _ _ _ (pairs-part (a .e - a .p) (a .p) (a .marked .now) (a .marks .now))
-    (moved-on _ _ _ _ _ _ _ (rw e at (c .before .before .before .before .before .before .before .before .before .before .before .before .before .before .before .before .before .before .before .before .before .before .before .before .before .before .before .before .before .before .before .examine-marks .ensures)) _ l _ _ _
-    (stepped-on _ _ _ _ _ _ _ _ _ _ _ _ (c .before .before .before .before .before .before .before .before .before .before .before .advance .ensures) z _ _ _ _ (c .before .before .before .before .copy-numbers .ensures) (c .copy-bytes .ensures) (omega (arith, c .before .before .copy-bytes-arg2)) (omega (arith, c .before .before .before .before .before .before .before .copy-numbers-arg2)) (omega (arith, c .copy-bytes .kept .1 .1 .0, c .before .copy-bytes-arg3)) _ z))
+    next-moved _ _ _ _ _ _ _ _ (omega (
+      arith,
+      c .before .before .before .before .before .before .before .before .before .before .before .before .before .before .before .before
+          .before .before .before .before .before .before .before .before .before .before .before .before .before .before .before .before
+          .before .before .before .before .before .before .before .if1 .left,
+    )) (omega (
+      arith,
+      length-pairs (a .marked .now) (a .marks .now)
+          (c .before .before .before .before .before .before .before .before .before .before .before .before .before .before .before .before
+          .before .before .before .before .before .before .before .before .before .before .before .before .before .before .before .before
+          .before .before .before .before .before .before .before .before .before .before .before .before .pre .1 .0),
+      c .before .before .before .before .before .before .before .before .before .before .before .before .before .before .before .before
+          .before .before .before .before .before .before .before .before .before .before .before .before .before .before .before .before
+          .before .before .before .before .before .before .if2 .left,
+    )) _ _ _ _
+    (pairs-part (a .e - a .p) (a .p) (a .marked .now) (a .marks .now))
+    (moved-on _ _ _ _ _ _ _ (rw e at
+    (c .before .before .before .before .before .before .before .before .before .before .before .before .before .before .before .before
+    .before .before .before .before .before .before .before .before .before .before .before .before .before .before .before
+    .examine-marks .ensures)) _ l _ _ _
+    (stepped-on _ _ _ _ _ _ _ _ _ _ _ _
+    (c .before .before .before .before .before .before .before .before .before .before .before .advance .ensures) z _ _ _ _
+    (c .before .before .before .before .copy-numbers .ensures) (c .copy-bytes .ensures)
+    (omega (arith, c .before .before .copy-bytes-arg2))
+    (omega (arith, c .before .before .before .before .before .before .before .copy-numbers-arg2))
+    (omega (arith, c .copy-bytes .kept .1 .1 .0, c .before .copy-bytes-arg3)) _ z))
 
 pub next-step-spec : {M : Type 1} → statement M
 next-step-spec =

@@ -17,13 +17,16 @@ refused-requires : tie.Need-refused-requires
 refused-requires c κs = search needs
 
 returns-2 : tie.Need-returns-2
-returns-2 c = ended-lengths _ _ _ _ _ _ _ _ _ _ (c .before .before .before .before .at-rest .ensures) (c .before .before .if1 .left) (c .before .if2 .taken) _ _ _ _ (c .refused .ensures .0)
+returns-2 c = ended-lengths _ _ _ _ _ _ _ _ _ _ (c .before .before .before .before .at-rest .ensures) (c .before .before .if1 .left)
+    (c .before .if2 .taken) _ _ _ _ (c .refused .ensures .0)
 
 run-steps-requires : tie.Need-run-steps-requires
-run-steps-requires c κs = let r = c .before .before .before .before .before .at-rest .ensures in let z = c .before .before .before .if1 .left in (r .going z, (omega (arith, c .before .before .if2 .left), r .high z))
+run-steps-requires c κs = let r = c .before .before .before .before .before .at-rest .ensures in
+    let z = c .before .before .before .if1 .left in (r .going z, (omega (arith, c .before .before .if2 .left), r .high z))
 
 returns-3 : tie.Need-returns-3
-returns-3 c = ended _ _ _ _ _ _ _ _ _ _ (c .before .before .before .before .before .before .at-rest .ensures) (c .before .before .before .before .if1 .left) (omega (arith, c .before .before .before .if2 .left)) _ _ _ _ _ (c .run-steps .ensures)
+returns-3 c = ended _ _ _ _ _ _ _ _ _ _ (c .before .before .before .before .before .before .at-rest .ensures)
+    (c .before .before .before .before .if1 .left) (omega (arith, c .before .before .before .if2 .left)) _ _ _ _ _ (c .run-steps .ensures)
 
 pub run-spec : {M : Type 1} → statement M
 run-spec =

@@ -53,7 +53,10 @@ same-length c = search needs
 
 -- src/lib.rt:65:13
 returns : tie.Need-returns Inv-loop μ-loop
-returns c = let l = c .before .before .before .before .before .loop in scan-miss _ _ _ _ _ _ (l .inv .2) (c .before .before .before .before .loop-test .taken) (c .before .before .before .before .before .before .before .before .before .before .before .before .before .pre .0) (sym (c .before .may-stand .ensures) ∙ not-true _ (c .if1 .taken))
+returns c = let l = c .before .before .before .before .before .loop in
+    scan-miss _ _ _ _ _ _ (l .inv .2) (c .before .before .before .before .loop-test .taken)
+    (c .before .before .before .before .before .before .before .before .before .before .before .before .before .pre .0)
+    (sym (c .before .may-stand .ensures) ∙ not-true _ (c .if1 .taken))
 
 -- src/lib.rt:67:18
 shared-slice-read-out : tie.Need-shared-slice-read-out Inv-loop μ-loop
@@ -68,7 +71,11 @@ slice-write-out c =
 
 -- src/lib.rt:68:16
 add-next : tie.Need-add-next Inv-loop μ-loop
-add-next c = omega (arith, c .before .before .before .before .shared-slice-known3 .given (c .before .before .before .before .before .before .loop .i))
+add-next c = omega (
+  arith,
+  c .before .before .before .before .shared-slice-known3 .given
+      (c .before .before .before .before .before .before .loop .i),
+)
 
 -- src/lib.rt:69:9
 add-i : tie.Need-add-i Inv-loop μ-loop
@@ -85,7 +92,8 @@ loop-again c =
     let s = c .before .before .before .before .before .before .before .before .before .before .before .before .before .before in (
       search needs,
       search needs,
-      scan-next _ _ _ _ _ _ (l .inv .2) (c .before .before .before .before .before .loop-test .taken) (s .pre .0) (sym (c .before .before .may-stand .ensures) ∙ not-false _ (c .before .if1 .left)),
+      scan-next _ _ _ _ _ _ (l .inv .2) (c .before .before .before .before .before .loop-test .taken) (s .pre .0)
+          (sym (c .before .before .may-stand .ensures) ∙ not-false _ (c .before .if1 .left)),
     )
 
 -- src/lib.rt:55:1

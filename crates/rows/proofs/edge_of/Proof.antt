@@ -45,7 +45,8 @@ shared-slice-read-t12 c = search needs
 returns : tie.Need-returns
 returns c =
     let a = c .before .before .before .before .before .args in
-    rw (c .before .before .before .low-of .ensures .0, c .before .before .high-of .ensures .0) (ends-at (a .cells .now) (a .c) (a .e) (omega arith))
+    rw (c .before .before .before .low-of .ensures .0, c .before .before .high-of .ensures .0)
+    (ends-at (a .cells .now) (a .c) (a .e) (omega arith))
 
 pub edge-of-spec : {M : Type 1} → statement M
 edge-of-spec =

@@ -23,7 +23,8 @@ shared-slice-read-if1 : tie.Need-shared-slice-read-if1 Inv-loop μ-loop
 shared-slice-read-if1 c = search needs
 
 returns : tie.Need-returns Inv-loop μ-loop
-returns c = let l = c .before .before .before .loop in let a = c .before .before .before .before .args in sym (sym (l .inv .1) ∙ fits-not (a .status .now) (l .c) (c .before .before .loop-test .taken) (c .if1 .taken))
+returns c = let l = c .before .before .before .loop in let a = c .before .before .before .before .args in
+    sym (sym (l .inv .1) ∙ fits-not (a .status .now) (l .c) (c .before .before .loop-test .taken) (c .if1 .taken))
 
 add-c : tie.Need-add-c Inv-loop μ-loop
 add-c c = search needs
@@ -32,7 +33,8 @@ loop-less : tie.Need-loop-less Inv-loop μ-loop
 loop-less c = search needs
 
 loop-again : tie.Need-loop-again Inv-loop μ-loop
-loop-again c = let l = c .before .before .before .loop in let a = c .before .before .before .before .args in (search needs, sym (fits-next (a .status .now) (l .c) (c .before .before .loop-test .taken) (c .if1 .left)) ∙ l .inv .1)
+loop-again c = let l = c .before .before .before .loop in let a = c .before .before .before .before .args in
+    (search needs, sym (fits-next (a .status .now) (l .c) (c .before .before .loop-test .taken) (c .if1 .left)) ∙ l .inv .1)
 
 returns-2 : tie.Need-returns-2 Inv-loop μ-loop
 unfolding allb

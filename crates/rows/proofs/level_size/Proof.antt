@@ -23,10 +23,18 @@ shared-slice-read-size-of : tie.Need-shared-slice-read-size-of Inv-loop μ-loop
 shared-slice-read-size-of c = search needs
 
 size-of-requires : tie.Need-size-of-requires Inv-loop μ-loop
-size-of-requires c κs = status-fits (c .before .before .before .before .args .status .now) (c .before .before .before .before .pre .1) (c .before .before .loop .c) (omega (arith, c .before .loop-test .taken, c .before .before .before .before .pre .0 .1))
+size-of-requires c κs = status-fits (c .before .before .before .before .args .status .now) (c .before .before .before .before .pre .1)
+    (c .before .before .loop .c) (omega (arith, c .before .loop-test .taken, c .before .before .before .before .pre .0 .1))
 
 add-n : tie.Need-add-n Inv-loop μ-loop
-add-n c = omega (arith, c .size-of .ensures .1, c .before .before .before .loop .inv .3, c .before .before .before .loop .inv .1, c .before .before .before .before .before .pre .0 .1, c .before .before .before .before .before .pre .0 .2)
+add-n c = omega (
+  arith,
+  c .size-of .ensures .1,
+  c .before .before .before .loop .inv .3,
+  c .before .before .before .loop .inv .1,
+  c .before .before .before .before .before .pre .0 .1,
+  c .before .before .before .before .before .pre .0 .2,
+)
 
 add-c : tie.Need-add-c Inv-loop μ-loop
 add-c c = search needs
@@ -40,7 +48,13 @@ loop-again c =
     let a = c .before .before .before .before .before .args in (
       omega (arith, l .inv .0),
       omega (arith, c .before .before .loop-test .taken),
-      omega (arith, l .inv .2, c .size-of .ensures .0, sizes-step (a .status .now) (a .first) (l .c) (l .inv .0) (omega (arith, c .before .before .loop-test .taken, c .before .before .before .before .before .pre .0 .1))),
+      omega (
+        arith,
+        l .inv .2,
+        c .size-of .ensures .0,
+        sizes-step (a .status .now) (a .first) (l .c) (l .inv .0)
+            (omega (arith, c .before .before .loop-test .taken, c .before .before .before .before .before .pre .0 .1)),
+      ),
       omega (arith, l .inv .3, l .inv .0, c .size-of .ensures .1),
     )
 

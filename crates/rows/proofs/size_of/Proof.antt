@@ -21,8 +21,11 @@ cast-result c = search needs
 
 returns-3 : tie.Need-returns-3
 returns-3 c =
-    let s = c .before .before .before .args .status in
-    (c .count .ensures ∙ sym (size-green s (c .before .before .if1 .left) (c .before .if2 .left) (c .before .before .before .pre)), omega (arith, c .count .ensures, green-few s (c .before .if2 .left) (c .before .before .before .pre)))
+    let s = c .before .before .before .args .status in (
+      c .count .ensures ∙ sym (size-green s (c .before .before .if1 .left) (c .before .if2 .left) (c .before .before .before .pre)),
+      omega
+          (arith, c .count .ensures, green-few s (c .before .if2 .left) (c .before .before .before .pre)),
+    )
 
 pub size-of-spec : {M : Type 1} → statement M
 size-of-spec = tie.close (tie.spec returns returns-2 count-requires cast-result returns-3)

@@ -18,7 +18,8 @@ use Rattle.separation.proofs.apart_cell.Tie as tie
 
 abbrev Inv-loop : tie.InvT-loop
 Inv-loop cells c xs ys heads links from n g e₀ e = (e ≤ 6) × (g ≡ getD cells (8 * c + 1) 0) × (8 * g + 8 ≤ length cells)
-    × (allb (apartTest (listed xs ys from n) cells g) (drop e (edges 0 (cellAt cells c))) ≡ listedApart (listed xs ys from n) cells (cellAt cells c))
+    × (allb (apartTest (listed xs ys from n) cells g) (drop e (edges 0 (cellAt cells c))) ≡ listedApart (listed xs ys from n) cells
+    (cellAt cells c))
 
 abbrev μ-loop : tie.MeasureT-loop
 μ-loop cells c xs ys heads links from n g e₀ e = 6 - e
@@ -29,7 +30,8 @@ is-regular-requires c κs = search needs
 returns : tie.Need-returns Inv-loop μ-loop
 returns c =
     let a = c .before .before .before .before .before .before .before .args in
-    sym (regular-apart (listed (a .xs .now) (a .ys .now) (a .from) (a .n)) (a .cells .now) (a .c) (sym (c .before .is-regular .ensures) ∙ c .if1 .taken))
+    sym (regular-apart (listed (a .xs .now) (a .ys .now) (a .from) (a .n)) (a .cells .now) (a .c) (sym (c .before .is-regular .ensures)
+    ∙ c .if1 .taken))
 
 mul-g : tie.Need-mul-g Inv-loop μ-loop
 mul-g c = search needs
@@ -49,8 +51,13 @@ cast-g c = omega (arith, c .shared-slice-known6 .given (8 * c .before .before .b
 loop-holds : tie.Need-loop-holds Inv-loop μ-loop
 loop-holds c =
     let a = c .before .before .before .before .before .before .before .before .args in
-    let e : cellAt (a .cells .now) (a .c) .regular ≡ false = sym (c .before .before .is-regular .ensures) ∙ c .before .if1 .left in
-    (omega arith, refl, c .before .before .before .before .before .before .before .before .pre .1 e, irregular-apart (listed (a .xs .now) (a .ys .now) (a .from) (a .n)) (a .cells .now) (a .c) e)
+    let e : cellAt (a .cells .now) (a .c) .regular ≡ false = sym (c .before .before .is-regular .ensures) ∙ c .before .if1 .left in (
+      omega arith,
+      refl,
+      c .before .before .before .before .before .before .before .before .pre .1 e,
+      irregular-apart
+          (listed (a .xs .now) (a .ys .now) (a .from) (a .n)) (a .cells .now) (a .c) e,
+    )
 
 apart-edge-requires : tie.Need-apart-edge-requires Inv-loop μ-loop
 apart-edge-requires c κs = search needs
@@ -60,7 +67,8 @@ returns-2 c =
     let a = c .before .before .before .before .before .before .before .before .before .before .before .before .args in
     let l = c .before .before .before .loop in
     let es = listed (a .xs .now) (a .ys .now) (a .from) (a .n) in
-    sym (sym (l .inv .3) ∙ all-miss (apartTest es (a .cells .now) (getD (a .cells .now) (8 * a .c + 1) 0)) (cellAt (a .cells .now) (a .c)) (l .e) (c .before .before .loop-test .taken)
+    sym (sym (l .inv .3) ∙ all-miss (apartTest es (a .cells .now) (getD (a .cells .now) (8 * a .c + 1) 0)) (cellAt (a .cells .now) (a .c))
+    (l .e) (c .before .before .loop-test .taken)
     (sym (c .before .apart-edge .ensures) ∙ not-true _ (c .if2 .taken)))
 
 add-e : tie.Need-add-e Inv-loop μ-loop
@@ -77,7 +85,8 @@ loop-again c =
       omega (arith, c .before .before .loop-test .taken),
       refl,
       l .inv .2,
-      sym (all-next (apartTest es (a .cells .now) (getD (a .cells .now) (8 * a .c + 1) 0)) (cellAt (a .cells .now) (a .c)) (l .e) (c .before .before .loop-test .taken)
+      sym (all-next (apartTest es (a .cells .now) (getD (a .cells .now) (8 * a .c + 1) 0)) (cellAt (a .cells .now) (a .c)) (l .e)
+          (c .before .before .loop-test .taken)
           (sym (c .before .apart-edge .ensures) ∙ not-false _ (c .if2 .left))) ∙ l .inv .3,
     )
 

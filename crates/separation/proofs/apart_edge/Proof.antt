@@ -19,7 +19,8 @@ returns : tie.Need-returns
 returns c =
     let a = c .before .before .before .before .before .before .before .before .args in
     let r = c .before .before .edge-of in
-    free (edges 0 (cellAt (a .cells .now) (a .g))) (listed (a .xs .now) (a .ys .now) (a .from) (a .n)) (edge 0 (cellAt (a .cells .now) (a .c)) (a .e)) (r .result .a, r .result .b) (r .ensures)
+    free (edges 0 (cellAt (a .cells .now) (a .g))) (listed (a .xs .now) (a .ys .now) (a .from) (a .n))
+    (edge 0 (cellAt (a .cells .now) (a .c)) (a .e)) (r .result .a, r .result .b) (r .ensures)
     (c .before .holds .result) (c .before .holds .ensures) (not-true _ (c .if1 .taken))
 
 has-edge-requires : tie.Need-has-edge-requires
@@ -29,8 +30,10 @@ returns-2 : tie.Need-returns-2
 returns-2 c =
     let a = c .before .before .before .before .before .before .before .before .before .args in
     let r = c .before .before .before .edge-of in
-    own-or-not (edges 0 (cellAt (a .cells .now) (a .g))) (listed (a .xs .now) (a .ys .now) (a .from) (a .n)) (edge 0 (cellAt (a .cells .now) (a .c)) (a .e)) (r .result .a, r .result .b) (r .ensures)
-    (c .before .before .holds .result) (c .before .before .holds .ensures) (not-false _ (c .before .if1 .left)) (c .has-edge .result) (c .has-edge .ensures)
+    own-or-not (edges 0 (cellAt (a .cells .now) (a .g))) (listed (a .xs .now) (a .ys .now) (a .from) (a .n))
+    (edge 0 (cellAt (a .cells .now) (a .c)) (a .e)) (r .result .a, r .result .b) (r .ensures)
+    (c .before .before .holds .result) (c .before .before .holds .ensures) (not-false _ (c .before .if1 .left)) (c .has-edge .result)
+    (c .has-edge .ensures)
 
 pub apart-edge-spec : {M : Type 1} → statement M
 apart-edge-spec =

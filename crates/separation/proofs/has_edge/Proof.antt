@@ -16,7 +16,8 @@ use Rattle.separation.proofs.has_edge.Statement.{statement}
 use Rattle.separation.proofs.has_edge.Tie as tie
 
 abbrev Inv-loop : tie.InvT-loop
-Inv-loop cells g a b e₀ e = (e ≤ 6) × (anyb (joinsb eqb (a, b)) (drop e (edges 0 (cellAt cells g))) ≡ heldb eqb (edges 0 (cellAt cells g)) (a, b))
+Inv-loop cells g a b e₀ e = (e ≤ 6) × (anyb (joinsb eqb (a, b)) (drop e (edges 0 (cellAt cells g))) ≡ heldb eqb (edges 0 (cellAt cells g))
+    (a, b))
 
 abbrev μ-loop : tie.MeasureT-loop
 μ-loop cells g a b e₀ e = 6 - e
@@ -36,8 +37,10 @@ returns c =
     let s = c .before .before .before .before .before .before .args in
     let l = c .before .before .before .before .loop in
     let t : joinsb eqb (s .a, s .b) (edge 0 (cellAt (s .cells .now) (s .g)) (l .e)) ≡ true =
-    ap (λ (p : Pair). joinsb eqb (s .a, s .b) p) (sym (c .before .before .edge-of .ensures)) ∙ sym (c .before .joins .ensures) ∙ c .if1 .taken in
-    sym (sym (l .inv .1) ∙ any-hit (joinsb eqb (s .a, s .b)) (cellAt (s .cells .now) (s .g)) (l .e) (c .before .before .before .loop-test .taken) t)
+    ap (λ (p : Pair). joinsb eqb (s .a, s .b) p) (sym (c .before .before .edge-of .ensures)) ∙ sym (c .before .joins .ensures)
+    ∙ c .if1 .taken in
+    sym (sym (l .inv .1) ∙ any-hit (joinsb eqb (s .a, s .b)) (cellAt (s .cells .now) (s .g)) (l .e)
+    (c .before .before .before .loop-test .taken) t)
 
 add-e : tie.Need-add-e Inv-loop μ-loop
 add-e c = search needs
@@ -50,8 +53,12 @@ loop-again c =
     let s = c .before .before .before .before .before .before .args in
     let l = c .before .before .before .before .loop in
     let t : joinsb eqb (s .a, s .b) (edge 0 (cellAt (s .cells .now) (s .g)) (l .e)) ≡ false =
-    ap (λ (p : Pair). joinsb eqb (s .a, s .b) p) (sym (c .before .before .edge-of .ensures)) ∙ sym (c .before .joins .ensures) ∙ c .if1 .left in
-    (search needs, sym (any-next (joinsb eqb (s .a, s .b)) (cellAt (s .cells .now) (s .g)) (l .e) (c .before .before .before .loop-test .taken) t) ∙ l .inv .1)
+    ap (λ (p : Pair). joinsb eqb (s .a, s .b) p) (sym (c .before .before .edge-of .ensures)) ∙ sym (c .before .joins .ensures)
+    ∙ c .if1 .left in (
+      search needs,
+      sym (any-next (joinsb eqb (s .a, s .b)) (cellAt (s .cells .now) (s .g)) (l .e)
+          (c .before .before .before .loop-test .taken) t) ∙ l .inv .1,
+    )
 
 returns-2 : tie.Need-returns-2 Inv-loop μ-loop
 returns-2 c =

@@ -14,10 +14,18 @@ too-deep-requires : tie.Need-too-deep-requires
 too-deep-requires c κs = search needs
 
 returns-2 : tie.Need-returns-2
-returns-2 c = record { over = λ e d. refl; kept = λ h. not-both _ (sym (c .before .too-deep .ensures) ∙ c .if2 .taken) (h (omega (arith, c .before .before .if1 .left))) }
+returns-2 c = record {
+  over = λ e d. refl;
+  kept = λ h. not-both _ (sym (c .before .too-deep .ensures) ∙ c .if2 .taken)
+      (h (omega (arith, c .before .before .if1 .left)));
+}
 
 returns-3 : tie.Need-returns-3
-returns-3 c = record { over = λ e d. not-both _ d (sym (c .before .too-deep .ensures) ∙ c .if2 .left); kept = λ h. omega (arith, c .before .before .if1 .left) }
+returns-3 c = record {
+  over = λ e d. not-both _ d (sym (c .before .too-deep .ensures) ∙ c .if2 .left);
+  kept = λ h. omega
+      (arith, c .before .before .if1 .left);
+}
 
 pub decided-spec : {M : Type 1} → statement M
 decided-spec =

@@ -12,7 +12,8 @@ use Rattle.step.proofs.marks_fit.Statement.{statement}
 use Rattle.step.proofs.marks_fit.Tie as tie
 
 abbrev Inv-loop : tie.InvT-loop
-Inv-loop status marks c₀ c = (c ≤ length status) × (length marks ≡ length status) × (marksb (drop c status) (drop c marks) ≡ marksb status marks)
+Inv-loop status marks c₀ c = (c ≤ length status) × (length marks ≡ length status)
+    × (marksb (drop c status) (drop c marks) ≡ marksb status marks)
 
 abbrev μ-loop : tie.MeasureT-loop
 μ-loop status marks c₀ c = length status - c
@@ -36,7 +37,8 @@ returns-2 : tie.Need-returns-2 Inv-loop μ-loop
 returns-2 c =
     let a = c .before .before .before .before .before .before .before .before .before .args in
     let l = c .before .before .before .before .before .loop in
-    sym (sym (l .inv .2) ∙ marks-miss (a .status .now) (a .marks .now) (l .c) (c .before .before .before .before .loop-test .taken) (l .inv .1) (sym (c .before .mark-fits .ensures) ∙ not-true _ (c .if2 .taken)))
+    sym (sym (l .inv .2) ∙ marks-miss (a .status .now) (a .marks .now) (l .c) (c .before .before .before .before .loop-test .taken)
+    (l .inv .1) (sym (c .before .mark-fits .ensures) ∙ not-true _ (c .if2 .taken)))
 
 add-c : tie.Need-add-c Inv-loop μ-loop
 add-c c = search needs
@@ -51,7 +53,8 @@ loop-again c =
     let t = c .before .before .before .before .loop-test .taken in (
       omega (arith, t),
       l .inv .1,
-      sym (marks-next (a .status .now) (a .marks .now) (l .c) t (l .inv .1) (sym (c .before .mark-fits .ensures) ∙ not-false _ (c .if2 .left))) ∙ l .inv .2,
+      sym (marks-next (a .status .now) (a .marks .now) (l .c) t (l .inv .1) (sym (c .before .mark-fits .ensures)
+          ∙ not-false _ (c .if2 .left))) ∙ l .inv .2,
     )
 
 returns-3 : tie.Need-returns-3 Inv-loop μ-loop

@@ -25,7 +25,8 @@ returns : tie.Need-returns Inv-loop μ-loop
 returns c =
     let a = c .before .before .before .before .before .before .args in
     let l = c .before .before .before .loop in
-    sym (sym (l .inv .1) ∙ deep-hit (a .rows .now) (a .red .now) (l .c) (a .cells) (c .before .before .loop-test .taken) (sym (c .before .is-deep .ensures) ∙ c .if1 .taken))
+    sym (sym (l .inv .1) ∙ deep-hit (a .rows .now) (a .red .now) (l .c) (a .cells) (c .before .before .loop-test .taken)
+    (sym (c .before .is-deep .ensures) ∙ c .if1 .taken))
 
 add-c : tie.Need-add-c Inv-loop μ-loop
 add-c c = search needs

@@ -14,7 +14,8 @@ refused-requires c κs = search needs
 returns : tie.Need-returns
 returns c =
     let a = c .before .before .before .before .args in
-    unsound-examined (a .n) (fours (a .mesh .now)) (a .status .now) (a .rows .now) (a .ps .now) (a .qs .now) _ _ _ _ (c .refused .ensures .0)
+    unsound-examined (a .n) (fours (a .mesh .now)) (a .status .now) (a .rows .now) (a .ps .now) (a .qs .now) _ _ _ _
+    (c .refused .ensures .0)
     (unsound-long (a .n) (fours (a .mesh .now)) (a .status .now) (c .before .if1 .taken))
 
 fits-requires : tie.Need-fits-requires
@@ -26,8 +27,10 @@ refused-requires-2 c κs = search needs
 returns-2 : tie.Need-returns-2
 returns-2 c =
     let a = c .before .before .before .before .before .before .args in
-    unsound-examined (a .n) (fours (a .mesh .now)) (a .status .now) (a .rows .now) (a .ps .now) (a .qs .now) _ _ _ _ (c .refused2 .ensures .0)
-    (unsound-status (a .n) (fours (a .mesh .now)) (a .status .now) (sym (c .before .before .fits2 .ensures) ∙ not-true _ (c .before .if2 .taken)))
+    unsound-examined (a .n) (fours (a .mesh .now)) (a .status .now) (a .rows .now) (a .ps .now) (a .qs .now) _ _ _ _
+    (c .refused2 .ensures .0)
+    (unsound-status (a .n) (fours (a .mesh .now)) (a .status .now) (sym (c .before .before .fits2 .ensures)
+    ∙ not-true _ (c .before .if2 .taken)))
 
 digit-table-requires : tie.Need-digit-table-requires
 digit-table-requires c κs = search needs
@@ -36,7 +39,19 @@ slice-aggregate-build : tie.Need-slice-aggregate-build
 slice-aggregate-build c = search needs
 
 build-requires : tie.Need-build-requires
-build-requires c κs = (c .before .before .before .before .before .before .before .before .before .before .before .before .before .before .before .before .pre, (record { few = c .before .before .before .before .before .before .before .before .before .before .before .before .before .if1 .left; fit = sym (c .before .before .before .before .before .before .before .before .before .before .before .before .fits2 .ensures) ∙ not-false _ (c .before .before .before .before .before .before .before .before .before .before .before .if2 .left) }, c .before .before .before .before .before .before .before .before .before .before .digit-table .ensures))
+build-requires c
+    κs = (
+      c .before .before .before .before .before .before .before .before .before .before .before .before .before .before .before .before
+          .pre,
+      (
+        record {
+          few = c .before .before .before .before .before .before .before .before .before .before .before .before .before .if1 .left;
+          fit = sym (c .before .before .before .before .before .before .before .before .before .before .before .before .fits2 .ensures)
+              ∙ not-false _ (c .before .before .before .before .before .before .before .before .before .before .before .if2 .left);
+        },
+        c .before .before .before .before .before .before .before .before .before .before .digit-table .ensures,
+      ),
+    )
 
 returns-3 : tie.Need-returns-3
 returns-3 c = search needs

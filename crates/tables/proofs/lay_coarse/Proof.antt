@@ -14,7 +14,8 @@ use Rattle.tables.proofs.lay_coarse.Statement.{statement}
 use Rattle.tables.proofs.lay_coarse.Tie as tie
 
 abbrev Inv-loop : tie.InvT-loop
-Inv-loop mesh rows₀ count c₀ rows c = (c ≤ count) × (count ≡ length mesh / 4) × (take (8 * c) rows ≡ flatMap coarseRow (take c (fours mesh)))
+Inv-loop mesh rows₀ count c₀ rows c = (c ≤ count) × (count ≡ length mesh / 4)
+    × (take (8 * c) rows ≡ flatMap coarseRow (take c (fours mesh)))
 
 abbrev μ-loop : tie.MeasureT-loop
 μ-loop mesh rows₀ count c₀ rows c = count - c
@@ -75,7 +76,13 @@ loop-again c =
     let t = c .before .before .before .before .before .before .loop-test .taken in (
       omega (arith, t),
       refl,
-      rw (w .ensures) (row-more (c .before .before .before .before .before .before .before .before .before .args .mesh .now) (l .rows) (l .c) (omega (arith, t)) (omega (arith, t, c .before .before .before .before .before .write-row-arg, c .before .before .before .before .before .before .before .before .before .pre .few)) (l .inv .2)),
+      rw (w .ensures) (row-more (c .before .before .before .before .before .before .before .before .before .args .mesh .now) (l .rows)
+          (l .c) (omega (arith, t)) (omega (
+            arith,
+            t,
+            c .before .before .before .before .before .write-row-arg,
+            c .before .before .before .before .before .before .before .before .before .pre .few,
+          )) (l .inv .2)),
     )
 
 returns : tie.Need-returns Inv-loop μ-loop
@@ -84,7 +91,8 @@ returns c =
     let a = c .before .before .before .args in
     let k : l .c ≡ length (a .mesh .now) / 4 = omega (arith, l .inv .0, c .loop-test .left) in
     let w = l .inv .2 in
-    let t : take (length (a .mesh .now) / 4) (fours (a .mesh .now)) ≡ fours (a .mesh .now) = take-all (length (a .mesh .now) / 4) (fours (a .mesh .now)) (omega (arith, length-fours (a .mesh .now))) in
+    let t : take (length (a .mesh .now) / 4) (fours (a .mesh .now)) ≡ fours (a .mesh .now) = take-all (length (a .mesh .now) / 4)
+    (fours (a .mesh .now)) (omega (arith, length-fours (a .mesh .now))) in
     (sym (length-fours (a .mesh .now)), rw (k, t) at w)
 
 pub lay-coarse-spec : {M : Type 1} → statement M

@@ -1,4 +1,5 @@
--- `try_steps::all_steps` is safe and ends: each step keeps the lengths of the lists. The measure is the number of steps left. Assumes nothing.
+-- `try_steps::all_steps` is safe and ends: each step keeps the lengths of the lists. The measure is the number of steps left. Assumes
+-- nothing.
 use Prim.Native.Nat.{_-_}
 use borrow.Author.Needs.{needs}
 use lib.ListN.{length}
@@ -7,7 +8,8 @@ use Rattle.try_steps.proofs.all_steps.Statement.{statement}
 use Rattle.try_steps.proofs.all_steps.Tie as tie
 
 abbrev Inv-loop : tie.InvT-loop
-Inv-loop positions cells status₀ marks₀ table₀ case count₀ done₀ status marks table count done = (length status ≡ length status₀) × (length marks ≡ length marks₀) × (length table ≡ length table₀)
+Inv-loop positions cells status₀ marks₀ table₀ case count₀ done₀ status marks table count done = (length status ≡ length status₀)
+    × (length marks ≡ length marks₀) × (length table ≡ length table₀)
 
 abbrev μ-loop : tie.MeasureT-loop
 μ-loop positions cells status₀ marks₀ table₀ case count₀ done₀ status marks table count done = case .steps - done

@@ -1,4 +1,5 @@
--- `try_steps::step_often` is safe and ends: each turn keeps the length of the lent table. The measure is the number of turns left. Assumes nothing.
+-- `try_steps::step_often` is safe and ends: each turn keeps the length of the lent table. The measure is the number of turns left.
+-- Assumes nothing.
 use Prim.Native.Nat.{_-_}
 use borrow.Author.Needs.{needs}
 use lib.ListN.{length}

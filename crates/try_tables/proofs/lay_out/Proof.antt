@@ -1,4 +1,5 @@
--- `try_tables::lay_out` is safe and ends: each turn keeps the lengths of the lent tables. The measure is the number of turns left. Assumes nothing.
+-- `try_tables::lay_out` is safe and ends: each turn keeps the lengths of the lent tables. The measure is the number of turns left.
+-- Assumes nothing.
 use Prim.Native.Nat.{_-_}
 use borrow.Author.Needs.{needs}
 use lib.ListN.{length}
@@ -7,7 +8,8 @@ use Rattle.try_tables.proofs.lay_out.Statement.{statement}
 use Rattle.try_tables.proofs.lay_out.Tie as tie
 
 abbrev Inv-loop : tie.InvT-loop
-Inv-loop positions cells status table₀ ends₀ sums₀ repeat laid₀ done₀ table ends sums laid done = (length table ≡ length table₀) × (length ends ≡ length ends₀) × (length sums ≡ length sums₀)
+Inv-loop positions cells status table₀ ends₀ sums₀ repeat laid₀ done₀ table ends sums laid done = (length table ≡ length table₀)
+    × (length ends ≡ length ends₀) × (length sums ≡ length sums₀)
 
 abbrev μ-loop : tie.MeasureT-loop
 μ-loop positions cells status table₀ ends₀ sums₀ repeat laid₀ done₀ table ends sums laid done = repeat - done

@@ -39,7 +39,10 @@ same-length c = search needs
 returns : tie.Need-returns
 returns c =
     enter-is _ _ _ _ _ _
-    (c .before .before .before .before .before .before .before .before .before .before .before .before .before .before .level-from .ensures .0) (c .before .before .before .before .before .before .before .before .before .before .before .before .level-from2 .ensures .0) (c .before .before .before .before .before .before .before .before .before .before .decide .ensures) (c .before .before .before .before .before .before .post-marks .ensures) _ (c .before .before .post-end .ensures)
+    (c .before .before .before .before .before .before .before .before .before .before .before .before .before .before .level-from .ensures
+    .0) (c .before .before .before .before .before .before .before .before .before .before .before .before .level-from2 .ensures .0)
+    (c .before .before .before .before .before .before .before .before .before .before .decide .ensures)
+    (c .before .before .before .before .before .before .post-marks .ensures) _ (c .before .before .post-end .ensures)
 
 pub enter-marks-spec : {M : Type 1} → statement M
 enter-marks-spec =
