@@ -56,7 +56,7 @@ module _ {A : Type 0} (l m : List (Cell A)) where
         path = p ∙ c .path ∙ ap (λ (r : List ℕ). r ++ (c .number ∷ [])) (sym q ∙ ap (linkedPath (l ++ m)) (sym e));
       }
 
-  grown : Linked l → All (Kid l) m → Linked (l ++ m)
+  pub grown : Linked l → All (Kid l) m → Linked (l ++ m)
   grown o a = record { link = λ k h. go k h (ltb k (length l)) refl }
     where
       old : (k : ℕ) → k < length l → (linkedPath (l ++ m) k ≡ k ∷ []) ⊎ Descends (l ++ m) k

@@ -37,7 +37,7 @@ high x h =
     ∙ rw (toZ-pos w32 (4294967295 - x) l, less (4294967295 - x), le-ltb x 2147483648 h, signed)
 
 -- n where z is -1 - n
-abbrev under : ℤ → ℕ
+abbrev pub under : ℤ → ℕ
 under (pos n) = 0
 under (negsuc n) = n
 
@@ -45,9 +45,9 @@ from-minus-one : (n : ℕ) → negsuc 0 -ℤ negsuc n ≡ pos n
 from-minus-one n = rw (le-ltb (suc n) 1 (omega arith)) (ap pos (omega arith))
 
 record Under (z : ℤ) : Type 0 where
-  is : negsuc 0 -ℤ z ≡ pos (under z)
-  small : under z < 2147483648
-  bits : 4294967295 - under z ≡ word z
+  pub is : negsuc 0 -ℤ z ≡ pos (under z)
+  pub small : under z < 2147483648
+  pub bits : 4294967295 - under z ≡ word z
 
 negative : (z : ℤ) → SFits w32 z → ltZ z (pos 0) ≡ true → Under z
 unfolding word

@@ -60,11 +60,11 @@ pub mark-length : (x : Mark) → length (markBytes x) ≡ 4
 unfolding markBytes bytes
 mark-length x = refl
 
-unfoldable restFrom : List Mark → ℕ → List Mark → List ℕ → List (List Mark)
+unfoldable pub restFrom : List Mark → ℕ → List Mark → List ℕ → List (List Mark)
 restFrom since m ms [] = []
 restFrom since m ms (e ∷ es) = (since ++ take (e - m) (drop m ms)) ∷ stepsFrom e ms es
 
-rest-none : (m : ℕ) (ms : List Mark) (es : List ℕ) → stepsFrom m ms es ≡ restFrom [] m ms es
+pub rest-none : (m : ℕ) (ms : List Mark) (es : List ℕ) → stepsFrom m ms es ≡ restFrom [] m ms es
 unfolding stepsFrom restFrom
 rest-none m ms [] = refl
 rest-none m ms (e ∷ es) = refl
@@ -72,7 +72,7 @@ rest-none m ms (e ∷ es) = refl
 abbrev pub none : Mark
 none = (0, 0)
 
-rest-mark : (since : List Mark) (m : ℕ) (ms : List Mark) (e : ℕ) (es : List ℕ) → m < e → e ≤ length ms
+pub rest-mark : (since : List Mark) (m : ℕ) (ms : List Mark) (e : ℕ) (es : List ℕ) → m < e → e ≤ length ms
     → restFrom since m ms (e ∷ es) ≡ restFrom (since ++ (getD ms m none ∷ [])) (m + 1) ms (e ∷ es)
 unfolding restFrom
 rest-mark since m ms e es g h =
@@ -80,7 +80,7 @@ rest-mark since m ms e es g h =
     let b : m + 1 ≡ suc m = omega arith in
     rw (a, drop-cons ms m none (omega arith), b, append-assoc since (getD ms m none ∷ []) (take (e - suc m) (drop (suc m) ms)))
 
-rest-step : (since : List Mark) (m : ℕ) (ms : List Mark) (e : ℕ) (es : List ℕ) → e ≡ m → restFrom since m ms (e ∷ es) ≡ since ∷ restFrom []
+pub rest-step : (since : List Mark) (m : ℕ) (ms : List Mark) (e : ℕ) (es : List ℕ) → e ≡ m → restFrom since m ms (e ∷ es) ≡ since ∷ restFrom []
     m ms es
 unfolding restFrom
 rest-step since m ms e es q =
@@ -120,7 +120,7 @@ way-start ms es from =
     }
 
 module _ {ms : List Mark} {es : List ℕ} {from at m s : ℕ} (w : Way ms es from at m s) where
-  turn-mark : s < length es → m < getD es s 0 → getD es s 0 ≤ length ms
+  pub turn-mark : s < length es → m < getD es s 0 → getD es s 0 ≤ length ms
       → restFrom (w .since) m ms (drop s es) ≡ restFrom (w .since ++ (getD ms m none ∷ [])) (m + 1) ms (drop s es)
   turn-mark h g k = rw (drop-cons es s 0 h) (rest-mark (w .since) m ms (getD es s 0) (drop (suc s) es) g k)
 
@@ -143,7 +143,7 @@ module _ {ms : List Mark} {es : List ℕ} {from at m s : ℕ} (w : Way ms es fro
         near = w .near;
       }
 
-  turn-step : s < length es → getD es s 0 ≤ m → restFrom (w .since) m ms (drop s es) ≡ w .since ∷ restFrom [] m ms (drop (s + 1) es)
+  pub turn-step : s < length es → getD es s 0 ≤ m → restFrom (w .since) m ms (drop s es) ≡ w .since ∷ restFrom [] m ms (drop (s + 1) es)
   turn-step h g =
       let n : s + 1 ≡ suc s = omega arith in
       rw (n, drop-cons es s 0 h) (rest-step (w .since) m ms (getD es s 0) (drop (suc s) es) (omega (arith, w .low h)))

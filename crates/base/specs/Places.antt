@@ -63,7 +63,7 @@ module _ {A : Type 0} (same : A → A → Bool) where
       go true e u i = rw (place-here x l a e) (omega arith)
       go false e u i = rw (place-past x l a e) (omega (arith, i u))
 
-  place-missing : (l : List A) (a : A) → hasb same l a ≡ false → placeIn same l a ≡ length l
+  pub place-missing : (l : List A) (a : A) → hasb same l a ≡ false → placeIn same l a ≡ length l
   unfolding hasb placeIn
   place-missing [] a t = refl
   place-missing (x ∷ l) a t = go (same x a) refl t (place-missing l a)

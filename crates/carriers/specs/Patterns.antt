@@ -22,7 +22,7 @@ pub split-red : (x : ℕ) → x < 6 → split 63 x ≡ true
 unfolding split
 split-red = below-at (λ x. split 63 x ≡ true) 6 ((((((tt, refl), refl), refl), refl), refl), refl)
 
-split-bits : (bs : List Bool) (x : ℕ) → split (bitsOf bs) x ≡ getD bs x false
+pub split-bits : (bs : List Bool) (x : ℕ) → split (bitsOf bs) x ≡ getD bs x false
 unfolding bitsOf split
 split-bits [] x = split-none x
 split-bits (b ∷ bs) zero =

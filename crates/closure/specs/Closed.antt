@@ -61,7 +61,7 @@ bits-small es c (suc (suc (suc (suc zero)))) h = omega (arith, bits-5 es c)
 bits-small es c (suc (suc (suc (suc (suc zero))))) h = omega (arith, no-bits es c)
 bits-small es c (suc (suc (suc (suc (suc (suc e)))))) h = absurd (omega arith)
 
-part-cons : (l : List ℕ) (k m : ℕ) → k < length l → part l k (suc m) ≡ getD l k 0 ∷ part l (suc k) m
+pub part-cons : (l : List ℕ) (k m : ℕ) → k < length l → part l k (suc m) ≡ getD l k 0 ∷ part l (suc k) m
 part-cons l k m h = rw (drop-cons l k 0 h)
 
 module _ (es : List Pair) (t l : List ℕ) where
@@ -111,7 +111,7 @@ module _ (es reds : List Pair) (m : Lists es reds) where
   pub held-listed : (e : Pair) → hasb isb es (sorted e) ≡ heldb eqb reds e
   held-listed e = m .has (sorted e) ∙ sym (joins-pair reds e)
 
-  pattern-listed : (c : Cell ℕ) → listedPattern es c ≡ pattern 0 eqb reds c
+  pub pattern-listed : (c : Cell ℕ) → listedPattern es c ≡ pattern 0 eqb reds c
   unfolding listedPattern pattern
   pattern-listed c = ap (λ (f : Pair → Bool). bitsOf (map f (edges 0 c))) (fun-ext held-listed)
 

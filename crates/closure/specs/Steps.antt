@@ -96,7 +96,7 @@ unfolding edges
 all-edges c = refl
 
 -- the red cells of a range, one cell more
-red-snoc : (cs : List (Cell ℕ)) (ss : List ℕ) (c : Cell ℕ) (s : ℕ) → length cs ≡ length ss
+pub red-snoc : (cs : List (Cell ℕ)) (ss : List ℕ) (c : Cell ℕ) (s : ℕ) → length cs ≡ length ss
     → redEdges 0 (cs ++ (c ∷ [])) (ss ++ (s ∷ [])) ≡ redEdges 0 cs ss ++ redOf s c
 unfolding redEdges redOf
 red-snoc [] [] c s e = go (redb s)
@@ -152,7 +152,7 @@ count-append [] ts = sym (zero-add (redCount ts))
 count-append (s ∷ ss) ts = omega (arith, count-append ss ts)
 
 module _ (t l : List ℕ) (first : ℕ) where
-  reds-more : (m : ℕ) → first + m < length l
+  pub reds-more : (m : ℕ) → first + m < length l
       → redEdges 0 (cellsAt t first (suc m)) (part l first (suc m)) ≡ redEdges 0 (cellsAt t first m) (part l first m) ++ redOf
       (getD l (first + m) 0) (cellAt t (first + m))
   unfolding cellsAt
@@ -162,7 +162,7 @@ module _ (t l : List ℕ) (first : ℕ) where
       (length-cells t first m ∙ sym (length-part l first m (omega arith))))
 
   -- the red edges of the cells so far and the next one's are within those of the whole range
-  reds-within : (m k : ℕ) → m < k → first + k ≤ length l
+  pub reds-within : (m k : ℕ) → m < k → first + k ≤ length l
       → length (redEdges 0 (cellsAt t first m) (part l first m)) + length (redOf (getD l (first + m) 0) (cellAt t (first + m))) ≤ 6
       * redCount (part l first k)
   reds-within m k h g =

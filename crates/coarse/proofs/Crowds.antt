@@ -23,7 +23,7 @@ use Rattle.coarse.proofs.Repeats.{Cells, none, cell, same-key}
 pub data Shape : List ℕ → Type 0 where
   shape : {p q r : ℕ} → q < 512 → Shape (p ∷ q ∷ r ∷ [])
 
-face-shape : {qs : List (List ℕ)} → Cells qs → (i : ℕ) → i < length (flatMap faces qs) → Shape (getD (flatMap faces qs) i [])
+pub face-shape : {qs : List (List ℕ)} → Cells qs → (i : ℕ) → i < length (flatMap faces qs) → Shape (getD (flatMap faces qs) i [])
 unfolding flatMap faces
 face-shape none i h = absurd (omega arith)
 face-shape (cell {c = c} r cs) zero h = shape {q = c} (omega (arith, r))
@@ -60,11 +60,11 @@ crowd-none qs h =
 
 -- a test that passes at most one of a list
 module _ {A : Type 0} (f : A → Bool) (x : A) (l : List A) where
-  none-more : f x ≡ false → count f l ≡ 0 → count f (x ∷ l) ≡ 0
+  pub none-more : f x ≡ false → count f l ≡ 0 → count f (x ∷ l) ≡ 0
   unfolding count one-if
   none-more e z = let o : one-if (f x) ≡ 0 = rw e in omega arith
 
-  once-more : (f x ≡ true → count f l ≡ 0) → count f l ≤ one-if (anyb f l) → count f (x ∷ l) ≤ one-if (anyb f (x ∷ l))
+  pub once-more : (f x ≡ true → count f l ≡ 0) → count f l ≤ one-if (anyb f l) → count f (x ∷ l) ≤ one-if (anyb f (x ∷ l))
   unfolding count anyb one-if
   once-more z h = go (f x) z
     where

@@ -23,7 +23,7 @@ use Rattle.conformity.specs.Fours.{Rise, Rise3, within-face, within-four
 not-before : (i j : ℕ) → min 1 (suc i - i) * 1024 ≡ min 1 (suc j - i) * 1024 → i ≤ j
 not-before i j e = omega arith
 
-coarse-injective : (n i j : ℕ) → i < n → j < n → coarse n i ≡ coarse n j → i ≡ j
+pub coarse-injective : (n i j : ℕ) → i < n → j < n → coarse n i ≡ coarse n j → i ≡ j
 coarse-injective n i j hi hj e =
     let t : (k : ℕ) → min 1 (suc i - k) * 1024 ≡ min 1 (suc j - k) * 1024 =
     (λ k. sym (tail-sum-coarse n i k hi) ∙ ap (λ (p : Point). tailSum p k) e ∙ tail-sum-coarse n j k hj) in
@@ -51,7 +51,7 @@ pub off-coarse : (n i : ℕ) (t : List ℕ) → i < n → offb 0 (coarse n i) t 
 unfolding coarse
 off-coarse n i t h = off-set 0 n i t h ∙ ap (λ (m : ℕ). memberb m t) (omega arith)
 
-coarse-within : (n : ℕ) (t q : List ℕ) → All (λ x. x < n) t → All (λ x. x < n) q → withinb (map (coarse n) t) (map (coarse n) q) ≡ allb
+pub coarse-within : (n : ℕ) (t q : List ℕ) → All (λ x. x < n) t → All (λ x. x < n) q → withinb (map (coarse n) t) (map (coarse n) q) ≡ allb
     (λ x. memberb x q) t
 coarse-within n t q a b = within-map n (coarse n) (λ x y hx hy e. coarse-injective n x y hx hy e) t q a b
 
@@ -74,7 +74,7 @@ module _ (n : ℕ) (t : List ℕ) (a : All (λ x. x < n) t) where
       go false f i = rw (e, f, filterb) (omega arith)
 
   -- the same four corners
-  abbrev sames : List (List ℕ) → ℕ
+  abbrev pub sames : List (List ℕ) → ℕ
   sames [] = 0
   sames (q ∷ qs) = one-if (sameb t q) + sames qs
 

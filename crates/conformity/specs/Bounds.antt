@@ -57,7 +57,7 @@ regroup true false false true q = refl
 regroup true false false false q = refl
 regroup false b false p q = refl
 
-off-mid : (i : ℕ) (p q : Point) (t : List ℕ) (x y : ℕ → ℕ) → length p ≡ length q → ((j : ℕ) → tailSum p j ≡ 2 * x j)
+pub off-mid : (i : ℕ) (p q : Point) (t : List ℕ) (x y : ℕ → ℕ) → length p ≡ length q → ((j : ℕ) → tailSum p j ≡ 2 * x j)
     → ((j : ℕ) → tailSum q j ≡ 2 * y j)
     → offb i (mid p q) t ≡ (offb i p t && offb i q t)
 unfolding offb mid
@@ -75,7 +75,7 @@ module _ (n k : ℕ) (c : Cell Point) (h : k < 10) (r : Regular n k c) (t : List
   even : (i : ℕ) → i < 4 → (j : ℕ) → tailSum (corner [] c i) j ≡ 2 * (r .coordinates i j * unit (suc k))
   even i l j = r .tails i l j ∙ rw (unit-half k h) (omega arith)
 
-  off-point : (x : ℕ) → x < 10 → offb 0 (point c x) t ≡ (offb 0 (corner [] c (low x)) t && offb 0 (corner [] c (high x)) t)
+  pub off-point : (x : ℕ) → x < 10 → offb 0 (point c x) t ≡ (offb 0 (corner [] c (low x)) t && offb 0 (corner [] c (high x)) t)
   unfolding point
   off-point x hx =
       let (a, b) = digit-ends x hx in
@@ -84,7 +84,7 @@ module _ (n k : ℕ) (c : Cell Point) (h : k < 10) (r : Regular n k c) (t : List
       (r .sized (low x) (omega arith) .places ∙ sym (r .sized (high x) b .places)) (even (low x) (omega arith)) (even (high x) b)
 
   -- the corners that some points use lie where the points do
-  off-used : (f : List ℕ) → Below10 f → T (allb (λ p. offb 0 p t) (map (point c) f)) → (m : ℕ) → T (usesb f m)
+  pub off-used : (f : List ℕ) → Below10 f → T (allb (λ p. offb 0 p t) (map (point c) f)) → (m : ℕ) → T (usesb f m)
       → T (offb 0 (corner [] c m) t)
   off-used f a w m u =
       let w' : T (allb (λ x. offb 0 (point c x) t) f) = rw (all-through (point c) (λ p. offb 0 p t) f) at w in
@@ -131,7 +131,7 @@ module _ (n k : ℕ) (c : Cell Point) (h : k < 10) (r : Regular n k c) (t : List
         (allb (λ p. offb 0 p t) (map (point c) (map (lift (z0 ∷ z1 ∷ z2 ∷ [])) s)))
         (off-lift k (a .0)) (off-lifts s (a .1))
 
-  side-off : (ds : List (List ℕ)) (f : List ℕ) → (w : OnSide ds f) → onCoarseFaceb (map (point c) f) t ≡ onCoarseFaceb
+  pub side-off : (ds : List (List ℕ)) (f : List ℕ) → (w : OnSide ds f) → onCoarseFaceb (map (point c) f) t ≡ onCoarseFaceb
       (map (corner [] c) (cornersAt (w .z))) t
   unfolding onCoarseFaceb
   side-off ds f w =
@@ -155,7 +155,7 @@ module _ (n k : ℕ) (c : Cell Point) (h : k < 10) (r : Regular n k c) (t : List
           subst (λ (f : List ℕ). T (allb (λ p. offb 0 p t) (map (point c) f))) (sym e)
           (off-lifts (v .a) (v .b) (v .c) (v .ab) (v .bc) (v .c4) (a .0) (a .1 .0) (a .1 .1 .0) tr (triple-small (w .t) (w .below)))
 
-any-same : {A : Type 0} (f g : A → Bool) (l : List A) → ((x : A) → f x ≡ g x) → anyb f l ≡ anyb g l
+pub any-same : {A : Type 0} (f g : A → Bool) (l : List A) → ((x : A) → f x ≡ g x) → anyb f l ≡ anyb g l
 unfolding anyb
 any-same f g [] e = refl
 any-same f g (x ∷ l) e = ap₂ _||_ (e x) (any-same f g l e)
@@ -174,7 +174,7 @@ unfolding flatMap faces
 faces-three [] = tt
 faces-three (q ∷ qs) = (refl, (refl, (refl, (refl, faces-three qs))))
 
-bound-three : (qs : List (List ℕ)) → All (λ t. length t ≡ 3) (boundaryFaces qs)
+pub bound-three : (qs : List (List ℕ)) → All (λ t. length t ≡ 3) (boundaryFaces qs)
 unfolding boundaryFaces
 bound-three qs = all-filter _ (λ t. length t ≡ 3) (flatMap faces qs) (faces-three qs)
 

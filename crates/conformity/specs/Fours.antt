@@ -78,7 +78,7 @@ module _ (a b c d : ℕ) (ab : a < b) (bc : b < c) (cd : c < d) where
       below-at (λ i. i ≤ j → getD (a ∷ b ∷ c ∷ d ∷ []) i 0 ≤ getD (a ∷ b ∷ c ∷ d ∷ []) j 0) 4
       (below-at (λ j. Below (λ i. i ≤ j → getD (a ∷ b ∷ c ∷ d ∷ []) i 0 ≤ getD (a ∷ b ∷ c ∷ d ∷ []) j 0) 4) 4 (omega arith) j hj) i hi
 
-  place-rise : (x y i j : ℕ) → x < y → i < 4 → j < 4 → getD (a ∷ b ∷ c ∷ d ∷ []) i 0 ≡ x → getD (a ∷ b ∷ c ∷ d ∷ []) j 0 ≡ y → i < j
+  pub place-rise : (x y i j : ℕ) → x < y → i < 4 → j < 4 → getD (a ∷ b ∷ c ∷ d ∷ []) i 0 ≡ x → getD (a ∷ b ∷ c ∷ d ∷ []) j 0 ≡ y → i < j
   place-rise x y i j h hi hj e f = elim (decLt i j) [ yes l ↦ l | no l ↦ absurd (omega (arith, rise-mono i hi j hj (omega arith))) ]
 
 pub faces-at : (q : List ℕ) (m : ℕ) → m < 4 → getD (faces q) m [] ≡ map (λ i. getD q i 0) (cornersAt m)

@@ -84,7 +84,7 @@ module _ (u : List Point) (k : ℕ) (c : Cell Point) where
   count-from r f i [] = refl
   count-from r f i (d ∷ ds) = ap (λ (m : ℕ). one-if (withinb u (map f d)) + m) (count-from r f (suc i) ds)
 
-  count-children : (s : ℕ) → s ≢ 0 → count u (children k c s (point c)) ≡ countDigits u (point c) (family (patternOf s))
+  pub count-children : (s : ℕ) → s ≢ 0 → count u (children k c s (point c)) ≡ countDigits u (point c) (family (patternOf s))
   unfolding children
   count-children s z = rw (ne-eqb s 0 z, children) (count-from (redb s) (point c) 0 (family (patternOf s)))
 

@@ -126,7 +126,7 @@ module _ (n : ℕ) (qs : List (List ℕ)) (ss : List ℕ) (s : Sound n qs ss) wh
         let z : getD ss i 0 ≡ getD (lv n qs ss (o .j) .statuses) (o .p) 0 = rw (o .number) at (o .at .status) in
         inr (rw c (split-mid (o .j) (o .p) (o .below) y hy (rw z at t))))
 
-    kind-length : (p : Point) → Kind n qs ss p → length p ≡ n
+    pub kind-length : (p : Point) → Kind n qs ss p → length p ≡ n
     kind-length p (inl (i, h, e)) = rw e (sized-coarse n i h .places)
     kind-length p (inr w) =
         let l = lv n qs ss (w .j) in

@@ -64,7 +64,7 @@ map-digits c v d e f [] a = refl
 map-digits c v d e f (m ∷ l) a = ap₂ _∷_ (ap (λ (p : List Point). getD p m []) e ∙ getD-map (point c) d m 0 [] (omega (arith, a .0)))
     (map-digits c v d e f l (a .1))
 
-face-digits : (c v : Cell Point) (d : List ℕ) → v .points ≡ map (point c) d → length d ≡ 4 → (i : ℕ) → i < 4
+pub face-digits : (c v : Cell Point) (d : List ℕ) → v .points ≡ map (point c) d → length d ≡ 4 → (i : ℕ) → i < 4
     → faceOf v i ≡ map (point c) (without d i)
 face-digits c v d e f i hi = map-digits c v d e f (cornersAt i) (corners-below i hi)
     ∙ ap (λ (l : List ℕ). map (point c) (map (λ j. getD d j 0) l)) (others-are i hi)
@@ -94,7 +94,7 @@ pub all-first : {A : Type 0} (P : A → Type 0) (l m : List A) → All P (l ++ m
 all-first P [] m a = tt
 all-first P (x ∷ l) m a = (a .0, all-first P l m (a .1))
 
-all-second : {A : Type 0} (P : A → Type 0) (l m : List A) → All P (l ++ m) → All P m
+pub all-second : {A : Type 0} (P : A → Type 0) (l m : List A) → All P (l ++ m) → All P m
 all-second P [] m a = a
 all-second P (x ∷ l) m a = all-second P l m (a .1)
 
@@ -123,10 +123,10 @@ module _ (n : ℕ) (qs : List (List ℕ)) (ss : List ℕ) (s : Sound n qs ss) (r
       ∙ omega (arith, right i hi)
 
   module _ (v : ℕ) (hv : v < length (lv n qs ss j .cells)) (rv : T (getD (lv n qs ss j .cells) v noCell .regular)) where
-    abbrev cell : Cell Point
+    abbrev pub cell : Cell Point
     cell = getD (lv n qs ss j .cells) v noCell
 
-    abbrev pat : ℕ
+    abbrev pub pat : ℕ
     pat = patternOf (getD (lv n qs ss j .statuses) v 0)
 
     -- points of a child that use every corner

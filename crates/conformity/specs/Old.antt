@@ -47,7 +47,7 @@ pub record OldCell (n : ℕ) (qs : List (List ℕ)) (ss : List ℕ) (j : ℕ) (o
 abbrev pub redsAt : ℕ → List (List ℕ) → List ℕ → ℕ → List Edge
 redsAt n qs ss j = redEdges [] (lv n qs ss j .cells) (lv n qs ss j .statuses)
 
-held-red : (n : ℕ) (qs : List (List ℕ)) (ss : List ℕ) (j : ℕ) (e : Edge) → T (heldb sameb (redsAt n qs ss j) e) → RedAt n qs ss j e
+pub held-red : (n : ℕ) (qs : List (List ℕ)) (ss : List ℕ) (j : ℕ) (e : Edge) → T (heldb sameb (redsAt n qs ss j) e) → RedAt n qs ss j e
 held-red n qs ss j e t =
     let l = lv n qs ss j in
     let w : RedHas (l .cells) (l .statuses) e = red-which e (l .cells) (l .statuses) t in

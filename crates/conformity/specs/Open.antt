@@ -60,7 +60,7 @@ turn : (p a b : Point) → IsMiddle p a b → IsMiddle p b a
 turn p a b m = record { half = λ j. omega (arith, m .half j) }
 
 module _ (n : ℕ) (qs : List (List ℕ)) (ss : List ℕ) (s : Sound n qs ss) where
-  red-held : (j : ℕ) (e : Edge) → RedAt n qs ss j e → T (heldb sameb (redEdges [] (lv n qs ss j .cells) (lv n qs ss j .statuses)) e)
+  pub red-held : (j : ℕ) (e : Edge) → RedAt n qs ss j e → T (heldb sameb (redEdges [] (lv n qs ss j .cells) (lv n qs ss j .statuses)) e)
   red-held j e w =
       let l = lv n qs ss j in
       red-at e (l .cells) (l .statuses) (record {

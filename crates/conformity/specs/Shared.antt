@@ -78,7 +78,7 @@ module _ (n k : ℕ) (c g : Cell Point) (h : k < 10) (r : Regular n k c) (s : Re
       let hi' : i < length d = rw (length-map d (point g)) at hi in
       (getD d i 0, all-at (λ x. x < 10) 0 d a i hi', e ∙ getD-map (point g) d i 0 [] hi')
 
-  found-within : (f d : List ℕ) → Below10 f → Below10 d → T (withinb (map (point c) f) (map (point g) d)) → (m : ℕ) → m < 4 → T (usesb f m)
+  pub found-within : (f d : List ℕ) → Below10 f → Below10 d → T (withinb (map (point c) f) (map (point g) d)) → (m : ℕ) → m < 4 → T (usesb f m)
       → Shares c g m
   found-within f d a b t m hm u =
       let t' : T (allb (λ x. inb (point c x) (map (point g) d)) f) = rw (all-through (point c) (λ p. inb p (map (point g) d)) f) at t in
@@ -93,7 +93,7 @@ module _ (n k : ℕ) (c g : Cell Point) (h : k < 10) (r : Regular n k c) (s : Re
       (or-either (eqb (low x) m) (eqb (high x) m) v)
 
 -- corners of both
-shares-within : (c g : Cell Point) → length (g .points) ≡ 4 → (z : List ℕ) → All (Shares c g) z
+pub shares-within : (c g : Cell Point) → length (g .points) ≡ 4 → (z : List ℕ) → All (Shares c g) z
     → T (withinb (map (corner [] c) z) (g .points))
 shares-within c g e z a =
     rw (all-through (corner [] c) (λ p. inb p (g .points)) z)
@@ -112,7 +112,7 @@ within-shares c g e (m ∷ z) a t =
 
 -- all four corners
 module _ (n k : ℕ) (c g : Cell Point) (r : Regular n k c) (s : Regular n k g) where
-  same-points : ((m : ℕ) → m < 4 → Shares c g m) → c .points ≡ g .points
+  pub same-points : ((m : ℕ) → m < 4 → Shares c g m) → c .points ≡ g .points
   same-points f =
       let (a, _, a4, ea) = f 0 (omega arith) in
       let (b, _, b4, eb) = f 1 (omega arith) in
@@ -130,19 +130,19 @@ module _ (n k : ℕ) (c g : Cell Point) (r : Regular n k c) (s : Regular n k g) 
       (ap₂ _∷_ (eb ∙ ap (corner [] g) pb) (ap₂ _∷_ (ed ∙ ap (corner [] g) pd) (ap₂ _∷_ (ee ∙ ap (corner [] g) pe) refl)))
       ∙ sym (four-elements [] (g .points) (s .four))
 
-points-point : (c g : Cell Point) → c .points ≡ g .points → (x : ℕ) → point c x ≡ point g x
+pub points-point : (c g : Cell Point) → c .points ≡ g .points → (x : ℕ) → point c x ≡ point g x
 unfolding point
 points-point c g e x = ap (λ (l : List Point). mid (getD l (low x) []) (getD l (high x) [])) e
 
-points-edge : (c g : Cell Point) → c .points ≡ g .points → (y : ℕ) → edge [] c y ≡ edge [] g y
+pub points-edge : (c g : Cell Point) → c .points ≡ g .points → (y : ℕ) → edge [] c y ≡ edge [] g y
 unfolding edge
 points-edge c g e y = ap {A = List Point} {B = Edge} (λ l. (getD l (low (middle y)) [], getD l (high (middle y)) [])) e
 
-map-all : (f g : ℕ → Point) (l : List ℕ) → All (λ x. f x ≡ g x) l → map f l ≡ map g l
+pub map-all : (f g : ℕ → Point) (l : List ℕ) → All (λ x. f x ≡ g x) l → map f l ≡ map g l
 map-all f g [] a = refl
 map-all f g (x ∷ l) a = ap₂ _∷_ (a .0) (map-all f g l (a .1))
 
-all-every : {A : Type 0} (P : A → Type 0) → ((x : A) → P x) → (l : List A) → All P l
+pub all-every : {A : Type 0} (P : A → Type 0) → ((x : A) → P x) → (l : List A) → All P l
 all-every P f [] = tt
 all-every P f (x ∷ l) = (f x, all-every P f l)
 

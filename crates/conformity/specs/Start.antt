@@ -134,7 +134,7 @@ module _ (n : ℕ) (qs : List (List ℕ)) (r : All (Rise n) qs) (single : T (sin
       (and-both (eqb (holders qs cut) 1) (onCoarseFaceb (map (coarse n) cut) cut) t
       (rw (on-coarse n cut cut below) (all-each (λ x. memberb x cut) 0 cut (member-at cut))))))
 
-  bound-coarse : holders qs cut ≡ bound qs (map (coarse n) cut)
+  pub bound-coarse : holders qs cut ≡ bound qs (map (coarse n) cut)
   bound-coarse = go (eqb (holders qs cut) 1) refl
     where
       go : (b : Bool) → eqb (holders qs cut) 1 ≡ b → holders qs cut ≡ bound qs (map (coarse n) cut)

@@ -22,10 +22,10 @@ use Rattle.corners.specs.Weighted.{Evens, half-mid, weighted-coarse}
 use Rattle.mesh.specs.Laws.{length-mid}
 
 -- corner i; where there is none, one with no weights
-abbrev cornerAt : List Corner → ℕ → Corner
+abbrev pub cornerAt : List Corner → ℕ → Corner
 cornerAt ks i = getD ks i (record { weights = []; low = 0; high = 0 })
 
-abbrev weightsAt : List Corner → ℕ → Point
+abbrev pub weightsAt : List Corner → ℕ → Point
 weightsAt ks i = cornerAt ks i .weights
 
 -- Rules 5.2, 5.5, 9.3: coarse corners first, then midpoints of corners before them.

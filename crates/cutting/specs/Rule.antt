@@ -54,7 +54,7 @@ present p = filterb (λ d. eqb (low d) (high d) || split p (edgeOf d)) points
 
 -- Rule 2.6: the reference cell. Corner 0 is the origin and the others lie at 2 on an axis each, so that midpoints are whole. A cell that
 -- is not flat is its image by an affine map, and those keep planes, affine functions and which of two is higher.
-unfoldable coordinate : ℕ → ℕ → ℤ
+unfoldable pub coordinate : ℕ → ℕ → ℤ
 unfolding low high one-if
 coordinate d k = pos (one-if (eqb (low d) k) + one-if (eqb (high d) k))
 
@@ -69,7 +69,7 @@ volume a b c d =
     bx *ℤ (cy *ℤ dz -ℤ cz *ℤ dy) -ℤ by *ℤ (cx *ℤ dz -ℤ cz *ℤ dx) +ℤ bz *ℤ (cx *ℤ dy -ℤ cy *ℤ dx)
 
 -- Rule 2.5: the heights, by digit.
-unfoldable height : ℕ → ℤ
+unfoldable pub height : ℕ → ℤ
 height d = pos (getD (110 ∷ 1 ∷ 0 ∷ 2 ∷ 120 ∷ 2 ∷ 0 ∷ 130 ∷ 1 ∷ 140 ∷ []) d 0)
 
 -- Rule 2.6: how far x lies above the affine function through the four. That has at x the mean of their heights, each weighted by the
@@ -85,7 +85,7 @@ zerob (pos zero) = true
 zerob (pos (suc n)) = false
 zerob (negsuc n) = false
 
-unfoldable positiveb : ℤ → Bool
+unfoldable pub positiveb : ℤ → Bool
 positiveb (pos zero) = false
 positiveb (pos (suc n)) = true
 positiveb (negsuc n) = false

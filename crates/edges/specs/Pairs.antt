@@ -101,7 +101,7 @@ module _ (a b c d : ℕ) where
         | no e ↦ let f : a ≡ d = omega (arith, e) in let g : b ≡ c = omega (arith, e) in rw (eq-eqb a d f, eq-eqb b c g, or-true)
       ]
 
-joins-sorted : (e f : Pair) → joinsb eqb e f ≡ isb (sorted f) (sorted e)
+pub joins-sorted : (e f : Pair) → joinsb eqb e f ≡ isb (sorted f) (sorted e)
 unfolding joinsb isb sorted joins sort
 joins-sorted e f = test-ext (joins (e .0) (e .1) (f .0) (f .1)) (sort (e .0) (e .1) (f .0) (f .1)) (to (e .0) (e .1) (f .0) (f .1))
     (from (e .0) (e .1) (f .0) (f .1))

@@ -64,7 +64,7 @@ grown-none xs ys heads links from n e = record {
       refl;
 }
 
-pairs-append : (es l m : List Pair) → addPairs es (l ++ m) ≡ addPairs (addPairs es l) m
+pub pairs-append : (es l m : List Pair) → addPairs es (l ++ m) ≡ addPairs (addPairs es l) m
 unfolding addPairs
 pairs-append es [] m = refl
 pairs-append es (e ∷ l) m = pairs-append (addPair es e) l m

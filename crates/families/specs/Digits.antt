@@ -23,10 +23,10 @@ use Rattle.cutting.specs.Rows.{familyRows, row}
 abbrev pub cornersAt : ℕ → List ℕ
 cornersAt z = getD ((1 ∷ 2 ∷ 3 ∷ []) ∷ (0 ∷ 2 ∷ 3 ∷ []) ∷ (0 ∷ 1 ∷ 3 ∷ []) ∷ (0 ∷ 1 ∷ 2 ∷ []) ∷ []) z []
 
-abbrev first : ℕ → ℕ
+abbrev pub first : ℕ → ℕ
 first k = getD (0 ∷ 0 ∷ 0 ∷ 1 ∷ 1 ∷ 2 ∷ []) k 0
 
-abbrev second : ℕ → ℕ
+abbrev pub second : ℕ → ℕ
 second k = getD (0 ∷ 1 ∷ 2 ∷ 1 ∷ 2 ∷ 2 ∷ []) k 0
 
 abbrev pub lift : List ℕ → ℕ → ℕ

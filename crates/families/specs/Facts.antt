@@ -90,7 +90,7 @@ module _ (f : List (List ℕ)) (t : List ℕ) (r : T (faceTest f t)) where
       (and-right (impb (innerb t) (eqb (holders f t) 2)) (belowb (λ n. impb (onFaceb n t) (eqb (holders f t) 1)) 4) r) n g) i)
 
 -- the k-th face of the family p
-abbrev faceDigits : ℕ → ℕ → List ℕ
+abbrev pub faceDigits : ℕ → ℕ → List ℕ
 faceDigits p k = getD (facesOf (family p)) k []
 
 module _ (p k : ℕ) (h : p < 64) (l : k < length (facesOf (family p))) where

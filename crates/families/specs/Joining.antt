@@ -39,7 +39,7 @@ alike-test = tt
 abbrev pub faceCorners : ℕ → ℕ → List ℕ
 faceCorners d e = low d ∷ high d ∷ low e ∷ high e ∷ []
 
-abbrev splitb : ℕ → ℕ → ℕ → Bool
+abbrev pub splitb : ℕ → ℕ → ℕ → Bool
 splitb p d e = allb (λ i. allb (λ j. impb (ltb i j) (split p (edgeOf (digit i j)))) (faceCorners d e)) (faceCorners d e)
 
 splitTest : ℕ → List (List ℕ) → ℕ → ℕ → Bool

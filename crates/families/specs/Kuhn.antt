@@ -91,24 +91,24 @@ unfolding allb belowb
 red-digits = all-of Digits digitsb digits-of reds tt
 
 -- The three steps of a red child are its parent's three steps in some order, whatever the coordinates are.
-abbrev order : ℕ → ℕ → ℕ
+abbrev pub order : ℕ → ℕ → ℕ
 order m i =
     getD (getD ((0 ∷ 1 ∷ 2 ∷ []) ∷ (1 ∷ 2 ∷ 0 ∷ []) ∷ (1 ∷ 0 ∷ 2 ∷ []) ∷ (0 ∷ 1 ∷ 2 ∷ [])
     ∷ (2 ∷ 0 ∷ 1 ∷ []) ∷ (0 ∷ 2 ∷ 1 ∷ []) ∷ (0 ∷ 1 ∷ 2 ∷ []) ∷ (0 ∷ 1 ∷ 2 ∷ []) ∷ []) m []) i 0
 
-order-below : (m i : ℕ) → m < 8 → i < 3 → order m i < 3
+pub order-below : (m i : ℕ) → m < 8 → i < 3 → order m i < 3
 order-below m i hm hi = below-at (λ i. order m i < 3) 3 (below-at (λ m. Below (λ i. order m i < 3) 3) 8 (omega arith) m hm) i hi
 
 pub order-differs : (m : ℕ) → m < 8 → (order m 0 ≢ order m 1) × (order m 0 ≢ order m 2) × (order m 1 ≢ order m 2)
 order-differs = below-at (λ m. (order m 0 ≢ order m 1) × (order m 0 ≢ order m 2) × (order m 1 ≢ order m 2)) 8 (omega arith)
 
-abbrev red : Coordinates → ℕ → Coordinates
+abbrev pub red : Coordinates → ℕ → Coordinates
 red x m = partOf x (getD reds m [])
 
-abbrev SameStep : Coordinates → ℕ → ℕ → ℕ → Type 0
+abbrev pub SameStep : Coordinates → ℕ → ℕ → ℕ → Type 0
 SameStep x j m i = red x m (suc i) j + x (order m i) j ≡ red x m i j + x (suc (order m i)) j
 
-red-step : (x : Coordinates) (m i j : ℕ) → m < 8 → i < 3 → SameStep x j m i
+pub red-step : (x : Coordinates) (m i j : ℕ) → m < 8 → i < 3 → SameStep x j m i
 unfolding low high
 red-step x m i j hm hi = below-at (SameStep x j m) 3 (below-at (λ m. Below (SameStep x j m) 3) 8 (omega arith) m hm) i hi
 

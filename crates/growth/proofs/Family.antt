@@ -46,7 +46,7 @@ module _ {A : Type 0} (f : A → Bool) where
   all-repeat x t zero = tt
   all-repeat x t (suc n) = rw (is-true (f x) t) (all-repeat x t n)
 
-  all-take : (n : ℕ) (l : List A) → T (allb f l) → T (allb f (take n l))
+  pub all-take : (n : ℕ) (l : List A) → T (allb f l) → T (allb f (take n l))
   unfolding allb
   all-take zero l t = tt
   all-take (suc n) [] t = tt
@@ -113,7 +113,7 @@ child-four (c ∷ f) t z (suc i) h =
     rw (append-assoc c (flatten f) z, w, four-behind c (flatten f ++ z) (4 * i))
     (child-four f (and-right (eqb (length c) 4) (allb (λ c. eqb (length c) 4) f) t) z i (omega arith))
 
-child-digits : (p : ℕ) → p < 64 → (i : ℕ) → i < length (family p) → fourAt (cutOf p .digits) (4 * i) ≡ getD (family p) i []
+pub child-digits : (p : ℕ) → p < 64 → (i : ℕ) → i < length (family p) → fourAt (cutOf p .digits) (4 * i) ≡ getD (family p) i []
 unfolding cutInto
 child-digits p h i l = rw (cutOf-accepted p h) (child-four (family p) (family-fours p h) (replicate (32 - length (flatten (family p))) 0) i
     l)

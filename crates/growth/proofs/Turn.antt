@@ -110,7 +110,7 @@ lows c d h =
     mapped (λ d. corner 0 c (low d)) points d 0 0 h
     ∙ ap (λ (i : ℕ). corner 0 c (low i)) (eqb→eq (getD points d 0) d (belowb-at (λ d. eqb (getD points d 0) d) 10 tt d h))
 
-numbered-none : (n : ℕ) (es : List Pair) (c : Cell ℕ) (p : ℕ) → Numbered n es c p 0 (lowCorners c)
+pub numbered-none : (n : ℕ) (es : List Pair) (c : Cell ℕ) (p : ℕ) → Numbered n es c p 0 (lowCorners c)
 unfolding lowCorners
 numbered-none n es c p =
     record { long = refl; corners = λ d h e. lows c d h; has = λ f h t. absurd (omega arith); middles = λ f h t. absurd (omega arith) }
@@ -170,11 +170,11 @@ module _ (n : ℕ) (es : List Pair) (c : Cell ℕ) (p e : ℕ) (ps : List ℕ) (
             getD-set-other ps (middleEdge e) (middleEdge f) (n + placeIn isb es′ (sorted (edge 0 c e))) 0 other
             ∙ r .middles f w u ∙ ap (λ (k : ℕ). n + k) (sym (stays f w u))
 
-    numbered-more : Numbered n es′ c p (suc e) (marked n es′ c p e ps)
+    pub numbered-more : Numbered n es′ c p (suc e) (marked n es′ c p e ps)
     numbered-more = ⊎-elim halved-more whole-more (either (split p e))
 
 -- after all six edges, each present point has its number
-numbered-all : (n : ℕ) (es : List Pair) (c : Cell ℕ) (p : ℕ) (ps : List ℕ) → Numbered n es c p 6 ps → PointsSet n es c p ps
+pub numbered-all : (n : ℕ) (es : List Pair) (c : Cell ℕ) (p : ℕ) (ps : List ℕ) → Numbered n es c p 6 ps → PointsSet n es c p ps
 unfolding middleEdge
 numbered-all n es c p ps r = record { at = λ d t. ⊎-elim (own d t) (between d t) (either (eqb (low d) (high d))) }
   where

@@ -32,10 +32,10 @@ pub record Extends (es es′ : List Pair) : Type 0 where
   pub has : (p : Pair) → hasb isb es p ≡ true → hasb isb es′ p ≡ true
   pub place : (p : Pair) → hasb isb es p ≡ true → placeIn isb es′ p ≡ placeIn isb es p
 
-extends-self : (es : List Pair) → Extends es es
+pub extends-self : (es : List Pair) → Extends es es
 extends-self es = record { has = λ p t. t; place = λ p t. refl }
 
-extends-both : (a b c : List Pair) → Extends a b → Extends b c → Extends a c
+pub extends-both : (a b c : List Pair) → Extends a b → Extends b c → Extends a c
 extends-both a b c f g = record { has = λ p t. g .has p (f .has p t); place = λ p t. g .place p (f .has p t) ∙ f .place p t }
 
 extends-pair : (es : List Pair) (e : Pair) → Extends es (addPair es e)
@@ -51,7 +51,7 @@ unfolding addPairs
 extends-pairs es [] = extends-self es
 extends-pairs es (e ∷ l) = extends-both es (addPair es e) (addPairs (addPair es e) l) (extends-pair es e) (extends-pairs (addPair es e) l)
 
-extends-ends : (es : List Pair) (cs : List (Cell ℕ)) (ss : List ℕ) → Extends es (endsFrom es cs ss)
+pub extends-ends : (es : List Pair) (cs : List (Cell ℕ)) (ss : List ℕ) → Extends es (endsFrom es cs ss)
 unfolding endsFrom
 extends-ends es [] ss = extends-self es
 extends-ends es (c ∷ cs) [] = extends-self es
@@ -142,12 +142,12 @@ unfolding belowb memberb
 edge-number = belowb-at (λ e. memberb e edgeNumbers) 6 tt
 
 module _ (es : List Pair) (c : Cell ℕ) (s : ℕ) where
-  has-split : (e : ℕ) → e < 6 → split (patternOf s) e ≡ true → hasb isb (addPairs es (splitEdges 0 c s)) (sorted (edge 0 c e)) ≡ true
+  pub has-split : (e : ℕ) → e < 6 → split (patternOf s) e ≡ true → hasb isb (addPairs es (splitEdges 0 c s)) (sorted (edge 0 c e)) ≡ true
   unfolding splitEdges
   has-split e h t = has-pairs es (splitEdges 0 c s) (sorted (edge 0 c e))
       ∙ rw (has-picked (split (patternOf s)) (edge 0 c) e t edgeNumbers (edge-number e h), or-true)
 
-  point-kept : (n : ℕ) (es′ : List Pair) → Extends (addPairs es (splitEdges 0 c s)) es′ → (d : ℕ) → T (memberb d (present (patternOf s)))
+  pub point-kept : (n : ℕ) (es′ : List Pair) → Extends (addPairs es (splitEdges 0 c s)) es′ → (d : ℕ) → T (memberb d (present (patternOf s)))
       → pointAt n es′ c d ≡ pointAt n (addPairs es (splitEdges 0 c s)) c d
   point-kept n es′ x d t = ⊎-elim same other (either (eqb (low d) (high d)))
     where

@@ -16,10 +16,10 @@ use Rattle.rows.specs.Numbered.{cellAt, cellsAt, part}
 use Rattle.base.specs.Fours.{four-points}
 use Rattle.rows.specs.Laws.{cells-cons}
 
-unfoldable bare : Cell ℕ → Cell ℕ
+unfoldable pub bare : Cell ℕ → Cell ℕ
 bare c = record { path = []; parent = c .parent; regular = c .regular; points = c .points }
 
-bare-points : (cs : List (Cell ℕ)) → map (λ c. c .points) (map bare cs) ≡ map (λ c. c .points) cs
+pub bare-points : (cs : List (Cell ℕ)) → map (λ c. c .points) (map bare cs) ≡ map (λ c. c .points) cs
 unfolding bare
 bare-points [] = refl
 bare-points (c ∷ cs) = ap (λ (l : List (List ℕ)). c .points ∷ l) (bare-points cs)
@@ -62,7 +62,7 @@ module _ (l : List ℕ) (n : ℕ) (a b : List ℕ) (h : length a ≡ 8) (q : tak
   behind : take n (drop 8 l) ≡ b
   behind = sym (drop-at (take 8 l) (take n (drop 8 l)) 8 (full l n a b h q)) ∙ ap (drop 8) both ∙ drop-at a b 8 h
 
-read-cells : (t : List ℕ) (k : ℕ) (cs : List (Cell ℕ)) → T (allb (λ c. eqb (length (c .points)) 4) cs)
+pub read-cells : (t : List ℕ) (k : ℕ) (cs : List (Cell ℕ)) → T (allb (λ c. eqb (length (c .points)) 4) cs)
     → part t (8 * k) (8 * length cs) ≡ flatMap rowOf cs
     → cellsAt t k (length cs) ≡ map bare cs
 unfolding allb flatMap cellsAt

@@ -75,7 +75,7 @@ module _ (t : List ℕ) (at : ℕ) (vs : List ℕ) (h : 8 * at ≤ length t) whe
         getD-written t (8 * at) vs h (8 * k + 7) 0 (omega arith),
       )
 
-  written-cells-kept : (k m : ℕ) → k + m ≤ at → cellsAt (written t (8 * at) vs) k m ≡ cellsAt t k m
+  pub written-cells-kept : (k m : ℕ) → k + m ≤ at → cellsAt (written t (8 * at) vs) k m ≡ cellsAt t k m
   unfolding cellsAt
   written-cells-kept k zero l = refl
   written-cells-kept k (suc m) l = rw (written-cells-kept k m (omega arith), cell-kept (k + m) (omega arith))

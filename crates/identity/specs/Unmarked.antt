@@ -136,7 +136,7 @@ module _ (n : ℕ) (qs : List (List ℕ)) (ss ms : List ℕ) (sound : T (soundb 
       ap flatten (flags-own ms none cs (redEdges [] cs ss) apart 12 0 (coarseCells n qs) ss [] refl refl (omega arith) closed reds)
       ∙ flags-concat ls ∙ ap flagsIn table-is
 
-  unmarked-by : flatten (stepBy n qs ss ms) ≡ ss
+  pub unmarked-by : flatten (stepBy n qs ss ms) ≡ ss
   unfolding stepBy ls levelsOf sizes
   unmarked-by =
       let small : length ss ≤ 65535 = omega (arith, counted, few) in

@@ -11,7 +11,7 @@ use Rattle.replay.specs.Run.{jobTable}
 use Rattle.listing.specs.Lines.{header}
 use Rattle.jobs.specs.Listing.{listingOf}
 
-sample : List ℕ
+pub sample : List ℕ
 sample =
     86 ∷ 0 ∷ 0 ∷ 0 ∷ 0 ∷ 0 ∷ 0 ∷ 0 ∷ 0 ∷ 0 ∷ 0 ∷ 0 ∷ 0 ∷
     86 ∷ 16 ∷ 0 ∷ 0 ∷ 0 ∷ 0 ∷ 0 ∷ 0 ∷ 0 ∷ 0 ∷ 0 ∷ 0 ∷ 0 ∷
@@ -25,7 +25,7 @@ sample =
     69 ∷ []
 
 -- Rule 14.7: the header, 0 1 1 0 0, 1 8 1 3 4, 2 16 0 0 16
-sampleLines : List ℕ
+pub sampleLines : List ℕ
 sampleLines =
     header
     ++ (48 ∷ 32 ∷ 49 ∷ 32 ∷ 49 ∷ 32 ∷ 48 ∷ 32 ∷ 48 ∷ 10 ∷

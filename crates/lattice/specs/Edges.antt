@@ -32,7 +32,7 @@ module _ (n k : ℕ) (c : Cell Point) (r : Regular n k c) where
       (r .tails i (omega arith) p) (r .tails j l p) (ap (λ (q : Point). tailSum q p) e) in
       omega arith
 
-  corner-injective : (i j : ℕ) → i < 4 → j < 4 → corner [] c i ≡ corner [] c j → i ≡ j
+  pub corner-injective : (i j : ℕ) → i < 4 → j < 4 → corner [] c i ≡ corner [] c j → i ≡ j
   corner-injective i j hi hj e = equal-or i j (λ h. corner-apart i j h hj e) (λ h. corner-apart j i h hi (sym e))
 
   pub point-injective : k < 10 → (f g : ℕ) → f < 10 → g < 10 → point c f ≡ point c g → f ≡ g
@@ -52,7 +52,7 @@ module _ (n k l : ℕ) (c d : Cell Point) (r : Regular n k c) (s : Regular n l d
       (λ h. mid-off n k (suc l) c (point d g) hk r h (point-on n l d hl s g hg) f hf zf e)
 
   -- An edge belongs to one level: where its ends differ they differ by the unit. Its lower end is told by the coordinates.
-  ends-level : k ≤ 10 → l ≤ 10 → (a b i j : ℕ) → a < b → b < 4 → i < j → j < 4 → corner [] c a ≡ corner [] d i
+  pub ends-level : k ≤ 10 → l ≤ 10 → (a b i j : ℕ) → a < b → b < 4 → i < j → j < 4 → corner [] c a ≡ corner [] d i
       → corner [] c b ≡ corner [] d j → k ≡ l
   ends-level hk hl a b i j ha hb hi hj e f =
       let x = r .coordinates in

@@ -80,7 +80,7 @@ module _ (n : ℕ) (qs : List (List ℕ)) (ss ms : List ℕ) where
       subst (λ (ls : List Level). getD ls 0 noLevel .cells ≡ coarseCells n qs) (new-levels n qs ss ms)
       (cells-first 11 0 (coarseCells n qs) (flatten (stepBy n qs ss ms)))
 
-  new-below : (j i : ℕ) → i < length (newAt n qs ss ms j .cells) → j < 12
+  pub new-below : (j i : ℕ) → i < length (newAt n qs ss ms j .cells) → j < 12
   new-below j i h =
       elim (decLt j 12) [
         | yes u ↦ u

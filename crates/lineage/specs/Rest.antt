@@ -107,14 +107,14 @@ module _ (m : ℕ) (ss fs ms : List ℕ) (h k : ℕ) (c : Cell Point) (cs : List
   abbrev own : List ℕ
   own = take (length (c ∷ cs)) rs
 
-  abbrev upper : List Level
+  abbrev pub upper : List Level
   upper = levels h (k + length (c ∷ cs)) (next k (c ∷ cs) own) (drop (length (c ∷ cs)) rs)
 
   cells-count : k + (length (c ∷ cs) + length (cellsOf upper)) ≡ length ss
   unfolding levels cellsOf flatMap flatten
   cells-count = ap (λ (x : ℕ). k + x) (sym (length-append (c ∷ cs) (cellsOf upper))) ∙ r .count
 
-  length-own : length own ≡ length (c ∷ cs)
+  pub length-own : length own ≡ length (c ∷ cs)
   length-own = length-take-le (length (c ∷ cs)) rs (omega (arith, cells-count, length-drop k ss, ap length (r .rest)))
 
   closed-here : T (closedb (here k (c ∷ cs) rs)) × T (allb closedb upper)

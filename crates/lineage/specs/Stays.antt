@@ -40,7 +40,7 @@ all-failing d f g (x ∷ l) (suc t) h p q = go (g x) refl (all-failing d f g l t
     go false e i = rw (e, filterb) i
 
 -- a new red cell is refined already, or marked 1
-new-red-kept : (up : List Row) (es : List (Point × Point)) (r : Row) → newRedb up es r ≡ true
+pub new-red-kept : (up : List Row) (es : List (Point × Point)) (r : Row) → newRedb up es r ≡ true
     → (eqb (r .status) 0 && eqb (r .mark) 2) ≡ false
 unfolding redAfterb
 new-red-kept up es r n = go (eqb (r .status) 0) refl
@@ -85,7 +85,7 @@ module _ (n : ℕ) (qs : List (List ℕ)) (ss ms : List ℕ) where
     pub status : getD (newAt n qs ss ms j .statuses) i 0 ≡ 64
 
   -- the old cell t of level j will be red
-  abbrev Red : ℕ → ℕ → Type 0
+  abbrev pub Red : ℕ → ℕ → Type 0
   Red j t = newRedAt ms (oldAbove n qs ss j) (oldAt n qs ss j) t ≡ true
 
   pub up-rows : (j : ℕ) → rowsUp (oldAbove n qs ss j) ms ≡ rows (oldAt n qs ss (suc j)) ms
@@ -130,7 +130,7 @@ module _ (n : ℕ) (qs : List (List ℕ)) (ss ms : List ℕ) (s : T (soundb n qs
     abbrev u : Level
     u = oldAt n qs ss (suc j)
 
-    parent : Born (l .first) (l .cells) (l .statuses) (getD (u .cells) t noCell)
+    pub parent : Born (l .first) (l .cells) (l .statuses) (getD (u .cells) t noCell)
     parent =
         let q = old-next n qs ss ms j g in
         rw q (born (l .first) (l .cells) (l .statuses) t (rw q at h) .0)
@@ -140,7 +140,7 @@ module _ (n : ℕ) (qs : List (List ℕ)) (ss ms : List ℕ) (s : T (soundb n qs
         eqb-true (getD (l .statuses) (parent .p) 0) 64
         (sym (ap (λ (c : Cell Point). c .regular) (parent .is)) ∙ is-true (getD (u .cells) t noCell .regular) (red-regular (suc j) t h e))
 
-    parent-stays : Red n qs ss ms j (parent .p)
+    pub parent-stays : Red n qs ss ms j (parent .p)
     parent-stays =
         let known : length (u .statuses) ≡ length (u .cells) = flagged n qs ss ms s (suc j) .known in
         let at : getD (rowsUp (oldAbove n qs ss j) ms) t noRow ≡ rowIn u ms t = ap (λ (rs : List Row). getD rs t noRow)

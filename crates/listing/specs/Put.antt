@@ -40,7 +40,7 @@ pub put-as : {l m xs ys : List ℕ} {at r : ℕ} → xs ≡ ys → Put l at xs m
 put-as e p = rw e at p
 
 module _ {l bs m : List ℕ} where
-  put-parts : {at r : ℕ} → Put l at bs m r → m ≡ take at l ++ (bs ++ drop (at + length bs) l)
+  pub put-parts : {at r : ℕ} → Put l at bs m r → m ≡ take at l ++ (bs ++ drop (at + length bs) l)
   put-parts {at} p = p .bytes ∙ sets-eq bs l at (omega (arith, p .behind, p .inside))
       ∙ append-assoc (take at l) bs (drop (at + length bs) l)
 

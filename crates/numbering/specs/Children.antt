@@ -126,7 +126,7 @@ module _ (n k : ℕ) (h : k < 10) (ks ks′ : List Corner) (es : List Pair) (w :
             (kept-has ks ks′ kept q₁ (corner-has (high d) y)) v);
       }
 
-  numbered-present : (d : ℕ) → T (memberb d (present (patternOf s))) → Numbered n ks ks′ es c d
+  pub numbered-present : (d : ℕ) → T (memberb d (present (patternOf s))) → Numbered n ks ks′ es c d
   numbered-present d t = let (l, u) = present-digit (patternOf s) d t in go l (eqb (low d) (high d)) refl u
     where
       go : d < 10 → (b : Bool) → eqb (low d) (high d) ≡ b → (b || split (patternOf s) (edgeOf d)) ≡ true → Numbered n ks ks′ es c d

@@ -110,7 +110,7 @@ module _ (ks ks′ : List Corner) (k : Kept ks ks′) where
 
 -- The coarse corners.
 module _ (n : ℕ) where
-  abbrev coarseCorner : ℕ → Corner
+  abbrev pub coarseCorner : ℕ → Corner
   coarseCorner i = record { weights = coarse n i; low = i; high = i }
 
   length-coarse : (m : ℕ) → length (coarseCornersTo n m) ≡ m
@@ -163,7 +163,7 @@ corners-start n =
 -- The coarse corners are the first. Every corner has n weights that add to 1,024, and the weights of a midpoint's ends have
 -- even sums.
 module _ (n : ℕ) (ks : List Corner) (es : List Pair) (c : NumberedCorners n ks es) where
-  corner-coarse : (i : ℕ) → i < n → cornerAt ks i ≡ coarseCorner n i
+  pub corner-coarse : (i : ℕ) → i < n → cornerAt ks i ≡ coarseCorner n i
   unfolding coarseCorners
   corner-coarse i h = sym (getD-take n ks i noCorner h) ∙ ap (λ (l : List Corner). cornerAt l i) (c .first) ∙ coarse-at n n i h
 

@@ -27,7 +27,7 @@ use Rattle.numbering.specs.Corners.{number-below, number-own, number-inj
 use Rattle.numbering.specs.Corners.{kept-number, weights-coarse}
 
 -- the pair of the numbers of two points
-abbrev pairIn : List Corner → Point → Point → Pair
+abbrev pub pairIn : List Corner → Point → Point → Pair
 pairIn ks p q = sorted (numberIn ks p, numberIn ks q)
 
 -- the corners e have the weights p and q, in either order
@@ -154,7 +154,7 @@ module _ (n : ℕ) (ks : List Corner) (es : List Pair) (c : NumberedCorners n ks
   pair-below : hasb isb es (pairIn ks p q) ≡ true → n + placeIn isb es (pairIn ks p q) < length ks
   pair-below t = omega (arith, has-below isb es (pairIn ks p q) t, c .count)
 
-  has-midpoint : hasb sameb (weightsOf ks) (mid p q) ≡ hasb isb es (pairIn ks p q)
+  pub has-midpoint : hasb sameb (weightsOf ks) (mid p q) ≡ hasb isb es (pairIn ks p q)
   has-midpoint =
       test-ext (hasb sameb (weightsOf ks) (mid p q)) (hasb isb es (pairIn ks p q)) pair-has
       (λ t. rw (← pair-there t) (has-corner ks (n + placeIn isb es (pairIn ks p q)) (pair-below t)))

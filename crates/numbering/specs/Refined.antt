@@ -56,7 +56,7 @@ module _ {A : Type 0} (o : A) (same : A → A → Bool) (es : List (A × A)) whe
       go true e false = rw (e, statusOf) (record { small = omega (arith, pattern-in-six c); regular = λ z. tt })
       go false e r = rw (e, statusOf) (record { small = omega arith; regular = λ z. absurd (z refl) })
 
-  status-refined : (f : Cell A → Bool) (cs : List (Cell A)) → Refined cs (map (λ c. statusOf o same es (f c) c) cs)
+  pub status-refined : (f : Cell A → Bool) (cs : List (Cell A)) → Refined cs (map (λ c. statusOf o same es (f c) c) cs)
   status-refined f [] = tt
   status-refined f (c ∷ cs) = (status-follows (f c) c, status-refined f cs)
 

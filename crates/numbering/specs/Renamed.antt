@@ -63,13 +63,13 @@ module _ {A B : Type 0} (o : A) (o′ : B) (f : A → B) (Q : A → Type 0) wher
     unfolding mapCell
     corner-map i h = getD-map f (c .points) i o o′ (rw (p .four) h)
 
-    edge-in : (e : ℕ) → e < 6 → EndsIn Q (edge o c e)
+    pub edge-in : (e : ℕ) → e < 6 → EndsIn Q (edge o c e)
     unfolding edge
     edge-in e h =
         let (a, b, _) = middle-ends e h in
         (corner-in (low (middle e)) (omega arith), corner-in (high (middle e)) b)
 
-    edge-map : (e : ℕ) → e < 6 → edge o′ (mapCell f c) e ≡ mapEdge f (edge o c e)
+    pub edge-map : (e : ℕ) → e < 6 → edge o′ (mapCell f c) e ≡ mapEdge f (edge o c e)
     unfolding edge
     edge-map e h =
         let (a, b, _) = middle-ends e h in
@@ -150,7 +150,7 @@ module _ {A B : Type 0} (o : A) (o′ : B) (same : A → A → Bool) (same′ : 
   helds-map es [] p q = refl
   helds-map es (e ∷ l) p q = ap₂ _∷_ (held-map es e p (q .0)) (helds-map es l p (q .1))
 
-  pattern-map : (es : List (A × A)) (c : Cell A) → All (EndsIn Q) es → Points Q c
+  pub pattern-map : (es : List (A × A)) (c : Cell A) → All (EndsIn Q) es → Points Q c
       → pattern o′ same′ (map (mapEdge f) es) (mapCell f c) ≡ pattern o same es c
   unfolding pattern
   pattern-map es c p q = ap bitsOf (ap (map (heldb same′ (map (mapEdge f) es))) (edges-map o o′ f Q c q)

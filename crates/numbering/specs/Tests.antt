@@ -39,7 +39,7 @@ EndsPlaced ks e = EndsIn (Has ks) e
 
 module _ (ks : List Corner) where
   -- numbers are the same where weights are
-  same-number : (p q : Point) → Has ks p → Has ks q → eqb (numberIn ks p) (numberIn ks q) ≡ sameb p q
+  pub same-number : (p q : Point) → Has ks p → Has ks q → eqb (numberIn ks p) (numberIn ks q) ≡ sameb p q
   same-number p q hp hq =
       test-ext (eqb (numberIn ks p) (numberIn ks q)) (sameb p q)
       (λ t. rw (number-injective ks p q hp hq (eqb-true (numberIn ks p) (numberIn ks q) t)) (same-list .self q))
@@ -54,7 +54,7 @@ module _ (ks : List Corner) where
       → heldb eqb (map (edgeIn ks) es) (edgeIn ks e) ≡ heldb sameb es e
   held-numbers = held-map [] 0 sameb eqb (numberIn ks) (Has ks) same-number
 
-  status-numbers : (es : List (Point × Point)) (r : Bool) (c : Cell Point) → All (EndsPlaced ks) es → Placed ks c
+  pub status-numbers : (es : List (Point × Point)) (r : Bool) (c : Cell Point) → All (EndsPlaced ks) es → Placed ks c
       → statusOf 0 eqb (map (edgeIn ks) es) r (mapCell (numberIn ks) c) ≡ statusOf [] sameb es r c
   status-numbers = status-map [] 0 sameb eqb (numberIn ks) (Has ks) same-number
 

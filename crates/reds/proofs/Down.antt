@@ -32,7 +32,7 @@ use Rattle.reds.proofs.Tests.{rowAt, Seen, all-range, red-row}
 use Rattle.reds.proofs.Levels.{Stands, rows-range, cells-of-rows, placed-range, cells-range, up-end, kids-range}
 use Rattle.lineage.specs.Flags.{flag-red}
 
-filter-red : (f : Row → Bool) (rs : List Row) → flatMap (λ r. edges [] (r .cell)) (filterb f rs) ≡ redEdges [] (map (λ r. r .cell) rs)
+pub filter-red : (f : Row → Bool) (rs : List Row) → flatMap (λ r. edges [] (r .cell)) (filterb f rs) ≡ redEdges [] (map (λ r. r .cell) rs)
     (map (λ r. flagOf (f r)) rs)
 unfolding filterb redEdges flatMap flatten
 filter-red f [] = refl

@@ -44,7 +44,7 @@ module _ (cs : List (Cell Point)) (k : ℕ) (d : Cell Point) (ds es : List (Cell
   stands-in : k < length cs
   stands-in = omega (arith, ap length b, length-drop k cs)
 
-stands-at : (cs : List (Cell Point)) (k : ℕ) (ds es : List (Cell Point)) → Stands cs k ds es → (i : ℕ) → i < length ds
+pub stands-at : (cs : List (Cell Point)) (k : ℕ) (ds es : List (Cell Point)) → Stands cs k ds es → (i : ℕ) → i < length ds
     → getD cs (k + i) noCell ≡ getD ds i noCell
 stands-at cs k ds es b i h = sym (getD-drop k cs i noCell) ∙ ap (λ (l : List (Cell Point)). getD l i noCell) b
     ∙ List·getD-append ds es noCell i h

@@ -57,7 +57,7 @@ whole-from m ss (suc h) first last u e k =
     (omega (arith, number-more h first last ss l))))
     (eq-or-lt-of-le u)
 
-count-whole : (n : ℕ) (qs : List (List ℕ)) (ss : List ℕ) → soundb n qs ss ≡ true → firstChild (length qs) ss (length ss) ≡ length ss
+pub count-whole : (n : ℕ) (qs : List (List ℕ)) (ss : List ℕ) → soundb n qs ss ≡ true → firstChild (length qs) ss (length ss) ≡ length ss
 count-whole n qs ss t =
     let l = sound-counted n qs ss t in
     rw (l .whole) at (whole-from (length qs) ss 12 0 (length qs) (omega arith) (sym (first-start (length qs) ss)) (omega (arith, l .few)))
@@ -161,7 +161,7 @@ module _ (n : ℕ) (mesh rows ss ms firsts red : List ℕ) (g : Marked n mesh ro
   unfolding coarseCells
   coarse = length-from n 0 qs
 
-  marked-flags : flagsUp rows ss ms firsts 12 0 (getD firsts 0 0) ≡ flagTable n qs ss ms
+  pub marked-flags : flagsUp rows ss ms firsts 12 0 (getD firsts 0 0) ≡ flagTable n qs ss ms
   unfolding flagTable levelsOf
   marked-flags =
       let e : 0 + length (coarseCells n qs) ≡ firstChild (length qs) ss 0 = zero-add (length (coarseCells n qs)) ∙ coarse
@@ -173,7 +173,7 @@ module _ (n : ℕ) (mesh rows ss ms firsts red : List ℕ) (g : Marked n mesh ro
   pub marked-start : getD firsts 0 0 ≤ length ss
   marked-start = firsts-top (length qs) ss firsts firsts-are 0 (omega arith)
 
-  marked-length : length (flagTable n qs ss ms) ≡ length ss
+  pub marked-length : length (flagTable n qs ss ms) ≡ length ss
   marked-length =
       let e : getD firsts 0 0 ≡ length qs = firsts-are .at 0 (omega arith) ∙ first-start (length qs) ss in
       sym (ap length marked-flags)

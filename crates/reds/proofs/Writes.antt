@@ -16,7 +16,7 @@ use Rattle.reds.specs.Flags.{range, redAtb, flagsAt}
 use Rattle.reds.specs.Ranges.{length-range, range-snoc}
 
 -- one number more behind those that are written
-written-more : (l p out : List ℕ) (n v : ℕ) → out ≡ p ++ drop n l → length p ≡ n → n < length l
+pub written-more : (l p out : List ℕ) (n v : ℕ) → out ≡ p ++ drop n l → length p ≡ n → n < length l
     → set out n v ≡ (p ++ (v ∷ [])) ++ drop (suc n) l
 written-more l p out n v e h g =
     ap (λ (x : List ℕ). set x n v) (e ∙ ap (λ (x : List ℕ). p ++ x) (drop-cons l n 0 g)) ∙ set-at p (getD l n 0) (drop (suc n) l) v n h

@@ -22,7 +22,7 @@ unfolding range
 length-range k zero = refl
 length-range k (suc m) = ap suc (length-range (suc k) m)
 
-range-append : (k m n : ℕ) → range k (m + n) ≡ range k m ++ range (k + m) n
+pub range-append : (k m n : ℕ) → range k (m + n) ≡ range k m ++ range (k + m) n
 unfolding range
 range-append k zero n = let e : 0 + n ≡ n = omega arith in let f : k + 0 ≡ k = omega arith in rw (e, f)
 range-append k (suc m) n =
@@ -35,14 +35,14 @@ unfolding range
 range-snoc k m = let e : suc m ≡ m + 1 = omega arith in ap (range k) e ∙ range-append k m 1
 
 -- a range with something in it
-range-cons : (k last : ℕ) → k < last → range k (last - k) ≡ k ∷ range (k + 1) (last - (k + 1))
+pub range-cons : (k last : ℕ) → k < last → range k (last - k) ≡ k ∷ range (k + 1) (last - (k + 1))
 unfolding range
 range-cons k last h =
     let e : last - k ≡ suc (last - (k + 1)) = omega arith in
     let f : k + 1 ≡ suc k = omega arith in
     rw (e, f)
 
-range-none : (k last : ℕ) → last ≤ k → range k (last - k) ≡ []
+pub range-none : (k last : ℕ) → last ≤ k → range k (last - k) ≡ []
 unfolding range
 range-none k last h = let e : last - k ≡ 0 = omega arith in rw e
 
@@ -74,7 +74,7 @@ module _ (f : ℕ → Bool) (k last : ℕ) (h : last ≤ k) where
 
 -- filters
 module _ {A : Type 0} (f : A → Bool) where
-  filter-append : (l m : List A) → filterb f (l ++ m) ≡ filterb f l ++ filterb f m
+  pub filter-append : (l m : List A) → filterb f (l ++ m) ≡ filterb f l ++ filterb f m
   unfolding filterb
   filter-append [] m = refl
   filter-append (x ∷ l) m = go (f x) (filter-append l m)

@@ -78,7 +78,7 @@ module _ (all : List ℕ) (first : ℕ) (ts us : List ℕ) (e : drop first all �
   pub rest-is : drop (first + length ts) all ≡ us
   rest-is = sym (drop-drop (length ts) first all) ∙ ap (drop (length ts)) e ∙ drop-at ts us (length ts) refl
 
-  part-is : part all first (length ts) ≡ ts
+  pub part-is : part all first (length ts) ≡ ts
   part-is = rw e (take-at ts us (length ts) refl)
 
   -- and where the table is cut behind it

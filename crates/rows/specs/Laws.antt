@@ -30,7 +30,7 @@ pub part-more : (l : List ℕ) (k m : ℕ) → k + m < length l → part l k (su
 part-more l k m h = take-suc (drop k l) m 0 (simp length-drop (omega arith)) ∙ ap (λ (x : ℕ). part l k m ++ (x ∷ [])) (getD-drop k l m 0)
 
 -- a cell has four points, and so a row eight numbers
-row-size : (c : Cell ℕ) → Four c → length (rowOf c) ≡ 8
+pub row-size : (c : Cell ℕ) → Four c → length (rowOf c) ≡ 8
 unfolding rowOf
 row-size c e = rw e
 

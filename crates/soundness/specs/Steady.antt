@@ -87,7 +87,7 @@ module _ (n : ℕ) (qs : List (List ℕ)) (ss ms ts : List ℕ) (old : Sound n q
       child-apart j (omega arith) (getD (lv n qs ts (suc j) .cells) p noCell)
       (born-of (lv n qs ts j) (lv n qs ts (suc j)) (level-next n qs ts j (omega arith)) p h) r y hy own w
 
-  new-apart : T (apartb (cellsOf (levelsOf n qs ts)) ts)
+  pub new-apart : T (apartb (cellsOf (levelsOf n qs ts)) ts)
   new-apart =
       apart-from (cellsOf (levelsOf n qs ts)) ts (λ i h r y hy own held.
       let o = spot-with n qs ts i h in

@@ -108,7 +108,7 @@ module _ (n : ℕ) (mesh rows ss : List ℕ) (h : Held n mesh rows ss) where
         ∙ sym (step-by n qs ss ms (h .sound))
 
     -- the scan of level 10
-    held-deep : leb (length (stepTable n qs ss ms)) 11 ≡ not (deepFrom rows red 0 (length ss))
+    pub held-deep : leb (length (stepTable n qs ss ms)) 11 ≡ not (deepFrom rows red 0 (length ss))
     held-deep =
         deep n qs ss ms (h .sound)
         ∙ ap not (sym (ap (deepFrom rows red 0) counted ∙ deep-scan n qs ss ms (lattice.sound-levels n qs ss (h .sound) .1) rows red

@@ -39,7 +39,7 @@ module _ (n : ℕ) (qs : List (List ℕ)) (ss : List ℕ) (j first last : ℕ) (
       pub fit : last + sizes (ownStatuses rows ss first last) ≤ length ss
       pub whole : Whole rows ss first last xs ys k xs₁ ys₁ heads₁ links₁ ok k₁ size
 
-    turn-fits : ok ≡ true → Fitting
+    pub turn-fits : ok ≡ true → Fitting
     turn-fits e =
         elim (decLt (length ss) last) [
           | yes l ↦ not-both ok e (c .short l)

@@ -19,32 +19,32 @@ use Rattle.rows.specs.Laws.{length-part}
 
 -- a level, and the levels above it
 module _ (k : ℕ) (cs : List (Cell Point)) (ss : List ℕ) where
-  abbrev own : List ℕ
+  abbrev pub own : List ℕ
   own = take (length cs) ss
 
-  abbrev level : Level
+  abbrev pub level : Level
   level = record { first = k; cells = cs; statuses = own }
 
-  abbrev above : ℕ → List Level
+  abbrev pub above : ℕ → List Level
   above m = levels m (k + length cs) (next k cs own) (drop (length cs) ss)
 
-levels-step : (m k : ℕ) (cs : List (Cell Point)) (ss : List ℕ) → 0 < length cs → levels (suc m) k cs ss ≡ level k cs ss ∷ above k cs ss m
+pub levels-step : (m k : ℕ) (cs : List (Cell Point)) (ss : List ℕ) → 0 < length cs → levels (suc m) k cs ss ≡ level k cs ss ∷ above k cs ss m
 unfolding levels
 levels-step m k [] ss h = absurd (omega arith)
 levels-step m k (c ∷ cs) ss h = refl
 
-levels-none : (m k : ℕ) (cs : List (Cell Point)) (ss : List ℕ) → length cs ≡ 0 → levels m k cs ss ≡ []
+pub levels-none : (m k : ℕ) (cs : List (Cell Point)) (ss : List ℕ) → length cs ≡ 0 → levels m k cs ss ≡ []
 unfolding levels
 levels-none zero k cs ss h = refl
 levels-none (suc m) k [] ss h = refl
 levels-none (suc m) k (c ∷ cs) ss h = absurd (omega arith)
 
-cells-append : (ls ms : List Level) → cellsOf (ls ++ ms) ≡ cellsOf ls ++ cellsOf ms
+pub cells-append : (ls ms : List Level) → cellsOf (ls ++ ms) ≡ cellsOf ls ++ cellsOf ms
 unfolding cellsOf flatMap
 cells-append [] ms = refl
 cells-append (l ∷ ls) ms = rw (cells-append ls ms) (sym (append-assoc (l .cells) (cellsOf ls) (cellsOf ms)))
 
-cells-one : (l : Level) (ms : List Level) → cellsOf (l ∷ ms) ≡ l .cells ++ cellsOf ms
+pub cells-one : (l : Level) (ms : List Level) → cellsOf (l ∷ ms) ≡ l .cells ++ cellsOf ms
 unfolding cellsOf flatMap
 cells-one l ms = refl
 
@@ -59,10 +59,10 @@ all-append f (x ∷ l) m = go (f x) (all-append f l m)
 
 -- The ways a table fails.
 module _ (n : ℕ) (qs : List (List ℕ)) (ss : List ℕ) where
-  abbrev ls : List Level
+  abbrev pub ls : List Level
   ls = levelsOf n qs ss
 
-  abbrev cs : List (Cell Point)
+  abbrev pub cs : List (Cell Point)
   cs = cellsOf (levelsOf n qs ss)
 
   whole : soundb n qs ss ≡ ((eqb (length ss) (length cs) && (leb (length ls) 11 && leb (length cs) 4096))
@@ -70,10 +70,10 @@ module _ (n : ℕ) (qs : List (List ℕ)) (ss : List ℕ) where
   unfolding soundb
   whole = refl
 
-  unsound-closed : allb closedb ls ≡ false → soundb n qs ss ≡ false
+  pub unsound-closed : allb closedb ls ≡ false → soundb n qs ss ≡ false
   unsound-closed e = whole ∙ rw e (and-false (eqb (length ss) (length cs) && (leb (length ls) 11 && leb (length cs) 4096)))
 
-  unsound-count : (length ss ≡ length cs → ⊥) → soundb n qs ss ≡ false
+  pub unsound-count : (length ss ≡ length cs → ⊥) → soundb n qs ss ≡ false
   unsound-count h = whole ∙ rw (ne-eqb (length ss) (length cs) h)
 
   pub unsound-height : 11 < length ls → soundb n qs ss ≡ false
@@ -100,7 +100,7 @@ reached-start n qs ss = record { done = []; rest = refl; closed = refl; many = r
 
 module _ (n : ℕ) (qs : List (List ℕ)) (ss : List ℕ) (j first : ℕ) (cells : List (Cell Point)) (r : Reached n qs ss j first cells)
     (low : j ≤ 10) (some : 0 < length cells) where
-  abbrev statuses : List ℕ
+  abbrev pub statuses : List ℕ
   statuses = part ss first (length cells)
 
   here : Level

@@ -134,7 +134,7 @@ module _ (n : ℕ) (qs : List (List ℕ)) (ss : List ℕ) (j first last : ℕ) (
   many : last - first ≡ length (h .cells)
   many = omega (arith, h .end)
 
-  own-is : ownStatuses rows ss first last ≡ part ss first (length (h .cells))
+  pub own-is : ownStatuses rows ss first last ≡ part ss first (length (h .cells))
   own-is = rw many
 
   halves : numberedCells (h .corners) (before ++ h .cells) ≡ numberedCells (h .corners) before ++ numberedCells (h .corners) (h .cells)
@@ -211,7 +211,7 @@ module _ (n : ℕ) (qs : List (List ℕ)) (ss : List ℕ) (j first last : ℕ) (
           rw halves (red-append (numberedCells (h .corners) before) (numberedCells (h .corners) (h .cells)) (take last ss)
           ∙ rw (counted, a, b))
 
-      reds-after : Lists (listed xs′ ys′ 0 k′) (redEdges 0 (numberedCells (h .corners) (before ++ h .cells)) (take last ss))
+      pub reds-after : Lists (listed xs′ ys′ 0 k′) (redEdges 0 (numberedCells (h .corners) (before ++ h .cells)) (take last ss))
       reds-after =
           record {
             has = λ p.
