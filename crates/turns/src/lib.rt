@@ -7,7 +7,9 @@ use store::CHILD;
 use store::CODE;
 use store::FAMILY;
 use store::FIRST_CELL;
+use store::FIRST_SLOT;
 use store::FULL;
+use store::HOLDERS;
 use store::INNER;
 use store::LEVELS;
 use store::MARK;
@@ -33,7 +35,9 @@ ghost use Rattle.store.specs.Fields.{field, full};
 ghost use Rattle.store.specs.Fetch.{bitb};
 ghost use Rattle.turns.specs.Loops.{someFrom, runSome, eachFrom};
 ghost use Rattle.turns.specs.Decide.{slotAt, hitb, hitOf, pullOf, idleKid, pulledKid, kidb, busyb, ruleb, decideOne};
-ghost use Rattle.turns.specs.Post.{posted, markOne, othersOf, postEnd};
+ghost use Rattle.turns.specs.Tally.{addOne, addEdge, tallyOne};
+ghost use Rattle.turns.specs.Post.{posted, besides, markOne, countOne, othersOf, postEnd};
+ghost use Rattle.turns.specs.Step.{slotFrom, enterCounts};
 ghost use Rattle.turns.specs.Usable.{Usable};
 ghost use Rattle.turns.specs.Start.{markOk, markAt, nextMark, marksFrom, markSet, markedFrom, levelFrom, enterMarks, startAnswer};
 ghost use Rattle.turns.specs.Start.{startAfter};
@@ -416,6 +420,126 @@ fn set_marks(store: &mut [u16], marks: &[u8])
         j = next;
         c += 1;
     }
+}
+
+// Adds one to a slot.
+fn add_one(store: &mut [u16], slot: usize)
+    requires { ⌜ full ≤ length (now store) ⌝ }
+    ensures { λ r. ⌜ now (store .exit) ≡ addOne (now (store .entry)) slot ⌝ }
+{
+    if slot >= 24576 {
+        return;
+    }
+    store[SUM + slot] = ((store[SUM + slot] as usize + 1) % 65536) as u16;
+}
+
+// Adds one to the slot of an edge.
+fn add_edge(store: &mut [u16], c: usize, e: usize)
+    requires { ⌜ (full ≤ length (now store)) × (c < 4096) × (e < 6) ⌝ }
+    ensures { λ r. ⌜ now (store .exit) ≡ addEdge c (now (store .entry)) e ⌝ }
+{
+    let slot = slot_of(store, c, e);
+    add_one(store, slot);
+}
+
+// Adds one to the slots of a cell's edges.
+fn add_edges(store: &mut [u16], c: usize)
+    requires { ⌜ (full ≤ length (now store)) × (c < 4096) ⌝ }
+    ensures { λ r. ⌜ now (store .exit) ≡ eachFrom (addEdge c) 6 0 (now (store .entry)) ⌝ }
+{
+    let mut e: usize = 0;
+    while e < 6 {
+        add_edge(store, c, e);
+        e += 1;
+    }
+}
+
+// Tallies a cell, if it is a master that will be red.
+fn tally_one(store: &mut [u16], c: usize)
+    requires { ⌜ (full ≤ length (now store)) × (c < 4096) ⌝ }
+    ensures { λ r. ⌜ now (store .exit) ≡ tallyOne (now (store .entry)) c ⌝ }
+{
+    if store[OWNER + c] != store[PART] {
+        return;
+    }
+    if store[RED + c] != 1 {
+        return;
+    }
+    add_edges(store, c);
+}
+
+// Tallies the cells from `first` to `last`.
+fn tally(store: &mut [u16], first: usize, last: usize)
+    requires { ⌜ (full ≤ length (now store)) × (last ≤ 4096) ⌝ }
+    ensures { λ r. ⌜ now (store .exit) ≡ eachFrom tallyOne (last - first) first (now (store .entry)) ⌝ }
+{
+    let mut c = first;
+    while c < last {
+        tally_one(store, c);
+        c += 1;
+    }
+}
+
+// The receivers without the own part.
+fn without_own(store: &[u16], mask: u16) -> u16
+    requires { ⌜ Usable (now store) ⌝ }
+    ensures { λ r. ⌜ r ≡ besides (now (store .entry)) mask ⌝ }
+{
+    let part = store[PART] as usize;
+    if (mask as usize >> (part - 1)) % 2 != 1 {
+        return mask;
+    }
+    let own = bit_of(part);
+    (mask as usize - own) as u16
+}
+
+// Writes the count of a slot for its other holders, if it is not 0.
+fn count_one(store: &mut [u16], s: usize)
+    requires { ⌜ Usable (now store) × (s < 24576) ⌝ }
+    ensures { λ r. ⌜ now (store .exit) ≡ countOne (now (store .entry)) s ⌝ }
+{
+    let count = store[SUM + s];
+    if count == 0 {
+        return;
+    }
+    let holders = store[HOLDERS + s];
+    let mask = without_own(store, holders);
+    post(store, (4096 + s) as u16, count, mask);
+}
+
+// Writes the counts of the slots from `first` to `last`.
+fn post_counts(store: &mut [u16], first: usize, last: usize)
+    requires { ⌜ Usable (now store) × (last ≤ 24576) ⌝ }
+    ensures { λ r. ⌜ now (store .exit) ≡ eachFrom countOne (last - first) first (now (store .entry)) ⌝ }
+{
+    let mut s = first;
+    while s < last {
+        count_one(store, s);
+        s += 1;
+    }
+}
+
+// The first slot of a level, at most 24,576.
+fn slot_from(store: &[u16], k: usize) -> usize
+    requires { ⌜ Usable (now store) × (k ≤ 11) ⌝ }
+    ensures { λ r. ⌜ (r ≡ slotFrom (now (store .entry)) k) × (r ≤ 24576) ⌝ }
+{
+    let first = store[FIRST_SLOT + k] as usize;
+    if first < 24576 { first } else { 24576 }
+}
+
+// Enters the round of counts of a level.
+fn enter_counts(store: &mut [u16], k: usize)
+    requires { ⌜ Usable (now store) × (k ≤ 10) ⌝ }
+    ensures { λ r. ⌜ now (store .exit) ≡ enterCounts (now (store .entry)) k ⌝ }
+{
+    let first = level_from(store, k);
+    let last = level_from(store, k + 1);
+    let from = slot_from(store, k);
+    let to = slot_from(store, k + 1);
+    tally(store, first, last);
+    post_counts(store, from, to);
+    post_end(store);
 }
 
 // Starts a part with one mark for each of its masters.

@@ -68,7 +68,8 @@ sub-top c =
     omega (
       arith,
       (start-usable (c .before .before .before .before .before .before .before .before .before .before .before .before .args .store .now)
-          (c .before .before .before .before .before .before .before .before .before .before .before .before .args .marks .now) (omega arith)
+          (c .before .before .before .before .before .before .before .before .before .before .before .before .args .marks .now)
+          (omega arith)
           (sym (c .before .before .before .before .before .before .before .header-fits .ensures)
           ∙ not-false _ (c .before .before .before .before .before .before .if2 .left))) .levels-least,
     )
@@ -88,7 +89,11 @@ enter-marks-requires : tie.Need-enter-marks-requires
 enter-marks-requires c κs = (
   begun-by
       (c .before .before .before .before .before .before .before .before .before .before .before .before .before .before .before .before .before .args .store .now) (c .before .before .before .before .before .before .before .before .before .before .before .before .before .before .before .before .before .args .marks .now) _ _ (start-usable (c .before .before .before .before .before .before .before .before .before .before .before .before .before .before .before .before .before .args .store .now) (c .before .before .before .before .before .before .before .before .before .before .before .before .before .before .before .before .before .args .marks .now) (omega arith) (sym (c .before .before .before .before .before .before .before .before .before .before .before .before .header-fits .ensures) ∙ not-false _ (c .before .before .before .before .before .before .before .before .before .before .before .if2 .left))) (c .before .before .before .set-marks .ensures),
-  omega (arith, (start-usable (c .before .before .before .before .before .before .before .before .before .before .before .before .before .before .before .before .before .args .store .now) (c .before .before .before .before .before .before .before .before .before .before .before .before .before .before .before .before .before .args .marks .now) (omega arith) (sym (c .before .before .before .before .before .before .before .before .before .before .before .before .header-fits .ensures) ∙ not-false _ (c .before .before .before .before .before .before .before .before .before .before .before .if2 .left))) .levels-most),
+  omega (
+    arith,
+    (start-usable
+        (c .before .before .before .before .before .before .before .before .before .before .before .before .before .before .before .before .before .args .store .now) (c .before .before .before .before .before .before .before .before .before .before .before .before .before .before .before .before .before .args .marks .now) (omega arith) (sym (c .before .before .before .before .before .before .before .before .before .before .before .before .header-fits .ensures) ∙ not-false _ (c .before .before .before .before .before .before .before .before .before .before .before .if2 .left))) .levels-most,
+  ),
 )
 
 same-length-4 : tie.Need-same-length-4
