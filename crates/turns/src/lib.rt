@@ -39,7 +39,7 @@ ghost use Rattle.turns.specs.Tally.{addOne, addEdge, tallyOne};
 ghost use Rattle.turns.specs.Post.{posted, besides, markOne, countOne, othersOf, postEnd};
 ghost use Rattle.turns.specs.Step.{slotFrom, enterCounts};
 ghost use Rattle.turns.specs.Usable.{Usable};
-ghost use Rattle.turns.specs.Start.{markOk, markAt, nextMark, marksFrom, markSet, markedFrom, levelFrom, enterMarks, startAnswer};
+ghost use Rattle.turns.specs.Start.{markOk, markAt, nextMark, marksDue, markSet, markedFrom, levelFrom, enterMarks, startAnswer};
 ghost use Rattle.turns.specs.Start.{startAfter};
 
 // The slot of an edge of a cell.
@@ -377,7 +377,7 @@ fn next_mark(store: &[u16], c: usize, j: usize) -> usize
 // Whether the marks are one for each master, and fit.
 fn marks_fit(store: &[u16], marks: &[u8]) -> bool
     requires { ⌜ Usable (now store) ⌝ }
-    ensures { λ r. ⌜ r ≡ marksFrom (now (store .entry)) (now (marks .entry)) (field (now (store .entry)) 5) 0 0 ⌝ }
+    ensures { λ r. ⌜ r ≡ marksDue (now (store .entry)) (now (marks .entry)) (field (now (store .entry)) 5) 0 0 ⌝ }
 {
     let cells = store[CELLS] as usize;
     let mut c: usize = 0;
