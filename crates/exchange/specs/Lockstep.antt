@@ -19,7 +19,7 @@ use lib.Seq.{take-suc, take-all, drop-cons, drop-append-le, length-take-le}
 use Rattle.exchange.specs.Calls.{Request, Start, Step, Fetch, Hand}
 use Rattle.exchange.specs.Finite.{Finite, sumOver, sum-lt, upd, upd-all, upd-same, upd-other}
 use Rattle.exchange.specs.Places.{Place, Plan, Ok, Counted, Laws, Live, Accepts, ok-on, ok-begin, ok-take}
-use Rattle.exchange.specs.Protocol.{Local, Protocol, Machine, only, only-same, only-other, number, Ordered, parcel, atStart}
+use Rattle.exchange.specs.Protocol.{Local, Protocol, Machine, only, only-same, only-other, numbered, Ordered, parcel, atStart}
 use Rattle.exchange.specs.Protocol.{following, withBody, Gives, Alone}
 use Rattle.exchange.specs.Played.{mem-getD, getD-mem}
 
@@ -85,8 +85,8 @@ module _ {Part In Body Msg St : Type 0} (F : Finite Part) (Q : Protocol Part In 
       abbrev Among : Part → (Part → ℕ) → List (Part × Body) → Msg → Type 0
       Among p o l m = (q : Part) × (i : ℕ) × (i < length (only F q l)) × (m ≡ Q .pack p q (o q + i) (getD (only F q l) i blank))
 
-      number-in : (p : Part) (o : Part → ℕ) (l : List (Part × Body)) (m : Msg) → List·Memᴰ m (number F (Q .pack) p o l) → Among p o l m
-      unfolding number
+      number-in : (p : Part) (o : Part → ℕ) (l : List (Part × Body)) (m : Msg) → List·Memᴰ m (numbered F (Q .pack) p o l) → Among p o l m
+      unfolding numbered
       number-in p o [] m h = absurd (List·Memᴰ·not-nil h)
       number-in p o ((t, b) ∷ l) m h = go (λ k. number-in p (upd F o t (suc (o t))) l m k) (List·Memᴰ·cases-cons h)
         where
@@ -113,9 +113,9 @@ module _ {Part In Body Msg St : Type 0} (F : Finite Part) (Q : Protocol Part In 
                     (u .0, u .1, rw a (u .2), u .3 ∙ ap₂ (λ k v. Q .pack p (u .0) (k + u .1) (getD v (u .1) blank)) c (sym a))
               ]
 
-          go : (List·Memᴰ m (number F (Q .pack) p (upd F o t (suc (o t))) l) → Among p (upd F o t (suc (o t))) l m)
+          go : (List·Memᴰ m (numbered F (Q .pack) p (upd F o t (suc (o t))) l) → Among p (upd F o t (suc (o t))) l m)
               → (m ≡ Q .pack p t (o t) b)
-              ⊎ List·Memᴰ m (number F (Q .pack) p (upd F o t (suc (o t))) l) → Among p o ((t, b) ∷ l) m
+              ⊎ List·Memᴰ m (numbered F (Q .pack) p (upd F o t (suc (o t))) l) → Among p o ((t, b) ∷ l) m
           go r (inl e) =
               let a = only-same F t b l in
               let z : o t ≡ o t + 0 = omega arith in
@@ -123,15 +123,15 @@ module _ {Part In Body Msg St : Type 0} (F : Finite Part) (Q : Protocol Part In 
           go r (inr k) = later (r k)
 
       in-number : (p : Part) (o : Part → ℕ) (l : List (Part × Body)) (q : Part) (i : ℕ) → i < length (only F q l)
-          → List·Memᴰ (Q .pack p q (o q + i) (getD (only F q l) i blank)) (number F (Q .pack) p o l)
-      unfolding number only
+          → List·Memᴰ (Q .pack p q (o q + i) (getD (only F q l) i blank)) (numbered F (Q .pack) p o l)
+      unfolding numbered only
       in-number p o [] q i h = absurd (omega arith)
       in-number p o ((t, b) ∷ l) q i h = go (F .same? q t) i h (λ k g. in-number p (upd F o t (suc (o t))) l q k g)
         where
           go : Dec (q ≡ t) → (i : ℕ) → i < length (only F q ((t, b) ∷ l))
               → ((k : ℕ) → k < length (only F q l) → List·Memᴰ (Q .pack p q (upd F o t (suc (o t)) q + k) (getD (only F q l) k blank))
-              (number F (Q .pack) p (upd F o t (suc (o t))) l))
-              → List·Memᴰ (Q .pack p q (o q + i) (getD (only F q ((t, b) ∷ l)) i blank)) (number F (Q .pack) p o ((t, b) ∷ l))
+              (numbered F (Q .pack) p (upd F o t (suc (o t))) l))
+              → List·Memᴰ (Q .pack p q (o q + i) (getD (only F q ((t, b) ∷ l)) i blank)) (numbered F (Q .pack) p o ((t, b) ∷ l))
           go (yes e) zero g r =
               let a : only F q ((t, b) ∷ l) ≡ b ∷ only F q l =
               subst (λ z. only F z ((t, b) ∷ l) ≡ b ∷ only F z l) (sym e) (only-same F t b l) in
@@ -147,7 +147,7 @@ module _ {Part In Body Msg St : Type 0} (F : Finite Part) (Q : Protocol Part In 
               let d : Q .pack p q (upd F o t (suc (o t)) q + k) (getD (only F q l) k blank)
               ≡ Q .pack p q (o q + suc k) (getD (only F q ((t, b) ∷ l)) (suc k) blank) =
               ap (λ n. Q .pack p q n (getD (only F q l) k blank)) z ∙ ap (λ v. Q .pack p q (o q + suc k) (getD v (suc k) blank)) (sym a) in
-              List·Memᴰ·tail (subst (λ y. List·Memᴰ y (number F (Q .pack) p (upd F o t (suc (o t))) l)) d
+              List·Memᴰ·tail (subst (λ y. List·Memᴰ y (numbered F (Q .pack) p (upd F o t (suc (o t))) l)) d
               (r k (omega (arith, ap length a))))
           go (no n) i g r =
               let a = only-other F q t b l n in
@@ -155,7 +155,7 @@ module _ {Part In Body Msg St : Type 0} (F : Finite Part) (Q : Protocol Part In 
               let d : Q .pack p q (upd F o t (suc (o t)) q + i) (getD (only F q l) i blank)
               ≡ Q .pack p q (o q + i) (getD (only F q ((t, b) ∷ l)) i blank) =
               ap₂ (λ k v. Q .pack p q (k + i) (getD v i blank)) c (sym a) in
-              List·Memᴰ·tail (subst (λ y. List·Memᴰ y (number F (Q .pack) p (upd F o t (suc (o t))) l)) d
+              List·Memᴰ·tail (subst (λ y. List·Memᴰ y (numbered F (Q .pack) p (upd F o t (suc (o t))) l)) d
               (r i (omega (arith, ap length a))))
 
       -- a message of the atStart F Q rounds
@@ -168,7 +168,7 @@ module _ {Part In Body Msg St : Type 0} (F : Finite Part) (Q : Protocol Part In 
       post-in ord zero q m h = absurd (List·Memᴰ·not-nil h)
       post-in ord (suc r) q m h = ⊎-elim (λ t. post-in ord r q m t) new (List·Memᴰ·append-cases (post r q) h)
         where
-          new : List·Memᴰ m (number F (Q .pack) q (λ p. mailCount r q p) (Q .order r q (lock r q))) → Sent q m
+          new : List·Memᴰ m (numbered F (Q .pack) q (λ p. mailCount r q p) (Q .order r q (lock r q))) → Sent q m
           new t =
               let b = number-in q (λ p. mailCount r q p) (Q .order r q (lock r q)) m t in
               let e = ord r q (b .0) (lock r q) in
@@ -180,11 +180,11 @@ module _ {Part In Body Msg St : Type 0} (F : Finite Part) (Q : Protocol Part In 
       in-post ord r q p i h =
           let e = ord r q p (lock r q) in
           Memᴰ·append-right (post r q) (subst (λ v. List·Memᴰ (Q .pack q p (mailCount r q p + i) (getD v i blank))
-          (number F (Q .pack) q (λ p. mailCount r q p) (Q .order r q (lock r q)))) e
+          (numbered F (Q .pack) q (λ p. mailCount r q p) (Q .order r q (lock r q)))) e
           (in-number q (λ p. mailCount r q p) (Q .order r q (lock r q)) p i (rw e h)))
 
-      number-length : (p : Part) (o : Part → ℕ) (l : List (Part × Body)) → length (number F (Q .pack) p o l) ≡ length l
-      unfolding number
+      number-length : (p : Part) (o : Part → ℕ) (l : List (Part × Body)) → length (numbered F (Q .pack) p o l) ≡ length l
+      unfolding numbered
       number-length p o [] = refl
       number-length p o (t ∷ l) = ap suc (number-length p (upd F o (t .0) (suc (o (t .0)))) l)
 
@@ -381,7 +381,7 @@ module _ {Part In Body Msg St : Type 0} (F : Finite Part) (Q : Protocol Part In 
             go (yes h) = let g = gives-to Z Fetch x _ _ (fetch-gives p r n f o h x a) y e in (omega arith, h, g .0, g .1)
             go (no h) = never Z Fetch x y (A .fetch-none p (local p r n f) x a (drop-of-length-le (post (suc r) p) {i = f} (omega arith))) e
 
-        -- the number F (Q .pack) of a message tells its round
+        -- the numbered F (Q .pack) of a message tells its round
         same-round : (q p : Part) (r r′ : ℕ) (k : ℕ) → mailCount r q p ≤ k → k < mailCount (suc r) q p → mailCount r′ q p ≤ k
             → k < mailCount (suc r′) q p → r′ ≡ r
         same-round q p r r′ k a b c d = go (decLt r r′) (decLt r′ r)
@@ -406,7 +406,7 @@ module _ {Part In Body Msg St : Type 0} (F : Finite Part) (Q : Protocol Part In 
             (short-open r q p (n q - mailCount r q p) (omega (arith, taken-fits p r n f o q))))
             (good p r (upd F n q (suc (n q))) f (ok-take F plan counted p (at-place (suc r) n f) o q h))
 
-        -- a message of q for p that has the number F (Q .pack) that is due is the one that is due
+        -- a message of q for p that has the numbered F (Q .pack) that is due is the one that is due
         is-due : (p : Part) (r : ℕ) (n : Part → ℕ) (f : ℕ) → Ok plan p (at-place (suc r) n f) → (q : Part) (m : Msg)
             → Q .whole r q p (take (n q - mailCount r q p) (mail r q p)) ≡ false
             → (r′ : ℕ) (i : ℕ) → i < length (mail r′ q p) → m ≡ Q .pack q p (mailCount r′ q p + i) (getD (mail r′ q p) i blank)

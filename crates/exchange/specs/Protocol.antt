@@ -3,7 +3,7 @@
 --   Protocol                     rounds, messages and states
 --   Machine                      a program, and which stores stand for what
 --   only F q l                   the messages of a list for one part
---   number, parcel               messages with their counts; what a part writes in a round
+--   numbered, parcel             messages with their counts; what a part writes in a round
 --   atStart, following, withQueue, withBody    where a call leads
 --   Alone                        the laws, where Good says what has room in a store
 -- Laws: only-same, only-other.
@@ -33,7 +33,7 @@ pub record Protocol (Part In Body Msg St : Type 0) : Type 0 where
   pub order : ℕ → Part → St → List (Part × Body)  -- all that p writes in round r, in the order written
   pub next : ℕ → Part → St → (Part → List Body) → St
   pub whole : ℕ → Part → Part → List Body → Bool  -- whole r q p l: l is all that q writes for p in round r
-  pub pack : Part → Part → ℕ → Body → Msg  -- from, to, number
+  pub pack : Part → Part → ℕ → Body → Msg  -- from, to, count
 
 -- a program, and what its stores stand for
 pub record Machine (Part In Body Msg St Store : Type 0) : Type 1 where
@@ -80,10 +80,10 @@ module _ {Part Body : Type 0} (F : Finite Part) where
 
 module _ {Part Body Msg : Type 0} (F : Finite Part) (pack : Part → Part → ℕ → Body → Msg) where
   -- the messages of a list, where o counts those written before for each part
-  unfoldable pub number : Part → (Part → ℕ) → List (Part × Body) → List Msg
+  unfoldable pub numbered : Part → (Part → ℕ) → List (Part × Body) → List Msg
   unfolding upd
-  number p o [] = []
-  number p o (t ∷ l) = pack p (t .0) (o (t .0)) (t .1) ∷ number p (upd F o (t .0) (suc (o (t .0)))) l
+  numbered p o [] = []
+  numbered p o (t ∷ l) = pack p (t .0) (o (t .0)) (t .1) ∷ numbered p (upd F o (t .0) (suc (o (t .0)))) l
 
 module _ {Part In Body Msg St : Type 0} (F : Finite Part) (Q : Protocol Part In Body Msg St) where
   abbrev pub Ordered : Type 0
@@ -91,8 +91,8 @@ module _ {Part In Body Msg St : Type 0} (F : Finite Part) (Q : Protocol Part In 
 
   -- what p writes in round r, with `o` messages written before
   unfoldable pub parcel : ℕ → Part → St → (Part → ℕ) → List Msg
-  unfolding number
-  parcel r p s o = number F (Q .pack) p o (Q .order r p s)
+  unfolding numbered
+  parcel r p s o = numbered F (Q .pack) p o (Q .order r p s)
 
   abbrev pub enter : ℕ → Part → St → (Part → ℕ) → (Part → ℕ) → List Msg → Local Part Body Msg St
   enter r p s b o w = record {

@@ -12,10 +12,10 @@ use lib.Dec.{eqb}
 use lib.ListN.{length}
 use borrow.Author.Tests.{eq-eqb, ne-eqb, lt-ltb}
 use Rattle.exchange.specs.Finite.{parts, upd, upd-same, upd-other}
-use Rattle.exchange.specs.Protocol.{number, only, only-same, only-other}
+use Rattle.exchange.specs.Protocol.{numbered, only, only-same, only-other}
 use Rattle.rounds.specs.Task.{Task}
 use Rattle.rounds.specs.Rounds.{Body}
-use Rattle.store.specs.Fields.{field, PART, CURSOR, BIT}
+use Rattle.store.specs.Fields.{field, PART, ROUND, ENTRIES, CURSOR, BIT}
 use Rattle.store.specs.declared.Spot.{Spot}
 use Rattle.store.specs.Message.{messageOf}
 use Rattle.store.specs.Fetch.{entryCount, codeAt, valueAt, receiversAt, bitb, spotAt}
@@ -221,8 +221,8 @@ module _ (P : ℕ) (J : Task (Fin P)) (p : Fin P) (y : List ℕ) (own : field y 
         rw (own, z, v, c, d) (sym w)
 
   pub stream-number : (l : List (Fin P × Body)) (w : List Spot) → Matches l w → (o : ℕ → ℕ) (u : Fin P → ℕ) → Agree o u → CountRoom u l
-      → stream y o w ≡ number (parts P) (pack P J) p u l
-  unfolding stream number Matches
+      → stream y o w ≡ numbered (parts P) (pack P J) p u l
+  unfolding stream numbered Matches
   stream-number [] [] m o u a h = refl
   stream-number [] (s ∷ w) m o u a h = absurd m
   stream-number (t ∷ l) [] m o u a h = absurd m
@@ -234,7 +234,7 @@ module _ (P : ℕ) (J : Task (Fin P)) (p : Fin P) (y : List ℕ) (own : field y 
   -- A ROUND'S ENTRIES, put behind those of a store that stands at a place, are the queue of the next place
   pub step-queue : (l : L P J) (x : List ℕ) (n : ℕ) → Busy P J p l x → Longer x y n → (t : List (Fin P × Body))
       → Matches t (spotsFrom y n (entryCount x) 0) → CountRoom (l .sent) t
-      → queueOf y ≡ l .queue ++ number (parts P) (pack P J) p (l .sent) t
+      → queueOf y ≡ l .queue ++ numbered (parts P) (pack P J) p (l .sent) t
   step-queue l x n v e t m h =
       queue-more x y n e (v .cursor .0) (v .cursor .1)
       ∙ ap₂ _++_ (v .queue) (stream-number t (spotsFrom y n (entryCount x) 0) m (givenAfter (givenTo y) (leftOf x)) (l .sent)

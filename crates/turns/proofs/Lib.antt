@@ -2,3 +2,5 @@
 pub mod Deciding
 pub mod Posting
 pub mod Starting
+pub mod Tallying
+pub mod Counting

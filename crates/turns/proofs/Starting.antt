@@ -20,7 +20,7 @@ use Rattle.turns.specs.Loops.{eachFrom, SameHead, head-self, head-on, he
 use Rattle.turns.specs.Usable.{Usable}
 use Rattle.turns.specs.Decide.{decideOne}
 use Rattle.turns.specs.Post.{posted, markOne, othersOf, postEnd}
-use Rattle.turns.specs.Start.{ownb, markOk, markAt, nextMark, marksFrom, markSet, markedFrom, levelFrom, enterMarks, startAnswer}
+use Rattle.turns.specs.Start.{ownb, markOk, markAt, nextMark, marksDue, markSet, markedFrom, levelFrom, enterMarks, startAnswer}
 use Rattle.turns.specs.Start.{startedStore, startedIn, startAfter}
 use Rattle.turns.proofs.Deciding.{decide-head}
 use Rattle.turns.proofs.Posting.{mark-head}
@@ -69,17 +69,17 @@ module _ (x ms : List ℕ) (c j : ℕ) where
       go true e = rw (e, nextMark) (omega arith)
       go false e = rw (e, nextMark) (omega arith)
 
-  pub fit-stop : (n : ℕ) → c < n → markAt x ms c j ≡ false → marksFrom x ms (n - c) c j ≡ false
-  unfolding marksFrom
-  fit-stop n h e = let z : n - c ≡ suc (n - suc c) = omega arith in rw (z, e, marksFrom)
+  pub fit-stop : (n : ℕ) → c < n → markAt x ms c j ≡ false → marksDue x ms (n - c) c j ≡ false
+  unfolding marksDue
+  fit-stop n h e = let z : n - c ≡ suc (n - suc c) = omega arith in rw (z, e, marksDue)
 
-  pub fit-on : (n : ℕ) → c < n → markAt x ms c j ≡ true → marksFrom x ms (n - c) c j ≡ marksFrom x ms (n - suc c) (suc c) (nextMark x c j)
-  unfolding marksFrom
-  fit-on n h e = let z : n - c ≡ suc (n - suc c) = omega arith in rw (z, e, marksFrom)
+  pub fit-on : (n : ℕ) → c < n → markAt x ms c j ≡ true → marksDue x ms (n - c) c j ≡ marksDue x ms (n - suc c) (suc c) (nextMark x c j)
+  unfolding marksDue
+  fit-on n h e = let z : n - c ≡ suc (n - suc c) = omega arith in rw (z, e, marksDue)
 
-  pub fit-out : (n : ℕ) → n ≤ c → marksFrom x ms (n - c) c j ≡ eqb (length ms) j
-  unfolding marksFrom
-  fit-out n h = let z : n - c ≡ 0 = omega arith in rw (z, marksFrom)
+  pub fit-out : (n : ℕ) → n ≤ c → marksDue x ms (n - c) c j ≡ eqb (length ms) j
+  unfolding marksDue
+  fit-out n h = let z : n - c ≡ 0 = omega arith in rw (z, marksDue)
 
   pub set-other : (field x (OWNER + c) ≡ field x PART → ⊥) → x ≡ markSet x ms c j
   unfolding markSet ownb
@@ -119,8 +119,8 @@ module _ (x ms : List ℕ) (c j : ℕ) where
     ap₂ (λ (z : List ℕ) (m : ℕ). markedFrom z ms (n - suc c) (suc c) m) e f ∙ sym (marked-on n h) ∙ i,
   )
 
-pub fit-begin : (x ms : List ℕ) (n : ℕ) → marksFrom x ms (n - 0) 0 0 ≡ marksFrom x ms n 0 0
-fit-begin x ms n = let z : n - 0 ≡ n = omega arith in ap (λ (k : ℕ). marksFrom x ms k 0 0) z
+pub fit-begin : (x ms : List ℕ) (n : ℕ) → marksDue x ms (n - 0) 0 0 ≡ marksDue x ms n 0 0
+fit-begin x ms n = let z : n - 0 ≡ n = omega arith in ap (λ (k : ℕ). marksDue x ms k 0 0) z
 
 pub marked-begin : (x ms : List ℕ) (n : ℕ) → markedFrom x ms (n - 0) 0 0 ≡ markedFrom x ms n 0 0
 marked-begin x ms n = let z : n - 0 ≡ n = omega arith in ap (λ (k : ℕ). markedFrom x ms k 0 0) z
@@ -222,17 +222,17 @@ module _ (x ms : List ℕ) where
           }
 
       module _ (stage : field x STAGE ≡ 0) where
-        pub start-marks : (r : Bool) → r ≡ marksFrom x ms (field x CELLS) 0 0 → r ≡ false → Starts (Refused 7) x
+        pub start-marks : (r : Bool) → r ≡ marksDue x ms (field x CELLS) 0 0 → r ≡ false → Starts (Refused 7) x
         unfolding startAnswer refuse
         start-marks r e f =
-            let g : marksFrom x ms (field x CELLS) 0 0 ≡ false = sym e ∙ f in
+            let g : marksDue x ms (field x CELLS) 0 0 ≡ false = sym e ∙ f in
             refused 7 (rw (le-leb full (length x) long, header, eq-eqb (field x STAGE) 0 stage, g, startAnswer))
 
-        pub start-done : (r : Bool) → r ≡ marksFrom x ms (field x CELLS) 0 0 → r ≡ true → (y z : List ℕ) (k : ℕ)
+        pub start-done : (r : Bool) → r ≡ marksDue x ms (field x CELLS) 0 0 → r ≡ true → (y z : List ℕ) (k : ℕ)
             → y ≡ markedFrom x ms (field x CELLS) 0 0 → k ≡ field x LEVELS - 1 → z ≡ enterMarks (set y STAGE 1) k → Starts Accepted z
         unfolding startAnswer refuse startAfter startedIn startedStore
         start-done r e f y z k i j l =
-            let g : marksFrom x ms (field x CELLS) 0 0 ≡ true = sym e ∙ f in
+            let g : marksDue x ms (field x CELLS) 0 0 ≡ true = sym e ∙ f in
             let a : Accepted ≡ startAnswer x ms = rw (
               le-leb full (length x) long,
               header,

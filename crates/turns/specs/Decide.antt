@@ -12,7 +12,7 @@ use mathlib.Core.List.{List}
 use Prim.Native.Nat.{ℕ, _+_, _*_}
 use lib.Dec.{eqb, ltb}
 use lib.ListN.{set}
-use Rattle.base.specs.Bools.{one-if}
+use Rattle.base.specs.Lists.{one-if}
 use Rattle.store.specs.Fields.{field, PART, CELLS, FAMILY, STATUS, REGULAR, CHILD, PARENT, INNER, MARK, RED, SLOT, SUM}
 use Rattle.store.specs.Fetch.{bitb}
 use Rattle.turns.specs.Loops.{someFrom, runSome}

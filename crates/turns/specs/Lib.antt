@@ -1,5 +1,7 @@
 pub mod Loops
 pub mod Usable
 pub mod Decide
+pub mod Tally
 pub mod Post
 pub mod Start
+pub mod Step

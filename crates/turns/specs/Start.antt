@@ -1,6 +1,6 @@
 -- Starting a part.
 --   ownb x c              the part has the cell as master
---   marksFrom x ms n c j  the marks from j on are one for each master among n cells from c on, 0 to 2, and 0 on a refined cell
+--   marksDue x ms n c j  the marks from j on are one for each master among n cells from c on, 0 to 2, and 0 on a refined cell
 --   markedFrom x ms n c j    the store with these marks
 --   levelFrom x k         the first cell of a level, at most the number of cells
 --   enterMarks x k        on entering the round of marks of the level k: flags decided, the ghosts' marks and the end written
@@ -34,10 +34,10 @@ unfoldable pub nextMark : List ℕ → ℕ → ℕ → ℕ
 unfolding ownb
 nextMark x c j = elim (ownb x c) [ true ↦ suc j | false ↦ j ]
 
-unfoldable pub marksFrom : List ℕ → List ℕ → ℕ → ℕ → ℕ → Bool
+unfoldable pub marksDue : List ℕ → List ℕ → ℕ → ℕ → ℕ → Bool
 unfolding markAt nextMark
-marksFrom x ms zero c j = eqb (length ms) j
-marksFrom x ms (suc n) c j = markAt x ms c j && marksFrom x ms n (suc c) (nextMark x c j)
+marksDue x ms zero c j = eqb (length ms) j
+marksDue x ms (suc n) c j = markAt x ms c j && marksDue x ms n (suc c) (nextMark x c j)
 
 unfoldable pub markSet : List ℕ → List ℕ → ℕ → ℕ → List ℕ
 unfolding ownb
@@ -58,11 +58,11 @@ enterMarks x k =
     (eachFrom decideOne (levelFrom x (k + 1) - levelFrom x k) (levelFrom x k) x))
 
 unfoldable pub startAnswer : List ℕ → List ℕ → Answer
-unfolding refuse headerb marksFrom
+unfolding refuse headerb marksDue
 startAnswer x ms =
     refuse 15 (leb full (length x)) (
     refuse 16 (headerb x && eqb (field x STAGE) 0) (
-    refuse 7 (marksFrom x ms (field x CELLS) 0 0) Accepted))
+    refuse 7 (marksDue x ms (field x CELLS) 0 0) Accepted))
 
 unfoldable pub startedStore : List ℕ → List ℕ → List ℕ
 unfolding markedFrom enterMarks

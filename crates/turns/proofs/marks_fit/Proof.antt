@@ -1,10 +1,10 @@
 use Rattle.turns.proofs.Starting.{next-few, fit-begin, fit-stop, fit-on, fit-out}
-use Rattle.turns.specs.Start.{marksFrom}
+use Rattle.turns.specs.Start.{marksDue}
 use lib.ListN.{getD}
 use borrow.Author.Tests.{not-true, not-false}
 use native.Mathlib.Numerals.{add-one}
-use Prim.Native.Nat.{_-_, _≤_}
-use mathlib.Core.Path.{_≡_, sym, _∙_}
+use Prim.Native.Nat.{suc, _+_, _-_, _<_, _≤_}
+use mathlib.Core.Path.{_≡_, refl, sym, _∙_}
 use native.Mathlib.Omega.{arith}
 use borrow.Author.Needs.{needs}
 use Rattle.turns.proofs.marks_fit.Statement.{statement}
@@ -16,7 +16,7 @@ use Rattle.turns.proofs.next_mark.Reads as next-mark-reads
 
 abbrev Inv-loop : tie.InvT-loop
 Inv-loop store marks cells c₀ j₀ c j = (c ≤ 4096) × (j ≤ c)
-    × (marksFrom store marks (cells - c) c j ≡ marksFrom store marks (getD store 5 0) 0 0)
+    × (marksDue store marks (cells - c) c j ≡ marksDue store marks (getD store 5 0) 0 0)
 
 abbrev μ-loop : tie.MeasureT-loop
 μ-loop store marks cells c₀ j₀ c j = cells - c
