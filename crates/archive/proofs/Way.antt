@@ -80,7 +80,8 @@ rest-mark since m ms e es g h =
     let b : m + 1 ≡ suc m = omega arith in
     rw (a, drop-cons ms m none (omega arith), b, append-assoc since (getD ms m none ∷ []) (take (e - suc m) (drop (suc m) ms)))
 
-pub rest-step : (since : List Mark) (m : ℕ) (ms : List Mark) (e : ℕ) (es : List ℕ) → e ≡ m → restFrom since m ms (e ∷ es) ≡ since ∷ restFrom []
+pub rest-step : (since : List Mark) (m : ℕ) (ms : List Mark) (e : ℕ) (es : List ℕ) → e ≡ m
+    → restFrom since m ms (e ∷ es) ≡ since ∷ restFrom []
     m ms es
 unfolding restFrom
 rest-step since m ms e es q =

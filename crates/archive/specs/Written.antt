@@ -139,7 +139,8 @@ none : Rises 0 []
 unfolding Rises
 none = tt
 
-pub steps-written : (f : ℕ) (ms : List Mark) (bs : List ℕ) → Octets bs → Rises 0 ms → T (stepsIn f ms bs .ok) → Behind ms bs (stepsIn f ms bs)
+pub steps-written : (f : ℕ) (ms : List Mark) (bs : List ℕ) → Octets bs → Rises 0 ms → T (stepsIn f ms bs .ok)
+    → Behind ms bs (stepsIn f ms bs)
 steps-written zero ms bs o r t = absurd (no-fuel ms bs t)
 steps-written (suc f) ms bs o r t =
     go (markedb ms bs) refl (startsb 71 1 bs) refl (steps-written f (ms ++ (markIn bs ∷ [])) (drop 4 bs) (octets-drop o 4))

@@ -104,7 +104,8 @@ module _ (n k : ℕ) (c q : Cell Point) (h : k < 10) (r : Regular n k c) (s : Re
         let (b0, b1) = digit-ends b hb in
         ((low a, omega arith, omega arith, x0), ((high a, d1, a1, x1), ((low b, omega arith, omega arith, y0), ((high b, e1, b1, y1), tt))))
 
-    pub carried : (p : ℕ) → p < 64 → ((z : ℕ) → z < 6 → T (heldb sameb (edges [] q) (edge [] c z)) → T (split p z)) → T (joinedb (family p) d e)
+    pub carried : (p : ℕ) → p < 64 → ((z : ℕ) → z < 6 → T (heldb sameb (edges [] q) (edge [] c z)) → T (split p z))
+        → T (joinedb (family p) d e)
     unfolding impb
     carried p hp f =
         joined-split d e hd he p hp joined

@@ -78,7 +78,8 @@ module _ (n k : ℕ) (c g : Cell Point) (h : k < 10) (r : Regular n k c) (s : Re
       let hi' : i < length d = rw (length-map d (point g)) at hi in
       (getD d i 0, all-at (λ x. x < 10) 0 d a i hi', e ∙ getD-map (point g) d i 0 [] hi')
 
-  pub found-within : (f d : List ℕ) → Below10 f → Below10 d → T (withinb (map (point c) f) (map (point g) d)) → (m : ℕ) → m < 4 → T (usesb f m)
+  pub found-within : (f d : List ℕ) → Below10 f → Below10 d → T (withinb (map (point c) f) (map (point g) d)) → (m : ℕ) → m < 4
+      → T (usesb f m)
       → Shares c g m
   found-within f d a b t m hm u =
       let t' : T (allb (λ x. inb (point c x) (map (point g) d)) f) = rw (all-through (point c) (λ p. inb p (map (point g) d)) f) at t in

@@ -16,7 +16,7 @@ use mathlib.Core.List.{List, [], _∷_, _++_, List·Memᴰ}
 use Prim.Native.Nat.{ℕ, zero, suc, _+_}
 use lib.Dec.{T, eqb}
 use lib.ListN.{set}
-use Rattle.base.specs.Lists.{one-if}
+use Rattle.base.specs.Bools.{one-if}
 
 pub data Request (In Msg : Type 0) : Type 0 where
   Start : In → Request In Msg

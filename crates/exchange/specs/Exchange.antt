@@ -18,8 +18,8 @@ use lib.Dec.{eqb}
 use lib.ListN.{length, getD, set, length-set}
 use lib.Seq.{getD-set-same, getD-set-other}
 use borrow.Author.Tests.{eq-eqb, ne-eqb, eqb-true}
-use Rattle.exchange.specs.Calls.{Request, Start, Step, Fetch, Hand, Call, World, Program, answer, changed, play}
-use Rattle.exchange.specs.Calls.{moves, begun, startedWith, toCome, IsWritten, Fair, Lawful}
+use Rattle.exchange.specs.Calls.{Request, Start, Step, Fetch, Hand, Call, World, Program, answer, changed, play, moves, begun}
+use Rattle.exchange.specs.Calls.{startedWith, toCome, IsWritten, Fair, Lawful}
 use Rattle.exchange.specs.Played.{mem-getD, getD-mem, answer-at, answer-there, play-none, play-some, moves-none, moves-some}
 use Rattle.exchange.specs.Played.{lawful-none, lawful-some, started-none, started-some, play-append, moves-append, lawful-append}
 use Rattle.exchange.specs.Played.{lawful-split, started-append}

@@ -11,7 +11,7 @@ use mathlib.Core.Option.{Option, none, some, Option·elim}
 use mathlib.Core.List.{List, [], _∷_, _++_, List·Memᴰ, List·Memᴰ·head, List·Memᴰ·tail}
 use lib.Dec.{T, eqb}
 use lib.ListN.{length, getD}
-use Rattle.base.specs.Lists.{one-if}
+use Rattle.base.specs.Bools.{one-if}
 use Rattle.exchange.specs.Calls.{Request, Start, Step, Fetch, Hand, Call, World, Program, answerAt, answer, changed, apply, play}
 use Rattle.exchange.specs.Calls.{acceptsb, moves, begun, startedWith, Fair, Lawful}
 

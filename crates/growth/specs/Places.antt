@@ -147,7 +147,8 @@ module _ (es : List Pair) (c : Cell ℕ) (s : ℕ) where
   has-split e h t = has-pairs es (splitEdges 0 c s) (sorted (edge 0 c e))
       ∙ rw (has-picked (split (patternOf s)) (edge 0 c) e t edgeNumbers (edge-number e h), or-true)
 
-  pub point-kept : (n : ℕ) (es′ : List Pair) → Extends (addPairs es (splitEdges 0 c s)) es′ → (d : ℕ) → T (memberb d (present (patternOf s)))
+  pub point-kept : (n : ℕ) (es′ : List Pair) → Extends (addPairs es (splitEdges 0 c s)) es′ → (d : ℕ)
+      → T (memberb d (present (patternOf s)))
       → pointAt n es′ c d ≡ pointAt n (addPairs es (splitEdges 0 c s)) c d
   point-kept n es′ x d t = ⊎-elim same other (either (eqb (low d) (high d)))
     where

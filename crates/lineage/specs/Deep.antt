@@ -60,7 +60,8 @@ flags-none : (ms : List ℕ) → flagsOf [] ms (rows noLevel ms) ≡ []
 unfolding flagsOf rows rowsFrom
 flags-none ms = refl
 
-pub flags-at : (ls : List Level) (ms : List ℕ) (j : ℕ) → getD (flags ls ms) j [] ≡ flagsOf (drop (suc j) ls) ms (rows (getD ls j noLevel) ms)
+pub flags-at : (ls : List Level) (ms : List ℕ) (j : ℕ) → getD (flags ls ms) j [] ≡ flagsOf (drop (suc j) ls) ms
+    (rows (getD ls j noLevel) ms)
 unfolding flags
 flags-at [] ms j = sym (flags-none ms)
 flags-at (l ∷ ls) ms zero = refl
@@ -126,7 +127,8 @@ module _ (n : ℕ) (qs : List (List ℕ)) (ss ms : List ℕ) (s : T (soundb n qs
       )
 
 -- the levels of the step's table
-pub grow-some : (m : ℕ) (ss fs : List ℕ) (h k : ℕ) (cs : List (Cell Point)) (os : List ℕ) (j : ℕ) → j < length (growLevels m ss fs h k cs os)
+pub grow-some : (m : ℕ) (ss fs : List ℕ) (h k : ℕ) (cs : List (Cell Point)) (os : List ℕ) (j : ℕ)
+    → j < length (growLevels m ss fs h k cs os)
     → 0 < length (getD (growLevels m ss fs h k cs os) j noLevel .cells)
 unfolding growLevels
 grow-some m ss fs zero k cs os j h = absurd (omega arith)

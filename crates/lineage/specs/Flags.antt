@@ -87,7 +87,8 @@ module _ {A : Type 0} (d : A) (f g : A → Bool) where
       go true e i = rw (e, filterb) (rw i (or-true (g x)))
       go false e i = rw (e, filterb) i
 
-  pub none-chosen : (l : List A) → ((t : ℕ) → t < length l → f (getD l t d) ≡ true → g (getD l t d) ≡ true → ⊥) → anyb g (filterb f l) ≡ false
+  pub none-chosen : (l : List A) → ((t : ℕ) → t < length l → f (getD l t d) ≡ true → g (getD l t d) ≡ true → ⊥)
+      → anyb g (filterb f l) ≡ false
   unfolding anyb filterb
   none-chosen [] u = refl
   none-chosen (x ∷ l) u = go (f x) refl (g x) refl (none-chosen l (λ t h. u (suc t) (omega arith)))

@@ -31,20 +31,20 @@ use store::WRITTEN;
 ghost use mathlib.Core.Path.{_≡_};
 ghost use mathlib.Core.Bool.{true};
 ghost use Prim.Native.Nat.{_+_, _-_, _*_, _≤_, _<_, min, max};
-ghost use lib.ListN.{length, getD};
+ghost use lib.ListN.{length};
 ghost use lib.Seq.{sets};
+ghost use Rattle.base.specs.Lent.{was, is};
 ghost use Rattle.store.specs.Fields.{field, full};
 ghost use Rattle.store.specs.Header.{stageb, headerb};
 ghost use Rattle.store.specs.Message.{two, kindOf, bodyOf, messageOf};
-ghost use Rattle.store.specs.Fetch.{entryCount, bitb, bitFrom, nextToGive, given, passedBy, spotAt, fetchRefusal, fetchAnswer, fetchBytes};
-ghost use Rattle.store.specs.Fetch.{fetchAfter};
+ghost use Rattle.store.specs.Fetch.{entryCount, bitFrom, nextToGive, given, passedBy, spotAt, fetchAnswer, fetchBytes, fetchAfter};
 ghost use Rattle.store.specs.Hand.{numberAt, lengthOf, shapeb, routeb, ghostMarkb, edgeCountb, cellTotalb, contentb, wellb, handAnswer};
 ghost use Rattle.store.specs.Hand.{Ranges, absorbed, counted, handAfter};
 
 // Whether the stage fits the round and the result.
 fn stage_fits(store: &[u16]) -> bool
     requires { ⌜ full ≤ length (now store) ⌝ }
-    ensures { λ r. ⌜ r ≡ stageb (now (store .entry)) ⌝ }
+    ensures { λ r. ⌜ r ≡ stageb (was store) ⌝ }
 {
     let stage = store[STAGE];
     let round = store[ROUND] as usize;
@@ -80,7 +80,7 @@ fn stage_fits(store: &[u16]) -> bool
 // Whether the stage, the part and the counts lie in their ranges.
 pub fn header_fits(store: &[u16]) -> bool
     requires { ⌜ full ≤ length (now store) ⌝ }
-    ensures { λ r. ⌜ r ≡ headerb (now (store .entry)) ⌝ }
+    ensures { λ r. ⌜ r ≡ headerb (was store) ⌝ }
 {
     if store[PARTS] < 1 {
         return false;
@@ -142,7 +142,7 @@ fn bit_from(mask: usize, from: usize) -> usize
 // How many messages are entryCount.
 fn entries(store: &[u16]) -> usize
     requires { ⌜ full ≤ length (now store) ⌝ }
-    ensures { λ r. ⌜ (r ≡ entryCount (now (store .entry))) × (r ≤ 28696) ⌝ }
+    ensures { λ r. ⌜ (r ≡ entryCount (was store)) × (r ≤ 28696) ⌝ }
 {
     let n = store[WRITTEN] as usize;
     if n < 28696 { n } else { 28696 }
@@ -151,7 +151,7 @@ fn entries(store: &[u16]) -> usize
 // The next message to give.
 fn next(store: &[u16]) -> Spot
     requires { ⌜ full ≤ length (now store) ⌝ }
-    ensures { λ r. ⌜ r ≡ nextToGive (now (store .entry)) ⌝ }
+    ensures { λ r. ⌜ r ≡ nextToGive (was store) ⌝ }
 {
     let n = entries(store);
     let mut j = store[CURSOR] as usize;
@@ -173,7 +173,7 @@ fn next(store: &[u16]) -> Spot
 // Stores a number's two bytes, least byte first.
 fn put_two(out: &mut [u8], at: usize, x: usize)
     requires { ⌜ (at + 2 ≤ length (now out)) × (x < 65536) ⌝ }
-    ensures { λ r. ⌜ now (out .exit) ≡ sets (now (out .entry)) at (two x) ⌝ }
+    ensures { λ r. ⌜ is out ≡ sets (was out) at (two x) ⌝ }
 {
     out[at] = (x % 256) as u8;
     out[at + 1] = (x / 256 % 256) as u8;
@@ -195,7 +195,7 @@ fn kind_of(code: usize) -> u8
 // Stores what stands behind a message's heading, and gives the message's length.
 fn put_body(out: &mut [u8], code: usize, value: usize) -> usize
     requires { ⌜ (9 ≤ length (now out)) × (value < 65536) ⌝ }
-    ensures { λ r. ⌜ (r ≡ 5 + length (bodyOf code value)) × (now (out .exit) ≡ sets (now (out .entry)) 5 (bodyOf code value)) ⌝ }
+    ensures { λ r. ⌜ (r ≡ 5 + length (bodyOf code value)) × (is out ≡ sets (was out) 5 (bodyOf code value)) ⌝ }
 {
     if code < 4096 {
         put_two(out, 5, code);
@@ -219,7 +219,7 @@ fn put_body(out: &mut [u8], code: usize, value: usize) -> usize
 fn put_message(out: &mut [u8], from: u8, to: u8, count: usize, code: usize, value: usize) -> usize
     requires { ⌜ (9 ≤ length (now out)) × (count < 65536) × (value < 65536) ⌝ }
     ensures { λ r. ⌜ r ≡ length (messageOf from to count code value) ⌝ }
-    ensures { λ r. ⌜ now (out .exit) ≡ sets (now (out .entry)) 0 (messageOf from to count code value) ⌝ }
+    ensures { λ r. ⌜ is out ≡ sets (was out) 0 (messageOf from to count code value) ⌝ }
 {
     out[0] = kind_of(code);
     out[1] = from;
@@ -231,9 +231,9 @@ fn put_message(out: &mut [u8], from: u8, to: u8, count: usize, code: usize, valu
 // Stores the message that an entry is for a receiver, and moves the cursor behind it.
 fn give(store: &mut [u16], out: &mut [u8], j: usize, b: usize) -> usize
     requires { ⌜ (full ≤ length (now store)) × (9 ≤ length (now out)) × (field (now store) 1 < 256) × (j < 28696) × (b < 16) ⌝ }
-    ensures { λ r. ⌜ (r ≡ length (given (now (store .entry)) (spotAt j b)))
-        × (now (out .exit) ≡ sets (now (out .entry)) 0 (given (now (store .entry)) (spotAt j b))) ⌝ }
-    ensures { λ r. ⌜ now (store .exit) ≡ passedBy (now (store .entry)) (spotAt j b) ⌝ }
+    ensures { λ r. ⌜ (r ≡ length (given (was store) (spotAt j b)))
+        × (is out ≡ sets (was out) 0 (given (was store) (spotAt j b))) ⌝ }
+    ensures { λ r. ⌜ is store ≡ passedBy (was store) (spotAt j b) ⌝ }
 {
     let count = store[GIVEN + b] as usize;
     let from = store[PART] as u8;
@@ -248,9 +248,9 @@ fn give(store: &mut [u16], out: &mut [u8], j: usize, b: usize) -> usize
 
 // The next message that the part has entryCount, or none where all are given.
 pub fn fetch(store: &mut [u16], out: &mut [u8]) -> Fetched
-    ensures { λ r. ⌜ r ≡ fetchAnswer (now (store .entry)) (now (out .entry)) ⌝ }
-    ensures { λ r. ⌜ now (out .exit) ≡ fetchBytes (now (store .entry)) (now (out .entry)) ⌝ }
-    ensures { λ r. ⌜ now (store .exit) ≡ fetchAfter (now (store .entry)) (now (out .entry)) ⌝ }
+    ensures { λ r. ⌜ r ≡ fetchAnswer (was store) (was out) ⌝ }
+    ensures { λ r. ⌜ is out ≡ fetchBytes (was store) (was out) ⌝ }
+    ensures { λ r. ⌜ is store ≡ fetchAfter (was store) (was out) ⌝ }
 {
     if store.len() < FULL {
         return Fetched::Refused(15);
@@ -276,7 +276,7 @@ pub fn fetch(store: &mut [u16], out: &mut [u8]) -> Fetched
 // The number of two bytes, least byte first.
 fn number(bytes: &[u8], at: usize) -> usize
     requires { ⌜ at + 2 ≤ length (now bytes) ⌝ }
-    ensures { λ r. ⌜ (r ≡ numberAt (now (bytes .entry)) at) × (r < 65536) ⌝ }
+    ensures { λ r. ⌜ (r ≡ numberAt (was bytes) at) × (r < 65536) ⌝ }
 {
     bytes[at] as usize + 256 * (bytes[at + 1] as usize)
 }
@@ -299,7 +299,7 @@ fn length_of(kind: u8) -> usize
 
 // Whether bytes have a kind and its length.
 fn shape_fits(bytes: &[u8]) -> bool
-    ensures { λ r. ⌜ r ≡ shapeb (now (bytes .entry)) ⌝ }
+    ensures { λ r. ⌜ r ≡ shapeb (was bytes) ⌝ }
 {
     if bytes.len() == 0 {
         return false;
@@ -310,7 +310,7 @@ fn shape_fits(bytes: &[u8]) -> bool
 // Whether the message is from another part to this one.
 fn route_fits(store: &[u16], bytes: &[u8]) -> bool
     requires { ⌜ (full ≤ length (now store)) × (5 ≤ length (now bytes)) ⌝ }
-    ensures { λ r. ⌜ r ≡ routeb (now (store .entry)) (now (bytes .entry)) ⌝ }
+    ensures { λ r. ⌜ r ≡ routeb (was store) (was bytes) ⌝ }
 {
     let from = bytes[1] as u16;
     let to = bytes[2] as u16;
@@ -329,7 +329,7 @@ fn route_fits(store: &[u16], bytes: &[u8]) -> bool
 // Whether the part holds the cell, and the mark is 0 or 1.
 fn mark_fits(store: &[u16], bytes: &[u8]) -> bool
     requires { ⌜ (full ≤ length (now store)) × (8 ≤ length (now bytes)) × (field (now store) 5 ≤ 4096) ⌝ }
-    ensures { λ r. ⌜ r ≡ ghostMarkb (now (store .entry)) (now (bytes .entry)) ⌝ }
+    ensures { λ r. ⌜ r ≡ ghostMarkb (was store) (was bytes) ⌝ }
 {
     let cell = number(bytes, 5);
     if cell >= store[CELLS] as usize {
@@ -344,7 +344,7 @@ fn mark_fits(store: &[u16], bytes: &[u8]) -> bool
 // Whether the part holds the edge, and the count is 1 to 4,096.
 fn count_fits(store: &[u16], bytes: &[u8]) -> bool
     requires { ⌜ (full ≤ length (now store)) × (9 ≤ length (now bytes)) ⌝ }
-    ensures { λ r. ⌜ r ≡ edgeCountb (now (store .entry)) (now (bytes .entry)) ⌝ }
+    ensures { λ r. ⌜ r ≡ edgeCountb (was store) (was bytes) ⌝ }
 {
     let slot = number(bytes, 5);
     if slot >= 24576 {
@@ -363,7 +363,7 @@ fn count_fits(store: &[u16], bytes: &[u8]) -> bool
 // Whether the totals lie in their ranges.
 fn total_fits(bytes: &[u8]) -> bool
     requires { ⌜ 8 ≤ length (now bytes) ⌝ }
-    ensures { λ r. ⌜ r ≡ cellTotalb (now (bytes .entry)) ⌝ }
+    ensures { λ r. ⌜ r ≡ cellTotalb (was bytes) ⌝ }
 {
     if number(bytes, 5) > 4097 {
         return false;
@@ -374,7 +374,7 @@ fn total_fits(bytes: &[u8]) -> bool
 // Whether what stands behind a heading fits.
 fn content_fits(store: &[u16], bytes: &[u8]) -> bool
     requires { ⌜ (full ≤ length (now store)) × (shapeb (now bytes) ≡ true) × (field (now store) 5 ≤ 4096) ⌝ }
-    ensures { λ r. ⌜ r ≡ contentb (now (store .entry)) (now (bytes .entry)) ⌝ }
+    ensures { λ r. ⌜ r ≡ contentb (was store) (was bytes) ⌝ }
 {
     let kind = bytes[0];
     if kind == 1 {
@@ -392,7 +392,7 @@ fn content_fits(store: &[u16], bytes: &[u8]) -> bool
 // Whether a message is one for this store.
 fn is_well(store: &[u16], bytes: &[u8]) -> bool
     requires { ⌜ (full ≤ length (now store)) × (field (now store) 5 ≤ 4096) ⌝ }
-    ensures { λ r. ⌜ r ≡ wellb (now (store .entry)) (now (bytes .entry)) ⌝ }
+    ensures { λ r. ⌜ r ≡ wellb (was store) (was bytes) ⌝ }
 {
     if !shape_fits(bytes) {
         return false;
@@ -420,7 +420,7 @@ fn larger_of(a: u16, b: u16) -> u16
 // Takes what a message says into the store.
 fn absorb(store: &mut [u16], bytes: &[u8])
     requires { ⌜ (full ≤ length (now store)) × Ranges (now bytes) ⌝ }
-    ensures { λ r. ⌜ now (store .exit) ≡ absorbed (now (store .entry)) (now (bytes .entry)) ⌝ }
+    ensures { λ r. ⌜ is store ≡ absorbed (was store) (was bytes) ⌝ }
 {
     let kind = bytes[0];
     if kind == 1 {
@@ -449,7 +449,7 @@ fn absorb(store: &mut [u16], bytes: &[u8])
 // Counts a message and takes it.
 fn take(store: &mut [u16], bytes: &[u8])
     requires { ⌜ (full ≤ length (now store)) × Ranges (now bytes) ⌝ }
-    ensures { λ r. ⌜ now (store .exit) ≡ absorbed (counted (now (store .entry)) (now (bytes .entry))) (now (bytes .entry)) ⌝ }
+    ensures { λ r. ⌜ is store ≡ absorbed (counted (was store) (was bytes)) (was bytes) ⌝ }
 {
     let from = bytes[1] as usize;
     store[TAKEN + from] = ((store[TAKEN + from] as usize + 1) % 65536) as u16;
@@ -458,8 +458,8 @@ fn take(store: &mut [u16], bytes: &[u8])
 
 // Hands a message over.
 pub fn hand(store: &mut [u16], bytes: &[u8]) -> Answer
-    ensures { λ r. ⌜ r ≡ handAnswer (now (store .entry)) (now (bytes .entry)) ⌝ }
-    ensures { λ r. ⌜ now (store .exit) ≡ handAfter (now (store .entry)) (now (bytes .entry)) ⌝ }
+    ensures { λ r. ⌜ r ≡ handAnswer (was store) (was bytes) ⌝ }
+    ensures { λ r. ⌜ is store ≡ handAfter (was store) (was bytes) ⌝ }
 {
     if store.len() < FULL {
         return Answer::Refused(15);

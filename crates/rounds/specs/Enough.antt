@@ -7,7 +7,7 @@
 use mathlib.Core.Path.{_≡_, refl, sym, _∙_, ap, ap₂, subst}
 use mathlib.Core.Logic.{_≢_, _⊎_, ⊎-elim}
 use mathlib.Core.Bool.{Bool, true, false, _&&_, _||_, not, or-false}
-use Rattle.base.specs.Places.{not-both}
+use Rattle.base.specs.Bools.{not-both, is-true, is-false, and-left, and-right}
 use mathlib.Core.List.{List, [], _∷_, _++_, map}
 use Prim.Native.Nat.{ℕ, suc, _+_, _-_, _≤_, _<_}
 use native.Mathlib.Decide.{ℕ-discrete}
@@ -15,14 +15,14 @@ use native.Mathlib.Omega.{arith}
 use lib.Dec.{T, eqb, ltb, eqb→eq, ltb→lt}
 use lib.ListN.{length}
 use borrow.Author.Tests.{eq-eqb, ne-eqb, eqb-false, lt-ltb}
-use Rattle.base.specs.Lists.{anyb, filterb, memberb, is-true, is-false, and-left, and-right}
+use Rattle.base.specs.Lists.{anyb, filterb, memberb}
 use Rattle.exchange.specs.Finite.{Finite, sumOver}
 use Rattle.rounds.specs.Tests.{Member, same-test, or-cases, or-left, or-right, and-make, member-head, member-tail, member-cases}
 use Rattle.rounds.specs.Tests.{any-member, member-any, filtered-member, member-filtered, filter-agree}
 use Rattle.rounds.specs.Task.{Task, Fit, six, has, rule, redAt, hitAt, rule-same}
-use Rattle.rounds.specs.Rounds.{Body, mark, count, end, Phase, marks, counts, State, tells, worth, is, mine}
-use Rattle.rounds.specs.Rounds.{holdsb, decides, tally, told, added, starting, ghostMarks, edgeCounts, says, writing, redTold}
-use Rattle.rounds.specs.Rounds.{sumTold, redDown, sized, taking}
+use Rattle.rounds.specs.Rounds.{Body, mark, count, end, Phase, marks, counts, State, tells, worth, is, mine, holdsb, decides, tally}
+use Rattle.rounds.specs.Rounds.{told, added, starting, ghostMarks, edgeCounts, says, writing, redTold, sumTold, redDown, sized}
+use Rattle.rounds.specs.Rounds.{taking}
 use Rattle.rounds.specs.Among.{any-part, part-any, sum-part, part-sum, is-self, is-eq, is-same}
 
 -- a list of bodies that a rule makes of numbers

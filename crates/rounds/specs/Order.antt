@@ -8,7 +8,7 @@ use mathlib.Core.List.{List, [], _∷_, _++_, map, flatMap}
 use Prim.Native.Nat.{ℕ, _+_, _-_}
 use lib.Dec.{eqb}
 use Rattle.base.specs.Lists.{filterb}
-use Rattle.base.specs.Places.{not-both}
+use Rattle.base.specs.Bools.{not-both}
 use Rattle.exchange.specs.Finite.{Finite}
 use Rattle.exchange.specs.Protocol.{only, only-same, only-other}
 use Rattle.rounds.specs.Task.{Task}

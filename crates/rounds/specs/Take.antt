@@ -13,8 +13,8 @@ use borrow.Author.Tests.{eq-eqb, ne-eqb}
 use Rattle.base.specs.Lists.{anyb}
 use Rattle.exchange.specs.Finite.{Finite, parts, sumOver, sum-change, upd, upd-same, upd-other}
 use Rattle.rounds.specs.Tests.{same-test, or-cases, or-left, or-right}
-use Rattle.rounds.specs.Rounds.{Body, mark, count, State, tells, worth, mastersIn, topIn, largest, told, added}
-use Rattle.rounds.specs.Rounds.{mastersTold, topTold, redTold, sumTold}
+use Rattle.rounds.specs.Rounds.{Body, mark, count, State, tells, worth, mastersIn, topIn, largest, told, added, mastersTold}
+use Rattle.rounds.specs.Rounds.{topTold, redTold, sumTold}
 use Rattle.rounds.specs.Among.{any-part, part-any, largest-more}
 
 module _ (P : ℕ) (got : Fin P → List Body) (q : Fin P) (b : Body) where

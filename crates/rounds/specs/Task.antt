@@ -45,7 +45,7 @@ module _ {Part : Type 0} (J : Task Part) where
   unfolding anyb
   pulled h ms k = eqb (ms k) 1 || anyb (λ e. J .inner k e && h (J .slot k e)) six
 
-  -- 01's three rules
+  -- the three rules of new red cells
   unfoldable pub rule : (ℕ → Bool) → (ℕ → ℕ) → ℕ → Bool
   unfolding idle pulled allb anyb
   rule h ms c =

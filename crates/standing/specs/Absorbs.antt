@@ -2,7 +2,7 @@
 -- Law: hand-does.
 use mathlib.Core.Path.{_≡_, refl, sym, _∙_, ap, subst}
 use mathlib.Core.Logic.{_≢_, _⊎_, inl, inr, ⊎-elim}
-use mathlib.Core.Bool.{Bool, true, false, _&&_, _||_, not, or-false, or-true}
+use mathlib.Core.Bool.{Bool, true, false, _&&_, _||_, or-false, or-true}
 use mathlib.Core.List.{List, [], _∷_, _++_}
 use Prim.Native.Nat.{ℕ, suc, _+_, _-_, _%_, _≤_, _<_, Fin, max}
 use native.Mathlib.Omega.{arith}
@@ -10,8 +10,7 @@ use native.Mathlib.Decide.{ℕ-discrete, Fin·val-path}
 use lib.Dec.{eqb, ltb}
 use lib.ListN.{length, getD, length-append}
 use borrow.Author.Tests.{eq-eqb, ne-eqb, lt-ltb, le-leb}
-use Rattle.base.specs.Lists.{one-if}
-use Rattle.base.specs.Places.{not-both}
+use Rattle.base.specs.Bools.{one-if, not-both}
 use Rattle.base.specs.declared.Answer.the-variants.{Accepted}
 use Rattle.exchange.specs.Finite.{parts, upd, upd-same, upd-other}
 use Rattle.exchange.specs.Protocol.{withBody}
@@ -21,7 +20,7 @@ use Rattle.rounds.specs.Rounds.{mastersTold, topTold}
 use Rattle.rounds.specs.Among.{is-self}
 use Rattle.rounds.specs.Take.{red-take, sum-take, masters-take, top-take}
 use Rattle.rounds.specs.Rounded.{wholeb, endedb, isEnd, overb}
-use Rattle.store.specs.Fields.{field, PART, TAKEN, GIVEN, OWNER, RED, HOLDERS, SUM, TOTAL, HIGH}
+use Rattle.store.specs.Fields.{field, PART, GIVEN, OWNER, RED, HOLDERS, SUM, TOTAL, HIGH}
 use Rattle.store.specs.Message.{messageOf}
 use Rattle.store.specs.Hand.{lengthOf, shapeb, routeb, contentb, wellb, takenAt, endedAt, handAnswer, handAfter, absorbed, counted}
 use Rattle.store.specs.Checks.{length-first, length-second, length-third, length-fourth, shape-some, route-to, mark-value, count-value}

@@ -15,8 +15,7 @@ use lib.Dec.{T, eqb, ltb, leb, eqb→eq}
 use lib.ListN.{length, getD}
 use lib.Seq.{sets}
 use borrow.Author.Tests.{eq-eqb}
-use Rattle.base.specs.Lists.{one-if, is-false, and-left, and-right}
-use Rattle.base.specs.Places.{not-both}
+use Rattle.base.specs.Bools.{one-if, is-false, and-left, and-right, not-both}
 use Rattle.base.specs.declared.Answer.the-variants.{Accepted}
 use Rattle.exchange.specs.Finite.{Finite, parts}
 use Rattle.exchange.specs.Protocol.{Local, withQueue}
@@ -26,8 +25,8 @@ use Rattle.rounds.specs.Rounds.{Body, mark, count, total, end, State, phase, is
 use Rattle.rounds.specs.Rounds.{topTold}
 use Rattle.rounds.specs.Among.{is-eq}
 use Rattle.rounds.specs.Rounded.{wholeb, endedb, overb, sizedb}
-use Rattle.store.specs.Fields.{field, full, STAGE, PART, PARTS, CELLS, LEVELS, ROUND, RESULT, CURSOR, BIT, OWNER, RED, HOLDERS, SUM, TOTAL}
-use Rattle.store.specs.Fields.{HIGH}
+use Rattle.store.specs.Fields.{field, full, STAGE, PART, PARTS, CELLS, LEVELS, ROUND, RESULT, CURSOR, BIT, OWNER, RED, HOLDERS, SUM}
+use Rattle.store.specs.Fields.{TOTAL, HIGH}
 use Rattle.store.specs.Header.{stageb, headerb}
 use Rattle.store.specs.Message.{messageOf}
 use Rattle.store.specs.declared.Fetched.the-variants.{Message, Nothing}

@@ -11,7 +11,7 @@ use Prim.Native.Nat.{ℕ, suc, _+_, _-_, _*_, _/_, _%_, _≤_, _<_}
 use native.Mathlib.Omega.{arith}
 use lib.Dec.{T, ltb, leb, ltb→lt, leb→le}
 use lib.ListN.{length, getD}
-use Rattle.base.specs.Lists.{one-if, and-left, and-right}
+use Rattle.base.specs.Bools.{one-if, and-left, and-right}
 use Rattle.rounds.specs.Rounds.{Body, mark, count, total, end}
 use Rattle.store.specs.Message.{kindOf, bodyOf, headOf, messageOf}
 use Rattle.store.specs.Hand.{numberAt}

@@ -15,7 +15,7 @@ use Rattle.exchange.specs.Finite.{parts, upd, upd-same, upd-other}
 use Rattle.exchange.specs.Protocol.{numbered, only, only-same, only-other}
 use Rattle.rounds.specs.Task.{Task}
 use Rattle.rounds.specs.Rounds.{Body}
-use Rattle.store.specs.Fields.{field, PART, ROUND, ENTRIES, CURSOR, BIT}
+use Rattle.store.specs.Fields.{field, PART, CURSOR, BIT}
 use Rattle.store.specs.declared.Spot.{Spot}
 use Rattle.store.specs.Message.{messageOf}
 use Rattle.store.specs.Fetch.{entryCount, codeAt, valueAt, receiversAt, bitb, spotAt}

@@ -9,7 +9,7 @@ use Prim.Native.Nat.{ℕ, _+_, _-_, _%_, _≤_, _<_, min, max}
 use native.Mathlib.Omega.{arith}
 use lib.ListN.{length, getD, set, length-set}
 use lib.Seq.{getD-set-same, getD-set-other}
-use Rattle.base.specs.Lists.{one-if}
+use Rattle.base.specs.Bools.{one-if}
 use Rattle.rounds.specs.Rounds.{Body, mark, count, total, end}
 use Rattle.store.specs.Fields.{field, full, TOTAL, HIGH, RED, SUM}
 use Rattle.store.specs.Hand.{absorbed, counted}

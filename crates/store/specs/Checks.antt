@@ -7,7 +7,7 @@ use native.Mathlib.Omega.{arith}
 use lib.Dec.{T, eqb, leb, eqb→eq}
 use lib.ListN.{length, getD}
 use borrow.Author.Tests.{eq-eqb, ne-eqb, lt-ltb, le-ltb, le-leb, lt-leb}
-use Rattle.base.specs.Lists.{and-right}
+use Rattle.base.specs.Bools.{and-right}
 use Rattle.store.specs.Fields.{field, PART, PARTS, CELLS, OWNER, HOLDERS}
 use Rattle.store.specs.Hand.{numberAt, lengthOf, shapeb, routeb, ghostMarkb, edgeCountb, cellTotalb, contentb, wellb}
 

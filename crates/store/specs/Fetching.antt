@@ -15,8 +15,7 @@ use Rattle.store.specs.declared.Spot.{Spot}
 use Rattle.store.specs.declared.Fetched.{Fetched}
 use Rattle.store.specs.declared.Fetched.the-variants.{Message, Nothing, Refused}
 use Rattle.store.specs.Fetch.{entryCount, receiversAt, bitFrom, seekFrom, nextToGive, given, passedBy, fetchRefusal, foundOf}
-use Rattle.store.specs.Fetch.{fetchAnswer}
-use Rattle.store.specs.Fetch.{givesb, fetchBytes, fetchAfter}
+use Rattle.store.specs.Fetch.{fetchAnswer, givesb, fetchBytes, fetchAfter}
 use Rattle.store.specs.Seek.{seek-out}
 use Rattle.store.specs.Headed.{header-is}
 

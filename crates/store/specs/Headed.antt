@@ -7,7 +7,7 @@ use Prim.Native.Nat.{ℕ, _+_, _-_, _*_, _≤_, _<_}
 use native.Mathlib.Omega.{arith}
 use lib.Dec.{T, eqb, leb, leb→le}
 use borrow.Author.Tests.{eq-eqb, ne-eqb, le-leb, lt-leb}
-use Rattle.base.specs.Lists.{and-left, and-right}
+use Rattle.base.specs.Bools.{and-left, and-right}
 use Rattle.store.specs.Fields.{field, STAGE, PART, PARTS, CORNERS, COARSE, CELLS, LEVELS, ROUND, RESULT, ENTRIES}
 use Rattle.store.specs.Header.{stageb, headerb}
 

@@ -28,7 +28,8 @@ module _ (k : ℕ) (cs : List (Cell Point)) (ss : List ℕ) where
   abbrev pub above : ℕ → List Level
   above m = levels m (k + length cs) (next k cs own) (drop (length cs) ss)
 
-pub levels-step : (m k : ℕ) (cs : List (Cell Point)) (ss : List ℕ) → 0 < length cs → levels (suc m) k cs ss ≡ level k cs ss ∷ above k cs ss m
+pub levels-step : (m k : ℕ) (cs : List (Cell Point)) (ss : List ℕ) → 0 < length cs → levels (suc m) k cs ss ≡ level k cs ss ∷ above k cs ss
+    m
 unfolding levels
 levels-step m k [] ss h = absurd (omega arith)
 levels-step m k (c ∷ cs) ss h = refl

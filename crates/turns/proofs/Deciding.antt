@@ -5,7 +5,7 @@ use mathlib.Core.List.{List}
 use Prim.Native.Nat.{ℕ, _+_, _/_, _%_, _^_, _≤_, _<_}
 use lib.Dec.{T, eqb, ltb, ltb→lt}
 use borrow.Author.Tests.{eq-eqb, ne-eqb, lt-ltb, le-ltb}
-use Rattle.base.specs.Lists.{one-if, and-left}
+use Rattle.base.specs.Bools.{one-if, and-left}
 use Rattle.store.specs.Fields.{field, PART, CELLS, FAMILY, STATUS, REGULAR, CHILD, PARENT, INNER, MARK, RED, SUM}
 use Rattle.store.specs.Fetch.{bitb}
 use Rattle.turns.specs.Loops.{someFrom, runSome, SameHead, head-self, head-set}

@@ -1,4 +1,4 @@
--- Which cells of a level will be red, from one store alone (01's three rules).
+-- Which cells of a level will be red, from one store alone (rules 7.3 to 7.5).
 --   slotAt x c e      the slot of an edge of a cell
 --   hitb x s          a cell one level up that will be red has the slot
 --   hitOf x c e       the edge is hit; pullOf x c e and is not also the parent's
@@ -12,7 +12,7 @@ use mathlib.Core.List.{List}
 use Prim.Native.Nat.{ℕ, _+_, _*_}
 use lib.Dec.{eqb, ltb}
 use lib.ListN.{set}
-use Rattle.base.specs.Lists.{one-if}
+use Rattle.base.specs.Bools.{one-if}
 use Rattle.store.specs.Fields.{field, PART, CELLS, FAMILY, STATUS, REGULAR, CHILD, PARENT, INNER, MARK, RED, SLOT, SUM}
 use Rattle.store.specs.Fetch.{bitb}
 use Rattle.turns.specs.Loops.{someFrom, runSome}

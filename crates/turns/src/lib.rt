@@ -27,14 +27,13 @@ use store::SUM;
 use store::VALUE;
 use store::WRITTEN;
 ghost use mathlib.Core.Path.{_≡_};
-ghost use mathlib.Core.Bool.{_&&_};
 ghost use Prim.Native.Nat.{_+_, _-_, _*_, _^_, _≤_, _<_};
 ghost use lib.ListN.{length};
-ghost use Rattle.base.specs.Lists.{one-if};
+ghost use Rattle.base.specs.Bools.{one-if};
+ghost use Rattle.base.specs.Lent.{was, is};
 ghost use Rattle.store.specs.Fields.{field, full};
-ghost use Rattle.store.specs.Fetch.{bitb};
 ghost use Rattle.turns.specs.Loops.{someFrom, runSome, eachFrom};
-ghost use Rattle.turns.specs.Decide.{slotAt, hitb, hitOf, pullOf, idleKid, pulledKid, kidb, busyb, ruleb, decideOne};
+ghost use Rattle.turns.specs.Decide.{slotAt, hitb, hitOf, pullOf, pulledKid, kidb, busyb, ruleb, decideOne};
 ghost use Rattle.turns.specs.Tally.{addOne, addEdge, tallyOne};
 ghost use Rattle.turns.specs.Post.{posted, besides, markOne, countOne, othersOf, postEnd};
 ghost use Rattle.turns.specs.Step.{slotFrom, enterCounts};
@@ -45,7 +44,7 @@ ghost use Rattle.turns.specs.Start.{startAfter};
 // The slot of an edge of a cell.
 fn slot_of(store: &[u16], c: usize, e: usize) -> usize
     requires { ⌜ (full ≤ length (now store)) × (c < 4096) × (e < 6) ⌝ }
-    ensures { λ r. ⌜ r ≡ slotAt (now (store .entry)) c e ⌝ }
+    ensures { λ r. ⌜ r ≡ slotAt (was store) c e ⌝ }
 {
     store[SLOT + (6 * c + e)] as usize
 }
@@ -53,7 +52,7 @@ fn slot_of(store: &[u16], c: usize, e: usize) -> usize
 // Whether a cell one level up that will be red has the slot.
 fn is_hit(store: &[u16], slot: usize) -> bool
     requires { ⌜ full ≤ length (now store) ⌝ }
-    ensures { λ r. ⌜ r ≡ hitb (now (store .entry)) slot ⌝ }
+    ensures { λ r. ⌜ r ≡ hitb (was store) slot ⌝ }
 {
     if slot >= 24576 {
         return false;
@@ -64,7 +63,7 @@ fn is_hit(store: &[u16], slot: usize) -> bool
 // Whether some edge of a cell is hit.
 fn some_hit(store: &[u16], c: usize) -> bool
     requires { ⌜ (full ≤ length (now store)) × (c < 4096) ⌝ }
-    ensures { λ r. ⌜ r ≡ someFrom (hitOf (now (store .entry)) c) 6 0 ⌝ }
+    ensures { λ r. ⌜ r ≡ someFrom (hitOf (was store) c) 6 0 ⌝ }
 {
     let mut e = 0;
     while e < 6 {
@@ -80,7 +79,7 @@ fn some_hit(store: &[u16], c: usize) -> bool
 // Whether an edge is hit that is not also the parent's.
 fn is_pull(store: &[u16], c: usize, e: usize) -> bool
     requires { ⌜ (full ≤ length (now store)) × (c < 4096) × (e < 6) ⌝ }
-    ensures { λ r. ⌜ r ≡ pullOf (now (store .entry)) c e ⌝ }
+    ensures { λ r. ⌜ r ≡ pullOf (was store) c e ⌝ }
 {
     if (store[INNER + c] >> e) % 2 != 1 {
         return false;
@@ -92,7 +91,7 @@ fn is_pull(store: &[u16], c: usize, e: usize) -> bool
 // Whether some edge of a cell is so.
 fn some_pull(store: &[u16], c: usize) -> bool
     requires { ⌜ (full ≤ length (now store)) × (c < 4096) ⌝ }
-    ensures { λ r. ⌜ r ≡ someFrom (pullOf (now (store .entry)) c) 6 0 ⌝ }
+    ensures { λ r. ⌜ r ≡ someFrom (pullOf (was store) c) 6 0 ⌝ }
 {
     let mut e = 0;
     while e < 6 {
@@ -107,7 +106,7 @@ fn some_pull(store: &[u16], c: usize) -> bool
 // Whether a cell is not a leaf that is marked for deletion and has no hit edge.
 fn is_busy(store: &[u16], d: usize) -> bool
     requires { ⌜ (full ≤ length (now store)) × (d < 4096) ⌝ }
-    ensures { λ r. ⌜ r ≡ busyb (now (store .entry)) d ⌝ }
+    ensures { λ r. ⌜ r ≡ busyb (was store) d ⌝ }
 {
     if store[STATUS + d] != 0 {
         return true;
@@ -121,7 +120,7 @@ fn is_busy(store: &[u16], d: usize) -> bool
 // Whether a green cell's child turns its parent red.
 fn is_pulled(store: &[u16], d: usize) -> bool
     requires { ⌜ (full ≤ length (now store)) × (d < 4096) ⌝ }
-    ensures { λ r. ⌜ r ≡ pulledKid (now (store .entry)) d ⌝ }
+    ensures { λ r. ⌜ r ≡ pulledKid (was store) d ⌝ }
 {
     if store[MARK + d] == 1 {
         return true;
@@ -132,7 +131,7 @@ fn is_pulled(store: &[u16], d: usize) -> bool
 // Whether d is a child of c.
 fn is_kid(store: &[u16], c: usize, d: usize) -> bool
     requires { ⌜ (full ≤ length (now store)) × (field (now store) 5 ≤ 4096) ⌝ }
-    ensures { λ r. ⌜ r ≡ kidb (now (store .entry)) c d ⌝ }
+    ensures { λ r. ⌜ r ≡ kidb (was store) c d ⌝ }
 {
     if d >= store[CELLS] as usize {
         return false;
@@ -143,7 +142,7 @@ fn is_kid(store: &[u16], c: usize, d: usize) -> bool
 // Whether some child of a cell is busy.
 fn some_busy(store: &[u16], c: usize) -> bool
     requires { ⌜ (full ≤ length (now store)) × (field (now store) 5 ≤ 4096) × (c < 4096) ⌝ }
-    ensures { λ r. ⌜ r ≡ runSome (kidb (now (store .entry)) c) (busyb (now (store .entry))) 8 (field (now (store .entry)) (16496 + c)) ⌝ }
+    ensures { λ r. ⌜ r ≡ runSome (kidb (was store) c) (busyb (was store)) 8 (field (was store) (16496 + c)) ⌝ }
 {
     let mut d = store[CHILD + c] as usize;
     let mut i: usize = 0;
@@ -163,7 +162,7 @@ fn some_busy(store: &[u16], c: usize) -> bool
 // Whether some child of a cell is pulled.
 fn some_pulled(store: &[u16], c: usize) -> bool
     requires { ⌜ (full ≤ length (now store)) × (field (now store) 5 ≤ 4096) × (c < 4096) ⌝ }
-    ensures { λ r. ⌜ r ≡ runSome (kidb (now (store .entry)) c) (pulledKid (now (store .entry))) 8 (field (now (store .entry)) (16496 + c)) ⌝ }
+    ensures { λ r. ⌜ r ≡ runSome (kidb (was store) c) (pulledKid (was store)) 8 (field (was store) (16496 + c)) ⌝ }
 {
     let mut d = store[CHILD + c] as usize;
     let mut i: usize = 0;
@@ -183,7 +182,7 @@ fn some_pulled(store: &[u16], c: usize) -> bool
 // Whether a cell will be red: 1 or 0.
 fn flag_of(store: &[u16], c: usize) -> u16
     requires { ⌜ (full ≤ length (now store)) × (field (now store) 5 ≤ 4096) × (c < 4096) ⌝ }
-    ensures { λ r. ⌜ r ≡ one-if (ruleb (now (store .entry)) c) ⌝ }
+    ensures { λ r. ⌜ r ≡ one-if (ruleb (was store) c) ⌝ }
 {
     if store[STATUS + c] == 64 {
         if some_busy(store, c) {
@@ -209,7 +208,7 @@ fn flag_of(store: &[u16], c: usize) -> u16
 // Decides on a cell, if its family is here.
 fn decide_one(store: &mut [u16], c: usize)
     requires { ⌜ (full ≤ length (now store)) × (field (now store) 5 ≤ 4096) × (c < 4096) ⌝ }
-    ensures { λ r. ⌜ now (store .exit) ≡ decideOne (now (store .entry)) c ⌝ }
+    ensures { λ r. ⌜ is store ≡ decideOne (was store) c ⌝ }
 {
     if store[FAMILY + c] != store[PART] {
         return;
@@ -221,7 +220,7 @@ fn decide_one(store: &mut [u16], c: usize)
 // Decides on the cells from `first` to `last`.
 fn decide(store: &mut [u16], first: usize, last: usize)
     requires { ⌜ (full ≤ length (now store)) × (field (now store) 5 ≤ 4096) × (last ≤ 4096) ⌝ }
-    ensures { λ r. ⌜ now (store .exit) ≡ eachFrom decideOne (last - first) first (now (store .entry)) ⌝ }
+    ensures { λ r. ⌜ is store ≡ eachFrom decideOne (last - first) first (was store) ⌝ }
 {
     let mut c = first;
     while c < last {
@@ -233,7 +232,7 @@ fn decide(store: &mut [u16], first: usize, last: usize)
 // Writes an entry behind the others, if it has receivers and there is room.
 fn post(store: &mut [u16], code: u16, value: u16, mask: u16)
     requires { ⌜ full ≤ length (now store) ⌝ }
-    ensures { λ r. ⌜ now (store .exit) ≡ posted (now (store .entry)) code value mask ⌝ }
+    ensures { λ r. ⌜ is store ≡ posted (was store) code value mask ⌝ }
 {
     if mask == 0 {
         return;
@@ -259,7 +258,7 @@ fn bit_of(part: usize) -> usize
 // Writes the mark of a cell for its master, if it is a ghost.
 fn mark_one(store: &mut [u16], c: usize)
     requires { ⌜ (full ≤ length (now store)) × (c < 4096) ⌝ }
-    ensures { λ r. ⌜ now (store .exit) ≡ markOne (now (store .entry)) c ⌝ }
+    ensures { λ r. ⌜ is store ≡ markOne (was store) c ⌝ }
 {
     if store[FAMILY + c] != store[PART] {
         return;
@@ -282,7 +281,7 @@ fn mark_one(store: &mut [u16], c: usize)
 // Writes the marks of the ghosts among the cells from `first` to `last`.
 fn post_marks(store: &mut [u16], first: usize, last: usize)
     requires { ⌜ (full ≤ length (now store)) × (last ≤ 4096) ⌝ }
-    ensures { λ r. ⌜ now (store .exit) ≡ eachFrom markOne (last - first) first (now (store .entry)) ⌝ }
+    ensures { λ r. ⌜ is store ≡ eachFrom markOne (last - first) first (was store) ⌝ }
 {
     let mut c = first;
     while c < last {
@@ -294,7 +293,7 @@ fn post_marks(store: &mut [u16], first: usize, last: usize)
 // All parts but the own one, as bits.
 fn others_of(store: &[u16]) -> usize
     requires { ⌜ Usable (now store) ⌝ }
-    ensures { λ r. ⌜ (r ≡ othersOf (now (store .entry))) × (r < 65536) ⌝ }
+    ensures { λ r. ⌜ (r ≡ othersOf (was store)) × (r < 65536) ⌝ }
 {
     let parts = store[PARTS] as usize;
     let part = store[PART] as usize;
@@ -306,7 +305,7 @@ fn others_of(store: &[u16]) -> usize
 // Writes the end of the round for all others.
 fn post_end(store: &mut [u16])
     requires { ⌜ Usable (now store) ⌝ }
-    ensures { λ r. ⌜ now (store .exit) ≡ postEnd (now (store .entry)) ⌝ }
+    ensures { λ r. ⌜ is store ≡ postEnd (was store) ⌝ }
 {
     let mask = others_of(store);
     post(store, 65535, 0, mask as u16);
@@ -315,7 +314,7 @@ fn post_end(store: &mut [u16])
 // The first cell of a level, at most the number of cells.
 fn level_from(store: &[u16], k: usize) -> usize
     requires { ⌜ Usable (now store) × (k ≤ 11) ⌝ }
-    ensures { λ r. ⌜ (r ≡ levelFrom (now (store .entry)) k) × (r ≤ 4096) ⌝ }
+    ensures { λ r. ⌜ (r ≡ levelFrom (was store) k) × (r ≤ 4096) ⌝ }
 {
     let first = store[FIRST_CELL + k] as usize;
     let cells = store[CELLS] as usize;
@@ -325,7 +324,7 @@ fn level_from(store: &[u16], k: usize) -> usize
 // Enters the round of marks of a level.
 fn enter_marks(store: &mut [u16], k: usize)
     requires { ⌜ Usable (now store) × (k ≤ 10) ⌝ }
-    ensures { λ r. ⌜ now (store .exit) ≡ enterMarks (now (store .entry)) k ⌝ }
+    ensures { λ r. ⌜ is store ≡ enterMarks (was store) k ⌝ }
 {
     let first = level_from(store, k);
     let last = level_from(store, k + 1);
@@ -337,7 +336,7 @@ fn enter_marks(store: &mut [u16], k: usize)
 // Whether a mark is 0 to 2, and 0 on a refined cell.
 fn mark_fits(store: &[u16], c: usize, mark: u8) -> bool
     requires { ⌜ (full ≤ length (now store)) × (c < 4096) ⌝ }
-    ensures { λ r. ⌜ r ≡ markOk (now (store .entry)) c mark ⌝ }
+    ensures { λ r. ⌜ r ≡ markOk (was store) c mark ⌝ }
 {
     if mark > 2 {
         return false;
@@ -351,7 +350,7 @@ fn mark_fits(store: &[u16], c: usize, mark: u8) -> bool
 // Whether the mark that is due fits a cell, if it is a master.
 fn is_marked(store: &[u16], marks: &[u8], c: usize, j: usize) -> bool
     requires { ⌜ (full ≤ length (now store)) × (c < 4096) ⌝ }
-    ensures { λ r. ⌜ r ≡ markAt (now (store .entry)) (now (marks .entry)) c j ⌝ }
+    ensures { λ r. ⌜ r ≡ markAt (was store) (was marks) c j ⌝ }
 {
     if store[OWNER + c] != store[PART] {
         return true;
@@ -365,7 +364,7 @@ fn is_marked(store: &[u16], marks: &[u8], c: usize, j: usize) -> bool
 // The mark that is due behind a cell.
 fn next_mark(store: &[u16], c: usize, j: usize) -> usize
     requires { ⌜ (full ≤ length (now store)) × (c < 4096) × (j < 65536) ⌝ }
-    ensures { λ r. ⌜ r ≡ nextMark (now (store .entry)) c j ⌝ }
+    ensures { λ r. ⌜ r ≡ nextMark (was store) c j ⌝ }
 {
     if store[OWNER + c] == store[PART] {
         j + 1
@@ -377,7 +376,7 @@ fn next_mark(store: &[u16], c: usize, j: usize) -> usize
 // Whether the marks are one for each master, and fit.
 fn marks_fit(store: &[u16], marks: &[u8]) -> bool
     requires { ⌜ Usable (now store) ⌝ }
-    ensures { λ r. ⌜ r ≡ marksDue (now (store .entry)) (now (marks .entry)) (field (now (store .entry)) 5) 0 0 ⌝ }
+    ensures { λ r. ⌜ r ≡ marksDue (was store) (was marks) (field (was store) 5) 0 0 ⌝ }
 {
     let cells = store[CELLS] as usize;
     let mut c: usize = 0;
@@ -395,7 +394,7 @@ fn marks_fit(store: &[u16], marks: &[u8]) -> bool
 // Stores the mark that is due, if a cell is a master.
 fn set_mark(store: &mut [u16], marks: &[u8], c: usize, j: usize)
     requires { ⌜ (full ≤ length (now store)) × (c < 4096) ⌝ }
-    ensures { λ r. ⌜ now (store .exit) ≡ markSet (now (store .entry)) (now (marks .entry)) c j ⌝ }
+    ensures { λ r. ⌜ is store ≡ markSet (was store) (was marks) c j ⌝ }
 {
     if store[OWNER + c] != store[PART] {
         return;
@@ -409,7 +408,7 @@ fn set_mark(store: &mut [u16], marks: &[u8], c: usize, j: usize)
 // Stores the marks of all masters.
 fn set_marks(store: &mut [u16], marks: &[u8])
     requires { ⌜ Usable (now store) ⌝ }
-    ensures { λ r. ⌜ now (store .exit) ≡ markedFrom (now (store .entry)) (now (marks .entry)) (field (now (store .entry)) 5) 0 0 ⌝ }
+    ensures { λ r. ⌜ is store ≡ markedFrom (was store) (was marks) (field (was store) 5) 0 0 ⌝ }
 {
     let cells = store[CELLS] as usize;
     let mut c: usize = 0;
@@ -425,7 +424,7 @@ fn set_marks(store: &mut [u16], marks: &[u8])
 // Adds one to a slot.
 fn add_one(store: &mut [u16], slot: usize)
     requires { ⌜ full ≤ length (now store) ⌝ }
-    ensures { λ r. ⌜ now (store .exit) ≡ addOne (now (store .entry)) slot ⌝ }
+    ensures { λ r. ⌜ is store ≡ addOne (was store) slot ⌝ }
 {
     if slot >= 24576 {
         return;
@@ -436,7 +435,7 @@ fn add_one(store: &mut [u16], slot: usize)
 // Adds one to the slot of an edge.
 fn add_edge(store: &mut [u16], c: usize, e: usize)
     requires { ⌜ (full ≤ length (now store)) × (c < 4096) × (e < 6) ⌝ }
-    ensures { λ r. ⌜ now (store .exit) ≡ addEdge c (now (store .entry)) e ⌝ }
+    ensures { λ r. ⌜ is store ≡ addEdge c (was store) e ⌝ }
 {
     let slot = slot_of(store, c, e);
     add_one(store, slot);
@@ -445,7 +444,7 @@ fn add_edge(store: &mut [u16], c: usize, e: usize)
 // Adds one to the slots of a cell's edges.
 fn add_edges(store: &mut [u16], c: usize)
     requires { ⌜ (full ≤ length (now store)) × (c < 4096) ⌝ }
-    ensures { λ r. ⌜ now (store .exit) ≡ eachFrom (addEdge c) 6 0 (now (store .entry)) ⌝ }
+    ensures { λ r. ⌜ is store ≡ eachFrom (addEdge c) 6 0 (was store) ⌝ }
 {
     let mut e: usize = 0;
     while e < 6 {
@@ -457,7 +456,7 @@ fn add_edges(store: &mut [u16], c: usize)
 // Tallies a cell, if it is a master that will be red.
 fn tally_one(store: &mut [u16], c: usize)
     requires { ⌜ (full ≤ length (now store)) × (c < 4096) ⌝ }
-    ensures { λ r. ⌜ now (store .exit) ≡ tallyOne (now (store .entry)) c ⌝ }
+    ensures { λ r. ⌜ is store ≡ tallyOne (was store) c ⌝ }
 {
     if store[OWNER + c] != store[PART] {
         return;
@@ -471,7 +470,7 @@ fn tally_one(store: &mut [u16], c: usize)
 // Tallies the cells from `first` to `last`.
 fn tally(store: &mut [u16], first: usize, last: usize)
     requires { ⌜ (full ≤ length (now store)) × (last ≤ 4096) ⌝ }
-    ensures { λ r. ⌜ now (store .exit) ≡ eachFrom tallyOne (last - first) first (now (store .entry)) ⌝ }
+    ensures { λ r. ⌜ is store ≡ eachFrom tallyOne (last - first) first (was store) ⌝ }
 {
     let mut c = first;
     while c < last {
@@ -483,7 +482,7 @@ fn tally(store: &mut [u16], first: usize, last: usize)
 // The receivers without the own part.
 fn without_own(store: &[u16], mask: u16) -> u16
     requires { ⌜ Usable (now store) ⌝ }
-    ensures { λ r. ⌜ r ≡ besides (now (store .entry)) mask ⌝ }
+    ensures { λ r. ⌜ r ≡ besides (was store) mask ⌝ }
 {
     let part = store[PART] as usize;
     if (mask as usize >> (part - 1)) % 2 != 1 {
@@ -496,7 +495,7 @@ fn without_own(store: &[u16], mask: u16) -> u16
 // Writes the count of a slot for its other holders, if it is not 0.
 fn count_one(store: &mut [u16], s: usize)
     requires { ⌜ Usable (now store) × (s < 24576) ⌝ }
-    ensures { λ r. ⌜ now (store .exit) ≡ countOne (now (store .entry)) s ⌝ }
+    ensures { λ r. ⌜ is store ≡ countOne (was store) s ⌝ }
 {
     let count = store[SUM + s];
     if count == 0 {
@@ -510,7 +509,7 @@ fn count_one(store: &mut [u16], s: usize)
 // Writes the counts of the slots from `first` to `last`.
 fn post_counts(store: &mut [u16], first: usize, last: usize)
     requires { ⌜ Usable (now store) × (last ≤ 24576) ⌝ }
-    ensures { λ r. ⌜ now (store .exit) ≡ eachFrom countOne (last - first) first (now (store .entry)) ⌝ }
+    ensures { λ r. ⌜ is store ≡ eachFrom countOne (last - first) first (was store) ⌝ }
 {
     let mut s = first;
     while s < last {
@@ -522,7 +521,7 @@ fn post_counts(store: &mut [u16], first: usize, last: usize)
 // The first slot of a level, at most 24,576.
 fn slot_from(store: &[u16], k: usize) -> usize
     requires { ⌜ Usable (now store) × (k ≤ 11) ⌝ }
-    ensures { λ r. ⌜ (r ≡ slotFrom (now (store .entry)) k) × (r ≤ 24576) ⌝ }
+    ensures { λ r. ⌜ (r ≡ slotFrom (was store) k) × (r ≤ 24576) ⌝ }
 {
     let first = store[FIRST_SLOT + k] as usize;
     if first < 24576 { first } else { 24576 }
@@ -531,7 +530,7 @@ fn slot_from(store: &[u16], k: usize) -> usize
 // Enters the round of counts of a level.
 fn enter_counts(store: &mut [u16], k: usize)
     requires { ⌜ Usable (now store) × (k ≤ 10) ⌝ }
-    ensures { λ r. ⌜ now (store .exit) ≡ enterCounts (now (store .entry)) k ⌝ }
+    ensures { λ r. ⌜ is store ≡ enterCounts (was store) k ⌝ }
 {
     let first = level_from(store, k);
     let last = level_from(store, k + 1);
@@ -544,8 +543,8 @@ fn enter_counts(store: &mut [u16], k: usize)
 
 // Starts a part with one mark for each of its masters.
 pub fn start(store: &mut [u16], marks: &[u8]) -> Answer
-    ensures { λ r. ⌜ r ≡ startAnswer (now (store .entry)) (now (marks .entry)) ⌝ }
-    ensures { λ r. ⌜ now (store .exit) ≡ startAfter (now (store .entry)) (now (marks .entry)) ⌝ }
+    ensures { λ r. ⌜ r ≡ startAnswer (was store) (was marks) ⌝ }
+    ensures { λ r. ⌜ is store ≡ startAfter (was store) (was marks) ⌝ }
 {
     if store.len() < FULL {
         return Answer::Refused(15);

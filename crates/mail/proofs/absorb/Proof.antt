@@ -1,8 +1,6 @@
 use Rattle.store.specs.Handing.{take-set, take-none, take-count, take-total, take-end}
 use lib.ListN.{length-set, getD}
 use Prim.Native.Nat.{_+_}
-use borrow.Author.Tests.{not-true, not-false, lt-ltb, le-ltb}
-use mathlib.Core.Path.{refl, sym, _∙_}
 use native.Mathlib.Omega.{arith}
 use borrow.Author.Needs.{needs}
 use Rattle.mail.proofs.absorb.Statement.{statement}

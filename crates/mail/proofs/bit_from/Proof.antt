@@ -3,8 +3,8 @@ use Rattle.store.specs.Fetch.{bitFrom}
 use borrow.Author.Needs.{needs}
 use native.Mathlib.Numerals.{add-one}
 use native.Mathlib.Omega.{arith}
-use mathlib.Core.Path.{_≡_, refl, sym, _∙_}
-use Prim.Native.Nat.{_+_, _-_, _<_}
+use mathlib.Core.Path.{_≡_, sym, _∙_}
+use Prim.Native.Nat.{_-_, _<_}
 use Rattle.mail.proofs.bit_from.Statement.{statement}
 use Rattle.mail.proofs.bit_from.Tie as tie
 use Rattle.mail.proofs.bit_from.Reads as reads

@@ -1,7 +1,6 @@
 use Rattle.store.specs.Checks.{shape-first, shape-second, shape-third, shape-least, content-first, content-second, content-third}
 use Rattle.store.specs.Checks.{content-other}
-use borrow.Author.Tests.{not-true, not-false}
-use mathlib.Core.Path.{refl, sym, _∙_}
+use mathlib.Core.Path.{_∙_}
 use native.Mathlib.Omega.{arith}
 use Rattle.mail.proofs.content_fits.Statement.{statement}
 use Rattle.mail.proofs.content_fits.Tie as tie

@@ -1,7 +1,6 @@
 use Rattle.store.specs.Fetch.{entryCount}
 use borrow.Author.Tests.{lt-ltb, le-ltb}
 use native.Mathlib.Omega.{arith}
-use mathlib.Core.Path.{_≡_, refl, sym, _∙_}
 use borrow.Author.Needs.{needs}
 use Rattle.mail.proofs.entries.Statement.{statement}
 use Rattle.mail.proofs.entries.Tie as tie

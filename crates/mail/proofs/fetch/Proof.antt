@@ -1,7 +1,7 @@
-use mathlib.Core.Path.{refl, sym, _∙_}
+use mathlib.Core.Path.{sym, _∙_}
 use native.Mathlib.Omega.{arith}
 use borrow.Author.Tests.{not-true, not-false}
-use Rattle.store.specs.Fetching.{Fetches, inside, part-small, store-short, bytes-short, header-bad, before-start, none-left, some-left}
+use Rattle.store.specs.Fetching.{inside, part-small, store-short, bytes-short, header-bad, before-start, none-left, some-left}
 use borrow.Author.Needs.{needs}
 use Rattle.mail.proofs.fetch.Statement.{statement}
 use Rattle.mail.proofs.fetch.Tie as tie
@@ -58,14 +58,20 @@ returns-5 c = let f =
 
 give-requires : tie.Need-give-requires
 give-requires c κs =
-    let x = c .before .before .before .before .before .before .before .before .before .before .before .before .before .before .args .store .now in (
+    let
+    x =
+    c .before .before .before .before .before .before .before .before .before .before .before .before .before .before .args .store .now
+    in (
       omega arith,
       omega arith,
       part-small
-          (c .before .before .before .before .before .before .before .before .before .before .before .before .before .before .args .store .now)
+          (c .before .before .before .before .before .before .before .before .before .before .before .before .before .before .args .store
+          .now)
           (sym (c .before .before .before .before .before .before .before .before .header-fits .ensures)
           ∙ not-false _ (c .before .before .before .before .before .before .before .if3 .left)),
-      inside (c .before .before .before .before .before .before .before .before .before .before .before .before .before .before .args .store .now) _ (c .before .before .before .next .ensures) (omega arith),
+      inside
+          (c .before .before .before .before .before .before .before .before .before .before .before .before .before .before .args .store
+          .now) _ (c .before .before .before .next .ensures) (omega arith),
       omega arith,
     )
 
@@ -78,7 +84,17 @@ same-length-5 c = search needs
 returns-6 : tie.Need-returns-6
 returns-6 c = let f =
     some-left
-    (c .before .before .before .before .before .before .before .before .before .before .before .before .before .before .before .before .before .before .before .args .store .now) (c .before .before .before .before .before .before .before .before .before .before .before .before .before .before .before .before .before .before .before .args .out .now) (omega arith) (omega arith) (sym (c .before .before .before .before .before .before .before .before .before .before .before .before .before .header-fits .ensures) ∙ not-false _ (c .before .before .before .before .before .before .before .before .before .before .before .before .if3 .left)) (λ e. omega (arith, c .before .before .before .before .before .before .before .before .before .before .if4 .left)) _ (c .before .before .before .before .before .before .before .before .next .ensures) (omega arith) _ _ _ (c .before .before .before .before .give .ensures .0 .0) (c .before .before .before .before .give .ensures .0 .1) (c .before .before .before .before .give .ensures .1) in (f .answer, (f .bytes, f .after))
+    (c .before .before .before .before .before .before .before .before .before .before .before .before .before .before .before .before
+    .before .before .before .args .store .now)
+    (c .before .before .before .before .before .before .before .before .before .before .before .before .before .before .before .before
+    .before .before .before .args .out .now) (omega arith) (omega arith)
+    (sym
+    (c .before .before .before .before .before .before .before .before .before .before .before .before .before .header-fits .ensures)
+    ∙ not-false _ (c .before .before .before .before .before .before .before .before .before .before .before .before .if3 .left))
+    (λ e. omega (arith, c .before .before .before .before .before .before .before .before .before .before .if4 .left)) _
+    (c .before .before .before .before .before .before .before .before .next .ensures) (omega arith) _ _ _
+    (c .before .before .before .before .give .ensures .0 .0) (c .before .before .before .before .give .ensures .0 .1)
+    (c .before .before .before .before .give .ensures .1) in (f .answer, (f .bytes, f .after))
 
 pub fetch-spec : {M : Type 1} → statement M
 fetch-spec =

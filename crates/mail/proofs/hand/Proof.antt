@@ -1,10 +1,10 @@
 use borrow.Author.Needs.{needs}
-use Rattle.store.specs.Handing.{Hands, cells-few, ranges-of, hand-short, hand-header, hand-before, hand-bad, hand-again, hand-early}
-use Rattle.store.specs.Handing.{hand-done, hand-later, hand-taken}
+use Rattle.store.specs.Handing.{cells-few, ranges-of, hand-short, hand-header, hand-before, hand-bad, hand-again, hand-early, hand-done}
+use Rattle.store.specs.Handing.{hand-later, hand-taken}
 use lib.ListN.{getD}
 use Prim.Native.Nat.{_+_}
 use borrow.Author.Tests.{not-true, not-false}
-use mathlib.Core.Path.{refl, sym, _∙_}
+use mathlib.Core.Path.{sym, _∙_}
 use native.Mathlib.Omega.{arith}
 use Rattle.mail.proofs.hand.Statement.{statement}
 use Rattle.mail.proofs.hand.Tie as tie
@@ -90,10 +90,12 @@ add-taken : tie.Need-add-taken
 add-taken c =
     omega (
       arith,
-      ranges-of (c .before .before .before .before .before .before .before .before .before .before .before .before .before .args .store .now)
+      ranges-of
+          (c .before .before .before .before .before .before .before .before .before .before .before .before .before .args .store .now)
           (c .before .before .before .before .before .before .before .before .before .before .before .before .before .args .bytes .now)
           (sym (c .before .before .before .before .before .before .before .before .header-fits .ensures)
-          ∙ not-false _ (c .before .before .before .before .before .before .before .if2 .left)) (sym (c .before .before .before .is-well .ensures)
+          ∙ not-false _ (c .before .before .before .before .before .before .before .if2 .left))
+          (sym (c .before .before .before .is-well .ensures)
           ∙ not-false _ (c .before .before .if4 .left)) .from-most,
     )
 
@@ -101,10 +103,12 @@ mul-taken : tie.Need-mul-taken
 mul-taken c =
     omega (
       arith,
-      ranges-of (c .before .before .before .before .before .before .before .before .before .before .before .before .before .args .store .now)
+      ranges-of
+          (c .before .before .before .before .before .before .before .before .before .before .before .before .before .args .store .now)
           (c .before .before .before .before .before .before .before .before .before .before .before .before .before .args .bytes .now)
           (sym (c .before .before .before .before .before .before .before .before .header-fits .ensures)
-          ∙ not-false _ (c .before .before .before .before .before .before .before .if2 .left)) (sym (c .before .before .before .is-well .ensures)
+          ∙ not-false _ (c .before .before .before .before .before .before .before .if2 .left))
+          (sym (c .before .before .before .is-well .ensures)
           ∙ not-false _ (c .before .before .if4 .left)) .from-most,
     )
 
@@ -124,7 +128,8 @@ cast-taken c = omega (
   arith,
   c .slice-known3 .given
       (63 + getD
-      (c .before .before .before .before .before .before .before .before .before .before .before .before .before .before .args .bytes .now) 1
+      (c .before .before .before .before .before .before .before .before .before .before .before .before .before .before .args .bytes .now)
+      1
       0),
 )
 
@@ -134,7 +139,15 @@ same-length-4 c = search needs
 returns-5 : tie.Need-returns-5
 returns-5 c = let f =
     hand-again
-    (c .before .before .before .before .before .before .before .before .before .before .before .before .before .before .before .args .store .now) (c .before .before .before .before .before .before .before .before .before .before .before .before .before .before .before .args .bytes .now) (omega arith) (sym (c .before .before .before .before .before .before .before .before .before .before .header-fits .ensures) ∙ not-false _ (c .before .before .before .before .before .before .before .before .before .if2 .left)) (c .before .before .before .before .before .before .before .if3 .left) (sym (c .before .before .before .before .before .is-well .ensures) ∙ not-false _ (c .before .before .before .before .if4 .left)) _ (c .before .before .number .ensures .0) (omega arith) in (f .answer, f .after)
+    (c .before .before .before .before .before .before .before .before .before .before .before .before .before .before .before .args .store
+    .now)
+    (c .before .before .before .before .before .before .before .before .before .before .before .before .before .before .before .args
+    .bytes .now) (omega arith) (sym
+    (c .before .before .before .before .before .before .before .before .before .before .header-fits .ensures)
+    ∙ not-false _ (c .before .before .before .before .before .before .before .before .before .if2 .left))
+    (c .before .before .before .before .before .before .before .if3 .left)
+    (sym (c .before .before .before .before .before .is-well .ensures) ∙ not-false _ (c .before .before .before .before .if4 .left)) _
+    (c .before .before .number .ensures .0) (omega arith) in (f .answer, f .after)
 
 same-length-5 : tie.Need-same-length-5
 same-length-5 c = search needs
@@ -142,7 +155,16 @@ same-length-5 c = search needs
 returns-6 : tie.Need-returns-6
 returns-6 c = let f =
     hand-early
-    (c .before .before .before .before .before .before .before .before .before .before .before .before .before .before .before .before .args .store .now) (c .before .before .before .before .before .before .before .before .before .before .before .before .before .before .before .before .args .bytes .now) (omega arith) (sym (c .before .before .before .before .before .before .before .before .before .before .before .header-fits .ensures) ∙ not-false _ (c .before .before .before .before .before .before .before .before .before .before .if2 .left)) (c .before .before .before .before .before .before .before .before .if3 .left) (sym (c .before .before .before .before .before .before .is-well .ensures) ∙ not-false _ (c .before .before .before .before .before .if4 .left)) _ (c .before .before .before .number .ensures .0) (omega arith) in (f .answer, f .after)
+    (c .before .before .before .before .before .before .before .before .before .before .before .before .before .before .before .before .args
+    .store .now)
+    (c .before .before .before .before .before .before .before .before .before .before .before .before .before .before .before .before
+    .args .bytes .now) (omega arith)
+    (sym (c .before .before .before .before .before .before .before .before .before .before .before .header-fits .ensures)
+    ∙ not-false _ (c .before .before .before .before .before .before .before .before .before .before .if2 .left))
+    (c .before .before .before .before .before .before .before .before .if3 .left)
+    (sym (c .before .before .before .before .before .before .is-well .ensures)
+    ∙ not-false _ (c .before .before .before .before .before .if4 .left)) _ (c .before .before .before .number .ensures .0)
+    (omega arith) in (f .answer, f .after)
 
 slice-read-if7 : tie.Need-slice-read-if7
 slice-read-if7 c = search needs
@@ -153,14 +175,35 @@ same-length-6 c = search needs
 returns-7 : tie.Need-returns-7
 returns-7 c = let f =
     hand-done
-    (c .before .before .before .before .before .before .before .before .before .before .before .before .before .before .before .before .before .before .args .store .now) (c .before .before .before .before .before .before .before .before .before .before .before .before .before .before .before .before .before .before .args .bytes .now) (omega arith) (sym (c .before .before .before .before .before .before .before .before .before .before .before .before .before .header-fits .ensures) ∙ not-false _ (c .before .before .before .before .before .before .before .before .before .before .before .before .if2 .left)) (c .before .before .before .before .before .before .before .before .before .before .if3 .left) (sym (c .before .before .before .before .before .before .before .before .is-well .ensures) ∙ not-false _ (c .before .before .before .before .before .before .before .if4 .left)) _ (c .before .before .before .before .before .number .ensures .0) (omega (arith, c .before .before .if6 .left, c .before .before .before .if5 .left)) (λ e. omega (arith, c .if7 .taken)) in (f .answer, f .after)
+    (c .before .before .before .before .before .before .before .before .before .before .before .before .before .before .before .before
+    .before .before .args .store .now)
+    (c .before .before .before .before .before .before .before .before .before .before .before .before .before .before .before .before
+    .before .before .args .bytes .now) (omega arith)
+    (sym
+    (c .before .before .before .before .before .before .before .before .before .before .before .before .before .header-fits .ensures)
+    ∙ not-false _ (c .before .before .before .before .before .before .before .before .before .before .before .before .if2 .left))
+    (c .before .before .before .before .before .before .before .before .before .before .if3 .left)
+    (sym (c .before .before .before .before .before .before .before .before .is-well .ensures)
+    ∙ not-false _ (c .before .before .before .before .before .before .before .if4 .left)) _
+    (c .before .before .before .before .before .number .ensures .0)
+    (omega (arith, c .before .before .if6 .left, c .before .before .before .if5 .left)) (λ e. omega (arith, c .if7 .taken)) in
+    (f .answer, f .after)
 
 add-if8 : tie.Need-add-if8
 add-if8 c =
     omega (
       arith,
       ranges-of
-          (c .before .before .before .before .before .before .before .before .before .before .before .before .before .before .before .before .before .before .args .store .now) (c .before .before .before .before .before .before .before .before .before .before .before .before .before .before .before .before .before .before .args .bytes .now) (sym (c .before .before .before .before .before .before .before .before .before .before .before .before .before .header-fits .ensures) ∙ not-false _ (c .before .before .before .before .before .before .before .before .before .before .before .before .if2 .left)) (sym (c .before .before .before .before .before .before .before .before .is-well .ensures) ∙ not-false _ (c .before .before .before .before .before .before .before .if4 .left)) .from-most,
+          (c .before .before .before .before .before .before .before .before .before .before .before .before .before .before .before .before
+          .before .before .args .store .now)
+          (c .before .before .before .before .before .before .before .before .before .before .before .before .before .before .before
+          .before .before .before .args .bytes .now)
+          (sym
+          (c .before .before .before .before .before .before .before .before .before .before .before .before .before .header-fits
+          .ensures)
+          ∙ not-false _ (c .before .before .before .before .before .before .before .before .before .before .before .before .if2 .left))
+          (sym (c .before .before .before .before .before .before .before .before .is-well .ensures)
+          ∙ not-false _ (c .before .before .before .before .before .before .before .if4 .left)) .from-most,
     )
 
 mul-if8 : tie.Need-mul-if8
@@ -168,7 +211,16 @@ mul-if8 c =
     omega (
       arith,
       ranges-of
-          (c .before .before .before .before .before .before .before .before .before .before .before .before .before .before .before .before .before .before .args .store .now) (c .before .before .before .before .before .before .before .before .before .before .before .before .before .before .before .before .before .before .args .bytes .now) (sym (c .before .before .before .before .before .before .before .before .before .before .before .before .before .header-fits .ensures) ∙ not-false _ (c .before .before .before .before .before .before .before .before .before .before .before .before .if2 .left)) (sym (c .before .before .before .before .before .before .before .before .is-well .ensures) ∙ not-false _ (c .before .before .before .before .before .before .before .if4 .left)) .from-most,
+          (c .before .before .before .before .before .before .before .before .before .before .before .before .before .before .before .before
+          .before .before .args .store .now)
+          (c .before .before .before .before .before .before .before .before .before .before .before .before .before .before .before
+          .before .before .before .args .bytes .now)
+          (sym
+          (c .before .before .before .before .before .before .before .before .before .before .before .before .before .header-fits
+          .ensures)
+          ∙ not-false _ (c .before .before .before .before .before .before .before .before .before .before .before .before .if2 .left))
+          (sym (c .before .before .before .before .before .before .before .before .is-well .ensures)
+          ∙ not-false _ (c .before .before .before .before .before .before .before .if4 .left)) .from-most,
     )
 
 slice-read-if8 : tie.Need-slice-read-if8
@@ -176,7 +228,16 @@ slice-read-if8 c =
     omega (
       arith,
       ranges-of
-          (c .before .before .before .before .before .before .before .before .before .before .before .before .before .before .before .before .before .before .before .args .store .now) (c .before .before .before .before .before .before .before .before .before .before .before .before .before .before .before .before .before .before .before .args .bytes .now) (sym (c .before .before .before .before .before .before .before .before .before .before .before .before .before .before .header-fits .ensures) ∙ not-false _ (c .before .before .before .before .before .before .before .before .before .before .before .before .before .if2 .left)) (sym (c .before .before .before .before .before .before .before .before .before .is-well .ensures) ∙ not-false _ (c .before .before .before .before .before .before .before .before .if4 .left)) .from-most,
+          (c .before .before .before .before .before .before .before .before .before .before .before .before .before .before .before .before
+          .before .before .before .args .store .now)
+          (c .before .before .before .before .before .before .before .before .before .before .before .before .before .before .before
+          .before .before .before .before .args .bytes .now)
+          (sym
+          (c .before .before .before .before .before .before .before .before .before .before .before .before .before .before
+          .header-fits .ensures) ∙ not-false _
+          (c .before .before .before .before .before .before .before .before .before .before .before .before .before .if2 .left))
+          (sym (c .before .before .before .before .before .before .before .before .before .is-well .ensures)
+          ∙ not-false _ (c .before .before .before .before .before .before .before .before .if4 .left)) .from-most,
     )
 
 slice-read-if8-2 : tie.Need-slice-read-if8-2
@@ -188,13 +249,37 @@ same-length-7 c = search needs
 returns-8 : tie.Need-returns-8
 returns-8 c = let f =
     hand-later
-    (c .before .before .before .before .before .before .before .before .before .before .before .before .before .before .before .before .before .before .before .before .before .args .store .now) (c .before .before .before .before .before .before .before .before .before .before .before .before .before .before .before .before .before .before .before .before .before .args .bytes .now) (omega arith) (sym (c .before .before .before .before .before .before .before .before .before .before .before .before .before .before .before .before .header-fits .ensures) ∙ not-false _ (c .before .before .before .before .before .before .before .before .before .before .before .before .before .before .before .if2 .left)) (c .before .before .before .before .before .before .before .before .before .before .before .before .before .if3 .left) (sym (c .before .before .before .before .before .before .before .before .before .before .before .is-well .ensures) ∙ not-false _ (c .before .before .before .before .before .before .before .before .before .before .if4 .left)) _ (c .before .before .before .before .before .before .before .before .number .ensures .0) (omega (arith, c .before .before .before .before .before .if6 .left, c .before .before .before .before .before .before .if5 .left)) (omega arith) (omega arith) in (f .answer, f .after)
+    (c .before .before .before .before .before .before .before .before .before .before .before .before .before .before .before .before
+    .before .before .before .before .before .args .store .now)
+    (c .before .before .before .before .before .before .before .before .before .before .before .before .before .before .before .before
+    .before .before .before .before .before .args .bytes .now) (omega arith)
+    (sym
+    (c .before .before .before .before .before .before .before .before .before .before .before .before .before .before .before .before
+    .header-fits .ensures) ∙ not-false _
+    (c .before .before .before .before .before .before .before .before .before .before .before .before .before .before .before .if2
+    .left)) (c .before .before .before .before .before .before .before .before .before .before .before .before .before .if3 .left)
+    (sym (c .before .before .before .before .before .before .before .before .before .before .before .is-well .ensures)
+    ∙ not-false _ (c .before .before .before .before .before .before .before .before .before .before .if4 .left)) _
+    (c .before .before .before .before .before .before .before .before .number .ensures .0)
+    (omega (arith, c .before .before .before .before .before .if6 .left, c .before .before .before .before .before .before .if5 .left))
+    (omega arith) (omega arith) in (f .answer, f .after)
 
 take-requires : tie.Need-take-requires
 take-requires c κs = (
   omega arith,
   ranges-of
-      (c .before .before .before .before .before .before .before .before .before .before .before .before .before .before .before .before .before .before .before .before .before .before .args .store .now) (c .before .before .before .before .before .before .before .before .before .before .before .before .before .before .before .before .before .before .before .before .before .before .args .bytes .now) (sym (c .before .before .before .before .before .before .before .before .before .before .before .before .before .before .before .before .before .header-fits .ensures) ∙ not-false _ (c .before .before .before .before .before .before .before .before .before .before .before .before .before .before .before .before .if2 .left)) (sym (c .before .before .before .before .before .before .before .before .before .before .before .before .is-well .ensures) ∙ not-false _ (c .before .before .before .before .before .before .before .before .before .before .before .if4 .left)),
+      (c .before .before .before .before .before .before .before .before .before .before .before .before .before .before .before .before
+      .before .before .before .before .before .before .args .store .now)
+      (c .before .before .before .before .before .before .before .before .before .before .before .before .before .before .before .before
+      .before .before .before .before .before .before .args .bytes .now)
+      (sym
+      (c .before .before .before .before .before .before .before .before .before .before .before .before .before .before .before .before
+      .before .header-fits .ensures)
+      ∙ not-false _
+      (c .before .before .before .before .before .before .before .before .before .before .before .before .before .before .before .before
+      .if2 .left))
+      (sym (c .before .before .before .before .before .before .before .before .before .before .before .before .is-well .ensures)
+      ∙ not-false _ (c .before .before .before .before .before .before .before .before .before .before .before .if4 .left)),
 )
 
 same-length-8 : tie.Need-same-length-8
@@ -203,7 +288,30 @@ same-length-8 c = search needs
 returns-9 : tie.Need-returns-9
 returns-9 c = let f =
     hand-taken
-    (c .before .before .before .before .before .before .before .before .before .before .before .before .before .before .before .before .before .before .before .before .before .before .before .before .before .args .store .now) (c .before .before .before .before .before .before .before .before .before .before .before .before .before .before .before .before .before .before .before .before .before .before .before .before .before .args .bytes .now) (omega arith) (sym (c .before .before .before .before .before .before .before .before .before .before .before .before .before .before .before .before .before .before .before .before .header-fits .ensures) ∙ not-false _ (c .before .before .before .before .before .before .before .before .before .before .before .before .before .before .before .before .before .before .before .if2 .left)) (c .before .before .before .before .before .before .before .before .before .before .before .before .before .before .before .before .before .if3 .left) (sym (c .before .before .before .before .before .before .before .before .before .before .before .before .before .before .before .is-well .ensures) ∙ not-false _ (c .before .before .before .before .before .before .before .before .before .before .before .before .before .before .if4 .left)) _ (c .before .before .before .before .before .before .before .before .before .before .before .before .number .ensures .0) (omega (arith, c .before .before .before .before .before .before .before .before .before .if6 .left, c .before .before .before .before .before .before .before .before .before .before .if5 .left)) (omega arith) (omega (arith, c .before .before .before .before .if8 .left)) _ (c .before .before .take .ensures) in (f .answer, f .after)
+    (c .before .before .before .before .before .before .before .before .before .before .before .before .before .before .before .before
+    .before .before .before .before .before .before .before .before .before .args .store .now)
+    (c .before .before .before .before .before .before .before .before .before .before .before .before .before .before .before .before
+    .before .before .before .before .before .before .before .before .before .args .bytes .now) (omega arith)
+    (sym
+    (c .before .before .before .before .before .before .before .before .before .before .before .before .before .before .before .before
+    .before .before .before .before .header-fits .ensures)
+    ∙ not-false _
+    (c .before .before .before .before .before .before .before .before .before .before .before .before .before .before .before .before
+    .before .before .before .if2 .left))
+    (c .before .before .before .before .before .before .before .before .before .before .before .before .before .before .before .before
+    .before .if3 .left)
+    (sym
+    (c .before .before .before .before .before .before .before .before .before .before .before .before .before .before .before .is-well
+    .ensures)
+    ∙ not-false _
+    (c .before .before .before .before .before .before .before .before .before .before .before .before .before .before .if4 .left)) _
+    (c .before .before .before .before .before .before .before .before .before .before .before .before .number .ensures .0)
+    (omega (
+      arith,
+      c .before .before .before .before .before .before .before .before .before .if6 .left,
+      c .before .before .before .before .before .before .before .before .before .before .if5 .left,
+    )) (omega arith)
+    (omega (arith, c .before .before .before .before .if8 .left)) _ (c .before .before .take .ensures) in (f .answer, f .after)
 
 pub hand-spec : {M : Type 1} → statement M
 hand-spec =

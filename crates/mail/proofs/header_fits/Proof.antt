@@ -1,6 +1,6 @@
 use native.Mathlib.Omega.{arith}
 use mathlib.Core.Path.{sym, _∙_}
-use Rattle.store.specs.Headed.{Header, header-no, header-yes}
+use Rattle.store.specs.Headed.{header-no, header-yes}
 use borrow.Author.Needs.{needs}
 use Rattle.mail.proofs.header_fits.Statement.{statement}
 use Rattle.mail.proofs.header_fits.Tie as tie

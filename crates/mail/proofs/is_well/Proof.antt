@@ -1,6 +1,6 @@
 use Rattle.store.specs.Checks.{shape-least, well-shape, well-route, well-content}
 use borrow.Author.Tests.{not-true, not-false}
-use mathlib.Core.Path.{refl, sym, _∙_}
+use mathlib.Core.Path.{sym, _∙_}
 use native.Mathlib.Omega.{arith}
 use borrow.Author.Needs.{needs}
 use Rattle.mail.proofs.is_well.Statement.{statement}

@@ -1,10 +1,9 @@
 use Rattle.store.specs.Seek.{seek-stops, seek-on, seek-out, next-is}
 use Rattle.store.specs.Fetch.{seekFrom, nextToGive, spotAt}
-use denote.Ref.{now}
 use borrow.Author.Needs.{needs}
 use native.Mathlib.Numerals.{add-one}
 use native.Mathlib.Omega.{arith}
-use mathlib.Core.Path.{_≡_, refl, sym, _∙_, ap}
+use mathlib.Core.Path.{_≡_, sym, _∙_, ap}
 use Prim.Native.Nat.{ℕ, _+_, _-_, _<_, _≤_}
 use Rattle.mail.proofs.next.Statement.{statement}
 use Rattle.mail.proofs.next.Tie as tie

@@ -1,9 +1,7 @@
-use borrow.Author.Tests.{not-true, not-false}
 use Rattle.store.specs.Hand.{counted}
 use lib.ListN.{length-set, getD}
 use Prim.Native.Nat.{_+_}
-use borrow.Author.Tests.{not-true, not-false, lt-ltb, le-ltb}
-use mathlib.Core.Path.{refl, sym, _∙_}
+use mathlib.Core.Path.{_∙_}
 use native.Mathlib.Omega.{arith}
 use borrow.Author.Needs.{needs}
 use Rattle.mail.proofs.take.Statement.{statement}

@@ -68,14 +68,19 @@ renew-requires c κs =
         t,
         (
           held-kids (a .n) (a .mesh .now) (a .rows .now) (a .status .now)
-              (c .before .before .before .before .before .before .before .before .before .before .before .before .before .before .before .before
-              .before .before .before .before .before .before .before .before .before .before .before .before .before .before .before .pre .0) _ _
-              (c .before .before .before .before .before .before .before .before .before .before .before .before .before .before .before .before
+              (c .before .before .before .before .before .before .before .before .before .before .before .before .before .before .before
+              .before
+              .before .before .before .before .before .before .before .before .before .before .before .before .before .before .before .pre
+              .0) _ _
+              (c .before .before .before .before .before .before .before .before .before .before .before .before .before .before .before
+              .before
               .before .before .before .before .before .before .before .before .before .first-children .ensures),
           (
             omega (arith, k, t .few),
-            c .before .before .before .before .before .before .before .before .before .before .before .before .before .before .before .before
-                .before .before .before .before .before .before .before .before .before .before .before .before .before .before .before .pre .1
+            c .before .before .before .before .before .before .before .before .before .before .before .before .before .before .before
+                .before
+                .before .before .before .before .before .before .before .before .before .before .before .before .before .before .before .pre
+                .1
                 .1,
           ),
         ),

@@ -1,8 +1,6 @@
 use Rattle.turns.proofs.Tallying.{add-edge}
 use native.Mathlib.Numerals.{add-one}
-use Prim.Native.Nat.{suc, _+_, _-_, _<_, _≤_}
-use mathlib.Core.Path.{_≡_, refl, sym, _∙_}
-use native.Mathlib.Omega.{arith}
+use Prim.Native.Nat.{_-_}
 use borrow.Author.Needs.{needs}
 use Rattle.turns.proofs.add_edge.Statement.{statement}
 use Rattle.turns.proofs.add_edge.Tie as tie

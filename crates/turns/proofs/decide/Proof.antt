@@ -1,9 +1,8 @@
 use Rattle.turns.proofs.Deciding.{decide-head}
 use Rattle.turns.specs.Decide.{decideOne}
 use Rattle.turns.specs.Loops.{eachFrom, SameHead, head-self, each-again, each-out}
-use lib.ListN.{length, getD}
 use native.Mathlib.Numerals.{add-one}
-use Prim.Native.Nat.{_+_, _-_, _<_, _≤_}
+use Prim.Native.Nat.{_-_}
 use mathlib.Core.Path.{_≡_, refl, sym, _∙_}
 use native.Mathlib.Omega.{arith}
 use borrow.Author.Needs.{needs}

@@ -1,7 +1,6 @@
 use Rattle.turns.proofs.Counting.{tallied-head, counts-head, counts-is}
 use Rattle.turns.specs.Usable.{usable-same}
-use Prim.Native.Nat.{suc, _+_, _-_, _<_, _≤_}
-use mathlib.Core.Path.{_≡_, refl, sym, _∙_}
+use Prim.Native.Nat.{_-_}
 use native.Mathlib.Omega.{arith}
 use borrow.Author.Needs.{needs}
 use Rattle.turns.proofs.enter_counts.Statement.{statement}
@@ -45,7 +44,8 @@ post-counts-requires c κs = (
 post-end-requires : tie.Need-post-end-requires
 post-end-requires c κs = usable-same _ _ (counts-head _ _ _ _ _ _ _
     (c .before .before .before .before .before .before .before .tally .ensures) (c .before .before .before .post-counts .ensures))
-    (c .before .before .before .before .before .before .before .before .before .before .before .before .before .before .before .before .before .before .pre .0)
+    (c .before .before .before .before .before .before .before .before .before .before .before .before .before .before .before .before
+    .before .before .pre .0)
 
 same-length : tie.Need-same-length
 same-length c = search needs
@@ -53,7 +53,15 @@ same-length c = search needs
 returns : tie.Need-returns
 returns c =
     counts-is _ _ _ _ _ _ _ _ _
-    (c .before .before .before .before .before .before .before .before .before .before .before .before .before .before .before .before .before .before .level-from .ensures .0) (c .before .before .before .before .before .before .before .before .before .before .before .before .before .before .before .before .level-from2 .ensures .0) (c .before .before .before .before .before .before .before .before .before .before .before .before .before .before .slot-from .ensures .0) (c .before .before .before .before .before .before .before .before .before .before .before .before .slot-from2 .ensures .0) (c .before .before .before .before .before .before .before .before .before .before .tally .ensures) (c .before .before .before .before .before .before .post-counts .ensures) (c .before .before .post-end .ensures)
+    (c .before .before .before .before .before .before .before .before .before .before .before .before .before .before .before .before
+    .before .before .level-from .ensures .0)
+    (c .before .before .before .before .before .before .before .before .before .before .before .before .before .before .before .before
+    .level-from2 .ensures .0)
+    (c .before .before .before .before .before .before .before .before .before .before .before .before .before .before .slot-from
+    .ensures .0)
+    (c .before .before .before .before .before .before .before .before .before .before .before .before .slot-from2 .ensures .0)
+    (c .before .before .before .before .before .before .before .before .before .before .tally .ensures)
+    (c .before .before .before .before .before .before .post-counts .ensures) (c .before .before .post-end .ensures)
 
 pub enter-counts-spec : {M : Type 1} → statement M
 enter-counts-spec =

@@ -1,9 +1,6 @@
 use Rattle.turns.proofs.Starting.{enter-head, enter-is}
 use Rattle.turns.specs.Usable.{usable-same}
-use native.Mathlib.Numerals.{add-one}
-use Prim.Native.Nat.{suc, _+_, _-_, _<_, _≤_}
-use mathlib.Core.Path.{_≡_, refl, sym, _∙_}
-use native.Mathlib.Omega.{arith}
+use Prim.Native.Nat.{_-_}
 use borrow.Author.Needs.{needs}
 use Rattle.turns.proofs.enter_marks.Statement.{statement}
 use Rattle.turns.proofs.enter_marks.Tie as tie
@@ -42,7 +39,10 @@ same-length c = search needs
 returns : tie.Need-returns
 returns c =
     enter-is _ _ _ _ _ _
-    (c .before .before .before .before .before .before .before .before .before .before .before .before .before .before .level-from .ensures .0) (c .before .before .before .before .before .before .before .before .before .before .before .before .level-from2 .ensures .0) (c .before .before .before .before .before .before .before .before .before .before .decide .ensures) (c .before .before .before .before .before .before .post-marks .ensures) _ (c .before .before .post-end .ensures)
+    (c .before .before .before .before .before .before .before .before .before .before .before .before .before .before .level-from .ensures
+    .0) (c .before .before .before .before .before .before .before .before .before .before .before .before .level-from2 .ensures .0)
+    (c .before .before .before .before .before .before .before .before .before .before .decide .ensures)
+    (c .before .before .before .before .before .before .post-marks .ensures) _ (c .before .before .post-end .ensures)
 
 pub enter-marks-spec : {M : Type 1} → statement M
 enter-marks-spec =

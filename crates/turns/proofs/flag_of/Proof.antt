@@ -1,10 +1,6 @@
 use Rattle.turns.proofs.Deciding.{one-true, one-false, flag-red, flag-green, flag-green-child, flag-unmarked, flag-marked}
-use mathlib.Core.Bool.{true, false}
-use borrow.Author.Tests.{not-true, not-false}
-use native.Mathlib.Numerals.{add-one}
-use Prim.Native.Nat.{_+_, _-_, _<_, _≤_}
-use mathlib.Core.Path.{_≡_, refl, sym, _∙_}
-use native.Mathlib.Omega.{arith}
+use Prim.Native.Nat.{_-_}
+use mathlib.Core.Path.{_∙_}
 use borrow.Author.Needs.{needs}
 use Rattle.turns.proofs.flag_of.Statement.{statement}
 use Rattle.turns.proofs.flag_of.Tie as tie

@@ -1,5 +1,4 @@
 use Rattle.turns.proofs.Deciding.{pull-not, pull-is}
-use native.Mathlib.Omega.{arith}
 use borrow.Author.Needs.{needs}
 use Rattle.turns.proofs.is_pull.Statement.{statement}
 use Rattle.turns.proofs.is_pull.Tie as tie

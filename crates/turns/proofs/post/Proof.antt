@@ -1,8 +1,6 @@
 use Rattle.turns.proofs.Posting.{posted-none, posted-full, posted-here}
 use lib.ListN.{length-set}
-use native.Mathlib.Numerals.{add-one}
-use Prim.Native.Nat.{_+_, _-_, _<_, _≤_}
-use mathlib.Core.Path.{_≡_, refl, sym, _∙_}
+use Prim.Native.Nat.{_-_}
 use native.Mathlib.Omega.{arith}
 use borrow.Author.Needs.{needs}
 use Rattle.turns.proofs.post.Statement.{statement}

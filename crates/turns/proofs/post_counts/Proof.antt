@@ -3,7 +3,7 @@ use Rattle.turns.specs.Post.{countOne}
 use Rattle.turns.specs.Usable.{usable-same}
 use Rattle.turns.specs.Loops.{eachFrom, SameHead, head-self, each-again, each-out}
 use native.Mathlib.Numerals.{add-one}
-use Prim.Native.Nat.{suc, _+_, _-_, _<_, _≤_}
+use Prim.Native.Nat.{_-_}
 use mathlib.Core.Path.{_≡_, refl, sym, _∙_}
 use native.Mathlib.Omega.{arith}
 use borrow.Author.Needs.{needs}

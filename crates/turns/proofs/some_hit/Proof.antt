@@ -1,8 +1,8 @@
 use Rattle.turns.proofs.Deciding.{hit-edge}
 use Rattle.turns.specs.Decide.{hitOf}
 use Rattle.turns.specs.Loops.{someFrom, some-here, some-on, some-out}
-use Prim.Native.Nat.{_+_, _-_, _<_}
-use mathlib.Core.Path.{_≡_, refl, sym, _∙_}
+use Prim.Native.Nat.{_-_, _<_}
+use mathlib.Core.Path.{_≡_, sym, _∙_}
 use native.Mathlib.Omega.{arith}
 use native.Mathlib.Numerals.{add-one}
 use borrow.Author.Needs.{needs}

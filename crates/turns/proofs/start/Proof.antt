@@ -1,8 +1,8 @@
 use Rattle.turns.proofs.Starting.{start-short, start-header, start-stage, start-usable, start-marks, start-done, begun-by}
 use lib.ListN.{length-set}
 use borrow.Author.Tests.{not-true, not-false}
-use Prim.Native.Nat.{suc, _+_, _-_, _<_, _≤_}
-use mathlib.Core.Path.{_≡_, refl, sym, _∙_}
+use Prim.Native.Nat.{_-_}
+use mathlib.Core.Path.{refl, sym, _∙_}
 use native.Mathlib.Omega.{arith}
 use borrow.Author.Needs.{needs}
 use Rattle.turns.proofs.start.Statement.{statement}
@@ -88,11 +88,28 @@ slice-write-store c = search needs
 enter-marks-requires : tie.Need-enter-marks-requires
 enter-marks-requires c κs = (
   begun-by
-      (c .before .before .before .before .before .before .before .before .before .before .before .before .before .before .before .before .before .args .store .now) (c .before .before .before .before .before .before .before .before .before .before .before .before .before .before .before .before .before .args .marks .now) _ _ (start-usable (c .before .before .before .before .before .before .before .before .before .before .before .before .before .before .before .before .before .args .store .now) (c .before .before .before .before .before .before .before .before .before .before .before .before .before .before .before .before .before .args .marks .now) (omega arith) (sym (c .before .before .before .before .before .before .before .before .before .before .before .before .header-fits .ensures) ∙ not-false _ (c .before .before .before .before .before .before .before .before .before .before .before .if2 .left))) (c .before .before .before .set-marks .ensures),
+      (c .before .before .before .before .before .before .before .before .before .before .before .before .before .before .before .before
+      .before .args .store .now)
+      (c .before .before .before .before .before .before .before .before .before .before .before .before .before .before .before .before
+      .before .args .marks .now) _ _
+      (start-usable
+      (c .before .before .before .before .before .before .before .before .before .before .before .before .before .before .before .before
+      .before .args .store .now)
+      (c .before .before .before .before .before .before .before .before .before .before .before .before .before .before .before .before
+      .before .args .marks .now) (omega arith)
+      (sym (c .before .before .before .before .before .before .before .before .before .before .before .before .header-fits .ensures)
+      ∙ not-false _ (c .before .before .before .before .before .before .before .before .before .before .before .if2 .left)))
+      (c .before .before .before .set-marks .ensures),
   omega (
     arith,
     (start-usable
-        (c .before .before .before .before .before .before .before .before .before .before .before .before .before .before .before .before .before .args .store .now) (c .before .before .before .before .before .before .before .before .before .before .before .before .before .before .before .before .before .args .marks .now) (omega arith) (sym (c .before .before .before .before .before .before .before .before .before .before .before .before .header-fits .ensures) ∙ not-false _ (c .before .before .before .before .before .before .before .before .before .before .before .if2 .left))) .levels-most,
+        (c .before .before .before .before .before .before .before .before .before .before .before .before .before .before .before .before
+        .before .args .store .now)
+        (c .before .before .before .before .before .before .before .before .before .before .before .before .before .before .before
+        .before .before .args .marks .now) (omega arith)
+        (sym (c .before .before .before .before .before .before .before .before .before .before .before .before .header-fits .ensures)
+        ∙ not-false _ (c .before .before .before .before .before .before .before .before .before .before .before .if2 .left)))
+        .levels-most,
   ),
 )
 
@@ -104,7 +121,19 @@ same-length-4 c = c .before .before .enter-marks .kept .0
 returns-5 : tie.Need-returns-5
 returns-5 c = let s =
     start-done
-    (c .before .before .before .before .before .before .before .before .before .before .before .before .before .before .before .before .before .before .before .before .args .store .now) (c .before .before .before .before .before .before .before .before .before .before .before .before .before .before .before .before .before .before .before .before .args .marks .now) (omega arith) (sym (c .before .before .before .before .before .before .before .before .before .before .before .before .before .before .before .header-fits .ensures) ∙ not-false _ (c .before .before .before .before .before .before .before .before .before .before .before .before .before .before .if2 .left)) (c .before .before .before .before .before .before .before .before .before .before .before .before .if3 .left) _ (c .before .before .before .before .before .before .before .before .before .before .marks-fit .ensures) (not-false _ (c .before .before .before .before .before .before .before .before .before .if4 .left)) _ _ _ (c .before .before .before .before .before .before .set-marks .ensures) refl (c .before .before .enter-marks .ensures) in (s .answer, s .after)
+    (c .before .before .before .before .before .before .before .before .before .before .before .before .before .before .before .before
+    .before .before .before .before .args .store .now)
+    (c .before .before .before .before .before .before .before .before .before .before .before .before .before .before .before .before
+    .before .before .before .before .args .marks .now) (omega arith)
+    (sym
+    (c .before .before .before .before .before .before .before .before .before .before .before .before .before .before .before
+    .header-fits .ensures) ∙ not-false _
+    (c .before .before .before .before .before .before .before .before .before .before .before .before .before .before .if2 .left))
+    (c .before .before .before .before .before .before .before .before .before .before .before .before .if3 .left) _
+    (c .before .before .before .before .before .before .before .before .before .before .marks-fit .ensures)
+    (not-false _ (c .before .before .before .before .before .before .before .before .before .if4 .left)) _ _ _
+    (c .before .before .before .before .before .before .set-marks .ensures) refl (c .before .before .enter-marks .ensures) in
+    (s .answer, s .after)
 
 pub start-spec : {M : Type 1} → statement M
 start-spec =
