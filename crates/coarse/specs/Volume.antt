@@ -2,8 +2,8 @@
 --   Small n z                 the integer z is n or less without its sign
 --   CornerThere ps a               the numbers of ps are positions, and a is one of their corners
 --   CornersThere ps a b c d        the same of four corners
---   edgeVector ps a b i           a coordinateAt of the vector from the corner a to the corner b
---   termOf ps a b c d i j k   the coordinateAt i of the vector to b, times the minor of j and k of the vectors to c and d
+--   edgeVector ps a b i           a coordinate of the vector from the corner a to the corner b
+--   termOf ps a b c d i j k   the coordinate i of the vector to b, times the minor of j and k of the vectors to c and d
 use mathlib.Core.List.{List}
 use Prim.Native.Nat.{ℕ, _+_, _*_, _≤_}
 use lib.IntN.{ℤ, pos, natAbs, _-ℤ_, _*ℤ_}

@@ -30,7 +30,7 @@ struct Face {
     c: u16,
 }
 
-// Refusal 1: how many cornersOfCell and cells.
+// Refusal 1: how many corners and cells.
 fn counts_ok(positions: &[i32], cells: &[u16]) -> bool
     ensures { λ r. ⌜ r ≡ countsb (was positions) (was cells) ⌝ }
 {
@@ -89,7 +89,7 @@ fn cell_at(cells: &[u16], k: usize) -> Cell
     }
 }
 
-// Whether a cell's corner numbers rise, and are of so many cornersOfCell.
+// Whether a cell's corner numbers rise, and are of so many corners.
 fn ascending(q: Cell, count: usize) -> bool
     ensures { λ r. ⌜ r ≡ cellb count (cornersOfCell q) ⌝ }
 {
@@ -117,7 +117,7 @@ fn cells_ok(cells: &[u16], count: usize) -> bool
     true
 }
 
-// A coordinateAt of a corner.
+// A coordinate of a corner.
 fn coordinate_of(positions: &[i32], corner: u16, axis: usize) -> i64
     requires { ⌜ CornerThere (now positions) corner ⌝ }
     requires { ⌜ axis < 3 ⌝ }
@@ -126,7 +126,7 @@ fn coordinate_of(positions: &[i32], corner: u16, axis: usize) -> i64
     positions[3 * corner as usize + axis] as i64
 }
 
-// A coordinateAt of the vector from corner a to corner b.
+// A coordinate of the vector from corner a to corner b.
 fn edge(positions: &[i32], a: u16, b: u16, axis: usize) -> i64
     requires { ⌜ CornerThere (now positions) a ⌝ }
     requires { ⌜ CornerThere (now positions) b ⌝ }
@@ -136,7 +136,7 @@ fn edge(positions: &[i32], a: u16, b: u16, axis: usize) -> i64
     coordinate_of(positions, b, axis) - coordinate_of(positions, a, axis)
 }
 
-// One of the three terms of the determinant: a coordinateAt of the vector to b times a minor of those to c and d.
+// One of the three terms of the determinant: a coordinate of the vector to b times a minor of those to c and d.
 fn term(positions: &[i32], a: u16, b: u16, c: u16, d: u16, i: usize, j: usize, k: usize) -> i64
     requires { ⌜ CornersThere (now positions) a b c d ⌝ }
     requires { ⌜ (i < 3) × (j < 3) × (k < 3) ⌝ }
@@ -213,7 +213,7 @@ fn pair(a: u16, b: u16) -> u32
     a as u32 * 512 + b as u32
 }
 
-// No two cells have the same cornersOfCell.
+// No two cells have the same corners.
 fn cells_differ(cells: &[u16]) -> bool
     requires { ⌜ Ranked (now cells) ⌝ }
     ensures { λ r. ⌜ r ≡ not (twiceb (fours (was cells))) ⌝ }
@@ -316,7 +316,7 @@ fn faces_ok(cells: &[u16]) -> bool
     true
 }
 
-// Refusal 5: no two cells with the same cornersOfCell, no face in three cells.
+// Refusal 5: no two cells with the same corners, no face in three cells.
 fn single(cells: &[u16]) -> bool
     requires { ⌜ Ranked (now cells) ⌝ }
     ensures { λ r. ⌜ r ≡ singleb (fours (was cells)) ⌝ }

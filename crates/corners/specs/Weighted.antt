@@ -1,7 +1,7 @@
 -- Weighted sums of a midpoint and of a coarse corner.
 --   Evens p q   the weights of p and q add to an even number at each place
 -- Laws: weighted-mid (twice the sum of a midpoint is the sum of its ends' sums), half-mid (so it is half of that),
--- weighted-coarse (the sum of a coarse corner is 1,024 times its coordinateAt).
+-- weighted-coarse (the sum of a coarse corner is 1,024 times its coordinate).
 use mathlib.Core.Path.{_≡_, refl, sym, _∙_, ap, ap₂}
 use mathlib.Core.List.{List, [], _∷_, zipWith}
 use Prim.Native.Nat.{ℕ, zero, suc, _+_, _*_, _/_, _%_, _<_}

@@ -84,7 +84,7 @@ fn half_sum(a: i32, b: i32) -> i32
     (a + b) / 2
 }
 
-// 1,024 times coordinateAt k of a coarse corner.
+// 1,024 times coordinate k of a coarse corner.
 fn coarse_sum(positions: &[i32], i: usize, k: usize) -> i32
     requires { ⌜ 3 * i + k < length (now positions) ⌝ }
     requires { ⌜ Smalls 500000 (now positions) ⌝ }

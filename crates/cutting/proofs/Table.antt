@@ -14,7 +14,7 @@ use Rattle.cutting.specs.Rule.{family}
 use Rattle.cutting.specs.Answer.{digitsBelow, digitTable}
 use Rattle.cutting.specs.Rows.{familyRows, row, family-row, family-few, family-fours}
 
--- the familyRows one after the other
+-- the rows one after the other
 unfoldable pub flat : List (List (List ℕ)) → List ℕ
 flat [] = []
 flat (f ∷ fs) = flatten f ++ flat fs

@@ -1,7 +1,7 @@
--- The faces of a family's children by their digits, computed over the 64 familyRows. Corners and faces are counted from 0.
+-- The faces of a family's children by their digits, computed over the 64 rows. Corners and faces are counted from 0.
 --   cornersAt z     the three corners of a cell's face z
 --   lift m k        the point with place k on the face with corners m: its six points are pairs of these corners (first k, second k)
---   digitTriples         the twenty digitTriples of those six places
+--   digitTriples         the twenty triples of those six places
 --   others i        the places but i; without d i  the digits d but the one at place i
 --   usesb f m       some digit of f lies at the corner m, or beside it
 --   holds ds f      how many of the children ds have all digits of f

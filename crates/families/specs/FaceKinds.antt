@@ -32,7 +32,7 @@ pub record Inside (ds : List (List ℕ)) (f : List ℕ) : Type 0 where
 pub record OnSide (ds : List (List ℕ)) (f : List ℕ) : Type 0 where
   pub z : ℕ
   pub face : z < 4
-  -- the triangle, by its number among the digitTriples
+  -- the triangle, by its number among the triples
   pub t : ℕ
   pub below : t < 20
   pub is : f ≡ map (lift (cornersAt z)) (getD digitTriples t [])

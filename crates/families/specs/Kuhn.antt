@@ -9,8 +9,8 @@
 --   Digits f      f are four digits
 --   reds          the family of a red cell
 --   red x m       the red child number m of the cell x, on the lattice twice as fine
---   order m i     which of its parent's three steps the steps-between i of the red child m is
---   SameStep      the steps-between i of the red child m is its parent's steps-between order m i, at the place j
+--   order m i     which of its parent's three steps the step i of the red child m is
+--   SameStep      the step i of the red child m is its parent's step order m i, at the place j
 --   Step x y      x rises to y, by 1 at most
 use mathlib.Core.Path.{_≡_, refl}
 use mathlib.Core.Logic.{_≢_}

@@ -1,7 +1,7 @@
 -- Regular cells level by level: the coarse cells are regular of level 0, and each level hands it on to the next.
 --   IfRegular n k c    c is regular of level k where its table says that it is regular
 --   RedRegular cs ss   only regular cells are red, where ss are the statuses of the cells cs
---   levelCells ls i       the cells of the level i; none above-none the top level (noLevel)
+--   levelCells ls i       the cells of the level i; none above the top level (noLevel)
 use mathlib.Core.Path.{_≡_, refl, sym, _∙_, subst}
 use mathlib.Core.Bool.{Bool, true, false, _&&_}
 use mathlib.Core.List.{List, [], _∷_, map}

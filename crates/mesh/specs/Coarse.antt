@@ -35,7 +35,7 @@ countsb ps ts =
     (eqb (length ps % 3) 0 && eqb (length ts % 4) 0)
     && ((leb 4 (cornerCount ps) && leb (cornerCount ps) mostCoarseCorners) && (leb 1 (cellCount ts) && leb (cellCount ts) mostCoarseCells))
 
--- Rule 1.3: every coordinateAt within 500,000 of 0.
+-- Rule 1.3: every coordinate within 500,000 of 0.
 unfoldable pub positionsb : List ℤ → Bool
 unfolding allb
 positionsb ps = allb (λ z. leb (natAbs z) 500000) ps
@@ -49,7 +49,7 @@ unfoldable pub cellsb : ℕ → List (List ℕ) → Bool
 unfolding allb cellb
 cellsb n qs = allb (cellb n) qs
 
--- Rule 1.1: coordinateAt k of corner i.
+-- Rule 1.1: coordinate k of corner i.
 unfoldable pub coordinateAt : List ℤ → ℕ → ℕ → ℤ
 coordinateAt ps i k = getD ps (3 * i + k) (pos 0)
 

@@ -7,7 +7,7 @@
 --   addCorner ks e       the list with the midpoint of the edge e behind it, where it is not in it
 --   cornersOf n cs ss    the corners of a table with cells cs, in the order of their numbers
 --   rowOf ks c           the row of the cell c: level, parent, child number, 1 where it is regular, four corner numbers
---   weightedSum ps k p   the weighted whole sum of coordinateAt k
+--   weightedSum ps k p   the weighted whole sum of coordinate k
 --   cellTable, endTable, sumTable   what the lent tables of a layout hold: rows of eight, two, three numbers
 use mathlib.Core.Bool.{true, false}
 use mathlib.Core.List.{List, [], _∷_, _++_, map, flatMap}

@@ -1,7 +1,7 @@
 -- Numbers of 32 bits with a sign, made from their bits or raised by 2 ^ 31, stay in range.
---   minus-fits       -1 less a number minus-fits 2 ^ 31 is an i32
+--   minus-fits       -1 less a number below 2 ^ 31 is an i32
 --   wider       an i32 is an i64
---   Raised z    z is a number minus-fits 2 ^ 32
+--   Raised z    z is a number below 2 ^ 32
 --   raised      an i32 and 2 ^ 31 make such a number
 --   raised-above  it is how far the number lies above the least i32
 --   wide-fits, sum-fits, sum-is   the same of the bits that the program holds

@@ -1,4 +1,4 @@
--- `corners::coarse_sum` meets its contract: the number read is the corner's coordinateAt, and it is small.
+-- `corners::coarse_sum` meets its contract: the number read is the corner's coordinate, and it is small.
 -- Assumes nothing.
 use mathlib.Core.Path.{_∙_}
 use Prim.Native.Nat.{_+_, _*_}

@@ -1,4 +1,4 @@
--- `keys::add` meets its contract: the entry is stored behind the others, and becomes the last one of its bucket.
+-- `pairs::add` meets its contract: the entry is stored behind the others, and becomes the last one of its bucket.
 -- Assumes nothing.
 use borrow.Author.Needs.{needs}
 use Rattle.pairs.proofs.More.{added-at}

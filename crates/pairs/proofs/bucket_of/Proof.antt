@@ -1,4 +1,4 @@
--- `keys::bucket_of` meets its contract: it is computed as the definition says, and a remainder is less than its divisor.
+-- `pairs::bucket_of` meets its contract: it is computed as the definition says, and a remainder is less than its divisor.
 -- Assumes nothing.
 use mathlib.Core.Path.{refl}
 use native.Mathlib.Omega.{arith}

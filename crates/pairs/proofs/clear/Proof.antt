@@ -1,4 +1,4 @@
--- `keys::clear` meets its contract: the heads passed are 65535. The measure is what is left of the 4096.
+-- `pairs::clear` meets its contract: the heads passed are 65535. The measure is what is left of the 4096.
 -- Assumes nothing.
 use mathlib.Core.Path.{_≡_}
 use mathlib.Core.List.{_++_}

@@ -1,4 +1,4 @@
--- `keys::find` meets its contract. The invariant: what the chain has passed is not the pair. The measure is the entry, counted
+-- `pairs::find` meets its contract. The invariant: what the chain has passed is not the pair. The measure is the entry, counted
 -- so that no entry comes last.
 -- Assumes nothing.
 use mathlib.Core.Path.{sym}

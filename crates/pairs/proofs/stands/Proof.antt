@@ -1,4 +1,4 @@
--- `keys::stands` meets its contract: the two comparisons are those of the definition.
+-- `pairs::stands` meets its contract: the two comparisons are those of the definition.
 -- Assumes nothing.
 use borrow.Author.Tests.{eq-eqb, ne-eqb}
 use borrow.Author.Needs.{needs}

@@ -1,4 +1,4 @@
--- `trial::input::signed` is safe: -1 less a number minus-fits 2 ^ 31 is an i32. Assumes nothing.
+-- `trial::input::signed` is safe: -1 less a number below 2 ^ 31 is an i32. Assumes nothing.
 use Prim.Native.Nat.{_-_}
 use borrow.Author.Needs.{needs}
 use native.Mathlib.Omega.{arith}
