@@ -1,4 +1,4 @@
--- `climbing::climb` meets its contract: a parent comes before its children, so that the cell's number falls with each turn. The
+-- `ancestors::climb` meets its contract: a parent comes before its children, so that the cell's number falls with each turn. The
 -- measure is that number.
 -- Assumes nothing.
 use Prim.Native.Nat.{_+_, _*_, _-_}

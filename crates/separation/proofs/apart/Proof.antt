@@ -1,4 +1,4 @@
--- `apart::apart` meets its contract: the cells that are left decide as all do. The measure is their number.
+-- `separation::apart` meets its contract: the cells that are left decide as all do. The measure is their number.
 -- Assumes nothing.
 use mathlib.Core.Path.{_≡_, sym, _∙_}
 use Prim.Native.Nat.{_*_, _-_, _≤_, _<_}

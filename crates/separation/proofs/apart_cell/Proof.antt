@@ -1,4 +1,4 @@
--- `apart::apart_cell` meets its contract: the edges that are left decide as all six do. The measure is their number.
+-- `separation::apart_cell` meets its contract: the edges that are left decide as all six do. The measure is their number.
 -- Assumes nothing.
 use mathlib.Core.Path.{_≡_, refl, sym, _∙_}
 use mathlib.Core.Bool.{false}

@@ -1,4 +1,4 @@
--- `apart::apart_edge` meets its contract: an edge that no red cell holds is apart, and so is the parent's own.
+-- `separation::apart_edge` meets its contract: an edge that no red cell holds is apart, and so is the parent's own.
 -- Assumes nothing.
 use borrow.Author.Tests.{not-true, not-false}
 use Rattle.mesh.specs.Cells.{edges, edge}

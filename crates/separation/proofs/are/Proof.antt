@@ -1,4 +1,4 @@
--- `apart::are` meets its contract.
+-- `separation::are` meets its contract.
 -- Assumes nothing.
 use borrow.Author.Tests.{eq-eqb, ne-eqb}
 use Rattle.separation.proofs.are.Statement.{statement}

@@ -1,4 +1,4 @@
--- `apart::has_edge` meets its contract: the edges that are left decide as all six do. The measure is their number.
+-- `separation::has_edge` meets its contract: the edges that are left decide as all six do. The measure is their number.
 -- Assumes nothing.
 use mathlib.Core.Path.{_≡_, refl, sym, _∙_, ap}
 use mathlib.Core.Bool.{true, false}

@@ -1,4 +1,4 @@
--- `apart::joins` meets its contract: straight, or crossed.
+-- `separation::joins` meets its contract: straight, or crossed.
 -- Assumes nothing.
 use mathlib.Core.Path.{sym, _∙_}
 use Rattle.mesh.specs.Cells.{joinsb}
