@@ -1,20 +1,17 @@
 -- The size of a sum, a product and a half; a small number fits an i32.
 -- Assumes nothing.
-use mathlib.Core.Path.{_≡_, refl}
-use Prim.Native.Nat.{ℕ, zero, suc, _+_, _-_, _*_, _/_, _^_, _<_}
+use mathlib.Core.Path.{_≡_}
+use Prim.Native.Nat.{ℕ, suc, _+_, _-_, _*_, _/_, _^_, _<_}
 use native.Mathlib.Omega.{arith}
 use lib.Dec.{lit<}
-use lib.IntN.{ℤ, pos, negsuc, natAbs, negℤ, _+ℤ_, _*ℤ_}
+use lib.IntN.{ℤ, pos, negsuc, _+ℤ_, _*ℤ_}
 use lib.Signed.{mag}
 use mir.Syntax.{w32}
 use mir.Val.{SFits, toZ, ofZ}
 use mir.Facts.{toZ-ofZ}
 use Rattle.corners.specs.Sums.{SmallSum, half}
 use Rattle.base.specs.Integers.{add-size}
-
-neg-size : (n : ℕ) → natAbs (negℤ (pos n)) ≡ n
-neg-size zero = refl
-neg-size (suc n) = refl
+use Rattle.corners.specs.Sizes.{neg-size}
 
 pub small-add : {m n : ℕ} {x y : ℤ} → SmallSum m x → SmallSum n y → SmallSum (m + n) (x +ℤ y)
 small-add {x = x} {y = y} p q = record { size = omega (arith, add-size x y, p .size, q .size) }

@@ -13,7 +13,7 @@ use Rattle.mesh.specs.Layout.{weightedFrom, weightedSum}
 use Rattle.lattice.specs.Tails.{sum}
 use Rattle.corners.specs.Sums.{Smalls}
 
-neg-size : (n : ℕ) → natAbs (negℤ (pos n)) ≡ n
+pub neg-size : (n : ℕ) → natAbs (negℤ (pos n)) ≡ n
 neg-size zero = refl
 neg-size (suc n) = refl
 

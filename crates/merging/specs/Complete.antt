@@ -13,7 +13,7 @@ use lib.Dec.{T, eqb}
 use lib.ListN.{length, getD, take, drop, length-map}
 use borrow.Author.Tests.{eq-eqb}
 use Rattle.base.specs.Lists.{allb, anyb, filterb, sameb}
-use Rattle.base.specs.Bools.{and-left, and-right, not-both, and-both}
+use Rattle.base.specs.Bools.{and-left, and-right, not-both, and-both, or-first, or-second}
 use Rattle.base.specs.Places.{sameb-self}
 use Rattle.base.specs.Range.{range}
 use Rattle.mesh.specs.Cells.{Cell, noCell}
@@ -25,7 +25,6 @@ use Rattle.lineage.specs.Paths.{pathAt}
 use Rattle.soundness.specs.Held.{closed-length}
 use Rattle.soundness.specs.Sound.{Sound, lv}
 use Rattle.soundness.specs.Whole.{spot-at, spot-with}
-use Rattle.rounds.specs.Tests.{or-left, or-right}
 use Rattle.parts.specs.Held.{Entry}
 use Rattle.parts.specs.Merge.{lookup, childPaths, merged, masters, filledb, completeb}
 use Rattle.splitting.specs.Paths.{one-place}
@@ -218,9 +217,9 @@ mastered (f ∷ es) e m g = go (f .ghost) refl (mastered es e)
         (λ (z : List·Memᴰ e es). r z g) (List·Memᴰ·cases-cons m))
     go false q r =
         rw (q, masters, filterb) (⊎-elim
-        (λ (z : e ≡ f). or-left (sameb (f .path) (e .path)) (anyb (λ f. sameb (f .path) (e .path)) (masters es))
+        (λ (z : e ≡ f). or-first (sameb (f .path) (e .path)) (anyb (λ f. sameb (f .path) (e .path)) (masters es))
         (subst (λ (x : Entry). T (sameb (x .path) (e .path))) z (rw (sameb-self (e .path)) tt)))
-        (λ (z : List·Memᴰ e es). or-right (sameb (f .path) (e .path)) (anyb (λ f. sameb (f .path) (e .path)) (masters es)) (r z g))
+        (λ (z : List·Memᴰ e es). or-second (sameb (f .path) (e .path)) (anyb (λ f. sameb (f .path) (e .path)) (masters es)) (r z g))
         (List·Memᴰ·cases-cons m))
 
 pub complete-is : (n : ℕ) (qs : List (List ℕ)) (ss : List ℕ) (es : List Entry) → Sound n qs ss → Covers n qs ss es → NoDup (masterPaths es)

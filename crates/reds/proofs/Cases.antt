@@ -20,7 +20,8 @@ use Rattle.mesh.specs.Cells.{edges, heldb, bitsOf}
 use Rattle.edges.specs.Pairs.{Pair, sorted, isb}
 use Rattle.rows.specs.Numbered.{cellAt}
 use Rattle.closure.specs.Ready.{listedPattern}
-use Rattle.reds.specs.Flags.{range, kidsOf, idleb, touchedb, pulledb, redAtb}
+use Rattle.reds.specs.Flags.{kidsOf, idleb, touchedb, pulledb, redAtb}
+use Rattle.base.specs.Range.{range}
 
 -- no bit
 double : (x : ℕ) → eqb (0 + 2 * x) 0 ≡ eqb x 0

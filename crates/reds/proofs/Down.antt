@@ -26,11 +26,12 @@ use Rattle.numbering.specs.Renamed.{red-edges-in}
 use Rattle.numbering.specs.Tests.{numberedCells, edgeIn, EndsPlaced, red-edges-numbers}
 use Rattle.tables.specs.Cells.{red-strip}
 use Rattle.lineage.specs.Olds.{flagOf, flagsOf, flags, firstChild}
-use Rattle.reds.specs.Flags.{range, kidsOf, redAtb, flagsAt, redsUp, flagsUp}
+use Rattle.reds.specs.Flags.{kidsOf, redAtb, flagsAt, redsUp, flagsUp}
 use Rattle.reds.specs.Firsts.{first-up, Firsts, firsts-top, firsts-up}
 use Rattle.reds.proofs.Tests.{rowAt, Seen, all-range, red-row}
 use Rattle.reds.proofs.Levels.{Stands, rows-range, cells-of-rows, placed-range, cells-range, up-end, kids-range}
 use Rattle.lineage.specs.Flags.{flag-red}
+use Rattle.base.specs.Range.{range}
 
 pub filter-red : (f : Row → Bool) (rs : List Row) → flatMap (λ r. edges [] (r .cell)) (filterb f rs) ≡ redEdges [] (map (λ r. r .cell) rs)
     (map (λ r. flagOf (f r)) rs)

@@ -23,12 +23,13 @@ use Rattle.numbering.specs.Tests.{numberedCells, Placed}
 use Rattle.rows.specs.Many.{next-size}
 use Rattle.tables.specs.Cells.{strip}
 use Rattle.lineage.specs.Olds.{firstChild}
-use Rattle.reds.specs.Flags.{range, kidsOf}
+use Rattle.reds.specs.Flags.{kidsOf}
 use Rattle.reds.specs.Ranges.{Blocks, blocks, filter-map}
 use Rattle.reds.specs.Born.{born}
 use Rattle.reds.specs.Firsts.{first-add, first-next, first-up, Firsts}
 use Rattle.reds.proofs.Tests.{rowAt, Seen}
 use Rattle.rows.specs.Laws.{cells-cons}
+use Rattle.base.specs.Range.{range}
 
 abbrev pub Stands : List (Cell Point) → ℕ → List (Cell Point) → List (Cell Point) → Type 0
 Stands cs k ds es = drop k cs ≡ ds ++ es

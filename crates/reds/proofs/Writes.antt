@@ -12,8 +12,9 @@ use lib.ListN.{length, getD, take, drop, set, length-append, length-map, take-ap
 use lib.Seq.{drop-cons, set-at, drop-at, take-take, take-append-le, length-take-le}
 use Rattle.edges.specs.Pairs.{Pair}
 use Rattle.lineage.specs.Olds.{firstChild, flagOf}
-use Rattle.reds.specs.Flags.{range, redAtb, flagsAt}
-use Rattle.reds.specs.Ranges.{length-range, range-snoc}
+use Rattle.reds.specs.Flags.{redAtb, flagsAt}
+use Rattle.reds.specs.Ranges.{range-snoc}
+use Rattle.base.specs.Range.{range, length-range}
 
 -- one number more behind those that are written
 pub written-more : (l p out : List ℕ) (n v : ℕ) → out ≡ p ++ drop n l → length p ≡ n → n < length l

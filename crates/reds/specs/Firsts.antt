@@ -5,7 +5,7 @@
 -- Assumes nothing.
 use mathlib.Core.Path.{_≡_, sym, _∙_, ap}
 use mathlib.Core.List.{List, _++_}
-use Prim.Native.Nat.{ℕ, zero, suc, _+_, _-_, _≤_, _<_}
+use Prim.Native.Nat.{ℕ, suc, _+_, _-_, _≤_, _<_}
 use native.Mathlib.Nat.{zero-add}
 use native.Mathlib.Omega.{arith}
 use lib.ListN.{length, getD, take, drop, length-take, length-map}
@@ -13,10 +13,10 @@ use lib.Seq.{take-add, getD-take, take-at}
 use Rattle.mesh.specs.Table.{sizeOf, sizes}
 use Rattle.base.specs.Every.{getD-map}
 use Rattle.lineage.specs.Olds.{firstChild}
-use Rattle.reds.specs.Flags.{range, firstChildren}
-use Rattle.reds.specs.Ranges.{length-range}
+use Rattle.reds.specs.Flags.{firstChildren}
 use Rattle.reds.specs.Born.{sizes-next}
 use Rattle.mesh.specs.Laws.{sizes-append}
+use Rattle.base.specs.Range.{range, length-range, range-at}
 
 module _ (m : ℕ) (ss : List ℕ) where
   pub first-add : (a b : ℕ) → firstChild m ss (a + b) ≡ firstChild m ss a + sizes (take b (drop a ss))
@@ -34,12 +34,6 @@ module _ (m : ℕ) (ss : List ℕ) where
   unfolding firstChild sizes
   first-start = omega arith
 
-getD-range : (k m i d : ℕ) → i < m → getD (range k m) i d ≡ k + i
-unfolding range
-getD-range k zero i d h = absurd (omega arith)
-getD-range k (suc m) zero d h = omega arith
-getD-range k (suc m) (suc i) d h = getD-range (suc k) m i d (omega arith) ∙ omega arith
-
 pub record Firsts (m : ℕ) (ss ks : List ℕ) : Type 0 where
   pub at : (c : ℕ) → c ≤ length ss → getD ks c 0 ≡ firstChild m ss c
   pub whole : firstChild m ss (length ss) ≡ length ss
@@ -50,7 +44,7 @@ module _ (m : ℕ) (ss ks : List ℕ) where
   first-at e c h =
       sym (getD-take (suc (length ss)) ks c 0 (omega arith)) ∙ ap (λ (l : List ℕ). getD l c 0) e
       ∙ getD-map (firstChild m ss) (range 0 (suc (length ss))) c 0 0 (rw (length-range 0 (suc (length ss))) (omega arith))
-      ∙ ap (firstChild m ss) (getD-range 0 (suc (length ss)) c 0 (omega arith) ∙ zero-add c)
+      ∙ ap (firstChild m ss) (range-at 0 (suc (length ss)) c 0 (omega arith) ∙ zero-add c)
 
   -- what first_children leaves
   pub firsts-taken : (rest : List ℕ) → ks ≡ firstChildren m ss ++ rest → take (suc (length ss)) ks ≡ firstChildren m ss

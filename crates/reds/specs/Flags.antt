@@ -1,6 +1,5 @@
 -- Which cells of an old table will be red, over corner numbers: t are the rows of the cells, ss their statuses, ms their marks,
 -- and ks the numbers of their first children.
---   range k m               the m numbers from k on
 --   firstChildren m ss      the number of the first child of each cell, in a table ss over m coarse cells, and the count of all cells
 --   kidsOf ks k             the numbers of the children of the cell k
 --   listedb xs ys from n    the test whether an edge is listed
@@ -12,7 +11,7 @@
 --   redsUp h first last     the edges of the new red cells of the level from first to last, where h levels are looked at
 --   flagsUp h first last    the flags of the cells of h levels from this one on
 use mathlib.Core.Bool.{Bool, true, false, _&&_, _||_, not}
-use mathlib.Core.List.{List, [], _∷_, _++_, map}
+use mathlib.Core.List.{List, [], _++_, map}
 use Prim.Native.Nat.{ℕ, zero, suc, _-_}
 use lib.Dec.{eqb}
 use lib.ListN.{length, getD}
@@ -23,10 +22,7 @@ use Rattle.edges.specs.Pairs.{Pair, sorted, isb}
 use Rattle.edges.specs.Table.{listed}
 use Rattle.rows.specs.Numbered.{cellAt, cellsAt}
 use Rattle.lineage.specs.Olds.{flagOf, firstChild}
-
-unfoldable pub range : ℕ → ℕ → List ℕ
-range k zero = []
-range k (suc m) = k ∷ range (suc k) m
+use Rattle.base.specs.Range.{range}
 
 -- Rule 3.2: where each family begins.
 unfoldable pub firstChildren : ℕ → List ℕ → List ℕ

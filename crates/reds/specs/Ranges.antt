@@ -12,15 +12,9 @@ use Prim.Native.Nat.{ℕ, zero, suc, _+_, _-_, _≤_, _<_}
 use native.Mathlib.Nat.{eq-or-lt-of-le}
 use native.Mathlib.Omega.{arith}
 use lib.Dec.{eqb}
-use lib.ListN.{length}
 use borrow.Author.Tests.{eq-eqb, ne-eqb}
 use Rattle.base.specs.Lists.{allb, anyb, filterb}
-use Rattle.reds.specs.Flags.{range}
-
-pub length-range : (k m : ℕ) → length (range k m) ≡ m
-unfolding range
-length-range k zero = refl
-length-range k (suc m) = ap suc (length-range (suc k) m)
+use Rattle.base.specs.Range.{range}
 
 pub range-append : (k m n : ℕ) → range k (m + n) ≡ range k m ++ range (k + m) n
 unfolding range

@@ -11,8 +11,9 @@ ghost use Rattle.base.specs.Lent.{was, is};
 ghost use Rattle.edges.specs.Table.{Table};
 ghost use Rattle.closure.specs.Ready.{Looks};
 ghost use Rattle.lineage.specs.Olds.{flagOf, flagTable};
-ghost use Rattle.reds.specs.Flags.{range, firstChildren, listedb, idleb, touchedb, redAtb, flagsAt, pulledb};
+ghost use Rattle.reds.specs.Flags.{firstChildren, listedb, idleb, touchedb, redAtb, flagsAt, pulledb};
 ghost use Rattle.reds.specs.Old.{Old, Span, OneLevel, Above, Marked};
+ghost use Rattle.base.specs.Range.{range};
 
 // The number of the first child of each cell, and behind them the count of all cells.
 pub fn first_children(status: &[u8], coarse: usize, kids: &mut [u16])

@@ -11,19 +11,19 @@ use native.Mathlib.Omega.{arith}
 use lib.Dec.{T}
 use Rattle.base.specs.Lists.{anyb}
 use Rattle.exchange.specs.Finite.{Finite, sumOver}
-use Rattle.rounds.specs.Tests.{or-cases, or-left, or-right}
 use Rattle.rounds.specs.Rounds.{is, capped, largest}
+use Rattle.base.specs.Bools.{or-first, or-second, or-either}
 
 module _ {Part : Type 0} where
   pub any-part : (f : Part → Bool) (l : List Part) → T (anyb f l) → (q : Part) × T (f q)
   unfolding anyb
   any-part f [] t = absurd t
-  any-part f (q ∷ l) t = ⊎-elim (λ (u : T (f q)). (q, u)) (λ (u : T (anyb f l)). any-part f l u) (or-cases (f q) (anyb f l) t)
+  any-part f (q ∷ l) t = ⊎-elim (λ (u : T (f q)). (q, u)) (λ (u : T (anyb f l)). any-part f l u) (or-either (f q) (anyb f l) t)
 
   pub part-any : (f : Part → Bool) (l : List Part) (q : Part) → List·Memᴰ q l → T (f q) → T (anyb f l)
   unfolding anyb
-  part-any f l q (List·Memᴰ·head {x = x} {xs = xs} e) t = or-left (f x) (anyb f xs) (subst (λ y. T (f y)) e t)
-  part-any f l q (List·Memᴰ·tail {x = x} {xs = xs} m) t = or-right (f x) (anyb f xs) (part-any f xs q m t)
+  part-any f l q (List·Memᴰ·head {x = x} {xs = xs} e) t = or-first (f x) (anyb f xs) (subst (λ y. T (f y)) e t)
+  part-any f l q (List·Memᴰ·tail {x = x} {xs = xs} m) t = or-second (f x) (anyb f xs) (part-any f xs q m t)
 
   pub sum-part : (f : Part → ℕ) (l : List Part) → sumOver f l ≢ 0 → (q : Part) × (f q ≢ 0)
   unfolding sumOver

@@ -7,7 +7,7 @@
 use mathlib.Core.Path.{_≡_, refl, sym, _∙_, ap, ap₂, subst}
 use mathlib.Core.Logic.{_≢_, _⊎_, ⊎-elim}
 use mathlib.Core.Bool.{Bool, true, false, _&&_, _||_, not, or-false}
-use Rattle.base.specs.Bools.{not-both, is-true, is-false, and-left, and-right}
+use Rattle.base.specs.Bools.{not-both, is-true, is-false, and-left, and-right, and-both, or-first, or-second, or-either}
 use mathlib.Core.List.{List, [], _∷_, _++_, map}
 use Prim.Native.Nat.{ℕ, suc, _+_, _-_, _≤_, _<_}
 use native.Mathlib.Decide.{ℕ-discrete}
@@ -17,12 +17,9 @@ use lib.ListN.{length}
 use borrow.Author.Tests.{eq-eqb, ne-eqb, eqb-false, lt-ltb}
 use Rattle.base.specs.Lists.{anyb, filterb, memberb}
 use Rattle.exchange.specs.Finite.{Finite, sumOver}
-use Rattle.rounds.specs.Tests.{Member, same-test, or-cases, or-left, or-right, and-make, member-head, member-tail, member-cases}
-use Rattle.rounds.specs.Tests.{any-member, member-any, filtered-member, member-filtered, filter-agree}
+use Rattle.rounds.specs.Tests.{Member, same-test, member-head, member-tail, member-cases, any-member, member-any, filtered-member, member-filtered, filter-agree}
 use Rattle.rounds.specs.Task.{Task, Fit, six, has, rule, redAt, hitAt, rule-same}
-use Rattle.rounds.specs.Rounds.{Body, mark, count, end, Phase, marks, counts, State, tells, worth, is, mine, holdsb, decides, tally}
-use Rattle.rounds.specs.Rounds.{told, added, starting, ghostMarks, edgeCounts, says, writing, redTold, sumTold, redDown, sized}
-use Rattle.rounds.specs.Rounds.{taking}
+use Rattle.rounds.specs.Rounds.{Body, mark, count, end, Phase, marks, counts, State, tells, worth, is, mine, holdsb, decides, tally, told, added, starting, ghostMarks, edgeCounts, says, writing, redTold, sumTold, redDown, sized, taking}
 use Rattle.rounds.specs.Among.{any-part, part-any, sum-part, part-sum, is-self, is-eq, is-same}
 
 -- a list of bodies that a rule makes of numbers
@@ -33,14 +30,14 @@ module _ (f : ℕ → Body) where
   told-from c (y ∷ l) t =
       ⊎-elim (λ (u : T (tells c (f y))). (y, member-head y l, u))
       (λ (u : T (anyb (tells c) (map f l ++ (end ∷ [])))). let (x, m, v) = told-from c l u in (x, member-tail x y l m, v))
-      (or-cases (tells c (f y)) (anyb (tells c) (map f l ++ (end ∷ []))) t)
+      (or-either (tells c (f y)) (anyb (tells c) (map f l ++ (end ∷ []))) t)
 
   told-by : (c : ℕ) (l : List ℕ) (x : ℕ) → Member x l → T (tells c (f x)) → T (anyb (tells c) (map f l ++ (end ∷ [])))
   unfolding anyb memberb
   told-by c [] x m t = absurd m
   told-by c (y ∷ l) x m t =
-      ⊎-elim (λ (e : x ≡ y). or-left (tells c (f y)) (anyb (tells c) (map f l ++ (end ∷ []))) (rw e at t))
-      (λ (n : Member x l). or-right (tells c (f y)) (anyb (tells c) (map f l ++ (end ∷ []))) (told-by c l x n t)) (member-cases x y l m)
+      ⊎-elim (λ (e : x ≡ y). or-first (tells c (f y)) (anyb (tells c) (map f l ++ (end ∷ []))) (rw e at t))
+      (λ (n : Member x l). or-second (tells c (f y)) (anyb (tells c) (map f l ++ (end ∷ []))) (told-by c l x n t)) (member-cases x y l m)
 
 module _ {Part : Type 0} (F : Finite Part) (J : Task Part) where
   worth-from : (f : ℕ → Body) (z : ℕ) (l : List ℕ) → sumOver (worth z) (map f l ++ (end ∷ [])) ≢ 0 → (x : ℕ) × Member x l
@@ -103,12 +100,12 @@ module _ {Part : Type 0} (F : Finite Part) (J : Task Part) where
   tally-by p red k x c m o r h =
       let f : ℕ → Bool = λ c. is F (J .owner c) p && (red c && has J c x) in
       some-length (filterb f (J .cells k)) c
-      (member-filtered f (J .cells k) c m (and-make (is F (J .owner c) p) (red c
-      && has J c x) (rw (is-same F (J .owner c) p o) tt) (and-make (red c) (has J c x) r h)))
+      (member-filtered f (J .cells k) c m (and-both (is F (J .owner c) p) (red c
+      && has J c x) (rw (is-same F (J .owner c) p o) tt) (and-both (red c) (has J c x) r h)))
 
   pub holds-by : (p : Part) (k x c : ℕ) → Member c (J .cells k) → T (mine F J p c) → T (has J c x) → T (holdsb F J p k x)
   unfolding holdsb
-  holds-by p k x c m o h = member-any (λ c. mine F J p c && has J c x) (J .cells k) c m (and-make (mine F J p c) (has J c x) o h)
+  holds-by p k x c m o h = member-any (λ c. mine F J p c && has J c x) (J .cells k) c m (and-both (mine F J p c) (has J c x) o h)
 
   -- the tally of a slot of another level
   module _ (fit : Fit J) where
@@ -165,11 +162,11 @@ module _ {Part : Type 0} (F : Finite Part) (J : Task Part) where
           let q = J .family c in
           let f : ℕ → Bool = λ c. is F (J .family c) q && is F (J .owner c) p in
           let n : Member c (filterb f (J .cells k)) =
-          member-filtered f (J .cells k) c m (and-make (is F (J .family c) q) (is F (J .owner c) p) (rw (is-self F q) tt)
+          member-filtered f (J .cells k) c m (and-both (is F (J .family c) q) (is F (J .owner c) p) (rw (is-self F q) tt)
           (rw (is-same F (J .owner c) p o) tt)) in
           let u : T (anyb (tells c) (map (λ c. mark c (st q .red c)) (filterb f (J .cells k)) ++ (end ∷ []))) =
           told-by (λ c. mark c (st q .red c)) c (filterb f (J .cells k)) c n
-          (and-make (eqb c c) (st q .red c) (rw (eq-eqb c c refl) tt) r) in
+          (and-both (eqb c c) (st q .red c) (rw (eq-eqb c c refl) tt) r) in
           part-any (λ q. anyb (tells c) (from (marks i) st p q)) (F .list) q (F .all q) (rw (other-writes (marks i) q p (st q) e) u)
 
     worth-same : (x y n : ℕ) → worth x (count y n) ≢ 0 → x ≡ y
@@ -208,8 +205,8 @@ module _ {Part : Type 0} (F : Finite Part) (J : Task Part) where
           let f : ℕ → Bool = λ x. holdsb F J q (J .top - i) x && (holdsb F J p (J .top - i) x && not (eqb (st q .own x) 0)) in
           let n : Member x (filterb f (J .slots (J .top - i))) =
           member-filtered f (J .slots (J .top - i)) x m
-          (and-make (holdsb F J q (J .top - i) x) (holdsb F J p (J .top - i) x && not (eqb (st q .own x) 0)) a
-          (and-make (holdsb F J p (J .top - i) x) (not (eqb (st q .own x) 0)) b (rw (ne-eqb (st q .own x) 0 o) tt))) in
+          (and-both (holdsb F J q (J .top - i) x) (holdsb F J p (J .top - i) x && not (eqb (st q .own x) 0)) a
+          (and-both (holdsb F J p (J .top - i) x) (not (eqb (st q .own x) 0)) b (rw (ne-eqb (st q .own x) 0 o) tt))) in
           let u : sumOver (worth x) (map (λ x. count x (st q .own x)) (filterb f (J .slots (J .top - i))) ++ (end ∷ [])) ≢ 0 =
           worth-by (λ x. count x (st q .own x)) x (filterb f (J .slots (J .top - i))) x n (λ w. o (rw (eq-eqb x x refl, worth) at w)) in
           part-sum (λ q. sumOver (worth x) (from (counts i) st p q)) (F .list) q (F .all q)
@@ -344,7 +341,7 @@ module _ {Part : Type 0} (F : Finite Part) (J : Task Part) (ms : ℕ → ℕ) wh
           go false e =
               let own : J .owner c ≡ p = is-eq F (J .owner c) p
               (⊎-elim (λ (t : T (is F (J .owner c) p)). t) (λ (t : T (is F (J .family c) p)). absurd (rw e at t))
-              (or-cases (is F (J .owner c) p) (is F (J .family c) p) o)) in
+              (or-either (is F (J .owner c) p) (is F (J .family c) p) o)) in
               let q = J .family c in
               let there : st q .red c ≡ redAt J ms i c = w q .here c m ∙ ap (λ (b : Bool). b && redAt J ms i c) (is-self F q) in
               ap (λ (b : Bool). b || told F tellsMe c) (w p .here c m ∙ ap (λ (b : Bool). b && redAt J ms i c) e)
@@ -371,7 +368,7 @@ module _ {Part : Type 0} (F : Finite Part) (J : Task Part) (ms : ℕ → ℕ) wh
         where
           go : (c : ℕ) → Member c (J .cells (J .top - i)) → (b : Bool) → is F (J .owner c) p ≡ b
               → (b && (redTold F (st p) tellsMe c && has J c x)) ≡ (b && (redAt J ms i c && has J c x))
-          go c m true e = ap (λ (r : Bool). r && has J c x) (red-told c m (or-left (is F (J .owner c) p) (is F (J .family c) p) (rw e tt)))
+          go c m true e = ap (λ (r : Bool). r && has J c x) (red-told c m (or-first (is F (J .owner c) p) (is F (J .family c) p) (rw e tt)))
           go c m false e = refl
 
       pub marks-known : (grown : Part → State → ℕ × ℕ) → Counting i p (taking F J grown (marks i) p (st p) tellsMe)
@@ -396,13 +393,13 @@ module _ {Part : Type 0} (F : Finite Part) (J : Task Part) (ms : ℕ → ℕ) wh
                 let (c, a, b, d, e) = tally-from F J p (redTold F (st p) tellsMe) (J .top - i) x (λ y. n (omega arith)) in (
                   c,
                   a,
-                  rw (red-told c a (or-left (is F (J .owner c) p) (is F (J .family c) p) (rw (is-same F (J .owner c) p b) tt))) at d,
+                  rw (red-told c a (or-first (is F (J .owner c) p) (is F (J .family c) p) (rw (is-same F (J .owner c) p b) tt))) at d,
                   e,
                 );
             own-by = λ x c m o r t.
                 let y : tally F J p (redTold F (st p) tellsMe) (J .top - i) x ≢ 0 =
                 tally-by F J p (redTold F (st p) tellsMe) (J .top - i) x c m o
-                (rw (red-told c m (or-left (is F (J .owner c) p) (is F (J .family c) p) (rw (is-same F (J .owner c) p o) tt))) r) t in
+                (rw (red-told c m (or-first (is F (J .owner c) p) (is F (J .family c) p) (rw (is-same F (J .owner c) p o) tt))) r) t in
                 (λ e. y (omega arith));
             same = λ x m.
                 ap (λ (n : ℕ). n + tally F J p (redTold F (st p) tellsMe) (J .top - i) x)
@@ -436,7 +433,7 @@ module _ {Part : Type 0} (F : Finite Part) (J : Task Part) (ms : ℕ → ℕ) wh
       hit-from : (x : ℕ) → Member x (J .slots (J .top - i)) → (q : Part) → st q .own x ≢ 0 → T (hitAt J ms i x)
       hit-from x m q n =
           let (c, a, b, d) = w q .own-from x m n in
-          member-any (λ d. redAt J ms i d && has J d x) (J .cells (J .top - i)) c a (and-make (redAt J ms i c) (has J c x) b d)
+          member-any (λ d. redAt J ms i d && has J d x) (J .cells (J .top - i)) c a (and-both (redAt J ms i c) (has J c x) b d)
 
       hit-here : (x : ℕ) → Member x (J .slots (J .top - i)) → T (holdsb F J p (J .top - i) x)
           → not (eqb (sumTold F (st p) adds x) 0) ≡ hitAt J ms i x
@@ -460,7 +457,7 @@ module _ {Part : Type 0} (F : Finite Part) (J : Task Part) (ms : ℕ → ℕ) wh
               let q = J .owner c in
               let own : st q .own x ≢ 0 = w q .own-by x c a refl r g in
               let some : st p .sum x + added F adds x ≢ 0 = go q own (is F q p) refl
-              (holds-by F J q (J .top - i) x c a (or-left (is F (J .owner c) q) (is F (J .family c) q) (rw (is-self F q) tt)) g) in
+              (holds-by F J q (J .top - i) x c a (or-first (is F (J .owner c) q) (is F (J .family c) q) (rw (is-self F q) tt)) g) in
               rw (ne-eqb (st p .sum x + added F adds x) 0 some) tt
             where
               go : (q : Part) → st q .own x ≢ 0 → (b : Bool) → is F q p ≡ b → T (holdsb F J q (J .top - i) x)
@@ -528,7 +525,7 @@ module _ {Part : Type 0} (F : Finite Part) (J : Task Part) (ms : ℕ → ℕ) wh
                 subst (λ (k : ℕ). Member j (J .cells k)) z (fit .kid-level (J .top - suc i) c j m a) in
                 hit-here (J .slot j e) (fit .slot-level (J .top - i) j e u b)
                 (holds-by F J p (J .top - i) (J .slot j e) j u
-                (or-left (is F (J .owner j) p) (is F (J .family j) p)
+                (or-first (is F (J .owner j) p) (is F (J .family j) p)
                 (rw (is-same F (J .owner j) p (fit .kid-owner (J .top - suc i) c j m a ∙ f)) tt))
                 (has-own j e b))) in
                 ap₂ _||_ (w p .dark (J .top - suc i) c (omega arith) m)

@@ -12,10 +12,10 @@ use lib.Dec.{T}
 use borrow.Author.Tests.{eq-eqb, ne-eqb}
 use Rattle.base.specs.Lists.{anyb}
 use Rattle.exchange.specs.Finite.{Finite, parts, sumOver, sum-change, upd, upd-same, upd-other}
-use Rattle.rounds.specs.Tests.{same-test, or-cases, or-left, or-right}
-use Rattle.rounds.specs.Rounds.{Body, mark, count, State, tells, worth, mastersIn, topIn, largest, told, added, mastersTold}
-use Rattle.rounds.specs.Rounds.{topTold, redTold, sumTold}
+use Rattle.rounds.specs.Tests.{same-test}
+use Rattle.rounds.specs.Rounds.{Body, mark, count, State, tells, worth, mastersIn, topIn, largest, told, added, mastersTold, topTold, redTold, sumTold}
 use Rattle.rounds.specs.Among.{any-part, part-any, largest-more}
+use Rattle.base.specs.Bools.{or-first, or-second, or-either}
 
 module _ (P : ℕ) (got : Fin P → List Body) (q : Fin P) (b : Body) where
   abbrev F : Finite (Fin P)
@@ -93,16 +93,16 @@ module _ (P : ℕ) (got : Fin P → List Body) (q : Fin P) (b : Body) where
       up t =
           let (x, u) = any-part (λ x. anyb (tells c) (oneMore x)) (F .list) t in
           elim (F .same? x q) [
-            | no d ↦ or-left (anyb (λ x. anyb (tells c) (got x)) (F .list)) (tells c b)
+            | no d ↦ or-first (anyb (λ x. anyb (tells c) (got x)) (F .list)) (tells c b)
                 (part-any (λ x. anyb (tells c) (got x)) (F .list) x (F .all x)
                 (subst (λ (l : List Body). T (anyb (tells c) l)) (more-else x d) u))
             | yes e ↦
                 let u' : T (anyb (tells c) (got q ++ (b ∷ []))) =
                 subst (λ (l : List Body). T (anyb (tells c) l)) more-there (subst (λ y. T (anyb (tells c) (oneMore y))) e u) in
-                ⊎-elim (λ (v : T (anyb (tells c) (got q))). or-left (anyb (λ x. anyb (tells c) (got x)) (F .list)) (tells c b)
+                ⊎-elim (λ (v : T (anyb (tells c) (got q))). or-first (anyb (λ x. anyb (tells c) (got x)) (F .list)) (tells c b)
                 (part-any (λ x. anyb (tells c) (got x)) (F .list) q (F .all q) v))
-                (λ (v : T (tells c b)). or-right (anyb (λ x. anyb (tells c) (got x)) (F .list)) (tells c b) v)
-                (or-cases (anyb (tells c) (got q)) (tells c b) (subst (λ (z : Bool). T z) (any-snoc c (got q)) u'))
+                (λ (v : T (tells c b)). or-second (anyb (λ x. anyb (tells c) (got x)) (F .list)) (tells c b) v)
+                (or-either (anyb (tells c) (got q)) (tells c b) (subst (λ (z : Bool). T z) (any-snoc c (got q)) u'))
           ]
 
       at-q : T (anyb (tells c) (got q) || tells c b) → T (anyb (tells c) (oneMore q))
@@ -116,11 +116,11 @@ module _ (P : ℕ) (got : Fin P → List Body) (q : Fin P) (b : Body) where
             | no d ↦ part-any (λ x. anyb (tells c) (oneMore x)) (F .list) x (F .all x)
                 (subst (λ (l : List Body). T (anyb (tells c) l)) (sym (more-else x d)) v)
             | yes e ↦ part-any (λ x. anyb (tells c) (oneMore x)) (F .list) q (F .all q)
-                (at-q (or-left (anyb (tells c) (got q)) (tells c b) (subst (λ y. T (anyb (tells c) (got y))) e v)))
+                (at-q (or-first (anyb (tells c) (got q)) (tells c b) (subst (λ y. T (anyb (tells c) (got y))) e v)))
           ])
           (λ (u : T (tells c b)). part-any (λ x. anyb (tells c) (oneMore x)) (F .list) q (F .all q)
-          (at-q (or-right (anyb (tells c) (got q)) (tells c b) u)))
-          (or-cases (anyb (λ x. anyb (tells c) (got x)) (F .list)) (tells c b) t)
+          (at-q (or-second (anyb (tells c) (got q)) (tells c b) u)))
+          (or-either (anyb (λ x. anyb (tells c) (got x)) (F .list)) (tells c b) t)
 
   -- as they are stored
   pub red-take : (s : State) (c : ℕ) → redTold F s oneMore c ≡ (redTold F s got c || tells c b)

@@ -10,6 +10,7 @@ use Prim.Native.Nat.{ℕ}
 use lib.Dec.{T, eqb, eqb→eq}
 use borrow.Author.Tests.{eq-eqb}
 use Rattle.base.specs.Lists.{allb, anyb, filterb, memberb}
+use Rattle.base.specs.Bools.{or-first, or-second, or-either}
 
 abbrev pub Member : ℕ → List ℕ → Type 0
 Member x l = T (memberb x l)
@@ -20,22 +21,6 @@ same-test true false f g = absurd (f tt)
 same-test false true f g = absurd (g tt)
 same-test false false f g = refl
 
-pub or-cases : (a b : Bool) → T (a || b) → T a ⊎ T b
-or-cases true b t = inl tt
-or-cases false b t = inr t
-
-pub or-left : (a b : Bool) → T a → T (a || b)
-or-left true b t = tt
-or-left false b t = absurd t
-
-pub or-right : (a b : Bool) → T b → T (a || b)
-or-right true b t = tt
-or-right false b t = t
-
-pub and-make : (a b : Bool) → T a → T b → T (a && b)
-and-make true b s t = t
-and-make false b s t = absurd s
-
 pub member-head : (x : ℕ) (l : List ℕ) → Member x (x ∷ l)
 unfolding memberb
 member-head x l = rw (eq-eqb x x refl) tt
@@ -43,11 +28,11 @@ member-head x l = rw (eq-eqb x x refl) tt
 pub member-cases : (x y : ℕ) (l : List ℕ) → Member x (y ∷ l) → (x ≡ y) ⊎ Member x l
 unfolding memberb
 member-cases x y l t = ⊎-elim (λ (u : T (eqb x y)). inl (eqb→eq x y u)) (λ (u : T (memberb x l)). inr u)
-    (or-cases (eqb x y) (memberb x l) t)
+    (or-either (eqb x y) (memberb x l) t)
 
 pub member-tail : (x y : ℕ) (l : List ℕ) → Member x l → Member x (y ∷ l)
 unfolding memberb
-member-tail x y l t = or-right (eqb x y) (memberb x l) t
+member-tail x y l t = or-second (eqb x y) (memberb x l) t
 
 module _ (f : ℕ → Bool) where
   pub any-member : (l : List ℕ) → T (anyb f l) → (x : ℕ) × Member x l × T (f x)
@@ -56,13 +41,13 @@ module _ (f : ℕ → Bool) where
   any-member (x ∷ l) t =
       ⊎-elim (λ (u : T (f x)). (x, member-head x l, u)) (λ (u : T (anyb f l)). let (y, m, v) = any-member l u in
       (y, member-tail y x l m, v))
-      (or-cases (f x) (anyb f l) t)
+      (or-either (f x) (anyb f l) t)
 
   pub member-any : (l : List ℕ) (x : ℕ) → Member x l → T (f x) → T (anyb f l)
   unfolding anyb memberb
   member-any [] x m t = absurd m
   member-any (y ∷ l) x m t =
-      ⊎-elim (λ (e : x ≡ y). or-left (f y) (anyb f l) (rw e at t)) (λ (n : Member x l). or-right (f y) (anyb f l) (member-any l x n t))
+      ⊎-elim (λ (e : x ≡ y). or-first (f y) (anyb f l) (rw e at t)) (λ (n : Member x l). or-second (f y) (anyb f l) (member-any l x n t))
       (member-cases x y l m)
 
   pub filtered-member : (l : List ℕ) (x : ℕ) → Member x (filterb f l) → Member x l × T (f x)

@@ -13,7 +13,7 @@ use lib.Dec.{T, eqb, eqb→eq, eqb-refl}
 use lib.ListN.{length, getD}
 use borrow.Author.Tests.{eqb-true}
 use Rattle.base.specs.Lists.{anyb, sameb}
-use Rattle.base.specs.Bools.{is-true, and-left, and-right}
+use Rattle.base.specs.Bools.{is-true, and-left, and-right, and-both, or-first}
 use Rattle.cutting.specs.Rule.{family}
 use Rattle.mesh.specs.Cells.{Cell, redb, patternOf, edge, edges, heldb, bitsOf, noCell}
 use Rattle.mesh.specs.Weights.{Point, point}
@@ -38,7 +38,7 @@ use Rattle.soundness.specs.Family.{ChildAt, child-points, child-parent, red-chi
 use Rattle.soundness.specs.Turn.{Sharing, sharing}
 use Rattle.soundness.specs.Sound.{Sound, sound-from, lv, level-closed, level-next, level-there}
 use Rattle.soundness.specs.Meets.{edges-alike, point-same}
-use Rattle.rounds.specs.Tests.{Member, same-test, and-make, or-left, any-member, member-any}
+use Rattle.rounds.specs.Tests.{Member, same-test, any-member, member-any}
 use Rattle.rounds.specs.Task.{Task, six, redAt, hitAt}
 use Rattle.rounds.specs.Rounds.{State, is, mine}
 use Rattle.rounds.specs.Among.{is-same}
@@ -283,7 +283,7 @@ module _ {Part : Type 0} {F : Finite Part} (X : Settled F) (p : Part) where
 
     kid-mine : (d : ℕ) → Member d (childrenOf n qs ss (num k t)) → T (mine F J p d)
     kid-mine d m =
-        or-left (is F (J .owner d) p) (is F (J .family d) p)
+        or-first (is F (J .owner d) p) (is F (J .family d) p)
         (rw (is-same F (J .owner d) p (fits n qs ss s slot slots sl os own part .kid-owner k (num k t) d
         (at-level n qs ss s k t ht .here) m ∙ fam)) tt)
 
@@ -313,7 +313,7 @@ module _ {Part : Type 0} {F : Finite Part} (X : Settled F) (p : Part) where
           o .cell-is,
         ) (w .held) in
         let q : T (fits-digits a b (num (suc k) (w .child .u)) (w .y)) =
-        and-make (eqb a (lowDigit (patternOf (getD ss (num k t) 0)) (lastOf (nthCell n qs ss (num (suc k) (w .child .u)) .path)) (w .y)))
+        and-both (eqb a (lowDigit (patternOf (getD ss (num k t) 0)) (lastOf (nthCell n qs ss (num (suc k) (w .child .u)) .path)) (w .y)))
         (eqb b (highDigit (patternOf (getD ss (num k t) 0)) (lastOf (nthCell n qs ss (num (suc k) (w .child .u)) .path)) (w .y)))
         (eq-T a (lowDigit (patternOf (getD ss (num k t) 0)) (lastOf (nthCell n qs ss (num (suc k) (w .child .u)) .path)) (w .y))
         (w .low-is ∙ sym (ap₂ (λ (x i : ℕ). lowDigit (patternOf x) i (w .y)) (z .status-is) last)))
@@ -323,7 +323,7 @@ module _ {Part : Type 0} {F : Finite Part} (X : Settled F) (p : Part) where
         (num (suc k) (w .child .u)) m
         (member-any (λ y. fits-digits a b (num (suc k) (w .child .u)) y && heldNow J st (slot (num (suc k) (w .child .u)) y)) six (w .y)
         (below-six (w .y) (w .below))
-        (and-make (fits-digits a b (num (suc k) (w .child .u)) (w .y)) (heldNow J st (slot (num (suc k) (w .child .u)) (w .y))) q held'))
+        (and-both (fits-digits a b (num (suc k) (w .child .u)) (w .y)) (heldNow J st (slot (num (suc k) (w .child .u)) (w .y))) q held'))
 
     pair-down : (a b : ℕ) → T (pairHeld J st (num k t) a b) → T (heldb sameb (newEdges n qs ss ms (suc k)) (point G a, point G b))
     unfolding pairHeld

@@ -13,7 +13,7 @@ use lib.Dec.{eqb}
 use lib.ListN.{length, getD}
 use borrow.Author.Tests.{eqb-false, ne-eqb}
 use Rattle.base.specs.Lists.{sameb, sameb-eq}
-use Rattle.base.specs.Bools.{is-false, and-left, and-right}
+use Rattle.base.specs.Bools.{is-false, and-left, and-right, and-both}
 use Rattle.base.specs.Places.{sameb-self}
 use Rattle.base.specs.Range.{range, member-range, range-member}
 use Rattle.mesh.specs.Cells.{Cell}
@@ -21,7 +21,7 @@ use Rattle.mesh.specs.Weights.{Point}
 use Rattle.lineage.specs.Paths.{pathAt, coarse-at, length-coarse}
 use Rattle.lineage.specs.Met.{old-coarse}
 use Rattle.soundness.specs.Sound.{Sound, lv, level-there}
-use Rattle.rounds.specs.Tests.{Member, and-make, filtered-member, member-filtered}
+use Rattle.rounds.specs.Tests.{Member, filtered-member, member-filtered}
 use Rattle.parts.specs.Owners.{nthCell, familyOf, refinedAt, familyAfter, ownerDown, ownerAfter, ownersAfter}
 use Rattle.splitting.specs.Members.{first-all, first-none}
 use Rattle.splitting.specs.Numbers.{first-zero, numbersOf, at-level, level-at, kid-some}
@@ -38,7 +38,7 @@ module _ (n : ℕ) (qs : List (List ℕ)) (ss : List ℕ) (l : List ℕ) where
   unfolding refinedAt
   refined-in c h e z =
       member-filtered passes (range 0 (length ss)) c (range-member 0 (length ss) c (omega arith) (omega arith))
-      (and-make (sameb (nthCell n qs ss c .path) l) (not (eqb (getD ss c 0) 0)) (rw (e, sameb-self l) tt)
+      (and-both (sameb (nthCell n qs ss c .path) l) (not (eqb (getD ss c 0) 0)) (rw (e, sameb-self l) tt)
       (rw (ne-eqb (getD ss c 0) 0 z) tt))
 
   in-refined : (c : ℕ) → Member c (refinedAt n qs ss l) → (c < length ss) × (nthCell n qs ss c .path ≡ l) × (getD ss c 0 ≢ 0)

@@ -14,7 +14,7 @@ use lib.Dec.{T, eqb}
 use lib.ListN.{length, getD}
 use borrow.Author.Tests.{eqb-true, eqb-false, ne-eqb}
 use Rattle.base.specs.Lists.{sameb, sameb-eq}
-use Rattle.base.specs.Bools.{is-true, is-false, and-left, and-right}
+use Rattle.base.specs.Bools.{is-true, is-false, and-left, and-right, and-both}
 use Rattle.base.specs.Places.{sameb-self}
 use Rattle.base.specs.Range.{range, member-range, range-member}
 use Rattle.mesh.specs.Cells.{Cell, noCell}
@@ -26,7 +26,7 @@ use Rattle.lineage.specs.Same.{Fresh}
 use Rattle.lineage.specs.Met.{Fostered, newAt, new-next, new-coarse, old-coarse, flagged, new-follows}
 use Rattle.soundness.specs.Family.{born-of}
 use Rattle.soundness.specs.Sound.{Sound, sound-from, lv, level-there}
-use Rattle.rounds.specs.Tests.{Member, and-make, filtered-member, member-filtered}
+use Rattle.rounds.specs.Tests.{Member, filtered-member, member-filtered}
 use Rattle.parts.specs.Owners.{nthCell, familyOf, refinedAt, familyAfter, ownerDown, ownerAfter}
 use Rattle.splitting.specs.Numbers.{first-zero, at-level, stands, level-at}
 use Rattle.splitting.specs.Members.{first-all, first-none}
@@ -108,7 +108,7 @@ module _ (n : ℕ) (qs : List (List ℕ)) (ss ms : List ℕ) (s : Sound n qs ss)
       let q : nthCell n qs ss (num k t) .path ≡ l = ap (λ (c : Cell Point). c .path) (o .cell-is) ∙ e in
       member-filtered (sameb? l) (range 0 (length ss)) (num k t) (range-member 0 (length ss) (num k t) (omega arith)
       (omega (arith, o .inside)))
-      (and-make (sameb (nthCell n qs ss (num k t) .path) l) (not (eqb (getD ss (num k t) 0) 0)) (rw (q, sameb-self l) tt)
+      (and-both (sameb (nthCell n qs ss (num k t) .path) l) (not (eqb (getD ss (num k t) 0) 0)) (rw (q, sameb-self l) tt)
       (rw (ne-eqb (getD ss (num k t) 0) 0 z) tt))
 
   same-number : (l : List ℕ) (k t : ℕ) → t < length (old k .cells) → pathAt (old k .cells) t ≡ l → (c : ℕ) → Before l c → c ≡ num k t

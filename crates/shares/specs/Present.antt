@@ -13,7 +13,7 @@ use native.Mathlib.Omega.{arith}
 use lib.Dec.{T, eqb, eqb→eq}
 use lib.ListN.{length, getD}
 use borrow.Author.Tests.{eq-eqb, eqb-true, ne-eqb}
-use Rattle.base.specs.Bools.{is-true, and-left, and-right, not-both, either}
+use Rattle.base.specs.Bools.{is-true, and-left, and-right, not-both, either, and-both, or-first, or-second}
 use Rattle.base.specs.Range.{range, range-member}
 use Rattle.cutting.specs.Rule.{family}
 use Rattle.mesh.specs.Cells.{Cell, redb, patternOf, noCell}
@@ -29,7 +29,6 @@ use Rattle.soundness.specs.Family.{born-of}
 use Rattle.soundness.specs.Sound.{Sound, sound-from, level-next, level-there}
 use Rattle.soundness.specs.Whole.{coarse-level}
 use Rattle.exchange.specs.Finite.{Finite}
-use Rattle.rounds.specs.Tests.{or-left, or-right, and-make}
 use Rattle.rounds.specs.Task.{Task}
 use Rattle.rounds.specs.Rounds.{State, is, mine}
 use Rattle.rounds.specs.Among.{is-same, is-eq}
@@ -136,10 +135,10 @@ module _ {Part : Type 0} {F : Finite Part} (X : Settled F) (p : Part) where
   pathOf k t = J .path (num k t)
 
   pub mine-owner : (c : ℕ) → owner c ≡ p → T (mine F J p c)
-  mine-owner c e = or-left (is F (owner c) p) (is F (J .family c) p) (rw (is-same F (owner c) p e) tt)
+  mine-owner c e = or-first (is F (owner c) p) (is F (J .family c) p) (rw (is-same F (owner c) p e) tt)
 
   pub mine-family : (c : ℕ) → J .family c ≡ p → T (mine F J p c)
-  mine-family c e = or-right (is F (owner c) p) (is F (J .family c) p) (rw (is-same F (J .family c) p e) tt)
+  mine-family c e = or-second (is F (owner c) p) (is F (J .family c) p) (rw (is-same F (J .family c) p e) tt)
 
   -- the parent of an old cell of mine
   parent-num : (k t : ℕ) (h : t < length (old (suc k) .cells)) (b : Born (old k .first) (old k .cells) (old k .statuses)
@@ -200,7 +199,7 @@ module _ {Part : Type 0} {F : Finite Part} (X : Settled F) (p : Part) where
   unfolding staysb coarseb
   there-stays zero i h g r w o = tt
   there-stays (suc k) i h g r w (inl z) =
-      or-left (not (eqb (stWas (suc k) (w .t)) 0)) (eqb (getD ss (J .parent (num (suc k) (w .t))) 0) 64
+      or-first (not (eqb (stWas (suc k) (w .t)) 0)) (eqb (getD ss (J .parent (num (suc k) (w .t))) 0) 64
       && st .red (J .parent (num (suc k) (w .t)))) (subst (λ (x : Bool). T (not x)) (sym (ne-eqb (stWas (suc k) (w .t)) 0 z)) tt)
   there-stays (suc k) i h g r w (inr o) =
       let b = new-born n qs ss ms s os own k i h g in
@@ -220,9 +219,9 @@ module _ {Part : Type 0} {F : Finite Part} (X : Settled F) (p : Part) where
       ∙ ap (newRedAt ms (oldAbove n qs ss k) (old k)) (sym q) ∙ sym (m .red) ∙ ap redb red in
       let s64 : getD ss (J .parent (num (suc k) (w .t))) 0 ≡ 64 = ap (λ (x : ℕ). getD ss x 0) pn ∙ at-level n qs ss s k (u .born .p)
       (u .born .below) .status-is ∙ u .red in
-      or-right (not (eqb (stWas (suc k) (w .t)) 0)) (eqb (getD ss (J .parent (num (suc k) (w .t))) 0) 64
+      or-second (not (eqb (stWas (suc k) (w .t)) 0)) (eqb (getD ss (J .parent (num (suc k) (w .t))) 0) 64
       && st .red (J .parent (num (suc k) (w .t))))
-      (and-make (eqb (getD ss (J .parent (num (suc k) (w .t))) 0) 64) (st .red (J .parent (num (suc k) (w .t))))
+      (and-both (eqb (getD ss (J .parent (num (suc k) (w .t))) 0) 64) (st .red (J .parent (num (suc k) (w .t))))
       (subst (λ (x : Bool). T x) (sym (eq-eqb (getD ss (J .parent (num (suc k) (w .t))) 0) 64 s64)) tt)
       (subst (λ (x : Bool). T x) (sym flag) tt))
 
@@ -241,7 +240,7 @@ module _ {Part : Type 0} {F : Finite Part} (X : Settled F) (p : Part) where
   unfolding masterEntry
   in-master k c o y =
       let e : (is F (owner c) p && staysb F J p st k c) ≡ true =
-      is-true (is F (owner c) p && staysb F J p st k c) (and-make (is F (owner c) p) (staysb F J p st k c)
+      is-true (is F (owner c) p && staysb F J p st k c) (and-both (is F (owner c) p) (staysb F J p st k c)
       (rw (is-same F (owner c) p o) tt) y) in
       rw (e, masterEntry) (List·Memᴰ·head refl)
 
@@ -272,11 +271,11 @@ module _ {Part : Type 0} {F : Finite Part} (X : Settled F) (p : Part) where
       → T (anewb F J p st k c)
   unfolding anewb
   anew-by k c f y z d =
-      and-make (is F (J .family c) p)
+      and-both (is F (J .family c) p)
       (staysb F J p st k c && (not (eqb (statusNew J st c) 0) && not (eqb (getD ss c 0) 64 && eqb (statusNew J st c) 64)))
       (rw (is-same F (J .family c) p f) tt)
-      (and-make (staysb F J p st k c) (not (eqb (statusNew J st c) 0) && not (eqb (getD ss c 0) 64 && eqb (statusNew J st c) 64)) y
-      (and-make (not (eqb (statusNew J st c) 0)) (not (eqb (getD ss c 0) 64 && eqb (statusNew J st c) 64))
+      (and-both (staysb F J p st k c) (not (eqb (statusNew J st c) 0) && not (eqb (getD ss c 0) 64 && eqb (statusNew J st c) 64)) y
+      (and-both (not (eqb (statusNew J st c) 0)) (not (eqb (getD ss c 0) 64 && eqb (statusNew J st c) 64))
       (subst (λ (x : Bool). T (not x)) (sym (ne-eqb (statusNew J st c) 0 z)) tt)
       (go (eqb (getD ss c 0) 64) refl (eqb (statusNew J st c) 64) refl)))
     where

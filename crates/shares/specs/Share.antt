@@ -18,7 +18,7 @@ use Rattle.lineage.specs.Olds.{stepBy}
 use Rattle.lineage.specs.Paths.{pathAt}
 use Rattle.soundness.specs.Sound.{Sound, lv}
 use Rattle.exchange.specs.Finite.{Finite}
-use Rattle.rounds.specs.Tests.{Member, and-make}
+use Rattle.rounds.specs.Tests.{Member}
 use Rattle.parts.specs.Owners.{nthCell, childrenOf, familyOf, ownersb, familyAfter, ownerAfter, ownersAfter}
 use Rattle.parts.specs.Held.{Entry, masterb, ghostb, entriesOf}
 use Rattle.splitting.specs.Numbers.{numbersOf, At, at-level, Stands, stands, level-at, number-inside, kid, kid-some}
@@ -32,6 +32,7 @@ use Rattle.shares.specs.Settled.{Settled, entriesIn, newLevelIn, ownIn, 
 use Rattle.shares.specs.Present.{newEntry, masters-in, ghosts-in}
 use Rattle.shares.specs.Entries.{Means, entries-are}
 use Rattle.shares.specs.Held.{HeldBy, master-held, ghost-held, held-is}
+use Rattle.base.specs.Bools.{and-both}
 
 pub record Named {Part : Type 0} (P : ℕ) (part : ℕ → Part) (number : Part → ℕ) : Type 0 where
   pub back : (p : Part) → part (number p) ≡ p
@@ -152,7 +153,7 @@ module _ {Part : Type 0} {F : Finite Part} (X : Settled F) (P : ℕ) (number : P
               ∙ ap number f in
               place-it (w .k) (w .i) (w .below) true (w .path) (w .status) g
               (ghost-held n qs ts os' (number p) (num (w .k) (w .i)) (a .inside)
-              (and-make (not (eqb (getD os' (num (w .k) (w .i)) 0) (number p))) (eqb (familyOf n qs ts os' (num (w .k) (w .i))) (number p))
+              (and-both (not (eqb (getD os' (num (w .k) (w .i)) 0) (number p))) (eqb (familyOf n qs ts os' (num (w .k) (w .i))) (number p))
               (rw (ne-eqb (getD os' (num (w .k) (w .i)) 0) (number p) other) tt)
               (equal (familyOf n qs ts os' (num (w .k) (w .i))) (number p) fam)))
 

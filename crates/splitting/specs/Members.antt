@@ -12,9 +12,9 @@ use native.Mathlib.Omega.{arith}
 use lib.Dec.{T}
 use borrow.Author.Tests.{ne-eqb}
 use Rattle.base.specs.Lists.{allb, anyb, filterb, memberb}
-use Rattle.base.specs.Bools.{and-left, and-right}
+use Rattle.base.specs.Bools.{and-left, and-right, and-both}
 use Rattle.base.specs.Every.{below-at}
-use Rattle.rounds.specs.Tests.{Member, same-test, and-make, member-head, member-tail, member-cases, any-member, member-any}
+use Rattle.rounds.specs.Tests.{Member, same-test, member-head, member-tail, member-cases, any-member, member-any}
 use Rattle.rounds.specs.Task.{six}
 use Rattle.parts.specs.Owners.{firstOr}
 
@@ -28,7 +28,7 @@ all-member f (y ∷ l) t x m =
 pub member-all : (f : ℕ → Bool) (l : List ℕ) → ((x : ℕ) → Member x l → T (f x)) → T (allb f l)
 unfolding allb
 member-all f [] h = tt
-member-all f (y ∷ l) h = and-make (f y) (allb f l) (h y (member-head y l)) (member-all f l (λ x m. h x (member-tail x y l m)))
+member-all f (y ∷ l) h = and-both (f y) (allb f l) (h y (member-head y l)) (member-all f l (λ x m. h x (member-tail x y l m)))
 
 module _ (f : ℕ → Bool) (a b : List ℕ) (up : (x : ℕ) → Member x a → Member x b) (down : (x : ℕ) → Member x b → Member x a) where
   pub any-members : anyb f a ≡ anyb f b

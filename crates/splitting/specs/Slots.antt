@@ -12,7 +12,7 @@ use lib.Dec.{T, eqb, eqb→eq}
 use lib.ListN.{length, length-append}
 use borrow.Author.Tests.{eq-eqb}
 use Rattle.base.specs.Lists.{memberb, sameb}
-use Rattle.base.specs.Bools.{is-true, not-both}
+use Rattle.base.specs.Bools.{is-true, not-both, or-first, or-second}
 use Rattle.base.specs.Places.{hasb, placeIn, place-here, place-past, has-below, has-append}
 use Rattle.base.specs.Range.{range, length-range, member-range, range-member}
 use Rattle.mesh.specs.Cells.{Cell, edge, edges, joinsb}
@@ -20,7 +20,7 @@ use Rattle.mesh.specs.Weights.{Point}
 use Rattle.carriers.specs.Joins.{Edge, joins-sym, joins-trans}
 use Rattle.carriers.specs.Carrier.{joins-self}
 use Rattle.soundness.specs.Sound.{Sound, lv}
-use Rattle.rounds.specs.Tests.{Member, same-test, or-left, or-right, member-cases}
+use Rattle.rounds.specs.Tests.{Member, same-test, member-cases}
 use Rattle.rounds.specs.Task.{six}
 use Rattle.parts.specs.Owners.{nthCell}
 use Rattle.splitting.specs.Numbers.{numbersOf, at-level, stands, one-level}
@@ -86,9 +86,9 @@ module _ (n : ℕ) (qs : List (List ℕ)) (ss : List ℕ) where
   unfolding hasb memberb
   has-map c e [] m = absurd m
   has-map c e (x ∷ l) m =
-      ⊎-elim (λ (q : e ≡ x). or-left (joins? (edgeOf c x) (edgeOf c e)) (hasb joins? (map (edgeOf c) l) (edgeOf c e))
+      ⊎-elim (λ (q : e ≡ x). or-first (joins? (edgeOf c x) (edgeOf c e)) (hasb joins? (map (edgeOf c) l) (edgeOf c e))
       (subst (λ (z : ℕ). T (joins? (edgeOf c z) (edgeOf c e))) q (joins-self (edgeOf c e))))
-      (λ (q : Member e l). or-right (joins? (edgeOf c x) (edgeOf c e)) (hasb joins? (map (edgeOf c) l) (edgeOf c e)) (has-map c e l q))
+      (λ (q : Member e l). or-second (joins? (edgeOf c x) (edgeOf c e)) (hasb joins? (map (edgeOf c) l) (edgeOf c e)) (has-map c e l q))
       (member-cases e x l m)
 
   has-edge : (c e : ℕ) → Member e six → T (hasb joins? (sixOf c) (edgeOf c e))
@@ -100,9 +100,9 @@ module _ (n : ℕ) (qs : List (List ℕ)) (ss : List ℕ) where
   has-in [] c e m b = absurd m
   has-in (x ∷ l) c e m b =
       subst (λ (z : Bool). T z) (sym (has-append joins? (sixOf x) (flatMap sixOf l) (edgeOf c e)))
-      (⊎-elim (λ (q : c ≡ x). or-left (hasb joins? (sixOf x) (edgeOf c e)) (hasb joins? (flatMap sixOf l) (edgeOf c e))
+      (⊎-elim (λ (q : c ≡ x). or-first (hasb joins? (sixOf x) (edgeOf c e)) (hasb joins? (flatMap sixOf l) (edgeOf c e))
       (subst (λ (z : ℕ). T (hasb joins? (sixOf z) (edgeOf c e))) q (has-edge c e b)))
-      (λ (q : Member c l). or-right (hasb joins? (sixOf x) (edgeOf c e)) (hasb joins? (flatMap sixOf l) (edgeOf c e)) (has-in l c e q b))
+      (λ (q : Member c l). or-second (hasb joins? (sixOf x) (edgeOf c e)) (hasb joins? (flatMap sixOf l) (edgeOf c e)) (has-in l c e q b))
       (member-cases c x l m))
 
   has-at : (k c e : ℕ) → Member c (numbersOf n qs ss k) → Member e six → hasb joins? (edgesAt k) (edgeOf c e) ≡ true

@@ -18,7 +18,7 @@ use lib.ListN.{length, getD, drop, drop-of-length-le}
 use lib.Seq.{drop-cons}
 use borrow.Author.Tests.{eq-eqb}
 use Rattle.base.specs.Lists.{allb, anyb, filterb, sameb}
-use Rattle.base.specs.Bools.{and-right}
+use Rattle.base.specs.Bools.{and-right, or-first, or-second, or-either}
 use Rattle.base.specs.Range.{range, range-member}
 use Rattle.mesh.specs.Cells.{edge, edges, joinsb, heldb}
 use Rattle.mesh.specs.Table.{Level, levelsOf}
@@ -27,7 +27,7 @@ use Rattle.lattice.specs.Levels.{noLevel}
 use Rattle.lineage.specs.Stays.{up-rows}
 use Rattle.carriers.specs.Joins.{Edge, held-either, held-first, held-second}
 use Rattle.soundness.specs.Sound.{Sound, level-there}
-use Rattle.rounds.specs.Tests.{Member, same-test, or-cases, or-left, or-right, any-agree, all-agree, filtered-member, member-filtered}
+use Rattle.rounds.specs.Tests.{Member, same-test, any-agree, all-agree, filtered-member, member-filtered}
 use Rattle.rounds.specs.Task.{Task, Fit, six, has, idle, pulled, rule, redAt, hitAt}
 use Rattle.parts.specs.Owners.{nthCell, childrenOf, familyOf, ownersb}
 use Rattle.splitting.specs.Members.{all-member, first-none, any-members, all-members, filter-map, all-mapped-by, any-mapped-by}
@@ -85,10 +85,10 @@ module _ (g : ℕ → Row) (f : Row → Bool) (e : Edge) where
   held-append : (es fs : List Edge) → heldb sameb (es ++ fs) e ≡ (heldb sameb es e || heldb sameb fs e)
   held-append es fs =
       same-test (heldb sameb (es ++ fs) e) (heldb sameb es e || heldb sameb fs e)
-      (λ t. ⊎-elim (λ (u : T (heldb sameb es e)). or-left (heldb sameb es e) (heldb sameb fs e) u)
-      (λ (u : T (heldb sameb fs e)). or-right (heldb sameb es e) (heldb sameb fs e) u) (held-either e es fs t))
+      (λ t. ⊎-elim (λ (u : T (heldb sameb es e)). or-first (heldb sameb es e) (heldb sameb fs e) u)
+      (λ (u : T (heldb sameb fs e)). or-second (heldb sameb es e) (heldb sameb fs e) u) (held-either e es fs t))
       (λ t. ⊎-elim (λ (u : T (heldb sameb es e)). held-first e es fs u) (λ (u : T (heldb sameb fs e)). held-second e es fs u)
-      (or-cases (heldb sameb es e) (heldb sameb fs e) t))
+      (or-either (heldb sameb es e) (heldb sameb fs e) t))
 
   pub held-rows : (l : List ℕ) → heldb sameb (flatMap (λ (r : Row). edges [] (r .cell)) (filterb f (map g l))) e ≡ anyb
       (λ d. f (g d) && heldb sameb (edges [] (g d .cell)) e) l

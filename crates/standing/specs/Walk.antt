@@ -21,6 +21,7 @@ use Rattle.store.specs.Fields.{field, full, PART, CURSOR, BIT, WRITTEN, GIVEN, 
 use Rattle.store.specs.Message.{messageOf}
 use Rattle.store.specs.declared.Spot.{Spot}
 use Rattle.store.specs.Fetch.{entryCount, codeAt, valueAt, receiversAt, bitb, bitFrom, spotAt, seekFrom, nextToGive, given, passedBy}
+use Rattle.store.specs.Fetching.{written-few}
 
 unfoldable pub bitsFrom : ℕ → ℕ → ℕ → List ℕ
 unfolding bitb
@@ -184,14 +185,6 @@ posted-passed x s g = record {
   rest = λ i h l. passed-else x s i (λ z. absurd (omega (arith, z))) (λ z. absurd (omega (arith, z))) (λ z. absurd (omega (arith, z)));
 }
 
-few : (x : List ℕ) → entryCount x ≤ 28696
-unfolding entryCount
-few x = go (decLt (field x WRITTEN) 28696)
-  where
-    go : Dec (field x WRITTEN < 28696) → entryCount x ≤ 28696
-    go (yes h) = rw (lt-ltb (field x WRITTEN) 28696 h, entryCount) (omega arith)
-    go (no h) = rw (le-ltb (field x WRITTEN) 28696 (omega arith), entryCount) (omega arith)
-
 module _ (x y : List ℕ) (e : Posted x y) where
   pub posted-written : entryCount y ≡ entryCount x
   unfolding entryCount
@@ -309,7 +302,7 @@ module _ (x : List ℕ) (h : full ≤ length x) where
         go (no l) =
             let (a, b, c, d) = spots x k (field x CURSOR) (field x BIT) .first s w e in
             let z : field x CURSOR + (entryCount x - field x CURSOR) ≡ entryCount x = omega arith in
-            let y : entryCount x ≤ 28696 = few x in
+            let y : entryCount x ≤ 28696 = written-few x in
             (a, b, omega arith, omega arith, ap (λ (n : ℕ). spotsFrom x (n - s .entry) (s .entry) (suc (s .bit))) (sym z) ∙ d)
 
     -- the walk stops at the first that is left
@@ -322,7 +315,7 @@ module _ (x : List ℕ) (h : full ≤ length x) where
     left-passed =
         let (a, b, c, l, d) = facts in
         let p = posted-passed x s b in
-        let z : s .entry + (entryCount x - s .entry) ≤ 28696 = omega (arith, few x) in
+        let z : s .entry + (entryCount x - s .entry) ≤ 28696 = omega (arith, written-few x) in
         ap₂ (λ (n j : ℕ). spotsFrom (passedBy x s) (n - j) j (field (passedBy x s) 13)) (posted-written x (passedBy x s) p)
         (passed-entry x s h b)
         ∙ ap (λ (b : ℕ). spotsFrom (passedBy x s) (entryCount x - s .entry) (s .entry) b) (passed-bit x s h b)
@@ -332,7 +325,7 @@ module _ (x : List ℕ) (h : full ≤ length x) where
     unfolding leftOf
     tail-inside =
         let (a, b, c, l, d) = facts in
-        subst EntriesIn d (inside-spots x (entryCount x - s .entry) (s .entry) (suc (s .bit)) (omega (arith, few x)))
+        subst EntriesIn d (inside-spots x (entryCount x - s .entry) (s .entry) (suc (s .bit)) (omega (arith, written-few x)))
 
     -- THE FIRST OF THE QUEUE is given, and the queue is then the rest
     first-of : queueOf x ≡ given x s ∷ stream x (bump (givenTo x) (s .bit)) w
@@ -417,9 +410,9 @@ queue-same x y e a b c =
           let g : leftOf y ≡ leftOf x =
           ap₂ (λ (n j : ℕ). spotsFrom y (n - j) j (field y BIT)) (posted-written x y e) a
           ∙ ap (spotsFrom y (entryCount x - field x CURSOR) (field x CURSOR)) b
-          ∙ posted-spots x y e (entryCount x - field x CURSOR) (field x CURSOR) (field x BIT) (omega (arith, few x)) in
+          ∙ posted-spots x y e (entryCount x - field x CURSOR) (field x CURSOR) (field x BIT) (omega (arith, written-few x)) in
           ap (stream y (givenTo y)) g ∙ stream-same x y e (givenTo x) (givenTo y) c (leftOf x)
-          (inside-spots x (entryCount x - field x CURSOR) (field x CURSOR) (field x BIT) (omega (arith, few x)))
+          (inside-spots x (entryCount x - field x CURSOR) (field x CURSOR) (field x BIT) (omega (arith, written-few x)))
     ]
 
 pub sent-same : (x y : List ℕ) → Posted x y → field y CURSOR ≡ field x CURSOR → field y BIT ≡ field x BIT
@@ -439,6 +432,6 @@ sent-same x y e a b g c j =
           let f : leftOf y ≡ leftOf x =
           ap₂ (λ (n j : ℕ). spotsFrom y (n - j) j (field y BIT)) (posted-written x y e) a
           ∙ ap (spotsFrom y (entryCount x - field x CURSOR) (field x CURSOR)) b
-          ∙ posted-spots x y e (entryCount x - field x CURSOR) (field x CURSOR) (field x BIT) (omega (arith, few x)) in
+          ∙ posted-spots x y e (entryCount x - field x CURSOR) (field x CURSOR) (field x BIT) (omega (arith, written-few x)) in
           ap (λ (l : List Spot). givenAfter (givenTo y) l c) f ∙ after-same (givenTo x) (givenTo y) g (leftOf x) c j
     ]

@@ -11,14 +11,14 @@ use borrow.Author.Tests.{ne-eqb}
 use Rattle.base.specs.Lists.{allb, anyb, sameb}
 use Rattle.base.specs.Bools.{and-left, and-right}
 use Rattle.mesh.specs.Cells.{Cell, redb, redEdges, closedFrom, noCell}
-use Rattle.mesh.specs.Weights.{Point, coarseFrom, coarseCells}
+use Rattle.mesh.specs.Weights.{Point, coarseCells}
 use Rattle.mesh.specs.Table.{Level, next, levels, levelsOf, cellsOf, closedb}
 use Rattle.rows.specs.Many.{closed-many}
 use Rattle.mesh.specs.Counts.{levelOf}
 use Rattle.mesh.specs.Step.{rows}
 use Rattle.lineage.specs.Olds.{flags, flagsOf, flagTable}
 use Rattle.lineage.specs.Flags.{length-rows}
-use Rattle.tables.specs.Rising.{deepb, deep-next}
+use Rattle.tables.specs.Rising.{deepb, deep-next, deep-coarse}
 use Rattle.step.specs.Deep.{deepFrom}
 
 unfoldable deepIn : List (Cell Point) → List ℕ → Bool
@@ -129,11 +129,6 @@ module _ (ms : List ℕ) where
       (and-right (closedb l) (allb closedb ls) u) (deep-next (suc j) k cs′ ts d) in
       deep-both cs′ (cellsOf ls) fs (flatten (flags ls ms)) n ∙ ap₂ _||_ here up
 
-coarse-deep : (n i : ℕ) (qs : List (List ℕ)) → T (deepb 1 (coarseFrom n i qs))
-unfolding coarseFrom allb
-coarse-deep n i [] = tt
-coarse-deep n i (q ∷ qs) = coarse-deep n (suc i) qs
-
 length-flags : (ms : List ℕ) (h k : ℕ) (cs : List (Cell Point)) (rest : List ℕ) → T (allb closedb (levels h k cs rest))
     → length (flatten (flags (levels h k cs rest) ms)) ≡ length (cellsOf (levels h k cs rest))
 unfolding levels allb closedb cellsOf flatMap flatten flags flagsOf
@@ -168,4 +163,4 @@ module _ (n : ℕ) (qs : List (List ℕ)) (ss ms : List ℕ) (closed : T (allb c
   deep-scan t red h g =
       scan t red 0 cs (flagTable n qs ss ms) flags-long
       (λ i l. let e : 0 + i ≡ i = omega arith in rw e (h i l)) (λ i l. let e : 0 + i ≡ i = omega arith in rw e (g i l))
-      ∙ levels-all ms 10 0 12 0 (coarseCells n qs) ss refl closed (coarse-deep n 0 qs)
+      ∙ levels-all ms 10 0 12 0 (coarseCells n qs) ss refl closed (deep-coarse n 0 qs)

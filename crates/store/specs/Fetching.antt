@@ -30,7 +30,7 @@ found-inside x (suc k) j b h = go (ltb (bitFrom (16 - b) (receiversAt x j) b) 16
     go true e r = rw (e, seekFrom) (omega arith)
     go false e r = let g : seekFrom x k (suc j) 0 .bit < 16 = rw (e, seekFrom) at h in rw (e, seekFrom) (omega (arith, r g))
 
-written-few : (x : List ℕ) → entryCount x ≤ 28696
+pub written-few : (x : List ℕ) → entryCount x ≤ 28696
 unfolding entryCount
 written-few x = go (decLt (field x WRITTEN) 28696)
   where

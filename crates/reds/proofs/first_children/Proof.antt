@@ -8,12 +8,13 @@ use lib.Dec.{T, leb, leb→le}
 use lib.ListN.{length, getD, drop, length-set}
 use Rattle.base.specs.Lists.{allb-at}
 use Rattle.lineage.specs.Olds.{firstChild}
-use Rattle.reds.specs.Flags.{range, firstChildren}
+use Rattle.reds.specs.Flags.{firstChildren}
 use Rattle.reds.specs.Firsts.{first-next, first-start}
 use Rattle.reds.proofs.Writes.{firsts-more, firsts-none}
 use borrow.Author.Needs.{needs}
 use Rattle.reds.proofs.first_children.Statement.{statement}
 use Rattle.reds.proofs.first_children.Tie as tie
+use Rattle.base.specs.Range.{range}
 
 abbrev Inv-loop : tie.InvT-loop
 Inv-loop status coarse kids₀ at₀ c₀ kids at c = (c ≤ length status) × (at ≡ firstChild coarse status c) × (at ≤ 256 + 8 * c)
