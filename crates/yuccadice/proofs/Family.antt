@@ -41,9 +41,9 @@ module _ (p : ℕ) (digits : List ℕ) (count : ℕ) where
 
   -- a refusal changes nothing
   pub refused-so : (k : ℕ) → answer ≡ Refused k
-      → (k ≡ codeOf answer) × ((digits ≡ heldAfter answer (cutOf p .digits) digits) × (count ≡ valueAfter answer (cutOf p .count) count))
+      → (k ≡ codeOf answer) × (digits ≡ heldAfter answer (cutOf p .digits) digits) × (count ≡ valueAfter answer (cutOf p .count) count)
   unfolding heldAfter
-  refused-so k e = (code-refused e, (rw e, value-old (cutOf p .count) e))
+  refused-so k e = (code-refused e, rw e, value-old (cutOf p .count) e)
 
   pub cut-short : length digits < 32 → answer ≡ Refused 15
   unfolding cutAnswer refuse
@@ -58,11 +58,11 @@ module _ (p : ℕ) (digits : List ℕ) (count : ℕ) where
     cut-refused z = long ∙ code-not (f .answer) k c z
 
     pub cut-done : k ≡ 0 → length (f .digits) ≡ 32 → (digits′ : List ℕ) → digits′ ≡ take 32 (f .digits) ++ drop 32 digits
-        → (0 ≡ codeOf answer) × ((digits′ ≡ heldAfter answer (cutOf p .digits) digits)
-        × (f .count ≡ valueAfter answer (cutOf p .count) count))
+        → (0 ≡ codeOf answer) × (digits′ ≡ heldAfter answer (cutOf p .digits) digits)
+        × (f .count ≡ valueAfter answer (cutOf p .count) count)
     unfolding heldAfter
     cut-done z l digits′ e =
         let n : codeOf (cutOf p .answer) ≡ 0 = rw (← g) (sym c ∙ z) in
         let a : answer ≡ Accepted = long ∙ rw g (cut-none p n) in
         let w : take 32 (f .digits) ++ drop 32 digits ≡ f .digits ++ drop (length (f .digits)) digits = rw (← l, take-length (f .digits)) in
-        (code-none a, (e ∙ w ∙ rw (a, g), value-new count a (ap (λ (x : Family). x .count) g)))
+        (code-none a, e ∙ w ∙ rw (a, g), value-new count a (ap (λ (x : Family). x .count) g))

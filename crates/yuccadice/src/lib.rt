@@ -1,6 +1,5 @@
 // The calls for programs in other languages. Each function answers the refusal's number, 0 where the call is accepted, and hands its
-// results back
-// in lent tables and lent numbers. include/yuccadice.h says the same for C.
+// results back in lent tables and lent numbers. include/yuccadice.h says the same for C.
 use jobs::Reading;
 use jobs::Replayed;
 use jobs::Writing;
@@ -35,9 +34,10 @@ ghost use Rattle.yuccadice.specs.After.{cutAnswer};
 // The children of a cell by its pattern: four digits a child, 32 in all, zeros behind the last child. Refusals 15 and 6.
 #[no_mangle]
 pub extern "C" fn yd_cut(pattern: u8, digits: &mut [u8], count: &mut usize) -> u8
-    ensures { λ r. ⌜ r ≡ codeOf (cutAnswer pattern (was digits)) ⌝ }
-    ensures { λ r. ⌜ is digits ≡ heldAfter (cutAnswer pattern (was digits)) (cutOf pattern .digits) (was digits) ⌝ }
-    ensures { λ r. ⌜ is count ≡ valueAfter (cutAnswer pattern (was digits)) (cutOf pattern .count) (was count) ⌝ }
+    ensures { λ r. let a = cutAnswer pattern (was digits) in
+        ⌜ (r ≡ codeOf a)
+        × (is digits ≡ heldAfter a (cutOf pattern .digits) (was digits))
+        × (is count ≡ valueAfter a (cutOf pattern .count) (was count)) ⌝ }
 {
     if digits.len() < 32 {
         return 15;
@@ -81,31 +81,15 @@ pub extern "C" fn yd_lay_out(
     corner_count: &mut usize,
     level_count: &mut usize,
 ) -> u8
-    ensures { λ r. ⌜ r ≡ codeOf (layoutAnswer (was positions) (was cells) (was status) (was table) (was ends) (was sums)) ⌝ }
-    ensures { λ r. ⌜ is table
-        ≡ heldAfter (layoutAnswer (was positions) (was cells) (was status) (was table) (was ends) (was sums))
-        (cellTable (cornersIn (was positions) (was cells) (was status)) (cellsIn (was positions) (was cells) (was status)))
-        (was table) ⌝ }
-    ensures { λ r. ⌜ is ends
-        ≡ heldAfter (layoutAnswer (was positions) (was cells) (was status) (was table) (was ends) (was sums))
-        (endTable (cornersIn (was positions) (was cells) (was status)))
-        (was ends) ⌝ }
-    ensures { λ r. ⌜ is sums
-        ≡ heldAfter (layoutAnswer (was positions) (was cells) (was status) (was table) (was ends) (was sums))
-        (sumTable (was positions) (cornersIn (was positions) (was cells) (was status)))
-        (was sums) ⌝ }
-    ensures { λ r. ⌜ is «cell_count»
-        ≡ valueAfter (layoutAnswer (was positions) (was cells) (was status) (was table) (was ends) (was sums))
-        (length (cellsIn (was positions) (was cells) (was status)))
-        (was «cell_count») ⌝ }
-    ensures { λ r. ⌜ is «corner_count»
-        ≡ valueAfter (layoutAnswer (was positions) (was cells) (was status) (was table) (was ends) (was sums))
-        (length (cornersIn (was positions) (was cells) (was status)))
-        (was «corner_count») ⌝ }
-    ensures { λ r. ⌜ is «level_count»
-        ≡ valueAfter (layoutAnswer (was positions) (was cells) (was status) (was table) (was ends) (was sums))
-        (length (levelsIn (was positions) (was cells) (was status)))
-        (was «level_count») ⌝ }
+    ensures { λ r. let ps = was positions in let ts = was cells in let ss = was status in
+        let a = layoutAnswer ps ts ss (was table) (was ends) (was sums) in
+        ⌜ (r ≡ codeOf a)
+        × (is table ≡ heldAfter a (cellTable (cornersIn ps ts ss) (cellsIn ps ts ss)) (was table))
+        × (is ends ≡ heldAfter a (endTable (cornersIn ps ts ss)) (was ends))
+        × (is sums ≡ heldAfter a (sumTable ps (cornersIn ps ts ss)) (was sums))
+        × (is «cell_count» ≡ valueAfter a (length (cellsIn ps ts ss)) (was «cell_count»))
+        × (is «corner_count» ≡ valueAfter a (length (cornersIn ps ts ss)) (was «corner_count»))
+        × (is «level_count» ≡ valueAfter a (length (levelsIn ps ts ss)) (was «level_count»)) ⌝ }
 {
     let laid = layout::lay_out(positions, cells, status, table, ends, sums);
     match laid {
@@ -129,19 +113,12 @@ pub extern "C" fn yd_position(
     y: &mut f64,
     z: &mut f64,
 ) -> u8
-    ensures { λ r. ⌜ r ≡ codeOf (cornerAnswer (was sums) corners corner) ⌝ }
-    ensures { λ r. ⌜ is x
-        ≡ valueAfter (cornerAnswer (was sums) corners corner)
-        (pointOf (was sums) corner .x)
-        (was x) ⌝ }
-    ensures { λ r. ⌜ is y
-        ≡ valueAfter (cornerAnswer (was sums) corners corner)
-        (pointOf (was sums) corner .y)
-        (was y) ⌝ }
-    ensures { λ r. ⌜ is z
-        ≡ valueAfter (cornerAnswer (was sums) corners corner)
-        (pointOf (was sums) corner .z)
-        (was z) ⌝ }
+    ensures { λ r. let a = cornerAnswer (was sums) corners corner in
+        let p = pointOf (was sums) corner in
+        ⌜ (r ≡ codeOf a)
+        × (is x ≡ valueAfter a (p .x) (was x))
+        × (is y ≡ valueAfter a (p .y) (was y))
+        × (is z ≡ valueAfter a (p .z) (was z)) ⌝ }
 {
     let position = position::position_of(sums, corners, corner);
     match position {
@@ -165,15 +142,11 @@ pub extern "C" fn yd_ancestor(
     coarse: &mut usize,
     level: &mut usize,
 ) -> u8
-    ensures { λ r. ⌜ r ≡ codeOf (ancestorAnswer (was positions) (was cells) (was status) cell) ⌝ }
-    ensures { λ r. ⌜ is coarse
-        ≡ valueAfter (ancestorAnswer (was positions) (was cells) (was status) cell)
-        (ancestorOf (getD (cellsIn (was positions) (was cells) (was status)) cell noCell) .coarse)
-        (was coarse) ⌝ }
-    ensures { λ r. ⌜ is level
-        ≡ valueAfter (ancestorAnswer (was positions) (was cells) (was status) cell)
-        (ancestorOf (getD (cellsIn (was positions) (was cells) (was status)) cell noCell) .level)
-        (was level) ⌝ }
+    ensures { λ r. let a = ancestorAnswer (was positions) (was cells) (was status) cell in
+        let up = ancestorOf (getD (cellsIn (was positions) (was cells) (was status)) cell noCell) in
+        ⌜ (r ≡ codeOf a)
+        × (is coarse ≡ valueAfter a (up .coarse) (was coarse))
+        × (is level ≡ valueAfter a (up .level) (was level)) ⌝ }
 {
     let ancestry = layout::ancestor(positions, cells, status, cell);
     match ancestry {
@@ -195,15 +168,11 @@ pub extern "C" fn yd_counts(
     counts: &mut [u16],
     level_count: &mut usize,
 ) -> u8
-    ensures { λ r. ⌜ r ≡ codeOf (countsAnswer (was positions) (was cells) (was status) (was counts)) ⌝ }
-    ensures { λ r. ⌜ is counts
-        ≡ heldAfter (countsAnswer (was positions) (was cells) (was status) (was counts))
-        (countTable (levelsIn (was positions) (was cells) (was status)))
-        (was counts) ⌝ }
-    ensures { λ r. ⌜ is «level_count»
-        ≡ valueAfter (countsAnswer (was positions) (was cells) (was status) (was counts))
-        (length (levelsIn (was positions) (was cells) (was status)))
-        (was «level_count») ⌝ }
+    ensures { λ r. let a = countsAnswer (was positions) (was cells) (was status) (was counts) in
+        let ls = levelsIn (was positions) (was cells) (was status) in
+        ⌜ (r ≡ codeOf a)
+        × (is counts ≡ heldAfter a (countTable ls) (was counts))
+        × (is «level_count» ≡ valueAfter a (length ls) (was «level_count»)) ⌝ }
 {
     let counted = layout::counts(positions, cells, status, counts);
     match counted {
@@ -225,15 +194,11 @@ pub extern "C" fn yd_step(
     table: &mut [u8],
     cell_count: &mut usize,
 ) -> u8
-    ensures { λ r. ⌜ r ≡ codeOf (stepAnswer (was positions) (was cells) (was status) (was marks) (was table)) ⌝ }
-    ensures { λ r. ⌜ is table
-        ≡ heldAfter (stepAnswer (was positions) (was cells) (was status) (was marks) (was table))
-        (newTable (cornerCount (was positions)) (fours (was cells)) (was status) (was marks))
-        (was table) ⌝ }
-    ensures { λ r. ⌜ is «cell_count»
-        ≡ valueAfter (stepAnswer (was positions) (was cells) (was status) (was marks) (was table))
-        (length (newTable (cornerCount (was positions)) (fours (was cells)) (was status) (was marks)))
-        (was «cell_count») ⌝ }
+    ensures { λ r. let a = stepAnswer (was positions) (was cells) (was status) (was marks) (was table) in
+        let new = newTable (cornerCount (was positions)) (fours (was cells)) (was status) (was marks) in
+        ⌜ (r ≡ codeOf a)
+        × (is table ≡ heldAfter a new (was table))
+        × (is «cell_count» ≡ valueAfter a (length new) (was «cell_count»)) ⌝ }
 {
     let stepped = step::step(positions, cells, status, marks, table);
     match stepped {
@@ -246,8 +211,7 @@ pub extern "C" fn yd_step(
 }
 
 // The job of an archive: its mesh, the marked cells of all steps one after the other with their marks, and for each step how many marks
-// stand up to
-// its end. Refusals 15, 17, 1 to 5 and 7 to 9.
+// stand up to its end. Refusals 15, 17, 1 to 5 and 7 to 9.
 #[no_mangle]
 pub extern "C" fn yd_read(
     bytes: &[u8],
@@ -261,43 +225,18 @@ pub extern "C" fn yd_read(
     mark_count: &mut usize,
     step_count: &mut usize,
 ) -> u8
-    ensures { λ r. ⌜ r ≡ codeOf (readAnswer (was bytes) (was positions) (was cells) (was marked) (was marks) (was ends)) ⌝ }
-    ensures { λ r. ⌜ is positions
-        ≡ heldAfter (readAnswer (was bytes) (was positions) (was cells) (was marked) (was marks) (was ends))
-        ((jobOf (was bytes)) .positions)
-        (was positions) ⌝ }
-    ensures { λ r. ⌜ is cells
-        ≡ heldAfter (readAnswer (was bytes) (was positions) (was cells) (was marked) (was marks) (was ends))
-        ((jobOf (was bytes)) .cells)
-        (was cells) ⌝ }
-    ensures { λ r. ⌜ is marked
-        ≡ heldAfter (readAnswer (was bytes) (was positions) (was cells) (was marked) (was marks) (was ends))
-        (markedOf ((jobOf (was bytes)) .steps))
-        (was marked) ⌝ }
-    ensures { λ r. ⌜ is marks
-        ≡ heldAfter (readAnswer (was bytes) (was positions) (was cells) (was marked) (was marks) (was ends))
-        (marksOf ((jobOf (was bytes)) .steps))
-        (was marks) ⌝ }
-    ensures { λ r. ⌜ is ends
-        ≡ heldAfter (readAnswer (was bytes) (was positions) (was cells) (was marked) (was marks) (was ends))
-        (endsOf ((jobOf (was bytes)) .steps))
-        (was ends) ⌝ }
-    ensures { λ r. ⌜ is «corner_count»
-        ≡ valueAfter (readAnswer (was bytes) (was positions) (was cells) (was marked) (was marks) (was ends))
-        (lengthsOf (jobOf (was bytes)) .corners)
-        (was «corner_count») ⌝ }
-    ensures { λ r. ⌜ is «cell_count»
-        ≡ valueAfter (readAnswer (was bytes) (was positions) (was cells) (was marked) (was marks) (was ends))
-        (lengthsOf (jobOf (was bytes)) .cells)
-        (was «cell_count») ⌝ }
-    ensures { λ r. ⌜ is «mark_count»
-        ≡ valueAfter (readAnswer (was bytes) (was positions) (was cells) (was marked) (was marks) (was ends))
-        (lengthsOf (jobOf (was bytes)) .marks)
-        (was «mark_count») ⌝ }
-    ensures { λ r. ⌜ is «step_count»
-        ≡ valueAfter (readAnswer (was bytes) (was positions) (was cells) (was marked) (was marks) (was ends))
-        (lengthsOf (jobOf (was bytes)) .steps)
-        (was «step_count») ⌝ }
+    ensures { λ r. let a = readAnswer (was bytes) (was positions) (was cells) (was marked) (was marks) (was ends) in
+        let j = jobOf (was bytes) in
+        ⌜ (r ≡ codeOf a)
+        × (is positions ≡ heldAfter a (j .positions) (was positions))
+        × (is cells ≡ heldAfter a (j .cells) (was cells))
+        × (is marked ≡ heldAfter a (markedOf (j .steps)) (was marked))
+        × (is marks ≡ heldAfter a (marksOf (j .steps)) (was marks))
+        × (is ends ≡ heldAfter a (endsOf (j .steps)) (was ends))
+        × (is «corner_count» ≡ valueAfter a (lengthsOf j .corners) (was «corner_count»))
+        × (is «cell_count» ≡ valueAfter a (lengthsOf j .cells) (was «cell_count»))
+        × (is «mark_count» ≡ valueAfter a (lengthsOf j .marks) (was «mark_count»))
+        × (is «step_count» ≡ valueAfter a (lengthsOf j .steps) (was «step_count»)) ⌝ }
 {
     let reading = jobs::read(bytes, positions, cells, marked, marks, ends);
     match reading {
@@ -323,15 +262,11 @@ pub extern "C" fn yd_write(
     bytes: &mut [u8],
     byte_count: &mut usize,
 ) -> u8
-    ensures { λ r. ⌜ r ≡ codeOf (writeAnswer (was positions) (was cells) (was marked) (was marks) (was ends) (was bytes)) ⌝ }
-    ensures { λ r. ⌜ is bytes
-        ≡ heldAfter (writeAnswer (was positions) (was cells) (was marked) (was marks) (was ends) (was bytes))
-        (jobBytes (jobFrom (was positions) (was cells) (was marked) (was marks) (was ends)))
-        (was bytes) ⌝ }
-    ensures { λ r. ⌜ is «byte_count»
-        ≡ valueAfter (writeAnswer (was positions) (was cells) (was marked) (was marks) (was ends) (was bytes))
-        (length (jobBytes (jobFrom (was positions) (was cells) (was marked) (was marks) (was ends))))
-        (was «byte_count») ⌝ }
+    ensures { λ r. let a = writeAnswer (was positions) (was cells) (was marked) (was marks) (was ends) (was bytes) in
+        let new = jobBytes (jobFrom (was positions) (was cells) (was marked) (was marks) (was ends)) in
+        ⌜ (r ≡ codeOf a)
+        × (is bytes ≡ heldAfter a new (was bytes))
+        × (is «byte_count» ≡ valueAfter a (length new) (was «byte_count»)) ⌝ }
 {
     let writing = jobs::write(positions, cells, marked, marks, ends, bytes);
     match writing {
@@ -352,23 +287,13 @@ pub extern "C" fn yd_replay(
     cell_count: &mut usize,
     level_count: &mut usize,
 ) -> u8
-    ensures { λ r. ⌜ r ≡ codeOf (replayAnswer (was bytes) (was table) (was counts)) ⌝ }
-    ensures { λ r. ⌜ is table
-        ≡ heldAfter (replayAnswer (was bytes) (was table) (was counts))
-        (jobTable (jobOf (was bytes)))
-        (was table) ⌝ }
-    ensures { λ r. ⌜ is counts
-        ≡ heldAfter (replayAnswer (was bytes) (was table) (was counts))
-        (jobCounts (jobOf (was bytes)))
-        (was counts) ⌝ }
-    ensures { λ r. ⌜ is «cell_count»
-        ≡ valueAfter (replayAnswer (was bytes) (was table) (was counts))
-        (replaySize (jobOf (was bytes)) .cells)
-        (was «cell_count») ⌝ }
-    ensures { λ r. ⌜ is «level_count»
-        ≡ valueAfter (replayAnswer (was bytes) (was table) (was counts))
-        (replaySize (jobOf (was bytes)) .levels)
-        (was «level_count») ⌝ }
+    ensures { λ r. let a = replayAnswer (was bytes) (was table) (was counts) in
+        let j = jobOf (was bytes) in
+        ⌜ (r ≡ codeOf a)
+        × (is table ≡ heldAfter a (jobTable j) (was table))
+        × (is counts ≡ heldAfter a (jobCounts j) (was counts))
+        × (is «cell_count» ≡ valueAfter a (replaySize j .cells) (was «cell_count»))
+        × (is «level_count» ≡ valueAfter a (replaySize j .levels) (was «level_count»)) ⌝ }
 {
     let replayed = jobs::replay(bytes, table, counts);
     match replayed {

@@ -23,19 +23,14 @@ returns : tie.Need-returns
 returns c =
     let s = c .before .before .before .ancestor in
     let a = told ancestry-result (s .ensures) (c .before .ancestry .given .1) in
-    let v = held ancestry-result (s .ensures) (c .before .ancestry .given .1) in (
-      code-none a,
-      (
-        value-new _ a (ap (λ (z : Ancestor). z .coarse) v),
-        value-new _ a (ap (λ (z : Ancestor). z .level) v),
-      ),
-    )
+    let v = held ancestry-result (s .ensures) (c .before .ancestry .given .1) in
+    (code-none a, value-new _ a (ap (λ (z : Ancestor). z .coarse) v), value-new _ a (ap (λ (z : Ancestor). z .level) v))
 
 returns-2 : tie.Need-returns-2
 returns-2 c =
     let s = c .before .before .before .ancestor in
     let a = told ancestry-result (s .ensures) (c .before .ancestry2 .given .1) in
-    (code-refused a, (value-old _ a, value-old _ a))
+    (code-refused a, value-old _ a, value-old _ a)
 
 pub yd-ancestor-spec : {M : Type 1} → statement M
 yd-ancestor-spec =

@@ -26,7 +26,7 @@ returns c =
     let t = s .ensures .1 in
     let a = told counted-result (s .ensures .0) (c .before .counted .given .1) in
     let v = held counted-result (s .ensures .0) (c .before .counted .given .1) in
-    (code-none a, (t, value-new _ a v))
+    (code-none a, t, value-new _ a v)
 
 same-length-2 : tie.Need-same-length-2
 same-length-2 c = search needs
@@ -36,7 +36,7 @@ returns-2 c =
     let s = c .before .before .before .before .before .counts in
     let t = s .ensures .1 in
     let a = told counted-result (s .ensures .0) (c .before .counted2 .given .1) in
-    (code-refused a, (t, value-old _ a))
+    (code-refused a, t, value-old _ a)
 
 pub yd-counts-spec : {M : Type 1} → statement M
 yd-counts-spec =

@@ -35,22 +35,12 @@ returns c =
     let a = told laid-result (s .ensures .0) (c .before .laid .given .1) in
     let v = held laid-result (s .ensures .0) (c .before .laid .given .1) in (
       code-none a,
-      (
-        t .0,
-        (
-          t .1 .0,
-          (
-            t .1 .1,
-            (
-              value-new _ a (ap (λ (z : Sizes). z .cells) v),
-              (
-                value-new _ a (ap (λ (z : Sizes). z .corners) v),
-                value-new _ a (ap (λ (z : Sizes). z .levels) v),
-              ),
-            ),
-          ),
-        ),
-      ),
+      t .0,
+      t .1 .0,
+      t .1 .1,
+      value-new _ a (ap (λ (z : Sizes). z .cells) v),
+      value-new _ a (ap (λ (z : Sizes). z .corners) v),
+      value-new _ a (ap (λ (z : Sizes). z .levels) v),
     )
 
 same-length-4 : tie.Need-same-length-4
@@ -66,19 +56,8 @@ returns-2 : tie.Need-returns-2
 returns-2 c =
     let s = c .before .before .before .before .before .before .before .before .lay-out in
     let t = s .ensures .1 in
-    let a = told laid-result (s .ensures .0) (c .before .laid2 .given .1) in (
-      code-refused a,
-      (
-        t .0,
-        (
-          t .1 .0,
-          (
-            t .1 .1,
-            (value-old _ a, (value-old _ a, value-old _ a)),
-          ),
-        ),
-      ),
-    )
+    let a = told laid-result (s .ensures .0) (c .before .laid2 .given .1) in
+    (code-refused a, t .0, t .1 .0, t .1 .1, value-old _ a, value-old _ a, value-old _ a)
 
 pub yd-lay-out-spec : {M : Type 1} → statement M
 yd-lay-out-spec =

@@ -25,20 +25,17 @@ returns c =
     let a = told position-result (s .ensures ∙ position-so _ _ _) (c .before .position .given .1) in
     let v = held position-result (s .ensures ∙ position-so _ _ _) (c .before .position .given .1) in (
       code-none a,
-      (
-        value-new _ a (ap (λ (z : Point). z .x) v),
-        (
-          value-new _ a (ap (λ (z : Point). z .y) v),
-          value-new _ a (ap (λ (z : Point). z .z) v),
-        ),
-      ),
+      value-new _ a (ap (λ (z : Point). z .x) v),
+      value-new _ a (ap (λ (z : Point). z .y) v),
+      value-new _ a
+          (ap (λ (z : Point). z .z) v),
     )
 
 returns-2 : tie.Need-returns-2
 returns-2 c =
     let s = c .before .before .before .position-of in
     let a = told position-result (s .ensures ∙ position-so _ _ _) (c .before .position2 .given .1) in
-    (code-refused a, (value-old _ a, (value-old _ a, value-old _ a)))
+    (code-refused a, value-old _ a, value-old _ a, value-old _ a)
 
 pub yd-position-spec : {M : Type 1} → statement M
 yd-position-spec =

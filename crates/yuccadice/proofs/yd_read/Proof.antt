@@ -41,31 +41,17 @@ returns c =
     let a = told reading-result (s .ensures .0) (c .before .reading .given .1) in
     let v = held reading-result (s .ensures .0) (c .before .reading .given .1) in (
       code-none a,
-      (
-        t .0,
-        (
-          t .1 .0,
-          (
-            t .1 .1 .0,
-            (
-              t .1 .1 .1 .0,
-              (
-                t .1 .1 .1 .1,
-                (
-                  value-new _ a (ap (λ (z : Lengths). z .corners) v),
-                  (
-                    value-new _ a (ap (λ (z : Lengths). z .cells) v),
-                    (
-                      value-new _ a (ap (λ (z : Lengths). z .marks) v),
-                      value-new _ a (ap (λ (z : Lengths). z .steps) v),
-                    ),
-                  ),
-                ),
-              ),
-            ),
-          ),
-        ),
-      ),
+      t .0,
+      t .1 .0,
+      t .1 .1 .0,
+      t .1 .1 .1 .0,
+      t .1 .1 .1 .1,
+      value-new _ a (ap (λ (z : Lengths). z .corners) v),
+      value-new _ a
+          (ap (λ (z : Lengths). z .cells) v),
+      value-new _ a (ap (λ (z : Lengths). z .marks) v),
+      value-new _ a
+          (ap (λ (z : Lengths). z .steps) v),
     )
 
 same-length-6 : tie.Need-same-length-6
@@ -87,25 +73,8 @@ returns-2 : tie.Need-returns-2
 returns-2 c =
     let s = c .before .before .before .before .before .before .before .before .before .before .before .before .read in
     let t = s .ensures .1 in
-    let a = told reading-result (s .ensures .0) (c .before .reading2 .given .1) in (
-      code-refused a,
-      (
-        t .0,
-        (
-          t .1 .0,
-          (
-            t .1 .1 .0,
-            (
-              t .1 .1 .1 .0,
-              (
-                t .1 .1 .1 .1,
-                (value-old _ a, (value-old _ a, (value-old _ a, value-old _ a))),
-              ),
-            ),
-          ),
-        ),
-      ),
-    )
+    let a = told reading-result (s .ensures .0) (c .before .reading2 .given .1) in
+    (code-refused a, t .0, t .1 .0, t .1 .1 .0, t .1 .1 .1 .0, t .1 .1 .1 .1, value-old _ a, value-old _ a, value-old _ a, value-old _ a)
 
 pub yd-read-spec : {M : Type 1} → statement M
 yd-read-spec =

@@ -30,19 +30,8 @@ returns c =
     let s = c .before .before .before .before .before .before .before .replay in
     let t = s .ensures .1 in
     let a = told replayed-result (s .ensures .0) (c .before .replayed .given .1) in
-    let v = held replayed-result (s .ensures .0) (c .before .replayed .given .1) in (
-      code-none a,
-      (
-        t .0,
-        (
-          t .1,
-          (
-            value-new _ a (ap (λ (z : Size). z .cells) v),
-            value-new _ a (ap (λ (z : Size). z .levels) v),
-          ),
-        ),
-      ),
-    )
+    let v = held replayed-result (s .ensures .0) (c .before .replayed .given .1) in
+    (code-none a, t .0, t .1, value-new _ a (ap (λ (z : Size). z .cells) v), value-new _ a (ap (λ (z : Size). z .levels) v))
 
 same-length-3 : tie.Need-same-length-3
 same-length-3 c = search needs
@@ -54,16 +43,8 @@ returns-2 : tie.Need-returns-2
 returns-2 c =
     let s = c .before .before .before .before .before .before .before .replay in
     let t = s .ensures .1 in
-    let a = told replayed-result (s .ensures .0) (c .before .replayed2 .given .1) in (
-      code-refused a,
-      (
-        t .0,
-        (
-          t .1,
-          (value-old _ a, value-old _ a),
-        ),
-      ),
-    )
+    let a = told replayed-result (s .ensures .0) (c .before .replayed2 .given .1) in
+    (code-refused a, t .0, t .1, value-old _ a, value-old _ a)
 
 pub yd-replay-spec : {M : Type 1} → statement M
 yd-replay-spec =

@@ -26,7 +26,7 @@ returns c =
     let t = s .ensures .1 in
     let a = told stepped-result (s .ensures .0) (c .before .stepped .given .1) in
     let v = held stepped-result (s .ensures .0) (c .before .stepped .given .1) in
-    (code-none a, (t, value-new _ a v))
+    (code-none a, t, value-new _ a v)
 
 same-length-2 : tie.Need-same-length-2
 same-length-2 c = search needs
@@ -36,7 +36,7 @@ returns-2 c =
     let s = c .before .before .before .before .before .step in
     let t = s .ensures .1 in
     let a = told stepped-result (s .ensures .0) (c .before .stepped2 .given .1) in
-    (code-refused a, (t, value-old _ a))
+    (code-refused a, t, value-old _ a)
 
 pub yd-step-spec : {M : Type 1} → statement M
 yd-step-spec =

@@ -26,7 +26,7 @@ returns c =
     let t = s .ensures .1 in
     let a = told writing-result (s .ensures .0) (c .before .writing .given .1) in
     let v = held writing-result (s .ensures .0) (c .before .writing .given .1) in
-    (code-none a, (t, value-new _ a v))
+    (code-none a, t, value-new _ a v)
 
 same-length-2 : tie.Need-same-length-2
 same-length-2 c = search needs
@@ -36,7 +36,7 @@ returns-2 c =
     let s = c .before .before .before .before .before .write in
     let t = s .ensures .1 in
     let a = told writing-result (s .ensures .0) (c .before .writing2 .given .1) in
-    (code-refused a, (t, value-old _ a))
+    (code-refused a, t, value-old _ a)
 
 pub yd-write-spec : {M : Type 1} → statement M
 yd-write-spec =
