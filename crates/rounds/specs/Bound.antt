@@ -17,7 +17,8 @@ use Rattle.exchange.specs.Finite.{Finite, parts, fins, step-down, sumOver, sum-
 use Rattle.exchange.specs.Protocol.{Protocol}
 use Rattle.exchange.specs.Lockstep.{lock, mailCount}
 use Rattle.rounds.specs.Task.{Task}
-use Rattle.rounds.specs.Rounds.{Body, mark, count, end, Phase, marks, counts, totals, over, phase, State, is, holdsb, ghostMarks, edgeCounts, says, writing}
+use Rattle.rounds.specs.Rounds.{Body, mark, count, end, Phase, marks, counts, totals, over, phase, State, is, holdsb, ghostMarks}
+use Rattle.rounds.specs.Rounds.{edgeCounts, says, writing}
 use Rattle.rounds.specs.Among.{is-self}
 use Rattle.rounds.specs.Rounded.{protocol, phase-marks, phase-counts, phase-totals}
 

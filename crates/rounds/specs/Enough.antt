@@ -17,9 +17,12 @@ use lib.ListN.{length}
 use borrow.Author.Tests.{eq-eqb, ne-eqb, eqb-false, lt-ltb}
 use Rattle.base.specs.Lists.{anyb, filterb, memberb}
 use Rattle.exchange.specs.Finite.{Finite, sumOver}
-use Rattle.rounds.specs.Tests.{Member, same-test, member-head, member-tail, member-cases, any-member, member-any, filtered-member, member-filtered, filter-agree}
+use Rattle.rounds.specs.Tests.{Member, same-test, member-head, member-tail, member-cases, any-member, member-any, filtered-member}
+use Rattle.rounds.specs.Tests.{member-filtered, filter-agree}
 use Rattle.rounds.specs.Task.{Task, Fit, six, has, rule, redAt, hitAt, rule-same}
-use Rattle.rounds.specs.Rounds.{Body, mark, count, end, Phase, marks, counts, State, tells, worth, is, mine, holdsb, decides, tally, told, added, starting, ghostMarks, edgeCounts, says, writing, redTold, sumTold, redDown, sized, taking}
+use Rattle.rounds.specs.Rounds.{Body, mark, count, end, Phase, marks, counts, State, tells, worth, is, mine, holdsb, decides, tally}
+use Rattle.rounds.specs.Rounds.{told, added, starting, ghostMarks, edgeCounts, says, writing, redTold, sumTold, redDown, sized}
+use Rattle.rounds.specs.Rounds.{taking}
 use Rattle.rounds.specs.Among.{any-part, part-any, sum-part, part-sum, is-self, is-eq, is-same}
 
 -- a list of bodies that a rule makes of numbers

@@ -13,7 +13,8 @@ use Rattle.exchange.specs.Finite.{Finite}
 use Rattle.exchange.specs.Protocol.{only, only-same, only-other}
 use Rattle.rounds.specs.Task.{Task}
 use Rattle.rounds.specs.Among.{is-same, is-not}
-use Rattle.rounds.specs.Rounds.{Body, mark, count, total, end, Phase, marks, counts, totals, over, State, is, holdsb, ghostMarks, edgeCounts, says, writing}
+use Rattle.rounds.specs.Rounds.{Body, mark, count, total, end, Phase, marks, counts, totals, over, State, is, holdsb, ghostMarks}
+use Rattle.rounds.specs.Rounds.{edgeCounts, says, writing}
 
 module _ {Part : Type 0} (F : Finite Part) (J : Task Part) (ps : List Part) where
   -- one message for the parts that pass a test

@@ -18,7 +18,8 @@ use Rattle.exchange.specs.Finite.{Finite}
 use Rattle.exchange.specs.Protocol.{Protocol}
 use Rattle.exchange.specs.Lockstep.{lock}
 use Rattle.rounds.specs.Task.{Task, Fit}
-use Rattle.rounds.specs.Rounds.{Body, mark, count, total, end, Phase, marks, counts, totals, over, after, phase, State, is, holdsb, starting, ghostMarks, edgeCounts, says, writing, taking}
+use Rattle.rounds.specs.Rounds.{Body, mark, count, total, end, Phase, marks, counts, totals, over, after, phase, State, is, holdsb}
+use Rattle.rounds.specs.Rounds.{starting, ghostMarks, edgeCounts, says, writing, taking}
 use Rattle.rounds.specs.Order.{orderOf}
 use Rattle.rounds.specs.Enough.{Known, Marking, Counting, at-start, marks-known, counts-known, last-known}
 

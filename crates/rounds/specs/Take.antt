@@ -13,7 +13,8 @@ use borrow.Author.Tests.{eq-eqb, ne-eqb}
 use Rattle.base.specs.Lists.{anyb}
 use Rattle.exchange.specs.Finite.{Finite, parts, sumOver, sum-change, upd, upd-same, upd-other}
 use Rattle.rounds.specs.Tests.{same-test}
-use Rattle.rounds.specs.Rounds.{Body, mark, count, State, tells, worth, mastersIn, topIn, largest, told, added, mastersTold, topTold, redTold, sumTold}
+use Rattle.rounds.specs.Rounds.{Body, mark, count, State, tells, worth, mastersIn, topIn, largest, told, added, mastersTold}
+use Rattle.rounds.specs.Rounds.{topTold, redTold, sumTold}
 use Rattle.rounds.specs.Among.{any-part, part-any, largest-more}
 use Rattle.base.specs.Bools.{or-first, or-second, or-either}
 

@@ -8,7 +8,8 @@ use native.Mathlib.Omega.{arith}
 use Rattle.exchange.specs.Finite.{Finite, parts, sumOver, sum-change}
 use Rattle.exchange.specs.Lockstep.{lock}
 use Rattle.rounds.specs.Task.{Task, Fit}
-use Rattle.rounds.specs.Rounds.{Body, total, end, Phase, counts, totals, State, mastersIn, topIn, capped, largest, mastersTold, topTold, redDown, sumTold, counting, sized, says, writing, taking}
+use Rattle.rounds.specs.Rounds.{Body, total, end, Phase, counts, totals, State, mastersIn, topIn, capped, largest, mastersTold}
+use Rattle.rounds.specs.Rounds.{topTold, redDown, sumTold, counting, sized, says, writing, taking}
 use Rattle.rounds.specs.Among.{sum-cut, largest-more, is-self, is-not}
 use Rattle.rounds.specs.Enough.{Known}
 use Rattle.rounds.specs.Rounded.{protocol, phase-counts, phase-totals, enough}

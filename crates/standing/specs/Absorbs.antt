@@ -15,14 +15,16 @@ use Rattle.base.specs.declared.Answer.the-variants.{Accepted}
 use Rattle.exchange.specs.Finite.{parts, upd, upd-same, upd-other}
 use Rattle.exchange.specs.Protocol.{withBody}
 use Rattle.rounds.specs.Task.{Task}
-use Rattle.rounds.specs.Rounds.{Body, mark, count, total, end, tells, worth, phase, is, redTold, sumTold, capped, mastersIn, topIn, mastersTold, topTold}
+use Rattle.rounds.specs.Rounds.{Body, mark, count, total, end, tells, worth, phase, is, redTold, sumTold, capped, mastersIn, topIn}
+use Rattle.rounds.specs.Rounds.{mastersTold, topTold}
 use Rattle.rounds.specs.Among.{is-self}
 use Rattle.rounds.specs.Take.{red-take, sum-take, masters-take, top-take}
 use Rattle.rounds.specs.Rounded.{wholeb, endedb, isEnd, overb}
 use Rattle.store.specs.Fields.{field, PART, GIVEN, OWNER, RED, HOLDERS, SUM, TOTAL, HIGH}
 use Rattle.store.specs.Message.{messageOf}
 use Rattle.store.specs.Hand.{lengthOf, shapeb, routeb, contentb, wellb, takenAt, endedAt, handAnswer, handAfter, absorbed, counted}
-use Rattle.store.specs.Checks.{length-first, length-second, length-third, length-fourth, shape-some, route-to, mark-value, count-value, total-within, content-first, content-second, content-third, content-other, well-content}
+use Rattle.store.specs.Checks.{length-first, length-second, length-third, length-fourth, shape-some, route-to, mark-value, count-value}
+use Rattle.store.specs.Checks.{total-within, content-first, content-second, content-third, content-other, well-content}
 use Rattle.store.specs.Handing.{Hands, hand-taken}
 use Rattle.standing.specs.Walk.{Posted, givenTo, queue-same, sent-same, posted-written}
 use Rattle.standing.specs.Packed.{bodyb, entryCode, entryValue, Content, Read, read}

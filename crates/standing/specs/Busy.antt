@@ -21,10 +21,12 @@ use Rattle.exchange.specs.Finite.{Finite, parts}
 use Rattle.exchange.specs.Protocol.{Local, withQueue}
 use Rattle.rounds.specs.Tests.{Member}
 use Rattle.rounds.specs.Task.{Task}
-use Rattle.rounds.specs.Rounds.{Body, mark, count, total, end, State, phase, is, mine, holdsb, redTold, sumTold, capped, mastersTold, topTold}
+use Rattle.rounds.specs.Rounds.{Body, mark, count, total, end, State, phase, is, mine, holdsb, redTold, sumTold, capped, mastersTold}
+use Rattle.rounds.specs.Rounds.{topTold}
 use Rattle.rounds.specs.Among.{is-eq}
 use Rattle.rounds.specs.Rounded.{wholeb, endedb, overb, sizedb}
-use Rattle.store.specs.Fields.{field, full, STAGE, PART, PARTS, CELLS, LEVELS, ROUND, RESULT, CURSOR, BIT, OWNER, RED, HOLDERS, SUM, TOTAL, HIGH}
+use Rattle.store.specs.Fields.{field, full, STAGE, PART, PARTS, CELLS, LEVELS, ROUND, RESULT, CURSOR, BIT, OWNER, RED, HOLDERS, SUM}
+use Rattle.store.specs.Fields.{TOTAL, HIGH}
 use Rattle.store.specs.Header.{stageb, headerb}
 use Rattle.store.specs.Message.{messageOf}
 use Rattle.store.specs.declared.Fetched.the-variants.{Message, Nothing}
@@ -33,7 +35,8 @@ use Rattle.store.specs.Fetching.{none-left, some-left}
 use Rattle.store.specs.Hand.{numberAt, shapeb, routeb, contentb, wellb, handAnswer}
 use Rattle.store.specs.Handing.{TakesIt, taken-is}
 use Rattle.store.specs.Headed.{header-is}
-use Rattle.standing.specs.Walk.{leftOf, givenAfter, queueOf, givenTo, fetch-empty, fetch-first, fetch-rest, passed-entry, posted-passed, posted-written, passed-else, passed-length}
+use Rattle.standing.specs.Walk.{leftOf, givenAfter, queueOf, givenTo, fetch-empty, fetch-first, fetch-rest, passed-entry}
+use Rattle.standing.specs.Walk.{posted-passed, posted-written, passed-else, passed-length}
 use Rattle.standing.specs.Packed.{bodyb, entryCode, entryValue, packed, read}
 
 stageOf : ℕ → ℕ → ℕ → ℕ → Bool
