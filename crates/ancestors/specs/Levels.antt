@@ -20,7 +20,7 @@ use Rattle.base.specs.Every.{All, all-append, all-at}
 use Rattle.ancestors.specs.Linked.{linkedPath, parentAt, Descends, Linked}
 
 -- the cell c is a child of one of the cells l
-pub record Kid {A : Type 0} (l : List (Cell A)) (c : Cell A) : Type 0 where
+pub record KidOf {A : Type 0} (l : List (Cell A)) (c : Cell A) : Type 0 where
   pub below : c .parent < length l
   pub number : ℕ
   pub path : c .path ≡ linkedPath l (c .parent) ++ (number ∷ [])
@@ -43,7 +43,7 @@ module _ {A : Type 0} (l m : List (Cell A)) where
             (sym q ∙ ap (linkedPath (l ++ m)) (sym e));
       }
 
-  new-child : (j : ℕ) → Kid l (getD m j noCell) → Descends (l ++ m) (length l + j)
+  new-child : (j : ℕ) → KidOf l (getD m j noCell) → Descends (l ++ m) (length l + j)
   new-child j c =
       let w : getD (l ++ m) (length l + j) noCell ≡ getD m j noCell = getD-append-add l m j noCell in
       let e : parentAt (l ++ m) (length l + j) ≡ parentAt m j = ap (λ (d : Cell A). d .parent) w in
@@ -56,7 +56,7 @@ module _ {A : Type 0} (l m : List (Cell A)) where
         path = p ∙ c .path ∙ ap (λ (r : List ℕ). r ++ (c .number ∷ [])) (sym q ∙ ap (linkedPath (l ++ m)) (sym e));
       }
 
-  pub grown : Linked l → All (Kid l) m → Linked (l ++ m)
+  pub grown : Linked l → All (KidOf l) m → Linked (l ++ m)
   grown o a = record { link = λ k h. go k h (ltb k (length l)) refl }
     where
       old : (k : ℕ) → k < length l → (linkedPath (l ++ m) k ≡ k ∷ []) ⊎ Descends (l ++ m) k
@@ -71,24 +71,24 @@ module _ {A : Type 0} (l m : List (Cell A)) where
           let j = k - length l in
           let e : length l + j ≡ k = omega (arith, ltb-false k (length l) t) in
           let i : j < length m = omega (arith, e, h, length-append l m) in
-          inr (subst (λ (n : ℕ). Descends (l ++ m) n) e (new-child j (all-at (Kid l) noCell m a j i)))
+          inr (subst (λ (n : ℕ). Descends (l ++ m) n) e (new-child j (all-at (KidOf l) noCell m a j i)))
 
 -- the families of cells that stand in l
 module _ {A : Type 0} (l : List (Cell A)) (k : ℕ) (c : Cell A) (h : k < length l) (p : linkedPath l k ≡ c .path) where
-  kids-from : (r : Bool) (f : ℕ → A) (i : ℕ) (ds : List (List ℕ)) → All (Kid l) (childrenFrom k c r f i ds)
+  kids-from : (r : Bool) (f : ℕ → A) (i : ℕ) (ds : List (List ℕ)) → All (KidOf l) (childrenFrom k c r f i ds)
   unfolding childrenFrom
   kids-from r f i [] = tt
   kids-from r f i (d ∷ ds) = (record { below = h; number = i; path = ap (λ (q : List ℕ). q ++ (i ∷ [])) (sym p) }, kids-from r f (suc i) ds)
 
-  kids : (s : ℕ) (f : ℕ → A) → All (Kid l) (children k c s f)
+  kids : (s : ℕ) (f : ℕ → A) → All (KidOf l) (children k c s f)
   unfolding children
   kids s f = go (eqb s 0) refl
     where
-      go : (b : Bool) → eqb s 0 ≡ b → All (Kid l) (children k c s f)
+      go : (b : Bool) → eqb s 0 ≡ b → All (KidOf l) (children k c s f)
       go true e = rw (e, children) tt
       go false e = rw (e, children) (kids-from (redb s) f 0 (family (patternOf s)))
 
-next-kids : (l before cs : List (Cell Point)) (ss : List ℕ) → l ≡ before ++ cs → All (Kid l) (next (length before) cs ss)
+next-kids : (l before cs : List (Cell Point)) (ss : List ℕ) → l ≡ before ++ cs → All (KidOf l) (next (length before) cs ss)
 unfolding next
 next-kids l before [] ss e = tt
 next-kids l before (c ∷ cs) [] e = tt
@@ -96,9 +96,9 @@ next-kids l before (c ∷ cs) (s ∷ ss) e =
     let h : length before < length l = omega (arith, ap length e, length-append before (c ∷ cs)) in
     let p : linkedPath l (length before) ≡ c .path = rw e (ap (λ (d : Cell Point). d .path) (getD-append-seam before c cs noCell)) in
     let w : length (before ++ (c ∷ [])) ≡ suc (length before) = omega (arith, length-append before (c ∷ [])) in
-    let i : All (Kid l) (next (suc (length before)) cs ss) = rw w at
+    let i : All (KidOf l) (next (suc (length before)) cs ss) = rw w at
     (next-kids l (before ++ (c ∷ [])) cs ss (e ∙ sym (append-snoc before c cs))) in
-    all-append (Kid l) (children (length before) c s (point c)) (next (suc (length before)) cs ss)
+    all-append (KidOf l) (children (length before) c s (point c)) (next (suc (length before)) cs ss)
     (kids l (length before) c h p s (point c)) i
 
 levels-linked : (f : ℕ) (before cs : List (Cell Point)) (ss : List ℕ) → Linked before → Linked (before ++ cs)

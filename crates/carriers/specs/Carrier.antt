@@ -26,7 +26,7 @@ use Rattle.lattice.specs.Regular.{Regular, same-ends}
 use Rattle.families.specs.Children.{middle}
 use Rattle.lattice.specs.Edges.{joins}
 use Rattle.carriers.specs.Lists.{held-at}
-use Rattle.families.specs.Joining.{agreeb, orderedb, faceCorners, joined-alike, joined-split, joined-mid, joined-turned}
+use Rattle.families.specs.Joining.{agreeb, orderedb, joinCorners, joined-alike, joined-split, joined-mid, joined-turned}
 use Rattle.carriers.specs.Order.{lower-too, agree}
 
 -- the edge between two corners
@@ -94,7 +94,7 @@ module _ (n k : ℕ) (c q : Cell Point) (h : k < 10) (r : Regular n k c) (s : Re
     joined : T (joinedb (family 63) d e)
     joined = joined-alike d e hd he a b ha hb t ordered
 
-    corners-shared : All (Shares c q) (faceCorners d e)
+    corners-shared : All (Shares c q) (joinCorners d e)
     corners-shared =
         let (x0, x1) = same-ends n k c q r s h d a hd ha x in
         let (y0, y1) = same-ends n k c q r s h e b he hb y in
@@ -109,10 +109,10 @@ module _ (n k : ℕ) (c q : Cell Point) (h : k < 10) (r : Regular n k c) (s : Re
     unfolding impb
     carried p hp f =
         joined-split d e hd he p hp joined
-        (all-pass (Shares c q) (λ i. allb (λ j. impb (ltb i j) (split p (edgeOf (digit i j)))) (faceCorners d e))
+        (all-pass (Shares c q) (λ i. allb (λ j. impb (ltb i j) (split p (edgeOf (digit i j)))) (joinCorners d e))
         (λ i u. all-pass (Shares c q) (λ j. impb (ltb i j) (split p (edgeOf (digit i j)))) (λ j v. go i j u v (ltb i j) refl)
-        (faceCorners d e) corners-shared)
-        (faceCorners d e) corners-shared)
+        (joinCorners d e) corners-shared)
+        (joinCorners d e) corners-shared)
       where
         go : (i j : ℕ) → Shares c q i → Shares c q j → (z : Bool) → ltb i j ≡ z → T (impb z (split p (edgeOf (digit i j))))
         go i j u v true w = let l : i < j = ltb-true i j w in f (edgeOf (digit i j)) (between-below i j l (v .1)) (held-between i j l u v)

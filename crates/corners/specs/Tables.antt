@@ -22,21 +22,21 @@ use Rattle.corners.specs.Weighted.{Evens, half-mid, weighted-coarse}
 use Rattle.mesh.specs.Laws.{length-mid}
 
 -- corner i; where there is none, one with no weights
-abbrev pub cornerAt : List Corner → ℕ → Corner
-cornerAt ks i = getD ks i (record { weights = []; low = 0; high = 0 })
+abbrev pub cornerNumbered : List Corner → ℕ → Corner
+cornerNumbered ks i = getD ks i (record { weights = []; low = 0; high = 0 })
 
-abbrev pub weightsAt : List Corner → ℕ → Point
-weightsAt ks i = cornerAt ks i .weights
+abbrev pub weightsNumbered : List Corner → ℕ → Point
+weightsNumbered ks i = cornerNumbered ks i .weights
 
 -- Rules 5.2, 5.5, 9.3: coarse corners first, then midpoints of corners before them.
 pub record CornersNumbered (n : ℕ) (xs ys : List ℕ) (m : ℕ) (ks : List Corner) : Type 0 where
   pub count : length ks ≡ n + m
   pub coarse-first : take n ks ≡ coarseCorners n
   pub ends : Ends n xs ys m
-  pub low : (j : ℕ) → j < m → cornerAt ks (n + j) .low ≡ getD xs j 0
-  pub high : (j : ℕ) → j < m → cornerAt ks (n + j) .high ≡ getD ys j 0
-  pub middle : (j : ℕ) → j < m → weightsAt ks (n + j) ≡ mid (weightsAt ks (getD xs j 0)) (weightsAt ks (getD ys j 0))
-  pub even : (j : ℕ) → j < m → Evens (weightsAt ks (getD xs j 0)) (weightsAt ks (getD ys j 0))
+  pub low : (j : ℕ) → j < m → cornerNumbered ks (n + j) .low ≡ getD xs j 0
+  pub high : (j : ℕ) → j < m → cornerNumbered ks (n + j) .high ≡ getD ys j 0
+  pub middle : (j : ℕ) → j < m → weightsNumbered ks (n + j) ≡ mid (weightsNumbered ks (getD xs j 0)) (weightsNumbered ks (getD ys j 0))
+  pub even : (j : ℕ) → j < m → Evens (weightsNumbered ks (getD xs j 0)) (weightsNumbered ks (getD ys j 0))
 
 -- the tables corner by corner
 flat-snoc : {A B : Type 0} (f : A → List B) (l : List A) (a : A) → flatMap f (l ++ (a ∷ [])) ≡ flatMap f l ++ f a
@@ -68,7 +68,7 @@ unfolding sumTable
 sums-snoc ps ks k = flat-snoc (λ (c : Corner). sumsOf ps (c .weights)) ks k
 
 pub sums-at : (ps : List ℤ) (k : ℕ) → k < 3 → (ks : List Corner) (i : ℕ) → i < length ks
-    → coordinateAt (sumTable ps ks) i k ≡ weightedSum ps k (weightsAt ks i)
+    → coordinateAt (sumTable ps ks) i k ≡ weightedSum ps k (weightsNumbered ks i)
 unfolding coordinateAt sumTable flatMap
 sums-at ps k h [] i l = absurd (omega arith)
 sums-at ps k h (c ∷ ks) zero l = rw (zero-add k) (first k h)
@@ -89,7 +89,7 @@ module _ (n : ℕ) where
   length-coarse zero = refl
   length-coarse (suc i) = simp length-append (omega (arith, length-coarse i))
 
-  coarse-at : (k i : ℕ) → i < k → weightsAt (coarseCornersTo n k) i ≡ coarse n i
+  coarse-at : (k i : ℕ) → i < k → weightsNumbered (coarseCornersTo n k) i ≡ coarse n i
   unfolding coarseCornersTo
   coarse-at zero i h = absurd (omega arith)
   coarse-at (suc k) i h =
@@ -119,10 +119,10 @@ module _ (n : ℕ) where
 
 module _ (n : ℕ) (xs ys : List ℕ) (m : ℕ) (ks : List Corner) (w : CornersNumbered n xs ys m ks) where
   -- each corner has n weights
-  sized : (j : ℕ) → j ≤ m → (i : ℕ) → i < n + j → length (weightsAt ks i) ≡ n
+  sized : (j : ℕ) → j ≤ m → (i : ℕ) → i < n + j → length (weightsNumbered ks i) ≡ n
   unfolding coarseCorners coarse
   sized zero h i l =
-      let e : weightsAt ks i ≡ coarse n i =
+      let e : weightsNumbered ks i ≡ coarse n i =
       ap (λ (c : Corner). c .weights) (sym (getD-take n ks i _ (omega arith)))
       ∙ rw (w .coarse-first) (coarse-at n n i (omega arith)) in
       rw e (length-set (replicate n 0) i 1024 ∙ length-replicate n 0)
@@ -130,31 +130,31 @@ module _ (n : ℕ) (xs ys : List ℕ) (m : ℕ) (ks : List Corner) (w : CornersN
       ⊎-elim
       (λ (e : i ≡ n + j).
       rw (e, w .middle j h)
-      (length-mid n (weightsAt ks (getD xs j 0)) (weightsAt ks (getD ys j 0))
+      (length-mid n (weightsNumbered ks (getD xs j 0)) (weightsNumbered ks (getD ys j 0))
       (sized j (omega arith) (getD xs j 0) (w .ends .below-x j h))
       (sized j (omega arith) (getD ys j 0) (w .ends .below-y j h))))
       (λ (g : i < n + j). sized j (omega arith) i g)
       (eq-or-lt-of-le (omega arith))
 
-  more : (j : ℕ) → j < m → take (n + suc j) ks ≡ take (n + j) ks ++ (cornerAt ks (n + j) ∷ [])
+  more : (j : ℕ) → j < m → take (n + suc j) ks ≡ take (n + j) ks ++ (cornerNumbered ks (n + j) ∷ [])
   more j h = rw (add-suc n j) (take-suc ks (n + j) _ (omega (arith, w .count)))
 
   ends-to : (j : ℕ) → j ≤ m → endTable (take (n + j) ks) ≡ addEnds (coarseEnds n) xs ys j
   unfolding addEnds coarseCorners
   ends-to zero h = rw (add-zero n, w .coarse-first) (coarse-ends n n)
   ends-to (suc j) h =
-      rw (more j h) (ends-snoc (take (n + j) ks) (cornerAt ks (n + j)) ∙ rw (ends-to j (omega arith), w .low j h, w .high j h))
+      rw (more j h) (ends-snoc (take (n + j) ks) (cornerNumbered ks (n + j)) ∙ rw (ends-to j (omega arith), w .low j h, w .high j h))
 
   -- a new corner's sums, from those of the corners before it
   module _ (ps : List ℤ) (j : ℕ) (h : j < m) where
     sum-before : (k : ℕ) → k < 3 → (i : ℕ) → i < n + j
-        → coordinateAt (sumTable ps (take (n + j) ks)) i k ≡ weightedSum ps k (weightsAt ks i)
+        → coordinateAt (sumTable ps (take (n + j) ks)) i k ≡ weightedSum ps k (weightsNumbered ks i)
     sum-before k l i g =
         sums-at ps k l (take (n + j) ks) i (rw (length-take-le (n + j) ks (omega (arith, w .count))) g)
         ∙ ap (λ (c : Corner). weightedSum ps k (c .weights)) (getD-take (n + j) ks i _ g)
 
     sum-new : (k : ℕ) → k < 3
-        → weightedSum ps k (weightsAt ks (n + j))
+        → weightedSum ps k (weightsNumbered ks (n + j))
         ≡ half
         (coordinateAt (sumTable ps (take (n + j) ks)) (getD xs j 0) k
         +ℤ coordinateAt (sumTable ps (take (n + j) ks)) (getD ys j 0) k)
@@ -162,7 +162,7 @@ module _ (n : ℕ) (xs ys : List ℕ) (m : ℕ) (ks : List Corner) (w : CornersN
         let a : getD xs j 0 < n + j = w .ends .below-x j h in
         let b : getD ys j 0 < n + j = w .ends .below-y j h in
         rw (sum-before k l (getD xs j 0) a, sum-before k l (getD ys j 0) b, w .middle j h)
-        (sym (half-mid ps k (weightsAt ks (getD xs j 0)) (weightsAt ks (getD ys j 0))
+        (sym (half-mid ps k (weightsNumbered ks (getD xs j 0)) (weightsNumbered ks (getD ys j 0))
         (sized j (omega arith) (getD xs j 0) a ∙ sym (sized j (omega arith) (getD ys j 0) b)) (w .even j h)))
 
   sums-to : (ps : List ℤ) (j : ℕ) → j ≤ m → sumTable ps (take (n + j) ks) ≡ addSums (coarseSums ps n) xs ys j
@@ -170,7 +170,7 @@ module _ (n : ℕ) (xs ys : List ℕ) (m : ℕ) (ks : List Corner) (w : CornersN
   sums-to ps zero h = rw (add-zero n, w .coarse-first) (coarse-sums n ps n (omega arith))
   sums-to ps (suc j) h =
       rw (more j h)
-      (sums-snoc ps (take (n + j) ks) (cornerAt ks (n + j))
+      (sums-snoc ps (take (n + j) ks) (cornerNumbered ks (n + j))
       ∙ rw (
         sum-new ps j h 0 (omega arith),
         sum-new ps j h 1 (omega arith),

@@ -5,7 +5,7 @@
 --   levelCounts f first last ss  the counts of the level and of those above it, f levels at most
 --   levelNumber f first last ss  how many levels these are
 --   levelEnd f first last ss     the end of the last of them
---   tallied t                     a tally as its four numbers
+--   tallyNumbers t                     a tally as its four numbers
 --   Levels ss coarse             the statuses are those of a table with this many coarse cells, within the limits
 use mathlib.Core.Path.{_≡_, refl}
 use mathlib.Core.Bool.{Bool, true, false}
@@ -54,8 +54,8 @@ levelEnd zero first last ss = first
 levelEnd (suc f) first last ss = elim (ltb first last) [ true ↦ levelEnd f last (nextEnd first last ss) ss | false ↦ first ]
 
 -- Rule 9.5: cells, red, green, leaves.
-unfoldable pub tallied : Tally → List ℕ
-tallied t = t .cells ∷ t .red ∷ t .green ∷ t .leaf ∷ []
+unfoldable pub tallyNumbers : Tally → List ℕ
+tallyNumbers t = t .cells ∷ t .red ∷ t .green ∷ t .leaf ∷ []
 
 -- Rules 3.4, 4.1, 6.1: statuses within the limits, one for each cell.
 pub record Levels (ss : List ℕ) (coarse : ℕ) : Type 0 where

@@ -7,7 +7,7 @@ ghost use lib.Seq.{sets};
 ghost use Rattle.base.specs.Bools.{one-if};
 ghost use Rattle.base.specs.Lent.{was, is};
 ghost use Rattle.mesh.specs.Counts.{greenb};
-ghost use Rattle.counting.specs.Levels.{Levels, countsAt, levelCounts, levelNumber, tallied};
+ghost use Rattle.counting.specs.Levels.{Levels, countsAt, levelCounts, levelNumber, tallyNumbers};
 
 // The counts of one level.
 pub struct Tally {
@@ -35,7 +35,7 @@ fn is_green(status: u8) -> bool
 // The counts of the cells from first to last.
 fn count_range(status: &[u8], first: usize, last: usize) -> Tally
     requires { ⌜ (first ≤ last) × (last ≤ length (now status)) × (length (now status) ≤ 4096) ⌝ }
-    ensures { λ r. ⌜ tallied r ≡ countsAt first last (was status) ⌝ }
+    ensures { λ r. ⌜ tallyNumbers r ≡ countsAt first last (was status) ⌝ }
 {
     let mut red: u16 = 0;
     let mut green: u16 = 0;
@@ -59,7 +59,7 @@ fn count_range(status: &[u8], first: usize, last: usize) -> Tally
 // Stores the four numbers of a tally.
 fn put_tally(counts: &mut [u16], at: usize, t: Tally)
     requires { ⌜ at + 4 ≤ length (now counts) ⌝ }
-    ensures { λ r. ⌜ is counts ≡ sets (was counts) at (tallied t) ⌝ }
+    ensures { λ r. ⌜ is counts ≡ sets (was counts) at (tallyNumbers t) ⌝ }
 {
     counts[at] = t.cells;
     counts[at + 1] = t.red;

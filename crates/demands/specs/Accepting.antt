@@ -1,6 +1,7 @@
 -- The steps of the starred cases are accepted (Rules 14.2 to 14.6), so the tables of `cases` are what these calls hand out.
 --   cornersA, cellsA    mesh A
---   Accepts ss ms       the step with the marks ms on the table ss over mesh A is accepted, whatever table is lent, if it is long enough
+-- AcceptsStep ss ms       the step with the marks ms on the table ss over mesh A is accepted, whatever table is lent, if it is long
+-- enough
 --   StarredAccepted     all steps of the starred cases
 -- Law: starred-accepted.
 use mathlib.Core.Path.{_≡_, refl}
@@ -26,20 +27,20 @@ cornersA =
 pub cellsA : List ℕ
 cellsA = 0 ∷ 1 ∷ 2 ∷ 3 ∷ []
 
-abbrev pub Accepts : List ℕ → List ℕ → Type 0
-Accepts ss ms = (table : List ℕ) → mostCells ≤ length table → stepAnswer cornersA cellsA ss ms table ≡ Accepted
+abbrev pub AcceptsStep : List ℕ → List ℕ → Type 0
+AcceptsStep ss ms = (table : List ℕ) → mostCells ≤ length table → stepAnswer cornersA cellsA ss ms table ≡ Accepted
 
 pub record StarredAccepted : Type 0 where
   pub tables : (ss ms : List ℕ) → newTable (cornerCount cornersA) (fours cellsA) ss ms ≡ flatten (step ss ms)
-  pub A-deleted : Accepts (0 ∷ []) (2 ∷ [])
-  pub A-refined : Accepts (0 ∷ []) (1 ∷ [])
-  pub B-refined : Accepts B (0 ∷ 1 ∷ replicate 7 0)
-  pub C-refined : Accepts C (marksOfC (replicate 8 0) (1 ∷ replicate 7 0))
-  pub C-deleted : Accepts C (marksOfC (replicate 8 2) (replicate 8 0))
-  pub C-kept : Accepts C (marksOfC (replicate 7 2 ++ (0 ∷ [])) (replicate 8 0))
-  pub C-both : Accepts C (marksOfC (replicate 8 2) (1 ∷ replicate 7 0))
+  pub A-deleted : AcceptsStep (0 ∷ []) (2 ∷ [])
+  pub A-refined : AcceptsStep (0 ∷ []) (1 ∷ [])
+  pub B-refined : AcceptsStep B (0 ∷ 1 ∷ replicate 7 0)
+  pub C-refined : AcceptsStep C (marksOfC (replicate 8 0) (1 ∷ replicate 7 0))
+  pub C-deleted : AcceptsStep C (marksOfC (replicate 8 2) (replicate 8 0))
+  pub C-kept : AcceptsStep C (marksOfC (replicate 7 2 ++ (0 ∷ [])) (replicate 8 0))
+  pub C-both : AcceptsStep C (marksOfC (replicate 8 2) (1 ∷ replicate 7 0))
 
-lent-enough : (ss ms : List ℕ) → markedAnswer cornersA cellsA ss ms ≡ Accepted → Accepts ss ms
+lent-enough : (ss ms : List ℕ) → markedAnswer cornersA cellsA ss ms ≡ Accepted → AcceptsStep ss ms
 unfolding stepAnswer refuse
 lent-enough ss ms e table h = rw (le-leb mostCells (length table) h) e
 

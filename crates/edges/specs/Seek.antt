@@ -140,10 +140,10 @@ none-listed xs ys heads links n k = let e : n - n ≡ 0 = omega arith in
     record { keys = k; up = omega arith; distinct = rw e (distinct-nil isb (0, 0) same-pair) }
 
 -- what `holds` answers
-pub told : (xs ys heads links : List ℕ) (from n : ℕ) → Table xs ys heads links from n → (e : Pair) (x y : ℕ)
+pub told-place : (xs ys heads links : List ℕ) (from n : ℕ) → Table xs ys heads links from n → (e : Pair) (x y : ℕ)
     → _≡_ {A = Pair} (x, y) (sorted e)
     → (at : ℕ) → at ≡ seek xs ys x y from (n - from) → not (eqb at 65535) ≡ hasb isb (listed xs ys from n) (sorted e)
-told xs ys heads links from n r e x y s at q = go (eqb at 65535) refl
+told-place xs ys heads links from n r e x y s at q = go (eqb at 65535) refl
   where
     go : (t : Bool) → eqb at 65535 ≡ t → not t ≡ hasb isb (listed xs ys from n) (sorted e)
     go true t = sym (rw s at (missing xs ys from x y (n - from) (omega (arith, r .up, r .keys .small)) (sym q ∙ eqb-true at 65535 t)))

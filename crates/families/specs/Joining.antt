@@ -1,7 +1,7 @@
 -- What a family joins, by computed tests over digits: two digits are told by the order of the corners that they lie between.
 --   agreeb i j k l     the numbers i and j compare as k and l do
 --   orderedb d e a b   the corners of the digits d and e compare as those of a and b do
---   faceCorners d e      the corners that the digits d and e lie between
+--   joinCorners d e      the corners that the digits d and e lie between
 --   splitb p d e       every edge between two of those corners is split in the pattern p
 -- Laws: joined-alike (what the family of a red cell joins depends on that order), joined-split (a family joins what the red one
 -- joins, where those edges are split), joined-mid (of two digits that the red one joins one is a midpoint), joined-turned (it
@@ -36,11 +36,11 @@ alike-test : T (belowb (λ d. belowb (λ e. joinedb reds d e || belowb (λ a. be
 unfolding belowb joinedb impb alikeTest low high
 alike-test = tt
 
-abbrev pub faceCorners : ℕ → ℕ → List ℕ
-faceCorners d e = low d ∷ high d ∷ low e ∷ high e ∷ []
+abbrev pub joinCorners : ℕ → ℕ → List ℕ
+joinCorners d e = low d ∷ high d ∷ low e ∷ high e ∷ []
 
 abbrev pub splitb : ℕ → ℕ → ℕ → Bool
-splitb p d e = allb (λ i. allb (λ j. impb (ltb i j) (split p (edgeOf (digit i j)))) (faceCorners d e)) (faceCorners d e)
+splitb p d e = allb (λ i. allb (λ j. impb (ltb i j) (split p (edgeOf (digit i j)))) (joinCorners d e)) (joinCorners d e)
 
 splitTest : ℕ → List (List ℕ) → ℕ → ℕ → Bool
 splitTest p f d e = impb (joinedb reds d e) (impb (splitb p d e) (joinedb f d e))

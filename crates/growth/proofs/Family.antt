@@ -18,7 +18,7 @@ use Rattle.cutting.specs.declared.Family.{Family}
 use Rattle.cutting.specs.Rows.{family-fours}
 use Rattle.rows.specs.Numbered.{childRows}
 use Rattle.growth.specs.Written.{written, written-none, written-more}
-use Rattle.growth.specs.Rows.{length-rows-from}
+use Rattle.growth.specs.Rows.{length-child-rows}
 use Rattle.growth.specs.Places.{present-point, family-has}
 use Rattle.growth.specs.Points.{fourAt}
 
@@ -147,7 +147,7 @@ module _ (cells₀ : List ℕ) (at l k : ℕ) (r : Bool) (f : ℕ → ℕ) (p : 
       (x : Rows cells₀ at l k r f p cells i) where
     length-some : length (childRows l k r f 0 (take i (family p))) ≡ 8 * i
     length-some =
-        length-rows-from l k r f 0 (take i (family p)) (all-take (λ c. eqb (length c) 4) i (family p) (family-fours p h))
+        length-child-rows l k r f 0 (take i (family p)) (all-take (λ c. eqb (length c) 4) i (family p) (family-fours p h))
         ∙ rw (length-take-le i (family p) (x .below))
 
     pub rows-more : i < length (family p) → (cells′ : List ℕ) → length cells′ ≡ length cells

@@ -86,13 +86,13 @@ module _ (l n : ℕ) (es : List Pair) (up : 1 ≤ l) where
       ∙ sym (flat-append (children k c′ s (pointAt n es c′)) (nextOf n es (suc k) cs′ ss))
 
 -- eight numbers a child
-pub length-rows-from : (l k : ℕ) (r : Bool) (f : ℕ → ℕ) (i : ℕ) (ds : List (List ℕ)) → T (allb (λ c. eqb (length c) 4) ds)
+pub length-child-rows : (l k : ℕ) (r : Bool) (f : ℕ → ℕ) (i : ℕ) (ds : List (List ℕ)) → T (allb (λ c. eqb (length c) 4) ds)
     → length (childRows l k r f i ds) ≡ 8 * length ds
 unfolding childRows allb
-length-rows-from l k r f i [] t = refl
-length-rows-from l k r f i (d ∷ ds) t =
+length-child-rows l k r f i [] t = refl
+length-child-rows l k r f i (d ∷ ds) t =
     let e : length d ≡ 4 = eqb→eq (length d) 4 (and-left (eqb (length d) 4) (allb (λ c. eqb (length c) 4) ds) t) in
-    let h = length-rows-from l k r f (suc i) ds (and-right (eqb (length d) 4) (allb (λ c. eqb (length c) 4) ds) t) in
+    let h = length-child-rows l k r f (suc i) ds (and-right (eqb (length d) 4) (allb (λ c. eqb (length c) 4) ds) t) in
     simp (length-append, length-map) (omega arith)
 
 pub length-family : (l k : ℕ) (f : ℕ → ℕ) (s : ℕ) → s ≤ 64 → length (rowsOf l k s f) ≡ 8 * sizeOf s
@@ -102,7 +102,7 @@ length-family l k f s h = go (eqb s 0) refl
     go : (b : Bool) → eqb s 0 ≡ b → length (rowsOf l k s f) ≡ 8 * sizeOf s
     go true e = rw (e, rowsOf, sizeOf)
     go false e = rw (e, rowsOf, sizeOf)
-        (length-rows-from l k (redb s) f 0 (family (patternOf s)) (family-fours (patternOf s) (pattern-below s h)))
+        (length-child-rows l k (redb s) f 0 (family (patternOf s)) (family-fours (patternOf s) (pattern-below s h)))
 
 pub length-rowsOf : (l n : ℕ) (es : List Pair) (k : ℕ) (cs : List (Cell ℕ)) (ss : List ℕ) → length cs ≡ length ss
     → T (allb (λ s. leb s 64) ss)

@@ -45,10 +45,10 @@ own-append k (c ∷ cs) ds =
     let e : k + suc (length cs) ≡ suc k + length cs = omega arith in
     rw e (ap (λ (l : List ℕ). orNone (c .regular) k ∷ l) (own-append (suc k) cs ds))
 
-pub length-olds : (k : ℕ) (cs : List (Cell Point)) → length (ownOlds k cs) ≡ length cs
+pub length-own-olds : (k : ℕ) (cs : List (Cell Point)) → length (ownOlds k cs) ≡ length cs
 unfolding ownOlds
-length-olds k [] = refl
-length-olds k (c ∷ cs) = ap suc (length-olds (suc k) cs)
+length-own-olds k [] = refl
+length-own-olds k (c ∷ cs) = ap suc (length-own-olds (suc k) cs)
 
 -- One family.
 from-own : (a k : ℕ) (c : Cell Point) (r : Bool) (f : ℕ → Point) (i : ℕ) (ds : List (List ℕ)) (j : ℕ) → j < length ds
@@ -73,7 +73,7 @@ module _ (m : ℕ) (pre post : List ℕ) where
     o = orNone (c .regular) (length pre)
 
     same : length (oldsOf m ss t o) ≡ length (ownOlds (m + sizes pre) (children k c t (point c)))
-    same = length-olds-of m ss t o ∙ sym (length-olds (m + sizes pre) (children k c t (point c)) ∙ length-children k c t (point c))
+    same = length-olds-of m ss t o ∙ sym (length-own-olds (m + sizes pre) (children k c t (point c)) ∙ length-children k c t (point c))
 
     regular : t ≡ 64 → c .regular ≡ true
     regular e = is-true (c .regular) (w .regular (λ z. omega arith))

@@ -19,7 +19,7 @@ use Rattle.lineage.specs.Olds.{flagOf, flagTable, upTo, stepBy}
 use Rattle.lineage.specs.Paths.{length-coarse, length-upto, upto-at}
 use Rattle.lineage.specs.Step.{step-by}
 use Rattle.mesh.specs.Step.{stepTable}
-use Rattle.identity.specs.Again.{orNone, ownOlds, flagsIn, statusLists, grow-own, length-olds}
+use Rattle.identity.specs.Again.{orNone, ownOlds, flagsIn, statusLists, grow-own, length-own-olds}
 use Rattle.identity.specs.Flags.{Unmarked, redLevels, Within, flags-own}
 
 -- the coarse cells have their own numbers
@@ -33,7 +33,7 @@ start-own : (n : ℕ) (qs : List (List ℕ)) → upTo (length qs) ≡ ownOlds 0 
 unfolding coarseCells
 start-own n qs =
     ext-getD 0 (upTo (length qs)) (ownOlds 0 (coarseCells n qs))
-    (length-upto (length qs) ∙ sym (length-olds 0 (coarseCells n qs) ∙ length-coarse n qs))
+    (length-upto (length qs) ∙ sym (length-own-olds 0 (coarseCells n qs) ∙ length-coarse n qs))
     (λ j h.
     let l : j < length qs = omega (arith, length-upto (length qs)) in
     let b : getD (ownOlds 0 (coarseCells n qs)) j 0 ≡ 0 + j = coarse-own n 0 qs 0 j l in

@@ -10,7 +10,7 @@ use lib.Dec.{T}
 use lib.IntN.{ℤ}
 use Rattle.base.specs.Fours.{fours}
 use Rattle.mesh.specs.Coarse.{cornerCount, positionsb}
-use Rattle.tables.specs.Sound.{Mesh, Sound}
+use Rattle.tables.specs.Sound.{Mesh, LaidSound}
 use Rattle.mesh.specs.Table.{soundb}
 use Rattle.mesh.specs.Answers.{tableAnswer}
 use Rattle.base.specs.Refuse.{answerOf}
@@ -20,7 +20,7 @@ pub record Fits (ps : List ℤ) (ts ss rows xs ys : List ℕ) (cells levels m : 
   pub mesh : Mesh (cornerCount ps) ts
   pub positions : T (positionsb ps)
   pub table : T (soundb (cornerCount ps) (fours ts) ss)
-  pub sound : Sound (cornerCount ps) (fours ts) ss rows xs ys cells levels m
+  pub sound : LaidSound (cornerCount ps) (fours ts) ss rows xs ys cells levels m
 
 -- Rule 12.6: the answer, and where there is no refusal the rest.
 pub record Opened (ps : List ℤ) (ts ss rows xs ys : List ℕ) (refusal cells levels m : ℕ) : Type 0 where

@@ -24,8 +24,8 @@ use Rattle.rows.specs.Many.{next-size}
 use Rattle.tables.specs.Cells.{strip}
 use Rattle.lineage.specs.Olds.{firstChild}
 use Rattle.reds.specs.Flags.{kidsOf}
-use Rattle.reds.specs.Ranges.{Blocks, blocks, filter-map}
-use Rattle.reds.specs.Born.{born}
+use Rattle.reds.specs.Ranges.{Blocks, blocks, filterb-map}
+use Rattle.reds.specs.Born.{born-row}
 use Rattle.reds.specs.Firsts.{first-add, first-next, first-up, Firsts}
 use Rattle.reds.proofs.Tests.{rowAt, Seen}
 use Rattle.rows.specs.Laws.{cells-cons}
@@ -122,7 +122,7 @@ module _ (m : ℕ) (ss : List ℕ) (first : ℕ) (ds : List (Cell Point)) where
           let c : getD cs j noCell ≡ getD (next first ds own) (sizes (take i own) + (j - firstChild m ss k)) noCell =
           ap (λ (z : ℕ). getD cs z noCell) z ∙ stands-at cs last (next first ds own) es b (sizes (take i own) + (j - firstChild m ss k))
           (omega (arith, up-end)) in
-          ap (λ (c : Cell Point). c .parent) c ∙ born first noCell ds own (sym own-length) i (rw own-length (omega arith))
+          ap (λ (c : Cell Point). c .parent) c ∙ born-row first noCell ds own (sym own-length) i (rw own-length (omega arith))
           (j - firstChild m ss k) r ∙ w
 
       pub kids-range : (k : ℕ) → first ≤ k → k < last → kids (map (rowAt cs ss ms) (range last (length (next first ds own)))) k ≡ map
@@ -132,7 +132,7 @@ module _ (m : ℕ) (ss : List ℕ) (first : ℕ) (ds : List (Cell Point)) where
           let bl : Blocks (λ j. getD cs j noCell .parent) (firstChild m ss) first last =
           record { up = λ x y a c d. first-up m ss x y c; own = λ k j a c x y. parent-of k j a c x y } in
           let n : length (next first ds own) ≡ firstChild m ss last - firstChild m ss first = omega (arith, up-end, e) in
-          filter-map (λ r. eqb (r .cell .parent) k) (rowAt cs ss ms) (range last (length (next first ds own)))
+          filterb-map (λ r. eqb (r .cell .parent) k) (rowAt cs ss ms) (range last (length (next first ds own)))
           ∙ ap (map (rowAt cs ss ms))
           (ap (λ (l : List ℕ). filterb (λ j. eqb (getD cs j noCell .parent) k) l) (ap₂ range e n)
           ∙ blocks (λ j. getD cs j noCell .parent) (firstChild m ss) (length ds) first last k refl bl p q

@@ -24,14 +24,14 @@ use Rattle.numbering.specs.Tests.{numberedCells, Placed}
 use Rattle.numbering.specs.Tables.{sound-numbers}
 use Rattle.counting.specs.Levels.{nextEnd, levelNumber, levelEnd, number-more, end-more, end-none, next-after}
 use Rattle.counting.specs.Sound.{sound-counted}
-use Rattle.tables.specs.Sound.{tableCells, tableCorners}
+use Rattle.tables.specs.Sound.{tableCells, examinedCorners}
 use Rattle.tables.specs.Cells.{strip, cell-at}
 use Rattle.tables.specs.Onward.{four-in, length-in}
 use Rattle.tables.specs.Finish.{rows-in}
 use Rattle.mesh.specs.Laws.{length-from}
 use Rattle.lineage.specs.Olds.{firstChild, flagTable}
 use Rattle.reds.specs.Flags.{flagsAt, redsUp, flagsUp}
-use Rattle.reds.specs.Old.{Old, Marked}
+use Rattle.reds.specs.Old.{OldRows, Marked}
 use Rattle.reds.specs.Firsts.{first-add, first-start, first-at, Firsts, firsts-top, firsts-up, length-firsts}
 use Rattle.reds.proofs.Tests.{Seen}
 use Rattle.reds.proofs.Writes.{length-flags}
@@ -107,7 +107,7 @@ module _ (n : ℕ) (mesh rows ss ms firsts red : List ℕ) (g : Marked n mesh ro
   cs = tableCells n qs ss
 
   abbrev ks : List Corner
-  ks = tableCorners n qs ss
+  ks = examinedCorners n qs ss
 
   sound : soundb n qs ss ≡ true
   sound = is-true (soundb n qs ss) (g .sound)
@@ -146,7 +146,7 @@ module _ (n : ℕ) (mesh rows ss ms firsts red : List ℕ) (g : Marked n mesh ro
         ap length table ∙ rows-size (numberedCells ks cs) four,
       )
 
-  pub marked-old : Old rows ss ms firsts
+  pub marked-old : OldRows rows ss ms firsts
   marked-old =
       record {
         few = sound-counted n qs ss sound .small;

@@ -20,7 +20,7 @@ use Rattle.closure.specs.Ready.{Ready, Range, redCount}
 use Rattle.closure.specs.Closed.{lists-added, held-listed}
 use Rattle.closure.specs.Steps.{length-reds}
 use Rattle.reds.specs.Flags.{listedb, flagsAt, redsUp, flagsUp}
-use Rattle.reds.specs.Old.{Old, Span, OneLevel, Above}
+use Rattle.reds.specs.Old.{OldRows, Span, OneLevel, Above}
 use Rattle.reds.proofs.Writes.{length-flags, flags-both}
 use Rattle.base.specs.Bools.{one-most}
 use Rattle.rows.specs.Laws.{length-cells}
@@ -46,7 +46,7 @@ above-none t ss ms ks first last red xs ys heads links l depth d =
       few = omega arith;
     })
 
-pub level-up : (t ss ms ks red xs ys heads links : List ℕ) (first last : ℕ) → Old t ss ms ks
+pub level-up : (t ss ms ks red xs ys heads links : List ℕ) (first last : ℕ) → OldRows t ss ms ks
     → OneLevel ss ks red xs ys heads links first last
     → OneLevel ss ks red xs ys heads links last (getD ks last 0)
 level-up t ss ms ks red xs ys heads links first last o l =
@@ -61,7 +61,7 @@ level-up t ss ms ks red xs ys heads links first last o l =
       keys = l .keys;
     }
 
-module _ (t ss ms ks : List ℕ) (h first last : ℕ) (red red₁ xs₁ ys₁ heads₁ links₁ : List ℕ) (from₁ n₁ : ℕ) (o : Old t ss ms ks)
+module _ (t ss ms ks : List ℕ) (h first last : ℕ) (red red₁ xs₁ ys₁ heads₁ links₁ : List ℕ) (from₁ n₁ : ℕ) (o : OldRows t ss ms ks)
     (s : Span ss red first last)
     (above : Above t ss ms ks h last (getD ks last 0) red red₁ xs₁ ys₁ heads₁ links₁ from₁ n₁) (same : length red₁ ≡ length red)
     (red₂ : List ℕ) (e : red₂ ≡ take first red₁ ++ (flagsAt t ss ms ks (listedb xs₁ ys₁ from₁ n₁) first (last - first) ++ drop last red₁))

@@ -34,23 +34,23 @@ child-parent k c s f d j h = go (eqb s 0) refl h
     go false e h = let g : j < length (childrenFrom k c (redb s) f 0 (family (patternOf s))) = rw (e, children) at h in
         rw (e, children) (from-parent k c (redb s) f d 0 (family (patternOf s)) j g)
 
-pub born : (k : ℕ) (d : Cell Point) (cs : List (Cell Point)) (ss : List ℕ) → length cs ≡ length ss → (i : ℕ) → i < length ss → (j : ℕ)
+pub born-row : (k : ℕ) (d : Cell Point) (cs : List (Cell Point)) (ss : List ℕ) → length cs ≡ length ss → (i : ℕ) → i < length ss → (j : ℕ)
     → j < sizeOf (getD ss i 0)
     → getD (next k cs ss) (sizes (take i ss) + j) d .parent ≡ k + i
 unfolding next sizes
-born k d [] ss e i h j g = absurd (omega arith)
-born k d (c ∷ cs) [] e i h j g = absurd (omega arith)
-born k d (c ∷ cs) (s ∷ ss) e zero h j g =
+born-row k d [] ss e i h j g = absurd (omega arith)
+born-row k d (c ∷ cs) [] e i h j g = absurd (omega arith)
+born-row k d (c ∷ cs) (s ∷ ss) e zero h j g =
     let z : 0 + j ≡ j = omega arith in
     let w : k + 0 ≡ k = omega arith in
     let l : j < length (children k c s (point c)) = omega (arith, length-children k c s (point c)) in
     rw (z, w, List·getD-append (children k c s (point c)) (next (suc k) cs ss) d j l) (child-parent k c s (point c) d j l)
-born k d (c ∷ cs) (s ∷ ss) e (suc i) h j g =
+born-row k d (c ∷ cs) (s ∷ ss) e (suc i) h j g =
     let z : sizeOf s + sizes (take i ss) + j ≡ length (children k c s (point c)) + (sizes (take i ss) + j) = omega
     (arith, length-children k c s (point c)) in
     let w : k + suc i ≡ suc k + i = omega arith in
     rw (z, w, getD-append-add (children k c s (point c)) (next (suc k) cs ss) (sizes (take i ss) + j) d)
-    (born (suc k) d cs ss (omega arith) i (omega arith) j g)
+    (born-row (suc k) d cs ss (omega arith) i (omega arith) j g)
 
 pub sizes-next : (ss : List ℕ) (k : ℕ) → k < length ss → sizes (take (suc k) ss) ≡ sizes (take k ss) + sizeOf (getD ss k 0)
 unfolding sizes

@@ -1,6 +1,6 @@
 -- What the functions ask for and leave. The old table has the rows t, the statuses ss and the marks ms, and ks are the numbers of
 -- first children.
---   Old t ss ms ks       the old table, as far as it matters for looking at it
+--   OldRows t ss ms ks       the old table, as far as it matters for looking at it
 --   Span ..              cells of the old table from first to last, and flags for all cells
 --   OneLevel ..          the same where they are a level, and an edge table with nothing in it
 --   Above ..             what treating h levels from this one on leaves
@@ -16,10 +16,10 @@ use Rattle.mesh.specs.Layout.{cellTable}
 use Rattle.pairs.specs.Keys.{Keys}
 use Rattle.edges.specs.Table.{Table, listed}
 use Rattle.closure.specs.Closed.{Lists}
-use Rattle.tables.specs.Sound.{Mesh, tableCells, tableCorners}
+use Rattle.tables.specs.Sound.{Mesh, tableCells, examinedCorners}
 use Rattle.reds.specs.Flags.{firstChildren, redsUp, flagsUp}
 
-pub record Old (t ss ms ks : List ℕ) : Type 0 where
+pub record OldRows (t ss ms ks : List ℕ) : Type 0 where
   pub few : length ss ≤ 4096
   pub rows : 8 * length ss ≤ length t
   pub marks : length ms ≡ length ss
@@ -47,7 +47,7 @@ pub record Above (t ss ms ks : List ℕ) (h first last : ℕ) (red red′ xs′ 
 pub record Marked (n : ℕ) (mesh rows ss ms ks red : List ℕ) : Type 0 where
   pub accepted : Mesh n mesh
   pub sound : T (soundb n (fours mesh) ss)
-  pub table : take (8 * length (tableCells n (fours mesh) ss)) rows ≡ cellTable (tableCorners n (fours mesh) ss)
+  pub table : take (8 * length (tableCells n (fours mesh) ss)) rows ≡ cellTable (examinedCorners n (fours mesh) ss)
       (tableCells n (fours mesh) ss)
   pub marks : length ms ≡ length ss
   pub firsts : take (suc (length ss)) ks ≡ firstChildren (length (fours mesh)) ss

@@ -1,7 +1,7 @@
 -- Ranges of numbers.
 --   Blocks par at lo hi   the numbers from at k to at (suc k) have the parent k, for each k from lo to hi
 -- Laws: length-range, range-append, range-snoc, range-cons, range-none (a range's parts); all-range-miss, all-range-next, all-range-end,
--- any-range-hit, any-range-next, any-range-end (the rest decides as the whole does); filter-append, filter-map (filters); blocks (the
+-- any-range-hit, any-range-next, any-range-end (the rest decides as the whole does); filter-append, filterb-map (filters); blocks (the
 -- numbers of a range that have one parent).
 -- Assumes nothing.
 use mathlib.Core.Path.{_≡_, refl, _∙_, ap, ap₂}
@@ -79,10 +79,10 @@ module _ {A : Type 0} (f : A → Bool) where
       go true i = ap (λ (l : List A). x ∷ l) i
       go false i = i
 
-pub filter-map : {A B : Type 0} (f : B → Bool) (g : A → B) (l : List A) → filterb f (map g l) ≡ map g (filterb (λ x. f (g x)) l)
+pub filterb-map : {A B : Type 0} (f : B → Bool) (g : A → B) (l : List A) → filterb f (map g l) ≡ map g (filterb (λ x. f (g x)) l)
 unfolding filterb
-filter-map {A} {B} f g [] = refl
-filter-map {A} {B} f g (x ∷ l) = go (f (g x)) (filter-map f g l)
+filterb-map {A} {B} f g [] = refl
+filterb-map {A} {B} f g (x ∷ l) = go (f (g x)) (filterb-map f g l)
   where
     go : (b : Bool) → filterb f (map g l) ≡ map g (filterb (λ x. f (g x)) l)
         → _≡_ {A = List B} (elim b [ true ↦ g x ∷ filterb f (map g l) | false ↦ filterb f (map g l) ])

@@ -12,7 +12,7 @@ ghost use Rattle.edges.specs.Table.{Table};
 ghost use Rattle.closure.specs.Ready.{Looks};
 ghost use Rattle.lineage.specs.Olds.{flagOf, flagTable};
 ghost use Rattle.reds.specs.Flags.{firstChildren, listedb, idleb, touchedb, redAtb, flagsAt, pulledb};
-ghost use Rattle.reds.specs.Old.{Old, Span, OneLevel, Above, Marked};
+ghost use Rattle.reds.specs.Old.{OldRows, Span, OneLevel, Above, Marked};
 ghost use Rattle.base.specs.Range.{range};
 
 // The number of the first child of each cell, and behind them the count of all cells.
@@ -176,7 +176,7 @@ fn is_new_red(
     from: usize,
     n: usize,
 ) -> bool
-    requires { ⌜ Old (now rows) (now status) (now marks) (now kids) ⌝ }
+    requires { ⌜ OldRows (now rows) (now status) (now marks) (now kids) ⌝ }
     requires { ⌜ Table (now xs) (now ys) (now heads) (now links) from n ⌝ }
     requires { ⌜ c < length (now status) ⌝ }
     ensures { λ r. ⌜ r ≡ redAtb (was rows) (was status) (was marks) (was kids) (listedb (was xs) (was ys) from n) c ⌝ }
@@ -230,7 +230,7 @@ fn flag_level(
     from: usize,
     n: usize,
 )
-    requires { ⌜ Old (now rows) (now status) (now marks) (now kids) ⌝ }
+    requires { ⌜ OldRows (now rows) (now status) (now marks) (now kids) ⌝ }
     requires { ⌜ Table (now xs) (now ys) (now heads) (now links) from n ⌝ }
     requires { ⌜ Span (now status) (now red) first last ⌝ }
     ensures { λ r. ⌜ is red ≡ take first (was red) ++ (flagsAt (was rows) (was status) (was marks) (was kids) (listedb (was xs) (was ys) from n)
@@ -266,7 +266,7 @@ fn flag_up(
     heads: &mut [u16; 4096],
     links: &mut [u16; 24576],
 ) -> Entries
-    requires { ⌜ Old (now rows) (now status) (now marks) (now kids) ⌝ }
+    requires { ⌜ OldRows (now rows) (now status) (now marks) (now kids) ⌝ }
     requires { ⌜ OneLevel (now status) (now kids) (now red) (now xs) (now ys) (now heads) (now links) first last ⌝ }
     ensures { λ r. ⌜ Above (was rows) (was status) (was marks) (was kids) depth first last (was red) (is red) (is xs) (is ys) (is heads)
         (is links) (r .from) (r .n) ⌝ }

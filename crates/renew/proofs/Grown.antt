@@ -18,7 +18,7 @@ use Rattle.numbering.specs.Refined.{Refined}
 use Rattle.lineage.specs.Olds.{growBy, statusesBy, oldsNext}
 use Rattle.lineage.specs.Levels.{length-statuses, length-up}
 use Rattle.lineage.specs.Step.{refined-statuses}
-use Rattle.tables.specs.Levels.{all-append}
+use Rattle.tables.specs.Levels.{allb-append}
 use Rattle.tables.specs.Onward.{drop-take}
 
 -- the lowest level of cells that there are
@@ -63,7 +63,7 @@ grow-fit m ss fs (suc h) k [] os e = refl
 grow-fit m ss fs (suc h) k (c ∷ cs) os e =
     let ts : List ℕ = statusesBy fs (c ∷ cs) os in
     let us : List (List ℕ) = growBy m ss fs h (k + length (c ∷ cs)) (next k (c ∷ cs) ts) (oldsNext m ss ts os) in
-    all-append (λ s. leb s 64) ts (flatten us)
+    allb-append (λ s. leb s 64) ts (flatten us)
     ∙ rw (
       statuses-fit fs (c ∷ cs) os e,
       grow-fit m ss fs h (k + length (c ∷ cs)) (next k (c ∷ cs) ts) (oldsNext m ss ts os)

@@ -17,7 +17,7 @@ use Rattle.rows.specs.Laws.{length-part, length-cells}
 use Rattle.growth.specs.Written.{written}
 use Rattle.lineage.specs.Levels.{length-redsBy}
 use Rattle.tables.specs.Checked.{Reds}
-use Rattle.renew.specs.Levels.{listedBy, ownFlags, ownCells, ownReds, ownStatuses, Flagged, Closed, Made}
+use Rattle.renew.specs.Levels.{listedBy, ownFlags, madeCells, madeReds, madeStatuses, Flagged, Closed, Made}
 use Rattle.renew.proofs.Writing.{part-written, written-over}
 use Rattle.renew.proofs.Closing.{length-listed}
 
@@ -62,31 +62,31 @@ module _ (fs old rows : List ℕ) (first last : ℕ) (table xs ys heads links : 
         unfolding pairsOf
         nothing = let e : n - n ≡ 0 = omega arith in rw e
 
-        grown-is : Grown xs ys n n (ownReds fs old rows first last) xs₁ ys₁ heads₁ links₁ m
+        grown-is : Grown xs ys n n (madeReds fs old rows first last) xs₁ ys₁ heads₁ links₁ m
         grown-is = rw flags-are at g
 
-        list-is : listed xs₁ ys₁ n m ≡ addPairs [] (ownReds fs old rows first last)
+        list-is : listed xs₁ ys₁ n m ≡ addPairs [] (madeReds fs old rows first last)
         list-is = grown-is .list ∙ rw nothing
 
         module _ (table₂ : List ℕ) (size : ℕ) (c : Closed (listed xs₁ ys₁ n m) rows first last table₁ table₂ size) where
-          statuses-are : listedBy (listed xs₁ ys₁ n m) (cellsAt rows first (last - first)) (part table₁ first (last - first)) ≡ ownStatuses
+          statuses-are : listedBy (listed xs₁ ys₁ n m) (cellsAt rows first (last - first)) (part table₁ first (last - first)) ≡ madeStatuses
               fs
               old rows first last
           statuses-are = rw (list-is, flags-are)
 
-          same : length (ownStatuses fs old rows first last) ≡ length rs
-          same = length-listed (addPairs [] (ownReds fs old rows first last)) (ownCells fs old rows first last) rs
+          same : length (madeStatuses fs old rows first last) ≡ length rs
+          same = length-listed (addPairs [] (madeReds fs old rows first last)) (madeCells fs old rows first last) rs
               (length-cells rows first (last - first) ∙ sym long)
 
           pub made : Made fs old rows first last table xs ys n table₂ xs₁ ys₁ heads₁ links₁ m size
           made =
-              let z : size ≡ sizes (ownStatuses fs old rows first last) = c .many ∙ ap sizes statuses-are in
+              let z : size ≡ sizes (madeStatuses fs old rows first last) = c .many ∙ ap sizes statuses-are in
               record {
                 least = inl z;
                 whole = λ h.
                     record {
                       written-is = c .written-is ∙ ap₂ (λ (a b : List ℕ). written a first b) (f .written-is) statuses-are
-                          ∙ written-over table first rs (ownStatuses fs old rows first last) same (omega (arith, long));
+                          ∙ written-over table first rs (madeStatuses fs old rows first last) same (omega (arith, long));
                       many = z;
                       grown = grown-is;
                     };

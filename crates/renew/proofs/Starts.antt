@@ -18,7 +18,7 @@ use Rattle.tables.specs.Start.{coarseRow}
 use Rattle.tables.specs.Sound.{Mesh}
 use Rattle.tables.specs.Begin.{here-start, cells-start}
 use Rattle.renew.specs.Result.{renewed}
-use Rattle.renew.specs.Going.{roomy, Going}
+use Rattle.renew.specs.Going.{roomy, RenewGoing}
 use Rattle.renew.proofs.Writing.{part-written}
 
 module _ (n : ℕ) (mesh : List ℕ) (s : Mesh n mesh) (count : ℕ) (c : count ≡ length (fours mesh)) where
@@ -43,7 +43,7 @@ module _ (n : ℕ) (mesh : List ℕ) (s : Mesh n mesh) (count : ℕ) (c : count 
         let e : length (upTo count) ≡ count - 0 = length-upto count ∙ omega arith in
         ap (λ (x : List ℕ). part x 0 (count - 0)) o ∙ part-written old 0 (upTo count) (count - 0) e (omega arith) ∙ ap upTo c
 
-    pub going-start : Going n (fours mesh) ss fs 0 0 count rows xs ys heads links 0 ps qs heads′ links′ 0 old₁ table
+    pub going-start : RenewGoing n (fours mesh) ss fs 0 0 count rows xs ys heads links 0 ps qs heads′ links′ 0 old₁ table
     going-start =
         record {
           here = here;

@@ -25,9 +25,9 @@ use Rattle.tables.specs.Checked.{Statuses}
 use Rattle.tables.specs.Cells.{strip}
 use Rattle.tables.specs.Space.{red-sizes}
 use Rattle.tables.specs.Onward.{all-take, cells-are}
-use Rattle.renew.specs.Levels.{ownFlags, ownReds, ownStatuses, Made}
+use Rattle.renew.specs.Levels.{ownFlags, madeReds, madeStatuses, Made}
 use Rattle.renew.specs.Result.{renewed}
-use Rattle.renew.specs.Going.{roomy, Going}
+use Rattle.renew.specs.Going.{roomy, RenewGoing}
 use Rattle.renew.proofs.Grown.{grow-step, grow-none, grow-fit, statuses-fit, whole-length, rest-is, part-cut, take-is}
 use Rattle.renew.proofs.Statuses.{statuses-are, reds-are, counts-are}
 
@@ -46,7 +46,7 @@ room-fits n qs ss fs =
 
 module _ (n : ℕ) (qs : List (List ℕ)) (ss fs : List ℕ) (j first last : ℕ) (rows xs ys heads links : List ℕ) (k : ℕ)
     (ps ps′ heads′ links′ : List ℕ) (m : ℕ)
-    (old table : List ℕ) (g : Going n qs ss fs j first last rows xs ys heads links k ps ps′ heads′ links′ m old table)
+    (old table : List ℕ) (g : RenewGoing n qs ss fs j first last rows xs ys heads links k ps ps′ heads′ links′ m old table)
     (small : length fs ≤ 4096) where
   abbrev pub cells : List (Cell Point)
   cells = g .here .cells
@@ -117,10 +117,10 @@ module _ (n : ℕ) (qs : List (List ℕ)) (ss fs : List ℕ) (j first last : ℕ
   rows-are : cellsAt rows first (last - first) ≡ map strip (numberedCells (g .here .corners) cells)
   rows-are = cells-are n qs (roomy all) j first last rows xs ys heads links k ps ps′ heads′ links′ m (g .here)
 
-  pub made-statuses : ownStatuses fs old rows first last ≡ own
+  pub made-statuses : madeStatuses fs old rows first last ≡ own
   made-statuses = rw rows-are (statuses-are (g .here .corners) cells (g .here .stage .placed) fs olds)
 
-  pub made-reds : ownReds fs old rows first last ≡ checked.ownReds rows (roomy all) first last
+  pub made-reds : madeReds fs old rows first last ≡ checked.ownReds rows (roomy all) first last
   made-reds = rw (rows-are, room-own) (reds-are (g .here .corners) cells (g .here .stage .placed) fs olds tiny (g .owned))
 
   pub made-count : redCount (ownFlags fs old rows first last) ≡ redCount own

@@ -20,16 +20,16 @@ use Rattle.lineage.specs.Olds.{oldsNext}
 use Rattle.tables.specs.Checked as checked
 use Rattle.tables.specs.Checked.{Reds}
 use Rattle.tables.specs.Here.{Here, Top}
-use Rattle.tables.specs.Sound.{Sound}
+use Rattle.tables.specs.Sound.{LaidSound}
 use Rattle.tables.specs.Space.{red-sizes}
-use Rattle.tables.specs.Onward.{here-top, here-next, cells-next}
+use Rattle.tables.specs.Onward.{here-top, here-next, cells-onward}
 use Rattle.tables.specs.Finish.{top-sound}
 use Rattle.lineage.specs.Levels as same
 use Rattle.lineage.specs.Same.{length-olds}
 use Rattle.lineage.specs.Closed.{owned-next}
-use Rattle.renew.specs.Levels.{ownFlags, ownCells, ownReds, ownStatuses, Whole, Made}
+use Rattle.renew.specs.Levels.{ownFlags, madeCells, madeReds, madeStatuses, WholeMade, Made}
 use Rattle.renew.specs.Result.{renewed, Result}
-use Rattle.renew.specs.Going.{roomy, Going}
+use Rattle.renew.specs.Going.{roomy, RenewGoing}
 use Rattle.renew.proofs.Writing.{part-written}
 use Rattle.renew.proofs.Turn as turn
 
@@ -79,7 +79,7 @@ grows-same cells xs ys ss ts first k l at n m cells′ xs′ ys′ heads′ link
 
 module _ (n : ℕ) (qs : List (List ℕ)) (ss fs : List ℕ) (j first last : ℕ) (rows xs ys heads links : List ℕ) (k : ℕ)
     (ps ps′ heads′ links′ : List ℕ) (m : ℕ)
-    (old table : List ℕ) (g : Going n qs ss fs j first last rows xs ys heads links k ps ps′ heads′ links′ m old table)
+    (old table : List ℕ) (g : RenewGoing n qs ss fs j first last rows xs ys heads links k ps ps′ heads′ links′ m old table)
     (small : length fs ≤ 4096)
     (table₁ xs₁ ys₁ heads₁ links₁ : List ℕ) (k₁ size : ℕ)
     (d : Made fs old rows first last table xs ys k table₁ xs₁ ys₁ heads₁ links₁ k₁ size)
@@ -93,10 +93,10 @@ module _ (n : ℕ) (qs : List (List ℕ)) (ss fs : List ℕ) (j first last : ℕ
   abbrev all : List ℕ
   all = flatten (renewed n qs ss fs)
 
-  whole : Whole fs old rows first last table xs ys k table₁ xs₁ ys₁ heads₁ links₁ k₁ size
+  whole : WholeMade fs old rows first last table xs ys k table₁ xs₁ ys₁ heads₁ links₁ k₁ size
   whole = d .whole fit
 
-  statuses : ownStatuses fs old rows first last ≡ own
+  statuses : madeStatuses fs old rows first last ≡ own
   statuses = turn.made-statuses n qs ss fs j first last rows xs ys heads links k ps ps′ heads′ links′ m old table g small
 
   size-is : size ≡ sizes own
@@ -131,7 +131,7 @@ module _ (n : ℕ) (qs : List (List ℕ)) (ss fs : List ℕ) (j first last : ℕ
       let r = g .here .reds in
       let lo : length (ownFlags fs old rows first last) ≡ last - first =
       same.length-redsBy fs olds ∙ length-part old first (last - first) (omega (arith, g .here .end, g .here .few, in-old)) in
-      let q = length-reds (ownCells fs old rows first last) (ownFlags fs old rows first last) (length-cells rows first (last - first)
+      let q = length-reds (madeCells fs old rows first last) (ownFlags fs old rows first last) (length-cells rows first (last - first)
       ∙ sym lo) in
       let c = turn.made-count n qs ss fs j first last rows xs ys heads links k ps ps′ heads′ links′ m old table g small in
       record {
@@ -165,7 +165,7 @@ module _ (n : ℕ) (qs : List (List ℕ)) (ss fs : List ℕ) (j first last : ℕ
     result-end =
         let e : j + 1 ≡ suc j = omega arith in
         let h = turn.all-height n qs ss fs j first last rows xs ys heads links k ps ps′ heads′ links′ m old table g small no-size in
-        let s : Sound n qs (roomy all) rows ps ps′ last (suc j) m =
+        let s : LaidSound n qs (roomy all) rows ps ps′ last (suc j) m =
         top-sound n qs (roomy all) j last rows xs₁ ys₁ heads₁ links₁ k₁ ps ps′ heads′ links′ m top (ap length cut ∙ ended) in
         record {
           one = inl refl;
@@ -242,7 +242,7 @@ module _ (n : ℕ) (qs : List (List ℕ)) (ss fs : List ℕ) (j first last : ℕ
     cells-up : here-up .cells ≡ next first (g .here .cells) own
     unfolding here-up
     cells-up =
-        cells-next n qs (roomy all) j first last rows xs ys heads links k ps ps′ heads′ links′ m (g .here)
+        cells-onward n qs (roomy all) j first last rows xs ys heads links k ps ps′ heads′ links′ m (g .here)
         (turn.closed n qs ss fs j first last rows xs ys heads links k ps ps′ heads′ links′ m old table g small)
         (turn.inside n qs ss fs j first last rows xs ys heads links k ps ps′ heads′ links′ m old table g small)
         (omega (arith, low, g .here .low)) (turn.room-fits n qs ss fs) in-room (omega (arith, ap sizes room-own, size-is, more)) long
@@ -261,7 +261,7 @@ module _ (n : ℕ) (qs : List (List ℕ)) (ss fs : List ℕ) (j first last : ℕ
         ap (λ (l : List ℕ). part l last (last₂ - last)) q ∙ part-written old last (oldsNext (length qs) ss own olds) (last₂ - last) e
         (omega (arith, in-old, g .here .few))
 
-    pub going-next : Going n qs ss fs (suc j) last last₂ rows₂ xs₁ ys₁ heads₁ links₁ k₁ ps₂ ps₂′ heads₂ links₂ m₂ old₂ table₁
+    pub going-next : RenewGoing n qs ss fs (suc j) last last₂ rows₂ xs₁ ys₁ heads₁ links₁ k₁ ps₂ ps₂′ heads₂ links₂ m₂ old₂ table₁
     going-next =
         let e : 12 - suc j ≡ 11 - j = omega arith in
         record {

@@ -1,6 +1,6 @@
 -- How far the building of the new table has come, beside the levels that the tables hold.
 --   roomy ss        as much of a table as has room
---   Going ..        the levels below j are made and laid out; the cells of level j are the rows from first to last, and the old
+--   RenewGoing ..        the levels below j are made and laid out; the cells of level j are the rows from first to last, and the old
 --                   numbers in `old` are theirs
 use mathlib.Core.Path.{_≡_}
 use mathlib.Core.List.{List, flatten}
@@ -18,7 +18,7 @@ roomy ss = take 4096 ss
 module _ (n : ℕ) (qs : List (List ℕ)) (ss fs : List ℕ) (j first last : ℕ) (rows xs ys heads links : List ℕ) (k : ℕ)
     (ps ps′ heads′ links′ : List ℕ) (m : ℕ)
     (old table : List ℕ) where
-  pub record Going : Type 0 where
+  pub record RenewGoing : Type 0 where
     pub here : Here n qs (roomy (flatten (renewed n qs ss fs))) j first last rows xs ys heads links k ps ps′ heads′ links′ m
     pub owned : Owned (here .cells) (part old first (last - first))
     pub height : length (renewed n qs ss fs) ≡ j + length

@@ -4,11 +4,11 @@
 --   oldIn m ss t o i   the old number of a child
 --   listedBy es cs rs  the statuses of the cells cs with flags rs, where the edges es of the red ones are listed
 --   ownFlags ..        the flags of the cells from first to last
---   ownReds ..         the edges of the cells with a flag
---   ownStatuses ..     the statuses of the cells
+--   madeReds ..         the edges of the cells with a flag
+--   madeStatuses ..     the statuses of the cells
 --   Flagged ..         what writing the flags leaves
 --   Closed ..          what writing the statuses leaves
---   Whole ..           the level is made
+--   WholeMade ..           the level is made
 --   Made ..            what making a level leaves: where the cells one level up have room, the level is made
 use mathlib.Core.Path.{_≡_}
 use mathlib.Core.Logic.{_⊎_}
@@ -52,15 +52,15 @@ module _ (fs old rows : List ℕ) (first last : ℕ) where
   abbrev pub ownFlags : List ℕ
   ownFlags = redsBy fs (part old first (last - first))
 
-  abbrev pub ownCells : List (Cell ℕ)
-  ownCells = cellsAt rows first (last - first)
+  abbrev pub madeCells : List (Cell ℕ)
+  madeCells = cellsAt rows first (last - first)
 
-  abbrev pub ownReds : List Pair
-  ownReds = redEdges 0 ownCells ownFlags
+  abbrev pub madeReds : List Pair
+  madeReds = redEdges 0 madeCells ownFlags
 
   -- Rule 7.7: the statuses of a new level.
-  abbrev pub ownStatuses : List ℕ
-  ownStatuses = listedBy (addPairs [] ownReds) ownCells ownFlags
+  abbrev pub madeStatuses : List ℕ
+  madeStatuses = listedBy (addPairs [] madeReds) madeCells ownFlags
 
 pub record Flagged (fs old : List ℕ) (first last : ℕ) (table table′ : List ℕ) (reds : ℕ) : Type 0 where
   pub written-is : table′ ≡ written table first (redsBy fs (part old first (last - first)))
@@ -72,11 +72,11 @@ pub record Closed (es : List Pair) (rows : List ℕ) (first last : ℕ) (table t
   pub many : size ≡ sizes (listedBy es (cellsAt rows first (last - first)) (part table first (last - first)))
 
 module _ (fs old rows : List ℕ) (first last : ℕ) (table xs ys : List ℕ) (n : ℕ) (table′ xs′ ys′ heads′ links′ : List ℕ) (n′ size : ℕ) where
-  pub record Whole : Type 0 where
-    pub written-is : table′ ≡ written table first (ownStatuses fs old rows first last)
-    pub many : size ≡ sizes (ownStatuses fs old rows first last)
-    pub grown : Grown xs ys n n (ownReds fs old rows first last) xs′ ys′ heads′ links′ n′
+  pub record WholeMade : Type 0 where
+    pub written-is : table′ ≡ written table first (madeStatuses fs old rows first last)
+    pub many : size ≡ sizes (madeStatuses fs old rows first last)
+    pub grown : Grown xs ys n n (madeReds fs old rows first last) xs′ ys′ heads′ links′ n′
 
   pub record Made : Type 0 where
-    pub least : (size ≡ sizes (ownStatuses fs old rows first last)) ⊎ (size ≡ 8 * redCount (ownFlags fs old rows first last))
-    pub whole : last + size ≤ 4096 → Whole
+    pub least : (size ≡ sizes (madeStatuses fs old rows first last)) ⊎ (size ≡ 8 * redCount (ownFlags fs old rows first last))
+    pub whole : last + size ≤ 4096 → WholeMade

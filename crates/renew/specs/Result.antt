@@ -9,7 +9,7 @@ use Prim.Native.Nat.{ℕ, _≤_, _<_}
 use lib.ListN.{length, take}
 use Rattle.mesh.specs.Weights.{coarseCells}
 use Rattle.lineage.specs.Olds.{growBy, upTo}
-use Rattle.tables.specs.Sound.{Sound}
+use Rattle.tables.specs.Sound.{LaidSound}
 
 -- Rules 7.7, 7.8: the new table, as far as its limits are looked for.
 abbrev pub renewed : ℕ → List (List ℕ) → List ℕ → List ℕ → List (List ℕ)
@@ -23,4 +23,4 @@ pub record Result (n : ℕ) (qs : List (List ℕ)) (ss fs rows ps ps′ table : 
   pub low : refusal ≡ 0 → length (renewed n qs ss fs) ≤ 11
   pub counted : refusal ≡ 0 → length (flatten (renewed n qs ss fs)) ≡ cells
   pub table-is : refusal ≡ 0 → take cells table ≡ flatten (renewed n qs ss fs)
-  pub sound : refusal ≡ 0 → Sound n qs (flatten (renewed n qs ss fs)) rows ps ps′ cells levels mids
+  pub sound : refusal ≡ 0 → LaidSound n qs (flatten (renewed n qs ss fs)) rows ps ps′ cells levels mids

@@ -13,7 +13,7 @@ use Rattle.base.specs.Refuse.{refuse, andThen, answerOf, answer-refused}
 use Rattle.mesh.specs.Coarse.{cornerCount}
 use Rattle.archive.specs.Tables.{pairs, stepsOf}
 use Rattle.replay.specs.Run.{restTable, tablesAnswer}
-use Rattle.replay.specs.Going.{Rested, Finished, endTable, Replayed}
+use Rattle.replay.specs.Going.{Rested, Finished, stepEnds, Replayed}
 
 module _ (ps : List ℤ) (ts cs ms es : List ℕ) where
   failed : (table : List ℕ) (k c l : ℕ) → tablesAnswer ps ts cs ms es ≡ answerOf k → (k ≡ 0 → ⊥) → Replayed ps ts cs ms es table k c l
@@ -43,7 +43,7 @@ module _ (ps : List ℤ) (ts cs ms es : List ℕ) where
       unfolding tablesAnswer andThen refuse answerOf stepsOf
       ended d rows′ table′ k′ c′ l′ f =
           let t : take c table ≡ restTable (fours ts) = r .table-is z in
-          let e : k′ ≡ 0 → take c′ table′ ≡ endTable ps ts cs ms es = λ y. rw t at (f .table-is y) in
+          let e : k′ ≡ 0 → take c′ table′ ≡ stepEnds ps ts cs ms es = λ y. rw t at (f .table-is y) in
           record {
             answer = rw (r .answer, z, eq-eqb (length cs) (length ms) d) (rw t at (f .answer));
             counted = λ y. ap length (sym (e y)) ∙ length-take-le c′ table′ (omega (arith, f .going y .few, f .going y .room));

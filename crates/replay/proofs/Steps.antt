@@ -16,7 +16,7 @@ use Rattle.mesh.specs.Answers.{marksb, newTable}
 use Rattle.step.specs.Advanced.{Advanced}
 use Rattle.replay.specs.Run.{spread, oneAnswer, oneTable}
 use Rattle.replay.specs.Scan.{Spread, Fitting}
-use Rattle.replay.specs.Going.{Going, Stepped}
+use Rattle.replay.specs.Going.{ReplayGoing, Stepped}
 
 -- a table with its front written
 pub front : (k : ℕ) (from old new : List ℕ) → k ≤ length from → new ≡ take k from ++ drop k old → take k new ≡ take k from
@@ -76,7 +76,7 @@ module _ (n : ℕ) (mesh old ms new-rows ps qs new : List ℕ) (refusal cells le
 pub record Moved (n : ℕ) (mesh old : List ℕ) (ms : List (ℕ × ℕ)) (rows table : List ℕ) (refusal cells levels : ℕ) : Type 0 where
   pub answer : oneAnswer n (fours mesh) old ms ≡ answerOf refusal
   pub table-is : refusal ≡ 0 → take cells table ≡ oneTable n (fours mesh) old ms
-  pub going : refusal ≡ 0 → Going n mesh rows table cells
+  pub going : refusal ≡ 0 → ReplayGoing n mesh rows table cells
   pub high : refusal ≡ 0 → length (levelsOf n (fours mesh) (take cells table)) ≡ levels
 
 module _ (n : ℕ) (mesh old : List ℕ) (ms : List (ℕ × ℕ)) (out rows table : List ℕ) where

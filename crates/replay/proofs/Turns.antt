@@ -17,7 +17,7 @@ use Rattle.base.specs.declared.Answer.the-variants.{Refused}
 use Rattle.mesh.specs.Table.{levelsOf}
 use Rattle.archive.specs.Tables.{pairs, stepsFrom}
 use Rattle.replay.specs.Run.{oneAnswer, oneTable, runTable, flatAnswer}
-use Rattle.replay.specs.Going.{Going, Next, partOf, nextAnswer, Finished}
+use Rattle.replay.specs.Going.{ReplayGoing, NextTurn, marksPart, nextAnswer, Finished}
 use Rattle.replay.proofs.Steps.{Moved}
 
 -- marks of a part
@@ -45,7 +45,7 @@ pairs-part j p cs ms = pairs-take j (drop p cs) (drop p ms) ∙ ap (take j) (pai
 
 -- the next step
 module _ (n : ℕ) (mesh old : List ℕ) (p e : ℕ) (ms : List (ℕ × ℕ)) (rows table : List ℕ) where
-  next-failed : nextAnswer n (fours mesh) old p e ms ≡ Refused 7 → (k c l : ℕ) → k ≡ 7 → Next n mesh old p e ms rows table k c l
+  next-failed : nextAnswer n (fours mesh) old p e ms ≡ Refused 7 → (k c l : ℕ) → k ≡ 7 → NextTurn n mesh old p e ms rows table k c l
   unfolding answerOf
   next-failed a k c l z =
       record {
@@ -55,16 +55,16 @@ module _ (n : ℕ) (mesh old : List ℕ) (p e : ℕ) (ms : List (ℕ × ℕ)) (r
         high = λ y. absurd (omega arith);
       }
 
-  pub next-back : e < p → (k c l : ℕ) → k ≡ 7 → Next n mesh old p e ms rows table k c l
+  pub next-back : e < p → (k c l : ℕ) → k ≡ 7 → NextTurn n mesh old p e ms rows table k c l
   unfolding nextAnswer refuse
   next-back h = next-failed (rw (lt-leb p e h))
 
-  pub next-behind : length ms < e → (k c l : ℕ) → k ≡ 7 → Next n mesh old p e ms rows table k c l
+  pub next-behind : length ms < e → (k c l : ℕ) → k ≡ 7 → NextTurn n mesh old p e ms rows table k c l
   unfolding nextAnswer refuse
   next-behind h = next-failed (rw (lt-leb e (length ms) h, and-false (leb p e)))
 
-  pub next-moved : p ≤ e → e ≤ length ms → (k c l : ℕ) (m : List (ℕ × ℕ)) → m ≡ partOf p e ms → Moved n mesh old m rows table k c l
-      → Next n mesh old p e ms rows table k c l
+  pub next-moved : p ≤ e → e ≤ length ms → (k c l : ℕ) (m : List (ℕ × ℕ)) → m ≡ marksPart p e ms → Moved n mesh old m rows table k c l
+      → NextTurn n mesh old p e ms rows table k c l
   unfolding nextAnswer refuse
   next-moved h g k c l m q s =
       record {
@@ -84,14 +84,14 @@ pub record Turn (n : ℕ) (mesh old : List ℕ) (ms : List (ℕ × ℕ)) (es row
   pub passed : g ≤ length es
   pub answer : flatAnswer n (fours mesh) (take cells table) p ms (drop g es) ≡ flatAnswer n (fours mesh) old 0 ms es
   pub table-is : runTable n (fours mesh) (take cells table) (stepsFrom p ms (drop g es)) ≡ runTable n (fours mesh) old (stepsFrom 0 ms es)
-  pub going : Going n mesh rows table cells
+  pub going : ReplayGoing n mesh rows table cells
   pub high : length (levelsOf n (fours mesh) (take cells table)) ≡ levels
 
 module _ (n : ℕ) (mesh : List ℕ) (ms : List (ℕ × ℕ)) (es : List ℕ) where
   abbrev qs : List (List ℕ)
   qs = fours mesh
 
-  pub turn-start : (rows table : List ℕ) (cells levels : ℕ) → Going n mesh rows table cells
+  pub turn-start : (rows table : List ℕ) (cells levels : ℕ) → ReplayGoing n mesh rows table cells
       → length (levelsOf n qs (take cells table)) ≡ levels
       → Turn n mesh (take cells table) ms es rows table cells levels 0 0
   turn-start rows table cells levels h l = record { passed = omega arith; answer = refl; table-is = refl; going = h; high = l }
@@ -101,7 +101,7 @@ module _ (n : ℕ) (mesh : List ℕ) (ms : List (ℕ × ℕ)) (es : List ℕ) wh
     now = take cells table
 
     -- one step more
-    module _ (h : g < length es) (rows′ table′ : List ℕ) (k c l : ℕ) (x : Next n mesh now p (getD es g 0) ms rows′ table′ k c l) where
+    module _ (h : g < length es) (rows′ table′ : List ℕ) (k c l : ℕ) (x : NextTurn n mesh now p (getD es g 0) ms rows′ table′ k c l) where
       abbrev e : ℕ
       e = getD es g 0
 
@@ -109,12 +109,12 @@ module _ (n : ℕ) (mesh : List ℕ) (ms : List (ℕ × ℕ)) (es : List ℕ) wh
       ends = let m : g + 1 ≡ suc g = omega arith in rw m (drop-cons es g 0 h)
 
       one-more : flatAnswer n qs now p ms (drop g es) ≡ andThen (nextAnswer n qs now p e ms)
-          (flatAnswer n qs (oneTable n qs now (partOf p e ms)) e ms (drop (g + 1) es))
+          (flatAnswer n qs (oneTable n qs now (marksPart p e ms)) e ms (drop (g + 1) es))
       unfolding flatAnswer nextAnswer
       one-more =
           ap (flatAnswer n qs now p ms) ends
-          ∙ refuse-then (leb p e && leb e (length ms)) (oneAnswer n qs now (partOf p e ms))
-          (flatAnswer n qs (oneTable n qs now (partOf p e ms)) e ms (drop (g + 1) es))
+          ∙ refuse-then (leb p e && leb e (length ms)) (oneAnswer n qs now (marksPart p e ms))
+          (flatAnswer n qs (oneTable n qs now (marksPart p e ms)) e ms (drop (g + 1) es))
 
       pub turn-refused : (k ≡ 0 → ⊥) → (k′ c′ l′ : ℕ) → k′ ≡ k → Finished n mesh old ms es rows′ table′ k′ c′ l′
       unfolding andThen

@@ -14,7 +14,7 @@ use Rattle.mesh.specs.Coarse.{cornerCount, meshAnswer}
 use Rattle.archive.specs.Job.{Job}
 use Rattle.archive.specs.Tables.{Mark, cellOf, markOf, markedOf, marksOf, endsAfter, endsOf, pairs, pairs-back, steps-back}
 use Rattle.replay.specs.Run.{oneAnswer, oneTable, runAnswer, runTable, restTable, jobAnswer, jobTable, flatAnswer, tablesAnswer}
-use Rattle.replay.specs.Going.{endTable}
+use Rattle.replay.specs.Going.{stepEnds}
 
 -- what stands behind the first p marks is s, so the steps from there are those of s
 module _ (n : ℕ) (qs : List (List ℕ)) (all : List Mark) where
@@ -51,6 +51,6 @@ module _ (j : Job) where
       (ap (andThen (meshAnswer (j .positions) (j .cells)))
       (flat-run (cornerCount (j .positions)) (fours (j .cells)) (flatten s) (restTable (fours (j .cells))) 0 s (omega arith) refl))
 
-  pub tables-table : endTable (j .positions) (j .cells) (markedOf s) (marksOf s) (endsOf s) ≡ jobTable j
+  pub tables-table : stepEnds (j .positions) (j .cells) (markedOf s) (marksOf s) (endsOf s) ≡ jobTable j
   unfolding jobTable
   tables-table = ap (runTable (cornerCount (j .positions)) (fours (j .cells)) (restTable (fours (j .cells)))) (steps-back s)

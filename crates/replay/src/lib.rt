@@ -10,7 +10,7 @@ ghost use Rattle.cutting.specs.Answer.{digitTable};
 ghost use Rattle.mesh.specs.Table.{levelsOf};
 ghost use Rattle.archive.specs.Tables.{pairs};
 ghost use Rattle.replay.specs.Scan.{mayb, Spread, Fitting};
-ghost use Rattle.replay.specs.Going.{Going, Rested, Next, Finished, Replayed};
+ghost use Rattle.replay.specs.Going.{ReplayGoing, Rested, NextTurn, Finished, Replayed};
 
 // Makes the first k bytes 0.
 fn clear(out: &mut [u8], k: usize)
@@ -98,10 +98,10 @@ fn next_step(
     red: &mut [u8; 4096],
     digits: &[u8],
 ) -> Outcome
-    requires { ⌜ Going n (now mesh) (now rows) (now table) cells ⌝ }
+    requires { ⌜ ReplayGoing n (now mesh) (now rows) (now table) cells ⌝ }
     requires { ⌜ length (now marked) ≡ length (now marks) ⌝ }
     requires { ⌜ now digits ≡ digitTable ⌝ }
-    ensures { λ r. ⌜ Next n (was mesh) (take cells (was table)) p e (pairs (was marked) (was marks)) (is rows) (is table) (r .refusal)
+    ensures { λ r. ⌜ NextTurn n (was mesh) (take cells (was table)) p e (pairs (was marked) (was marks)) (is rows) (is table) (r .refusal)
         (r .cells) (r .levels) ⌝ }
 {
     if e < p {
@@ -191,7 +191,7 @@ fn run_steps(
     rows: &mut [u16; 32768],
     table: &mut [u8; 4096],
 ) -> Outcome
-    requires { ⌜ Going n (now mesh) (now rows) (now table) first ⌝ }
+    requires { ⌜ ReplayGoing n (now mesh) (now rows) (now table) first ⌝ }
     requires { ⌜ (length (now marked) ≡ length (now marks)) × (length (levelsOf n (fours (now mesh)) (take first (now table))) ≡ high) ⌝ }
     ensures { λ r. ⌜ Finished n (was mesh) (take first (was table)) (pairs (was marked) (was marks)) (was ends) (is rows) (is table)
         (r .refusal) (r .cells) (r .levels) ⌝ }

@@ -11,7 +11,7 @@ use native.Mathlib.Omega.{arith}
 use lib.Dec.{T}
 use Rattle.base.specs.Lists.{anyb}
 use Rattle.exchange.specs.Finite.{Finite, sumOver}
-use Rattle.rounds.specs.Rounds.{is, capped, largest}
+use Rattle.rounds.specs.Rounds.{isPart, capped, largest}
 use Rattle.base.specs.Bools.{or-first, or-second, or-either}
 
 module _ {Part : Type 0} where
@@ -60,27 +60,27 @@ module _ {Part : Type 0} where
   largest-more f g q n a b c l m = omega (arith, largest-le f g a l, largest-most f g n b l, largest-in g l q m, c)
 
 module _ {Part : Type 0} (F : Finite Part) where
-  pub is-self : (p : Part) → is F p p ≡ true
-  unfolding is
+  pub is-self : (p : Part) → isPart F p p ≡ true
+  unfolding isPart
   is-self p = go (F .same? p p)
     where
       go : (d : Dec (p ≡ p)) → elim d [ yes e ↦ true | no e ↦ false ] ≡ true
       go (yes e) = refl
       go (no n) = absurd (n refl)
 
-  pub is-eq : (p q : Part) → T (is F p q) → p ≡ q
-  unfolding is
+  pub is-eq : (p q : Part) → T (isPart F p q) → p ≡ q
+  unfolding isPart
   is-eq p q t = go (F .same? p q) t
     where
       go : (d : Dec (p ≡ q)) → T (elim d [ yes e ↦ true | no e ↦ false ]) → p ≡ q
       go (yes e) u = e
       go (no n) u = absurd u
 
-  pub is-same : (p q : Part) → p ≡ q → is F p q ≡ true
-  is-same p q e = ap (λ x. is F p x) (sym e) ∙ is-self p
+  pub is-same : (p q : Part) → p ≡ q → isPart F p q ≡ true
+  is-same p q e = ap (λ x. isPart F p x) (sym e) ∙ is-self p
 
-  pub is-not : (p q : Part) → ¬ (p ≡ q) → is F p q ≡ false
-  unfolding is
+  pub is-not : (p q : Part) → ¬ (p ≡ q) → isPart F p q ≡ false
+  unfolding isPart
   is-not p q h = go (F .same? p q)
     where
       go : (d : Dec (p ≡ q)) → elim d [ yes e ↦ true | no e ↦ false ] ≡ false

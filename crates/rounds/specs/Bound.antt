@@ -17,7 +17,7 @@ use Rattle.exchange.specs.Finite.{Finite, parts, fins, step-down, sumOver, sum-
 use Rattle.exchange.specs.Protocol.{Protocol}
 use Rattle.exchange.specs.Lockstep.{lock, mailCount}
 use Rattle.rounds.specs.Task.{Task}
-use Rattle.rounds.specs.Rounds.{Body, mark, count, end, Phase, marks, counts, totals, over, phase, State, is, holdsb, ghostMarks}
+use Rattle.rounds.specs.Rounds.{Body, mark, count, end, Phase, marks, counts, totals, over, phase, State, isPart, holdsb, ghostMarks}
 use Rattle.rounds.specs.Rounds.{edgeCounts, says, writing}
 use Rattle.rounds.specs.Among.{is-self}
 use Rattle.rounds.specs.Rounded.{protocol, phase-marks, phase-counts, phase-totals}
@@ -45,7 +45,7 @@ module _ {Part : Type 0} (F : Finite Part) (J : Task Part) where
   says-few : (f : Phase) (p q : Part) (s : State) → length (says F J f p q s) ≤ room f
   unfolding says ghostMarks edgeCounts room
   says-few (marks i) p q s =
-      let g : ℕ → Bool = λ c. is F (J .family c) p && is F (J .owner c) q in
+      let g : ℕ → Bool = λ c. isPart F (J .family c) p && isPart F (J .owner c) q in
       omega (
         arith,
         length-append (map (λ c. mark c (s .red c)) (filterb g (J .cells (J .top - i)))) (end ∷ []),
@@ -65,9 +65,9 @@ module _ {Part : Type 0} (F : Finite Part) (J : Task Part) where
 
   pub writing-few : (f : Phase) (p q : Part) (s : State) → length (writing F J f p q s) ≤ room f
   unfolding writing
-  writing-few f p q s = go (is F p q) refl
+  writing-few f p q s = go (isPart F p q) refl
     where
-      go : (b : Bool) → is F p q ≡ b → length (writing F J f p q s) ≤ room f
+      go : (b : Bool) → isPart F p q ≡ b → length (writing F J f p q s) ≤ room f
       go true e = rw (e, writing) (omega arith)
       go false e = rw (e, writing) (says-few f p q s)
 

@@ -19,8 +19,9 @@ use Rattle.base.specs.Lists.{anyb, filterb, memberb}
 use Rattle.exchange.specs.Finite.{Finite, sumOver}
 use Rattle.rounds.specs.Tests.{Member, same-test, member-head, member-tail, member-cases, any-member, member-any, filtered-member}
 use Rattle.rounds.specs.Tests.{member-filtered, filter-agree}
-use Rattle.rounds.specs.Task.{Task, Fit, six, has, rule, redAt, hitAt, rule-same}
-use Rattle.rounds.specs.Rounds.{Body, mark, count, end, Phase, marks, counts, State, tells, worth, is, mine, holdsb, decides, tally}
+use Rattle.rounds.specs.Task.{Task, Fit, sixEdges, has, rule, redAt, hitAt, rule-same}
+use Rattle.rounds.specs.Rounds.{Body, mark, count, end, Phase, marks, counts, State, tells, worth, isPart, mine, holdsb, decides}
+use Rattle.rounds.specs.Rounds.{tally}
 use Rattle.rounds.specs.Rounds.{told, added, starting, ghostMarks, edgeCounts, says, writing, redTold, sumTold, redDown, sized}
 use Rattle.rounds.specs.Rounds.{taking}
 use Rattle.rounds.specs.Among.{any-part, part-any, sum-part, part-sum, is-self, is-eq, is-same}
@@ -64,11 +65,11 @@ module _ {Part : Type 0} (F : Finite Part) (J : Task Part) where
   abbrev from : Phase → (Part → State) → Part → Part → List Body
   from f st p q = writing F J f q p (st q)
 
-  other-writes : (f : Phase) (q p : Part) (s : State) → is F q p ≡ false → writing F J f q p s ≡ says F J f q p s
+  other-writes : (f : Phase) (q p : Part) (s : State) → isPart F q p ≡ false → writing F J f q p s ≡ says F J f q p s
   unfolding writing
   other-writes f q p s e = rw (e, writing)
 
-  own-writes : (f : Phase) (q p : Part) (s : State) → is F q p ≡ true → writing F J f q p s ≡ []
+  own-writes : (f : Phase) (q p : Part) (s : State) → isPart F q p ≡ true → writing F J f q p s ≡ []
   unfolding writing
   own-writes f q p s e = rw (e, writing)
 
@@ -86,13 +87,13 @@ module _ {Part : Type 0} (F : Finite Part) (J : Task Part) where
       × T (red c) × T (has J c x)
   unfolding tally
   tally-from p red k x t =
-      let f : ℕ → Bool = λ c. is F (J .owner c) p && (red c && has J c x) in
+      let f : ℕ → Bool = λ c. isPart F (J .owner c) p && (red c && has J c x) in
       let (c, m) = length-some (filterb f (J .cells k)) t in
       let (n, u) = filtered-member f (J .cells k) c m in
-      let v = and-right (is F (J .owner c) p) (red c && has J c x) u in (
+      let v = and-right (isPart F (J .owner c) p) (red c && has J c x) u in (
         c,
         n,
-        is-eq F (J .owner c) p (and-left (is F (J .owner c) p) (red c && has J c x) u),
+        is-eq F (J .owner c) p (and-left (isPart F (J .owner c) p) (red c && has J c x) u),
         and-left (red c) (has J c x) v,
         and-right (red c) (has J c x) v,
       )
@@ -101,9 +102,9 @@ module _ {Part : Type 0} (F : Finite Part) (J : Task Part) where
       → tally F J p red k x ≢ 0
   unfolding tally
   tally-by p red k x c m o r h =
-      let f : ℕ → Bool = λ c. is F (J .owner c) p && (red c && has J c x) in
+      let f : ℕ → Bool = λ c. isPart F (J .owner c) p && (red c && has J c x) in
       some-length (filterb f (J .cells k)) c
-      (member-filtered f (J .cells k) c m (and-both (is F (J .owner c) p) (red c
+      (member-filtered f (J .cells k) c m (and-both (isPart F (J .owner c) p) (red c
       && has J c x) (rw (is-same F (J .owner c) p o) tt) (and-both (red c) (has J c x) r h)))
 
   pub holds-by : (p : Part) (k x c : ℕ) → Member c (J .cells k) → T (mine F J p c) → T (has J c x) → T (holdsb F J p k x)
@@ -115,7 +116,7 @@ module _ {Part : Type 0} (F : Finite Part) (J : Task Part) where
     has-slot : (k c x : ℕ) → Member c (J .cells k) → T (has J c x) → Member x (J .slots k)
     unfolding has
     has-slot k c x m h =
-        let (e, n, q) = any-member (λ e. eqb (J .slot c e) x) six h in
+        let (e, n, q) = any-member (λ e. eqb (J .slot c e) x) sixEdges h in
         subst (λ (y : ℕ). Member y (J .slots k)) (eqb→eq (J .slot c e) x q) (fit .slot-level k c e m n)
 
     tally-else : (p : Part) (red : ℕ → Bool) (j k x : ℕ) → Member x (J .slots j) → j ≢ k → tally F J p red k x ≡ 0
@@ -131,41 +132,41 @@ module _ {Part : Type 0} (F : Finite Part) (J : Task Part) where
       k = J .top - i
 
       told-one : (q : Part) (c : ℕ) → T (anyb (tells c) (from (marks i) st p q)) → Member c (J .cells k) × (J .family c ≡ q)
-          × (J .owner c ≡ p) × T (st q .red c) × (is F q p ≡ false)
+          × (J .owner c ≡ p) × T (st q .red c) × (isPart F q p ≡ false)
       unfolding says ghostMarks tells anyb
-      told-one q c t = go (is F q p) refl
+      told-one q c t = go (isPart F q p) refl
         where
-          go : (b : Bool) → is F q p ≡ b → Member c (J .cells k) × (J .family c ≡ q) × (J .owner c ≡ p) × T (st q .red c)
-              × (is F q p ≡ false)
+          go : (b : Bool) → isPart F q p ≡ b → Member c (J .cells k) × (J .family c ≡ q) × (J .owner c ≡ p) × T (st q .red c)
+              × (isPart F q p ≡ false)
           go true e = absurd (rw (own-writes (marks i) q p (st q) e) at t)
           go false e =
-              let f : ℕ → Bool = λ c. is F (J .family c) q && is F (J .owner c) p in
+              let f : ℕ → Bool = λ c. isPart F (J .family c) q && isPart F (J .owner c) p in
               let u : T (anyb (tells c) (map (λ c. mark c (st q .red c)) (filterb f (J .cells k)) ++ (end ∷ []))) =
               rw (other-writes (marks i) q p (st q) e) at t in
               let (x, m, v) = told-from (λ c. mark c (st q .red c)) c (filterb f (J .cells k)) u in
               let w : c ≡ x = eqb→eq c x (and-left (eqb c x) (st q .red x) v) in
               let (n, g) = filtered-member f (J .cells k) x m in (
                 rw w n,
-                rw w (is-eq F (J .family x) q (and-left (is F (J .family x) q) (is F (J .owner x) p) g)),
-                rw w (is-eq F (J .owner x) p (and-right (is F (J .family x) q) (is F (J .owner x) p) g)),
+                rw w (is-eq F (J .family x) q (and-left (isPart F (J .family x) q) (isPart F (J .owner x) p) g)),
+                rw w (is-eq F (J .owner x) p (and-right (isPart F (J .family x) q) (isPart F (J .owner x) p) g)),
                 rw w (and-right (eqb c x) (st q .red x) v),
                 e,
               )
 
       told-from-one : (c : ℕ) → T (told F (from (marks i) st p) c) → (q : Part) × Member c (J .cells k) × (J .family c ≡ q)
-          × (J .owner c ≡ p) × T (st q .red c) × (is F q p ≡ false)
+          × (J .owner c ≡ p) × T (st q .red c) × (isPart F q p ≡ false)
       unfolding told
       told-from-one c t = let (q, u) = any-part (λ q. anyb (tells c) (from (marks i) st p q)) (F .list) t in
           let (a, b, d, e, g) = told-one q c u in (q, a, b, d, e, g)
 
-      told-by-one : (c : ℕ) → Member c (J .cells k) → J .owner c ≡ p → is F (J .family c) p ≡ false → T (st (J .family c) .red c)
+      told-by-one : (c : ℕ) → Member c (J .cells k) → J .owner c ≡ p → isPart F (J .family c) p ≡ false → T (st (J .family c) .red c)
           → T (told F (from (marks i) st p) c)
       unfolding told says ghostMarks tells
       told-by-one c m o e r =
           let q = J .family c in
-          let f : ℕ → Bool = λ c. is F (J .family c) q && is F (J .owner c) p in
+          let f : ℕ → Bool = λ c. isPart F (J .family c) q && isPart F (J .owner c) p in
           let n : Member c (filterb f (J .cells k)) =
-          member-filtered f (J .cells k) c m (and-both (is F (J .family c) q) (is F (J .owner c) p) (rw (is-self F q) tt)
+          member-filtered f (J .cells k) c m (and-both (isPart F (J .family c) q) (isPart F (J .owner c) p) (rw (is-self F q) tt)
           (rw (is-same F (J .owner c) p o) tt)) in
           let u : T (anyb (tells c) (map (λ c. mark c (st q .red c)) (filterb f (J .cells k)) ++ (end ∷ []))) =
           told-by (λ c. mark c (st q .red c)) c (filterb f (J .cells k)) c n
@@ -180,9 +181,9 @@ module _ {Part : Type 0} (F : Finite Part) (J : Task Part) where
     module _ (i : ℕ) (st : Part → State) (p : Part) where
       count-one : (q : Part) (x : ℕ) → sumOver (worth x) (from (counts i) st p q) ≢ 0 → Member x (J .slots (J .top - i)) × (st q .own x ≢ 0)
       unfolding says edgeCounts sumOver worth
-      count-one q x t = go (is F q p) refl
+      count-one q x t = go (isPart F q p) refl
         where
-          go : (b : Bool) → is F q p ≡ b → Member x (J .slots (J .top - i)) × (st q .own x ≢ 0)
+          go : (b : Bool) → isPart F q p ≡ b → Member x (J .slots (J .top - i)) × (st q .own x ≢ 0)
           go true e = absurd (t (ap (sumOver (worth x)) (own-writes (counts i) q p (st q) e)))
           go false e =
               let f : ℕ → Bool = λ x. holdsb F J q (J .top - i) x && (holdsb F J p (J .top - i) x && not (eqb (st q .own x) 0)) in
@@ -200,7 +201,7 @@ module _ {Part : Type 0} (F : Finite Part) (J : Task Part) where
           let (a, b) = count-one q x u in
           (q, a, b)
 
-      count-by : (q : Part) (x : ℕ) → Member x (J .slots (J .top - i)) → is F q p ≡ false → T (holdsb F J q (J .top - i) x)
+      count-by : (q : Part) (x : ℕ) → Member x (J .slots (J .top - i)) → isPart F q p ≡ false → T (holdsb F J q (J .top - i) x)
           → T (holdsb F J p (J .top - i) x) → st q .own x ≢ 0
           → added F (from (counts i) st p) x ≢ 0
       unfolding added says edgeCounts worth
@@ -227,7 +228,7 @@ module _ {Part : Type 0} (F : Finite Part) (J : Task Part) (ms : ℕ → ℕ) wh
 
   pub record Marking (i : ℕ) (p : Part) (s : State) : Type 0 where
     pub known : Known i p s
-    pub here : (c : ℕ) → Member c (J .cells (J .top - i)) → s .red c ≡ (is F (J .family c) p && redAt J ms i c)
+    pub here : (c : ℕ) → Member c (J .cells (J .top - i)) → s .red c ≡ (isPart F (J .family c) p && redAt J ms i c)
     pub dark : (k c : ℕ) → k < J .top - i → Member c (J .cells k) → s .red c ≡ false
     pub zero-own : (k x : ℕ) → k ≤ J .top - i → Member x (J .slots k) → s .own x ≡ 0
     pub zero-sum : (k x : ℕ) → k ≤ J .top - i → Member x (J .slots k) → s .sum x ≡ 0
@@ -249,7 +250,7 @@ module _ {Part : Type 0} (F : Finite Part) (J : Task Part) (ms : ℕ → ℕ) wh
     abbrev none-hit : ℕ → Bool
     none-hit s = false
 
-    decided : (p : Part) (k c : ℕ) → Member c (J .cells k) → decides F J p k c ≡ is F (J .family c) p
+    decided : (p : Part) (k c : ℕ) → Member c (J .cells k) → decides F J p k c ≡ isPart F (J .family c) p
     unfolding decides
     decided p k c m = rw (is-true (memberb c (J .cells k)) m)
 
@@ -257,23 +258,23 @@ module _ {Part : Type 0} (F : Finite Part) (J : Task Part) (ms : ℕ → ℕ) wh
     unfolding decides
     undecided p j k c m d = go (memberb c (J .cells k)) refl
       where
-        go : (b : Bool) → memberb c (J .cells k) ≡ b → (b && is F (J .family c) p) ≡ false
+        go : (b : Bool) → memberb c (J .cells k) ≡ b → (b && isPart F (J .family c) p) ≡ false
         go true e = absurd (d (fit .one-level j k c m (rw e tt)))
         go false e = refl
 
     -- a part that decides on a cell knows the marks that the rule looks at
     module _ (p : Part) (given : ℕ → ℕ) (known : (c : ℕ) → J .owner c ≡ p → given c ≡ ms c) (h g : ℕ
         → Bool) (k c : ℕ) (there : Member c (J .cells k))
-        (hits : J .family c ≡ p → (j e : ℕ) → Member j (J .kids c) → Member e six → h (J .slot j e) ≡ g (J .slot j e)) where
+        (hits : J .family c ≡ p → (j e : ℕ) → Member j (J .kids c) → Member e sixEdges → h (J .slot j e) ≡ g (J .slot j e)) where
       rule-known : J .family c ≡ p → rule J h given c ≡ rule J g ms c
       rule-known f =
           rule-same J h g given ms c (λ z. known c (sym (fit .leaf-family k c there z) ∙ f))
           (λ j m. known j (fit .kid-owner k c j there m ∙ f)) (hits f)
 
-      rule-decided : (is F (J .family c) p && rule J h given c) ≡ (is F (J .family c) p && rule J g ms c)
-      rule-decided = go (is F (J .family c) p) refl
+      rule-decided : (isPart F (J .family c) p && rule J h given c) ≡ (isPart F (J .family c) p && rule J g ms c)
+      rule-decided = go (isPart F (J .family c) p) refl
         where
-          go : (b : Bool) → is F (J .family c) p ≡ b → (b && rule J h given c) ≡ (b && rule J g ms c)
+          go : (b : Bool) → isPart F (J .family c) p ≡ b → (b && rule J h given c) ≡ (b && rule J g ms c)
           go true e = rule-known (is-eq F (J .family c) p (rw e tt))
           go false e = refl
 
@@ -298,9 +299,9 @@ module _ {Part : Type 0} (F : Finite Part) (J : Task Part) (ms : ℕ → ℕ) wh
           zero-sum = λ k x l m. refl;
         }
 
-    pub member-has : (j e : ℕ) → Member e six → T (has J j (J .slot j e))
+    pub member-has : (j e : ℕ) → Member e sixEdges → T (has J j (J .slot j e))
     unfolding has
-    member-has j e b = member-any (λ y. eqb (J .slot j y) (J .slot j e)) six e b (rw (eq-eqb (J .slot j e) (J .slot j e) refl) tt)
+    member-has j e b = member-any (λ y. eqb (J .slot j y) (J .slot j e)) sixEdges e b (rw (eq-eqb (J .slot j e) (J .slot j e) refl) tt)
 
     none-told : (i : ℕ) → i ≤ J .top → (st : Part → State) (p : Part) (j c : ℕ) → j < i → Member c (J .cells (J .top - j))
         → told F (from F J (marks i) st p) c ≡ false
@@ -329,13 +330,13 @@ module _ {Part : Type 0} (F : Finite Part) (J : Task Part) (ms : ℕ → ℕ) wh
 
       red-told : (c : ℕ) → Member c (J .cells (J .top - i)) → T (mine F J p c) → redTold F (st p) tellsMe c ≡ redAt J ms i c
       unfolding redTold
-      red-told c m o = go (is F (J .family c) p) refl
+      red-told c m o = go (isPart F (J .family c) p) refl
         where
-          go : (b : Bool) → is F (J .family c) p ≡ b → (st p .red c || told F tellsMe c) ≡ redAt J ms i c
+          go : (b : Bool) → isPart F (J .family c) p ≡ b → (st p .red c || told F tellsMe c) ≡ redAt J ms i c
           go true e =
               let quiet : told F tellsMe c ≡ false =
               no-true (told F tellsMe c) (λ t. let (q, n, f, a, r, d) = told-from-one F J fit i st p c t in
-              not-both (is F q p) (ap (λ x. is F x p) (sym f) ∙ e) d) in
+              not-both (isPart F q p) (ap (λ x. isPart F x p) (sym f) ∙ e) d) in
               ap₂ _||_ (w p .here c m ∙ ap (λ (b : Bool). b && redAt J ms i c) e) quiet ∙ or-false (redAt J ms i c)
             where
               no-true : (b : Bool) → (T b → ⊥) → b ≡ false
@@ -343,8 +344,8 @@ module _ {Part : Type 0} (F : Finite Part) (J : Task Part) (ms : ℕ → ℕ) wh
               no-true false f = refl
           go false e =
               let own : J .owner c ≡ p = is-eq F (J .owner c) p
-              (⊎-elim (λ (t : T (is F (J .owner c) p)). t) (λ (t : T (is F (J .family c) p)). absurd (rw e at t))
-              (or-either (is F (J .owner c) p) (is F (J .family c) p) o)) in
+              (⊎-elim (λ (t : T (isPart F (J .owner c) p)). t) (λ (t : T (isPart F (J .family c) p)). absurd (rw e at t))
+              (or-either (isPart F (J .owner c) p) (isPart F (J .family c) p) o)) in
               let q = J .family c in
               let there : st q .red c ≡ redAt J ms i c = w q .here c m ∙ ap (λ (b : Bool). b && redAt J ms i c) (is-self F q) in
               ap (λ (b : Bool). b || told F tellsMe c) (w p .here c m ∙ ap (λ (b : Bool). b && redAt J ms i c) e)
@@ -366,12 +367,13 @@ module _ {Part : Type 0} (F : Finite Part) (J : Task Part) (ms : ℕ → ℕ) wh
       tally-told : (x : ℕ) → tally F J p (redTold F (st p) tellsMe) (J .top - i) x ≡ tally F J p (redAt J ms i) (J .top - i) x
       unfolding tally
       tally-told x =
-          ap length (filter-agree (λ c. is F (J .owner c) p && (redTold F (st p) tellsMe c && has J c x)) (λ c. is F (J .owner c) p
-          && (redAt J ms i c && has J c x)) (J .cells (J .top - i)) (λ c m. go c m (is F (J .owner c) p) refl))
+          ap length (filter-agree (λ c. isPart F (J .owner c) p && (redTold F (st p) tellsMe c && has J c x)) (λ c. isPart F (J .owner c) p
+          && (redAt J ms i c && has J c x)) (J .cells (J .top - i)) (λ c m. go c m (isPart F (J .owner c) p) refl))
         where
-          go : (c : ℕ) → Member c (J .cells (J .top - i)) → (b : Bool) → is F (J .owner c) p ≡ b
+          go : (c : ℕ) → Member c (J .cells (J .top - i)) → (b : Bool) → isPart F (J .owner c) p ≡ b
               → (b && (redTold F (st p) tellsMe c && has J c x)) ≡ (b && (redAt J ms i c && has J c x))
-          go c m true e = ap (λ (r : Bool). r && has J c x) (red-told c m (or-first (is F (J .owner c) p) (is F (J .family c) p) (rw e tt)))
+          go c m true e = ap (λ (r : Bool). r && has J c x)
+              (red-told c m (or-first (isPart F (J .owner c) p) (isPart F (J .family c) p) (rw e tt)))
           go c m false e = refl
 
       pub marks-known : (grown : Part → State → ℕ × ℕ) → Counting i p (taking F J grown (marks i) p (st p) tellsMe)
@@ -396,13 +398,15 @@ module _ {Part : Type 0} (F : Finite Part) (J : Task Part) (ms : ℕ → ℕ) wh
                 let (c, a, b, d, e) = tally-from F J p (redTold F (st p) tellsMe) (J .top - i) x (λ y. n (omega arith)) in (
                   c,
                   a,
-                  rw (red-told c a (or-first (is F (J .owner c) p) (is F (J .family c) p) (rw (is-same F (J .owner c) p b) tt))) at d,
+                  rw (red-told c a (or-first (isPart F (J .owner c) p) (isPart F (J .family c) p) (rw (is-same F (J .owner c) p b) tt))) at
+                      d,
                   e,
                 );
             own-by = λ x c m o r t.
                 let y : tally F J p (redTold F (st p) tellsMe) (J .top - i) x ≢ 0 =
                 tally-by F J p (redTold F (st p) tellsMe) (J .top - i) x c m o
-                (rw (red-told c m (or-first (is F (J .owner c) p) (is F (J .family c) p) (rw (is-same F (J .owner c) p o) tt))) r) t in
+                (rw (red-told c m (or-first (isPart F (J .owner c) p) (isPart F (J .family c) p) (rw (is-same F (J .owner c) p o) tt))) r)
+                t in
                 (λ e. y (omega arith));
             same = λ x m.
                 ap (λ (n : ℕ). n + tally F J p (redTold F (st p) tellsMe) (J .top - i) x)
@@ -459,11 +463,11 @@ module _ {Part : Type 0} (F : Finite Part) (J : Task Part) (ms : ℕ → ℕ) wh
               let g = and-right (redAt J ms i c) (has J c x) b in
               let q = J .owner c in
               let own : st q .own x ≢ 0 = w q .own-by x c a refl r g in
-              let some : st p .sum x + added F adds x ≢ 0 = go q own (is F q p) refl
-              (holds-by F J q (J .top - i) x c a (or-first (is F (J .owner c) q) (is F (J .family c) q) (rw (is-self F q) tt)) g) in
+              let some : st p .sum x + added F adds x ≢ 0 = go q own (isPart F q p) refl
+              (holds-by F J q (J .top - i) x c a (or-first (isPart F (J .owner c) q) (isPart F (J .family c) q) (rw (is-self F q) tt)) g) in
               rw (ne-eqb (st p .sum x + added F adds x) 0 some) tt
             where
-              go : (q : Part) → st q .own x ≢ 0 → (b : Bool) → is F q p ≡ b → T (holdsb F J q (J .top - i) x)
+              go : (q : Part) → st q .own x ≢ 0 → (b : Bool) → isPart F q p ≡ b → T (holdsb F J q (J .top - i) x)
                   → st p .sum x + added F adds x ≢ 0
               go q n true e l y =
                   let z : st p .own x ≢ 0 = subst (λ q. st q .own x ≢ 0) (is-eq F q p (rw e tt)) n in
@@ -521,14 +525,14 @@ module _ {Part : Type 0} (F : Finite Part) (J : Task Part) (ms : ℕ → ℕ) wh
             here = λ c m.
                 let z : suc (J .top - suc i) ≡ J .top - i = omega arith in
                 let test : ℕ → Bool = λ x. not (eqb (sumTold F (st p) adds x) 0) in
-                let e : rule-is c ≡ (is F (J .family c) p && redAt J ms (suc i) c) =
+                let e : rule-is c ≡ (isPart F (J .family c) p && redAt J ms (suc i) c) =
                 rule-decided p (st p .given) (w p .known .given) (λ x. not (eqb (sumTold F (st p) adds x) 0)) (hitAt J ms i)
                 (J .top - suc i) c m (λ f j e a b.
                 let u : Member j (J .cells (J .top - i)) =
                 subst (λ (k : ℕ). Member j (J .cells k)) z (fit .kid-level (J .top - suc i) c j m a) in
                 hit-here (J .slot j e) (fit .slot-level (J .top - i) j e u b)
                 (holds-by F J p (J .top - i) (J .slot j e) j u
-                (or-first (is F (J .owner j) p) (is F (J .family j) p)
+                (or-first (isPart F (J .owner j) p) (isPart F (J .family j) p)
                 (rw (is-same F (J .owner j) p (fit .kid-owner (J .top - suc i) c j m a ∙ f)) tt))
                 (has-own j e b))) in
                 ap₂ _||_ (w p .dark (J .top - suc i) c (omega arith) m)
@@ -541,9 +545,9 @@ module _ {Part : Type 0} (F : Finite Part) (J : Task Part) (ms : ℕ → ℕ) wh
           }
         where
           rule-is : ℕ → Bool
-          rule-is c = is F (J .family c) p && rule J (λ x. not (eqb (sumTold F (st p) adds x) 0)) (st p .given) c
+          rule-is c = isPart F (J .family c) p && rule J (λ x. not (eqb (sumTold F (st p) adds x) 0)) (st p .given) c
 
-          has-own : (j e : ℕ) → Member e six → T (has J j (J .slot j e))
+          has-own : (j e : ℕ) → Member e sixEdges → T (has J j (J .slot j e))
           has-own j e b = member-has j e b
 
       pub last-known : (grown : Part → State → ℕ × ℕ) → Known (suc i) p (taking F J grown (counts i) p (st p) adds)

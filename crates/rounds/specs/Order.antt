@@ -13,7 +13,7 @@ use Rattle.exchange.specs.Finite.{Finite}
 use Rattle.exchange.specs.Protocol.{only, only-same, only-other}
 use Rattle.rounds.specs.Task.{Task}
 use Rattle.rounds.specs.Among.{is-same, is-not}
-use Rattle.rounds.specs.Rounds.{Body, mark, count, total, end, Phase, marks, counts, totals, over, State, is, holdsb, ghostMarks}
+use Rattle.rounds.specs.Rounds.{Body, mark, count, total, end, Phase, marks, counts, totals, over, State, isPart, holdsb, ghostMarks}
 use Rattle.rounds.specs.Rounds.{edgeCounts, says, writing}
 
 module _ {Part : Type 0} (F : Finite Part) (J : Task Part) (ps : List Part) where
@@ -23,12 +23,13 @@ module _ {Part : Type 0} (F : Finite Part) (J : Task Part) (ps : List Part) wher
   toAll t b = map (λ q. (q, b)) (filterb t ps)
 
   abbrev pub otherb : Part → Part → Bool
-  otherb p q = not (is F p q)
+  otherb p q = not (isPart F p q)
 
   unfoldable pub orderOf : Phase → Part → State → List (Part × Body)
-  unfolding flatMap toAll is holdsb
+  unfolding flatMap toAll isPart holdsb
   orderOf (marks i) p s =
-      flatMap (λ c. toAll (λ q. otherb p q && (is F (J .family c) p && is F (J .owner c) q)) (mark c (s .red c))) (J .cells (J .top - i))
+      flatMap (λ c. toAll (λ q. otherb p q && (isPart F (J .family c) p && isPart F (J .owner c) q)) (mark c (s .red c)))
+      (J .cells (J .top - i))
       ++ toAll (otherb p) end
   orderOf (counts i) p s =
       flatMap (λ x. toAll (λ q. otherb p q && (holdsb F J p (J .top - i) x && (holdsb F J q (J .top - i) x && not (eqb (s .own x) 0))))
@@ -39,7 +40,7 @@ module _ {Part : Type 0} (F : Finite Part) (J : Task Part) (ps : List Part) wher
 
   -- each part stands once
   abbrev pub Once : Type 0
-  Once = (q : Part) → filterb (λ y. is F q y) ps ≡ q ∷ []
+  Once = (q : Part) → filterb (λ y. isPart F q y) ps ≡ q ∷ []
 
   only-append : (q : Part) (l v : List (Part × Body)) → only F q (l ++ v) ≡ only F q l ++ only F q v
   unfolding only
@@ -70,7 +71,7 @@ module _ {Part : Type 0} (F : Finite Part) (J : Task Part) (ps : List Part) wher
     sends l = map (λ y. (y, b)) (filterb t l)
 
     abbrev copies : List Part → List Body
-    copies l = map (λ y. b) (filterb (λ y. is F q y) l)
+    copies l = map (λ y. b) (filterb (λ y. isPart F q y) l)
 
     only-none : t q ≡ false → (l : List Part) → only F q (sends l) ≡ []
     unfolding only filterb
@@ -92,13 +93,13 @@ module _ {Part : Type 0} (F : Finite Part) (J : Task Part) (ps : List Part) wher
             let g : t y ≡ true = subst (λ z. t z ≡ true) d e in
             ap (λ (l : List Part). only F q (map (λ y. (y, b)) l)) (keep t y l g)
             ∙ subst (λ z. only F q ((z, b) ∷ sends l) ≡ b ∷ only F q (sends l)) d (only-same F q b (sends l))
-            ∙ ap (_∷_ b) i ∙ sym (ap (map (λ y. b)) (keep (λ y. is F q y) y l (is-same F q y d)))
+            ∙ ap (_∷_ b) i ∙ sym (ap (map (λ y. b)) (keep (λ y. isPart F q y) y l (is-same F q y d)))
         go (no d) true f i =
             ap (λ (l : List Part). only F q (map (λ y. (y, b)) l)) (keep t y l f) ∙ only-other F q y b (sends l) d ∙ i
-            ∙ sym (ap (map (λ y. b)) (skip (λ y. is F q y) y l (is-not F q y d)))
+            ∙ sym (ap (map (λ y. b)) (skip (λ y. isPart F q y) y l (is-not F q y d)))
         go (no d) false f i =
             ap (λ (l : List Part). only F q (map (λ y. (y, b)) l)) (skip t y l f) ∙ i
-            ∙ sym (ap (map (λ y. b)) (skip (λ y. is F q y) y l (is-not F q y d)))
+            ∙ sym (ap (map (λ y. b)) (skip (λ y. isPart F q y) y l (is-not F q y d)))
 
     pub only-all : Once → only F q (toAll t b) ≡ just (t q) b
     unfolding toAll just
@@ -131,27 +132,27 @@ module _ {Part : Type 0} (F : Finite Part) (J : Task Part) (ps : List Part) wher
   filter-same f g [] h = refl
   filter-same f g (c ∷ l) h = ap₂ (λ (a : Bool) (v : List ℕ). elim a [ true ↦ c ∷ v | false ↦ v ]) (h c) (filter-same f g l h)
 
-  to-none : Once → (p q : Part) (b : Body) → is F p q ≡ true → only F q (toAll (otherb p) b) ≡ []
+  to-none : Once → (p q : Part) (b : Body) → isPart F p q ≡ true → only F q (toAll (otherb p) b) ≡ []
   unfolding just
   to-none once p q b e = only-all q (otherb p) b once ∙ ap (λ (c : Bool). just (not c) b) e
 
-  to-one : Once → (p q : Part) (b : Body) → is F p q ≡ false → only F q (toAll (otherb p) b) ≡ b ∷ []
+  to-one : Once → (p q : Part) (b : Body) → isPart F p q ≡ false → only F q (toAll (otherb p) b) ≡ b ∷ []
   unfolding just
   to-one once p q b e = only-all q (otherb p) b once ∙ ap (λ (c : Bool). just (not c) b) e
 
   -- THOSE FOR ONE PART are what is written for it
   pub ordered : Once → (f : Phase) (p q : Part) (s : State) → only F q (orderOf f p s) ≡ writing F J f p q s
   unfolding orderOf writing just says ghostMarks edgeCounts only
-  ordered once f p q s = go (is F p q) refl f
+  ordered once f p q s = go (isPart F p q) refl f
     where
-      go : (a : Bool) → is F p q ≡ a → (f : Phase) → only F q (orderOf f p s) ≡ writing F J f p q s
+      go : (a : Bool) → isPart F p q ≡ a → (f : Phase) → only F q (orderOf f p s) ≡ writing F J f p q s
       go true e (marks i) =
-          only-append q (flatMap (λ c. toAll (λ q. otherb p q && (is F (J .family c) p && is F (J .owner c) q)) (mark c (s .red c)))
+          only-append q (flatMap (λ c. toAll (λ q. otherb p q && (isPart F (J .family c) p && isPart F (J .owner c) q)) (mark c (s .red c)))
           (J .cells (J .top - i))) (toAll (otherb p) end)
           ∙ ap₂ _++_ (only-spread once q (λ c q. otherb p q
-          && (is F (J .family c) p && is F (J .owner c) q)) (λ c. mark c (s .red c)) (J .cells (J .top - i))
+          && (isPart F (J .family c) p && isPart F (J .owner c) q)) (λ c. mark c (s .red c)) (J .cells (J .top - i))
           ∙ ap (map (λ c. mark c (s .red c))) (filter-none (λ c. otherb p q
-          && (is F (J .family c) p && is F (J .owner c) q)) (J .cells (J .top - i)) (λ c. rw e)))
+          && (isPart F (J .family c) p && isPart F (J .owner c) q)) (J .cells (J .top - i)) (λ c. rw e)))
           (to-none once p q end e) ∙ rw (e, writing)
       go true e (counts i) =
           only-append q (flatMap (λ x. toAll (λ q. otherb p q
@@ -167,13 +168,13 @@ module _ {Part : Type 0} (F : Finite Part) (J : Task Part) (ps : List Part) wher
           ∙ ap₂ _++_ (to-none once p q (total (s .total) (s .high)) e) (to-none once p q end e) ∙ rw (e, writing)
       go true e over = rw (e, writing)
       go false e (marks i) =
-          only-append q (flatMap (λ c. toAll (λ q. otherb p q && (is F (J .family c) p && is F (J .owner c) q)) (mark c (s .red c)))
+          only-append q (flatMap (λ c. toAll (λ q. otherb p q && (isPart F (J .family c) p && isPart F (J .owner c) q)) (mark c (s .red c)))
           (J .cells (J .top - i))) (toAll (otherb p) end)
           ∙ ap₂ _++_ (only-spread once q (λ c q. otherb p q
-          && (is F (J .family c) p && is F (J .owner c) q)) (λ c. mark c (s .red c)) (J .cells (J .top - i))
+          && (isPart F (J .family c) p && isPart F (J .owner c) q)) (λ c. mark c (s .red c)) (J .cells (J .top - i))
           ∙ ap (map (λ c. mark c (s .red c))) (filter-same (λ c. otherb p q
-          && (is F (J .family c) p && is F (J .owner c) q)) (λ c. is F (J .family c) p
-          && is F (J .owner c) q) (J .cells (J .top - i)) (λ c. rw e)))
+          && (isPart F (J .family c) p && isPart F (J .owner c) q)) (λ c. isPart F (J .family c) p
+          && isPart F (J .owner c) q) (J .cells (J .top - i)) (λ c. rw e)))
           (to-one once p q end e) ∙ rw (e, writing)
       go false e (counts i) =
           only-append q (flatMap (λ x. toAll (λ q. otherb p q

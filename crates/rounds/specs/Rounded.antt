@@ -18,7 +18,8 @@ use Rattle.exchange.specs.Finite.{Finite}
 use Rattle.exchange.specs.Protocol.{Protocol}
 use Rattle.exchange.specs.Lockstep.{lock}
 use Rattle.rounds.specs.Task.{Task, Fit}
-use Rattle.rounds.specs.Rounds.{Body, mark, count, total, end, Phase, marks, counts, totals, over, after, phase, State, is, holdsb}
+use Rattle.rounds.specs.Rounds.{Body, mark, count, total, end, Phase, marks, counts, totals, over, after, phase, State, isPart}
+use Rattle.rounds.specs.Rounds.{holdsb}
 use Rattle.rounds.specs.Rounds.{starting, ghostMarks, edgeCounts, says, writing, taking}
 use Rattle.rounds.specs.Order.{orderOf}
 use Rattle.rounds.specs.Enough.{Known, Marking, Counting, at-start, marks-known, counts-known, last-known}
@@ -85,8 +86,8 @@ sizedb over = true
 module _ {Part : Type 0} (F : Finite Part) (J : Task Part) where
   -- own messages and those after the last round: there are none
   unfoldable pub wholeb : ℕ → Part → Part → List Body → Bool
-  unfolding endedb overb is phase
-  wholeb r q p l = is F q p || (overb (phase (J .top) r) || endedb l)
+  unfolding endedb overb isPart phase
+  wholeb r q p l = isPart F q p || (overb (phase (J .top) r) || endedb l)
 
   -- what the exchange asks of what is written
   ended-last : (l : List Body) → endedb (l ++ (end ∷ [])) ≡ true
@@ -117,7 +118,8 @@ module _ {Part : Type 0} (F : Finite Part) (J : Task Part) where
       → length (says F J f q p s) ≤ k
   unfolding says ghostMarks edgeCounts isEnd overb
   says-is (marks i) q p s k o t = quiet-is (ghostMarks F J (J .top - i) q p s)
-      (quiet-map (λ c. mark c (s .red c)) (λ c. refl) (filterb (λ c. is F (J .family c) q && is F (J .owner c) p) (J .cells (J .top - i))))
+      (quiet-map (λ c. mark c (s .red c)) (λ c. refl)
+      (filterb (λ c. isPart F (J .family c) q && isPart F (J .owner c) p) (J .cells (J .top - i))))
       k t
   says-is (counts i) q p s k o t = quiet-is (edgeCounts F J (J .top - i) q p s)
       (quiet-map (λ x. count x (s .own x)) (λ c. refl)
@@ -135,29 +137,29 @@ module _ {Part : Type 0} (F : Finite Part) (J : Task Part) where
 
   pub silent : (p q : Part) (s : State) → writing F J (phase (J .top) (suc (suc (suc (J .top + J .top))))) p q s ≡ []
   unfolding writing says
-  silent p q s = rw (phase-over (J .top)) (go (is F p q) refl)
+  silent p q s = rw (phase-over (J .top)) (go (isPart F p q) refl)
     where
-      go : (b : Bool) → is F p q ≡ b → writing F J over p q s ≡ []
+      go : (b : Bool) → isPart F p q ≡ b → writing F J over p q s ≡ []
       go true e = rw (e, writing)
       go false e = rw (e, writing)
 
   pub whole-all : (r : ℕ) (q p : Part) (s : State) → wholeb r q p (writing F J (phase (J .top) r) q p s) ≡ true
   unfolding wholeb writing
-  whole-all r q p s = go (is F q p) refl
+  whole-all r q p s = go (isPart F q p) refl
     where
-      go : (b : Bool) → is F q p ≡ b → wholeb r q p (writing F J (phase (J .top) r) q p s) ≡ true
+      go : (b : Bool) → isPart F q p ≡ b → wholeb r q p (writing F J (phase (J .top) r) q p s) ≡ true
       go true e = rw (e, wholeb)
       go false e = rw (e, wholeb, writing) (says-all (phase (J .top) r) q p s)
 
-  other-writes : (f : Phase) (q p : Part) (s : State) → is F q p ≡ false → writing F J f q p s ≡ says F J f q p s
+  other-writes : (f : Phase) (q p : Part) (s : State) → isPart F q p ≡ false → writing F J f q p s ≡ says F J f q p s
   unfolding writing
   other-writes f q p s e = rw (e, writing)
 
-  own-writes : (f : Phase) (q p : Part) (s : State) → is F q p ≡ true → writing F J f q p s ≡ []
+  own-writes : (f : Phase) (q p : Part) (s : State) → isPart F q p ≡ true → writing F J f q p s ≡ []
   unfolding writing
   own-writes f q p s e = rw (e, writing)
 
-  whole-other : (r : ℕ) (q p : Part) (l : List Body) → is F q p ≡ false → overb (phase (J .top) r) ≡ false → wholeb r q p l ≡ endedb l
+  whole-other : (r : ℕ) (q p : Part) (l : List Body) → isPart F q p ≡ false → overb (phase (J .top) r) ≡ false → wholeb r q p l ≡ endedb l
   unfolding wholeb
   whole-other r q p l e o = rw (e, o, wholeb)
 
@@ -170,12 +172,12 @@ module _ {Part : Type 0} (F : Finite Part) (J : Task Part) where
 
   pub whole-is : (r : ℕ) (q p : Part) (s : State) (k : ℕ) → k ≤ length (writing F J (phase (J .top) r) q p s)
       → wholeb r q p (take k (writing F J (phase (J .top) r) q p s)) ≡ true → length (writing F J (phase (J .top) r) q p s) ≤ k
-  whole-is r q p s k h t = go (is F q p) refl (overb (phase (J .top) r)) refl
+  whole-is r q p s k h t = go (isPart F q p) refl (overb (phase (J .top) r)) refl
     where
       f : Phase
       f = phase (J .top) r
 
-      go : (b : Bool) → is F q p ≡ b → (o : Bool) → overb (phase (J .top) r) ≡ o → length (writing F J (phase (J .top) r) q p s) ≤ k
+      go : (b : Bool) → isPart F q p ≡ b → (o : Bool) → overb (phase (J .top) r) ≡ o → length (writing F J (phase (J .top) r) q p s) ≤ k
       go true e o g = omega (arith, ap length (own-writes (phase (J .top) r) q p s e))
       go false e true g = omega (arith, ap length (other-writes (phase (J .top) r) q p s e), over-silent (phase (J .top) r) q p s g)
       go false e false g =

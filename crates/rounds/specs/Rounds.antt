@@ -79,8 +79,8 @@ largest f [] = 0
 largest f (x ∷ l) = max (f x) (largest f l)
 
 module _ {Part : Type 0} (F : Finite Part) where
-  unfoldable pub is : Part → Part → Bool
-  is p q = elim (F .same? p q) [ yes e ↦ true | no e ↦ false ]
+  unfoldable pub isPart : Part → Part → Bool
+  isPart p q = elim (F .same? p q) [ yes e ↦ true | no e ↦ false ]
 
   module _ (got : Part → List Body) where
     unfoldable pub told : ℕ → Bool
@@ -116,21 +116,21 @@ sized g s = record { given = s .given; red = s .red; own = s .own; sum = s .sum;
 
 module _ {Part : Type 0} (F : Finite Part) (J : Task Part) where
   abbrev pub mine : Part → ℕ → Bool
-  mine p c = is F (J .owner c) p || is F (J .family c) p
+  mine p c = isPart F (J .owner c) p || isPart F (J .family c) p
 
   -- the part has a cell with this slot, as master or ghost
   unfoldable pub holdsb : Part → ℕ → ℕ → Bool
-  unfolding is has anyb
+  unfolding isPart has anyb
   holdsb p k x = anyb (λ c. mine p c && has J c x) (J .cells k)
 
   -- a part decides on the cells whose family it has, and on its leaves
   unfoldable pub decides : Part → ℕ → ℕ → Bool
-  unfolding is memberb
-  decides p k c = memberb c (J .cells k) && is F (J .family c) p
+  unfolding isPart memberb
+  decides p k c = memberb c (J .cells k) && isPart F (J .family c) p
 
   unfoldable pub tally : Part → (ℕ → Bool) → ℕ → ℕ → ℕ
-  unfolding is has filterb
-  tally p red k x = length (filterb (λ c. is F (J .owner c) p && (red c && has J c x)) (J .cells k))
+  unfolding isPart has filterb
+  tally p red k x = length (filterb (λ c. isPart F (J .owner c) p && (red c && has J c x)) (J .cells k))
 
   unfoldable pub starting : Part → (ℕ → ℕ) → State
   unfolding decides rule
@@ -145,8 +145,8 @@ module _ {Part : Type 0} (F : Finite Part) (J : Task Part) where
   }
 
   unfoldable pub ghostMarks : ℕ → Part → Part → State → List Body
-  unfolding is filterb
-  ghostMarks k p q s = map (λ c. mark c (s .red c)) (filterb (λ c. is F (J .family c) p && is F (J .owner c) q) (J .cells k))
+  unfolding isPart filterb
+  ghostMarks k p q s = map (λ c. mark c (s .red c)) (filterb (λ c. isPart F (J .family c) p && isPart F (J .owner c) q) (J .cells k))
 
   unfoldable pub edgeCounts : ℕ → Part → Part → State → List Body
   unfolding holdsb filterb
@@ -160,8 +160,8 @@ module _ {Part : Type 0} (F : Finite Part) (J : Task Part) where
   says over p q s = []
 
   unfoldable pub writing : Phase → Part → Part → State → List Body
-  unfolding says is
-  writing f p q s = elim (is F p q) [ true ↦ [] | false ↦ says f p q s ]
+  unfolding says isPart
+  writing f p q s = elim (isPart F p q) [ true ↦ [] | false ↦ says f p q s ]
 
   unfoldable pub redDown : ℕ → Part → State → (Part → List Body) → ℕ → Bool
   unfolding decides rule sumTold

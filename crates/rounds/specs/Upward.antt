@@ -10,7 +10,7 @@ use native.Mathlib.Decide.{ℕ-discrete, Fin·val-path}
 use Rattle.base.specs.Lists.{filterb}
 use Rattle.exchange.specs.Finite.{parts}
 use Rattle.rounds.specs.Task.{Task}
-use Rattle.rounds.specs.Rounds.{is}
+use Rattle.rounds.specs.Rounds.{isPart}
 use Rattle.rounds.specs.Among.{is-same, is-not}
 use Rattle.rounds.specs.Order.{Once}
 
@@ -32,7 +32,7 @@ ups P = upFrom P P 0 (up-whole P)
 
 module _ (P : ℕ) (J : Task (Fin P)) (q : Fin P) where
   abbrev same : Fin P → Bool
-  same y = is (parts P) q y
+  same y = isPart (parts P) q y
 
   keep-one : (y : Fin P) (l : List (Fin P)) → same y ≡ true → filterb same (y ∷ l) ≡ y ∷ filterb same l
   unfolding filterb

@@ -29,7 +29,7 @@ use Rattle.soundness.specs.Family.{ChildAt, family-child}
 use Rattle.soundness.specs.Sound.{Sound, sound-from, level-there}
 use Rattle.exchange.specs.Finite.{Finite}
 use Rattle.rounds.specs.Task.{Task}
-use Rattle.rounds.specs.Rounds.{State, is}
+use Rattle.rounds.specs.Rounds.{State, isPart}
 use Rattle.rounds.specs.Among.{is-same, is-eq}
 use Rattle.parts.specs.Held.{Entry}
 use Rattle.splitting.specs.Numbers.{at-level, stands}
@@ -135,17 +135,17 @@ module _ {Part : Type 0} {F : Finite Part} (X : Settled F) (p : Part) where
 
   master-means : (k t : ℕ) → t < length (old k .cells) → (e : Entry) → List·Memᴰ e (masterEntry F J p st k (num k t)) → Means e
   unfolding masterEntry
-  master-means k t h e m = go (is F (owner (num k t)) p && staysb F J p st k (num k t)) refl
+  master-means k t h e m = go (isPart F (owner (num k t)) p && staysb F J p st k (num k t)) refl
     where
       c : ℕ
       c = num k t
 
-      go : (b : Bool) → (is F (owner (num k t)) p && staysb F J p st k (num k t)) ≡ b → Means e
+      go : (b : Bool) → (isPart F (owner (num k t)) p && staysb F J p st k (num k t)) ≡ b → Means e
       go false q = absurd (List·Memᴰ·not-nil (rw (q, masterEntry) at m))
       go true q =
-          let u : T (is F (owner (num k t)) p && staysb F J p st k (num k t)) = subst (λ (x : Bool). T x) (sym q) tt in
-          let o = is-eq F (owner (num k t)) p (and-left (is F (owner (num k t)) p) (staysb F J p st k (num k t)) u) in
-          let w = stays-there X p k t h (inr o) (and-right (is F (owner (num k t)) p) (staysb F J p st k (num k t)) u) in
+          let u : T (isPart F (owner (num k t)) p && staysb F J p st k (num k t)) = subst (λ (x : Bool). T x) (sym q) tt in
+          let o = is-eq F (owner (num k t)) p (and-left (isPart F (owner (num k t)) p) (staysb F J p st k (num k t)) u) in
+          let w = stays-there X p k t h (inr o) (and-right (isPart F (owner (num k t)) p) (staysb F J p st k (num k t)) u) in
           let x : e ≡ entryBy (pathOf k t) (stNow k t) false =
           only-one e (entryBy (pathOf k t) (stNow k t) false) (rw (q, masterEntry) at m) in
           let l = old-low k t h in
@@ -168,20 +168,20 @@ module _ {Part : Type 0} {F : Finite Part} (X : Settled F) (p : Part) where
 
   ghost-means : (k t : ℕ) → t < length (old k .cells) → (e : Entry) → List·Memᴰ e (ghostEntry F J p st (num k t)) → Means e
   unfolding ghostEntry
-  ghost-means k t h e m = go (not (is F (owner (num k t)) p) && (is F (J .family (num k t)) p && not (eqb (stNow k t) 0))) refl
+  ghost-means k t h e m = go (not (isPart F (owner (num k t)) p) && (isPart F (J .family (num k t)) p && not (eqb (stNow k t) 0))) refl
     where
-      go : (b : Bool) → (not (is F (owner (num k t)) p) && (is F (J .family (num k t)) p && not (eqb (stNow k t) 0))) ≡ b → Means e
+      go : (b : Bool) → (not (isPart F (owner (num k t)) p) && (isPart F (J .family (num k t)) p && not (eqb (stNow k t) 0))) ≡ b → Means e
       go false q = absurd (List·Memᴰ·not-nil (rw (q, ghostEntry) at m))
       go true q =
-          let u : T (not (is F (owner (num k t)) p) && (is F (J .family (num k t)) p && not (eqb (stNow k t) 0))) =
+          let u : T (not (isPart F (owner (num k t)) p) && (isPart F (J .family (num k t)) p && not (eqb (stNow k t) 0))) =
           subst (λ (x : Bool). T x) (sym q) tt in
-          let v = and-right (not (is F (owner (num k t)) p)) (is F (J .family (num k t)) p && not (eqb (stNow k t) 0)) u in
-          let fc = is-eq F (J .family (num k t)) p (and-left (is F (J .family (num k t)) p) (not (eqb (stNow k t) 0)) v) in
+          let v = and-right (not (isPart F (owner (num k t)) p)) (isPart F (J .family (num k t)) p && not (eqb (stNow k t) 0)) u in
+          let fc = is-eq F (J .family (num k t)) p (and-left (isPart F (J .family (num k t)) p) (not (eqb (stNow k t) 0)) v) in
           let nz = eqb-false (stNow k t) 0
-          (is-false (eqb (stNow k t) 0) (and-right (is F (J .family (num k t)) p) (not (eqb (stNow k t) 0)) v)) in
+          (is-false (eqb (stNow k t) 0) (and-right (isPart F (J .family (num k t)) p) (not (eqb (stNow k t) 0)) v)) in
           let no : owner (num k t) ≢ p =
-          (λ y. not-both (is F (owner (num k t)) p) (is-same F (owner (num k t)) p y)
-          (is-false (is F (owner (num k t)) p) (and-left (not (is F (owner (num k t)) p)) (is F (J .family (num k t)) p
+          (λ y. not-both (isPart F (owner (num k t)) p) (is-same F (owner (num k t)) p y)
+          (is-false (isPart F (owner (num k t)) p) (and-left (not (isPart F (owner (num k t)) p)) (isPart F (J .family (num k t)) p
           && not (eqb (stNow k t) 0)) u))) in
           let w = refined-there n qs ss ms s k t h (λ y. ⊎-elim (λ (x : stWas k t ≢ 0). x (at-level n qs ss s k t h .status-is ∙ y))
           (λ (x : owner (num k t) ≡ p). no x) (here-either X p k t h fc)) in
@@ -217,12 +217,12 @@ module _ {Part : Type 0} {F : Finite Part} (X : Settled F) (p : Part) where
   pub anew-of : (k t : ℕ) → t < length (old k .cells) → T (anewb F J p st k (num k t)) → Anew k t
   unfolding anewb
   anew-of k t h y =
-      let y1 = and-right (is F (J .family (num k t)) p) (staysb F J p st k (num k t)
+      let y1 = and-right (isPart F (J .family (num k t)) p) (staysb F J p st k (num k t)
       && (not (eqb (stNow k t) 0) && not (eqb (stWas k t) 64 && eqb (stNow k t) 64))) y in
       let y2 = and-right (staysb F J p st k (num k t)) (not (eqb (stNow k t) 0) && not (eqb (stWas k t) 64 && eqb (stNow k t) 64)) y1 in
       let y3 = and-right (not (eqb (stNow k t) 0)) (not (eqb (stWas k t) 64 && eqb (stNow k t) 64)) y2 in
       let fc : J .family (num k t) ≡ p =
-      is-eq F (J .family (num k t)) p (and-left (is F (J .family (num k t)) p) (staysb F J p st k (num k t)
+      is-eq F (J .family (num k t)) p (and-left (isPart F (J .family (num k t)) p) (staysb F J p st k (num k t)
       && (not (eqb (stNow k t) 0) && not (eqb (stWas k t) 64 && eqb (stNow k t) 64))) y) in
       let w = stays-there X p k t h (here-either X p k t h fc)
       (and-left (staysb F J p st k (num k t)) (not (eqb (stNow k t) 0) && not (eqb (stWas k t) 64 && eqb (stNow k t) 64)) y1) in

@@ -39,13 +39,13 @@ use Rattle.soundness.specs.Turn.{Sharing, sharing}
 use Rattle.soundness.specs.Sound.{Sound, sound-from, lv, level-closed, level-next, level-there}
 use Rattle.soundness.specs.Meets.{edges-alike, point-same}
 use Rattle.rounds.specs.Tests.{Member, same-test, any-member, member-any}
-use Rattle.rounds.specs.Task.{Task, six, redAt, hitAt}
-use Rattle.rounds.specs.Rounds.{State, is, mine}
+use Rattle.rounds.specs.Task.{Task, sixEdges, redAt, hitAt}
+use Rattle.rounds.specs.Rounds.{State, isPart, mine}
 use Rattle.rounds.specs.Among.{is-same}
 use Rattle.rounds.specs.Enough.{Known, holds-by, member-has}
 use Rattle.parts.specs.Owners.{nthCell, childrenOf}
 use Rattle.splitting.specs.Members.{map-agree, six-below, below-six}
-use Rattle.splitting.specs.Numbers.{numbersOf, rowBy, at-level, stands, kid, kid-in, row-at}
+use Rattle.splitting.specs.Numbers.{numbersOf, rowBy, at-level, stands, kid, kid-in, row-of-cell}
 use Rattle.splitting.specs.Split.{newEdges, newRedRow, Slots, Owners, fits, flags-red, hits}
 use Rattle.shares.specs.After.{WillHave, will, new-status}
 use Rattle.shares.specs.Grow.{lastOf, last-snoc, heldNow, statusNew, pairHeld, freshStatus, fresh-is}
@@ -229,7 +229,7 @@ module _ {Part : Type 0} {F : Finite Part} (X : Settled F) (p : Part) where
       ∙ subst (λ (x : ℕ). redAt J mark (b .j) c ≡ newRedRow n qs ss ms x (rowBy n qs ss ms c)) (b .level)
       (flags-red n qs ss s slot slots sl os own part ms (b .j) (omega (arith, b .few)) (b .some) c u)
 
-  pub known-held : (k c e : ℕ) → Member c (numbersOf n qs ss k) → T (mine F J p c) → Member e six
+  pub known-held : (k c e : ℕ) → Member c (numbersOf n qs ss k) → T (mine F J p c) → Member e sixEdges
       → heldNow J st (slot c e) ≡ heldb sameb (newEdges n qs ss ms k) (edge [] (nthCell n qs ss c) e)
   known-held k c e m o q =
       let b = below k c m in
@@ -240,7 +240,7 @@ module _ {Part : Type 0} {F : Finite Part} (X : Settled F) (p : Part) where
       ∙ subst (λ (x : ℕ). hitAt J mark (b .j) (slot c e) ≡ heldb sameb (newEdges n qs ss ms x) (edge [] (nthCell n qs ss c) e)) (b .level)
       (hits n qs ss s slot slots sl os own part ms (b .j) (omega (arith, b .few)) (b .some) c e u q)
 
-  edges-six : (f : Edge → Bool) (c : Cell Point) → map f (edges [] c) ≡ map (λ e. f (edge [] c e)) six
+  edges-six : (f : Edge → Bool) (c : Cell Point) → map f (edges [] c) ≡ map (λ e. f (edge [] c e)) sixEdges
   unfolding edges
   edges-six f c = refl
 
@@ -256,7 +256,7 @@ module _ {Part : Type 0} {F : Finite Part} (X : Settled F) (p : Part) where
       ∙ is-true (getD (lv n qs ss k .cells) (w .t) noCell .regular) (w .is .regular) in
       let red : st .red (num k (w .t)) ≡ redb (newStatus k i) =
       known-red k (num k (w .t)) (a .here) o
-      ∙ ap (newRedRow n qs ss ms k) (row-at n qs ss s ms k (w .t) (w .is .below)) ∙ sym (w .red) in
+      ∙ ap (newRedRow n qs ss ms k) (row-of-cell n qs ss s ms k (w .t) (w .is .below)) ∙ sym (w .red) in
       go reg red (redb (newStatus k i)) refl (a .here) (a .cell-is)
     where
       go : nthCell n qs ss (num k (w .t)) .regular ≡ true → st .red (num k (w .t)) ≡ redb (newStatus k i)
@@ -270,7 +270,7 @@ module _ {Part : Type 0} {F : Finite Part} (X : Settled F) (p : Part) where
           (sym (edges-alike (nthCell n qs ss (num k (w .t))) (newCell k i) (ap (λ (c : Cell Point). c .points) q ∙ w .is .points)))
           ∙ ap bitsOf (edges-six (heldb sameb (newEdges n qs ss ms k)) (nthCell n qs ss (num k (w .t)))
           ∙ map-agree (λ e. heldb sameb (newEdges n qs ss ms k) (edge [] (nthCell n qs ss (num k (w .t))) e))
-          (λ e. heldNow J st (slot (num k (w .t)) e)) six (λ e b. sym (known-held k (num k (w .t)) e m o b))))
+          (λ e. heldNow J st (slot (num k (w .t)) e)) sixEdges (λ e b. sym (known-held k (num k (w .t)) e m o b))))
 
   -- an edge with two digits of a cell whose family is here
   module _ (k t : ℕ) (ht : t < length (lv n qs ss k .cells)) (rt : T (getD (lv n qs ss k .cells) t noCell .regular))
@@ -283,7 +283,7 @@ module _ {Part : Type 0} {F : Finite Part} (X : Settled F) (p : Part) where
 
     kid-mine : (d : ℕ) → Member d (childrenOf n qs ss (num k t)) → T (mine F J p d)
     kid-mine d m =
-        or-first (is F (J .owner d) p) (is F (J .family d) p)
+        or-first (isPart F (J .owner d) p) (isPart F (J .family d) p)
         (rw (is-same F (J .owner d) p (fits n qs ss s slot slots sl os own part .kid-owner k (num k t) d
         (at-level n qs ss s k t ht .here) m ∙ fam)) tt)
 
@@ -319,18 +319,20 @@ module _ {Part : Type 0} {F : Finite Part} (X : Settled F) (p : Part) where
         (w .low-is ∙ sym (ap₂ (λ (x i : ℕ). lowDigit (patternOf x) i (w .y)) (z .status-is) last)))
         (eq-T b (highDigit (patternOf (getD ss (num k t) 0)) (lastOf (nthCell n qs ss (num (suc k) (w .child .u)) .path)) (w .y))
         (w .high-is ∙ sym (ap₂ (λ (x i : ℕ). highDigit (patternOf x) i (w .y)) (z .status-is) last))) in
-        member-any (λ d. anyb (λ y. fits-digits a b d y && heldNow J st (slot d y)) six) (childrenOf n qs ss (num k t))
+        member-any (λ d. anyb (λ y. fits-digits a b d y && heldNow J st (slot d y)) sixEdges) (childrenOf n qs ss (num k t))
         (num (suc k) (w .child .u)) m
-        (member-any (λ y. fits-digits a b (num (suc k) (w .child .u)) y && heldNow J st (slot (num (suc k) (w .child .u)) y)) six (w .y)
+        (member-any (λ y. fits-digits a b (num (suc k) (w .child .u)) y && heldNow J st (slot (num (suc k) (w .child .u)) y)) sixEdges
+        (w .y)
         (below-six (w .y) (w .below))
         (and-both (fits-digits a b (num (suc k) (w .child .u)) (w .y)) (heldNow J st (slot (num (suc k) (w .child .u)) (w .y))) q held'))
 
     pair-down : (a b : ℕ) → T (pairHeld J st (num k t) a b) → T (heldb sameb (newEdges n qs ss ms (suc k)) (point G a, point G b))
     unfolding pairHeld
     pair-down a b r =
-        let (d, m, r1) = any-member (λ d. anyb (λ y. fits-digits a b d y && heldNow J st (slot d y)) six) (childrenOf n qs ss (num k t))
+        let (d, m, r1) = any-member (λ d. anyb (λ y. fits-digits a b d y && heldNow J st (slot d y)) sixEdges)
+        (childrenOf n qs ss (num k t))
         r in
-        let (y, hy, r2) = any-member (λ y. fits-digits a b d y && heldNow J st (slot d y)) six r1 in
+        let (y, hy, r2) = any-member (λ y. fits-digits a b d y && heldNow J st (slot d y)) sixEdges r1 in
         let r3 = and-left (fits-digits a b d y) (heldNow J st (slot d y)) r2 in
         let z = at-level n qs ss s k t ht in
         let kd = kid n qs ss s k (num k t) d (z .here) m in
@@ -403,6 +405,6 @@ module _ {Part : Type 0} {F : Finite Part} (X : Settled F) (p : Part) where
       new-status n qs ss ms s (suc k) g i h r e
       ∙ ap bitsOf (edges-six (heldb sameb (newEdges n qs ss ms (suc k))) (newCell (suc k) i)
       ∙ map-agree (λ y. heldb sameb (newEdges n qs ss ms (suc k)) (edge [] (newCell (suc k) i) y))
-      (λ y. pairHeld J st (num k (f .t)) (lowDigit 63 (f .born .i) y) (highDigit 63 (f .born .i) y)) six
+      (λ y. pairHeld J st (num k (f .t)) (lowDigit 63 (f .born .i) y) (highDigit 63 (f .born .i) y)) sixEdges
       (λ y m. fresh-pair k i f fam y (six-below y m)))
       ∙ sym (fresh-is J st (num k (f .t)) (f .born .i))

@@ -20,8 +20,8 @@ use Rattle.mesh.specs.Cells.{patternOf, bitsOf}
 use Rattle.mesh.specs.Table.{sizeOf}
 use Rattle.families.specs.Children.{lowDigit, highDigit}
 use Rattle.exchange.specs.Finite.{Finite}
-use Rattle.rounds.specs.Task.{Task, six}
-use Rattle.rounds.specs.Rounds.{State, is}
+use Rattle.rounds.specs.Task.{Task, sixEdges}
+use Rattle.rounds.specs.Rounds.{State, isPart}
 use Rattle.parts.specs.Held.{Entry}
 
 unfoldable pub lastOf : List ℕ → ℕ
@@ -46,7 +46,7 @@ module _ {Part : Type 0} (J : Task Part) (st : State) where
   unfolding bitsOf
   statusNew c =
       elim (J .regular c) [
-        | true ↦ elim (st .red c) [ true ↦ 64 | false ↦ bitsOf (map (λ e. heldNow (J .slot c e)) six) ]
+        | true ↦ elim (st .red c) [ true ↦ 64 | false ↦ bitsOf (map (λ e. heldNow (J .slot c e)) sixEdges) ]
         | false ↦ 0
       ]
 
@@ -60,13 +60,13 @@ module _ {Part : Type 0} (J : Task Part) (st : State) where
   unfoldable pub pairHeld : ℕ → ℕ → ℕ → Bool
   unfolding anyb patternOf lastOf family low high
   pairHeld c a b =
-      anyb (λ d. anyb (λ y. (eqb a (lowOf c d y) && eqb b (highOf c d y)) && heldNow (J .slot d y)) six) (J .kids c)
+      anyb (λ d. anyb (λ y. (eqb a (lowOf c d y) && eqb b (highOf c d y)) && heldNow (J .slot d y)) sixEdges) (J .kids c)
 
   unfoldable pub freshStatus : ℕ → ℕ → ℕ
   unfolding bitsOf pairHeld
-  freshStatus c i = bitsOf (map (λ y. pairHeld c (lowDigit 63 i y) (highDigit 63 i y)) six)
+  freshStatus c i = bitsOf (map (λ y. pairHeld c (lowDigit 63 i y) (highDigit 63 i y)) sixEdges)
 
-  pub fresh-is : (c i : ℕ) → freshStatus c i ≡ bitsOf (map (λ y. pairHeld c (lowDigit 63 i y) (highDigit 63 i y)) six)
+  pub fresh-is : (c i : ℕ) → freshStatus c i ≡ bitsOf (map (λ y. pairHeld c (lowDigit 63 i y) (highDigit 63 i y)) sixEdges)
   unfolding freshStatus
   fresh-is c i = refl
 
@@ -80,21 +80,21 @@ module _ {Part : Type 0} (F : Finite Part) (J : Task Part) (p : Part) (st : Stat
   staysb k c = coarseb k || (not (eqb (J .status c) 0) || (eqb (J .status (J .parent c)) 64 && st .red (J .parent c)))
 
   unfoldable pub masterEntry : ℕ → ℕ → List Entry
-  unfolding staysb is statusNew
-  masterEntry k c = elim (is F (J .owner c) p && staysb k c) [ true ↦ entryBy (J .path c) (statusNew J st c) false ∷ [] | false ↦ [] ]
+  unfolding staysb isPart statusNew
+  masterEntry k c = elim (isPart F (J .owner c) p && staysb k c) [ true ↦ entryBy (J .path c) (statusNew J st c) false ∷ [] | false ↦ [] ]
 
   unfoldable pub ghostEntry : ℕ → List Entry
-  unfolding is statusNew
+  unfolding isPart statusNew
   ghostEntry c =
-      elim (not (is F (J .owner c) p) && (is F (J .family c) p && not (eqb (statusNew J st c) 0))) [
+      elim (not (isPart F (J .owner c) p) && (isPart F (J .family c) p && not (eqb (statusNew J st c) 0))) [
         | true ↦ entryBy (J .path c) (statusNew J st c) true ∷ []
         | false ↦ []
       ]
 
   unfoldable pub anewb : ℕ → ℕ → Bool
-  unfolding is staysb statusNew
+  unfolding isPart staysb statusNew
   anewb k c =
-      is F (J .family c) p
+      isPart F (J .family c) p
       && (staysb k c && (not (eqb (statusNew J st c) 0) && not (eqb (J .status c) 64 && eqb (statusNew J st c) 64)))
 
   unfoldable pub childStatus : ℕ → ℕ → ℕ

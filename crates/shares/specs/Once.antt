@@ -22,7 +22,7 @@ use Rattle.lineage.specs.Met.{flagged}
 use Rattle.soundness.specs.Sound.{Sound, sound-from}
 use Rattle.exchange.specs.Finite.{Finite}
 use Rattle.rounds.specs.Task.{Task}
-use Rattle.rounds.specs.Rounds.{State, is}
+use Rattle.rounds.specs.Rounds.{State, isPart}
 use Rattle.rounds.specs.Among.{is-same, is-eq}
 use Rattle.parts.specs.Held.{Entry}
 use Rattle.splitting.specs.Numbers.{numbersOf, at-level, stands}
@@ -199,15 +199,15 @@ module _ {Part : Type 0} {F : Finite Part} (X : Settled F) (p : Part) where
   master-sort : (k t : ℕ) → t < length (old k .cells) → (e : Entry) → List·Memᴰ e (masterEntry F J p st k (num k t))
       → There n qs ss ms s k t × (e .path ≡ P k t) × (owner (num k t) ≡ p)
   unfolding masterEntry
-  master-sort k t h e m = go (is F (owner (num k t)) p && staysb F J p st k (num k t)) refl
+  master-sort k t h e m = go (isPart F (owner (num k t)) p && staysb F J p st k (num k t)) refl
     where
-      go : (b : Bool) → (is F (owner (num k t)) p && staysb F J p st k (num k t)) ≡ b → There n qs ss ms s k t × (e .path ≡ P k t)
+      go : (b : Bool) → (isPart F (owner (num k t)) p && staysb F J p st k (num k t)) ≡ b → There n qs ss ms s k t × (e .path ≡ P k t)
           × (owner (num k t) ≡ p)
       go false q = absurd (List·Memᴰ·not-nil (rw (q, masterEntry) at m))
       go true q =
-          let u : T (is F (owner (num k t)) p && staysb F J p st k (num k t)) = subst (λ (x : Bool). T x) (sym q) tt in
-          let o = is-eq F (owner (num k t)) p (and-left (is F (owner (num k t)) p) (staysb F J p st k (num k t)) u) in (
-            stays-there X p k t h (inr o) (and-right (is F (owner (num k t)) p) (staysb F J p st k (num k t)) u),
+          let u : T (isPart F (owner (num k t)) p && staysb F J p st k (num k t)) = subst (λ (x : Bool). T x) (sym q) tt in
+          let o = is-eq F (owner (num k t)) p (and-left (isPart F (owner (num k t)) p) (staysb F J p st k (num k t)) u) in (
+            stays-there X p k t h (inr o) (and-right (isPart F (owner (num k t)) p) (staysb F J p st k (num k t)) u),
             ap (λ (e : Entry). e .path) (only-one e (entryBy (P k t) (stNow k t) false) (rw (q, masterEntry) at m)),
             o,
           )
@@ -215,19 +215,19 @@ module _ {Part : Type 0} {F : Finite Part} (X : Settled F) (p : Part) where
   ghost-sort : (k t : ℕ) → t < length (old k .cells) → (e : Entry) → List·Memᴰ e (ghostEntry F J p st (num k t)) → There n qs ss ms s k t
       × (e .path ≡ P k t) × (owner (num k t) ≢ p)
   unfolding ghostEntry
-  ghost-sort k t h e m = go (not (is F (owner (num k t)) p) && (is F (J .family (num k t)) p && not (eqb (stNow k t) 0))) refl
+  ghost-sort k t h e m = go (not (isPart F (owner (num k t)) p) && (isPart F (J .family (num k t)) p && not (eqb (stNow k t) 0))) refl
     where
-      go : (b : Bool) → (not (is F (owner (num k t)) p) && (is F (J .family (num k t)) p && not (eqb (stNow k t) 0))) ≡ b
+      go : (b : Bool) → (not (isPart F (owner (num k t)) p) && (isPart F (J .family (num k t)) p && not (eqb (stNow k t) 0))) ≡ b
           → There n qs ss ms s k t × (e .path ≡ P k t) × (owner (num k t) ≢ p)
       go false q = absurd (List·Memᴰ·not-nil (rw (q, ghostEntry) at m))
       go true q =
-          let u : T (not (is F (owner (num k t)) p) && (is F (J .family (num k t)) p && not (eqb (stNow k t) 0))) =
+          let u : T (not (isPart F (owner (num k t)) p) && (isPart F (J .family (num k t)) p && not (eqb (stNow k t) 0))) =
           subst (λ (x : Bool). T x) (sym q) tt in
-          let v = and-right (not (is F (owner (num k t)) p)) (is F (J .family (num k t)) p && not (eqb (stNow k t) 0)) u in
-          let fc = is-eq F (J .family (num k t)) p (and-left (is F (J .family (num k t)) p) (not (eqb (stNow k t) 0)) v) in
+          let v = and-right (not (isPart F (owner (num k t)) p)) (isPart F (J .family (num k t)) p && not (eqb (stNow k t) 0)) u in
+          let fc = is-eq F (J .family (num k t)) p (and-left (isPart F (J .family (num k t)) p) (not (eqb (stNow k t) 0)) v) in
           let no : owner (num k t) ≢ p =
-          (λ y. not-both (is F (owner (num k t)) p) (is-same F (owner (num k t)) p y)
-          (is-false (is F (owner (num k t)) p) (and-left (not (is F (owner (num k t)) p)) (is F (J .family (num k t)) p
+          (λ y. not-both (isPart F (owner (num k t)) p) (is-same F (owner (num k t)) p y)
+          (is-false (isPart F (owner (num k t)) p) (and-left (not (isPart F (owner (num k t)) p)) (isPart F (J .family (num k t)) p
           && not (eqb (stNow k t) 0)) u))) in (
             refined-there n qs ss ms s k t h (λ y. ⊎-elim (λ (x : stWas k t ≢ 0). x (at-level n qs ss s k t h .status-is ∙ y))
                 (λ (x : owner (num k t) ≡ p). no x) (here-either X p k t h fc)),
@@ -306,17 +306,17 @@ module _ {Part : Type 0} {F : Finite Part} (X : Settled F) (p : Part) where
 
   once-master : (k c : ℕ) → NoTwice (masterEntry F J p st k c)
   unfolding masterEntry
-  once-master k c = go (is F (owner c) p && staysb F J p st k c) refl
+  once-master k c = go (isPart F (owner c) p && staysb F J p st k c) refl
     where
-      go : (b : Bool) → (is F (owner c) p && staysb F J p st k c) ≡ b → NoTwice (masterEntry F J p st k c)
+      go : (b : Bool) → (isPart F (owner c) p && staysb F J p st k c) ≡ b → NoTwice (masterEntry F J p st k c)
       go true q = rw (q, masterEntry) ((λ f m z. absurd (List·Memᴰ·not-nil m)), tt)
       go false q = rw (q, masterEntry) tt
 
   once-ghost : (c : ℕ) → NoTwice (ghostEntry F J p st c)
   unfolding ghostEntry
-  once-ghost c = go (not (is F (owner c) p) && (is F (J .family c) p && not (eqb (statusNew J st c) 0))) refl
+  once-ghost c = go (not (isPart F (owner c) p) && (isPart F (J .family c) p && not (eqb (statusNew J st c) 0))) refl
     where
-      go : (b : Bool) → (not (is F (owner c) p) && (is F (J .family c) p && not (eqb (statusNew J st c) 0))) ≡ b
+      go : (b : Bool) → (not (isPart F (owner c) p) && (isPart F (J .family c) p && not (eqb (statusNew J st c) 0))) ≡ b
           → NoTwice (ghostEntry F J p st c)
       go true q = rw (q, ghostEntry) ((λ f m z. absurd (List·Memᴰ·not-nil m)), tt)
       go false q = rw (q, ghostEntry) tt

@@ -30,11 +30,11 @@ use Rattle.soundness.specs.Sound.{Sound, sound-from, level-next, level-there}
 use Rattle.soundness.specs.Whole.{coarse-level}
 use Rattle.exchange.specs.Finite.{Finite}
 use Rattle.rounds.specs.Task.{Task}
-use Rattle.rounds.specs.Rounds.{State, is, mine}
+use Rattle.rounds.specs.Rounds.{State, isPart, mine}
 use Rattle.rounds.specs.Among.{is-same, is-eq}
 use Rattle.rounds.specs.Enough.{Known}
 use Rattle.parts.specs.Held.{Entry}
-use Rattle.splitting.specs.Numbers.{at-level, row-at}
+use Rattle.splitting.specs.Numbers.{at-level, row-of-cell}
 use Rattle.splitting.specs.Split.{newRedRow, Slots, Owners, fits}
 use Rattle.shares.specs.Flat.{in-flat, in-map}
 use Rattle.shares.specs.Grow.{statusNew, freshStatus, coarseb, staysb, masterEntry, ghostEntry, anewb, childStatus, childEntries}
@@ -135,10 +135,10 @@ module _ {Part : Type 0} {F : Finite Part} (X : Settled F) (p : Part) where
   pathOf k t = J .path (num k t)
 
   pub mine-owner : (c : ℕ) → owner c ≡ p → T (mine F J p c)
-  mine-owner c e = or-first (is F (owner c) p) (is F (J .family c) p) (rw (is-same F (owner c) p e) tt)
+  mine-owner c e = or-first (isPart F (owner c) p) (isPart F (J .family c) p) (rw (is-same F (owner c) p e) tt)
 
   pub mine-family : (c : ℕ) → J .family c ≡ p → T (mine F J p c)
-  mine-family c e = or-second (is F (owner c) p) (is F (J .family c) p) (rw (is-same F (J .family c) p e) tt)
+  mine-family c e = or-second (isPart F (owner c) p) (isPart F (J .family c) p) (rw (is-same F (J .family c) p e) tt)
 
   -- the parent of an old cell of mine
   parent-num : (k t : ℕ) (h : t < length (old (suc k) .cells)) (b : Born (old k .first) (old k .cells) (old k .statuses)
@@ -156,7 +156,7 @@ module _ {Part : Type 0} {F : Finite Part} (X : Settled F) (p : Part) where
   red-is : (k t : ℕ) → t < length (old k .cells) → T (mine F J p (num k t)) → st .red (num k t) ≡ newRedAt ms (oldAbove n qs ss k) (old k) t
   red-is k t h o =
       known-red X p k (num k t) (at-level n qs ss s k t h .here) o
-      ∙ ap (newRedRow n qs ss ms k) (row-at n qs ss s ms k t h)
+      ∙ ap (newRedRow n qs ss ms k) (row-of-cell n qs ss s ms k t h)
 
   -- a cell that stays is there
   pub stays-there : (k t : ℕ) → t < length (old k .cells) → (stWas k t ≢ 0) ⊎ (owner (num k t) ≡ p) → T (staysb F J p st k (num k t))
@@ -239,8 +239,8 @@ module _ {Part : Type 0} {F : Finite Part} (X : Settled F) (p : Part) where
       (masterEntry F J p st k c)
   unfolding masterEntry
   in-master k c o y =
-      let e : (is F (owner c) p && staysb F J p st k c) ≡ true =
-      is-true (is F (owner c) p && staysb F J p st k c) (and-both (is F (owner c) p) (staysb F J p st k c)
+      let e : (isPart F (owner c) p && staysb F J p st k c) ≡ true =
+      is-true (isPart F (owner c) p && staysb F J p st k c) (and-both (isPart F (owner c) p) (staysb F J p st k c)
       (rw (is-same F (owner c) p o) tt) y) in
       rw (e, masterEntry) (List·Memᴰ·head refl)
 
@@ -248,15 +248,15 @@ module _ {Part : Type 0} {F : Finite Part} (X : Settled F) (p : Part) where
       (ghostEntry F J p st c)
   unfolding ghostEntry
   in-ghost c o f z =
-      let a : is F (owner c) p ≡ false = not-is (owner c) o in
-      let e : (not (is F (owner c) p) && (is F (J .family c) p && not (eqb (statusNew J st c) 0))) ≡ true =
+      let a : isPart F (owner c) p ≡ false = not-is (owner c) o in
+      let e : (not (isPart F (owner c) p) && (isPart F (J .family c) p && not (eqb (statusNew J st c) 0))) ≡ true =
       ap₂ (λ (x y : Bool). not x && y) a (ap₂ (λ (x y : Bool). x && not y) (is-same F (J .family c) p f) (ne-eqb (statusNew J st c) 0 z)) in
       rw (e, ghostEntry) (List·Memᴰ·head refl)
     where
-      not-is : (q : Part) → q ≢ p → is F q p ≡ false
-      not-is q d = go (is F q p) refl
+      not-is : (q : Part) → q ≢ p → isPart F q p ≡ false
+      not-is q d = go (isPart F q p) refl
         where
-          go : (b : Bool) → is F q p ≡ b → b ≡ false
+          go : (b : Bool) → isPart F q p ≡ b → b ≡ false
           go true e = absurd (d (is-eq F q p (rw e tt)))
           go false e = refl
 
@@ -271,7 +271,7 @@ module _ {Part : Type 0} {F : Finite Part} (X : Settled F) (p : Part) where
       → T (anewb F J p st k c)
   unfolding anewb
   anew-by k c f y z d =
-      and-both (is F (J .family c) p)
+      and-both (isPart F (J .family c) p)
       (staysb F J p st k c && (not (eqb (statusNew J st c) 0) && not (eqb (getD ss c 0) 64 && eqb (statusNew J st c) 64)))
       (rw (is-same F (J .family c) p f) tt)
       (and-both (staysb F J p st k c) (not (eqb (statusNew J st c) 0) && not (eqb (getD ss c 0) 64 && eqb (statusNew J st c) 64)) y

@@ -5,7 +5,7 @@
 --   Stands k c         the place of the cell c of level k
 --   Kid k c d          d is a child of the cell c of level k
 -- Laws: first-zero (the coarse cells come first), at-level, stands, number-inside, level-at (numbers and places), one-level (each cell has
--- one level), kid and kid-in (children stand one level up and have a refined parent), kid-some (a refined cell has one), row-at and
+-- one level), kid and kid-in (children stand one level up and have a refined parent), kid-some (a refined cell has one), row-of-cell and
 -- rows-numbers (the rows of a level).
 use mathlib.Core.Path.{_≡_, sym, _∙_, ap, ap₂, subst}
 use mathlib.Core.Logic.{_≢_}
@@ -189,9 +189,10 @@ module _ (n : ℕ) (qs : List (List ℕ)) (ss : List ℕ) where
         )
 
     -- the row of a place
-    pub row-at : (ms : List ℕ) (k t : ℕ) → t < length (lv n qs ss k .cells) → rowBy ms (lv n qs ss k .first + t) ≡ rowIn (lv n qs ss k) ms t
+    pub row-of-cell : (ms : List ℕ) (k t : ℕ) → t < length (lv n qs ss k .cells) → rowBy ms (lv n qs ss k .first + t) ≡ rowIn (lv n qs ss k)
+        ms t
     unfolding rowBy
-    row-at ms k t h =
+    row-of-cell ms k t h =
         let a = at-level k t h in
         ap₂ {A = Cell Point} {B = ℕ} {C = Row}
         (λ d x. record { number = lv n qs ss k .first + t; cell = d; status = x; mark = getD ms (lv n qs ss k .first + t) 0 }) (a .cell-is)
@@ -207,6 +208,6 @@ module _ (n : ℕ) (qs : List (List ℕ)) (ss : List ℕ) where
         length-map (numbersOf k) (rowBy ms) ∙ length-range (l .first) (length (l .cells)) in
         ext-getD noRow (rows l ms) (map (rowBy ms) (numbersOf k)) (length-rows l ms known ∙ sym many) (λ i h.
         let g : i < length (l .cells) = omega (arith, length-rows l ms known) in
-        rows-at l ms known i g ∙ sym (row-at ms k i g)
+        rows-at l ms known i g ∙ sym (row-of-cell ms k i g)
         ∙ ap (rowBy ms) (sym (range-at (l .first) (length (l .cells)) i 0 g))
         ∙ sym (getD-map (rowBy ms) (numbersOf k) i 0 noRow (omega (arith, length-range (l .first) (length (l .cells))))))

@@ -21,7 +21,7 @@ use Rattle.carriers.specs.Joins.{Edge, joins-sym, joins-trans}
 use Rattle.carriers.specs.Carrier.{joins-self}
 use Rattle.soundness.specs.Sound.{Sound, lv}
 use Rattle.rounds.specs.Tests.{Member, same-test, member-cases}
-use Rattle.rounds.specs.Task.{six}
+use Rattle.rounds.specs.Task.{sixEdges}
 use Rattle.parts.specs.Owners.{nthCell}
 use Rattle.splitting.specs.Numbers.{numbersOf, at-level, stands, one-level}
 use Rattle.splitting.specs.Paths.{path-length}
@@ -91,11 +91,11 @@ module _ (n : ℕ) (qs : List (List ℕ)) (ss : List ℕ) where
       (λ (q : Member e l). or-second (joins? (edgeOf c x) (edgeOf c e)) (hasb joins? (map (edgeOf c) l) (edgeOf c e)) (has-map c e l q))
       (member-cases e x l m)
 
-  has-edge : (c e : ℕ) → Member e six → T (hasb joins? (sixOf c) (edgeOf c e))
+  has-edge : (c e : ℕ) → Member e sixEdges → T (hasb joins? (sixOf c) (edgeOf c e))
   unfolding edges
-  has-edge c e m = has-map c e six m
+  has-edge c e m = has-map c e sixEdges m
 
-  has-in : (l : List ℕ) (c e : ℕ) → Member c l → Member e six → T (hasb joins? (flatMap sixOf l) (edgeOf c e))
+  has-in : (l : List ℕ) (c e : ℕ) → Member c l → Member e sixEdges → T (hasb joins? (flatMap sixOf l) (edgeOf c e))
   unfolding flatMap memberb
   has-in [] c e m b = absurd m
   has-in (x ∷ l) c e m b =
@@ -105,7 +105,7 @@ module _ (n : ℕ) (qs : List (List ℕ)) (ss : List ℕ) where
       (λ (q : Member c l). or-second (hasb joins? (sixOf x) (edgeOf c e)) (hasb joins? (flatMap sixOf l) (edgeOf c e)) (has-in l c e q b))
       (member-cases c x l m))
 
-  has-at : (k c e : ℕ) → Member c (numbersOf n qs ss k) → Member e six → hasb joins? (edgesAt k) (edgeOf c e) ≡ true
+  has-at : (k c e : ℕ) → Member c (numbersOf n qs ss k) → Member e sixEdges → hasb joins? (edgesAt k) (edgeOf c e) ≡ true
   unfolding edgesAt
   has-at k c e m b = is-true (hasb joins? (edgesAt k) (edgeOf c e)) (has-in (numbersOf n qs ss k) c e m b)
 

@@ -28,7 +28,7 @@ use Rattle.lineage.specs.Stays.{up-rows}
 use Rattle.carriers.specs.Joins.{Edge, held-either, held-first, held-second}
 use Rattle.soundness.specs.Sound.{Sound, level-there}
 use Rattle.rounds.specs.Tests.{Member, same-test, any-agree, all-agree, filtered-member, member-filtered}
-use Rattle.rounds.specs.Task.{Task, Fit, six, has, idle, pulled, rule, redAt, hitAt}
+use Rattle.rounds.specs.Task.{Task, Fit, sixEdges, has, idle, pulled, rule, redAt, hitAt}
 use Rattle.parts.specs.Owners.{nthCell, childrenOf, familyOf, ownersb}
 use Rattle.splitting.specs.Members.{all-member, first-none, any-members, all-members, filter-map, all-mapped-by, any-mapped-by}
 use Rattle.splitting.specs.Numbers.{numbersOf, rowBy, kid, kid-in, number-inside, one-level, rows-numbers, stands}
@@ -40,9 +40,9 @@ abbrev pub newRedRow : ℕ → List (List ℕ) → List ℕ → List ℕ → ℕ
 newRedRow n qs ss ms k = newRedb (rowsUp (drop (suc k) (levelsOf n qs ss)) ms) (newEdges n qs ss ms (suc k))
 
 pub record Slots (n : ℕ) (qs : List (List ℕ)) (ss : List ℕ) (slot : ℕ → ℕ → ℕ) (slots : ℕ → List ℕ) : Type 0 where
-  pub there : (k c e : ℕ) → Member c (numbersOf n qs ss k) → Member e six → Member (slot c e) (slots k)
+  pub there : (k c e : ℕ) → Member c (numbersOf n qs ss k) → Member e sixEdges → Member (slot c e) (slots k)
   pub apart : (j k x : ℕ) → Member x (slots j) → Member x (slots k) → j ≡ k
-  pub same : (k c d e f : ℕ) → Member c (numbersOf n qs ss k) → Member d (numbersOf n qs ss k) → Member e six → Member f six
+  pub same : (k c d e f : ℕ) → Member c (numbersOf n qs ss k) → Member d (numbersOf n qs ss k) → Member e sixEdges → Member f sixEdges
       → eqb (slot d f) (slot c e) ≡ joinsb sameb (edge [] (nthCell n qs ss c) e) (edge [] (nthCell n qs ss d) f)
 
 abbrev pub Owners : ℕ → List (List ℕ) → List ℕ → List ℕ → Type 0
@@ -154,15 +154,17 @@ module _ {Part : Type 0} (n : ℕ) (qs : List (List ℕ)) (ss : List ℕ) (s : S
     edges-none k h = ap (λ (ls : List Level). edgesUp (newReds ls ms)) (drop-of-length-le (levelsOf n qs ss) {i = k} h)
 
     -- a slot stands for its edge
-    has-held : (k c d e : ℕ) → Member c (numbersOf n qs ss k) → Member d (numbersOf n qs ss k) → Member e six
+    has-held : (k c d e : ℕ) → Member c (numbersOf n qs ss k) → Member d (numbersOf n qs ss k) → Member e sixEdges
         → has J d (slot c e) ≡ heldb sameb (edges [] (nthCell n qs ss d)) (edge [] (nthCell n qs ss c) e)
     unfolding has heldb edges anyb
     has-held k c d e m q b =
-        any-agree (λ f. eqb (slot d f) (slot c e)) (λ f. joinsb sameb (edge [] (nthCell n qs ss c) e) (edge [] (nthCell n qs ss d) f)) six
+        any-agree (λ f. eqb (slot d f) (slot c e)) (λ f. joinsb sameb (edge [] (nthCell n qs ss c) e) (edge [] (nthCell n qs ss d) f))
+        sixEdges
         (λ f g. sl .same k c d e f m q b g)
 
     module _ (k : ℕ) (h : ℕ → Bool) (c : ℕ) (m : Member c (numbersOf n qs ss k))
-        (hits : (d e : ℕ) → Member d (numbersOf n qs ss (suc k)) → Member e six → h (slot d e) ≡ heldb sameb (newEdges n qs ss ms (suc k))
+        (hits : (d e : ℕ) → Member d (numbersOf n qs ss (suc k)) → Member e sixEdges
+        → h (slot d e) ≡ heldb sameb (newEdges n qs ss ms (suc k))
         (edge [] (nthCell n qs ss d) e)) where
       abbrev es : List Edge
       es = newEdges n qs ss ms (suc k)
@@ -192,7 +194,7 @@ module _ {Part : Type 0} (n : ℕ) (qs : List (List ℕ)) (ss : List ℕ) (s : S
           ∙ all-members (λ d. f (rowBy n qs ss ms d)) (filterb mineb (numbersOf n qs ss (suc k))) (childrenOf n qs ss c) kids-up kids-down
           ∙ all-agree (λ d. f (rowBy n qs ss ms d)) (idle J h mark) (childrenOf n qs ss c) (λ d q.
           ap (λ (b : Bool). (eqb (getD ss d 0) 0 && eqb (getD ms d 0) 2) && b)
-          (all-agree (λ e. not (heldb sameb es (edge [] (nthCell n qs ss d) e))) (λ e. not (h (slot d e))) six
+          (all-agree (λ e. not (heldb sameb es (edge [] (nthCell n qs ss d) e))) (λ e. not (h (slot d e))) sixEdges
           (λ e b. ap not (sym (hits d e (kid n qs ss s k c d m q .up) b)))))
 
       turned-same : turnedb (edges [] (nthCell n qs ss c)) (kids (rowsUp (drop (suc k) (levelsOf n qs ss)) ms) c) es
@@ -207,7 +209,7 @@ module _ {Part : Type 0} (n : ℕ) (qs : List (List ℕ)) (ss : List ℕ) (s : S
           ∙ any-agree (λ d. f (rowBy n qs ss ms d)) (pulled J h mark) (childrenOf n qs ss c) (λ d q.
           ap (λ (b : Bool). eqb (getD ms d 0) 1 || b)
           (any-agree (λ e. not (heldb sameb (edges [] (nthCell n qs ss c)) (edge [] (nthCell n qs ss d) e)) && heldb sameb es
-          (edge [] (nthCell n qs ss d) e)) (λ e. innerOf n qs ss d e && h (slot d e)) six (λ e b.
+          (edge [] (nthCell n qs ss d) e)) (λ e. innerOf n qs ss d e && h (slot d e)) sixEdges (λ e b.
           ap₂ _&&_ (ap (λ (x : ℕ). not (heldb sameb (edges [] (nthCell n qs ss x)) (edge [] (nthCell n qs ss d) e)))
           (sym (kid n qs ss s k c d m q .parent))) (sym (hits d e (kid n qs ss s k c d m q .up) b)))))
 
@@ -229,7 +231,7 @@ module _ {Part : Type 0} (n : ℕ) (qs : List (List ℕ)) (ss : List ℕ) (s : S
 
     hit-is : (i : ℕ) → i ≤ J .top → 0 < length (levelsOf n qs ss) → ((c : ℕ) → Member c (numbersOf n qs ss (J .top - i)) → redAt J mark i c
         ≡ newRed (J .top - i) c)
-        → (d e : ℕ) → Member d (numbersOf n qs ss (J .top - i)) → Member e six
+        → (d e : ℕ) → Member d (numbersOf n qs ss (J .top - i)) → Member e sixEdges
         → hitAt J mark i (slot d e) ≡ heldb sameb (newEdges n qs ss ms (J .top - i)) (edge [] (nthCell n qs ss d) e)
     unfolding rowBy
     hit-is i h l f d e m b =
@@ -253,6 +255,7 @@ module _ {Part : Type 0} (n : ℕ) (qs : List (List ℕ)) (ss : List ℕ) (s : S
         subst (λ (k : ℕ). hitAt J mark i (slot d e) ≡ heldb sameb (newEdges n qs ss ms k) (edge [] (nthCell n qs ss d) e)) (sym z)
         (hit-is i (omega arith) l (λ c w. flags-red i (omega arith) l c w) d e u b))
 
-    pub hits : (i : ℕ) → i ≤ J .top → 0 < length (levelsOf n qs ss) → (d e : ℕ) → Member d (numbersOf n qs ss (J .top - i)) → Member e six
+    pub hits : (i : ℕ) → i ≤ J .top → 0 < length (levelsOf n qs ss) → (d e : ℕ) → Member d (numbersOf n qs ss (J .top - i))
+        → Member e sixEdges
         → hitAt J mark i (slot d e) ≡ heldb sameb (newEdges n qs ss ms (J .top - i)) (edge [] (nthCell n qs ss d) e)
     hits i h l d e m b = hit-is i h l (flags-red i h l) d e m b

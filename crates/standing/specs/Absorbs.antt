@@ -15,7 +15,7 @@ use Rattle.base.specs.declared.Answer.the-variants.{Accepted}
 use Rattle.exchange.specs.Finite.{parts, upd, upd-same, upd-other}
 use Rattle.exchange.specs.Protocol.{withBody}
 use Rattle.rounds.specs.Task.{Task}
-use Rattle.rounds.specs.Rounds.{Body, mark, count, total, end, tells, worth, phase, is, redTold, sumTold, capped, mastersIn, topIn}
+use Rattle.rounds.specs.Rounds.{Body, mark, count, total, end, tells, worth, phase, isPart, redTold, sumTold, capped, mastersIn, topIn}
 use Rattle.rounds.specs.Rounds.{mastersTold, topTold}
 use Rattle.rounds.specs.Among.{is-self}
 use Rattle.rounds.specs.Take.{red-take, sum-take, masters-take, top-take}
@@ -87,11 +87,11 @@ module _ (P : ℕ) (J : Task (Fin P)) (p : Fin P) (l : L P J) (x : List ℕ) (u 
   r = read (q .0) (p .0) k b (rw room tt)
 
   -- the sender is another part, its round is not whole, and the round is not over
-  apart : is (parts P) q p ≡ false
+  apart : isPart (parts P) q p ≡ false
   unfolding wholeb
-  apart = go (is (parts P) q p) refl
+  apart = go (isPart (parts P) q p) refl
     where
-      go : (t : Bool) → is (parts P) q p ≡ t → is (parts P) q p ≡ false
+      go : (t : Bool) → isPart (parts P) q p ≡ t → isPart (parts P) q p ≡ false
       go true e = let v : wholeb (parts P) J (l .round) q p (l .got q) ≡ true = rw (e, wholeb) in
           not-both (wholeb (parts P) J (l .round) q p (l .got q)) v w
       go false e = e
@@ -113,9 +113,9 @@ module _ (P : ℕ) (J : Task (Fin P)) (p : Fin P) (l : L P J) (x : List ℕ) (u 
   low-q = part-low P J p l x u q
 
   other : q .0 ≢ p .0
-  other e = not-both (is (parts P) q p) (ap (λ (z : Fin P). is (parts P) z p) (Fin·val-path e) ∙ self p) apart
+  other e = not-both (isPart (parts P) q p) (ap (λ (z : Fin P). isPart (parts P) z p) (Fin·val-path e) ∙ self p) apart
     where
-      self : (p : Fin P) → is (parts P) p p ≡ true
+      self : (p : Fin P) → isPart (parts P) p p ≡ true
       self p = is-self (parts P) p
 
   -- THE MESSAGE IS WELL FORMED
@@ -238,7 +238,7 @@ module _ (P : ℕ) (J : Task (Fin P)) (p : Fin P) (l : L P J) (x : List ℕ) (u 
       ((λ z. absurd (omega (arith, z))), (λ z. absurd (omega (arith, z)))) ∙ e ∙ omega arith
   ended-go end f m r e h = let a = end-taken x m (q .0) (p .0) k low-q (u .long) r in omega (arith, a, e, h)
 
-  end-after : (s : Fin P) → is (parts P) s p ≡ false → overb (phase (J .top) (l .round)) ≡ false
+  end-after : (s : Fin P) → isPart (parts P) s p ≡ false → overb (phase (J .top) (l .round)) ≡ false
       → field y (80 + s .0) ≡ l .round + one-if (endedb (withBody (parts P) l q b .got s))
   end-after s i o =
       elim (parts P .same? s q) [

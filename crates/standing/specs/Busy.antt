@@ -21,7 +21,7 @@ use Rattle.exchange.specs.Finite.{Finite, parts}
 use Rattle.exchange.specs.Protocol.{Local, withQueue}
 use Rattle.rounds.specs.Tests.{Member}
 use Rattle.rounds.specs.Task.{Task}
-use Rattle.rounds.specs.Rounds.{Body, mark, count, total, end, State, phase, is, mine, holdsb, redTold, sumTold, capped, mastersTold}
+use Rattle.rounds.specs.Rounds.{Body, mark, count, total, end, State, phase, isPart, mine, holdsb, redTold, sumTold, capped, mastersTold}
 use Rattle.rounds.specs.Rounds.{topTold}
 use Rattle.rounds.specs.Among.{is-eq}
 use Rattle.rounds.specs.Rounded.{wholeb, endedb, overb, sizedb}
@@ -122,7 +122,7 @@ module _ (P : ℕ) (J : Task (Fin P)) where
     pub many : field x PARTS ≡ P
     pub round : field x ROUND ≡ l .round
     pub taken : (q : Fin P) → field x (64 + q .0) ≡ l .before q + length (l .got q)
-    pub ends : (q : Fin P) → is (parts P) q p ≡ false → overb (phase (J .top) (l .round)) ≡ false
+    pub ends : (q : Fin P) → isPart (parts P) q p ≡ false → overb (phase (J .top) (l .round)) ≡ false
         → field x (80 + q .0) ≡ l .round + one-if (endedb (l .got q))
     pub queue : queueOf x ≡ l .queue
     pub sent : (q : Fin P) → givenAfter (givenTo x) (leftOf x) (q .0) ≡ l .sent q
@@ -217,10 +217,10 @@ module _ (P : ℕ) (J : Task (Fin P)) where
             subst (λ (z : List ℕ). Busy p (withQueue l w) z) (f .after) c,
           )
 
-    pub not-from-self : (q : Fin P) → q .0 ≢ p .0 → is (parts P) q p ≡ false
-    not-from-self q d = go (is (parts P) q p) refl
+    pub not-from-self : (q : Fin P) → q .0 ≢ p .0 → isPart (parts P) q p ≡ false
+    not-from-self q d = go (isPart (parts P) q p) refl
       where
-        go : (t : Bool) → is (parts P) q p ≡ t → is (parts P) q p ≡ false
+        go : (t : Bool) → isPart (parts P) q p ≡ t → isPart (parts P) q p ≡ false
         go true e = absurd (d (ap (λ (r : Fin P). r .0) (is-eq (parts P) q p (rw e tt))))
         go false e = e
 

@@ -27,7 +27,7 @@ use Rattle.lineage.specs.Deep.{deep}
 use Rattle.mesh.specs.Cells.{noCell}
 use Rattle.soundness.specs.Steady.{step-sound}
 use Rattle.tables.specs.Checked.{Statuses}
-use Rattle.tables.specs.Sound.{Sound, tableCells, tableCorners}
+use Rattle.tables.specs.Sound.{LaidSound, tableCells, examinedCorners}
 use Rattle.reds.specs.Flags.{firstChildren}
 use Rattle.reds.specs.Old.{Marked}
 use Rattle.reds.specs.Firsts.{firsts-taken, first-at, length-firsts}
@@ -112,7 +112,7 @@ module _ (n : ℕ) (mesh rows ss : List ℕ) (h : Held n mesh rows ss) where
     held-deep =
         deep n qs ss ms (h .sound)
         ∙ ap not (sym (ap (deepFrom rows red 0) counted ∙ deep-scan n qs ss ms (lattice.sound-levels n qs ss (h .sound) .1) rows red
-        (λ i l. table-level n qs ss (lattice.fours-four mesh) (tableCorners n qs ss) rows (h .table) i l noCell)
+        (λ i l. table-level n qs ss (lattice.fours-four mesh) (examinedCorners n qs ss) rows (h .table) i l noCell)
         (λ i l. ap (λ (l : List ℕ). getD l i 0) e ∙ List·getD-append (flagTable n qs ss ms) rest 0 i (omega (arith, long-flags)))))
 
     -- what the building leaves
@@ -122,7 +122,7 @@ module _ (n : ℕ) (mesh rows ss : List ℕ) (h : Held n mesh rows ss) where
       accepted z =
           let t = same-table in
           let c : length (newTable n qs ss ms) ≡ cells = rw t at (r .counted z) in
-          let s : Sound n qs (newTable n qs ss ms) rows′ ps qs′ cells levels mids = rw t at (r .sound z) in
+          let s : LaidSound n qs (newTable n qs ss ms) rows′ ps qs′ cells levels mids = rw t at (r .sound z) in
           let low : length (stepTable n qs ss ms) ≤ 11 = rw t at (r .low z) in
           let few : length (newTable n qs ss ms) ≤ 4096 = omega (arith, s .few) in
           record {

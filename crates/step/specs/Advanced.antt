@@ -9,7 +9,7 @@ use lib.ListN.{length, take}
 use Rattle.base.specs.Fours.{fours}
 use Rattle.mesh.specs.Table.{soundb}
 use Rattle.mesh.specs.Layout.{cellTable}
-use Rattle.tables.specs.Sound.{Mesh, Sound, tableCells, tableCorners}
+use Rattle.tables.specs.Sound.{Mesh, LaidSound, tableCells, examinedCorners}
 use Rattle.base.specs.Refuse.{answerOf}
 use Rattle.mesh.specs.Answers.{newTable, limitsAnswer}
 
@@ -17,7 +17,7 @@ use Rattle.mesh.specs.Answers.{newTable, limitsAnswer}
 pub record Held (n : ℕ) (mesh rows ss : List ℕ) : Type 0 where
   pub accepted : Mesh n mesh
   pub sound : T (soundb n (fours mesh) ss)
-  pub table : take (8 * length (tableCells n (fours mesh) ss)) rows ≡ cellTable (tableCorners n (fours mesh) ss)
+  pub table : take (8 * length (tableCells n (fours mesh) ss)) rows ≡ cellTable (examinedCorners n (fours mesh) ss)
       (tableCells n (fours mesh) ss)
 
 -- Rules 7.7, 7.8: the answer, and the new table with its rows and ends.
@@ -27,4 +27,4 @@ pub record Advanced (n : ℕ) (mesh ss ms rows ps qs table : List ℕ) (refusal 
   pub few : refusal ≡ 0 → cells ≤ 4096
   pub table-is : refusal ≡ 0 → take cells table ≡ newTable n (fours mesh) ss ms
   pub held : refusal ≡ 0 → Held n mesh rows (newTable n (fours mesh) ss ms)
-  pub laid : refusal ≡ 0 → Sound n (fours mesh) (newTable n (fours mesh) ss ms) rows ps qs cells levels mids
+  pub laid : refusal ≡ 0 → LaidSound n (fours mesh) (newTable n (fours mesh) ss ms) rows ps qs cells levels mids

@@ -24,7 +24,7 @@ use Rattle.closure.specs.Ready.{Looks}
 use Rattle.separation.specs.Parents.{Parents, apartAll}
 use Rattle.counting.specs.Sound.{sound-counted}
 use Rattle.tables.specs.Here.{Top, Child}
-use Rattle.tables.specs.Sound.{Sound, tableCorners, unlessSound, Examined}
+use Rattle.tables.specs.Sound.{LaidSound, examinedCorners, unlessSound, Examined}
 use Rattle.tables.specs.Apart.{apart-rows, parents-rows}
 use Rattle.tables.specs.Onward.{four-in, length-in}
 
@@ -86,11 +86,11 @@ module _ (n : ℕ) (qs : List (List ℕ)) (ss : List ℕ) (j last : ℕ) (rows x
         let w : apartAll (listed xs ys 0 k) rows last ≡ apartOf 0 eqb (numberedCells (t .corners) (t .all)) ss = rw (size, all-of) at z in
         w ∙ apart-numbers (t .corners) (t .all) ss (t .placed) ∙ sym (t .sound ∙ rw (eq-eqb (length ss) last e))
 
-    named : tableCorners n qs ss ≡ t .corners
+    named : examinedCorners n qs ss ≡ t .corners
     unfolding cornersOf
     named = rw (t .cells) (rw all-of at (t .named))
 
-    pub top-sound : Sound n qs ss rows ps ps′ last (suc j) m
+    pub top-sound : LaidSound n qs ss rows ps ps′ last (suc j) m
     top-sound =
         record {
           counted = rw (t .cells) (t .counted);

@@ -49,10 +49,10 @@ pub cells-one : (l : Level) (ms : List Level) → cellsOf (l ∷ ms) ≡ l .cell
 unfolding cellsOf flatMap
 cells-one l ms = refl
 
-pub all-append : {A : Type 0} (f : A → Bool) (l m : List A) → allb f (l ++ m) ≡ (allb f l && allb f m)
+pub allb-append : {A : Type 0} (f : A → Bool) (l m : List A) → allb f (l ++ m) ≡ (allb f l && allb f m)
 unfolding allb
-all-append f [] m = refl
-all-append f (x ∷ l) m = go (f x) (all-append f l m)
+allb-append f [] m = refl
+allb-append f (x ∷ l) m = go (f x) (allb-append f l m)
   where
     go : (b : Bool) → allb f (l ++ m) ≡ (allb f l && allb f m) → (b && allb f (l ++ m)) ≡ ((b && allb f l) && allb f m)
     go true i = i
@@ -120,7 +120,7 @@ module _ (n : ℕ) (qs : List (List ℕ)) (ss : List ℕ) (j first : ℕ) (cells
 
   all-closed : allb closedb (levelsOf n qs ss) ≡ (closedb here && allb closedb up)
   unfolding allb
-  all-closed = ap (allb closedb) split ∙ all-append closedb (r .done) (here ∷ up) ∙ rw (r .closed)
+  all-closed = ap (allb closedb) split ∙ allb-append closedb (r .done) (here ∷ up) ∙ rw (r .closed)
 
   -- a level that is not closed
   pub reached-open : closedFrom [] sameb (redEdges [] cells statuses) cells statuses ≡ false → soundb n qs ss ≡ false
@@ -173,12 +173,12 @@ module _ (n : ℕ) (qs : List (List ℕ)) (ss : List ℕ) (j first : ℕ) (cells
       unsound-height n qs ss (omega (arith, ap length split ∙ length-append (r .done) (here ∷ up), r .many))
 
   -- the next level
-  pub record Next (last : ℕ) : Type 0 where
+  pub record NextLevel (last : ℕ) : Type 0 where
     pub reached : Reached n qs ss (suc j) last (next first cells statuses)
     pub before : cellsOf (reached .done) ≡ cellsOf (r .done) ++ cells
 
   pub reached-next : (last : ℕ) → last ≡ first + length cells → closedFrom [] sameb (redEdges [] cells statuses) cells statuses ≡ true
-      → Next last
+      → NextLevel last
   unfolding here up closedb allb cellsOf
   reached-next last f e =
       let m : 12 - suc j ≡ 11 - j = omega arith in
@@ -189,7 +189,7 @@ module _ (n : ℕ) (qs : List (List ℕ)) (ss : List ℕ) (j first : ℕ) (cells
             record {
               done = r .done ++ (here ∷ []);
               rest = split ∙ rw (f, m) (sym (append-assoc (r .done) (here ∷ []) up));
-              closed = all-append closedb (r .done) (here ∷ []) ∙ rw (r .closed, e);
+              closed = allb-append closedb (r .done) (here ∷ []) ∙ rw (r .closed, e);
               many = length-append (r .done) (here ∷ []) ∙ omega (arith, r .many);
               counted = ap length b ∙ length-append (cellsOf (r .done)) cells ∙ omega (arith, r .counted, f);
             };

@@ -331,9 +331,9 @@ module _ (n : ℕ) (qs : List (List ℕ)) (ss : List ℕ) (j first last : ℕ) (
           }
 
       -- its cells
-      pub cells-next : here-next .cells ≡ next first (h .cells) own
+      pub cells-onward : here-next .cells ≡ next first (h .cells) own
       unfolding here-next
-      cells-next = refl
+      cells-onward = refl
 
   -- The highest level.
   module _ (w : closedFrom [] sameb (redEdges [] (h .cells) own) (h .cells) own ≡ true) (inside : last ≤ length ss) (st : Statuses ss)

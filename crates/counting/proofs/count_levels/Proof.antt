@@ -3,7 +3,7 @@
 -- Assumes nothing.
 use Prim.Native.Nat.{_-_}
 use native.Mathlib.Omega.{arith}
-use Rattle.counting.specs.Levels.{nextEnd, tallied}
+use Rattle.counting.specs.Levels.{nextEnd, tallyNumbers}
 use Rattle.counting.proofs.Turns.{At, at-first, few-levels, last-inside, room-here, next-inside, at-next, at-number, at-end}
 use Rattle.counting.proofs.count_levels.Statement.{statement}
 use Rattle.counting.proofs.count_levels.Tie as tie
@@ -74,7 +74,7 @@ loop-again c =
     let l = c .before .before .before .before .before .before .before .loop in
     rw (c .level-size .ensures)
     (at-next (s .pre .0) (s .pre .1) (l .inv) (c .before .before .before .before .before .before .loop-test .taken)
-    (tallied (c .before .before .before .before .before .count-range .result)) (c .before .before .before .put-tally .last .0)
+    (tallyNumbers (c .before .before .before .before .before .count-range .result)) (c .before .before .before .put-tally .last .0)
     (c .before .before .before .before .before .count-range .ensures) (c .before .before .before .put-tally .ensures))
 
 same-length : tie.Need-same-length Inv-loop μ-loop

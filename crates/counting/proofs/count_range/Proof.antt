@@ -9,7 +9,7 @@ use lib.ListN.{length}
 use Rattle.mesh.specs.Cells.{redb}
 use Rattle.mesh.specs.Counts.{countIf, greenb}
 use Rattle.rows.specs.Numbered.{part}
-use Rattle.counting.specs.Levels.{countsAt, tallied}
+use Rattle.counting.specs.Levels.{countsAt, tallyNumbers}
 use Rattle.counting.proofs.Tallies.{count-none, count-most, count-turn}
 use borrow.Author.Needs.{needs}
 use Rattle.counting.proofs.count_range.Statement.{statement}
@@ -93,7 +93,7 @@ cast-t14 : tie.Need-cast-t14 Inv-loop μ-loop
 cast-t14 c = search needs
 
 returns : tie.Need-returns Inv-loop μ-loop
-unfolding tallied countsAt
+unfolding tallyNumbers countsAt
 returns c =
     let l = c .before .loop in
     let k : l .c ≡ c .before .before .before .args .last = omega (arith, l .inv .1, c .loop-test .left) in

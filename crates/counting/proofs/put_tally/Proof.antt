@@ -3,7 +3,7 @@
 use native.Mathlib.Numerals.{add-one, add-two, add-three}
 use native.Mathlib.Omega.{arith}
 use lib.ListN.{length-set}
-use Rattle.counting.specs.Levels.{tallied}
+use Rattle.counting.specs.Levels.{tallyNumbers}
 use borrow.Author.Needs.{needs}
 use Rattle.counting.proofs.put_tally.Statement.{statement}
 use Rattle.counting.proofs.put_tally.Tie as tie
@@ -45,7 +45,7 @@ same-length : tie.Need-same-length
 same-length c = simp length-set
 
 returns : tie.Need-returns
-unfolding tallied
+unfolding tallyNumbers
 returns c = rw (add-one (c .args .at), add-two (c .args .at), add-three (c .args .at))
 
 pub put-tally-spec : {M : Type 1} → statement M

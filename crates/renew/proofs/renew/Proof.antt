@@ -6,7 +6,7 @@ use native.Mathlib.Numerals.{add-one}
 use native.Mathlib.Omega.{arith}
 use lib.ListN.{length}
 use Rattle.base.specs.Fours.{fours}
-use Rattle.renew.specs.Going.{Going}
+use Rattle.renew.specs.Going.{RenewGoing}
 use Rattle.renew.proofs.Starts.{few-coarse, going-start}
 use Rattle.renew.proofs.Turn.{found-high, found-many}
 use Rattle.renew.proofs.Ways.{result-high, result-many, result-end, small-own, room-sizes, room-next, going-next}
@@ -16,7 +16,8 @@ use Rattle.renew.proofs.renew.Tie as tie
 
 abbrev Inv-loop : tie.InvT-loop
 Inv-loop mesh n status kids red rows₀ ps₀ qs₀ table₀ xs₀ ys₀ heads₀ links₀ mid-heads₀ mid-links₀ old₀ digits coarse first₀ last₀ level₀ k₀
-    m₀ rows ps qs table xs ys heads links mid-heads mid-links old first last level k m = Going n (fours mesh) status red level first last
+    m₀ rows ps qs table xs ys heads links mid-heads mid-links old first last level k m = RenewGoing n (fours mesh) status red level first
+    last
     rows xs ys heads links k ps qs mid-heads mid-links m old table
 
 abbrev μ-loop : tie.MeasureT-loop
