@@ -158,7 +158,7 @@ module _ {Part In Body Msg St : Type 0} (F : Finite Part) (Q : Protocol Part In 
               List·Memᴰ·tail (subst (λ y. List·Memᴰ y (numbered F (Q .pack) p (upd F o t (suc (o t))) l)) d
               (r i (omega (arith, ap length a))))
 
-      -- a message of the atStart F Q rounds
+      -- a message of the first rounds
       abbrev Sent : Part → Msg → Type 0
       Sent q m = (p : Part) × (r : ℕ) × (i : ℕ) × (i < length (mail r q p))
           × (m ≡ Q .pack q p (mailCount r q p + i) (getD (mail r q p) i blank))

@@ -139,7 +139,7 @@ fn bit_from(mask: usize, from: usize) -> usize
     16
 }
 
-// How many messages are entryCount.
+// How many messages are written.
 fn entries(store: &[u16]) -> usize
     requires { ⌜ full ≤ length (now store) ⌝ }
     ensures { λ r. ⌜ (r ≡ entryCount (was store)) × (r ≤ 28696) ⌝ }
@@ -246,7 +246,7 @@ fn give(store: &mut [u16], out: &mut [u8], j: usize, b: usize) -> usize
     size
 }
 
-// The next message that the part has entryCount, or none where all are given.
+// The next message that the part has written, or none where all are given.
 pub fn fetch(store: &mut [u16], out: &mut [u8]) -> Fetched
     ensures { λ r. ⌜ r ≡ fetchAnswer (was store) (was out) ⌝ }
     ensures { λ r. ⌜ is out ≡ fetchBytes (was store) (was out) ⌝ }

@@ -1,11 +1,11 @@
--- A table that is split, by cell numbers: what the step needs of it, and who holdsb what. `Part` is any finite type.
+-- A table that is split, by cell numbers: what the step needs of it, and who holds what. `Part` is any finite type.
 --   Task                    the cells of each level with status, children, slots of edges, and owners
 --   kids c                 the children of c
 --   has c s                an edge of c has the slot s
 --   rule h ms c            c will be red, where h tells the slots that new red cells one level up have
 --   redAt ms i c           c, of the level i below the highest, will be red
 --   hitAt ms i s           a new red cell of that level has the slot s
---   Fit                    what holdsb of a job that comes from a sound table and valid owners
+--   Fit                    what holds of a task that comes from a sound table and valid owners
 use mathlib.Core.Path.{_≡_, refl, ap, ap₂}
 use mathlib.Core.Bool.{Bool, true, false, _&&_, _||_, not}
 use mathlib.Core.List.{List, [], _∷_}

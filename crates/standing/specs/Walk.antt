@@ -283,7 +283,7 @@ module _ (x : List ℕ) (h : full ≤ length x) where
             (λ z. absurd (omega (arith, z))) (λ z. n (omega (arith, z))))
       ]
 
-  -- NONE TO SEND exactly when all entryCount are given
+  -- NONE TO SEND exactly when all that is written is given
   pub none-next : leftOf x ≡ [] → nextToGive x .bit ≡ 16
   unfolding leftOf nextToGive
   none-next e = spots x k (field x CURSOR) (field x BIT) .none e
