@@ -42,7 +42,7 @@ pub enum Counted {
     Refused(u8),
 }
 
-// Examines a mesh and a table over it. Refusals 1 to 6.
+// Examines a mesh and a table over it: 0, or refusals 1 to 6. Beside a refusal what the three lent tables hold is free.
 pub fn open(
     positions: &[i32],
     cells: &[u16],

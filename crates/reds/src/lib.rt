@@ -308,7 +308,8 @@ fn flag_up(
     Entries { from: up.n, n: m }
 }
 
-// Writes 64 for each cell that will be red and 0 for each other. The last four tables are for the work, whatever they hold.
+// Writes 64 for each cell that will be red and 0 for each other. The last four tables are for the work, whatever they hold; what they hold
+// after is free.
 pub fn new_reds(
     mesh: &[u16],
     n: usize,

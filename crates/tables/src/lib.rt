@@ -74,7 +74,7 @@ fn check_level(
     Level { ok, n: m, size }
 }
 
-// Lays out the coarse cells.
+// Lays out the coarse cells. What the table holds behind their rows is free.
 pub fn lay_coarse(mesh: &[u16], rows: &mut [u16; 32768]) -> usize
     requires { ⌜ Coarse (now mesh) ⌝ }
     ensures { λ r. ⌜ (r ≡ length (fours (was mesh))) × (take (8 * r) (is rows) ≡ flatMap coarseRow (fours (was mesh))) ⌝ }
