@@ -6,4 +6,5 @@ pub mod Exchange
 pub mod Protocol
 pub mod Lockstep
 pub mod Theorem
+pub mod Begun
 pub mod Sample

@@ -245,7 +245,8 @@ module _ {Part In Body Msg St : Type 0} (F : Finite Part) (Q : Protocol Part In 
       abbrev pub at-place : ℕ → (Part → ℕ) → ℕ → Place Part
       at-place φ n f = record { phase = φ; taken = n; fetched = f }
 
-      module _ (Good : Part → Local Part Body Msg St → Type 0) (A : Alone F Q Z Good)
+      module _ (Good : Part → Local Part Body Msg St → Type 0) (Fine : Part → In → Type 0) (A : Alone F Q Z Good Fine)
+          (fine : (p : Part) → Fine p (input p))
           (good : (p : Part) (r : ℕ) (n : Part → ℕ) (f : ℕ) → Ok plan p (at-place (suc r) n f) → Good p (local p r n f)) where
         quiet-go : (q p : Part) → mailCount (suc (Q .rounds)) q p ≤ mailCount (Q .rounds) q p
         unfolding mailCount
@@ -320,7 +321,7 @@ module _ {Part In Body Msg St : Type 0} (F : Finite Part) (Q : Protocol Part In 
         start-gives : (p : Part) (n : Part → ℕ) (f : ℕ) → Ok plan p (at-place 0 n f) → (x : Store) → Z .Idle p x
             → Gives F Q Z (Start (input p)) x (Z .Busy p (local p 0 n f)) []
         start-gives p n f o x a = subst (λ l. Good p l
-            → Gives F Q Z (Start (input p)) x (Z .Busy p l) []) (first-is p n f o) (A .idle-start p x a (input p))
+            → Gives F Q Z (Start (input p)) x (Z .Busy p l) []) (first-is p n f o) (A .idle-start p x a (input p) (fine p))
             (good p 0 n f (ok-begin F plan counted p (at-place 0 n f) o refl))
 
         start-go : (p : Part) (φ : ℕ) (n : Part → ℕ) (f : ℕ) → Ok plan p (at-place φ n f) → (x : Store) → place p φ n f x

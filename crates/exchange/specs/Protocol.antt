@@ -5,7 +5,7 @@
 --   only F q l                   the messages of a list for one part
 --   numbered, parcel             messages with their counts; what a part writes in a round
 --   atStart, following, withQueue, withBody    where a call leads
---   Alone                        the laws, where Good says what has room in a store
+--   Alone                        the laws, where Good says what has room in a store, and Fine which inputs a part takes
 -- Laws: only-same, only-other.
 use Prim.Native.Nat.{ℕ, suc, _+_, _≤_, _<_}
 use mathlib.Core.Path.{_≡_, refl}
@@ -119,8 +119,8 @@ module _ {Part In Body Msg St : Type 0} (F : Finite Part) (Q : Protocol Part In 
       pub does : Z .act c x ≡ some (after, w)
       pub stands : B after
 
-    -- the laws of one part alone; Good says which locals have room in a store
-    pub record Alone (Good : Part → Local Part Body Msg St → Type 0) : Type 0 where
+    -- the laws of one part alone; Good says which locals have room in a store, Fine which inputs a part takes
+    pub record Alone (Good : Part → Local Part Body Msg St → Type 0) (Fine : Part → In → Type 0) : Type 0 where
       pub ordered : Ordered
       pub silent : (p q : Part) (s : St) → Q .out (Q .rounds) p q s ≡ []
       pub whole-is : (r : ℕ) (q p : Part) (s : St) (k : ℕ) → k ≤ length (Q .out r q p s) → Q .whole r q p (take k (Q .out r q p s)) ≡ true
@@ -128,8 +128,9 @@ module _ {Part In Body Msg St : Type 0} (F : Finite Part) (Q : Protocol Part In 
       pub whole-all : (r : ℕ) (q p : Part) (s : St) → Q .whole r q p (Q .out r q p s) ≡ true
       pub phase-idle : (p : Part) (x : Store) → Z .Idle p x → Z .phase-of p x ≡ 0
       pub phase-busy : (p : Part) (l : Local Part Body Msg St) (x : Store) → Z .Busy p l x → Z .phase-of p x ≡ suc (l .round)
-      pub idle-start : (p : Part) (x : Store) → Z .Idle p x → (i : In) → Good p (atStart p i)
+      pub idle-start : (p : Part) (x : Store) → Z .Idle p x → (i : In) → Fine p i → Good p (atStart p i)
           → Gives (Start i) x (Z .Busy p (atStart p i)) []
+      pub idle-fine : (p : Part) (x : Store) → Z .Idle p x → (i : In) (y : Store × List Msg) → Z .act (Start i) x ≡ some y → Fine p i
       pub idle-step : (p : Part) (x : Store) → Z .Idle p x → Z .act Step x ≡ none
       pub idle-fetch : (p : Part) (x : Store) → Z .Idle p x → Z .act Fetch x ≡ none
       pub idle-hand : (p : Part) (x : Store) → Z .Idle p x → (m : Msg) → Z .act (Hand m) x ≡ none

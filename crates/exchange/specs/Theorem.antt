@@ -35,8 +35,8 @@ pub record Can {Part In Body Msg St : Type 0} (F : Finite Part) (Q : Protocol Pa
   pub sent : f ≤ length (post F Q input (suc r) p)
 
 module _ {In Body Msg St Store : Type 0} (P : ℕ) (Q : Protocol (Fin P) In Body Msg St) (Z : Machine (Fin P) In Body Msg St Store)
-    (Good : Fin P → Local (Fin P) Body Msg St → Type 0) (A : Alone (parts P) Q Z Good) (input : Fin P
-    → In) (blank : Body) (junk : Msg) (void : Store)
+    (Good : Fin P → Local (Fin P) Body Msg St → Type 0) (Fine : Fin P → In → Type 0) (A : Alone (parts P) Q Z Good Fine)
+    (input : Fin P → In) (fine : (p : Fin P) → Fine p (input p)) (blank : Body) (junk : Msg) (void : Store)
     (good : (p : Fin P) (r : ℕ) (n : Fin P → ℕ) (f : ℕ) → Can (parts P) Q input p r n f → Good p (local (parts P) Q input p r n f))
     (w : World Msg Store) (all : length (w .stores) ≡ P) (idle : (p : Fin P) → Z .Idle p (storeAt void w p)) (empty : w .given ≡ []) where
   abbrev F : Finite (Fin P)
@@ -49,10 +49,10 @@ module _ {In Body Msg St Store : Type 0} (P : ℕ) (Q : Protocol (Fin P) In Body
   can p r n f o = record { in-rounds = omega (arith, o .top); low = o .low; high = o .high; sent = o .sent }
 
   K : Laws F (Z .act) E
-  K = laws F Q input Z blank junk Good A (λ p r n f o. good p r n f (can p r n f o))
+  K = laws F Q input Z blank junk Good Fine A fine (λ p r n f o. good p r n f (can p r n f o))
 
   G : Live F (Z .act) E
-  G = live F Q input Z blank junk Good A (λ p r n f o. good p r n f (can p r n f o))
+  G = live F Q input Z blank junk Good Fine A fine (λ p r n f o. good p r n f (can p r n f o))
 
   home : AtHome P (Z .act) void E w
   unfolding place

@@ -102,9 +102,9 @@ module _ (os : List ℕ) (given : ℕ → List ℕ) where
 
 module _ (Q n : ℕ) (qs : List (List ℕ)) (ss ms : List ℕ) (four : All (λ q. length q ≡ 4) qs) (accepted : T (cellsb n qs))
     (sound : T (soundb n qs ss)) (os : List ℕ) (owners : T (ownersb n qs ss (suc Q) os)) (slot : ℕ → ℕ → ℕ) (slots : ℕ → List ℕ)
-    (numbered : Slots n qs ss slot slots) (ps : List (Fin (suc Q))) {Msg : Type 0}
-    (pack : Fin (suc Q) → Fin (suc Q) → ℕ → Body → Msg) (input : Fin (suc Q) → ℕ → ℕ)
-    (starts : (p : Fin (suc Q)) (c : ℕ) → nthPart Q (getD os c 0) ≡ p → input p c ≡ getD ms c 0) where
+    (numbered : Slots n qs ss slot slots) (ps : List (Fin (suc Q))) {Msg In : Type 0}
+    (pack : Fin (suc Q) → Fin (suc Q) → ℕ → Body → Msg) (reads : Fin (suc Q) → In → ℕ → ℕ) (input : Fin (suc Q) → In)
+    (starts : (p : Fin (suc Q)) (c : ℕ) → nthPart Q (getD os c 0) ≡ p → reads p (input p) c ≡ getD ms c 0) where
   abbrev P : ℕ
   P = suc Q
 
@@ -121,10 +121,10 @@ module _ (Q n : ℕ) (qs : List (List ℕ)) (ss ms : List ℕ) (four : All (λ q
   plain = grown-plain F task
 
   abbrev before : Fin P → State
-  before = beforeTotals P task (grownOf F task) plain ps pack input
+  before = beforeTotals P task (grownOf F task) plain ps pack reads input
 
   abbrev pub final : Fin P → State
-  final = afterTotals P task (grownOf F task) plain ps pack input
+  final = afterTotals P task (grownOf F task) plain ps pack reads input
 
   pub task-fit : Fit task
   task-fit = fits n qs ss s slot slots numbered os (owners-fit n qs ss P os owners) (nthPart Q)
@@ -132,7 +132,7 @@ module _ (Q n : ℕ) (qs : List (List ℕ)) (ss ms : List ℕ) (four : All (λ q
   abbrev pub ran : Settled F
   ran =
       settle F n qs ss ms four accepted sound P os owners slot slots numbered (nthPart Q) numberOf (named Q) final
-      (λ p. enough-last P task (grownOf F task) plain ps pack input p task-fit (λ c. getD ms c 0) starts)
+      (λ p. enough-last P task (grownOf F task) plain ps pack reads input p task-fit (λ c. getD ms c 0) starts)
 
   -- the round of totals changes no entry
   pub entries-last : (p : Fin P) → entries F task p (final p) ≡ entries F task p (before p)
@@ -145,14 +145,14 @@ module _ (Q n : ℕ) (qs : List (List ℕ)) (ss ms : List ℕ) (four : All (λ q
   told-masters : (p : Fin P) → final p .total ≡ capped (sumOver (λ q. length (masterPaths (entries F task q (final q)))) (F .list))
   unfolding grownOf
   told-masters p =
-      totals-known P task (grownOf F task) plain ps pack input p .0
+      totals-known P task (grownOf F task) plain ps pack reads input p .0
       ∙ ap (λ (f : Fin P → ℕ). capped (sumOver f (F .list)))
       (fun-ext (λ q. ap (λ (es : List Entry). length (masterPaths es)) (sym (entries-last q))))
 
   told-top : (p : Fin P) → final p .high ≡ largest (λ q. topOf (masterPaths (entries F task q (final q)))) (F .list)
   unfolding grownOf
   told-top p =
-      totals-known P task (grownOf F task) plain ps pack input p .1
+      totals-known P task (grownOf F task) plain ps pack reads input p .1
       ∙ ap (λ (f : Fin P → ℕ). largest f (F .list)) (fun-ext (λ q. ap (λ (es : List Entry). topOf (masterPaths es)) (sym (entries-last q))))
 
   pub run-answer : (p : Fin P) → endOf (final p .total) (final p .high)
@@ -160,4 +160,4 @@ module _ (Q n : ℕ) (qs : List (List ℕ)) (ss ms : List ℕ) (four : All (λ q
   run-answer p =
       ap₂ endOf (told-masters p) (told-top p)
       ∙ serial-answer F n qs ss ms four accepted sound P os owners slot slots numbered (nthPart Q) numberOf (named Q) final
-      (λ p. enough-last P task (grownOf F task) plain ps pack input p task-fit (λ c. getD ms c 0) starts) (parts-once P)
+      (λ p. enough-last P task (grownOf F task) plain ps pack reads input p task-fit (λ c. getD ms c 0) starts) (parts-once P)

@@ -79,15 +79,15 @@ module _ {Part : Type 0} (F : Finite Part) (J : Task Part) where
   unfolding sumTo levelMost
   pairMost = sumTo levelMost (suc (J .top)) + 2
 
-  module _ (grown : Part → State → ℕ × ℕ) (ps : List Part) {Msg : Type 0} (pack : Part → Part → ℕ → Body → Msg) (input : Part → ℕ
-      → ℕ) (q p : Part) where
+  module _ (grown : Part → State → ℕ × ℕ) (ps : List Part) {Msg In : Type 0} (pack : Part → Part → ℕ → Body → Msg)
+      (reads : Part → In → ℕ → ℕ) (input : Part → In) (q p : Part) where
     abbrev many : ℕ → ℕ
-    many r = mailCount F (protocol F J grown ps pack) input r q p
+    many r = mailCount F (protocol F J grown ps pack reads) input r q p
 
     many-on : (r : ℕ) (f : Phase) → phase (J .top) r ≡ f → many (suc r) ≤ many r + room f
     unfolding mailCount
     many-on r f e =
-        let w = writing-few (phase (J .top) r) q p (lock F (protocol F J grown ps pack) input r q) in
+        let w = writing-few (phase (J .top) r) q p (lock F (protocol F J grown ps pack reads) input r q) in
         let z : room (phase (J .top) r) ≡ room f = ap room e in omega arith
 
     room-level : (i : ℕ) → room (marks i) + room (counts i) ≡ levelMost i
@@ -136,12 +136,12 @@ module _ {Part : Type 0} (F : Finite Part) (J : Task Part) where
   unfolding pairMost
   pair-most m h = omega (arith, levels-sum (suc (J .top)), h .levels, h .cells, h .slots)
 
-  module _ (grown : Part → State → ℕ × ℕ) (ps : List Part) {Msg : Type 0} (pack : Part → Part → ℕ → Body → Msg) (input : Part → ℕ
-      → ℕ) (p : Part) where
-    pub own-none : (r : ℕ) → mailCount F (protocol F J grown ps pack) input r p p ≡ 0
+  module _ (grown : Part → State → ℕ × ℕ) (ps : List Part) {Msg In : Type 0} (pack : Part → Part → ℕ → Body → Msg)
+      (reads : Part → In → ℕ → ℕ) (input : Part → In) (p : Part) where
+    pub own-none : (r : ℕ) → mailCount F (protocol F J grown ps pack reads) input r p p ≡ 0
     unfolding mailCount writing
     own-none zero = refl
-    own-none (suc r) = omega (arith, own-none r, ap length (silent-own (phase (J .top) r) (lock F (protocol F J grown ps pack) input r p)))
+    own-none (suc r) = omega (arith, own-none r, ap length (silent-own (phase (J .top) r) (lock F (protocol F J grown ps pack reads) input r p)))
       where
         silent-own : (f : Phase) (s : State) → writing F J f p p s ≡ []
         silent-own f s = rw (is-self F p, writing)
@@ -170,23 +170,22 @@ module _ (P c : ℕ) where
         sum-most (upd (parts P) f p c) (upd-all (parts P) {C = ℕ} (λ q n _. n ≤ c) f f p c 0 (le-refl c) h),
       )
 
-module _ (P : ℕ) (J : Task (Fin P)) (grown : Fin P → State → ℕ × ℕ) (ps : List (Fin P)) {Msg : Type 0} (pack : Fin P → Fin P → ℕ → Body
-    → Msg)
-    (input : Fin P → ℕ → ℕ) (m : ℕ) (small : SmallTask (parts P) J m) where
-  abbrev Q : Protocol (Fin P) (ℕ → ℕ) Body Msg State
-  Q = protocol (parts P) J grown ps pack
+module _ (P : ℕ) (J : Task (Fin P)) (grown : Fin P → State → ℕ × ℕ) (ps : List (Fin P)) {Msg In : Type 0}
+    (pack : Fin P → Fin P → ℕ → Body → Msg) (reads : Fin P → In → ℕ → ℕ) (input : Fin P → In) (m : ℕ) (small : SmallTask (parts P) J m) where
+  abbrev Q : Protocol (Fin P) In Body Msg State
+  Q = protocol (parts P) J grown ps pack reads
 
   abbrev pub mailed : Fin P → Fin P → ℕ
   mailed q p = mailCount (parts P) Q input (Q .rounds) q p
 
   one-few : (q p : Fin P) → mailed q p ≤ 7 * m + 24
-  one-few q p = le-trans (pair-few (parts P) J grown ps pack input q p) (pair-most (parts P) J m small)
+  one-few q p = le-trans (pair-few (parts P) J grown ps pack reads input q p) (pair-most (parts P) J m small)
 
   each-few : (p : Fin P) → suc (Q .rounds) + sumOver (λ q. mailed q p) (parts P .list) + sumOver (λ q. mailed p q) (parts P .list)
       ≤ 24 + 2 * ((P - 1) * (7 * m + 24))
   each-few p =
       let c = 7 * m + 24 in
-      let own : mailed p p ≡ 0 = own-none (parts P) J grown ps pack input p (Q .rounds) in
+      let own : mailed p p ≡ 0 = own-none (parts P) J grown ps pack reads input p (Q .rounds) in
       let a = sum-but P (7 * m + 24) (λ q. mailed q p) p own (λ q. one-few q p) in
       let b = sum-but P (7 * m + 24) (λ q. mailed p q) p own (λ q. one-few p q) in
       let z : P * (7 * m + 24) ≡ (P - 1) * (7 * m + 24) + (7 * m + 24) = one-less P (7 * m + 24) (p .1) in

@@ -1,5 +1,5 @@
 -- The rounds as a protocol of the exchange, and what each part knows after them.
---   protocol pack           the rounds, where pack makes a message of its heading and body
+--   protocol pack reads     the rounds, where pack makes a message of its heading and body, and reads tells marks by cell from an input
 -- Laws: phase-marks, phase-counts, phase-totals (which round exchanges what), enough (after the rounds of all levels each part knows
 -- the new red cells among its masters and ghosts, and the edges of new red cells among theirs), and the laws that the exchange
 -- asks of what is written: silent, whole-is, whole-all.
@@ -187,13 +187,13 @@ module _ {Part : Type 0} (F : Finite Part) (J : Task Part) where
           ∙ t in
           omega (arith, ap length w, says-is (phase (J .top) r) q p s k g u)
 
-module _ {Part : Type 0} (F : Finite Part) (J : Task Part) (grown : Part → State → ℕ × ℕ) (ps : List Part) {Msg : Type 0} (pack : Part
-    → Part → ℕ → Body → Msg) where
-  abbrev pub protocol : Protocol Part (ℕ → ℕ) Body Msg State
+module _ {Part : Type 0} (F : Finite Part) (J : Task Part) (grown : Part → State → ℕ × ℕ) (ps : List Part) {Msg In : Type 0}
+    (pack : Part → Part → ℕ → Body → Msg) (reads : Part → In → ℕ → ℕ) where
+  abbrev pub protocol : Protocol Part In Body Msg State
   protocol =
       record {
         rounds = suc (suc (suc (J .top + J .top)));
-        init = starting F J;
+        init = λ p i. starting F J p (reads p i);
         out = λ r p q s. writing F J (phase (J .top) r) p q s;
         order = λ r p s. orderOf F J ps (phase (J .top) r) p s;
         next = λ r p s got. taking F J grown (phase (J .top) r) p s got;
@@ -201,7 +201,8 @@ module _ {Part : Type 0} (F : Finite Part) (J : Task Part) (grown : Part → Sta
         pack = pack;
       }
 
-  module _ (fit : Fit J) (ms : ℕ → ℕ) (input : Part → ℕ → ℕ) (given : (p : Part) (c : ℕ) → J .owner c ≡ p → input p c ≡ ms c) where
+  module _ (fit : Fit J) (ms : ℕ → ℕ) (input : Part → In)
+      (given : (p : Part) (c : ℕ) → J .owner c ≡ p → reads p (input p) c ≡ ms c) where
     abbrev at : ℕ → Part → State
     at r p = lock F protocol input r p
 
@@ -216,7 +217,7 @@ module _ {Part : Type 0} (F : Finite Part) (J : Task Part) (grown : Part → Sta
 
     marking : (i : ℕ) → i ≤ J .top → (p : Part) → Marking F J ms i p (at (i + i) p)
     unfolding lock
-    marking zero h p = at-start F J ms fit p (input p) (given p)
+    marking zero h p = at-start F J ms fit p (reads p (input p)) (given p)
     marking (suc i) h p =
         let z : suc i + suc i ≡ suc (suc (i + i)) = omega arith in
         let w : (q : Part) → Counting F J ms i q (at (suc (i + i)) q) = to-counts i (omega arith) (λ q. marking i (omega arith) q) in

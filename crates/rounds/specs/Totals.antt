@@ -18,30 +18,30 @@ use Rattle.rounds.specs.Rounded.{protocol, phase-counts, phase-totals, e
 abbrev pub Plain : {Part : Type 0} → (Part → State → ℕ × ℕ) → Type 0
 Plain {Part} grown = (p : Part) (s : State) (g : ℕ × ℕ) → grown p (sized g s) ≡ grown p s
 
-module _ (P : ℕ) (J : Task (Fin P)) (grown : Fin P → State → ℕ × ℕ) (plain : Plain grown) (ps : List (Fin P)) {Msg : Type 0}
-    (pack : Fin P → Fin P → ℕ → Body → Msg) (input : Fin P → ℕ → ℕ) where
+module _ (P : ℕ) (J : Task (Fin P)) (grown : Fin P → State → ℕ × ℕ) (plain : Plain grown) (ps : List (Fin P)) {Msg In : Type 0}
+    (pack : Fin P → Fin P → ℕ → Body → Msg) (reads : Fin P → In → ℕ → ℕ) (input : Fin P → In) where
   abbrev F : Finite (Fin P)
   F = parts P
 
   -- at the beginning of the round, and after it
   abbrev pub beforeTotals : Fin P → State
-  beforeTotals p = lock F (protocol F J grown ps pack) input (suc (suc (J .top + J .top))) p
+  beforeTotals p = lock F (protocol F J grown ps pack reads) input (suc (suc (J .top + J .top))) p
 
   abbrev pub afterTotals : Fin P → State
-  afterTotals p = lock F (protocol F J grown ps pack) input (suc (suc (suc (J .top + J .top)))) p
+  afterTotals p = lock F (protocol F J grown ps pack reads) input (suc (suc (suc (J .top + J .top)))) p
 
   pub sized-last : (p : Fin P) → (beforeTotals p .total ≡ capped (grown p (beforeTotals p) .0))
       × (beforeTotals p .high ≡ grown p (beforeTotals p) .1)
   unfolding lock taking sized
   sized-last p =
       let r = suc (J .top + J .top) in
-      let s = lock F (protocol F J grown ps pack) input (suc (J .top + J .top)) p in
+      let s = lock F (protocol F J grown ps pack reads) input (suc (J .top + J .top)) p in
       let got : Fin P → List Body = λ q. writing F J (counts (J .top)) q p
-      (lock F (protocol F J grown ps pack) input (suc (J .top + J .top)) q) in
+      (lock F (protocol F J grown ps pack reads) input (suc (J .top + J .top)) q) in
       let c : State = counting s (redDown F J (J .top) p s got) (sumTold F s got) in
       let e : beforeTotals p ≡ sized (grown p c) c =
       ap (λ (f : Phase). taking F J grown f p s
-      (λ q. writing F J f q p (lock F (protocol F J grown ps pack) input (suc (J .top + J .top)) q)))
+      (λ q. writing F J f q p (lock F (protocol F J grown ps pack reads) input (suc (J .top + J .top)) q)))
       (phase-counts (J .top) (J .top) (omega arith)) in
       let g : grown p (beforeTotals p) ≡ grown p c = ap (grown p) e ∙ plain p c (grown p c) in (
         ap (λ (t : State). t .total) e ∙ ap (λ (n : ℕ × ℕ). capped (n .0)) (sym g),
@@ -132,9 +132,9 @@ module _ (P : ℕ) (J : Task (Fin P)) (grown : Fin P → State → ℕ × ℕ) (
         largest-agree {f} {g} h l = ap (λ (k : Fin P → ℕ). largest k l) (fun-ext h)
 
     -- flags and counts are those of the rounds beforeTotals
-    pub enough-last : (fit : Fit J) (ms : ℕ → ℕ) → ((q : Fin P) (c : ℕ) → J .owner c ≡ q → input q c ≡ ms c)
+    pub enough-last : (fit : Fit J) (ms : ℕ → ℕ) → ((q : Fin P) (c : ℕ) → J .owner c ≡ q → reads q (input q) c ≡ ms c)
         → Known F J ms (suc (J .top)) p (afterTotals p)
     unfolding taking
     enough-last fit ms given =
-        let k = enough F J grown ps pack fit ms input given p in
+        let k = enough F J grown ps pack reads fit ms input given p in
         subst (Known F J ms (suc (J .top)) p) (sym after-totals) (record { given = k .given; red = k .red; hit = k .hit; own = k .own })

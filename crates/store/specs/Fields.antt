@@ -59,11 +59,11 @@ abbrev pub WRITTEN : ℕ
 WRITTEN = 14  -- how many entries there are; read as at most 28,696
 
 -- a number for each level
-abbrev pub FIRST_CELL : ℕ
-FIRST_CELL = 16  -- of each level, and behind the last
+abbrev pub FIRST-CELL : ℕ
+FIRST-CELL = 16  -- of each level, and behind the last
 
-abbrev pub FIRST_SLOT : ℕ
-FIRST_SLOT = 28
+abbrev pub FIRST-SLOT : ℕ
+FIRST-SLOT = 28
 
 -- a number for each part
 abbrev pub TAKEN : ℕ
@@ -137,14 +137,14 @@ abbrev pub RECEIVERS : ℕ
 RECEIVERS = 181408  -- sixteen bits
 
 -- a number for each master and ghost of a done store
-abbrev pub PLACE_HEAD : ℕ
-PLACE_HEAD = 210104  -- of each master and ghost of a done store: its place
+abbrev pub PLACE-HEAD : ℕ
+PLACE-HEAD = 210104  -- of each master and ghost of a done store: its place
 
-abbrev pub PLACE_DIGITS : ℕ
-PLACE_DIGITS = 214200
+abbrev pub PLACE-DIGITS : ℕ
+PLACE-DIGITS = 214200
 
-abbrev pub PLACE_MORE : ℕ
-PLACE_MORE = 218296
+abbrev pub PLACE-MORE : ℕ
+PLACE-MORE = 218296
 
-abbrev pub PLACE_STATUS : ℕ
-PLACE_STATUS = 222392  -- its status, and 128 more for a ghost
+abbrev pub PLACE-STATUS : ℕ
+PLACE-STATUS = 222392  -- its status, and 128 more for a ghost

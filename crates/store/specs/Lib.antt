@@ -9,3 +9,4 @@ pub mod Seek
 pub mod Fetching
 pub mod Checks
 pub mod Handing
+pub mod Places

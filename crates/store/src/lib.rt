@@ -99,3 +99,10 @@ pub enum Fetched {
     Nothing,
     Refused(u8),
 }
+
+// A cell's place under its coarse cell: 256 times its level and the coarse cell; child numbers 1 to 5, and 6 to 10, base 8.
+pub struct Place {
+    pub head: u16,
+    pub digits: u16,
+    pub more: u16,
+}

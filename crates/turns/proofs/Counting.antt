@@ -8,7 +8,7 @@ use native.Mathlib.Decide.{decLt}
 use native.Mathlib.Nat.{div-eq-of-lt}
 use lib.Dec.{eqb}
 use borrow.Author.Tests.{eq-eqb, ne-eqb}
-use Rattle.store.specs.Fields.{field, PART, FIRST_SLOT, HOLDERS, SUM}
+use Rattle.store.specs.Fields.{field, PART, FIRST-SLOT, HOLDERS, SUM}
 use Rattle.store.specs.Fetch.{bitb}
 use Rattle.turns.specs.Loops.{eachFrom, SameHead, head-self, head-on, each-head}
 use Rattle.turns.specs.Tally.{tallyOne}
@@ -53,11 +53,11 @@ module _ (x : List ℕ) (s : ℕ) where
       go true e = rw (e, countOne) (head-self x)
       go false e = rw (e, countOne) (posted-head x (4096 + s) (field x (SUM + s)) (besides x (field x (HOLDERS + s))))
 
-  pub slot-low : field x (FIRST_SLOT + s) < 24576 → field x (FIRST_SLOT + s) ≡ slotFrom x s
+  pub slot-low : field x (FIRST-SLOT + s) < 24576 → field x (FIRST-SLOT + s) ≡ slotFrom x s
   unfolding slotFrom
   slot-low h = omega arith
 
-  pub slot-high : 24576 ≤ field x (FIRST_SLOT + s) → 24576 ≡ slotFrom x s
+  pub slot-high : 24576 ≤ field x (FIRST-SLOT + s) → 24576 ≡ slotFrom x s
   unfolding slotFrom
   slot-high h = omega arith
 

@@ -13,7 +13,7 @@ use borrow.Author.Tests.{eq-eqb, ne-eqb, lt-ltb, le-ltb, le-leb, lt-leb}
 use Rattle.base.specs.Refuse.{refuse}
 use Rattle.base.specs.declared.Answer.{Answer}
 use Rattle.base.specs.declared.Answer.the-variants.{Accepted, Refused}
-use Rattle.store.specs.Fields.{field, full, STAGE, PART, PARTS, CELLS, LEVELS, FIRST_CELL, OWNER, STATUS, MARK}
+use Rattle.store.specs.Fields.{field, full, STAGE, PART, PARTS, CELLS, LEVELS, FIRST-CELL, OWNER, STATUS, MARK}
 use Rattle.store.specs.Header.{headerb}
 use Rattle.store.specs.Headed.{header-is}
 use Rattle.turns.specs.Loops.{eachFrom, SameHead, head-self, head-on, head-set, each-head}
@@ -163,11 +163,11 @@ end-is x y b e i = i ∙ ap (posted x 65535 0) e
 
 -- a level
 module _ (x : List ℕ) (k : ℕ) where
-  pub level-low : field x (FIRST_CELL + k) < field x CELLS → field x (FIRST_CELL + k) ≡ levelFrom x k
+  pub level-low : field x (FIRST-CELL + k) < field x CELLS → field x (FIRST-CELL + k) ≡ levelFrom x k
   unfolding levelFrom
   level-low h = omega arith
 
-  pub level-high : field x CELLS ≤ field x (FIRST_CELL + k) → field x CELLS ≡ levelFrom x k
+  pub level-high : field x CELLS ≤ field x (FIRST-CELL + k) → field x CELLS ≡ levelFrom x k
   unfolding levelFrom
   level-high h = omega arith
 

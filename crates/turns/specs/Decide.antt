@@ -4,18 +4,18 @@
 --   hitOf x c e       the edge is hit; pullOf x c e and is not also the parent's
 --   idleKid x d         a leaf that is marked for deletion, and no edge of it is hit
 --   pulledKid x d       a green cell's child that is marked, or an own edge of it is hit
---   kidb x c d        d is a child of c; children stand one after the other, at most eight
+--   kidCount x c      how many children c has; they stand one after the other from CHILD on
 --   ruleb x c         c will be red
---   decideOne x c     the store with the flag of c, if its family is here
+--   decideOne x c     the store with the flag of c set, if its family is here and it will be red
 use mathlib.Core.Bool.{Bool, true, false, _&&_, _||_, not}
 use mathlib.Core.List.{List}
-use Prim.Native.Nat.{ℕ, _+_, _*_}
-use lib.Dec.{eqb, ltb}
+use Prim.Native.Nat.{ℕ, _+_, _-_, _*_, min}
+use lib.Dec.{eqb, ltb, leb}
 use lib.ListN.{set}
-use Rattle.base.specs.Bools.{one-if}
-use Rattle.store.specs.Fields.{field, PART, CELLS, FAMILY, STATUS, REGULAR, CHILD, PARENT, INNER, MARK, RED, SLOT, SUM}
+use Rattle.mesh.specs.Table.{sizeOf}
+use Rattle.store.specs.Fields.{field, PART, CELLS, FAMILY, STATUS, REGULAR, CHILD, INNER, MARK, RED, SLOT, SUM}
 use Rattle.store.specs.Fetch.{bitb}
-use Rattle.turns.specs.Loops.{someFrom, runSome}
+use Rattle.turns.specs.Loops.{someFrom}
 
 abbrev pub slotAt : List ℕ → ℕ → ℕ → ℕ
 slotAt x c e = field x (SLOT + (6 * c + e))
@@ -39,8 +39,12 @@ unfoldable pub pulledKid : List ℕ → ℕ → Bool
 unfolding someFrom pullOf
 pulledKid x d = eqb (field x (MARK + d)) 1 || someFrom (pullOf x d) 6 0
 
-unfoldable pub kidb : List ℕ → ℕ → ℕ → Bool
-kidb x c d = ltb d (field x CELLS) && eqb (field x (PARENT + d)) c
+-- as many as its status says, and none beyond the number of cells
+unfoldable pub kidCount : List ℕ → ℕ → ℕ
+unfolding sizeOf
+kidCount x c =
+    min (elim (leb (field x (STATUS + c)) 64) [ true ↦ sizeOf (field x (STATUS + c)) | false ↦ 0 ])
+    (field x CELLS - field x (CHILD + c))
 
 unfoldable pub busyb : List ℕ → ℕ → Bool
 unfolding idleKid
@@ -48,16 +52,16 @@ busyb x d = not (idleKid x d)
 
 -- a red cell stays red unless all its children are idle; a regular leaf turns red by its mark; a green cell by a child that is pulled
 unfoldable pub ruleb : List ℕ → ℕ → Bool
-unfolding runSome kidb busyb pulledKid
+unfolding someFrom kidCount busyb pulledKid
 ruleb x c =
     elim (eqb (field x (STATUS + c)) 64) [
-      | true ↦ runSome (kidb x c) (busyb x) 8 (field x (CHILD + c))
+      | true ↦ someFrom (busyb x) (kidCount x c) (field x (CHILD + c))
       | false ↦ elim (eqb (field x (STATUS + c)) 0) [
         | true ↦ eqb (field x (REGULAR + c)) 1 && eqb (field x (MARK + c)) 1
-        | false ↦ runSome (kidb x c) (pulledKid x) 8 (field x (CHILD + c))
+        | false ↦ someFrom (pulledKid x) (kidCount x c) (field x (CHILD + c))
       ]
     ]
 
 unfoldable pub decideOne : List ℕ → ℕ → List ℕ
-unfolding ruleb one-if
-decideOne x c = elim (eqb (field x (FAMILY + c)) (field x PART)) [ true ↦ set x (RED + c) (one-if (ruleb x c)) | false ↦ x ]
+unfolding ruleb
+decideOne x c = elim (eqb (field x (FAMILY + c)) (field x PART) && ruleb x c) [ true ↦ set x (RED + c) 1 | false ↦ x ]

@@ -14,7 +14,7 @@ use lib.ListN.{length, getD, set}
 use Rattle.base.specs.Refuse.{refuse}
 use Rattle.base.specs.declared.Answer.{Answer}
 use Rattle.base.specs.declared.Answer.the-variants.{Accepted, Refused}
-use Rattle.store.specs.Fields.{field, full, STAGE, PART, CELLS, LEVELS, FIRST_CELL, OWNER, STATUS, MARK}
+use Rattle.store.specs.Fields.{field, full, STAGE, PART, CELLS, LEVELS, FIRST-CELL, OWNER, STATUS, MARK}
 use Rattle.store.specs.Header.{headerb}
 use Rattle.turns.specs.Loops.{eachFrom}
 use Rattle.turns.specs.Decide.{decideOne}
@@ -49,7 +49,7 @@ markedFrom x ms zero c j = x
 markedFrom x ms (suc n) c j = markedFrom (markSet x ms c j) ms n (suc c) (nextMark x c j)
 
 unfoldable pub levelFrom : List ℕ → ℕ → ℕ
-levelFrom x k = min (field x (FIRST_CELL + k)) (field x CELLS)
+levelFrom x k = min (field x (FIRST-CELL + k)) (field x CELLS)
 
 unfoldable pub enterMarks : List ℕ → ℕ → List ℕ
 unfolding levelFrom eachFrom decideOne markOne postEnd

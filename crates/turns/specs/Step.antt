@@ -4,14 +4,14 @@
 --   enterCounts x k   the store tallied, with counts and the end written
 use mathlib.Core.List.{List}
 use Prim.Native.Nat.{ℕ, _+_, _-_, min}
-use Rattle.store.specs.Fields.{field, FIRST_SLOT}
+use Rattle.store.specs.Fields.{field, FIRST-SLOT}
 use Rattle.turns.specs.Loops.{eachFrom}
 use Rattle.turns.specs.Tally.{tallyOne}
 use Rattle.turns.specs.Post.{countOne, postEnd}
 use Rattle.turns.specs.Start.{levelFrom}
 
 unfoldable pub slotFrom : List ℕ → ℕ → ℕ
-slotFrom x k = min (field x (FIRST_SLOT + k)) 24576
+slotFrom x k = min (field x (FIRST-SLOT + k)) 24576
 
 unfoldable pub tallied : List ℕ → ℕ → List ℕ
 unfolding levelFrom eachFrom tallyOne

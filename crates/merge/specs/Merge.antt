@@ -1,0 +1,82 @@
+-- Merging all stores of a split: they are examined, and their masters put in the order of a table.
+--   storesIn b            the stores that a lent table has, as many as the first says there are parts
+--   alikeb x y            y is done, and one of the same split and result as x
+--   everyb xs             each part is among the stores
+--   ownsb i x             the store has the coarse cell i as master; cornersIn xs i its corners, from the first that does
+--   mergeCells xs         the corners of all coarse cells; mergeEntries xs the masters and ghosts of all stores
+--   mergeTable xs         the table that they make
+--   mergeb xs             the stores merge; mergeAnswer b t: 15, then 16
+use mathlib.Core.Bool.{Bool, true, false, _&&_}
+use mathlib.Core.List.{List, [], _∷_, map, flatMap, flatten}
+use Prim.Native.Nat.{ℕ, suc, _+_, _*_}
+use lib.Dec.{eqb, leb}
+use lib.ListN.{length, take, drop, getD}
+use Rattle.base.specs.Lists.{allb, anyb}
+use Rattle.base.specs.Range.{range}
+use Rattle.base.specs.Refuse.{refuse}
+use Rattle.base.specs.declared.Answer.{Answer}
+use Rattle.base.specs.declared.Answer.the-variants.{Accepted, Refused}
+use Rattle.mesh.specs.Coarse.{cellsb}
+use Rattle.mesh.specs.Table.{soundb}
+use Rattle.parts.specs.Held.{Entry}
+use Rattle.parts.specs.Merge.{merged, completeb}
+use Rattle.store.specs.Fields.{field, full, STAGE, PART, PARTS, CORNERS, COARSE, RESULT, OWNER, CORNER}
+use Rattle.store.specs.Header.{headerb}
+use Rattle.held.specs.Held.{heldIn}
+
+unfoldable pub storeIn : List ℕ → ℕ → List ℕ
+storeIn b j = take full (drop (full * j) b)
+
+unfoldable pub storesIn : List ℕ → List (List ℕ)
+unfolding storeIn range
+storesIn b = map (storeIn b) (range 0 (field b PARTS))
+
+unfoldable pub alikeb : List ℕ → List ℕ → Bool
+unfolding headerb
+alikeb x y =
+    headerb y && (eqb (field y STAGE) 2 && (eqb (field y PARTS) (field x PARTS) && (eqb (field y CORNERS) (field x CORNERS)
+    && (eqb (field y COARSE) (field x COARSE) && eqb (field y RESULT) (field x RESULT)))))
+
+-- as many stores as parts: where each part is among them, it is so once
+unfoldable pub everyb : List (List ℕ) → Bool
+unfolding allb anyb range
+everyb xs = allb (λ p. anyb (λ x. eqb (field x PART) p) xs) (range 1 (length xs))
+
+unfoldable pub ownsb : ℕ → List ℕ → Bool
+ownsb i x = eqb (field x (OWNER + i)) (field x PART)
+
+unfoldable pub cornersIn : List (List ℕ) → ℕ → List ℕ
+unfolding ownsb
+cornersIn [] i = []
+cornersIn (x ∷ xs) i = elim (ownsb i x) [ true ↦ take 4 (drop (CORNER + 4 * i) x) | false ↦ cornersIn xs i ]
+
+unfoldable pub mergeCells : List (List ℕ) → ℕ → List (List ℕ)
+unfolding cornersIn range
+mergeCells xs m = map (cornersIn xs) (range 0 m)
+
+unfoldable pub mergeEntries : List (List ℕ) → List Entry
+unfolding heldIn flatMap
+mergeEntries xs = flatMap heldIn xs
+
+unfoldable pub mergeTable : List (List ℕ) → ℕ → List ℕ
+unfolding merged mergeEntries flatten
+mergeTable xs m = flatten (merged (mergeEntries xs) m)
+
+-- n coarse corners, m coarse cells: each coarse cell has a master with corners in order, each place that the table asks for has one and
+-- nothing else has, and the table is sound
+unfoldable pub meshesb : ℕ → ℕ → List (List ℕ) → Bool
+unfolding allb anyb ownsb cellsb completeb soundb mergeCells mergeEntries mergeTable range
+meshesb n m xs =
+    (allb (λ i. anyb (ownsb i) xs) (range 0 m) && cellsb n (mergeCells xs m))
+    && (completeb (mergeEntries xs) m && soundb n (mergeCells xs m) (mergeTable xs m))
+
+-- the first store says how many parts, corners and coarse cells there are
+unfoldable pub mergeb : List ℕ → Bool
+unfolding headerb alikeb everyb meshesb storesIn
+mergeb b =
+    headerb b && (allb (alikeb b) (storesIn b) && (everyb (storesIn b)
+    && meshesb (field b CORNERS) (field b COARSE) (storesIn b)))
+
+unfoldable pub mergeAnswer : List ℕ → List ℕ → Answer
+unfolding refuse mergeb
+mergeAnswer b t = refuse 15 (leb (16 * full) (length b) && leb 4096 (length t)) (refuse 16 (mergeb b) Accepted)

@@ -1,0 +1,79 @@
+-- Splitting a table: what the call answers, and what the stores hold after.
+--   byCell os p f            a number for each of 4,096 cells: f where the part p holds the cell, else 0
+--   partStore P os p         the numbers of a part's store before its entries, in the order of docs/PARTS.md
+--   storesAfter P os b       the lent table b with the stores of the parts 1 to P; what stands behind them, and each store's
+--                            entries and places, is as it was
+--   splitAnswer ..           15, 1 to 6, 10, 11 in this order
+use mathlib.Core.Bool.{Bool, true, false, _&&_}
+use mathlib.Core.List.{List, [], _∷_, _++_, map, flatMap}
+use Prim.Native.Nat.{ℕ, suc, _+_, _*_}
+use lib.Dec.{ltb, leb}
+use lib.ListN.{length, getD, take, drop, replicate}
+use lib.IntN.{ℤ}
+use Rattle.base.specs.Bools.{one-if}
+use Rattle.base.specs.Fours.{fours}
+use Rattle.base.specs.Range.{range}
+use Rattle.base.specs.Refuse.{refuse, andThen}
+use Rattle.base.specs.declared.Answer.{Answer}
+use Rattle.base.specs.declared.Answer.the-variants.{Accepted, Refused}
+use Rattle.mesh.specs.Coarse.{cornerCount}
+use Rattle.mesh.specs.Table.{levelsOf}
+use Rattle.mesh.specs.Answers.{tableAnswer}
+use Rattle.parts.specs.Owners.{nthCell, familyOf, ownersb}
+use Rattle.parts.specs.Held.{masterb}
+use Rattle.store.specs.Fields.{full, CODE}
+use Rattle.store.specs.declared.Place.{Place}
+use Rattle.store.specs.Places.{placeOf}
+use Rattle.split.specs.Columns.{sixEdges, cellsBelow, slotsBelow, slotOf, firstChild, innerBits, holdsCell, holdsSlot, holdersOf}
+
+module _ (n : ℕ) (qs : List (List ℕ)) (ss : List ℕ) (P : ℕ) (os : List ℕ) (p : ℕ) where
+  unfoldable pub byCell : (ℕ → ℕ) → List ℕ
+  unfolding holdsCell range
+  byCell f = map (λ c. elim (ltb c (length ss) && holdsCell n qs ss os p c) [ true ↦ f c | false ↦ 0 ]) (range 0 4096)
+
+  abbrev pub placeBy : ℕ → Place
+  placeBy c = placeOf (nthCell n qs ss c .path)
+
+  unfoldable pub sixOf : ℕ → List ℕ
+  unfolding holdsCell slotOf
+  sixOf c = elim (ltb c (length ss) && holdsCell n qs ss os p c) [ true ↦ map (slotOf n qs ss c) sixEdges | false ↦ replicate 6 0 ]
+
+  unfoldable pub fourOf : ℕ → List ℕ
+  unfolding masterb
+  fourOf i = elim (ltb i (length qs) && masterb os p i) [ true ↦ getD qs i [] | false ↦ replicate 4 0 ]
+
+  unfoldable pub holdersAt : ℕ → ℕ
+  unfolding holdsSlot holdersOf
+  holdersAt s = elim (holdsSlot n qs ss os p s) [ true ↦ holdersOf n qs ss os s | false ↦ 0 ]
+
+  unfoldable pub partStore : List ℕ
+  unfolding byCell sixOf fourOf holdersAt cellsBelow slotsBelow levelsOf familyOf nthCell firstChild placeOf innerBits one-if range flatMap
+  partStore =
+      (0 ∷ p ∷ P ∷ n ∷ length qs ∷ length ss ∷ length (levelsOf n qs ss) ∷ replicate 9 0)
+      ++ map (cellsBelow n qs ss) (range 0 12) ++ map (slotsBelow n qs ss) (range 0 12) ++ replicate 72 0
+      ++ byCell (λ c. getD os c 0) ++ byCell (familyOf n qs ss os)
+      ++ byCell (λ c. getD ss c 0) ++ byCell (λ c. one-if (nthCell n qs ss c .regular))
+      ++ byCell (firstChild n qs ss) ++ byCell (λ c. nthCell n qs ss c .parent)
+      ++ byCell (λ c. placeBy c .head) ++ byCell (λ c. placeBy c .digits) ++ byCell (λ c. placeBy c .more)
+      ++ byCell (innerBits n qs ss) ++ replicate 8192 0
+      ++ flatMap fourOf (range 0 256) ++ flatMap sixOf (range 0 4096)
+      ++ map holdersAt (range 0 24576) ++ replicate 24576 0
+
+unfoldable pub storesAfter : ℕ → List (List ℕ) → List ℕ → ℕ → List ℕ → List ℕ → List ℕ
+unfolding partStore range flatMap
+storesAfter n qs ss P os b =
+    flatMap (λ j. partStore n qs ss P os (suc j) ++ drop CODE (take full (drop (full * j) b))) (range 0 P) ++ drop (full * P) b
+
+unfoldable pub splitAnswer : List ℤ → List ℕ → List ℕ → ℕ → List ℕ → List ℕ → Answer
+unfolding refuse andThen tableAnswer ownersb
+splitAnswer ps ts ss P os b =
+    refuse 15 (leb (16 * full) (length b)) (andThen (tableAnswer ps ts ss)
+    (refuse 10 (leb 1 P && leb P 16) (refuse 11 (ownersb (cornerCount ps) (fours ts) ss P os) Accepted)))
+
+unfoldable pub splitIn : Answer → List ℕ → List ℕ → List ℕ
+splitIn Accepted new old = new
+splitIn (Refused k) new old = old
+
+unfoldable pub splitAfter : List ℤ → List ℕ → List ℕ → ℕ → List ℕ → List ℕ → List ℕ
+unfolding splitIn splitAnswer storesAfter
+splitAfter ps ts ss P os b = splitIn (splitAnswer ps ts ss P os b) (storesAfter (cornerCount ps) (fours ts) ss P os b) b
