@@ -37,7 +37,7 @@ cleared x = set (set (set x ENTRIES 0) TOTAL 0) HIGH 0
 
 unfoldable pub postTotals : List ℕ → List ℕ
 unfolding posted othersOf
-postTotals x = posted x (28672 + field x HIGH) (field x TOTAL) (othersOf x)
+postTotals x = posted x ((28672 + field x HIGH) % 65536) (field x TOTAL) (othersOf x)
 
 unfoldable pub enterTotals : List ℕ → List ℕ
 unfolding cleared eachFrom placeCell postTotals postEnd
