@@ -1,0 +1,1 @@
+// What a part's store stands for in an exchange. There is no code here: see specs/.
