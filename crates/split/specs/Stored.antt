@@ -1,0 +1,476 @@
+-- What a store of a split holds, read by its fields (docs/PARTS.md). n, qs, ss are corners, coarse cells and status table; os are the
+-- owners, p is a part, from 1, of P; x is its store.
+--   Fours qs                 each of qs has four numbers
+--   ifHeld .. os p f c       f c where the part p holds the cell c, else 0
+--   Stored .. P os p x       x is the store of the part p: each line of the layout
+--   storeAt b j              the store with the number j, from 0, in the table b
+-- Laws: held-is, not-held and no-cell (ifHeld opened), fours-four, store-length, stored-front (a list that begins with a store's numbers),
+-- stores-length, store-cut (the table after a split, store by store), stored-split (the stores of the parts 1 to P are Stored),
+-- stores-behind (what stands behind them is as it was), rest-kept (each store's entries and places are as they were).
+use mathlib.Core.Path.{_≡_, refl, sym, _∙_, ap, ap₂}
+use mathlib.Core.Bool.{Bool, true, false, _&&_}
+use mathlib.Core.List.{List, [], _∷_, _++_, map, flatMap, append-assoc, append-nil}
+use Prim.Native.Nat.{ℕ, zero, suc, _+_, _*_, _-_, _≤_, _<_}
+use native.Mathlib.Omega.{arith}
+use lib.Dec.{ltb}
+use lib.ListN.{length, getD, take, drop, replicate, length-append, length-map, length-take, length-drop, length-replicate, getD-replicate}
+use lib.ListN.{List·getD-append}
+use lib.Seq.{getD-drop, getD-take, drop-at, take-at, drop-append-add, drop-append-le, take-append-le, length-take-le, getD-append-add}
+use lib.Seq.{ext-getD}
+use borrow.Author.Tests.{lt-ltb, le-ltb, ltb-true}
+use Rattle.base.specs.Bools.{one-if}
+use Rattle.base.specs.Fours.{fours}
+use Rattle.base.specs.Range.{range, length-range}
+use Rattle.mesh.specs.Table.{levelsOf}
+use Rattle.parts.specs.Owners.{nthCell, familyOf}
+use Rattle.parts.specs.Held.{masterb}
+use Rattle.store.specs.Places.{placeOf}
+use Rattle.store.specs.Fields.{full, field, STAGE, PART, PARTS, CORNERS, COARSE, CELLS, LEVELS, ROUND, RESULT, ENTRIES, TOTAL, HIGH, CURSOR}
+use Rattle.store.specs.Fields.{BIT, WRITTEN, FIRST-CELL, FIRST-SLOT, TAKEN, ENDED, GIVEN, OWNER, FAMILY, STATUS, REGULAR, CHILD, PARENT}
+use Rattle.store.specs.Fields.{HEAD, DIGITS, MORE, INNER, MARK, RED, CORNER, SLOT, HOLDERS, SUM, CODE}
+use Rattle.split.specs.Columns.{sixEdges, cellsBelow, slotsBelow, slotOf, firstChild, innerBits, holdsCell}
+use Rattle.split.specs.Split.{byCell, placeBy, sixOf, fourOf, holdersAt, partStore, storesAfter}
+
+-- what f gives for numbers in a row
+map-at : (f : ℕ → ℕ) (k m i : ℕ) → i < m → getD (map f (range k m)) i 0 ≡ f (k + i)
+unfolding range
+map-at f k zero i h = absurd (omega arith)
+map-at f k (suc m) zero h = let z : k ≡ k + 0 = omega arith in ap f z
+map-at f k (suc m) (suc i) h = let z : suc k + i ≡ k + suc i = omega arith in map-at f (suc k) m i (omega arith) ∙ ap f z
+
+map-here : (f : ℕ → ℕ) (m i : ℕ) → i < m → getD (map f (range 0 m)) i 0 ≡ f i
+map-here f m i h = let z : 0 + i ≡ i = omega arith in map-at f 0 m i h ∙ ap f z
+
+map-size : (f : ℕ → ℕ) (m : ℕ) → length (map f (range 0 m)) ≡ m
+map-size f m = length-map (range 0 m) f ∙ length-range 0 m
+
+module _ (f : ℕ → List ℕ) (w most : ℕ) (all : (i : ℕ) → i < most → length (f i) ≡ w) where
+  flat-length : (k m : ℕ) → k + m ≤ most → length (flatMap f (range k m)) ≡ w * m
+  unfolding range flatMap
+  flat-length k zero l = omega arith
+  flat-length k (suc m) l = simp length-append (omega (arith, all k (omega arith), flat-length (suc k) m (omega arith)))
+
+  flat-drop : (k m i : ℕ) → k + m ≤ most → i ≤ m → drop (w * i) (flatMap f (range k m)) ≡ flatMap f (range (k + i) (m - i))
+  unfolding range flatMap
+  flat-drop k m zero l h =
+      let z : k + 0 ≡ k = omega arith in let y : m - 0 ≡ m = omega arith in let x : w * 0 ≡ 0 = omega arith in rw (z, y, x)
+  flat-drop k zero (suc i) l h = absurd (omega arith)
+  flat-drop k (suc m) (suc i) l h =
+      let z : w * suc i ≡ length (f k) + w * i = omega (arith, all k (omega arith)) in
+      let y : k + suc i ≡ suc k + i = omega arith in
+      let x : suc m - suc i ≡ m - i = omega arith in
+      rw (z, y, x) (drop-append-add (f k) (flatMap f (range (suc k) m)) (w * i) ∙ flat-drop (suc k) m i (omega arith) (omega arith))
+
+  flat-part : (m i : ℕ) → m ≤ most → i < m → take w (drop (w * i) (flatMap f (range 0 m))) ≡ f i
+  unfolding range flatMap
+  flat-part m i l h =
+      let z : m - i ≡ suc (m - suc i) = omega arith in
+      let y : 0 + i ≡ i = omega arith in
+      ap (take w) (flat-drop 0 m i (omega arith) (omega arith) ∙ rw (z, y))
+      ∙ take-at (f i) (flatMap f (range (suc i) (m - suc i))) w (all i (omega arith))
+
+-- lists in a row, and where each begins
+joined : List (List ℕ) → List ℕ
+joined [] = []
+joined (l ∷ ls) = l ++ joined ls
+
+sum : List ℕ → ℕ
+sum [] = 0
+sum (m ∷ ms) = m + sum ms
+
+-- the lists have these lengths
+Sized : List (List ℕ) → List ℕ → Type 0
+Sized [] [] = Unit
+Sized [] (m ∷ ms) = ⊥
+Sized (l ∷ ls) [] = ⊥
+Sized (l ∷ ls) (m ∷ ms) = (length l ≡ m) × Sized ls ms
+
+joined-length : (ls : List (List ℕ)) (ms : List ℕ) → Sized ls ms → length (joined ls) ≡ sum ms
+unfolding joined sum Sized
+joined-length [] [] s = refl
+joined-length [] (m ∷ ms) s = absurd s
+joined-length (l ∷ ls) [] s = absurd s
+joined-length (l ∷ ls) (m ∷ ms) s = simp length-append (omega (arith, s .0, joined-length ls ms (s .1)))
+
+joined-at : (ls : List (List ℕ)) (ms : List ℕ) → Sized ls ms → (j i : ℕ) → i < getD ms j 0
+    → getD (joined ls) (sum (take j ms) + i) 0 ≡ getD (getD ls j []) i 0
+unfolding joined sum Sized
+joined-at [] [] s j i h = absurd (omega arith)
+joined-at [] (m ∷ ms) s j i h = absurd s
+joined-at (l ∷ ls) [] s j i h = absurd s
+joined-at (l ∷ ls) (m ∷ ms) s zero i h = let z : 0 + i ≡ i = omega arith in rw z (List·getD-append l (joined ls) 0 i (omega (arith, s .0)))
+joined-at (l ∷ ls) (m ∷ ms) s (suc j) i h =
+    let z : m + sum (take j ms) + i ≡ length l + (sum (take j ms) + i) = omega (arith, s .0) in
+    rw z (getD-append-add l (joined ls) (sum (take j ms) + i) 0 ∙ joined-at ls ms (s .1) j i h)
+
+within : (ms : List ℕ) (j i : ℕ) → i < getD ms j 0 → sum (take j ms) + i < sum ms
+unfolding sum
+within [] j i h = absurd (omega arith)
+within (m ∷ ms) zero i h = omega arith
+within (m ∷ ms) (suc j) i h = omega (arith, within ms j i h)
+
+regroup : (a b c d e f g h i j k l m n o p q r s : List ℕ)
+    → a ++ b ++ c ++ d ++ e ++ f ++ g ++ h ++ i ++ j ++ k ++ l ++ m ++ n ++ o ++ p ++ q ++ r ++ s
+    ≡ joined (a ∷ b ∷ c ∷ d ∷ e ∷ f ∷ g ∷ h ∷ i ∷ j ∷ k ∷ l ∷ m ∷ n ∷ o ∷ p ∷ q ∷ r ∷ s ∷ [])
+unfolding joined
+regroup a b c d e f g h i j k l m n o p q r s = simp (append-assoc, append-nil)
+
+abbrev pub Fours : List (List ℕ) → Type 0
+Fours qs = (i : ℕ) → i < length qs → length (getD qs i []) ≡ 4
+
+pub fours-four : (ts : List ℕ) (i : ℕ) → i < length (fours ts) → length (getD (fours ts) i []) ≡ 4
+unfolding fours
+fours-four [] i h = absurd (omega arith)
+fours-four (a ∷ []) i h = absurd (omega arith)
+fours-four (a ∷ b ∷ []) i h = absurd (omega arith)
+fours-four (a ∷ b ∷ c ∷ []) i h = absurd (omega arith)
+fours-four (a ∷ b ∷ c ∷ d ∷ l) zero h = refl
+fours-four (a ∷ b ∷ c ∷ d ∷ l) (suc i) h = fours-four l i (omega arith)
+
+module _ (n : ℕ) (qs : List (List ℕ)) (ss os : List ℕ) (p : ℕ) where
+  unfoldable pub ifHeld : (ℕ → ℕ) → ℕ → ℕ
+  unfolding holdsCell
+  ifHeld f c = elim (ltb c (length ss) && holdsCell n qs ss os p c) [ true ↦ f c | false ↦ 0 ]
+
+  pub held-is : (f : ℕ → ℕ) (c : ℕ) → c < length ss → holdsCell n qs ss os p c ≡ true → ifHeld f c ≡ f c
+  unfolding ifHeld
+  held-is f c h e = rw (lt-ltb c (length ss) h, e, ifHeld)
+
+  pub not-held : (f : ℕ → ℕ) (c : ℕ) → holdsCell n qs ss os p c ≡ false → ifHeld f c ≡ 0
+  unfolding ifHeld
+  not-held f c e = go (ltb c (length ss)) refl
+    where
+      go : (b : Bool) → ltb c (length ss) ≡ b → ifHeld f c ≡ 0
+      go true d = rw (d, e, ifHeld)
+      go false d = rw (d, ifHeld)
+
+  pub no-cell : (f : ℕ → ℕ) (c : ℕ) → length ss ≤ c → ifHeld f c ≡ 0
+  unfolding ifHeld
+  no-cell f c h = rw (le-ltb c (length ss) h, ifHeld)
+
+pub record Stored (n : ℕ) (qs : List (List ℕ)) (ss : List ℕ) (P : ℕ) (os : List ℕ) (p : ℕ) (x : List ℕ) : Type 0 where
+  pub size : length x ≡ full
+  pub stage : field x STAGE ≡ 0
+  pub part : field x PART ≡ p
+  pub parts : field x PARTS ≡ P
+  pub corners : field x CORNERS ≡ n
+  pub coarse : field x COARSE ≡ length qs
+  pub cells : field x CELLS ≡ length ss
+  pub levels : field x LEVELS ≡ length (levelsOf n qs ss)
+  pub round : field x ROUND ≡ 0
+  pub result : field x RESULT ≡ 0
+  pub entries : field x ENTRIES ≡ 0
+  pub total : field x TOTAL ≡ 0
+  pub high : field x HIGH ≡ 0
+  pub cursor : field x CURSOR ≡ 0
+  pub bit : field x BIT ≡ 0
+  pub written : field x WRITTEN ≡ 0
+  pub first-cell : (k : ℕ) → k < 12 → field x (FIRST-CELL + k) ≡ cellsBelow n qs ss k
+  pub first-slot : (k : ℕ) → k < 12 → field x (FIRST-SLOT + k) ≡ slotsBelow n qs ss k
+  pub taken : (q : ℕ) → 1 ≤ q → q ≤ 16 → field x (TAKEN + q) ≡ 0
+  pub ended : (q : ℕ) → 1 ≤ q → q ≤ 16 → field x (ENDED + q) ≡ 0
+  pub given : (b : ℕ) → b < 16 → field x (GIVEN + b) ≡ 0
+  pub owner : (c : ℕ) → c < 4096 → field x (OWNER + c) ≡ ifHeld n qs ss os p (λ c. getD os c 0) c
+  pub family : (c : ℕ) → c < 4096 → field x (FAMILY + c) ≡ ifHeld n qs ss os p (familyOf n qs ss os) c
+  pub status : (c : ℕ) → c < 4096 → field x (STATUS + c) ≡ ifHeld n qs ss os p (λ c. getD ss c 0) c
+  pub regular : (c : ℕ) → c < 4096 → field x (REGULAR + c) ≡ ifHeld n qs ss os p (λ c. one-if (nthCell n qs ss c .regular)) c
+  pub child : (c : ℕ) → c < 4096 → field x (CHILD + c) ≡ ifHeld n qs ss os p (firstChild n qs ss) c
+  pub parent : (c : ℕ) → c < 4096 → field x (PARENT + c) ≡ ifHeld n qs ss os p (λ c. nthCell n qs ss c .parent) c
+  pub head : (c : ℕ) → c < 4096 → field x (HEAD + c) ≡ ifHeld n qs ss os p (λ c. placeOf (nthCell n qs ss c .path) .head) c
+  pub digits : (c : ℕ) → c < 4096 → field x (DIGITS + c) ≡ ifHeld n qs ss os p (λ c. placeOf (nthCell n qs ss c .path) .digits) c
+  pub more : (c : ℕ) → c < 4096 → field x (MORE + c) ≡ ifHeld n qs ss os p (λ c. placeOf (nthCell n qs ss c .path) .more) c
+  pub inner : (c : ℕ) → c < 4096 → field x (INNER + c) ≡ ifHeld n qs ss os p (innerBits n qs ss) c
+  pub mark : (c : ℕ) → c < 4096 → field x (MARK + c) ≡ 0
+  pub red : (c : ℕ) → c < 4096 → field x (RED + c) ≡ 0
+  pub corner : (i k : ℕ) → i < 256 → k < 4 → field x (CORNER + (4 * i + k)) ≡ getD (fourOf n qs ss P os p i) k 0
+  pub four : (i : ℕ) → i < 256 → take 4 (drop (CORNER + 4 * i) x) ≡ fourOf n qs ss P os p i
+  pub slot : (c e : ℕ) → c < 4096 → e < 6 → field x (SLOT + (6 * c + e)) ≡ ifHeld n qs ss os p (λ d. slotOf n qs ss d e) c
+  pub holders : (s : ℕ) → s < 24576 → field x (HOLDERS + s) ≡ holdersAt n qs ss P os p s
+  pub sums : (s : ℕ) → s < 24576 → field x (SUM + s) ≡ 0
+
+sizes : List ℕ
+sizes = 16 ∷ 12 ∷ 12 ∷ 72 ∷ 4096 ∷ 4096 ∷ 4096 ∷ 4096 ∷ 4096 ∷ 4096 ∷ 4096 ∷ 4096 ∷ 4096 ∷ 4096 ∷ 8192 ∷ 1024 ∷ 24576 ∷ 24576 ∷ 24576 ∷ []
+
+flat-field : (f : ℕ → List ℕ) (w m : ℕ) → ((i : ℕ) → i < m → length (f i) ≡ w) → (i e : ℕ) → i < m → e < w
+    → getD (flatMap f (range 0 m)) (w * i + e) 0 ≡ getD (f i) e 0
+flat-field f w m all i e h k =
+    sym (getD-drop (w * i) (flatMap f (range 0 m)) e 0)
+    ∙ sym (getD-take w (drop (w * i) (flatMap f (range 0 m))) e 0 k)
+    ∙ ap (λ (l : List ℕ). getD l e 0) (flat-part f w m all m i (omega arith) h)
+
+module _ (n : ℕ) (qs : List (List ℕ)) (ss : List ℕ) (P : ℕ) (os : List ℕ) (p : ℕ) where
+  abbrev column : (ℕ → ℕ) → List ℕ
+  column f = byCell n qs ss P os p f
+
+  lines : List (List ℕ)
+  lines =
+      (0 ∷ p ∷ P ∷ n ∷ length qs ∷ length ss ∷ length (levelsOf n qs ss) ∷ replicate 9 0)
+      ∷ map (cellsBelow n qs ss) (range 0 12) ∷ map (slotsBelow n qs ss) (range 0 12) ∷ replicate 72 0
+      ∷ column (λ c. getD os c 0) ∷ column (familyOf n qs ss os)
+      ∷ column (λ c. getD ss c 0) ∷ column (λ c. one-if (nthCell n qs ss c .regular))
+      ∷ column (firstChild n qs ss) ∷ column (λ c. nthCell n qs ss c .parent)
+      ∷ column (λ c. placeOf (nthCell n qs ss c .path) .head) ∷ column (λ c. placeOf (nthCell n qs ss c .path) .digits)
+      ∷ column (λ c. placeOf (nthCell n qs ss c .path) .more)
+      ∷ column (innerBits n qs ss) ∷ replicate 8192 0
+      ∷ flatMap (fourOf n qs ss P os p) (range 0 256) ∷ flatMap (sixOf n qs ss P os p) (range 0 4096)
+      ∷ map (holdersAt n qs ss P os p) (range 0 24576) ∷ replicate 24576 0 ∷ []
+
+  store-lines : partStore n qs ss P os p ≡ joined lines
+  unfolding partStore lines
+  store-lines =
+      regroup (0 ∷ p ∷ P ∷ n ∷ length qs ∷ length ss ∷ length (levelsOf n qs ss) ∷ replicate 9 0)
+      (map (cellsBelow n qs ss) (range 0 12)) (map (slotsBelow n qs ss) (range 0 12)) (replicate 72 0)
+      (column (λ c. getD os c 0)) (column (familyOf n qs ss os))
+      (column (λ c. getD ss c 0)) (column (λ c. one-if (nthCell n qs ss c .regular)))
+      (column (firstChild n qs ss)) (column (λ c. nthCell n qs ss c .parent))
+      (column (λ c. placeOf (nthCell n qs ss c .path) .head)) (column (λ c. placeOf (nthCell n qs ss c .path) .digits))
+      (column (λ c. placeOf (nthCell n qs ss c .path) .more))
+      (column (innerBits n qs ss)) (replicate 8192 0)
+      (flatMap (fourOf n qs ss P os p) (range 0 256)) (flatMap (sixOf n qs ss P os p) (range 0 4096))
+      (map (holdersAt n qs ss P os p) (range 0 24576)) (replicate 24576 0)
+
+  column-is : (f : ℕ → ℕ) → column f ≡ map (ifHeld n qs ss os p f) (range 0 4096)
+  unfolding byCell ifHeld
+  column-is f = refl
+
+  column-at : (f : ℕ → ℕ) (c : ℕ) → c < 4096 → getD (column f) c 0 ≡ ifHeld n qs ss os p f c
+  column-at f c h = ap (λ (l : List ℕ). getD l c 0) (column-is f) ∙ map-here (ifHeld n qs ss os p f) 4096 c h
+
+  column-size : (f : ℕ → ℕ) → length (column f) ≡ 4096
+  column-size f = ap length (column-is f) ∙ map-size (ifHeld n qs ss os p f) 4096
+
+  four-size : Fours qs → (i : ℕ) → length (fourOf n qs ss P os p i) ≡ 4
+  unfolding fourOf
+  four-size q i = go (ltb i (length qs)) refl (masterb os p i) refl
+    where
+      go : (a : Bool) → ltb i (length qs) ≡ a → (b : Bool) → masterb os p i ≡ b → length (fourOf n qs ss P os p i) ≡ 4
+      go true d true e = rw (d, e, fourOf) (q i (ltb-true i (length qs) d))
+      go true d false e = rw (d, e, fourOf)
+      go false d b e = rw (d, fourOf)
+
+  six-at : (c e : ℕ) → e < 6 → getD (sixOf n qs ss P os p c) e 0 ≡ ifHeld n qs ss os p (λ d. slotOf n qs ss d e) c
+  unfolding sixOf ifHeld
+  six-at c e h = go (ltb c (length ss) && holdsCell n qs ss os p c) refl
+    where
+      at : (e : ℕ) → e < 6 → getD (map (slotOf n qs ss c) sixEdges) e 0 ≡ slotOf n qs ss c e
+      at zero h = refl
+      at (suc zero) h = refl
+      at (suc (suc zero)) h = refl
+      at (suc (suc (suc zero))) h = refl
+      at (suc (suc (suc (suc zero)))) h = refl
+      at (suc (suc (suc (suc (suc zero))))) h = refl
+      at (suc (suc (suc (suc (suc (suc e)))))) h = absurd (omega arith)
+
+      go : (b : Bool) → (ltb c (length ss) && holdsCell n qs ss os p c) ≡ b
+          → getD (sixOf n qs ss P os p c) e 0 ≡ ifHeld n qs ss os p (λ d. slotOf n qs ss d e) c
+      go true d = rw (d, sixOf, ifHeld) (at e h)
+      go false d = rw (d, sixOf, ifHeld) (getD-replicate 6 e 0 0 h)
+
+  six-size : (c : ℕ) → length (sixOf n qs ss P os p c) ≡ 6
+  unfolding sixOf
+  six-size c = go (ltb c (length ss) && holdsCell n qs ss os p c) refl
+    where
+      go : (b : Bool) → (ltb c (length ss) && holdsCell n qs ss os p c) ≡ b → length (sixOf n qs ss P os p c) ≡ 6
+      go true d = rw (d, sixOf)
+      go false d = rw (d, sixOf)
+
+  sized : Fours qs → Sized lines sizes
+  unfolding lines sizes Sized
+  sized q = (
+    refl,
+    (
+      map-size (cellsBelow n qs ss) 12,
+      (
+        map-size (slotsBelow n qs ss) 12,
+        (
+          length-replicate {A = ℕ} 72 0,
+          (
+            column-size (λ c. getD os c 0),
+            (
+              column-size (familyOf n qs ss os),
+              (
+                column-size (λ c. getD ss c 0),
+                (
+                  column-size (λ c. one-if (nthCell n qs ss c .regular)),
+                  (
+                    column-size (firstChild n qs ss),
+                    (
+                      column-size (λ c. nthCell n qs ss c .parent),
+                      (
+                        column-size (λ c. placeOf (nthCell n qs ss c .path) .head),
+                        (
+                          column-size (λ c. placeOf (nthCell n qs ss c .path) .digits),
+                          (
+                            column-size (λ c. placeOf (nthCell n qs ss c .path) .more),
+                            (
+                              column-size (innerBits n qs ss),
+                              (
+                                length-replicate {A = ℕ} 8192 0,
+                                (
+                                  flat-length (fourOf n qs ss P os p) 4 256 (λ i h. four-size q i) 0 256 (omega arith),
+                                  (
+                                    flat-length (sixOf n qs ss P os p) 6 4096 (λ i h. six-size i) 0 4096 (omega arith),
+                                    (
+                                      map-size (holdersAt n qs ss P os p) 24576,
+                                      (length-replicate {A = ℕ} 24576 0, tt),
+                                    ),
+                                  ),
+                                ),
+                              ),
+                            ),
+                          ),
+                        ),
+                      ),
+                    ),
+                  ),
+                ),
+              ),
+            ),
+          ),
+        ),
+      ),
+    ),
+  )
+
+  pub store-length : Fours qs → length (partStore n qs ss P os p) ≡ CODE
+  unfolding sizes sum
+  store-length q = ap length store-lines ∙ joined-length lines sizes (sized q)
+
+  module _ (q : Fours qs) (x : List ℕ) (rest : List ℕ) (made : x ≡ partStore n qs ss P os p ++ rest) where
+    line : (j i : ℕ) → i < getD sizes j 0 → getD x (sum (take j sizes) + i) 0 ≡ getD (getD lines j []) i 0
+    line j i h =
+        let l : sum sizes ≡ CODE = sym (joined-length lines sizes (sized q)) ∙ sym (ap length store-lines) ∙ store-length q in
+        let k : sum (take j sizes) + i < length (partStore n qs ss P os p) = omega (arith, within sizes j i h, store-length q) in
+        ap (λ (l : List ℕ). getD l (sum (take j sizes) + i) 0) made
+        ∙ List·getD-append (partStore n qs ss P os p) rest 0 (sum (take j sizes) + i) k
+        ∙ ap (λ (l : List ℕ). getD l (sum (take j sizes) + i) 0) store-lines
+        ∙ joined-at lines sizes (sized q) j i h
+
+    col : (j c : ℕ) → c < 4096 → (f : ℕ → ℕ) → getD sizes j 0 ≡ 4096 → getD lines j [] ≡ column f
+        → getD x (sum (take j sizes) + c) 0 ≡ ifHeld n qs ss os p f c
+    col j c h f s e = line j c (omega arith) ∙ ap (λ (l : List ℕ). getD l c 0) e ∙ column-at f c h
+
+    pub stored-front : length rest ≡ full - CODE → Stored n qs ss P os p x
+    unfolding lines sizes sum
+    stored-front r =
+        record {
+          size = ap length made ∙ simp length-append (omega (arith, r, store-length q));
+          stage = line 0 0 (omega arith);
+          part = line 0 1 (omega arith);
+          parts = line 0 2 (omega arith);
+          corners = line 0 3 (omega arith);
+          coarse = line 0 4 (omega arith);
+          cells = line 0 5 (omega arith);
+          levels = line 0 6 (omega arith);
+          round = line 0 7 (omega arith);
+          result = line 0 8 (omega arith);
+          entries = line 0 9 (omega arith);
+          total = line 0 10 (omega arith);
+          high = line 0 11 (omega arith);
+          cursor = line 0 12 (omega arith);
+          bit = line 0 13 (omega arith);
+          written = line 0 14 (omega arith);
+          first-cell = λ k h. line 1 k h ∙ map-here (cellsBelow n qs ss) 12 k h;
+          first-slot = λ k h. line 2 k h ∙ map-here (slotsBelow n qs ss) 12 k h;
+          taken = λ k a b. let z : 63 + k ≡ 40 + (23 + k) = omega arith in free (63 + k) (23 + k) z (omega arith);
+          ended = λ k a b. let z : 79 + k ≡ 40 + (39 + k) = omega arith in free (79 + k) (39 + k) z (omega arith);
+          given = λ k b. let z : 96 + k ≡ 40 + (56 + k) = omega arith in free (96 + k) (56 + k) z (omega arith);
+          owner = λ c h. col 4 c h (λ c. getD os c 0) refl refl;
+          family = λ c h. col 5 c h (familyOf n qs ss os) refl refl;
+          status = λ c h. col 6 c h (λ c. getD ss c 0) refl refl;
+          regular = λ c h. col 7 c h (λ c. one-if (nthCell n qs ss c .regular)) refl refl;
+          child = λ c h. col 8 c h (firstChild n qs ss) refl refl;
+          parent = λ c h. col 9 c h (λ c. nthCell n qs ss c .parent) refl refl;
+          head = λ c h. col 10 c h (λ c. placeOf (nthCell n qs ss c .path) .head) refl refl;
+          digits = λ c h. col 11 c h (λ c. placeOf (nthCell n qs ss c .path) .digits) refl refl;
+          more = λ c h. col 12 c h (λ c. placeOf (nthCell n qs ss c .path) .more) refl refl;
+          inner = λ c h. col 13 c h (innerBits n qs ss) refl refl;
+          mark = λ c h. zeros (41072 + c) c refl (omega arith);
+          red = λ c h. let z : 45168 + c ≡ 41072 + (4096 + c) = omega arith in zeros (45168 + c) (4096 + c) z (omega arith);
+          corner = λ i k h l. line 15 (4 * i + k) (omega arith) ∙ flat-field (fourOf n qs ss P os p) 4 256 (λ i h. four-size q i) i k h l;
+          four = λ i h. four-is i h;
+          slot = λ c e h l.
+              line 16 (6 * c + e) (omega arith) ∙ flat-field (sixOf n qs ss P os p) 6 4096 (λ i h. six-size i) c e h l ∙ six-at c e l;
+          holders = λ i h. line 17 i h ∙ map-here (holdersAt n qs ss P os p) 24576 i h;
+          sums = λ i h. line 18 i h ∙ getD-replicate 24576 i 0 0 h;
+        }
+      where
+        free : (k i : ℕ) → k ≡ 40 + i → i < 72 → field x k ≡ 0
+        free k i z h = rw z (line 3 i h ∙ getD-replicate 72 i 0 0 h)
+
+        zeros : (k i : ℕ) → k ≡ 41072 + i → i < 8192 → field x k ≡ 0
+        zeros k i z h = rw z (line 14 i h ∙ getD-replicate 8192 i 0 0 h)
+
+        -- four numbers in a row
+        four-is : (i : ℕ) → i < 256 → take 4 (drop (CORNER + 4 * i) x) ≡ fourOf n qs ss P os p i
+        four-is i h =
+            let s : length x ≡ full = ap length made ∙ simp length-append (omega (arith, r, store-length q)) in
+            let l : length (drop (CORNER + 4 * i) x) ≡ length x - (CORNER + 4 * i) = length-drop (CORNER + 4 * i) x in
+            let t : length (take 4 (drop (CORNER + 4 * i) x)) ≡ 4 = length-take-le 4 (drop (CORNER + 4 * i) x) (omega arith) in
+            ext-getD 0 (take 4 (drop (CORNER + 4 * i) x)) (fourOf n qs ss P os p i) (t ∙ sym (four-size q i))
+            (λ k u.
+            let v : k < 4 = omega arith in
+            let z : CORNER + 4 * i + k ≡ CORNER + (4 * i + k) = omega arith in
+            getD-take 4 (drop (CORNER + 4 * i) x) k 0 v ∙ getD-drop (CORNER + 4 * i) x k 0 ∙ ap (field x) z
+            ∙ line 15 (4 * i + k) (omega arith) ∙ flat-field (fourOf n qs ss P os p) 4 256 (λ i h. four-size q i) i k h v)
+
+rest-size : (w k i : ℕ) (b : List ℕ) → i + w ≤ length b → length (drop k (take w (drop i b))) ≡ w - k
+rest-size w k i b h =
+    let t : length (take w (drop i b)) ≡ w = length-take-le w (drop i b) (simp length-drop (omega arith)) in
+    length-drop k (take w (drop i b)) ∙ ap (λ (m : ℕ). m - k) t
+
+-- the store with the number j, from 0
+abbrev pub storeAt : List ℕ → ℕ → List ℕ
+storeAt b j = take full (drop (full * j) b)
+
+module _ (n : ℕ) (qs : List (List ℕ)) (ss : List ℕ) (P : ℕ) (os b : List ℕ) (q : Fours qs) (few : P ≤ 16) (room : 16 * full ≤ length b)
+  where
+    new : ℕ → List ℕ
+    new j = partStore n qs ss P os (suc j) ++ drop CODE (storeAt b j)
+
+    after-is : storesAfter n qs ss P os b ≡ flatMap new (range 0 P) ++ drop (full * P) b
+    unfolding storesAfter new
+    after-is = refl
+
+    rest-length : (j : ℕ) → j < P → length (drop CODE (storeAt b j)) ≡ full - CODE
+    rest-length j h = rest-size full CODE (full * j) b (omega arith)
+
+    new-length : (j : ℕ) → j < P → length (new j) ≡ full
+    unfolding new
+    new-length j h =
+        length-append (partStore n qs ss P os (suc j)) (drop CODE (storeAt b j))
+        ∙ ap₂ _+_ (store-length n qs ss P os (suc j) q) (rest-length j h)
+
+    all-length : length (flatMap new (range 0 P)) ≡ full * P
+    all-length = flat-length new full P new-length 0 P (omega arith)
+
+    pub stores-length : length (storesAfter n qs ss P os b) ≡ length b
+    stores-length =
+        ap length after-is ∙ length-append (flatMap new (range 0 P)) (drop (full * P) b)
+        ∙ omega (arith, all-length, length-drop (full * P) b)
+
+    pub stores-behind : drop (full * P) (storesAfter n qs ss P os b) ≡ drop (full * P) b
+    stores-behind = ap (drop (full * P)) after-is ∙ drop-at (flatMap new (range 0 P)) (drop (full * P) b) (full * P) all-length
+
+    pub store-cut : (j : ℕ) → j < P
+        → storeAt (storesAfter n qs ss P os b) j ≡ partStore n qs ss P os (suc j) ++ drop CODE (storeAt b j)
+    unfolding new
+    store-cut j h =
+        let a = flatMap new (range 0 P) in
+        let l : length (flatMap new (range 0 P)) ≡ full * P = all-length in
+        let d : length (drop (full * j) (flatMap new (range 0 P))) ≡ length (flatMap new (range 0 P)) - full * j
+        = length-drop (full * j) (flatMap new (range 0 P)) in
+        ap (λ (l : List ℕ). take full (drop (full * j) l)) after-is
+        ∙ ap (take full) (drop-append-le (full * j) a (drop (full * P) b) (omega arith))
+        ∙ take-append-le full (drop (full * j) a) (drop (full * P) b) (omega arith)
+        ∙ flat-part new full P new-length P j (omega arith) h
+
+    pub stored-split : (j : ℕ) → j < P → Stored n qs ss P os (suc j) (storeAt (storesAfter n qs ss P os b) j)
+    stored-split j h =
+        stored-front n qs ss P os (suc j) q (storeAt (storesAfter n qs ss P os b) j) (drop CODE (storeAt b j)) (store-cut j h)
+        (rest-length j h)
+
+    pub rest-kept : (j : ℕ) → j < P → drop CODE (storeAt (storesAfter n qs ss P os b) j) ≡ drop CODE (storeAt b j)
+    rest-kept j h =
+        ap (drop CODE) (store-cut j h)
+        ∙ drop-at (partStore n qs ss P os (suc j)) (drop CODE (storeAt b j)) CODE (store-length n qs ss P os (suc j) q)
