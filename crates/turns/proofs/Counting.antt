@@ -15,7 +15,7 @@ use Rattle.turns.specs.Tally.{tallyOne}
 use Rattle.turns.specs.Post.{posted, besides, countOne, postEnd}
 use Rattle.turns.specs.Start.{levelFrom}
 use Rattle.turns.specs.Step.{slotFrom, tallied, enterCounts}
-use Rattle.turns.proofs.Posting.{posted-head}
+use Rattle.turns.specs.Heads.{posted-head}
 use Rattle.turns.proofs.Tallying.{tally-head}
 
 module _ (x : List ℕ) (m : ℕ) where

@@ -1,26 +1,17 @@
 -- The tests of `Decide`, as the code makes them.
-use mathlib.Core.Path.{_≡_, refl, sym, _∙_, ap, ap₂}
+use mathlib.Core.Path.{_≡_, refl, sym, _∙_, ap}
 use mathlib.Core.Bool.{Bool, true, false, _&&_, not}
 use mathlib.Core.List.{List}
-use Prim.Native.Nat.{ℕ, _+_, _/_, _%_, _^_, _≤_, _<_}
-use lib.Dec.{T, eqb, ltb, ltb→lt}
-use borrow.Author.Tests.{eq-eqb, ne-eqb, lt-ltb, le-ltb}
-use Rattle.base.specs.Bools.{one-if, and-left}
-use Rattle.store.specs.Fields.{field, PART, CELLS, FAMILY, STATUS, REGULAR, CHILD, PARENT, INNER, MARK, RED, SUM}
+use Prim.Native.Nat.{ℕ, _+_, _-_, _/_, _%_, _^_, _≤_, _<_, min}
+use lib.Dec.{eqb}
+use borrow.Author.Tests.{eq-eqb, ne-eqb, lt-ltb, le-ltb, le-leb, lt-leb}
+use Rattle.mesh.specs.Table.{sizeOf}
+use Rattle.store.specs.Fields.{field, PART, CELLS, FAMILY, STATUS, REGULAR, CHILD, INNER, MARK, RED, SUM}
 use Rattle.store.specs.Fetch.{bitb}
-use Rattle.turns.specs.Loops.{someFrom, runSome, SameHead, head-self, head-set}
-use Rattle.turns.specs.Decide.{slotAt, hitb, hitOf, pullOf, idleKid, pulledKid, kidb, busyb, ruleb, decideOne}
+use Rattle.turns.specs.Loops.{someFrom, SameHead, head-self, head-set}
+use Rattle.turns.specs.Decide.{slotAt, hitb, hitOf, pullOf, idleKid, pulledKid, kidCount, busyb, ruleb, decideOne}
 use lib.ListN.{set}
 use native.Mathlib.Omega.{arith}
-
--- a flag as a number
-pub one-true : (r : Bool) → r ≡ true → 1 ≡ one-if r
-unfolding one-if
-one-true r e = ap one-if (sym e)
-
-pub one-false : (r : Bool) → r ≡ false → 0 ≡ one-if r
-unfolding one-if
-one-false r e = ap one-if (sym e)
 
 not-not : (b : Bool) → b ≡ not (not b)
 not-not true = refl
@@ -35,25 +26,17 @@ module _ (x : List ℕ) where
   unfolding hitb
   hit-inside s h = rw (lt-ltb s 24576 h, hitb)
 
-  pub hit-edge : (c e s : ℕ) (r : Bool) → s ≡ slotAt x c e → r ≡ hitb x s → hitOf x c e ≡ r
+  pub hit-edge : (c e s : ℕ) (r : Bool) → s ≡ slotAt x c e → r ≡ hitb x s → r ≡ hitOf x c e
   unfolding hitOf
-  hit-edge c e s r i j = sym (j ∙ ap (hitb x) i)
-
-  pub kid-beyond : (c d : ℕ) → field x CELLS ≤ d → false ≡ kidb x c d
-  unfolding kidb
-  kid-beyond c d h = rw (le-ltb d (field x CELLS) h, kidb)
-
-  pub kid-inside : (c d : ℕ) → d < field x CELLS → eqb (field x (PARENT + d)) c ≡ kidb x c d
-  unfolding kidb
-  kid-inside c d h = rw (lt-ltb d (field x CELLS) h, kidb)
+  hit-edge c e s r i j = j ∙ ap (hitb x) i
 
   pub pull-not : (c e : ℕ) → (field x (INNER + c) / 2 ^ e % 2 ≡ 1 → ⊥) → false ≡ pullOf x c e
   unfolding pullOf bitb
   pull-not c e h = rw (ne-eqb (field x (INNER + c) / 2 ^ e % 2) 1 h, pullOf)
 
-  pub pull-is : (c e s : ℕ) (r : Bool) → field x (INNER + c) / 2 ^ e % 2 ≡ 1 → s ≡ slotAt x c e → r ≡ hitb x s → r ≡ pullOf x c e
+  pub pull-is : (c e : ℕ) (r : Bool) → field x (INNER + c) / 2 ^ e % 2 ≡ 1 → r ≡ hitOf x c e → r ≡ pullOf x c e
   unfolding pullOf bitb
-  pull-is c e s r h i j = sym (hit-edge c e s r i j) ∙ rw (eq-eqb (field x (INNER + c) / 2 ^ e % 2) 1 h, pullOf)
+  pull-is c e r h i = i ∙ rw (eq-eqb (field x (INNER + c) / 2 ^ e % 2) 1 h, pullOf)
 
   module _ (d : ℕ) where
     pub busy-status : (field x (STATUS + d) ≡ 0 → ⊥) → true ≡ busyb x d
@@ -78,53 +61,66 @@ module _ (x : List ℕ) where
     pulled-edge r h e = e ∙ rw (ne-eqb (field x (MARK + d)) 1 h, pulledKid)
 
   module _ (c : ℕ) where
-    pub flag-red : (r : Bool) → field x (STATUS + c) ≡ 64 → r ≡ runSome (kidb x c) (busyb x) 8 (field x (CHILD + c))
-        → one-if r ≡ one-if (ruleb x c)
-    unfolding ruleb
-    flag-red r s e = ap one-if (e ∙ rw (eq-eqb (field x (STATUS + c)) 64 s, ruleb))
+    -- how many children
+    pub kids-wrong : 64 < field x (STATUS + c) → 0 ≡ kidCount x c
+    unfolding kidCount
+    kids-wrong h = rw (lt-leb (field x (STATUS + c)) 64 h, kidCount) (omega arith)
 
-    pub flag-green : (r : Bool) → (field x (STATUS + c) ≡ 64 → ⊥) → (field x (STATUS + c) ≡ 0 → ⊥)
-        → r ≡ runSome (kidb x c) (pulledKid x) 8 (field x (CHILD + c)) → one-if r ≡ one-if (ruleb x c)
+    module _ (h : field x (STATUS + c) ≤ 64) where
+      kids-is : kidCount x c ≡ min (sizeOf (field x (STATUS + c))) (field x CELLS - field x (CHILD + c))
+      unfolding kidCount
+      kids-is = rw (le-leb (field x (STATUS + c)) 64 h, kidCount)
+
+      pub kids-beyond : field x CELLS ≤ field x (CHILD + c) → 0 ≡ kidCount x c
+      kids-beyond g = rw kids-is (omega arith)
+
+      pub kids-all : (n : ℕ) → n ≡ sizeOf (field x (STATUS + c)) → n < field x CELLS - field x (CHILD + c) → n ≡ kidCount x c
+      kids-all n e g = rw (kids-is, ← e) (omega arith)
+
+      pub kids-cut : (n : ℕ) → n ≡ sizeOf (field x (STATUS + c)) → field x CELLS - field x (CHILD + c) ≤ n
+          → field x CELLS - field x (CHILD + c) ≡ kidCount x c
+      kids-cut n e g = rw (kids-is, ← e) (omega arith)
+
+    pub kids-inside : kidCount x c ≤ field x CELLS - field x (CHILD + c)
+    unfolding kidCount
+    kids-inside = omega arith
+
+    pub rule-red : (r : Bool) → field x (STATUS + c) ≡ 64 → r ≡ someFrom (busyb x) (kidCount x c) (field x (CHILD + c)) → r ≡ ruleb x c
     unfolding ruleb
-    flag-green r s t e = ap one-if (e ∙ rw (ne-eqb (field x (STATUS + c)) 64 s, ne-eqb (field x (STATUS + c)) 0 t, ruleb))
+    rule-red r s e = e ∙ rw (eq-eqb (field x (STATUS + c)) 64 s, ruleb)
+
+    pub rule-green : (r : Bool) → (field x (STATUS + c) ≡ 64 → ⊥) → (field x (STATUS + c) ≡ 0 → ⊥)
+        → r ≡ someFrom (pulledKid x) (kidCount x c) (field x (CHILD + c)) → r ≡ ruleb x c
+    unfolding ruleb
+    rule-green r s t e = e ∙ rw (ne-eqb (field x (STATUS + c)) 64 s, ne-eqb (field x (STATUS + c)) 0 t, ruleb)
 
     module _ (s : field x (STATUS + c) ≡ 0) where
       leaf : ruleb x c ≡ (eqb (field x (REGULAR + c)) 1 && eqb (field x (MARK + c)) 1)
       unfolding ruleb
       leaf = rw (ne-eqb (field x (STATUS + c)) 64 (λ z. absurd (omega (arith, z, s))), eq-eqb (field x (STATUS + c)) 0 s, ruleb)
 
-      pub flag-green-child : (field x (REGULAR + c) ≡ 1 → ⊥) → 0 ≡ one-if (ruleb x c)
-      unfolding one-if
-      flag-green-child h = sym (ap one-if (leaf ∙ ap (λ (b : Bool). b && eqb (field x (MARK + c)) 1) (ne-eqb (field x (REGULAR + c)) 1 h)))
+      pub rule-green-child : (field x (REGULAR + c) ≡ 1 → ⊥) → false ≡ ruleb x c
+      rule-green-child h = sym (leaf ∙ ap (λ (b : Bool). b && eqb (field x (MARK + c)) 1) (ne-eqb (field x (REGULAR + c)) 1 h))
 
-      pub flag-unmarked : field x (REGULAR + c) ≡ 1 → (field x (MARK + c) ≡ 1 → ⊥) → 0 ≡ one-if (ruleb x c)
-      unfolding one-if
-      flag-unmarked h m = sym (ap one-if (leaf ∙ ap₂ _&&_ (eq-eqb (field x (REGULAR + c)) 1 h) (ne-eqb (field x (MARK + c)) 1 m)))
+      pub rule-leaf : field x (REGULAR + c) ≡ 1 → eqb (field x (MARK + c)) 1 ≡ ruleb x c
+      rule-leaf h = sym (leaf ∙ ap (λ (b : Bool). b && eqb (field x (MARK + c)) 1) (eq-eqb (field x (REGULAR + c)) 1 h))
 
-      pub flag-marked : field x (REGULAR + c) ≡ 1 → field x (MARK + c) ≡ 1 → 1 ≡ one-if (ruleb x c)
-      unfolding one-if
-      flag-marked h m = sym (ap one-if (leaf ∙ ap₂ _&&_ (eq-eqb (field x (REGULAR + c)) 1 h) (eq-eqb (field x (MARK + c)) 1 m)))
-
-    pub decide-here : (r : ℕ) → field x (FAMILY + c) ≡ field x PART → r ≡ one-if (ruleb x c) → set x (RED + c) r ≡ decideOne x c
+    pub decide-here : (r : Bool) → field x (FAMILY + c) ≡ field x PART → r ≡ ruleb x c → r ≡ true → set x (RED + c) 1 ≡ decideOne x c
     unfolding decideOne
-    decide-here r h e = rw e (rw (eq-eqb (field x (FAMILY + c)) (field x PART) h, decideOne))
+    decide-here r h e t = let z : ruleb x c ≡ true = sym e ∙ t in rw (eq-eqb (field x (FAMILY + c)) (field x PART) h, z, decideOne)
+
+    pub decide-not : (r : Bool) → field x (FAMILY + c) ≡ field x PART → r ≡ ruleb x c → r ≡ false → x ≡ decideOne x c
+    unfolding decideOne
+    decide-not r h e t = let z : ruleb x c ≡ false = sym e ∙ t in rw (eq-eqb (field x (FAMILY + c)) (field x PART) h, z, decideOne)
 
     pub decide-else : (field x (FAMILY + c) ≡ field x PART → ⊥) → x ≡ decideOne x c
     unfolding decideOne
     decide-else h = rw (ne-eqb (field x (FAMILY + c)) (field x PART) h, decideOne)
 
-    decide-both : (C : List ℕ → Type 0) → C x → C (set x (RED + c) (one-if (ruleb x c))) → C (decideOne x c)
-    unfolding decideOne
-    decide-both C a b = go (eqb (field x (FAMILY + c)) (field x PART)) refl
-      where
-        go : (t : Bool) → eqb (field x (FAMILY + c)) (field x PART) ≡ t → C (decideOne x c)
-        go true e = rw (e, decideOne) b
-        go false e = rw (e, decideOne) a
-
     pub decide-head : SameHead x (decideOne x c)
-    decide-head = decide-both (SameHead x) (head-self x) (head-set x (RED + c) (one-if (ruleb x c)) (omega arith))
-
-pub kid-low : (x : List ℕ) (c d : ℕ) → kidb x c d ≡ true → d < field x CELLS
-unfolding kidb
-kid-low x c d e = let t : T (kidb x c d) = rw e tt in
-    ltb→lt d (field x CELLS) (and-left (ltb d (field x CELLS)) (eqb (field x (PARENT + d)) c) t)
+    unfolding decideOne
+    decide-head = go (eqb (field x (FAMILY + c)) (field x PART) && ruleb x c) refl
+      where
+        go : (t : Bool) → (eqb (field x (FAMILY + c)) (field x PART) && ruleb x c) ≡ t → SameHead x (decideOne x c)
+        go true e = rw (e, decideOne) (head-set x (RED + c) 1 (omega arith))
+        go false e = rw (e, decideOne) (head-self x)

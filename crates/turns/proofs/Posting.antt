@@ -11,6 +11,7 @@ use Rattle.base.specs.Lists.{belowb, belowb-at}
 use Rattle.store.specs.Fields.{field, PART, WRITTEN, OWNER, FAMILY, RED, CODE, VALUE, RECEIVERS}
 use Rattle.turns.specs.Loops.{SameHead, head-self, head-on, head-set}
 use Rattle.turns.specs.Post.{entered, posted, ghostAt, markOne}
+use Rattle.turns.specs.Heads.{posted-head}
 
 -- the bit of a part
 pub power-few : (k : ℕ) → k < 16 → 2 ^ k < 65536
@@ -41,25 +42,6 @@ module _ (x : List ℕ) (k v m : ℕ) where
       (field x WRITTEN + 1) ≡ posted x k v m
   unfolding posted entered
   posted-here n h = rw (ne-eqb m 0 n, lt-ltb (field x WRITTEN) 28696 h, posted)
-
-  entered-head : SameHead x (entered x k v m)
-  unfolding entered
-  entered-head =
-      let n = field x WRITTEN in
-      let a = set x (CODE + field x WRITTEN) k in
-      let b = set a (VALUE + field x WRITTEN) v in
-      let d = set b (RECEIVERS + field x WRITTEN) m in
-      head-on x a (set d WRITTEN (n + 1)) (head-set x (CODE + n) k (omega arith))
-      (head-on a b (set d WRITTEN (n + 1)) (head-set a (VALUE + n) v (omega arith))
-      (head-on b d (set d WRITTEN (n + 1)) (head-set b (RECEIVERS + n) m (omega arith)) (head-set d WRITTEN (n + 1) (omega arith))))
-
-  pub posted-head : SameHead x (posted x k v m)
-  unfolding posted
-  posted-head = go (not (eqb m 0) && ltb (field x WRITTEN) 28696) refl
-    where
-      go : (t : Bool) → (not (eqb m 0) && ltb (field x WRITTEN) 28696) ≡ t → SameHead x (posted x k v m)
-      go true e = rw (e, posted) entered-head
-      go false e = rw (e, posted) (head-self x)
 
 module _ (x : List ℕ) (c : ℕ) where
   pub mark-family : (field x (FAMILY + c) ≡ field x PART → ⊥) → x ≡ markOne x c

@@ -1,12 +1,11 @@
 -- Loops over numbers that follow each other.
 --   someFrom f n e       some of the n numbers from e on passes f
---   runSome k f n e      the same, up to the first that fails k
 --   eachFrom f n c x     x, changed by f at each of the n numbers from c on
--- Laws: one turn and the end of each: some-here, some-on, some-out, run-stop, run-here, run-on, run-out, each-on, each-turn, each-out.
+-- Laws: one turn and the end of each: some-here, some-on, some-out, each-on, each-turn, each-out.
 --   SameHead x y         y has the length and the header of x
 -- Laws: head-self, head-on, head-set, each-head, each-again.
 use mathlib.Core.Path.{_≡_, refl, sym, _∙_, ap, subst}
-use mathlib.Core.Bool.{Bool, true, false, _&&_, _||_}
+use mathlib.Core.Bool.{Bool, true, false, _||_}
 use mathlib.Core.List.{List}
 use Prim.Native.Nat.{ℕ, zero, suc, _-_, _≤_, _<_}
 use native.Mathlib.Omega.{arith}
@@ -16,10 +15,6 @@ use lib.Seq.{getD-set-other}
 unfoldable pub someFrom : (ℕ → Bool) → ℕ → ℕ → Bool
 someFrom f zero e = false
 someFrom f (suc n) e = f e || someFrom f n (suc e)
-
-unfoldable pub runSome : (ℕ → Bool) → (ℕ → Bool) → ℕ → ℕ → Bool
-runSome k f zero e = false
-runSome k f (suc n) e = k e && (f e || runSome k f n (suc e))
 
 unfoldable pub eachFrom : (List ℕ → ℕ → List ℕ) → ℕ → ℕ → List ℕ → List ℕ
 eachFrom f zero c x = x
@@ -44,24 +39,6 @@ module _ (f : ℕ → Bool) (m e : ℕ) where
   pub some-out : m ≤ e → someFrom f (m - e) e ≡ false
   unfolding someFrom
   some-out h = rw (none-left m e h, someFrom)
-
--- here i turns are done, and e is the number that is due
-module _ (k f : ℕ → Bool) (m i e : ℕ) where
-  pub run-stop : i < m → k e ≡ false → runSome k f (m - i) e ≡ false
-  unfolding runSome
-  run-stop h t = rw (one-turn m i h, t, runSome)
-
-  pub run-here : i < m → k e ≡ true → f e ≡ true → runSome k f (m - i) e ≡ true
-  unfolding runSome
-  run-here h s t = rw (one-turn m i h, s, t, runSome)
-
-  pub run-on : i < m → k e ≡ true → f e ≡ false → runSome k f (m - i) e ≡ runSome k f (m - suc i) (suc e)
-  unfolding runSome
-  run-on h s t = rw (one-turn m i h, s, t, runSome)
-
-  pub run-out : m ≤ i → runSome k f (m - i) e ≡ false
-  unfolding runSome
-  run-out h = rw (none-left m i h, runSome)
 
 module _ (f : List ℕ → ℕ → List ℕ) where
   pub each-on : (m c : ℕ) (x : List ℕ) → c < m → eachFrom f (m - c) c x ≡ eachFrom f (m - suc c) (suc c) (f x c)

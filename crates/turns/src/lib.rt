@@ -2,6 +2,7 @@
 // it writes.
 use base::Answer;
 use mail::header_fits;
+use rows::size_of;
 use store::CELLS;
 use store::CHILD;
 use store::CODE;
@@ -14,7 +15,6 @@ use store::INNER;
 use store::LEVELS;
 use store::MARK;
 use store::OWNER;
-use store::PARENT;
 use store::PART;
 use store::PARTS;
 use store::RECEIVERS;
@@ -29,11 +29,10 @@ use store::WRITTEN;
 ghost use mathlib.Core.Path.{_≡_};
 ghost use Prim.Native.Nat.{_+_, _-_, _*_, _^_, _≤_, _<_};
 ghost use lib.ListN.{length};
-ghost use Rattle.base.specs.Bools.{one-if};
 ghost use Rattle.base.specs.Lent.{was, is};
 ghost use Rattle.store.specs.Fields.{field, full};
-ghost use Rattle.turns.specs.Loops.{someFrom, runSome, eachFrom};
-ghost use Rattle.turns.specs.Decide.{slotAt, hitb, hitOf, pullOf, pulledKid, kidb, busyb, ruleb, decideOne};
+ghost use Rattle.turns.specs.Loops.{someFrom, eachFrom};
+ghost use Rattle.turns.specs.Decide.{slotAt, hitb, hitOf, pullOf, pulledKid, kidCount, busyb, ruleb, decideOne};
 ghost use Rattle.turns.specs.Tally.{addOne, addEdge, tallyOne};
 ghost use Rattle.turns.specs.Post.{posted, besides, markOne, countOne, othersOf, postEnd};
 ghost use Rattle.turns.specs.Step.{slotFrom, enterCounts};
@@ -60,6 +59,15 @@ fn is_hit(store: &[u16], slot: usize) -> bool
     store[SUM + slot] != 0
 }
 
+// Whether an edge of a cell is hit.
+pub fn edge_hit(store: &[u16], c: usize, e: usize) -> bool
+    requires { ⌜ (full ≤ length (now store)) × (c < 4096) × (e < 6) ⌝ }
+    ensures { λ r. ⌜ r ≡ hitOf (was store) c e ⌝ }
+{
+    let slot = slot_of(store, c, e);
+    is_hit(store, slot)
+}
+
 // Whether some edge of a cell is hit.
 fn some_hit(store: &[u16], c: usize) -> bool
     requires { ⌜ (full ≤ length (now store)) × (c < 4096) ⌝ }
@@ -67,8 +75,7 @@ fn some_hit(store: &[u16], c: usize) -> bool
 {
     let mut e = 0;
     while e < 6 {
-        let slot = slot_of(store, c, e);
-        if is_hit(store, slot) {
+        if edge_hit(store, c, e) {
             return true;
         }
         e += 1;
@@ -84,8 +91,7 @@ fn is_pull(store: &[u16], c: usize, e: usize) -> bool
     if (store[INNER + c] >> e) % 2 != 1 {
         return false;
     }
-    let slot = slot_of(store, c, e);
-    is_hit(store, slot)
+    edge_hit(store, c, e)
 }
 
 // Whether some edge of a cell is so.
@@ -128,33 +134,41 @@ fn is_pulled(store: &[u16], d: usize) -> bool
     some_pull(store, d)
 }
 
-// Whether d is a child of c.
-fn is_kid(store: &[u16], c: usize, d: usize) -> bool
-    requires { ⌜ (full ≤ length (now store)) × (field (now store) 5 ≤ 4096) ⌝ }
-    ensures { λ r. ⌜ r ≡ kidb (was store) c d ⌝ }
+// How many children a cell has: as many as its status says, and none beyond the number of cells.
+pub fn kid_count(store: &[u16], c: usize) -> usize
+    requires { ⌜ (full ≤ length (now store)) × (c < 4096) ⌝ }
+    ensures { λ r. ⌜ (r ≡ kidCount (was store) c) × (r ≤ 8) ⌝ }
 {
-    if d >= store[CELLS] as usize {
-        return false;
+    let status = store[STATUS + c];
+    if status > 64 {
+        return 0;
     }
-    store[PARENT + d] as usize == c
+    let first = store[CHILD + c] as usize;
+    let cells = store[CELLS] as usize;
+    if first >= cells {
+        return 0;
+    }
+    let size = size_of(status as u8);
+    if size < cells - first {
+        size
+    } else {
+        cells - first
+    }
 }
 
 // Whether some child of a cell is busy.
 fn some_busy(store: &[u16], c: usize) -> bool
     requires { ⌜ (full ≤ length (now store)) × (field (now store) 5 ≤ 4096) × (c < 4096) ⌝ }
-    ensures { λ r. ⌜ r ≡ runSome (kidb (was store) c) (busyb (was store)) 8 (field (was store) (16496 + c)) ⌝ }
+    ensures { λ r. ⌜ r ≡ someFrom (busyb (was store)) (kidCount (was store) c) (field (was store) (16496 + c)) ⌝ }
 {
-    let mut d = store[CHILD + c] as usize;
-    let mut i: usize = 0;
-    while i < 8 {
-        if !is_kid(store, c, d) {
-            return false;
-        }
+    let first = store[CHILD + c] as usize;
+    let last = first + kid_count(store, c);
+    let mut d = first;
+    while d < last {
         if is_busy(store, d) {
             return true;
         }
         d += 1;
-        i += 1;
     }
     false
 }
@@ -162,47 +176,35 @@ fn some_busy(store: &[u16], c: usize) -> bool
 // Whether some child of a cell is pulled.
 fn some_pulled(store: &[u16], c: usize) -> bool
     requires { ⌜ (full ≤ length (now store)) × (field (now store) 5 ≤ 4096) × (c < 4096) ⌝ }
-    ensures { λ r. ⌜ r ≡ runSome (kidb (was store) c) (pulledKid (was store)) 8 (field (was store) (16496 + c)) ⌝ }
+    ensures { λ r. ⌜ r ≡ someFrom (pulledKid (was store)) (kidCount (was store) c) (field (was store) (16496 + c)) ⌝ }
 {
-    let mut d = store[CHILD + c] as usize;
-    let mut i: usize = 0;
-    while i < 8 {
-        if !is_kid(store, c, d) {
-            return false;
-        }
+    let first = store[CHILD + c] as usize;
+    let last = first + kid_count(store, c);
+    let mut d = first;
+    while d < last {
         if is_pulled(store, d) {
             return true;
         }
         d += 1;
-        i += 1;
     }
     false
 }
 
-// Whether a cell will be red: 1 or 0.
-fn flag_of(store: &[u16], c: usize) -> u16
+// Whether a cell will be red.
+fn turns_red(store: &[u16], c: usize) -> bool
     requires { ⌜ (full ≤ length (now store)) × (field (now store) 5 ≤ 4096) × (c < 4096) ⌝ }
-    ensures { λ r. ⌜ r ≡ one-if (ruleb (was store) c) ⌝ }
+    ensures { λ r. ⌜ r ≡ ruleb (was store) c ⌝ }
 {
     if store[STATUS + c] == 64 {
-        if some_busy(store, c) {
-            return 1;
-        }
-        return 0;
+        return some_busy(store, c);
     }
     if store[STATUS + c] != 0 {
-        if some_pulled(store, c) {
-            return 1;
-        }
-        return 0;
+        return some_pulled(store, c);
     }
     if store[REGULAR + c] != 1 {
-        return 0;
+        return false;
     }
-    if store[MARK + c] != 1 {
-        return 0;
-    }
-    1
+    store[MARK + c] == 1
 }
 
 // Decides on a cell, if its family is here.
@@ -213,8 +215,10 @@ fn decide_one(store: &mut [u16], c: usize)
     if store[FAMILY + c] != store[PART] {
         return;
     }
-    let flag = flag_of(store, c);
-    store[RED + c] = flag;
+    if !turns_red(store, c) {
+        return;
+    }
+    store[RED + c] = 1;
 }
 
 // Decides on the cells from `first` to `last`.
@@ -230,7 +234,7 @@ fn decide(store: &mut [u16], first: usize, last: usize)
 }
 
 // Writes an entry behind the others, if it has receivers and there is room.
-fn post(store: &mut [u16], code: u16, value: u16, mask: u16)
+pub fn post(store: &mut [u16], code: u16, value: u16, mask: u16)
     requires { ⌜ full ≤ length (now store) ⌝ }
     ensures { λ r. ⌜ is store ≡ posted (was store) code value mask ⌝ }
 {
@@ -291,7 +295,7 @@ fn post_marks(store: &mut [u16], first: usize, last: usize)
 }
 
 // All parts but the own one, as bits.
-fn others_of(store: &[u16]) -> usize
+pub fn others_of(store: &[u16]) -> usize
     requires { ⌜ Usable (now store) ⌝ }
     ensures { λ r. ⌜ (r ≡ othersOf (was store)) × (r < 65536) ⌝ }
 {
@@ -303,7 +307,7 @@ fn others_of(store: &[u16]) -> usize
 }
 
 // Writes the end of the round for all others.
-fn post_end(store: &mut [u16])
+pub fn post_end(store: &mut [u16])
     requires { ⌜ Usable (now store) ⌝ }
     ensures { λ r. ⌜ is store ≡ postEnd (was store) ⌝ }
 {
@@ -322,7 +326,7 @@ fn level_from(store: &[u16], k: usize) -> usize
 }
 
 // Enters the round of marks of a level.
-fn enter_marks(store: &mut [u16], k: usize)
+pub fn enter_marks(store: &mut [u16], k: usize)
     requires { ⌜ Usable (now store) × (k ≤ 10) ⌝ }
     ensures { λ r. ⌜ is store ≡ enterMarks (was store) k ⌝ }
 {
@@ -528,7 +532,7 @@ fn slot_from(store: &[u16], k: usize) -> usize
 }
 
 // Enters the round of counts of a level.
-fn enter_counts(store: &mut [u16], k: usize)
+pub fn enter_counts(store: &mut [u16], k: usize)
     requires { ⌜ Usable (now store) × (k ≤ 10) ⌝ }
     ensures { λ r. ⌜ is store ≡ enterCounts (was store) k ⌝ }
 {

@@ -4,8 +4,7 @@ use Rattle.turns.proofs.is_pull.Statement.{statement}
 use Rattle.turns.proofs.is_pull.Tie as tie
 use Rattle.turns.proofs.is_pull.Reads as reads
 use Rattle.turns.proofs.is_pull.Lts as lts
-use Rattle.turns.proofs.is_hit.Reads as is-hit-reads
-use Rattle.turns.proofs.slot_of.Reads as slot-of-reads
+use Rattle.turns.proofs.edge_hit.Reads as edge-hit-reads
 
 add-if1 : tie.Need-add-if1
 add-if1 c = search needs
@@ -25,14 +24,11 @@ shr-if1 c = search needs
 returns : tie.Need-returns
 returns c = pull-not _ _ _ (c .if1 .taken)
 
-slot-of-requires : tie.Need-slot-of-requires
-slot-of-requires c κs = search needs
-
-is-hit-requires : tie.Need-is-hit-requires
-is-hit-requires c κs = search needs
+edge-hit-requires : tie.Need-edge-hit-requires
+edge-hit-requires c κs = search needs
 
 returns-2 : tie.Need-returns-2
-returns-2 c = pull-is _ _ _ _ _ (c .before .before .if1 .left) (c .before .slot-of .ensures) (c .is-hit .ensures)
+returns-2 c = pull-is _ _ _ _ (c .before .if1 .left) (c .edge-hit .ensures)
 
 pub is-pull-spec : {M : Type 1} → statement M
 is-pull-spec =
@@ -44,6 +40,5 @@ is-pull-spec =
     cast-if1
     shr-if1
     returns
-    slot-of-requires
-    is-hit-requires
+    edge-hit-requires
     returns-2)

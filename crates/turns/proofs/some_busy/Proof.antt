@@ -1,62 +1,74 @@
-use Rattle.turns.proofs.Deciding.{kid-low}
-use Rattle.turns.specs.Decide.{kidb, busyb}
-use Rattle.turns.specs.Loops.{runSome, run-stop, run-here, run-on, run-out}
-use lib.ListN.{getD}
-use borrow.Author.Tests.{not-true, not-false}
-use native.Mathlib.Numerals.{add-one}
-use Prim.Native.Nat.{_+_, _-_, _<_, _≤_}
-use mathlib.Core.Path.{_≡_, refl, sym, _∙_}
-use native.Mathlib.Omega.{arith}
 use borrow.Author.Needs.{needs}
+use native.Mathlib.Numerals.{add-one}
+use native.Mathlib.Omega.{arith}
+use mathlib.Core.Path.{_≡_, sym, _∙_, ap, refl}
+use Prim.Native.Nat.{ℕ, _+_, _-_, _≤_}
+use lib.ListN.{getD}
+use Rattle.turns.specs.Loops.{someFrom, some-here, some-on, some-out}
+use Rattle.turns.specs.Decide.{kidCount, busyb}
+use Rattle.turns.proofs.Deciding.{kids-inside}
 use Rattle.turns.proofs.some_busy.Statement.{statement}
 use Rattle.turns.proofs.some_busy.Tie as tie
 use Rattle.turns.proofs.some_busy.Reads as reads
 use Rattle.turns.proofs.some_busy.Lts as lts
 use Rattle.turns.proofs.is_busy.Reads as is-busy-reads
-use Rattle.turns.proofs.is_kid.Reads as is-kid-reads
+use Rattle.turns.proofs.kid_count.Reads as kid-count-reads
 
 abbrev Inv-loop : tie.InvT-loop
-Inv-loop store c d₀ i₀ d i = (i ≤ 8) × (d < 65536 + i)
-    × (runSome (kidb store c) (busyb store) (8 - i) d ≡ runSome (kidb store c) (busyb store) 8 (getD store (16496 + c) 0))
+Inv-loop store c first last d₀ d = (first ≤ d) × (someFrom (busyb store) (last - d) d ≡ someFrom (busyb store) (kidCount store c)
+    (getD store (16496 + c) 0))
 
 abbrev μ-loop : tie.MeasureT-loop
-μ-loop store c d₀ i₀ d i = 8 - i
+μ-loop store c first last d₀ d = last - d
 
-add-d : tie.Need-add-d Inv-loop μ-loop
-add-d c = search needs
+add-first : tie.Need-add-first Inv-loop μ-loop
+add-first c = search needs
 
-mul-d : tie.Need-mul-d Inv-loop μ-loop
-mul-d c = search needs
+mul-first : tie.Need-mul-first Inv-loop μ-loop
+mul-first c = search needs
 
-shared-slice-read-d : tie.Need-shared-slice-read-d Inv-loop μ-loop
-shared-slice-read-d c = search needs
+shared-slice-read-first : tie.Need-shared-slice-read-first Inv-loop μ-loop
+shared-slice-read-first c = search needs
 
-cast-d : tie.Need-cast-d Inv-loop μ-loop
-cast-d c = omega (arith, c .shared-slice-known2 .given (16496 + c .before .before .args .c))
+cast-first : tie.Need-cast-first Inv-loop μ-loop
+cast-first c = omega (arith, c .shared-slice-known2 .given (16496 + c .before .before .args .c))
+
+kid-count-requires : tie.Need-kid-count-requires Inv-loop μ-loop
+kid-count-requires c κs = search needs
+
+add-last : tie.Need-add-last Inv-loop μ-loop
+add-last c = omega (arith, c .before .shared-slice-known2 .given (16496 + c .before .before .before .args .c), c .kid-count .ensures .1)
 
 loop-holds : tie.Need-loop-holds Inv-loop μ-loop
-loop-holds c = (omega arith, omega (arith, c .shared-slice-known2 .given (16496 + c .before .before .args .c)), refl)
-
-is-kid-requires : tie.Need-is-kid-requires Inv-loop μ-loop
-is-kid-requires c κs = search needs
-
-returns : tie.Need-returns Inv-loop μ-loop
-returns c = sym (run-stop _ _ 8 _ _ (omega arith) (sym (c .before .is-kid .ensures) ∙ not-true _ (c .if1 .taken)))
-    ∙ c .before .before .before .loop .inv .2
+loop-holds c = (
+  omega arith,
+  ap (λ (n : ℕ). someFrom (busyb (c .before .before .before .args .store .now)) n
+      (getD (c .before .before .before .args .store .now) (16496 + c .before .before .before .args .c) 0))
+      (omega (arith, c .kid-count .ensures .0)),
+)
 
 is-busy-requires : tie.Need-is-busy-requires Inv-loop μ-loop
-is-busy-requires c κs = (omega arith, omega (arith, kid-low _ _ _ (sym (c .before .is-kid .ensures) ∙ not-false _ (c .if1 .left))))
+is-busy-requires c κs = (
+  omega arith,
+  omega (
+    arith,
+    c .before .before .kid-count .ensures .0,
+    kids-inside
+        (c .before .before .before .before .before .args .store .now) (c .before .before .before .before .before .args .c),
+  ),
+)
 
-returns-2 : tie.Need-returns-2 Inv-loop μ-loop
-returns-2 c = sym (run-here _ _ 8 _ _ (omega arith) (sym (c .before .before .before .is-kid .ensures)
-    ∙ not-false _ (c .before .before .if1 .left)) (sym (c .before .is-busy .ensures) ∙ c .if2 .taken))
-    ∙ c .before .before .before .before .before .loop .inv .2
+returns : tie.Need-returns Inv-loop μ-loop
+returns c = sym (some-here _ _ _ (omega arith) (sym (c .before .is-busy .ensures) ∙ c .if1 .taken))
+    ∙ c .before .before .before .loop .inv .1
 
-add-d-2 : tie.Need-add-d-2 Inv-loop μ-loop
-add-d-2 c = search needs
-
-add-i : tie.Need-add-i Inv-loop μ-loop
-add-i c = search needs
+add-d : tie.Need-add-d Inv-loop μ-loop
+add-d c = omega (
+  arith,
+  c .before .before .before .before .before .shared-slice-known2 .given
+      (16496 + c .before .before .before .before .before .before .before .args .c),
+  c .before .before .before .before .kid-count .ensures .1,
+)
 
 loop-less : tie.Need-loop-less Inv-loop μ-loop
 loop-less c = search needs
@@ -64,15 +76,12 @@ loop-less c = search needs
 loop-again : tie.Need-loop-again Inv-loop μ-loop
 loop-again c = (
   omega arith,
-  omega arith,
-  simp add-one
-      (sym (run-on _ _ 8 _ _ (omega arith) (sym (c .before .before .before .is-kid .ensures)
-      ∙ not-false _ (c .before .before .if1 .left)) (sym (c .before .is-busy .ensures) ∙ c .if2 .left))
-      ∙ c .before .before .before .before .before .loop .inv .2),
+  rw add-one (sym (some-on _ _ _ (omega arith) (sym (c .before .is-busy .ensures) ∙ c .if1 .left))
+      ∙ c .before .before .before .loop .inv .1),
 )
 
-returns-3 : tie.Need-returns-3 Inv-loop μ-loop
-returns-3 c = sym (run-out _ _ 8 _ _ (omega arith)) ∙ c .before .loop .inv .2
+returns-2 : tie.Need-returns-2 Inv-loop μ-loop
+returns-2 c = sym (some-out _ _ _ (omega arith)) ∙ c .before .loop .inv .1
 
 pub some-busy-spec : {M : Type 1} → statement M
 some-busy-spec =
@@ -80,17 +89,16 @@ some-busy-spec =
     (tie.spec
     Inv-loop
     μ-loop
-    add-d
-    mul-d
-    shared-slice-read-d
-    cast-d
+    add-first
+    mul-first
+    shared-slice-read-first
+    cast-first
+    kid-count-requires
+    add-last
     loop-holds
-    is-kid-requires
-    returns
     is-busy-requires
-    returns-2
-    add-d-2
-    add-i
+    returns
+    add-d
     loop-less
     loop-again
-    returns-3)
+    returns-2)

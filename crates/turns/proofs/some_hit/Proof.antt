@@ -1,17 +1,15 @@
-use Rattle.turns.proofs.Deciding.{hit-edge}
-use Rattle.turns.specs.Decide.{hitOf}
-use Rattle.turns.specs.Loops.{someFrom, some-here, some-on, some-out}
-use Prim.Native.Nat.{_-_, _<_}
-use mathlib.Core.Path.{_≡_, sym, _∙_}
-use native.Mathlib.Omega.{arith}
-use native.Mathlib.Numerals.{add-one}
 use borrow.Author.Needs.{needs}
+use native.Mathlib.Numerals.{add-one}
+use native.Mathlib.Omega.{arith}
+use mathlib.Core.Path.{_≡_, sym, _∙_}
+use Prim.Native.Nat.{_-_, _<_}
+use Rattle.turns.specs.Loops.{someFrom, some-here, some-on, some-out}
+use Rattle.turns.specs.Decide.{hitOf}
 use Rattle.turns.proofs.some_hit.Statement.{statement}
 use Rattle.turns.proofs.some_hit.Tie as tie
 use Rattle.turns.proofs.some_hit.Reads as reads
 use Rattle.turns.proofs.some_hit.Lts as lts
-use Rattle.turns.proofs.is_hit.Reads as is-hit-reads
-use Rattle.turns.proofs.slot_of.Reads as slot-of-reads
+use Rattle.turns.proofs.edge_hit.Reads as edge-hit-reads
 
 abbrev Inv-loop : tie.InvT-loop
 Inv-loop store c e₀ e = (e < 7) × (someFrom (hitOf store c) (6 - e) e ≡ someFrom (hitOf store c) 6 0)
@@ -22,15 +20,12 @@ abbrev μ-loop : tie.MeasureT-loop
 loop-holds : tie.Need-loop-holds Inv-loop μ-loop
 loop-holds c = search needs
 
-slot-of-requires : tie.Need-slot-of-requires Inv-loop μ-loop
-slot-of-requires c κs = search needs
-
-is-hit-requires : tie.Need-is-hit-requires Inv-loop μ-loop
-is-hit-requires c κs = search needs
+edge-hit-requires : tie.Need-edge-hit-requires Inv-loop μ-loop
+edge-hit-requires c κs = search needs
 
 returns : tie.Need-returns Inv-loop μ-loop
-returns c = sym (some-here _ 6 _ (omega arith) (hit-edge _ _ _ _ _ (c .before .before .slot-of .ensures) (c .before .is-hit .ensures)
-    ∙ c .if1 .taken)) ∙ c .before .before .before .before .loop .inv .1
+returns c = sym (some-here _ 6 _ (omega arith) (sym (c .before .edge-hit .ensures) ∙ c .if1 .taken))
+    ∙ c .before .before .before .loop .inv .1
 
 add-e : tie.Need-add-e Inv-loop μ-loop
 add-e c = search needs
@@ -41,9 +36,8 @@ loop-less c = search needs
 loop-again : tie.Need-loop-again Inv-loop μ-loop
 loop-again c = (
   omega arith,
-  rw add-one (sym
-      (some-on _ 6 _ (omega arith) (hit-edge _ _ _ _ _ (c .before .before .slot-of .ensures) (c .before .is-hit .ensures) ∙ c .if1 .left))
-      ∙ c .before .before .before .before .loop .inv .1),
+  rw add-one (sym (some-on _ 6 _ (omega arith) (sym (c .before .edge-hit .ensures) ∙ c .if1 .left))
+      ∙ c .before .before .before .loop .inv .1),
 )
 
 returns-2 : tie.Need-returns-2 Inv-loop μ-loop
@@ -56,8 +50,7 @@ some-hit-spec =
     Inv-loop
     μ-loop
     loop-holds
-    slot-of-requires
-    is-hit-requires
+    edge-hit-requires
     returns
     add-e
     loop-less
