@@ -22,7 +22,7 @@ use Rattle.rounds.specs.Rounds.{edgeCounts, says, writing}
 use Rattle.rounds.specs.Among.{is-self}
 use Rattle.rounds.specs.Rounded.{protocol, phase-marks, phase-counts, phase-totals}
 
-filter-few : (f : ℕ → Bool) (l : List ℕ) → length (filterb f l) ≤ length l
+pub filter-few : (f : ℕ → Bool) (l : List ℕ) → length (filterb f l) ≤ length l
 unfolding filterb
 filter-few f [] = omega arith
 filter-few f (x ∷ l) = go (f x) refl (filter-few f l)

@@ -62,14 +62,14 @@ module _ {Part : Type 0} (F : Finite Part) (J : Task Part) where
       (member-cases x y l m)
 
   -- what is written for another part
-  abbrev from : Phase → (Part → State) → Part → Part → List Body
+  abbrev pub from : Phase → (Part → State) → Part → Part → List Body
   from f st p q = writing F J f q p (st q)
 
-  other-writes : (f : Phase) (q p : Part) (s : State) → isPart F q p ≡ false → writing F J f q p s ≡ says F J f q p s
+  pub other-writes : (f : Phase) (q p : Part) (s : State) → isPart F q p ≡ false → writing F J f q p s ≡ says F J f q p s
   unfolding writing
   other-writes f q p s e = rw (e, writing)
 
-  own-writes : (f : Phase) (q p : Part) (s : State) → isPart F q p ≡ true → writing F J f q p s ≡ []
+  pub own-writes : (f : Phase) (q p : Part) (s : State) → isPart F q p ≡ true → writing F J f q p s ≡ []
   unfolding writing
   own-writes f q p s e = rw (e, writing)
 
@@ -113,13 +113,13 @@ module _ {Part : Type 0} (F : Finite Part) (J : Task Part) where
 
   -- the tally of a slot of another level
   module _ (fit : Fit J) where
-    has-slot : (k c x : ℕ) → Member c (J .cells k) → T (has J c x) → Member x (J .slots k)
+    pub has-slot : (k c x : ℕ) → Member c (J .cells k) → T (has J c x) → Member x (J .slots k)
     unfolding has
     has-slot k c x m h =
         let (e, n, q) = any-member (λ e. eqb (J .slot c e) x) sixEdges h in
         subst (λ (y : ℕ). Member y (J .slots k)) (eqb→eq (J .slot c e) x q) (fit .slot-level k c e m n)
 
-    tally-else : (p : Part) (red : ℕ → Bool) (j k x : ℕ) → Member x (J .slots j) → j ≢ k → tally F J p red k x ≡ 0
+    pub tally-else : (p : Part) (red : ℕ → Bool) (j k x : ℕ) → Member x (J .slots j) → j ≢ k → tally F J p red k x ≡ 0
     tally-else p red j k x m d =
         elim (ℕ-discrete (tally F J p red k x) 0) [
           | yes e ↦ e
@@ -426,7 +426,7 @@ module _ {Part : Type 0} (F : Finite Part) (J : Task Part) (ms : ℕ → ℕ) wh
       abbrev adds : Part → List Body
       adds = from F J (counts i) st p
 
-      none-added : (k x : ℕ) → k ≢ J .top - i → Member x (J .slots k) → added F adds x ≡ 0
+      pub none-added : (k x : ℕ) → k ≢ J .top - i → Member x (J .slots k) → added F adds x ≡ 0
       none-added k x d m =
           elim (ℕ-discrete (added F adds x) 0) [
             | yes e ↦ e

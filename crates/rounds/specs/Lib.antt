@@ -9,3 +9,6 @@ pub mod Rounded
 pub mod Upward
 pub mod Totals
 pub mod Bound
+pub mod Said
+pub mod Turns
+pub mod Sums

@@ -206,16 +206,16 @@ module _ {Part : Type 0} (F : Finite Part) (J : Task Part) (grown : Part → Sta
     abbrev at : ℕ → Part → State
     at r p = lock F protocol input r p
 
-    lock-on : (r : ℕ) (f : Phase) → phase (J .top) r ≡ f → (p : Part)
+    pub lock-on : (r : ℕ) (f : Phase) → phase (J .top) r ≡ f → (p : Part)
         → at (suc r) p ≡ taking F J grown f p (at r p) (λ q. writing F J f q p (at r q))
     unfolding lock
     lock-on r f e p = ap (λ (f : Phase). taking F J grown f p (at r p) (λ q. writing F J f q p (at r q))) e
 
-    to-counts : (i : ℕ) → i ≤ J .top → ((p : Part) → Marking F J ms i p (at (i + i) p)) → (p : Part)
+    pub to-counts : (i : ℕ) → i ≤ J .top → ((p : Part) → Marking F J ms i p (at (i + i) p)) → (p : Part)
         → Counting F J ms i p (at (suc (i + i)) p)
     to-counts i h w p = rw (lock-on (i + i) (marks i) (phase-marks (J .top) i h) p) (marks-known F J ms fit i h (at (i + i)) w p grown)
 
-    marking : (i : ℕ) → i ≤ J .top → (p : Part) → Marking F J ms i p (at (i + i) p)
+    pub marking : (i : ℕ) → i ≤ J .top → (p : Part) → Marking F J ms i p (at (i + i) p)
     unfolding lock
     marking zero h p = at-start F J ms fit p (reads p (input p)) (given p)
     marking (suc i) h p =
