@@ -4,6 +4,7 @@
 --   heldAnswer ..    15, then 16: the header, or a store that is not done; heldRows x what the lent table then holds in front
 --   stageAnswer x    15, then 16: the header, or a store that was not started
 --   stageOf x        running with its round, done, or done with 8 or 9
+--   progressOf, listedOf    what `stage` and `held` answer
 use mathlib.Core.Bool.{Bool, true, false, _&&_, not}
 use mathlib.Core.List.{List, [], _∷_, _++_, map, flatMap}
 use Prim.Native.Nat.{ℕ, _+_, _-_, _%_, pred}
@@ -16,8 +17,13 @@ use Rattle.base.specs.declared.Answer.{Answer}
 use Rattle.base.specs.declared.Answer.the-variants.{Accepted, Refused}
 use Rattle.parts.specs.Held.{Entry}
 use Rattle.store.specs.Fields.{field, full, STAGE, ENTRIES, PLACE-HEAD, PLACE-DIGITS, PLACE-MORE, PLACE-STATUS}
+use Rattle.store.specs.Fields.{ROUND, RESULT}
 use Rattle.store.specs.Header.{headerb}
 use Rattle.store.specs.Places.{pathOf}
+use Rattle.held.specs.declared.Progress.{Progress}
+use Rattle.held.specs.declared.Progress.the-variants as progress
+use Rattle.held.specs.declared.Listed.{Listed}
+use Rattle.held.specs.declared.Listed.the-variants as listed
 
 -- a ghost's status has 128 more
 unfoldable pub entryIn : List ℕ → ℕ → Entry
@@ -54,3 +60,20 @@ heldAnswer x rows =
 unfoldable pub stageAnswer : List ℕ → Answer
 unfolding refuse headerb
 stageAnswer x = refuse 15 (leb full (length x)) (refuse 16 (headerb x && not (eqb (field x STAGE) 0)) Accepted)
+
+unfoldable pub stageOf : List ℕ → Progress
+stageOf x =
+    elim (eqb (field x STAGE) 1) [
+      | true ↦ progress.Running (field x ROUND)
+      | false ↦ elim (eqb (field x RESULT) 0) [ true ↦ progress.Done | false ↦ progress.Ended (field x RESULT) ]
+    ]
+
+-- what `stage` answers
+unfoldable pub progressOf : Answer → Progress → Progress
+progressOf Accepted p = p
+progressOf (Refused k) p = progress.Refused k
+
+-- what `held` answers: how many rows
+unfoldable pub listedOf : Answer → ℕ → Listed
+listedOf Accepted n = listed.Rows n
+listedOf (Refused k) n = listed.Refused k
