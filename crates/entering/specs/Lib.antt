@@ -1,2 +1,5 @@
 pub mod Columns
 pub mod Fits
+pub mod Within
+pub mod Blocks
+pub mod Deciding
