@@ -5,7 +5,7 @@
 use mathlib.Core.Path.{_≡_, refl, sym, _∙_, ap, subst}
 use mathlib.Core.Logic.{_⊎_, inl, inr}
 use mathlib.Core.Bool.{Bool, true, false, _&&_, _||_}
-use mathlib.Core.List.{List}
+use mathlib.Core.List.{List, _∷_}
 use Prim.Native.Nat.{ℕ, zero, suc, _+_, _≤_, _<_}
 use native.Mathlib.Omega.{arith}
 use native.Mathlib.Decide.{ℕ-discrete}
@@ -13,7 +13,8 @@ use lib.Dec.{eqb}
 use lib.ListN.{length, set, length-set}
 use lib.Seq.{getD-set-same, getD-set-other}
 use borrow.Author.Tests.{eq-eqb, ne-eqb}
-use Rattle.base.specs.Lists.{anyb, memberb}
+use Rattle.base.specs.Bools.{one-if}
+use Rattle.base.specs.Lists.{anyb, filterb, memberb}
 use Rattle.base.specs.Range.{range}
 use Rattle.store.specs.Fields.{field}
 use Rattle.turns.specs.Loops.{someFrom, eachFrom}
@@ -93,13 +94,65 @@ module _ (a m : ℕ) (f : List ℕ → ℕ → List ℕ) (t : ℕ → Bool) (x :
       ∙ ap (λ (w : ℕ). elim (memberb i (range (suc c) n) && t i) [ true ↦ 1 | false ↦ w ]) (turn-flag y c i s h (omega arith))
       ∙ flag-join (eqb i c) (memberb i (range (suc c) n)) (t i) (field y (a + i))
 
-  pub each-but : (n c : ℕ) (y : List ℕ) → SameBut a m x y → c₀ ≤ c → c + n ≤ c₀ + n₀ → SameBut a m x (eachFrom f n c y)
-  unfolding eachFrom
-  each-but zero c y s h l = s
-  each-but (suc n) c y s h l = each-but n (suc c) (f y c) (turn-but y c s h (omega arith)) (omega arith) (omega arith)
-
 -- a scan of numbers in a row
 pub some-range : (f : ℕ → Bool) (n e : ℕ) → someFrom f n e ≡ anyb f (range e n)
 unfolding someFrom anyb range
 some-range f zero e = refl
 some-range f (suc n) e = ap (λ (b : Bool). f e || b) (some-range f n (suc e))
+
+filter-step : (g : ℕ → Bool) (c : ℕ) (l : List ℕ) → length (filterb g (c ∷ l)) ≡ one-if (g c) + length (filterb g l)
+unfolding filterb one-if
+filter-step g c l = go (g c) refl
+  where
+    go : (b : Bool) → g c ≡ b → length (filterb g (c ∷ l)) ≡ one-if (g c) + length (filterb g l)
+    go true e = rw (e, filterb, one-if) (omega arith)
+    go false e = rw (e, filterb, one-if) (omega arith)
+
+-- a loop that adds one to a number of the block at each turn that passes a test
+module _ (a m : ℕ) (f : List ℕ → ℕ → List ℕ) (g : ℕ → Bool) (i : ℕ) (x : List ℕ) (c₀ n₀ : ℕ)
+    (turn : (y : List ℕ) (c : ℕ) → SameBut a m x y → c₀ ≤ c → c < c₀ + n₀
+    → SameBut a m x (f y c) × (field y i + one-if (g c) < 65536 → field (f y c) i ≡ field y i + one-if (g c))) where
+  pub each-count : (n c : ℕ) (y : List ℕ) → SameBut a m x y → c₀ ≤ c → c + n ≤ c₀ + n₀
+      → field y i + length (filterb g (range c n)) < 65536 → field (eachFrom f n c y) i ≡ field y i + length (filterb g (range c n))
+  unfolding eachFrom filterb range
+  each-count zero c y s h l t = omega arith
+  each-count (suc n) c y s h l t =
+      let (s', r) = turn y c s h (omega arith) in
+      let w : length (filterb g (c ∷ range (suc c) n)) ≡ one-if (g c) + length (filterb g (range (suc c) n)) =
+      filter-step g c (range (suc c) n) in
+      let t' : field y i + length (filterb g (c ∷ range (suc c) n)) < 65536 = t in
+      let r' : field (f y c) i ≡ field y i + one-if (g c) = r (omega (arith, w, t')) in
+      let e : field (eachFrom f n (suc c) (f y c)) i ≡ field (f y c) i + length (filterb g (range (suc c) n)) =
+      each-count n (suc c) (f y c) s' (omega arith) (omega arith) (omega (arith, w, t', r')) in
+      let z : field (eachFrom f n (suc c) (f y c)) i ≡ field y i + length (filterb g (c ∷ range (suc c) n)) = omega (arith, w, r', e) in
+      z
+
+-- at most one is counted where any two that pass are the same
+count-none : (g : ℕ → Bool) (n c : ℕ) → ((i : ℕ) → c ≤ i → i < c + n → g i ≡ false)
+    → (length (filterb g (range c n)) ≡ 0) × (anyb g (range c n) ≡ false)
+unfolding filterb range anyb
+count-none g zero c h = (refl, refl)
+count-none g (suc n) c h =
+    let (a, b) = count-none g n (suc c) (λ i k l. h i (omega arith) (omega arith)) in
+    let e = h c (omega arith) (omega arith) in
+    (rw (e, filterb) a, rw (e, anyb) b)
+
+pub count-one : (g : ℕ → Bool) (n c : ℕ)
+    → ((i j : ℕ) → c ≤ i → i < c + n → c ≤ j → j < c + n → g i ≡ true → g j ≡ true → i ≡ j)
+    → length (filterb g (range c n)) ≡ one-if (anyb g (range c n))
+unfolding filterb range anyb one-if
+count-one g zero c h = refl
+count-one g (suc n) c h =
+    go (g c) refl (count-one g n (suc c) (λ i j a b k l. h i j (omega arith) (omega arith) (omega arith) (omega arith)))
+  where
+    others : g c ≡ true → (i : ℕ) → suc c ≤ i → i < suc c + n → g i ≡ false
+    others e i a b = off (g i) refl
+      where
+        off : (t : Bool) → g i ≡ t → g i ≡ false
+        off true q = absurd (omega (arith, h c i (omega arith) (omega arith) (omega arith) (omega arith) e q))
+        off false q = q
+
+    go : (b : Bool) → g c ≡ b → length (filterb g (range (suc c) n)) ≡ one-if (anyb g (range (suc c) n))
+        → length (filterb g (c ∷ range (suc c) n)) ≡ one-if (anyb g (c ∷ range (suc c) n))
+    go true e r = rw (e, filterb, anyb, one-if) (ap suc (count-none g n (suc c) (others e) .0))
+    go false e r = rw (e, filterb, anyb) r

@@ -14,7 +14,7 @@ use lib.ListN.{length, set}
 use borrow.Author.Tests.{eq-eqb, ne-eqb, eqb-true}
 use Rattle.base.specs.Bools.{one-if, eqb-one, not-both}
 use Rattle.base.specs.Lists.{allb, anyb, memberb}
-use Rattle.base.specs.Range.{range, member-range, range-member}
+use Rattle.base.specs.Range.{range}
 use Rattle.mesh.specs.Table.{sizeOf}
 use Rattle.exchange.specs.Finite.{parts}
 use Rattle.rounds.specs.Tests.{Member, any-agree}
@@ -28,8 +28,9 @@ use Rattle.turns.specs.Loops.{someFrom, eachFrom}
 use Rattle.turns.specs.Decide.{slotAt, hitb, hitOf, pullOf, idleKid, pulledKid, kidCount, busyb, ruleb, decideOne}
 use Rattle.turns.specs.Start.{levelFrom}
 use Rattle.entering.specs.Columns.{Columns, Marked}
-use Rattle.entering.specs.Within.{own-held, family-held, slot-held, cells-are, member-low, cell-low, level-most}
-use Rattle.entering.specs.Blocks.{SameBut, but-self, each-flag, each-but, some-range}
+use Rattle.entering.specs.Within.{six-range, edge-low, own-held, family-held, slot-held, member-low, cell-low}
+use Rattle.entering.specs.Within.{level-inside, cells-are, level-member}
+use Rattle.entering.specs.Blocks.{SameBut, but-self, but-set, but-each, each-flag, some-range}
 
 abbrev pub decidedAt : List ℕ → ℕ → List ℕ
 decidedAt x k = eachFrom decideOne (levelFrom x (k + 1) - levelFrom x k) (levelFrom x k) x
@@ -56,13 +57,6 @@ and-on : (a b c : Bool) → a && (b && c) ≡ (a && b) && c
 and-on true b c = refl
 and-on false b c = refl
 
-six-range : range 0 6 ≡ sixEdges
-unfolding range
-six-range = refl
-
-edge-low : (e : ℕ) → Member e sixEdges → e < 6
-edge-low e m = let m' : Member e (range 0 6) = rw six-range m in let (a, b) = member-range 0 6 e m' in omega (arith, b)
-
 some-same : (f g : ℕ → Bool) (n e : ℕ) → ((d : ℕ) → e ≤ d → d < e + n → f d ≡ g d) → someFrom f n e ≡ someFrom g n e
 unfolding someFrom
 some-same f g zero e h = refl
@@ -75,7 +69,8 @@ min-second a b = omega arith
 kids-most : (x : List ℕ) (c : ℕ) → kidCount x c ≤ field x CELLS - field x (CHILD + c)
 unfolding kidCount
 kids-most x c =
-    min-second (elim (leb (field x (STATUS + c)) 64) [ true ↦ sizeOf (field x (STATUS + c)) | false ↦ 0 ]) (field x CELLS - field x (CHILD + c))
+    min-second (elim (leb (field x (STATUS + c)) 64) [ true ↦ sizeOf (field x (STATUS + c)) | false ↦ 0 ])
+    (field x CELLS - field x (CHILD + c))
 
 -- the definitions as functions of the numbers that they look at
 countOf : ℕ → ℕ → ℕ → ℕ
@@ -148,6 +143,25 @@ module _ (x y : List ℕ) (s : SameBut RED 4096 x y) where
       (kids-keep (pulledKid y) (pulledKid x) c l few pulled-keeps)
       ∙ sym (rule-of x c)
 
+decide-but : (y : List ℕ) (c : ℕ) → c < 4096 → SameBut RED 4096 y (decideOne y c)
+unfolding decideOne
+decide-but y c l = go (eqb (field y (FAMILY + c)) (field y PART) && ruleb y c) refl
+  where
+    go : (b : Bool) → eqb (field y (FAMILY + c)) (field y PART) && ruleb y c ≡ b → SameBut RED 4096 y (decideOne y c)
+    go true e = rw (e, decideOne) (but-set RED 4096 y (RED + c) 1 (omega arith) (omega arith))
+    go false e = rw (e, decideOne) (but-self RED 4096 y)
+
+module _ (P : ℕ) (J : Task (Fin P)) (p : Fin P) (x : List ℕ) (u : Columns P J p x) (k : ℕ) where
+  pub decided-but : SameBut RED 4096 x (decidedAt x k)
+  decided-but = but-each RED 4096 decideOne 4096 decide-but (levelFrom x (k + 1) - levelFrom x k) (levelFrom x k)
+      (level-inside P J p x u k) x
+
+  pub decided-else : (i : ℕ) → (i < RED) ⊎ (RED + 4096 ≤ i) → field (decidedAt x k) i ≡ field x i
+  decided-else = decided-but .rest
+
+  pub decided-length : length (decidedAt x k) ≡ length x
+  decided-length = decided-but .size
+
 -- the rule, of a store that holds the task
 module _ (P : ℕ) (J : Task (Fin P)) (fit : Fit J) (p : Fin P) (x : List ℕ) (u : Columns P J p x) (h : ℕ → Bool)
     (hits : (s : ℕ) → HoldsSlot P J p s → hitb x s ≡ h s) (g : ℕ → ℕ) (marked : Marked P J p g x) where
@@ -160,8 +174,10 @@ module _ (P : ℕ) (J : Task (Fin P)) (fit : Fit J) (p : Fin P) (x : List ℕ) (
   idle-is d held own =
       let hit : not (someFrom (hitOf x d) 6 0) ≡ allb (λ e. not (h (J .slot d e))) sixEdges =
       ap not (some-range (hitOf x d) 6 0 ∙ ap (anyb (hitOf x d)) six-range
-      ∙ any-agree (hitOf x d) (λ e. h (J .slot d e)) sixEdges (λ e m. hit-is d e held m)) ∙ sym (not-some (λ e. h (J .slot d e)) sixEdges) in
-      rw (u .status d held, marked d held own, hit) (and-on (eqb (J .status d) 0) (eqb (g d) 2) (allb (λ e. not (h (J .slot d e))) sixEdges))
+      ∙ any-agree (hitOf x d) (λ e. h (J .slot d e)) sixEdges (λ e m. hit-is d e held m))
+      ∙ sym (not-some (λ e. h (J .slot d e)) sixEdges) in
+      rw (u .status d held, marked d held own, hit)
+      (and-on (eqb (J .status d) 0) (eqb (g d) 2) (allb (λ e. not (h (J .slot d e))) sixEdges))
 
   pulled-is : (k c d : ℕ) → Member c (J .cells k) → J .family c ≡ p → Member d (J .kids c) → HoldsCell P J p d → J .owner d ≡ p
       → pulledKid x d ≡ pulled J h g d
@@ -260,23 +276,14 @@ module _ (P : ℕ) (J : Task (Fin P)) (fit : Fit J) (p : Fin P) (x : List ℕ) (
     test : ℕ → Bool
     test c = isPart (parts P) (J .family c) p && rule J h g c
 
-    inside : first + many ≤ 4096
-    unfolding first many
-    inside = omega (arith, level-most P J p x u k, level-most P J p x u (k + 1))
-
     turn : (y : List ℕ) (c : ℕ) → SameBut RED 4096 x y → first ≤ c → c < first + many
         → decideOne y c ≡ elim (test c) [ true ↦ set y (RED + c) 1 | false ↦ y ]
     unfolding first many test decideOne
     turn y c s a b =
-        let m : Member c (J .cells k) = rw (cells-are P J p x u k low) (range-member (levelFrom x k) (levelFrom x (k + 1) - levelFrom x k) c a b) in
-        ap (λ (t : Bool). elim t [ true ↦ set y (RED + c) 1 | false ↦ y ]) (test-is k c m y s)
+        ap (λ (t : Bool). elim t [ true ↦ set y (RED + c) 1 | false ↦ y ]) (test-is k c (level-member P J p x u k c low a b) y s)
 
-    pub decided-but : SameBut RED 4096 x (decidedAt x k)
-    unfolding first many
-    decided-but = each-but RED 4096 decideOne test x (omega (arith, u .long)) first many inside turn many first x (but-self RED 4096 x)
-        (omega arith) (omega arith)
-
-    join : (a b c d : Bool) (n : ℕ) → n ≡ one-if a → _≡_ {A = ℕ} (elim (b && (c && d)) [ true ↦ 1 | false ↦ n ]) (one-if (a || ((b && c) && d)))
+    join : (a b c d : Bool) (n : ℕ) → n ≡ one-if a
+        → _≡_ {A = ℕ} (elim (b && (c && d)) [ true ↦ 1 | false ↦ n ]) (one-if (a || ((b && c) && d)))
     unfolding one-if
     join true true true true n e = refl
     join false true true true n e = refl
@@ -287,17 +294,12 @@ module _ (P : ℕ) (J : Task (Fin P)) (fit : Fit J) (p : Fin P) (x : List ℕ) (
     join true false c d n e = e
     join false false c d n e = e
 
-    pub decided : (c : ℕ) → HoldsCell P J p c → field (decidedAt x k) (RED + c) ≡ one-if (red c || (decides (parts P) J p k c && rule J h g c))
+    pub decided : (c : ℕ) → HoldsCell P J p c
+        → field (decidedAt x k) (RED + c) ≡ one-if (red c || (decides (parts P) J p k c && rule J h g c))
     unfolding first many test decides
     decided c held =
-        each-flag RED 4096 decideOne test x (omega (arith, u .long)) first many inside turn many first x (but-self RED 4096 x)
-        (omega arith) (omega arith) c
+        each-flag RED 4096 decideOne test x (omega (arith, u .long)) first many (level-inside P J p x u k) turn many first x
+        (but-self RED 4096 x) (omega arith) (omega arith) c
         ∙ join (red c) (memberb c (range first many)) (isPart (parts P) (J .family c) p) (rule J h g c) (field x (RED + c)) (flags c held)
         ∙ ap (λ (l : List ℕ). one-if (red c || ((memberb c l && isPart (parts P) (J .family c) p) && rule J h g c)))
         (sym (cells-are P J p x u k low))
-
-    pub decided-else : (i : ℕ) → (i < RED) ⊎ (RED + 4096 ≤ i) → field (decidedAt x k) i ≡ field x i
-    decided-else = decided-but .rest
-
-    pub decided-length : length (decidedAt x k) ≡ length x
-    decided-length = decided-but .size

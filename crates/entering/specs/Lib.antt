@@ -3,3 +3,4 @@ pub mod Fits
 pub mod Within
 pub mod Blocks
 pub mod Deciding
+pub mod Tallying

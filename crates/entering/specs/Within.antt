@@ -1,5 +1,6 @@
 -- What a part holds has room in its columns.
--- Laws: own-held, family-held, slot-held (what is held), cell-low, slot-low (where it stands), level-is, cells-are (the cells of a level).
+-- Laws: six-range, edge-low (the six edges), own-held, family-held, slot-held (what is held), member-low, cell-low, slot-low
+-- (where it stands), level-is, level-inside, cells-are, level-member (the cells of a level).
 use mathlib.Core.Path.{_≡_, refl, sym, _∙_, ap, ap₂}
 use mathlib.Core.Bool.{_&&_}
 use mathlib.Core.List.{List}
@@ -8,7 +9,7 @@ use native.Mathlib.Omega.{arith}
 use lib.Dec.{T, eqb}
 use borrow.Author.Tests.{eq-eqb}
 use Rattle.base.specs.Bools.{is-true, and-both, or-first, or-second}
-use Rattle.base.specs.Range.{range, member-range}
+use Rattle.base.specs.Range.{range, member-range, range-member}
 use Rattle.exchange.specs.Finite.{parts}
 use Rattle.rounds.specs.Tests.{Member, any-member, member-any}
 use Rattle.rounds.specs.Task.{Task, sixEdges, has}
@@ -18,6 +19,13 @@ use Rattle.store.specs.Fields.{field, CELLS, FIRST-CELL, FIRST-SLOT}
 use Rattle.standing.specs.Busy.{HoldsCell, HoldsSlot}
 use Rattle.turns.specs.Start.{levelFrom}
 use Rattle.entering.specs.Columns.{Columns}
+
+pub six-range : range 0 6 ≡ sixEdges
+unfolding range
+six-range = refl
+
+pub edge-low : (e : ℕ) → Member e sixEdges → e < 6
+edge-low e m = let m' : Member e (range 0 6) = rw six-range m in let (a, b) = member-range 0 6 e m' in omega (arith, b)
 
 module _ (P : ℕ) (J : Task (Fin P)) (p : Fin P) where
   pub own-held : (k c : ℕ) → Member c (J .cells k) → J .owner c ≡ p → HoldsCell P J p c
@@ -43,7 +51,7 @@ module _ (P : ℕ) (J : Task (Fin P)) (p : Fin P) where
     unfolding levelFrom
     level-is k h = omega (arith, u .cells-in k h)
 
-    pub level-most : (k : ℕ) → levelFrom x k ≤ 4096
+    level-most : (k : ℕ) → levelFrom x k ≤ 4096
     unfolding levelFrom
     level-most k = omega (arith, u .cells-few)
 
@@ -54,10 +62,18 @@ module _ (P : ℕ) (J : Task (Fin P)) (p : Fin P) where
         let b : levelFrom x (k + 1) ≡ field x (FIRST-CELL + suc k) = ap (levelFrom x) z ∙ level-is (suc k) (omega arith) in
         u .cells k h ∙ sym (ap₂ (λ (i n : ℕ). range i (n - i)) a b)
 
+    pub level-inside : (k : ℕ) → levelFrom x k + (levelFrom x (k + 1) - levelFrom x k) ≤ 4096
+    level-inside k = omega (arith, level-most k, level-most (k + 1))
+
+    pub level-member : (k c : ℕ) → k ≤ J .top → levelFrom x k ≤ c → c < levelFrom x k + (levelFrom x (k + 1) - levelFrom x k)
+        → Member c (J .cells k)
+    level-member k c h a b = rw (cells-are k h) (range-member (levelFrom x k) (levelFrom x (k + 1) - levelFrom x k) c a b)
+
     pub member-low : (k c : ℕ) → Member c (J .cells k) → c < field x CELLS
     member-low k c m =
         let h = u .no-cells k c m in
-        let (a, b) = member-range (field x (FIRST-CELL + k)) (field x (FIRST-CELL + suc k) - field x (FIRST-CELL + k)) c (rw (u .cells k h) at m) in
+        let (a, b) = member-range (field x (FIRST-CELL + k)) (field x (FIRST-CELL + suc k) - field x (FIRST-CELL + k)) c
+        (rw (u .cells k h) at m) in
         omega (arith, a, b, u .cells-rise k h, u .cells-in (suc k) (omega arith))
 
     pub cell-low : (c : ℕ) → HoldsCell P J p c → c < 4096
@@ -69,5 +85,6 @@ module _ (P : ℕ) (J : Task (Fin P)) (p : Fin P) where
         let (c, m, r) = any-member (λ c. mine (parts P) J p c && has J c s) (J .cells k) t in
         let h = u .no-cells k c m in
         let n : Member s (J .slots k) = u .held-slot k s (is-true (holdsb (parts P) J p k s) t) in
-        let (a, b) = member-range (field x (FIRST-SLOT + k)) (field x (FIRST-SLOT + suc k) - field x (FIRST-SLOT + k)) s (rw (u .slots k h) at n) in
+        let (a, b) = member-range (field x (FIRST-SLOT + k)) (field x (FIRST-SLOT + suc k) - field x (FIRST-SLOT + k)) s
+        (rw (u .slots k h) at n) in
         omega (arith, a, b, u .slots-rise k h, u .slots-in (suc k) (omega arith))
