@@ -1,3 +1,4 @@
 pub mod Levels
 pub mod Edges
 pub mod Shapes
+pub mod Families
