@@ -2,3 +2,4 @@ pub mod Levels
 pub mod Edges
 pub mod Shapes
 pub mod Families
+pub mod Inner
