@@ -3,3 +3,4 @@ pub mod Edges
 pub mod Shapes
 pub mod Families
 pub mod Inner
+pub mod Holders
