@@ -82,7 +82,7 @@ module _ (n : ℕ) (qs : List (List ℕ)) (ss : List ℕ) where
       ap (λ (l : List Pair). hasb isb l (key c e)) (keys-are k) ∙ has-pairs [] (flatMap sixOf (numbersOf n qs ss k)) (key c e)
       ∙ is-true (hasb isb (map sorted (flatMap sixOf (numbersOf n qs ss k))) (key c e)) (has-flat (numbersOf n qs ss k) c e m b)
 
-  slots-follow : (k : ℕ) → slotsBelow n qs ss (suc k) ≡ slotsBelow n qs ss k + length (keysAt n qs ss k)
+  pub slots-follow : (k : ℕ) → slotsBelow n qs ss (suc k) ≡ slotsBelow n qs ss k + length (keysAt n qs ss k)
   unfolding slotsBelow
   slots-follow k = refl
 

@@ -1,7 +1,7 @@
 -- The children of a cell stand one after the other, behind those of all cells before it.
 --   Child k c i      what the number firstChild c + i stands for, where c is a cell of level k
 -- Laws: below-next (the cells of two levels), child-at (each child by its number), kids-are (the children of a cell), kids-inside (they are
--- cells of the table), parent-in (a parent stands one level down).
+-- cells of the table), status-most (the statuses of a sound table), parent-in (a parent stands one level down).
 use mathlib.Core.Path.{_≡_, refl, sym, _∙_, ap, ap₂, subst}
 use mathlib.Core.Logic.{_≢_}
 use mathlib.Core.Bool.{Bool, true, false}
@@ -17,7 +17,7 @@ use Rattle.base.specs.Lists.{filterb}
 use Rattle.base.specs.Bools.{not-both}
 use Rattle.base.specs.Range.{range, range-member}
 use Rattle.cutting.specs.Rule.{family}
-use Rattle.mesh.specs.Cells.{Cell, noCell, none, patternOf}
+use Rattle.mesh.specs.Cells.{Cell, noCell, patternOf, redEdges}
 use Rattle.mesh.specs.Weights.{Point, coarseCells}
 use Rattle.mesh.specs.Table.{Level, levelsOf, next, sizeOf, sizes}
 use Rattle.mesh.specs.Laws.{sizes-append, sizes-one}
@@ -25,7 +25,8 @@ use Rattle.rows.specs.Many.{size-refined, size-some, length-next}
 use Rattle.lineage.specs.Born.{childOf, Born, BornAt, born, born-below, born-at}
 use Rattle.lineage.specs.Levels.{cells-first}
 use Rattle.lineage.specs.Paths.{length-coarse}
-use Rattle.soundness.specs.Held.{closed-length}
+use Rattle.carriers.specs.Refined.{pattern-small}
+use Rattle.soundness.specs.Held.{closed-at, closed-length}
 use Rattle.soundness.specs.Sound.{Sound, lv, level-closed, level-next, level-there}
 use Rattle.rounds.specs.Tests.{Member}
 use Rattle.parts.specs.Owners.{nthCell, childrenOf}
@@ -71,6 +72,14 @@ none-yet : (ss : List ℕ) → sizes (take 0 ss) ≡ 0
 unfolding sizes
 none-yet ss = refl
 
+pattern-most : (s : ℕ) → patternOf s < 64 → s ≤ 64
+unfolding patternOf
+pattern-most s h =
+    elim (ℕ-discrete s 64) [
+      | yes e ↦ omega arith
+      | no e ↦ let w : s < 64 = rw (ne-eqb s 64 e, patternOf) at h in omega arith
+    ]
+
 -- the statuses of a run of cells
 sizes-run : (ss sts : List ℕ) (a p : ℕ) → ((t : ℕ) → t < p → (t < length sts) × (a + t < length ss) × (getD ss (a + t) 0 ≡ getD sts t 0))
     → sizes (take (a + p) ss) ≡ sizes (take a ss) + sizes (take p sts)
@@ -94,6 +103,16 @@ module _ (n : ℕ) (qs : List (List ℕ)) (ss : List ℕ) (s : Sound n qs ss) wh
 
   known : (k : ℕ) → length (sts k) ≡ length (lv n qs ss k .cells)
   known k = closed-length (lv n qs ss k) (level-closed n qs ss (s .closed) k)
+
+  pub status-most : (k c : ℕ) → Member c (numbersOf n qs ss k) → getD ss c 0 ≤ 64
+  status-most k c m =
+      let p = stands n qs ss s k c m in
+      let a = at-level n qs ss s k (p .t) (p .below) in
+      let l = lv n qs ss k in
+      let st = closed-at l (level-closed n qs ss (s .closed) k) (p .t) (p .below) .1 in
+      let small = pattern-small (redEdges [] (l .cells) (l .statuses)) (getD (l .cells) (p .t) noCell) (getD (l .statuses) (p .t) 0) st in
+      let e : getD ss c 0 ≡ getD (sts k) (p .t) 0 = ap (λ (x : ℕ). getD ss x 0) (p .number) ∙ a .status-is in
+      rw e (pattern-most (getD (sts k) (p .t) 0) small)
 
   -- the statuses before a cell of a level
   before : (k p : ℕ) → k < length (levelsOf n qs ss) → p ≤ length (lv n qs ss k .cells)

@@ -4,3 +4,6 @@ pub mod Shapes
 pub mod Families
 pub mod Inner
 pub mod Holders
+pub mod Sizes
+pub mod Paths
+pub mod Columns
