@@ -23,8 +23,8 @@ use Rattle.rounds.specs.Tests.{Member}
 use Rattle.rounds.specs.Task.{Task}
 use Rattle.rounds.specs.Rounds.{isPart, mine, holdsb}
 use Rattle.rounds.specs.Among.{is-same}
-use Rattle.store.specs.Fields.{field, CELLS, FIRST-CELL, FIRST-SLOT, OWNER, FAMILY, STATUS, REGULAR, CHILD, PARENT, HEAD, DIGITS, MORE, INNER}
-use Rattle.store.specs.Fields.{HOLDERS}
+use Rattle.store.specs.Fields.{field, CELLS, FIRST-CELL, FIRST-SLOT, OWNER, FAMILY, STATUS, REGULAR, CHILD, PARENT, HEAD, DIGITS, MORE}
+use Rattle.store.specs.Fields.{INNER, HOLDERS}
 use Rattle.store.specs.Fetch.{bitb}
 use Rattle.store.specs.Places.{placeOf}
 use Rattle.store.specs.declared.Place.{Place}
@@ -126,7 +126,8 @@ module _ (Q n : ℕ) (qs : List (List ℕ)) (ss os : List ℕ) (four : All (λ q
   -- the parts that hold a slot
   slot-small : (k i : ℕ) → Member i (slotsAt n qs ss k) → i < 24576
   slot-small k i m =
-      let (a, b) = member-range (slotsBelow n qs ss k) (slotsBelow n qs ss (suc k) - slotsBelow n qs ss k) i (rw (slots-gap n qs ss k) at m) in
+      let (a, b) = member-range (slotsBelow n qs ss k) (slotsBelow n qs ss (suc k) - slotsBelow n qs ss k) i
+      (rw (slots-gap n qs ss k) at m) in
       omega (arith, slots-all n qs ss s (suc k), slots-follow n qs ss k)
 
   holders-here : (i : ℕ) → i < 24576 → holdsSlot n qs ss os (suc (p .0)) i ≡ true → field x (HOLDERS + i) ≡ holdersOf n qs ss os i
@@ -212,13 +213,14 @@ module _ (Q n : ℕ) (qs : List (List ℕ)) (ss os : List ℕ) (four : All (λ q
               (column (λ c. placeOf (nthCell n qs ss c .path) .more) MORE (st .more) c h);
           coarse = λ k c m h.
               ap (λ (y : ℕ). ltb y 256) (column (λ c. placeOf (nthCell n qs ss c .path) .head) HEAD (st .head) c h)
-              ∙ place-coarse k (nthCell n qs ss c .path) (omega (arith, level-top n qs ss s k c m, s .high)) (path-room n qs ss few s k c m);
+              ∙ place-coarse k (nthCell n qs ss c .path) (omega (arith, level-top n qs ss s k c m, s .high))
+              (path-room n qs ss few s k c m);
           parent = column (λ c. nthCell n qs ss c .parent) PARENT (st .parent);
           parent-held = λ k c m e.
               let q = parent-in n qs ss s k c m in
               by-family k (nthCell n qs ss c .parent) q
-              (ap (nthPart Q) (sym (owners-fit n qs ss (suc Q) os owners (nthCell n qs ss c .parent) c (inside k (nthCell n qs ss c .parent) q .0)
-              (own-kid k c m))) ∙ e);
+              (ap (nthPart Q) (sym (owners-fit n qs ss (suc Q) os owners (nthCell n qs ss c .parent) c
+              (inside k (nthCell n qs ss c .parent) q .0) (own-kid k c m))) ∙ e);
           kids = λ k c m e.
               kids-are n qs ss s k c m ∙ ap₂ range (sym (child-is k c m e)) (sym (count-is k c m e));
           kid-number = λ k c j m e h.

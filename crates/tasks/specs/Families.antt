@@ -136,7 +136,8 @@ module _ (n : ℕ) (qs : List (List ℕ)) (ss : List ℕ) (s : Sound n qs ss) wh
       ap length (level-next n qs ss k (omega (arith, s .high)))
       ∙ length-next (lv n qs ss k .first) (lv n qs ss k .cells) (sts k) (sym (known k)) in
       let b = before k (length (lv n qs ss k .cells)) (omega arith) (omega arith) in
-      let t : take (length (lv n qs ss k .cells)) (sts k) ≡ sts k = take-all (length (lv n qs ss k .cells)) (sts k) (omega (arith, known k)) in
+      let t : take (length (lv n qs ss k .cells)) (sts k) ≡ sts k =
+      take-all (length (lv n qs ss k .cells)) (sts k) (omega (arith, known k)) in
       let u : sizes (take (cellsBelow n qs ss (suc k)) ss) ≡ sizes (take (cellsBelow n qs ss k) ss) + sizes (sts k) =
       ap (λ (x : ℕ). sizes (take x ss)) (below-more n qs ss k) ∙ b
       ∙ ap (λ (l : List ℕ). sizes (take (cellsBelow n qs ss k) ss) + sizes l) t in
@@ -257,7 +258,8 @@ module _ (n : ℕ) (qs : List (List ℕ)) (ss : List ℕ) (s : Sound n qs ss) wh
     pub kids-are : childrenOf n qs ss c ≡ range (firstChild n qs ss c) (sizeOf (getD ss c 0))
     unfolding childrenOf range
     kids-are =
-        filter-between mineb (firstChild n qs ss c) (sizeOf (getD ss c 0)) 0 (length ss) kid-to kid-from ∙ go (ℕ-discrete (sizeOf (getD ss c 0)) 0)
+        filter-between mineb (firstChild n qs ss c) (sizeOf (getD ss c 0)) 0 (length ss) kid-to kid-from
+        ∙ go (ℕ-discrete (sizeOf (getD ss c 0)) 0)
       where
         go : Dec (sizeOf (getD ss c 0) ≡ 0)
             → range (max 0 (firstChild n qs ss c))

@@ -1,7 +1,7 @@
 -- Which part holds which cell and which slot: in the numbers of a split, and in the task.
 --   splitTask Q n qs ss os    the task of a table that is split over Q + 1 parts
--- Laws: family-ranged (the owners of families are parts), part-is (a part by its number), mine-held (cells), slot-held (slots), slot-told (a
--- slot that is held is one of its level), holder-bit (the parts that hold a slot, as bits), no-bit (there are no others).
+-- Laws: owner-ranged and family-ranged (owners are parts), part-is (a part by its number), mine-held (cells), slot-held (slots), slot-told
+-- (a slot that is held is one of its level), holder-bit (the parts that hold a slot, as bits), no-slot and no-bit (there are no others).
 use mathlib.Core.Path.{_≡_, refl, sym, _∙_, ap, ap₂, subst}
 use mathlib.Core.Bool.{Bool, true, false, _&&_, _||_}
 use mathlib.Core.List.{List, [], _∷_, map}
@@ -111,7 +111,8 @@ module _ (Q n : ℕ) (qs : List (List ℕ)) (ss os : List ℕ) (sound : T (sound
         let (e, b, u) = any-member (λ e. eqb (slotOf n qs ss c e) x) sixEdges t in
         subst (λ (y : ℕ). Member y (slotsAt n qs ss k)) (eqb→eq (slotOf n qs ss c e) x u) (sl .there k c e m b)
 
-    pub slot-told : (p : Fin (suc Q)) (k x : ℕ) → holdsb (parts (suc Q)) (splitTask Q n qs ss os) p k x ≡ true → Member x (slotsAt n qs ss k)
+    pub slot-told : (p : Fin (suc Q)) (k x : ℕ) → holdsb (parts (suc Q)) (splitTask Q n qs ss os) p k x ≡ true
+        → Member x (slotsAt n qs ss k)
     unfolding holdsb has
     slot-told p k x e =
         let (c, m, u) = any-member (λ c. mine F J p c && has J c x) (numbersOf n qs ss k) (rw e tt) in

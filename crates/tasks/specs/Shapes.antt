@@ -50,18 +50,22 @@ middle-own : (e f : ℕ) → e < 6 → f < 6 → middle e ≡ middle f → e ≡
 middle-own e f he hf q =
     eqb→eq e f (impb-use (eqb (middle e) (middle f)) (eqb e f)
     (belowb-at (λ f. impb (eqb (middle e) (middle f)) (eqb e f)) 6
-    (belowb-at (λ e. belowb (λ f. impb (eqb (middle e) (middle f)) (eqb e f)) 6) 6 middles e he) f hf) (rw (eq-eqb (middle e) (middle f) q) tt))
+    (belowb-at (λ e. belowb (λ f. impb (eqb (middle e) (middle f)) (eqb e f)) 6) 6 middles e he) f hf)
+    (rw (eq-eqb (middle e) (middle f) q) tt))
 
 pub edges-apart : (c : Cell Point) → Apart c → (e f : ℕ) → e < 6 → f < 6 → T (joinsb sameb (edge [] c e) (edge [] c f)) → e ≡ f
 unfolding edge
 edges-apart c a e f he hf t =
     let (x, y, z) = middle-ends e he in
     let (x', y', z') = middle-ends f hf in
-    ⊎-elim (λ (w : (corner [] c (low (middle e)) ≡ corner [] c (low (middle f))) × (corner [] c (high (middle e)) ≡ corner [] c (high (middle f)))).
+    ⊎-elim
+    (λ (w : (corner [] c (low (middle e)) ≡ corner [] c (low (middle f)))
+    × (corner [] c (high (middle e)) ≡ corner [] c (high (middle f)))).
     middle-own e f he hf (sym (digit-named (middle e) z)
     ∙ ap₂ digit (a (low (middle e)) (low (middle f)) (omega arith) (omega arith) (w .0)) (a (high (middle e)) (high (middle f)) y y' (w .1))
     ∙ digit-named (middle f) z'))
-    (λ (w : (corner [] c (low (middle e)) ≡ corner [] c (high (middle f))) × (corner [] c (high (middle e)) ≡ corner [] c (low (middle f)))).
+    (λ (w : (corner [] c (low (middle e)) ≡ corner [] c (high (middle f)))
+    × (corner [] c (high (middle e)) ≡ corner [] c (low (middle f)))).
     absurd (omega (
       arith,
       a (low (middle e)) (high (middle f)) (omega arith) y' (w .0),

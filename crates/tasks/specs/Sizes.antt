@@ -28,7 +28,10 @@ use Rattle.tasks.specs.Holders.{splitTask}
 add-few : (es : List Pair) (e : Pair) → length (addPair es e) ≤ suc (length es)
 unfolding addPair
 add-few es e =
-    ⊎-elim (λ (t : hasb isb es (sorted e) ≡ true). let z : length (add isb es (sorted e)) ≡ length es = ap length (add-old isb es (sorted e) t) in omega arith)
+    ⊎-elim
+    (λ (t : hasb isb es (sorted e) ≡ true).
+    let z : length (add isb es (sorted e)) ≡ length es = ap length (add-old isb es (sorted e) t) in
+    omega arith)
     (λ (t : hasb isb es (sorted e) ≡ false).
     let z : length (add isb es (sorted e)) ≡ length (es ++ (sorted e ∷ [])) = ap length (add-new isb es (sorted e) t) in
     omega (arith, length-append es (sorted e ∷ [])))
