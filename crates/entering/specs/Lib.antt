@@ -4,3 +4,5 @@ pub mod Within
 pub mod Blocks
 pub mod Deciding
 pub mod Tallying
+pub mod Bits
+pub mod Writing
