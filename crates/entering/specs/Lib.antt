@@ -6,3 +6,4 @@ pub mod Deciding
 pub mod Tallying
 pub mod Bits
 pub mod Writing
+pub mod Lines
