@@ -7,3 +7,4 @@ pub mod Tallying
 pub mod Bits
 pub mod Writing
 pub mod Lines
+pub mod Entered

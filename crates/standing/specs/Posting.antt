@@ -1,7 +1,7 @@
 -- Writing: entries put behind those of a store are messages put behind its queue, and they are the parcel of the exchange.
 --   Longer x y n         y has what x has written, and n entries more
 --   Matches l w          the entries at the places w hold the bodies of the list l, for its receivers
--- Laws: queue-more, stream-number, step-queue.
+-- Laws: queue-more, stream-number, step-queue, step-sent (how many messages are then written for each part).
 use mathlib.Core.Path.{_≡_, refl, sym, _∙_, ap, ap₂, subst}
 use mathlib.Core.Bool.{Bool, true, false}
 use mathlib.Core.List.{List, [], _∷_, _++_, map, append-assoc}
@@ -139,6 +139,16 @@ module _ (x y : List ℕ) (n : ℕ) (e : Longer x y n) where
             ∙ ap (spotsFrom y n (entryCount x)) (e .bit ∙ b),
       )
 
+  left-all : (field x CURSOR ≤ entryCount x) → (field x CURSOR ≡ entryCount x → field x BIT ≡ 0)
+      → leftOf y ≡ leftOf x ++ spotsFrom y n (entryCount x) 0
+  left-all h b =
+      elim (ℕ-discrete (field x CURSOR) (entryCount x)) [
+        | yes i ↦
+            let (a, c) = left-first i (b i) in
+            c ∙ ap (λ (l : List Spot). l ++ spotsFrom y n (entryCount x) 0) (sym a)
+        | no i ↦ left-more (omega arith)
+      ]
+
   -- ENTRIES PUT BEHIND are messages put behind
   pub queue-more : (field x CURSOR ≤ entryCount x) → (field x CURSOR ≡ entryCount x → field x BIT ≡ 0) → queueOf y ≡ queueOf x
       ++ stream y (givenAfter (givenTo y) (leftOf x)) (spotsFrom y n (entryCount x) 0)
@@ -239,3 +249,32 @@ module _ (P : ℕ) (J : Task (Fin P)) (p : Fin P) (y : List ℕ) (own : field y 
       queue-more x y n e (v .cursor .0) (v .cursor .1)
       ∙ ap₂ _++_ (v .queue) (stream-number t (spotsFrom y n (entryCount x) 0) m (givenAfter (givenTo y) (leftOf x)) (l .sent)
       (λ q. after-same (givenTo x) (givenTo y) (e .counts) (leftOf x) (q .0) (part-low P J p l x v q) ∙ v .sent q) h)
+
+  after-append : (o : ℕ → ℕ) (l v : List Spot) → givenAfter o (l ++ v) ≡ givenAfter (givenAfter o l) v
+  unfolding givenAfter
+  after-append o [] v = refl
+  after-append o (s ∷ l) v = after-append (bump o (s .bit)) l v
+
+  number-after : (l : List (Fin P × Body)) (w : List Spot) → Matches l w → (o : ℕ → ℕ) (u : Fin P → ℕ) → Agree o u → CountRoom u l
+      → (q : Fin P) → givenAfter o w (q .0) ≡ u q + length (only (parts P) q l)
+  unfolding givenAfter Matches only
+  number-after [] [] m o u a h q = a q ∙ omega arith
+  number-after [] (s ∷ w) m o u a h q = absurd m
+  number-after (t ∷ l) [] m o u a h q = absurd m
+  number-after ((t, b) ∷ l) (s ∷ w) (i, c, d, e, m) o u a h q =
+      ap (λ (k : ℕ). givenAfter (bump o k) w (q .0)) i
+      ∙ number-after l w m (bump o (t .0)) (upd (parts P) u t (suc (u t))) (agree-on o u a t b l h) (room-on o u a t b l h) q
+      ∙ elim (parts P .same? q t) [
+        | yes e ↦ subst (λ (z : Fin P). upd (parts P) u t (suc (u t)) z + length (only (parts P) z l) ≡ u z + length (only (parts P) z ((t, b) ∷ l)))
+            (sym e) (omega (arith, upd-same (parts P) u t (suc (u t)), ap length (only-same (parts P) t b l)))
+        | no n ↦ omega (arith, upd-other (parts P) u t (suc (u t)) q n, ap length (only-other (parts P) q t b l n))
+      ]
+
+  pub step-sent : (l : L P J) (x : List ℕ) (n : ℕ) → Busy P J p l x → Longer x y n → (t : List (Fin P × Body))
+      → Matches t (spotsFrom y n (entryCount x) 0) → CountRoom (l .sent) t
+      → (q : Fin P) → givenAfter (givenTo y) (leftOf y) (q .0) ≡ l .sent q + length (only (parts P) q t)
+  step-sent l x n v e t m h q =
+      ap (λ (w : List Spot). givenAfter (givenTo y) w (q .0)) (left-all x y n e (v .cursor .0) (v .cursor .1))
+      ∙ ap (λ (f : ℕ → ℕ). f (q .0)) (after-append (givenTo y) (leftOf x) (spotsFrom y n (entryCount x) 0))
+      ∙ number-after t (spotsFrom y n (entryCount x) 0) m (givenAfter (givenTo y) (leftOf x)) (l .sent)
+      (λ q. after-same (givenTo x) (givenTo y) (e .counts) (leftOf x) (q .0) (part-low P J p l x v q) ∙ v .sent q) h q
