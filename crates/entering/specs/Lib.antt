@@ -8,3 +8,5 @@ pub mod Bits
 pub mod Writing
 pub mod Lines
 pub mod Entered
+pub mod Standing
+pub mod Turn

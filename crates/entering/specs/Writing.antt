@@ -53,7 +53,7 @@ same-self x = record { size = refl; else = λ i h l. refl }
 pub same-on : (x y z : List ℕ) → Same x y → Same y z → Same x z
 same-on x y z a b = record { size = b .size ∙ a .size; else = λ i h l. b .else i h l ∙ a .else i h l }
 
-count-is : (y : List ℕ) → field y WRITTEN ≤ 28696 → entryCount y ≡ field y WRITTEN
+pub count-is : (y : List ℕ) → field y WRITTEN ≤ 28696 → entryCount y ≡ field y WRITTEN
 unfolding entryCount
 count-is y h = elim (decLt (field y WRITTEN) 28696) [
   | yes l ↦ rw (lt-ltb (field y WRITTEN) 28696 l, entryCount)
@@ -156,7 +156,7 @@ longer-self x = record {
   receivers = λ j h. refl;
 }
 
-longer-on : (x y z : List ℕ) (m n : ℕ) → Longer x y m → Longer y z n → Longer x z (m + n)
+pub longer-on : (x y z : List ℕ) (m n : ℕ) → Longer x y m → Longer y z n → Longer x z (m + n)
 longer-on x y z m n a b =
     let e = a .many in record {
       part = b .part ∙ a .part;
