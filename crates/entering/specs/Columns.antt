@@ -53,7 +53,7 @@ module _ (P : ℕ) (J : Task (Fin P)) (p : Fin P) where
     pub cells : (k : ℕ) → k ≤ J .top
         → J .cells k ≡ range (field x (FIRST-CELL + k)) (field x (FIRST-CELL + suc k) - field x (FIRST-CELL + k))
     pub no-cells : (k c : ℕ) → Member c (J .cells k) → k ≤ J .top
-    pub no-slots : (k s : ℕ) → Member s (J .slots k) → k ≤ J .top
+    pub slots-low : (k s : ℕ) → Member s (J .slots k) → s < 24576
     pub first-slot : field x (FIRST-SLOT + 0) ≡ 0
     pub slots-rise : (k : ℕ) → k ≤ J .top → field x (FIRST-SLOT + k) ≤ field x (FIRST-SLOT + suc k)
     pub slots-in : (k : ℕ) → k ≤ suc (J .top) → field x (FIRST-SLOT + k) ≤ 24576

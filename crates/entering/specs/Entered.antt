@@ -208,7 +208,7 @@ module _ (P : ℕ) (J : Task (Fin P)) (p : Fin P) (x y : List ℕ) (s : Stay x y
     cells-in = λ k h. omega (arith, first k (omega arith), cells-same, co .cells-in k h);
     cells = λ k h. co .cells k h ∙ sym (ap₂ (λ (a b : ℕ). range a (b - a)) (first k (omega arith)) (first (suc k) (omega arith)));
     no-cells = co .no-cells;
-    no-slots = co .no-slots;
+    slots-low = co .slots-low;
     first-slot = slot-first 0 (omega arith) ∙ co .first-slot;
     slots-rise = λ k h. omega (arith, slot-first k (omega arith), slot-first (suc k) (omega arith), co .slots-rise k h);
     slots-in = λ k h. omega (arith, slot-first k (omega arith), co .slots-in k h);
@@ -254,13 +254,6 @@ module _ (P : ℕ) (J : Task (Fin P)) (p : Fin P) (x y : List ℕ) (s : Stay x y
           (subst (Member c) (co .cells k h) m) in
           omega (arith, b, co .cells-in (suc k) (omega arith), co .cells-rise k h, co .cells-few)
 
-      slot-low : (k i : ℕ) → Member i (J .slots k) → i < 24576
-      slot-low k i m =
-          let h = co .no-slots k i m in
-          let (a, b) = member-range (field x (FIRST-SLOT + k)) (field x (FIRST-SLOT + suc k) - field x (FIRST-SLOT + k)) i
-          (subst (Member i) (co .slots k h) m) in
-          omega (arith, b, co .slots-in (suc k) (omega arith), co .slots-rise k h)
-
       cell-low : (c : ℕ) → HoldsCell P J p c → c < 4096
       cell-low c (k, m, h) = member-low k c m
 
@@ -284,4 +277,4 @@ module _ (P : ℕ) (J : Task (Fin P)) (p : Fin P) (x y : List ℕ) (s : Stay x y
           (at MORE c h (omega arith) (omega arith))
 
       holder : (k i : ℕ) → Member i (J .slots k) → field y (HOLDERS + i) ≡ field x (HOLDERS + i)
-      holder k i m = upper (HOLDERS + i) (omega arith) (omega (arith, slot-low k i m))
+      holder k i m = upper (HOLDERS + i) (omega arith) (omega (arith, co .slots-low k i m))

@@ -184,6 +184,7 @@ module _ (Q n : ℕ) (qs : List (List ℕ)) (ss os : List ℕ) (four : All (λ q
               level-gap n qs ss k
               ∙ ap₂ (λ (a b : ℕ). range a (b - a)) (sym (cell-at k (omega arith))) (sym (cell-at (suc k) (omega arith)));
           no-cells = λ k c m. omega (arith, level-top n qs ss s k c m, top);
+          slots-low = slot-small;
           first-slot = slot-at 0 (omega arith) ∙ slots-none n qs ss;
           slots-rise = λ k h. omega (arith, slot-at k (omega arith), slot-at (suc k) (omega arith), slots-follow n qs ss k);
           slots-in = λ k h. omega (arith, slot-at k h, slots-all n qs ss s k);
