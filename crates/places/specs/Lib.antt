@@ -1,2 +1,4 @@
 pub mod Status
 pub mod Put
+pub mod Fresh
+pub mod Front

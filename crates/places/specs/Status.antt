@@ -30,7 +30,8 @@ newStatus x c =
 unfoldable pub staysb : List ℕ → ℕ → Bool
 staysb x c =
     ltb (field x (HEAD + c)) 256 || (not (eqb (field x (STATUS + c)) 0)
-    || (ltb (field x (PARENT + c)) 4096 && (eqb (field x (STATUS + field x (PARENT + c))) 64 && eqb (field x (RED + field x (PARENT + c))) 1)))
+    || (ltb (field x (PARENT + c)) 4096 && (eqb (field x (STATUS + field x (PARENT + c))) 64 && eqb
+    (field x (RED + field x (PARENT + c))) 1)))
 
 unfoldable pub anewb : List ℕ → ℕ → Bool
 unfolding staysb newStatus

@@ -1,0 +1,135 @@
+-- A pattern from its six tests, the last edge first, and the corners of an edge.
+use mathlib.Core.Path.{_≡_, refl, sym, _∙_, ap}
+use mathlib.Core.Bool.{Bool, true, false, _&&_}
+use mathlib.Core.List.{List, [], _∷_, map}
+use Prim.Native.Nat.{ℕ, zero, suc, _+_, _-_, _*_, _≤_, _<_}
+use native.Mathlib.Omega.{arith}
+use lib.Dec.{T, eqb, ltb, eqb→eq}
+use borrow.Author.Tests.{lt-ltb, le-ltb}
+use lib.ListN.{drop}
+use Rattle.base.specs.Bools.{one-if, one-most, and-left, and-right}
+use Rattle.base.specs.Lists.{belowb, belowb-at}
+use Rattle.cutting.specs.Rule.{low, high}
+use Rattle.mesh.specs.Cells.{bitsOf}
+use Rattle.families.specs.Children.{middle}
+use Rattle.places.specs.Status.{sixEdges}
+
+pub one-true : (b : Bool) → b ≡ true → 1 ≡ one-if b
+unfolding one-if
+one-true b e = ap one-if (sym e)
+
+pub one-false : (b : Bool) → b ≡ false → 0 ≡ one-if b
+unfolding one-if
+one-false b e = ap one-if (sym e)
+
+module _ (f : ℕ → Bool) where
+  abbrev pub bitsFrom : ℕ → ℕ
+  bitsFrom e = bitsOf (drop e (map f sixEdges))
+
+  pub bits-none : 0 ≡ bitsFrom 6
+  unfolding bitsOf
+  bits-none = refl
+
+  pub bits-all : bitsFrom 0 ≡ bitsOf (map f sixEdges)
+  bits-all = refl
+
+  bits-on : (e : ℕ) → e < 6 → bitsFrom e ≡ one-if (f e) + 2 * bitsFrom (suc e)
+  unfolding bitsOf
+  bits-on zero h = refl
+  bits-on (suc zero) h = refl
+  bits-on (suc (suc zero)) h = refl
+  bits-on (suc (suc (suc zero))) h = refl
+  bits-on (suc (suc (suc (suc zero)))) h = refl
+  bits-on (suc (suc (suc (suc (suc zero))))) h = refl
+  bits-on (suc (suc (suc (suc (suc (suc e)))))) h = absurd (omega arith)
+
+  pub bits-few : (bitsFrom 0 ≤ 63) × ((e : ℕ) → 0 < e → e ≤ 6 → bitsFrom e ≤ 31)
+  bits-few =
+      let a5 = bits-on 5 (omega arith) in
+      let a4 = bits-on 4 (omega arith) in
+      let a3 = bits-on 3 (omega arith) in
+      let a2 = bits-on 2 (omega arith) in
+      let a1 = bits-on 1 (omega arith) in
+      let a0 = bits-on 0 (omega arith) in
+      let b6 : bitsFrom 6 ≡ 0 = sym bits-none in
+      let b5 : bitsFrom 5 ≤ 1 = omega (arith, a5, b6, one-most (f 5)) in
+      let b4 : bitsFrom 4 ≤ 3 = omega (arith, a4, b5, one-most (f 4)) in
+      let b3 : bitsFrom 3 ≤ 7 = omega (arith, a3, b4, one-most (f 3)) in
+      let b2 : bitsFrom 2 ≤ 15 = omega (arith, a2, b3, one-most (f 2)) in
+      let b1 : bitsFrom 1 ≤ 31 = omega (arith, a1, b2, one-most (f 1)) in
+      let b0 : bitsFrom 0 ≤ 63 = omega (arith, a0, b1, one-most (f 0)) in
+      (b0, few b1 (omega (arith, b2)) (omega (arith, b3)) (omega (arith, b4)) (omega (arith, b5)) (omega (arith, b6)))
+    where
+      few : bitsFrom 1 ≤ 31 → bitsFrom 2 ≤ 31 → bitsFrom 3 ≤ 31 → bitsFrom 4 ≤ 31 → bitsFrom 5 ≤ 31 → bitsFrom 6 ≤ 31
+          → (e : ℕ) → 0 < e → e ≤ 6 → bitsFrom e ≤ 31
+      few b1 b2 b3 b4 b5 b6 zero h g = absurd (omega arith)
+      few b1 b2 b3 b4 b5 b6 (suc zero) h g = b1
+      few b1 b2 b3 b4 b5 b6 (suc (suc zero)) h g = b2
+      few b1 b2 b3 b4 b5 b6 (suc (suc (suc zero))) h g = b3
+      few b1 b2 b3 b4 b5 b6 (suc (suc (suc (suc zero)))) h g = b4
+      few b1 b2 b3 b4 b5 b6 (suc (suc (suc (suc (suc zero))))) h g = b5
+      few b1 b2 b3 b4 b5 b6 (suc (suc (suc (suc (suc (suc zero)))))) h g = b6
+      few b1 b2 b3 b4 b5 b6 (suc (suc (suc (suc (suc (suc (suc e))))))) h g = absurd (omega arith)
+
+  module _ (p e : ℕ) (h : 0 < e) (g : e ≤ 6) (i : p ≡ bitsFrom e) where
+    pub bits-room : p ≤ 31
+    bits-room = omega (arith, i, bits-few .1 e h g)
+
+    -- one turn of the loop
+    pub bits-turn : (b : ℕ) → b ≡ one-if (f (e - 1)) → b + 2 * p ≡ bitsFrom (e - 1)
+    bits-turn b j =
+        let z : suc (e - 1) ≡ e = omega arith in
+        let w : bitsFrom (suc (e - 1)) ≡ bitsFrom e = ap bitsFrom z in
+        omega (arith, i, j, w, bits-on (e - 1) (omega arith))
+
+  pub bits-end : (p e : ℕ) → e ≤ 0 → p ≡ bitsFrom e → (p ≡ bitsOf (map f sixEdges)) × (p ≤ 63)
+  bits-end p e h i =
+      let z : e ≡ 0 = omega arith in
+      let w : p ≡ bitsFrom 0 = i ∙ ap bitsFrom z in
+      (w, omega (arith, w, bits-few .0))
+
+-- the corners of an edge, as the code finds them
+lowOf : ℕ → ℕ
+lowOf y = elim (ltb y 3) [ true ↦ 0 | false ↦ elim (ltb y 5) [ true ↦ 1 | false ↦ 2 ] ]
+
+highOf : ℕ → ℕ
+highOf y = elim (ltb y 3) [ true ↦ y + 1 | false ↦ elim (ltb y 5) [ true ↦ y - 1 | false ↦ 3 ] ]
+
+corners-tested : T (belowb (λ y. eqb (lowOf y) (low (middle y)) && eqb (highOf y) (high (middle y))) 6)
+unfolding belowb lowOf highOf low high
+corners-tested = tt
+
+module _ (y : ℕ) (h : y < 6) where
+  tested : T (eqb (lowOf y) (low (middle y)) && eqb (highOf y) (high (middle y)))
+  tested = belowb-at (λ y. eqb (lowOf y) (low (middle y)) && eqb (highOf y) (high (middle y))) 6 corners-tested y h
+
+  low-is : lowOf y ≡ low (middle y)
+  low-is = eqb→eq (lowOf y) (low (middle y)) (and-left (eqb (lowOf y) (low (middle y))) (eqb (highOf y) (high (middle y))) tested)
+
+  high-is : highOf y ≡ high (middle y)
+  high-is = eqb→eq (highOf y) (high (middle y)) (and-right (eqb (lowOf y) (low (middle y))) (eqb (highOf y) (high (middle y))) tested)
+
+  pub low-first : y < 3 → 0 ≡ low (middle y)
+  unfolding lowOf
+  low-first a = let z : lowOf y ≡ 0 = rw (lt-ltb y 3 a, lowOf) in sym z ∙ low-is
+
+  pub high-first : y < 3 → y + 1 ≡ high (middle y)
+  unfolding highOf
+  high-first a = let z : highOf y ≡ y + 1 = rw (lt-ltb y 3 a, highOf) in sym z ∙ high-is
+
+  module _ (a : 3 ≤ y) where
+    pub low-second : y < 5 → 1 ≡ low (middle y)
+    unfolding lowOf
+    low-second b = let z : lowOf y ≡ 1 = rw (le-ltb y 3 a, lt-ltb y 5 b, lowOf) in sym z ∙ low-is
+
+    pub high-second : y < 5 → y - 1 ≡ high (middle y)
+    unfolding highOf
+    high-second b = let z : highOf y ≡ y - 1 = rw (le-ltb y 3 a, lt-ltb y 5 b, highOf) in sym z ∙ high-is
+
+    pub low-third : 5 ≤ y → 2 ≡ low (middle y)
+    unfolding lowOf
+    low-third b = let z : lowOf y ≡ 2 = rw (le-ltb y 3 a, le-ltb y 5 b, lowOf) in sym z ∙ low-is
+
+    pub high-third : 5 ≤ y → 3 ≡ high (middle y)
+    unfolding highOf
+    high-third b = let z : highOf y ≡ 3 = rw (le-ltb y 3 a, le-ltb y 5 b, highOf) in sym z ∙ high-is

@@ -1,0 +1,161 @@
+-- The statuses of new children as the code finds them, from the digits of the old family and of the red one.
+--   lowAt, highAt ds j y    the digits of the ends of the edge y of the child j, from a family's digits in a row
+--   edgeHas ds j a b y      that edge joins the points with the digits a and b
+--   kidHas x ds d a b j     the child j, which is the cell d, has such an edge that is hit
+--   pairHas x ds f n a b    one of the n children from f on has
+--   freshBy x ds rs f n i   the status of the new child i, where rs are the red family's digits
+-- Laws: digits-at (a family's digits), fresh-is (this is freshStatus), fresh-none (a status that is none).
+use mathlib.Core.Path.{_≡_, refl, sym, _∙_, ap, ap₂, subst}
+use mathlib.Core.Bool.{Bool, true, false, _&&_, _||_}
+use mathlib.Core.List.{List, [], _∷_, _++_, map, flatten, append-assoc}
+use Prim.Native.Nat.{ℕ, zero, suc, _+_, _*_, _-_, _^_, _≤_, _<_, min}
+use native.Mathlib.Omega.{arith}
+use lib.Dec.{T, eqb, leb, eqb→eq}
+use lib.ListN.{length, getD, replicate, List·getD-append}
+use lib.Seq.{getD-append-add}
+use borrow.Author.Tests.{ne-eqb, le-leb, lt-leb}
+use Rattle.base.specs.Bools.{one-if, and-left, and-right}
+use Rattle.base.specs.Lists.{anyb, allb}
+use Rattle.base.specs.Range.{range}
+use Rattle.cutting.specs.Rule.{family, low, high}
+use Rattle.cutting.specs.Rows.{family-fours}
+use Rattle.cutting.specs.Answer.{cutInto, cutOf, cutOf-accepted}
+use Rattle.mesh.specs.Cells.{bitsOf, patternOf}
+use Rattle.mesh.specs.Table.{sizeOf}
+use Rattle.families.specs.Children.{middle, digitsOf, lowDigit, highDigit, middle-ends}
+use Rattle.rows.specs.Many.{size-refined, size-some}
+use Rattle.rows.specs.Sizes.{size-red}
+use Rattle.store.specs.Fields.{field, CELLS, STATUS, CHILD}
+use Rattle.turns.specs.Loops.{someFrom}
+use Rattle.turns.specs.Decide.{hitOf, kidCount}
+use Rattle.places.specs.Status.{sixEdges, pairHit, freshStatus}
+
+abbrev pub lowAt : List ℕ → ℕ → ℕ → ℕ
+lowAt ds j y = getD ds (4 * j + low (middle y)) 0
+
+abbrev pub highAt : List ℕ → ℕ → ℕ → ℕ
+highAt ds j y = getD ds (4 * j + high (middle y)) 0
+
+unfoldable pub edgeHas : List ℕ → ℕ → ℕ → ℕ → ℕ → Bool
+edgeHas ds j a b y = eqb a (lowAt ds j y) && eqb b (highAt ds j y)
+
+unfoldable pub edgeHit : List ℕ → List ℕ → ℕ → ℕ → ℕ → ℕ → ℕ → Bool
+unfolding edgeHas hitOf
+edgeHit x ds d a b j y = edgeHas ds j a b y && hitOf x d y
+
+unfoldable pub kidHas : List ℕ → List ℕ → ℕ → ℕ → ℕ → ℕ → Bool
+unfolding someFrom edgeHit
+kidHas x ds d a b j = someFrom (edgeHit x ds d a b j) 6 0
+
+unfoldable pub pairHas : List ℕ → List ℕ → ℕ → ℕ → ℕ → ℕ → Bool
+unfolding someFrom kidHas
+pairHas x ds f n a b = someFrom (λ j. kidHas x ds (f + j) a b j) n 0
+
+unfoldable pub freshBy : List ℕ → List ℕ → List ℕ → ℕ → ℕ → ℕ → ℕ
+unfolding bitsOf pairHas
+freshBy x ds rs f n i = bitsOf (map (λ y. pairHas x ds f n (lowAt rs i y) (highAt rs i y)) sixEdges)
+
+-- children that the store has
+abbrev pub KidsInside : ℕ → ℕ → Type 0
+KidsInside f n = 1 ≤ n → f + n ≤ 4096
+
+-- eight numbers in a row, by a function; each a status
+abbrev pub EightAs : (ℕ → ℕ) → List ℕ → Type 0
+EightAs f l = (i : ℕ) → i < 8 → getD l i 0 ≡ f i
+
+abbrev pub EightFew : List ℕ → Type 0
+EightFew l = (i : ℕ) → i < 8 → getD l i 0 ≤ 64
+
+-- four digits a child
+flat-at : (ls : List (List ℕ)) (r : List ℕ) → T (allb (λ c. eqb (length c) 4) ls) → (j k : ℕ) → j < length ls → k < 4
+    → getD (flatten ls ++ r) (4 * j + k) 0 ≡ getD (getD ls j []) k 0
+unfolding allb flatten
+flat-at [] r t j k h g = absurd (omega arith)
+flat-at (l ∷ ls) r t zero k h g =
+    let n : length l ≡ 4 = eqb→eq (length l) 4 (and-left (eqb (length l) 4) (allb (λ c. eqb (length c) 4) ls) t) in
+    let z : 4 * 0 + k ≡ k = omega arith in
+    rw (z, append-assoc l (flatten ls) r) (List·getD-append l (flatten ls ++ r) 0 k (omega arith))
+flat-at (l ∷ ls) r t (suc j) k h g =
+    let n : length l ≡ 4 = eqb→eq (length l) 4 (and-left (eqb (length l) 4) (allb (λ c. eqb (length c) 4) ls) t) in
+    let z : 4 * suc j + k ≡ length l + (4 * j + k) = omega arith in
+    rw (z, append-assoc l (flatten ls) r) (getD-append-add l (flatten ls ++ r) (4 * j + k) 0
+    ∙ flat-at ls r (and-right (eqb (length l) 4) (allb (λ c. eqb (length c) 4) ls) t) j k (omega arith) g)
+
+module _ (p : ℕ) (h : p < 64) (j : ℕ) (g : j < length (family p)) where
+  pub digits-at : (k : ℕ) → k < 4 → getD (cutOf p .digits) (4 * j + k) 0 ≡ getD (digitsOf p j) k 0
+  unfolding cutInto
+  digits-at k m = rw (cutOf-accepted p h) (flat-at (family p) (replicate (32 - length (flatten (family p))) 0) (family-fours p h) j k g m)
+
+  module _ (y : ℕ) (m : y < 6) where
+    pub low-is : lowAt (cutOf p .digits) j y ≡ lowDigit p j y
+    low-is = let e = middle-ends y m in digits-at (low (middle y)) (omega (arith, e .0, e .1))
+
+    pub high-is : highAt (cutOf p .digits) j y ≡ highDigit p j y
+    high-is = let e = middle-ends y m in digits-at (high (middle y)) (e .1)
+
+-- loops over the same tests
+pub any-range : (f : ℕ → Bool) (n k : ℕ) → anyb f (range k n) ≡ someFrom f n k
+unfolding anyb range someFrom
+any-range f zero k = refl
+any-range f (suc n) k = ap (λ (b : Bool). f k || b) (any-range f n (suc k))
+
+pub any-six : (f : ℕ → Bool) → anyb f sixEdges ≡ someFrom f 6 0
+unfolding anyb someFrom
+any-six f = refl
+
+pub some-same : (f g : ℕ → Bool) (n k : ℕ) → ((j : ℕ) → k ≤ j → j < k + n → f j ≡ g j) → someFrom f n k ≡ someFrom g n k
+unfolding someFrom
+some-same f g zero k h = refl
+some-same f g (suc n) k h = ap₂ _||_ (h k (omega arith) (omega arith)) (some-same f g n (suc k) (λ j a b. h j (omega arith) (omega arith)))
+
+six-same : (f g : ℕ → Bool) → ((y : ℕ) → y < 6 → f y ≡ g y) → map f sixEdges ≡ map g sixEdges
+six-same f g h = rw (h 0 (omega arith), h 1 (omega arith), h 2 (omega arith), h 3 (omega arith), h 4 (omega arith), h 5 (omega arith))
+
+red-eight : length (family 63) ≡ 8
+unfolding patternOf
+red-eight = sym (size-refined 64 (λ z. absurd (omega (arith, z)))) ∙ size-red 64 refl
+
+green-size : (s : ℕ) → s ≤ 63 → (j : ℕ) → j < sizeOf s → j < length (family s)
+unfolding patternOf
+green-size s h j g =
+    let e : patternOf s ≡ s = rw (ne-eqb s 64 (λ z. absurd (omega (arith, z))), patternOf) in
+    subst (λ (n : ℕ). j < n) (size-refined s (size-some s j g) ∙ ap (λ (p : ℕ). length (family p)) e) g
+
+module _ (x : List ℕ) (c : ℕ) where
+  module _ (h : field x (STATUS + c) ≤ 63) where
+    kid-in : (j : ℕ) → j < kidCount x c → j < length (family (field x (STATUS + c)))
+    unfolding kidCount
+    kid-in j g =
+        let e : kidCount x c ≡ min (sizeOf (field x (STATUS + c))) (field x CELLS - field x (CHILD + c)) =
+        rw (le-leb (field x (STATUS + c)) 64 (omega arith), kidCount) in
+        green-size (field x (STATUS + c)) h j (omega (arith, e, g))
+
+    pair-is : (a b : ℕ) → pairHas x (cutOf (field x (STATUS + c)) .digits) (field x (CHILD + c)) (kidCount x c) a b ≡ pairHit x c a b
+    unfolding pairHas kidHas edgeHit edgeHas pairHit
+    pair-is a b =
+        some-same _ _ (kidCount x c) 0 (λ j l m.
+        some-same _ _ 6 0 (λ y k n.
+        ap₂ (λ (u v : ℕ). (eqb a u && eqb b v) && hitOf x (field x (CHILD + c) + j) y)
+        (low-is (field x (STATUS + c)) (omega arith) j (kid-in j (omega (arith, m))) y n)
+        (high-is (field x (STATUS + c)) (omega arith) j (kid-in j (omega (arith, m))) y n))
+        ∙ sym (any-six (λ y. (eqb a (lowDigit (field x (STATUS + c)) j y) && eqb b (highDigit (field x (STATUS + c)) j y))
+        && hitOf x (field x (CHILD + c) + j) y)))
+        ∙ sym (any-range (λ j. anyb (λ y. (eqb a (lowDigit (field x (STATUS + c)) j y) && eqb b (highDigit (field x (STATUS + c)) j y))
+        && hitOf x (field x (CHILD + c) + j) y) sixEdges) (kidCount x c) 0)
+
+    pub fresh-is : (i : ℕ) → i < 8
+        → freshBy x (cutOf (field x (STATUS + c)) .digits) (cutOf 63 .digits) (field x (CHILD + c)) (kidCount x c) i ≡ freshStatus x c i
+    unfolding freshBy freshStatus
+    fresh-is i g = ap bitsOf (six-same _ _ (λ y m. ap₂
+        (pairHas x (cutOf (field x (STATUS + c)) .digits) (field x (CHILD + c)) (kidCount x c))
+        (low-is 63 (omega arith) i (omega (arith, red-eight)) y m) (high-is 63 (omega arith) i (omega (arith, red-eight)) y m)
+        ∙ pair-is (lowDigit 63 i y) (highDigit 63 i y)))
+
+  -- a status that is none has no children
+  pub fresh-none : 64 < field x (STATUS + c) → (i : ℕ) → 0 ≡ freshStatus x c i
+  unfolding freshStatus pairHit kidCount anyb range bitsOf one-if
+  fresh-none h i =
+      let e : kidCount x c ≡ 0 = rw (lt-leb (field x (STATUS + c)) 64 h, kidCount) (omega arith) in
+      let f : (a b : ℕ) → pairHit x c a b ≡ false = λ a b. rw (e, pairHit) in
+      sym (ap bitsOf (six-same (λ y. pairHit x c (lowDigit 63 i y) (highDigit 63 i y)) (λ y. false)
+      (λ y m. f (lowDigit 63 i y) (highDigit 63 i y))))
