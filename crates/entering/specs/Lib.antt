@@ -10,3 +10,8 @@ pub mod Lines
 pub mod Entered
 pub mod Standing
 pub mod Turn
+pub mod Placing
+pub mod PlacingSteps
+pub mod PlacingStatus
+pub mod PlacingCells
+pub mod PlacingKept
