@@ -8,7 +8,6 @@ use mathlib.Core.Logic.{_≢_}
 use mathlib.Core.Bool.{Bool, true, false, _&&_, _||_, not}
 use mathlib.Core.List.{List, [], _∷_, _++_, map}
 use Prim.Native.Nat.{ℕ, zero, suc, _+_, _-_}
-use native.Mathlib.Omega.{arith}
 use lib.Dec.{T, eqb}
 use lib.ListN.{take}
 use borrow.Author.Tests.{eqb-false}
@@ -18,8 +17,8 @@ use Rattle.base.specs.Every.{All, all-append, all-more}
 use Rattle.exchange.specs.Finite.{Finite, sumOver}
 use Rattle.rounds.specs.Tests.{Member, member-head, member-tail}
 use Rattle.rounds.specs.Task.{Task}
-use Rattle.rounds.specs.Rounds.{Body, mark, count, total, end, Phase, marks, counts, totals, over, State, tells, worth, isPart, holdsb}
-use Rattle.rounds.specs.Rounds.{told, added, ghostMarks, edgeCounts, says, writing}
+use Rattle.rounds.specs.Rounds.{Body, mark, count, total, end, Phase, marks, counts, totals, over, State, tells, worth, isPart}
+use Rattle.rounds.specs.Rounds.{holdsb, told, added, ghostMarks, edgeCounts, says, writing}
 use Rattle.rounds.specs.Among.{is-eq}
 
 -- lists of which a beginning is taken

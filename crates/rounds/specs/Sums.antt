@@ -2,14 +2,13 @@
 --   cellsAt J i      how many cells the level i below the highest has
 --   SlotsOnce J      each slot stands once among those of its level
 -- Laws: range-once (numbers in a row stand once), tallies-few (the tallies of all parts together are no more than the cells), own-few (the
--- own count of a slot), sum-few (what a part knows of a slot that it holds, whatever it has taken), own-sum (in a round of counts all that is
--- known of a slot is the own count).
-use mathlib.Core.Path.{_≡_, refl, sym, _∙_, ap, ap₂, subst}
+-- own count of a slot), sum-few (what a part knows of a slot of a level, whatever it has taken), own-sum (in a round of counts all that
+-- is known of a slot of its level is the own count).
+use mathlib.Core.Path.{_≡_, refl, sym, _∙_, ap, subst}
 use mathlib.Core.Logic.{_≢_}
 use mathlib.Core.Bool.{Bool, true, false, _&&_, not}
 use mathlib.Core.List.{List, [], _∷_, _++_, map}
 use Prim.Native.Nat.{ℕ, zero, suc, _+_, _-_, _*_, _≤_, _<_, Fin}
-use native.Mathlib.Nat.{le-trans}
 use native.Mathlib.Omega.{arith}
 use native.Mathlib.Decide.{ℕ-discrete, decLt}
 use lib.Dec.{eqb}
@@ -18,8 +17,7 @@ use borrow.Author.Tests.{eq-eqb, ne-eqb}
 use Rattle.base.specs.Bools.{one-if, one-most}
 use Rattle.base.specs.Lists.{filterb}
 use Rattle.base.specs.Range.{range}
-use Rattle.base.specs.Every.{All, all-more}
-use Rattle.exchange.specs.Finite.{Finite, parts, sumOver, sum-le, sum-change, upd, upd-all, upd-same, upd-other}
+use Rattle.exchange.specs.Finite.{Finite, parts, sumOver, sum-le, sum-change, upd, upd-same, upd-other}
 use Rattle.exchange.specs.Lockstep.{lock}
 use Rattle.rounds.specs.Tests.{Member}
 use Rattle.rounds.specs.Task.{Task, Fit, has, redAt}
@@ -394,7 +392,8 @@ module _ (P : ℕ) (J : Task (Fin P)) where
                       ap (λ (k : ℕ). length (J .cells k)) e,
                     )
                 | no d ↦
-                    let a = added-none ms i h (at (suc (i + i))) (summed i h) p (taken F J (counts i) (at (suc (i + i))) p n) x less k d m in
+                    let a = added-none ms i h (at (suc (i + i))) (summed i h) p (taken F J (counts i) (at (suc (i + i))) p n) x
+                    less k d m in
                     elim (decLt level i) [
                       | yes l ↦ omega (arith, a, sum-levels i (omega arith) level l there, many-is, sum-marks i h k d m)
                       | no l ↦ omega (arith, a, summed i h p .zero-sum k x (omega arith) m)

@@ -1,0 +1,3 @@
+pub mod High
+pub mod Fitting
+pub mod Limited
