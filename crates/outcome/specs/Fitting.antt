@@ -27,8 +27,8 @@ use Rattle.rounds.specs.Totals.{sized-last}
 use Rattle.rounds.specs.Bound.{sumTo, SmallTask, pair-few, pair-most}
 use Rattle.rounds.specs.Said.{Said, taken, taken-last, untold, uncounted, counts-tell, totals-tell, over-tell, marks-count, totals-count}
 use Rattle.rounds.specs.Said.{over-count}
-use Rattle.rounds.specs.Turns.{Turn, in-marks, in-counts, in-totals, in-over, turn, marks-totals, counts-totals, over-totals}
-use Rattle.rounds.specs.Sums.{cellsAt, SlotsOnce, own-few, own-sum, sum-few}
+use Rattle.rounds.specs.Turns.{Turn, in-marks, in-counts, in-totals, in-over, turn-of, marks-totals, counts-totals, over-totals}
+use Rattle.rounds.specs.Sums.{cellsDown, SlotsOnce, own-few, own-sum, sum-few}
 use Rattle.standing.specs.Busy.{pack, CanTake}
 use Rattle.merging.specs.Totals.{grownOf, grown-plain}
 use Rattle.entering.specs.Fits.{Fits, marksb, countsb}
@@ -105,7 +105,7 @@ module _ (P : ℕ) (J : Task (Fin P)) (fit : Fit J) (lim : Limits P J) (m : ℕ)
       let z : J .top - (J .top - k) ≡ k = omega arith in
       omega (
         arith,
-        sum-at (cellsAt J) (suc (J .top)) (J .top - k) (omega arith),
+        sum-at (cellsDown J) (suc (J .top)) (J .top - k) (omega arith),
         ap (λ (k : ℕ). length (J .cells k)) z,
         small .cells,
         m-few,
@@ -132,7 +132,7 @@ module _ (P : ℕ) (J : Task (Fin P)) (fit : Fit J) (lim : Limits P J) (m : ℕ)
       )
 
   in-last : (C : ℕ → Type 0) → C (suc (suc (J .top + J .top))) → (r : ℕ) → r ≤ Q .rounds → phase (J .top) r ≡ totals → C r
-  in-last C c r h f = go (turn (J .top) r h)
+  in-last C c r h f = go (turn-of (J .top) r h)
     where
       go : Turn (J .top) r → C r
       go (in-marks i l e) = marks-totals i (sym (phase-marks (J .top) i l) ∙ ap (phase (J .top)) (sym e) ∙ f)

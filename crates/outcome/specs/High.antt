@@ -110,7 +110,8 @@ module _ {Part : Type 0} (F : Finite Part) (J : Task Part) (fit : Fit J) (lev : 
     fresh-entries = go (anewb F J p st k c) refl
       where
         go : (b : Bool) → anewb F J p st k c ≡ b → All Low (freshEntries F J p st k c)
-        go true e = rw (e, freshEntries) (all-flat Low (childEntries F J p st c) (range 0 (sizeOf (statusNew J st c))) (λ i n. child-entries i))
+        go true e = rw (e, freshEntries) (all-flat Low (childEntries F J p st c) (range 0 (sizeOf (statusNew J st c)))
+            (λ i n. child-entries i))
         go false e = rw (e, freshEntries) tt
 
     master-entry : All Low (masterEntry F J p st k c)

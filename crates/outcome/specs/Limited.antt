@@ -1,6 +1,6 @@
 -- What a store holds of a task says that the task is within the limits.
--- Laws, for a store with the columns of a part: limits-of (cells, slots and levels), small-of (at most 4,096 cells, and six slots for each),
--- fitting-of (then every place that a lawful exchange leads to has room).
+-- Laws, for a store with the columns of a part: limits-of (cells, slots and levels), small-of (at most 4,096 cells, and six slots for
+-- each), fitting-of (then every place that a lawful exchange leads to has room).
 use mathlib.Core.Path.{_≡_, sym, _∙_, ap, subst}
 use mathlib.Core.List.{List}
 use Prim.Native.Nat.{ℕ, zero, suc, _+_, _-_, _≤_, _<_, Fin}

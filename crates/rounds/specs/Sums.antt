@@ -1,5 +1,5 @@
 -- The counts of edges are no more than the cells: each part's own count of a slot is a tally over a level's cells by owner.
---   cellsAt J i      how many cells the level i below the highest has
+--   cellsDown J i    how many cells the level i below the highest has
 --   SlotsOnce J      each slot stands once among those of its level
 -- Laws: range-once (numbers in a row stand once), tallies-few (the tallies of all parts together are no more than the cells), own-few (the
 -- own count of a slot), sum-few (what a part knows of a slot of a level, whatever it has taken), own-sum (in a round of counts all that
@@ -28,7 +28,7 @@ use Rattle.rounds.specs.Enough.{Marking, Counting, from, own-writes, oth
 use Rattle.rounds.specs.Rounded.{protocol, phase-marks, phase-counts, phase-totals, phase-over, lock-on, marking, to-counts}
 use Rattle.rounds.specs.Bound.{sumTo, filter-few}
 use Rattle.rounds.specs.Said.{taken, uncounted, marks-count, totals-count, over-count}
-use Rattle.rounds.specs.Turns.{Turn, in-marks, in-counts, in-totals, in-over, turn, same-counts, marks-counts, totals-counts}
+use Rattle.rounds.specs.Turns.{Turn, in-marks, in-counts, in-totals, in-over, turn-of, same-counts, marks-counts, totals-counts}
 use Rattle.rounds.specs.Turns.{over-counts}
 
 -- a number stands at most once among numbers in a row
@@ -46,8 +46,8 @@ range-once k (suc m) x = go (ℕ-discrete x k) (range-once (suc k) m x)
     go (yes e) r = rw (eq-eqb x k e, filterb) (omega (arith, ap length (range-after (suc k) m x (omega arith))))
     go (no n) r = rw (ne-eqb x k n, filterb) r
 
-abbrev pub cellsAt : {Part : Type 0} → Task Part → ℕ → ℕ
-cellsAt J i = length (J .cells (J .top - i))
+abbrev pub cellsDown : {Part : Type 0} → Task Part → ℕ → ℕ
+cellsDown J i = length (J .cells (J .top - i))
 
 abbrev pub SlotsOnce : {Part : Type 0} → Task Part → Type 0
 SlotsOnce J = (k x : ℕ) → k ≤ J .top → length (filterb (eqb x) (J .slots k)) ≤ 1
@@ -201,7 +201,7 @@ module _ (P : ℕ) (J : Task (Fin P)) where
       unfolding added
       full-is = refl
 
-      pub added-few : Member x (J .slots (J .top - i)) → st p .sum x + added F got x ≤ cellsAt J i
+      added-few : Member x (J .slots (J .top - i)) → st p .sum x + added F got x ≤ cellsDown J i
       added-few m =
           let own : (q : Fin P) → st q .own x ≡ tally F J q (redAt J ms i) (J .top - i) x = (λ q. w q .own-is x m) in
           let s = sum-others full (λ q. tally F J q (redAt J ms i) (J .top - i) x) p full-own
@@ -209,7 +209,7 @@ module _ (P : ℕ) (J : Task (Fin P)) where
           let t = tallies-few (redAt J ms i) (J .top - i) x in
           omega (arith, w p .same x m, own p, full-is, added-less, s, t)
 
-      pub added-none : (k : ℕ) → k ≢ J .top - i → Member x (J .slots k) → added F got x ≡ 0
+      added-none : (k : ℕ) → k ≢ J .top - i → Member x (J .slots k) → added F got x ≡ 0
       added-none k d m = omega (arith, added-less, none-added F J ms fit i h st w p k x d m)
 
     -- the rounds in lockstep
@@ -241,7 +241,7 @@ module _ (P : ℕ) (J : Task (Fin P)) where
 
       module _ (p : Fin P) (x : ℕ) where
         -- what a round does to the own count and to the sum
-        own-marks : (i : ℕ) → i ≤ J .top → at (suc (i + i)) p .own x ≤ at (i + i) p .own x + cellsAt J i
+        own-marks : (i : ℕ) → i ≤ J .top → at (suc (i + i)) p .own x ≤ at (i + i) p .own x + cellsDown J i
         unfolding taking
         own-marks i h =
             let s = at (i + i) p in
@@ -263,36 +263,36 @@ module _ (P : ℕ) (J : Task (Fin P)) where
         unfolding lock starting
         own-first = refl
 
-        own-levels : (i : ℕ) → i ≤ suc (J .top) → at (i + i) p .own x ≤ sumTo (cellsAt J) i
+        own-levels : (i : ℕ) → i ≤ suc (J .top) → at (i + i) p .own x ≤ sumTo (cellsDown J) i
         unfolding sumTo
         own-levels zero h = omega (arith, own-first)
         own-levels (suc i) h =
             let z : suc i + suc i ≡ suc (suc (i + i)) = omega arith in
             rw z (omega (arith, own-counts i (omega arith), own-marks i (omega arith), own-levels i (omega arith)))
 
-        sum-more : (i n : ℕ) → i + n ≡ suc (J .top) → sumTo (cellsAt J) i ≤ sumTo (cellsAt J) (suc (J .top))
+        sum-more : (i n : ℕ) → i + n ≡ suc (J .top) → sumTo (cellsDown J) i ≤ sumTo (cellsDown J) (suc (J .top))
         unfolding sumTo
-        sum-more i zero e = let z : i ≡ suc (J .top) = omega arith in omega (arith, ap (sumTo (cellsAt J)) z)
+        sum-more i zero e = let z : i ≡ suc (J .top) = omega arith in omega (arith, ap (sumTo (cellsDown J)) z)
         sum-more i (suc n) e = omega (arith, sum-more (suc i) n (omega arith))
 
-        own-before : (i : ℕ) → i ≤ suc (J .top) → at (i + i) p .own x ≤ sumTo (cellsAt J) (suc (J .top))
+        own-before : (i : ℕ) → i ≤ suc (J .top) → at (i + i) p .own x ≤ sumTo (cellsDown J) (suc (J .top))
         own-before i h = omega (arith, own-levels i h, sum-more i (suc (J .top) - i) (omega arith))
 
         -- THE OWN COUNT of any slot
-        pub own-few : (r : ℕ) → r ≤ suc (suc (suc (J .top + J .top))) → at r p .own x ≤ sumTo (cellsAt J) (suc (J .top))
-        own-few r h = go (turn (J .top) r h)
+        pub own-few : (r : ℕ) → r ≤ suc (suc (suc (J .top + J .top))) → at r p .own x ≤ sumTo (cellsDown J) (suc (J .top))
+        own-few r h = go (turn-of (J .top) r h)
           where
-            last : at (suc (suc (J .top + J .top))) p .own x ≤ sumTo (cellsAt J) (suc (J .top))
+            last : at (suc (suc (J .top + J .top))) p .own x ≤ sumTo (cellsDown J) (suc (J .top))
             last =
                 let z : suc (J .top) + suc (J .top) ≡ suc (suc (J .top + J .top)) = omega arith in
-                subst (λ (r : ℕ). at r p .own x ≤ sumTo (cellsAt J) (suc (J .top))) z (own-before (suc (J .top)) (omega arith))
+                subst (λ (r : ℕ). at r p .own x ≤ sumTo (cellsDown J) (suc (J .top))) z (own-before (suc (J .top)) (omega arith))
 
-            go : Turn (J .top) r → at r p .own x ≤ sumTo (cellsAt J) (suc (J .top))
+            go : Turn (J .top) r → at r p .own x ≤ sumTo (cellsDown J) (suc (J .top))
             go (in-marks i l e) = rw e (own-before i (omega arith))
             go (in-counts i l e) =
                 let z : suc i + suc i ≡ suc (suc (i + i)) = omega arith in
-                let b : at (suc (suc (i + i))) p .own x ≤ sumTo (cellsAt J) (suc (J .top)) =
-                subst (λ (r : ℕ). at r p .own x ≤ sumTo (cellsAt J) (suc (J .top))) z (own-before (suc i) (omega arith)) in
+                let b : at (suc (suc (i + i))) p .own x ≤ sumTo (cellsDown J) (suc (J .top)) =
+                subst (λ (r : ℕ). at r p .own x ≤ sumTo (cellsDown J) (suc (J .top))) z (own-before (suc i) (omega arith)) in
                 rw e (omega (arith, b, own-counts i l))
             go (in-totals e) = rw e last
             go (in-over e) = rw e (omega (arith, last, own-totals))
@@ -317,7 +317,7 @@ module _ (P : ℕ) (J : Task (Fin P)) where
         unfolding taking
         sum-totals = ap (λ (s : State). s .sum x) (on (suc (suc (J .top + J .top))) totals (phase-totals (J .top)) p)
 
-        sum-levels : (i : ℕ) → i ≤ suc (J .top) → (j : ℕ) → j < i → Member x (J .slots (J .top - j)) → at (i + i) p .sum x ≤ cellsAt J j
+        sum-levels : (i : ℕ) → i ≤ suc (J .top) → (j : ℕ) → j < i → Member x (J .slots (J .top - j)) → at (i + i) p .sum x ≤ cellsDown J j
         sum-levels zero h j l m = absurd (omega arith)
         sum-levels (suc i) h j l m =
             let z : suc i + suc i ≡ suc (suc (i + i)) = omega arith in
@@ -329,8 +329,8 @@ module _ (P : ℕ) (J : Task (Fin P)) where
             got : Fin P → List Body
             got = from F J (counts i) (at (suc (i + i))) p
 
-            go : Dec (j ≡ i) → (j < i → at (i + i) p .sum x ≤ cellsAt J j)
-                → at (suc (i + i)) p .sum x + added F (from F J (counts i) (at (suc (i + i))) p) x ≤ cellsAt J j
+            go : Dec (j ≡ i) → (j < i → at (i + i) p .sum x ≤ cellsDown J j)
+                → at (suc (i + i)) p .sum x + added F (from F J (counts i) (at (suc (i + i))) p) x ≤ cellsDown J j
             go (yes e) r =
                 let n : Member x (J .slots (J .top - i)) = rw e at m in
                 rw e (added-few ms i (omega arith) (at (suc (i + i))) (summed i (omega arith)) p
@@ -356,7 +356,7 @@ module _ (P : ℕ) (J : Task (Fin P)) where
           there : Member x (J .slots (J .top - level))
           there = subst (λ (k : ℕ). Member x (J .slots k)) (sym level-is) m
 
-          many-is : cellsAt J level ≡ length (J .cells k)
+          many-is : cellsDown J level ≡ length (J .cells k)
           many-is = ap (λ (k : ℕ). length (J .cells k)) level-is
 
           Few : ℕ → Phase → Type 0
@@ -429,7 +429,7 @@ module _ (P : ℕ) (J : Task (Fin P)) where
           pub sum-few : (r : ℕ) → r ≤ suc (suc (suc (J .top + J .top)))
               → sumTold F (at r p) (taken F J (phase (J .top) r) (at r) p n) x ≤ length (J .cells k)
           unfolding sumTold Few
-          sum-few r h = go (turn (J .top) r h)
+          sum-few r h = go (turn-of (J .top) r h)
             where
               go : Turn (J .top) r → Few r (phase (J .top) r)
               go (in-marks i l e) = rw e (in-round (i + i) (marks i) (phase-marks (J .top) i l) (few-marks i l))
@@ -440,7 +440,7 @@ module _ (P : ℕ) (J : Task (Fin P)) where
         -- in a round of counts
         pub own-sum : (r : ℕ) → r ≤ suc (suc (suc (J .top + J .top))) → (i : ℕ) → phase (J .top) r ≡ counts i
             → Member x (J .slots (J .top - i)) → at r p .own x ≡ at r p .sum x
-        own-sum r h i f m = go (turn (J .top) r h)
+        own-sum r h i f m = go (turn-of (J .top) r h)
           where
             go : Turn (J .top) r → at r p .own x ≡ at r p .sum x
             go (in-marks j l e) = marks-counts j i (sym (phase-marks (J .top) j l) ∙ ap (phase (J .top)) (sym e) ∙ f)

@@ -1,7 +1,7 @@
 -- Which round is of which kind.
 --   Turn top r       the round r of an exchange on top + 1 levels is one of marks, of counts, of totals, or behind the last
--- Laws: turn (each round is one of them); same-counts, marks-counts, totals-counts, over-counts, marks-totals, counts-totals, over-totals
--- (kinds are told apart).
+-- Laws: turn-of (each round is one of them); same-counts, marks-counts, totals-counts, over-counts, marks-totals, counts-totals,
+-- over-totals (kinds are told apart).
 use mathlib.Core.Path.{_≡_, refl, ap}
 use Prim.Native.Nat.{ℕ, zero, suc, _+_, _≤_}
 use native.Mathlib.Omega.{arith}
@@ -24,9 +24,9 @@ turn-on top r h (in-counts i l e) =
 turn-on top r h (in-totals e) = in-over (ap suc e)
 turn-on top r h (in-over e) = absurd (omega arith)
 
-pub turn : (top r : ℕ) → r ≤ suc (suc (suc (top + top))) → Turn top r
-turn top zero h = in-marks 0 (omega arith) refl
-turn top (suc r) h = turn-on top r h (turn top r (omega arith))
+pub turn-of : (top r : ℕ) → r ≤ suc (suc (suc (top + top))) → Turn top r
+turn-of top zero h = in-marks 0 (omega arith) refl
+turn-of top (suc r) h = turn-on top r h (turn-of top r (omega arith))
 
 -- kinds are told apart
 unfoldable kindOf : Phase → ℕ
