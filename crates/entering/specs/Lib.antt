@@ -15,3 +15,4 @@ pub mod PlacingSteps
 pub mod PlacingStatus
 pub mod PlacingCells
 pub mod PlacingKept
+pub mod Steps
