@@ -156,6 +156,12 @@ module _ (P : ℕ) (J : Task (Fin P)) (p : Fin P) (l : L P J) (x : List ℕ) (u 
 abbrev pub Static : ℕ → Type 0
 Static i = ((1 ≤ i) × (i < 7)) ⊎ (((16 ≤ i) × (i < 40)) ⊎ (((112 ≤ i) × (i < 41072)) ⊎ ((49264 ≤ i) × (i < 99440))))
 
+pub static-low : (i : ℕ) → Static i → (i < SUM) × (i ≢ ROUND) × (i ≢ WRITTEN)
+static-low i (inl (a, b)) = (omega arith, (λ e. absurd (omega (arith, e))), λ e. absurd (omega (arith, e)))
+static-low i (inr (inl (a, b))) = (omega arith, (λ e. absurd (omega (arith, e))), λ e. absurd (omega (arith, e)))
+static-low i (inr (inr (inl (a, b)))) = (omega arith, (λ e. absurd (omega (arith, e))), λ e. absurd (omega (arith, e)))
+static-low i (inr (inr (inr (a, b)))) = (omega arith, (λ e. absurd (omega (arith, e))), λ e. absurd (omega (arith, e)))
+
 pub record Stay (x y : List ℕ) : Type 0 where
   pub size : length y ≡ length x
   pub else : (i : ℕ) → Static i → field y i ≡ field x i

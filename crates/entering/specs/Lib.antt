@@ -16,3 +16,4 @@ pub mod PlacingStatus
 pub mod PlacingCells
 pub mod PlacingKept
 pub mod Steps
+pub mod ToCounts

@@ -95,7 +95,7 @@ reset-longer y z s =
     (λ i a b. s .else i (λ e. absurd (omega (arith, e))) (λ e. absurd (omega (arith, e))) (λ e. absurd (omega (arith, e))))
     (λ i a b. s .else i (λ e. absurd (omega (arith, e))) (λ e. absurd (omega (arith, e))) (λ e. absurd (omega (arith, e))))
 
-module _ (P : ℕ) (few : P ≤ 16) (J : Task (Fin P)) {In : Type 0} (reads : Fin P → In → ℕ → ℕ) (p : Fin P) where
+module _ (P : ℕ) (J : Task (Fin P)) {In : Type 0} (reads : Fin P → In → ℕ → ℕ) (p : Fin P) where
   abbrev pub Q : Protocol (Fin P) In Body (List ℕ) State
   Q = protocol (parts P) J (grownOf (parts P) J) (ups P) (pack P J) reads
 
@@ -103,7 +103,7 @@ module _ (P : ℕ) (few : P ≤ 16) (J : Task (Fin P)) {In : Type 0} (reads : Fi
   abbrev pub entering : ℕ → State → L P J → L P J
   entering r s l = enter (parts P) Q r p s (λ q. l .before q + length (l .got q)) (l .sent) (l .queue)
 
-  module _ (l : L P J) (x : List ℕ) (u : Busy P J p l x) (x1 y z : List ℕ) (ts : List (Line P)) (work : Worked x x1)
+  module _ (few : P ≤ 16) (l : L P J) (x : List ℕ) (u : Busy P J p l x) (x1 y z : List ℕ) (ts : List (Line P)) (work : Worked x x1)
       (wrote : Wrote P few J p x1 y ts) (reset : Reset y z) (r : ℕ) (s : State)
       (order : ordersOf P few J p ts ≡ orderOf (parts P) J (ups P) (phase (J .top) r) p s) where
     -- what a turn leaves
