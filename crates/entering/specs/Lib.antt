@@ -17,3 +17,4 @@ pub mod PlacingCells
 pub mod PlacingKept
 pub mod Steps
 pub mod ToCounts
+pub mod ToMarks
