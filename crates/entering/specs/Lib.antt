@@ -18,3 +18,4 @@ pub mod PlacingKept
 pub mod Steps
 pub mod ToCounts
 pub mod ToMarks
+pub mod Begins
