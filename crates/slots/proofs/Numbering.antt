@@ -124,22 +124,25 @@ module _ (t : List ℕ) (start from : ℕ) (xs₀ ys₀ heads₀ links₀ sl₀ 
     has-more j a b =
         ⊎-elim (λ (e : j ≡ i). rw (e, added) (has-new isb (0, 0) same-pair (listed xs ys from m) (sorted (edgeAt t i))))
         (λ (l : j < i). rw added (kept isb (0, 0) same-pair (listed xs ys from m) (sorted (edgeAt t i)) (sorted (edgeAt t j)) (r .there
-            j a l)))
+        j a l)))
         (eq-or-lt-of-le (omega arith))
 
     slot-more : (j : ℕ) → start ≤ j → j < suc i → getD sl′ j 0 ≡ from + placeIn isb (listed xs′ ys′ from m′) (sorted (edgeAt t j))
     slot-more j a b =
         ⊎-elim
         (λ (e : j ≡ i).
-        rw (e, o .slot) (getD-set-same sl i (from + placeIn isb (listed xs′ ys′ from m′) (sorted (edgeAt t i))) 0 (omega (arith, r
-            .same-sl))))
+        rw (e, o .slot) (getD-set-same sl i (from + placeIn isb (listed xs′ ys′ from m′) (sorted (edgeAt t i))) 0 (omega (
+          arith,
+          r
+              .same-sl,
+        ))))
         (λ (l : j < i).
         rw (o .slot) (getD-set-other sl i j (from + placeIn isb (listed xs′ ys′ from m′) (sorted (edgeAt t i))) 0 (λ z. absurd (omega
-            (arith, z)))
+        (arith, z)))
         ∙ r .slots j a l
         ∙ ap (λ (x : ℕ). from + x)
         (sym (rw added (place-kept isb (0, 0) same-pair (listed xs ys from m) (sorted (edgeAt t i)) (sorted (edgeAt t j)) (r .there j a
-            l))))))
+        l))))))
         (eq-or-lt-of-le (omega arith))
 
     pub run-more : Run t start from (suc i) xs₀ ys₀ heads₀ links₀ sl₀ xs′ ys′ heads′ links′ sl′ m′

@@ -26,7 +26,7 @@ loop-holds c =
       omega arith,
       going-start (s .args .rows .now) (s .args .firsts .now) (s .args .xs .now) (s .args .ys .now) (c .clear .last .0)
           (s .args .links .now) (s .args .slots .now) (s .args .starts .now) (c .clear .ensures .empty (s .args .xs .now) (s .args .ys
-              .now)
+          .now)
           (s .args .links .now)) (s .pre .1 .1),
     )
 
@@ -48,8 +48,11 @@ shared-slice-read-number-level : tie.Need-shared-slice-read-number-level Inv-loo
 shared-slice-read-number-level c = search needs
 
 cast-number-level : tie.Need-cast-number-level Inv-loop μ-loop
-cast-number-level c = omega (arith, c .before .before .before .before .before .before .before .before .pre .0 .most (c .before .before
-    .before .loop .k) (omega (arith, c .before .before .loop-test .taken)))
+cast-number-level c = omega (
+  arith,
+  c .before .before .before .before .before .before .before .before .pre .0 .most (c .before .before
+      .before .loop .k) (omega (arith, c .before .before .loop-test .taken)),
+)
 
 add-number-level : tie.Need-add-number-level Inv-loop μ-loop
 add-number-level c = search needs
@@ -64,8 +67,11 @@ cast-number-level-2 : tie.Need-cast-number-level-2 Inv-loop μ-loop
 cast-number-level-2 c =
     let l = c .before .before .before .before .loop in
     let z : l .k + 1 ≡ suc (l .k) = add-one (l .k) in
-    rw z (omega (arith, c .before .before .before .before .before .before .before .before .before .pre .0 .most (suc (l .k)) (omega
-        (arith, c .before .before .before .loop-test .taken))))
+    rw z (omega (
+      arith,
+      c .before .before .before .before .before .before .before .before .before .pre .0 .most (suc (l .k)) (omega
+          (arith, c .before .before .before .loop-test .taken)),
+    ))
 
 number-level-requires : tie.Need-number-level-requires Inv-loop μ-loop
 number-level-requires c κs =
@@ -83,8 +89,14 @@ number-level-requires c κs =
         ),
         (
           (rw z (s .pre .0 .up (l .k) h), rw z (s .pre .0 .most (suc (l .k)) (omega arith)), g .few),
-          (omega (arith, c .before .before .before .before .before .before .before .number-level-arg .given .0), omega (arith, c
-              .number-level-arg6 .given .0 .1)),
+          (
+            omega (arith, c .before .before .before .before .before .before .before .number-level-arg .given .0),
+            omega (
+              arith,
+              c
+                  .number-level-arg6 .given .0 .1,
+            ),
+          ),
         ),
       ),
     )
@@ -104,7 +116,7 @@ loop-again c =
       omega (arith, c .before .before .before .before .before .before .before .before .before .loop-test .taken),
       rw z (going-more (s .args .rows .now) (s .args .firsts .now) (s .pre .0) (l .k)
           (c .before .before .before .before .before .before .before .before .before .loop-test .taken) (l .xs) (l .ys) (l .heads) (l
-              .links) (l .slots) (l .starts) (l .n) (l .inv .1) (i .last .1 .1 .1 .0) (i .last .1 .1 .1 .1 .0) (i .last .1 .1 .1 .1 .1 .0)
+          .links) (l .slots) (l .starts) (l .n) (l .inv .1) (i .last .1 .1 .1 .0) (i .last .1 .1 .1 .1 .0) (i .last .1 .1 .1 .1 .1 .0)
           (i .last .1 .1 .1 .1 .1 .1 .0) (i .last .1 .1 .1 .1 .1 .1 .1 .1 .0) (i .result) (rw z at (i .ensures))),
     )
 
@@ -118,8 +130,12 @@ slice-write-starts-2 : tie.Need-slice-write-starts-2 Inv-loop μ-loop
 slice-write-starts-2 c = omega (arith, c .before .loop .inv .1 .size)
 
 same-length : tie.Need-same-length Inv-loop μ-loop
-same-length c = simp length-set (omega (arith, c .before .loop .inv .1 .size, c .before .before .before .before .before .before .pre .1
-    .1))
+same-length c = simp length-set (omega (
+  arith,
+  c .before .loop .inv .1 .size,
+  c .before .before .before .before .before .before .pre .1
+      .1,
+))
 
 returns : tie.Need-returns Inv-loop μ-loop
 returns c =

@@ -17,7 +17,7 @@ insert-requires c κs =
 cast-slots : tie.Need-cast-slots
 cast-slots c =
     let s = c .before .before .before .before .before .before .before .before .before .before .before .before .before .before .before
-        .before .before .before .before .before .before in
+    .before .before .before .before .before .before in
     let i = c .before .before .before .before .before .before .before .before .before .insert in
     let e = c .before .before .before .before .before .before .before .before .before .before .before .before .before .before .edge-of in
     omega (
@@ -52,7 +52,7 @@ same-length-5 c = search needs
 returns : tie.Need-returns
 returns c =
     let s = c .before .before .before .before .before .before .before .before .before .before .before .before .before .before .before
-        .before .before .before .before .before .before in
+    .before .before .before .before .before .before in
     let i = c .before .before .before .before .before .before .before .before .before .insert in
     let e = c .before .before .before .before .before .before .before .before .before .before .before .before .before .before .edge-of in
     one-more (s .args .rows .now) (s .args .i) (s .args .xs .now) (s .args .ys .now) (s .args .from) (s .args .n) (s .args .slots .now)

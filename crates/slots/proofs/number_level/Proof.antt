@@ -61,20 +61,26 @@ loop-less c = search needs
 loop-again : tie.Need-loop-again Inv-loop μ-loop
 loop-again c =
     let s = c .before .before .before .before .before .before .before .before .before .before .before .before .before .before .before
-        .before .before .before .before .before .before .before .before .before in
+    .before .before .before .before .before .before .before .before .before in
     let l = c .before .before .before .before .before .before .before .before .before .before .before .before .before .before .before
-        .before .before .loop in
+    .before .before .loop in
     let i = c .before .before .before .before .before .before .before .before .before .before .number-edge in (
       omega (arith, l .inv .0),
-      omega (arith, c .before .before .before .before .before .before .before .before .before .before .before .before .before .before
-          .before .before .loop-test .taken),
+      omega (
+        arith,
+        c .before .before .before .before .before .before .before .before .before .before .before .before .before .before
+            .before .before .loop-test .taken,
+      ),
       rw (add-one (l .i)) (run-more (s .args .rows .now) (6 * s .args .first) (s .args .n) (s .args .xs .now) (s .args .ys .now)
           (s .args .heads .now) (s .args .links .now) (s .args .slots .now) (l .i) (l .xs) (l .ys) (l .heads) (l .links) (l .slots) (l .m)
-          (l .inv .2) (l .inv .0) (omega (arith, c .before .before .before .before .before .before .before .before .before .before
-              .before .before .before .before .before .before .loop-test .taken)) (i .last .1 .1 .0) (i .last .1 .1 .1 .0) (i .last .1
-                  .1 .1 .1 .0) (i .last .1 .1 .1 .1 .1 .0) (i .last .1 .1 .1 .1 .1 .1 .1 .1 .0) (i .result)
+          (l .inv .2) (l .inv .0) (omega (
+            arith,
+            c .before .before .before .before .before .before .before .before .before .before
+                .before .before .before .before .before .before .loop-test .taken,
+          )) (i .last .1 .1 .0) (i .last .1 .1 .1 .0) (i .last .1
+          .1 .1 .1 .0) (i .last .1 .1 .1 .1 .1 .0) (i .last .1 .1 .1 .1 .1 .1 .1 .1 .0) (i .result)
           (i .ensures) (i .kept .1 .1 .0) (i .kept .1 .1 .1 .0) (i .kept .1 .1 .1 .1 .0) (i .kept .1 .1 .1 .1 .1 .0) (i .kept .1 .1 .1
-              .1 .1 .1 .1 .1 .0)),
+          .1 .1 .1 .1 .1 .0)),
     )
 
 same-length : tie.Need-same-length Inv-loop μ-loop
@@ -98,7 +104,7 @@ returns c =
     let l = c .before .loop in
     let k : l .i ≡ 6 * s .args .last = omega (arith, l .inv .1, c .loop-test .left) in
     run-done (s .args .rows .now) (s .args .first) (s .args .last) (s .args .n) (s .args .xs .now) (s .args .ys .now) (s .args .heads
-        .now)
+    .now)
     (s .args .links .now) (s .args .slots .now) (l .xs) (l .ys) (l .heads) (l .links) (l .slots) (l .m) (rw k at (l .inv .2))
 
 pub number-level-spec : {M : Type 1} → statement M
