@@ -1,0 +1,18 @@
+-- The store beside a result: the old masters and ghosts are written again where the step came to 8 or 9.
+--   restored x r    the store beside the result r, before it is written down
+use mathlib.Core.Path.{_≡_, refl}
+use mathlib.Core.Bool.{true, false}
+use mathlib.Core.List.{List}
+use Prim.Native.Nat.{ℕ}
+use lib.Dec.{eqb}
+use lib.ListN.{set}
+use Rattle.store.specs.Fields.{STAGE, RESULT}
+use Rattle.partstep.specs.Step.{endNumber, kept, finished}
+
+unfoldable pub restored : List ℕ → ℕ → List ℕ
+unfolding kept
+restored x r = elim (eqb r 0) [ true ↦ x | false ↦ kept x ]
+
+pub finished-is : (x : List ℕ) → finished x ≡ set (set (restored x (endNumber x)) RESULT (endNumber x)) STAGE 2
+unfolding finished restored
+finished-is x = refl
