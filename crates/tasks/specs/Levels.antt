@@ -1,5 +1,5 @@
 -- The cells of a level by number: the levels stand one behind the other.
--- Laws: below-none and below-more (how many cells lower levels have), below-first (the first cell of a level), below-top and below-all (all
+-- Laws: below-none, below-coarse and below-more (how many cells lower levels have), below-first (the first cell of a level), below-top and below-all (all
 -- cells), level-range and level-gap (the numbers of a level's cells), one-at-least (a mesh with cells has a level), level-top (which levels
 -- have cells).
 use mathlib.Core.Path.{_≡_, refl, sym, _∙_, ap, ap₂}
@@ -77,6 +77,11 @@ module _ (n : ℕ) (qs : List (List ℕ)) (ss : List ℕ) where
   level-gap k =
       let z : cellsBelow n qs ss (suc k) - cellsBelow n qs ss k ≡ many k = omega (arith, below-more k) in
       level-range k ∙ ap (range (cellsBelow n qs ss k)) (sym z)
+
+  pub below-coarse : cellsBelow n qs ss 1 ≡ length qs
+  unfolding levelsOf
+  below-coarse =
+      below-more 0 ∙ omega (arith, below-none, ap length (cells-first 11 0 (coarseCells n qs) ss), length-coarse n qs)
 
   -- a mesh with cells has a level
   pub one-at-least : 1 ≤ length qs → 1 ≤ length ls

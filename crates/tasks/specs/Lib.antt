@@ -7,3 +7,4 @@ pub mod Holders
 pub mod Sizes
 pub mod Paths
 pub mod Columns
+pub mod Idle
