@@ -1,27 +1,26 @@
 -- THE STORE OF A SPLIT HAS THE COLUMNS OF THE TASK.
 -- Laws: by-owner and by-family (the cells that a part holds), columns-of (the theorem).
-use mathlib.Core.Path.{_≡_, refl, sym, _∙_, ap, ap₂, subst}
-use mathlib.Core.Logic.{⊎-elim}
-use mathlib.Core.Bool.{Bool, true, false, _||_}
-use mathlib.Core.List.{List, [], _∷_}
-use Prim.Native.Nat.{ℕ, zero, suc, _+_, _-_, _*_, _≤_, _<_, pred, min, Fin}
-use native.Mathlib.Decide.{ℕ-discrete, decLt}
+use mathlib.Core.Path.{_≡_, refl, sym, _∙_, ap, ap₂}
+use mathlib.Core.Bool.{Bool, true, false}
+use mathlib.Core.List.{List, []}
+use Prim.Native.Nat.{ℕ, zero, suc, _+_, _-_, _≤_, _<_, pred, Fin}
+use native.Mathlib.Decide.{ℕ-discrete}
 use native.Mathlib.Omega.{arith}
-use lib.Dec.{T, leb, ltb}
+use lib.Dec.{T, ltb}
 use lib.ListN.{length, getD}
 use borrow.Author.Tests.{le-leb}
-use Rattle.base.specs.Bools.{one-if, is-true, or-first, or-second, not-both}
+use Rattle.base.specs.Bools.{one-if, is-true, or-first, or-second}
 use Rattle.base.specs.Every.{All}
 use Rattle.base.specs.Range.{range, member-range}
 use Rattle.mesh.specs.Cells.{Cell, bitsOf}
 use Rattle.mesh.specs.Weights.{Point}
 use Rattle.mesh.specs.Coarse.{cellsb}
 use Rattle.mesh.specs.Table.{levelsOf, soundb, sizeOf}
-use Rattle.soundness.specs.Sound.{Sound, lv, sound-parts}
+use Rattle.soundness.specs.Sound.{Sound, sound-parts}
 use Rattle.exchange.specs.Finite.{Finite, parts}
 use Rattle.rounds.specs.Tests.{Member}
 use Rattle.rounds.specs.Task.{Task}
-use Rattle.rounds.specs.Rounds.{isPart, mine, holdsb}
+use Rattle.rounds.specs.Rounds.{isPart, mine}
 use Rattle.rounds.specs.Among.{is-same}
 use Rattle.store.specs.Fields.{field, CELLS, FIRST-CELL, FIRST-SLOT, OWNER, FAMILY, STATUS, REGULAR, CHILD, PARENT, HEAD, DIGITS, MORE}
 use Rattle.store.specs.Fields.{INNER, HOLDERS}
@@ -31,13 +30,12 @@ use Rattle.store.specs.declared.Place.{Place}
 use Rattle.standing.specs.Busy.{HoldsCell}
 use Rattle.turns.specs.Decide.{kidCount}
 use Rattle.places.specs.Put.{placeAt}
-use Rattle.shares.specs.Grow.{coarseb, lastOf, last-snoc}
+use Rattle.shares.specs.Grow.{lastOf, last-snoc}
 use Rattle.parts.specs.Owners.{nthCell, childrenOf, familyOf, ownersb}
 use Rattle.splitting.specs.Numbers.{numbersOf, number-inside, kid, kid-in}
-use Rattle.splitting.specs.Split.{innerOf, owners-fit}
-use Rattle.splitting.specs.Admissible.{owners-counted}
+use Rattle.splitting.specs.Split.{owners-fit}
 use Rattle.merging.specs.Run.{nthPart, named}
-use Rattle.entering.specs.Columns.{Path, Columns}
+use Rattle.entering.specs.Columns.{Columns}
 use Rattle.split.specs.Columns.{cellsBelow, slotsBelow, slotOf, firstChild, innerBits, holdsCell, holdsSlot, holdersOf}
 use Rattle.split.specs.Split.{holdersAt}
 use Rattle.split.specs.Stored.{Stored, ifHeld, held-is, not-held}

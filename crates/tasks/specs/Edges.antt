@@ -4,28 +4,28 @@
 -- (they are slots).
 use mathlib.Core.Path.{_≡_, refl, sym, _∙_, ap, ap₂, subst}
 use mathlib.Core.Logic.{⊎-elim}
-use mathlib.Core.Bool.{Bool, true, false, _||_, or-false, or-true}
-use mathlib.Core.List.{List, [], _∷_, _++_, map, flatMap, map-append}
-use Prim.Native.Nat.{ℕ, zero, suc, _+_, _<_}
+use mathlib.Core.Bool.{true, or-false}
+use mathlib.Core.List.{List, [], _∷_, map, flatMap, map-append}
+use Prim.Native.Nat.{ℕ, suc, _+_, _<_}
 use native.Mathlib.Omega.{arith}
 use lib.Dec.{T, eqb}
-use lib.ListN.{length, getD}
+use lib.ListN.{length}
 use Rattle.base.specs.Lists.{anyb, sameb, memberb}
 use Rattle.base.specs.Bools.{is-true, or-first, or-second}
 use Rattle.base.specs.Every.{All, all-at}
-use Rattle.base.specs.Places.{hasb, has-append, placeIn}
+use Rattle.base.specs.Places.{hasb, has-append}
 use Rattle.base.specs.Range.{range}
-use Rattle.mesh.specs.Cells.{Cell, edge, edges, joinsb, heldb, noCell}
+use Rattle.mesh.specs.Cells.{edge, edges, joinsb, heldb, noCell}
 use Rattle.mesh.specs.Weights.{Point}
 use Rattle.mesh.specs.Coarse.{cellsb}
 use Rattle.mesh.specs.Table.{levelsOf, cellsOf, soundb}
-use Rattle.mesh.specs.Layout.{Corner, numberIn, mapCell}
+use Rattle.mesh.specs.Layout.{Corner, numberIn}
 use Rattle.edges.specs.Pairs.{Pair, sorted, isb, addPairs, same-pair, joins-sorted, has-pairs}
 use Rattle.numbering.specs.Corners.{Has}
 use Rattle.numbering.specs.Tests.{edgeIn, Placed, EndsPlaced, held-numbers}
 use Rattle.numbering.specs.Renamed.{edge-in, edge-map}
 use Rattle.numbering.specs.Tables.{sound-numbers}
-use Rattle.soundness.specs.Sound.{Sound, lv, sound-parts}
+use Rattle.soundness.specs.Sound.{Sound, sound-parts}
 use Rattle.rounds.specs.Tests.{Member, member-cases}
 use Rattle.rounds.specs.Task.{sixEdges}
 use Rattle.parts.specs.Owners.{nthCell}
@@ -33,7 +33,7 @@ use Rattle.splitting.specs.Numbers.{numbersOf, number-inside}
 use Rattle.splitting.specs.Split.{Slots}
 use Rattle.splitting.specs.Members.{six-below}
 use Rattle.splitting.specs.Keyed.{keyedSlot, keyedSlots, keyed-slots}
-use Rattle.split.specs.Columns.{cornersIn, numberedCell, levelAt, cellsBelow, keysAt, slotsBelow, slotOf}
+use Rattle.split.specs.Columns.{cornersIn, numberedCell, keysAt, slotsBelow, slotOf}
 use Rattle.tasks.specs.Levels.{level-range}
 
 module _ (n : ℕ) (qs : List (List ℕ)) (ss : List ℕ) where

@@ -5,24 +5,24 @@
 use mathlib.Core.Path.{_≡_, refl, sym, _∙_, ap, ap₂, subst}
 use mathlib.Core.Logic.{_≢_}
 use mathlib.Core.Bool.{Bool, true, false}
-use mathlib.Core.List.{List, [], _∷_, _++_}
+use mathlib.Core.List.{List, [], _∷_}
 use Prim.Native.Nat.{ℕ, zero, suc, _+_, _-_, _≤_, _<_, min, max}
 use native.Mathlib.Decide.{ℕ-discrete, decLt}
 use native.Mathlib.Omega.{arith}
-use lib.Dec.{T, eqb}
+use lib.Dec.{eqb}
 use lib.ListN.{length, getD, take}
 use lib.Seq.{take-suc, take-all}
 use borrow.Author.Tests.{eq-eqb, ne-eqb, eqb-true}
 use Rattle.base.specs.Lists.{filterb}
 use Rattle.base.specs.Bools.{not-both}
-use Rattle.base.specs.Range.{range, range-member}
+use Rattle.base.specs.Range.{range}
 use Rattle.cutting.specs.Rule.{family}
 use Rattle.mesh.specs.Cells.{Cell, noCell, patternOf, redEdges}
 use Rattle.mesh.specs.Weights.{Point, coarseCells}
-use Rattle.mesh.specs.Table.{Level, levelsOf, next, sizeOf, sizes}
+use Rattle.mesh.specs.Table.{levelsOf, next, sizeOf, sizes}
 use Rattle.mesh.specs.Laws.{sizes-append, sizes-one}
 use Rattle.rows.specs.Many.{size-refined, size-some, length-next}
-use Rattle.lineage.specs.Born.{childOf, Born, BornAt, born, born-below, born-at}
+use Rattle.lineage.specs.Born.{childOf, born, born-below, born-at}
 use Rattle.lineage.specs.Levels.{cells-first}
 use Rattle.lineage.specs.Paths.{length-coarse}
 use Rattle.carriers.specs.Refined.{pattern-small}
@@ -31,8 +31,8 @@ use Rattle.soundness.specs.Sound.{Sound, lv, level-closed, level-next, level-th
 use Rattle.rounds.specs.Tests.{Member}
 use Rattle.parts.specs.Owners.{nthCell, childrenOf}
 use Rattle.splitting.specs.Numbers.{numbersOf, at-level, stands, number-inside, level-at, kid, kid-in}
-use Rattle.split.specs.Columns.{levelAt, cellsBelow, firstChild}
-use Rattle.tasks.specs.Levels.{below-first, below-more, below-none, below-all, level-top}
+use Rattle.split.specs.Columns.{cellsBelow, firstChild}
+use Rattle.tasks.specs.Levels.{below-first, below-more, below-none}
 
 -- the numbers that lie between two bounds, among others
 module _ (f : ℕ → Bool) (b s : ℕ) where

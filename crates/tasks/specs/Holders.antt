@@ -2,20 +2,19 @@
 --   splitTask Q n qs ss os    the task of a table that is split over Q + 1 parts
 -- Laws: owner-ranged and family-ranged (owners are parts), part-is (a part by its number), mine-held (cells), slot-held (slots), slot-told
 -- (a slot that is held is one of its level), holder-bit (the parts that hold a slot, as bits), no-slot and no-bit (there are no others).
-use mathlib.Core.Path.{_≡_, refl, sym, _∙_, ap, ap₂, subst}
+use mathlib.Core.Path.{_≡_, sym, _∙_, ap, ap₂, subst}
 use mathlib.Core.Bool.{Bool, true, false, _&&_, _||_}
-use mathlib.Core.List.{List, [], _∷_, map}
-use Prim.Native.Nat.{ℕ, zero, suc, _+_, _≤_, _<_, Fin}
+use mathlib.Core.List.{List, map}
+use Prim.Native.Nat.{ℕ, suc, _≤_, _<_, Fin}
 use native.Mathlib.Decide.{decLt}
 use native.Mathlib.Omega.{arith}
 use lib.Dec.{T, eqb, eqb→eq}
 use lib.ListN.{length, getD, length-map, List·getD-eq-default}
-use borrow.Author.Tests.{eq-eqb, eqb-true, ne-eqb}
+use borrow.Author.Tests.{eq-eqb, ne-eqb}
 use Rattle.base.specs.Lists.{anyb}
-use Rattle.base.specs.Bools.{is-true, and-left, and-right, and-both}
+use Rattle.base.specs.Bools.{and-left, and-right}
 use Rattle.base.specs.Every.{All, getD-map}
 use Rattle.base.specs.Range.{range, length-range, range-at, range-member, member-range}
-use Rattle.mesh.specs.Cells.{bitsOf}
 use Rattle.mesh.specs.Coarse.{cellsb}
 use Rattle.mesh.specs.Table.{soundb}
 use Rattle.soundness.specs.Sound.{Sound, sound-parts}
@@ -25,7 +24,7 @@ use Rattle.rounds.specs.Task.{Task, has}
 use Rattle.rounds.specs.Rounds.{isPart, mine, holdsb}
 use Rattle.rounds.specs.Among.{is-eq, is-same}
 use Rattle.store.specs.Fetch.{bitb}
-use Rattle.parts.specs.Owners.{nthCell, childrenOf, familyOf, ownersb}
+use Rattle.parts.specs.Owners.{childrenOf, familyOf, ownersb}
 use Rattle.parts.specs.Held.{masterb}
 use Rattle.splitting.specs.Numbers.{numbersOf, number-inside, level-at, kid}
 use Rattle.splitting.specs.Split.{Slots, taskOf}

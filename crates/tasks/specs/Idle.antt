@@ -3,14 +3,14 @@
 -- before a cell).
 use mathlib.Core.Path.{_≡_, refl, sym, _∙_, ap, ap₂}
 use mathlib.Core.Bool.{Bool, true, false, _&&_, _||_, or-comm}
-use mathlib.Core.List.{List, [], _∷_, _++_, map}
-use Prim.Native.Nat.{ℕ, zero, suc, _+_, _≤_, _<_, Fin}
+use mathlib.Core.List.{List, [], map}
+use Prim.Native.Nat.{ℕ, zero, suc, _+_, _≤_, _<_}
 use native.Mathlib.Decide.{decLt}
 use native.Mathlib.Omega.{arith}
-use lib.Dec.{T, eqb, leb, ltb}
-use lib.ListN.{length, getD, drop, length-append, length-drop, drop-of-length-le}
+use lib.Dec.{T, eqb, leb}
+use lib.ListN.{length, getD, drop, drop-of-length-le}
 use lib.Seq.{drop-cons}
-use borrow.Author.Tests.{eq-eqb, ne-eqb, le-leb, lt-ltb, le-ltb, eqb-true}
+use borrow.Author.Tests.{eq-eqb, ne-eqb, le-leb, lt-ltb, le-ltb}
 use Rattle.base.specs.Lists.{filterb}
 use Rattle.base.specs.Bools.{one-if, not-both}
 use Rattle.base.specs.Range.{range}
@@ -20,13 +20,12 @@ use Rattle.soundness.specs.Sound.{Sound, sound-parts}
 use Rattle.store.specs.Fields.{field, STAGE, CELLS, ROUND, RESULT, STATUS}
 use Rattle.store.specs.Header.{headerb, stageb}
 use Rattle.turns.specs.Start.{ownb, markOk, markAt, nextMark, marksDue}
-use Rattle.parts.specs.Owners.{nthCell, familyOf, ownersb}
+use Rattle.parts.specs.Owners.{familyOf}
 use Rattle.parts.specs.Held.{masterb}
 use Rattle.parts.specs.Starts.{mastersOn, eachb, startb, placeOn}
-use Rattle.splitting.specs.Admissible.{owners-counted}
 use Rattle.entering.specs.Columns.{countBefore}
 use Rattle.split.specs.Columns.{holdsCell}
-use Rattle.split.specs.Stored.{Stored, ifHeld, held-is, not-held}
+use Rattle.split.specs.Stored.{Stored, held-is, not-held}
 use Rattle.tasks.specs.Levels.{below-coarse, below-all, one-at-least}
 
 -- one number more of those that pass a test

@@ -1,9 +1,9 @@
 -- The edges of a cell that are not also its parent's, as six bits.
 -- Laws: bit-at (a bit of a list of tests), inner-bits (the bits are those of the task).
-use mathlib.Core.Path.{_≡_, refl, sym, _∙_, ap, ap₂}
-use mathlib.Core.Bool.{Bool, true, false, not}
-use mathlib.Core.List.{List, [], _∷_, map}
-use Prim.Native.Nat.{ℕ, zero, suc, _<_, pred}
+use mathlib.Core.Path.{_≡_, refl, _∙_, ap, ap₂}
+use mathlib.Core.Bool.{Bool, false, not}
+use mathlib.Core.List.{List, [], map}
+use Prim.Native.Nat.{ℕ, suc, _<_}
 use native.Mathlib.Omega.{arith}
 use lib.Dec.{T, eqb}
 use lib.ListN.{length, getD}
@@ -11,13 +11,12 @@ use borrow.Author.Tests.{ne-eqb}
 use Rattle.base.specs.Lists.{sameb}
 use Rattle.base.specs.Every.{All, getD-map, below-at}
 use Rattle.cutting.specs.Rule.{split}
-use Rattle.mesh.specs.Cells.{Cell, edge, edges, heldb, bitsOf}
+use Rattle.mesh.specs.Cells.{edge, edges, heldb, bitsOf}
 use Rattle.mesh.specs.Coarse.{cellsb}
 use Rattle.mesh.specs.Table.{soundb}
 use Rattle.mesh.specs.Layout.{Corner, numberIn}
-use Rattle.edges.specs.Pairs.{Pair}
 use Rattle.numbering.specs.Corners.{Has}
-use Rattle.numbering.specs.Tests.{edgeIn, held-numbers}
+use Rattle.numbering.specs.Tests.{held-numbers}
 use Rattle.numbering.specs.Renamed.{edges-in, edges-map}
 use Rattle.carriers.specs.Patterns.{split-bits}
 use Rattle.soundness.specs.Sound.{Sound, sound-parts}

@@ -2,17 +2,16 @@
 -- Laws: below-none, below-coarse and below-more (how many cells lower levels have), below-first (the first cell of a level), below-top and below-all (all
 -- cells), level-range and level-gap (the numbers of a level's cells), one-at-least (a mesh with cells has a level), level-top (which levels
 -- have cells).
-use mathlib.Core.Path.{_≡_, refl, sym, _∙_, ap, ap₂}
+use mathlib.Core.Path.{_≡_, refl, sym, _∙_, ap}
 use mathlib.Core.List.{List, [], _∷_, _++_, flatMap}
-use Prim.Native.Nat.{ℕ, zero, suc, _+_, _-_, _≤_, _<_, pred}
+use Prim.Native.Nat.{ℕ, zero, suc, _+_, _-_, _≤_, _<_}
 use native.Mathlib.Decide.{decLt}
 use native.Mathlib.Omega.{arith}
-use lib.ListN.{length, getD, take, length-append, List·getD-eq-default}
+use lib.ListN.{length, take, length-append, List·getD-eq-default}
 use lib.Seq.{take-suc, take-all}
 use Rattle.base.specs.Range.{range}
-use Rattle.mesh.specs.Cells.{Cell}
-use Rattle.mesh.specs.Weights.{Point, coarseCells}
-use Rattle.mesh.specs.Table.{Level, levels, levelsOf, cellsOf}
+use Rattle.mesh.specs.Weights.{coarseCells}
+use Rattle.mesh.specs.Table.{Level, levelsOf, cellsOf}
 use Rattle.lattice.specs.Levels.{noLevel}
 use Rattle.lineage.specs.Levels.{levels-first, cells-first}
 use Rattle.lineage.specs.Paths.{length-coarse}

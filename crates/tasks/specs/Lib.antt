@@ -8,3 +8,4 @@ pub mod Sizes
 pub mod Paths
 pub mod Columns
 pub mod Idle
+pub mod Accepted

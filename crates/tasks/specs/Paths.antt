@@ -1,14 +1,13 @@
 -- The path of a cell has room in a place, and its place tells whether the cell is coarse.
 -- Laws: path-room (the path), place-coarse (the place's head).
-use mathlib.Core.Path.{_≡_, refl, sym, _∙_, ap, subst}
-use mathlib.Core.Bool.{true, false}
+use mathlib.Core.Path.{_≡_, refl, _∙_, ap}
 use mathlib.Core.List.{List, [], _∷_, _++_}
-use Prim.Native.Nat.{ℕ, zero, suc, _+_, _/_, _%_, _≤_, _<_, min}
+use Prim.Native.Nat.{ℕ, zero, suc, _/_, _≤_, _<_, min}
 use native.Mathlib.Omega.{arith}
 use lib.Dec.{ltb}
-use lib.ListN.{length, getD, take, length-append, length-take}
+use lib.ListN.{length, getD, length-append, length-take}
 use borrow.Author.Tests.{lt-ltb, le-ltb}
-use Rattle.base.specs.Every.{All, all-append}
+use Rattle.base.specs.Every.{all-append}
 use Rattle.cutting.specs.Rows.{family-few}
 use Rattle.mesh.specs.Cells.{Cell, noCell, patternOf, redEdges}
 use Rattle.mesh.specs.Weights.{Point, coarseCells}

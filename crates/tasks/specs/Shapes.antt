@@ -1,22 +1,22 @@
 -- The four points of a cell differ, and so its six edges have six slots.
 --   Apart c     no two corners of the cell c are the same point
 -- Laws: cell-apart (so of each cell of a sound table), edges-apart (its edges differ), slots-apart (and their slots).
-use mathlib.Core.Path.{_≡_, refl, sym, _∙_, ap, ap₂}
+use mathlib.Core.Path.{_≡_, sym, _∙_, ap, ap₂}
 use mathlib.Core.Logic.{⊎-elim}
-use mathlib.Core.Bool.{Bool, true, false}
-use mathlib.Core.List.{List, [], _∷_, map}
-use Prim.Native.Nat.{ℕ, zero, suc, _+_, _≤_, _<_}
+use mathlib.Core.Bool.{true, false}
+use mathlib.Core.List.{List, [], map}
+use Prim.Native.Nat.{ℕ, zero, suc, _<_}
 use native.Mathlib.Decide.{decLt}
 use native.Mathlib.Omega.{arith}
 use lib.Dec.{T, eqb, eqb→eq}
 use lib.ListN.{length, getD}
 use borrow.Author.Tests.{eq-eqb}
 use Rattle.base.specs.Lists.{belowb, belowb-at, sameb}
-use Rattle.base.specs.Bools.{impb, impb-use, either, not-both, is-true}
+use Rattle.base.specs.Bools.{impb, impb-use, either, not-both}
 use Rattle.base.specs.Every.{All, getD-map}
 use Rattle.cutting.specs.Rule.{low, high, digit, family}
-use Rattle.families.specs.Kuhn.{digit-named, digit-ends}
-use Rattle.families.specs.Children.{middle, middle-ends, digitsOf, child-four, lowDigit, highDigit, digits-rise, digits-below}
+use Rattle.families.specs.Kuhn.{digit-named}
+use Rattle.families.specs.Children.{middle, middle-ends, digitsOf, child-four, digits-rise, digits-below}
 use Rattle.mesh.specs.Cells.{Cell, corner, edge, joinsb, noCell, redEdges, patternOf}
 use Rattle.mesh.specs.Weights.{Point, point}
 use Rattle.mesh.specs.Coarse.{cellsb}
@@ -31,7 +31,6 @@ use Rattle.soundness.specs.Family.{born-of}
 use Rattle.soundness.specs.Sound.{Sound, lv, sound-parts, level-closed, level-next, level-there}
 use Rattle.soundness.specs.Whole.{coarse-level}
 use Rattle.rounds.specs.Tests.{Member}
-use Rattle.rounds.specs.Task.{sixEdges}
 use Rattle.parts.specs.Owners.{nthCell}
 use Rattle.splitting.specs.Numbers.{numbersOf, at-level, stands}
 use Rattle.splitting.specs.Members.{below-six}

@@ -2,26 +2,24 @@
 -- Laws: keys-few (of a level), slots-below (of lower levels), slots-all (of the table),
 -- slots-gap (the slots of a level), split-small (the task is small).
 use mathlib.Core.Path.{_≡_, refl, sym, _∙_, ap}
-use mathlib.Core.Bool.{Bool, true, false}
+use mathlib.Core.Bool.{true, false}
 use mathlib.Core.Logic.{⊎-elim}
 use mathlib.Core.List.{List, [], _∷_, _++_, flatMap}
-use Prim.Native.Nat.{ℕ, zero, suc, _+_, _-_, _*_, _≤_, _<_}
+use Prim.Native.Nat.{ℕ, zero, suc, _+_, _-_, _*_, _≤_}
 use native.Mathlib.Omega.{arith}
-use lib.Dec.{T}
 use lib.ListN.{length, length-append}
 use Rattle.base.specs.Bools.{either}
 use Rattle.base.specs.Places.{hasb, add, add-old, add-new}
 use Rattle.base.specs.Range.{range, length-range}
 use Rattle.mesh.specs.Cells.{edges}
-use Rattle.mesh.specs.Table.{soundb}
 use Rattle.edges.specs.Pairs.{Pair, sorted, isb, addPair, addPairs}
-use Rattle.soundness.specs.Sound.{Sound, lv, sound-parts}
+use Rattle.soundness.specs.Sound.{Sound}
 use Rattle.exchange.specs.Finite.{parts}
 use Rattle.rounds.specs.Bound.{SmallTask}
 use Rattle.splitting.specs.Small.{small-task}
 use Rattle.merging.specs.Run.{nthPart}
 use Rattle.split.specs.Columns.{numberedCell, levelAt, cellsBelow, keysAt, slotsBelow, slotOf}
-use Rattle.tasks.specs.Levels.{below-more, below-none, below-all}
+use Rattle.tasks.specs.Levels.{below-more, below-all}
 use Rattle.tasks.specs.Edges.{slotsAt, slots-follow}
 use Rattle.tasks.specs.Holders.{splitTask}
 

@@ -1,0 +1,159 @@
+-- An accepted split: what its answer says, and what the stores of its parts are.
+--   Splits Q n qs ss os      a sound table over an accepted mesh, with the owners of Q + 1 parts, within the limits
+-- Laws: splits-from (an accepted split is so), split-columns, split-header, split-marks and split-before (a store of it, by `Columns` and
+-- `Idle`), split-room, split-after and split-store (the table and the stores after the call), split-slots and split-few (its slots, and how small its task is).
+use mathlib.Core.Path.{_≡_, sym, ap, subst}
+use mathlib.Core.Bool.{Bool, true, _&&_}
+use mathlib.Core.List.{List}
+use Prim.Native.Nat.{ℕ, suc, _*_, _%_, _≤_, Fin}
+use native.Mathlib.Omega.{arith}
+use lib.Dec.{T, eqb, leb, leb→le}
+use lib.ListN.{length, getD}
+use lib.IntN.{ℤ}
+use Rattle.base.specs.Bools.{and-left, and-right}
+use Rattle.base.specs.Every.{All}
+use Rattle.base.specs.Fours.{fours, length-fours}
+use Rattle.base.specs.Refuse.{refuse, andThen, passed, both}
+use Rattle.base.specs.declared.Answer.{Answer}
+use Rattle.base.specs.declared.Answer.the-variants.{Accepted}
+use Rattle.mesh.specs.Coarse.{cornerCount, cellCount, countsb, positionsb, cellsb, solidb, singleb, meshAnswer}
+use Rattle.mesh.specs.Table.{soundb}
+use Rattle.mesh.specs.Answers.{tableAnswer, markb}
+use Rattle.lattice.specs.Levels.{fours-four}
+use Rattle.soundness.specs.Sound.{sound-parts}
+use Rattle.exchange.specs.Finite.{parts}
+use Rattle.rounds.specs.Bound.{SmallTask}
+use Rattle.store.specs.Fields.{field, full, CELLS}
+use Rattle.store.specs.Header.{headerb}
+use Rattle.turns.specs.Start.{marksDue}
+use Rattle.parts.specs.Owners.{ownersb}
+use Rattle.parts.specs.Starts.{startb, placeOn}
+use Rattle.splitting.specs.Admissible.{owners-counted}
+use Rattle.splitting.specs.Split.{Slots}
+use Rattle.entering.specs.Columns.{Columns, countBefore}
+use Rattle.split.specs.Columns.{slotOf}
+use Rattle.split.specs.Split.{storesAfter, splitIn, splitAnswer, splitAfter}
+use Rattle.split.specs.Stored.{Stored, storeAt, stored-split}
+use Rattle.split.specs.Stored as S
+use Rattle.tasks.specs.Edges.{slotsAt, slots-split}
+use Rattle.tasks.specs.Holders.{splitTask}
+use Rattle.tasks.specs.Sizes.{split-small}
+use Rattle.tasks.specs.Columns.{columns-of}
+use Rattle.tasks.specs.Idle.{idle-header, marks-due, marks-before}
+
+pub record Splits (Q n : ℕ) (qs : List (List ℕ)) (ss os : List ℕ) : Type 0 where
+  pub four : All (λ q. length q ≡ 4) qs
+  pub mesh : T (cellsb n qs)
+  pub sound : T (soundb n qs ss)
+  pub owners : T (ownersb n qs ss (suc Q) os)
+  pub parts-few : suc Q ≤ 16
+  pub corners-least : 4 ≤ n
+  pub corners-most : n ≤ 512
+  pub coarse-least : 1 ≤ length qs
+  pub coarse-most : length qs ≤ 256
+
+-- within the limits of a mesh
+module _ (ps : List ℤ) (ts : List ℕ) (t : T (countsb ps ts)) where
+  counts : (4 ≤ cornerCount ps) × (cornerCount ps ≤ 512) × (1 ≤ cellCount ts) × (cellCount ts ≤ 256)
+  unfolding countsb
+  counts =
+      let a = and-right (eqb (length ps % 3) 0 && eqb (length ts % 4) 0)
+      ((leb 4 (cornerCount ps) && leb (cornerCount ps) 512) && (leb 1 (cellCount ts) && leb (cellCount ts) 256)) t in
+      let b = and-left (leb 4 (cornerCount ps) && leb (cornerCount ps) 512) (leb 1 (cellCount ts) && leb (cellCount ts) 256) a in
+      let c = and-right (leb 4 (cornerCount ps) && leb (cornerCount ps) 512) (leb 1 (cellCount ts) && leb (cellCount ts) 256) a in (
+        leb→le 4 (cornerCount ps) (and-left (leb 4 (cornerCount ps)) (leb (cornerCount ps) 512) b),
+        leb→le (cornerCount ps) 512 (and-right (leb 4 (cornerCount ps)) (leb (cornerCount ps) 512) b),
+        leb→le 1 (cellCount ts) (and-left (leb 1 (cellCount ts)) (leb (cellCount ts) 256) c),
+        leb→le (cellCount ts) 256 (and-right (leb 1 (cellCount ts)) (leb (cellCount ts) 256) c),
+      )
+
+module _ (ps : List ℤ) (ts ss : List ℕ) (Q : ℕ) (os b : List ℕ) (e : splitAnswer ps ts ss (suc Q) os b ≡ Accepted) where
+  abbrev n : ℕ
+  n = cornerCount ps
+
+  abbrev qs : List (List ℕ)
+  qs = fours ts
+
+  abbrev last : Bool
+  last = ownersb (cornerCount ps) (fours ts) ss (suc Q) os
+
+  steps : (16 * full ≤ length b) × (tableAnswer ps ts ss ≡ Accepted) × T (leb 1 (suc Q) && leb (suc Q) 16) × T last
+  unfolding splitAnswer
+  steps =
+      let eleven = refuse 11 last Accepted in
+      let ten = refuse 10 (leb 1 (suc Q) && leb (suc Q) 16) eleven in
+      let (a, r) = passed 15 (leb (16 * full) (length b)) (andThen (tableAnswer ps ts ss) ten) e in
+      let (c, d) = both (tableAnswer ps ts ss) ten r in
+      let (f, g) = passed 10 (leb 1 (suc Q) && leb (suc Q) 16) eleven d in
+      (leb→le (16 * full) (length b) a, c, f, passed 11 last Accepted g .0)
+
+  table : (meshAnswer ps ts ≡ Accepted) × T (soundb (cornerCount ps) (fours ts) ss)
+  unfolding tableAnswer
+  table =
+      let (m, t) = both (meshAnswer ps ts) (refuse 6 (soundb (cornerCount ps) (fours ts) ss) Accepted) (steps .1) in
+      (m, passed 6 (soundb (cornerCount ps) (fours ts) ss) Accepted t .0)
+
+  meshed : T (countsb ps ts) × T (cellsb (cornerCount ps) (fours ts))
+  unfolding meshAnswer
+  meshed =
+      let five = refuse 5 (singleb qs) Accepted in
+      let four = refuse 4 (solidb ps qs) five in
+      let three = refuse 3 (cellsb n qs) four in
+      let two = refuse 2 (positionsb ps) three in
+      let (a, r) = passed 1 (countsb ps ts) two (table .0) in
+      let (_, d) = passed 2 (positionsb ps) three r in
+      (a, passed 3 (cellsb n qs) four d .0)
+
+  pub split-room : 16 * full ≤ length b
+  split-room = steps .0
+
+  pub splits-from : Splits Q (cornerCount ps) (fours ts) ss os
+  splits-from =
+      let (a, c, d, f) = counts ps ts (meshed .0) in
+      let l = length-fours ts in
+      record {
+        four = fours-four ts;
+        mesh = meshed .1;
+        sound = table .1;
+        owners = steps .3;
+        parts-few = leb→le (suc Q) 16 (and-right (leb 1 (suc Q)) (leb (suc Q) 16) (steps .2));
+        corners-least = a;
+        corners-most = c;
+        coarse-least = omega arith;
+        coarse-most = omega arith;
+      }
+
+  -- the table after the call
+  pub split-after : splitAfter ps ts ss (suc Q) os b ≡ storesAfter (cornerCount ps) (fours ts) ss (suc Q) os b
+  unfolding splitAfter splitIn
+  split-after = ap (λ (a : Answer). splitIn a (storesAfter (cornerCount ps) (fours ts) ss (suc Q) os b) b) e
+
+  -- the store of a part in it
+  pub split-store : (p : Fin (suc Q))
+      → Stored (cornerCount ps) (fours ts) ss (suc Q) os (suc (p .0)) (storeAt (splitAfter ps ts ss (suc Q) os b) (p .0))
+  split-store p =
+      subst (λ (y : List ℕ). Stored n qs ss (suc Q) os (suc (p .0)) (storeAt y (p .0))) (sym split-after)
+      (stored-split n qs ss (suc Q) os b (S.fours-four ts) (splits-from .parts-few) split-room (p .0) (p .1))
+
+module _ (Q n : ℕ) (qs : List (List ℕ)) (ss os : List ℕ) (g : Splits Q n qs ss os) where
+  pub split-slots : Slots n qs ss (slotOf n qs ss) (slotsAt n qs ss)
+  split-slots = slots-split n qs ss (g .four) (g .mesh) (g .sound)
+
+  pub split-few : SmallTask (parts (suc Q)) (splitTask Q n qs ss os) (length ss)
+  split-few = split-small n qs ss (sound-parts n qs ss (g .sound)) Q os
+
+  module _ (p : Fin (suc Q)) (x : List ℕ) (st : Stored n qs ss (suc Q) os (suc (p .0)) x) where
+    pub split-columns : Columns (suc Q) (splitTask Q n qs ss os) p x
+    split-columns =
+        columns-of Q n qs ss os (g .four) (g .mesh) (g .sound) (g .owners) p x st (g .parts-few) (g .coarse-least) (g .coarse-most)
+
+    pub split-header : headerb x ≡ true
+    split-header =
+        idle-header n qs ss (suc Q) os (p .0) x (g .sound) st (g .parts-few) (p .1) (g .corners-least) (g .corners-most) (g .coarse-least)
+        (g .coarse-most)
+
+    pub split-marks : (ms : List ℕ) → marksDue x ms (field x CELLS) 0 0 ≡ startb markb ss os (suc (p .0)) ms
+    split-marks = marks-due n qs ss (suc Q) os (p .0) x (g .sound) st (owners-counted n qs ss (suc Q) os (g .owners) .many)
+
+    pub split-before : (c : ℕ) → c ≤ length ss → getD os c 0 ≡ suc (p .0) → countBefore x c ≡ placeOn os c
+    split-before = marks-before n qs ss (suc Q) os (p .0) x (g .sound) st
