@@ -1,7 +1,8 @@
 -- An accepted split: what its answer says, and what the stores of its parts are.
 --   Splits Q n qs ss os      a sound table over an accepted mesh, with the owners of Q + 1 parts, within the limits
--- Laws: splits-from (an accepted split is so), split-columns, split-header, split-marks and split-before (a store of it, by `Columns` and
--- `Idle`), split-room, split-after and split-store (the table and the stores after the call), split-slots and split-few (its slots, and how small its task is).
+-- Laws: splits-from (an accepted split is so), split-room, split-after and split-store (the table and the stores after the call),
+-- split-slots and split-bound (its slots, and how small its task is), split-columns, split-header, split-marks and split-before (a store of it,
+-- by `Columns` and `Idle`).
 use mathlib.Core.Path.{_≡_, sym, ap, subst}
 use mathlib.Core.Bool.{Bool, true, _&&_}
 use mathlib.Core.List.{List}
@@ -35,7 +36,7 @@ use Rattle.split.specs.Columns.{slotOf}
 use Rattle.split.specs.Split.{storesAfter, splitIn, splitAnswer, splitAfter}
 use Rattle.split.specs.Stored.{Stored, storeAt, stored-split}
 use Rattle.split.specs.Stored as S
-use Rattle.tasks.specs.Edges.{slotsAt, slots-split}
+use Rattle.tasks.specs.Edges.{slotsOn, slots-split}
 use Rattle.tasks.specs.Holders.{splitTask}
 use Rattle.tasks.specs.Sizes.{split-small}
 use Rattle.tasks.specs.Columns.{columns-of}
@@ -136,11 +137,11 @@ module _ (ps : List ℤ) (ts ss : List ℕ) (Q : ℕ) (os b : List ℕ) (e : spl
       (stored-split n qs ss (suc Q) os b (S.fours-four ts) (splits-from .parts-few) split-room (p .0) (p .1))
 
 module _ (Q n : ℕ) (qs : List (List ℕ)) (ss os : List ℕ) (g : Splits Q n qs ss os) where
-  pub split-slots : Slots n qs ss (slotOf n qs ss) (slotsAt n qs ss)
+  pub split-slots : Slots n qs ss (slotOf n qs ss) (slotsOn n qs ss)
   split-slots = slots-split n qs ss (g .four) (g .mesh) (g .sound)
 
-  pub split-few : SmallTask (parts (suc Q)) (splitTask Q n qs ss os) (length ss)
-  split-few = split-small n qs ss (sound-parts n qs ss (g .sound)) Q os
+  pub split-bound : SmallTask (parts (suc Q)) (splitTask Q n qs ss os) (length ss)
+  split-bound = split-small n qs ss (sound-parts n qs ss (g .sound)) Q os
 
   module _ (p : Fin (suc Q)) (x : List ℕ) (st : Stored n qs ss (suc Q) os (suc (p .0)) x) where
     pub split-columns : Columns (suc Q) (splitTask Q n qs ss os) p x

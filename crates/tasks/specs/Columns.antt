@@ -40,11 +40,11 @@ use Rattle.split.specs.Columns.{cellsBelow, slotsBelow, slotOf, firstChild, inn
 use Rattle.split.specs.Split.{holdersAt}
 use Rattle.split.specs.Stored.{Stored, ifHeld, held-is, not-held}
 use Rattle.tasks.specs.Levels.{below-none, below-more, below-top, below-all, level-gap, one-at-least, level-top}
-use Rattle.tasks.specs.Edges.{slotsAt, slots-follow}
+use Rattle.tasks.specs.Edges.{slotsOn, slots-follow}
 use Rattle.tasks.specs.Shapes.{slots-apart}
-use Rattle.tasks.specs.Families.{child-at, kids-are, kids-inside, parent-in, status-most}
+use Rattle.tasks.specs.Families.{kid-at, kids-are, kids-inside, parent-in, status-most}
 use Rattle.tasks.specs.Inner.{bit-at, inner-bits}
-use Rattle.tasks.specs.Holders.{splitTask, owner-ranged, family-ranged, mine-held, slot-told, slot-held, holder-bit, no-bit}
+use Rattle.tasks.specs.Holders.{splitTask, owner-ranged, family-ranged, mine-held, slot-told, slot-holds, holder-bit, no-bit}
 use Rattle.tasks.specs.Sizes.{slots-none, slots-all, slots-gap}
 use Rattle.tasks.specs.Paths.{path-room, place-coarse}
 
@@ -72,7 +72,7 @@ module _ (Q n : ℕ) (qs : List (List ℕ)) (ss os : List ℕ) (four : All (λ q
   abbrev Holds : ℕ → Type 0
   Holds = HoldsCell (suc Q) (splitTask Q n qs ss os) p
 
-  pub inside : (k c : ℕ) → Member c (cells k) → (c < length ss) × (c < 4096)
+  inside : (k c : ℕ) → Member c (cells k) → (c < length ss) × (c < 4096)
   inside k c m = let h = number-inside n qs ss s k c m in (h, omega (arith, s .many, s .few))
 
   held-as : (k c : ℕ) → Member c (cells k) → T (mine F J p c) → holdsCell n qs ss os (suc (p .0)) c ≡ true
@@ -122,7 +122,7 @@ module _ (Q n : ℕ) (qs : List (List ℕ)) (ss os : List ℕ) (four : All (λ q
       ])
 
   -- the parts that hold a slot
-  slot-small : (k i : ℕ) → Member i (slotsAt n qs ss k) → i < 24576
+  slot-small : (k i : ℕ) → Member i (slotsOn n qs ss k) → i < 24576
   slot-small k i m =
       let (a, b) = member-range (slotsBelow n qs ss k) (slotsBelow n qs ss (suc k) - slotsBelow n qs ss k) i
       (rw (slots-gap n qs ss k) at m) in
@@ -223,20 +223,20 @@ module _ (Q n : ℕ) (qs : List (List ℕ)) (ss os : List ℕ) (four : All (λ q
           kids = λ k c m e.
               kids-are n qs ss s k c m ∙ ap₂ range (sym (child-is k c m e)) (sym (count-is k c m e));
           kid-number = λ k c j m e h.
-              let w = child-at n qs ss s k c j m (omega (arith, count-is k c m e)) in
+              let w = kid-at n qs ss s k c j m (omega (arith, count-is k c m e)) in
               ap (λ (y : ℕ). lastOf (nthCell n qs ss (y + j) .path)) (child-is k c m e) ∙ ap (λ (c : Cell Point). lastOf (c .path)) (w .is)
               ∙ last-snoc (nthCell n qs ss c .path) j;
           inner = λ k c d e m f q h.
               ap (λ (y : ℕ). bitb y e) (column (innerBits n qs ss) INNER (st .inner) d (kid-owner k c d m f q))
               ∙ inner-bits n qs ss four accepted sound k d e (kid n qs ss s k c d m q .up) h;
           holders = λ k i m e q.
-              let t : holdsSlot n qs ss os (suc (p .0)) i ≡ true = sym (slot-held Q n qs ss os sound owners four accepted p k i m) ∙ e in
+              let t : holdsSlot n qs ss os (suc (p .0)) i ≡ true = sym (slot-holds Q n qs ss os sound owners four accepted p k i m) ∙ e in
               ap (λ (y : ℕ). bitb y (q .0)) (holders-here i (slot-small k i m) t)
               ∙ holder-bit Q n qs ss os sound owners (q .0) i (omega (arith, q .1))
-              ∙ sym (slot-held Q n qs ss os sound owners four accepted q k i m);
+              ∙ sym (slot-holds Q n qs ss os sound owners four accepted q k i m);
           no-more = no-more;
           no-holders = λ k i m e.
-              holders-none i (slot-small k i m) (sym (slot-held Q n qs ss os sound owners four accepted p k i m) ∙ e);
+              holders-none i (slot-small k i m) (sym (slot-holds Q n qs ss os sound owners four accepted p k i m) ∙ e);
           held-slot = slot-told Q n qs ss os sound owners four accepted p;
         }
       where

@@ -1,5 +1,5 @@
 -- Slots by first appearance: each level's edges stand as pairs of corner numbers, each once.
---   key c e       the pair of the edge e of the cell c; slotsAt k the slots of level k
+--   key c e       the pair of the edge e of the cell c; slotsOn k the slots of level k
 -- Laws: cell-placed (the points of a cell are corners), edge-number (an edge over numbers), key-means (pairs tell edges apart), slots-split
 -- (they are slots).
 use mathlib.Core.Path.{_≡_, refl, sym, _∙_, ap, ap₂, subst}
@@ -40,8 +40,8 @@ module _ (n : ℕ) (qs : List (List ℕ)) (ss : List ℕ) where
   abbrev pub key : ℕ → ℕ → Pair
   key c e = sorted (edge 0 (numberedCell n qs ss c) e)
 
-  abbrev pub slotsAt : ℕ → List ℕ
-  slotsAt k = range (slotsBelow n qs ss k) (length (keysAt n qs ss k))
+  abbrev pub slotsOn : ℕ → List ℕ
+  slotsOn k = range (slotsBelow n qs ss k) (length (keysAt n qs ss k))
 
   sixOf : ℕ → List Pair
   sixOf c = edges 0 (numberedCell n qs ss c)
@@ -126,6 +126,6 @@ module _ (n : ℕ) (qs : List (List ℕ)) (ss : List ℕ) where
         (λ k c d e f m q b g.
         key-means c d e f (number-inside n qs ss s k c m) (number-inside n qs ss s k d q) (six-below e b) (six-below f g))
 
-    pub slots-split : Slots n qs ss (slotOf n qs ss) slotsAt
+    pub slots-split : Slots n qs ss (slotOf n qs ss) slotsOn
     unfolding slotOf keyedSlot keyedSlots
     slots-split = keyed

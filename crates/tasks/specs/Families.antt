@@ -1,6 +1,6 @@
 -- The children of a cell stand one after the other, behind those of all cells before it.
---   Child k c i      what the number firstChild c + i stands for, where c is a cell of level k
--- Laws: below-next (the cells of two levels), child-at (each child by its number), kids-are (the children of a cell), kids-inside (they are
+--   KidAt k c i      what the number firstChild c + i stands for, where c is a cell of level k
+-- Laws: below-up (the cells of two levels), kid-at (each child by its number), kids-are (the children of a cell), kids-inside (they are
 -- cells of the table), status-most (the statuses of a sound table), parent-in (a parent stands one level down).
 use mathlib.Core.Path.{_≡_, refl, sym, _∙_, ap, ap₂, subst}
 use mathlib.Core.Logic.{_≢_}
@@ -124,14 +124,14 @@ module _ (n : ℕ) (qs : List (List ℕ)) (ss : List ℕ) (s : Sound n qs ss) wh
       (omega (arith, known k), rw e at (a .inside), rw e at (a .status-is)))
 
   -- behind the coarse cells stand the children of all cells of lower levels
-  pub below-next : (k : ℕ) → k < length (levelsOf n qs ss) → cellsBelow n qs ss (suc k) ≡ firstChild n qs ss (cellsBelow n qs ss k)
+  pub below-up : (k : ℕ) → k < length (levelsOf n qs ss) → cellsBelow n qs ss (suc k) ≡ firstChild n qs ss (cellsBelow n qs ss k)
   unfolding firstChild levelsOf
-  below-next zero h =
+  below-up zero h =
       let z : sizes (take (cellsBelow n qs ss 0) ss) ≡ 0 = ap (λ (x : ℕ). sizes (take x ss)) (below-none n qs ss) ∙ none-yet ss in
       below-more n qs ss 0
       ∙ omega (arith, below-none n qs ss, ap length (cells-first 11 0 (coarseCells n qs) ss), length-coarse n qs)
-  below-next (suc k) h =
-      let i = below-next k (omega arith) in
+  below-up (suc k) h =
+      let i = below-up k (omega arith) in
       let m : length (lv n qs ss (suc k) .cells) ≡ sizes (sts k) =
       ap length (level-next n qs ss k (omega (arith, s .high)))
       ∙ length-next (lv n qs ss k .first) (lv n qs ss k .cells) (sts k) (sym (known k)) in
@@ -144,7 +144,7 @@ module _ (n : ℕ) (qs : List (List ℕ)) (ss : List ℕ) (s : Sound n qs ss) wh
       omega (arith, below-more n qs ss (suc k))
 
   -- a child by its number
-  pub record Child (k c i : ℕ) : Type 0 where
+  pub record KidAt (k c i : ℕ) : Type 0 where
     pub up : Member (firstChild n qs ss c + i) (numbersOf n qs ss (suc k))
     pub is : nthCell n qs ss (firstChild n qs ss c + i) ≡ childOf c (nthCell n qs ss c) (getD ss c 0) i
 
@@ -155,11 +155,11 @@ module _ (n : ℕ) (qs : List (List ℕ)) (ss : List ℕ) (s : Sound n qs ss) wh
   child-number k p i h g u =
       let e : lv n qs ss k .first ≡ cellsBelow n qs ss k = below-first n qs ss k g in
       let w = before k p g (omega arith) in
-      let b = below-next k g in
+      let b = below-up k g in
       rw e (omega (arith, below-first n qs ss (suc k) u))
 
   child-place : (k p i : ℕ) → p < length (lv n qs ss k .cells) → i < sizeOf (getD (sts k) p 0)
-      → Child k (lv n qs ss k .first + p) i
+      → KidAt k (lv n qs ss k .first + p) i
   child-place k p i h g =
       let l = lv n qs ss k in
       let up = lv n qs ss (suc k) in
@@ -182,13 +182,13 @@ module _ (n : ℕ) (qs : List (List ℕ)) (ss : List ℕ) (s : Sound n qs ss) wh
             ∙ ap₂ (λ (c : Cell Point) (x : ℕ). childOf (lv n qs ss k .first + p) c x i) (sym (o .cell-is)) (sym (o .status-is));
       }
 
-  pub child-at : (k c i : ℕ) → Member c (numbersOf n qs ss k) → i < sizeOf (getD ss c 0) → Child k c i
-  child-at k c i m h =
+  pub kid-at : (k c i : ℕ) → Member c (numbersOf n qs ss k) → i < sizeOf (getD ss c 0) → KidAt k c i
+  kid-at k c i m h =
       let p = stands n qs ss s k c m in
       let a = at-level n qs ss s k (p .t) (p .below) in
       let e : getD ss c 0 ≡ getD (sts k) (p .t) 0 = ap (λ (x : ℕ). getD ss x 0) (p .number) ∙ a .status-is in
       let g : i < sizeOf (getD (sts k) (p .t) 0) = rw e at h in
-      subst (λ (x : ℕ). Child k x i) (sym (p .number)) (child-place k (p .t) i (p .below) g)
+      subst (λ (x : ℕ). KidAt k x i) (sym (p .number)) (child-place k (p .t) i (p .below) g)
 
   -- a cell one level up is a child
   pub record BornTo (k d : ℕ) : Type 0 where
@@ -228,7 +228,7 @@ module _ (n : ℕ) (qs : List (List ℕ)) (ss : List ℕ) (s : Sound n qs ss) wh
   pub kids-inside : (k c : ℕ) → Member c (numbersOf n qs ss k) → 0 < sizeOf (getD ss c 0)
       → firstChild n qs ss c + sizeOf (getD ss c 0) ≤ length ss
   kids-inside k c m h =
-      let w = child-at k c (sizeOf (getD ss c 0) - 1) m (omega arith) in
+      let w = kid-at k c (sizeOf (getD ss c 0) - 1) m (omega arith) in
       omega (arith, number-inside n qs ss s (suc k) (firstChild n qs ss c + (sizeOf (getD ss c 0) - 1)) (w .up))
 
   module _ (k c : ℕ) (m : Member c (numbersOf n qs ss k)) where
@@ -238,7 +238,7 @@ module _ (n : ℕ) (qs : List (List ℕ)) (ss : List ℕ) (s : Sound n qs ss) wh
     kid-to : (d : ℕ) → 0 ≤ d → d < 0 + length ss → firstChild n qs ss c ≤ d → d < firstChild n qs ss c + sizeOf (getD ss c 0)
         → mineb d ≡ true
     kid-to d a b h g =
-        let w = child-at k c (d - firstChild n qs ss c) m (omega arith) in
+        let w = kid-at k c (d - firstChild n qs ss c) m (omega arith) in
         let z : firstChild n qs ss c + (d - firstChild n qs ss c) ≡ d = omega arith in
         let e : nthCell n qs ss d .parent ≡ c = rw z at (ap (λ (c : Cell Point). c .parent) (w .is)) in
         eq-eqb (nthCell n qs ss d .parent) c e

@@ -1,6 +1,6 @@
 -- Which part holds which cell and which slot: in the numbers of a split, and in the task.
 --   splitTask Q n qs ss os    the task of a table that is split over Q + 1 parts
--- Laws: owner-ranged and family-ranged (owners are parts), part-is (a part by its number), mine-held (cells), slot-held (slots), slot-told
+-- Laws: owner-ranged and family-ranged (owners are parts), part-numbered (a part by its number), mine-held (cells), slot-holds (slots), slot-told
 -- (a slot that is held is one of its level), holder-bit (the parts that hold a slot, as bits), no-slot and no-bit (there are no others).
 use mathlib.Core.Path.{_≡_, sym, _∙_, ap, ap₂, subst}
 use mathlib.Core.Bool.{Bool, true, false, _&&_, _||_}
@@ -32,15 +32,15 @@ use Rattle.splitting.specs.Members.{first-in}
 use Rattle.splitting.specs.Admissible.{owners-counted}
 use Rattle.merging.specs.Run.{nthPart, numberOf, named}
 use Rattle.split.specs.Columns.{sixEdges, slotOf, holdsCell, holdsSlot, holdersOf}
-use Rattle.tasks.specs.Edges.{slotsAt, slots-split}
+use Rattle.tasks.specs.Edges.{slotsOn, slots-split}
 use Rattle.tasks.specs.Inner.{bit-at}
 
 abbrev pub splitTask : (Q n : ℕ) → List (List ℕ) → List ℕ → List ℕ → Task (Fin (suc Q))
-splitTask Q n qs ss os = taskOf n qs ss (slotOf n qs ss) (slotsAt n qs ss) os (nthPart Q)
+splitTask Q n qs ss os = taskOf n qs ss (slotOf n qs ss) (slotsOn n qs ss) os (nthPart Q)
 
 -- a part by its number
-pub part-is : (Q o : ℕ) (p : Fin (suc Q)) → 1 ≤ o → o ≤ suc Q → isPart (parts (suc Q)) (nthPart Q o) p ≡ eqb o (suc (p .0))
-part-is Q o p a b =
+pub part-numbered : (Q o : ℕ) (p : Fin (suc Q)) → 1 ≤ o → o ≤ suc Q → isPart (parts (suc Q)) (nthPart Q o) p ≡ eqb o (suc (p .0))
+part-numbered Q o p a b =
     same-test (isPart (parts (suc Q)) (nthPart Q o) p) (eqb o (suc (p .0)))
     (λ t.
     let e : o ≡ suc (p .0) = sym (named Q .forth o a b) ∙ ap (λ (x : Fin (suc Q)). numberOf x) (is-eq (parts (suc Q)) (nthPart Q o) p t) in
@@ -76,7 +76,7 @@ module _ (Q n : ℕ) (qs : List (List ℕ)) (ss os : List ℕ) (sound : T (sound
   mine-held p c h =
       let (a, b) = owner-ranged c h in
       let (d, e) = family-ranged c h in
-      ap₂ _||_ (part-is Q (getD os c 0) p a b) (part-is Q (familyOf n qs ss os c) p d e)
+      ap₂ _||_ (part-numbered Q (getD os c 0) p a b) (part-numbered Q (familyOf n qs ss os c) p d e)
 
   -- no other part holds a cell
   held-ranged : (i c : ℕ) → c < length ss → suc Q ≤ i → holdsCell n qs ss os (suc i) c ≡ false
@@ -101,26 +101,26 @@ module _ (Q n : ℕ) (qs : List (List ℕ)) (ss os : List ℕ) (sound : T (sound
       (λ t. absurd t)
 
   module _ (four : All (λ q. length q ≡ 4) qs) (accepted : T (cellsb n qs)) where
-    abbrev sl : Slots n qs ss (slotOf n qs ss) (slotsAt n qs ss)
+    abbrev sl : Slots n qs ss (slotOf n qs ss) (slotsOn n qs ss)
     sl = slots-split n qs ss four accepted sound
 
     -- the level of a cell's slots
-    slot-level : (k c x : ℕ) → Member c (numbersOf n qs ss k) → T (hasb c x) → Member x (slotsAt n qs ss k)
+    slot-level : (k c x : ℕ) → Member c (numbersOf n qs ss k) → T (hasb c x) → Member x (slotsOn n qs ss k)
     slot-level k c x m t =
         let (e, b, u) = any-member (λ e. eqb (slotOf n qs ss c e) x) sixEdges t in
-        subst (λ (y : ℕ). Member y (slotsAt n qs ss k)) (eqb→eq (slotOf n qs ss c e) x u) (sl .there k c e m b)
+        subst (λ (y : ℕ). Member y (slotsOn n qs ss k)) (eqb→eq (slotOf n qs ss c e) x u) (sl .there k c e m b)
 
     pub slot-told : (p : Fin (suc Q)) (k x : ℕ) → holdsb (parts (suc Q)) (splitTask Q n qs ss os) p k x ≡ true
-        → Member x (slotsAt n qs ss k)
+        → Member x (slotsOn n qs ss k)
     unfolding holdsb has
     slot-told p k x e =
         let (c, m, u) = any-member (λ c. mine F J p c && has J c x) (numbersOf n qs ss k) (rw e tt) in
         slot-level k c x m (and-right (mine F J p c) (has J c x) u)
 
-    pub slot-held : (p : Fin (suc Q)) (k x : ℕ) → Member x (slotsAt n qs ss k)
+    pub slot-holds : (p : Fin (suc Q)) (k x : ℕ) → Member x (slotsOn n qs ss k)
         → holdsb (parts (suc Q)) (splitTask Q n qs ss os) p k x ≡ holdsSlot n qs ss os (suc (p .0)) x
     unfolding holdsb has holdsSlot
-    slot-held p k x at =
+    slot-holds p k x at =
         same-test (holdsb F J p k x) (holdsSlot n qs ss os (suc (p .0)) x)
         (λ t.
         let (c, m, u) = any-member (λ c. mine F J p c && has J c x) (numbersOf n qs ss k) t in

@@ -1,6 +1,6 @@
 -- A store of a split before its start.
--- Laws: idle-header (its header is in range), own-is (its masters), marks-due (the marks that it takes), marks-before (how many masters stand
--- before a cell).
+-- Laws: idle-header (its header is in range), master-is (its masters), marks-due (the marks that it takes), marks-before (how many masters
+-- stand before a cell).
 use mathlib.Core.Path.{_≡_, refl, sym, _∙_, ap, ap₂}
 use mathlib.Core.Bool.{Bool, true, false, _&&_, _||_, or-comm}
 use mathlib.Core.List.{List, [], map}
@@ -85,9 +85,9 @@ module _ (n : ℕ) (qs : List (List ℕ)) (ss : List ℕ) (P : ℕ) (os : List �
       )
 
   -- its masters
-  pub own-is : (c : ℕ) → c < length ss → ownb x c ≡ masterb os (suc p) c
+  pub master-is : (c : ℕ) → c < length ss → ownb x c ≡ masterb os (suc p) c
   unfolding ownb masterb holdsCell
-  own-is c h = go (holdsCell n qs ss os (suc p) c) refl (masterb os (suc p) c) refl
+  master-is c h = go (holdsCell n qs ss os (suc p) c) refl (masterb os (suc p) c) refl
     where
       small : c < 4096
       small = omega (arith, s .many, s .few)
@@ -122,7 +122,7 @@ module _ (n : ℕ) (qs : List (List ℕ)) (ss : List ℕ) (P : ℕ) (os : List �
       go (masterb os (suc p) c) refl (decLt j (length ms)) (λ i. marks-from ms m (suc c) i (omega arith))
     where
       o : ownb x c ≡ masterb os (suc p) c
-      o = own-is c (omega arith)
+      o = master-is c (omega arith)
 
       go : (b : Bool) → masterb os (suc p) c ≡ b → Dec (j < length ms)
           → ((i : ℕ) → i ≤ length ms → marksDue x ms m (suc c) i ≡ eachb markb (due (suc c) m) (drop i ms))
@@ -153,7 +153,7 @@ module _ (n : ℕ) (qs : List (List ℕ)) (ss : List ℕ) (P : ℕ) (os : List �
   count-is zero h = refl
   count-is (suc c) h =
       let z : 0 + c ≡ c = omega arith in
-      ap₂ (λ (a : ℕ) (b : Bool). a + one-if b) (count-is c (omega arith)) (own-is c h)
+      ap₂ (λ (a : ℕ) (b : Bool). a + one-if b) (count-is c (omega arith)) (master-is c h)
       ∙ sym (rw z at (filter-snoc (masterb os (suc p)) 0 c))
 
   pub marks-before : (c : ℕ) → c ≤ length ss → getD os c 0 ≡ suc p → countBefore x c ≡ placeOn os c

@@ -1,7 +1,7 @@
 -- The cells of a level by number: the levels stand one behind the other.
--- Laws: below-none, below-coarse and below-more (how many cells lower levels have), below-first (the first cell of a level), below-top and below-all (all
--- cells), level-range and level-gap (the numbers of a level's cells), one-at-least (a mesh with cells has a level), level-top (which levels
--- have cells).
+-- Laws: below-none, below-coarse and below-more (how many cells lower levels have), below-first (the first cell of a level), below-top
+-- and below-all (all cells), level-range and level-gap (the numbers of a level's cells), one-at-least (a mesh with cells has a level),
+-- level-top (which levels have cells).
 use mathlib.Core.Path.{_≡_, refl, sym, _∙_, ap}
 use mathlib.Core.List.{List, [], _∷_, _++_, flatMap}
 use Prim.Native.Nat.{ℕ, zero, suc, _+_, _-_, _≤_, _<_}

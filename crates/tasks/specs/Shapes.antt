@@ -1,5 +1,5 @@
 -- The four points of a cell differ, and so its six edges have six slots.
---   Apart c     no two corners of the cell c are the same point
+--   PointsApart c     no two corners of the cell c are the same point
 -- Laws: cell-apart (so of each cell of a sound table), edges-apart (its edges differ), slots-apart (and their slots).
 use mathlib.Core.Path.{_≡_, sym, _∙_, ap, ap₂}
 use mathlib.Core.Logic.{⊎-elim}
@@ -37,8 +37,8 @@ use Rattle.splitting.specs.Members.{below-six}
 use Rattle.split.specs.Columns.{slotOf}
 use Rattle.tasks.specs.Edges.{slots-split}
 
-abbrev pub Apart : Cell Point → Type 0
-Apart c = (i j : ℕ) → i < 4 → j < 4 → corner [] c i ≡ corner [] c j → i ≡ j
+abbrev pub PointsApart : Cell Point → Type 0
+PointsApart c = (i j : ℕ) → i < 4 → j < 4 → corner [] c i ≡ corner [] c j → i ≡ j
 
 -- edges have their own middles
 middles : T (belowb (λ e. belowb (λ f. impb (eqb (middle e) (middle f)) (eqb e f)) 6) 6)
@@ -52,7 +52,7 @@ middle-own e f he hf q =
     (belowb-at (λ e. belowb (λ f. impb (eqb (middle e) (middle f)) (eqb e f)) 6) 6 middles e he) f hf)
     (rw (eq-eqb (middle e) (middle f) q) tt))
 
-pub edges-apart : (c : Cell Point) → Apart c → (e f : ℕ) → e < 6 → f < 6 → T (joinsb sameb (edge [] c e) (edge [] c f)) → e ≡ f
+pub edges-apart : (c : Cell Point) → PointsApart c → (e f : ℕ) → e < 6 → f < 6 → T (joinsb sameb (edge [] c e) (edge [] c f)) → e ≡ f
 unfolding edge
 edges-apart c a e f he hf t =
     let (x, y, z) = middle-ends e he in
@@ -114,7 +114,7 @@ module _ (p i : ℕ) (hp : p < 64) (hi : i < length (family p)) where
       ]
 
   -- a child of a regular cell
-  child-apart : (n k : ℕ) (c d : Cell Point) → k < 10 → Regular n k c → d .points ≡ map (point c) (digitsOf p i) → Apart d
+  child-apart : (n k : ℕ) (c d : Cell Point) → k < 10 → Regular n k c → d .points ≡ map (point c) (digitsOf p i) → PointsApart d
   child-apart n k c d h r e x y hx hy w =
       let is : (j : ℕ) → j < 4 → corner [] d j ≡ point c (at j) =
       (λ j g. ap (λ (ps : List Point). getD ps j []) e ∙ getD-map (point c) (digitsOf p i) j 0 [] (omega (arith, child-four p i hp hi))) in
@@ -125,17 +125,17 @@ module _ (n : ℕ) (qs : List (List ℕ)) (ss : List ℕ) (four : All (λ q. len
   abbrev s : Sound n qs ss
   s = sound-parts n qs ss sound
 
-  place-apart : (k t : ℕ) → t < length (lv n qs ss k .cells) → Apart (getD (lv n qs ss k .cells) t noCell)
+  place-apart : (k t : ℕ) → t < length (lv n qs ss k .cells) → PointsApart (getD (lv n qs ss k .cells) t noCell)
   place-apart k t h = ⊎-elim (regular k t h) (green k t h) (either (getD (lv n qs ss k .cells) t noCell .regular))
     where
       regular : (k t : ℕ) → t < length (lv n qs ss k .cells) → getD (lv n qs ss k .cells) t noCell .regular ≡ true
-          → Apart (getD (lv n qs ss k .cells) t noCell)
+          → PointsApart (getD (lv n qs ss k .cells) t noCell)
       regular k t h e =
           corner-injective n k (getD (lv n qs ss k .cells) t noCell)
           (regular-at n k (lv n qs ss k) (sound-regular n qs ss four accepted sound k) t h (rw e tt))
 
       green : (k t : ℕ) → t < length (lv n qs ss k .cells) → getD (lv n qs ss k .cells) t noCell .regular ≡ false
-          → Apart (getD (lv n qs ss k .cells) t noCell)
+          → PointsApart (getD (lv n qs ss k .cells) t noCell)
       green zero t h e = not-both (getD (lv n qs ss 0 .cells) t noCell .regular) (coarse-level n qs ss t h) e
       green (suc k) t h e =
           let l = lv n qs ss k in
@@ -150,7 +150,7 @@ module _ (n : ℕ) (qs : List (List ℕ)) (ss : List ℕ) (four : All (λ q. len
           child-apart (patternOf (getD (l .statuses) (b .p) 0)) (b .i) small (b .child) n k c (getD (lv n qs ss (suc k) .cells) t noCell)
           (omega (arith, s .high)) r (ap (λ (c : Cell Point). c .points) (b .is))
 
-  pub cell-apart : (k c : ℕ) → Member c (numbersOf n qs ss k) → Apart (nthCell n qs ss c)
+  pub cell-apart : (k c : ℕ) → Member c (numbersOf n qs ss k) → PointsApart (nthCell n qs ss c)
   cell-apart k c m =
       let p = stands n qs ss s k c m in
       let a = at-level n qs ss s k (p .t) (p .below) in

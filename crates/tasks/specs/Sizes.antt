@@ -20,7 +20,7 @@ use Rattle.splitting.specs.Small.{small-task}
 use Rattle.merging.specs.Run.{nthPart}
 use Rattle.split.specs.Columns.{numberedCell, levelAt, cellsBelow, keysAt, slotsBelow, slotOf}
 use Rattle.tasks.specs.Levels.{below-more, below-all}
-use Rattle.tasks.specs.Edges.{slotsAt, slots-follow}
+use Rattle.tasks.specs.Edges.{slotsOn, slots-follow}
 use Rattle.tasks.specs.Holders.{splitTask}
 
 add-few : (es : List Pair) (e : Pair) → length (addPair es e) ≤ suc (length es)
@@ -66,7 +66,7 @@ module _ (n : ℕ) (qs : List (List ℕ)) (ss : List ℕ) where
   slots-below zero = omega (arith, slots-none)
   slots-below (suc k) = omega (arith, slots-follow n qs ss k, below-more n qs ss k, keys-few k, slots-below k)
 
-  pub slots-gap : (k : ℕ) → slotsAt n qs ss k ≡ range (slotsBelow n qs ss k) (slotsBelow n qs ss (suc k) - slotsBelow n qs ss k)
+  pub slots-gap : (k : ℕ) → slotsOn n qs ss k ≡ range (slotsBelow n qs ss k) (slotsBelow n qs ss (suc k) - slotsBelow n qs ss k)
   slots-gap k =
       let z : slotsBelow n qs ss (suc k) - slotsBelow n qs ss k ≡ length (keysAt n qs ss k) = omega (arith, slots-follow n qs ss k) in
       ap (range (slotsBelow n qs ss k)) (sym z)
@@ -77,5 +77,5 @@ module _ (n : ℕ) (qs : List (List ℕ)) (ss : List ℕ) where
 
     pub split-small : (Q : ℕ) (os : List ℕ) → SmallTask (parts (suc Q)) (splitTask Q n qs ss os) (length ss)
     split-small Q os =
-        small-task n qs ss s (parts (suc Q)) (slotOf n qs ss) (slotsAt n qs ss)
+        small-task n qs ss s (parts (suc Q)) (slotOf n qs ss) (slotsOn n qs ss)
         (λ k. omega (arith, keys-few k, length-range (slotsBelow n qs ss k) (length (keysAt n qs ss k)))) os (nthPart Q)
