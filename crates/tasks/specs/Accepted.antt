@@ -1,8 +1,8 @@
 -- An accepted split: what its answer says, and what the stores of its parts are.
 --   Splits Q n qs ss os      a sound table over an accepted mesh, with the owners of Q + 1 parts, within the limits
 -- Laws: splits-from (an accepted split is so), split-room, split-after and split-store (the table and the stores after the call),
--- split-slots and split-bound (its slots, and how small its task is), split-columns, split-header, split-marks and split-before (a store of it,
--- by `Columns` and `Idle`).
+-- split-slots and split-bound (its slots, and how small its task is), split-columns, split-header, split-marks and split-before (a
+-- store of it, by `Columns` and `Idle`).
 use mathlib.Core.Path.{_≡_, sym, ap, subst}
 use mathlib.Core.Bool.{Bool, true, _&&_}
 use mathlib.Core.List.{List}

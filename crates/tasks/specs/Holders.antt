@@ -1,7 +1,8 @@
 -- Which part holds which cell and which slot: in the numbers of a split, and in the task.
 --   splitTask Q n qs ss os    the task of a table that is split over Q + 1 parts
--- Laws: owner-ranged and family-ranged (owners are parts), part-numbered (a part by its number), mine-held (cells), slot-holds (slots), slot-told
--- (a slot that is held is one of its level), holder-bit (the parts that hold a slot, as bits), no-slot and no-bit (there are no others).
+-- Laws: owner-ranged and family-ranged (owners are parts), part-numbered (a part by its number), mine-held (cells), slot-holds (slots),
+-- slot-told (a slot that is held is one of its level), holder-bit (the parts that hold a slot, as bits), no-slot and no-bit (there are no
+-- others).
 use mathlib.Core.Path.{_≡_, sym, _∙_, ap, ap₂, subst}
 use mathlib.Core.Bool.{Bool, true, false, _&&_, _||_}
 use mathlib.Core.List.{List, map}
