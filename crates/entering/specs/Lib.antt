@@ -19,3 +19,4 @@ pub mod Steps
 pub mod ToCounts
 pub mod ToMarks
 pub mod Begins
+pub mod ToTotals
