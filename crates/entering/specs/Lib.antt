@@ -20,3 +20,4 @@ pub mod ToCounts
 pub mod ToMarks
 pub mod Begins
 pub mod ToTotals
+pub mod ToEnd
