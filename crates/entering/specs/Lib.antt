@@ -21,3 +21,4 @@ pub mod ToMarks
 pub mod Begins
 pub mod ToTotals
 pub mod ToEnd
+pub mod Passing

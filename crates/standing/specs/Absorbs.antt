@@ -1,5 +1,5 @@
 -- Handing over on a store that stands at a place: the next message is accepted, and the store then stands at the place with it taken.
--- Law: hand-does.
+-- Laws: hand-does, hand-length and hand-else (what stays).
 use mathlib.Core.Path.{_≡_, refl, sym, _∙_, ap, subst}
 use mathlib.Core.Logic.{_≢_, _⊎_, inl, inr, ⊎-elim}
 use mathlib.Core.Bool.{Bool, true, false, _&&_, _||_, or-false, or-true}
@@ -397,3 +397,47 @@ module _ (P : ℕ) (J : Task (Fin P)) (p : Fin P) (l : L P J) (x : List ℕ) (u 
         ap (handAnswer x) e ∙ sym (hands .answer),
         subst (λ (z : List ℕ). Busy P J p (withBody (parts P) l q b) z) (hands .after ∙ ap (handAfter x) (sym e)) stands,
       )
+
+  -- WHAT STAYS
+  is-after : handAfter x (pack P J q p k b) ≡ y
+  is-after = sym (hands .after ∙ ap (handAfter x) (sym (packed-is P J p l x u q p k b room)))
+
+  pub hand-length : length (handAfter x (pack P J q p k b)) ≡ length x
+  hand-length = ap length is-after ∙ length-taken x m (q .0) (p .0) k b r low-q (u .long)
+
+  away-go : (b : Body) → CanTake P J p b → (i : ℕ)
+      → (i < 10) ⊎ (((12 ≤ i) × (i < 64)) ⊎ (((112 ≤ i) × (i < 45168)) ⊎ (((49264 ≤ i) × (i < 99440)) ⊎ (124016 ≤ i)))) → Away b (q .0) i
+  unfolding Away CanTake
+  away-go (mark c v) (h, f) i (inl a) = λ z. absurd (omega (arith, z))
+  away-go (mark c v) (h, f) i (inr (inl (a, d))) = λ z. absurd (omega (arith, z))
+  away-go (mark c v) (h, f) i (inr (inr (inl (a, d)))) = λ z. absurd (omega (arith, z))
+  away-go (mark c v) (h, f) i (inr (inr (inr (inl (a, d))))) = λ z. absurd (omega (arith, z))
+  away-go (mark c v) (h, f) i (inr (inr (inr (inr a)))) = λ z. absurd (omega (arith, z))
+  away-go (count s n) (h, f, o, t) i (inl a) = λ z. absurd (omega (arith, z))
+  away-go (count s n) (h, f, o, t) i (inr (inl (a, d))) = λ z. absurd (omega (arith, z))
+  away-go (count s n) (h, f, o, t) i (inr (inr (inl (a, d)))) = λ z. absurd (omega (arith, z))
+  away-go (count s n) (h, f, o, t) i (inr (inr (inr (inl (a, d))))) = λ z. absurd (omega (arith, z))
+  away-go (count s n) (h, f, o, t) i (inr (inr (inr (inr a)))) = λ z. absurd (omega (arith, z))
+  away-go (total n h) f i (inl a) = ((λ z. absurd (omega (arith, z))), λ z. absurd (omega (arith, z)))
+  away-go (total n h) f i (inr (inl (a, d))) = ((λ z. absurd (omega (arith, z))), λ z. absurd (omega (arith, z)))
+  away-go (total n h) f i (inr (inr (inl (a, d)))) = ((λ z. absurd (omega (arith, z))), λ z. absurd (omega (arith, z)))
+  away-go (total n h) f i (inr (inr (inr (inl (a, d))))) = ((λ z. absurd (omega (arith, z))), λ z. absurd (omega (arith, z)))
+  away-go (total n h) f i (inr (inr (inr (inr a)))) = ((λ z. absurd (omega (arith, z))), λ z. absurd (omega (arith, z)))
+  away-go end f i (inl a) = λ z. absurd (omega (arith, z))
+  away-go end f i (inr (inl (a, d))) = λ z. absurd (omega (arith, z))
+  away-go end f i (inr (inr (inl (a, d)))) = λ z. absurd (omega (arith, z, low-q))
+  away-go end f i (inr (inr (inr (inl (a, d))))) = λ z. absurd (omega (arith, z, low-q))
+  away-go end f i (inr (inr (inr (inr a)))) = λ z. absurd (omega (arith, z, low-q))
+
+  off-count : (i : ℕ) → (i < 10) ⊎ (((12 ≤ i) × (i < 64)) ⊎ (((112 ≤ i) × (i < 45168)) ⊎ (((49264 ≤ i) × (i < 99440)) ⊎ (124016 ≤ i))))
+      → i ≢ 64 + q .0
+  off-count i (inl a) z = omega (arith, z)
+  off-count i (inr (inl (a, d))) z = omega (arith, z)
+  off-count i (inr (inr (inl (a, d)))) z = omega (arith, z, low-q)
+  off-count i (inr (inr (inr (inl (a, d))))) z = omega (arith, z, low-q)
+  off-count i (inr (inr (inr (inr a)))) z = omega (arith, z, low-q)
+
+  pub hand-else : (i : ℕ) → (i < 10) ⊎ (((12 ≤ i) × (i < 64)) ⊎ (((112 ≤ i) × (i < 45168)) ⊎ (((49264 ≤ i) × (i < 99440)) ⊎ (124016 ≤ i))))
+      → field (handAfter x (pack P J q p k b)) i ≡ field x i
+  hand-else i h = ap (λ (v : List ℕ). field v i) is-after
+      ∙ else-taken x m (q .0) (p .0) k b r low-q (u .long) i (off-count i h) (away-go b fits i h)
