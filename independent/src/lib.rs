@@ -3,10 +3,12 @@
 //! are identified by their weights on the coarse corners, and by nothing else.
 
 pub mod archive;
+pub mod carrier;
 pub mod conform;
 pub mod cutting;
 pub mod fingerprint;
 pub mod mesh;
+pub mod parts;
 pub mod random;
 pub mod sha256;
 pub mod step;
