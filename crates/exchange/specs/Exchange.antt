@@ -393,10 +393,11 @@ module _ {In Msg Store : Type 0} (P : ℕ) (act : Program In Msg Store) (void : 
       only-went : Lawful act cs w → Inputs cs w → Went cs [] w home
       only-went h m = all-went [] h (rw append-nil m)
 
-      -- DETERMINISM: after any calls each part's store is one of its place
+      -- DETERMINISM: after any calls each part's store is one of its place, and its messages that were fetched are given
       pub determined : Lawful act cs w → Inputs cs w → (p : Fin P) → (g : Place (Fin P)) × Ok E p g
           × E .Is p g (storeAt void (play act cs w) p)
-      determined h m p = let k = only-went h m in (k .places p, k .inv .ok p, k .inv .same p)
+          × ((j : ℕ) → j < g .fetched → List·Memᴰ (E .msg p j) (play act cs w .given))
+      determined h m p = let k = only-went h m in (k .places p, k .inv .ok p, k .inv .same p, k .inv .full p)
 
       pub stores-kept : Lawful act cs w → Inputs cs w → length (play act cs w .stores) ≡ P
       stores-kept h m = only-went h m .inv .many

@@ -3,7 +3,7 @@
 --   mail, mailCount  what one part writes for another in a round, and how many messages in all rounds before
 --   post φ q         all that q has written up to a phase
 --   local p r n f    what p's store stands for in the round r, with n messages taken and f fetched
--- Laws: laws, live, post-length.
+-- Laws: laws, live, post-length, prefix (what is written first stays first).
 use Prim.Native.Nat.{ℕ, zero, suc, _+_, _-_, _≤_, _<_}
 use native.Mathlib.Omega.{arith}
 use native.Mathlib.Decide.{decLt, le-ind}
@@ -235,7 +235,7 @@ module _ {Part In Body Msg St : Type 0} (F : Finite Part) (Q : Protocol Part In 
       unfolding post
       post-grows q φ = rw length-append (omega arith)
 
-      prefix : (q : Part) (j a b : ℕ) → a ≤ b → j < length (post a q) → (length (post a q) ≤ length (post b q))
+      pub prefix : (q : Part) (j a b : ℕ) → a ≤ b → j < length (post a q) → (length (post a q) ≤ length (post b q))
           × (getD (post b q) j junk ≡ getD (post a q) j junk)
       unfolding post
       prefix q j a b h l = le-ind {n = a} (λ m. (length (post a q) ≤ length (post m q))

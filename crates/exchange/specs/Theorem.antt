@@ -8,7 +8,7 @@
 --   moves-few       how many calls can move the exchange on
 --   onward          all parts are done, or some call moves the exchange on
 --   completion      further calls bring every part to the end
---   all-given       where a fetch gives none, all that the part has written was fetched
+--   all-given       where a fetch gives none, all that the part has written was fetched, and so was given
 use Prim.Native.Nat.{ℕ, zero, suc, _+_, _-_, _≤_, _<_, Fin}
 use native.Mathlib.Omega.{arith}
 use native.Mathlib.Nat.{le-trans}
@@ -16,7 +16,7 @@ use native.Mathlib.Decide.{decLt}
 use mathlib.Core.Path.{_≡_, sym, ap, subst, _∙_, fun-ext}
 use mathlib.Core.Logic.{_⊎_, inl, inr}
 use mathlib.Core.Option.{Option, none, some}
-use mathlib.Core.List.{List, [], _∷_, _++_}
+use mathlib.Core.List.{List, [], _∷_, _++_, List·Memᴰ}
 use lib.ListN.{length, drop, getD}
 use lib.Seq.{take-nil, drop-cons}
 use Rattle.exchange.specs.Calls.{Fetch, Call, World, play, moves, startedWith, Lawful}
@@ -25,7 +25,8 @@ use Rattle.exchange.specs.Places.{Plan, Ok, Laws, Live}
 use Rattle.exchange.specs.Exchange.{storeAt, AtHome, determined, started, ended, rises-only, bounded, most, Goes, progress}
 use Rattle.exchange.specs.Exchange.{more-lawful, more-moves, more-inputs, callOf, completes}
 use Rattle.exchange.specs.Protocol.{Protocol, Machine, Local, Alone}
-use Rattle.exchange.specs.Lockstep.{lock, mailCount, post, local, place, plan, at-place, laws, live, post-length}
+use Rattle.exchange.specs.Played.{getD-mem}
+use Rattle.exchange.specs.Lockstep.{lock, mailCount, post, local, place, plan, at-place, laws, live, post-length, prefix}
 
 pub record Can {Part In Body Msg St : Type 0} (F : Finite Part) (Q : Protocol Part In Body Msg St) (input : Part
     → In) (p : Part) (r : ℕ) (n : Part → ℕ) (f : ℕ) : Type 0 where
@@ -73,18 +74,21 @@ module _ {In Body Msg St Store : Type 0} (P : ℕ) (Q : Protocol (Fin P) In Body
   -- DETERMINISM
   pub deterministic : (cs : List (Call In Msg)) → Allowed cs → (p : Fin P)
       → Z .Idle p (storeAfter cs p)
-      ⊎ ((r : ℕ) × (n : Fin P → ℕ) × (f : ℕ) × Can F Q input p r n f × Z .Busy p (local F Q input p r n f) (storeAfter cs p))
+      ⊎ ((r : ℕ) × (n : Fin P → ℕ) × (f : ℕ) × Can F Q input p r n f × Z .Busy p (local F Q input p r n f) (storeAfter cs p)
+      × ((j : ℕ) → j < f → List·Memᴰ (getD (post F Q input (suc (Q .rounds)) p) j junk) (play (Z .act) cs w .given)))
   unfolding place
   deterministic cs h p =
       let d = determined P (Z .act) void E K w home cs (h .lawful) (h .inputs) p in
-      go (d .0 .phase) (d .0 .taken) (d .0 .fetched) (d .1) (d .2)
+      go (d .0 .phase) (d .0 .taken) (d .0 .fetched) (d .1) (d .2) (d .3)
     where
       go : (φ : ℕ) (n : Fin P → ℕ) (f : ℕ) → Ok E p (at-place F Q input Z blank junk φ n f)
           → place F Q input Z blank junk p φ n f (storeAfter cs p)
+          → ((j : ℕ) → j < f → List·Memᴰ (getD (post F Q input (suc (Q .rounds)) p) j junk) (play (Z .act) cs w .given))
           → Z .Idle p (storeAfter cs p)
-          ⊎ ((r : ℕ) × (n : Fin P → ℕ) × (f : ℕ) × Can F Q input p r n f × Z .Busy p (local F Q input p r n f) (storeAfter cs p))
-      go zero n f o a = inl a
-      go (suc r) n f o a = inr (r, n, f, can p r n f o, a)
+          ⊎ ((r : ℕ) × (n : Fin P → ℕ) × (f : ℕ) × Can F Q input p r n f × Z .Busy p (local F Q input p r n f) (storeAfter cs p)
+          × ((j : ℕ) → j < f → List·Memᴰ (getD (post F Q input (suc (Q .rounds)) p) j junk) (play (Z .act) cs w .given)))
+      go zero n f o a t = inl a
+      go (suc r) n f o a t = inr (r, n, f, can p r n f o, a, t)
 
   pub begun-with : (cs : List (Call In Msg)) → Allowed cs → (p : Fin P) → 0 < phaseAfter cs p
       → startedWith (Z .act) cs w (p .0) ≡ some (input p)
@@ -172,7 +176,8 @@ module _ {In Body Msg St Store : Type 0} (P : ℕ) (Q : Protocol (Fin P) In Body
   -- NONE TO SEND: then the part has not started, or all that it has written up to its round was fetched
   pub all-given : (cs : List (Call In Msg)) → Allowed cs → (p : Fin P) → Z .act Fetch (storeAfter cs p) ≡ none
       → Z .Idle p (storeAfter cs p) ⊎ ((r : ℕ) × (n : Fin P → ℕ)
-      × Z .Busy p (local F Q input p r n (length (post F Q input (suc r) p))) (storeAfter cs p))
+      × Z .Busy p (local F Q input p r n (length (post F Q input (suc r) p))) (storeAfter cs p)
+      × ((m : Msg) → List·Memᴰ m (post F Q input (suc r) p) → List·Memᴰ m (play (Z .act) cs w .given)))
   all-given cs h p e = go (deterministic cs h p)
     where
       last : (r : ℕ) (n : Fin P → ℕ) (f : ℕ) → Can F Q input p r n f → Z .Busy p (local F Q input p r n f) (storeAfter cs p)
@@ -185,13 +190,19 @@ module _ {In Body Msg St Store : Type 0} (P : ℕ) (Q : Protocol (Fin P) In Body
           let z : _≡_ {A = ℕ} 0 1 = cc in absurd (omega arith)
 
       go : Z .Idle p (storeAfter cs p)
-          ⊎ ((r : ℕ) × (n : Fin P → ℕ) × (f : ℕ) × Can F Q input p r n f × Z .Busy p (local F Q input p r n f) (storeAfter cs p))
+          ⊎ ((r : ℕ) × (n : Fin P → ℕ) × (f : ℕ) × Can F Q input p r n f × Z .Busy p (local F Q input p r n f) (storeAfter cs p)
+          × ((j : ℕ) → j < f → List·Memᴰ (getD (post F Q input (suc (Q .rounds)) p) j junk) (play (Z .act) cs w .given)))
           → Z .Idle p (storeAfter cs p) ⊎ ((r : ℕ) × (n : Fin P → ℕ)
-          × Z .Busy p (local F Q input p r n (length (post F Q input (suc r) p))) (storeAfter cs p))
+          × Z .Busy p (local F Q input p r n (length (post F Q input (suc r) p))) (storeAfter cs p)
+          × ((m : Msg) → List·Memᴰ m (post F Q input (suc r) p) → List·Memᴰ m (play (Z .act) cs w .given)))
       go (inl a) = inl a
-      go (inr (r, n, f, c, b)) = inr (
-        r,
-        n,
-        subst (λ (k : ℕ). Z .Busy p (local F Q input p r n k) (storeAfter cs p))
-            (last r n f c b (decLt f (length (post F Q input (suc r) p)))) b,
-      )
+      go (inr (r, n, f, c, b, t)) =
+          let l = last r n f c b (decLt f (length (post F Q input (suc r) p))) in inr (
+            r,
+            n,
+            subst (λ (k : ℕ). Z .Busy p (local F Q input p r n k) (storeAfter cs p)) l b,
+            λ m i.
+                let (j, h, e) = getD-mem junk i in
+                let a = prefix F Q input Z blank junk p j (suc r) (suc (Q .rounds)) (omega (arith, c .in-rounds)) h in
+                subst (λ v. List·Memᴰ v (play (Z .act) cs w .given)) (a .1 ∙ e) (t j (omega (arith, l, h))),
+          )
