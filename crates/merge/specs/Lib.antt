@@ -1,1 +1,5 @@
 pub mod Merge
+pub mod Load
+pub mod Sweep
+pub mod Steps
+pub mod Merges

@@ -5,7 +5,7 @@
 --   ownsb i x             the store has the coarse cell i as master; cornersIn xs i its corners, from the first that does
 --   mergeCells xs         the corners of all coarse cells; mergeEntries xs the masters and ghosts of all stores
 --   mergeTable xs         the table that they make
---   mergeb xs             the stores merge; mergeAnswer b t: 15, then 16
+--   mergeb xs             the stores merge; mergeAnswer b t: 15, then 16; mergedOf what `merge` answers
 use mathlib.Core.Bool.{Bool, true, false, _&&_}
 use mathlib.Core.List.{List, [], _∷_, map, flatMap, flatten}
 use Prim.Native.Nat.{ℕ, suc, _+_, _*_}
@@ -23,6 +23,8 @@ use Rattle.parts.specs.Merge.{merged, completeb}
 use Rattle.store.specs.Fields.{field, full, STAGE, PART, PARTS, CORNERS, COARSE, RESULT, OWNER, CORNER}
 use Rattle.store.specs.Header.{headerb}
 use Rattle.held.specs.Held.{heldIn}
+use Rattle.merge.specs.declared.Merged.{Merged}
+use Rattle.merge.specs.declared.Merged.the-variants as done
 
 unfoldable pub storeIn : List ℕ → ℕ → List ℕ
 storeIn b j = take full (drop (full * j) b)
@@ -80,3 +82,8 @@ mergeb b =
 unfoldable pub mergeAnswer : List ℕ → List ℕ → Answer
 unfolding refuse mergeb
 mergeAnswer b t = refuse 15 (leb (16 * full) (length b) && leb 4096 (length t)) (refuse 16 (mergeb b) Accepted)
+
+-- what `merge` answers: how many cells the table has
+unfoldable pub mergedOf : Answer → ℕ → Merged
+mergedOf Accepted n = done.Cells n
+mergedOf (Refused k) n = done.Refused k

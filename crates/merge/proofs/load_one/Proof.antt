@@ -1,0 +1,63 @@
+use Rattle.merge.specs.Load.{load-ghost, load-full, load-master}
+use Rattle.pairs.specs.Keys.{Room}
+use native.Mathlib.Omega.{arith}
+use mathlib.Core.Path.{_≡_, sym, _∙_}
+use borrow.Author.Needs.{needs}
+use Rattle.merge.proofs.load_one.Statement.{statement}
+use Rattle.merge.proofs.load_one.Tie as tie
+use Rattle.merge.proofs.load_one.Reads as reads
+use Rattle.merge.proofs.load_one.Lts as lts
+use Rattle.held.proofs.is_ghost.Reads as is-ghost-reads
+use Rattle.held.proofs.key_of.Reads as key-of-reads
+use Rattle.held.proofs.status_of.Reads as status-of-reads
+use Rattle.pairs.proofs.add.Reads as add-reads
+
+-- src/lib.rt:69:8
+is-ghost-requires : tie.Need-is-ghost-requires
+is-ghost-requires c κs = search needs
+
+-- src/lib.rt:70:9
+returns : tie.Need-returns
+returns c = load-ghost _ _ _ _ _ _ (c .before .before .before .pre .1) _ (sym (c .before .is-ghost .ensures) ∙ c .if1 .taken)
+
+-- src/lib.rt:73:9
+returns-2 : tie.Need-returns-2
+returns-2 c = load-full _ _ _ _ _ _ (c .before .before .before .before .pre .1) _ (sym (c .before .before .is-ghost .ensures) ∙ c .before .if1 .left) (omega arith) _ _ _ _ _
+
+-- src/lib.rt:75:9
+key-of-requires : tie.Need-key-of-requires
+key-of-requires c κs = search needs
+
+-- src/lib.rt:76:5
+add-requires : tie.Need-add-requires
+add-requires c κs = (c .before .before .before .before .before .before .before .before .before .pre .1 .keys, record { small = omega arith; in-xs = omega (arith, c .before .before .before .before .before .before .before .before .before .pre .1 .in-xs); in-ys = omega (arith, c .before .before .before .before .before .before .before .before .before .pre .1 .in-ys); in-links = omega (arith, c .before .before .before .before .before .before .before .before .before .pre .1 .in-links) })
+
+-- src/lib.rt:77:14
+status-of-requires : tie.Need-status-of-requires
+status-of-requires c κs = search needs
+
+-- src/lib.rt:77:5
+element-write-sts : tie.Need-element-write-sts
+element-write-sts c = search needs
+
+-- src/lib.rt:78:5
+add-result : tie.Need-add-result
+add-result c = search needs
+
+-- src/lib.rt:55:1
+returns-3 : tie.Need-returns-3
+returns-3 c = load-master _ _ _ _ _ _ (c .before .before .before .before .before .before .before .before .before .before .before .pre .1) _ (sym (c .before .before .before .before .before .before .before .before .before .is-ghost .ensures) ∙ c .before .before .before .before .before .before .before .before .if1 .left) (omega arith) _ _ _ _ _ _ _ (c .before .before .before .before .before .before .key-of .ensures) (c .status-of .ensures .0) (c .before .add .ensures) (c .before .add .kept .1 .1 .1 .0)
+
+pub load-one-spec : {M : Type 1} → statement M
+load-one-spec =
+    tie.close
+    (tie.spec
+    is-ghost-requires
+    returns
+    returns-2
+    key-of-requires
+    add-requires
+    status-of-requires
+    element-write-sts
+    add-result
+    returns-3)
