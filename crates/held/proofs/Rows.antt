@@ -77,7 +77,8 @@ module _ (e : Entry) (x y : ℕ) (k : Keyed (e .path) x y) where
 length-entry : (x : List ℕ) (j : ℕ) → length (rowOf (entryIn x j)) ≡ 14
 unfolding entryIn
 length-entry x j =
-    row-length (entryIn x j) _ _ (key-place (field x (PLACE-HEAD + j)) (field x (PLACE-DIGITS + j)) (field x (PLACE-MORE + j)) _ _ refl refl)
+    row-length (entryIn x j) _ _ (key-place (field x (PLACE-HEAD + j)) (field x (PLACE-DIGITS + j)) (field x (PLACE-MORE + j)) _ _ refl
+    refl)
 
 rows-length : (x : List ℕ) (k m : ℕ) → length (flatMap rowOf (map (entryIn x) (range k m))) ≡ 14 * m
 unfolding range flatMap

@@ -109,7 +109,8 @@ ten-digits a b = eights-join 5 5 (a % 32768) (b % 32768) (omega arith) ∙ ap₂
 
 cut-digits : (n z : ℕ) → eights n (z % 2 ^ (3 * n)) ≡ eights n z
 cut-digits n z =
-    sym (ap (eights n) (let w = div-add-mod z (2 ^ (3 * n)) in let v : z ≡ z % 2 ^ (3 * n) + 2 ^ (3 * n) * (z / 2 ^ (3 * n)) = omega arith in v)
+    sym (ap (eights n) (let w = div-add-mod z (2 ^ (3 * n)) in let v : z ≡ z % 2 ^ (3 * n) + 2 ^ (3 * n) * (z / 2 ^ (3 * n)) = omega arith
+    in v)
     ∙ eights-more n (z % 2 ^ (3 * n)) (z / 2 ^ (3 * n)))
 
 -- THE KEY of a place

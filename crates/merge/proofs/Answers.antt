@@ -26,9 +26,9 @@ use Rattle.store.specs.Header.{headerb}
 use Rattle.store.specs.Headed.{bool-false, Header, header-is}
 use Rattle.merge.specs.Merge.{storesIn, alikeb, everyb, mergeCells, mergeEntries, mergeTable, mergeb, mergeAnswer, mergedOf}
 use Rattle.merge.specs.Merges.{Merges, merges-is, merges-accepted}
-use Rattle.merge.specs.Load.{Loaded, Begun, Load, loaded-none}
+use Rattle.merge.specs.Load.{MasterKeys, Begun, Load, loaded-none}
 use Rattle.merge.specs.Sweep.{Failed, coarsePaths}
-use Rattle.merge.specs.Steps.{Built, Assembled, Gathered, Finished, entriesBy, storesBy}
+use Rattle.merge.specs.Steps.{Built, Assembled, Gathered, HandedOut, entriesBy, storesBy}
 use Rattle.merge.specs.declared.Merged.the-variants as done
 
 -- tables of zeros, with no entry
@@ -69,7 +69,7 @@ module _ (b : List ℕ) (P m : ℕ) (xs ys sts xs′ ys′ heads′ links′ sts
       }
 
   module _ (few : n ≤ 4096) (st : List ℕ) (r : ℕ) (g : Built xs′ ys′ sts′ n m st r) where
-    all-loaded : Loaded es xs′ ys′ sts′ n
+    all-loaded : MasterKeys es xs′ ys′ sts′ n
     all-loaded = rw (append-nil es) at (f .loaded few [] (loaded-none xs ys sts))
 
     pub assembled-none : r ≡ 65535 → Assembled b P m st 65535
@@ -111,7 +111,8 @@ module _ (b : List ℕ) (P m : ℕ) (xs ys sts xs′ ys′ heads′ links′ sts
           }
 
 -- the table is examined
-module _ (mesh : List ℕ) (m n : ℕ) (st : List ℕ) (r : ℕ) (long : length mesh ≡ 1024) (wide : length st ≡ 4096) (few : m ≤ 256) (room : r ≤ 4096)
+module _ (mesh : List ℕ) (m n : ℕ) (st : List ℕ) (r : ℕ) (long : length mesh ≡ 1024) (wide : length st ≡ 4096) (few : m ≤ 256)
+    (room : r ≤ 4096)
   where
     pub mesh-in : 4 * m ≡ length (take (4 * m) mesh)
     mesh-in = sym (length-take-le (4 * m) mesh (omega arith))
@@ -134,7 +135,7 @@ module _ (mesh : List ℕ) (m n : ℕ) (st : List ℕ) (r : ℕ) (long : length 
       abbrev soundly : Bool
       soundly = soundb n (fours (take (4 * m) mesh)) (take r st)
 
-      pub finish-none : (refusal ≡ 0 → ⊥) → Finished n (fours (take (4 * m) mesh)) (take r st) table table false
+      pub finish-none : (refusal ≡ 0 → ⊥) → HandedOut n (fours (take (4 * m) mesh)) (take r st) table table false
       unfolding unlessSound
       finish-none h =
           record {
@@ -148,7 +149,7 @@ module _ (mesh : List ℕ) (m n : ℕ) (st : List ℕ) (r : ℕ) (long : length 
           go false q = sym q
 
       pub finish-all : refusal ≡ 0 → (table′ : List ℕ) → table′ ≡ take r st ++ drop r table
-          → Finished n (fours (take (4 * m) mesh)) (take r st) table table′ true
+          → HandedOut n (fours (take (4 * m) mesh)) (take r st) table table′ true
       unfolding unlessSound
       finish-all h table′ w =
           record {
@@ -228,7 +229,8 @@ module _ (b t : List ℕ) where
             pub fours-fit : T (cellsb n (fours (take (4 * m) mesh)))
             fours-fit = rw (c .mesh refl) (c .cells refl)
 
-            pub merge-unsound : (t′ : List ℕ) → Finished n (fours (take (4 * m) mesh)) (take r st) t t′ false → Answered (done.Refused 16) t′
+            pub merge-unsound : (t′ : List ℕ) → HandedOut n (fours (take (4 * m) mesh)) (take r st) t t′ false → Answered (done.Refused 16)
+                t′
             merge-unsound t′ f =
                 rw (f .same refl) (not-merge (λ s.
                 not-both (soundb n (fours (take (4 * m) mesh)) (take r st))
@@ -236,7 +238,7 @@ module _ (b t : List ℕ) where
                 (sym (f .answer))))
 
             pub merge-done : T (headerb b) → allb (alikeb b) (storesBy b P) ≡ true → everyb (storesBy b P) ≡ true
-                → (t′ : List ℕ) → Finished n (fours (take (4 * m) mesh)) (take r st) t t′ true → Answered (done.Cells r) t′
+                → (t′ : List ℕ) → HandedOut n (fours (take (4 * m) mesh)) (take r st) t t′ true → Answered (done.Cells r) t′
             unfolding mergedOf heldAfter
             merge-done hd al ev t′ f =
                 let s : Merges b =

@@ -46,7 +46,8 @@ corners-put b mesh j i h g f =
     let q : 4 * i + 2 ≡ suc (suc (4 * i)) = omega arith in
     let r : 4 * i + 3 ≡ suc (suc (suc (4 * i))) = omega arith in
     let at : (n : ℕ) → n < 4 → getD b (full * j + k + n) 0 ≡ getD (storeIn b j) (k + n) 0 =
-    λ n l. (let z : full * j + k + n ≡ full * j + (k + n) = omega arith in ap (λ (v : ℕ). getD b v 0) z ∙ sym (field-in b j (k + n) (omega arith))) in
+    λ n l. (let z : full * j + k + n ≡ full * j + (k + n) = omega arith in ap (λ (v : ℕ). getD b v 0) z ∙ sym
+    (field-in b j (k + n) (omega arith))) in
     let zero-at : getD b (full * j + k) 0 ≡ getD (storeIn b j) k 0 = sym (field-in b j k (omega arith)) in
     rw (p, q, r, zero-at, at 1 (omega arith), at 2 (omega arith), at 3 (omega arith))
     (sym (ap (sets mesh (4 * i)) (four-at (storeIn b j) k (omega (arith, store-long b j h g)))))
@@ -203,7 +204,8 @@ module _ (b : List ℕ) (P n m : ℕ) where
         record {
           few = h;
           long = ap length e ∙ length-sets mesh (4 * i) q ∙ s .long;
-          owned = rw (range-more 0 i, z) (all-join ownedb (range 0 i) (i ∷ []) (s .owned) (and-both (ownedb i) true (rw (o .some below .0) tt) tt));
+          owned = rw (range-more 0 i, z) (all-join ownedb (range 0 i) (i ∷ []) (s .owned)
+              (and-both (ownedb i) true (rw (o .some below .0) tt) tt));
           cells = rw all-corners (all-join (cellb n) (map (cornersIn xs) (range 0 i)) (cornersIn xs i ∷ []) (s .cells)
               (and-both (cellb n (cornersIn xs i)) true (rw c tt) tt));
           mesh-is =

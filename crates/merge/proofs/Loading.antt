@@ -97,7 +97,8 @@ module _ (xs ys heads links sts : List ℕ) (n : ℕ) where
           masters-append (heldIn (storeIn b j)) (storesFrom b (suc j) k),
         )
 
-    too-many : (ds es : List Entry) → 4096 < r → length (masters ds) ≤ length (masters es) → After ds us vs hs ks ts r → After es us vs hs ks ts r
+    too-many : (ds es : List Entry) → 4096 < r → length (masters ds) ≤ length (masters es) → After ds us vs hs ks ts r → After es us vs hs
+        ks ts r
     too-many ds es h g f =
         record {
           begun = λ z. absurd (omega arith);

@@ -12,12 +12,14 @@ use Rattle.mesh.specs.Table.{sizeOf}
 use Rattle.parts.specs.Held.{Entry}
 use Rattle.parts.specs.Merge.{lookup}
 use Rattle.held.specs.Key.{keyPath, Key, key-child}
-use Rattle.merge.specs.Load.{Loaded, Begun}
-use Rattle.merge.specs.Sweep.{Sweep, Pushed, Seeded, Failed, sweep-start, sweep-on, sweep-out, no-master, no-status, no-room, no-level}
-use Rattle.merge.specs.Steps.{Row, Settled, Built}
+use Rattle.merge.specs.Load.{MasterKeys, Begun}
+use Rattle.merge.specs.Sweep.{Sweep, Pushed, Seeded, Failed, sweep-start, sweep-on, sweep-out}
+use Rattle.merge.specs.Sweep.{no-master, no-status, no-room, no-level}
+use Rattle.merge.specs.Steps.{KeyRow, CellFound, Built}
 use Rattle.merge.proofs.Rows.{pushed-none}
 
-module _ (xs ys heads links sts : List ℕ) (n : ℕ) (b : Begun xs ys heads links sts n) (px py st : List ℕ) (c e : ℕ) (w : Row px py st c e)
+module _ (xs ys heads links sts : List ℕ) (n : ℕ) (b : Begun xs ys heads links sts n) (px py st : List ℕ) (c e : ℕ)
+    (w : KeyRow px py st c e)
     (g : c < e) (found : ℕ) (q : found ≡ seek xs ys (getD px c 0) (getD py c 0) 0 (n - 0)) where
   abbrev x : ℕ
   x = getD px c 0
@@ -36,7 +38,7 @@ module _ (xs ys heads links sts : List ℕ) (n : ℕ) (b : Begun xs ys heads lin
       let f = seek-found xs ys x y 0 n (λ z. h (sym sought ∙ z)) in
       omega (arith, f .below, sought, b .few)
 
-  pub settle-none : found ≡ 65535 → Settled xs ys sts n px py st c e px py st 65535
+  pub settle-none : found ≡ 65535 → CellFound xs ys sts n px py st c e px py st 65535
   settle-none h =
       record {
         row = λ z. absurd (z refl);
@@ -46,10 +48,10 @@ module _ (xs ys heads links sts : List ℕ) (n : ℕ) (b : Begun xs ys heads lin
       }
 
   module _ (h : found ≡ 65535 → ⊥) where
-    status-is : (es : List Entry) → Loaded es xs ys sts n → lookup es (keyPath x y) ≡ getD sts found 0
+    status-is : (es : List Entry) → MasterKeys es xs ys sts n → lookup es (keyPath x y) ≡ getD sts found 0
     status-is es l = l .some x y own (λ z. h (sym sought ∙ z)) .1 ∙ ap (λ (i : ℕ). getD sts i 0) sought
 
-    pub settle-status : 64 < getD sts found 0 → Settled xs ys sts n px py st c e px py st 65535
+    pub settle-status : 64 < getD sts found 0 → CellFound xs ys sts n px py st c e px py st 65535
     settle-status k =
         record {
           row = λ z. absurd (z refl);
@@ -62,10 +64,10 @@ module _ (xs ys heads links sts : List ℕ) (n : ℕ) (b : Begun xs ys heads lin
       abbrev st′ : List ℕ
       st′ = set st c (getD sts found 0)
 
-      size-is : (es : List Entry) → Loaded es xs ys sts n → sizeOf (lookup es (keyPath x y)) ≡ size
+      size-is : (es : List Entry) → MasterKeys es xs ys sts n → sizeOf (lookup es (keyPath x y)) ≡ size
       size-is es l = ap sizeOf (status-is es l) ∙ sym sz
 
-      pub settle-deep : (size ≡ 0 → ⊥) → 2560 ≤ x → Settled xs ys sts n px py st c e px py st′ 65535
+      pub settle-deep : (size ≡ 0 → ⊥) → 2560 ≤ x → CellFound xs ys sts n px py st c e px py st′ 65535
       settle-deep s d =
           record {
             row = λ z. absurd (z refl);
@@ -79,7 +81,7 @@ module _ (xs ys heads links sts : List ℕ) (n : ℕ) (b : Begun xs ys heads lin
           pos zero h = absurd (h refl)
           pos (suc k) h = omega arith
 
-      pub settle-room : 4096 < e + size → Settled xs ys sts n px py st c e px py st′ 65535
+      pub settle-room : 4096 < e + size → CellFound xs ys sts n px py st c e px py st′ 65535
       settle-room d =
           record {
             row = λ z. absurd (z refl);
@@ -89,7 +91,7 @@ module _ (xs ys heads links sts : List ℕ) (n : ℕ) (b : Begun xs ys heads lin
           }
 
       pub settle-on : e + size ≤ 4096 → (0 < size → x < 2560) → (px′ py′ : List ℕ) → Pushed px py e x y size px′ py′
-          → length px′ ≡ length px → length py′ ≡ length py → Settled xs ys sts n px py st c e px′ py′ st′ (e + size)
+          → length px′ ≡ length px → length py′ ≡ length py → CellFound xs ys sts n px py st c e px′ py′ st′ (e + size)
       settle-on room deep px′ py′ p lx ly =
           record {
             row = λ z.
@@ -114,7 +116,7 @@ module _ (xs ys heads links sts : List ℕ) (n : ℕ) (b : Begun xs ys heads lin
           key-new : (i : ℕ) → i < size → Key (getD px′ (e + i) 0) (getD py′ (e + i) 0)
           key-new i k = rw (p .heads i k, p .digits i k) (key-child x y i own (omega (arith, deep (omega arith))) (omega arith) .key)
 
-      pub settle-leaf : size ≡ 0 → Settled xs ys sts n px py st c e px py st′ e
+      pub settle-leaf : size ≡ 0 → CellFound xs ys sts n px py st c e px py st′ e
       settle-leaf z =
           let r : e + size ≡ e = omega arith in
           rw r at (settle-on (omega (arith, w .few)) (λ k. absurd (omega arith)) px py (rw z (pushed-none px py e x y)) refl refl)
@@ -122,9 +124,10 @@ module _ (xs ys heads links sts : List ℕ) (n : ℕ) (b : Begun xs ys heads lin
 -- the whole row
 module _ (xs ys sts : List ℕ) (n m : ℕ) where
   abbrev pub Going : List ℕ → List ℕ → List ℕ → ℕ → ℕ → Type 0
-  Going px py st c e = Row px py st c e × (c ≤ e) × ((es : List Entry) → Loaded es xs ys sts n → Sweep es m px py st c e)
+  Going px py st c e = KeyRow px py st c e × (c ≤ e) × ((es : List Entry) → MasterKeys es xs ys sts n → Sweep es m px py st c e)
 
-  pub going-start : m ≤ 256 → (px py st : List ℕ) → length px ≡ 4096 → length py ≡ 4096 → length st ≡ 4096 → Seeded px py m → Going px py st 0 m
+  pub going-start : m ≤ 256 → (px py st : List ℕ) → length px ≡ 4096 → length py ≡ 4096 → length st ≡ 4096 → Seeded px py m → Going px py
+      st 0 m
   going-start few px py st a b d s = (
     record {
       few = omega arith;
@@ -138,7 +141,7 @@ module _ (xs ys sts : List ℕ) (n m : ℕ) where
   )
 
   pub going-on : (px py st px′ py′ st′ : List ℕ) (c e r : ℕ) → Going px py st c e → c < e
-      → Settled xs ys sts n px py st c e px′ py′ st′ r → (r ≡ 65535 → ⊥) → Going px′ py′ st′ (suc c) r
+      → CellFound xs ys sts n px py st c e px′ py′ st′ r → (r ≡ 65535 → ⊥) → Going px′ py′ st′ (suc c) r
   going-on px py st px′ py′ st′ c e r v h s z = (
     s .row z,
     omega (arith, s .more z),
@@ -146,7 +149,7 @@ module _ (xs ys sts : List ℕ) (n m : ℕ) where
   )
 
   pub going-failed : (px py st px′ py′ st′ : List ℕ) (c e r : ℕ) (last : List ℕ) → Going px py st c e
-      → Settled xs ys sts n px py st c e px′ py′ st′ r → r ≡ 65535 → Built xs ys sts n m last 65535
+      → CellFound xs ys sts n px py st c e px′ py′ st′ r → r ≡ 65535 → Built xs ys sts n m last 65535
   going-failed px py st px′ py′ st′ c e r last v s z =
       record {
         failed = λ i es l. s .failed z es m l (v .2 es l);

@@ -1,8 +1,8 @@
 -- The masters of entries as a table of keys, the first of them last.
---   masteredb es l         some master among the entries es has the path l
---   Loaded es xs ys st n   the n keys of the table are those of the masters of es, with their statuses beside them
---   Begun ..               the table has room for 4,096 keys, and n of them are in use
---   Load ds ..             what putting the masters of ds behind a table of n keys leaves: r keys, or r is 4,097 where they are too many
+--   masteredb es l             some master among the entries es has the path l
+--   MasterKeys es xs ys st n   the n keys of the table are those of the masters of es, with their statuses beside them
+--   Begun ..                   the table has room for 4,096 keys, and n of them are in use
+--   Load ds ..                 what putting the masters of ds behind a table of n keys leaves: r keys, or r is 4,097 where they are too many
 -- Laws: loaded-none, load-start, load-ghost, load-full, load-master (one entry), load-more (entries before entries).
 use mathlib.Core.Path.{_≡_, refl, sym, _∙_, ap, subst}
 use mathlib.Core.Bool.{Bool, true, false, not}
@@ -24,7 +24,7 @@ use Rattle.held.specs.Key.{keyPath, Key, Keyed, key-same, length-eights}
 abbrev pub masteredb : List Entry → List ℕ → Bool
 masteredb es l = anyb (λ e. sameb (e .path) l) (masters es)
 
-pub record Loaded (es : List Entry) (xs ys st : List ℕ) (n : ℕ) : Type 0 where
+pub record MasterKeys (es : List Entry) (xs ys st : List ℕ) (n : ℕ) : Type 0 where
   pub none : (x y : ℕ) → Key x y → seek xs ys x y 0 n ≡ 65535 → masteredb es (keyPath x y) ≡ false
   pub some : (x y : ℕ) → Key x y → (seek xs ys x y 0 n ≡ 65535 → ⊥) → (masteredb es (keyPath x y) ≡ true)
       × (lookup es (keyPath x y) ≡ getD st (seek xs ys x y 0 n) 0)
@@ -42,9 +42,9 @@ pub record Load (ds : List Entry) (xs ys st : List ℕ) (n : ℕ) (xs′ ys′ h
   pub begun : r ≤ 4096 → Begun xs′ ys′ heads′ links′ st′ r
   pub count : r ≤ 4096 → r ≡ length (masters ds) + n
   pub many : 4096 < r → 4096 < length (masters ds) + n
-  pub loaded : r ≤ 4096 → (es : List Entry) → Loaded es xs ys st n → Loaded (ds ++ es) xs′ ys′ st′ r
+  pub loaded : r ≤ 4096 → (es : List Entry) → MasterKeys es xs ys st n → MasterKeys (ds ++ es) xs′ ys′ st′ r
 
-pub loaded-none : (xs ys st : List ℕ) → Loaded [] xs ys st 0
+pub loaded-none : (xs ys st : List ℕ) → MasterKeys [] xs ys st 0
 unfolding masters filterb anyb seek
 loaded-none xs ys st = record { none = λ x y k e. refl; some = λ x y k e. absurd (e refl); long = λ l h. refl }
 
@@ -183,7 +183,7 @@ module _ (xs ys heads links st : List ℕ) (n : ℕ) (b : Begun xs ys heads link
             × ((seek (set xs n v) (set ys n w) x y 0 (n + 1) ≡ 65535 → ⊥) → (masteredb (e ∷ es) (keyPath x y) ≡ true)
             × (lookup (e ∷ es) (keyPath x y) ≡ getD (set st n s) (seek (set xs n v) (set ys n w) x y 0 (n + 1)) 0))
 
-        found : (es : List Entry) → Loaded es xs ys st n → (x y : ℕ) → Key x y → x ≡ v → y ≡ w → Outcome es x y
+        found : (es : List Entry) → MasterKeys es xs ys st n → (x y : ℕ) → Key x y → x ≡ v → y ≡ w → Outcome es x y
         found es l x y k i j = (
           (λ z. absurd (omega (arith, same-here x y k i j))),
           (λ z. (
@@ -193,7 +193,7 @@ module _ (xs ys heads links st : List ℕ) (n : ℕ) (b : Begun xs ys heads link
           )),
         )
 
-        passed : (es : List Entry) → Loaded es xs ys st n → (x y : ℕ) → Key x y → (v ≡ x → w ≡ y → ⊥) → Outcome es x y
+        passed : (es : List Entry) → MasterKeys es xs ys st n → (x y : ℕ) → Key x y → (v ≡ x → w ≡ y → ⊥) → Outcome es x y
         passed es l x y k d = (
           (λ z. mastered-other e es (keyPath x y) g (differs x y k d) ∙ l .none x y k (sym (other x y d) ∙ z)),
           (λ z.
@@ -206,7 +206,7 @@ module _ (xs ys heads links st : List ℕ) (n : ℕ) (b : Begun xs ys heads link
               )),
         )
 
-        outcome : (es : List Entry) → Loaded es xs ys st n → (x y : ℕ) → Key x y → Outcome es x y
+        outcome : (es : List Entry) → MasterKeys es xs ys st n → (x y : ℕ) → Key x y → Outcome es x y
         outcome es l x y k = elim (ℕ-discrete x v) [
           | yes i ↦ elim (ℕ-discrete y w) [
             | yes j ↦ found es l x y k i j
@@ -215,7 +215,7 @@ module _ (xs ys heads links st : List ℕ) (n : ℕ) (b : Begun xs ys heads link
           | no i ↦ passed es l x y k (λ p q. i (sym p))
         ]
 
-        with-one : (es : List Entry) → Loaded es xs ys st n → Loaded (e ∷ es) (set xs n v) (set ys n w) (set st n s) (n + 1)
+        with-one : (es : List Entry) → MasterKeys es xs ys st n → MasterKeys (e ∷ es) (set xs n v) (set ys n w) (set st n s) (n + 1)
         with-one es l =
             record {
               none = λ x y k. outcome es l x y k .0;
@@ -229,7 +229,8 @@ module _ (xs ys heads links st : List ℕ) (n : ℕ) (b : Begun xs ys heads link
             }
 
 -- entries before entries
-module _ (ds cs : List Entry) (xs ys st : List ℕ) (n : ℕ) (xs′ ys′ heads′ links′ st′ : List ℕ) (m : ℕ) (f : Load ds xs ys st n xs′ ys′ heads′ links′ st′ m)
+module _ (ds cs : List Entry) (xs ys st : List ℕ) (n : ℕ) (xs′ ys′ heads′ links′ st′ : List ℕ) (m : ℕ)
+    (f : Load ds xs ys st n xs′ ys′ heads′ links′ st′ m)
     (few : m ≤ 4096) (us vs heads″ links″ ts : List ℕ) (r : ℕ) (g : Load cs xs′ ys′ st′ m us vs heads″ links″ ts r) where
   pub load-more : Load (cs ++ ds) xs ys st n us vs heads″ links″ ts r
   load-more =

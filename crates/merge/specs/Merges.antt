@@ -71,7 +71,8 @@ module _ (b : List ℕ) where
   merges-by s =
       and-both (headerb b) _ (s .header) (and-both (allb (alikeb b) xs) _ (s .alike)
       (and-both (everyb xs) (meshesb n m xs) (s .every)
-      (and-both (ownedb && cellsb n (mergeCells xs m)) (wholeb && tableb) (and-both ownedb (cellsb n (mergeCells xs m)) (s .owned) (s .cells))
+      (and-both (ownedb && cellsb n (mergeCells xs m)) (wholeb && tableb) (and-both ownedb (cellsb n (mergeCells xs m)) (s .owned)
+      (s .cells))
       (and-both wholeb tableb (s .complete) (s .sound)))))
 
   pub merges-accepted : (t : List ℕ) → 16 * full ≤ length b → 4096 ≤ length t → Merges → mergeAnswer b t ≡ Accepted

@@ -1,12 +1,12 @@
 -- What the functions of merging leave.
---   Row px py st c e       the keys of the cells from c to e, and room for 4,096
---   Settled ..             what finding the status of the cell c leaves: r cells are known, or r is 65,535
+--   KeyRow px py st c e    the keys of the cells from c to e, and room for 4,096
+--   CellFound ..           what finding the status of the cell c leaves: r cells are known, or r is 65,535
 --   Built ..               what the whole sweep leaves: r cells, or 65,535
 --   Assembled ..           the same with the number of masters compared
 --   entriesBy b P          the masters and ghosts of the first P stores
 --   OwnedAt ..             what the search for a coarse cell's master finds
 --   Gathered ..            what gathering the corners leaves
---   Finished ..            what examining the table leaves
+--   HandedOut ..           what examining the table leaves
 use mathlib.Core.Path.{_≡_}
 use mathlib.Core.Bool.{Bool, true, false}
 use mathlib.Core.List.{List, _++_, map, flatMap, flatten}
@@ -24,27 +24,27 @@ use Rattle.store.specs.Fields.{field, ENTRIES, CORNER}
 use Rattle.held.specs.Held.{heldIn}
 use Rattle.held.specs.Key.{Key}
 use Rattle.merge.specs.Merge.{storeIn, ownsb, cornersIn, mergeCells}
-use Rattle.merge.specs.Load.{Loaded}
+use Rattle.merge.specs.Load.{MasterKeys}
 use Rattle.merge.specs.Sweep.{Sweep, Failed, coarsePaths}
 
-pub record Row (px py st : List ℕ) (c e : ℕ) : Type 0 where
+pub record KeyRow (px py st : List ℕ) (c e : ℕ) : Type 0 where
   pub few : e ≤ 4096
   pub keys : (i : ℕ) → c ≤ i → i < e → Key (getD px i 0) (getD py i 0)
   pub in-px : length px ≡ 4096
   pub in-py : length py ≡ 4096
   pub in-st : length st ≡ 4096
 
-pub record Settled (xs ys sts : List ℕ) (n : ℕ) (px py st : List ℕ) (c e : ℕ) (px′ py′ st′ : List ℕ) (r : ℕ) : Type 0 where
-  pub row : (r ≡ 65535 → ⊥) → Row px′ py′ st′ (suc c) r
+pub record CellFound (xs ys sts : List ℕ) (n : ℕ) (px py st : List ℕ) (c e : ℕ) (px′ py′ st′ : List ℕ) (r : ℕ) : Type 0 where
+  pub row : (r ≡ 65535 → ⊥) → KeyRow px′ py′ st′ (suc c) r
   pub more : (r ≡ 65535 → ⊥) → e ≤ r
-  pub failed : r ≡ 65535 → (es : List Entry) (m : ℕ) → Loaded es xs ys sts n → Sweep es m px py st c e → Failed es m
-  pub went : (r ≡ 65535 → ⊥) → (es : List Entry) (m : ℕ) → Loaded es xs ys sts n → Sweep es m px py st c e
+  pub failed : r ≡ 65535 → (es : List Entry) (m : ℕ) → MasterKeys es xs ys sts n → Sweep es m px py st c e → Failed es m
+  pub went : (r ≡ 65535 → ⊥) → (es : List Entry) (m : ℕ) → MasterKeys es xs ys sts n → Sweep es m px py st c e
       → Sweep es m px′ py′ st′ (suc c) r
 
 pub record Built (xs ys sts : List ℕ) (n m : ℕ) (st′ : List ℕ) (r : ℕ) : Type 0 where
-  pub failed : r ≡ 65535 → (es : List Entry) → Loaded es xs ys sts n → Failed es m
+  pub failed : r ≡ 65535 → (es : List Entry) → MasterKeys es xs ys sts n → Failed es m
   pub few : (r ≡ 65535 → ⊥) → (r ≤ 4096) × (length st′ ≡ 4096)
-  pub table : (r ≡ 65535 → ⊥) → (es : List Entry) → Loaded es xs ys sts n → (flatten (merged es m) ≡ take r st′)
+  pub table : (r ≡ 65535 → ⊥) → (es : List Entry) → MasterKeys es xs ys sts n → (flatten (merged es m) ≡ take r st′)
       × (filledb 12 es (coarsePaths m) ≡ true)
 
 abbrev pub storesBy : List ℕ → ℕ → List (List ℕ)
@@ -75,7 +75,7 @@ pub record Gathered (b : List ℕ) (P n m : ℕ) (mesh′ : List ℕ) (ok : Bool
   pub mesh : ok ≡ true → fours (take (4 * m) mesh′) ≡ mergeCells (storesBy b P) m
   pub long : ok ≡ true → length mesh′ ≡ 1024
 
-pub record Finished (n : ℕ) (qs : List (List ℕ)) (ss table table′ : List ℕ) (ok : Bool) : Type 0 where
+pub record HandedOut (n : ℕ) (qs : List (List ℕ)) (ss table table′ : List ℕ) (ok : Bool) : Type 0 where
   pub answer : ok ≡ soundb n qs ss
   pub written : ok ≡ true → table′ ≡ ss ++ drop (length ss) table
   pub same : ok ≡ false → table′ ≡ table

@@ -1,10 +1,10 @@
 -- The table that entries make, cell by cell: the cells that are known stand in a row as keys, those of the level at hand first.
---   kids l t               the paths of the children of a cell with the path l and the status t
---   restTable h es c a     the statuses still to come: of the cells c of the level at hand, then of those behind, the first of which are a
---   restFilled h es c a    each of these places has a master
---   pathsAt px py k m      the paths of the m keys from k on
---   Sweep es m ..          the statuses of the first c cells are found, and e keys are known
---   Failed es m            the entries es make no table of a mesh
+--   kidPaths l t             the paths of the children of a cell with the path l and the status t
+--   statusesLeft h es c a    the statuses still to come, of the cells c of the level at hand and of those behind; a the first of these
+--   filledLeft h es c a      each of these places has a master
+--   pathsAt px py k m        the paths of the m keys from k on
+--   Sweep es m ..            the statuses of the first c cells are found, and e keys are known
+--   Failed es m              the entries es make no table of a mesh
 -- Laws: sweep-start, sweep-on (one cell), sweep-out (all), and what fails: no-master, no-status, no-room, no-level.
 use mathlib.Core.Path.{_≡_, refl, sym, _∙_, ap, ap₂, subst}
 use mathlib.Core.Bool.{Bool, true, false, _&&_}
@@ -27,15 +27,15 @@ use Rattle.parts.specs.Merge.{lookup, childPaths, gather, merged, masters, fill
 use Rattle.held.specs.Key.{keyPath, Key, Keyed, key-child, key-coarse, length-eights}
 use Rattle.merge.specs.Load.{masteredb}
 
-abbrev pub kids : List ℕ → ℕ → List (List ℕ)
-kids l t = map (λ i. l ++ (i ∷ [])) (range 0 (sizeOf t))
+abbrev pub kidPaths : List ℕ → ℕ → List (List ℕ)
+kidPaths l t = map (λ i. l ++ (i ∷ [])) (range 0 (sizeOf t))
 
 module _ (es : List Entry) where
-  unfoldable pub restTable : ℕ → List (List ℕ) → List (List ℕ) → List ℕ
-  restTable h cur next = map (lookup es) cur ++ flatten (gather h es (next ++ childPaths cur (map (lookup es) cur)))
+  unfoldable pub statusesLeft : ℕ → List (List ℕ) → List (List ℕ) → List ℕ
+  statusesLeft h cur next = map (lookup es) cur ++ flatten (gather h es (next ++ childPaths cur (map (lookup es) cur)))
 
-  unfoldable pub restFilled : ℕ → List (List ℕ) → List (List ℕ) → Bool
-  restFilled h cur next = allb (masteredb es) cur && filledb h es (next ++ childPaths cur (map (lookup es) cur))
+  unfoldable pub filledLeft : ℕ → List (List ℕ) → List (List ℕ) → Bool
+  filledLeft h cur next = allb (masteredb es) cur && filledb h es (next ++ childPaths cur (map (lookup es) cur))
 
   gather-nil : (h : ℕ) → gather h es [] ≡ []
   unfolding gather
@@ -47,52 +47,53 @@ module _ (es : List Entry) where
   filled-nil zero = refl
   filled-nil (suc h) = refl
 
-  level-table : (h : ℕ) (ls : List (List ℕ)) → flatten (gather (suc h) es ls) ≡ restTable h ls []
-  unfolding gather restTable flatten childPaths
+  level-table : (h : ℕ) (ls : List (List ℕ)) → flatten (gather (suc h) es ls) ≡ statusesLeft h ls []
+  unfolding gather statusesLeft flatten childPaths
   level-table h [] = rw (gather-nil h)
   level-table h (l ∷ ls) = refl
 
-  level-filled : (h : ℕ) (ls : List (List ℕ)) → filledb (suc h) es ls ≡ restFilled h ls []
-  unfolding filledb restFilled childPaths allb
+  level-filled : (h : ℕ) (ls : List (List ℕ)) → filledb (suc h) es ls ≡ filledLeft h ls []
+  unfolding filledb filledLeft childPaths allb
   level-filled h [] = rw (filled-nil h)
   level-filled h (l ∷ ls) = refl
 
   one-table : (h : ℕ) (l : List ℕ) (cur next : List (List ℕ))
-      → restTable h (l ∷ cur) next ≡ lookup es l ∷ restTable h cur (next ++ kids l (lookup es l))
-  unfolding restTable childPaths
-  one-table h l cur next = rw (append-assoc next (kids l (lookup es l)) (childPaths cur (map (lookup es) cur)))
+      → statusesLeft h (l ∷ cur) next ≡ lookup es l ∷ statusesLeft h cur (next ++ kidPaths l (lookup es l))
+  unfolding statusesLeft childPaths
+  one-table h l cur next = rw (append-assoc next (kidPaths l (lookup es l)) (childPaths cur (map (lookup es) cur)))
 
   and-assoc : (a b c : Bool) → (a && b) && c ≡ a && (b && c)
   and-assoc true b c = refl
   and-assoc false b c = refl
 
   one-filled : (h : ℕ) (l : List ℕ) (cur next : List (List ℕ))
-      → restFilled h (l ∷ cur) next ≡ masteredb es l && restFilled h cur (next ++ kids l (lookup es l))
-  unfolding restFilled childPaths allb
+      → filledLeft h (l ∷ cur) next ≡ masteredb es l && filledLeft h cur (next ++ kidPaths l (lookup es l))
+  unfolding filledLeft childPaths allb
   one-filled h l cur next =
-      rw (append-assoc next (kids l (lookup es l)) (childPaths cur (map (lookup es) cur)))
-      (and-assoc (masteredb es l) (allb (masteredb es) cur) (filledb h es (next ++ (kids l (lookup es l) ++ childPaths cur (map (lookup es) cur)))))
+      rw (append-assoc next (kidPaths l (lookup es l)) (childPaths cur (map (lookup es) cur)))
+      (and-assoc (masteredb es l) (allb (masteredb es) cur) (filledb h es (next ++
+      (kidPaths l (lookup es l) ++ childPaths cur (map (lookup es) cur)))))
 
-  turn-table : (h : ℕ) (next : List (List ℕ)) → restTable (suc h) [] next ≡ restTable h next []
-  unfolding childPaths restTable flatten
+  turn-table : (h : ℕ) (next : List (List ℕ)) → statusesLeft (suc h) [] next ≡ statusesLeft h next []
+  unfolding childPaths statusesLeft flatten
   turn-table h next = start h next ∙ level-table h next
     where
-      start : (h : ℕ) (next : List (List ℕ)) → restTable (suc h) [] next ≡ flatten (gather (suc h) es next)
-      start h next = rw (restTable, append-nil next)
+      start : (h : ℕ) (next : List (List ℕ)) → statusesLeft (suc h) [] next ≡ flatten (gather (suc h) es next)
+      start h next = rw (statusesLeft, append-nil next)
 
-  turn-filled : (h : ℕ) (next : List (List ℕ)) → restFilled (suc h) [] next ≡ restFilled h next []
-  unfolding childPaths allb restFilled filledb
+  turn-filled : (h : ℕ) (next : List (List ℕ)) → filledLeft (suc h) [] next ≡ filledLeft h next []
+  unfolding childPaths allb filledLeft filledb
   turn-filled h next = start h next ∙ level-filled h next
     where
-      start : (h : ℕ) (next : List (List ℕ)) → restFilled (suc h) [] next ≡ filledb (suc h) es next
-      start h next = rw (restFilled, append-nil next)
+      start : (h : ℕ) (next : List (List ℕ)) → filledLeft (suc h) [] next ≡ filledb (suc h) es next
+      start h next = rw (filledLeft, append-nil next)
 
-  out-table : (h : ℕ) → restTable h [] [] ≡ []
-  unfolding restTable childPaths flatten
+  out-table : (h : ℕ) → statusesLeft h [] [] ≡ []
+  unfolding statusesLeft childPaths flatten
   out-table h = rw (gather-nil h)
 
-  out-filled : (h : ℕ) → restFilled h [] [] ≡ true
-  unfolding restFilled childPaths allb
+  out-filled : (h : ℕ) → filledLeft h [] [] ≡ true
+  unfolding filledLeft childPaths allb
   out-filled h = filled-nil h
 
   -- how many there are at least
@@ -103,8 +104,8 @@ module _ (es : List Entry) where
       let ts : List ℕ = map (lookup es) (l ∷ ls) in
       omega (arith, length-append ts (flatten (gather h es (childPaths (l ∷ ls) ts))), length-map ls (lookup es))
 
-  rest-long : (h : ℕ) (cur next : List (List ℕ)) → length cur + length next ≤ length (restTable (suc h) cur next)
-  unfolding restTable
+  rest-long : (h : ℕ) (cur next : List (List ℕ)) → length cur + length next ≤ length (statusesLeft (suc h) cur next)
+  unfolding statusesLeft
   rest-long h cur next =
       let up : List (List ℕ) = next ++ childPaths cur (map (lookup es) cur) in
       omega (
@@ -122,9 +123,9 @@ module _ (es : List Entry) where
   filled-first h (l ∷ ls) t =
       and-left (allb (masteredb es) (l ∷ ls)) (filledb h es (childPaths (l ∷ ls) (map (lookup es) (l ∷ ls)))) t
 
-  rest-first : (h : ℕ) (cur next : List (List ℕ)) → T (restFilled (suc h) cur next)
+  rest-first : (h : ℕ) (cur next : List (List ℕ)) → T (filledLeft (suc h) cur next)
       → T (allb (masteredb es) (next ++ childPaths cur (map (lookup es) cur)))
-  unfolding restFilled
+  unfolding filledLeft
   rest-first h cur next t =
       filled-first h (next ++ childPaths cur (map (lookup es) cur))
       (and-right (allb (masteredb es) cur) (filledb (suc h) es (next ++ childPaths cur (map (lookup es) cur))) t)
@@ -184,8 +185,8 @@ pub record Sweep (es : List Entry) (m : ℕ) (px py st : List ℕ) (c e : ℕ) :
   pub keys : (i : ℕ) → c ≤ i → i < e → Key (getD px i 0) (getD py i 0)
   pub low : (i : ℕ) → c ≤ i → i < last → getD px i 0 / 256 + h ≡ 11
   pub high : (i : ℕ) → last ≤ i → i < e → getD px i 0 / 256 + h ≡ 12
-  pub table : flatten (merged es m) ≡ take c st ++ restTable es h (pathsAt px py c (last - c)) (pathsAt px py last (e - last))
-  pub filled : filledb 12 es (coarsePaths m) ≡ restFilled es h (pathsAt px py c (last - c)) (pathsAt px py last (e - last))
+  pub table : flatten (merged es m) ≡ take c st ++ statusesLeft es h (pathsAt px py c (last - c)) (pathsAt px py last (e - last))
+  pub filled : filledb 12 es (coarsePaths m) ≡ filledLeft es h (pathsAt px py c (last - c)) (pathsAt px py last (e - last))
 
 -- the row begins with the coarse cells
 pub record Seeded (px py : List ℕ) (m : ℕ) : Type 0 where
@@ -275,10 +276,11 @@ module _ (es : List Entry) (m : ℕ) where
       unfolding range
       first = let z : s .last - c ≡ suc (s .last - suc c) = omega arith in rw z
 
-      table-here : flatten (merged es m) ≡ take c st ++ (lookup es cell ∷ restTable es (s .h) rest (known ++ kids cell (lookup es cell)))
+      table-here : flatten (merged es m) ≡ take c st ++ (lookup es cell ∷ statusesLeft es (s .h) rest
+          (known ++ kidPaths cell (lookup es cell)))
       table-here = s .table ∙ rw first (ap (λ (l : List ℕ). take c st ++ l) (one-table es (s .h) cell rest known))
 
-      filled-here : filledb 12 es (coarsePaths m) ≡ masteredb es cell && restFilled es (s .h) rest (known ++ kids cell (lookup es cell))
+      filled-here : filledb 12 es (coarsePaths m) ≡ masteredb es cell && filledLeft es (s .h) rest (known ++ kidPaths cell (lookup es cell))
       filled-here = s .filled ∙ rw first (one-filled es (s .h) cell rest known)
 
       on-here : (x y z size : ℕ) (px′ py′ : List ℕ) → x ≡ getD px c 0 → y ≡ getD py c 0 → masteredb es cell ≡ true → z ≡ lookup es cell
@@ -323,7 +325,7 @@ module _ (es : List Entry) (m : ℕ) where
           rest-is = paths-by (pathIn px py) px′ py′ (suc c) (suc c) (s .last - suc c) (λ i l.
               rw (p .old-heads (suc c + i) (omega (arith, s .above)), p .old-digits (suc c + i) (omega (arith, s .above))))
 
-          known-is : pathsAt px′ py′ (s .last) (e + size - s .last) ≡ known ++ kids cell z
+          known-is : pathsAt px′ py′ (s .last) (e + size - s .last) ≡ known ++ kidPaths cell z
           known-is =
               let a : e + size - s .last ≡ (e - s .last) + size = omega (arith, s .above) in
               let b : s .last + (e - s .last) ≡ e = omega (arith, s .above) in
@@ -363,18 +365,18 @@ module _ (es : List Entry) (m : ℕ) where
           go : (k : ℕ) → s .h ≡ k → ⊥
           go zero q = omega (arith, s .low c (omega arith) g, s .keys c (omega arith) (omega (arith, s .above)) .level)
           go (suc k) q =
-              let r : List ℕ = restTable es (suc k) rest (known ++ kids cell (lookup es cell)) in
+              let r : List ℕ = statusesLeft es (suc k) rest (known ++ kidPaths cell (lookup es cell)) in
               let w : flatten (merged es m) ≡ take c st ++ (lookup es cell ∷ r) = rw q at table-here in
               let a : length (flatten (merged es m)) ≡ length (take c st) + suc (length r) =
               ap length w ∙ length-append (take c st) (lookup es cell ∷ r) in
-              let b : length (kids cell (lookup es cell)) ≡ sizeOf (lookup es cell) =
+              let b : length (kidPaths cell (lookup es cell)) ≡ sizeOf (lookup es cell) =
               length-map (range 0 (sizeOf (lookup es cell))) (λ i. cell ++ (i ∷ [])) ∙ length-range 0 (sizeOf (lookup es cell)) in
               let d : 4096 < length (flatten (merged es m)) =
               omega (
                 arith,
                 length-take-le c st (omega arith),
-                rest-long es k rest (known ++ kids cell (lookup es cell)),
-                length-append known (kids cell (lookup es cell)),
+                rest-long es k rest (known ++ kidPaths cell (lookup es cell)),
+                length-append known (kidPaths cell (lookup es cell)),
                 length-paths px py (suc c) (s .last - suc c),
                 length-paths px py (s .last) (e - s .last),
                 s .above,
@@ -382,11 +384,12 @@ module _ (es : List Entry) (m : ℕ) where
               not-both (soundb n qs (flatten (merged es m))) (is-true (soundb n qs (flatten (merged es m))) v)
               (unsound-long n qs (flatten (merged es m)) d)
 
-      level-here : ((l : List ℕ) → 11 < length l → masteredb es l ≡ false) → 10 ≤ getD px c 0 / 256 → 0 < sizeOf (lookup es cell) → Failed es m
+      level-here : ((l : List ℕ) → 11 < length l → masteredb es l ≡ false) → 10 ≤ getD px c 0 / 256 → 0 < sizeOf (lookup es cell) → Failed
+          es m
       unfolding keyPath range allb
       level-here long deep some n qs u v = go (s .h) refl
         where
-          size-one : (k : ℕ) → sizeOf (lookup es cell) ≡ suc k → T (allb (masteredb es) (kids cell (lookup es cell))) → ⊥
+          size-one : (k : ℕ) → sizeOf (lookup es cell) ≡ suc k → T (allb (masteredb es) (kidPaths cell (lookup es cell))) → ⊥
           size-one k q t =
               let w : T (allb (masteredb es) (map (λ i. cell ++ (i ∷ [])) (range 0 (suc k)))) = rw q at t in
               let a : T (masteredb es (cell ++ (0 ∷ []))) = and-left (masteredb es (cell ++ (0 ∷ []))) _ w in
@@ -394,18 +397,18 @@ module _ (es : List Entry) (m : ℕ) where
               omega (arith, length-append cell (0 ∷ []), length-eights (getD px c 0 / 256) (getD py c 0)) in
               not-both (masteredb es (cell ++ (0 ∷ []))) (is-true (masteredb es (cell ++ (0 ∷ []))) a) (long (cell ++ (0 ∷ [])) b)
 
-          two : (j : ℕ) → sizeOf (lookup es cell) ≡ j → T (allb (masteredb es) (kids cell (lookup es cell))) → ⊥
+          two : (j : ℕ) → sizeOf (lookup es cell) ≡ j → T (allb (masteredb es) (kidPaths cell (lookup es cell))) → ⊥
           two zero q t = omega arith
           two (suc k) q t = size-one k q t
 
           go : (k : ℕ) → s .h ≡ k → ⊥
           go zero q = omega (arith, s .low c (omega arith) g, s .keys c (omega arith) (omega (arith, s .above)) .level)
           go (suc k) q =
-              let f : T (masteredb es cell && restFilled es (suc k) rest (known ++ kids cell (lookup es cell))) =
+              let f : T (masteredb es cell && filledLeft es (suc k) rest (known ++ kidPaths cell (lookup es cell))) =
               rw (filled-here, q) at (complete-filled u) in
-              let t = rest-first es k rest (known ++ kids cell (lookup es cell)) (and-right (masteredb es cell) _ f) in
-              let t1 = all-front (masteredb es) (known ++ kids cell (lookup es cell)) _ t in
-              two (sizeOf (lookup es cell)) refl (all-back (masteredb es) known (kids cell (lookup es cell)) t1)
+              let t = rest-first es k rest (known ++ kidPaths cell (lookup es cell)) (and-right (masteredb es cell) _ f) in
+              let t1 = all-front (masteredb es) (known ++ kidPaths cell (lookup es cell)) _ t in
+              two (sizeOf (lookup es cell)) refl (all-back (masteredb es) known (kidPaths cell (lookup es cell)) t1)
 
     -- one cell
     module _ (s : Sweep es m px py st c e) (g : c < e) where

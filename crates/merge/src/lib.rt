@@ -15,26 +15,23 @@ use store::PARTS;
 use store::RESULT;
 use store::STAGE;
 ghost use mathlib.Core.Path.{_≡_};
-ghost use mathlib.Core.Bool.{true, false};
-ghost use mathlib.Core.List.{[], _∷_, map, flatMap};
-ghost use Prim.Native.Nat.{ℕ, _+_, _*_, _/_, _≤_, _<_};
+ghost use mathlib.Core.List.{[], _∷_};
+ghost use Prim.Native.Nat.{_+_, _*_, _/_, _≤_, _<_};
 ghost use lib.Dec.{T, eqb};
-ghost use lib.ListN.{length, getD, take, drop};
+ghost use lib.ListN.{length, take, drop};
 ghost use lib.Seq.{sets};
 ghost use Rattle.base.specs.Fours.{fours};
 ghost use Rattle.base.specs.Lent.{was, is};
 ghost use Rattle.base.specs.Lists.{allb, anyb};
-ghost use Rattle.base.specs.Range.{range};
 ghost use Rattle.base.specs.Refuse.{heldAfter};
 ghost use Rattle.mesh.specs.Coarse.{cellb, cellsb};
 ghost use Rattle.store.specs.Fields.{field, full};
-ghost use Rattle.store.specs.Header.{headerb};
 ghost use Rattle.held.specs.Held.{entryIn, heldIn};
 ghost use Rattle.held.specs.Key.{Key};
-ghost use Rattle.merge.specs.Merge.{storeIn, storesIn, alikeb, everyb, ownsb, cornersIn, mergeCells, mergeTable, mergeAnswer, mergedOf};
+ghost use Rattle.merge.specs.Merge.{storeIn, storesIn, alikeb, everyb, mergeTable, mergeAnswer, mergedOf};
 ghost use Rattle.merge.specs.Load.{Begun, Load};
 ghost use Rattle.merge.specs.Sweep.{Seeded, Pushed};
-ghost use Rattle.merge.specs.Steps.{Row, Settled, Built, Assembled, OwnedAt, Gathered, Finished, FewEntries, storesBy, entriesBy};
+ghost use Rattle.merge.specs.Steps.{KeyRow, CellFound, Built, Assembled, OwnedAt, Gathered, HandedOut, FewEntries, storesBy, entriesBy};
 
 pub enum Merged {
     Cells(usize),
@@ -315,8 +312,8 @@ fn settle(
     end: usize,
 ) -> usize
     requires { ⌜ Begun (now xs) (now ys) (now heads) (now links) (now sts) n ⌝ }
-    requires { ⌜ Row (now px) (now py) (now st) c end × (c < end) ⌝ }
-    ensures { λ r. ⌜ Settled (was xs) (was ys) (was sts) n (was px) (was py) (was st) c end (is px) (is py) (is st) r ⌝ }
+    requires { ⌜ KeyRow (now px) (now py) (now st) c end × (c < end) ⌝ }
+    ensures { λ r. ⌜ CellFound (was xs) (was ys) (was sts) n (was px) (was py) (was st) c end (is px) (is py) (is st) r ⌝ }
 {
     let x = px[c];
     let y = py[c];
@@ -421,7 +418,7 @@ fn finish(
 ) -> bool
     requires { ⌜ (1 ≤ m) × (m ≤ 256) × (n ≤ 512) × (r ≤ 4096) × (4096 ≤ length (now table)) ⌝ }
     requires { ⌜ T (cellsb n (fours (take (4 * m) (now mesh)))) ⌝ }
-    ensures { λ ok. ⌜ Finished n (fours (take (4 * m) (was mesh))) (take r (was st)) (was table) (is table) ok ⌝ }
+    ensures { λ ok. ⌜ HandedOut n (fours (take (4 * m) (was mesh))) (take r (was st)) (was table) (is table) ok ⌝ }
 {
     let cells = &mesh[..];
     let status = &st[..];

@@ -45,12 +45,17 @@ rem-t11 c = search needs
 
 -- src/lib.rt:92:17
 cast-t12 : tie.Need-cast-t12
-cast-t12 c = omega (arith, mod-lt (c .before .before .args .digits % 32768 + 32768 * (c .before .before .args .more % 32768)) {m = c .power .result} (c .power .ensures .2))
+cast-t12 c = omega (
+  arith,
+  mod-lt (c .before .before .args .digits % 32768 + 32768 * (c .before .before .args .more % 32768))
+      {m = c .power .result} (c .power .ensures .2),
+)
 
 -- src/lib.rt:83:1
 returns : tie.Need-returns
 returns c = key-place _ _ _ _ _ (ap (λ (l : ℕ). 256 * l + c .before .before .args .head % 256) (c .before .level-of .ensures .0))
-    (ap (λ (l : ℕ). (c .before .before .args .digits % 32768 + 32768 * (c .before .before .args .more % 32768)) % l) (c .power .ensures .0 ∙ ap (λ (l : ℕ). 2 ^ (3 * l)) (c .before .level-of .ensures .0)))
+    (ap (λ (l : ℕ). (c .before .before .args .digits % 32768 + 32768 * (c .before .before .args .more % 32768)) % l)
+    (c .power .ensures .0 ∙ ap (λ (l : ℕ). 2 ^ (3 * l)) (c .before .level-of .ensures .0)))
 
 pub key-from-spec : {M : Type 1} → statement M
 key-from-spec =

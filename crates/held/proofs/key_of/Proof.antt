@@ -58,7 +58,13 @@ cast-key-from-3 c = omega (arith, c .shared-slice-known4 .given (218296 + c .bef
 
 -- src/lib.rt:101:5
 key-from-requires : tie.Need-key-from-requires
-key-from-requires c κs = (omega (arith, c .shared-slice-known4 .given (210104 + c .before .before .before .before .args .j)), omega (arith, c .shared-slice-known4 .given (214200 + c .before .before .before .before .args .j)), omega (arith, c .shared-slice-known4 .given (218296 + c .before .before .before .before .args .j)))
+key-from-requires c κs = (
+  omega (arith, c .shared-slice-known4 .given (210104 + c .before .before .before .before .args .j)),
+  omega
+      (arith, c .shared-slice-known4 .given (214200 + c .before .before .before .before .args .j)),
+  omega
+      (arith, c .shared-slice-known4 .given (218296 + c .before .before .before .before .args .j)),
+)
 
 -- src/lib.rt:97:1
 returns : tie.Need-returns

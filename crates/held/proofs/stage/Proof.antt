@@ -27,7 +27,8 @@ shared-slice-read-if3 c = search needs
 
 -- src/lib.rt:55:9
 returns-3 : tie.Need-returns-3
-returns-3 c = stage-early _ (omega arith) (sym (c .before .before .before .header-fits .ensures) ∙ not-false _ (c .before .before .if2 .left)) (c .if3 .taken)
+returns-3 c = stage-early _ (omega arith) (sym (c .before .before .before .header-fits .ensures) ∙ not-false _
+    (c .before .before .if2 .left)) (c .if3 .taken)
 
 -- src/lib.rt:57:8
 shared-slice-read-if4 : tie.Need-shared-slice-read-if4
@@ -43,7 +44,8 @@ cast-t10 c = omega (arith, c .shared-slice-known4 .given 7)
 
 -- src/lib.rt:58:9
 returns-4 : tie.Need-returns-4
-returns-4 c = stage-running _ (omega arith) (sym (c .before .before .before .before .before .before .header-fits .ensures) ∙ not-false _ (c .before .before .before .before .before .if2 .left)) (c .before .before .before .if3 .left) (c .before .if4 .taken)
+returns-4 c = stage-running _ (omega arith) (sym (c .before .before .before .before .before .before .header-fits .ensures) ∙ not-false _
+    (c .before .before .before .before .before .if2 .left)) (c .before .before .before .if3 .left) (c .before .if4 .taken)
 
 -- src/lib.rt:60:8
 shared-slice-read-if5 : tie.Need-shared-slice-read-if5
@@ -51,7 +53,9 @@ shared-slice-read-if5 c = search needs
 
 -- src/lib.rt:61:9
 returns-5 : tie.Need-returns-5
-returns-5 c = stage-done _ (omega arith) (sym (c .before .before .before .before .before .before .before .header-fits .ensures) ∙ not-false _ (c .before .before .before .before .before .before .if2 .left)) (c .before .before .before .before .if3 .left) (c .before .before .if4 .left) (c .if5 .taken)
+returns-5 c = stage-done _ (omega arith) (sym (c .before .before .before .before .before .before .before .header-fits .ensures) ∙
+    not-false _ (c .before .before .before .before .before .before .if2 .left)) (c .before .before .before .before .if3 .left)
+    (c .before .before .if4 .left) (c .if5 .taken)
 
 -- src/lib.rt:63:21
 shared-slice-read-t6 : tie.Need-shared-slice-read-t6
@@ -59,11 +63,18 @@ shared-slice-read-t6 c = search needs
 
 -- src/lib.rt:63:21
 cast-t13 : tie.Need-cast-t13
-cast-t13 c = omega (arith, result-few (c .before .before .before .before .before .before .before .before .before .before .before .args .store .now) (sym (c .before .before .before .before .before .before .before .before .header-fits .ensures) ∙ not-false _ (c .before .before .before .before .before .before .before .if2 .left)))
+cast-t13 c = omega (
+  arith,
+  result-few (c .before .before .before .before .before .before .before .before .before .before .before .args
+      .store .now) (sym (c .before .before .before .before .before .before .before .before .header-fits .ensures) ∙ not-false _
+      (c .before .before .before .before .before .before .before .if2 .left)),
+)
 
 -- src/lib.rt:45:1
 returns-6 : tie.Need-returns-6
-returns-6 c = stage-ended _ (omega arith) (sym (c .before .before .before .before .before .before .before .before .header-fits .ensures) ∙ not-false _ (c .before .before .before .before .before .before .before .if2 .left)) (c .before .before .before .before .before .if3 .left) (c .before .before .before .if4 .left) (c .before .if5 .left) _ refl
+returns-6 c = stage-ended _ (omega arith) (sym (c .before .before .before .before .before .before .before .before .header-fits .ensures) ∙
+    not-false _ (c .before .before .before .before .before .before .before .if2 .left))
+    (c .before .before .before .before .before .if3 .left) (c .before .before .before .if4 .left) (c .before .if5 .left) _ refl
 
 pub stage-spec : {M : Type 1} → statement M
 stage-spec =

@@ -14,7 +14,8 @@ use Rattle.held.proofs.write_digits.Reads as reads
 use Rattle.held.proofs.write_digits.Lts as lts
 
 abbrev Inv-loop : tie.InvT-loop
-Inv-loop rows₀ at digits rest₀ i₀ rows rest i = (i ≤ 10) × (length rows ≡ length rows₀) × (sets rows (at + i) (eights (10 - i) rest) ≡ sets rows₀ at (eights 10 digits))
+Inv-loop rows₀ at digits rest₀ i₀ rows rest i = (i ≤ 10) × (length rows ≡ length rows₀) ×
+    (sets rows (at + i) (eights (10 - i) rest) ≡ sets rows₀ at (eights 10 digits))
 
 abbrev μ-loop : tie.MeasureT-loop
 μ-loop rows₀ at digits rest₀ i₀ rows rest i = 10 - i
@@ -49,7 +50,12 @@ loop-less c = search needs
 
 -- src/lib.rt:139:5
 loop-again : tie.Need-loop-again Inv-loop μ-loop
-loop-again c = (omega arith, simp length-set (c .before .loop .inv .1), rw add-one (digit-more _ _ _ _ _ _ (c .loop-test .taken) (c .before .loop .inv .2)))
+loop-again c = (
+  omega arith,
+  simp length-set (c .before .loop .inv .1),
+  rw add-one
+      (digit-more _ _ _ _ _ _ (c .loop-test .taken) (c .before .loop .inv .2)),
+)
 
 -- src/lib.rt:133:1
 same-length : tie.Need-same-length Inv-loop μ-loop

@@ -99,7 +99,9 @@ same-length c = c .before .before .write-digits .kept .0 ∙ simp length-set
 
 -- src/lib.rt:147:1
 returns : tie.Need-returns
-returns c = row-put _ _ _ (c .before .before .before .before .before .before .before .before .key-of .ensures) _ _ _ _ _ _ _ (c .before .before .before .before .before .before .before .ghost-number .ensures) (c .before .before .before .before .before .before .status-of .ensures .0) refl refl (c .before .before .write-digits .ensures)
+returns c = row-put _ _ _ (c .before .before .before .before .before .before .before .before .key-of .ensures) _ _ _ _ _ _ _
+    (c .before .before .before .before .before .before .before .ghost-number .ensures)
+    (c .before .before .before .before .before .before .status-of .ensures .0) refl refl (c .before .before .write-digits .ensures)
 
 pub write-row-spec : {M : Type 1} → statement M
 write-row-spec =

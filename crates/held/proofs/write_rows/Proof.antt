@@ -13,7 +13,8 @@ use Rattle.held.proofs.write_rows.Lts as lts
 use Rattle.held.proofs.write_row.Reads as write-row-reads
 
 abbrev Inv-loop : tie.InvT-loop
-Inv-loop store rows₀ count j₀ rows j = (count ≡ field store ENTRIES) × (length rows ≡ length rows₀) × RowsLeft store (field store ENTRIES) j rows rows₀
+Inv-loop store rows₀ count j₀ rows j = (count ≡ field store ENTRIES) × (length rows ≡ length rows₀) × RowsLeft store (field store ENTRIES)
+    j rows rows₀
 
 abbrev μ-loop : tie.MeasureT-loop
 μ-loop store rows₀ count j₀ rows j = count - j
@@ -44,7 +45,14 @@ loop-less c = search needs
 
 -- src/lib.rt:188:5
 loop-again : tie.Need-loop-again Inv-loop μ-loop
-loop-again c = (c .before .before .before .before .before .loop .inv .0, c .before .before .write-row .kept .1 .0 ∙ c .before .before .before .before .before .loop .inv .1, rw add-one (row-more _ _ _ _ _ _ (omega (arith, c .before .before .before .before .before .loop .inv .0)) (c .before .before .before .before .before .loop .inv .2) (c .before .before .write-row .ensures)))
+loop-again c = (
+  c .before .before .before .before .before .loop .inv .0,
+  c .before .before .write-row .kept .1 .0 ∙
+      c .before .before .before .before .before .loop .inv .1,
+  rw add-one (row-more _ _ _ _ _ _
+      (omega (arith, c .before .before .before .before .before .loop .inv .0)) (c .before .before .before .before .before .loop .inv .2)
+      (c .before .before .write-row .ensures)),
+)
 
 -- src/lib.rt:182:1
 same-length : tie.Need-same-length Inv-loop μ-loop

@@ -17,7 +17,8 @@ use Rattle.merge.proofs.all_alike.Lts as lts
 use Rattle.merge.proofs.is_alike.Reads as is-alike-reads
 
 abbrev Inv-loop : tie.InvT-loop
-Inv-loop stores parts j₀ j = (j ≤ parts) × (allb (alikeb stores) (drop j (storesBy stores parts)) ≡ allb (alikeb stores) (storesBy stores parts))
+Inv-loop stores parts j₀ j = (j ≤ parts) × (allb (alikeb stores) (drop j (storesBy stores parts)) ≡ allb (alikeb stores)
+    (storesBy stores parts))
 
 abbrev μ-loop : tie.MeasureT-loop
 μ-loop stores parts j₀ j = parts - j
@@ -32,7 +33,15 @@ is-alike-requires c κs = (omega arith, omega arith)
 
 -- src/lib.rt:139:13
 returns : tie.Need-returns Inv-loop μ-loop
-returns c = all-stop (alikeb (c .before .before .before .before .before .args .stores .now)) [] (storesBy (c .before .before .before .before .before .args .stores .now) (c .before .before .before .before .before .args .parts)) _ _ _ (omega (arith, length-stores (c .before .before .before .before .before .args .stores .now) (c .before .before .before .before .before .args .parts))) (stores-at (c .before .before .before .before .before .args .stores .now) (c .before .before .before .before .before .args .parts) _ (omega arith)) (sym (c .before .is-alike .ensures) ∙ not-true _ (c .if1 .taken)) (c .before .before .before .loop .inv .1)
+returns c = all-stop (alikeb (c .before .before .before .before .before .args .stores .now)) []
+    (storesBy (c .before .before .before .before .before .args .stores .now) (c .before .before .before .before .before .args .parts)) _ _
+    _ (omega (
+      arith,
+      length-stores (c .before .before .before .before .before .args .stores .now)
+          (c .before .before .before .before .before .args .parts),
+    )) (stores-at (c .before .before .before .before .before .args .stores .now)
+    (c .before .before .before .before .before .args .parts) _ (omega arith)) (sym (c .before .is-alike .ensures) ∙ not-true _
+    (c .if1 .taken)) (c .before .before .before .loop .inv .1)
 
 -- src/lib.rt:141:9
 add-j : tie.Need-add-j Inv-loop μ-loop
@@ -44,11 +53,25 @@ loop-less c = search needs
 
 -- src/lib.rt:137:5
 loop-again : tie.Need-loop-again Inv-loop μ-loop
-loop-again c = (omega arith, rw add-one (all-on (alikeb (c .before .before .before .before .before .args .stores .now)) [] (storesBy (c .before .before .before .before .before .args .stores .now) (c .before .before .before .before .before .args .parts)) _ _ _ (omega (arith, length-stores (c .before .before .before .before .before .args .stores .now) (c .before .before .before .before .before .args .parts))) (stores-at (c .before .before .before .before .before .args .stores .now) (c .before .before .before .before .before .args .parts) _ (omega arith)) (sym (c .before .is-alike .ensures) ∙ not-false _ (c .if1 .left)) (c .before .before .before .loop .inv .1)))
+loop-again c = (
+  omega arith,
+  rw add-one (all-on (alikeb (c .before .before .before .before .before .args .stores .now)) []
+      (storesBy (c .before .before .before .before .before .args .stores .now) (c .before .before .before .before .before .args .parts)) _ _
+      _ (omega (
+        arith,
+        length-stores (c .before .before .before .before .before .args .stores .now)
+            (c .before .before .before .before .before .args .parts),
+      )) (stores-at (c .before .before .before .before .before .args .stores .now)
+      (c .before .before .before .before .before .args .parts) _ (omega arith)) (sym (c .before .is-alike .ensures) ∙ not-false _
+      (c .if1 .left)) (c .before .before .before .loop .inv .1)),
+)
 
 -- src/lib.rt:132:1
 returns-2 : tie.Need-returns-2 Inv-loop μ-loop
-returns-2 c = all-out (alikeb (c .before .before .before .args .stores .now)) [] (storesBy (c .before .before .before .args .stores .now) (c .before .before .before .args .parts)) (c .before .loop .j) _ (omega (arith, length-stores (c .before .before .before .args .stores .now) (c .before .before .before .args .parts))) (c .before .loop .inv .1)
+returns-2 c = all-out (alikeb (c .before .before .before .args .stores .now)) []
+    (storesBy (c .before .before .before .args .stores .now) (c .before .before .before .args .parts)) (c .before .loop .j) _
+    (omega (arith, length-stores (c .before .before .before .args .stores .now) (c .before .before .before .args .parts)))
+    (c .before .loop .inv .1)
 
 pub all-alike-spec : {M : Type 1} → statement M
 all-alike-spec =

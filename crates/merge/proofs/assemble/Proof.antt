@@ -22,7 +22,17 @@ clear-requires c κs = search needs
 
 -- src/lib.rt:389:9
 load-all-requires : tie.Need-load-all-requires
-load-all-requires c κs = ((c .before .before .before .before .before .before .before .before .before .pre .0 .0, c .before .before .before .before .before .before .before .before .before .pre .0 .1), (c .before .before .before .before .before .before .before .before .before .pre .1, begun-fresh _ (c .before .before .before .before .before .before .clear .ensures)))
+load-all-requires c κs = (
+  (
+    c .before .before .before .before .before .before .before .before .before .pre .0 .0,
+    c .before .before .before .before .before .before .before .before .before .pre .0 .1,
+  ),
+  (
+    c .before .before .before .before .before .before .before .before .before .pre .1,
+    begun-fresh _
+        (c .before .before .before .before .before .before .clear .ensures),
+  ),
+)
 
 -- src/lib.rt:399:9
 returns : tie.Need-returns
@@ -30,19 +40,36 @@ returns c = assembled-many _ _ _ _ _ _ _ _ _ _ _ _ (c .before .load-all .ensures
 
 -- src/lib.rt:403:9
 build-requires : tie.Need-build-requires
-build-requires c κs = (c .before .before .before .before .before .before .before .before .before .load-all .ensures .begun (c .before .before .before .before .before .before .before .before .if1 .left), (length-replicate {A = ℕ} 4096 0, length-replicate {A = ℕ} 4096 0, c .before .before .before .before .before .before .before .before .before .before .before .before .before .before .before .before .before .before .before .pre .0 .3, c .before .before .before .before .before .before .before .before .before .before .before .before .before .before .before .before .before .before .before .pre .0 .2))
+build-requires c κs = (
+  c .before .before .before .before .before .before .before .before .before .load-all .ensures .begun
+      (c .before .before .before .before .before .before .before .before .if1 .left),
+  (
+    length-replicate {A = ℕ} 4096 0,
+    length-replicate {A = ℕ} 4096 0,
+    c .before .before .before .before .before .before .before .before
+        .before .before .before .before .before .before .before .before .before .before .before .pre .0 .3,
+    c .before .before .before .before .before .before .before .before .before .before .before .before .before .before .before .before
+        .before .before .before .pre .0 .2,
+  ),
+)
 
 -- src/lib.rt:416:9
 returns-2 : tie.Need-returns-2
-returns-2 c = assembled-none _ _ _ _ _ _ _ _ _ _ _ _ (c .before .before .before .before .before .before .before .before .before .before .before .load-all .ensures) (c .before .before .before .before .before .before .before .before .before .before .if1 .left) _ _ (c .before .build .ensures) (c .if2 .taken)
+returns-2 c = assembled-none _ _ _ _ _ _ _ _ _ _ _ _ (c .before .before .before .before .before .before .before .before .before .before
+    .before .load-all .ensures) (c .before .before .before .before .before .before .before .before .before .before .if1 .left) _ _
+    (c .before .build .ensures) (c .if2 .taken)
 
 -- src/lib.rt:419:9
 returns-3 : tie.Need-returns-3
-returns-3 c = assembled-other _ _ _ _ _ _ _ _ _ _ _ _ (c .before .before .before .before .before .before .before .before .before .before .before .before .load-all .ensures) (c .before .before .before .before .before .before .before .before .before .before .before .if1 .left) _ _ (c .before .before .build .ensures) (c .before .if2 .left) (c .if3 .taken)
+returns-3 c = assembled-other _ _ _ _ _ _ _ _ _ _ _ _ (c .before .before .before .before .before .before .before .before .before .before
+    .before .before .load-all .ensures) (c .before .before .before .before .before .before .before .before .before .before .before .if1
+    .left) _ _ (c .before .before .build .ensures) (c .before .if2 .left) (c .if3 .taken)
 
 -- src/lib.rt:378:1
 returns-4 : tie.Need-returns-4
-returns-4 c = assembled-all _ _ _ _ _ _ _ _ _ _ _ _ (c .before .before .before .before .before .before .before .before .before .before .before .before .load-all .ensures) (c .before .before .before .before .before .before .before .before .before .before .before .if1 .left) _ _ (c .before .before .build .ensures) (c .before .if2 .left) (c .if3 .left)
+returns-4 c = assembled-all _ _ _ _ _ _ _ _ _ _ _ _ (c .before .before .before .before .before .before .before .before .before .before
+    .before .before .load-all .ensures) (c .before .before .before .before .before .before .before .before .before .before .before .if1
+    .left) _ _ (c .before .before .build .ensures) (c .before .if2 .left) (c .if3 .left)
 
 pub assemble-spec : {M : Type 1} → statement M
 assemble-spec =

@@ -23,27 +23,42 @@ seed-requires c κs = (c .before .before .pre .1 .3, c .before .before .pre .1 .
 
 -- src/lib.rt:366:5
 loop-holds : tie.Need-loop-holds Inv-loop μ-loop
-loop-holds c = going-start _ _ _ _ _ (c .before .before .before .pre .1 .3) _ _ _ (c .seed .kept .0 ∙ c .before .before .before .pre .1 .0) (c .seed .kept .1 .0 ∙ c .before .before .before .pre .1 .1) (c .before .before .before .pre .1 .2) (c .seed .ensures)
+loop-holds c = going-start _ _ _ _ _ (c .before .before .before .pre .1 .3) _ _ _
+    (c .seed .kept .0 ∙ c .before .before .before .pre .1 .0) (c .seed .kept .1 .0 ∙ c .before .before .before .pre .1 .1)
+    (c .before .before .before .pre .1 .2) (c .seed .ensures)
 
 -- src/lib.rt:367:13
 settle-requires : tie.Need-settle-requires Inv-loop μ-loop
-settle-requires c κs = (c .before .before .before .before .before .before .before .before .pre .0, (c .before .before .before .before .loop .inv .0, c .before .before .before .loop-test .taken))
+settle-requires c κs = (
+  c .before .before .before .before .before .before .before .before .pre .0,
+  (c .before .before .before .before .loop .inv .0, c .before .before .before .loop-test .taken),
+)
 
 -- src/lib.rt:369:13
 returns : tie.Need-returns Inv-loop μ-loop
-returns c = going-failed _ _ _ _ _ _ _ _ _ _ _ _ _ _ _ (c .before .before .before .before .before .before .loop .inv) (c .before .settle .ensures) (c .if1 .taken)
+returns c = going-failed _ _ _ _ _ _ _ _ _ _ _ _ _ _ _ (c .before .before .before .before .before .before .loop .inv)
+    (c .before .settle .ensures) (c .if1 .taken)
 
 -- src/lib.rt:372:9
 add-c : tie.Need-add-c Inv-loop μ-loop
-add-c c = omega (arith, c .before .before .before .before .before .before .loop .inv .0 .few, c .before .before .before .before .before .loop-test .taken)
+add-c c = omega (
+  arith,
+  c .before .before .before .before .before .before .loop .inv .0 .few,
+  c .before .before .before .before .before .loop-test .taken,
+)
 
 -- src/lib.rt:366:5
 loop-less : tie.Need-loop-less Inv-loop μ-loop
-loop-less c = omega (arith, c .before .before .before .before .before .before .loop .inv .0 .few, c .before .before .before .before .before .loop-test .taken)
+loop-less c = omega (
+  arith,
+  c .before .before .before .before .before .before .loop .inv .0 .few,
+  c .before .before .before .before .before .loop-test .taken,
+)
 
 -- src/lib.rt:366:5
 loop-again : tie.Need-loop-again Inv-loop μ-loop
-loop-again c = rw add-one (going-on _ _ _ _ _ _ _ _ _ _ _ _ _ _ (c .before .before .before .before .before .before .loop .inv) (c .before .before .before .before .before .loop-test .taken) (c .before .settle .ensures) (c .if1 .left))
+loop-again c = rw add-one (going-on _ _ _ _ _ _ _ _ _ _ _ _ _ _ (c .before .before .before .before .before .before .loop .inv)
+    (c .before .before .before .before .before .loop-test .taken) (c .before .settle .ensures) (c .if1 .left))
 
 -- src/lib.rt:347:1
 returns-2 : tie.Need-returns-2 Inv-loop μ-loop

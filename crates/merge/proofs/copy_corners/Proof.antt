@@ -122,7 +122,8 @@ same-length c = simp length-set
 
 -- src/lib.rt:193:1
 returns : tie.Need-returns
-returns c = corners-put (c .before .before .before .before .args .stores .now) (c .before .before .before .before .args .mesh .now) (c .before .before .before .before .args .j) (c .before .before .before .before .args .i) (omega arith) (omega arith) (omega arith)
+returns c = corners-put (c .before .before .before .before .args .stores .now) (c .before .before .before .before .args .mesh .now)
+    (c .before .before .before .before .args .j) (c .before .before .before .before .args .i) (omega arith) (omega arith) (omega arith)
 
 pub copy-corners-spec : {M : Type 1} → statement M
 copy-corners-spec =

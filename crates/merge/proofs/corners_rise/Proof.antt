@@ -58,23 +58,34 @@ shared-slice-read-d c = search needs
 
 -- src/lib.rt:216:9
 returns : tie.Need-returns
-returns c = rise-ab _ (c .before .before .before .before .before .args .i) (c .before .before .before .before .before .args .mesh .now) (omega arith) (c .before .before .before .before .before .pre .1) (omega arith)
+returns c = rise-ab _ (c .before .before .before .before .before .args .i) (c .before .before .before .before .before .args .mesh .now)
+    (omega arith) (c .before .before .before .before .before .pre .1) (omega arith)
 
 -- src/lib.rt:219:9
 returns-2 : tie.Need-returns-2
-returns-2 c = rise-bc _ (c .before .before .before .before .before .before .args .i) (c .before .before .before .before .before .before .args .mesh .now) (omega arith) (c .before .before .before .before .before .before .pre .1) (omega arith) (omega arith)
+returns-2 c = rise-bc _ (c .before .before .before .before .before .before .args .i)
+    (c .before .before .before .before .before .before .args .mesh .now) (omega arith)
+    (c .before .before .before .before .before .before .pre .1) (omega arith) (omega arith)
 
 -- src/lib.rt:222:9
 returns-3 : tie.Need-returns-3
-returns-3 c = rise-cd _ (c .before .before .before .before .before .before .before .args .i) (c .before .before .before .before .before .before .before .args .mesh .now) (omega arith) (c .before .before .before .before .before .before .before .pre .1) (omega arith) (omega arith) (omega arith)
+returns-3 c = rise-cd _ (c .before .before .before .before .before .before .before .args .i)
+    (c .before .before .before .before .before .before .before .args .mesh .now) (omega arith)
+    (c .before .before .before .before .before .before .before .pre .1) (omega arith) (omega arith) (omega arith)
 
 -- src/lib.rt:224:6
 cast-result : tie.Need-cast-result
-cast-result c = omega (arith, c .before .before .before .shared-slice-known4 .given (4 * c .before .before .before .before .before .before .before .args .i + 3))
+cast-result c = omega (
+  arith,
+  c .before .before .before .shared-slice-known4 .given
+      (4 * c .before .before .before .before .before .before .before .args .i + 3),
+)
 
 -- src/lib.rt:206:1
 returns-4 : tie.Need-returns-4
-returns-4 c = rise-all _ (c .before .before .before .before .before .before .before .args .i) (c .before .before .before .before .before .before .before .args .mesh .now) (omega arith) (c .before .before .before .before .before .before .before .pre .1) (omega arith) (omega arith) (omega arith)
+returns-4 c = rise-all _ (c .before .before .before .before .before .before .before .args .i)
+    (c .before .before .before .before .before .before .before .args .mesh .now) (omega arith)
+    (c .before .before .before .before .before .before .before .pre .1) (omega arith) (omega arith) (omega arith)
 
 pub corners-rise-spec : {M : Type 1} → statement M
 corners-rise-spec =

@@ -41,15 +41,25 @@ copy-corners-requires c κs = (omega arith, omega arith, omega arith, c .before 
 
 -- src/lib.rt:239:13
 corners-rise-requires : tie.Need-corners-rise-requires Inv-loop μ-loop
-corners-rise-requires c κs = (omega arith, c .before .before .before .copy-corners .kept .1 .1 .1 .0 ∙ c .before .before .before .before .before .before .before .before .loop .inv .long)
+corners-rise-requires c κs = (
+  omega arith,
+  c .before .before .before .copy-corners .kept .1 .1 .1 .0 ∙
+      c .before .before .before .before .before .before .before .before .loop .inv .long,
+)
 
 -- src/lib.rt:240:13
 same-length-2 : tie.Need-same-length-2 Inv-loop μ-loop
-same-length-2 c = c .before .before .before .before .before .copy-corners .kept .1 .1 .1 .0 ∙ c .before .before .before .before .before .before .before .before .before .before .loop .inv .long ∙ sym (c .before .before .before .before .before .before .before .before .before .before .before .before .before .pre .3)
+same-length-2 c = c .before .before .before .before .before .copy-corners .kept .1 .1 .1 .0 ∙
+    c .before .before .before .before .before .before .before .before .before .before .loop .inv .long ∙ sym
+    (c .before .before .before .before .before .before .before .before .before .before .before .before .before .pre .3)
 
 -- src/lib.rt:240:13
 returns-2 : tie.Need-returns-2 Inv-loop μ-loop
-returns-2 c = gathering-low _ _ _ _ _ _ _ _ (c .before .before .before .before .before .before .before .before .before .before .loop .inv) (c .before .before .before .before .before .before .before .before .before .loop-test .taken) (omega arith) (omega arith) (omega arith) (omega arith) (c .before .before .before .before .before .before .before .before .owner-at .ensures) (c .before .before .before .before .before .copy-corners .ensures) (sym (c .before .corners-rise .ensures) ∙ not-true _ (c .if2 .taken)) _
+returns-2 c = gathering-low _ _ _ _ _ _ _ _ (c .before .before .before .before .before .before .before .before .before .before .loop .inv)
+    (c .before .before .before .before .before .before .before .before .before .loop-test .taken) (omega arith) (omega arith)
+    (omega arith) (omega arith) (c .before .before .before .before .before .before .before .before .owner-at .ensures)
+    (c .before .before .before .before .before .copy-corners .ensures) (sym (c .before .corners-rise .ensures) ∙ not-true _
+    (c .if2 .taken)) _
 
 -- src/lib.rt:242:9
 add-i : tie.Need-add-i Inv-loop μ-loop
@@ -61,7 +71,11 @@ loop-less c = search needs
 
 -- src/lib.rt:233:5
 loop-again : tie.Need-loop-again Inv-loop μ-loop
-loop-again c = rw add-one (gathering-on _ _ _ _ _ _ _ _ (c .before .before .before .before .before .before .before .before .before .before .loop .inv) (c .before .before .before .before .before .before .before .before .before .loop-test .taken) (omega arith) (omega arith) (omega arith) (omega arith) (c .before .before .before .before .before .before .before .before .owner-at .ensures) (c .before .before .before .before .before .copy-corners .ensures) (sym (c .before .corners-rise .ensures) ∙ not-false _ (c .if2 .left)))
+loop-again c = rw add-one (gathering-on _ _ _ _ _ _ _ _ (c .before .before .before .before .before .before .before .before .before .before
+    .loop .inv) (c .before .before .before .before .before .before .before .before .before .loop-test .taken) (omega arith) (omega arith)
+    (omega arith) (omega arith) (c .before .before .before .before .before .before .before .before .owner-at .ensures)
+    (c .before .before .before .before .before .copy-corners .ensures) (sym (c .before .corners-rise .ensures) ∙ not-false _
+    (c .if2 .left)))
 
 -- src/lib.rt:228:1
 same-length-3 : tie.Need-same-length-3 Inv-loop μ-loop

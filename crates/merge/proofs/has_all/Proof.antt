@@ -31,7 +31,8 @@ has-part-requires c κs = search needs
 
 -- src/lib.rt:169:13
 returns : tie.Need-returns Inv-loop μ-loop
-returns c = having-stop _ _ _ (c .before .before .before .loop .inv .1) (omega arith) (sym (c .before .has-part .ensures) ∙ not-true _ (c .if1 .taken))
+returns c = having-stop _ _ _ (c .before .before .before .loop .inv .1) (omega arith)
+    (sym (c .before .has-part .ensures) ∙ not-true _ (c .if1 .taken))
 
 -- src/lib.rt:171:9
 add-i : tie.Need-add-i Inv-loop μ-loop
@@ -43,7 +44,11 @@ loop-less c = search needs
 
 -- src/lib.rt:167:5
 loop-again : tie.Need-loop-again Inv-loop μ-loop
-loop-again c = (omega arith, rw add-one (having-on _ _ _ (c .before .before .before .loop .inv .1) (omega arith) (sym (c .before .has-part .ensures) ∙ not-false _ (c .if1 .left))))
+loop-again c = (
+  omega arith,
+  rw add-one (having-on _ _ _ (c .before .before .before .loop .inv .1) (omega arith)
+      (sym (c .before .has-part .ensures) ∙ not-false _ (c .if1 .left))),
+)
 
 -- src/lib.rt:162:1
 returns-2 : tie.Need-returns-2 Inv-loop μ-loop

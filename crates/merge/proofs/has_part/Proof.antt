@@ -17,7 +17,8 @@ use Rattle.merge.proofs.has_part.Reads as reads
 use Rattle.merge.proofs.has_part.Lts as lts
 
 abbrev Inv-loop : tie.InvT-loop
-Inv-loop stores parts p j₀ j = (j ≤ parts) × (anyb (λ x. eqb (field x 1) p) (drop j (storesBy stores parts)) ≡ anyb (λ x. eqb (field x 1) p) (storesBy stores parts))
+Inv-loop stores parts p j₀ j = (j ≤ parts) × (anyb (λ x. eqb (field x 1) p) (drop j (storesBy stores parts)) ≡ anyb
+    (λ x. eqb (field x 1) p) (storesBy stores parts))
 
 abbrev μ-loop : tie.MeasureT-loop
 μ-loop stores parts p j₀ j = parts - j
@@ -48,7 +49,16 @@ cast-if1 c = omega (arith, c .shared-slice-known .given (226488 * c .before .bef
 
 -- src/lib.rt:154:13
 returns : tie.Need-returns Inv-loop μ-loop
-returns c = any-stop (λ x. eqb (field x 1) (c .before .before .before .before .args .p)) [] (storesBy (c .before .before .before .before .args .stores .now) (c .before .before .before .before .args .parts)) (c .before .before .before .loop .j) _ _ (omega (arith, length-stores (c .before .before .before .before .args .stores .now) (c .before .before .before .before .args .parts))) (stores-at (c .before .before .before .before .args .stores .now) (c .before .before .before .before .args .parts) _ (omega arith)) (eq-eqb _ _ (field-in (c .before .before .before .before .args .stores .now) (c .before .before .before .loop .j) 1 (omega arith) ∙ c .if1 .taken)) (c .before .before .before .loop .inv .1)
+returns c = any-stop (λ x. eqb (field x 1) (c .before .before .before .before .args .p)) []
+    (storesBy (c .before .before .before .before .args .stores .now) (c .before .before .before .before .args .parts))
+    (c .before .before .before .loop .j) _ _ (omega (
+      arith,
+      length-stores (c .before .before .before .before .args .stores .now)
+          (c .before .before .before .before .args .parts),
+    )) (stores-at (c .before .before .before .before .args .stores .now)
+    (c .before .before .before .before .args .parts) _ (omega arith)) (eq-eqb _ _
+    (field-in (c .before .before .before .before .args .stores .now) (c .before .before .before .loop .j) 1 (omega arith) ∙
+    c .if1 .taken)) (c .before .before .before .loop .inv .1)
 
 -- src/lib.rt:156:9
 add-j : tie.Need-add-j Inv-loop μ-loop
@@ -60,11 +70,28 @@ loop-less c = search needs
 
 -- src/lib.rt:152:5
 loop-again : tie.Need-loop-again Inv-loop μ-loop
-loop-again c = (omega arith, rw add-one (any-on (λ x. eqb (field x 1) (c .before .before .before .before .args .p)) [] (storesBy (c .before .before .before .before .args .stores .now) (c .before .before .before .before .args .parts)) (c .before .before .before .loop .j) _ _ (omega (arith, length-stores (c .before .before .before .before .args .stores .now) (c .before .before .before .before .args .parts))) (stores-at (c .before .before .before .before .args .stores .now) (c .before .before .before .before .args .parts) _ (omega arith)) (ne-eqb _ _ (λ z. c .if1 .left (sym (field-in (c .before .before .before .before .args .stores .now) (c .before .before .before .loop .j) 1 (omega arith)) ∙ z))) (c .before .before .before .loop .inv .1)))
+loop-again c = (
+  omega arith,
+  rw add-one (any-on (λ x. eqb (field x 1) (c .before .before .before .before .args .p)) []
+      (storesBy (c .before .before .before .before .args .stores .now) (c .before .before .before .before .args .parts))
+      (c .before .before .before .loop .j) _ _ (omega (
+        arith,
+        length-stores (c .before .before .before .before .args .stores .now)
+            (c .before .before .before .before .args .parts),
+      )) (stores-at (c .before .before .before .before .args .stores .now)
+      (c .before .before .before .before .args .parts) _ (omega arith)) (ne-eqb _ _
+      (λ z. c .if1 .left (sym (field-in (c .before .before .before .before .args .stores .now) (c .before .before .before .loop .j) 1
+      (omega arith)) ∙ z))) (c .before .before .before .loop .inv .1)),
+)
 
 -- src/lib.rt:147:1
 returns-2 : tie.Need-returns-2 Inv-loop μ-loop
-returns-2 c = any-out (λ x. eqb (field x 1) (c .before .before .args .p)) [] (storesBy (c .before .before .args .stores .now) (c .before .before .args .parts)) (c .before .loop .j) _ (omega (arith, length-stores (c .before .before .args .stores .now) (c .before .before .args .parts))) (c .before .loop .inv .1)
+returns-2 c = any-out (λ x. eqb (field x 1) (c .before .before .args .p)) [] (storesBy (c .before .before .args .stores .now)
+    (c .before .before .args .parts)) (c .before .loop .j) _ (omega (
+      arith,
+      length-stores (c .before .before .args .stores .now)
+          (c .before .before .args .parts),
+    )) (c .before .loop .inv .1)
 
 pub has-part-spec : {M : Type 1} → statement M
 has-part-spec =

@@ -23,7 +23,8 @@ header-fits-requires c κs = search needs
 
 -- src/lib.rt:114:9
 returns : tie.Need-returns
-returns c = rw (← c .before .before .store-at .ensures .0) (alike-no _ _ (λ a. not-both _ (is-true _ (a .header)) (sym (c .before .header-fits .ensures) ∙ not-true _ (c .if1 .taken))))
+returns c = rw (← c .before .before .store-at .ensures .0) (alike-no _ _ (λ a. not-both _ (is-true _ (a .header))
+    (sym (c .before .header-fits .ensures) ∙ not-true _ (c .if1 .taken))))
 
 -- src/lib.rt:116:8
 shared-slice-read-if2 : tie.Need-shared-slice-read-if2
@@ -43,7 +44,8 @@ shared-slice-read-if3-2 c = search needs
 
 -- src/lib.rt:120:9
 returns-3 : tie.Need-returns-3
-returns-3 c = rw (← c .before .before .before .before .before .before .before .store-at .ensures .0) (alike-no _ _ (λ a. c .if3 .taken (a .parts)))
+returns-3 c = rw (← c .before .before .before .before .before .before .before .store-at .ensures .0)
+    (alike-no _ _ (λ a. c .if3 .taken (a .parts)))
 
 -- src/lib.rt:122:8
 shared-slice-read-if4 : tie.Need-shared-slice-read-if4
@@ -55,7 +57,8 @@ shared-slice-read-if4-2 c = search needs
 
 -- src/lib.rt:123:9
 returns-4 : tie.Need-returns-4
-returns-4 c = rw (← c .before .before .before .before .before .before .before .before .before .before .store-at .ensures .0) (alike-no _ _ (λ a. c .if4 .taken (a .corners)))
+returns-4 c = rw (← c .before .before .before .before .before .before .before .before .before .before .store-at .ensures .0)
+    (alike-no _ _ (λ a. c .if4 .taken (a .corners)))
 
 -- src/lib.rt:125:8
 shared-slice-read-if5 : tie.Need-shared-slice-read-if5
@@ -67,7 +70,8 @@ shared-slice-read-if5-2 c = search needs
 
 -- src/lib.rt:126:9
 returns-5 : tie.Need-returns-5
-returns-5 c = rw (← c .before .before .before .before .before .before .before .before .before .before .before .before .before .store-at .ensures .0) (alike-no _ _ (λ a. c .if5 .taken (a .coarse)))
+returns-5 c = rw (← c .before .before .before .before .before .before .before .before .before .before .before .before .before .store-at
+    .ensures .0) (alike-no _ _ (λ a. c .if5 .taken (a .coarse)))
 
 -- src/lib.rt:128:5
 shared-slice-read-result : tie.Need-shared-slice-read-result
@@ -79,7 +83,12 @@ shared-slice-read-result-2 c = search needs
 
 -- src/lib.rt:108:1
 returns-6 : tie.Need-returns-6
-returns-6 c = rw (← c .before .before .before .before .before .before .before .before .before .before .before .before .before .before .before .store-at .ensures .0) (alike-yes _ _ (sym (c .before .before .before .before .before .before .before .before .before .before .before .before .before .before .header-fits .ensures) ∙ not-false _ (c .before .before .before .before .before .before .before .before .before .before .before .before .before .if1 .left)) (c .before .before .before .before .before .before .before .before .before .before .before .if2 .left) (c .before .before .before .before .before .before .before .before .if3 .left) (c .before .before .before .before .before .if4 .left) (c .before .before .if5 .left))
+returns-6 c = rw (← c .before .before .before .before .before .before .before .before .before .before .before .before .before .before
+    .before .store-at .ensures .0) (alike-yes _ _ (sym (c .before .before .before .before .before .before .before .before .before .before
+    .before .before .before .before .header-fits .ensures) ∙ not-false _ (c .before .before .before .before .before .before .before
+    .before .before .before .before .before .before .if1 .left)) (c .before .before .before .before .before .before .before .before
+    .before .before .before .if2 .left) (c .before .before .before .before .before .before .before .before .if3 .left)
+    (c .before .before .before .before .before .if4 .left) (c .before .before .if5 .left))
 
 pub is-alike-spec : {M : Type 1} → statement M
 is-alike-spec =

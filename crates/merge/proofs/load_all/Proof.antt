@@ -11,7 +11,8 @@ use Rattle.merge.proofs.load_store.Reads as load-store-reads
 use Rattle.merge.proofs.store_at.Reads as store-at-reads
 
 abbrev Inv-loop : tie.InvT-loop
-Inv-loop stores parts xs₀ ys₀ heads₀ links₀ sts₀ r₀ i₀ xs ys heads links sts r i = (i ≤ parts) × (r ≤ 4096) × After xs₀ ys₀ heads₀ links₀ sts₀ 0 (storesFrom stores i parts) xs ys heads links sts r
+Inv-loop stores parts xs₀ ys₀ heads₀ links₀ sts₀ r₀ i₀ xs ys heads links sts r i = (i ≤ parts) × (r ≤ 4096) × After xs₀ ys₀ heads₀ links₀
+    sts₀ 0 (storesFrom stores i parts) xs ys heads links sts r
 
 abbrev μ-loop : tie.MeasureT-loop
 μ-loop stores parts xs₀ ys₀ heads₀ links₀ sts₀ r₀ i₀ xs ys heads links sts r i = i
@@ -30,11 +31,36 @@ store-at-requires c κs = (omega arith, omega arith)
 
 -- src/lib.rt:267:9
 load-store-requires : tie.Need-load-store-requires Inv-loop μ-loop
-load-store-requires c κs = ((omega (arith, c .before .before .before .before .before .store-at .ensures .1), entries-in _ _ _ _ (c .before .before .before .before .before .store-at .ensures .0) (c .before .before .before .before .before .before .before .before .before .pre .1 .0) (omega (arith, c .before .before .before .before .before .before .before .loop .inv .0, c .before .before .before .before .before .before .loop-test .taken))), c .before .before .before .before .before .before .before .loop .inv .2 .begun (c .before .before .before .before .before .before .before .loop .inv .1))
+load-store-requires c κs = (
+  (
+    omega (arith, c .before .before .before .before .before .store-at .ensures .1),
+    entries-in _ _ _ _
+        (c .before .before .before .before .before .store-at .ensures .0) (c .before .before .before .before .before .before .before .before
+        .before .pre .1 .0) (omega (
+          arith,
+          c .before .before .before .before .before .before .before .loop .inv .0,
+          c .before .before .before .before .before .before .loop-test .taken,
+        )),
+  ),
+  c .before .before .before .before .before .before .before
+      .loop .inv .2 .begun (c .before .before .before .before .before .before .before .loop .inv .1),
+)
 
 -- src/lib.rt:269:13
 returns : tie.Need-returns Inv-loop μ-loop
-returns c = storing-full _ _ (c .before .before .before .before .before .before .before .before .before .before .before .args .heads .now) (c .before .before .before .before .before .before .before .before .before .before .before .args .links .now) _ _ _ _ _ _ _ _ _ (c .before .before .before .before .before .before .before .before .before .loop .i - 1) _ (omega (arith, c .before .before .before .before .before .before .before .before .before .loop .inv .0)) (c .if1 .taken) (storing-on _ _ (c .before .before .before .before .before .before .before .before .before .before .before .args .heads .now) (c .before .before .before .before .before .before .before .before .before .before .before .args .links .now) _ _ _ _ _ _ _ _ _ _ _ _ _ _ _ (c .before .before .before .before .before .before .before .before .before .loop .i) (c .before .before .before .before .before .before .before .before .before .loop .i - 1) _ (omega (arith, c .before .before .before .before .before .before .before .before .loop-test .taken)) (c .before .before .before .before .before .before .before .before .before .loop .inv .0) (c .before .before .before .before .before .before .before .before .before .loop .inv .2) (c .before .before .before .before .before .before .before .before .before .loop .inv .1) _ (c .before .before .before .before .before .before .before .store-at .ensures .0) (c .before .load-store .ensures))
+returns c = storing-full _ _ (c .before .before .before .before .before .before .before .before .before .before .before .args .heads .now)
+    (c .before .before .before .before .before .before .before .before .before .before .before .args .links .now) _ _ _ _ _ _ _ _ _
+    (c .before .before .before .before .before .before .before .before .before .loop .i - 1) _
+    (omega (arith, c .before .before .before .before .before .before .before .before .before .loop .inv .0)) (c .if1 .taken)
+    (storing-on _ _ (c .before .before .before .before .before .before .before .before .before .before .before .args .heads .now)
+    (c .before .before .before .before .before .before .before .before .before .before .before .args .links .now) _ _ _ _ _ _ _ _ _ _ _ _
+    _ _ _ (c .before .before .before .before .before .before .before .before .before .loop .i)
+    (c .before .before .before .before .before .before .before .before .before .loop .i - 1) _
+    (omega (arith, c .before .before .before .before .before .before .before .before .loop-test .taken))
+    (c .before .before .before .before .before .before .before .before .before .loop .inv .0)
+    (c .before .before .before .before .before .before .before .before .before .loop .inv .2)
+    (c .before .before .before .before .before .before .before .before .before .loop .inv .1) _
+    (c .before .before .before .before .before .before .before .store-at .ensures .0) (c .before .load-store .ensures))
 
 -- src/lib.rt:264:5
 loop-less : tie.Need-loop-less Inv-loop μ-loop
@@ -42,11 +68,24 @@ loop-less c = omega (arith, c .before .before .before .before .before .before .b
 
 -- src/lib.rt:264:5
 loop-again : tie.Need-loop-again Inv-loop μ-loop
-loop-again c = (omega (arith, c .before .before .before .before .before .before .before .before .before .loop .inv .0), c .if1 .left, storing-on _ _ (c .before .before .before .before .before .before .before .before .before .before .before .args .heads .now) (c .before .before .before .before .before .before .before .before .before .before .before .args .links .now) _ _ _ _ _ _ _ _ _ _ _ _ _ _ _ (c .before .before .before .before .before .before .before .before .before .loop .i) (c .before .before .before .before .before .before .before .before .before .loop .i - 1) _ (omega (arith, c .before .before .before .before .before .before .before .before .loop-test .taken)) (c .before .before .before .before .before .before .before .before .before .loop .inv .0) (c .before .before .before .before .before .before .before .before .before .loop .inv .2) (c .before .before .before .before .before .before .before .before .before .loop .inv .1) _ (c .before .before .before .before .before .before .before .store-at .ensures .0) (c .before .load-store .ensures))
+loop-again c = (
+  omega (arith, c .before .before .before .before .before .before .before .before .before .loop .inv .0),
+  c .if1 .left,
+  storing-on _ _ (c .before .before .before .before .before .before .before .before .before .before .before .args .heads .now)
+      (c .before .before .before .before .before .before .before .before .before .before .before .args .links .now) _ _ _ _ _ _ _ _ _ _ _ _
+      _ _ _ (c .before .before .before .before .before .before .before .before .before .loop .i)
+      (c .before .before .before .before .before .before .before .before .before .loop .i - 1) _
+      (omega (arith, c .before .before .before .before .before .before .before .before .loop-test .taken))
+      (c .before .before .before .before .before .before .before .before .before .loop .inv .0)
+      (c .before .before .before .before .before .before .before .before .before .loop .inv .2)
+      (c .before .before .before .before .before .before .before .before .before .loop .inv .1) _
+      (c .before .before .before .before .before .before .before .store-at .ensures .0) (c .before .load-store .ensures),
+)
 
 -- src/lib.rt:248:1
 returns-2 : tie.Need-returns-2 Inv-loop μ-loop
-returns-2 c = storing-out _ _ (c .before .before .before .args .heads .now) (c .before .before .before .args .links .now) _ _ _ _ _ _ _ _ _ (c .before .loop .i) _ (omega arith) (c .before .loop .inv .2)
+returns-2 c = storing-out _ _ (c .before .before .before .args .heads .now) (c .before .before .before .args .links .now) _ _ _ _ _ _ _ _
+    _ (c .before .loop .i) _ (omega arith) (c .before .loop .inv .2)
 
 pub load-all-spec : {M : Type 1} → statement M
 load-all-spec =

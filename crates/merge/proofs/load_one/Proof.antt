@@ -22,7 +22,8 @@ returns c = load-ghost _ _ _ _ _ _ (c .before .before .before .pre .1) _ (sym (c
 
 -- src/lib.rt:73:9
 returns-2 : tie.Need-returns-2
-returns-2 c = load-full _ _ _ _ _ _ (c .before .before .before .before .pre .1) _ (sym (c .before .before .is-ghost .ensures) ∙ c .before .if1 .left) (omega arith) _ _ _ _ _
+returns-2 c = load-full _ _ _ _ _ _ (c .before .before .before .before .pre .1) _
+    (sym (c .before .before .is-ghost .ensures) ∙ c .before .if1 .left) (omega arith) _ _ _ _ _
 
 -- src/lib.rt:75:9
 key-of-requires : tie.Need-key-of-requires
@@ -30,7 +31,20 @@ key-of-requires c κs = search needs
 
 -- src/lib.rt:76:5
 add-requires : tie.Need-add-requires
-add-requires c κs = (c .before .before .before .before .before .before .before .before .before .pre .1 .keys, record { small = omega arith; in-xs = omega (arith, c .before .before .before .before .before .before .before .before .before .pre .1 .in-xs); in-ys = omega (arith, c .before .before .before .before .before .before .before .before .before .pre .1 .in-ys); in-links = omega (arith, c .before .before .before .before .before .before .before .before .before .pre .1 .in-links) })
+add-requires c κs = (
+  c .before .before .before .before .before .before .before .before .before .pre .1 .keys,
+  record {
+    small = omega arith;
+    in-xs = omega (
+      arith,
+      c .before .before .before .before .before .before .before .before .before .pre .1
+          .in-xs,
+    );
+    in-ys = omega (arith, c .before .before .before .before .before .before .before .before .before .pre .1 .in-ys);
+    in-links =
+        omega (arith, c .before .before .before .before .before .before .before .before .before .pre .1 .in-links);
+  },
+)
 
 -- src/lib.rt:77:14
 status-of-requires : tie.Need-status-of-requires
@@ -46,7 +60,11 @@ add-result c = search needs
 
 -- src/lib.rt:55:1
 returns-3 : tie.Need-returns-3
-returns-3 c = load-master _ _ _ _ _ _ (c .before .before .before .before .before .before .before .before .before .before .before .pre .1) _ (sym (c .before .before .before .before .before .before .before .before .before .is-ghost .ensures) ∙ c .before .before .before .before .before .before .before .before .if1 .left) (omega arith) _ _ _ _ _ _ _ (c .before .before .before .before .before .before .key-of .ensures) (c .status-of .ensures .0) (c .before .add .ensures) (c .before .add .kept .1 .1 .1 .0)
+returns-3 c = load-master _ _ _ _ _ _ (c .before .before .before .before .before .before .before .before .before .before .before .pre .1)
+    _ (sym (c .before .before .before .before .before .before .before .before .before .is-ghost .ensures) ∙
+    c .before .before .before .before .before .before .before .before .if1 .left) (omega arith) _ _ _ _ _ _ _
+    (c .before .before .before .before .before .before .key-of .ensures) (c .status-of .ensures .0) (c .before .add .ensures)
+    (c .before .add .kept .1 .1 .1 .0)
 
 pub load-one-spec : {M : Type 1} → statement M
 load-one-spec =

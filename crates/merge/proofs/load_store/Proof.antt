@@ -11,7 +11,8 @@ use Rattle.merge.proofs.load_store.Lts as lts
 use Rattle.merge.proofs.load_one.Reads as load-one-reads
 
 abbrev Inv-loop : tie.InvT-loop
-Inv-loop store xs₀ ys₀ heads₀ links₀ sts₀ n r₀ j₀ xs ys heads links sts r j = (j ≤ field store ENTRIES) × (r ≤ 4096) × After xs₀ ys₀ heads₀ links₀ sts₀ n (entriesFrom store j (field store ENTRIES)) xs ys heads links sts r
+Inv-loop store xs₀ ys₀ heads₀ links₀ sts₀ n r₀ j₀ xs ys heads links sts r j = (j ≤ field store ENTRIES) × (r ≤ 4096) × After xs₀ ys₀
+    heads₀ links₀ sts₀ n (entriesFrom store j (field store ENTRIES)) xs ys heads links sts r
 
 abbrev μ-loop : tie.MeasureT-loop
 μ-loop store xs₀ ys₀ heads₀ links₀ sts₀ n r₀ j₀ xs ys heads links sts r j = j
@@ -34,11 +35,34 @@ sub-j c = search needs
 
 -- src/lib.rt:99:9
 load-one-requires : tie.Need-load-one-requires Inv-loop μ-loop
-load-one-requires c κs = ((omega arith, omega (arith, c .before .before .before .before .before .before .loop .inv .0, c .before .before .before .before .before .before .before .before .before .pre .0 .1, c .before .before .before .before .before .loop-test .taken)), c .before .before .before .before .before .before .loop .inv .2 .begun (c .before .before .before .before .before .before .loop .inv .1))
+load-one-requires c κs = (
+  (
+    omega arith,
+    omega (
+      arith,
+      c .before .before .before .before .before .before .loop .inv .0,
+      c .before .before .before .before .before .before .before .before .before .pre .0 .1,
+      c .before .before .before .before .before .loop-test .taken,
+    ),
+  ),
+  c .before .before .before .before .before .before .loop .inv .2 .begun
+      (c .before .before .before .before .before .before .loop .inv .1),
+)
 
 -- src/lib.rt:101:13
 returns : tie.Need-returns Inv-loop μ-loop
-returns c = loading-full _ _ (c .before .before .before .before .before .before .before .before .before .before .before .args .heads .now) (c .before .before .before .before .before .before .before .before .before .before .before .args .links .now) _ _ _ _ _ _ _ _ _ (c .before .before .before .before .before .before .before .before .loop .j - 1) _ refl (omega (arith, c .before .before .before .before .before .before .before .before .loop .inv .0)) (c .if1 .taken) (loading-on _ _ (c .before .before .before .before .before .before .before .before .before .before .before .args .heads .now) (c .before .before .before .before .before .before .before .before .before .before .before .args .links .now) _ _ _ _ _ _ _ _ _ _ _ _ _ _ _ (c .before .before .before .before .before .before .before .before .loop .j) (c .before .before .before .before .before .before .before .before .loop .j - 1) _ (omega (arith, c .before .before .before .before .before .before .before .loop-test .taken)) (c .before .before .before .before .before .before .before .before .loop .inv .0) (c .before .before .before .before .before .before .before .before .loop .inv .2) (c .before .before .before .before .before .before .before .before .loop .inv .1) (c .before .load-one .ensures))
+returns c = loading-full _ _ (c .before .before .before .before .before .before .before .before .before .before .before .args .heads .now)
+    (c .before .before .before .before .before .before .before .before .before .before .before .args .links .now) _ _ _ _ _ _ _ _ _
+    (c .before .before .before .before .before .before .before .before .loop .j - 1) _ refl
+    (omega (arith, c .before .before .before .before .before .before .before .before .loop .inv .0)) (c .if1 .taken)
+    (loading-on _ _ (c .before .before .before .before .before .before .before .before .before .before .before .args .heads .now)
+    (c .before .before .before .before .before .before .before .before .before .before .before .args .links .now) _ _ _ _ _ _ _ _ _ _ _ _
+    _ _ _ (c .before .before .before .before .before .before .before .before .loop .j)
+    (c .before .before .before .before .before .before .before .before .loop .j - 1) _
+    (omega (arith, c .before .before .before .before .before .before .before .loop-test .taken))
+    (c .before .before .before .before .before .before .before .before .loop .inv .0)
+    (c .before .before .before .before .before .before .before .before .loop .inv .2)
+    (c .before .before .before .before .before .before .before .before .loop .inv .1) (c .before .load-one .ensures))
 
 -- src/lib.rt:97:5
 loop-less : tie.Need-loop-less Inv-loop μ-loop
@@ -46,11 +70,24 @@ loop-less c = omega (arith, c .before .before .before .before .before .before .b
 
 -- src/lib.rt:97:5
 loop-again : tie.Need-loop-again Inv-loop μ-loop
-loop-again c = (omega (arith, c .before .before .before .before .before .before .before .before .loop .inv .0), c .if1 .left, loading-on _ _ (c .before .before .before .before .before .before .before .before .before .before .before .args .heads .now) (c .before .before .before .before .before .before .before .before .before .before .before .args .links .now) _ _ _ _ _ _ _ _ _ _ _ _ _ _ _ (c .before .before .before .before .before .before .before .before .loop .j) (c .before .before .before .before .before .before .before .before .loop .j - 1) _ (omega (arith, c .before .before .before .before .before .before .before .loop-test .taken)) (c .before .before .before .before .before .before .before .before .loop .inv .0) (c .before .before .before .before .before .before .before .before .loop .inv .2) (c .before .before .before .before .before .before .before .before .loop .inv .1) (c .before .load-one .ensures))
+loop-again c = (
+  omega (arith, c .before .before .before .before .before .before .before .before .loop .inv .0),
+  c .if1 .left,
+  loading-on _
+      _ (c .before .before .before .before .before .before .before .before .before .before .before .args .heads .now)
+      (c .before .before .before .before .before .before .before .before .before .before .before .args .links .now) _ _ _ _ _ _ _ _ _ _ _ _
+      _ _ _ (c .before .before .before .before .before .before .before .before .loop .j)
+      (c .before .before .before .before .before .before .before .before .loop .j - 1) _
+      (omega (arith, c .before .before .before .before .before .before .before .loop-test .taken))
+      (c .before .before .before .before .before .before .before .before .loop .inv .0)
+      (c .before .before .before .before .before .before .before .before .loop .inv .2)
+      (c .before .before .before .before .before .before .before .before .loop .inv .1) (c .before .load-one .ensures),
+)
 
 -- src/lib.rt:82:1
 returns-2 : tie.Need-returns-2 Inv-loop μ-loop
-returns-2 c = loading-out _ _ (c .before .before .before .before .args .heads .now) (c .before .before .before .before .args .links .now) _ _ _ _ _ _ _ _ _ (c .before .loop .j) _ refl (omega arith) (c .before .loop .inv .2)
+returns-2 c = loading-out _ _ (c .before .before .before .before .args .heads .now) (c .before .before .before .before .args .links .now)
+    _ _ _ _ _ _ _ _ _ (c .before .loop .j) _ refl (omega arith) (c .before .loop .inv .2)
 
 pub load-store-spec : {M : Type 1} → statement M
 load-store-spec =

@@ -1,4 +1,5 @@
-use Rattle.merge.proofs.Answers.{headed, passed, merge-short, merge-narrow, merge-header, merge-alike, merge-every, merge-corners, merge-none, merge-unsound, merge-done, fours-fit}
+use Rattle.merge.proofs.Answers.{headed, passed, merge-short, merge-narrow, merge-header, merge-alike, merge-every, merge-corners}
+use Rattle.merge.proofs.Answers.{merge-none, merge-unsound, merge-done, fours-fit}
 use Rattle.merge.proofs.Stores.{few-entries}
 use borrow.Author.Tests.{not-true, not-false}
 use lib.ListN.{length-replicate}
@@ -23,11 +24,13 @@ mul-if1 c = search needs
 
 -- src/lib.rt:460:9
 returns : tie.Need-returns
-returns c = let s = merge-short (c .before .before .before .args .stores .now) (c .before .before .before .args .table .now) (omega arith) in (s .answer, s .after)
+returns c = let s = merge-short (c .before .before .before .args .stores .now) (c .before .before .before .args .table .now) (omega arith)
+    in (s .answer, s .after)
 
 -- src/lib.rt:463:9
 returns-2 : tie.Need-returns-2
-returns-2 c = let s = merge-narrow (c .before .before .before .before .args .stores .now) (c .before .before .before .before .args .table .now) (omega arith) (omega arith) in (s .answer, s .after)
+returns-2 c = let s = merge-narrow (c .before .before .before .before .args .stores .now)
+    (c .before .before .before .before .args .table .now) (omega arith) (omega arith) in (s .answer, s .after)
 
 -- src/lib.rt:465:9
 header-fits-requires : tie.Need-header-fits-requires
@@ -35,7 +38,9 @@ header-fits-requires c κs = search needs
 
 -- src/lib.rt:466:9
 returns-3 : tie.Need-returns-3
-returns-3 c = let s = merge-header (c .before .before .before .before .before .before .args .stores .now) (c .before .before .before .before .before .before .args .table .now) (omega arith) (omega arith) (sym (c .before .header-fits .ensures) ∙ not-true _ (c .if3 .taken)) in (s .answer, s .after)
+returns-3 c = let s = merge-header (c .before .before .before .before .before .before .args .stores .now)
+    (c .before .before .before .before .before .before .args .table .now) (omega arith) (omega arith)
+    (sym (c .before .header-fits .ensures) ∙ not-true _ (c .if3 .taken)) in (s .answer, s .after)
 
 -- src/lib.rt:468:17
 shared-slice-read-parts : tie.Need-shared-slice-read-parts
@@ -43,23 +48,40 @@ shared-slice-read-parts c = search needs
 
 -- src/lib.rt:468:17
 cast-parts : tie.Need-cast-parts
-cast-parts c = omega (arith, (headed (c .before .before .before .before .before .before .before .args .stores .now) (sym (c .before .before .header-fits .ensures) ∙ not-false _ (c .before .if3 .left))) .parts-most)
+cast-parts c = omega (
+  arith,
+  (headed (c .before .before .before .before .before .before .before .args .stores .now)
+      (sym (c .before .before .header-fits .ensures) ∙ not-false _ (c .before .if3 .left))) .parts-most,
+)
 
 -- src/lib.rt:469:9
 all-alike-requires : tie.Need-all-alike-requires
-all-alike-requires c κs = (omega arith, (headed (c .before .before .before .before .before .before .before .args .stores .now) (sym (c .before .before .header-fits .ensures) ∙ not-false _ (c .before .if3 .left))) .parts-most)
+all-alike-requires c κs = (
+  omega arith,
+  (headed (c .before .before .before .before .before .before .before .args .stores .now)
+      (sym (c .before .before .header-fits .ensures) ∙ not-false _ (c .before .if3 .left))) .parts-most,
+)
 
 -- src/lib.rt:470:9
 returns-4 : tie.Need-returns-4
-returns-4 c = let s = merge-alike (c .before .before .before .before .before .before .before .before .before .args .stores .now) (c .before .before .before .before .before .before .before .before .before .args .table .now) (omega arith) (omega arith) _ refl (sym (c .before .all-alike .ensures) ∙ not-true _ (c .if4 .taken)) in (s .answer, s .after)
+returns-4 c = let s = merge-alike (c .before .before .before .before .before .before .before .before .before .args .stores .now)
+    (c .before .before .before .before .before .before .before .before .before .args .table .now) (omega arith) (omega arith) _ refl
+    (sym (c .before .all-alike .ensures) ∙ not-true _ (c .if4 .taken)) in (s .answer, s .after)
 
 -- src/lib.rt:472:9
 has-all-requires : tie.Need-has-all-requires
-has-all-requires c κs = (omega arith, (headed (c .before .before .before .before .before .before .before .before .before .args .stores .now) (sym (c .before .before .before .before .header-fits .ensures) ∙ not-false _ (c .before .before .before .if3 .left))) .parts-most)
+has-all-requires c κs = (
+  omega arith,
+  (headed (c .before .before .before .before .before .before .before .before .before .args .stores
+      .now) (sym (c .before .before .before .before .header-fits .ensures) ∙ not-false _
+      (c .before .before .before .if3 .left))) .parts-most,
+)
 
 -- src/lib.rt:473:9
 returns-5 : tie.Need-returns-5
-returns-5 c = let s = merge-every (c .before .before .before .before .before .before .before .before .before .before .before .args .stores .now) (c .before .before .before .before .before .before .before .before .before .before .before .args .table .now) (omega arith) (omega arith) _ refl (sym (c .before .has-all .ensures) ∙ not-true _ (c .if5 .taken)) in (s .answer, s .after)
+returns-5 c = let s = merge-every (c .before .before .before .before .before .before .before .before .before .before .before .args .stores
+    .now) (c .before .before .before .before .before .before .before .before .before .before .before .args .table .now) (omega arith)
+    (omega arith) _ refl (sym (c .before .has-all .ensures) ∙ not-true _ (c .if5 .taken)) in (s .answer, s .after)
 
 -- src/lib.rt:475:13
 shared-slice-read-n : tie.Need-shared-slice-read-n
@@ -67,7 +89,12 @@ shared-slice-read-n c = search needs
 
 -- src/lib.rt:475:13
 cast-n : tie.Need-cast-n
-cast-n c = omega (arith, (headed (c .before .before .before .before .before .before .before .before .before .before .before .before .args .stores .now) (sym (c .before .before .before .before .before .before .before .header-fits .ensures) ∙ not-false _ (c .before .before .before .before .before .before .if3 .left))) .corners-most)
+cast-n c = omega (
+  arith,
+  (headed (c .before .before .before .before .before .before .before .before .before .before .before .before .args
+      .stores .now) (sym (c .before .before .before .before .before .before .before .header-fits .ensures) ∙ not-false _
+      (c .before .before .before .before .before .before .if3 .left))) .corners-most,
+)
 
 -- src/lib.rt:476:13
 shared-slice-read-m : tie.Need-shared-slice-read-m
@@ -75,7 +102,12 @@ shared-slice-read-m c = search needs
 
 -- src/lib.rt:476:13
 cast-m : tie.Need-cast-m
-cast-m c = omega (arith, (headed (c .before .before .before .before .before .before .before .before .before .before .before .before .before .args .stores .now) (sym (c .before .before .before .before .before .before .before .before .header-fits .ensures) ∙ not-false _ (c .before .before .before .before .before .before .before .if3 .left))) .coarse-most)
+cast-m c = omega (
+  arith,
+  (headed (c .before .before .before .before .before .before .before .before .before .before .before .before
+      .before .args .stores .now) (sym (c .before .before .before .before .before .before .before .before .header-fits .ensures) ∙ not-false
+      _ (c .before .before .before .before .before .before .before .if3 .left))) .coarse-most,
+)
 
 -- src/lib.rt:478:45
 slice-aggregate-gather-corners : tie.Need-slice-aggregate-gather-corners
@@ -83,23 +115,88 @@ slice-aggregate-gather-corners c = search needs
 
 -- src/lib.rt:478:9
 gather-corners-requires : tie.Need-gather-corners-requires
-gather-corners-requires c κs = (omega arith, (headed (c .before .before .before .before .before .before .before .before .before .before .before .before .before .before .args .stores .now) (sym (c .before .before .before .before .before .before .before .before .before .header-fits .ensures) ∙ not-false _ (c .before .before .before .before .before .before .before .before .if3 .left))) .parts-most, (headed (c .before .before .before .before .before .before .before .before .before .before .before .before .before .before .args .stores .now) (sym (c .before .before .before .before .before .before .before .before .before .header-fits .ensures) ∙ not-false _ (c .before .before .before .before .before .before .before .before .if3 .left))) .coarse-most, length-replicate {A = ℕ} 1024 0)
+gather-corners-requires c κs = (
+  omega arith,
+  (headed (c .before .before .before .before .before .before .before .before .before .before
+      .before .before .before .before .args .stores .now) (sym (c .before .before .before .before .before .before .before .before .before
+      .header-fits .ensures) ∙ not-false _ (c .before .before .before .before .before .before .before .before .if3 .left))) .parts-most,
+  (headed (c .before .before .before .before .before .before .before .before .before .before .before .before .before .before .args
+      .stores .now) (sym (c .before .before .before .before .before .before .before .before .before .header-fits .ensures) ∙ not-false _
+      (c .before .before .before .before .before .before .before .before .if3 .left))) .coarse-most,
+  length-replicate {A = ℕ} 1024 0,
+)
 
 -- src/lib.rt:479:9
 returns-6 : tie.Need-returns-6
-returns-6 c = let s = merge-corners (c .before .before .before .before .before .before .before .before .before .before .before .before .before .before .before .before .before .args .stores .now) (c .before .before .before .before .before .before .before .before .before .before .before .before .before .before .before .before .before .args .table .now) (omega arith) (omega arith) _ refl _ _ refl refl _ (rw (not-true (c .before .before .gather-corners .result) (c .if6 .taken)) at (c .before .before .gather-corners .ensures)) in (s .answer, s .after)
+returns-6 c = let s = merge-corners (c .before .before .before .before .before .before .before .before .before .before .before .before
+    .before .before .before .before .before .args .stores .now) (c .before .before .before .before .before .before .before .before .before
+    .before .before .before .before .before .before .before .before .args .table .now) (omega arith) (omega arith) _ refl _ _ refl refl _
+    (rw (not-true (c .before .before .gather-corners .result) (c .if6 .taken)) at (c .before .before .gather-corners .ensures)) in
+    (s .answer, s .after)
 
 -- src/lib.rt:482:9
 assemble-requires : tie.Need-assemble-requires
-assemble-requires c κs = ((omega arith, (headed (c .before .before .before .before .before .before .before .before .before .before .before .before .before .before .before .before .before .before .args .stores .now) (sym (c .before .before .before .before .before .before .before .before .before .before .before .before .before .header-fits .ensures) ∙ not-false _ (c .before .before .before .before .before .before .before .before .before .before .before .before .if3 .left))) .parts-most, (headed (c .before .before .before .before .before .before .before .before .before .before .before .before .before .before .before .before .before .before .args .stores .now) (sym (c .before .before .before .before .before .before .before .before .before .before .before .before .before .header-fits .ensures) ∙ not-false _ (c .before .before .before .before .before .before .before .before .before .before .before .before .if3 .left))) .coarse-most, length-replicate {A = ℕ} 4096 0), few-entries _ _ (passed _ (sym (c .before .before .before .before .before .before .before .before .before .before .all-alike .ensures) ∙ not-false _ (c .before .before .before .before .before .before .before .before .before .if4 .left))))
+assemble-requires c κs = (
+  (
+    omega arith,
+    (headed (c .before .before .before .before .before .before .before .before .before .before .before
+        .before .before .before .before .before .before .before .args .stores .now)
+        (sym (c .before .before .before .before .before .before .before .before .before .before .before .before .before .header-fits
+        .ensures)
+        ∙ not-false _ (c .before .before .before .before .before .before .before .before .before .before .before .before .if3 .left)))
+        .parts-most,
+    (headed (c .before .before .before .before .before .before .before .before .before .before .before .before .before
+        .before .before .before .before .before .args .stores .now) (sym (c .before .before .before .before .before .before .before .before
+        .before .before .before .before .before .header-fits .ensures) ∙ not-false _
+        (c .before .before .before .before .before .before .before .before .before .before .before .before .if3 .left))) .coarse-most,
+    length-replicate {A = ℕ} 4096 0,
+  ),
+  few-entries _ _ (passed _ (sym (c .before .before .before .before .before .before .before .before
+      .before .before .all-alike .ensures) ∙ not-false _ (c .before .before .before .before .before .before .before .before .before .if4
+      .left))),
+)
 
 -- src/lib.rt:484:9
 returns-7 : tie.Need-returns-7
-returns-7 c = let s = merge-none (c .before .before .before .before .before .before .before .before .before .before .before .before .before .before .before .before .before .before .before .before .args .stores .now) (c .before .before .before .before .before .before .before .before .before .before .before .before .before .before .before .before .before .before .before .before .args .table .now) (omega arith) (omega arith) _ refl _ _ refl refl _ (rw (not-false (c .before .before .before .before .before .gather-corners .result) (c .before .before .before .if6 .left)) at (c .before .before .before .before .before .gather-corners .ensures)) _ 65535 (rw (c .if7 .taken) at (c .before .assemble .ensures)) in (s .answer, s .after)
+returns-7 c = let s = merge-none (c .before .before .before .before .before .before .before .before .before .before .before .before
+    .before .before .before .before .before .before .before .before .args .stores .now)
+    (c .before .before .before .before .before .before .before .before .before .before .before .before .before .before .before .before
+    .before .before .before .before .args .table .now) (omega arith) (omega arith) _ refl _ _ refl refl _
+    (rw (not-false (c .before .before .before .before .before .gather-corners .result) (c .before .before .before .if6 .left)) at
+    (c .before .before .before .before .before .gather-corners .ensures)) _ 65535 (rw (c .if7 .taken) at (c .before .assemble .ensures))
+    in (s .answer, s .after)
 
 -- src/lib.rt:486:9
 finish-requires : tie.Need-finish-requires
-finish-requires c κs = (((headed (c .before .before .before .before .before .before .before .before .before .before .before .before .before .before .before .before .before .before .before .before .before .before .before .args .stores .now) (sym (c .before .before .before .before .before .before .before .before .before .before .before .before .before .before .before .before .before .before .header-fits .ensures) ∙ not-false _ (c .before .before .before .before .before .before .before .before .before .before .before .before .before .before .before .before .before .if3 .left))) .coarse-least, (headed (c .before .before .before .before .before .before .before .before .before .before .before .before .before .before .before .before .before .before .before .before .before .before .before .args .stores .now) (sym (c .before .before .before .before .before .before .before .before .before .before .before .before .before .before .before .before .before .before .header-fits .ensures) ∙ not-false _ (c .before .before .before .before .before .before .before .before .before .before .before .before .before .before .before .before .before .if3 .left))) .coarse-most, (headed (c .before .before .before .before .before .before .before .before .before .before .before .before .before .before .before .before .before .before .before .before .before .before .before .args .stores .now) (sym (c .before .before .before .before .before .before .before .before .before .before .before .before .before .before .before .before .before .before .header-fits .ensures) ∙ not-false _ (c .before .before .before .before .before .before .before .before .before .before .before .before .before .before .before .before .before .if3 .left))) .corners-most, c .before .before .before .before .assemble .ensures .few (c .before .before .before .if7 .left) .0, omega arith), fours-fit (c .before .before .before .before .before .before .before .before .before .before .before .before .before .before .before .before .before .before .before .before .before .before .before .args .stores .now) (c .before .before .before .before .before .before .before .before .before .before .before .before .before .before .before .before .before .before .before .before .before .before .before .args .table .now) (omega arith) (omega arith) _ refl _ _ refl refl _ (rw (not-false (c .before .before .before .before .before .before .before .before .gather-corners .result) (c .before .before .before .before .before .before .if6 .left)) at (c .before .before .before .before .before .before .before .before .gather-corners .ensures)) _ _ (c .before .before .before .before .assemble .ensures) (c .before .before .before .if7 .left))
+finish-requires c κs = (
+  (
+    (headed (c .before .before .before .before .before .before .before .before .before .before .before .before
+        .before .before .before .before .before .before .before .before .before .before .before .args .stores .now)
+        (sym (c .before .before .before .before .before .before .before .before .before .before .before .before .before .before .before
+        .before .before .before .header-fits .ensures) ∙ not-false _ (c .before .before .before .before .before .before .before .before
+        .before .before .before .before .before .before .before .before .before .if3 .left))) .coarse-least,
+    (headed (c .before .before .before .before .before .before .before .before .before .before .before .before .before .before .before
+        .before .before .before .before .before .before .before .before .args .stores .now)
+        (sym (c .before .before .before .before .before .before .before .before .before .before .before .before .before .before .before
+        .before .before .before .header-fits .ensures) ∙ not-false _ (c .before .before .before .before .before .before .before .before
+        .before .before .before .before .before .before .before .before .before .if3 .left))) .coarse-most,
+    (headed (c .before .before .before .before .before .before .before .before .before .before .before .before .before .before .before
+        .before .before .before .before .before .before .before .before .args .stores .now)
+        (sym (c .before .before .before .before .before .before .before .before .before .before .before .before .before .before .before
+        .before .before .before .header-fits .ensures) ∙ not-false _ (c .before .before .before .before .before .before .before .before
+        .before .before .before .before .before .before .before .before .before .if3 .left))) .corners-most,
+    c .before .before .before .before .assemble .ensures .few (c .before .before .before .if7 .left) .0,
+    omega arith,
+  ),
+  fours-fit
+      (c .before .before .before .before .before .before .before .before .before .before .before .before .before .before .before .before
+      .before .before .before .before .before .before .before .args .stores .now)
+      (c .before .before .before .before .before .before .before .before .before .before .before .before .before .before .before .before
+      .before .before .before .before .before .before .before .args .table .now) (omega arith) (omega arith) _ refl _ _ refl refl _
+      (rw (not-false (c .before .before .before .before .before .before .before .before .gather-corners .result)
+      (c .before .before .before .before .before .before .if6 .left)) at (c .before .before .before .before .before .before .before .before
+      .gather-corners .ensures)) _ _ (c .before .before .before .before .assemble .ensures) (c .before .before .before .if7 .left),
+)
 
 -- src/lib.rt:487:9
 same-length : tie.Need-same-length
@@ -107,7 +204,17 @@ same-length c = search needs
 
 -- src/lib.rt:487:9
 returns-8 : tie.Need-returns-8
-returns-8 c = let s = merge-unsound (c .before .before .before .before .before .before .before .before .before .before .before .before .before .before .before .before .before .before .before .before .before .before .before .before .before .before .before .args .stores .now) (c .before .before .before .before .before .before .before .before .before .before .before .before .before .before .before .before .before .before .before .before .before .before .before .before .before .before .before .args .table .now) (omega arith) (omega arith) _ refl _ _ refl refl _ (rw (not-false (c .before .before .before .before .before .before .before .before .before .before .before .before .gather-corners .result) (c .before .before .before .before .before .before .before .before .before .before .if6 .left)) at (c .before .before .before .before .before .before .before .before .before .before .before .before .gather-corners .ensures)) _ _ (c .before .before .before .before .before .before .before .before .assemble .ensures) (c .before .before .before .before .before .before .before .if7 .left) _ (rw (not-true (c .before .before .before .finish .result) (c .if8 .taken)) at (c .before .before .before .finish .ensures)) in (s .answer, s .after)
+returns-8 c = let s = merge-unsound (c .before .before .before .before .before .before .before .before .before .before .before .before
+    .before .before .before .before .before .before .before .before .before .before .before .before .before .before .before .args .stores
+    .now) (c .before .before .before .before .before .before .before .before .before .before .before .before .before .before .before
+    .before .before .before .before .before .before .before .before .before .before .before .before .args .table .now) (omega arith)
+    (omega arith) _ refl _ _ refl refl _ (rw (not-false (c .before .before .before .before .before .before .before .before .before .before
+    .before .before .gather-corners .result) (c .before .before .before .before .before .before .before .before .before .before .if6
+    .left)) at (c .before .before .before .before .before .before .before .before .before .before .before .before .gather-corners
+    .ensures)) _ _ (c .before .before .before .before .before .before .before .before .assemble .ensures)
+    (c .before .before .before .before .before .before .before .if7 .left) _ (rw
+    (not-true (c .before .before .before .finish .result) (c .if8 .taken)) at (c .before .before .before .finish .ensures)) in
+    (s .answer, s .after)
 
 -- src/lib.rt:453:1
 same-length-2 : tie.Need-same-length-2
@@ -115,7 +222,26 @@ same-length-2 c = search needs
 
 -- src/lib.rt:453:1
 returns-9 : tie.Need-returns-9
-returns-9 c = let s = merge-done (c .before .before .before .before .before .before .before .before .before .before .before .before .before .before .before .before .before .before .before .before .before .before .before .before .before .before .before .args .stores .now) (c .before .before .before .before .before .before .before .before .before .before .before .before .before .before .before .before .before .before .before .before .before .before .before .before .before .before .before .args .table .now) (omega arith) (omega arith) _ refl _ _ refl refl _ (rw (not-false (c .before .before .before .before .before .before .before .before .before .before .before .before .gather-corners .result) (c .before .before .before .before .before .before .before .before .before .before .if6 .left)) at (c .before .before .before .before .before .before .before .before .before .before .before .before .gather-corners .ensures)) _ _ (c .before .before .before .before .before .before .before .before .assemble .ensures) (c .before .before .before .before .before .before .before .if7 .left) (passed _ (sym (c .before .before .before .before .before .before .before .before .before .before .before .before .before .before .before .before .before .before .before .before .before .before .header-fits .ensures) ∙ not-false _ (c .before .before .before .before .before .before .before .before .before .before .before .before .before .before .before .before .before .before .before .before .before .if3 .left))) (sym (c .before .before .before .before .before .before .before .before .before .before .before .before .before .before .before .before .before .before .before .all-alike .ensures) ∙ not-false _ (c .before .before .before .before .before .before .before .before .before .before .before .before .before .before .before .before .before .before .if4 .left)) (sym (c .before .before .before .before .before .before .before .before .before .before .before .before .before .before .before .before .before .has-all .ensures) ∙ not-false _ (c .before .before .before .before .before .before .before .before .before .before .before .before .before .before .before .before .if5 .left)) _ (rw (not-false (c .before .before .before .finish .result) (c .if8 .left)) at (c .before .before .before .finish .ensures)) in (s .answer, s .after)
+returns-9 c = let s = merge-done (c .before .before .before .before .before .before .before .before .before .before .before .before
+    .before .before .before .before .before .before .before .before .before .before .before .before .before .before .before .args .stores
+    .now) (c .before .before .before .before .before .before .before .before .before .before .before .before .before .before .before
+    .before .before .before .before .before .before .before .before .before .before .before .before .args .table .now) (omega arith)
+    (omega arith) _ refl _ _ refl refl _ (rw (not-false (c .before .before .before .before .before .before .before .before .before .before
+    .before .before .gather-corners .result) (c .before .before .before .before .before .before .before .before .before .before .if6
+    .left)) at (c .before .before .before .before .before .before .before .before .before .before .before .before .gather-corners
+    .ensures)) _ _ (c .before .before .before .before .before .before .before .before .assemble .ensures)
+    (c .before .before .before .before .before .before .before .if7 .left) (passed _
+    (sym (c .before .before .before .before .before .before .before .before .before .before .before .before .before .before .before
+    .before .before .before .before .before .before .before .header-fits .ensures) ∙ not-false _
+    (c .before .before .before .before .before .before .before .before .before .before .before .before .before .before .before .before
+    .before .before .before .before .before .if3 .left))) (sym (c .before .before .before .before .before .before .before .before .before
+    .before .before .before .before .before .before .before .before .before .before .all-alike .ensures) ∙ not-false _
+    (c .before .before .before .before .before .before .before .before .before .before .before .before .before .before .before .before
+    .before .before .if4 .left)) (sym (c .before .before .before .before .before .before .before .before .before .before .before .before
+    .before .before .before .before .before .has-all .ensures) ∙ not-false _ (c .before .before .before .before .before .before .before
+    .before .before .before .before .before .before .before .before .before .if5 .left)) _
+    (rw (not-false (c .before .before .before .finish .result) (c .if8 .left)) at (c .before .before .before .finish .ensures)) in
+    (s .answer, s .after)
 
 pub merge-spec : {M : Type 1} → statement M
 merge-spec =

@@ -55,7 +55,9 @@ shared-slice-read-if1-2 c = search needs
 
 -- src/lib.rt:185:13
 returns : tie.Need-returns Inv-loop μ-loop
-returns c = owning-stop _ _ _ _ (c .before .before .before .before .loop .inv .1) (omega arith) (sym (owns-by (c .before .before .before .before .before .args .stores .now) (c .before .before .before .before .loop .j) (c .before .before .before .before .before .args .i) _ _ (omega arith) refl refl) ∙ eq-eqb _ _ (c .if1 .taken))
+returns c = owning-stop _ _ _ _ (c .before .before .before .before .loop .inv .1) (omega arith)
+    (sym (owns-by (c .before .before .before .before .before .args .stores .now) (c .before .before .before .before .loop .j)
+    (c .before .before .before .before .before .args .i) _ _ (omega arith) refl refl) ∙ eq-eqb _ _ (c .if1 .taken))
 
 -- src/lib.rt:187:9
 add-j : tie.Need-add-j Inv-loop μ-loop
@@ -67,7 +69,12 @@ loop-less c = search needs
 
 -- src/lib.rt:182:5
 loop-again : tie.Need-loop-again Inv-loop μ-loop
-loop-again c = (omega arith, rw add-one (owning-on _ _ _ _ (c .before .before .before .before .loop .inv .1) (omega arith) (sym (owns-by (c .before .before .before .before .before .args .stores .now) (c .before .before .before .before .loop .j) (c .before .before .before .before .before .args .i) _ _ (omega arith) refl refl) ∙ ne-eqb _ _ (c .if1 .left))))
+loop-again c = (
+  omega arith,
+  rw add-one (owning-on _ _ _ _ (c .before .before .before .before .loop .inv .1) (omega arith)
+      (sym (owns-by (c .before .before .before .before .before .args .stores .now) (c .before .before .before .before .loop .j)
+      (c .before .before .before .before .before .args .i) _ _ (omega arith) refl refl) ∙ ne-eqb _ _ (c .if1 .left))),
+)
 
 -- src/lib.rt:177:1
 returns-2 : tie.Need-returns-2 Inv-loop μ-loop

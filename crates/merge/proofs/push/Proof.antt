@@ -45,15 +45,29 @@ slice-write-px c = search needs
 
 -- src/lib.rt:298:37
 mul-py : tie.Need-mul-py Inv-loop μ-loop
-mul-py c = omega (arith, product-room (c .before .loop .i) (c .before .before .power .result) (omega arith) (c .before .before .power .ensures .1))
+mul-py c = omega (
+  arith,
+  product-room (c .before .loop .i) (c .before .before .power .result) (omega arith)
+      (c .before .before .power .ensures .1),
+)
 
 -- src/lib.rt:298:24
 add-py : tie.Need-add-py Inv-loop μ-loop
-add-py c = omega (arith, product-room (c .before .loop .i) (c .before .before .power .result) (omega arith) (c .before .before .power .ensures .1))
+add-py c = omega (
+  arith,
+  product-room (c .before .loop .i) (c .before .before .power .result) (omega arith)
+      (c .before .before .power .ensures .1),
+)
 
 -- src/lib.rt:298:23
 cast-py : tie.Need-cast-py Inv-loop μ-loop
-cast-py c = omega (arith, digits-room (c .before .before .before .before .before .args .x) (c .before .before .before .before .before .args .y) (c .before .loop .i) (c .before .before .power .result) (c .before .before .before .before .before .pre .0 .0) (c .before .before .before .before .before .pre .0 .1) (omega arith) (c .before .before .power .ensures .0))
+cast-py c = omega (
+  arith,
+  digits-room (c .before .before .before .before .before .args .x)
+      (c .before .before .before .before .before .args .y) (c .before .loop .i) (c .before .before .power .result)
+      (c .before .before .before .before .before .pre .0 .0) (c .before .before .before .before .before .pre .0 .1) (omega arith)
+      (c .before .before .power .ensures .0),
+)
 
 -- src/lib.rt:298:12
 add-py-2 : tie.Need-add-py-2 Inv-loop μ-loop
@@ -77,7 +91,15 @@ loop-less c = search needs
 
 -- src/lib.rt:296:5
 loop-again : tie.Need-loop-again Inv-loop μ-loop
-loop-again c = (omega arith, simp length-set (c .before .loop .inv .1), simp length-set (c .before .loop .inv .2), rw add-one (pushed-more _ _ _ _ _ _ _ _ _ (c .before .loop .inv .3) (omega (arith, c .before .loop .inv .1)) (omega (arith, c .before .loop .inv .2)) (ap (λ (p : ℕ). c .before .before .before .before .before .args .y + c .before .loop .i * p) (c .before .before .power .ensures .0))))
+loop-again c = (
+  omega arith,
+  simp length-set (c .before .loop .inv .1),
+  simp length-set (c .before .loop .inv .2),
+  rw add-one
+      (pushed-more _ _ _ _ _ _ _ _ _ (c .before .loop .inv .3) (omega (arith, c .before .loop .inv .1))
+      (omega (arith, c .before .loop .inv .2)) (ap (λ (p : ℕ). c .before .before .before .before .before .args .y + c .before .loop .i * p)
+      (c .before .before .power .ensures .0))),
+)
 
 -- src/lib.rt:289:1
 same-length : tie.Need-same-length Inv-loop μ-loop

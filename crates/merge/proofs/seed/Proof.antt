@@ -52,7 +52,13 @@ loop-less c = search needs
 
 -- src/lib.rt:281:5
 loop-again : tie.Need-loop-again Inv-loop μ-loop
-loop-again c = (omega arith, simp length-set (c .before .loop .inv .1), simp length-set (c .before .loop .inv .2), rw add-one (seeded-more _ _ _ (c .before .loop .inv .3) (omega (arith, c .before .loop .inv .1)) (omega (arith, c .before .loop .inv .2))))
+loop-again c = (
+  omega arith,
+  simp length-set (c .before .loop .inv .1),
+  simp length-set (c .before .loop .inv .2),
+  rw add-one
+      (seeded-more _ _ _ (c .before .loop .inv .3) (omega (arith, c .before .loop .inv .1)) (omega (arith, c .before .loop .inv .2))),
+)
 
 -- src/lib.rt:276:1
 same-length : tie.Need-same-length Inv-loop μ-loop

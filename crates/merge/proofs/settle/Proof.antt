@@ -32,15 +32,22 @@ find-requires c κs = c .before .before .before .before .before .before .pre .0 
 
 -- src/lib.rt:325:9
 returns : tie.Need-returns
-returns c = settle-none _ _ _ _ _ _ (c .before .before .before .before .before .before .before .before .pre .0) _ _ _ _ _ (c .before .before .before .before .before .before .before .before .pre .1 .0) (c .before .before .before .before .before .before .before .before .pre .1 .1) _ (c .before .find .ensures) (c .if1 .taken)
+returns c = settle-none _ _ _ _ _ _ (c .before .before .before .before .before .before .before .before .pre .0) _ _ _ _ _
+    (c .before .before .before .before .before .before .before .before .pre .1 .0)
+    (c .before .before .before .before .before .before .before .before .pre .1 .1) _ (c .before .find .ensures) (c .if1 .taken)
 
 -- src/lib.rt:327:18
 element-copy-out-status : tie.Need-element-copy-out-status
-element-copy-out-status c = found-in _ _ _ _ _ _ (c .before .before .before .before .before .before .before .before .pre .0) _ _ _ _ _ (c .before .before .before .before .before .before .before .before .pre .1 .0) (c .before .before .before .before .before .before .before .before .pre .1 .1) _ (c .before .find .ensures) (c .if1 .left)
+element-copy-out-status c = found-in _ _ _ _ _ _ (c .before .before .before .before .before .before .before .before .pre .0) _ _ _ _ _
+    (c .before .before .before .before .before .before .before .before .pre .1 .0)
+    (c .before .before .before .before .before .before .before .before .pre .1 .1) _ (c .before .find .ensures) (c .if1 .left)
 
 -- src/lib.rt:329:9
 returns-2 : tie.Need-returns-2
-returns-2 c = settle-status _ _ _ _ _ _ (c .before .before .before .before .before .before .before .before .before .before .pre .0) _ _ _ _ _ (c .before .before .before .before .before .before .before .before .before .before .pre .1 .0) (c .before .before .before .before .before .before .before .before .before .before .pre .1 .1) _ (c .before .before .before .find .ensures) (c .before .before .if1 .left) (c .if2 .taken)
+returns-2 c = settle-status _ _ _ _ _ _ (c .before .before .before .before .before .before .before .before .before .before .pre .0) _ _ _
+    _ _ (c .before .before .before .before .before .before .before .before .before .before .pre .1 .0)
+    (c .before .before .before .before .before .before .before .before .before .before .pre .1 .1) _
+    (c .before .before .before .find .ensures) (c .before .before .if1 .left) (c .if2 .taken)
 
 -- src/lib.rt:331:5
 element-write-st : tie.Need-element-write-st
@@ -52,11 +59,19 @@ size-of-requires c κs = search needs
 
 -- src/lib.rt:334:9
 returns-3 : tie.Need-returns-3
-returns-3 c = settle-leaf _ _ _ _ _ _ (c .before .before .before .before .before .before .before .before .before .before .before .before .pre .0) _ _ _ _ _ (c .before .before .before .before .before .before .before .before .before .before .before .before .pre .1 .0) (c .before .before .before .before .before .before .before .before .before .before .before .before .pre .1 .1) _ (c .before .before .before .before .before .find .ensures) (c .before .before .before .before .if1 .left) _ (c .before .size-of .ensures .0) (c .before .size-of .ensures .1) (c .if3 .taken)
+returns-3 c = settle-leaf _ _ _ _ _ _ (c .before .before .before .before .before .before .before .before .before .before .before .before
+    .pre .0) _ _ _ _ _ (c .before .before .before .before .before .before .before .before .before .before .before .before .pre .1 .0)
+    (c .before .before .before .before .before .before .before .before .before .before .before .before .pre .1 .1) _
+    (c .before .before .before .before .before .find .ensures) (c .before .before .before .before .if1 .left) _
+    (c .before .size-of .ensures .0) (c .before .size-of .ensures .1) (c .if3 .taken)
 
 -- src/lib.rt:337:9
 returns-4 : tie.Need-returns-4
-returns-4 c = settle-deep _ _ _ _ _ _ (c .before .before .before .before .before .before .before .before .before .before .before .before .before .pre .0) _ _ _ _ _ (c .before .before .before .before .before .before .before .before .before .before .before .before .before .pre .1 .0) (c .before .before .before .before .before .before .before .before .before .before .before .before .before .pre .1 .1) _ (c .before .before .before .before .before .before .find .ensures) (c .before .before .before .before .before .if1 .left) _ (c .before .before .size-of .ensures .0) (c .before .before .size-of .ensures .1) (c .before .if3 .left) (c .if4 .taken)
+returns-4 c = settle-deep _ _ _ _ _ _ (c .before .before .before .before .before .before .before .before .before .before .before .before
+    .before .pre .0) _ _ _ _ _ (c .before .before .before .before .before .before .before .before .before .before .before .before .before
+    .pre .1 .0) (c .before .before .before .before .before .before .before .before .before .before .before .before .before .pre .1 .1) _
+    (c .before .before .before .before .before .before .find .ensures) (c .before .before .before .before .before .if1 .left) _
+    (c .before .before .size-of .ensures .0) (c .before .before .size-of .ensures .1) (c .before .if3 .left) (c .if4 .taken)
 
 -- src/lib.rt:339:8
 add-if5 : tie.Need-add-if5
@@ -64,11 +79,31 @@ add-if5 c = search needs
 
 -- src/lib.rt:340:9
 returns-5 : tie.Need-returns-5
-returns-5 c = settle-room _ _ _ _ _ _ (c .before .before .before .before .before .before .before .before .before .before .before .before .before .before .pre .0) _ _ _ _ _ (c .before .before .before .before .before .before .before .before .before .before .before .before .before .before .pre .1 .0) (c .before .before .before .before .before .before .before .before .before .before .before .before .before .before .pre .1 .1) _ (c .before .before .before .before .before .before .before .find .ensures) (c .before .before .before .before .before .before .if1 .left) _ (c .before .before .before .size-of .ensures .0) (c .before .before .before .size-of .ensures .1) (c .if5 .taken)
+returns-5 c = settle-room _ _ _ _ _ _ (c .before .before .before .before .before .before .before .before .before .before .before .before
+    .before .before .pre .0) _ _ _ _ _ (c .before .before .before .before .before .before .before .before .before .before .before .before
+    .before .before .pre .1 .0) (c .before .before .before .before .before .before .before .before .before .before .before .before .before
+    .before .pre .1 .1) _ (c .before .before .before .before .before .before .before .find .ensures)
+    (c .before .before .before .before .before .before .if1 .left) _ (c .before .before .before .size-of .ensures .0)
+    (c .before .before .before .size-of .ensures .1) (c .if5 .taken)
 
 -- src/lib.rt:342:5
 push-requires : tie.Need-push-requires
-push-requires c κs = ((c .before .before .before .before .before .before .before .before .before .before .before .before .before .before .before .before .pre .1 .0 .keys _ (omega arith) (c .before .before .before .before .before .before .before .before .before .before .before .before .before .before .before .before .pre .1 .1), omega (arith, c .before .before .before .if4 .left), c .before .before .before .before .before .size-of .ensures .1), (c .before .before .if5 .left, c .before .before .before .before .before .before .before .before .before .before .before .before .before .before .before .before .pre .1 .0 .in-px, c .before .before .before .before .before .before .before .before .before .before .before .before .before .before .before .before .pre .1 .0 .in-py))
+push-requires c κs = (
+  (
+    c .before .before .before .before .before .before .before .before .before .before .before .before .before .before
+        .before .before .pre .1 .0 .keys _ (omega arith) (c .before .before .before .before .before .before .before .before .before .before
+        .before .before .before .before .before .before .pre .1 .1),
+    omega (arith, c .before .before .before .if4 .left),
+    c .before .before .before .before .before .size-of .ensures .1,
+  ),
+  (
+    c .before .before .if5 .left,
+    c .before .before .before .before .before .before .before .before .before .before .before .before .before .before .before .before .pre
+        .1 .0 .in-px,
+    c .before .before .before .before .before .before .before .before .before .before .before .before .before .before
+        .before .before .pre .1 .0 .in-py,
+  ),
+)
 
 -- src/lib.rt:343:5
 add-result : tie.Need-add-result
@@ -76,7 +111,15 @@ add-result c = search needs
 
 -- src/lib.rt:304:1
 returns-6 : tie.Need-returns-6
-returns-6 c = settle-on _ _ _ _ _ _ (c .before .before .before .before .before .before .before .before .before .before .before .before .before .before .before .before .before .pre .0) _ _ _ _ _ (c .before .before .before .before .before .before .before .before .before .before .before .before .before .before .before .before .before .pre .1 .0) (c .before .before .before .before .before .before .before .before .before .before .before .before .before .before .before .before .before .pre .1 .1) _ (c .before .before .before .before .before .before .before .before .before .before .find .ensures) (c .before .before .before .before .before .before .before .before .before .if1 .left) _ (c .before .before .before .before .before .before .size-of .ensures .0) (c .before .before .before .before .before .before .size-of .ensures .1) (c .before .before .before .if5 .left) (λ z. c .before .before .before .before .if4 .left) _ _ (c .push .ensures) (c .push .kept .0) (c .push .kept .1 .0)
+returns-6 c = settle-on _ _ _ _ _ _ (c .before .before .before .before .before .before .before .before .before .before .before .before
+    .before .before .before .before .before .pre .0) _ _ _ _ _ (c .before .before .before .before .before .before .before .before .before
+    .before .before .before .before .before .before .before .before .pre .1 .0)
+    (c .before .before .before .before .before .before .before .before .before .before .before .before .before .before .before .before
+    .before .pre .1 .1) _ (c .before .before .before .before .before .before .before .before .before .before .find .ensures)
+    (c .before .before .before .before .before .before .before .before .before .if1 .left) _
+    (c .before .before .before .before .before .before .size-of .ensures .0) (c .before .before .before .before .before .before .size-of
+    .ensures .1) (c .before .before .before .if5 .left) (λ z. c .before .before .before .before .if4 .left) _ _ (c .push .ensures)
+    (c .push .kept .0) (c .push .kept .1 .0)
 
 pub settle-spec : {M : Type 1} → statement M
 settle-spec =

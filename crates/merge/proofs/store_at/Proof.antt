@@ -34,7 +34,11 @@ part-result-end c = search needs
 
 -- src/lib.rt:45:1
 returns : tie.Need-returns
-returns c = (store-is _ _, ap length (store-is (c .before .args .stores .now) (c .before .args .j)) ∙ store-long _ _ (omega arith) (omega arith))
+returns c = (
+  store-is _ _,
+  ap length (store-is (c .before .args .stores .now) (c .before .args .j)) ∙ store-long _ _ (omega arith)
+      (omega arith),
+)
 
 pub store-at-spec : {M : Type 1} → statement M
 store-at-spec =
