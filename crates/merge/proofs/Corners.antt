@@ -18,7 +18,7 @@ use Rattle.mesh.specs.Coarse.{cellb, cellsb}
 use Rattle.store.specs.Fields.{full, CORNER}
 use Rattle.merge.specs.Merge.{storeIn, ownsb, cornersIn, mergeCells}
 use Rattle.merge.specs.Steps.{storesBy, OwnedAt, Gathered}
-use Rattle.merge.proofs.Stores.{field-in, store-long}
+use Rattle.merge.specs.Stores.{field-in, store-long}
 
 four-at : (l : List ℕ) (k : ℕ) → k + 4 ≤ length l
     → take 4 (drop k l) ≡ getD l k 0 ∷ getD l (k + 1) 0 ∷ getD l (k + 2) 0 ∷ getD l (k + 3) 0 ∷ []

@@ -3,3 +3,4 @@ pub mod Load
 pub mod Sweep
 pub mod Steps
 pub mod Merges
+pub mod Stores

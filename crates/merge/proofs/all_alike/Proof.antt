@@ -1,4 +1,4 @@
-use Rattle.merge.proofs.Stores.{all-on, all-stop, all-out, stores-at, length-stores}
+use Rattle.merge.specs.Stores.{all-on, all-stop, all-out, stores-at, length-stores}
 use Rattle.merge.specs.Steps.{storesBy}
 use Rattle.merge.specs.Merge.{alikeb}
 use Rattle.base.specs.Lists.{allb}

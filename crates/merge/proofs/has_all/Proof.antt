@@ -1,4 +1,4 @@
-use Rattle.merge.proofs.Stores.{Having, having-start, having-on, having-stop, having-out}
+use Rattle.merge.specs.Stores.{Having, having-start, having-on, having-stop, having-out}
 use borrow.Author.Needs.{needs}
 use borrow.Author.Tests.{not-true, not-false}
 use native.Mathlib.Numerals.{add-one}

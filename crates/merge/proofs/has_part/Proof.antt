@@ -1,4 +1,4 @@
-use Rattle.merge.proofs.Stores.{any-on, any-stop, any-out, stores-at, length-stores, field-in}
+use Rattle.merge.specs.Stores.{any-on, any-stop, any-out, stores-at, length-stores, field-in}
 use Rattle.merge.specs.Steps.{storesBy}
 use Rattle.store.specs.Fields.{field}
 use Rattle.base.specs.Lists.{anyb}

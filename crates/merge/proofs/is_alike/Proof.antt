@@ -1,4 +1,4 @@
-use Rattle.merge.proofs.Stores.{alike-no, alike-yes}
+use Rattle.merge.specs.Stores.{alike-no, alike-yes}
 use Rattle.merge.specs.Merge.{alikeb}
 use Rattle.store.specs.Header.{headerb}
 use Rattle.base.specs.Bools.{is-true, not-both}

@@ -1,6 +1,6 @@
 use Rattle.merge.proofs.Answers.{headed, passed, merge-short, merge-narrow, merge-header, merge-alike, merge-every, merge-corners}
 use Rattle.merge.proofs.Answers.{merge-none, merge-unsound, merge-done, fours-fit}
-use Rattle.merge.proofs.Stores.{few-entries}
+use Rattle.merge.specs.Stores.{few-entries}
 use borrow.Author.Tests.{not-true, not-false}
 use lib.ListN.{length-replicate}
 use native.Mathlib.Omega.{arith}

@@ -1,4 +1,4 @@
-use Rattle.merge.proofs.Stores.{Owning, owning-start, owning-on, owning-stop, owning-out, owns-by}
+use Rattle.merge.specs.Stores.{Owning, owning-start, owning-on, owning-stop, owning-out, owns-by}
 use Rattle.merge.specs.Steps.{OwnedAt}
 use borrow.Author.Needs.{needs}
 use borrow.Author.Tests.{eq-eqb, ne-eqb}

@@ -1,4 +1,4 @@
-use Rattle.merge.proofs.Stores.{store-is, store-long}
+use Rattle.merge.specs.Stores.{store-is, store-long}
 use native.Mathlib.Omega.{arith}
 use lib.ListN.{length}
 use mathlib.Core.Path.{_≡_, _∙_, ap}

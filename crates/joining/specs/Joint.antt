@@ -1,0 +1,99 @@
+-- The entries of all parts, by part, in whatever order of the parts.
+--   Order P l          l has the parts 1 to P, each once
+--   Joint n qs ss P f  the parts' entries f have the masters of the table ss, each once, and no others, in whatever order
+-- Laws: joint-merged and joint-complete (what merging makes of them), joint-old (the entries of a split table), joint-new (the entries of
+-- the parts after the rounds).
+use mathlib.Core.Path.{_≡_, refl, sym, _∙_, ap, subst}
+use mathlib.Core.Logic.{⊎-elim}
+use mathlib.Core.List.{List, [], _∷_, _++_, map, flatMap, flatten, List·Memᴰ, List·Memᴰ·head, List·Memᴰ·tail, Memᴰ·of-map}
+use Prim.Native.Nat.{ℕ, suc, _≤_, _<_}
+use native.Mathlib.Omega.{arith}
+use lib.Dec.{T}
+use lib.ListN.{length, getD}
+use Rattle.base.specs.Lists.{memberb}
+use Rattle.mesh.specs.Table.{soundb}
+use Rattle.soundness.specs.Sound.{Sound}
+use Rattle.exchange.specs.Finite.{Finite}
+use Rattle.rounds.specs.Tests.{Member, member-cases}
+use Rattle.parts.specs.Owners.{ownersb}
+use Rattle.parts.specs.Held.{Entry, entriesOf}
+use Rattle.parts.specs.Merge.{merged, completeb}
+use Rattle.shares.specs.Settled.{Settled, entriesIn}
+use Rattle.shares.specs.Share.{Named, tableIn}
+use Rattle.merging.specs.Distinct.{NoDup, place-of}
+use Rattle.merging.specs.Merge.{Covers, merged-table}
+use Rattle.merging.specs.Complete.{masterPaths, complete-is}
+use Rattle.merging.specs.Covered.{covered, split-apart}
+use Rattle.merging.specs.All.{entriesAll, entries-cover, all-apart}
+
+pub record Order (P : ℕ) (l : List ℕ) : Type 0 where
+  pub count : length l ≡ P
+  pub within : (j : ℕ) → j < length l → (1 ≤ getD l j 0) × (getD l j 0 ≤ P)
+  pub every : (p : ℕ) → 1 ≤ p → p ≤ P → Member p l
+  pub once : NoDup l
+
+pub record Joint (n : ℕ) (qs : List (List ℕ)) (ss : List ℕ) (P : ℕ) (es : ℕ → List Entry) : Type 0 where
+  pub cover : (l : List ℕ) → Order P l → Covers n qs ss (flatMap es l)
+  pub apart : (l : List ℕ) → Order P l → NoDup (masterPaths (flatMap es l))
+
+module _ (n : ℕ) (qs : List (List ℕ)) (ss : List ℕ) (P : ℕ) (s : Sound n qs ss) where
+  module _ (es : ℕ → List Entry) (j : Joint n qs ss P es) (l : List ℕ) (o : Order P l) where
+    pub joint-merged : flatten (merged (flatMap es l) (length qs)) ≡ ss
+    joint-merged = merged-table n qs ss (flatMap es l) (j .cover l o) s
+
+    pub joint-complete : T (completeb (flatMap es l) (length qs))
+    joint-complete = complete-is n qs ss (flatMap es l) s (j .cover l o) (j .apart l o)
+
+  -- the table that was split
+  pub joint-old : (os : List ℕ) → T (ownersb n qs ss P os) → Joint n qs ss P (entriesOf n qs ss os)
+  joint-old os t =
+      record {
+        cover = λ l o. covered n qs ss s P os t l (o .every);
+        apart = λ l o. split-apart n qs ss s P os t l (o .once);
+      }
+
+member-mem : (x : ℕ) (l : List ℕ) → Member x l → List·Memᴰ x l
+unfolding memberb
+member-mem x [] m = absurd m
+member-mem x (y ∷ l) m =
+    ⊎-elim (λ (e : x ≡ y). List·Memᴰ·head e) (λ (v : Member x l). List·Memᴰ·tail (member-mem x l v)) (member-cases x y l m)
+
+mem-map : {A : Type 0} (f : ℕ → A) (x : ℕ) {l : List ℕ} → List·Memᴰ x l → List·Memᴰ (f x) (map f l)
+mem-map f x (List·Memᴰ·head e) = List·Memᴰ·head (ap f e)
+mem-map f x (List·Memᴰ·tail m) = List·Memᴰ·tail (mem-map f x m)
+
+-- after the rounds
+module _ {Part : Type 0} {F : Finite Part} (X : Settled F) (P : ℕ) (part : ℕ → Part) (number : Part → ℕ) (names : Named P part number)
+    (least : (p : Part) → 1 ≤ number p) (most : (p : Part) → number p ≤ P) where
+  abbrev pub entriesAt : ℕ → List Entry
+  entriesAt p = entriesIn X (part p)
+
+  flat-all : (l : List ℕ) → flatMap entriesAt l ≡ entriesAll X (map part l)
+  unfolding flatMap entriesAll
+  flat-all [] = refl
+  flat-all (p ∷ l) = ap (λ (es : List Entry). entriesAt p ++ es) (flat-all l)
+
+  named-once : (l : List ℕ) → ((j : ℕ) → j < length l → (1 ≤ getD l j 0) × (getD l j 0 ≤ P)) → NoDup l → NoDup (map part l)
+  named-once [] w d = tt
+  named-once (p ∷ l) w d = (
+    (λ m.
+    let (q, u, e) = Memᴰ·of-map part l m in
+    let (j, h, g) = place-of 0 u in
+    let (a, b) = w 0 (omega arith) in
+    let (c, k) = w (suc j) (omega arith) in
+    let v : q ≡ p = sym (names .forth q (rw g at c) (rw g at k)) ∙ ap number e ∙ names .forth p a b in
+    d .0 (subst (λ (x : ℕ). List·Memᴰ x l) v u)),
+    named-once l (λ j h. w (suc j) (omega arith)) (d .1),
+  )
+
+  each-part : (l : List ℕ) → Order P l → (p : Part) → List·Memᴰ p (map part l)
+  each-part l o p =
+      subst (λ (x : Part). List·Memᴰ x (map part l)) (names .back p)
+      (mem-map part (number p) (member-mem (number p) l (o .every (number p) (least p) (most p))))
+
+  pub joint-new : Joint (X .n) (X .qs) (tableIn X) P entriesAt
+  joint-new =
+      record {
+        cover = λ l o. rw (flat-all l) (entries-cover X (map part l) (each-part l o));
+        apart = λ l o. rw (flat-all l) (all-apart X (map part l) (named-once l (o .within) (o .once)));
+      }

@@ -1,0 +1,3 @@
+pub mod Joint
+pub mod Done
+pub mod Joined
