@@ -340,13 +340,15 @@ module _ (P : ℕ) (J : Task (Fin P)) (fit : Fit J) (reads : Fin P → List ℕ 
       let e : startAfter x ms ≡ enterMarks x0 (J .top - 0) = start-after x ms (co .long) (idle .header) (idle .stage) yes
       ∙ ap (enterMarks x0) lv in
       let keep = enter-keeps P J fit reads p l0 x0 busy0 co0 (reads p ms) marked (λ i. false) hits (λ c. false) no-flags 0 (omega arith) 0 here
-      (omega arith) (starting (parts P) J p (reads p ms)) first-red (λ i h. sums i h) refl (λ q j. busy0 .ends q j (ap overb here)) spent (fits .sent) in
-      (yes, subst (Standing P J p (atStart (parts P) (Q P J reads p) p ms)) (sym e)
-      (enter-marks P J fit reads p l0 x0 busy0 co0 (reads p ms) marked (λ i. false) hits (λ c. false) no-flags 0 (omega arith) 0 here
-      (omega arith) (starting (parts P) J p (reads p ms)) first-red (λ i h. sums i h) refl (λ q j. busy0 .ends q j (ap overb here)) spent (fits .sent)
-      z (record { size = refl; else = λ i a b c. refl }) (keep ROUND (λ e. absurd (omega (arith, e))) (omega arith) ∙ busy0 .round)
-      (keep STAGE (λ e. absurd (omega (arith, e))) (omega arith) ∙ stage-is)
-      (keep RESULT (λ e. absurd (omega (arith, e))) (omega arith) ∙ below RESULT (omega arith) (omega arith) ∙ no-round .1)))
+      (omega arith) (starting (parts P) J p (reads p ms)) first-red (λ i h. sums i h) refl (λ q j. busy0 .ends q j (ap overb here)) spent (fits .sent) in (
+        yes,
+        subst (Standing P J p (atStart (parts P) (Q P J reads p) p ms)) (sym e)
+            (enter-marks P J fit reads p l0 x0 busy0 co0 (reads p ms) marked (λ i. false) hits (λ c. false) no-flags 0 (omega arith) 0 here
+            (omega arith) (starting (parts P) J p (reads p ms)) first-red (λ i h. sums i h) refl (λ q j. busy0 .ends q j (ap overb here)) spent (fits .sent)
+            z (record { size = refl; else = λ i a b c. refl }) (keep ROUND (λ e. absurd (omega (arith, e))) (omega arith) ∙ busy0 .round)
+            (keep STAGE (λ e. absurd (omega (arith, e))) (omega arith) ∙ stage-is)
+            (keep RESULT (λ e. absurd (omega (arith, e))) (omega arith) ∙ below RESULT (omega arith) (omega arith) ∙ no-round .1)),
+      )
     where
       spent : field x0 WRITTEN + field x0 (FIRST-CELL + suc (J .top - 0)) + field x0 (FIRST-SLOT + suc (J .top - 0))
           ≤ field x0 CELLS + field x0 (FIRST-SLOT + suc (J .top)) + (0 + 0)

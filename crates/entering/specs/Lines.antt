@@ -198,12 +198,12 @@ module _ (P : ℕ) (J : Task (Fin P)) (p : Fin P) (x : List ℕ) (co : Columns P
             ap₂ eqb (co .owner c held) (co .part) ∙ part-same P (J .owner c) p e in
             none (rw o (and-none (eqb (field x (FAMILY + c)) (field x PART))))
             (λ q.
-              elim (parts P .same? p q) [
-                | yes i ↦ rw (is-same (parts P) p q i)
-                | no i ↦
-                    let z : isPart (parts P) (J .owner c) q ≡ false = is-not (parts P) (J .owner c) q (λ j. i (sym e ∙ j)) in
-                    rw z (ap (λ (b : Bool). other q && b) (and-none (isPart (parts P) (J .family c) p)) ∙ and-none (other q))
-              ])
+            elim (parts P .same? p q) [
+              | yes i ↦ rw (is-same (parts P) p q i)
+              | no i ↦
+                  let z : isPart (parts P) (J .owner c) q ≡ false = is-not (parts P) (J .owner c) q (λ j. i (sym e ∙ j)) in
+                  rw z (ap (λ (b : Bool). other q && b) (and-none (isPart (parts P) (J .family c) p)) ∙ and-none (other q))
+            ])
         go (no n) (yes f) =
             let held : HoldsCell P J p c = (k, m, rw (is-not (parts P) (J .owner c) p n, is-same (parts P) (J .family c) p f) tt) in
             let o : eqb (field x (OWNER + c)) (field x PART) ≡ false =
@@ -216,10 +216,10 @@ module _ (P : ℕ) (J : Task (Fin P)) (p : Fin P) (x : List ℕ) (co : Columns P
             le-leb (field x (OWNER + c)) 16 (omega (arith, co .owner c held, co .parts-few)) in
             ghost (rw (o, g, h1, h2)) (omega (arith, co .owner c held)) held
             (λ q.
-              elim (parts P .same? p q) [
-                | yes i ↦ rw (is-same (parts P) p q i) (sym (is-not (parts P) (J .owner c) q (λ j. n (j ∙ sym i))))
-                | no i ↦ rw (is-not (parts P) p q i, is-same (parts P) (J .family c) p f)
-              ])
+            elim (parts P .same? p q) [
+              | yes i ↦ rw (is-same (parts P) p q i) (sym (is-not (parts P) (J .owner c) q (λ j. n (j ∙ sym i))))
+              | no i ↦ rw (is-not (parts P) p q i, is-same (parts P) (J .family c) p f)
+            ])
         go (no n) (no f) =
             let mn : mine (parts P) J p c ≡ false = rw (is-not (parts P) (J .owner c) p n, is-not (parts P) (J .family c) p f) in
             let g : eqb (field x (FAMILY + c)) (field x PART) ≡ false =

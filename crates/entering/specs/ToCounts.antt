@@ -240,8 +240,11 @@ module _ (P : ℕ) (J : Task (Fin P)) {In : Type 0} (reads : Fin P → In → �
             ∙ ap (λ (f : Phase). orderOf (parts P) J (ups P) f p s) (sym next))
             (head-running x z (st .busy .header)
             (λ j b c. z-is j (λ e. absurd (omega (arith, e))) (λ e. absurd (omega (arith, e))) (omega arith))
-            (omega (arith, z-is ENTRIES (λ e. absurd (omega (arith, e))) (λ e. absurd (omega (arith, e))) (omega arith),
-            header-is x (rw (st .busy .header) tt) .entries-most)) stage-is
+            (omega (
+              arith,
+              z-is ENTRIES (λ e. absurd (omega (arith, e))) (λ e. absurd (omega (arith, e))) (omega arith),
+              header-is x (rw (st .busy .header) tt) .entries-most,
+            )) stage-is
             (omega (arith, round-is, levels-same, co .levels, even))
             (z-is RESULT (λ e. absurd (omega (arith, e))) (λ e. absurd (omega (arith, e))) (omega arith)
             ∙ no-result x (st .busy .header) running rounds-few)) round-is (λ o. stage-is)

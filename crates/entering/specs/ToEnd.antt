@@ -310,8 +310,11 @@ module _ (P : ℕ) (J : Task (Fin P)) {In : Type 0} (reads : Fin P → In → �
       subst (λ (w : List ℕ). Standing P J p (following (parts P) (Q P J reads p) p l) (set w ROUND (field x ROUND + 1))) (sym e) (record {
         busy = turn P J reads p (co .parts-few) l x u x1 x1 z [] work (wrote-none P (co .parts-few) J p x1) reset (suc (l .round)) s lines
             (head-done x z (u .header) z-low
-            (omega (arith, reset .else ENTRIES (λ e. absurd (omega (arith, e))) (λ e. absurd (omega (arith, e))) (λ e. absurd (omega (arith, e))),
-            ends .few)) stage-is (omega (arith, round-is, z-low LEVELS (omega arith) (omega arith), co .levels, last))
+            (omega (
+              arith,
+              reset .else ENTRIES (λ e. absurd (omega (arith, e))) (λ e. absurd (omega (arith, e))) (λ e. absurd (omega (arith, e))),
+              ends .few,
+            )) stage-is (omega (arith, round-is, z-low LEVELS (omega arith) (omega arith), co .levels, last))
             (subst (λ (n : ℕ). (eqb n 0 || (eqb n 8 || eqb n 9)) ≡ true) (sym (result-is ∙ number-is)) (result-kind (s .total) (s .high))))
             round-is (λ o. not-both (overb (phase (J .top) (suc (l .round)))) (ap overb next) o) (λ o. stage-is)
             (λ q j o. not-both (overb (phase (J .top) (suc (l .round)))) (ap overb next) o)

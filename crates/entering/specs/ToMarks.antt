@@ -52,7 +52,7 @@ module _ (P : ℕ) (J : Task (Fin P)) (fit : Fit J) {In : Type 0} (reads : Fin P
       (sum-is : (i : ℕ) → HoldsSlot P J p i → field x (SUM + i) ≡ s .sum i) (given-is : s .given ≡ g)
       (ends : (q : Fin P) → isPart (parts P) q p ≡ false → field x (80 + q .0) ≡ r)
       (spent : field x WRITTEN + field x (FIRST-CELL + suc k) + field x (FIRST-SLOT + suc k)
-          ≤ field x CELLS + field x (FIRST-SLOT + suc (J .top)) + (j + j))
+      ≤ field x CELLS + field x (FIRST-SLOT + suc (J .top)) + (j + j))
       (sent : (q : Fin P) → entering P J reads p r s l .sent q < 65536) where
     abbrev x1 : List ℕ
     x1 = decidedAt x k

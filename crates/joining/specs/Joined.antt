@@ -1,17 +1,18 @@
 -- Done stores of all parts, in any order, merge to the table that their masters are of.
 --   Joining ..      what is lent: the stores of the parts 1 to P, each once, done with the same result and of the same split, with the
 --                   masters of the table ss among their entries
--- Laws: joined-merges, joined-table and joined: THE THEOREM, that merging is accepted and leaves the table.
+-- Laws: laid-at (stores laid one behind the other), joined-merges, joined-table and joined: THE THEOREM, that merging is accepted and
+-- leaves the table.
 use mathlib.Core.Path.{_≡_, refl, sym, _∙_, ap, ap₂}
 use mathlib.Core.Logic.{⊎-elim}
 use mathlib.Core.Bool.{Bool, true, false}
-use mathlib.Core.List.{List, [], _∷_, _++_, map, flatMap, flatten}
+use mathlib.Core.List.{List, [], _∷_, _++_, map, flatMap, flatten, append-assoc}
 use Prim.Native.Nat.{ℕ, zero, suc, _+_, _*_, _≤_, _<_}
 use native.Mathlib.Nat.{add-zero}
 use native.Mathlib.Omega.{arith}
 use lib.Dec.{T, eqb, eqb→eq}
-use lib.ListN.{length, getD, take, drop, length-map}
-use lib.Seq.{ext-getD}
+use lib.ListN.{length, getD, take, drop, length-map, List·getD-append}
+use lib.Seq.{ext-getD, getD-append-add}
 use borrow.Author.Tests.{eq-eqb}
 use Rattle.base.specs.Bools.{is-true, or-either}
 use Rattle.base.specs.Every.{getD-map, any-at, all-each}
@@ -28,7 +29,8 @@ use Rattle.store.specs.Fields.{field, full, PART, PARTS, CORNERS, COARSE, RESUL
 use Rattle.store.specs.Header.{headerb}
 use Rattle.store.specs.Headed.{Header, header-is}
 use Rattle.held.specs.Held.{heldIn}
-use Rattle.merge.specs.Merge.{storeIn, storesIn, alikeb, everyb, ownsb, cornersIn, mergeCells, mergeEntries, mergeTable, mergeAnswer, mergedOf}
+use Rattle.merge.specs.Merge.{storeIn, storesIn, alikeb, everyb, ownsb, cornersIn, mergeCells, mergeEntries, mergeTable}
+use Rattle.merge.specs.Merge.{mergeAnswer, mergedOf}
 use Rattle.merge.specs.declared.Merged.the-variants as answer
 use Rattle.merge.specs.Merges.{Merges, merges-accepted}
 use Rattle.merge.specs.Steps.{storesBy}
@@ -64,6 +66,21 @@ flat-same b es [] k f = refl
 flat-same b es (p ∷ l) k f =
     ap₂ _++_ (ap (λ (j : ℕ). heldIn (storeIn b j)) (sym (add-zero k)) ∙ f 0 (omega arith))
     (flat-same b es l (suc k) (λ j h. let z : suc k + j ≡ k + suc j = omega arith in rw z (f (suc j) (omega arith))))
+
+-- stores laid one behind the other
+pub laid-at : (X : ℕ → List ℕ) (l : List ℕ) (rest : List ℕ) → ((j : ℕ) → j < length l → length (X (getD l j 0)) ≡ full)
+    → (j k : ℕ) → j < length l → k < full → getD (flatMap X l ++ rest) (full * j + k) 0 ≡ field (X (getD l j 0)) k
+unfolding flatMap
+laid-at X [] rest w j k h g = absurd (omega arith)
+laid-at X (p ∷ l) rest w zero k h g =
+    let z : full * 0 + k ≡ k = omega arith in
+    rw z (ap (λ (m : List ℕ). getD m k 0) (append-assoc (X p) (flatMap X l) rest)
+    ∙ List·getD-append (X p) (flatMap X l ++ rest) 0 k (omega (arith, w 0 (omega arith))))
+laid-at X (p ∷ l) rest w (suc j) k h g =
+    let z : full * suc j + k ≡ length (X p) + (full * j + k) = omega (arith, w 0 (omega arith)) in
+    rw z (ap (λ (m : List ℕ). getD m (length (X p) + (full * j + k)) 0) (append-assoc (X p) (flatMap X l) rest)
+    ∙ getD-append-add (X p) (flatMap X l ++ rest) (full * j + k) 0
+    ∙ laid-at X l rest (λ i m. w (suc i) (omega arith)) j k (omega arith) g)
 
 module _ (b : List ℕ) (P n result : ℕ) (qs : List (List ℕ)) (ss : List ℕ) (es : ℕ → List Entry) (X : ℕ → List ℕ) (l : List ℕ) where
   pub record Joining : Type 0 where

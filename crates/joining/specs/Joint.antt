@@ -77,12 +77,12 @@ module _ {Part : Type 0} {F : Finite Part} (X : Settled F) (P : ℕ) (part : ℕ
   named-once [] w d = tt
   named-once (p ∷ l) w d = (
     (λ m.
-    let (q, u, e) = Memᴰ·of-map part l m in
-    let (j, h, g) = place-of 0 u in
-    let (a, b) = w 0 (omega arith) in
-    let (c, k) = w (suc j) (omega arith) in
-    let v : q ≡ p = sym (names .forth q (rw g at c) (rw g at k)) ∙ ap number e ∙ names .forth p a b in
-    d .0 (subst (λ (x : ℕ). List·Memᴰ x l) v u)),
+        let (q, u, e) = Memᴰ·of-map part l m in
+        let (j, h, g) = place-of 0 u in
+        let (a, b) = w 0 (omega arith) in
+        let (c, k) = w (suc j) (omega arith) in
+        let v : q ≡ p = sym (names .forth q (rw g at c) (rw g at k)) ∙ ap number e ∙ names .forth p a b in
+        d .0 (subst (λ (x : ℕ). List·Memᴰ x l) v u)),
     named-once l (λ j h. w (suc j) (omega arith)) (d .1),
   )
 
