@@ -1,8 +1,8 @@
 -- The entries of all parts, by part, in whatever order of the parts.
 --   Order P l          l has the parts 1 to P, each once
 --   Joint n qs ss P f  the parts' entries f have the masters of the table ss, each once, and no others, in whatever order
--- Laws: joint-merged and joint-complete (what merging makes of them), joint-old (the entries of a split table), joint-new (the entries of
--- the parts after the rounds).
+-- Laws: joint-merged and joint-complete (what merging makes of them), joint-old (the entries of a split table), joint-new and joint-rounds (the
+-- entries of the parts after the rounds).
 use mathlib.Core.Path.{_≡_, refl, sym, _∙_, ap, subst}
 use mathlib.Core.Logic.{⊎-elim}
 use mathlib.Core.List.{List, [], _∷_, _++_, map, flatMap, flatten, List·Memᴰ, List·Memᴰ·head, List·Memᴰ·tail, Memᴰ·of-map}
@@ -13,7 +13,7 @@ use lib.ListN.{length, getD}
 use Rattle.base.specs.Lists.{memberb}
 use Rattle.mesh.specs.Table.{soundb}
 use Rattle.soundness.specs.Sound.{Sound}
-use Rattle.exchange.specs.Finite.{Finite}
+use Rattle.exchange.specs.Finite.{Finite, parts}
 use Rattle.rounds.specs.Tests.{Member, member-cases}
 use Rattle.parts.specs.Owners.{ownersb}
 use Rattle.parts.specs.Held.{Entry, entriesOf}
@@ -25,6 +25,7 @@ use Rattle.merging.specs.Merge.{Covers, merged-table}
 use Rattle.merging.specs.Complete.{masterPaths, complete-is}
 use Rattle.merging.specs.Covered.{covered, split-apart}
 use Rattle.merging.specs.All.{entriesAll, entries-cover, all-apart}
+use Rattle.merging.specs.Run.{nthPart, numberOf, named}
 
 pub record Order (P : ℕ) (l : List ℕ) : Type 0 where
   pub count : length l ≡ P
@@ -97,3 +98,8 @@ module _ {Part : Type 0} {F : Finite Part} (X : Settled F) (P : ℕ) (part : ℕ
         cover = λ l o. rw (flat-all l) (entries-cover X (map part l) (each-part l o));
         apart = λ l o. rw (flat-all l) (all-apart X (map part l) (named-once l (o .within) (o .once)));
       }
+
+-- with the parts numbered as the rounds have them
+pub joint-rounds : (Q : ℕ) (X : Settled (parts (suc Q)))
+    → Joint (X .n) (X .qs) (tableIn X) (suc Q) (λ p. entriesIn X (nthPart Q p))
+joint-rounds Q X = joint-new X (suc Q) (nthPart Q) numberOf (named Q) (λ p. omega arith) (λ p. omega (arith, p .1))
