@@ -1,6 +1,6 @@
 -- The start of a part.
--- Laws: marked-else, marked-at (what setting the marks changes), start-fine (which starts are accepted), begins (where an accepted start
--- leads).
+-- Laws: marked-else, marked-at (what setting the marks changes), start-fine (which starts are accepted), begins and begins-stay (where an accepted
+-- start leads).
 use mathlib.Core.Path.{_≡_, refl, sym, _∙_, ap, ap₂, subst}
 use mathlib.Core.Logic.{_⊎_, inl, inr, _≢_}
 use mathlib.Core.Bool.{Bool, true, false, _&&_, _||_, not}
@@ -37,11 +37,11 @@ use Rattle.entering.specs.Fits.{Fits}
 use Rattle.entering.specs.Within.{member-low, slot-low}
 use Rattle.entering.specs.Bits.{bit-none}
 use Rattle.entering.specs.Lines.{part-same}
-use Rattle.entering.specs.Entered.{Stay, columns-stay, told-none, added-none}
+use Rattle.entering.specs.Entered.{Stay, stay-on, columns-stay, told-none, added-none}
 use Rattle.entering.specs.Standing.{Standing, Idle}
 use Rattle.entering.specs.Turn.{Reset, Q}
 use Rattle.entering.specs.Steps.{head-running}
-use Rattle.entering.specs.ToMarks.{enter-marks, enter-keeps}
+use Rattle.entering.specs.ToMarks.{enter-marks, enter-stay, enter-keeps}
 
 -- one mark
 set-else : (x ms : List ℕ) (c j i : ℕ) → i ≢ MARK + c → field (markSet x ms c j) i ≡ field x i
@@ -331,27 +331,57 @@ module _ (P : ℕ) (J : Task (Fin P)) (fit : Fit J) (reads : Fin P → List ℕ 
       let z : J .top ≡ J .top - 0 = omega arith in
       ap (λ (k : ℕ). decides (parts P) J p k c && rule J (λ i. false) (reads p ms) c) z
 
-  pub begins : (startAnswer x ms ≡ Accepted) × Standing P J p (atStart (parts P) (Q P J reads p) p ms) (startAfter x ms)
-  unfolding startedStore starting overb one-if endedb
-  begins =
-      let yes = start-yes x ms (co .long) (idle .header) (idle .stage) due in
+  yes : startAnswer x ms ≡ Accepted
+  yes = start-yes x ms (co .long) (idle .header) (idle .stage) due
+
+  abbrev z : List ℕ
+  z = enterMarks x0 (J .top - 0)
+
+  after-is : startAfter x ms ≡ z
+  unfolding startedStore
+  after-is =
       let lv : field x LEVELS - 1 ≡ J .top - 0 = omega (arith, co .levels) in
-      let z = enterMarks x0 (J .top - 0) in
-      let e : startAfter x ms ≡ enterMarks x0 (J .top - 0) = start-after x ms (co .long) (idle .header) (idle .stage) yes
-      ∙ ap (enterMarks x0) lv in
-      let keep = enter-keeps P J fit reads p l0 x0 busy0 co0 (reads p ms) marked (λ i. false) hits (λ c. false) no-flags 0 (omega arith) 0 here
-      (omega arith) (starting (parts P) J p (reads p ms)) first-red (λ i h. sums i h) refl (λ q j. busy0 .ends q j (ap overb here)) spent (fits .sent) in (
-        yes,
-        subst (Standing P J p (atStart (parts P) (Q P J reads p) p ms)) (sym e)
-            (enter-marks P J fit reads p l0 x0 busy0 co0 (reads p ms) marked (λ i. false) hits (λ c. false) no-flags 0 (omega arith) 0 here
-            (omega arith) (starting (parts P) J p (reads p ms)) first-red (λ i h. sums i h) refl (λ q j. busy0 .ends q j (ap overb here)) spent (fits .sent)
-            z (record { size = refl; else = λ i a b c. refl }) (keep ROUND (λ e. absurd (omega (arith, e))) (omega arith) ∙ busy0 .round)
-            (keep STAGE (λ e. absurd (omega (arith, e))) (omega arith) ∙ stage-is)
-            (keep RESULT (λ e. absurd (omega (arith, e))) (omega arith) ∙ below RESULT (omega arith) (omega arith) ∙ no-round .1)),
-      )
-    where
-      spent : field x0 WRITTEN + field x0 (FIRST-CELL + suc (J .top - 0)) + field x0 (FIRST-SLOT + suc (J .top - 0))
-          ≤ field x0 CELLS + field x0 (FIRST-SLOT + suc (J .top)) + (0 + 0)
-      spent =
-          let z : suc (J .top - 0) ≡ suc (J .top) = omega arith in
-          rw z (omega (arith, below WRITTEN (omega arith) (omega arith), idle .written, co0 .last-cell))
+      start-after x ms (co .long) (idle .header) (idle .stage) yes ∙ ap (enterMarks x0) lv
+
+  spent : field x0 WRITTEN + field x0 (FIRST-CELL + suc (J .top - 0)) + field x0 (FIRST-SLOT + suc (J .top - 0))
+      ≤ field x0 CELLS + field x0 (FIRST-SLOT + suc (J .top)) + (0 + 0)
+  spent =
+      let z : suc (J .top - 0) ≡ suc (J .top) = omega arith in
+      rw z (omega (arith, below WRITTEN (omega arith) (omega arith), idle .written, co0 .last-cell))
+
+  live : overb (phase (J .top) 0) ≡ false
+  unfolding overb
+  live = ap overb here
+
+  no-ends : (q : Fin P) → isPart (parts P) q p ≡ false → field x0 (80 + q .0) ≡ 0
+  unfolding one-if endedb
+  no-ends q j = busy0 .ends q j live
+
+  keep : (i : ℕ) → i ≢ 14 → i < RED → field z i ≡ field x0 i
+  unfolding starting
+  keep = enter-keeps P J fit reads p l0 x0 busy0 co0 (reads p ms) marked (λ i. false) hits (λ c. false) no-flags 0 (omega arith) 0 here
+      (omega arith) (starting (parts P) J p (reads p ms)) first-red (λ i h. sums i h) refl no-ends spent (fits .sent)
+
+  round-is : field z ROUND ≡ 0
+  round-is = keep ROUND (λ e. absurd (omega (arith, e))) (omega arith) ∙ busy0 .round
+
+  stage-now : field z STAGE ≡ 1
+  stage-now = keep STAGE (λ e. absurd (omega (arith, e))) (omega arith) ∙ stage-is
+
+  result-is : field z RESULT ≡ 0
+  result-is = keep RESULT (λ e. absurd (omega (arith, e))) (omega arith) ∙ below RESULT (omega arith) (omega arith) ∙ no-round .1
+
+  pub begins-stay : Stay x (startAfter x ms)
+  unfolding starting
+  begins-stay =
+      subst (Stay x) (sym after-is) (stay-on x x0 z stay
+      (enter-stay P J fit reads p l0 x0 busy0 co0 (reads p ms) marked (λ i. false) hits (λ c. false) no-flags 0 (omega arith) 0 here
+      (omega arith) (starting (parts P) J p (reads p ms)) first-red (λ i h. sums i h) refl no-ends spent (fits .sent)
+      z (record { size = refl; else = λ i a b c. refl }) round-is stage-now result-is))
+
+  pub begins : (startAnswer x ms ≡ Accepted) × Standing P J p (atStart (parts P) (Q P J reads p) p ms) (startAfter x ms)
+  unfolding starting
+  begins = (yes, subst (Standing P J p (atStart (parts P) (Q P J reads p) p ms)) (sym after-is)
+      (enter-marks P J fit reads p l0 x0 busy0 co0 (reads p ms) marked (λ i. false) hits (λ c. false) no-flags 0 (omega arith) 0 here
+      (omega arith) (starting (parts P) J p (reads p ms)) first-red (λ i h. sums i h) refl no-ends spent (fits .sent)
+      z (record { size = refl; else = λ i a b c. refl }) round-is stage-now result-is))

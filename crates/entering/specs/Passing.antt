@@ -1,5 +1,6 @@
 -- Fetching and handing over on a store that stands at a place.
--- Laws: fetch-keeps (what a fetch leaves), fetched (where a fetch leads), handed (where a message that is taken leads).
+-- Laws: fetch-keeps (what a fetch leaves), fetched and fetch-stay (where a fetch leads), handed and
+-- hand-stay (where a message that is taken leads).
 use mathlib.Core.Path.{_≡_, refl, sym, _∙_, ap, ap₂, subst}
 use mathlib.Core.Logic.{_⊎_, inl, inr, _≢_}
 use mathlib.Core.Bool.{Bool, true, false, _&&_}
@@ -113,7 +114,7 @@ module _ (P : ℕ) (J : Task (Fin P)) (p : Fin P) (l : L P J) (x : List ℕ) (st
     fetch-mid : (i : ℕ) → 14 ≤ i → (i < 96) ⊎ (112 ≤ i) → field y i ≡ field x i
     fetch-mid i h = keeps i (λ z. absurd (omega (arith, z))) (λ z. absurd (omega (arith, z)))
 
-    fetch-stay : Stay x y
+    pub fetch-stay : Stay x y
     fetch-stay = record { size = fetch-size x out; else = λ i h. go i h }
       where
         go : (i : ℕ) → ((1 ≤ i) × (i < 7)) ⊎ (((16 ≤ i) × (i < 40)) ⊎ (((112 ≤ i) × (i < 41072)) ⊎ ((49264 ≤ i) × (i < 99440))))
@@ -156,7 +157,7 @@ module _ (P : ℕ) (J : Task (Fin P)) (p : Fin P) (l : L P J) (x : List ℕ) (st
         → field z i ≡ field x i
     hand-keeps = hand-else P J p l x (st .busy) q b (fits .good) w
 
-    hand-stay : Stay x z
+    pub hand-stay : Stay x z
     hand-stay = record { size = hand-length P J p l x (st .busy) q b (fits .good) w; else = λ i h. go i h }
       where
         go : (i : ℕ) → ((1 ≤ i) × (i < 7)) ⊎ (((16 ≤ i) × (i < 40)) ⊎ (((112 ≤ i) × (i < 41072)) ⊎ ((49264 ≤ i) × (i < 99440))))

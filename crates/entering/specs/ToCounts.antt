@@ -1,5 +1,5 @@
 -- Entering a round of counts.
--- Law: to-counts.
+-- Laws: to-counts, counts-stay.
 use mathlib.Core.Path.{_≡_, refl, sym, _∙_, ap, ap₂, subst}
 use mathlib.Core.Logic.{_⊎_, inl, inr, _≢_}
 use mathlib.Core.Bool.{Bool, true, false}
@@ -228,11 +228,24 @@ module _ (P : ℕ) (J : Task (Fin P)) {In : Type 0} (reads : Fin P → In → �
         z-is CELLS (λ e. absurd (omega (arith, e))) (λ e. absurd (omega (arith, e))) (omega arith),
       )
 
+  z-stay : Stay x z
+  z-stay = record {
+    size = set-reset y (field x ROUND + 1) .size ∙ wrote .same .size ∙ work .size;
+    else = λ j h. let (a, b, c) = static-low j h in z-is j b c a;
+  }
+
+  entered-is : entered x ≡ y
+  unfolding enterCounts
+  entered-is = even-round x (J .top) i (co .levels) low (st .busy .round ∙ even)
+
+  pub counts-stay : Stay x (turned x)
+  unfolding turned
+  counts-stay = subst (λ (w : List ℕ). Stay x (set w ROUND (field x ROUND + 1))) (sym entered-is) z-stay
+
   pub to-counts : Standing P J p (following (parts P) (Q P J reads p) p l) (turned x)
   unfolding turned enterCounts sizedb overb Spent Holding marksb countsb
   to-counts =
-      let e : entered x ≡ y = even-round x (J .top) i (co .levels) low (st .busy .round ∙ even) in
-      subst (λ (w : List ℕ). Standing P J p (following (parts P) (Q P J reads p) p l) (set w ROUND (field x ROUND + 1))) (sym e) (record {
+      subst (λ (w : List ℕ). Standing P J p (following (parts P) (Q P J reads p) p l) (set w ROUND (field x ROUND + 1))) (sym entered-is) (record {
         busy = turn P J reads p (co1 .parts-few) l x (st .busy) x1 y z
             (map (countLine P J p x1 co1 (s .own) k (fits .count) own-sums) (range a n) ++ (endLine P J p x1 co1 ∷ [])) work wrote
             (set-reset y (field x ROUND + 1)) (suc (l .round)) s
@@ -255,10 +268,7 @@ module _ (P : ℕ) (J : Task (Fin P)) {In : Type 0} (reads : Fin P → In → �
             (λ j h. z-else (SUM + j) (λ e. absurd (omega (arith, e))) ∙ y-else (SUM + j) (λ e. absurd (omega (arith, e)))
             (omega (arith, slot-low P J p x co j h)) ∙ sums j h)
             (λ o. not-both (sizedb (phase (J .top) (suc (l .round)))) o (ap sizedb next)) (fits .sent);
-        columns = columns-stay P J p x z (record {
-          size = set-reset y (field x ROUND + 1) .size ∙ wrote .same .size ∙ work .size;
-          else = λ j h. let (a, b, c) = static-low j h in z-is j b c a;
-        }) co;
+        columns = columns-stay P J p x z z-stay co;
         marked = λ c h o.
             z-is (MARK + c) (λ e. absurd (omega (arith, e))) (λ e. absurd (omega (arith, e))) (omega (arith, cell-low P J p x co c h))
             ∙ st .marked c h o ∙ ap (λ (f : ℕ → ℕ). f c) (sym given-is);

@@ -1,5 +1,5 @@
 -- The end of a part: from the totals of all parts comes the result, and beside 8 or 9 the old masters and ghosts.
--- Law: to-end.
+-- Laws: to-end, end-stay.
 use mathlib.Core.Path.{_≡_, refl, sym, _∙_, ap, ap₂, subst}
 use mathlib.Core.Logic.{_⊎_, inl, inr, _≢_}
 use mathlib.Core.Bool.{Bool, true, false, _&&_, _||_, or-false}
@@ -303,11 +303,18 @@ module _ (P : ℕ) (J : Task (Fin P)) {In : Type 0} (reads : Fin P → In → �
   unfolding ordersOf orderOf flatMap
   lines = ap (λ (f : Phase). orderOf (parts P) J (ups P) f p s) (sym next)
 
+  entered-is : entered x ≡ v2
+  unfolding finished
+  entered-is = last-round x (J .top) (co .levels) (u .round ∙ last)
+
+  pub end-stay : Stay x (turned x)
+  unfolding turned
+  end-stay = subst (λ (w : List ℕ). Stay x (set w ROUND (field x ROUND + 1))) (sym entered-is) z-stay
+
   pub to-end : Standing P J p (following (parts P) (Q P J reads p) p l) (turned x)
   unfolding turned finished sizedb overb Spent marksb countsb
   to-end =
-      let e : entered x ≡ v2 = last-round x (J .top) (co .levels) (u .round ∙ last) in
-      subst (λ (w : List ℕ). Standing P J p (following (parts P) (Q P J reads p) p l) (set w ROUND (field x ROUND + 1))) (sym e) (record {
+      subst (λ (w : List ℕ). Standing P J p (following (parts P) (Q P J reads p) p l) (set w ROUND (field x ROUND + 1))) (sym entered-is) (record {
         busy = turn P J reads p (co .parts-few) l x u x1 x1 z [] work (wrote-none P (co .parts-few) J p x1) reset (suc (l .round)) s lines
             (head-done x z (u .header) z-low
             (omega (

@@ -1,5 +1,5 @@
 -- Entering a round of marks: at the start, and after a round of counts.
--- Laws: enter-marks (of any store that stands at a place), to-marks (after a round of counts).
+-- Laws: enter-marks, enter-stay (of any store that stands at a place), to-marks, marks-stay (after a round of counts).
 use mathlib.Core.Path.{_≡_, refl, sym, _∙_, ap, ap₂, subst}
 use mathlib.Core.Logic.{_⊎_, inl, inr, _≢_}
 use mathlib.Core.Bool.{Bool, true, false, _&&_, _||_, not, or-false}
@@ -160,8 +160,8 @@ module _ (P : ℕ) (J : Task (Fin P)) (fit : Fit J) {In : Type 0} (reads : Fin P
       z-entries = z-is ENTRIES (λ e. absurd (omega (arith, e))) (λ e. absurd (omega (arith, e))) (λ e. absurd (omega (arith, e)))
           (λ e. absurd (omega (arith, e))) (inl (omega arith)) (omega arith)
 
-      z-stay : Stay x z
-      z-stay = record { size = reset-y .size ∙ wrote .same .size ∙ work .size; else = λ i e. go i e }
+      pub enter-stay : Stay x z
+      enter-stay = record { size = reset-y .size ∙ wrote .same .size ∙ work .size; else = λ i e. go i e }
         where
           go : (i : ℕ) → ((1 ≤ i) × (i < 7)) ⊎ (((16 ≤ i) × (i < 40)) ⊎ (((112 ≤ i) × (i < 41072)) ⊎ ((49264 ≤ i) × (i < 99440))))
               → field z i ≡ field x i
@@ -212,7 +212,7 @@ module _ (P : ℕ) (J : Task (Fin P)) (fit : Fit J) {In : Type 0} (reads : Fin P
             ∙ wrote .same .else (RED + c) (λ e. absurd (omega (arith, e))) (inl (omega (arith, cell-low P J p x co c e))) ∙ new-flags c e)
             (λ i e. z-far (SUM + i) (omega arith) (inr (omega arith)) (omega (arith, slot-low P J p x co i e)) ∙ sum-is i e)
             (λ o. not-both (sizedb (phase (J .top) r)) o small) sent;
-        columns = columns-stay P J p x z z-stay co;
+        columns = columns-stay P J p x z enter-stay co;
         marked = λ c e o.
             z-far (MARK + c) (omega arith) (inl (omega (arith, cell-low P J p x co c e))) (omega (arith, cell-low P J p x co c e))
             ∙ marked c e o ∙ ap (λ (f : ℕ → ℕ). f c) (sym given-is);
@@ -306,20 +306,41 @@ module _ (P : ℕ) (J : Task (Fin P)) (fit : Fit J) {In : Type 0} (reads : Fin P
       (omega arith) (suc (l .round)) next-phase (omega (arith, odd)) after after-red (λ v h. st .busy .sum v h ∙ sym (after-sum v)) after-given
       (λ q j. ends-known P J p l x (st .busy) live-now whole q j) spent-is (fits .sent)
 
+  abbrev z' : List ℕ
+  z' = set (enterMarks x k') ROUND (field x ROUND + 1)
+
+  entered-is' : entered x ≡ enterMarks x k'
+  entered-is' = odd-round x (J .top) i (st .columns .levels) (omega arith) low (st .busy .round ∙ odd)
+
+  round-is : field z' ROUND ≡ suc (l .round)
+  round-is =
+      getD-set-same (enterMarks x k') ROUND (field x ROUND + 1) 0 (omega (arith, size-is, st .busy .long)) ∙ omega (arith, st .busy .round)
+
+  stage-is : field z' STAGE ≡ 1
+  stage-is =
+      getD-set-other (enterMarks x k') ROUND STAGE (field x ROUND + 1) 0 (λ e. absurd (omega (arith, e)))
+      ∙ keeps STAGE (λ e. absurd (omega (arith, e))) (omega arith) ∙ st .busy .running live-now
+
+  result-is : field z' RESULT ≡ 0
+  result-is =
+      getD-set-other (enterMarks x k') ROUND RESULT (field x ROUND + 1) 0 (λ e. absurd (omega (arith, e)))
+      ∙ keeps RESULT (λ e. absurd (omega (arith, e))) (omega arith)
+      ∙ no-result x (st .busy .header) (st .busy .running live-now) (omega (arith, st .busy .round, odd, st .columns .levels))
+
+  pub marks-stay : Stay x (turned x)
+  unfolding turned
+  marks-stay =
+      subst (λ (w : List ℕ). Stay x (set w ROUND (field x ROUND + 1))) (sym entered-is')
+      (enter-stay P J fit reads p l x (st .busy) (st .columns) (l .state .given) (st .marked) hit hits-are (l .state .red) old-flags (suc i)
+      (omega arith) (suc (l .round)) next-phase (omega (arith, odd)) after after-red (λ v h. st .busy .sum v h ∙ sym (after-sum v)) after-given
+      (λ q j. ends-known P J p l x (st .busy) live-now whole q j) spent-is (fits .sent) z'
+      (set-reset (enterMarks x k') (field x ROUND + 1)) round-is stage-is result-is)
+
   pub to-marks : Standing P J p (following (parts P) (Q P J reads p) p l) (turned x)
   unfolding turned
   to-marks =
-      let u = st .busy in
-      let e : entered x ≡ enterMarks x k' = odd-round x (J .top) i (st .columns .levels) (omega arith) low (st .busy .round ∙ odd) in
-      let r = field x ROUND + 1 in
-      let run : field x STAGE ≡ 1 = st .busy .running live-now in
-      subst (λ (w : List ℕ). Standing P J p (following (parts P) (Q P J reads p) p l) (set w ROUND (field x ROUND + 1))) (sym e)
-      (enter-marks P J fit reads p l x u (st .columns) (l .state .given) (st .marked) hit hits-are (l .state .red) old-flags (suc i)
-      (omega arith) (suc (l .round)) next-phase (omega (arith, odd)) after after-red (λ v h. u .sum v h ∙ sym (after-sum v)) after-given
-      (λ q j. ends-known P J p l x u live-now whole q j) spent-is (fits .sent) (set (enterMarks x k') ROUND r) (set-reset (enterMarks x k') r)
-      (getD-set-same (enterMarks x k') ROUND r 0 (omega (arith, size-is, u .long)) ∙ omega (arith, u .round))
-      (getD-set-other (enterMarks x k') ROUND STAGE r 0 (λ e. absurd (omega (arith, e)))
-      ∙ keeps STAGE (λ e. absurd (omega (arith, e))) (omega arith) ∙ run)
-      (getD-set-other (enterMarks x k') ROUND RESULT r 0 (λ e. absurd (omega (arith, e)))
-      ∙ keeps RESULT (λ e. absurd (omega (arith, e))) (omega arith)
-      ∙ no-result x (u .header) run (omega (arith, u .round, odd, st .columns .levels))))
+      subst (λ (w : List ℕ). Standing P J p (following (parts P) (Q P J reads p) p l) (set w ROUND (field x ROUND + 1))) (sym entered-is')
+      (enter-marks P J fit reads p l x (st .busy) (st .columns) (l .state .given) (st .marked) hit hits-are (l .state .red) old-flags (suc i)
+      (omega arith) (suc (l .round)) next-phase (omega (arith, odd)) after after-red (λ v h. st .busy .sum v h ∙ sym (after-sum v)) after-given
+      (λ q j. ends-known P J p l x (st .busy) live-now whole q j) spent-is (fits .sent) z'
+      (set-reset (enterMarks x k') (field x ROUND + 1)) round-is stage-is result-is)

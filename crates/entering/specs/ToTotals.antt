@@ -1,5 +1,5 @@
 -- Entering the round of totals: the masters and ghosts after the step are written, and the own totals told.
--- Law: to-totals.
+-- Laws: to-totals, totals-stay.
 use mathlib.Core.Path.{_≡_, refl, sym, _∙_, ap, ap₂, subst}
 use mathlib.Core.Logic.{_⊎_, inl, inr, _≢_}
 use mathlib.Core.Bool.{Bool, true, false, _&&_, _||_, not, or-false}
@@ -210,13 +210,20 @@ module _ (P : ℕ) (J : Task (Fin P)) (fit : Fit J) {In : Type 0} (reads : Fin P
   unfolding Holding
   holds = (s-high, λ h. held-z ∙ placed-held P J fit p x co s known (omega (arith, h, s-high)))
 
+  entered-is : entered x ≡ y
+  unfolding enterTotals
+  entered-is = last-counts x (J .top) (co .levels) (u .round ∙ odd)
+
+  pub totals-stay : Stay x (turned x)
+  unfolding turned
+  totals-stay = subst (λ (w : List ℕ). Stay x (set w ROUND (field x ROUND + 1))) (sym entered-is) z-stay
+
   pub to-totals : Standing P J p (following (parts P) (Q P J reads p) p l) (turned x)
   unfolding turned enterTotals sizedb overb Spent marksb countsb
   to-totals =
-      let e : entered x ≡ y = last-counts x (J .top) (co .levels) (u .round ∙ odd) in
       let low-round : field x ROUND ≤ 2 * field x LEVELS = omega (arith, u .round, odd, co .levels) in
       let t : s .total ≡ capped (s .total) = let h = fits .total next in omega arith in
-      subst (λ (w : List ℕ). Standing P J p (following (parts P) (Q P J reads p) p l) (set w ROUND (field x ROUND + 1))) (sym e) (record {
+      subst (λ (w : List ℕ). Standing P J p (following (parts P) (Q P J reads p) p l) (set w ROUND (field x ROUND + 1))) (sym entered-is) (record {
         busy = turn P J reads p (co1 .parts-few) l x u x1 y z (totalLine P J p x1 co1 (s .total) (s .high) ∷ endLine P J p x1 co1 ∷ []) work
             wrote (set-reset y (field x ROUND + 1)) (suc (l .round)) s
             (totals-order P J p x1 co1 s ∙ ap (λ (f : Phase). orderOf (parts P) J (ups P) f p s) (sym next))

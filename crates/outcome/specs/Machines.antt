@@ -44,13 +44,14 @@ use Rattle.partstep.specs.Step.{waitsFor, readyb, partAnswer, partAfter, turned
 use Rattle.entering.specs.Fits.{Fits}
 use Rattle.entering.specs.Standing.{Standing, Idle}
 use Rattle.entering.specs.Turn.{Q}
+use Rattle.entering.specs.Entered.{Stay, stay-on}
 use Rattle.entering.specs.Steps.{Wholes}
-use Rattle.entering.specs.Begins.{start-yes, start-fine, begins}
-use Rattle.entering.specs.ToCounts.{to-counts}
-use Rattle.entering.specs.ToMarks.{to-marks}
-use Rattle.entering.specs.ToTotals.{to-totals}
-use Rattle.entering.specs.ToEnd.{to-end}
-use Rattle.entering.specs.Passing.{fetched, handed}
+use Rattle.entering.specs.Begins.{start-yes, start-fine, begins, begins-stay}
+use Rattle.entering.specs.ToCounts.{to-counts, counts-stay}
+use Rattle.entering.specs.ToMarks.{to-marks, marks-stay}
+use Rattle.entering.specs.ToTotals.{to-totals, totals-stay}
+use Rattle.entering.specs.ToEnd.{to-end, end-stay}
+use Rattle.entering.specs.Passing.{fetched, fetch-stay, handed, hand-stay}
 use Rattle.outcome.specs.Program.{yields, gives, nine, act}
 
 -- an answer that is accepted, and one that is not
@@ -257,13 +258,25 @@ module _ (P : ℕ) (J : Task (Fin P)) (p : Fin P) (l : L P J) (x : List ℕ) (st
         go (in-totals e) = to-end P J reads p l x st e w fits
         go (in-over e) = absurd (omega (arith, e))
 
-    pub steps : (partAnswer x ≡ Accepted) × Standing P J p (following (parts P) (Q P J reads p) p l) (partAfter x)
+    pub turned-stay : Stay x (turned x)
+    turned-stay = go (turn-of (J .top) (l .round) (omega arith))
+      where
+        go : Turn (J .top) (l .round) → Stay x (turned x)
+        go (in-marks i a e) = counts-stay P J reads p l x st i a e w fits
+        go (in-counts i a e) = elim (decLt i (J .top)) [
+          | yes h ↦ marks-stay P J fit reads p l x st i h e w fits
+          | no h ↦ totals-stay P J fit reads p l x st (omega (arith, e)) w fits
+        ]
+        go (in-totals e) = end-stay P J reads p l x st e w fits
+        go (in-over e) = absurd (omega (arith, e))
+
+    pub steps : (partAnswer x ≡ Accepted) × Standing P J p (following (parts P) (Q P J reads p) p l) (partAfter x) × Stay x (partAfter x)
     unfolding partAfter turnedIn
     steps =
         let live = live-below low in
         let a = step-accepts x (u .long) (u .header) (u .running live) (ready live w) in
         let e : partAfter x ≡ turned x = ap (λ (b : Answer). turnedIn b x) a in
-        (a, subst (Standing P J p (following (parts P) (Q P J reads p) p l)) (sym e) turned-stands)
+        (a, subst (Standing P J p (following (parts P) (Q P J reads p) p l)) (sym e) turned-stands, subst (Stay x) (sym e) turned-stay)
 
 -- a fetched message has at most nine bytes
 body-short : (c v : ℕ) → length (bodyOf c v) ≤ 4
@@ -300,7 +313,9 @@ unfolding given
 given-short x = message-short (field x PART) (nextToGive x .bit + 1) (field x (GIVEN + nextToGive x .bit)) (codeAt x (nextToGive x .entry))
     (valueAt x (nextToGive x .entry))
 
+-- first are the stores of the split
 module _ (P : ℕ) (J : Task (Fin P)) (fit : Fit J) (reads : Fin P → List ℕ → ℕ → ℕ) (place : ℕ → ℕ) (takes : Fin P → List ℕ → Bool)
+    (first : Fin P → List ℕ)
     (read : (p : Fin P) (ms : List ℕ) (c : ℕ) → HoldsCell P J p c → J .owner c ≡ p → reads p ms c ≡ getD ms (place c) 0) where
   abbrev pub rounds : Protocol (Fin P) (List ℕ) Body (List ℕ) State
   rounds = protocol (parts P) J (grownOf (parts P) J) (ups P) (pack P J) reads
@@ -312,8 +327,8 @@ module _ (P : ℕ) (J : Task (Fin P)) (fit : Fit J) (reads : Fin P → List ℕ 
   abbrev pub machine : Machine (Fin P) (List ℕ) Body (List ℕ) State (List ℕ)
   machine = record {
     act = act;
-    Idle = λ p x. Idle P J p place (takes p) x;
-    Busy = λ p l x. Standing P J p l x;
+    Idle = λ p x. Idle P J p place (takes p) x × Stay (first p) x;
+    Busy = λ p l x. Standing P J p l x × Stay (first p) x;
     phase-of = λ p x. phaseOf x;
   }
 
@@ -321,7 +336,10 @@ module _ (P : ℕ) (J : Task (Fin P)) (fit : Fit J) (reads : Fin P → List ℕ 
   Fine p ms = takes p ms ≡ true
 
   -- a part that has not started
-  module _ (p : Fin P) (x : List ℕ) (i : Idle P J p place (takes p) x) where
+  module _ (p : Fin P) (x : List ℕ) (is : Idle P J p place (takes p) x × Stay (first p) x) where
+    abbrev i : Idle P J p place (takes p) x
+    i = is .0
+
     not-running : field x STAGE ≡ 1 → ⊥
     not-running z = omega (arith, z, i .stage)
 
@@ -340,11 +358,15 @@ module _ (P : ℕ) (J : Task (Fin P)) (fit : Fit J) (reads : Fin P → List ℕ 
     no-hand m = refused-none (handAnswer x m) (handAfter x m) (λ e. hand-started x m e (i .stage))
 
     idle-starts : (ms : List ℕ) → takes p ms ≡ true → Fits P J p (atStart (parts P) rounds p ms)
-        → Gives (parts P) rounds machine (Start ms) x (Standing P J p (atStart (parts P) rounds p ms)) []
+        → Gives (parts P) rounds machine (Start ms) x (λ y. Standing P J p (atStart (parts P) rounds p ms) y × Stay (first p) y) []
     unfolding act
     idle-starts ms e f =
         let (a, b) = begins P J fit reads p place (takes p) x i ms e (read p ms) f in
-        record { after = startAfter x ms; does = accepted-some (startAnswer x ms) (startAfter x ms) a; stands = b }
+        record {
+          after = startAfter x ms;
+          does = accepted-some (startAnswer x ms) (startAfter x ms) a;
+          stands = (b, stay-on (first p) x (startAfter x ms) (is .1) (begins-stay P J fit reads p place (takes p) x i ms e (read p ms) f));
+        }
 
     idle-takes : (ms : List ℕ) (y : List ℕ × List (List ℕ)) → act (Start ms) x ≡ some y → takes p ms ≡ true
     unfolding act
@@ -357,7 +379,10 @@ module _ (P : ℕ) (J : Task (Fin P)) (fit : Fit J) (reads : Fin P → List ℕ 
     idle-phase = rw (eq-eqb (field x STAGE) 0 (i .stage), phaseOf)
 
   -- a part that has
-  module _ (p : Fin P) (l : L P J) (x : List ℕ) (st : Standing P J p l x) where
+  module _ (p : Fin P) (l : L P J) (x : List ℕ) (sts : Standing P J p l x × Stay (first p) x) where
+    abbrev st : Standing P J p l x
+    st = sts .0
+
     busy-phase : phaseOf x ≡ suc (l .round)
     unfolding phaseOf
     busy-phase = rw (ne-eqb (field x STAGE) 0 (stage-some P J p l x st), phaseOf) (ap suc (st .busy .round))
@@ -376,11 +401,15 @@ module _ (P : ℕ) (J : Task (Fin P)) (fit : Fit J) (reads : Fin P → List ℕ 
 
     step-goes : Fits P J p (following (parts P) rounds p l) → l .round < rounds .rounds
         → ((q : Fin P) → wholeb (parts P) J (l .round) q p (l .got q) ≡ true)
-        → Gives (parts P) rounds machine Step x (Standing P J p (following (parts P) rounds p l)) []
+        → Gives (parts P) rounds machine Step x (λ y. Standing P J p (following (parts P) rounds p l) y × Stay (first p) y) []
     unfolding act
     step-goes f low w =
-        let (a, b) = steps P J p l x st fit reads low w f in
-        record { after = partAfter x; does = accepted-some (partAnswer x) (partAfter x) a; stands = b }
+        let (a, b, c) = steps P J p l x st fit reads low w f in
+        record {
+          after = partAfter x;
+          does = accepted-some (partAnswer x) (partAfter x) a;
+          stands = (b, stay-on (first p) x (partAfter x) (sts .1) c);
+        }
 
     fetch-empty : l .queue ≡ [] → act Fetch x ≡ none
     unfolding act gives
@@ -389,7 +418,7 @@ module _ (P : ℕ) (J : Task (Fin P)) (fit : Fit J) (reads : Fin P → List ℕ 
         ap (λ (r : Fetched). gives r (fetchBytes x nine) (fetchAfter x nine)) a
 
     fetch-first : (m : List ℕ) (w : List (List ℕ)) → l .queue ≡ m ∷ w
-        → Gives (parts P) rounds machine Fetch x (Standing P J p (withQueue l w)) (m ∷ [])
+        → Gives (parts P) rounds machine Fetch x (λ y. Standing P J p (withQueue l w) y × Stay (first p) y) (m ∷ [])
     unfolding act gives
     fetch-first m w e =
         let (a, b, c) = fetched P J p l x st nine (omega arith) m w e in
@@ -399,7 +428,7 @@ module _ (P : ℕ) (J : Task (Fin P)) (fit : Fit J) (reads : Fin P → List ℕ 
           after = fetchAfter x nine;
           does = ap (λ (r : Fetched). gives r (fetchBytes x nine) (fetchAfter x nine)) a
               ∙ ap (λ (v : List ℕ). some (fetchAfter x nine, v ∷ [])) (ap (take (length m)) b ∙ take-sets m nine short);
-          stands = c;
+          stands = (c, stay-on (first p) x (fetchAfter x nine) (sts .1) (fetch-stay P J p l x st nine (omega arith) m w e));
         }
 
     hand-was : (q p' : Fin P) (k : ℕ) (b : Body) (y : List ℕ × List (List ℕ)) → act (Hand (pack P J q p' k b)) x ≡ some y
@@ -409,12 +438,16 @@ module _ (P : ℕ) (J : Task (Fin P)) (fit : Fit J) (reads : Fin P → List ℕ 
         hand-is P J p l x (st .busy) q p' k b (some-accepted (handAnswer x (pack P J q p' k b)) (handAfter x (pack P J q p' k b)) y e)
 
     hand-goes : (q : Fin P) (b : Body) → Fits P J p (withBody (parts P) l q b) → wholeb (parts P) J (l .round) q p (l .got q) ≡ false
-        → Gives (parts P) rounds machine (Hand (pack P J q p (l .before q + length (l .got q)) b)) x (Standing P J p (withBody (parts P) l q b)) []
+        → Gives (parts P) rounds machine (Hand (pack P J q p (l .before q + length (l .got q)) b)) x (λ y. Standing P J p (withBody (parts P) l q b) y × Stay (first p) y) []
     unfolding act
     hand-goes q b f w =
         let (a, c) = handed P J p l x st q b f w in
         let m = pack P J q p (l .before q + length (l .got q)) b in
-        record { after = handAfter x m; does = accepted-some (handAnswer x m) (handAfter x m) a; stands = c }
+        record {
+          after = handAfter x m;
+          does = accepted-some (handAnswer x m) (handAfter x m) a;
+          stands = (c, stay-on (first p) x (handAfter x m) (sts .1) (hand-stay P J p l x st q b f w));
+        }
 
   -- THE LAWS of one part alone
   pub alone : Alone (parts P) rounds machine (Fits P J) Fine
