@@ -313,16 +313,16 @@ unfolding given
 given-short x = message-short (field x PART) (nextToGive x .bit + 1) (field x (GIVEN + nextToGive x .bit)) (codeAt x (nextToGive x .entry))
     (valueAt x (nextToGive x .entry))
 
+-- before the start 0, then one more than the round
+unfoldable pub phaseOf : List ℕ → ℕ
+phaseOf x = elim (eqb (field x STAGE) 0) [ true ↦ 0 | false ↦ suc (field x ROUND) ]
+
 -- first are the stores of the split
 module _ (P : ℕ) (J : Task (Fin P)) (fit : Fit J) (reads : Fin P → List ℕ → ℕ → ℕ) (place : ℕ → ℕ) (takes : Fin P → List ℕ → Bool)
     (first : Fin P → List ℕ)
     (read : (p : Fin P) (ms : List ℕ) (c : ℕ) → HoldsCell P J p c → J .owner c ≡ p → reads p ms c ≡ getD ms (place c) 0) where
   abbrev pub rounds : Protocol (Fin P) (List ℕ) Body (List ℕ) State
   rounds = protocol (parts P) J (grownOf (parts P) J) (ups P) (pack P J) reads
-
-  -- before the start 0, then one more than the round
-  unfoldable pub phaseOf : List ℕ → ℕ
-  phaseOf x = elim (eqb (field x STAGE) 0) [ true ↦ 0 | false ↦ suc (field x ROUND) ]
 
   abbrev pub machine : Machine (Fin P) (List ℕ) Body (List ℕ) State (List ℕ)
   machine = record {

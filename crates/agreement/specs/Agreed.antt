@@ -1,0 +1,248 @@
+-- What any lawful list of calls on the stores of a split comes to: the theorem of the exchange, said of the stores.
+--   first p, world           the stores of the split
+--   inputOf cs p             the marks that the calls start a part with; 0 for each master where they do not
+-- Laws: stores-many (there is a store for each part), done-phase and phase-done (a done part is one past the last round), at-end (what a
+-- done part's store stands for), stays-done, moves-most, onward and completed (what can be called next), none-left (where a part has none
+-- to send).
+use mathlib.Core.Path.{_≡_, refl, sym, _∙_, ap, ap₂, subst}
+use mathlib.Core.Logic.{_⊎_, inl, inr, _≢_}
+use mathlib.Core.Bool.{Bool, true, false}
+use mathlib.Core.Option.{Option, none, some, Option·elim}
+use mathlib.Core.List.{List, [], _∷_, _++_, map, List·Memᴰ}
+use Prim.Native.Nat.{ℕ, zero, suc, _+_, _≤_, _<_, Fin}
+use native.Mathlib.Nat.{le-trans}
+use native.Mathlib.Omega.{arith}
+use lib.ListN.{length, getD, drop, length-map}
+use lib.IntN.{ℤ}
+use Rattle.base.specs.Every.{getD-map}
+use Rattle.base.specs.Fours.{fours}
+use Rattle.base.specs.Range.{range, length-range, range-at}
+use Rattle.base.specs.declared.Answer.the-variants.{Accepted}
+use Rattle.mesh.specs.Coarse.{cornerCount}
+use Rattle.exchange.specs.Calls.{Fetch, Call, World, play, moves, startedWith, Lawful}
+use Rattle.exchange.specs.Finite.{parts}
+use Rattle.exchange.specs.Protocol.{Alone, Machine, Protocol}
+use Rattle.exchange.specs.Lockstep.{lock, mailCount, post, local}
+use Rattle.exchange.specs.Begun.{first-fine}
+use Rattle.exchange.specs.Theorem.{Can, Allowed, deterministic, begun-with, result, done-stays, moves-few, completion, all-given}
+use Rattle.exchange.specs.Theorem.{onward as moved-on}
+use Rattle.rounds.specs.Rounds.{Body, end, State, phase}
+use Rattle.rounds.specs.Task.{Task}
+use Rattle.rounds.specs.Rounded.{protocol, overb, phase-marks, phase-counts, phase-totals, phase-over}
+use Rattle.rounds.specs.Turns.{Turn, in-marks, in-counts, in-totals, in-over, turn-of}
+use Rattle.rounds.specs.Upward.{ups}
+use Rattle.rounds.specs.Bound.{callsMost, calls-few}
+use Rattle.parts.specs.Starts.{placeOn}
+use Rattle.merging.specs.Totals.{grownOf}
+use Rattle.store.specs.Fields.{field, STAGE, ROUND}
+use Rattle.split.specs.Split.{splitAnswer, splitAfter}
+use Rattle.split.specs.Stored.{Stored, storeAt}
+use Rattle.standing.specs.Busy.{pack, L}
+use Rattle.entering.specs.Fits.{Fits}
+use Rattle.entering.specs.Entered.{Stay}
+use Rattle.entering.specs.Standing.{Idle, Standing}
+use Rattle.tasks.specs.Holders.{splitTask}
+use Rattle.tasks.specs.Accepted.{Splits, splits-from, split-store, split-columns, split-bound}
+use Rattle.outcome.specs.Program.{act}
+use Rattle.outcome.specs.Limited.{fitting-of}
+use Rattle.outcome.specs.Machines.{machine, alone, phaseOf}
+use Rattle.agreement.specs.Terms.{Calls, Stores, storesOf, afterSplit}
+use Rattle.agreement.specs.Exchanges.{fit, reads, takes, read, first-idle, wanted, wanted-fit}
+
+-- a store of the parts by its number
+stores-at : (P : ℕ) (b : List ℕ) (j : ℕ) → j < P → getD (storesOf P b) j [] ≡ storeAt b j
+unfolding storesOf
+stores-at P b j h =
+    let z : getD (range 0 P) j 0 ≡ j = range-at 0 P j 0 h ∙ omega arith in
+    getD-map (storeAt b) (range 0 P) j 0 [] (omega (arith, length-range 0 P)) ∙ ap (storeAt b) z
+
+stores-length : (P : ℕ) (b : List ℕ) → length (storesOf P b) ≡ P
+unfolding storesOf
+stores-length P b = length-map (range 0 P) (storeAt b) ∙ length-range 0 P
+
+-- a store that stands as it stood
+stay-self : (x : List ℕ) → Stay x x
+stay-self x = record { size = refl; else = λ i h. refl }
+
+-- the last round
+over-last : (top r : ℕ) → r ≤ suc (suc (suc (top + top))) → overb (phase top r) ≡ true → r ≡ suc (suc (suc (top + top)))
+unfolding overb
+over-last top r h o = go (turn-of top r h)
+  where
+    differ : {A : Type 0} → false ≡ true → A
+    differ e = let z : _≡_ {A = ℕ} 0 1 = cc in absurd (omega arith)
+
+    go : Turn top r → r ≡ suc (suc (suc (top + top)))
+    go (in-marks i a e) = differ (sym (ap overb (ap (phase top) e ∙ phase-marks top i a)) ∙ o)
+    go (in-counts i a e) = differ (sym (ap overb (ap (phase top) e ∙ phase-counts top i a)) ∙ o)
+    go (in-totals e) = differ (sym (ap overb (ap (phase top) e ∙ phase-totals top)) ∙ o)
+    go (in-over e) = e
+
+module _ (ps : List ℤ) (ts ss : List ℕ) (Q : ℕ) (os b : List ℕ) (e : splitAnswer ps ts ss (suc Q) os b ≡ Accepted) where
+  abbrev pub n : ℕ
+  n = cornerCount ps
+
+  abbrev pub qs : List (List ℕ)
+  qs = fours ts
+
+  abbrev pub g : Splits Q (cornerCount ps) (fours ts) ss os
+  g = splits-from ps ts ss Q os b e
+
+  abbrev pub first : Fin (suc Q) → List ℕ
+  first p = storeAt (splitAfter ps ts ss (suc Q) os b) (p .0)
+
+  abbrev pub world : Stores
+  world = afterSplit (suc Q) (splitAfter ps ts ss (suc Q) os b)
+
+  stored : (p : Fin (suc Q)) → Stored n qs ss (suc Q) os (suc (p .0)) (first p)
+  stored = split-store ps ts ss Q os b e
+
+  abbrev pub J : Task (Fin (suc Q))
+  J = splitTask Q (cornerCount ps) (fours ts) ss os
+
+  abbrev M : Machine (Fin (suc Q)) (List ℕ) Body (List ℕ) State (List ℕ)
+  M = machine (suc Q) J (fit Q n qs ss os g) (reads Q n qs ss os g) (placeOn os) (takes Q n qs ss os g) first (read Q n qs ss os g)
+
+  abbrev pub R : Protocol (Fin (suc Q)) (List ℕ) Body (List ℕ) State
+  R = protocol (parts (suc Q)) J (grownOf (parts (suc Q)) J) (ups (suc Q)) (pack (suc Q) J) (reads Q n qs ss os g)
+
+  abbrev Fi : Fin (suc Q) → List ℕ → Type 0
+  Fi p ms = takes Q n qs ss os g p ms ≡ true
+
+  A : Alone (parts (suc Q)) R M (Fits (suc Q) J) Fi
+  A = alone (suc Q) J (fit Q n qs ss os g) (reads Q n qs ss os g) (placeOn os) (takes Q n qs ss os g) first (read Q n qs ss os g)
+
+  all : length (world .stores) ≡ suc Q
+  all = stores-length (suc Q) (splitAfter ps ts ss (suc Q) os b)
+
+  idle : (p : Fin (suc Q)) → M .Idle p (getD (world .stores) (p .0) [])
+  idle p = subst (M .Idle p) (sym (stores-at (suc Q) (splitAfter ps ts ss (suc Q) os b) (p .0) (p .1)))
+      (first-idle Q n qs ss os g p (first p) (stored p), stay-self (first p))
+
+  -- the marks that the calls start a part with
+  abbrev pub inputOf : Calls → Fin (suc Q) → List ℕ
+  inputOf cs p = Option·elim (startedWith act cs world (p .0)) (wanted Q n qs ss os g p) (λ ms. ms)
+
+  fine : (cs : Calls) (p : Fin (suc Q)) → Fi p (inputOf cs p)
+  unfolding Option·elim
+  fine cs p = go (startedWith act cs world (p .0)) refl
+    where
+      go : (o : Option (List ℕ)) → startedWith act cs world (p .0) ≡ o → Fi p (Option·elim o (wanted Q n qs ss os g p) (λ ms. ms))
+      go none f = wanted-fit Q n qs ss os g p
+      go (some ms) f =
+          first-fine (suc Q) R M (Fits (suc Q) J) Fi A [] p ms cs world (subst (λ (k : ℕ). p .0 < k) (sym all) (p .1)) (idle p) f
+
+  good : (cs : Calls) (p : Fin (suc Q)) (r : ℕ) (k : Fin (suc Q) → ℕ) (f : ℕ) → Can (parts (suc Q)) R (inputOf cs) p r k f
+      → Fits (suc Q) J p (local (parts (suc Q)) R (inputOf cs) p r k f)
+  good cs p r k f c =
+      fitting-of (suc Q) J p (first p) (split-columns Q n qs ss os g p (first p) (stored p)) (fit Q n qs ss os g) (reads Q n qs ss os g)
+      (inputOf cs) p r k f c
+
+  -- the store of a part after calls
+  abbrev pub storeOf : Calls → Fin (suc Q) → List ℕ
+  storeOf cs p = getD (play act cs world .stores) (p .0) []
+
+  module _ (cs : Calls) (lawful : Lawful act cs world) where
+    abbrev Al : Calls → Type 0
+    Al ds = Allowed (suc Q) R M (Fits (suc Q) J) Fi A (inputOf cs) (fine cs) end [] [] (good cs) world all idle refl ds
+
+    allowed : Al cs
+    unfolding Option·elim
+    allowed = record { lawful = lawful; inputs = λ p i f. sym (ap (λ (o : Option (List ℕ)). Option·elim o (wanted Q n qs ss os g p) (λ ms. ms)) f) }
+
+    -- a part that is done is past the last round
+    pub done-phase : (p : Fin (suc Q)) → field (storeOf cs p) STAGE ≡ 2 → phaseOf (storeOf cs p) ≡ suc (R .rounds)
+    done-phase p d = go (deterministic (suc Q) R M (Fits (suc Q) J) Fi A (inputOf cs) (fine cs) end [] [] (good cs) world all idle refl cs allowed p)
+      where
+        go : M .Idle p (storeOf cs p)
+            ⊎ ((r : ℕ) × (k : Fin (suc Q) → ℕ) × (f : ℕ) × Can (parts (suc Q)) R (inputOf cs) p r k f
+            × M .Busy p (local (parts (suc Q)) R (inputOf cs) p r k f) (storeOf cs p)
+            × ((j : ℕ) → j < f → List·Memᴰ (getD (post (parts (suc Q)) R (inputOf cs) (suc (R .rounds)) p) j []) (play act cs world .given)))
+            → phaseOf (storeOf cs p) ≡ suc (R .rounds)
+        go (inl i) = absurd (omega (arith, i .0 .stage, d))
+        go (inr (r, k, f, c, t, v)) =
+            A .phase-busy p (local (parts (suc Q)) R (inputOf cs) p r k f) (storeOf cs p) t
+            ∙ ap suc (over-last (J .top) r (c .in-rounds) (over (overb (phase (J .top) r)) refl))
+          where
+            over : (o : Bool) → overb (phase (J .top) r) ≡ o → overb (phase (J .top) r) ≡ true
+            over true q = q
+            over false q = absurd (omega (arith, t .0 .busy .running q, d))
+
+    -- what a part stands at in the end, where f of its messages were fetched
+    abbrev pub ending : Fin (suc Q) → ℕ → L (suc Q) J
+    ending p f = record {
+      round = R .rounds;
+      state = lock (parts (suc Q)) R (inputOf cs) (R .rounds) p;
+      before = λ q. mailCount (parts (suc Q)) R (inputOf cs) (R .rounds) q p;
+      got = λ q. [];
+      sent = λ q. mailCount (parts (suc Q)) R (inputOf cs) (suc (R .rounds)) p q;
+      queue = drop f (post (parts (suc Q)) R (inputOf cs) (suc (R .rounds)) p);
+    }
+
+    -- and one past the last round is done
+    pub at-end : (p : Fin (suc Q)) → phaseOf (storeOf cs p) ≡ suc (R .rounds)
+        → (f : ℕ) × Standing (suc Q) J p (ending p f) (storeOf cs p) × Stay (first p) (storeOf cs p)
+    at-end p h =
+        let (f, t) = result (suc Q) R M (Fits (suc Q) J) Fi A (inputOf cs) (fine cs) end [] [] (good cs) world all idle refl cs allowed p h in
+        (f, t .0, t .1)
+
+    pub phase-done : (p : Fin (suc Q)) → phaseOf (storeOf cs p) ≡ suc (R .rounds) → field (storeOf cs p) STAGE ≡ 2
+    unfolding overb
+    phase-done p h = let (f, t, s) = at-end p h in t .busy .done (ap overb (phase-over (J .top)))
+
+    -- a part past its start was started with its input
+    pub started-with : (p : Fin (suc Q)) → phaseOf (storeOf cs p) ≡ suc (R .rounds) → startedWith act cs world (p .0) ≡ some (inputOf cs p)
+    started-with p h =
+        begun-with (suc Q) R M (Fits (suc Q) J) Fi A (inputOf cs) (fine cs) end [] [] (good cs) world all idle refl cs allowed p (omega (arith, h))
+
+    pub input-fine : (p : Fin (suc Q)) → takes Q n qs ss os g p (inputOf cs p) ≡ true
+    input-fine p = fine cs p
+
+    -- THE BOUND
+    pub moves-most : moves act cs world ≤ callsMost (suc Q) (length ss)
+    moves-most =
+        le-trans (moves-few (suc Q) R M (Fits (suc Q) J) Fi A (inputOf cs) (fine cs) end [] [] (good cs) world all idle refl cs allowed)
+        (calls-few (suc Q) J (grownOf (parts (suc Q)) J) (ups (suc Q)) (pack (suc Q) J) (reads Q n qs ss os g) (inputOf cs) (length ss)
+        (split-bound Q n qs ss os g))
+
+    -- SOME CALL MOVES IT ON, until all parts are done
+    pub onward : ((p : Fin (suc Q)) → phaseOf (storeOf cs p) ≡ suc (R .rounds))
+        ⊎ ((c : Call (List ℕ) (List ℕ)) × Lawful act (cs ++ (c ∷ [])) world × (moves act (cs ++ (c ∷ [])) world ≡ suc (moves act cs world)))
+    onward = go (moved-on (suc Q) R M (Fits (suc Q) J) Fi A (inputOf cs) (fine cs) end [] [] (good cs) world all idle refl cs allowed)
+      where
+        go : ((p : Fin (suc Q)) → phaseOf (storeOf cs p) ≡ suc (R .rounds))
+            ⊎ ((c : Call (List ℕ) (List ℕ)) × Al (cs ++ (c ∷ [])) × (moves act (cs ++ (c ∷ [])) world ≡ suc (moves act cs world)))
+            → ((p : Fin (suc Q)) → phaseOf (storeOf cs p) ≡ suc (R .rounds))
+            ⊎ ((c : Call (List ℕ) (List ℕ)) × Lawful act (cs ++ (c ∷ [])) world × (moves act (cs ++ (c ∷ [])) world ≡ suc (moves act cs world)))
+        go (inl a) = inl a
+        go (inr (c, a, m)) = inr (c, a .lawful, m)
+
+    pub completed : (ds : Calls) × Lawful act (cs ++ ds) world × ((p : Fin (suc Q)) → phaseOf (storeOf (cs ++ ds) p) ≡ suc (R .rounds))
+    completed =
+        let (ds, a, d) = completion (suc Q) R M (Fits (suc Q) J) Fi A (inputOf cs) (fine cs) end [] [] (good cs) world all idle refl cs allowed in
+        (ds, a .lawful, d)
+
+    -- NONE TO SEND: all that the part wrote up to its round is given
+    pub none-left : (p : Fin (suc Q)) → act Fetch (storeOf cs p) ≡ none → field (storeOf cs p) STAGE ≢ 0
+        → (m : List ℕ) → List·Memᴰ m (post (parts (suc Q)) R (inputOf cs) (suc (field (storeOf cs p) ROUND)) p)
+        → List·Memᴰ m (play act cs world .given)
+    none-left p h s = go (all-given (suc Q) R M (Fits (suc Q) J) Fi A (inputOf cs) (fine cs) end [] [] (good cs) world all idle refl cs allowed p h)
+      where
+        go : M .Idle p (storeOf cs p)
+            ⊎ ((r : ℕ) × (k : Fin (suc Q) → ℕ)
+            × M .Busy p (local (parts (suc Q)) R (inputOf cs) p r k (length (post (parts (suc Q)) R (inputOf cs) (suc r) p))) (storeOf cs p)
+            × ((m : List ℕ) → List·Memᴰ m (post (parts (suc Q)) R (inputOf cs) (suc r) p) → List·Memᴰ m (play act cs world .given)))
+            → (m : List ℕ) → List·Memᴰ m (post (parts (suc Q)) R (inputOf cs) (suc (field (storeOf cs p) ROUND)) p)
+            → List·Memᴰ m (play act cs world .given)
+        go (inl i) = absurd (s (i .0 .stage))
+        go (inr (r, k, t, v)) =
+            subst (λ (j : ℕ). (m : List ℕ) → List·Memᴰ m (post (parts (suc Q)) R (inputOf cs) (suc j) p) → List·Memᴰ m (play act cs world .given))
+            (sym (t .0 .busy .round)) v
+
+  -- DONE STAYS
+  pub stays-done : (cs ds : Calls) → Lawful act cs world → Lawful act (cs ++ ds) world → (p : Fin (suc Q)) → field (storeOf cs p) STAGE ≡ 2
+      → field (storeOf (cs ++ ds) p) STAGE ≡ 2
+  stays-done cs ds a b p d =
+      let (u, v) = done-stays (suc Q) R M (Fits (suc Q) J) Fi A (inputOf (cs ++ ds)) (fine (cs ++ ds)) end [] [] (good (cs ++ ds)) world all idle refl
+      cs ds (allowed (cs ++ ds) b) p in
+      phase-done (cs ++ ds) b p (omega (arith, u, v, done-phase cs a p d))

@@ -1,0 +1,136 @@
+-- The exchange of a split: the calls on its stores, with the marks that each part starts with, are a machine of the rounds.
+--   wanted p             marks that the part p takes: 0 for each of its masters
+--   input cs p           the marks that the calls start the part p with; those where they do not
+-- Laws: first-idle (the stores of a split are those of parts that have not started), and what the theorem of the exchange is applied to.
+use mathlib.Core.Path.{_≡_, refl, sym, _∙_, ap, ap₂, subst}
+use mathlib.Core.Logic.{_⊎_, inl, inr, _≢_}
+use mathlib.Core.Bool.{Bool, true, false, _&&_, or-true}
+use mathlib.Core.Option.{Option, none, some, Option·elim}
+use mathlib.Core.List.{List, [], _∷_, map}
+use Prim.Native.Nat.{ℕ, zero, suc, _+_, _-_, _≤_, _<_, pred, Fin}
+use native.Mathlib.Decide.{decLt}
+use native.Mathlib.Omega.{arith}
+use lib.Dec.{T, eqb, ltb, leb}
+use lib.ListN.{length, getD, replicate, length-map}
+use borrow.Author.Tests.{eq-eqb, lt-ltb}
+use Rattle.base.specs.Bools.{is-true}
+use Rattle.base.specs.Range.{range}
+use Rattle.mesh.specs.Answers.{markb}
+use Rattle.exchange.specs.Calls.{Call, World, startedWith}
+use Rattle.exchange.specs.Finite.{parts}
+use Rattle.exchange.specs.Exchange.{storeAt as storeIn}
+use Rattle.exchange.specs.Begun.{first-fine}
+use Rattle.rounds.specs.Tests.{Member}
+use Rattle.rounds.specs.Task.{Task, Fit}
+use Rattle.rounds.specs.Rounds.{mine}
+use Rattle.parts.specs.Held.{masterb}
+use Rattle.parts.specs.Starts.{mastersOn, eachb, startb, placeOn}
+use Rattle.soundness.specs.Sound.{Sound, sound-parts}
+use Rattle.splitting.specs.Split.{fits, owners-fit}
+use Rattle.splitting.specs.Numbers.{number-inside}
+use Rattle.splitting.specs.Admissible.{owners-counted}
+use Rattle.merging.specs.Run.{nthPart, numberOf, named, marksFrom}
+use Rattle.store.specs.Fields.{field, full, STAGE, CELLS, TAKEN, ENDED, GIVEN, RED, SUM}
+use Rattle.split.specs.Columns.{slotOf}
+use Rattle.split.specs.Stored.{Stored, storeAt}
+use Rattle.standing.specs.Busy.{HoldsCell, HoldsSlot}
+use Rattle.entering.specs.Columns.{Columns, countBefore}
+use Rattle.entering.specs.Within.{member-low, cell-low, slot-low}
+use Rattle.entering.specs.Entered.{Stay}
+use Rattle.entering.specs.Standing.{Idle}
+use Rattle.tasks.specs.Edges.{slotsOn}
+use Rattle.tasks.specs.Holders.{splitTask}
+use Rattle.tasks.specs.Accepted.{Splits, split-slots, split-columns, split-header, split-marks, split-before}
+use Rattle.outcome.specs.Program.{act}
+
+-- marks of 0 are taken
+mark-zero : (s : ℕ) → markb s 0 ≡ true
+unfolding markb
+mark-zero s = or-true (eqb s 0)
+
+zeros-fit : (ss : List ℕ) → eachb markb ss (replicate (length ss) 0) ≡ true
+unfolding eachb markb
+zeros-fit [] = refl
+zeros-fit (s ∷ ss) = zero-fits s (zeros-fit ss)
+  where
+    zero-fits : (s : ℕ) → eachb markb ss (replicate (length ss) 0) ≡ true
+        → (markb s 0 && eachb markb ss (replicate (length ss) 0)) ≡ true
+    zero-fits s e = ap₂ _&&_ (mark-zero s) e
+
+module _ (Q n : ℕ) (qs : List (List ℕ)) (ss os : List ℕ) (g : Splits Q n qs ss os) where
+  abbrev pub P : ℕ
+  P = suc Q
+
+  abbrev pub J : Task (Fin (suc Q))
+  J = splitTask Q n qs ss os
+
+  abbrev sn : Sound n qs ss
+  sn = sound-parts n qs ss (g .sound)
+
+  pub fit : Fit (splitTask Q n qs ss os)
+  fit = fits n qs ss sn (slotOf n qs ss) (slotsOn n qs ss) (split-slots Q n qs ss os g) os (owners-fit n qs ss (suc Q) os (g .owners)) (nthPart Q)
+
+  -- the mark of a cell, from the marks of its part
+  abbrev pub reads : Fin (suc Q) → List ℕ → ℕ → ℕ
+  reads p ms c = marksFrom os (λ o. ms) p c
+
+  abbrev pub takes : Fin (suc Q) → List ℕ → Bool
+  takes p ms = startb markb ss os (suc (p .0)) ms
+
+  owner-is : (k c : ℕ) → Member c (J .cells k) → (p : Fin (suc Q)) → J .owner c ≡ p → (c < length os) × (getD os c 0 ≡ suc (p .0))
+  owner-is k c m p e =
+      let w = owners-counted n qs ss (suc Q) os (g .owners) in
+      let h : c < length ss = number-inside n qs ss sn k c m in
+      let (a, b) = w .each c (omega (arith, h)) in
+      (omega (arith, h, w .many), sym (named Q .forth (getD os c 0) a b) ∙ ap (λ (x : Fin (suc Q)). numberOf x) e)
+
+  pub read : (p : Fin (suc Q)) (ms : List ℕ) (c : ℕ) → HoldsCell (suc Q) J p c → J .owner c ≡ p → reads p ms c ≡ getD ms (placeOn os c) 0
+  unfolding marksFrom masterb
+  read p ms c (k, m, h) e =
+      let (a, b) = owner-is k c m p e in
+      rw (lt-ltb c (length os) a, eq-eqb (getD os c 0) (numberOf p) b, marksFrom)
+
+  -- THE STORES OF A SPLIT are idle
+  pub first-idle : (p : Fin (suc Q)) (x : List ℕ) → Stored n qs ss (suc Q) os (suc (p .0)) x → Idle (suc Q) J p (placeOn os) (takes p) x
+  first-idle p x st =
+      let co : Columns (suc Q) J p x = split-columns Q n qs ss os g p x st in record {
+        columns = co;
+        header = split-header Q n qs ss os g p x st;
+        stage = st .stage;
+        written = st .written;
+        cursor = st .cursor;
+        bit = st .bit;
+        no-counts = λ i a b. zero-at i a b;
+        flags = λ c h. st .red c (cell-low (suc Q) J p x co c h);
+        sums = λ s h. st .sums s (slot-low (suc Q) J p x co s h);
+        places = λ c h e.
+            let (a, b) = owner-is (h .0) c (h .1) p e in
+            split-before Q n qs ss os g p x st c (omega (arith, number-inside n qs ss sn (h .0) c (h .1))) b;
+        marks = split-marks Q n qs ss os g p x st;
+      }
+    where
+      zero-at : (i : ℕ) → 64 ≤ i → i < 112 → field x i ≡ 0
+      zero-at i a b = elim (decLt i 80) [
+        | yes h ↦
+            let z : TAKEN + (i - 63) ≡ i = omega arith in
+            ap (field x) (sym z) ∙ st .taken (i - 63) (omega arith) (omega arith)
+        | no h ↦ elim (decLt i 96) [
+          | yes k ↦
+              let z : ENDED + (i - 79) ≡ i = omega arith in
+              ap (field x) (sym z) ∙ st .ended (i - 79) (omega arith) (omega arith)
+          | no k ↦
+              let z : GIVEN + (i - 96) ≡ i = omega arith in
+              ap (field x) (sym z) ∙ st .given (i - 96) (omega arith)
+        ]
+      ]
+
+  -- marks that a part takes
+  abbrev pub wanted : Fin (suc Q) → List ℕ
+  wanted p = replicate (length (mastersOn os (suc (p .0)))) 0
+
+  pub wanted-fit : (p : Fin (suc Q)) → takes p (wanted p) ≡ true
+  unfolding startb
+  wanted-fit p =
+      let l = map (λ c. getD ss c 0) (mastersOn os (suc (p .0))) in
+      let e : length l ≡ length (mastersOn os (suc (p .0))) = length-map (mastersOn os (suc (p .0))) (λ c. getD ss c 0) in
+      subst (λ (k : ℕ). eachb markb l (replicate k 0) ≡ true) e (zeros-fit l)

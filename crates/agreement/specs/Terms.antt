@@ -1,0 +1,48 @@
+-- What demand 3 speaks of.
+--   storesOf P b           the stores of the parts 1 to P, as a split leaves them in a lent table
+--   afterSplit P b         the world then: these stores, and no message given
+--   marksGiven cs w p      the marks that the calls cs started the part p with, from 1; none where they did not start it
+--   serialMarks os cs w    these marks put together: what the serial step is given
+--   alldoneb w             all parts are done
+--   resultIn x             the number that a done part ended with: 0, 8 or 9
+use mathlib.Core.Bool.{Bool}
+use mathlib.Core.Option.{Option, none, some, Option·elim}
+use mathlib.Core.List.{List, [], map}
+use Prim.Native.Nat.{ℕ, pred}
+use lib.Dec.{eqb}
+use Rattle.base.specs.Lists.{allb}
+use Rattle.base.specs.Range.{range}
+use Rattle.parts.specs.Starts.{putTogether}
+use Rattle.exchange.specs.Calls.{Call, World, startedWith}
+use Rattle.store.specs.Fields.{field, STAGE, RESULT}
+use Rattle.split.specs.Stored.{storeAt}
+use Rattle.outcome.specs.Program.{act}
+
+-- a call on a store takes marks or bytes
+abbrev pub Calls : Type 0
+Calls = List (Call (List ℕ) (List ℕ))
+
+abbrev pub Stores : Type 0
+Stores = World (List ℕ) (List ℕ)
+
+unfoldable pub storesOf : ℕ → List ℕ → List (List ℕ)
+unfolding range
+storesOf P b = map (storeAt b) (range 0 P)
+
+abbrev pub afterSplit : ℕ → List ℕ → Stores
+afterSplit P b = record { stores = storesOf P b; given = [] }
+
+unfoldable pub marksGiven : Calls → Stores → ℕ → List ℕ
+unfolding startedWith act
+marksGiven cs w p = Option·elim (startedWith act cs w (pred p)) [] (λ ms. ms)
+
+unfoldable pub serialMarks : List ℕ → Calls → Stores → List ℕ
+unfolding putTogether marksGiven
+serialMarks os cs w = putTogether os (marksGiven cs w)
+
+unfoldable pub alldoneb : Stores → Bool
+unfolding allb
+alldoneb w = allb (λ x. eqb (field x STAGE) 2) (w .stores)
+
+abbrev pub resultIn : List ℕ → ℕ
+resultIn x = field x RESULT
