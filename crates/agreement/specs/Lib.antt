@@ -1,3 +1,4 @@
 pub mod Terms
 pub mod Exchanges
 pub mod Agreed
+pub mod Outcomes

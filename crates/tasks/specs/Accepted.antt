@@ -1,6 +1,6 @@
 -- An accepted split: what its answer says, and what the stores of its parts are.
 --   Splits Q n qs ss os      a sound table over an accepted mesh, with the owners of Q + 1 parts, within the limits
--- Laws: splits-from (an accepted split is so), split-room, split-after and split-store (the table and the stores after the call),
+-- Laws: splits-from (an accepted split is so), split-table, split-room, split-after and split-store (the table and the stores after the call),
 -- split-slots and split-bound (its slots, and how small its task is), split-columns, split-header, split-marks and split-before (a
 -- store of it, by `Columns` and `Idle`).
 use mathlib.Core.Path.{_≡_, sym, ap, subst}
@@ -107,6 +107,9 @@ module _ (ps : List ℤ) (ts ss : List ℕ) (Q : ℕ) (os b : List ℕ) (e : spl
 
   pub split-room : 16 * full ≤ length b
   split-room = steps .0
+
+  pub split-table : tableAnswer ps ts ss ≡ Accepted
+  split-table = steps .1
 
   pub splits-from : Splits Q (cornerCount ps) (fours ts) ss os
   splits-from =
