@@ -2,3 +2,4 @@ pub mod Terms
 pub mod Exchanges
 pub mod Agreed
 pub mod Outcomes
+pub mod Merges

@@ -3,41 +3,36 @@
 use mathlib.Core.Path.{_≡_, refl, sym, _∙_, ap, ap₂, subst}
 use mathlib.Core.Logic.{_⊎_, inl, inr, _≢_}
 use mathlib.Core.Bool.{Bool, true, false, _&&_}
-use mathlib.Core.List.{List, [], _∷_, _++_, map, flatMap, flatten, List·Memᴰ, List·Memᴰ·head, List·Memᴰ·tail, List·Memᴰ·not-nil}
-use mathlib.Core.List.{List·Memᴰ·cases-cons}
-use Prim.Native.Nat.{ℕ, zero, suc, _+_, _-_, _*_, _≤_, _<_, min, Fin}
-use native.Mathlib.Decide.{Fin·val-path}
+use mathlib.Core.List.{List, [], _∷_, _++_, flatMap, flatten}
+use Prim.Native.Nat.{ℕ, zero, suc, _+_, _-_, _*_, _≤_, _<_, min, pred, Fin}
 use native.Mathlib.Omega.{arith}
 use lib.Dec.{T, eqb, ltb}
 use lib.ListN.{length, getD, take, drop, length-take, length-drop}
 use lib.Seq.{ext-getD, getD-take, getD-drop}
 use lib.IntN.{ℤ}
 use borrow.Author.Tests.{lt-ltb, eq-eqb}
-use Rattle.base.specs.Bools.{or-second}
-use Rattle.base.specs.Lists.{memberb}
+use Rattle.base.specs.Bools.{or-first}
 use Rattle.base.specs.Fours.{fours}
 use Rattle.base.specs.Range.{range, range-member}
-use Rattle.base.specs.Refuse.{codeOf}
+use Rattle.base.specs.Refuse.{codeOf, heldAfter}
 use Rattle.base.specs.declared.Answer.{Answer}
 use Rattle.base.specs.declared.Answer.the-variants.{Accepted, Refused}
 use Rattle.mesh.specs.Coarse.{cornerCount, cellsb}
 use Rattle.mesh.specs.Table.{soundb}
 use Rattle.mesh.specs.Step.{stepTable}
 use Rattle.mesh.specs.Answers.{newTable, markedAnswer}
-use Rattle.exchange.specs.Calls.{Lawful}
+use Rattle.exchange.specs.Calls.{play, Lawful}
 use Rattle.exchange.specs.Finite.{parts}
 use Rattle.rounds.specs.Tests.{Member}
-use Rattle.rounds.specs.Rounds.{State, isPart}
+use Rattle.rounds.specs.Rounds.{isPart}
+use Rattle.rounds.specs.Among.{is-self, is-eq}
 use Rattle.parts.specs.Held.{Entry, masterb, entriesOf}
 use Rattle.parts.specs.Merge.{merged, completeb}
+use Rattle.lineage.specs.Step.{step-by}
 use Rattle.soundness.specs.Sound.{sound-parts}
 use Rattle.soundness.specs.Steady.{step-sound}
 use Rattle.splitting.specs.Numbers.{number-inside}
 use Rattle.shares.specs.Settled.{entriesIn}
-use Rattle.merging.specs.Distinct.{NoDup}
-use Rattle.merging.specs.All.{entriesAll}
-use Rattle.merging.specs.Covered.{split-merged, split-complete}
-use Rattle.merging.specs.Result.{serial-table, serial-complete}
 use Rattle.merging.specs.Run.{nthPart, numberOf, named}
 use Rattle.store.specs.Fields.{field, full, STAGE, PART, CORNERS, COARSE, RESULT, OWNER, CORNER, FIRST-CELL}
 use Rattle.split.specs.Columns.{slotOf}
@@ -51,40 +46,16 @@ use Rattle.tasks.specs.Levels.{below-coarse}
 use Rattle.tasks.specs.Holders.{owner-ranged}
 use Rattle.tasks.specs.Accepted.{Splits, split-slots, split-store}
 use Rattle.held.specs.Held.{heldIn}
-use Rattle.merge.specs.Merge.{ownsb, storesIn, mergeAnswer, mergeTable}
-use Rattle.joining.specs.Arranged.{Done, Arranged}
-use Rattle.joining.specs.Joins.{joins}
+use Rattle.merge.specs.declared.Merged.the-variants as answer
+use Rattle.merge.specs.Merge.{ownsb, storesIn, mergeAnswer, mergeTable, mergedOf}
+use Rattle.joining.specs.Joint.{Order, Joint, joint-old, joint-new}
+use Rattle.joining.specs.Done.{PartDone}
+use Rattle.joining.specs.Joined.{Joining, laid-at, joined}
 use Rattle.outcome.specs.Program.{act}
 use Rattle.outcome.specs.Machines.{phaseOf}
 use Rattle.agreement.specs.Terms.{Calls}
 use Rattle.agreement.specs.Agreed.{g, first, world, J, R, storeOf, phase-done}
 use Rattle.agreement.specs.Outcomes.{ms, X, known, stands, stays, result-is, limits, held-new, held-old}
-
--- parts by their numbers
-module _ {P : ℕ} where
-  abbrev number : Fin P → ℕ
-  number q = suc (q .0)
-
-  member-mapped : (l : List (Fin P)) (p : Fin P) → List·Memᴰ p l → Member (number p) (map number l)
-  unfolding memberb
-  member-mapped [] p m = absurd (List·Memᴰ·not-nil m)
-  member-mapped (q ∷ l) p m = go (List·Memᴰ·cases-cons m) (member-mapped l p)
-    where
-      go : (p ≡ q) ⊎ List·Memᴰ p l → (List·Memᴰ p l → Member (number p) (map number l)) → Member (number p) (map number (q ∷ l))
-      go (inl i) r = rw (eq-eqb (number p) (number q) (ap number i)) tt
-      go (inr i) r = or-second (eqb (number p) (number q)) (memberb (number p) (map number l)) (r i)
-
-  mem-mapped : (l : List (Fin P)) (p : Fin P) → List·Memᴰ (number p) (map number l) → List·Memᴰ p l
-  mem-mapped [] p m = absurd (List·Memᴰ·not-nil m)
-  mem-mapped (q ∷ l) p m = go (List·Memᴰ·cases-cons m) (mem-mapped l p)
-    where
-      go : (number p ≡ number q) ⊎ List·Memᴰ (number p) (map number l) → (List·Memᴰ (number p) (map number l) → List·Memᴰ p l) → List·Memᴰ p (q ∷ l)
-      go (inl i) r = let z : p ≡ q = Fin·val-path (omega (arith, i)) in List·Memᴰ·head z
-      go (inr i) r = List·Memᴰ·tail (r i)
-
-  once-mapped : (l : List (Fin P)) → NoDup l → NoDup (map number l)
-  once-mapped [] d = tt
-  once-mapped (q ∷ l) d = ((λ m. d .0 (mem-mapped l q m)), once-mapped l (d .1))
 
 -- four numbers that agree
 four-same : (x y : List ℕ) (a : ℕ) → length y ≡ length x → ((i : ℕ) → a ≤ i → i < a + 4 → field y i ≡ field x i)
@@ -154,89 +125,110 @@ module _ (ps : List ℤ) (ts ss : List ℕ) (Q : ℕ) (os b : List ℕ) (e : spl
       (λ j k l. stay p .else j (inr (inr (inr (omega arith, omega arith))))) ∙ s .four i low
       ∙ rw (lt-ltb i (length cells) h, eq-eqb (getD os i 0) (suc (p .0)) m, fourOf)
 
-  -- the done stores, where they hold es and ended with r
-  done-of : (r : ℕ) (es : Fin (suc Q) → List Entry) → ((p : Fin (suc Q)) → field (x p) RESULT ≡ r) → ((p : Fin (suc Q)) → heldIn (x p) ≡ es p)
-      → (p : Fin (suc Q)) → Done (suc Q) nn cells x r owner es p
-  done-of r es f h p = record {
-    size = stay p .size ∙ stored p .size;
-    header = stands ps ts ss Q os b e cs lawful done p .busy .header;
-    stage = phase-done ps ts ss Q os b e cs lawful p (done p);
-    part = columns p .part;
-    many = columns p .many;
-    corners = stay p .else CORNERS (inl (omega arith, omega arith)) ∙ stored p .corners;
-    coarse = stay p .else COARSE (inl (omega arith, omega arith)) ∙ stored p .coarse;
-    result = f p;
-    owns = owned p;
-    four = fours-are p;
-    holds = h p;
-  }
+  -- the store of the part with a number
+  abbrev pub storeBy : ℕ → List ℕ
+  storeBy q = getD (play act cs (world ps ts ss Q os b e) .stores) (pred q) []
 
-  all-flat : (l : List (Fin (suc Q))) → entriesAll (X ps ts ss Q os b e cs lawful done) l ≡ flatMap (entriesIn (X ps ts ss Q os b e cs lawful done)) l
-  unfolding entriesAll flatMap
-  all-flat [] = refl
-  all-flat (p ∷ l) = ap (λ (v : List Entry). entriesIn (X ps ts ss Q os b e cs lawful done) p ++ v) (all-flat l)
+  -- the done stores, where they hold es and ended with r
+  done-of : (r : ℕ) (es : ℕ → List Entry) → ((p : Fin (suc Q)) → field (x p) RESULT ≡ r) → ((p : Fin (suc Q)) → heldIn (x p) ≡ es (suc (p .0)))
+      → (q : ℕ) → 1 ≤ q → q ≤ suc Q → PartDone (suc Q) nn r cells (es q) q (storeBy q)
+  unfolding ownsb
+  done-of r es f h zero a c = absurd (omega arith)
+  done-of r es f h (suc j) a c =
+      let p : Fin (suc Q) = (j, omega arith) in record {
+        long = stands ps ts ss Q os b e cs lawful done (j, omega arith) .busy .long;
+        header = rw (stands ps ts ss Q os b e cs lawful done (j, omega arith) .busy .header) tt;
+        part = columns (j, omega arith) .part;
+        stage = phase-done ps ts ss Q os b e cs lawful (j, omega arith) (done (j, omega arith));
+        parts = columns (j, omega arith) .many;
+        corners = stay (j, omega arith) .else CORNERS (inl (omega arith, omega arith)) ∙ stored (j, omega arith) .corners;
+        coarse = stay (j, omega arith) .else COARSE (inl (omega arith, omega arith)) ∙ stored (j, omega arith) .coarse;
+        ended = f (j, omega arith);
+        held = h (j, omega arith);
+        corner = λ i k o.
+            fours-are (j, omega arith) i k (is-eq (parts (suc Q)) (owner i) (j, omega arith)
+            (rw (sym (owned (j, omega arith) i k) ∙ own-test (j, omega arith) i o) tt));
+      }
+    where
+      own-test : (p : Fin (suc Q)) (i : ℕ) → field (x p) (OWNER + i) ≡ suc (p .0) → ownsb i (x p) ≡ true
+      own-test p i o = eq-eqb (field (x p) (OWNER + i)) (field (x p) PART) (o ∙ sym (columns p .part))
+
+  sizes : (l : List ℕ) → Order (suc Q) l → (j : ℕ) → j < length l → length (storeBy (getD l j 0)) ≡ full
+  sizes l o j h =
+      let (a, c) = o .within j h in
+      size-of (getD l j 0) a c
+    where
+      size-of : (q : ℕ) → 1 ≤ q → q ≤ suc Q → length (storeBy q) ≡ full
+      size-of zero a c = absurd (omega arith)
+      size-of (suc i) a c = stay (i, omega arith) .size ∙ stored (i, omega arith) .size
+
+  coarse-owner : (i : ℕ) → i < length cells → (q : ℕ) × (1 ≤ q) × (q ≤ suc Q) × (field (storeBy q) (OWNER + i) ≡ q)
+  coarse-owner i h =
+      let p = owner i in
+      let k : owner i .0 < suc Q = owner i .1 in (
+        suc (owner i .0),
+        omega arith,
+        omega arith,
+        columns p .owner i (0, coarse-member p i h, or-first (isPart (parts (suc Q)) (owner i) (owner i))
+            (isPart (parts (suc Q)) (J ps ts ss Q os b e .family i) (owner i)) (rw (is-self (parts (suc Q)) (owner i)) tt)),
+      )
+
+  -- the stores one behind the other, in the order l
+  abbrev pub laid : List ℕ → List ℕ → List ℕ
+  laid l rest = flatMap storeBy l ++ rest
+
+  joining-of : (r : ℕ) (table : List ℕ) (es : ℕ → List Entry) → ((p : Fin (suc Q)) → field (x p) RESULT ≡ r)
+      → ((p : Fin (suc Q)) → heldIn (x p) ≡ es (suc (p .0))) → T (soundb nn cells table) → Joint nn cells table (suc Q) es
+      → (l : List ℕ) → Order (suc Q) l → (rest : List ℕ) → 16 * full ≤ length (laid l rest)
+      → Joining (laid l rest) (suc Q) nn r cells table es storeBy l
+  joining-of r table es f h s j l o rest long = record {
+    room = long;
+    some = omega arith;
+    order = o;
+    at = λ i k c d. laid-at storeBy l rest (sizes l o) i k (omega (arith, o .count)) d;
+    done = done-of r es f h;
+    owner = coarse-owner;
+    cells = gg .mesh;
+    sound = s;
+    joint = j;
+  }
 
   -- THE NEW TABLE
   module _ (yes : markedAnswer ps ts ss marks ≡ Accepted) where
     abbrev lim : (length (stepTable nn cells ss marks) ≤ 11) × (length (newTable nn cells ss marks) ≤ 4096)
     lim = limits ps ts ss Q os b e cs lawful done yes
 
-    abbrev last : Fin (suc Q) → State
-    last = X ps ts ss Q os b e cs lawful done .state
-
-    gives-new : (l : List (Fin (suc Q))) → ((p : Fin (suc Q)) → List·Memᴰ p l)
-        → flatten (merged (flatMap (entriesIn (X ps ts ss Q os b e cs lawful done)) l) (length cells)) ≡ newTable nn cells ss marks
-    gives-new l every =
-        ap (λ (v : List Entry). flatten (merged v (length cells))) (sym (all-flat l))
-        ∙ ap flatten (serial-table (parts (suc Q)) nn cells ss marks (gg .four) (gg .mesh) (gg .sound) (suc Q) os (gg .owners) (slotOf nn cells ss)
-        (slotsOn nn cells ss) (split-slots Q nn cells ss os gg) (nthPart Q) numberOf (named Q) last (known ps ts ss Q os b e cs lawful done) l every)
-
-    complete-new : (l : List (Fin (suc Q))) → ((p : Fin (suc Q)) → List·Memᴰ p l) → NoDup l
-        → T (completeb (flatMap (entriesIn (X ps ts ss Q os b e cs lawful done)) l) (length cells))
-    complete-new l every d =
-        subst (λ (v : List Entry). T (completeb v (length cells))) (all-flat l)
-        (serial-complete (parts (suc Q)) nn cells ss marks (gg .four) (gg .mesh) (gg .sound) (suc Q) os (gg .owners) (slotOf nn cells ss)
-        (slotsOn nn cells ss) (split-slots Q nn cells ss os gg) (nthPart Q) numberOf (named Q) last (known ps ts ss Q os b e cs lawful done)
-        (lim .0) (lim .1) l every d)
-
     pub new-sound : T (soundb nn cells (newTable nn cells ss marks))
     new-sound = step-sound nn cells ss marks (gg .four) (gg .mesh) (gg .sound) (lim .0) (lim .1)
 
-    pub merges-new : (c : List ℕ) → Arranged (suc Q) x c → (t : List ℕ) → 4096 ≤ length t
-        → (mergeAnswer c t ≡ Accepted) × (mergeTable (storesIn c) (field c COARSE) ≡ newTable nn cells ss marks)
+    abbrev shares : ℕ → List Entry
+    shares q = entriesIn (X ps ts ss Q os b e cs lawful done) (nthPart Q q)
+
+    joint : Joint nn cells (newTable nn cells ss marks) (suc Q) shares
+    joint =
+        subst (λ (t : List ℕ). Joint nn cells t (suc Q) shares) (sym (ap flatten (step-by nn cells ss marks (gg .sound))))
+        (joint-new (X ps ts ss Q os b e cs lawful done) (suc Q) (nthPart Q) numberOf (named Q) (λ p. omega arith) (λ p. p .1))
+
+    pub merges-new : (l : List ℕ) → Order (suc Q) l → (rest : List ℕ) → 16 * full ≤ length (laid l rest) → (t : List ℕ) → 4096 ≤ length t
+        → (mergedOf (mergeAnswer (laid l rest) t) (length (mergeTable (storesIn (laid l rest)) (field (laid l rest) COARSE)))
+        ≡ answer.Cells (length (newTable nn cells ss marks)))
+        × (heldAfter (mergeAnswer (laid l rest) t) (mergeTable (storesIn (laid l rest)) (field (laid l rest) COARSE)) t
+        ≡ newTable nn cells ss marks ++ drop (length (newTable nn cells ss marks)) t)
     unfolding codeOf
-    merges-new c a =
-        joins (suc Q) nn cells x 0 owner (entriesIn (X ps ts ss Q os b e cs lawful done))
-        (done-of 0 (entriesIn (X ps ts ss Q os b e cs lawful done)) (λ p. result-is ps ts ss Q os b e cs lawful done p ∙ ap codeOf yes)
-        (held-new ps ts ss Q os b e cs lawful done yes)) (omega arith) (newTable nn cells ss marks) (gg .mesh) complete-new gives-new new-sound c a
+    merges-new l o rest long =
+        joined (laid l rest) (suc Q) nn 0 cells (newTable nn cells ss marks) shares storeBy l
+        (joining-of 0 (newTable nn cells ss marks) shares (λ p. result-is ps ts ss Q os b e cs lawful done p ∙ ap codeOf yes)
+        (λ p. held-new ps ts ss Q os b e cs lawful done yes p ∙ ap (entriesIn (X ps ts ss Q os b e cs lawful done)) (sym (named Q .back p)))
+        new-sound joint l o rest long)
 
   -- THE OLD TABLE, beside 8 or 9
-  abbrev numbers : List (Fin (suc Q)) → List ℕ
-  numbers l = map (λ (p : Fin (suc Q)). suc (p .0)) l
-
-  flat-numbers : (l : List (Fin (suc Q))) → flatMap (λ (p : Fin (suc Q)). entriesOf nn cells ss os (suc (p .0))) l
-      ≡ flatMap (entriesOf nn cells ss os) (numbers l)
-  unfolding flatMap
-  flat-numbers [] = refl
-  flat-numbers (p ∷ l) = ap (λ (v : List Entry). entriesOf nn cells ss os (suc (p .0)) ++ v) (flat-numbers l)
-
-  number-there : (l : List (Fin (suc Q))) → ((p : Fin (suc Q)) → List·Memᴰ p l) → (q : ℕ) → 1 ≤ q → q ≤ suc Q → Member q (numbers l)
-  number-there l every zero a c = absurd (omega arith)
-  number-there l every (suc j) a c = member-mapped l (j, omega arith) (every (j, omega arith))
-
-  numbers-once : (l : List (Fin (suc Q))) → NoDup l → NoDup (numbers l)
-  numbers-once l d = once-mapped l d
-
   module _ (k : ℕ) (f : markedAnswer ps ts ss marks ≡ Refused (suc k)) where
-    pub merges-old : (c : List ℕ) → Arranged (suc Q) x c → (t : List ℕ) → 4096 ≤ length t
-        → (mergeAnswer c t ≡ Accepted) × (mergeTable (storesIn c) (field c COARSE) ≡ ss)
+    pub merges-old : (l : List ℕ) → Order (suc Q) l → (rest : List ℕ) → 16 * full ≤ length (laid l rest) → (t : List ℕ) → 4096 ≤ length t
+        → (mergedOf (mergeAnswer (laid l rest) t) (length (mergeTable (storesIn (laid l rest)) (field (laid l rest) COARSE))) ≡ answer.Cells (length ss))
+        × (heldAfter (mergeAnswer (laid l rest) t) (mergeTable (storesIn (laid l rest)) (field (laid l rest) COARSE)) t ≡ ss ++ drop (length ss) t)
     unfolding codeOf
-    merges-old c a =
-        joins (suc Q) nn cells x (suc k) owner (λ p. entriesOf nn cells ss os (suc (p .0)))
-        (done-of (suc k) (λ p. entriesOf nn cells ss os (suc (p .0))) (λ p. result-is ps ts ss Q os b e cs lawful done p ∙ ap codeOf f)
-        (held-old ps ts ss Q os b e cs lawful done k f)) (omega arith) ss (gg .mesh)
-        (λ l every d. subst (λ (v : List Entry). T (completeb v (length cells))) (sym (flat-numbers l))
-        (split-complete nn cells ss (sound-parts nn cells ss (gg .sound)) (suc Q) os (gg .owners) (numbers l) (number-there l every) (numbers-once l d)))
-        (λ l every. ap (λ (v : List Entry). flatten (merged v (length cells))) (flat-numbers l)
-        ∙ split-merged nn cells ss (sound-parts nn cells ss (gg .sound)) (suc Q) os (gg .owners) (numbers l) (number-there l every))
-        (gg .sound) c a
+    merges-old l o rest long =
+        joined (laid l rest) (suc Q) nn (suc k) cells ss (entriesOf nn cells ss os) storeBy l
+        (joining-of (suc k) ss (entriesOf nn cells ss os) (λ p. result-is ps ts ss Q os b e cs lawful done p ∙ ap codeOf f)
+        (held-old ps ts ss Q os b e cs lawful done k f) (gg .sound)
+        (joint-old nn cells ss (suc Q) (sound-parts nn cells ss (gg .sound)) os (gg .owners)) l o rest long)

@@ -4,7 +4,6 @@
 use mathlib.Core.Path.{_≡_, refl, sym, _∙_, ap, ap₂, subst}
 use mathlib.Core.Logic.{_⊎_, inl, inr, _≢_}
 use mathlib.Core.Bool.{Bool, true, false, _&&_, not}
-use mathlib.Core.Option.{Option, none, some, Option·elim}
 use mathlib.Core.List.{List, [], _∷_, _++_, map, flatMap, flatten}
 use Prim.Native.Nat.{ℕ, zero, suc, _+_, _-_, _*_, _≤_, _<_, pred, Fin}
 use native.Mathlib.Omega.{arith}
@@ -22,7 +21,7 @@ use Rattle.base.specs.declared.Answer.the-variants.{Accepted, Refused}
 use Rattle.mesh.specs.Coarse.{cornerCount}
 use Rattle.mesh.specs.Step.{stepTable}
 use Rattle.mesh.specs.Answers.{tableAnswer, markb, marksb, newTable, limitsAnswer, markedAnswer}
-use Rattle.exchange.specs.Calls.{startedWith, Lawful}
+use Rattle.exchange.specs.Calls.{Lawful}
 use Rattle.exchange.specs.Finite.{Finite, parts}
 use Rattle.rounds.specs.Rounds.{Body, State, isPart, phase, over}
 use Rattle.rounds.specs.Enough.{Known}
@@ -38,8 +37,8 @@ use Rattle.shares.specs.Grow.{entries, entryBy}
 use Rattle.shares.specs.Settled.{Settled, entriesIn}
 use Rattle.merging.specs.Limits.{endOf}
 use Rattle.merging.specs.Totals.{grownOf, grown-plain}
-use Rattle.merging.specs.Result.{share-few}
-use Rattle.merging.specs.Run.{nthPart, numberOf, named, marksFrom, starts-together, final, ran, task-fit, run-answer}
+use Rattle.merging.specs.Result.{settle, share-few}
+use Rattle.merging.specs.Run.{nthPart, numberOf, named, marksFrom, starts-together, final, run-answer}
 use Rattle.store.specs.Fields.{field, CELLS, RESULT}
 use Rattle.split.specs.Columns.{slotOf}
 use Rattle.split.specs.Split.{splitAnswer}
@@ -54,7 +53,7 @@ use Rattle.outcome.specs.Program.{act}
 use Rattle.outcome.specs.Machines.{phaseOf}
 use Rattle.agreement.specs.Terms.{Calls, marksGiven, serialMarks}
 use Rattle.agreement.specs.Exchanges.{fit, reads, takes}
-use Rattle.agreement.specs.Agreed.{n, qs, g, first, world, J, R, inputOf, storeOf, ending, at-end, started-with, input-fine}
+use Rattle.agreement.specs.Agreed.{n, qs, g, first, world, J, R, inputOf, storeOf, ending, at-end, input-fine}
 
 -- the test of all marks, said twice
 marks-each : (ss ms : List ℕ) → marksb ss ms ≡ eachb markb ss ms
@@ -123,31 +122,31 @@ module _ (ps : List ℤ) (ts ss : List ℕ) (Q : ℕ) (os b : List ℕ) (e : spl
   abbrev input : Fin (suc Q) → List ℕ
   input = inputOf ps ts ss Q os b e cs
 
-  -- each part was started, with these marks
-  given-is : (p : Fin (suc Q)) → marksGiven cs (world ps ts ss Q os b e) (suc (p .0)) ≡ input p
-  unfolding marksGiven Option·elim
-  given-is p = ap (λ (o : Option (List ℕ)). Option·elim o [] (λ (l : List ℕ). l)) (started-with ps ts ss Q os b e cs lawful p (done p))
+  -- these are the marks of the starts
+  given-is : (p : Fin (suc Q)) → marksGiven os cs (world ps ts ss Q os b e) (suc (p .0)) ≡ input p
+  unfolding marksGiven
+  given-is p = refl
 
   pub starts : (p : Fin (suc Q)) (c : ℕ) → nthPart Q (getD os c 0) ≡ p → reads Q nn cells ss os gg p (input p) c ≡ getD ms c 0
   unfolding serialMarks marksFrom
   starts p c h =
       ap (λ (l : List ℕ). elim (ltb c (length os) && masterb os (numberOf p) c) [ true ↦ getD l (placeOn os c) 0 | false ↦ 0 ]) (sym (given-is p))
-      ∙ starts-together os (marksGiven cs (world ps ts ss Q os b e)) Q nn cells ss (gg .owners) p c h
+      ∙ starts-together os (marksGiven os cs (world ps ts ss Q os b e)) Q nn cells ss (gg .owners) p c h
 
-  -- the split table after the rounds
-  abbrev pub X : Settled (parts (suc Q))
-  X = ran Q nn cells ss ms (gg .four) (gg .mesh) (gg .sound) os (gg .owners) (slotOf nn cells ss) (slotsOn nn cells ss)
-      (split-slots Q nn cells ss os gg) (ups (suc Q)) (pack (suc Q) (J ps ts ss Q os b e)) (reads Q nn cells ss os gg) input starts
-
+  -- what each part knows after the rounds
   abbrev last : Fin (suc Q) → State
   last = final Q nn cells ss ms (gg .four) (gg .mesh) (gg .sound) os (gg .owners) (slotOf nn cells ss) (slotsOn nn cells ss)
       (split-slots Q nn cells ss os gg) (ups (suc Q)) (pack (suc Q) (J ps ts ss Q os b e)) (reads Q nn cells ss os gg) input starts
 
-  -- what each part knows after the rounds
   pub known : (p : Fin (suc Q)) → Known (parts (suc Q)) (J ps ts ss Q os b e) (λ c. getD ms c 0) (suc (J ps ts ss Q os b e .top)) p (last p)
   known p =
       enough-last (suc Q) (J ps ts ss Q os b e) (grownOf (parts (suc Q)) (J ps ts ss Q os b e)) (grown-plain (parts (suc Q)) (J ps ts ss Q os b e))
       (ups (suc Q)) (pack (suc Q) (J ps ts ss Q os b e)) (reads Q nn cells ss os gg) input p (fit Q nn cells ss os gg) (λ c. getD ms c 0) starts
+
+  -- the split table after the rounds
+  abbrev pub X : Settled (parts (suc Q))
+  X = settle (parts (suc Q)) nn cells ss ms (gg .four) (gg .mesh) (gg .sound) (suc Q) os (gg .owners) (slotOf nn cells ss) (slotsOn nn cells ss)
+      (split-slots Q nn cells ss os gg) (nthPart Q) numberOf (named Q) last known
 
   -- THE SERIAL ANSWER
   table-accepted : tableAnswer ps ts ss ≡ Accepted
@@ -157,9 +156,9 @@ module _ (ps : List ℤ) (ts ss : List ℕ) (Q : ℕ) (os b : List ℕ) (e : spl
   unfolding serialMarks
   marks-fit =
       marks-each ss ms
-      ∙ is-true (eachb markb ss ms) (together-fits markb nn cells ss (suc Q) os (marksGiven cs (world ps ts ss Q os b e)) (gg .owners) each-fits)
+      ∙ is-true (eachb markb ss ms) (together-fits markb nn cells ss (suc Q) os (marksGiven os cs (world ps ts ss Q os b e)) (gg .owners) each-fits)
     where
-      each-fits : (q : ℕ) → 1 ≤ q → q ≤ suc Q → T (startb markb ss os q (marksGiven cs (world ps ts ss Q os b e) q))
+      each-fits : (q : ℕ) → 1 ≤ q → q ≤ suc Q → T (startb markb ss os q (marksGiven os cs (world ps ts ss Q os b e) q))
       each-fits zero a c = absurd (omega arith)
       each-fits (suc j) a c =
           let p : Fin (suc Q) = (j, omega arith) in

@@ -1,8 +1,9 @@
 -- What demand 3 speaks of.
 --   storesOf P b           the stores of the parts 1 to P, as a split leaves them in a lent table
 --   afterSplit P b         the world then: these stores, and no message given
---   marksGiven cs w p      the marks that the calls cs started the part p with, from 1; none where they did not start it
+--   marksGiven os cs w p   the marks that the calls cs started the part p with, from 1; 0 for each master where they did not start it
 --   serialMarks os cs w    these marks put together: what the serial step is given
+--   storeOf cs w p         the store of the part p, from 0, after the calls
 --   alldoneb w             all parts are done
 --   resultIn x             the number that a done part ended with: 0, 8 or 9
 use mathlib.Core.Bool.{Bool}
@@ -10,10 +11,11 @@ use mathlib.Core.Option.{Option, none, some, Option·elim}
 use mathlib.Core.List.{List, [], map}
 use Prim.Native.Nat.{ℕ, pred}
 use lib.Dec.{eqb}
+use lib.ListN.{length, getD, replicate}
 use Rattle.base.specs.Lists.{allb}
 use Rattle.base.specs.Range.{range}
-use Rattle.parts.specs.Starts.{putTogether}
-use Rattle.exchange.specs.Calls.{Call, World, startedWith}
+use Rattle.parts.specs.Starts.{mastersOn, putTogether}
+use Rattle.exchange.specs.Calls.{Call, World, play, startedWith}
 use Rattle.store.specs.Fields.{field, STAGE, RESULT}
 use Rattle.split.specs.Stored.{storeAt}
 use Rattle.outcome.specs.Program.{act}
@@ -32,13 +34,16 @@ storesOf P b = map (storeAt b) (range 0 P)
 abbrev pub afterSplit : ℕ → List ℕ → Stores
 afterSplit P b = record { stores = storesOf P b; given = [] }
 
-unfoldable pub marksGiven : Calls → Stores → ℕ → List ℕ
-unfolding startedWith act
-marksGiven cs w p = Option·elim (startedWith act cs w (pred p)) [] (λ ms. ms)
+unfoldable pub marksGiven : List ℕ → Calls → Stores → ℕ → List ℕ
+unfolding startedWith act mastersOn
+marksGiven os cs w p = Option·elim (startedWith act cs w (pred p)) (replicate (length (mastersOn os p)) 0) (λ ms. ms)
 
 unfoldable pub serialMarks : List ℕ → Calls → Stores → List ℕ
 unfolding putTogether marksGiven
-serialMarks os cs w = putTogether os (marksGiven cs w)
+serialMarks os cs w = putTogether os (marksGiven os cs w)
+
+abbrev pub storeOf : Calls → Stores → ℕ → List ℕ
+storeOf cs w p = getD (play act cs w .stores) p []
 
 unfoldable pub alldoneb : Stores → Bool
 unfolding allb
