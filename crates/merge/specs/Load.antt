@@ -2,7 +2,7 @@
 --   masteredb es l             some master among the entries es has the path l
 --   MasterKeys es xs ys st n   the n keys of the table are those of the masters of es, with their statuses beside them
 --   Begun ..                   the table has room for 4,096 keys, and n of them are in use
---   Load ds ..                 what putting the masters of ds behind a table of n keys leaves: r keys, or r is 4,097 where they are too many
+--   Load ds ..                 what putting the masters of ds behind n keys leaves: r keys, or r is 4,097 where they are too many
 -- Laws: loaded-none, load-start, load-ghost, load-full, load-master (one entry), load-more (entries before entries).
 use mathlib.Core.Path.{_≡_, refl, sym, _∙_, ap, subst}
 use mathlib.Core.Bool.{Bool, true, false, not}

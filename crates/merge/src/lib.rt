@@ -31,7 +31,8 @@ ghost use Rattle.held.specs.Key.{Key};
 ghost use Rattle.merge.specs.Merge.{storeIn, storesIn, alikeb, everyb, mergeTable, mergeAnswer, mergedOf};
 ghost use Rattle.merge.specs.Load.{Begun, Load};
 ghost use Rattle.merge.specs.Sweep.{Seeded, Pushed};
-ghost use Rattle.merge.specs.Steps.{KeyRow, CellFound, Built, Assembled, OwnedAt, Gathered, HandedOut, FewEntries, storesBy, entriesBy};
+ghost use Rattle.merge.specs.Steps.{KeyRow, CellFound, Built, Assembled, OwnedAt, Gathered, HandedOut, FewEntries};
+ghost use Rattle.merge.specs.Steps.{storesBy, entriesBy};
 
 pub enum Merged {
     Cells(usize),

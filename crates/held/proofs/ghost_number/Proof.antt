@@ -7,15 +7,12 @@ use Rattle.held.proofs.ghost_number.Reads as reads
 use Rattle.held.proofs.ghost_number.Lts as lts
 use Rattle.held.proofs.is_ghost.Reads as is-ghost-reads
 
--- src/lib.rt:121:8
 is-ghost-requires : tie.Need-is-ghost-requires
 is-ghost-requires c κs = search needs
 
--- src/lib.rt:117:1
 returns : tie.Need-returns
 returns c = one-true _ (sym (c .before .is-ghost .ensures) ∙ c .if1 .taken)
 
--- src/lib.rt:117:1
 returns-2 : tie.Need-returns-2
 returns-2 c = one-false _ (sym (c .before .is-ghost .ensures) ∙ c .if1 .left)
 

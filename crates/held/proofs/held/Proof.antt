@@ -11,38 +11,31 @@ use Rattle.held.proofs.held.Lts as lts
 use Rattle.held.proofs.write_rows.Reads as write-rows-reads
 use Rattle.mail.proofs.header_fits.Reads as header-fits-reads
 
--- src/lib.rt:167:9
 returns : tie.Need-returns
 returns c = let s = held-short (c .before .before .before .args .store .now) (c .before .before .before .args .rows .now) (omega arith) in
     (s .answer, s .after)
 
--- src/lib.rt:170:9
 returns-2 : tie.Need-returns-2
 returns-2 c = let s = held-narrow (c .before .before .before .before .args .store .now)
     (c .before .before .before .before .args .rows .now) (omega arith) (omega arith) in (s .answer, s .after)
 
--- src/lib.rt:172:9
 header-fits-requires : tie.Need-header-fits-requires
 header-fits-requires c κs = search needs
 
--- src/lib.rt:173:9
 returns-3 : tie.Need-returns-3
 returns-3 c = let s = held-header (c .before .before .before .before .before .before .args .store .now)
     (c .before .before .before .before .before .before .args .rows .now) (omega arith) (omega arith)
     (sym (c .before .header-fits .ensures) ∙ not-true _ (c .if3 .taken)) in (s .answer, s .after)
 
--- src/lib.rt:175:8
 shared-slice-read-if4 : tie.Need-shared-slice-read-if4
 shared-slice-read-if4 c = search needs
 
--- src/lib.rt:176:9
 returns-4 : tie.Need-returns-4
 returns-4 c = let s = held-early (c .before .before .before .before .before .before .before .before .args .store .now)
     (c .before .before .before .before .before .before .before .before .args .rows .now) (omega arith) (omega arith)
     (sym (c .before .before .before .header-fits .ensures) ∙ not-false _ (c .before .before .if3 .left)) (c .if4 .taken) in
     (s .answer, s .after)
 
--- src/lib.rt:178:18
 write-rows-requires : tie.Need-write-rows-requires
 write-rows-requires c κs = (
   omega arith,
@@ -51,11 +44,9 @@ write-rows-requires c κs = (
   omega arith,
 )
 
--- src/lib.rt:162:1
 same-length : tie.Need-same-length
 same-length c = search needs
 
--- src/lib.rt:162:1
 returns-5 : tie.Need-returns-5
 returns-5 c = held-done (c .before .before .before .before .before .before .before .before .before .before .before .before .args .store
     .now) (c .before .before .before .before .before .before .before .before .before .before .before .before .args .rows .now)

@@ -6,19 +6,15 @@ use Rattle.held.proofs.is_ghost.Tie as tie
 use Rattle.held.proofs.is_ghost.Reads as reads
 use Rattle.held.proofs.is_ghost.Lts as lts
 
--- src/lib.rt:113:11
 add-result : tie.Need-add-result
 add-result c = search needs
 
--- src/lib.rt:113:5
 mul-result : tie.Need-mul-result
 mul-result c = search needs
 
--- src/lib.rt:113:5
 shared-slice-read-result : tie.Need-shared-slice-read-result
 shared-slice-read-result c = search needs
 
--- src/lib.rt:109:1
 returns : tie.Need-returns
 unfolding entryIn
 returns c = refl

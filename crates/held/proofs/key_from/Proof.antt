@@ -11,39 +11,30 @@ use Rattle.held.proofs.key_from.Lts as lts
 use Rattle.held.proofs.level_of.Reads as level-of-reads
 use Rattle.held.proofs.power.Reads as power-reads
 
--- src/lib.rt:87:9
 level-of-requires : tie.Need-level-of-requires
 level-of-requires c κs = search needs
 
--- src/lib.rt:88:9
 power-requires : tie.Need-power-requires
 power-requires c κs = search needs
 
--- src/lib.rt:89:32
 mul-all : tie.Need-mul-all
 mul-all c = search needs
 
--- src/lib.rt:89:15
 add-all : tie.Need-add-all
 add-all c = search needs
 
--- src/lib.rt:91:16
 mul-t7 : tie.Need-mul-t7
 mul-t7 c = search needs
 
--- src/lib.rt:91:16
 add-t8 : tie.Need-add-t8
 add-t8 c = search needs
 
--- src/lib.rt:91:15
 cast-t10 : tie.Need-cast-t10
 cast-t10 c = search needs
 
--- src/lib.rt:92:18
 rem-t11 : tie.Need-rem-t11
 rem-t11 c = search needs
 
--- src/lib.rt:92:17
 cast-t12 : tie.Need-cast-t12
 cast-t12 c = omega (
   arith,
@@ -51,7 +42,6 @@ cast-t12 c = omega (
       {m = c .power .result} (c .power .ensures .2),
 )
 
--- src/lib.rt:83:1
 returns : tie.Need-returns
 returns c = key-place _ _ _ _ _ (ap (λ (l : ℕ). 256 * l + c .before .before .args .head % 256) (c .before .level-of .ensures .0))
     (ap (λ (l : ℕ). (c .before .before .args .digits % 32768 + 32768 * (c .before .before .args .more % 32768)) % l)

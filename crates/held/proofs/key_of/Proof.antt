@@ -8,55 +8,42 @@ use Rattle.held.proofs.key_of.Reads as reads
 use Rattle.held.proofs.key_of.Lts as lts
 use Rattle.held.proofs.key_from.Reads as key-from-reads
 
--- src/lib.rt:102:15
 add-key-from : tie.Need-add-key-from
 add-key-from c = search needs
 
--- src/lib.rt:102:9
 mul-key-from : tie.Need-mul-key-from
 mul-key-from c = search needs
 
--- src/lib.rt:102:9
 shared-slice-read-key-from : tie.Need-shared-slice-read-key-from
 shared-slice-read-key-from c = search needs
 
--- src/lib.rt:102:9
 cast-key-from : tie.Need-cast-key-from
 cast-key-from c = omega (arith, c .shared-slice-known2 .given (210104 + c .before .before .args .j))
 
--- src/lib.rt:103:15
 add-key-from-2 : tie.Need-add-key-from-2
 add-key-from-2 c = search needs
 
--- src/lib.rt:103:9
 mul-key-from-2 : tie.Need-mul-key-from-2
 mul-key-from-2 c = search needs
 
--- src/lib.rt:103:9
 shared-slice-read-key-from-2 : tie.Need-shared-slice-read-key-from-2
 shared-slice-read-key-from-2 c = search needs
 
--- src/lib.rt:103:9
 cast-key-from-2 : tie.Need-cast-key-from-2
 cast-key-from-2 c = omega (arith, c .shared-slice-known3 .given (214200 + c .before .before .before .args .j))
 
--- src/lib.rt:104:15
 add-key-from-3 : tie.Need-add-key-from-3
 add-key-from-3 c = search needs
 
--- src/lib.rt:104:9
 mul-key-from-3 : tie.Need-mul-key-from-3
 mul-key-from-3 c = search needs
 
--- src/lib.rt:104:9
 shared-slice-read-key-from-3 : tie.Need-shared-slice-read-key-from-3
 shared-slice-read-key-from-3 c = search needs
 
--- src/lib.rt:104:9
 cast-key-from-3 : tie.Need-cast-key-from-3
 cast-key-from-3 c = omega (arith, c .shared-slice-known4 .given (218296 + c .before .before .before .before .args .j))
 
--- src/lib.rt:101:5
 key-from-requires : tie.Need-key-from-requires
 key-from-requires c κs = (
   omega (arith, c .shared-slice-known4 .given (210104 + c .before .before .before .before .args .j)),
@@ -66,7 +53,6 @@ key-from-requires c κs = (
       (arith, c .shared-slice-known4 .given (218296 + c .before .before .before .before .args .j)),
 )
 
--- src/lib.rt:97:1
 returns : tie.Need-returns
 unfolding entryIn
 returns c = c .key-from .ensures

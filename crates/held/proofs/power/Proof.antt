@@ -5,15 +5,12 @@ use Rattle.held.proofs.power.Tie as tie
 use Rattle.held.proofs.power.Reads as reads
 use Rattle.held.proofs.power.Lts as lts
 
--- src/lib.rt:71:11
 mul-result : tie.Need-mul-result
 mul-result c = search needs
 
--- src/lib.rt:71:5
 shl-result : tie.Need-shl-result
 shl-result c = search needs
 
--- src/lib.rt:67:1
 returns : tie.Need-returns
 returns c = power-is _ (c .pre)
 

@@ -9,59 +9,46 @@ use Rattle.held.proofs.stage.Reads as reads
 use Rattle.held.proofs.stage.Lts as lts
 use Rattle.mail.proofs.header_fits.Reads as header-fits-reads
 
--- src/lib.rt:49:9
 returns : tie.Need-returns
 returns c = stage-short _ (omega arith)
 
--- src/lib.rt:51:9
 header-fits-requires : tie.Need-header-fits-requires
 header-fits-requires c κs = search needs
 
--- src/lib.rt:52:9
 returns-2 : tie.Need-returns-2
 returns-2 c = stage-header _ (omega arith) (sym (c .before .header-fits .ensures) ∙ not-true _ (c .if2 .taken))
 
--- src/lib.rt:54:8
 shared-slice-read-if3 : tie.Need-shared-slice-read-if3
 shared-slice-read-if3 c = search needs
 
--- src/lib.rt:55:9
 returns-3 : tie.Need-returns-3
 returns-3 c = stage-early _ (omega arith) (sym (c .before .before .before .header-fits .ensures) ∙ not-false _
     (c .before .before .if2 .left)) (c .if3 .taken)
 
--- src/lib.rt:57:8
 shared-slice-read-if4 : tie.Need-shared-slice-read-if4
 shared-slice-read-if4 c = search needs
 
--- src/lib.rt:58:34
 shared-slice-read-t9 : tie.Need-shared-slice-read-t9
 shared-slice-read-t9 c = search needs
 
--- src/lib.rt:58:34
 cast-t10 : tie.Need-cast-t10
 cast-t10 c = omega (arith, c .shared-slice-known4 .given 7)
 
--- src/lib.rt:58:9
 returns-4 : tie.Need-returns-4
 returns-4 c = stage-running _ (omega arith) (sym (c .before .before .before .before .before .before .header-fits .ensures) ∙ not-false _
     (c .before .before .before .before .before .if2 .left)) (c .before .before .before .if3 .left) (c .before .if4 .taken)
 
--- src/lib.rt:60:8
 shared-slice-read-if5 : tie.Need-shared-slice-read-if5
 shared-slice-read-if5 c = search needs
 
--- src/lib.rt:61:9
 returns-5 : tie.Need-returns-5
 returns-5 c = stage-done _ (omega arith) (sym (c .before .before .before .before .before .before .before .header-fits .ensures) ∙
     not-false _ (c .before .before .before .before .before .before .if2 .left)) (c .before .before .before .before .if3 .left)
     (c .before .before .if4 .left) (c .if5 .taken)
 
--- src/lib.rt:63:21
 shared-slice-read-t6 : tie.Need-shared-slice-read-t6
 shared-slice-read-t6 c = search needs
 
--- src/lib.rt:63:21
 cast-t13 : tie.Need-cast-t13
 cast-t13 c = omega (
   arith,
@@ -70,7 +57,6 @@ cast-t13 c = omega (
       (c .before .before .before .before .before .before .before .if2 .left)),
 )
 
--- src/lib.rt:45:1
 returns-6 : tie.Need-returns-6
 returns-6 c = stage-ended _ (omega arith) (sym (c .before .before .before .before .before .before .before .before .header-fits .ensures) ∙
     not-false _ (c .before .before .before .before .before .before .before .if2 .left))

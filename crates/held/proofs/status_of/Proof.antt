@@ -7,23 +7,18 @@ use Rattle.held.proofs.status_of.Tie as tie
 use Rattle.held.proofs.status_of.Reads as reads
 use Rattle.held.proofs.status_of.Lts as lts
 
--- src/lib.rt:129:12
 add-result : tie.Need-add-result
 add-result c = search needs
 
--- src/lib.rt:129:6
 mul-result : tie.Need-mul-result
 mul-result c = search needs
 
--- src/lib.rt:129:6
 shared-slice-read-result : tie.Need-shared-slice-read-result
 shared-slice-read-result c = search needs
 
--- src/lib.rt:129:5
 cast-result : tie.Need-cast-result
 cast-result c = search needs
 
--- src/lib.rt:125:1
 returns : tie.Need-returns
 unfolding entryIn
 returns c = (refl, omega arith)

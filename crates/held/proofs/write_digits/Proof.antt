@@ -20,35 +20,27 @@ Inv-loop rows₀ at digits rest₀ i₀ rows rest i = (i ≤ 10) × (length rows
 abbrev μ-loop : tie.MeasureT-loop
 μ-loop rows₀ at digits rest₀ i₀ rows rest i = 10 - i
 
--- src/lib.rt:139:5
 loop-holds : tie.Need-loop-holds Inv-loop μ-loop
 loop-holds c = (omega arith, refl, digits-all _ _ _)
 
--- src/lib.rt:140:24
 cast-rows : tie.Need-cast-rows Inv-loop μ-loop
 cast-rows c = search needs
 
--- src/lib.rt:140:14
 add-rows : tie.Need-add-rows Inv-loop μ-loop
 add-rows c = search needs
 
--- src/lib.rt:140:9
 mul-rows : tie.Need-mul-rows Inv-loop μ-loop
 mul-rows c = search needs
 
--- src/lib.rt:140:9
 slice-write-rows : tie.Need-slice-write-rows Inv-loop μ-loop
 slice-write-rows c = search needs
 
--- src/lib.rt:142:9
 add-i : tie.Need-add-i Inv-loop μ-loop
 add-i c = search needs
 
--- src/lib.rt:139:5
 loop-less : tie.Need-loop-less Inv-loop μ-loop
 loop-less c = search needs
 
--- src/lib.rt:139:5
 loop-again : tie.Need-loop-again Inv-loop μ-loop
 loop-again c = (
   omega arith,
@@ -57,11 +49,9 @@ loop-again c = (
       (digit-more _ _ _ _ _ _ (c .loop-test .taken) (c .before .loop .inv .2)),
 )
 
--- src/lib.rt:133:1
 same-length : tie.Need-same-length Inv-loop μ-loop
 same-length c = c .before .loop .inv .1
 
--- src/lib.rt:133:1
 returns : tie.Need-returns Inv-loop μ-loop
 returns c = digits-out _ _ _ _ _ _ (omega arith) (c .before .loop .inv .2)
 

@@ -13,91 +13,69 @@ use Rattle.held.proofs.key_of.Reads as key-of-reads
 use Rattle.held.proofs.status_of.Reads as status-of-reads
 use Rattle.held.proofs.write_digits.Reads as write-digits-reads
 
--- src/lib.rt:151:14
 mul-at : tie.Need-mul-at
 mul-at c = search needs
 
--- src/lib.rt:152:9
 key-of-requires : tie.Need-key-of-requires
 key-of-requires c κs = search needs
 
--- src/lib.rt:153:16
 ghost-number-requires : tie.Need-ghost-number-requires
 ghost-number-requires c κs = search needs
 
--- src/lib.rt:153:5
 mul-rows : tie.Need-mul-rows
 mul-rows c = search needs
 
--- src/lib.rt:153:5
 slice-write-rows : tie.Need-slice-write-rows
 slice-write-rows c = search needs
 
--- src/lib.rt:154:20
 status-of-requires : tie.Need-status-of-requires
 status-of-requires c κs = search needs
 
--- src/lib.rt:154:20
 cast-rows : tie.Need-cast-rows
 cast-rows c = search needs
 
--- src/lib.rt:154:10
 add-rows : tie.Need-add-rows
 add-rows c = search needs
 
--- src/lib.rt:154:5
 mul-rows-2 : tie.Need-mul-rows-2
 mul-rows-2 c = search needs
 
--- src/lib.rt:154:5
 slice-write-rows-2 : tie.Need-slice-write-rows-2
 slice-write-rows-2 c = simp length-set (omega arith)
 
--- src/lib.rt:155:20
 cast-rows-2 : tie.Need-cast-rows-2
 cast-rows-2 c = search needs
 
--- src/lib.rt:155:10
 add-rows-2 : tie.Need-add-rows-2
 add-rows-2 c = search needs
 
--- src/lib.rt:155:5
 mul-rows-3 : tie.Need-mul-rows-3
 mul-rows-3 c = search needs
 
--- src/lib.rt:155:5
 slice-write-rows-3 : tie.Need-slice-write-rows-3
 slice-write-rows-3 c = simp length-set (omega arith)
 
--- src/lib.rt:156:20
 cast-rows-3 : tie.Need-cast-rows-3
 cast-rows-3 c = search needs
 
--- src/lib.rt:156:10
 add-rows-3 : tie.Need-add-rows-3
 add-rows-3 c = search needs
 
--- src/lib.rt:156:5
 mul-rows-4 : tie.Need-mul-rows-4
 mul-rows-4 c = search needs
 
--- src/lib.rt:156:5
 slice-write-rows-4 : tie.Need-slice-write-rows-4
 slice-write-rows-4 c = simp length-set (omega arith)
 
--- src/lib.rt:157:24
 add-write-digits : tie.Need-add-write-digits
 add-write-digits c = search needs
 
--- src/lib.rt:157:5
 write-digits-requires : tie.Need-write-digits-requires
 write-digits-requires c κs = simp length-set (omega arith)
 
--- src/lib.rt:147:1
 same-length : tie.Need-same-length
 same-length c = c .before .before .write-digits .kept .0 ∙ simp length-set
 
--- src/lib.rt:147:1
 returns : tie.Need-returns
 returns c = row-put _ _ _ (c .before .before .before .before .before .before .before .before .key-of .ensures) _ _ _ _ _ _ _
     (c .before .before .before .before .before .before .before .ghost-number .ensures)

@@ -19,31 +19,24 @@ Inv-loop store rows₀ count j₀ rows j = (count ≡ field store ENTRIES) × (l
 abbrev μ-loop : tie.MeasureT-loop
 μ-loop store rows₀ count j₀ rows j = count - j
 
--- src/lib.rt:186:17
 shared-slice-read-count : tie.Need-shared-slice-read-count Inv-loop μ-loop
 shared-slice-read-count c = search needs
 
--- src/lib.rt:186:17
 cast-count : tie.Need-cast-count Inv-loop μ-loop
 cast-count c = omega (arith, c .before .before .shared-slice-known .given 9)
 
--- src/lib.rt:188:5
 loop-holds : tie.Need-loop-holds Inv-loop μ-loop
 loop-holds c = (refl, refl, rows-all _ _)
 
--- src/lib.rt:189:9
 write-row-requires : tie.Need-write-row-requires Inv-loop μ-loop
 write-row-requires c κs = (omega arith, omega (arith, c .before .before .loop .inv .0), omega (arith, c .before .before .loop .inv .1))
 
--- src/lib.rt:190:9
 add-j : tie.Need-add-j Inv-loop μ-loop
 add-j c = search needs
 
--- src/lib.rt:188:5
 loop-less : tie.Need-loop-less Inv-loop μ-loop
 loop-less c = search needs
 
--- src/lib.rt:188:5
 loop-again : tie.Need-loop-again Inv-loop μ-loop
 loop-again c = (
   c .before .before .before .before .before .loop .inv .0,
@@ -54,11 +47,9 @@ loop-again c = (
       (c .before .before .write-row .ensures)),
 )
 
--- src/lib.rt:182:1
 same-length : tie.Need-same-length Inv-loop μ-loop
 same-length c = c .before .loop .inv .1
 
--- src/lib.rt:182:1
 returns : tie.Need-returns Inv-loop μ-loop
 returns c = (c .before .loop .inv .0, rows-out _ _ _ _ _ (omega (arith, c .before .loop .inv .0)) (c .before .loop .inv .2))
 

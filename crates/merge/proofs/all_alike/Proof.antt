@@ -23,15 +23,12 @@ Inv-loop stores parts j₀ j = (j ≤ parts) × (allb (alikeb stores) (drop j (s
 abbrev μ-loop : tie.MeasureT-loop
 μ-loop stores parts j₀ j = parts - j
 
--- src/lib.rt:137:5
 loop-holds : tie.Need-loop-holds Inv-loop μ-loop
 loop-holds c = (omega arith, refl)
 
--- src/lib.rt:138:13
 is-alike-requires : tie.Need-is-alike-requires Inv-loop μ-loop
 is-alike-requires c κs = (omega arith, omega arith)
 
--- src/lib.rt:139:13
 returns : tie.Need-returns Inv-loop μ-loop
 returns c = all-stop (alikeb (c .before .before .before .before .before .args .stores .now)) []
     (storesBy (c .before .before .before .before .before .args .stores .now) (c .before .before .before .before .before .args .parts)) _ _
@@ -43,15 +40,12 @@ returns c = all-stop (alikeb (c .before .before .before .before .before .args .s
     (c .before .before .before .before .before .args .parts) _ (omega arith)) (sym (c .before .is-alike .ensures) ∙ not-true _
     (c .if1 .taken)) (c .before .before .before .loop .inv .1)
 
--- src/lib.rt:141:9
 add-j : tie.Need-add-j Inv-loop μ-loop
 add-j c = search needs
 
--- src/lib.rt:137:5
 loop-less : tie.Need-loop-less Inv-loop μ-loop
 loop-less c = search needs
 
--- src/lib.rt:137:5
 loop-again : tie.Need-loop-again Inv-loop μ-loop
 loop-again c = (
   omega arith,
@@ -66,7 +60,6 @@ loop-again c = (
       (c .if1 .left)) (c .before .before .before .loop .inv .1)),
 )
 
--- src/lib.rt:132:1
 returns-2 : tie.Need-returns-2 Inv-loop μ-loop
 returns-2 c = all-out (alikeb (c .before .before .before .args .stores .now)) []
     (storesBy (c .before .before .before .args .stores .now) (c .before .before .before .args .parts)) (c .before .loop .j) _

@@ -12,15 +12,12 @@ use Rattle.merge.proofs.build.Reads as build-reads
 use Rattle.merge.proofs.load_all.Reads as load-all-reads
 use Rattle.pairs.proofs.clear.Reads as clear-reads
 
--- src/lib.rt:388:18
 slice-aggregate-clear : tie.Need-slice-aggregate-clear
 slice-aggregate-clear c = search needs
 
--- src/lib.rt:388:5
 clear-requires : tie.Need-clear-requires
 clear-requires c κs = search needs
 
--- src/lib.rt:389:9
 load-all-requires : tie.Need-load-all-requires
 load-all-requires c κs = (
   (
@@ -34,11 +31,9 @@ load-all-requires c κs = (
   ),
 )
 
--- src/lib.rt:399:9
 returns : tie.Need-returns
 returns c = assembled-many _ _ _ _ _ _ _ _ _ _ _ _ (c .before .load-all .ensures) (c .if1 .taken) _
 
--- src/lib.rt:403:9
 build-requires : tie.Need-build-requires
 build-requires c κs = (
   c .before .before .before .before .before .before .before .before .before .load-all .ensures .begun
@@ -53,19 +48,16 @@ build-requires c κs = (
   ),
 )
 
--- src/lib.rt:416:9
 returns-2 : tie.Need-returns-2
 returns-2 c = assembled-none _ _ _ _ _ _ _ _ _ _ _ _ (c .before .before .before .before .before .before .before .before .before .before
     .before .load-all .ensures) (c .before .before .before .before .before .before .before .before .before .before .if1 .left) _ _
     (c .before .build .ensures) (c .if2 .taken)
 
--- src/lib.rt:419:9
 returns-3 : tie.Need-returns-3
 returns-3 c = assembled-other _ _ _ _ _ _ _ _ _ _ _ _ (c .before .before .before .before .before .before .before .before .before .before
     .before .before .load-all .ensures) (c .before .before .before .before .before .before .before .before .before .before .before .if1
     .left) _ _ (c .before .before .build .ensures) (c .before .if2 .left) (c .if3 .taken)
 
--- src/lib.rt:378:1
 returns-4 : tie.Need-returns-4
 returns-4 c = assembled-all _ _ _ _ _ _ _ _ _ _ _ _ (c .before .before .before .before .before .before .before .before .before .before
     .before .before .load-all .ensures) (c .before .before .before .before .before .before .before .before .before .before .before .if1

@@ -17,29 +17,24 @@ Inv-loop xs ys heads links sts n px₀ py₀ st₀ m c₀ end₀ px py st c end 
 abbrev μ-loop : tie.MeasureT-loop
 μ-loop xs ys heads links sts n px₀ py₀ st₀ m c₀ end₀ px py st c end = 4096 - c
 
--- src/lib.rt:363:5
 seed-requires : tie.Need-seed-requires Inv-loop μ-loop
 seed-requires c κs = (c .before .before .pre .1 .3, c .before .before .pre .1 .0, c .before .before .pre .1 .1)
 
--- src/lib.rt:366:5
 loop-holds : tie.Need-loop-holds Inv-loop μ-loop
 loop-holds c = going-start _ _ _ _ _ (c .before .before .before .pre .1 .3) _ _ _
     (c .seed .kept .0 ∙ c .before .before .before .pre .1 .0) (c .seed .kept .1 .0 ∙ c .before .before .before .pre .1 .1)
     (c .before .before .before .pre .1 .2) (c .seed .ensures)
 
--- src/lib.rt:367:13
 settle-requires : tie.Need-settle-requires Inv-loop μ-loop
 settle-requires c κs = (
   c .before .before .before .before .before .before .before .before .pre .0,
   (c .before .before .before .before .loop .inv .0, c .before .before .before .loop-test .taken),
 )
 
--- src/lib.rt:369:13
 returns : tie.Need-returns Inv-loop μ-loop
 returns c = going-failed _ _ _ _ _ _ _ _ _ _ _ _ _ _ _ (c .before .before .before .before .before .before .loop .inv)
     (c .before .settle .ensures) (c .if1 .taken)
 
--- src/lib.rt:372:9
 add-c : tie.Need-add-c Inv-loop μ-loop
 add-c c = omega (
   arith,
@@ -47,7 +42,6 @@ add-c c = omega (
   c .before .before .before .before .before .loop-test .taken,
 )
 
--- src/lib.rt:366:5
 loop-less : tie.Need-loop-less Inv-loop μ-loop
 loop-less c = omega (
   arith,
@@ -55,12 +49,10 @@ loop-less c = omega (
   c .before .before .before .before .before .loop-test .taken,
 )
 
--- src/lib.rt:366:5
 loop-again : tie.Need-loop-again Inv-loop μ-loop
 loop-again c = rw add-one (going-on _ _ _ _ _ _ _ _ _ _ _ _ _ _ (c .before .before .before .before .before .before .loop .inv)
     (c .before .before .before .before .before .loop-test .taken) (c .before .settle .ensures) (c .if1 .left))
 
--- src/lib.rt:347:1
 returns-2 : tie.Need-returns-2 Inv-loop μ-loop
 returns-2 c = going-out _ _ _ _ _ _ _ _ _ _ (c .before .loop .inv) (omega arith)
 

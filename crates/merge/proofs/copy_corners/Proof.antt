@@ -8,119 +8,90 @@ use Rattle.merge.proofs.copy_corners.Tie as tie
 use Rattle.merge.proofs.copy_corners.Reads as reads
 use Rattle.merge.proofs.copy_corners.Lts as lts
 
--- src/lib.rt:197:16
 mul-from : tie.Need-mul-from
 mul-from c = search needs
 
--- src/lib.rt:197:37
 mul-from-2 : tie.Need-mul-from-2
 mul-from-2 c = search needs
 
--- src/lib.rt:197:28
 add-from : tie.Need-add-from
 add-from c = search needs
 
--- src/lib.rt:197:16
 add-from-2 : tie.Need-add-from-2
 add-from-2 c = search needs
 
--- src/lib.rt:198:14
 mul-at : tie.Need-mul-at
 mul-at c = search needs
 
--- src/lib.rt:199:16
 mul-mesh : tie.Need-mul-mesh
 mul-mesh c = search needs
 
--- src/lib.rt:199:16
 shared-slice-read-mesh : tie.Need-shared-slice-read-mesh
 shared-slice-read-mesh c = search needs
 
--- src/lib.rt:199:5
 mul-mesh-2 : tie.Need-mul-mesh-2
 mul-mesh-2 c = search needs
 
--- src/lib.rt:199:5
 slice-write-mesh : tie.Need-slice-write-mesh
 slice-write-mesh c = search needs
 
--- src/lib.rt:200:27
 add-mesh : tie.Need-add-mesh
 add-mesh c = search needs
 
--- src/lib.rt:200:20
 mul-mesh-3 : tie.Need-mul-mesh-3
 mul-mesh-3 c = search needs
 
--- src/lib.rt:200:20
 shared-slice-read-mesh-2 : tie.Need-shared-slice-read-mesh-2
 shared-slice-read-mesh-2 c = search needs
 
--- src/lib.rt:200:10
 add-mesh-2 : tie.Need-add-mesh-2
 add-mesh-2 c = search needs
 
--- src/lib.rt:200:5
 mul-mesh-4 : tie.Need-mul-mesh-4
 mul-mesh-4 c = search needs
 
--- src/lib.rt:200:5
 slice-write-mesh-2 : tie.Need-slice-write-mesh-2
 slice-write-mesh-2 c = simp length-set (omega arith)
 
--- src/lib.rt:201:27
 add-mesh-3 : tie.Need-add-mesh-3
 add-mesh-3 c = search needs
 
--- src/lib.rt:201:20
 mul-mesh-5 : tie.Need-mul-mesh-5
 mul-mesh-5 c = search needs
 
--- src/lib.rt:201:20
 shared-slice-read-mesh-3 : tie.Need-shared-slice-read-mesh-3
 shared-slice-read-mesh-3 c = search needs
 
--- src/lib.rt:201:10
 add-mesh-4 : tie.Need-add-mesh-4
 add-mesh-4 c = search needs
 
--- src/lib.rt:201:5
 mul-mesh-6 : tie.Need-mul-mesh-6
 mul-mesh-6 c = search needs
 
--- src/lib.rt:201:5
 slice-write-mesh-3 : tie.Need-slice-write-mesh-3
 slice-write-mesh-3 c = simp length-set (omega arith)
 
--- src/lib.rt:202:27
 add-mesh-5 : tie.Need-add-mesh-5
 add-mesh-5 c = search needs
 
--- src/lib.rt:202:20
 mul-mesh-7 : tie.Need-mul-mesh-7
 mul-mesh-7 c = search needs
 
--- src/lib.rt:202:20
 shared-slice-read-mesh-4 : tie.Need-shared-slice-read-mesh-4
 shared-slice-read-mesh-4 c = search needs
 
--- src/lib.rt:202:10
 add-mesh-6 : tie.Need-add-mesh-6
 add-mesh-6 c = search needs
 
--- src/lib.rt:202:5
 mul-mesh-8 : tie.Need-mul-mesh-8
 mul-mesh-8 c = search needs
 
--- src/lib.rt:202:5
 slice-write-mesh-4 : tie.Need-slice-write-mesh-4
 slice-write-mesh-4 c = simp length-set (omega arith)
 
--- src/lib.rt:193:1
 same-length : tie.Need-same-length
 same-length c = simp length-set
 
--- src/lib.rt:193:1
 returns : tie.Need-returns
 returns c = corners-put (c .before .before .before .before .args .stores .now) (c .before .before .before .before .args .mesh .now)
     (c .before .before .before .before .args .j) (c .before .before .before .before .args .i) (omega arith) (omega arith) (omega arith)

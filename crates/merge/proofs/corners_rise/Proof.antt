@@ -8,72 +8,56 @@ use Rattle.merge.proofs.corners_rise.Tie as tie
 use Rattle.merge.proofs.corners_rise.Reads as reads
 use Rattle.merge.proofs.corners_rise.Lts as lts
 
--- src/lib.rt:210:14
 mul-at : tie.Need-mul-at
 mul-at c = search needs
 
--- src/lib.rt:211:13
 mul-a : tie.Need-mul-a
 mul-a c = search needs
 
--- src/lib.rt:211:13
 shared-slice-read-a : tie.Need-shared-slice-read-a
 shared-slice-read-a c = search needs
 
--- src/lib.rt:212:18
 add-b : tie.Need-add-b
 add-b c = search needs
 
--- src/lib.rt:212:13
 mul-b : tie.Need-mul-b
 mul-b c = search needs
 
--- src/lib.rt:212:13
 shared-slice-read-b : tie.Need-shared-slice-read-b
 shared-slice-read-b c = search needs
 
--- src/lib.rt:213:18
 add-c : tie.Need-add-c
 add-c c = search needs
 
--- src/lib.rt:213:13
 mul-c : tie.Need-mul-c
 mul-c c = search needs
 
--- src/lib.rt:213:13
 shared-slice-read-c : tie.Need-shared-slice-read-c
 shared-slice-read-c c = search needs
 
--- src/lib.rt:214:18
 add-d : tie.Need-add-d
 add-d c = search needs
 
--- src/lib.rt:214:13
 mul-d : tie.Need-mul-d
 mul-d c = search needs
 
--- src/lib.rt:214:13
 shared-slice-read-d : tie.Need-shared-slice-read-d
 shared-slice-read-d c = search needs
 
--- src/lib.rt:216:9
 returns : tie.Need-returns
 returns c = rise-ab _ (c .before .before .before .before .before .args .i) (c .before .before .before .before .before .args .mesh .now)
     (omega arith) (c .before .before .before .before .before .pre .1) (omega arith)
 
--- src/lib.rt:219:9
 returns-2 : tie.Need-returns-2
 returns-2 c = rise-bc _ (c .before .before .before .before .before .before .args .i)
     (c .before .before .before .before .before .before .args .mesh .now) (omega arith)
     (c .before .before .before .before .before .before .pre .1) (omega arith) (omega arith)
 
--- src/lib.rt:222:9
 returns-3 : tie.Need-returns-3
 returns-3 c = rise-cd _ (c .before .before .before .before .before .before .before .args .i)
     (c .before .before .before .before .before .before .before .args .mesh .now) (omega arith)
     (c .before .before .before .before .before .before .before .pre .1) (omega arith) (omega arith) (omega arith)
 
--- src/lib.rt:224:6
 cast-result : tie.Need-cast-result
 cast-result c = omega (
   arith,
@@ -81,7 +65,6 @@ cast-result c = omega (
       (4 * c .before .before .before .before .before .before .before .args .i + 3),
 )
 
--- src/lib.rt:206:1
 returns-4 : tie.Need-returns-4
 returns-4 c = rise-all _ (c .before .before .before .before .before .before .before .args .i)
     (c .before .before .before .before .before .before .before .args .mesh .now) (omega arith)

@@ -9,18 +9,15 @@ use Rattle.merge.proofs.finish.Lts as lts
 use Rattle.base.proofs.copy_bytes.Reads as copy-bytes-reads
 use Rattle.tables.proofs.examine.Reads as examine-reads
 
--- src/lib.rt:432:13
 mul-k : tie.Need-mul-k
 mul-k c = search needs
 
--- src/lib.rt:437:9
 slice-aggregate-examine : tie.Need-slice-aggregate-examine
 slice-aggregate-examine c = mesh-in (c .before .before .before .before .args .mesh .now) (c .before .before .before .before .args .m)
     (c .before .before .before .before .args .n) (c .before .before .before .before .args .st .now)
     (c .before .before .before .before .args .r) (omega (arith, c .before .before .cells)) (omega (arith, c .before .status))
     (c .before .before .before .before .pre .0 .1) (c .before .before .before .before .pre .0 .3)
 
--- src/lib.rt:438:9
 slice-aggregate-examine-2 : tie.Need-slice-aggregate-examine-2
 slice-aggregate-examine-2 c = table-in (c .before .before .before .before .before .args .mesh .now)
     (c .before .before .before .before .before .args .m) (c .before .before .before .before .before .args .n)
@@ -28,7 +25,6 @@ slice-aggregate-examine-2 c = table-in (c .before .before .before .before .befor
     (omega (arith, c .before .before .before .cells)) (omega (arith, c .before .before .status))
     (c .before .before .before .before .before .pre .0 .1) (c .before .before .before .before .before .pre .0 .3)
 
--- src/lib.rt:436:9
 examine-requires : tie.Need-examine-requires
 examine-requires c κs = mesh-fits (c .before .before .before .before .before .before .before .before .args .mesh .now)
     (c .before .before .before .before .before .before .before .before .args .m)
@@ -42,7 +38,6 @@ examine-requires c κs = mesh-fits (c .before .before .before .before .before .b
     (c .before .before .before .before .before .before .before .before .pre .0 .2)
     (c .before .before .before .before .before .before .before .before .pre .1)
 
--- src/lib.rt:445:9
 returns : tie.Need-returns
 returns c = finish-none (c .before .before .before .before .before .before .before .before .before .before .before .args .mesh .now)
     (c .before .before .before .before .before .before .before .before .before .before .before .args .m)
@@ -55,7 +50,6 @@ returns c = finish-none (c .before .before .before .before .before .before .befo
     (c .before .before .before .before .before .before .before .before .before .before .before .pre .0 .3) _ _ _ _ _ _ _ _
     (c .before .before .examine .ensures) (c .if1 .taken)
 
--- src/lib.rt:447:5
 copy-bytes-requires : tie.Need-copy-bytes-requires
 copy-bytes-requires c κs = (
   omega (
@@ -70,11 +64,9 @@ copy-bytes-requires c κs = (
   ),
 )
 
--- src/lib.rt:425:1
 same-length : tie.Need-same-length
 same-length c = search needs
 
--- src/lib.rt:425:1
 returns-2 : tie.Need-returns-2
 returns-2 c = finish-all (c .before .before .before .before .before .before .before .before .before .before .before .before .before
     .before .before .args .mesh .now) (c .before .before .before .before .before .before .before .before .before .before .before .before

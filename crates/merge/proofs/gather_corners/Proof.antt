@@ -19,27 +19,21 @@ Inv-loop stores parts n m mesh₀ i₀ mesh i = Gathering stores parts n m mesh 
 abbrev μ-loop : tie.MeasureT-loop
 μ-loop stores parts n m mesh₀ i₀ mesh i = m - i
 
--- src/lib.rt:233:5
 loop-holds : tie.Need-loop-holds Inv-loop μ-loop
 loop-holds c = gathering-start _ _ _ _ _ (c .before .before .pre .3)
 
--- src/lib.rt:234:13
 owner-at-requires : tie.Need-owner-at-requires Inv-loop μ-loop
 owner-at-requires c κs = (omega arith, omega arith, omega arith)
 
--- src/lib.rt:236:13
 same-length : tie.Need-same-length Inv-loop μ-loop
 same-length c = c .before .before .before .loop .inv .long ∙ sym (c .before .before .before .before .before .before .pre .3)
 
--- src/lib.rt:236:13
 returns : tie.Need-returns Inv-loop μ-loop
 returns c = gathering-none _ _ _ _ _ _ _ (c .before .before .loop-test .taken) (c .if1 .taken) (c .before .owner-at .ensures)
 
--- src/lib.rt:238:9
 copy-corners-requires : tie.Need-copy-corners-requires Inv-loop μ-loop
 copy-corners-requires c κs = (omega arith, omega arith, omega arith, c .before .before .before .before .loop .inv .long)
 
--- src/lib.rt:239:13
 corners-rise-requires : tie.Need-corners-rise-requires Inv-loop μ-loop
 corners-rise-requires c κs = (
   omega arith,
@@ -47,13 +41,11 @@ corners-rise-requires c κs = (
       c .before .before .before .before .before .before .before .before .loop .inv .long,
 )
 
--- src/lib.rt:240:13
 same-length-2 : tie.Need-same-length-2 Inv-loop μ-loop
 same-length-2 c = c .before .before .before .before .before .copy-corners .kept .1 .1 .1 .0 ∙
     c .before .before .before .before .before .before .before .before .before .before .loop .inv .long ∙ sym
     (c .before .before .before .before .before .before .before .before .before .before .before .before .before .pre .3)
 
--- src/lib.rt:240:13
 returns-2 : tie.Need-returns-2 Inv-loop μ-loop
 returns-2 c = gathering-low _ _ _ _ _ _ _ _ (c .before .before .before .before .before .before .before .before .before .before .loop .inv)
     (c .before .before .before .before .before .before .before .before .before .loop-test .taken) (omega arith) (omega arith)
@@ -61,15 +53,12 @@ returns-2 c = gathering-low _ _ _ _ _ _ _ _ (c .before .before .before .before .
     (c .before .before .before .before .before .copy-corners .ensures) (sym (c .before .corners-rise .ensures) ∙ not-true _
     (c .if2 .taken)) _
 
--- src/lib.rt:242:9
 add-i : tie.Need-add-i Inv-loop μ-loop
 add-i c = search needs
 
--- src/lib.rt:233:5
 loop-less : tie.Need-loop-less Inv-loop μ-loop
 loop-less c = search needs
 
--- src/lib.rt:233:5
 loop-again : tie.Need-loop-again Inv-loop μ-loop
 loop-again c = rw add-one (gathering-on _ _ _ _ _ _ _ _ (c .before .before .before .before .before .before .before .before .before .before
     .loop .inv) (c .before .before .before .before .before .before .before .before .before .loop-test .taken) (omega arith) (omega arith)
@@ -77,11 +66,9 @@ loop-again c = rw add-one (gathering-on _ _ _ _ _ _ _ _ (c .before .before .befo
     (c .before .before .before .before .before .copy-corners .ensures) (sym (c .before .corners-rise .ensures) ∙ not-false _
     (c .if2 .left)))
 
--- src/lib.rt:228:1
 same-length-3 : tie.Need-same-length-3 Inv-loop μ-loop
 same-length-3 c = c .before .loop .inv .long ∙ sym (c .before .before .before .before .pre .3)
 
--- src/lib.rt:228:1
 returns-3 : tie.Need-returns-3 Inv-loop μ-loop
 returns-3 c = gathering-out _ _ _ _ _ _ (omega arith) (c .before .loop .inv)
 

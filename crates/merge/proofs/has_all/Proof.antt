@@ -17,32 +17,25 @@ Inv-loop stores parts i₀ i = (i ≤ parts) × Having stores parts i
 abbrev μ-loop : tie.MeasureT-loop
 μ-loop stores parts i₀ i = parts - i
 
--- src/lib.rt:167:5
 loop-holds : tie.Need-loop-holds Inv-loop μ-loop
 loop-holds c = (omega arith, having-start _ _)
 
--- src/lib.rt:168:37
 add-has-part : tie.Need-add-has-part Inv-loop μ-loop
 add-has-part c = search needs
 
--- src/lib.rt:168:13
 has-part-requires : tie.Need-has-part-requires Inv-loop μ-loop
 has-part-requires c κs = search needs
 
--- src/lib.rt:169:13
 returns : tie.Need-returns Inv-loop μ-loop
 returns c = having-stop _ _ _ (c .before .before .before .loop .inv .1) (omega arith)
     (sym (c .before .has-part .ensures) ∙ not-true _ (c .if1 .taken))
 
--- src/lib.rt:171:9
 add-i : tie.Need-add-i Inv-loop μ-loop
 add-i c = search needs
 
--- src/lib.rt:167:5
 loop-less : tie.Need-loop-less Inv-loop μ-loop
 loop-less c = search needs
 
--- src/lib.rt:167:5
 loop-again : tie.Need-loop-again Inv-loop μ-loop
 loop-again c = (
   omega arith,
@@ -50,7 +43,6 @@ loop-again c = (
       (sym (c .before .has-part .ensures) ∙ not-false _ (c .if1 .left))),
 )
 
--- src/lib.rt:162:1
 returns-2 : tie.Need-returns-2 Inv-loop μ-loop
 returns-2 c = having-out _ _ (c .before .loop .i) (c .before .loop .inv .1) (omega arith)
 

@@ -23,31 +23,24 @@ Inv-loop stores parts p j₀ j = (j ≤ parts) × (anyb (λ x. eqb (field x 1) p
 abbrev μ-loop : tie.MeasureT-loop
 μ-loop stores parts p j₀ j = parts - j
 
--- src/lib.rt:152:5
 loop-holds : tie.Need-loop-holds Inv-loop μ-loop
 loop-holds c = (omega arith, refl)
 
--- src/lib.rt:153:19
 mul-if1 : tie.Need-mul-if1 Inv-loop μ-loop
 mul-if1 c = search needs
 
--- src/lib.rt:153:19
 add-if1 : tie.Need-add-if1 Inv-loop μ-loop
 add-if1 c = search needs
 
--- src/lib.rt:153:12
 mul-if1-2 : tie.Need-mul-if1-2 Inv-loop μ-loop
 mul-if1-2 c = search needs
 
--- src/lib.rt:153:12
 shared-slice-read-if1 : tie.Need-shared-slice-read-if1 Inv-loop μ-loop
 shared-slice-read-if1 c = search needs
 
--- src/lib.rt:153:12
 cast-if1 : tie.Need-cast-if1 Inv-loop μ-loop
 cast-if1 c = omega (arith, c .shared-slice-known .given (226488 * c .before .before .loop .j + 1))
 
--- src/lib.rt:154:13
 returns : tie.Need-returns Inv-loop μ-loop
 returns c = any-stop (λ x. eqb (field x 1) (c .before .before .before .before .args .p)) []
     (storesBy (c .before .before .before .before .args .stores .now) (c .before .before .before .before .args .parts))
@@ -60,15 +53,12 @@ returns c = any-stop (λ x. eqb (field x 1) (c .before .before .before .before .
     (field-in (c .before .before .before .before .args .stores .now) (c .before .before .before .loop .j) 1 (omega arith) ∙
     c .if1 .taken)) (c .before .before .before .loop .inv .1)
 
--- src/lib.rt:156:9
 add-j : tie.Need-add-j Inv-loop μ-loop
 add-j c = search needs
 
--- src/lib.rt:152:5
 loop-less : tie.Need-loop-less Inv-loop μ-loop
 loop-less c = search needs
 
--- src/lib.rt:152:5
 loop-again : tie.Need-loop-again Inv-loop μ-loop
 loop-again c = (
   omega arith,
@@ -84,7 +74,6 @@ loop-again c = (
       (omega arith)) ∙ z))) (c .before .before .before .loop .inv .1)),
 )
 
--- src/lib.rt:147:1
 returns-2 : tie.Need-returns-2 Inv-loop μ-loop
 returns-2 c = any-out (λ x. eqb (field x 1) (c .before .before .args .p)) [] (storesBy (c .before .before .args .stores .now)
     (c .before .before .args .parts)) (c .before .loop .j) _ (omega (

@@ -13,75 +13,58 @@ use Rattle.merge.proofs.is_alike.Lts as lts
 use Rattle.mail.proofs.header_fits.Reads as header-fits-reads
 use Rattle.merge.proofs.store_at.Reads as store-at-reads
 
--- src/lib.rt:112:9
 store-at-requires : tie.Need-store-at-requires
 store-at-requires c κs = search needs
 
--- src/lib.rt:113:9
 header-fits-requires : tie.Need-header-fits-requires
 header-fits-requires c κs = search needs
 
--- src/lib.rt:114:9
 returns : tie.Need-returns
 returns c = rw (← c .before .before .store-at .ensures .0) (alike-no _ _ (λ a. not-both _ (is-true _ (a .header))
     (sym (c .before .header-fits .ensures) ∙ not-true _ (c .if1 .taken))))
 
--- src/lib.rt:116:8
 shared-slice-read-if2 : tie.Need-shared-slice-read-if2
 shared-slice-read-if2 c = search needs
 
--- src/lib.rt:117:9
 returns-2 : tie.Need-returns-2
 returns-2 c = rw (← c .before .before .before .before .store-at .ensures .0) (alike-no _ _ (λ a. c .if2 .taken (a .stage)))
 
--- src/lib.rt:119:8
 shared-slice-read-if3 : tie.Need-shared-slice-read-if3
 shared-slice-read-if3 c = search needs
 
--- src/lib.rt:119:24
 shared-slice-read-if3-2 : tie.Need-shared-slice-read-if3-2
 shared-slice-read-if3-2 c = search needs
 
--- src/lib.rt:120:9
 returns-3 : tie.Need-returns-3
 returns-3 c = rw (← c .before .before .before .before .before .before .before .store-at .ensures .0)
     (alike-no _ _ (λ a. c .if3 .taken (a .parts)))
 
--- src/lib.rt:122:8
 shared-slice-read-if4 : tie.Need-shared-slice-read-if4
 shared-slice-read-if4 c = search needs
 
--- src/lib.rt:122:26
 shared-slice-read-if4-2 : tie.Need-shared-slice-read-if4-2
 shared-slice-read-if4-2 c = search needs
 
--- src/lib.rt:123:9
 returns-4 : tie.Need-returns-4
 returns-4 c = rw (← c .before .before .before .before .before .before .before .before .before .before .store-at .ensures .0)
     (alike-no _ _ (λ a. c .if4 .taken (a .corners)))
 
--- src/lib.rt:125:8
 shared-slice-read-if5 : tie.Need-shared-slice-read-if5
 shared-slice-read-if5 c = search needs
 
--- src/lib.rt:125:25
 shared-slice-read-if5-2 : tie.Need-shared-slice-read-if5-2
 shared-slice-read-if5-2 c = search needs
 
--- src/lib.rt:126:9
 returns-5 : tie.Need-returns-5
 returns-5 c = rw (← c .before .before .before .before .before .before .before .before .before .before .before .before .before .store-at
     .ensures .0) (alike-no _ _ (λ a. c .if5 .taken (a .coarse)))
 
--- src/lib.rt:128:5
 shared-slice-read-result : tie.Need-shared-slice-read-result
 shared-slice-read-result c = search needs
 
--- src/lib.rt:128:22
 shared-slice-read-result-2 : tie.Need-shared-slice-read-result-2
 shared-slice-read-result-2 c = search needs
 
--- src/lib.rt:108:1
 returns-6 : tie.Need-returns-6
 returns-6 c = rw (← c .before .before .before .before .before .before .before .before .before .before .before .before .before .before
     .before .store-at .ensures .0) (alike-yes _ _ (sym (c .before .before .before .before .before .before .before .before .before .before

@@ -17,19 +17,15 @@ Inv-loop stores parts xs₀ ys₀ heads₀ links₀ sts₀ r₀ i₀ xs ys heads
 abbrev μ-loop : tie.MeasureT-loop
 μ-loop stores parts xs₀ ys₀ heads₀ links₀ sts₀ r₀ i₀ xs ys heads links sts r i = i
 
--- src/lib.rt:264:5
 loop-holds : tie.Need-loop-holds Inv-loop μ-loop
 loop-holds c = (omega arith, omega arith, storing-none _ _ _ _ _ _ (c .before .pre .1 .1) _ _)
 
--- src/lib.rt:265:9
 sub-i : tie.Need-sub-i Inv-loop μ-loop
 sub-i c = search needs
 
--- src/lib.rt:266:13
 store-at-requires : tie.Need-store-at-requires Inv-loop μ-loop
 store-at-requires c κs = (omega arith, omega arith)
 
--- src/lib.rt:267:9
 load-store-requires : tie.Need-load-store-requires Inv-loop μ-loop
 load-store-requires c κs = (
   (
@@ -46,7 +42,6 @@ load-store-requires c κs = (
       .loop .inv .2 .begun (c .before .before .before .before .before .before .before .loop .inv .1),
 )
 
--- src/lib.rt:269:13
 returns : tie.Need-returns Inv-loop μ-loop
 returns c = storing-full _ _ (c .before .before .before .before .before .before .before .before .before .before .before .args .heads .now)
     (c .before .before .before .before .before .before .before .before .before .before .before .args .links .now) _ _ _ _ _ _ _ _ _
@@ -62,11 +57,9 @@ returns c = storing-full _ _ (c .before .before .before .before .before .before 
     (c .before .before .before .before .before .before .before .before .before .loop .inv .1) _
     (c .before .before .before .before .before .before .before .store-at .ensures .0) (c .before .load-store .ensures))
 
--- src/lib.rt:264:5
 loop-less : tie.Need-loop-less Inv-loop μ-loop
 loop-less c = omega (arith, c .before .before .before .before .before .before .before .before .loop-test .taken)
 
--- src/lib.rt:264:5
 loop-again : tie.Need-loop-again Inv-loop μ-loop
 loop-again c = (
   omega (arith, c .before .before .before .before .before .before .before .before .before .loop .inv .0),
@@ -82,7 +75,6 @@ loop-again c = (
       (c .before .before .before .before .before .before .before .store-at .ensures .0) (c .before .load-store .ensures),
 )
 
--- src/lib.rt:248:1
 returns-2 : tie.Need-returns-2 Inv-loop μ-loop
 returns-2 c = storing-out _ _ (c .before .before .before .args .heads .now) (c .before .before .before .args .links .now) _ _ _ _ _ _ _ _
     _ (c .before .loop .i) _ (omega arith) (c .before .loop .inv .2)

@@ -12,24 +12,19 @@ use Rattle.held.proofs.key_of.Reads as key-of-reads
 use Rattle.held.proofs.status_of.Reads as status-of-reads
 use Rattle.pairs.proofs.add.Reads as add-reads
 
--- src/lib.rt:69:8
 is-ghost-requires : tie.Need-is-ghost-requires
 is-ghost-requires c κs = search needs
 
--- src/lib.rt:70:9
 returns : tie.Need-returns
 returns c = load-ghost _ _ _ _ _ _ (c .before .before .before .pre .1) _ (sym (c .before .is-ghost .ensures) ∙ c .if1 .taken)
 
--- src/lib.rt:73:9
 returns-2 : tie.Need-returns-2
 returns-2 c = load-full _ _ _ _ _ _ (c .before .before .before .before .pre .1) _
     (sym (c .before .before .is-ghost .ensures) ∙ c .before .if1 .left) (omega arith) _ _ _ _ _
 
--- src/lib.rt:75:9
 key-of-requires : tie.Need-key-of-requires
 key-of-requires c κs = search needs
 
--- src/lib.rt:76:5
 add-requires : tie.Need-add-requires
 add-requires c κs = (
   c .before .before .before .before .before .before .before .before .before .pre .1 .keys,
@@ -46,19 +41,15 @@ add-requires c κs = (
   },
 )
 
--- src/lib.rt:77:14
 status-of-requires : tie.Need-status-of-requires
 status-of-requires c κs = search needs
 
--- src/lib.rt:77:5
 element-write-sts : tie.Need-element-write-sts
 element-write-sts c = search needs
 
--- src/lib.rt:78:5
 add-result : tie.Need-add-result
 add-result c = search needs
 
--- src/lib.rt:55:1
 returns-3 : tie.Need-returns-3
 returns-3 c = load-master _ _ _ _ _ _ (c .before .before .before .before .before .before .before .before .before .before .before .pre .1)
     _ (sym (c .before .before .before .before .before .before .before .before .before .is-ghost .ensures) ∙

@@ -17,23 +17,18 @@ Inv-loop store xs₀ ys₀ heads₀ links₀ sts₀ n r₀ j₀ xs ys heads link
 abbrev μ-loop : tie.MeasureT-loop
 μ-loop store xs₀ ys₀ heads₀ links₀ sts₀ n r₀ j₀ xs ys heads links sts r j = j
 
--- src/lib.rt:96:17
 shared-slice-read-j : tie.Need-shared-slice-read-j Inv-loop μ-loop
 shared-slice-read-j c = search needs
 
--- src/lib.rt:96:17
 cast-j : tie.Need-cast-j Inv-loop μ-loop
 cast-j c = omega (arith, c .shared-slice-known2 .given 9)
 
--- src/lib.rt:97:5
 loop-holds : tie.Need-loop-holds Inv-loop μ-loop
 loop-holds c = (omega arith, c .before .before .pre .1 .few, loading-none _ _ _ _ _ _ (c .before .before .pre .1) _ _)
 
--- src/lib.rt:98:9
 sub-j : tie.Need-sub-j Inv-loop μ-loop
 sub-j c = search needs
 
--- src/lib.rt:99:9
 load-one-requires : tie.Need-load-one-requires Inv-loop μ-loop
 load-one-requires c κs = (
   (
@@ -49,7 +44,6 @@ load-one-requires c κs = (
       (c .before .before .before .before .before .before .loop .inv .1),
 )
 
--- src/lib.rt:101:13
 returns : tie.Need-returns Inv-loop μ-loop
 returns c = loading-full _ _ (c .before .before .before .before .before .before .before .before .before .before .before .args .heads .now)
     (c .before .before .before .before .before .before .before .before .before .before .before .args .links .now) _ _ _ _ _ _ _ _ _
@@ -64,11 +58,9 @@ returns c = loading-full _ _ (c .before .before .before .before .before .before 
     (c .before .before .before .before .before .before .before .before .loop .inv .2)
     (c .before .before .before .before .before .before .before .before .loop .inv .1) (c .before .load-one .ensures))
 
--- src/lib.rt:97:5
 loop-less : tie.Need-loop-less Inv-loop μ-loop
 loop-less c = omega (arith, c .before .before .before .before .before .before .before .loop-test .taken)
 
--- src/lib.rt:97:5
 loop-again : tie.Need-loop-again Inv-loop μ-loop
 loop-again c = (
   omega (arith, c .before .before .before .before .before .before .before .before .loop .inv .0),
@@ -84,7 +76,6 @@ loop-again c = (
       (c .before .before .before .before .before .before .before .before .loop .inv .1) (c .before .load-one .ensures),
 )
 
--- src/lib.rt:82:1
 returns-2 : tie.Need-returns-2 Inv-loop μ-loop
 returns-2 c = loading-out _ _ (c .before .before .before .before .args .heads .now) (c .before .before .before .before .args .links .now)
     _ _ _ _ _ _ _ _ _ (c .before .loop .j) _ refl (omega arith) (c .before .loop .inv .2)

@@ -18,35 +18,28 @@ use Rattle.merge.proofs.finish.Reads as finish-reads
 use Rattle.merge.proofs.gather_corners.Reads as gather-corners-reads
 use Rattle.merge.proofs.has_all.Reads as has-all-reads
 
--- src/lib.rt:459:23
 mul-if1 : tie.Need-mul-if1
 mul-if1 c = search needs
 
--- src/lib.rt:460:9
 returns : tie.Need-returns
 returns c = let s = merge-short (c .before .before .before .args .stores .now) (c .before .before .before .args .table .now) (omega arith)
     in (s .answer, s .after)
 
--- src/lib.rt:463:9
 returns-2 : tie.Need-returns-2
 returns-2 c = let s = merge-narrow (c .before .before .before .before .args .stores .now)
     (c .before .before .before .before .args .table .now) (omega arith) (omega arith) in (s .answer, s .after)
 
--- src/lib.rt:465:9
 header-fits-requires : tie.Need-header-fits-requires
 header-fits-requires c κs = search needs
 
--- src/lib.rt:466:9
 returns-3 : tie.Need-returns-3
 returns-3 c = let s = merge-header (c .before .before .before .before .before .before .args .stores .now)
     (c .before .before .before .before .before .before .args .table .now) (omega arith) (omega arith)
     (sym (c .before .header-fits .ensures) ∙ not-true _ (c .if3 .taken)) in (s .answer, s .after)
 
--- src/lib.rt:468:17
 shared-slice-read-parts : tie.Need-shared-slice-read-parts
 shared-slice-read-parts c = search needs
 
--- src/lib.rt:468:17
 cast-parts : tie.Need-cast-parts
 cast-parts c = omega (
   arith,
@@ -54,7 +47,6 @@ cast-parts c = omega (
       (sym (c .before .before .header-fits .ensures) ∙ not-false _ (c .before .if3 .left))) .parts-most,
 )
 
--- src/lib.rt:469:9
 all-alike-requires : tie.Need-all-alike-requires
 all-alike-requires c κs = (
   omega arith,
@@ -62,13 +54,11 @@ all-alike-requires c κs = (
       (sym (c .before .before .header-fits .ensures) ∙ not-false _ (c .before .if3 .left))) .parts-most,
 )
 
--- src/lib.rt:470:9
 returns-4 : tie.Need-returns-4
 returns-4 c = let s = merge-alike (c .before .before .before .before .before .before .before .before .before .args .stores .now)
     (c .before .before .before .before .before .before .before .before .before .args .table .now) (omega arith) (omega arith) _ refl
     (sym (c .before .all-alike .ensures) ∙ not-true _ (c .if4 .taken)) in (s .answer, s .after)
 
--- src/lib.rt:472:9
 has-all-requires : tie.Need-has-all-requires
 has-all-requires c κs = (
   omega arith,
@@ -77,17 +67,14 @@ has-all-requires c κs = (
       (c .before .before .before .if3 .left))) .parts-most,
 )
 
--- src/lib.rt:473:9
 returns-5 : tie.Need-returns-5
 returns-5 c = let s = merge-every (c .before .before .before .before .before .before .before .before .before .before .before .args .stores
     .now) (c .before .before .before .before .before .before .before .before .before .before .before .args .table .now) (omega arith)
     (omega arith) _ refl (sym (c .before .has-all .ensures) ∙ not-true _ (c .if5 .taken)) in (s .answer, s .after)
 
--- src/lib.rt:475:13
 shared-slice-read-n : tie.Need-shared-slice-read-n
 shared-slice-read-n c = search needs
 
--- src/lib.rt:475:13
 cast-n : tie.Need-cast-n
 cast-n c = omega (
   arith,
@@ -96,11 +83,9 @@ cast-n c = omega (
       (c .before .before .before .before .before .before .if3 .left))) .corners-most,
 )
 
--- src/lib.rt:476:13
 shared-slice-read-m : tie.Need-shared-slice-read-m
 shared-slice-read-m c = search needs
 
--- src/lib.rt:476:13
 cast-m : tie.Need-cast-m
 cast-m c = omega (
   arith,
@@ -109,11 +94,9 @@ cast-m c = omega (
       _ (c .before .before .before .before .before .before .before .if3 .left))) .coarse-most,
 )
 
--- src/lib.rt:478:45
 slice-aggregate-gather-corners : tie.Need-slice-aggregate-gather-corners
 slice-aggregate-gather-corners c = search needs
 
--- src/lib.rt:478:9
 gather-corners-requires : tie.Need-gather-corners-requires
 gather-corners-requires c κs = (
   omega arith,
@@ -126,7 +109,6 @@ gather-corners-requires c κs = (
   length-replicate {A = ℕ} 1024 0,
 )
 
--- src/lib.rt:479:9
 returns-6 : tie.Need-returns-6
 returns-6 c = let s = merge-corners (c .before .before .before .before .before .before .before .before .before .before .before .before
     .before .before .before .before .before .args .stores .now) (c .before .before .before .before .before .before .before .before .before
@@ -134,7 +116,6 @@ returns-6 c = let s = merge-corners (c .before .before .before .before .before .
     (rw (not-true (c .before .before .gather-corners .result) (c .if6 .taken)) at (c .before .before .gather-corners .ensures)) in
     (s .answer, s .after)
 
--- src/lib.rt:482:9
 assemble-requires : tie.Need-assemble-requires
 assemble-requires c κs = (
   (
@@ -156,7 +137,6 @@ assemble-requires c κs = (
       .left))),
 )
 
--- src/lib.rt:484:9
 returns-7 : tie.Need-returns-7
 returns-7 c = let s = merge-none (c .before .before .before .before .before .before .before .before .before .before .before .before
     .before .before .before .before .before .before .before .before .args .stores .now)
@@ -166,7 +146,6 @@ returns-7 c = let s = merge-none (c .before .before .before .before .before .bef
     (c .before .before .before .before .before .gather-corners .ensures)) _ 65535 (rw (c .if7 .taken) at (c .before .assemble .ensures))
     in (s .answer, s .after)
 
--- src/lib.rt:486:9
 finish-requires : tie.Need-finish-requires
 finish-requires c κs = (
   (
@@ -198,11 +177,9 @@ finish-requires c κs = (
       .gather-corners .ensures)) _ _ (c .before .before .before .before .assemble .ensures) (c .before .before .before .if7 .left),
 )
 
--- src/lib.rt:487:9
 same-length : tie.Need-same-length
 same-length c = search needs
 
--- src/lib.rt:487:9
 returns-8 : tie.Need-returns-8
 returns-8 c = let s = merge-unsound (c .before .before .before .before .before .before .before .before .before .before .before .before
     .before .before .before .before .before .before .before .before .before .before .before .before .before .before .before .args .stores
@@ -216,11 +193,9 @@ returns-8 c = let s = merge-unsound (c .before .before .before .before .before .
     (not-true (c .before .before .before .finish .result) (c .if8 .taken)) at (c .before .before .before .finish .ensures)) in
     (s .answer, s .after)
 
--- src/lib.rt:453:1
 same-length-2 : tie.Need-same-length-2
 same-length-2 c = search needs
 
--- src/lib.rt:453:1
 returns-9 : tie.Need-returns-9
 returns-9 c = let s = merge-done (c .before .before .before .before .before .before .before .before .before .before .before .before
     .before .before .before .before .before .before .before .before .before .before .before .before .before .before .before .args .stores

@@ -17,57 +17,44 @@ Inv-loop stores parts i j₀ j = (j ≤ parts) × Owning stores parts i j
 abbrev μ-loop : tie.MeasureT-loop
 μ-loop stores parts i j₀ j = parts - j
 
--- src/lib.rt:182:5
 loop-holds : tie.Need-loop-holds Inv-loop μ-loop
 loop-holds c = (omega arith, owning-start _ _ _)
 
--- src/lib.rt:183:20
 mul-from : tie.Need-mul-from Inv-loop μ-loop
 mul-from c = search needs
 
--- src/lib.rt:184:27
 add-if1 : tie.Need-add-if1 Inv-loop μ-loop
 add-if1 c = search needs
 
--- src/lib.rt:184:19
 add-if1-2 : tie.Need-add-if1-2 Inv-loop μ-loop
 add-if1-2 c = search needs
 
--- src/lib.rt:184:12
 mul-if1 : tie.Need-mul-if1 Inv-loop μ-loop
 mul-if1 c = search needs
 
--- src/lib.rt:184:12
 shared-slice-read-if1 : tie.Need-shared-slice-read-if1 Inv-loop μ-loop
 shared-slice-read-if1 c = search needs
 
--- src/lib.rt:184:49
 add-if1-3 : tie.Need-add-if1-3 Inv-loop μ-loop
 add-if1-3 c = search needs
 
--- src/lib.rt:184:42
 mul-if1-2 : tie.Need-mul-if1-2 Inv-loop μ-loop
 mul-if1-2 c = search needs
 
--- src/lib.rt:184:42
 shared-slice-read-if1-2 : tie.Need-shared-slice-read-if1-2 Inv-loop μ-loop
 shared-slice-read-if1-2 c = search needs
 
--- src/lib.rt:185:13
 returns : tie.Need-returns Inv-loop μ-loop
 returns c = owning-stop _ _ _ _ (c .before .before .before .before .loop .inv .1) (omega arith)
     (sym (owns-by (c .before .before .before .before .before .args .stores .now) (c .before .before .before .before .loop .j)
     (c .before .before .before .before .before .args .i) _ _ (omega arith) refl refl) ∙ eq-eqb _ _ (c .if1 .taken))
 
--- src/lib.rt:187:9
 add-j : tie.Need-add-j Inv-loop μ-loop
 add-j c = search needs
 
--- src/lib.rt:182:5
 loop-less : tie.Need-loop-less Inv-loop μ-loop
 loop-less c = search needs
 
--- src/lib.rt:182:5
 loop-again : tie.Need-loop-again Inv-loop μ-loop
 loop-again c = (
   omega arith,
@@ -76,7 +63,6 @@ loop-again c = (
       (c .before .before .before .before .before .args .i) _ _ (omega arith) refl refl) ∙ ne-eqb _ _ (c .if1 .left))),
 )
 
--- src/lib.rt:177:1
 returns-2 : tie.Need-returns-2 Inv-loop μ-loop
 returns-2 c = owning-out _ _ _ _ (c .before .loop .inv .1) (omega arith)
 

@@ -19,31 +19,24 @@ Inv-loop px₀ py₀ end x y size most i₀ px py i = (i ≤ size) × (length px
 abbrev μ-loop : tie.MeasureT-loop
 μ-loop px₀ py₀ end x y size most i₀ px py i = size - i
 
--- src/lib.rt:294:9
 power-requires : tie.Need-power-requires Inv-loop μ-loop
 power-requires c κs = search needs
 
--- src/lib.rt:296:5
 loop-holds : tie.Need-loop-holds Inv-loop μ-loop
 loop-holds c = (omega arith, c .before .before .before .pre .1 .1, c .before .before .before .pre .1 .2, pushed-none _ _ _ _ _)
 
--- src/lib.rt:297:23
 add-px : tie.Need-add-px Inv-loop μ-loop
 add-px c = search needs
 
--- src/lib.rt:297:12
 add-px-2 : tie.Need-add-px-2 Inv-loop μ-loop
 add-px-2 c = search needs
 
--- src/lib.rt:297:9
 mul-px : tie.Need-mul-px Inv-loop μ-loop
 mul-px c = search needs
 
--- src/lib.rt:297:9
 slice-write-px : tie.Need-slice-write-px Inv-loop μ-loop
 slice-write-px c = search needs
 
--- src/lib.rt:298:37
 mul-py : tie.Need-mul-py Inv-loop μ-loop
 mul-py c = omega (
   arith,
@@ -51,7 +44,6 @@ mul-py c = omega (
       (c .before .before .power .ensures .1),
 )
 
--- src/lib.rt:298:24
 add-py : tie.Need-add-py Inv-loop μ-loop
 add-py c = omega (
   arith,
@@ -59,7 +51,6 @@ add-py c = omega (
       (c .before .before .power .ensures .1),
 )
 
--- src/lib.rt:298:23
 cast-py : tie.Need-cast-py Inv-loop μ-loop
 cast-py c = omega (
   arith,
@@ -69,27 +60,21 @@ cast-py c = omega (
       (c .before .before .power .ensures .0),
 )
 
--- src/lib.rt:298:12
 add-py-2 : tie.Need-add-py-2 Inv-loop μ-loop
 add-py-2 c = search needs
 
--- src/lib.rt:298:9
 mul-py-2 : tie.Need-mul-py-2 Inv-loop μ-loop
 mul-py-2 c = search needs
 
--- src/lib.rt:298:9
 slice-write-py : tie.Need-slice-write-py Inv-loop μ-loop
 slice-write-py c = search needs
 
--- src/lib.rt:299:9
 add-i : tie.Need-add-i Inv-loop μ-loop
 add-i c = search needs
 
--- src/lib.rt:296:5
 loop-less : tie.Need-loop-less Inv-loop μ-loop
 loop-less c = search needs
 
--- src/lib.rt:296:5
 loop-again : tie.Need-loop-again Inv-loop μ-loop
 loop-again c = (
   omega arith,
@@ -101,15 +86,12 @@ loop-again c = (
       (c .before .before .power .ensures .0))),
 )
 
--- src/lib.rt:289:1
 same-length : tie.Need-same-length Inv-loop μ-loop
 same-length c = search needs
 
--- src/lib.rt:289:1
 same-length-2 : tie.Need-same-length-2 Inv-loop μ-loop
 same-length-2 c = search needs
 
--- src/lib.rt:289:1
 returns : tie.Need-returns Inv-loop μ-loop
 returns c = pushed-all _ _ _ _ _ _ _ _ _ (c .before .loop .inv .3) (c .before .loop .inv .0) (omega arith)
 

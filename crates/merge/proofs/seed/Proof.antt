@@ -18,39 +18,30 @@ Inv-loop px₀ py₀ m i₀ px py i = (i ≤ m) × (length px ≡ 4096) × (leng
 abbrev μ-loop : tie.MeasureT-loop
 μ-loop px₀ py₀ m i₀ px py i = m - i
 
--- src/lib.rt:281:5
 loop-holds : tie.Need-loop-holds Inv-loop μ-loop
 loop-holds c = (omega arith, c .pre .1, c .pre .2, seeded-none _ _)
 
--- src/lib.rt:282:17
 cast-px : tie.Need-cast-px Inv-loop μ-loop
 cast-px c = search needs
 
--- src/lib.rt:282:9
 mul-px : tie.Need-mul-px Inv-loop μ-loop
 mul-px c = search needs
 
--- src/lib.rt:282:9
 slice-write-px : tie.Need-slice-write-px Inv-loop μ-loop
 slice-write-px c = search needs
 
--- src/lib.rt:283:9
 mul-py : tie.Need-mul-py Inv-loop μ-loop
 mul-py c = search needs
 
--- src/lib.rt:283:9
 slice-write-py : tie.Need-slice-write-py Inv-loop μ-loop
 slice-write-py c = search needs
 
--- src/lib.rt:284:9
 add-i : tie.Need-add-i Inv-loop μ-loop
 add-i c = search needs
 
--- src/lib.rt:281:5
 loop-less : tie.Need-loop-less Inv-loop μ-loop
 loop-less c = search needs
 
--- src/lib.rt:281:5
 loop-again : tie.Need-loop-again Inv-loop μ-loop
 loop-again c = (
   omega arith,
@@ -60,15 +51,12 @@ loop-again c = (
       (seeded-more _ _ _ (c .before .loop .inv .3) (omega (arith, c .before .loop .inv .1)) (omega (arith, c .before .loop .inv .2))),
 )
 
--- src/lib.rt:276:1
 same-length : tie.Need-same-length Inv-loop μ-loop
 same-length c = search needs
 
--- src/lib.rt:276:1
 same-length-2 : tie.Need-same-length-2 Inv-loop μ-loop
 same-length-2 c = search needs
 
--- src/lib.rt:276:1
 returns : tie.Need-returns Inv-loop μ-loop
 returns c = seeded-all _ _ _ _ (c .before .loop .inv .3) (c .before .loop .inv .0) (omega arith)
 

@@ -10,54 +10,43 @@ use Rattle.merge.proofs.push.Reads as push-reads
 use Rattle.pairs.proofs.find.Reads as find-reads
 use Rattle.rows.proofs.size_of.Reads as size-of-reads
 
--- src/lib.rt:321:13
 mul-x : tie.Need-mul-x
 mul-x c = search needs
 
--- src/lib.rt:321:13
 element-copy-out-x : tie.Need-element-copy-out-x
 element-copy-out-x c = search needs
 
--- src/lib.rt:322:13
 mul-y : tie.Need-mul-y
 mul-y c = search needs
 
--- src/lib.rt:322:13
 element-copy-out-y : tie.Need-element-copy-out-y
 element-copy-out-y c = search needs
 
--- src/lib.rt:323:9
 find-requires : tie.Need-find-requires
 find-requires c κs = c .before .before .before .before .before .before .pre .0 .keys
 
--- src/lib.rt:325:9
 returns : tie.Need-returns
 returns c = settle-none _ _ _ _ _ _ (c .before .before .before .before .before .before .before .before .pre .0) _ _ _ _ _
     (c .before .before .before .before .before .before .before .before .pre .1 .0)
     (c .before .before .before .before .before .before .before .before .pre .1 .1) _ (c .before .find .ensures) (c .if1 .taken)
 
--- src/lib.rt:327:18
 element-copy-out-status : tie.Need-element-copy-out-status
 element-copy-out-status c = found-in _ _ _ _ _ _ (c .before .before .before .before .before .before .before .before .pre .0) _ _ _ _ _
     (c .before .before .before .before .before .before .before .before .pre .1 .0)
     (c .before .before .before .before .before .before .before .before .pre .1 .1) _ (c .before .find .ensures) (c .if1 .left)
 
--- src/lib.rt:329:9
 returns-2 : tie.Need-returns-2
 returns-2 c = settle-status _ _ _ _ _ _ (c .before .before .before .before .before .before .before .before .before .before .pre .0) _ _ _
     _ _ (c .before .before .before .before .before .before .before .before .before .before .pre .1 .0)
     (c .before .before .before .before .before .before .before .before .before .before .pre .1 .1) _
     (c .before .before .before .find .ensures) (c .before .before .if1 .left) (c .if2 .taken)
 
--- src/lib.rt:331:5
 element-write-st : tie.Need-element-write-st
 element-write-st c = search needs
 
--- src/lib.rt:332:9
 size-of-requires : tie.Need-size-of-requires
 size-of-requires c κs = search needs
 
--- src/lib.rt:334:9
 returns-3 : tie.Need-returns-3
 returns-3 c = settle-leaf _ _ _ _ _ _ (c .before .before .before .before .before .before .before .before .before .before .before .before
     .pre .0) _ _ _ _ _ (c .before .before .before .before .before .before .before .before .before .before .before .before .pre .1 .0)
@@ -65,7 +54,6 @@ returns-3 c = settle-leaf _ _ _ _ _ _ (c .before .before .before .before .before
     (c .before .before .before .before .before .find .ensures) (c .before .before .before .before .if1 .left) _
     (c .before .size-of .ensures .0) (c .before .size-of .ensures .1) (c .if3 .taken)
 
--- src/lib.rt:337:9
 returns-4 : tie.Need-returns-4
 returns-4 c = settle-deep _ _ _ _ _ _ (c .before .before .before .before .before .before .before .before .before .before .before .before
     .before .pre .0) _ _ _ _ _ (c .before .before .before .before .before .before .before .before .before .before .before .before .before
@@ -73,11 +61,9 @@ returns-4 c = settle-deep _ _ _ _ _ _ (c .before .before .before .before .before
     (c .before .before .before .before .before .before .find .ensures) (c .before .before .before .before .before .if1 .left) _
     (c .before .before .size-of .ensures .0) (c .before .before .size-of .ensures .1) (c .before .if3 .left) (c .if4 .taken)
 
--- src/lib.rt:339:8
 add-if5 : tie.Need-add-if5
 add-if5 c = search needs
 
--- src/lib.rt:340:9
 returns-5 : tie.Need-returns-5
 returns-5 c = settle-room _ _ _ _ _ _ (c .before .before .before .before .before .before .before .before .before .before .before .before
     .before .before .pre .0) _ _ _ _ _ (c .before .before .before .before .before .before .before .before .before .before .before .before
@@ -86,7 +72,6 @@ returns-5 c = settle-room _ _ _ _ _ _ (c .before .before .before .before .before
     (c .before .before .before .before .before .before .if1 .left) _ (c .before .before .before .size-of .ensures .0)
     (c .before .before .before .size-of .ensures .1) (c .if5 .taken)
 
--- src/lib.rt:342:5
 push-requires : tie.Need-push-requires
 push-requires c κs = (
   (
@@ -105,11 +90,9 @@ push-requires c κs = (
   ),
 )
 
--- src/lib.rt:343:5
 add-result : tie.Need-add-result
 add-result c = search needs
 
--- src/lib.rt:304:1
 returns-6 : tie.Need-returns-6
 returns-6 c = settle-on _ _ _ _ _ _ (c .before .before .before .before .before .before .before .before .before .before .before .before
     .before .before .before .before .before .pre .0) _ _ _ _ _ (c .before .before .before .before .before .before .before .before .before

@@ -8,31 +8,24 @@ use Rattle.merge.proofs.store_at.Tie as tie
 use Rattle.merge.proofs.store_at.Reads as reads
 use Rattle.merge.proofs.store_at.Lts as lts
 
--- src/lib.rt:49:16
 mul-from : tie.Need-mul-from
 mul-from c = search needs
 
--- src/lib.rt:50:14
 add-to : tie.Need-add-to
 add-to c = search needs
 
--- src/lib.rt:51:5
 mul-result : tie.Need-mul-result
 mul-result c = search needs
 
--- src/lib.rt:51:5
 sub-result : tie.Need-sub-result
 sub-result c = search needs
 
--- src/lib.rt:51:5
 part-result-start : tie.Need-part-result-start
 part-result-start c = search needs
 
--- src/lib.rt:51:5
 part-result-end : tie.Need-part-result-end
 part-result-end c = search needs
 
--- src/lib.rt:45:1
 returns : tie.Need-returns
 returns c = (
   store-is _ _,
