@@ -3,19 +3,28 @@
 --   afterSplit P b         the world then: these stores, and no message given
 --   marksGiven os cs w p   the marks that the calls cs started the part p with, from 1; 0 for each master where they did not start it
 --   serialMarks os cs w    these marks put together: what the serial step is given
---   storeOf cs w p         the store of the part p, from 0, after the calls
+--   partStore cs w p       the store of the part p, from 1, after the calls
+--   written ..             what a part writes in its first r rounds, in lockstep with the others
 --   alldoneb w             all parts are done
 --   resultIn x             the number that a done part ended with: 0, 8 or 9
 use mathlib.Core.Bool.{Bool}
 use mathlib.Core.Option.{Option, none, some, Option·elim}
 use mathlib.Core.List.{List, [], map}
-use Prim.Native.Nat.{ℕ, pred}
+use Prim.Native.Nat.{ℕ, suc, pred, Fin}
 use lib.Dec.{eqb}
 use lib.ListN.{length, getD, replicate}
 use Rattle.base.specs.Lists.{allb}
 use Rattle.base.specs.Range.{range}
 use Rattle.parts.specs.Starts.{mastersOn, putTogether}
 use Rattle.exchange.specs.Calls.{Call, World, play, startedWith}
+use Rattle.exchange.specs.Finite.{parts}
+use Rattle.exchange.specs.Lockstep.{post}
+use Rattle.rounds.specs.Rounded.{protocol}
+use Rattle.rounds.specs.Upward.{ups}
+use Rattle.merging.specs.Totals.{grownOf}
+use Rattle.merging.specs.Run.{marksFrom}
+use Rattle.standing.specs.Busy.{pack}
+use Rattle.tasks.specs.Holders.{splitTask}
 use Rattle.store.specs.Fields.{field, STAGE, RESULT}
 use Rattle.split.specs.Stored.{storeAt}
 use Rattle.outcome.specs.Program.{act}
@@ -42,8 +51,8 @@ unfoldable pub serialMarks : List ℕ → Calls → Stores → List ℕ
 unfolding putTogether marksGiven
 serialMarks os cs w = putTogether os (marksGiven os cs w)
 
-abbrev pub storeOf : Calls → Stores → ℕ → List ℕ
-storeOf cs w p = getD (play act cs w .stores) p []
+abbrev pub partStore : Calls → Stores → ℕ → List ℕ
+partStore cs w p = getD (play act cs w .stores) (pred p) []
 
 unfoldable pub alldoneb : Stores → Bool
 unfolding allb
@@ -51,3 +60,9 @@ alldoneb w = allb (λ x. eqb (field x STAGE) 2) (w .stores)
 
 abbrev pub resultIn : List ℕ → ℕ
 resultIn x = field x RESULT
+
+-- the rounds of a split over Q + 1 parts, and the messages of the part p, from 0, in the first r of them; part p starts with given p
+abbrev pub written : (Q n : ℕ) → List (List ℕ) → List ℕ → List ℕ → (Fin (suc Q) → List ℕ) → ℕ → Fin (suc Q) → List (List ℕ)
+written Q n qs ss os given r p =
+    post (parts (suc Q)) (protocol (parts (suc Q)) (splitTask Q n qs ss os) (grownOf (parts (suc Q)) (splitTask Q n qs ss os)) (ups (suc Q))
+    (pack (suc Q) (splitTask Q n qs ss os)) (λ p ms c. marksFrom os (λ o. ms) p c)) given r p

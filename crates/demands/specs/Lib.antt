@@ -1,4 +1,3 @@
--- Demand 3 (split jobs) is not met yet: its file, Demand3, comes with the calls on parts.
 pub mod Order
 pub mod Tests
 pub mod Answered
@@ -8,3 +7,4 @@ pub mod Positions
 pub mod Accepting
 pub mod Demand1
 pub mod Demand2
+pub mod Demand3
