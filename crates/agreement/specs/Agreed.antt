@@ -12,9 +12,12 @@ use mathlib.Core.List.{List, [], _∷_, _++_, map, List·Memᴰ}
 use Prim.Native.Nat.{ℕ, zero, suc, _+_, _≤_, _<_, Fin}
 use native.Mathlib.Nat.{le-trans}
 use native.Mathlib.Omega.{arith}
+use lib.Dec.{T, eqb, eqb→eq}
+use borrow.Author.Tests.{eq-eqb}
 use lib.ListN.{length, getD, drop, length-map}
 use lib.IntN.{ℤ}
-use Rattle.base.specs.Every.{getD-map}
+use Rattle.base.specs.Every.{getD-map, all-each}
+use Rattle.base.specs.Lists.{allb-at}
 use Rattle.base.specs.Fours.{fours}
 use Rattle.base.specs.Range.{range, length-range, range-at}
 use Rattle.base.specs.declared.Answer.the-variants.{Accepted}
@@ -23,6 +26,7 @@ use Rattle.exchange.specs.Calls.{Fetch, Call, World, play, moves, startedWith, 
 use Rattle.exchange.specs.Finite.{parts}
 use Rattle.exchange.specs.Protocol.{Alone, Machine, Protocol}
 use Rattle.exchange.specs.Lockstep.{lock, mailCount, post, local}
+use Rattle.exchange.specs.Played.{play-length}
 use Rattle.exchange.specs.Begun.{first-fine}
 use Rattle.exchange.specs.Theorem.{Can, Allowed, deterministic, begun-with, result, done-stays, moves-few, completion, all-given}
 use Rattle.exchange.specs.Theorem.{onward as moved-on}
@@ -46,7 +50,7 @@ use Rattle.tasks.specs.Accepted.{Splits, splits-from, split-store, split-column
 use Rattle.outcome.specs.Program.{act}
 use Rattle.outcome.specs.Limited.{fitting-of}
 use Rattle.outcome.specs.Machines.{machine, alone, phaseOf}
-use Rattle.agreement.specs.Terms.{Calls, Stores, storesOf, afterSplit}
+use Rattle.agreement.specs.Terms.{Calls, Stores, storesOf, afterSplit, alldoneb}
 use Rattle.agreement.specs.Exchanges.{fit, reads, takes, read, first-idle, wanted, wanted-fit}
 
 -- a store of the parts by its number
@@ -246,3 +250,22 @@ module _ (ps : List ℤ) (ts ss : List ℕ) (Q : ℕ) (os b : List ℕ) (e : spl
       let (u, v) = done-stays (suc Q) R M (Fits (suc Q) J) Fi A (inputOf (cs ++ ds)) (fine (cs ++ ds)) end [] [] (good (cs ++ ds)) world all idle refl
       cs ds (allowed (cs ++ ds) b) p in
       phase-done (cs ++ ds) b p (omega (arith, u, v, done-phase cs a p d))
+
+  -- all parts are done, as the stores say and by the rounds
+  pub many-now : (cs : Calls) → length (play act cs world .stores) ≡ suc Q
+  many-now cs = play-length act cs world ∙ all
+
+  pub all-phases : (cs : Calls) → Lawful act cs world → T (alldoneb (play act cs world))
+      → (p : Fin (suc Q)) → phaseOf (storeOf cs p) ≡ suc (R .rounds)
+  unfolding alldoneb
+  all-phases cs h t p =
+      done-phase cs h p (eqb→eq (field (storeOf cs p) STAGE) 2
+      (allb-at (λ x. eqb (field x STAGE) 2) [] (play act cs world .stores) t (p .0) (subst (λ (k : ℕ). p .0 < k) (sym (many-now cs)) (p .1))))
+
+  pub phases-all : (cs : Calls) → Lawful act cs world → ((p : Fin (suc Q)) → phaseOf (storeOf cs p) ≡ suc (R .rounds))
+      → T (alldoneb (play act cs world))
+  unfolding alldoneb
+  phases-all cs h d =
+      all-each (λ x. eqb (field x STAGE) 2) [] (play act cs world .stores)
+      (λ i l. let k : i < suc Q = omega (arith, l, many-now cs) in
+      rw (eq-eqb (field (storeOf cs (i, k)) STAGE) 2 (phase-done cs h (i, k) (d (i, k)))) tt)

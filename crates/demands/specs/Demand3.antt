@@ -10,33 +10,48 @@
 --   Split3 ..        what holds after one list of calls
 use mathlib.Core.Path.{_≡_, refl, sym, _∙_, ap, subst}
 use mathlib.Core.Logic.{_⊎_, inl, inr, _≢_}
-use mathlib.Core.Bool.{Bool, true, false}
+use mathlib.Core.Bool.{Bool, true, false, _&&_, not}
 use mathlib.Core.Option.{Option, none, some}
 use mathlib.Core.List.{List, [], _∷_, _++_, flatMap, List·Memᴰ}
 use Prim.Native.Nat.{ℕ, zero, suc, _+_, _*_, _≤_, _<_, pred, Fin}
 use native.Mathlib.Omega.{arith}
-use lib.Dec.{T}
+use lib.Dec.{T, eqb, leb, eqb→eq}
+use borrow.Author.Tests.{eq-eqb, ne-eqb}
 use lib.ListN.{length, getD, drop}
 use lib.IntN.{ℤ}
 use Rattle.base.specs.Fours.{fours}
-use Rattle.base.specs.Refuse.{heldAfter}
+use Rattle.base.specs.Bools.{and-left, and-right, is-true, is-false, not-both}
+use Rattle.base.specs.Refuse.{refuse, andThen, passed, both, codeOf, heldAfter}
 use Rattle.base.specs.declared.Answer.the-variants.{Accepted, Refused}
 use Rattle.mesh.specs.Coarse.{cornerCount}
-use Rattle.mesh.specs.Answers.{newTable, markedAnswer}
+use Rattle.mesh.specs.Step.{stepTable}
+use Rattle.mesh.specs.Answers.{tableAnswer, newTable, limitsAnswer, markedAnswer}
 use Rattle.exchange.specs.Calls.{Fetch, Call, play, moves, Lawful}
+use Rattle.exchange.specs.Finite.{parts}
 use Rattle.rounds.specs.Bound.{callsMost}
 use Rattle.parts.specs.Owners.{nthCell, familyOf, ownersb, ownersAfter}
-use Rattle.parts.specs.Held.{Entry, ghostb, entriesOf}
+use Rattle.parts.specs.Held.{Entry, masterb, ghostb, entriesOf}
 use Rattle.splitting.specs.Admissible.{Admissible}
 use Rattle.shares.specs.Flat.{NoTwice}
+use Rattle.merging.specs.Result.{just-held, held-each-once, owners-after, coarse-owner, family-same, family-new, admissible-before}
+use Rattle.merging.specs.Result.{admissible-after}
+use Rattle.merging.specs.Run.{nthPart, numberOf, named}
 use Rattle.store.specs.Fields.{field, full, STAGE, COARSE, ROUND}
+use Rattle.split.specs.Columns.{slotOf}
 use Rattle.split.specs.Split.{splitAnswer, splitAfter}
 use Rattle.held.specs.Held.{heldIn}
 use Rattle.merge.specs.declared.Merged.the-variants.{Cells}
 use Rattle.merge.specs.Merge.{storesIn, mergeAnswer, mergeTable, mergedOf}
 use Rattle.joining.specs.Joint.{Order}
+use Rattle.tasks.specs.Edges.{slotsOn}
+use Rattle.tasks.specs.Holders.{splitTask}
+use Rattle.tasks.specs.Accepted.{Splits, splits-from, split-slots}
 use Rattle.outcome.specs.Program.{act}
+use Rattle.outcome.specs.Machines.{phaseOf}
 use Rattle.agreement.specs.Terms.{Calls, Stores, afterSplit, marksGiven, serialMarks, partStore, alldoneb, resultIn, written}
+use Rattle.agreement.specs.Agreed.{R, storeOf, all-phases, phases-all, onward, completed, moves-most, stays-done, none-left}
+use Rattle.agreement.specs.Outcomes.{X, known, serial-is, result-is, limits, held-new, held-old}
+use Rattle.agreement.specs.Merges.{merges-new, merges-old}
 
 -- the entries es are those of fs, each once
 pub record JustThese (es fs : List Entry) : Type 0 where
@@ -116,3 +131,171 @@ pub record Split3 (ps : List ℤ) (ts ss : List ℕ) (P : ℕ) (os : List ℕ) (
 abbrev pub Demand3 : Type 0
 Demand3 = (ps : List ℤ) (ts ss : List ℕ) (P : ℕ) (os b : List ℕ) → splitAnswer ps ts ss P os b ≡ Accepted
     → (cs : Calls) → Lawful act cs (afterSplit P (splitAfter ps ts ss P os b)) → Split3 ps ts ss P os (afterSplit P (splitAfter ps ts ss P os b)) cs
+
+-- THE PROOF
+no-parts : (ps : List ℤ) (ts ss os b : List ℕ) → splitAnswer ps ts ss 0 os b ≡ Accepted → ⊥
+unfolding splitAnswer
+no-parts ps ts ss os b e =
+    let eleven = refuse 11 (ownersb (cornerCount ps) (fours ts) ss 0 os) Accepted in
+    let (a, r) = passed 15 (leb (16 * full) (length b)) (andThen (tableAnswer ps ts ss) (refuse 10 (leb 1 0 && leb 0 16) eleven)) e in
+    let (c, d) = both (tableAnswer ps ts ss) (refuse 10 (leb 1 0 && leb 0 16) eleven) r in
+    passed 10 (leb 1 0 && leb 0 16) eleven d .0
+
+-- a ghost by its owners
+ghost-is : (n : ℕ) (qs : List (List ℕ)) (ts os : List ℕ) (p d : ℕ) → (T (ghostb n qs ts os p d) → (familyOf n qs ts os d ≡ p) × (getD os d 0 ≢ p))
+    × (familyOf n qs ts os d ≡ p → getD os d 0 ≢ p → T (ghostb n qs ts os p d))
+unfolding ghostb masterb
+ghost-is n qs ts os p d = (
+  λ t. (
+    eqb→eq (familyOf n qs ts os d) p (and-right (not (eqb (getD os d 0) p)) (eqb (familyOf n qs ts os d) p) t),
+    λ z. not-both (eqb (getD os d 0) p) (eq-eqb (getD os d 0) p z)
+        (is-false (eqb (getD os d 0) p) (and-left (not (eqb (getD os d 0) p)) (eqb (familyOf n qs ts os d) p) t)),
+  ),
+  λ f o. rw (ne-eqb (getD os d 0) p o, eq-eqb (familyOf n qs ts os d) p f) tt,
+)
+
+-- a refusal of the limits is 8 or 9
+limit-number : (n : ℕ) (qs : List (List ℕ)) (ss ms : List ℕ) (k : ℕ) → limitsAnswer n qs ss ms ≡ Refused k → (k ≡ 8) ⊎ (k ≡ 9)
+unfolding limitsAnswer refuse
+limit-number n qs ss ms k e = go (leb (length (stepTable n qs ss ms)) 11) (leb (length (newTable n qs ss ms)) 4096) e
+  where
+    go : (a c : Bool) → refuse 8 a (refuse 9 c Accepted) ≡ Refused k → (k ≡ 8) ⊎ (k ≡ 9)
+    go true true f = let z : _≡_ {A = ℕ} 0 1 = cc in absurd (omega arith)
+    go true false f = let z : 9 ≡ k = cc in inr (sym z)
+    go false c f = let z : 8 ≡ k = cc in inl (sym z)
+
+module _ (ps : List ℤ) (ts ss : List ℕ) (Q : ℕ) (os b : List ℕ) (e : splitAnswer ps ts ss (suc Q) os b ≡ Accepted) (cs : Calls)
+    (lawful : Lawful act cs (afterSplit (suc Q) (splitAfter ps ts ss (suc Q) os b))) where
+  abbrev n : ℕ
+  n = cornerCount ps
+
+  abbrev qs : List (List ℕ)
+  qs = fours ts
+
+  abbrev w : Stores
+  w = afterSplit (suc Q) (splitAfter ps ts ss (suc Q) os b)
+
+  abbrev marks : List ℕ
+  marks = serialMarks os cs w
+
+  abbrev g : Splits Q n qs ss os
+  g = splits-from ps ts ss Q os b e
+
+  module _ (t : T (alldoneb (play act cs w))) where
+    abbrev done : (p : Fin (suc Q)) → phaseOf (storeOf ps ts ss Q os b e cs p) ≡ suc (R ps ts ss Q os b e .rounds)
+    done = all-phases ps ts ss Q os b e cs lawful t
+
+    serial : markedAnswer ps ts ss marks ≡ Accepted → Serial n qs ss os (suc Q) cs w (newTable n qs ss marks)
+    unfolding codeOf
+    serial ok =
+        let F = parts (suc Q) in
+        let lim = limits ps ts ss Q os b e cs lawful done ok in
+        let J = splitTask Q n qs ss os in
+        let st = X ps ts ss Q os b e cs lawful done .state in
+        let kn = known ps ts ss Q os b e cs lawful done in
+        record {
+          ended = λ q a c. result-by q a c ok;
+          held = λ q a c. held-by q a c ok;
+          merges = λ l o rest long. merges-new ps ts ss Q os b e cs lawful done ok l o rest long;
+          owners = owners-after (parts (suc Q)) n qs ss marks (g .four) (g .mesh) (g .sound) (suc Q) os (g .owners) (slotOf n qs ss) (slotsOn n qs ss)
+              (split-slots Q n qs ss os g) (nthPart Q) numberOf (named Q) st kn (lim .0) (lim .1);
+          coarse = coarse-owner (parts (suc Q)) n qs ss marks (g .four) (g .mesh) (g .sound) (suc Q) os (g .owners) (slotOf n qs ss) (slotsOn n qs ss)
+              (split-slots Q n qs ss os g) (nthPart Q) numberOf (named Q) st kn (lim .0) (lim .1);
+          family = family-same (parts (suc Q)) n qs ss marks (g .four) (g .mesh) (g .sound) (suc Q) os (g .owners) (slotOf n qs ss) (slotsOn n qs ss)
+              (split-slots Q n qs ss os g) (nthPart Q) numberOf (named Q) st kn (lim .0) (lim .1);
+          first-family = family-new (parts (suc Q)) n qs ss marks (g .four) (g .mesh) (g .sound) (suc Q) os (g .owners) (slotOf n qs ss)
+              (slotsOn n qs ss) (split-slots Q n qs ss os g) (nthPart Q) numberOf (named Q) st kn (lim .0) (lim .1);
+          ghosts = ghost-is n qs (newTable n qs ss marks) (ownersAfter n qs ss os (newTable n qs ss marks));
+          before = admissible-before (parts (suc Q)) n qs ss marks (g .four) (g .mesh) (g .sound) (suc Q) os (g .owners) (slotOf n qs ss)
+              (slotsOn n qs ss) (split-slots Q n qs ss os g) (nthPart Q) numberOf (named Q) st kn;
+          after = admissible-after (parts (suc Q)) n qs ss marks (g .four) (g .mesh) (g .sound) (suc Q) os (g .owners) (slotOf n qs ss)
+              (slotsOn n qs ss) (split-slots Q n qs ss os g) (nthPart Q) numberOf (named Q) st kn (lim .0) (lim .1);
+        }
+      where
+        result-by : (q : ℕ) → 1 ≤ q → q ≤ suc Q → markedAnswer ps ts ss marks ≡ Accepted → resultIn (partStore cs w q) ≡ 0
+        result-by zero a c ok = absurd (omega arith)
+        result-by (suc j) a c ok = result-is ps ts ss Q os b e cs lawful done (j, omega arith) ∙ ap codeOf ok
+
+        held-by : (q : ℕ) → 1 ≤ q → q ≤ suc Q → markedAnswer ps ts ss marks ≡ Accepted
+            → JustThese (heldIn (partStore cs w q)) (entriesOf n qs (newTable n qs ss marks) (ownersAfter n qs ss os (newTable n qs ss marks)) q)
+        held-by zero a c ok = absurd (omega arith)
+        held-by (suc j) a c ok =
+            let p : Fin (suc Q) = (j, omega arith) in
+            let lim = limits ps ts ss Q os b e cs lawful done ok in
+            let st = X ps ts ss Q os b e cs lawful done .state in
+            let kn = known ps ts ss Q os b e cs lawful done in
+            let just = just-held (parts (suc Q)) n qs ss marks (g .four) (g .mesh) (g .sound) (suc Q) os (g .owners) (slotOf n qs ss) (slotsOn n qs ss)
+            (split-slots Q n qs ss os g) (nthPart Q) numberOf (named Q) st kn (lim .0) (lim .1) p in
+            let once = held-each-once (parts (suc Q)) n qs ss marks (g .four) (g .mesh) (g .sound) (suc Q) os (g .owners) (slotOf n qs ss)
+            (slotsOn n qs ss) (split-slots Q n qs ss os g) (nthPart Q) numberOf (named Q) st kn p in
+            subst (λ (es : List Entry). JustThese es (entriesOf n qs (newTable n qs ss marks) (ownersAfter n qs ss os (newTable n qs ss marks)) (suc j)))
+            (sym (held-new ps ts ss Q os b e cs lawful done ok p))
+            (record { these = λ f. just f .0; all = λ f. just f .1; once = once })
+
+    as-before : (k : ℕ) → markedAnswer ps ts ss marks ≡ Refused k → AsBefore n qs ss os (suc Q) cs w k
+    unfolding codeOf
+    as-before k f = go k f (limit-number n qs ss marks k (sym (serial-is ps ts ss Q os b e cs lawful done) ∙ f))
+      where
+        ended : (k q : ℕ) → 1 ≤ q → q ≤ suc Q → markedAnswer ps ts ss marks ≡ Refused k → resultIn (partStore cs w q) ≡ k
+        ended k zero a c f = absurd (omega arith)
+        ended k (suc j) a c f = result-is ps ts ss Q os b e cs lawful done (j, omega arith) ∙ ap codeOf f
+
+        held : (k q : ℕ) → 1 ≤ q → q ≤ suc Q → markedAnswer ps ts ss marks ≡ Refused (suc k) → heldIn (partStore cs w q) ≡ entriesOf n qs ss os q
+        held k zero a c f = absurd (omega arith)
+        held k (suc j) a c f = held-old ps ts ss Q os b e cs lawful done k f (j, omega arith)
+
+        go : (k : ℕ) → markedAnswer ps ts ss marks ≡ Refused k → (k ≡ 8) ⊎ (k ≡ 9) → AsBefore n qs ss os (suc Q) cs w k
+        go zero f (inl z) = absurd (omega (arith, z))
+        go zero f (inr z) = absurd (omega (arith, z))
+        go (suc k) f z = record {
+          number = z;
+          ended = λ q a c. ended (suc k) q a c f;
+          held = λ q a c. held k q a c f;
+          merges = λ l o rest long. merges-old ps ts ss Q os b e cs lawful done k f l o rest long;
+        }
+
+  split3 : Split3 ps ts ss (suc Q) os w cs
+  unfolding marksGiven
+  split3 = record {
+    accepted = serial;
+    refused = as-before;
+    onward = λ f. go f (onward ps ts ss Q os b e cs lawful);
+    to-the-end =
+        let (ds, a, d) = completed ps ts ss Q os b e cs lawful in
+        (ds, a, phases-all ps ts ss Q os b e (cs ++ ds) a d);
+    few = moves-most ps ts ss Q os b e cs lawful;
+    done-stays = λ ds h q a c d. stays ds h q a c d;
+    none-to-send = λ R z p s f m i. sends R z p s f m i;
+  }
+    where
+      go : alldoneb (play act cs w) ≡ false
+          → ((p : Fin (suc Q)) → phaseOf (storeOf ps ts ss Q os b e cs p) ≡ suc (R ps ts ss Q os b e .rounds))
+          ⊎ ((c : Call (List ℕ) (List ℕ)) × Lawful act (cs ++ (c ∷ [])) w × (moves act (cs ++ (c ∷ [])) w ≡ suc (moves act cs w)))
+          → (c : Call (List ℕ) (List ℕ)) × Lawful act (cs ++ (c ∷ [])) w × (moves act (cs ++ (c ∷ [])) w ≡ suc (moves act cs w))
+      go f (inl d) = not-both (alldoneb (play act cs w)) (is-true (alldoneb (play act cs w)) (phases-all ps ts ss Q os b e cs lawful d)) f
+      go f (inr c) = c
+
+      stays : (ds : Calls) → Lawful act (cs ++ ds) w → (q : ℕ) → 1 ≤ q → q ≤ suc Q → field (partStore cs w q) STAGE ≡ 2
+          → field (partStore (cs ++ ds) w q) STAGE ≡ 2
+      stays ds h zero a c d = absurd (omega arith)
+      stays ds h (suc j) a c d = stays-done ps ts ss Q os b e cs ds lawful h (j, omega arith) d
+
+      mine : (p : Fin (suc Q)) → field (partStore cs w (suc (p .0))) STAGE ≢ 0
+          → act Fetch (partStore cs w (suc (p .0))) ≡ none → (m : List ℕ)
+          → List·Memᴰ m (written Q n qs ss os (λ q. marksGiven os cs w (suc (q .0))) (suc (field (partStore cs w (suc (p .0))) ROUND)) p)
+          → List·Memᴰ m (play act cs w .given)
+      mine p s f = none-left ps ts ss Q os b e cs lawful p f s
+
+      sends : (R : ℕ) → suc Q ≡ suc R → (p : Fin (suc R)) → field (partStore cs w (suc (p .0))) STAGE ≢ 0
+          → act Fetch (partStore cs w (suc (p .0))) ≡ none → (m : List ℕ)
+          → List·Memᴰ m (written R n qs ss os (λ q. marksGiven os cs w (suc (q .0))) (suc (field (partStore cs w (suc (p .0))) ROUND)) p)
+          → List·Memᴰ m (play act cs w .given)
+      sends R z =
+          subst (λ (k : ℕ). (p : Fin (suc k)) → field (partStore cs w (suc (p .0))) STAGE ≢ 0
+          → act Fetch (partStore cs w (suc (p .0))) ≡ none → (m : List ℕ)
+          → List·Memᴰ m (written k n qs ss os (λ q. marksGiven os cs w (suc (q .0))) (suc (field (partStore cs w (suc (p .0))) ROUND)) p)
+          → List·Memᴰ m (play act cs w .given)) (omega (arith, z)) mine
+
+pub demand3 : Demand3
+demand3 ps ts ss zero os b e = absurd (no-parts ps ts ss os b e)
+demand3 ps ts ss (suc Q) os b e = split3 ps ts ss Q os b e

@@ -3,6 +3,7 @@
 --   answer-at, answer-there               the answer is that of the part's store, where there is one
 --   play-none, play-some, ..              a refused call changes nothing, an accepted one its part's store
 --   play-append, moves-append, ..         one list behind another
+--   play-length                           there are as many stores as before
 use Prim.Native.Nat.{ℕ, zero, suc, _+_, _<_}
 use native.Mathlib.Omega.{arith}
 use mathlib.Core.Path.{_≡_, refl, sym, ap, subst, _∙_}
@@ -10,7 +11,7 @@ use mathlib.Core.Bool.{Bool, true, false}
 use mathlib.Core.Option.{Option, none, some, Option·elim}
 use mathlib.Core.List.{List, [], _∷_, _++_, List·Memᴰ, List·Memᴰ·head, List·Memᴰ·tail}
 use lib.Dec.{T, eqb}
-use lib.ListN.{length, getD}
+use lib.ListN.{length, getD, length-set}
 use Rattle.base.specs.Bools.{one-if}
 use Rattle.exchange.specs.Calls.{Request, Start, Step, Fetch, Hand, Call, World, Program, answerAt, answer, changed, apply, play}
 use Rattle.exchange.specs.Calls.{acceptsb, moves, begun, startedWith, Fair, Lawful}
@@ -134,3 +135,14 @@ module _ {In Msg Store : Type 0} (act : Program In Msg Store) where
       go Step b r s = refl
       go Fetch b r s = refl
       go (Hand m) b r s = refl
+
+  -- as many stores as before
+  changed-length : (p : ℕ) (w : World Msg Store) (o : Option (Store × List Msg)) → length (changed act p w o .stores) ≡ length (w .stores)
+  unfolding changed
+  changed-length p w none = refl
+  changed-length p w (some y) = length-set (w .stores) p (y .0)
+
+  pub play-length : (cs : List (Call In Msg)) (w : World Msg Store) → length (play act cs w .stores) ≡ length (w .stores)
+  unfolding play
+  play-length [] w = refl
+  play-length (c ∷ cs) w = play-length cs (apply act c w) ∙ changed-length (c .part) w (answer act c w)
