@@ -3,3 +3,4 @@ pub mod Exchanges
 pub mod Agreed
 pub mod Outcomes
 pub mod Merges
+pub mod Sample
