@@ -1,8 +1,8 @@
 -- What any lawful list of calls on the stores of a split comes to: the theorem of the exchange, said of the stores.
---   first p, world           the stores of the split
+--   splitStore p, world      the stores of the split
 --   inputOf cs p             the marks that the calls start a part with; 0 for each master where they do not
 -- Laws: stores-many (there is a store for each part), done-phase and phase-done (a done part is one past the last round), at-end (what a
--- done part's store stands for), stays-done, moves-most, onward and completed (what can be called next), none-left (where a part has none
+-- done part's store stands for), stays-done, moves-most, moves-on and completed (what can be called next), all-fetched (where a part has none
 -- to send).
 use mathlib.Core.Path.{_≡_, refl, sym, _∙_, ap, ap₂, subst}
 use mathlib.Core.Logic.{_⊎_, inl, inr, _≢_}
@@ -42,7 +42,7 @@ use Rattle.store.specs.Fields.{field, STAGE, ROUND}
 use Rattle.split.specs.Split.{splitAnswer, splitAfter}
 use Rattle.split.specs.Stored.{Stored, storeAt}
 use Rattle.standing.specs.Busy.{pack, L}
-use Rattle.entering.specs.Fits.{Fits}
+use Rattle.entering.specs.Fits.{Fitted}
 use Rattle.entering.specs.Entered.{Stay}
 use Rattle.entering.specs.Standing.{Idle, Standing}
 use Rattle.tasks.specs.Holders.{splitTask}
@@ -51,7 +51,7 @@ use Rattle.outcome.specs.Program.{act}
 use Rattle.outcome.specs.Limited.{fitting-of}
 use Rattle.outcome.specs.Machines.{machine, alone, phaseOf}
 use Rattle.agreement.specs.Terms.{Calls, Stores, storesOf, afterSplit, alldoneb}
-use Rattle.agreement.specs.Exchanges.{fit, reads, takes, read, first-idle, wanted, wanted-fit}
+use Rattle.agreement.specs.Exchanges.{fit, reads, takes, reads-mark, first-idle, wanted, wanted-fit}
 
 -- a store of the parts by its number
 stores-at : (P : ℕ) (b : List ℕ) (j : ℕ) → j < P → getD (storesOf P b) j [] ≡ storeAt b j
@@ -92,20 +92,20 @@ module _ (ps : List ℤ) (ts ss : List ℕ) (Q : ℕ) (os b : List ℕ) (e : spl
   abbrev pub g : Splits Q (cornerCount ps) (fours ts) ss os
   g = splits-from ps ts ss Q os b e
 
-  abbrev pub first : Fin (suc Q) → List ℕ
-  first p = storeAt (splitAfter ps ts ss (suc Q) os b) (p .0)
+  abbrev pub splitStore : Fin (suc Q) → List ℕ
+  splitStore p = storeAt (splitAfter ps ts ss (suc Q) os b) (p .0)
 
   abbrev pub world : Stores
   world = afterSplit (suc Q) (splitAfter ps ts ss (suc Q) os b)
 
-  stored : (p : Fin (suc Q)) → Stored n qs ss (suc Q) os (suc (p .0)) (first p)
+  stored : (p : Fin (suc Q)) → Stored n qs ss (suc Q) os (suc (p .0)) (splitStore p)
   stored = split-store ps ts ss Q os b e
 
   abbrev pub J : Task (Fin (suc Q))
   J = splitTask Q (cornerCount ps) (fours ts) ss os
 
   abbrev M : Machine (Fin (suc Q)) (List ℕ) Body (List ℕ) State (List ℕ)
-  M = machine (suc Q) J (fit Q n qs ss os g) (reads Q n qs ss os g) (placeOn os) (takes Q n qs ss os g) first (read Q n qs ss os g)
+  M = machine (suc Q) J (fit Q n qs ss os g) (reads Q n qs ss os g) (placeOn os) (takes Q n qs ss os g) splitStore (reads-mark Q n qs ss os g)
 
   abbrev pub R : Protocol (Fin (suc Q)) (List ℕ) Body (List ℕ) State
   R = protocol (parts (suc Q)) J (grownOf (parts (suc Q)) J) (ups (suc Q)) (pack (suc Q) J) (reads Q n qs ss os g)
@@ -113,15 +113,15 @@ module _ (ps : List ℤ) (ts ss : List ℕ) (Q : ℕ) (os b : List ℕ) (e : spl
   abbrev Fi : Fin (suc Q) → List ℕ → Type 0
   Fi p ms = takes Q n qs ss os g p ms ≡ true
 
-  A : Alone (parts (suc Q)) R M (Fits (suc Q) J) Fi
-  A = alone (suc Q) J (fit Q n qs ss os g) (reads Q n qs ss os g) (placeOn os) (takes Q n qs ss os g) first (read Q n qs ss os g)
+  A : Alone (parts (suc Q)) R M (Fitted (suc Q) J) Fi
+  A = alone (suc Q) J (fit Q n qs ss os g) (reads Q n qs ss os g) (placeOn os) (takes Q n qs ss os g) splitStore (reads-mark Q n qs ss os g)
 
   all : length (world .stores) ≡ suc Q
   all = stores-length (suc Q) (splitAfter ps ts ss (suc Q) os b)
 
   idle : (p : Fin (suc Q)) → M .Idle p (getD (world .stores) (p .0) [])
   idle p = subst (M .Idle p) (sym (stores-at (suc Q) (splitAfter ps ts ss (suc Q) os b) (p .0) (p .1)))
-      (first-idle Q n qs ss os g p (first p) (stored p), stay-self (first p))
+      (first-idle Q n qs ss os g p (splitStore p) (stored p), stay-self (splitStore p))
 
   -- the marks that the calls start a part with
   abbrev pub inputOf : Calls → Fin (suc Q) → List ℕ
@@ -134,12 +134,12 @@ module _ (ps : List ℤ) (ts ss : List ℕ) (Q : ℕ) (os b : List ℕ) (e : spl
       go : (o : Option (List ℕ)) → startedWith act cs world (p .0) ≡ o → Fi p (Option·elim o (wanted Q n qs ss os g p) (λ ms. ms))
       go none f = wanted-fit Q n qs ss os g p
       go (some ms) f =
-          first-fine (suc Q) R M (Fits (suc Q) J) Fi A [] p ms cs world (subst (λ (k : ℕ). p .0 < k) (sym all) (p .1)) (idle p) f
+          first-fine (suc Q) R M (Fitted (suc Q) J) Fi A [] p ms cs world (subst (λ (k : ℕ). p .0 < k) (sym all) (p .1)) (idle p) f
 
   good : (cs : Calls) (p : Fin (suc Q)) (r : ℕ) (k : Fin (suc Q) → ℕ) (f : ℕ) → Can (parts (suc Q)) R (inputOf cs) p r k f
-      → Fits (suc Q) J p (local (parts (suc Q)) R (inputOf cs) p r k f)
+      → Fitted (suc Q) J p (local (parts (suc Q)) R (inputOf cs) p r k f)
   good cs p r k f c =
-      fitting-of (suc Q) J p (first p) (split-columns Q n qs ss os g p (first p) (stored p)) (fit Q n qs ss os g) (reads Q n qs ss os g)
+      fitting-of (suc Q) J p (splitStore p) (split-columns Q n qs ss os g p (splitStore p) (stored p)) (fit Q n qs ss os g) (reads Q n qs ss os g)
       (inputOf cs) p r k f c
 
   -- the store of a part after calls
@@ -148,7 +148,7 @@ module _ (ps : List ℤ) (ts ss : List ℕ) (Q : ℕ) (os b : List ℕ) (e : spl
 
   module _ (cs : Calls) (lawful : Lawful act cs world) where
     abbrev Al : Calls → Type 0
-    Al ds = Allowed (suc Q) R M (Fits (suc Q) J) Fi A (inputOf cs) (fine cs) end [] [] (good cs) world all idle refl ds
+    Al ds = Allowed (suc Q) R M (Fitted (suc Q) J) Fi A (inputOf cs) (fine cs) end [] [] (good cs) world all idle refl ds
 
     allowed : Al cs
     unfolding Option·elim
@@ -156,7 +156,7 @@ module _ (ps : List ℤ) (ts ss : List ℕ) (Q : ℕ) (os b : List ℕ) (e : spl
 
     -- a part that is done is past the last round
     pub done-phase : (p : Fin (suc Q)) → field (storeOf cs p) STAGE ≡ 2 → phaseOf (storeOf cs p) ≡ suc (R .rounds)
-    done-phase p d = go (deterministic (suc Q) R M (Fits (suc Q) J) Fi A (inputOf cs) (fine cs) end [] [] (good cs) world all idle refl cs allowed p)
+    done-phase p d = go (deterministic (suc Q) R M (Fitted (suc Q) J) Fi A (inputOf cs) (fine cs) end [] [] (good cs) world all idle refl cs allowed p)
       where
         go : M .Idle p (storeOf cs p)
             ⊎ ((r : ℕ) × (k : Fin (suc Q) → ℕ) × (f : ℕ) × Can (parts (suc Q)) R (inputOf cs) p r k f
@@ -185,9 +185,9 @@ module _ (ps : List ℤ) (ts ss : List ℕ) (Q : ℕ) (os b : List ℕ) (e : spl
 
     -- and one past the last round is done
     pub at-end : (p : Fin (suc Q)) → phaseOf (storeOf cs p) ≡ suc (R .rounds)
-        → (f : ℕ) × Standing (suc Q) J p (ending p f) (storeOf cs p) × Stay (first p) (storeOf cs p)
+        → (f : ℕ) × Standing (suc Q) J p (ending p f) (storeOf cs p) × Stay (splitStore p) (storeOf cs p)
     at-end p h =
-        let (f, t) = result (suc Q) R M (Fits (suc Q) J) Fi A (inputOf cs) (fine cs) end [] [] (good cs) world all idle refl cs allowed p h in
+        let (f, t) = result (suc Q) R M (Fitted (suc Q) J) Fi A (inputOf cs) (fine cs) end [] [] (good cs) world all idle refl cs allowed p h in
         (f, t .0, t .1)
 
     pub phase-done : (p : Fin (suc Q)) → phaseOf (storeOf cs p) ≡ suc (R .rounds) → field (storeOf cs p) STAGE ≡ 2
@@ -197,7 +197,7 @@ module _ (ps : List ℤ) (ts ss : List ℕ) (Q : ℕ) (os b : List ℕ) (e : spl
     -- a part past its start was started with its input
     pub started-with : (p : Fin (suc Q)) → phaseOf (storeOf cs p) ≡ suc (R .rounds) → startedWith act cs world (p .0) ≡ some (inputOf cs p)
     started-with p h =
-        begun-with (suc Q) R M (Fits (suc Q) J) Fi A (inputOf cs) (fine cs) end [] [] (good cs) world all idle refl cs allowed p (omega (arith, h))
+        begun-with (suc Q) R M (Fitted (suc Q) J) Fi A (inputOf cs) (fine cs) end [] [] (good cs) world all idle refl cs allowed p (omega (arith, h))
 
     pub input-fine : (p : Fin (suc Q)) → takes Q n qs ss os g p (inputOf cs p) ≡ true
     input-fine p = fine cs p
@@ -205,14 +205,14 @@ module _ (ps : List ℤ) (ts ss : List ℕ) (Q : ℕ) (os b : List ℕ) (e : spl
     -- THE BOUND
     pub moves-most : moves act cs world ≤ callsMost (suc Q) (length ss)
     moves-most =
-        le-trans (moves-few (suc Q) R M (Fits (suc Q) J) Fi A (inputOf cs) (fine cs) end [] [] (good cs) world all idle refl cs allowed)
+        le-trans (moves-few (suc Q) R M (Fitted (suc Q) J) Fi A (inputOf cs) (fine cs) end [] [] (good cs) world all idle refl cs allowed)
         (calls-few (suc Q) J (grownOf (parts (suc Q)) J) (ups (suc Q)) (pack (suc Q) J) (reads Q n qs ss os g) (inputOf cs) (length ss)
         (split-bound Q n qs ss os g))
 
     -- SOME CALL MOVES IT ON, until all parts are done
-    pub onward : ((p : Fin (suc Q)) → phaseOf (storeOf cs p) ≡ suc (R .rounds))
+    pub moves-on : ((p : Fin (suc Q)) → phaseOf (storeOf cs p) ≡ suc (R .rounds))
         ⊎ ((c : Call (List ℕ) (List ℕ)) × Lawful act (cs ++ (c ∷ [])) world × (moves act (cs ++ (c ∷ [])) world ≡ suc (moves act cs world)))
-    onward = go (moved-on (suc Q) R M (Fits (suc Q) J) Fi A (inputOf cs) (fine cs) end [] [] (good cs) world all idle refl cs allowed)
+    moves-on = go (moved-on (suc Q) R M (Fitted (suc Q) J) Fi A (inputOf cs) (fine cs) end [] [] (good cs) world all idle refl cs allowed)
       where
         go : ((p : Fin (suc Q)) → phaseOf (storeOf cs p) ≡ suc (R .rounds))
             ⊎ ((c : Call (List ℕ) (List ℕ)) × Al (cs ++ (c ∷ [])) × (moves act (cs ++ (c ∷ [])) world ≡ suc (moves act cs world)))
@@ -223,14 +223,14 @@ module _ (ps : List ℤ) (ts ss : List ℕ) (Q : ℕ) (os b : List ℕ) (e : spl
 
     pub completed : (ds : Calls) × Lawful act (cs ++ ds) world × ((p : Fin (suc Q)) → phaseOf (storeOf (cs ++ ds) p) ≡ suc (R .rounds))
     completed =
-        let (ds, a, d) = completion (suc Q) R M (Fits (suc Q) J) Fi A (inputOf cs) (fine cs) end [] [] (good cs) world all idle refl cs allowed in
+        let (ds, a, d) = completion (suc Q) R M (Fitted (suc Q) J) Fi A (inputOf cs) (fine cs) end [] [] (good cs) world all idle refl cs allowed in
         (ds, a .lawful, d)
 
     -- NONE TO SEND: all that the part wrote up to its round is given
-    pub none-left : (p : Fin (suc Q)) → act Fetch (storeOf cs p) ≡ none → field (storeOf cs p) STAGE ≢ 0
+    pub all-fetched : (p : Fin (suc Q)) → act Fetch (storeOf cs p) ≡ none → field (storeOf cs p) STAGE ≢ 0
         → (m : List ℕ) → List·Memᴰ m (post (parts (suc Q)) R (inputOf cs) (suc (field (storeOf cs p) ROUND)) p)
         → List·Memᴰ m (play act cs world .given)
-    none-left p h s = go (all-given (suc Q) R M (Fits (suc Q) J) Fi A (inputOf cs) (fine cs) end [] [] (good cs) world all idle refl cs allowed p h)
+    all-fetched p h s = go (all-given (suc Q) R M (Fitted (suc Q) J) Fi A (inputOf cs) (fine cs) end [] [] (good cs) world all idle refl cs allowed p h)
       where
         go : M .Idle p (storeOf cs p)
             ⊎ ((r : ℕ) × (k : Fin (suc Q) → ℕ)
@@ -247,7 +247,7 @@ module _ (ps : List ℤ) (ts ss : List ℕ) (Q : ℕ) (os b : List ℕ) (e : spl
   pub stays-done : (cs ds : Calls) → Lawful act cs world → Lawful act (cs ++ ds) world → (p : Fin (suc Q)) → field (storeOf cs p) STAGE ≡ 2
       → field (storeOf (cs ++ ds) p) STAGE ≡ 2
   stays-done cs ds a b p d =
-      let (u, v) = done-stays (suc Q) R M (Fits (suc Q) J) Fi A (inputOf (cs ++ ds)) (fine (cs ++ ds)) end [] [] (good (cs ++ ds)) world all idle refl
+      let (u, v) = done-stays (suc Q) R M (Fitted (suc Q) J) Fi A (inputOf (cs ++ ds)) (fine (cs ++ ds)) end [] [] (good (cs ++ ds)) world all idle refl
       cs ds (allowed (cs ++ ds) b) p in
       phase-done (cs ++ ds) b p (omega (arith, u, v, done-phase cs a p d))
 

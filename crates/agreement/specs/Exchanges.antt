@@ -84,9 +84,9 @@ module _ (Q n : ℕ) (qs : List (List ℕ)) (ss os : List ℕ) (g : Splits Q n q
       let (a, b) = w .each c (omega (arith, h)) in
       (omega (arith, h, w .many), sym (named Q .forth (getD os c 0) a b) ∙ ap (λ (x : Fin (suc Q)). numberOf x) e)
 
-  pub read : (p : Fin (suc Q)) (ms : List ℕ) (c : ℕ) → HoldsCell (suc Q) J p c → J .owner c ≡ p → reads p ms c ≡ getD ms (placeOn os c) 0
+  pub reads-mark : (p : Fin (suc Q)) (ms : List ℕ) (c : ℕ) → HoldsCell (suc Q) J p c → J .owner c ≡ p → reads p ms c ≡ getD ms (placeOn os c) 0
   unfolding marksFrom masterb
-  read p ms c (k, m, h) e =
+  reads-mark p ms c (k, m, h) e =
       let (a, b) = owner-is k c m p e in
       rw (lt-ltb c (length os) a, eq-eqb (getD os c 0) (numberOf p) b, marksFrom)
 

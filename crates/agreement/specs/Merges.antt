@@ -54,8 +54,8 @@ use Rattle.joining.specs.Joined.{Joining, laid-at, joined}
 use Rattle.outcome.specs.Program.{act}
 use Rattle.outcome.specs.Machines.{phaseOf}
 use Rattle.agreement.specs.Terms.{Calls}
-use Rattle.agreement.specs.Agreed.{g, first, world, J, R, storeOf, phase-done}
-use Rattle.agreement.specs.Outcomes.{ms, X, known, stands, stays, result-is, limits, held-new, held-old}
+use Rattle.agreement.specs.Agreed.{g, splitStore, world, J, R, storeOf, phase-done}
+use Rattle.agreement.specs.Outcomes.{ms, X, known, end-stands, split-stays, result-is, limits, held-new, held-old}
 
 -- four numbers that agree
 four-same : (x y : List ℕ) (a : ℕ) → length y ≡ length x → ((i : ℕ) → a ≤ i → i < a + 4 → field y i ≡ field x i)
@@ -89,14 +89,14 @@ module _ (ps : List ℤ) (ts ss : List ℕ) (Q : ℕ) (os b : List ℕ) (e : spl
   abbrev owner : ℕ → Fin (suc Q)
   owner i = nthPart Q (getD os i 0)
 
-  stored : (p : Fin (suc Q)) → Stored nn cells ss (suc Q) os (suc (p .0)) (first ps ts ss Q os b e p)
+  stored : (p : Fin (suc Q)) → Stored nn cells ss (suc Q) os (suc (p .0)) (splitStore ps ts ss Q os b e p)
   stored = split-store ps ts ss Q os b e
 
   columns : (p : Fin (suc Q)) → Columns (suc Q) (J ps ts ss Q os b e) p (x p)
-  columns p = stands ps ts ss Q os b e cs lawful done p .columns
+  columns p = end-stands ps ts ss Q os b e cs lawful done p .columns
 
-  stay : (p : Fin (suc Q)) → Stay (first ps ts ss Q os b e p) (x p)
-  stay = stays ps ts ss Q os b e cs lawful done
+  stay : (p : Fin (suc Q)) → Stay (splitStore ps ts ss Q os b e p) (x p)
+  stay = split-stays ps ts ss Q os b e cs lawful done
 
   -- a coarse cell stands on level 0
   coarse-member : (p : Fin (suc Q)) (i : ℕ) → i < length cells → Member i (J ps ts ss Q os b e .cells 0)
@@ -121,7 +121,7 @@ module _ (ps : List ℤ) (ts ss : List ℕ) (Q : ℕ) (os b : List ℕ) (e : spl
       let (c, d) = owner-ranged Q nn cells ss os (gg .sound) (gg .owners) i
       (number-inside nn cells ss (sound-parts nn cells ss (gg .sound)) 0 i (coarse-member p i h)) in
       let m : getD os i 0 ≡ suc (p .0) = sym (named Q .forth (getD os i 0) c d) ∙ ap (λ (q : Fin (suc Q)). numberOf q) o in
-      four-same (first ps ts ss Q os b e p) (x p) (CORNER + 4 * i) (stay p .size)
+      four-same (splitStore ps ts ss Q os b e p) (x p) (CORNER + 4 * i) (stay p .size)
       (λ j k l. stay p .else j (inr (inr (inr (omega arith, omega arith))))) ∙ s .four i low
       ∙ rw (lt-ltb i (length cells) h, eq-eqb (getD os i 0) (suc (p .0)) m, fourOf)
 
@@ -136,8 +136,8 @@ module _ (ps : List ℤ) (ts ss : List ℕ) (Q : ℕ) (os b : List ℕ) (e : spl
   done-of r es f h zero a c = absurd (omega arith)
   done-of r es f h (suc j) a c =
       let p : Fin (suc Q) = (j, omega arith) in record {
-        long = stands ps ts ss Q os b e cs lawful done (j, omega arith) .busy .long;
-        header = rw (stands ps ts ss Q os b e cs lawful done (j, omega arith) .busy .header) tt;
+        long = end-stands ps ts ss Q os b e cs lawful done (j, omega arith) .busy .long;
+        header = rw (end-stands ps ts ss Q os b e cs lawful done (j, omega arith) .busy .header) tt;
         part = columns (j, omega arith) .part;
         stage = phase-done ps ts ss Q os b e cs lawful (j, omega arith) (done (j, omega arith));
         parts = columns (j, omega arith) .many;
@@ -174,13 +174,13 @@ module _ (ps : List ℤ) (ts ss : List ℕ) (Q : ℕ) (os b : List ℕ) (e : spl
       )
 
   -- the stores one behind the other, in the order l
-  abbrev pub laid : List ℕ → List ℕ → List ℕ
-  laid l rest = flatMap storeBy l ++ rest
+  abbrev pub laidOut : List ℕ → List ℕ → List ℕ
+  laidOut l rest = flatMap storeBy l ++ rest
 
   joining-of : (r : ℕ) (table : List ℕ) (es : ℕ → List Entry) → ((p : Fin (suc Q)) → field (x p) RESULT ≡ r)
       → ((p : Fin (suc Q)) → heldIn (x p) ≡ es (suc (p .0))) → T (soundb nn cells table) → Joint nn cells table (suc Q) es
-      → (l : List ℕ) → Order (suc Q) l → (rest : List ℕ) → 16 * full ≤ length (laid l rest)
-      → Joining (laid l rest) (suc Q) nn r cells table es storeBy l
+      → (l : List ℕ) → Order (suc Q) l → (rest : List ℕ) → 16 * full ≤ length (laidOut l rest)
+      → Joining (laidOut l rest) (suc Q) nn r cells table es storeBy l
   joining-of r table es f h s j l o rest long = record {
     room = long;
     some = omega arith;
@@ -209,26 +209,26 @@ module _ (ps : List ℤ) (ts ss : List ℕ) (Q : ℕ) (os b : List ℕ) (e : spl
         subst (λ (t : List ℕ). Joint nn cells t (suc Q) shares) (sym (ap flatten (step-by nn cells ss marks (gg .sound))))
         (joint-new (X ps ts ss Q os b e cs lawful done) (suc Q) (nthPart Q) numberOf (named Q) (λ p. omega arith) (λ p. p .1))
 
-    pub merges-new : (l : List ℕ) → Order (suc Q) l → (rest : List ℕ) → 16 * full ≤ length (laid l rest) → (t : List ℕ) → 4096 ≤ length t
-        → (mergedOf (mergeAnswer (laid l rest) t) (length (mergeTable (storesIn (laid l rest)) (field (laid l rest) COARSE)))
+    pub merges-new : (l : List ℕ) → Order (suc Q) l → (rest : List ℕ) → 16 * full ≤ length (laidOut l rest) → (t : List ℕ) → 4096 ≤ length t
+        → (mergedOf (mergeAnswer (laidOut l rest) t) (length (mergeTable (storesIn (laidOut l rest)) (field (laidOut l rest) COARSE)))
         ≡ answer.Cells (length (newTable nn cells ss marks)))
-        × (heldAfter (mergeAnswer (laid l rest) t) (mergeTable (storesIn (laid l rest)) (field (laid l rest) COARSE)) t
+        × (heldAfter (mergeAnswer (laidOut l rest) t) (mergeTable (storesIn (laidOut l rest)) (field (laidOut l rest) COARSE)) t
         ≡ newTable nn cells ss marks ++ drop (length (newTable nn cells ss marks)) t)
     unfolding codeOf
     merges-new l o rest long =
-        joined (laid l rest) (suc Q) nn 0 cells (newTable nn cells ss marks) shares storeBy l
+        joined (laidOut l rest) (suc Q) nn 0 cells (newTable nn cells ss marks) shares storeBy l
         (joining-of 0 (newTable nn cells ss marks) shares (λ p. result-is ps ts ss Q os b e cs lawful done p ∙ ap codeOf yes)
         (λ p. held-new ps ts ss Q os b e cs lawful done yes p ∙ ap (entriesIn (X ps ts ss Q os b e cs lawful done)) (sym (named Q .back p)))
         new-sound joint l o rest long)
 
   -- THE OLD TABLE, beside 8 or 9
   module _ (k : ℕ) (f : markedAnswer ps ts ss marks ≡ Refused (suc k)) where
-    pub merges-old : (l : List ℕ) → Order (suc Q) l → (rest : List ℕ) → 16 * full ≤ length (laid l rest) → (t : List ℕ) → 4096 ≤ length t
-        → (mergedOf (mergeAnswer (laid l rest) t) (length (mergeTable (storesIn (laid l rest)) (field (laid l rest) COARSE))) ≡ answer.Cells (length ss))
-        × (heldAfter (mergeAnswer (laid l rest) t) (mergeTable (storesIn (laid l rest)) (field (laid l rest) COARSE)) t ≡ ss ++ drop (length ss) t)
+    pub merges-old : (l : List ℕ) → Order (suc Q) l → (rest : List ℕ) → 16 * full ≤ length (laidOut l rest) → (t : List ℕ) → 4096 ≤ length t
+        → (mergedOf (mergeAnswer (laidOut l rest) t) (length (mergeTable (storesIn (laidOut l rest)) (field (laidOut l rest) COARSE))) ≡ answer.Cells (length ss))
+        × (heldAfter (mergeAnswer (laidOut l rest) t) (mergeTable (storesIn (laidOut l rest)) (field (laidOut l rest) COARSE)) t ≡ ss ++ drop (length ss) t)
     unfolding codeOf
     merges-old l o rest long =
-        joined (laid l rest) (suc Q) nn (suc k) cells ss (entriesOf nn cells ss os) storeBy l
+        joined (laidOut l rest) (suc Q) nn (suc k) cells ss (entriesOf nn cells ss os) storeBy l
         (joining-of (suc k) ss (entriesOf nn cells ss os) (λ p. result-is ps ts ss Q os b e cs lawful done p ∙ ap codeOf f)
         (held-old ps ts ss Q os b e cs lawful done k f) (gg .sound)
         (joint-old nn cells ss (suc Q) (sound-parts nn cells ss (gg .sound)) os (gg .owners)) l o rest long)

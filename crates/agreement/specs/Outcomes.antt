@@ -53,7 +53,7 @@ use Rattle.outcome.specs.Program.{act}
 use Rattle.outcome.specs.Machines.{phaseOf}
 use Rattle.agreement.specs.Terms.{Calls, marksGiven, serialMarks}
 use Rattle.agreement.specs.Exchanges.{fit, reads, takes}
-use Rattle.agreement.specs.Agreed.{n, qs, g, first, world, J, R, inputOf, storeOf, ending, at-end, input-fine}
+use Rattle.agreement.specs.Agreed.{n, qs, g, splitStore, world, J, R, inputOf, storeOf, ending, at-end, input-fine}
 
 -- the test of all marks, said twice
 marks-each : (ss ms : List ℕ) → marksb ss ms ≡ eachb markb ss ms
@@ -179,17 +179,17 @@ module _ (ps : List ℤ) (ts ss : List ℕ) (Q : ℕ) (os b : List ℕ) (e : spl
   abbrev x : Fin (suc Q) → List ℕ
   x = storeOf ps ts ss Q os b e cs
 
-  pub stands : (p : Fin (suc Q)) → Standing (suc Q) (J ps ts ss Q os b e) p (ending ps ts ss Q os b e cs lawful p (at-end ps ts ss Q os b e cs lawful p (done p) .0)) (x p)
-  stands p = at-end ps ts ss Q os b e cs lawful p (done p) .1
+  pub end-stands : (p : Fin (suc Q)) → Standing (suc Q) (J ps ts ss Q os b e) p (ending ps ts ss Q os b e cs lawful p (at-end ps ts ss Q os b e cs lawful p (done p) .0)) (x p)
+  end-stands p = at-end ps ts ss Q os b e cs lawful p (done p) .1
 
-  pub stays : (p : Fin (suc Q)) → Stay (first ps ts ss Q os b e p) (x p)
-  stays p = at-end ps ts ss Q os b e cs lawful p (done p) .2
+  pub split-stays : (p : Fin (suc Q)) → Stay (splitStore ps ts ss Q os b e p) (x p)
+  split-stays p = at-end ps ts ss Q os b e cs lawful p (done p) .2
 
   holds : (p : Fin (suc Q)) → (field (x p) RESULT ≡ resultOf (last p .total) (last p .high))
       × ((field (x p) RESULT ≡ 0 → heldIn (x p) ≡ take 4096 (entries (parts (suc Q)) (J ps ts ss Q os b e) p (last p)))
       × (field (x p) RESULT ≢ 0 → heldIn (x p) ≡ olds (suc Q) (J ps ts ss Q os b e) p (field (x p) CELLS)))
   unfolding Holding
-  holds p = subst (λ f. Holding (suc Q) (J ps ts ss Q os b e) p f (last p) (x p)) (phase-over (J ps ts ss Q os b e .top)) (stands p .holding)
+  holds p = subst (λ f. Holding (suc Q) (J ps ts ss Q os b e) p f (last p) (x p)) (phase-over (J ps ts ss Q os b e .top)) (end-stands p .holding)
 
   -- EACH PART ENDED WITH THE SERIAL STEP'S NUMBER
   pub result-is : (p : Fin (suc Q)) → field (x p) RESULT ≡ codeOf (markedAnswer ps ts ss ms)
@@ -219,8 +219,8 @@ module _ (ps : List ℤ) (ts ss : List ℕ) (Q : ℕ) (os b : List ℕ) (e : spl
   unfolding codeOf
   held-old k f p =
       let z : field (x p) RESULT ≢ 0 = (λ y. absurd (omega (arith, y, result-is p ∙ ap codeOf f))) in
-      let c : field (x p) CELLS ≡ length ss = stays p .else CELLS (inl (omega arith, omega arith)) ∙ first-cells p in
+      let c : field (x p) CELLS ≡ length ss = split-stays p .else CELLS (inl (omega arith, omega arith)) ∙ first-cells p in
       holds p .1 .1 z ∙ ap (olds (suc Q) (J ps ts ss Q os b e) p) c ∙ olds-are Q nn cells ss os gg p
     where
-      first-cells : (p : Fin (suc Q)) → field (first ps ts ss Q os b e p) CELLS ≡ length ss
+      first-cells : (p : Fin (suc Q)) → field (splitStore ps ts ss Q os b e p) CELLS ≡ length ss
       first-cells p = split-store ps ts ss Q os b e p .cells

@@ -3,8 +3,8 @@
 --   afterSplit P b         the world then: these stores, and no message given
 --   marksGiven os cs w p   the marks that the calls cs started the part p with, from 1; 0 for each master where they did not start it
 --   serialMarks os cs w    these marks put together: what the serial step is given
---   partStore cs w p       the store of the part p, from 1, after the calls
---   written ..             what a part writes in its first r rounds, in lockstep with the others
+--   lastStore cs w p       the store of the part p, from 1, after the calls
+--   messagesOf ..          what a part writes in its first r rounds, in lockstep with the others
 --   alldoneb w             all parts are done
 --   resultIn x             the number that a done part ended with: 0, 8 or 9
 use mathlib.Core.Bool.{Bool}
@@ -51,8 +51,8 @@ unfoldable pub serialMarks : List ℕ → Calls → Stores → List ℕ
 unfolding putTogether marksGiven
 serialMarks os cs w = putTogether os (marksGiven os cs w)
 
-abbrev pub partStore : Calls → Stores → ℕ → List ℕ
-partStore cs w p = getD (play act cs w .stores) (pred p) []
+abbrev pub lastStore : Calls → Stores → ℕ → List ℕ
+lastStore cs w p = getD (play act cs w .stores) (pred p) []
 
 unfoldable pub alldoneb : Stores → Bool
 unfolding allb
@@ -62,7 +62,7 @@ abbrev pub resultIn : List ℕ → ℕ
 resultIn x = field x RESULT
 
 -- the rounds of a split over Q + 1 parts, and the messages of the part p, from 0, in the first r of them; part p starts with given p
-abbrev pub written : (Q n : ℕ) → List (List ℕ) → List ℕ → List ℕ → (Fin (suc Q) → List ℕ) → ℕ → Fin (suc Q) → List (List ℕ)
-written Q n qs ss os given r p =
+abbrev pub messagesOf : (Q n : ℕ) → List (List ℕ) → List ℕ → List ℕ → (Fin (suc Q) → List ℕ) → ℕ → Fin (suc Q) → List (List ℕ)
+messagesOf Q n qs ss os given r p =
     post (parts (suc Q)) (protocol (parts (suc Q)) (splitTask Q n qs ss os) (grownOf (parts (suc Q)) (splitTask Q n qs ss os)) (ups (suc Q))
     (pack (suc Q) (splitTask Q n qs ss os)) (λ p ms c. marksFrom os (λ o. ms) p c)) given r p

@@ -48,8 +48,8 @@ use Rattle.tasks.specs.Holders.{splitTask}
 use Rattle.tasks.specs.Accepted.{Splits, splits-from, split-slots}
 use Rattle.outcome.specs.Program.{act}
 use Rattle.outcome.specs.Machines.{phaseOf}
-use Rattle.agreement.specs.Terms.{Calls, Stores, afterSplit, marksGiven, serialMarks, partStore, alldoneb, resultIn, written}
-use Rattle.agreement.specs.Agreed.{R, storeOf, all-phases, phases-all, onward, completed, moves-most, stays-done, none-left}
+use Rattle.agreement.specs.Terms.{Calls, Stores, afterSplit, marksGiven, serialMarks, lastStore, alldoneb, resultIn, messagesOf}
+use Rattle.agreement.specs.Agreed.{R, storeOf, all-phases, phases-all, moves-on, completed, moves-most, stays-done, all-fetched}
 use Rattle.agreement.specs.Outcomes.{X, known, serial-is, result-is, limits, held-new, held-old}
 use Rattle.agreement.specs.Merges.{merges-new, merges-old}
 
@@ -61,7 +61,7 @@ pub record JustThese (es fs : List Entry) : Type 0 where
 
 -- the stores of the parts l one behind the other, and whatever stands behind them
 abbrev pub laid : Calls → Stores → List ℕ → List ℕ → List ℕ
-laid cs w l rest = flatMap (partStore cs w) l ++ rest
+laid cs w l rest = flatMap (lastStore cs w) l ++ rest
 
 -- merging these, into any table of full length, is accepted and leaves the table ts in front
 abbrev pub MergesTo : List ℕ → List ℕ → Type 0
@@ -73,8 +73,8 @@ MergesTo stores ts = (t : List ℕ) → 4096 ≤ length t
 module _ (n : ℕ) (qs : List (List ℕ)) (ss os : List ℕ) (P : ℕ) (cs : Calls) (w : Stores) where
   pub record Serial (ts : List ℕ) : Type 0 where
     -- each part ended without a number, and holds just the masters and ghosts that the owners' rule and the serial table make
-    pub ended : (p : ℕ) → 1 ≤ p → p ≤ P → resultIn (partStore cs w p) ≡ 0
-    pub held : (p : ℕ) → 1 ≤ p → p ≤ P → JustThese (heldIn (partStore cs w p)) (entriesOf n qs ts (ownersAfter n qs ss os ts) p)
+    pub ended : (p : ℕ) → 1 ≤ p → p ≤ P → resultIn (lastStore cs w p) ≡ 0
+    pub held : (p : ℕ) → 1 ≤ p → p ≤ P → JustThese (heldIn (lastStore cs w p)) (entriesOf n qs ts (ownersAfter n qs ss os ts) p)
     -- put together, in any order of the stores, they are the serial table
     pub merges : (l : List ℕ) → Order P l → (rest : List ℕ) → 16 * full ≤ length (laid cs w l rest) → MergesTo (laid cs w l rest) ts
     -- the owners after the step are accepted ones
@@ -100,8 +100,8 @@ module _ (n : ℕ) (qs : List (List ℕ)) (ss os : List ℕ) (P : ℕ) (cs : Cal
   -- every part ended with the refusal's number and its old mesh
   pub record AsBefore (k : ℕ) : Type 0 where
     pub number : (k ≡ 8) ⊎ (k ≡ 9)
-    pub ended : (p : ℕ) → 1 ≤ p → p ≤ P → resultIn (partStore cs w p) ≡ k
-    pub held : (p : ℕ) → 1 ≤ p → p ≤ P → heldIn (partStore cs w p) ≡ entriesOf n qs ss os p
+    pub ended : (p : ℕ) → 1 ≤ p → p ≤ P → resultIn (lastStore cs w p) ≡ k
+    pub held : (p : ℕ) → 1 ≤ p → p ≤ P → heldIn (lastStore cs w p) ≡ entriesOf n qs ss os p
     pub merges : (l : List ℕ) → Order P l → (rest : List ℕ) → 16 * full ≤ length (laid cs w l rest) → MergesTo (laid cs w l rest) ss
 
 -- after the calls cs on the stores w of an accepted split
@@ -112,19 +112,19 @@ pub record Split3 (ps : List ℤ) (ts ss : List ℕ) (P : ℕ) (os : List ℕ) (
   pub refused : T (alldoneb (play act cs w)) → (k : ℕ) → markedAnswer ps ts ss (serialMarks os cs w) ≡ Refused k
       → AsBefore (cornerCount ps) (fours ts) ss os P cs w k
   -- not all done: some call would be accepted and move the exchange on, and the list can be carried on to the end
-  pub onward : alldoneb (play act cs w) ≡ false
+  pub moves-on : alldoneb (play act cs w) ≡ false
       → (c : Call (List ℕ) (List ℕ)) × Lawful act (cs ++ (c ∷ [])) w × (moves act (cs ++ (c ∷ [])) w ≡ suc (moves act cs w))
   pub to-the-end : (ds : Calls) × Lawful act (cs ++ ds) w × T (alldoneb (play act (cs ++ ds) w))
   -- the calls that moved it on are at most 24 P + 2 P (P - 1) (7 m + 24), of m cells
   pub few : moves act cs w ≤ callsMost P (length ss)
   -- done stays done
-  pub done-stays : (ds : Calls) → Lawful act (cs ++ ds) w → (p : ℕ) → 1 ≤ p → p ≤ P → field (partStore cs w p) STAGE ≡ 2
-      → field (partStore (cs ++ ds) w p) STAGE ≡ 2
+  pub done-stays : (ds : Calls) → Lawful act (cs ++ ds) w → (p : ℕ) → 1 ≤ p → p ≤ P → field (lastStore cs w p) STAGE ≡ 2
+      → field (lastStore (cs ++ ds) w p) STAGE ≡ 2
   -- a started part has none to send only when all that it has written, in the rounds up to its own, was fetched
-  pub none-to-send : (Q : ℕ) → P ≡ suc Q → (p : Fin (suc Q)) → field (partStore cs w (suc (p .0))) STAGE ≢ 0
-      → act Fetch (partStore cs w (suc (p .0))) ≡ none → (m : List ℕ)
-      → List·Memᴰ m (written Q (cornerCount ps) (fours ts) ss os (λ q. marksGiven os cs w (suc (q .0)))
-      (suc (field (partStore cs w (suc (p .0))) ROUND)) p)
+  pub none-to-send : (Q : ℕ) → P ≡ suc Q → (p : Fin (suc Q)) → field (lastStore cs w (suc (p .0))) STAGE ≢ 0
+      → act Fetch (lastStore cs w (suc (p .0))) ≡ none → (m : List ℕ)
+      → List·Memᴰ m (messagesOf Q (cornerCount ps) (fours ts) ss os (λ q. marksGiven os cs w (suc (q .0)))
+      (suc (field (lastStore cs w (suc (p .0))) ROUND)) p)
       → List·Memᴰ m (play act cs w .given)
 
 -- every accepted split, and every lawful list of calls on its stores, refused ones included
@@ -212,12 +212,12 @@ module _ (ps : List ℤ) (ts ss : List ℕ) (Q : ℕ) (os b : List ℕ) (e : spl
               (slotsOn n qs ss) (split-slots Q n qs ss os g) (nthPart Q) numberOf (named Q) st kn (lim .0) (lim .1);
         }
       where
-        result-by : (q : ℕ) → 1 ≤ q → q ≤ suc Q → markedAnswer ps ts ss marks ≡ Accepted → resultIn (partStore cs w q) ≡ 0
+        result-by : (q : ℕ) → 1 ≤ q → q ≤ suc Q → markedAnswer ps ts ss marks ≡ Accepted → resultIn (lastStore cs w q) ≡ 0
         result-by zero a c ok = absurd (omega arith)
         result-by (suc j) a c ok = result-is ps ts ss Q os b e cs lawful done (j, omega arith) ∙ ap codeOf ok
 
         held-by : (q : ℕ) → 1 ≤ q → q ≤ suc Q → markedAnswer ps ts ss marks ≡ Accepted
-            → JustThese (heldIn (partStore cs w q)) (entriesOf n qs (newTable n qs ss marks) (ownersAfter n qs ss os (newTable n qs ss marks)) q)
+            → JustThese (heldIn (lastStore cs w q)) (entriesOf n qs (newTable n qs ss marks) (ownersAfter n qs ss os (newTable n qs ss marks)) q)
         held-by zero a c ok = absurd (omega arith)
         held-by (suc j) a c ok =
             let p : Fin (suc Q) = (j, omega arith) in
@@ -236,11 +236,11 @@ module _ (ps : List ℤ) (ts ss : List ℕ) (Q : ℕ) (os b : List ℕ) (e : spl
     unfolding codeOf
     as-before k f = go k f (limit-number n qs ss marks k (sym (serial-is ps ts ss Q os b e cs lawful done) ∙ f))
       where
-        ended : (k q : ℕ) → 1 ≤ q → q ≤ suc Q → markedAnswer ps ts ss marks ≡ Refused k → resultIn (partStore cs w q) ≡ k
+        ended : (k q : ℕ) → 1 ≤ q → q ≤ suc Q → markedAnswer ps ts ss marks ≡ Refused k → resultIn (lastStore cs w q) ≡ k
         ended k zero a c f = absurd (omega arith)
         ended k (suc j) a c f = result-is ps ts ss Q os b e cs lawful done (j, omega arith) ∙ ap codeOf f
 
-        held : (k q : ℕ) → 1 ≤ q → q ≤ suc Q → markedAnswer ps ts ss marks ≡ Refused (suc k) → heldIn (partStore cs w q) ≡ entriesOf n qs ss os q
+        held : (k q : ℕ) → 1 ≤ q → q ≤ suc Q → markedAnswer ps ts ss marks ≡ Refused (suc k) → heldIn (lastStore cs w q) ≡ entriesOf n qs ss os q
         held k zero a c f = absurd (omega arith)
         held k (suc j) a c f = held-old ps ts ss Q os b e cs lawful done k f (j, omega arith)
 
@@ -259,7 +259,7 @@ module _ (ps : List ℤ) (ts ss : List ℕ) (Q : ℕ) (os b : List ℕ) (e : spl
   split3 = record {
     accepted = serial;
     refused = as-before;
-    onward = λ f. go f (onward ps ts ss Q os b e cs lawful);
+    moves-on = λ f. go f (moves-on ps ts ss Q os b e cs lawful);
     to-the-end =
         let (ds, a, d) = completed ps ts ss Q os b e cs lawful in
         (ds, a, phases-all ps ts ss Q os b e (cs ++ ds) a d);
@@ -275,25 +275,25 @@ module _ (ps : List ℤ) (ts ss : List ℕ) (Q : ℕ) (os b : List ℕ) (e : spl
       go f (inl d) = not-both (alldoneb (play act cs w)) (is-true (alldoneb (play act cs w)) (phases-all ps ts ss Q os b e cs lawful d)) f
       go f (inr c) = c
 
-      stays : (ds : Calls) → Lawful act (cs ++ ds) w → (q : ℕ) → 1 ≤ q → q ≤ suc Q → field (partStore cs w q) STAGE ≡ 2
-          → field (partStore (cs ++ ds) w q) STAGE ≡ 2
+      stays : (ds : Calls) → Lawful act (cs ++ ds) w → (q : ℕ) → 1 ≤ q → q ≤ suc Q → field (lastStore cs w q) STAGE ≡ 2
+          → field (lastStore (cs ++ ds) w q) STAGE ≡ 2
       stays ds h zero a c d = absurd (omega arith)
       stays ds h (suc j) a c d = stays-done ps ts ss Q os b e cs ds lawful h (j, omega arith) d
 
-      mine : (p : Fin (suc Q)) → field (partStore cs w (suc (p .0))) STAGE ≢ 0
-          → act Fetch (partStore cs w (suc (p .0))) ≡ none → (m : List ℕ)
-          → List·Memᴰ m (written Q n qs ss os (λ q. marksGiven os cs w (suc (q .0))) (suc (field (partStore cs w (suc (p .0))) ROUND)) p)
+      mine : (p : Fin (suc Q)) → field (lastStore cs w (suc (p .0))) STAGE ≢ 0
+          → act Fetch (lastStore cs w (suc (p .0))) ≡ none → (m : List ℕ)
+          → List·Memᴰ m (messagesOf Q n qs ss os (λ q. marksGiven os cs w (suc (q .0))) (suc (field (lastStore cs w (suc (p .0))) ROUND)) p)
           → List·Memᴰ m (play act cs w .given)
-      mine p s f = none-left ps ts ss Q os b e cs lawful p f s
+      mine p s f = all-fetched ps ts ss Q os b e cs lawful p f s
 
-      sends : (R : ℕ) → suc Q ≡ suc R → (p : Fin (suc R)) → field (partStore cs w (suc (p .0))) STAGE ≢ 0
-          → act Fetch (partStore cs w (suc (p .0))) ≡ none → (m : List ℕ)
-          → List·Memᴰ m (written R n qs ss os (λ q. marksGiven os cs w (suc (q .0))) (suc (field (partStore cs w (suc (p .0))) ROUND)) p)
+      sends : (R : ℕ) → suc Q ≡ suc R → (p : Fin (suc R)) → field (lastStore cs w (suc (p .0))) STAGE ≢ 0
+          → act Fetch (lastStore cs w (suc (p .0))) ≡ none → (m : List ℕ)
+          → List·Memᴰ m (messagesOf R n qs ss os (λ q. marksGiven os cs w (suc (q .0))) (suc (field (lastStore cs w (suc (p .0))) ROUND)) p)
           → List·Memᴰ m (play act cs w .given)
       sends R z =
-          subst (λ (k : ℕ). (p : Fin (suc k)) → field (partStore cs w (suc (p .0))) STAGE ≢ 0
-          → act Fetch (partStore cs w (suc (p .0))) ≡ none → (m : List ℕ)
-          → List·Memᴰ m (written k n qs ss os (λ q. marksGiven os cs w (suc (q .0))) (suc (field (partStore cs w (suc (p .0))) ROUND)) p)
+          subst (λ (k : ℕ). (p : Fin (suc k)) → field (lastStore cs w (suc (p .0))) STAGE ≢ 0
+          → act Fetch (lastStore cs w (suc (p .0))) ≡ none → (m : List ℕ)
+          → List·Memᴰ m (messagesOf k n qs ss os (λ q. marksGiven os cs w (suc (q .0))) (suc (field (lastStore cs w (suc (p .0))) ROUND)) p)
           → List·Memᴰ m (play act cs w .given)) (omega (arith, z)) mine
 
 pub demand3 : Demand3

@@ -32,8 +32,8 @@ use Rattle.standing.specs.Walk.{queueOf, leftOf, givenAfter, givenTo, stream, s
 use Rattle.standing.specs.Busy.{L, Busy, HoldsCell, HoldsSlot}
 use Rattle.turns.specs.Decide.{hitb}
 use Rattle.turns.specs.Start.{ownb, markOk, markAt, nextMark, marksDue, markSet, markedFrom, enterMarks, startAnswer, startedStore, startedIn, startAfter}
-use Rattle.entering.specs.Columns.{Columns, Marked, countBefore}
-use Rattle.entering.specs.Fits.{Fits}
+use Rattle.entering.specs.Columns.{Columns, MarksIn, countBefore}
+use Rattle.entering.specs.Fits.{Fitted}
 use Rattle.entering.specs.Within.{member-low, slot-low}
 use Rattle.entering.specs.Bits.{bit-none}
 use Rattle.entering.specs.Lines.{part-same}
@@ -194,7 +194,7 @@ module _ (x ms : List ℕ) (long : full ≤ length x) (head : headerb x ≡ true
 module _ (P : ℕ) (J : Task (Fin P)) (fit : Fit J) (reads : Fin P → List ℕ → ℕ → ℕ) (p : Fin P) (place : ℕ → ℕ) (takes : List ℕ → Bool)
     (x : List ℕ) (idle : Idle P J p place takes x) (ms : List ℕ) (fine : takes ms ≡ true)
     (read : (c : ℕ) → HoldsCell P J p c → J .owner c ≡ p → reads p ms c ≡ getD ms (place c) 0)
-    (fits : Fits P J p (atStart (parts P) (Q P J reads p) p ms)) where
+    (fits : Fitted P J p (atStart (parts P) (Q P J reads p) p ms)) where
   abbrev co : Columns P J p x
   co = idle .columns
 
@@ -234,7 +234,7 @@ module _ (P : ℕ) (J : Task (Fin P)) (fit : Fit J) (reads : Fin P → List ℕ 
   stage-is : field x0 STAGE ≡ 1
   stage-is = getD-set-same m STAGE 1 0 (omega (arith, marked-size ms (field x CELLS) 0 0 x, co .long))
 
-  marked : Marked P J p (reads p ms) x0
+  marked : MarksIn P J p (reads p ms) x0
   unfolding ownb
   marked c h o =
       let own : ownb x c ≡ true = ap₂ eqb (co .owner c h) (co .part) ∙ part-same P (J .owner c) p o in

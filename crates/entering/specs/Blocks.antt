@@ -1,7 +1,7 @@
 -- Loops that change one block of a store.
 --   SameBut a m x y    y is x but for the m numbers from a on
 -- Laws: but-self, but-on, but-set, but-each (loops keep the rest), each-flag (a loop that sets flags), each-count (a loop that counts),
--- some-range (a scan of numbers in a row), count-one (at most one is counted).
+-- some-range (a scan of numbers in a row), count-single (at most one is counted).
 use mathlib.Core.Path.{_≡_, refl, sym, _∙_, ap, subst}
 use mathlib.Core.Logic.{_⊎_, inl, inr}
 use mathlib.Core.Bool.{Bool, true, false, _&&_, _||_}
@@ -137,13 +137,13 @@ count-none g (suc n) c h =
     let e = h c (omega arith) (omega arith) in
     (rw (e, filterb) a, rw (e, anyb) b)
 
-pub count-one : (g : ℕ → Bool) (n c : ℕ)
+pub count-single : (g : ℕ → Bool) (n c : ℕ)
     → ((i j : ℕ) → c ≤ i → i < c + n → c ≤ j → j < c + n → g i ≡ true → g j ≡ true → i ≡ j)
     → length (filterb g (range c n)) ≡ one-if (anyb g (range c n))
 unfolding filterb range anyb one-if
-count-one g zero c h = refl
-count-one g (suc n) c h =
-    go (g c) refl (count-one g n (suc c) (λ i j a b k l. h i j (omega arith) (omega arith) (omega arith) (omega arith)))
+count-single g zero c h = refl
+count-single g (suc n) c h =
+    go (g c) refl (count-single g n (suc c) (λ i j a b k l. h i j (omega arith) (omega arith) (omega arith) (omega arith)))
   where
     others : g c ≡ true → (i : ℕ) → suc c ≤ i → i < suc c + n → g i ≡ false
     others e i a b = off (g i) refl

@@ -1,8 +1,8 @@
 -- What a part's store holds of the task, from the split on: columns that no call changes.
 --   Columns P J p x    the store x has the columns of the part p
 --   Path k l           a path of a cell of level k that has room in a place
---   Known st x         the flags of held cells and the sums of held slots are those of the state st
---   Marked g x         the marks of the masters are those of g
+--   Heard st x         the flags of held cells and the sums of held slots are those of the state st
+--   MarksIn g x        the marks of the masters are those of g
 --   countBefore x c    how many masters stand before the cell c
 use mathlib.Core.Path.{_≡_}
 use mathlib.Core.Bool.{Bool, true, false}
@@ -86,12 +86,12 @@ module _ (P : ℕ) (J : Task (Fin P)) (p : Fin P) where
     pub no-holders : (k s : ℕ) → Member s (J .slots k) → holdsb (parts P) J p k s ≡ false → field x (HOLDERS + s) ≡ 0
     pub held-slot : (k s : ℕ) → holdsb (parts P) J p k s ≡ true → Member s (J .slots k)
 
-  pub record Known (red : ℕ → Bool) (sum : ℕ → ℕ) (x : List ℕ) : Type 0 where
+  pub record Heard (red : ℕ → Bool) (sum : ℕ → ℕ) (x : List ℕ) : Type 0 where
     pub flags : (c : ℕ) → HoldsCell P J p c → field x (RED + c) ≡ one-if (red c)
     pub sums : (s : ℕ) → HoldsSlot P J p s → field x (SUM + s) ≡ sum s
 
-  abbrev pub Marked : (ℕ → ℕ) → List ℕ → Type 0
-  Marked g x = (c : ℕ) → HoldsCell P J p c → J .owner c ≡ p → field x (MARK + c) ≡ g c
+  abbrev pub MarksIn : (ℕ → ℕ) → List ℕ → Type 0
+  MarksIn g x = (c : ℕ) → HoldsCell P J p c → J .owner c ≡ p → field x (MARK + c) ≡ g c
 
 unfoldable pub countBefore : List ℕ → ℕ → ℕ
 unfolding ownb one-if

@@ -1,6 +1,6 @@
 -- On entering a round of marks a part decides on the cells of a level whose families it has.
 --   decidedAt x k    the store with the flags of the level decided
--- Laws: rule-is (the rule by the store is the rule of the task), decided (the flags after), decided-else, decided-length, decided-but (the
+-- Laws: rule-agrees (the rule by the store is the rule of the task), decided (the flags after), decided-else, decided-length, decided-but (the
 -- rest).
 use mathlib.Core.Path.{_≡_, refl, sym, _∙_, ap, ap₂}
 use mathlib.Core.Logic.{_⊎_, inl, inr}
@@ -27,9 +27,9 @@ use Rattle.standing.specs.Busy.{HoldsCell, HoldsSlot}
 use Rattle.turns.specs.Loops.{someFrom, eachFrom}
 use Rattle.turns.specs.Decide.{slotAt, hitb, hitOf, pullOf, idleKid, pulledKid, kidCount, busyb, ruleb, decideOne}
 use Rattle.turns.specs.Start.{levelFrom}
-use Rattle.entering.specs.Columns.{Columns, Marked}
+use Rattle.entering.specs.Columns.{Columns, MarksIn}
 use Rattle.entering.specs.Within.{six-range, edge-low, own-held, family-held, slot-held, member-low, cell-low}
-use Rattle.entering.specs.Within.{level-inside, cells-are, level-member}
+use Rattle.entering.specs.Within.{level-inside, cells-of-level, level-member}
 use Rattle.entering.specs.Blocks.{SameBut, but-self, but-set, but-each, each-flag, some-range}
 
 abbrev pub decidedAt : List ℕ → ℕ → List ℕ
@@ -164,7 +164,7 @@ module _ (P : ℕ) (J : Task (Fin P)) (p : Fin P) (x : List ℕ) (u : Columns P 
 
 -- the rule, of a store that holds the task
 module _ (P : ℕ) (J : Task (Fin P)) (fit : Fit J) (p : Fin P) (x : List ℕ) (u : Columns P J p x) (h : ℕ → Bool)
-    (hits : (s : ℕ) → HoldsSlot P J p s → hitb x s ≡ h s) (g : ℕ → ℕ) (marked : Marked P J p g x) where
+    (hits : (s : ℕ) → HoldsSlot P J p s → hitb x s ≡ h s) (g : ℕ → ℕ) (marked : MarksIn P J p g x) where
   hit-is : (d e : ℕ) → HoldsCell P J p d → Member e sixEdges → hitOf x d e ≡ h (J .slot d e)
   unfolding hitOf
   hit-is d e held m = ap (hitb x) (u .slot d e held (edge-low e m)) ∙ hits (J .slot d e) (slot-held P J p d e held m)
@@ -209,9 +209,9 @@ module _ (P : ℕ) (J : Task (Fin P)) (fit : Fit J) (p : Fin P) (x : List ℕ) (
     status-at : (n : ℕ) → eqb (field x (STATUS + c)) n ≡ eqb (J .status c) n
     status-at n = ap (λ (i : ℕ). eqb i n) (u .status c held-c)
 
-    pub rule-is : ruleb x c ≡ rule J h g c
+    pub rule-agrees : ruleb x c ≡ rule J h g c
     unfolding ruleb rule
-    rule-is = go (eqb (J .status c) 64) refl (eqb (J .status c) 0) refl
+    rule-agrees = go (eqb (J .status c) 64) refl (eqb (J .status c) 0) refl
       where
         go : (a : Bool) → eqb (J .status c) 64 ≡ a → (b : Bool) → eqb (J .status c) 0 ≡ b → ruleb x c ≡ rule J h g c
         go true e b i = rw (status-at 64 ∙ e, e, ruleb, rule) (kids-are (busyb x)
@@ -237,7 +237,7 @@ module _ (P : ℕ) (J : Task (Fin P)) (fit : Fit J) (p : Fin P) (x : List ℕ) (
         let e : field y (FAMILY + c) ≡ field y PART =
         s .rest (FAMILY + c) (inl (omega arith)) ∙ u .family c held-c ∙ ap (λ (q : Fin P). suc (q .0)) f ∙ sym (u .part)
         ∙ sym (s .rest PART (inl (omega arith))) in
-        rw (eq-eqb (field y (FAMILY + c)) (field y PART) e) (rule-keeps x y s c l (u .cells-few) ∙ rule-is)
+        rw (eq-eqb (field y (FAMILY + c)) (field y PART) e) (rule-keeps x y s c l (u .cells-few) ∙ rule-agrees)
 
   family-not : (k c : ℕ) → Member c (J .cells k) → ¬ (J .family c ≡ p) → ¬ (field x (FAMILY + c) ≡ field x PART)
   family-not k c m f e = go (mine (parts P) J p c) refl
@@ -302,4 +302,4 @@ module _ (P : ℕ) (J : Task (Fin P)) (fit : Fit J) (p : Fin P) (x : List ℕ) (
         (but-self RED 4096 x) (omega arith) (omega arith) c
         ∙ join (red c) (memberb c (range first many)) (isPart (parts P) (J .family c) p) (rule J h g c) (field x (RED + c)) (flags c held)
         ∙ ap (λ (l : List ℕ). one-if (red c || ((memberb c l && isPart (parts P) (J .family c) p) && rule J h g c)))
-        (sym (cells-are P J p x u k low))
+        (sym (cells-of-level P J p x u k low))

@@ -1,5 +1,5 @@
 -- A part that enters a round: what its store then stands for.
---   Kept i             the number at the place i is one that entering a round leaves
+--   Untouched i        the number at the place i is one that entering a round leaves
 --   Stay x y           the columns of the split are as they were
 -- Laws: told-none, added-none (where nothing is taken), enters (the store stands at the round's beginning), columns-stay.
 use mathlib.Core.Path.{_≡_, refl, sym, _∙_, ap, ap₂, subst}
@@ -72,30 +72,30 @@ module _ (P : ℕ) where
       go (q ∷ l) = omega (arith, go l)
 
 -- what entering a round leaves
-abbrev pub Kept : ℕ → Type 0
-Kept i = (i ≢ 14) × (((1 ≤ i) × (i < 7)) ⊎ (((12 ≤ i) × (i < 41072)) ⊎ ((49264 ≤ i) × (i < 99440))))
+abbrev pub Untouched : ℕ → Type 0
+Untouched i = (i ≢ 14) × (((1 ≤ i) × (i < 7)) ⊎ (((12 ≤ i) × (i < 41072)) ⊎ ((49264 ≤ i) × (i < 99440))))
 
-pub low-kept : (i : ℕ) → 1 ≤ i → i < 7 → Kept i
+pub low-kept : (i : ℕ) → 1 ≤ i → i < 7 → Untouched i
 low-kept i a b = ((λ z. absurd (omega (arith, z))), inl (a, b))
 
-pub mid-kept : (i : ℕ) → 12 ≤ i → i < 41072 → i ≢ 14 → Kept i
+pub mid-kept : (i : ℕ) → 12 ≤ i → i < 41072 → i ≢ 14 → Untouched i
 mid-kept i a b n = (n, inr (inl (a, b)))
 
-pub high-kept : (i : ℕ) → 49264 ≤ i → i < 99440 → Kept i
+pub high-kept : (i : ℕ) → 49264 ≤ i → i < 99440 → Untouched i
 high-kept i a b = ((λ z. absurd (omega (arith, z))), inr (inr (a, b)))
 
 module _ (P : ℕ) (J : Task (Fin P)) (p : Fin P) (l : L P J) (x : List ℕ) (u : Busy P J p l x) where
   -- the store z, and the beginning of the round r with the state s: the messages t were written
   module _ (z : List ℕ) (r : ℕ) (s : State) (t : List (Fin P × Body)) (n : ℕ) (longer : Longer x z n)
-      (size : length z ≡ length x) (same : (i : ℕ) → Kept i → field z i ≡ field x i)
+      (size : length z ≡ length x) (same : (i : ℕ) → Untouched i → field z i ≡ field x i)
       (head : headerb z ≡ true) (round : field z ROUND ≡ r)
       (running : overb (phase (J .top) r) ≡ false → field z STAGE ≡ 1) (done : overb (phase (J .top) r) ≡ true → field z STAGE ≡ 2)
       (ends : (q : Fin P) → isPart (parts P) q p ≡ false → overb (phase (J .top) r) ≡ false → field x (80 + q .0) ≡ r)
       (flags : (c : ℕ) → HoldsCell P J p c → field z (RED + c) ≡ one-if (s .red c))
       (sums : (i : ℕ) → HoldsSlot P J p i → field z (SUM + i) ≡ s .sum i)
       (sized : sizedb (phase (J .top) r) ≡ true → (field z TOTAL ≡ capped (s .total)) × (field z HIGH ≡ s .high)) where
-    pub own : field z PART ≡ suc (p .0)
-    own = same PART (low-kept 1 (omega arith) (omega arith)) ∙ u .part
+    pub part-own : field z PART ≡ suc (p .0)
+    part-own = same PART (low-kept 1 (omega arith) (omega arith)) ∙ u .part
 
     abbrev next : L P J
     next = record {
@@ -107,7 +107,7 @@ module _ (P : ℕ) (J : Task (Fin P)) (p : Fin P) (l : L P J) (x : List ℕ) (u 
       queue = l .queue ++ numbered (parts P) (pack P J) p (l .sent) t;
     }
 
-    module _ (matches : Matches P J p z own t (spotsFrom z n (entryCount x) 0)) (room : CountRoom P J p z own (l .sent) t) where
+    module _ (matches : Matches P J p z part-own t (spotsFrom z n (entryCount x) 0)) (room : CountRoom P J p z part-own (l .sent) t) where
       pub enters : Busy P J p next z
       unfolding redTold sumTold endedb one-if
       enters = record {
@@ -115,7 +115,7 @@ module _ (P : ℕ) (J : Task (Fin P)) (p : Fin P) (l : L P J) (x : List ℕ) (u 
         header = head;
         running = running;
         done = done;
-        part = own;
+        part = part-own;
         many = same PARTS (low-kept 2 (omega arith) (omega arith)) ∙ u .many;
         round = round;
         taken = λ q.
@@ -124,8 +124,8 @@ module _ (P : ℕ) (J : Task (Fin P)) (p : Fin P) (l : L P J) (x : List ℕ) (u 
         ends = λ q i o.
             let h = part-low P J p l x u q in
             same (80 + q .0) (mid-kept (80 + q .0) (omega arith) (omega arith) (λ e. absurd (omega (arith, e)))) ∙ ends q i o ∙ omega arith;
-        queue = step-queue P J p z own l x n u longer t matches room;
-        sent = step-sent P J p z own l x n u longer t matches room;
+        queue = step-queue P J p z part-own l x n u longer t matches room;
+        sent = step-sent P J p z part-own l x n u longer t matches room;
         cursor =
             let a : field z CURSOR ≡ field x CURSOR = longer .entry in
             let b = longer .many in

@@ -1,6 +1,6 @@
 -- What has room in a store, of the places that an exchange leads to.
---   Fits P J p l       what the part p stands at has room in its store: counts, sums, totals and what it takes
---   marksb f, countsb f    the phase exchanges marks, counts
+--   Fitted P J p l     what the part p stands at has room in its store: counts, sums, totals and what it takes
+--   ofMarksb f, ofCountsb f  the phase exchanges marks, counts
 use mathlib.Core.Path.{_≡_}
 use mathlib.Core.Bool.{Bool, true, false}
 use Prim.Native.Nat.{ℕ, _-_, _≤_, _<_, Fin}
@@ -10,20 +10,20 @@ use Rattle.rounds.specs.Task.{Task}
 use Rattle.rounds.specs.Rounds.{Phase, marks, counts, totals, over, phase, holdsb, told, added}
 use Rattle.standing.specs.Busy.{L, Good}
 
-unfoldable pub marksb : Phase → Bool
-marksb (marks i) = true
-marksb (counts i) = false
-marksb totals = false
-marksb over = false
+unfoldable pub ofMarksb : Phase → Bool
+ofMarksb (marks i) = true
+ofMarksb (counts i) = false
+ofMarksb totals = false
+ofMarksb over = false
 
-unfoldable pub countsb : Phase → Bool
-countsb (marks i) = false
-countsb (counts i) = true
-countsb totals = false
-countsb over = false
+unfoldable pub ofCountsb : Phase → Bool
+ofCountsb (marks i) = false
+ofCountsb (counts i) = true
+ofCountsb totals = false
+ofCountsb over = false
 
 module _ (P : ℕ) (J : Task (Fin P)) (p : Fin P) where
-  pub record Fits (l : L P J) : Type 0 where
+  pub record Fitted (l : L P J) : Type 0 where
     pub good : Good P J p l
     pub sent : (q : Fin P) → l .sent q < 65536
     -- in a round of counts all that is known of a slot are the own masters
@@ -33,5 +33,5 @@ module _ (P : ℕ) (J : Task (Fin P)) (p : Fin P) where
     pub total : phase (J .top) (l .round) ≡ totals → l .state .total ≤ 4097
     pub high : phase (J .top) (l .round) ≡ totals → l .state .high ≤ 11
     -- marks are told in rounds of marks only, counts in rounds of counts
-    pub no-marks : marksb (phase (J .top) (l .round)) ≡ false → (c : ℕ) → told (parts P) (l .got) c ≡ false
-    pub no-counts : countsb (phase (J .top) (l .round)) ≡ false → (s : ℕ) → added (parts P) (l .got) s ≡ 0
+    pub no-marks : ofMarksb (phase (J .top) (l .round)) ≡ false → (c : ℕ) → told (parts P) (l .got) c ≡ false
+    pub no-counts : ofCountsb (phase (J .top) (l .round)) ≡ false → (s : ℕ) → added (parts P) (l .got) s ≡ 0

@@ -28,9 +28,9 @@ use Rattle.standing.specs.Packed.{entryCode, entryValue, bodyb}
 use Rattle.turns.specs.Loops.{eachFrom}
 use Rattle.turns.specs.Post.{posted, besides, othersOf, ghostAt, markOne, countOne, postEnd}
 use Rattle.partstep.specs.Step.{postTotals}
-use Rattle.entering.specs.Columns.{Columns, Known}
+use Rattle.entering.specs.Columns.{Columns, Heard}
 use Rattle.entering.specs.Bits.{bit-none, bit-power, bit-ones, bit-less}
-use Rattle.entering.specs.Writing.{Line, Sent, Same, same-self, Wrote, ordersOf, postLine, wrote-each, wrote-cons, wrote-last, posted-same}
+use Rattle.entering.specs.Writing.{Line, Sent, SameElse, same-self, WroteLines, ordersOf, postLine, wrote-each, wrote-cons, wrote-last, posted-same}
 
 -- tests of parts by their numbers
 pub part-same : (P : ℕ) (a b : Fin P) → a ≡ b → eqb (suc (a .0)) (suc (b .0)) ≡ true
@@ -132,17 +132,17 @@ module _ (P : ℕ) (J : Task (Fin P)) (p : Fin P) (x : List ℕ) (co : Columns P
   total-sent n h a b = record { room = λ e. rw (le-leb n 4097 a, le-leb h 11 b); bits = others-bits; beyond = others-beyond }
 
   -- what is read of a store that differs in its entries alone
-  others-same : (y : List ℕ) → Same x y → othersOf y ≡ othersOf x
+  others-same : (y : List ℕ) → SameElse x y → othersOf y ≡ othersOf x
   unfolding othersOf
   others-same y s = ap₂ (λ (a b : ℕ). 2 ^ a - 1 - 2 ^ (b - 1)) (s .else PARTS (λ z. absurd (omega (arith, z))) (inl (omega arith)))
       (s .else PART (λ z. absurd (omega (arith, z))) (inl (omega arith)))
 
-  pub end-written : (y : List ℕ) → Same x y → field y WRITTEN + 1 ≤ 28696 → Wrote P (co .parts-few) J p y (postEnd y) (endLine ∷ [])
+  pub end-written : (y : List ℕ) → SameElse x y → field y WRITTEN + 1 ≤ 28696 → WroteLines P (co .parts-few) J p y (postEnd y) (endLine ∷ [])
   unfolding postEnd entryCode entryValue
   end-written y s h =
       let l : full ≤ length y = omega (arith, s .size, co .long) in
       let e : postLine P (co .parts-few) J p y endLine ≡ postEnd y = ap (posted y 65535 0) (sym (others-same y s)) in
-      subst (λ (z : List ℕ). Wrote P (co .parts-few) J p y z (endLine ∷ [])) e
+      subst (λ (z : List ℕ). WroteLines P (co .parts-few) J p y z (endLine ∷ [])) e
       (wrote-last P (co .parts-few) J p y endLine end-sent l (omega arith))
 
   orders-map : (f : ℕ → Line P) (l : List ℕ) (us : List (Line P)) → ordersOf P (co .parts-few) J p (map f l ++ us)
@@ -246,7 +246,7 @@ module _ (P : ℕ) (J : Task (Fin P)) (p : Fin P) (x : List ℕ) (co : Columns P
               beyond = λ i l. ap (λ (n : ℕ). bitb n i) z ∙ bit-power (J .owner c .0) i ∙ ne-eqb i (J .owner c .0) (λ e. absurd (omega (arith, e)));
             }
 
-    mark-does : (k c : ℕ) → Member c (J .cells k) → c < 4096 → (y : List ℕ) → Same x y → markOne y c ≡ postLine P (co .parts-few) J p y (markLine c)
+    mark-does : (k c : ℕ) → Member c (J .cells k) → c < 4096 → (y : List ℕ) → SameElse x y → markOne y c ≡ postLine P (co .parts-few) J p y (markLine c)
     unfolding markOne ghostAt entryCode entryValue posted
     mark-does k c m h y s = go (kind k c m)
       where
@@ -267,7 +267,7 @@ module _ (P : ℕ) (J : Task (Fin P)) (p : Fin P) (x : List ℕ) (co : Columns P
             rw (same ∙ g, markOne) (ap₂ (λ (a b : ℕ). posted y c a (2 ^ (b - 1))) r w ∙ sym (ap (posted y c (one-if (red c))) (a-mask c g)))
 
     pub marks-written : (k a n : ℕ) → J .cells k ≡ range a n → a + n ≤ 4096 → field x WRITTEN + (n + 1) ≤ 28696
-        → Wrote P (co .parts-few) J p x (postEnd (eachFrom markOne n a x)) (map markLine (range a n) ++ (endLine ∷ []))
+        → WroteLines P (co .parts-few) J p x (postEnd (eachFrom markOne n a x)) (map markLine (range a n) ++ (endLine ∷ []))
     marks-written k a n e few room =
         wrote-each P (co .parts-few) J p x (co .long) markOne markLine postEnd (endLine ∷ []) end-written n a
         (λ d i j. mark-sent k d (subst (Member d) (sym e) (range-member a n d i j)) (omega arith))
@@ -353,7 +353,7 @@ module _ (P : ℕ) (J : Task (Fin P)) (p : Fin P) (x : List ℕ) (co : Columns P
                   ∙ ap (λ (a : Bool). a && not (eqb i (p .0))) (co .no-more s i h l);
             }
 
-    count-does : (s : ℕ) → Member s (J .slots k) → s < 24576 → (y : List ℕ) → Same x y
+    count-does : (s : ℕ) → Member s (J .slots k) → s < 24576 → (y : List ℕ) → SameElse x y
         → countOne y s ≡ postLine P (co .parts-few) J p y (countLine s)
     unfolding countOne entryCode entryValue posted
     count-does s m h y t = go (countKind s m) (ℕ-discrete (field x (SUM + s)) 0)
@@ -378,7 +378,7 @@ module _ (P : ℕ) (J : Task (Fin P)) (p : Fin P) (x : List ℕ) (co : Columns P
             (ap₂ (posted y (4096 + s)) (sm ∙ i) (bs ∙ sym (mask-some s e)))
 
     pub counts-written : (a n : ℕ) → J .slots k ≡ range a n → a + n ≤ 24576 → field x WRITTEN + (n + 1) ≤ 28696
-        → Wrote P (co .parts-few) J p x (postEnd (eachFrom countOne n a x)) (map countLine (range a n) ++ (endLine ∷ []))
+        → WroteLines P (co .parts-few) J p x (postEnd (eachFrom countOne n a x)) (map countLine (range a n) ++ (endLine ∷ []))
     counts-written a n e below room =
         wrote-each P (co .parts-few) J p x (co .long) countOne countLine postEnd (endLine ∷ []) end-written n a
         (λ d i j. count-sent d (subst (Member d) (sym e) (range-member a n d i j)) (omega arith))
@@ -397,13 +397,13 @@ module _ (P : ℕ) (J : Task (Fin P)) (p : Fin P) (x : List ℕ) (co : Columns P
 
   -- TOTALS
   pub totals-written : (n h : ℕ) → field x TOTAL ≡ n → field x HIGH ≡ h → n ≤ 4097 → h ≤ 11 → field x WRITTEN + 2 ≤ 28696
-      → Wrote P (co .parts-few) J p x (postEnd (postTotals x)) (totalLine n h ∷ endLine ∷ [])
+      → WroteLines P (co .parts-few) J p x (postEnd (postTotals x)) (totalLine n h ∷ endLine ∷ [])
   unfolding postTotals entryCode entryValue
   totals-written n h e f a b room =
       let z : (28672 + field x HIGH) % 65536 ≡ 28672 + h = omega (arith, f) in
       let g : postTotals x ≡ postLine P (co .parts-few) J p x (totalLine n h) = ap₂ (λ (c v : ℕ). posted x c v (othersOf x)) z e in
       let s = posted-same P (co .parts-few) J p x (totalLine n h) (co .long) (omega arith) in
-      subst (λ (y : List ℕ). Wrote P (co .parts-few) J p x (postEnd y) (totalLine n h ∷ endLine ∷ [])) (sym g)
+      subst (λ (y : List ℕ). WroteLines P (co .parts-few) J p x (postEnd y) (totalLine n h ∷ endLine ∷ [])) (sym g)
       (wrote-cons P (co .parts-few) J p x (postEnd (postLine P (co .parts-few) J p x (totalLine n h))) (totalLine n h) (endLine ∷ [])
       (total-sent n h a b) (co .long) (omega arith)
       (end-written (postLine P (co .parts-few) J p x (totalLine n h)) (s .0) (omega (arith, s .1))))

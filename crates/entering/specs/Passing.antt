@@ -28,7 +28,7 @@ use Rattle.standing.specs.Busy.{L, pack, HoldsCell, Busy, fetch-gives}
 use Rattle.standing.specs.Absorbs.{hand-does, hand-length, hand-else}
 use Rattle.held.specs.Held.{heldIn}
 use Rattle.entering.specs.Columns.{Columns}
-use Rattle.entering.specs.Fits.{Fits}
+use Rattle.entering.specs.Fits.{Fitted}
 use Rattle.entering.specs.Within.{cell-low}
 use Rattle.entering.specs.Entered.{Stay, columns-stay}
 use Rattle.entering.specs.Standing.{resultOf, olds, Spent, Holding, Standing}
@@ -145,7 +145,7 @@ module _ (P : ℕ) (J : Task (Fin P)) (p : Fin P) (l : L P J) (x : List ℕ) (st
         )
 
   -- HAND OVER
-  module _ (q : Fin P) (b : Body) (fits : Fits P J p (withBody (parts P) l q b))
+  module _ (q : Fin P) (b : Body) (fits : Fitted P J p (withBody (parts P) l q b))
       (w : wholeb (parts P) J (l .round) q p (l .got q) ≡ false) where
     abbrev k : ℕ
     k = l .before q + length (l .got q)

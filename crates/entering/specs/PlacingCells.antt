@@ -32,7 +32,7 @@ use Rattle.store.specs.Places.{placeOf}
 use Rattle.standing.specs.Busy.{HoldsCell}
 use Rattle.turns.specs.Decide.{kidCount}
 use Rattle.turns.specs.Loops.{eachFrom}
-use Rattle.places.specs.Status.{newStatus, staysb, anewb, freshStatus}
+use Rattle.places.specs.Status.{newStatus, lastsb, remadeb, freshBits}
 use Rattle.places.specs.Put.{placeAt, put, putMaster, putLeaves, putChild, placeMaster, placeGhost, placeFamily, placeCell}
 use Rattle.partstep.specs.Step.{cleared}
 use Rattle.held.specs.Held.{heldIn}
@@ -41,7 +41,7 @@ use Rattle.shares.specs.Grow.{levelEntries, entries, freshStatus as freshNow, f
 use Rattle.merging.specs.Complete.{masterPaths}
 use Rattle.merging.specs.Limits.{topOf}
 use Rattle.merging.specs.Totals.{grownOf}
-use Rattle.entering.specs.Columns.{Columns, Known}
+use Rattle.entering.specs.Columns.{Columns, Heard}
 use Rattle.entering.specs.PlacingSteps.{Else, StepHeld, placed-master, placed-ghost, placed-leaves, placed-child, leafBy}
 use Rattle.entering.specs.PlacingSteps.{each-adds, flat-one, held-placed, else-nine, else-ten, else-eleven}
 use Rattle.entering.specs.PlacingStatus.{cell-few, holds-owner, holds-family, owner-is, family-is, stored-is, status-is, stays-is}
@@ -81,11 +81,11 @@ choose a b r l y = elim a [ true ↦ elim b [ true ↦ r | false ↦ l ] | false
 
 -- what a cell gives, by its tests
 module _ (y : List ℕ) (c : ℕ) where
-  master-yes : (eqb (field y (OWNER + c)) (field y PART) && staysb y c) ≡ true → placeMaster y c ≡ putMaster y (placeAt y c) (newStatus y c)
+  master-yes : (eqb (field y (OWNER + c)) (field y PART) && lastsb y c) ≡ true → placeMaster y c ≡ putMaster y (placeAt y c) (newStatus y c)
   unfolding placeMaster
   master-yes e = rw (e, placeMaster)
 
-  master-no : (eqb (field y (OWNER + c)) (field y PART) && staysb y c) ≡ false → placeMaster y c ≡ y
+  master-no : (eqb (field y (OWNER + c)) (field y PART) && lastsb y c) ≡ false → placeMaster y c ≡ y
   unfolding placeMaster
   master-no e = rw (e, placeMaster)
 
@@ -100,20 +100,20 @@ module _ (y : List ℕ) (c : ℕ) where
   unfolding placeGhost
   ghost-no e = rw (e, placeGhost)
 
-  family-no : anewb y c ≡ false → placeFamily y c ≡ y
+  family-no : remadeb y c ≡ false → placeFamily y c ≡ y
   unfolding placeFamily
   family-no e = rw (e, placeFamily)
 
-  family-leaves : anewb y c ≡ true → (eqb (newStatus y c) 64 && not (eqb (field y (STATUS + c)) 0)) ≡ false
+  family-leaves : remadeb y c ≡ true → (eqb (newStatus y c) 64 && not (eqb (field y (STATUS + c)) 0)) ≡ false
       → placeFamily y c ≡ putLeaves (placeAt y c) (sizeOf (newStatus y c)) y
   unfolding placeFamily
   family-leaves e f = rw (e, f, placeFamily)
 
-  family-children : anewb y c ≡ true → (eqb (newStatus y c) 64 && not (eqb (field y (STATUS + c)) 0)) ≡ true
-      → placeFamily y c ≡ eachFrom (putChild (placeAt y c) (freshStatus y c)) 8 0 y
+  family-children : remadeb y c ≡ true → (eqb (newStatus y c) 64 && not (eqb (field y (STATUS + c)) 0)) ≡ true
+      → placeFamily y c ≡ eachFrom (putChild (placeAt y c) (freshBits y c)) 8 0 y
   unfolding placeFamily choose
   family-children e f =
-      ap₂ (λ (a b : Bool). choose a b (eachFrom (putChild (placeAt y c) (freshStatus y c)) 8 0 y)
+      ap₂ (λ (a b : Bool). choose a b (eachFrom (putChild (placeAt y c) (freshBits y c)) 8 0 y)
       (putLeaves (placeAt y c) (sizeOf (newStatus y c)) y) y) e f
 
   cell-is : placeCell y c ≡ placeFamily (placeGhost (placeMaster y c) c) c
@@ -216,7 +216,7 @@ module _ (P : ℕ) (J : Task (Fin P)) (p : Fin P) (x : List ℕ) (C : Columns P 
       e ∙ C .place c (k, m, t)
 
 module _ (P : ℕ) (J : Task (Fin P)) (fit : Fit J) (p : Fin P) (x : List ℕ) (C : Columns P J p x) (st : State)
-    (K : Known P J p (st .red) (st .sum) x) where
+    (K : Heard P J p (st .red) (st .sum) x) where
   module _ (k c : ℕ) (m : Member c (J .cells k)) where
     deep : k ≤ 10
     deep = omega (arith, C .no-cells k c m, C .levels-few)
@@ -231,13 +231,13 @@ module _ (P : ℕ) (J : Task (Fin P)) (fit : Fit J) (p : Fin P) (x : List ℕ) (
         owns = owner-is P J p x C y (w .else) k c m
 
         none : (isPart (parts P) (J .owner c) p && staysNow (parts P) J p st k c) ≡ false
-            → (eqb (field y (OWNER + c)) (field y PART) && staysb y c) ≡ false
+            → (eqb (field y (OWNER + c)) (field y PART) && lastsb y c) ≡ false
             → StepHeld x (es ++ masterEntry (parts P) J p st k c) (placeMaster y c)
         none a b = rw (no-master (parts P) J p st k c a, master-no y c b, append-nil es) w
 
         go : (a : Bool) → isPart (parts P) (J .owner c) p ≡ a → (b : Bool) → staysNow (parts P) J p st k c ≡ b
             → StepHeld x (es ++ masterEntry (parts P) J p st k c) (placeMaster y c)
-        go false q b s = none (ap (λ (a : Bool). a && staysNow (parts P) J p st k c) q) (ap (λ (a : Bool). a && staysb y c) (owns ∙ q))
+        go false q b s = none (ap (λ (a : Bool). a && staysNow (parts P) J p st k c) q) (ap (λ (a : Bool). a && lastsb y c) (owns ∙ q))
         go true q b s =
             let o : J .owner c ≡ p = is-eq (parts P) (J .owner c) p (rw q tt) in
             let h = holds-owner P J p x C k c m o in
@@ -245,7 +245,7 @@ module _ (P : ℕ) (J : Task (Fin P)) (fit : Fit J) (p : Fin P) (x : List ℕ) (
             (place-at P J p x C y (w .else) c h) (status-is P J p x C y (w .else) fit st K c h)
           where
             inner : (b : Bool) → staysNow (parts P) J p st k c ≡ b → (isPart (parts P) (J .owner c) p && staysNow (parts P) J p st k c) ≡ b
-                → (eqb (field y (OWNER + c)) (field y PART) && staysb y c) ≡ b → placeAt y c ≡ placeOf (J .path c)
+                → (eqb (field y (OWNER + c)) (field y PART) && lastsb y c) ≡ b → placeAt y c ≡ placeOf (J .path c)
                 → newStatus y c ≡ statusNew J st c → StepHeld x (es ++ masterEntry (parts P) J p st k c) (placeMaster y c)
             inner false s t r u v = none t r
             inner true s t r u v =
@@ -318,31 +318,31 @@ module _ (P : ℕ) (J : Task (Fin P)) (fit : Fit J) (p : Fin P) (x : List ℕ) (
       -- or of a green cell that will be red
       adds-children : (es : List Entry) (y : List ℕ) → StepHeld x es y → statusNew J st c ≡ 64 → J .status c ≢ 64
           → StepHeld x (es ++ flatMap (childEntries (parts P) J p st c) (range 0 8))
-          (eachFrom (putChild (placeOf (J .path c)) (freshStatus y c)) 8 0 y)
+          (eachFrom (putChild (placeOf (J .path c)) (freshBits y c)) 8 0 y)
       adds-children es y w s g =
-          each-adds (StepHeld x) (putChild (placeOf (J .path c)) (freshStatus y c)) (childEntries (parts P) J p st c) 8 0
-          (λ i es' y' _ b w'. subst (λ (l : List Entry). StepHeld x (es' ++ l) (putChild (placeOf (J .path c)) (freshStatus y c) y' i))
-          (sym (a-child (parts P) J p st c i (freshStatus y c i) (status i)))
-          (placed-child x k (J .path c) (C .paths k c m) (omega (arith, deep)) (freshStatus y c)
+          each-adds (StepHeld x) (putChild (placeOf (J .path c)) (freshBits y c)) (childEntries (parts P) J p st c) 8 0
+          (λ i es' y' _ b w'. subst (λ (l : List Entry). StepHeld x (es' ++ l) (putChild (placeOf (J .path c)) (freshBits y c) y' i))
+          (sym (a-child (parts P) J p st c i (freshBits y c i) (status i)))
+          (placed-child x k (J .path c) (C .paths k c m) (omega (arith, deep)) (freshBits y c)
           (λ i _. (fresh-low i, fresh-size i)) i es' y' b w'))
           es y w
         where
-          read : (i : ℕ) → freshStatus y c i ≡ freshNow J st c i
+          read : (i : ℕ) → freshBits y c i ≡ freshNow J st c i
           read i = fresh-read P J p x C y (w .else) fit st K k c i m in-family g
 
-          status : (i : ℕ) → childStatus (parts P) J p st c i ≡ freshStatus y c i
+          status : (i : ℕ) → childStatus (parts P) J p st c i ≡ freshBits y c i
           status i = red-child (parts P) J p st c i s ∙ sym (read i)
 
-          fresh-low : (i : ℕ) → freshStatus y c i < 128
+          fresh-low : (i : ℕ) → freshBits y c i < 128
           fresh-low i = omega (arith, read i, fresh-few J st c i)
 
-          fresh-size : (i : ℕ) → sizeOf (freshStatus y c i) ≤ 8
-          fresh-size i = size-few (freshStatus y c i) (omega (arith, read i, fresh-few J st c i))
+          fresh-size : (i : ℕ) → sizeOf (freshBits y c i) ≤ 8
+          fresh-size i = size-few (freshBits y c i) (omega (arith, read i, fresh-few J st c i))
 
     adds-family : (es : List Entry) (y : List ℕ) → StepHeld x es y → StepHeld x (es ++ freshEntries (parts P) J p st k c) (placeFamily y c)
     adds-family es y w = go (anewNow (parts P) J p st k c) refl
       where
-        now : anewb y c ≡ anewNow (parts P) J p st k c
+        now : remadeb y c ≡ anewNow (parts P) J p st k c
         now = anew-is P J p x C y (w .else) fit st K k c m
 
         go : (b : Bool) → anewNow (parts P) J p st k c ≡ b → StepHeld x (es ++ freshEntries (parts P) J p st k c) (placeFamily y c)
@@ -383,7 +383,7 @@ module _ (P : ℕ) (J : Task (Fin P)) (fit : Fit J) (p : Fin P) (x : List ℕ) (
                   size-red (statusNew J st c) s,
                   family-children y c (now ∙ q)
                       (ap₂ (λ (a b : ℕ). eqb a 64 && not (eqb b 0)) new old ∙ ap₂ (λ (a b : Bool). a && not b) a e)
-                      ∙ ap (λ (l : Place). eachFrom (putChild l (freshStatus y c)) 8 0 y) at,
+                      ∙ ap (λ (l : Place). eachFrom (putChild l (freshBits y c)) 8 0 y) at,
                 )
                 (adds-children q es y w s (not-red-twice (parts P) J p st k c q s))
 

@@ -22,7 +22,7 @@ use Rattle.store.specs.Fields.{field, PART, CELLS, ENTRIES, FIRST-CELL, OWNER, 
 use Rattle.store.specs.Places.{placeOf}
 use Rattle.standing.specs.Busy.{HoldsCell}
 use Rattle.places.specs.Put.{placeAt, put, placeOld}
-use Rattle.partstep.specs.Step.{kept}
+use Rattle.partstep.specs.Step.{oldPlaces}
 use Rattle.held.specs.Held.{heldIn}
 use Rattle.shares.specs.Grow.{entryBy}
 use Rattle.entering.specs.Columns.{Columns}
@@ -150,8 +150,8 @@ module _ (P : ℕ) (J : Task (Fin P)) (p : Fin P) (x : List ℕ) (C : Columns P 
       go false e false f =
           rw (old-none P J p c e f, place-none y c (owns ∙ e) (has-family ∙ f), append-nil es) w
 
-  all-kept : Kept (olds P J p (field x CELLS)) (kept x)
-  unfolding kept olds
+  all-kept : Kept (olds P J p (field x CELLS)) (oldPlaces x)
+  unfolding oldPlaces olds
   all-kept =
       each-adds Kept placeOld (oldEntry P J p) (field x CELLS) 0 (λ i es y a b. let (k, m) = cell-level i (omega arith) in
       adds-old k i m es y) [] (set x ENTRIES 0) (record {
@@ -171,17 +171,17 @@ module _ (P : ℕ) (J : Task (Fin P)) (p : Fin P) (x : List ℕ) (C : Columns P 
   few = omega (arith, olds-few P J p 0 (field x CELLS), C .cells-few)
 
   -- ALL THAT IS KEPT
-  pub kept-else : (i : ℕ) → i ≢ ENTRIES → i < 210104 → field (kept x) i ≡ field x i
+  pub kept-else : (i : ℕ) → i ≢ ENTRIES → i < 210104 → field (oldPlaces x) i ≡ field x i
   kept-else = all-kept .else
 
-  pub kept-size : length (kept x) ≡ length x
+  pub kept-size : length (oldPlaces x) ≡ length x
   kept-size = all-kept .size
 
-  pub kept-entries : field (kept x) ENTRIES ≡ length (olds P J p (field x CELLS))
+  pub kept-entries : field (oldPlaces x) ENTRIES ≡ length (olds P J p (field x CELLS))
   kept-entries = all-kept .wrote .entries ∙ omega (arith, few)
 
-  pub kept-held : heldIn (kept x) ≡ olds P J p (field x CELLS)
+  pub kept-held : heldIn (oldPlaces x) ≡ olds P J p (field x CELLS)
   kept-held =
-      held-wrote (olds P J p (field x CELLS)) (kept x) (all-kept .wrote)
+      held-wrote (olds P J p (field x CELLS)) (oldPlaces x) (all-kept .wrote)
       (λ j h l. all-at Low noEntry (olds P J p (field x CELLS)) (all-kept .room) j h)
       ∙ take-all 4096 (olds P J p (field x CELLS)) few

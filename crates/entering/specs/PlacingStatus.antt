@@ -29,10 +29,10 @@ use Rattle.store.specs.Fields.{field, PART, CELLS, FIRST-CELL, FIRST-SLOT, OWNE
 use Rattle.store.specs.Fields.{CHILD, PARENT, HEAD, RED, SLOT, SUM}
 use Rattle.standing.specs.Busy.{HoldsCell, HoldsSlot}
 use Rattle.turns.specs.Decide.{hitb, hitOf, kidCount}
-use Rattle.places.specs.Status.{newStatus, staysb, anewb, pairHit, freshStatus}
+use Rattle.places.specs.Status.{newStatus, lastsb, remadeb, pairHit, freshBits}
 use Rattle.shares.specs.Grow.{lastOf, heldNow, statusNew, pairHeld, coarseb}
 use Rattle.shares.specs.Grow.{freshStatus as freshNow, fresh-is as fresh-bits, staysb as staysNow, anewb as anewNow}
-use Rattle.entering.specs.Columns.{Columns, Known}
+use Rattle.entering.specs.Columns.{Columns, Heard}
 use Rattle.entering.specs.PlacingSteps.{Else}
 
 -- tests and lists
@@ -207,7 +207,7 @@ module _ (P : ℕ) (J : Task (Fin P)) (p : Fin P) (x : List ℕ) (C : Columns P 
     pub stored-is : (c : ℕ) → HoldsCell P J p c → field y (STATUS + c) ≡ J .status c
     stored-is c (k, m, t) = at STATUS c (omega arith) (omega (arith, cell-few k c m)) ∙ C .status c (k, m, t)
 
-    module _ (fit : Fit J) (st : State) (K : Known P J p (st .red) (st .sum) x) where
+    module _ (fit : Fit J) (st : State) (K : Heard P J p (st .red) (st .sum) x) where
       red-is : (c : ℕ) → HoldsCell P J p c → eqb (field y (RED + c)) 1 ≡ st .red c
       red-is c (k, m, t) =
           ap (λ (n : ℕ). eqb n 1) (at RED c (omega arith) (omega (arith, cell-few k c m)) ∙ K .flags c (k, m, t)) ∙ eqb-one (st .red c)
@@ -234,8 +234,8 @@ module _ (P : ℕ) (J : Task (Fin P)) (p : Fin P) (x : List ℕ) (C : Columns P 
           ap₂ (λ (r d : Bool). statusBy r d (map (hitOf y c) sixEdges)) a (red-is c (k, m, t)) ∙ ap (statusBy (J .regular c) (st .red c)) b
 
       -- whether a cell stays: one that the part has as master, and one that is refined
-      pub stays-is : (k c : ℕ) → Member c (J .cells k) → J .owner c ≡ p → staysb y c ≡ staysNow (parts P) J p st k c
-      unfolding staysb staysNow
+      pub stays-is : (k c : ℕ) → Member c (J .cells k) → J .owner c ≡ p → lastsb y c ≡ staysNow (parts P) J p st k c
+      unfolding lastsb staysNow
       stays-is zero c m o =
           let h = holds-owner zero c m o in
           let a : ltb (field y (HEAD + c)) 256 ≡ coarseb zero =
@@ -258,8 +258,8 @@ module _ (P : ℕ) (J : Task (Fin P)) (p : Fin P) (x : List ℕ) (C : Columns P 
           )
 
       pub stays-refined : (k c : ℕ) → Member c (J .cells k) → HoldsCell P J p c → J .status c ≢ 0
-          → staysb y c ≡ staysNow (parts P) J p st k c
-      unfolding staysb staysNow
+          → lastsb y c ≡ staysNow (parts P) J p st k c
+      unfolding lastsb staysNow
       stays-refined k c m h s =
           let a : not (eqb (field y (STATUS + c)) 0) ≡ true = ap not (ap (λ (n : ℕ). eqb n 0) (stored-is c h) ∙ ne-eqb (J .status c) 0 s) in
           let b : not (eqb (J .status c) 0) ≡ true = ap not (ne-eqb (J .status c) 0 s) in
@@ -268,17 +268,17 @@ module _ (P : ℕ) (J : Task (Fin P)) (p : Fin P) (x : List ℕ) (C : Columns P 
           ∙ sym (or-middle (coarseb k) (not (eqb (J .status c) 0)) (eqb (J .status (J .parent c)) 64 && st .red (J .parent c)) b)
 
       -- a new family
-      pub anew-is : (k c : ℕ) → Member c (J .cells k) → anewb y c ≡ anewNow (parts P) J p st k c
-      unfolding anewb anewNow
+      pub anew-is : (k c : ℕ) → Member c (J .cells k) → remadeb y c ≡ anewNow (parts P) J p st k c
+      unfolding remadeb anewNow
       anew-is k c m = go (isPart (parts P) (J .family c) p) refl
         where
-          stays : J .family c ≡ p → staysb y c ≡ staysNow (parts P) J p st k c
+          stays : J .family c ≡ p → lastsb y c ≡ staysNow (parts P) J p st k c
           stays f = elim (ℕ-discrete (J .status c) 0) [
             | yes z ↦ stays-is k c m (sym (fit .leaf-family k c m z) ∙ f)
             | no z ↦ stays-refined k c m (holds-family k c m f) z
           ]
 
-          go : (b : Bool) → isPart (parts P) (J .family c) p ≡ b → anewb y c ≡ anewNow (parts P) J p st k c
+          go : (b : Bool) → isPart (parts P) (J .family c) p ≡ b → remadeb y c ≡ anewNow (parts P) J p st k c
           go true q =
               let f : J .family c ≡ p = is-eq (parts P) (J .family c) p (rw q tt) in
               let h = holds-family k c m f in
@@ -324,8 +324,8 @@ module _ (P : ℕ) (J : Task (Fin P)) (p : Fin P) (x : List ℕ) (C : Columns P 
           e ∙ sym (any-shift test (field x (CHILD + c)) 0 (kidCount x c))
           ∙ ap (anyb test) (ap (λ (n : ℕ). range n (kidCount x c)) (add-zero (field x (CHILD + c))) ∙ sym (C .kids k c m f))
 
-      pub fresh-read : (k c i : ℕ) → Member c (J .cells k) → J .family c ≡ p → J .status c ≢ 64 → freshStatus y c i ≡ freshNow J st c i
-      unfolding freshStatus
+      pub fresh-read : (k c i : ℕ) → Member c (J .cells k) → J .family c ≡ p → J .status c ≢ 64 → freshBits y c i ≡ freshNow J st c i
+      unfolding freshBits
       fresh-read k c i m f s =
           ap bitsOf (map-agree (λ z. pairHit y c (lowDigit 63 i z) (highDigit 63 i z))
           (λ z. pairHeld J st c (lowDigit 63 i z) (highDigit 63 i z))

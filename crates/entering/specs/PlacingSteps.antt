@@ -1,7 +1,7 @@
 -- Masters and ghosts of the step, written one behind the other: the totals beside them.
 --   StepHeld x es y     from the store x on the entries es are written, and their totals
 --   Else x y          they agree in all but the number of entries, the totals and the columns of places
--- Laws: path-child, place-below (a child number more), placed-master, placed-ghost, placed-leaves, placed-child (what each call adds),
+-- Laws: path-child, below-place (a child number more), placed-master, placed-ghost, placed-leaves, placed-child (what each call adds),
 -- each-adds (a loop), held-placed (what is then held).
 use mathlib.Core.Path.{_≡_, refl, sym, _∙_, ap, subst}
 use mathlib.Core.Logic.{_≢_, _⊎_, inl, inr}
@@ -57,8 +57,8 @@ path-child k i l w h =
       digits = all-append (λ i. i < 8) (w .down) (i ∷ []) (w .digits) (h, tt);
     }
 
-pub place-below : (k i : ℕ) (l : List ℕ) → Path k l → childPlace (placeOf l) i ≡ placeOf (l ++ (i ∷ []))
-place-below k i l w =
+pub below-place : (k i : ℕ) (l : List ℕ) → Path k l → childPlace (placeOf l) i ≡ placeOf (l ++ (i ∷ []))
+below-place k i l w =
     ap (λ (m : List ℕ). childPlace (placeOf m) i) (w .is) ∙ sym (place-child (w .coarse) (w .down) i)
     ∙ ap (λ (m : List ℕ). placeOf (m ++ (i ∷ []))) (sym (w .is))
 
@@ -178,7 +178,7 @@ module _ (x : List ℕ) (k : ℕ) (l : List ℕ) (path : Path k l) (h : k < 20) 
       → StepHeld x (es ++ (leafBy i ∷ [])) (putLeaf (placeOf l) y i)
   unfolding putLeaf
   placed-leaf i es y b w =
-      subst (λ (q : Place). StepHeld x (es ++ (leafBy i ∷ [])) (putMaster y q 0)) (sym (place-below k i l path))
+      subst (λ (q : Place). StepHeld x (es ++ (leafBy i ∷ [])) (putMaster y q 0)) (sym (below-place k i l path))
       (placed-master x es y w (suc k) (l ++ (i ∷ [])) (path-child k i l path b) 0 (omega arith) (omega arith))
 
   pub placed-leaves : (n : ℕ) (es : List Entry) (y : List ℕ) → n ≤ 8 → StepHeld x es y
@@ -205,7 +205,7 @@ module _ (x : List ℕ) (k : ℕ) (l : List ℕ) (path : Path k l) (h : k < 19) 
         placed-master x es y w (suc k) m q (f i) (few i b .0) (omega arith) in
         let v = placed-leaves x (suc k) m q (omega arith) (sizeOf (f i)) (es ++ (e ∷ [])) (putMaster y (placeOf m) (f i)) (few i b .1) u in
         subst (λ (q : Place). StepHeld x (es ++ childBy i) (putLeaves q (sizeOf (f i)) (putMaster y q (f i))))
-        (sym (place-below k i l path))
+        (sym (below-place k i l path))
         (subst (λ (a : List Entry). StepHeld x a (putLeaves (placeOf m) (sizeOf (f i)) (putMaster y (placeOf m) (f i))))
         (append-assoc es (e ∷ []) (map (λ j. entryBy (m ++ (j ∷ [])) 0 false) (range 0 (sizeOf (f i))))) v)
 

@@ -25,8 +25,8 @@ use Rattle.store.specs.Header.{headerb}
 use Rattle.standing.specs.Busy.{L, Busy, HoldsCell, HoldsSlot}
 use Rattle.turns.specs.Start.{marksDue}
 use Rattle.held.specs.Held.{heldIn}
-use Rattle.entering.specs.Columns.{Columns, Marked, countBefore}
-use Rattle.entering.specs.Fits.{marksb, countsb}
+use Rattle.entering.specs.Columns.{Columns, MarksIn, countBefore}
+use Rattle.entering.specs.Fits.{ofMarksb, ofCountsb}
 
 unfoldable pub resultOf : ℕ → ℕ → ℕ
 resultOf n h = elim (leb 11 h) [ true ↦ 8 | false ↦ elim (leb n 4096) [ true ↦ 0 | false ↦ 9 ] ]
@@ -67,9 +67,9 @@ module _ (P : ℕ) (J : Task (Fin P)) where
     pub record Standing (l : L P J) (x : List ℕ) : Type 0 where
       pub busy : Busy P J p l x
       pub columns : Columns P J p x
-      pub marked : Marked P J p (l .state .given) x
-      pub no-marks : marksb (phase (J .top) (l .round)) ≡ false → (c : ℕ) → told (parts P) (l .got) c ≡ false
-      pub no-counts : countsb (phase (J .top) (l .round)) ≡ false → (s : ℕ) → added (parts P) (l .got) s ≡ 0
+      pub marked : MarksIn P J p (l .state .given) x
+      pub no-marks : ofMarksb (phase (J .top) (l .round)) ≡ false → (c : ℕ) → told (parts P) (l .got) c ≡ false
+      pub no-counts : ofCountsb (phase (J .top) (l .round)) ≡ false → (s : ℕ) → added (parts P) (l .got) s ≡ 0
       pub spent : Spent (phase (J .top) (l .round)) x
       pub holding : Holding (phase (J .top) (l .round)) (l .state) x
 

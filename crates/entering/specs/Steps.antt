@@ -23,7 +23,7 @@ use Rattle.store.specs.Headed.{Header, header-is, header-yes, running-is, done-
 use Rattle.standing.specs.Busy.{L, Busy}
 use Rattle.turns.specs.Start.{enterMarks}
 use Rattle.turns.specs.Step.{enterCounts}
-use Rattle.partstep.specs.Step.{entered, enterTotals, finished}
+use Rattle.partstep.specs.Step.{roundEntered, enterTotals, finished}
 use Rattle.entering.specs.Turn.{Reset}
 
 pub set-reset : (y : List ℕ) (r : ℕ) → Reset y (set y ROUND r)
@@ -80,34 +80,34 @@ module _ (P : ℕ) (J : Task (Fin P)) (p : Fin P) (l : L P J) (x : List ℕ) (u 
 
 -- which work a round begins with
 module _ (x : List ℕ) (top i : ℕ) (levels : field x LEVELS ≡ suc top) (low : i ≤ top) where
-  pub even-round : field x ROUND ≡ i + i → entered x ≡ enterCounts x (top - i)
-  unfolding entered
+  pub even-round : field x ROUND ≡ i + i → roundEntered x ≡ enterCounts x (top - i)
+  unfolding roundEntered
   even-round e =
       let a : ltb (field x ROUND) (2 * field x LEVELS) ≡ true = lt-ltb (field x ROUND) (2 * field x LEVELS) (omega (arith, e, levels)) in
       let b : eqb (field x ROUND % 2) 0 ≡ true = eq-eqb (field x ROUND % 2) 0 (omega (arith, e)) in
       let c : field x LEVELS - 1 - field x ROUND / 2 ≡ top - i = omega (arith, e, levels) in
-      rw (a, b, entered) (ap (enterCounts x) c)
+      rw (a, b, roundEntered) (ap (enterCounts x) c)
 
-  pub odd-round : i < top → field x ROUND ≡ suc (i + i) → entered x ≡ enterMarks x (top - suc i)
-  unfolding entered
+  pub odd-round : i < top → field x ROUND ≡ suc (i + i) → roundEntered x ≡ enterMarks x (top - suc i)
+  unfolding roundEntered
   odd-round h e =
       let a : ltb (field x ROUND) (2 * field x LEVELS) ≡ true = lt-ltb (field x ROUND) (2 * field x LEVELS) (omega (arith, e, levels)) in
       let b : eqb (field x ROUND % 2) 0 ≡ false = ne-eqb (field x ROUND % 2) 0 (λ z. absurd (omega (arith, e, z))) in
       let d : ltb (field x ROUND + 1) (2 * field x LEVELS) ≡ true = lt-ltb (field x ROUND + 1) (2 * field x LEVELS) (omega (arith, e, levels)) in
       let c : field x LEVELS - 2 - field x ROUND / 2 ≡ top - suc i = omega (arith, e, levels) in
-      rw (a, b, d, entered) (ap (enterMarks x) c)
+      rw (a, b, d, roundEntered) (ap (enterMarks x) c)
 
 module _ (x : List ℕ) (top : ℕ) (levels : field x LEVELS ≡ suc top) where
-  pub last-counts : field x ROUND ≡ suc (top + top) → entered x ≡ enterTotals x
-  unfolding entered
+  pub last-counts : field x ROUND ≡ suc (top + top) → roundEntered x ≡ enterTotals x
+  unfolding roundEntered
   last-counts e =
       let a : ltb (field x ROUND) (2 * field x LEVELS) ≡ true = lt-ltb (field x ROUND) (2 * field x LEVELS) (omega (arith, e, levels)) in
       let b : eqb (field x ROUND % 2) 0 ≡ false = ne-eqb (field x ROUND % 2) 0 (λ z. absurd (omega (arith, e, z))) in
       let d : ltb (field x ROUND + 1) (2 * field x LEVELS) ≡ false = le-ltb (field x ROUND + 1) (2 * field x LEVELS) (omega (arith, e, levels)) in
-      rw (a, b, d, entered)
+      rw (a, b, d, roundEntered)
 
-  pub last-round : field x ROUND ≡ suc (suc (top + top)) → entered x ≡ finished x
-  unfolding entered
+  pub last-round : field x ROUND ≡ suc (suc (top + top)) → roundEntered x ≡ finished x
+  unfolding roundEntered
   last-round e =
       let a : ltb (field x ROUND) (2 * field x LEVELS) ≡ false = le-ltb (field x ROUND) (2 * field x LEVELS) (omega (arith, e, levels)) in
-      rw (a, entered)
+      rw (a, roundEntered)

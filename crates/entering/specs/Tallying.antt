@@ -27,8 +27,8 @@ use Rattle.turns.specs.Start.{levelFrom}
 use Rattle.turns.specs.Tally.{addOne, addEdge, talliedb, tallyOne}
 use Rattle.turns.specs.Step.{tallied}
 use Rattle.entering.specs.Columns.{Columns}
-use Rattle.entering.specs.Within.{six-range, own-held, slot-held, level-inside, level-member, cells-are, member-low, slot-low}
-use Rattle.entering.specs.Blocks.{SameBut, but-self, but-on, but-set, but-each, each-count, count-one}
+use Rattle.entering.specs.Within.{six-range, own-held, slot-held, level-inside, level-member, cells-of-level, member-low, slot-low}
+use Rattle.entering.specs.Blocks.{SameBut, but-self, but-on, but-set, but-each, each-count, count-single}
 
 add-but : (y : List ℕ) (t : ℕ) → SameBut SUM 24576 y (addOne y t)
 unfolding addOne
@@ -110,7 +110,7 @@ module _ (P : ℕ) (J : Task (Fin P)) (p : Fin P) (x : List ℕ) (u : Columns P 
     slots-once : length (filterb (λ e. eqb (J .slot c e) s) (range 0 6)) ≡ one-if (has J c s)
     unfolding has
     slots-once =
-        count-one (λ e. eqb (J .slot c e) s) 6 0
+        count-single (λ e. eqb (J .slot c e) s) 6 0
         (λ i j a b k l q r. u .slots-apart c i j held (omega arith) (omega arith)
         (eqb-true (J .slot c i) s q ∙ sym (eqb-true (J .slot c j) s r)))
         ∙ ap (λ (l : List ℕ). one-if (anyb (λ e. eqb (J .slot c e) s) l)) six-range
@@ -188,7 +188,7 @@ module _ (P : ℕ) (J : Task (Fin P)) (p : Fin P) (x : List ℕ) (u : Columns P 
     tallied-sum s h =
         let n : tally (parts P) J p red k s ≡ length (filterb (counted s) (range (levelFrom x k) (levelFrom x (k + 1) - levelFrom x k))) =
         ap (λ (l : List ℕ). length (filterb (λ c. isPart (parts P) (J .owner c) p && (red c && has J c s)) l))
-        (cells-are P J p x u k low) in
+        (cells-of-level P J p x u k low) in
         each-count SUM 24576 tallyOne (counted s) (SUM + s) x (levelFrom x k) (levelFrom x (k + 1) - levelFrom x k) (cell-turn s)
         (levelFrom x (k + 1) - levelFrom x k) (levelFrom x k) x (but-self SUM 24576 x) (omega arith) (omega arith) (omega (arith, n, h))
         ∙ ap (λ (i : ℕ). field x (SUM + s) + i) (sym n)

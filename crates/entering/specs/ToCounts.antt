@@ -1,5 +1,5 @@
 -- Entering a round of counts.
--- Laws: to-counts, counts-stay.
+-- Laws: into-counts, counts-stay.
 use mathlib.Core.Path.{_≡_, refl, sym, _∙_, ap, ap₂, subst}
 use mathlib.Core.Logic.{_⊎_, inl, inr, _≢_}
 use mathlib.Core.Bool.{Bool, true, false}
@@ -27,12 +27,12 @@ use Rattle.standing.specs.Busy.{L, Busy, HoldsCell, HoldsSlot}
 use Rattle.turns.specs.Loops.{eachFrom}
 use Rattle.turns.specs.Post.{countOne, postEnd}
 use Rattle.turns.specs.Step.{slotFrom, tallied, enterCounts}
-use Rattle.partstep.specs.Step.{entered, turned}
-use Rattle.entering.specs.Columns.{Columns, Marked}
-use Rattle.entering.specs.Fits.{Fits, marksb, countsb}
+use Rattle.partstep.specs.Step.{roundEntered, partStepped}
+use Rattle.entering.specs.Columns.{Columns, MarksIn}
+use Rattle.entering.specs.Fits.{Fitted, ofMarksb, ofCountsb}
 use Rattle.entering.specs.Within.{cell-low, slot-low}
 use Rattle.entering.specs.Tallying.{tallied-sum, tallied-else, tallied-length}
-use Rattle.entering.specs.Writing.{Wrote}
+use Rattle.entering.specs.Writing.{WroteLines}
 use Rattle.entering.specs.Lines.{countLine, endLine, counts-written, counts-order}
 use Rattle.entering.specs.Entered.{Stay, columns-stay, stay-on, static-low, told-none, added-none}
 use Rattle.entering.specs.Standing.{Spent, Holding, Standing}
@@ -41,7 +41,7 @@ use Rattle.entering.specs.Steps.{set-reset, head-running, no-result, Who
 
 module _ (P : ℕ) (J : Task (Fin P)) {In : Type 0} (reads : Fin P → In → ℕ → ℕ) (p : Fin P) (l : L P J) (x : List ℕ)
     (st : Standing P J p l x) (i : ℕ) (low : i ≤ J .top) (even : l .round ≡ i + i) (whole : Wholes P J p l x (st .busy))
-    (fits : Fits P J p (following (parts P) (Q P J reads p) p l)) where
+    (fits : Fitted P J p (following (parts P) (Q P J reads p) p l)) where
   abbrev co : Columns P J p x
   co = st .columns
 
@@ -103,9 +103,9 @@ module _ (P : ℕ) (J : Task (Fin P)) {In : Type 0} (reads : Fin P → In → �
   unfolding sumTold
   sum-few j h = omega (arith, fits .good .sums j h)
 
-  quiet : countsb (phase (J .top) (l .round)) ≡ false
-  unfolding countsb
-  quiet = ap countsb here
+  quiet : ofCountsb (phase (J .top) (l .round)) ≡ false
+  unfolding ofCountsb
+  quiet = ap ofCountsb here
 
   sums : (j : ℕ) → HoldsSlot P J p j → field x1 (SUM + j) ≡ s .sum j
   unfolding sumTold
@@ -170,7 +170,7 @@ module _ (P : ℕ) (J : Task (Fin P)) {In : Type 0} (reads : Fin P → In → �
   abbrev y : List ℕ
   y = postEnd (eachFrom countOne n a x1)
 
-  wrote : Wrote P (co1 .parts-few) J p x1 y (map (countLine P J p x1 co1 (s .own) k (fits .count) own-sums) (range a n) ++ (endLine P J p x1 co1 ∷ []))
+  wrote : WroteLines P (co1 .parts-few) J p x1 y (map (countLine P J p x1 co1 (s .own) k (fits .count) own-sums) (range a n) ++ (endLine P J p x1 co1 ∷ []))
   wrote = counts-written P J p x1 co1 (s .own) k (fits .count) own-sums a n slots-are inside room
 
   abbrev z : List ℕ
@@ -234,17 +234,17 @@ module _ (P : ℕ) (J : Task (Fin P)) {In : Type 0} (reads : Fin P → In → �
     else = λ j h. let (a, b, c) = static-low j h in z-is j b c a;
   }
 
-  entered-is : entered x ≡ y
+  entered-is : roundEntered x ≡ y
   unfolding enterCounts
   entered-is = even-round x (J .top) i (co .levels) low (st .busy .round ∙ even)
 
-  pub counts-stay : Stay x (turned x)
-  unfolding turned
+  pub counts-stay : Stay x (partStepped x)
+  unfolding partStepped
   counts-stay = subst (λ (w : List ℕ). Stay x (set w ROUND (field x ROUND + 1))) (sym entered-is) z-stay
 
-  pub to-counts : Standing P J p (following (parts P) (Q P J reads p) p l) (turned x)
-  unfolding turned enterCounts sizedb overb Spent Holding marksb countsb
-  to-counts =
+  pub into-counts : Standing P J p (following (parts P) (Q P J reads p) p l) (partStepped x)
+  unfolding partStepped enterCounts sizedb overb Spent Holding ofMarksb ofCountsb
+  into-counts =
       subst (λ (w : List ℕ). Standing P J p (following (parts P) (Q P J reads p) p l) (set w ROUND (field x ROUND + 1))) (sym entered-is) (record {
         busy = turn P J reads p (co1 .parts-few) l x (st .busy) x1 y z
             (map (countLine P J p x1 co1 (s .own) k (fits .count) own-sums) (range a n) ++ (endLine P J p x1 co1 ∷ [])) work wrote

@@ -1,5 +1,5 @@
 -- The end of a part: from the totals of all parts comes the result, and beside 8 or 9 the old masters and ghosts.
--- Laws: to-end, end-stay.
+-- Laws: into-end, end-stay.
 use mathlib.Core.Path.{_≡_, refl, sym, _∙_, ap, ap₂, subst}
 use mathlib.Core.Logic.{_⊎_, inl, inr, _≢_}
 use mathlib.Core.Bool.{Bool, true, false, _&&_, _||_, or-false}
@@ -27,12 +27,12 @@ use Rattle.merging.specs.Totals.{grownOf}
 use Rattle.store.specs.Fields.{field, full, STAGE, CELLS, LEVELS, ROUND, RESULT, ENTRIES, TOTAL, HIGH, WRITTEN, RED, SUM, MARK}
 use Rattle.store.specs.Headed.{header-is}
 use Rattle.standing.specs.Busy.{L, Busy, HoldsCell, HoldsSlot}
-use Rattle.partstep.specs.Step.{endNumber, kept, finished, entered, turned}
+use Rattle.partstep.specs.Step.{endNumber, oldPlaces, finished, roundEntered, partStepped}
 use Rattle.held.specs.Held.{heldIn}
-use Rattle.entering.specs.Columns.{Columns, Marked}
-use Rattle.entering.specs.Fits.{Fits, marksb, countsb}
+use Rattle.entering.specs.Columns.{Columns, MarksIn}
+use Rattle.entering.specs.Fits.{Fitted, ofMarksb, ofCountsb}
 use Rattle.entering.specs.Within.{cell-low, slot-low}
-use Rattle.entering.specs.Writing.{Wrote, wrote-none, ordersOf}
+use Rattle.entering.specs.Writing.{WroteLines, wrote-none, ordersOf}
 use Rattle.entering.specs.Entered.{Stay, columns-stay, told-none, added-none}
 use Rattle.entering.specs.Standing.{resultOf, oldEntry, olds, Spent, Holding, Standing}
 use Rattle.entering.specs.Placing.{held-same}
@@ -93,7 +93,7 @@ olds-few P J p (suc n) a =
 
 module _ (P : ℕ) (J : Task (Fin P)) {In : Type 0} (reads : Fin P → In → ℕ → ℕ) (p : Fin P) (l : L P J) (x : List ℕ)
     (st : Standing P J p l x) (last : l .round ≡ suc (suc (J .top + J .top))) (whole : Wholes P J p l x (st .busy))
-    (fits : Fits P J p (following (parts P) (Q P J reads p) p l)) where
+    (fits : Fitted P J p (following (parts P) (Q P J reads p) p l)) where
   abbrev co : Columns P J p x
   co = st .columns
 
@@ -136,13 +136,13 @@ module _ (P : ℕ) (J : Task (Fin P)) {In : Type 0} (reads : Fin P → In → �
   unfolding taking entries masterEntry ghostEntry freshEntries anewb staysb childEntries childStatus statusNew freshStatus pairHeld
   same-entries = ap (entries (parts P) J p) taken
 
-  quiet-marks : marksb (phase (J .top) (l .round)) ≡ false
-  unfolding marksb
-  quiet-marks = ap marksb now
+  quiet-marks : ofMarksb (phase (J .top) (l .round)) ≡ false
+  unfolding ofMarksb
+  quiet-marks = ap ofMarksb now
 
-  quiet-counts : countsb (phase (J .top) (l .round)) ≡ false
-  unfolding countsb
-  quiet-counts = ap countsb now
+  quiet-counts : ofCountsb (phase (J .top) (l .round)) ≡ false
+  unfolding ofCountsb
+  quiet-counts = ap ofCountsb now
 
   live : overb (phase (J .top) (l .round)) ≡ false
   unfolding overb
@@ -174,7 +174,7 @@ module _ (P : ℕ) (J : Task (Fin P)) {In : Type 0} (reads : Fin P → In → �
 
   -- the store with what it holds at the end
   abbrev x1 : List ℕ
-  x1 = elim (eqb (endNumber x) 0) [ true ↦ x | false ↦ kept x ]
+  x1 = elim (eqb (endNumber x) 0) [ true ↦ x | false ↦ oldPlaces x ]
 
   record Ends (w : List ℕ) : Type 0 where
     pub size : length w ≡ length x
@@ -184,7 +184,7 @@ module _ (P : ℕ) (J : Task (Fin P)) {In : Type 0} (reads : Fin P → In → �
   ends-x : Ends x
   ends-x = record { size = refl; else = λ i a b. refl; few = header-is x (rw (u .header) tt) .entries-most }
 
-  ends-kept : Ends (kept x)
+  ends-kept : Ends (oldPlaces x)
   unfolding olds
   ends-kept = record {
     size = kept-size P J p x co;
@@ -195,7 +195,7 @@ module _ (P : ℕ) (J : Task (Fin P)) {In : Type 0} (reads : Fin P → In → �
   ends : Ends x1
   ends = go (eqb (endNumber x) 0)
     where
-      go : (b : Bool) → Ends (elim b [ true ↦ x | false ↦ kept x ])
+      go : (b : Bool) → Ends (elim b [ true ↦ x | false ↦ oldPlaces x ])
       go true = ends-x
       go false = ends-kept
 
@@ -275,10 +275,10 @@ module _ (P : ℕ) (J : Task (Fin P)) {In : Type 0} (reads : Fin P → In → �
       (λ i h. reset .else i (λ e. absurd (omega (arith, e))) (λ e. absurd (omega (arith, e))) (λ e. absurd (omega (arith, e))))
 
   x1-same : endNumber x ≡ 0 → x1 ≡ x
-  x1-same e = ap (λ (b : Bool). elim b [ true ↦ x | false ↦ kept x ]) (eq-eqb (endNumber x) 0 e)
+  x1-same e = ap (λ (b : Bool). elim b [ true ↦ x | false ↦ oldPlaces x ]) (eq-eqb (endNumber x) 0 e)
 
-  x1-kept : endNumber x ≢ 0 → x1 ≡ kept x
-  x1-kept e = ap (λ (b : Bool). elim b [ true ↦ x | false ↦ kept x ]) (ne-eqb (endNumber x) 0 e)
+  x1-kept : endNumber x ≢ 0 → x1 ≡ oldPlaces x
+  x1-kept e = ap (λ (b : Bool). elim b [ true ↦ x | false ↦ oldPlaces x ]) (ne-eqb (endNumber x) 0 e)
 
   before : (l .state .high ≡ grownOf (parts P) J p (l .state) .1) × (l .state .high ≤ 10 → heldIn x ≡ take 4096 (entries (parts P) J p (l .state)))
   unfolding Holding
@@ -303,17 +303,17 @@ module _ (P : ℕ) (J : Task (Fin P)) {In : Type 0} (reads : Fin P → In → �
   unfolding ordersOf orderOf flatMap
   lines = ap (λ (f : Phase). orderOf (parts P) J (ups P) f p s) (sym next)
 
-  entered-is : entered x ≡ v2
+  entered-is : roundEntered x ≡ v2
   unfolding finished
   entered-is = last-round x (J .top) (co .levels) (u .round ∙ last)
 
-  pub end-stay : Stay x (turned x)
-  unfolding turned
+  pub end-stay : Stay x (partStepped x)
+  unfolding partStepped
   end-stay = subst (λ (w : List ℕ). Stay x (set w ROUND (field x ROUND + 1))) (sym entered-is) z-stay
 
-  pub to-end : Standing P J p (following (parts P) (Q P J reads p) p l) (turned x)
-  unfolding turned finished sizedb overb Spent marksb countsb
-  to-end =
+  pub into-end : Standing P J p (following (parts P) (Q P J reads p) p l) (partStepped x)
+  unfolding partStepped finished sizedb overb Spent ofMarksb ofCountsb
+  into-end =
       subst (λ (w : List ℕ). Standing P J p (following (parts P) (Q P J reads p) p l) (set w ROUND (field x ROUND + 1))) (sym entered-is) (record {
         busy = turn P J reads p (co .parts-few) l x u x1 x1 z [] work (wrote-none P (co .parts-few) J p x1) reset (suc (l .round)) s lines
             (head-done x z (u .header) z-low

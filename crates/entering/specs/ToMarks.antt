@@ -1,5 +1,5 @@
 -- Entering a round of marks: at the start, and after a round of counts.
--- Laws: enter-marks, enter-stay (of any store that stands at a place), to-marks, marks-stay (after a round of counts).
+-- Laws: enter-marks, enter-stay (of any store that stands at a place), into-marks, marks-stay (after a round of counts).
 use mathlib.Core.Path.{_≡_, refl, sym, _∙_, ap, ap₂, subst}
 use mathlib.Core.Logic.{_⊎_, inl, inr, _≢_}
 use mathlib.Core.Bool.{Bool, true, false, _&&_, _||_, not, or-false}
@@ -27,12 +27,12 @@ use Rattle.turns.specs.Loops.{eachFrom}
 use Rattle.turns.specs.Decide.{hitb}
 use Rattle.turns.specs.Post.{markOne, postEnd}
 use Rattle.turns.specs.Start.{levelFrom, enterMarks}
-use Rattle.partstep.specs.Step.{entered, turned}
-use Rattle.entering.specs.Columns.{Columns, Marked}
-use Rattle.entering.specs.Fits.{Fits, marksb, countsb}
-use Rattle.entering.specs.Within.{level-is, cells-are, level-inside, cell-low, slot-low}
+use Rattle.partstep.specs.Step.{roundEntered, partStepped}
+use Rattle.entering.specs.Columns.{Columns, MarksIn}
+use Rattle.entering.specs.Fits.{Fitted, ofMarksb, ofCountsb}
+use Rattle.entering.specs.Within.{level-is, cells-of-level, level-inside, cell-low, slot-low}
 use Rattle.entering.specs.Deciding.{decidedAt, decided, decided-else, decided-length}
-use Rattle.entering.specs.Writing.{Wrote}
+use Rattle.entering.specs.Writing.{WroteLines}
 use Rattle.entering.specs.Lines.{markLine, endLine, marks-written, marks-order}
 use Rattle.entering.specs.Entered.{Stay, columns-stay, static-low, told-none, added-none}
 use Rattle.entering.specs.Standing.{Spent, Holding, Standing}
@@ -40,7 +40,7 @@ use Rattle.entering.specs.Turn.{Worked, Reset, Q, entering, turn}
 use Rattle.entering.specs.Steps.{set-reset, head-running, no-result, Wholes, ends-known, odd-round}
 
 module _ (P : ℕ) (J : Task (Fin P)) (fit : Fit J) {In : Type 0} (reads : Fin P → In → ℕ → ℕ) (p : Fin P) (l : L P J) (x : List ℕ)
-    (u : Busy P J p l x) (co : Columns P J p x) (g : ℕ → ℕ) (marked : Marked P J p g x) (h : ℕ → Bool)
+    (u : Busy P J p l x) (co : Columns P J p x) (g : ℕ → ℕ) (marked : MarksIn P J p g x) (h : ℕ → Bool)
     (hits : (i : ℕ) → HoldsSlot P J p i → hitb x i ≡ h i) (red : ℕ → Bool)
     (flags : (c : ℕ) → HoldsCell P J p c → field x (RED + c) ≡ one-if (red c)) (j : ℕ) (low : j ≤ J .top) where
   abbrev k : ℕ
@@ -118,8 +118,8 @@ module _ (P : ℕ) (J : Task (Fin P)) (fit : Fit J) {In : Type 0} (reads : Fin P
     abbrev y : List ℕ
     y = postEnd (eachFrom markOne n a x1)
 
-    wrote : Wrote P (co1 .parts-few) J p x1 y (map (markLine P J p x1 co1 (s .red) new-flags) (range a n) ++ (endLine P J p x1 co1 ∷ []))
-    wrote = marks-written P J p x1 co1 (s .red) new-flags k a n (cells-are P J p x co k (omega arith)) (level-inside P J p x co k) room
+    wrote : WroteLines P (co1 .parts-few) J p x1 y (map (markLine P J p x1 co1 (s .red) new-flags) (range a n) ++ (endLine P J p x1 co1 ∷ []))
+    wrote = marks-written P J p x1 co1 (s .red) new-flags k a n (cells-of-level P J p x co k (omega arith)) (level-inside P J p x co k) room
 
     lines-many : length (map (markLine P J p x1 co1 (s .red) new-flags) (range a n) ++ (endLine P J p x1 co1 ∷ [])) ≡ n + 1
     lines-many =
@@ -199,11 +199,11 @@ module _ (P : ℕ) (J : Task (Fin P)) (fit : Fit J) {In : Type 0} (reads : Fin P
       small = ap sizedb here
 
       pub enter-marks : Standing P J p (entering P J reads p r s l) z
-      unfolding Holding marksb countsb
+      unfolding Holding ofMarksb ofCountsb
       enter-marks = record {
         busy = turn P J reads p (co1 .parts-few) l x u x1 y z
             (map (markLine P J p x1 co1 (s .red) new-flags) (range a n) ++ (endLine P J p x1 co1 ∷ [])) work wrote reset-y r s
-            (marks-order P J p x1 co1 (s .red) new-flags j a n s refl (cells-are P J p x co k (omega arith))
+            (marks-order P J p x1 co1 (s .red) new-flags j a n s refl (cells-of-level P J p x co k (omega arith))
             ∙ ap (λ (f : Phase). orderOf (parts P) J (ups P) f p s) (sym here))
             (head-running x z (u .header) z-low (omega (arith, z-entries, header-is x (rw (u .header) tt) .entries-most)) stage
             (omega (arith, round, z-low LEVELS (omega arith) (omega arith), co .levels, bound)) result) round (λ o. stage)
@@ -225,7 +225,7 @@ module _ (P : ℕ) (J : Task (Fin P)) (fit : Fit J) {In : Type 0} (reads : Fin P
 -- after a round of counts
 module _ (P : ℕ) (J : Task (Fin P)) (fit : Fit J) {In : Type 0} (reads : Fin P → In → ℕ → ℕ) (p : Fin P) (l : L P J) (x : List ℕ)
     (st : Standing P J p l x) (i : ℕ) (low : i < J .top) (odd : l .round ≡ suc (i + i)) (whole : Wholes P J p l x (st .busy))
-    (fits : Fits P J p (following (parts P) (Q P J reads p) p l)) where
+    (fits : Fitted P J p (following (parts P) (Q P J reads p) p l)) where
   abbrev counted : State
   counted = counting (l .state) (redDown (parts P) J i p (l .state) (l .got)) (sumTold (parts P) (l .state) (l .got))
 
@@ -263,9 +263,9 @@ module _ (P : ℕ) (J : Task (Fin P)) (fit : Fit J) {In : Type 0} (reads : Fin P
   unfolding sized
   after-given = ap (λ (t : State). t .given) taken
 
-  quiet : marksb (phase (J .top) (l .round)) ≡ false
-  unfolding marksb
-  quiet = ap marksb now
+  quiet : ofMarksb (phase (J .top) (l .round)) ≡ false
+  unfolding ofMarksb
+  quiet = ap ofMarksb now
 
   live-now : overb (phase (J .top) (l .round)) ≡ false
   unfolding overb
@@ -309,7 +309,7 @@ module _ (P : ℕ) (J : Task (Fin P)) (fit : Fit J) {In : Type 0} (reads : Fin P
   abbrev z' : List ℕ
   z' = set (enterMarks x k') ROUND (field x ROUND + 1)
 
-  entered-is' : entered x ≡ enterMarks x k'
+  entered-is' : roundEntered x ≡ enterMarks x k'
   entered-is' = odd-round x (J .top) i (st .columns .levels) (omega arith) low (st .busy .round ∙ odd)
 
   round-is : field z' ROUND ≡ suc (l .round)
@@ -327,8 +327,8 @@ module _ (P : ℕ) (J : Task (Fin P)) (fit : Fit J) {In : Type 0} (reads : Fin P
       ∙ keeps RESULT (λ e. absurd (omega (arith, e))) (omega arith)
       ∙ no-result x (st .busy .header) (st .busy .running live-now) (omega (arith, st .busy .round, odd, st .columns .levels))
 
-  pub marks-stay : Stay x (turned x)
-  unfolding turned
+  pub marks-stay : Stay x (partStepped x)
+  unfolding partStepped
   marks-stay =
       subst (λ (w : List ℕ). Stay x (set w ROUND (field x ROUND + 1))) (sym entered-is')
       (enter-stay P J fit reads p l x (st .busy) (st .columns) (l .state .given) (st .marked) hit hits-are (l .state .red) old-flags (suc i)
@@ -336,9 +336,9 @@ module _ (P : ℕ) (J : Task (Fin P)) (fit : Fit J) {In : Type 0} (reads : Fin P
       (λ q j. ends-known P J p l x (st .busy) live-now whole q j) spent-is (fits .sent) z'
       (set-reset (enterMarks x k') (field x ROUND + 1)) round-is stage-is result-is)
 
-  pub to-marks : Standing P J p (following (parts P) (Q P J reads p) p l) (turned x)
-  unfolding turned
-  to-marks =
+  pub into-marks : Standing P J p (following (parts P) (Q P J reads p) p l) (partStepped x)
+  unfolding partStepped
+  into-marks =
       subst (λ (w : List ℕ). Standing P J p (following (parts P) (Q P J reads p) p l) (set w ROUND (field x ROUND + 1))) (sym entered-is')
       (enter-marks P J fit reads p l x (st .busy) (st .columns) (l .state .given) (st .marked) hit hits-are (l .state .red) old-flags (suc i)
       (omega arith) (suc (l .round)) next-phase (omega (arith, odd)) after after-red (λ v h. st .busy .sum v h ∙ sym (after-sum v)) after-given

@@ -1,5 +1,5 @@
 -- Entering the round of totals: the masters and ghosts after the step are written, and the own totals told.
--- Laws: to-totals, totals-stay.
+-- Laws: into-totals, totals-stay.
 use mathlib.Core.Path.{_≡_, refl, sym, _∙_, ap, ap₂, subst}
 use mathlib.Core.Logic.{_⊎_, inl, inr, _≢_}
 use mathlib.Core.Bool.{Bool, true, false, _&&_, _||_, not, or-false}
@@ -25,12 +25,12 @@ use Rattle.store.specs.Fields.{field, full, STAGE, CELLS, LEVELS, ROUND, RESULT
 use Rattle.store.specs.Headed.{header-is}
 use Rattle.standing.specs.Busy.{L, Busy, HoldsCell, HoldsSlot}
 use Rattle.turns.specs.Post.{postEnd}
-use Rattle.partstep.specs.Step.{postTotals, enterTotals, entered, turned}
+use Rattle.partstep.specs.Step.{postTotals, enterTotals, roundEntered, partStepped}
 use Rattle.held.specs.Held.{heldIn}
-use Rattle.entering.specs.Columns.{Columns, Marked, Known}
-use Rattle.entering.specs.Fits.{Fits, marksb, countsb}
+use Rattle.entering.specs.Columns.{Columns, MarksIn, Heard}
+use Rattle.entering.specs.Fits.{Fitted, ofMarksb, ofCountsb}
 use Rattle.entering.specs.Within.{cell-low, slot-low}
-use Rattle.entering.specs.Writing.{Wrote}
+use Rattle.entering.specs.Writing.{WroteLines}
 use Rattle.entering.specs.Lines.{totalLine, endLine, totals-written, totals-order}
 use Rattle.entering.specs.Entered.{Stay, columns-stay, told-none, added-none}
 use Rattle.entering.specs.Standing.{Spent, Holding, Standing}
@@ -41,7 +41,7 @@ use Rattle.entering.specs.Steps.{set-reset, head-running, no-result, Who
 
 module _ (P : ℕ) (J : Task (Fin P)) (fit : Fit J) {In : Type 0} (reads : Fin P → In → ℕ → ℕ) (p : Fin P) (l : L P J) (x : List ℕ)
     (st : Standing P J p l x) (odd : l .round ≡ suc (J .top + J .top)) (whole : Wholes P J p l x (st .busy))
-    (fits : Fits P J p (following (parts P) (Q P J reads p) p l)) where
+    (fits : Fitted P J p (following (parts P) (Q P J reads p) p l)) where
   abbrev co : Columns P J p x
   co = st .columns
 
@@ -92,15 +92,15 @@ module _ (P : ℕ) (J : Task (Fin P)) (fit : Fit J) {In : Type 0} (reads : Fin P
   unfolding sized
   s-high = ap (λ (t : State). t .high) taken ∙ ap (λ (g : ℕ × ℕ). g .1) (sym grown-same)
 
-  quiet : marksb (phase (J .top) (l .round)) ≡ false
-  unfolding marksb
-  quiet = ap marksb now
+  quiet : ofMarksb (phase (J .top) (l .round)) ≡ false
+  unfolding ofMarksb
+  quiet = ap ofMarksb now
 
   live : overb (phase (J .top) (l .round)) ≡ false
   unfolding overb
   live = ap overb now
 
-  known : Known P J p (s .red) (s .sum) x
+  known : Heard P J p (s .red) (s .sum) x
   unfolding redTold
   known = record {
     flags = λ c h. u .red c h
@@ -161,7 +161,7 @@ module _ (P : ℕ) (J : Task (Fin P)) (fit : Fit J) {In : Type 0} (reads : Fin P
   abbrev y : List ℕ
   y = postEnd (postTotals x1)
 
-  wrote : Wrote P (co1 .parts-few) J p x1 y (totalLine P J p x1 co1 (s .total) (s .high) ∷ endLine P J p x1 co1 ∷ [])
+  wrote : WroteLines P (co1 .parts-few) J p x1 y (totalLine P J p x1 co1 (s .total) (s .high) ∷ endLine P J p x1 co1 ∷ [])
   wrote = totals-written P J p x1 co1 (s .total) (s .high) total-is high-is (fits .total next) (fits .high next) room
 
   abbrev z : List ℕ
@@ -210,17 +210,17 @@ module _ (P : ℕ) (J : Task (Fin P)) (fit : Fit J) {In : Type 0} (reads : Fin P
   unfolding Holding
   holds = (s-high, λ h. held-z ∙ placed-held P J fit p x co s known (omega (arith, h, s-high)))
 
-  entered-is : entered x ≡ y
+  entered-is : roundEntered x ≡ y
   unfolding enterTotals
   entered-is = last-counts x (J .top) (co .levels) (u .round ∙ odd)
 
-  pub totals-stay : Stay x (turned x)
-  unfolding turned
+  pub totals-stay : Stay x (partStepped x)
+  unfolding partStepped
   totals-stay = subst (λ (w : List ℕ). Stay x (set w ROUND (field x ROUND + 1))) (sym entered-is) z-stay
 
-  pub to-totals : Standing P J p (following (parts P) (Q P J reads p) p l) (turned x)
-  unfolding turned enterTotals sizedb overb Spent marksb countsb
-  to-totals =
+  pub into-totals : Standing P J p (following (parts P) (Q P J reads p) p l) (partStepped x)
+  unfolding partStepped enterTotals sizedb overb Spent ofMarksb ofCountsb
+  into-totals =
       let low-round : field x ROUND ≤ 2 * field x LEVELS = omega (arith, u .round, odd, co .levels) in
       let t : s .total ≡ capped (s .total) = let h = fits .total next in omega arith in
       subst (λ (w : List ℕ). Standing P J p (following (parts P) (Q P J reads p) p l) (set w ROUND (field x ROUND + 1))) (sym entered-is) (record {

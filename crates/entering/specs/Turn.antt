@@ -27,8 +27,8 @@ use Rattle.store.specs.Fetching.{written-few}
 use Rattle.standing.specs.Walk.{spotsFrom, bitsFrom}
 use Rattle.standing.specs.Busy.{L, Busy, HoldsCell, HoldsSlot, pack}
 use Rattle.standing.specs.Posting.{Longer, Matches}
-use Rattle.entering.specs.Writing.{Line, Wrote, ordersOf, longer-on}
-use Rattle.entering.specs.Entered.{Kept, own, enters}
+use Rattle.entering.specs.Writing.{Line, WroteLines, ordersOf, longer-on}
+use Rattle.entering.specs.Entered.{Untouched, part-own, enters}
 
 abbrev pub WorkKept : ℕ → Type 0
 WorkKept i = (i < 9) ⊎ (((12 ≤ i) × (i < 45168)) ⊎ (((49264 ≤ i) × (i < 99440)) ⊎ ((124016 ≤ i) × (i < 210104))))
@@ -104,10 +104,10 @@ module _ (P : ℕ) (J : Task (Fin P)) {In : Type 0} (reads : Fin P → In → �
   entering r s l = enter (parts P) Q r p s (λ q. l .before q + length (l .got q)) (l .sent) (l .queue)
 
   module _ (few : P ≤ 16) (l : L P J) (x : List ℕ) (u : Busy P J p l x) (x1 y z : List ℕ) (ts : List (Line P)) (work : Worked x x1)
-      (wrote : Wrote P few J p x1 y ts) (reset : Reset y z) (r : ℕ) (s : State)
+      (wrote : WroteLines P few J p x1 y ts) (reset : Reset y z) (r : ℕ) (s : State)
       (order : ordersOf P few J p ts ≡ orderOf (parts P) J (ups P) (phase (J .top) r) p s) where
     -- what a turn leaves
-    pub turn-same : (i : ℕ) → Kept i → field z i ≡ field x i
+    pub turn-same : (i : ℕ) → Untouched i → field z i ≡ field x i
     turn-same i (n, h) = z-y i h ∙ y-x1 i n h ∙ x1-x i h
       where
         z-y : (i : ℕ) → ((1 ≤ i) × (i < 7)) ⊎ (((12 ≤ i) × (i < 41072)) ⊎ ((49264 ≤ i) × (i < 99440))) → field z i ≡ field y i
@@ -180,5 +180,5 @@ module _ (P : ℕ) (J : Task (Fin P)) {In : Type 0} (reads : Fin P → In → �
           }) z) (fun-ext (λ q. ap (λ (v : List Body). l .sent q + length v) (written-is q))) b
         where
           enters-own : field z PART ≡ suc (p .0)
-          enters-own = own P J p l x u z r s t (wrote .many) turn-longer (reset .size ∙ wrote .same .size ∙ work .size) turn-same head round running
+          enters-own = part-own P J p l x u z r s t (wrote .many) turn-longer (reset .size ∙ wrote .same .size ∙ work .size) turn-same head round running
               done ends flags sums sized

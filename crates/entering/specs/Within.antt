@@ -1,6 +1,6 @@
 -- What a part holds has room in its columns.
 -- Laws: six-range, edge-low (the six edges), own-held, family-held, slot-held (what is held), member-low, cell-low, slot-low
--- (where it stands), level-is, level-inside, cells-are, level-member (the cells of a level).
+-- (where it stands), level-is, level-inside, cells-of-level, level-member (the cells of a level).
 use mathlib.Core.Path.{_≡_, refl, sym, _∙_, ap, ap₂}
 use mathlib.Core.Bool.{_&&_}
 use mathlib.Core.List.{List}
@@ -55,8 +55,8 @@ module _ (P : ℕ) (J : Task (Fin P)) (p : Fin P) where
     unfolding levelFrom
     level-most k = omega (arith, u .cells-few)
 
-    pub cells-are : (k : ℕ) → k ≤ J .top → J .cells k ≡ range (levelFrom x k) (levelFrom x (k + 1) - levelFrom x k)
-    cells-are k h =
+    pub cells-of-level : (k : ℕ) → k ≤ J .top → J .cells k ≡ range (levelFrom x k) (levelFrom x (k + 1) - levelFrom x k)
+    cells-of-level k h =
         let a : levelFrom x k ≡ field x (FIRST-CELL + k) = level-is k (omega arith) in
         let z : k + 1 ≡ suc k = omega arith in
         let b : levelFrom x (k + 1) ≡ field x (FIRST-CELL + suc k) = ap (levelFrom x) z ∙ level-is (suc k) (omega arith) in
@@ -67,7 +67,7 @@ module _ (P : ℕ) (J : Task (Fin P)) (p : Fin P) where
 
     pub level-member : (k c : ℕ) → k ≤ J .top → levelFrom x k ≤ c → c < levelFrom x k + (levelFrom x (k + 1) - levelFrom x k)
         → Member c (J .cells k)
-    level-member k c h a b = rw (cells-are k h) (range-member (levelFrom x k) (levelFrom x (k + 1) - levelFrom x k) c a b)
+    level-member k c h a b = rw (cells-of-level k h) (range-member (levelFrom x k) (levelFrom x (k + 1) - levelFrom x k) c a b)
 
     pub member-low : (k c : ℕ) → Member c (J .cells k) → c < field x CELLS
     member-low k c m =

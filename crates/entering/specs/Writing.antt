@@ -1,8 +1,8 @@
 -- Entries that a part writes one behind the other are messages in order.
 --   Line               an entry to be written: its body, the parts that it is for as a test, and these as bits
 --   Sent p t           the bits are the test's, and the body has room where there is a receiver
---   Same x y           y differs from x in its entries and places alone
---   Wrote p y z ts     z is y with the lines ts written
+--   SameElse x y       y differs from x in its entries and places alone
+--   WroteLines p y z ts  z is y with the lines ts written
 -- Laws: wrote-none, wrote-cons, wrote-each (a loop that writes a line for each number).
 use mathlib.Core.Path.{_≡_, refl, sym, _∙_, ap, ap₂, subst}
 use mathlib.Core.Logic.{_⊎_, inl, inr, _≢_}
@@ -43,14 +43,14 @@ pub record Sent (P : ℕ) (t : Line P) : Type 0 where
   pub beyond : (i : ℕ) → P ≤ i → bitb (t .mask) i ≡ false
 
 -- what writing leaves
-pub record Same (x y : List ℕ) : Type 0 where
+pub record SameElse (x y : List ℕ) : Type 0 where
   pub size : length y ≡ length x
   pub else : (i : ℕ) → i ≢ WRITTEN → (i < CODE) ⊎ (210104 ≤ i) → field y i ≡ field x i
 
-pub same-self : (x : List ℕ) → Same x x
+pub same-self : (x : List ℕ) → SameElse x x
 same-self x = record { size = refl; else = λ i h l. refl }
 
-pub same-on : (x y z : List ℕ) → Same x y → Same y z → Same x z
+pub same-on : (x y z : List ℕ) → SameElse x y → SameElse y z → SameElse x z
 same-on x y z a b = record { size = b .size ∙ a .size; else = λ i h l. b .else i h l ∙ a .else i h l }
 
 pub count-is : (y : List ℕ) → field y WRITTEN ≤ 28696 → entryCount y ≡ field y WRITTEN
@@ -113,7 +113,7 @@ module _ (y : List ℕ) (k v m : ℕ) (long : full ≤ length y) (room : field y
       getD-set-other c WRITTEN (RECEIVERS + w) (w + 1) 0 (λ z. absurd (omega (arith, z)))
       ∙ getD-set-same b (RECEIVERS + w) m 0 (omega (arith, length-set a (VALUE + w) v, length-set y (CODE + w) k))
 
-  entered-same : Same y (entered y k v m)
+  entered-same : SameElse y (entered y k v m)
   entered-same = record {
     size = entered-size;
     else = λ i h l. entered-else i h (apart i l CODE (omega arith) (omega arith)) (apart i l VALUE (omega arith) (omega arith))
@@ -184,15 +184,15 @@ module _ (P : ℕ) (parts-few : P ≤ 16) (J : Task (Fin P)) (p : Fin P) where
   abbrev pub postLine : List ℕ → Line P → List ℕ
   postLine y t = posted y (entryCode (t .body)) (entryValue (t .body)) (t .mask)
 
-  pub record Wrote (y z : List ℕ) (ts : List (Line P)) : Type 0 where
+  pub record WroteLines (y z : List ℕ) (ts : List (Line P)) : Type 0 where
     pub many : ℕ
     pub few : many ≤ length ts
     pub longer : Longer y z many
-    pub same : Same y z
+    pub same : SameElse y z
     pub written : field z WRITTEN ≡ field y WRITTEN + many
     pub matches : (own : field z PART ≡ suc (p .0)) → Matches P J p z own (ordersOf ts) (spotsFrom z many (entryCount y) 0)
 
-  pub wrote-none : (y : List ℕ) → Wrote y y []
+  pub wrote-none : (y : List ℕ) → WroteLines y y []
   unfolding ordersOf Matches spotsFrom
   wrote-none y = record {
     many = 0;
@@ -223,14 +223,14 @@ module _ (P : ℕ) (parts-few : P ≤ 16) (J : Task (Fin P)) (p : Fin P) where
   posted-some y t e h = rw (ne-eqb (t .mask) 0 e, lt-ltb (field y WRITTEN) 28696 h, posted)
 
   pub posted-same : (y : List ℕ) (t : Line P) → full ≤ length y → field y WRITTEN < 28696
-      → Same y (postLine y t) × (field (postLine y t) WRITTEN ≤ field y WRITTEN + 1)
+      → SameElse y (postLine y t) × (field (postLine y t) WRITTEN ≤ field y WRITTEN + 1)
   posted-same y t l h = elim (ℕ-discrete (t .mask) 0) [
     | yes e ↦
         let f = posted-none y t e in
-        (subst (Same y) (sym f) (same-self y), omega (arith, ap (λ (x : List ℕ). field x WRITTEN) f))
+        (subst (SameElse y) (sym f) (same-self y), omega (arith, ap (λ (x : List ℕ). field x WRITTEN) f))
     | no e ↦
         let f = posted-some y t e h in (
-          subst (Same y) (sym f) (entered-same y (entryCode (t .body)) (entryValue (t .body)) (t .mask) l h),
+          subst (SameElse y) (sym f) (entered-same y (entryCode (t .body)) (entryValue (t .body)) (t .mask) l h),
           omega (
             arith,
             ap (λ (x : List ℕ). field x WRITTEN) f,
@@ -241,13 +241,13 @@ module _ (P : ℕ) (parts-few : P ≤ 16) (J : Task (Fin P)) (p : Fin P) where
 
   -- a line written first
   pub wrote-cons : (y z : List ℕ) (t : Line P) (ts : List (Line P)) → Sent P t → full ≤ length y → field y WRITTEN < 28696
-      → Wrote (postLine y t) z ts → Wrote y z (t ∷ ts)
+      → WroteLines (postLine y t) z ts → WroteLines y z (t ∷ ts)
   unfolding ordersOf flatMap
   wrote-cons y z t ts s l h w = elim (ℕ-discrete (t .mask) 0) [ yes e ↦ without e | no e ↦ with-it e ]
     where
-      without : t .mask ≡ 0 → Wrote y z (t ∷ ts)
+      without : t .mask ≡ 0 → WroteLines y z (t ∷ ts)
       without e =
-          let v : Wrote y z ts = subst (λ (x : List ℕ). Wrote x z ts) (posted-none y t e) w in
+          let v : WroteLines y z ts = subst (λ (x : List ℕ). WroteLines x z ts) (posted-none y t e) w in
           let o : ordersOf (t ∷ ts) ≡ ordersOf ts = ap (λ (a : List (Fin P × Body)). a ++ ordersOf ts) (to-none t s e) in
           record {
             many = v .many;
@@ -259,13 +259,13 @@ module _ (P : ℕ) (parts-few : P ≤ 16) (J : Task (Fin P)) (p : Fin P) where
                 (v .matches own);
           }
 
-      with-it : t .mask ≢ 0 → Wrote y z (t ∷ ts)
+      with-it : t .mask ≢ 0 → WroteLines y z (t ∷ ts)
       with-it e =
           let k = entryCode (t .body) in
           let u = entryValue (t .body) in
           let m = t .mask in
-          let v : Wrote (entered y (entryCode (t .body)) (entryValue (t .body)) (t .mask)) z ts =
-          subst (λ (x : List ℕ). Wrote x z ts) (posted-some y t e h) w in
+          let v : WroteLines (entered y (entryCode (t .body)) (entryValue (t .body)) (t .mask)) z ts =
+          subst (λ (x : List ℕ). WroteLines x z ts) (posted-some y t e h) w in
           let g = entered-longer y k u m l h in
           let n = count-is y (omega arith) in
           let at : entryCount (entered y (entryCode (t .body)) (entryValue (t .body)) (t .mask)) ≡ suc (entryCount y) = omega (arith, g .many) in
@@ -291,10 +291,10 @@ module _ (P : ℕ) (parts-few : P ≤ 16) (J : Task (Fin P)) (p : Fin P) where
 
   -- a loop, and what is written behind it
   module _ (x : List ℕ) (long : full ≤ length x) (f : List ℕ → ℕ → List ℕ) (line : ℕ → Line P) (g : List ℕ → List ℕ) (us : List (Line P))
-      (rest : (y : List ℕ) → Same x y → field y WRITTEN + length us ≤ 28696 → Wrote y (g y) us) where
+      (rest : (y : List ℕ) → SameElse x y → field y WRITTEN + length us ≤ 28696 → WroteLines y (g y) us) where
     pub wrote-each : (n c : ℕ) (does : (d : ℕ) → c ≤ d → d < c + n → Sent P (line d))
-        → ((y : List ℕ) (d : ℕ) → Same x y → c ≤ d → d < c + n → f y d ≡ postLine y (line d))
-        → (y : List ℕ) → Same x y → field y WRITTEN + (n + length us) ≤ 28696 → Wrote y (g (eachFrom f n c y)) (map line (range c n) ++ us)
+        → ((y : List ℕ) (d : ℕ) → SameElse x y → c ≤ d → d < c + n → f y d ≡ postLine y (line d))
+        → (y : List ℕ) → SameElse x y → field y WRITTEN + (n + length us) ≤ 28696 → WroteLines y (g (eachFrom f n c y)) (map line (range c n) ++ us)
     unfolding eachFrom range
     wrote-each zero c does is y s h = rest y s (omega arith)
     wrote-each (suc n) c does is y s h =
@@ -304,10 +304,10 @@ module _ (P : ℕ) (parts-few : P ≤ 16) (J : Task (Fin P)) (p : Fin P) where
         let a = posted-same y (line c) l r in
         let v = wrote-each n (suc c) (λ d i j. does d (omega arith) (omega arith)) (λ y d t i j. is y d t (omega arith) (omega arith))
         (postLine y (line c)) (same-on x y (postLine y (line c)) s (a .0)) (omega (arith, a .1)) in
-        subst (λ (w : List ℕ). Wrote y (g (eachFrom f n (suc c) w)) (line c ∷ (map line (range (suc c) n) ++ us))) (sym e)
+        subst (λ (w : List ℕ). WroteLines y (g (eachFrom f n (suc c) w)) (line c ∷ (map line (range (suc c) n) ++ us))) (sym e)
         (wrote-cons y (g (eachFrom f n (suc c) (postLine y (line c)))) (line c) (map line (range (suc c) n) ++ us)
         (does c (omega arith) (omega arith)) l r v)
 
   -- and one entry last
-  pub wrote-last : (y : List ℕ) (t : Line P) → Sent P t → full ≤ length y → field y WRITTEN < 28696 → Wrote y (postLine y t) (t ∷ [])
+  pub wrote-last : (y : List ℕ) (t : Line P) → Sent P t → full ≤ length y → field y WRITTEN < 28696 → WroteLines y (postLine y t) (t ∷ [])
   wrote-last y t s l h = wrote-cons y (postLine y t) t [] s l h (wrote-none (postLine y t))

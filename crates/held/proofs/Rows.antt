@@ -12,7 +12,7 @@ use Rattle.base.specs.Range.{range, length-range}
 use Rattle.parts.specs.Held.{Entry}
 use Rattle.store.specs.Fields.{field, ENTRIES, PLACE-HEAD, PLACE-DIGITS, PLACE-MORE}
 use Rattle.store.specs.Places.{eights, pathOf}
-use Rattle.held.specs.Held.{entryIn, heldIn, rowOf, heldRows}
+use Rattle.held.specs.Held.{entryIn, heldIn, entryRow, heldRows}
 use Rattle.held.specs.Key.{keyPath, Keyed, key-place, key-digits, length-eights}
 
 pub one-true : (b : Bool) → b ≡ true → 1 ≡ one-if b
@@ -50,14 +50,14 @@ module _ (e : Entry) (x y : ℕ) (k : Keyed (e .path) x y) where
   unfolding keyPath
   path-length = ap length (sym (k .path)) ∙ ap suc (length-eights (x / 256) y)
 
-  pub row-length : length (rowOf e) ≡ 14
-  unfolding rowOf
+  pub row-length : length (entryRow e) ≡ 14
+  unfolding entryRow
   row-length =
       let a = length-append (e .path) (replicate (11 - length (e .path)) 0) in
       omega (arith, path-length, length-replicate {A = ℕ} (11 - length (e .path)) 0, k .key .level)
 
-  pub row-is : rowOf e ≡ one-if (e .ghost) ∷ e .status ∷ x / 256 ∷ x % 256 ∷ eights 10 y
-  unfolding rowOf keyPath
+  pub row-is : entryRow e ≡ one-if (e .ghost) ∷ e .status ∷ x / 256 ∷ x % 256 ∷ eights 10 y
+  unfolding entryRow keyPath
   row-is =
       let n : 11 - length (e .path) ≡ 10 - x / 256 = omega (arith, path-length) in
       let p : pred (length (e .path)) ≡ x / 256 = ap pred path-length in
@@ -65,7 +65,7 @@ module _ (e : Entry) (x y : ℕ) (k : Keyed (e .path) x y) where
 
   pub row-put : (l m : List ℕ) (at g s a b : ℕ) → g ≡ one-if (e .ghost) → s ≡ e .status → a ≡ x / 256 → b ≡ x % 256
       → m ≡ sets (set (set (set (set l at g) (at + 1) s) (at + 2) a) (at + 3) b) (at + 4) (eights 10 y)
-      → m ≡ sets l at (rowOf e)
+      → m ≡ sets l at (entryRow e)
   row-put l m at g s a b i j u v e =
       let p : at + 1 ≡ suc at = omega arith in
       let q : at + 2 ≡ suc (suc at) = omega arith in
@@ -74,17 +74,17 @@ module _ (e : Entry) (x y : ℕ) (k : Keyed (e .path) x y) where
       (rw (p, q, r, w, i, j, u, v) at e) ∙ ap (sets l at) (sym row-is)
 
 -- all rows
-length-entry : (x : List ℕ) (j : ℕ) → length (rowOf (entryIn x j)) ≡ 14
+length-entry : (x : List ℕ) (j : ℕ) → length (entryRow (entryIn x j)) ≡ 14
 unfolding entryIn
 length-entry x j =
     row-length (entryIn x j) _ _ (key-place (field x (PLACE-HEAD + j)) (field x (PLACE-DIGITS + j)) (field x (PLACE-MORE + j)) _ _ refl
     refl)
 
-rows-length : (x : List ℕ) (k m : ℕ) → length (flatMap rowOf (map (entryIn x) (range k m))) ≡ 14 * m
+rows-length : (x : List ℕ) (k m : ℕ) → length (flatMap entryRow (map (entryIn x) (range k m))) ≡ 14 * m
 unfolding range flatMap
 rows-length x k zero = refl
 rows-length x k (suc m) =
-    length-append (rowOf (entryIn x k)) (flatMap rowOf (map (entryIn x) (range (suc k) m)))
+    length-append (entryRow (entryIn x k)) (flatMap entryRow (map (entryIn x) (range (suc k) m)))
     ∙ ap₂ _+_ (length-entry x k) (rows-length x (suc k) m) ∙ omega arith
 
 pub length-rows : (x : List ℕ) → length (heldRows x) ≡ 14 * field x ENTRIES
@@ -97,20 +97,20 @@ length-held x = length-map (range 0 (field x ENTRIES)) (entryIn x) ∙ length-ra
 
 -- the rest is written as the whole
 abbrev pub RowsLeft : List ℕ → ℕ → ℕ → List ℕ → List ℕ → Type 0
-RowsLeft x n j l m = sets l (14 * j) (flatMap rowOf (map (entryIn x) (range j (n - j)))) ≡ sets m 0 (heldRows x)
+RowsLeft x n j l m = sets l (14 * j) (flatMap entryRow (map (entryIn x) (range j (n - j)))) ≡ sets m 0 (heldRows x)
 
 pub rows-all : (x m : List ℕ) → RowsLeft x (field x ENTRIES) 0 m m
 unfolding heldRows heldIn
 rows-all x m = let z : field x ENTRIES - 0 ≡ field x ENTRIES = omega arith in rw z
 
-pub row-more : (x l l′ m : List ℕ) (n j : ℕ) → j < n → RowsLeft x n j l m → l′ ≡ sets l (14 * j) (rowOf (entryIn x j))
+pub row-more : (x l l′ m : List ℕ) (n j : ℕ) → j < n → RowsLeft x n j l m → l′ ≡ sets l (14 * j) (entryRow (entryIn x j))
     → RowsLeft x n (suc j) l′ m
 unfolding range flatMap
 row-more x l l′ m n j h r e =
     let k : n - j ≡ suc (n - suc j) = omega arith in
-    let t : List ℕ = flatMap rowOf (map (entryIn x) (range (suc j) (n - suc j))) in
-    let a : 14 * suc j ≡ 14 * j + length (rowOf (entryIn x j)) = omega (arith, length-entry x j) in
-    rw (a, e) (sym (sets-append (rowOf (entryIn x j)) t l (14 * j)) ∙ (rw k at r))
+    let t : List ℕ = flatMap entryRow (map (entryIn x) (range (suc j) (n - suc j))) in
+    let a : 14 * suc j ≡ 14 * j + length (entryRow (entryIn x j)) = omega (arith, length-entry x j) in
+    rw (a, e) (sym (sets-append (entryRow (entryIn x j)) t l (14 * j)) ∙ (rw k at r))
 
 pub rows-out : (x l m : List ℕ) (n j : ℕ) → n ≤ j → RowsLeft x n j l m → l ≡ sets m 0 (heldRows x)
 unfolding range flatMap

@@ -1,6 +1,6 @@
 -- What a done store holds: its masters and ghosts with place and status, read from this store alone.
 --   entryIn x j      the master or ghost with the number j; heldIn x all of them
---   rowOf e          an entry as fourteen numbers: 1 for a ghost, status, level, coarse cell, ten child numbers with zeros behind them
+--   entryRow e       an entry as fourteen numbers: 1 for a ghost, status, level, coarse cell, ten child numbers with zeros behind them
 --   heldAnswer ..    15, then 16: the header, or a store that is not done; heldRows x what the lent table then holds in front
 --   stageAnswer x    15, then 16: the header, or a store that was not started
 --   stageOf x        running with its round, done, or done with 8 or 9
@@ -40,13 +40,13 @@ unfolding entryIn range
 heldIn x = map (entryIn x) (range 0 (field x ENTRIES))
 
 -- a path has the coarse cell and at most ten child numbers
-unfoldable pub rowOf : Entry → List ℕ
+unfoldable pub entryRow : Entry → List ℕ
 unfolding one-if
-rowOf e = (one-if (e .ghost) ∷ e .status ∷ pred (length (e .path)) ∷ e .path) ++ replicate (11 - length (e .path)) 0
+entryRow e = (one-if (e .ghost) ∷ e .status ∷ pred (length (e .path)) ∷ e .path) ++ replicate (11 - length (e .path)) 0
 
 unfoldable pub heldRows : List ℕ → List ℕ
-unfolding heldIn rowOf flatMap
-heldRows x = flatMap rowOf (heldIn x)
+unfolding heldIn entryRow flatMap
+heldRows x = flatMap entryRow (heldIn x)
 
 -- fourteen numbers for each of 4,096
 abbrev pub fullHeld : ℕ

@@ -19,7 +19,7 @@ ghost use Rattle.base.specs.Refuse.{heldAfter};
 ghost use Rattle.store.specs.Fields.{field, full};
 ghost use Rattle.store.specs.Header.{headerb};
 ghost use Rattle.store.specs.Places.{eights, pathOf};
-ghost use Rattle.held.specs.Held.{entryIn, heldIn, rowOf, heldRows, heldAnswer, stageAnswer, stageOf, progressOf, listedOf};
+ghost use Rattle.held.specs.Held.{entryIn, heldIn, entryRow, heldRows, heldAnswer, stageAnswer, stageOf, progressOf, listedOf};
 ghost use Rattle.held.specs.Key.{Keyed};
 
 // How far a part's step is: in a round, done, or ended with 8 or 9.
@@ -146,7 +146,7 @@ fn write_digits(rows: &mut [u16], at: usize, digits: u32)
 // Writes the row of an entry.
 fn write_row(store: &[u16], rows: &mut [u16], j: usize)
     requires { ⌜ (full ≤ length (now store)) × (j < 4096) × (57344 ≤ length (now rows)) ⌝ }
-    ensures { λ r. ⌜ is rows ≡ sets (was rows) (14 * j) (rowOf (entryIn (was store) j)) ⌝ }
+    ensures { λ r. ⌜ is rows ≡ sets (was rows) (14 * j) (entryRow (entryIn (was store) j)) ⌝ }
 {
     let at = 14 * j;
     let key = key_of(store, j);

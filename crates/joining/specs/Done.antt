@@ -1,7 +1,7 @@
 -- A part's store when it is done.
 --   PartDone P n r qs es p x   x is the store of the part p of P, done with the result r; it holds the entries es, and the corners of its
 --                            coarse masters, which are n corners' and of the coarse cells qs
--- Laws: header-same, done-same (of stores that have the same numbers).
+-- Laws: header-agrees, done-same (of stores that have the same numbers).
 use mathlib.Core.Path.{_≡_, refl, sym, _∙_, ap, ap₂}
 use mathlib.Core.Bool.{Bool, true, false, _&&_, _||_}
 use mathlib.Core.List.{List, [], _∷_, map}
@@ -48,8 +48,8 @@ header-of : (x : List ℕ) → headerb x ≡ headerOf (field x STAGE) (field x P
 unfolding headerb stageb headerOf
 header-of x = refl
 
-pub header-same : (x y : List ℕ) → ((k : ℕ) → k < 16 → field x k ≡ field y k) → headerb x ≡ headerb y
-header-same x y f =
+pub header-agrees : (x y : List ℕ) → ((k : ℕ) → k < 16 → field x k ≡ field y k) → headerb x ≡ headerb y
+header-agrees x y f =
     let a : field x STAGE ≡ field y STAGE = f STAGE (omega arith) in
     let b : field x PART ≡ field y PART = f PART (omega arith) in
     let c : field x PARTS ≡ field y PARTS = f PARTS (omega arith) in
@@ -98,7 +98,7 @@ module _ (x y : List ℕ) (f : (k : ℕ) → k < full → field x k ≡ field y 
       let h = header-is y (d .header) in
       record {
         long = long;
-        header = rw (header-same x y (λ k l. f k (omega arith))) (d .header);
+        header = rw (header-agrees x y (λ k l. f k (omega arith))) (d .header);
         part = f PART (omega arith) ∙ d .part;
         stage = f STAGE (omega arith) ∙ d .stage;
         parts = f PARTS (omega arith) ∙ d .parts;

@@ -29,26 +29,26 @@ use Rattle.store.specs.Fields.{field, full, PART, PARTS, CORNERS, COARSE, RESUL
 use Rattle.store.specs.Header.{headerb}
 use Rattle.store.specs.Headed.{Header, header-is}
 use Rattle.held.specs.Held.{heldIn}
-use Rattle.merge.specs.Merge.{storeIn, storesIn, alikeb, everyb, ownsb, cornersIn, mergeCells, mergeEntries, mergeTable}
+use Rattle.merge.specs.Merge.{storeIn, storesIn, alikeb, everyb, ownsb, cornersAmong, mergeCells, mergeEntries, mergeTable}
 use Rattle.merge.specs.Merge.{mergeAnswer, mergedOf}
 use Rattle.merge.specs.declared.Merged.the-variants as answer
 use Rattle.merge.specs.Merges.{Merges, merges-accepted}
 use Rattle.merge.specs.Steps.{storesBy}
 use Rattle.merge.specs.Stores.{store-long, field-in, length-stores, stores-at, alike-yes}
 use Rattle.joining.specs.Joint.{Order, Joint, joint-merged, joint-complete}
-use Rattle.joining.specs.Done.{PartDone, header-same, done-same}
+use Rattle.joining.specs.Done.{PartDone, header-agrees, done-same}
 
 -- the first store that has a coarse cell
 corners-first : (i : ℕ) (q : List ℕ) (xs : List (List ℕ))
     → ((j : ℕ) → j < length xs → ownsb i (getD xs j []) ≡ true → take 4 (drop (CORNER + 4 * i) (getD xs j [])) ≡ q)
-    → T (anyb (ownsb i) xs) → cornersIn xs i ≡ q
-unfolding anyb cornersIn
+    → T (anyb (ownsb i) xs) → cornersAmong xs i ≡ q
+unfolding anyb cornersAmong
 corners-first i q [] f t = absurd t
 corners-first i q (x ∷ xs) f t = go (ownsb i x) refl (corners-first i q xs (λ j h. f (suc j) (omega arith)))
   where
-    go : (c : Bool) → ownsb i x ≡ c → (T (anyb (ownsb i) xs) → cornersIn xs i ≡ q) → cornersIn (x ∷ xs) i ≡ q
-    go true e r = rw (e, cornersIn) (f 0 (omega arith) e)
-    go false e r = rw (e, cornersIn) (r (rw e at t))
+    go : (c : Bool) → ownsb i x ≡ c → (T (anyb (ownsb i) xs) → cornersAmong xs i ≡ q) → cornersAmong (x ∷ xs) i ≡ q
+    go true e r = rw (e, cornersAmong) (f 0 (omega arith) e)
+    go false e r = rw (e, cornersAmong) (r (rw e at t))
 
 map-all : (f : ℕ → List ℕ) (qs : List (List ℕ)) → ((i : ℕ) → i < length qs → f i ≡ getD qs i []) → map f (range 0 (length qs)) ≡ qs
 map-all f qs h =
@@ -183,7 +183,7 @@ module _ (b : List ℕ) (P n result : ℕ) (qs : List (List ℕ)) (ss : List ℕ
     cells-are : mergeCells (storesBy b P) (length qs) ≡ qs
     unfolding mergeCells ownsb
     cells-are =
-        map-all (cornersIn (storesBy b P)) qs (λ i h.
+        map-all (cornersAmong (storesBy b P)) qs (λ i h.
         corners-first i (getD qs i []) (storesBy b P) (λ j k.
         let g : j < P = omega (arith, length-stores b P) in
         rw (stores-at b P j g) (λ e.
@@ -204,7 +204,7 @@ module _ (b : List ℕ) (P n result : ℕ) (qs : List (List ℕ)) (ss : List ℕ
     pub joined-merges : Merges b
     joined-merges =
         record {
-          header = rw (header-same b (storeIn b 0) (λ k h. own k (omega arith))) (first .header);
+          header = rw (header-agrees b (storeIn b 0) (λ k h. own k (omega arith))) (first .header);
           alike = rw stores-are alike-all;
           every = rw stores-are every-part;
           owned = rw (stores-are, coarse-are) owned-all;

@@ -16,7 +16,7 @@ use Rattle.base.specs.Lists.{allb, anyb, allb-at}
 use Rattle.base.specs.Range.{range, length-range, range-at}
 use Rattle.mesh.specs.Coarse.{cellb, cellsb}
 use Rattle.store.specs.Fields.{full, CORNER}
-use Rattle.merge.specs.Merge.{storeIn, ownsb, cornersIn, mergeCells}
+use Rattle.merge.specs.Merge.{storeIn, ownsb, cornersAmong, mergeCells}
 use Rattle.merge.specs.Steps.{storesBy, OwnedAt, Gathered}
 use Rattle.merge.specs.Stores.{field-in, store-long}
 
@@ -123,8 +123,8 @@ module _ (b : List ℕ) (P n m : ℕ) where
     pub few : i ≤ m
     pub long : length mesh ≡ 1024
     pub owned : T (allb ownedb (range 0 i))
-    pub cells : T (allb (cellb n) (map (cornersIn xs) (range 0 i)))
-    pub mesh-is : fours (take (4 * i) mesh) ≡ map (cornersIn xs) (range 0 i)
+    pub cells : T (allb (cellb n) (map (cornersAmong xs) (range 0 i)))
+    pub mesh-is : fours (take (4 * i) mesh) ≡ map (cornersAmong xs) (range 0 i)
 
   pub gathering-start : (mesh : List ℕ) → length mesh ≡ 1024 → Gathering mesh 0
   unfolding allb range fours
@@ -154,7 +154,7 @@ module _ (b : List ℕ) (P n m : ℕ) where
         length-take-le 4 (drop (CORNER + 4 * i) (storeIn b j))
         (omega (arith, length-drop (CORNER + 4 * i) (storeIn b j), store-long b j room (omega arith)))
 
-    corners : cornersIn xs i ≡ q
+    corners : cornersAmong xs i ≡ q
     corners = o .some below .1
 
     parted : mesh′ ≡ take (4 * i) mesh ++ (q ++ drop (4 * i + length q) mesh)
@@ -163,33 +163,33 @@ module _ (b : List ℕ) (P n m : ℕ) where
     front : length (take (4 * i) mesh) ≡ 4 * i
     front = length-take-le (4 * i) mesh (omega (arith, s .long))
 
-    pub cell-at : take 4 (drop (4 * i) mesh′) ≡ cornersIn xs i
+    pub cell-at : take 4 (drop (4 * i) mesh′) ≡ cornersAmong xs i
     cell-at =
         ap (λ (l : List ℕ). take 4 (drop (4 * i) l)) parted
         ∙ ap (take 4) (drop-at (take (4 * i) mesh) (q ++ drop (4 * i + length q) mesh) (4 * i) front)
         ∙ take-at q (drop (4 * i + length q) mesh) 4 q-four ∙ sym corners
 
-    all-corners : map (cornersIn xs) (range 0 (suc i)) ≡ map (cornersIn xs) (range 0 i) ++ (cornersIn xs i ∷ [])
+    all-corners : map (cornersAmong xs) (range 0 (suc i)) ≡ map (cornersAmong xs) (range 0 i) ++ (cornersAmong xs i ∷ [])
     all-corners =
         let z : 0 + i ≡ i = omega arith in
         let r : range 0 (suc i) ≡ range 0 i ++ (i ∷ []) = rw z at (range-more 0 i) in
-        ap (map (cornersIn xs)) r ∙ map-append (cornersIn xs) (range 0 i) (i ∷ [])
+        ap (map (cornersAmong xs)) r ∙ map-append (cornersAmong xs) (range 0 i) (i ∷ [])
 
     pub gathering-low : cellb n (take 4 (drop (4 * i) mesh′)) ≡ false → (last : List ℕ) → Gathered b P n m last false
     unfolding mergeCells cellsb
     gathering-low t last =
         record {
           failed = λ z u v.
-              let a = allb-at (cellb n) [] (map (cornersIn xs) (range 0 m)) v i (omega (
+              let a = allb-at (cellb n) [] (map (cornersAmong xs) (range 0 m)) v i (omega (
                 arith,
-                length-map (range 0 m) (cornersIn xs),
+                length-map (range 0 m) (cornersAmong xs),
                 length-range 0 m,
               )) in
-              let w : getD (map (cornersIn xs) (range 0 m)) i [] ≡ cornersIn xs i =
-              getD-map (cornersIn xs) (range 0 m) i 0 [] (omega (arith, length-range 0 m))
-              ∙ ap (cornersIn xs) (range-at 0 m i 0 h ∙ (let z : 0 + i ≡ i = omega arith in z)) in
-              let c : T (cellb n (cornersIn xs i)) = rw w at a in
-              not-both (cellb n (cornersIn xs i)) (is-true (cellb n (cornersIn xs i)) c) (ap (cellb n) (sym cell-at) ∙ t);
+              let w : getD (map (cornersAmong xs) (range 0 m)) i [] ≡ cornersAmong xs i =
+              getD-map (cornersAmong xs) (range 0 m) i 0 [] (omega (arith, length-range 0 m))
+              ∙ ap (cornersAmong xs) (range-at 0 m i 0 h ∙ (let z : 0 + i ≡ i = omega arith in z)) in
+              let c : T (cellb n (cornersAmong xs i)) = rw w at a in
+              not-both (cellb n (cornersAmong xs i)) (is-true (cellb n (cornersAmong xs i)) c) (ap (cellb n) (sym cell-at) ∙ t);
           owned = λ z. not-both false z refl;
           cells = λ z. not-both false z refl;
           mesh = λ z. not-both false z refl;
@@ -200,14 +200,14 @@ module _ (b : List ℕ) (P n m : ℕ) where
     unfolding allb
     gathering-on t =
         let z : 0 + i ≡ i = omega arith in
-        let c : cellb n (cornersIn xs i) ≡ true = ap (cellb n) (sym cell-at) ∙ t in
+        let c : cellb n (cornersAmong xs i) ≡ true = ap (cellb n) (sym cell-at) ∙ t in
         record {
           few = h;
           long = ap length e ∙ length-sets mesh (4 * i) q ∙ s .long;
           owned = rw (range-more 0 i, z) (all-join ownedb (range 0 i) (i ∷ []) (s .owned)
               (and-both (ownedb i) true (rw (o .some below .0) tt) tt));
-          cells = rw all-corners (all-join (cellb n) (map (cornersIn xs) (range 0 i)) (cornersIn xs i ∷ []) (s .cells)
-              (and-both (cellb n (cornersIn xs i)) true (rw c tt) tt));
+          cells = rw all-corners (all-join (cellb n) (map (cornersAmong xs) (range 0 i)) (cornersAmong xs i ∷ []) (s .cells)
+              (and-both (cellb n (cornersAmong xs i)) true (rw c tt) tt));
           mesh-is =
               let w : 4 * suc i ≡ 4 * i + 4 = omega arith in
               let l : take (4 * i + 4) mesh′ ≡ take (4 * i) mesh ++ q =

@@ -2,7 +2,7 @@
 --   storesIn b            the stores that a lent table has, as many as the first says there are parts
 --   alikeb x y            y is done, and one of the same split and result as x
 --   everyb xs             each part is among the stores
---   ownsb i x             the store has the coarse cell i as master; cornersIn xs i its corners, from the first that does
+--   ownsb i x             the store has the coarse cell i as master; cornersAmong xs i its corners, from the first that does
 --   mergeCells xs         the corners of all coarse cells; mergeEntries xs the masters and ghosts of all stores
 --   mergeTable xs         the table that they make
 --   mergeb xs             the stores merge; mergeAnswer b t: 15, then 16; mergedOf what `merge` answers
@@ -47,14 +47,14 @@ everyb xs = allb (λ p. anyb (λ x. eqb (field x PART) p) xs) (range 1 (length x
 unfoldable pub ownsb : ℕ → List ℕ → Bool
 ownsb i x = eqb (field x (OWNER + i)) (field x PART)
 
-unfoldable pub cornersIn : List (List ℕ) → ℕ → List ℕ
+unfoldable pub cornersAmong : List (List ℕ) → ℕ → List ℕ
 unfolding ownsb
-cornersIn [] i = []
-cornersIn (x ∷ xs) i = elim (ownsb i x) [ true ↦ take 4 (drop (CORNER + 4 * i) x) | false ↦ cornersIn xs i ]
+cornersAmong [] i = []
+cornersAmong (x ∷ xs) i = elim (ownsb i x) [ true ↦ take 4 (drop (CORNER + 4 * i) x) | false ↦ cornersAmong xs i ]
 
 unfoldable pub mergeCells : List (List ℕ) → ℕ → List (List ℕ)
-unfolding cornersIn range
-mergeCells xs m = map (cornersIn xs) (range 0 m)
+unfolding cornersAmong range
+mergeCells xs m = map (cornersAmong xs) (range 0 m)
 
 unfoldable pub mergeEntries : List (List ℕ) → List Entry
 unfolding heldIn flatMap

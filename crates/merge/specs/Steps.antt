@@ -23,7 +23,7 @@ use Rattle.parts.specs.Merge.{merged, filledb, completeb}
 use Rattle.store.specs.Fields.{field, ENTRIES, CORNER}
 use Rattle.held.specs.Held.{heldIn}
 use Rattle.held.specs.Key.{Key}
-use Rattle.merge.specs.Merge.{storeIn, ownsb, cornersIn, mergeCells}
+use Rattle.merge.specs.Merge.{storeIn, ownsb, cornersAmong, mergeCells}
 use Rattle.merge.specs.Load.{MasterKeys}
 use Rattle.merge.specs.Sweep.{Sweep, Failed, coarsePaths}
 
@@ -65,7 +65,7 @@ pub record Assembled (b : List ℕ) (P m : ℕ) (st′ : List ℕ) (r : ℕ) : T
 
 pub record OwnedAt (b : List ℕ) (P i r : ℕ) : Type 0 where
   pub some : r < P → (anyb (ownsb i) (storesBy b P) ≡ true)
-      × (cornersIn (storesBy b P) i ≡ take 4 (drop (CORNER + 4 * i) (storeIn b r)))
+      × (cornersAmong (storesBy b P) i ≡ take 4 (drop (CORNER + 4 * i) (storeIn b r)))
   pub none : P ≤ r → anyb (ownsb i) (storesBy b P) ≡ false
 
 pub record Gathered (b : List ℕ) (P n m : ℕ) (mesh′ : List ℕ) (ok : Bool) : Type 0 where

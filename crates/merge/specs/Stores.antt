@@ -15,7 +15,7 @@ use Rattle.base.specs.Range.{range, length-range, range-at}
 use Rattle.store.specs.Fields.{field, full, STAGE, PART, PARTS, CORNERS, COARSE, RESULT, OWNER, CORNER, ENTRIES}
 use Rattle.store.specs.Header.{headerb}
 use Rattle.store.specs.Headed.{bool-false, header-is}
-use Rattle.merge.specs.Merge.{storeIn, alikeb, everyb, ownsb, cornersIn}
+use Rattle.merge.specs.Merge.{storeIn, alikeb, everyb, ownsb, cornersAmong}
 use Rattle.merge.specs.Steps.{storesBy, OwnedAt, FewEntries}
 
 module _ (b : List ℕ) where
@@ -123,7 +123,7 @@ module _ (b : List ℕ) (P i : ℕ) where
 
   pub record Owning (j : ℕ) : Type 0 where
     pub any : anyb (ownsb i) (drop j xs) ≡ anyb (ownsb i) xs
-    pub corners : cornersIn (drop j xs) i ≡ cornersIn xs i
+    pub corners : cornersAmong (drop j xs) i ≡ cornersAmong xs i
 
   pub owning-start : Owning 0
   owning-start = record { any = refl; corners = refl }
@@ -133,18 +133,18 @@ module _ (b : List ℕ) (P i : ℕ) where
     here h = drop-cons xs j [] (omega (arith, length-stores b P)) ∙ ap (λ (x : List ℕ). x ∷ drop (suc j) xs) (stores-at b P j h)
 
     pub owning-on : j < P → ownsb i (storeIn b j) ≡ false → Owning (suc j)
-    unfolding anyb cornersIn
+    unfolding anyb cornersAmong
     owning-on h t =
         record {
           any = (rw (here h, t) at (w .any));
-          corners = rw (here h, cornersIn, t) at (w .corners);
+          corners = rw (here h, cornersAmong, t) at (w .corners);
         }
 
     pub owning-stop : j < P → ownsb i (storeIn b j) ≡ true → OwnedAt b P i j
-    unfolding anyb cornersIn
+    unfolding anyb cornersAmong
     owning-stop h t =
         record {
-          some = λ k. (sym (rw (here h, t) at (w .any)), sym (rw (here h, cornersIn, t) at (w .corners)));
+          some = λ k. (sym (rw (here h, t) at (w .any)), sym (rw (here h, cornersAmong, t) at (w .corners)));
           none = λ k. absurd (omega arith);
         }
 

@@ -31,7 +31,7 @@ use Rattle.rounds.specs.Turns.{Turn, in-marks, in-counts, in-totals, in-over, t
 use Rattle.rounds.specs.Sums.{cellsDown, SlotsOnce, own-few, own-sum, sum-few}
 use Rattle.standing.specs.Busy.{pack, CanTake}
 use Rattle.merging.specs.Totals.{grownOf, grown-plain}
-use Rattle.entering.specs.Fits.{Fits, marksb, countsb}
+use Rattle.entering.specs.Fits.{Fitted, ofMarksb, ofCountsb}
 use Rattle.outcome.specs.High.{Levelled, masters-high}
 
 pub record Limits (P : ℕ) (J : Task (Fin P)) : Type 0 where
@@ -184,28 +184,28 @@ module _ (P : ℕ) (J : Task (Fin P)) (fit : Fit J) (lim : Limits P J) (m : ℕ)
     got = taken F J (phase (J .top) r) (at r) p n
 
     -- kinds of messages by kind of round
-    quiet-marks : marksb (phase (J .top) r) ≡ false → (c : ℕ) → told F got c ≡ false
-    unfolding marksb
+    quiet-marks : ofMarksb (phase (J .top) r) ≡ false → (c : ℕ) → told F got c ≡ false
+    unfolding ofMarksb
     quiet-marks o c = untold F J (phase (J .top) r) (at r) p n c (λ q b t. go (phase (J .top) r) o q b t)
       where
-        go : (f : Phase) → marksb f ≡ false → (q : Fin P) (b : Body) → Said F J f q p (at r q) b → tells c b ≡ false
+        go : (f : Phase) → ofMarksb f ≡ false → (q : Fin P) (b : Body) → Said F J f q p (at r q) b → tells c b ≡ false
         go (marks i) o q b t = not-both true refl o
         go (counts i) o q b t = counts-tell F J i q p (at r q) c b t
         go totals o q b t = totals-tell F J q p (at r q) c b t
         go over o q b t = over-tell F J q p (at r q) c b t
 
-    quiet-counts : countsb (phase (J .top) r) ≡ false → (s : ℕ) → added F got s ≡ 0
-    unfolding countsb
+    quiet-counts : ofCountsb (phase (J .top) r) ≡ false → (s : ℕ) → added F got s ≡ 0
+    unfolding ofCountsb
     quiet-counts o s = uncounted F J (phase (J .top) r) (at r) p n s (λ q b t. go (phase (J .top) r) o q b t)
       where
-        go : (f : Phase) → countsb f ≡ false → (q : Fin P) (b : Body) → Said F J f q p (at r q) b → worth s b ≡ 0
+        go : (f : Phase) → ofCountsb f ≡ false → (q : Fin P) (b : Body) → Said F J f q p (at r q) b → worth s b ≡ 0
         go (marks i) o q b t = marks-count F J i q p (at r q) s b t
         go (counts i) o q b t = not-both true refl o
         go totals o q b t = totals-count F J q p (at r q) s b t
         go over o q b t = over-count F J q p (at r q) s b t
 
   -- THE THEOREM
-  pub fitting : (p : Fin P) (r : ℕ) (n : Fin P → ℕ) (f : ℕ) → Can F Q input p r n f → Fits P J p (local F Q input p r n f)
+  pub fitting : (p : Fin P) (r : ℕ) (n : Fin P → ℕ) (f : ℕ) → Can F Q input p r n f → Fitted P J p (local F Q input p r n f)
   fitting p r n f can =
       let h = can .in-rounds in
       record {

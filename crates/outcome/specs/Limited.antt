@@ -22,7 +22,7 @@ use Rattle.store.specs.Fields.{field, CELLS, FIRST-CELL, FIRST-SLOT}
 use Rattle.standing.specs.Busy.{pack}
 use Rattle.merging.specs.Totals.{grownOf}
 use Rattle.entering.specs.Columns.{Columns}
-use Rattle.entering.specs.Fits.{Fits}
+use Rattle.entering.specs.Fits.{Fitted}
 use Rattle.outcome.specs.Fitting.{Limits, fitting}
 
 -- sizes from where levels begin, from the highest level down
@@ -96,5 +96,5 @@ module _ (P : ℕ) (J : Task (Fin P)) (p : Fin P) (x : List ℕ) (u : Columns P 
   pub fitting-of : Fit J → {In : Type 0} (reads : Fin P → In → ℕ → ℕ) (input : Fin P → In)
       → (q : Fin P) (r : ℕ) (n : Fin P → ℕ) (f : ℕ)
       → Can (parts P) (protocol (parts P) J (grownOf (parts P) J) (ups P) (pack P J) reads) input q r n f
-      → Fits P J q (local (parts P) (protocol (parts P) J (grownOf (parts P) J) (ups P) (pack P J) reads) input q r n f)
+      → Fitted P J q (local (parts P) (protocol (parts P) J (grownOf (parts P) J) (ups P) (pack P J) reads) input q r n f)
   fitting-of fit reads input = fitting P J fit limits-of 4096 small-of (omega arith) reads input

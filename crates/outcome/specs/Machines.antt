@@ -40,17 +40,17 @@ use Rattle.standing.specs.Busy.{L, pack, HoldsCell, Busy, hand-is, fetch-nothin
 use Rattle.merging.specs.Totals.{grownOf}
 use Rattle.turns.specs.Loops.{someFrom}
 use Rattle.turns.specs.Start.{startAnswer, startAfter, marksDue}
-use Rattle.partstep.specs.Step.{waitsFor, readyb, partAnswer, partAfter, turned, turnedIn}
-use Rattle.entering.specs.Fits.{Fits}
+use Rattle.partstep.specs.Step.{waitsFor, readyb, partAnswer, partAfter, partStepped, turnedIn}
+use Rattle.entering.specs.Fits.{Fitted}
 use Rattle.entering.specs.Standing.{Standing, Idle}
 use Rattle.entering.specs.Turn.{Q}
 use Rattle.entering.specs.Entered.{Stay, stay-on}
 use Rattle.entering.specs.Steps.{Wholes}
 use Rattle.entering.specs.Begins.{start-yes, start-fine, begins, begins-stay}
-use Rattle.entering.specs.ToCounts.{to-counts, counts-stay}
-use Rattle.entering.specs.ToMarks.{to-marks, marks-stay}
-use Rattle.entering.specs.ToTotals.{to-totals, totals-stay}
-use Rattle.entering.specs.ToEnd.{to-end, end-stay}
+use Rattle.entering.specs.ToCounts.{into-counts, counts-stay}
+use Rattle.entering.specs.ToMarks.{into-marks, marks-stay}
+use Rattle.entering.specs.ToTotals.{into-totals, totals-stay}
+use Rattle.entering.specs.ToEnd.{into-end, end-stay}
 use Rattle.entering.specs.Passing.{fetched, fetch-stay, handed, hand-stay}
 use Rattle.outcome.specs.Program.{yields, gives, nine, act}
 
@@ -194,9 +194,9 @@ module _ (P : ℕ) (J : Task (Fin P)) (p : Fin P) (l : L P J) (x : List ℕ) (st
           rw (ne-eqb (suc (q .0)) (field x PART) o, ne-eqb (field x (ENDED + suc (q .0))) (field x ROUND + 1) h, waitsFor) in
           not-both (waitsFor x (suc (q .0))) t w
 
-  pub ready : (live : overb (phase (J .top) (l .round)) ≡ false) → Wholes P J p l x (st .busy) → readyb x ≡ true
+  pub ready-now : (live : overb (phase (J .top) (l .round)) ≡ false) → Wholes P J p l x (st .busy) → readyb x ≡ true
   unfolding readyb
-  ready live w =
+  ready-now live w =
       let e : someFrom (waitsFor x) (field x PARTS) 1 ≡ false =
       some-none (waitsFor x) (field x PARTS) 1 (λ i a b. waits i a (omega (arith, u .many))) in
       ap not e
@@ -245,23 +245,23 @@ module _ (P : ℕ) (J : Task (Fin P)) (p : Fin P) (l : L P J) (x : List ℕ) (st
       go false e = omega (arith, z, u .running e)
 
   module _ (fit : Fit J) {In : Type 0} (reads : Fin P → In → ℕ → ℕ) (low : l .round < last) (w : Wholes P J p l x (st .busy))
-      (fits : Fits P J p (following (parts P) (Q P J reads p) p l)) where
-    pub turned-stands : Standing P J p (following (parts P) (Q P J reads p) p l) (turned x)
+      (fits : Fitted P J p (following (parts P) (Q P J reads p) p l)) where
+    pub turned-stands : Standing P J p (following (parts P) (Q P J reads p) p l) (partStepped x)
     turned-stands = go (turn-of (J .top) (l .round) (omega arith))
       where
-        go : Turn (J .top) (l .round) → Standing P J p (following (parts P) (Q P J reads p) p l) (turned x)
-        go (in-marks i a e) = to-counts P J reads p l x st i a e w fits
+        go : Turn (J .top) (l .round) → Standing P J p (following (parts P) (Q P J reads p) p l) (partStepped x)
+        go (in-marks i a e) = into-counts P J reads p l x st i a e w fits
         go (in-counts i a e) = elim (decLt i (J .top)) [
-          | yes h ↦ to-marks P J fit reads p l x st i h e w fits
-          | no h ↦ to-totals P J fit reads p l x st (omega (arith, e)) w fits
+          | yes h ↦ into-marks P J fit reads p l x st i h e w fits
+          | no h ↦ into-totals P J fit reads p l x st (omega (arith, e)) w fits
         ]
-        go (in-totals e) = to-end P J reads p l x st e w fits
+        go (in-totals e) = into-end P J reads p l x st e w fits
         go (in-over e) = absurd (omega (arith, e))
 
-    pub turned-stay : Stay x (turned x)
+    pub turned-stay : Stay x (partStepped x)
     turned-stay = go (turn-of (J .top) (l .round) (omega arith))
       where
-        go : Turn (J .top) (l .round) → Stay x (turned x)
+        go : Turn (J .top) (l .round) → Stay x (partStepped x)
         go (in-marks i a e) = counts-stay P J reads p l x st i a e w fits
         go (in-counts i a e) = elim (decLt i (J .top)) [
           | yes h ↦ marks-stay P J fit reads p l x st i h e w fits
@@ -274,8 +274,8 @@ module _ (P : ℕ) (J : Task (Fin P)) (p : Fin P) (l : L P J) (x : List ℕ) (st
     unfolding partAfter turnedIn
     steps =
         let live = live-below low in
-        let a = step-accepts x (u .long) (u .header) (u .running live) (ready live w) in
-        let e : partAfter x ≡ turned x = ap (λ (b : Answer). turnedIn b x) a in
+        let a = step-accepts x (u .long) (u .header) (u .running live) (ready-now live w) in
+        let e : partAfter x ≡ partStepped x = ap (λ (b : Answer). turnedIn b x) a in
         (a, subst (Standing P J p (following (parts P) (Q P J reads p) p l)) (sym e) turned-stands, subst (Stay x) (sym e) turned-stay)
 
 -- a fetched message has at most nine bytes
@@ -357,7 +357,7 @@ module _ (P : ℕ) (J : Task (Fin P)) (fit : Fit J) (reads : Fin P → List ℕ 
     unfolding act
     no-hand m = refused-none (handAnswer x m) (handAfter x m) (λ e. hand-started x m e (i .stage))
 
-    idle-starts : (ms : List ℕ) → takes p ms ≡ true → Fits P J p (atStart (parts P) rounds p ms)
+    idle-starts : (ms : List ℕ) → takes p ms ≡ true → Fitted P J p (atStart (parts P) rounds p ms)
         → Gives (parts P) rounds machine (Start ms) x (λ y. Standing P J p (atStart (parts P) rounds p ms) y × Stay (first p) y) []
     unfolding act
     idle-starts ms e f =
@@ -399,7 +399,7 @@ module _ (P : ℕ) (J : Task (Fin P)) (fit : Fit J) (reads : Fin P → List ℕ 
         let low = running-low P J p l x st (a .2) in
         (low, wholes P J p l x st (live-below P J p l x st low) (a .3))
 
-    step-goes : Fits P J p (following (parts P) rounds p l) → l .round < rounds .rounds
+    step-goes : Fitted P J p (following (parts P) rounds p l) → l .round < rounds .rounds
         → ((q : Fin P) → wholeb (parts P) J (l .round) q p (l .got q) ≡ true)
         → Gives (parts P) rounds machine Step x (λ y. Standing P J p (following (parts P) rounds p l) y × Stay (first p) y) []
     unfolding act
@@ -437,7 +437,7 @@ module _ (P : ℕ) (J : Task (Fin P)) (fit : Fit J) (reads : Fin P → List ℕ 
     hand-was q p' k b y e =
         hand-is P J p l x (st .busy) q p' k b (some-accepted (handAnswer x (pack P J q p' k b)) (handAfter x (pack P J q p' k b)) y e)
 
-    hand-goes : (q : Fin P) (b : Body) → Fits P J p (withBody (parts P) l q b) → wholeb (parts P) J (l .round) q p (l .got q) ≡ false
+    hand-goes : (q : Fin P) (b : Body) → Fitted P J p (withBody (parts P) l q b) → wholeb (parts P) J (l .round) q p (l .got q) ≡ false
         → Gives (parts P) rounds machine (Hand (pack P J q p (l .before q + length (l .got q)) b)) x (λ y. Standing P J p (withBody (parts P) l q b) y × Stay (first p) y) []
     unfolding act
     hand-goes q b f w =
@@ -450,7 +450,7 @@ module _ (P : ℕ) (J : Task (Fin P)) (fit : Fit J) (reads : Fin P → List ℕ 
         }
 
   -- THE LAWS of one part alone
-  pub alone : Alone (parts P) rounds machine (Fits P J) Fine
+  pub alone : Alone (parts P) rounds machine (Fitted P J) Fine
   alone = record {
     ordered = λ r p q s. ordered (parts P) J (ups P) (once P J) (phase (J .top) r) p q s;
     silent = silent (parts P) J;

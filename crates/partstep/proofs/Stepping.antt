@@ -23,8 +23,8 @@ use Rattle.turns.specs.Start.{enterMarks}
 use Rattle.turns.specs.Step.{enterCounts}
 use Rattle.places.specs.Put.{placeCell, placeOld}
 use Rattle.places.specs.Front.{SameFront, front-on, front-set, cells-front, front-usable}
-use Rattle.partstep.specs.Step.{waitsFor, readyb, partAnswer, cleared, postTotals, enterTotals, endNumber, kept, finished, entered}
-use Rattle.partstep.specs.Step.{turned, turnedIn, partAfter}
+use Rattle.partstep.specs.Step.{waitsFor, readyb, partAnswer, cleared, postTotals, enterTotals, endNumber, oldPlaces, finished, roundEntered}
+use Rattle.partstep.specs.Step.{partStepped, turnedIn, partAfter}
 use Rattle.partstep.specs.Turning.{restored, finished-is}
 
 -- one of four
@@ -129,7 +129,7 @@ module _ (x : List ℕ) where
 
   pub restored-old : (r : ℕ) (y : List ℕ) → (r ≡ 0 → ⊥) → y ≡ eachFrom placeOld (field (set x ENTRIES 0) CELLS) 0 (set x ENTRIES 0)
       → y ≡ restored x r
-  unfolding restored kept
+  unfolding restored oldPlaces
   restored-old r y n e =
       let a : field (set x ENTRIES 0) CELLS ≡ field x CELLS = front-set x ENTRIES 0 (omega arith) .head 5 (omega arith) in
       e ∙ ap (λ (k : ℕ). eachFrom placeOld k 0 (set x ENTRIES 0)) a ∙ rw (ne-eqb r 0 n, restored)
@@ -138,27 +138,27 @@ module _ (x : List ℕ) where
   finished-by r y e i = ap₂ (λ (z : List ℕ) (k : ℕ). set (set z RESULT k) STAGE 2) (i ∙ ap (restored x) e) e ∙ sym (finished-is x)
 
   -- the rounds
-  entered-is : entered x ≡ among (ltb (field x ROUND) (2 * field x LEVELS)) (eqb (field x ROUND % 2) 0)
+  entered-is : roundEntered x ≡ among (ltb (field x ROUND) (2 * field x LEVELS)) (eqb (field x ROUND % 2) 0)
       (ltb (field x ROUND + 1) (2 * field x LEVELS)) (finished x) (enterCounts x (field x LEVELS - 1 - field x ROUND / 2))
       (enterMarks x (field x LEVELS - 2 - field x ROUND / 2)) (enterTotals x)
-  unfolding entered among
+  unfolding roundEntered among
   entered-is = refl
 
-  pub enter-end : (y : List ℕ) → 2 * field x LEVELS ≤ field x ROUND → y ≡ finished x → y ≡ entered x
+  pub enter-end : (y : List ℕ) → 2 * field x LEVELS ≤ field x ROUND → y ≡ finished x → y ≡ roundEntered x
   enter-end y h e = e ∙ among-end _ _ _ _ _ _ _ (le-ltb (field x ROUND) (2 * field x LEVELS) h) ∙ sym entered-is
 
   module _ (l : field x ROUND < 2 * field x LEVELS) where
-    pub enter-even : (y : List ℕ) → field x ROUND % 2 ≡ 0 → y ≡ enterCounts x (field x LEVELS - 1 - field x ROUND / 2) → y ≡ entered x
+    pub enter-even : (y : List ℕ) → field x ROUND % 2 ≡ 0 → y ≡ enterCounts x (field x LEVELS - 1 - field x ROUND / 2) → y ≡ roundEntered x
     enter-even y h e = e ∙ among-even _ _ _ _ _ _ _ (lt-ltb (field x ROUND) (2 * field x LEVELS) l) (eq-eqb (field x ROUND % 2) 0 h)
         ∙ sym entered-is
 
     module _ (o : field x ROUND % 2 ≡ 0 → ⊥) where
       pub enter-odd : (y : List ℕ) → field x ROUND + 1 < 2 * field x LEVELS → y ≡ enterMarks x (field x LEVELS - 2 - field x ROUND / 2)
-          → y ≡ entered x
+          → y ≡ roundEntered x
       enter-odd y h e = e ∙ among-odd _ _ _ _ _ _ _ (lt-ltb (field x ROUND) (2 * field x LEVELS) l) (ne-eqb (field x ROUND % 2) 0 o)
           (lt-ltb (field x ROUND + 1) (2 * field x LEVELS) h) ∙ sym entered-is
 
-      pub enter-last : (y : List ℕ) → 2 * field x LEVELS ≤ field x ROUND + 1 → y ≡ enterTotals x → y ≡ entered x
+      pub enter-last : (y : List ℕ) → 2 * field x LEVELS ≤ field x ROUND + 1 → y ≡ enterTotals x → y ≡ roundEntered x
       enter-last y h e = e ∙ among-last _ _ _ _ _ _ _ (lt-ltb (field x ROUND) (2 * field x LEVELS) l) (ne-eqb (field x ROUND % 2) 0 o)
           (le-ltb (field x ROUND + 1) (2 * field x LEVELS) h) ∙ sym entered-is
 
@@ -216,9 +216,9 @@ module _ (x : List ℕ) where
             let g : readyb x ≡ false = sym e ∙ f in
             refused 16 (rw (le-leb full (length x) long, header, eq-eqb (field x STAGE) 1 stage, g, partAnswer))
 
-        pub step-done : (r : Bool) → r ≡ readyb x → r ≡ true → (y : List ℕ) → y ≡ entered x
+        pub step-done : (r : Bool) → r ≡ readyb x → r ≡ true → (y : List ℕ) → y ≡ roundEntered x
             → Steps Accepted (set y ROUND (field x ROUND + 1))
-        unfolding partAnswer refuse partAfter turnedIn turned
+        unfolding partAnswer refuse partAfter turnedIn partStepped
         step-done r e f y i =
             let g : readyb x ≡ true = sym e ∙ f in
             let a : Accepted ≡ partAnswer x = rw (le-leb full (length x) long, header, eq-eqb (field x STAGE) 1 stage, g, partAnswer) in

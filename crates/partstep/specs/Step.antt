@@ -4,7 +4,7 @@
 --   enterTotals x       on entering the round of totals: masters and ghosts after the step, the own totals and the end written
 --   endNumber x         the result from the totals of all parts: 8, 9, or 0
 --   finished x          the store when done: beside 8 or 9 it holds the old masters and ghosts
---   turned x            the store with the work of the next round; partAfter x after the call
+--   partStepped x       the store with the work of the next round; partAfter x after the call
 use mathlib.Core.Bool.{Bool, true, false, _&&_, _||_, not}
 use mathlib.Core.List.{List}
 use Prim.Native.Nat.{ℕ, _+_, _-_, _*_, _/_, _%_}
@@ -46,18 +46,18 @@ enterTotals x = postEnd (postTotals (eachFrom placeCell (field x CELLS) 0 (clear
 unfoldable pub endNumber : List ℕ → ℕ
 endNumber x = elim (leb 11 (field x HIGH)) [ true ↦ 8 | false ↦ elim (leb (field x TOTAL) 4096) [ true ↦ 0 | false ↦ 9 ] ]
 
-unfoldable pub kept : List ℕ → List ℕ
+unfoldable pub oldPlaces : List ℕ → List ℕ
 unfolding eachFrom placeOld
-kept x = eachFrom placeOld (field x CELLS) 0 (set x ENTRIES 0)
+oldPlaces x = eachFrom placeOld (field x CELLS) 0 (set x ENTRIES 0)
 
 unfoldable pub finished : List ℕ → List ℕ
-unfolding endNumber kept
-finished x = set (set (elim (eqb (endNumber x) 0) [ true ↦ x | false ↦ kept x ]) RESULT (endNumber x)) STAGE 2
+unfolding endNumber oldPlaces
+finished x = set (set (elim (eqb (endNumber x) 0) [ true ↦ x | false ↦ oldPlaces x ]) RESULT (endNumber x)) STAGE 2
 
 -- rounds 2 i and 2 i + 1 are those of the marks and counts of the level i below the highest; then come the totals
-unfoldable pub entered : List ℕ → List ℕ
+unfoldable pub roundEntered : List ℕ → List ℕ
 unfolding enterMarks enterCounts enterTotals finished
-entered x =
+roundEntered x =
     elim (ltb (field x ROUND) (2 * field x LEVELS)) [
       | false ↦ finished x
       | true ↦ elim (eqb (field x ROUND % 2) 0) [
@@ -69,13 +69,13 @@ entered x =
       ]
     ]
 
-unfoldable pub turned : List ℕ → List ℕ
-unfolding entered
-turned x = set (entered x) ROUND (field x ROUND + 1)
+unfoldable pub partStepped : List ℕ → List ℕ
+unfolding roundEntered
+partStepped x = set (roundEntered x) ROUND (field x ROUND + 1)
 
 unfoldable pub turnedIn : Answer → List ℕ → List ℕ
-unfolding turned
-turnedIn Accepted x = turned x
+unfolding partStepped
+turnedIn Accepted x = partStepped x
 turnedIn (Refused k) x = x
 
 unfoldable pub partAfter : List ℕ → List ℕ

@@ -7,11 +7,11 @@ use Prim.Native.Nat.{ℕ}
 use lib.Dec.{eqb}
 use lib.ListN.{set}
 use Rattle.store.specs.Fields.{STAGE, RESULT}
-use Rattle.partstep.specs.Step.{endNumber, kept, finished}
+use Rattle.partstep.specs.Step.{endNumber, oldPlaces, finished}
 
 unfoldable pub restored : List ℕ → ℕ → List ℕ
-unfolding kept
-restored x r = elim (eqb r 0) [ true ↦ x | false ↦ kept x ]
+unfolding oldPlaces
+restored x r = elim (eqb r 0) [ true ↦ x | false ↦ oldPlaces x ]
 
 pub finished-is : (x : List ℕ) → finished x ≡ set (set (restored x (endNumber x)) RESULT (endNumber x)) STAGE 2
 unfolding finished restored

@@ -27,7 +27,7 @@ ghost use lib.ListN.{length};
 ghost use Rattle.base.specs.Lent.{was, is};
 ghost use Rattle.store.specs.Fields.{field, full};
 ghost use Rattle.turns.specs.Usable.{Usable};
-ghost use Rattle.partstep.specs.Step.{waitsFor, readyb, partAnswer, cleared, postTotals, enterTotals, endNumber, finished, entered};
+ghost use Rattle.partstep.specs.Step.{waitsFor, readyb, partAnswer, cleared, postTotals, enterTotals, endNumber, finished, roundEntered};
 ghost use Rattle.partstep.specs.Step.{partAfter};
 ghost use Rattle.partstep.specs.Turning.{restored};
 
@@ -130,7 +130,7 @@ fn finish(store: &mut [u16])
 // Does the work of the next round.
 fn enter(store: &mut [u16])
     requires { ⌜ Usable (now store) ⌝ }
-    ensures { λ r. ⌜ is store ≡ entered (was store) ⌝ }
+    ensures { λ r. ⌜ is store ≡ roundEntered (was store) ⌝ }
 {
     let round = store[ROUND] as usize;
     let levels = store[LEVELS] as usize;

@@ -12,7 +12,7 @@ use Rattle.base.specs.Lists.{belowb, belowb-at}
 use Rattle.cutting.specs.Rule.{low, high}
 use Rattle.mesh.specs.Cells.{bitsOf}
 use Rattle.families.specs.Children.{middle}
-use Rattle.places.specs.Status.{sixEdges}
+use Rattle.mesh.specs.Layout.{edgeNumbers}
 
 pub one-true : (b : Bool) → b ≡ true → 1 ≡ one-if b
 unfolding one-if
@@ -24,13 +24,13 @@ one-false b e = ap one-if (sym e)
 
 module _ (f : ℕ → Bool) where
   abbrev pub bitsFrom : ℕ → ℕ
-  bitsFrom e = bitsOf (drop e (map f sixEdges))
+  bitsFrom e = bitsOf (drop e (map f edgeNumbers))
 
   pub bits-none : 0 ≡ bitsFrom 6
   unfolding bitsOf
   bits-none = refl
 
-  pub bits-all : bitsFrom 0 ≡ bitsOf (map f sixEdges)
+  pub bits-all : bitsFrom 0 ≡ bitsOf (map f edgeNumbers)
   bits-all = refl
 
   bits-on : (e : ℕ) → e < 6 → bitsFrom e ≡ one-if (f e) + 2 * bitsFrom (suc e)
@@ -82,7 +82,7 @@ module _ (f : ℕ → Bool) where
         let w : bitsFrom (suc (e - 1)) ≡ bitsFrom e = ap bitsFrom z in
         omega (arith, i, j, w, bits-on (e - 1) (omega arith))
 
-  pub bits-end : (p e : ℕ) → e ≤ 0 → p ≡ bitsFrom e → (p ≡ bitsOf (map f sixEdges)) × (p ≤ 63)
+  pub bits-end : (p e : ℕ) → e ≤ 0 → p ≡ bitsFrom e → (p ≡ bitsOf (map f edgeNumbers)) × (p ≤ 63)
   bits-end p e h i =
       let z : e ≡ 0 = omega arith in
       let w : p ≡ bitsFrom 0 = i ∙ ap bitsFrom z in

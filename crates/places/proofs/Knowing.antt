@@ -13,12 +13,13 @@ use Rattle.base.specs.Every.{below-at}
 use Rattle.cutting.specs.Answer.{cutOf}
 use Rattle.cutting.specs.declared.Family.{Family}
 use Rattle.mesh.specs.Cells.{bitsOf}
+use Rattle.mesh.specs.Layout.{edgeNumbers}
 use Rattle.store.specs.Fields.{field, PART, CELLS, FAMILY, STATUS, REGULAR, CHILD, PARENT, HEAD, RED}
 use Rattle.turns.specs.Loops.{someFrom}
 use Rattle.turns.specs.Decide.{hitOf, kidCount}
 use Rattle.families.specs.Children.{lowDigit, highDigit}
-use Rattle.places.specs.Status.{sixEdges, newStatus, staysb, anewb, pairHit, freshStatus}
-use Rattle.places.specs.Fresh.{lowAt, highAt, edgeHas, edgeHit, kidHas, pairHas, freshBy, fresh-is, fresh-none}
+use Rattle.places.specs.Status.{newStatus, lastsb, remadeb, pairHit, freshBits}
+use Rattle.places.specs.Fresh.{lowAt, highAt, edgeHas, edgeHit, kidHas, pairHas, freshBy, fresh-bits-is, fresh-none}
 use Rattle.places.proofs.Bits.{bits-few}
 
 module _ (x : List ℕ) (c : ℕ) where
@@ -30,87 +31,87 @@ module _ (x : List ℕ) (c : ℕ) where
   unfolding newStatus
   new-red h r = rw (eq-eqb (field x (REGULAR + c)) 1 h, eq-eqb (field x (RED + c)) 1 r, newStatus)
 
-  pub new-bits : (n : ℕ) → field x (REGULAR + c) ≡ 1 → (field x (RED + c) ≡ 1 → ⊥) → n ≡ bitsOf (map (hitOf x c) sixEdges)
+  pub new-bits : (n : ℕ) → field x (REGULAR + c) ≡ 1 → (field x (RED + c) ≡ 1 → ⊥) → n ≡ bitsOf (map (hitOf x c) edgeNumbers)
       → n ≡ newStatus x c
   unfolding newStatus
   new-bits n h r e = e ∙ rw (eq-eqb (field x (REGULAR + c)) 1 h, ne-eqb (field x (RED + c)) 1 r, newStatus)
 
-  pub stays-coarse : field x (HEAD + c) < 256 → true ≡ staysb x c
-  unfolding staysb
-  stays-coarse h = rw (lt-ltb (field x (HEAD + c)) 256 h, staysb)
+  pub stays-coarse : field x (HEAD + c) < 256 → true ≡ lastsb x c
+  unfolding lastsb
+  stays-coarse h = rw (lt-ltb (field x (HEAD + c)) 256 h, lastsb)
 
   module _ (h : 256 ≤ field x (HEAD + c)) where
-    pub stays-refined : (field x (STATUS + c) ≡ 0 → ⊥) → true ≡ staysb x c
-    unfolding staysb
-    stays-refined s = rw (le-ltb (field x (HEAD + c)) 256 h, ne-eqb (field x (STATUS + c)) 0 s, staysb)
+    pub stays-refined : (field x (STATUS + c) ≡ 0 → ⊥) → true ≡ lastsb x c
+    unfolding lastsb
+    stays-refined s = rw (le-ltb (field x (HEAD + c)) 256 h, ne-eqb (field x (STATUS + c)) 0 s, lastsb)
 
     module _ (s : field x (STATUS + c) ≡ 0) where
-      pub stays-none : 4096 ≤ field x (PARENT + c) → false ≡ staysb x c
-      unfolding staysb
+      pub stays-none : 4096 ≤ field x (PARENT + c) → false ≡ lastsb x c
+      unfolding lastsb
       stays-none p = rw (
         le-ltb (field x (HEAD + c)) 256 h,
         eq-eqb (field x (STATUS + c)) 0 s,
         le-ltb (field x (PARENT + c)) 4096 p,
-        staysb,
+        lastsb,
       )
 
       module _ (p : field x (PARENT + c) < 4096) where
-        pub stays-other : (field x (STATUS + field x (PARENT + c)) ≡ 64 → ⊥) → false ≡ staysb x c
-        unfolding staysb
+        pub stays-other : (field x (STATUS + field x (PARENT + c)) ≡ 64 → ⊥) → false ≡ lastsb x c
+        unfolding lastsb
         stays-other n = rw (
           le-ltb (field x (HEAD + c)) 256 h,
           eq-eqb (field x (STATUS + c)) 0 s,
           lt-ltb (field x (PARENT + c)) 4096 p,
           ne-eqb (field x (STATUS + field x (PARENT + c))) 64 n,
-          staysb,
+          lastsb,
         )
 
-        pub stays-red : field x (STATUS + field x (PARENT + c)) ≡ 64 → eqb (field x (RED + field x (PARENT + c))) 1 ≡ staysb x c
-        unfolding staysb
+        pub stays-red : field x (STATUS + field x (PARENT + c)) ≡ 64 → eqb (field x (RED + field x (PARENT + c))) 1 ≡ lastsb x c
+        unfolding lastsb
         stays-red n = rw (
           le-ltb (field x (HEAD + c)) 256 h,
           eq-eqb (field x (STATUS + c)) 0 s,
           lt-ltb (field x (PARENT + c)) 4096 p,
           eq-eqb (field x (STATUS + field x (PARENT + c))) 64 n,
-          staysb,
+          lastsb,
         )
 
-  pub anew-else : (field x (FAMILY + c) ≡ field x PART → ⊥) → false ≡ anewb x c
-  unfolding anewb
-  anew-else f = rw (ne-eqb (field x (FAMILY + c)) (field x PART) f, anewb)
+  pub anew-else : (field x (FAMILY + c) ≡ field x PART → ⊥) → false ≡ remadeb x c
+  unfolding remadeb
+  anew-else f = rw (ne-eqb (field x (FAMILY + c)) (field x PART) f, remadeb)
 
   module _ (f : field x (FAMILY + c) ≡ field x PART) where
-    pub anew-gone : (r : Bool) → r ≡ staysb x c → r ≡ false → false ≡ anewb x c
-    unfolding anewb
-    anew-gone r e i = let z : staysb x c ≡ false = sym e ∙ i in rw (eq-eqb (field x (FAMILY + c)) (field x PART) f, z, anewb)
+    pub anew-gone : (r : Bool) → r ≡ lastsb x c → r ≡ false → false ≡ remadeb x c
+    unfolding remadeb
+    anew-gone r e i = let z : lastsb x c ≡ false = sym e ∙ i in rw (eq-eqb (field x (FAMILY + c)) (field x PART) f, z, remadeb)
 
-    module _ (r : Bool) (e : r ≡ staysb x c) (i : r ≡ true) (n : ℕ) (j : n ≡ newStatus x c) where
-      stay : staysb x c ≡ true
+    module _ (r : Bool) (e : r ≡ lastsb x c) (i : r ≡ true) (n : ℕ) (j : n ≡ newStatus x c) where
+      stay : lastsb x c ≡ true
       stay = sym e ∙ i
 
-      pub anew-leaf : n ≡ 0 → false ≡ anewb x c
-      unfolding anewb
-      anew-leaf z = rw (eq-eqb (field x (FAMILY + c)) (field x PART) f, stay, eq-eqb (newStatus x c) 0 (sym j ∙ z), anewb)
+      pub anew-leaf : n ≡ 0 → false ≡ remadeb x c
+      unfolding remadeb
+      anew-leaf z = rw (eq-eqb (field x (FAMILY + c)) (field x PART) f, stay, eq-eqb (newStatus x c) 0 (sym j ∙ z), remadeb)
 
       module _ (some : n ≡ 0 → ⊥) where
-        pub anew-green : (field x (STATUS + c) ≡ 64 → ⊥) → true ≡ anewb x c
-        unfolding anewb
+        pub anew-green : (field x (STATUS + c) ≡ 64 → ⊥) → true ≡ remadeb x c
+        unfolding remadeb
         anew-green s = rw (
           eq-eqb (field x (FAMILY + c)) (field x PART) f,
           stay,
           ne-eqb (newStatus x c) 0 (λ z. some (j ∙ z)),
           ne-eqb (field x (STATUS + c)) 64 s,
-          anewb,
+          remadeb,
         )
 
-        pub anew-red : field x (STATUS + c) ≡ 64 → not (eqb n 64) ≡ anewb x c
-        unfolding anewb
+        pub anew-red : field x (STATUS + c) ≡ 64 → not (eqb n 64) ≡ remadeb x c
+        unfolding remadeb
         anew-red s = ap (λ (k : ℕ). not (eqb k 64)) j ∙ rw (
           eq-eqb (field x (FAMILY + c)) (field x PART) f,
           stay,
           ne-eqb (newStatus x c) 0 (λ z. some (j ∙ z)),
           eq-eqb (field x (STATUS + c)) 64 s,
-          anewb,
+          remadeb,
         )
 
 -- an edge of a child
@@ -148,7 +149,7 @@ pub bit-is : (x ds rs : List ℕ) (f n i y a b : ℕ) (r : Bool) → a ≡ lowAt
     → r ≡ freshBit x ds rs f n i y
 bit-is x ds rs f n i y a b r e g h = h ∙ ap₂ (pairHas x ds f n) e g
 
-pub bits-are : (x ds rs : List ℕ) (f n i : ℕ) → bitsOf (map (freshBit x ds rs f n i) sixEdges) ≡ freshBy x ds rs f n i
+pub bits-are : (x ds rs : List ℕ) (f n i : ℕ) → bitsOf (map (freshBit x ds rs f n i) edgeNumbers) ≡ freshBy x ds rs f n i
 unfolding freshBy
 bits-are x ds rs f n i = refl
 
@@ -170,17 +171,17 @@ filled-on x ds rs f n l m r h g e = record { size = length-set l m r ∙ h .size
     ]
 
 module _ (x : List ℕ) (c : ℕ) where
-  pub fresh-few : (i : ℕ) → freshStatus x c i ≤ 63
-  unfolding freshStatus
+  pub fresh-few : (i : ℕ) → freshBits x c i ≤ 63
+  unfolding freshBits
   fresh-few i = bits-few (λ y. pairHit x c (lowDigit 63 i y) (highDigit 63 i y)) .0
 
   -- from the digits of both families
   pub fresh-by : field x (STATUS + c) ≤ 63 → (f n : ℕ) (o r : Family) (l : List ℕ) → f ≡ field x (CHILD + c) → n ≡ kidCount x c
       → o ≡ cutOf (field x (STATUS + c)) → r ≡ cutOf 63 → ((i : ℕ) → i < 8 → getD l i 0 ≡ freshBy x (o .digits) (r .digits) f n i)
-      → (i : ℕ) → i < 8 → getD l i 0 ≡ freshStatus x c i
+      → (i : ℕ) → i < 8 → getD l i 0 ≡ freshBits x c i
   fresh-by h f n o r l e g a b k i m =
       k i m ∙ ap₂ (λ (u v : List ℕ). freshBy x u v f n i) (ap (λ (q : Family). q .digits) a) (ap (λ (q : Family). q .digits) b)
-      ∙ ap₂ (λ (u v : ℕ). freshBy x (cutOf (field x (STATUS + c)) .digits) (cutOf 63 .digits) u v i) e g ∙ fresh-is x c h i m
+      ∙ ap₂ (λ (u v : ℕ). freshBy x (cutOf (field x (STATUS + c)) .digits) (cutOf 63 .digits) u v i) e g ∙ fresh-bits-is x c h i m
 
   pub kids-inside : kidCount x c ≤ field x CELLS - field x (CHILD + c)
   unfolding kidCount

@@ -15,7 +15,7 @@ use Rattle.store.specs.Fields.{field, PART, ENTRIES, TOTAL, HIGH, OWNER, FAMILY
 use Rattle.store.specs.declared.Place.{Place}
 use Rattle.store.specs.Places.{levelIn, childPlace}
 use Rattle.turns.specs.Loops.{eachFrom}
-use Rattle.places.specs.Status.{newStatus, staysb, anewb, freshStatus}
+use Rattle.places.specs.Status.{newStatus, lastsb, remadeb, freshBits}
 use Rattle.places.specs.Put.{placeAt, entrySet, put, putMaster, putLeaf, putLeaves, putChild, placeMaster, placeGhost}
 use Rattle.places.specs.Put.{placeFamily, placeCell, placeOld}
 
@@ -127,15 +127,15 @@ module _ (x : List ℕ) (c : ℕ) where
   master-other o = rw (ne-eqb (field x (OWNER + c)) (field x PART) o, placeMaster)
 
   module _ (o : field x (OWNER + c) ≡ field x PART) where
-    pub master-gone : (r : Bool) → r ≡ staysb x c → r ≡ false → x ≡ placeMaster x c
+    pub master-gone : (r : Bool) → r ≡ lastsb x c → r ≡ false → x ≡ placeMaster x c
     unfolding placeMaster
-    master-gone r e i = let z : staysb x c ≡ false = sym e ∙ i in rw (eq-eqb (field x (OWNER + c)) (field x PART) o, z, placeMaster)
+    master-gone r e i = let z : lastsb x c ≡ false = sym e ∙ i in rw (eq-eqb (field x (OWNER + c)) (field x PART) o, z, placeMaster)
 
-    pub master-here : (r : Bool) (n : ℕ) (p : Place) (y : List ℕ) → r ≡ staysb x c → r ≡ true → n ≡ newStatus x c → p ≡ placeAt x c
+    pub master-here : (r : Bool) (n : ℕ) (p : Place) (y : List ℕ) → r ≡ lastsb x c → r ≡ true → n ≡ newStatus x c → p ≡ placeAt x c
         → y ≡ putMaster x p n → y ≡ placeMaster x c
     unfolding placeMaster
     master-here r n p y e i f g h =
-        let z : staysb x c ≡ true = sym e ∙ i in
+        let z : lastsb x c ≡ true = sym e ∙ i in
         h ∙ ap₂ (putMaster x) g f ∙ rw (eq-eqb (field x (OWNER + c)) (field x PART) o, z, placeMaster)
 
     pub ghost-own : x ≡ placeGhost x c
@@ -183,18 +183,18 @@ module _ (x : List ℕ) (c : ℕ) where
       old-ghost p y g h = h ∙ ap (λ (q : Place). put x q ((128 + field x (STATUS + c)) % 65536)) g
           ∙ rw (ne-eqb (field x (OWNER + c)) (field x PART) o, eq-eqb (field x (FAMILY + c)) (field x PART) f, placeOld)
 
-  family-is : placeFamily x c ≡ chosen (anewb x c) (eqb (newStatus x c) 64 && not (eqb (field x (STATUS + c)) 0))
-      (eachFrom (putChild (placeAt x c) (freshStatus x c)) 8 0 x) (putLeaves (placeAt x c) (sizeOf (newStatus x c)) x) x
+  family-is : placeFamily x c ≡ chosen (remadeb x c) (eqb (newStatus x c) 64 && not (eqb (field x (STATUS + c)) 0))
+      (eachFrom (putChild (placeAt x c) (freshBits x c)) 8 0 x) (putLeaves (placeAt x c) (sizeOf (newStatus x c)) x) x
   unfolding placeFamily chosen
   family-is = refl
 
-  pub family-old : (r : Bool) → r ≡ anewb x c → r ≡ false → x ≡ placeFamily x c
+  pub family-old : (r : Bool) → r ≡ remadeb x c → r ≡ false → x ≡ placeFamily x c
   family-old r e i = third-chosen _ _ _ _ x (sym e ∙ i) ∙ sym family-is
 
   -- a red cell's family is new only where it is red no more
-  pub anew-not-red : (r b : Bool) (n : ℕ) → r ≡ anewb x c → r ≡ true → n ≡ newStatus x c
+  pub anew-not-red : (r b : Bool) (n : ℕ) → r ≡ remadeb x c → r ≡ true → n ≡ newStatus x c
       → b ≡ (eqb n 64 && not (eqb (field x (STATUS + c)) 0)) → b ≡ true → field x (STATUS + c) ≡ 64 → ⊥
-  unfolding anewb
+  unfolding remadeb
   anew-not-red r b n e i f g j s = go (eqb n 64) refl
     where
       go : (t : Bool) → eqb n 64 ≡ t → ⊥
@@ -203,25 +203,25 @@ module _ (x : List ℕ) (c : ℕ) where
           absurd-bool : false ≡ true → ⊥
           absurd-bool w = subst (λ (q : Bool). T (not q)) w tt
       go true k =
-          let a : anewb x c ≡ true = sym e ∙ i in
+          let a : remadeb x c ≡ true = sym e ∙ i in
           let m : newStatus x c ≡ n = sym f in
-          let t : T (anewb x c) = rw a tt in
+          let t : T (remadeb x c) = rw a tt in
           let w : T (not (eqb (field x (STATUS + c)) 64 && eqb (newStatus x c) 64)) =
           and-right (not (eqb (newStatus x c) 0)) (not (eqb (field x (STATUS + c)) 64 && eqb (newStatus x c) 64))
-          (and-right (staysb x c) (not (eqb (newStatus x c) 0) && not (eqb (field x (STATUS + c)) 64 && eqb (newStatus x c) 64))
+          (and-right (lastsb x c) (not (eqb (newStatus x c) 0) && not (eqb (field x (STATUS + c)) 64 && eqb (newStatus x c) 64))
           (and-right (eqb (field x (FAMILY + c)) (field x PART))
-          (staysb x c && (not (eqb (newStatus x c) 0) && not (eqb (field x (STATUS + c)) 64 && eqb (newStatus x c) 64))) t)) in
+          (lastsb x c && (not (eqb (newStatus x c) 0) && not (eqb (field x (STATUS + c)) 64 && eqb (newStatus x c) 64))) t)) in
           rw (eq-eqb (field x (STATUS + c)) 64 s, m, k) at w
 
-  module _ (r b : Bool) (n : ℕ) (e : r ≡ anewb x c) (i : r ≡ true) (f : n ≡ newStatus x c)
+  module _ (r b : Bool) (n : ℕ) (e : r ≡ remadeb x c) (i : r ≡ true) (f : n ≡ newStatus x c)
       (g : b ≡ (eqb n 64 && not (eqb (field x (STATUS + c)) 0))) where
-    new : anewb x c ≡ true
+    new : remadeb x c ≡ true
     new = sym e ∙ i
 
     beside : b ≡ (eqb (newStatus x c) 64 && not (eqb (field x (STATUS + c)) 0))
     beside = g ∙ ap (λ (m : ℕ). eqb m 64 && not (eqb (field x (STATUS + c)) 0)) f
 
-    pub family-fresh : (y : List ℕ) → b ≡ true → y ≡ eachFrom (putChild (placeAt x c) (freshStatus x c)) 8 0 x → y ≡ placeFamily x c
+    pub family-fresh : (y : List ℕ) → b ≡ true → y ≡ eachFrom (putChild (placeAt x c) (freshBits x c)) 8 0 x → y ≡ placeFamily x c
     family-fresh y j h = h ∙ first-chosen _ _ _ _ x new (sym beside ∙ j) ∙ sym family-is
 
     pub family-leaves : (y : List ℕ) (p : Place) (k : ℕ) → b ≡ false → p ≡ placeAt x c → k ≡ sizeOf n → y ≡ putLeaves p k x

@@ -4,7 +4,7 @@
 --   kidHas x ds d a b j     the child j, which is the cell d, has such an edge that is hit
 --   pairHas x ds f n a b    one of the n children from f on has
 --   freshBy x ds rs f n i   the status of the new child i, where rs are the red family's digits
--- Laws: digits-at (a family's digits), fresh-is (this is freshStatus), fresh-none (a status that is none).
+-- Laws: digits-at (a family's digits), fresh-bits-is (this is freshBits), fresh-none (a status that is none).
 use mathlib.Core.Path.{_≡_, refl, sym, _∙_, ap, ap₂, subst}
 use mathlib.Core.Bool.{Bool, true, false, _&&_, _||_}
 use mathlib.Core.List.{List, [], _∷_, _++_, map, flatten, append-assoc}
@@ -25,10 +25,11 @@ use Rattle.mesh.specs.Table.{sizeOf}
 use Rattle.families.specs.Children.{middle, digitsOf, lowDigit, highDigit, middle-ends}
 use Rattle.rows.specs.Many.{size-refined, size-some}
 use Rattle.rows.specs.Sizes.{size-red}
+use Rattle.mesh.specs.Layout.{edgeNumbers}
 use Rattle.store.specs.Fields.{field, CELLS, STATUS, CHILD}
 use Rattle.turns.specs.Loops.{someFrom}
 use Rattle.turns.specs.Decide.{hitOf, kidCount}
-use Rattle.places.specs.Status.{sixEdges, pairHit, freshStatus}
+use Rattle.places.specs.Status.{pairHit, freshBits}
 
 abbrev pub lowAt : List ℕ → ℕ → ℕ → ℕ
 lowAt ds j y = getD ds (4 * j + low (middle y)) 0
@@ -53,7 +54,7 @@ pairHas x ds f n a b = someFrom (λ j. kidHas x ds (f + j) a b j) n 0
 
 unfoldable pub freshBy : List ℕ → List ℕ → List ℕ → ℕ → ℕ → ℕ → ℕ
 unfolding bitsOf pairHas
-freshBy x ds rs f n i = bitsOf (map (λ y. pairHas x ds f n (lowAt rs i y) (highAt rs i y)) sixEdges)
+freshBy x ds rs f n i = bitsOf (map (λ y. pairHas x ds f n (lowAt rs i y) (highAt rs i y)) edgeNumbers)
 
 -- children that the store has
 abbrev pub KidsInside : ℕ → ℕ → Type 0
@@ -99,7 +100,7 @@ unfolding anyb range someFrom
 any-range f zero k = refl
 any-range f (suc n) k = ap (λ (b : Bool). f k || b) (any-range f n (suc k))
 
-pub any-six : (f : ℕ → Bool) → anyb f sixEdges ≡ someFrom f 6 0
+pub any-six : (f : ℕ → Bool) → anyb f edgeNumbers ≡ someFrom f 6 0
 unfolding anyb someFrom
 any-six f = refl
 
@@ -108,7 +109,7 @@ unfolding someFrom
 some-same f g zero k h = refl
 some-same f g (suc n) k h = ap₂ _||_ (h k (omega arith) (omega arith)) (some-same f g n (suc k) (λ j a b. h j (omega arith) (omega arith)))
 
-six-same : (f g : ℕ → Bool) → ((y : ℕ) → y < 6 → f y ≡ g y) → map f sixEdges ≡ map g sixEdges
+six-same : (f g : ℕ → Bool) → ((y : ℕ) → y < 6 → f y ≡ g y) → map f edgeNumbers ≡ map g edgeNumbers
 six-same f g h = rw (h 0 (omega arith), h 1 (omega arith), h 2 (omega arith), h 3 (omega arith), h 4 (omega arith), h 5 (omega arith))
 
 red-eight : length (family 63) ≡ 8
@@ -141,19 +142,19 @@ module _ (x : List ℕ) (c : ℕ) where
         ∙ sym (any-six (λ y. (eqb a (lowDigit (field x (STATUS + c)) j y) && eqb b (highDigit (field x (STATUS + c)) j y))
         && hitOf x (field x (CHILD + c) + j) y)))
         ∙ sym (any-range (λ j. anyb (λ y. (eqb a (lowDigit (field x (STATUS + c)) j y) && eqb b (highDigit (field x (STATUS + c)) j y))
-        && hitOf x (field x (CHILD + c) + j) y) sixEdges) (kidCount x c) 0)
+        && hitOf x (field x (CHILD + c) + j) y) edgeNumbers) (kidCount x c) 0)
 
-    pub fresh-is : (i : ℕ) → i < 8
-        → freshBy x (cutOf (field x (STATUS + c)) .digits) (cutOf 63 .digits) (field x (CHILD + c)) (kidCount x c) i ≡ freshStatus x c i
-    unfolding freshBy freshStatus
-    fresh-is i g = ap bitsOf (six-same _ _ (λ y m. ap₂
+    pub fresh-bits-is : (i : ℕ) → i < 8
+        → freshBy x (cutOf (field x (STATUS + c)) .digits) (cutOf 63 .digits) (field x (CHILD + c)) (kidCount x c) i ≡ freshBits x c i
+    unfolding freshBy freshBits
+    fresh-bits-is i g = ap bitsOf (six-same _ _ (λ y m. ap₂
         (pairHas x (cutOf (field x (STATUS + c)) .digits) (field x (CHILD + c)) (kidCount x c))
         (low-is 63 (omega arith) i (omega (arith, red-eight)) y m) (high-is 63 (omega arith) i (omega (arith, red-eight)) y m)
         ∙ pair-is (lowDigit 63 i y) (highDigit 63 i y)))
 
   -- a status that is none has no children
-  pub fresh-none : 64 < field x (STATUS + c) → (i : ℕ) → 0 ≡ freshStatus x c i
-  unfolding freshStatus pairHit kidCount anyb range bitsOf one-if
+  pub fresh-none : 64 < field x (STATUS + c) → (i : ℕ) → 0 ≡ freshBits x c i
+  unfolding freshBits pairHit kidCount anyb range bitsOf one-if
   fresh-none h i =
       let e : kidCount x c ≡ 0 = rw (lt-leb (field x (STATUS + c)) 64 h, kidCount) (omega arith) in
       let f : (a b : ℕ) → pairHit x c a b ≡ false = λ a b. rw (e, pairHit) in

@@ -15,7 +15,7 @@ use Rattle.store.specs.declared.Place.{Place}
 use Rattle.store.specs.Places.{levelIn, childPlace}
 use Rattle.turns.specs.Loops.{eachFrom, each-turn}
 use Rattle.turns.specs.Usable.{Usable}
-use Rattle.places.specs.Status.{newStatus, staysb, anewb, freshStatus}
+use Rattle.places.specs.Status.{newStatus, lastsb, remadeb, freshBits}
 use Rattle.places.specs.Put.{placeAt, entrySet, put, putMaster, putLeaf, putLeaves, putChild, placeMaster, placeGhost}
 use Rattle.places.specs.Put.{placeFamily, placeCell, placeOld}
 
@@ -47,9 +47,9 @@ module _ (f : List ℕ → ℕ → List ℕ) (keeps : (x : List ℕ) (c : ℕ) �
   front-again m c x₀ x y w (a, i) h e =
       (front-on x₀ x y a (subst (SameFront x) (sym e) (keeps x c)), each-turn f m c x y w h e i)
 
-pub put-front : (x : List ℕ) (p : Place) (s : ℕ) → SameFront x (put x p s)
+pub put-same-front : (x : List ℕ) (p : Place) (s : ℕ) → SameFront x (put x p s)
 unfolding put entrySet
-put-front x p s = go (ltb (field x ENTRIES) 4096) refl
+put-same-front x p s = go (ltb (field x ENTRIES) 4096) refl
   where
     go : (t : Bool) → ltb (field x ENTRIES) 4096 ≡ t → SameFront x (put x p s)
     go false e = rw (e, put) (front-self x)
@@ -66,7 +66,7 @@ unfolding putMaster
 master-front x p s =
     front-on x _ _
     (set-on x _ HIGH (max (field x HIGH) (levelIn p)) (omega arith)
-    (front-set x TOTAL (min (field x TOTAL + 1) 4097) (omega arith))) (put-front _ p s)
+    (front-set x TOTAL (min (field x TOTAL + 1) 4097) (omega arith))) (put-same-front _ p s)
 
 pub leaf-front : (p : Place) (x : List ℕ) (i : ℕ) → SameFront x (putLeaf p x i)
 unfolding putLeaf
@@ -83,9 +83,9 @@ child-front p f x i = front-on x (putMaster x (childPlace p i) (f i)) _ (master-
 module _ (x : List ℕ) (c : ℕ) where
   place-master-front : SameFront x (placeMaster x c)
   unfolding placeMaster
-  place-master-front = go (eqb (field x (OWNER + c)) (field x PART) && staysb x c) refl
+  place-master-front = go (eqb (field x (OWNER + c)) (field x PART) && lastsb x c) refl
     where
-      go : (t : Bool) → (eqb (field x (OWNER + c)) (field x PART) && staysb x c) ≡ t → SameFront x (placeMaster x c)
+      go : (t : Bool) → (eqb (field x (OWNER + c)) (field x PART) && lastsb x c) ≡ t → SameFront x (placeMaster x c)
       go true e = rw (e, placeMaster) (master-front x (placeAt x c) (newStatus x c))
       go false e = rw (e, placeMaster) (front-self x)
 
@@ -98,17 +98,17 @@ module _ (x : List ℕ) (c : ℕ) where
           → (not (eqb (field x (OWNER + c)) (field x PART)) &&
           (eqb (field x (FAMILY + c)) (field x PART) && not (eqb (newStatus x c) 0))) ≡ t
           → SameFront x (placeGhost x c)
-      go true e = rw (e, placeGhost) (put-front x (placeAt x c) (128 + newStatus x c))
+      go true e = rw (e, placeGhost) (put-same-front x (placeAt x c) (128 + newStatus x c))
       go false e = rw (e, placeGhost) (front-self x)
 
   place-family-front : SameFront x (placeFamily x c)
   unfolding placeFamily
-  place-family-front = go (anewb x c) refl (eqb (newStatus x c) 64 && not (eqb (field x (STATUS + c)) 0)) refl
+  place-family-front = go (remadeb x c) refl (eqb (newStatus x c) 64 && not (eqb (field x (STATUS + c)) 0)) refl
     where
-      go : (t : Bool) → anewb x c ≡ t → (s : Bool) → (eqb (newStatus x c) 64 && not (eqb (field x (STATUS + c)) 0)) ≡ s
+      go : (t : Bool) → remadeb x c ≡ t → (s : Bool) → (eqb (newStatus x c) 64 && not (eqb (field x (STATUS + c)) 0)) ≡ s
           → SameFront x (placeFamily x c)
       go true e true d = rw (e, d, placeFamily)
-          (each-front (putChild (placeAt x c) (freshStatus x c)) (child-front (placeAt x c) (freshStatus x c)) 8 0 x)
+          (each-front (putChild (placeAt x c) (freshBits x c)) (child-front (placeAt x c) (freshBits x c)) 8 0 x)
       go true e false d = rw (e, d, placeFamily) (leaves-front (placeAt x c) (sizeOf (newStatus x c)) x)
       go false e s d = rw (e, placeFamily) (front-self x)
 
@@ -128,8 +128,8 @@ old-front x c = go (eqb (field x (OWNER + c)) (field x PART)) refl (eqb (field x
   where
     go : (t : Bool) → eqb (field x (OWNER + c)) (field x PART) ≡ t → (s : Bool) → eqb (field x (FAMILY + c)) (field x PART) ≡ s
         → SameFront x (placeOld x c)
-    go true e s d = rw (e, placeOld) (put-front x (placeAt x c) (field x (STATUS + c)))
-    go false e true d = rw (e, d, placeOld) (put-front x (placeAt x c) ((128 + field x (STATUS + c)) % 65536))
+    go true e s d = rw (e, placeOld) (put-same-front x (placeAt x c) (field x (STATUS + c)))
+    go false e true d = rw (e, d, placeOld) (put-same-front x (placeAt x c) ((128 + field x (STATUS + c)) % 65536))
     go false e false d = rw (e, d, placeOld) (front-self x)
 
 pub cells-front : (n c : ℕ) (x : List ℕ) → SameFront x (eachFrom placeCell n c x)

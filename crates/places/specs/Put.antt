@@ -18,7 +18,7 @@ use Rattle.store.specs.Fields.{PLACE-HEAD, PLACE-DIGITS, PLACE-MORE, PLACE-STAT
 use Rattle.store.specs.declared.Place.{Place}
 use Rattle.store.specs.Places.{levelIn, childPlace}
 use Rattle.turns.specs.Loops.{eachFrom}
-use Rattle.places.specs.Status.{newStatus, staysb, anewb, freshStatus}
+use Rattle.places.specs.Status.{newStatus, lastsb, remadeb, freshBits}
 
 abbrev pub placeAt : List ℕ → ℕ → Place
 placeAt x c = record { head = field x (HEAD + c); digits = field x (DIGITS + c); more = field x (MORE + c) }
@@ -46,8 +46,8 @@ abbrev pub putLeaves : Place → ℕ → List ℕ → List ℕ
 putLeaves p n x = eachFrom (putLeaf p) n 0 x
 
 unfoldable pub placeMaster : List ℕ → ℕ → List ℕ
-unfolding staysb putMaster newStatus
-placeMaster x c = elim (eqb (field x (OWNER + c)) (field x PART) && staysb x c) [
+unfolding lastsb putMaster newStatus
+placeMaster x c = elim (eqb (field x (OWNER + c)) (field x PART) && lastsb x c) [
   | true ↦ putMaster x (placeAt x c) (newStatus x c)
   | false ↦ x
 ]
@@ -68,11 +68,11 @@ putChild p f x i = putLeaves (childPlace p i) (sizeOf (f i)) (putMaster x (child
 
 -- beside a green cell, and under a leaf that will be red, all new children are leaves
 unfoldable pub placeFamily : List ℕ → ℕ → List ℕ
-unfolding anewb newStatus eachFrom putLeaf putChild freshStatus sizeOf
+unfolding remadeb newStatus eachFrom putLeaf putChild freshBits sizeOf
 placeFamily x c =
-    elim (anewb x c) [
+    elim (remadeb x c) [
       | true ↦ elim (eqb (newStatus x c) 64 && not (eqb (field x (STATUS + c)) 0)) [
-        | true ↦ eachFrom (putChild (placeAt x c) (freshStatus x c)) 8 0 x
+        | true ↦ eachFrom (putChild (placeAt x c) (freshBits x c)) 8 0 x
         | false ↦ putLeaves (placeAt x c) (sizeOf (newStatus x c)) x
       ]
       | false ↦ x

@@ -1,9 +1,9 @@
 -- What a part knows of its cells after the rounds: their statuses after the step, from its store alone.
 --   newStatus x c       the status of the cell c, if it stays
---   staysb x c          the cell is there after the step: it is coarse, refined, or a child of a cell that stays red
---   anewb x c           the cell has a family here after the step that is not its old one
+--   lastsb x c          the cell is there after the step: it is coarse, refined, or a child of a cell that stays red
+--   remadeb x c         the cell has a family here after the step that is not its old one
 --   pairHit x c a b     an edge of a child of c that joins the points with the digits a and b is one of a cell that will be red
---   freshStatus x c i   the status of the new child i of a green cell that will be red
+--   freshBits x c i     the status of the new child i of a green cell that will be red
 use mathlib.Core.Bool.{Bool, true, false, _&&_, _||_, not}
 use mathlib.Core.List.{List, [], _∷_, map}
 use Prim.Native.Nat.{ℕ, _+_}
@@ -13,39 +13,37 @@ use Rattle.base.specs.Range.{range}
 use Rattle.cutting.specs.Rule.{family, low, high}
 use Rattle.mesh.specs.Cells.{bitsOf}
 use Rattle.families.specs.Children.{lowDigit, highDigit}
+use Rattle.mesh.specs.Layout.{edgeNumbers}
 use Rattle.store.specs.Fields.{field, PART, FAMILY, STATUS, REGULAR, CHILD, PARENT, HEAD, RED}
 use Rattle.turns.specs.Decide.{hitOf, kidCount}
-
-abbrev pub sixEdges : List ℕ
-sixEdges = 0 ∷ 1 ∷ 2 ∷ 3 ∷ 4 ∷ 5 ∷ []
 
 unfoldable pub newStatus : List ℕ → ℕ → ℕ
 unfolding bitsOf hitOf
 newStatus x c =
     elim (eqb (field x (REGULAR + c)) 1) [
-      | true ↦ elim (eqb (field x (RED + c)) 1) [ true ↦ 64 | false ↦ bitsOf (map (hitOf x c) sixEdges) ]
+      | true ↦ elim (eqb (field x (RED + c)) 1) [ true ↦ 64 | false ↦ bitsOf (map (hitOf x c) edgeNumbers) ]
       | false ↦ 0
     ]
 
-unfoldable pub staysb : List ℕ → ℕ → Bool
-staysb x c =
+unfoldable pub lastsb : List ℕ → ℕ → Bool
+lastsb x c =
     ltb (field x (HEAD + c)) 256 || (not (eqb (field x (STATUS + c)) 0)
     || (ltb (field x (PARENT + c)) 4096 && (eqb (field x (STATUS + field x (PARENT + c))) 64 && eqb
     (field x (RED + field x (PARENT + c))) 1)))
 
-unfoldable pub anewb : List ℕ → ℕ → Bool
-unfolding staysb newStatus
-anewb x c =
+unfoldable pub remadeb : List ℕ → ℕ → Bool
+unfolding lastsb newStatus
+remadeb x c =
     eqb (field x (FAMILY + c)) (field x PART)
-    && (staysb x c && (not (eqb (newStatus x c) 0) && not (eqb (field x (STATUS + c)) 64 && eqb (newStatus x c) 64)))
+    && (lastsb x c && (not (eqb (newStatus x c) 0) && not (eqb (field x (STATUS + c)) 64 && eqb (newStatus x c) 64)))
 
 -- the children stand from CHILD on; the status of a green cell is the pattern that it was cut by
 unfoldable pub pairHit : List ℕ → ℕ → ℕ → ℕ → Bool
 unfolding anyb range kidCount hitOf family low high
 pairHit x c a b =
     anyb (λ j. anyb (λ y. (eqb a (lowDigit (field x (STATUS + c)) j y) && eqb b (highDigit (field x (STATUS + c)) j y))
-    && hitOf x (field x (CHILD + c) + j) y) sixEdges) (range 0 (kidCount x c))
+    && hitOf x (field x (CHILD + c) + j) y) edgeNumbers) (range 0 (kidCount x c))
 
-unfoldable pub freshStatus : List ℕ → ℕ → ℕ → ℕ
+unfoldable pub freshBits : List ℕ → ℕ → ℕ → ℕ
 unfolding bitsOf pairHit
-freshStatus x c i = bitsOf (map (λ y. pairHit x c (lowDigit 63 i y) (highDigit 63 i y)) sixEdges)
+freshBits x c i = bitsOf (map (λ y. pairHit x c (lowDigit 63 i y) (highDigit 63 i y)) edgeNumbers)

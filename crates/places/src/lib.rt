@@ -35,11 +35,12 @@ ghost use Rattle.cutting.specs.Rule.{low, high};
 ghost use Rattle.mesh.specs.Cells.{bitsOf};
 ghost use Rattle.mesh.specs.Table.{sizeOf};
 ghost use Rattle.families.specs.Children.{middle};
+ghost use Rattle.mesh.specs.Layout.{edgeNumbers};
 ghost use Rattle.store.specs.Fields.{field, full};
 ghost use Rattle.store.specs.Places.{childPlace};
 ghost use Rattle.turns.specs.Loops.{eachFrom};
 ghost use Rattle.turns.specs.Decide.{hitOf};
-ghost use Rattle.places.specs.Status.{sixEdges, newStatus, staysb, anewb, freshStatus};
+ghost use Rattle.places.specs.Status.{newStatus, lastsb, remadeb, freshBits};
 ghost use Rattle.places.specs.Fresh.{lowAt, highAt, edgeHas, edgeHit, kidHas, pairHas, freshBy, KidsInside, EightAs, EightFew};
 ghost use Rattle.places.specs.Put.{placeAt, put, putMaster, putLeaf, putLeaves, putChild, placeMaster, placeGhost, placeFamily};
 ghost use Rattle.places.specs.Put.{placeCell, placeOld};
@@ -54,7 +55,7 @@ fn bit(b: bool) -> u16
 // The pattern of a cell's edges that are hit, from the last edge to the first.
 fn hit_bits(store: &[u16], c: usize) -> u16
     requires { ⌜ (full ≤ length (now store)) × (c < 4096) ⌝ }
-    ensures { λ r. ⌜ (r ≡ bitsOf (map (hitOf (was store) c) sixEdges)) × (r ≤ 63) ⌝ }
+    ensures { λ r. ⌜ (r ≡ bitsOf (map (hitOf (was store) c) edgeNumbers)) × (r ≤ 63) ⌝ }
 {
     let mut p: u16 = 0;
     let mut e: usize = 6;
@@ -83,7 +84,7 @@ fn new_status(store: &[u16], c: usize) -> u16
 // Whether a cell is there after the step.
 fn stays(store: &[u16], c: usize) -> bool
     requires { ⌜ (full ≤ length (now store)) × (c < 4096) ⌝ }
-    ensures { λ r. ⌜ r ≡ staysb (was store) c ⌝ }
+    ensures { λ r. ⌜ r ≡ lastsb (was store) c ⌝ }
 {
     if store[HEAD + c] < 256 {
         return true;
@@ -104,7 +105,7 @@ fn stays(store: &[u16], c: usize) -> bool
 // Whether a cell has a family here after the step that is not its old one.
 fn anew(store: &[u16], c: usize) -> bool
     requires { ⌜ (full ≤ length (now store)) × (c < 4096) ⌝ }
-    ensures { λ r. ⌜ r ≡ anewb (was store) c ⌝ }
+    ensures { λ r. ⌜ r ≡ remadeb (was store) c ⌝ }
 {
     if store[FAMILY + c] != store[PART] {
         return false;
@@ -255,7 +256,7 @@ fn fresh_all(store: &[u16], old: &[u8; 32], red: &[u8; 32], first: usize, n: usi
 fn fresh_of(store: &[u16], c: usize) -> [u16; 8]
     requires { ⌜ (full ≤ length (now store)) × (field (now store) 5 ≤ 4096) × (c < 4096) ⌝ }
     requires { ⌜ (field (now store) (8304 + c) ≡ 64 → ⊥) ⌝ }
-    ensures { λ r. ⌜ EightAs (freshStatus (was store) c) r ⌝ }
+    ensures { λ r. ⌜ EightAs (freshBits (was store) c) r ⌝ }
 {
     let status = store[STATUS + c];
     if status > 63 {
@@ -409,7 +410,7 @@ fn put_children(store: &mut [u16], p: Place, fresh: &[u16; 8])
 fn place_fresh(store: &mut [u16], c: usize)
     requires { ⌜ (full ≤ length (now store)) × (field (now store) 5 ≤ 4096) × (c < 4096) ⌝ }
     requires { ⌜ (field (now store) (8304 + c) ≡ 64 → ⊥) ⌝ }
-    ensures { λ r. ⌜ is store ≡ eachFrom (putChild (placeAt (was store) c) (freshStatus (was store) c)) 8 0 (was store) ⌝ }
+    ensures { λ r. ⌜ is store ≡ eachFrom (putChild (placeAt (was store) c) (freshBits (was store) c)) 8 0 (was store) ⌝ }
 {
     let p = place_at(store, c);
     let fresh = fresh_of(store, c);

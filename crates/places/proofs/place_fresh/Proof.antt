@@ -1,7 +1,7 @@
 use native.Mathlib.Omega.{arith}
 use Prim.Native.Nat.{ℕ}
 use lib.ListN.{getD}
-use Rattle.places.specs.Status.{freshStatus}
+use Rattle.places.specs.Status.{freshBits}
 use Rattle.places.proofs.Placing.{children-is}
 use Rattle.places.proofs.Knowing.{fresh-few}
 use borrow.Author.Needs.{needs}
@@ -36,7 +36,7 @@ same-length c = search needs
 
 returns : tie.Need-returns
 returns c = children-is _ _ (λ (i : ℕ). getD (c .before .before .before .before .before .fresh-of .result) i 0)
-    (freshStatus (c .before .before .before .before .before .before .before .before .before .before .args .store .now)
+    (freshBits (c .before .before .before .before .before .before .before .before .before .before .args .store .now)
     (c .before .before .before .before .before .before .before .before .before .before .args .c)) _ _
     (c .before .before .before .before .before .before .before .place-at .ensures)
     (c .before .before .before .before .before .fresh-of .ensures) (c .before .before .put-children .ensures)
