@@ -32,6 +32,12 @@ use Rattle.jobs.specs.declared.Reading.{Reading}
 use Rattle.jobs.specs.declared.Reading.the-variants as reading
 use Rattle.jobs.specs.declared.Writing.{Writing}
 use Rattle.jobs.specs.declared.Writing.the-variants as writing
+use Rattle.held.specs.Held.{listedOf}
+use Rattle.held.specs.declared.Listed.{Listed}
+use Rattle.held.specs.declared.Listed.the-variants as listed
+use Rattle.merge.specs.Merge.{mergedOf}
+use Rattle.merge.specs.declared.Merged.{Merged}
+use Rattle.merge.specs.declared.Merged.the-variants as merged
 
 -- the number, and a lent number
 module _ {a : Answer} where
@@ -135,3 +141,19 @@ writing-read d (writing.Refused k) = (Refused k, d)
 pub writing-result : Result Writing ℕ writingOf writing-read
 unfolding writingOf
 writing-result = record { back = λ a s. elim a [ Accepted ↦ refl | Refused k ↦ refl ] }
+
+abbrev listed-read : ℕ → Listed → Answer × ℕ
+listed-read d (listed.Rows s) = (Accepted, s)
+listed-read d (listed.Refused k) = (Refused k, d)
+
+pub listed-result : Result Listed ℕ listedOf listed-read
+unfolding listedOf
+listed-result = record { back = λ a s. elim a [ Accepted ↦ refl | Refused k ↦ refl ] }
+
+abbrev merged-read : ℕ → Merged → Answer × ℕ
+merged-read d (merged.Cells s) = (Accepted, s)
+merged-read d (merged.Refused k) = (Refused k, d)
+
+pub merged-result : Result Merged ℕ mergedOf merged-read
+unfolding mergedOf
+merged-result = record { back = λ a s. elim a [ Accepted ↦ refl | Refused k ↦ refl ] }

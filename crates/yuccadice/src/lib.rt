@@ -1,13 +1,17 @@
 // The calls for programs in other languages. Each function answers the refusal's number, 0 where the call is accepted, and hands its
 // results back in lent tables and lent numbers. include/yuccadice.h says the same for C.
+use held::Listed;
+use held::Progress;
 use jobs::Reading;
 use jobs::Replayed;
 use jobs::Writing;
 use layout::Ancestry;
 use layout::Counted;
 use layout::Laid;
+use merge::Merged;
 use position::Position;
 use step::Stepped;
+use store::Fetched;
 ghost use mathlib.Core.Path.{_≡_};
 ghost use lib.ListN.{length, getD};
 ghost use Rattle.base.specs.Fours.{fours};
@@ -29,7 +33,22 @@ ghost use Rattle.archive.specs.Tables.{markedOf, marksOf, endsOf};
 ghost use Rattle.archive.specs.Stored.{jobFrom};
 ghost use Rattle.replay.specs.Run.{jobTable};
 ghost use Rattle.jobs.specs.Calls.{readAnswer, writeAnswer, replayAnswer, lengthsOf, replaySize, jobCounts};
-ghost use Rattle.yuccadice.specs.After.{cutAnswer};
+ghost use Rattle.store.specs.Fields.{field, COARSE};
+ghost use Rattle.store.specs.Fetch.{fetchAnswer, fetchBytes, fetchAfter};
+ghost use Rattle.store.specs.Hand.{handAnswer, handAfter};
+ghost use Rattle.turns.specs.Start.{startAnswer, startAfter};
+ghost use Rattle.partstep.specs.Step.{partAnswer, partAfter};
+ghost use Rattle.held.specs.Held.{stageAnswer, stageOf, progressOf, heldAnswer, heldIn, heldRows};
+ghost use Rattle.merge.specs.Merge.{storesIn, mergeAnswer, mergeTable};
+ghost use Rattle.yuccadice.specs.After.{
+  cutAnswer,
+  fetchedCode,
+  fetchedLength,
+  progressCode,
+  progressStage,
+  progressRound,
+  progressResult,
+};
 
 // The children of a cell by its pattern: four digits a child, 32 in all, zeros behind the last child. Refusals 15 and 6.
 #[no_mangle]
@@ -303,5 +322,130 @@ pub extern "C" fn yd_replay(
             0
         }
         Replayed::Refused(k) => k,
+    }
+}
+
+// Starts a part with a mark for each of its masters, in the order of cells. Refusals 15, 16 and 7.
+#[no_mangle]
+pub extern "C" fn yd_start(store: &mut [u16], marks: &[u8]) -> u8
+    ensures { λ r. ⌜ (r ≡ codeOf (startAnswer (was store) (was marks)))
+        × (is store ≡ startAfter (was store) (was marks)) ⌝ }
+{
+    base::code(turns::start(store, marks))
+}
+
+// Leads a part to its next round, once the ends of this one are taken from all others. Refusals 15 and 16.
+#[no_mangle]
+pub extern "C" fn yd_part_step(store: &mut [u16]) -> u8
+    ensures { λ r. ⌜ (r ≡ codeOf (partAnswer (was store))) × (is store ≡ partAfter (was store)) ⌝ }
+{
+    base::code(partstep::part_step(store))
+}
+
+// The next message that a part has written: its bytes and how many they are, 0 where there is none to send. Refusals 15 and 16.
+#[no_mangle]
+pub extern "C" fn yd_fetch(store: &mut [u16], bytes: &mut [u8], byte_count: &mut usize) -> u8
+    ensures { λ r. let a = fetchAnswer (was store) (was bytes) in
+        ⌜ (r ≡ fetchedCode a)
+        × (is store ≡ fetchAfter (was store) (was bytes))
+        × (is bytes ≡ fetchBytes (was store) (was bytes))
+        × (is «byte_count» ≡ fetchedLength (was «byte_count») a) ⌝ }
+{
+    let fetched = mail::fetch(store, bytes);
+    match fetched {
+        Fetched::Message(n) => {
+            *byte_count = n;
+            0
+        }
+        Fetched::Nothing => {
+            *byte_count = 0;
+            0
+        }
+        Fetched::Refused(k) => k,
+    }
+}
+
+// Hands a message over to a part. Refusals 15, 16 and 12 to 14.
+#[no_mangle]
+pub extern "C" fn yd_hand_over(store: &mut [u16], bytes: &[u8]) -> u8
+    ensures { λ r. ⌜ (r ≡ codeOf (handAnswer (was store) (was bytes)))
+        × (is store ≡ handAfter (was store) (was bytes)) ⌝ }
+{
+    base::code(mail::hand(store, bytes))
+}
+
+// How far a part is: 1 running with its round, 2 done with the number that its step ended with. Refusals 15 and 16.
+#[no_mangle]
+pub extern "C" fn yd_stage(
+    store: &[u16],
+    stage: &mut usize,
+    round: &mut usize,
+    result: &mut usize,
+) -> u8
+    ensures { λ r. let p = progressOf (stageAnswer (was store)) (stageOf (was store)) in
+        ⌜ (r ≡ progressCode p)
+        × (is stage ≡ progressStage (was stage) p)
+        × (is round ≡ progressRound (was round) p)
+        × (is result ≡ progressResult (was result) p) ⌝ }
+{
+    let progress = held::stage(store);
+    match progress {
+        Progress::Running(n) => {
+            *stage = 1;
+            *round = n;
+            *result = 0;
+            0
+        }
+        Progress::Done => {
+            *stage = 2;
+            *round = 0;
+            *result = 0;
+            0
+        }
+        Progress::Ended(k) => {
+            *stage = 2;
+            *round = 0;
+            *result = k as usize;
+            0
+        }
+        Progress::Refused(k) => k,
+    }
+}
+
+// The masters and ghosts of a done part, fourteen numbers each: 1 for a ghost, status, level, coarse cell, ten child numbers with zeros
+// behind them. Refusals 15 and 16.
+#[no_mangle]
+pub extern "C" fn yd_held(store: &[u16], rows: &mut [u16], row_count: &mut usize) -> u8
+    ensures { λ r. let a = heldAnswer (was store) (was rows) in
+        ⌜ (r ≡ codeOf a)
+        × (is rows ≡ heldAfter a (heldRows (was store)) (was rows))
+        × (is «row_count» ≡ valueAfter a (length (heldIn (was store))) (was «row_count»)) ⌝ }
+{
+    let listed = held::held(store, rows);
+    match listed {
+        Listed::Rows(n) => {
+            *row_count = n;
+            0
+        }
+        Listed::Refused(k) => k,
+    }
+}
+
+// The table that the masters of all done parts make. Refusals 15 and 16.
+#[no_mangle]
+pub extern "C" fn yd_merge(stores: &[u16], table: &mut [u8], cell_count: &mut usize) -> u8
+    ensures { λ r. let a = mergeAnswer (was stores) (was table) in
+        let new = mergeTable (storesIn (was stores)) (field (was stores) COARSE) in
+        ⌜ (r ≡ codeOf a)
+        × (is table ≡ heldAfter a new (was table))
+        × (is «cell_count» ≡ valueAfter a (length new) (was «cell_count»)) ⌝ }
+{
+    let merged = merge::merge(stores, table);
+    match merged {
+        Merged::Cells(n) => {
+            *cell_count = n;
+            0
+        }
+        Merged::Refused(k) => k,
     }
 }
