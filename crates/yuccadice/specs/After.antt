@@ -1,9 +1,11 @@
 -- What the functions of the library answer, and what they leave where a result is handed back.
 --   valueAfter a new old   a lent number after the answer a: the new one where it is accepted, as it was where it is not
 --   cutAnswer p digits     the cutting call: 15 where the table is too short, then 6 above 63
---   fetchedCode, fetchedLength old     fetching: the number, and the message's length, 0 where there is none to send
---   progressCode, progressStage old, progressRound old, progressResult old     a part's stage: the number; 1 running, 2 done; its round, 0 where it
---                          is done; the number that its step ended with, 0 where it is running or went well
+--   fetchedCode f, fetchedLength old f    fetching: the number; the message's length, 0 where there is none to send
+--   progressCode p                        a part's stage: the number
+--   progressStage old p                   1 where it is running, 2 where it is done
+--   progressRound old p                   its round, 0 where it is done
+--   progressResult old p                  the number that its step ended with, 0 where it runs or went well
 -- Where a call is refused, the lent numbers are as they were (old).
 -- The number that a function answers is `codeOf` of the call's answer (`base` `Refuse`): 0 where it is accepted, else the refusal's.
 use Prim.Native.Nat.{ℕ}
