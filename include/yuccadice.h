@@ -40,6 +40,7 @@ extern "C" {
 #define YD_MOST_CORNERS 16384      /* corners of a table */
 #define YD_MOST_LEVELS 11          /* levels 0 to 10 */
 #define YD_MOST_BYTES 65536        /* bytes of an archive */
+#define YD_MOST_PARTS 16           /* 1 to 16 parts of a split job */
 #define YD_STACK 1048576           /* bytes of stack: more than any call needs */
 
 /* The full lengths of lent tables. */
@@ -55,20 +56,30 @@ extern "C" {
 #define YD_MARKS_LENGTH 16384       /* uint8_t: 1 or 2 a mark */
 #define YD_STEP_ENDS_LENGTH 65536   /* uint16_t: a number a step */
 #define YD_BYTES_LENGTH 65536       /* uint8_t: the bytes of an archive */
+#define YD_STORE_LENGTH 226488      /* uint16_t: the store of a part */
+#define YD_STORES_LENGTH 3623808    /* uint16_t: sixteen stores, whatever the number of parts */
+#define YD_MESSAGE_LENGTH 9         /* uint8_t: the longest message */
+#define YD_HELD_LENGTH 57344        /* uint16_t: fourteen numbers a master or ghost */
 
 /* Answers. */
 #define YD_ACCEPTED 0
-#define YD_REFUSED_COUNTS 1  /* too few or too many corners or cells, or a list's length no multiple of 3 or 4 */
-#define YD_REFUSED_RANGE 2   /* a coordinate out of its range */
-#define YD_REFUSED_NUMBERS 3 /* a cell's corner numbers do not ascend strictly, or are not below the count */
-#define YD_REFUSED_FLAT 4    /* a flat cell */
-#define YD_REFUSED_FACES 5   /* two cells with the same corners, or a face in three cells */
-#define YD_REFUSED_STATUS 6  /* a status table that is not sound, or a pattern above 63 */
-#define YD_REFUSED_MARKS 7   /* marks of wrong length, above 2 or not 0 on a refined cell, or a cell or corner number not below the count */
-#define YD_REFUSED_LEVEL 8   /* a level above 10 would arise */
-#define YD_REFUSED_CELLS 9   /* more than 4,096 cells would arise */
-#define YD_REFUSED_SHORT 15  /* a lent table is shorter than its full length */
-#define YD_REFUSED_FORM 17   /* an archive's bytes are not in the form, or would be more than 65,536 */
+#define YD_REFUSED_COUNTS 1   /* too few or too many corners or cells, or a list's length no multiple of 3 or 4 */
+#define YD_REFUSED_RANGE 2    /* a coordinate out of its range */
+#define YD_REFUSED_NUMBERS 3  /* a cell's corner numbers do not ascend strictly, or are not below the count */
+#define YD_REFUSED_FLAT 4     /* a flat cell */
+#define YD_REFUSED_FACES 5    /* two cells with the same corners, or a face in three cells */
+#define YD_REFUSED_STATUS 6   /* a status table that is not sound, or a pattern above 63 */
+#define YD_REFUSED_MARKS 7    /* marks of wrong length, above 2 or not 0 on a refined cell, or a cell or corner number not below the count */
+#define YD_REFUSED_LEVEL 8    /* a level above 10 would arise */
+#define YD_REFUSED_CELLS 9    /* more than 4,096 cells would arise */
+#define YD_REFUSED_PARTS 10   /* a number of parts that is not 1 to 16 */
+#define YD_REFUSED_OWNERS 11  /* owners of wrong length or out of range, or two in a family */
+#define YD_REFUSED_MESSAGE 12 /* a message of no known form, for another part, of what the part does not hold, or with a value out of range */
+#define YD_REFUSED_TAKEN 13   /* a message that was taken before */
+#define YD_REFUSED_EARLY 14   /* a message that comes too early, or to a part that is done */
+#define YD_REFUSED_SHORT 15   /* a lent table is shorter than its full length */
+#define YD_REFUSED_STORE 16   /* a store out of range, or at a stage that the call does not fit, or stores that do not make one table */
+#define YD_REFUSED_FORM 17    /* an archive's bytes are not in the form, or would be more than 65,536 */
 
 /* A status, a mark, and the parent of a coarse cell. */
 #define YD_LEAF 0
@@ -76,6 +87,10 @@ extern "C" {
 #define YD_REFINE 1
 #define YD_DELETE 2
 #define YD_NO_PARENT 65535
+
+/* The stage of a part. */
+#define YD_RUNNING 1
+#define YD_DONE 2
 
 /* A coarse mesh is `positions`, three coordinates a corner, and `cells`, four corner numbers a cell, strictly ascending. A status table is `status`, a
  * byte a cell; cells are numbered level by level from 0, in each level by parent and then child. */
@@ -155,6 +170,51 @@ uint8_t yd_write(const int32_t *positions, size_t positions_length, const uint16
 uint8_t yd_replay(const uint8_t *bytes, size_t bytes_length, uint8_t *table, size_t table_length, uint16_t *counts, size_t counts_length,
                   size_t *cell_count, size_t *level_count);
 
+/* Split jobs: one step of a table over 1 to 16 parts, which may run apart and in any order. A part is a store, a table of numbers that the caller keeps as
+ * it is: it may be copied and sent, and docs/PARTS.md says what stands where. A cell is master with its owner, and ghost with the owner of its children
+ * where that is another. Every part is started with the marks of its masters; then messages are fetched from the parts and handed over, and parts are stepped, whichever
+ * call is accepted next, until every part is done. A message is for the part that its third byte names, from 1; it is kept until that part has taken it. The
+ * parts then merge to the table of yd_step, in whatever order all this went; where yd_step refuses with 8 or 9, every part ends with that number
+ * and they merge to the old table. The next step needs a new split. */
+
+/* Starts a part. marks has a byte for each of its masters, in the order of cells: 0 none, 1 refine, 2 delete.
+ * After: store is that of the running part, with messages to fetch.
+ * Refusals: 15; 16 where the part was started before; 7. */
+uint8_t yd_start(uint16_t *store, size_t store_length, const uint8_t *marks, size_t marks_length);
+
+/* Leads a part to its next round, and at last to its end.
+ * After: store is that of the part in the next round, with messages to fetch, or of the part that is done.
+ * Refusals: 15; 16 also where the part is not started or is done, or another part's end of the round is not handed over yet. */
+uint8_t yd_part_step(uint16_t *store, size_t store_length);
+
+/* The next message that a part has written.
+ * After: bytes has the message, and *byte_count is its length, 5 to 9; store is that of the part that has given it. Where there is none to send, *byte_count
+ * is 0, and nothing else is changed.
+ * Refusals: 15; 16 also where the part is not started. */
+uint8_t yd_fetch(uint16_t *store, size_t store_length, uint8_t *bytes, size_t bytes_length, size_t *byte_count);
+
+/* Hands a message over to a part, at its own length.
+ * After: store is that of the part that has taken it.
+ * Refusals: 15; 16 also where the part is not started; 12 to 14. A message that is refused with 14 is offered again later. */
+uint8_t yd_hand_over(uint16_t *store, size_t store_length, const uint8_t *bytes, size_t bytes_length);
+
+/* How far a part is.
+ * After: *stage is YD_RUNNING or YD_DONE; *round is the round of a running part, from 0, and 0 where it is done; *result is the number 8 or 9 that a done
+ * part's step ended with, else 0.
+ * Refusals: 15; 16 also where the part is not started. */
+uint8_t yd_stage(const uint16_t *store, size_t store_length, size_t *stage, size_t *round, size_t *result);
+
+/* The masters and ghosts of a part that is done.
+ * After: rows has fourteen numbers for each: 1 for a ghost and 0 for a master, status, level, coarse cell, and its child numbers from the coarse cell down, ten
+ * with the zeros behind them. *row_count is how many masters and ghosts there are.
+ * Refusals: 15; 16 also where the part is not done. */
+uint8_t yd_held(const uint16_t *store, size_t store_length, uint16_t *rows, size_t rows_length, size_t *row_count);
+
+/* The table that all parts make. stores has them one behind the other, YD_STORE_LENGTH numbers each, in any order; the first says how many they are.
+ * After: table has the statuses of the cells, *cell_count their number.
+ * Refusals: 15; 16 also where they are not every part once, not all done, end differently or make no sound table. */
+uint8_t yd_merge(const uint16_t *stores, size_t stores_length, uint8_t *table, size_t table_length, size_t *cell_count);
+
 /* An answer in words; what is no answer of this library is told as such. Not proved. */
 static inline const char *yd_says(uint8_t answer) {
     switch (answer) {
@@ -169,7 +229,14 @@ static inline const char *yd_says(uint8_t answer) {
         return "marks of wrong length, above 2 or not 0 on a refined cell, or a cell or corner number not below the count";
     case YD_REFUSED_LEVEL: return "a level above 10 would arise";
     case YD_REFUSED_CELLS: return "more than 4,096 cells would arise";
+    case YD_REFUSED_PARTS: return "a number of parts that is not 1 to 16";
+    case YD_REFUSED_OWNERS: return "owners of wrong length or out of range, or two in a family";
+    case YD_REFUSED_MESSAGE:
+        return "a message of no known form, for another part, of what the part does not hold, or with a value out of range";
+    case YD_REFUSED_TAKEN: return "a message that was taken before";
+    case YD_REFUSED_EARLY: return "a message that comes too early, or to a part that is done";
     case YD_REFUSED_SHORT: return "a lent table is shorter than its full length";
+    case YD_REFUSED_STORE: return "a store out of range, or at a stage that the call does not fit, or stores that do not make one table";
     case YD_REFUSED_FORM: return "an archive's bytes are not in the form, or would be more than 65,536";
     default: return "no answer of this library";
     }
