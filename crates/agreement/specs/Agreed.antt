@@ -2,8 +2,8 @@
 --   splitStore p, world      the stores of the split
 --   inputOf cs p             the marks that the calls start a part with; 0 for each master where they do not
 -- Laws: stores-many (there is a store for each part), done-phase and phase-done (a done part is one past the last round), at-end (what a
--- done part's store stands for), stays-done, moves-most, moves-on and completed (what can be called next), all-fetched (where a part has none
--- to send).
+-- done part's store stands for), stays-done, moves-most, moves-on and completed (what can be called next), all-fetched (where a part has
+-- none to send).
 use mathlib.Core.Path.{_≡_, refl, sym, _∙_, ap, ap₂, subst}
 use mathlib.Core.Logic.{_⊎_, inl, inr, _≢_}
 use mathlib.Core.Bool.{Bool, true, false}
@@ -105,7 +105,9 @@ module _ (ps : List ℤ) (ts ss : List ℕ) (Q : ℕ) (os b : List ℕ) (e : spl
   J = splitTask Q (cornerCount ps) (fours ts) ss os
 
   abbrev M : Machine (Fin (suc Q)) (List ℕ) Body (List ℕ) State (List ℕ)
-  M = machine (suc Q) J (fit Q n qs ss os g) (reads Q n qs ss os g) (placeOn os) (takes Q n qs ss os g) splitStore (reads-mark Q n qs ss os g)
+  M =
+      machine (suc Q) J (fit Q n qs ss os g) (reads Q n qs ss os g) (placeOn os) (takes Q n qs ss os g) splitStore
+      (reads-mark Q n qs ss os g)
 
   abbrev pub R : Protocol (Fin (suc Q)) (List ℕ) Body (List ℕ) State
   R = protocol (parts (suc Q)) J (grownOf (parts (suc Q)) J) (ups (suc Q)) (pack (suc Q) J) (reads Q n qs ss os g)
@@ -139,7 +141,8 @@ module _ (ps : List ℤ) (ts ss : List ℕ) (Q : ℕ) (os b : List ℕ) (e : spl
   good : (cs : Calls) (p : Fin (suc Q)) (r : ℕ) (k : Fin (suc Q) → ℕ) (f : ℕ) → Can (parts (suc Q)) R (inputOf cs) p r k f
       → Fitted (suc Q) J p (local (parts (suc Q)) R (inputOf cs) p r k f)
   good cs p r k f c =
-      fitting-of (suc Q) J p (splitStore p) (split-columns Q n qs ss os g p (splitStore p) (stored p)) (fit Q n qs ss os g) (reads Q n qs ss os g)
+      fitting-of (suc Q) J p (splitStore p) (split-columns Q n qs ss os g p (splitStore p) (stored p)) (fit Q n qs ss os g)
+      (reads Q n qs ss os g)
       (inputOf cs) p r k f c
 
   -- the store of a part after calls
@@ -152,16 +155,22 @@ module _ (ps : List ℤ) (ts ss : List ℕ) (Q : ℕ) (os b : List ℕ) (e : spl
 
     allowed : Al cs
     unfolding Option·elim
-    allowed = record { lawful = lawful; inputs = λ p i f. sym (ap (λ (o : Option (List ℕ)). Option·elim o (wanted Q n qs ss os g p) (λ ms. ms)) f) }
+    allowed =
+        record {
+          lawful = lawful;
+          inputs = λ p i f. sym (ap (λ (o : Option (List ℕ)). Option·elim o (wanted Q n qs ss os g p) (λ ms. ms)) f);
+        }
 
     -- a part that is done is past the last round
-    pub done-phase : (p : Fin (suc Q)) → field (storeOf cs p) STAGE ≡ 2 → phaseOf (storeOf cs p) ≡ suc (R .rounds)
-    done-phase p d = go (deterministic (suc Q) R M (Fitted (suc Q) J) Fi A (inputOf cs) (fine cs) end [] [] (good cs) world all idle refl cs allowed p)
+    done-phase : (p : Fin (suc Q)) → field (storeOf cs p) STAGE ≡ 2 → phaseOf (storeOf cs p) ≡ suc (R .rounds)
+    done-phase p d =
+        go (deterministic (suc Q) R M (Fitted (suc Q) J) Fi A (inputOf cs) (fine cs) end [] [] (good cs) world all idle refl cs allowed p)
       where
         go : M .Idle p (storeOf cs p)
             ⊎ ((r : ℕ) × (k : Fin (suc Q) → ℕ) × (f : ℕ) × Can (parts (suc Q)) R (inputOf cs) p r k f
             × M .Busy p (local (parts (suc Q)) R (inputOf cs) p r k f) (storeOf cs p)
-            × ((j : ℕ) → j < f → List·Memᴰ (getD (post (parts (suc Q)) R (inputOf cs) (suc (R .rounds)) p) j []) (play act cs world .given)))
+            × ((j : ℕ) → j < f → List·Memᴰ (getD (post (parts (suc Q)) R (inputOf cs) (suc (R .rounds)) p) j [])
+            (play act cs world .given)))
             → phaseOf (storeOf cs p) ≡ suc (R .rounds)
         go (inl i) = absurd (omega (arith, i .0 .stage, d))
         go (inr (r, k, f, c, t, v)) =
@@ -187,17 +196,13 @@ module _ (ps : List ℤ) (ts ss : List ℕ) (Q : ℕ) (os b : List ℕ) (e : spl
     pub at-end : (p : Fin (suc Q)) → phaseOf (storeOf cs p) ≡ suc (R .rounds)
         → (f : ℕ) × Standing (suc Q) J p (ending p f) (storeOf cs p) × Stay (splitStore p) (storeOf cs p)
     at-end p h =
-        let (f, t) = result (suc Q) R M (Fitted (suc Q) J) Fi A (inputOf cs) (fine cs) end [] [] (good cs) world all idle refl cs allowed p h in
+        let (f, t) =
+        result (suc Q) R M (Fitted (suc Q) J) Fi A (inputOf cs) (fine cs) end [] [] (good cs) world all idle refl cs allowed p h in
         (f, t .0, t .1)
 
     pub phase-done : (p : Fin (suc Q)) → phaseOf (storeOf cs p) ≡ suc (R .rounds) → field (storeOf cs p) STAGE ≡ 2
     unfolding overb
     phase-done p h = let (f, t, s) = at-end p h in t .busy .done (ap overb (phase-over (J .top)))
-
-    -- a part past its start was started with its input
-    pub started-with : (p : Fin (suc Q)) → phaseOf (storeOf cs p) ≡ suc (R .rounds) → startedWith act cs world (p .0) ≡ some (inputOf cs p)
-    started-with p h =
-        begun-with (suc Q) R M (Fitted (suc Q) J) Fi A (inputOf cs) (fine cs) end [] [] (good cs) world all idle refl cs allowed p (omega (arith, h))
 
     pub input-fine : (p : Fin (suc Q)) → takes Q n qs ss os g p (inputOf cs p) ≡ true
     input-fine p = fine cs p
@@ -217,20 +222,23 @@ module _ (ps : List ℤ) (ts ss : List ℕ) (Q : ℕ) (os b : List ℕ) (e : spl
         go : ((p : Fin (suc Q)) → phaseOf (storeOf cs p) ≡ suc (R .rounds))
             ⊎ ((c : Call (List ℕ) (List ℕ)) × Al (cs ++ (c ∷ [])) × (moves act (cs ++ (c ∷ [])) world ≡ suc (moves act cs world)))
             → ((p : Fin (suc Q)) → phaseOf (storeOf cs p) ≡ suc (R .rounds))
-            ⊎ ((c : Call (List ℕ) (List ℕ)) × Lawful act (cs ++ (c ∷ [])) world × (moves act (cs ++ (c ∷ [])) world ≡ suc (moves act cs world)))
+            ⊎ ((c : Call (List ℕ) (List ℕ)) × Lawful act (cs ++ (c ∷ [])) world
+            × (moves act (cs ++ (c ∷ [])) world ≡ suc (moves act cs world)))
         go (inl a) = inl a
         go (inr (c, a, m)) = inr (c, a .lawful, m)
 
     pub completed : (ds : Calls) × Lawful act (cs ++ ds) world × ((p : Fin (suc Q)) → phaseOf (storeOf (cs ++ ds) p) ≡ suc (R .rounds))
     completed =
-        let (ds, a, d) = completion (suc Q) R M (Fitted (suc Q) J) Fi A (inputOf cs) (fine cs) end [] [] (good cs) world all idle refl cs allowed in
+        let (ds, a, d) =
+        completion (suc Q) R M (Fitted (suc Q) J) Fi A (inputOf cs) (fine cs) end [] [] (good cs) world all idle refl cs allowed in
         (ds, a .lawful, d)
 
     -- NONE TO SEND: all that the part wrote up to its round is given
     pub all-fetched : (p : Fin (suc Q)) → act Fetch (storeOf cs p) ≡ none → field (storeOf cs p) STAGE ≢ 0
         → (m : List ℕ) → List·Memᴰ m (post (parts (suc Q)) R (inputOf cs) (suc (field (storeOf cs p) ROUND)) p)
         → List·Memᴰ m (play act cs world .given)
-    all-fetched p h s = go (all-given (suc Q) R M (Fitted (suc Q) J) Fi A (inputOf cs) (fine cs) end [] [] (good cs) world all idle refl cs allowed p h)
+    all-fetched p h s =
+        go (all-given (suc Q) R M (Fitted (suc Q) J) Fi A (inputOf cs) (fine cs) end [] [] (good cs) world all idle refl cs allowed p h)
       where
         go : M .Idle p (storeOf cs p)
             ⊎ ((r : ℕ) × (k : Fin (suc Q) → ℕ)
@@ -240,19 +248,21 @@ module _ (ps : List ℤ) (ts ss : List ℕ) (Q : ℕ) (os b : List ℕ) (e : spl
             → List·Memᴰ m (play act cs world .given)
         go (inl i) = absurd (s (i .0 .stage))
         go (inr (r, k, t, v)) =
-            subst (λ (j : ℕ). (m : List ℕ) → List·Memᴰ m (post (parts (suc Q)) R (inputOf cs) (suc j) p) → List·Memᴰ m (play act cs world .given))
+            subst (λ (j : ℕ). (m : List ℕ) → List·Memᴰ m (post (parts (suc Q)) R (inputOf cs) (suc j) p)
+            → List·Memᴰ m (play act cs world .given))
             (sym (t .0 .busy .round)) v
 
   -- DONE STAYS
   pub stays-done : (cs ds : Calls) → Lawful act cs world → Lawful act (cs ++ ds) world → (p : Fin (suc Q)) → field (storeOf cs p) STAGE ≡ 2
       → field (storeOf (cs ++ ds) p) STAGE ≡ 2
   stays-done cs ds a b p d =
-      let (u, v) = done-stays (suc Q) R M (Fitted (suc Q) J) Fi A (inputOf (cs ++ ds)) (fine (cs ++ ds)) end [] [] (good (cs ++ ds)) world all idle refl
+      let (u, v) =
+      done-stays (suc Q) R M (Fitted (suc Q) J) Fi A (inputOf (cs ++ ds)) (fine (cs ++ ds)) end [] [] (good (cs ++ ds)) world all idle refl
       cs ds (allowed (cs ++ ds) b) p in
       phase-done (cs ++ ds) b p (omega (arith, u, v, done-phase cs a p d))
 
   -- all parts are done, as the stores say and by the rounds
-  pub many-now : (cs : Calls) → length (play act cs world .stores) ≡ suc Q
+  many-now : (cs : Calls) → length (play act cs world .stores) ≡ suc Q
   many-now cs = play-length act cs world ∙ all
 
   pub all-phases : (cs : Calls) → Lawful act cs world → T (alldoneb (play act cs world))
@@ -260,7 +270,8 @@ module _ (ps : List ℤ) (ts ss : List ℕ) (Q : ℕ) (os b : List ℕ) (e : spl
   unfolding alldoneb
   all-phases cs h t p =
       done-phase cs h p (eqb→eq (field (storeOf cs p) STAGE) 2
-      (allb-at (λ x. eqb (field x STAGE) 2) [] (play act cs world .stores) t (p .0) (subst (λ (k : ℕ). p .0 < k) (sym (many-now cs)) (p .1))))
+      (allb-at (λ x. eqb (field x STAGE) 2) [] (play act cs world .stores) t (p .0)
+      (subst (λ (k : ℕ). p .0 < k) (sym (many-now cs)) (p .1))))
 
   pub phases-all : (cs : Calls) → Lawful act cs world → ((p : Fin (suc Q)) → phaseOf (storeOf cs p) ≡ suc (R .rounds))
       → T (alldoneb (play act cs world))

@@ -58,17 +58,16 @@ zeros-fit (s ∷ ss) = zero-fits s (zeros-fit ss)
     zero-fits s e = ap₂ _&&_ (mark-zero s) e
 
 module _ (Q n : ℕ) (qs : List (List ℕ)) (ss os : List ℕ) (g : Splits Q n qs ss os) where
-  abbrev pub P : ℕ
-  P = suc Q
-
-  abbrev pub J : Task (Fin (suc Q))
+  abbrev J : Task (Fin (suc Q))
   J = splitTask Q n qs ss os
 
   abbrev sn : Sound n qs ss
   sn = sound-parts n qs ss (g .sound)
 
   pub fit : Fit (splitTask Q n qs ss os)
-  fit = fits n qs ss sn (slotOf n qs ss) (slotsOn n qs ss) (split-slots Q n qs ss os g) os (owners-fit n qs ss (suc Q) os (g .owners)) (nthPart Q)
+  fit =
+      fits n qs ss sn (slotOf n qs ss) (slotsOn n qs ss) (split-slots Q n qs ss os g) os (owners-fit n qs ss (suc Q) os (g .owners))
+      (nthPart Q)
 
   -- the mark of a cell, from the marks of its part
   abbrev pub reads : Fin (suc Q) → List ℕ → ℕ → ℕ
@@ -84,7 +83,8 @@ module _ (Q n : ℕ) (qs : List (List ℕ)) (ss os : List ℕ) (g : Splits Q n q
       let (a, b) = w .each c (omega (arith, h)) in
       (omega (arith, h, w .many), sym (named Q .forth (getD os c 0) a b) ∙ ap (λ (x : Fin (suc Q)). numberOf x) e)
 
-  pub reads-mark : (p : Fin (suc Q)) (ms : List ℕ) (c : ℕ) → HoldsCell (suc Q) J p c → J .owner c ≡ p → reads p ms c ≡ getD ms (placeOn os c) 0
+  pub reads-mark : (p : Fin (suc Q)) (ms : List ℕ) (c : ℕ) → HoldsCell (suc Q) J p c → J .owner c ≡ p
+      → reads p ms c ≡ getD ms (placeOn os c) 0
   unfolding marksFrom masterb
   reads-mark p ms c (k, m, h) e =
       let (a, b) = owner-is k c m p e in

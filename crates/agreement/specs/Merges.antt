@@ -62,7 +62,8 @@ four-same : (x y : List ℕ) (a : ℕ) → length y ≡ length x → ((i : ℕ) 
     → take 4 (drop a y) ≡ take 4 (drop a x)
 four-same x y a l h =
     ext-getD 0 (take 4 (drop a y)) (take 4 (drop a x))
-    (length-take 4 (drop a y) ∙ ap (λ (n : ℕ). min 4 n) (length-drop a y ∙ ap (λ (n : ℕ). n - a) l ∙ sym (length-drop a x)) ∙ sym (length-take 4 (drop a x)))
+    (length-take 4 (drop a y) ∙ ap (λ (n : ℕ). min 4 n) (length-drop a y ∙ ap (λ (n : ℕ). n - a) l ∙ sym (length-drop a x))
+    ∙ sym (length-take 4 (drop a x)))
     (λ i k.
     let low : i < 4 = omega (arith, k, length-take 4 (drop a y)) in
     getD-take 4 (drop a y) i 0 low ∙ getD-drop a y i 0 ∙ h (a + i) (omega arith) (omega arith) ∙ sym (getD-drop a x i 0)
@@ -103,9 +104,11 @@ module _ (ps : List ℤ) (ts ss : List ℕ) (Q : ℕ) (os b : List ℕ) (e : spl
   coarse-member p i h =
       let co = columns p in
       let a : field (x p) (FIRST-CELL + 1) ≡ length cells =
-      stay p .else (FIRST-CELL + 1) (inr (inl (omega arith, omega arith))) ∙ stored p .first-cell 1 (omega arith) ∙ below-coarse nn cells ss in
+      stay p .else (FIRST-CELL + 1) (inr (inl (omega arith, omega arith))) ∙ stored p .first-cell 1 (omega arith)
+      ∙ below-coarse nn cells ss in
       subst (Member i) (sym (co .cells 0 (omega arith)))
-      (range-member (field (x p) (FIRST-CELL + 0)) (field (x p) (FIRST-CELL + 1) - field (x p) (FIRST-CELL + 0)) i (omega (arith, co .first-cell))
+      (range-member (field (x p) (FIRST-CELL + 0)) (field (x p) (FIRST-CELL + 1) - field (x p) (FIRST-CELL + 0)) i
+      (omega (arith, co .first-cell))
       (omega (arith, co .first-cell, a)))
 
   owned : (p : Fin (suc Q)) (i : ℕ) → i < length cells → ownsb i (x p) ≡ isPart (parts (suc Q)) (owner i) p
@@ -130,7 +133,8 @@ module _ (ps : List ℤ) (ts ss : List ℕ) (Q : ℕ) (os b : List ℕ) (e : spl
   storeBy q = getD (play act cs (world ps ts ss Q os b e) .stores) (pred q) []
 
   -- the done stores, where they hold es and ended with r
-  done-of : (r : ℕ) (es : ℕ → List Entry) → ((p : Fin (suc Q)) → field (x p) RESULT ≡ r) → ((p : Fin (suc Q)) → heldIn (x p) ≡ es (suc (p .0)))
+  done-of : (r : ℕ) (es : ℕ → List Entry) → ((p : Fin (suc Q)) → field (x p) RESULT ≡ r)
+      → ((p : Fin (suc Q)) → heldIn (x p) ≡ es (suc (p .0)))
       → (q : ℕ) → 1 ≤ q → q ≤ suc Q → PartDone (suc Q) nn r cells (es q) q (storeBy q)
   unfolding ownsb
   done-of r es f h zero a c = absurd (omega arith)
@@ -169,8 +173,12 @@ module _ (ps : List ℤ) (ts ss : List ℕ) (Q : ℕ) (os b : List ℕ) (e : spl
         suc (owner i .0),
         omega arith,
         omega arith,
-        columns p .owner i (0, coarse-member p i h, or-first (isPart (parts (suc Q)) (owner i) (owner i))
-            (isPart (parts (suc Q)) (J ps ts ss Q os b e .family i) (owner i)) (rw (is-self (parts (suc Q)) (owner i)) tt)),
+        columns p .owner i (
+          0,
+          coarse-member p i h,
+          or-first (isPart (parts (suc Q)) (owner i) (owner i))
+              (isPart (parts (suc Q)) (J ps ts ss Q os b e .family i) (owner i)) (rw (is-self (parts (suc Q)) (owner i)) tt),
+        ),
       )
 
   -- the stores one behind the other, in the order l
@@ -198,7 +206,7 @@ module _ (ps : List ℤ) (ts ss : List ℕ) (Q : ℕ) (os b : List ℕ) (e : spl
     abbrev lim : (length (stepTable nn cells ss marks) ≤ 11) × (length (newTable nn cells ss marks) ≤ 4096)
     lim = limits ps ts ss Q os b e cs lawful done yes
 
-    pub new-sound : T (soundb nn cells (newTable nn cells ss marks))
+    new-sound : T (soundb nn cells (newTable nn cells ss marks))
     new-sound = step-sound nn cells ss marks (gg .four) (gg .mesh) (gg .sound) (lim .0) (lim .1)
 
     abbrev shares : ℕ → List Entry
@@ -224,8 +232,10 @@ module _ (ps : List ℤ) (ts ss : List ℕ) (Q : ℕ) (os b : List ℕ) (e : spl
   -- THE OLD TABLE, beside 8 or 9
   module _ (k : ℕ) (f : markedAnswer ps ts ss marks ≡ Refused (suc k)) where
     pub merges-old : (l : List ℕ) → Order (suc Q) l → (rest : List ℕ) → 16 * full ≤ length (laidOut l rest) → (t : List ℕ) → 4096 ≤ length t
-        → (mergedOf (mergeAnswer (laidOut l rest) t) (length (mergeTable (storesIn (laidOut l rest)) (field (laidOut l rest) COARSE))) ≡ answer.Cells (length ss))
-        × (heldAfter (mergeAnswer (laidOut l rest) t) (mergeTable (storesIn (laidOut l rest)) (field (laidOut l rest) COARSE)) t ≡ ss ++ drop (length ss) t)
+        → (mergedOf (mergeAnswer (laidOut l rest) t) (length (mergeTable (storesIn (laidOut l rest)) (field (laidOut l rest) COARSE)))
+        ≡ answer.Cells (length ss))
+        × (heldAfter (mergeAnswer (laidOut l rest) t) (mergeTable (storesIn (laidOut l rest)) (field (laidOut l rest) COARSE)) t
+        ≡ ss ++ drop (length ss) t)
     unfolding codeOf
     merges-old l o rest long =
         joined (laidOut l rest) (suc Q) nn (suc k) cells ss (entriesOf nn cells ss os) storeBy l

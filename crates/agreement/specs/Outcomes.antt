@@ -1,6 +1,6 @@
 -- What all parts of a split come to when they are done.
--- Laws: serial-is (the serial step's answer from the limits), result-is (each part ended with its number), held-new (what a part holds where
--- the step is accepted), held-old (where it is not).
+-- Laws: serial-is (the serial step's answer from the limits), result-is (each part ended with its number), held-new (what a part holds
+-- where the step is accepted), held-old (where it is not).
 use mathlib.Core.Path.{_≡_, refl, sym, _∙_, ap, ap₂, subst}
 use mathlib.Core.Logic.{_⊎_, inl, inr, _≢_}
 use mathlib.Core.Bool.{Bool, true, false, _&&_, not}
@@ -76,7 +76,8 @@ result-code t h = go (leb 11 h) (leb t 4096)
 flat-agree : (f h : ℕ → List Entry) (m a : ℕ) → ((c : ℕ) → a ≤ c → c < a + m → f c ≡ h c) → flatMap f (range a m) ≡ flatMap h (range a m)
 unfolding range flatMap
 flat-agree f h zero a e = refl
-flat-agree f h (suc m) a e = ap₂ _++_ (e a (omega arith) (omega arith)) (flat-agree f h m (suc a) (λ c i j. e c (omega arith) (omega arith)))
+flat-agree f h (suc m) a e =
+    ap₂ _++_ (e a (omega arith) (omega arith)) (flat-agree f h m (suc a) (λ c i j. e c (omega arith) (omega arith)))
 
 -- a part's old masters and ghosts are those of the table
 module _ (Q n : ℕ) (qs : List (List ℕ)) (ss os : List ℕ) (g : Splits Q n qs ss os) (p : Fin (suc Q)) where
@@ -96,13 +97,14 @@ module _ (Q n : ℕ) (qs : List (List ℕ)) (ss os : List ℕ) (g : Splits Q n q
       go false i true j x y = rw (x ∙ i, y ∙ j, oldEntry, i, entryOf, ghostb, i, j)
       go false i false j x y = rw (x ∙ i, y ∙ j, oldEntry, i, entryOf, ghostb, i, j)
 
-  pub olds-are : olds (suc Q) (splitTask Q n qs ss os) p (length ss) ≡ entriesOf n qs ss os (suc (p .0))
+  olds-are : olds (suc Q) (splitTask Q n qs ss os) p (length ss) ≡ entriesOf n qs ss os (suc (p .0))
   unfolding olds entriesOf
   olds-are = go (length ss) 0 (omega arith)
     where
       go : (m a : ℕ) → a + m ≤ length ss
           → flatMap (oldEntry (suc Q) (splitTask Q n qs ss os) p) (range a m) ≡ flatMap (entryOf n qs ss os (suc (p .0))) (range a m)
-      go m a h = flat-agree (oldEntry (suc Q) (splitTask Q n qs ss os) p) (entryOf n qs ss os (suc (p .0))) m a (λ c i j. old-is c (omega arith))
+      go m a h =
+          flat-agree (oldEntry (suc Q) (splitTask Q n qs ss os) p) (entryOf n qs ss os (suc (p .0))) m a (λ c i j. old-is c (omega arith))
 
 module _ (ps : List ℤ) (ts ss : List ℕ) (Q : ℕ) (os b : List ℕ) (e : splitAnswer ps ts ss (suc Q) os b ≡ Accepted) (cs : Calls)
     (lawful : Lawful act cs (world ps ts ss Q os b e))
@@ -130,7 +132,8 @@ module _ (ps : List ℤ) (ts ss : List ℕ) (Q : ℕ) (os b : List ℕ) (e : spl
   pub starts : (p : Fin (suc Q)) (c : ℕ) → nthPart Q (getD os c 0) ≡ p → reads Q nn cells ss os gg p (input p) c ≡ getD ms c 0
   unfolding serialMarks marksFrom
   starts p c h =
-      ap (λ (l : List ℕ). elim (ltb c (length os) && masterb os (numberOf p) c) [ true ↦ getD l (placeOn os c) 0 | false ↦ 0 ]) (sym (given-is p))
+      ap (λ (l : List ℕ). elim (ltb c (length os) && masterb os (numberOf p) c) [ true ↦ getD l (placeOn os c) 0 | false ↦ 0 ])
+      (sym (given-is p))
       ∙ starts-together os (marksGiven os cs (world ps ts ss Q os b e)) Q nn cells ss (gg .owners) p c h
 
   -- what each part knows after the rounds
@@ -140,12 +143,16 @@ module _ (ps : List ℤ) (ts ss : List ℕ) (Q : ℕ) (os b : List ℕ) (e : spl
 
   pub known : (p : Fin (suc Q)) → Known (parts (suc Q)) (J ps ts ss Q os b e) (λ c. getD ms c 0) (suc (J ps ts ss Q os b e .top)) p (last p)
   known p =
-      enough-last (suc Q) (J ps ts ss Q os b e) (grownOf (parts (suc Q)) (J ps ts ss Q os b e)) (grown-plain (parts (suc Q)) (J ps ts ss Q os b e))
-      (ups (suc Q)) (pack (suc Q) (J ps ts ss Q os b e)) (reads Q nn cells ss os gg) input p (fit Q nn cells ss os gg) (λ c. getD ms c 0) starts
+      enough-last (suc Q) (J ps ts ss Q os b e) (grownOf (parts (suc Q)) (J ps ts ss Q os b e))
+      (grown-plain (parts (suc Q)) (J ps ts ss Q os b e))
+      (ups (suc Q)) (pack (suc Q) (J ps ts ss Q os b e)) (reads Q nn cells ss os gg) input p (fit Q nn cells ss os gg) (λ c. getD ms c 0)
+      starts
 
   -- the split table after the rounds
   abbrev pub X : Settled (parts (suc Q))
-  X = settle (parts (suc Q)) nn cells ss ms (gg .four) (gg .mesh) (gg .sound) (suc Q) os (gg .owners) (slotOf nn cells ss) (slotsOn nn cells ss)
+  X =
+      settle (parts (suc Q)) nn cells ss ms (gg .four) (gg .mesh) (gg .sound) (suc Q) os (gg .owners) (slotOf nn cells ss)
+      (slotsOn nn cells ss)
       (split-slots Q nn cells ss os gg) (nthPart Q) numberOf (named Q) last known
 
   -- THE SERIAL ANSWER
@@ -156,7 +163,8 @@ module _ (ps : List ℤ) (ts ss : List ℕ) (Q : ℕ) (os b : List ℕ) (e : spl
   unfolding serialMarks
   marks-fit =
       marks-each ss ms
-      ∙ is-true (eachb markb ss ms) (together-fits markb nn cells ss (suc Q) os (marksGiven os cs (world ps ts ss Q os b e)) (gg .owners) each-fits)
+      ∙ is-true (eachb markb ss ms) (together-fits markb nn cells ss (suc Q) os (marksGiven os cs (world ps ts ss Q os b e)) (gg .owners)
+      each-fits)
     where
       each-fits : (q : ℕ) → 1 ≤ q → q ≤ suc Q → T (startb markb ss os q (marksGiven os cs (world ps ts ss Q os b e) q))
       each-fits zero a c = absurd (omega arith)
@@ -168,7 +176,7 @@ module _ (ps : List ℤ) (ts ss : List ℕ) (Q : ℕ) (os b : List ℕ) (e : spl
   unfolding markedAnswer andThen refuse
   serial-is = rw (table-accepted, marks-fit, markedAnswer)
 
-  pub ended-is : (p : Fin (suc Q)) → endOf (last p .total) (last p .high) ≡ markedAnswer ps ts ss ms
+  ended-is : (p : Fin (suc Q)) → endOf (last p .total) (last p .high) ≡ markedAnswer ps ts ss ms
   unfolding limitsAnswer
   ended-is p =
       run-answer Q nn cells ss ms (gg .four) (gg .mesh) (gg .sound) os (gg .owners) (slotOf nn cells ss) (slotsOn nn cells ss)
@@ -179,7 +187,8 @@ module _ (ps : List ℤ) (ts ss : List ℕ) (Q : ℕ) (os b : List ℕ) (e : spl
   abbrev x : Fin (suc Q) → List ℕ
   x = storeOf ps ts ss Q os b e cs
 
-  pub end-stands : (p : Fin (suc Q)) → Standing (suc Q) (J ps ts ss Q os b e) p (ending ps ts ss Q os b e cs lawful p (at-end ps ts ss Q os b e cs lawful p (done p) .0)) (x p)
+  pub end-stands : (p : Fin (suc Q)) → Standing (suc Q) (J ps ts ss Q os b e) p
+      (ending ps ts ss Q os b e cs lawful p (at-end ps ts ss Q os b e cs lawful p (done p) .0)) (x p)
   end-stands p = at-end ps ts ss Q os b e cs lawful p (done p) .1
 
   pub split-stays : (p : Fin (suc Q)) → Stay (splitStore ps ts ss Q os b e p) (x p)
@@ -189,7 +198,8 @@ module _ (ps : List ℤ) (ts ss : List ℕ) (Q : ℕ) (os b : List ℕ) (e : spl
       × ((field (x p) RESULT ≡ 0 → heldIn (x p) ≡ take 4096 (entries (parts (suc Q)) (J ps ts ss Q os b e) p (last p)))
       × (field (x p) RESULT ≢ 0 → heldIn (x p) ≡ olds (suc Q) (J ps ts ss Q os b e) p (field (x p) CELLS)))
   unfolding Holding
-  holds p = subst (λ f. Holding (suc Q) (J ps ts ss Q os b e) p f (last p) (x p)) (phase-over (J ps ts ss Q os b e .top)) (end-stands p .holding)
+  holds p =
+      subst (λ f. Holding (suc Q) (J ps ts ss Q os b e) p f (last p) (x p)) (phase-over (J ps ts ss Q os b e .top)) (end-stands p .holding)
 
   -- EACH PART ENDED WITH THE SERIAL STEP'S NUMBER
   pub result-is : (p : Fin (suc Q)) → field (x p) RESULT ≡ codeOf (markedAnswer ps ts ss ms)
@@ -200,8 +210,8 @@ module _ (ps : List ℤ) (ts ss : List ℕ) (Q : ℕ) (os b : List ℕ) (e : spl
     unfolding limitsAnswer
     limits =
         let t : limitsAnswer nn cells ss ms ≡ Accepted = sym serial-is ∙ yes in
-        let (a, r) = passed 8 (leb (length (stepTable nn cells ss ms)) 11) (refuse 9 (leb (length (newTable nn cells ss ms)) 4096) Accepted) t in
-        (
+        let (a, r) =
+        passed 8 (leb (length (stepTable nn cells ss ms)) 11) (refuse 9 (leb (length (newTable nn cells ss ms)) 4096) Accepted) t in (
           leb→le (length (stepTable nn cells ss ms)) 11 a,
           leb→le (length (newTable nn cells ss ms)) 4096 (passed 9 (leb (length (newTable nn cells ss ms)) 4096) Accepted r .0),
         )
@@ -210,12 +220,13 @@ module _ (ps : List ℤ) (ts ss : List ℕ) (Q : ℕ) (os b : List ℕ) (e : spl
     unfolding codeOf
     held-new p =
         let z : field (x p) RESULT ≡ 0 = result-is p ∙ ap codeOf yes in
-        let few : length (entriesIn X p) ≤ length (newTable nn cells ss ms) = 
-            share-few (parts (suc Q)) nn cells ss ms (gg .four) (gg .mesh) (gg .sound) (suc Q) os (gg .owners) (slotOf nn cells ss)
-            (slotsOn nn cells ss) (split-slots Q nn cells ss os gg) (nthPart Q) numberOf (named Q) last known (limits .0) (limits .1) p in
+        let few : length (entriesIn X p) ≤ length (newTable nn cells ss ms) =
+        share-few (parts (suc Q)) nn cells ss ms (gg .four) (gg .mesh) (gg .sound) (suc Q) os (gg .owners) (slotOf nn cells ss)
+        (slotsOn nn cells ss) (split-slots Q nn cells ss os gg) (nthPart Q) numberOf (named Q) last known (limits .0) (limits .1) p in
         holds p .1 .0 z ∙ take-all 4096 (entriesIn X p) (omega (arith, few, limits .1))
 
-  pub held-old : (k : ℕ) → markedAnswer ps ts ss ms ≡ Refused (suc k) → (p : Fin (suc Q)) → heldIn (x p) ≡ entriesOf nn cells ss os (suc (p .0))
+  pub held-old : (k : ℕ) → markedAnswer ps ts ss ms ≡ Refused (suc k) → (p : Fin (suc Q))
+      → heldIn (x p) ≡ entriesOf nn cells ss os (suc (p .0))
   unfolding codeOf
   held-old k f p =
       let z : field (x p) RESULT ≢ 0 = (λ y. absurd (omega (arith, y, result-is p ∙ ap codeOf f))) in

@@ -1,8 +1,8 @@
 -- Case B (section 14 of the method) on two parts, cell 0 with part 1 and its family with part 2: the rounds in lockstep, computed.
 --   B           the split table as a task
 --   after ms p  what the part p knows after the last round, where the marks are ms; share what it then holds; mail what it wrote
--- Laws: emptied and kept (all eight marked 2 leave part 2 empty, and the coarse cell a leaf), refined and divided (cell 1 marked 1 gives the
--- masters of case C, and the coarse cell's ghost beside its family), told (the bytes that part 2 then writes for part 1).
+-- Laws: emptied and kept (all eight marked 2 leave part 2 empty, and the coarse cell a leaf), refined and divided (cell 1 marked 1 gives
+-- the masters of case C, and the coarse cell's ghost beside its family), told (the bytes that part 2 then writes for part 1).
 use mathlib.Core.Path.{_≡_, refl}
 use mathlib.Core.Bool.{Bool, true, false}
 use mathlib.Core.List.{List, [], _∷_, _++_, map}
@@ -33,8 +33,8 @@ pt (suc n) = (1, omega arith)
 
 slotsOfB : List ℕ
 slotsOfB =
-    0 ∷ 1 ∷ 2 ∷ 3 ∷ 4 ∷ 5 ∷ 6 ∷ 7 ∷ 8 ∷ 9 ∷ 10 ∷ 11 ∷ 9 ∷ 10 ∷ 12 ∷ 11 ∷ 13 ∷ 14 ∷ 9 ∷ 15 ∷ 12 ∷ 16 ∷ 13 ∷ 17 ∷ 18 ∷ 15 ∷ 12 ∷ 19 ∷ 20 ∷ 17 ∷
-    11 ∷ 13 ∷ 21 ∷ 14 ∷ 22 ∷ 23 ∷ 16 ∷ 13 ∷ 21 ∷ 17 ∷ 24 ∷ 23 ∷ 16 ∷ 25 ∷ 21 ∷ 26 ∷ 24 ∷ 27 ∷ 14 ∷ 22 ∷ 28 ∷ 23 ∷ 29 ∷ 30 ∷ []
+    0 ∷ 1 ∷ 2 ∷ 3 ∷ 4 ∷ 5 ∷ 6 ∷ 7 ∷ 8 ∷ 9 ∷ 10 ∷ 11 ∷ 9 ∷ 10 ∷ 12 ∷ 11 ∷ 13 ∷ 14 ∷ 9 ∷ 15 ∷ 12 ∷ 16 ∷ 13 ∷ 17 ∷ 18 ∷ 15 ∷ 12 ∷ 19 ∷
+    20 ∷ 17 ∷ 11 ∷ 13 ∷ 21 ∷ 14 ∷ 22 ∷ 23 ∷ 16 ∷ 13 ∷ 21 ∷ 17 ∷ 24 ∷ 23 ∷ 16 ∷ 25 ∷ 21 ∷ 26 ∷ 24 ∷ 27 ∷ 14 ∷ 22 ∷ 28 ∷ 23 ∷ 29 ∷ 30 ∷ []
 
 pathsOfB : List (List ℕ)
 pathsOfB = (0 ∷ []) ∷ map (λ i. 0 ∷ i ∷ []) (range 0 8)
@@ -108,5 +108,6 @@ told : mail first (pt 1) ≡
     ∷ (3 ∷ 2 ∷ 1 ∷ 5 ∷ 0 ∷ 24 ∷ 0 ∷ 2 ∷ [])
     ∷ (4 ∷ 2 ∷ 1 ∷ 6 ∷ 0 ∷ [])
     ∷ []
-unfolding first mail B pt slotsOfB pathsOfB family fins Fin-discrete taking phase starting writing grownOf orderOf upFrom packed parcel mailCount lock pick
+unfolding first mail B pt slotsOfB pathsOfB family fins Fin-discrete taking phase starting writing grownOf orderOf upFrom packed parcel
+    mailCount lock pick
 told = refl

@@ -40,28 +40,35 @@ unfoldable pub storesOf : ℕ → List ℕ → List (List ℕ)
 unfolding range
 storesOf P b = map (storeAt b) (range 0 P)
 
+-- Rule 15.17.
 abbrev pub afterSplit : ℕ → List ℕ → Stores
 afterSplit P b = record { stores = storesOf P b; given = [] }
 
+-- Rule 15.6.
 unfoldable pub marksGiven : List ℕ → Calls → Stores → ℕ → List ℕ
 unfolding startedWith act mastersOn
 marksGiven os cs w p = Option·elim (startedWith act cs w (pred p)) (replicate (length (mastersOn os p)) 0) (λ ms. ms)
 
+-- Rule 15.6.
 unfoldable pub serialMarks : List ℕ → Calls → Stores → List ℕ
 unfolding putTogether marksGiven
 serialMarks os cs w = putTogether os (marksGiven os cs w)
 
+-- Rule 15.17.
 abbrev pub lastStore : Calls → Stores → ℕ → List ℕ
 lastStore cs w p = getD (play act cs w .stores) (pred p) []
 
+-- Rule 15.18.
 unfoldable pub alldoneb : Stores → Bool
 unfolding allb
 alldoneb w = allb (λ x. eqb (field x STAGE) 2) (w .stores)
 
+-- Rule 15.10.
 abbrev pub resultIn : List ℕ → ℕ
 resultIn x = field x RESULT
 
--- the rounds of a split over Q + 1 parts, and the messages of the part p, from 0, in the first r of them; part p starts with given p
+-- Rule 15.8: the rounds of a split over Q + 1 parts, and the messages of the part p, from 0, in the first r of them; part p starts with
+-- given p
 abbrev pub messagesOf : (Q n : ℕ) → List (List ℕ) → List ℕ → List ℕ → (Fin (suc Q) → List ℕ) → ℕ → Fin (suc Q) → List (List ℕ)
 messagesOf Q n qs ss os given r p =
     post (parts (suc Q)) (protocol (parts (suc Q)) (splitTask Q n qs ss os) (grownOf (parts (suc Q)) (splitTask Q n qs ss os)) (ups (suc Q))

@@ -130,7 +130,8 @@ pub record Split3 (ps : List ℤ) (ts ss : List ℕ) (P : ℕ) (os : List ℕ) (
 -- every accepted split, and every lawful list of calls on its stores, refused ones included
 abbrev pub Demand3 : Type 0
 Demand3 = (ps : List ℤ) (ts ss : List ℕ) (P : ℕ) (os b : List ℕ) → splitAnswer ps ts ss P os b ≡ Accepted
-    → (cs : Calls) → Lawful act cs (afterSplit P (splitAfter ps ts ss P os b)) → Split3 ps ts ss P os (afterSplit P (splitAfter ps ts ss P os b)) cs
+    → (cs : Calls) → Lawful act cs (afterSplit P (splitAfter ps ts ss P os b))
+    → Split3 ps ts ss P os (afterSplit P (splitAfter ps ts ss P os b)) cs
 
 -- THE PROOF
 no-parts : (ps : List ℤ) (ts ss os b : List ℕ) → splitAnswer ps ts ss 0 os b ≡ Accepted → ⊥
@@ -142,7 +143,8 @@ no-parts ps ts ss os b e =
     passed 10 (leb 1 0 && leb 0 16) eleven d .0
 
 -- a ghost by its owners
-ghost-is : (n : ℕ) (qs : List (List ℕ)) (ts os : List ℕ) (p d : ℕ) → (T (ghostb n qs ts os p d) → (familyOf n qs ts os d ≡ p) × (getD os d 0 ≢ p))
+ghost-is : (n : ℕ) (qs : List (List ℕ)) (ts os : List ℕ) (p d : ℕ)
+    → (T (ghostb n qs ts os p d) → (familyOf n qs ts os d ≡ p) × (getD os d 0 ≢ p))
     × (familyOf n qs ts os d ≡ p → getD os d 0 ≢ p → T (ghostb n qs ts os p d))
 unfolding ghostb masterb
 ghost-is n qs ts os p d = (
@@ -197,11 +199,17 @@ module _ (ps : List ℤ) (ts ss : List ℕ) (Q : ℕ) (os b : List ℕ) (e : spl
           ended = λ q a c. result-by q a c ok;
           held = λ q a c. held-by q a c ok;
           merges = λ l o rest long. merges-new ps ts ss Q os b e cs lawful done ok l o rest long;
-          owners = owners-after (parts (suc Q)) n qs ss marks (g .four) (g .mesh) (g .sound) (suc Q) os (g .owners) (slotOf n qs ss) (slotsOn n qs ss)
+          owners =
+              owners-after (parts (suc Q)) n qs ss marks (g .four) (g .mesh) (g .sound) (suc Q) os (g .owners) (slotOf n qs ss)
+              (slotsOn n qs ss)
               (split-slots Q n qs ss os g) (nthPart Q) numberOf (named Q) st kn (lim .0) (lim .1);
-          coarse = coarse-owner (parts (suc Q)) n qs ss marks (g .four) (g .mesh) (g .sound) (suc Q) os (g .owners) (slotOf n qs ss) (slotsOn n qs ss)
+          coarse =
+              coarse-owner (parts (suc Q)) n qs ss marks (g .four) (g .mesh) (g .sound) (suc Q) os (g .owners) (slotOf n qs ss)
+              (slotsOn n qs ss)
               (split-slots Q n qs ss os g) (nthPart Q) numberOf (named Q) st kn (lim .0) (lim .1);
-          family = family-same (parts (suc Q)) n qs ss marks (g .four) (g .mesh) (g .sound) (suc Q) os (g .owners) (slotOf n qs ss) (slotsOn n qs ss)
+          family =
+              family-same (parts (suc Q)) n qs ss marks (g .four) (g .mesh) (g .sound) (suc Q) os (g .owners) (slotOf n qs ss)
+              (slotsOn n qs ss)
               (split-slots Q n qs ss os g) (nthPart Q) numberOf (named Q) st kn (lim .0) (lim .1);
           first-family = family-new (parts (suc Q)) n qs ss marks (g .four) (g .mesh) (g .sound) (suc Q) os (g .owners) (slotOf n qs ss)
               (slotsOn n qs ss) (split-slots Q n qs ss os g) (nthPart Q) numberOf (named Q) st kn (lim .0) (lim .1);
@@ -217,18 +225,21 @@ module _ (ps : List ℤ) (ts ss : List ℕ) (Q : ℕ) (os b : List ℕ) (e : spl
         result-by (suc j) a c ok = result-is ps ts ss Q os b e cs lawful done (j, omega arith) ∙ ap codeOf ok
 
         held-by : (q : ℕ) → 1 ≤ q → q ≤ suc Q → markedAnswer ps ts ss marks ≡ Accepted
-            → JustThese (heldIn (lastStore cs w q)) (entriesOf n qs (newTable n qs ss marks) (ownersAfter n qs ss os (newTable n qs ss marks)) q)
+            → JustThese (heldIn (lastStore cs w q)) (entriesOf n qs (newTable n qs ss marks)
+            (ownersAfter n qs ss os (newTable n qs ss marks)) q)
         held-by zero a c ok = absurd (omega arith)
         held-by (suc j) a c ok =
             let p : Fin (suc Q) = (j, omega arith) in
             let lim = limits ps ts ss Q os b e cs lawful done ok in
             let st = X ps ts ss Q os b e cs lawful done .state in
             let kn = known ps ts ss Q os b e cs lawful done in
-            let just = just-held (parts (suc Q)) n qs ss marks (g .four) (g .mesh) (g .sound) (suc Q) os (g .owners) (slotOf n qs ss) (slotsOn n qs ss)
+            let just =
+            just-held (parts (suc Q)) n qs ss marks (g .four) (g .mesh) (g .sound) (suc Q) os (g .owners) (slotOf n qs ss) (slotsOn n qs ss)
             (split-slots Q n qs ss os g) (nthPart Q) numberOf (named Q) st kn (lim .0) (lim .1) p in
             let once = held-each-once (parts (suc Q)) n qs ss marks (g .four) (g .mesh) (g .sound) (suc Q) os (g .owners) (slotOf n qs ss)
             (slotsOn n qs ss) (split-slots Q n qs ss os g) (nthPart Q) numberOf (named Q) st kn p in
-            subst (λ (es : List Entry). JustThese es (entriesOf n qs (newTable n qs ss marks) (ownersAfter n qs ss os (newTable n qs ss marks)) (suc j)))
+            subst (λ (es : List Entry). JustThese es
+            (entriesOf n qs (newTable n qs ss marks) (ownersAfter n qs ss os (newTable n qs ss marks)) (suc j)))
             (sym (held-new ps ts ss Q os b e cs lawful done ok p))
             (record { these = λ f. just f .0; all = λ f. just f .1; once = once })
 
@@ -240,7 +251,8 @@ module _ (ps : List ℤ) (ts ss : List ℕ) (Q : ℕ) (os b : List ℕ) (e : spl
         ended k zero a c f = absurd (omega arith)
         ended k (suc j) a c f = result-is ps ts ss Q os b e cs lawful done (j, omega arith) ∙ ap codeOf f
 
-        held : (k q : ℕ) → 1 ≤ q → q ≤ suc Q → markedAnswer ps ts ss marks ≡ Refused (suc k) → heldIn (lastStore cs w q) ≡ entriesOf n qs ss os q
+        held : (k q : ℕ) → 1 ≤ q → q ≤ suc Q → markedAnswer ps ts ss marks ≡ Refused (suc k)
+            → heldIn (lastStore cs w q) ≡ entriesOf n qs ss os q
         held k zero a c f = absurd (omega arith)
         held k (suc j) a c f = held-old ps ts ss Q os b e cs lawful done k f (j, omega arith)
 

@@ -1,6 +1,6 @@
 -- The start of a part.
--- Laws: marked-else, marked-at (what setting the marks changes), start-fine (which starts are accepted), begins and begins-stay (where an accepted
--- start leads).
+-- Laws: marked-else, marked-at (what setting the marks changes), start-fine (which starts are accepted), begins and begins-stay (where an
+-- accepted start leads).
 use mathlib.Core.Path.{_≡_, refl, sym, _∙_, ap, ap₂, subst}
 use mathlib.Core.Logic.{_⊎_, inl, inr, _≢_}
 use mathlib.Core.Bool.{Bool, true, false, _&&_, _||_, not}
@@ -31,7 +31,8 @@ use Rattle.store.specs.declared.Spot.{Spot}
 use Rattle.standing.specs.Walk.{queueOf, leftOf, givenAfter, givenTo, stream, spotsFrom}
 use Rattle.standing.specs.Busy.{L, Busy, HoldsCell, HoldsSlot}
 use Rattle.turns.specs.Decide.{hitb}
-use Rattle.turns.specs.Start.{ownb, markOk, markAt, nextMark, marksDue, markSet, markedFrom, enterMarks, startAnswer, startedStore, startedIn, startAfter}
+use Rattle.turns.specs.Start.{ownb, markOk, markAt, nextMark, marksDue, markSet, markedFrom, enterMarks, startAnswer, startedStore}
+use Rattle.turns.specs.Start.{startedIn, startAfter}
 use Rattle.entering.specs.Columns.{Columns, MarksIn, countBefore}
 use Rattle.entering.specs.Fits.{Fitted}
 use Rattle.entering.specs.Within.{member-low, slot-low}
@@ -66,17 +67,19 @@ mark-few x ms c j h t =
     let e : markAt x ms c j ≡ (ltb j (length ms) && markOk x c (getD ms j 0)) = rw (h, markAt) in
     ltb→lt j (length ms) (and-left (ltb j (length ms)) (markOk x c (getD ms j 0)) (rw e at t))
 
-set-own : (x ms : List ℕ) (c j : ℕ) → ownb x c ≡ true → j < length ms → MARK + c < length x → field (markSet x ms c j) (MARK + c) ≡ getD ms j 0
+set-own : (x ms : List ℕ) (c j : ℕ) → ownb x c ≡ true → j < length ms → MARK + c < length x
+    → field (markSet x ms c j) (MARK + c) ≡ getD ms j 0
 unfolding markSet
 set-own x ms c j h k l = rw (h, lt-ltb j (length ms) k, markSet) (getD-set-same x (MARK + c) (getD ms j 0) 0 l)
 
 -- all marks
-pub marked-size : (ms : List ℕ) (n c j : ℕ) (x : List ℕ) → length (markedFrom x ms n c j) ≡ length x
+marked-size : (ms : List ℕ) (n c j : ℕ) (x : List ℕ) → length (markedFrom x ms n c j) ≡ length x
 unfolding markedFrom
 marked-size ms zero c j x = refl
 marked-size ms (suc n) c j x = marked-size ms n (suc c) (nextMark x c j) (markSet x ms c j) ∙ set-size x ms c j
 
-pub marked-else : (ms : List ℕ) (n c j : ℕ) (x : List ℕ) (i : ℕ) → (i < MARK + c) ⊎ (MARK + (c + n) ≤ i) → field (markedFrom x ms n c j) i ≡ field x i
+marked-else : (ms : List ℕ) (n c j : ℕ) (x : List ℕ) (i : ℕ) → (i < MARK + c) ⊎ (MARK + (c + n) ≤ i)
+    → field (markedFrom x ms n c j) i ≡ field x i
 unfolding markedFrom
 marked-else ms zero c j x i h = refl
 marked-else ms (suc n) c j x i h = marked-else ms n (suc c) (nextMark x c j) (markSet x ms c j) i (on h) ∙ set-else x ms c j i (not-here h)
@@ -106,7 +109,7 @@ module _ (x₀ ms : List ℕ) where
   unfolding nextMark
   next-same x c j o = ap (λ (b : Bool). elim b [ true ↦ suc j | false ↦ j ]) o
 
-  pub marked-at : (n c j : ℕ) (x : List ℕ) → c + n ≤ 4096 → full ≤ length x → ((i : ℕ) → i < MARK → field x i ≡ field x₀ i)
+  marked-at : (n c j : ℕ) (x : List ℕ) → c + n ≤ 4096 → full ≤ length x → ((i : ℕ) → i < MARK → field x i ≡ field x₀ i)
       → j ≡ countBefore x₀ c → marksDue x₀ ms n c j ≡ true → (d : ℕ) → c ≤ d → d < c + n → ownb x₀ d ≡ true
       → field (markedFrom x ms n c j) (MARK + d) ≡ getD ms (countBefore x₀ d) 0
   unfolding markedFrom marksDue
@@ -117,7 +120,8 @@ module _ (x₀ ms : List ℕ) where
       let rest = and-right (markAt x₀ ms c j) (marksDue x₀ ms n (suc c) (nextMark x₀ c j)) t in
       go (ℕ-discrete d c) first (marked-at n (suc c) (nextMark x c j) (markSet x ms c j) (omega arith) (omega (arith, set-size x ms c j))
       (λ i h. set-else x ms c j i (λ z. absurd (omega (arith, z))) ∙ same i h) (before-on c j e x (own-same x same c (omega arith)))
-      (ap (marksDue x₀ ms n (suc c)) (next-same x c j (own-same x same c (omega arith))) ∙ is-true (marksDue x₀ ms n (suc c) (nextMark x₀ c j)) rest) d)
+      (ap (marksDue x₀ ms n (suc c)) (next-same x c j (own-same x same c (omega arith)))
+      ∙ is-true (marksDue x₀ ms n (suc c) (nextMark x₀ c j)) rest) d)
     where
       go : Dec (d ≡ c) → T (markAt x₀ ms c j) → (suc c ≤ d → d < suc c + n → ownb x₀ d ≡ true
           → field (markedFrom (markSet x ms c j) ms n (suc c) (nextMark x c j)) (MARK + d) ≡ getD ms (countBefore x₀ d) 0)
@@ -187,7 +191,7 @@ module _ (x ms : List ℕ) (long : full ≤ length x) (head : headerb x ≡ true
           let z : startAnswer x ms ≡ Refused 7 = accepted ∙ rw f in
           refused-not (sym z ∙ e)
 
-  pub start-after : startAnswer x ms ≡ Accepted → startAfter x ms ≡ startedStore x ms
+  start-after : startAnswer x ms ≡ Accepted → startAfter x ms ≡ startedStore x ms
   unfolding startAfter startedIn
   start-after e = ap (λ (a : Answer). startedIn a x ms) e
 
@@ -240,7 +244,8 @@ module _ (P : ℕ) (J : Task (Fin P)) (fit : Fit J) (reads : Fin P → List ℕ 
       let own : ownb x c ≡ true = ap₂ eqb (co .owner c h) (co .part) ∙ part-same P (J .owner c) p o in
       let low : c < field x CELLS = member-low P J p x co (h .0) c (h .1) in
       getD-set-other m STAGE (MARK + c) 1 0 (λ e. absurd (omega (arith, e)))
-      ∙ marked-at x ms (field x CELLS) 0 0 x (omega (arith, co .cells-few)) (co .long) (λ i l. refl) first due c (omega arith) (omega arith) own
+      ∙ marked-at x ms (field x CELLS) 0 0 x (omega (arith, co .cells-few)) (co .long) (λ i l. refl) first due c (omega arith) (omega arith)
+      own
       ∙ ap (λ (v : ℕ). getD ms v 0) (idle .places c h o) ∙ sym (read c h o)
     where
       first : 0 ≡ countBefore x 0
@@ -270,9 +275,6 @@ module _ (P : ℕ) (J : Task (Fin P)) (fit : Fit J) (reads : Fin P → List ℕ 
       empty-queue x0 (below WRITTEN (omega arith) (omega arith) ∙ idle .written) (below CURSOR (omega arith) (omega arith) ∙ idle .cursor)
       (λ q h. below (GIVEN + q) (omega arith) (omega arith) ∙ idle .no-counts (GIVEN + q) (omega arith) (omega arith))
 
-  count-zero : entryCount x0 ≡ 0
-  count-zero = no-entries x0 (below WRITTEN (omega arith) (omega arith) ∙ idle .written)
-
   busy0 : Busy P J p l0 x0
   unfolding overb sizedb redTold sumTold endedb one-if s0
   busy0 = record {
@@ -287,10 +289,12 @@ module _ (P : ℕ) (J : Task (Fin P)) (fit : Fit J) (reads : Fin P → List ℕ 
     round = below ROUND (omega arith) (omega arith) ∙ no-round .0;
     taken = λ q.
         let h : q .0 < P = q .1 in
-        below (64 + q .0) (omega arith) (omega (arith, co .parts-few)) ∙ idle .no-counts (64 + q .0) (omega arith) (omega (arith, co .parts-few));
+        below (64 + q .0) (omega arith) (omega (arith, co .parts-few))
+        ∙ idle .no-counts (64 + q .0) (omega arith) (omega (arith, co .parts-few));
     ends = λ q i o.
         let h : q .0 < P = q .1 in
-        below (80 + q .0) (omega arith) (omega (arith, co .parts-few)) ∙ idle .no-counts (80 + q .0) (omega arith) (omega (arith, co .parts-few));
+        below (80 + q .0) (omega arith) (omega (arith, co .parts-few))
+        ∙ idle .no-counts (80 + q .0) (omega arith) (omega (arith, co .parts-few));
     queue = nothing .0;
     sent = λ q. let h : q .0 < P = q .1 in nothing .1 (q .0) (omega (arith, co .parts-few));
     cursor =
@@ -381,7 +385,10 @@ module _ (P : ℕ) (J : Task (Fin P)) (fit : Fit J) (reads : Fin P → List ℕ 
 
   pub begins : (startAnswer x ms ≡ Accepted) × Standing P J p (atStart (parts P) (Q P J reads p) p ms) (startAfter x ms)
   unfolding starting
-  begins = (yes, subst (Standing P J p (atStart (parts P) (Q P J reads p) p ms)) (sym after-is)
-      (enter-marks P J fit reads p l0 x0 busy0 co0 (reads p ms) marked (λ i. false) hits (λ c. false) no-flags 0 (omega arith) 0 here
-      (omega arith) (starting (parts P) J p (reads p ms)) first-red (λ i h. sums i h) refl no-ends spent (fits .sent)
-      z (record { size = refl; else = λ i a b c. refl }) round-is stage-now result-is))
+  begins = (
+    yes,
+    subst (Standing P J p (atStart (parts P) (Q P J reads p) p ms)) (sym after-is)
+        (enter-marks P J fit reads p l0 x0 busy0 co0 (reads p ms) marked (λ i. false) hits (λ c. false) no-flags 0 (omega arith) 0 here
+        (omega arith) (starting (parts P) J p (reads p ms)) first-red (λ i h. sums i h) refl no-ends spent (fits .sent)
+        z (record { size = refl; else = λ i a b c. refl }) round-is stage-now result-is),
+  )

@@ -1,6 +1,5 @@
 -- Bits of numbers.
--- Laws: bit-none (0 has none), bit-power (2 ^ a has the bit a), bit-ones (2 ^ n - 1 has those below n), bit-less (one bit taken away),
--- bit-beyond (none above a power), zero-bits (a number of sixteen bits without any is 0).
+-- Laws: bit-none (0 has none), bit-power (2 ^ a has the bit a), bit-ones (2 ^ n - 1 has those below n), bit-less (one bit taken away).
 use mathlib.Core.Path.{_≡_, refl, sym, _∙_, ap, ap₂}
 use mathlib.Core.Bool.{Bool, true, false, _&&_, not}
 use Prim.Native.Nat.{ℕ, zero, suc, _+_, _-_, _*_, _/_, _%_, _^_, _≤_, _<_}
@@ -99,21 +98,3 @@ bit-less (suc a) (suc b) m e =
     let y : (m - 2 ^ suc a) / 2 ≡ m / 2 - 2 ^ a = omega (arith, twice a) in
     bit-half (m - 2 ^ suc a) b ∙ ap (λ (n : ℕ). bitb n b) y ∙ bit-less a b (m / 2) (sym (bit-half m a) ∙ e)
     ∙ ap₂ (λ (c d : Bool). c && not d) (sym (bit-half m b)) (sym (eq-suc b a))
-
-pub bit-beyond : (n i m : ℕ) → m < 2 ^ n → n ≤ i → bitb m i ≡ false
-unfolding bitb
-bit-beyond n i m h l =
-    let z : m / 2 ^ i ≡ 0 = div-eq-of-lt (lt-of-lt-of-le h (pow-mono {i = n} {j = i} l)) in
-    ap (λ (n : ℕ). eqb (n % 2) 1) z
-
-pub zero-bits : (n m : ℕ) → m < 2 ^ n → ((b : ℕ) → b < n → bitb m b ≡ false) → m ≡ 0
-zero-bits zero m h f = omega arith
-zero-bits (suc n) m h f =
-    let z : m / 2 ≡ 0 = zero-bits n (m / 2) (omega (arith, twice n)) (λ b l. sym (bit-half m b) ∙ f (suc b) (omega arith)) in
-    elim-odd (m % 2) refl z
-  where
-    elim-odd : (r : ℕ) → m % 2 ≡ r → m / 2 ≡ 0 → m ≡ 0
-    elim-odd zero e z = omega arith
-    elim-odd (suc zero) e z =
-        not-both (bitb m 0) (bit-first m ∙ eq-eqb (m % 2) 1 e) (f 0 (omega arith))
-    elim-odd (suc (suc r)) e z = absurd (omega arith)

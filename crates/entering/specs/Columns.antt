@@ -76,7 +76,8 @@ module _ (P : ℕ) (J : Task (Fin P)) (p : Fin P) where
     pub parent-held : (k c : ℕ) → Member c (J .cells (suc k)) → J .owner c ≡ p → HoldsCell P J p (J .parent c)
     -- families that are here
     pub kids : (k c : ℕ) → Member c (J .cells k) → J .family c ≡ p → J .kids c ≡ range (field x (CHILD + c)) (kidCount x c)
-    pub kid-number : (k c j : ℕ) → Member c (J .cells k) → J .family c ≡ p → j < kidCount x c → lastOf (J .path (field x (CHILD + c) + j)) ≡ j
+    pub kid-number : (k c j : ℕ) → Member c (J .cells k) → J .family c ≡ p → j < kidCount x c
+        → lastOf (J .path (field x (CHILD + c) + j)) ≡ j
     pub inner : (k c d e : ℕ) → Member c (J .cells k) → J .family c ≡ p → Member d (J .kids c) → e < 6
         → bitb (field x (INNER + d)) e ≡ J .inner d e
     -- slots that the part holds, and others

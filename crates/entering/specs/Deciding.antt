@@ -1,7 +1,7 @@
 -- On entering a round of marks a part decides on the cells of a level whose families it has.
 --   decidedAt x k    the store with the flags of the level decided
--- Laws: rule-agrees (the rule by the store is the rule of the task), decided (the flags after), decided-else, decided-length, decided-but (the
--- rest).
+-- Laws: rule-agrees (the rule by the store is the rule of the task), decided (the flags after), decided-else, decided-length, decided-but
+-- (the rest).
 use mathlib.Core.Path.{_≡_, refl, sym, _∙_, ap, ap₂}
 use mathlib.Core.Logic.{_⊎_, inl, inr}
 use mathlib.Core.Bool.{Bool, true, false, _&&_, _||_, not}
@@ -23,12 +23,14 @@ use Rattle.rounds.specs.Rounds.{isPart, mine, decides}
 use Rattle.rounds.specs.Among.{is-same, is-eq}
 use Rattle.store.specs.Fields.{field, PART, CELLS, FAMILY, STATUS, REGULAR, CHILD, INNER, MARK, RED, SLOT, SUM}
 use Rattle.store.specs.Fetch.{bitb}
+use Rattle.splitting.specs.Members.{six-below}
 use Rattle.standing.specs.Busy.{HoldsCell, HoldsSlot}
 use Rattle.turns.specs.Loops.{someFrom, eachFrom}
 use Rattle.turns.specs.Decide.{slotAt, hitb, hitOf, pullOf, idleKid, pulledKid, kidCount, busyb, ruleb, decideOne}
 use Rattle.turns.specs.Start.{levelFrom}
+use Rattle.places.specs.Fresh.{some-same}
 use Rattle.entering.specs.Columns.{Columns, MarksIn}
-use Rattle.entering.specs.Within.{six-range, edge-low, own-held, family-held, slot-held, member-low, cell-low}
+use Rattle.entering.specs.Within.{six-range, kids-in, own-held, family-held, slot-held, member-low, cell-low}
 use Rattle.entering.specs.Within.{level-inside, cells-of-level, level-member}
 use Rattle.entering.specs.Blocks.{SameBut, but-self, but-set, but-each, each-flag, some-range}
 
@@ -56,21 +58,6 @@ not-some f (x ∷ l) = go (f x) refl (not-some f l)
 and-on : (a b c : Bool) → a && (b && c) ≡ (a && b) && c
 and-on true b c = refl
 and-on false b c = refl
-
-some-same : (f g : ℕ → Bool) (n e : ℕ) → ((d : ℕ) → e ≤ d → d < e + n → f d ≡ g d) → someFrom f n e ≡ someFrom g n e
-unfolding someFrom
-some-same f g zero e h = refl
-some-same f g (suc n) e h =
-    ap₂ _||_ (h e (omega arith) (omega arith)) (some-same f g n (suc e) (λ d a b. h d (omega arith) (omega arith)))
-
-min-second : (a b : ℕ) → min a b ≤ b
-min-second a b = omega arith
-
-kids-most : (x : List ℕ) (c : ℕ) → kidCount x c ≤ field x CELLS - field x (CHILD + c)
-unfolding kidCount
-kids-most x c =
-    min-second (elim (leb (field x (STATUS + c)) 64) [ true ↦ sizeOf (field x (STATUS + c)) | false ↦ 0 ])
-    (field x CELLS - field x (CHILD + c))
 
 -- the definitions as functions of the numbers that they look at
 countOf : ℕ → ℕ → ℕ → ℕ
@@ -130,7 +117,7 @@ module _ (x y : List ℕ) (s : SameBut RED 4096 x y) where
       → someFrom f (kidCount y c) (field y (CHILD + c)) ≡ someFrom g (kidCount x c) (field x (CHILD + c))
   kids-keep f g c l few h =
       ap₂ (λ (n e : ℕ). someFrom f n e) (count-keeps c l) (s .rest (CHILD + c) (inl (omega arith)))
-      ∙ some-same f g (kidCount x c) (field x (CHILD + c)) (λ d a b. h d (omega (arith, a, b, kids-most x c, few)))
+      ∙ some-same f g (kidCount x c) (field x (CHILD + c)) (λ d a b. h d (omega (arith, a, b, kids-in x c, few)))
 
   rule-keeps : (c : ℕ) → c < 4096 → field x CELLS ≤ 4096 → ruleb y c ≡ ruleb x c
   rule-keeps c l few =
@@ -152,7 +139,7 @@ decide-but y c l = go (eqb (field y (FAMILY + c)) (field y PART) && ruleb y c) r
     go false e = rw (e, decideOne) (but-self RED 4096 y)
 
 module _ (P : ℕ) (J : Task (Fin P)) (p : Fin P) (x : List ℕ) (u : Columns P J p x) (k : ℕ) where
-  pub decided-but : SameBut RED 4096 x (decidedAt x k)
+  decided-but : SameBut RED 4096 x (decidedAt x k)
   decided-but = but-each RED 4096 decideOne 4096 decide-but (levelFrom x (k + 1) - levelFrom x k) (levelFrom x k)
       (level-inside P J p x u k) x
 
@@ -167,7 +154,7 @@ module _ (P : ℕ) (J : Task (Fin P)) (fit : Fit J) (p : Fin P) (x : List ℕ) (
     (hits : (s : ℕ) → HoldsSlot P J p s → hitb x s ≡ h s) (g : ℕ → ℕ) (marked : MarksIn P J p g x) where
   hit-is : (d e : ℕ) → HoldsCell P J p d → Member e sixEdges → hitOf x d e ≡ h (J .slot d e)
   unfolding hitOf
-  hit-is d e held m = ap (hitb x) (u .slot d e held (edge-low e m)) ∙ hits (J .slot d e) (slot-held P J p d e held m)
+  hit-is d e held m = ap (hitb x) (u .slot d e held (six-below e m)) ∙ hits (J .slot d e) (slot-held P J p d e held m)
 
   idle-is : (d : ℕ) → HoldsCell P J p d → J .owner d ≡ p → idleKid x d ≡ idle J h g d
   unfolding idleKid idle
@@ -186,7 +173,7 @@ module _ (P : ℕ) (J : Task (Fin P)) (fit : Fit J) (p : Fin P) (x : List ℕ) (
       let pull : someFrom (pullOf x d) 6 0 ≡ anyb (λ e. J .inner d e && h (J .slot d e)) sixEdges =
       some-range (pullOf x d) 6 0 ∙ ap (anyb (pullOf x d)) six-range
       ∙ any-agree (pullOf x d) (λ e. J .inner d e && h (J .slot d e)) sixEdges
-      (λ e i. ap₂ _&&_ (u .inner k c d e m f n (edge-low e i)) (hit-is d e held i)) in
+      (λ e i. ap₂ _&&_ (u .inner k c d e m f n (six-below e i)) (hit-is d e held i)) in
       ap₂ (λ (i : ℕ) (b : Bool). eqb i 1 || b) (marked d held own) pull
 
   module _ (k c : ℕ) (m : Member c (J .cells k)) (f : J .family c ≡ p) where
@@ -209,7 +196,7 @@ module _ (P : ℕ) (J : Task (Fin P)) (fit : Fit J) (p : Fin P) (x : List ℕ) (
     status-at : (n : ℕ) → eqb (field x (STATUS + c)) n ≡ eqb (J .status c) n
     status-at n = ap (λ (i : ℕ). eqb i n) (u .status c held-c)
 
-    pub rule-agrees : ruleb x c ≡ rule J h g c
+    rule-agrees : ruleb x c ≡ rule J h g c
     unfolding ruleb rule
     rule-agrees = go (eqb (J .status c) 64) refl (eqb (J .status c) 0) refl
       where

@@ -19,10 +19,12 @@ use Rattle.exchange.specs.Finite.{Finite, parts, sumOver}
 use Rattle.exchange.specs.Protocol.{Local, Protocol, only, numbered, parcel, enter}
 use Rattle.rounds.specs.Tests.{Member}
 use Rattle.rounds.specs.Task.{Task}
-use Rattle.rounds.specs.Rounds.{Body, Phase, phase, State, isPart, told, added, mastersTold, topTold, redTold, sumTold, capped, largest, holdsb, mine}
+use Rattle.rounds.specs.Rounds.{Body, Phase, phase, State, isPart, told, added, mastersTold, topTold, redTold, sumTold, capped, largest}
+use Rattle.rounds.specs.Rounds.{holdsb, mine}
 use Rattle.rounds.specs.Rounded.{overb, sizedb, endedb}
 use Rattle.store.specs.Fields.{field, full, STAGE, PART, PARTS, CELLS, LEVELS, ROUND, TOTAL, HIGH, CURSOR, BIT, WRITTEN, FIRST-CELL}
-use Rattle.store.specs.Fields.{FIRST-SLOT, OWNER, FAMILY, STATUS, REGULAR, CHILD, PARENT, HEAD, DIGITS, MORE, INNER, MARK, RED, SLOT, HOLDERS, SUM}
+use Rattle.store.specs.Fields.{FIRST-SLOT, OWNER, FAMILY, STATUS, REGULAR, CHILD, PARENT, HEAD, DIGITS, MORE, INNER, MARK, RED, SLOT}
+use Rattle.store.specs.Fields.{HOLDERS, SUM}
 use Rattle.store.specs.Header.{headerb}
 use Rattle.store.specs.Fetch.{entryCount, bitb}
 use Rattle.store.specs.declared.Place.{Place}
@@ -33,12 +35,10 @@ use Rattle.turns.specs.Decide.{kidCount}
 use Rattle.places.specs.Put.{placeAt}
 use Rattle.shares.specs.Grow.{lastOf}
 use Rattle.entering.specs.Columns.{Columns}
+use Rattle.entering.specs.Within.{kids-in}
 
 -- nothing taken
 module _ (P : ℕ) where
-  abbrev no-mail : Fin P → List Body
-  no-mail q = []
-
   pub told-none : (c : ℕ) → told (parts P) (λ q. []) c ≡ false
   unfolding told anyb
   told-none c = go (parts P .list)
@@ -55,7 +55,7 @@ module _ (P : ℕ) where
       go [] = refl
       go (q ∷ l) = omega (arith, go l)
 
-  pub masters-none : mastersTold (parts P) (λ q. []) ≡ 0
+  masters-none : mastersTold (parts P) (λ q. []) ≡ 0
   unfolding mastersTold sumOver
   masters-none = go (parts P .list)
     where
@@ -63,7 +63,7 @@ module _ (P : ℕ) where
       go [] = refl
       go (q ∷ l) = omega (arith, go l)
 
-  pub top-none : topTold (parts P) (λ q. []) ≡ 0
+  top-none : topTold (parts P) (λ q. []) ≡ 0
   unfolding topTold largest
   top-none = go (parts P .list)
     where
@@ -75,13 +75,13 @@ module _ (P : ℕ) where
 abbrev pub Untouched : ℕ → Type 0
 Untouched i = (i ≢ 14) × (((1 ≤ i) × (i < 7)) ⊎ (((12 ≤ i) × (i < 41072)) ⊎ ((49264 ≤ i) × (i < 99440))))
 
-pub low-kept : (i : ℕ) → 1 ≤ i → i < 7 → Untouched i
+low-kept : (i : ℕ) → 1 ≤ i → i < 7 → Untouched i
 low-kept i a b = ((λ z. absurd (omega (arith, z))), inl (a, b))
 
-pub mid-kept : (i : ℕ) → 12 ≤ i → i < 41072 → i ≢ 14 → Untouched i
+mid-kept : (i : ℕ) → 12 ≤ i → i < 41072 → i ≢ 14 → Untouched i
 mid-kept i a b n = (n, inr (inl (a, b)))
 
-pub high-kept : (i : ℕ) → 49264 ≤ i → i < 99440 → Untouched i
+high-kept : (i : ℕ) → 49264 ≤ i → i < 99440 → Untouched i
 high-kept i a b = ((λ z. absurd (omega (arith, z))), inr (inr (a, b)))
 
 module _ (P : ℕ) (J : Task (Fin P)) (p : Fin P) (l : L P J) (x : List ℕ) (u : Busy P J p l x) where
@@ -134,7 +134,8 @@ module _ (P : ℕ) (J : Task (Fin P)) (p : Fin P) (l : L P J) (x : List ℕ) (u 
         cells = λ c h. (
           subst (λ (m : ℕ). c < m) (sym (same CELLS (low-kept 5 (omega arith) (omega arith)))) (u .cells c h .0),
           λ e. u .cells c h .1
-              (sym (same (OWNER + c) (mid-kept (OWNER + c) (omega arith) (omega (arith, u .cells c h .0, few)) (λ e. absurd (omega (arith, e))))) ∙ e),
+              (sym (same (OWNER + c) (mid-kept (OWNER + c) (omega arith) (omega (arith, u .cells c h .0, few))
+              (λ e. absurd (omega (arith, e))))) ∙ e),
         );
         slots = λ i h. (
           u .slots i h .0,
@@ -174,11 +175,6 @@ kid-count : (x y : List ℕ) (c : ℕ) → field y (STATUS + c) ≡ field x (STA
 unfolding kidCount
 kid-count x y c a b e =
     ap₂ min (ap (λ (s : ℕ). elim (leb s 64) [ true ↦ sizeOf s | false ↦ 0 ]) a) (ap₂ (λ (m n : ℕ). m - n) e b)
-
-kids-in : (x : List ℕ) (c : ℕ) → kidCount x c ≤ field x CELLS - field x (CHILD + c)
-unfolding kidCount
-kids-in x c = min-le-right (elim (leb (field x (STATUS + c)) 64) [ true ↦ sizeOf (field x (STATUS + c)) | false ↦ 0 ])
-    (field x CELLS - field x (CHILD + c))
 
 place-like : (x y : List ℕ) (c : ℕ) → field y (HEAD + c) ≡ field x (HEAD + c) → field y (DIGITS + c) ≡ field x (DIGITS + c)
     → field y (MORE + c) ≡ field x (MORE + c) → placeAt y c ≡ placeAt x c
@@ -270,7 +266,8 @@ module _ (P : ℕ) (J : Task (Fin P)) (p : Fin P) (x y : List ℕ) (s : Stay x y
       at o c h a b = column (o + c) (omega arith) (omega (arith, cell-low c h))
 
       kids-same : (k c : ℕ) → Member c (J .cells k) → kidCount y c ≡ kidCount x c
-      kids-same k c m = kid-count x y c (by STATUS k c m (omega arith) (omega arith)) (by CHILD k c m (omega arith) (omega arith)) cells-same
+      kids-same k c m =
+          kid-count x y c (by STATUS k c m (omega arith) (omega arith)) (by CHILD k c m (omega arith) (omega arith)) cells-same
 
       kid-at : (o k c d : ℕ) → Member c (J .cells k) → J .family c ≡ p → Member d (J .kids c) → 112 ≤ o → o ≤ 36976
           → field y (o + d) ≡ field x (o + d)

@@ -21,7 +21,8 @@ use Rattle.rounds.specs.Rounds.{Body, mark, count, total, end, marks, counts, t
 use Rattle.rounds.specs.Among.{is-same, is-not}
 use Rattle.rounds.specs.Order.{toAll, otherb, orderOf}
 use Rattle.rounds.specs.Upward.{ups}
-use Rattle.store.specs.Fields.{field, full, PART, PARTS, CELLS, HIGH, TOTAL, WRITTEN, FIRST-CELL, FIRST-SLOT, OWNER, FAMILY, RED, HOLDERS, SUM}
+use Rattle.store.specs.Fields.{field, full, PART, PARTS, CELLS, HIGH, TOTAL, WRITTEN, FIRST-CELL, FIRST-SLOT, OWNER, FAMILY, RED, HOLDERS}
+use Rattle.store.specs.Fields.{SUM}
 use Rattle.store.specs.Fetch.{bitb}
 use Rattle.standing.specs.Busy.{HoldsCell, HoldsSlot}
 use Rattle.standing.specs.Packed.{entryCode, entryValue, bodyb}
@@ -30,13 +31,18 @@ use Rattle.turns.specs.Post.{posted, besides, othersOf, ghostAt, markOne, count
 use Rattle.partstep.specs.Step.{postTotals}
 use Rattle.entering.specs.Columns.{Columns, Heard}
 use Rattle.entering.specs.Bits.{bit-none, bit-power, bit-ones, bit-less}
-use Rattle.entering.specs.Writing.{Line, Sent, SameElse, same-self, WroteLines, ordersOf, postLine, wrote-each, wrote-cons, wrote-last, posted-same}
+use Rattle.entering.specs.Writing.{Line, Sent, SameElse, same-self, WroteLines, ordersOf, postLine, wrote-each, wrote-cons}
+use Rattle.entering.specs.Writing.{wrote-last, posted-same}
+
+and-none : (b : Bool) → (b && false) ≡ false
+and-none true = refl
+and-none false = refl
 
 -- tests of parts by their numbers
 pub part-same : (P : ℕ) (a b : Fin P) → a ≡ b → eqb (suc (a .0)) (suc (b .0)) ≡ true
 part-same P a b e = eq-eqb (suc (a .0)) (suc (b .0)) (ap (λ (c : Fin P). suc (c .0)) e)
 
-pub part-other : (P : ℕ) (a b : Fin P) → a ≢ b → eqb (suc (a .0)) (suc (b .0)) ≡ false
+part-other : (P : ℕ) (a b : Fin P) → a ≢ b → eqb (suc (a .0)) (suc (b .0)) ≡ false
 part-other P a b n = ne-eqb (suc (a .0)) (suc (b .0)) (λ z. n (Fin·val-path (omega (arith, z))))
 
 pub part-is : (P : ℕ) (a b : Fin P) → eqb (suc (a .0)) (suc (b .0)) ≡ isPart (parts P) a b
@@ -56,10 +62,6 @@ part-sym P a b = elim (parts P .same? a b) [
   | yes e ↦ is-same (parts P) a b e ∙ sym (is-same (parts P) b a (sym e))
   | no n ↦ is-not (parts P) a b n ∙ sym (is-not (parts P) b a (λ e. n (sym e)))
 ]
-
-and-none : (b : Bool) → (b && false) ≡ false
-and-none true = refl
-and-none false = refl
 
 and-swap : (a b : Bool) → (a && not b) ≡ (not b && (true && (a && true)))
 and-swap true true = refl
@@ -137,7 +139,7 @@ module _ (P : ℕ) (J : Task (Fin P)) (p : Fin P) (x : List ℕ) (co : Columns P
   others-same y s = ap₂ (λ (a b : ℕ). 2 ^ a - 1 - 2 ^ (b - 1)) (s .else PARTS (λ z. absurd (omega (arith, z))) (inl (omega arith)))
       (s .else PART (λ z. absurd (omega (arith, z))) (inl (omega arith)))
 
-  pub end-written : (y : List ℕ) → SameElse x y → field y WRITTEN + 1 ≤ 28696 → WroteLines P (co .parts-few) J p y (postEnd y) (endLine ∷ [])
+  end-written : (y : List ℕ) → SameElse x y → field y WRITTEN + 1 ≤ 28696 → WroteLines P (co .parts-few) J p y (postEnd y) (endLine ∷ [])
   unfolding postEnd entryCode entryValue
   end-written y s h =
       let l : full ≤ length y = omega (arith, s .size, co .long) in
@@ -243,10 +245,13 @@ module _ (P : ℕ) (J : Task (Fin P)) (p : Fin P) (x : List ℕ) (co : Columns P
               room = λ e. lt-ltb c 4096 h;
               bits = λ q. ap (λ (n : ℕ). bitb n (q .0)) z ∙ bit-power (J .owner c .0) (q .0) ∙ number-is P q (J .owner c)
                   ∙ part-sym P q (J .owner c) ∙ sym (t q);
-              beyond = λ i l. ap (λ (n : ℕ). bitb n i) z ∙ bit-power (J .owner c .0) i ∙ ne-eqb i (J .owner c .0) (λ e. absurd (omega (arith, e)));
+              beyond =
+                  λ i l. ap (λ (n : ℕ). bitb n i) z ∙ bit-power (J .owner c .0) i
+                  ∙ ne-eqb i (J .owner c .0) (λ e. absurd (omega (arith, e)));
             }
 
-    mark-does : (k c : ℕ) → Member c (J .cells k) → c < 4096 → (y : List ℕ) → SameElse x y → markOne y c ≡ postLine P (co .parts-few) J p y (markLine c)
+    mark-does : (k c : ℕ) → Member c (J .cells k) → c < 4096 → (y : List ℕ) → SameElse x y
+        → markOne y c ≡ postLine P (co .parts-few) J p y (markLine c)
     unfolding markOne ghostAt entryCode entryValue posted
     mark-does k c m h y s = go (kind k c m)
       where
@@ -392,7 +397,8 @@ module _ (P : ℕ) (J : Task (Fin P)) (p : Fin P) (x : List ℕ) (co : Columns P
         ∙ ap₂ _++_ (ap₂ (λ (l : List ℕ) (o : ℕ → ℕ). flatMap (λ x. toAll (parts P) J (ups P)
         (λ q. other q && (holdsb (parts P) J p k x && (holdsb (parts P) J q k x && not (eqb (o x) 0)))) (count x (o x))) l) (sym c) (sym e)
         ∙ ap (λ (j : ℕ). flatMap (λ x. toAll (parts P) J (ups P)
-        (λ q. other q && (holdsb (parts P) J p j x && (holdsb (parts P) J q j x && not (eqb (s .own x) 0)))) (count x (s .own x))) (J .slots j)) (sym z))
+        (λ q. other q && (holdsb (parts P) J p j x && (holdsb (parts P) J q j x && not (eqb (s .own x) 0)))) (count x (s .own x)))
+        (J .slots j)) (sym z))
         (orders-one endLine)
 
   -- TOTALS

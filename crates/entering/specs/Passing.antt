@@ -39,7 +39,7 @@ module _ (x out : List ℕ) where
   unfolding givesb
   gives-low t = ltb→lt (nextToGive x .bit) 16 (and-right (eqb (fetchRefusal x out) 0) (ltb (nextToGive x .bit) 16) t)
 
-  pub fetch-keeps : (i : ℕ) → i ≢ 12 → i ≢ 13 → (i < 96) ⊎ (112 ≤ i) → field (fetchAfter x out) i ≡ field x i
+  fetch-keeps : (i : ℕ) → i ≢ 12 → i ≢ 13 → (i < 96) ⊎ (112 ≤ i) → field (fetchAfter x out) i ≡ field x i
   unfolding fetchAfter
   fetch-keeps i a b c = go (givesb x out) refl c
     where
@@ -50,7 +50,7 @@ module _ (x out : List ℕ) where
           rw (e, fetchAfter) (passed-else x (nextToGive x) i a b (λ z. absurd (omega (arith, z, l))))
       go false e h = rw (e, fetchAfter)
 
-  pub fetch-size : length (fetchAfter x out) ≡ length x
+  fetch-size : length (fetchAfter x out) ≡ length x
   unfolding fetchAfter
   fetch-size = go (givesb x out) refl
     where
@@ -124,7 +124,8 @@ module _ (P : ℕ) (J : Task (Fin P)) (p : Fin P) (l : L P J) (x : List ℕ) (st
         go i (inr (inr (inl (a, b)))) = fetch-mid i (omega arith) (inr (omega arith))
         go i (inr (inr (inr (a, b)))) = fetch-mid i (omega arith) (inr (omega arith))
 
-    pub fetched : (fetchAnswer x out ≡ Message (length m)) × (fetchBytes x out ≡ sets out 0 m) × Standing P J p (withQueue l w) (fetchAfter x out)
+    pub fetched : (fetchAnswer x out ≡ Message (length m)) × (fetchBytes x out ≡ sets out 0 m)
+        × Standing P J p (withQueue l w) (fetchAfter x out)
     fetched =
         let (a, b, c) = fetch-gives P J p l x (st .busy) out room m w e in (
           a,
@@ -178,7 +179,9 @@ module _ (P : ℕ) (J : Task (Fin P)) (p : Fin P) (l : L P J) (x : List ℕ) (st
                 ∙ st .marked d h o;
             no-marks = fits .no-marks;
             no-counts = fits .no-counts;
-            spent = spent-same P J p x z (st .columns .levels-few) (λ i h. hand-keeps i (inl h)) (hand-keeps WRITTEN (inr (inl (omega arith, omega arith))))
+            spent =
+                spent-same P J p x z (st .columns .levels-few) (λ i h. hand-keeps i (inl h))
+                (hand-keeps WRITTEN (inr (inl (omega arith, omega arith))))
                 (λ i a d. hand-keeps i (inr (inl (omega arith, omega arith)))) (λ i a. hand-keeps i (inr (inr (inr (inr (omega arith))))))
                 (phase (J .top) (l .round)) (st .spent);
             holding = holding-same P J p x z (st .columns .levels-few) (λ i h. hand-keeps i (inl h))

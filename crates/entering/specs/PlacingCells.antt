@@ -47,6 +47,10 @@ use Rattle.entering.specs.PlacingSteps.{each-adds, flat-one, held-placed
 use Rattle.entering.specs.PlacingStatus.{cell-few, holds-owner, holds-family, owner-is, family-is, stored-is, status-is, stays-is}
 use Rattle.entering.specs.PlacingStatus.{anew-is, fresh-read, status-few, fresh-few, size-few}
 
+and-none : (b : Bool) → (b && false) ≡ false
+and-none true = refl
+and-none false = refl
+
 -- lists and loops
 flat-agree : {A B : Type 0} (f g : A → List B) → ((a : A) → f a ≡ g a) → (l : List A) → flatMap f l ≡ flatMap g l
 unfolding flatMap
@@ -71,10 +75,6 @@ each-on f (suc m) n c y =
     let a : suc m + n ≡ suc (m + n) = omega arith in
     let b : suc c + m ≡ c + suc m = omega arith in
     ap (λ (i : ℕ). eachFrom f i c y) a ∙ each-on f m n (suc c) (f y c) ∙ ap (λ (i : ℕ). eachFrom f n i (eachFrom f m (suc c) (f y c))) b
-
-and-none : (a : Bool) → (a && false) ≡ false
-and-none true = refl
-and-none false = refl
 
 choose : Bool → Bool → List ℕ → List ℕ → List ℕ → List ℕ
 choose a b r l y = elim a [ true ↦ elim b [ true ↦ r | false ↦ l ] | false ↦ y ]
@@ -458,7 +458,7 @@ module _ (P : ℕ) (J : Task (Fin P)) (fit : Fit J) (p : Fin P) (x : List ℕ) (
   abbrev pub placedBy : List ℕ
   placedBy = eachFrom placeCell (field x CELLS) 0 (cleared x)
 
-  pub all-placed : StepHeld x (entries (parts P) J p st) placedBy
+  all-placed : StepHeld x (entries (parts P) J p st) placedBy
   unfolding entries
   all-placed =
       subst (λ (n : ℕ). StepHeld x (entries (parts P) J p st) (eachFrom placeCell n 0 (cleared x))) (C .last-cell)

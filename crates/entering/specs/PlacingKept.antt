@@ -78,7 +78,7 @@ module _ (x : List ℕ) (c : ℕ) where
 
 module _ (P : ℕ) (J : Task (Fin P)) (p : Fin P) (x : List ℕ) (C : Columns P J p x) where
   -- each cell has a level
-  pub cell-level : (c : ℕ) → c < field x CELLS → (k : ℕ) × Member c (J .cells k)
+  cell-level : (c : ℕ) → c < field x CELLS → (k : ℕ) × Member c (J .cells k)
   cell-level c h = go (suc (J .top)) (omega arith) (subst (λ (n : ℕ). c < n) (sym (C .last-cell)) h)
     where
       go : (k : ℕ) → k ≤ suc (J .top) → c < field x (FIRST-CELL + k) → (k : ℕ) × Member c (J .cells k)

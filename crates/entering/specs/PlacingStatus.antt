@@ -27,22 +27,17 @@ use Rattle.rounds.specs.Rounds.{State, isPart, mine, holdsb}
 use Rattle.rounds.specs.Among.{is-eq, is-same, is-not}
 use Rattle.store.specs.Fields.{field, PART, CELLS, FIRST-CELL, FIRST-SLOT, OWNER, FAMILY, STATUS, REGULAR}
 use Rattle.store.specs.Fields.{CHILD, PARENT, HEAD, RED, SLOT, SUM}
+use Rattle.splitting.specs.Members.{map-agree, below-six, six-below}
 use Rattle.standing.specs.Busy.{HoldsCell, HoldsSlot}
 use Rattle.turns.specs.Decide.{hitb, hitOf, kidCount}
 use Rattle.places.specs.Status.{newStatus, lastsb, remadeb, pairHit, freshBits}
 use Rattle.shares.specs.Grow.{lastOf, heldNow, statusNew, pairHeld, coarseb}
 use Rattle.shares.specs.Grow.{freshStatus as freshNow, fresh-is as fresh-bits, staysb as staysNow, anewb as anewNow}
 use Rattle.entering.specs.Columns.{Columns, Heard}
+use Rattle.entering.specs.Lines.{part-is as part-test}
 use Rattle.entering.specs.PlacingSteps.{Else}
 
 -- tests and lists
-part-test : (P : ℕ) (q p : Fin P) → eqb (suc (q .0)) (suc (p .0)) ≡ isPart (parts P) q p
-part-test P q p =
-    elim (ℕ-discrete (q .0) (p .0)) [
-      | yes e ↦ eq-eqb (suc (q .0)) (suc (p .0)) (omega arith) ∙ sym (is-same (parts P) q p (Fin·val-path e))
-      | no n ↦ ne-eqb (suc (q .0)) (suc (p .0)) (λ z. n (omega arith)) ∙ sym (is-not (parts P) q p (λ z. n (ap (λ (f : Fin P). f .0) z)))
-    ]
-
 or-left : (a b : Bool) → (a || b) ≡ false → a ≡ false
 or-left true b e = e
 or-left false b e = refl
@@ -78,20 +73,6 @@ range-below n j m = let (a, b) = member-range 0 n j m in omega arith
 pattern-green : (s : ℕ) → s ≢ 64 → patternOf s ≡ s
 unfolding patternOf
 pattern-green s h = rw (ne-eqb s 64 h, patternOf)
-
-six-member : (e : ℕ) → e < 6 → Member e sixEdges
-unfolding range
-six-member e h = range-member 0 6 e (omega arith) (omega arith)
-
-member-six : (e : ℕ) → Member e sixEdges → e < 6
-unfolding range
-member-six e m = let (a, b) = member-range 0 6 e m in omega arith
-
-map-agree : {A : Type 0} (f g : ℕ → A) (l : List ℕ) → ((i : ℕ) → Member i l → f i ≡ g i) → map f l ≡ map g l
-unfolding memberb
-map-agree f g [] h = refl
-map-agree f g (i ∷ l) h =
-    ap₂ _∷_ (h i (rw (eq-eqb i i refl) tt)) (map-agree f g l (λ j m. h j (or-second (eqb j i) (memberb j l) m)))
 
 any-shift : (f : ℕ → Bool) (c k n : ℕ) → anyb f (range (c + k) n) ≡ anyb (λ j. f (c + j)) (range k n)
 unfolding anyb range
@@ -137,7 +118,7 @@ module _ {Part : Type 0} (J : Task Part) (st : State) where
 
 module _ (P : ℕ) (J : Task (Fin P)) (p : Fin P) (x : List ℕ) (C : Columns P J p x) where
   -- cells of the table
-  pub cell-inside : (k c : ℕ) → Member c (J .cells k) → c < field x CELLS
+  cell-inside : (k c : ℕ) → Member c (J .cells k) → c < field x CELLS
   cell-inside k c m =
       let h = C .no-cells k c m in
       let (a, b) = member-range (field x (FIRST-CELL + k)) (field x (FIRST-CELL + suc k) - field x (FIRST-CELL + k)) c
@@ -160,7 +141,7 @@ module _ (P : ℕ) (J : Task (Fin P)) (p : Fin P) (x : List ℕ) (C : Columns P 
   slot-low fit k c e m h =
       let g = C .no-cells k c m in
       let (a, b) = member-range (field x (FIRST-SLOT + k)) (field x (FIRST-SLOT + suc k) - field x (FIRST-SLOT + k)) (J .slot c e)
-      (subst (λ (l : List ℕ). Member (J .slot c e) l) (C .slots k g) (fit .slot-level k c e m (six-member e h))) in
+      (subst (λ (l : List ℕ). Member (J .slot c e) l) (C .slots k g) (fit .slot-level k c e m (below-six e h))) in
       omega (arith, C .slots-in (suc k) (omega arith), C .slots-rise k g)
 
   slot-held : (c e : ℕ) → HoldsCell P J p c → e < 6 → HoldsSlot P J p (J .slot c e)
@@ -169,7 +150,7 @@ module _ (P : ℕ) (J : Task (Fin P)) (p : Fin P) (x : List ℕ) (C : Columns P 
     k,
     member-any (λ d. mine (parts P) J p d && has J d (J .slot c e)) (J .cells k) c m
         (and-both (mine (parts P) J p c) (has J c (J .slot c e)) t
-        (member-any (λ f. eqb (J .slot c f) (J .slot c e)) sixEdges e (six-member e h) (rw (eq-eqb (J .slot c e) (J .slot c e) refl) tt))),
+        (member-any (λ f. eqb (J .slot c f) (J .slot c e)) sixEdges e (below-six e h) (rw (eq-eqb (J .slot c e) (J .slot c e) refl) tt))),
   )
 
   module _ (y : List ℕ) (else : Else x y) where
@@ -212,7 +193,7 @@ module _ (P : ℕ) (J : Task (Fin P)) (p : Fin P) (x : List ℕ) (C : Columns P 
       red-is c (k, m, t) =
           ap (λ (n : ℕ). eqb n 1) (at RED c (omega arith) (omega (arith, cell-few k c m)) ∙ K .flags c (k, m, t)) ∙ eqb-one (st .red c)
 
-      pub hit-is : (c e : ℕ) → HoldsCell P J p c → e < 6 → hitOf y c e ≡ heldNow J st (J .slot c e)
+      hit-is : (c e : ℕ) → HoldsCell P J p c → e < 6 → hitOf y c e ≡ heldNow J st (J .slot c e)
       unfolding hitOf hitb
       hit-is c e (k, m, t) h =
           let a : field y (SLOT + (6 * c + e)) ≡ J .slot c e =
@@ -230,7 +211,7 @@ module _ (P : ℕ) (J : Task (Fin P)) (p : Fin P) (x : List ℕ) (C : Columns P 
           ap (λ (n : ℕ). eqb n 1) (at REGULAR c (omega arith) (omega (arith, cell-few k c m)) ∙ C .regular c (k, m, t))
           ∙ eqb-one (J .regular c) in
           let b : map (hitOf y c) sixEdges ≡ map (λ e. heldNow J st (J .slot c e)) sixEdges =
-          map-agree (hitOf y c) (λ e. heldNow J st (J .slot c e)) sixEdges (λ e n. hit-is c e (k, m, t) (member-six e n)) in
+          map-agree (hitOf y c) (λ e. heldNow J st (J .slot c e)) sixEdges (λ e n. hit-is c e (k, m, t) (six-below e n)) in
           ap₂ (λ (r d : Bool). statusBy r d (map (hitOf y c) sixEdges)) a (red-is c (k, m, t)) ∙ ap (statusBy (J .regular c) (st .red c)) b
 
       -- whether a cell stays: one that the part has as master, and one that is refined
@@ -257,7 +238,7 @@ module _ (P : ℕ) (J : Task (Fin P)) (p : Fin P) (x : List ℕ) (C : Columns P 
             red-is (J .parent c) (j, n, t),
           )
 
-      pub stays-refined : (k c : ℕ) → Member c (J .cells k) → HoldsCell P J p c → J .status c ≢ 0
+      stays-refined : (k c : ℕ) → Member c (J .cells k) → HoldsCell P J p c → J .status c ≢ 0
           → lastsb y c ≡ staysNow (parts P) J p st k c
       unfolding lastsb staysNow
       stays-refined k c m h s =
@@ -293,7 +274,7 @@ module _ (P : ℕ) (J : Task (Fin P)) (p : Fin P) (x : List ℕ) (C : Columns P 
           (else CELLS (inl (omega arith)))
           ∙ ap (λ (t : ℕ). kidsBy (field x (STATUS + c)) (field x CELLS - t)) (at CHILD c (omega arith) (omega (arith, cell-few k c m)))
 
-      pub pair-is : (k c a b : ℕ) → Member c (J .cells k) → J .family c ≡ p → J .status c ≢ 64 → pairHit y c a b ≡ pairHeld J st c a b
+      pair-is : (k c a b : ℕ) → Member c (J .cells k) → J .family c ≡ p → J .status c ≢ 64 → pairHit y c a b ≡ pairHeld J st c a b
       unfolding pairHit pairHeld
       pair-is k c a b m f s =
           let h = holds-family k c m f in
@@ -316,7 +297,7 @@ module _ (P : ℕ) (J : Task (Fin P)) (p : Fin P) (x : List ℕ) (C : Columns P 
           ap₂ (λ (s i : ℕ). pairBy a b s i z (hitOf y (field y (CHILD + c) + j) z)) (stored-is c h ∙ sym (pattern-green (J .status c) s))
           (sym (C .kid-number k c j m f l))
           ∙ ap (pairBy a b (patternOf (J .status c)) (lastOf (J .path (field x (CHILD + c) + j))) z)
-          (ap (λ (n : ℕ). hitOf y (n + j) z) d ∙ hit-is (field x (CHILD + c) + j) z g (member-six z q))) in
+          (ap (λ (n : ℕ). hitOf y (n + j) z) d ∙ hit-is (field x (CHILD + c) + j) z g (six-below z q))) in
           let e : anyb read (range 0 (kidCount y c)) ≡ anyb (λ j. test (field x (CHILD + c) + j)) (range 0 (kidCount x c)) =
           ap (λ (n : ℕ). anyb read (range 0 n)) (kids-same k c m)
           ∙ any-agree read (λ j. test (field x (CHILD + c) + j)) (range 0 (kidCount x c)) (λ j q.

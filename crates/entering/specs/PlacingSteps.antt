@@ -46,7 +46,7 @@ level-of k l w h =
     (omega (arith, w .deep, w .coarse-few), ap (λ (m : List ℕ). pred (length m)) (w .is) ∙ w .deep)
 
 -- a child number more
-pub path-child : (k i : ℕ) (l : List ℕ) → Path k l → i < 8 → Path (suc k) (l ++ (i ∷ []))
+path-child : (k i : ℕ) (l : List ℕ) → Path k l → i < 8 → Path (suc k) (l ++ (i ∷ []))
 path-child k i l w h =
     record {
       coarse = w .coarse;
@@ -57,7 +57,7 @@ path-child k i l w h =
       digits = all-append (λ i. i < 8) (w .down) (i ∷ []) (w .digits) (h, tt);
     }
 
-pub below-place : (k i : ℕ) (l : List ℕ) → Path k l → childPlace (placeOf l) i ≡ placeOf (l ++ (i ∷ []))
+below-place : (k i : ℕ) (l : List ℕ) → Path k l → childPlace (placeOf l) i ≡ placeOf (l ++ (i ∷ []))
 below-place k i l w =
     ap (λ (m : List ℕ). childPlace (placeOf m) i) (w .is) ∙ sym (place-child (w .coarse) (w .down) i)
     ∙ ap (λ (m : List ℕ). placeOf (m ++ (i ∷ []))) (sym (w .is))

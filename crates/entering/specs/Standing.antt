@@ -20,7 +20,8 @@ use Rattle.rounds.specs.Rounds.{Phase, marks, counts, totals, over, phase, Stat
 use Rattle.parts.specs.Held.{Entry}
 use Rattle.shares.specs.Grow.{entryBy, entries}
 use Rattle.merging.specs.Totals.{grownOf}
-use Rattle.store.specs.Fields.{field, full, STAGE, CELLS, ROUND, RESULT, WRITTEN, CURSOR, BIT, FIRST-CELL, FIRST-SLOT, OWNER, RED, HOLDERS, SUM}
+use Rattle.store.specs.Fields.{field, full, STAGE, CELLS, ROUND, RESULT, WRITTEN, CURSOR, BIT, FIRST-CELL, FIRST-SLOT, OWNER, RED, HOLDERS}
+use Rattle.store.specs.Fields.{SUM}
 use Rattle.store.specs.Header.{headerb}
 use Rattle.standing.specs.Busy.{L, Busy, HoldsCell, HoldsSlot}
 use Rattle.turns.specs.Start.{marksDue}

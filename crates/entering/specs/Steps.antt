@@ -30,37 +30,38 @@ pub set-reset : (y : List ℕ) (r : ℕ) → Reset y (set y ROUND r)
 set-reset y r = record { size = length-set y ROUND r; else = λ i a b c. getD-set-other y ROUND i r 0 b }
 
 -- the header, where the stage and the round are others
-module _ (x z : List ℕ) (head : headerb x ≡ true) (low : (i : ℕ) → 1 ≤ i → i < 7 → field z i ≡ field x i) (few : field z ENTRIES ≤ 4096) where
-  header : Header z
-  header =
-      let h = header-is x (rw head tt) in
-      let a = low 1 (omega arith) (omega arith) in
-      let b = low 2 (omega arith) (omega arith) in
-      let c = low 3 (omega arith) (omega arith) in
-      let d = low 4 (omega arith) (omega arith) in
-      let e = low 5 (omega arith) (omega arith) in
-      let f = low 6 (omega arith) (omega arith) in record {
-        parts-least = omega (arith, b, h .parts-least);
-        parts-most = omega (arith, b, h .parts-most);
-        part-least = omega (arith, a, h .part-least);
-        part-most = omega (arith, a, b, h .part-most);
-        corners-least = omega (arith, c, h .corners-least);
-        corners-most = omega (arith, c, h .corners-most);
-        coarse-least = omega (arith, d, h .coarse-least);
-        coarse-most = omega (arith, d, h .coarse-most);
-        cells-least = omega (arith, d, e, h .cells-least);
-        cells-most = omega (arith, e, h .cells-most);
-        levels-least = omega (arith, f, h .levels-least);
-        levels-most = omega (arith, f, h .levels-most);
-        entries-most = few;
-      }
+module _ (x z : List ℕ) (head : headerb x ≡ true) (low : (i : ℕ) → 1 ≤ i → i < 7 → field z i ≡ field x i) (few : field z ENTRIES ≤ 4096)
+  where
+    header : Header z
+    header =
+        let h = header-is x (rw head tt) in
+        let a = low 1 (omega arith) (omega arith) in
+        let b = low 2 (omega arith) (omega arith) in
+        let c = low 3 (omega arith) (omega arith) in
+        let d = low 4 (omega arith) (omega arith) in
+        let e = low 5 (omega arith) (omega arith) in
+        let f = low 6 (omega arith) (omega arith) in record {
+          parts-least = omega (arith, b, h .parts-least);
+          parts-most = omega (arith, b, h .parts-most);
+          part-least = omega (arith, a, h .part-least);
+          part-most = omega (arith, a, b, h .part-most);
+          corners-least = omega (arith, c, h .corners-least);
+          corners-most = omega (arith, c, h .corners-most);
+          coarse-least = omega (arith, d, h .coarse-least);
+          coarse-most = omega (arith, d, h .coarse-most);
+          cells-least = omega (arith, d, e, h .cells-least);
+          cells-most = omega (arith, e, h .cells-most);
+          levels-least = omega (arith, f, h .levels-least);
+          levels-most = omega (arith, f, h .levels-most);
+          entries-most = few;
+        }
 
-  pub head-running : field z STAGE ≡ 1 → field z ROUND ≤ 2 * field z LEVELS → field z RESULT ≡ 0 → headerb z ≡ true
-  head-running s r v = header-yes z header ∙ sym (running-is z s r) ∙ eq-eqb (field z RESULT) 0 v
+    pub head-running : field z STAGE ≡ 1 → field z ROUND ≤ 2 * field z LEVELS → field z RESULT ≡ 0 → headerb z ≡ true
+    head-running s r v = header-yes z header ∙ sym (running-is z s r) ∙ eq-eqb (field z RESULT) 0 v
 
-  pub head-done : field z STAGE ≡ 2 → field z ROUND ≡ 2 * field z LEVELS + 1
-      → (eqb (field z RESULT) 0 || (eqb (field z RESULT) 8 || eqb (field z RESULT) 9)) ≡ true → headerb z ≡ true
-  head-done s r v = header-yes z header ∙ sym (done-is z s r) ∙ v
+    pub head-done : field z STAGE ≡ 2 → field z ROUND ≡ 2 * field z LEVELS + 1
+        → (eqb (field z RESULT) 0 || (eqb (field z RESULT) 8 || eqb (field z RESULT) 9)) ≡ true → headerb z ≡ true
+    head-done s r v = header-yes z header ∙ sym (done-is z s r) ∙ v
 
 -- a running store has no result
 pub no-result : (x : List ℕ) → headerb x ≡ true → field x STAGE ≡ 1 → field x ROUND ≤ 2 * field x LEVELS → field x RESULT ≡ 0
@@ -93,7 +94,8 @@ module _ (x : List ℕ) (top i : ℕ) (levels : field x LEVELS ≡ suc top) (low
   odd-round h e =
       let a : ltb (field x ROUND) (2 * field x LEVELS) ≡ true = lt-ltb (field x ROUND) (2 * field x LEVELS) (omega (arith, e, levels)) in
       let b : eqb (field x ROUND % 2) 0 ≡ false = ne-eqb (field x ROUND % 2) 0 (λ z. absurd (omega (arith, e, z))) in
-      let d : ltb (field x ROUND + 1) (2 * field x LEVELS) ≡ true = lt-ltb (field x ROUND + 1) (2 * field x LEVELS) (omega (arith, e, levels)) in
+      let d : ltb (field x ROUND + 1) (2 * field x LEVELS) ≡ true =
+      lt-ltb (field x ROUND + 1) (2 * field x LEVELS) (omega (arith, e, levels)) in
       let c : field x LEVELS - 2 - field x ROUND / 2 ≡ top - suc i = omega (arith, e, levels) in
       rw (a, b, d, roundEntered) (ap (enterMarks x) c)
 
@@ -103,7 +105,8 @@ module _ (x : List ℕ) (top : ℕ) (levels : field x LEVELS ≡ suc top) where
   last-counts e =
       let a : ltb (field x ROUND) (2 * field x LEVELS) ≡ true = lt-ltb (field x ROUND) (2 * field x LEVELS) (omega (arith, e, levels)) in
       let b : eqb (field x ROUND % 2) 0 ≡ false = ne-eqb (field x ROUND % 2) 0 (λ z. absurd (omega (arith, e, z))) in
-      let d : ltb (field x ROUND + 1) (2 * field x LEVELS) ≡ false = le-ltb (field x ROUND + 1) (2 * field x LEVELS) (omega (arith, e, levels)) in
+      let d : ltb (field x ROUND + 1) (2 * field x LEVELS) ≡ false =
+      le-ltb (field x ROUND + 1) (2 * field x LEVELS) (omega (arith, e, levels)) in
       rw (a, b, d, roundEntered)
 
   pub last-round : field x ROUND ≡ suc (suc (top + top)) → roundEntered x ≡ finished x

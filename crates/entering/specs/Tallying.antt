@@ -75,7 +75,7 @@ unfolding one-if
 stays n b e = rw e (omega arith)
 
 module _ (P : ℕ) (J : Task (Fin P)) (p : Fin P) (x : List ℕ) (u : Columns P J p x) where
-  pub tallied-but : (k : ℕ) → SameBut SUM 24576 x (tallied x k)
+  tallied-but : (k : ℕ) → SameBut SUM 24576 x (tallied x k)
   unfolding tallied
   tallied-but k = but-each SUM 24576 tallyOne 4096 (λ y c l. tally-but y c) (levelFrom x (k + 1) - levelFrom x k) (levelFrom x k)
       (level-inside P J p x u k) x

@@ -15,7 +15,8 @@ use Rattle.exchange.specs.Finite.{parts}
 use Rattle.exchange.specs.Protocol.{following}
 use Rattle.rounds.specs.Tests.{Member}
 use Rattle.rounds.specs.Task.{Task, Fit}
-use Rattle.rounds.specs.Rounds.{Body, Phase, marks, counts, totals, over, after, phase, State, isPart, told, added, redTold, sumTold, capped, tally, holdsb}
+use Rattle.rounds.specs.Rounds.{Body, Phase, marks, counts, totals, over, after, phase, State, isPart, told, added, redTold, sumTold}
+use Rattle.rounds.specs.Rounds.{capped, tally, holdsb}
 use Rattle.rounds.specs.Rounds.{taking}
 use Rattle.rounds.specs.Rounded.{overb, sizedb, phase-marks, phase-counts}
 use Rattle.rounds.specs.Order.{orderOf}
@@ -170,7 +171,8 @@ module _ (P : ℕ) (J : Task (Fin P)) {In : Type 0} (reads : Fin P → In → �
   abbrev y : List ℕ
   y = postEnd (eachFrom countOne n a x1)
 
-  wrote : WroteLines P (co1 .parts-few) J p x1 y (map (countLine P J p x1 co1 (s .own) k (fits .count) own-sums) (range a n) ++ (endLine P J p x1 co1 ∷ []))
+  wrote : WroteLines P (co1 .parts-few) J p x1 y
+      (map (countLine P J p x1 co1 (s .own) k (fits .count) own-sums) (range a n) ++ (endLine P J p x1 co1 ∷ []))
   wrote = counts-written P J p x1 co1 (s .own) k (fits .count) own-sums a n slots-are inside room
 
   abbrev z : List ℕ
@@ -245,7 +247,8 @@ module _ (P : ℕ) (J : Task (Fin P)) {In : Type 0} (reads : Fin P → In → �
   pub into-counts : Standing P J p (following (parts P) (Q P J reads p) p l) (partStepped x)
   unfolding partStepped enterCounts sizedb overb Spent Holding ofMarksb ofCountsb
   into-counts =
-      subst (λ (w : List ℕ). Standing P J p (following (parts P) (Q P J reads p) p l) (set w ROUND (field x ROUND + 1))) (sym entered-is) (record {
+      subst (λ (w : List ℕ). Standing P J p (following (parts P) (Q P J reads p) p l) (set w ROUND (field x ROUND + 1))) (sym entered-is)
+      (record {
         busy = turn P J reads p (co1 .parts-few) l x (st .busy) x1 y z
             (map (countLine P J p x1 co1 (s .own) k (fits .count) own-sums) (range a n) ++ (endLine P J p x1 co1 ∷ [])) work wrote
             (set-reset y (field x ROUND + 1)) (suc (l .round)) s

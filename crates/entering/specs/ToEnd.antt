@@ -16,12 +16,14 @@ use Rattle.base.specs.Range.{range}
 use Rattle.exchange.specs.Finite.{parts}
 use Rattle.exchange.specs.Protocol.{following}
 use Rattle.rounds.specs.Task.{Task}
-use Rattle.rounds.specs.Rounds.{Phase, totals, over, phase, State, isPart, told, added, redTold, sumTold, mastersTold, topTold, taking, capped}
+use Rattle.rounds.specs.Rounds.{Phase, totals, over, phase, State, isPart, told, added, redTold, sumTold, mastersTold, topTold, taking}
+use Rattle.rounds.specs.Rounds.{capped}
 use Rattle.rounds.specs.Rounded.{overb, sizedb, phase-totals, phase-over}
 use Rattle.rounds.specs.Order.{orderOf}
 use Rattle.rounds.specs.Upward.{ups}
 use Rattle.parts.specs.Held.{Entry}
-use Rattle.shares.specs.Grow.{statusNew, pairHeld, freshStatus, staysb, masterEntry, ghostEntry, anewb, childStatus, childEntries, freshEntries}
+use Rattle.shares.specs.Grow.{statusNew, pairHeld, freshStatus, staysb, masterEntry, ghostEntry, anewb, childStatus, childEntries}
+use Rattle.shares.specs.Grow.{freshEntries}
 use Rattle.shares.specs.Grow.{entryBy, entries}
 use Rattle.merging.specs.Totals.{grownOf}
 use Rattle.store.specs.Fields.{field, full, STAGE, CELLS, LEVELS, ROUND, RESULT, ENTRIES, TOTAL, HIGH, WRITTEN, RED, SUM, MARK}
@@ -42,7 +44,7 @@ use Rattle.entering.specs.Steps.{head-done, Wholes, last-round}
 
 -- the result is one of three
 module _ (n h : ℕ) where
-  pub result-kind : (eqb (resultOf n h) 0 || (eqb (resultOf n h) 8 || eqb (resultOf n h) 9)) ≡ true
+  result-kind : (eqb (resultOf n h) 0 || (eqb (resultOf n h) 8 || eqb (resultOf n h) 9)) ≡ true
   unfolding resultOf
   result-kind = go (leb 11 h) (leb n 4096)
     where
@@ -53,7 +55,7 @@ module _ (n h : ℕ) where
       go false true = refl
       go false false = refl
 
-  pub result-none : resultOf n h ≡ 0 → (h ≤ 10) × (n ≤ 4096)
+  result-none : resultOf n h ≡ 0 → (h ≤ 10) × (n ≤ 4096)
   unfolding resultOf
   result-none e = elim (decLt 10 h) [
     | yes k ↦
@@ -143,10 +145,6 @@ module _ (P : ℕ) (J : Task (Fin P)) {In : Type 0} (reads : Fin P → In → �
   quiet-counts : ofCountsb (phase (J .top) (l .round)) ≡ false
   unfolding ofCountsb
   quiet-counts = ap ofCountsb now
-
-  live : overb (phase (J .top) (l .round)) ≡ false
-  unfolding overb
-  live = ap overb now
 
   known : sizedb (phase (J .top) (l .round)) ≡ true
   unfolding sizedb
@@ -271,7 +269,8 @@ module _ (P : ℕ) (J : Task (Fin P)) {In : Type 0} (reads : Fin P → In → �
 
   held-z : heldIn z ≡ heldIn x1
   held-z =
-      held-same x1 z (reset .else ENTRIES (λ e. absurd (omega (arith, e))) (λ e. absurd (omega (arith, e))) (λ e. absurd (omega (arith, e))))
+      held-same x1 z (reset .else ENTRIES (λ e. absurd (omega (arith, e))) (λ e. absurd (omega (arith, e)))
+      (λ e. absurd (omega (arith, e))))
       (λ i h. reset .else i (λ e. absurd (omega (arith, e))) (λ e. absurd (omega (arith, e))) (λ e. absurd (omega (arith, e))))
 
   x1-same : endNumber x ≡ 0 → x1 ≡ x
@@ -280,7 +279,8 @@ module _ (P : ℕ) (J : Task (Fin P)) {In : Type 0} (reads : Fin P → In → �
   x1-kept : endNumber x ≢ 0 → x1 ≡ oldPlaces x
   x1-kept e = ap (λ (b : Bool). elim b [ true ↦ x | false ↦ oldPlaces x ]) (ne-eqb (endNumber x) 0 e)
 
-  before : (l .state .high ≡ grownOf (parts P) J p (l .state) .1) × (l .state .high ≤ 10 → heldIn x ≡ take 4096 (entries (parts P) J p (l .state)))
+  before : (l .state .high ≡ grownOf (parts P) J p (l .state) .1) × (l .state .high ≤ 10
+      → heldIn x ≡ take 4096 (entries (parts P) J p (l .state)))
   unfolding Holding
   before = subst (λ (f : Phase). Holding P J p f (l .state) x) now (st .holding)
 
@@ -314,7 +314,8 @@ module _ (P : ℕ) (J : Task (Fin P)) {In : Type 0} (reads : Fin P → In → �
   pub into-end : Standing P J p (following (parts P) (Q P J reads p) p l) (partStepped x)
   unfolding partStepped finished sizedb overb Spent ofMarksb ofCountsb
   into-end =
-      subst (λ (w : List ℕ). Standing P J p (following (parts P) (Q P J reads p) p l) (set w ROUND (field x ROUND + 1))) (sym entered-is) (record {
+      subst (λ (w : List ℕ). Standing P J p (following (parts P) (Q P J reads p) p l) (set w ROUND (field x ROUND + 1))) (sym entered-is)
+      (record {
         busy = turn P J reads p (co .parts-few) l x u x1 x1 z [] work (wrote-none P (co .parts-few) J p x1) reset (suc (l .round)) s lines
             (head-done x z (u .header) z-low
             (omega (
@@ -333,7 +334,8 @@ module _ (P : ℕ) (J : Task (Fin P)) {In : Type 0} (reads : Fin P → In → �
             )) (fits .sent);
         columns = columns-stay P J p x z z-stay co;
         marked = λ c h o.
-            z-far (MARK + c) (omega arith) (omega (arith, cell-low P J p x co c h)) ∙ st .marked c h o ∙ ap (λ (f : ℕ → ℕ). f c) (sym s-given);
+            z-far (MARK + c) (omega arith) (omega (arith, cell-low P J p x co c h)) ∙ st .marked c h o
+            ∙ ap (λ (f : ℕ → ℕ). f c) (sym s-given);
         no-marks = λ o c. told-none P c;
         no-counts = λ o i. added-none P i;
         spent = subst (λ (f : Phase). Spent P J f z) (sym next) tt;

@@ -15,7 +15,8 @@ use Rattle.base.specs.Range.{range, length-range}
 use Rattle.exchange.specs.Finite.{parts}
 use Rattle.exchange.specs.Protocol.{following}
 use Rattle.rounds.specs.Task.{Task, Fit, rule}
-use Rattle.rounds.specs.Rounds.{Phase, marks, counts, phase, State, isPart, told, added, redTold, sumTold, decides, redDown, sized, counting, taking}
+use Rattle.rounds.specs.Rounds.{Phase, marks, counts, phase, State, isPart, told, added, redTold, sumTold, decides, redDown, sized}
+use Rattle.rounds.specs.Rounds.{counting, taking}
 use Rattle.rounds.specs.Rounded.{overb, sizedb, phase-marks, phase-counts}
 use Rattle.rounds.specs.Order.{orderOf}
 use Rattle.rounds.specs.Upward.{ups}
@@ -118,7 +119,8 @@ module _ (P : ℕ) (J : Task (Fin P)) (fit : Fit J) {In : Type 0} (reads : Fin P
     abbrev y : List ℕ
     y = postEnd (eachFrom markOne n a x1)
 
-    wrote : WroteLines P (co1 .parts-few) J p x1 y (map (markLine P J p x1 co1 (s .red) new-flags) (range a n) ++ (endLine P J p x1 co1 ∷ []))
+    wrote : WroteLines P (co1 .parts-few) J p x1 y
+        (map (markLine P J p x1 co1 (s .red) new-flags) (range a n) ++ (endLine P J p x1 co1 ∷ []))
     wrote = marks-written P J p x1 co1 (s .red) new-flags k a n (cells-of-level P J p x co k (omega arith)) (level-inside P J p x co k) room
 
     lines-many : length (map (markLine P J p x1 co1 (s .red) new-flags) (range a n) ++ (endLine P J p x1 co1 ∷ [])) ≡ n + 1
@@ -133,7 +135,7 @@ module _ (P : ℕ) (J : Task (Fin P)) (fit : Fit J) {In : Type 0} (reads : Fin P
     pub enter-keeps : (i : ℕ) → i ≢ 14 → i < RED → field (enterMarks x k) i ≡ field x i
     enter-keeps i b c = ap (λ (w : List ℕ). field w i) entered-is ∙ wrote .same .else i b (inl (omega arith)) ∙ far i (inl c)
 
-    pub enter-size : length (enterMarks x k) ≡ length x
+    enter-size : length (enterMarks x k) ≡ length x
     enter-size = ap length entered-is ∙ wrote .same .size ∙ work .size
 
     -- the store after, where the round is set
@@ -297,13 +299,17 @@ module _ (P : ℕ) (J : Task (Fin P)) (fit : Fit J) {In : Type 0} (reads : Fin P
   k' = J .top - suc i
 
   keeps : (v : ℕ) → v ≢ 14 → v < RED → field (enterMarks x k') v ≡ field x v
-  keeps = enter-keeps P J fit reads p l x (st .busy) (st .columns) (l .state .given) (st .marked) hit hits-are (l .state .red) old-flags (suc i)
-      (omega arith) (suc (l .round)) next-phase (omega (arith, odd)) after after-red (λ v h. st .busy .sum v h ∙ sym (after-sum v)) after-given
+  keeps =
+      enter-keeps P J fit reads p l x (st .busy) (st .columns) (l .state .given) (st .marked) hit hits-are (l .state .red) old-flags (suc i)
+      (omega arith) (suc (l .round)) next-phase (omega (arith, odd)) after after-red (λ v h. st .busy .sum v h ∙ sym (after-sum v))
+      after-given
       (λ q j. ends-known P J p l x (st .busy) live-now whole q j) spent-is (fits .sent)
 
   size-is : length (enterMarks x k') ≡ length x
-  size-is = enter-size P J fit reads p l x (st .busy) (st .columns) (l .state .given) (st .marked) hit hits-are (l .state .red) old-flags (suc i)
-      (omega arith) (suc (l .round)) next-phase (omega (arith, odd)) after after-red (λ v h. st .busy .sum v h ∙ sym (after-sum v)) after-given
+  size-is =
+      enter-size P J fit reads p l x (st .busy) (st .columns) (l .state .given) (st .marked) hit hits-are (l .state .red) old-flags (suc i)
+      (omega arith) (suc (l .round)) next-phase (omega (arith, odd)) after after-red (λ v h. st .busy .sum v h ∙ sym (after-sum v))
+      after-given
       (λ q j. ends-known P J p l x (st .busy) live-now whole q j) spent-is (fits .sent)
 
   abbrev z' : List ℕ
@@ -332,7 +338,8 @@ module _ (P : ℕ) (J : Task (Fin P)) (fit : Fit J) {In : Type 0} (reads : Fin P
   marks-stay =
       subst (λ (w : List ℕ). Stay x (set w ROUND (field x ROUND + 1))) (sym entered-is')
       (enter-stay P J fit reads p l x (st .busy) (st .columns) (l .state .given) (st .marked) hit hits-are (l .state .red) old-flags (suc i)
-      (omega arith) (suc (l .round)) next-phase (omega (arith, odd)) after after-red (λ v h. st .busy .sum v h ∙ sym (after-sum v)) after-given
+      (omega arith) (suc (l .round)) next-phase (omega (arith, odd)) after after-red (λ v h. st .busy .sum v h ∙ sym (after-sum v))
+      after-given
       (λ q j. ends-known P J p l x (st .busy) live-now whole q j) spent-is (fits .sent) z'
       (set-reset (enterMarks x k') (field x ROUND + 1)) round-is stage-is result-is)
 
@@ -340,7 +347,9 @@ module _ (P : ℕ) (J : Task (Fin P)) (fit : Fit J) {In : Type 0} (reads : Fin P
   unfolding partStepped
   into-marks =
       subst (λ (w : List ℕ). Standing P J p (following (parts P) (Q P J reads p) p l) (set w ROUND (field x ROUND + 1))) (sym entered-is')
-      (enter-marks P J fit reads p l x (st .busy) (st .columns) (l .state .given) (st .marked) hit hits-are (l .state .red) old-flags (suc i)
-      (omega arith) (suc (l .round)) next-phase (omega (arith, odd)) after after-red (λ v h. st .busy .sum v h ∙ sym (after-sum v)) after-given
+      (enter-marks P J fit reads p l x (st .busy) (st .columns) (l .state .given) (st .marked) hit hits-are (l .state .red) old-flags
+      (suc i)
+      (omega arith) (suc (l .round)) next-phase (omega (arith, odd)) after after-red (λ v h. st .busy .sum v h ∙ sym (after-sum v))
+      after-given
       (λ q j. ends-known P J p l x (st .busy) live-now whole q j) spent-is (fits .sent) z'
       (set-reset (enterMarks x k') (field x ROUND + 1)) round-is stage-is result-is)

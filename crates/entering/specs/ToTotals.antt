@@ -14,14 +14,16 @@ use Rattle.base.specs.Bools.{one-if, not-both}
 use Rattle.exchange.specs.Finite.{parts}
 use Rattle.exchange.specs.Protocol.{following}
 use Rattle.rounds.specs.Task.{Task, Fit, rule}
-use Rattle.rounds.specs.Rounds.{Phase, counts, totals, phase, State, isPart, told, added, redTold, sumTold, decides, redDown, sized, counting, taking}
+use Rattle.rounds.specs.Rounds.{Phase, counts, totals, phase, State, isPart, told, added, redTold, sumTold, decides, redDown, sized}
+use Rattle.rounds.specs.Rounds.{counting, taking}
 use Rattle.rounds.specs.Rounds.{capped}
 use Rattle.rounds.specs.Rounded.{overb, sizedb, phase-counts, phase-totals}
 use Rattle.rounds.specs.Order.{orderOf}
 use Rattle.rounds.specs.Upward.{ups}
 use Rattle.shares.specs.Grow.{entries}
 use Rattle.merging.specs.Totals.{grownOf, grown-plain}
-use Rattle.store.specs.Fields.{field, full, STAGE, CELLS, LEVELS, ROUND, RESULT, ENTRIES, TOTAL, HIGH, WRITTEN, FIRST-CELL, FIRST-SLOT, RED, SUM, MARK}
+use Rattle.store.specs.Fields.{field, full, STAGE, CELLS, LEVELS, ROUND, RESULT, ENTRIES, TOTAL, HIGH, WRITTEN, FIRST-CELL, FIRST-SLOT, RED}
+use Rattle.store.specs.Fields.{SUM, MARK}
 use Rattle.store.specs.Headed.{header-is}
 use Rattle.standing.specs.Busy.{L, Busy, HoldsCell, HoldsSlot}
 use Rattle.turns.specs.Post.{postEnd}
@@ -223,7 +225,8 @@ module _ (P : ℕ) (J : Task (Fin P)) (fit : Fit J) {In : Type 0} (reads : Fin P
   into-totals =
       let low-round : field x ROUND ≤ 2 * field x LEVELS = omega (arith, u .round, odd, co .levels) in
       let t : s .total ≡ capped (s .total) = let h = fits .total next in omega arith in
-      subst (λ (w : List ℕ). Standing P J p (following (parts P) (Q P J reads p) p l) (set w ROUND (field x ROUND + 1))) (sym entered-is) (record {
+      subst (λ (w : List ℕ). Standing P J p (following (parts P) (Q P J reads p) p l) (set w ROUND (field x ROUND + 1))) (sym entered-is)
+      (record {
         busy = turn P J reads p (co1 .parts-few) l x u x1 y z (totalLine P J p x1 co1 (s .total) (s .high) ∷ endLine P J p x1 co1 ∷ []) work
             wrote (set-reset y (field x ROUND + 1)) (suc (l .round)) s
             (totals-order P J p x1 co1 s ∙ ap (λ (f : Phase). orderOf (parts P) J (ups P) f p s) (sym next))
@@ -241,7 +244,8 @@ module _ (P : ℕ) (J : Task (Fin P)) (fit : Fit J) {In : Type 0} (reads : Fin P
             )) (fits .sent);
         columns = columns-stay P J p x z z-stay co;
         marked = λ c h o.
-            z-far (MARK + c) (omega arith) (omega (arith, cell-low P J p x co c h)) ∙ st .marked c h o ∙ ap (λ (f : ℕ → ℕ). f c) (sym s-given);
+            z-far (MARK + c) (omega arith) (omega (arith, cell-low P J p x co c h)) ∙ st .marked c h o
+            ∙ ap (λ (f : ℕ → ℕ). f c) (sym s-given);
         no-marks = λ o c. told-none P c;
         no-counts = λ o i. added-none P i;
         spent = subst (λ (f : Phase). Spent P J f z) (sym next) tt;

@@ -49,7 +49,7 @@ module _ (y z : List ℕ) (many : field z WRITTEN ≡ field y WRITTEN) (agree : 
   unfolding entryCount
   count-same = ap (λ (n : ℕ). elim (ltb n 28696) [ true ↦ n | false ↦ 28696 ]) many
 
-  pub agree-longer : Longer y z 0
+  agree-longer : Longer y z 0
   agree-longer = record {
     part = low 1 (omega arith) (omega arith);
     entry = head 12 (omega arith) (omega arith);
@@ -67,7 +67,7 @@ module _ (y z : List ℕ) (many : field z WRITTEN ≡ field y WRITTEN) (agree : 
 -- everything of an entry that agrees
 module _ (P : ℕ) (J : Task (Fin P)) (p : Fin P) (y z : List ℕ) (own : field y PART ≡ suc (p .0)) (own' : field z PART ≡ suc (p .0))
     (agree : (i : ℕ) → 14 < i → field z i ≡ field y i) where
-  pub matches-same : (l : List (Fin P × Body)) (w : List Spot) → Matches P J p y own l w → Matches P J p z own' l w
+  matches-same : (l : List (Fin P × Body)) (w : List Spot) → Matches P J p y own l w → Matches P J p z own' l w
   unfolding Matches
   matches-same [] [] m = tt
   matches-same [] (s ∷ w) m = absurd m
@@ -75,11 +75,12 @@ module _ (P : ℕ) (J : Task (Fin P)) (p : Fin P) (y z : List ℕ) (own : field 
   matches-same (t ∷ l) (s ∷ w) (i, c, d, e, m) =
       (i, agree (CODE + s .entry) (omega arith) ∙ c, agree (VALUE + s .entry) (omega arith) ∙ d, e, matches-same l w m)
 
-  pub spots-same : (k j b : ℕ) → spotsFrom z k j b ≡ spotsFrom y k j b
+  spots-same : (k j b : ℕ) → spotsFrom z k j b ≡ spotsFrom y k j b
   unfolding spotsFrom
   spots-same zero j b = refl
   spots-same (suc k) j b =
-      ap₂ (λ (m : ℕ) (v : List Spot). map (spotAt j) (bitsFrom (16 - b) m b) ++ v) (agree (RECEIVERS + j) (omega arith)) (spots-same k (suc j) 0)
+      ap₂ (λ (m : ℕ) (v : List Spot). map (spotAt j) (bitsFrom (16 - b) m b) ++ v) (agree (RECEIVERS + j) (omega arith))
+      (spots-same k (suc j) 0)
 
 worked-longer : (x y : List ℕ) → Worked x y → Longer x y 0
 worked-longer x y w =
@@ -107,11 +108,12 @@ module _ (P : ℕ) (J : Task (Fin P)) {In : Type 0} (reads : Fin P → In → �
       (wrote : WroteLines P few J p x1 y ts) (reset : Reset y z) (r : ℕ) (s : State)
       (order : ordersOf P few J p ts ≡ orderOf (parts P) J (ups P) (phase (J .top) r) p s) where
     -- what a turn leaves
-    pub turn-same : (i : ℕ) → Untouched i → field z i ≡ field x i
+    turn-same : (i : ℕ) → Untouched i → field z i ≡ field x i
     turn-same i (n, h) = z-y i h ∙ y-x1 i n h ∙ x1-x i h
       where
         z-y : (i : ℕ) → ((1 ≤ i) × (i < 7)) ⊎ (((12 ≤ i) × (i < 41072)) ⊎ ((49264 ≤ i) × (i < 99440))) → field z i ≡ field y i
-        z-y i (inl (a, b)) = reset .else i (λ e. absurd (omega (arith, e))) (λ e. absurd (omega (arith, e))) (λ e. absurd (omega (arith, e)))
+        z-y i (inl (a, b)) =
+            reset .else i (λ e. absurd (omega (arith, e))) (λ e. absurd (omega (arith, e))) (λ e. absurd (omega (arith, e)))
         z-y i (inr (inl (a, b))) = reset .else i (λ e. absurd (omega (arith, e))) (λ e. absurd (omega (arith, e)))
             (λ e. absurd (omega (arith, e)))
         z-y i (inr (inr (a, b))) = reset .else i (λ e. absurd (omega (arith, e))) (λ e. absurd (omega (arith, e)))
@@ -130,7 +132,8 @@ module _ (P : ℕ) (J : Task (Fin P)) {In : Type 0} (reads : Fin P → In → �
     turn-longer : Longer x z (wrote .many)
     turn-longer =
         subst (Longer x z) (omega arith)
-        (longer-on x x1 z 0 (wrote .many + 0) (worked-longer x x1 work) (longer-on x1 y z (wrote .many) 0 (wrote .longer) (reset-longer y z reset)))
+        (longer-on x x1 z 0 (wrote .many + 0) (worked-longer x x1 work)
+        (longer-on x1 y z (wrote .many) 0 (wrote .longer) (reset-longer y z reset)))
 
     -- THE NEXT PLACE
     module _ (head : headerb z ≡ true) (round : field z ROUND ≡ r)
@@ -143,14 +146,12 @@ module _ (P : ℕ) (J : Task (Fin P)) {In : Type 0} (reads : Fin P → In → �
       abbrev t : List (Fin P × Body)
       t = orderOf (parts P) J (ups P) (phase (J .top) r) p s
 
-      written-is : (q : Fin P) → only (parts P) q (orderOf (parts P) J (ups P) (phase (J .top) r) p s) ≡ writing (parts P) J (phase (J .top) r) p q s
+      written-is : (q : Fin P) → only (parts P) q (orderOf (parts P) J (ups P) (phase (J .top) r) p s)
+          ≡ writing (parts P) J (phase (J .top) r) p q s
       written-is q = ordered (parts P) J (ups P) (once P J) (phase (J .top) r) p q s
 
       own-y : field y PART ≡ suc (p .0)
       own-y = wrote .same .else PART (λ e. absurd (omega (arith, e))) (inl (omega arith)) ∙ work .else PART (inl (omega arith)) ∙ u .part
-
-      own-z : field z PART ≡ suc (p .0)
-      own-z = reset .else PART (λ e. absurd (omega (arith, e))) (λ e. absurd (omega (arith, e))) (λ e. absurd (omega (arith, e))) ∙ own-y
 
       far : (i : ℕ) → 14 < i → field z i ≡ field y i
       far i h = reset .else i (λ e. absurd (omega (arith, e))) (λ e. absurd (omega (arith, e))) (λ e. absurd (omega (arith, e)))
@@ -167,7 +168,8 @@ module _ (P : ℕ) (J : Task (Fin P)) {In : Type 0} (reads : Fin P → In → �
           (sym (spots-same P J p y z own-y enters-own far (wrote .many) (entryCount x) 0))
           (matches-same P J p y z own-y enters-own far t (spotsFrom y (wrote .many) (entryCount x) 0)
           (subst (λ (c : ℕ). Matches P J p y own-y t (spotsFrom y (wrote .many) c 0)) counted
-          (subst (λ (o : List (Fin P × Body)). Matches P J p y own-y o (spotsFrom y (wrote .many) (entryCount x1) 0)) order (wrote .matches own-y)))) in
+          (subst (λ (o : List (Fin P × Body)). Matches P J p y own-y o (spotsFrom y (wrote .many) (entryCount x1) 0)) order
+          (wrote .matches own-y)))) in
           let b = enters P J p l x u z r s t (wrote .many) turn-longer size turn-same head round running done ends flags sums sized m
           (λ q. subst (λ (v : List Body). l .sent q + length v < 65536) (sym (written-is q)) (room q)) in
           subst (λ (f : Fin P → ℕ). Busy P J p (record {
@@ -180,5 +182,7 @@ module _ (P : ℕ) (J : Task (Fin P)) {In : Type 0} (reads : Fin P → In → �
           }) z) (fun-ext (λ q. ap (λ (v : List Body). l .sent q + length v) (written-is q))) b
         where
           enters-own : field z PART ≡ suc (p .0)
-          enters-own = part-own P J p l x u z r s t (wrote .many) turn-longer (reset .size ∙ wrote .same .size ∙ work .size) turn-same head round running
+          enters-own =
+              part-own P J p l x u z r s t (wrote .many) turn-longer (reset .size ∙ wrote .same .size ∙ work .size) turn-same head round
+              running
               done ends flags sums sized

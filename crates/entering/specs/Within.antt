@@ -1,22 +1,25 @@
 -- What a part holds has room in its columns.
--- Laws: six-range, edge-low (the six edges), own-held, family-held, slot-held (what is held), member-low, cell-low, slot-low
--- (where it stands), level-is, level-inside, cells-of-level, level-member (the cells of a level).
+-- Laws: six-range (the six edges), kids-in (the children are among the cells), own-held, family-held, slot-held (what is held), member-low,
+-- cell-low, slot-low (where it stands), level-is, level-inside, cells-of-level, level-member (the cells of a level).
 use mathlib.Core.Path.{_≡_, refl, sym, _∙_, ap, ap₂}
-use mathlib.Core.Bool.{_&&_}
+use mathlib.Core.Bool.{true, false, _&&_}
 use mathlib.Core.List.{List}
 use Prim.Native.Nat.{ℕ, suc, _+_, _-_, _≤_, _<_, Fin}
+use native.Mathlib.Nat.{min-le-right}
 use native.Mathlib.Omega.{arith}
-use lib.Dec.{T, eqb}
+use lib.Dec.{T, eqb, leb}
 use borrow.Author.Tests.{eq-eqb}
 use Rattle.base.specs.Bools.{is-true, and-both, or-first, or-second}
 use Rattle.base.specs.Range.{range, member-range, range-member}
+use Rattle.mesh.specs.Table.{sizeOf}
 use Rattle.exchange.specs.Finite.{parts}
 use Rattle.rounds.specs.Tests.{Member, any-member, member-any}
 use Rattle.rounds.specs.Task.{Task, sixEdges, has}
 use Rattle.rounds.specs.Rounds.{isPart, mine, holdsb}
 use Rattle.rounds.specs.Among.{is-same}
-use Rattle.store.specs.Fields.{field, CELLS, FIRST-CELL, FIRST-SLOT}
+use Rattle.store.specs.Fields.{field, CELLS, FIRST-CELL, FIRST-SLOT, STATUS, CHILD}
 use Rattle.standing.specs.Busy.{HoldsCell, HoldsSlot}
+use Rattle.turns.specs.Decide.{kidCount}
 use Rattle.turns.specs.Start.{levelFrom}
 use Rattle.entering.specs.Columns.{Columns}
 
@@ -24,8 +27,10 @@ pub six-range : range 0 6 ≡ sixEdges
 unfolding range
 six-range = refl
 
-pub edge-low : (e : ℕ) → Member e sixEdges → e < 6
-edge-low e m = let m' : Member e (range 0 6) = rw six-range m in let (a, b) = member-range 0 6 e m' in omega (arith, b)
+pub kids-in : (x : List ℕ) (c : ℕ) → kidCount x c ≤ field x CELLS - field x (CHILD + c)
+unfolding kidCount
+kids-in x c = min-le-right (elim (leb (field x (STATUS + c)) 64) [ true ↦ sizeOf (field x (STATUS + c)) | false ↦ 0 ])
+    (field x CELLS - field x (CHILD + c))
 
 module _ (P : ℕ) (J : Task (Fin P)) (p : Fin P) where
   pub own-held : (k c : ℕ) → Member c (J .cells k) → J .owner c ≡ p → HoldsCell P J p c

@@ -50,10 +50,10 @@ pub record SameElse (x y : List ℕ) : Type 0 where
 pub same-self : (x : List ℕ) → SameElse x x
 same-self x = record { size = refl; else = λ i h l. refl }
 
-pub same-on : (x y z : List ℕ) → SameElse x y → SameElse y z → SameElse x z
+same-on : (x y z : List ℕ) → SameElse x y → SameElse y z → SameElse x z
 same-on x y z a b = record { size = b .size ∙ a .size; else = λ i h l. b .else i h l ∙ a .else i h l }
 
-pub count-is : (y : List ℕ) → field y WRITTEN ≤ 28696 → entryCount y ≡ field y WRITTEN
+count-is : (y : List ℕ) → field y WRITTEN ≤ 28696 → entryCount y ≡ field y WRITTEN
 unfolding entryCount
 count-is y h = elim (decLt (field y WRITTEN) 28696) [
   | yes l ↦ rw (lt-ltb (field y WRITTEN) 28696 l, entryCount)
@@ -268,15 +268,19 @@ module _ (P : ℕ) (parts-few : P ≤ 16) (J : Task (Fin P)) (p : Fin P) where
           subst (λ (x : List ℕ). WroteLines x z ts) (posted-some y t e h) w in
           let g = entered-longer y k u m l h in
           let n = count-is y (omega arith) in
-          let at : entryCount (entered y (entryCode (t .body)) (entryValue (t .body)) (t .mask)) ≡ suc (entryCount y) = omega (arith, g .many) in
+          let at : entryCount (entered y (entryCode (t .body)) (entryValue (t .body)) (t .mask)) ≡ suc (entryCount y) =
+          omega (arith, g .many) in
           let j = field y WRITTEN in
-          let below : field y WRITTEN < entryCount (entered y (entryCode (t .body)) (entryValue (t .body)) (t .mask)) = omega (arith, at, n) in
+          let below : field y WRITTEN < entryCount (entered y (entryCode (t .body)) (entryValue (t .body)) (t .mask)) =
+          omega (arith, at, n) in
           let c : codeAt z (field y WRITTEN) ≡ entryCode (t .body) = v .longer .codes j below ∙ entered-code y k u m l h in
           let d : valueAt z (field y WRITTEN) ≡ entryValue (t .body) = v .longer .values j below ∙ entered-value y k u m l h in
           let r : receiversAt z (field y WRITTEN) ≡ t .mask = v .longer .receivers j below ∙ entered-mask y k u m l h in
           let q : spotsFrom z (suc (v .many)) (entryCount y) 0
-          ≡ map (spotAt (field y WRITTEN)) (bitsFrom 16 (t .mask) 0) ++ spotsFrom z (v .many) (entryCount (entered y (entryCode (t .body)) (entryValue (t .body)) (t .mask))) 0 =
-          spots-first z (v .many) (entryCount y) (field y WRITTEN) (t .mask) (entryCount (entered y (entryCode (t .body)) (entryValue (t .body)) (t .mask))) n r (sym at) in
+          ≡ map (spotAt (field y WRITTEN)) (bitsFrom 16 (t .mask) 0) ++ spotsFrom z (v .many)
+          (entryCount (entered y (entryCode (t .body)) (entryValue (t .body)) (t .mask))) 0 =
+          spots-first z (v .many) (entryCount y) (field y WRITTEN) (t .mask)
+          (entryCount (entered y (entryCode (t .body)) (entryValue (t .body)) (t .mask))) n r (sym at) in
           record {
             many = suc (v .many);
             few = omega (arith, v .few);
@@ -294,7 +298,8 @@ module _ (P : ℕ) (parts-few : P ≤ 16) (J : Task (Fin P)) (p : Fin P) where
       (rest : (y : List ℕ) → SameElse x y → field y WRITTEN + length us ≤ 28696 → WroteLines y (g y) us) where
     pub wrote-each : (n c : ℕ) (does : (d : ℕ) → c ≤ d → d < c + n → Sent P (line d))
         → ((y : List ℕ) (d : ℕ) → SameElse x y → c ≤ d → d < c + n → f y d ≡ postLine y (line d))
-        → (y : List ℕ) → SameElse x y → field y WRITTEN + (n + length us) ≤ 28696 → WroteLines y (g (eachFrom f n c y)) (map line (range c n) ++ us)
+        → (y : List ℕ) → SameElse x y → field y WRITTEN + (n + length us) ≤ 28696
+        → WroteLines y (g (eachFrom f n c y)) (map line (range c n) ++ us)
     unfolding eachFrom range
     wrote-each zero c does is y s h = rest y s (omega arith)
     wrote-each (suc n) c does is y s h =

@@ -201,7 +201,7 @@ module _ (b : List ℕ) (P n result : ℕ) (qs : List (List ℕ)) (ss : List ℕ
     unfolding mergeTable
     table-is = rw entries-are (joint-merged n qs ss P (sound-parts n qs ss (s .sound)) es (s .joint) l (s .order))
 
-    pub joined-merges : Merges b
+    joined-merges : Merges b
     joined-merges =
         record {
           header = rw (header-agrees b (storeIn b 0) (λ k h. own k (omega arith))) (first .header);
@@ -214,7 +214,7 @@ module _ (b : List ℕ) (P n result : ℕ) (qs : List (List ℕ)) (ss : List ℕ
           sound = rw (stores-are, coarse-are, corners-are, cells-are, table-is) (s .sound);
         }
 
-    pub joined-table : mergeTable (storesIn b) (field b COARSE) ≡ ss
+    joined-table : mergeTable (storesIn b) (field b COARSE) ≡ ss
     joined-table = rw (stores-are, coarse-are) table-is
 
     -- THE THEOREM

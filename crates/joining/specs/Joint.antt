@@ -1,8 +1,8 @@
 -- The entries of all parts, by part, in whatever order of the parts.
 --   Order P l          l has the parts 1 to P, each once
 --   Joint n qs ss P f  the parts' entries f have the masters of the table ss, each once, and no others, in whatever order
--- Laws: joint-merged and joint-complete (what merging makes of them), joint-old (the entries of a split table), joint-new and
--- joint-rounds (the entries of the parts after the rounds).
+-- Laws: joint-merged and joint-complete (what merging makes of them), joint-old (the entries of a split table), joint-new (the entries
+-- of the parts after the rounds).
 use mathlib.Core.Path.{_≡_, refl, sym, _∙_, ap, subst}
 use mathlib.Core.Logic.{⊎-elim}
 use mathlib.Core.List.{List, [], _∷_, _++_, map, flatMap, flatten, List·Memᴰ, List·Memᴰ·head, List·Memᴰ·tail, Memᴰ·of-map}
@@ -98,8 +98,3 @@ module _ {Part : Type 0} {F : Finite Part} (X : Settled F) (P : ℕ) (part : ℕ
         cover = λ l o. rw (flat-all l) (entries-cover X (map part l) (each-part l o));
         apart = λ l o. rw (flat-all l) (all-apart X (map part l) (named-once l (o .within) (o .once)));
       }
-
--- with the parts numbered as the rounds have them
-pub joint-rounds : (Q : ℕ) (X : Settled (parts (suc Q)))
-    → Joint (X .n) (X .qs) (tableIn X) (suc Q) (λ p. entriesIn X (nthPart Q p))
-joint-rounds Q X = joint-new X (suc Q) (nthPart Q) numberOf (named Q) (λ p. omega arith) (λ p. omega (arith, p .1))

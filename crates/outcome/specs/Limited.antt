@@ -43,7 +43,7 @@ sizes top f g rise is (suc n) h =
     )
 
 module _ (P : ℕ) (J : Task (Fin P)) (p : Fin P) (x : List ℕ) (u : Columns P J p x) where
-  pub limits-of : Limits P J
+  limits-of : Limits P J
   limits-of = record {
     cells = λ k c m.
         let h = u .no-cells k c m in
@@ -63,7 +63,7 @@ module _ (P : ℕ) (J : Task (Fin P)) (p : Fin P) (x : List ℕ) (u : Columns P 
     paths = λ k c m. let w = u .paths k c m in ap length (w .is) ∙ ap suc (w .deep);
   }
 
-  pub small-of : SmallTask (parts P) J 4096
+  small-of : SmallTask (parts P) J 4096
   small-of = record {
     levels = omega (arith, u .levels-few);
     cells =

@@ -22,7 +22,8 @@ use Rattle.exchange.specs.Finite.{Finite, parts}
 use Rattle.exchange.specs.Protocol.{Protocol, Machine, Alone, Gives, following, atStart, withQueue, withBody}
 use Rattle.rounds.specs.Task.{Task, Fit}
 use Rattle.rounds.specs.Rounds.{Body, State, phase, isPart}
-use Rattle.rounds.specs.Rounded.{protocol, overb, endedb, wholeb, silent, whole-is, whole-all, phase-marks, phase-counts, phase-totals, phase-over}
+use Rattle.rounds.specs.Rounded.{protocol, overb, endedb, wholeb, silent, whole-is, whole-all, phase-marks, phase-counts, phase-totals}
+use Rattle.rounds.specs.Rounded.{phase-over}
 use Rattle.rounds.specs.Among.{is-self, is-eq}
 use Rattle.rounds.specs.Order.{ordered}
 use Rattle.rounds.specs.Upward.{ups, once}
@@ -54,6 +55,14 @@ use Rattle.entering.specs.ToEnd.{into-end, end-stay}
 use Rattle.entering.specs.Passing.{fetched, fetch-stay, handed, hand-stay}
 use Rattle.outcome.specs.Program.{yields, gives, nine, act}
 
+refuse-on : (k : ℕ) (b : Bool) (a : Answer) → refuse k b a ≡ Accepted → (b ≡ true) × (a ≡ Accepted)
+unfolding refuse
+refuse-on k true a e = (refl, e)
+refuse-on k false a e = no-accept e
+  where
+    no-accept : {A : Type 0} → Refused k ≡ Accepted → A
+    no-accept e = let z : _≡_ {A = ℕ} 0 1 = cc in absurd (omega arith)
+
 -- an answer that is accepted, and one that is not
 refused-none : (a : Answer) (y : List ℕ) → (a ≡ Accepted → ⊥) → yields a y ≡ none
 unfolding yields
@@ -72,25 +81,12 @@ some-accepted (Refused k) y w e = no-some e
     no-some : {A B : Type 0} {v : B} → _≡_ {A = Option B} none (some v) → A
     no-some e = let z : _≡_ {A = ℕ} 0 1 = cc in absurd (omega arith)
 
--- a chain of tests
-refuse-two : (k : ℕ) (b : Bool) (a : Answer) → refuse k b a ≡ Accepted → (b ≡ true) × (a ≡ Accepted)
-unfolding refuse
-refuse-two k true a e = (refl, e)
-refuse-two k false a e = no-accept e
-  where
-    no-accept : {A : Type 0} → Refused k ≡ Accepted → A
-    no-accept e = let z : _≡_ {A = ℕ} 0 1 = cc in absurd (omega arith)
-
-accepts : (k : ℕ) (b : Bool) (a : Answer) → b ≡ true → refuse k b a ≡ a
-unfolding refuse
-accepts k b a e = ap (λ (c : Bool). refuse k c a) e
-
 -- a message is taken by a part that has started alone
 hand-started : (x m : List ℕ) → handAnswer x m ≡ Accepted → field x STAGE ≡ 0 → ⊥
 unfolding handAnswer
 hand-started x m e z =
-    let (a, f) = refuse-two 15 (leb full (length x)) _ e in
-    let (b, g) = refuse-two 16 (headerb x && not (eqb (field x STAGE) 0)) _ f in
+    let (a, f) = refuse-on 15 (leb full (length x)) _ e in
+    let (b, g) = refuse-on 16 (headerb x && not (eqb (field x STAGE) 0)) _ f in
     let t : T (headerb x && not (eqb (field x STAGE) 0)) = rw b tt in
     let n = and-right (headerb x) (not (eqb (field x STAGE) 0)) t in
     not-yet (eqb (field x STAGE) 0) (eq-eqb (field x STAGE) 0 z) n
@@ -103,18 +99,18 @@ hand-started x m e z =
 start-stage : (x ms : List ℕ) → startAnswer x ms ≡ Accepted → field x STAGE ≡ 0
 unfolding startAnswer
 start-stage x ms e =
-    let (a, f) = refuse-two 15 (leb full (length x)) _ e in
-    let (b, g) = refuse-two 16 (headerb x && eqb (field x STAGE) 0) _ f in
+    let (a, f) = refuse-on 15 (leb full (length x)) _ e in
+    let (b, g) = refuse-on 16 (headerb x && eqb (field x STAGE) 0) _ f in
     let t : T (headerb x && eqb (field x STAGE) 0) = rw b tt in
     eqb-true (field x STAGE) 0 (is-true (eqb (field x STAGE) 0) (and-right (headerb x) (eqb (field x STAGE) 0) t))
 
 -- the step's test
 module _ (x : List ℕ) where
-  pub step-accepted : partAnswer x ≡ Accepted → (full ≤ length x) × (headerb x ≡ true) × (field x STAGE ≡ 1) × (readyb x ≡ true)
+  step-accepted : partAnswer x ≡ Accepted → (full ≤ length x) × (headerb x ≡ true) × (field x STAGE ≡ 1) × (readyb x ≡ true)
   unfolding partAnswer
   step-accepted e =
-      let (a, f) = refuse-two 15 (leb full (length x)) _ e in
-      let (b, g) = refuse-two 16 (headerb x && (eqb (field x STAGE) 1 && readyb x)) Accepted f in
+      let (a, f) = refuse-on 15 (leb full (length x)) _ e in
+      let (b, g) = refuse-on 16 (headerb x && (eqb (field x STAGE) 1 && readyb x)) Accepted f in
       let t : T (headerb x && (eqb (field x STAGE) 1 && readyb x)) = rw b tt in
       let c = and-left (headerb x) (eqb (field x STAGE) 1 && readyb x) t in
       let d = and-right (headerb x) (eqb (field x STAGE) 1 && readyb x) t in (
@@ -127,7 +123,7 @@ module _ (x : List ℕ) where
       leb-le : leb full (length x) ≡ true → full ≤ length x
       leb-le e = leb→le full (length x) (rw e tt)
 
-  pub step-accepts : full ≤ length x → headerb x ≡ true → field x STAGE ≡ 1 → readyb x ≡ true → partAnswer x ≡ Accepted
+  step-accepts : full ≤ length x → headerb x ≡ true → field x STAGE ≡ 1 → readyb x ≡ true → partAnswer x ≡ Accepted
   unfolding partAnswer refuse
   step-accepts l h s r = rw (le-leb full (length x) l, h, eq-eqb (field x STAGE) 1 s, r, partAnswer)
 
@@ -167,7 +163,8 @@ module _ (P : ℕ) (J : Task (Fin P)) (p : Fin P) (l : L P J) (x : List ℕ) (st
           rw (eq-eqb (suc (q .0)) (field x PART) (ap (λ (r : Fin P). suc (r .0)) z ∙ sym (u .part)))
       go false e =
           let f : wholeb (parts P) J (l .round) q p (l .got q) ≡ endedb (l .got q) = rw (e, live, wholeb) in
-          let g : field x (80 + q .0) ≡ suc (l .round) = u .ends q e live ∙ ap (λ (b : Bool). l .round + one-if b) (sym f ∙ w) ∙ omega arith in
+          let g : field x (80 + q .0) ≡ suc (l .round) =
+          u .ends q e live ∙ ap (λ (b : Bool). l .round + one-if b) (sym f ∙ w) ∙ omega arith in
           let i : ENDED + suc (q .0) ≡ 80 + q .0 = omega arith in
           let h : field x (ENDED + suc (q .0)) ≡ field x ROUND + 1 = ap (field x) i ∙ g ∙ omega (arith, u .round) in
           rw (eq-eqb (field x (ENDED + suc (q .0))) (field x ROUND + 1) h) (or-not (eqb (suc (q .0)) (field x PART)))
@@ -189,12 +186,13 @@ module _ (P : ℕ) (J : Task (Fin P)) (p : Fin P) (l : L P J) (x : List ℕ) (st
           let h : field x (ENDED + suc (q .0)) ≢ field x ROUND + 1 =
           (λ z. absurd (omega (arith, ap (field x) i, z, u .ends q e live, ap one-if d, u .round))) in
           let o : suc (q .0) ≢ field x PART =
-          (λ z. not-both (isPart (parts P) q p) (ap (λ (r : Fin P). isPart (parts P) r p) (Fin·val-path (omega (arith, z, u .part))) ∙ is-self (parts P) p) e) in
+          (λ z. not-both (isPart (parts P) q p) (ap (λ (r : Fin P). isPart (parts P) r p) (Fin·val-path (omega (arith, z, u .part)))
+          ∙ is-self (parts P) p) e) in
           let t : waitsFor x (suc (q .0)) ≡ true =
           rw (ne-eqb (suc (q .0)) (field x PART) o, ne-eqb (field x (ENDED + suc (q .0))) (field x ROUND + 1) h, waitsFor) in
           not-both (waitsFor x (suc (q .0))) t w
 
-  pub ready-now : (live : overb (phase (J .top) (l .round)) ≡ false) → Wholes P J p l x (st .busy) → readyb x ≡ true
+  ready-now : (live : overb (phase (J .top) (l .round)) ≡ false) → Wholes P J p l x (st .busy) → readyb x ≡ true
   unfolding readyb
   ready-now live w =
       let e : someFrom (waitsFor x) (field x PARTS) 1 ≡ false =
@@ -205,7 +203,7 @@ module _ (P : ℕ) (J : Task (Fin P)) (p : Fin P) (l : L P J) (x : List ℕ) (st
       waits zero a b = absurd (omega arith)
       waits (suc i) a b = waits-not live (i, omega arith) (w (i, omega arith))
 
-  pub wholes : (live : overb (phase (J .top) (l .round)) ≡ false) → readyb x ≡ true → Wholes P J p l x (st .busy)
+  wholes : (live : overb (phase (J .top) (l .round)) ≡ false) → readyb x ≡ true → Wholes P J p l x (st .busy)
   unfolding readyb
   wholes live r q =
       let h : q .0 < P = q .1 in
@@ -246,7 +244,7 @@ module _ (P : ℕ) (J : Task (Fin P)) (p : Fin P) (l : L P J) (x : List ℕ) (st
 
   module _ (fit : Fit J) {In : Type 0} (reads : Fin P → In → ℕ → ℕ) (low : l .round < last) (w : Wholes P J p l x (st .busy))
       (fits : Fitted P J p (following (parts P) (Q P J reads p) p l)) where
-    pub turned-stands : Standing P J p (following (parts P) (Q P J reads p) p l) (partStepped x)
+    turned-stands : Standing P J p (following (parts P) (Q P J reads p) p l) (partStepped x)
     turned-stands = go (turn-of (J .top) (l .round) (omega arith))
       where
         go : Turn (J .top) (l .round) → Standing P J p (following (parts P) (Q P J reads p) p l) (partStepped x)
@@ -258,7 +256,7 @@ module _ (P : ℕ) (J : Task (Fin P)) (p : Fin P) (l : L P J) (x : List ℕ) (st
         go (in-totals e) = into-end P J reads p l x st e w fits
         go (in-over e) = absurd (omega (arith, e))
 
-    pub turned-stay : Stay x (partStepped x)
+    turned-stay : Stay x (partStepped x)
     turned-stay = go (turn-of (J .top) (l .round) (omega arith))
       where
         go : Turn (J .top) (l .round) → Stay x (partStepped x)
@@ -438,7 +436,8 @@ module _ (P : ℕ) (J : Task (Fin P)) (fit : Fit J) (reads : Fin P → List ℕ 
         hand-is P J p l x (st .busy) q p' k b (some-accepted (handAnswer x (pack P J q p' k b)) (handAfter x (pack P J q p' k b)) y e)
 
     hand-goes : (q : Fin P) (b : Body) → Fitted P J p (withBody (parts P) l q b) → wholeb (parts P) J (l .round) q p (l .got q) ≡ false
-        → Gives (parts P) rounds machine (Hand (pack P J q p (l .before q + length (l .got q)) b)) x (λ y. Standing P J p (withBody (parts P) l q b) y × Stay (first p) y) []
+        → Gives (parts P) rounds machine (Hand (pack P J q p (l .before q + length (l .got q)) b)) x
+        (λ y. Standing P J p (withBody (parts P) l q b) y × Stay (first p) y) []
     unfolding act
     hand-goes q b f w =
         let (a, c) = handed P J p l x st q b f w in

@@ -1,7 +1,7 @@
 -- An accepted split: what its answer says, and what the stores of its parts are.
 --   Splits Q n qs ss os      a sound table over an accepted mesh, with the owners of Q + 1 parts, within the limits
--- Laws: splits-from (an accepted split is so), split-table, split-room, split-after and split-store (the table and the stores after the call),
--- split-slots and split-bound (its slots, and how small its task is), split-columns, split-header, split-marks and split-before (a
+-- Laws: splits-from (an accepted split is so), split-table, split-room, split-after and split-store (the table and the stores after the
+-- call), split-slots and split-bound (its slots, and how small its task is), split-columns, split-header, split-marks and split-before (a
 -- store of it, by `Columns` and `Idle`).
 use mathlib.Core.Path.{_≡_, sym, ap, subst}
 use mathlib.Core.Bool.{Bool, true, _&&_}
@@ -105,7 +105,7 @@ module _ (ps : List ℤ) (ts ss : List ℕ) (Q : ℕ) (os b : List ℕ) (e : spl
       let (_, d) = passed 2 (positionsb ps) three r in
       (a, passed 3 (cellsb n qs) four d .0)
 
-  pub split-room : 16 * full ≤ length b
+  split-room : 16 * full ≤ length b
   split-room = steps .0
 
   pub split-table : tableAnswer ps ts ss ≡ Accepted
@@ -128,7 +128,7 @@ module _ (ps : List ℤ) (ts ss : List ℕ) (Q : ℕ) (os b : List ℕ) (e : spl
       }
 
   -- the table after the call
-  pub split-after : splitAfter ps ts ss (suc Q) os b ≡ storesAfter (cornerCount ps) (fours ts) ss (suc Q) os b
+  split-after : splitAfter ps ts ss (suc Q) os b ≡ storesAfter (cornerCount ps) (fours ts) ss (suc Q) os b
   unfolding splitAfter splitIn
   split-after = ap (λ (a : Answer). splitIn a (storesAfter (cornerCount ps) (fours ts) ss (suc Q) os b) b) e
 

@@ -94,10 +94,10 @@ module _ (Q n : ℕ) (qs : List (List ℕ)) (ss os : List ℕ) (four : All (λ q
   number-back : (o : ℕ) → (1 ≤ o) × (o ≤ suc Q) → o ≡ suc (nthPart Q o .0)
   number-back o (a, b) = sym (named Q .forth o a b)
 
-  pub by-owner : (k c : ℕ) → Member c (cells k) → J .owner c ≡ p → Holds c
+  by-owner : (k c : ℕ) → Member c (cells k) → J .owner c ≡ p → Holds c
   by-owner k c m e = (k, m, or-first (isPart F (J .owner c) p) (isPart F (J .family c) p) (rw (is-same F (J .owner c) p e) tt))
 
-  pub by-family : (k c : ℕ) → Member c (cells k) → J .family c ≡ p → Holds c
+  by-family : (k c : ℕ) → Member c (cells k) → J .family c ≡ p → Holds c
   by-family k c m e = (k, m, or-second (isPart F (J .owner c) p) (isPart F (J .family c) p) (rw (is-same F (J .family c) p e) tt))
 
   -- children of a family that is here

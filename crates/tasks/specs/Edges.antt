@@ -112,7 +112,7 @@ module _ (n : ℕ) (qs : List (List ℕ)) (ss : List ℕ) where
     joins-number e f p q =
         sym (or-false (joinsb eqb (edgeIn ks e) (edgeIn ks f))) ∙ held-numbers ks (f ∷ []) e (q, tt) p ∙ or-false (joinsb sameb e f)
 
-    pub key-means : (c d e f : ℕ) → c < length ss → d < length ss → e < 6 → f < 6
+    key-means : (c d e f : ℕ) → c < length ss → d < length ss → e < 6 → f < 6
         → isb (key d f) (key c e) ≡ joinsb sameb (edge [] (nthCell n qs ss c) e) (edge [] (nthCell n qs ss d) f)
     key-means c d e f hc hd he hf =
         sym (joins-sorted (edge 0 (numberedCell n qs ss c) e) (edge 0 (numberedCell n qs ss d) f))

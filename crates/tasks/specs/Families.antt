@@ -36,7 +36,7 @@ use Rattle.tasks.specs.Levels.{below-first, below-more, below-none}
 
 -- the numbers that lie between two bounds, among others
 module _ (f : ℕ → Bool) (b s : ℕ) where
-  pub filter-between : (a m : ℕ) → ((x : ℕ) → a ≤ x → x < a + m → b ≤ x → x < b + s → f x ≡ true)
+  filter-between : (a m : ℕ) → ((x : ℕ) → a ≤ x → x < a + m → b ≤ x → x < b + s → f x ≡ true)
       → ((x : ℕ) → a ≤ x → x < a + m → f x ≡ true → (b ≤ x) × (x < b + s))
       → filterb f (range a m) ≡ range (max a b) (min (a + m) (b + s) - max a b)
   unfolding filterb range
@@ -124,7 +124,7 @@ module _ (n : ℕ) (qs : List (List ℕ)) (ss : List ℕ) (s : Sound n qs ss) wh
       (omega (arith, known k), rw e at (a .inside), rw e at (a .status-is)))
 
   -- behind the coarse cells stand the children of all cells of lower levels
-  pub below-up : (k : ℕ) → k < length (levelsOf n qs ss) → cellsBelow n qs ss (suc k) ≡ firstChild n qs ss (cellsBelow n qs ss k)
+  below-up : (k : ℕ) → k < length (levelsOf n qs ss) → cellsBelow n qs ss (suc k) ≡ firstChild n qs ss (cellsBelow n qs ss k)
   unfolding firstChild levelsOf
   below-up zero h =
       let z : sizes (take (cellsBelow n qs ss 0) ss) ≡ 0 = ap (λ (x : ℕ). sizes (take x ss)) (below-none n qs ss) ∙ none-yet ss in
@@ -199,7 +199,7 @@ module _ (n : ℕ) (qs : List (List ℕ)) (ss : List ℕ) (s : Sound n qs ss) wh
     pub number : d ≡ firstChild n qs ss c + i
     pub parent : nthCell n qs ss d .parent ≡ c
 
-  pub born-to : (k d : ℕ) → Member d (numbersOf n qs ss (suc k)) → BornTo k d
+  born-to : (k d : ℕ) → Member d (numbersOf n qs ss (suc k)) → BornTo k d
   born-to k d m =
       let l = lv n qs ss k in
       let q = stands n qs ss s (suc k) d m in

@@ -90,7 +90,7 @@ module _ (Q n : ℕ) (qs : List (List ℕ)) (ss os : List ℕ) (sound : T (sound
   abbrev hasb : ℕ → ℕ → Bool
   hasb c x = anyb (λ e. eqb (slotOf n qs ss c e) x) sixEdges
 
-  pub no-slot : (i x : ℕ) → suc Q ≤ i → holdsSlot n qs ss os (suc i) x ≡ false
+  no-slot : (i x : ℕ) → suc Q ≤ i → holdsSlot n qs ss os (suc i) x ≡ false
   unfolding holdsSlot
   no-slot i x g =
       same-test (holdsSlot n qs ss os (suc i) x) false

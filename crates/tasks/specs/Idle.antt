@@ -85,7 +85,7 @@ module _ (n : ℕ) (qs : List (List ℕ)) (ss : List ℕ) (P : ℕ) (os : List �
       )
 
   -- its masters
-  pub master-is : (c : ℕ) → c < length ss → ownb x c ≡ masterb os (suc p) c
+  master-is : (c : ℕ) → c < length ss → ownb x c ≡ masterb os (suc p) c
   unfolding ownb masterb holdsCell
   master-is c h = go (holdsCell n qs ss os (suc p) c) refl (masterb os (suc p) c) refl
     where

@@ -21,6 +21,7 @@ use Rattle.rounds.specs.Tests.{Member}
 use Rattle.store.specs.declared.Place.{Place}
 use Rattle.store.specs.Places.{levelIn, placeOf, eights, pathOf, path-place}
 use Rattle.parts.specs.Owners.{nthCell}
+use Rattle.held.specs.Key.{length-eights}
 use Rattle.splitting.specs.Numbers.{numbersOf, at-level, stands}
 use Rattle.shares.specs.Grow.{coarseb}
 use Rattle.entering.specs.Columns.{Path}
@@ -62,11 +63,6 @@ module _ (n : ℕ) (qs : List (List ℕ)) (ss : List ℕ) (few : length qs ≤ 2
       let e : nthCell n qs ss c .path ≡ pathAt (lv n qs ss k .cells) (p .t) =
       ap (λ (x : ℕ). nthCell n qs ss x .path) (p .number) ∙ ap (λ (c : Cell Point). c .path) (a .cell-is) in
       rw e (place-room k (p .t) (p .below))
-
-length-eights : (m x : ℕ) → length (eights m x) ≡ m
-unfolding eights
-length-eights zero x = refl
-length-eights (suc m) x = ap suc (length-eights m (x / 8))
 
 length-path : (p : Place) → length (pathOf p) ≡ suc (min (levelIn p) 10)
 unfolding pathOf

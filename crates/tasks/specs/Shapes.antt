@@ -52,7 +52,7 @@ middle-own e f he hf q =
     (belowb-at (λ e. belowb (λ f. impb (eqb (middle e) (middle f)) (eqb e f)) 6) 6 middles e he) f hf)
     (rw (eq-eqb (middle e) (middle f) q) tt))
 
-pub edges-apart : (c : Cell Point) → PointsApart c → (e f : ℕ) → e < 6 → f < 6 → T (joinsb sameb (edge [] c e) (edge [] c f)) → e ≡ f
+edges-apart : (c : Cell Point) → PointsApart c → (e f : ℕ) → e < 6 → f < 6 → T (joinsb sameb (edge [] c e) (edge [] c f)) → e ≡ f
 unfolding edge
 edges-apart c a e f he hf t =
     let (x, y, z) = middle-ends e he in
@@ -150,7 +150,7 @@ module _ (n : ℕ) (qs : List (List ℕ)) (ss : List ℕ) (four : All (λ q. len
           child-apart (patternOf (getD (l .statuses) (b .p) 0)) (b .i) small (b .child) n k c (getD (lv n qs ss (suc k) .cells) t noCell)
           (omega (arith, s .high)) r (ap (λ (c : Cell Point). c .points) (b .is))
 
-  pub cell-apart : (k c : ℕ) → Member c (numbersOf n qs ss k) → PointsApart (nthCell n qs ss c)
+  cell-apart : (k c : ℕ) → Member c (numbersOf n qs ss k) → PointsApart (nthCell n qs ss c)
   cell-apart k c m =
       let p = stands n qs ss s k c m in
       let a = at-level n qs ss s k (p .t) (p .below) in

@@ -47,7 +47,7 @@ module _ (n : ℕ) (qs : List (List ℕ)) (ss : List ℕ) where
   length-six (c ∷ l) =
       length-append (edges 0 (numberedCell n qs ss c)) (flatMap (λ c. edges 0 (numberedCell n qs ss c)) l) ∙ omega (arith, length-six l)
 
-  pub keys-few : (k : ℕ) → length (keysAt n qs ss k) ≤ 6 * length (levelAt n qs ss k .cells)
+  keys-few : (k : ℕ) → length (keysAt n qs ss k) ≤ 6 * length (levelAt n qs ss k .cells)
   unfolding keysAt
   keys-few k =
       let l = range (cellsBelow n qs ss k) (length (levelAt n qs ss k .cells)) in
@@ -62,7 +62,7 @@ module _ (n : ℕ) (qs : List (List ℕ)) (ss : List ℕ) where
   unfolding slotsBelow
   slots-none = refl
 
-  pub slots-below : (k : ℕ) → slotsBelow n qs ss k ≤ 6 * cellsBelow n qs ss k
+  slots-below : (k : ℕ) → slotsBelow n qs ss k ≤ 6 * cellsBelow n qs ss k
   slots-below zero = omega (arith, slots-none)
   slots-below (suc k) = omega (arith, slots-follow n qs ss k, below-more n qs ss k, keys-few k, slots-below k)
 
