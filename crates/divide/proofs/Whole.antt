@@ -1,0 +1,156 @@
+-- What a divisible table gives the functions, and what they give it.
+-- Laws: ones-are, masks-are (the masks), table-of, kids-of, levels-of, ready-of, small-of (what the functions ask for), stores-are
+-- (what they
+-- leave), answer-short, answer-table, answer-parts, answer-owners, answer-yes (the answer).
+use mathlib.Core.Path.{_≡_, refl, sym, _∙_, ap, ap₂}
+use mathlib.Core.List.{List, [], _∷_, _++_, flatMap}
+use mathlib.Core.Bool.{Bool, true, false, _&&_}
+use Prim.Native.Nat.{ℕ, zero, suc, _+_, _*_, _/_, _≤_, _<_}
+use native.Mathlib.Omega.{arith}
+use lib.Dec.{T}
+use lib.ListN.{length, getD, take, drop, replicate, length-map, length-replicate, getD-replicate}
+use lib.Seq.{ext-getD}
+use Rattle.base.specs.Every.{getD-map}
+use Rattle.base.specs.Fours.{fours, length-fours}
+use Rattle.base.specs.Range.{range, length-range, range-at}
+use Rattle.mesh.specs.Table.{levelsOf}
+use Rattle.lattice.specs.Levels.{fours-four}
+use Rattle.soundness.specs.Sound.{Sound, sound-parts}
+use Rattle.reds.specs.Firsts.{first-at, length-firsts}
+use Rattle.lineage.specs.Olds as olds
+use Rattle.store.specs.Fields.{full, CODE}
+use Rattle.split.specs.Columns.{cellsBelow, firstChild}
+use Rattle.split.specs.Split.{partStore, storesAfter}
+use Rattle.tasks.specs.Levels.{below-more, below-none, below-all}
+use Rattle.columns.specs.Ten.{Kids, Ready, Filled}
+use Rattle.filling.specs.Regions.{tab, Each, maskBy, regions, SmallSlots}
+use Rattle.divide.specs.Divided.{firstBy, Leveled, FirstCells, Numbered, masksOf, partBy, storeOf, storesTo}
+use Rattle.divide.specs.Divisible.{Divisible}
+use Rattle.divide.proofs.Laid.{Table, first-top, below-step, upward, coarse-few}
+use Rattle.divide.proofs.Edged.{slots-small}
+use Rattle.divide.proofs.Stores.{regions-are}
+
+pub ones-are : Each 24576 (λ s. 1) (replicate 24576 1)
+ones-are = record { size = length-replicate {A = ℕ} 24576 1; at = λ s h. getD-replicate 24576 s 1 0 h }
+
+tab-at : (k : ℕ) (f : ℕ → ℕ) → Each k f (tab k f)
+unfolding tab
+tab-at k f =
+    record {
+      size = length-map (range 0 k) f ∙ length-range 0 k;
+      at = λ i h.
+          let z : 0 + i ≡ i = omega arith in
+          getD-map f (range 0 k) i 0 0 (omega (arith, length-range 0 k)) ∙ ap f (range-at 0 k i 0 h ∙ z);
+    }
+
+each-tab : (k : ℕ) (f : ℕ → ℕ) (x : List ℕ) → Each k f x → x ≡ tab k f
+each-tab k f x a =
+    let b = tab-at k f in
+    ext-getD 0 x (tab k f) (a .size ∙ sym (b .size)) (λ i h. let g : i < k = omega (arith, a .size) in a .at i g ∙ sym (b .at i g))
+
+pub masks-are : (cols : List ℕ) (m : ℕ) (sl ms : List ℕ) → Each 24576 (maskBy cols m sl) ms → ms ≡ masksOf cols m sl
+unfolding masksOf
+masks-are cols m sl ms a = each-tab 24576 (maskBy cols m sl) ms a
+
+masks-each : (cols : List ℕ) (m : ℕ) (sl : List ℕ) → Each 24576 (maskBy cols m sl) (masksOf cols m sl)
+unfolding masksOf
+masks-each cols m sl = tab-at 24576 (maskBy cols m sl)
+
+first-olds : (n : ℕ) (qs : List (List ℕ)) (ss : List ℕ) (c : ℕ) → olds.firstChild (length qs) ss c ≡ firstChild n qs ss c
+unfolding firstChild olds.firstChild
+first-olds n qs ss c = refl
+
+flat-all : (f h : ℕ → List ℕ) (l : List ℕ) → ((j : ℕ) → f j ≡ h j) → flatMap f l ≡ flatMap h l
+unfolding flatMap
+flat-all f h [] e = refl
+flat-all f h (x ∷ l) e = ap₂ _++_ (e x) (flat-all f h l e)
+
+store-as : (f : ℕ → List ℕ) (b : List ℕ) (j : ℕ) (x : List ℕ) → f (suc j) ≡ x
+    → storeOf f b j ≡ x ++ drop CODE (take full (drop (full * j) b))
+unfolding storeOf
+store-as f b j x e = ap (λ (l : List ℕ). l ++ drop CODE (take full (drop (full * j) b))) e
+
+part-as : (cols mesh sl fs st : List ℕ) (m P n l p : ℕ)
+    → partBy cols mesh sl fs st m P n l p ≡ regions cols mesh sl (masksOf cols m sl) fs st m p P n l
+unfolding partBy
+part-as cols mesh sl fs st m P n l p = refl
+
+module _ (n : ℕ) (ts ss rows ks os : List ℕ) (P levels : ℕ) (b : List ℕ) (d : Divisible n ts ss rows ks os P levels b) where
+  abbrev qs : List (List ℕ)
+  qs = fours ts
+
+  abbrev so : Sound n qs ss
+  so = sound-parts n qs ss (d .sound)
+
+  pub table-of : Table n qs ss rows ks
+  table-of =
+      record {
+        four = fours-four ts;
+        accepted = d .mesh .cells;
+        sound = d .sound;
+        some = omega (arith, length-fours ts, d .mesh .some, d .mesh .whole);
+        rows = d .table;
+        kids = λ c h. first-at (length qs) ss ks (d .kids) c h ∙ first-olds n qs ss c;
+      }
+
+  pub few-cells : length ss ≤ 4096
+  few-cells = omega (arith, so .many, so .few)
+
+  pub few-levels : levels ≤ 11
+  few-levels = omega (arith, d .high, so .high)
+
+  pub kids-of : Kids ks (length ss)
+  kids-of =
+      record {
+        long = length-firsts (length qs) ss ks (d .kids);
+        top = λ c h. rw (table-of .kids c h) (first-top n qs ss rows ks table-of c h);
+      }
+
+  first-by : (k : ℕ) → firstBy ks k ≡ cellsBelow n qs ss k
+  unfolding firstBy
+  first-by zero = sym (below-none n qs ss)
+  first-by (suc k) =
+      ap (λ (i : ℕ). getD ks i 0) (first-by k) ∙ table-of .kids (cellsBelow n qs ss k) (below-all n qs ss so k)
+      ∙ sym (below-step n qs ss rows ks table-of k)
+
+  pub levels-of : Leveled ks (length ss)
+  levels-of =
+      record {
+        up = λ k h. rw (first-by k, first-by (suc k)) (omega (arith, below-more n qs ss k));
+        most = λ k h. rw (first-by k) (below-all n qs ss so k);
+      }
+
+  pub ready-of : length rows ≡ 32768 → Ready rows ss ks os
+  ready-of l =
+      record {
+        few = few-cells;
+        rows = omega (arith, few-cells, l);
+        kids = kids-of;
+        owners = d .owners;
+        up = upward n qs ss rows ks table-of;
+      }
+
+  module _ (fs st sl : List ℕ) (w : Numbered rows ks fs st sl) where
+    first-are : (k : ℕ) → k < 12 → getD fs k 0 ≡ cellsBelow n qs ss k
+    first-are k h = w .firsts .at k h ∙ first-by k
+
+    pub small-of : SmallSlots sl (length ss)
+    small-of = slots-small n qs ss rows ks table-of fs first-are sl st (w .slots)
+
+    pub stores-are : (cols : List ℕ) → Filled rows ss ks os (length ss) cols
+        → storesTo (partBy cols ts sl fs st (length ss) P n levels) b P ≡ storesAfter n qs ss P os b
+    unfolding storesTo storesAfter
+    stores-are cols a =
+        ap (λ (l : List ℕ). l ++ drop (full * P) b)
+        (flat-all (storeOf (partBy cols ts sl fs st (length ss) P n levels) b)
+        (λ j. partStore n qs ss P os (suc j) ++ drop CODE (take full (drop (full * j) b))) (range 0 P)
+        (λ j. same j))
+      where
+        same : (j : ℕ) → storeOf (partBy cols ts sl fs st (length ss) P n levels) b j
+            ≡ partStore n qs ss P os (suc j) ++ drop CODE (take full (drop (full * j) b))
+        same j =
+            store-as (partBy cols ts sl fs st (length ss) P n levels) b j (partStore n qs ss P os (suc j))
+            (part-as cols ts sl fs st (length ss) P n levels (suc j)
+            ∙ regions-are n ts ss rows ks table-of few-cells (omega (arith, length-fours ts, d .mesh .few)) fs first-are (w .firsts
+            .size) sl st
+            (w .slots) (w .starts) os cols a (masksOf cols (length ss) sl) (masks-each cols (length ss) sl) P (suc j) levels (d .high))

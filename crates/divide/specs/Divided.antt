@@ -1,0 +1,52 @@
+-- What the functions ask for and leave.
+--   firstBy ks k           the first cell of level k, where ks are the numbers of first children
+--   Leveled ks m           levels rise, and none begins behind the m cells
+--   FirstCells ks fs       fs has the first cell of each level
+--   masksOf cols m sl      the parts that hold each slot
+--   partBy .. p            the numbers of the store of the part p
+--   storeOf f b j          the store with the number j in the table b, with f in front of its entries
+--   storesTo f b j         b with the first j stores so
+--   oneMore f b j          b with the store j so
+use mathlib.Core.Path.{_≡_}
+use mathlib.Core.List.{List, _++_, flatMap}
+use Prim.Native.Nat.{ℕ, zero, suc, _+_, _*_, _≤_, _<_}
+use lib.ListN.{length, getD, take, drop}
+use Rattle.base.specs.Range.{range}
+use Rattle.store.specs.Fields.{full, CODE}
+use Rattle.slots.specs.Slots.{Slotted}
+use Rattle.filling.specs.Regions.{tab, putBy, maskBy, regions}
+
+unfoldable pub firstBy : List ℕ → ℕ → ℕ
+firstBy ks zero = 0
+firstBy ks (suc k) = getD ks (firstBy ks k) 0
+
+pub record Leveled (ks : List ℕ) (m : ℕ) : Type 0 where
+  pub up : (k : ℕ) → k < 11 → firstBy ks k ≤ firstBy ks (suc k)
+  pub most : (k : ℕ) → k < 12 → firstBy ks k ≤ m
+
+pub record FirstCells (ks fs : List ℕ) : Type 0 where
+  pub size : length fs ≡ 12
+  pub at : (k : ℕ) → k < 12 → getD fs k 0 ≡ firstBy ks k
+
+-- the slots with the first cells and slots of the levels
+pub record Numbered (t ks fs st sl : List ℕ) : Type 0 where
+  pub firsts : FirstCells ks fs
+  pub starts : length st ≡ 12
+  pub slots : Slotted t fs sl st
+
+unfoldable pub masksOf : List ℕ → ℕ → List ℕ → List ℕ
+masksOf cols m sl = tab 24576 (maskBy cols m sl)
+
+unfoldable pub partBy : List ℕ → List ℕ → List ℕ → List ℕ → List ℕ → ℕ → ℕ → ℕ → ℕ → ℕ → List ℕ
+partBy cols mesh sl fs st m P n l p = regions cols mesh sl (masksOf cols m sl) fs st m p P n l
+
+unfoldable pub storeOf : (ℕ → List ℕ) → List ℕ → ℕ → List ℕ
+storeOf f b j = f (suc j) ++ drop CODE (take full (drop (full * j) b))
+
+unfoldable pub storesTo : (ℕ → List ℕ) → List ℕ → ℕ → List ℕ
+unfolding storeOf
+storesTo f b j = flatMap (storeOf f b) (range 0 j) ++ drop (full * j) b
+
+unfoldable pub oneMore : (ℕ → List ℕ) → List ℕ → ℕ → List ℕ
+unfolding storeOf putBy
+oneMore f b j = putBy (full * j) (full * j + full) b (storeOf f b j)
