@@ -124,7 +124,7 @@ module _ (n : ℕ) (qs : List (List ℕ)) (ss : List ℕ) (s : Sound n qs ss) wh
       (omega (arith, known k), rw e at (a .inside), rw e at (a .status-is)))
 
   -- behind the coarse cells stand the children of all cells of lower levels
-  below-up : (k : ℕ) → k < length (levelsOf n qs ss) → cellsBelow n qs ss (suc k) ≡ firstChild n qs ss (cellsBelow n qs ss k)
+  pub below-up : (k : ℕ) → k < length (levelsOf n qs ss) → cellsBelow n qs ss (suc k) ≡ firstChild n qs ss (cellsBelow n qs ss k)
   unfolding firstChild levelsOf
   below-up zero h =
       let z : sizes (take (cellsBelow n qs ss 0) ss) ≡ 0 = ap (λ (x : ℕ). sizes (take x ss)) (below-none n qs ss) ∙ none-yet ss in
