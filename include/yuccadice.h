@@ -170,12 +170,20 @@ uint8_t yd_write(const int32_t *positions, size_t positions_length, const uint16
 uint8_t yd_replay(const uint8_t *bytes, size_t bytes_length, uint8_t *table, size_t table_length, uint16_t *counts, size_t counts_length,
                   size_t *cell_count, size_t *level_count);
 
-/* Split jobs: one step of a table over 1 to 16 parts, which may run apart and in any order. A part is a store, a table of numbers that the caller keeps as
- * it is: it may be copied and sent, and docs/PARTS.md says what stands where. A cell is master with its owner, and ghost with the owner of its children
- * where that is another. Every part is started with the marks of its masters; then messages are fetched from the parts and handed over, and parts are stepped, whichever
- * call is accepted next, until every part is done. A message is for the part that its third byte names, from 1; it is kept until that part has taken it. The
- * parts then merge to the table of yd_step, in whatever order all this went; where yd_step refuses with 8 or 9, every part ends with that number
- * and they merge to the old table. The next step needs a new split. */
+/* Split jobs: one step of a table over 1 to 16 parts, which may run apart and in any order. A part is a store, a table of numbers that the caller keeps
+ * as it is: it may be copied and sent, and docs/PARTS.md says what stands where. A cell is master with its owner, and ghost with the owner of its
+ * children where that is another. Every part is started with the marks of its masters; then messages are fetched from the parts and handed over, and
+ * parts are stepped, whichever call is accepted next, until every part is done. A message is for the part that its third byte names, from 1; it is kept
+ * until that part has taken it. The parts then merge to the table of yd_step, in whatever order all this went; where yd_step refuses with 8 or 9, every
+ * part ends with that number and they merge to the old table. The next step needs a new split. */
+
+/* Splits a status table over so many parts. owners has a byte for each cell, the part that it is with, from 1; the children of a cell are with one part.
+ * After: stores has the stores of the parts, from part 1, one behind the other, YD_STORE_LENGTH numbers each. In each store the entries and places (from CODE
+ * on, docs/PARTS.md), and behind the last store the whole table, are as they were.
+ * Refusals: 15, 1 to 6, 10, 11. */
+uint8_t yd_split(const int32_t *positions, size_t positions_length, const uint16_t *cells, size_t cells_length,
+                 const uint8_t *status, size_t status_length, size_t parts, const uint8_t *owners, size_t owners_length,
+                 uint16_t *stores, size_t stores_length);
 
 /* Starts a part. marks has a byte for each of its masters, in the order of cells: 0 none, 1 refine, 2 delete.
  * After: store is that of the running part, with messages to fetch.

@@ -7,7 +7,8 @@
 ! cell k has the numbers table(8*k+1:8*k+8) of a layout, and corner k the ends ends(2*k+1:2*k+2).
 !
 ! Fortran has no unsigned numbers: bytes and 16-bit numbers are taken as signed ones of the same size. Every status, mark,
-! cell and corner number of an accepted table is the same in both; the parent of a coarse cell reads as -1 (YD_NO_PARENT).
+! cell and corner number of an accepted table is the same in both; the parent of a coarse cell reads as -1 (YD_NO_PARENT), and
+! the store of a part is kept as it is. Part k has the numbers stores((k-1)*YD_STORE_LENGTH+1:k*YD_STORE_LENGTH).
 ! Pass an array that is allocated, also where it is empty. A step may renumber cells, and corners that stay.
 module yuccadice
   use, intrinsic :: iso_c_binding, only: c_int8_t, c_int16_t, c_int32_t, c_size_t, c_double
@@ -27,6 +28,7 @@ module yuccadice
   integer(c_size_t), parameter :: YD_MOST_CORNERS = 16384_c_size_t ! corners of a table
   integer(c_size_t), parameter :: YD_MOST_LEVELS = 11_c_size_t ! levels 0 to 10
   integer(c_size_t), parameter :: YD_MOST_BYTES = 65536_c_size_t ! bytes of an archive
+  integer(c_size_t), parameter :: YD_MOST_PARTS = 16_c_size_t ! 1 to 16 parts of a split job
   integer(c_size_t), parameter :: YD_STACK = 1048576_c_size_t ! bytes of stack: more than any call needs
 
   ! The full lengths of lent tables.
@@ -42,6 +44,10 @@ module yuccadice
   integer(c_size_t), parameter :: YD_MARKS_LENGTH = 16384_c_size_t ! 1 or 2 a mark
   integer(c_size_t), parameter :: YD_STEP_ENDS_LENGTH = 65536_c_size_t ! a number a step
   integer(c_size_t), parameter :: YD_BYTES_LENGTH = 65536_c_size_t ! the bytes of an archive
+  integer(c_size_t), parameter :: YD_STORE_LENGTH = 226488_c_size_t ! the store of a part
+  integer(c_size_t), parameter :: YD_STORES_LENGTH = 3623808_c_size_t ! sixteen stores, whatever the number of parts
+  integer(c_size_t), parameter :: YD_MESSAGE_LENGTH = 9_c_size_t ! the longest message
+  integer(c_size_t), parameter :: YD_HELD_LENGTH = 57344_c_size_t ! fourteen numbers a master or ghost
 
   ! Answers.
   integer(c_int8_t), parameter :: YD_ACCEPTED = 0_c_int8_t
@@ -57,7 +63,16 @@ module yuccadice
   integer(c_int8_t), parameter :: YD_REFUSED_MARKS = 7_c_int8_t
   integer(c_int8_t), parameter :: YD_REFUSED_LEVEL = 8_c_int8_t ! a level above 10 would arise
   integer(c_int8_t), parameter :: YD_REFUSED_CELLS = 9_c_int8_t ! more than 4,096 cells would arise
+  integer(c_int8_t), parameter :: YD_REFUSED_PARTS = 10_c_int8_t ! a number of parts that is not 1 to 16
+  ! owners of wrong length or out of range, or two in a family
+  integer(c_int8_t), parameter :: YD_REFUSED_OWNERS = 11_c_int8_t
+  ! a message of no known form, for another part, of what the part does not hold, or with a value out of range
+  integer(c_int8_t), parameter :: YD_REFUSED_MESSAGE = 12_c_int8_t
+  integer(c_int8_t), parameter :: YD_REFUSED_TAKEN = 13_c_int8_t ! a message that was taken before
+  integer(c_int8_t), parameter :: YD_REFUSED_EARLY = 14_c_int8_t ! a message that comes too early, or to a part that is done
   integer(c_int8_t), parameter :: YD_REFUSED_SHORT = 15_c_int8_t ! a lent table is shorter than its full length
+  ! a store out of range, or at a stage that the call does not fit, or stores that do not make one table
+  integer(c_int8_t), parameter :: YD_REFUSED_STORE = 16_c_int8_t
   ! an archive's bytes are not in the form, or would be more than 65,536
   integer(c_int8_t), parameter :: YD_REFUSED_FORM = 17_c_int8_t
 
@@ -67,6 +82,10 @@ module yuccadice
   integer(c_int8_t), parameter :: YD_REFINE = 1_c_int8_t
   integer(c_int8_t), parameter :: YD_DELETE = 2_c_int8_t
   integer(c_int16_t), parameter :: YD_NO_PARENT = -1_c_int16_t ! 65,535
+
+  ! The stage of a part.
+  integer(c_size_t), parameter :: YD_RUNNING = 1_c_size_t
+  integer(c_size_t), parameter :: YD_DONE = 2_c_size_t
 
   interface
     ! The children of a cell with this pattern of split edges (1, 2, 4, 8, 16, 32 for 12, 13, 14, 23, 24, 34).
@@ -195,6 +214,83 @@ module yuccadice
       integer(c_int8_t), intent(inout) :: table(*)
       integer(c_int16_t), intent(inout) :: counts(*)
       integer(c_size_t), intent(inout) :: cell_count, level_count
+      integer(c_int8_t) :: answer
+    end function
+
+    ! Splits a status table over so many parts.
+    function yd_split(positions, positions_length, cells, cells_length, status, status_length, parts, owners, owners_length, &
+                      stores, stores_length) bind(c) result(answer)
+      import :: c_int8_t, c_int16_t, c_int32_t, c_size_t
+      integer(c_int32_t), intent(in) :: positions(*)
+      integer(c_size_t), value :: positions_length, cells_length, status_length, parts, owners_length, stores_length
+      integer(c_int16_t), intent(in) :: cells(*)
+      integer(c_int8_t), intent(in) :: status(*), owners(*)
+      integer(c_int16_t), intent(inout) :: stores(*)
+      integer(c_int8_t) :: answer
+    end function
+
+    ! Starts a part.
+    function yd_start(store, store_length, marks, marks_length) bind(c) result(answer)
+      import :: c_int8_t, c_int16_t, c_size_t
+      integer(c_int16_t), intent(inout) :: store(*)
+      integer(c_size_t), value :: store_length, marks_length
+      integer(c_int8_t), intent(in) :: marks(*)
+      integer(c_int8_t) :: answer
+    end function
+
+    ! Leads a part to its next round, and at last to its end.
+    function yd_part_step(store, store_length) bind(c) result(answer)
+      import :: c_int8_t, c_int16_t, c_size_t
+      integer(c_int16_t), intent(inout) :: store(*)
+      integer(c_size_t), value :: store_length
+      integer(c_int8_t) :: answer
+    end function
+
+    ! The next message that a part has written; its length is 0 where there is none to send.
+    function yd_fetch(store, store_length, bytes, bytes_length, byte_count) bind(c) result(answer)
+      import :: c_int8_t, c_int16_t, c_size_t
+      integer(c_int16_t), intent(inout) :: store(*)
+      integer(c_size_t), value :: store_length, bytes_length
+      integer(c_int8_t), intent(inout) :: bytes(*)
+      integer(c_size_t), intent(inout) :: byte_count
+      integer(c_int8_t) :: answer
+    end function
+
+    ! Hands a message over to a part.
+    function yd_hand_over(store, store_length, bytes, bytes_length) bind(c) result(answer)
+      import :: c_int8_t, c_int16_t, c_size_t
+      integer(c_int16_t), intent(inout) :: store(*)
+      integer(c_size_t), value :: store_length, bytes_length
+      integer(c_int8_t), intent(in) :: bytes(*)
+      integer(c_int8_t) :: answer
+    end function
+
+    ! How far a part is.
+    function yd_stage(store, store_length, stage, round, result) bind(c) result(answer)
+      import :: c_int8_t, c_int16_t, c_size_t
+      integer(c_int16_t), intent(in) :: store(*)
+      integer(c_size_t), value :: store_length
+      integer(c_size_t), intent(inout) :: stage, round, result
+      integer(c_int8_t) :: answer
+    end function
+
+    ! The masters and ghosts of a part that is done.
+    function yd_held(store, store_length, rows, rows_length, row_count) bind(c) result(answer)
+      import :: c_int8_t, c_int16_t, c_size_t
+      integer(c_int16_t), intent(in) :: store(*)
+      integer(c_size_t), value :: store_length, rows_length
+      integer(c_int16_t), intent(inout) :: rows(*)
+      integer(c_size_t), intent(inout) :: row_count
+      integer(c_int8_t) :: answer
+    end function
+
+    ! The table that all parts make.
+    function yd_merge(stores, stores_length, table, table_length, cell_count) bind(c) result(answer)
+      import :: c_int8_t, c_int16_t, c_size_t
+      integer(c_int16_t), intent(in) :: stores(*)
+      integer(c_size_t), value :: stores_length, table_length
+      integer(c_int8_t), intent(inout) :: table(*)
+      integer(c_size_t), intent(inout) :: cell_count
       integer(c_int8_t) :: answer
     end function
   end interface

@@ -134,4 +134,35 @@ with tempfile.TemporaryDirectory() as empty:
         assert len(tetrahedra) == c.count(0) and set(data) == {"level", "status", "cell", "parent_status", "ancestor"}
         assert data["ancestor"] == [yd.ancestor(*A, c, k)[0] for k in data["cell"]]
         assert [sorted(cell) for cell in tetrahedra] == [sorted(layout.cells[k].corners) for k in data["cell"]]
+# B on two parts, the coarse cell with part 1 and its family with part 2, all eight marked 2: part 2 is left empty.
+owners, marks = [1] + 8 * [2], [0] + 8 * [yd.DELETE]
+assert raised(yd.Refused, yd.split, *A, b, 17, owners) == 10
+assert raised(yd.Refused, yd.split, *A, b, 2, owners[:8]) == 11
+assert raised(yd.Refused, yd.split, *A, [yd.RED], 2, [1]) == 6
+stores = yd.split(*A, b, 2, owners)
+assert len(stores) == 2 and raised(yd.Refused, stores[0].stage) == 16 and raised(yd.Refused, stores[0].fetch) == 16
+assert raised(yd.Refused, stores[0].start, []) == 7
+stores[0].start(marks[:1])
+stores[1].start(marks[1:])
+assert stores[0].stage() == (False, 0, 0) and raised(yd.Refused, stores[0].held) == 16 and raised(yd.Refused, stores[0].part_step) == 16
+rounds = 0
+while not stores[0].stage().done:
+    for store in stores:
+        for message in iter(store.fetch, None):
+            before = stores[message[2] - 1].numbers[:]
+            assert raised(yd.Refused, stores[message[2] - 1].hand_over, message[:4]) == 12
+            assert before == stores[message[2] - 1].numbers
+            stores[message[2] - 1].hand_over(message)
+            assert raised(yd.Refused, stores[message[2] - 1].hand_over, message) == 13
+            assert raised(yd.Refused, store.hand_over, message) == 12
+    for store in stores:
+        store.part_step()
+    rounds += 1
+assert rounds == 5 and [store.stage() for store in stores] == 2 * [(True, 0, 0)]
+assert stores[0].held() == [(False, 0, 0, ())] and stores[1].held() == []
+assert yd.merge(stores) == yd.merge(stores[::-1]) == yd.step(*A, b, marks) == bytes(1)
+assert raised(yd.Refused, yd.merge, stores[:1]) == raised(yd.Refused, yd.merge, [stores[0]] * 2) == raised(yd.Refused, yd.merge, []) == 16
+assert raised(yd.Refused, stores[0].hand_over, bytes([4, 2, 1, 5, 0])) == 14
+assert raised(yd.Refused, yd.Store([0] * 9).part_step) == 15
+
 print("ok")

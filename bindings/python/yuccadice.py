@@ -20,22 +20,27 @@ import os
 
 # The limits.
 MOST_COARSE_CORNERS, MOST_COARSE_CELLS, MOST_COORDINATE = 512, 256, 500000
-MOST_CELLS, MOST_CORNERS, MOST_LEVELS, MOST_BYTES = 4096, 16384, 11, 65536
+MOST_CELLS, MOST_CORNERS, MOST_LEVELS, MOST_BYTES, MOST_PARTS = 4096, 16384, 11, 65536, 16
 STACK = 1048576  # bytes of stack: more than any call needs
 
 # The full lengths of the tables that the library fills.
 DIGITS_LENGTH, TABLE_LENGTH, ENDS_LENGTH, SUMS_LENGTH, COUNTS_LENGTH, STATUS_LENGTH = 32, 32768, 32768, 49152, 44, 4096
 POSITIONS_LENGTH, COARSE_CELLS_LENGTH, MARKED_LENGTH, MARKS_LENGTH, STEP_ENDS_LENGTH, BYTES_LENGTH = 1536, 1024, 16384, 16384, 65536, 65536
+STORE_LENGTH, STORES_LENGTH, MESSAGE_LENGTH, HELD_LENGTH = 226488, 3623808, 9, 57344
 
 # A status (1 to 63: green, closed with that pattern), a mark, and the parent of a coarse cell in the library's own table.
 LEAF, RED = 0, 64
 REFINE, DELETE = 1, 2
 NO_PARENT = 65535
 
+# The stage of a part.
+RUNNING, DONE = 1, 2
+
 # Answers.
 ACCEPTED = 0
 REFUSED_COUNTS, REFUSED_RANGE, REFUSED_NUMBERS, REFUSED_FLAT, REFUSED_FACES, REFUSED_STATUS = 1, 2, 3, 4, 5, 6
-REFUSED_MARKS, REFUSED_LEVEL, REFUSED_CELLS, REFUSED_SHORT, REFUSED_FORM = 7, 8, 9, 15, 17
+REFUSED_MARKS, REFUSED_LEVEL, REFUSED_CELLS, REFUSED_PARTS, REFUSED_OWNERS = 7, 8, 9, 10, 11
+REFUSED_MESSAGE, REFUSED_TAKEN, REFUSED_EARLY, REFUSED_SHORT, REFUSED_STORE, REFUSED_FORM = 12, 13, 14, 15, 16, 17
 
 #: What each refusal says.
 REFUSALS = {
@@ -48,7 +53,13 @@ REFUSALS = {
     REFUSED_MARKS: "marks of wrong length, above 2 or not 0 on a refined cell, or a cell or corner number not below the count",
     REFUSED_LEVEL: "a level above 10 would arise",
     REFUSED_CELLS: "more than 4,096 cells would arise",
+    REFUSED_PARTS: "a number of parts that is not 1 to 16",
+    REFUSED_OWNERS: "owners of wrong length or out of range, or two in a family",
+    REFUSED_MESSAGE: "a message of no known form, for another part, of what the part does not hold, or with a value out of range",
+    REFUSED_TAKEN: "a message that was taken before",
+    REFUSED_EARLY: "a message that comes too early, or to a part that is done",
     REFUSED_SHORT: "a lent table is shorter than its full length",
+    REFUSED_STORE: "a store out of range, or at a stage that the call does not fit, or stores that do not make one table",
     REFUSED_FORM: "an archive's bytes are not in the form, or would be more than 65,536",
 }
 
@@ -67,6 +78,14 @@ class Cell(namedtuple("Cell", "level parent child regular corners")):
 
 class Counts(namedtuple("Counts", "cells red green leaves")):
     """How many cells a level has, and of which kinds."""
+
+
+class Stage(namedtuple("Stage", "done round result")):
+    """How far a part is: whether it is done; the round of a running one, from 0; and the number 8 or 9 that a done one's step ended with, else 0."""
+
+
+class Held(namedtuple("Held", "ghost status coarse children")):
+    """A master or ghost: its coarse cell, and the child numbers from there down to it, as many as its level."""
 
 
 class Job(namedtuple("Job", "positions cells steps")):
@@ -126,6 +145,14 @@ _FUNCTIONS = {
     "yd_read": "u8[] i32[]= u16[]= u16[]= u8[]= u16[]= size= size= size= size=",
     "yd_write": "i32[] u16[] u16[] u8[] u16[] u8[]= size=",
     "yd_replay": "u8[] u8[]= u16[]= size= size=",
+    "yd_split": "i32[] u16[] u8[] size u8[] u16[]=",
+    "yd_start": "u16[]= u8[]",
+    "yd_part_step": "u16[]=",
+    "yd_fetch": "u16[]= u8[]= size=",
+    "yd_hand_over": "u16[]= u8[]",
+    "yd_stage": "u16[] size= size= size=",
+    "yd_held": "u16[] u16[]= size=",
+    "yd_merge": "u16[] u8[]= size=",
 }
 
 
@@ -308,3 +335,65 @@ def replay(archive):
     table, rows = _room("B", STATUS_LENGTH), _room("H", COUNTS_LENGTH)
     count, levels = _call("yd_replay", array("B", archive), table, rows)
     return bytes(table[:count]), [Counts(*row) for row in _rows(rows, 4, levels)]
+
+
+# Split jobs: one step of a table over 1 to 16 parts, which may run apart and in any order.
+
+
+class Store:
+    """A part of a split job. `numbers` is its store, an array("H") to be kept, copied or sent as it is; docs/PARTS.md says what stands where."""
+
+    def __init__(self, numbers):
+        self.numbers = array("H", numbers)
+
+    def start(self, marks):
+        """Starts the part with a mark for each of its masters, in the order of cells."""
+        _call("yd_start", self.numbers, array("B", list(marks)))
+
+    def part_step(self):
+        """Leads the part to its next round, and at last to its end."""
+        _call("yd_part_step", self.numbers)
+
+    def fetch(self):
+        """The next message that the part has written, bytes; None where there is none to send. Its second byte is the sender, its third the receiver."""
+        room = _room("B", MESSAGE_LENGTH)
+        (count,) = _call("yd_fetch", self.numbers, room)
+        return bytes(room[:count]) if count else None
+
+    def hand_over(self, message):
+        """Hands a message over to the part."""
+        _call("yd_hand_over", self.numbers, array("B", list(message)))
+
+    def stage(self):
+        """The Stage of the part."""
+        stage, turn, result = _call("yd_stage", self.numbers)
+        return Stage(stage == DONE, turn, result)
+
+    def held(self):
+        """The masters and ghosts of the part, once it is done: a list of Held."""
+        rows = _room("H", HELD_LENGTH)
+        (count,) = _call("yd_held", self.numbers, rows)
+        return [Held(row[0] == 1, row[1], row[3], row[4 : 4 + row[2]]) for row in _rows(rows, 14, count)]
+
+
+def split(positions, cells, status, parts, owners):
+    """The Store of each part of a status table, from part 1. `owners` has the part of each cell, from 1; the children of one cell are with one part."""
+    stores = _room("H", STORES_LENGTH)
+    _call("yd_split", *_given(positions, cells, status), parts, array("B", list(owners)), stores)
+    return [Store(stores[STORE_LENGTH * k : STORE_LENGTH * (k + 1)]) for k in range(parts)]
+
+
+def merge(stores):
+    """The table that the stores of all parts make, in any order, once all are done: the table of `step`, as bytes."""
+    stores = list(stores)
+    if any(len(store.numbers) < STORE_LENGTH for store in stores):
+        raise Refused(REFUSED_SHORT)
+    if len(stores) > MOST_PARTS or any(store.numbers[2] != len(stores) for store in stores):
+        raise Refused(REFUSED_STORE)
+    numbers = array("H")
+    for store in stores:
+        numbers += store.numbers[:STORE_LENGTH]
+    numbers += _room("H", STORES_LENGTH - len(numbers))
+    table = _room("B", STATUS_LENGTH)
+    (count,) = _call("yd_merge", numbers, table)
+    return bytes(table[:count])

@@ -39,6 +39,17 @@ extern "C" {
         bytes: *const u8, bytes_length: usize, table: *mut u8, table_length: usize, counts: *mut u16, counts_length: usize, cell_count: &mut usize,
         level_count: &mut usize,
     ) -> u8;
+    fn yd_split(
+        positions: *const i32, positions_length: usize, cells: *const u16, cells_length: usize, status: *const u8, status_length: usize, parts: usize,
+        owners: *const u8, owners_length: usize, stores: *mut u16, stores_length: usize,
+    ) -> u8;
+    fn yd_start(store: *mut u16, store_length: usize, marks: *const u8, marks_length: usize) -> u8;
+    fn yd_part_step(store: *mut u16, store_length: usize) -> u8;
+    fn yd_fetch(store: *mut u16, store_length: usize, bytes: *mut u8, bytes_length: usize, byte_count: &mut usize) -> u8;
+    fn yd_hand_over(store: *mut u16, store_length: usize, bytes: *const u8, bytes_length: usize) -> u8;
+    fn yd_stage(store: *const u16, store_length: usize, stage: &mut usize, round: &mut usize, result: &mut usize) -> u8;
+    fn yd_held(store: *const u16, store_length: usize, rows: *mut u16, rows_length: usize, row_count: &mut usize) -> u8;
+    fn yd_merge(stores: *const u16, stores_length: usize, table: *mut u8, table_length: usize, cell_count: &mut usize) -> u8;
 }
 
 /// The children of a cell by its pattern.
@@ -117,4 +128,47 @@ pub fn write(positions: &[i32], cells: &[u16], marked: &[u16], marks: &[u8], ste
 /// An archive's steps done again.
 pub fn replay(bytes: &[u8], table: &mut [u8], counts: &mut [u16], cell_count: &mut usize, level_count: &mut usize) -> u8 {
     unsafe { yd_replay(bytes.as_ptr(), bytes.len(), table.as_mut_ptr(), table.len(), counts.as_mut_ptr(), counts.len(), cell_count, level_count) }
+}
+
+/// Splits a table over parts.
+pub fn split(positions: &[i32], cells: &[u16], status: &[u8], parts: usize, owners: &[u8], stores: &mut [u16]) -> u8 {
+    unsafe { yd_split(
+        positions.as_ptr(), positions.len(), cells.as_ptr(), cells.len(), status.as_ptr(), status.len(), parts, owners.as_ptr(), owners.len(),
+        stores.as_mut_ptr(), stores.len(),
+    ) }
+}
+
+/// Starts a part.
+pub fn start(store: &mut [u16], marks: &[u8]) -> u8 {
+    unsafe { yd_start(store.as_mut_ptr(), store.len(), marks.as_ptr(), marks.len()) }
+}
+
+/// Leads a part to its next round.
+pub fn part_step(store: &mut [u16]) -> u8 {
+    unsafe { yd_part_step(store.as_mut_ptr(), store.len()) }
+}
+
+/// The next message that a part has written; its length is 0 where there is none to send.
+pub fn fetch(store: &mut [u16], bytes: &mut [u8], byte_count: &mut usize) -> u8 {
+    unsafe { yd_fetch(store.as_mut_ptr(), store.len(), bytes.as_mut_ptr(), bytes.len(), byte_count) }
+}
+
+/// Hands a message over to a part.
+pub fn hand_over(store: &mut [u16], bytes: &[u8]) -> u8 {
+    unsafe { yd_hand_over(store.as_mut_ptr(), store.len(), bytes.as_ptr(), bytes.len()) }
+}
+
+/// How far a part is.
+pub fn stage(store: &[u16], stage: &mut usize, round: &mut usize, result: &mut usize) -> u8 {
+    unsafe { yd_stage(store.as_ptr(), store.len(), stage, round, result) }
+}
+
+/// The masters and ghosts of a part that is done.
+pub fn held(store: &[u16], rows: &mut [u16], row_count: &mut usize) -> u8 {
+    unsafe { yd_held(store.as_ptr(), store.len(), rows.as_mut_ptr(), rows.len(), row_count) }
+}
+
+/// The table that all parts make.
+pub fn merge(stores: &[u16], table: &mut [u8], cell_count: &mut usize) -> u8 {
+    unsafe { yd_merge(stores.as_ptr(), stores.len(), table.as_mut_ptr(), table.len(), cell_count) }
 }

@@ -15,6 +15,7 @@ use std::collections::HashMap;
 use std::fmt;
 
 pub mod lent;
+pub mod parts;
 
 /// The version of the library that this crate belongs to.
 pub const VERSION: &str = "1.1.0";
@@ -35,6 +36,8 @@ pub const MOST_CORNERS: usize = 16_384;
 pub const MOST_LEVELS: usize = 11;
 /// An archive has at most so many bytes.
 pub const MOST_BYTES: usize = 65_536;
+/// A split job has 1 to so many parts.
+pub const MOST_PARTS: usize = 16;
 /// Bytes of stack: more than any call needs. A thread that is started with less ends the program by a signal.
 pub const STACK: usize = 1_048_576;
 
@@ -62,6 +65,14 @@ pub const MARKS_LENGTH: usize = 16_384;
 pub const STEP_ENDS_LENGTH: usize = 65_536;
 /// The full length of `bytes`.
 pub const BYTES_LENGTH: usize = 65_536;
+/// The full length of a part's store.
+pub const STORE_LENGTH: usize = 226_488;
+/// The full length of `stores`: sixteen stores, whatever the number of parts.
+pub const STORES_LENGTH: usize = 3_623_808;
+/// The full length of a fetched message: the longest one.
+pub const MESSAGE_LENGTH: usize = 9;
+/// The full length of `rows`: fourteen numbers a master or ghost.
+pub const HELD_LENGTH: usize = 57_344;
 
 /// The status of a leaf.
 pub const LEAF: u8 = 0;
@@ -73,6 +84,10 @@ pub const REFINE: u8 = 1;
 pub const DELETE: u8 = 2;
 /// The parent of a coarse cell in the library's own table; [`Cell::parent`] is `None`.
 pub const NO_PARENT: u16 = 65_535;
+/// The stage of a running part as [`lent::stage`] tells it; [`Stage::Running`].
+pub const RUNNING: usize = 1;
+/// The stage of a part that is done; [`Stage::Done`].
+pub const DONE: usize = 2;
 
 /// What the functions of [`lent`] answer where the call is accepted.
 pub const ACCEPTED: u8 = 0;
@@ -100,8 +115,20 @@ impl Refusal {
     pub const LEVEL: Refusal = Refusal(8);
     /// More than 4,096 cells would arise.
     pub const CELLS: Refusal = Refusal(9);
+    /// A number of parts that is not 1 to 16.
+    pub const PARTS: Refusal = Refusal(10);
+    /// Owners of wrong length or out of range, or two in a family.
+    pub const OWNERS: Refusal = Refusal(11);
+    /// A message of no known form, for another part, of what the part does not hold, or with a value out of range.
+    pub const MESSAGE: Refusal = Refusal(12);
+    /// A message that was taken before.
+    pub const TAKEN: Refusal = Refusal(13);
+    /// A message that comes too early, or to a part that is done.
+    pub const EARLY: Refusal = Refusal(14);
     /// A lent table is shorter than its full length.
     pub const SHORT: Refusal = Refusal(15);
+    /// A store out of range, or at a stage that the call does not fit, or stores that do not make one table.
+    pub const STORE: Refusal = Refusal(16);
     /// An archive's bytes are not in the form, or would be more than 65,536.
     pub const FORM: Refusal = Refusal(17);
 }
@@ -118,7 +145,13 @@ impl fmt::Display for Refusal {
             Refusal::MARKS => "marks of wrong length, above 2 or not 0 on a refined cell, or a cell or corner number not below the count",
             Refusal::LEVEL => "a level above 10 would arise",
             Refusal::CELLS => "more than 4,096 cells would arise",
+            Refusal::PARTS => "a number of parts that is not 1 to 16",
+            Refusal::OWNERS => "owners of wrong length or out of range, or two in a family",
+            Refusal::MESSAGE => "a message of no known form, for another part, of what the part does not hold, or with a value out of range",
+            Refusal::TAKEN => "a message that was taken before",
+            Refusal::EARLY => "a message that comes too early, or to a part that is done",
             Refusal::SHORT => "a lent table is shorter than its full length",
+            Refusal::STORE => "a store out of range, or at a stage that the call does not fit, or stores that do not make one table",
             Refusal::FORM => "an archive's bytes are not in the form, or would be more than 65,536",
             _ => "no answer of this library",
         };

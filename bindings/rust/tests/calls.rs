@@ -167,3 +167,40 @@ fn lengths_are_the_same_everywhere() {
     }
     assert_eq!(header.matches("_LENGTH ").count(), lengths.len());
 }
+
+#[test]
+fn split_jobs() {
+    use yuccadice::parts::{merge, split, Held, Stage, Store};
+    // B on two parts, the coarse cell with part 1 and its family with part 2, all eight marked 2: part 2 is left empty.
+    let (a, b, owners) = (mesh_a(), case_b(), [1, 2, 2, 2, 2, 2, 2, 2, 2]);
+    assert_eq!(split(&a, &b, 17, &owners), Err(Refusal::PARTS));
+    assert_eq!(split(&a, &b, 1, &owners), Err(Refusal::OWNERS));
+    let mut stores = split(&a, &b, 2, &owners).unwrap();
+    assert_eq!(stores.len(), 2);
+    assert_eq!(stores[0].stage(), Err(Refusal::STORE));
+    assert_eq!(stores[0].start(&[]), Err(Refusal::MARKS));
+    assert_eq!(stores[0].start(&[0]), Ok(()));
+    assert_eq!(stores[1].start(&[DELETE; 8]), Ok(()));
+    assert_eq!(stores[0].stage(), Ok(Stage::Running(0)));
+    assert_eq!((stores[0].part_step(), stores[0].held()), (Err(Refusal::STORE), Err(Refusal::STORE)));
+    for _ in 0..5 {
+        for k in 0..2 {
+            while let Some(message) = stores[k].fetch().unwrap() {
+                assert_eq!((message.sender(), message.receiver()), (k as u8 + 1, 2 - k as u8));
+                assert_eq!(stores[k].hand_over(message.bytes()), Err(Refusal::MESSAGE));
+                assert_eq!(stores[1 - k].hand_over(message.bytes()), Ok(()));
+                assert_eq!(stores[1 - k].hand_over(message.bytes()), Err(Refusal::TAKEN));
+            }
+        }
+        assert!(stores.iter_mut().all(|store| store.part_step().is_ok()));
+    }
+    assert!(stores.iter().all(|store| store.stage() == Ok(Stage::Done(Ok(())))));
+    assert_eq!(stores[0].hand_over(&[4, 2, 1, 99, 0]), Err(Refusal::EARLY));
+    assert_eq!(stores[0].held(), Ok(vec![Held { ghost: false, status: LEAF, coarse: 0, children: vec![] }]));
+    assert_eq!(stores[1].held(), Ok(vec![]));
+    assert_eq!(merge(&stores), Ok(vec![LEAF]));
+    assert_eq!(merge(&stores[..1]), Err(Refusal::STORE));
+    stores.swap(0, 1);
+    assert_eq!(merge(&stores), Ok(vec![LEAF]));
+    assert_eq!(Store::from_numbers(stores[0].numbers()[1..].to_vec()).part_step(), Err(Refusal::SHORT));
+}
