@@ -34,6 +34,7 @@ ghost use Rattle.archive.specs.Stored.{jobFrom};
 ghost use Rattle.replay.specs.Run.{jobTable};
 ghost use Rattle.jobs.specs.Calls.{readAnswer, writeAnswer, replayAnswer, lengthsOf, replaySize, jobCounts};
 ghost use Rattle.store.specs.Fields.{field, COARSE};
+ghost use Rattle.split.specs.Split.{splitAnswer, splitAfter};
 ghost use Rattle.store.specs.Fetch.{fetchAnswer, fetchBytes, fetchAfter};
 ghost use Rattle.store.specs.Hand.{handAnswer, handAfter};
 ghost use Rattle.turns.specs.Start.{startAnswer, startAfter};
@@ -323,6 +324,22 @@ pub extern "C" fn yd_replay(
         }
         Replayed::Refused(k) => k,
     }
+}
+
+// Splits a status table over so many parts: their stores, one behind the other. Refusals 15, 1 to 6, 10 and 11.
+#[no_mangle]
+pub extern "C" fn yd_split(
+    positions: &[i32],
+    cells: &[u16],
+    status: &[u8],
+    parts: usize,
+    owners: &[u8],
+    stores: &mut [u16],
+) -> u8
+    ensures { λ r. ⌜ (r ≡ codeOf (splitAnswer (was positions) (was cells) (was status) parts (was owners) (was stores)))
+        × (is stores ≡ splitAfter (was positions) (was cells) (was status) parts (was owners) (was stores)) ⌝ }
+{
+    base::code(divide::split(positions, cells, status, parts, owners, stores))
 }
 
 // Starts a part with a mark for each of its masters, in the order of cells. Refusals 15, 16 and 7.
