@@ -8,9 +8,11 @@ program test
   integer(c_int16_t), allocatable :: table(:), ends(:), counts(:), coarse_cells(:), marked(:), step_ends(:)
   integer(c_int32_t), allocatable :: sums(:), coarse(:)
   integer(c_int8_t), allocatable :: status(:), marks(:), bytes(:), again(:), digits(:)
+  integer(c_int16_t), allocatable :: stores(:), rows(:)
   integer(c_int16_t) :: none(0)
   integer(c_int8_t) :: no_marks(0)
   integer(c_size_t) :: n, m, corners, levels, ancestor, level, steps, length
+  integer(c_size_t) :: stage, round, ended
   real(c_double) :: x, y, z
   integer(c_size_t), parameter :: p = 12, c = 4, one = 1, zero = 0
 
@@ -63,6 +65,26 @@ program test
   call check(yd_write(positions, p, cells, c, none, zero, no_marks, zero, none, zero, bytes, YD_BYTES_LENGTH, length) &
              == YD_ACCEPTED, 'write a job without steps')
   call check(length == 4*13 + 9 + 1, 'bytes of an archive without steps')
+
+  ! A on one part: cell 0 refined.
+  allocate (stores(YD_STORES_LENGTH), rows(YD_HELD_LENGTH))
+  call check(yd_split(positions, p, cells, c, [YD_LEAF], one, 17_c_size_t, [1_c_int8_t], one, stores, YD_STORES_LENGTH) &
+             == YD_REFUSED_PARTS, '17 parts')
+  call check(yd_split(positions, p, cells, c, [YD_LEAF], one, one, [1_c_int8_t], one, stores, YD_STORES_LENGTH) &
+             == YD_ACCEPTED, 'split')
+  call check(yd_fetch(stores, YD_STORE_LENGTH, bytes, YD_MESSAGE_LENGTH, length) == YD_REFUSED_STORE, 'a part before its start')
+  call check(yd_start(stores, YD_STORE_LENGTH, [YD_REFINE], one) == YD_ACCEPTED, 'start')
+  call check(yd_fetch(stores, YD_STORE_LENGTH, bytes, YD_MESSAGE_LENGTH, length) == YD_ACCEPTED .and. length == 0, 'none to send')
+  call check(yd_hand_over(stores, YD_STORE_LENGTH, bytes, one) == YD_REFUSED_MESSAGE, 'no message')
+  do n = 0, 2
+    call check(yd_stage(stores, YD_STORE_LENGTH, stage, round, ended) == YD_ACCEPTED, 'stage')
+    call check(stage == YD_RUNNING .and. round == n .and. ended == 0, 'round')
+    call check(yd_part_step(stores, YD_STORE_LENGTH) == YD_ACCEPTED, 'step of a part')
+  end do
+  call check(yd_stage(stores, YD_STORE_LENGTH, stage, round, ended) == YD_ACCEPTED .and. stage == YD_DONE, 'done')
+  call check(yd_held(stores, YD_STORE_LENGTH, rows, YD_HELD_LENGTH, n) == YD_ACCEPTED .and. n == 9, 'masters')
+  call check(yd_merge(stores, YD_STORES_LENGTH, again, YD_STATUS_LENGTH, n) == YD_ACCEPTED .and. n == 9, 'merge')
+  call check(again(1) == YD_RED .and. all(again(2:9) == YD_LEAF), 'table of the merge')
   print '(a)', 'ok'
 
 contains

@@ -134,6 +134,7 @@ with tempfile.TemporaryDirectory() as empty:
         assert len(tetrahedra) == c.count(0) and set(data) == {"level", "status", "cell", "parent_status", "ancestor"}
         assert data["ancestor"] == [yd.ancestor(*A, c, k)[0] for k in data["cell"]]
         assert [sorted(cell) for cell in tetrahedra] == [sorted(layout.cells[k].corners) for k in data["cell"]]
+
 # B on two parts, the coarse cell with part 1 and its family with part 2, all eight marked 2: part 2 is left empty.
 owners, marks = [1] + 8 * [2], [0] + 8 * [yd.DELETE]
 assert raised(yd.Refused, yd.split, *A, b, 17, owners) == 10
@@ -162,7 +163,7 @@ assert rounds == 5 and [store.stage() for store in stores] == 2 * [(True, 0, 0)]
 assert stores[0].held() == [(False, 0, 0, ())] and stores[1].held() == []
 assert yd.merge(stores) == yd.merge(stores[::-1]) == yd.step(*A, b, marks) == bytes(1)
 assert raised(yd.Refused, yd.merge, stores[:1]) == raised(yd.Refused, yd.merge, [stores[0]] * 2) == raised(yd.Refused, yd.merge, []) == 16
-assert raised(yd.Refused, stores[0].hand_over, bytes([4, 2, 1, 5, 0])) == 14
+assert raised(yd.Refused, stores[0].hand_over, bytes([4, 2, 1, 255, 0])) == 14
 assert raised(yd.Refused, yd.Store([0] * 9).part_step) == 15
 
 print("ok")

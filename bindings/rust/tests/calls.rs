@@ -103,7 +103,7 @@ fn refusals() {
     flat.positions[11] = 0;
     assert_eq!(examine_mesh(&flat), Err(Refusal::FLAT));
     assert_eq!(Refusal::FLAT.to_string(), "refused 4: a flat cell");
-    assert_eq!(Refusal(10).to_string(), "refused 10: no answer of this library");
+    assert_eq!(Refusal(18).to_string(), "refused 18: no answer of this library");
 }
 
 #[test]
@@ -158,6 +158,10 @@ fn lengths_are_the_same_everywhere() {
         ("MARKS", MARKS_LENGTH),
         ("STEP_ENDS", STEP_ENDS_LENGTH),
         ("BYTES", BYTES_LENGTH),
+        ("STORE", STORE_LENGTH),
+        ("STORES", STORES_LENGTH),
+        ("MESSAGE", MESSAGE_LENGTH),
+        ("HELD", HELD_LENGTH),
     ];
     let numbers_in = |line: &str| line.chars().filter(|&c| c != ',').collect::<String>();
     for (name, length) in lengths {
@@ -165,7 +169,7 @@ fn lengths_are_the_same_everywhere() {
         let row = documentation.lines().find(|l| l.starts_with(&format!("| `YD_{name}_LENGTH` |"))).expect(name);
         assert!(numbers_in(row).contains(&format!(" | {length} | ")), "{name}");
     }
-    assert_eq!(header.matches("_LENGTH ").count(), lengths.len());
+    assert_eq!(header.lines().filter(|l| l.starts_with("#define YD_") && l.contains("_LENGTH ")).count(), lengths.len());
 }
 
 #[test]
