@@ -1,9 +1,9 @@
 -- Owners, as the code looks at them.
 -- Laws: family-here, family-own (the family's owner), part-low, part-high, part-next, part-end (each owner is a part), owners-many,
 -- owners-parts, owners-then (the test, condition by condition).
-use mathlib.Core.Path.{_≡_, refl, sym, _∙_, ap}
+use mathlib.Core.Path.{_≡_}
 use mathlib.Core.Bool.{Bool, true, false, _&&_}
-use mathlib.Core.List.{List, []}
+use mathlib.Core.List.{List}
 use Prim.Native.Nat.{ℕ, suc, _+_, _-_, _≤_, _<_}
 use native.Mathlib.Omega.{arith}
 use lib.Dec.{eqb, leb}

@@ -4,13 +4,12 @@
 -- Laws: number-is, child-short, child-long, child-beyond, place-coarse, place-child (places), outer-no, outer-yes, no-bits, small-bits,
 -- bit-turn, inner-none, inner-some (inner edges), wrote-start, wrote-more (the numbers of a cell), ten-is, kids-owned, filled-none,
 -- filled-more, filled-placed (all cells).
-use mathlib.Core.Path.{_≡_, refl, sym, _∙_, ap, ap₂}
-use mathlib.Core.Bool.{Bool, true, false, not}
+use mathlib.Core.Path.{_≡_, refl, sym, _∙_, ap}
+use mathlib.Core.Bool.{Bool, true, false}
 use mathlib.Core.List.{List, [], _∷_, map}
-use Prim.Native.Nat.{ℕ, zero, suc, _+_, _-_, _*_, _/_, _%_, _^_, _≤_, _<_}
+use Prim.Native.Nat.{ℕ, zero, suc, _+_, _-_, _*_, _%_, _^_, _≤_, _<_}
 use native.Mathlib.Nat.{eq-or-lt-of-le, mul-le-mul}
 use mathlib.Core.Logic.{⊎-elim}
-use native.Mathlib.Decide.{ℕ-discrete}
 use native.Mathlib.Omega.{arith}
 use lib.Dec.{T, eqb, leb, leb→le}
 use lib.ListN.{length, getD, set, drop, length-set}
@@ -24,7 +23,7 @@ use Rattle.rows.specs.Numbered.{cellAt}
 use Rattle.ancestors.specs.Climb.{levelIn, parentIn}
 use Rattle.edges.specs.Pairs.{Pair}
 use Rattle.store.specs.declared.Place.{Place}
-use Rattle.store.specs.Places.{levelIn as levelOf, coarsePlace, childPlace}
+use Rattle.store.specs.Places.{levelIn as levelOf, childPlace}
 use Rattle.columns.specs.Ten.{outerb, innerBy, placeBy, familyBy, tenOf, Kids, Ready, Filled, Placed, Wrote}
 
 powers : T (belowb (λ l. leb (2 ^ (3 * l)) 4096) 5)

@@ -3,14 +3,14 @@
 -- Laws: split-short, split-table, split-none, split-many, split-owners, split-yes (each return), divisible-of, kids-known, owned-of
 -- (what the
 -- work asks for).
-use mathlib.Core.Path.{_≡_, refl, sym, _∙_, ap, ap₂}
+use mathlib.Core.Path.{_≡_, refl, sym, _∙_, ap}
 use mathlib.Core.Bool.{Bool, true, false, _&&_}
 use mathlib.Core.List.{List, _++_}
 use Prim.Native.Nat.{ℕ, suc, _*_, _/_, _≤_, _<_}
 use native.Mathlib.Omega.{arith}
-use lib.Dec.{T, eqb, leb, eqb→eq}
+use lib.Dec.{eqb, leb, eqb→eq}
 use lib.IntN.{ℤ}
-use lib.ListN.{length, take, drop}
+use lib.ListN.{length, take}
 use borrow.Author.Tests.{le-leb, lt-leb}
 use Rattle.base.specs.Bools.{is-true, not-both}
 use Rattle.base.specs.Fours.{fours, length-fours}
@@ -30,7 +30,7 @@ use Rattle.store.specs.Fields.{full}
 use Rattle.split.specs.Split.{storesAfter, splitAnswer, splitIn, splitAfter}
 use Rattle.columns.specs.Ten.{Kids, ownersBy}
 use Rattle.divide.specs.Divisible.{Divisible}
-use Rattle.divide.proofs.Laid.{Table, owners-are}
+use Rattle.divide.proofs.Laid.{owners-are}
 use Rattle.divide.proofs.Whole.{table-of, kids-of}
 
 module _ (ps : List ℤ) (ts ss : List ℕ) (P : ℕ) (os b : List ℕ) where

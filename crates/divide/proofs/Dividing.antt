@@ -8,8 +8,8 @@ use mathlib.Core.List.{List, [], _∷_, _++_, flatMap, append-assoc, append-nil}
 use Prim.Native.Nat.{ℕ, zero, suc, _+_, _*_, _-_, _/_, _≤_, _<_}
 use native.Mathlib.Nat.{eq-or-lt-of-le}
 use native.Mathlib.Omega.{arith}
-use lib.ListN.{length, getD, take, drop, set, replicate, length-set, length-append, length-map, length-take, length-drop, length-replicate}
-use lib.Seq.{getD-set-same, getD-set-other, take-at, drop-at, drop-drop, length-take-le, drop-append-le}
+use lib.ListN.{length, getD, take, drop, set, length-set, length-append, length-map, length-drop, length-replicate}
+use lib.Seq.{getD-set-same, getD-set-other, take-at, drop-at, drop-drop, length-take-le}
 use borrow.Rule.Slice.PartMut.{putMid}
 use Rattle.base.specs.Range.{range, length-range}
 use Rattle.reds.specs.Ranges.{range-snoc}

@@ -4,12 +4,10 @@ use mathlib.Core.Path.{_≡_, refl, sym, _∙_, ap, ap₂}
 use mathlib.Core.List.{List, [], _∷_, _++_, map, flatMap}
 use Prim.Native.Nat.{ℕ, zero, suc, _+_, _-_, _*_, _/_, _%_, _≤_, _<_}
 use native.Mathlib.Omega.{arith}
-use lib.Dec.{T}
 use lib.ListN.{length, getD}
 use Rattle.base.specs.Places.{placeIn}
 use Rattle.base.specs.Range.{range, member-range}
 use Rattle.mesh.specs.Cells.{edge, edges}
-use Rattle.mesh.specs.Table.{levelsOf}
 use Rattle.edges.specs.Pairs.{Pair, sorted, isb, addPairs}
 use Rattle.rows.specs.Numbered.{cellAt}
 use Rattle.soundness.specs.Sound.{Sound}
@@ -18,7 +16,7 @@ use Rattle.splitting.specs.Numbers.{numbersOf}
 use Rattle.splitting.specs.Members.{below-six}
 use Rattle.split.specs.Columns.{numberedCell, levelOf, levelAt, cellsBelow, keysAt, slotsBelow, slotOf}
 use Rattle.tasks.specs.Levels.{below-more, below-all, level-gap, level-top}
-use Rattle.tasks.specs.Edges.{slotsOn, slots-follow, slots-split}
+use Rattle.tasks.specs.Edges.{slots-follow, slots-split}
 use Rattle.tasks.specs.Sizes.{slots-none, slots-all}
 use Rattle.slots.specs.Slots.{edgeAt, keysIn, slotsTo, Slotted}
 use Rattle.filling.specs.Regions.{SmallSlots}

@@ -3,16 +3,16 @@
 -- Laws: cells-are, level-is, parent-is, number-is, regular-is, edge-is, edges-are (the rows), first-is, first-step, first-most (first
 -- children), below-step (levels), kids-range, family-is, owners-are (families), upward (parents), place-is, inner-is (the rest).
 use mathlib.Core.Path.{_≡_, refl, sym, _∙_, ap, ap₂, subst}
-use mathlib.Core.Logic.{_⊎_, inl, inr, ⊎-elim}
-use mathlib.Core.Bool.{Bool, true, false, _&&_, _||_, not}
+use mathlib.Core.Logic.{_⊎_, inl, inr}
+use mathlib.Core.Bool.{Bool, true, false, _&&_, not}
 use mathlib.Core.List.{List, [], _∷_, _++_, map, flatMap}
-use Prim.Native.Nat.{ℕ, zero, suc, _+_, _-_, _*_, _/_, _%_, _≤_, _<_, pred}
+use Prim.Native.Nat.{ℕ, zero, suc, _+_, _-_, _*_, _≤_, _<_, pred}
 use native.Mathlib.Decide.{decLt}
 use native.Mathlib.Omega.{arith}
 use lib.Dec.{T, eqb, leb, ltb}
-use lib.ListN.{length, getD, take, drop, length-append, length-map}
+use lib.ListN.{length, getD, take, length-append}
 use lib.Seq.{getD-take}
-use borrow.Author.Tests.{eq-eqb, ne-eqb, lt-ltb, le-ltb, eqb-true}
+use borrow.Author.Tests.{eq-eqb, ne-eqb, lt-ltb, le-ltb}
 use Rattle.base.specs.Bools.{one-if}
 use Rattle.base.specs.Lists.{allb}
 use Rattle.base.specs.Every.{All, getD-map}
@@ -20,8 +20,8 @@ use Rattle.base.specs.Range.{range}
 use Rattle.mesh.specs.Cells.{Cell, noCell, Four, edge, edges, heldb, bitsOf}
 use Rattle.mesh.specs.Weights.{Point}
 use Rattle.mesh.specs.Coarse.{cellsb}
-use Rattle.mesh.specs.Table.{levelsOf, cellsOf, soundb, sizeOf, sizes}
-use Rattle.mesh.specs.Layout.{Corner, numberIn, mapCell, rowOf, cellTable, childNumber, edgeNumbers}
+use Rattle.mesh.specs.Table.{levelsOf, cellsOf, soundb, sizeOf}
+use Rattle.mesh.specs.Layout.{numberIn, mapCell, rowOf, cellTable, childNumber, edgeNumbers}
 use Rattle.rows.specs.Numbered.{cellAt}
 use Rattle.rows.specs.Laws.{row-at}
 use Rattle.numbering.specs.Tests.{numberedCells, Placed}
@@ -30,18 +30,17 @@ use Rattle.tables.specs.Cells.{strip, cell-at}
 use Rattle.tables.specs.Onward.{four-in, length-in}
 use Rattle.tables.specs.Finish.{rows-in}
 use Rattle.ancestors.specs.Climb.{levelIn, parentIn}
-use Rattle.ancestors.specs.Linked.{Linked, Descends, linkedPath}
+use Rattle.ancestors.specs.Linked.{Descends}
 use Rattle.ancestors.specs.Levels.{cells-linked}
 use Rattle.soundness.specs.Sound.{Sound, sound-parts}
 use Rattle.rounds.specs.Tests.{Member}
-use Rattle.splitting.specs.Numbers.{numbersOf, level-at, number-inside}
+use Rattle.splitting.specs.Numbers.{numbersOf, level-at}
 use Rattle.splitting.specs.Slots.{level-of}
 use Rattle.parts.specs.Owners.{nthCell, childrenOf, familyOf, firstOr, ownersb}
-use Rattle.store.specs.declared.Place.{Place}
 use Rattle.store.specs.Places.{placeOf, coarsePlace, childPlace, place-child}
 use Rattle.split.specs.Columns.{cornersIn, numberedCell, levelOf, cellsBelow, firstChild, innerBits, sixEdges}
-use Rattle.tasks.specs.Levels.{one-at-least, below-more, below-none, below-top, below-all, level-top}
-use Rattle.tasks.specs.Families.{below-up, kids-are, kids-inside, parent-in}
+use Rattle.tasks.specs.Levels.{one-at-least, below-more, below-none, below-top, below-all}
+use Rattle.tasks.specs.Families.{below-up, kids-are, kids-inside}
 use Rattle.lineage.specs.Olds as olds
 use Rattle.reds.specs.Firsts.{first-next, first-up, first-start}
 use Rattle.columns.specs.Ten.{familyBy, ownersBy, placeBy, innerBy, outerb}

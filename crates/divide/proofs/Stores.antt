@@ -7,9 +7,9 @@ use Prim.Native.Nat.{ℕ, zero, suc, _+_, _-_, _*_, _/_, _%_, _≤_, _<_}
 use native.Mathlib.Decide.{decLt}
 use native.Mathlib.Omega.{arith}
 use lib.Dec.{eqb, ltb}
-use lib.ListN.{length, getD, replicate, length-append, length-map, length-replicate, getD-replicate}
+use lib.ListN.{length, getD, replicate, length-map, getD-replicate}
 use lib.Seq.{ext-getD}
-use borrow.Author.Tests.{eq-eqb, lt-ltb, le-ltb, ltb-true}
+use borrow.Author.Tests.{lt-ltb, le-ltb, ltb-true}
 use Rattle.base.specs.Bools.{one-if}
 use Rattle.base.specs.Every.{getD-map}
 use Rattle.base.specs.Fours.{fours, length-fours}
@@ -28,9 +28,7 @@ use Rattle.split.specs.Split.{byCell, sixOf, fourOf, holdersAt, partStore}
 use Rattle.split.specs.Stored.{ifHeld, Fours, fours-four}
 use Rattle.slots.specs.Slots.{Slotted}
 use Rattle.columns.specs.Ten.{tenOf, Filled}
-use Rattle.ancestors.specs.Climb.{levelIn}
-use Rattle.columns.specs.Ten.{placeBy, familyBy, innerBy}
-use Rattle.filling.specs.Regions.{zeros, tab, Each, holdb, pick, inColumn, inSix, columnBy, slotBy, markTo, markb, holderTo, holderBy, maskFrom}
+use Rattle.filling.specs.Regions.{zeros, tab, Each, holdb, pick, columnBy, slotBy, markTo, markb, holderTo, holderBy, maskFrom}
 use Rattle.filling.specs.Regions.{maskBy, cornerBy, headBy, regions}
 use Rattle.divide.proofs.Laid.{Table, coarse-few, parent-is, regular-is, family-is, place-is, inner-is}
 use Rattle.divide.proofs.Edged.{starts-are, slot-is}

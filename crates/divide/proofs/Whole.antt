@@ -4,16 +4,13 @@
 -- leave), answer-short, answer-table, answer-parts, answer-owners, answer-yes (the answer).
 use mathlib.Core.Path.{_≡_, refl, sym, _∙_, ap, ap₂}
 use mathlib.Core.List.{List, [], _∷_, _++_, flatMap}
-use mathlib.Core.Bool.{Bool, true, false, _&&_}
-use Prim.Native.Nat.{ℕ, zero, suc, _+_, _*_, _/_, _≤_, _<_}
+use Prim.Native.Nat.{ℕ, zero, suc, _+_, _*_, _≤_, _<_}
 use native.Mathlib.Omega.{arith}
-use lib.Dec.{T}
 use lib.ListN.{length, getD, take, drop, replicate, length-map, length-replicate, getD-replicate}
 use lib.Seq.{ext-getD}
 use Rattle.base.specs.Every.{getD-map}
 use Rattle.base.specs.Fours.{fours, length-fours}
 use Rattle.base.specs.Range.{range, length-range, range-at}
-use Rattle.mesh.specs.Table.{levelsOf}
 use Rattle.lattice.specs.Levels.{fours-four}
 use Rattle.soundness.specs.Sound.{Sound, sound-parts}
 use Rattle.reds.specs.Firsts.{first-at, length-firsts}
@@ -24,9 +21,9 @@ use Rattle.split.specs.Split.{partStore, storesAfter}
 use Rattle.tasks.specs.Levels.{below-more, below-none, below-all}
 use Rattle.columns.specs.Ten.{Kids, Ready, Filled}
 use Rattle.filling.specs.Regions.{tab, Each, maskBy, regions, SmallSlots}
-use Rattle.divide.specs.Divided.{firstBy, Leveled, FirstCells, Numbered, masksOf, partBy, storeOf, storesTo}
+use Rattle.divide.specs.Divided.{firstBy, Leveled, Numbered, masksOf, partBy, storeOf, storesTo}
 use Rattle.divide.specs.Divisible.{Divisible}
-use Rattle.divide.proofs.Laid.{Table, first-top, below-step, upward, coarse-few}
+use Rattle.divide.proofs.Laid.{Table, first-top, below-step, upward}
 use Rattle.divide.proofs.Edged.{slots-small}
 use Rattle.divide.proofs.Stores.{regions-are}
 

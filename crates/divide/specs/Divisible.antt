@@ -1,10 +1,10 @@
 -- What a table that is split is: accepted, laid out, with owners that fit.
 --   Divisible ..     all that the work asks for
 use mathlib.Core.Path.{_≡_}
-use mathlib.Core.List.{List, _++_}
-use Prim.Native.Nat.{ℕ, suc, _*_, _≤_, _<_}
+use mathlib.Core.List.{List}
+use Prim.Native.Nat.{ℕ, suc, _*_, _≤_}
 use lib.Dec.{T}
-use lib.ListN.{length, take, drop}
+use lib.ListN.{length, take}
 use Rattle.base.specs.Fours.{fours}
 use Rattle.mesh.specs.Table.{levelsOf, soundb}
 use Rattle.mesh.specs.Layout.{cellTable}

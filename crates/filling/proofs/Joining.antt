@@ -5,7 +5,7 @@ use mathlib.Core.Path.{_≡_, refl, sym, _∙_, ap, ap₂}
 use mathlib.Core.List.{List, _++_, map, append-assoc}
 use Prim.Native.Nat.{ℕ, _+_, _-_, _/_, _≤_, _<_}
 use native.Mathlib.Omega.{arith}
-use lib.ListN.{length, getD, take, drop, replicate, length-append, length-take, length-drop, length-map, length-replicate, take-append-drop}
+use lib.ListN.{length, take, drop, length-append, length-drop, length-map, length-replicate}
 use lib.ListN.{drop-of-length-le}
 use lib.Seq.{length-take-le, take-at, drop-at, drop-drop, ext-getD, take-all}
 use mathlib.Core.List.{append-nil}

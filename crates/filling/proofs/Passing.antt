@@ -13,8 +13,9 @@ use native.Mathlib.Nat.{eq-or-lt-of-le}
 use native.Mathlib.Decide.{ℕ-discrete, decLt}
 use native.Mathlib.Omega.{arith}
 use lib.Dec.{T, eqb, ltb, leb, leb→le}
-use lib.ListN.{length, getD, take, drop, drop-of-length-le, set, replicate, length-set, length-map, length-replicate, getD-replicate, replicate-append-replicate}
-use lib.Seq.{drop-cons, set-at, append-snoc, getD-set-same, getD-set-other, take-suc}
+use lib.ListN.{length, getD, take, drop, drop-of-length-le, set, replicate, length-set, length-map, length-replicate, getD-replicate}
+use lib.ListN.{replicate-append-replicate}
+use lib.Seq.{drop-cons, set-at, append-snoc, getD-set-same, getD-set-other}
 use borrow.Author.Tests.{eq-eqb, ne-eqb, lt-ltb, le-ltb}
 use Rattle.base.specs.Bools.{one-if, one-most}
 use Rattle.base.specs.Lists.{anyb, belowb, belowb-at}

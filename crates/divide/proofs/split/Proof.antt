@@ -5,7 +5,8 @@ use Prim.Native.Nat.{ℕ}
 use native.Mathlib.Omega.{arith}
 use lib.ListN.{length-replicate}
 use borrow.Author.Tests.{not-true, not-false}
-use Rattle.divide.proofs.Answers.{split-short, split-table, split-none, split-many, split-owners, split-yes, statuses-few, cells-few, coarse-small, kids-known, owned-is, divisible-known}
+use Rattle.divide.proofs.Answers.{split-short, split-table, split-none, split-many, split-owners, split-yes}
+use Rattle.divide.proofs.Answers.{statuses-few, cells-few, coarse-small, kids-known, owned-is, divisible-known}
 use borrow.Author.Needs.{needs}
 use Rattle.divide.proofs.split.Statement.{statement}
 use Rattle.divide.proofs.split.Tie as tie

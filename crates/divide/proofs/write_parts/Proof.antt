@@ -27,7 +27,8 @@ loop-holds c =
       refl,
       more-start (partBy (a .cols .now) (a .mesh .now) (a .slots .now) (a .firsts .now) (a .starts .now) (a .cells)
           (a .parts) (a .n) (a .levels))
-          (part-length (a .cols .now) (a .mesh .now) (a .slots .now) (a .firsts .now) (a .starts .now) (a .cells) (a .parts) (a .n) (a .levels)
+          (part-length (a .cols .now) (a .mesh .now) (a .slots .now) (a .firsts .now) (a .starts .now) (a .cells) (a .parts) (a .n)
+          (a .levels)
           (s .pre .1 .0 .2) (s .pre .1 .0 .3)) (a .stores .now),
     )
 
@@ -63,9 +64,11 @@ loop-again c =
       c .before .before .write-part .kept .0 ∙ l .inv .1,
       rw
           (add-one (l .j)) (c .before .before .write-part .ensures
-          ∙ ap (λ (x : List ℕ). oneMore (partBy (a .cols .now) (a .mesh .now) (a .slots .now) (a .firsts .now) (a .starts .now) (a .cells) (a
+          ∙ ap (λ (x : List ℕ). oneMore (partBy (a .cols .now) (a .mesh .now) (a .slots .now) (a .firsts .now) (a .starts .now) (a
+          .cells) (a
           .parts) (a .n) (a .levels)) x (l .j)) (l .inv .2)
-          ∙ more-turn f (part-length (a .cols .now) (a .mesh .now) (a .slots .now) (a .firsts .now) (a .starts .now) (a .cells) (a .parts) (a
+          ∙ more-turn f (part-length (a .cols .now) (a .mesh .now) (a .slots .now) (a .firsts .now) (a .starts .now) (a .cells) (a
+          .parts) (a
           .n) (a .levels)
           (s .pre .1 .0 .2) (s .pre .1 .0 .3)) (a .stores .now) (l .j) (parts-room (a .stores .now) (l .j) (omega (
             arith,
