@@ -24,6 +24,7 @@ use Rattle.rounds.specs.Upward.{ups}
 use Rattle.store.specs.Fields.{field, full, PART, PARTS, CELLS, HIGH, TOTAL, WRITTEN, FIRST-CELL, FIRST-SLOT, OWNER, FAMILY, RED, HOLDERS}
 use Rattle.store.specs.Fields.{SUM}
 use Rattle.store.specs.Fetch.{bitb}
+use Rattle.standing.specs.Absorbs.{and-none}
 use Rattle.standing.specs.Busy.{HoldsCell, HoldsSlot}
 use Rattle.standing.specs.Packed.{entryCode, entryValue, bodyb}
 use Rattle.turns.specs.Loops.{eachFrom}
@@ -33,10 +34,6 @@ use Rattle.entering.specs.Columns.{Columns, Heard}
 use Rattle.entering.specs.Bits.{bit-none, bit-power, bit-ones, bit-less}
 use Rattle.entering.specs.Writing.{Line, Sent, SameElse, same-self, WroteLines, ordersOf, postLine, wrote-each, wrote-cons}
 use Rattle.entering.specs.Writing.{wrote-last, posted-same}
-
-and-none : (b : Bool) → (b && false) ≡ false
-and-none true = refl
-and-none false = refl
 
 -- tests of parts by their numbers
 pub part-same : (P : ℕ) (a b : Fin P) → a ≡ b → eqb (suc (a .0)) (suc (b .0)) ≡ true

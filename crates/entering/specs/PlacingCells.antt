@@ -29,6 +29,7 @@ use Rattle.rounds.specs.Among.{is-eq}
 use Rattle.store.specs.Fields.{field, PART, CELLS, ENTRIES, TOTAL, HIGH, FIRST-CELL, OWNER, FAMILY, STATUS, CHILD, HEAD, DIGITS, MORE}
 use Rattle.store.specs.declared.Place.{Place}
 use Rattle.store.specs.Places.{placeOf}
+use Rattle.standing.specs.Absorbs.{and-none}
 use Rattle.standing.specs.Busy.{HoldsCell}
 use Rattle.turns.specs.Decide.{kidCount}
 use Rattle.turns.specs.Loops.{eachFrom}
@@ -46,10 +47,6 @@ use Rattle.entering.specs.PlacingSteps.{Else, StepHeld, placed-master, p
 use Rattle.entering.specs.PlacingSteps.{each-adds, flat-one, held-placed, else-nine, else-ten, else-eleven}
 use Rattle.entering.specs.PlacingStatus.{cell-few, holds-owner, holds-family, owner-is, family-is, stored-is, status-is, stays-is}
 use Rattle.entering.specs.PlacingStatus.{anew-is, fresh-read, status-few, fresh-few, size-few}
-
-and-none : (b : Bool) → (b && false) ≡ false
-and-none true = refl
-and-none false = refl
 
 -- lists and loops
 flat-agree : {A B : Type 0} (f g : A → List B) → ((a : A) → f a ≡ g a) → (l : List A) → flatMap f l ≡ flatMap g l

@@ -18,16 +18,19 @@ use lib.Dec.{T, eqb}
 use lib.ListN.{set}
 use Rattle.base.specs.Bools.{one-if}
 
+-- Rule 15.17.
 pub data Request (In Msg : Type 0) : Type 0 where
   Start : In → Request In Msg
   Step : Request In Msg
   Fetch : Request In Msg
   Hand : Msg → Request In Msg
 
+-- Rule 15.17.
 pub record Call (In Msg : Type 0) : Type 0 where
   pub part : ℕ
   pub request : Request In Msg
 
+-- Rule 15.17.
 pub record World (Msg Store : Type 0) : Type 0 where
   pub stores : List Store
   pub given : List Msg
@@ -47,7 +50,7 @@ module _ {In Msg Store : Type 0} (act : Program In Msg Store) where
   unfolding answerAt
   answer c w = answerAt (c .request) (w .stores) (c .part)
 
-  -- a call changes its own part's store alone, a refused one nothing
+  -- Rule 15.17: a call changes its own part's store alone, a refused one nothing
   unfoldable pub changed : ℕ → World Msg Store → Option (Store × List Msg) → World Msg Store
   changed p w none = w
   changed p w (some y) = record { stores = set (w .stores) p (y .0); given = y .1 ++ w .given }
@@ -55,6 +58,7 @@ module _ {In Msg Store : Type 0} (act : Program In Msg Store) where
   abbrev pub apply : Call In Msg → World Msg Store → World Msg Store
   apply c w = changed (c .part) w (answer c w)
 
+  -- Rule 15.17.
   unfoldable pub play : List (Call In Msg) → World Msg Store → World Msg Store
   unfolding changed answer
   play [] w = w
@@ -64,6 +68,7 @@ module _ {In Msg Store : Type 0} (act : Program In Msg Store) where
   acceptsb none = false
   acceptsb (some y) = true
 
+  -- Rule 15.19.
   unfoldable pub moves : List (Call In Msg) → World Msg Store → ℕ
   unfolding changed answer acceptsb one-if
   moves [] w = 0
@@ -77,15 +82,18 @@ module _ {In Msg Store : Type 0} (act : Program In Msg Store) where
   begun p q Fetch b r = r
   begun p q (Hand m) b r = r
 
+  -- Rule 15.6.
   unfoldable pub startedWith : List (Call In Msg) → World Msg Store → ℕ → Option In
   unfolding changed answer acceptsb begun
   startedWith [] w p = none
   startedWith (c ∷ cs) w p = begun p (c .part) (c .request) (acceptsb (answer c w)) (startedWith cs (apply c w) p)
 
+  -- Rule 15.17.
   unfoldable pub toCome : ℕ → Store → List Msg
   toCome zero x = []
   toCome (suc n) x = Option·elim (act Fetch x) [] (λ y. y .1 ++ toCome n (y .0))
 
+  -- Rule 15.17.
   unfoldable pub IsWritten : World Msg Store → Msg → Type 0
   unfolding toCome
   IsWritten w m = List·Memᴰ m (w .given) ⊎ ((x : Store) × List·Memᴰ x (w .stores) × (n : ℕ) × List·Memᴰ m (toCome n x))
@@ -97,6 +105,7 @@ module _ {In Msg Store : Type 0} (act : Program In Msg Store) where
   Fair Fetch w = Unit {0}
   Fair (Hand m) w = IsWritten w m
 
+  -- Rule 15.17.
   unfoldable pub Lawful : List (Call In Msg) → World Msg Store → Type 0
   unfolding changed answer acceptsb Fair
   Lawful [] w = Unit {0}

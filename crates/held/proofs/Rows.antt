@@ -50,13 +50,13 @@ module _ (e : Entry) (x y : ℕ) (k : Keyed (e .path) x y) where
   unfolding keyPath
   path-length = ap length (sym (k .path)) ∙ ap suc (length-eights (x / 256) y)
 
-  pub row-length : length (entryRow e) ≡ 14
+  row-length : length (entryRow e) ≡ 14
   unfolding entryRow
   row-length =
       let a = length-append (e .path) (replicate (11 - length (e .path)) 0) in
       omega (arith, path-length, length-replicate {A = ℕ} (11 - length (e .path)) 0, k .key .level)
 
-  pub row-is : entryRow e ≡ one-if (e .ghost) ∷ e .status ∷ x / 256 ∷ x % 256 ∷ eights 10 y
+  row-is : entryRow e ≡ one-if (e .ghost) ∷ e .status ∷ x / 256 ∷ x % 256 ∷ eights 10 y
   unfolding entryRow keyPath
   row-is =
       let n : 11 - length (e .path) ≡ 10 - x / 256 = omega (arith, path-length) in

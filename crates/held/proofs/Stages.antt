@@ -122,7 +122,7 @@ module _ (x : List ℕ) where
     unfolding heldAnswer refuse
     held-early h g e s = refused-by 16 (rw (le-leb full (length x) h, le-leb 57344 (length rows) g, e, ne-eqb (field x STAGE) 2 s))
 
-    pub held-accepted : full ≤ length x → 57344 ≤ length rows → headerb x ≡ true → field x STAGE ≡ 2 → heldAnswer x rows ≡ Accepted
+    held-accepted : full ≤ length x → 57344 ≤ length rows → headerb x ≡ true → field x STAGE ≡ 2 → heldAnswer x rows ≡ Accepted
     unfolding heldAnswer refuse
     held-accepted h g e s = rw (le-leb full (length x) h, le-leb 57344 (length rows) g, e, eq-eqb (field x STAGE) 2 s)
 

@@ -25,7 +25,7 @@ use Rattle.held.specs.declared.Progress.the-variants as progress
 use Rattle.held.specs.declared.Listed.{Listed}
 use Rattle.held.specs.declared.Listed.the-variants as listed
 
--- a ghost's status has 128 more
+-- Rule 15.11: a ghost's status has 128 more
 unfoldable pub entryIn : List ℕ → ℕ → Entry
 unfolding pathOf
 entryIn x j =
@@ -35,15 +35,17 @@ entryIn x j =
       ghost = leb 128 (field x (PLACE-STATUS + j));
     }
 
+-- Rule 15.11.
 unfoldable pub heldIn : List ℕ → List Entry
 unfolding entryIn range
 heldIn x = map (entryIn x) (range 0 (field x ENTRIES))
 
--- a path has the coarse cell and at most ten child numbers
+-- Rule 15.11: a path has the coarse cell and at most ten child numbers
 unfoldable pub entryRow : Entry → List ℕ
 unfolding one-if
 entryRow e = (one-if (e .ghost) ∷ e .status ∷ pred (length (e .path)) ∷ e .path) ++ replicate (11 - length (e .path)) 0
 
+-- Rule 15.11.
 unfoldable pub heldRows : List ℕ → List ℕ
 unfolding heldIn entryRow flatMap
 heldRows x = flatMap entryRow (heldIn x)
@@ -52,15 +54,18 @@ heldRows x = flatMap entryRow (heldIn x)
 abbrev pub fullHeld : ℕ
 fullHeld = 57344
 
+-- Rule 15.16.
 unfoldable pub heldAnswer : List ℕ → List ℕ → Answer
 unfolding refuse headerb
 heldAnswer x rows =
     refuse 15 (leb full (length x) && leb fullHeld (length rows)) (refuse 16 (headerb x && eqb (field x STAGE) 2) Accepted)
 
+-- Rule 15.16.
 unfoldable pub stageAnswer : List ℕ → Answer
 unfolding refuse headerb
 stageAnswer x = refuse 15 (leb full (length x)) (refuse 16 (headerb x && not (eqb (field x STAGE) 0)) Accepted)
 
+-- Rules 15.10, 15.11.
 unfoldable pub stageOf : List ℕ → Progress
 stageOf x =
     elim (eqb (field x STAGE) 1) [

@@ -14,7 +14,7 @@ use lib.Pow.{pow-add}
 use lib.ListN.{length, take, drop, replicate, length-append}
 use lib.Seq.{take-all}
 use Rattle.store.specs.declared.Place.{Place}
-use Rattle.store.specs.Places.{eights, pathOf}
+use Rattle.store.specs.Places.{eights, pathOf, eight-more}
 
 unfoldable pub keyPath : ℕ → ℕ → List ℕ
 unfolding eights
@@ -27,9 +27,6 @@ pub record Key (x y : ℕ) : Type 0 where
 pub record Keyed (l : List ℕ) (x y : ℕ) : Type 0 where
   pub key : Key x y
   pub path : keyPath x y ≡ l
-
-eight-more : (n : ℕ) → 2 ^ (3 * suc n) ≡ 8 * 2 ^ (3 * n)
-eight-more n = let z : 3 * suc n ≡ 3 + 3 * n = omega arith in rw z (pow-add 2 3 (3 * n))
 
 pub length-eights : (n y : ℕ) → length (eights n y) ≡ n
 unfolding eights

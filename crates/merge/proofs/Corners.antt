@@ -163,7 +163,7 @@ module _ (b : List ℕ) (P n m : ℕ) where
     front : length (take (4 * i) mesh) ≡ 4 * i
     front = length-take-le (4 * i) mesh (omega (arith, s .long))
 
-    pub cell-at : take 4 (drop (4 * i) mesh′) ≡ cornersAmong xs i
+    cell-at : take 4 (drop (4 * i) mesh′) ≡ cornersAmong xs i
     cell-at =
         ap (λ (l : List ℕ). take 4 (drop (4 * i) l)) parted
         ∙ ap (take 4) (drop-at (take (4 * i) mesh) (q ++ drop (4 * i + length q) mesh) (4 * i) front)

@@ -21,11 +21,11 @@ entriesFrom x j n = map (entryIn x) (range j (n - j))
 abbrev pub storesFrom : List ℕ → ℕ → ℕ → List Entry
 storesFrom b i P = flatMap heldIn (map (storeIn b) (range i (P - i)))
 
-pub entries-none : (x : List ℕ) (n : ℕ) → entriesFrom x n n ≡ []
+entries-none : (x : List ℕ) (n : ℕ) → entriesFrom x n n ≡ []
 unfolding range
 entries-none x n = let z : n - n ≡ 0 = omega arith in rw z
 
-pub entries-more : (x : List ℕ) (j n : ℕ) → j < n → entriesFrom x j n ≡ entryIn x j ∷ entriesFrom x (suc j) n
+entries-more : (x : List ℕ) (j n : ℕ) → j < n → entriesFrom x j n ≡ entryIn x j ∷ entriesFrom x (suc j) n
 unfolding range
 entries-more x j n h = let z : n - j ≡ suc (n - suc j) = omega arith in rw z
 
@@ -33,7 +33,7 @@ entries-all : (x : List ℕ) → entriesFrom x 0 (field x ENTRIES) ≡ heldIn x
 unfolding heldIn
 entries-all x = let z : field x ENTRIES - 0 ≡ field x ENTRIES = omega arith in rw z
 
-pub stores-none : (b : List ℕ) (P : ℕ) → storesFrom b P P ≡ []
+stores-none : (b : List ℕ) (P : ℕ) → storesFrom b P P ≡ []
 unfolding range flatMap
 stores-none b P = let z : P - P ≡ 0 = omega arith in rw z
 

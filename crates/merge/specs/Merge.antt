@@ -29,17 +29,19 @@ use Rattle.merge.specs.declared.Merged.the-variants as done
 unfoldable pub storeIn : List ℕ → ℕ → List ℕ
 storeIn b j = take full (drop (full * j) b)
 
+-- Rule 15.12.
 unfoldable pub storesIn : List ℕ → List (List ℕ)
 unfolding storeIn range
 storesIn b = map (storeIn b) (range 0 (field b PARTS))
 
+-- Rule 15.16.
 unfoldable pub alikeb : List ℕ → List ℕ → Bool
 unfolding headerb
 alikeb x y =
     headerb y && (eqb (field y STAGE) 2 && (eqb (field y PARTS) (field x PARTS) && (eqb (field y CORNERS) (field x CORNERS)
     && (eqb (field y COARSE) (field x COARSE) && eqb (field y RESULT) (field x RESULT)))))
 
--- as many stores as parts: where each part is among them, it is so once
+-- Rule 15.16: as many stores as parts: where each part is among them, it is so once
 unfoldable pub everyb : List (List ℕ) → Bool
 unfolding allb anyb range
 everyb xs = allb (λ p. anyb (λ x. eqb (field x PART) p) xs) (range 1 (length xs))
@@ -52,33 +54,37 @@ unfolding ownsb
 cornersAmong [] i = []
 cornersAmong (x ∷ xs) i = elim (ownsb i x) [ true ↦ take 4 (drop (CORNER + 4 * i) x) | false ↦ cornersAmong xs i ]
 
+-- Rule 15.12.
 unfoldable pub mergeCells : List (List ℕ) → ℕ → List (List ℕ)
 unfolding cornersAmong range
 mergeCells xs m = map (cornersAmong xs) (range 0 m)
 
+-- Rule 15.12.
 unfoldable pub mergeEntries : List (List ℕ) → List Entry
 unfolding heldIn flatMap
 mergeEntries xs = flatMap heldIn xs
 
+-- Rule 15.12.
 unfoldable pub mergeTable : List (List ℕ) → ℕ → List ℕ
 unfolding merged mergeEntries flatten
 mergeTable xs m = flatten (merged (mergeEntries xs) m)
 
--- n coarse corners, m coarse cells: each coarse cell has a master with corners in order, each place that the table asks for has one and
--- nothing else has, and the table is sound
+-- Rule 15.16: n coarse corners, m coarse cells: each coarse cell has a master with corners in order, each place that the table asks for has
+-- one and nothing else has, and the table is sound
 unfoldable pub meshesb : ℕ → ℕ → List (List ℕ) → Bool
 unfolding allb anyb ownsb cellsb completeb soundb mergeCells mergeEntries mergeTable range
 meshesb n m xs =
     (allb (λ i. anyb (ownsb i) xs) (range 0 m) && cellsb n (mergeCells xs m))
     && (completeb (mergeEntries xs) m && soundb n (mergeCells xs m) (mergeTable xs m))
 
--- the first store says how many parts, corners and coarse cells there are
+-- Rule 15.16: the first store says how many parts, corners and coarse cells there are
 unfoldable pub mergeb : List ℕ → Bool
 unfolding headerb alikeb everyb meshesb storesIn
 mergeb b =
     headerb b && (allb (alikeb b) (storesIn b) && (everyb (storesIn b)
     && meshesb (field b CORNERS) (field b COARSE) (storesIn b)))
 
+-- Rules 15.12, 15.16.
 unfoldable pub mergeAnswer : List ℕ → List ℕ → Answer
 unfolding refuse mergeb
 mergeAnswer b t = refuse 15 (leb (16 * full) (length b) && leb 4096 (length t)) (refuse 16 (mergeb b) Accepted)

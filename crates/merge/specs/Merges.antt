@@ -66,7 +66,7 @@ module _ (b : List ℕ) where
         sound = and-right wholeb tableb c;
       }
 
-  pub merges-by : Merges → T (mergeb b)
+  merges-by : Merges → T (mergeb b)
   unfolding mergeb meshesb
   merges-by s =
       and-both (headerb b) _ (s .header) (and-both (allb (alikeb b) xs) _ (s .alike)

@@ -78,7 +78,7 @@ module _ (x y : List ℕ) where
   chain : (a b : Bool) → T (a && b) → T a × T b
   chain a b t = (and-left a b t, and-right a b t)
 
-  pub alike-is : T (alikeb x y) → Alike
+  alike-is : T (alikeb x y) → Alike
   unfolding alikeb
   alike-is t =
       let (a, t) = chain (headerb y) _ t in

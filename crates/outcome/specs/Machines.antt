@@ -35,6 +35,7 @@ use Rattle.store.specs.Message.{two, messageOf, headOf, bodyOf}
 use Rattle.store.specs.Fetch.{codeAt, valueAt, fetchAnswer, fetchBytes, fetchAfter, nextToGive, given}
 use Rattle.store.specs.Fetching.{before-start}
 use Rattle.store.specs.Hand.{handAnswer, handAfter, wellb, takenAt, endedAt, numberAt}
+use Rattle.store.specs.Handing.{refuse-on}
 use Rattle.store.specs.declared.Fetched.{Fetched}
 use Rattle.store.specs.declared.Fetched.the-variants.{Message, Nothing}
 use Rattle.standing.specs.Busy.{L, pack, HoldsCell, Busy, hand-is, fetch-nothing, fetch-some, not-from-self}
@@ -54,14 +55,6 @@ use Rattle.entering.specs.ToTotals.{into-totals, totals-stay}
 use Rattle.entering.specs.ToEnd.{into-end, end-stay}
 use Rattle.entering.specs.Passing.{fetched, fetch-stay, handed, hand-stay}
 use Rattle.outcome.specs.Program.{yields, gives, nine, act}
-
-refuse-on : (k : ℕ) (b : Bool) (a : Answer) → refuse k b a ≡ Accepted → (b ≡ true) × (a ≡ Accepted)
-unfolding refuse
-refuse-on k true a e = (refl, e)
-refuse-on k false a e = no-accept e
-  where
-    no-accept : {A : Type 0} → Refused k ≡ Accepted → A
-    no-accept e = let z : _≡_ {A = ℕ} 0 1 = cc in absurd (omega arith)
 
 -- an answer that is accepted, and one that is not
 refused-none : (a : Answer) (y : List ℕ) → (a ≡ Accepted → ⊥) → yields a y ≡ none

@@ -12,20 +12,23 @@ use lib.ListN.{length, getD}
 use Rattle.base.specs.Range.{range}
 use Rattle.parts.specs.Owners.{nthCell, familyOf}
 
+-- Rule 15.11.
 pub record Entry : Type 0 where
   pub path : List ℕ
   pub status : ℕ
   pub ghost : Bool
 
+-- Rule 15.2.
 unfoldable pub masterb : List ℕ → ℕ → ℕ → Bool
 masterb os p c = eqb (getD os c 0) p
 
 module _ (n : ℕ) (qs : List (List ℕ)) (ss : List ℕ) where
-  -- with the family's owner, if that is another
+  -- Rule 15.2: with the family's owner, if that is another
   unfoldable pub ghostb : List ℕ → ℕ → ℕ → Bool
   unfolding masterb familyOf
   ghostb os p c = not (masterb os p c) && eqb (familyOf n qs ss os c) p
 
+  -- Rule 15.11.
   unfoldable pub entryOf : List ℕ → ℕ → ℕ → List Entry
   unfolding masterb ghostb nthCell
   entryOf os p c =
@@ -37,6 +40,7 @@ module _ (n : ℕ) (qs : List (List ℕ)) (ss : List ℕ) where
         ]
       ]
 
+  -- Rule 15.11.
   unfoldable pub entriesOf : List ℕ → ℕ → List Entry
   unfolding entryOf range flatMap
   entriesOf os p = flatMap (entryOf os p) (range 0 (length ss))

@@ -16,6 +16,7 @@ use Rattle.base.specs.Range.{range}
 use Rattle.mesh.specs.Table.{sizeOf}
 use Rattle.parts.specs.Held.{Entry}
 
+-- Rule 15.12.
 unfoldable pub lookup : List Entry → List ℕ → ℕ
 unfolding sameb
 lookup [] l = 0
@@ -27,13 +28,14 @@ childPaths [] ts = []
 childPaths (l ∷ ls) [] = []
 childPaths (l ∷ ls) (t ∷ ts) = map (λ i. l ++ (i ∷ [])) (range 0 (sizeOf t)) ++ childPaths ls ts
 
+-- Rule 15.12.
 unfoldable pub gather : ℕ → List Entry → List (List ℕ) → List (List ℕ)
 unfolding lookup childPaths
 gather zero es ls = []
 gather (suc h) es [] = []
 gather (suc h) es (l ∷ ls) = let ts = map (lookup es) (l ∷ ls) in ts ∷ gather h es (childPaths (l ∷ ls) ts)
 
--- twelve levels, as in a table: one more than is allowed
+-- Rule 15.12: twelve levels, as in a table: one more than is allowed
 unfoldable pub merged : List Entry → ℕ → List (List ℕ)
 unfolding gather range
 merged es m = gather 12 es (map (λ i. i ∷ []) (range 0 m))
@@ -49,6 +51,7 @@ filledb (suc h) es [] = true
 filledb (suc h) es (l ∷ ls) =
     allb (λ k. anyb (λ e. sameb (e .path) k) (masters es)) (l ∷ ls) && filledb h es (childPaths (l ∷ ls) (map (lookup es) (l ∷ ls)))
 
+-- Rule 15.16.
 unfoldable pub completeb : List Entry → ℕ → Bool
 unfolding filledb masters merged range flatMap flatten
 completeb es m = filledb 12 es (map (λ i. i ∷ []) (range 0 m)) && eqb (length (masters es)) (length (flatten (merged es m)))

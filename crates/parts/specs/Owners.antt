@@ -29,15 +29,17 @@ module _ (n : ℕ) (qs : List (List ℕ)) (ss : List ℕ) where
   unfolding levelsOf cellsOf
   nthCell c = getD (cellsOf (levelsOf n qs ss)) c noCell
 
+  -- Rule 3.2.
   unfoldable pub childrenOf : ℕ → List ℕ
   unfolding nthCell filterb range
   childrenOf c = filterb (λ d. eqb (nthCell d .parent) c) (range 0 (length ss))
 
+  -- Rule 15.1.
   unfoldable pub familyOf : List ℕ → ℕ → ℕ
   unfolding childrenOf firstOr
   familyOf os c = firstOr (λ d. getD os d 0) (getD os c 0) (childrenOf c)
 
-  -- one owner a cell, from 1 to P, and one for all children of a cell
+  -- Rule 15.14: one owner a cell, from 1 to P, and one for all children of a cell
   unfoldable pub ownersb : ℕ → List ℕ → Bool
   unfolding allb range childrenOf familyOf
   ownersb P os =
@@ -49,23 +51,24 @@ module _ (n : ℕ) (qs : List (List ℕ)) (ss : List ℕ) where
   unfolding nthCell filterb sameb range
   refinedAt l = filterb (λ c. sameb (nthCell c .path) l && not (eqb (getD ss c 0) 0)) (range 0 (length ss))
 
-  -- a family keeps its owner; a first one is with its parent's
+  -- Rule 15.13: a family keeps its owner; a first one is with its parent's
   unfoldable pub familyAfter : List ℕ → List ℕ → ℕ → ℕ
   unfolding refinedAt familyOf firstOr
   familyAfter os l o = firstOr (familyOf os) o (refinedAt l)
 
-  -- from the cell with the path l and the owner o down to a cell under it
+  -- Rule 15.13: from the cell with the path l and the owner o down to a cell under it
   unfoldable pub ownerDown : List ℕ → List ℕ → ℕ → List ℕ → ℕ
   unfolding familyAfter
   ownerDown os l o [] = o
   ownerDown os l o (i ∷ r) = ownerDown os (l ++ (i ∷ [])) (familyAfter os l o) r
 
-  -- a coarse cell keeps its owner
+  -- Rule 15.13: a coarse cell keeps its owner
   unfoldable pub ownerAfter : List ℕ → List ℕ → ℕ
   unfolding ownerDown
   ownerAfter os [] = 0
   ownerAfter os (c ∷ r) = ownerDown os (c ∷ []) (getD os c 0) r
 
+  -- Rule 15.13.
   unfoldable pub ownersAfter : List ℕ → List ℕ → List ℕ
   unfolding ownerAfter levelsOf cellsOf
   ownersAfter os ts = map (λ (c : Cell Point). ownerAfter os (c .path)) (cellsOf (levelsOf n qs ts))

@@ -15,6 +15,7 @@ use Rattle.base.specs.Lists.{filterb}
 use Rattle.base.specs.Range.{range}
 use Rattle.parts.specs.Held.{masterb}
 
+-- Rule 15.6.
 unfoldable pub mastersOn : List ℕ → ℕ → List ℕ
 unfolding masterb filterb range
 mastersOn os p = filterb (masterb os p) (range 0 (length os))
@@ -25,6 +26,7 @@ eachb f [] (m ∷ ms) = false
 eachb f (s ∷ ss) [] = false
 eachb f (s ∷ ss) (m ∷ ms) = f s m && eachb f ss ms
 
+-- Rules 7.1, 15.6.
 unfoldable pub startb : (ℕ → ℕ → Bool) → List ℕ → List ℕ → ℕ → List ℕ → Bool
 unfolding eachb mastersOn
 startb f ss os p ms = eachb f (map (λ c. getD ss c 0) (mastersOn os p)) ms
@@ -33,10 +35,12 @@ unfoldable pub placeOn : List ℕ → ℕ → ℕ
 unfolding masterb filterb range
 placeOn os c = length (filterb (masterb os (getD os c 0)) (range 0 c))
 
+-- Rule 15.6.
 unfoldable pub putTogether : List ℕ → (ℕ → List ℕ) → List ℕ
 unfolding placeOn range
 putTogether os given = map (λ c. getD (given (getD os c 0)) (placeOn os c) 0) (range 0 (length os))
 
+-- Rule 15.6.
 unfoldable pub marksOn : List ℕ → List ℕ → ℕ → List ℕ
 unfolding mastersOn
 marksOn os ms p = map (λ c. getD ms c 0) (mastersOn os p)

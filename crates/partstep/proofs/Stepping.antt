@@ -23,7 +23,8 @@ use Rattle.turns.specs.Start.{enterMarks}
 use Rattle.turns.specs.Step.{enterCounts}
 use Rattle.places.specs.Put.{placeCell, placeOld}
 use Rattle.places.specs.Front.{SameFront, front-on, front-set, cells-front, front-usable}
-use Rattle.partstep.specs.Step.{waitsFor, readyb, partAnswer, cleared, postTotals, enterTotals, endNumber, oldPlaces, finished, roundEntered}
+use Rattle.partstep.specs.Step.{waitsFor, readyb, partAnswer, cleared, postTotals, enterTotals, endNumber, oldPlaces, finished}
+use Rattle.partstep.specs.Step.{roundEntered}
 use Rattle.partstep.specs.Step.{partStepped, turnedIn, partAfter}
 use Rattle.partstep.specs.Turning.{restored, finished-is}
 

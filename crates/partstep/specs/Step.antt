@@ -24,10 +24,12 @@ use Rattle.places.specs.Put.{placeCell, placeOld}
 unfoldable pub waitsFor : List ℕ → ℕ → Bool
 waitsFor x q = not (eqb q (field x PART) || eqb (field x (ENDED + q)) (field x ROUND + 1))
 
+-- Rule 15.7.
 unfoldable pub readyb : List ℕ → Bool
 unfolding someFrom waitsFor
 readyb x = not (someFrom (waitsFor x) (field x PARTS) 1)
 
+-- Rule 15.16.
 unfoldable pub partAnswer : List ℕ → Answer
 unfolding refuse headerb readyb
 partAnswer x = refuse 15 (leb full (length x)) (refuse 16 (headerb x && (eqb (field x STAGE) 1 && readyb x)) Accepted)
@@ -35,26 +37,31 @@ partAnswer x = refuse 15 (leb full (length x)) (refuse 16 (headerb x && (eqb (fi
 unfoldable pub cleared : List ℕ → List ℕ
 cleared x = set (set (set x ENTRIES 0) TOTAL 0) HIGH 0
 
+-- Rule 15.4.
 unfoldable pub postTotals : List ℕ → List ℕ
 unfolding posted othersOf
 postTotals x = posted x ((28672 + field x HIGH) % 65536) (field x TOTAL) (othersOf x)
 
+-- Rule 15.7.
 unfoldable pub enterTotals : List ℕ → List ℕ
 unfolding cleared eachFrom placeCell postTotals postEnd
 enterTotals x = postEnd (postTotals (eachFrom placeCell (field x CELLS) 0 (cleared x)))
 
+-- Rules 7.8, 15.10.
 unfoldable pub endNumber : List ℕ → ℕ
 endNumber x = elim (leb 11 (field x HIGH)) [ true ↦ 8 | false ↦ elim (leb (field x TOTAL) 4096) [ true ↦ 0 | false ↦ 9 ] ]
 
+-- Rule 15.10.
 unfoldable pub oldPlaces : List ℕ → List ℕ
 unfolding eachFrom placeOld
 oldPlaces x = eachFrom placeOld (field x CELLS) 0 (set x ENTRIES 0)
 
+-- Rules 15.10, 15.11.
 unfoldable pub finished : List ℕ → List ℕ
 unfolding endNumber oldPlaces
 finished x = set (set (elim (eqb (endNumber x) 0) [ true ↦ x | false ↦ oldPlaces x ]) RESULT (endNumber x)) STAGE 2
 
--- rounds 2 i and 2 i + 1 are those of the marks and counts of the level i below the highest; then come the totals
+-- Rule 15.7: rounds 2 i and 2 i + 1 are those of the marks and counts of the level i below the highest; then come the totals
 unfoldable pub roundEntered : List ℕ → List ℕ
 unfolding enterMarks enterCounts enterTotals finished
 roundEntered x =
@@ -69,6 +76,7 @@ roundEntered x =
       ]
     ]
 
+-- Rule 15.7.
 unfoldable pub partStepped : List ℕ → List ℕ
 unfolding roundEntered
 partStepped x = set (roundEntered x) ROUND (field x ROUND + 1)
@@ -78,6 +86,7 @@ unfolding partStepped
 turnedIn Accepted x = partStepped x
 turnedIn (Refused k) x = x
 
+-- Rule 15.7.
 unfoldable pub partAfter : List ℕ → List ℕ
 unfolding turnedIn partAnswer
 partAfter x = turnedIn (partAnswer x) x

@@ -27,7 +27,8 @@ ghost use lib.ListN.{length};
 ghost use Rattle.base.specs.Lent.{was, is};
 ghost use Rattle.store.specs.Fields.{field, full};
 ghost use Rattle.turns.specs.Usable.{Usable};
-ghost use Rattle.partstep.specs.Step.{waitsFor, readyb, partAnswer, cleared, postTotals, enterTotals, endNumber, finished, roundEntered};
+ghost use Rattle.partstep.specs.Step.{waitsFor, readyb, partAnswer, cleared, postTotals, enterTotals};
+ghost use Rattle.partstep.specs.Step.{endNumber, finished, roundEntered};
 ghost use Rattle.partstep.specs.Step.{partAfter};
 ghost use Rattle.partstep.specs.Turning.{restored};
 

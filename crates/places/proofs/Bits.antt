@@ -30,9 +30,6 @@ module _ (f : ℕ → Bool) where
   unfolding bitsOf
   bits-none = refl
 
-  pub bits-all : bitsFrom 0 ≡ bitsOf (map f edgeNumbers)
-  bits-all = refl
-
   bits-on : (e : ℕ) → e < 6 → bitsFrom e ≡ one-if (f e) + 2 * bitsFrom (suc e)
   unfolding bitsOf
   bits-on zero h = refl

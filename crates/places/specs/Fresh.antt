@@ -83,24 +83,24 @@ flat-at (l ∷ ls) r t (suc j) k h g =
     ∙ flat-at ls r (and-right (eqb (length l) 4) (allb (λ c. eqb (length c) 4) ls) t) j k (omega arith) g)
 
 module _ (p : ℕ) (h : p < 64) (j : ℕ) (g : j < length (family p)) where
-  pub digits-at : (k : ℕ) → k < 4 → getD (cutOf p .digits) (4 * j + k) 0 ≡ getD (digitsOf p j) k 0
+  digits-at : (k : ℕ) → k < 4 → getD (cutOf p .digits) (4 * j + k) 0 ≡ getD (digitsOf p j) k 0
   unfolding cutInto
   digits-at k m = rw (cutOf-accepted p h) (flat-at (family p) (replicate (32 - length (flatten (family p))) 0) (family-fours p h) j k g m)
 
   module _ (y : ℕ) (m : y < 6) where
-    pub low-is : lowAt (cutOf p .digits) j y ≡ lowDigit p j y
+    low-is : lowAt (cutOf p .digits) j y ≡ lowDigit p j y
     low-is = let e = middle-ends y m in digits-at (low (middle y)) (omega (arith, e .0, e .1))
 
-    pub high-is : highAt (cutOf p .digits) j y ≡ highDigit p j y
+    high-is : highAt (cutOf p .digits) j y ≡ highDigit p j y
     high-is = let e = middle-ends y m in digits-at (high (middle y)) (e .1)
 
 -- loops over the same tests
-pub any-range : (f : ℕ → Bool) (n k : ℕ) → anyb f (range k n) ≡ someFrom f n k
+any-range : (f : ℕ → Bool) (n k : ℕ) → anyb f (range k n) ≡ someFrom f n k
 unfolding anyb range someFrom
 any-range f zero k = refl
 any-range f (suc n) k = ap (λ (b : Bool). f k || b) (any-range f n (suc k))
 
-pub any-six : (f : ℕ → Bool) → anyb f edgeNumbers ≡ someFrom f 6 0
+any-six : (f : ℕ → Bool) → anyb f edgeNumbers ≡ someFrom f 6 0
 unfolding anyb someFrom
 any-six f = refl
 

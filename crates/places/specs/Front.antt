@@ -1,6 +1,6 @@
 -- Masters and ghosts that are written keep the length and the header but for their count.
 --   SameFront x y    y has the length of x, and the numbers 0 to 8
--- Laws: front-self, front-on, front-set, each-front, front-again (one turn of a loop), cells-front, olds-front, front-usable.
+-- Laws: front-self, front-on, front-set, each-front, front-again (one turn of a loop), cells-front, front-usable.
 use mathlib.Core.Path.{_≡_, refl, sym, _∙_, subst}
 use mathlib.Core.Bool.{Bool, true, false, _&&_, not}
 use mathlib.Core.List.{List}
@@ -36,7 +36,7 @@ set-on : (x y : List ℕ) (i n : ℕ) → 9 ≤ i → SameFront x y → SameFron
 set-on x y i n h a = front-on x y (set y i n) a (front-set y i n h)
 
 module _ (f : List ℕ → ℕ → List ℕ) (keeps : (x : List ℕ) (c : ℕ) → SameFront x (f x c)) where
-  pub each-front : (n c : ℕ) (x : List ℕ) → SameFront x (eachFrom f n c x)
+  each-front : (n c : ℕ) (x : List ℕ) → SameFront x (eachFrom f n c x)
   unfolding eachFrom
   each-front zero c x = front-self x
   each-front (suc n) c x = front-on x (f x c) (eachFrom f n (suc c) (f x c)) (keeps x c) (each-front n (suc c) (f x c))
@@ -47,7 +47,7 @@ module _ (f : List ℕ → ℕ → List ℕ) (keeps : (x : List ℕ) (c : ℕ) �
   front-again m c x₀ x y w (a, i) h e =
       (front-on x₀ x y a (subst (SameFront x) (sym e) (keeps x c)), each-turn f m c x y w h e i)
 
-pub put-same-front : (x : List ℕ) (p : Place) (s : ℕ) → SameFront x (put x p s)
+put-same-front : (x : List ℕ) (p : Place) (s : ℕ) → SameFront x (put x p s)
 unfolding put entrySet
 put-same-front x p s = go (ltb (field x ENTRIES) 4096) refl
   where
@@ -61,7 +61,7 @@ put-same-front x p s = go (ltb (field x ENTRIES) 4096) refl
         (set-on x _ (PLACE-DIGITS + field x ENTRIES) (p .digits) (omega arith)
         (front-set x (PLACE-HEAD + field x ENTRIES) (p .head) (omega arith))))))
 
-pub master-front : (x : List ℕ) (p : Place) (s : ℕ) → SameFront x (putMaster x p s)
+master-front : (x : List ℕ) (p : Place) (s : ℕ) → SameFront x (putMaster x p s)
 unfolding putMaster
 master-front x p s =
     front-on x _ _
@@ -72,7 +72,7 @@ pub leaf-front : (p : Place) (x : List ℕ) (i : ℕ) → SameFront x (putLeaf p
 unfolding putLeaf
 leaf-front p x i = master-front x (childPlace p i) 0
 
-pub leaves-front : (p : Place) (n : ℕ) (x : List ℕ) → SameFront x (putLeaves p n x)
+leaves-front : (p : Place) (n : ℕ) (x : List ℕ) → SameFront x (putLeaves p n x)
 leaves-front p n x = each-front (putLeaf p) (leaf-front p) n 0 x
 
 pub child-front : (p : Place) (f : ℕ → ℕ) (x : List ℕ) (i : ℕ) → SameFront x (putChild p f x i)
@@ -134,9 +134,6 @@ old-front x c = go (eqb (field x (OWNER + c)) (field x PART)) refl (eqb (field x
 
 pub cells-front : (n c : ℕ) (x : List ℕ) → SameFront x (eachFrom placeCell n c x)
 cells-front = each-front placeCell cell-front
-
-pub olds-front : (n c : ℕ) (x : List ℕ) → SameFront x (eachFrom placeOld n c x)
-olds-front = each-front placeOld old-front
 
 pub front-usable : (x y : List ℕ) → SameFront x y → Usable x → Usable y
 front-usable x y h u = record {

@@ -33,7 +33,7 @@ unfolding entrySet
 put x p s =
     elim (ltb (field x ENTRIES) 4096) [ true ↦ set (entrySet x (field x ENTRIES) p s) ENTRIES (field x ENTRIES + 1) | false ↦ x ]
 
--- totals are cut at 4,097, which stands for more
+-- Rule 15.4: totals are cut at 4,097, which stands for more
 unfoldable pub putMaster : List ℕ → Place → ℕ → List ℕ
 unfolding put
 putMaster x p s = put (set (set x TOTAL (min (field x TOTAL + 1) 4097)) HIGH (max (field x HIGH) (levelIn p))) p s
@@ -45,6 +45,7 @@ putLeaf p x i = putMaster x (childPlace p i) 0
 abbrev pub putLeaves : Place → ℕ → List ℕ → List ℕ
 putLeaves p n x = eachFrom (putLeaf p) n 0 x
 
+-- Rule 15.2.
 unfoldable pub placeMaster : List ℕ → ℕ → List ℕ
 unfolding lastsb putMaster newStatus
 placeMaster x c = elim (eqb (field x (OWNER + c)) (field x PART) && lastsb x c) [
@@ -52,7 +53,7 @@ placeMaster x c = elim (eqb (field x (OWNER + c)) (field x PART) && lastsb x c) 
   | false ↦ x
 ]
 
--- 128 more for a ghost
+-- Rule 15.2: 128 more for a ghost
 unfoldable pub placeGhost : List ℕ → ℕ → List ℕ
 unfolding put newStatus
 placeGhost x c =
@@ -66,7 +67,7 @@ unfoldable pub putChild : Place → (ℕ → ℕ) → List ℕ → ℕ → List 
 unfolding putMaster childPlace putLeaf eachFrom sizeOf
 putChild p f x i = putLeaves (childPlace p i) (sizeOf (f i)) (putMaster x (childPlace p i) (f i))
 
--- beside a green cell, and under a leaf that will be red, all new children are leaves
+-- Rule 15.13: beside a green cell, and under a leaf that will be red, all new children are leaves
 unfoldable pub placeFamily : List ℕ → ℕ → List ℕ
 unfolding remadeb newStatus eachFrom putLeaf putChild freshBits sizeOf
 placeFamily x c =
@@ -78,10 +79,12 @@ placeFamily x c =
       | false ↦ x
     ]
 
+-- Rule 15.11.
 unfoldable pub placeCell : List ℕ → ℕ → List ℕ
 unfolding placeMaster placeGhost placeFamily
 placeCell x c = placeFamily (placeGhost (placeMaster x c) c) c
 
+-- Rule 15.10.
 unfoldable pub placeOld : List ℕ → ℕ → List ℕ
 unfolding put
 placeOld x c =

@@ -5,7 +5,7 @@
 --   pairHit x c a b     an edge of a child of c that joins the points with the digits a and b is one of a cell that will be red
 --   freshBits x c i     the status of the new child i of a green cell that will be red
 use mathlib.Core.Bool.{Bool, true, false, _&&_, _||_, not}
-use mathlib.Core.List.{List, [], _∷_, map}
+use mathlib.Core.List.{List, map}
 use Prim.Native.Nat.{ℕ, _+_}
 use lib.Dec.{eqb, ltb}
 use Rattle.base.specs.Lists.{anyb}
@@ -17,6 +17,7 @@ use Rattle.mesh.specs.Layout.{edgeNumbers}
 use Rattle.store.specs.Fields.{field, PART, FAMILY, STATUS, REGULAR, CHILD, PARENT, HEAD, RED}
 use Rattle.turns.specs.Decide.{hitOf, kidCount}
 
+-- Rule 7.7.
 unfoldable pub newStatus : List ℕ → ℕ → ℕ
 unfolding bitsOf hitOf
 newStatus x c =
@@ -25,25 +26,28 @@ newStatus x c =
       | false ↦ 0
     ]
 
+-- Rule 7.7.
 unfoldable pub lastsb : List ℕ → ℕ → Bool
 lastsb x c =
     ltb (field x (HEAD + c)) 256 || (not (eqb (field x (STATUS + c)) 0)
     || (ltb (field x (PARENT + c)) 4096 && (eqb (field x (STATUS + field x (PARENT + c))) 64 && eqb
     (field x (RED + field x (PARENT + c))) 1)))
 
+-- Rule 15.13.
 unfoldable pub remadeb : List ℕ → ℕ → Bool
 unfolding lastsb newStatus
 remadeb x c =
     eqb (field x (FAMILY + c)) (field x PART)
     && (lastsb x c && (not (eqb (newStatus x c) 0) && not (eqb (field x (STATUS + c)) 64 && eqb (newStatus x c) 64)))
 
--- the children stand from CHILD on; the status of a green cell is the pattern that it was cut by
+-- Rule 7.7: the children stand from CHILD on; the status of a green cell is the pattern that it was cut by
 unfoldable pub pairHit : List ℕ → ℕ → ℕ → ℕ → Bool
 unfolding anyb range kidCount hitOf family low high
 pairHit x c a b =
     anyb (λ j. anyb (λ y. (eqb a (lowDigit (field x (STATUS + c)) j y) && eqb b (highDigit (field x (STATUS + c)) j y))
     && hitOf x (field x (CHILD + c) + j) y) edgeNumbers) (range 0 (kidCount x c))
 
+-- Rule 7.7.
 unfoldable pub freshBits : List ℕ → ℕ → ℕ → ℕ
 unfolding bitsOf pairHit
 freshBits x c i = bitsOf (map (λ y. pairHit x c (lowDigit 63 i y) (highDigit 63 i y)) edgeNumbers)

@@ -34,6 +34,7 @@ module _ (n : ℕ) (qs : List (List ℕ)) (ss : List ℕ) where
   abbrev pub cornersIn : List Corner
   cornersIn = cornersOf n (cellsOf (levelsOf n qs ss)) ss
 
+  -- Rule 5.5.
   unfoldable pub numberedCell : ℕ → Cell ℕ
   unfolding mapCell numberIn nthCell cornersOf
   numberedCell c = mapCell (numberIn cornersIn) (nthCell n qs ss c)
@@ -49,6 +50,7 @@ module _ (n : ℕ) (qs : List (List ℕ)) (ss : List ℕ) where
   cellsBelow zero = 0
   cellsBelow (suc k) = cellsBelow k + length (levelAt k .cells)
 
+  -- Rule 5.4.
   unfoldable pub keysAt : ℕ → List Pair
   unfolding addPairs edges numberedCell cellsBelow range flatMap levelsOf
   keysAt k = addPairs [] (flatMap (λ c. edges 0 (numberedCell c)) (range (cellsBelow k) (length (levelAt k .cells))))
@@ -58,6 +60,7 @@ module _ (n : ℕ) (qs : List (List ℕ)) (ss : List ℕ) where
   slotsBelow zero = 0
   slotsBelow (suc k) = slotsBelow k + length (keysAt k)
 
+  -- Rule 5.4.
   unfoldable pub slotOf : ℕ → ℕ → ℕ
   unfolding slotsBelow keysAt placeIn isb sorted edge numberedCell nthCell
   slotOf c e = slotsBelow (levelOf c) + placeIn isb (keysAt (levelOf c)) (sorted (edge 0 (numberedCell c) e))
@@ -67,23 +70,28 @@ module _ (n : ℕ) (qs : List (List ℕ)) (ss : List ℕ) where
   unfolding sizes
   firstChild c = length qs + sizes (take c ss)
 
+  -- Rule 7.5.
   unfoldable pub innerBits : ℕ → ℕ
   unfolding bitsOf heldb edges edge numberedCell nthCell
   innerBits c =
       elim (eqb (levelOf c) 0) [
         | true ↦ 0
-        | false ↦ bitsOf (map (λ e. not (heldb eqb (edges 0 (numberedCell (nthCell n qs ss c .parent))) (edge 0 (numberedCell c) e))) sixEdges)
+        | false ↦ bitsOf (map (λ e. not (heldb eqb (edges 0 (numberedCell (nthCell n qs ss c .parent))) (edge 0 (numberedCell c) e)))
+            sixEdges)
       ]
 
   module _ (os : List ℕ) where
+    -- Rule 15.2.
     unfoldable pub holdsCell : ℕ → ℕ → Bool
     unfolding masterb familyOf
     holdsCell p c = masterb os p c || eqb (familyOf n qs ss os c) p
 
+    -- Rule 15.2.
     unfoldable pub holdsSlot : ℕ → ℕ → Bool
     unfolding holdsCell slotOf anyb range
     holdsSlot p s = anyb (λ c. holdsCell p c && anyb (λ e. eqb (slotOf c e) s) sixEdges) (range 0 (length ss))
 
+    -- Rule 15.2.
     unfoldable pub holdersOf : ℕ → ℕ
     unfolding holdsSlot bitsOf range
     holdersOf s = bitsOf (map (λ p. holdsSlot p s) (range 1 16))

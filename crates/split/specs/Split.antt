@@ -46,6 +46,7 @@ module _ (n : ℕ) (qs : List (List ℕ)) (ss : List ℕ) (P : ℕ) (os : List �
   unfolding holdsSlot holdersOf
   holdersAt s = elim (holdsSlot n qs ss os p s) [ true ↦ holdersOf n qs ss os s | false ↦ 0 ]
 
+  -- Rule 15.5.
   unfoldable pub partStore : List ℕ
   unfolding byCell sixOf fourOf holdersAt cellsBelow slotsBelow levelsOf familyOf nthCell firstChild placeOf innerBits one-if range flatMap
   partStore =
@@ -59,11 +60,13 @@ module _ (n : ℕ) (qs : List (List ℕ)) (ss : List ℕ) (P : ℕ) (os : List �
       ++ flatMap fourOf (range 0 256) ++ flatMap sixOf (range 0 4096)
       ++ map holdersAt (range 0 24576) ++ replicate 24576 0
 
+-- Rule 15.5.
 unfoldable pub storesAfter : ℕ → List (List ℕ) → List ℕ → ℕ → List ℕ → List ℕ → List ℕ
 unfolding partStore range flatMap
 storesAfter n qs ss P os b =
     flatMap (λ j. partStore n qs ss P os (suc j) ++ drop CODE (take full (drop (full * j) b))) (range 0 P) ++ drop (full * P) b
 
+-- Rule 15.14.
 unfoldable pub splitAnswer : List ℤ → List ℕ → List ℕ → ℕ → List ℕ → List ℕ → Answer
 unfolding refuse andThen tableAnswer ownersb
 splitAnswer ps ts ss P os b =
@@ -74,6 +77,7 @@ unfoldable pub splitIn : Answer → List ℕ → List ℕ → List ℕ
 splitIn Accepted new old = new
 splitIn (Refused k) new old = old
 
+-- Rule 15.5.
 unfoldable pub splitAfter : List ℤ → List ℕ → List ℕ → ℕ → List ℕ → List ℕ → List ℕ
 unfolding splitIn splitAnswer storesAfter
 splitAfter ps ts ss P os b = splitIn (splitAnswer ps ts ss P os b) (storesAfter (cornerCount ps) (fours ts) ss P os b) b

@@ -37,7 +37,7 @@ shape-ok m n e h f = sym (shape-some m (λ z. omega (arith, e, z)) n f) ∙ eq-e
 or-none : (a b : Bool) → b ≡ false → (a || b) ≡ a
 or-none a b e = ap (λ (c : Bool). a || c) e ∙ or-false a
 
-and-none : (a : Bool) → (a && false) ≡ false
+pub and-none : (a : Bool) → (a && false) ≡ false
 and-none true = refl
 and-none false = refl
 

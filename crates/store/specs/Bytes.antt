@@ -38,7 +38,7 @@ module _ (c : ℕ) where
     unfolding bodyOf
     body-total g h = rw (le-ltb c 4096 (omega arith), le-ltb c 28672 g, lt-ltb c 28928 h, bodyOf)
 
-    pub body-end : 28928 ≤ c → bodyOf c v ≡ []
+    body-end : 28928 ≤ c → bodyOf c v ≡ []
     unfolding bodyOf
     body-end h = rw (le-ltb c 4096 (omega arith), le-ltb c 28672 (omega arith), le-ltb c 28928 h, bodyOf)
 

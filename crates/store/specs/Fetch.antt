@@ -51,19 +51,21 @@ seekFrom x (suc k) j b = elim (ltb (bitFrom (16 - b) (receiversAt x j) b) 16) [
       seekFrom x k (suc j) 0
 ]
 
+-- Rule 15.8.
 unfoldable pub nextToGive : List ℕ → Spot
 unfolding seekFrom entryCount
 nextToGive x = seekFrom x (entryCount x - field x CURSOR) (field x CURSOR) (field x BIT)
 
--- the message that an entry is for a receiver
+-- Rule 15.4: the message that an entry is for a receiver
 unfoldable pub given : List ℕ → Spot → List ℕ
 unfolding messageOf
 given x s = messageOf (field x PART) (s .bit + 1) (field x (GIVEN + s .bit)) (codeAt x (s .entry)) (valueAt x (s .entry))
 
+-- Rule 15.8.
 unfoldable pub passedBy : List ℕ → Spot → List ℕ
 passedBy x s = set (set (set x CURSOR (s .entry)) BIT (s .bit + 1)) (GIVEN + s .bit) ((field x (GIVEN + s .bit) + 1) % 65536)
 
--- 15 for what is lent too short, 16 for a header out of range or a part that has not started
+-- Rule 15.16: 15 for what is lent too short, 16 for a header out of range or a part that has not started
 unfoldable pub fetchRefusal : List ℕ → List ℕ → ℕ
 unfolding headerb
 fetchRefusal x out =
@@ -76,6 +78,7 @@ unfoldable pub foundOf : List ℕ → Spot → Fetched
 unfolding given
 foundOf x s = elim (ltb (s .bit) 16) [ true ↦ Message (length (given x s)) | false ↦ Nothing ]
 
+-- Rule 15.8.
 unfoldable pub fetchAnswer : List ℕ → List ℕ → Fetched
 unfolding fetchRefusal foundOf nextToGive
 fetchAnswer x out = elim (eqb (fetchRefusal x out) 0) [ true ↦ foundOf x (nextToGive x) | false ↦ Refused (fetchRefusal x out) ]
@@ -84,10 +87,12 @@ unfoldable pub givesb : List ℕ → List ℕ → Bool
 unfolding fetchRefusal nextToGive
 givesb x out = eqb (fetchRefusal x out) 0 && ltb (nextToGive x .bit) 16
 
+-- Rule 15.8.
 unfoldable pub fetchBytes : List ℕ → List ℕ → List ℕ
 unfolding givesb given nextToGive
 fetchBytes x out = elim (givesb x out) [ true ↦ sets out 0 (given x (nextToGive x)) | false ↦ out ]
 
+-- Rule 15.8.
 unfoldable pub fetchAfter : List ℕ → List ℕ → List ℕ
 unfolding givesb passedBy nextToGive
 fetchAfter x out = elim (givesb x out) [ true ↦ passedBy x (nextToGive x) | false ↦ x ]

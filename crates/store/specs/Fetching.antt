@@ -38,7 +38,7 @@ written-few x = go (decLt (field x WRITTEN) 28696)
     go (yes h) = rw (lt-ltb (field x WRITTEN) 28696 h, entryCount) (omega arith)
     go (no h) = rw (le-ltb (field x WRITTEN) 28696 (omega arith), entryCount) (omega arith)
 
-pub next-inside : (x : List ℕ) → nextToGive x .bit < 16 → nextToGive x .entry < 28696
+next-inside : (x : List ℕ) → nextToGive x .bit < 16 → nextToGive x .entry < 28696
 unfolding nextToGive
 next-inside x h = go (decLt (field x CURSOR) (entryCount x))
   where

@@ -5,9 +5,11 @@ use mathlib.Core.List.{List}
 use Prim.Native.Nat.{ℕ}
 use lib.ListN.{getD}
 
+-- Rule 15.16.
 abbrev pub full : ℕ
 full = 226488
 
+-- Rule 15.3.
 abbrev pub field : List ℕ → ℕ → ℕ
 field x i = getD x i 0
 

@@ -19,6 +19,7 @@ use Rattle.store.specs.Header.{headerb}
 abbrev pub numberAt : List ℕ → ℕ → ℕ
 numberAt m i = getD m i 0 + 256 * getD m (suc i) 0
 
+-- Rule 15.4.
 unfoldable pub lengthOf : ℕ → ℕ
 lengthOf k =
     elim (eqb k 1) [
@@ -32,24 +33,26 @@ lengthOf k =
       ]
     ]
 
--- a known kind and its length
+-- Rule 15.15: a known kind and its length
 unfoldable pub shapeb : List ℕ → Bool
 unfolding lengthOf
 shapeb m = not (eqb (length m) 0) && eqb (length m) (lengthOf (getD m 0 0))
 
--- from another part to this one
+-- Rule 15.15: from another part to this one
 unfoldable pub routeb : List ℕ → List ℕ → Bool
 routeb x m = leb 1 (getD m 1 0) && (leb (getD m 1 0) (field x PARTS)
     && (not (eqb (getD m 1 0) (field x PART)) && eqb (getD m 2 0) (field x PART)))
 
--- a cell or slot that this part holds, and a value in the range of its kind
+-- Rule 15.15: a cell or slot that this part holds, and a value in the range of its kind
 unfoldable pub ghostMarkb : List ℕ → List ℕ → Bool
 ghostMarkb x m = ltb (numberAt m 5) (field x CELLS) && (not (eqb (field x (OWNER + numberAt m 5)) 0) && leb (getD m 7 0) 1)
 
+-- Rule 15.15.
 unfoldable pub edgeCountb : List ℕ → List ℕ → Bool
 edgeCountb x m = ltb (numberAt m 5) 24576 && (not (eqb (field x (HOLDERS + numberAt m 5)) 0)
     && (leb 1 (numberAt m 7) && leb (numberAt m 7) 4096))
 
+-- Rule 15.15.
 unfoldable pub cellTotalb : List ℕ → Bool
 cellTotalb m = leb (numberAt m 5) 4097 && leb (getD m 7 0) 11
 
@@ -64,6 +67,7 @@ contentb x m =
       ]
     ]
 
+-- Rule 15.15.
 unfoldable pub wellb : List ℕ → List ℕ → Bool
 unfolding shapeb routeb contentb
 wellb x m = shapeb m && (routeb x m && contentb x m)
@@ -74,6 +78,7 @@ takenAt x m = field x (TAKEN + getD m 1 0)
 abbrev pub endedAt : List ℕ → List ℕ → ℕ
 endedAt x m = field x (ENDED + getD m 1 0)
 
+-- Rules 15.15, 15.16.
 unfoldable pub handAnswer : List ℕ → List ℕ → Answer
 unfolding refuse headerb wellb
 handAnswer x m =
@@ -92,7 +97,7 @@ pub record Ranges (m : List ℕ) : Type 0 where
   pub count : getD m 0 0 ≡ 2 → (9 ≤ length m) × (numberAt m 5 < 24576)
   pub total : getD m 0 0 ≡ 3 → 8 ≤ length m
 
--- what is taken: a mark is an "or", a count is added; totals add up to 4,097, which stands for more
+-- Rule 15.9: what is taken: a mark is an "or", a count is added; totals add up to 4,097, which stands for more
 unfoldable pub absorbed : List ℕ → List ℕ → List ℕ
 absorbed x m =
     elim (eqb (getD m 0 0) 1) [
@@ -107,6 +112,7 @@ absorbed x m =
       ]
     ]
 
+-- Rule 15.4.
 unfoldable pub counted : List ℕ → List ℕ → List ℕ
 counted x m = set x (TAKEN + getD m 1 0) ((takenAt x m + 1) % 65536)
 
@@ -115,6 +121,7 @@ unfolding absorbed counted
 takenIn Accepted x m = absorbed (counted x m) m
 takenIn (Refused k) x m = x
 
+-- Rule 15.9.
 unfoldable pub handAfter : List ℕ → List ℕ → List ℕ
 unfolding takenIn handAnswer
 handAfter x m = takenIn (handAnswer x m) x m

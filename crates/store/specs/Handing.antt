@@ -49,10 +49,6 @@ module _ (x m : List ℕ) where
   unfolding absorbed
   take-end a b c = rw (ne-eqb (getD m 0 0) 1 a, ne-eqb (getD m 0 0) 2 b, ne-eqb (getD m 0 0) 3 c, absorbed)
 
-  pub count-then : set x (TAKEN + getD m 1 0) ((field x (TAKEN + getD m 1 0) + 1) % 65536) ≡ counted x m
-  unfolding counted
-  count-then = refl
-
   pub cells-few : headerb x ≡ true → field x CELLS ≤ 4096
   cells-few e = header-is x (rw e tt) .cells-most
 
@@ -193,7 +189,7 @@ pub record TakesIt (x m : List ℕ) : Type 0 where
   pub running : field x STAGE ≡ 1
   pub unended : endedAt x m ≤ field x ROUND
 
-refuse-on : (n : ℕ) (b : Bool) (a : Answer) → refuse n b a ≡ Accepted → (b ≡ true) × (a ≡ Accepted)
+pub refuse-on : (n : ℕ) (b : Bool) (a : Answer) → refuse n b a ≡ Accepted → (b ≡ true) × (a ≡ Accepted)
 unfolding refuse
 refuse-on n true a e = (refl, e)
 refuse-on n false a e = absurd (differs e)

@@ -7,6 +7,7 @@ use Prim.Native.Nat.{ℕ, _+_, _*_}
 use lib.Dec.{eqb, leb}
 use Rattle.store.specs.Fields.{field, STAGE, PART, PARTS, CORNERS, COARSE, CELLS, LEVELS, ROUND, RESULT, ENTRIES}
 
+-- Rule 15.16.
 unfoldable pub stageb : List ℕ → Bool
 stageb x =
     elim (eqb (field x STAGE) 0) [
@@ -18,6 +19,7 @@ stageb x =
       ]
     ]
 
+-- Rule 15.16.
 unfoldable pub headerb : List ℕ → Bool
 unfolding stageb
 headerb x =

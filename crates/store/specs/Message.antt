@@ -10,7 +10,7 @@ use lib.Dec.{ltb}
 abbrev pub two : ℕ → List ℕ
 two x = x % 256 ∷ x / 256 % 256 ∷ []
 
--- below 4,096 a cell's mark, then a slot's count, then totals with the top level, then a round's end
+-- Rule 15.4: below 4,096 a cell's mark, then a slot's count, then totals with the top level, then a round's end
 unfoldable pub kindOf : ℕ → ℕ
 kindOf c =
     elim (ltb c 4096) [
@@ -21,6 +21,7 @@ kindOf c =
       ]
     ]
 
+-- Rule 15.4.
 unfoldable pub bodyOf : ℕ → ℕ → List ℕ
 bodyOf c v =
     elim (ltb c 4096) [
@@ -31,10 +32,12 @@ bodyOf c v =
       ]
     ]
 
+-- Rule 15.4.
 unfoldable pub headOf : ℕ → ℕ → ℕ → ℕ → List ℕ
 unfolding kindOf
 headOf p q k c = kindOf c ∷ p ∷ q ∷ two k
 
+-- Rule 15.4.
 unfoldable pub messageOf : ℕ → ℕ → ℕ → ℕ → ℕ → List ℕ
 unfolding headOf bodyOf
 messageOf p q k c v = headOf p q k c ++ bodyOf c v

@@ -43,6 +43,7 @@ unfolding childPlace
 placeDown p [] = p
 placeDown p (i ∷ l) = placeDown (childPlace p i) l
 
+-- Rule 3.3.
 unfoldable pub placeOf : List ℕ → Place
 unfolding placeDown
 placeOf [] = coarsePlace 0
@@ -52,6 +53,7 @@ unfoldable pub eights : ℕ → ℕ → List ℕ
 eights zero x = []
 eights (suc n) x = x % 8 ∷ eights n (x / 8)
 
+-- Rule 3.3.
 unfoldable pub pathOf : Place → List ℕ
 unfolding eights
 pathOf p = p .head % 256 ∷ take (levelIn p) (eights 5 (p .digits) ++ eights 5 (p .more))
@@ -73,7 +75,7 @@ eightsOf (i ∷ l) = i + 8 * eightsOf l
 abbrev Small : List ℕ → Type 0
 Small l = All (λ i. i < 8) l
 
-eight-more : (n : ℕ) → 2 ^ (3 * suc n) ≡ 8 * 2 ^ (3 * n)
+pub eight-more : (n : ℕ) → 2 ^ (3 * suc n) ≡ 8 * 2 ^ (3 * n)
 eight-more n = let z : 3 * suc n ≡ 3 + 3 * n = omega arith in rw z (pow-add 2 3 (3 * n))
 
 of-below : (l : List ℕ) → Small l → eightsOf l < 2 ^ (3 * length l)

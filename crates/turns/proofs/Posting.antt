@@ -14,7 +14,7 @@ use Rattle.turns.specs.Post.{entered, posted, ghostAt, markOne}
 use Rattle.turns.specs.Heads.{posted-head}
 
 -- the bit of a part
-pub power-few : (k : ℕ) → k < 16 → 2 ^ k < 65536
+power-few : (k : ℕ) → k < 16 → 2 ^ k < 65536
 unfolding belowb
 power-few k h = ltb→lt (2 ^ k) 65536 (belowb-at (λ n. ltb (2 ^ n) 65536) 16 tested k h)
   where

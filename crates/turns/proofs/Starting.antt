@@ -93,7 +93,7 @@ module _ (x ms : List ℕ) (c j : ℕ) where
   unfolding markSet ownb
   set-here o h = rw (eq-eqb (field x (OWNER + c)) (field x PART) o, lt-ltb j (length ms) h, markSet)
 
-  pub set-head : SameHead x (markSet x ms c j)
+  set-head : SameHead x (markSet x ms c j)
   unfolding markSet
   set-head = go (ownb x c && ltb j (length ms)) refl
     where
@@ -125,7 +125,7 @@ fit-begin x ms n = let z : n - 0 ≡ n = omega arith in ap (λ (k : ℕ). marksD
 pub marked-begin : (x ms : List ℕ) (n : ℕ) → markedFrom x ms (n - 0) 0 0 ≡ markedFrom x ms n 0 0
 marked-begin x ms n = let z : n - 0 ≡ n = omega arith in ap (λ (k : ℕ). markedFrom x ms k 0 0) z
 
-pub marked-head : (x ms : List ℕ) (n c j : ℕ) → SameHead x (markedFrom x ms n c j)
+marked-head : (x ms : List ℕ) (n c j : ℕ) → SameHead x (markedFrom x ms n c j)
 unfolding markedFrom
 marked-head x ms zero c j = head-self x
 marked-head x ms (suc n) c j =

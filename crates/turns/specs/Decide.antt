@@ -20,6 +20,7 @@ use Rattle.turns.specs.Loops.{someFrom}
 abbrev pub slotAt : List ℕ → ℕ → ℕ → ℕ
 slotAt x c e = field x (SLOT + (6 * c + e))
 
+-- Rule 7.2.
 unfoldable pub hitb : List ℕ → ℕ → Bool
 hitb x s = ltb s 24576 && not (eqb (field x (SUM + s)) 0)
 
@@ -27,14 +28,17 @@ unfoldable pub hitOf : List ℕ → ℕ → ℕ → Bool
 unfolding hitb
 hitOf x c e = hitb x (slotAt x c e)
 
+-- Rule 7.5.
 unfoldable pub pullOf : List ℕ → ℕ → ℕ → Bool
 unfolding hitOf bitb
 pullOf x c e = bitb (field x (INNER + c)) e && hitOf x c e
 
+-- Rule 7.3.
 unfoldable pub idleKid : List ℕ → ℕ → Bool
 unfolding someFrom hitOf
 idleKid x d = eqb (field x (STATUS + d)) 0 && (eqb (field x (MARK + d)) 2 && not (someFrom (hitOf x d) 6 0))
 
+-- Rule 7.5.
 unfoldable pub pulledKid : List ℕ → ℕ → Bool
 unfolding someFrom pullOf
 pulledKid x d = eqb (field x (MARK + d)) 1 || someFrom (pullOf x d) 6 0
@@ -50,7 +54,8 @@ unfoldable pub busyb : List ℕ → ℕ → Bool
 unfolding idleKid
 busyb x d = not (idleKid x d)
 
--- a red cell stays red unless all its children are idle; a regular leaf turns red by its mark; a green cell by a child that is pulled
+-- Rules 7.3, 7.4, 7.5: a red cell stays red unless all its children are idle; a regular leaf turns red by its mark; a green cell by a child
+-- that is pulled
 unfoldable pub ruleb : List ℕ → ℕ → Bool
 unfolding someFrom kidCount busyb pulledKid
 ruleb x c =
@@ -62,6 +67,7 @@ ruleb x c =
       ]
     ]
 
+-- Rule 15.7.
 unfoldable pub decideOne : List ℕ → ℕ → List ℕ
 unfolding ruleb
 decideOne x c = elim (eqb (field x (FAMILY + c)) (field x PART) && ruleb x c) [ true ↦ set x (RED + c) 1 | false ↦ x ]

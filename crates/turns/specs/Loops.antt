@@ -41,7 +41,7 @@ module _ (f : ℕ → Bool) (m e : ℕ) where
   some-out h = rw (none-left m e h, someFrom)
 
 module _ (f : List ℕ → ℕ → List ℕ) where
-  pub each-on : (m c : ℕ) (x : List ℕ) → c < m → eachFrom f (m - c) c x ≡ eachFrom f (m - suc c) (suc c) (f x c)
+  each-on : (m c : ℕ) (x : List ℕ) → c < m → eachFrom f (m - c) c x ≡ eachFrom f (m - suc c) (suc c) (f x c)
   unfolding eachFrom
   each-on m c x h = rw (one-turn m c h, eachFrom)
 

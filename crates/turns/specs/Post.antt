@@ -18,6 +18,7 @@ entered x k v m =
     set (set (set (set x (CODE + field x WRITTEN) k) (VALUE + field x WRITTEN) v) (RECEIVERS + field x WRITTEN) m) WRITTEN
     (field x WRITTEN + 1)
 
+-- Rule 15.4.
 unfoldable pub posted : List ℕ → ℕ → ℕ → ℕ → List ℕ
 unfolding entered
 posted x k v m = elim (not (eqb m 0) && ltb (field x WRITTEN) 28696) [ true ↦ entered x k v m | false ↦ x ]
@@ -29,21 +30,24 @@ besides x m = elim (bitb m (field x PART - 1)) [ true ↦ m - 2 ^ (field x PART 
 unfoldable pub othersOf : List ℕ → ℕ
 othersOf x = 2 ^ field x PARTS - 1 - 2 ^ (field x PART - 1)
 
--- the family is here, and another part has the cell
+-- Rule 15.2: the family is here, and another part has the cell
 unfoldable pub ghostAt : List ℕ → ℕ → Bool
 ghostAt x c =
     eqb (field x (FAMILY + c)) (field x PART)
     && (not (eqb (field x (OWNER + c)) (field x PART)) && (leb 1 (field x (OWNER + c)) && leb (field x (OWNER + c)) 16))
 
+-- Rule 15.4.
 unfoldable pub markOne : List ℕ → ℕ → List ℕ
 unfolding ghostAt posted
 markOne x c = elim (ghostAt x c) [ true ↦ posted x c (field x (RED + c)) (2 ^ (field x (OWNER + c) - 1)) | false ↦ x ]
 
+-- Rule 15.4.
 unfoldable pub countOne : List ℕ → ℕ → List ℕ
 unfolding besides posted
 countOne x s =
     elim (eqb (field x (SUM + s)) 0) [ true ↦ x | false ↦ posted x (4096 + s) (field x (SUM + s)) (besides x (field x (HOLDERS + s))) ]
 
+-- Rule 15.4.
 unfoldable pub postEnd : List ℕ → List ℕ
 unfolding posted othersOf
 postEnd x = posted x 65535 0 (othersOf x)

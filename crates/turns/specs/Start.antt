@@ -20,9 +20,11 @@ use Rattle.turns.specs.Loops.{eachFrom}
 use Rattle.turns.specs.Decide.{decideOne}
 use Rattle.turns.specs.Post.{markOne, postEnd}
 
+-- Rule 15.2.
 unfoldable pub ownb : List ℕ → ℕ → Bool
 ownb x c = eqb (field x (OWNER + c)) (field x PART)
 
+-- Rule 7.1.
 unfoldable pub markOk : List ℕ → ℕ → ℕ → Bool
 markOk x c m = leb m 2 && (eqb m 0 || eqb (field x (STATUS + c)) 0)
 
@@ -34,6 +36,7 @@ unfoldable pub nextMark : List ℕ → ℕ → ℕ → ℕ
 unfolding ownb
 nextMark x c j = elim (ownb x c) [ true ↦ suc j | false ↦ j ]
 
+-- Rule 15.6.
 unfoldable pub marksDue : List ℕ → List ℕ → ℕ → ℕ → ℕ → Bool
 unfolding markAt nextMark
 marksDue x ms zero c j = eqb (length ms) j
@@ -43,6 +46,7 @@ unfoldable pub markSet : List ℕ → List ℕ → ℕ → ℕ → List ℕ
 unfolding ownb
 markSet x ms c j = elim (ownb x c && ltb j (length ms)) [ true ↦ set x (MARK + c) (getD ms j 0) | false ↦ x ]
 
+-- Rule 15.6.
 unfoldable pub markedFrom : List ℕ → List ℕ → ℕ → ℕ → ℕ → List ℕ
 unfolding markSet nextMark
 markedFrom x ms zero c j = x
@@ -51,12 +55,14 @@ markedFrom x ms (suc n) c j = markedFrom (markSet x ms c j) ms n (suc c) (nextMa
 unfoldable pub levelFrom : List ℕ → ℕ → ℕ
 levelFrom x k = min (field x (FIRST-CELL + k)) (field x CELLS)
 
+-- Rule 15.7.
 unfoldable pub enterMarks : List ℕ → ℕ → List ℕ
 unfolding levelFrom eachFrom decideOne markOne postEnd
 enterMarks x k =
     postEnd (eachFrom markOne (levelFrom x (k + 1) - levelFrom x k) (levelFrom x k)
     (eachFrom decideOne (levelFrom x (k + 1) - levelFrom x k) (levelFrom x k) x))
 
+-- Rules 15.6, 15.16.
 unfoldable pub startAnswer : List ℕ → List ℕ → Answer
 unfolding refuse headerb marksDue
 startAnswer x ms =
@@ -64,6 +70,7 @@ startAnswer x ms =
     refuse 16 (headerb x && eqb (field x STAGE) 0) (
     refuse 7 (marksDue x ms (field x CELLS) 0 0) Accepted))
 
+-- Rule 15.6.
 unfoldable pub startedStore : List ℕ → List ℕ → List ℕ
 unfolding markedFrom enterMarks
 startedStore x ms = enterMarks (set (markedFrom x ms (field x CELLS) 0 0) STAGE 1) (field x LEVELS - 1)
@@ -73,6 +80,7 @@ unfolding startedStore
 startedIn Accepted x ms = startedStore x ms
 startedIn (Refused k) x ms = x
 
+-- Rule 15.6.
 unfoldable pub startAfter : List ℕ → List ℕ → List ℕ
 unfolding startedIn startAnswer
 startAfter x ms = startedIn (startAnswer x ms) x ms

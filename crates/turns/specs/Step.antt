@@ -13,10 +13,12 @@ use Rattle.turns.specs.Start.{levelFrom}
 unfoldable pub slotFrom : List ℕ → ℕ → ℕ
 slotFrom x k = min (field x (FIRST-SLOT + k)) 24576
 
+-- Rule 15.4.
 unfoldable pub tallied : List ℕ → ℕ → List ℕ
 unfolding levelFrom eachFrom tallyOne
 tallied x k = eachFrom tallyOne (levelFrom x (k + 1) - levelFrom x k) (levelFrom x k) x
 
+-- Rule 15.7.
 unfoldable pub enterCounts : List ℕ → ℕ → List ℕ
 unfolding slotFrom tallied eachFrom countOne postEnd
 enterCounts x k = postEnd (eachFrom countOne (slotFrom x (k + 1) - slotFrom x k) (slotFrom x k) (tallied x k))

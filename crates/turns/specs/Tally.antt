@@ -17,9 +17,11 @@ unfoldable pub addEdge : ℕ → List ℕ → ℕ → List ℕ
 unfolding addOne
 addEdge c x e = addOne x (slotAt x c e)
 
+-- Rule 15.4.
 unfoldable pub talliedb : List ℕ → ℕ → Bool
 talliedb x c = eqb (field x (OWNER + c)) (field x PART) && eqb (field x (RED + c)) 1
 
+-- Rule 15.4.
 unfoldable pub tallyOne : List ℕ → ℕ → List ℕ
 unfolding eachFrom addEdge talliedb
 tallyOne x c = elim (talliedb x c) [ true ↦ eachFrom (addEdge c) 6 0 x | false ↦ x ]
