@@ -16,7 +16,7 @@ module yuccadice
   private :: c_int8_t, c_int16_t, c_int32_t, c_size_t, c_double
 
   ! The version of this module and its library.
-  character(len=*), parameter :: YD_VERSION = "1.1.0"
+  character(len=*), parameter :: YD_VERSION = "1.2.0"
   integer(c_int32_t), parameter :: YD_VERSION_NUMBER = 10100_c_int32_t
 
   ! The limits.
