@@ -1,9 +1,11 @@
 //! Runs the library against the independent program: `crosscheck CALLS [SEED [CASE]]`. Each case makes some calls of both with the same inputs
 //! and compares the answers, every lent table and every lent number. Ends with an error at the first difference.
+//! `crosscheck parts EXCHANGES [SEED [CASE]]` does so with split jobs (see parts.rs).
 
 mod expected;
 mod inputs;
 mod lend;
+mod parts;
 
 use expected::{number, Answer, Flat};
 use independent::archive;
@@ -36,9 +38,12 @@ struct Tally {
 }
 
 fn main() {
-    let words: Vec<u64> = std::env::args().skip(1).map(|a| a.parse().expect("CALLS [SEED [CASE]]")).collect();
-    let (calls, seed, case) = (words.first().copied().unwrap_or(100_000), words.get(1).copied().unwrap_or(1), words.get(2).copied());
-    let work = move || run(calls as usize, seed, case);
+    let of_parts = std::env::args().nth(1).map_or(false, |word| word == "parts");
+    let words: Vec<u64> =
+        std::env::args().skip(1 + of_parts as usize).map(|a| a.parse().expect("[parts] COUNT [SEED [CASE]]")).collect();
+    let count = words.first().copied().unwrap_or(if of_parts { 10_000 } else { 100_000 }) as usize;
+    let (seed, case) = (words.get(1).copied().unwrap_or(1), words.get(2).copied());
+    let work = move || if of_parts { parts::run(count, seed, case) } else { run(count, seed, case) };
     let done = std::thread::Builder::new().stack_size(STACK).spawn(work).expect("a thread starts").join();
     std::process::exit(match done {
         Ok(true) => 0,
