@@ -13,7 +13,8 @@ use Rattle.base.specs.Bools.{one-if, one-most}
 use Rattle.base.specs.Places.{hasb}
 use Rattle.mesh.specs.Cells.{Cell, redb, edge, edges, bitsOf, heldb, pattern, statusOf, closedFrom}
 use Rattle.rows.specs.Numbered.{cellAt, cellsAt, part}
-use Rattle.edges.specs.Pairs.{Pair, sorted, isb, addPairs, joins-pair, has-pairs}
+use Rattle.edges.specs.Pairs.{Pair, sorted, isb, addPairs, pairsOf, joins-pair, has-pairs}
+use Rattle.edges.specs.Table.{listed}
 use Rattle.closure.specs.Ready.{listedPattern, listedStatus, listedClosed}
 use Rattle.rows.specs.Laws.{cells-cons}
 
@@ -139,6 +140,11 @@ module _ (es : List Pair) (c : Cell ℕ) (p e : ℕ) (h : 0 < e) (g : e ≤ 6) (
       let w : bitsOf (drop (e - 1) (tests es c)) ≡ one-if (hasb isb es (sorted (edge 0 c (e - 1)))) + 2 * bitsOf (drop e (tests es c)) =
       rw before at (bits-more es c (e - 1) (omega arith)) in
       omega arith
+
+-- no edge is listed
+pub none-listed : (xs ys : List ℕ) (from n : ℕ) (c : Cell ℕ) → from ≡ n → listedPattern (listed xs ys from n) c ≡ 0
+unfolding listedPattern pairsOf hasb bitsOf edges one-if
+none-listed xs ys from n c e = let w : n - from ≡ 0 = omega arith in rw w
 
 -- the three cases of a status
 module _ (es : List Pair) (r : Bool) (c : Cell ℕ) where

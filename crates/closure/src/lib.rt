@@ -114,7 +114,7 @@ fn is_held(
     edges::holds(xs, ys, heads, links, from, n, ends.a, ends.b)
 }
 
-// The pattern of the cell's edges that are listed, from the last edge to the first.
+// The pattern of the cell's edges that are listed, from the last edge to the first. On the highest level none is listed.
 pub fn pattern_of(
     cells: &[u16],
     c: usize,
@@ -128,6 +128,9 @@ pub fn pattern_of(
     requires { ⌜ Looks (now cells) (now xs) (now ys) (now heads) (now links) (c + 1) from n ⌝ }
     ensures { λ r. ⌜ r ≡ listedPattern (listed (was xs) (was ys) from n) (cellAt (was cells) c) ⌝ }
 {
+    if from == n {
+        return 0;
+    }
     let mut p: u8 = 0;
     let mut e = 6;
     while e > 0 {

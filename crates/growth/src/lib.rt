@@ -239,11 +239,10 @@ fn write_children(
         (childRows level parent regular (λ d. getD (was points) d 0) 0 (family pattern)) ⌝ }
 {
     let whole = cutting::cut_from(digits, pattern);
-    let own = whole.digits;
     let count = whole.count as usize;
     let kind = flag(regular);
     for i in 0..count {
-        write_child(cells, at + i, level, parent, i, kind, points, &own);
+        write_child(cells, at + i, level, parent, i, kind, points, &whole.digits);
     }
     at + count
 }
@@ -279,14 +278,13 @@ fn refine(
         return Refined { at, m };
     }
     let found = points_of(cells, c, status, n, xs, ys, heads, links, m);
-    let points = found.numbers;
     let next = write_children(
         cells,
         at,
         level,
         c as u16,
         status == 64,
-        &points,
+        &found.numbers,
         pattern_of(status),
         digits,
     );

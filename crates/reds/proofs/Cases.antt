@@ -1,6 +1,6 @@
 -- The cases of the tests on one cell.
 --   touchTest t held g e   the edge e is held and none of the cell g
--- Laws: idle-status, idle-mark, idle-pattern; touch-edge, touched-is; pulled-mark, pulled-touch; red-old, red-green, red-irregular,
+-- Laws: idle-status, idle-mark, idle-pattern; touched-is, untouched; pulled-mark, pulled-touch; red-old, red-green, red-irregular,
 -- red-leaf.
 -- Assumes nothing.
 use mathlib.Core.Path.{_≡_, refl, sym, _∙_, ap}
@@ -17,10 +17,12 @@ use Rattle.base.specs.Lists.{allb, anyb}
 use Rattle.base.specs.Bools.{one-if}
 use Rattle.base.specs.Places.{hasb}
 use Rattle.mesh.specs.Cells.{edges, heldb, bitsOf}
-use Rattle.edges.specs.Pairs.{Pair, sorted, isb}
+use Rattle.edges.specs.Pairs.{Pair, sorted, isb, pairsOf}
+use Rattle.edges.specs.Table.{listed}
 use Rattle.rows.specs.Numbered.{cellAt}
 use Rattle.closure.specs.Ready.{listedPattern}
-use Rattle.reds.specs.Flags.{kidsOf, idleb, touchedb, pulledb, redAtb}
+use Rattle.separation.specs.Scan.{apartTest}
+use Rattle.reds.specs.Flags.{kidsOf, listedb, idleb, touchedb, pulledb, redAtb}
 use Rattle.base.specs.Range.{range}
 
 -- no bit
@@ -57,7 +59,7 @@ idle-pattern t ss ms es j p q =
     bits-none (λ e. hasb isb es (sorted e)) (edges 0 (cellAt t j)) ∙ sym (rw (eq-eqb (getD ss j 0) 0 p, eq-eqb (getD ms j 0) 2 q))
 
 -- an edge that is not kept apart
-pub touch-edge : (own held r : Bool) → r ≡ (own || not held) → (not own && held) ≡ not r
+touch-edge : (own held r : Bool) → r ≡ (own || not held) → (not own && held) ≡ not r
 touch-edge own held r e = rw e (go own held)
   where
     go : (a b : Bool) → (not a && b) ≡ not (a || not b)
@@ -65,12 +67,42 @@ touch-edge own held r e = rw e (go own held)
     go false true = refl
     go false false = refl
 
-abbrev pub touchTest : List ℕ → (Pair → Bool) → ℕ → Pair → Bool
+abbrev touchTest : List ℕ → (Pair → Bool) → ℕ → Pair → Bool
 touchTest t held g e = not (heldb eqb (edges 0 (cellAt t g)) e) && held e
 
-pub touched-is : (t : List ℕ) (held : Pair → Bool) (g j : ℕ) → anyb (touchTest t held g) (edges 0 (cellAt t j)) ≡ touchedb t held g j
+-- a cell is touched where it is not apart
+touched-list : (t : List ℕ) (es : List Pair) (g : ℕ) (l : List Pair)
+    → anyb (touchTest t (λ e. hasb isb es (sorted e)) g) l ≡ not (allb (apartTest es t g) l)
+unfolding anyb allb
+touched-list t es g [] = refl
+touched-list t es g (d ∷ l) =
+    let own = heldb eqb (edges 0 (cellAt t g)) d in
+    let held = hasb isb es (sorted d) in
+    rw (touch-edge own held (own || not held) refl, touched-list t es g l) (both (own || not held) (allb (apartTest es t g) l))
+  where
+    both : (a b : Bool) → (not a || not b) ≡ not (a && b)
+    both true b = refl
+    both false b = refl
+
+pub touched-is : (t xs ys : List ℕ) (from n g j : ℕ)
+    → not (allb (apartTest (listed xs ys from n) t g) (edges 0 (cellAt t j))) ≡ touchedb t (listedb xs ys from n) g j
 unfolding touchedb
-touched-is t held g j = refl
+touched-is t xs ys from n g j = sym (touched-list t (listed xs ys from n) g (edges 0 (cellAt t j)))
+
+-- where no edge is listed, none is touched
+none-free : (xs ys : List ℕ) (from n : ℕ) → from ≡ n → (d : Pair) → listedb xs ys from n d ≡ false
+unfolding pairsOf hasb
+none-free xs ys from n e d = let w : n - from ≡ 0 = omega arith in rw w
+
+none-touched : (t : List ℕ) (held : Pair → Bool) (g : ℕ) → ((d : Pair) → held d ≡ false) → (l : List Pair)
+    → anyb (touchTest t held g) l ≡ false
+unfolding anyb
+none-touched t held g f [] = refl
+none-touched t held g f (d ∷ l) = rw (f d, and-false (not (heldb eqb (edges 0 (cellAt t g)) d))) (none-touched t held g f l)
+
+pub untouched : (t xs ys : List ℕ) (from n g j : ℕ) → from ≡ n → touchedb t (listedb xs ys from n) g j ≡ false
+unfolding touchedb
+untouched t xs ys from n g j e = none-touched t (listedb xs ys from n) g (none-free xs ys from n e) (edges 0 (cellAt t j))
 
 module _ (t ms : List ℕ) (held : Pair → Bool) (g j : ℕ) where
   pub pulled-mark : getD ms j 0 ≡ 1 → pulledb t ms held g j ≡ true

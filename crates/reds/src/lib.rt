@@ -85,7 +85,7 @@ fn are_idle(
     true
 }
 
-// Whether an edge of the cell j, not of the cell g, is listed.
+// Whether an edge of the cell j, not of the cell g, is listed. Where no cell one level up will be red, none is.
 fn is_touched(
     rows: &[u16],
     g: usize,
@@ -101,14 +101,10 @@ fn is_touched(
     requires { ⌜ 8 * g + 8 ≤ length (now rows) ⌝ }
     ensures { λ r. ⌜ r ≡ touchedb (was rows) (listedb (was xs) (was ys) from n) g j ⌝ }
 {
-    let mut e = 0;
-    while e < 6 {
-        if !separation::apart_edge(rows, j, g, e, xs, ys, heads, links, from, n) {
-            return true;
-        }
-        e += 1;
+    if from == n {
+        return false;
     }
-    false
+    !separation::apart_child(rows, j, g, xs, ys, heads, links, from, n)
 }
 
 // Whether the child j of the green cell g is marked 1 or so touched.

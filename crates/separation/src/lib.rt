@@ -5,6 +5,7 @@ ghost use mathlib.Core.Bool.{_&&_, _||_, not, false};
 ghost use Prim.Native.Nat.{_+_, _*_, _≤_, _<_};
 ghost use lib.Dec.{eqb};
 ghost use lib.ListN.{length, getD};
+ghost use Rattle.base.specs.Lists.{allb};
 ghost use Rattle.base.specs.Places.{hasb};
 ghost use Rattle.base.specs.Lent.{was};
 ghost use Rattle.mesh.specs.Cells.{joinsb, heldb, edge, edges};
@@ -13,6 +14,7 @@ ghost use Rattle.edges.specs.Pairs.{isb, sorted};
 ghost use Rattle.edges.specs.Table.{listed};
 ghost use Rattle.closure.specs.Ready.{Looks, listedApart};
 ghost use Rattle.separation.specs.Parents.{Parents, apartAll};
+ghost use Rattle.separation.specs.Scan.{apartTest};
 
 fn are(a: u16, b: u16, c: u16, d: u16) -> bool
     ensures { λ r. ⌜ r ≡ (eqb a c && eqb b d) ⌝ }
@@ -46,7 +48,7 @@ fn has_edge(cells: &[u16], g: usize, a: u16, b: u16) -> bool
 }
 
 // The condition at edge e of the cell c, whose parent is g.
-pub fn apart_edge(
+fn apart_edge(
     cells: &[u16],
     c: usize,
     g: usize,
@@ -71,6 +73,32 @@ pub fn apart_edge(
     has_edge(cells, g, ends.a, ends.b)
 }
 
+// The condition at each edge of the cell c, whose parent is g.
+pub fn apart_child(
+    cells: &[u16],
+    c: usize,
+    g: usize,
+    xs: &[u32],
+    ys: &[u32],
+    heads: &[u16],
+    links: &[u16],
+    from: usize,
+    n: usize,
+) -> bool
+    requires { ⌜ Looks (now cells) (now xs) (now ys) (now heads) (now links) (c + 1) from n ⌝ }
+    requires { ⌜ 8 * g + 8 ≤ length (now cells) ⌝ }
+    ensures { λ r. ⌜ r ≡ allb (apartTest (listed (was xs) (was ys) from n) (was cells) g) (edges 0 (cellAt (was cells) c)) ⌝ }
+{
+    let mut e = 0;
+    while e < 6 {
+        if !apart_edge(cells, c, g, e, xs, ys, heads, links, from, n) {
+            return false;
+        }
+        e += 1;
+    }
+    true
+}
+
 // The condition at the cell c.
 fn apart_cell(
     cells: &[u16],
@@ -90,14 +118,7 @@ fn apart_cell(
         return true;
     }
     let g = cells[8 * c + 1] as usize;
-    let mut e = 0;
-    while e < 6 {
-        if !apart_edge(cells, c, g, e, xs, ys, heads, links, from, n) {
-            return false;
-        }
-        e += 1;
-    }
-    true
+    apart_child(cells, c, g, xs, ys, heads, links, from, n)
 }
 
 // The condition at each of the cells below last.

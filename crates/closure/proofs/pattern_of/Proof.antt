@@ -1,4 +1,4 @@
--- `closure::pattern_of` meets its contract: a turn puts the next lower bit in front. The measure is the number of bits left.
+-- `closure::pattern_of` meets its contract: where no edge is listed it is 0, and a turn puts the next lower bit in front. The measure is the number of bits left.
 -- Assumes nothing.
 use mathlib.Core.Path.{_≡_, sym, _∙_, ap}
 use Prim.Native.Nat.{_-_, _≤_}
@@ -9,7 +9,7 @@ use Rattle.mesh.specs.Cells.{bitsOf}
 use Rattle.edges.specs.Table.{listed}
 use Rattle.rows.specs.Numbered.{cellAt}
 use Rattle.closure.specs.Ready.{listedPattern}
-use Rattle.closure.specs.Closed.{tests, no-bits, small-bits, bit-turn}
+use Rattle.closure.specs.Closed.{tests, no-bits, small-bits, bit-turn, none-listed}
 use borrow.Author.Needs.{needs}
 use Rattle.closure.proofs.pattern_of.Statement.{statement}
 use Rattle.closure.proofs.pattern_of.Tie as tie
@@ -22,18 +22,23 @@ abbrev μ-loop : tie.MeasureT-loop
 
 few : (c : tie.After-bit Inv-loop μ-loop) → c .before .before .before .loop .p ≤ 31
 few c =
-    let a = c .before .before .before .before .before .before .before .before .before .args in
+    let a = c .before .before .before .before .before .before .before .before .before .before .args in
     let l = c .before .before .before .loop in
     small-bits (listed (a .xs .now) (a .ys .now) (a .from) (a .n)) (cellAt (a .cells .now) (a .c)) (l .p) (l .e)
     (c .before .before .loop-test .taken) (l .inv .0) (l .inv .1)
+
+returns : tie.Need-returns Inv-loop μ-loop
+returns c =
+    let a = c .before .before .before .before .before .before .args in
+    sym (none-listed (a .xs .now) (a .ys .now) (a .from) (a .n) (cellAt (a .cells .now) (a .c)) (c .if1 .taken))
 
 loop-holds : tie.Need-loop-holds Inv-loop μ-loop
 loop-holds c = (
   omega arith,
   sym
-      (no-bits (listed (c .before .before .before .before .before .args .xs .now) (c .before .before .before .before .before .args .ys .now)
-      (c .before .before .before .before .before .args .from) (c .before .before .before .before .before .args .n))
-      (cellAt (c .before .before .before .before .before .args .cells .now) (c .before .before .before .before .before .args .c))),
+      (no-bits (listed (c .before .before .before .before .before .before .args .xs .now) (c .before .before .before .before .before .before .args .ys .now)
+      (c .before .before .before .before .before .before .args .from) (c .before .before .before .before .before .before .args .n))
+      (cellAt (c .before .before .before .before .before .before .args .cells .now) (c .before .before .before .before .before .before .args .c))),
 )
 
 sub-e : tie.Need-sub-e Inv-loop μ-loop
@@ -56,7 +61,7 @@ loop-less c = search needs
 
 loop-again : tie.Need-loop-again Inv-loop μ-loop
 loop-again c =
-    let a = c .before .before .before .before .before .before .before .before .before .args in
+    let a = c .before .before .before .before .before .before .before .before .before .before .args in
     let l = c .before .before .before .loop in (
       omega (arith, l .inv .0),
       bit-turn (listed (a .xs .now) (a .ys .now) (a .from) (a .n)) (cellAt (a .cells .now) (a .c)) (l .p) (l .e)
@@ -64,9 +69,9 @@ loop-again c =
           (c .bit .result) (c .bit .ensures .0 ∙ ap one-if (c .before .is-held .ensures)),
     )
 
-returns : tie.Need-returns Inv-loop μ-loop
+returns-2 : tie.Need-returns-2 Inv-loop μ-loop
 unfolding listedPattern
-returns c =
+returns-2 c =
     let k : c .before .loop .e ≡ 0 = omega (arith, c .loop-test .left) in
     let w = c .before .loop .inv .1 in
     rw k at w
@@ -77,6 +82,7 @@ pattern-of-spec =
     (tie.spec
     Inv-loop
     μ-loop
+    returns
     loop-holds
     sub-e
     is-held-requires
@@ -85,4 +91,4 @@ pattern-of-spec =
     add-p
     loop-less
     loop-again
-    returns)
+    returns-2)
