@@ -1,5 +1,6 @@
 -- Demand 1: every call is answered with a result or one of its numbered refusals, and a refusal changes nothing (Rules 12.1 to 12.17).
--- A contract (src/ of `cutting`, `coarse`, `layout`, `position`, `step`, `jobs`, and of `yuccadice` for the library) says: the call
+-- A contract (src/ of `cutting`, `coarse`, `layout`, `position`, `step`, `jobs`, and of `yuccadice` for the library; for the calls on parts see
+-- `PartCalls`) says: the call
 -- answers as its definition does; afterwards a lent table is `heldAfter` of that answer, a lent number `valueAfter` of it. What follows:
 --   Answered a ts ns   the answer a is that of the tests ts in order (`Tests`), the first that fails giving its number; so a is
 --                      accepted, or its number is one of ns
@@ -33,6 +34,7 @@ use Rattle.jobs.specs.Listing.{listedBytes, listingOf, archive-fits}
 use Rattle.yuccadice.specs.After.{cutAnswer}
 use Rattle.demands.specs.Order.{Test, Answered, numbersb, answered-by}
 use Rattle.demands.specs.Tests.{cutTests, meshTests, tableTests, layoutTests, cornerTests, ancestorTests, countsTests, stepTests}
+use Rattle.demands.specs.PartCalls.{PartCalls, part-calls}
 use Rattle.demands.specs.Tests.{archiveTests, replayTests, readTests, flatTests, writeTests}
 use Rattle.demands.specs.Answered.{cut-six, cut-first, corner-first, mesh-first, table-first, layout-first, ancestor-first}
 use Rattle.demands.specs.Answered.{counts-first, step-first, replay-first, read-first, write-first, run-numbers, flat-numbers}
@@ -58,6 +60,8 @@ pub record Demand1 : Type 1 where
       → Answered (writeAnswer ps ts cs ms es out) (writeTests ps ts cs ms es out) (15 ∷ 1 ∷ 2 ∷ 3 ∷ 4 ∷ 5 ∷ 7 ∷ 8 ∷ 9 ∷ 17 ∷ [])
   pub replay : (bs table counts : List ℕ)
       → Answered (replayAnswer bs table counts) (replayTests bs table counts) (15 ∷ 17 ∷ 1 ∷ 2 ∷ 3 ∷ 4 ∷ 5 ∷ 7 ∷ 8 ∷ 9 ∷ [])
+  -- the calls on parts (`PartCalls`)
+  pub parts : PartCalls
   -- listing has no refusal: it prints the lines of the counts, or the line of the archive's refusal, and these fit
   pub list-accepted : (bs : List ℕ) → archiveAnswer bs ≡ Accepted → listingOf bs ≡ listing (jobCounts (jobOf bs))
   pub list-refused : (bs : List ℕ) (k : ℕ) → archiveAnswer bs ≡ Refused k → listingOf bs ≡ refusal k
@@ -102,6 +106,7 @@ demand1 =
       write = λ ps ts cs ms es out.
           answered-by _ (writeTests ps ts cs ms es out) _ (write-first ps ts cs ms es out) (write-numbers ps ts cs ms es);
       replay = λ bs table counts. answered-by _ (replayTests bs table counts) _ (replay-first bs table counts) (steps-numbers bs);
+      parts = part-calls;
       list-accepted = λ bs e. rw e;
       list-refused = λ bs k e. rw e;
       list-fits = archive-fits;

@@ -5,6 +5,7 @@ pub mod Ties
 pub mod Again
 pub mod Positions
 pub mod Accepting
+pub mod PartCalls
 pub mod Demand1
 pub mod Demand2
 pub mod Demand3
