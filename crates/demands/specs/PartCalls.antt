@@ -13,6 +13,7 @@ use borrow.Author.Tests.{ne-eqb}
 use Rattle.base.specs.Fours.{fours}
 use Rattle.base.specs.Lists.{allb, memberb}
 use Rattle.base.specs.Refuse.{refuse, andThen, codeOf}
+use Rattle.base.specs.declared.Answer.{Answer}
 use Rattle.base.specs.declared.Answer.the-variants.{Accepted, Refused}
 use Rattle.mesh.specs.Coarse.{cornerCount}
 use Rattle.mesh.specs.Answers.{tableAnswer}
@@ -24,7 +25,7 @@ use Rattle.store.specs.Hand.{numberAt, wellb, takenAt, endedAt, handAnswer, tak
 use Rattle.turns.specs.Start.{marksDue, startAnswer, startedIn, startAfter}
 use Rattle.partstep.specs.Step.{readyb, partAnswer, partAfter}
 use Rattle.held.specs.Held.{fullHeld, heldAnswer, stageAnswer}
-use Rattle.split.specs.Split.{splitAnswer, splitIn, splitAfter}
+use Rattle.split.specs.Split.{storesAfter, splitAnswer, splitIn, splitAfter}
 use Rattle.merge.specs.Merge.{mergeb, mergeAnswer}
 use Rattle.demands.specs.Order.{Test, firstOf, first-then, Answered, answered-by}
 use Rattle.demands.specs.Tests.{tableTests}
@@ -99,7 +100,7 @@ no-gift x out h = rw (ne-eqb (fetchRefusal x out) 0 h)
 split-same : (ps : List ℤ) (ts ss : List ℕ) (P : ℕ) (os b : List ℕ) (k : ℕ) → splitAnswer ps ts ss P os b ≡ Refused k
     → splitAfter ps ts ss P os b ≡ b
 unfolding splitAfter splitIn
-split-same ps ts ss P os b k e = rw (e, splitAfter)
+split-same ps ts ss P os b k e = ap (λ (a : Answer). splitIn a (storesAfter (cornerCount ps) (fours ts) ss P os b) b) e
 
 start-same : (x ms : List ℕ) (k : ℕ) → startAnswer x ms ≡ Refused k → startAfter x ms ≡ x
 unfolding startAfter startedIn
