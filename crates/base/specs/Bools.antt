@@ -53,6 +53,17 @@ unfolding impb
 impb-use true b t u = t
 impb-use false b t u = absurd u
 
+-- two tests that pass together; a test that cannot pass
+pub same-test : (a b : Bool) → (T a → T b) → (T b → T a) → a ≡ b
+same-test true true f g = refl
+same-test true false f g = absurd (f tt)
+same-test false true f g = absurd (g tt)
+same-test false false f g = refl
+
+pub false-from : (b : Bool) → (T b → ⊥) → b ≡ false
+false-from true f = absurd (f tt)
+false-from false f = refl
+
 -- a test is one of the two, with its equation; and it is not both
 pub either : (b : Bool) → (b ≡ true) ⊎ (b ≡ false)
 either true = inl refl

@@ -1,16 +1,18 @@
 -- Lists: what holds of each element, and tests over renamed or chosen elements.
 -- Laws: all-default (an element, or the one for none there), all-mapped and all-unmapped (elements renamed), all-map and map-more
 -- (a test, and a second renaming, of renamed elements), map-same (two renamings alike), all-filter and filter-passes (the
--- elements that pass a test), filter-member and member-of (a number that stands in a list).
-use mathlib.Core.Path.{_≡_, refl, ap₂}
-use mathlib.Core.Bool.{Bool, true, false, _&&_, _||_}
+-- elements that pass a test), filter-map and all-through (a filter and a test of renamed elements), allb-take (a test of the first
+-- ones), allb-failing (a chosen element that fails), filter-member and member-of (a number that stands in a list).
+use mathlib.Core.Path.{_≡_, refl, ap, ap₂}
+use mathlib.Core.Bool.{Bool, true, false, _&&_, _||_, and-false}
 use mathlib.Core.List.{List, [], _∷_, map}
 use Prim.Native.Nat.{ℕ, zero, suc, _<_}
 use lib.Dec.{T, eqb}
-use lib.ListN.{getD, length}
+use lib.ListN.{getD, length, take}
 use borrow.Author.Tests.{eqb-true}
 use Rattle.base.specs.Lists.{allb, filterb, memberb}
 use Rattle.base.specs.Every.{All}
+use Rattle.base.specs.Bools.{and-left, and-right, and-both}
 use native.Mathlib.Omega.{arith}
 
 pub all-default : {A : Type 0} (P : A → Type 0) (d : A) (l : List A) → All P l → P d → (k : ℕ) → P (getD l k d)
@@ -31,6 +33,22 @@ module _ {A B : Type 0} where
   unfolding allb
   all-map h g g′ [] e = refl
   all-map h g g′ (x ∷ l) e = ap₂ _&&_ (e .0) (all-map h g g′ l (e .1))
+
+  pub all-through : (h : A → B) (g : B → Bool) (l : List A) → allb g (map h l) ≡ allb (λ x. g (h x)) l
+  unfolding allb
+  all-through h g [] = refl
+  all-through h g (x ∷ l) = ap (λ (b : Bool). g (h x) && b) (all-through h g l)
+
+  pub filter-map : (g : B → Bool) (h : A → B) (l : List A) → filterb g (map h l) ≡ map h (filterb (λ x. g (h x)) l)
+  unfolding filterb
+  filter-map g h [] = refl
+  filter-map g h (x ∷ l) = go (g (h x)) (filter-map g h l)
+    where
+      go : (b : Bool) → filterb g (map h l) ≡ map h (filterb (λ x. g (h x)) l)
+          → _≡_ {A = List B} (elim b [ true ↦ h x ∷ filterb g (map h l) | false ↦ filterb g (map h l) ])
+          (map {A = A} h (elim b [ true ↦ x ∷ filterb (λ x. g (h x)) l | false ↦ filterb (λ x. g (h x)) l ]))
+      go true i = ap (λ (l : List B). h x ∷ l) i
+      go false i = i
 
 pub map-same : {A B : Type 0} (f g : A → B) (l : List A) → All (λ x. f x ≡ g x) l → map f l ≡ map g l
 map-same f g [] e = refl
@@ -58,6 +76,24 @@ module _ {A : Type 0} (g : A → Bool) where
       go : (b : Bool) → g x ≡ b → All (λ x. g x ≡ true) (filterb g l) → All (λ x. g x ≡ true) (filterb g (x ∷ l))
       go true e i = rw (e, filterb) (e, i)
       go false e i = rw (e, filterb) i
+
+  pub allb-failing : (f : A → Bool) (d : A) (l : List A) (k : ℕ) → k < length l → g (getD l k d) ≡ true → f (getD l k d) ≡ false
+      → allb f (filterb g l) ≡ false
+  unfolding allb filterb
+  allb-failing f d [] k h p q = absurd (omega arith)
+  allb-failing f d (x ∷ l) zero h p q = rw (p, filterb) (rw q)
+  allb-failing f d (x ∷ l) (suc k) h p q = go (g x) refl (allb-failing f d l k (omega arith) p q)
+    where
+      go : (b : Bool) → g x ≡ b → allb f (filterb g l) ≡ false → allb f (filterb g (x ∷ l)) ≡ false
+      go true e i = rw (e, filterb) (rw i (and-false (f x)))
+      go false e i = rw (e, filterb) i
+
+  pub allb-take : (n : ℕ) (l : List A) → T (allb g l) → T (allb g (take n l))
+  unfolding allb
+  allb-take zero l t = tt
+  allb-take (suc n) [] t = tt
+  allb-take (suc n) (x ∷ l) t =
+      and-both (g x) (allb g (take n l)) (and-left (g x) (allb g l) t) (allb-take n l (and-right (g x) (allb g l) t))
 
 pub member-of : (P : ℕ → Type 0) (x : ℕ) (l : List ℕ) → All P l → T (memberb x l) → P x
 unfolding memberb

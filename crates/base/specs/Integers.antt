@@ -10,7 +10,7 @@ use mir.Syntax.{w32}
 use mir.Val.{SFits, toZ}
 use mir.ValLaws.{toZ-pos}
 
-pub subℕ-size : (a b : ℕ) → natAbs (subℕ a b) ≤ a + b
+subℕ-size : (a b : ℕ) → natAbs (subℕ a b) ≤ a + b
 subℕ-size a b = go (ltb a b) refl
   where
     go : (t : Bool) → ltb a b ≡ t → natAbs (cond t (negsuc (b - suc a)) (pos (a - b))) ≤ a + b

@@ -2,6 +2,7 @@ pub mod Bools
 pub mod Lists
 pub mod Every
 pub mod Each
+pub mod Append
 pub mod Places
 pub mod Fours
 pub mod Refuse

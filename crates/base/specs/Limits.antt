@@ -1,37 +1,43 @@
 -- The limits, by name.
 use Prim.Native.Nat.{ℕ}
 
--- of a coarse mesh
+-- Rule 1.2: of a coarse mesh.
 abbrev pub mostCoarseCorners : ℕ
 mostCoarseCorners = 512
 
+-- Rule 1.2.
 abbrev pub mostCoarseCells : ℕ
 mostCoarseCells = 256
 
--- of a table, over all levels
+-- Rule 3.4: of a table, over all levels.
 abbrev pub mostCells : ℕ
 mostCells = 4096
 
+-- Rule 5.7: what these can have.
 abbrev pub mostCorners : ℕ
 mostCorners = 16384
 
--- levels 0 to 10
+-- Rule 3.4: levels 0 to 10.
 abbrev pub mostLevels : ℕ
 mostLevels = 11
 
--- of an archive, in bytes
+-- Rule 10.5: of an archive, in bytes.
 abbrev pub mostBytes : ℕ
 mostBytes = 65536
 
--- Full lengths of lent tables: eight numbers a cell, two ends and three sums a corner, four counts a level.
+-- Full lengths of lent tables (rule 9.1).
+-- Rule 9.2: eight numbers a cell.
 abbrev pub fullRows : ℕ
 fullRows = 32768
 
+-- Rule 9.3: two ends a corner.
 abbrev pub fullEnds : ℕ
 fullEnds = 32768
 
+-- Rule 9.4: three sums a corner.
 abbrev pub fullSums : ℕ
 fullSums = 49152
 
+-- Rule 9.5: four counts a level.
 abbrev pub fullCounts : ℕ
 fullCounts = 44

@@ -9,6 +9,7 @@ use Rattle.base.specs.Lists.{belowb, belowb-at, samesb, samesb-eq, allb}
 use Rattle.base.specs.Bools.{and-left, and-right}
 use Rattle.cutting.specs.Rule.{family}
 
+-- Rule 2.9: the 64 families as they are kept.
 unfoldable pub familyRows : List (List (List ℕ))
 familyRows =
     ((0 ∷ 4 ∷ 7 ∷ 9 ∷ []) ∷ []) ∷
@@ -99,6 +100,7 @@ familyRows =
     ∷ (2 ∷ 5 ∷ 7 ∷ 8 ∷ []) ∷ (3 ∷ 6 ∷ 8 ∷ 9 ∷ []) ∷ []) ∷
     []
 
+-- Rule 2.9: one of them.
 unfoldable pub row : ℕ → List (List ℕ)
 row p = getD familyRows p []
 

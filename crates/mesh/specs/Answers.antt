@@ -47,6 +47,7 @@ unfolding refuse stepTable
 limitsAnswer n qs ss ms = refuse 8 (leb (length (stepTable n qs ss ms)) mostLevels)
     (refuse 9 (leb (length (newTable n qs ss ms)) mostCells) Accepted)
 
+-- Rule 12.11, its 15 aside.
 unfoldable pub markedAnswer : List ℤ → List ℕ → List ℕ → List ℕ → Answer
 unfolding refuse andThen tableAnswer marksb limitsAnswer
 markedAnswer ps ts ss ms = andThen (tableAnswer ps ts ss) (refuse 7 (marksb ss ms) (limitsAnswer (cornerCount ps) (fours ts) ss ms))

@@ -1,16 +1,38 @@
--- Laws of the definitions: how many children lists of statuses make, how many coarse cells there are, the middle of two points.
-use mathlib.Core.Path.{_≡_, sym, refl, ap, ap₂}
+-- Laws of the definitions: what the counts of a mesh are, how many children lists of statuses make, how many coarse cells and coarse
+-- corners there are, the middle of two points, patterns below 64, edges held by one of two lists, the first edges of a cell, how many cells
+-- a sound table has.
+use mathlib.Core.Path.{_≡_, sym, refl, ap, ap₂, _∙_}
 use mathlib.Core.List.{List, [], _∷_, _++_, zipWith}
-use Prim.Native.Nat.{ℕ, _+_, _-_, suc, zero, _≤_, _<_}
+use Prim.Native.Nat.{ℕ, _+_, _%_, suc, zero, _≤_, _<_}
 use native.Mathlib.Nat.{zero-add}
 use native.Mathlib.Omega.{arith}
-use Rattle.mesh.specs.Table.{sizeOf, sizes}
-use lib.ListN.{length}
-use Rattle.mesh.specs.Weights.{coarseFrom, Point, mid}
-use mathlib.Core.Bool.{Bool, true, false}
-use lib.Dec.{eqb}
+use Rattle.base.specs.Lists.{allb, belowb, belowb-at}
+use Rattle.base.specs.Bools.{one-most, and-left, and-right}
+use Rattle.base.specs.Append.{anyb-append}
+use Rattle.mesh.specs.Coarse.{cornerCount, cellCount, countsb}
+use Rattle.mesh.specs.Table.{levelsOf, cellsOf, closedb, apartb, soundb, sizeOf, sizes}
+use Rattle.mesh.specs.Layout.{coarseCornersTo, edgeNumbers}
+use lib.ListN.{length, getD, take, length-append}
+use lib.Seq.{take-suc}
+use lib.IntN.{ℤ}
+use Rattle.mesh.specs.Weights.{coarseFrom, coarseCells, Point, mid}
+use mathlib.Core.Bool.{Bool, true, false, _&&_, _||_}
+use lib.Dec.{T, eqb, leb, eqb→eq, leb→le}
 use borrow.Author.Tests.{eqb-false}
-use Rattle.mesh.specs.Cells.{patternOf}
+use Rattle.mesh.specs.Cells.{Cell, edge, edges, bitsOf, joinsb, heldb, pattern, patternOf}
+
+-- Rule 1.2: what a mesh that is not refused with 1 has.
+pub record Counted (ps : List ℤ) (ts : List ℕ) : Type 0 where
+  pub threes : length ps % 3 ≡ 0
+  pub fours : length ts % 4 ≡ 0
+  pub corners-some : 4 ≤ cornerCount ps
+  pub corners-few : cornerCount ps ≤ 512
+  pub some : 1 ≤ cellCount ts
+  pub few : cellCount ts ≤ 256
+
+pub counted : (ps : List ℤ) (ts : List ℕ) → T (countsb ps ts) → Counted ps ts
+unfolding countsb
+counted ps ts t = search (and-left, and-right, eqb→eq, leb→le)
 
 pub sizes-append : (ss ts : List ℕ) → sizes (ss ++ ts) ≡ sizes ss + sizes ts
 unfolding sizes
@@ -25,6 +47,15 @@ pub length-from : (n i : ℕ) (qs : List (List ℕ)) → length (coarseFrom n i 
 unfolding coarseFrom
 length-from n i [] = refl
 length-from n i (q ∷ qs) = ap suc (length-from n (suc i) qs)
+
+pub length-coarse : (n : ℕ) (qs : List (List ℕ)) → length (coarseCells n qs) ≡ length qs
+unfolding coarseCells
+length-coarse n qs = length-from n 0 qs
+
+pub length-corners : (n i : ℕ) → length (coarseCornersTo n i) ≡ i
+unfolding coarseCornersTo
+length-corners n zero = refl
+length-corners n (suc i) = simp length-append (omega (arith, length-corners n i))
 
 pub length-mid : (n : ℕ) (p q : Point) → length p ≡ n → length q ≡ n → length (mid p q) ≡ n
 unfolding mid zipWith
@@ -46,3 +77,39 @@ pattern-below s h = go (eqb s 64) refl
     go : (b : Bool) → eqb s 64 ≡ b → patternOf s < 64
     go true e = rw (e, patternOf) (omega arith)
     go false e = rw (e, patternOf) (omega (arith, eqb-false s 64 e))
+
+-- Rule 2.2: six tests give a pattern.
+pub bits-small : (a b c d e f : Bool) → bitsOf (a ∷ b ∷ c ∷ d ∷ e ∷ f ∷ []) < 64
+unfolding bitsOf
+bits-small a b c d e f = omega (arith, one-most a, one-most b, one-most c, one-most d, one-most e, one-most f)
+
+module _ {A : Type 0} (o : A) (same : A → A → Bool) (es : List (A × A)) where
+  pub pattern-small : (c : Cell A) → pattern o same es c < 64
+  unfolding pattern edges
+  pattern-small c =
+      bits-small (heldb same es (edge o c 0)) (heldb same es (edge o c 1)) (heldb same es (edge o c 2)) (heldb same es (edge o c 3))
+      (heldb same es (edge o c 4)) (heldb same es (edge o c 5))
+
+-- Rule 5.4: an edge of one list or of the other.
+pub held-append : {A : Type 0} (same : A → A → Bool) (es fs : List (A × A)) (e : A × A)
+    → heldb same (es ++ fs) e ≡ (heldb same es e || heldb same fs e)
+unfolding heldb
+held-append same es fs e = anyb-append (joinsb same e) es fs
+
+-- Rule 2.1: one edge more.
+pub edges-more : (e : ℕ) → e < 6 → take (suc e) edgeNumbers ≡ take e edgeNumbers ++ (e ∷ [])
+unfolding belowb
+edges-more e h =
+    take-suc edgeNumbers e 0 h
+    ∙ ap (λ (x : ℕ). take e edgeNumbers ++ (x ∷ []))
+    (eqb→eq (getD edgeNumbers e 0) e (belowb-at (λ e. eqb (getD edgeNumbers e 0) e) 6 tt e h))
+
+-- Rule 6.1: a sound table has as many statuses as cells.
+pub sound-count : (n : ℕ) (qs : List (List ℕ)) (ss : List ℕ) → T (soundb n qs ss) → length ss ≡ length (cellsOf (levelsOf n qs ss))
+unfolding soundb
+sound-count n qs ss t =
+    let ls = levelsOf n qs ss in
+    let cs = cellsOf ls in
+    let a = eqb (length ss) (length cs) in
+    let b = leb (length ls) 11 && leb (length cs) 4096 in
+    eqb→eq (length ss) (length cs) (and-left a b (and-left (a && b) (allb closedb ls && apartb cs ss) t))

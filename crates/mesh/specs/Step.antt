@@ -53,8 +53,8 @@ unfolding anyb heldb sameb edges
 turnedb own family es =
     anyb (λ r. eqb (r .mark) 1 || anyb (λ e. not (heldb sameb own e) && heldb sameb es e) (edges [] (r .cell))) family
 
--- The test by what a part knows of a cell: its status, mark and own edges, whether it is regular, its children, and the edges of the
--- new red cells one level up.
+-- Rules 7.3 to 7.6, by what a part knows of a cell: its status, mark and own edges, whether it is regular, its children, and the edges
+-- of the new red cells one level up.
 unfoldable pub redAfterb : ℕ → ℕ → Bool → List (Point × Point) → List Row → List (Point × Point) → Bool
 unfolding deletedb turnedb
 redAfterb s m regular own family es =
