@@ -22,7 +22,7 @@ use borrow.Author.Tests.{eqb-false}
 use Rattle.mesh.specs.Cells.{Cell, edge, edges, bitsOf, joinsb, heldb, pattern, patternOf}
 
 -- Rule 1.2: what a mesh that is not refused with 1 has.
-pub record Counted (ps : List ℤ) (ts : List ℕ) : Type 0 where
+pub record MeshCounts (ps : List ℤ) (ts : List ℕ) : Type 0 where
   pub threes : length ps % 3 ≡ 0
   pub fours : length ts % 4 ≡ 0
   pub corners-some : 4 ≤ cornerCount ps
@@ -30,9 +30,9 @@ pub record Counted (ps : List ℤ) (ts : List ℕ) : Type 0 where
   pub some : 1 ≤ cellCount ts
   pub few : cellCount ts ≤ 256
 
-pub counted : (ps : List ℤ) (ts : List ℕ) → T (countsb ps ts) → Counted ps ts
+pub mesh-counts : (ps : List ℤ) (ts : List ℕ) → T (countsb ps ts) → MeshCounts ps ts
 unfolding countsb
-counted ps ts t = search (and-left, and-right, eqb→eq, leb→le)
+mesh-counts ps ts t = search (and-left, and-right, eqb→eq, leb→le)
 
 pub sizes-append : (ss ts : List ℕ) → sizes (ss ++ ts) ≡ sizes ss + sizes ts
 unfolding sizes
