@@ -91,10 +91,10 @@ abbrev pub REGULAR : ℕ
 REGULAR = 12400
 
 abbrev pub CHILD : ℕ
-CHILD = 16496  -- its first child, where the family is here
+CHILD = 16496  -- of each held cell: its first child, or where that would stand
 
 abbrev pub PARENT : ℕ
-PARENT = 20592  -- its parent, where it is a master
+PARENT = 20592  -- its parent; 65,535 of a coarse cell
 
 abbrev pub HEAD : ℕ
 HEAD = 24688  -- 256 times the level, and the coarse cell
@@ -106,7 +106,7 @@ abbrev pub MORE : ℕ
 MORE = 32880  -- child numbers 6 to 10
 
 abbrev pub INNER : ℕ
-INNER = 36976  -- six bits: the edges that are not also the parent's
+INNER = 36976  -- six bits: the edges that are not also the parent's; 0 of a coarse cell
 
 abbrev pub MARK : ℕ
 MARK = 41072
