@@ -1,7 +1,7 @@
 -- What any lawful list of calls on the stores of a split comes to: the theorem of the exchange, said of the stores.
 --   splitStore p, world      the stores of the split
 --   inputOf cs p             the marks that the calls start a part with; 0 for each master where they do not
--- Laws: stores-many (there is a store for each part), done-phase and phase-done (a done part is one past the last round), at-end (what a
+-- Laws: done-phase and phase-done (a done part is one past the last round), at-end (what a
 -- done part's store stands for), stays-done, moves-most, moves-on and completed (what can be called next), all-fetched (where a part has
 -- none to send).
 use mathlib.Core.Path.{_≡_, refl, sym, _∙_, ap, ap₂, subst}

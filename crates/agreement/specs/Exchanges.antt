@@ -1,6 +1,6 @@
 -- The exchange of a split: the calls on its stores, with the marks that each part starts with, are a machine of the rounds.
 --   wanted p             marks that the part p takes: 0 for each of its masters
---   input cs p           the marks that the calls start the part p with; those where they do not
+--   reads p ms c         the mark of the cell c among the marks ms of the part p; takes p ms whether it starts with them
 -- Laws: first-idle (the stores of a split are those of parts that have not started), and what the theorem of the exchange is applied to.
 use mathlib.Core.Path.{_≡_, refl, sym, _∙_, ap, ap₂, subst}
 use mathlib.Core.Logic.{_⊎_, inl, inr, _≢_}

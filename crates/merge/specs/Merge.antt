@@ -1,6 +1,6 @@
 -- Merging all stores of a split: they are examined, and their masters put in the order of a table.
 --   storesIn b            the stores that a lent table has, as many as the first says there are parts
---   alikeb x y            y is done, and one of the same split and result as x
+--   alikeb x y            y is done, and of the same parts, corners, coarse cells and result as x
 --   everyb xs             each part is among the stores
 --   ownsb i x             the store has the coarse cell i as master; cornersAmong xs i its corners, from the first that does
 --   mergeCells xs         the corners of all coarse cells; mergeEntries xs the masters and ghosts of all stores

@@ -102,7 +102,7 @@ fn load_store(
     r
 }
 
-// Whether a store is done, and one of the same split and result as the first.
+// Whether a store is done, and of the same parts, corners, coarse cells and result as the first.
 fn is_alike(stores: &[u16], j: usize) -> bool
     requires { ⌜ (16 * full ≤ length (now stores)) × (j < 16) ⌝ }
     ensures { λ r. ⌜ r ≡ alikeb (was stores) (storeIn (was stores) j) ⌝ }

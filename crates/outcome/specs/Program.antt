@@ -1,7 +1,7 @@
 -- The calls as a program of the exchange: what each answers to a store, and what it gives out.
 --   nine         a lent table of nine bytes, which a fetch writes its message to
 --   act          the calls: none where the call is refused, or a fetch has none to send
--- Laws: yields-none, yields-some (an answer that is accepted), start-some, step-some, hand-some, and what a refusal gives.
+--   yields, gives    what an answer comes to in `act`: the store after it, and of a fetch the message
 use mathlib.Core.Path.{_≡_, refl, sym, _∙_, ap}
 use mathlib.Core.Option.{Option, none, some}
 use mathlib.Core.List.{List, [], _∷_}

@@ -70,7 +70,7 @@ fn post_totals(store: &mut [u16])
     post(store, code as u16, total, mask as u16);
 }
 
-// Forgets the totals of an earlier step.
+// Sets entries and totals to 0.
 fn clear(store: &mut [u16])
     requires { ⌜ full ≤ length (now store) ⌝ }
     ensures { λ r. ⌜ is store ≡ cleared (was store) ⌝ }

@@ -1,4 +1,4 @@
--- The work of a part on entering a round of counts.
+-- The round of counts: the work of a part on entering it. (The step of a part, with all its rounds, is in `partstep`.)
 --   slotFrom x k      the first slot of a level, at most 24,576
 --   tallied x k       the store with the masters of the level that will be red added to their slots
 --   enterCounts x k   the store tallied, with counts and the end written

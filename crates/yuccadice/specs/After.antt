@@ -1,5 +1,4 @@
 -- What the functions of the library answer, and what they leave where a result is handed back.
---   valueAfter a new old   a lent number after the answer a: the new one where it is accepted, as it was where it is not
 --   cutAnswer p digits     the cutting call: 15 where the table is too short, then 6 above 63
 --   fetchedCode f, fetchedLength old f    fetching: the number; the message's length, 0 where there is none to send
 --   progressCode p                        a part's stage: the number
