@@ -1,7 +1,7 @@
 -- What the rounds have in common.
 --   Wholes l           all other parts' messages of the round are taken
--- Laws: ends-known (the ends that are counted), head-running, head-done (the header with another round), even-round, odd-round, last-counts,
--- last-round (which work a round begins with), set-reset (setting the round).
+-- Laws: ends-known (the ends that are counted), head-running, head-done (the header with another round), no-result (while running),
+-- even-round, odd-round, last-counts, last-round (which work a round begins with), set-reset (setting the round).
 use mathlib.Core.Path.{_≡_, refl, sym, _∙_, ap, ap₂, subst}
 use mathlib.Core.Logic.{_⊎_, inl, inr, _≢_}
 use mathlib.Core.Bool.{Bool, true, false, _&&_, _||_, not, or-false}
