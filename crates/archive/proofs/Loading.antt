@@ -1,6 +1,6 @@
 -- Loading the marks and steps of an archive in the form.
 --   ok-inside       bytes that end well are not out
---   mark-next, step-next, end-next   the letter M, G or E tells which record stands there
+--   mark-next, step-next   the letter tells which record stands there
 --   since-fits      marks that wait for their step's end are among those of the steps to come
 --   marks-room, steps-room   the marks and steps so far are among all
 --   on-all          at the end, all steps are done

@@ -1,5 +1,4 @@
 -- An i32 from its 32 bits.
---   minus-fits        -1 less a number below 2 ^ 31 is an i32
 --   low, high    the two halves
 -- The 32 bits of an i32.
 --   under z      n where z is -1 - n; under-fits, under-is, under-small, under-bits where z is below 0

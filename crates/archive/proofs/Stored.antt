@@ -1,6 +1,6 @@
 -- The whole archive of flat tables.
 --   corner-places, cell-places   where the corners' and the cells' records end
---   steps-room, corners-room, cells-room   there is room for each part
+--   steps-room      there is room for the steps
 --   stored-all, stored-length    the three parts are the archive
 -- Assumes nothing.
 use mathlib.Core.Path.{_≡_, _∙_, ap}

@@ -2,7 +2,7 @@
 --   then-sets       stores behind stores are one run
 --   two-bytes, wide-bytes   a number's bytes, as the code stores them
 --   corner-stores, cell-stores, mark-stores   the records
---   corner-turn, cell-turn   one record more
+--   corners-turn, cells-turn   one record more
 -- Assumes nothing.
 use mathlib.Core.Path.{_≡_, refl, sym, _∙_, ap}
 use mathlib.Core.List.{List, [], _∷_, _++_, append-assoc}

@@ -1,6 +1,5 @@
--- Some element of a list passes a test, by its place; and the six edges of a cell by their numbers.
--- Laws: or-first, or-second, and-both (tests), any-place, any-at (an element that passes), all-each, all-pass (each element passes),
--- edge-at, edge-count (the edges of a cell), held-which, held-at (an edge that a cell has).
+-- The six edges of a cell by their numbers.
+-- Laws: edge-at, edge-count (the edges of a cell), held-which, held-at (an edge that a cell has).
 use mathlib.Core.Path.{_≡_, refl}
 use mathlib.Core.Bool.{Bool}
 use Prim.Native.Nat.{ℕ, _<_}

@@ -1,5 +1,5 @@
 -- The slots that the code writes are those of the table.
--- Laws: keys-are (the edges of a level), starts-are (the first slots), slot-is and slot-small (the slots).
+-- Laws: keys-are (the edges of a level), starts-are (the first slots), slot-is and slots-small (the slots).
 use mathlib.Core.Path.{_≡_, refl, sym, _∙_, ap, ap₂}
 use mathlib.Core.List.{List, [], _∷_, _++_, map, flatMap}
 use Prim.Native.Nat.{ℕ, zero, suc, _+_, _-_, _*_, _/_, _%_, _≤_, _<_}

@@ -1,6 +1,6 @@
 -- What the rows of a sound table say of each cell by its number.
 --   Table n qs ss t ks    t has the rows of the sound table ss, ks the numbers of first children
--- Laws: cells-are, level-is, parent-is, number-is, regular-is, edge-is, edges-are (the rows), first-is, first-step, first-most (first
+-- Laws: cell-is, level-is, parent-is, number-is, regular-is, edge-is, edges-are (the rows), first-step, first-top (first
 -- children), below-step (levels), kids-range, family-is, owners-are (families), upward (parents), place-is, inner-is (the rest).
 use mathlib.Core.Path.{_≡_, refl, sym, _∙_, ap, ap₂, subst}
 use mathlib.Core.Logic.{_⊎_, inl, inr}

@@ -1,7 +1,5 @@
 -- The calls on a status table over a coarse mesh: what each answers, and what the lent tables hold after (docs/METHOD.md, rules 12.6
 -- to 12.10). A mesh is ps and ts, a table ss.
---   tableAnswer ps ts ss     a mesh and a table: accepted, or 1 to 6
---   heldAfter a new old      a lent table after the answer a: changed in front where it is accepted, as it was where it is not
 --   layoutAnswer ..          laying out: 15 where a table is too short, then 1 to 6; laidOf, sizesOf, its result
 --   ancestorAnswer ..        a cell's ancestor: 1 to 6, then 7 where there is no such cell; ancestryOf its result
 --   countsAnswer ..          counts: 15, then 1 to 6; countedOf its result

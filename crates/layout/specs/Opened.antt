@@ -1,6 +1,4 @@
 -- What opening a table leaves. A refusal is a number, and 0 stands for none.
---   codeOf a      the number of an answer
---   answerOf k    the answer of a number
 --   Fits ..       an accepted mesh and a sound table: the rows of its cells, and the ends of its new corners
 --   Opened ..     the answer, and where there is no refusal the rest
 use mathlib.Core.Path.{_≡_}

@@ -1,7 +1,7 @@
 -- A sound table from one of its levels on.
 --   Rest m ss fs ms h k cs rs   the cells cs, numbered from k on, are a level of the sound table ss over m coarse cells with flags fs
 --                               for marks ms; at most h levels are left, and rs is the rest of the table
--- Laws: sizes-append, rest-start (the coarse level), rest-next (one level up), rest-up (this level and the one above it),
+-- Laws: rest-start (the coarse level), rest-next (one level up), rest-up (this level and the one above it),
 -- rest-flagged (the flags of a level).
 use mathlib.Core.Path.{_≡_, refl, sym, _∙_, ap}
 use mathlib.Core.Bool.{Bool, _&&_}

@@ -3,7 +3,7 @@
 --   Follows c s     s may be the status of c
 --   Refined cs ss   so for each cell
 -- Laws: status-refined (a level that a step makes), closed-follows and closed-refined (a closed level), refined-red,
--- pattern-below (the pattern of a cell).
+-- pattern-in-six (the pattern of a cell).
 use mathlib.Core.Path.{_≡_, refl}
 use mathlib.Core.Logic.{_≢_}
 use mathlib.Core.Bool.{Bool, true, false}

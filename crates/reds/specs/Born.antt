@@ -1,5 +1,5 @@
 -- The cells one level up, by their places: each has the cell as its parent under which it stands.
--- Laws: born (the parent of a cell of `next`), sizes-append, sizes-next (how many cells there are).
+-- Laws: born (the parent of a cell of `next`), sizes-next (how many cells there are).
 -- Assumes nothing.
 use mathlib.Core.Path.{_≡_, refl, _∙_, ap}
 use mathlib.Core.Bool.{Bool, true, false}

@@ -8,7 +8,6 @@
 --   nextOf n es k cs ss  the cells one level up of cs, numbered from k, with statuses ss
 --   childRows l k r f i ds  the rows of children on level l of the cell k, from child number i on
 --   rowsOf l k s f       the rows of the whole family, where f gives the point of a digit
---   sizeOf s             how many children a cell with status s has; sizes ss, of a list
 use mathlib.Core.Bool.{Bool, true, false}
 use mathlib.Core.List.{List, [], _∷_, _++_, map}
 use Prim.Native.Nat.{ℕ, zero, suc, _+_, _*_}

@@ -1,7 +1,7 @@
 -- A level's edges numbered one by one.
 --   Run ..    the edges of the level before i are numbered
 -- Laws: entry-small (an entry is a small number), one-more (what inserting an edge leaves), run-start, run-more, run-done (a level),
--- next-level, all-levels (level by level).
+-- going-start, going-more, all-levels (level by level).
 use mathlib.Core.Path.{_≡_, refl, sym, _∙_, ap}
 use mathlib.Core.Logic.{_⊎_, ⊎-elim}
 use mathlib.Core.Bool.{true}

@@ -1,7 +1,7 @@
 -- The cells of a whole table by level and place.
 --   RedAt n qs ss j e       a red cell of the level j has the edge e
 --   RedSomewhere n qs ss e  a red cell of some level has it
--- Laws: default-free (an element that is there), spot-at, spot-with (by level and place, and by number), parent-is (a cell's parent,
+-- Laws: spot-at, spot-with (by level and place, and by number), parent-is (a cell's parent,
 -- among all cells), red-level (a red cell that has an edge), coarse-level (coarse cells are regular).
 use mathlib.Core.Path.{_≡_, sym, _∙_, ap}
 use mathlib.Core.Bool.{true}

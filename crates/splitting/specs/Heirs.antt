@@ -1,6 +1,6 @@
 -- The owners after a step: from accepted owners of a table come accepted owners of any table over the same mesh.
 --   Under l m                the coarse cell of the path l, which is below m
---   ts, ownersAfter os ts    a table, and its owners by rule 15 of the method
+--   ts                       a table; its owners are `ownersAfter` (rule 15.13)
 -- Laws: owner-snoc (a child has its family's owner), under (each cell lies under a coarse one), heir-number and heir-owner (the owner of a
 -- cell by its path), heir-child and heir-family (the owner of a cell's children), owner-in and number-in (owners are those of parts), heirs
 -- (the theorem), heirs-admissible (A1 to A6 afterwards).

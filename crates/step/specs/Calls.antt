@@ -1,9 +1,5 @@
 -- The step's call: what it answers, and what the lent table holds after (docs/METHOD.md, sections 7 and 12). A mesh
 -- is ps and ts, the old table ss, the marks ms.
---   markb s m              the mark m may stand at a cell with status s
---   marksb ss ms           refusal 7: the marks fit the table
---   newTable n qs ss ms    the new table, without the limits
---   limitsAnswer ..        8 where a level above 10 would arise, 9 where more than 4,096 cells would
 --   stepAnswer ..          15, then 1 to 9
 --   steppedOf a k          the call's answer, where the new table has k cells
 use mathlib.Core.List.{List}
