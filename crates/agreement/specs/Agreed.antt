@@ -1,9 +1,9 @@
 -- What any lawful list of calls on the stores of a split comes to: the theorem of the exchange, said of the stores.
 --   splitStore p, world      the stores of the split
 --   inputOf cs p             the marks that the calls start a part with; 0 for each master where they do not
--- Laws: done-phase and phase-done (a done part is one past the last round), at-end (what a
--- done part's store stands for), stays-done, moves-most, moves-on and completed (what can be called next), all-fetched (where a part has
--- none to send).
+-- Laws: done-phase and phase-done (a done part is one past the last round), at-end (what a done part's store stands for), starts-taken
+-- (which starts are accepted), moves-most, moves-on and completed (what can be called next), all-fetched (where a part has none to send),
+-- all-phases and phases-all (all parts say that they are done just where all are past the last round).
 use mathlib.Core.Path.{_≡_, refl, sym, _∙_, ap, ap₂, subst}
 use mathlib.Core.Logic.{_⊎_, inl, inr, _≢_}
 use mathlib.Core.Bool.{Bool, true, false}
@@ -20,15 +20,17 @@ use Rattle.base.specs.Every.{getD-map, all-each}
 use Rattle.base.specs.Lists.{allb-at}
 use Rattle.base.specs.Fours.{fours}
 use Rattle.base.specs.Range.{range, length-range, range-at}
-use Rattle.base.specs.declared.Answer.the-variants.{Accepted}
+use Rattle.base.specs.declared.Answer.{Answer}
+use Rattle.base.specs.declared.Answer.the-variants.{Accepted, Refused}
 use Rattle.mesh.specs.Coarse.{cornerCount}
-use Rattle.exchange.specs.Calls.{Fetch, Call, World, play, moves, startedWith, Lawful}
+use Rattle.mesh.specs.Answers.{markb}
+use Rattle.exchange.specs.Calls.{Start, Fetch, Call, World, play, moves, acceptsb, startedWith, Lawful}
 use Rattle.exchange.specs.Finite.{parts}
 use Rattle.exchange.specs.Protocol.{Alone, Machine, Protocol}
 use Rattle.exchange.specs.Lockstep.{lock, mailCount, post, local}
 use Rattle.exchange.specs.Played.{play-length}
 use Rattle.exchange.specs.Begun.{first-fine}
-use Rattle.exchange.specs.Theorem.{Can, Allowed, deterministic, begun-with, result, done-stays, moves-few, completion, all-given}
+use Rattle.exchange.specs.Theorem.{Can, Allowed, deterministic, begun-with, result, moves-few, completion, all-given}
 use Rattle.exchange.specs.Theorem.{onward as moved-on}
 use Rattle.rounds.specs.Rounds.{Body, end, State, phase}
 use Rattle.rounds.specs.Task.{Task}
@@ -36,7 +38,7 @@ use Rattle.rounds.specs.Rounded.{protocol, overb, phase-marks, phase-counts, ph
 use Rattle.rounds.specs.Turns.{Turn, in-marks, in-counts, in-totals, in-over, turn-of}
 use Rattle.rounds.specs.Upward.{ups}
 use Rattle.rounds.specs.Bound.{callsMost, calls-few}
-use Rattle.parts.specs.Starts.{placeOn}
+use Rattle.parts.specs.Starts.{startb, placeOn}
 use Rattle.merging.specs.Totals.{grownOf}
 use Rattle.store.specs.Fields.{field, STAGE, ROUND}
 use Rattle.split.specs.Split.{splitAnswer, splitAfter}
@@ -45,12 +47,15 @@ use Rattle.standing.specs.Busy.{pack, L}
 use Rattle.entering.specs.Fits.{Fitted}
 use Rattle.entering.specs.Entered.{Stay}
 use Rattle.entering.specs.Standing.{Idle, Standing}
+use Rattle.entering.specs.Begins.{start-yes, start-fine}
 use Rattle.tasks.specs.Holders.{splitTask}
 use Rattle.tasks.specs.Accepted.{Splits, splits-from, split-store, split-columns, split-bound}
-use Rattle.outcome.specs.Program.{act}
+use Rattle.turns.specs.Start.{startAnswer, startAfter}
+use Rattle.outcome.specs.Program.{yields, act}
 use Rattle.outcome.specs.Limited.{fitting-of}
 use Rattle.outcome.specs.Machines.{machine, alone, phaseOf}
-use Rattle.agreement.specs.Terms.{Calls, Stores, storesOf, afterSplit, alldoneb}
+use Rattle.agreement.specs.Terms.{Calls, Stores, storesOf, afterSplit, saysOf, doneb, alldoneb}
+use Rattle.agreement.specs.Says.{says-stage, says-so}
 use Rattle.agreement.specs.Exchanges.{fit, reads, takes, reads-mark, first-idle, wanted, wanted-fit}
 
 -- a store of the parts by its number
@@ -67,6 +72,13 @@ stores-length P b = length-map (range 0 P) (storeAt b) ∙ length-range 0 P
 -- a store that stands as it stood
 stay-self : (x : List ℕ) → Stay x x
 stay-self x = record { size = refl; else = λ i h. refl }
+
+-- an answer that is accepted just where a test passes
+accepts-by : (a : Answer) (y : List ℕ) (b : Bool) → (b ≡ true → a ≡ Accepted) → (a ≡ Accepted → b ≡ true) → acceptsb act (yields a y) ≡ b
+unfolding yields acceptsb
+accepts-by Accepted y b f g = sym (g refl)
+accepts-by (Refused k) y true f g = let e = f refl in let z : _≡_ {A = ℕ} 0 1 = cc in absurd (omega arith)
+accepts-by (Refused k) y false f g = refl
 
 -- the last round
 over-last : (top r : ℕ) → r ≤ suc (suc (suc (top + top))) → overb (phase top r) ≡ true → r ≡ suc (suc (suc (top + top)))
@@ -204,8 +216,38 @@ module _ (ps : List ℤ) (ts ss : List ℕ) (Q : ℕ) (os b : List ℕ) (e : spl
     unfolding overb
     phase-done p h = let (f, t, s) = at-end p h in t .busy .done (ap overb (phase-over (J .top)))
 
+    done-says : (p : Fin (suc Q)) → phaseOf (storeOf cs p) ≡ suc (R .rounds) → doneb (saysOf (storeOf cs p)) ≡ true
+    done-says p h =
+        let (f, t, s) = at-end p h in
+        says-so (storeOf cs p) (t .busy .long) (t .busy .header) (phase-done p h)
+
     pub input-fine : (p : Fin (suc Q)) → takes Q n qs ss os g p (inputOf cs p) ≡ true
     input-fine p = fine cs p
+
+    -- WHICH STARTS ARE ACCEPTED: a part that was not started takes the marks of its masters, and no others
+    pub starts-taken : (p : Fin (suc Q)) → startedWith act cs world (p .0) ≡ none → (ms : List ℕ)
+        → acceptsb act (act (Start ms) (storeOf cs p)) ≡ startb markb ss os (suc (p .0)) ms
+    unfolding act
+    starts-taken p h ms =
+        go (deterministic (suc Q) R M (Fitted (suc Q) J) Fi A (inputOf cs) (fine cs) end [] [] (good cs) world all idle refl cs allowed p)
+      where
+        go : M .Idle p (storeOf cs p)
+            ⊎ ((r : ℕ) × (k : Fin (suc Q) → ℕ) × (f : ℕ) × Can (parts (suc Q)) R (inputOf cs) p r k f
+            × M .Busy p (local (parts (suc Q)) R (inputOf cs) p r k f) (storeOf cs p)
+            × ((j : ℕ) → j < f → List·Memᴰ (getD (post (parts (suc Q)) R (inputOf cs) (suc (R .rounds)) p) j [])
+            (play act cs world .given)))
+            → acceptsb act (act (Start ms) (storeOf cs p)) ≡ startb markb ss os (suc (p .0)) ms
+        go (inl (i, s)) =
+            let x = storeOf cs p in
+            accepts-by (startAnswer x ms) (startAfter x ms) (takes Q n qs ss os g p ms)
+            (λ f. start-yes x ms (i .columns .long) (i .header) (i .stage) (i .marks ms ∙ f))
+            (λ f. sym (i .marks ms) ∙ start-fine x ms (i .columns .long) (i .header) (i .stage) f)
+        go (inr (r, k, f, c, t, v)) =
+            let b = A .phase-busy p (local (parts (suc Q)) R (inputOf cs) p r k f) (storeOf cs p) t in
+            let w = begun-with (suc Q) R M (Fitted (suc Q) J) Fi A (inputOf cs) (fine cs) end [] [] (good cs) world all idle refl cs allowed p
+            (omega (arith, b)) in
+            let z : _≡_ {A = ℕ} 0 1 = cc in
+            absurd (omega arith)
 
     -- THE BOUND
     pub moves-most : moves act cs world ≤ callsMost (suc Q) (length ss)
@@ -252,31 +294,21 @@ module _ (ps : List ℤ) (ts ss : List ℕ) (Q : ℕ) (os b : List ℕ) (e : spl
             → List·Memᴰ m (play act cs world .given))
             (sym (t .0 .busy .round)) v
 
-  -- DONE STAYS
-  pub stays-done : (cs ds : Calls) → Lawful act cs world → Lawful act (cs ++ ds) world → (p : Fin (suc Q)) → field (storeOf cs p) STAGE ≡ 2
-      → field (storeOf (cs ++ ds) p) STAGE ≡ 2
-  stays-done cs ds a b p d =
-      let (u, v) =
-      done-stays (suc Q) R M (Fitted (suc Q) J) Fi A (inputOf (cs ++ ds)) (fine (cs ++ ds)) end [] [] (good (cs ++ ds)) world all idle refl
-      cs ds (allowed (cs ++ ds) b) p in
-      phase-done (cs ++ ds) b p (omega (arith, u, v, done-phase cs a p d))
-
   -- all parts are done, as the stores say and by the rounds
-  many-now : (cs : Calls) → length (play act cs world .stores) ≡ suc Q
+  pub many-now : (cs : Calls) → length (play act cs world .stores) ≡ suc Q
   many-now cs = play-length act cs world ∙ all
 
   pub all-phases : (cs : Calls) → Lawful act cs world → T (alldoneb (play act cs world))
       → (p : Fin (suc Q)) → phaseOf (storeOf cs p) ≡ suc (R .rounds)
   unfolding alldoneb
   all-phases cs h t p =
-      done-phase cs h p (eqb→eq (field (storeOf cs p) STAGE) 2
-      (allb-at (λ x. eqb (field x STAGE) 2) [] (play act cs world .stores) t (p .0)
+      done-phase cs h p (says-stage (storeOf cs p)
+      (allb-at (λ x. doneb (saysOf x)) [] (play act cs world .stores) t (p .0)
       (subst (λ (k : ℕ). p .0 < k) (sym (many-now cs)) (p .1))))
 
   pub phases-all : (cs : Calls) → Lawful act cs world → ((p : Fin (suc Q)) → phaseOf (storeOf cs p) ≡ suc (R .rounds))
       → T (alldoneb (play act cs world))
   unfolding alldoneb
   phases-all cs h d =
-      all-each (λ x. eqb (field x STAGE) 2) [] (play act cs world .stores)
-      (λ i l. let k : i < suc Q = omega (arith, l, many-now cs) in
-      rw (eq-eqb (field (storeOf cs (i, k)) STAGE) 2 (phase-done cs h (i, k) (d (i, k)))) tt)
+      all-each (λ x. doneb (saysOf x)) [] (play act cs world .stores)
+      (λ i l. let k : i < suc Q = omega (arith, l, many-now cs) in rw (done-says cs h (i, k) (d (i, k))) tt)

@@ -1,4 +1,5 @@
 pub mod Terms
+pub mod Says
 pub mod Exchanges
 pub mod Agreed
 pub mod Outcomes

@@ -1,6 +1,6 @@
 -- What all parts of a split come to when they are done.
--- Laws: serial-is (the serial step's answer from the limits), result-is (each part ended with its number), held-new (what a part holds
--- where the step is accepted), held-old (where it is not).
+-- Laws: any-marks (serial marks can be started with), serial-is (the serial step's answer from the limits), result-is (each part ended
+-- with its number), says-accepted and says-refused (and says so), held-new (what a part holds where the step is accepted), held-old (where it is not).
 use mathlib.Core.Path.{_≡_, refl, sym, _∙_, ap, ap₂, subst}
 use mathlib.Core.Logic.{_⊎_, inl, inr, _≢_}
 use mathlib.Core.Bool.{Bool, true, false, _&&_, not}
@@ -12,7 +12,9 @@ use lib.ListN.{length, getD, take}
 use lib.Seq.{take-all}
 use lib.IntN.{ℤ}
 use borrow.Author.Tests.{lt-ltb, eq-eqb}
-use Rattle.base.specs.Bools.{is-true, not-both}
+use Rattle.base.specs.Bools.{and-right, and-both, is-true, not-both}
+use Rattle.base.specs.Every.{All}
+use Rattle.base.specs.Each.{all-filter}
 use Rattle.base.specs.Fours.{fours}
 use Rattle.base.specs.Range.{range}
 use Rattle.base.specs.Refuse.{refuse, andThen, codeOf, passed, both}
@@ -30,9 +32,9 @@ use Rattle.rounds.specs.Totals.{enough-last}
 use Rattle.rounds.specs.Upward.{ups}
 use Rattle.parts.specs.Owners.{nthCell, familyOf}
 use Rattle.parts.specs.Held.{Entry, masterb, ghostb, entryOf, entriesOf}
-use Rattle.parts.specs.Starts.{eachb, startb, placeOn, putTogether}
+use Rattle.parts.specs.Starts.{mastersOn, eachb, startb, placeOn, putTogether, marksOn}
 use Rattle.soundness.specs.Sound.{sound-parts}
-use Rattle.splitting.specs.Starts.{together-fits}
+use Rattle.splitting.specs.Starts.{each-at, together-is, together-fits}
 use Rattle.shares.specs.Grow.{entries, entryBy}
 use Rattle.shares.specs.Settled.{Settled, entriesIn}
 use Rattle.merging.specs.Limits.{endOf}
@@ -49,11 +51,13 @@ use Rattle.tasks.specs.Edges.{slotsOn}
 use Rattle.tasks.specs.Holders.{splitTask, part-numbered, owner-ranged, family-ranged}
 use Rattle.tasks.specs.Accepted.{Splits, split-slots, split-store, split-table}
 use Rattle.held.specs.Held.{heldIn}
+use Rattle.held.specs.declared.Progress.the-variants as progress
 use Rattle.outcome.specs.Program.{act}
 use Rattle.outcome.specs.Machines.{phaseOf}
-use Rattle.agreement.specs.Terms.{Calls, marksGiven, serialMarks}
+use Rattle.agreement.specs.Terms.{Calls, marksGiven, serialMarks, saysOf}
+use Rattle.agreement.specs.Says.{says-done, says-ended}
 use Rattle.agreement.specs.Exchanges.{fit, reads, takes}
-use Rattle.agreement.specs.Agreed.{n, qs, g, splitStore, world, J, R, inputOf, storeOf, ending, at-end, input-fine}
+use Rattle.agreement.specs.Agreed.{n, qs, g, splitStore, world, J, R, inputOf, storeOf, ending, at-end, phase-done, input-fine}
 
 -- the test of all marks, said twice
 marks-each : (ss ms : List ℕ) → marksb ss ms ≡ eachb markb ss ms
@@ -62,6 +66,37 @@ marks-each [] [] = refl
 marks-each [] (m ∷ ms) = refl
 marks-each (s ∷ ss) [] = refl
 marks-each (s ∷ ss) (m ∷ ms) = ap (λ (b : Bool). markb s m && b) (marks-each ss ms)
+
+-- any marks that the serial step takes can be started with: each part gets those of its masters
+each-length : (ss ms : List ℕ) → T (eachb markb ss ms) → length ms ≡ length ss
+unfolding eachb
+each-length [] [] t = refl
+each-length [] (m ∷ ms) t = absurd t
+each-length (s ∷ ss) [] t = absurd t
+each-length (s ∷ ss) (m ∷ ms) t = ap suc (each-length ss ms (and-right (markb s m) (eachb markb ss ms) t))
+
+each-chosen : (ss ms l : List ℕ) → T (eachb markb ss ms) → All (λ c. c < length ss) l
+    → T (eachb markb (map (λ c. getD ss c 0) l) (map (λ c. getD ms c 0) l))
+unfolding eachb
+each-chosen ss ms [] t a = tt
+each-chosen ss ms (c ∷ l) t a =
+    and-both (markb (getD ss c 0) (getD ms c 0)) (eachb markb (map (λ c. getD ss c 0) l) (map (λ c. getD ms c 0) l))
+    (each-at markb ss ms t c (a .0)) (each-chosen ss ms l t (a .1))
+
+all-below : (m a b : ℕ) → a + m ≤ b → All (λ c. c < b) (range a m)
+unfolding range
+all-below zero a b h = tt
+all-below (suc m) a b h = (omega arith, all-below m (suc a) b (omega arith))
+
+pub any-marks : (ss os ms : List ℕ) → length os ≡ length ss → T (marksb ss ms)
+    → ((p : ℕ) → T (startb markb ss os p (marksOn os ms p))) × (putTogether os (marksOn os ms) ≡ ms)
+unfolding startb marksOn mastersOn
+any-marks ss os ms e t =
+    let u : T (eachb markb ss ms) = subst (λ (b : Bool). T b) (marks-each ss ms) t in (
+      λ p. each-chosen ss ms (mastersOn os p) u
+          (all-filter (masterb os p) (λ c. c < length ss) (range 0 (length os)) (all-below (length os) 0 (length ss) (omega arith))),
+      together-is os ms (each-length ss ms u ∙ sym e),
+    )
 
 -- the number of a result
 result-code : (t h : ℕ) → resultOf t h ≡ codeOf (endOf t h)
@@ -205,7 +240,19 @@ module _ (ps : List ℤ) (ts ss : List ℕ) (Q : ℕ) (os b : List ℕ) (e : spl
   pub result-is : (p : Fin (suc Q)) → field (x p) RESULT ≡ codeOf (markedAnswer ps ts ss ms)
   result-is p = holds p .0 ∙ result-code (last p .total) (last p .high) ∙ ap codeOf (ended-is p)
 
+  -- and says so
+  says : (p : Fin (suc Q)) → (field (x p) RESULT ≡ 0 → saysOf (x p) ≡ progress.Done)
+      × ((k : ℕ) → k ≢ 0 → field (x p) RESULT ≡ k → saysOf (x p) ≡ progress.Ended k)
+  says p =
+      let u = end-stands p .busy in
+      let s = phase-done ps ts ss Q os b e cs lawful p (done p) in
+      (says-done (x p) (u .long) (u .header) s, says-ended (x p) (u .long) (u .header) s)
+
   module _ (yes : markedAnswer ps ts ss ms ≡ Accepted) where
+    pub says-accepted : (p : Fin (suc Q)) → saysOf (x p) ≡ progress.Done
+    unfolding codeOf
+    says-accepted p = says p .0 (result-is p ∙ ap codeOf yes)
+
     pub limits : (length (stepTable nn cells ss ms) ≤ 11) × (length (newTable nn cells ss ms) ≤ 4096)
     unfolding limitsAnswer
     limits =
@@ -224,6 +271,10 @@ module _ (ps : List ℤ) (ts ss : List ℕ) (Q : ℕ) (os b : List ℕ) (e : spl
         share-few (parts (suc Q)) nn cells ss ms (gg .four) (gg .mesh) (gg .sound) (suc Q) os (gg .owners) (slotOf nn cells ss)
         (slotsOn nn cells ss) (split-slots Q nn cells ss os gg) (nthPart Q) numberOf (named Q) last known (limits .0) (limits .1) p in
         holds p .1 .0 z ∙ take-all 4096 (entriesIn X p) (omega (arith, few, limits .1))
+
+  pub says-refused : (k : ℕ) → markedAnswer ps ts ss ms ≡ Refused (suc k) → (p : Fin (suc Q)) → saysOf (x p) ≡ progress.Ended (suc k)
+  unfolding codeOf
+  says-refused k f p = says p .1 (suc k) (λ z. omega arith) (result-is p ∙ ap codeOf f)
 
   pub held-old : (k : ℕ) → markedAnswer ps ts ss ms ≡ Refused (suc k) → (p : Fin (suc Q))
       → heldIn (x p) ≡ entriesOf nn cells ss os (suc (p .0))

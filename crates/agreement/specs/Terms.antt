@@ -4,14 +4,14 @@
 --   marksGiven os cs w p   the marks that the calls cs started the part p with, from 1; 0 for each master where they did not start it
 --   serialMarks os cs w    these marks put together: what the serial step is given
 --   lastStore cs w p       the store of the part p, from 1, after the calls
---   messagesOf ..          what a part writes in its first r rounds, in lockstep with the others
---   alldoneb w             all parts are done
---   resultIn x             the number that a done part ended with: 0, 8 or 9
-use mathlib.Core.Bool.{Bool}
+--   saysOf x               what the call `stage` answers for the store x
+--   doneb d                the answer d says that the part is done
+--   alldoneb w             all parts say so
+--   messagesOf P .. r p    what the part p of P, from 1, writes in its first r rounds, in lockstep with the others
+use mathlib.Core.Bool.{Bool, true, false}
 use mathlib.Core.Option.{Option, none, some, Option·elim}
 use mathlib.Core.List.{List, [], map}
-use Prim.Native.Nat.{ℕ, suc, pred, Fin}
-use lib.Dec.{eqb}
+use Prim.Native.Nat.{ℕ, zero, suc, pred}
 use lib.ListN.{length, getD, replicate}
 use Rattle.base.specs.Lists.{allb}
 use Rattle.base.specs.Range.{range}
@@ -22,11 +22,13 @@ use Rattle.exchange.specs.Lockstep.{post}
 use Rattle.rounds.specs.Rounded.{protocol}
 use Rattle.rounds.specs.Upward.{ups}
 use Rattle.merging.specs.Totals.{grownOf}
-use Rattle.merging.specs.Run.{marksFrom}
+use Rattle.merging.specs.Run.{nthPart, marksFrom}
 use Rattle.standing.specs.Busy.{pack}
 use Rattle.tasks.specs.Holders.{splitTask}
-use Rattle.store.specs.Fields.{field, STAGE, RESULT}
 use Rattle.split.specs.Stored.{storeAt}
+use Rattle.held.specs.Held.{stageAnswer, stageOf, progressOf}
+use Rattle.held.specs.declared.Progress.{Progress}
+use Rattle.held.specs.declared.Progress.the-variants as progress
 use Rattle.outcome.specs.Program.{act}
 
 -- a call on a store takes marks or bytes
@@ -58,18 +60,27 @@ serialMarks os cs w = putTogether os (marksGiven os cs w)
 abbrev pub lastStore : Calls → Stores → ℕ → List ℕ
 lastStore cs w p = getD (play act cs w .stores) (pred p) []
 
+-- Rule 15.11.
+unfoldable pub saysOf : List ℕ → Progress
+unfolding progressOf stageAnswer stageOf
+saysOf x = progressOf (stageAnswer x) (stageOf x)
+
+-- Rules 15.10, 15.11: done, or done with 8 or 9
+unfoldable pub doneb : Progress → Bool
+doneb (progress.Running r) = false
+doneb progress.Done = true
+doneb (progress.Ended k) = true
+doneb (progress.Refused k) = false
+
 -- Rule 15.18.
 unfoldable pub alldoneb : Stores → Bool
-unfolding allb
-alldoneb w = allb (λ x. eqb (field x STAGE) 2) (w .stores)
+unfolding allb saysOf doneb
+alldoneb w = allb (λ x. doneb (saysOf x)) (w .stores)
 
--- Rule 15.10.
-abbrev pub resultIn : List ℕ → ℕ
-resultIn x = field x RESULT
-
--- Rule 15.8: the rounds of a split over Q + 1 parts, and the messages of the part p, from 0, in the first r of them; part p starts with
--- given p
-abbrev pub messagesOf : (Q n : ℕ) → List (List ℕ) → List ℕ → List ℕ → (Fin (suc Q) → List ℕ) → ℕ → Fin (suc Q) → List (List ℕ)
-messagesOf Q n qs ss os given r p =
+-- Rule 15.8: the rounds in lockstep, where the part p starts with given p; docs/PARTS.md says what is written in each
+unfoldable pub messagesOf : (P n : ℕ) → List (List ℕ) → List ℕ → List ℕ → (ℕ → List ℕ) → ℕ → ℕ → List (List ℕ)
+unfolding post
+messagesOf zero n qs ss os given r p = []
+messagesOf (suc Q) n qs ss os given r p =
     post (parts (suc Q)) (protocol (parts (suc Q)) (splitTask Q n qs ss os) (grownOf (parts (suc Q)) (splitTask Q n qs ss os)) (ups (suc Q))
-    (pack (suc Q) (splitTask Q n qs ss os)) (λ p ms c. marksFrom os (λ o. ms) p c)) given r p
+    (pack (suc Q) (splitTask Q n qs ss os)) (λ q ms c. marksFrom os (λ o. ms) q c)) (λ q. given (suc (q .0))) r (nthPart Q p)

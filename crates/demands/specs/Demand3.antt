@@ -25,32 +25,39 @@ use Rattle.base.specs.Refuse.{refuse, andThen, passed, both, codeOf, heldAfter}
 use Rattle.base.specs.declared.Answer.the-variants.{Accepted, Refused}
 use Rattle.mesh.specs.Coarse.{cornerCount}
 use Rattle.mesh.specs.Step.{stepTable}
-use Rattle.mesh.specs.Answers.{tableAnswer, newTable, limitsAnswer, markedAnswer}
-use Rattle.exchange.specs.Calls.{Fetch, Call, play, moves, Lawful}
+use Rattle.mesh.specs.Answers.{tableAnswer, markb, marksb, newTable, limitsAnswer, markedAnswer}
+use Rattle.exchange.specs.Calls.{Start, Call, play, moves, acceptsb, startedWith, Lawful}
+use Rattle.exchange.specs.Played.{play-append}
+use Rattle.exchange.specs.Lockstep.{post}
 use Rattle.exchange.specs.Finite.{parts}
 use Rattle.rounds.specs.Bound.{callsMost}
 use Rattle.parts.specs.Owners.{nthCell, familyOf, ownersb, ownersAfter}
 use Rattle.parts.specs.Held.{Entry, masterb, ghostb, entriesOf}
-use Rattle.splitting.specs.Admissible.{Admissible}
+use Rattle.parts.specs.Starts.{startb, putTogether, marksOn}
+use Rattle.splitting.specs.Admissible.{Admissible, owners-counted}
 use Rattle.shares.specs.Flat.{NoTwice}
 use Rattle.merging.specs.Result.{just-held, held-each-once, owners-after, coarse-owner, family-same, family-new, admissible-before}
 use Rattle.merging.specs.Result.{admissible-after}
 use Rattle.merging.specs.Run.{nthPart, numberOf, named}
-use Rattle.store.specs.Fields.{field, full, STAGE, COARSE, ROUND}
+use Rattle.store.specs.Fields.{field, full, COARSE, ROUND}
+use Rattle.store.specs.Fetch.{fetchAnswer}
+use Rattle.store.specs.declared.Fetched.the-variants.{Nothing}
 use Rattle.split.specs.Columns.{slotOf}
 use Rattle.split.specs.Split.{splitAnswer, splitAfter}
 use Rattle.held.specs.Held.{heldIn}
+use Rattle.held.specs.declared.Progress.the-variants.{Done, Ended}
 use Rattle.merge.specs.declared.Merged.the-variants.{Cells}
 use Rattle.merge.specs.Merge.{storesIn, mergeAnswer, mergeTable, mergedOf}
 use Rattle.joining.specs.Joint.{Order}
 use Rattle.tasks.specs.Edges.{slotsOn}
 use Rattle.tasks.specs.Holders.{splitTask}
 use Rattle.tasks.specs.Accepted.{Splits, splits-from, split-slots}
-use Rattle.outcome.specs.Program.{act}
+use Rattle.outcome.specs.Program.{nine, act}
 use Rattle.outcome.specs.Machines.{phaseOf}
-use Rattle.agreement.specs.Terms.{Calls, Stores, afterSplit, marksGiven, serialMarks, lastStore, alldoneb, resultIn, messagesOf}
-use Rattle.agreement.specs.Agreed.{R, storeOf, all-phases, phases-all, moves-on, completed, moves-most, stays-done, all-fetched}
-use Rattle.agreement.specs.Outcomes.{X, known, serial-is, result-is, limits, held-new, held-old}
+use Rattle.agreement.specs.Terms.{Calls, Stores, afterSplit, marksGiven, serialMarks, lastStore, saysOf, doneb, alldoneb, messagesOf}
+use Rattle.agreement.specs.Says.{Same, nothing-started, nothing-none, kept}
+use Rattle.agreement.specs.Agreed.{R, inputOf, storeOf, many-now, all-phases, phases-all, moves-on, completed, moves-most, starts-taken, all-fetched}
+use Rattle.agreement.specs.Outcomes.{X, any-marks, known, serial-is, says-accepted, says-refused, limits, held-new, held-old}
 use Rattle.agreement.specs.Merges.{merges-new, merges-old}
 
 -- the entries es are those of fs, each once
@@ -72,8 +79,8 @@ MergesTo stores ts = (t : List ℕ) → 4096 ≤ length t
 -- n coarse corners, qs coarse cells; the table ss with its owners os before, the table ts with its owners after; P parts
 module _ (n : ℕ) (qs : List (List ℕ)) (ss os : List ℕ) (P : ℕ) (cs : Calls) (w : Stores) where
   pub record Serial (ts : List ℕ) : Type 0 where
-    -- each part ended without a number, and holds just the masters and ghosts that the owners' rule and the serial table make
-    pub ended : (p : ℕ) → 1 ≤ p → p ≤ P → resultIn (lastStore cs w p) ≡ 0
+    -- each part says that it is done, and holds just the masters and ghosts that the owners' rule and the serial table make
+    pub ended : (p : ℕ) → 1 ≤ p → p ≤ P → saysOf (lastStore cs w p) ≡ Done
     pub held : (p : ℕ) → 1 ≤ p → p ≤ P → JustThese (heldIn (lastStore cs w p)) (entriesOf n qs ts (ownersAfter n qs ss os ts) p)
     -- put together, in any order of the stores, they are the serial table
     pub merges : (l : List ℕ) → Order P l → (rest : List ℕ) → 16 * full ≤ length (laid cs w l rest) → MergesTo (laid cs w l rest) ts
@@ -97,10 +104,10 @@ module _ (n : ℕ) (qs : List (List ℕ)) (ss os : List ℕ) (P : ℕ) (cs : Cal
     pub before : Admissible n qs ss P os
     pub after : Admissible n qs ts P (ownersAfter n qs ss os ts)
 
-  -- every part ended with the refusal's number and its old mesh
+  -- every part says that it is done with the refusal's number, and holds its old mesh
   pub record AsBefore (k : ℕ) : Type 0 where
     pub number : (k ≡ 8) ⊎ (k ≡ 9)
-    pub ended : (p : ℕ) → 1 ≤ p → p ≤ P → resultIn (lastStore cs w p) ≡ k
+    pub ended : (p : ℕ) → 1 ≤ p → p ≤ P → saysOf (lastStore cs w p) ≡ Ended k
     pub held : (p : ℕ) → 1 ≤ p → p ≤ P → heldIn (lastStore cs w p) ≡ entriesOf n qs ss os p
     pub merges : (l : List ℕ) → Order P l → (rest : List ℕ) → 16 * full ≤ length (laid cs w l rest) → MergesTo (laid cs w l rest) ss
 
@@ -117,15 +124,19 @@ pub record Split3 (ps : List ℤ) (ts ss : List ℕ) (P : ℕ) (os : List ℕ) (
   pub to-the-end : (ds : Calls) × Lawful act (cs ++ ds) w × T (alldoneb (play act (cs ++ ds) w))
   -- the calls that moved it on are at most 24 P + 2 P (P - 1) (7 m + 24), of m cells
   pub few : moves act cs w ≤ callsMost P (length ss)
-  -- done stays done
-  pub done-stays : (ds : Calls) → Lawful act (cs ++ ds) w → (p : ℕ) → 1 ≤ p → p ≤ P → field (lastStore cs w p) STAGE ≡ 2
-      → field (lastStore (cs ++ ds) w p) STAGE ≡ 2
-  -- a started part has none to send only when all that it has written, in the rounds up to its own, was fetched
-  pub none-to-send : (Q : ℕ) → P ≡ suc Q → (p : Fin (suc Q)) → field (lastStore cs w (suc (p .0))) STAGE ≢ 0
-      → act Fetch (lastStore cs w (suc (p .0))) ≡ none → (m : List ℕ)
-      → List·Memᴰ m (messagesOf Q (cornerCount ps) (fours ts) ss os (λ q. marksGiven os cs w (suc (q .0)))
-      (suc (field (lastStore cs w (suc (p .0))) ROUND)) p)
+  -- a part that says that it is done says and holds the same, whatever is called next
+  pub done-stays : (ds : Calls) (p : ℕ) → 1 ≤ p → p ≤ P → T (doneb (saysOf (lastStore cs w p)))
+      → Same (lastStore cs w p) (lastStore (cs ++ ds) w p)
+  -- a part has none to send only when all that it has written, in the rounds up to its own, was fetched
+  pub none-to-send : (p : ℕ) → 1 ≤ p → p ≤ P → fetchAnswer (lastStore cs w p) nine ≡ Nothing → (m : List ℕ)
+      → List·Memᴰ m (messagesOf P (cornerCount ps) (fours ts) ss os (marksGiven os cs w) (suc (field (lastStore cs w p) ROUND)) p)
       → List·Memᴰ m (play act cs w .given)
+  -- a part that was not started takes one mark for each of its masters, as the serial step would, and no others; and so any marks that
+  -- the serial step takes can be started with
+  pub starts : (p : ℕ) → 1 ≤ p → p ≤ P → startedWith act cs w (pred p) ≡ none → (ms : List ℕ)
+      → acceptsb act (act (Start ms) (lastStore cs w p)) ≡ startb markb ss os p ms
+  pub any-marks : (ms : List ℕ) → T (marksb ss ms)
+      → ((p : ℕ) → T (startb markb ss os p (marksOn os ms p))) × (putTogether os (marksOn os ms) ≡ ms)
 
 -- every accepted split, and every lawful list of calls on its stores, refused ones included
 abbrev pub Demand3 : Type 0
@@ -220,9 +231,9 @@ module _ (ps : List ℤ) (ts ss : List ℕ) (Q : ℕ) (os b : List ℕ) (e : spl
               (slotsOn n qs ss) (split-slots Q n qs ss os g) (nthPart Q) numberOf (named Q) st kn (lim .0) (lim .1);
         }
       where
-        result-by : (q : ℕ) → 1 ≤ q → q ≤ suc Q → markedAnswer ps ts ss marks ≡ Accepted → resultIn (lastStore cs w q) ≡ 0
+        result-by : (q : ℕ) → 1 ≤ q → q ≤ suc Q → markedAnswer ps ts ss marks ≡ Accepted → saysOf (lastStore cs w q) ≡ Done
         result-by zero a c ok = absurd (omega arith)
-        result-by (suc j) a c ok = result-is ps ts ss Q os b e cs lawful done (j, omega arith) ∙ ap codeOf ok
+        result-by (suc j) a c ok = says-accepted ps ts ss Q os b e cs lawful done ok (j, omega arith)
 
         held-by : (q : ℕ) → 1 ≤ q → q ≤ suc Q → markedAnswer ps ts ss marks ≡ Accepted
             → JustThese (heldIn (lastStore cs w q)) (entriesOf n qs (newTable n qs ss marks)
@@ -247,9 +258,9 @@ module _ (ps : List ℤ) (ts ss : List ℕ) (Q : ℕ) (os b : List ℕ) (e : spl
     unfolding codeOf
     as-before k f = go k f (limit-number n qs ss marks k (sym (serial-is ps ts ss Q os b e cs lawful done) ∙ f))
       where
-        ended : (k q : ℕ) → 1 ≤ q → q ≤ suc Q → markedAnswer ps ts ss marks ≡ Refused k → resultIn (lastStore cs w q) ≡ k
+        ended : (k q : ℕ) → 1 ≤ q → q ≤ suc Q → markedAnswer ps ts ss marks ≡ Refused (suc k) → saysOf (lastStore cs w q) ≡ Ended (suc k)
         ended k zero a c f = absurd (omega arith)
-        ended k (suc j) a c f = result-is ps ts ss Q os b e cs lawful done (j, omega arith) ∙ ap codeOf f
+        ended k (suc j) a c f = says-refused ps ts ss Q os b e cs lawful done k f (j, omega arith)
 
         held : (k q : ℕ) → 1 ≤ q → q ≤ suc Q → markedAnswer ps ts ss marks ≡ Refused (suc k)
             → heldIn (lastStore cs w q) ≡ entriesOf n qs ss os q
@@ -261,13 +272,13 @@ module _ (ps : List ℤ) (ts ss : List ℕ) (Q : ℕ) (os b : List ℕ) (e : spl
         go zero f (inr z) = absurd (omega (arith, z))
         go (suc k) f z = record {
           number = z;
-          ended = λ q a c. ended (suc k) q a c f;
+          ended = λ q a c. ended k q a c f;
           held = λ q a c. held k q a c f;
           merges = λ l o rest long. merges-old ps ts ss Q os b e cs lawful done k f l o rest long;
         }
 
   split3 : Split3 ps ts ss (suc Q) os w cs
-  unfolding marksGiven
+  unfolding marksGiven messagesOf
   split3 = record {
     accepted = serial;
     refused = as-before;
@@ -276,8 +287,10 @@ module _ (ps : List ℤ) (ts ss : List ℕ) (Q : ℕ) (os b : List ℕ) (e : spl
         let (ds, a, d) = completed ps ts ss Q os b e cs lawful in
         (ds, a, phases-all ps ts ss Q os b e (cs ++ ds) a d);
     few = moves-most ps ts ss Q os b e cs lawful;
-    done-stays = λ ds h q a c d. stays ds h q a c d;
-    none-to-send = λ R z p s f m i. sends R z p s f m i;
+    done-stays = λ ds q a c d. stays ds q a c d;
+    none-to-send = λ q a c f m i. sends q a c f m i;
+    starts = λ q a c f ms. starts q a c f ms;
+    any-marks = λ ms t. any-marks ss os ms (owners-counted n qs ss (suc Q) os (g .owners) .many) t;
   }
     where
       go : alldoneb (play act cs w) ≡ false
@@ -287,26 +300,27 @@ module _ (ps : List ℤ) (ts ss : List ℕ) (Q : ℕ) (os b : List ℕ) (e : spl
       go f (inl d) = not-both (alldoneb (play act cs w)) (is-true (alldoneb (play act cs w)) (phases-all ps ts ss Q os b e cs lawful d)) f
       go f (inr c) = c
 
-      stays : (ds : Calls) → Lawful act (cs ++ ds) w → (q : ℕ) → 1 ≤ q → q ≤ suc Q → field (lastStore cs w q) STAGE ≡ 2
-          → field (lastStore (cs ++ ds) w q) STAGE ≡ 2
-      stays ds h zero a c d = absurd (omega arith)
-      stays ds h (suc j) a c d = stays-done ps ts ss Q os b e cs ds lawful h (j, omega arith) d
+      stays : (ds : Calls) (q : ℕ) → 1 ≤ q → q ≤ suc Q → T (doneb (saysOf (lastStore cs w q)))
+          → Same (lastStore cs w q) (lastStore (cs ++ ds) w q)
+      stays ds q a c d =
+          subst (λ (v : Stores). Same (lastStore cs w q) (getD (v .stores) (pred q) [])) (sym (play-append act cs ds w))
+          (kept ds (play act cs w) (pred q) (omega (arith, a, c, many-now ps ts ss Q os b e cs)) d)
 
-      mine : (p : Fin (suc Q)) → field (lastStore cs w (suc (p .0))) STAGE ≢ 0
-          → act Fetch (lastStore cs w (suc (p .0))) ≡ none → (m : List ℕ)
-          → List·Memᴰ m (messagesOf Q n qs ss os (λ q. marksGiven os cs w (suc (q .0))) (suc (field (lastStore cs w (suc (p .0))) ROUND)) p)
+      sends : (q : ℕ) → 1 ≤ q → q ≤ suc Q → fetchAnswer (lastStore cs w q) nine ≡ Nothing → (m : List ℕ)
+          → List·Memᴰ m (messagesOf (suc Q) n qs ss os (marksGiven os cs w) (suc (field (lastStore cs w q) ROUND)) q)
           → List·Memᴰ m (play act cs w .given)
-      mine p s f = all-fetched ps ts ss Q os b e cs lawful p f s
+      sends zero a c f m i = absurd (omega arith)
+      sends (suc j) a c f m i =
+          let x = lastStore cs w (suc j) in
+          let p : Fin (suc Q) = (j, omega arith) in
+          all-fetched ps ts ss Q os b e cs lawful p (nothing-none x f) (nothing-started x f) m
+          (subst (λ (p : Fin (suc Q)). List·Memᴰ m (post (parts (suc Q)) (R ps ts ss Q os b e) (inputOf ps ts ss Q os b e cs)
+          (suc (field x ROUND)) p)) (named Q .back p) i)
 
-      sends : (R : ℕ) → suc Q ≡ suc R → (p : Fin (suc R)) → field (lastStore cs w (suc (p .0))) STAGE ≢ 0
-          → act Fetch (lastStore cs w (suc (p .0))) ≡ none → (m : List ℕ)
-          → List·Memᴰ m (messagesOf R n qs ss os (λ q. marksGiven os cs w (suc (q .0))) (suc (field (lastStore cs w (suc (p .0))) ROUND)) p)
-          → List·Memᴰ m (play act cs w .given)
-      sends R z =
-          subst (λ (k : ℕ). (p : Fin (suc k)) → field (lastStore cs w (suc (p .0))) STAGE ≢ 0
-          → act Fetch (lastStore cs w (suc (p .0))) ≡ none → (m : List ℕ)
-          → List·Memᴰ m (messagesOf k n qs ss os (λ q. marksGiven os cs w (suc (q .0))) (suc (field (lastStore cs w (suc (p .0))) ROUND)) p)
-          → List·Memᴰ m (play act cs w .given)) (omega (arith, z)) mine
+      starts : (q : ℕ) → 1 ≤ q → q ≤ suc Q → startedWith act cs w (pred q) ≡ none → (ms : List ℕ)
+          → acceptsb act (act (Start ms) (lastStore cs w q)) ≡ startb markb ss os q ms
+      starts zero a c f ms = absurd (omega arith)
+      starts (suc j) a c f ms = starts-taken ps ts ss Q os b e cs lawful (j, omega arith) f ms
 
 pub demand3 : Demand3
 demand3 ps ts ss zero os b e = absurd (no-parts ps ts ss os b e)

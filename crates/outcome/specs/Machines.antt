@@ -295,11 +295,11 @@ unfolding messageOf
 message-short p q k c v = omega (arith, length-append (headOf p q k c) (bodyOf c v), head-five p q k c, body-short c v)
 
 -- what is stored first is read again
-take-sets : (m out : List ℕ) → length m ≤ length out → take (length m) (sets out 0 m) ≡ m
+pub take-sets : (m out : List ℕ) → length m ≤ length out → take (length m) (sets out 0 m) ≡ m
 take-sets m out h =
     ap (take (length m)) (sets-eq m out 0 (omega arith)) ∙ take-append-seam m (drop (0 + length m) out)
 
-given-short : (x : List ℕ) → length (given x (nextToGive x)) ≤ 9
+pub given-short : (x : List ℕ) → length (given x (nextToGive x)) ≤ 9
 unfolding given
 given-short x = message-short (field x PART) (nextToGive x .bit + 1) (field x (GIVEN + nextToGive x .bit)) (codeAt x (nextToGive x .entry))
     (valueAt x (nextToGive x .entry))
