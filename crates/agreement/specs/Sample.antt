@@ -1,5 +1,5 @@
 -- Case B (section 14 of the method) on two parts, cell 0 with part 1 and its family with part 2: the rounds in lockstep, computed.
---   B           the split table as a task
+--   B           the split table as a task; Tied compares it with `splitTask`
 --   after ms p  what the part p knows after the last round, where the marks are ms; share what it then holds; mail what it wrote
 -- Laws: emptied and kept (all eight marked 2 leave part 2 empty, and the coarse cell a leaf), refined and divided (cell 1 marked 1 gives
 -- the masters of case C, and the coarse cell's ghost beside its family), told (the bytes that part 2 then writes for part 1).
@@ -36,6 +36,11 @@ use Rattle.parts.specs.Held.{Entry}
 use Rattle.parts.specs.Starts.{startb, putTogether}
 use Rattle.shares.specs.Grow.{entries, entryBy}
 use Rattle.merging.specs.Totals.{grownOf}
+use Rattle.mesh.specs.Table.{levelsOf}
+use Rattle.parts.specs.Owners.{nthCell, childrenOf, familyOf}
+use Rattle.splitting.specs.Numbers.{numbersOf}
+use Rattle.split.specs.Columns.{slotOf, keysAt}
+use Rattle.tasks.specs.Holders.{splitTask}
 use Rattle.merging.specs.Run.{marksFrom}
 use Rattle.store.specs.Hand.{numberAt}
 use Rattle.standing.specs.Busy.{pack}
@@ -70,6 +75,25 @@ B =
       owner = λ c. pt (getD (0 ∷ 1 ∷ 1 ∷ 1 ∷ 1 ∷ 1 ∷ 1 ∷ 1 ∷ 1 ∷ []) c 0);
       family = λ c. pt 1;
     }
+
+-- it is the task of the split table (the numbers of edges in slotsOfB are too long to compute here)
+ownersOfB : List ℕ
+ownersOfB = 1 ∷ replicate 8 2
+
+abbrev task : Task (Fin 2)
+task = splitTask 1 4 ((0 ∷ 1 ∷ 2 ∷ 3 ∷ []) ∷ []) (64 ∷ replicate 8 0) ownersOfB
+
+record Tied : Type 0 where
+  levels : task .top ≡ B .top
+  cells : map (task .cells) (0 ∷ 1 ∷ []) ≡ map (B .cells) (0 ∷ 1 ∷ [])
+  slots : map (task .slots) (0 ∷ 1 ∷ []) ≡ map (B .slots) (0 ∷ 1 ∷ [])
+  kids : task .kids 0 ≡ B .kids 0
+  owners : map (λ c. task .owner c .0) (range 0 9) ≡ map (λ c. B .owner c .0) (range 0 9)
+  family : task .family 0 .0 ≡ B .family 0 .0
+
+tied : Tied
+unfolding ownersOfB B pt slotsOfB pathsOfB family slotOf keysAt range childrenOf familyOf numbersOf nthCell levelsOf
+tied = record { levels = refl; cells = refl; slots = refl; kids = refl; owners = refl; family = refl }
 
 after : (ℕ → ℕ) → Fin 2 → State
 unfolding lock B
@@ -127,9 +151,6 @@ unfolding first mail B pt slotsOfB pathsOfB family fins Fin-discrete taking phas
 told = refl
 
 -- LISTS OF CALLS
-ownersOfB : List ℕ
-ownersOfB = 1 ∷ replicate 8 2
-
 abbrev rounds : Protocol (Fin 2) (List ℕ) Body (List ℕ) State
 rounds = protocol (parts 2) B (grownOf (parts 2) B) (ups 2) (pack 2 B) (λ p ms c. marksFrom ownersOfB (λ o. ms) p c)
 
