@@ -23,7 +23,6 @@ use Rattle.base.specs.Range.{range, length-range, range-at}
 use Rattle.base.specs.declared.Answer.{Answer}
 use Rattle.base.specs.declared.Answer.the-variants.{Accepted, Refused}
 use Rattle.mesh.specs.Coarse.{cornerCount}
-use Rattle.mesh.specs.Answers.{markb}
 use Rattle.exchange.specs.Calls.{Start, Fetch, Call, World, play, moves, acceptsb, startedWith, Lawful}
 use Rattle.exchange.specs.Finite.{parts}
 use Rattle.exchange.specs.Protocol.{Alone, Machine, Protocol}
@@ -226,7 +225,7 @@ module _ (ps : List ℤ) (ts ss : List ℕ) (Q : ℕ) (os b : List ℕ) (e : spl
 
     -- WHICH STARTS ARE ACCEPTED: a part that was not started takes the marks of its masters, and no others
     pub starts-taken : (p : Fin (suc Q)) → startedWith act cs world (p .0) ≡ none → (ms : List ℕ)
-        → acceptsb act (act (Start ms) (storeOf cs p)) ≡ startb markb ss os (suc (p .0)) ms
+        → acceptsb act (act (Start ms) (storeOf cs p)) ≡ startb ss os (suc (p .0)) ms
     unfolding act
     starts-taken p h ms =
         go (deterministic (suc Q) R M (Fitted (suc Q) J) Fi A (inputOf cs) (fine cs) end [] [] (good cs) world all idle refl cs allowed p)
@@ -236,7 +235,7 @@ module _ (ps : List ℤ) (ts ss : List ℕ) (Q : ℕ) (os b : List ℕ) (e : spl
             × M .Busy p (local (parts (suc Q)) R (inputOf cs) p r k f) (storeOf cs p)
             × ((j : ℕ) → j < f → List·Memᴰ (getD (post (parts (suc Q)) R (inputOf cs) (suc (R .rounds)) p) j [])
             (play act cs world .given)))
-            → acceptsb act (act (Start ms) (storeOf cs p)) ≡ startb markb ss os (suc (p .0)) ms
+            → acceptsb act (act (Start ms) (storeOf cs p)) ≡ startb ss os (suc (p .0)) ms
         go (inl (i, s)) =
             let x = storeOf cs p in
             accepts-by (startAnswer x ms) (startAfter x ms) (takes Q n qs ss os g p ms)

@@ -15,7 +15,7 @@ use lib.ListN.{length, getD, replicate, length-map}
 use borrow.Author.Tests.{eq-eqb, lt-ltb}
 use Rattle.base.specs.Bools.{is-true}
 use Rattle.base.specs.Range.{range}
-use Rattle.mesh.specs.Answers.{markb}
+use Rattle.mesh.specs.Answers.{markb, marksb}
 use Rattle.exchange.specs.Calls.{Call, World, startedWith}
 use Rattle.exchange.specs.Finite.{parts}
 use Rattle.exchange.specs.Exchange.{storeAt as storeIn}
@@ -24,7 +24,7 @@ use Rattle.rounds.specs.Tests.{Member}
 use Rattle.rounds.specs.Task.{Task, Fit}
 use Rattle.rounds.specs.Rounds.{mine}
 use Rattle.parts.specs.Held.{masterb}
-use Rattle.parts.specs.Starts.{mastersOn, eachb, startb, placeOn}
+use Rattle.parts.specs.Starts.{mastersOn, startb, placeOn}
 use Rattle.soundness.specs.Sound.{Sound, sound-parts}
 use Rattle.splitting.specs.Split.{fits, owners-fit}
 use Rattle.splitting.specs.Numbers.{number-inside}
@@ -48,13 +48,13 @@ mark-zero : (s : ℕ) → markb s 0 ≡ true
 unfolding markb
 mark-zero s = or-true (eqb s 0)
 
-zeros-fit : (ss : List ℕ) → eachb markb ss (replicate (length ss) 0) ≡ true
-unfolding eachb markb
+zeros-fit : (ss : List ℕ) → marksb ss (replicate (length ss) 0) ≡ true
+unfolding marksb
 zeros-fit [] = refl
 zeros-fit (s ∷ ss) = zero-fits s (zeros-fit ss)
   where
-    zero-fits : (s : ℕ) → eachb markb ss (replicate (length ss) 0) ≡ true
-        → (markb s 0 && eachb markb ss (replicate (length ss) 0)) ≡ true
+    zero-fits : (s : ℕ) → marksb ss (replicate (length ss) 0) ≡ true
+        → (markb s 0 && marksb ss (replicate (length ss) 0)) ≡ true
     zero-fits s e = ap₂ _&&_ (mark-zero s) e
 
 module _ (Q n : ℕ) (qs : List (List ℕ)) (ss os : List ℕ) (g : Splits Q n qs ss os) where
@@ -74,7 +74,7 @@ module _ (Q n : ℕ) (qs : List (List ℕ)) (ss os : List ℕ) (g : Splits Q n q
   reads p ms c = marksFrom os (λ o. ms) p c
 
   abbrev pub takes : Fin (suc Q) → List ℕ → Bool
-  takes p ms = startb markb ss os (suc (p .0)) ms
+  takes p ms = startb ss os (suc (p .0)) ms
 
   owner-is : (k c : ℕ) → Member c (J .cells k) → (p : Fin (suc Q)) → J .owner c ≡ p → (c < length os) × (getD os c 0 ≡ suc (p .0))
   owner-is k c m p e =
@@ -133,4 +133,4 @@ module _ (Q n : ℕ) (qs : List (List ℕ)) (ss os : List ℕ) (g : Splits Q n q
   wanted-fit p =
       let l = map (λ c. getD ss c 0) (mastersOn os (suc (p .0))) in
       let e : length l ≡ length (mastersOn os (suc (p .0))) = length-map (mastersOn os (suc (p .0))) (λ c. getD ss c 0) in
-      subst (λ (k : ℕ). eachb markb l (replicate k 0) ≡ true) e (zeros-fit l)
+      subst (λ (k : ℕ). marksb l (replicate k 0) ≡ true) e (zeros-fit l)

@@ -32,7 +32,7 @@ use Rattle.rounds.specs.Totals.{enough-last}
 use Rattle.rounds.specs.Upward.{ups}
 use Rattle.parts.specs.Owners.{nthCell, familyOf}
 use Rattle.parts.specs.Held.{Entry, masterb, ghostb, entryOf, entriesOf}
-use Rattle.parts.specs.Starts.{mastersOn, eachb, startb, placeOn, putTogether, marksOn}
+use Rattle.parts.specs.Starts.{mastersOn, startb, placeOn, putTogether, marksOn}
 use Rattle.soundness.specs.Sound.{sound-parts}
 use Rattle.splitting.specs.Starts.{each-at, together-is, together-fits}
 use Rattle.shares.specs.Grow.{entries, entryBy}
@@ -59,29 +59,21 @@ use Rattle.agreement.specs.Says.{says-done, says-ended}
 use Rattle.agreement.specs.Exchanges.{fit, reads, takes}
 use Rattle.agreement.specs.Agreed.{n, qs, g, splitStore, world, J, R, inputOf, storeOf, ending, at-end, phase-done, input-fine}
 
--- the test of all marks, said twice
-marks-each : (ss ms : List ℕ) → marksb ss ms ≡ eachb markb ss ms
-unfolding marksb eachb
-marks-each [] [] = refl
-marks-each [] (m ∷ ms) = refl
-marks-each (s ∷ ss) [] = refl
-marks-each (s ∷ ss) (m ∷ ms) = ap (λ (b : Bool). markb s m && b) (marks-each ss ms)
-
 -- any marks that the serial step takes can be started with: each part gets those of its masters
-each-length : (ss ms : List ℕ) → T (eachb markb ss ms) → length ms ≡ length ss
-unfolding eachb
+each-length : (ss ms : List ℕ) → T (marksb ss ms) → length ms ≡ length ss
+unfolding marksb
 each-length [] [] t = refl
 each-length [] (m ∷ ms) t = absurd t
 each-length (s ∷ ss) [] t = absurd t
-each-length (s ∷ ss) (m ∷ ms) t = ap suc (each-length ss ms (and-right (markb s m) (eachb markb ss ms) t))
+each-length (s ∷ ss) (m ∷ ms) t = ap suc (each-length ss ms (and-right (markb s m) (marksb ss ms) t))
 
-each-chosen : (ss ms l : List ℕ) → T (eachb markb ss ms) → All (λ c. c < length ss) l
-    → T (eachb markb (map (λ c. getD ss c 0) l) (map (λ c. getD ms c 0) l))
-unfolding eachb
+each-chosen : (ss ms l : List ℕ) → T (marksb ss ms) → All (λ c. c < length ss) l
+    → T (marksb (map (λ c. getD ss c 0) l) (map (λ c. getD ms c 0) l))
+unfolding marksb
 each-chosen ss ms [] t a = tt
 each-chosen ss ms (c ∷ l) t a =
-    and-both (markb (getD ss c 0) (getD ms c 0)) (eachb markb (map (λ c. getD ss c 0) l) (map (λ c. getD ms c 0) l))
-    (each-at markb ss ms t c (a .0)) (each-chosen ss ms l t (a .1))
+    and-both (markb (getD ss c 0) (getD ms c 0)) (marksb (map (λ c. getD ss c 0) l) (map (λ c. getD ms c 0) l))
+    (each-at ss ms t c (a .0)) (each-chosen ss ms l t (a .1))
 
 all-below : (m a b : ℕ) → a + m ≤ b → All (λ c. c < b) (range a m)
 unfolding range
@@ -89,14 +81,13 @@ all-below zero a b h = tt
 all-below (suc m) a b h = (omega arith, all-below m (suc a) b (omega arith))
 
 pub any-marks : (ss os ms : List ℕ) → length os ≡ length ss → T (marksb ss ms)
-    → ((p : ℕ) → T (startb markb ss os p (marksOn os ms p))) × (putTogether os (marksOn os ms) ≡ ms)
+    → ((p : ℕ) → T (startb ss os p (marksOn os ms p))) × (putTogether os (marksOn os ms) ≡ ms)
 unfolding startb marksOn mastersOn
-any-marks ss os ms e t =
-    let u : T (eachb markb ss ms) = subst (λ (b : Bool). T b) (marks-each ss ms) t in (
-      λ p. each-chosen ss ms (mastersOn os p) u
-          (all-filter (masterb os p) (λ c. c < length ss) (range 0 (length os)) (all-below (length os) 0 (length ss) (omega arith))),
-      together-is os ms (each-length ss ms u ∙ sym e),
-    )
+any-marks ss os ms e t = (
+  λ p. each-chosen ss ms (mastersOn os p) t
+      (all-filter (masterb os p) (λ c. c < length ss) (range 0 (length os)) (all-below (length os) 0 (length ss) (omega arith))),
+  together-is os ms (each-length ss ms t ∙ sym e),
+)
 
 -- the number of a result
 result-code : (t h : ℕ) → resultOf t h ≡ codeOf (endOf t h)
@@ -197,11 +188,10 @@ module _ (ps : List ℤ) (ts ss : List ℕ) (Q : ℕ) (os b : List ℕ) (e : spl
   marks-fit : marksb ss ms ≡ true
   unfolding serialMarks
   marks-fit =
-      marks-each ss ms
-      ∙ is-true (eachb markb ss ms) (together-fits markb nn cells ss (suc Q) os (marksGiven os cs (world ps ts ss Q os b e)) (gg .owners)
+      is-true (marksb ss ms) (together-fits nn cells ss (suc Q) os (marksGiven os cs (world ps ts ss Q os b e)) (gg .owners)
       each-fits)
     where
-      each-fits : (q : ℕ) → 1 ≤ q → q ≤ suc Q → T (startb markb ss os q (marksGiven os cs (world ps ts ss Q os b e) q))
+      each-fits : (q : ℕ) → 1 ≤ q → q ≤ suc Q → T (startb ss os q (marksGiven os cs (world ps ts ss Q os b e) q))
       each-fits zero a c = absurd (omega arith)
       each-fits (suc j) a c =
           let p : Fin (suc Q) = (j, omega arith) in

@@ -21,7 +21,7 @@ use Rattle.base.specs.Bools.{or-either, and-left, and-right}
 use Rattle.base.specs.Lists.{allb, anyb, sameb, sameb-eq}
 use Rattle.base.specs.Range.{range}
 use Rattle.cutting.specs.Rule.{family}
-use Rattle.mesh.specs.Answers.{markb}
+use Rattle.mesh.specs.Answers.{markb, marksb}
 use Rattle.exchange.specs.Calls.{Request, Start, Step, Fetch, Hand, Call, World, Program, answerAt, answer, changed, apply, play, acceptsb}
 use Rattle.exchange.specs.Calls.{moves, begun, startedWith, toCome, Fair, Lawful, IsWritten}
 use Rattle.exchange.specs.Finite.{parts, fins, pick, upd}
@@ -184,7 +184,7 @@ nextb p l m q = eqb (getD m 2 0) (suc (p .0)) && (not (wholeFrom p l q) && eqb (
 does : Program (List ℕ) (List ℕ) Short
 unfolding startb ownersOfB wholeFrom given nextb bodyIn pt upd B allb
 does (Start ms) (fresh p) =
-    elim (startb markb (64 ∷ replicate 8 0) ownersOfB (suc (p .0)) ms) [
+    elim (startb (64 ∷ replicate 8 0) ownersOfB (suc (p .0)) ms) [
       | true ↦ some (busy p (atStart (parts 2) rounds p ms), [])
       | false ↦ none
     ]
@@ -327,7 +327,7 @@ record PlayedOut : Type 0 where
 played-out : PlayedOut
 unfolding moves changed answer answerAt acceptsb does calls begin first mail B pt slotsOfB pathsOfB family fins Fin-discrete taking phase
     starting writing grownOf orderOf upFrom packed parcel numbered pick upd wholeFrom wholeb given nextb bodyIn startb ownersOfB marksFrom
-    call hands fetches endBy counted totalled marked summed Option·elim markb play startedWith begun putTogether roundIn resultOf holds
+    call hands fetches endBy counted totalled marked summed Option·elim markb marksb play startedWith begun putTogether roundIn resultOf holds
     share after lawfulb fairb toCome
 played-out = record {
   lawful = refl;

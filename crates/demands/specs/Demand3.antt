@@ -25,7 +25,7 @@ use Rattle.base.specs.Refuse.{refuse, andThen, passed, both, codeOf, heldAfter}
 use Rattle.base.specs.declared.Answer.the-variants.{Accepted, Refused}
 use Rattle.mesh.specs.Coarse.{cornerCount}
 use Rattle.mesh.specs.Step.{stepTable}
-use Rattle.mesh.specs.Answers.{tableAnswer, markb, marksb, newTable, limitsAnswer, markedAnswer}
+use Rattle.mesh.specs.Answers.{tableAnswer, marksb, newTable, limitsAnswer, markedAnswer}
 use Rattle.exchange.specs.Calls.{Start, Call, play, moves, acceptsb, startedWith, Lawful}
 use Rattle.exchange.specs.Played.{play-append}
 use Rattle.exchange.specs.Lockstep.{post}
@@ -134,9 +134,9 @@ pub record Split3 (ps : List ℤ) (ts ss : List ℕ) (P : ℕ) (os : List ℕ) (
   -- a part that was not started takes one mark for each of its masters, as the serial step would, and no others; and so any marks that
   -- the serial step takes can be started with
   pub starts : (p : ℕ) → 1 ≤ p → p ≤ P → startedWith act cs w (pred p) ≡ none → (ms : List ℕ)
-      → acceptsb act (act (Start ms) (lastStore cs w p)) ≡ startb markb ss os p ms
+      → acceptsb act (act (Start ms) (lastStore cs w p)) ≡ startb ss os p ms
   pub any-marks : (ms : List ℕ) → T (marksb ss ms)
-      → ((p : ℕ) → T (startb markb ss os p (marksOn os ms p))) × (putTogether os (marksOn os ms) ≡ ms)
+      → ((p : ℕ) → T (startb ss os p (marksOn os ms p))) × (putTogether os (marksOn os ms) ≡ ms)
 
 -- every accepted split, and every lawful list of calls on its stores, refused ones included
 abbrev pub Demand3 : Type 0
@@ -318,7 +318,7 @@ module _ (ps : List ℤ) (ts ss : List ℕ) (Q : ℕ) (os b : List ℕ) (e : spl
           (suc (field x ROUND)) p)) (named Q .back p) i)
 
       starts : (q : ℕ) → 1 ≤ q → q ≤ suc Q → startedWith act cs w (pred q) ≡ none → (ms : List ℕ)
-          → acceptsb act (act (Start ms) (lastStore cs w q)) ≡ startb markb ss os q ms
+          → acceptsb act (act (Start ms) (lastStore cs w q)) ≡ startb ss os q ms
       starts zero a c f ms = absurd (omega arith)
       starts (suc j) a c f ms = starts-taken ps ts ss Q os b e cs lawful (j, omega arith) f ms
 

@@ -1,18 +1,16 @@
 -- What the parts start with: one mark for each master, in cell order, and the marks of all parts put together (section 15 of the method).
--- f is
--- the test of a mark beside its cell's status.
 --   mastersOn os p         the numbers of the masters of the part p
---   eachb f ss ms          one mark for each status, and each passes
---   startb f ss os p ms    the marks ms of the part p are accepted (else 7)
+--   startb ss os p ms      the marks ms of the part p are accepted (else 7)
 --   placeOn os c           how many masters its part has before the cell c
 --   putTogether os given   the serial marks, where given p are those of the part p
 --   marksOn os ms p        the marks of the masters of p among the serial marks ms
-use mathlib.Core.Bool.{Bool, true, false, _&&_}
-use mathlib.Core.List.{List, [], _∷_, map}
+use mathlib.Core.Bool.{Bool}
+use mathlib.Core.List.{List, map}
 use Prim.Native.Nat.{ℕ}
 use lib.ListN.{length, getD}
 use Rattle.base.specs.Lists.{filterb}
 use Rattle.base.specs.Range.{range}
+use Rattle.mesh.specs.Answers.{marksb}
 use Rattle.parts.specs.Held.{masterb}
 
 -- Rule 15.6.
@@ -20,16 +18,10 @@ unfoldable pub mastersOn : List ℕ → ℕ → List ℕ
 unfolding masterb filterb range
 mastersOn os p = filterb (masterb os p) (range 0 (length os))
 
-unfoldable pub eachb : (ℕ → ℕ → Bool) → List ℕ → List ℕ → Bool
-eachb f [] [] = true
-eachb f [] (m ∷ ms) = false
-eachb f (s ∷ ss) [] = false
-eachb f (s ∷ ss) (m ∷ ms) = f s m && eachb f ss ms
-
 -- Rules 7.1, 15.6.
-unfoldable pub startb : (ℕ → ℕ → Bool) → List ℕ → List ℕ → ℕ → List ℕ → Bool
-unfolding eachb mastersOn
-startb f ss os p ms = eachb f (map (λ c. getD ss c 0) (mastersOn os p)) ms
+unfoldable pub startb : List ℕ → List ℕ → ℕ → List ℕ → Bool
+unfolding marksb mastersOn
+startb ss os p ms = marksb (map (λ c. getD ss c 0) (mastersOn os p)) ms
 
 unfoldable pub placeOn : List ℕ → ℕ → ℕ
 unfolding masterb filterb range

@@ -16,9 +16,10 @@ use Rattle.base.specs.Lists.{filterb}
 use Rattle.base.specs.Bools.{and-left, and-right, and-both}
 use Rattle.base.specs.Range.{range, length-range, range-at}
 use Rattle.base.specs.Every.{getD-map}
+use Rattle.mesh.specs.Answers.{markb, marksb}
 use Rattle.parts.specs.Owners.{ownersb}
 use Rattle.parts.specs.Held.{masterb}
-use Rattle.parts.specs.Starts.{mastersOn, eachb, startb, placeOn, putTogether, marksOn}
+use Rattle.parts.specs.Starts.{mastersOn, startb, placeOn, putTogether, marksOn}
 use Rattle.splitting.specs.Admissible.{owners-counted}
 
 -- the place of a number among those that pass a test
@@ -59,22 +60,21 @@ module _ (os : List ℕ) (c : ℕ) (h : c < length os) where
       (eq-eqb (getD os c 0) (getD os c 0) refl) .is)
 
 -- all marks by places
-module _ (f : ℕ → ℕ → Bool) where
-  pub each-at : (ss ms : List ℕ) → T (eachb f ss ms) → (i : ℕ) → i < length ss → T (f (getD ss i 0) (getD ms i 0))
-  unfolding eachb
-  each-at [] ms t i h = absurd (omega arith)
-  each-at (s ∷ ss) [] t i h = absurd t
-  each-at (s ∷ ss) (m ∷ ms) t zero h = and-left (f s m) (eachb f ss ms) t
-  each-at (s ∷ ss) (m ∷ ms) t (suc i) h = each-at ss ms (and-right (f s m) (eachb f ss ms) t) i (omega arith)
+pub each-at : (ss ms : List ℕ) → T (marksb ss ms) → (i : ℕ) → i < length ss → T (markb (getD ss i 0) (getD ms i 0))
+unfolding marksb
+each-at [] ms t i h = absurd (omega arith)
+each-at (s ∷ ss) [] t i h = absurd t
+each-at (s ∷ ss) (m ∷ ms) t zero h = and-left (markb s m) (marksb ss ms) t
+each-at (s ∷ ss) (m ∷ ms) t (suc i) h = each-at ss ms (and-right (markb s m) (marksb ss ms) t) i (omega arith)
 
-  pub each-from : (ss ms : List ℕ) → length ms ≡ length ss → ((i : ℕ) → i < length ss → T (f (getD ss i 0) (getD ms i 0)))
-      → T (eachb f ss ms)
-  unfolding eachb
-  each-from [] [] e g = tt
-  each-from [] (m ∷ ms) e g = absurd (omega arith)
-  each-from (s ∷ ss) [] e g = absurd (omega arith)
-  each-from (s ∷ ss) (m ∷ ms) e g =
-      and-both (f s m) (eachb f ss ms) (g 0 (omega arith)) (each-from ss ms (omega arith) (λ i h. g (suc i) (omega arith)))
+pub each-from : (ss ms : List ℕ) → length ms ≡ length ss → ((i : ℕ) → i < length ss → T (markb (getD ss i 0) (getD ms i 0)))
+    → T (marksb ss ms)
+unfolding marksb
+each-from [] [] e g = tt
+each-from [] (m ∷ ms) e g = absurd (omega arith)
+each-from (s ∷ ss) [] e g = absurd (omega arith)
+each-from (s ∷ ss) (m ∷ ms) e g =
+    and-both (markb s m) (marksb ss ms) (g 0 (omega arith)) (each-from ss ms (omega arith) (λ i h. g (suc i) (omega arith)))
 
 module _ (os : List ℕ) (given : ℕ → List ℕ) where
   pub length-together : length (putTogether os given) ≡ length os
@@ -98,18 +98,18 @@ together-is os ms e =
     ∙ ap (λ (x : ℕ). getD ms x 0) (place-is os c g))
 
 -- accepted starts make accepted serial marks
-pub together-fits : (f : ℕ → ℕ → Bool) (n : ℕ) (qs : List (List ℕ)) (ss : List ℕ) (P : ℕ) (os : List ℕ) (given : ℕ → List ℕ)
-    → T (ownersb n qs ss P os) → ((p : ℕ) → 1 ≤ p → p ≤ P → T (startb f ss os p (given p))) → T (eachb f ss (putTogether os given))
+pub together-fits : (n : ℕ) (qs : List (List ℕ)) (ss : List ℕ) (P : ℕ) (os : List ℕ) (given : ℕ → List ℕ)
+    → T (ownersb n qs ss P os) → ((p : ℕ) → 1 ≤ p → p ≤ P → T (startb ss os p (given p))) → T (marksb ss (putTogether os given))
 unfolding startb
-together-fits f n qs ss P os given t starts =
+together-fits n qs ss P os given t starts =
     let w = owners-counted n qs ss P os t in
-    each-from f ss (putTogether os given) (length-together os given ∙ w .many) (λ c h.
+    each-from ss (putTogether os given) (length-together os given ∙ w .many) (λ c h.
     let g : c < length os = omega (arith, w .many) in
     let (a, b) = w .each c h in
     let below = place-below os c g in
-    let u = each-at f (map (λ c. getD ss c 0) (mastersOn os (getD os c 0))) (given (getD os c 0)) (starts (getD os c 0) a b) (placeOn os c)
+    let u = each-at (map (λ c. getD ss c 0) (mastersOn os (getD os c 0))) (given (getD os c 0)) (starts (getD os c 0) a b) (placeOn os c)
     (omega (arith, length-map (mastersOn os (getD os c 0)) (λ c. getD ss c 0))) in
     let es : getD (map (λ c. getD ss c 0) (mastersOn os (getD os c 0))) (placeOn os c) 0 ≡ getD ss c 0 =
     getD-map (λ c. getD ss c 0) (mastersOn os (getD os c 0)) (placeOn os c) 0 0 below ∙ ap (λ (x : ℕ). getD ss x 0) (place-is os c g) in
-    subst (λ (x : ℕ). T (f (getD ss c 0) x)) (sym (together-at os given c g))
-    (subst (λ (x : ℕ). T (f x (getD (given (getD os c 0)) (placeOn os c) 0))) es u))
+    subst (λ (x : ℕ). T (markb (getD ss c 0) x)) (sym (together-at os given c g))
+    (subst (λ (x : ℕ). T (markb x (getD (given (getD os c 0)) (placeOn os c) 0))) es u))

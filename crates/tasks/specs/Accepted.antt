@@ -19,7 +19,7 @@ use Rattle.base.specs.declared.Answer.{Answer}
 use Rattle.base.specs.declared.Answer.the-variants.{Accepted}
 use Rattle.mesh.specs.Coarse.{cornerCount, cellCount, countsb, positionsb, cellsb, solidb, singleb, meshAnswer}
 use Rattle.mesh.specs.Table.{soundb}
-use Rattle.mesh.specs.Answers.{tableAnswer, markb}
+use Rattle.mesh.specs.Answers.{tableAnswer}
 use Rattle.lattice.specs.Levels.{fours-four}
 use Rattle.soundness.specs.Sound.{sound-parts}
 use Rattle.exchange.specs.Finite.{parts}
@@ -156,7 +156,7 @@ module _ (Q n : ℕ) (qs : List (List ℕ)) (ss os : List ℕ) (g : Splits Q n q
         idle-header n qs ss (suc Q) os (p .0) x (g .sound) st (g .parts-few) (p .1) (g .corners-least) (g .corners-most) (g .coarse-least)
         (g .coarse-most)
 
-    pub split-marks : (ms : List ℕ) → marksDue x ms (field x CELLS) 0 0 ≡ startb markb ss os (suc (p .0)) ms
+    pub split-marks : (ms : List ℕ) → marksDue x ms (field x CELLS) 0 0 ≡ startb ss os (suc (p .0)) ms
     split-marks = marks-due n qs ss (suc Q) os (p .0) x (g .sound) st (owners-counted n qs ss (suc Q) os (g .owners) .many)
 
     pub split-before : (c : ℕ) → c ≤ length ss → getD os c 0 ≡ suc (p .0) → countBefore x c ≡ placeOn os c

@@ -15,14 +15,14 @@ use Rattle.base.specs.Lists.{filterb}
 use Rattle.base.specs.Bools.{one-if, not-both}
 use Rattle.base.specs.Range.{range}
 use Rattle.mesh.specs.Table.{levelsOf, soundb}
-use Rattle.mesh.specs.Answers.{markb}
+use Rattle.mesh.specs.Answers.{markb, marksb}
 use Rattle.soundness.specs.Sound.{Sound, sound-parts}
 use Rattle.store.specs.Fields.{field, STAGE, CELLS, ROUND, RESULT, STATUS}
 use Rattle.store.specs.Header.{headerb, stageb}
 use Rattle.turns.specs.Start.{ownb, markOk, markAt, nextMark, marksDue}
 use Rattle.parts.specs.Owners.{familyOf}
 use Rattle.parts.specs.Held.{masterb}
-use Rattle.parts.specs.Starts.{mastersOn, eachb, startb, placeOn}
+use Rattle.parts.specs.Starts.{mastersOn, startb, placeOn}
 use Rattle.entering.specs.Columns.{countBefore}
 use Rattle.split.specs.Columns.{holdsCell}
 use Rattle.split.specs.Stored.{Stored, held-is, not-held}
@@ -111,12 +111,12 @@ module _ (n : ℕ) (qs : List (List ℕ)) (ss : List ℕ) (P : ℕ) (os : List �
   due c m = map (λ c. getD ss c 0) (filterb (masterb os (suc p)) (range c m))
 
   marks-from : (ms : List ℕ) (m c j : ℕ) → c + m ≡ length ss → j ≤ length ms
-      → marksDue x ms m c j ≡ eachb markb (due c m) (drop j ms)
-  unfolding marksDue markAt nextMark markOk markb eachb filterb range
+      → marksDue x ms m c j ≡ marksb (due c m) (drop j ms)
+  unfolding marksDue markAt nextMark markOk markb marksb filterb range
   marks-from ms zero c j h g =
       elim (decLt j (length ms)) [
-        | yes u ↦ ne-eqb (length ms) j (λ z. omega arith) ∙ sym (ap (eachb markb []) (drop-cons ms j 0 u))
-        | no u ↦ eq-eqb (length ms) j (omega arith) ∙ sym (ap (eachb markb []) (drop-of-length-le ms {i = j} (omega arith)))
+        | yes u ↦ ne-eqb (length ms) j (λ z. omega arith) ∙ sym (ap (marksb []) (drop-cons ms j 0 u))
+        | no u ↦ eq-eqb (length ms) j (omega arith) ∙ sym (ap (marksb []) (drop-of-length-le ms {i = j} (omega arith)))
       ]
   marks-from ms (suc m) c j h g =
       go (masterb os (suc p) c) refl (decLt j (length ms)) (λ i. marks-from ms m (suc c) i (omega arith))
@@ -125,12 +125,12 @@ module _ (n : ℕ) (qs : List (List ℕ)) (ss : List ℕ) (P : ℕ) (os : List �
       o = master-is c (omega arith)
 
       go : (b : Bool) → masterb os (suc p) c ≡ b → Dec (j < length ms)
-          → ((i : ℕ) → i ≤ length ms → marksDue x ms m (suc c) i ≡ eachb markb (due (suc c) m) (drop i ms))
-          → marksDue x ms (suc m) c j ≡ eachb markb (due c (suc m)) (drop j ms)
+          → ((i : ℕ) → i ≤ length ms → marksDue x ms m (suc c) i ≡ marksb (due (suc c) m) (drop i ms))
+          → marksDue x ms (suc m) c j ≡ marksb (due c (suc m)) (drop j ms)
       go true e (yes u) r =
           let w : ownb x c ≡ true = o ∙ e in
           let f : field x (STATUS + c) ≡ getD ss c 0 = status-is c (omega arith) e in
-          let t : eachb markb (due (suc c) m) (drop (suc j) ms) ≡ marksDue x ms m (suc c) (suc j) = sym (r (suc j) (omega arith)) in
+          let t : marksb (due (suc c) m) (drop (suc j) ms) ≡ marksDue x ms m (suc c) (suc j) = sym (r (suc j) (omega arith)) in
           rw (e, w, f, filterb, markAt, nextMark, lt-ltb j (length ms) u, drop-cons ms j 0 u, t)
           (ap (λ (b : Bool). (leb (getD ms j 0) 2 && b) && marksDue x ms m (suc c) (suc j))
           (or-comm (eqb (getD ms j 0) 0) (eqb (getD ss c 0) 0)))
@@ -141,11 +141,11 @@ module _ (n : ℕ) (qs : List (List ℕ)) (ss : List ℕ) (P : ℕ) (os : List �
           let w : ownb x c ≡ false = o ∙ e in
           rw (e, w, filterb, markAt, nextMark) (r j g)
 
-  pub marks-due : length os ≡ length ss → (ms : List ℕ) → marksDue x ms (field x CELLS) 0 0 ≡ startb markb ss os (suc p) ms
+  pub marks-due : length os ≡ length ss → (ms : List ℕ) → marksDue x ms (field x CELLS) 0 0 ≡ startb ss os (suc p) ms
   unfolding startb mastersOn
   marks-due many ms =
       ap (λ (m : ℕ). marksDue x ms m 0 0) (st .cells) ∙ marks-from ms (length ss) 0 0 (omega arith) (omega arith)
-      ∙ ap (λ (m : ℕ). eachb markb (due 0 m) ms) (sym many)
+      ∙ ap (λ (m : ℕ). marksb (due 0 m) ms) (sym many)
 
   -- the masters before a cell
   count-is : (c : ℕ) → c ≤ length ss → countBefore x c ≡ length (filterb (masterb os (suc p)) (range 0 c))
