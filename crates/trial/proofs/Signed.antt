@@ -5,11 +5,14 @@
 --   raised      an i32 and 2 ^ 31 make such a number
 --   raised-above  it is how far the number lies above the least i32
 --   wide-fits, sum-fits, sum-is   the same of the bits that the program holds
-use mathlib.Core.Path.{_≡_, refl, ap, _∙_}
-use Prim.Native.Nat.{ℕ, suc, _+_, _-_, _<_}
+--   low-half, high-half    two's complement below 2 ^ 31, and from there on
+use mathlib.Core.Path.{_≡_, refl, sym, ap, _∙_}
+use Prim.Native.Nat.{ℕ, zero, suc, _+_, _-_, _<_, _≤_}
+use native.Mathlib.Nat.{zero-add}
 use native.Mathlib.Omega.{arith}
-use lib.IntN.{ℤ, pos, negsuc, _+ℤ_}
-use borrow.Author.Tests.{le-ltb}
+use lib.IntN.{ℤ, pos, negsuc, _+ℤ_, _-ℤ_}
+use borrow.Author.Tests.{lt-ltb, le-ltb}
+use Rattle.trial.specs.Input.{twos}
 use Rattle.trial.specs.Pattern.{aboveLeast}
 use mir.Syntax.{w32, w64}
 use mir.Val.{SFits, toZ, ofZ}
@@ -49,3 +52,15 @@ module _ (z : ℤ) (h : SFits w32 z) where
 
   pub sum-is : toZ w64 (ofZ w64 (toZ w64 (ofZ w64 (toZ w32 (ofZ w32 z))) +ℤ pos 2147483648)) ≡ pos (raised z h .size)
   sum-is = toZ-ofZ w64 _ sum-fits ∙ rw plain (raised z h .same)
+
+pub low-half : (b : ℕ) → b < 2147483648 → twos b ≡ pos b
+unfolding twos
+low-half b h = rw (lt-ltb b 2147483648 h, twos)
+
+pub high-half : (b : ℕ) → 2147483648 ≤ b → twos b ≡ negsuc 0 -ℤ pos (4294967295 - b)
+unfolding twos
+high-half b h = rw (le-ltb b 2147483648 h, twos) (minus (4294967295 - b))
+  where
+    minus : (k : ℕ) → negsuc k ≡ negsuc 0 -ℤ pos k
+    minus zero = refl
+    minus (suc k) = rw zero-add

@@ -1,2 +1,3 @@
 pub mod Pattern
 pub mod Input
+pub mod Layouts

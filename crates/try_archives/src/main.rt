@@ -1,12 +1,13 @@
 // Runs the calls on archives over the cases of its input, and prints for each case its listing and lines of numbers.
 // The input is made by independent/src/bin/archive_cases.rs, and so are the lines that are expected.
+mod print;
+
 use jobs::Lengths;
 use jobs::Reading;
 use jobs::Replayed;
 use jobs::Writing;
 use trial::input;
 use trial::pattern;
-use trial::print;
 
 // What an archive begins with.
 struct Archive {

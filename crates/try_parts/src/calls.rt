@@ -1,12 +1,12 @@
 // The calls on the stores of one split, by the store's place in the table: each answers 0, a refusal's number, or one of the numbers
 // below. The contracts are short, so that the proofs above them are.
+use crate::print;
 use base::code;
 use held::Listed;
 use held::Progress;
 use merge::Merged;
 use store::Fetched;
 use trial::pattern;
-use trial::print;
 ghost use Prim.Native.Nat.{_<_};
 
 // There is nothing to give, to offer or to send.

@@ -2,12 +2,12 @@
 // for each call that is asked to be told. The input is made by independent/src/bin/part_cases.rs, and so are the lines that are expected.
 mod calls;
 mod carrier;
+mod print;
 
 use crate::calls::NONE;
 use base::code;
 use trial::input;
 use trial::pattern;
-use trial::print;
 
 // What a case begins with.
 struct Header {

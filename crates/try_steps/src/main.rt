@@ -1,10 +1,11 @@
 // Runs steps over the cases of its input, and prints a line of numbers for each step.
 // The input is made by independent/src/bin/step_cases.rs, and so are the lines that are expected.
+mod print;
+
 use step::Stepped;
 use trial::input;
 use trial::layouts;
 use trial::pattern;
-use trial::print;
 
 // What a case begins with.
 struct Header {
@@ -106,7 +107,7 @@ fn lay_out_in(
 ) {
     layouts::fill(table, ends, sums);
     let laid = layouts::lay_out(positions, cells, status, table, ends, sums);
-    layouts::print_laid(laid, table, ends, sums);
+    print::layout(layouts::sum_up(laid, table, ends, sums));
 }
 
 // Prints the layout of a table that a step left.

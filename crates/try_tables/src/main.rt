@@ -117,7 +117,7 @@ fn print_layout(
 ) {
     layouts::fill(table, ends, sums);
     let laid = lay_out_in(positions, cells, status, table, ends, sums, case);
-    layouts::print_laid(laid, table, ends, sums);
+    print::layout(layouts::sum_up(laid, table, ends, sums));
     print::position(position_in(sums, corners_of(laid), case));
 }
 
@@ -152,7 +152,7 @@ fn print_counts(positions: &[i32], cells: &[u16], status: &[u8], counts: &mut [u
     pattern::fill(counts);
     let counted = count_in(positions, cells, status, counts, case);
     print::counted(counted);
-    trial::print::number(pattern::checksum(counts));
+    print::number(pattern::checksum(counts));
 }
 
 fn try_counts(positions: &[i32], cells: &[u16], status: &[u8], case: Header) {
@@ -166,7 +166,7 @@ fn try_case(positions: &[i32], cells: &[u16], status: &[u8], case: Header) {
     try_layout(positions, cells, status, case);
     print::ancestry(layout::ancestor(positions, cells, status, case.cell));
     try_counts(positions, cells, status, case);
-    trial::print::end();
+    print::end();
 }
 
 // A case whose lists are the first places of the given ones. False where one is too short.

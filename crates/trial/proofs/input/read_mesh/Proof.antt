@@ -1,8 +1,7 @@
 -- `trial::input::read_mesh` meets its contract, by those of its two parts. Assumes nothing.
-use mathlib.Core.Path.{refl}
 use borrow.Author.Needs.{needs}
 use borrow.Author.Tests.{not-false}
-use Rattle.trial.proofs.Tables.{front-false, front-fit}
+use Rattle.trial.proofs.Tables.{mesh-first, mesh-both}
 use Rattle.trial.proofs.input.read_mesh.Statement.{statement}
 use Rattle.trial.proofs.input.read_mesh.Tie as tie
 
@@ -16,7 +15,7 @@ same-length-2 : tie.Need-same-length-2
 same-length-2 c = search needs
 
 returns : tie.Need-returns
-returns c = (front-false (c .before .before .before .before .read-positions .ensures .1 .behind), front-false refl)
+returns c = let p = c .before .before .before .before .read-positions .ensures in mesh-first (p .0) (p .1)
 
 read-cells-requires : tie.Need-read-cells-requires
 read-cells-requires c κs = search needs
@@ -33,8 +32,9 @@ same-length-5 c = search needs
 returns-2 : tie.Need-returns-2
 returns-2 c =
     let e = c .before .before .before .before .before .before .before in
-    let p = e .before .before .before .before .read-positions .ensures .1 in
-    (front-fit (p .fit (not-false _ (e .if1 .left))) (p .behind), c .before .before .before .before .read-cells .ensures .1)
+    let p = e .before .before .before .before .read-positions .ensures in
+    let q = c .before .before .before .before .read-cells .ensures in
+    mesh-both (p .0) (p .1) (not-false _ (e .if1 .left)) (q .0) (q .1)
 
 pub read-mesh-spec : {M : Type 1} → statement M
 read-mesh-spec =
