@@ -38,9 +38,12 @@ loop-less c = search needs
 loop-again : tie.Need-loop-again Inv-loop μ-loop
 loop-again c =
     let l = c .before .before .loop in
-    let h = c .before .loop-test .taken in
-    (search needs, search needs, tabbed-more _ _ (l .inv .2) _ (omega arith)
-        (toZ-ofZ (record { sfits = c .coordinate .ok }) ∙ c .coordinate .ensures))
+    let h = c .before .loop-test .taken in (
+      search needs,
+      search needs,
+      tabbed-more _ _ (l .inv .2) _ (omega arith)
+          (toZ-ofZ (record { sfits = c .coordinate .ok }) ∙ c .coordinate .ensures),
+    )
 
 same-length : tie.Need-same-length Inv-loop μ-loop
 same-length c = search needs
