@@ -1,5 +1,5 @@
--- `trial::input::decode_cells` meets its contract: the places passed hold the numbers of the bytes. The measure is the number of places left.
--- Assumes nothing.
+-- `trial::input::decode_cells` meets its contract: the places passed hold the numbers of the bytes. The measure is the number of places
+-- left. Assumes nothing.
 use mathlib.Core.Path.{refl, _≡_}
 use Prim.Native.Nat.{_-_, _≤_, _<_}
 use native.Mathlib.Omega.{arith}

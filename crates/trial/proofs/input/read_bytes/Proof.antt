@@ -36,7 +36,8 @@ returns-2 c =
     let r = c .before .before .read-all in
     let e : length (r .last .0) ≡ a .n = omega (arith, r .ensures, length-take-le (a .n - 0) (a .list .now) (omega arith)) in
     let p = post-is 0 (a .n) (a .list .now) (omega arith) in
-    front-fit h (drop-at (r .last .0) _ (a .n) e ∙ p) (ap (λ (l : List ℕ). length (r .last .0 ++ l)) p ∙ front-length (r .last .0) (a .list .now) (a .n) e h)
+    front-fit h (drop-at (r .last .0) _ (a .n) e ∙ p)
+    (ap (λ (l : List ℕ). length (r .last .0 ++ l)) p ∙ front-length (r .last .0) (a .list .now) (a .n) e h)
 
 pub read-bytes-spec : {M : Type 1} → statement M
 read-bytes-spec =
