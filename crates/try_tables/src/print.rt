@@ -6,6 +6,7 @@ use layout::Counted;
 use position::Position;
 use trial::layouts::Summary;
 
+// A further number of a line.
 pub fn number(n: u64) {
     io::write_all(1, b" ");
     io::print_decimal(1, n);
