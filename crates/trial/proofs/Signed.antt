@@ -1,5 +1,4 @@
 -- Numbers of 32 bits with a sign, made from their bits or raised by 2 ^ 31, stay in range.
---   minus-fits       -1 less a number below 2 ^ 31 is an i32
 --   wider       an i32 is an i64
 --   Raised z    z is a number below 2 ^ 32
 --   raised      an i32 and 2 ^ 31 make such a number
