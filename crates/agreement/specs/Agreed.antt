@@ -8,18 +8,17 @@ use mathlib.Core.Path.{_≡_, refl, sym, _∙_, ap, ap₂, subst}
 use mathlib.Core.Logic.{_⊎_, inl, inr, _≢_}
 use mathlib.Core.Bool.{Bool, true, false}
 use mathlib.Core.Option.{Option, none, some, Option·elim}
-use mathlib.Core.List.{List, [], _∷_, _++_, map, List·Memᴰ}
-use Prim.Native.Nat.{ℕ, zero, suc, _+_, _≤_, _<_, Fin}
+use mathlib.Core.List.{List, [], _∷_, _++_, List·Memᴰ}
+use Prim.Native.Nat.{ℕ, suc, _+_, _≤_, _<_, Fin}
 use native.Mathlib.Nat.{le-trans}
 use native.Mathlib.Omega.{arith}
 use lib.Dec.{T, eqb, eqb→eq}
 use borrow.Author.Tests.{eq-eqb}
-use lib.ListN.{length, getD, drop, length-map}
+use lib.ListN.{length, getD, drop}
 use lib.IntN.{ℤ}
-use Rattle.base.specs.Every.{getD-map, all-each}
+use Rattle.base.specs.Every.{all-each}
 use Rattle.base.specs.Lists.{allb-at}
 use Rattle.base.specs.Fours.{fours}
-use Rattle.base.specs.Range.{range, length-range, range-at}
 use Rattle.base.specs.declared.Answer.{Answer}
 use Rattle.base.specs.declared.Answer.the-variants.{Accepted, Refused}
 use Rattle.mesh.specs.Coarse.{cornerCount}
@@ -40,8 +39,9 @@ use Rattle.rounds.specs.Bound.{callsMost, calls-few}
 use Rattle.parts.specs.Starts.{startb, placeOn}
 use Rattle.merging.specs.Totals.{grownOf}
 use Rattle.store.specs.Fields.{field, STAGE, ROUND}
+use Rattle.store.specs.Stores.{storeIn, length-stores, stores-at}
 use Rattle.split.specs.Split.{splitAnswer, splitAfter}
-use Rattle.split.specs.Stored.{Stored, storeAt}
+use Rattle.split.specs.Stored.{Stored}
 use Rattle.standing.specs.Busy.{pack, L}
 use Rattle.entering.specs.Fits.{Fitted}
 use Rattle.entering.specs.Entered.{Stay}
@@ -53,20 +53,9 @@ use Rattle.turns.specs.Start.{startAnswer, startAfter}
 use Rattle.outcome.specs.Program.{yields, act}
 use Rattle.outcome.specs.Limited.{fitting-of}
 use Rattle.outcome.specs.Machines.{machine, alone, phaseOf}
-use Rattle.agreement.specs.Terms.{Calls, Stores, storesOf, afterSplit, saysOf, doneb, alldoneb}
+use Rattle.agreement.specs.Terms.{Calls, Stores, afterSplit, saysOf, doneb, alldoneb}
 use Rattle.agreement.specs.Says.{says-stage, says-so}
 use Rattle.agreement.specs.Exchanges.{fit, reads, takes, reads-mark, first-idle, wanted, wanted-fit}
-
--- a store of the parts by its number
-stores-at : (P : ℕ) (b : List ℕ) (j : ℕ) → j < P → getD (storesOf P b) j [] ≡ storeAt b j
-unfolding storesOf
-stores-at P b j h =
-    let z : getD (range 0 P) j 0 ≡ j = range-at 0 P j 0 h ∙ omega arith in
-    getD-map (storeAt b) (range 0 P) j 0 [] (omega (arith, length-range 0 P)) ∙ ap (storeAt b) z
-
-stores-length : (P : ℕ) (b : List ℕ) → length (storesOf P b) ≡ P
-unfolding storesOf
-stores-length P b = length-map (range 0 P) (storeAt b) ∙ length-range 0 P
 
 -- a store that stands as it stood
 stay-self : (x : List ℕ) → Stay x x
@@ -104,7 +93,7 @@ module _ (ps : List ℤ) (ts ss : List ℕ) (Q : ℕ) (os b : List ℕ) (e : spl
   g = splits-from ps ts ss Q os b e
 
   abbrev pub splitStore : Fin (suc Q) → List ℕ
-  splitStore p = storeAt (splitAfter ps ts ss (suc Q) os b) (p .0)
+  splitStore p = storeIn (splitAfter ps ts ss (suc Q) os b) (p .0)
 
   abbrev pub world : Stores
   world = afterSplit (suc Q) (splitAfter ps ts ss (suc Q) os b)
@@ -130,10 +119,10 @@ module _ (ps : List ℤ) (ts ss : List ℕ) (Q : ℕ) (os b : List ℕ) (e : spl
   A = alone (suc Q) J (fit Q n qs ss os g) (reads Q n qs ss os g) (placeOn os) (takes Q n qs ss os g) splitStore (reads-mark Q n qs ss os g)
 
   all : length (world .stores) ≡ suc Q
-  all = stores-length (suc Q) (splitAfter ps ts ss (suc Q) os b)
+  all = length-stores (splitAfter ps ts ss (suc Q) os b) (suc Q)
 
   idle : (p : Fin (suc Q)) → M .Idle p (getD (world .stores) (p .0) [])
-  idle p = subst (M .Idle p) (sym (stores-at (suc Q) (splitAfter ps ts ss (suc Q) os b) (p .0) (p .1)))
+  idle p = subst (M .Idle p) (sym (stores-at (splitAfter ps ts ss (suc Q) os b) (suc Q) (p .0) (p .1)))
       (first-idle Q n qs ss os g p (splitStore p) (stored p), stay-self (splitStore p))
 
   -- the marks that the calls start a part with

@@ -3,26 +3,17 @@
 --   reads p ms c         the mark of the cell c among the marks ms of the part p; takes p ms whether it starts with them
 -- Laws: first-idle (the stores of a split are those of parts that have not started), and what the theorem of the exchange is applied to.
 use mathlib.Core.Path.{_≡_, refl, sym, _∙_, ap, ap₂, subst}
-use mathlib.Core.Logic.{_⊎_, inl, inr, _≢_}
-use mathlib.Core.Bool.{Bool, true, false, _&&_, or-true}
-use mathlib.Core.Option.{Option, none, some, Option·elim}
+use mathlib.Core.Bool.{Bool, true, _&&_, or-true}
 use mathlib.Core.List.{List, [], _∷_, map}
-use Prim.Native.Nat.{ℕ, zero, suc, _+_, _-_, _≤_, _<_, pred, Fin}
+use Prim.Native.Nat.{ℕ, suc, _+_, _-_, _≤_, _<_, Fin}
 use native.Mathlib.Decide.{decLt}
 use native.Mathlib.Omega.{arith}
-use lib.Dec.{T, eqb, ltb, leb}
+use lib.Dec.{eqb}
 use lib.ListN.{length, getD, replicate, length-map}
 use borrow.Author.Tests.{eq-eqb, lt-ltb}
-use Rattle.base.specs.Bools.{is-true}
-use Rattle.base.specs.Range.{range}
 use Rattle.mesh.specs.Answers.{markb, marksb}
-use Rattle.exchange.specs.Calls.{Call, World, startedWith}
-use Rattle.exchange.specs.Finite.{parts}
-use Rattle.exchange.specs.Exchange.{storeAt as storeIn}
-use Rattle.exchange.specs.Begun.{first-fine}
 use Rattle.rounds.specs.Tests.{Member}
 use Rattle.rounds.specs.Task.{Task, Fit}
-use Rattle.rounds.specs.Rounds.{mine}
 use Rattle.parts.specs.Held.{masterb}
 use Rattle.parts.specs.Starts.{mastersOn, startb, placeOn}
 use Rattle.soundness.specs.Sound.{Sound, sound-parts}
@@ -30,18 +21,16 @@ use Rattle.splitting.specs.Split.{fits, owners-fit}
 use Rattle.splitting.specs.Numbers.{number-inside}
 use Rattle.splitting.specs.Admissible.{owners-counted}
 use Rattle.merging.specs.Run.{nthPart, numberOf, named, marksFrom}
-use Rattle.store.specs.Fields.{field, full, STAGE, CELLS, TAKEN, ENDED, GIVEN, RED, SUM}
+use Rattle.store.specs.Fields.{field, TAKEN, ENDED, GIVEN}
 use Rattle.split.specs.Columns.{slotOf}
-use Rattle.split.specs.Stored.{Stored, storeAt}
-use Rattle.standing.specs.Busy.{HoldsCell, HoldsSlot}
-use Rattle.entering.specs.Columns.{Columns, countBefore}
-use Rattle.entering.specs.Within.{member-low, cell-low, slot-low}
-use Rattle.entering.specs.Entered.{Stay}
+use Rattle.split.specs.Stored.{Stored}
+use Rattle.standing.specs.Busy.{HoldsCell}
+use Rattle.entering.specs.Columns.{Columns}
+use Rattle.entering.specs.Within.{cell-low, slot-low}
 use Rattle.entering.specs.Standing.{Idle}
 use Rattle.tasks.specs.Edges.{slotsOn}
 use Rattle.tasks.specs.Holders.{splitTask}
 use Rattle.tasks.specs.Accepted.{Splits, split-slots, split-columns, split-header, split-marks, split-before}
-use Rattle.outcome.specs.Program.{act}
 
 -- marks of 0 are taken
 mark-zero : (s : ℕ) → markb s 0 ≡ true

@@ -155,7 +155,7 @@ module _ (ps : List ℤ) (ts ss : List ℕ) (Q : ℕ) (os b : List ℕ) (e : spl
   unfolding marksGiven
   given-is p = refl
 
-  pub starts : (p : Fin (suc Q)) (c : ℕ) → nthPart Q (getD os c 0) ≡ p → reads Q nn cells ss os gg p (input p) c ≡ getD ms c 0
+  starts : (p : Fin (suc Q)) (c : ℕ) → nthPart Q (getD os c 0) ≡ p → reads Q nn cells ss os gg p (input p) c ≡ getD ms c 0
   unfolding serialMarks marksFrom
   starts p c h =
       ap (λ (l : List ℕ). elim (ltb c (length os) && masterb os (numberOf p) c) [ true ↦ getD l (placeOn os c) 0 | false ↦ 0 ])

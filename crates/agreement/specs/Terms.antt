@@ -1,6 +1,5 @@
 -- What demand 3 speaks of.
---   storesOf P b           the stores of the parts 1 to P, as a split leaves them in a lent table
---   afterSplit P b         the world then: these stores, and no message given
+--   afterSplit P b         the world after a split: the stores of the parts 1 to P in the lent table b, and no message given
 --   marksGiven os cs w p   the marks that the calls cs started the part p with, from 1; 0 for each master where they did not start it
 --   serialMarks os cs w    these marks put together: what the serial step is given
 --   lastStore cs w p       the store of the part p, from 1, after the calls
@@ -14,7 +13,6 @@ use mathlib.Core.List.{List, [], map}
 use Prim.Native.Nat.{ℕ, zero, suc, pred}
 use lib.ListN.{length, getD, replicate}
 use Rattle.base.specs.Lists.{allb}
-use Rattle.base.specs.Range.{range}
 use Rattle.parts.specs.Starts.{mastersOn, putTogether}
 use Rattle.exchange.specs.Calls.{Call, World, play, startedWith}
 use Rattle.exchange.specs.Finite.{parts}
@@ -25,26 +23,22 @@ use Rattle.merging.specs.Totals.{grownOf}
 use Rattle.merging.specs.Run.{nthPart, marksFrom}
 use Rattle.standing.specs.Busy.{pack}
 use Rattle.tasks.specs.Holders.{splitTask}
-use Rattle.split.specs.Stored.{storeAt}
+use Rattle.store.specs.Stores.{storesBy}
 use Rattle.held.specs.Held.{stageAnswer, stageOf, progressOf}
 use Rattle.held.specs.declared.Progress.{Progress}
 use Rattle.held.specs.declared.Progress.the-variants as progress
 use Rattle.outcome.specs.Program.{act}
 
--- a call on a store takes marks or bytes
+-- Rule 15.17: a call on a store takes marks or bytes
 abbrev pub Calls : Type 0
 Calls = List (Call (List ℕ) (List ℕ))
 
 abbrev pub Stores : Type 0
 Stores = World (List ℕ) (List ℕ)
 
-unfoldable pub storesOf : ℕ → List ℕ → List (List ℕ)
-unfolding range
-storesOf P b = map (storeAt b) (range 0 P)
-
 -- Rule 15.17.
 abbrev pub afterSplit : ℕ → List ℕ → Stores
-afterSplit P b = record { stores = storesOf P b; given = [] }
+afterSplit P b = record { stores = storesBy b P; given = [] }
 
 -- Rule 15.6.
 unfoldable pub marksGiven : List ℕ → Calls → Stores → ℕ → List ℕ

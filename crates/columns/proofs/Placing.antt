@@ -1,20 +1,17 @@
 -- Places, inner edges and the ten numbers of a cell, as the code makes them.
---   Number d i l      the child number i behind l others has room beside d
 --   tests t g c       which edges of c are not also those of g
--- Laws: number-is, child-short, child-long, child-beyond, place-coarse, place-child (places), outer-no, outer-yes, no-bits, small-bits,
--- bit-turn, inner-none, inner-some (inner edges), wrote-start, wrote-more (the numbers of a cell), ten-is, kids-owned, filled-none,
--- filled-more, filled-placed (all cells).
+-- Laws: place-coarse, place-child (places), outer-no, outer-yes, no-bits, small-bits, bit-turn, inner-none, inner-some (inner edges),
+-- ten-is, kids-owned, filled-none, filled-more, filled-placed (all cells).
 use mathlib.Core.Path.{_≡_, refl, sym, _∙_, ap}
 use mathlib.Core.Bool.{Bool, true, false}
 use mathlib.Core.List.{List, [], _∷_, map}
-use Prim.Native.Nat.{ℕ, zero, suc, _+_, _-_, _*_, _%_, _^_, _≤_, _<_}
-use native.Mathlib.Nat.{eq-or-lt-of-le, mul-le-mul}
+use Prim.Native.Nat.{ℕ, zero, suc, _+_, _-_, _*_, _^_, _≤_, _<_}
+use native.Mathlib.Nat.{eq-or-lt-of-le}
 use mathlib.Core.Logic.{⊎-elim}
 use native.Mathlib.Omega.{arith}
 use lib.Dec.{T, eqb, leb, leb→le}
-use lib.ListN.{length, getD, set, drop, length-set}
-use lib.Seq.{getD-set-same, getD-set-other}
-use borrow.Author.Tests.{eq-eqb, ne-eqb, lt-ltb, le-ltb}
+use lib.ListN.{length, getD, drop}
+use borrow.Author.Tests.{eq-eqb, ne-eqb}
 use Rattle.base.specs.Bools.{one-if, one-most}
 use Rattle.base.specs.Lists.{belowb, belowb-at}
 use Rattle.mesh.specs.Cells.{edge, edges, heldb, bitsOf}
@@ -23,50 +20,16 @@ use Rattle.rows.specs.Numbered.{cellAt}
 use Rattle.ancestors.specs.Climb.{levelIn, parentIn}
 use Rattle.edges.specs.Pairs.{Pair}
 use Rattle.store.specs.declared.Place.{Place}
-use Rattle.store.specs.Places.{levelIn as levelOf, childPlace}
-use Rattle.columns.specs.Ten.{outerb, innerBy, placeBy, familyBy, tenOf, Kids, Ready, Filled, Placed, Wrote}
-
-powers : T (belowb (λ l. leb (2 ^ (3 * l)) 4096) 5)
-unfolding belowb
-powers = tt
-
--- a child number moved up
-pub record Number (d i l : ℕ) : Type 0 where
-  pub few : i * 2 ^ (3 * l) % 18446744073709551616 ≤ 268431360
-  pub is : (d + i * 2 ^ (3 * l) % 18446744073709551616) % 65536 ≡ (d + i * 2 ^ (3 * l)) % 65536
-
-pub number-is : (d i l : ℕ) → i ≤ 65535 → l < 5 → Number d i l
-number-is d i l h g = go (i * 2 ^ (3 * l))
-    (mul-le-mul h (leb→le (2 ^ (3 * l)) 4096 (belowb-at (λ l. leb (2 ^ (3 * l)) 4096) 5 powers l g)))
-    refl
-  where
-    go : (n : ℕ) → n ≤ 65535 * 4096 → i * 2 ^ (3 * l) ≡ n → Number d i l
-    go n m e =
-        let z : n % 18446744073709551616 ≡ n = omega arith in
-        record { few = rw (e, z) (omega arith); is = rw (e, z) refl }
-
-module _ (p : Place) (i : ℕ) where
-  pub child-short : (d : ℕ) → levelOf p < 5 → d ≡ (p .digits + i * 2 ^ (3 * levelOf p)) % 65536
-      → _≡_ {A = Place} (record { head = (p .head + 256) % 65536; digits = d; more = p .more }) (childPlace p i)
-  unfolding childPlace
-  child-short d h e = rw (lt-ltb (levelOf p) 5 h, e, childPlace)
-
-  pub child-long : (d : ℕ) → 5 ≤ levelOf p → levelOf p < 10 → d ≡ (p .more + i * 2 ^ (3 * (levelOf p - 5))) % 65536
-      → _≡_ {A = Place} (record { head = (p .head + 256) % 65536; digits = p .digits; more = d }) (childPlace p i)
-  unfolding childPlace
-  child-long d h g e = rw (le-ltb (levelOf p) 5 h, lt-ltb (levelOf p) 10 g, e, childPlace)
-
-  pub child-beyond : 5 ≤ levelOf p → 10 ≤ levelOf p
-      → _≡_ {A = Place} (record { head = (p .head + 256) % 65536; digits = p .digits; more = p .more }) (childPlace p i)
-  unfolding childPlace
-  child-beyond h g = rw (le-ltb (levelOf p) 5 h, le-ltb (levelOf p) 10 g, childPlace)
+use Rattle.store.specs.Places.{childPlace}
+use Rattle.store.specs.Written.{WroteAt}
+use Rattle.columns.specs.Ten.{outerb, innerBy, placeBy, familyBy, tenOf, FirstKids, Sources, Filled, ParentPlaced}
 
 module _ (t cols : List ℕ) (c : ℕ) where
   pub place-coarse : levelIn t c ≡ 0 → _≡_ {A = Place} (record { head = c; digits = 0; more = 0 }) (placeBy t (levelIn t c) c)
   unfolding placeBy
   place-coarse e = rw e
 
-  pub place-child : Placed t cols c → 0 < levelIn t c → (r : Place)
+  pub place-child : ParentPlaced t cols c → 0 < levelIn t c → (r : Place)
       → r ≡ childPlace (record {
         head = getD cols (24576 + parentIn t c) 0;
         digits = getD cols (28672 + parentIn t c) 0;
@@ -141,25 +104,6 @@ module _ (t : List ℕ) (c : ℕ) where
   unfolding innerBy
   inner-some e bits q = q ∙ sym (rw (ne-eqb (levelIn t c) 0 e, innerBy))
 
--- the numbers of a cell written one by one
-module _ (cols : List ℕ) (c : ℕ) (l : List ℕ) (low : c < 4096) where
-  pub wrote-start : Wrote cols c 0 l cols
-  wrote-start = record { here = λ i h. absurd (omega arith); other = λ i d h n. refl; size = refl }
-
-  pub wrote-more : (j : ℕ) (cols′ : List ℕ) → j < 10 → length cols ≡ 40960 → Wrote cols c j l cols′
-      → Wrote cols c (suc j) l (set cols′ (4096 * j + c) (getD l j 0))
-  wrote-more j cols′ h long w =
-      record {
-        here = λ i g.
-            ⊎-elim (λ (e : i ≡ j). rw e (getD-set-same cols′ (4096 * j + c) (getD l j 0) 0 (omega (arith, w .size))))
-            (λ (e : i < j).
-            getD-set-other cols′ (4096 * j + c) (4096 * i + c) (getD l j 0) 0 (λ z. absurd (omega (arith, z))) ∙ w .here i e)
-            (eq-or-lt-of-le (omega arith));
-        other = λ i d g n.
-            getD-set-other cols′ (4096 * j + c) (4096 * i + d) (getD l j 0) 0 (λ z. n (omega (arith, z))) ∙ w .other i d g n;
-        size = length-set cols′ (4096 * j + c) (getD l j 0) ∙ w .size;
-      }
-
 module _ (t ss ks os : List ℕ) (c : ℕ) where
   pub ten-is : (f : ℕ) (p : Place) (b : ℕ) → f ≡ familyBy ks os c → p ≡ placeBy t (levelIn t c) c → b ≡ innerBy t c
       → getD os c 0 ∷ f ∷ getD ss c 0 ∷ getD t (8 * c + 3) 0 ∷ getD ks c 0 ∷ parentIn t c ∷ p .head ∷ p .digits ∷ p .more ∷ b ∷ []
@@ -168,23 +112,23 @@ module _ (t ss ks os : List ℕ) (c : ℕ) where
   ten-is f p b x y z = rw (x, y, z)
 
 module _ (t ss ks os : List ℕ) where
-  pub kids-owned : Ready t ss ks os → Kids ks (length os)
+  pub kids-owned : Sources t ss ks os → FirstKids ks (length os)
   kids-owned r = rw (r .owners) (r .kids)
 
   pub filled-none : (cols : List ℕ) → Filled t ss ks os 0 cols
   filled-none cols = record { at = λ d j h g. absurd (omega arith) }
 
   pub filled-more : (c : ℕ) (cols l cols′ : List ℕ) → c < 4096 → Filled t ss ks os c cols → l ≡ tenOf t ss ks os c
-      → Wrote cols c 10 l cols′ → Filled t ss ks os (suc c) cols′
+      → WroteAt (λ j. 4096 * j + c) (λ j. getD l j 0) 10 cols cols′ → Filled t ss ks os (suc c) cols′
   filled-more c cols l cols′ low f e w =
       record {
         at = λ d j h g.
             ⊎-elim (λ (q : d ≡ c). rw (q, ← e) (w .here j g))
-            (λ (q : d < c). w .other j d (omega arith) (λ z. absurd (omega (arith, z))) ∙ f .at d j q g)
+            (λ (q : d < c). w .other (4096 * j + d) (λ i k z. absurd (omega (arith, z))) ∙ f .at d j q g)
             (eq-or-lt-of-le (omega arith));
       }
 
-  pub filled-placed : Ready t ss ks os → (c : ℕ) (cols : List ℕ) → c < length ss → Filled t ss ks os c cols → Placed t cols c
+  pub filled-placed : Sources t ss ks os → (c : ℕ) (cols : List ℕ) → c < length ss → Filled t ss ks os c cols → ParentPlaced t cols c
   unfolding tenOf
   filled-placed r c cols h f =
       record {

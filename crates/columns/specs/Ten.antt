@@ -5,11 +5,10 @@
 --   familyBy ks os c     the owner of its children; of a leaf its own
 --   tenOf t ss ks os c   owner, family, status, 1 where regular, first child, parent, place (three numbers), inner edges
 --   ownersBy ss ks P os  the owners fit the table and P parts
---   Kids ks m            ks has the first children of m cells, and behind them how many cells there are
---   Ready ..             what the columns are made of
+--   FirstKids ks m            ks has the first children of m cells, and behind them how many cells there are
+--   Sources ..             what the columns are made of
 --   Filled .. c cols     cols has the numbers of the cells before c
---   Placed t cols c      cols has the place of the parent of c
---   Wrote cols c j l ..  the first j numbers of l were written for the cell c
+--   ParentPlaced t cols c      cols has the place of the parent of c
 use mathlib.Core.Path.{_≡_}
 use mathlib.Core.Bool.{Bool, true, false, _&&_, not}
 use mathlib.Core.List.{List, [], _∷_, map}
@@ -25,22 +24,27 @@ use Rattle.ancestors.specs.Climb.{levelIn, parentIn}
 use Rattle.store.specs.declared.Place.{Place}
 use Rattle.store.specs.Places.{coarsePlace, childPlace}
 
+-- Rule 7.5.
 unfoldable pub outerb : List ℕ → ℕ → ℕ → ℕ → Bool
 unfolding heldb edges edge cellAt
 outerb t g c e = not (heldb eqb (edges 0 (cellAt t g)) (edge 0 (cellAt t c) e))
 
+-- Rule 7.5.
 unfoldable pub innerBy : List ℕ → ℕ → ℕ
 unfolding outerb bitsOf
 innerBy t c = elim (eqb (levelIn t c) 0) [ true ↦ 0 | false ↦ bitsOf (map (outerb t (parentIn t c) c) edgeNumbers) ]
 
+-- Rule 3.3.
 unfoldable pub placeBy : List ℕ → ℕ → ℕ → Place
 unfolding childPlace
 placeBy t zero c = coarsePlace c
 placeBy t (suc k) c = childPlace (placeBy t k (parentIn t c)) (getD t (8 * c + 2) 0)
 
+-- Rule 15.1.
 unfoldable pub familyBy : List ℕ → List ℕ → ℕ → ℕ
 familyBy ks os c = elim (ltb (getD ks c 0) (getD ks (suc c) 0)) [ true ↦ getD os (getD ks c 0) 0 | false ↦ getD os c 0 ]
 
+-- Rule 15.5.
 unfoldable pub tenOf : List ℕ → List ℕ → List ℕ → List ℕ → ℕ → List ℕ
 unfolding familyBy placeBy innerBy
 tenOf t ss ks os c =
@@ -48,6 +52,7 @@ tenOf t ss ks os c =
     getD os c 0 ∷ familyBy ks os c ∷ getD ss c 0 ∷ getD t (8 * c + 3) 0 ∷ getD ks c 0 ∷ parentIn t c
     ∷ p .head ∷ p .digits ∷ p .more ∷ innerBy t c ∷ []
 
+-- Rule 15.14.
 unfoldable pub ownersBy : List ℕ → List ℕ → ℕ → List ℕ → Bool
 unfolding allb range familyBy
 ownersBy ss ks P os =
@@ -55,21 +60,21 @@ ownersBy ss ks P os =
     && allb (λ c. allb (λ d. eqb (getD os d 0) (familyBy ks os c)) (range (getD ks c 0) (getD ks (suc c) 0 - getD ks c 0)))
     (range 0 (length ss))
 
-pub record Kids (ks : List ℕ) (m : ℕ) : Type 0 where
+pub record FirstKids (ks : List ℕ) (m : ℕ) : Type 0 where
   pub long : m < length ks
   pub top : (c : ℕ) → c ≤ m → getD ks c 0 ≤ m
 
-pub record Ready (t ss ks os : List ℕ) : Type 0 where
+pub record Sources (t ss ks os : List ℕ) : Type 0 where
   pub few : length ss ≤ 4096
   pub rows : 8 * length ss ≤ length t
-  pub kids : Kids ks (length ss)
+  pub kids : FirstKids ks (length ss)
   pub owners : length os ≡ length ss
   pub up : (c : ℕ) → c < length ss → 0 < levelIn t c → (parentIn t c < c) × (levelIn t c ≡ suc (levelIn t (parentIn t c)))
 
 pub record Filled (t ss ks os : List ℕ) (c : ℕ) (cols : List ℕ) : Type 0 where
   pub at : (d j : ℕ) → d < c → j < 10 → getD cols (4096 * j + d) 0 ≡ getD (tenOf t ss ks os d) j 0
 
-pub record Placed (t cols : List ℕ) (c : ℕ) : Type 0 where
+pub record ParentPlaced (t cols : List ℕ) (c : ℕ) : Type 0 where
   pub below : 0 < levelIn t c → parentIn t c < c
   pub is : 0 < levelIn t c → _≡_ {A = Place}
       (record {
@@ -80,8 +85,3 @@ pub record Placed (t cols : List ℕ) (c : ℕ) : Type 0 where
       })
       (placeBy t (levelIn t (parentIn t c)) (parentIn t c))
   pub level : 0 < levelIn t c → levelIn t c ≡ suc (levelIn t (parentIn t c))
-
-pub record Wrote (cols : List ℕ) (c j : ℕ) (l cols′ : List ℕ) : Type 0 where
-  pub here : (i : ℕ) → i < j → getD cols′ (4096 * i + c) 0 ≡ getD l i 0
-  pub other : (i d : ℕ) → d < 4096 → (d ≡ c → ⊥) → getD cols′ (4096 * i + d) 0 ≡ getD cols (4096 * i + d) 0
-  pub size : length cols′ ≡ length cols

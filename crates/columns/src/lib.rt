@@ -2,23 +2,21 @@
 use rows::Ends;
 use store::Place;
 ghost use mathlib.Core.Path.{_≡_};
-ghost use mathlib.Core.Bool.{_&&_, not, true};
-ghost use Prim.Native.Nat.{suc, _+_, _-_, _*_, _^_, _%_, _≤_, _<_};
+ghost use mathlib.Core.Bool.{_&&_, true};
+ghost use Prim.Native.Nat.{suc, _+_, _-_, _*_, _≤_, _<_};
 ghost use lib.Dec.{eqb, leb};
 ghost use lib.ListN.{length, getD};
 ghost use Rattle.base.specs.Bools.{one-if};
 ghost use Rattle.base.specs.Lent.{was, is};
 ghost use Rattle.base.specs.Lists.{allb};
 ghost use Rattle.base.specs.Range.{range};
-ghost use Rattle.mesh.specs.Cells.{joinsb, heldb, edge, edges};
-ghost use Rattle.rows.specs.Numbered.{cellAt};
 ghost use Rattle.ancestors.specs.Climb.{levelIn, parentIn};
-ghost use Rattle.store.specs.Places.{childPlace};
-ghost use Rattle.columns.specs.Ten.{outerb, innerBy, familyBy, placeBy, tenOf, ownersBy, Kids, Ready, Filled, Wrote, Placed};
+ghost use Rattle.store.specs.Written.{WroteAt};
+ghost use Rattle.columns.specs.Ten.{outerb, innerBy, familyBy, placeBy, tenOf, ownersBy, FirstKids, Sources, Filled, ParentPlaced};
 
 // The family's owner: that of the first child; of a leaf its own.
 fn family_of(owners: &[u8], kids: &[u16], c: usize) -> u8
-    requires { ⌜ Kids (now kids) (length (now owners)) ⌝ }
+    requires { ⌜ FirstKids (now kids) (length (now owners)) ⌝ }
     requires { ⌜ c < length (now owners) ⌝ }
     ensures { λ r. ⌜ r ≡ familyBy (was kids) (was owners) c ⌝ }
 {
@@ -32,7 +30,7 @@ fn family_of(owners: &[u8], kids: &[u16], c: usize) -> u8
 
 // Whether the children of a cell have one owner.
 fn one_owner(owners: &[u8], kids: &[u16], c: usize) -> bool
-    requires { ⌜ Kids (now kids) (length (now owners)) ⌝ }
+    requires { ⌜ FirstKids (now kids) (length (now owners)) ⌝ }
     requires { ⌜ c < length (now owners) ⌝ }
     ensures { λ r. ⌜ r ≡ allb (λ d. eqb (getD (was owners) d 0) (familyBy (was kids) (was owners) c))
         (range (getD (was kids) c 0) (getD (was kids) (suc c) 0 - getD (was kids) c 0)) ⌝ }
@@ -70,7 +68,7 @@ fn are_parts(owners: &[u8], parts: usize) -> bool
 // Whether the owners fit a table, whose families are told by `kids`, and the parts: one owner for each cell, a part, and one for all
 // children of a cell.
 pub fn owners_fit(owners: &[u8], status: &[u8], parts: usize, kids: &[u16]) -> bool
-    requires { ⌜ Kids (now kids) (length (now status)) ⌝ }
+    requires { ⌜ FirstKids (now kids) (length (now status)) ⌝ }
     ensures { λ r. ⌜ r ≡ ownersBy (was status) (was kids) parts (was owners) ⌝ }
 {
     if owners.len() != status.len() {
@@ -89,44 +87,13 @@ pub fn owners_fit(owners: &[u8], status: &[u8], parts: usize, kids: &[u16]) -> b
     true
 }
 
-fn are(a: u16, b: u16, c: u16, d: u16) -> bool
-    ensures { λ r. ⌜ r ≡ (eqb a c && eqb b d) ⌝ }
-{
-    if a == c { b == d } else { false }
-}
-
-fn joins(a: u16, b: u16, c: u16, d: u16) -> bool
-    ensures { λ r. ⌜ r ≡ joinsb eqb (a, b) (c, d) ⌝ }
-{
-    if are(a, b, c, d) {
-        return true;
-    }
-    are(a, b, d, c)
-}
-
-// Whether an edge is one of the cell's six.
-fn has_edge(rows: &[u16], g: usize, a: u16, b: u16) -> bool
-    requires { ⌜ 8 * g + 8 ≤ length (now rows) ⌝ }
-    ensures { λ r. ⌜ r ≡ heldb eqb (edges 0 (cellAt (was rows) g)) (a, b) ⌝ }
-{
-    let mut e = 0;
-    while e < 6 {
-        let own = rows::edge_of(rows, g, e);
-        if joins(a, b, own.a, own.b) {
-            return true;
-        }
-        e += 1;
-    }
-    false
-}
-
 // 1 where the edge e of the cell c is not also one of the cell g, else 0.
 fn outer(rows: &[u16], g: usize, c: usize, e: usize) -> u16
     requires { ⌜ (8 * g + 8 ≤ length (now rows)) × (8 * c + 8 ≤ length (now rows)) × (e < 6) ⌝ }
     ensures { λ r. ⌜ r ≡ one-if (outerb (was rows) g c e) ⌝ }
 {
     let own = rows::edge_of(rows, c, e);
-    if has_edge(rows, g, own.a, own.b) {
+    if separation::has_edge(rows, g, own.a, own.b) {
         return 0;
     }
     1
@@ -151,45 +118,10 @@ fn inner_of(rows: &[u16], c: usize) -> u16
     bits
 }
 
-// A child number behind `level` others, five at most.
-fn with_number(digits: u16, i: u16, level: usize) -> u16
-    requires { ⌜ level < 5 ⌝ }
-    ensures { λ r. ⌜ r ≡ (digits + i * 2 ^ (3 * level)) % 65536 ⌝ }
-{
-    ((digits as usize + ((i as usize) << (3 * level))) % 65536) as u16
-}
-
-// The place of a child.
-fn child_place(p: Place, i: u16) -> Place
-    ensures { λ r. ⌜ r ≡ childPlace p i ⌝ }
-{
-    let level = p.head as usize / 256;
-    let head = ((p.head as usize + 256) % 65536) as u16;
-    if level < 5 {
-        return Place {
-            head,
-            digits: with_number(p.digits, i, level),
-            more: p.more,
-        };
-    }
-    if level < 10 {
-        return Place {
-            head,
-            digits: p.digits,
-            more: with_number(p.more, i, level - 5),
-        };
-    }
-    Place {
-        head,
-        digits: p.digits,
-        more: p.more,
-    }
-}
-
 // The place of a cell, where the columns have those of the cells before it.
 fn place_of(rows: &[u16], cols: &[u16], c: usize) -> Place
     requires { ⌜ (8 * c + 8 ≤ length (now rows)) × (c < 4096) × (length (now cols) ≡ 40960) ⌝ }
-    requires { ⌜ Placed (now rows) (now cols) c ⌝ }
+    requires { ⌜ ParentPlaced (now rows) (now cols) c ⌝ }
     ensures { λ r. ⌜ r ≡ placeBy (was rows) (levelIn (was rows) c) c ⌝ }
 {
     if rows[8 * c] == 0 {
@@ -205,7 +137,7 @@ fn place_of(rows: &[u16], cols: &[u16], c: usize) -> Place
         digits: cols[28672 + g],
         more: cols[32768 + g],
     };
-    child_place(p, rows[8 * c + 2])
+    store::child_place(p, rows[8 * c + 2])
 }
 
 // The ten numbers of a cell, in the order of the store.
@@ -217,7 +149,7 @@ fn ten_of(
     cols: &[u16],
     c: usize,
 ) -> [u16; 10]
-    requires { ⌜ Ready (now rows) (now status) (now kids) (now owners) ⌝ }
+    requires { ⌜ Sources (now rows) (now status) (now kids) (now owners) ⌝ }
     requires { ⌜ (c < length (now status)) × (length (now cols) ≡ 40960) ⌝ }
     requires { ⌜ Filled (now rows) (now status) (now kids) (now owners) c (now cols) ⌝ }
     ensures { λ r. ⌜ r ≡ tenOf (was rows) (was status) (was kids) (was owners) c ⌝ }
@@ -242,7 +174,7 @@ fn ten_of(
 // Writes the ten numbers of a cell, one into each column.
 fn put_ten(cols: &mut [u16], c: usize, ten: &[u16; 10])
     requires { ⌜ (length (now cols) ≡ 40960) × (c < 4096) ⌝ }
-    ensures { λ r. ⌜ Wrote (was cols) c 10 (was ten) (is cols) ⌝ }
+    ensures { λ r. ⌜ WroteAt (λ j. 4096 * j + c) (λ j. getD (was ten) j 0) 10 (was cols) (is cols) ⌝ }
 {
     let mut j = 0;
     while j < 10 {
@@ -253,7 +185,7 @@ fn put_ten(cols: &mut [u16], c: usize, ten: &[u16; 10])
 
 // Writes the ten columns of a table: 4,096 places each, one for each cell.
 pub fn fill(rows: &[u16], status: &[u8], kids: &[u16], owners: &[u8], cols: &mut [u16])
-    requires { ⌜ Ready (now rows) (now status) (now kids) (now owners) ⌝ }
+    requires { ⌜ Sources (now rows) (now status) (now kids) (now owners) ⌝ }
     requires { ⌜ length (now cols) ≡ 40960 ⌝ }
     ensures { λ r. ⌜ Filled (was rows) (was status) (was kids) (was owners) (length (was status)) (is cols) ⌝ }
 {

@@ -1,8 +1,7 @@
 -- The answer of a split, condition by condition, and what the lent table then holds.
 --   Split ps ts ss P os b r b'    the answer r and the table after
 -- Laws: split-short, split-table, split-none, split-many, split-owners, split-yes (each return), divisible-of, kids-known, owned-of
--- (what the
--- work asks for).
+-- (what the work asks for).
 use mathlib.Core.Path.{_≡_, refl, sym, _∙_, ap}
 use mathlib.Core.Bool.{Bool, true, false, _&&_}
 use mathlib.Core.List.{List, _++_}
@@ -28,15 +27,12 @@ use Rattle.reds.specs.Firsts.{firsts-taken}
 use Rattle.parts.specs.Owners.{ownersb}
 use Rattle.store.specs.Fields.{full}
 use Rattle.split.specs.Split.{storesAfter, splitAnswer, splitIn, splitAfter}
-use Rattle.columns.specs.Ten.{Kids, ownersBy}
+use Rattle.columns.specs.Ten.{FirstKids, ownersBy}
 use Rattle.divide.specs.Divisible.{Divisible}
 use Rattle.divide.proofs.Laid.{owners-are}
 use Rattle.divide.proofs.Whole.{table-of, kids-of}
 
 module _ (ps : List ℤ) (ts ss : List ℕ) (P : ℕ) (os b : List ℕ) where
-  abbrev pub answer : Answer
-  answer = splitAnswer ps ts ss P os b
-
   abbrev owned : Bool
   owned = ownersb (cornerCount ps) (fours ts) ss P os
 
@@ -129,7 +125,7 @@ module _ (ps : List ℤ) (ts ss rows xs ys : List ℕ) (cells levels m : ℕ) (f
     firsts : take (suc (length ss)) ks ≡ firstChildren (length (fours ts)) ss
     firsts = rw (length-fours ts) (firsts-taken (length ts / 4) ss ks rest made)
 
-    pub divisible-of : (os : List ℕ) (P : ℕ) (b : List ℕ) → length os ≡ length ss → P ≤ 16 → 16 * full ≤ length b
+    divisible-of : (os : List ℕ) (P : ℕ) (b : List ℕ) → length os ≡ length ss → P ≤ 16 → 16 * full ≤ length b
         → Divisible n ts ss rows ks os P levels b
     divisible-of os P b l h r =
         record {
@@ -147,7 +143,7 @@ module _ (ps : List ℤ) (ts ss rows xs ys : List ℕ) (cells levels m : ℕ) (f
       some : Divisible n ts ss rows ks ss P levels b
       some = divisible-of ss P b refl h r
 
-      pub kids-known : Kids ks (length ss)
+      pub kids-known : FirstKids ks (length ss)
       kids-known = kids-of n ts ss rows ks ss P levels b some
 
       pub owned-is : (os : List ℕ) → ownersBy ss ks P os ≡ ownersb n (fours ts) ss P os

@@ -1,6 +1,6 @@
 -- The functions, step by step.
 --   Firsts ks k fs     fs has the first cells of the levels up to k
--- Laws: firsts-start, firsts-turn, firsts-done, rising-of (first cells), regions-length, more-start, more-turn (store by store),
+-- Laws: firsts-start, firsts-turn, firsts-done, rising-of (first cells), flat-append, more-start, more-turn (store by store),
 -- stores-are.
 use mathlib.Core.Path.{_≡_, refl, sym, _∙_, ap, ap₂}
 use mathlib.Core.Logic.{⊎-elim}
@@ -8,15 +8,17 @@ use mathlib.Core.List.{List, [], _∷_, _++_, flatMap, append-assoc, append-nil}
 use Prim.Native.Nat.{ℕ, zero, suc, _+_, _*_, _-_, _/_, _≤_, _<_}
 use native.Mathlib.Nat.{eq-or-lt-of-le}
 use native.Mathlib.Omega.{arith}
-use lib.ListN.{length, getD, take, drop, set, length-set, length-append, length-map, length-drop, length-replicate}
-use lib.Seq.{getD-set-same, getD-set-other, take-at, drop-at, drop-drop, length-take-le}
+use lib.ListN.{length, getD, take, drop, set, length-set, length-append}
+use lib.Seq.{getD-set-same, getD-set-other, take-at, drop-at, drop-drop}
 use borrow.Rule.Slice.PartMut.{putMid}
-use Rattle.base.specs.Range.{range, length-range}
+use Rattle.base.specs.Range.{range}
 use Rattle.reds.specs.Ranges.{range-snoc}
 use Rattle.store.specs.Fields.{full, CODE}
+use Rattle.store.specs.Stores.{storeIn, rest-size}
 use Rattle.slots.specs.Slots.{Rising}
-use Rattle.filling.specs.Regions.{zeros, tab, putBy, headBy, columnBy, cornerBy, slotBy, holderBy, regions}
-use Rattle.divide.specs.Divided.{firstBy, Leveled, FirstCells, storeOf, storesTo, oneMore, masksOf, partBy}
+use Rattle.filling.specs.Regions.{putBy, columnBy, cornerBy, slotBy, holderBy, regions}
+use Rattle.filling.specs.Laws.{tab-length, zero-length, header-size, between}
+use Rattle.divide.specs.Divided.{firstBy, Leveled, FirstCells, storeWith, storesTo, storePut, masksOf, partBy}
 
 pub record Firsts (ks : List ℕ) (k : ℕ) (fs : List ℕ) : Type 0 where
   pub size : length fs ≡ 12
@@ -54,26 +56,14 @@ rising-of ks fs m h l f =
       most = λ k g. rw (f .at k g) (omega (arith, l .most k g));
     }
 
--- lengths of regions
-tab-length : (k : ℕ) (f : ℕ → ℕ) → length (tab k f) ≡ k
-unfolding tab
-tab-length k f = length-map (range 0 k) f ∙ length-range 0 k
-
-zero-length : (k : ℕ) → length (zeros k) ≡ k
-unfolding zeros
-zero-length k = length-replicate k 0
-
-head-length : (p P n q m l : ℕ) → length (headBy p P n q m l) ≡ 16
-unfolding headBy
-head-length p P n q m l = refl
-
+-- the length of all regions
 module _ (cols mesh sl ms fs st : List ℕ) (m p P n l : ℕ) (fl : length fs ≡ 12) (sl' : length st ≡ 12) where
-  pub regions-length : length (regions cols mesh sl ms fs st m p P n l) ≡ CODE
+  regions-length : length (regions cols mesh sl ms fs st m p P n l) ≡ CODE
   unfolding regions
   regions-length =
       simp length-append (omega (
         arith,
-        head-length p P n (length mesh / 4) m l,
+        header-size p P n (length mesh / 4) m l,
         zero-length 72,
         tab-length 40960 (columnBy cols m p),
         zero-length 8192,
@@ -84,25 +74,20 @@ module _ (cols mesh sl ms fs st : List ℕ) (m p P n l : ℕ) (fl : length fs �
       ))
 
 -- store by store
-rest-length : (w k i : ℕ) (b : List ℕ) → i + w ≤ length b → length (drop k (take w (drop i b))) ≡ w - k
-rest-length w k i b h =
-    let t : length (take w (drop i b)) ≡ w = length-take-le w (drop i b) (simp length-drop (omega arith)) in
-    length-drop k (take w (drop i b)) ∙ ap (λ (m : ℕ). m - k) t
-
 put-by : (a d : ℕ) (x y : List ℕ) → putBy a d x y ≡ take a x ++ (y ++ drop d x)
 unfolding putBy
 put-by a d x y = refl
 
 one-more : (f : ℕ → List ℕ) (b : List ℕ) (j : ℕ)
-    → oneMore f b j ≡ take (full * j) b ++ (storeOf f b j ++ drop (full * j + full) b)
-unfolding oneMore
-one-more f b j = put-by (full * j) (full * j + full) b (storeOf f b j)
+    → storePut f b j ≡ take (full * j) b ++ (storeWith f b j ++ drop (full * j + full) b)
+unfolding storePut
+one-more f b j = put-by (full * j) (full * j + full) b (storeWith f b j)
 
-to-stores : (f : ℕ → List ℕ) (b : List ℕ) (j : ℕ) → flatMap (storeOf f b) (range 0 j) ++ drop (full * j) b ≡ storesTo f b j
+to-stores : (f : ℕ → List ℕ) (b : List ℕ) (j : ℕ) → flatMap (storeWith f b) (range 0 j) ++ drop (full * j) b ≡ storesTo f b j
 unfolding storesTo
 to-stores f b j = refl
 
-flat-append : (f : ℕ → List ℕ) (l m : List ℕ) → flatMap f (l ++ m) ≡ flatMap f l ++ flatMap f m
+pub flat-append : (f : ℕ → List ℕ) (l m : List ℕ) → flatMap f (l ++ m) ≡ flatMap f l ++ flatMap f m
 unfolding flatMap
 flat-append f [] m = refl
 flat-append f (x ∷ l) m = ap (λ (r : List ℕ). f x ++ r) (flat-append f l m) ∙ sym (append-assoc (f x) (flatMap f l) (flatMap f m))
@@ -115,23 +100,23 @@ flat-snoc f j =
     ∙ ap (λ (r : List ℕ). flatMap f (range 0 j) ++ r) (append-nil (f (0 + j)) ∙ ap f y)
 
 module _ (f : ℕ → List ℕ) (sized : (p : ℕ) → length (f p) ≡ CODE) (b : List ℕ) where
-  store-length : (j : ℕ) → full * j + full ≤ length b → length (storeOf f b j) ≡ full
-  unfolding storeOf
+  store-length : (j : ℕ) → full * j + full ≤ length b → length (storeWith f b j) ≡ full
+  unfolding storeWith
   store-length j h =
-      length-append (f (suc j)) (drop CODE (take full (drop (full * j) b)))
-      ∙ ap₂ _+_ (sized (suc j)) (rest-length full CODE (full * j) b h)
+      length-append (f (suc j)) (drop CODE (storeIn b j))
+      ∙ ap₂ _+_ (sized (suc j)) (rest-size b j CODE h)
 
-  all-length : (j : ℕ) → full * j ≤ length b → length (flatMap (storeOf f b) (range 0 j)) ≡ full * j
+  all-length : (j : ℕ) → full * j ≤ length b → length (flatMap (storeWith f b) (range 0 j)) ≡ full * j
   unfolding flatMap range
   all-length zero h = omega arith
   all-length (suc j) h =
-      ap length (flat-snoc (storeOf f b) j) ∙ length-append (flatMap (storeOf f b) (range 0 j)) (storeOf f b j)
+      ap length (flat-snoc (storeWith f b) j) ∙ length-append (flatMap (storeWith f b) (range 0 j)) (storeWith f b j)
       ∙ ap₂ _+_ (all-length j (omega arith)) (store-length j (omega arith)) ∙ omega arith
 
   -- one store more
   module _ (j : ℕ) (room : full * j + full ≤ length b) where
     abbrev done : List ℕ
-    done = flatMap (storeOf f b) (range 0 j)
+    done = flatMap (storeWith f b) (range 0 j)
 
     done-length : length done ≡ full * j
     done-length = all-length j (omega arith)
@@ -144,8 +129,8 @@ module _ (f : ℕ → List ℕ) (sized : (p : ℕ) → length (f p) ≡ CODE) (b
     unfolding storesTo
     dropped = drop-at done (drop (full * j) b) (full * j) done-length
 
-    same-store : storeOf f (storesTo f b j) j ≡ storeOf f b j
-    unfolding storeOf
+    same-store : storeWith f (storesTo f b j) j ≡ storeWith f b j
+    unfolding storeWith storeIn
     same-store = ap (λ (l : List ℕ). f (suc j) ++ drop CODE (take full l)) dropped
 
     behind : drop (full * j + full) (storesTo f b j) ≡ drop (full * suc j) b
@@ -154,50 +139,41 @@ module _ (f : ℕ → List ℕ) (sized : (p : ℕ) → length (f p) ≡ CODE) (b
         sym (drop-drop full (full * j) (storesTo f b j)) ∙ ap (drop full) dropped ∙ drop-drop full (full * j) b
         ∙ ap (λ (k : ℕ). drop k b) z
 
-    pub more-turn : oneMore f (storesTo f b j) j ≡ storesTo f b (suc j)
+    pub more-turn : storePut f (storesTo f b j) j ≡ storesTo f b (suc j)
     more-turn =
         one-more f (storesTo f b j) j
         ∙ ap₂ (λ (x y : List ℕ). x ++ (y ++ drop (full * j + full) (storesTo f b j))) taken same-store
-        ∙ ap (λ (x : List ℕ). done ++ (storeOf f b j ++ x)) behind
-        ∙ sym (append-assoc done (storeOf f b j) (drop (full * suc j) b))
-        ∙ ap (λ (x : List ℕ). x ++ drop (full * suc j) b) (sym (flat-snoc (storeOf f b) j))
+        ∙ ap (λ (x : List ℕ). done ++ (storeWith f b j ++ x)) behind
+        ∙ sym (append-assoc done (storeWith f b j) (drop (full * suc j) b))
+        ∙ ap (λ (x : List ℕ). x ++ drop (full * suc j) b) (sym (flat-snoc (storeWith f b) j))
         ∙ to-stores f b (suc j)
-
-  pub to-length : (j : ℕ) → full * j ≤ length b → length (storesTo f b j) ≡ length b
-  unfolding storesTo
-  to-length j h =
-      length-append (flatMap (storeOf f b) (range 0 j)) (drop (full * j) b)
-      ∙ ap₂ _+_ (all-length j h) (length-drop (full * j) b) ∙ omega arith
 
   pub more-start : b ≡ storesTo f b 0
   unfolding storesTo flatMap range
   more-start = let z : full * 0 ≡ 0 = omega arith in refl
 
 store-part : (cols mesh sl fs st : List ℕ) (m P n l : ℕ) (x : List ℕ) (j : ℕ)
-    → regions cols mesh sl (masksOf cols m sl) fs st m (suc j) P n l ++ drop CODE (take full (drop (full * j) x))
-    ≡ storeOf (partBy cols mesh sl fs st m P n l) x j
-unfolding partBy storeOf
+    → regions cols mesh sl (masksOf cols m sl) fs st m (suc j) P n l ++ drop CODE (storeIn x j)
+    ≡ storeWith (partBy cols mesh sl fs st m P n l) x j
+unfolding partBy storeWith
 store-part cols mesh sl fs st m P n l x j = refl
 
 -- a store lent to a call
 pub lent-length : (x : List ℕ) (j : ℕ) → j < 16 → 16 * full ≤ length x → length (take (full * j + full - full * j) (drop (full * j) x))
     ≡ full
 lent-length x j h l = between x (full * j) full (omega arith)
-  where
-    between : (x : List ℕ) (a k : ℕ) → a + k ≤ length x → length (take (a + k - a) (drop a x)) ≡ k
-    between x a k g =
-        let w : a + k - a ≡ k = omega arith in rw w (length-take-le k (drop a x) (simp length-drop (omega arith)))
 
 module _ (cols mesh sl ms fs st : List ℕ) (m P n l : ℕ) (is : ms ≡ masksOf cols m sl) where
   pub lent-back : (x y : List ℕ) (j : ℕ)
       → y ≡ regions cols mesh sl ms fs st m (j + 1) P n l ++ drop CODE (take (full * j + full - full * j) (drop (full * j) x))
-      → putMid (full * j) (full * j + full - full * j) x y ≡ oneMore (partBy cols mesh sl fs st m P n l) x j
+      → putMid (full * j) (full * j + full - full * j) x y ≡ storePut (partBy cols mesh sl fs st m P n l) x j
+  unfolding storeIn
   lent-back x y j e =
       let z : full * j + full - full * j ≡ full = back (full * j) full in
       let v : j + 1 ≡ suc j = omega arith in
-      let q : y ≡ storeOf (partBy cols mesh sl fs st m P n l) x j =
+      let q : y ≡ storeWith (partBy cols mesh sl fs st m P n l) x j =
       e ∙ ap₂ (λ (u : List ℕ) (k : ℕ). regions cols mesh sl u fs st m (j + 1) P n l ++ drop CODE (take k (drop (full * j) x))) is z
-      ∙ ap (λ (k : ℕ). regions cols mesh sl (masksOf cols m sl) fs st m k P n l ++ drop CODE (take full (drop (full * j) x))) v
+      ∙ ap (λ (k : ℕ). regions cols mesh sl (masksOf cols m sl) fs st m k P n l ++ drop CODE (storeIn x j)) v
       ∙ store-of x j in
       ap (λ (k : ℕ). putMid (full * j) k x y) z ∙ put-mid (full * j) full x y
       ∙ ap (λ (u : List ℕ). take (full * j) x ++ (u ++ drop (full * j + full) x)) q
@@ -210,8 +186,8 @@ module _ (cols mesh sl ms fs st : List ℕ) (m P n l : ℕ) (is : ms ≡ masksOf
       put-mid a k x y = ap (λ (u : List ℕ). take a x ++ (y ++ u)) (drop-drop k a x)
 
       store-of : (x : List ℕ) (j : ℕ)
-          → regions cols mesh sl (masksOf cols m sl) fs st m (suc j) P n l ++ drop CODE (take full (drop (full * j) x))
-          ≡ storeOf (partBy cols mesh sl fs st m P n l) x j
+          → regions cols mesh sl (masksOf cols m sl) fs st m (suc j) P n l ++ drop CODE (storeIn x j)
+          ≡ storeWith (partBy cols mesh sl fs st m P n l) x j
       store-of x j = store-part cols mesh sl fs st m P n l x j
 
 pub part-length : (cols mesh sl fs st : List ℕ) (m P n l : ℕ) → length fs ≡ 12 → length st ≡ 12 → (p : ℕ)

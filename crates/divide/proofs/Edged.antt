@@ -14,7 +14,7 @@ use Rattle.soundness.specs.Sound.{Sound}
 use Rattle.rounds.specs.Tests.{Member}
 use Rattle.splitting.specs.Numbers.{numbersOf}
 use Rattle.splitting.specs.Members.{below-six}
-use Rattle.split.specs.Columns.{numberedCell, levelOf, levelAt, cellsBelow, keysAt, slotsBelow, slotOf}
+use Rattle.split.specs.Columns.{numberedCell, cellLevel, levelAt, cellsBelow, keysAt, slotsBelow, slotOf}
 use Rattle.tasks.specs.Levels.{below-more, below-all, level-gap, level-top}
 use Rattle.tasks.specs.Edges.{slots-follow, slots-split}
 use Rattle.tasks.specs.Sizes.{slots-none, slots-all}
@@ -94,7 +94,7 @@ module _ (n : ℕ) (qs : List (List ℕ)) (ss t ks : List ℕ) (g : Table n qs s
 
     module _ (c e : ℕ) (h : c < length ss) (small : e < 6) where
       abbrev lev : ℕ
-      lev = levelOf n qs ss c
+      lev = cellLevel n qs ss c
 
       here : Member c (numbersOf n qs ss lev)
       here = at n qs ss t ks g c h

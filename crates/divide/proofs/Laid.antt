@@ -29,19 +29,19 @@ use Rattle.numbering.specs.Tables.{sound-numbers}
 use Rattle.tables.specs.Cells.{strip, cell-at}
 use Rattle.tables.specs.Onward.{four-in, length-in}
 use Rattle.tables.specs.Finish.{rows-in}
+use Rattle.tables.specs.Sound.{examinedCorners}
 use Rattle.ancestors.specs.Climb.{levelIn, parentIn}
 use Rattle.ancestors.specs.Linked.{Descends}
 use Rattle.ancestors.specs.Levels.{cells-linked}
 use Rattle.soundness.specs.Sound.{Sound, sound-parts}
 use Rattle.rounds.specs.Tests.{Member}
-use Rattle.splitting.specs.Numbers.{numbersOf, level-at}
-use Rattle.splitting.specs.Slots.{level-of}
+use Rattle.splitting.specs.Numbers.{numbersOf, level-at, level-of}
 use Rattle.parts.specs.Owners.{nthCell, childrenOf, familyOf, firstOr, ownersb}
 use Rattle.store.specs.Places.{placeOf, coarsePlace, childPlace, place-child}
-use Rattle.split.specs.Columns.{cornersIn, numberedCell, levelOf, cellsBelow, firstChild, innerBits, sixEdges}
+use Rattle.split.specs.Columns.{numberedCell, cellLevel, cellsBelow, innerBits}
 use Rattle.tasks.specs.Levels.{one-at-least, below-more, below-none, below-top, below-all}
 use Rattle.tasks.specs.Families.{below-up, kids-are, kids-inside}
-use Rattle.lineage.specs.Olds as olds
+use Rattle.lineage.specs.Olds.{firstChild}
 use Rattle.reds.specs.Firsts.{first-next, first-up, first-start}
 use Rattle.columns.specs.Ten.{familyBy, ownersBy, placeBy, innerBy, outerb}
 
@@ -77,7 +77,7 @@ place-one : (c : ℕ) → placeOf (c ∷ []) ≡ coarsePlace c
 unfolding placeOf
 place-one c = refl
 
-six-same : (f h : ℕ → Bool) → ((e : ℕ) → f e ≡ h e) → bitsOf (map f edgeNumbers) ≡ bitsOf (map h sixEdges)
+six-same : (f h : ℕ → Bool) → ((e : ℕ) → f e ≡ h e) → bitsOf (map f edgeNumbers) ≡ bitsOf (map h edgeNumbers)
 six-same f h e = rw (e 0, e 1, e 2, e 3, e 4, e 5)
 
 pred-up : (a b : ℕ) → a ≡ b + 1 → 0 < b → pred a ≡ suc (pred b)
@@ -88,8 +88,8 @@ pub record Table (n : ℕ) (qs : List (List ℕ)) (ss t ks : List ℕ) : Type 0 
   pub accepted : T (cellsb n qs)
   pub sound : T (soundb n qs ss)
   pub some : 0 < length qs
-  pub rows : take (8 * length (cellsOf (levelsOf n qs ss))) t ≡ cellTable (cornersIn n qs ss) (cellsOf (levelsOf n qs ss))
-  pub kids : (c : ℕ) → c ≤ length ss → getD ks c 0 ≡ firstChild n qs ss c
+  pub rows : take (8 * length (cellsOf (levelsOf n qs ss))) t ≡ cellTable (examinedCorners n qs ss) (cellsOf (levelsOf n qs ss))
+  pub kids : (c : ℕ) → c ≤ length ss → getD ks c 0 ≡ firstChild (length qs) ss c
 
 module _ (n : ℕ) (qs : List (List ℕ)) (ss t ks : List ℕ) (g : Table n qs ss t ks) where
   abbrev pub s : Sound n qs ss
@@ -101,30 +101,30 @@ module _ (n : ℕ) (qs : List (List ℕ)) (ss t ks : List ℕ) (g : Table n qs s
   abbrev cell : ℕ → Cell Point
   cell c = nthCell n qs ss c
 
-  placed : All (Placed (cornersIn n qs ss)) cs
+  placed : All (Placed (examinedCorners n qs ss)) cs
   placed = sound-numbers n qs ss (g .four) (g .accepted) (g .sound) .placed
 
-  all-four : All Four (numberedCells (cornersIn n qs ss) cs)
-  all-four = four-in (cornersIn n qs ss) cs placed
+  all-four : All Four (numberedCells (examinedCorners n qs ss) cs)
+  all-four = four-in (examinedCorners n qs ss) cs placed
 
-  rows-are : take (8 * length (numberedCells (cornersIn n qs ss) cs)) t ≡ flatMap rowOf (numberedCells (cornersIn n qs ss) cs)
-  rows-are = rw (length-in (cornersIn n qs ss) cs) (g .rows ∙ sym (rows-in (cornersIn n qs ss) cs))
+  rows-are : take (8 * length (numberedCells (examinedCorners n qs ss) cs)) t ≡ flatMap rowOf (numberedCells (examinedCorners n qs ss) cs)
+  rows-are = rw (length-in (examinedCorners n qs ss) cs) (g .rows ∙ sym (rows-in (examinedCorners n qs ss) cs))
 
-  in-cells : (c : ℕ) → c < length ss → c < length (numberedCells (cornersIn n qs ss) cs)
-  in-cells c h = omega (arith, length-in (cornersIn n qs ss) cs, s .many)
+  in-cells : (c : ℕ) → c < length ss → c < length (numberedCells (examinedCorners n qs ss) cs)
+  in-cells c h = omega (arith, length-in (examinedCorners n qs ss) cs, s .many)
 
-  numbered-at : (c : ℕ) → c < length ss → getD (numberedCells (cornersIn n qs ss) cs) c noCell ≡ numberedCell n qs ss c
+  numbered-at : (c : ℕ) → c < length ss → getD (numberedCells (examinedCorners n qs ss) cs) c noCell ≡ numberedCell n qs ss c
   unfolding numberedCell nthCell
-  numbered-at c h = getD-map (mapCell (numberIn (cornersIn n qs ss))) cs c noCell noCell (omega (arith, s .many))
+  numbered-at c h = getD-map (mapCell (numberIn (examinedCorners n qs ss))) cs c noCell noCell (omega (arith, s .many))
 
   row-number : (c r : ℕ) → c < length ss → r < 8 → getD t (8 * c + r) 0 ≡ getD (rowOf (numberedCell n qs ss c)) r 0
   row-number c r h k =
-      let m = length (numberedCells (cornersIn n qs ss) cs) in
+      let m = length (numberedCells (examinedCorners n qs ss) cs) in
       let i = in-cells c h in
       sym (getD-take (8 * m) t (8 * c + r) 0 (omega arith)) ∙ ap (λ (l : List ℕ). getD l (8 * c + r) 0) rows-are
-      ∙ row-at (numberedCells (cornersIn n qs ss) cs) all-four c r i k ∙ ap (λ (x : Cell ℕ). getD (rowOf x) r 0) (numbered-at c h)
+      ∙ row-at (numberedCells (examinedCorners n qs ss) cs) all-four c r i k ∙ ap (λ (x : Cell ℕ). getD (rowOf x) r 0) (numbered-at c h)
 
-  pub level-is : (c : ℕ) → c < length ss → levelIn t c ≡ levelOf n qs ss c
+  level-is : (c : ℕ) → c < length ss → levelIn t c ≡ cellLevel n qs ss c
   unfolding rowOf numberedCell mapCell
   level-is c h = let z : 8 * c + 0 ≡ 8 * c = omega arith in rw z at (row-number c 0 h (omega arith))
 
@@ -142,7 +142,7 @@ module _ (n : ℕ) (qs : List (List ℕ)) (ss t ks : List ℕ) (g : Table n qs s
 
   cell-is : (c : ℕ) → c < length ss → cellAt t c ≡ strip (numberedCell n qs ss c)
   cell-is c h =
-      cell-at t (numberedCells (cornersIn n qs ss) cs) all-four rows-are c (in-cells c h) ∙ ap strip (numbered-at c h)
+      cell-at t (numberedCells (examinedCorners n qs ss) cs) all-four rows-are c (in-cells c h) ∙ ap strip (numbered-at c h)
 
   pub edge-is : (c e : ℕ) → c < length ss → edge 0 (cellAt t c) e ≡ edge 0 (numberedCell n qs ss c) e
   unfolding edge
@@ -153,38 +153,33 @@ module _ (n : ℕ) (qs : List (List ℕ)) (ss t ks : List ℕ) (g : Table n qs s
   edges-are c h = ap (λ (x : Cell ℕ). edges 0 x) (cell-is c h)
 
   -- the level of a cell
-  pub at : (c : ℕ) → c < length ss → Member c (numbersOf n qs ss (levelOf n qs ss c))
+  pub at : (c : ℕ) → c < length ss → Member c (numbersOf n qs ss (cellLevel n qs ss c))
   at c h =
       let (k, m) = level-at n qs ss s c h in
       subst (λ (j : ℕ). Member c (numbersOf n qs ss j)) (sym (level-of n qs ss s k c m)) m
 
   -- first children
-  first-olds : (c : ℕ) → firstChild n qs ss c ≡ olds.firstChild (length qs) ss c
-  unfolding firstChild olds.firstChild
-  first-olds c = refl
+  first-step : (c : ℕ) → c < length ss → firstChild (length qs) ss (suc c) ≡ firstChild (length qs) ss c + sizeOf (getD ss c 0)
+  first-step = first-next (length qs) ss
 
-  pub first-step : (c : ℕ) → c < length ss → firstChild n qs ss (suc c) ≡ firstChild n qs ss c + sizeOf (getD ss c 0)
-  first-step c h =
-      first-olds (suc c) ∙ first-next (length qs) ss c h ∙ ap (λ (x : ℕ). x + sizeOf (getD ss c 0)) (sym (first-olds c))
+  first-rises : (a b : ℕ) → a ≤ b → firstChild (length qs) ss a ≤ firstChild (length qs) ss b
+  first-rises = first-up (length qs) ss
 
-  first-rises : (a b : ℕ) → a ≤ b → firstChild n qs ss a ≤ firstChild n qs ss b
-  first-rises a b h = omega (arith, first-olds a, first-olds b, first-up (length qs) ss a b h)
-
-  first-zero : firstChild n qs ss 0 ≡ length qs
-  first-zero = first-olds 0 ∙ first-start (length qs) ss
+  first-zero : firstChild (length qs) ss 0 ≡ length qs
+  first-zero = first-start (length qs) ss
 
   one-level : 1 ≤ length (levelsOf n qs ss)
   one-level = one-at-least n qs ss (g .some)
 
   pub coarse-few : length qs ≤ length ss
   coarse-few =
-      omega (arith, below-up n qs ss s 0 one-level, ap (firstChild n qs ss) (below-none n qs ss), first-zero, below-all n qs ss s 1)
+      omega (arith, below-up n qs ss s 0 one-level, ap (firstChild (length qs) ss) (below-none n qs ss), first-zero, below-all n qs ss s 1)
 
-  pub first-top : (c : ℕ) → c ≤ length ss → firstChild n qs ss c ≤ length ss
+  pub first-top : (c : ℕ) → c ≤ length ss → firstChild (length qs) ss c ≤ length ss
   first-top zero h = omega (arith, first-zero, coarse-few)
   first-top (suc c) h =
       elim (decLt 0 (sizeOf (getD ss c 0))) [
-        | yes z ↦ omega (arith, first-step c (omega arith), kids-inside n qs ss s (levelOf n qs ss c) c (at c (omega arith)) z)
+        | yes z ↦ omega (arith, first-step c (omega arith), kids-inside n qs ss s (cellLevel n qs ss c) c (at c (omega arith)) z)
         | no z ↦ omega (arith, first-step c (omega arith), first-top c (omega arith))
       ]
 
@@ -201,11 +196,12 @@ module _ (n : ℕ) (qs : List (List ℕ)) (ss t ks : List ℕ) (g : Table n qs s
       rw z at (below-rises (length (levelsOf n qs ss)) (k - length (levelsOf n qs ss))) in
       omega (arith, below-top n qs ss s, below-all n qs ss s k)
 
-  first-end : firstChild n qs ss (length ss) ≡ length ss
+  first-end : firstChild (length qs) ss (length ss) ≡ length ss
   first-end =
       let l = length (levelsOf n qs ss) in
       let z : suc (length (levelsOf n qs ss) - 1) ≡ length (levelsOf n qs ss) = omega (arith, one-level) in
-      let w : cellsBelow n qs ss (length (levelsOf n qs ss)) ≡ firstChild n qs ss (cellsBelow n qs ss (length (levelsOf n qs ss) - 1)) =
+      let w : cellsBelow n qs ss (length (levelsOf n qs ss))
+      ≡ firstChild (length qs) ss (cellsBelow n qs ss (length (levelsOf n qs ss) - 1)) =
       rw z at (below-up n qs ss s (length (levelsOf n qs ss) - 1) (omega (arith, one-level))) in
       omega (
         arith,
@@ -215,17 +211,14 @@ module _ (n : ℕ) (qs : List (List ℕ)) (ss t ks : List ℕ) (g : Table n qs s
         first-top (length ss) (omega arith),
       )
 
-  pub below-step : (k : ℕ) → cellsBelow n qs ss (suc k) ≡ firstChild n qs ss (cellsBelow n qs ss k)
+  pub below-step : (k : ℕ) → cellsBelow n qs ss (suc k) ≡ firstChild (length qs) ss (cellsBelow n qs ss k)
   below-step k =
       elim (decLt k (length (levelsOf n qs ss))) [
         | yes h ↦ below-up n qs ss s k h
         | no h ↦
             below-end (suc k) (omega arith)
-            ∙ sym (ap (firstChild n qs ss) (below-end k (omega arith)) ∙ first-end)
+            ∙ sym (ap (firstChild (length qs) ss) (below-end k (omega arith)) ∙ first-end)
       ]
-
-  pub below-all-cells : (k : ℕ) → 11 ≤ k → cellsBelow n qs ss k ≡ length ss
-  below-all-cells k h = below-end k (omega (arith, s .high))
 
   -- families
   kids-range : (c : ℕ) → c < length ss
@@ -233,7 +226,7 @@ module _ (n : ℕ) (qs : List (List ℕ)) (ss t ks : List ℕ) (g : Table n qs s
   kids-range c h =
       let e : getD ks (suc c) 0 - getD ks c 0 ≡ sizeOf (getD ss c 0) =
       omega (arith, g .kids c (omega arith), g .kids (suc c) h, first-step c h) in
-      kids-are n qs ss s (levelOf n qs ss c) c (at c h) ∙ ap₂ range (sym (g .kids c (omega arith))) (sym e)
+      kids-are n qs ss s (cellLevel n qs ss c) c (at c h) ∙ ap₂ range (sym (g .kids c (omega arith))) (sym e)
 
   pub family-is : (os : List ℕ) (c : ℕ) → c < length ss → familyBy ks os c ≡ familyOf n qs ss os c
   unfolding familyBy familyOf
@@ -255,7 +248,7 @@ module _ (n : ℕ) (qs : List (List ℕ)) (ss t ks : List ℕ) (g : Table n qs s
   unfolding nthCell
   link c h = cells-linked n qs ss .link c (omega (arith, s .many))
 
-  level-zero : (c : ℕ) → cell c .path ≡ c ∷ [] → levelOf n qs ss c ≡ 0
+  level-zero : (c : ℕ) → cell c .path ≡ c ∷ [] → cellLevel n qs ss c ≡ 0
   level-zero c e = ap (λ (l : List ℕ). pred (length l)) e
 
   down : (c : ℕ) (d : Descends cs c) → cell c .path ≡ cell (cell c .parent) .path ++ (d .number ∷ [])
@@ -278,9 +271,9 @@ module _ (n : ℕ) (qs : List (List ℕ)) (ss t ks : List ℕ) (g : Table n qs s
     pub below : cell c .parent < c
     pub number : ℕ
     pub path : cell c .path ≡ cell (cell c .parent) .path ++ (number ∷ [])
-    pub level : levelOf n qs ss c ≡ suc (levelOf n qs ss (cell c .parent))
+    pub level : cellLevel n qs ss c ≡ suc (cellLevel n qs ss (cell c .parent))
 
-  up-of : (c : ℕ) → c < length ss → 0 < levelOf n qs ss c → Up c
+  up-of : (c : ℕ) → c < length ss → 0 < cellLevel n qs ss c → Up c
   unfolding nthCell
   up-of c h l = go (link c h)
     where
@@ -304,7 +297,7 @@ module _ (n : ℕ) (qs : List (List ℕ)) (ss t ks : List ℕ) (g : Table n qs s
       let e = parent-is c h in
       (rw e (u .below), level-is c h ∙ u .level ∙ ap suc (sym (level-is (cell c .parent) g') ∙ ap (levelIn t) (sym e)))
 
-  place-at : (k c : ℕ) → c < length ss → levelOf n qs ss c ≡ k → placeBy t k c ≡ placeOf (cell c .path)
+  place-at : (k c : ℕ) → c < length ss → cellLevel n qs ss c ≡ k → placeBy t k c ≡ placeOf (cell c .path)
   unfolding placeBy
   place-at zero c h l = go (link c h)
     where
@@ -329,7 +322,7 @@ module _ (n : ℕ) (qs : List (List ℕ)) (ss t ks : List ℕ) (g : Table n qs s
       ap₂ childPlace i j ∙ sym (ap placeOf (u .path) ∙ place-snoc (cell (cell c .parent) .path) (u .number) some)
 
   pub place-is : (c : ℕ) → c < length ss → placeBy t (levelIn t c) c ≡ placeOf (cell c .path)
-  place-is c h = ap (λ (k : ℕ). placeBy t k c) (level-is c h) ∙ place-at (levelOf n qs ss c) c h refl
+  place-is c h = ap (λ (k : ℕ). placeBy t k c) (level-is c h) ∙ place-at (cellLevel n qs ss c) c h refl
 
   outer-is : (c e : ℕ) → c < length ss → cell c .parent < length ss
       → outerb t (parentIn t c) c e ≡ not (heldb eqb (edges 0 (numberedCell n qs ss (cell c .parent))) (edge 0 (numberedCell n qs ss c)
@@ -341,20 +334,20 @@ module _ (n : ℕ) (qs : List (List ℕ)) (ss t ks : List ℕ) (g : Table n qs s
 
   pub inner-is : (c : ℕ) → c < length ss → innerBy t c ≡ innerBits n qs ss c
   unfolding innerBy innerBits
-  inner-is c h = go (levelOf n qs ss c) refl
+  inner-is c h = go (cellLevel n qs ss c) refl
     where
       own : ℕ → Bool
       own e = not (heldb eqb (edges 0 (numberedCell n qs ss (cell c .parent))) (edge 0 (numberedCell n qs ss c) e))
 
-      go : (k : ℕ) → levelOf n qs ss c ≡ k → innerBy t c ≡ innerBits n qs ss c
+      go : (k : ℕ) → cellLevel n qs ss c ≡ k → innerBy t c ≡ innerBits n qs ss c
       go zero e =
-          rw (eq-eqb (levelIn t c) 0 (level-is c h ∙ e), eq-eqb (levelOf n qs ss c) 0 e, innerBy, innerBits)
+          rw (eq-eqb (levelIn t c) 0 (level-is c h ∙ e), eq-eqb (cellLevel n qs ss c) 0 e, innerBy, innerBits)
       go (suc k) e =
           let u = up-of c h (omega arith) in
           let g' : cell c .parent < length ss = omega (arith, u .below) in
           rw (
             ne-eqb (levelIn t c) 0 (λ z. omega (arith, level-is c h)),
-            ne-eqb (levelOf n qs ss c) 0 (λ z. omega arith),
+            ne-eqb (cellLevel n qs ss c) 0 (λ z. omega arith),
             innerBy,
             innerBits,
           )

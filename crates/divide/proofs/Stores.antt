@@ -7,14 +7,12 @@ use Prim.Native.Nat.{ℕ, zero, suc, _+_, _-_, _*_, _/_, _%_, _≤_, _<_}
 use native.Mathlib.Decide.{decLt}
 use native.Mathlib.Omega.{arith}
 use lib.Dec.{eqb, ltb}
-use lib.ListN.{length, getD, replicate, length-map, getD-replicate}
-use lib.Seq.{ext-getD}
+use lib.ListN.{length, getD, replicate, getD-replicate}
 use borrow.Author.Tests.{lt-ltb, le-ltb, ltb-true}
 use Rattle.base.specs.Bools.{one-if}
-use Rattle.base.specs.Every.{getD-map}
 use Rattle.base.specs.Fours.{fours, length-fours}
 use Rattle.base.specs.Lists.{anyb}
-use Rattle.base.specs.Range.{range, length-range, range-at}
+use Rattle.base.specs.Range.{range}
 use Rattle.mesh.specs.Cells.{bitsOf}
 use Rattle.mesh.specs.Layout.{edgeNumbers}
 use Rattle.mesh.specs.Table.{levelsOf}
@@ -23,15 +21,18 @@ use Rattle.parts.specs.Owners.{nthCell, familyOf}
 use Rattle.parts.specs.Held.{masterb}
 use Rattle.store.specs.declared.Place.{Place}
 use Rattle.store.specs.Places.{placeOf}
-use Rattle.split.specs.Columns.{sixEdges, cellsBelow, slotsBelow, slotOf, firstChild, innerBits, holdsCell, holdsSlot, holdersOf}
+use Rattle.split.specs.Columns.{cellsBelow, slotsBelow, slotOf, innerBits, holdsCell, holdsSlot, holdersOf}
 use Rattle.split.specs.Split.{byCell, sixOf, fourOf, holdersAt, partStore}
-use Rattle.split.specs.Stored.{ifHeld, Fours, fours-four}
+use Rattle.split.specs.Stored.{ifHeld, Fours, fours-long}
 use Rattle.slots.specs.Slots.{Slotted}
 use Rattle.columns.specs.Ten.{tenOf, Filled}
-use Rattle.filling.specs.Regions.{zeros, tab, Each, holdb, pick, columnBy, slotBy, markTo, markb, holderTo, holderBy, maskFrom}
+use Rattle.filling.specs.Regions.{zeros, tab, Tabled, holdb, pickBy, columnBy, slotBy, heldSlotTo, heldSlotb, holderTo, holderBy, maskFrom}
 use Rattle.filling.specs.Regions.{maskBy, cornerBy, headBy, regions}
+use Rattle.filling.specs.Laws.{tabled-is}
 use Rattle.divide.proofs.Laid.{Table, coarse-few, parent-is, regular-is, family-is, place-is, inner-is}
 use Rattle.divide.proofs.Edged.{starts-are, slot-is}
+use Rattle.lineage.specs.Olds.{firstChild}
+use Rattle.divide.proofs.Dividing.{flat-append}
 
 -- tables of numbers, part by part
 shift : (f : ℕ → ℕ) (k j m : ℕ) → map f (range (k + j) m) ≡ map (λ i. f (k + i)) (range j m)
@@ -59,18 +60,7 @@ unfolding tab
 tab-same m f h e = map-range f h 0 m (λ i a b. e i (omega arith))
 
 tab-list : (m : ℕ) (f : ℕ → ℕ) (l : List ℕ) → length l ≡ m → ((i : ℕ) → i < m → getD l i 0 ≡ f i) → l ≡ tab m f
-unfolding tab
-tab-list m f l n e =
-    ext-getD 0 l (map f (range 0 m)) (n ∙ sym (length-map (range 0 m) f ∙ length-range 0 m))
-    (λ i h.
-    let z : 0 + i ≡ i = omega arith in
-    let g : i < m = omega arith in
-    e i g ∙ ap f (sym (range-at 0 m i 0 g ∙ z)) ∙ sym (getD-map f (range 0 m) i 0 0 (omega (arith, length-range 0 m))))
-
-flat-append : (f : ℕ → List ℕ) (l m : List ℕ) → flatMap f (l ++ m) ≡ flatMap f l ++ flatMap f m
-unfolding flatMap
-flat-append f [] m = refl
-flat-append f (x ∷ l) m = ap (λ (r : List ℕ). f x ++ r) (flat-append f l m) ∙ sym (append-assoc (f x) (flatMap f l) (flatMap f m))
+tab-list m f l n e = tabled-is m f l (record { size = n; at = e })
 
 flat-one : (f : ℕ → List ℕ) (x : ℕ) → flatMap f (x ∷ []) ≡ f x
 unfolding flatMap
@@ -132,7 +122,7 @@ four-length n qs ss P os p q i = go (ltb i (length qs)) refl (masterb os p i)
     go true d false = refl
     go false d b = refl
 
-six-at : (f : ℕ → ℕ) (e : ℕ) → e < 6 → getD (map f sixEdges) e 0 ≡ f e
+six-at : (f : ℕ → ℕ) (e : ℕ) → e < 6 → getD (map f edgeNumbers) e 0 ≡ f e
 six-at f zero h = refl
 six-at f (suc zero) h = refl
 six-at f (suc (suc zero)) h = refl
@@ -169,7 +159,7 @@ any-same f h k zero e = refl
 any-same f h k (suc m) e =
     ap₂ _||_ (e k (omega arith) (omega arith)) (any-same f h (suc k) m (λ c a b. e c (omega arith) (omega arith)))
 
-any-six : (f h : ℕ → Bool) → ((e : ℕ) → e < 6 → f e ≡ h e) → anyb f edgeNumbers ≡ anyb h sixEdges
+any-six : (f h : ℕ → Bool) → ((e : ℕ) → e < 6 → f e ≡ h e) → anyb f edgeNumbers ≡ anyb h edgeNumbers
 unfolding anyb
 any-six f h e =
     rw (e 0 (omega arith), e 1 (omega arith), e 2 (omega arith), e 3 (omega arith), e 4 (omega arith), e 5 (omega arith))
@@ -249,7 +239,7 @@ module _ (n : ℕ) (ts ss t ks : List ℕ) (g : Table n (fours ts) ss t ks) (few
 
     column-is : (j : ℕ) (f : ℕ → ℕ) → j < 10 → ((c : ℕ) → c < length ss → getD (tenOf t ss ks os c) j 0 ≡ f c)
         → tab 4096 (λ i. columnBy cols m p (4096 * j + i)) ≡ byCell n qs ss P os p f
-    unfolding pick ifHeld
+    unfolding pickBy ifHeld
     column-is j f h e =
         tab-same 4096 (λ i. columnBy cols m p (4096 * j + i)) (ifHeld n qs ss os p f)
         (λ i l.
@@ -263,7 +253,8 @@ module _ (n : ℕ) (ts ss t ks : List ℕ) (g : Table n (fours ts) ss t ks) (few
 
     columns-are : tab 40960 (columnBy cols m p)
         ≡ column (λ c. getD os c 0) ++ column (familyOf n qs ss os) ++ column (λ c. getD ss c 0)
-        ++ column (λ c. one-if (nthCell n qs ss c .regular)) ++ column (firstChild n qs ss) ++ column (λ c. nthCell n qs ss c .parent)
+        ++ column (λ c. one-if (nthCell n qs ss c .regular)) ++ column (firstChild (length qs) ss)
+        ++ column (λ c. nthCell n qs ss c .parent)
         ++ column (λ c. placeOf (nthCell n qs ss c .path) .head) ++ column (λ c. placeOf (nthCell n qs ss c .path) .digits)
         ++ column (λ c. placeOf (nthCell n qs ss c .path) .more) ++ column (innerBits n qs ss)
     unfolding tenOf
@@ -274,7 +265,7 @@ module _ (n : ℕ) (ts ss t ks : List ℕ) (g : Table n (fours ts) ss t ks) (few
         (column-is 1 (familyOf n qs ss os) (omega arith) (λ c h. family-is n qs ss t ks g os c h))
         (column-is 2 (λ c. getD ss c 0) (omega arith) (λ c h. refl))
         (column-is 3 (λ c. one-if (nthCell n qs ss c .regular)) (omega arith) (λ c h. regular-is n qs ss t ks g c h))
-        (column-is 4 (firstChild n qs ss) (omega arith) (λ c h. g .kids c (omega arith)))
+        (column-is 4 (firstChild (length qs) ss) (omega arith) (λ c h. g .kids c (omega arith)))
         (column-is 5 (λ c. nthCell n qs ss c .parent) (omega arith) (λ c h. parent-is n qs ss t ks g c h))
         (column-is 6 (λ c. placeOf (nthCell n qs ss c .path) .head) (omega arith) (λ c h. ap (λ (q : Place). q .head) (place-is n qs ss
         t ks g c h)))
@@ -323,12 +314,12 @@ module _ (n : ℕ) (ts ss t ks : List ℕ) (g : Table n (fours ts) ss t ks) (few
 
     corners-are : tab 1024 (cornerBy cols ts p) ≡ flatMap (fourOf n qs ss P os p) (range 0 256)
     corners-are =
-        sym (flat-tab (fourOf n qs ss P os p) 4 (cornerBy cols ts p) 256 (λ i h. four-length n qs ss P os p (fours-four ts) i)
+        sym (flat-tab (fourOf n qs ss P os p) 4 (cornerBy cols ts p) 256 (λ i h. four-length n qs ss P os p (fours-long ts) i)
         (λ i e h k. corner-is i e k))
 
     -- the slots
     six-is : (c e : ℕ) → e < 6 → getD (sixOf n qs ss P os p c) e 0 ≡ slotBy cols m p sl (6 * c + e)
-    unfolding sixOf pick
+    unfolding sixOf pickBy
     six-is c e k =
         let z : (6 * c + e) / 6 ≡ c = omega arith in
         own (ltb c (length ss) && holdsCell n qs ss os p c)
@@ -336,7 +327,7 @@ module _ (n : ℕ) (ts ss t ks : List ℕ) (g : Table n (fours ts) ss t ks) (few
         (λ h. slot-is n qs ss t ks g fs first sl st w c e h k))
         ∙ ap (λ (d : ℕ). elim (holdb cols m p d) [ true ↦ getD sl (6 * c + e) 0 | false ↦ 0 ]) (sym z)
       where
-        own : (b : Bool) → _≡_ {A = ℕ} (getD {A = ℕ} (elim b [ true ↦ map (slotOf n qs ss c) sixEdges | false ↦ replicate 6 0 ]) e 0)
+        own : (b : Bool) → _≡_ {A = ℕ} (getD {A = ℕ} (elim b [ true ↦ map (slotOf n qs ss c) edgeNumbers | false ↦ replicate 6 0 ]) e 0)
             (elim b [ true ↦ slotOf n qs ss c e | false ↦ 0 ])
         own true = six-at (slotOf n qs ss c) e k
         own false = getD-replicate 6 e 0 0 k
@@ -345,7 +336,7 @@ module _ (n : ℕ) (ts ss t ks : List ℕ) (g : Table n (fours ts) ss t ks) (few
     unfolding sixOf
     six-length c = go (ltb c (length ss) && holdsCell n qs ss os p c)
       where
-        go : (b : Bool) → length {A = ℕ} (elim b [ true ↦ map (slotOf n qs ss c) sixEdges | false ↦ replicate 6 0 ]) ≡ 6
+        go : (b : Bool) → length {A = ℕ} (elim b [ true ↦ map (slotOf n qs ss c) edgeNumbers | false ↦ replicate 6 0 ]) ≡ 6
         go true = refl
         go false = refl
 
@@ -353,11 +344,11 @@ module _ (n : ℕ) (ts ss t ks : List ℕ) (g : Table n (fours ts) ss t ks) (few
     sixes-are = sym (flat-tab (sixOf n qs ss P os p) 6 (slotBy cols m p sl) 4096 (λ c h. six-length c) (λ c e h k. six-is c e k))
 
   -- the holders of slots
-  mark-is : (q s : ℕ) → markb cols m q sl s ≡ holdsSlot n qs ss os q s
-  unfolding markTo holdsSlot
+  mark-is : (q s : ℕ) → heldSlotb cols m q sl s ≡ holdsSlot n qs ss os q s
+  unfolding heldSlotTo holdsSlot
   mark-is q s =
       any-same (λ c. holdb cols m q c && anyb (λ e. eqb (getD sl (6 * c + e) 0) s) edgeNumbers)
-      (λ c. holdsCell n qs ss os q c && anyb (λ e. eqb (slotOf n qs ss c e) s) sixEdges) 0 (length ss)
+      (λ c. holdsCell n qs ss os q c && anyb (λ e. eqb (slotOf n qs ss c e) s) edgeNumbers) 0 (length ss)
       (λ c u v.
       let h : c < length ss = omega arith in
       ap₂ _&&_ (hold-is 0 q c h)
@@ -366,9 +357,9 @@ module _ (n : ℕ) (ts ss t ks : List ℕ) (g : Table n (fours ts) ss t ks) (few
 
   mask-is : (s : ℕ) → maskBy cols m sl s ≡ holdersOf n qs ss os s
   unfolding maskFrom holdersOf
-  mask-is s = ap bitsOf (map-all (λ q. markb cols m q sl s) (λ q. holdsSlot n qs ss os q s) (range 1 16) (λ q. mark-is q s))
+  mask-is s = ap bitsOf (map-all (λ q. heldSlotb cols m q sl s) (λ q. holdsSlot n qs ss os q s) (range 1 16) (λ q. mark-is q s))
 
-  module _ (ms : List ℕ) (masks : Each 24576 (maskBy cols m sl) ms) (P p : ℕ) where
+  module _ (ms : List ℕ) (masks : Tabled 24576 (maskBy cols m sl) ms) (P p : ℕ) where
     holder-is : (s : ℕ) → s < 24576 → holderBy cols m p sl ms s ≡ holdersAt n qs ss P os p s
     unfolding holderTo holdersAt
     holder-is s h =
@@ -381,8 +372,8 @@ module _ (n : ℕ) (ts ss t ks : List ℕ) (g : Table n (fours ts) ss t ks) (few
         ≡ (((0 ∷ p ∷ P ∷ n ∷ length qs ∷ length ss ∷ length (levelsOf n qs ss) ∷ replicate 9 0) ++ map (cellsBelow n qs ss) (range 0 12)
         ++ map (slotsBelow n qs ss) (range 0 12) ++ replicate 72 0)
         ++ ((column P p (λ c. getD os c 0) ++ column P p (familyOf n qs ss os) ++ column P p (λ c. getD ss c 0)
-        ++ column P p (λ c. one-if (nthCell n qs ss c .regular)) ++ column P p (firstChild n qs ss) ++ column P p (λ c. nthCell n qs ss
-        c .parent)
+        ++ column P p (λ c. one-if (nthCell n qs ss c .regular)) ++ column P p (firstChild (length qs) ss)
+        ++ column P p (λ c. nthCell n qs ss c .parent)
         ++ column P p (λ c. placeOf (nthCell n qs ss c .path) .head) ++ column P p (λ c. placeOf (nthCell n qs ss c .path) .digits)
         ++ column P p (λ c. placeOf (nthCell n qs ss c .path) .more) ++ column P p (innerBits n qs ss)) ++ replicate 8192 0
         ++ flatMap (fourOf n qs ss P os p) (range 0 256)))
@@ -392,7 +383,7 @@ module _ (n : ℕ) (ts ss t ks : List ℕ) (g : Table n (fours ts) ss t ks) (few
         regroup (0 ∷ p ∷ P ∷ n ∷ length qs ∷ length ss ∷ length (levelsOf n qs ss) ∷ replicate 9 0) (map (cellsBelow n qs ss) (range 0
         12))
         (map (slotsBelow n qs ss) (range 0 12)) (replicate 72 0) (column P p (λ c. getD os c 0)) (column P p (familyOf n qs ss os))
-        (column P p (λ c. getD ss c 0)) (column P p (λ c. one-if (nthCell n qs ss c .regular))) (column P p (firstChild n qs ss))
+        (column P p (λ c. getD ss c 0)) (column P p (λ c. one-if (nthCell n qs ss c .regular))) (column P p (firstChild (length qs) ss))
         (column P p (λ c. nthCell n qs ss c .parent)) (column P p (λ c. placeOf (nthCell n qs ss c .path) .head))
         (column P p (λ c. placeOf (nthCell n qs ss c .path) .digits)) (column P p (λ c. placeOf (nthCell n qs ss c .path) .more))
         (column P p (innerBits n qs ss)) (replicate 8192 0) (flatMap (fourOf n qs ss P os p) (range 0 256))
@@ -406,8 +397,8 @@ module _ (n : ℕ) (ts ss t ks : List ℕ) (g : Table n (fours ts) ss t ks) (few
         (0 ∷ p ∷ P ∷ n ∷ length qs ∷ length ss ∷ length (levelsOf n qs ss) ∷ replicate 9 0) (map (cellsBelow n qs ss) (range 0 12))
         (map (slotsBelow n qs ss) (range 0 12)) (replicate 72 0)
         (column P p (λ c. getD os c 0) ++ column P p (familyOf n qs ss os) ++ column P p (λ c. getD ss c 0)
-        ++ column P p (λ c. one-if (nthCell n qs ss c .regular)) ++ column P p (firstChild n qs ss) ++ column P p (λ c. nthCell n qs ss
-        c .parent)
+        ++ column P p (λ c. one-if (nthCell n qs ss c .regular)) ++ column P p (firstChild (length qs) ss)
+        ++ column P p (λ c. nthCell n qs ss c .parent)
         ++ column P p (λ c. placeOf (nthCell n qs ss c .path) .head) ++ column P p (λ c. placeOf (nthCell n qs ss c .path) .digits)
         ++ column P p (λ c. placeOf (nthCell n qs ss c .path) .more) ++ column P p (innerBits n qs ss)) (replicate 8192 0)
         (flatMap (fourOf n qs ss P os p) (range 0 256)) (flatMap (sixOf n qs ss P os p) (range 0 4096))

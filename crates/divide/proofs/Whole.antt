@@ -1,61 +1,40 @@
 -- What a divisible table gives the functions, and what they give it.
 -- Laws: ones-are, masks-are (the masks), table-of, kids-of, levels-of, ready-of, small-of (what the functions ask for), stores-are
--- (what they
--- leave), answer-short, answer-table, answer-parts, answer-owners, answer-yes (the answer).
+-- (what they leave), answer-short, answer-table, answer-parts, answer-owners, answer-yes (the answer).
 use mathlib.Core.Path.{_≡_, refl, sym, _∙_, ap, ap₂}
 use mathlib.Core.List.{List, [], _∷_, _++_, flatMap}
 use Prim.Native.Nat.{ℕ, zero, suc, _+_, _*_, _≤_, _<_}
 use native.Mathlib.Omega.{arith}
-use lib.ListN.{length, getD, take, drop, replicate, length-map, length-replicate, getD-replicate}
-use lib.Seq.{ext-getD}
-use Rattle.base.specs.Every.{getD-map}
+use lib.ListN.{length, getD, drop, replicate, length-replicate, getD-replicate}
 use Rattle.base.specs.Fours.{fours, length-fours}
-use Rattle.base.specs.Range.{range, length-range, range-at}
+use Rattle.base.specs.Range.{range}
 use Rattle.lattice.specs.Levels.{fours-four}
 use Rattle.soundness.specs.Sound.{Sound, sound-parts}
 use Rattle.reds.specs.Firsts.{first-at, length-firsts}
-use Rattle.lineage.specs.Olds as olds
 use Rattle.store.specs.Fields.{full, CODE}
-use Rattle.split.specs.Columns.{cellsBelow, firstChild}
+use Rattle.store.specs.Stores.{storeIn}
+use Rattle.split.specs.Columns.{cellsBelow}
 use Rattle.split.specs.Split.{partStore, storesAfter}
 use Rattle.tasks.specs.Levels.{below-more, below-none, below-all}
-use Rattle.columns.specs.Ten.{Kids, Ready, Filled}
-use Rattle.filling.specs.Regions.{tab, Each, maskBy, regions, SmallSlots}
-use Rattle.divide.specs.Divided.{firstBy, Leveled, Numbered, masksOf, partBy, storeOf, storesTo}
+use Rattle.columns.specs.Ten.{FirstKids, Sources, Filled}
+use Rattle.filling.specs.Regions.{Tabled, maskBy, regions, SmallSlots}
+use Rattle.filling.specs.Laws.{tab-at, tabled-is}
+use Rattle.divide.specs.Divided.{firstBy, Leveled, EdgesNumbered, masksOf, partBy, storeWith, storesTo}
 use Rattle.divide.specs.Divisible.{Divisible}
 use Rattle.divide.proofs.Laid.{Table, first-top, below-step, upward}
 use Rattle.divide.proofs.Edged.{slots-small}
 use Rattle.divide.proofs.Stores.{regions-are}
 
-pub ones-are : Each 24576 (λ s. 1) (replicate 24576 1)
+pub ones-are : Tabled 24576 (λ s. 1) (replicate 24576 1)
 ones-are = record { size = length-replicate {A = ℕ} 24576 1; at = λ s h. getD-replicate 24576 s 1 0 h }
 
-tab-at : (k : ℕ) (f : ℕ → ℕ) → Each k f (tab k f)
-unfolding tab
-tab-at k f =
-    record {
-      size = length-map (range 0 k) f ∙ length-range 0 k;
-      at = λ i h.
-          let z : 0 + i ≡ i = omega arith in
-          getD-map f (range 0 k) i 0 0 (omega (arith, length-range 0 k)) ∙ ap f (range-at 0 k i 0 h ∙ z);
-    }
-
-each-tab : (k : ℕ) (f : ℕ → ℕ) (x : List ℕ) → Each k f x → x ≡ tab k f
-each-tab k f x a =
-    let b = tab-at k f in
-    ext-getD 0 x (tab k f) (a .size ∙ sym (b .size)) (λ i h. let g : i < k = omega (arith, a .size) in a .at i g ∙ sym (b .at i g))
-
-pub masks-are : (cols : List ℕ) (m : ℕ) (sl ms : List ℕ) → Each 24576 (maskBy cols m sl) ms → ms ≡ masksOf cols m sl
+pub masks-are : (cols : List ℕ) (m : ℕ) (sl ms : List ℕ) → Tabled 24576 (maskBy cols m sl) ms → ms ≡ masksOf cols m sl
 unfolding masksOf
-masks-are cols m sl ms a = each-tab 24576 (maskBy cols m sl) ms a
+masks-are cols m sl ms a = tabled-is 24576 (maskBy cols m sl) ms a
 
-masks-each : (cols : List ℕ) (m : ℕ) (sl : List ℕ) → Each 24576 (maskBy cols m sl) (masksOf cols m sl)
+masks-each : (cols : List ℕ) (m : ℕ) (sl : List ℕ) → Tabled 24576 (maskBy cols m sl) (masksOf cols m sl)
 unfolding masksOf
 masks-each cols m sl = tab-at 24576 (maskBy cols m sl)
-
-first-olds : (n : ℕ) (qs : List (List ℕ)) (ss : List ℕ) (c : ℕ) → olds.firstChild (length qs) ss c ≡ firstChild n qs ss c
-unfolding firstChild olds.firstChild
-first-olds n qs ss c = refl
 
 flat-all : (f h : ℕ → List ℕ) (l : List ℕ) → ((j : ℕ) → f j ≡ h j) → flatMap f l ≡ flatMap h l
 unfolding flatMap
@@ -63,9 +42,9 @@ flat-all f h [] e = refl
 flat-all f h (x ∷ l) e = ap₂ _++_ (e x) (flat-all f h l e)
 
 store-as : (f : ℕ → List ℕ) (b : List ℕ) (j : ℕ) (x : List ℕ) → f (suc j) ≡ x
-    → storeOf f b j ≡ x ++ drop CODE (take full (drop (full * j) b))
-unfolding storeOf
-store-as f b j x e = ap (λ (l : List ℕ). l ++ drop CODE (take full (drop (full * j) b))) e
+    → storeWith f b j ≡ x ++ drop CODE (storeIn b j)
+unfolding storeWith
+store-as f b j x e = ap (λ (l : List ℕ). l ++ drop CODE (storeIn b j)) e
 
 part-as : (cols mesh sl fs st : List ℕ) (m P n l p : ℕ)
     → partBy cols mesh sl fs st m P n l p ≡ regions cols mesh sl (masksOf cols m sl) fs st m p P n l
@@ -87,7 +66,7 @@ module _ (n : ℕ) (ts ss rows ks os : List ℕ) (P levels : ℕ) (b : List ℕ)
         sound = d .sound;
         some = omega (arith, length-fours ts, d .mesh .some, d .mesh .whole);
         rows = d .table;
-        kids = λ c h. first-at (length qs) ss ks (d .kids) c h ∙ first-olds n qs ss c;
+        kids = λ c h. first-at (length qs) ss ks (d .kids) c h;
       }
 
   pub few-cells : length ss ≤ 4096
@@ -96,7 +75,7 @@ module _ (n : ℕ) (ts ss rows ks os : List ℕ) (P levels : ℕ) (b : List ℕ)
   pub few-levels : levels ≤ 11
   few-levels = omega (arith, d .high, so .high)
 
-  pub kids-of : Kids ks (length ss)
+  pub kids-of : FirstKids ks (length ss)
   kids-of =
       record {
         long = length-firsts (length qs) ss ks (d .kids);
@@ -117,7 +96,7 @@ module _ (n : ℕ) (ts ss rows ks os : List ℕ) (P levels : ℕ) (b : List ℕ)
         most = λ k h. rw (first-by k) (below-all n qs ss so k);
       }
 
-  pub ready-of : length rows ≡ 32768 → Ready rows ss ks os
+  pub ready-of : length rows ≡ 32768 → Sources rows ss ks os
   ready-of l =
       record {
         few = few-cells;
@@ -127,7 +106,7 @@ module _ (n : ℕ) (ts ss rows ks os : List ℕ) (P levels : ℕ) (b : List ℕ)
         up = upward n qs ss rows ks table-of;
       }
 
-  module _ (fs st sl : List ℕ) (w : Numbered rows ks fs st sl) where
+  module _ (fs st sl : List ℕ) (w : EdgesNumbered rows ks fs st sl) where
     first-are : (k : ℕ) → k < 12 → getD fs k 0 ≡ cellsBelow n qs ss k
     first-are k h = w .firsts .at k h ∙ first-by k
 
@@ -139,12 +118,12 @@ module _ (n : ℕ) (ts ss rows ks os : List ℕ) (P levels : ℕ) (b : List ℕ)
     unfolding storesTo storesAfter
     stores-are cols a =
         ap (λ (l : List ℕ). l ++ drop (full * P) b)
-        (flat-all (storeOf (partBy cols ts sl fs st (length ss) P n levels) b)
-        (λ j. partStore n qs ss P os (suc j) ++ drop CODE (take full (drop (full * j) b))) (range 0 P)
+        (flat-all (storeWith (partBy cols ts sl fs st (length ss) P n levels) b)
+        (λ j. partStore n qs ss P os (suc j) ++ drop CODE (storeIn b j)) (range 0 P)
         (λ j. same j))
       where
-        same : (j : ℕ) → storeOf (partBy cols ts sl fs st (length ss) P n levels) b j
-            ≡ partStore n qs ss P os (suc j) ++ drop CODE (take full (drop (full * j) b))
+        same : (j : ℕ) → storeWith (partBy cols ts sl fs st (length ss) P n levels) b j
+            ≡ partStore n qs ss P os (suc j) ++ drop CODE (storeIn b j)
         same j =
             store-as (partBy cols ts sl fs st (length ss) P n levels) b j (partStore n qs ss P os (suc j))
             (part-as cols ts sl fs st (length ss) P n levels (suc j)

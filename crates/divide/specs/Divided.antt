@@ -4,18 +4,20 @@
 --   FirstCells ks fs       fs has the first cell of each level
 --   masksOf cols m sl      the parts that hold each slot
 --   partBy .. p            the numbers of the store of the part p
---   storeOf f b j          the store with the number j in the table b, with f in front of its entries
+--   storeWith f b j          the store with the number j in the table b, with f in front of its entries
 --   storesTo f b j         b with the first j stores so
---   oneMore f b j          b with the store j so
+--   storePut f b j          b with the store j so
 use mathlib.Core.Path.{_≡_}
 use mathlib.Core.List.{List, _++_, flatMap}
 use Prim.Native.Nat.{ℕ, zero, suc, _+_, _*_, _≤_, _<_}
-use lib.ListN.{length, getD, take, drop}
+use lib.ListN.{length, getD, drop}
 use Rattle.base.specs.Range.{range}
 use Rattle.store.specs.Fields.{full, CODE}
+use Rattle.store.specs.Stores.{storeIn}
 use Rattle.slots.specs.Slots.{Slotted}
 use Rattle.filling.specs.Regions.{tab, putBy, maskBy, regions}
 
+-- Rule 3.2.
 unfoldable pub firstBy : List ℕ → ℕ → ℕ
 firstBy ks zero = 0
 firstBy ks (suc k) = getD ks (firstBy ks k) 0
@@ -29,24 +31,28 @@ pub record FirstCells (ks fs : List ℕ) : Type 0 where
   pub at : (k : ℕ) → k < 12 → getD fs k 0 ≡ firstBy ks k
 
 -- the slots with the first cells and slots of the levels
-pub record Numbered (t ks fs st sl : List ℕ) : Type 0 where
+pub record EdgesNumbered (t ks fs st sl : List ℕ) : Type 0 where
   pub firsts : FirstCells ks fs
   pub starts : length st ≡ 12
   pub slots : Slotted t fs sl st
 
+-- Rule 15.2.
 unfoldable pub masksOf : List ℕ → ℕ → List ℕ → List ℕ
 masksOf cols m sl = tab 24576 (maskBy cols m sl)
 
+-- Rule 15.5.
 unfoldable pub partBy : List ℕ → List ℕ → List ℕ → List ℕ → List ℕ → ℕ → ℕ → ℕ → ℕ → ℕ → List ℕ
 partBy cols mesh sl fs st m P n l p = regions cols mesh sl (masksOf cols m sl) fs st m p P n l
 
-unfoldable pub storeOf : (ℕ → List ℕ) → List ℕ → ℕ → List ℕ
-storeOf f b j = f (suc j) ++ drop CODE (take full (drop (full * j) b))
+unfoldable pub storeWith : (ℕ → List ℕ) → List ℕ → ℕ → List ℕ
+unfolding storeIn
+storeWith f b j = f (suc j) ++ drop CODE (storeIn b j)
 
+-- Rule 15.5.
 unfoldable pub storesTo : (ℕ → List ℕ) → List ℕ → ℕ → List ℕ
-unfolding storeOf
-storesTo f b j = flatMap (storeOf f b) (range 0 j) ++ drop (full * j) b
+unfolding storeWith
+storesTo f b j = flatMap (storeWith f b) (range 0 j) ++ drop (full * j) b
 
-unfoldable pub oneMore : (ℕ → List ℕ) → List ℕ → ℕ → List ℕ
-unfolding storeOf putBy
-oneMore f b j = putBy (full * j) (full * j + full) b (storeOf f b j)
+unfoldable pub storePut : (ℕ → List ℕ) → List ℕ → ℕ → List ℕ
+unfolding storeWith putBy
+storePut f b j = putBy (full * j) (full * j + full) b (storeWith f b j)

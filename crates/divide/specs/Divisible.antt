@@ -12,6 +12,7 @@ use Rattle.tables.specs.Sound.{Mesh, tableCells, examinedCorners}
 use Rattle.reds.specs.Flags.{firstChildren}
 use Rattle.store.specs.Fields.{full}
 
+-- Rule 15.5.
 pub record Divisible (n : ℕ) (ts ss rows ks os : List ℕ) (P levels : ℕ) (b : List ℕ) : Type 0 where
   pub mesh : Mesh n ts
   pub sound : T (soundb n (fours ts) ss)

@@ -9,14 +9,14 @@ ghost use Rattle.base.specs.Fours.{fours};
 ghost use Rattle.base.specs.Lent.{was, is};
 ghost use Rattle.store.specs.Fields.{full};
 ghost use Rattle.split.specs.Split.{splitAnswer, splitAfter, storesAfter};
-ghost use Rattle.columns.specs.Ten.{Kids};
+ghost use Rattle.columns.specs.Ten.{FirstKids};
 ghost use Rattle.filling.specs.Regions.{SmallSlots};
-ghost use Rattle.divide.specs.Divided.{Leveled, FirstCells, Numbered, masksOf, partBy, storesTo, oneMore};
+ghost use Rattle.divide.specs.Divided.{Leveled, FirstCells, EdgesNumbered, masksOf, partBy, storesTo, storePut};
 ghost use Rattle.divide.specs.Divisible.{Divisible};
 
 // The first cell of each level: a level begins where the children of the one below begin.
 fn fill_firsts(kids: &[u16], cells: usize, firsts: &mut [u16])
-    requires { ⌜ (Kids (now kids) cells) × (Leveled (now kids) cells) × (length (now firsts) ≡ 12) ⌝ }
+    requires { ⌜ (FirstKids (now kids) cells) × (Leveled (now kids) cells) × (length (now firsts) ≡ 12) ⌝ }
     ensures { λ r. ⌜ FirstCells (was kids) (is firsts) ⌝ }
 {
     firsts[0] = 0;
@@ -37,9 +37,9 @@ fn number_slots(
     starts: &mut [u16],
     slots: &mut [u16; 24576],
 )
-    requires { ⌜ (Kids (now kids) cells) × (Leveled (now kids) cells) × (cells ≤ 4096) ⌝ }
+    requires { ⌜ (FirstKids (now kids) cells) × (Leveled (now kids) cells) × (cells ≤ 4096) ⌝ }
     requires { ⌜ (length (now firsts) ≡ 12) × (length (now starts) ≡ 12) ⌝ }
-    ensures { λ r. ⌜ Numbered (was rows) (was kids) (is firsts) (is starts) (is slots) ⌝ }
+    ensures { λ r. ⌜ EdgesNumbered (was rows) (was kids) (is firsts) (is starts) (is slots) ⌝ }
 {
     fill_firsts(kids, cells, firsts);
     let mut xs = [0u32; 24576];
@@ -78,7 +78,7 @@ fn write_part(
     requires { ⌜ (length (now cols) ≡ 40960) × (length (now slots) ≡ 24576) × (SmallSlots (now slots) cells) ⌝ }
     requires { ⌜ (length (now masks) ≡ 24576) × (now masks ≡ masksOf (now cols) cells (now slots)) ⌝ }
     ensures { λ r. ⌜ is stores
-        ≡ oneMore (partBy (was cols) (was mesh) (was slots) (was firsts) (was starts) cells parts n levels) (was stores) j ⌝ }
+        ≡ storePut (partBy (was cols) (was mesh) (was slots) (was firsts) (was starts) cells parts n levels) (was stores) j ⌝ }
 {
     let at = FULL * j;
     filling::write_store(

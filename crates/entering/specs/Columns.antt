@@ -15,7 +15,7 @@ use Rattle.base.specs.Every.{All}
 use Rattle.base.specs.Range.{range}
 use Rattle.exchange.specs.Finite.{parts}
 use Rattle.rounds.specs.Tests.{Member}
-use Rattle.rounds.specs.Task.{Task, sixEdges}
+use Rattle.rounds.specs.Task.{Task}
 use Rattle.rounds.specs.Rounds.{State, mine, holdsb}
 use Rattle.store.specs.Fields.{field, full, PART, PARTS, CELLS, LEVELS, FIRST-CELL, FIRST-SLOT, OWNER, FAMILY, STATUS, REGULAR, CHILD}
 use Rattle.store.specs.Fields.{PARENT, HEAD, INNER, MARK, RED, SLOT, HOLDERS, SUM}
@@ -26,6 +26,7 @@ use Rattle.turns.specs.Start.{ownb}
 use Rattle.turns.specs.Decide.{kidCount}
 use Rattle.places.specs.Put.{placeAt}
 use Rattle.shares.specs.Grow.{coarseb, lastOf}
+use Rattle.mesh.specs.Layout.{edgeNumbers}
 
 -- a coarse cell below 256, then child numbers, at most ten
 pub record Path (k : ℕ) (l : List ℕ) : Type 0 where

@@ -16,9 +16,10 @@ use Rattle.base.specs.Bools.{one-if, eqb-one, not-both}
 use Rattle.base.specs.Lists.{allb, anyb, memberb}
 use Rattle.base.specs.Range.{range}
 use Rattle.mesh.specs.Table.{sizeOf}
+use Rattle.mesh.specs.Layout.{edgeNumbers}
 use Rattle.exchange.specs.Finite.{parts}
 use Rattle.rounds.specs.Tests.{Member, any-agree}
-use Rattle.rounds.specs.Task.{Task, Fit, sixEdges, idle, pulled, rule}
+use Rattle.rounds.specs.Task.{Task, Fit, idle, pulled, rule}
 use Rattle.rounds.specs.Rounds.{isPart, mine, decides}
 use Rattle.rounds.specs.Among.{is-same, is-eq}
 use Rattle.store.specs.Fields.{field, PART, CELLS, FAMILY, STATUS, REGULAR, CHILD, INNER, MARK, RED, SLOT, SUM}
@@ -152,27 +153,27 @@ module _ (P : ℕ) (J : Task (Fin P)) (p : Fin P) (x : List ℕ) (u : Columns P 
 -- the rule, of a store that holds the task
 module _ (P : ℕ) (J : Task (Fin P)) (fit : Fit J) (p : Fin P) (x : List ℕ) (u : Columns P J p x) (h : ℕ → Bool)
     (hits : (s : ℕ) → HoldsSlot P J p s → hitb x s ≡ h s) (g : ℕ → ℕ) (marked : MarksIn P J p g x) where
-  hit-is : (d e : ℕ) → HoldsCell P J p d → Member e sixEdges → hitOf x d e ≡ h (J .slot d e)
+  hit-is : (d e : ℕ) → HoldsCell P J p d → Member e edgeNumbers → hitOf x d e ≡ h (J .slot d e)
   unfolding hitOf
   hit-is d e held m = ap (hitb x) (u .slot d e held (six-below e m)) ∙ hits (J .slot d e) (slot-held P J p d e held m)
 
   idle-is : (d : ℕ) → HoldsCell P J p d → J .owner d ≡ p → idleKid x d ≡ idle J h g d
   unfolding idleKid idle
   idle-is d held own =
-      let hit : not (someFrom (hitOf x d) 6 0) ≡ allb (λ e. not (h (J .slot d e))) sixEdges =
+      let hit : not (someFrom (hitOf x d) 6 0) ≡ allb (λ e. not (h (J .slot d e))) edgeNumbers =
       ap not (some-range (hitOf x d) 6 0 ∙ ap (anyb (hitOf x d)) six-range
-      ∙ any-agree (hitOf x d) (λ e. h (J .slot d e)) sixEdges (λ e m. hit-is d e held m))
-      ∙ sym (not-some (λ e. h (J .slot d e)) sixEdges) in
+      ∙ any-agree (hitOf x d) (λ e. h (J .slot d e)) edgeNumbers (λ e m. hit-is d e held m))
+      ∙ sym (not-some (λ e. h (J .slot d e)) edgeNumbers) in
       rw (u .status d held, marked d held own, hit)
-      (and-on (eqb (J .status d) 0) (eqb (g d) 2) (allb (λ e. not (h (J .slot d e))) sixEdges))
+      (and-on (eqb (J .status d) 0) (eqb (g d) 2) (allb (λ e. not (h (J .slot d e))) edgeNumbers))
 
   pulled-is : (k c d : ℕ) → Member c (J .cells k) → J .family c ≡ p → Member d (J .kids c) → HoldsCell P J p d → J .owner d ≡ p
       → pulledKid x d ≡ pulled J h g d
   unfolding pulledKid pulled pullOf
   pulled-is k c d m f n held own =
-      let pull : someFrom (pullOf x d) 6 0 ≡ anyb (λ e. J .inner d e && h (J .slot d e)) sixEdges =
+      let pull : someFrom (pullOf x d) 6 0 ≡ anyb (λ e. J .inner d e && h (J .slot d e)) edgeNumbers =
       some-range (pullOf x d) 6 0 ∙ ap (anyb (pullOf x d)) six-range
-      ∙ any-agree (pullOf x d) (λ e. J .inner d e && h (J .slot d e)) sixEdges
+      ∙ any-agree (pullOf x d) (λ e. J .inner d e && h (J .slot d e)) edgeNumbers
       (λ e i. ap₂ _&&_ (u .inner k c d e m f n (six-below e i)) (hit-is d e held i)) in
       ap₂ (λ (i : ℕ) (b : Bool). eqb i 1 || b) (marked d held own) pull
 

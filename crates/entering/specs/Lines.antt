@@ -3,34 +3,34 @@
 -- Laws: marks-written, counts-written, totals-written (what is written), marks-order, counts-order, totals-order (it is what the rounds
 -- have in this order).
 use mathlib.Core.Path.{_≡_, refl, sym, _∙_, ap, ap₂, subst}
-use mathlib.Core.Logic.{_⊎_, inl, inr, _≢_}
-use mathlib.Core.Bool.{Bool, true, false, _&&_, _||_, not}
+use mathlib.Core.Logic.{inl, _≢_}
+use mathlib.Core.Bool.{Bool, true, false, _&&_, not}
 use mathlib.Core.List.{List, [], _∷_, _++_, map, flatMap, append-assoc, append-nil}
-use Prim.Native.Nat.{ℕ, zero, suc, _+_, _-_, _%_, _^_, _≤_, _<_, Fin}
+use Prim.Native.Nat.{ℕ, suc, _+_, _-_, _%_, _^_, _≤_, _<_, Fin}
 use native.Mathlib.Decide.{ℕ-discrete, Fin·val-path}
 use native.Mathlib.Omega.{arith}
-use lib.Dec.{T, eqb, ltb, leb}
-use lib.ListN.{length, getD}
+use lib.Dec.{eqb, ltb, leb}
+use lib.ListN.{length}
 use borrow.Author.Tests.{eq-eqb, ne-eqb, lt-ltb, le-ltb, le-leb}
 use Rattle.base.specs.Bools.{one-if}
 use Rattle.base.specs.Range.{range, range-member}
-use Rattle.exchange.specs.Finite.{Finite, parts}
+use Rattle.exchange.specs.Finite.{parts}
 use Rattle.rounds.specs.Tests.{Member}
 use Rattle.rounds.specs.Task.{Task}
 use Rattle.rounds.specs.Rounds.{Body, mark, count, total, end, marks, counts, totals, State, isPart, mine, holdsb}
 use Rattle.rounds.specs.Among.{is-same, is-not}
 use Rattle.rounds.specs.Order.{toAll, otherb, orderOf}
 use Rattle.rounds.specs.Upward.{ups}
-use Rattle.store.specs.Fields.{field, full, PART, PARTS, CELLS, HIGH, TOTAL, WRITTEN, FIRST-CELL, FIRST-SLOT, OWNER, FAMILY, RED, HOLDERS}
+use Rattle.store.specs.Fields.{field, full, PART, PARTS, HIGH, TOTAL, WRITTEN, OWNER, FAMILY, RED, HOLDERS}
 use Rattle.store.specs.Fields.{SUM}
 use Rattle.store.specs.Fetch.{bitb}
 use Rattle.standing.specs.Absorbs.{and-none}
-use Rattle.standing.specs.Busy.{HoldsCell, HoldsSlot}
+use Rattle.standing.specs.Busy.{HoldsCell}
 use Rattle.standing.specs.Packed.{entryCode, entryValue, bodyb}
 use Rattle.turns.specs.Loops.{eachFrom}
 use Rattle.turns.specs.Post.{posted, besides, othersOf, ghostAt, markOne, countOne, postEnd}
 use Rattle.partstep.specs.Step.{postTotals}
-use Rattle.entering.specs.Columns.{Columns, Heard}
+use Rattle.entering.specs.Columns.{Columns}
 use Rattle.entering.specs.Bits.{bit-none, bit-power, bit-ones, bit-less}
 use Rattle.entering.specs.Writing.{Line, Sent, SameElse, same-self, WroteLines, ordersOf, postLine, wrote-each, wrote-cons}
 use Rattle.entering.specs.Writing.{wrote-last, posted-same}
@@ -88,9 +88,6 @@ besides-same x y e m =
     ap (λ (i : ℕ). elim (bitb m (i - 1)) [ true ↦ m - 2 ^ (i - 1) | false ↦ m ]) e
 
 module _ (P : ℕ) (J : Task (Fin P)) (p : Fin P) (x : List ℕ) (co : Columns P J p x) where
-  abbrev F : Finite (Fin P)
-  F = parts P
-
   abbrev other : Fin P → Bool
   other q = otherb (parts P) J (ups P) p q
 

@@ -18,12 +18,13 @@ use Rattle.base.specs.Lists.{anyb}
 use Rattle.base.specs.Range.{range, range-member}
 use Rattle.mesh.specs.Cells.{bitsOf}
 use Rattle.mesh.specs.Table.{sizeOf}
+use Rattle.mesh.specs.Layout.{edgeNumbers}
 use Rattle.rows.specs.Sizes.{size-leaf, size-red}
 use Rattle.families.specs.Children.{lowDigit, highDigit}
 use Rattle.parts.specs.Held.{Entry}
 use Rattle.exchange.specs.Finite.{Finite, parts}
 use Rattle.rounds.specs.Tests.{Member}
-use Rattle.rounds.specs.Task.{Task, Fit, sixEdges}
+use Rattle.rounds.specs.Task.{Task, Fit}
 use Rattle.rounds.specs.Rounds.{State, isPart, capped, largest}
 use Rattle.rounds.specs.Among.{is-eq}
 use Rattle.store.specs.Fields.{field, PART, CELLS, ENTRIES, TOTAL, HIGH, FIRST-CELL, OWNER, FAMILY, STATUS, CHILD, HEAD, DIGITS, MORE}
@@ -178,7 +179,7 @@ unfolding pairHeld anyb
 no-pair J st c z a b = rw (z, pairHeld)
 
 no-pairs : {Part : Type 0} (J : Task Part) (st : State) (c : ℕ) → J .kids c ≡ [] → (f g : ℕ → ℕ)
-    → bitsOf (map (λ y. pairHeld J st c (f y) (g y)) sixEdges) ≡ 0
+    → bitsOf (map (λ y. pairHeld J st c (f y) (g y)) edgeNumbers) ≡ 0
 unfolding bitsOf
 no-pairs J st c z f g =
     let none : (a b : ℕ) → pairHeld J st c a b ≡ false = no-pair J st c z in

@@ -19,10 +19,11 @@ use Rattle.cutting.specs.Rows.{family-few}
 use Rattle.mesh.specs.Cells.{patternOf, bitsOf}
 use Rattle.mesh.specs.Laws.{pattern-below}
 use Rattle.mesh.specs.Table.{sizeOf}
+use Rattle.mesh.specs.Layout.{edgeNumbers}
 use Rattle.families.specs.Children.{lowDigit, highDigit}
 use Rattle.exchange.specs.Finite.{parts}
 use Rattle.rounds.specs.Tests.{Member, any-agree, member-any}
-use Rattle.rounds.specs.Task.{Task, Fit, has, sixEdges}
+use Rattle.rounds.specs.Task.{Task, Fit, has}
 use Rattle.rounds.specs.Rounds.{State, isPart, mine, holdsb}
 use Rattle.rounds.specs.Among.{is-eq, is-same, is-not}
 use Rattle.store.specs.Fields.{field, PART, CELLS, FIRST-CELL, FIRST-SLOT, OWNER, FAMILY, STATUS, REGULAR}
@@ -110,7 +111,7 @@ module _ {Part : Type 0} (J : Task Part) (st : State) where
   pub fresh-few : (c i : ℕ) → freshNow J st c i ≤ 64
   fresh-few c i =
       let at : ℕ → Bool = λ y. pairHeld J st c (lowDigit 63 i y) (highDigit 63 i y) in
-      subst (λ (n : ℕ). n ≤ 64) (sym (fresh-bits J st c i)) (most (bitsOf (map at sixEdges))
+      subst (λ (n : ℕ). n ≤ 64) (sym (fresh-bits J st c i)) (most (bitsOf (map at edgeNumbers))
       (six-few (at 0) (at 1) (at 2) (at 3) (at 4) (at 5)))
     where
       most : (n : ℕ) → n < 64 → n ≤ 64
@@ -150,7 +151,8 @@ module _ (P : ℕ) (J : Task (Fin P)) (p : Fin P) (x : List ℕ) (C : Columns P 
     k,
     member-any (λ d. mine (parts P) J p d && has J d (J .slot c e)) (J .cells k) c m
         (and-both (mine (parts P) J p c) (has J c (J .slot c e)) t
-        (member-any (λ f. eqb (J .slot c f) (J .slot c e)) sixEdges e (below-six e h) (rw (eq-eqb (J .slot c e) (J .slot c e) refl) tt))),
+        (member-any (λ f. eqb (J .slot c f) (J .slot c e)) edgeNumbers e (below-six e h)
+        (rw (eq-eqb (J .slot c e) (J .slot c e) refl) tt))),
   )
 
   module _ (y : List ℕ) (else : Else x y) where
@@ -210,9 +212,10 @@ module _ (P : ℕ) (J : Task (Fin P)) (p : Fin P) (x : List ℕ) (C : Columns P 
           let a : eqb (field y (REGULAR + c)) 1 ≡ J .regular c =
           ap (λ (n : ℕ). eqb n 1) (at REGULAR c (omega arith) (omega (arith, cell-few k c m)) ∙ C .regular c (k, m, t))
           ∙ eqb-one (J .regular c) in
-          let b : map (hitOf y c) sixEdges ≡ map (λ e. heldNow J st (J .slot c e)) sixEdges =
-          map-agree (hitOf y c) (λ e. heldNow J st (J .slot c e)) sixEdges (λ e n. hit-is c e (k, m, t) (six-below e n)) in
-          ap₂ (λ (r d : Bool). statusBy r d (map (hitOf y c) sixEdges)) a (red-is c (k, m, t)) ∙ ap (statusBy (J .regular c) (st .red c)) b
+          let b : map (hitOf y c) edgeNumbers ≡ map (λ e. heldNow J st (J .slot c e)) edgeNumbers =
+          map-agree (hitOf y c) (λ e. heldNow J st (J .slot c e)) edgeNumbers (λ e n. hit-is c e (k, m, t) (six-below e n)) in
+          ap₂ (λ (r d : Bool). statusBy r d (map (hitOf y c) edgeNumbers)) a (red-is c (k, m, t))
+          ∙ ap (statusBy (J .regular c) (st .red c)) b
 
       -- whether a cell stays: one that the part has as master, and one that is refined
       pub stays-is : (k c : ℕ) → Member c (J .cells k) → J .owner c ≡ p → lastsb y c ≡ staysNow (parts P) J p st k c
@@ -281,9 +284,9 @@ module _ (P : ℕ) (J : Task (Fin P)) (p : Fin P) (x : List ℕ) (C : Columns P 
           let d : field y (CHILD + c) ≡ field x (CHILD + c) = at CHILD c (omega arith) (omega (arith, cell-few k c m)) in
           let v : List ℕ = range (field x (CHILD + c)) (kidCount x c) in
           let test : ℕ → Bool = λ d.
-          anyb (λ y. pairBy a b (patternOf (J .status c)) (lastOf (J .path d)) y (heldNow J st (J .slot d y))) sixEdges in
+          anyb (λ y. pairBy a b (patternOf (J .status c)) (lastOf (J .path d)) y (heldNow J st (J .slot d y))) edgeNumbers in
           let read : ℕ → Bool = λ j.
-          anyb (λ z. pairBy a b (field y (STATUS + c)) j z (hitOf y (field y (CHILD + c) + j) z)) sixEdges in
+          anyb (λ z. pairBy a b (field y (STATUS + c)) j z (hitOf y (field y (CHILD + c) + j) z)) edgeNumbers in
           let here : (j : ℕ) → j < kidCount x c → read j ≡ test (field x (CHILD + c) + j) =
           λ j l.
           let n : Member (field x (CHILD + c) + j) (J .kids c) =
@@ -293,7 +296,7 @@ module _ (P : ℕ) (J : Task (Fin P)) (p : Fin P) (x : List ℕ) (C : Columns P 
           (fit .kid-owner k c (field x (CHILD + c) + j) m n ∙ f) in
           any-agree (λ z. pairBy a b (field y (STATUS + c)) j z (hitOf y (field y (CHILD + c) + j) z))
           (λ z. pairBy a b (patternOf (J .status c)) (lastOf (J .path (field x (CHILD + c) + j))) z
-          (heldNow J st (J .slot (field x (CHILD + c) + j) z))) sixEdges (λ z q.
+          (heldNow J st (J .slot (field x (CHILD + c) + j) z))) edgeNumbers (λ z q.
           ap₂ (λ (s i : ℕ). pairBy a b s i z (hitOf y (field y (CHILD + c) + j) z)) (stored-is c h ∙ sym (pattern-green (J .status c) s))
           (sym (C .kid-number k c j m f l))
           ∙ ap (pairBy a b (patternOf (J .status c)) (lastOf (J .path (field x (CHILD + c) + j))) z)
@@ -310,5 +313,5 @@ module _ (P : ℕ) (J : Task (Fin P)) (p : Fin P) (x : List ℕ) (C : Columns P 
       fresh-read k c i m f s =
           ap bitsOf (map-agree (λ z. pairHit y c (lowDigit 63 i z) (highDigit 63 i z))
           (λ z. pairHeld J st c (lowDigit 63 i z) (highDigit 63 i z))
-          sixEdges (λ z q. pair-is k c (lowDigit 63 i z) (highDigit 63 i z) m f s))
+          edgeNumbers (λ z q. pair-is k c (lowDigit 63 i z) (highDigit 63 i z) m f s))
           ∙ sym (fresh-bits J st c i)

@@ -23,7 +23,7 @@ use Rattle.merging.specs.Distinct.{mem-at}
 use Rattle.merging.specs.Limits.{topOf}
 use Rattle.store.specs.Fields.{field, ENTRIES, TOTAL, HIGH}
 use Rattle.store.specs.declared.Place.{Place}
-use Rattle.store.specs.Places.{levelIn, coarsePlace, childPlace, placeDown, placeOf, place-child}
+use Rattle.store.specs.Places.{placeLevel, coarsePlace, childPlace, placeDown, placeOf, place-child}
 use Rattle.turns.specs.Loops.{eachFrom}
 use Rattle.places.specs.Put.{put, putMaster, putLeaf, putLeaves, putChild}
 use Rattle.entering.specs.Columns.{Path}
@@ -38,7 +38,7 @@ head-down p (i ∷ l) h =
     let z : childPlace p i .head ≡ p .head + 256 = omega arith in
     head-down (childPlace p i) l (omega arith) ∙ omega arith
 
-level-of : (k : ℕ) (l : List ℕ) → Path k l → k ≤ 20 → (levelIn (placeOf l) ≡ k) × (pred (length l) ≡ k)
+level-of : (k : ℕ) (l : List ℕ) → Path k l → k ≤ 20 → (placeLevel (placeOf l) ≡ k) × (pred (length l) ≡ k)
 unfolding placeOf
 level-of k l w h =
     let d = head-down (coarsePlace (w .coarse)) (w .down) (omega (arith, w .deep, w .coarse-few)) in
@@ -139,21 +139,21 @@ module _ (x : List ℕ) (es : List Entry) (y : List ℕ) (w : StepHeld x es y) (
         let e : Entry = entryBy l s false in
         let z : masterPaths (es ++ (e ∷ [])) ≡ masterPaths es ++ (l ∷ []) = paths-append es (e ∷ []) in
         let y₁ : List ℕ = set y TOTAL (min (field y TOTAL + 1) 4097) in
-        let y₂ : List ℕ = set y₁ HIGH (max (field y HIGH) (levelIn (placeOf l))) in
+        let y₂ : List ℕ = set y₁ HIGH (max (field y HIGH) (placeLevel (placeOf l))) in
         let a : length y₁ ≡ length y = length-set y TOTAL (min (field y TOTAL + 1) 4097) in
-        let b : length y₂ ≡ length y = length-set y₁ HIGH (max (field y HIGH) (levelIn (placeOf l))) ∙ a in
+        let b : length y₂ ≡ length y = length-set y₁ HIGH (max (field y HIGH) (placeLevel (placeOf l))) ∙ a in
         let c : (i : ℕ) → i ≢ TOTAL → i ≢ HIGH → field y₂ i ≡ field y i =
-        λ i u v. getD-set-other y₁ HIGH i (max (field y HIGH) (levelIn (placeOf l))) 0 v
+        λ i u v. getD-set-other y₁ HIGH i (max (field y HIGH) (placeLevel (placeOf l))) 0 v
         ∙ getD-set-other y TOTAL i (min (field y TOTAL + 1) 4097) 0 u in
         let d : EntriesAt es y₂ = wrote-same es y y₂ b (c ENTRIES (λ q. absurd (omega (arith, q))) (λ q. absurd (omega (arith, q))))
         (λ i u. c i (λ q. absurd (omega (arith, q))) (λ q. absurd (omega (arith, q)))) (w .wrote) in
         let (f, g) = level-of k l path h in
         let t : field y₂ TOTAL ≡ min (length (masterPaths es ++ (l ∷ []))) 4097 =
-        getD-set-other y₁ HIGH TOTAL (max (field y HIGH) (levelIn (placeOf l))) 0 (λ q. absurd (omega (arith, q)))
+        getD-set-other y₁ HIGH TOTAL (max (field y HIGH) (placeLevel (placeOf l))) 0 (λ q. absurd (omega (arith, q)))
         ∙ getD-set-same y TOTAL (min (field y TOTAL + 1) 4097) 0 (omega (arith, w .wrote .long))
         ∙ omega (arith, w .total, length-append (masterPaths es) (l ∷ [])) in
         let r : field y₂ HIGH ≡ topOf (masterPaths es ++ (l ∷ [])) =
-        getD-set-same y₁ HIGH (max (field y HIGH) (levelIn (placeOf l))) 0 (omega (arith, w .wrote .long))
+        getD-set-same y₁ HIGH (max (field y HIGH) (placeLevel (placeOf l))) 0 (omega (arith, w .wrote .long))
         ∙ omega (arith, w .high, top-snoc (masterPaths es) l) in
         record {
           wrote = put-wrote y₂ (placeOf l) s es e d refl refl;

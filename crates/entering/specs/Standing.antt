@@ -29,6 +29,7 @@ use Rattle.held.specs.Held.{heldIn}
 use Rattle.entering.specs.Columns.{Columns, MarksIn, countBefore}
 use Rattle.entering.specs.Fits.{ofMarksb, ofCountsb}
 
+-- Rule 7.8.
 unfoldable pub resultOf : ℕ → ℕ → ℕ
 resultOf n h = elim (leb 11 h) [ true ↦ 8 | false ↦ elim (leb n 4096) [ true ↦ 0 | false ↦ 9 ] ]
 
@@ -44,6 +45,7 @@ module _ (P : ℕ) (J : Task (Fin P)) where
   Spent over x = Unit {0}
 
   module _ (p : Fin P) where
+    -- Rule 15.10.
     unfoldable pub oldEntry : ℕ → List Entry
     unfolding isPart
     oldEntry c =

@@ -12,9 +12,10 @@ use borrow.Author.Tests.{eq-eqb}
 use Rattle.base.specs.Bools.{is-true, and-both, or-first, or-second}
 use Rattle.base.specs.Range.{range, member-range, range-member}
 use Rattle.mesh.specs.Table.{sizeOf}
+use Rattle.mesh.specs.Layout.{edgeNumbers}
 use Rattle.exchange.specs.Finite.{parts}
 use Rattle.rounds.specs.Tests.{Member, any-member, member-any}
-use Rattle.rounds.specs.Task.{Task, sixEdges, has}
+use Rattle.rounds.specs.Task.{Task, has}
 use Rattle.rounds.specs.Rounds.{isPart, mine, holdsb}
 use Rattle.rounds.specs.Among.{is-same}
 use Rattle.store.specs.Fields.{field, CELLS, FIRST-CELL, FIRST-SLOT, STATUS, CHILD}
@@ -23,7 +24,7 @@ use Rattle.turns.specs.Decide.{kidCount}
 use Rattle.turns.specs.Start.{levelFrom}
 use Rattle.entering.specs.Columns.{Columns}
 
-pub six-range : range 0 6 ≡ sixEdges
+pub six-range : range 0 6 ≡ edgeNumbers
 unfolding range
 six-range = refl
 
@@ -41,11 +42,11 @@ module _ (P : ℕ) (J : Task (Fin P)) (p : Fin P) where
   family-held k c m e =
       (k, m, or-second (isPart (parts P) (J .owner c) p) (isPart (parts P) (J .family c) p) (rw (is-same (parts P) (J .family c) p e) tt))
 
-  pub slot-held : (c e : ℕ) → HoldsCell P J p c → Member e sixEdges → HoldsSlot P J p (J .slot c e)
+  pub slot-held : (c e : ℕ) → HoldsCell P J p c → Member e edgeNumbers → HoldsSlot P J p (J .slot c e)
   unfolding holdsb has
   slot-held c e (k, m, h) n =
       let t : T (has J c (J .slot c e)) =
-      member-any (λ f. eqb (J .slot c f) (J .slot c e)) sixEdges e n (rw (eq-eqb (J .slot c e) (J .slot c e) refl) tt) in (
+      member-any (λ f. eqb (J .slot c f) (J .slot c e)) edgeNumbers e n (rw (eq-eqb (J .slot c e) (J .slot c e) refl) tt) in (
         k,
         member-any (λ d. mine (parts P) J p d && has J d (J .slot c e)) (J .cells k) c m
             (and-both (mine (parts P) J p c) (has J c (J .slot c e)) h t),

@@ -31,8 +31,8 @@ module _ {In Body Msg St Store : Type 0} (P : ℕ) (Q : Protocol (Fin P) In Body
   begun-own j q r e = rw (eq-eqb (p .0) q (sym e), begun)
 
   -- an accepted call at an idle store is a start
-  own-call : (x : Store) → Z .Idle p x → (c : Request In Msg) (q : ℕ) → q ≡ p .0 → (y : Store × List Msg) → Z .act c x ≡ some y → (r : Option In)
-      → begun (Z .act) (p .0) q c true r ≡ some i → Fine p i
+  own-call : (x : Store) → Z .Idle p x → (c : Request In Msg) (q : ℕ) → q ≡ p .0 → (y : Store × List Msg) → Z .act c x ≡ some y
+      → (r : Option In) → begun (Z .act) (p .0) q c true r ≡ some i → Fine p i
   unfolding begun
   own-call x a (Start j) q e y k r h =
       let z : _≡_ {A = Option In} (some j) (some i) = sym (begun-own j q r e) ∙ h in
@@ -56,12 +56,14 @@ module _ {In Body Msg St Store : Type 0} (P : ℕ) (Q : Protocol (Fin P) In Body
   first-fine (c ∷ cs) w h a e = go (answer (Z .act) c w) refl (first-fine cs)
     where
       go : (o : Option (Store × List Msg)) → answer (Z .act) c w ≡ o
-          → ((v : World Msg Store) → p .0 < length (v .stores) → Z .Idle p (storeAt void v p) → startedWith (Z .act) cs v (p .0) ≡ some i → Fine p i)
+          → ((v : World Msg Store) → p .0 < length (v .stores) → Z .Idle p (storeAt void v p)
+          → startedWith (Z .act) cs v (p .0) ≡ some i → Fine p i)
           → Fine p i
       go none k r = r w h a (sym (started-none (Z .act) c cs w (p .0) k) ∙ e)
       go (some y) k r = part-is (ℕ-discrete (c .part) (p .0))
         where
-          f : begun (Z .act) (p .0) (c .part) (c .request) true (startedWith (Z .act) cs (changed (Z .act) (c .part) w (some y)) (p .0)) ≡ some i
+          f : begun (Z .act) (p .0) (c .part) (c .request) true (startedWith (Z .act) cs (changed (Z .act) (c .part) w (some y)) (p .0))
+              ≡ some i
           f = sym (started-some (Z .act) c cs w (p .0) y k) ∙ e
 
           part-is : Dec (c .part ≡ p .0) → Fine p i

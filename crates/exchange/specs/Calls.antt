@@ -98,6 +98,7 @@ module _ {In Msg Store : Type 0} (act : Program In Msg Store) where
   unfolding toCome
   IsWritten w m = List·Memᴰ m (w .given) ⊎ ((x : Store) × List·Memᴰ x (w .stores) × (n : ℕ) × List·Memᴰ m (toCome n x))
 
+  -- Rule 15.17.
   unfoldable pub Fair : Request In Msg → World Msg Store → Type 0
   unfolding IsWritten
   Fair (Start i) w = Unit {0}

@@ -2,8 +2,8 @@
 -- some call moves the exchange on until every part is at the end; and such calls are bounded.
 --   AtHome w      each store of the world is one that has not started, and no message is given
 --   Inputs cs w   each part that the calls start is started with its input
--- Laws, of lawful lists of calls on such a world: determined, started (a part past its start was started), ended (a part at the end has
--- taken all), rises-only (done stays), bounded, progress, completes.
+-- Laws, of lawful lists of calls on such a world: determined, started (a part past its start was started), ended (a part at
+-- the end has taken all), rises-only (done stays), bounded, progress, completes.
 use Prim.Native.Nat.{ℕ, zero, suc, _+_, _≤_, _<_, pred, _-_, Fin}
 use native.Mathlib.Omega.{arith}
 use native.Mathlib.Decide.{decLt, le-ind, Fin·val-path}
@@ -380,11 +380,6 @@ module _ {In Msg Store : Type 0} (P : ℕ) (act : Program In Msg Store) (void : 
     abbrev pub Inputs : List (Call In Msg) → World Msg Store → Type 0
     Inputs cs w = (p : Fin P) (i : In) → startedWith act cs w (p .0) ≡ some i → i ≡ E .input p
 
-    inputs-front : (cs ds : List (Call In Msg)) (w : World Msg Store) → Inputs (cs ++ ds) w → Inputs cs w
-    unfolding Option·elim
-    inputs-front cs ds w m p i e = m p i (started-append act cs ds w (p .0)
-        ∙ ap (λ r. Option·elim r (startedWith act ds (play act cs w) (p .0)) some) e)
-
     module _ (w : World Msg Store) (b : AtHome w) (cs : List (Call In Msg)) where
       all-went : (ds : List (Call In Msg)) → Lawful act cs w → Inputs (cs ++ ds) w → Went cs ds w home
       unfolding Meant
@@ -399,7 +394,7 @@ module _ {In Msg Store : Type 0} (P : ℕ) (act : Program In Msg Store) (void : 
           × ((j : ℕ) → j < g .fetched → List·Memᴰ (E .msg p j) (play act cs w .given))
       determined h m p = let k = only-went h m in (k .places p, k .inv .ok p, k .inv .same p, k .inv .full p)
 
-      pub stores-kept : Lawful act cs w → Inputs cs w → length (play act cs w .stores) ≡ P
+      stores-kept : Lawful act cs w → Inputs cs w → length (play act cs w .stores) ≡ P
       stores-kept h m = only-went h m .inv .many
 
       -- a part past its start was started
@@ -410,7 +405,7 @@ module _ {In Msg Store : Type 0} (P : ℕ) (act : Program In Msg Store) (void : 
           ⊎-elim (λ (z : 0 < 0). absurd (omega arith)) (λ r. r)
           (k .starts p (subst (λ (n : ℕ). 0 < n) (K .phase-is p (k .places p) _ (k .inv .same p)) l))
 
-      pub all-taken : (p : Fin P) (g : Place (Fin P)) → Ok E p g → g .phase ≡ E .last → g .taken ≡ (λ q. E .count (E .last) q p)
+      all-taken : (p : Fin P) (g : Place (Fin P)) → Ok E p g → g .phase ≡ E .last → g .taken ≡ (λ q. E .count (E .last) q p)
       all-taken p g o e = fun-ext (λ q.
           let a : E .count (pred (E .last)) q p ≤ g .taken q = subst (λ φ. E .count (pred φ) q p ≤ g .taken q) e (o .low q) in
           let b : g .taken q ≤ E .count (E .last) q p = subst (λ φ. g .taken q ≤ E .count φ q p) e (o .high q) in
@@ -442,7 +437,7 @@ module _ {In Msg Store : Type 0} (P : ℕ) (act : Program In Msg Store) (void : 
           rw (play-append act cs ds w, K .phase-is p (k .places p) _ (k .inv .same p), K .phase-is p (u .places p) _ (u .inv .same p))
           (u .risen p, u .inv .ok p .top)
 
-    -- the most calls that can move the exchange on
+    -- Rule 15.19: the most calls that can move the exchange on
     unfoldable pub most : ℕ
     most = sumOver (λ p. E .last + sumOver (λ q. E .count (E .last) q p) (F .list) + E .written (E .last) p) (F .list)
 
@@ -514,7 +509,7 @@ module _ {In Msg Store : Type 0} (P : ℕ) (act : Program In Msg Store) (void : 
           go (inr w) = inr w
           go (inl a) = turn a (find F (λ p. cut p (decLt (g p .phase) (suc φ))))
 
-      -- a call that would move the exchange on, of a part that is started with its input
+      -- Rule 15.19: a call that would move the exchange on, of a part that is started with its input
       pub record Goes (w : World Msg Store) : Type 0 where
         pub part : Fin P
         pub request : Request In Msg

@@ -22,7 +22,7 @@ use lib.Seq.{take-nil, drop-cons}
 use Rattle.exchange.specs.Calls.{Fetch, Call, World, play, moves, startedWith, Lawful}
 use Rattle.exchange.specs.Finite.{Finite, parts, sumOver, sum-le}
 use Rattle.exchange.specs.Places.{Plan, Ok, Laws, Live}
-use Rattle.exchange.specs.Exchange.{storeAt, AtHome, determined, started, ended, rises-only, bounded, most, Goes, progress}
+use Rattle.exchange.specs.Exchange.{storeAt, AtHome, determined, ended, rises-only, bounded, most, Goes, progress, started}
 use Rattle.exchange.specs.Exchange.{more-lawful, more-moves, more-inputs, callOf, completes}
 use Rattle.exchange.specs.Protocol.{Protocol, Machine, Local, Alone}
 use Rattle.exchange.specs.Played.{getD-mem}
@@ -66,7 +66,7 @@ module _ {In Body Msg St Store : Type 0} (P : ℕ) (Q : Protocol (Fin P) In Body
   abbrev pub phaseAfter : List (Call In Msg) → Fin P → ℕ
   phaseAfter cs p = Z .phase-of p (storeAfter cs p)
 
-  -- a list of calls as demand 3 has it
+  -- Rule 15.17: a list of calls as demand 3 has it
   pub record Allowed (cs : List (Call In Msg)) : Type 0 where
     pub lawful : Lawful (Z .act) cs w
     pub inputs : (p : Fin P) (i : In) → startedWith (Z .act) cs w (p .0) ≡ some i → i ≡ input p

@@ -1,32 +1,17 @@
 -- Regions of a store written one behind the other.
--- Laws: part-length (a part's length), each-list, zeros-list, copied (a region by its numbers), put-is (one region, as a call leaves it),
+-- Laws: zeros-list, copied (a region by its numbers), put-is (one region, as a call leaves it),
 -- by-on, by-three, by-four, by-front (one behind the other), store-is (the whole store).
 use mathlib.Core.Path.{_≡_, refl, sym, _∙_, ap, ap₂}
-use mathlib.Core.List.{List, _++_, map, append-assoc}
-use Prim.Native.Nat.{ℕ, _+_, _-_, _/_, _≤_, _<_}
+use mathlib.Core.List.{List, _++_, append-assoc}
+use Prim.Native.Nat.{ℕ, _+_, _-_, _/_, _≤_}
 use native.Mathlib.Omega.{arith}
-use lib.ListN.{length, take, drop, length-append, length-drop, length-map, length-replicate}
+use lib.ListN.{length, take, drop, length-append}
 use lib.ListN.{drop-of-length-le}
-use lib.Seq.{length-take-le, take-at, drop-at, drop-drop, ext-getD, take-all}
+use lib.Seq.{length-take-le, take-at, drop-at, drop-drop, take-all}
 use mathlib.Core.List.{append-nil}
 use borrow.Rule.Slice.PartMut.{putMid}
-use Rattle.base.specs.Every.{getD-map}
-use Rattle.base.specs.Range.{range, length-range, range-at}
-use Rattle.filling.specs.Regions.{zeros, tab, putBy, headBy, columnBy, cornerBy, slotBy, holderBy, regions, Each}
-
-pub part-length : (x : List ℕ) (a k : ℕ) → a + k ≤ length x → length (take k (drop a x)) ≡ k
-part-length x a k h = length-take-le k (drop a x) (simp length-drop (omega arith))
-
-pub each-list : (k : ℕ) (f : ℕ → ℕ) (x : List ℕ) → Each k f x → x ≡ tab k f
-unfolding tab
-each-list k f x a =
-    ext-getD 0 x (map f (range 0 k)) (a .size ∙ sym (length-map (range 0 k) f ∙ length-range 0 k))
-    (λ i h.
-    let g : i < k = omega (arith, a .size) in
-    a .at i g ∙ ap f (sym (range-at 0 k i 0 g ∙ zero i)) ∙ sym (getD-map f (range 0 k) i 0 0 (omega (arith, length-range 0 k))))
-  where
-    zero : (i : ℕ) → 0 + i ≡ i
-    zero i = omega arith
+use Rattle.filling.specs.Regions.{zeros, tab, putBy, headBy, columnBy, cornerBy, slotBy, holderBy, regions}
+use Rattle.filling.specs.Laws.{tab-length, zero-length, header-size}
 
 pub zeros-list : (x y : List ℕ) (k : ℕ) → length x ≡ k → y ≡ zeros (length x) → y ≡ zeros k
 zeros-list x y k l e = e ∙ ap zeros l
@@ -42,11 +27,8 @@ put-is x y z a k e =
     let w : a + k - a ≡ k = omega arith in
     rw w (ap₂ (λ (u v : List ℕ). take a x ++ (u ++ v)) e (drop-drop k a x))
 
-pub between : (x : List ℕ) (a k : ℕ) → a + k ≤ length x → length (take (a + k - a) (drop a x)) ≡ k
-between x a k h = let w : a + k - a ≡ k = omega arith in rw w (part-length x a k h)
-
 -- a region behind another
-pub by-on : (x y z : List ℕ) (a c d : ℕ) → a + length y ≡ c → c ≤ d → c ≤ length x
+by-on : (x y z : List ℕ) (a c d : ℕ) → a + length y ≡ c → c ≤ d → c ≤ length x
     → putBy c d (putBy a c x y) z ≡ putBy a d x (y ++ z)
 unfolding putBy
 by-on x y z a c d e h l =
@@ -81,35 +63,23 @@ by-four x₀ x₁ x₂ x₃ x₄ y₁ y₂ y₃ y₄ a b c d e p q r h l e₁ e�
     e₄ ∙ ap (λ (u : List ℕ). putBy d e u y₄) f
     ∙ by-on x₀ (y₁ ++ y₂ ++ y₃) y₄ a d e (ap (λ (k : ℕ). a + k) n ∙ omega arith) h (omega arith)
 
-pub by-front : (x y : List ℕ) (d : ℕ) → putBy 0 d x y ≡ y ++ drop d x
+by-front : (x y : List ℕ) (d : ℕ) → putBy 0 d x y ≡ y ++ drop d x
 unfolding putBy
 by-front x y d = refl
 
-pub tab-length : (k : ℕ) (f : ℕ → ℕ) → length (tab k f) ≡ k
-unfolding tab
-tab-length k f = length-map (range 0 k) f ∙ length-range 0 k
-
-pub zero-length : (k : ℕ) → length (zeros k) ≡ k
-unfolding zeros
-zero-length k = length-replicate k 0
-
-pub head-length : (p P n q m l : ℕ) → length (headBy p P n q m l) ≡ 16
-unfolding headBy
-head-length p P n q m l = refl
-
 -- the whole store
 module _ (cols mesh sl ms fs st : List ℕ) (m p P n l : ℕ) where
-  abbrev pub front : List ℕ
+  abbrev front : List ℕ
   front = headBy p P n (length mesh / 4) m l ++ fs ++ st ++ zeros 72
 
-  abbrev pub columns : List ℕ
+  abbrev columns : List ℕ
   columns = tab 40960 (columnBy cols m p) ++ zeros 8192 ++ tab 1024 (cornerBy cols mesh p)
 
-  abbrev pub slots : List ℕ
+  abbrev slots : List ℕ
   slots = tab 24576 (slotBy cols m p sl) ++ tab 24576 (holderBy cols m p sl ms) ++ zeros 24576
 
   front-length : length fs ≡ 12 → length st ≡ 12 → length front ≡ 112
-  front-length a b = simp length-append (omega (arith, a, b, head-length p P n (length mesh / 4) m l, zero-length 72))
+  front-length a b = simp length-append (omega (arith, a, b, header-size p P n (length mesh / 4) m l, zero-length 72))
 
   columns-length : length columns ≡ 50176
   columns-length =

@@ -22,9 +22,9 @@ use Rattle.base.specs.Lists.{anyb, belowb, belowb-at}
 use Rattle.base.specs.Range.{range, length-range}
 use Rattle.mesh.specs.Cells.{bitsOf}
 use Rattle.mesh.specs.Layout.{edgeNumbers}
-use Rattle.filling.specs.Regions.{Each, holdb, pick, pickTo, inColumn, inSix, columnTo, columnBy, slotTo, slotBy, markTo, holderTo}
-use Rattle.filling.specs.Regions.{zeros, SmallSlots, markb, holderBy, maskFrom, cornerBy, headBy}
-use Rattle.filling.specs.Passes.{Column, Six, ownb, Marked, Bits, Doubled}
+use Rattle.filling.specs.Regions.{Tabled, holdb, pickBy, pickTo, inColumn, inSix, columnTo, columnBy, slotTo, slotBy, heldSlotTo}
+use Rattle.filling.specs.Regions.{holderTo, zeros, SmallSlots, heldSlotb, holderBy, maskFrom, cornerBy, headBy}
+use Rattle.filling.specs.Passes.{Column, Six, sixHaveb, Masked, AllBelow, Doubled}
 
 pub zero-turn : (l : List ℕ) (i : ℕ) → i < length l
     → set (replicate i 0 ++ drop i l) i 0 ≡ replicate (i + 1) 0 ++ drop (i + 1) l
@@ -55,7 +55,7 @@ module _ (cols : List ℕ) (m p c : ℕ) where
   unfolding holdb
   hold-family h e = rw (lt-ltb c m h, ne-eqb (getD cols c 0) p e)
 
-  pub hold-there : holdb cols m p c ≡ (ltb c m && holdb cols m p c)
+  hold-there : holdb cols m p c ≡ (ltb c m && holdb cols m p c)
   unfolding holdb
   hold-there = go (ltb c m)
     where
@@ -85,11 +85,11 @@ module _ (κ : ℕ → ℕ) (h : ℕ → Bool) (v : ℕ → ℕ) where
   unfolding pickTo
   pick-not c i e t = rw (e, lt-ltb c (suc c) (omega arith), le-ltb c c (omega arith), t, pickTo)
 
-  module _ (k c : ℕ) (x : List ℕ) (a : Each k (pickTo κ h v c) x) where
+  module _ (k c : ℕ) (x : List ℕ) (a : Tabled k (pickTo κ h v c) x) where
     each-here : h c ≡ true → (y : List ℕ) → length y ≡ length x
         → ((i : ℕ) → i < k → κ i ≡ c → getD y i 0 ≡ v i)
         → ((i : ℕ) → i < k → (κ i ≡ c → ⊥) → getD y i 0 ≡ getD x i 0)
-        → Each k (pickTo κ h v (suc c)) y
+        → Tabled k (pickTo κ h v (suc c)) y
     each-here t y l new old =
         record {
           size = l ∙ a .size;
@@ -100,7 +100,7 @@ module _ (κ : ℕ → ℕ) (h : ℕ → Bool) (v : ℕ → ℕ) where
               ];
         }
 
-    each-not : h c ≡ false → Each k (pickTo κ h v (suc c)) x
+    each-not : h c ≡ false → Tabled k (pickTo κ h v (suc c)) x
     each-not t =
         record {
           size = a .size;
@@ -111,13 +111,13 @@ module _ (κ : ℕ → ℕ) (h : ℕ → Bool) (v : ℕ → ℕ) where
               ];
         }
 
-  each-none : (k : ℕ) → Each k (pickTo κ h v 0) (zeros k)
+  each-none : (k : ℕ) → Tabled k (pickTo κ h v 0) (zeros k)
   unfolding pickTo zeros
   each-none k =
       record { size = length-replicate k 0; at = λ i g. getD-replicate k i 0 0 g ∙ sym (rw (le-ltb (κ i) 0 (omega arith), pickTo)) }
 
-  each-all : (k m : ℕ) (x : List ℕ) → ((c : ℕ) → h c ≡ (ltb c m && h c)) → Each k (pickTo κ h v m) x → Each k (pick κ h v) x
-  unfolding pick pickTo
+  each-all : (k m : ℕ) (x : List ℕ) → ((c : ℕ) → h c ≡ (ltb c m && h c)) → Tabled k (pickTo κ h v m) x → Tabled k (pickBy κ h v) x
+  unfolding pickBy pickTo
   each-all k m x e a =
       record {
         size = a .size;
@@ -125,87 +125,49 @@ module _ (κ : ℕ → ℕ) (h : ℕ → Bool) (v : ℕ → ℕ) where
       }
 
 -- the ten numbers of a cell
-module _ (cols : List ℕ) (c : ℕ) (x : List ℕ) where
-  pub column-start : Column cols c 0 x x
-  column-start = record { size = refl; here = λ i h. absurd (omega arith); other = λ i d h n. refl }
-
-  pub column-turn : (j : ℕ) (y : List ℕ) → j < 10 → c < 4096 → length x ≡ 40960 → Column cols c j x y
-      → Column cols c (suc j) x (set y (4096 * j + c) (getD cols (4096 * j + c) 0))
-  column-turn j y h low long w =
-      record {
-        size = length-set y (4096 * j + c) (getD cols (4096 * j + c) 0) ∙ w .size;
-        here = λ i g.
-            ⊎-elim (λ (e : i ≡ j). rw e (getD-set-same y (4096 * j + c) (getD cols (4096 * j + c) 0) 0 (omega (arith, w .size))))
-            (λ (e : i < j).
-            getD-set-other y (4096 * j + c) (4096 * i + c) (getD cols (4096 * j + c) 0) 0 (λ z. absurd (omega (arith, z))) ∙ w .here i e)
-            (eq-or-lt-of-le (omega arith));
-        other = λ i d g n.
-            getD-set-other y (4096 * j + c) (4096 * i + d) (getD cols (4096 * j + c) 0) 0 (λ z. n (omega (arith, z))) ∙ w .other i d g n;
-      }
-
 module _ (cols : List ℕ) (m p : ℕ) where
-  module _ (c : ℕ) (low : c < 4096) (x : List ℕ) (a : Each 40960 (columnTo cols m p c) x) where
-    pub column-here : holdb cols m p c ≡ true → (y : List ℕ) → Column cols c 10 x y → Each 40960 (columnTo cols m p (c + 1)) y
+  module _ (c : ℕ) (low : c < 4096) (x : List ℕ) (a : Tabled 40960 (columnTo cols m p c) x) where
+    pub column-here : holdb cols m p c ≡ true → (y : List ℕ) → Column cols c 10 x y → Tabled 40960 (columnTo cols m p (c + 1)) y
     column-here t y w =
         let z : c + 1 ≡ suc c = omega arith in
         rw z (each-here inColumn (holdb cols m p) (λ i. getD cols i 0) 40960 c x a t y (w .size)
         (λ i g e.
         let q : 4096 * (i / 4096) + c ≡ i = omega arith in
         rw q at (w .here (i / 4096) (omega arith)))
-        (λ i g n.
-        let q : 4096 * (i / 4096) + i % 4096 ≡ i = omega arith in
-        rw q at (w .other (i / 4096) (i % 4096) (omega arith) n)))
+        (λ i g n. w .other i (λ k h e. n (omega (arith, e)))))
 
-    pub column-not : holdb cols m p c ≡ false → Each 40960 (columnTo cols m p (c + 1)) x
+    pub column-not : holdb cols m p c ≡ false → Tabled 40960 (columnTo cols m p (c + 1)) x
     column-not t =
         let z : c + 1 ≡ suc c = omega arith in
         rw z (each-not inColumn (holdb cols m p) (λ i. getD cols i 0) 40960 c x a t)
 
-  pub column-none : Each 40960 (columnTo cols m p 0) (zeros 40960)
+  pub column-none : Tabled 40960 (columnTo cols m p 0) (zeros 40960)
   column-none = each-none inColumn (holdb cols m p) (λ i. getD cols i 0) 40960
 
-  pub column-all : (x : List ℕ) → Each 40960 (columnTo cols m p m) x → Each 40960 (columnBy cols m p) x
+  pub column-all : (x : List ℕ) → Tabled 40960 (columnTo cols m p m) x → Tabled 40960 (columnBy cols m p) x
   column-all x a = each-all inColumn (holdb cols m p) (λ i. getD cols i 0) 40960 m x (hold-there cols m p) a
 
 -- the six slots of a cell
-module _ (sl : List ℕ) (c : ℕ) (x : List ℕ) where
-  pub six-start : Six sl c 0 x x
-  six-start = record { size = refl; here = λ i h. absurd (omega arith); other = λ j n. refl }
-
-  pub six-turn : (e : ℕ) (y : List ℕ) → e < 6 → c < 4096 → length x ≡ 24576 → Six sl c e x y
-      → Six sl c (suc e) x (set y (6 * c + e) (getD sl (6 * c + e) 0))
-  six-turn e y h low long w =
-      record {
-        size = length-set y (6 * c + e) (getD sl (6 * c + e) 0) ∙ w .size;
-        here = λ i g.
-            ⊎-elim (λ (q : i ≡ e). rw q (getD-set-same y (6 * c + e) (getD sl (6 * c + e) 0) 0 (omega (arith, w .size))))
-            (λ (q : i < e).
-            getD-set-other y (6 * c + e) (6 * c + i) (getD sl (6 * c + e) 0) 0 (λ z. absurd (omega (arith, z))) ∙ w .here i q)
-            (eq-or-lt-of-le (omega arith));
-        other = λ j n.
-            getD-set-other y (6 * c + e) j (getD sl (6 * c + e) 0) 0 (λ z. n (omega (arith, z))) ∙ w .other j n;
-      }
-
 module _ (cols : List ℕ) (m p : ℕ) (sl : List ℕ) where
-  module _ (c : ℕ) (x : List ℕ) (a : Each 24576 (slotTo cols m p sl c) x) where
-    pub six-here : holdb cols m p c ≡ true → (y : List ℕ) → Six sl c 6 x y → Each 24576 (slotTo cols m p sl (c + 1)) y
+  module _ (c : ℕ) (x : List ℕ) (a : Tabled 24576 (slotTo cols m p sl c) x) where
+    pub six-here : holdb cols m p c ≡ true → (y : List ℕ) → Six sl c 6 x y → Tabled 24576 (slotTo cols m p sl (c + 1)) y
     six-here t y w =
         let z : c + 1 ≡ suc c = omega arith in
         rw z (each-here inSix (holdb cols m p) (λ j. getD sl j 0) 24576 c x a t y (w .size)
         (λ j g e.
         let q : 6 * c + j % 6 ≡ j = omega arith in
         rw q at (w .here (j % 6) (omega arith)))
-        (λ j g n. w .other j n))
+        (λ j g n. w .other j (λ k h e. n (omega (arith, e)))))
 
-    pub six-not : holdb cols m p c ≡ false → Each 24576 (slotTo cols m p sl (c + 1)) x
+    pub six-not : holdb cols m p c ≡ false → Tabled 24576 (slotTo cols m p sl (c + 1)) x
     six-not t =
         let z : c + 1 ≡ suc c = omega arith in
         rw z (each-not inSix (holdb cols m p) (λ j. getD sl j 0) 24576 c x a t)
 
-  pub six-none : Each 24576 (slotTo cols m p sl 0) (zeros 24576)
+  pub six-none : Tabled 24576 (slotTo cols m p sl 0) (zeros 24576)
   six-none = each-none inSix (holdb cols m p) (λ j. getD sl j 0) 24576
 
-  pub six-all : (x : List ℕ) → Each 24576 (slotTo cols m p sl m) x → Each 24576 (slotBy cols m p sl) x
+  pub six-all : (x : List ℕ) → Tabled 24576 (slotTo cols m p sl m) x → Tabled 24576 (slotBy cols m p sl) x
   six-all x a = each-all inSix (holdb cols m p) (λ j. getD sl j 0) 24576 m x (hold-there cols m p) a
 
 -- what stands at the six slots of a cell
@@ -227,18 +189,18 @@ six-more (suc (suc (suc (suc zero)))) h = refl
 six-more (suc (suc (suc (suc (suc zero))))) h = refl
 six-more (suc (suc (suc (suc (suc (suc e)))))) h = absurd (omega arith)
 
-own-more : (sl : List ℕ) (c e s : ℕ) → e < 6 → ownb sl c (suc e) s ≡ (ownb sl c e s || eqb (getD sl (6 * c + e) 0) s)
+own-more : (sl : List ℕ) (c e s : ℕ) → e < 6 → sixHaveb sl c (suc e) s ≡ (sixHaveb sl c e s || eqb (getD sl (6 * c + e) 0) s)
 own-more sl c e s h =
     ap (anyb (λ i. eqb (getD sl (6 * c + i) 0) s)) (six-more e h)
     ∙ any-snoc (λ i. eqb (getD sl (6 * c + i) 0) s) (take e edgeNumbers) e
 
 module _ (sl ms : List ℕ) (c : ℕ) (x : List ℕ) where
-  pub marked-start : Marked sl ms c 0 x x
+  pub marked-start : Masked sl ms c 0 x x
   unfolding anyb
   marked-start = record { size = refl; at = λ s h. refl }
 
-  pub marked-turn : (e : ℕ) (y : List ℕ) → e < 6 → length x ≡ 24576 → getD sl (6 * c + e) 0 < 24576 → Marked sl ms c e x y
-      → Marked sl ms c (suc e) x (set y (getD sl (6 * c + e) 0) (getD ms (getD sl (6 * c + e) 0) 0))
+  pub marked-turn : (e : ℕ) (y : List ℕ) → e < 6 → length x ≡ 24576 → getD sl (6 * c + e) 0 < 24576 → Masked sl ms c e x y
+      → Masked sl ms c (suc e) x (set y (getD sl (6 * c + e) 0) (getD ms (getD sl (6 * c + e) 0) 0))
   marked-turn e y h long small w =
       let o = getD sl (6 * c + e) 0 in
       record {
@@ -246,14 +208,15 @@ module _ (sl ms : List ℕ) (c : ℕ) (x : List ℕ) where
         at = λ s g.
             elim (ℕ-discrete s (getD sl (6 * c + e) 0)) [
               | yes q ↦
-                  let t : ownb sl c (suc e) s ≡ true =
-                  own-more sl c e s h ∙ ap (λ (b : Bool). ownb sl c e s || b) (eq-eqb o s (sym q)) ∙ or-true (ownb sl c e s) in
+                  let t : sixHaveb sl c (suc e) s ≡ true =
+                  own-more sl c e s h ∙ ap (λ (b : Bool). sixHaveb sl c e s || b) (eq-eqb o s (sym q)) ∙ or-true (sixHaveb sl c e s) in
                   ap (λ (z : ℕ). getD (set y o (getD ms o 0)) z 0) q ∙ getD-set-same y o (getD ms o 0) 0 (omega (arith, w .size))
                   ∙ ap (λ (z : ℕ). getD ms z 0) (sym q)
                   ∙ sym (ap (λ (b : Bool). elim b [ true ↦ getD ms s 0 | false ↦ getD x s 0 ]) t)
               | no n ↦
-                  let t : ownb sl c (suc e) s ≡ ownb sl c e s =
-                  own-more sl c e s h ∙ ap (λ (b : Bool). ownb sl c e s || b) (ne-eqb o s (λ z. n (sym z))) ∙ or-false (ownb sl c e s) in
+                  let t : sixHaveb sl c (suc e) s ≡ sixHaveb sl c e s =
+                  own-more sl c e s h ∙ ap (λ (b : Bool). sixHaveb sl c e s || b) (ne-eqb o s (λ z. n (sym z)))
+                  ∙ or-false (sixHaveb sl c e s) in
                   getD-set-other y o s (getD ms o 0) 0 n ∙ w .at s g
                   ∙ sym (ap (λ (b : Bool). elim b [ true ↦ getD ms s 0 | false ↦ getD x s 0 ]) t)
             ];
@@ -265,15 +228,15 @@ range-more k zero = let z : k + 0 ≡ k = omega arith in rw z
 range-more k (suc m) = let z : k + suc m ≡ suc k + m = omega arith in rw z (ap (λ (l : List ℕ). k ∷ l) (range-more (suc k) m))
 
 module _ (cols : List ℕ) (m p : ℕ) (sl ms : List ℕ) where
-  mark-more : (k s : ℕ) → markTo cols m p sl (suc k) s ≡ (markTo cols m p sl k s || (holdb cols m p k && ownb sl k 6 s))
-  unfolding markTo
+  mark-more : (k s : ℕ) → heldSlotTo cols m p sl (suc k) s ≡ (heldSlotTo cols m p sl k s || (holdb cols m p k && sixHaveb sl k 6 s))
+  unfolding heldSlotTo
   mark-more k s =
       let f : ℕ → Bool = λ c. holdb cols m p c && anyb (λ e. eqb (getD sl (6 * c + e) 0) s) edgeNumbers in
       let z : 0 + k ≡ k = omega arith in
       ap (anyb f) (range-more 0 k ∙ ap (λ (x : ℕ). range 0 k ++ (x ∷ [])) z) ∙ any-snoc f (range 0 k) k
 
-  module _ (k : ℕ) (x : List ℕ) (a : Each 24576 (holderTo cols m p sl ms k) x) where
-    pub mark-here : holdb cols m p k ≡ true → (y : List ℕ) → Marked sl ms k 6 x y → Each 24576 (holderTo cols m p sl ms (k + 1)) y
+  module _ (k : ℕ) (x : List ℕ) (a : Tabled 24576 (holderTo cols m p sl ms k) x) where
+    pub mark-here : holdb cols m p k ≡ true → (y : List ℕ) → Masked sl ms k 6 x y → Tabled 24576 (holderTo cols m p sl ms (k + 1)) y
     unfolding holderTo
     mark-here t y w =
         let z : k + 1 ≡ suc k = omega arith in
@@ -281,9 +244,9 @@ module _ (cols : List ℕ) (m p : ℕ) (sl ms : List ℕ) where
           size = w .size ∙ a .size;
           at = λ s g.
               w .at s g
-              ∙ go (markTo cols m p sl k s) (ownb sl k 6 s) s (a .at s g)
+              ∙ go (heldSlotTo cols m p sl k s) (sixHaveb sl k 6 s) s (a .at s g)
               ∙ sym (ap (λ (b : Bool). elim b [ true ↦ getD ms s 0 | false ↦ 0 ])
-              (mark-more k s ∙ ap (λ (b : Bool). markTo cols m p sl k s || (b && ownb sl k 6 s)) t));
+              (mark-more k s ∙ ap (λ (b : Bool). heldSlotTo cols m p sl k s || (b && sixHaveb sl k 6 s)) t));
         })
       where
         go : (b d : Bool) (s : ℕ) → getD x s 0 ≡ elim b [ true ↦ getD ms s 0 | false ↦ 0 ]
@@ -293,7 +256,7 @@ module _ (cols : List ℕ) (m p : ℕ) (sl ms : List ℕ) where
         go false true s e = refl
         go false false s e = e
 
-    pub mark-not : holdb cols m p k ≡ false → Each 24576 (holderTo cols m p sl ms (k + 1)) x
+    pub mark-not : holdb cols m p k ≡ false → Tabled 24576 (holderTo cols m p sl ms (k + 1)) x
     unfolding holderTo
     mark-not t =
         let z : k + 1 ≡ suc k = omega arith in
@@ -302,11 +265,12 @@ module _ (cols : List ℕ) (m p : ℕ) (sl ms : List ℕ) where
           at = λ s g.
               a .at s g
               ∙ sym (ap (λ (b : Bool). elim b [ true ↦ getD ms s 0 | false ↦ 0 ])
-              (mark-more k s ∙ ap (λ (b : Bool). markTo cols m p sl k s || (b && ownb sl k 6 s)) t ∙ or-false (markTo cols m p sl k s)));
+              (mark-more k s ∙ ap (λ (b : Bool). heldSlotTo cols m p sl k s || (b && sixHaveb sl k 6 s)) t
+              ∙ or-false (heldSlotTo cols m p sl k s)));
         })
 
-  pub mark-none : Each 24576 (holderTo cols m p sl ms 0) (zeros 24576)
-  unfolding zeros holderTo markTo anyb range
+  pub mark-none : Tabled 24576 (holderTo cols m p sl ms 0) (zeros 24576)
+  unfolding zeros holderTo heldSlotTo anyb range
   mark-none = record { size = length-replicate {A = ℕ} 24576 0; at = λ s h. getD-replicate 24576 s 0 0 h }
 
 -- one bit more for each slot
@@ -339,43 +303,43 @@ bits-below (b ∷ bs) zero e = absurd (omega arith)
 bits-below (b ∷ bs) (suc k) e = omega (arith, bits-below bs k (omega arith), one-most b)
 
 module _ (cols : List ℕ) (m : ℕ) (sl : List ℕ) where
-  mask-more : (p k s : ℕ) → maskFrom cols m sl p (suc k) s ≡ one-if (markb cols m p sl s) + 2 * maskFrom cols m sl (suc p) k s
+  mask-more : (p k s : ℕ) → maskFrom cols m sl p (suc k) s ≡ one-if (heldSlotb cols m p sl s) + 2 * maskFrom cols m sl (suc p) k s
   unfolding maskFrom range bitsOf
   mask-more p k s = refl
 
   mask-below : (p k s : ℕ) → k ≤ 15 → maskFrom cols m sl p k s < 32768
   unfolding maskFrom
   mask-below p k s h =
-      let l : length (map (λ q. markb cols m q sl s) (range p k)) ≡ k =
-      length-map (range p k) (λ q. markb cols m q sl s) ∙ length-range p k in
+      let l : length (map (λ q. heldSlotb cols m q sl s) (range p k)) ≡ k =
+      length-map (range p k) (λ q. heldSlotb cols m q sl s) ∙ length-range p k in
       omega (
         arith,
-        bits-below (map (λ q. markb cols m q sl s) (range p k)) k l,
+        bits-below (map (λ q. heldSlotb cols m q sl s) (range p k)) k l,
         leb→le (2 ^ k) 32768 (belowb-at (λ k. leb (2 ^ k) 32768) 16 powers k (omega arith)),
       )
 
-  pub masks-none : (x : List ℕ) → x ≡ zeros 24576 → Each 24576 (maskFrom cols m sl 17 0) x
+  pub masks-none : (x : List ℕ) → x ≡ zeros 24576 → Tabled 24576 (maskFrom cols m sl 17 0) x
   unfolding zeros maskFrom range bitsOf
   masks-none x e =
       rw e (record { size = length-replicate {A = ℕ} 24576 0; at = λ s h. getD-replicate 24576 s 0 0 h })
 
-  pub masks-room : (p : ℕ) (x : List ℕ) → 0 < p → p ≤ 16 → Each 24576 (maskFrom cols m sl (p + 1) (16 - p)) x → Bits x 32768
+  pub masks-room : (p : ℕ) (x : List ℕ) → 0 < p → p ≤ 16 → Tabled 24576 (maskFrom cols m sl (p + 1) (16 - p)) x → AllBelow x 32768
   masks-room p x h l a = record { below = λ s g. rw (a .at s g) (mask-below (p + 1) (16 - p) s (omega arith)) }
 
-  module _ (ones : List ℕ) (one : Each 24576 (λ s. 1) ones) (p : ℕ) (b : List ℕ) (f : Each 24576 (holderBy cols m p sl ones) b) where
-    flag-is : (s : ℕ) → s < 24576 → getD b s 0 ≡ one-if (markb cols m p sl s)
+  module _ (ones : List ℕ) (one : Tabled 24576 (λ s. 1) ones) (p : ℕ) (b : List ℕ) (f : Tabled 24576 (holderBy cols m p sl ones) b) where
+    flag-is : (s : ℕ) → s < 24576 → getD b s 0 ≡ one-if (heldSlotb cols m p sl s)
     unfolding holderTo one-if
-    flag-is s h = f .at s h ∙ go (markb cols m p sl s)
+    flag-is s h = f .at s h ∙ go (heldSlotb cols m p sl s)
       where
         go : (t : Bool) → _≡_ {A = ℕ} (elim t [ true ↦ getD ones s 0 | false ↦ 0 ]) (one-if t)
         go true = one .at s h
         go false = refl
 
-    pub flags-room : Bits b 2
-    flags-room = record { below = λ s h. omega (arith, flag-is s h, one-most (markb cols m p sl s)) }
+    pub flags-room : AllBelow b 2
+    flags-room = record { below = λ s h. omega (arith, flag-is s h, one-most (heldSlotb cols m p sl s)) }
 
-    pub masks-turn : 0 < p → p ≤ 16 → (x y : List ℕ) → Each 24576 (maskFrom cols m sl (p + 1) (16 - p)) x → Doubled 24576 x b y
-        → Each 24576 (maskFrom cols m sl (p - 1 + 1) (16 - (p - 1))) y
+    pub masks-turn : 0 < p → p ≤ 16 → (x y : List ℕ) → Tabled 24576 (maskFrom cols m sl (p + 1) (16 - p)) x → Doubled 24576 x b y
+        → Tabled 24576 (maskFrom cols m sl (p - 1 + 1) (16 - (p - 1))) y
     masks-turn h l x y a d =
         let z : p - 1 + 1 ≡ p = omega arith in
         let w : 16 - (p - 1) ≡ suc (16 - p) = omega arith in
@@ -419,7 +383,7 @@ so-turn f i x y v h e s =
           (eq-or-lt-of-le (omega arith));
     }
 
-pub so-each : (f : ℕ → ℕ) (k i : ℕ) (x y : List ℕ) → length x ≡ k → i ≡ k → So f i x y → Each k f y
+pub so-each : (f : ℕ → ℕ) (k i : ℕ) (x y : List ℕ) → length x ≡ k → i ≡ k → So f i x y → Tabled k f y
 so-each f k i x y l e s = record { size = s .size ∙ l; at = λ j h. s .at j (omega arith) }
 
 pub head-is : (x : List ℕ) (p P n q m l : ℕ) → x ≡ zeros 16

@@ -13,9 +13,9 @@ ghost use Prim.Native.Nat.{_+_, _*_, _/_, _≤_, _<_};
 ghost use lib.ListN.{length, drop};
 ghost use Rattle.base.specs.Lent.{was, is};
 ghost use Rattle.store.specs.Fields.{full, CODE};
-ghost use Rattle.filling.specs.Regions.{Each, holdb, columnTo, columnBy, slotTo, slotBy, holderTo, holderBy, maskFrom, maskBy, cornerBy};
+ghost use Rattle.filling.specs.Regions.{Tabled, holdb, columnTo, columnBy, slotTo, slotBy, holderTo, holderBy, maskBy, cornerBy};
 ghost use Rattle.filling.specs.Regions.{zeros, tab, putBy, headBy, regions, SmallSlots};
-ghost use Rattle.filling.specs.Passes.{Column, Six, Marked, Bits, Doubled};
+ghost use Rattle.filling.specs.Passes.{Column, Six, Masked, AllBelow, Doubled};
 
 // Writes zeros.
 fn zero(region: &mut [u16])
@@ -57,8 +57,8 @@ fn put_column(region: &mut [u16], cols: &[u16], c: usize)
 // Writes the ten numbers of a cell, if the part holds it.
 fn column_cell(region: &mut [u16], cols: &[u16], cells: usize, part: u16, c: usize)
     requires { ⌜ (length (now cols) ≡ 40960) × (c < 4096) ⌝ }
-    requires { ⌜ Each 40960 (columnTo (now cols) cells part c) (now region) ⌝ }
-    ensures { λ r. ⌜ Each 40960 (columnTo (was cols) cells part (c + 1)) (is region) ⌝ }
+    requires { ⌜ Tabled 40960 (columnTo (now cols) cells part c) (now region) ⌝ }
+    ensures { λ r. ⌜ Tabled 40960 (columnTo (was cols) cells part (c + 1)) (is region) ⌝ }
 {
     if !holds(cols, cells, part, c) {
         return;
@@ -69,7 +69,7 @@ fn column_cell(region: &mut [u16], cols: &[u16], cells: usize, part: u16, c: usi
 // Writes the columns of the cells that a part holds.
 fn fill_columns(region: &mut [u16], cols: &[u16], cells: usize, part: u16)
     requires { ⌜ (length (now region) ≡ 40960) × (length (now cols) ≡ 40960) × (cells ≤ 4096) ⌝ }
-    ensures { λ r. ⌜ Each 40960 (columnBy (was cols) cells part) (is region) ⌝ }
+    ensures { λ r. ⌜ Tabled 40960 (columnBy (was cols) cells part) (is region) ⌝ }
 {
     zero(region);
     let mut c = 0;
@@ -94,8 +94,8 @@ fn put_six(region: &mut [u16], slots: &[u16], c: usize)
 // Writes the six slots of a cell, if the part holds it.
 fn six_cell(region: &mut [u16], cols: &[u16], cells: usize, part: u16, slots: &[u16], c: usize)
     requires { ⌜ (length (now cols) ≡ 40960) × (c < 4096) × (length (now slots) ≡ 24576) ⌝ }
-    requires { ⌜ Each 24576 (slotTo (now cols) cells part (now slots) c) (now region) ⌝ }
-    ensures { λ r. ⌜ Each 24576 (slotTo (was cols) cells part (was slots) (c + 1)) (is region) ⌝ }
+    requires { ⌜ Tabled 24576 (slotTo (now cols) cells part (now slots) c) (now region) ⌝ }
+    ensures { λ r. ⌜ Tabled 24576 (slotTo (was cols) cells part (was slots) (c + 1)) (is region) ⌝ }
 {
     if !holds(cols, cells, part, c) {
         return;
@@ -106,7 +106,7 @@ fn six_cell(region: &mut [u16], cols: &[u16], cells: usize, part: u16, slots: &[
 // Writes the slots of the cells that a part holds.
 fn fill_slots(region: &mut [u16], cols: &[u16], cells: usize, part: u16, slots: &[u16])
     requires { ⌜ (length (now region) ≡ 24576) × (length (now cols) ≡ 40960) × (cells ≤ 4096) × (length (now slots) ≡ 24576) ⌝ }
-    ensures { λ r. ⌜ Each 24576 (slotBy (was cols) cells part (was slots)) (is region) ⌝ }
+    ensures { λ r. ⌜ Tabled 24576 (slotBy (was cols) cells part (was slots)) (is region) ⌝ }
 {
     zero(region);
     let mut c = 0;
@@ -120,7 +120,7 @@ fn fill_slots(region: &mut [u16], cols: &[u16], cells: usize, part: u16, slots: 
 fn put_masks(region: &mut [u16], slots: &[u16], masks: &[u16], c: usize)
     requires { ⌜ (length (now region) ≡ 24576) × (length (now slots) ≡ 24576) × (length (now masks) ≡ 24576) × (c < 4096) ⌝ }
     requires { ⌜ SmallSlots (now slots) (c + 1) ⌝ }
-    ensures { λ r. ⌜ Marked (was slots) (was masks) c 6 (was region) (is region) ⌝ }
+    ensures { λ r. ⌜ Masked (was slots) (was masks) c 6 (was region) (is region) ⌝ }
 {
     let mut e = 0;
     while e < 6 {
@@ -142,8 +142,8 @@ fn mask_cell(
 )
     requires { ⌜ (length (now cols) ≡ 40960) × (c < 4096) × (length (now slots) ≡ 24576) × (length (now masks) ≡ 24576) ⌝ }
     requires { ⌜ SmallSlots (now slots) (c + 1) ⌝ }
-    requires { ⌜ Each 24576 (holderTo (now cols) cells part (now slots) (now masks) c) (now region) ⌝ }
-    ensures { λ r. ⌜ Each 24576 (holderTo (was cols) cells part (was slots) (was masks) (c + 1)) (is region) ⌝ }
+    requires { ⌜ Tabled 24576 (holderTo (now cols) cells part (now slots) (now masks) c) (now region) ⌝ }
+    ensures { λ r. ⌜ Tabled 24576 (holderTo (was cols) cells part (was slots) (was masks) (c + 1)) (is region) ⌝ }
 {
     if !holds(cols, cells, part, c) {
         return;
@@ -163,7 +163,7 @@ fn fill_holders(
     requires { ⌜ (length (now region) ≡ 24576) × (length (now cols) ≡ 40960) × (cells ≤ 4096) ⌝ }
     requires { ⌜ (length (now slots) ≡ 24576) × (length (now masks) ≡ 24576) ⌝ }
     requires { ⌜ SmallSlots (now slots) cells ⌝ }
-    ensures { λ r. ⌜ Each 24576 (holderBy (was cols) cells part (was slots) (was masks)) (is region) ⌝ }
+    ensures { λ r. ⌜ Tabled 24576 (holderBy (was cols) cells part (was slots) (was masks)) (is region) ⌝ }
 {
     zero(region);
     let mut c = 0;
@@ -176,8 +176,8 @@ fn fill_holders(
 // Doubles the masks and adds the flags.
 fn add_bits(masks: &mut [u16], flags: &[u16])
     requires { ⌜ (length (now masks) ≡ 24576) × (length (now flags) ≡ 24576) ⌝ }
-    requires { ⌜ Bits (now masks) 32768 ⌝ }
-    requires { ⌜ Bits (now flags) 2 ⌝ }
+    requires { ⌜ AllBelow (now masks) 32768 ⌝ }
+    requires { ⌜ AllBelow (now flags) 2 ⌝ }
     ensures { λ r. ⌜ Doubled 24576 (was masks) (was flags) (is masks) ⌝ }
 {
     let mut s = 0;
@@ -197,9 +197,9 @@ pub fn fill_masks(
     flags: &mut [u16],
 )
     requires { ⌜ (length (now masks) ≡ 24576) × (length (now cols) ≡ 40960) × (cells ≤ 4096) × (length (now slots) ≡ 24576) ⌝ }
-    requires { ⌜ (length (now flags) ≡ 24576) × Each 24576 (λ s. 1) (now ones) ⌝ }
+    requires { ⌜ (length (now flags) ≡ 24576) × Tabled 24576 (λ s. 1) (now ones) ⌝ }
     requires { ⌜ SmallSlots (now slots) cells ⌝ }
-    ensures { λ r. ⌜ Each 24576 (maskBy (was cols) cells (was slots)) (is masks) ⌝ }
+    ensures { λ r. ⌜ Tabled 24576 (maskBy (was cols) cells (was slots)) (is masks) ⌝ }
 {
     zero(masks);
     let mut p: usize = 16;
@@ -227,7 +227,7 @@ fn corner_of(mesh: &[u16], cols: &[u16], part: u16, j: usize) -> u16
 // Writes the corners of coarse masters.
 fn fill_corners(region: &mut [u16], mesh: &[u16], cols: &[u16], part: u16)
     requires { ⌜ (length (now region) ≡ 1024) × (length (now cols) ≡ 40960) ⌝ }
-    ensures { λ r. ⌜ Each 1024 (cornerBy (was cols) (was mesh) part) (is region) ⌝ }
+    ensures { λ r. ⌜ Tabled 1024 (cornerBy (was cols) (was mesh) part) (is region) ⌝ }
 {
     let mut j = 0;
     while j < 1024 {

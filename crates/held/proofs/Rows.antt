@@ -1,6 +1,5 @@
 -- The rows of entries, as the code writes them.
 use mathlib.Core.Path.{_≡_, refl, sym, _∙_, ap, ap₂}
-use mathlib.Core.Bool.{Bool, true, false}
 use mathlib.Core.List.{List, [], _∷_, _++_, map, flatMap}
 use Prim.Native.Nat.{ℕ, zero, suc, pred, _+_, _-_, _*_, _/_, _%_, _≤_, _<_}
 use native.Mathlib.Nat.{add-zero, add-suc, suc-add}
@@ -11,17 +10,9 @@ use Rattle.base.specs.Bools.{one-if}
 use Rattle.base.specs.Range.{range, length-range}
 use Rattle.parts.specs.Held.{Entry}
 use Rattle.store.specs.Fields.{field, ENTRIES, PLACE-HEAD, PLACE-DIGITS, PLACE-MORE}
-use Rattle.store.specs.Places.{eights, pathOf}
+use Rattle.store.specs.Places.{eights}
 use Rattle.held.specs.Held.{entryIn, heldIn, entryRow, heldRows}
 use Rattle.held.specs.Key.{keyPath, Keyed, key-place, key-digits, length-eights}
-
-pub one-true : (b : Bool) → b ≡ true → 1 ≡ one-if b
-unfolding one-if
-one-true b e = rw e
-
-pub one-false : (b : Bool) → b ≡ false → 0 ≡ one-if b
-unfolding one-if
-one-false b e = rw e
 
 sets-append : (xs ys l : List ℕ) (i : ℕ) → sets l i (xs ++ ys) ≡ sets (sets l i xs) (i + length xs) ys
 sets-append [] ys l i = rw add-zero

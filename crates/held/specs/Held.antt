@@ -73,12 +73,12 @@ stageOf x =
       | false ↦ elim (eqb (field x RESULT) 0) [ true ↦ progress.Done | false ↦ progress.Ended (field x RESULT) ]
     ]
 
--- what `stage` answers
+-- Rule 15.11: what `stage` answers
 unfoldable pub progressOf : Answer → Progress → Progress
 progressOf Accepted p = p
 progressOf (Refused k) p = progress.Refused k
 
--- what `held` answers: how many rows
+-- Rule 15.11: what `held` answers: how many rows
 unfoldable pub listedOf : Answer → ℕ → Listed
 listedOf Accepted n = listed.Rows n
 listedOf (Refused k) n = listed.Refused k

@@ -19,6 +19,7 @@ use Rattle.store.specs.Header.{stageb, headerb}
 use Rattle.store.specs.Headed.{header-is}
 use Rattle.held.specs.Held.{entryIn, heldIn}
 
+-- Rule 15.11.
 pub record PartDone (P n result : ℕ) (qs : List (List ℕ)) (es : List Entry) (p : ℕ) (x : List ℕ) : Type 0 where
   pub long : full ≤ length x
   pub header : T (headerb x)

@@ -28,13 +28,13 @@ use Rattle.parts.specs.Merge.{merged, completeb}
 use Rattle.store.specs.Fields.{field, full, PART, PARTS, CORNERS, COARSE, RESULT, STAGE, OWNER, CORNER}
 use Rattle.store.specs.Header.{headerb}
 use Rattle.store.specs.Headed.{Header, header-is}
+use Rattle.store.specs.Stores.{storeIn, storesBy, store-long, field-in, length-stores, stores-at}
 use Rattle.held.specs.Held.{heldIn}
-use Rattle.merge.specs.Merge.{storeIn, storesIn, alikeb, everyb, ownsb, cornersAmong, mergeCells, mergeEntries, mergeTable}
+use Rattle.merge.specs.Merge.{storesIn, alikeb, everyb, ownsb, cornersAmong, mergeCells, mergeEntries, mergeTable}
 use Rattle.merge.specs.Merge.{mergeAnswer, mergedOf}
 use Rattle.merge.specs.declared.Merged.the-variants as answer
 use Rattle.merge.specs.Merges.{Merges, merges-accepted}
-use Rattle.merge.specs.Steps.{storesBy}
-use Rattle.merge.specs.Stores.{store-long, field-in, length-stores, stores-at, alike-yes}
+use Rattle.merge.specs.Stores.{alike-yes}
 use Rattle.joining.specs.Joint.{Order, Joint, joint-merged, joint-complete}
 use Rattle.joining.specs.Done.{PartDone, header-agrees, done-same}
 

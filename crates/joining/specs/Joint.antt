@@ -27,6 +27,7 @@ use Rattle.merging.specs.Covered.{covered, split-apart}
 use Rattle.merging.specs.All.{entriesAll, entries-cover, all-apart}
 use Rattle.merging.specs.Run.{nthPart, numberOf, named}
 
+-- Rule 15.12.
 pub record Order (P : ℕ) (l : List ℕ) : Type 0 where
   pub count : length l ≡ P
   pub within : (j : ℕ) → j < length l → (1 ≤ getD l j 0) × (getD l j 0 ≤ P)

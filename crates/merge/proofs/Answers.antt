@@ -1,19 +1,18 @@
 -- What `merge` answers, by the tests that the code makes.
-use mathlib.Core.Path.{_≡_, refl, sym, _∙_, ap, ap₂}
-use mathlib.Core.Bool.{Bool, true, false, _&&_}
+use mathlib.Core.Path.{_≡_, refl, sym, _∙_, ap}
+use mathlib.Core.Bool.{Bool, true, false}
 use mathlib.Core.List.{List, [], _++_, append-nil, flatten}
-use Prim.Native.Nat.{ℕ, _+_, _-_, _*_, _%_, _≤_, _<_}
-use native.Mathlib.Nat.{add-zero}
+use Prim.Native.Nat.{ℕ, _+_, _-_, _*_, _≤_, _<_}
 use native.Mathlib.Omega.{arith}
-use lib.Dec.{T, eqb, leb, eqb→eq}
+use lib.Dec.{T, eqb, eqb→eq}
 use lib.ListN.{length, take, drop, replicate, length-replicate}
 use lib.Seq.{length-take-le}
 use borrow.Author.Tests.{eq-eqb, le-leb, lt-leb}
-use Rattle.base.specs.Bools.{and-left, and-right, and-both, is-true, not-both, either}
+use Rattle.base.specs.Bools.{and-right, and-both, is-true, not-both}
 use Rattle.base.specs.Fours.{fours}
-use Rattle.base.specs.Lists.{allb, anyb}
+use Rattle.base.specs.Lists.{allb}
 use Rattle.base.specs.Refuse.{refuse, heldAfter}
-use Rattle.base.specs.declared.Answer.the-variants.{Accepted, Refused}
+use Rattle.base.specs.declared.Answer.the-variants.{Refused}
 use Rattle.mesh.specs.Coarse.{cellsb}
 use Rattle.mesh.specs.Table.{soundb}
 use Rattle.tables.specs.Sound.{Mesh, Examined, unlessSound}
@@ -24,11 +23,12 @@ use Rattle.parts.specs.Merge.{masters, merged, filledb, completeb}
 use Rattle.store.specs.Fields.{field, full, PARTS, CORNERS, COARSE}
 use Rattle.store.specs.Header.{headerb}
 use Rattle.store.specs.Headed.{bool-false, Header, header-is}
+use Rattle.store.specs.Stores.{storesBy}
 use Rattle.merge.specs.Merge.{storesIn, alikeb, everyb, mergeCells, mergeEntries, mergeTable, mergeb, mergeAnswer, mergedOf}
 use Rattle.merge.specs.Merges.{Merges, merges-is, merges-accepted}
 use Rattle.merge.specs.Load.{MasterKeys, Begun, Load, loaded-none}
-use Rattle.merge.specs.Sweep.{Failed, coarsePaths}
-use Rattle.merge.specs.Steps.{Built, Assembled, Gathered, HandedOut, entriesBy, storesBy}
+use Rattle.merge.specs.Sweep.{coarsePaths}
+use Rattle.merge.specs.Steps.{Built, Assembled, Gathered, HandedOut, entriesBy}
 use Rattle.merge.specs.declared.Merged.the-variants as done
 
 -- tables of zeros, with no entry
@@ -164,9 +164,6 @@ module _ (mesh : List ℕ) (m n : ℕ) (st : List ℕ) (r : ℕ) (long : length 
 
 -- the call
 module _ (b t : List ℕ) where
-  abbrev answered : ℕ
-  answered = length (mergeTable (storesIn b) (field b COARSE))
-
   pub record Answered (r : done.the-data) (t′ : List ℕ) : Type 0 where
     pub answer : r ≡ mergedOf (mergeAnswer b t) (length (mergeTable (storesIn b) (field b COARSE)))
     pub after : t′ ≡ heldAfter (mergeAnswer b t) (mergeTable (storesIn b) (field b COARSE)) t

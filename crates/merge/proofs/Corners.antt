@@ -16,9 +16,9 @@ use Rattle.base.specs.Lists.{allb, anyb, allb-at}
 use Rattle.base.specs.Range.{range, length-range, range-at}
 use Rattle.mesh.specs.Coarse.{cellb, cellsb}
 use Rattle.store.specs.Fields.{full, CORNER}
-use Rattle.merge.specs.Merge.{storeIn, ownsb, cornersAmong, mergeCells}
-use Rattle.merge.specs.Steps.{storesBy, OwnedAt, Gathered}
-use Rattle.merge.specs.Stores.{field-in, store-long}
+use Rattle.store.specs.Stores.{storeIn, storesBy, store-long, field-in}
+use Rattle.merge.specs.Merge.{ownsb, cornersAmong, mergeCells}
+use Rattle.merge.specs.Steps.{OwnedAt, Gathered}
 
 four-at : (l : List ℕ) (k : ℕ) → k + 4 ≤ length l
     → take 4 (drop k l) ≡ getD l k 0 ∷ getD l (k + 1) 0 ∷ getD l (k + 2) 0 ∷ getD l (k + 3) 0 ∷ []

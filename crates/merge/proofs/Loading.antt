@@ -7,8 +7,8 @@ use lib.ListN.{length}
 use Rattle.base.specs.Range.{range}
 use Rattle.parts.specs.Held.{Entry}
 use Rattle.store.specs.Fields.{field, ENTRIES}
+use Rattle.store.specs.Stores.{storeIn}
 use Rattle.held.specs.Held.{entryIn, heldIn}
-use Rattle.merge.specs.Merge.{storeIn}
 use Rattle.parts.specs.Merge.{masters}
 use Rattle.merge.specs.Load.{Begun, Load, load-start, load-more, masters-append}
 use Rattle.merge.specs.Steps.{entriesBy, FewEntries}

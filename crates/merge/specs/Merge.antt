@@ -8,9 +8,9 @@
 --   mergeb xs             the stores merge; mergeAnswer b t: 15, then 16; mergedOf what `merge` answers
 use mathlib.Core.Bool.{Bool, true, false, _&&_}
 use mathlib.Core.List.{List, [], _∷_, map, flatMap, flatten}
-use Prim.Native.Nat.{ℕ, suc, _+_, _*_}
+use Prim.Native.Nat.{ℕ, _+_, _*_}
 use lib.Dec.{eqb, leb}
-use lib.ListN.{length, take, drop, getD}
+use lib.ListN.{length, take, drop}
 use Rattle.base.specs.Lists.{allb, anyb}
 use Rattle.base.specs.Range.{range}
 use Rattle.base.specs.Refuse.{refuse}
@@ -22,17 +22,15 @@ use Rattle.parts.specs.Held.{Entry}
 use Rattle.parts.specs.Merge.{merged, completeb}
 use Rattle.store.specs.Fields.{field, full, STAGE, PART, PARTS, CORNERS, COARSE, RESULT, OWNER, CORNER}
 use Rattle.store.specs.Header.{headerb}
+use Rattle.store.specs.Stores.{storeIn, storesBy}
 use Rattle.held.specs.Held.{heldIn}
 use Rattle.merge.specs.declared.Merged.{Merged}
 use Rattle.merge.specs.declared.Merged.the-variants as done
 
-unfoldable pub storeIn : List ℕ → ℕ → List ℕ
-storeIn b j = take full (drop (full * j) b)
-
 -- Rule 15.12.
 unfoldable pub storesIn : List ℕ → List (List ℕ)
 unfolding storeIn range
-storesIn b = map (storeIn b) (range 0 (field b PARTS))
+storesIn b = storesBy b (field b PARTS)
 
 -- Rule 15.16.
 unfoldable pub alikeb : List ℕ → List ℕ → Bool
@@ -46,9 +44,11 @@ unfoldable pub everyb : List (List ℕ) → Bool
 unfolding allb anyb range
 everyb xs = allb (λ p. anyb (λ x. eqb (field x PART) p) xs) (range 1 (length xs))
 
+-- Rule 15.2.
 unfoldable pub ownsb : ℕ → List ℕ → Bool
 ownsb i x = eqb (field x (OWNER + i)) (field x PART)
 
+-- Rule 15.12.
 unfoldable pub cornersAmong : List (List ℕ) → ℕ → List ℕ
 unfolding ownsb
 cornersAmong [] i = []
@@ -89,7 +89,7 @@ unfoldable pub mergeAnswer : List ℕ → List ℕ → Answer
 unfolding refuse mergeb
 mergeAnswer b t = refuse 15 (leb (16 * full) (length b) && leb 4096 (length t)) (refuse 16 (mergeb b) Accepted)
 
--- what `merge` answers: how many cells the table has
+-- Rule 15.12: what `merge` answers: how many cells the table has
 unfoldable pub mergedOf : Answer → ℕ → Merged
 mergedOf Accepted n = done.Cells n
 mergedOf (Refused k) n = done.Refused k

@@ -39,6 +39,7 @@ module _ (b : List ℕ) where
   abbrev tableb : Bool
   tableb = soundb n (mergeCells xs m) (mergeTable xs m)
 
+  -- Rule 15.16.
   pub record Merges : Type 0 where
     pub header : T (headerb b)
     pub alike : T (allb (alikeb b) (storesIn b))

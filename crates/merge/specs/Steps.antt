@@ -9,7 +9,7 @@
 --   HandedOut ..           what examining the table leaves
 use mathlib.Core.Path.{_≡_}
 use mathlib.Core.Bool.{Bool, true, false}
-use mathlib.Core.List.{List, _++_, map, flatMap, flatten}
+use mathlib.Core.List.{List, _++_, flatMap, flatten}
 use Prim.Native.Nat.{ℕ, suc, _+_, _*_, _≤_, _<_}
 use lib.Dec.{T}
 use lib.ListN.{length, getD, take, drop}
@@ -21,9 +21,10 @@ use Rattle.mesh.specs.Table.{soundb}
 use Rattle.parts.specs.Held.{Entry}
 use Rattle.parts.specs.Merge.{merged, filledb, completeb}
 use Rattle.store.specs.Fields.{field, ENTRIES, CORNER}
+use Rattle.store.specs.Stores.{storeIn, storesBy}
 use Rattle.held.specs.Held.{heldIn}
 use Rattle.held.specs.Key.{Key}
-use Rattle.merge.specs.Merge.{storeIn, ownsb, cornersAmong, mergeCells}
+use Rattle.merge.specs.Merge.{ownsb, cornersAmong, mergeCells}
 use Rattle.merge.specs.Load.{MasterKeys}
 use Rattle.merge.specs.Sweep.{Sweep, Failed, coarsePaths}
 
@@ -46,9 +47,6 @@ pub record Built (xs ys sts : List ℕ) (n m : ℕ) (st′ : List ℕ) (r : ℕ)
   pub few : (r ≡ 65535 → ⊥) → (r ≤ 4096) × (length st′ ≡ 4096)
   pub table : (r ≡ 65535 → ⊥) → (es : List Entry) → MasterKeys es xs ys sts n → (flatten (merged es m) ≡ take r st′)
       × (filledb 12 es (coarsePaths m) ≡ true)
-
-abbrev pub storesBy : List ℕ → ℕ → List (List ℕ)
-storesBy b P = map (storeIn b) (range 0 P)
 
 abbrev pub entriesBy : List ℕ → ℕ → List Entry
 entriesBy b P = flatMap heldIn (storesBy b P)

@@ -1,43 +1,27 @@
 -- The stores that a lent table has, one by one.
-use mathlib.Core.Path.{_≡_, refl, sym, _∙_, ap, ap₂}
+use mathlib.Core.Path.{_≡_, refl, sym, _∙_, ap}
 use mathlib.Core.Bool.{Bool, true, false, _&&_, _||_}
-use mathlib.Core.List.{List, [], _∷_, _++_, map}
-use Prim.Native.Nat.{ℕ, zero, suc, _+_, _-_, _*_, _≤_, _<_}
+use mathlib.Core.List.{List, [], _∷_}
+use Prim.Native.Nat.{ℕ, suc, _+_, _-_, _*_, _≤_, _<_}
 use native.Mathlib.Omega.{arith}
 use lib.Dec.{T, eqb, eqb→eq}
-use lib.ListN.{length, getD, take, drop, set, length-map, length-drop, drop-of-length-le}
-use lib.Seq.{drop-cons, getD-take, getD-drop, length-take-le, sets}
-use borrow.Author.Tests.{eq-eqb, ne-eqb}
+use lib.ListN.{length, getD, take, drop, drop-of-length-le}
+use lib.Seq.{drop-cons}
+use borrow.Author.Tests.{eq-eqb}
 use Rattle.base.specs.Bools.{and-left, and-right}
-use Rattle.base.specs.Every.{getD-map}
 use Rattle.base.specs.Lists.{allb, anyb, allb-at}
 use Rattle.base.specs.Range.{range, length-range, range-at}
-use Rattle.store.specs.Fields.{field, full, STAGE, PART, PARTS, CORNERS, COARSE, RESULT, OWNER, CORNER, ENTRIES}
+use Rattle.store.specs.Fields.{field, full, STAGE, PART, PARTS, CORNERS, COARSE, RESULT, OWNER}
 use Rattle.store.specs.Header.{headerb}
 use Rattle.store.specs.Headed.{bool-false, header-is}
-use Rattle.merge.specs.Merge.{storeIn, alikeb, everyb, ownsb, cornersAmong}
-use Rattle.merge.specs.Steps.{storesBy, OwnedAt, FewEntries}
+use Rattle.store.specs.Stores.{storeIn, storesBy, field-in, length-stores, stores-at}
+use Rattle.merge.specs.Merge.{alikeb, everyb, ownsb, cornersAmong}
+use Rattle.merge.specs.Steps.{OwnedAt, FewEntries}
 
 module _ (b : List ℕ) where
   pub store-is : (j : ℕ) → take (full * j + full - full * j) (drop (full * j) b) ≡ storeIn b j
   unfolding storeIn
   store-is j = let z : full * j + full - full * j ≡ full = omega arith in rw z
-
-  pub store-long : (j : ℕ) → 16 * full ≤ length b → j < 16 → length (storeIn b j) ≡ full
-  unfolding storeIn
-  store-long j h g = length-take-le full (drop (full * j) b) (omega (arith, length-drop (full * j) b))
-
-  pub field-in : (j k : ℕ) → k < full → field (storeIn b j) k ≡ getD b (full * j + k) 0
-  unfolding storeIn
-  field-in j k h = getD-take full (drop (full * j) b) k 0 h ∙ getD-drop (full * j) b k 0
-
-  pub length-stores : (P : ℕ) → length (storesBy b P) ≡ P
-  length-stores P = length-map (range 0 P) (storeIn b) ∙ length-range 0 P
-
-  pub stores-at : (P j : ℕ) → j < P → getD (storesBy b P) j [] ≡ storeIn b j
-  stores-at P j h =
-      getD-map (storeIn b) (range 0 P) j 0 [] (omega (arith, length-range 0 P))
-      ∙ ap (storeIn b) (range-at 0 P j 0 h ∙ let z : 0 + j ≡ j = omega arith in z)
 
 -- a scan over a list
 module _ {A : Type 0} (f : A → Bool) (d : A) (xs : List A) (j : ℕ) (r : Bool) where

@@ -27,7 +27,7 @@ use Rattle.parts.specs.Merge.{lookup, childPaths, gather, merged, masters, fill
 use Rattle.held.specs.Key.{keyPath, Key, Keyed, key-child, key-coarse, length-eights}
 use Rattle.merge.specs.Load.{masteredb}
 
-abbrev pub kidPaths : List ℕ → ℕ → List (List ℕ)
+abbrev kidPaths : List ℕ → ℕ → List (List ℕ)
 kidPaths l t = map (λ i. l ++ (i ∷ [])) (range 0 (sizeOf t))
 
 module _ (es : List Entry) where

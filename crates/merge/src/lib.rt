@@ -26,13 +26,14 @@ ghost use Rattle.base.specs.Lists.{allb, anyb};
 ghost use Rattle.base.specs.Refuse.{heldAfter};
 ghost use Rattle.mesh.specs.Coarse.{cellb, cellsb};
 ghost use Rattle.store.specs.Fields.{field, full};
+ghost use Rattle.store.specs.Stores.{storeIn, storesBy};
 ghost use Rattle.held.specs.Held.{entryIn, heldIn};
 ghost use Rattle.held.specs.Key.{Key};
-ghost use Rattle.merge.specs.Merge.{storeIn, storesIn, alikeb, everyb, mergeTable, mergeAnswer, mergedOf};
+ghost use Rattle.merge.specs.Merge.{storesIn, alikeb, everyb, mergeTable, mergeAnswer, mergedOf};
 ghost use Rattle.merge.specs.Load.{Begun, Load};
 ghost use Rattle.merge.specs.Sweep.{Seeded, Pushed};
 ghost use Rattle.merge.specs.Steps.{KeyRow, CellFound, Built, Assembled, OwnedAt, Gathered, HandedOut, FewEntries};
-ghost use Rattle.merge.specs.Steps.{storesBy, entriesBy};
+ghost use Rattle.merge.specs.Steps.{entriesBy};
 
 pub enum Merged {
     Cells(usize),

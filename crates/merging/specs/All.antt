@@ -104,7 +104,7 @@ module _ {Part : Type 0} {F : Finite Part} (X : Settled F) where
   pub where-is : (p : Part) (l : List ℕ) → List·Memᴰ l (masterPaths (entriesIn X p)) → Where p l
   where-is p l m = let (e, u, g, q) = path-from (entriesIn X p) l m in owned-path p e u g l q
 
-  pub one-part : (p q : Part) (l : List ℕ) → Where p l → Where q l → p ≡ q
+  one-part : (p q : Part) (l : List ℕ) → Where p l → Where q l → p ≡ q
   one-part p q l a b =
       let (x, y) = new-one-place n qs ss ms (a .k) (a .i) (b .k) (b .i) (a .below) (b .below) (sym (a .path) ∙ b .path) in
       sym (a .owned) ∙ ap₂ (λ (x y : ℕ). ownIn X x y) x y ∙ b .owned

@@ -1,14 +1,12 @@
--- The masters and ghosts of all parts merge to the table that was split, whatever the order of the parts.
--- Laws: covered (they have each cell's master, and no other), split-merged (the theorem), split-apart and split-complete (no master twice,
--- none missing), split-few (a part holds no more than the cells).
+-- The masters and ghosts of all parts of a split table, whatever the order of the parts.
+-- Laws: covered (they have each cell's master, and no other), split-apart (no master twice).
 use mathlib.Core.Path.{_≡_, sym, _∙_, ap, ap₂, subst}
 use mathlib.Core.Logic.{⊎-elim}
 use mathlib.Core.Bool.{false}
 use mathlib.Core.List.{List, [], _∷_, flatMap, List·Memᴰ, List·Memᴰ·head, List·Memᴰ·tail, flatten}
 use Prim.Native.Nat.{ℕ, _+_, _≤_}
-use native.Mathlib.Omega.{arith}
 use lib.Dec.{T}
-use lib.ListN.{length, getD}
+use lib.ListN.{getD}
 use Rattle.base.specs.Lists.{memberb}
 use Rattle.base.specs.Bools.{not-both}
 use Rattle.mesh.specs.Cells.{Cell}
@@ -17,15 +15,14 @@ use Rattle.soundness.specs.Sound.{Sound, lv}
 use Rattle.rounds.specs.Tests.{Member, member-cases}
 use Rattle.parts.specs.Owners.{nthCell, ownersb}
 use Rattle.parts.specs.Held.{Entry, masterb, entriesOf}
-use Rattle.parts.specs.Merge.{merged, completeb}
 use Rattle.splitting.specs.Numbers.{at-level, stands, level-at}
 use Rattle.splitting.specs.Admissible.{admissible}
 use Rattle.shares.specs.Flat.{in-flat, flat-in}
 use Rattle.shares.specs.Grow.{entryBy}
 use Rattle.shares.specs.Held.{master-held, held-is, same-path, held-once}
 use Rattle.merging.specs.Distinct.{NoDup, no-dup-append}
-use Rattle.merging.specs.Merge.{Covers, merged-table}
-use Rattle.merging.specs.Complete.{masterPaths, path-from, paths-once, paths-append, no-more-held, complete-is}
+use Rattle.merging.specs.Merge.{Covers}
+use Rattle.merging.specs.Complete.{masterPaths, path-from, paths-once, paths-append}
 
 module _ (n : ℕ) (qs : List (List ℕ)) (ss : List ℕ) (s : Sound n qs ss) (P : ℕ) (os : List ℕ) (t : T (ownersb n qs ss P os))
     (ps : List ℕ) (every : (p : ℕ) → 1 ≤ p → p ≤ P → Member p ps) where
@@ -56,9 +53,6 @@ module _ (n : ℕ) (qs : List (List ℕ)) (ss : List ℕ) (s : Sound n qs ss) (P
               status = ap (λ (e : Entry). e .status) (w .is) ∙ ap (λ (x : ℕ). getD ss x 0) (pl .number) ∙ a .status-is;
             };
       }
-
-  pub split-merged : flatten (merged (flatMap (entriesOf n qs ss os) ps) (length qs)) ≡ ss
-  split-merged = merged-table n qs ss (flatMap (entriesOf n qs ss os) ps) covered s
 
 module _ (n : ℕ) (qs : List (List ℕ)) (ss : List ℕ) (s : Sound n qs ss) (P : ℕ) (os : List ℕ) (t : T (ownersb n qs ss P os)) where
   mem-of : (x : ℕ) (l : List ℕ) → Member x l → List·Memᴰ x l
@@ -93,24 +87,3 @@ module _ (n : ℕ) (qs : List (List ℕ)) (ss : List ℕ) (s : Sound n qs ss) (P
       let (f, m', g', r') = path-from (flatMap (entriesOf n qs ss os) l) x v in
       let (q, a, b) = flat-in (entriesOf n qs ss os) l f m' in
       d .0 (subst (λ (y : ℕ). List·Memᴰ y l) (sym (one-master p q e f m b g g' (r ∙ sym r'))) (mem-of q l a))))
-
-  pub split-complete : (ps : List ℕ) → ((p : ℕ) → 1 ≤ p → p ≤ P → Member p ps) → NoDup ps
-      → T (completeb (flatMap (entriesOf n qs ss os) ps) (length qs))
-  split-complete ps every d =
-      complete-is n qs ss (flatMap (entriesOf n qs ss os) ps) s (covered n qs ss s P os t ps every) (split-apart ps d)
-
-  -- a part holds no more than the cells
-  pub split-few : (p : ℕ) → length (entriesOf n qs ss os p) ≤ length ss
-  split-few p =
-      let up = no-more-held n qs ss (entriesOf n qs ss os p) (held-once n qs ss os p s) (λ e m.
-      let w = held-is n qs ss os p e m in
-      let (k, mc) = level-at n qs ss s (w .c) (w .below) in
-      let pl = stands n qs ss s k (w .c) mc in
-      let a = at-level n qs ss s k (pl .t) (pl .below) in (
-        k,
-        pl .t,
-        pl .below,
-        ap (λ (e : Entry). e .path) (w .is) ∙ ap (λ (x : ℕ). nthCell n qs ss x .path) (pl .number)
-            ∙ ap (λ (c : Cell Point). c .path) (a .cell-is),
-      )) in
-      omega (arith, s .many)

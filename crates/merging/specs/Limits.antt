@@ -28,6 +28,7 @@ unfoldable pub topOf : List (List ℕ) → ℕ
 unfolding largest
 topOf ls = largest (λ l. pred (length l)) ls
 
+-- Rule 7.8.
 unfoldable pub endOf : ℕ → ℕ → Answer
 unfolding refuse
 endOf total high = refuse 8 (not (leb 11 high)) (refuse 9 (leb total 4096) Accepted)

@@ -38,7 +38,7 @@ use Rattle.parts.specs.Merge.{lookup, childPaths, gather, merged}
 use Rattle.splitting.specs.Paths.{one-place}
 
 -- a path that is found
-pub lookup-is : (es : List Entry) (l : List ℕ) (x : ℕ) (e : Entry) → List·Memᴰ e es → e .ghost ≡ false → e .path ≡ l
+lookup-is : (es : List Entry) (l : List ℕ) (x : ℕ) (e : Entry) → List·Memᴰ e es → e .ghost ≡ false → e .path ≡ l
     → ((e : Entry) → List·Memᴰ e es → e .ghost ≡ false → e .path ≡ l → e .status ≡ x) → lookup es l ≡ x
 unfolding lookup
 lookup-is [] l x e m g q h = absurd (List·Memᴰ·not-nil m)
@@ -145,7 +145,7 @@ module _ (n : ℕ) (qs : List (List ℕ)) (ss : List ℕ) (es : List Entry) (w :
       let (a, b) = one-place n qs ss (v .k) (v .t) j i (v .below) h (sym (v .path) ∙ q) in
       v .status ∙ ap₂ (λ (k t : ℕ). getD (lv n qs ss k .statuses) t 0) a b)
 
-  pub merged-is : T (allb closedb (levelsOf n qs ss)) → merged es (length qs) ≡ statusLists (levelsOf n qs ss)
+  merged-is : T (allb closedb (levelsOf n qs ss)) → merged es (length qs) ≡ statusLists (levelsOf n qs ss)
   unfolding merged levelsOf coarseCells
   merged-is c = ap (gather 12 es) (sym (coarse-paths n 0 qs)) ∙ gather-is es 12 0 (coarseCells n qs) ss c found-at
 

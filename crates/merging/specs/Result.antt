@@ -1,14 +1,13 @@
 -- What the rounds of a split step come to, for every accepted mesh, sound table, accepted owners and marks, once each part knows of the
 -- new red cells among its own: the statements for the exchange's theorem, readable alone.
 --   settle    the split table after the rounds, with any slots
--- Laws: serial-table (merging gives the step's table, in whatever order of the parts), all-totals (as many masters as cells),
--- serial-answer (the result from the totals is the serial step's), held-each-once, just-held, share-few (a part holds its masters and
--- ghosts, each once, and nothing else), serial-complete (merging finds them all), old-table and old-complete (the masters of the split
--- merge to the old table), owners-after, coarse-owner, family-same, family-new (the owners after the step are accepted, and what they
--- keep), admissible-before and admissible-after (A1 to A6).
+-- Laws: serial-table (merging gives the step's table, in whatever order of the parts), serial-answer (the result from the totals is the
+-- serial step's), held-each-once, just-held, share-few (a part holds its masters and ghosts, each once, and nothing else),
+-- serial-complete (merging finds them all), owners-after, coarse-owner, family-same, family-new (the owners after the step are accepted,
+-- and what they keep), admissible-before and admissible-after (A1 to A6).
 use mathlib.Core.Path.{_≡_, sym, _∙_, ap, subst}
 use mathlib.Core.Logic.{_≢_}
-use mathlib.Core.List.{List, flatMap, List·Memᴰ, flatten}
+use mathlib.Core.List.{List, List·Memᴰ, flatten}
 use Prim.Native.Nat.{ℕ, suc, _≤_, _<_, pred}
 use native.Mathlib.Omega.{arith}
 use lib.Dec.{T, leb}
@@ -25,7 +24,6 @@ use Rattle.lineage.specs.Step.{step-by}
 use Rattle.soundness.specs.Sound.{Sound, sound-parts}
 use Rattle.soundness.specs.Steady.{step-sound}
 use Rattle.exchange.specs.Finite.{Finite, sumOver}
-use Rattle.rounds.specs.Tests.{Member}
 use Rattle.rounds.specs.Rounds.{State, capped}
 use Rattle.rounds.specs.Enough.{Known}
 use Rattle.parts.specs.Owners.{nthCell, familyOf, ownersb, ownersAfter}
@@ -44,10 +42,9 @@ use Rattle.shares.specs.Keeps.{coarse-keeps, family-keeps, family-first}
 use Rattle.merging.specs.Distinct.{NoDup}
 use Rattle.merging.specs.Merge.{merged-step}
 use Rattle.merging.specs.Complete.{no-more-held, complete-is}
-use Rattle.merging.specs.Covered.{split-merged, split-complete}
 use Rattle.merging.specs.All.{entriesAll, entries-cover, all-apart}
 use Rattle.merging.specs.Limits.{endOf}
-use Rattle.merging.specs.Totals.{mastersOf, highIn, totals-are, ends}
+use Rattle.merging.specs.Totals.{mastersOf, highIn, ends}
 
 module _ {Part : Type 0} (F : Finite Part) (n : ℕ) (qs : List (List ℕ)) (ss ms : List ℕ) (four : All (λ q. length q ≡ 4) qs)
     (accepted : T (cellsb n qs)) (sound : T (soundb n qs ss)) (P : ℕ) (os : List ℕ) (owners : T (ownersb n qs ss P os))
@@ -81,10 +78,6 @@ module _ {Part : Type 0} (F : Finite Part) (n : ℕ) (qs : List (List ℕ)) (ss 
   pub serial-table : (l : List Part) → ((p : Part) → List·Memᴰ p l) → merged (entriesAll settle l) (length qs) ≡ stepTable n qs ss ms
   serial-table l every = merged-step n qs ss ms (entriesAll settle l) sound (entries-cover settle l every)
 
-  -- as many masters as cells, and the serial answer from the totals
-  pub all-totals : NoDup (F .list) → sumOver (mastersOf settle) (F .list) ≡ length (flatten (stepTable n qs ss ms))
-  all-totals d = totals-are settle (F .list) (F .all) d ∙ ap (λ (t : List (List ℕ)). length (flatten t)) (sym (step-by n qs ss ms sound))
-
   pub serial-answer : NoDup (F .list) → endOf (capped (sumOver (mastersOf settle) (F .list))) (highIn settle)
       ≡ refuse 8 (leb (length (stepTable n qs ss ms)) 11) (refuse 9 (leb (length (flatten (stepTable n qs ss ms))) 4096) Accepted)
   serial-answer d =
@@ -93,15 +86,6 @@ module _ {Part : Type 0} (F : Finite Part) (n : ℕ) (qs : List (List ℕ)) (ss 
 
   pub held-each-once : (p : Part) → NoTwice (entriesIn settle p)
   held-each-once p = each-once settle p
-
-  -- masters and ghosts before the step
-  pub old-table : (ps : List ℕ) → ((p : ℕ) → 1 ≤ p → p ≤ P → Member p ps) → flatten (merged (flatMap (entriesOf n qs ss os) ps) (length qs))
-      ≡ ss
-  old-table ps every = split-merged n qs ss s P os owners ps every
-
-  pub old-complete : (ps : List ℕ) → ((p : ℕ) → 1 ≤ p → p ≤ P → Member p ps) → NoDup ps
-      → T (completeb (flatMap (entriesOf n qs ss os) ps) (length qs))
-  old-complete ps every d = split-complete n qs ss s P os owners ps every d
 
   pub admissible-before : Admissible n qs ss P os
   admissible-before = admissible n qs ss P os owners

@@ -2,7 +2,6 @@
 --   nthPart Q o, numberOf p    the part with a number, and its number
 --   marksFrom os given p c     the mark of the cell c that the part p started with; 0 where it is no master of p
 --   task, final p              the task of a split table; what the part p knows after the last round
---   ran                        the split table after the rounds: `Result` speaks of it
 -- Laws: named (numbers and parts), parts-once (each part stands once), starts-together (the marks of the starts are the serial ones),
 -- task-fit, entries-last (the round of totals changes no entry), run-answer (each part's result is the serial step's answer).
 use mathlib.Core.Path.{_≡_, sym, _∙_, ap, ap₂, fun-ext}
@@ -37,13 +36,12 @@ use Rattle.splitting.specs.Starts.{together-at, length-together}
 use Rattle.splitting.specs.Split.{Slots, taskOf, fits, owners-fit}
 use Rattle.shares.specs.Grow.{statusNew, pairHeld, freshStatus, staysb, masterEntry, ghostEntry, anewb, childStatus, childEntries}
 use Rattle.shares.specs.Grow.{freshEntries, entries}
-use Rattle.shares.specs.Settled.{Settled}
 use Rattle.shares.specs.Share.{Named}
 use Rattle.merging.specs.Distinct.{NoDup}
 use Rattle.merging.specs.Limits.{topOf, endOf}
 use Rattle.merging.specs.Complete.{masterPaths}
 use Rattle.merging.specs.Totals.{grownOf, grown-plain}
-use Rattle.merging.specs.Result.{settle, serial-answer}
+use Rattle.merging.specs.Result.{serial-answer}
 
 -- parts and their numbers
 abbrev pub nthPart : (Q : ℕ) → ℕ → Fin (suc Q)
@@ -74,11 +72,12 @@ unfolding fins
 fins-once P zero h = tt
 fins-once P (suc k) h = ((λ m. let z = fins-below P k (step-down h) (k, h) m in omega arith), fins-once P k (step-down h))
 
-pub parts-once : (P : ℕ) → NoDup (parts P .list)
+parts-once : (P : ℕ) → NoDup (parts P .list)
 parts-once P = fins-once P P (le-refl P)
 
 -- the marks that a part starts with, by cell
 module _ (os : List ℕ) (given : ℕ → List ℕ) where
+  -- Rule 15.6.
   unfoldable pub marksFrom : {P : ℕ} → Fin P → ℕ → ℕ
   unfolding masterb placeOn
   marksFrom p c =
@@ -126,16 +125,11 @@ module _ (Q n : ℕ) (qs : List (List ℕ)) (ss ms : List ℕ) (four : All (λ q
   abbrev pub final : Fin P → State
   final = afterTotals P task (grownOf F task) plain ps pack reads input
 
-  pub task-fit : Fit task
+  task-fit : Fit task
   task-fit = fits n qs ss s slot slots numbered os (owners-fit n qs ss P os owners) (nthPart Q)
 
-  abbrev pub ran : Settled F
-  ran =
-      settle F n qs ss ms four accepted sound P os owners slot slots numbered (nthPart Q) numberOf (named Q) final
-      (λ p. enough-last P task (grownOf F task) plain ps pack reads input p task-fit (λ c. getD ms c 0) starts)
-
   -- the round of totals changes no entry
-  pub entries-last : (p : Fin P) → entries F task p (final p) ≡ entries F task p (before p)
+  entries-last : (p : Fin P) → entries F task p (final p) ≡ entries F task p (before p)
   unfolding lock taking entries masterEntry ghostEntry freshEntries anewb staysb childEntries childStatus statusNew freshStatus pairHeld
   entries-last p =
       ap (λ (f : Phase). entries F task p (taking F task (grownOf F task) f p (before p) (λ q. writing F task f q p (before q))))

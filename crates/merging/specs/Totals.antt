@@ -50,7 +50,7 @@ top-by : (ls : List (List ℕ)) (l : List ℕ) → List·Memᴰ l ls → length 
 unfolding topOf
 top-by ls l m e = let z : pred (length l) ≡ 11 = ap pred e in omega (arith, largest-in (λ l. pred (length l)) ls l m)
 
--- what a part tells of its masters: how many they are, and their highest level
+-- Rule 15.4: what a part tells of its masters: how many they are, and their highest level
 unfoldable pub grownOf : {Part : Type 0} → Finite Part → Task Part → Part → State → ℕ × ℕ
 unfolding entries masterPaths topOf
 grownOf F J p st = (length (masterPaths (entries F J p st)), topOf (masterPaths (entries F J p st)))
@@ -83,13 +83,13 @@ module _ {Part : Type 0} {F : Finite Part} (X : Settled F) where
       ∙ ap length (sym (paths-append (entriesIn X p) (entriesAll X l)))
 
   -- as many masters as cells
-  pub totals-are : (l : List Part) → ((p : Part) → List·Memᴰ p l) → NoDup l → sumOver mastersOf l ≡ length (flatten (stepBy n qs ss ms))
+  totals-are : (l : List Part) → ((p : Part) → List·Memᴰ p l) → NoDup l → sumOver mastersOf l ≡ length (flatten (stepBy n qs ss ms))
   totals-are l every d =
       length-all l ∙ masters-counted n qs (flatten (stepBy n qs ss ms)) (entriesAll X l) (entries-cover X l every) (all-apart X l d)
       ∙ sym (new-many n qs ss ms)
 
   -- a master on level 11
-  pub deep-by : (i : ℕ) → i < length (newAt n qs ss ms 11 .cells)
+  deep-by : (i : ℕ) → i < length (newAt n qs ss ms 11 .cells)
       → (p : Part) × ((l : List ℕ) × List·Memᴰ l (masterPaths (entriesIn X p)) × (length l ≡ 12))
   deep-by i h =
       let p = ownIn X 11 i in (
@@ -101,7 +101,7 @@ module _ {Part : Type 0} {F : Finite Part} (X : Settled F) where
         ),
       )
 
-  pub deep-from : (p : Part) (l : List ℕ) → List·Memᴰ l (masterPaths (entriesIn X p)) → 12 ≤ length l
+  deep-from : (p : Part) (l : List ℕ) → List·Memᴰ l (masterPaths (entriesIn X p)) → 12 ≤ length l
       → (i : ℕ) × (i < length (newAt n qs ss ms 11 .cells))
   deep-from p l m e =
       let w = where-is X p l m in

@@ -14,11 +14,12 @@ use Rattle.base.specs.Range.{range}
 use Rattle.base.specs.Every.{All, all-append}
 use Rattle.mesh.specs.Cells.{bitsOf}
 use Rattle.mesh.specs.Table.{sizeOf}
+use Rattle.mesh.specs.Layout.{edgeNumbers}
 use Rattle.families.specs.Children.{lowDigit, highDigit}
 use Rattle.parts.specs.Held.{Entry}
 use Rattle.exchange.specs.Finite.{Finite}
 use Rattle.rounds.specs.Tests.{Member, member-head, member-tail}
-use Rattle.rounds.specs.Task.{Task, Fit, sixEdges}
+use Rattle.rounds.specs.Task.{Task, Fit}
 use Rattle.rounds.specs.Rounds.{State, largest, isPart}
 use Rattle.shares.specs.Grow.{entryBy, statusNew, pairHeld, freshStatus, fresh-is, staysb, masterEntry, ghostEntry, anewb, childStatus}
 use Rattle.shares.specs.Grow.{childEntries, freshEntries, cellEntries, levelEntries, entries}
@@ -67,7 +68,7 @@ module _ {Part : Type 0} (F : Finite Part) (J : Task Part) (fit : Fit J) (lev : 
     no-pair a b = rw (none, pairHeld)
 
     no-fresh : (i : ℕ) → freshStatus J st c i ≡ 0
-    no-fresh i = fresh-is J st c i ∙ no-bits (λ y. pairHeld J st c (lowDigit 63 i y) (highDigit 63 i y)) sixEdges
+    no-fresh i = fresh-is J st c i ∙ no-bits (λ y. pairHeld J st c (lowDigit 63 i y) (highDigit 63 i y)) edgeNumbers
         (λ y. no-pair (lowDigit 63 i y) (highDigit 63 i y))
 
     no-status : (i : ℕ) → childStatus F J p st c i ≡ 0

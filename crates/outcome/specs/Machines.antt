@@ -261,7 +261,7 @@ module _ (P : ℕ) (J : Task (Fin P)) (p : Fin P) (l : L P J) (x : List ℕ) (st
         go (in-totals e) = end-stay P J reads p l x st e w fits
         go (in-over e) = absurd (omega (arith, e))
 
-    pub steps : (partAnswer x ≡ Accepted) × Standing P J p (following (parts P) (Q P J reads p) p l) (partAfter x) × Stay x (partAfter x)
+    steps : (partAnswer x ≡ Accepted) × Standing P J p (following (parts P) (Q P J reads p) p l) (partAfter x) × Stay x (partAfter x)
     unfolding partAfter turnedIn
     steps =
         let live = live-below low in

@@ -30,6 +30,7 @@ gives (FetchRefused k) bytes y = none
 abbrev pub nine : List ℕ
 nine = replicate 9 0
 
+-- Rule 15.17.
 unfoldable pub act : Program (List ℕ) (List ℕ) (List ℕ)
 unfolding yields gives startAnswer startAfter partAnswer partAfter fetchAnswer fetchBytes fetchAfter handAnswer handAfter
 act (Start ms) x = yields (startAnswer x ms) (startAfter x ms)

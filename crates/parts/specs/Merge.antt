@@ -22,6 +22,7 @@ unfolding sameb
 lookup [] l = 0
 lookup (e ∷ es) l = elim (not (e .ghost) && sameb (e .path) l) [ true ↦ e .status | false ↦ lookup es l ]
 
+-- Rule 3.3.
 unfoldable pub childPaths : List (List ℕ) → List ℕ → List (List ℕ)
 unfolding sizeOf range
 childPaths [] ts = []
@@ -40,10 +41,12 @@ unfoldable pub merged : List Entry → ℕ → List (List ℕ)
 unfolding gather range
 merged es m = gather 12 es (map (λ i. i ∷ []) (range 0 m))
 
+-- Rule 15.2.
 unfoldable pub masters : List Entry → List Entry
 unfolding filterb
 masters es = filterb (λ e. not (e .ghost)) es
 
+-- Rule 15.16: no master missing
 unfoldable pub filledb : ℕ → List Entry → List (List ℕ) → Bool
 unfolding masters lookup childPaths allb anyb sameb
 filledb zero es ls = true

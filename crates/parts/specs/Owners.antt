@@ -25,6 +25,7 @@ firstOr f a [] = a
 firstOr f a (x ∷ l) = f x
 
 module _ (n : ℕ) (qs : List (List ℕ)) (ss : List ℕ) where
+  -- Rule 3.2.
   unfoldable pub nthCell : ℕ → Cell Point
   unfolding levelsOf cellsOf
   nthCell c = getD (cellsOf (levelsOf n qs ss)) c noCell
@@ -46,7 +47,7 @@ module _ (n : ℕ) (qs : List (List ℕ)) (ss : List ℕ) where
       (eqb (length os) (length ss) && allb (λ o. leb 1 o && leb o P) os)
       && allb (λ c. allb (λ d. eqb (getD os d 0) (familyOf os c)) (childrenOf c)) (range 0 (length ss))
 
-  -- a cell before and one after are the same where their paths agree
+  -- Rule 3.3: a cell before and one after are the same where their paths agree
   unfoldable pub refinedAt : List ℕ → List ℕ
   unfolding nthCell filterb sameb range
   refinedAt l = filterb (λ c. sameb (nthCell c .path) l && not (eqb (getD ss c 0) 0)) (range 0 (length ss))

@@ -23,6 +23,7 @@ unfoldable pub startb : List ℕ → List ℕ → ℕ → List ℕ → Bool
 unfolding marksb mastersOn
 startb ss os p ms = marksb (map (λ c. getD ss c 0) (mastersOn os p)) ms
 
+-- Rule 15.6.
 unfoldable pub placeOn : List ℕ → ℕ → ℕ
 unfolding masterb filterb range
 placeOn os c = length (filterb (masterb os (getD os c 0)) (range 0 c))

@@ -21,6 +21,7 @@ use Rattle.turns.specs.Start.{enterMarks}
 use Rattle.turns.specs.Step.{enterCounts}
 use Rattle.places.specs.Put.{placeCell, placeOld}
 
+-- Rule 15.7.
 unfoldable pub waitsFor : List ℕ → ℕ → Bool
 waitsFor x q = not (eqb q (field x PART) || eqb (field x (ENDED + q)) (field x ROUND + 1))
 
@@ -81,6 +82,7 @@ unfoldable pub partStepped : List ℕ → List ℕ
 unfolding roundEntered
 partStepped x = set (roundEntered x) ROUND (field x ROUND + 1)
 
+-- Rule 15.7: a refused call changes nothing
 unfoldable pub turnedIn : Answer → List ℕ → List ℕ
 unfolding partStepped
 turnedIn Accepted x = partStepped x

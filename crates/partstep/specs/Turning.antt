@@ -9,6 +9,7 @@ use lib.ListN.{set}
 use Rattle.store.specs.Fields.{STAGE, RESULT}
 use Rattle.partstep.specs.Step.{endNumber, oldPlaces, finished}
 
+-- Rule 15.10.
 unfoldable pub restored : List ℕ → ℕ → List ℕ
 unfolding oldPlaces
 restored x r = elim (eqb r 0) [ true ↦ x | false ↦ oldPlaces x ]

@@ -1,7 +1,7 @@
 -- A pattern from its six tests, the last edge first, and the corners of an edge.
 use mathlib.Core.Path.{_≡_, refl, sym, _∙_, ap}
 use mathlib.Core.Bool.{Bool, true, false, _&&_}
-use mathlib.Core.List.{List, [], _∷_, map}
+use mathlib.Core.List.{map}
 use Prim.Native.Nat.{ℕ, zero, suc, _+_, _-_, _*_, _≤_, _<_}
 use native.Mathlib.Omega.{arith}
 use lib.Dec.{T, eqb, ltb, eqb→eq}
@@ -13,14 +13,6 @@ use Rattle.cutting.specs.Rule.{low, high}
 use Rattle.mesh.specs.Cells.{bitsOf}
 use Rattle.families.specs.Children.{middle}
 use Rattle.mesh.specs.Layout.{edgeNumbers}
-
-pub one-true : (b : Bool) → b ≡ true → 1 ≡ one-if b
-unfolding one-if
-one-true b e = ap one-if (sym e)
-
-pub one-false : (b : Bool) → b ≡ false → 0 ≡ one-if b
-unfolding one-if
-one-false b e = ap one-if (sym e)
 
 module _ (f : ℕ → Bool) where
   abbrev pub bitsFrom : ℕ → ℕ

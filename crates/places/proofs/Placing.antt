@@ -2,60 +2,20 @@
 use mathlib.Core.Path.{_≡_, refl, sym, _∙_, ap, ap₂, subst}
 use mathlib.Core.Bool.{Bool, true, false, _&&_, not}
 use mathlib.Core.List.{List}
-use Prim.Native.Nat.{ℕ, zero, suc, _+_, _-_, _*_, _/_, _%_, _^_, _≤_, _<_, min, max}
+use Prim.Native.Nat.{ℕ, zero, suc, _+_, _-_, _/_, _%_, _≤_, _<_, min, max}
 use native.Mathlib.Omega.{arith}
-use native.Mathlib.Nat.{mul-le-mul}
-use lib.Dec.{T, eqb, ltb, leb, leb→le}
-use lib.ListN.{length, getD, set}
+use lib.Dec.{T, eqb}
+use lib.ListN.{set}
 use borrow.Author.Tests.{eq-eqb, ne-eqb, lt-ltb, le-ltb}
-use Rattle.base.specs.Lists.{belowb, belowb-at}
-use Rattle.base.specs.Bools.{and-left, and-right}
+use Rattle.base.specs.Bools.{and-right}
 use Rattle.mesh.specs.Table.{sizeOf}
 use Rattle.store.specs.Fields.{field, PART, ENTRIES, TOTAL, HIGH, OWNER, FAMILY, STATUS, PLACE-HEAD, PLACE-DIGITS, PLACE-MORE, PLACE-STATUS}
 use Rattle.store.specs.declared.Place.{Place}
-use Rattle.store.specs.Places.{levelIn, childPlace}
+use Rattle.store.specs.Places.{childPlace}
 use Rattle.turns.specs.Loops.{eachFrom}
 use Rattle.places.specs.Status.{newStatus, lastsb, remadeb, freshBits}
 use Rattle.places.specs.Put.{placeAt, entrySet, put, putMaster, putLeaf, putLeaves, putChild, placeMaster, placeGhost}
 use Rattle.places.specs.Put.{placeFamily, placeCell, placeOld}
-
--- a child number in its place
-powers : T (belowb (λ l. leb (2 ^ (3 * l)) 4096) 5)
-unfolding belowb
-powers = tt
-
-pub record Number (d i l : ℕ) : Type 0 where
-  pub few : i * 2 ^ (3 * l) % 18446744073709551616 ≤ 28672
-  pub is : (d + i * 2 ^ (3 * l) % 18446744073709551616) % 65536 ≡ (d + i * 2 ^ (3 * l)) % 65536
-
-pub number-is : (d i l : ℕ) → i < 8 → l < 5 → Number d i l
-number-is d i l h g = go (i * 2 ^ (3 * l))
-    (mul-le-mul few (leb→le (2 ^ (3 * l)) 4096 (belowb-at (λ l. leb (2 ^ (3 * l)) 4096) 5 powers l g)))
-    refl
-  where
-    few : i ≤ 7
-    few = omega arith
-
-    go : (n : ℕ) → n ≤ 7 * 4096 → i * 2 ^ (3 * l) ≡ n → Number d i l
-    go n m e =
-        let z : n % 18446744073709551616 ≡ n = omega arith in
-        record { few = rw (e, z) (omega arith); is = rw (e, z) refl }
-
-module _ (p : Place) (i : ℕ) where
-  pub child-short : (d : ℕ) → levelIn p < 5 → d ≡ (p .digits + i * 2 ^ (3 * levelIn p)) % 65536
-      → _≡_ {A = Place} (record { head = (p .head + 256) % 65536; digits = d; more = p .more }) (childPlace p i)
-  unfolding childPlace
-  child-short d h e = rw (lt-ltb (levelIn p) 5 h, e, childPlace)
-
-  pub child-long : (d : ℕ) → 5 ≤ levelIn p → levelIn p < 10 → d ≡ (p .more + i * 2 ^ (3 * (levelIn p - 5))) % 65536
-      → _≡_ {A = Place} (record { head = (p .head + 256) % 65536; digits = p .digits; more = d }) (childPlace p i)
-  unfolding childPlace
-  child-long d h g e = rw (le-ltb (levelIn p) 5 h, lt-ltb (levelIn p) 10 g, e, childPlace)
-
-  pub child-beyond : 5 ≤ levelIn p → 10 ≤ levelIn p
-      → _≡_ {A = Place} (record { head = (p .head + 256) % 65536; digits = p .digits; more = p .more }) (childPlace p i)
-  unfolding childPlace
-  child-beyond h g = rw (le-ltb (levelIn p) 5 h, le-ltb (levelIn p) 10 g, childPlace)
 
 module _ (x : List ℕ) (p : Place) (s : ℕ) where
   pub put-full : 4096 ≤ field x ENTRIES → x ≡ put x p s

@@ -52,6 +52,7 @@ unfoldable pub pairHas : List ℕ → List ℕ → ℕ → ℕ → ℕ → ℕ �
 unfolding someFrom kidHas
 pairHas x ds f n a b = someFrom (λ j. kidHas x ds (f + j) a b j) n 0
 
+-- Rule 7.7.
 unfoldable pub freshBy : List ℕ → List ℕ → List ℕ → ℕ → ℕ → ℕ → ℕ
 unfolding bitsOf pairHas
 freshBy x ds rs f n i = bitsOf (map (λ y. pairHas x ds f n (lowAt rs i y) (highAt rs i y)) edgeNumbers)

@@ -12,7 +12,7 @@ use lib.Seq.{getD-set-other}
 use Rattle.mesh.specs.Table.{sizeOf}
 use Rattle.store.specs.Fields.{field, PART, ENTRIES, TOTAL, HIGH, OWNER, FAMILY, STATUS, PLACE-HEAD, PLACE-DIGITS, PLACE-MORE, PLACE-STATUS}
 use Rattle.store.specs.declared.Place.{Place}
-use Rattle.store.specs.Places.{levelIn, childPlace}
+use Rattle.store.specs.Places.{placeLevel, childPlace}
 use Rattle.turns.specs.Loops.{eachFrom, each-turn}
 use Rattle.turns.specs.Usable.{Usable}
 use Rattle.places.specs.Status.{newStatus, lastsb, remadeb, freshBits}
@@ -65,7 +65,7 @@ master-front : (x : List ℕ) (p : Place) (s : ℕ) → SameFront x (putMaster x
 unfolding putMaster
 master-front x p s =
     front-on x _ _
-    (set-on x _ HIGH (max (field x HIGH) (levelIn p)) (omega arith)
+    (set-on x _ HIGH (max (field x HIGH) (placeLevel p)) (omega arith)
     (front-set x TOTAL (min (field x TOTAL + 1) 4097) (omega arith))) (put-same-front _ p s)
 
 pub leaf-front : (p : Place) (x : List ℕ) (i : ℕ) → SameFront x (putLeaf p x i)

@@ -16,10 +16,11 @@ use Rattle.mesh.specs.Table.{sizeOf}
 use Rattle.store.specs.Fields.{field, PART, ENTRIES, TOTAL, HIGH, OWNER, FAMILY, STATUS, HEAD, DIGITS, MORE}
 use Rattle.store.specs.Fields.{PLACE-HEAD, PLACE-DIGITS, PLACE-MORE, PLACE-STATUS}
 use Rattle.store.specs.declared.Place.{Place}
-use Rattle.store.specs.Places.{levelIn, childPlace}
+use Rattle.store.specs.Places.{placeLevel, childPlace}
 use Rattle.turns.specs.Loops.{eachFrom}
 use Rattle.places.specs.Status.{newStatus, lastsb, remadeb, freshBits}
 
+-- Rule 3.3.
 abbrev pub placeAt : List ℕ → ℕ → Place
 placeAt x c = record { head = field x (HEAD + c); digits = field x (DIGITS + c); more = field x (MORE + c) }
 
@@ -36,8 +37,9 @@ put x p s =
 -- Rule 15.4: totals are cut at 4,097, which stands for more
 unfoldable pub putMaster : List ℕ → Place → ℕ → List ℕ
 unfolding put
-putMaster x p s = put (set (set x TOTAL (min (field x TOTAL + 1) 4097)) HIGH (max (field x HIGH) (levelIn p))) p s
+putMaster x p s = put (set (set x TOTAL (min (field x TOTAL + 1) 4097)) HIGH (max (field x HIGH) (placeLevel p))) p s
 
+-- Rule 15.2.
 unfoldable pub putLeaf : Place → List ℕ → ℕ → List ℕ
 unfolding putMaster childPlace
 putLeaf p x i = putMaster x (childPlace p i) 0
@@ -62,7 +64,7 @@ placeGhost x c =
       | false ↦ x
     ]
 
--- the new child i of the cell at p, with the status f i, and its children where it is refined at once
+-- Rule 7.7: the new child i of the cell at p, with the status f i, and its children where it is refined at once
 unfoldable pub putChild : Place → (ℕ → ℕ) → List ℕ → ℕ → List ℕ
 unfolding putMaster childPlace putLeaf eachFrom sizeOf
 putChild p f x i = putLeaves (childPlace p i) (sizeOf (f i)) (putMaster x (childPlace p i) (f i))

@@ -21,12 +21,13 @@ use store::RED;
 use store::REGULAR;
 use store::STATUS;
 use store::TOTAL;
+use store::child_place;
 use turns::edge_hit;
 use turns::kid_count;
 ghost use mathlib.Core.Path.{_≡_};
 ghost use mathlib.Core.Bool.{_&&_, not};
 ghost use mathlib.Core.List.{map};
-ghost use Prim.Native.Nat.{ℕ, _+_, _*_, _/_, _%_, _^_, _≤_, _<_, min, max};
+ghost use Prim.Native.Nat.{_+_, _*_, _/_, _%_, _≤_, _<_, min, max};
 ghost use lib.Dec.{eqb};
 ghost use lib.ListN.{length, getD};
 ghost use Rattle.base.specs.Bools.{one-if};
@@ -283,42 +284,6 @@ fn place_at(store: &[u16], c: usize) -> Place
     }
 }
 
-// Child numbers with one more, at this level of five.
-fn with_number(digits: u16, i: usize, level: usize) -> u16
-    requires { ⌜ (i < 8) × (level < 5) ⌝ }
-    ensures { λ r. ⌜ r ≡ (digits + i * 2 ^ (3 * level)) % 65536 ⌝ }
-{
-    ((digits as usize + (i << (3 * level))) % 65536) as u16
-}
-
-// The place of a child.
-fn child_place(p: Place, i: usize) -> Place
-    requires { ⌜ i < 8 ⌝ }
-    ensures { λ r. ⌜ r ≡ childPlace p i ⌝ }
-{
-    let level = p.head as usize / 256;
-    let head = ((p.head as usize + 256) % 65536) as u16;
-    if level < 5 {
-        return Place {
-            head,
-            digits: with_number(p.digits, i, level),
-            more: p.more,
-        };
-    }
-    if level < 10 {
-        return Place {
-            head,
-            digits: p.digits,
-            more: with_number(p.more, i, level - 5),
-        };
-    }
-    Place {
-        head,
-        digits: p.digits,
-        more: p.more,
-    }
-}
-
 // Writes an entry, while there is room.
 fn put_entry(store: &mut [u16], p: Place, status: u16)
     requires { ⌜ full ≤ length (now store) ⌝ }
@@ -367,7 +332,7 @@ fn put_leaf(store: &mut [u16], p: Place, i: usize)
     requires { ⌜ (full ≤ length (now store)) × (i < 8) ⌝ }
     ensures { λ r. ⌜ is store ≡ putLeaf p (was store) i ⌝ }
 {
-    let child = child_place(p, i);
+    let child = child_place(p, i as u16);
     put_master(store, child, 0);
 }
 
@@ -388,7 +353,7 @@ fn put_child(store: &mut [u16], p: Place, i: usize, status: u16)
     requires { ⌜ (full ≤ length (now store)) × (i < 8) × (status ≤ 64) ⌝ }
     ensures { λ r. ⌜ is store ≡ putLeaves (childPlace p i) (sizeOf status) (putMaster (was store) (childPlace p i) status) ⌝ }
 {
-    let child = child_place(p, i);
+    let child = child_place(p, i as u16);
     let n = size_of(status as u8);
     put_master(store, child, status);
     put_leaves(store, child, n);

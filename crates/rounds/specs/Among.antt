@@ -40,7 +40,7 @@ module _ {Part : Type 0} where
   sum-cut f [] = refl
   sum-cut f (p ∷ l) = omega (arith, sum-cut f l)
 
-  pub largest-le : (f g : Part → ℕ) → ((p : Part) → f p ≤ g p) → (l : List Part) → largest f l ≤ largest g l
+  largest-le : (f g : Part → ℕ) → ((p : Part) → f p ≤ g p) → (l : List Part) → largest f l ≤ largest g l
   unfolding largest
   largest-le f g h [] = omega arith
   largest-le f g h (p ∷ l) = omega (arith, h p, largest-le f g h l)

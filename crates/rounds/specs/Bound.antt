@@ -36,7 +36,7 @@ sumTo f zero = 0
 sumTo f (suc n) = sumTo f n + f n
 
 module _ {Part : Type 0} (F : Finite Part) (J : Task Part) where
-  unfoldable pub room : Phase → ℕ
+  unfoldable room : Phase → ℕ
   room (marks i) = suc (length (J .cells (J .top - i)))
   room (counts i) = suc (length (J .slots (J .top - i)))
   room totals = 2
@@ -63,7 +63,7 @@ module _ {Part : Type 0} (F : Finite Part) (J : Task Part) where
   says-few totals p q s = omega arith
   says-few over p q s = omega arith
 
-  pub writing-few : (f : Phase) (p q : Part) (s : State) → length (writing F J f p q s) ≤ room f
+  writing-few : (f : Phase) (p q : Part) (s : State) → length (writing F J f p q s) ≤ room f
   unfolding writing
   writing-few f p q s = go (isPart F p q) refl
     where
@@ -138,14 +138,16 @@ module _ {Part : Type 0} (F : Finite Part) (J : Task Part) where
 
   module _ (grown : Part → State → ℕ × ℕ) (ps : List Part) {Msg In : Type 0} (pack : Part → Part → ℕ → Body → Msg)
       (reads : Part → In → ℕ → ℕ) (input : Part → In) (p : Part) where
-    pub own-none : (r : ℕ) → mailCount F (protocol F J grown ps pack reads) input r p p ≡ 0
+    own-none : (r : ℕ) → mailCount F (protocol F J grown ps pack reads) input r p p ≡ 0
     unfolding mailCount writing
     own-none zero = refl
-    own-none (suc r) = omega (arith, own-none r, ap length (silent-own (phase (J .top) r) (lock F (protocol F J grown ps pack reads) input r p)))
+    own-none (suc r) =
+        omega (arith, own-none r, ap length (silent-own (phase (J .top) r) (lock F (protocol F J grown ps pack reads) input r p)))
       where
         silent-own : (f : Phase) (s : State) → writing F J f p p s ≡ []
         silent-own f s = rw (is-self F p, writing)
 
+-- Rule 15.19.
 unfoldable pub callsMost : ℕ → ℕ → ℕ
 callsMost P m = 24 * P + 2 * P * (P - 1) * (7 * m + 24)
 
@@ -171,7 +173,8 @@ module _ (P c : ℕ) where
       )
 
 module _ (P : ℕ) (J : Task (Fin P)) (grown : Fin P → State → ℕ × ℕ) (ps : List (Fin P)) {Msg In : Type 0}
-    (pack : Fin P → Fin P → ℕ → Body → Msg) (reads : Fin P → In → ℕ → ℕ) (input : Fin P → In) (m : ℕ) (small : SmallTask (parts P) J m) where
+    (pack : Fin P → Fin P → ℕ → Body → Msg) (reads : Fin P → In → ℕ → ℕ) (input : Fin P → In) (m : ℕ)
+    (small : SmallTask (parts P) J m) where
   abbrev Q : Protocol (Fin P) In Body Msg State
   Q = protocol (parts P) J grown ps pack reads
 

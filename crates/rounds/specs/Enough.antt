@@ -16,10 +16,11 @@ use lib.Dec.{T, eqb, ltb, eqb→eq, ltb→lt}
 use lib.ListN.{length}
 use borrow.Author.Tests.{eq-eqb, ne-eqb, eqb-false, lt-ltb}
 use Rattle.base.specs.Lists.{anyb, filterb, memberb}
+use Rattle.mesh.specs.Layout.{edgeNumbers}
 use Rattle.exchange.specs.Finite.{Finite, sumOver}
 use Rattle.rounds.specs.Tests.{Member, same-test, member-head, member-tail, member-cases, any-member, member-any, filtered-member}
 use Rattle.rounds.specs.Tests.{member-filtered, filter-agree}
-use Rattle.rounds.specs.Task.{Task, Fit, sixEdges, has, rule, redAt, hitAt, rule-same}
+use Rattle.rounds.specs.Task.{Task, Fit, has, rule, redAt, hitAt, rule-same}
 use Rattle.rounds.specs.Rounds.{Body, mark, count, end, Phase, marks, counts, State, tells, worth, isPart, mine, holdsb, decides}
 use Rattle.rounds.specs.Rounds.{tally}
 use Rattle.rounds.specs.Rounds.{told, added, starting, ghostMarks, edgeCounts, says, writing, redTold, sumTold, redDown, sized}
@@ -116,7 +117,7 @@ module _ {Part : Type 0} (F : Finite Part) (J : Task Part) where
     pub has-slot : (k c x : ℕ) → Member c (J .cells k) → T (has J c x) → Member x (J .slots k)
     unfolding has
     has-slot k c x m h =
-        let (e, n, q) = any-member (λ e. eqb (J .slot c e) x) sixEdges h in
+        let (e, n, q) = any-member (λ e. eqb (J .slot c e) x) edgeNumbers h in
         subst (λ (y : ℕ). Member y (J .slots k)) (eqb→eq (J .slot c e) x q) (fit .slot-level k c e m n)
 
     pub tally-else : (p : Part) (red : ℕ → Bool) (j k x : ℕ) → Member x (J .slots j) → j ≢ k → tally F J p red k x ≡ 0
@@ -265,7 +266,7 @@ module _ {Part : Type 0} (F : Finite Part) (J : Task Part) (ms : ℕ → ℕ) wh
     -- a part that decides on a cell knows the marks that the rule looks at
     module _ (p : Part) (given : ℕ → ℕ) (known : (c : ℕ) → J .owner c ≡ p → given c ≡ ms c) (h g : ℕ
         → Bool) (k c : ℕ) (there : Member c (J .cells k))
-        (hits : J .family c ≡ p → (j e : ℕ) → Member j (J .kids c) → Member e sixEdges → h (J .slot j e) ≡ g (J .slot j e)) where
+        (hits : J .family c ≡ p → (j e : ℕ) → Member j (J .kids c) → Member e edgeNumbers → h (J .slot j e) ≡ g (J .slot j e)) where
       rule-known : J .family c ≡ p → rule J h given c ≡ rule J g ms c
       rule-known f =
           rule-same J h g given ms c (λ z. known c (sym (fit .leaf-family k c there z) ∙ f))
@@ -299,9 +300,9 @@ module _ {Part : Type 0} (F : Finite Part) (J : Task Part) (ms : ℕ → ℕ) wh
           zero-sum = λ k x l m. refl;
         }
 
-    pub member-has : (j e : ℕ) → Member e sixEdges → T (has J j (J .slot j e))
+    pub member-has : (j e : ℕ) → Member e edgeNumbers → T (has J j (J .slot j e))
     unfolding has
-    member-has j e b = member-any (λ y. eqb (J .slot j y) (J .slot j e)) sixEdges e b (rw (eq-eqb (J .slot j e) (J .slot j e) refl) tt)
+    member-has j e b = member-any (λ y. eqb (J .slot j y) (J .slot j e)) edgeNumbers e b (rw (eq-eqb (J .slot j e) (J .slot j e) refl) tt)
 
     none-told : (i : ℕ) → i ≤ J .top → (st : Part → State) (p : Part) (j c : ℕ) → j < i → Member c (J .cells (J .top - j))
         → told F (from F J (marks i) st p) c ≡ false
@@ -547,7 +548,7 @@ module _ {Part : Type 0} (F : Finite Part) (J : Task Part) (ms : ℕ → ℕ) wh
           rule-is : ℕ → Bool
           rule-is c = isPart F (J .family c) p && rule J (λ x. not (eqb (sumTold F (st p) adds x) 0)) (st p .given) c
 
-          has-own : (j e : ℕ) → Member e sixEdges → T (has J j (J .slot j e))
+          has-own : (j e : ℕ) → Member e edgeNumbers → T (has J j (J .slot j e))
           has-own j e b = member-has j e b
 
       pub last-known : (grown : Part → State → ℕ × ℕ) → Known (suc i) p (taking F J grown (counts i) p (st p) adds)

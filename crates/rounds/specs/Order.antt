@@ -54,7 +54,7 @@ module _ {Part : Type 0} (F : Finite Part) (J : Task Part) (ps : List Part) wher
       go (no n) i = i
 
   -- those of one message for one part
-  unfoldable pub just : Bool → Body → List Body
+  unfoldable just : Bool → Body → List Body
   just true b = b ∷ []
   just false b = []
 
@@ -101,7 +101,7 @@ module _ {Part : Type 0} (F : Finite Part) (J : Task Part) (ps : List Part) wher
             ap (λ (l : List Part). only F q (map (λ y. (y, b)) l)) (skip t y l f) ∙ i
             ∙ sym (ap (map (λ y. b)) (skip (λ y. isPart F q y) y l (is-not F q y d)))
 
-    pub only-all : Once → only F q (toAll t b) ≡ just (t q) b
+    only-all : Once → only F q (toAll t b) ≡ just (t q) b
     unfolding toAll just
     only-all once = go (t q) refl
       where

@@ -14,19 +14,21 @@ use Rattle.base.specs.Lists.{anyb, filterb, memberb}
 use Rattle.exchange.specs.Finite.{Finite, sumOver}
 use Rattle.rounds.specs.Task.{Task, has, rule}
 
+-- Rule 15.4.
 pub data Body : Type 0 where
   mark : ℕ → Bool → Body
   count : ℕ → ℕ → Body
   total : ℕ → ℕ → Body
   end : Body
 
+-- Rule 15.7.
 pub data Phase : Type 0 where
   marks : ℕ → Phase
   counts : ℕ → Phase
   totals : Phase
   over : Phase
 
--- from the highest level down: marks, then counts; last the totals
+-- Rule 7.2: from the highest level down: marks, then counts; last the totals
 unfoldable pub after : ℕ → Phase → Phase
 after top (marks i) = counts i
 after top (counts i) = elim (ltb i top) [ true ↦ marks (suc i) | false ↦ totals ]
@@ -115,6 +117,7 @@ unfoldable pub sized : ℕ × ℕ → State → State
 sized g s = record { given = s .given; red = s .red; own = s .own; sum = s .sum; total = capped (g .0); high = g .1 }
 
 module _ {Part : Type 0} (F : Finite Part) (J : Task Part) where
+  -- Rule 15.2.
   abbrev pub mine : Part → ℕ → Bool
   mine p c = isPart F (J .owner c) p || isPart F (J .family c) p
 
@@ -128,10 +131,12 @@ module _ {Part : Type 0} (F : Finite Part) (J : Task Part) where
   unfolding isPart memberb
   decides p k c = memberb c (J .cells k) && isPart F (J .family c) p
 
+  -- Rule 15.4: a ghost is not counted beside its master
   unfoldable pub tally : Part → (ℕ → Bool) → ℕ → ℕ → ℕ
   unfolding isPart has filterb
   tally p red k x = length (filterb (λ c. isPart F (J .owner c) p && (red c && has J c x)) (J .cells k))
 
+  -- Rule 15.6.
   unfoldable pub starting : Part → (ℕ → ℕ) → State
   unfolding decides rule
   starting p ms = record {
@@ -144,10 +149,12 @@ module _ {Part : Type 0} (F : Finite Part) (J : Task Part) where
     high = 0;
   }
 
+  -- Rule 15.4.
   unfoldable pub ghostMarks : ℕ → Part → Part → State → List Body
   unfolding isPart filterb
   ghostMarks k p q s = map (λ c. mark c (s .red c)) (filterb (λ c. isPart F (J .family c) p && isPart F (J .owner c) q) (J .cells k))
 
+  -- Rule 15.4.
   unfoldable pub edgeCounts : ℕ → Part → Part → State → List Body
   unfolding holdsb filterb
   edgeCounts k p q s = map (λ x. count x (s .own x)) (filterb (λ x. holdsb p k x && (holdsb q k x && not (eqb (s .own x) 0))) (J .slots k))
@@ -159,6 +166,7 @@ module _ {Part : Type 0} (F : Finite Part) (J : Task Part) where
   says totals p q s = total (s .total) (s .high) ∷ end ∷ []
   says over p q s = []
 
+  -- Rule 15.4.
   unfoldable pub writing : Phase → Part → Part → State → List Body
   unfolding says isPart
   writing f p q s = elim (isPart F p q) [ true ↦ [] | false ↦ says f p q s ]
@@ -170,6 +178,7 @@ module _ {Part : Type 0} (F : Finite Part) (J : Task Part) where
 
   -- grown p s: how many masters p will have, and their top level, from what it knows when all levels are counted
   module _ (grown : Part → State → ℕ × ℕ) where
+    -- Rule 15.7.
     unfoldable pub taking : Phase → Part → State → (Part → List Body) → State
     unfolding redTold sumTold redDown tally sized mastersTold topTold
     taking (marks i) p s got =

@@ -83,7 +83,7 @@ module _ {Part : Type 0} (F : Finite Part) (J : Task Part) where
   says-all totals q p s = ((refl, refl), (tt, tt))
   says-all over q p s = tt
 
-  pub said-all : (f : Phase) (q p : Part) (s : State) → All (Said f q p s) (writing F J f q p s)
+  said-all : (f : Phase) (q p : Part) (s : State) → All (Said f q p s) (writing F J f q p s)
   unfolding writing
   said-all f q p s = go (isPart F q p) refl
     where

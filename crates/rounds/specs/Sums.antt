@@ -143,7 +143,7 @@ module _ (P : ℕ) (J : Task (Fin P)) where
           owned-few l,
         )
 
-  pub tallies-few : (red : ℕ → Bool) (k x : ℕ) → sumOver (λ q. tally F J q red k x) (F .list) ≤ length (J .cells k)
+  tallies-few : (red : ℕ → Bool) (k x : ℕ) → sumOver (λ q. tally F J q red k x) (F .list) ≤ length (J .cells k)
   unfolding tally
   tallies-few red k x = owned-few (λ c. red c && has J c x) (J .cells k)
 
@@ -217,9 +217,6 @@ module _ (P : ℕ) (J : Task (Fin P)) where
         (reads : Fin P → In → ℕ → ℕ) (input : Fin P → In) where
       abbrev at : ℕ → Fin P → State
       at r p = lock F (protocol F J grown ps pack reads) input r p
-
-      abbrev mail : ℕ → Fin P → Fin P → List Body
-      mail r p q = writing F J (phase (J .top) r) q p (at r q)
 
       -- the marks of all parts put together
       ms : ℕ → ℕ

@@ -1,19 +1,18 @@
 -- Taking one message: what is kept while a round's messages come in, in any order. A mark is an "or", a count an addition, and totals add
 -- up and keep the highest level; a message of another kind changes nothing.
 --   oneMore        what is taken, with one message more
--- Laws: added-take, masters-take, top-take, told-take, red-take, sum-take, and as they are stored red-mark, red-set, sum-count, sum-set.
+-- Laws: added-take, masters-take, top-take, told-take, and as they are stored red-take, sum-take.
 use mathlib.Core.Path.{_≡_, refl, sym, _∙_, ap, subst}
-use mathlib.Core.Logic.{_≢_, _⊎_, ⊎-elim}
-use mathlib.Core.Bool.{Bool, true, false, _&&_, _||_, or-false}
+use mathlib.Core.Logic.{_⊎_, ⊎-elim}
+use mathlib.Core.Bool.{Bool, true, false, _||_, or-false}
 use mathlib.Core.List.{List, [], _∷_, _++_}
 use Prim.Native.Nat.{ℕ, _+_, _≤_, max, Fin}
 use native.Mathlib.Omega.{arith}
 use lib.Dec.{T}
-use borrow.Author.Tests.{eq-eqb, ne-eqb}
 use Rattle.base.specs.Lists.{anyb}
 use Rattle.exchange.specs.Finite.{Finite, parts, sumOver, sum-change, upd, upd-same, upd-other}
 use Rattle.rounds.specs.Tests.{same-test}
-use Rattle.rounds.specs.Rounds.{Body, mark, count, State, tells, worth, mastersIn, topIn, largest, told, added, mastersTold}
+use Rattle.rounds.specs.Rounds.{Body, State, tells, worth, mastersIn, topIn, largest, told, added, mastersTold}
 use Rattle.rounds.specs.Rounds.{topTold, redTold, sumTold}
 use Rattle.rounds.specs.Among.{any-part, part-any, largest-more}
 use Rattle.base.specs.Bools.{or-first, or-second, or-either}
@@ -47,7 +46,7 @@ module _ (P : ℕ) (got : Fin P → List Body) (q : Fin P) (b : Body) where
       let h : sumOver f (oneMore q) ≡ sumOver f (got q) + f b = ap (sumOver f) more-there ∙ sum-snoc f (got q) in
       omega arith
 
-  pub added-take : (y : ℕ) → added F oneMore y ≡ added F got y + worth y b
+  added-take : (y : ℕ) → added F oneMore y ≡ added F got y + worth y b
   unfolding added
   added-take y = sums-take (worth y)
 
@@ -86,7 +85,7 @@ module _ (P : ℕ) (got : Fin P → List Body) (q : Fin P) (b : Body) where
       go true i = refl
       go false i = i
 
-  pub told-take : (c : ℕ) → told F oneMore c ≡ (told F got c || tells c b)
+  told-take : (c : ℕ) → told F oneMore c ≡ (told F got c || tells c b)
   unfolding told
   told-take c = same-test (told F oneMore c) (told F got c || tells c b) up down
     where
@@ -135,24 +134,3 @@ module _ (P : ℕ) (got : Fin P → List Body) (q : Fin P) (b : Body) where
   pub sum-take : (s : State) (x : ℕ) → sumTold F s oneMore x ≡ sumTold F s got x + worth x b
   unfolding sumTold
   sum-take s x = omega (arith, added-take x)
-
--- a mark sets a flag, a count adds to one slot
-module _ (P : ℕ) (got : Fin P → List Body) (q : Fin P) (s : State) where
-  pub red-mark : (d : ℕ) (v : Bool) (c : ℕ) → c ≢ d → redTold (parts P) s (oneMore P got q (mark d v)) c ≡ redTold (parts P) s got c
-  unfolding tells
-  red-mark d v c n = red-take P got q (mark d v) s c ∙ ap (λ (z : Bool). redTold (parts P) s got c || (z && v)) (ne-eqb c d n)
-      ∙ or-false (redTold (parts P) s got c)
-
-  pub red-set : (d : ℕ) (v : Bool) → redTold (parts P) s (oneMore P got q (mark d v)) d ≡ (redTold (parts P) s got d || v)
-  unfolding tells
-  red-set d v = red-take P got q (mark d v) s d ∙ ap (λ (z : Bool). redTold (parts P) s got d || (z && v)) (eq-eqb d d refl)
-
-  pub sum-count : (y n x : ℕ) → x ≢ y → sumTold (parts P) s (oneMore P got q (count y n)) x ≡ sumTold (parts P) s got x
-  unfolding worth
-  sum-count y n x d =
-      let w : worth x (count y n) ≡ 0 = rw (ne-eqb x y d, worth) in sum-take P got q (count y n) s x ∙ omega arith
-
-  pub sum-set : (y n : ℕ) → sumTold (parts P) s (oneMore P got q (count y n)) y ≡ sumTold (parts P) s got y + n
-  unfolding worth
-  sum-set y n = let w : worth y (count y n) ≡ n = rw (eq-eqb y y refl, worth) in sum-take P got q (count y n) s y
-      ∙ ap (λ (z : ℕ). sumTold (parts P) s got y + z) w

@@ -8,11 +8,12 @@
 --   Fit                    what holds of a task that comes from a sound table and valid owners
 use mathlib.Core.Path.{_≡_, refl, ap, ap₂}
 use mathlib.Core.Bool.{Bool, true, false, _&&_, _||_, not}
-use mathlib.Core.List.{List, [], _∷_}
+use mathlib.Core.List.{List}
 use Prim.Native.Nat.{ℕ, zero, suc, _-_}
 use lib.Dec.{eqb}
 use borrow.Author.Tests.{eqb-true}
 use Rattle.base.specs.Lists.{allb, anyb}
+use Rattle.mesh.specs.Layout.{edgeNumbers}
 use Rattle.rounds.specs.Tests.{Member, any-agree, all-agree}
 
 pub record Task (Part : Type 0) : Type 0 where
@@ -29,23 +30,23 @@ pub record Task (Part : Type 0) : Type 0 where
   pub owner : ℕ → Part
   pub family : ℕ → Part  -- the owner of its children; of a leaf, its own
 
-abbrev pub sixEdges : List ℕ
-sixEdges = 0 ∷ 1 ∷ 2 ∷ 3 ∷ 4 ∷ 5 ∷ []
-
 module _ {Part : Type 0} (J : Task Part) where
+  -- Rule 5.4.
   unfoldable pub has : ℕ → ℕ → Bool
   unfolding anyb
-  has c s = anyb (λ e. eqb (J .slot c e) s) sixEdges
+  has c s = anyb (λ e. eqb (J .slot c e) s) edgeNumbers
 
+  -- Rule 7.3.
   unfoldable pub idle : (ℕ → Bool) → (ℕ → ℕ) → ℕ → Bool
   unfolding allb
-  idle h ms k = (eqb (J .status k) 0 && eqb (ms k) 2) && allb (λ e. not (h (J .slot k e))) sixEdges
+  idle h ms k = (eqb (J .status k) 0 && eqb (ms k) 2) && allb (λ e. not (h (J .slot k e))) edgeNumbers
 
+  -- Rule 7.5.
   unfoldable pub pulled : (ℕ → Bool) → (ℕ → ℕ) → ℕ → Bool
   unfolding anyb
-  pulled h ms k = eqb (ms k) 1 || anyb (λ e. J .inner k e && h (J .slot k e)) sixEdges
+  pulled h ms k = eqb (ms k) 1 || anyb (λ e. J .inner k e && h (J .slot k e)) edgeNumbers
 
-  -- the three rules of new red cells
+  -- Rules 7.3, 7.4, 7.5: the three rules of new red cells
   unfoldable pub rule : (ℕ → Bool) → (ℕ → ℕ) → ℕ → Bool
   unfolding idle pulled allb anyb
   rule h ms c =
@@ -57,6 +58,7 @@ module _ {Part : Type 0} (J : Task Part) where
         ]
       ]
 
+  -- Rule 7.2.
   unfoldable pub redAt : (ℕ → ℕ) → ℕ → ℕ → Bool
   unfolding rule has anyb
   redAt ms zero c = rule (λ s. false) ms c
@@ -69,26 +71,26 @@ module _ {Part : Type 0} (J : Task Part) where
     pub kid-level : (k c j : ℕ) → Member c (J .cells k) → Member j (J .kids c) → Member j (J .cells (suc k))
     pub kid-owner : (k c j : ℕ) → Member c (J .cells k) → Member j (J .kids c) → J .owner j ≡ J .family c
     pub leaf-family : (k c : ℕ) → Member c (J .cells k) → J .status c ≡ 0 → J .family c ≡ J .owner c
-    pub slot-level : (k c e : ℕ) → Member c (J .cells k) → Member e sixEdges → Member (J .slot c e) (J .slots k)
+    pub slot-level : (k c e : ℕ) → Member c (J .cells k) → Member e edgeNumbers → Member (J .slot c e) (J .slots k)
     pub one-level : (j k c : ℕ) → Member c (J .cells j) → Member c (J .cells k) → j ≡ k
     pub one-slot : (j k s : ℕ) → Member s (J .slots j) → Member s (J .slots k) → j ≡ k
 
   -- the rule looks at the slots of the children's edges, and at the marks of the cell and its children
   module _ (h g : ℕ → Bool) (ms ns : ℕ → ℕ) (c : ℕ) (own : J .status c ≡ 0 → ms c ≡ ns c) (marks : (j : ℕ) → Member j (J .kids c)
       → ms j ≡ ns j)
-      (hits : (j e : ℕ) → Member j (J .kids c) → Member e sixEdges → h (J .slot j e) ≡ g (J .slot j e)) where
+      (hits : (j e : ℕ) → Member j (J .kids c) → Member e edgeNumbers → h (J .slot j e) ≡ g (J .slot j e)) where
     idle-same : (j : ℕ) → Member j (J .kids c) → idle h ms j ≡ idle g ns j
     unfolding idle
     idle-same j m =
         ap₂ (λ (x : ℕ) (b : Bool). (eqb (J .status j) 0 && eqb x 2) && b) (marks j m)
-        (all-agree (λ e. not (h (J .slot j e))) (λ e. not (g (J .slot j e))) sixEdges (λ e n. ap not (hits j e m n)))
+        (all-agree (λ e. not (h (J .slot j e))) (λ e. not (g (J .slot j e))) edgeNumbers (λ e n. ap not (hits j e m n)))
 
     pulled-same : (j : ℕ) → Member j (J .kids c) → pulled h ms j ≡ pulled g ns j
     unfolding pulled
     pulled-same j m =
         ap₂ (λ (x : ℕ) (b : Bool). eqb x 1 || b) (marks j m)
         (any-agree (λ e. J .inner j e && h (J .slot j e)) (λ e. J .inner j e
-        && g (J .slot j e)) sixEdges (λ e n. ap (λ (b : Bool). J .inner j e && b) (hits j e m n)))
+        && g (J .slot j e)) edgeNumbers (λ e n. ap (λ (b : Bool). J .inner j e && b) (hits j e m n)))
 
     pub rule-same : rule h ms c ≡ rule g ns c
     unfolding rule

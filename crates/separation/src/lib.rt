@@ -32,7 +32,7 @@ fn joins(a: u16, b: u16, c: u16, d: u16) -> bool
 }
 
 // Whether an edge is one of the cell's six.
-fn has_edge(cells: &[u16], g: usize, a: u16, b: u16) -> bool
+pub fn has_edge(cells: &[u16], g: usize, a: u16, b: u16) -> bool
     requires { ⌜ 8 * g + 8 ≤ length (now cells) ⌝ }
     ensures { λ r. ⌜ r ≡ heldb eqb (edges 0 (cellAt (was cells) g)) (a, b) ⌝ }
 {

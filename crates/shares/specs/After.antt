@@ -37,7 +37,7 @@ use Rattle.splitting.specs.Split.{newEdges, newRedRow}
 
 -- the row of a flat list of edges
 module _ (f : Row → Bool) (e : Edge) where
-  pub record Chosen (rs : List Row) : Type 0 where
+  record Chosen (rs : List Row) : Type 0 where
     pub u : ℕ
     pub below : u < length rs
     pub passes : f (getD rs u noRow) ≡ true
@@ -46,7 +46,7 @@ module _ (f : Row → Bool) (e : Edge) where
   chosen-later : (r : Row) (rs : List Row) → Chosen rs → Chosen (r ∷ rs)
   chosen-later r rs w = record { u = suc (w .u); below = omega (arith, w .below); passes = w .passes; has = w .has }
 
-  pub chosen : (rs : List Row) → T (heldb sameb (flatMap (λ (r : Row). edges [] (r .cell)) (filterb f rs)) e) → Chosen rs
+  chosen : (rs : List Row) → T (heldb sameb (flatMap (λ (r : Row). edges [] (r .cell)) (filterb f rs)) e) → Chosen rs
   unfolding flatMap flatten filterb heldb anyb
   chosen [] t = absurd t
   chosen (r ∷ rs) t = go (f r) refl (chosen rs)
@@ -72,7 +72,7 @@ module _ (n : ℕ) (qs : List (List ℕ)) (ss ms : List ℕ) (s : Sound n qs ss)
   abbrev new : ℕ → Level
   new k = newAt n qs ss ms k
 
-  pub new-closed-at : (k : ℕ) → T (closedb (new k))
+  new-closed-at : (k : ℕ) → T (closedb (new k))
   new-closed-at k =
       subst (λ (ls : List Level). T (closedb (getD ls k noLevel))) (new-levels n qs ss ms)
       (level-closed n qs (flatten (stepBy n qs ss ms)) (new-closed n qs ss ms sound) k)
@@ -110,7 +110,7 @@ module _ (n : ℕ) (qs : List (List ℕ)) (ss ms : List ℕ) (s : Sound n qs ss)
   pub will : (k : ℕ) (e : Edge) → T (heldb sameb (newEdges n qs ss ms k) e) → WillHave k e
   will k e t = elim (decLt k (length (levelsOf n qs ss))) [ yes h ↦ will-from k h e t | no h ↦ absurd (none-above k (omega arith) e t) ]
 
-  pub have : (k : ℕ) (e : Edge) → WillHave k e → T (heldb sameb (newEdges n qs ss ms k) e)
+  have : (k : ℕ) (e : Edge) → WillHave k e → T (heldb sameb (newEdges n qs ss ms k) e)
   have k e w =
       let h = level-there n qs ss k (w .t) (w .below) in
       rw (drop-cons (levelsOf n qs ss) k noLevel h) (held-up ms (drop (suc k) (levelsOf n qs ss)) (old k)
@@ -162,7 +162,7 @@ module _ (n : ℕ) (qs : List (List ℕ)) (ss ms : List ℕ) (s : Sound n qs ss)
           })
       go w z (inr (a, b)) = not-both (redb (getD (new k .statuses) (z .i) 0)) (ap redb (z .status)) a
 
-  pub new-held : (k : ℕ) → k < 12 → (e : Edge) → heldb sameb (redEdges [] (new k .cells) (new k .statuses)) e ≡ heldb sameb
+  new-held : (k : ℕ) → k < 12 → (e : Edge) → heldb sameb (redEdges [] (new k .cells) (new k .statuses)) e ≡ heldb sameb
       (newEdges n qs ss ms k) e
   new-held k g e = same-test (heldb sameb (redEdges [] (new k .cells) (new k .statuses)) e) (heldb sameb (newEdges n qs ss ms k) e)
       (new-up k e) (new-down k g e)

@@ -14,6 +14,7 @@ use Rattle.base.specs.Range.{range, member-range}
 use Rattle.parts.specs.Held.{Entry}
 use Rattle.rounds.specs.Tests.{Member, member-head, member-tail, member-cases}
 
+-- Rule 15.18.
 abbrev pub NoTwice : List Entry → Type 0
 NoTwice [] = Unit {0}
 NoTwice (e ∷ l) = ((f : Entry) → List·Memᴰ f l → f .path ≡ e .path → ⊥) × NoTwice l

@@ -19,6 +19,7 @@ use Rattle.mesh.specs.Cells.{Cell, redb, patternOf, edge, edges, heldb, bitsOf,
 use Rattle.mesh.specs.Weights.{Point, point}
 use Rattle.mesh.specs.Table.{Level, levelsOf, soundb}
 use Rattle.mesh.specs.Step.{rowsUp, edgesUp, newReds}
+use Rattle.mesh.specs.Layout.{edgeNumbers}
 use Rattle.base.specs.Every.{All}
 use Rattle.lattice.specs.Levels.{IfRegular}
 use Rattle.lattice.specs.Regular.{Regular}
@@ -39,7 +40,7 @@ use Rattle.soundness.specs.Turn.{Sharing, sharing}
 use Rattle.soundness.specs.Sound.{Sound, sound-from, lv, level-closed, level-next, level-there}
 use Rattle.soundness.specs.Meets.{edges-alike, point-same}
 use Rattle.rounds.specs.Tests.{Member, same-test, any-member, member-any}
-use Rattle.rounds.specs.Task.{Task, sixEdges, redAt, hitAt}
+use Rattle.rounds.specs.Task.{Task, redAt, hitAt}
 use Rattle.rounds.specs.Rounds.{State, isPart, mine}
 use Rattle.rounds.specs.Among.{is-same}
 use Rattle.rounds.specs.Enough.{Known, holds-by, member-has}
@@ -86,7 +87,7 @@ module _ (n : ℕ) (qs : List (List ℕ)) (ss ms : List ℕ) (s : Sound n qs ss)
       (subst (λ (x : ℕ). x < length (family (patternOf (getD (l .statuses) (b .p) 0)))) z (b .child))
 
   -- an edge with two digits of an old cell that a new red cell one level up has: a child of the cell has it at the same digits
-  pub record FreshEdge (k t d e : ℕ) : Type 0 where
+  record FreshEdge (k t d e : ℕ) : Type 0 where
     pub i : ℕ
     pub child : ChildAt (lv n qs ss k) (lv n qs ss (suc k)) t i
     pub y : ℕ
@@ -95,7 +96,7 @@ module _ (n : ℕ) (qs : List (List ℕ)) (ss ms : List ℕ) (s : Sound n qs ss)
     pub high-is : e ≡ highDigit (patternOf (getD (lv n qs ss k .statuses) t 0)) i y
     pub held : T (heldb sameb (newEdges n qs ss ms (suc k)) (edge [] (getD (lv n qs ss (suc k) .cells) (child .u) noCell) y))
 
-  pub fresh-edge : (k t : ℕ) → t < length (lv n qs ss k .cells) → T (getD (lv n qs ss k .cells) t noCell .regular) → (d e : ℕ) → d < e
+  fresh-edge : (k t : ℕ) → t < length (lv n qs ss k .cells) → T (getD (lv n qs ss k .cells) t noCell .regular) → (d e : ℕ) → d < e
       → e < 10
       → T (heldb sameb (newEdges n qs ss ms (suc k)) (
         point (getD (lv n qs ss k .cells) t noCell) d,
@@ -229,7 +230,7 @@ module _ {Part : Type 0} {F : Finite Part} (X : Settled F) (p : Part) where
       ∙ subst (λ (x : ℕ). redAt J mark (b .j) c ≡ newRedRow n qs ss ms x (rowBy n qs ss ms c)) (b .level)
       (flags-red n qs ss s slot slots sl os own part ms (b .j) (omega (arith, b .few)) (b .some) c u)
 
-  pub known-held : (k c e : ℕ) → Member c (numbersOf n qs ss k) → T (mine F J p c) → Member e sixEdges
+  known-held : (k c e : ℕ) → Member c (numbersOf n qs ss k) → T (mine F J p c) → Member e edgeNumbers
       → heldNow J st (slot c e) ≡ heldb sameb (newEdges n qs ss ms k) (edge [] (nthCell n qs ss c) e)
   known-held k c e m o q =
       let b = below k c m in
@@ -240,7 +241,7 @@ module _ {Part : Type 0} {F : Finite Part} (X : Settled F) (p : Part) where
       ∙ subst (λ (x : ℕ). hitAt J mark (b .j) (slot c e) ≡ heldb sameb (newEdges n qs ss ms x) (edge [] (nthCell n qs ss c) e)) (b .level)
       (hits n qs ss s slot slots sl os own part ms (b .j) (omega (arith, b .few)) (b .some) c e u q)
 
-  edges-six : (f : Edge → Bool) (c : Cell Point) → map f (edges [] c) ≡ map (λ e. f (edge [] c e)) sixEdges
+  edges-six : (f : Edge → Bool) (c : Cell Point) → map f (edges [] c) ≡ map (λ e. f (edge [] c e)) edgeNumbers
   unfolding edges
   edges-six f c = refl
 
@@ -270,7 +271,7 @@ module _ {Part : Type 0} {F : Finite Part} (X : Settled F) (p : Part) where
           (sym (edges-alike (nthCell n qs ss (num k (w .t))) (newCell k i) (ap (λ (c : Cell Point). c .points) q ∙ w .is .points)))
           ∙ ap bitsOf (edges-six (heldb sameb (newEdges n qs ss ms k)) (nthCell n qs ss (num k (w .t)))
           ∙ map-agree (λ e. heldb sameb (newEdges n qs ss ms k) (edge [] (nthCell n qs ss (num k (w .t))) e))
-          (λ e. heldNow J st (slot (num k (w .t)) e)) sixEdges (λ e b. sym (known-held k (num k (w .t)) e m o b))))
+          (λ e. heldNow J st (slot (num k (w .t)) e)) edgeNumbers (λ e b. sym (known-held k (num k (w .t)) e m o b))))
 
   -- an edge with two digits of a cell whose family is here
   module _ (k t : ℕ) (ht : t < length (lv n qs ss k .cells)) (rt : T (getD (lv n qs ss k .cells) t noCell .regular))
@@ -319,9 +320,9 @@ module _ {Part : Type 0} {F : Finite Part} (X : Settled F) (p : Part) where
         (w .low-is ∙ sym (ap₂ (λ (x i : ℕ). lowDigit (patternOf x) i (w .y)) (z .status-is) last)))
         (eq-T b (highDigit (patternOf (getD ss (num k t) 0)) (lastOf (nthCell n qs ss (num (suc k) (w .child .u)) .path)) (w .y))
         (w .high-is ∙ sym (ap₂ (λ (x i : ℕ). highDigit (patternOf x) i (w .y)) (z .status-is) last))) in
-        member-any (λ d. anyb (λ y. fits-digits a b d y && heldNow J st (slot d y)) sixEdges) (childrenOf n qs ss (num k t))
+        member-any (λ d. anyb (λ y. fits-digits a b d y && heldNow J st (slot d y)) edgeNumbers) (childrenOf n qs ss (num k t))
         (num (suc k) (w .child .u)) m
-        (member-any (λ y. fits-digits a b (num (suc k) (w .child .u)) y && heldNow J st (slot (num (suc k) (w .child .u)) y)) sixEdges
+        (member-any (λ y. fits-digits a b (num (suc k) (w .child .u)) y && heldNow J st (slot (num (suc k) (w .child .u)) y)) edgeNumbers
         (w .y)
         (below-six (w .y) (w .below))
         (and-both (fits-digits a b (num (suc k) (w .child .u)) (w .y)) (heldNow J st (slot (num (suc k) (w .child .u)) (w .y))) q held'))
@@ -329,10 +330,10 @@ module _ {Part : Type 0} {F : Finite Part} (X : Settled F) (p : Part) where
     pair-down : (a b : ℕ) → T (pairHeld J st (num k t) a b) → T (heldb sameb (newEdges n qs ss ms (suc k)) (point G a, point G b))
     unfolding pairHeld
     pair-down a b r =
-        let (d, m, r1) = any-member (λ d. anyb (λ y. fits-digits a b d y && heldNow J st (slot d y)) sixEdges)
+        let (d, m, r1) = any-member (λ d. anyb (λ y. fits-digits a b d y && heldNow J st (slot d y)) edgeNumbers)
         (childrenOf n qs ss (num k t))
         r in
-        let (y, hy, r2) = any-member (λ y. fits-digits a b d y && heldNow J st (slot d y)) sixEdges r1 in
+        let (y, hy, r2) = any-member (λ y. fits-digits a b d y && heldNow J st (slot d y)) edgeNumbers r1 in
         let r3 = and-left (fits-digits a b d y) (heldNow J st (slot d y)) r2 in
         let z = at-level n qs ss s k t ht in
         let kd = kid n qs ss s k (num k t) d (z .here) m in
@@ -370,7 +371,7 @@ module _ {Part : Type 0} {F : Finite Part} (X : Settled F) (p : Part) where
         ce ∙ ap₂ {A = ℕ} {B = ℕ} {C = Edge} (λ x i. (point G x, point G i)) (sym ea) (sym eb) in
         subst (λ (f : Edge). T (heldb sameb (newEdges n qs ss ms (suc k)) f)) same held
 
-    pub pair : (a b : ℕ) → a < b → b < 10 → heldb sameb (newEdges n qs ss ms (suc k)) (point G a, point G b) ≡ pairHeld J st (num k t) a b
+    pair : (a b : ℕ) → a < b → b < 10 → heldb sameb (newEdges n qs ss ms (suc k)) (point G a, point G b) ≡ pairHeld J st (num k t) a b
     pair a b ab hb = same-test (heldb sameb (newEdges n qs ss ms (suc k)) (point G a, point G b)) (pairHeld J st (num k t) a b)
         (pair-up a b ab hb) (pair-down a b)
 
@@ -405,6 +406,6 @@ module _ {Part : Type 0} {F : Finite Part} (X : Settled F) (p : Part) where
       new-status n qs ss ms s (suc k) g i h r e
       ∙ ap bitsOf (edges-six (heldb sameb (newEdges n qs ss ms (suc k))) (newCell (suc k) i)
       ∙ map-agree (λ y. heldb sameb (newEdges n qs ss ms (suc k)) (edge [] (newCell (suc k) i) y))
-      (λ y. pairHeld J st (num k (f .t)) (lowDigit 63 (f .born .i) y) (highDigit 63 (f .born .i) y)) sixEdges
+      (λ y. pairHeld J st (num k (f .t)) (lowDigit 63 (f .born .i) y) (highDigit 63 (f .born .i) y)) edgeNumbers
       (λ y m. fresh-pair k i f fam y (six-below y m)))
       ∙ sym (fresh-is J st (num k (f .t)) (f .born .i))

@@ -18,9 +18,10 @@ use Rattle.base.specs.Range.{range}
 use Rattle.cutting.specs.Rule.{family, low, high}
 use Rattle.mesh.specs.Cells.{patternOf, bitsOf}
 use Rattle.mesh.specs.Table.{sizeOf}
+use Rattle.mesh.specs.Layout.{edgeNumbers}
 use Rattle.families.specs.Children.{lowDigit, highDigit}
 use Rattle.exchange.specs.Finite.{Finite}
-use Rattle.rounds.specs.Task.{Task, sixEdges}
+use Rattle.rounds.specs.Task.{Task}
 use Rattle.rounds.specs.Rounds.{State, isPart}
 use Rattle.parts.specs.Held.{Entry}
 
@@ -42,11 +43,12 @@ module _ {Part : Type 0} (J : Task Part) (st : State) where
   abbrev pub heldNow : ℕ → Bool
   heldNow x = not (eqb (st .sum x) 0)
 
+  -- Rule 7.7.
   unfoldable pub statusNew : ℕ → ℕ
   unfolding bitsOf
   statusNew c =
       elim (J .regular c) [
-        | true ↦ elim (st .red c) [ true ↦ 64 | false ↦ bitsOf (map (λ e. heldNow (J .slot c e)) sixEdges) ]
+        | true ↦ elim (st .red c) [ true ↦ 64 | false ↦ bitsOf (map (λ e. heldNow (J .slot c e)) edgeNumbers) ]
         | false ↦ 0
       ]
 
@@ -60,13 +62,14 @@ module _ {Part : Type 0} (J : Task Part) (st : State) where
   unfoldable pub pairHeld : ℕ → ℕ → ℕ → Bool
   unfolding anyb patternOf lastOf family low high
   pairHeld c a b =
-      anyb (λ d. anyb (λ y. (eqb a (lowOf c d y) && eqb b (highOf c d y)) && heldNow (J .slot d y)) sixEdges) (J .kids c)
+      anyb (λ d. anyb (λ y. (eqb a (lowOf c d y) && eqb b (highOf c d y)) && heldNow (J .slot d y)) edgeNumbers) (J .kids c)
 
+  -- Rule 7.7.
   unfoldable pub freshStatus : ℕ → ℕ → ℕ
   unfolding bitsOf pairHeld
-  freshStatus c i = bitsOf (map (λ y. pairHeld c (lowDigit 63 i y) (highDigit 63 i y)) sixEdges)
+  freshStatus c i = bitsOf (map (λ y. pairHeld c (lowDigit 63 i y) (highDigit 63 i y)) edgeNumbers)
 
-  pub fresh-is : (c i : ℕ) → freshStatus c i ≡ bitsOf (map (λ y. pairHeld c (lowDigit 63 i y) (highDigit 63 i y)) sixEdges)
+  pub fresh-is : (c i : ℕ) → freshStatus c i ≡ bitsOf (map (λ y. pairHeld c (lowDigit 63 i y) (highDigit 63 i y)) edgeNumbers)
   unfolding freshStatus
   fresh-is c i = refl
 
@@ -75,14 +78,17 @@ coarseb zero = true
 coarseb (suc k) = false
 
 module _ {Part : Type 0} (F : Finite Part) (J : Task Part) (p : Part) (st : State) where
+  -- Rule 7.7.
   unfoldable pub staysb : ℕ → ℕ → Bool
   unfolding coarseb
   staysb k c = coarseb k || (not (eqb (J .status c) 0) || (eqb (J .status (J .parent c)) 64 && st .red (J .parent c)))
 
+  -- Rule 15.2.
   unfoldable pub masterEntry : ℕ → ℕ → List Entry
   unfolding staysb isPart statusNew
   masterEntry k c = elim (isPart F (J .owner c) p && staysb k c) [ true ↦ entryBy (J .path c) (statusNew J st c) false ∷ [] | false ↦ [] ]
 
+  -- Rule 15.2.
   unfoldable pub ghostEntry : ℕ → List Entry
   unfolding isPart statusNew
   ghostEntry c =
@@ -91,12 +97,14 @@ module _ {Part : Type 0} (F : Finite Part) (J : Task Part) (p : Part) (st : Stat
         | false ↦ []
       ]
 
+  -- Rule 15.13.
   unfoldable pub anewb : ℕ → ℕ → Bool
   unfolding isPart staysb statusNew
   anewb k c =
       isPart F (J .family c) p
       && (staysb k c && (not (eqb (statusNew J st c) 0) && not (eqb (J .status c) 64 && eqb (statusNew J st c) 64)))
 
+  -- Rule 7.7.
   unfoldable pub childStatus : ℕ → ℕ → ℕ
   unfolding statusNew freshStatus
   childStatus c i = elim (eqb (statusNew J st c) 64) [ true ↦ freshStatus J st c i | false ↦ 0 ]
@@ -118,6 +126,7 @@ module _ {Part : Type 0} (F : Finite Part) (J : Task Part) (p : Part) (st : Stat
   abbrev pub levelEntries : ℕ → List Entry
   levelEntries k = flatMap (cellEntries k) (J .cells k)
 
+  -- Rule 15.11.
   unfoldable pub entries : List Entry
   unfolding masterEntry ghostEntry freshEntries range flatMap
   entries = flatMap levelEntries (range 0 (suc (J .top)))

@@ -32,7 +32,6 @@ use Rattle.exchange.specs.Finite.{Finite}
 use Rattle.rounds.specs.Task.{Task}
 use Rattle.rounds.specs.Rounds.{State, isPart, mine}
 use Rattle.rounds.specs.Among.{is-same, is-eq}
-use Rattle.rounds.specs.Enough.{Known}
 use Rattle.parts.specs.Held.{Entry}
 use Rattle.splitting.specs.Numbers.{at-level, row-of-cell}
 use Rattle.splitting.specs.Split.{newRedRow, Slots, Owners, fits}
@@ -85,14 +84,8 @@ module _ {Part : Type 0} {F : Finite Part} (X : Settled F) (p : Part) where
   abbrev J : Task Part
   J = taskIn X
 
-  abbrev mark : ℕ → ℕ
-  mark c = getD ms c 0
-
   abbrev st : State
   st = X .state p
-
-  abbrev known : Known F J mark (suc (J .top)) p st
-  known = X .known p
 
   abbrev sound : T (soundb n qs ss)
   sound = sound-from n qs ss s

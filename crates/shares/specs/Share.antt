@@ -42,7 +42,7 @@ module _ {Part : Type 0} {F : Finite Part} (X : Settled F) where
   abbrev pub tableIn : List ℕ
   tableIn = flatten (stepBy (X .n) (X .qs) (X .ss) (X .ms))
 
-  abbrev pub ownersIn : List ℕ
+  abbrev ownersIn : List ℕ
   ownersIn = ownersAfter (X .n) (X .qs) (X .ss) (X .os) tableIn
 
 module _ {Part : Type 0} {F : Finite Part} (X : Settled F) (P : ℕ) (number : Part → ℕ) (names : Named P (X .part) number)

@@ -104,7 +104,7 @@ module _ (n : ℕ) (qs : List (List ℕ)) (ss ms : List ℕ) (s : Sound n qs ss)
       record { i = w .u; below = w .below; regular = reg; met-by = m; place-is = e }
 
   -- a cell with a refined child stays red
-  pub refined-stays : (k t : ℕ) (h : t < length (old (suc k) .cells)) → getD (old (suc k) .statuses) t 0 ≢ 0 → (b : RedParent k t)
+  refined-stays : (k t : ℕ) (h : t < length (old (suc k) .cells)) → getD (old (suc k) .statuses) t 0 ≢ 0 → (b : RedParent k t)
       → newRedAt ms (oldAbove n qs ss k) (old k) (b .born .p) ≡ true
   refined-stays k t h z b =
       let u = old (suc k) in

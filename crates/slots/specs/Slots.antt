@@ -18,14 +18,17 @@ use Rattle.edges.specs.Pairs.{Pair, sorted, isb, addPair, addPairs}
 use Rattle.edges.specs.Table.{listed, Edges}
 use Rattle.rows.specs.Numbered.{cellAt}
 
+-- Rule 5.4.
 unfoldable pub edgeAt : List ℕ → ℕ → Pair
 unfolding edge cellAt
 edgeAt t i = edge 0 (cellAt t (i / 6)) (i % 6)
 
+-- Rule 5.4.
 unfoldable pub keysIn : List ℕ → ℕ → ℕ → List Pair
 unfolding edgeAt addPairs range
 keysIn t a b = addPairs [] (map (edgeAt t) (range (6 * a) (6 * b - 6 * a)))
 
+-- Rule 5.4.
 unfoldable pub slotsTo : List ℕ → List ℕ → ℕ → ℕ
 unfolding keysIn
 slotsTo t fs zero = 0

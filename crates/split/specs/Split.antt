@@ -4,11 +4,11 @@
 --   storesAfter P os b       the lent table b with the stores of the parts 1 to P; what stands behind them, and each store's
 --                            entries and places, is as it was
 --   splitAnswer ..           15, 1 to 6, 10, 11 in this order
-use mathlib.Core.Bool.{Bool, true, false, _&&_}
+use mathlib.Core.Bool.{true, false, _&&_}
 use mathlib.Core.List.{List, [], _∷_, _++_, map, flatMap}
 use Prim.Native.Nat.{ℕ, suc, _+_, _*_}
 use lib.Dec.{ltb, leb}
-use lib.ListN.{length, getD, take, drop, replicate}
+use lib.ListN.{length, getD, drop, replicate}
 use lib.IntN.{ℤ}
 use Rattle.base.specs.Bools.{one-if}
 use Rattle.base.specs.Fours.{fours}
@@ -19,29 +19,37 @@ use Rattle.base.specs.declared.Answer.the-variants.{Accepted, Refused}
 use Rattle.mesh.specs.Coarse.{cornerCount}
 use Rattle.mesh.specs.Table.{levelsOf}
 use Rattle.mesh.specs.Answers.{tableAnswer}
+use Rattle.mesh.specs.Layout.{edgeNumbers}
+use Rattle.lineage.specs.Olds.{firstChild}
 use Rattle.parts.specs.Owners.{nthCell, familyOf, ownersb}
 use Rattle.parts.specs.Held.{masterb}
 use Rattle.store.specs.Fields.{full, CODE}
 use Rattle.store.specs.declared.Place.{Place}
 use Rattle.store.specs.Places.{placeOf}
-use Rattle.split.specs.Columns.{sixEdges, cellsBelow, slotsBelow, slotOf, firstChild, innerBits, holdsCell, holdsSlot, holdersOf}
+use Rattle.store.specs.Stores.{storeIn}
+use Rattle.split.specs.Columns.{cellsBelow, slotsBelow, slotOf, innerBits, holdsCell, holdsSlot, holdersOf}
 
 module _ (n : ℕ) (qs : List (List ℕ)) (ss : List ℕ) (P : ℕ) (os : List ℕ) (p : ℕ) where
+  -- Rule 15.3: of other cells a part knows nothing
   unfoldable pub byCell : (ℕ → ℕ) → List ℕ
   unfolding holdsCell range
   byCell f = map (λ c. elim (ltb c (length ss) && holdsCell n qs ss os p c) [ true ↦ f c | false ↦ 0 ]) (range 0 4096)
 
-  abbrev pub placeBy : ℕ → Place
-  placeBy c = placeOf (nthCell n qs ss c .path)
+  -- Rule 3.3.
+  abbrev pub placeAlong : ℕ → Place
+  placeAlong c = placeOf (nthCell n qs ss c .path)
 
+  -- Rule 5.4.
   unfoldable pub sixOf : ℕ → List ℕ
   unfolding holdsCell slotOf
-  sixOf c = elim (ltb c (length ss) && holdsCell n qs ss os p c) [ true ↦ map (slotOf n qs ss c) sixEdges | false ↦ replicate 6 0 ]
+  sixOf c = elim (ltb c (length ss) && holdsCell n qs ss os p c) [ true ↦ map (slotOf n qs ss c) edgeNumbers | false ↦ replicate 6 0 ]
 
+  -- Rule 15.5.
   unfoldable pub fourOf : ℕ → List ℕ
   unfolding masterb
   fourOf i = elim (ltb i (length qs) && masterb os p i) [ true ↦ getD qs i [] | false ↦ replicate 4 0 ]
 
+  -- Rule 15.2.
   unfoldable pub holdersAt : ℕ → ℕ
   unfolding holdsSlot holdersOf
   holdersAt s = elim (holdsSlot n qs ss os p s) [ true ↦ holdersOf n qs ss os s | false ↦ 0 ]
@@ -54,17 +62,17 @@ module _ (n : ℕ) (qs : List (List ℕ)) (ss : List ℕ) (P : ℕ) (os : List �
       ++ map (cellsBelow n qs ss) (range 0 12) ++ map (slotsBelow n qs ss) (range 0 12) ++ replicate 72 0
       ++ byCell (λ c. getD os c 0) ++ byCell (familyOf n qs ss os)
       ++ byCell (λ c. getD ss c 0) ++ byCell (λ c. one-if (nthCell n qs ss c .regular))
-      ++ byCell (firstChild n qs ss) ++ byCell (λ c. nthCell n qs ss c .parent)
-      ++ byCell (λ c. placeBy c .head) ++ byCell (λ c. placeBy c .digits) ++ byCell (λ c. placeBy c .more)
+      ++ byCell (firstChild (length qs) ss) ++ byCell (λ c. nthCell n qs ss c .parent)
+      ++ byCell (λ c. placeAlong c .head) ++ byCell (λ c. placeAlong c .digits) ++ byCell (λ c. placeAlong c .more)
       ++ byCell (innerBits n qs ss) ++ replicate 8192 0
       ++ flatMap fourOf (range 0 256) ++ flatMap sixOf (range 0 4096)
       ++ map holdersAt (range 0 24576) ++ replicate 24576 0
 
 -- Rule 15.5.
 unfoldable pub storesAfter : ℕ → List (List ℕ) → List ℕ → ℕ → List ℕ → List ℕ → List ℕ
-unfolding partStore range flatMap
+unfolding partStore storeIn range flatMap
 storesAfter n qs ss P os b =
-    flatMap (λ j. partStore n qs ss P os (suc j) ++ drop CODE (take full (drop (full * j) b))) (range 0 P) ++ drop (full * P) b
+    flatMap (λ j. partStore n qs ss P os (suc j) ++ drop CODE (storeIn b j)) (range 0 P) ++ drop (full * P) b
 
 -- Rule 15.14.
 unfoldable pub splitAnswer : List ℤ → List ℕ → List ℕ → ℕ → List ℕ → List ℕ → Answer
@@ -73,6 +81,7 @@ splitAnswer ps ts ss P os b =
     refuse 15 (leb (16 * full) (length b)) (andThen (tableAnswer ps ts ss)
     (refuse 10 (leb 1 P && leb P 16) (refuse 11 (ownersb (cornerCount ps) (fours ts) ss P os) Accepted)))
 
+-- Rule 15.5: a refused call changes nothing
 unfoldable pub splitIn : Answer → List ℕ → List ℕ → List ℕ
 splitIn Accepted new old = new
 splitIn (Refused k) new old = old

@@ -3,9 +3,8 @@
 --   Fours qs                 each of qs has four numbers
 --   ifHeld .. os p f c       f c where the part p holds the cell c, else 0
 --   Stored .. P os p x       x is the store of the part p: each line of the layout
---   storeAt b j              the store with the number j, from 0, in the table b
--- Laws: held-is, not-held and no-cell (ifHeld opened), fours-four, store-length, stored-front (a list that begins with a store's numbers),
--- stores-length, store-cut (the table after a split, store by store), stored-split (the stores of the parts 1 to P are Stored),
+-- Laws: when-held, not-held (ifHeld opened), fours-long, store-length, stored-front (a list that begins with a store's numbers),
+-- store-cut (the table after a split, store by store), stored-split (the stores of the parts 1 to P are Stored),
 -- stores-behind (what stands behind them is as it was), rest-kept (each store's entries and places are as they were).
 use mathlib.Core.Path.{_≡_, refl, sym, _∙_, ap, ap₂}
 use mathlib.Core.Bool.{Bool, true, false, _&&_}
@@ -13,23 +12,28 @@ use mathlib.Core.List.{List, [], _∷_, _++_, map, flatMap, append-assoc, append
 use Prim.Native.Nat.{ℕ, zero, suc, _+_, _*_, _-_, _≤_, _<_}
 use native.Mathlib.Omega.{arith}
 use lib.Dec.{ltb}
-use lib.ListN.{length, getD, take, drop, replicate, length-append, length-map, length-take, length-drop, length-replicate, getD-replicate}
+use lib.ListN.{length, getD, take, drop, replicate, length-append, length-map, length-drop, length-replicate, getD-replicate}
 use lib.ListN.{List·getD-append}
 use lib.Seq.{getD-drop, getD-take, drop-at, take-at, drop-append-add, drop-append-le, take-append-le, length-take-le, getD-append-add}
 use lib.Seq.{ext-getD}
-use borrow.Author.Tests.{lt-ltb, le-ltb, ltb-true}
+use borrow.Author.Tests.{lt-ltb, ltb-true}
 use Rattle.base.specs.Bools.{one-if}
 use Rattle.base.specs.Fours.{fours}
 use Rattle.base.specs.Range.{range, length-range}
+use Rattle.base.specs.Every.{all-at}
 use Rattle.mesh.specs.Table.{levelsOf}
+use Rattle.mesh.specs.Layout.{edgeNumbers}
+use Rattle.lattice.specs.Levels.{fours-four}
+use Rattle.lineage.specs.Olds.{firstChild}
 use Rattle.parts.specs.Owners.{nthCell, familyOf}
 use Rattle.parts.specs.Held.{masterb}
 use Rattle.store.specs.Places.{placeOf}
 use Rattle.store.specs.Fields.{full, field, STAGE, PART, PARTS, CORNERS, COARSE, CELLS, LEVELS, ROUND, RESULT, ENTRIES, TOTAL, HIGH, CURSOR}
 use Rattle.store.specs.Fields.{BIT, WRITTEN, FIRST-CELL, FIRST-SLOT, TAKEN, ENDED, GIVEN, OWNER, FAMILY, STATUS, REGULAR, CHILD, PARENT}
 use Rattle.store.specs.Fields.{HEAD, DIGITS, MORE, INNER, MARK, RED, CORNER, SLOT, HOLDERS, SUM, CODE}
-use Rattle.split.specs.Columns.{sixEdges, cellsBelow, slotsBelow, slotOf, firstChild, innerBits, holdsCell}
-use Rattle.split.specs.Split.{byCell, placeBy, sixOf, fourOf, holdersAt, partStore, storesAfter}
+use Rattle.store.specs.Stores.{storeIn, rest-size}
+use Rattle.split.specs.Columns.{cellsBelow, slotsBelow, slotOf, innerBits, holdsCell}
+use Rattle.split.specs.Split.{byCell, sixOf, fourOf, holdersAt, partStore, storesAfter}
 
 -- what f gives for numbers in a row
 map-at : (f : ℕ → ℕ) (k m i : ℕ) → i < m → getD (map f (range k m)) i 0 ≡ f (k + i)
@@ -118,23 +122,18 @@ regroup a b c d e f g h i j k l m n o p q r s = simp (append-assoc, append-nil)
 abbrev pub Fours : List (List ℕ) → Type 0
 Fours qs = (i : ℕ) → i < length qs → length (getD qs i []) ≡ 4
 
-pub fours-four : (ts : List ℕ) (i : ℕ) → i < length (fours ts) → length (getD (fours ts) i []) ≡ 4
-unfolding fours
-fours-four [] i h = absurd (omega arith)
-fours-four (a ∷ []) i h = absurd (omega arith)
-fours-four (a ∷ b ∷ []) i h = absurd (omega arith)
-fours-four (a ∷ b ∷ c ∷ []) i h = absurd (omega arith)
-fours-four (a ∷ b ∷ c ∷ d ∷ l) zero h = refl
-fours-four (a ∷ b ∷ c ∷ d ∷ l) (suc i) h = fours-four l i (omega arith)
+pub fours-long : (ts : List ℕ) → Fours (fours ts)
+fours-long ts = all-at (λ q. length q ≡ 4) [] (fours ts) (fours-four ts)
 
 module _ (n : ℕ) (qs : List (List ℕ)) (ss os : List ℕ) (p : ℕ) where
+  -- Rule 15.3.
   unfoldable pub ifHeld : (ℕ → ℕ) → ℕ → ℕ
   unfolding holdsCell
   ifHeld f c = elim (ltb c (length ss) && holdsCell n qs ss os p c) [ true ↦ f c | false ↦ 0 ]
 
-  pub held-is : (f : ℕ → ℕ) (c : ℕ) → c < length ss → holdsCell n qs ss os p c ≡ true → ifHeld f c ≡ f c
+  pub when-held : (f : ℕ → ℕ) (c : ℕ) → c < length ss → holdsCell n qs ss os p c ≡ true → ifHeld f c ≡ f c
   unfolding ifHeld
-  held-is f c h e = rw (lt-ltb c (length ss) h, e, ifHeld)
+  when-held f c h e = rw (lt-ltb c (length ss) h, e, ifHeld)
 
   pub not-held : (f : ℕ → ℕ) (c : ℕ) → holdsCell n qs ss os p c ≡ false → ifHeld f c ≡ 0
   unfolding ifHeld
@@ -144,10 +143,7 @@ module _ (n : ℕ) (qs : List (List ℕ)) (ss os : List ℕ) (p : ℕ) where
       go true d = rw (d, e, ifHeld)
       go false d = rw (d, ifHeld)
 
-  pub no-cell : (f : ℕ → ℕ) (c : ℕ) → length ss ≤ c → ifHeld f c ≡ 0
-  unfolding ifHeld
-  no-cell f c h = rw (le-ltb c (length ss) h, ifHeld)
-
+-- Rule 15.5.
 pub record Stored (n : ℕ) (qs : List (List ℕ)) (ss : List ℕ) (P : ℕ) (os : List ℕ) (p : ℕ) (x : List ℕ) : Type 0 where
   pub size : length x ≡ full
   pub stage : field x STAGE ≡ 0
@@ -174,7 +170,7 @@ pub record Stored (n : ℕ) (qs : List (List ℕ)) (ss : List ℕ) (P : ℕ) (os
   pub family : (c : ℕ) → c < 4096 → field x (FAMILY + c) ≡ ifHeld n qs ss os p (familyOf n qs ss os) c
   pub status : (c : ℕ) → c < 4096 → field x (STATUS + c) ≡ ifHeld n qs ss os p (λ c. getD ss c 0) c
   pub regular : (c : ℕ) → c < 4096 → field x (REGULAR + c) ≡ ifHeld n qs ss os p (λ c. one-if (nthCell n qs ss c .regular)) c
-  pub child : (c : ℕ) → c < 4096 → field x (CHILD + c) ≡ ifHeld n qs ss os p (firstChild n qs ss) c
+  pub child : (c : ℕ) → c < 4096 → field x (CHILD + c) ≡ ifHeld n qs ss os p (firstChild (length qs) ss) c
   pub parent : (c : ℕ) → c < 4096 → field x (PARENT + c) ≡ ifHeld n qs ss os p (λ c. nthCell n qs ss c .parent) c
   pub head : (c : ℕ) → c < 4096 → field x (HEAD + c) ≡ ifHeld n qs ss os p (λ c. placeOf (nthCell n qs ss c .path) .head) c
   pub digits : (c : ℕ) → c < 4096 → field x (DIGITS + c) ≡ ifHeld n qs ss os p (λ c. placeOf (nthCell n qs ss c .path) .digits) c
@@ -208,7 +204,7 @@ module _ (n : ℕ) (qs : List (List ℕ)) (ss : List ℕ) (P : ℕ) (os : List �
       ∷ map (cellsBelow n qs ss) (range 0 12) ∷ map (slotsBelow n qs ss) (range 0 12) ∷ replicate 72 0
       ∷ column (λ c. getD os c 0) ∷ column (familyOf n qs ss os)
       ∷ column (λ c. getD ss c 0) ∷ column (λ c. one-if (nthCell n qs ss c .regular))
-      ∷ column (firstChild n qs ss) ∷ column (λ c. nthCell n qs ss c .parent)
+      ∷ column (firstChild (length qs) ss) ∷ column (λ c. nthCell n qs ss c .parent)
       ∷ column (λ c. placeOf (nthCell n qs ss c .path) .head) ∷ column (λ c. placeOf (nthCell n qs ss c .path) .digits)
       ∷ column (λ c. placeOf (nthCell n qs ss c .path) .more)
       ∷ column (innerBits n qs ss) ∷ replicate 8192 0
@@ -222,7 +218,7 @@ module _ (n : ℕ) (qs : List (List ℕ)) (ss : List ℕ) (P : ℕ) (os : List �
       (map (cellsBelow n qs ss) (range 0 12)) (map (slotsBelow n qs ss) (range 0 12)) (replicate 72 0)
       (column (λ c. getD os c 0)) (column (familyOf n qs ss os))
       (column (λ c. getD ss c 0)) (column (λ c. one-if (nthCell n qs ss c .regular)))
-      (column (firstChild n qs ss)) (column (λ c. nthCell n qs ss c .parent))
+      (column (firstChild (length qs) ss)) (column (λ c. nthCell n qs ss c .parent))
       (column (λ c. placeOf (nthCell n qs ss c .path) .head)) (column (λ c. placeOf (nthCell n qs ss c .path) .digits))
       (column (λ c. placeOf (nthCell n qs ss c .path) .more))
       (column (innerBits n qs ss)) (replicate 8192 0)
@@ -252,7 +248,7 @@ module _ (n : ℕ) (qs : List (List ℕ)) (ss : List ℕ) (P : ℕ) (os : List �
   unfolding sixOf ifHeld
   six-at c e h = go (ltb c (length ss) && holdsCell n qs ss os p c) refl
     where
-      at : (e : ℕ) → e < 6 → getD (map (slotOf n qs ss c) sixEdges) e 0 ≡ slotOf n qs ss c e
+      at : (e : ℕ) → e < 6 → getD (map (slotOf n qs ss c) edgeNumbers) e 0 ≡ slotOf n qs ss c e
       at zero h = refl
       at (suc zero) h = refl
       at (suc (suc zero)) h = refl
@@ -293,7 +289,7 @@ module _ (n : ℕ) (qs : List (List ℕ)) (ss : List ℕ) (P : ℕ) (os : List �
                 (
                   column-size (λ c. one-if (nthCell n qs ss c .regular)),
                   (
-                    column-size (firstChild n qs ss),
+                    column-size (firstChild (length qs) ss),
                     (
                       column-size (λ c. nthCell n qs ss c .parent),
                       (
@@ -379,7 +375,7 @@ module _ (n : ℕ) (qs : List (List ℕ)) (ss : List ℕ) (P : ℕ) (os : List �
           family = λ c h. col 5 c h (familyOf n qs ss os) refl refl;
           status = λ c h. col 6 c h (λ c. getD ss c 0) refl refl;
           regular = λ c h. col 7 c h (λ c. one-if (nthCell n qs ss c .regular)) refl refl;
-          child = λ c h. col 8 c h (firstChild n qs ss) refl refl;
+          child = λ c h. col 8 c h (firstChild (length qs) ss) refl refl;
           parent = λ c h. col 9 c h (λ c. nthCell n qs ss c .parent) refl refl;
           head = λ c h. col 10 c h (λ c. placeOf (nthCell n qs ss c .path) .head) refl refl;
           digits = λ c h. col 11 c h (λ c. placeOf (nthCell n qs ss c .path) .digits) refl refl;
@@ -414,47 +410,33 @@ module _ (n : ℕ) (qs : List (List ℕ)) (ss : List ℕ) (P : ℕ) (os : List �
             getD-take 4 (drop (CORNER + 4 * i) x) k 0 v ∙ getD-drop (CORNER + 4 * i) x k 0 ∙ ap (field x) z
             ∙ line 15 (4 * i + k) (omega arith) ∙ flat-field (fourOf n qs ss P os p) 4 256 (λ i h. four-size q i) i k h v)
 
-rest-size : (w k i : ℕ) (b : List ℕ) → i + w ≤ length b → length (drop k (take w (drop i b))) ≡ w - k
-rest-size w k i b h =
-    let t : length (take w (drop i b)) ≡ w = length-take-le w (drop i b) (simp length-drop (omega arith)) in
-    length-drop k (take w (drop i b)) ∙ ap (λ (m : ℕ). m - k) t
-
--- the store with the number j, from 0
-abbrev pub storeAt : List ℕ → ℕ → List ℕ
-storeAt b j = take full (drop (full * j) b)
-
 module _ (n : ℕ) (qs : List (List ℕ)) (ss : List ℕ) (P : ℕ) (os b : List ℕ) (q : Fours qs) (few : P ≤ 16) (room : 16 * full ≤ length b)
   where
     new : ℕ → List ℕ
-    new j = partStore n qs ss P os (suc j) ++ drop CODE (storeAt b j)
+    new j = partStore n qs ss P os (suc j) ++ drop CODE (storeIn b j)
 
     after-is : storesAfter n qs ss P os b ≡ flatMap new (range 0 P) ++ drop (full * P) b
     unfolding storesAfter new
     after-is = refl
 
-    rest-length : (j : ℕ) → j < P → length (drop CODE (storeAt b j)) ≡ full - CODE
-    rest-length j h = rest-size full CODE (full * j) b (omega arith)
+    rest-length : (j : ℕ) → j < P → length (drop CODE (storeIn b j)) ≡ full - CODE
+    rest-length j h = rest-size b j CODE (omega arith)
 
     new-length : (j : ℕ) → j < P → length (new j) ≡ full
     unfolding new
     new-length j h =
-        length-append (partStore n qs ss P os (suc j)) (drop CODE (storeAt b j))
+        length-append (partStore n qs ss P os (suc j)) (drop CODE (storeIn b j))
         ∙ ap₂ _+_ (store-length n qs ss P os (suc j) q) (rest-length j h)
 
     all-length : length (flatMap new (range 0 P)) ≡ full * P
     all-length = flat-length new full P new-length 0 P (omega arith)
 
-    pub stores-length : length (storesAfter n qs ss P os b) ≡ length b
-    stores-length =
-        ap length after-is ∙ length-append (flatMap new (range 0 P)) (drop (full * P) b)
-        ∙ omega (arith, all-length, length-drop (full * P) b)
-
     pub stores-behind : drop (full * P) (storesAfter n qs ss P os b) ≡ drop (full * P) b
     stores-behind = ap (drop (full * P)) after-is ∙ drop-at (flatMap new (range 0 P)) (drop (full * P) b) (full * P) all-length
 
     pub store-cut : (j : ℕ) → j < P
-        → storeAt (storesAfter n qs ss P os b) j ≡ partStore n qs ss P os (suc j) ++ drop CODE (storeAt b j)
-    unfolding new
+        → storeIn (storesAfter n qs ss P os b) j ≡ partStore n qs ss P os (suc j) ++ drop CODE (storeIn b j)
+    unfolding new storeIn
     store-cut j h =
         let a = flatMap new (range 0 P) in
         let l : length (flatMap new (range 0 P)) ≡ full * P = all-length in
@@ -465,12 +447,12 @@ module _ (n : ℕ) (qs : List (List ℕ)) (ss : List ℕ) (P : ℕ) (os b : List
         ∙ take-append-le full (drop (full * j) a) (drop (full * P) b) (omega arith)
         ∙ flat-part new full P new-length P j (omega arith) h
 
-    pub stored-split : (j : ℕ) → j < P → Stored n qs ss P os (suc j) (storeAt (storesAfter n qs ss P os b) j)
+    pub stored-split : (j : ℕ) → j < P → Stored n qs ss P os (suc j) (storeIn (storesAfter n qs ss P os b) j)
     stored-split j h =
-        stored-front n qs ss P os (suc j) q (storeAt (storesAfter n qs ss P os b) j) (drop CODE (storeAt b j)) (store-cut j h)
+        stored-front n qs ss P os (suc j) q (storeIn (storesAfter n qs ss P os b) j) (drop CODE (storeIn b j)) (store-cut j h)
         (rest-length j h)
 
-    pub rest-kept : (j : ℕ) → j < P → drop CODE (storeAt (storesAfter n qs ss P os b) j) ≡ drop CODE (storeAt b j)
+    pub rest-kept : (j : ℕ) → j < P → drop CODE (storeIn (storesAfter n qs ss P os b) j) ≡ drop CODE (storeIn b j)
     rest-kept j h =
         ap (drop CODE) (store-cut j h)
-        ∙ drop-at (partStore n qs ss P os (suc j)) (drop CODE (storeAt b j)) CODE (store-length n qs ss P os (suc j) q)
+        ∙ drop-at (partStore n qs ss P os (suc j)) (drop CODE (storeIn b j)) CODE (store-length n qs ss P os (suc j) q)

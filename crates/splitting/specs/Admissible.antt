@@ -19,6 +19,7 @@ use Rattle.parts.specs.Held.{masterb, ghostb}
 use Rattle.splitting.specs.Split.{owners-fit}
 
 module _ (n : ℕ) (qs : List (List ℕ)) (ss : List ℕ) (P : ℕ) (os : List ℕ) where
+  -- Rule 15.2.
   pub record Admissible : Type 0 where
     -- masters and ghosts of a part are apart
     pub A1 : (p c : ℕ) → T (masterb os p c) → T (ghostb n qs ss os p c) → ⊥

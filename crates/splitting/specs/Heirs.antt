@@ -48,14 +48,14 @@ module _ (n : ℕ) (qs : List (List ℕ)) (ss os : List ℕ) where
   owner-snoc (c ∷ r) i h = down-snoc (c ∷ []) (getD os c 0) r i
 
 -- the coarse cell of a path
-pub record Under (l : List ℕ) (m : ℕ) : Type 0 where
+record Under (l : List ℕ) (m : ℕ) : Type 0 where
   pub c : ℕ
   pub r : List ℕ
   pub is : l ≡ c ∷ r
   pub below : c < m
 
 module _ (n : ℕ) (qs : List (List ℕ)) (ts : List ℕ) where
-  pub under : (k t : ℕ) → t < length (lv n qs ts k .cells) → Under (pathAt (lv n qs ts k .cells) t) (length qs)
+  under : (k t : ℕ) → t < length (lv n qs ts k .cells) → Under (pathAt (lv n qs ts k .cells) t) (length qs)
   under zero t h =
       let e : lv n qs ts 0 .cells ≡ coarseCells n qs = old-coarse n qs ts [] in
       let g : t < length qs = omega (arith, ap length e, length-coarse n qs) in
@@ -83,7 +83,7 @@ module _ (n : ℕ) (qs : List (List ℕ)) (ss os ts : List ℕ) (u : Sound n qs 
   abbrev own : List ℕ → ℕ
   own = ownerAfter n qs ss os
 
-  pub heirs-many : length os' ≡ length ts
+  heirs-many : length os' ≡ length ts
   unfolding ownersAfter
   heirs-many = length-map (cellsOf (levelsOf n qs ts)) (λ (c : Cell Point). own (c .path)) ∙ sym (u .many)
 
@@ -97,7 +97,7 @@ module _ (n : ℕ) (qs : List (List ℕ)) (ss os ts : List ℕ) (u : Sound n qs 
       let a = at-level n qs ts u k t h in
       heir-number (lv n qs ts k .first + t) (a .inside) ∙ ap (λ (c : Cell Point). own (c .path)) (a .cell-is)
 
-  pub heir-child : (c d : ℕ) → c < length ts → Member d (childrenOf n qs ts c)
+  heir-child : (c d : ℕ) → c < length ts → Member d (childrenOf n qs ts c)
       → getD os' d 0 ≡ familyAfter n qs ss os (nthCell n qs ts c .path) (getD os' c 0)
   heir-child c d h m =
       let (k, mc) = level-at n qs ts u c h in

@@ -16,13 +16,12 @@ use Rattle.base.specs.Bools.{is-true}
 use Rattle.base.specs.Places.{Same, hasb, placeIn, has-below, place-there}
 use Rattle.base.specs.Range.{range, member-range, range-member}
 use Rattle.mesh.specs.Cells.{edge, joinsb}
+use Rattle.mesh.specs.Layout.{edgeNumbers}
 use Rattle.soundness.specs.Sound.{Sound}
 use Rattle.rounds.specs.Tests.{Member, same-test}
-use Rattle.rounds.specs.Task.{sixEdges}
 use Rattle.parts.specs.Owners.{nthCell}
-use Rattle.splitting.specs.Numbers.{numbersOf}
+use Rattle.splitting.specs.Numbers.{numbersOf, level-of}
 use Rattle.splitting.specs.Split.{Slots}
-use Rattle.splitting.specs.Slots.{level-of}
 
 module _ (n : ℕ) (qs : List (List ℕ)) (ss : List ℕ) {A : Type 0} (same : A → A → Bool) (keys : ℕ → List A) (base : ℕ → ℕ)
     (key : ℕ → ℕ → A) where
@@ -35,8 +34,9 @@ module _ (n : ℕ) (qs : List (List ℕ)) (ss : List ℕ) {A : Type 0} (same : A
   keyedSlots k = range (base k) (length (keys k))
 
   module _ (s : Sound n qs ss) (o : A) (equal : Same same) (follows : (k : ℕ) → base (suc k) ≡ base k + length (keys k))
-      (has : (k c e : ℕ) → Member c (numbersOf n qs ss k) → Member e sixEdges → hasb same (keys k) (key c e) ≡ true)
-      (means : (k c d e f : ℕ) → Member c (numbersOf n qs ss k) → Member d (numbersOf n qs ss k) → Member e sixEdges → Member f sixEdges
+      (has : (k c e : ℕ) → Member c (numbersOf n qs ss k) → Member e edgeNumbers → hasb same (keys k) (key c e) ≡ true)
+      (means : (k c d e f : ℕ) → Member c (numbersOf n qs ss k) → Member d (numbersOf n qs ss k) → Member e edgeNumbers
+      → Member f edgeNumbers
       → same (key d f) (key c e) ≡ joinsb sameb (edge [] (nthCell n qs ss c) e) (edge [] (nthCell n qs ss d) f)) where
     slot-at : (k c e : ℕ) → Member c (numbersOf n qs ss k) → keyedSlot c e ≡ base k + placeIn same (keys k) (key c e)
     unfolding keyedSlot
@@ -57,8 +57,8 @@ module _ (n : ℕ) (qs : List (List ℕ)) (ss : List ℕ) {A : Type 0} (same : A
         let w : base j + length (keys j) ≤ base k = rw z at (behind j (k - suc j)) in
         omega arith
 
-    same-place : (k c d e f : ℕ) → Member c (numbersOf n qs ss k) → Member d (numbersOf n qs ss k) → Member e sixEdges → Member f sixEdges
-        → placeIn same (keys k) (key d f) ≡ placeIn same (keys k) (key c e) → key d f ≡ key c e
+    same-place : (k c d e f : ℕ) → Member c (numbersOf n qs ss k) → Member d (numbersOf n qs ss k) → Member e edgeNumbers
+        → Member f edgeNumbers → placeIn same (keys k) (key d f) ≡ placeIn same (keys k) (key c e) → key d f ≡ key c e
     same-place k c d e f m q b g w =
         sym (place-there same o equal (keys k) (key d f) (has k d f q g)) ∙ ap (λ (x : ℕ). getD (keys k) x o) w
         ∙ place-there same o equal (keys k) (key c e) (has k c e m b)

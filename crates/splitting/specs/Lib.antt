@@ -2,10 +2,8 @@ pub mod Members
 pub mod Numbers
 pub mod Paths
 pub mod Split
-pub mod Slots
 pub mod Admissible
 pub mod Heirs
 pub mod Starts
 pub mod Keyed
 pub mod Small
-pub mod Digits

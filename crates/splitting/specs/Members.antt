@@ -15,8 +15,8 @@ use Rattle.base.specs.Lists.{allb, anyb, filterb, memberb}
 use Rattle.base.specs.Bools.{and-left, and-right, and-both}
 use Rattle.base.specs.Every.{below-at}
 use Rattle.rounds.specs.Tests.{Member, same-test, member-head, member-tail, member-cases, any-member, member-any}
-use Rattle.rounds.specs.Task.{sixEdges}
 use Rattle.parts.specs.Owners.{firstOr}
+use Rattle.mesh.specs.Layout.{edgeNumbers}
 
 pub all-member : (f : ℕ → Bool) (l : List ℕ) → T (allb f l) → (x : ℕ) → Member x l → T (f x)
 unfolding allb memberb
@@ -83,15 +83,15 @@ module _ {A : Type 0} (f : ℕ → A) (a : A) where
   first-none [] h = refl
   first-none (x ∷ l) h = absurd (h x (member-head x l))
 
-pub below-six : (e : ℕ) → e < 6 → Member e sixEdges
+pub below-six : (e : ℕ) → e < 6 → Member e edgeNumbers
 unfolding memberb
-below-six e h = below-at (λ e. Member e sixEdges) 6 ((((((tt, tt), tt), tt), tt), tt), tt) e h
+below-six e h = below-at (λ e. Member e edgeNumbers) 6 ((((((tt, tt), tt), tt), tt), tt), tt) e h
 
-pub six-below : (e : ℕ) → Member e sixEdges → e < 6
+pub six-below : (e : ℕ) → Member e edgeNumbers → e < 6
 unfolding memberb
 six-below e m = elim (decLt e 6) [ yes h ↦ h | no h ↦ absurd (beyond h m) ]
   where
-    beyond : (e < 6 → ⊥) → Member e sixEdges → ⊥
+    beyond : (e < 6 → ⊥) → Member e edgeNumbers → ⊥
     beyond h t =
         rw (
           ne-eqb e 0 (λ q. h (omega arith)),

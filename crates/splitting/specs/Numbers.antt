@@ -4,13 +4,13 @@
 --   At k t             what the number of the place t of level k stands for
 --   Stands k c         the place of the cell c of level k
 --   Kid k c d          d is a child of the cell c of level k
--- Laws: first-zero (the coarse cells come first), at-level, stands, number-inside, level-at (numbers and places), one-level (each cell has
--- one level), kid and kid-in (children stand one level up and have a refined parent), kid-some (a refined cell has one), row-of-cell and
--- rows-numbers (the rows of a level).
+-- Laws: first-zero (the coarse cells come first), at-level, stands, number-inside, level-at (numbers and places), one-level, level-of (each
+-- cell has one level), kid and kid-in (children stand one level up and have a refined parent), kid-some (a refined cell has one),
+-- row-of-cell and rows-numbers (the rows of a level).
 use mathlib.Core.Path.{_≡_, sym, _∙_, ap, ap₂, subst}
 use mathlib.Core.Logic.{_≢_}
 use mathlib.Core.List.{List, [], map}
-use Prim.Native.Nat.{ℕ, zero, suc, _+_, _-_, _≤_, _<_}
+use Prim.Native.Nat.{ℕ, zero, suc, pred, _+_, _-_, _≤_, _<_}
 use native.Mathlib.Decide.{decLt}
 use native.Mathlib.Omega.{arith}
 use lib.Dec.{eqb, eqb→eq}
@@ -35,6 +35,7 @@ use Rattle.soundness.specs.Sound.{Sound, lv, level-closed, level-next, level-th
 use Rattle.soundness.specs.Whole.{spot-at, spot-with}
 use Rattle.rounds.specs.Tests.{Member, filtered-member, member-filtered}
 use Rattle.parts.specs.Owners.{nthCell, childrenOf}
+use Rattle.splitting.specs.Paths.{path-length}
 
 pub first-zero : (n : ℕ) (qs : List (List ℕ)) (ss : List ℕ) → 0 < length (levelsOf n qs ss) → lv n qs ss 0 .first ≡ 0
 unfolding levelsOf
@@ -113,6 +114,14 @@ module _ (n : ℕ) (qs : List (List ℕ)) (ss : List ℕ) where
         let w = behind j (k - suc j) (rw z top) in
         let w' : lv n qs ss j .first + length (lv n qs ss j .cells) ≤ lv n qs ss k .first = rw z at w in
         omega (arith, x .number, x .below, y .number)
+
+    -- a cell's level, by its path
+    pub level-of : (k c : ℕ) → Member c (numbersOf k) → pred (length (cell c .path)) ≡ k
+    level-of k c m =
+        let p = stands k c m in
+        let a = at-level k (p .t) (p .below) in
+        ap pred (ap (λ (x : ℕ). length (cell x .path)) (p .number) ∙ ap (λ (c : Cell Point). length (c .path)) (a .cell-is)
+        ∙ path-length n qs ss k (p .t) (p .below))
 
     pub one-level : (j k c : ℕ) → Member c (numbersOf j) → Member c (numbersOf k) → j ≡ k
     one-level j k c a b =

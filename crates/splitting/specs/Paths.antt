@@ -52,7 +52,7 @@ module _ (n : ℕ) (qs : List (List ℕ)) (ss : List ℕ) where
       subst Paths (sym (level-next n qs ss k (omega arith)))
       (paths-next (lv n qs ss k .first) (cellsAt k) (lv n qs ss k .statuses) (paths-below k (omega arith)))
 
-  pub level-paths : (k : ℕ) → Paths (cellsAt k)
+  level-paths : (k : ℕ) → Paths (cellsAt k)
   level-paths k t u ht hu e = paths-below k (level-below k t ht) t u ht hu e
 
   pub one-place : (j t k u : ℕ) → t < length (cellsAt j) → u < length (cellsAt k) → pathAt (cellsAt j) t ≡ pathAt (cellsAt k) u

@@ -1,5 +1,5 @@
 -- The task of a split table is small: eleven levels, as many cells as the table, and at most six slots for each.
--- Laws: slots-six (the slots of `Slots` are so many), small-task (the theorem, for the bound on the calls).
+-- Law: small-task, for the bound on the calls.
 use mathlib.Core.Path.{_≡_, refl, _∙_, ap}
 use mathlib.Core.List.{List}
 use Prim.Native.Nat.{ℕ, zero, suc, _+_, _-_, _*_, _≤_, _<_, pred}
@@ -17,7 +17,6 @@ use Rattle.exchange.specs.Finite.{Finite}
 use Rattle.rounds.specs.Bound.{sumTo, SmallTask}
 use Rattle.splitting.specs.Numbers.{first-zero, numbersOf, at-level}
 use Rattle.splitting.specs.Split.{taskOf}
-use Rattle.splitting.specs.Slots.{slotsAt}
 
 sum-six : (f g : ℕ → ℕ) → ((k : ℕ) → f k ≤ 6 * g k) → (m : ℕ) → sumTo f m ≤ 6 * sumTo g m
 unfolding sumTo
@@ -103,8 +102,3 @@ module _ (n : ℕ) (qs : List (List ℕ)) (ss : List ℕ) (s : Sound n qs ss) wh
         low : (m : ℕ) → m ≤ 11 → pred m ≤ 10
         low zero h = omega arith
         low (suc m) h = omega arith
-
--- the slots of `Slots`
-pub slots-six : (n : ℕ) (qs : List (List ℕ)) (ss : List ℕ) (k : ℕ) → length (slotsAt n qs ss k) ≤ 6 * length (lv n qs ss k .cells)
-unfolding slotsAt
-slots-six n qs ss k = omega (arith, length-range (6 * lv n qs ss k .first) (6 * length (lv n qs ss k .cells)))

@@ -14,7 +14,7 @@ use Prim.Native.Nat.{ℕ, zero, suc, _-_, _≤_, _<_, pred}
 use native.Mathlib.Nat.{suc-pred-eq-of-pos}
 use native.Mathlib.Omega.{arith}
 use lib.Dec.{T, eqb, eqb→eq, leb}
-use lib.ListN.{length, getD, drop, drop-of-length-le}
+use lib.ListN.{length, getD, drop}
 use lib.Seq.{drop-cons}
 use borrow.Author.Tests.{eq-eqb}
 use Rattle.base.specs.Lists.{allb, anyb, filterb, sameb}
@@ -23,28 +23,32 @@ use Rattle.base.specs.Range.{range, range-member}
 use Rattle.mesh.specs.Cells.{edge, edges, joinsb, heldb}
 use Rattle.mesh.specs.Table.{Level, levelsOf}
 use Rattle.mesh.specs.Step.{Row, kids, deletedb, turnedb, newRedb, rowsUp, edgesUp, newReds, redAfterb}
+use Rattle.mesh.specs.Layout.{edgeNumbers}
 use Rattle.lattice.specs.Levels.{noLevel}
 use Rattle.lineage.specs.Stays.{up-rows}
 use Rattle.carriers.specs.Joins.{Edge, held-either, held-first, held-second}
 use Rattle.soundness.specs.Sound.{Sound, level-there}
 use Rattle.rounds.specs.Tests.{Member, same-test, any-agree, all-agree, filtered-member, member-filtered}
-use Rattle.rounds.specs.Task.{Task, Fit, sixEdges, has, idle, pulled, rule, redAt, hitAt}
+use Rattle.rounds.specs.Task.{Task, Fit, has, idle, pulled, rule, redAt, hitAt}
 use Rattle.parts.specs.Owners.{nthCell, childrenOf, familyOf, ownersb}
 use Rattle.splitting.specs.Members.{all-member, first-none, any-members, all-members, filter-map, all-mapped-by, any-mapped-by}
 use Rattle.splitting.specs.Numbers.{numbersOf, rowBy, kid, kid-in, number-inside, one-level, rows-numbers, stands}
 
+-- Rule 7.2.
 abbrev pub newEdges : ℕ → List (List ℕ) → List ℕ → List ℕ → ℕ → List Edge
 newEdges n qs ss ms k = edgesUp (newReds (drop k (levelsOf n qs ss)) ms)
 
 abbrev pub newRedRow : ℕ → List (List ℕ) → List ℕ → List ℕ → ℕ → Row → Bool
 newRedRow n qs ss ms k = newRedb (rowsUp (drop (suc k) (levelsOf n qs ss)) ms) (newEdges n qs ss ms (suc k))
 
+-- Rule 5.4.
 pub record Slots (n : ℕ) (qs : List (List ℕ)) (ss : List ℕ) (slot : ℕ → ℕ → ℕ) (slots : ℕ → List ℕ) : Type 0 where
-  pub there : (k c e : ℕ) → Member c (numbersOf n qs ss k) → Member e sixEdges → Member (slot c e) (slots k)
+  pub there : (k c e : ℕ) → Member c (numbersOf n qs ss k) → Member e edgeNumbers → Member (slot c e) (slots k)
   pub apart : (j k x : ℕ) → Member x (slots j) → Member x (slots k) → j ≡ k
-  pub same : (k c d e f : ℕ) → Member c (numbersOf n qs ss k) → Member d (numbersOf n qs ss k) → Member e sixEdges → Member f sixEdges
+  pub same : (k c d e f : ℕ) → Member c (numbersOf n qs ss k) → Member d (numbersOf n qs ss k) → Member e edgeNumbers → Member f edgeNumbers
       → eqb (slot d f) (slot c e) ≡ joinsb sameb (edge [] (nthCell n qs ss c) e) (edge [] (nthCell n qs ss d) f)
 
+-- Rule 15.1.
 abbrev pub Owners : ℕ → List (List ℕ) → List ℕ → List ℕ → Type 0
 Owners n qs ss os = (c d : ℕ) → c < length ss → Member d (childrenOf n qs ss c) → getD os d 0 ≡ familyOf n qs ss os c
 
@@ -58,6 +62,7 @@ owners-fit n qs ss P os t c d h m =
     eqb→eq (getD os d 0) (familyOf n qs ss os c)
     (all-member (λ d. eqb (getD os d 0) (familyOf n qs ss os c)) (childrenOf n qs ss c) one d m)
 
+-- Rule 7.5.
 unfoldable pub innerOf : ℕ → List (List ℕ) → List ℕ → ℕ → ℕ → Bool
 unfolding heldb edges edge nthCell sameb
 innerOf n qs ss d e =
@@ -90,7 +95,7 @@ module _ (g : ℕ → Row) (f : Row → Bool) (e : Edge) where
       (λ t. ⊎-elim (λ (u : T (heldb sameb es e)). held-first e es fs u) (λ (u : T (heldb sameb fs e)). held-second e es fs u)
       (or-either (heldb sameb es e) (heldb sameb fs e) t))
 
-  pub held-rows : (l : List ℕ) → heldb sameb (flatMap (λ (r : Row). edges [] (r .cell)) (filterb f (map g l))) e ≡ anyb
+  held-rows : (l : List ℕ) → heldb sameb (flatMap (λ (r : Row). edges [] (r .cell)) (filterb f (map g l))) e ≡ anyb
       (λ d. f (g d) && heldb sameb (edges [] (g d .cell)) e) l
   unfolding filterb flatMap anyb heldb
   held-rows [] = refl
@@ -149,21 +154,17 @@ module _ {Part : Type 0} (n : ℕ) (qs : List (List ℕ)) (ss : List ℕ) (s : S
         ∙ ap (λ (rs : List Row). flatMap (λ (r : Row). edges [] (r .cell)) (filterb (newRedRow n qs ss ms k) rs))
         (rows-numbers n qs ss s ms k)
 
-    edges-none : (k : ℕ) → length (levelsOf n qs ss) ≤ k → newEdges n qs ss ms k ≡ []
-    unfolding edgesUp newReds
-    edges-none k h = ap (λ (ls : List Level). edgesUp (newReds ls ms)) (drop-of-length-le (levelsOf n qs ss) {i = k} h)
-
     -- a slot stands for its edge
-    has-held : (k c d e : ℕ) → Member c (numbersOf n qs ss k) → Member d (numbersOf n qs ss k) → Member e sixEdges
+    has-held : (k c d e : ℕ) → Member c (numbersOf n qs ss k) → Member d (numbersOf n qs ss k) → Member e edgeNumbers
         → has J d (slot c e) ≡ heldb sameb (edges [] (nthCell n qs ss d)) (edge [] (nthCell n qs ss c) e)
     unfolding has heldb edges anyb
     has-held k c d e m q b =
         any-agree (λ f. eqb (slot d f) (slot c e)) (λ f. joinsb sameb (edge [] (nthCell n qs ss c) e) (edge [] (nthCell n qs ss d) f))
-        sixEdges
+        edgeNumbers
         (λ f g. sl .same k c d e f m q b g)
 
     module _ (k : ℕ) (h : ℕ → Bool) (c : ℕ) (m : Member c (numbersOf n qs ss k))
-        (hits : (d e : ℕ) → Member d (numbersOf n qs ss (suc k)) → Member e sixEdges
+        (hits : (d e : ℕ) → Member d (numbersOf n qs ss (suc k)) → Member e edgeNumbers
         → h (slot d e) ≡ heldb sameb (newEdges n qs ss ms (suc k))
         (edge [] (nthCell n qs ss d) e)) where
       abbrev es : List Edge
@@ -194,7 +195,7 @@ module _ {Part : Type 0} (n : ℕ) (qs : List (List ℕ)) (ss : List ℕ) (s : S
           ∙ all-members (λ d. f (rowBy n qs ss ms d)) (filterb mineb (numbersOf n qs ss (suc k))) (childrenOf n qs ss c) kids-up kids-down
           ∙ all-agree (λ d. f (rowBy n qs ss ms d)) (idle J h mark) (childrenOf n qs ss c) (λ d q.
           ap (λ (b : Bool). (eqb (getD ss d 0) 0 && eqb (getD ms d 0) 2) && b)
-          (all-agree (λ e. not (heldb sameb es (edge [] (nthCell n qs ss d) e))) (λ e. not (h (slot d e))) sixEdges
+          (all-agree (λ e. not (heldb sameb es (edge [] (nthCell n qs ss d) e))) (λ e. not (h (slot d e))) edgeNumbers
           (λ e b. ap not (sym (hits d e (kid n qs ss s k c d m q .up) b)))))
 
       turned-same : turnedb (edges [] (nthCell n qs ss c)) (kids (rowsUp (drop (suc k) (levelsOf n qs ss)) ms) c) es
@@ -209,11 +210,11 @@ module _ {Part : Type 0} (n : ℕ) (qs : List (List ℕ)) (ss : List ℕ) (s : S
           ∙ any-agree (λ d. f (rowBy n qs ss ms d)) (pulled J h mark) (childrenOf n qs ss c) (λ d q.
           ap (λ (b : Bool). eqb (getD ms d 0) 1 || b)
           (any-agree (λ e. not (heldb sameb (edges [] (nthCell n qs ss c)) (edge [] (nthCell n qs ss d) e)) && heldb sameb es
-          (edge [] (nthCell n qs ss d) e)) (λ e. innerOf n qs ss d e && h (slot d e)) sixEdges (λ e b.
+          (edge [] (nthCell n qs ss d) e)) (λ e. innerOf n qs ss d e && h (slot d e)) edgeNumbers (λ e b.
           ap₂ _&&_ (ap (λ (x : ℕ). not (heldb sameb (edges [] (nthCell n qs ss x)) (edge [] (nthCell n qs ss d) e)))
           (sym (kid n qs ss s k c d m q .parent))) (sym (hits d e (kid n qs ss s k c d m q .up) b)))))
 
-      pub rule-is : rule J h mark c ≡ newRed k c
+      rule-is : rule J h mark c ≡ newRed k c
       unfolding rule redAfterb rowBy
       rule-is = go (eqb (getD ss c 0) 64) refl (eqb (getD ss c 0) 0) refl
         where
@@ -231,7 +232,7 @@ module _ {Part : Type 0} (n : ℕ) (qs : List (List ℕ)) (ss : List ℕ) (s : S
 
     hit-is : (i : ℕ) → i ≤ J .top → 0 < length (levelsOf n qs ss) → ((c : ℕ) → Member c (numbersOf n qs ss (J .top - i)) → redAt J mark i c
         ≡ newRed (J .top - i) c)
-        → (d e : ℕ) → Member d (numbersOf n qs ss (J .top - i)) → Member e sixEdges
+        → (d e : ℕ) → Member d (numbersOf n qs ss (J .top - i)) → Member e edgeNumbers
         → hitAt J mark i (slot d e) ≡ heldb sameb (newEdges n qs ss ms (J .top - i)) (edge [] (nthCell n qs ss d) e)
     unfolding rowBy
     hit-is i h l f d e m b =
@@ -256,6 +257,6 @@ module _ {Part : Type 0} (n : ℕ) (qs : List (List ℕ)) (ss : List ℕ) (s : S
         (hit-is i (omega arith) l (λ c w. flags-red i (omega arith) l c w) d e u b))
 
     pub hits : (i : ℕ) → i ≤ J .top → 0 < length (levelsOf n qs ss) → (d e : ℕ) → Member d (numbersOf n qs ss (J .top - i))
-        → Member e sixEdges
+        → Member e edgeNumbers
         → hitAt J mark i (slot d e) ≡ heldb sameb (newEdges n qs ss ms (J .top - i)) (edge [] (nthCell n qs ss d) e)
     hits i h l d e m b = hit-is i h l (flags-red i h l) d e m b

@@ -17,7 +17,7 @@ use lib.Seq.{sets}
 use borrow.Author.Tests.{eq-eqb}
 use Rattle.base.specs.Bools.{one-if, is-false, and-left, and-right, not-both}
 use Rattle.base.specs.declared.Answer.the-variants.{Accepted}
-use Rattle.exchange.specs.Finite.{Finite, parts}
+use Rattle.exchange.specs.Finite.{parts}
 use Rattle.exchange.specs.Protocol.{Local, withQueue}
 use Rattle.rounds.specs.Tests.{Member}
 use Rattle.rounds.specs.Task.{Task}
@@ -86,9 +86,6 @@ route x m e =
     )
 
 module _ (P : ℕ) (J : Task (Fin P)) where
-  abbrev F : Finite (Fin P)
-  F = parts P
-
   abbrev pub pack : Fin P → Fin P → ℕ → Body → List ℕ
   pack q p k b = packed (q .0) (p .0) k b
 
@@ -135,7 +132,7 @@ module _ (P : ℕ) (J : Task (Fin P)) where
     pub high : sizedb (phase (J .top) (l .round)) ≡ true → field x HIGH ≡ max (l .state .high) (topTold (parts P) (l .got))
 
   module _ (p : Fin P) (l : L) (x : List ℕ) (u : Busy p l x) where
-    pub parts-few : P ≤ 16
+    parts-few : P ≤ 16
     parts-few = let h = header-is x (rw (u .header) tt) in omega (arith, h .parts-most, u .many)
 
     pub part-low : (q : Fin P) → q .0 < 16
@@ -145,7 +142,7 @@ module _ (P : ℕ) (J : Task (Fin P)) where
     held-few = header-is x (rw (u .header) tt) .cells-most
 
     -- FETCH: none where the queue is empty, else its first
-    pub fetch-none : l .queue ≡ [] → nextToGive x .bit ≡ 16
+    fetch-none : l .queue ≡ [] → nextToGive x .bit ≡ 16
     fetch-none e = fetch-empty x (u .long) (u .queue ∙ e)
 
     pub fetch-some : (m : List ℕ) (w : List (List ℕ)) → l .queue ≡ m ∷ w → (nextToGive x .bit < 16) × (given x (nextToGive x) ≡ m)
@@ -224,7 +221,7 @@ module _ (P : ℕ) (J : Task (Fin P)) where
         go true e = absurd (d (ap (λ (r : Fin P). r .0) (is-eq (parts P) q p (rw e tt))))
         go false e = e
 
-    pub open-round : (q : Fin P) → q .0 ≢ p .0 → field x (80 + q .0) ≤ field x ROUND → field x STAGE ≡ 1
+    open-round : (q : Fin P) → q .0 ≢ p .0 → field x (80 + q .0) ≤ field x ROUND → field x STAGE ≡ 1
         → wholeb (parts P) J (l .round) q p (l .got q) ≡ false
     unfolding wholeb one-if
     open-round q d h r = go (overb (phase (J .top) (l .round))) refl (endedb (l .got q)) refl

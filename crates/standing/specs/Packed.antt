@@ -36,6 +36,7 @@ bodyb (count s n) = ltb s 24576 && (leb 1 n && leb n 4096)
 bodyb (total n h) = leb n 4097 && leb h 11
 bodyb end = true
 
+-- Rule 15.4.
 unfoldable pub packed : ℕ → ℕ → ℕ → Body → List ℕ
 unfolding bodyb entryCode entryValue messageOf
 packed q p k b = elim (ltb k 65536 && bodyb b) [ true ↦ messageOf (suc q) (suc p) k (entryCode b) (entryValue b) | false ↦ [] ]

@@ -150,7 +150,7 @@ module _ (x y : List ℕ) (n : ℕ) (e : Longer x y n) where
       ]
 
   -- ENTRIES PUT BEHIND are messages put behind
-  pub queue-more : (field x CURSOR ≤ entryCount x) → (field x CURSOR ≡ entryCount x → field x BIT ≡ 0) → queueOf y ≡ queueOf x
+  queue-more : (field x CURSOR ≤ entryCount x) → (field x CURSOR ≡ entryCount x → field x BIT ≡ 0) → queueOf y ≡ queueOf x
       ++ stream y (givenAfter (givenTo y) (leftOf x)) (spotsFrom y n (entryCount x) 0)
   unfolding queueOf leftOf
   queue-more h b =
@@ -188,7 +188,7 @@ module _ (P : ℕ) (J : Task (Fin P)) (p : Fin P) (y : List ℕ) (own : field y 
   Matches (t ∷ l) (s ∷ w) = (s .bit ≡ t .0 .0) × (codeAt y (s .entry) ≡ entryCode (t .1)) × (valueAt y (s .entry) ≡ entryValue (t .1))
       × (bodyb (t .1) ≡ true) × Matches l w
 
-  abbrev pub Agree : (ℕ → ℕ) → (Fin P → ℕ) → Type 0
+  abbrev Agree : (ℕ → ℕ) → (Fin P → ℕ) → Type 0
   Agree o u = (q : Fin P) → o (q .0) ≡ u q
 
   abbrev pub CountRoom : (Fin P → ℕ) → List (Fin P × Body) → Type 0
@@ -230,7 +230,7 @@ module _ (P : ℕ) (J : Task (Fin P)) (p : Fin P) (y : List ℕ) (own : field y 
         rw (lt-ltb (u t) 65536 (omega (arith, first-room)), e, packed) in
         rw (own, z, v, c, d) (sym w)
 
-  pub stream-number : (l : List (Fin P × Body)) (w : List Spot) → Matches l w → (o : ℕ → ℕ) (u : Fin P → ℕ) → Agree o u → CountRoom u l
+  stream-number : (l : List (Fin P × Body)) (w : List Spot) → Matches l w → (o : ℕ → ℕ) (u : Fin P → ℕ) → Agree o u → CountRoom u l
       → stream y o w ≡ numbered (parts P) (pack P J) p u l
   unfolding stream numbered Matches
   stream-number [] [] m o u a h = refl
@@ -265,7 +265,8 @@ module _ (P : ℕ) (J : Task (Fin P)) (p : Fin P) (y : List ℕ) (own : field y 
       ap (λ (k : ℕ). givenAfter (bump o k) w (q .0)) i
       ∙ number-after l w m (bump o (t .0)) (upd (parts P) u t (suc (u t))) (agree-on o u a t b l h) (room-on o u a t b l h) q
       ∙ elim (parts P .same? q t) [
-        | yes e ↦ subst (λ (z : Fin P). upd (parts P) u t (suc (u t)) z + length (only (parts P) z l) ≡ u z + length (only (parts P) z ((t, b) ∷ l)))
+        | yes e ↦ subst (λ (z : Fin P). upd (parts P) u t (suc (u t)) z + length (only (parts P) z l)
+            ≡ u z + length (only (parts P) z ((t, b) ∷ l)))
             (sym e) (omega (arith, upd-same (parts P) u t (suc (u t)), ap length (only-same (parts P) t b l)))
         | no n ↦ omega (arith, upd-other (parts P) u t (suc (u t)) q n, ap length (only-other (parts P) q t b l n))
       ]

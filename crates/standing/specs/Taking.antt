@@ -39,14 +39,14 @@ module _ (x m : List ℕ) (q p k : ℕ) (b : Body) (r : Read m q p k b) (low : q
   counted-long : length (counted x m) ≡ length x
   counted-long = ap length counted-is ∙ length-set x (64 + q) ((field x (64 + q) + 1) % 65536)
 
-  pub counted-else : (i : ℕ) → i ≢ 64 + q → field (counted x m) i ≡ field x i
+  counted-else : (i : ℕ) → i ≢ 64 + q → field (counted x m) i ≡ field x i
   counted-else i d = ap (λ (l : List ℕ). field l i) counted-is ∙ getD-set-other x (64 + q) i ((field x (64 + q) + 1) % 65536) 0 d
 
   counted-at : field (counted x m) (64 + q) ≡ (field x (64 + q) + 1) % 65536
   counted-at = ap (λ (l : List ℕ). field l (64 + q)) counted-is ∙ getD-set-same x (64 + q) ((field x (64 + q) + 1) % 65536) 0 (omega arith)
 
   -- by kind
-  pub record StaysElse (w : List ℕ) : Type 0 where
+  record StaysElse (w : List ℕ) : Type 0 where
     pub keeps : length w ≡ length (counted x m)
     pub else : (i : ℕ) → Away b q i → field w i ≡ field (counted x m) i
 

@@ -38,7 +38,7 @@ unfolding spotsFrom entryCount
 leftOf x = spotsFrom x (entryCount x - field x CURSOR) (field x CURSOR) (field x BIT)
 
 -- the first bit
-pub record Bits (k m b : ℕ) : Type 0 where
+record Bits (k m b : ℕ) : Type 0 where
   pub none : bitsFrom k m b ≡ [] → bitFrom k m b ≡ 16
   pub first : (c : ℕ) (w : List ℕ) → bitsFrom k m b ≡ c ∷ w → (bitFrom k m b ≡ c) × (c < b + k) × (b ≤ c)
       × (bitsFrom (b + k - suc c) m (suc c) ≡ w)
@@ -52,7 +52,7 @@ cons-tail e = cc
 no-cons : {A B : Type 0} {a : A} {v : List A} → a ∷ v ≡ [] → B
 no-cons {a = a} {v = v} e = let z : suc (length v) ≡ 0 = ap length e in absurd (omega arith)
 
-pub bits-first : (k m b : ℕ) → Bits k m b
+bits-first : (k m b : ℕ) → Bits k m b
 unfolding bitsFrom bitFrom
 bits-first zero m b = record { none = λ e. refl; first = λ c w e. no-cons (sym e) }
 bits-first (suc k) m b = go (bitb m b) refl (bits-first k m (suc b))
@@ -80,16 +80,12 @@ bits-first (suc k) m b = go (bitb m b) refl (bits-first k m (suc b))
         }
 
 -- the first place
-pub record Spots (x : List ℕ) (k j b : ℕ) : Type 0 where
+record Spots (x : List ℕ) (k j b : ℕ) : Type 0 where
   pub none : spotsFrom x k j b ≡ [] → seekFrom x k j b .bit ≡ 16
   pub first : (s : Spot) (w : List Spot) → spotsFrom x k j b ≡ s ∷ w
       → (seekFrom x k j b ≡ s) × (s .bit < 16) × (s .entry < j + k) × (spotsFrom x (j + k - s .entry) (s .entry) (suc (s .bit)) ≡ w)
 
-map-nil : (j : ℕ) (l : List ℕ) (v : List Spot) → map (spotAt j) l ++ v ≡ [] → (l ≡ []) × (v ≡ [])
-map-nil j [] v e = (refl, e)
-map-nil j (a ∷ l) v e = no-cons e
-
-pub spots : (x : List ℕ) (k j b : ℕ) → Spots x k j b
+spots : (x : List ℕ) (k j b : ℕ) → Spots x k j b
 unfolding spotsFrom seekFrom
 spots x zero j b = record { none = λ e. refl; first = λ s w e. no-cons (sym e) }
 spots x (suc k) j b = go (bitsFrom (16 - b) (receiversAt x j) b) refl (bits-first (16 - b) (receiversAt x j) b) (spots x k (suc j) 0)
@@ -159,14 +155,14 @@ module _ (x : List ℕ) (s : Spot) where
         ∙ getD-set-other (set x 12 (s .entry)) 13 12 (s .bit + 1) 0 (λ z. absurd (omega (arith, z)))
         ∙ getD-set-same x 12 (s .entry) 0 (omega arith)
 
-    pub passed-bit : field (passedBy x s) 13 ≡ suc (s .bit)
+    passed-bit : field (passedBy x s) 13 ≡ suc (s .bit)
     unfolding passedBy
     passed-bit =
         getD-set-other (set (set x 12 (s .entry)) 13 (s .bit + 1)) (GIVEN + s .bit) 13 ((field x (GIVEN + s .bit) + 1) % 65536) 0
         (λ z. absurd (omega (arith, z)))
         ∙ getD-set-same (set x 12 (s .entry)) 13 (s .bit + 1) 0 (omega (arith, length-set x 12 (s .entry))) ∙ omega arith
 
-    pub passed-count : field (passedBy x s) (GIVEN + s .bit) ≡ (field x (GIVEN + s .bit) + 1) % 65536
+    passed-count : field (passedBy x s) (GIVEN + s .bit) ≡ (field x (GIVEN + s .bit) + 1) % 65536
     unfolding passedBy
     passed-count =
         getD-set-same (set (set x 12 (s .entry)) 13 (s .bit + 1)) (GIVEN + s .bit) ((field x (GIVEN + s .bit) + 1) % 65536) 0
@@ -221,7 +217,7 @@ unfolding stream leftOf
 queueOf x = stream x (givenTo x) (leftOf x)
 
 -- places that stand among the entries
-unfoldable pub EntriesIn : List Spot → Type 0
+unfoldable EntriesIn : List Spot → Type 0
 EntriesIn [] = Unit
 EntriesIn (s ∷ l) = (s .entry < 28696) × (s .bit < 16) × EntriesIn l
 
@@ -254,7 +250,7 @@ bump-same : (o u : ℕ → ℕ) → ((c : ℕ) → c < 16 → u c ≡ o c) → (
 unfolding bump
 bump-same o u h b c l = ap (λ (n : ℕ). elim (eqb c b) [ true ↦ (n + 1) % 65536 | false ↦ n ]) (h c l)
 
-pub stream-same : (x y : List ℕ) → Posted x y → (o u : ℕ → ℕ) → ((c : ℕ) → c < 16 → u c ≡ o c) → (l : List Spot) → EntriesIn l
+stream-same : (x y : List ℕ) → Posted x y → (o u : ℕ → ℕ) → ((c : ℕ) → c < 16 → u c ≡ o c) → (l : List Spot) → EntriesIn l
     → stream y u l ≡ stream x o l
 unfolding stream EntriesIn
 stream-same x y e o u h [] i = refl
@@ -284,7 +280,7 @@ module _ (x : List ℕ) (h : full ≤ length x) where
       ]
 
   -- NONE TO SEND exactly when all that is written is given
-  pub none-next : leftOf x ≡ [] → nextToGive x .bit ≡ 16
+  none-next : leftOf x ≡ [] → nextToGive x .bit ≡ 16
   unfolding leftOf nextToGive
   none-next e = spots x k (field x CURSOR) (field x BIT) .none e
 
@@ -306,11 +302,11 @@ module _ (x : List ℕ) (h : full ≤ length x) where
             (a, b, omega arith, omega arith, ap (λ (n : ℕ). spotsFrom x (n - s .entry) (s .entry) (suc (s .bit))) (sym z) ∙ d)
 
     -- the walk stops at the first that is left
-    pub some-next : (nextToGive x ≡ s) × (s .bit < 16)
+    some-next : (nextToGive x ≡ s) × (s .bit < 16)
     some-next = (facts .0, facts .1)
 
     -- behind it the rest is left
-    pub left-passed : leftOf (passedBy x s) ≡ w
+    left-passed : leftOf (passedBy x s) ≡ w
     unfolding leftOf
     left-passed =
         let (a, b, c, l, d) = facts in

@@ -42,6 +42,7 @@ bitFrom (suc k) m b = elim (bitb m b) [ true ↦ b | false ↦ bitFrom k m (suc 
 abbrev pub spotAt : ℕ → ℕ → Spot
 spotAt j b = record { entry = j; bit = b }
 
+-- Rule 15.8: in the order in which they were written
 unfoldable pub seekFrom : List ℕ → ℕ → ℕ → ℕ → Spot
 unfolding bitFrom
 seekFrom x zero j b = spotAt j 16
@@ -74,6 +75,7 @@ fetchRefusal x out =
       | true ↦ elim (headerb x && not (eqb (field x STAGE) 0)) [ true ↦ 0 | false ↦ 16 ]
     ]
 
+-- Rule 15.8.
 unfoldable pub foundOf : List ℕ → Spot → Fetched
 unfolding given
 foundOf x s = elim (ltb (s .bit) 16) [ true ↦ Message (length (given x s)) | false ↦ Nothing ]
@@ -83,6 +85,7 @@ unfoldable pub fetchAnswer : List ℕ → List ℕ → Fetched
 unfolding fetchRefusal foundOf nextToGive
 fetchAnswer x out = elim (eqb (fetchRefusal x out) 0) [ true ↦ foundOf x (nextToGive x) | false ↦ Refused (fetchRefusal x out) ]
 
+-- Rule 15.8.
 unfoldable pub givesb : List ℕ → List ℕ → Bool
 unfolding fetchRefusal nextToGive
 givesb x out = eqb (fetchRefusal x out) 0 && ltb (nextToGive x .bit) 16

@@ -56,6 +56,7 @@ edgeCountb x m = ltb (numberAt m 5) 24576 && (not (eqb (field x (HOLDERS + numbe
 unfoldable pub cellTotalb : List ℕ → Bool
 cellTotalb m = leb (numberAt m 5) 4097 && leb (getD m 7 0) 11
 
+-- Rule 15.15.
 unfoldable pub contentb : List ℕ → List ℕ → Bool
 unfolding ghostMarkb edgeCountb cellTotalb
 contentb x m =
@@ -116,6 +117,7 @@ absorbed x m =
 unfoldable pub counted : List ℕ → List ℕ → List ℕ
 counted x m = set x (TAKEN + getD m 1 0) ((takenAt x m + 1) % 65536)
 
+-- Rule 15.9: a refused call changes nothing
 unfoldable pub takenIn : Answer → List ℕ → List ℕ → List ℕ
 unfolding absorbed counted
 takenIn Accepted x m = absorbed (counted x m) m

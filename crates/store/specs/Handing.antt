@@ -12,7 +12,7 @@ use Rattle.base.specs.Bools.{and-left, and-right, is-true}
 use Rattle.base.specs.Refuse.{refuse}
 use Rattle.base.specs.declared.Answer.{Answer}
 use Rattle.base.specs.declared.Answer.the-variants.{Accepted, Refused}
-use Rattle.store.specs.Fields.{field, full, STAGE, PART, PARTS, CELLS, ROUND, TOTAL, HIGH, TAKEN, ENDED, OWNER, RED, HOLDERS, SUM}
+use Rattle.store.specs.Fields.{field, full, STAGE, PART, PARTS, CELLS, ROUND, TOTAL, HIGH, ENDED, OWNER, RED, HOLDERS, SUM}
 use Rattle.store.specs.Header.{headerb}
 use Rattle.store.specs.Hand.{numberAt, shapeb, routeb, ghostMarkb, edgeCountb, contentb, wellb, takenAt, endedAt, Ranges}
 use Rattle.store.specs.Hand.{handAnswer, absorbed, counted, takenIn, handAfter}

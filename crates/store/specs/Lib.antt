@@ -10,3 +10,5 @@ pub mod Fetching
 pub mod Checks
 pub mod Handing
 pub mod Places
+pub mod Stores
+pub mod Written

@@ -1,5 +1,5 @@
 -- A cell's place under its coarse cell, as three numbers.
---   levelIn p         the level of a place
+--   placeLevel p         the level of a place
 --   coarsePlace c     the place of the coarse cell c; childPlace p i that of the child i of the cell at p
 --   placeOf l         the place of the cell with the path l: its coarse cell, then child numbers down to it
 --   eights n x        n digits of x to the base 8, the lowest first
@@ -15,26 +15,28 @@ use native.Mathlib.Omega.{arith}
 use lib.Dec.{ltb}
 use lib.Pow.{pow-add}
 use lib.ListN.{length, take, drop, replicate, length-append, length-drop, drop-of-length-le, take-append-drop}
-use lib.Seq.{take-append-le, drop-append-le, take-append-seam, take-append-add, take-all, length-take-le}
+use lib.Seq.{take-append-le, drop-append-le, take-append-seam, take-all, length-take-le}
 use borrow.Author.Tests.{lt-ltb, le-ltb}
 use Rattle.base.specs.Every.{All, all-append}
 use Rattle.store.specs.declared.Place.{Place}
 
-abbrev pub levelIn : Place → ℕ
-levelIn p = p .head / 256
+-- Rule 3.3.
+abbrev pub placeLevel : Place → ℕ
+placeLevel p = p .head / 256
 
+-- Rule 3.3.
 abbrev pub coarsePlace : ℕ → Place
 coarsePlace c = record { head = c; digits = 0; more = 0 }
 
--- child numbers 1 to 5 stand in `digits`, 6 to 10 in `more`; an eleventh has no room
+-- Rule 3.3: child numbers 1 to 5 stand in `digits`, 6 to 10 in `more`; an eleventh has no room
 unfoldable pub childPlace : Place → ℕ → Place
 childPlace p i =
     record {
       head = (p .head + 256) % 65536;
-      digits = elim (ltb (levelIn p) 5) [ true ↦ (p .digits + i * 2 ^ (3 * levelIn p)) % 65536 | false ↦ p .digits ];
-      more = elim (ltb (levelIn p) 5) [
+      digits = elim (ltb (placeLevel p) 5) [ true ↦ (p .digits + i * 2 ^ (3 * placeLevel p)) % 65536 | false ↦ p .digits ];
+      more = elim (ltb (placeLevel p) 5) [
         | true ↦ p .more
-        | false ↦ elim (ltb (levelIn p) 10) [ true ↦ (p .more + i * 2 ^ (3 * (levelIn p - 5))) % 65536 | false ↦ p .more ]
+        | false ↦ elim (ltb (placeLevel p) 10) [ true ↦ (p .more + i * 2 ^ (3 * (placeLevel p - 5))) % 65536 | false ↦ p .more ]
       ];
     }
 
@@ -56,7 +58,7 @@ eights (suc n) x = x % 8 ∷ eights n (x / 8)
 -- Rule 3.3.
 unfoldable pub pathOf : Place → List ℕ
 unfolding eights
-pathOf p = p .head % 256 ∷ take (levelIn p) (eights 5 (p .digits) ++ eights 5 (p .more))
+pathOf p = p .head % 256 ∷ take (placeLevel p) (eights 5 (p .digits) ++ eights 5 (p .more))
 
 place-down : (p : Place) (l : List ℕ) (i : ℕ) → placeDown p (l ++ (i ∷ [])) ≡ childPlace (placeDown p l) i
 unfolding placeDown
@@ -123,7 +125,7 @@ record Stands (c : ℕ) (l : List ℕ) (p : Place) : Type 0 where
   pub more : p .more ≡ eightsOf (drop 5 l)
   pub small : Small l
 
-path-is : (p : Place) → pathOf p ≡ p .head % 256 ∷ take (levelIn p) (eights 5 (p .digits) ++ eights 5 (p .more))
+path-is : (p : Place) → pathOf p ≡ p .head % 256 ∷ take (placeLevel p) (eights 5 (p .digits) ++ eights 5 (p .more))
 unfolding pathOf
 path-is p = refl
 
@@ -146,7 +148,7 @@ digits-read l a g = elim (decLt 5 (length l)) [
 ]
 
 module _ (c : ℕ) (low : c < 256) (l : List ℕ) (p : Place) (s : Stands c l p) where
-  level : levelIn p ≡ length l
+  level : placeLevel p ≡ length l
   level = omega (arith, s .head)
 
   -- one child number more
@@ -174,10 +176,10 @@ module _ (c : ℕ) (low : c < 256) (l : List ℕ) (p : Place) (s : Stands c l p)
           let d : take 5 l ≡ l = take-all 5 l (omega arith) in
           let e : drop 5 l ≡ [] = drop-of-length-le l {i = 5} (omega arith) in
           let f : p .digits ≡ eightsOf l = s .digits ∙ ap eightsOf d in
-          let m : p .digits + i * 2 ^ (3 * levelIn p) ≡ eightsOf (l ++ (i ∷ [])) =
+          let m : p .digits + i * 2 ^ (3 * placeLevel p) ≡ eightsOf (l ++ (i ∷ [])) =
           ap₂ (λ (x n : ℕ). x + i * 2 ^ (3 * n)) f level ∙ sym (of-snoc l i) in
           let n : eightsOf (l ++ (i ∷ [])) < 65536 = rw (of-snoc l i) (below l (s .small) k) in
-          rw (lt-ltb (levelIn p) 5 (rw level k)) (record {
+          rw (lt-ltb (placeLevel p) 5 (rw level k)) (record {
             head = head-more;
             digits = ap (λ (x : ℕ). x % 65536) m ∙ small-mod (eightsOf (l ++ (i ∷ []))) n ∙ ap eightsOf (sym a);
             more = s .more ∙ ap eightsOf (e ∙ sym b);
@@ -188,12 +190,12 @@ module _ (c : ℕ) (low : c < 256) (l : List ℕ) (p : Place) (s : Stands c l p)
       long k =
           let a : take 5 (l ++ (i ∷ [])) ≡ take 5 l = take-append-le 5 l (i ∷ []) k in
           let b : drop 5 (l ++ (i ∷ [])) ≡ drop 5 l ++ (i ∷ []) = drop-append-le 5 l (i ∷ []) k in
-          let n : length (drop 5 l) ≡ levelIn p - 5 = length-drop 5 l ∙ omega (arith, level) in
-          let m : p .more + i * 2 ^ (3 * (levelIn p - 5)) ≡ eightsOf (drop 5 l ++ (i ∷ [])) =
+          let n : length (drop 5 l) ≡ placeLevel p - 5 = length-drop 5 l ∙ omega (arith, level) in
+          let m : p .more + i * 2 ^ (3 * (placeLevel p - 5)) ≡ eightsOf (drop 5 l ++ (i ∷ [])) =
           ap₂ (λ (x n : ℕ). x + i * 2 ^ (3 * n)) (s .more) (sym n) ∙ sym (of-snoc (drop 5 l) i) in
           let r : eightsOf (drop 5 l ++ (i ∷ [])) < 65536 =
           rw (of-snoc (drop 5 l) i) (below (drop 5 l) (all-drop 5 l (s .small)) (omega (arith, n, level))) in
-          rw (le-ltb (levelIn p) 5 (rw level k), lt-ltb (levelIn p) 10 (rw level g)) (record {
+          rw (le-ltb (placeLevel p) 5 (rw level k), lt-ltb (placeLevel p) 10 (rw level g)) (record {
             head = head-more;
             digits = s .digits ∙ ap eightsOf (sym a);
             more = ap (λ (x : ℕ). x % 65536) m ∙ small-mod (eightsOf (drop 5 l ++ (i ∷ []))) r ∙ ap eightsOf (sym b);

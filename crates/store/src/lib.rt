@@ -1,4 +1,9 @@
-// A part's store and the calls that carry messages, as definitions on numbers: see specs/. The types that the calls answer with.
+// A part's store and the calls that carry messages, as definitions on numbers: see specs/. The types that the calls answer with, and
+// places of cells.
+ghost use mathlib.Core.Path.{_≡_};
+ghost use Prim.Native.Nat.{_+_, _*_, _^_, _%_, _<_};
+ghost use Rattle.store.specs.Places.{childPlace};
+
 // The offsets of specs/Fields.
 pub const FULL: usize = 226488;
 
@@ -105,4 +110,39 @@ pub struct Place {
     pub head: u16,
     pub digits: u16,
     pub more: u16,
+}
+
+// A child number behind `level` others, five at most.
+fn with_number(digits: u16, i: u16, level: usize) -> u16
+    requires { ⌜ level < 5 ⌝ }
+    ensures { λ r. ⌜ r ≡ (digits + i * 2 ^ (3 * level)) % 65536 ⌝ }
+{
+    ((digits as usize + ((i as usize) << (3 * level))) % 65536) as u16
+}
+
+// The place of a child.
+pub fn child_place(p: Place, i: u16) -> Place
+    ensures { λ r. ⌜ r ≡ childPlace p i ⌝ }
+{
+    let level = p.head as usize / 256;
+    let head = ((p.head as usize + 256) % 65536) as u16;
+    if level < 5 {
+        return Place {
+            head,
+            digits: with_number(p.digits, i, level),
+            more: p.more,
+        };
+    }
+    if level < 10 {
+        return Place {
+            head,
+            digits: p.digits,
+            more: with_number(p.more, i, level - 5),
+        };
+    }
+    Place {
+        head,
+        digits: p.digits,
+        more: p.more,
+    }
 }

@@ -26,6 +26,7 @@ use Rattle.exchange.specs.Finite.{parts}
 use Rattle.rounds.specs.Bound.{SmallTask}
 use Rattle.store.specs.Fields.{field, full, CELLS}
 use Rattle.store.specs.Header.{headerb}
+use Rattle.store.specs.Stores.{storeIn}
 use Rattle.turns.specs.Start.{marksDue}
 use Rattle.parts.specs.Owners.{ownersb}
 use Rattle.parts.specs.Starts.{startb, placeOn}
@@ -34,7 +35,7 @@ use Rattle.splitting.specs.Split.{Slots}
 use Rattle.entering.specs.Columns.{Columns, countBefore}
 use Rattle.split.specs.Columns.{slotOf}
 use Rattle.split.specs.Split.{storesAfter, splitIn, splitAnswer, splitAfter}
-use Rattle.split.specs.Stored.{Stored, storeAt, stored-split}
+use Rattle.split.specs.Stored.{Stored, stored-split}
 use Rattle.split.specs.Stored as S
 use Rattle.tasks.specs.Edges.{slotsOn, slots-split}
 use Rattle.tasks.specs.Holders.{splitTask}
@@ -42,6 +43,7 @@ use Rattle.tasks.specs.Sizes.{split-small}
 use Rattle.tasks.specs.Columns.{columns-of}
 use Rattle.tasks.specs.Idle.{idle-header, marks-due, marks-before}
 
+-- Rule 15.17.
 pub record Splits (Q n : ℕ) (qs : List (List ℕ)) (ss os : List ℕ) : Type 0 where
   pub four : All (λ q. length q ≡ 4) qs
   pub mesh : T (cellsb n qs)
@@ -134,10 +136,10 @@ module _ (ps : List ℤ) (ts ss : List ℕ) (Q : ℕ) (os b : List ℕ) (e : spl
 
   -- the store of a part in it
   pub split-store : (p : Fin (suc Q))
-      → Stored (cornerCount ps) (fours ts) ss (suc Q) os (suc (p .0)) (storeAt (splitAfter ps ts ss (suc Q) os b) (p .0))
+      → Stored (cornerCount ps) (fours ts) ss (suc Q) os (suc (p .0)) (storeIn (splitAfter ps ts ss (suc Q) os b) (p .0))
   split-store p =
-      subst (λ (y : List ℕ). Stored n qs ss (suc Q) os (suc (p .0)) (storeAt y (p .0))) (sym split-after)
-      (stored-split n qs ss (suc Q) os b (S.fours-four ts) (splits-from .parts-few) split-room (p .0) (p .1))
+      subst (λ (y : List ℕ). Stored n qs ss (suc Q) os (suc (p .0)) (storeIn y (p .0))) (sym split-after)
+      (stored-split n qs ss (suc Q) os b (S.fours-long ts) (splits-from .parts-few) split-room (p .0) (p .1))
 
 module _ (Q n : ℕ) (qs : List (List ℕ)) (ss os : List ℕ) (g : Splits Q n qs ss os) where
   pub split-slots : Slots n qs ss (slotOf n qs ss) (slotsOn n qs ss)

@@ -36,9 +36,9 @@ use Rattle.splitting.specs.Numbers.{numbersOf, number-inside, kid, kid-in}
 use Rattle.splitting.specs.Split.{owners-fit}
 use Rattle.merging.specs.Run.{nthPart, named}
 use Rattle.entering.specs.Columns.{Columns}
-use Rattle.split.specs.Columns.{cellsBelow, slotsBelow, slotOf, firstChild, innerBits, holdsCell, holdsSlot, holdersOf}
+use Rattle.split.specs.Columns.{cellsBelow, slotsBelow, slotOf, innerBits, holdsCell, holdsSlot, holdersOf}
 use Rattle.split.specs.Split.{holdersAt}
-use Rattle.split.specs.Stored.{Stored, ifHeld, held-is, not-held}
+use Rattle.split.specs.Stored.{Stored, ifHeld, when-held, not-held}
 use Rattle.tasks.specs.Levels.{below-none, below-more, below-top, below-all, level-gap, one-at-least, level-top}
 use Rattle.tasks.specs.Edges.{slotsOn, slots-follow}
 use Rattle.tasks.specs.Shapes.{slots-apart}
@@ -47,6 +47,7 @@ use Rattle.tasks.specs.Inner.{bit-at, inner-bits}
 use Rattle.tasks.specs.Holders.{splitTask, owner-ranged, family-ranged, mine-held, slot-told, slot-holds, holder-bit, no-bit}
 use Rattle.tasks.specs.Sizes.{slots-none, slots-all, slots-gap}
 use Rattle.tasks.specs.Paths.{path-room, place-coarse}
+use Rattle.lineage.specs.Olds.{firstChild}
 
 same-place : (a b : Place) → a .head ≡ b .head → a .digits ≡ b .digits → a .more ≡ b .more → a ≡ b
 same-place a b u v w =
@@ -82,7 +83,7 @@ module _ (Q n : ℕ) (qs : List (List ℕ)) (ss os : List ℕ) (four : All (λ q
   column : (f : ℕ → ℕ) (o : ℕ) → ((c : ℕ) → c < 4096 → field x (o + c) ≡ ifHeld n qs ss os (suc (p .0)) f c)
       → (c : ℕ) → Holds c → field x (o + c) ≡ f c
   column f o w c (k, m, t) =
-      w c (inside k c m .1) ∙ held-is n qs ss os (suc (p .0)) f c (inside k c m .0) (held-as k c m t)
+      w c (inside k c m .1) ∙ when-held n qs ss os (suc (p .0)) f c (inside k c m .0) (held-as k c m t)
 
   empty : (f : ℕ → ℕ) (o : ℕ) → ((c : ℕ) → c < 4096 → field x (o + c) ≡ ifHeld n qs ss os (suc (p .0)) f c)
       → (k c : ℕ) → Member c (cells k) → mine F J p c ≡ false → field x (o + c) ≡ 0
@@ -106,14 +107,14 @@ module _ (Q n : ℕ) (qs : List (List ℕ)) (ss os : List ℕ) (four : All (λ q
       by-owner (suc k) d (kid n qs ss s k c d m q .up)
       (ap (nthPart Q) (owners-fit n qs ss (suc Q) os owners c d (inside k c m .0) q) ∙ e)
 
-  child-is : (k c : ℕ) → Member c (cells k) → J .family c ≡ p → field x (CHILD + c) ≡ firstChild n qs ss c
-  child-is k c m e = column (firstChild n qs ss) CHILD (st .child) c (by-family k c m e)
+  child-is : (k c : ℕ) → Member c (cells k) → J .family c ≡ p → field x (CHILD + c) ≡ firstChild (length qs) ss c
+  child-is k c m e = column (firstChild (length qs) ss) CHILD (st .child) c (by-family k c m e)
 
   count-is : (k c : ℕ) → Member c (cells k) → J .family c ≡ p → kidCount x c ≡ sizeOf (getD ss c 0)
   unfolding kidCount
   count-is k c m e =
       let a : field x (STATUS + c) ≡ getD ss c 0 = column (λ c. getD ss c 0) STATUS (st .status) c (by-family k c m e) in
-      let b : field x (CHILD + c) ≡ firstChild n qs ss c = child-is k c m e in
+      let b : field x (CHILD + c) ≡ firstChild (length qs) ss c = child-is k c m e in
       let d : field x CELLS ≡ length ss = st .cells in
       rw (a, b, d, le-leb (getD ss c 0) 64 (status-most n qs ss s k c m))
       (elim (ℕ-discrete (sizeOf (getD ss c 0)) 0) [
@@ -202,7 +203,7 @@ module _ (Q n : ℕ) (qs : List (List ℕ)) (ss os : List ℕ) (four : All (λ q
           regular = column (λ c. one-if (nthCell n qs ss c .regular)) REGULAR (st .regular);
           slot = λ c e h g.
               st .slot c e (inside (h .0) c (h .1) .1) g
-              ∙ held-is n qs ss os (suc (p .0)) (λ d. slotOf n qs ss d e) c (inside (h .0) c (h .1) .0) (held-as (h .0) c (h .1) (h .2));
+              ∙ when-held n qs ss os (suc (p .0)) (λ d. slotOf n qs ss d e) c (inside (h .0) c (h .1) .0) (held-as (h .0) c (h .1) (h .2));
           slots-apart = λ c e f h. slots-apart n qs ss four accepted sound (h .0) c e f (h .1);
           paths = path-room n qs ss few s;
           place = λ c h.

@@ -19,7 +19,7 @@ use Rattle.mesh.specs.Cells.{edge, edges, joinsb, heldb, noCell}
 use Rattle.mesh.specs.Weights.{Point}
 use Rattle.mesh.specs.Coarse.{cellsb}
 use Rattle.mesh.specs.Table.{levelsOf, cellsOf, soundb}
-use Rattle.mesh.specs.Layout.{Corner, numberIn}
+use Rattle.mesh.specs.Layout.{Corner, numberIn, edgeNumbers}
 use Rattle.edges.specs.Pairs.{Pair, sorted, isb, addPairs, same-pair, joins-sorted, has-pairs}
 use Rattle.numbering.specs.Corners.{Has}
 use Rattle.numbering.specs.Tests.{edgeIn, Placed, EndsPlaced, held-numbers}
@@ -27,17 +27,17 @@ use Rattle.numbering.specs.Renamed.{edge-in, edge-map}
 use Rattle.numbering.specs.Tables.{sound-numbers}
 use Rattle.soundness.specs.Sound.{Sound, sound-parts}
 use Rattle.rounds.specs.Tests.{Member, member-cases}
-use Rattle.rounds.specs.Task.{sixEdges}
 use Rattle.parts.specs.Owners.{nthCell}
 use Rattle.splitting.specs.Numbers.{numbersOf, number-inside}
 use Rattle.splitting.specs.Split.{Slots}
 use Rattle.splitting.specs.Members.{six-below}
 use Rattle.splitting.specs.Keyed.{keyedSlot, keyedSlots, keyed-slots}
-use Rattle.split.specs.Columns.{cornersIn, numberedCell, keysAt, slotsBelow, slotOf}
+use Rattle.split.specs.Columns.{numberedCell, keysAt, slotsBelow, slotOf}
 use Rattle.tasks.specs.Levels.{level-range}
+use Rattle.tables.specs.Sound.{examinedCorners}
 
 module _ (n : ℕ) (qs : List (List ℕ)) (ss : List ℕ) where
-  abbrev pub key : ℕ → ℕ → Pair
+  abbrev key : ℕ → ℕ → Pair
   key c e = sorted (edge 0 (numberedCell n qs ss c) e)
 
   abbrev pub slotsOn : ℕ → List ℕ
@@ -46,7 +46,7 @@ module _ (n : ℕ) (qs : List (List ℕ)) (ss : List ℕ) where
   sixOf : ℕ → List Pair
   sixOf c = edges 0 (numberedCell n qs ss c)
 
-  has-six : (c e : ℕ) → Member e sixEdges → (l : List ℕ) → Member e l
+  has-six : (c e : ℕ) → Member e edgeNumbers → (l : List ℕ) → Member e l
       → T (hasb isb (map sorted (map (edge 0 (numberedCell n qs ss c)) l)) (key c e))
   unfolding hasb memberb
   has-six c e b [] m = absurd m
@@ -57,17 +57,17 @@ module _ (n : ℕ) (qs : List (List ℕ)) (ss : List ℕ) where
       (λ (q : Member e l). or-second (isb (key c x) (key c e)) rest (has-six c e b l q))
       (member-cases e x l m)
 
-  six-map : (c : ℕ) → sixOf c ≡ map (edge 0 (numberedCell n qs ss c)) sixEdges
+  six-map : (c : ℕ) → sixOf c ≡ map (edge 0 (numberedCell n qs ss c)) edgeNumbers
   unfolding sixOf edges
   six-map c = refl
 
-  has-flat : (l : List ℕ) (c e : ℕ) → Member c l → Member e sixEdges → T (hasb isb (map sorted (flatMap sixOf l)) (key c e))
+  has-flat : (l : List ℕ) (c e : ℕ) → Member c l → Member e edgeNumbers → T (hasb isb (map sorted (flatMap sixOf l)) (key c e))
   unfolding flatMap memberb
   has-flat [] c e m b = absurd m
   has-flat (x ∷ l) c e m b =
       rw (map-append sorted (sixOf x) (flatMap sixOf l), has-append isb (map sorted (sixOf x)) (map sorted (flatMap sixOf l)) (key c e))
       (⊎-elim (λ (q : c ≡ x). or-first (hasb isb (map sorted (sixOf x)) (key c e)) (hasb isb (map sorted (flatMap sixOf l)) (key c e))
-      (subst (λ (z : ℕ). T (hasb isb (map sorted (sixOf z)) (key c e))) q (rw (six-map c) (has-six c e b sixEdges b))))
+      (subst (λ (z : ℕ). T (hasb isb (map sorted (sixOf z)) (key c e))) q (rw (six-map c) (has-six c e b edgeNumbers b))))
       (λ (q : Member c l). or-second (hasb isb (map sorted (sixOf x)) (key c e)) (hasb isb (map sorted (flatMap sixOf l)) (key c e))
       (has-flat l c e q b))
       (member-cases c x l m))
@@ -76,7 +76,7 @@ module _ (n : ℕ) (qs : List (List ℕ)) (ss : List ℕ) where
   unfolding keysAt sixOf
   keys-are k = ap (λ (l : List ℕ). addPairs [] (flatMap sixOf l)) (sym (level-range n qs ss k))
 
-  key-there : (k c e : ℕ) → Member c (numbersOf n qs ss k) → Member e sixEdges → hasb isb (keysAt n qs ss k) (key c e) ≡ true
+  key-there : (k c e : ℕ) → Member c (numbersOf n qs ss k) → Member e edgeNumbers → hasb isb (keysAt n qs ss k) (key c e) ≡ true
   unfolding hasb
   key-there k c e m b =
       ap (λ (l : List Pair). hasb isb l (key c e)) (keys-are k) ∙ has-pairs [] (flatMap sixOf (numbersOf n qs ss k)) (key c e)
@@ -91,19 +91,19 @@ module _ (n : ℕ) (qs : List (List ℕ)) (ss : List ℕ) where
     s = sound-parts n qs ss sound
 
     abbrev ks : List Corner
-    ks = cornersIn n qs ss
+    ks = examinedCorners n qs ss
 
-    pub cell-placed : (c : ℕ) → c < length ss → Placed (cornersIn n qs ss) (nthCell n qs ss c)
+    pub cell-placed : (c : ℕ) → c < length ss → Placed (examinedCorners n qs ss) (nthCell n qs ss c)
     unfolding nthCell
     cell-placed c h =
-        all-at (Placed (cornersIn n qs ss)) noCell (cellsOf (levelsOf n qs ss)) (sound-numbers n qs ss four accepted sound .placed) c
+        all-at (Placed (examinedCorners n qs ss)) noCell (cellsOf (levelsOf n qs ss)) (sound-numbers n qs ss four accepted sound .placed) c
         (omega (arith, s .many))
 
-    pub edge-placed : (c e : ℕ) → c < length ss → e < 6 → EndsPlaced (cornersIn n qs ss) (edge [] (nthCell n qs ss c) e)
+    pub edge-placed : (c e : ℕ) → c < length ss → e < 6 → EndsPlaced (examinedCorners n qs ss) (edge [] (nthCell n qs ss c) e)
     edge-placed c e h g = edge-in [] 0 (numberIn ks) (Has ks) (nthCell n qs ss c) (cell-placed c h) e g
 
     pub edge-number : (c e : ℕ) → c < length ss → e < 6
-        → edge 0 (numberedCell n qs ss c) e ≡ edgeIn (cornersIn n qs ss) (edge [] (nthCell n qs ss c) e)
+        → edge 0 (numberedCell n qs ss c) e ≡ edgeIn (examinedCorners n qs ss) (edge [] (nthCell n qs ss c) e)
     unfolding numberedCell
     edge-number c e h g = edge-map [] 0 (numberIn ks) (Has ks) (nthCell n qs ss c) (cell-placed c h) e g
 

@@ -25,13 +25,14 @@ use Rattle.rows.specs.Many.{size-refined, size-some, length-next}
 use Rattle.lineage.specs.Born.{childOf, born, born-below, born-at}
 use Rattle.lineage.specs.Levels.{cells-first}
 use Rattle.lineage.specs.Paths.{length-coarse}
+use Rattle.lineage.specs.Olds.{firstChild}
 use Rattle.carriers.specs.Refined.{pattern-small}
 use Rattle.soundness.specs.Held.{closed-at, closed-length}
 use Rattle.soundness.specs.Sound.{Sound, lv, level-closed, level-next, level-there}
 use Rattle.rounds.specs.Tests.{Member}
 use Rattle.parts.specs.Owners.{nthCell, childrenOf}
 use Rattle.splitting.specs.Numbers.{numbersOf, at-level, stands, number-inside, level-at, kid, kid-in}
-use Rattle.split.specs.Columns.{cellsBelow, firstChild}
+use Rattle.split.specs.Columns.{cellsBelow}
 use Rattle.tasks.specs.Levels.{below-first, below-more, below-none}
 
 -- the numbers that lie between two bounds, among others
@@ -124,7 +125,7 @@ module _ (n : ℕ) (qs : List (List ℕ)) (ss : List ℕ) (s : Sound n qs ss) wh
       (omega (arith, known k), rw e at (a .inside), rw e at (a .status-is)))
 
   -- behind the coarse cells stand the children of all cells of lower levels
-  pub below-up : (k : ℕ) → k < length (levelsOf n qs ss) → cellsBelow n qs ss (suc k) ≡ firstChild n qs ss (cellsBelow n qs ss k)
+  pub below-up : (k : ℕ) → k < length (levelsOf n qs ss) → cellsBelow n qs ss (suc k) ≡ firstChild (length qs) ss (cellsBelow n qs ss k)
   unfolding firstChild levelsOf
   below-up zero h =
       let z : sizes (take (cellsBelow n qs ss 0) ss) ≡ 0 = ap (λ (x : ℕ). sizes (take x ss)) (below-none n qs ss) ∙ none-yet ss in
@@ -145,12 +146,12 @@ module _ (n : ℕ) (qs : List (List ℕ)) (ss : List ℕ) (s : Sound n qs ss) wh
 
   -- a child by its number
   pub record KidAt (k c i : ℕ) : Type 0 where
-    pub up : Member (firstChild n qs ss c + i) (numbersOf n qs ss (suc k))
-    pub is : nthCell n qs ss (firstChild n qs ss c + i) ≡ childOf c (nthCell n qs ss c) (getD ss c 0) i
+    pub up : Member (firstChild (length qs) ss c + i) (numbersOf n qs ss (suc k))
+    pub is : nthCell n qs ss (firstChild (length qs) ss c + i) ≡ childOf c (nthCell n qs ss c) (getD ss c 0) i
 
   -- the place of a child one level up
   child-number : (k p i : ℕ) → p < length (lv n qs ss k .cells) → k < length (levelsOf n qs ss) → suc k < length (levelsOf n qs ss)
-      → lv n qs ss (suc k) .first + (sizes (take p (sts k)) + i) ≡ firstChild n qs ss (lv n qs ss k .first + p) + i
+      → lv n qs ss (suc k) .first + (sizes (take p (sts k)) + i) ≡ firstChild (length qs) ss (lv n qs ss k .first + p) + i
   unfolding firstChild
   child-number k p i h g u =
       let e : lv n qs ss k .first ≡ cellsBelow n qs ss k = below-first n qs ss k g in
@@ -191,12 +192,12 @@ module _ (n : ℕ) (qs : List (List ℕ)) (ss : List ℕ) (s : Sound n qs ss) wh
       subst (λ (x : ℕ). KidAt k x i) (sym (p .number)) (child-place k (p .t) i (p .below) g)
 
   -- a cell one level up is a child
-  pub record BornTo (k d : ℕ) : Type 0 where
+  record BornTo (k d : ℕ) : Type 0 where
     pub c : ℕ
     pub i : ℕ
     pub there : Member c (numbersOf n qs ss k)
     pub small : i < sizeOf (getD ss c 0)
-    pub number : d ≡ firstChild n qs ss c + i
+    pub number : d ≡ firstChild (length qs) ss c + i
     pub parent : nthCell n qs ss d .parent ≡ c
 
   born-to : (k d : ℕ) → Member d (numbersOf n qs ss (suc k)) → BornTo k d
@@ -226,51 +227,52 @@ module _ (n : ℕ) (qs : List (List ℕ)) (ss : List ℕ) (s : Sound n qs ss) wh
   parent-in k d m = let b = born-to k d m in rw (b .parent) (b .there)
 
   pub kids-inside : (k c : ℕ) → Member c (numbersOf n qs ss k) → 0 < sizeOf (getD ss c 0)
-      → firstChild n qs ss c + sizeOf (getD ss c 0) ≤ length ss
+      → firstChild (length qs) ss c + sizeOf (getD ss c 0) ≤ length ss
   kids-inside k c m h =
       let w = kid-at k c (sizeOf (getD ss c 0) - 1) m (omega arith) in
-      omega (arith, number-inside n qs ss s (suc k) (firstChild n qs ss c + (sizeOf (getD ss c 0) - 1)) (w .up))
+      omega (arith, number-inside n qs ss s (suc k) (firstChild (length qs) ss c + (sizeOf (getD ss c 0) - 1)) (w .up))
 
   module _ (k c : ℕ) (m : Member c (numbersOf n qs ss k)) where
     abbrev mineb : ℕ → Bool
     mineb d = eqb (nthCell n qs ss d .parent) c
 
-    kid-to : (d : ℕ) → 0 ≤ d → d < 0 + length ss → firstChild n qs ss c ≤ d → d < firstChild n qs ss c + sizeOf (getD ss c 0)
+    kid-to : (d : ℕ) → 0 ≤ d → d < 0 + length ss → firstChild (length qs) ss c ≤ d → d < firstChild (length qs) ss c + sizeOf (getD ss c 0)
         → mineb d ≡ true
     kid-to d a b h g =
-        let w = kid-at k c (d - firstChild n qs ss c) m (omega arith) in
-        let z : firstChild n qs ss c + (d - firstChild n qs ss c) ≡ d = omega arith in
+        let w = kid-at k c (d - firstChild (length qs) ss c) m (omega arith) in
+        let z : firstChild (length qs) ss c + (d - firstChild (length qs) ss c) ≡ d = omega arith in
         let e : nthCell n qs ss d .parent ≡ c = rw z at (ap (λ (c : Cell Point). c .parent) (w .is)) in
         eq-eqb (nthCell n qs ss d .parent) c e
 
     kid-from : (d : ℕ) → 0 ≤ d → d < 0 + length ss → mineb d ≡ true
-        → (firstChild n qs ss c ≤ d) × (d < firstChild n qs ss c + sizeOf (getD ss c 0))
+        → (firstChild (length qs) ss c ≤ d) × (d < firstChild (length qs) ss c + sizeOf (getD ss c 0))
     kid-from d a b t =
         let e : nthCell n qs ss d .parent ≡ c = eqb-true (nthCell n qs ss d .parent) c t in
         let (j, q) = level-at n qs ss s d (omega arith) in
         let w = kid n qs ss s k c d m (kid-in n qs ss s j c d q e) in
         let o = born-to k d (w .up) in
         let z : o .c ≡ c = sym (o .parent) ∙ e in
-        let x : firstChild n qs ss (o .c) ≡ firstChild n qs ss c = ap (firstChild n qs ss) z in
+        let x : firstChild (length qs) ss (o .c) ≡ firstChild (length qs) ss c = ap (firstChild (length qs) ss) z in
         let y : sizeOf (getD ss (o .c) 0) ≡ sizeOf (getD ss c 0) = ap (λ (v : ℕ). sizeOf (getD ss v 0)) z in
         (omega (arith, o .number, o .small), omega (arith, o .number, o .small))
 
-    pub kids-are : childrenOf n qs ss c ≡ range (firstChild n qs ss c) (sizeOf (getD ss c 0))
+    pub kids-are : childrenOf n qs ss c ≡ range (firstChild (length qs) ss c) (sizeOf (getD ss c 0))
     unfolding childrenOf range
     kids-are =
-        filter-between mineb (firstChild n qs ss c) (sizeOf (getD ss c 0)) 0 (length ss) kid-to kid-from
+        filter-between mineb (firstChild (length qs) ss c) (sizeOf (getD ss c 0)) 0 (length ss) kid-to kid-from
         ∙ go (ℕ-discrete (sizeOf (getD ss c 0)) 0)
       where
         go : Dec (sizeOf (getD ss c 0) ≡ 0)
-            → range (max 0 (firstChild n qs ss c))
-            (min (0 + length ss) (firstChild n qs ss c + sizeOf (getD ss c 0)) - max 0 (firstChild n qs ss c))
-            ≡ range (firstChild n qs ss c) (sizeOf (getD ss c 0))
+            → range (max 0 (firstChild (length qs) ss c))
+            (min (0 + length ss) (firstChild (length qs) ss c + sizeOf (getD ss c 0)) - max 0 (firstChild (length qs) ss c))
+            ≡ range (firstChild (length qs) ss c) (sizeOf (getD ss c 0))
         go (yes z) =
-            let y : min (0 + length ss) (firstChild n qs ss c + sizeOf (getD ss c 0)) - max 0 (firstChild n qs ss c) ≡ 0 = omega arith in
+            let y : min (0 + length ss) (firstChild (length qs) ss c + sizeOf (getD ss c 0)) - max 0 (firstChild (length qs) ss c) ≡ 0
+            = omega arith in
             rw (y, z) refl
         go (no z) =
             let w = kids-inside k c m (omega arith) in
-            let x : max 0 (firstChild n qs ss c) ≡ firstChild n qs ss c = omega arith in
-            let y : min (0 + length ss) (firstChild n qs ss c + sizeOf (getD ss c 0)) - firstChild n qs ss c ≡ sizeOf (getD ss c 0) =
-            omega arith in
+            let x : max 0 (firstChild (length qs) ss c) ≡ firstChild (length qs) ss c = omega arith in
+            let y : min (0 + length ss) (firstChild (length qs) ss c + sizeOf (getD ss c 0)) - firstChild (length qs) ss c
+            ≡ sizeOf (getD ss c 0) = omega arith in
             rw (x, y) refl

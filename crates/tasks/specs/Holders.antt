@@ -18,6 +18,7 @@ use Rattle.base.specs.Every.{All, getD-map}
 use Rattle.base.specs.Range.{range, length-range, range-at, range-member, member-range}
 use Rattle.mesh.specs.Coarse.{cellsb}
 use Rattle.mesh.specs.Table.{soundb}
+use Rattle.mesh.specs.Layout.{edgeNumbers}
 use Rattle.soundness.specs.Sound.{Sound, sound-parts}
 use Rattle.exchange.specs.Finite.{Finite, parts}
 use Rattle.rounds.specs.Tests.{Member, same-test, any-member, member-any}
@@ -32,7 +33,7 @@ use Rattle.splitting.specs.Split.{Slots, taskOf}
 use Rattle.splitting.specs.Members.{first-in}
 use Rattle.splitting.specs.Admissible.{owners-counted}
 use Rattle.merging.specs.Run.{nthPart, numberOf, named}
-use Rattle.split.specs.Columns.{sixEdges, slotOf, holdsCell, holdsSlot, holdersOf}
+use Rattle.split.specs.Columns.{slotOf, holdsCell, holdsSlot, holdersOf}
 use Rattle.tasks.specs.Edges.{slotsOn, slots-split}
 use Rattle.tasks.specs.Inner.{bit-at}
 
@@ -88,7 +89,7 @@ module _ (Q n : ℕ) (qs : List (List ℕ)) (ss os : List ℕ) (sound : T (sound
       rw (ne-eqb (getD os c 0) (suc i) (λ z. omega arith), ne-eqb (familyOf n qs ss os c) (suc i) (λ z. omega arith))
 
   abbrev hasb : ℕ → ℕ → Bool
-  hasb c x = anyb (λ e. eqb (slotOf n qs ss c e) x) sixEdges
+  hasb c x = anyb (λ e. eqb (slotOf n qs ss c e) x) edgeNumbers
 
   no-slot : (i x : ℕ) → suc Q ≤ i → holdsSlot n qs ss os (suc i) x ≡ false
   unfolding holdsSlot
@@ -108,7 +109,7 @@ module _ (Q n : ℕ) (qs : List (List ℕ)) (ss os : List ℕ) (sound : T (sound
     -- the level of a cell's slots
     slot-level : (k c x : ℕ) → Member c (numbersOf n qs ss k) → T (hasb c x) → Member x (slotsOn n qs ss k)
     slot-level k c x m t =
-        let (e, b, u) = any-member (λ e. eqb (slotOf n qs ss c e) x) sixEdges t in
+        let (e, b, u) = any-member (λ e. eqb (slotOf n qs ss c e) x) edgeNumbers t in
         subst (λ (y : ℕ). Member y (slotsOn n qs ss k)) (eqb→eq (slotOf n qs ss c e) x u) (sl .there k c e m b)
 
     pub slot-told : (p : Fin (suc Q)) (k x : ℕ) → holdsb (parts (suc Q)) (splitTask Q n qs ss os) p k x ≡ true

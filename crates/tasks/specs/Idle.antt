@@ -25,7 +25,7 @@ use Rattle.parts.specs.Held.{masterb}
 use Rattle.parts.specs.Starts.{mastersOn, startb, placeOn}
 use Rattle.entering.specs.Columns.{countBefore}
 use Rattle.split.specs.Columns.{holdsCell}
-use Rattle.split.specs.Stored.{Stored, held-is, not-held}
+use Rattle.split.specs.Stored.{Stored, when-held, not-held}
 use Rattle.tasks.specs.Levels.{below-coarse, below-all, one-at-least}
 
 -- one number more of those that pass a test
@@ -94,7 +94,7 @@ module _ (n : ℕ) (qs : List (List ℕ)) (ss : List ℕ) (P : ℕ) (os : List �
 
       go : (b : Bool) → holdsCell n qs ss os (suc p) c ≡ b → (d : Bool) → masterb os (suc p) c ≡ d → ownb x c ≡ masterb os (suc p) c
       go true e d f =
-          ap₂ eqb (st .owner c small ∙ held-is n qs ss os (suc p) (λ c. getD os c 0) c h e) (st .part)
+          ap₂ eqb (st .owner c small ∙ when-held n qs ss os (suc p) (λ c. getD os c 0) c h e) (st .part)
       go false e true f = not-both (holdsCell n qs ss os (suc p) c) (ap (λ (b : Bool). b || eqb (familyOf n qs ss os c) (suc p)) f) e
       go false e false f =
           ap₂ eqb (st .owner c small ∙ not-held n qs ss os (suc p) (λ c. getD os c 0) c e) (st .part)
@@ -104,7 +104,7 @@ module _ (n : ℕ) (qs : List (List ℕ)) (ss : List ℕ) (P : ℕ) (os : List �
   unfolding holdsCell
   status-is c h e =
       st .status c (omega (arith, s .many, s .few))
-      ∙ held-is n qs ss os (suc p) (λ c. getD ss c 0) c h (ap (λ (b : Bool). b || eqb (familyOf n qs ss os c) (suc p)) e)
+      ∙ when-held n qs ss os (suc p) (λ c. getD ss c 0) c h (ap (λ (b : Bool). b || eqb (familyOf n qs ss os c) (suc p)) e)
 
   -- the marks from the cell c on
   abbrev due : ℕ → ℕ → List ℕ

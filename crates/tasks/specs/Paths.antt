@@ -19,7 +19,7 @@ use Rattle.soundness.specs.Family.{born-of}
 use Rattle.soundness.specs.Sound.{Sound, lv, level-closed, level-next, level-there}
 use Rattle.rounds.specs.Tests.{Member}
 use Rattle.store.specs.declared.Place.{Place}
-use Rattle.store.specs.Places.{levelIn, placeOf, eights, pathOf, path-place}
+use Rattle.store.specs.Places.{placeLevel, placeOf, eights, pathOf, path-place}
 use Rattle.parts.specs.Owners.{nthCell}
 use Rattle.held.specs.Key.{length-eights}
 use Rattle.splitting.specs.Numbers.{numbersOf, at-level, stands}
@@ -64,24 +64,24 @@ module _ (n : ℕ) (qs : List (List ℕ)) (ss : List ℕ) (few : length qs ≤ 2
       ap (λ (x : ℕ). nthCell n qs ss x .path) (p .number) ∙ ap (λ (c : Cell Point). c .path) (a .cell-is) in
       rw e (place-room k (p .t) (p .below))
 
-length-path : (p : Place) → length (pathOf p) ≡ suc (min (levelIn p) 10)
+length-path : (p : Place) → length (pathOf p) ≡ suc (min (placeLevel p) 10)
 unfolding pathOf
 length-path p =
-    ap suc (length-take (levelIn p) (eights 5 (p .digits) ++ eights 5 (p .more))
-    ∙ ap (min (levelIn p)) (length-append (eights 5 (p .digits)) (eights 5 (p .more))
+    ap suc (length-take (placeLevel p) (eights 5 (p .digits) ++ eights 5 (p .more))
+    ∙ ap (min (placeLevel p)) (length-append (eights 5 (p .digits)) (eights 5 (p .more))
     ∙ omega (arith, length-eights 5 (p .digits), length-eights 5 (p .more))))
 
 pub place-coarse : (k : ℕ) (l : List ℕ) → k ≤ 10 → Path k l → ltb (placeOf l .head) 256 ≡ coarseb k
 unfolding coarseb
 place-coarse k l h p = go k (level (p .is) (p .deep))
   where
-    level : l ≡ p .coarse ∷ p .down → length (p .down) ≡ k → min (levelIn (placeOf l)) 10 ≡ k
+    level : l ≡ p .coarse ∷ p .down → length (p .down) ≡ k → min (placeLevel (placeOf l)) 10 ≡ k
     level e d =
         let w : pathOf (placeOf (p .coarse ∷ p .down)) ≡ p .coarse ∷ p .down =
         path-place (p .coarse) (p .down) (p .coarse-few) (omega arith) (p .digits) in
         let u : pathOf (placeOf l) ≡ p .coarse ∷ p .down = ap (λ (q : List ℕ). pathOf (placeOf q)) e ∙ w in
         omega (arith, length-path (placeOf l), ap length u)
 
-    go : (j : ℕ) → min (levelIn (placeOf l)) 10 ≡ j → ltb (placeOf l .head) 256 ≡ coarseb j
+    go : (j : ℕ) → min (placeLevel (placeOf l)) 10 ≡ j → ltb (placeOf l .head) 256 ≡ coarseb j
     go zero e = lt-ltb (placeOf l .head) 256 (omega arith)
     go (suc j) e = le-ltb (placeOf l .head) 256 (omega arith)

@@ -37,7 +37,7 @@ use Rattle.splitting.specs.Members.{below-six}
 use Rattle.split.specs.Columns.{slotOf}
 use Rattle.tasks.specs.Edges.{slots-split}
 
-abbrev pub PointsApart : Cell Point → Type 0
+abbrev PointsApart : Cell Point → Type 0
 PointsApart c = (i j : ℕ) → i < 4 → j < 4 → corner [] c i ≡ corner [] c j → i ≡ j
 
 -- edges have their own middles

@@ -24,6 +24,7 @@ slotAt x c e = field x (SLOT + (6 * c + e))
 unfoldable pub hitb : List ℕ → ℕ → Bool
 hitb x s = ltb s 24576 && not (eqb (field x (SUM + s)) 0)
 
+-- Rule 7.2.
 unfoldable pub hitOf : List ℕ → ℕ → ℕ → Bool
 unfolding hitb
 hitOf x c e = hitb x (slotAt x c e)
@@ -43,13 +44,14 @@ unfoldable pub pulledKid : List ℕ → ℕ → Bool
 unfolding someFrom pullOf
 pulledKid x d = eqb (field x (MARK + d)) 1 || someFrom (pullOf x d) 6 0
 
--- as many as its status says, and none beyond the number of cells
+-- Rule 3.1: as many as its status says, and none beyond the number of cells
 unfoldable pub kidCount : List ℕ → ℕ → ℕ
 unfolding sizeOf
 kidCount x c =
     min (elim (leb (field x (STATUS + c)) 64) [ true ↦ sizeOf (field x (STATUS + c)) | false ↦ 0 ])
     (field x CELLS - field x (CHILD + c))
 
+-- Rule 7.3.
 unfoldable pub busyb : List ℕ → ℕ → Bool
 unfolding idleKid
 busyb x d = not (idleKid x d)

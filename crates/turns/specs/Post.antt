@@ -23,10 +23,12 @@ unfoldable pub posted : List ℕ → ℕ → ℕ → ℕ → List ℕ
 unfolding entered
 posted x k v m = elim (not (eqb m 0) && ltb (field x WRITTEN) 28696) [ true ↦ entered x k v m | false ↦ x ]
 
+-- Rule 15.4.
 unfoldable pub besides : List ℕ → ℕ → ℕ
 unfolding bitb
 besides x m = elim (bitb m (field x PART - 1)) [ true ↦ m - 2 ^ (field x PART - 1) | false ↦ m ]
 
+-- Rule 15.4.
 unfoldable pub othersOf : List ℕ → ℕ
 othersOf x = 2 ^ field x PARTS - 1 - 2 ^ (field x PART - 1)
 

@@ -28,10 +28,12 @@ ownb x c = eqb (field x (OWNER + c)) (field x PART)
 unfoldable pub markOk : List ℕ → ℕ → ℕ → Bool
 markOk x c m = leb m 2 && (eqb m 0 || eqb (field x (STATUS + c)) 0)
 
+-- Rule 15.6.
 unfoldable pub markAt : List ℕ → List ℕ → ℕ → ℕ → Bool
 unfolding ownb markOk
 markAt x ms c j = elim (ownb x c) [ true ↦ ltb j (length ms) && markOk x c (getD ms j 0) | false ↦ true ]
 
+-- Rule 15.6.
 unfoldable pub nextMark : List ℕ → ℕ → ℕ → ℕ
 unfolding ownb
 nextMark x c j = elim (ownb x c) [ true ↦ suc j | false ↦ j ]
@@ -42,6 +44,7 @@ unfolding markAt nextMark
 marksDue x ms zero c j = eqb (length ms) j
 marksDue x ms (suc n) c j = markAt x ms c j && marksDue x ms n (suc c) (nextMark x c j)
 
+-- Rule 15.6.
 unfoldable pub markSet : List ℕ → List ℕ → ℕ → ℕ → List ℕ
 unfolding ownb
 markSet x ms c j = elim (ownb x c && ltb j (length ms)) [ true ↦ set x (MARK + c) (getD ms j 0) | false ↦ x ]
@@ -52,6 +55,7 @@ unfolding markSet nextMark
 markedFrom x ms zero c j = x
 markedFrom x ms (suc n) c j = markedFrom (markSet x ms c j) ms n (suc c) (nextMark x c j)
 
+-- Rule 3.2.
 unfoldable pub levelFrom : List ℕ → ℕ → ℕ
 levelFrom x k = min (field x (FIRST-CELL + k)) (field x CELLS)
 
@@ -75,6 +79,7 @@ unfoldable pub startedStore : List ℕ → List ℕ → List ℕ
 unfolding markedFrom enterMarks
 startedStore x ms = enterMarks (set (markedFrom x ms (field x CELLS) 0 0) STAGE 1) (field x LEVELS - 1)
 
+-- Rule 15.6: a refused call changes nothing
 unfoldable pub startedIn : Answer → List ℕ → List ℕ → List ℕ
 unfolding startedStore
 startedIn Accepted x ms = startedStore x ms

@@ -9,7 +9,7 @@ use Rattle.columns.proofs.Owning.{onceb, owners-many, owners-parts, own
 use Rattle.reds.specs.Ranges.{all-range-miss, all-range-next, all-range-end}
 use Rattle.base.specs.Range.{range}
 use Rattle.base.specs.Lists.{allb}
-use Rattle.columns.specs.Ten.{Kids}
+use Rattle.columns.specs.Ten.{FirstKids}
 use borrow.Author.Needs.{needs}
 use Rattle.columns.proofs.owners_fit.Statement.{statement}
 use Rattle.columns.proofs.owners_fit.Tie as tie
@@ -44,7 +44,7 @@ loop-holds c =
 one-owner-requires : tie.Need-one-owner-requires Inv-loop μ-loop
 one-owner-requires c κs =
     let s = c .before .before .before .before .before .before .before .before in
-    (subst (λ (m : ℕ). Kids (s .args .kids .now) m) (sym (c .before .before .before .before .if1 .left)) (s .pre), c .loop-test .taken)
+    (subst (λ (m : ℕ). FirstKids (s .args .kids .now) m) (sym (c .before .before .before .before .if1 .left)) (s .pre), c .loop-test .taken)
 
 returns-3 : tie.Need-returns-3 Inv-loop μ-loop
 returns-3 c =
@@ -71,7 +71,8 @@ loop-again c =
     let h = c .before .before .before .before .before .before .if1 .left in (
       omega (arith, c .before .before .loop-test .taken),
       sym (all-range-next (onceb (s .status .now) (s .kids .now) (s .owners .now) (s .parts)) (l .c) (length (s .status .now))
-          (omega (arith, c .before .before .loop-test .taken)) (sym (c .before .one-owner .ensures) ∙ not-false _ (c .if3 .left))) ∙ l .inv .1,
+          (omega (arith, c .before .before .loop-test .taken)) (sym (c .before .one-owner .ensures) ∙ not-false _ (c .if3 .left)))
+          ∙ l .inv .1,
     )
 
 returns-4 : tie.Need-returns-4 Inv-loop μ-loop

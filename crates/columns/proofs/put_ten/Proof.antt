@@ -1,23 +1,23 @@
 -- `columns::put_ten` meets its contract: a turn writes the next number. The measure is how many are left.
 -- Assumes nothing.
 use mathlib.Core.Path.{_≡_}
-use Prim.Native.Nat.{_-_, _≤_}
+use Prim.Native.Nat.{_+_, _*_, _-_, _≤_}
 use native.Mathlib.Omega.{arith}
+use lib.ListN.{getD}
 use native.Mathlib.Numerals.{add-one}
-use Rattle.columns.proofs.Placing.{wrote-start, wrote-more}
-use Rattle.columns.specs.Ten.{Wrote}
+use Rattle.store.specs.Written.{WroteAt, wrote-nothing, wrote-next}
 use borrow.Author.Needs.{needs}
 use Rattle.columns.proofs.put_ten.Statement.{statement}
 use Rattle.columns.proofs.put_ten.Tie as tie
 
 abbrev Inv-loop : tie.InvT-loop
-Inv-loop cols₀ c ten j₀ cols j = (j ≤ 10) × Wrote cols₀ c j ten cols
+Inv-loop cols₀ c ten j₀ cols j = (j ≤ 10) × WroteAt (λ i. 4096 * i + c) (λ i. getD ten i 0) j cols₀ cols
 
 abbrev μ-loop : tie.MeasureT-loop
 μ-loop cols₀ c ten j₀ cols j = 10 - j
 
 loop-holds : tie.Need-loop-holds Inv-loop μ-loop
-loop-holds c = (omega arith, wrote-start (c .args .cols .now) (c .args .c) (c .args .ten .now) (c .pre .1))
+loop-holds c = (omega arith, wrote-nothing _ _ (c .args .cols .now))
 
 mul-cols : tie.Need-mul-cols Inv-loop μ-loop
 mul-cols c = search needs
@@ -48,9 +48,8 @@ loop-again c =
     let s = c .before .before .before in
     let l = c .before .before .loop in (
       omega (arith, c .before .loop-test .taken),
-      rw (add-one (l .j)) (wrote-more (s .args .cols .now) (s .args .c) (s .args .ten .now)
-          (s .pre .1) (l .j) (l .cols)
-          (c .before .loop-test .taken) (s .pre .0) (l .inv .1)),
+      rw (add-one (l .j)) (wrote-next _ _ (s .args .cols .now) (l .j) (l .cols) (omega (arith, s .pre, c .before .loop-test .taken))
+          (λ i h e. absurd (omega (arith, e))) (l .inv .1)),
     )
 
 same-length : tie.Need-same-length Inv-loop μ-loop

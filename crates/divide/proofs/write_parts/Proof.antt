@@ -7,7 +7,7 @@ use native.Mathlib.Omega.{arith}
 use native.Mathlib.Numerals.{add-one}
 use lib.ListN.{length}
 use Rattle.divide.proofs.Dividing.{more-start, more-turn, part-length, parts-room}
-use Rattle.divide.specs.Divided.{partBy, storesTo, oneMore}
+use Rattle.divide.specs.Divided.{partBy, storesTo, storePut}
 use borrow.Author.Needs.{needs}
 use Rattle.divide.proofs.write_parts.Statement.{statement}
 use Rattle.divide.proofs.write_parts.Tie as tie
@@ -64,7 +64,7 @@ loop-again c =
       c .before .before .write-part .kept .0 ∙ l .inv .1,
       rw
           (add-one (l .j)) (c .before .before .write-part .ensures
-          ∙ ap (λ (x : List ℕ). oneMore (partBy (a .cols .now) (a .mesh .now) (a .slots .now) (a .firsts .now) (a .starts .now) (a
+          ∙ ap (λ (x : List ℕ). storePut (partBy (a .cols .now) (a .mesh .now) (a .slots .now) (a .firsts .now) (a .starts .now) (a
           .cells) (a
           .parts) (a .n) (a .levels)) x (l .j)) (l .inv .2)
           ∙ more-turn f (part-length (a .cols .now) (a .mesh .now) (a .slots .now) (a .firsts .now) (a .starts .now) (a .cells) (a

@@ -1,6 +1,7 @@
 -- `filling::columns_at` meets its contract.
 -- Assumes nothing.
-use Rattle.filling.proofs.Joining.{put-is, each-list}
+use Rattle.filling.proofs.Joining.{put-is}
+use Rattle.filling.specs.Laws.{tabled-is}
 use Rattle.filling.specs.Regions.{tab, columnBy}
 use borrow.Author.Needs.{needs}
 use Rattle.filling.proofs.columns_at.Statement.{statement}
@@ -31,7 +32,7 @@ returns : tie.Need-returns
 returns c =
     let a = c .before .before .before .before .before .before .args in
     put-is (a .store .now) (c .before .before .fill-columns .last .0) (tab 40960 (columnBy (a .cols .now) (a .cells) (a .part))) (a
-    .at) 40960 (each-list 40960 (columnBy (a .cols .now) (a .cells) (a .part)) (c .before .before .fill-columns .last .0) (c
+    .at) 40960 (tabled-is 40960 (columnBy (a .cols .now) (a .cells) (a .part)) (c .before .before .fill-columns .last .0) (c
     .before .before .fill-columns .ensures))
 
 pub columns-at-spec : {M : Type 1} → statement M

@@ -1,6 +1,7 @@
 -- `filling::corners_at` meets its contract.
 -- Assumes nothing.
-use Rattle.filling.proofs.Joining.{put-is, each-list}
+use Rattle.filling.proofs.Joining.{put-is}
+use Rattle.filling.specs.Laws.{tabled-is}
 use Rattle.filling.specs.Regions.{tab, cornerBy}
 use borrow.Author.Needs.{needs}
 use Rattle.filling.proofs.corners_at.Statement.{statement}
@@ -31,7 +32,7 @@ returns : tie.Need-returns
 returns c =
     let a = c .before .before .before .before .before .before .before .args in
     put-is (a .store .now) (c .before .before .fill-corners .last .0) (tab 1024 (cornerBy (a .cols .now) (a .mesh .now) (a .part))) (a
-    .at) 1024 (each-list 1024 (cornerBy (a .cols .now) (a .mesh .now) (a .part)) (c .before .before .fill-corners .last .0) (c
+    .at) 1024 (tabled-is 1024 (cornerBy (a .cols .now) (a .mesh .now) (a .part)) (c .before .before .fill-corners .last .0) (c
     .before .before .fill-corners .ensures))
 
 pub corners-at-spec : {M : Type 1} → statement M

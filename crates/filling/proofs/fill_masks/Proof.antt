@@ -5,13 +5,13 @@ use Prim.Native.Nat.{_+_, _-_, _≤_}
 use native.Mathlib.Omega.{arith}
 use lib.ListN.{length}
 use Rattle.filling.proofs.Passing.{masks-none, masks-room, flags-room, masks-turn}
-use Rattle.filling.specs.Regions.{zeros, Each, maskFrom}
+use Rattle.filling.specs.Regions.{zeros, Tabled, maskFrom}
 use borrow.Author.Needs.{needs}
 use Rattle.filling.proofs.fill_masks.Statement.{statement}
 use Rattle.filling.proofs.fill_masks.Tie as tie
 
 abbrev Inv-loop : tie.InvT-loop
-Inv-loop masks₀ cols cells slots ones flags₀ p₀ masks flags p = (p ≤ 16) × (length flags ≡ length flags₀) × Each 24576 (maskFrom cols
+Inv-loop masks₀ cols cells slots ones flags₀ p₀ masks flags p = (p ≤ 16) × (length flags ≡ length flags₀) × Tabled 24576 (maskFrom cols
     cells slots (p + 1) (16 - p)) masks
 
 abbrev μ-loop : tie.MeasureT-loop

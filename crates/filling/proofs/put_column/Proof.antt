@@ -4,7 +4,7 @@ use mathlib.Core.Path.{_≡_}
 use Prim.Native.Nat.{_-_, _≤_}
 use native.Mathlib.Omega.{arith}
 use native.Mathlib.Numerals.{add-one}
-use Rattle.filling.proofs.Passing.{column-start, column-turn}
+use Rattle.store.specs.Written.{wrote-nothing, wrote-next}
 use Rattle.filling.specs.Passes.{Column}
 use borrow.Author.Needs.{needs}
 use Rattle.filling.proofs.put_column.Statement.{statement}
@@ -17,7 +17,7 @@ abbrev μ-loop : tie.MeasureT-loop
 μ-loop region₀ cols c j₀ region j = 10 - j
 
 loop-holds : tie.Need-loop-holds Inv-loop μ-loop
-loop-holds c = (omega arith, column-start (c .args .cols .now) (c .args .c) (c .args .region .now))
+loop-holds c = (omega arith, wrote-nothing _ _ (c .args .region .now))
 
 mul-region : tie.Need-mul-region Inv-loop μ-loop
 mul-region c = search needs
@@ -54,9 +54,8 @@ loop-again c =
     let s = c .before .before .before in
     let l = c .before .before .loop in (
       omega (arith, c .before .loop-test .taken),
-      rw (add-one (l .j)) (column-turn (s .args .cols .now) (s .args .c) (s .args .region
-          .now) (l .j)
-          (l .region) (c .before .loop-test .taken) (omega (arith, s .pre)) (omega (arith, s .pre)) (l .inv .1)),
+      rw (add-one (l .j)) (wrote-next _ _ (s .args .region .now) (l .j) (l .region) (omega (arith, s .pre, c .before .loop-test .taken))
+          (λ i h e. absurd (omega (arith, e))) (l .inv .1)),
     )
 
 same-length : tie.Need-same-length Inv-loop μ-loop

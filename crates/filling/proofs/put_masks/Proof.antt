@@ -5,13 +5,13 @@ use Prim.Native.Nat.{_+_, _*_, _-_, _≤_}
 use native.Mathlib.Omega.{arith}
 use native.Mathlib.Numerals.{add-one}
 use Rattle.filling.proofs.Passing.{marked-start, marked-turn}
-use Rattle.filling.specs.Passes.{Marked}
+use Rattle.filling.specs.Passes.{Masked}
 use borrow.Author.Needs.{needs}
 use Rattle.filling.proofs.put_masks.Statement.{statement}
 use Rattle.filling.proofs.put_masks.Tie as tie
 
 abbrev Inv-loop : tie.InvT-loop
-Inv-loop region₀ slots masks c e₀ region e = (e ≤ 6) × Marked slots masks c e region₀ region
+Inv-loop region₀ slots masks c e₀ region e = (e ≤ 6) × Masked slots masks c e region₀ region
 
 abbrev μ-loop : tie.MeasureT-loop
 μ-loop region₀ slots masks c e₀ region e = 6 - e

@@ -1,6 +1,7 @@
 -- `filling::slots_at` meets its contract.
 -- Assumes nothing.
-use Rattle.filling.proofs.Joining.{put-is, each-list}
+use Rattle.filling.proofs.Joining.{put-is}
+use Rattle.filling.specs.Laws.{tabled-is}
 use Rattle.filling.specs.Regions.{tab, slotBy}
 use borrow.Author.Needs.{needs}
 use Rattle.filling.proofs.slots_at.Statement.{statement}
@@ -31,7 +32,7 @@ returns : tie.Need-returns
 returns c =
     let a = c .before .before .before .before .before .before .before .args in
     put-is (a .store .now) (c .before .before .fill-slots .last .0) (tab 24576 (slotBy (a .cols .now) (a .cells) (a .part) (a .slots
-    .now))) (a .at) 24576 (each-list 24576 (slotBy (a .cols .now) (a .cells) (a .part) (a .slots .now)) (c .before .before
+    .now))) (a .at) 24576 (tabled-is 24576 (slotBy (a .cols .now) (a .cells) (a .part) (a .slots .now)) (c .before .before
     .fill-slots .last .0) (c .before .before .fill-slots .ensures))
 
 pub slots-at-spec : {M : Type 1} → statement M

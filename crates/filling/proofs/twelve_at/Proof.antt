@@ -2,7 +2,8 @@
 -- Assumes nothing.
 use Prim.Native.Nat.{_+_, _-_}
 use lib.ListN.{take, drop}
-use Rattle.filling.proofs.Joining.{put-is, between, copied}
+use Rattle.filling.proofs.Joining.{put-is, copied}
+use Rattle.filling.specs.Laws.{between}
 use borrow.Author.Needs.{needs}
 use Rattle.filling.proofs.twelve_at.Statement.{statement}
 use Rattle.filling.proofs.twelve_at.Tie as tie

@@ -1,7 +1,8 @@
 -- `filling::write_columns` meets its contract: three regions one behind the other.
 -- Assumes nothing.
 use native.Mathlib.Omega.{arith}
-use Rattle.filling.proofs.Joining.{by-three, tab-length, zero-length}
+use Rattle.filling.proofs.Joining.{by-three}
+use Rattle.filling.specs.Laws.{tab-length, zero-length}
 use Rattle.filling.specs.Regions.{zeros, tab, columnBy, cornerBy}
 use borrow.Author.Needs.{needs}
 use Rattle.filling.proofs.write_columns.Statement.{statement}

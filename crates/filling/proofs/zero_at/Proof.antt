@@ -2,7 +2,8 @@
 -- Assumes nothing.
 use Prim.Native.Nat.{_+_, _-_}
 use lib.ListN.{take, drop}
-use Rattle.filling.proofs.Joining.{put-is, between, zeros-list}
+use Rattle.filling.proofs.Joining.{put-is, zeros-list}
+use Rattle.filling.specs.Laws.{between}
 use Rattle.filling.specs.Regions.{zeros}
 use borrow.Author.Needs.{needs}
 use Rattle.filling.proofs.zero_at.Statement.{statement}

@@ -1,4 +1,4 @@
-use Rattle.held.proofs.Rows.{one-true, one-false}
+use Rattle.base.specs.Bools.{one-if}
 use mathlib.Core.Path.{sym, _∙_}
 use borrow.Author.Needs.{needs}
 use Rattle.held.proofs.ghost_number.Statement.{statement}
@@ -11,10 +11,12 @@ is-ghost-requires : tie.Need-is-ghost-requires
 is-ghost-requires c κs = search needs
 
 returns : tie.Need-returns
-returns c = one-true _ (sym (c .before .is-ghost .ensures) ∙ c .if1 .taken)
+unfolding one-if
+returns c = rw (sym (c .before .is-ghost .ensures) ∙ c .if1 .taken)
 
 returns-2 : tie.Need-returns-2
-returns-2 c = one-false _ (sym (c .before .is-ghost .ensures) ∙ c .if1 .left)
+unfolding one-if
+returns-2 c = rw (sym (c .before .is-ghost .ensures) ∙ c .if1 .left)
 
 pub ghost-number-spec : {M : Type 1} → statement M
 ghost-number-spec = tie.close (tie.spec is-ghost-requires returns returns-2)

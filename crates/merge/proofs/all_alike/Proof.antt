@@ -1,5 +1,4 @@
-use Rattle.merge.specs.Stores.{all-on, all-stop, all-out, stores-at, length-stores}
-use Rattle.merge.specs.Steps.{storesBy}
+use Rattle.merge.specs.Stores.{all-on, all-stop, all-out}
 use Rattle.merge.specs.Merge.{alikeb}
 use Rattle.base.specs.Lists.{allb}
 use borrow.Author.Needs.{needs}
@@ -15,6 +14,7 @@ use Rattle.merge.proofs.all_alike.Tie as tie
 use Rattle.merge.proofs.all_alike.Reads as reads
 use Rattle.merge.proofs.all_alike.Lts as lts
 use Rattle.merge.proofs.is_alike.Reads as is-alike-reads
+use Rattle.store.specs.Stores.{storesBy, length-stores, stores-at}
 
 abbrev Inv-loop : tie.InvT-loop
 Inv-loop stores parts j₀ j = (j ≤ parts) × (allb (alikeb stores) (drop j (storesBy stores parts)) ≡ allb (alikeb stores)

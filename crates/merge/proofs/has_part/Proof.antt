@@ -1,6 +1,6 @@
-use Rattle.merge.specs.Stores.{any-on, any-stop, any-out, stores-at, length-stores, field-in}
-use Rattle.merge.specs.Steps.{storesBy}
+use Rattle.merge.specs.Stores.{any-on, any-stop, any-out}
 use Rattle.store.specs.Fields.{field}
+use Rattle.store.specs.Stores.{storesBy, field-in, length-stores, stores-at}
 use Rattle.base.specs.Lists.{anyb}
 use borrow.Author.Needs.{needs}
 use borrow.Author.Tests.{eq-eqb, ne-eqb}

@@ -1,4 +1,4 @@
-use Rattle.merge.specs.Stores.{store-is, store-long}
+use Rattle.merge.specs.Stores.{store-is}
 use native.Mathlib.Omega.{arith}
 use lib.ListN.{length}
 use mathlib.Core.Path.{_≡_, _∙_, ap}
@@ -7,6 +7,7 @@ use Rattle.merge.proofs.store_at.Statement.{statement}
 use Rattle.merge.proofs.store_at.Tie as tie
 use Rattle.merge.proofs.store_at.Reads as reads
 use Rattle.merge.proofs.store_at.Lts as lts
+use Rattle.store.specs.Stores.{store-long}
 
 mul-from : tie.Need-mul-from
 mul-from c = search needs

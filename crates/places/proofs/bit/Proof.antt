@@ -1,15 +1,16 @@
-use borrow.Author.Needs.{needs}
-use Rattle.places.proofs.Bits.{one-true, one-false}
+use Rattle.base.specs.Bools.{one-if}
 use Rattle.places.proofs.bit.Statement.{statement}
 use Rattle.places.proofs.bit.Tie as tie
 use Rattle.places.proofs.bit.Reads as reads
 use Rattle.places.proofs.bit.Lts as lts
 
 returns : tie.Need-returns
-returns c = one-true _ (c .if1 .taken)
+unfolding one-if
+returns c = rw (c .if1 .taken)
 
 returns-2 : tie.Need-returns-2
-returns-2 c = one-false _ (c .if1 .left)
+unfolding one-if
+returns-2 c = rw (c .if1 .left)
 
 pub bit-spec : {M : Type 1} → statement M
 bit-spec = tie.close (tie.spec returns returns-2)

@@ -4,10 +4,12 @@ use Rattle.places.proofs.put_child.Statement.{statement}
 use Rattle.places.proofs.put_child.Tie as tie
 use Rattle.places.proofs.put_child.Reads as reads
 use Rattle.places.proofs.put_child.Lts as lts
-use Rattle.places.proofs.child_place.Reads as child-place-reads
 use Rattle.places.proofs.put_leaves.Reads as put-leaves-reads
 use Rattle.places.proofs.put_master.Reads as put-master-reads
 use Rattle.rows.proofs.size_of.Reads as size-of-reads
+
+cast-child-place : tie.Need-cast-child-place
+cast-child-place c = search needs
 
 child-place-requires : tie.Need-child-place-requires
 child-place-requires c κs = search needs
@@ -36,6 +38,7 @@ pub put-child-spec : {M : Type 1} → statement M
 put-child-spec =
     tie.close
     (tie.spec
+    cast-child-place
     child-place-requires
     cast-size-of
     size-of-requires

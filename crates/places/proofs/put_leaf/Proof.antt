@@ -4,8 +4,10 @@ use Rattle.places.proofs.put_leaf.Statement.{statement}
 use Rattle.places.proofs.put_leaf.Tie as tie
 use Rattle.places.proofs.put_leaf.Reads as reads
 use Rattle.places.proofs.put_leaf.Lts as lts
-use Rattle.places.proofs.child_place.Reads as child-place-reads
 use Rattle.places.proofs.put_master.Reads as put-master-reads
+
+cast-child-place : tie.Need-cast-child-place
+cast-child-place c = search needs
 
 child-place-requires : tie.Need-child-place-requires
 child-place-requires c κs = search needs
@@ -20,4 +22,4 @@ returns : tie.Need-returns
 returns c = leaf-is _ _ _ _ _ (c .before .before .before .before .child-place .ensures) (c .before .before .put-master .ensures)
 
 pub put-leaf-spec : {M : Type 1} → statement M
-put-leaf-spec = tie.close (tie.spec child-place-requires put-master-requires same-length returns)
+put-leaf-spec = tie.close (tie.spec cast-child-place child-place-requires put-master-requires same-length returns)

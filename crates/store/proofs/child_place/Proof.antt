@@ -1,10 +1,10 @@
--- `columns::child_place` meets its contract: the three cases of a level.
+-- `store::child_place` meets its contract: the three cases of a level.
 -- Assumes nothing.
 use native.Mathlib.Omega.{arith}
-use Rattle.columns.proofs.Placing.{child-short, child-long, child-beyond}
+use Rattle.store.proofs.Placing.{child-short, child-long, child-beyond}
 use borrow.Author.Needs.{needs}
-use Rattle.columns.proofs.child_place.Statement.{statement}
-use Rattle.columns.proofs.child_place.Tie as tie
+use Rattle.store.proofs.child_place.Statement.{statement}
+use Rattle.store.proofs.child_place.Tie as tie
 
 cast-level : tie.Need-cast-level
 cast-level c = search needs

@@ -1,10 +1,10 @@
+-- `store::with_number` meets its contract: the sum has room.
+-- Assumes nothing.
 use native.Mathlib.Omega.{arith}
-use Rattle.places.proofs.Placing.{number-is}
+use Rattle.store.proofs.Placing.{number-is}
 use borrow.Author.Needs.{needs}
-use Rattle.places.proofs.with_number.Statement.{statement}
-use Rattle.places.proofs.with_number.Tie as tie
-use Rattle.places.proofs.with_number.Reads as reads
-use Rattle.places.proofs.with_number.Lts as lts
+use Rattle.store.proofs.with_number.Statement.{statement}
+use Rattle.store.proofs.with_number.Tie as tie
 
 mul-result : tie.Need-mul-result
 mul-result c = search needs
