@@ -232,8 +232,8 @@ module _ (ps : List ℤ) (ts ss : List ℕ) (Q : ℕ) (os b : List ℕ) (e : spl
             (λ f. sym (i .marks ms) ∙ start-fine x ms (i .columns .long) (i .header) (i .stage) f)
         go (inr (r, k, f, c, t, v)) =
             let b = A .phase-busy p (local (parts (suc Q)) R (inputOf cs) p r k f) (storeOf cs p) t in
-            let w = begun-with (suc Q) R M (Fitted (suc Q) J) Fi A (inputOf cs) (fine cs) end [] [] (good cs) world all idle refl cs allowed p
-            (omega (arith, b)) in
+            let w = begun-with (suc Q) R M (Fitted (suc Q) J) Fi A (inputOf cs) (fine cs) end [] [] (good cs) world all idle refl cs allowed
+            p (omega (arith, b)) in
             let z : _≡_ {A = ℕ} 0 1 = cc in
             absurd (omega arith)
 

@@ -1,6 +1,7 @@
 -- What all parts of a split come to when they are done.
 -- Laws: any-marks (serial marks can be started with), serial-is (the serial step's answer from the limits), result-is (each part ended
--- with its number), says-accepted and says-refused (and says so), held-new (what a part holds where the step is accepted), held-old (where it is not).
+-- with its number), says-accepted and says-refused (and says so), held-new (what a part holds where the step is accepted), held-old (where
+-- it is not).
 use mathlib.Core.Path.{_≡_, refl, sym, _∙_, ap, ap₂, subst}
 use mathlib.Core.Logic.{_⊎_, inl, inr, _≢_}
 use mathlib.Core.Bool.{Bool, true, false, _&&_, not}
@@ -155,7 +156,7 @@ module _ (ps : List ℤ) (ts ss : List ℕ) (Q : ℕ) (os b : List ℕ) (e : spl
   unfolding marksGiven
   given-is p = refl
 
-  starts : (p : Fin (suc Q)) (c : ℕ) → nthPart Q (getD os c 0) ≡ p → reads Q nn cells ss os gg p (input p) c ≡ getD ms c 0
+  pub starts : (p : Fin (suc Q)) (c : ℕ) → nthPart Q (getD os c 0) ≡ p → reads Q nn cells ss os gg p (input p) c ≡ getD ms c 0
   unfolding serialMarks marksFrom
   starts p c h =
       ap (λ (l : List ℕ). elim (ltb c (length os) && masterb os (numberOf p) c) [ true ↦ getD l (placeOn os c) 0 | false ↦ 0 ])

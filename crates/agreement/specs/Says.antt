@@ -1,6 +1,7 @@
 -- What a part says of itself, as the call `stage` answers it, and that a part which says that it is done says and holds the same for ever.
---   Same x y      the stores x and y say and hold the same
--- Laws: says-stage (who says that it is done has that stage), says-done and says-ended (and the other way), kept (whatever is called next).
+--   SameSays x y  the stores x and y say and hold the same
+-- Laws: says-stage (who says that it is done has that stage), says-done and says-ended (and the other way), done-kept
+-- (whatever is called next).
 use mathlib.Core.Path.{_≡_, refl, sym, _∙_, ap, ap₂, subst, fun-ext}
 use mathlib.Core.Logic.{_≢_, _⊎_, inl, inr}
 use mathlib.Core.Bool.{Bool, true, false, _&&_, not}
@@ -101,11 +102,11 @@ module _ (x : List ℕ) where
         go true = refl
         go false = refl
 
-pub record Same (x y : List ℕ) : Type 0 where
+pub record SameSays (x y : List ℕ) : Type 0 where
   pub says : saysOf y ≡ saysOf x
   pub holds : heldIn y ≡ heldIn x
 
-same-on : (x y z : List ℕ) → Same x y → Same y z → Same x z
+same-on : (x y z : List ℕ) → SameSays x y → SameSays y z → SameSays x z
 same-on x y z a b = record { says = b .says ∙ a .says; holds = b .holds ∙ a .holds }
 
 -- stores that differ only between the header and the columns
@@ -124,7 +125,7 @@ module _ (x y : List ℕ) (size : length y ≡ length x) (low : (i : ℕ) → i 
       ≡ saysFrom (length x) (headerb x) (field x STAGE) (field x ROUND) (field x RESULT)
   from = rw (size, header-same x y (λ i h. low i (omega arith)), low 0 (omega arith), low 7 (omega arith), low 8 (omega arith))
 
-  alike : Same x y
+  alike : SameSays x y
   unfolding heldIn
   alike = record {
     says = says-from y ∙ from ∙ sym (says-from x);
@@ -155,18 +156,18 @@ module _ (x : List ℕ) (stage : field x STAGE ≡ 2) where
   no-hand : (m : List ℕ) → handAnswer x m ≡ Accepted → ⊥
   no-hand m e = let z = taken-is x m e .running in omega arith
 
-fetch-same : (x : List ℕ) → Same x (fetchAfter x nine)
+fetch-same : (x : List ℕ) → SameSays x (fetchAfter x nine)
 unfolding fetchAfter givesb
 fetch-same x = go (givesb x nine) refl
   where
-    go : (b : Bool) → givesb x nine ≡ b → Same x (fetchAfter x nine)
-    go false e = subst (Same x) (sym (rw (e, fetchAfter))) (record { says = refl; holds = refl })
+    go : (b : Bool) → givesb x nine ≡ b → SameSays x (fetchAfter x nine)
+    go false e = subst (SameSays x) (sym (rw (e, fetchAfter))) (record { says = refl; holds = refl })
     go true e =
         let s = nextToGive x in
         let t : T (givesb x nine) = rw e tt in
         let h : nextToGive x .bit < 16 = ltb→lt (nextToGive x .bit) 16
         (and-right (eqb (fetchRefusal x nine) 0) (ltb (nextToGive x .bit) 16) t) in
-        subst (Same x) (sym (rw (e, fetchAfter))) (alike x (passedBy x s) (passed-length x s)
+        subst (SameSays x) (sym (rw (e, fetchAfter))) (alike x (passedBy x s) (passed-length x s)
         (λ i l. passed-else x s i (λ z. omega arith) (λ z. omega arith) (λ z. omega arith))
         (λ i l. passed-else x s i (λ z. omega arith) (λ z. omega arith) (λ z. omega arith)))
 
@@ -182,12 +183,13 @@ gives-is (Message n) b z y e = cc
 gives-is Nothing b z y e = let c : _≡_ {A = ℕ} 0 1 = cc in absurd (omega arith)
 gives-is (FetchRefused k) b z y e = let c : _≡_ {A = ℕ} 0 1 = cc in absurd (omega arith)
 
-kept-by : (c : Request (List ℕ) (List ℕ)) (x : List ℕ) (y : List ℕ × List (List ℕ)) → field x STAGE ≡ 2 → act c x ≡ some y → Same x (y .0)
+kept-by : (c : Request (List ℕ) (List ℕ)) (x : List ℕ) (y : List ℕ × List (List ℕ)) → field x STAGE ≡ 2 → act c x ≡ some y
+    → SameSays x (y .0)
 unfolding act
 kept-by (Start ms) x y s e = absurd (no-start x s ms (yields-is (startAnswer x ms) (startAfter x ms) y e))
 kept-by Step x y s e = absurd (no-step x s (yields-is (partAnswer x) (partAfter x) y e))
 kept-by (Hand m) x y s e = absurd (no-hand x s m (yields-is (handAnswer x m) (handAfter x m) y e))
-kept-by Fetch x y s e = subst (Same x) (gives-is (fetchAnswer x nine) (fetchBytes x nine) (fetchAfter x nine) y e) (fetch-same x)
+kept-by Fetch x y s e = subst (SameSays x) (gives-is (fetchAnswer x nine) (fetchBytes x nine) (fetchAfter x nine) y e) (fetch-same x)
 
 -- none to send is the answer of a part that has started
 not-refused : (x : List ℕ) → fetchAnswer x nine ≡ Nothing → fetchRefusal x nine ≡ 0
@@ -218,33 +220,33 @@ unfolding act gives
 nothing-none x e = ap (λ (a : Fetched). gives a (fetchBytes x nine) (fetchAfter x nine)) e
 
 -- WHATEVER IS CALLED NEXT, a part that says that it is done says and holds the same
-pub kept : (ds : Calls) (w : Stores) (j : ℕ) → j < length (w .stores) → T (doneb (saysOf (getD (w .stores) j [])))
-    → Same (getD (w .stores) j []) (getD (play act ds w .stores) j [])
+pub done-kept : (ds : Calls) (w : Stores) (j : ℕ) → j < length (w .stores) → T (doneb (saysOf (getD (w .stores) j [])))
+    → SameSays (getD (w .stores) j []) (getD (play act ds w .stores) j [])
 unfolding play changed answer
-kept [] w j h t = record { says = refl; holds = refl }
-kept (c ∷ ds) w j h t = go (answer act c w) refl (λ v l u. kept ds v j l u)
+done-kept [] w j h t = record { says = refl; holds = refl }
+done-kept (c ∷ ds) w j h t = go (answer act c w) refl (λ v l u. done-kept ds v j l u)
   where
     now : (y : List ℕ × List (List ℕ)) → answer act c w ≡ some y → Dec (j ≡ c .part)
-        → Same (getD (w .stores) j []) (getD (changed act (c .part) w (some y) .stores) j [])
+        → SameSays (getD (w .stores) j []) (getD (changed act (c .part) w (some y) .stores) j [])
     now y e (yes z) =
         let x = getD (w .stores) j [] in
         let a : act (c .request) x ≡ some y =
         sym (answer-at act [] (c .request) (w .stores) j h) ∙ ap (λ (k : ℕ). answerAt act (c .request) (w .stores) k) z ∙ e in
-        subst (Same x) (sym (ap (λ (k : ℕ). getD (set (w .stores) k (y .0)) j []) (sym z) ∙ getD-set-same (w .stores) j (y .0) [] h))
+        subst (SameSays x) (sym (ap (λ (k : ℕ). getD (set (w .stores) k (y .0)) j []) (sym z) ∙ getD-set-same (w .stores) j (y .0) [] h))
         (kept-by (c .request) x y (says-stage x t) a)
-    now y e (no n) = subst (Same (getD (w .stores) j [])) (sym (getD-set-other (w .stores) (c .part) j (y .0) [] n))
+    now y e (no n) = subst (SameSays (getD (w .stores) j [])) (sym (getD-set-other (w .stores) (c .part) j (y .0) [] n))
         (record { says = refl; holds = refl })
 
     go : (o : Option (List ℕ × List (List ℕ))) → answer act c w ≡ o
         → ((v : Stores) → j < length (v .stores) → T (doneb (saysOf (getD (v .stores) j [])))
-        → Same (getD (v .stores) j []) (getD (play act ds v .stores) j []))
-        → Same (getD (w .stores) j []) (getD (play act (c ∷ ds) w .stores) j [])
-    go none e r = subst (λ (v : Stores). Same (getD (w .stores) j []) (getD (v .stores) j [])) (sym (play-none act c ds w e)) (r w h t)
+        → SameSays (getD (v .stores) j []) (getD (play act ds v .stores) j []))
+        → SameSays (getD (w .stores) j []) (getD (play act (c ∷ ds) w .stores) j [])
+    go none e r = subst (λ (v : Stores). SameSays (getD (w .stores) j []) (getD (v .stores) j [])) (sym (play-none act c ds w e)) (r w h t)
     go (some y) e r =
         let x = getD (w .stores) j [] in
         let v : Stores = changed act (c .part) w (some y) in
         let s = now y e (ℕ-discrete j (c .part)) in
         let l : j < length (v .stores) = subst (λ (k : ℕ). j < k) (sym (length-set (w .stores) (c .part) (y .0))) h in
         let u = subst (λ (d : Progress). T (doneb d)) (sym (s .says)) t in
-        subst (λ (v : Stores). Same x (getD (v .stores) j [])) (sym (play-some act c ds w y e))
+        subst (λ (v : Stores). SameSays x (getD (v .stores) j [])) (sym (play-some act c ds w y e))
         (same-on x (getD (v .stores) j []) (getD (play act ds v .stores) j []) s (r v l u))

@@ -55,8 +55,9 @@ use Rattle.tasks.specs.Accepted.{Splits, splits-from, split-slots}
 use Rattle.outcome.specs.Program.{nine, act}
 use Rattle.outcome.specs.Machines.{phaseOf}
 use Rattle.agreement.specs.Terms.{Calls, Stores, afterSplit, marksGiven, serialMarks, lastStore, saysOf, doneb, alldoneb, messagesOf}
-use Rattle.agreement.specs.Says.{Same, nothing-started, nothing-none, kept}
-use Rattle.agreement.specs.Agreed.{R, inputOf, storeOf, many-now, all-phases, phases-all, moves-on, completed, moves-most, starts-taken, all-fetched}
+use Rattle.agreement.specs.Says.{SameSays, nothing-started, nothing-none, done-kept}
+use Rattle.agreement.specs.Agreed.{R, inputOf, storeOf, many-now, all-phases, phases-all, moves-on, completed, moves-most, starts-taken}
+use Rattle.agreement.specs.Agreed.{all-fetched}
 use Rattle.agreement.specs.Outcomes.{X, any-marks, known, serial-is, says-accepted, says-refused, limits, held-new, held-old}
 use Rattle.agreement.specs.Merges.{merges-new, merges-old}
 
@@ -126,7 +127,7 @@ pub record Split3 (ps : List ℤ) (ts ss : List ℕ) (P : ℕ) (os : List ℕ) (
   pub few : moves act cs w ≤ callsMost P (length ss)
   -- a part that says that it is done says and holds the same, whatever is called next
   pub done-stays : (ds : Calls) (p : ℕ) → 1 ≤ p → p ≤ P → T (doneb (saysOf (lastStore cs w p)))
-      → Same (lastStore cs w p) (lastStore (cs ++ ds) w p)
+      → SameSays (lastStore cs w p) (lastStore (cs ++ ds) w p)
   -- a part has none to send only when all that it has written, in the rounds up to its own, was fetched
   pub none-to-send : (p : ℕ) → 1 ≤ p → p ≤ P → fetchAnswer (lastStore cs w p) nine ≡ Nothing → (m : List ℕ)
       → List·Memᴰ m (messagesOf P (cornerCount ps) (fours ts) ss os (marksGiven os cs w) (suc (field (lastStore cs w p) ROUND)) p)
@@ -301,10 +302,10 @@ module _ (ps : List ℤ) (ts ss : List ℕ) (Q : ℕ) (os b : List ℕ) (e : spl
       go f (inr c) = c
 
       stays : (ds : Calls) (q : ℕ) → 1 ≤ q → q ≤ suc Q → T (doneb (saysOf (lastStore cs w q)))
-          → Same (lastStore cs w q) (lastStore (cs ++ ds) w q)
+          → SameSays (lastStore cs w q) (lastStore (cs ++ ds) w q)
       stays ds q a c d =
-          subst (λ (v : Stores). Same (lastStore cs w q) (getD (v .stores) (pred q) [])) (sym (play-append act cs ds w))
-          (kept ds (play act cs w) (pred q) (omega (arith, a, c, many-now ps ts ss Q os b e cs)) d)
+          subst (λ (v : Stores). SameSays (lastStore cs w q) (getD (v .stores) (pred q) [])) (sym (play-append act cs ds w))
+          (done-kept ds (play act cs w) (pred q) (omega (arith, a, c, many-now ps ts ss Q os b e cs)) d)
 
       sends : (q : ℕ) → 1 ≤ q → q ≤ suc Q → fetchAnswer (lastStore cs w q) nine ≡ Nothing → (m : List ℕ)
           → List·Memᴰ m (messagesOf (suc Q) n qs ss os (marksGiven os cs w) (suc (field (lastStore cs w q) ROUND)) q)
