@@ -1,6 +1,6 @@
 -- The answer of a split, condition by condition, and what the lent table then holds.
 --   Split ps ts ss P os b r b'    the answer r and the table after
--- Laws: split-short, split-table, split-none, split-many, split-owners, split-yes (each return), divisible-of, kids-known, owned-of
+-- Laws: split-short, split-table, split-none, split-many, split-owners, split-yes (each return), divisible-of, kids-known, owned-is
 -- (what the work asks for).
 use mathlib.Core.Path.{_≡_, refl, sym, _∙_, ap}
 use mathlib.Core.Bool.{Bool, true, false, _&&_}

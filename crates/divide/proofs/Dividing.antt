@@ -1,7 +1,7 @@
 -- The functions, step by step.
 --   Firsts ks k fs     fs has the first cells of the levels up to k
 -- Laws: firsts-start, firsts-turn, firsts-done, rising-of (first cells), flat-append, more-start, more-turn (store by store),
--- stores-are.
+-- lent-length, lent-back, part-length, parts-room (the part of the table that is lent).
 use mathlib.Core.Path.{_≡_, refl, sym, _∙_, ap, ap₂}
 use mathlib.Core.Logic.{⊎-elim}
 use mathlib.Core.List.{List, [], _∷_, _++_, flatMap, append-assoc, append-nil}

@@ -1,6 +1,6 @@
 -- What a divisible table gives the functions, and what they give it.
 -- Laws: ones-are, masks-are (the masks), table-of, kids-of, levels-of, ready-of, small-of (what the functions ask for), stores-are
--- (what they leave), answer-short, answer-table, answer-parts, answer-owners, answer-yes (the answer).
+-- (what they leave).
 use mathlib.Core.Path.{_≡_, refl, sym, _∙_, ap, ap₂}
 use mathlib.Core.List.{List, [], _∷_, _++_, flatMap}
 use Prim.Native.Nat.{ℕ, zero, suc, _+_, _*_, _≤_, _<_}

@@ -1,9 +1,7 @@
 -- Passes over the cells that a part holds.
--- Laws: zero-turn, zero-done (zeros), hold-beyond, hold-own, hold-family (whether a cell is held), column-start, column-turn,
--- column-here,
--- column-not, column-none, column-all (columns), six-start, six-turn, six-here, six-not, six-none, six-all (slots), marked-start,
--- marked-turn,
--- mark-here, mark-not, mark-none (what is written at slots).
+-- Laws: zero-turn, zero-done (zeros), hold-beyond, hold-own, hold-family (whether a cell is held), column-here, column-not, column-none,
+-- column-all (columns), six-here, six-not, six-none, six-all (slots), marked-start, marked-turn, mark-here, mark-not, mark-none (what is
+-- written at slots).
 use mathlib.Core.Path.{_≡_, refl, sym, _∙_, ap, subst}
 use mathlib.Core.Logic.{⊎-elim}
 use mathlib.Core.Bool.{Bool, true, false, _&&_, _||_, or-false, or-true}
