@@ -141,6 +141,14 @@ module _ (es : List Pair) (c : Cell ℕ) (p e : ℕ) (h : 0 < e) (g : e ≤ 6) (
       rw before at (bits-more es c (e - 1) (omega arith)) in
       omega arith
 
+-- the six tests as bits
+pub six-bits : (es : List Pair) (c : Cell ℕ) (p q r s t u : Bool) → p ≡ hasb isb es (sorted (edge 0 c 0))
+    → q ≡ hasb isb es (sorted (edge 0 c 1)) → r ≡ hasb isb es (sorted (edge 0 c 2)) → s ≡ hasb isb es (sorted (edge 0 c 3))
+    → t ≡ hasb isb es (sorted (edge 0 c 4)) → u ≡ hasb isb es (sorted (edge 0 c 5))
+    → bitsOf (p ∷ q ∷ r ∷ s ∷ t ∷ u ∷ []) ≡ listedPattern es c
+unfolding listedPattern edges
+six-bits es c p q r s t u e f g h i j = rw (e, f, g, h, i, j)
+
 -- no edge is listed
 pub none-listed : (xs ys : List ℕ) (from n : ℕ) (c : Cell ℕ) → from ≡ n → listedPattern (listed xs ys from n) c ≡ 0
 unfolding listedPattern pairsOf hasb bitsOf edges one-if

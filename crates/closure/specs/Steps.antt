@@ -15,7 +15,7 @@ use Rattle.base.specs.Bools.{one-if}
 use Rattle.rows.specs.Numbered.{cellAt, cellsAt, part}
 use Rattle.edges.specs.Pairs.{Pair}
 use Rattle.edges.specs.Table.{Edges, Space, Inserted, Grown, grown-none, grown-one, grown-both}
-use Rattle.closure.specs.Ready.{Run, redOf, redCount, count-one}
+use Rattle.closure.specs.Ready.{Ready, Run, redOf, redCount, count-one}
 use Rattle.rows.specs.Laws.{length-cells, length-part, part-more}
 
 pub run-start : (xs ys heads links : List ℕ) (from n : ℕ) → Edges xs ys heads links from n
@@ -70,6 +70,15 @@ module _ (xs₀ ys₀ heads₀ links₀ : List ℕ) (from n : ℕ) (es : List Pa
         → Run xs₀ ys₀ heads₀ links₀ from n (es ++ (e ∷ [])) xs′ ys′ heads′ links′ m′
     run-one e at i = run-more (e ∷ []) (grown-one xs ys from m e xs′ ys′ heads′ links′ at m′ i)
 
+pub room-one : (xs ys links : List ℕ) (n : ℕ) → Space xs ys links n 1 → Room xs ys links n
+room-one xs ys links n s =
+    record {
+      small = omega (arith, s .small);
+      in-xs = omega (arith, s .in-xs);
+      in-ys = omega (arith, s .in-ys);
+      in-links = omega (arith, s .in-links);
+    }
+
 -- the edges of a cell, one after the other
 edge-at : (c : Cell ℕ) (e : ℕ) → e < 6 → getD (edges 0 c) e (0, 0) ≡ edge 0 c e
 unfolding edges
@@ -94,6 +103,27 @@ length-edges c e h = length-take-le e (edges 0 c) (rw (six c) h)
 pub all-edges : (c : Cell ℕ) → take 6 (edges 0 c) ≡ edges 0 c
 unfolding edges
 all-edges c = refl
+
+-- the edges of a cell below e are inserted: there is room for edge e, and with it those below e + 1 are
+module _ (xs₀ ys₀ heads₀ links₀ : List ℕ) (from n : ℕ) (c : Cell ℕ) (e : ℕ) (xs ys heads links : List ℕ) (m : ℕ)
+    (r : Run xs₀ ys₀ heads₀ links₀ from n (take e (edges 0 c)) xs ys heads links m) (h : e < 6) where
+  pub ready-edge : (cells : List ℕ) (last : ℕ) → 8 * last ≤ length cells → Space xs₀ ys₀ links₀ n 6
+      → Ready cells xs ys heads links last from m 1
+  ready-edge cells last b s =
+      record {
+        rows = b;
+        table = r .grown .edges;
+        space = space-left xs₀ ys₀ heads₀ links₀ from n (take e (edges 0 c)) xs ys heads links m r 1 6 s
+            (omega (arith, length-edges c e (omega arith)));
+      }
+
+  pub run-edge : (xs′ ys′ heads′ links′ : List ℕ) (m′ : ℕ) → length xs′ ≡ length xs → length ys′ ≡ length ys
+      → length heads′ ≡ length heads → length links′ ≡ length links → Grown xs ys from m (edge 0 c e ∷ []) xs′ ys′ heads′ links′ m′
+      → Run xs₀ ys₀ heads₀ links₀ from n (take (suc e) (edges 0 c)) xs′ ys′ heads′ links′ m′
+  run-edge xs′ ys′ heads′ links′ m′ sx sy sh sl g =
+      rw (next-edge c e h)
+      (run-more xs₀ ys₀ heads₀ links₀ from n (take e (edges 0 c)) xs ys heads links m r xs′ ys′ heads′ links′ m′ sx sy sh sl
+      (edge 0 c e ∷ []) g)
 
 -- the red cells of a range, one cell more
 pub red-snoc : (cs : List (Cell ℕ)) (ss : List ℕ) (c : Cell ℕ) (s : ℕ) → length cs ≡ length ss

@@ -1,18 +1,40 @@
 // The statuses of one level: the edges of its red cells, and the pattern that each other cell is closed with.
 use rows::Ends;
 ghost use mathlib.Core.Path.{_≡_};
+ghost use mathlib.Core.List.{[], _∷_};
 ghost use Prim.Native.Nat.{_+_, _*_, _-_, _≤_, _<_};
 ghost use lib.ListN.{length};
 ghost use Rattle.base.specs.Bools.{one-if};
 ghost use Rattle.base.specs.Places.{hasb};
 ghost use Rattle.base.specs.Lent.{was, is};
-ghost use Rattle.mesh.specs.Cells.{edge, edges, redEdges};
+ghost use Rattle.mesh.specs.Cells.{edge, edges, bitsOf, redEdges};
 ghost use Rattle.edges.specs.Pairs.{isb, sorted};
 ghost use Rattle.edges.specs.Table.{Grown, listed};
 ghost use Rattle.rows.specs.Numbered.{cellAt, cellsAt, part};
 ghost use Rattle.closure.specs.Ready.{Ready, Range, Looks, redOf, redCount, listedPattern, listedStatus, listedClosed};
 
-// Inserts the six edges of a cell.
+// Inserts one edge of a cell.
+fn red_edge(
+    cells: &[u16],
+    c: usize,
+    e: usize,
+    xs: &mut [u32],
+    ys: &mut [u32],
+    heads: &mut [u16],
+    links: &mut [u16],
+    from: usize,
+    n: usize,
+) -> usize
+    requires { ⌜ Ready (now cells) (now xs) (now ys) (now heads) (now links) (c + 1) from n 1 ⌝ }
+    requires { ⌜ e < 6 ⌝ }
+    ensures { λ r. ⌜ Grown (was xs) (was ys) from n (edge 0 (cellAt (was cells) c) e ∷ []) (is xs) (is ys) (is heads) (is links) r ⌝ }
+{
+    let ends = rows::edge_of(cells, c, e);
+    let slot = edges::insert(xs, ys, heads, links, from, n, ends.a, ends.b);
+    slot.n
+}
+
+// Inserts the six edges of a cell. A loop over them is slower by a half (docs/SPEED.md); so it is for the pattern.
 fn red_edges(
     cells: &[u16],
     c: usize,
@@ -26,15 +48,12 @@ fn red_edges(
     requires { ⌜ Ready (now cells) (now xs) (now ys) (now heads) (now links) (c + 1) from n 6 ⌝ }
     ensures { λ r. ⌜ Grown (was xs) (was ys) from n (edges 0 (cellAt (was cells) c)) (is xs) (is ys) (is heads) (is links) r ⌝ }
 {
-    let mut m = n;
-    let mut e = 0;
-    while e < 6 {
-        let ends = rows::edge_of(cells, c, e);
-        let slot = edges::insert(xs, ys, heads, links, from, m, ends.a, ends.b);
-        m = slot.n;
-        e += 1;
-    }
-    m
+    let a = red_edge(cells, c, 0, xs, ys, heads, links, from, n);
+    let b = red_edge(cells, c, 1, xs, ys, heads, links, from, a);
+    let d = red_edge(cells, c, 2, xs, ys, heads, links, from, b);
+    let e = red_edge(cells, c, 3, xs, ys, heads, links, from, d);
+    let f = red_edge(cells, c, 4, xs, ys, heads, links, from, e);
+    red_edge(cells, c, 5, xs, ys, heads, links, from, f)
 }
 
 // Inserts the edges of a cell where its status is red.
@@ -95,7 +114,7 @@ fn bit(b: bool) -> u8
 }
 
 // Whether an edge of a cell is listed.
-fn is_held(
+pub fn is_held(
     cells: &[u16],
     c: usize,
     e: usize,
@@ -114,7 +133,18 @@ fn is_held(
     edges::holds(xs, ys, heads, links, from, n, ends.a, ends.b)
 }
 
-// The pattern of the cell's edges that are listed, from the last edge to the first. On the highest level none is listed.
+// The pattern of six tests, that of the first edge first.
+fn bits(a: bool, b: bool, c: bool, d: bool, e: bool, f: bool) -> u8
+    ensures { λ r. ⌜ r ≡ bitsOf (a ∷ b ∷ c ∷ d ∷ e ∷ f ∷ []) ⌝ }
+{
+    let p = bit(e) + 2 * bit(f);
+    let q = bit(d) + 2 * p;
+    let r = bit(c) + 2 * q;
+    let s = bit(b) + 2 * r;
+    bit(a) + 2 * s
+}
+
+// The pattern of the cell's edges that are listed. On the highest level none is.
 pub fn pattern_of(
     cells: &[u16],
     c: usize,
@@ -131,14 +161,14 @@ pub fn pattern_of(
     if from == n {
         return 0;
     }
-    let mut p: u8 = 0;
-    let mut e = 6;
-    while e > 0 {
-        e -= 1;
-        let held = is_held(cells, c, e, xs, ys, heads, links, from, n);
-        p = bit(held) + 2 * p;
-    }
-    p
+    bits(
+        is_held(cells, c, 0, xs, ys, heads, links, from, n),
+        is_held(cells, c, 1, xs, ys, heads, links, from, n),
+        is_held(cells, c, 2, xs, ys, heads, links, from, n),
+        is_held(cells, c, 3, xs, ys, heads, links, from, n),
+        is_held(cells, c, 4, xs, ys, heads, links, from, n),
+        is_held(cells, c, 5, xs, ys, heads, links, from, n),
+    )
 }
 
 // The status of a cell that is red or not, where the edges of its level's red cells are listed.

@@ -142,7 +142,8 @@ struct Ten {
     m: usize,
 }
 
-// The numbers of a cell's points; the edges that its status splits go into the table of edges, in edge order.
+// The numbers of a cell's points; the edges that its status splits go into the table of edges, in edge order. A loop over the six is slower
+// (docs/SPEED.md).
 fn points_of(
     cells: &[u16],
     c: usize,
@@ -160,25 +161,87 @@ fn points_of(
 {
     let pattern = pattern_of(status);
     let mut points = corners_of(cells, c);
-    let mut k = m;
-    for e in 0..6 {
-        k = split_edge(
-            cells,
-            c,
-            e,
-            pattern,
-            n,
-            &mut points,
-            xs,
-            ys,
-            heads,
-            links,
-            k,
-        );
-    }
+    let p = split_edge(
+        cells,
+        c,
+        0,
+        pattern,
+        n,
+        &mut points,
+        xs,
+        ys,
+        heads,
+        links,
+        m,
+    );
+    let q = split_edge(
+        cells,
+        c,
+        1,
+        pattern,
+        n,
+        &mut points,
+        xs,
+        ys,
+        heads,
+        links,
+        p,
+    );
+    let r = split_edge(
+        cells,
+        c,
+        2,
+        pattern,
+        n,
+        &mut points,
+        xs,
+        ys,
+        heads,
+        links,
+        q,
+    );
+    let s = split_edge(
+        cells,
+        c,
+        3,
+        pattern,
+        n,
+        &mut points,
+        xs,
+        ys,
+        heads,
+        links,
+        r,
+    );
+    let t = split_edge(
+        cells,
+        c,
+        4,
+        pattern,
+        n,
+        &mut points,
+        xs,
+        ys,
+        heads,
+        links,
+        s,
+    );
+    let u = split_edge(
+        cells,
+        c,
+        5,
+        pattern,
+        n,
+        &mut points,
+        xs,
+        ys,
+        heads,
+        links,
+        t,
+    );
     Ten {
         numbers: points,
-        m: k,
+        m: u,
     }
 }
 

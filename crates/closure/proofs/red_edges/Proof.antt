@@ -1,115 +1,169 @@
--- `closure::red_edges` meets its contract: a turn inserts the next of the cell's six edges. The measure is what is left of them.
+-- `closure::red_edges` meets its contract: the cell's six edges are inserted one after the other.
 -- Assumes nothing.
-use mathlib.Core.Path.{_≡_}
-use Prim.Native.Nat.{_-_, _≤_}
-use native.Mathlib.Numerals.{add-one}
 use native.Mathlib.Omega.{arith}
+use Prim.Native.Nat.{_+_}
 use lib.ListN.{take}
 use Rattle.mesh.specs.Cells.{edges}
 use Rattle.rows.specs.Numbered.{cellAt}
 use Rattle.closure.specs.Ready.{Run}
-use Rattle.closure.specs.Steps.{run-start, run-one, room-left, next-edge, length-edges, all-edges}
-use borrow.Author.Needs.{needs}
+use Rattle.closure.specs.Steps.{run-start, run-edge, ready-edge, all-edges}
 use Rattle.closure.proofs.red_edges.Statement.{statement}
 use Rattle.closure.proofs.red_edges.Tie as tie
 
-abbrev Inv-loop : tie.InvT-loop
-Inv-loop cells c xs₀ ys₀ heads₀ links₀ from n m₀ e₀ xs ys heads links m e = (e ≤ 6) × Run xs₀ ys₀ heads₀ links₀ from n
-    (take e (edges 0 (cellAt cells c))) xs ys heads links m
+run1 : (c : tie.After-red-edge)
+    → Run (c .before .before .before .before .before .before .before .before .before .before .args .xs .now) (c .before .before .before .before .before .before .before .before .before .before .args .ys .now) (c .before .before .before .before .before .before .before .before .before .before .args .heads .now) (c .before .before .before .before .before .before .before .before .before .before .args .links .now) (c .before .before .before .before .before .before .before .before .before .before .args .from) (c .before .before .before .before .before .before .before .before .before .before .args .n)
+    (take 1 (edges 0 (cellAt (c .before .before .before .before .before .before .before .before .before .before .args .cells .now) (c .before .before .before .before .before .before .before .before .before .before .args .c))))
+    (c .red-edge .last .1 .1 .1 .0) (c .red-edge .last .1 .1 .1 .1 .0) (c .red-edge .last .1 .1 .1 .1 .1 .0) (c .red-edge .last .1 .1 .1 .1 .1 .1 .0)
+    (c .red-edge .result)
+run1 c =
+    let a = c .before .before .before .before .before .before .before .before .before .before .args in
+    run-edge (a .xs .now) (a .ys .now) (a .heads .now) (a .links .now) (a .from) (a .n) (cellAt (a .cells .now) (a .c)) 0
+    (c .before .before .before .before .before .before .before .before .before .before .args .xs .now) (c .before .before .before .before .before .before .before .before .before .before .args .ys .now) (c .before .before .before .before .before .before .before .before .before .before .args .heads .now) (c .before .before .before .before .before .before .before .before .before .before .args .links .now) (c .before .before .before .before .before .before .before .before .before .before .args .n)
+    (run-start (c .before .before .before .before .before .before .before .before .before .before .args .xs .now) (c .before .before .before .before .before .before .before .before .before .before .args .ys .now) (c .before .before .before .before .before .before .before .before .before .before .args .heads .now) (c .before .before .before .before .before .before .before .before .before .before .args .links .now) (c .before .before .before .before .before .before .before .before .before .before .args .from) (c .before .before .before .before .before .before .before .before .before .before .args .n) (c .before .before .before .before .before .before .before .before .before .before .pre .table)) (omega arith)
+    (c .red-edge .last .1 .1 .1 .0) (c .red-edge .last .1 .1 .1 .1 .0) (c .red-edge .last .1 .1 .1 .1 .1 .0) (c .red-edge .last .1 .1 .1 .1 .1 .1 .0) (c .red-edge .result)
+    (c .red-edge .kept .1 .1 .1 .0) (c .red-edge .kept .1 .1 .1 .1 .0) (c .red-edge .kept .1 .1 .1 .1 .1 .0) (c .red-edge .kept .1 .1 .1 .1 .1 .1 .0) (c .red-edge .ensures)
 
-abbrev μ-loop : tie.MeasureT-loop
-μ-loop cells c xs₀ ys₀ heads₀ links₀ from n m₀ e₀ xs ys heads links m e = 6 - e
+run2 : (c : tie.After-red-edge2)
+    → Run (c .before .before .before .before .before .before .before .before .before .before .before .before .before .before .before .before .before .before .before .before .before .before .before .args .xs .now) (c .before .before .before .before .before .before .before .before .before .before .before .before .before .before .before .before .before .before .before .before .before .before .before .args .ys .now) (c .before .before .before .before .before .before .before .before .before .before .before .before .before .before .before .before .before .before .before .before .before .before .before .args .heads .now) (c .before .before .before .before .before .before .before .before .before .before .before .before .before .before .before .before .before .before .before .before .before .before .before .args .links .now) (c .before .before .before .before .before .before .before .before .before .before .before .before .before .before .before .before .before .before .before .before .before .before .before .args .from) (c .before .before .before .before .before .before .before .before .before .before .before .before .before .before .before .before .before .before .before .before .before .before .before .args .n)
+    (take 2 (edges 0 (cellAt (c .before .before .before .before .before .before .before .before .before .before .before .before .before .before .before .before .before .before .before .before .before .before .before .args .cells .now) (c .before .before .before .before .before .before .before .before .before .before .before .before .before .before .before .before .before .before .before .before .before .before .before .args .c))))
+    (c .red-edge2 .last .1 .1 .1 .0) (c .red-edge2 .last .1 .1 .1 .1 .0) (c .red-edge2 .last .1 .1 .1 .1 .1 .0) (c .red-edge2 .last .1 .1 .1 .1 .1 .1 .0)
+    (c .red-edge2 .result)
+run2 c =
+    let a = c .before .before .before .before .before .before .before .before .before .before .before .before .before .before .before .before .before .before .before .before .before .before .before .args in
+    run-edge (a .xs .now) (a .ys .now) (a .heads .now) (a .links .now) (a .from) (a .n) (cellAt (a .cells .now) (a .c)) 1
+    (c .before .before .before .before .before .before .before .before .before .before .before .before .before .red-edge .last .1 .1 .1 .0) (c .before .before .before .before .before .before .before .before .before .before .before .before .before .red-edge .last .1 .1 .1 .1 .0) (c .before .before .before .before .before .before .before .before .before .before .before .before .before .red-edge .last .1 .1 .1 .1 .1 .0) (c .before .before .before .before .before .before .before .before .before .before .before .before .before .red-edge .last .1 .1 .1 .1 .1 .1 .0) (c .before .before .before .before .before .before .before .before .before .before .before .before .before .red-edge .result)
+    (run1 (c .before .before .before .before .before .before .before .before .before .before .before .before .before)) (omega arith)
+    (c .red-edge2 .last .1 .1 .1 .0) (c .red-edge2 .last .1 .1 .1 .1 .0) (c .red-edge2 .last .1 .1 .1 .1 .1 .0) (c .red-edge2 .last .1 .1 .1 .1 .1 .1 .0) (c .red-edge2 .result)
+    (c .red-edge2 .kept .1 .1 .1 .0) (c .red-edge2 .kept .1 .1 .1 .1 .0) (c .red-edge2 .kept .1 .1 .1 .1 .1 .0) (c .red-edge2 .kept .1 .1 .1 .1 .1 .1 .0) (c .red-edge2 .ensures)
 
-loop-holds : tie.Need-loop-holds Inv-loop μ-loop
-loop-holds c = (
-  omega arith,
-  run-start (c .before .before .before .before .before .args .xs .now)
-      (c .before .before .before .before .before .args .ys .now) (c .before .before .before .before .before .args .heads .now)
-      (c .before .before .before .before .before .args .links .now) (c .before .before .before .before .before .args .from)
-      (c .before .before .before .before .before .args .n) (c .before .before .before .before .before .pre .table),
-)
+run3 : (c : tie.After-red-edge3)
+    → Run (c .before .before .before .before .before .before .before .before .before .before .before .before .before .before .before .before .before .before .before .before .before .before .before .before .before .before .before .before .before .before .before .before .before .before .before .before .args .xs .now) (c .before .before .before .before .before .before .before .before .before .before .before .before .before .before .before .before .before .before .before .before .before .before .before .before .before .before .before .before .before .before .before .before .before .before .before .before .args .ys .now) (c .before .before .before .before .before .before .before .before .before .before .before .before .before .before .before .before .before .before .before .before .before .before .before .before .before .before .before .before .before .before .before .before .before .before .before .before .args .heads .now) (c .before .before .before .before .before .before .before .before .before .before .before .before .before .before .before .before .before .before .before .before .before .before .before .before .before .before .before .before .before .before .before .before .before .before .before .before .args .links .now) (c .before .before .before .before .before .before .before .before .before .before .before .before .before .before .before .before .before .before .before .before .before .before .before .before .before .before .before .before .before .before .before .before .before .before .before .before .args .from) (c .before .before .before .before .before .before .before .before .before .before .before .before .before .before .before .before .before .before .before .before .before .before .before .before .before .before .before .before .before .before .before .before .before .before .before .before .args .n)
+    (take 3 (edges 0 (cellAt (c .before .before .before .before .before .before .before .before .before .before .before .before .before .before .before .before .before .before .before .before .before .before .before .before .before .before .before .before .before .before .before .before .before .before .before .before .args .cells .now) (c .before .before .before .before .before .before .before .before .before .before .before .before .before .before .before .before .before .before .before .before .before .before .before .before .before .before .before .before .before .before .before .before .before .before .before .before .args .c))))
+    (c .red-edge3 .last .1 .1 .1 .0) (c .red-edge3 .last .1 .1 .1 .1 .0) (c .red-edge3 .last .1 .1 .1 .1 .1 .0) (c .red-edge3 .last .1 .1 .1 .1 .1 .1 .0)
+    (c .red-edge3 .result)
+run3 c =
+    let a = c .before .before .before .before .before .before .before .before .before .before .before .before .before .before .before .before .before .before .before .before .before .before .before .before .before .before .before .before .before .before .before .before .before .before .before .before .args in
+    run-edge (a .xs .now) (a .ys .now) (a .heads .now) (a .links .now) (a .from) (a .n) (cellAt (a .cells .now) (a .c)) 2
+    (c .before .before .before .before .before .before .before .before .before .before .before .before .before .red-edge2 .last .1 .1 .1 .0) (c .before .before .before .before .before .before .before .before .before .before .before .before .before .red-edge2 .last .1 .1 .1 .1 .0) (c .before .before .before .before .before .before .before .before .before .before .before .before .before .red-edge2 .last .1 .1 .1 .1 .1 .0) (c .before .before .before .before .before .before .before .before .before .before .before .before .before .red-edge2 .last .1 .1 .1 .1 .1 .1 .0) (c .before .before .before .before .before .before .before .before .before .before .before .before .before .red-edge2 .result)
+    (run2 (c .before .before .before .before .before .before .before .before .before .before .before .before .before)) (omega arith)
+    (c .red-edge3 .last .1 .1 .1 .0) (c .red-edge3 .last .1 .1 .1 .1 .0) (c .red-edge3 .last .1 .1 .1 .1 .1 .0) (c .red-edge3 .last .1 .1 .1 .1 .1 .1 .0) (c .red-edge3 .result)
+    (c .red-edge3 .kept .1 .1 .1 .0) (c .red-edge3 .kept .1 .1 .1 .1 .0) (c .red-edge3 .kept .1 .1 .1 .1 .1 .0) (c .red-edge3 .kept .1 .1 .1 .1 .1 .1 .0) (c .red-edge3 .ensures)
 
-edge-of-requires : tie.Need-edge-of-requires Inv-loop μ-loop
-edge-of-requires c κs = search needs
+run4 : (c : tie.After-red-edge4)
+    → Run (c .before .before .before .before .before .before .before .before .before .before .before .before .before .before .before .before .before .before .before .before .before .before .before .before .before .before .before .before .before .before .before .before .before .before .before .before .before .before .before .before .before .before .before .before .before .before .before .before .before .args .xs .now) (c .before .before .before .before .before .before .before .before .before .before .before .before .before .before .before .before .before .before .before .before .before .before .before .before .before .before .before .before .before .before .before .before .before .before .before .before .before .before .before .before .before .before .before .before .before .before .before .before .before .args .ys .now) (c .before .before .before .before .before .before .before .before .before .before .before .before .before .before .before .before .before .before .before .before .before .before .before .before .before .before .before .before .before .before .before .before .before .before .before .before .before .before .before .before .before .before .before .before .before .before .before .before .before .args .heads .now) (c .before .before .before .before .before .before .before .before .before .before .before .before .before .before .before .before .before .before .before .before .before .before .before .before .before .before .before .before .before .before .before .before .before .before .before .before .before .before .before .before .before .before .before .before .before .before .before .before .before .args .links .now) (c .before .before .before .before .before .before .before .before .before .before .before .before .before .before .before .before .before .before .before .before .before .before .before .before .before .before .before .before .before .before .before .before .before .before .before .before .before .before .before .before .before .before .before .before .before .before .before .before .before .args .from) (c .before .before .before .before .before .before .before .before .before .before .before .before .before .before .before .before .before .before .before .before .before .before .before .before .before .before .before .before .before .before .before .before .before .before .before .before .before .before .before .before .before .before .before .before .before .before .before .before .before .args .n)
+    (take 4 (edges 0 (cellAt (c .before .before .before .before .before .before .before .before .before .before .before .before .before .before .before .before .before .before .before .before .before .before .before .before .before .before .before .before .before .before .before .before .before .before .before .before .before .before .before .before .before .before .before .before .before .before .before .before .before .args .cells .now) (c .before .before .before .before .before .before .before .before .before .before .before .before .before .before .before .before .before .before .before .before .before .before .before .before .before .before .before .before .before .before .before .before .before .before .before .before .before .before .before .before .before .before .before .before .before .before .before .before .before .args .c))))
+    (c .red-edge4 .last .1 .1 .1 .0) (c .red-edge4 .last .1 .1 .1 .1 .0) (c .red-edge4 .last .1 .1 .1 .1 .1 .0) (c .red-edge4 .last .1 .1 .1 .1 .1 .1 .0)
+    (c .red-edge4 .result)
+run4 c =
+    let a = c .before .before .before .before .before .before .before .before .before .before .before .before .before .before .before .before .before .before .before .before .before .before .before .before .before .before .before .before .before .before .before .before .before .before .before .before .before .before .before .before .before .before .before .before .before .before .before .before .before .args in
+    run-edge (a .xs .now) (a .ys .now) (a .heads .now) (a .links .now) (a .from) (a .n) (cellAt (a .cells .now) (a .c)) 3
+    (c .before .before .before .before .before .before .before .before .before .before .before .before .before .red-edge3 .last .1 .1 .1 .0) (c .before .before .before .before .before .before .before .before .before .before .before .before .before .red-edge3 .last .1 .1 .1 .1 .0) (c .before .before .before .before .before .before .before .before .before .before .before .before .before .red-edge3 .last .1 .1 .1 .1 .1 .0) (c .before .before .before .before .before .before .before .before .before .before .before .before .before .red-edge3 .last .1 .1 .1 .1 .1 .1 .0) (c .before .before .before .before .before .before .before .before .before .before .before .before .before .red-edge3 .result)
+    (run3 (c .before .before .before .before .before .before .before .before .before .before .before .before .before)) (omega arith)
+    (c .red-edge4 .last .1 .1 .1 .0) (c .red-edge4 .last .1 .1 .1 .1 .0) (c .red-edge4 .last .1 .1 .1 .1 .1 .0) (c .red-edge4 .last .1 .1 .1 .1 .1 .1 .0) (c .red-edge4 .result)
+    (c .red-edge4 .kept .1 .1 .1 .0) (c .red-edge4 .kept .1 .1 .1 .1 .0) (c .red-edge4 .kept .1 .1 .1 .1 .1 .0) (c .red-edge4 .kept .1 .1 .1 .1 .1 .1 .0) (c .red-edge4 .ensures)
 
-insert-requires : tie.Need-insert-requires Inv-loop μ-loop
-insert-requires c κs =
-    let l = c .before .before .before .before .before .before .loop in
-    let a = c .before .before .before .before .before .before .before .before .before .before .before .before .args in
-    let es = take (l .e) (edges 0 (cellAt (a .cells .now) (a .c))) in (
-      l .inv .1 .grown .edges,
-      room-left (a .xs .now) (a .ys .now) (a .heads .now) (a .links .now) (a .from) (a .n) es (l .xs) (l .ys) (l .heads) (l .links) (l .m)
-          (l .inv .1) 6
-          (c .before .before .before .before .before .before .before .before .before .before .before .before .pre .space)
-          (omega (arith, length-edges (cellAt (a .cells .now) (a .c)) (l .e) (omega arith))),
-    )
+run5 : (c : tie.After-red-edge5)
+    → Run (c .before .before .before .before .before .before .before .before .before .before .before .before .before .before .before .before .before .before .before .before .before .before .before .before .before .before .before .before .before .before .before .before .before .before .before .before .before .before .before .before .before .before .before .before .before .before .before .before .before .before .before .before .before .before .before .before .before .before .before .before .before .before .args .xs .now) (c .before .before .before .before .before .before .before .before .before .before .before .before .before .before .before .before .before .before .before .before .before .before .before .before .before .before .before .before .before .before .before .before .before .before .before .before .before .before .before .before .before .before .before .before .before .before .before .before .before .before .before .before .before .before .before .before .before .before .before .before .before .before .args .ys .now) (c .before .before .before .before .before .before .before .before .before .before .before .before .before .before .before .before .before .before .before .before .before .before .before .before .before .before .before .before .before .before .before .before .before .before .before .before .before .before .before .before .before .before .before .before .before .before .before .before .before .before .before .before .before .before .before .before .before .before .before .before .before .before .args .heads .now) (c .before .before .before .before .before .before .before .before .before .before .before .before .before .before .before .before .before .before .before .before .before .before .before .before .before .before .before .before .before .before .before .before .before .before .before .before .before .before .before .before .before .before .before .before .before .before .before .before .before .before .before .before .before .before .before .before .before .before .before .before .before .before .args .links .now) (c .before .before .before .before .before .before .before .before .before .before .before .before .before .before .before .before .before .before .before .before .before .before .before .before .before .before .before .before .before .before .before .before .before .before .before .before .before .before .before .before .before .before .before .before .before .before .before .before .before .before .before .before .before .before .before .before .before .before .before .before .before .before .args .from) (c .before .before .before .before .before .before .before .before .before .before .before .before .before .before .before .before .before .before .before .before .before .before .before .before .before .before .before .before .before .before .before .before .before .before .before .before .before .before .before .before .before .before .before .before .before .before .before .before .before .before .before .before .before .before .before .before .before .before .before .before .before .before .args .n)
+    (take 5 (edges 0 (cellAt (c .before .before .before .before .before .before .before .before .before .before .before .before .before .before .before .before .before .before .before .before .before .before .before .before .before .before .before .before .before .before .before .before .before .before .before .before .before .before .before .before .before .before .before .before .before .before .before .before .before .before .before .before .before .before .before .before .before .before .before .before .before .before .args .cells .now) (c .before .before .before .before .before .before .before .before .before .before .before .before .before .before .before .before .before .before .before .before .before .before .before .before .before .before .before .before .before .before .before .before .before .before .before .before .before .before .before .before .before .before .before .before .before .before .before .before .before .before .before .before .before .before .before .before .before .before .before .before .before .before .args .c))))
+    (c .red-edge5 .last .1 .1 .1 .0) (c .red-edge5 .last .1 .1 .1 .1 .0) (c .red-edge5 .last .1 .1 .1 .1 .1 .0) (c .red-edge5 .last .1 .1 .1 .1 .1 .1 .0)
+    (c .red-edge5 .result)
+run5 c =
+    let a = c .before .before .before .before .before .before .before .before .before .before .before .before .before .before .before .before .before .before .before .before .before .before .before .before .before .before .before .before .before .before .before .before .before .before .before .before .before .before .before .before .before .before .before .before .before .before .before .before .before .before .before .before .before .before .before .before .before .before .before .before .before .before .args in
+    run-edge (a .xs .now) (a .ys .now) (a .heads .now) (a .links .now) (a .from) (a .n) (cellAt (a .cells .now) (a .c)) 4
+    (c .before .before .before .before .before .before .before .before .before .before .before .before .before .red-edge4 .last .1 .1 .1 .0) (c .before .before .before .before .before .before .before .before .before .before .before .before .before .red-edge4 .last .1 .1 .1 .1 .0) (c .before .before .before .before .before .before .before .before .before .before .before .before .before .red-edge4 .last .1 .1 .1 .1 .1 .0) (c .before .before .before .before .before .before .before .before .before .before .before .before .before .red-edge4 .last .1 .1 .1 .1 .1 .1 .0) (c .before .before .before .before .before .before .before .before .before .before .before .before .before .red-edge4 .result)
+    (run4 (c .before .before .before .before .before .before .before .before .before .before .before .before .before)) (omega arith)
+    (c .red-edge5 .last .1 .1 .1 .0) (c .red-edge5 .last .1 .1 .1 .1 .0) (c .red-edge5 .last .1 .1 .1 .1 .1 .0) (c .red-edge5 .last .1 .1 .1 .1 .1 .1 .0) (c .red-edge5 .result)
+    (c .red-edge5 .kept .1 .1 .1 .0) (c .red-edge5 .kept .1 .1 .1 .1 .0) (c .red-edge5 .kept .1 .1 .1 .1 .1 .0) (c .red-edge5 .kept .1 .1 .1 .1 .1 .1 .0) (c .red-edge5 .ensures)
 
-add-e : tie.Need-add-e Inv-loop μ-loop
-add-e c = search needs
+run6 : (c : tie.After-red-edge6)
+    → Run (c .before .before .before .before .before .before .before .before .before .before .before .before .before .before .before .before .before .before .before .before .before .before .before .before .before .before .before .before .before .before .before .before .before .before .before .before .before .before .before .before .before .before .before .before .before .before .before .before .before .before .before .before .before .before .before .before .before .before .before .before .before .before .before .before .before .before .before .before .before .before .before .before .before .before .before .args .xs .now) (c .before .before .before .before .before .before .before .before .before .before .before .before .before .before .before .before .before .before .before .before .before .before .before .before .before .before .before .before .before .before .before .before .before .before .before .before .before .before .before .before .before .before .before .before .before .before .before .before .before .before .before .before .before .before .before .before .before .before .before .before .before .before .before .before .before .before .before .before .before .before .before .before .before .before .before .args .ys .now) (c .before .before .before .before .before .before .before .before .before .before .before .before .before .before .before .before .before .before .before .before .before .before .before .before .before .before .before .before .before .before .before .before .before .before .before .before .before .before .before .before .before .before .before .before .before .before .before .before .before .before .before .before .before .before .before .before .before .before .before .before .before .before .before .before .before .before .before .before .before .before .before .before .before .before .before .args .heads .now) (c .before .before .before .before .before .before .before .before .before .before .before .before .before .before .before .before .before .before .before .before .before .before .before .before .before .before .before .before .before .before .before .before .before .before .before .before .before .before .before .before .before .before .before .before .before .before .before .before .before .before .before .before .before .before .before .before .before .before .before .before .before .before .before .before .before .before .before .before .before .before .before .before .before .before .before .args .links .now) (c .before .before .before .before .before .before .before .before .before .before .before .before .before .before .before .before .before .before .before .before .before .before .before .before .before .before .before .before .before .before .before .before .before .before .before .before .before .before .before .before .before .before .before .before .before .before .before .before .before .before .before .before .before .before .before .before .before .before .before .before .before .before .before .before .before .before .before .before .before .before .before .before .before .before .before .args .from) (c .before .before .before .before .before .before .before .before .before .before .before .before .before .before .before .before .before .before .before .before .before .before .before .before .before .before .before .before .before .before .before .before .before .before .before .before .before .before .before .before .before .before .before .before .before .before .before .before .before .before .before .before .before .before .before .before .before .before .before .before .before .before .before .before .before .before .before .before .before .before .before .before .before .before .before .args .n)
+    (take 6 (edges 0 (cellAt (c .before .before .before .before .before .before .before .before .before .before .before .before .before .before .before .before .before .before .before .before .before .before .before .before .before .before .before .before .before .before .before .before .before .before .before .before .before .before .before .before .before .before .before .before .before .before .before .before .before .before .before .before .before .before .before .before .before .before .before .before .before .before .before .before .before .before .before .before .before .before .before .before .before .before .before .args .cells .now) (c .before .before .before .before .before .before .before .before .before .before .before .before .before .before .before .before .before .before .before .before .before .before .before .before .before .before .before .before .before .before .before .before .before .before .before .before .before .before .before .before .before .before .before .before .before .before .before .before .before .before .before .before .before .before .before .before .before .before .before .before .before .before .before .before .before .before .before .before .before .before .before .before .before .before .before .args .c))))
+    (c .red-edge6 .last .1 .1 .1 .0) (c .red-edge6 .last .1 .1 .1 .1 .0) (c .red-edge6 .last .1 .1 .1 .1 .1 .0) (c .red-edge6 .last .1 .1 .1 .1 .1 .1 .0)
+    (c .red-edge6 .result)
+run6 c =
+    let a = c .before .before .before .before .before .before .before .before .before .before .before .before .before .before .before .before .before .before .before .before .before .before .before .before .before .before .before .before .before .before .before .before .before .before .before .before .before .before .before .before .before .before .before .before .before .before .before .before .before .before .before .before .before .before .before .before .before .before .before .before .before .before .before .before .before .before .before .before .before .before .before .before .before .before .before .args in
+    run-edge (a .xs .now) (a .ys .now) (a .heads .now) (a .links .now) (a .from) (a .n) (cellAt (a .cells .now) (a .c)) 5
+    (c .before .before .before .before .before .before .before .before .before .before .before .before .before .red-edge5 .last .1 .1 .1 .0) (c .before .before .before .before .before .before .before .before .before .before .before .before .before .red-edge5 .last .1 .1 .1 .1 .0) (c .before .before .before .before .before .before .before .before .before .before .before .before .before .red-edge5 .last .1 .1 .1 .1 .1 .0) (c .before .before .before .before .before .before .before .before .before .before .before .before .before .red-edge5 .last .1 .1 .1 .1 .1 .1 .0) (c .before .before .before .before .before .before .before .before .before .before .before .before .before .red-edge5 .result)
+    (run5 (c .before .before .before .before .before .before .before .before .before .before .before .before .before)) (omega arith)
+    (c .red-edge6 .last .1 .1 .1 .0) (c .red-edge6 .last .1 .1 .1 .1 .0) (c .red-edge6 .last .1 .1 .1 .1 .1 .0) (c .red-edge6 .last .1 .1 .1 .1 .1 .1 .0) (c .red-edge6 .result)
+    (c .red-edge6 .kept .1 .1 .1 .0) (c .red-edge6 .kept .1 .1 .1 .1 .0) (c .red-edge6 .kept .1 .1 .1 .1 .1 .0) (c .red-edge6 .kept .1 .1 .1 .1 .1 .1 .0) (c .red-edge6 .ensures)
 
-loop-less : tie.Need-loop-less Inv-loop μ-loop
-loop-less c = search needs
+red-edge-requires : tie.Need-red-edge-requires
+red-edge-requires c κs =
+    let s = c .before .before .before .before .before .before .before .before .before in
+    let a = s .args in
+    (ready-edge (a .xs .now) (a .ys .now) (a .heads .now) (a .links .now) (a .from) (a .n) (cellAt (a .cells .now) (a .c)) 0
+    (a .xs .now) (a .ys .now) (a .heads .now) (a .links .now) (a .n)
+    (run-start (a .xs .now) (a .ys .now) (a .heads .now) (a .links .now) (a .from) (a .n) (s .pre .table)) (omega arith) (a .cells .now) (a .c + 1) (s .pre .rows) (s .pre .space), omega arith)
 
-loop-again : tie.Need-loop-again Inv-loop μ-loop
-loop-again c =
-    let l = c .before .before .before .before .before .before .before .before .before .before .before .before .before .before .before .loop
-    in
-    let
-    a =
-    c .before .before .before .before .before .before .before .before .before .before .before .before .before .before .before .before
-    .before .before .before .before .before .args in
-    let i = c .before .before .before .before .before .before .before .before .insert in
-    let d = cellAt (a .cells .now) (a .c) in (
-      search needs,
-      rw (
-        add-one,
-        next-edge d (l .e)
-            (c .before .before .before .before .before .before .before .before .before .before .before .before .before .before .loop-test
-            .taken),
-        ← c .before .before .before .before .before .before .before .before .before .before .before .before .before .edge-of .ensures,
-      )
-          (run-one (a .xs .now) (a .ys .now) (a .heads .now) (a .links .now) (a .from) (a .n) (take (l .e) (edges 0 d)) (l .xs) (l .ys)
-          (l .heads) (l .links) (l .m) (l .inv .1)
-          (i .last .0) (i .last .1 .0) (i .last .1 .1 .0) (i .last .1 .1 .1 .0) (i .result .n) (i .kept .0) (i .kept .1 .0)
-          (i .kept .1 .1 .0) (i .kept .1 .1 .1 .0) (
-            c .before .before .before .before .before .before .before .before .before .before .before .before .before .edge-of .result .a,
-            c .before .before .before .before .before .before .before .before .before .before .before .before .before .edge-of .result .b,
-          )
-          (i .result .at) (i .ensures)),
-    )
+red-edge-requires-2 : tie.Need-red-edge-requires-2
+red-edge-requires-2 c κs =
+    let s = c .before .before .before .before .before .before .before .before .before .before .before .before .before .before .before .before .before .before .before .before .before .before in
+    let a = s .args in
+    (ready-edge (a .xs .now) (a .ys .now) (a .heads .now) (a .links .now) (a .from) (a .n) (cellAt (a .cells .now) (a .c)) 1
+    (c .before .before .before .before .before .before .before .before .before .before .before .before .red-edge .last .1 .1 .1 .0) (c .before .before .before .before .before .before .before .before .before .before .before .before .red-edge .last .1 .1 .1 .1 .0) (c .before .before .before .before .before .before .before .before .before .before .before .before .red-edge .last .1 .1 .1 .1 .1 .0) (c .before .before .before .before .before .before .before .before .before .before .before .before .red-edge .last .1 .1 .1 .1 .1 .1 .0) (c .before .before .before .before .before .before .before .before .before .before .before .before .red-edge .result)
+    (run1 (c .before .before .before .before .before .before .before .before .before .before .before .before)) (omega arith) (a .cells .now) (a .c + 1) (s .pre .rows) (s .pre .space), omega arith)
 
-same-length : tie.Need-same-length Inv-loop μ-loop
-same-length c = c .before .loop .inv .1 .same-xs
+red-edge-requires-3 : tie.Need-red-edge-requires-3
+red-edge-requires-3 c κs =
+    let s = c .before .before .before .before .before .before .before .before .before .before .before .before .before .before .before .before .before .before .before .before .before .before .before .before .before .before .before .before .before .before .before .before .before .before .before in
+    let a = s .args in
+    (ready-edge (a .xs .now) (a .ys .now) (a .heads .now) (a .links .now) (a .from) (a .n) (cellAt (a .cells .now) (a .c)) 2
+    (c .before .before .before .before .before .before .before .before .before .before .before .before .red-edge2 .last .1 .1 .1 .0) (c .before .before .before .before .before .before .before .before .before .before .before .before .red-edge2 .last .1 .1 .1 .1 .0) (c .before .before .before .before .before .before .before .before .before .before .before .before .red-edge2 .last .1 .1 .1 .1 .1 .0) (c .before .before .before .before .before .before .before .before .before .before .before .before .red-edge2 .last .1 .1 .1 .1 .1 .1 .0) (c .before .before .before .before .before .before .before .before .before .before .before .before .red-edge2 .result)
+    (run2 (c .before .before .before .before .before .before .before .before .before .before .before .before)) (omega arith) (a .cells .now) (a .c + 1) (s .pre .rows) (s .pre .space), omega arith)
 
-same-length-2 : tie.Need-same-length-2 Inv-loop μ-loop
-same-length-2 c = c .before .loop .inv .1 .same-ys
+red-edge-requires-4 : tie.Need-red-edge-requires-4
+red-edge-requires-4 c κs =
+    let s = c .before .before .before .before .before .before .before .before .before .before .before .before .before .before .before .before .before .before .before .before .before .before .before .before .before .before .before .before .before .before .before .before .before .before .before .before .before .before .before .before .before .before .before .before .before .before .before .before in
+    let a = s .args in
+    (ready-edge (a .xs .now) (a .ys .now) (a .heads .now) (a .links .now) (a .from) (a .n) (cellAt (a .cells .now) (a .c)) 3
+    (c .before .before .before .before .before .before .before .before .before .before .before .before .red-edge3 .last .1 .1 .1 .0) (c .before .before .before .before .before .before .before .before .before .before .before .before .red-edge3 .last .1 .1 .1 .1 .0) (c .before .before .before .before .before .before .before .before .before .before .before .before .red-edge3 .last .1 .1 .1 .1 .1 .0) (c .before .before .before .before .before .before .before .before .before .before .before .before .red-edge3 .last .1 .1 .1 .1 .1 .1 .0) (c .before .before .before .before .before .before .before .before .before .before .before .before .red-edge3 .result)
+    (run3 (c .before .before .before .before .before .before .before .before .before .before .before .before)) (omega arith) (a .cells .now) (a .c + 1) (s .pre .rows) (s .pre .space), omega arith)
 
-same-length-3 : tie.Need-same-length-3 Inv-loop μ-loop
-same-length-3 c = c .before .loop .inv .1 .same-heads
+red-edge-requires-5 : tie.Need-red-edge-requires-5
+red-edge-requires-5 c κs =
+    let s = c .before .before .before .before .before .before .before .before .before .before .before .before .before .before .before .before .before .before .before .before .before .before .before .before .before .before .before .before .before .before .before .before .before .before .before .before .before .before .before .before .before .before .before .before .before .before .before .before .before .before .before .before .before .before .before .before .before .before .before .before .before in
+    let a = s .args in
+    (ready-edge (a .xs .now) (a .ys .now) (a .heads .now) (a .links .now) (a .from) (a .n) (cellAt (a .cells .now) (a .c)) 4
+    (c .before .before .before .before .before .before .before .before .before .before .before .before .red-edge4 .last .1 .1 .1 .0) (c .before .before .before .before .before .before .before .before .before .before .before .before .red-edge4 .last .1 .1 .1 .1 .0) (c .before .before .before .before .before .before .before .before .before .before .before .before .red-edge4 .last .1 .1 .1 .1 .1 .0) (c .before .before .before .before .before .before .before .before .before .before .before .before .red-edge4 .last .1 .1 .1 .1 .1 .1 .0) (c .before .before .before .before .before .before .before .before .before .before .before .before .red-edge4 .result)
+    (run4 (c .before .before .before .before .before .before .before .before .before .before .before .before)) (omega arith) (a .cells .now) (a .c + 1) (s .pre .rows) (s .pre .space), omega arith)
 
-same-length-4 : tie.Need-same-length-4 Inv-loop μ-loop
-same-length-4 c = c .before .loop .inv .1 .same-links
+red-edge-requires-6 : tie.Need-red-edge-requires-6
+red-edge-requires-6 c κs =
+    let s = c .before .before .before .before .before .before .before .before .before .before .before .before .before .before .before .before .before .before .before .before .before .before .before .before .before .before .before .before .before .before .before .before .before .before .before .before .before .before .before .before .before .before .before .before .before .before .before .before .before .before .before .before .before .before .before .before .before .before .before .before .before .before .before .before .before .before .before .before .before .before .before .before .before .before in
+    let a = s .args in
+    (ready-edge (a .xs .now) (a .ys .now) (a .heads .now) (a .links .now) (a .from) (a .n) (cellAt (a .cells .now) (a .c)) 5
+    (c .before .before .before .before .before .before .before .before .before .before .before .before .red-edge5 .last .1 .1 .1 .0) (c .before .before .before .before .before .before .before .before .before .before .before .before .red-edge5 .last .1 .1 .1 .1 .0) (c .before .before .before .before .before .before .before .before .before .before .before .before .red-edge5 .last .1 .1 .1 .1 .1 .0) (c .before .before .before .before .before .before .before .before .before .before .before .before .red-edge5 .last .1 .1 .1 .1 .1 .1 .0) (c .before .before .before .before .before .before .before .before .before .before .before .before .red-edge5 .result)
+    (run5 (c .before .before .before .before .before .before .before .before .before .before .before .before)) (omega arith) (a .cells .now) (a .c + 1) (s .pre .rows) (s .pre .space), omega arith)
 
-returns : tie.Need-returns Inv-loop μ-loop
+same-length : tie.Need-same-length
+same-length c = run6 (c .before .before .before .before .before .before .before .before) .same-xs
+
+same-length-2 : tie.Need-same-length-2
+same-length-2 c = run6 (c .before .before .before .before .before .before .before .before) .same-ys
+
+same-length-3 : tie.Need-same-length-3
+same-length-3 c = run6 (c .before .before .before .before .before .before .before .before) .same-heads
+
+same-length-4 : tie.Need-same-length-4
+same-length-4 c = run6 (c .before .before .before .before .before .before .before .before) .same-links
+
+returns : tie.Need-returns
 returns c =
-    let l = c .before .loop in
-    let a = c .before .before .before .before .before .before .before .args in
-    let k : l .e ≡ 6 = omega arith in
-    let w = l .inv .1 .grown in
-    rw (k, all-edges (cellAt (a .cells .now) (a .c))) at w
+    let a = c .before .before .before .before .before .before .before .before .before .before .before .before .before .before .before .before .before .before .before .before .before .before .before .before .before .before .before .before .before .before .before .before .before .before .before .before .before .before .before .before .before .before .before .before .before .before .before .before .before .before .before .before .before .before .before .before .before .before .before .before .before .before .before .before .before .before .before .before .before .before .before .before .before .before .before .before .before .before .before .before .before .before .before .args in
+    let w = run6 (c .before .before .before .before .before .before .before .before) .grown in
+    rw (all-edges (cellAt (a .cells .now) (a .c))) at w
 
 pub red-edges-spec : {M : Type 1} → statement M
 red-edges-spec =
     tie.close
     (tie.spec
-    Inv-loop
-    μ-loop
-    loop-holds
-    edge-of-requires
-    insert-requires
-    add-e
-    loop-less
-    loop-again
+    red-edge-requires
+    red-edge-requires-2
+    red-edge-requires-3
+    red-edge-requires-4
+    red-edge-requires-5
+    red-edge-requires-6
     same-length
     same-length-2
     same-length-3
