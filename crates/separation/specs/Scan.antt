@@ -1,13 +1,14 @@
 -- Scans of the six edges of a cell and of the cells of a table: the rest decides as the whole does.
 -- Assumes nothing.
 use mathlib.Core.Path.{_≡_, refl, sym, _∙_}
-use mathlib.Core.Bool.{Bool, true, false, _||_, not, or-true, or-false}
+use mathlib.Core.Bool.{Bool, true, false, _&&_, _||_, not, or-true, or-false}
 use lib.Dec.{eqb}
 use Rattle.base.specs.Places.{hasb}
-use mathlib.Core.List.{List, _∷_}
+use mathlib.Core.List.{List, [], _∷_}
 use Prim.Native.Nat.{ℕ, zero, suc, _+_, _*_, _-_, _<_}
 use native.Mathlib.Omega.{arith}
 use lib.ListN.{getD, drop}
+use Rattle.base.specs.Bools.{not-both}
 use Rattle.base.specs.Lists.{allb, anyb}
 use Rattle.mesh.specs.Cells.{Cell, edge, edges, heldb}
 use Rattle.rows.specs.Numbered.{cellAt, cellsAt}
@@ -86,6 +87,27 @@ module _ (own es : List Pair) (e p : Pair) (q : p ≡ e) (held : Bool) (h : held
 
 abbrev pub apartTest : List Pair → List ℕ → ℕ → Pair → Bool
 apartTest es t g e = heldb eqb (edges 0 (cellAt t g)) e || not (hasb isb es (sorted e))
+
+-- no red cell has the edge
+abbrev pub freeTest : List Pair → Pair → Bool
+freeTest es e = not (hasb isb es (sorted e))
+
+pub six-free : (es : List Pair) (c : Cell ℕ) → hasb isb es (sorted (edge 0 c 0)) ≡ false → hasb isb es (sorted (edge 0 c 1)) ≡ false
+    → hasb isb es (sorted (edge 0 c 2)) ≡ false → hasb isb es (sorted (edge 0 c 3)) ≡ false → hasb isb es (sorted (edge 0 c 4)) ≡ false
+    → hasb isb es (sorted (edge 0 c 5)) ≡ false → allb (freeTest es) (edges 0 c) ≡ true
+unfolding allb edges
+six-free es c p q r s t u = rw (p, q, r, s, t, u)
+
+-- where no edge is listed, the condition holds at each
+pub free-apart : (es : List Pair) (t : List ℕ) (g : ℕ) (l : List Pair) → allb (freeTest es) l ≡ true → allb (apartTest es t g) l ≡ true
+unfolding allb
+free-apart es t g [] h = refl
+free-apart es t g (e ∷ l) h = go (hasb isb es (sorted e)) (free-apart es t g l) h
+  where
+    go : (b : Bool) → (allb (freeTest es) l ≡ true → allb (apartTest es t g) l ≡ true) → (not b && allb (freeTest es) l) ≡ true
+        → ((heldb eqb (edges 0 (cellAt t g)) e || not b) && allb (apartTest es t g) l) ≡ true
+    go true i k = not-both false k refl
+    go false i k = rw (or-true (heldb eqb (edges 0 (cellAt t g)) e)) (i k)
 
 module _ (es : List Pair) (t : List ℕ) (c : ℕ) where
   pub regular-apart : cellAt t c .regular ≡ true → listedApart es t (cellAt t c) ≡ true
