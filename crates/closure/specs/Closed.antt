@@ -127,20 +127,6 @@ module _ (es reds : List Pair) (m : Lists es reds) where
   closed-listed (c ∷ cs) [] = refl
   closed-listed (c ∷ cs) (s ∷ ss) = rw (status-listed (redb s) c, closed-listed cs ss)
 
--- one turn of the loop over the bits
-module _ (es : List Pair) (c : Cell ℕ) (p e : ℕ) (h : 0 < e) (g : e ≤ 6) (i : p ≡ bitsOf (drop e (tests es c))) where
-  before : suc (e - 1) ≡ e
-  before = omega arith
-
-  pub small-bits : p ≤ 31
-  small-bits = rw i (rw before at (bits-small es c (e - 1) (omega arith)))
-
-  pub bit-turn : (b : ℕ) → b ≡ one-if (hasb isb es (sorted (edge 0 c (e - 1)))) → b + 2 * p ≡ bitsOf (drop (e - 1) (tests es c))
-  bit-turn b k =
-      let w : bitsOf (drop (e - 1) (tests es c)) ≡ one-if (hasb isb es (sorted (edge 0 c (e - 1)))) + 2 * bitsOf (drop e (tests es c)) =
-      rw before at (bits-more es c (e - 1) (omega arith)) in
-      omega arith
-
 -- the six tests as bits
 pub six-bits : (es : List Pair) (c : Cell ℕ) (p q r s t u : Bool) → p ≡ hasb isb es (sorted (edge 0 c 0))
     → q ≡ hasb isb es (sorted (edge 0 c 1)) → r ≡ hasb isb es (sorted (edge 0 c 2)) → s ≡ hasb isb es (sorted (edge 0 c 3))

@@ -14,7 +14,7 @@ use Rattle.mesh.specs.Cells.{Cell, redb, edge, edges, redEdges}
 use Rattle.base.specs.Bools.{one-if}
 use Rattle.rows.specs.Numbered.{cellAt, cellsAt, part}
 use Rattle.edges.specs.Pairs.{Pair}
-use Rattle.edges.specs.Table.{Edges, Space, Inserted, Grown, grown-none, grown-one, grown-both}
+use Rattle.edges.specs.Table.{Edges, Space, Grown, grown-none, grown-both}
 use Rattle.closure.specs.Ready.{Ready, Run, redOf, redCount, count-one}
 use Rattle.rows.specs.Laws.{length-cells, length-part, part-more}
 
@@ -41,17 +41,6 @@ module _ (xs₀ ys₀ heads₀ links₀ : List ℕ) (from n : ℕ) (es : List Pa
         in-links = omega (arith, s .in-links, r .same-links);
       }
 
-  pub room-left : (k : ℕ) → Space xs₀ ys₀ links₀ n k → length es < k → Room xs ys links m
-  room-left k s h =
-      let t = space-left 1 k s (omega arith) in
-      record {
-        small = omega (arith, t .small);
-        in-xs = omega (arith, t .in-xs);
-        in-ys = omega (arith, t .in-ys);
-        in-links = omega
-            (arith, t .in-links);
-      }
-
   module _ (xs′ ys′ heads′ links′ : List ℕ) (m′ : ℕ) (sx : length xs′ ≡ length xs) (sy : length ys′ ≡ length ys)
       (sh : length heads′ ≡ length heads)
       (sl : length links′ ≡ length links) where
@@ -65,10 +54,6 @@ module _ (xs₀ ys₀ heads₀ links₀ : List ℕ) (from n : ℕ) (es : List Pa
           same-heads = sh ∙ r .same-heads;
           same-links = sl ∙ r .same-links;
         }
-
-    pub run-one : (e : Pair) (at : ℕ) → Inserted xs ys from m e xs′ ys′ heads′ links′ at m′
-        → Run xs₀ ys₀ heads₀ links₀ from n (es ++ (e ∷ [])) xs′ ys′ heads′ links′ m′
-    run-one e at i = run-more (e ∷ []) (grown-one xs ys from m e xs′ ys′ heads′ links′ at m′ i)
 
 pub room-one : (xs ys links : List ℕ) (n : ℕ) → Space xs ys links n 1 → Room xs ys links n
 room-one xs ys links n s =

@@ -11,7 +11,8 @@ edge-of-requires c κs = search needs
 
 insert-requires : tie.Need-insert-requires
 insert-requires c κs =
-    let r = c .before .before .before .before .before .before .before .before .before .before .pre .0 in (r .table, room-one _ _ _ _ (r .space))
+    let r = c .before .before .before .before .before .before .before .before .before .before .pre .0 in (r .table, room-one _ _ _ _ (r
+    .space))
 
 same-length : tie.Need-same-length
 same-length c = search needs
@@ -27,7 +28,8 @@ same-length-4 c = search needs
 
 returns : tie.Need-returns
 returns c =
-    let a = c .before .before .before .before .before .before .before .before .before .before .before .before .before .before .before .before .before .before .before .args in
+    let a = c .before .before .before .before .before .before .before .before .before .before .before .before .before .before .before
+    .before .before .before .before .args in
     let i = c .before .before .before .before .before .before .before .before .insert in
     let e = c .before .before .before .before .before .before .before .before .before .before .before .before .before .edge-of in
     rw (← e .ensures)

@@ -36,24 +36,30 @@ returns-4 : tie.Need-returns-4
 returns-4 c = λ h. not-both false h refl
 
 is-held-requires-5 : tie.Need-is-held-requires-5
-is-held-requires-5 c κs = (c .before .before .before .before .before .before .before .before .before .before .before .before .before .pre, omega arith)
+is-held-requires-5 c κs = (c .before .before .before .before .before .before .before .before .before .before .before .before .before .pre,
+    omega arith)
 
 returns-5 : tie.Need-returns-5
 returns-5 c = λ h. not-both false h refl
 
 is-held-requires-6 : tie.Need-is-held-requires-6
-is-held-requires-6 c κs = (c .before .before .before .before .before .before .before .before .before .before .before .before .before .before .before .pre, omega arith)
+is-held-requires-6 c κs = (c .before .before .before .before .before .before .before .before .before .before .before .before .before .before
+    .before .pre, omega arith)
 
 returns-6 : tie.Need-returns-6
 returns-6 c = λ h. not-both false h refl
 
 returns-7 : tie.Need-returns-7
 returns-7 c = λ h.
-    let a = c .before .before .before .before .before .before .before .before .before .before .before .before .before .before .before .before .before .args in
+    let a = c .before .before .before .before .before .before .before .before .before .before .before .before .before .before .before
+    .before .before .args in
     six-free (listed (a .xs .now) (a .ys .now) (a .from) (a .n)) (cellAt (a .cells .now) (a .c))
-    (sym (c .before .before .before .before .before .before .before .before .before .before .before .is-held .ensures) ∙ c .before .before .before .before .before .before .before .before .before .before .if1 .left)
-    (sym (c .before .before .before .before .before .before .before .before .before .is-held2 .ensures) ∙ c .before .before .before .before .before .before .before .before .if2 .left)
-    (sym (c .before .before .before .before .before .before .before .is-held3 .ensures) ∙ c .before .before .before .before .before .before .if3 .left)
+    (sym (c .before .before .before .before .before .before .before .before .before .before .before .is-held .ensures) ∙ c .before .before
+    .before .before .before .before .before .before .before .before .if1 .left)
+    (sym (c .before .before .before .before .before .before .before .before .before .is-held2 .ensures) ∙ c .before .before .before .before
+    .before .before .before .before .if2 .left)
+    (sym (c .before .before .before .before .before .before .before .is-held3 .ensures) ∙ c .before .before .before .before .before .before
+    .if3 .left)
     (sym (c .before .before .before .before .before .is-held4 .ensures) ∙ c .before .before .before .before .if4 .left)
     (sym (c .before .before .before .is-held5 .ensures) ∙ c .before .before .if5 .left)
     (sym (c .before .is-held6 .ensures) ∙ c .if6 .left)
