@@ -144,6 +144,30 @@ fn bits(a: bool, b: bool, c: bool, d: bool, e: bool, f: bool) -> u8
     bit(a) + 2 * s
 }
 
+// The pattern of the cell's edges that are listed, by six searches.
+fn pattern_in(
+    cells: &[u16],
+    c: usize,
+    xs: &[u32],
+    ys: &[u32],
+    heads: &[u16],
+    links: &[u16],
+    from: usize,
+    n: usize,
+) -> u8
+    requires { ⌜ Looks (now cells) (now xs) (now ys) (now heads) (now links) (c + 1) from n ⌝ }
+    ensures { λ r. ⌜ r ≡ listedPattern (listed (was xs) (was ys) from n) (cellAt (was cells) c) ⌝ }
+{
+    bits(
+        is_held(cells, c, 0, xs, ys, heads, links, from, n),
+        is_held(cells, c, 1, xs, ys, heads, links, from, n),
+        is_held(cells, c, 2, xs, ys, heads, links, from, n),
+        is_held(cells, c, 3, xs, ys, heads, links, from, n),
+        is_held(cells, c, 4, xs, ys, heads, links, from, n),
+        is_held(cells, c, 5, xs, ys, heads, links, from, n),
+    )
+}
+
 // The pattern of the cell's edges that are listed. On the highest level none is.
 pub fn pattern_of(
     cells: &[u16],
@@ -161,14 +185,7 @@ pub fn pattern_of(
     if from == n {
         return 0;
     }
-    bits(
-        is_held(cells, c, 0, xs, ys, heads, links, from, n),
-        is_held(cells, c, 1, xs, ys, heads, links, from, n),
-        is_held(cells, c, 2, xs, ys, heads, links, from, n),
-        is_held(cells, c, 3, xs, ys, heads, links, from, n),
-        is_held(cells, c, 4, xs, ys, heads, links, from, n),
-        is_held(cells, c, 5, xs, ys, heads, links, from, n),
-    )
+    pattern_in(cells, c, xs, ys, heads, links, from, n)
 }
 
 // The status of a cell that is red or not, where the edges of its level's red cells are listed.
@@ -192,7 +209,10 @@ pub fn status_of(
     if red {
         return 64;
     }
-    pattern_of(cells, c, xs, ys, heads, links, from, n)
+    if from == n {
+        return 0;
+    }
+    pattern_in(cells, c, xs, ys, heads, links, from, n)
 }
 
 // Whether each cell from first to last has the status that the listed edges ask for.

@@ -1,9 +1,8 @@
--- `closure::pattern_of` meets its contract: where no edge is listed it is 0, and else it has the six tests as bits.
+-- `closure::pattern_of` meets its contract: where no edge is listed it is 0, and else it is what the six searches give.
 -- Assumes nothing.
-use mathlib.Core.Path.{sym, _∙_}
-use Rattle.edges.specs.Table.{listed}
+use mathlib.Core.Path.{sym}
 use Rattle.rows.specs.Numbered.{cellAt}
-use Rattle.closure.specs.Closed.{none-listed, six-bits}
+use Rattle.closure.specs.Closed.{none-listed}
 use borrow.Author.Needs.{needs}
 use Rattle.closure.proofs.pattern_of.Statement.{statement}
 use Rattle.closure.proofs.pattern_of.Tie as tie
@@ -13,55 +12,11 @@ returns c =
     let a = c .before .before .before .before .before .before .args in
     sym (none-listed (a .xs .now) (a .ys .now) (a .from) (a .n) (cellAt (a .cells .now) (a .c)) (c .if1 .taken))
 
-is-held-requires : tie.Need-is-held-requires
-is-held-requires c κs = search needs
-
-is-held-requires-2 : tie.Need-is-held-requires-2
-is-held-requires-2 c κs = search needs
-
-is-held-requires-3 : tie.Need-is-held-requires-3
-is-held-requires-3 c κs = search needs
-
-is-held-requires-4 : tie.Need-is-held-requires-4
-is-held-requires-4 c κs = search needs
-
-is-held-requires-5 : tie.Need-is-held-requires-5
-is-held-requires-5 c κs = search needs
-
-is-held-requires-6 : tie.Need-is-held-requires-6
-is-held-requires-6 c κs = search needs
-
-bits-requires : tie.Need-bits-requires
-bits-requires c κs = search needs
+pattern-in-requires : tie.Need-pattern-in-requires
+pattern-in-requires c κs = search needs
 
 returns-2 : tie.Need-returns-2
-returns-2 c =
-    let a = c .before .before .before .before .before .before .before .before .before .before .before .before .before .args in
-    c .bits .ensures
-    ∙ six-bits (listed (a .xs .now) (a .ys .now) (a .from) (a .n)) (cellAt (a .cells .now) (a .c))
-    (c .before .before .before .before .before .before .is-held .result)
-    (c .before .before .before .before .before .is-held2 .result)
-    (c .before .before .before .before .is-held3 .result)
-    (c .before .before .before .is-held4 .result)
-    (c .before .before .is-held5 .result)
-    (c .before .is-held6 .result)
-    (c .before .before .before .before .before .before .is-held .ensures)
-    (c .before .before .before .before .before .is-held2 .ensures)
-    (c .before .before .before .before .is-held3 .ensures)
-    (c .before .before .before .is-held4 .ensures)
-    (c .before .before .is-held5 .ensures)
-    (c .before .is-held6 .ensures)
+returns-2 c = search needs
 
 pub pattern-of-spec : {M : Type 1} → statement M
-pattern-of-spec =
-    tie.close
-    (tie.spec
-    returns
-    is-held-requires
-    is-held-requires-2
-    is-held-requires-3
-    is-held-requires-4
-    is-held-requires-5
-    is-held-requires-6
-    bits-requires
-    returns-2)
+pattern-of-spec = tie.close (tie.spec returns pattern-in-requires returns-2)

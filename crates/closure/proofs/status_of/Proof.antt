@@ -4,7 +4,7 @@ use mathlib.Core.Path.{sym, _∙_}
 use borrow.Author.Tests.{not-true, not-false}
 use Rattle.edges.specs.Table.{listed}
 use Rattle.rows.specs.Numbered.{cellAt}
-use Rattle.closure.specs.Closed.{status-irregular, listed-red, status-pattern}
+use Rattle.closure.specs.Closed.{status-irregular, listed-red, status-pattern, none-listed}
 use borrow.Author.Needs.{needs}
 use Rattle.closure.proofs.status_of.Statement.{statement}
 use Rattle.closure.proofs.status_of.Tie as tie
@@ -24,16 +24,26 @@ returns-2 c =
     sym (listed-red (listed (a .xs .now) (a .ys .now) (a .from) (a .n)) (a .red) (cellAt (a .cells .now) (a .c))
     (sym (c .before .before .is-regular .ensures) ∙ not-false _ (c .before .if1 .left)) (c .if2 .taken))
 
-pattern-of-requires : tie.Need-pattern-of-requires
-pattern-of-requires c κs = search needs
-
 returns-3 : tie.Need-returns-3
 returns-3 c =
     let a = c .before .before .before .before .before .before .before .before .before .args in
-    c .pattern-of .ensures
+    let es = listed (a .xs .now) (a .ys .now) (a .from) (a .n) in
+    let t = cellAt (a .cells .now) (a .c) in
+    sym (status-pattern es (a .red) t
+    (sym (c .before .before .before .is-regular .ensures) ∙ not-false _ (c .before .before .if1 .left)) (c .before .if2 .left)
+    ∙ none-listed (a .xs .now) (a .ys .now) (a .from) (a .n) t (c .if3 .taken))
+
+pattern-in-requires : tie.Need-pattern-in-requires
+pattern-in-requires c κs = search needs
+
+returns-4 : tie.Need-returns-4
+returns-4 c =
+    let a = c .before .before .before .before .before .before .before .before .before .before .args in
+    c .pattern-in .ensures
     ∙ sym (status-pattern (listed (a .xs .now) (a .ys .now) (a .from) (a .n)) (a .red) (cellAt (a .cells .now) (a .c))
-    (sym (c .before .before .before .is-regular .ensures) ∙ not-false _ (c .before .before .if1 .left)) (c .before .if2 .left))
+    (sym (c .before .before .before .before .is-regular .ensures) ∙ not-false _ (c .before .before .before .if1 .left))
+    (c .before .before .if2 .left))
 
 pub status-of-spec : {M : Type 1} → statement M
 status-of-spec =
-    tie.close (tie.spec is-regular-requires returns returns-2 pattern-of-requires returns-3)
+    tie.close (tie.spec is-regular-requires returns returns-2 returns-3 pattern-in-requires returns-4)
