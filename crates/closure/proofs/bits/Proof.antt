@@ -56,8 +56,16 @@ add-result c = search needs
 
 returns : tie.Need-returns
 unfolding bitsOf
-returns c = omega (arith, c .bit6 .ensures .0, c .before .bit5 .ensures .0, c .before .before .bit4 .ensures .0, c .before .before .before
-    .bit3 .ensures .0, c .before .before .before .before .bit2 .ensures .0, c .before .before .before .before .before .bit .ensures .0)
+returns c = omega (
+  arith,
+  c .bit6 .ensures .0,
+  c .before .bit5 .ensures .0,
+  c .before .before .bit4 .ensures .0,
+  c .before .before .before
+      .bit3 .ensures .0,
+  c .before .before .before .before .bit2 .ensures .0,
+  c .before .before .before .before .before .bit .ensures .0,
+)
 
 pub bits-spec : {M : Type 1} → statement M
 bits-spec =

@@ -11,8 +11,11 @@ edge-of-requires c κs = search needs
 
 insert-requires : tie.Need-insert-requires
 insert-requires c κs =
-    let r = c .before .before .before .before .before .before .before .before .before .before .pre .0 in (r .table, room-one _ _ _ _ (r
-    .space))
+    let r = c .before .before .before .before .before .before .before .before .before .before .pre .0 in (
+      r .table,
+      room-one _ _ _ _ (r
+          .space),
+    )
 
 same-length : tie.Need-same-length
 same-length c = search needs

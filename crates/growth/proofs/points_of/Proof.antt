@@ -1,4 +1,4 @@
--- `growth::points_of` meets its contract: after each edge it is known which edges are in the table and which points have their numbers.
+-- `growth::points_of` meets its contract: after each edge it is known which edges are in the table and which points have numbers.
 -- Assumes nothing.
 use mathlib.Core.Path.{_≡_}
 use Prim.Native.Nat.{_+_, _<_}
@@ -13,331 +13,341 @@ use Rattle.growth.proofs.points_of.Statement.{statement}
 use Rattle.growth.proofs.points_of.Tie as tie
 
 turn0 : (c : tie.After-corners-of)
-    → Turn (cellAt (c .before .before .before .before .before .before .before .args .cells .now) (c .before .before .before .before .before
-    .before .before .args .c)) (c .before .pattern-of .result) (c .before .before .before .before .before .before .before .args .n)
-    (c .before .before .before .before .before .before .before .args .xs .now) (c .before .before .before .before .before .before .before
-    .args .ys .now) (c .before .before .before .before .before .before .before .args .heads .now) (c .before .before .before .before .before
-    .before .before .args .links .now) (c .before .before .before .before .before .before .before .args .m)
-    (c .before .before .before .before .before .before .before .args .xs .now) (c .before .before .before .before .before .before .before
-    .args .ys .now) (c .before .before .before .before .before .before .before .args .heads .now) (c .before .before .before .before .before
-    .before .before .args .links .now) (c .corners-of .result) (c .before .before .before .before .before .before .before .args .m) 0
+    → Turn (cellAt (c .before .before .before .before .before .before .before .args .cells .now) (c .before .before .before .before
+    .before .before .before .args .c)) (c .before .pattern-of .result) (c .before .before .before .before .before .before .before
+    .args .n)
+    (c .before .before .before .before .before .before .before .args .xs .now) (c .before .before .before .before .before .before
+    .before .args .ys .now) (c .before .before .before .before .before .before .before .args .heads .now) (c .before .before .before
+    .before .before .before .before .args .links .now) (c .before .before .before .before .before .before .before .args .m)
+    (c .before .before .before .before .before .before .before .args .xs .now) (c .before .before .before .before .before .before
+    .before .args .ys .now) (c .before .before .before .before .before .before .before .args .heads .now) (c .before .before .before
+    .before .before .before .before .args .links .now) (c .corners-of .result) (c .before .before .before .before .before .before
+    .before .args .m) 0
 turn0 c =
     let a = c .before .before .before .before .before .before .before .args in
-    rw (c .corners-of .ensures) (turn-start (cellAt (a .cells .now) (a .c)) (c .before .pattern-of .result) (a .n) (a .xs .now) (a .ys .now)
-    (a .heads .now) (a .links .now) (a .m) (c .before .before .before .before .before .before .before .pre .edges))
+    rw (c .corners-of .ensures) (turn-start (cellAt (a .cells .now) (a .c)) (c .before .pattern-of .result) (a .n) (a .xs .now) (a
+    .ys .now) (a .heads .now) (a .links .now) (a .m) (c .before .before .before .before .before .before .before .pre .edges))
 
 turn1 : (c : tie.After-split-edge)
-    → Turn (cellAt (c .before .before .before .before .before .before .before .before .before .before .before .before .before .args .cells
-    .now) (c .before .before .before .before .before .before .before .before .before .before .before .before .before .args .c)) (c .before
-    .before .before .before .before .before .before .pattern-of .result) (c .before .before .before .before .before .before .before .before
-    .before .before .before .before .before .args .n)
-    (c .before .before .before .before .before .before .before .before .before .before .before .before .before .args .xs .now) (c .before
-    .before .before .before .before .before .before .before .before .before .before .before .before .args .ys .now) (c .before .before
-    .before .before .before .before .before .before .before .before .before .before .before .args .heads .now) (c .before .before .before
-    .before .before .before .before .before .before .before .before .before .before .args .links .now) (c .before .before .before .before
-    .before .before .before .before .before .before .before .before .before .args .m)
-    (c .split-edge .last .1 .1 .1 .1 .1 .1 .0) (c .split-edge .last .1 .1 .1 .1 .1 .1 .1 .0) (c .split-edge .last .1 .1 .1 .1 .1 .1 .1 .1
-    .0) (c .split-edge .last .1 .1 .1 .1 .1 .1 .1 .1 .1 .0) (c .split-edge .last .1 .1 .1 .1 .1 .0) (c .split-edge .result) 1
+    → Turn (cellAt (c .before .before .before .before .before .before .before .before .before .before .before .before .before .args
+    .cells .now) (c .before .before .before .before .before .before .before .before .before .before .before .before .before .args
+    .c)) (c .before .before .before .before .before .before .before .pattern-of .result) (c .before .before .before .before .before
+    .before .before .before .before .before .before .before .before .args .n)
+    (c .before .before .before .before .before .before .before .before .before .before .before .before .before .args .xs .now) (c
+    .before .before .before .before .before .before .before .before .before .before .before .before .before .args .ys .now) (c
+    .before .before .before .before .before .before .before .before .before .before .before .before .before .args .heads .now) (c
+    .before .before .before .before .before .before .before .before .before .before .before .before .before .args .links .now) (c
+    .before .before .before .before .before .before .before .before .before .before .before .before .before .args .m)
+    (c .split-edge .last .1 .1 .1 .1 .1 .1 .0) (c .split-edge .last .1 .1 .1 .1 .1 .1 .1 .0) (c .split-edge .last .1 .1 .1 .1 .1 .1
+    .1 .1 .0) (c .split-edge .last .1 .1 .1 .1 .1 .1 .1 .1 .1 .0) (c .split-edge .last .1 .1 .1 .1 .1 .0) (c .split-edge .result) 1
 turn1 c =
     let a = c .before .before .before .before .before .before .before .before .before .before .before .before .before .args in
-    turn-more (cellAt (a .cells .now) (a .c)) (c .before .before .before .before .before .before .before .pattern-of .result) (a .n) (a .xs
-    .now) (a .ys .now) (a .heads .now) (a .links .now) (a .m)
-    (a .xs .now) (a .ys .now) (a .heads .now) (a .links .now) (c .before .before .before .before .before .before .corners-of .result) (a .m)
-    0
+    let i = c .split-edge in
+    turn-more (cellAt (a .cells .now) (a .c)) (c .before .before .before .before .before .before .before .pattern-of .result) (a .n)
+    (a .xs .now) (a .ys .now) (a .heads .now) (a .links .now) (a .m)
+    (a .xs .now) (a .ys .now) (a .heads .now) (a .links .now) (c .before .before .before .before .before .before .corners-of
+    .result) (a .m) 0
     (turn0 (c .before .before .before .before .before .before)) (omega arith)
-    (c .split-edge .last .1 .1 .1 .1 .1 .1 .0) (c .split-edge .last .1 .1 .1 .1 .1 .1 .1 .0) (c .split-edge .last .1 .1 .1 .1 .1 .1 .1 .1
-    .0) (c .split-edge .last .1 .1 .1 .1 .1 .1 .1 .1 .1 .0) (c .split-edge .last .1 .1 .1 .1 .1 .0) (c .split-edge .result)
-    (c .split-edge .kept .1 .1 .1 .1 .1 .1 .0) (c .split-edge .kept .1 .1 .1 .1 .1 .1 .1 .0) (c .split-edge .kept .1 .1 .1 .1 .1 .1 .1 .1
-    .0) (c .split-edge .kept .1 .1 .1 .1 .1 .1 .1 .1 .1 .0) (c .split-edge .ensures .0) (c .split-edge .ensures .1)
+    (i .last .1 .1 .1 .1 .1 .1 .0) (i .last .1 .1 .1 .1 .1 .1 .1 .0) (i .last .1 .1 .1 .1 .1 .1 .1 .1 .0) (i .last .1 .1 .1 .1 .1 .1
+    .1 .1 .1 .0) (i .last .1 .1 .1 .1 .1 .0) (i .result)
+    (i .kept .1 .1 .1 .1 .1 .1 .0) (i .kept .1 .1 .1 .1 .1 .1 .1 .0) (i .kept .1 .1 .1 .1 .1 .1 .1 .1 .0) (i .kept .1 .1 .1 .1 .1 .1
+    .1 .1 .1 .0) (i .ensures .0) (i .ensures .1)
 
 turn2 : (c : tie.After-split-edge2)
-    → Turn (cellAt (c .before .before .before .before .before .before .before .before .before .before .before .before .before .before
-    .before .before .before .before .before .before .before .before .before .before .before .before .before .args .cells .now) (c .before
-    .before .before .before .before .before .before .before .before .before .before .before .before .before .before .before .before .before
-    .before .before .before .before .before .before .before .before .before .args .c)) (c .before .before .before .before .before .before
-    .before .before .before .before .before .before .before .before .before .before .before .before .before .before .before .pattern-of
-    .result) (c .before .before .before .before .before .before .before .before .before .before .before .before .before .before .before
-    .before .before .before .before .before .before .before .before .before .before .before .before .args .n)
-    (c .before .before .before .before .before .before .before .before .before .before .before .before .before .before .before .before
-    .before .before .before .before .before .before .before .before .before .before .before .args .xs .now) (c .before .before .before
-    .before .before .before .before .before .before .before .before .before .before .before .before .before .before .before .before .before
-    .before .before .before .before .before .before .before .args .ys .now) (c .before .before .before .before .before .before .before
-    .before .before .before .before .before .before .before .before .before .before .before .before .before .before .before .before .before
-    .before .before .before .args .heads .now) (c .before .before .before .before .before .before .before .before .before .before .before
-    .before .before .before .before .before .before .before .before .before .before .before .before .before .before .before .before .args
-    .links .now) (c .before .before .before .before .before .before .before .before .before .before .before .before .before .before .before
-    .before .before .before .before .before .before .before .before .before .before .before .before .args .m)
-    (c .split-edge2 .last .1 .1 .1 .1 .1 .1 .0) (c .split-edge2 .last .1 .1 .1 .1 .1 .1 .1 .0) (c .split-edge2 .last .1 .1 .1 .1 .1 .1 .1 .1
-    .0) (c .split-edge2 .last .1 .1 .1 .1 .1 .1 .1 .1 .1 .0) (c .split-edge2 .last .1 .1 .1 .1 .1 .0) (c .split-edge2 .result) 2
+    → Turn (cellAt (c .before .before .before .before .before .before .before .before .before .before .before .before .before
+    .before .before .before .before .before .before .before .before .before .before .before .before .before .before .args .cells
+    .now) (c .before .before .before .before .before .before .before .before .before .before .before .before .before .before .before
+    .before .before .before .before .before .before .before .before .before .before .before .before .args .c)) (c .before .before
+    .before .before .before .before .before .before .before .before .before .before .before .before .before .before .before .before
+    .before .before .before .pattern-of .result) (c .before .before .before .before .before .before .before .before .before .before
+    .before .before .before .before .before .before .before .before .before .before .before .before .before .before .before .before
+    .before .args .n)
+    (c .before .before .before .before .before .before .before .before .before .before .before .before .before .before .before
+    .before .before .before .before .before .before .before .before .before .before .before .before .args .xs .now) (c .before
+    .before .before .before .before .before .before .before .before .before .before .before .before .before .before .before .before
+    .before .before .before .before .before .before .before .before .before .before .args .ys .now) (c .before .before .before
+    .before .before .before .before .before .before .before .before .before .before .before .before .before .before .before .before
+    .before .before .before .before .before .before .before .before .args .heads .now) (c .before .before .before .before .before
+    .before .before .before .before .before .before .before .before .before .before .before .before .before .before .before .before
+    .before .before .before .before .before .before .args .links .now) (c .before .before .before .before .before .before .before
+    .before .before .before .before .before .before .before .before .before .before .before .before .before .before .before .before
+    .before .before .before .before .args .m)
+    (c .split-edge2 .last .1 .1 .1 .1 .1 .1 .0) (c .split-edge2 .last .1 .1 .1 .1 .1 .1 .1 .0) (c .split-edge2 .last .1 .1 .1 .1 .1
+    .1 .1 .1 .0) (c .split-edge2 .last .1 .1 .1 .1 .1 .1 .1 .1 .1 .0) (c .split-edge2 .last .1 .1 .1 .1 .1 .0) (c .split-edge2
+    .result) 2
 turn2 c =
-    let a = c .before .before .before .before .before .before .before .before .before .before .before .before .before .before .before
-    .before .before .before .before .before .before .before .before .before .before .before .before .args in
-    turn-more (cellAt (a .cells .now) (a .c)) (c .before .before .before .before .before .before .before .before .before .before .before
-    .before .before .before .before .before .before .before .before .before .before .pattern-of .result) (a .n) (a .xs .now) (a .ys .now) (a
-    .heads .now) (a .links .now) (a .m)
-    (c .before .before .before .before .before .before .before .before .before .before .before .before .before .before .split-edge .last .1
-    .1 .1 .1 .1 .1 .0) (c .before .before .before .before .before .before .before .before .before .before .before .before .before .before
-    .split-edge .last .1 .1 .1 .1 .1 .1 .1 .0) (c .before .before .before .before .before .before .before .before .before .before .before
-    .before .before .before .split-edge .last .1 .1 .1 .1 .1 .1 .1 .1 .0) (c .before .before .before .before .before .before .before .before
-    .before .before .before .before .before .before .split-edge .last .1 .1 .1 .1 .1 .1 .1 .1 .1 .0) (c .before .before .before .before
-    .before .before .before .before .before .before .before .before .before .before .split-edge .last .1 .1 .1 .1 .1 .0) (c .before .before
-    .before .before .before .before .before .before .before .before .before .before .before .before .split-edge .result) 1
-    (turn1 (c .before .before .before .before .before .before .before .before .before .before .before .before .before .before)) (omega
-    arith)
-    (c .split-edge2 .last .1 .1 .1 .1 .1 .1 .0) (c .split-edge2 .last .1 .1 .1 .1 .1 .1 .1 .0) (c .split-edge2 .last .1 .1 .1 .1 .1 .1 .1 .1
-    .0) (c .split-edge2 .last .1 .1 .1 .1 .1 .1 .1 .1 .1 .0) (c .split-edge2 .last .1 .1 .1 .1 .1 .0) (c .split-edge2 .result)
-    (c .split-edge2 .kept .1 .1 .1 .1 .1 .1 .0) (c .split-edge2 .kept .1 .1 .1 .1 .1 .1 .1 .0) (c .split-edge2 .kept .1 .1 .1 .1 .1 .1 .1 .1
-    .0) (c .split-edge2 .kept .1 .1 .1 .1 .1 .1 .1 .1 .1 .0) (c .split-edge2 .ensures .0) (c .split-edge2 .ensures .1)
+    let a = c .before .before .before .before .before .before .before .before .before .before .before .before .before .before
+    .before .before .before .before .before .before .before .before .before .before .before .before .before .args in
+    let j = c .before .before .before .before .before .before .before .before .before .before .before .before .before .before
+    .split-edge in
+    let i = c .split-edge2 in
+    turn-more (cellAt (a .cells .now) (a .c)) (c .before .before .before .before .before .before .before .before .before .before
+    .before .before .before .before .before .before .before .before .before .before .before .pattern-of .result) (a .n) (a .xs .now)
+    (a .ys .now) (a .heads .now) (a .links .now) (a .m)
+    (j .last .1 .1 .1 .1 .1 .1 .0) (j .last .1 .1 .1 .1 .1 .1 .1 .0) (j .last .1 .1 .1 .1 .1 .1 .1 .1 .0) (j .last .1 .1 .1 .1 .1 .1
+    .1 .1 .1 .0) (j .last .1 .1 .1 .1 .1 .0) (j .result) 1
+    (turn1 (c .before .before .before .before .before .before .before .before .before .before .before .before .before .before))
+    (omega arith)
+    (i .last .1 .1 .1 .1 .1 .1 .0) (i .last .1 .1 .1 .1 .1 .1 .1 .0) (i .last .1 .1 .1 .1 .1 .1 .1 .1 .0) (i .last .1 .1 .1 .1 .1 .1
+    .1 .1 .1 .0) (i .last .1 .1 .1 .1 .1 .0) (i .result)
+    (i .kept .1 .1 .1 .1 .1 .1 .0) (i .kept .1 .1 .1 .1 .1 .1 .1 .0) (i .kept .1 .1 .1 .1 .1 .1 .1 .1 .0) (i .kept .1 .1 .1 .1 .1 .1
+    .1 .1 .1 .0) (i .ensures .0) (i .ensures .1)
 
 turn3 : (c : tie.After-split-edge3)
-    → Turn (cellAt (c .before .before .before .before .before .before .before .before .before .before .before .before .before .before
-    .before .before .before .before .before .before .before .before .before .before .before .before .before .before .before .before .before
-    .before .before .before .before .before .before .before .before .before .before .args .cells .now) (c .before .before .before .before
-    .before .before .before .before .before .before .before .before .before .before .before .before .before .before .before .before .before
-    .before .before .before .before .before .before .before .before .before .before .before .before .before .before .before .before .before
-    .before .before .before .args .c)) (c .before .before .before .before .before .before .before .before .before .before .before .before
-    .before .before .before .before .before .before .before .before .before .before .before .before .before .before .before .before .before
-    .before .before .before .before .before .before .pattern-of .result) (c .before .before .before .before .before .before .before .before
-    .before .before .before .before .before .before .before .before .before .before .before .before .before .before .before .before .before
-    .before .before .before .before .before .before .before .before .before .before .before .before .before .before .before .before .args
-    .n)
-    (c .before .before .before .before .before .before .before .before .before .before .before .before .before .before .before .before
-    .before .before .before .before .before .before .before .before .before .before .before .before .before .before .before .before .before
-    .before .before .before .before .before .before .before .before .args .xs .now) (c .before .before .before .before .before .before
-    .before .before .before .before .before .before .before .before .before .before .before .before .before .before .before .before .before
-    .before .before .before .before .before .before .before .before .before .before .before .before .before .before .before .before .before
-    .before .args .ys .now) (c .before .before .before .before .before .before .before .before .before .before .before .before .before
-    .before .before .before .before .before .before .before .before .before .before .before .before .before .before .before .before .before
-    .before .before .before .before .before .before .before .before .before .before .before .args .heads .now) (c .before .before .before
-    .before .before .before .before .before .before .before .before .before .before .before .before .before .before .before .before .before
-    .before .before .before .before .before .before .before .before .before .before .before .before .before .before .before .before .before
-    .before .before .before .before .args .links .now) (c .before .before .before .before .before .before .before .before .before .before
-    .before .before .before .before .before .before .before .before .before .before .before .before .before .before .before .before .before
-    .before .before .before .before .before .before .before .before .before .before .before .before .before .before .args .m)
-    (c .split-edge3 .last .1 .1 .1 .1 .1 .1 .0) (c .split-edge3 .last .1 .1 .1 .1 .1 .1 .1 .0) (c .split-edge3 .last .1 .1 .1 .1 .1 .1 .1 .1
-    .0) (c .split-edge3 .last .1 .1 .1 .1 .1 .1 .1 .1 .1 .0) (c .split-edge3 .last .1 .1 .1 .1 .1 .0) (c .split-edge3 .result) 3
+    → Turn (cellAt (c .before .before .before .before .before .before .before .before .before .before .before .before .before
+    .before .before .before .before .before .before .before .before .before .before .before .before .before .before .before .before
+    .before .before .before .before .before .before .before .before .before .before .before .before .args .cells .now) (c .before
+    .before .before .before .before .before .before .before .before .before .before .before .before .before .before .before .before
+    .before .before .before .before .before .before .before .before .before .before .before .before .before .before .before .before
+    .before .before .before .before .before .before .before .before .args .c)) (c .before .before .before .before .before .before
+    .before .before .before .before .before .before .before .before .before .before .before .before .before .before .before .before
+    .before .before .before .before .before .before .before .before .before .before .before .before .before .pattern-of .result) (c
+    .before .before .before .before .before .before .before .before .before .before .before .before .before .before .before .before
+    .before .before .before .before .before .before .before .before .before .before .before .before .before .before .before .before
+    .before .before .before .before .before .before .before .before .before .args .n)
+    (c .before .before .before .before .before .before .before .before .before .before .before .before .before .before .before
+    .before .before .before .before .before .before .before .before .before .before .before .before .before .before .before .before
+    .before .before .before .before .before .before .before .before .before .before .args .xs .now) (c .before .before .before
+    .before .before .before .before .before .before .before .before .before .before .before .before .before .before .before .before
+    .before .before .before .before .before .before .before .before .before .before .before .before .before .before .before .before
+    .before .before .before .before .before .before .args .ys .now) (c .before .before .before .before .before .before .before
+    .before .before .before .before .before .before .before .before .before .before .before .before .before .before .before .before
+    .before .before .before .before .before .before .before .before .before .before .before .before .before .before .before .before
+    .before .before .args .heads .now) (c .before .before .before .before .before .before .before .before .before .before .before
+    .before .before .before .before .before .before .before .before .before .before .before .before .before .before .before .before
+    .before .before .before .before .before .before .before .before .before .before .before .before .before .before .args .links
+    .now) (c .before .before .before .before .before .before .before .before .before .before .before .before .before .before .before
+    .before .before .before .before .before .before .before .before .before .before .before .before .before .before .before .before
+    .before .before .before .before .before .before .before .before .before .before .args .m)
+    (c .split-edge3 .last .1 .1 .1 .1 .1 .1 .0) (c .split-edge3 .last .1 .1 .1 .1 .1 .1 .1 .0) (c .split-edge3 .last .1 .1 .1 .1 .1
+    .1 .1 .1 .0) (c .split-edge3 .last .1 .1 .1 .1 .1 .1 .1 .1 .1 .0) (c .split-edge3 .last .1 .1 .1 .1 .1 .0) (c .split-edge3
+    .result) 3
 turn3 c =
-    let a = c .before .before .before .before .before .before .before .before .before .before .before .before .before .before .before
-    .before .before .before .before .before .before .before .before .before .before .before .before .before .before .before .before .before
-    .before .before .before .before .before .before .before .before .before .args in
-    turn-more (cellAt (a .cells .now) (a .c)) (c .before .before .before .before .before .before .before .before .before .before .before
-    .before .before .before .before .before .before .before .before .before .before .before .before .before .before .before .before .before
-    .before .before .before .before .before .before .before .pattern-of .result) (a .n) (a .xs .now) (a .ys .now) (a .heads .now) (a .links
-    .now) (a .m)
-    (c .before .before .before .before .before .before .before .before .before .before .before .before .before .before .split-edge2 .last .1
-    .1 .1 .1 .1 .1 .0) (c .before .before .before .before .before .before .before .before .before .before .before .before .before .before
-    .split-edge2 .last .1 .1 .1 .1 .1 .1 .1 .0) (c .before .before .before .before .before .before .before .before .before .before .before
-    .before .before .before .split-edge2 .last .1 .1 .1 .1 .1 .1 .1 .1 .0) (c .before .before .before .before .before .before .before
-    .before .before .before .before .before .before .before .split-edge2 .last .1 .1 .1 .1 .1 .1 .1 .1 .1 .0) (c .before .before .before
-    .before .before .before .before .before .before .before .before .before .before .before .split-edge2 .last .1 .1 .1 .1 .1 .0) (c .before
-    .before .before .before .before .before .before .before .before .before .before .before .before .before .split-edge2 .result) 2
-    (turn2 (c .before .before .before .before .before .before .before .before .before .before .before .before .before .before)) (omega
-    arith)
-    (c .split-edge3 .last .1 .1 .1 .1 .1 .1 .0) (c .split-edge3 .last .1 .1 .1 .1 .1 .1 .1 .0) (c .split-edge3 .last .1 .1 .1 .1 .1 .1 .1 .1
-    .0) (c .split-edge3 .last .1 .1 .1 .1 .1 .1 .1 .1 .1 .0) (c .split-edge3 .last .1 .1 .1 .1 .1 .0) (c .split-edge3 .result)
-    (c .split-edge3 .kept .1 .1 .1 .1 .1 .1 .0) (c .split-edge3 .kept .1 .1 .1 .1 .1 .1 .1 .0) (c .split-edge3 .kept .1 .1 .1 .1 .1 .1 .1 .1
-    .0) (c .split-edge3 .kept .1 .1 .1 .1 .1 .1 .1 .1 .1 .0) (c .split-edge3 .ensures .0) (c .split-edge3 .ensures .1)
+    let a = c .before .before .before .before .before .before .before .before .before .before .before .before .before .before
+    .before .before .before .before .before .before .before .before .before .before .before .before .before .before .before .before
+    .before .before .before .before .before .before .before .before .before .before .before .args in
+    let j = c .before .before .before .before .before .before .before .before .before .before .before .before .before .before
+    .split-edge2 in
+    let i = c .split-edge3 in
+    turn-more (cellAt (a .cells .now) (a .c)) (c .before .before .before .before .before .before .before .before .before .before
+    .before .before .before .before .before .before .before .before .before .before .before .before .before .before .before .before
+    .before .before .before .before .before .before .before .before .before .pattern-of .result) (a .n) (a .xs .now) (a .ys .now) (a
+    .heads .now) (a .links .now) (a .m)
+    (j .last .1 .1 .1 .1 .1 .1 .0) (j .last .1 .1 .1 .1 .1 .1 .1 .0) (j .last .1 .1 .1 .1 .1 .1 .1 .1 .0) (j .last .1 .1 .1 .1 .1 .1
+    .1 .1 .1 .0) (j .last .1 .1 .1 .1 .1 .0) (j .result) 2
+    (turn2 (c .before .before .before .before .before .before .before .before .before .before .before .before .before .before))
+    (omega arith)
+    (i .last .1 .1 .1 .1 .1 .1 .0) (i .last .1 .1 .1 .1 .1 .1 .1 .0) (i .last .1 .1 .1 .1 .1 .1 .1 .1 .0) (i .last .1 .1 .1 .1 .1 .1
+    .1 .1 .1 .0) (i .last .1 .1 .1 .1 .1 .0) (i .result)
+    (i .kept .1 .1 .1 .1 .1 .1 .0) (i .kept .1 .1 .1 .1 .1 .1 .1 .0) (i .kept .1 .1 .1 .1 .1 .1 .1 .1 .0) (i .kept .1 .1 .1 .1 .1 .1
+    .1 .1 .1 .0) (i .ensures .0) (i .ensures .1)
 
 turn4 : (c : tie.After-split-edge4)
-    → Turn (cellAt (c .before .before .before .before .before .before .before .before .before .before .before .before .before .before
-    .before .before .before .before .before .before .before .before .before .before .before .before .before .before .before .before .before
-    .before .before .before .before .before .before .before .before .before .before .before .before .before .before .before .before .before
-    .before .before .before .before .before .before .before .args .cells .now) (c .before .before .before .before .before .before .before
-    .before .before .before .before .before .before .before .before .before .before .before .before .before .before .before .before .before
-    .before .before .before .before .before .before .before .before .before .before .before .before .before .before .before .before .before
-    .before .before .before .before .before .before .before .before .before .before .before .before .before .before .args .c)) (c .before
-    .before .before .before .before .before .before .before .before .before .before .before .before .before .before .before .before .before
-    .before .before .before .before .before .before .before .before .before .before .before .before .before .before .before .before .before
-    .before .before .before .before .before .before .before .before .before .before .before .before .before .before .pattern-of .result) (c
-    .before .before .before .before .before .before .before .before .before .before .before .before .before .before .before .before .before
-    .before .before .before .before .before .before .before .before .before .before .before .before .before .before .before .before .before
-    .before .before .before .before .before .before .before .before .before .before .before .before .before .before .before .before .before
-    .before .before .before .before .args .n)
-    (c .before .before .before .before .before .before .before .before .before .before .before .before .before .before .before .before
-    .before .before .before .before .before .before .before .before .before .before .before .before .before .before .before .before .before
-    .before .before .before .before .before .before .before .before .before .before .before .before .before .before .before .before .before
-    .before .before .before .before .before .args .xs .now) (c .before .before .before .before .before .before .before .before .before
-    .before .before .before .before .before .before .before .before .before .before .before .before .before .before .before .before .before
-    .before .before .before .before .before .before .before .before .before .before .before .before .before .before .before .before .before
-    .before .before .before .before .before .before .before .before .before .before .before .before .args .ys .now) (c .before .before
-    .before .before .before .before .before .before .before .before .before .before .before .before .before .before .before .before .before
-    .before .before .before .before .before .before .before .before .before .before .before .before .before .before .before .before .before
-    .before .before .before .before .before .before .before .before .before .before .before .before .before .before .before .before .before
-    .before .before .args .heads .now) (c .before .before .before .before .before .before .before .before .before .before .before .before
-    .before .before .before .before .before .before .before .before .before .before .before .before .before .before .before .before .before
-    .before .before .before .before .before .before .before .before .before .before .before .before .before .before .before .before .before
-    .before .before .before .before .before .before .before .before .before .args .links .now) (c .before .before .before .before .before
-    .before .before .before .before .before .before .before .before .before .before .before .before .before .before .before .before .before
-    .before .before .before .before .before .before .before .before .before .before .before .before .before .before .before .before .before
-    .before .before .before .before .before .before .before .before .before .before .before .before .before .before .before .before .args
-    .m)
-    (c .split-edge4 .last .1 .1 .1 .1 .1 .1 .0) (c .split-edge4 .last .1 .1 .1 .1 .1 .1 .1 .0) (c .split-edge4 .last .1 .1 .1 .1 .1 .1 .1 .1
-    .0) (c .split-edge4 .last .1 .1 .1 .1 .1 .1 .1 .1 .1 .0) (c .split-edge4 .last .1 .1 .1 .1 .1 .0) (c .split-edge4 .result) 4
+    → Turn (cellAt (c .before .before .before .before .before .before .before .before .before .before .before .before .before
+    .before .before .before .before .before .before .before .before .before .before .before .before .before .before .before .before
+    .before .before .before .before .before .before .before .before .before .before .before .before .before .before .before .before
+    .before .before .before .before .before .before .before .before .before .before .args .cells .now) (c .before .before .before
+    .before .before .before .before .before .before .before .before .before .before .before .before .before .before .before .before
+    .before .before .before .before .before .before .before .before .before .before .before .before .before .before .before .before
+    .before .before .before .before .before .before .before .before .before .before .before .before .before .before .before .before
+    .before .before .before .before .args .c)) (c .before .before .before .before .before .before .before .before .before .before
+    .before .before .before .before .before .before .before .before .before .before .before .before .before .before .before .before
+    .before .before .before .before .before .before .before .before .before .before .before .before .before .before .before .before
+    .before .before .before .before .before .before .before .pattern-of .result) (c .before .before .before .before .before .before
+    .before .before .before .before .before .before .before .before .before .before .before .before .before .before .before .before
+    .before .before .before .before .before .before .before .before .before .before .before .before .before .before .before .before
+    .before .before .before .before .before .before .before .before .before .before .before .before .before .before .before .before
+    .before .args .n)
+    (c .before .before .before .before .before .before .before .before .before .before .before .before .before .before .before
+    .before .before .before .before .before .before .before .before .before .before .before .before .before .before .before .before
+    .before .before .before .before .before .before .before .before .before .before .before .before .before .before .before .before
+    .before .before .before .before .before .before .before .before .args .xs .now) (c .before .before .before .before .before
+    .before .before .before .before .before .before .before .before .before .before .before .before .before .before .before .before
+    .before .before .before .before .before .before .before .before .before .before .before .before .before .before .before .before
+    .before .before .before .before .before .before .before .before .before .before .before .before .before .before .before .before
+    .before .before .args .ys .now) (c .before .before .before .before .before .before .before .before .before .before .before
+    .before .before .before .before .before .before .before .before .before .before .before .before .before .before .before .before
+    .before .before .before .before .before .before .before .before .before .before .before .before .before .before .before .before
+    .before .before .before .before .before .before .before .before .before .before .before .before .args .heads .now) (c .before
+    .before .before .before .before .before .before .before .before .before .before .before .before .before .before .before .before
+    .before .before .before .before .before .before .before .before .before .before .before .before .before .before .before .before
+    .before .before .before .before .before .before .before .before .before .before .before .before .before .before .before .before
+    .before .before .before .before .before .before .args .links .now) (c .before .before .before .before .before .before .before
+    .before .before .before .before .before .before .before .before .before .before .before .before .before .before .before .before
+    .before .before .before .before .before .before .before .before .before .before .before .before .before .before .before .before
+    .before .before .before .before .before .before .before .before .before .before .before .before .before .before .before .before
+    .args .m)
+    (c .split-edge4 .last .1 .1 .1 .1 .1 .1 .0) (c .split-edge4 .last .1 .1 .1 .1 .1 .1 .1 .0) (c .split-edge4 .last .1 .1 .1 .1 .1
+    .1 .1 .1 .0) (c .split-edge4 .last .1 .1 .1 .1 .1 .1 .1 .1 .1 .0) (c .split-edge4 .last .1 .1 .1 .1 .1 .0) (c .split-edge4
+    .result) 4
 turn4 c =
-    let a = c .before .before .before .before .before .before .before .before .before .before .before .before .before .before .before
-    .before .before .before .before .before .before .before .before .before .before .before .before .before .before .before .before .before
-    .before .before .before .before .before .before .before .before .before .before .before .before .before .before .before .before .before
-    .before .before .before .before .before .before .args in
-    turn-more (cellAt (a .cells .now) (a .c)) (c .before .before .before .before .before .before .before .before .before .before .before
-    .before .before .before .before .before .before .before .before .before .before .before .before .before .before .before .before .before
-    .before .before .before .before .before .before .before .before .before .before .before .before .before .before .before .before .before
-    .before .before .before .before .pattern-of .result) (a .n) (a .xs .now) (a .ys .now) (a .heads .now) (a .links .now) (a .m)
-    (c .before .before .before .before .before .before .before .before .before .before .before .before .before .before .split-edge3 .last .1
-    .1 .1 .1 .1 .1 .0) (c .before .before .before .before .before .before .before .before .before .before .before .before .before .before
-    .split-edge3 .last .1 .1 .1 .1 .1 .1 .1 .0) (c .before .before .before .before .before .before .before .before .before .before .before
-    .before .before .before .split-edge3 .last .1 .1 .1 .1 .1 .1 .1 .1 .0) (c .before .before .before .before .before .before .before
-    .before .before .before .before .before .before .before .split-edge3 .last .1 .1 .1 .1 .1 .1 .1 .1 .1 .0) (c .before .before .before
-    .before .before .before .before .before .before .before .before .before .before .before .split-edge3 .last .1 .1 .1 .1 .1 .0) (c .before
-    .before .before .before .before .before .before .before .before .before .before .before .before .before .split-edge3 .result) 3
-    (turn3 (c .before .before .before .before .before .before .before .before .before .before .before .before .before .before)) (omega
-    arith)
-    (c .split-edge4 .last .1 .1 .1 .1 .1 .1 .0) (c .split-edge4 .last .1 .1 .1 .1 .1 .1 .1 .0) (c .split-edge4 .last .1 .1 .1 .1 .1 .1 .1 .1
-    .0) (c .split-edge4 .last .1 .1 .1 .1 .1 .1 .1 .1 .1 .0) (c .split-edge4 .last .1 .1 .1 .1 .1 .0) (c .split-edge4 .result)
-    (c .split-edge4 .kept .1 .1 .1 .1 .1 .1 .0) (c .split-edge4 .kept .1 .1 .1 .1 .1 .1 .1 .0) (c .split-edge4 .kept .1 .1 .1 .1 .1 .1 .1 .1
-    .0) (c .split-edge4 .kept .1 .1 .1 .1 .1 .1 .1 .1 .1 .0) (c .split-edge4 .ensures .0) (c .split-edge4 .ensures .1)
+    let a = c .before .before .before .before .before .before .before .before .before .before .before .before .before .before
+    .before .before .before .before .before .before .before .before .before .before .before .before .before .before .before .before
+    .before .before .before .before .before .before .before .before .before .before .before .before .before .before .before .before
+    .before .before .before .before .before .before .before .before .before .args in
+    let j = c .before .before .before .before .before .before .before .before .before .before .before .before .before .before
+    .split-edge3 in
+    let i = c .split-edge4 in
+    turn-more (cellAt (a .cells .now) (a .c)) (c .before .before .before .before .before .before .before .before .before .before
+    .before .before .before .before .before .before .before .before .before .before .before .before .before .before .before .before
+    .before .before .before .before .before .before .before .before .before .before .before .before .before .before .before .before
+    .before .before .before .before .before .before .before .pattern-of .result) (a .n) (a .xs .now) (a .ys .now) (a .heads .now) (a
+    .links .now) (a .m)
+    (j .last .1 .1 .1 .1 .1 .1 .0) (j .last .1 .1 .1 .1 .1 .1 .1 .0) (j .last .1 .1 .1 .1 .1 .1 .1 .1 .0) (j .last .1 .1 .1 .1 .1 .1
+    .1 .1 .1 .0) (j .last .1 .1 .1 .1 .1 .0) (j .result) 3
+    (turn3 (c .before .before .before .before .before .before .before .before .before .before .before .before .before .before))
+    (omega arith)
+    (i .last .1 .1 .1 .1 .1 .1 .0) (i .last .1 .1 .1 .1 .1 .1 .1 .0) (i .last .1 .1 .1 .1 .1 .1 .1 .1 .0) (i .last .1 .1 .1 .1 .1 .1
+    .1 .1 .1 .0) (i .last .1 .1 .1 .1 .1 .0) (i .result)
+    (i .kept .1 .1 .1 .1 .1 .1 .0) (i .kept .1 .1 .1 .1 .1 .1 .1 .0) (i .kept .1 .1 .1 .1 .1 .1 .1 .1 .0) (i .kept .1 .1 .1 .1 .1 .1
+    .1 .1 .1 .0) (i .ensures .0) (i .ensures .1)
 
 turn5 : (c : tie.After-split-edge5)
-    → Turn (cellAt (c .before .before .before .before .before .before .before .before .before .before .before .before .before .before
-    .before .before .before .before .before .before .before .before .before .before .before .before .before .before .before .before .before
-    .before .before .before .before .before .before .before .before .before .before .before .before .before .before .before .before .before
-    .before .before .before .before .before .before .before .before .before .before .before .before .before .before .before .before .before
-    .before .before .before .before .args .cells .now) (c .before .before .before .before .before .before .before .before .before .before
-    .before .before .before .before .before .before .before .before .before .before .before .before .before .before .before .before .before
-    .before .before .before .before .before .before .before .before .before .before .before .before .before .before .before .before .before
-    .before .before .before .before .before .before .before .before .before .before .before .before .before .before .before .before .before
-    .before .before .before .before .before .before .before .before .args .c)) (c .before .before .before .before .before .before .before
-    .before .before .before .before .before .before .before .before .before .before .before .before .before .before .before .before .before
-    .before .before .before .before .before .before .before .before .before .before .before .before .before .before .before .before .before
-    .before .before .before .before .before .before .before .before .before .before .before .before .before .before .before .before .before
-    .before .before .before .before .before .pattern-of .result) (c .before .before .before .before .before .before .before .before .before
-    .before .before .before .before .before .before .before .before .before .before .before .before .before .before .before .before .before
-    .before .before .before .before .before .before .before .before .before .before .before .before .before .before .before .before .before
-    .before .before .before .before .before .before .before .before .before .before .before .before .before .before .before .before .before
+    → Turn (cellAt (c .before .before .before .before .before .before .before .before .before .before .before .before .before
+    .before .before .before .before .before .before .before .before .before .before .before .before .before .before .before .before
+    .before .before .before .before .before .before .before .before .before .before .before .before .before .before .before .before
+    .before .before .before .before .before .before .before .before .before .before .before .before .before .before .before .before
+    .before .before .before .before .before .before .before .before .args .cells .now) (c .before .before .before .before .before
+    .before .before .before .before .before .before .before .before .before .before .before .before .before .before .before .before
+    .before .before .before .before .before .before .before .before .before .before .before .before .before .before .before .before
+    .before .before .before .before .before .before .before .before .before .before .before .before .before .before .before .before
+    .before .before .before .before .before .before .before .before .before .before .before .before .before .before .before .before
+    .args .c)) (c .before .before .before .before .before .before .before .before .before .before .before .before .before .before
+    .before .before .before .before .before .before .before .before .before .before .before .before .before .before .before .before
+    .before .before .before .before .before .before .before .before .before .before .before .before .before .before .before .before
+    .before .before .before .before .before .before .before .before .before .before .before .before .before .before .before .before
+    .before .pattern-of .result) (c .before .before .before .before .before .before .before .before .before .before .before .before
+    .before .before .before .before .before .before .before .before .before .before .before .before .before .before .before .before
+    .before .before .before .before .before .before .before .before .before .before .before .before .before .before .before .before
+    .before .before .before .before .before .before .before .before .before .before .before .before .before .before .before .before
     .before .before .before .before .before .before .before .before .before .args .n)
-    (c .before .before .before .before .before .before .before .before .before .before .before .before .before .before .before .before
-    .before .before .before .before .before .before .before .before .before .before .before .before .before .before .before .before .before
-    .before .before .before .before .before .before .before .before .before .before .before .before .before .before .before .before .before
-    .before .before .before .before .before .before .before .before .before .before .before .before .before .before .before .before .before
-    .before .before .args .xs .now) (c .before .before .before .before .before .before .before .before .before .before .before .before
-    .before .before .before .before .before .before .before .before .before .before .before .before .before .before .before .before .before
-    .before .before .before .before .before .before .before .before .before .before .before .before .before .before .before .before .before
-    .before .before .before .before .before .before .before .before .before .before .before .before .before .before .before .before .before
-    .before .before .before .before .before .before .args .ys .now) (c .before .before .before .before .before .before .before .before
-    .before .before .before .before .before .before .before .before .before .before .before .before .before .before .before .before .before
-    .before .before .before .before .before .before .before .before .before .before .before .before .before .before .before .before .before
-    .before .before .before .before .before .before .before .before .before .before .before .before .before .before .before .before .before
-    .before .before .before .before .before .before .before .before .before .before .args .heads .now) (c .before .before .before .before
-    .before .before .before .before .before .before .before .before .before .before .before .before .before .before .before .before .before
-    .before .before .before .before .before .before .before .before .before .before .before .before .before .before .before .before .before
-    .before .before .before .before .before .before .before .before .before .before .before .before .before .before .before .before .before
-    .before .before .before .before .before .before .before .before .before .before .before .before .before .before .args .links .now) (c
-    .before .before .before .before .before .before .before .before .before .before .before .before .before .before .before .before .before
-    .before .before .before .before .before .before .before .before .before .before .before .before .before .before .before .before .before
-    .before .before .before .before .before .before .before .before .before .before .before .before .before .before .before .before .before
-    .before .before .before .before .before .before .before .before .before .before .before .before .before .before .before .before .before
-    .before .args .m)
-    (c .split-edge5 .last .1 .1 .1 .1 .1 .1 .0) (c .split-edge5 .last .1 .1 .1 .1 .1 .1 .1 .0) (c .split-edge5 .last .1 .1 .1 .1 .1 .1 .1 .1
-    .0) (c .split-edge5 .last .1 .1 .1 .1 .1 .1 .1 .1 .1 .0) (c .split-edge5 .last .1 .1 .1 .1 .1 .0) (c .split-edge5 .result) 5
+    (c .before .before .before .before .before .before .before .before .before .before .before .before .before .before .before
+    .before .before .before .before .before .before .before .before .before .before .before .before .before .before .before .before
+    .before .before .before .before .before .before .before .before .before .before .before .before .before .before .before .before
+    .before .before .before .before .before .before .before .before .before .before .before .before .before .before .before .before
+    .before .before .before .before .before .before .args .xs .now) (c .before .before .before .before .before .before .before
+    .before .before .before .before .before .before .before .before .before .before .before .before .before .before .before .before
+    .before .before .before .before .before .before .before .before .before .before .before .before .before .before .before .before
+    .before .before .before .before .before .before .before .before .before .before .before .before .before .before .before .before
+    .before .before .before .before .before .before .before .before .before .before .before .before .before .before .args .ys .now)
+    (c .before .before .before .before .before .before .before .before .before .before .before .before .before .before .before
+    .before .before .before .before .before .before .before .before .before .before .before .before .before .before .before .before
+    .before .before .before .before .before .before .before .before .before .before .before .before .before .before .before .before
+    .before .before .before .before .before .before .before .before .before .before .before .before .before .before .before .before
+    .before .before .before .before .before .before .args .heads .now) (c .before .before .before .before .before .before .before
+    .before .before .before .before .before .before .before .before .before .before .before .before .before .before .before .before
+    .before .before .before .before .before .before .before .before .before .before .before .before .before .before .before .before
+    .before .before .before .before .before .before .before .before .before .before .before .before .before .before .before .before
+    .before .before .before .before .before .before .before .before .before .before .before .before .before .before .args .links
+    .now) (c .before .before .before .before .before .before .before .before .before .before .before .before .before .before .before
+    .before .before .before .before .before .before .before .before .before .before .before .before .before .before .before .before
+    .before .before .before .before .before .before .before .before .before .before .before .before .before .before .before .before
+    .before .before .before .before .before .before .before .before .before .before .before .before .before .before .before .before
+    .before .before .before .before .before .before .args .m)
+    (c .split-edge5 .last .1 .1 .1 .1 .1 .1 .0) (c .split-edge5 .last .1 .1 .1 .1 .1 .1 .1 .0) (c .split-edge5 .last .1 .1 .1 .1 .1
+    .1 .1 .1 .0) (c .split-edge5 .last .1 .1 .1 .1 .1 .1 .1 .1 .1 .0) (c .split-edge5 .last .1 .1 .1 .1 .1 .0) (c .split-edge5
+    .result) 5
 turn5 c =
-    let a = c .before .before .before .before .before .before .before .before .before .before .before .before .before .before .before
-    .before .before .before .before .before .before .before .before .before .before .before .before .before .before .before .before .before
-    .before .before .before .before .before .before .before .before .before .before .before .before .before .before .before .before .before
-    .before .before .before .before .before .before .before .before .before .before .before .before .before .before .before .before .before
-    .before .before .before .args in
-    turn-more (cellAt (a .cells .now) (a .c)) (c .before .before .before .before .before .before .before .before .before .before .before
-    .before .before .before .before .before .before .before .before .before .before .before .before .before .before .before .before .before
-    .before .before .before .before .before .before .before .before .before .before .before .before .before .before .before .before .before
-    .before .before .before .before .before .before .before .before .before .before .before .before .before .before .before .before .before
-    .before .pattern-of .result) (a .n) (a .xs .now) (a .ys .now) (a .heads .now) (a .links .now) (a .m)
-    (c .before .before .before .before .before .before .before .before .before .before .before .before .before .before .split-edge4 .last .1
-    .1 .1 .1 .1 .1 .0) (c .before .before .before .before .before .before .before .before .before .before .before .before .before .before
-    .split-edge4 .last .1 .1 .1 .1 .1 .1 .1 .0) (c .before .before .before .before .before .before .before .before .before .before .before
-    .before .before .before .split-edge4 .last .1 .1 .1 .1 .1 .1 .1 .1 .0) (c .before .before .before .before .before .before .before
-    .before .before .before .before .before .before .before .split-edge4 .last .1 .1 .1 .1 .1 .1 .1 .1 .1 .0) (c .before .before .before
-    .before .before .before .before .before .before .before .before .before .before .before .split-edge4 .last .1 .1 .1 .1 .1 .0) (c .before
-    .before .before .before .before .before .before .before .before .before .before .before .before .before .split-edge4 .result) 4
-    (turn4 (c .before .before .before .before .before .before .before .before .before .before .before .before .before .before)) (omega
-    arith)
-    (c .split-edge5 .last .1 .1 .1 .1 .1 .1 .0) (c .split-edge5 .last .1 .1 .1 .1 .1 .1 .1 .0) (c .split-edge5 .last .1 .1 .1 .1 .1 .1 .1 .1
-    .0) (c .split-edge5 .last .1 .1 .1 .1 .1 .1 .1 .1 .1 .0) (c .split-edge5 .last .1 .1 .1 .1 .1 .0) (c .split-edge5 .result)
-    (c .split-edge5 .kept .1 .1 .1 .1 .1 .1 .0) (c .split-edge5 .kept .1 .1 .1 .1 .1 .1 .1 .0) (c .split-edge5 .kept .1 .1 .1 .1 .1 .1 .1 .1
-    .0) (c .split-edge5 .kept .1 .1 .1 .1 .1 .1 .1 .1 .1 .0) (c .split-edge5 .ensures .0) (c .split-edge5 .ensures .1)
+    let a = c .before .before .before .before .before .before .before .before .before .before .before .before .before .before
+    .before .before .before .before .before .before .before .before .before .before .before .before .before .before .before .before
+    .before .before .before .before .before .before .before .before .before .before .before .before .before .before .before .before
+    .before .before .before .before .before .before .before .before .before .before .before .before .before .before .before .before
+    .before .before .before .before .before .before .before .args in
+    let j = c .before .before .before .before .before .before .before .before .before .before .before .before .before .before
+    .split-edge4 in
+    let i = c .split-edge5 in
+    turn-more (cellAt (a .cells .now) (a .c)) (c .before .before .before .before .before .before .before .before .before .before
+    .before .before .before .before .before .before .before .before .before .before .before .before .before .before .before .before
+    .before .before .before .before .before .before .before .before .before .before .before .before .before .before .before .before
+    .before .before .before .before .before .before .before .before .before .before .before .before .before .before .before .before
+    .before .before .before .before .before .pattern-of .result) (a .n) (a .xs .now) (a .ys .now) (a .heads .now) (a .links .now) (a
+    .m)
+    (j .last .1 .1 .1 .1 .1 .1 .0) (j .last .1 .1 .1 .1 .1 .1 .1 .0) (j .last .1 .1 .1 .1 .1 .1 .1 .1 .0) (j .last .1 .1 .1 .1 .1 .1
+    .1 .1 .1 .0) (j .last .1 .1 .1 .1 .1 .0) (j .result) 4
+    (turn4 (c .before .before .before .before .before .before .before .before .before .before .before .before .before .before))
+    (omega arith)
+    (i .last .1 .1 .1 .1 .1 .1 .0) (i .last .1 .1 .1 .1 .1 .1 .1 .0) (i .last .1 .1 .1 .1 .1 .1 .1 .1 .0) (i .last .1 .1 .1 .1 .1 .1
+    .1 .1 .1 .0) (i .last .1 .1 .1 .1 .1 .0) (i .result)
+    (i .kept .1 .1 .1 .1 .1 .1 .0) (i .kept .1 .1 .1 .1 .1 .1 .1 .0) (i .kept .1 .1 .1 .1 .1 .1 .1 .1 .0) (i .kept .1 .1 .1 .1 .1 .1
+    .1 .1 .1 .0) (i .ensures .0) (i .ensures .1)
 
 turn6 : (c : tie.After-split-edge6)
-    → Turn (cellAt (c .before .before .before .before .before .before .before .before .before .before .before .before .before .before
-    .before .before .before .before .before .before .before .before .before .before .before .before .before .before .before .before .before
-    .before .before .before .before .before .before .before .before .before .before .before .before .before .before .before .before .before
-    .before .before .before .before .before .before .before .before .before .before .before .before .before .before .before .before .before
-    .before .before .before .before .before .before .before .before .before .before .before .before .before .before .before .before .before
-    .before .args .cells .now) (c .before .before .before .before .before .before .before .before .before .before .before .before .before
-    .before .before .before .before .before .before .before .before .before .before .before .before .before .before .before .before .before
-    .before .before .before .before .before .before .before .before .before .before .before .before .before .before .before .before .before
-    .before .before .before .before .before .before .before .before .before .before .before .before .before .before .before .before .before
-    .before .before .before .before .before .before .before .before .before .before .before .before .before .before .before .before .before
-    .before .before .args .c)) (c .before .before .before .before .before .before .before .before .before .before .before .before .before
-    .before .before .before .before .before .before .before .before .before .before .before .before .before .before .before .before .before
-    .before .before .before .before .before .before .before .before .before .before .before .before .before .before .before .before .before
-    .before .before .before .before .before .before .before .before .before .before .before .before .before .before .before .before .before
-    .before .before .before .before .before .before .before .before .before .before .before .before .before .pattern-of .result) (c .before
-    .before .before .before .before .before .before .before .before .before .before .before .before .before .before .before .before .before
-    .before .before .before .before .before .before .before .before .before .before .before .before .before .before .before .before .before
-    .before .before .before .before .before .before .before .before .before .before .before .before .before .before .before .before .before
-    .before .before .before .before .before .before .before .before .before .before .before .before .before .before .before .before .before
-    .before .before .before .before .before .before .before .before .before .before .before .before .before .before .args .n)
-    (c .before .before .before .before .before .before .before .before .before .before .before .before .before .before .before .before
-    .before .before .before .before .before .before .before .before .before .before .before .before .before .before .before .before .before
-    .before .before .before .before .before .before .before .before .before .before .before .before .before .before .before .before .before
-    .before .before .before .before .before .before .before .before .before .before .before .before .before .before .before .before .before
-    .before .before .before .before .before .before .before .before .before .before .before .before .before .before .before .before .args
-    .xs .now) (c .before .before .before .before .before .before .before .before .before .before .before .before .before .before .before
-    .before .before .before .before .before .before .before .before .before .before .before .before .before .before .before .before .before
-    .before .before .before .before .before .before .before .before .before .before .before .before .before .before .before .before .before
-    .before .before .before .before .before .before .before .before .before .before .before .before .before .before .before .before .before
-    .before .before .before .before .before .before .before .before .before .before .before .before .before .before .before .before .before
-    .args .ys .now) (c .before .before .before .before .before .before .before .before .before .before .before .before .before .before
-    .before .before .before .before .before .before .before .before .before .before .before .before .before .before .before .before .before
-    .before .before .before .before .before .before .before .before .before .before .before .before .before .before .before .before .before
-    .before .before .before .before .before .before .before .before .before .before .before .before .before .before .before .before .before
-    .before .before .before .before .before .before .before .before .before .before .before .before .before .before .before .before .before
-    .before .args .heads .now) (c .before .before .before .before .before .before .before .before .before .before .before .before .before
-    .before .before .before .before .before .before .before .before .before .before .before .before .before .before .before .before .before
-    .before .before .before .before .before .before .before .before .before .before .before .before .before .before .before .before .before
-    .before .before .before .before .before .before .before .before .before .before .before .before .before .before .before .before .before
-    .before .before .before .before .before .before .before .before .before .before .before .before .before .before .before .before .before
-    .before .before .args .links .now) (c .before .before .before .before .before .before .before .before .before .before .before .before
-    .before .before .before .before .before .before .before .before .before .before .before .before .before .before .before .before .before
-    .before .before .before .before .before .before .before .before .before .before .before .before .before .before .before .before .before
-    .before .before .before .before .before .before .before .before .before .before .before .before .before .before .before .before .before
-    .before .before .before .before .before .before .before .before .before .before .before .before .before .before .before .before .before
-    .before .before .before .args .m)
-    (c .split-edge6 .last .1 .1 .1 .1 .1 .1 .0) (c .split-edge6 .last .1 .1 .1 .1 .1 .1 .1 .0) (c .split-edge6 .last .1 .1 .1 .1 .1 .1 .1 .1
-    .0) (c .split-edge6 .last .1 .1 .1 .1 .1 .1 .1 .1 .1 .0) (c .split-edge6 .last .1 .1 .1 .1 .1 .0) (c .split-edge6 .result) 6
+    → Turn (cellAt (c .before .before .before .before .before .before .before .before .before .before .before .before .before
+    .before .before .before .before .before .before .before .before .before .before .before .before .before .before .before .before
+    .before .before .before .before .before .before .before .before .before .before .before .before .before .before .before .before
+    .before .before .before .before .before .before .before .before .before .before .before .before .before .before .before .before
+    .before .before .before .before .before .before .before .before .before .before .before .before .before .before .before .before
+    .before .before .before .before .before .before .args .cells .now) (c .before .before .before .before .before .before .before
+    .before .before .before .before .before .before .before .before .before .before .before .before .before .before .before .before
+    .before .before .before .before .before .before .before .before .before .before .before .before .before .before .before .before
+    .before .before .before .before .before .before .before .before .before .before .before .before .before .before .before .before
+    .before .before .before .before .before .before .before .before .before .before .before .before .before .before .before .before
+    .before .before .before .before .before .before .before .before .before .before .before .before .args .c)) (c .before .before
+    .before .before .before .before .before .before .before .before .before .before .before .before .before .before .before .before
+    .before .before .before .before .before .before .before .before .before .before .before .before .before .before .before .before
+    .before .before .before .before .before .before .before .before .before .before .before .before .before .before .before .before
+    .before .before .before .before .before .before .before .before .before .before .before .before .before .before .before .before
+    .before .before .before .before .before .before .before .before .before .before .before .pattern-of .result) (c .before .before
+    .before .before .before .before .before .before .before .before .before .before .before .before .before .before .before .before
+    .before .before .before .before .before .before .before .before .before .before .before .before .before .before .before .before
+    .before .before .before .before .before .before .before .before .before .before .before .before .before .before .before .before
+    .before .before .before .before .before .before .before .before .before .before .before .before .before .before .before .before
+    .before .before .before .before .before .before .before .before .before .before .before .before .before .before .before .before
+    .before .args .n)
+    (c .before .before .before .before .before .before .before .before .before .before .before .before .before .before .before
+    .before .before .before .before .before .before .before .before .before .before .before .before .before .before .before .before
+    .before .before .before .before .before .before .before .before .before .before .before .before .before .before .before .before
+    .before .before .before .before .before .before .before .before .before .before .before .before .before .before .before .before
+    .before .before .before .before .before .before .before .before .before .before .before .before .before .before .before .before
+    .before .before .before .before .args .xs .now) (c .before .before .before .before .before .before .before .before .before
+    .before .before .before .before .before .before .before .before .before .before .before .before .before .before .before .before
+    .before .before .before .before .before .before .before .before .before .before .before .before .before .before .before .before
+    .before .before .before .before .before .before .before .before .before .before .before .before .before .before .before .before
+    .before .before .before .before .before .before .before .before .before .before .before .before .before .before .before .before
+    .before .before .before .before .before .before .before .before .before .before .args .ys .now) (c .before .before .before
+    .before .before .before .before .before .before .before .before .before .before .before .before .before .before .before .before
+    .before .before .before .before .before .before .before .before .before .before .before .before .before .before .before .before
+    .before .before .before .before .before .before .before .before .before .before .before .before .before .before .before .before
+    .before .before .before .before .before .before .before .before .before .before .before .before .before .before .before .before
+    .before .before .before .before .before .before .before .before .before .before .before .before .before .before .before .before
+    .args .heads .now) (c .before .before .before .before .before .before .before .before .before .before .before .before .before
+    .before .before .before .before .before .before .before .before .before .before .before .before .before .before .before .before
+    .before .before .before .before .before .before .before .before .before .before .before .before .before .before .before .before
+    .before .before .before .before .before .before .before .before .before .before .before .before .before .before .before .before
+    .before .before .before .before .before .before .before .before .before .before .before .before .before .before .before .before
+    .before .before .before .before .before .before .args .links .now) (c .before .before .before .before .before .before .before
+    .before .before .before .before .before .before .before .before .before .before .before .before .before .before .before .before
+    .before .before .before .before .before .before .before .before .before .before .before .before .before .before .before .before
+    .before .before .before .before .before .before .before .before .before .before .before .before .before .before .before .before
+    .before .before .before .before .before .before .before .before .before .before .before .before .before .before .before .before
+    .before .before .before .before .before .before .before .before .before .before .before .before .args .m)
+    (c .split-edge6 .last .1 .1 .1 .1 .1 .1 .0) (c .split-edge6 .last .1 .1 .1 .1 .1 .1 .1 .0) (c .split-edge6 .last .1 .1 .1 .1 .1
+    .1 .1 .1 .0) (c .split-edge6 .last .1 .1 .1 .1 .1 .1 .1 .1 .1 .0) (c .split-edge6 .last .1 .1 .1 .1 .1 .0) (c .split-edge6
+    .result) 6
 turn6 c =
-    let a = c .before .before .before .before .before .before .before .before .before .before .before .before .before .before .before
-    .before .before .before .before .before .before .before .before .before .before .before .before .before .before .before .before .before
-    .before .before .before .before .before .before .before .before .before .before .before .before .before .before .before .before .before
-    .before .before .before .before .before .before .before .before .before .before .before .before .before .before .before .before .before
-    .before .before .before .before .before .before .before .before .before .before .before .before .before .before .before .before .before
-    .args in
-    turn-more (cellAt (a .cells .now) (a .c)) (c .before .before .before .before .before .before .before .before .before .before .before
-    .before .before .before .before .before .before .before .before .before .before .before .before .before .before .before .before .before
-    .before .before .before .before .before .before .before .before .before .before .before .before .before .before .before .before .before
-    .before .before .before .before .before .before .before .before .before .before .before .before .before .before .before .before .before
-    .before .before .before .before .before .before .before .before .before .before .before .before .before .before .before .pattern-of
-    .result) (a .n) (a .xs .now) (a .ys .now) (a .heads .now) (a .links .now) (a .m)
-    (c .before .before .before .before .before .before .before .before .before .before .before .before .before .before .split-edge5 .last .1
-    .1 .1 .1 .1 .1 .0) (c .before .before .before .before .before .before .before .before .before .before .before .before .before .before
-    .split-edge5 .last .1 .1 .1 .1 .1 .1 .1 .0) (c .before .before .before .before .before .before .before .before .before .before .before
-    .before .before .before .split-edge5 .last .1 .1 .1 .1 .1 .1 .1 .1 .0) (c .before .before .before .before .before .before .before
-    .before .before .before .before .before .before .before .split-edge5 .last .1 .1 .1 .1 .1 .1 .1 .1 .1 .0) (c .before .before .before
-    .before .before .before .before .before .before .before .before .before .before .before .split-edge5 .last .1 .1 .1 .1 .1 .0) (c .before
-    .before .before .before .before .before .before .before .before .before .before .before .before .before .split-edge5 .result) 5
-    (turn5 (c .before .before .before .before .before .before .before .before .before .before .before .before .before .before)) (omega
-    arith)
-    (c .split-edge6 .last .1 .1 .1 .1 .1 .1 .0) (c .split-edge6 .last .1 .1 .1 .1 .1 .1 .1 .0) (c .split-edge6 .last .1 .1 .1 .1 .1 .1 .1 .1
-    .0) (c .split-edge6 .last .1 .1 .1 .1 .1 .1 .1 .1 .1 .0) (c .split-edge6 .last .1 .1 .1 .1 .1 .0) (c .split-edge6 .result)
-    (c .split-edge6 .kept .1 .1 .1 .1 .1 .1 .0) (c .split-edge6 .kept .1 .1 .1 .1 .1 .1 .1 .0) (c .split-edge6 .kept .1 .1 .1 .1 .1 .1 .1 .1
-    .0) (c .split-edge6 .kept .1 .1 .1 .1 .1 .1 .1 .1 .1 .0) (c .split-edge6 .ensures .0) (c .split-edge6 .ensures .1)
+    let a = c .before .before .before .before .before .before .before .before .before .before .before .before .before .before
+    .before .before .before .before .before .before .before .before .before .before .before .before .before .before .before .before
+    .before .before .before .before .before .before .before .before .before .before .before .before .before .before .before .before
+    .before .before .before .before .before .before .before .before .before .before .before .before .before .before .before .before
+    .before .before .before .before .before .before .before .before .before .before .before .before .before .before .before .before
+    .before .before .before .before .before .args in
+    let j = c .before .before .before .before .before .before .before .before .before .before .before .before .before .before
+    .split-edge5 in
+    let i = c .split-edge6 in
+    turn-more (cellAt (a .cells .now) (a .c)) (c .before .before .before .before .before .before .before .before .before .before
+    .before .before .before .before .before .before .before .before .before .before .before .before .before .before .before .before
+    .before .before .before .before .before .before .before .before .before .before .before .before .before .before .before .before
+    .before .before .before .before .before .before .before .before .before .before .before .before .before .before .before .before
+    .before .before .before .before .before .before .before .before .before .before .before .before .before .before .before .before
+    .before .before .before .pattern-of .result) (a .n) (a .xs .now) (a .ys .now) (a .heads .now) (a .links .now) (a .m)
+    (j .last .1 .1 .1 .1 .1 .1 .0) (j .last .1 .1 .1 .1 .1 .1 .1 .0) (j .last .1 .1 .1 .1 .1 .1 .1 .1 .0) (j .last .1 .1 .1 .1 .1 .1
+    .1 .1 .1 .0) (j .last .1 .1 .1 .1 .1 .0) (j .result) 5
+    (turn5 (c .before .before .before .before .before .before .before .before .before .before .before .before .before .before))
+    (omega arith)
+    (i .last .1 .1 .1 .1 .1 .1 .0) (i .last .1 .1 .1 .1 .1 .1 .1 .0) (i .last .1 .1 .1 .1 .1 .1 .1 .1 .0) (i .last .1 .1 .1 .1 .1 .1
+    .1 .1 .1 .0) (i .last .1 .1 .1 .1 .1 .0) (i .result)
+    (i .kept .1 .1 .1 .1 .1 .1 .0) (i .kept .1 .1 .1 .1 .1 .1 .1 .0) (i .kept .1 .1 .1 .1 .1 .1 .1 .1 .0) (i .kept .1 .1 .1 .1 .1 .1
+    .1 .1 .1 .0) (i .ensures .0) (i .ensures .1)
 
 pattern-of-requires : tie.Need-pattern-of-requires
 pattern-of-requires c κs = search needs
@@ -359,220 +369,182 @@ split-edge-requires c κs =
       (
         r .inside,
         omega arith,
-        turn-small t (q .result) (a .n) (a .xs .now) (a .ys .now) (a .heads .now) (a .links .now) (a .m) (a .xs .now) (a .ys .now) (a .heads
-        .now) (a .links .now) (c .before .before .before .before .before .corners-of .result) (a .m) 0 l (omega arith) fits,
+        turn-small t (q .result) (a .n) (a .xs .now) (a .ys .now) (a .heads .now) (a .links .now) (a .m) (a .xs .now) (a .ys .now)
+            (a .heads .now) (a .links .now) (c .before .before .before .before .before .corners-of .result) (a .m) 0 l (omega arith)
+            fits,
       ),
       (
         l .grown .edges,
-        turn-room t (q .result) (a .n) (a .xs .now) (a .ys .now) (a .heads .now) (a .links .now) (a .m) (a .xs .now) (a .ys .now) (a .heads
-        .now) (a .links .now) (c .before .before .before .before .before .corners-of .result) (a .m) 0 l (omega arith) room,
+        turn-room t (q .result) (a .n) (a .xs .now) (a .ys .now) (a .heads .now) (a .links .now) (a .m) (a .xs .now) (a .ys .now) (a
+            .heads .now) (a .links .now) (c .before .before .before .before .before .corners-of .result) (a .m) 0 l (omega arith) room,
       ),
     )
 
 split-edge-requires-2 : tie.Need-split-edge-requires-2
 split-edge-requires-2 c κs =
-    let s = c .before .before .before .before .before .before .before .before .before .before .before .before .before .before .before
-    .before .before .before .before .before .before .before .before .before .before .before in
+    let s = c .before .before .before .before .before .before .before .before .before .before .before .before .before .before
+    .before .before .before .before .before .before .before .before .before .before .before .before in
     let a = s .args in
     let t = (cellAt (a .cells .now) (a .c)) in
-    let q = c .before .before .before .before .before .before .before .before .before .before .before .before .before .before .before
-    .before .before .before .before .before .pattern-of in
+    let q = c .before .before .before .before .before .before .before .before .before .before .before .before .before .before
+    .before .before .before .before .before .before .pattern-of in
     let r = s .pre in
     let l = turn1 (c .before .before .before .before .before .before .before .before .before .before .before .before .before) in
+    let j = c .before .before .before .before .before .before .before .before .before .before .before .before .before .split-edge in
     let v : splitsTo (q .result) t 6 ≡ splitEdges 0 t (a .status) = rw (q .ensures) (splits-all (a .status) t) in
     let room : Space (a .xs .now) (a .ys .now) (a .links .now) (a .m) (length (splitsTo (q .result) t 6)) = rw v (r .space) in
     let fits : a .n + a .m + length (splitsTo (q .result) t 6) < 65536 = rw v (r .small) in (
       (
         r .inside,
         omega arith,
-        turn-small t (q .result) (a .n) (a .xs .now) (a .ys .now) (a .heads .now) (a .links .now) (a .m) (c .before .before .before .before
-        .before .before .before .before .before .before .before .before .before .split-edge .last .1 .1 .1 .1 .1 .1 .0) (c .before .before
-        .before .before .before .before .before .before .before .before .before .before .before .split-edge .last .1 .1 .1 .1 .1 .1 .1 .0)
-        (c .before .before .before .before .before .before .before .before .before .before .before .before .before .split-edge .last .1 .1
-        .1 .1 .1 .1 .1 .1 .0) (c .before .before .before .before .before .before .before .before .before .before .before .before .before
-        .split-edge .last .1 .1 .1 .1 .1 .1 .1 .1 .1 .0) (c .before .before .before .before .before .before .before .before .before .before
-        .before .before .before .split-edge .last .1 .1 .1 .1 .1 .0) (c .before .before .before .before .before .before .before .before
-        .before .before .before .before .before .split-edge .result) 1 l (omega arith) fits,
+        turn-small t (q .result) (a .n) (a .xs .now) (a .ys .now) (a .heads .now) (a .links .now) (a .m) (j .last .1 .1 .1 .1 .1 .1
+            .0) (j .last .1 .1 .1 .1 .1 .1 .1 .0) (j .last .1 .1 .1 .1 .1 .1 .1 .1 .0) (j .last .1 .1 .1 .1 .1 .1 .1 .1 .1 .0) (j .last
+            .1 .1 .1 .1 .1 .0) (j .result) 1 l (omega arith) fits,
       ),
       (
         l .grown .edges,
-        turn-room t (q .result) (a .n) (a .xs .now) (a .ys .now) (a .heads .now) (a .links .now) (a .m) (c .before .before .before .before
-        .before .before .before .before .before .before .before .before .before .split-edge .last .1 .1 .1 .1 .1 .1 .0) (c .before .before
-        .before .before .before .before .before .before .before .before .before .before .before .split-edge .last .1 .1 .1 .1 .1 .1 .1 .0)
-        (c .before .before .before .before .before .before .before .before .before .before .before .before .before .split-edge .last .1 .1
-        .1 .1 .1 .1 .1 .1 .0) (c .before .before .before .before .before .before .before .before .before .before .before .before .before
-        .split-edge .last .1 .1 .1 .1 .1 .1 .1 .1 .1 .0) (c .before .before .before .before .before .before .before .before .before .before
-        .before .before .before .split-edge .last .1 .1 .1 .1 .1 .0) (c .before .before .before .before .before .before .before .before
-        .before .before .before .before .before .split-edge .result) 1 l (omega arith) room,
+        turn-room t (q .result) (a .n) (a .xs .now) (a .ys .now) (a .heads .now) (a .links .now) (a .m) (j .last .1 .1 .1 .1 .1 .1
+            .0) (j .last .1 .1 .1 .1 .1 .1 .1 .0) (j .last .1 .1 .1 .1 .1 .1 .1 .1 .0) (j .last .1 .1 .1 .1 .1 .1 .1 .1 .1 .0) (j .last
+            .1 .1 .1 .1 .1 .0) (j .result) 1 l (omega arith) room,
       ),
     )
 
 split-edge-requires-3 : tie.Need-split-edge-requires-3
 split-edge-requires-3 c κs =
-    let s = c .before .before .before .before .before .before .before .before .before .before .before .before .before .before .before
-    .before .before .before .before .before .before .before .before .before .before .before .before .before .before .before .before .before
-    .before .before .before .before .before .before .before .before in
+    let s = c .before .before .before .before .before .before .before .before .before .before .before .before .before .before
+    .before .before .before .before .before .before .before .before .before .before .before .before .before .before .before .before
+    .before .before .before .before .before .before .before .before .before .before in
     let a = s .args in
     let t = (cellAt (a .cells .now) (a .c)) in
-    let q = c .before .before .before .before .before .before .before .before .before .before .before .before .before .before .before
-    .before .before .before .before .before .before .before .before .before .before .before .before .before .before .before .before .before
-    .before .before .pattern-of in
+    let q = c .before .before .before .before .before .before .before .before .before .before .before .before .before .before
+    .before .before .before .before .before .before .before .before .before .before .before .before .before .before .before .before
+    .before .before .before .before .pattern-of in
     let r = s .pre in
     let l = turn2 (c .before .before .before .before .before .before .before .before .before .before .before .before .before) in
+    let j = c .before .before .before .before .before .before .before .before .before .before .before .before .before .split-edge2
+    in
     let v : splitsTo (q .result) t 6 ≡ splitEdges 0 t (a .status) = rw (q .ensures) (splits-all (a .status) t) in
     let room : Space (a .xs .now) (a .ys .now) (a .links .now) (a .m) (length (splitsTo (q .result) t 6)) = rw v (r .space) in
     let fits : a .n + a .m + length (splitsTo (q .result) t 6) < 65536 = rw v (r .small) in (
       (
         r .inside,
         omega arith,
-        turn-small t (q .result) (a .n) (a .xs .now) (a .ys .now) (a .heads .now) (a .links .now) (a .m) (c .before .before .before .before
-        .before .before .before .before .before .before .before .before .before .split-edge2 .last .1 .1 .1 .1 .1 .1 .0) (c .before .before
-        .before .before .before .before .before .before .before .before .before .before .before .split-edge2 .last .1 .1 .1 .1 .1 .1 .1 .0)
-        (c .before .before .before .before .before .before .before .before .before .before .before .before .before .split-edge2 .last .1 .1
-        .1 .1 .1 .1 .1 .1 .0) (c .before .before .before .before .before .before .before .before .before .before .before .before .before
-        .split-edge2 .last .1 .1 .1 .1 .1 .1 .1 .1 .1 .0) (c .before .before .before .before .before .before .before .before .before .before
-        .before .before .before .split-edge2 .last .1 .1 .1 .1 .1 .0) (c .before .before .before .before .before .before .before .before
-        .before .before .before .before .before .split-edge2 .result) 2 l (omega arith) fits,
+        turn-small t (q .result) (a .n) (a .xs .now) (a .ys .now) (a .heads .now) (a .links .now) (a .m) (j .last .1 .1 .1 .1 .1 .1
+            .0) (j .last .1 .1 .1 .1 .1 .1 .1 .0) (j .last .1 .1 .1 .1 .1 .1 .1 .1 .0) (j .last .1 .1 .1 .1 .1 .1 .1 .1 .1 .0) (j .last
+            .1 .1 .1 .1 .1 .0) (j .result) 2 l (omega arith) fits,
       ),
       (
         l .grown .edges,
-        turn-room t (q .result) (a .n) (a .xs .now) (a .ys .now) (a .heads .now) (a .links .now) (a .m) (c .before .before .before .before
-        .before .before .before .before .before .before .before .before .before .split-edge2 .last .1 .1 .1 .1 .1 .1 .0) (c .before .before
-        .before .before .before .before .before .before .before .before .before .before .before .split-edge2 .last .1 .1 .1 .1 .1 .1 .1 .0)
-        (c .before .before .before .before .before .before .before .before .before .before .before .before .before .split-edge2 .last .1 .1
-        .1 .1 .1 .1 .1 .1 .0) (c .before .before .before .before .before .before .before .before .before .before .before .before .before
-        .split-edge2 .last .1 .1 .1 .1 .1 .1 .1 .1 .1 .0) (c .before .before .before .before .before .before .before .before .before .before
-        .before .before .before .split-edge2 .last .1 .1 .1 .1 .1 .0) (c .before .before .before .before .before .before .before .before
-        .before .before .before .before .before .split-edge2 .result) 2 l (omega arith) room,
+        turn-room t (q .result) (a .n) (a .xs .now) (a .ys .now) (a .heads .now) (a .links .now) (a .m) (j .last .1 .1 .1 .1 .1 .1
+            .0) (j .last .1 .1 .1 .1 .1 .1 .1 .0) (j .last .1 .1 .1 .1 .1 .1 .1 .1 .0) (j .last .1 .1 .1 .1 .1 .1 .1 .1 .1 .0) (j .last
+            .1 .1 .1 .1 .1 .0) (j .result) 2 l (omega arith) room,
       ),
     )
 
 split-edge-requires-4 : tie.Need-split-edge-requires-4
 split-edge-requires-4 c κs =
-    let s = c .before .before .before .before .before .before .before .before .before .before .before .before .before .before .before
-    .before .before .before .before .before .before .before .before .before .before .before .before .before .before .before .before .before
-    .before .before .before .before .before .before .before .before .before .before .before .before .before .before .before .before .before
-    .before .before .before .before .before in
+    let s = c .before .before .before .before .before .before .before .before .before .before .before .before .before .before
+    .before .before .before .before .before .before .before .before .before .before .before .before .before .before .before .before
+    .before .before .before .before .before .before .before .before .before .before .before .before .before .before .before .before
+    .before .before .before .before .before .before .before .before in
     let a = s .args in
     let t = (cellAt (a .cells .now) (a .c)) in
-    let q = c .before .before .before .before .before .before .before .before .before .before .before .before .before .before .before
-    .before .before .before .before .before .before .before .before .before .before .before .before .before .before .before .before .before
+    let q = c .before .before .before .before .before .before .before .before .before .before .before .before .before .before
     .before .before .before .before .before .before .before .before .before .before .before .before .before .before .before .before
-    .pattern-of in
+    .before .before .before .before .before .before .before .before .before .before .before .before .before .before .before .before
+    .before .before .pattern-of in
     let r = s .pre in
     let l = turn3 (c .before .before .before .before .before .before .before .before .before .before .before .before .before) in
+    let j = c .before .before .before .before .before .before .before .before .before .before .before .before .before .split-edge3
+    in
     let v : splitsTo (q .result) t 6 ≡ splitEdges 0 t (a .status) = rw (q .ensures) (splits-all (a .status) t) in
     let room : Space (a .xs .now) (a .ys .now) (a .links .now) (a .m) (length (splitsTo (q .result) t 6)) = rw v (r .space) in
     let fits : a .n + a .m + length (splitsTo (q .result) t 6) < 65536 = rw v (r .small) in (
       (
         r .inside,
         omega arith,
-        turn-small t (q .result) (a .n) (a .xs .now) (a .ys .now) (a .heads .now) (a .links .now) (a .m) (c .before .before .before .before
-        .before .before .before .before .before .before .before .before .before .split-edge3 .last .1 .1 .1 .1 .1 .1 .0) (c .before .before
-        .before .before .before .before .before .before .before .before .before .before .before .split-edge3 .last .1 .1 .1 .1 .1 .1 .1 .0)
-        (c .before .before .before .before .before .before .before .before .before .before .before .before .before .split-edge3 .last .1 .1
-        .1 .1 .1 .1 .1 .1 .0) (c .before .before .before .before .before .before .before .before .before .before .before .before .before
-        .split-edge3 .last .1 .1 .1 .1 .1 .1 .1 .1 .1 .0) (c .before .before .before .before .before .before .before .before .before .before
-        .before .before .before .split-edge3 .last .1 .1 .1 .1 .1 .0) (c .before .before .before .before .before .before .before .before
-        .before .before .before .before .before .split-edge3 .result) 3 l (omega arith) fits,
+        turn-small t (q .result) (a .n) (a .xs .now) (a .ys .now) (a .heads .now) (a .links .now) (a .m) (j .last .1 .1 .1 .1 .1 .1
+            .0) (j .last .1 .1 .1 .1 .1 .1 .1 .0) (j .last .1 .1 .1 .1 .1 .1 .1 .1 .0) (j .last .1 .1 .1 .1 .1 .1 .1 .1 .1 .0) (j .last
+            .1 .1 .1 .1 .1 .0) (j .result) 3 l (omega arith) fits,
       ),
       (
         l .grown .edges,
-        turn-room t (q .result) (a .n) (a .xs .now) (a .ys .now) (a .heads .now) (a .links .now) (a .m) (c .before .before .before .before
-        .before .before .before .before .before .before .before .before .before .split-edge3 .last .1 .1 .1 .1 .1 .1 .0) (c .before .before
-        .before .before .before .before .before .before .before .before .before .before .before .split-edge3 .last .1 .1 .1 .1 .1 .1 .1 .0)
-        (c .before .before .before .before .before .before .before .before .before .before .before .before .before .split-edge3 .last .1 .1
-        .1 .1 .1 .1 .1 .1 .0) (c .before .before .before .before .before .before .before .before .before .before .before .before .before
-        .split-edge3 .last .1 .1 .1 .1 .1 .1 .1 .1 .1 .0) (c .before .before .before .before .before .before .before .before .before .before
-        .before .before .before .split-edge3 .last .1 .1 .1 .1 .1 .0) (c .before .before .before .before .before .before .before .before
-        .before .before .before .before .before .split-edge3 .result) 3 l (omega arith) room,
+        turn-room t (q .result) (a .n) (a .xs .now) (a .ys .now) (a .heads .now) (a .links .now) (a .m) (j .last .1 .1 .1 .1 .1 .1
+            .0) (j .last .1 .1 .1 .1 .1 .1 .1 .0) (j .last .1 .1 .1 .1 .1 .1 .1 .1 .0) (j .last .1 .1 .1 .1 .1 .1 .1 .1 .1 .0) (j .last
+            .1 .1 .1 .1 .1 .0) (j .result) 3 l (omega arith) room,
       ),
     )
 
 split-edge-requires-5 : tie.Need-split-edge-requires-5
 split-edge-requires-5 c κs =
-    let s = c .before .before .before .before .before .before .before .before .before .before .before .before .before .before .before
-    .before .before .before .before .before .before .before .before .before .before .before .before .before .before .before .before .before
-    .before .before .before .before .before .before .before .before .before .before .before .before .before .before .before .before .before
-    .before .before .before .before .before .before .before .before .before .before .before .before .before .before .before .before .before
-    .before .before in
+    let s = c .before .before .before .before .before .before .before .before .before .before .before .before .before .before
+    .before .before .before .before .before .before .before .before .before .before .before .before .before .before .before .before
+    .before .before .before .before .before .before .before .before .before .before .before .before .before .before .before .before
+    .before .before .before .before .before .before .before .before .before .before .before .before .before .before .before .before
+    .before .before .before .before .before .before in
     let a = s .args in
     let t = (cellAt (a .cells .now) (a .c)) in
-    let q = c .before .before .before .before .before .before .before .before .before .before .before .before .before .before .before
-    .before .before .before .before .before .before .before .before .before .before .before .before .before .before .before .before .before
-    .before .before .before .before .before .before .before .before .before .before .before .before .before .before .before .before .before
-    .before .before .before .before .before .before .before .before .before .before .before .before .before .pattern-of in
+    let q = c .before .before .before .before .before .before .before .before .before .before .before .before .before .before
+    .before .before .before .before .before .before .before .before .before .before .before .before .before .before .before .before
+    .before .before .before .before .before .before .before .before .before .before .before .before .before .before .before .before
+    .before .before .before .before .before .before .before .before .before .before .before .before .before .before .before .before
+    .pattern-of in
     let r = s .pre in
     let l = turn4 (c .before .before .before .before .before .before .before .before .before .before .before .before .before) in
+    let j = c .before .before .before .before .before .before .before .before .before .before .before .before .before .split-edge4
+    in
     let v : splitsTo (q .result) t 6 ≡ splitEdges 0 t (a .status) = rw (q .ensures) (splits-all (a .status) t) in
     let room : Space (a .xs .now) (a .ys .now) (a .links .now) (a .m) (length (splitsTo (q .result) t 6)) = rw v (r .space) in
     let fits : a .n + a .m + length (splitsTo (q .result) t 6) < 65536 = rw v (r .small) in (
       (
         r .inside,
         omega arith,
-        turn-small t (q .result) (a .n) (a .xs .now) (a .ys .now) (a .heads .now) (a .links .now) (a .m) (c .before .before .before .before
-        .before .before .before .before .before .before .before .before .before .split-edge4 .last .1 .1 .1 .1 .1 .1 .0) (c .before .before
-        .before .before .before .before .before .before .before .before .before .before .before .split-edge4 .last .1 .1 .1 .1 .1 .1 .1 .0)
-        (c .before .before .before .before .before .before .before .before .before .before .before .before .before .split-edge4 .last .1 .1
-        .1 .1 .1 .1 .1 .1 .0) (c .before .before .before .before .before .before .before .before .before .before .before .before .before
-        .split-edge4 .last .1 .1 .1 .1 .1 .1 .1 .1 .1 .0) (c .before .before .before .before .before .before .before .before .before .before
-        .before .before .before .split-edge4 .last .1 .1 .1 .1 .1 .0) (c .before .before .before .before .before .before .before .before
-        .before .before .before .before .before .split-edge4 .result) 4 l (omega arith) fits,
+        turn-small t (q .result) (a .n) (a .xs .now) (a .ys .now) (a .heads .now) (a .links .now) (a .m) (j .last .1 .1 .1 .1 .1 .1
+            .0) (j .last .1 .1 .1 .1 .1 .1 .1 .0) (j .last .1 .1 .1 .1 .1 .1 .1 .1 .0) (j .last .1 .1 .1 .1 .1 .1 .1 .1 .1 .0) (j .last
+            .1 .1 .1 .1 .1 .0) (j .result) 4 l (omega arith) fits,
       ),
       (
         l .grown .edges,
-        turn-room t (q .result) (a .n) (a .xs .now) (a .ys .now) (a .heads .now) (a .links .now) (a .m) (c .before .before .before .before
-        .before .before .before .before .before .before .before .before .before .split-edge4 .last .1 .1 .1 .1 .1 .1 .0) (c .before .before
-        .before .before .before .before .before .before .before .before .before .before .before .split-edge4 .last .1 .1 .1 .1 .1 .1 .1 .0)
-        (c .before .before .before .before .before .before .before .before .before .before .before .before .before .split-edge4 .last .1 .1
-        .1 .1 .1 .1 .1 .1 .0) (c .before .before .before .before .before .before .before .before .before .before .before .before .before
-        .split-edge4 .last .1 .1 .1 .1 .1 .1 .1 .1 .1 .0) (c .before .before .before .before .before .before .before .before .before .before
-        .before .before .before .split-edge4 .last .1 .1 .1 .1 .1 .0) (c .before .before .before .before .before .before .before .before
-        .before .before .before .before .before .split-edge4 .result) 4 l (omega arith) room,
+        turn-room t (q .result) (a .n) (a .xs .now) (a .ys .now) (a .heads .now) (a .links .now) (a .m) (j .last .1 .1 .1 .1 .1 .1
+            .0) (j .last .1 .1 .1 .1 .1 .1 .1 .0) (j .last .1 .1 .1 .1 .1 .1 .1 .1 .0) (j .last .1 .1 .1 .1 .1 .1 .1 .1 .1 .0) (j .last
+            .1 .1 .1 .1 .1 .0) (j .result) 4 l (omega arith) room,
       ),
     )
 
 split-edge-requires-6 : tie.Need-split-edge-requires-6
 split-edge-requires-6 c κs =
-    let s = c .before .before .before .before .before .before .before .before .before .before .before .before .before .before .before
-    .before .before .before .before .before .before .before .before .before .before .before .before .before .before .before .before .before
-    .before .before .before .before .before .before .before .before .before .before .before .before .before .before .before .before .before
-    .before .before .before .before .before .before .before .before .before .before .before .before .before .before .before .before .before
-    .before .before .before .before .before .before .before .before .before .before .before .before .before .before .before .before in
+    let s = c .before .before .before .before .before .before .before .before .before .before .before .before .before .before
+    .before .before .before .before .before .before .before .before .before .before .before .before .before .before .before .before
+    .before .before .before .before .before .before .before .before .before .before .before .before .before .before .before .before
+    .before .before .before .before .before .before .before .before .before .before .before .before .before .before .before .before
+    .before .before .before .before .before .before .before .before .before .before .before .before .before .before .before .before
+    .before .before .before .before in
     let a = s .args in
     let t = (cellAt (a .cells .now) (a .c)) in
-    let q = c .before .before .before .before .before .before .before .before .before .before .before .before .before .before .before
-    .before .before .before .before .before .before .before .before .before .before .before .before .before .before .before .before .before
-    .before .before .before .before .before .before .before .before .before .before .before .before .before .before .before .before .before
-    .before .before .before .before .before .before .before .before .before .before .before .before .before .before .before .before .before
-    .before .before .before .before .before .before .before .before .before .before .pattern-of in
+    let q = c .before .before .before .before .before .before .before .before .before .before .before .before .before .before
+    .before .before .before .before .before .before .before .before .before .before .before .before .before .before .before .before
+    .before .before .before .before .before .before .before .before .before .before .before .before .before .before .before .before
+    .before .before .before .before .before .before .before .before .before .before .before .before .before .before .before .before
+    .before .before .before .before .before .before .before .before .before .before .before .before .before .before .pattern-of in
     let r = s .pre in
     let l = turn5 (c .before .before .before .before .before .before .before .before .before .before .before .before .before) in
+    let j = c .before .before .before .before .before .before .before .before .before .before .before .before .before .split-edge5
+    in
     let v : splitsTo (q .result) t 6 ≡ splitEdges 0 t (a .status) = rw (q .ensures) (splits-all (a .status) t) in
     let room : Space (a .xs .now) (a .ys .now) (a .links .now) (a .m) (length (splitsTo (q .result) t 6)) = rw v (r .space) in
     let fits : a .n + a .m + length (splitsTo (q .result) t 6) < 65536 = rw v (r .small) in (
       (
         r .inside,
         omega arith,
-        turn-small t (q .result) (a .n) (a .xs .now) (a .ys .now) (a .heads .now) (a .links .now) (a .m) (c .before .before .before .before
-        .before .before .before .before .before .before .before .before .before .split-edge5 .last .1 .1 .1 .1 .1 .1 .0) (c .before .before
-        .before .before .before .before .before .before .before .before .before .before .before .split-edge5 .last .1 .1 .1 .1 .1 .1 .1 .0)
-        (c .before .before .before .before .before .before .before .before .before .before .before .before .before .split-edge5 .last .1 .1
-        .1 .1 .1 .1 .1 .1 .0) (c .before .before .before .before .before .before .before .before .before .before .before .before .before
-        .split-edge5 .last .1 .1 .1 .1 .1 .1 .1 .1 .1 .0) (c .before .before .before .before .before .before .before .before .before .before
-        .before .before .before .split-edge5 .last .1 .1 .1 .1 .1 .0) (c .before .before .before .before .before .before .before .before
-        .before .before .before .before .before .split-edge5 .result) 5 l (omega arith) fits,
+        turn-small t (q .result) (a .n) (a .xs .now) (a .ys .now) (a .heads .now) (a .links .now) (a .m) (j .last .1 .1 .1 .1 .1 .1
+            .0) (j .last .1 .1 .1 .1 .1 .1 .1 .0) (j .last .1 .1 .1 .1 .1 .1 .1 .1 .0) (j .last .1 .1 .1 .1 .1 .1 .1 .1 .1 .0) (j .last
+            .1 .1 .1 .1 .1 .0) (j .result) 5 l (omega arith) fits,
       ),
       (
         l .grown .edges,
-        turn-room t (q .result) (a .n) (a .xs .now) (a .ys .now) (a .heads .now) (a .links .now) (a .m) (c .before .before .before .before
-        .before .before .before .before .before .before .before .before .before .split-edge5 .last .1 .1 .1 .1 .1 .1 .0) (c .before .before
-        .before .before .before .before .before .before .before .before .before .before .before .split-edge5 .last .1 .1 .1 .1 .1 .1 .1 .0)
-        (c .before .before .before .before .before .before .before .before .before .before .before .before .before .split-edge5 .last .1 .1
-        .1 .1 .1 .1 .1 .1 .0) (c .before .before .before .before .before .before .before .before .before .before .before .before .before
-        .split-edge5 .last .1 .1 .1 .1 .1 .1 .1 .1 .1 .0) (c .before .before .before .before .before .before .before .before .before .before
-        .before .before .before .split-edge5 .last .1 .1 .1 .1 .1 .0) (c .before .before .before .before .before .before .before .before
-        .before .before .before .before .before .split-edge5 .result) 5 l (omega arith) room,
+        turn-room t (q .result) (a .n) (a .xs .now) (a .ys .now) (a .heads .now) (a .links .now) (a .m) (j .last .1 .1 .1 .1 .1 .1
+            .0) (j .last .1 .1 .1 .1 .1 .1 .1 .0) (j .last .1 .1 .1 .1 .1 .1 .1 .1 .0) (j .last .1 .1 .1 .1 .1 .1 .1 .1 .1 .0) (j .last
+            .1 .1 .1 .1 .1 .0) (j .result) 5 l (omega arith) room,
       ),
     )
 
@@ -590,22 +562,22 @@ same-length-4 c = turn6 (c .before .before .before .before .before .before .befo
 
 returns : tie.Need-returns
 returns c =
-    let a = c .before .before .before .before .before .before .before .before .before .before .before .before .before .before .before
-    .before .before .before .before .before .before .before .before .before .before .before .before .before .before .before .before .before
-    .before .before .before .before .before .before .before .before .before .before .before .before .before .before .before .before .before
-    .before .before .before .before .before .before .before .before .before .before .before .before .before .before .before .before .before
-    .before .before .before .before .before .before .before .before .before .before .before .before .before .before .before .before .before
-    .before .before .before .before .before .before .before .before .args in
-    let q = c .before .before .before .before .before .before .before .before .before .before .before .before .before .before .before
-    .before .before .before .before .before .before .before .before .before .before .before .before .before .before .before .before .before
-    .before .before .before .before .before .before .before .before .before .before .before .before .before .before .before .before .before
-    .before .before .before .before .before .before .before .before .before .before .before .before .before .before .before .before .before
-    .before .before .before .before .before .before .before .before .before .before .before .before .before .before .before .before .before
-    .before .before .pattern-of in
+    let a = c .before .before .before .before .before .before .before .before .before .before .before .before .before .before
+    .before .before .before .before .before .before .before .before .before .before .before .before .before .before .before .before
+    .before .before .before .before .before .before .before .before .before .before .before .before .before .before .before .before
+    .before .before .before .before .before .before .before .before .before .before .before .before .before .before .before .before
+    .before .before .before .before .before .before .before .before .before .before .before .before .before .before .before .before
+    .before .before .before .before .before .before .before .before .before .before .before .before .before .args in
+    let q = c .before .before .before .before .before .before .before .before .before .before .before .before .before .before
+    .before .before .before .before .before .before .before .before .before .before .before .before .before .before .before .before
+    .before .before .before .before .before .before .before .before .before .before .before .before .before .before .before .before
+    .before .before .before .before .before .before .before .before .before .before .before .before .before .before .before .before
+    .before .before .before .before .before .before .before .before .before .before .before .before .before .before .before .before
+    .before .before .before .before .before .before .before .pattern-of in
     let i = c .before .before .before .before .before .before .before .before .split-edge6 in
     turn-all (cellAt (a .cells .now) (a .c)) (q .result) (a .n) (a .xs .now) (a .ys .now) (a .heads .now) (a .links .now) (a .m)
-    (i .last .1 .1 .1 .1 .1 .1 .0) (i .last .1 .1 .1 .1 .1 .1 .1 .0) (i .last .1 .1 .1 .1 .1 .1 .1 .1 .0) (i .last .1 .1 .1 .1 .1 .1 .1 .1
-    .1 .0) (i .last .1 .1 .1 .1 .1 .0) (i .result) 6
+    (i .last .1 .1 .1 .1 .1 .1 .0) (i .last .1 .1 .1 .1 .1 .1 .1 .0) (i .last .1 .1 .1 .1 .1 .1 .1 .1 .0) (i .last .1 .1 .1 .1 .1 .1
+    .1 .1 .1 .0) (i .last .1 .1 .1 .1 .1 .0) (i .result) 6
     (turn6 (c .before .before .before .before .before .before .before .before)) (omega arith) (a .status) (q .ensures)
 
 pub points-of-spec : {M : Type 1} → statement M

@@ -36,15 +36,20 @@ returns-4 : tie.Need-returns-4
 returns-4 c = λ h. not-both false h refl
 
 is-held-requires-5 : tie.Need-is-held-requires-5
-is-held-requires-5 c κs = (c .before .before .before .before .before .before .before .before .before .before .before .before .before .pre,
-    omega arith)
+is-held-requires-5 c κs = (
+  c .before .before .before .before .before .before .before .before .before .before .before .before .before .pre,
+  omega arith,
+)
 
 returns-5 : tie.Need-returns-5
 returns-5 c = λ h. not-both false h refl
 
 is-held-requires-6 : tie.Need-is-held-requires-6
-is-held-requires-6 c κs = (c .before .before .before .before .before .before .before .before .before .before .before .before .before .before
-    .before .pre, omega arith)
+is-held-requires-6 c κs = (
+  c .before .before .before .before .before .before .before .before .before .before .before .before .before .before
+      .before .pre,
+  omega arith,
+)
 
 returns-6 : tie.Need-returns-6
 returns-6 c = λ h. not-both false h refl
