@@ -4,7 +4,7 @@ use mathlib.Core.Path.{_≡_, refl, sym, _∙_, ap}
 use mathlib.Core.Logic.{⊎-elim}
 use mathlib.Core.Bool.{Bool, true, false, _&&_, not, or-true}
 use mathlib.Core.List.{List, [], _∷_, _++_, map}
-use Prim.Native.Nat.{ℕ, zero, suc, _+_, _≤_, _<_}
+use Prim.Native.Nat.{ℕ, zero, suc, _+_, _*_, _≤_, _<_}
 use native.Mathlib.Nat.{eq-or-lt-of-le}
 use native.Mathlib.Omega.{arith}
 use lib.Dec.{T, eqb, eqb→eq}
@@ -18,9 +18,9 @@ use Rattle.mesh.specs.Cells.{Cell, corner, edge, patternOf}
 use Rattle.mesh.specs.Layout.{edgeNumbers, splitEdges}
 use Rattle.edges.specs.Pairs.{Pair, sorted, isb, addPairs, same-pair, has-pairs}
 use Rattle.edges.specs.Table.{listed, Edges, Space, Grown, grown-none, grown-both}
-use Rattle.rows.specs.Numbered.{pointAt}
+use Rattle.rows.specs.Numbered.{cellAt, pointAt}
 use Rattle.growth.specs.Places.{middleEdge, extends-pairs, present-point, middle-digit, pointAt-corner, point-middle}
-use Rattle.growth.specs.Points.{splitAt, lowCorners, marked, PointsSet}
+use Rattle.growth.specs.Points.{splitAt, lowCorners, marked, PointsSet, ReadyToGrow}
 use Rattle.growth.proofs.Found.{middle-below}
 use Rattle.growth.proofs.Split.{split-one, marked-none, marked-one}
 
@@ -260,3 +260,18 @@ module _ (c : Cell ℕ) (p n : ℕ) (xs₀ ys₀ heads₀ links₀ : List ℕ) (
       let w : e ≡ 6 = omega (arith, r .below) in
       let v : splitsTo p c e ≡ splitEdges 0 c s = rw (w, q) (splits-all s c) in
       (rw v at (r .grown), rw q at (numbered-all n (listed xs ys 0 k) c p ps (rw w at (r .numbered))))
+
+-- what the next edge asks for
+pub turn-ready : (cells : List ℕ) (c s p n : ℕ) (xs₀ ys₀ heads₀ links₀ : List ℕ) (m : ℕ)
+    → ReadyToGrow cells xs₀ ys₀ heads₀ links₀ c s n m → p ≡ patternOf s → (xs ys heads links ps : List ℕ) (k e : ℕ) → e < 6
+    → Turn (cellAt cells c) p n xs₀ ys₀ heads₀ links₀ m xs ys heads links ps k e
+    → ((8 * c + 8 ≤ length cells) × (e < 6) × (n + k < 65536))
+    × (Edges xs ys heads links 0 k × Space xs ys links k (length (splitAt p (cellAt cells c) e)))
+turn-ready cells c s p n xs₀ ys₀ heads₀ links₀ m r q xs ys heads links ps k e h t =
+    let d = cellAt cells c in
+    let v : splitsTo p d 6 ≡ splitEdges 0 d s = rw q (splits-all s d) in
+    let room : Space xs₀ ys₀ links₀ m (length (splitsTo p d 6)) = rw v (r .space) in
+    let fits : n + m + length (splitsTo p d 6) < 65536 = rw v (r .small) in (
+      (r .inside, h, turn-small d p n xs₀ ys₀ heads₀ links₀ m xs ys heads links ps k e t h fits),
+      (t .grown .edges, turn-room d p n xs₀ ys₀ heads₀ links₀ m xs ys heads links ps k e t h room),
+    )

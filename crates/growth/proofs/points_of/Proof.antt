@@ -1,13 +1,8 @@
 -- `growth::points_of` meets its contract: after each edge it is known which edges are in the table and which points have numbers.
 -- Assumes nothing.
-use mathlib.Core.Path.{_≡_}
-use Prim.Native.Nat.{_+_, _<_}
 use native.Mathlib.Omega.{arith}
-use lib.ListN.{length}
-use Rattle.mesh.specs.Layout.{splitEdges}
-use Rattle.edges.specs.Table.{Space}
 use Rattle.rows.specs.Numbered.{cellAt}
-use Rattle.growth.proofs.Turn.{Turn, splitsTo, splits-all, turn-start, turn-room, turn-small, turn-more, turn-all}
+use Rattle.growth.proofs.Turn.{Turn, turn-start, turn-ready, turn-more, turn-all}
 use borrow.Author.Needs.{needs}
 use Rattle.growth.proofs.points_of.Statement.{statement}
 use Rattle.growth.proofs.points_of.Tie as tie
@@ -359,55 +354,26 @@ split-edge-requires : tie.Need-split-edge-requires
 split-edge-requires c κs =
     let s = c .before .before .before .before .before .before .before .before .before .before .before .before in
     let a = s .args in
-    let t = (cellAt (a .cells .now) (a .c)) in
     let q = c .before .before .before .before .before .before .pattern-of in
-    let r = s .pre in
-    let l = turn0 (c .before .before .before .before .before) in
-    let v : splitsTo (q .result) t 6 ≡ splitEdges 0 t (a .status) = rw (q .ensures) (splits-all (a .status) t) in
-    let room : Space (a .xs .now) (a .ys .now) (a .links .now) (a .m) (length (splitsTo (q .result) t 6)) = rw v (r .space) in
-    let fits : a .n + a .m + length (splitsTo (q .result) t 6) < 65536 = rw v (r .small) in (
-      (
-        r .inside,
-        omega arith,
-        turn-small t (q .result) (a .n) (a .xs .now) (a .ys .now) (a .heads .now) (a .links .now) (a .m) (a .xs .now) (a .ys .now)
-            (a .heads .now) (a .links .now) (c .before .before .before .before .before .corners-of .result) (a .m) 0 l (omega arith)
-            fits,
-      ),
-      (
-        l .grown .edges,
-        turn-room t (q .result) (a .n) (a .xs .now) (a .ys .now) (a .heads .now) (a .links .now) (a .m) (a .xs .now) (a .ys .now) (a
-            .heads .now) (a .links .now) (c .before .before .before .before .before .corners-of .result) (a .m) 0 l (omega arith) room,
-      ),
-    )
+    turn-ready (a .cells .now) (a .c) (a .status) (q .result) (a .n) (a .xs .now) (a .ys .now) (a .heads .now) (a .links .now) (a
+    .m) (s .pre) (q .ensures)
+    (a .xs .now) (a .ys .now) (a .heads .now) (a .links .now) (c .before .before .before .before .before .corners-of .result) (a .m)
+    0 (omega arith)
+    (turn0 (c .before .before .before .before .before))
 
 split-edge-requires-2 : tie.Need-split-edge-requires-2
 split-edge-requires-2 c κs =
     let s = c .before .before .before .before .before .before .before .before .before .before .before .before .before .before
     .before .before .before .before .before .before .before .before .before .before .before .before in
     let a = s .args in
-    let t = (cellAt (a .cells .now) (a .c)) in
     let q = c .before .before .before .before .before .before .before .before .before .before .before .before .before .before
     .before .before .before .before .before .before .pattern-of in
-    let r = s .pre in
-    let l = turn1 (c .before .before .before .before .before .before .before .before .before .before .before .before .before) in
     let j = c .before .before .before .before .before .before .before .before .before .before .before .before .before .split-edge in
-    let v : splitsTo (q .result) t 6 ≡ splitEdges 0 t (a .status) = rw (q .ensures) (splits-all (a .status) t) in
-    let room : Space (a .xs .now) (a .ys .now) (a .links .now) (a .m) (length (splitsTo (q .result) t 6)) = rw v (r .space) in
-    let fits : a .n + a .m + length (splitsTo (q .result) t 6) < 65536 = rw v (r .small) in (
-      (
-        r .inside,
-        omega arith,
-        turn-small t (q .result) (a .n) (a .xs .now) (a .ys .now) (a .heads .now) (a .links .now) (a .m) (j .last .1 .1 .1 .1 .1 .1
-            .0) (j .last .1 .1 .1 .1 .1 .1 .1 .0) (j .last .1 .1 .1 .1 .1 .1 .1 .1 .0) (j .last .1 .1 .1 .1 .1 .1 .1 .1 .1 .0) (j .last
-            .1 .1 .1 .1 .1 .0) (j .result) 1 l (omega arith) fits,
-      ),
-      (
-        l .grown .edges,
-        turn-room t (q .result) (a .n) (a .xs .now) (a .ys .now) (a .heads .now) (a .links .now) (a .m) (j .last .1 .1 .1 .1 .1 .1
-            .0) (j .last .1 .1 .1 .1 .1 .1 .1 .0) (j .last .1 .1 .1 .1 .1 .1 .1 .1 .0) (j .last .1 .1 .1 .1 .1 .1 .1 .1 .1 .0) (j .last
-            .1 .1 .1 .1 .1 .0) (j .result) 1 l (omega arith) room,
-      ),
-    )
+    turn-ready (a .cells .now) (a .c) (a .status) (q .result) (a .n) (a .xs .now) (a .ys .now) (a .heads .now) (a .links .now) (a
+    .m) (s .pre) (q .ensures)
+    (j .last .1 .1 .1 .1 .1 .1 .0) (j .last .1 .1 .1 .1 .1 .1 .1 .0) (j .last .1 .1 .1 .1 .1 .1 .1 .1 .0) (j .last .1 .1 .1 .1 .1 .1
+    .1 .1 .1 .0) (j .last .1 .1 .1 .1 .1 .0) (j .result) 1 (omega arith)
+    (turn1 (c .before .before .before .before .before .before .before .before .before .before .before .before .before))
 
 split-edge-requires-3 : tie.Need-split-edge-requires-3
 split-edge-requires-3 c κs =
@@ -415,31 +381,16 @@ split-edge-requires-3 c κs =
     .before .before .before .before .before .before .before .before .before .before .before .before .before .before .before .before
     .before .before .before .before .before .before .before .before .before .before in
     let a = s .args in
-    let t = (cellAt (a .cells .now) (a .c)) in
     let q = c .before .before .before .before .before .before .before .before .before .before .before .before .before .before
     .before .before .before .before .before .before .before .before .before .before .before .before .before .before .before .before
     .before .before .before .before .pattern-of in
-    let r = s .pre in
-    let l = turn2 (c .before .before .before .before .before .before .before .before .before .before .before .before .before) in
     let j = c .before .before .before .before .before .before .before .before .before .before .before .before .before .split-edge2
     in
-    let v : splitsTo (q .result) t 6 ≡ splitEdges 0 t (a .status) = rw (q .ensures) (splits-all (a .status) t) in
-    let room : Space (a .xs .now) (a .ys .now) (a .links .now) (a .m) (length (splitsTo (q .result) t 6)) = rw v (r .space) in
-    let fits : a .n + a .m + length (splitsTo (q .result) t 6) < 65536 = rw v (r .small) in (
-      (
-        r .inside,
-        omega arith,
-        turn-small t (q .result) (a .n) (a .xs .now) (a .ys .now) (a .heads .now) (a .links .now) (a .m) (j .last .1 .1 .1 .1 .1 .1
-            .0) (j .last .1 .1 .1 .1 .1 .1 .1 .0) (j .last .1 .1 .1 .1 .1 .1 .1 .1 .0) (j .last .1 .1 .1 .1 .1 .1 .1 .1 .1 .0) (j .last
-            .1 .1 .1 .1 .1 .0) (j .result) 2 l (omega arith) fits,
-      ),
-      (
-        l .grown .edges,
-        turn-room t (q .result) (a .n) (a .xs .now) (a .ys .now) (a .heads .now) (a .links .now) (a .m) (j .last .1 .1 .1 .1 .1 .1
-            .0) (j .last .1 .1 .1 .1 .1 .1 .1 .0) (j .last .1 .1 .1 .1 .1 .1 .1 .1 .0) (j .last .1 .1 .1 .1 .1 .1 .1 .1 .1 .0) (j .last
-            .1 .1 .1 .1 .1 .0) (j .result) 2 l (omega arith) room,
-      ),
-    )
+    turn-ready (a .cells .now) (a .c) (a .status) (q .result) (a .n) (a .xs .now) (a .ys .now) (a .heads .now) (a .links .now) (a
+    .m) (s .pre) (q .ensures)
+    (j .last .1 .1 .1 .1 .1 .1 .0) (j .last .1 .1 .1 .1 .1 .1 .1 .0) (j .last .1 .1 .1 .1 .1 .1 .1 .1 .0) (j .last .1 .1 .1 .1 .1 .1
+    .1 .1 .1 .0) (j .last .1 .1 .1 .1 .1 .0) (j .result) 2 (omega arith)
+    (turn2 (c .before .before .before .before .before .before .before .before .before .before .before .before .before))
 
 split-edge-requires-4 : tie.Need-split-edge-requires-4
 split-edge-requires-4 c κs =
@@ -448,32 +399,17 @@ split-edge-requires-4 c κs =
     .before .before .before .before .before .before .before .before .before .before .before .before .before .before .before .before
     .before .before .before .before .before .before .before .before in
     let a = s .args in
-    let t = (cellAt (a .cells .now) (a .c)) in
     let q = c .before .before .before .before .before .before .before .before .before .before .before .before .before .before
     .before .before .before .before .before .before .before .before .before .before .before .before .before .before .before .before
     .before .before .before .before .before .before .before .before .before .before .before .before .before .before .before .before
     .before .before .pattern-of in
-    let r = s .pre in
-    let l = turn3 (c .before .before .before .before .before .before .before .before .before .before .before .before .before) in
     let j = c .before .before .before .before .before .before .before .before .before .before .before .before .before .split-edge3
     in
-    let v : splitsTo (q .result) t 6 ≡ splitEdges 0 t (a .status) = rw (q .ensures) (splits-all (a .status) t) in
-    let room : Space (a .xs .now) (a .ys .now) (a .links .now) (a .m) (length (splitsTo (q .result) t 6)) = rw v (r .space) in
-    let fits : a .n + a .m + length (splitsTo (q .result) t 6) < 65536 = rw v (r .small) in (
-      (
-        r .inside,
-        omega arith,
-        turn-small t (q .result) (a .n) (a .xs .now) (a .ys .now) (a .heads .now) (a .links .now) (a .m) (j .last .1 .1 .1 .1 .1 .1
-            .0) (j .last .1 .1 .1 .1 .1 .1 .1 .0) (j .last .1 .1 .1 .1 .1 .1 .1 .1 .0) (j .last .1 .1 .1 .1 .1 .1 .1 .1 .1 .0) (j .last
-            .1 .1 .1 .1 .1 .0) (j .result) 3 l (omega arith) fits,
-      ),
-      (
-        l .grown .edges,
-        turn-room t (q .result) (a .n) (a .xs .now) (a .ys .now) (a .heads .now) (a .links .now) (a .m) (j .last .1 .1 .1 .1 .1 .1
-            .0) (j .last .1 .1 .1 .1 .1 .1 .1 .0) (j .last .1 .1 .1 .1 .1 .1 .1 .1 .0) (j .last .1 .1 .1 .1 .1 .1 .1 .1 .1 .0) (j .last
-            .1 .1 .1 .1 .1 .0) (j .result) 3 l (omega arith) room,
-      ),
-    )
+    turn-ready (a .cells .now) (a .c) (a .status) (q .result) (a .n) (a .xs .now) (a .ys .now) (a .heads .now) (a .links .now) (a
+    .m) (s .pre) (q .ensures)
+    (j .last .1 .1 .1 .1 .1 .1 .0) (j .last .1 .1 .1 .1 .1 .1 .1 .0) (j .last .1 .1 .1 .1 .1 .1 .1 .1 .0) (j .last .1 .1 .1 .1 .1 .1
+    .1 .1 .1 .0) (j .last .1 .1 .1 .1 .1 .0) (j .result) 3 (omega arith)
+    (turn3 (c .before .before .before .before .before .before .before .before .before .before .before .before .before))
 
 split-edge-requires-5 : tie.Need-split-edge-requires-5
 split-edge-requires-5 c κs =
@@ -483,33 +419,18 @@ split-edge-requires-5 c κs =
     .before .before .before .before .before .before .before .before .before .before .before .before .before .before .before .before
     .before .before .before .before .before .before in
     let a = s .args in
-    let t = (cellAt (a .cells .now) (a .c)) in
     let q = c .before .before .before .before .before .before .before .before .before .before .before .before .before .before
     .before .before .before .before .before .before .before .before .before .before .before .before .before .before .before .before
     .before .before .before .before .before .before .before .before .before .before .before .before .before .before .before .before
     .before .before .before .before .before .before .before .before .before .before .before .before .before .before .before .before
     .pattern-of in
-    let r = s .pre in
-    let l = turn4 (c .before .before .before .before .before .before .before .before .before .before .before .before .before) in
     let j = c .before .before .before .before .before .before .before .before .before .before .before .before .before .split-edge4
     in
-    let v : splitsTo (q .result) t 6 ≡ splitEdges 0 t (a .status) = rw (q .ensures) (splits-all (a .status) t) in
-    let room : Space (a .xs .now) (a .ys .now) (a .links .now) (a .m) (length (splitsTo (q .result) t 6)) = rw v (r .space) in
-    let fits : a .n + a .m + length (splitsTo (q .result) t 6) < 65536 = rw v (r .small) in (
-      (
-        r .inside,
-        omega arith,
-        turn-small t (q .result) (a .n) (a .xs .now) (a .ys .now) (a .heads .now) (a .links .now) (a .m) (j .last .1 .1 .1 .1 .1 .1
-            .0) (j .last .1 .1 .1 .1 .1 .1 .1 .0) (j .last .1 .1 .1 .1 .1 .1 .1 .1 .0) (j .last .1 .1 .1 .1 .1 .1 .1 .1 .1 .0) (j .last
-            .1 .1 .1 .1 .1 .0) (j .result) 4 l (omega arith) fits,
-      ),
-      (
-        l .grown .edges,
-        turn-room t (q .result) (a .n) (a .xs .now) (a .ys .now) (a .heads .now) (a .links .now) (a .m) (j .last .1 .1 .1 .1 .1 .1
-            .0) (j .last .1 .1 .1 .1 .1 .1 .1 .0) (j .last .1 .1 .1 .1 .1 .1 .1 .1 .0) (j .last .1 .1 .1 .1 .1 .1 .1 .1 .1 .0) (j .last
-            .1 .1 .1 .1 .1 .0) (j .result) 4 l (omega arith) room,
-      ),
-    )
+    turn-ready (a .cells .now) (a .c) (a .status) (q .result) (a .n) (a .xs .now) (a .ys .now) (a .heads .now) (a .links .now) (a
+    .m) (s .pre) (q .ensures)
+    (j .last .1 .1 .1 .1 .1 .1 .0) (j .last .1 .1 .1 .1 .1 .1 .1 .0) (j .last .1 .1 .1 .1 .1 .1 .1 .1 .0) (j .last .1 .1 .1 .1 .1 .1
+    .1 .1 .1 .0) (j .last .1 .1 .1 .1 .1 .0) (j .result) 4 (omega arith)
+    (turn4 (c .before .before .before .before .before .before .before .before .before .before .before .before .before))
 
 split-edge-requires-6 : tie.Need-split-edge-requires-6
 split-edge-requires-6 c κs =
@@ -520,33 +441,18 @@ split-edge-requires-6 c κs =
     .before .before .before .before .before .before .before .before .before .before .before .before .before .before .before .before
     .before .before .before .before in
     let a = s .args in
-    let t = (cellAt (a .cells .now) (a .c)) in
     let q = c .before .before .before .before .before .before .before .before .before .before .before .before .before .before
     .before .before .before .before .before .before .before .before .before .before .before .before .before .before .before .before
     .before .before .before .before .before .before .before .before .before .before .before .before .before .before .before .before
     .before .before .before .before .before .before .before .before .before .before .before .before .before .before .before .before
     .before .before .before .before .before .before .before .before .before .before .before .before .before .before .pattern-of in
-    let r = s .pre in
-    let l = turn5 (c .before .before .before .before .before .before .before .before .before .before .before .before .before) in
     let j = c .before .before .before .before .before .before .before .before .before .before .before .before .before .split-edge5
     in
-    let v : splitsTo (q .result) t 6 ≡ splitEdges 0 t (a .status) = rw (q .ensures) (splits-all (a .status) t) in
-    let room : Space (a .xs .now) (a .ys .now) (a .links .now) (a .m) (length (splitsTo (q .result) t 6)) = rw v (r .space) in
-    let fits : a .n + a .m + length (splitsTo (q .result) t 6) < 65536 = rw v (r .small) in (
-      (
-        r .inside,
-        omega arith,
-        turn-small t (q .result) (a .n) (a .xs .now) (a .ys .now) (a .heads .now) (a .links .now) (a .m) (j .last .1 .1 .1 .1 .1 .1
-            .0) (j .last .1 .1 .1 .1 .1 .1 .1 .0) (j .last .1 .1 .1 .1 .1 .1 .1 .1 .0) (j .last .1 .1 .1 .1 .1 .1 .1 .1 .1 .0) (j .last
-            .1 .1 .1 .1 .1 .0) (j .result) 5 l (omega arith) fits,
-      ),
-      (
-        l .grown .edges,
-        turn-room t (q .result) (a .n) (a .xs .now) (a .ys .now) (a .heads .now) (a .links .now) (a .m) (j .last .1 .1 .1 .1 .1 .1
-            .0) (j .last .1 .1 .1 .1 .1 .1 .1 .0) (j .last .1 .1 .1 .1 .1 .1 .1 .1 .0) (j .last .1 .1 .1 .1 .1 .1 .1 .1 .1 .0) (j .last
-            .1 .1 .1 .1 .1 .0) (j .result) 5 l (omega arith) room,
-      ),
-    )
+    turn-ready (a .cells .now) (a .c) (a .status) (q .result) (a .n) (a .xs .now) (a .ys .now) (a .heads .now) (a .links .now) (a
+    .m) (s .pre) (q .ensures)
+    (j .last .1 .1 .1 .1 .1 .1 .0) (j .last .1 .1 .1 .1 .1 .1 .1 .0) (j .last .1 .1 .1 .1 .1 .1 .1 .1 .0) (j .last .1 .1 .1 .1 .1 .1
+    .1 .1 .1 .0) (j .last .1 .1 .1 .1 .1 .0) (j .result) 5 (omega arith)
+    (turn5 (c .before .before .before .before .before .before .before .before .before .before .before .before .before))
 
 same-length : tie.Need-same-length
 same-length c = turn6 (c .before .before .before .before .before .before .before .before) .xs-long
