@@ -1,11 +1,33 @@
 -- `growth::points_of` meets its contract: after each edge it is known which edges are in the table and which points have numbers.
 -- Assumes nothing.
+use Prim.Native.Nat.{_≤_, _<_}
 use native.Mathlib.Omega.{arith}
 use Rattle.rows.specs.Numbered.{cellAt}
 use Rattle.growth.proofs.Turn.{Turn, turn-start, turn-ready, turn-more, turn-all}
 use borrow.Author.Needs.{needs}
 use Rattle.growth.proofs.points_of.Statement.{statement}
 use Rattle.growth.proofs.points_of.Tie as tie
+
+below0 : 0 < 6
+below0 = omega arith
+
+below1 : 1 < 6
+below1 = omega arith
+
+below2 : 2 < 6
+below2 = omega arith
+
+below3 : 3 < 6
+below3 = omega arith
+
+below4 : 4 < 6
+below4 = omega arith
+
+below5 : 5 < 6
+below5 = omega arith
+
+all : 6 ≤ 6
+all = omega arith
 
 turn0 : (c : tie.After-corners-of)
     → Turn (cellAt (c .before .before .before .before .before .before .before .args .cells .now) (c .before .before .before .before
@@ -42,7 +64,7 @@ turn1 c =
     (a .xs .now) (a .ys .now) (a .heads .now) (a .links .now) (a .m)
     (a .xs .now) (a .ys .now) (a .heads .now) (a .links .now) (c .before .before .before .before .before .before .corners-of
     .result) (a .m) 0
-    (turn0 (c .before .before .before .before .before .before)) (omega arith)
+    (turn0 (c .before .before .before .before .before .before)) below0
     (i .last .1 .1 .1 .1 .1 .1 .0) (i .last .1 .1 .1 .1 .1 .1 .1 .0) (i .last .1 .1 .1 .1 .1 .1 .1 .1 .0) (i .last .1 .1 .1 .1 .1 .1
     .1 .1 .1 .0) (i .last .1 .1 .1 .1 .1 .0) (i .result)
     (i .kept .1 .1 .1 .1 .1 .1 .0) (i .kept .1 .1 .1 .1 .1 .1 .1 .0) (i .kept .1 .1 .1 .1 .1 .1 .1 .1 .0) (i .kept .1 .1 .1 .1 .1 .1
@@ -82,7 +104,7 @@ turn2 c =
     (j .last .1 .1 .1 .1 .1 .1 .0) (j .last .1 .1 .1 .1 .1 .1 .1 .0) (j .last .1 .1 .1 .1 .1 .1 .1 .1 .0) (j .last .1 .1 .1 .1 .1 .1
     .1 .1 .1 .0) (j .last .1 .1 .1 .1 .1 .0) (j .result) 1
     (turn1 (c .before .before .before .before .before .before .before .before .before .before .before .before .before .before))
-    (omega arith)
+    below1
     (i .last .1 .1 .1 .1 .1 .1 .0) (i .last .1 .1 .1 .1 .1 .1 .1 .0) (i .last .1 .1 .1 .1 .1 .1 .1 .1 .0) (i .last .1 .1 .1 .1 .1 .1
     .1 .1 .1 .0) (i .last .1 .1 .1 .1 .1 .0) (i .result)
     (i .kept .1 .1 .1 .1 .1 .1 .0) (i .kept .1 .1 .1 .1 .1 .1 .1 .0) (i .kept .1 .1 .1 .1 .1 .1 .1 .1 .0) (i .kept .1 .1 .1 .1 .1 .1
@@ -131,7 +153,7 @@ turn3 c =
     (j .last .1 .1 .1 .1 .1 .1 .0) (j .last .1 .1 .1 .1 .1 .1 .1 .0) (j .last .1 .1 .1 .1 .1 .1 .1 .1 .0) (j .last .1 .1 .1 .1 .1 .1
     .1 .1 .1 .0) (j .last .1 .1 .1 .1 .1 .0) (j .result) 2
     (turn2 (c .before .before .before .before .before .before .before .before .before .before .before .before .before .before))
-    (omega arith)
+    below2
     (i .last .1 .1 .1 .1 .1 .1 .0) (i .last .1 .1 .1 .1 .1 .1 .1 .0) (i .last .1 .1 .1 .1 .1 .1 .1 .1 .0) (i .last .1 .1 .1 .1 .1 .1
     .1 .1 .1 .0) (i .last .1 .1 .1 .1 .1 .0) (i .result)
     (i .kept .1 .1 .1 .1 .1 .1 .0) (i .kept .1 .1 .1 .1 .1 .1 .1 .0) (i .kept .1 .1 .1 .1 .1 .1 .1 .1 .0) (i .kept .1 .1 .1 .1 .1 .1
@@ -191,7 +213,7 @@ turn4 c =
     (j .last .1 .1 .1 .1 .1 .1 .0) (j .last .1 .1 .1 .1 .1 .1 .1 .0) (j .last .1 .1 .1 .1 .1 .1 .1 .1 .0) (j .last .1 .1 .1 .1 .1 .1
     .1 .1 .1 .0) (j .last .1 .1 .1 .1 .1 .0) (j .result) 3
     (turn3 (c .before .before .before .before .before .before .before .before .before .before .before .before .before .before))
-    (omega arith)
+    below3
     (i .last .1 .1 .1 .1 .1 .1 .0) (i .last .1 .1 .1 .1 .1 .1 .1 .0) (i .last .1 .1 .1 .1 .1 .1 .1 .1 .0) (i .last .1 .1 .1 .1 .1 .1
     .1 .1 .1 .0) (i .last .1 .1 .1 .1 .1 .0) (i .result)
     (i .kept .1 .1 .1 .1 .1 .1 .0) (i .kept .1 .1 .1 .1 .1 .1 .1 .0) (i .kept .1 .1 .1 .1 .1 .1 .1 .1 .0) (i .kept .1 .1 .1 .1 .1 .1
@@ -260,7 +282,7 @@ turn5 c =
     (j .last .1 .1 .1 .1 .1 .1 .0) (j .last .1 .1 .1 .1 .1 .1 .1 .0) (j .last .1 .1 .1 .1 .1 .1 .1 .1 .0) (j .last .1 .1 .1 .1 .1 .1
     .1 .1 .1 .0) (j .last .1 .1 .1 .1 .1 .0) (j .result) 4
     (turn4 (c .before .before .before .before .before .before .before .before .before .before .before .before .before .before))
-    (omega arith)
+    below4
     (i .last .1 .1 .1 .1 .1 .1 .0) (i .last .1 .1 .1 .1 .1 .1 .1 .0) (i .last .1 .1 .1 .1 .1 .1 .1 .1 .0) (i .last .1 .1 .1 .1 .1 .1
     .1 .1 .1 .0) (i .last .1 .1 .1 .1 .1 .0) (i .result)
     (i .kept .1 .1 .1 .1 .1 .1 .0) (i .kept .1 .1 .1 .1 .1 .1 .1 .0) (i .kept .1 .1 .1 .1 .1 .1 .1 .1 .0) (i .kept .1 .1 .1 .1 .1 .1
@@ -338,7 +360,7 @@ turn6 c =
     (j .last .1 .1 .1 .1 .1 .1 .0) (j .last .1 .1 .1 .1 .1 .1 .1 .0) (j .last .1 .1 .1 .1 .1 .1 .1 .1 .0) (j .last .1 .1 .1 .1 .1 .1
     .1 .1 .1 .0) (j .last .1 .1 .1 .1 .1 .0) (j .result) 5
     (turn5 (c .before .before .before .before .before .before .before .before .before .before .before .before .before .before))
-    (omega arith)
+    below5
     (i .last .1 .1 .1 .1 .1 .1 .0) (i .last .1 .1 .1 .1 .1 .1 .1 .0) (i .last .1 .1 .1 .1 .1 .1 .1 .1 .0) (i .last .1 .1 .1 .1 .1 .1
     .1 .1 .1 .0) (i .last .1 .1 .1 .1 .1 .0) (i .result)
     (i .kept .1 .1 .1 .1 .1 .1 .0) (i .kept .1 .1 .1 .1 .1 .1 .1 .0) (i .kept .1 .1 .1 .1 .1 .1 .1 .1 .0) (i .kept .1 .1 .1 .1 .1 .1
@@ -358,7 +380,7 @@ split-edge-requires c κs =
     turn-ready (a .cells .now) (a .c) (a .status) (q .result) (a .n) (a .xs .now) (a .ys .now) (a .heads .now) (a .links .now) (a
     .m) (s .pre) (q .ensures)
     (a .xs .now) (a .ys .now) (a .heads .now) (a .links .now) (c .before .before .before .before .before .corners-of .result) (a .m)
-    0 (omega arith)
+    0 below0
     (turn0 (c .before .before .before .before .before))
 
 split-edge-requires-2 : tie.Need-split-edge-requires-2
@@ -372,7 +394,7 @@ split-edge-requires-2 c κs =
     turn-ready (a .cells .now) (a .c) (a .status) (q .result) (a .n) (a .xs .now) (a .ys .now) (a .heads .now) (a .links .now) (a
     .m) (s .pre) (q .ensures)
     (j .last .1 .1 .1 .1 .1 .1 .0) (j .last .1 .1 .1 .1 .1 .1 .1 .0) (j .last .1 .1 .1 .1 .1 .1 .1 .1 .0) (j .last .1 .1 .1 .1 .1 .1
-    .1 .1 .1 .0) (j .last .1 .1 .1 .1 .1 .0) (j .result) 1 (omega arith)
+    .1 .1 .1 .0) (j .last .1 .1 .1 .1 .1 .0) (j .result) 1 below1
     (turn1 (c .before .before .before .before .before .before .before .before .before .before .before .before .before))
 
 split-edge-requires-3 : tie.Need-split-edge-requires-3
@@ -389,7 +411,7 @@ split-edge-requires-3 c κs =
     turn-ready (a .cells .now) (a .c) (a .status) (q .result) (a .n) (a .xs .now) (a .ys .now) (a .heads .now) (a .links .now) (a
     .m) (s .pre) (q .ensures)
     (j .last .1 .1 .1 .1 .1 .1 .0) (j .last .1 .1 .1 .1 .1 .1 .1 .0) (j .last .1 .1 .1 .1 .1 .1 .1 .1 .0) (j .last .1 .1 .1 .1 .1 .1
-    .1 .1 .1 .0) (j .last .1 .1 .1 .1 .1 .0) (j .result) 2 (omega arith)
+    .1 .1 .1 .0) (j .last .1 .1 .1 .1 .1 .0) (j .result) 2 below2
     (turn2 (c .before .before .before .before .before .before .before .before .before .before .before .before .before))
 
 split-edge-requires-4 : tie.Need-split-edge-requires-4
@@ -408,7 +430,7 @@ split-edge-requires-4 c κs =
     turn-ready (a .cells .now) (a .c) (a .status) (q .result) (a .n) (a .xs .now) (a .ys .now) (a .heads .now) (a .links .now) (a
     .m) (s .pre) (q .ensures)
     (j .last .1 .1 .1 .1 .1 .1 .0) (j .last .1 .1 .1 .1 .1 .1 .1 .0) (j .last .1 .1 .1 .1 .1 .1 .1 .1 .0) (j .last .1 .1 .1 .1 .1 .1
-    .1 .1 .1 .0) (j .last .1 .1 .1 .1 .1 .0) (j .result) 3 (omega arith)
+    .1 .1 .1 .0) (j .last .1 .1 .1 .1 .1 .0) (j .result) 3 below3
     (turn3 (c .before .before .before .before .before .before .before .before .before .before .before .before .before))
 
 split-edge-requires-5 : tie.Need-split-edge-requires-5
@@ -429,7 +451,7 @@ split-edge-requires-5 c κs =
     turn-ready (a .cells .now) (a .c) (a .status) (q .result) (a .n) (a .xs .now) (a .ys .now) (a .heads .now) (a .links .now) (a
     .m) (s .pre) (q .ensures)
     (j .last .1 .1 .1 .1 .1 .1 .0) (j .last .1 .1 .1 .1 .1 .1 .1 .0) (j .last .1 .1 .1 .1 .1 .1 .1 .1 .0) (j .last .1 .1 .1 .1 .1 .1
-    .1 .1 .1 .0) (j .last .1 .1 .1 .1 .1 .0) (j .result) 4 (omega arith)
+    .1 .1 .1 .0) (j .last .1 .1 .1 .1 .1 .0) (j .result) 4 below4
     (turn4 (c .before .before .before .before .before .before .before .before .before .before .before .before .before))
 
 split-edge-requires-6 : tie.Need-split-edge-requires-6
@@ -451,7 +473,7 @@ split-edge-requires-6 c κs =
     turn-ready (a .cells .now) (a .c) (a .status) (q .result) (a .n) (a .xs .now) (a .ys .now) (a .heads .now) (a .links .now) (a
     .m) (s .pre) (q .ensures)
     (j .last .1 .1 .1 .1 .1 .1 .0) (j .last .1 .1 .1 .1 .1 .1 .1 .0) (j .last .1 .1 .1 .1 .1 .1 .1 .1 .0) (j .last .1 .1 .1 .1 .1 .1
-    .1 .1 .1 .0) (j .last .1 .1 .1 .1 .1 .0) (j .result) 5 (omega arith)
+    .1 .1 .1 .0) (j .last .1 .1 .1 .1 .1 .0) (j .result) 5 below5
     (turn5 (c .before .before .before .before .before .before .before .before .before .before .before .before .before))
 
 same-length : tie.Need-same-length
@@ -484,7 +506,7 @@ returns c =
     turn-all (cellAt (a .cells .now) (a .c)) (q .result) (a .n) (a .xs .now) (a .ys .now) (a .heads .now) (a .links .now) (a .m)
     (i .last .1 .1 .1 .1 .1 .1 .0) (i .last .1 .1 .1 .1 .1 .1 .1 .0) (i .last .1 .1 .1 .1 .1 .1 .1 .1 .0) (i .last .1 .1 .1 .1 .1 .1
     .1 .1 .1 .0) (i .last .1 .1 .1 .1 .1 .0) (i .result) 6
-    (turn6 (c .before .before .before .before .before .before .before .before)) (omega arith) (a .status) (q .ensures)
+    (turn6 (c .before .before .before .before .before .before .before .before)) all (a .status) (q .ensures)
 
 pub points-of-spec : {M : Type 1} → statement M
 points-of-spec =
