@@ -20,10 +20,10 @@ use Rattle.base.specs.Every.{All, all-append, all-at}
 use Rattle.ancestors.specs.Linked.{linkedPath, parentAt, Descends, Linked}
 
 -- the cell c is a child of one of the cells l
-pub record KidOf {A : Type 0} (l : List (Cell A)) (c : Cell A) : Type 0 where
-  pub below : c .parent < length l
-  pub number : ℕ
-  pub path : c .path ≡ linkedPath l (c .parent) ++ (number ∷ [])
+record KidOf {A : Type 0} (l : List (Cell A)) (c : Cell A) : Type 0 where
+  below : c .parent < length l
+  number : ℕ
+  path : c .path ≡ linkedPath l (c .parent) ++ (number ∷ [])
 
 -- children behind linked cells
 module _ {A : Type 0} (l m : List (Cell A)) where
@@ -56,7 +56,7 @@ module _ {A : Type 0} (l m : List (Cell A)) where
         path = p ∙ c .path ∙ ap (λ (r : List ℕ). r ++ (c .number ∷ [])) (sym q ∙ ap (linkedPath (l ++ m)) (sym e));
       }
 
-  pub grown : Linked l → All (KidOf l) m → Linked (l ++ m)
+  grown : Linked l → All (KidOf l) m → Linked (l ++ m)
   grown o a = record { link = λ k h. go k h (ltb k (length l)) refl }
     where
       old : (k : ℕ) → k < length l → (linkedPath (l ++ m) k ≡ k ∷ []) ⊎ Descends (l ++ m) k

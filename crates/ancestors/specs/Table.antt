@@ -36,18 +36,18 @@ module _ (ks : List Corner) (cs : List (Cell Point)) (l : Linked cs) (four : All
   unfolding numbered
   held = ap (λ (m : ℕ). take (8 * m) t) size ∙ rows ∙ rows-map ks cs
 
-  pub rows-upward : (c : ℕ) → c < length cs → Upward t (c + 1)
+  rows-upward : (c : ℕ) → c < length cs → Upward t (c + 1)
   unfolding numbered
   rows-upward c h =
       upward-to (upward numbered (map-linked (numberIn ks) cs l) (map-four (numberIn ks) cs four) t held) c (omega (arith, size))
 
-  pub rows-climb : (c : ℕ) → c < length cs → (d : Cell Point) → climbFrom t c c ≡ ancestorOf (getD cs c d)
+  rows-climb : (c : ℕ) → c < length cs → (d : Cell Point) → climbFrom t c c ≡ ancestorOf (getD cs c d)
   unfolding numbered mapCell
   rows-climb c h d =
       climb-right numbered (map-linked (numberIn ks) cs l) (map-four (numberIn ks) cs four) t held c (omega (arith, size))
       ∙ ap ancestorOf (List·getD-map (mapCell (numberIn ks)) cs c noCell) ∙ ap ancestorOf (default-free cs c noCell d h)
 
-  pub rows-level : (c : ℕ) → c < length cs → (d : Cell Point) → levelIn t c ≡ pred (length (getD cs c d .path))
+  rows-level : (c : ℕ) → c < length cs → (d : Cell Point) → levelIn t c ≡ pred (length (getD cs c d .path))
   unfolding numbered mapCell
   rows-level c h d =
       level-held numbered (map-linked (numberIn ks) cs l) (map-four (numberIn ks) cs four) t held c (omega (arith, size))

@@ -17,7 +17,7 @@ use Rattle.rows.specs.Laws.{rows-size, row-at}
 
 -- a path has at least one number
 module _ {A : Type 0} (cs : List (Cell A)) (l : Linked cs) where
-  pub path-some : (k : ℕ) → k < length cs → 0 < length (linkedPath cs k)
+  path-some : (k : ℕ) → k < length cs → 0 < length (linkedPath cs k)
   path-some k h =
       ⊎-elim (λ (e : linkedPath cs k ≡ k ∷ []). rw e (omega arith))
       (λ (c : Descends cs k). rw (c .path) (omega (arith, length-append (linkedPath cs (parentAt cs k)) (c .number ∷ []))))

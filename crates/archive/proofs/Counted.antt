@@ -23,7 +23,7 @@ unfolding formb
 form-short bs w = leb→le (length bs) 65536 (and-left (leb (length bs) 65536) (stepsIn (length bs) [] (behindCells bs) .ok) w)
 
 module _ (bs : List ℕ) {v t m g : ℕ} (c : Counts (jobOf bs) v t m g) where
-  pub corners-counted : v ≡ recordsIn 86 13 (length bs) bs
+  corners-counted : v ≡ recordsIn 86 13 (length bs) bs
   unfolding jobOf
   corners-counted = omega (arith, c .corners-are, corners-many (length bs) bs)
 

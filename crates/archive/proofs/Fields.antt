@@ -31,10 +31,10 @@ whole-four bs at h =
     )
     (omega arith)
 
-abbrev pub cornerPlace : ℕ → ℕ
+abbrev cornerPlace : ℕ → ℕ
 cornerPlace k = 13 * (k / 3) + 4 * (k % 3) + 1
 
-abbrev pub cellPlace : ℕ → ℕ
+abbrev cellPlace : ℕ → ℕ
 cellPlace k = 9 * (k / 4) + 2 * (k % 4) + 1
 
 module _ (bs : List ℕ) (x y z : ℤ) (ps : List ℤ)
@@ -75,7 +75,7 @@ module _ (bs : List ℕ) (w x y z : ℕ) (ts : List ℕ)
       let e : 9 + cellPlace k ≡ cellPlace (suc (suc (suc (suc k)))) = omega arith in
       i k (omega arith) ∙ rw (drop-drop (cellPlace k) 9 bs, e)
 
-pub cell-at : (f : ℕ) (bs : List ℕ) (k : ℕ) → k < length (cellRecords f bs .0) → getD (cellRecords f bs .0) k 0 ≡ u16At bs (cellPlace k)
+cell-at : (f : ℕ) (bs : List ℕ) (k : ℕ) → k < length (cellRecords f bs .0) → getD (cellRecords f bs .0) k 0 ≡ u16At bs (cellPlace k)
 unfolding cellRecords
 cell-at zero bs k h = absurd (omega arith)
 cell-at (suc f) bs k h = go (startsb 84 9 bs) refl k h (cell-at f (drop 9 bs))

@@ -36,7 +36,7 @@ high x h =
     ∙ rw (toZ-pos w32 (4294967295 - x) l, less (4294967295 - x), le-ltb x 2147483648 h, signed)
 
 -- n where z is -1 - n
-abbrev pub under : ℤ → ℕ
+abbrev under : ℤ → ℕ
 under (pos n) = 0
 under (negsuc n) = n
 

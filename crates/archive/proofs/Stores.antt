@@ -14,14 +14,11 @@ use lib.ListN.{length, getD, take, set, length-append, length-set}
 use lib.Seq.{sets, length-sets, take-suc, take-all, length-take-le}
 use Rattle.archive.specs.Job.{bytes, word, cornerBytes, cellBytes, markBytes}
 use Rattle.archive.specs.Measure.{corner-length, cell-length}
-
-sets-append : (l : List ℕ) (i : ℕ) (u v : List ℕ) → sets (sets l i u) (i + length u) v ≡ sets l i (u ++ v)
-sets-append l i [] v = let e : i + 0 ≡ i = omega arith in rw e
-sets-append l i (a ∷ u) v = let e : i + suc (length u) ≡ suc i + length u = omega arith in rw e (sets-append (set l i a) (suc i) u v)
+use Rattle.base.specs.Append.{sets-append}
 
 pub then-sets : (l : List ℕ) (i : ℕ) {t : List ℕ} {j : ℕ} (u v : List ℕ) → t ≡ sets l i u → j ≡ i + length u
     → sets t j v ≡ sets l i (u ++ v)
-then-sets l i u v e q = rw (e, q) (sets-append l i u v)
+then-sets l i u v e q = rw (e, q) (sym (sets-append u v l i))
 
 pub sets-length : (l : List ℕ) (i : ℕ) {t : List ℕ} (u : List ℕ) → t ≡ sets l i u → length t ≡ length l
 sets-length l i u e = rw e (length-sets l i u)

@@ -18,28 +18,24 @@ use Rattle.archive.specs.Job.{bytes, markBytes, stepBytes}
 use Rattle.archive.specs.Tables.{Mark, stepsFrom}
 use Rattle.archive.specs.Measure.{stepsBytes, marks-length, steps-length}
 use Rattle.archive.proofs.Loading.{flatten-append}
+use Rattle.base.specs.Append.{flat-snoc}
 
 unfoldable pub wayBytes : List (List Mark) → List Mark → List ℕ
 unfolding flatMap stepBytes markBytes
 wayBytes done since = flatMap stepBytes done ++ flatMap markBytes since
 
-flatMap-snoc : {A : Type 0} (f : A → List ℕ) (xs : List A) (x : A) → flatMap f (xs ++ (x ∷ [])) ≡ flatMap f xs ++ f x
-unfolding flatMap
-flatMap-snoc f [] x = append-nil (f x)
-flatMap-snoc f (y ∷ xs) x = ap (λ (t : List ℕ). f y ++ t) (flatMap-snoc f xs x) ∙ sym (append-assoc (f y) (flatMap f xs) (f x))
-
 pub way-bytes-mark : (done : List (List Mark)) (since : List Mark) (x : Mark) → wayBytes done (since ++ (x ∷ [])) ≡ wayBytes done since
     ++ markBytes x
 unfolding wayBytes
 way-bytes-mark done since x =
-    ap (λ (t : List ℕ). flatMap stepBytes done ++ t) (flatMap-snoc markBytes since x)
+    ap (λ (t : List ℕ). flatMap stepBytes done ++ t) (flat-snoc markBytes since x)
     ∙ sym (append-assoc (flatMap stepBytes done) (flatMap markBytes since) (markBytes x))
 
 pub way-bytes-step : (done : List (List Mark)) (since : List Mark) → wayBytes (done ++ (since ∷ [])) [] ≡ wayBytes done since ++ (71 ∷ [])
 unfolding wayBytes stepBytes flatMap
 way-bytes-step done since =
     append-nil (flatMap stepBytes (done ++ (since ∷ [])))
-    ∙ flatMap-snoc stepBytes done since
+    ∙ flat-snoc stepBytes done since
     ∙ sym (append-assoc (flatMap stepBytes done) (flatMap markBytes since) (71 ∷ []))
 
 pub way-bytes-end : (done : List (List Mark)) → wayBytes done [] ++ (69 ∷ []) ≡ stepsBytes done
@@ -56,7 +52,7 @@ unfolding wayBytes
 way-length done since =
     omega (arith, length-append (flatMap stepBytes done) (flatMap markBytes since), marks-length since, steps-length done, done-length done)
 
-pub mark-length : (x : Mark) → length (markBytes x) ≡ 4
+mark-length : (x : Mark) → length (markBytes x) ≡ 4
 unfolding markBytes bytes
 mark-length x = refl
 
@@ -64,7 +60,7 @@ unfoldable pub restFrom : List Mark → ℕ → List Mark → List ℕ → List 
 restFrom since m ms [] = []
 restFrom since m ms (e ∷ es) = (since ++ take (e - m) (drop m ms)) ∷ stepsFrom e ms es
 
-pub rest-none : (m : ℕ) (ms : List Mark) (es : List ℕ) → stepsFrom m ms es ≡ restFrom [] m ms es
+rest-none : (m : ℕ) (ms : List Mark) (es : List ℕ) → stepsFrom m ms es ≡ restFrom [] m ms es
 unfolding stepsFrom restFrom
 rest-none m ms [] = refl
 rest-none m ms (e ∷ es) = refl
@@ -72,7 +68,7 @@ rest-none m ms (e ∷ es) = refl
 abbrev pub none : Mark
 none = (0, 0)
 
-pub rest-mark : (since : List Mark) (m : ℕ) (ms : List Mark) (e : ℕ) (es : List ℕ) → m < e → e ≤ length ms
+rest-mark : (since : List Mark) (m : ℕ) (ms : List Mark) (e : ℕ) (es : List ℕ) → m < e → e ≤ length ms
     → restFrom since m ms (e ∷ es) ≡ restFrom (since ++ (getD ms m none ∷ [])) (m + 1) ms (e ∷ es)
 unfolding restFrom
 rest-mark since m ms e es g h =
@@ -80,7 +76,7 @@ rest-mark since m ms e es g h =
     let b : m + 1 ≡ suc m = omega arith in
     rw (a, drop-cons ms m none (omega arith), b, append-assoc since (getD ms m none ∷ []) (take (e - suc m) (drop (suc m) ms)))
 
-pub rest-step : (since : List Mark) (m : ℕ) (ms : List Mark) (e : ℕ) (es : List ℕ) → e ≡ m
+rest-step : (since : List Mark) (m : ℕ) (ms : List Mark) (e : ℕ) (es : List ℕ) → e ≡ m
     → restFrom since m ms (e ∷ es) ≡ since ∷ restFrom []
     m ms es
 unfolding restFrom
@@ -121,7 +117,7 @@ way-start ms es from =
     }
 
 module _ {ms : List Mark} {es : List ℕ} {from at m s : ℕ} (w : Way ms es from at m s) where
-  pub turn-mark : s < length es → m < getD es s 0 → getD es s 0 ≤ length ms
+  turn-mark : s < length es → m < getD es s 0 → getD es s 0 ≤ length ms
       → restFrom (w .since) m ms (drop s es) ≡ restFrom (w .since ++ (getD ms m none ∷ [])) (m + 1) ms (drop s es)
   turn-mark h g k = rw (drop-cons es s 0 h) (rest-mark (w .since) m ms (getD es s 0) (drop (suc s) es) g k)
 
@@ -144,7 +140,7 @@ module _ {ms : List Mark} {es : List ℕ} {from at m s : ℕ} (w : Way ms es fro
         near = w .near;
       }
 
-  pub turn-step : s < length es → getD es s 0 ≤ m → restFrom (w .since) m ms (drop s es) ≡ w .since ∷ restFrom [] m ms (drop (s + 1) es)
+  turn-step : s < length es → getD es s 0 ≤ m → restFrom (w .since) m ms (drop s es) ≡ w .since ∷ restFrom [] m ms (drop (s + 1) es)
   turn-step h g =
       let n : s + 1 ≡ suc s = omega arith in
       rw (n, drop-cons es s 0 h) (rest-step (w .since) m ms (getD es s 0) (drop (suc s) es) (omega (arith, w .low h)))

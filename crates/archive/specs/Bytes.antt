@@ -27,7 +27,7 @@ pub octets-drop : {bs : List ℕ} → Octets bs → (i : ℕ) → Octets (drop i
 octets-drop {bs} o i =
     record { small = λ k h. rw (getD-drop i bs k 0) (o .small (i + k) (omega (arith, length-drop i bs))) }
 
-pub octets-tail : {b : ℕ} {bs : List ℕ} → Octets (b ∷ bs) → Octets bs
+octets-tail : {b : ℕ} {bs : List ℕ} → Octets (b ∷ bs) → Octets bs
 octets-tail o = octets-drop o 1
 
 pub two-back : (x : ℕ) (l : List ℕ) → x < 65536 → whole 2 (bytes 2 x ++ l) ≡ x

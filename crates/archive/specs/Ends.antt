@@ -24,7 +24,7 @@ unfoldable pub Climbs : ℕ → ℕ → List ℕ → Type 0
 Climbs p n [] = Unit {0}
 Climbs p n (e ∷ es) = (p ≤ e) × (e ≤ n) × Climbs e n es
 
-pub climbs-of : (p n : ℕ) (es : List ℕ) → (0 < length es → p ≤ getD es 0 0)
+climbs-of : (p n : ℕ) (es : List ℕ) → (0 < length es → p ≤ getD es 0 0)
     → ((k : ℕ) → k + 1 < length es → getD es k 0 ≤ getD es (k + 1) 0)
     → ((k : ℕ) → k < length es → getD es k 0 ≤ n) → Climbs p n es
 unfolding Climbs

@@ -14,6 +14,7 @@ use Rattle.archive.specs.Job.{Job}
 use Rattle.archive.specs.Form.{Steps, stepsIn}
 use Rattle.archive.specs.Tables.{markedOf, marksOf, endsOf}
 
+-- Rule 9.1: written in front.
 abbrev pub inFront : {A : Type 0} → List A → List A → List A
 inFront xs t = xs ++ drop (length xs) t
 

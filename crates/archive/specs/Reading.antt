@@ -24,7 +24,7 @@ pub no-start : (l k : ℕ) (bs : List ℕ) → (letter bs ≡ l → ⊥) → sta
 unfolding startsb
 no-start l k bs h = rw (ne-eqb (letter bs) l h)
 
-pub start : (l k : ℕ) (bs : List ℕ) → letter bs ≡ l → k ≤ length bs → startsb l k bs ≡ true
+start : (l k : ℕ) (bs : List ℕ) → letter bs ≡ l → k ≤ length bs → startsb l k bs ≡ true
 unfolding startsb
 start l k bs e h = rw (eq-eqb (letter bs) l e, le-leb k (length bs) h)
 
@@ -51,7 +51,7 @@ corner-first f x y z l a b c =
     let t : startsb 86 13 bs ≡ true = start 86 13 bs refl (omega arith) in
     rw (t, cornerRecords, back x (bytes 4 (word y) ++ (bytes 4 (word z) ++ l)) a, back y (bytes 4 (word z) ++ l) b, back z l c)
 
-pub corners-read : (f : ℕ) (ps : List ℤ) (l : List ℕ) → length ps % 3 ≡ 0 → Each Word ps → (letter l ≡ 86 → ⊥) → length ps ≤ f
+corners-read : (f : ℕ) (ps : List ℤ) (l : List ℕ) → length ps % 3 ≡ 0 → Each Word ps → (letter l ≡ 86 → ⊥) → length ps ≤ f
     → cornerRecords f (cornerBytes ps ++ l) ≡ (ps, l)
 unfolding cornerBytes Each
 corners-read f [] l m w n h = corners-stop f l n
@@ -80,7 +80,7 @@ cell-first f a b c d l p q r s =
       two-back d l s,
     )
 
-pub cells-read : (f : ℕ) (ts : List ℕ) (l : List ℕ) → length ts % 4 ≡ 0 → Each TwoBytes ts → (letter l ≡ 84 → ⊥) → length ts ≤ f
+cells-read : (f : ℕ) (ts : List ℕ) (l : List ℕ) → length ts % 4 ≡ 0 → Each TwoBytes ts → (letter l ≡ 84 → ⊥) → length ts ≤ f
     → cellRecords f (cellBytes ts ++ l) ≡ (ts, l)
 unfolding cellBytes Each
 cells-read f [] l m w n h = cells-stop f l n
@@ -157,7 +157,7 @@ steps-read (suc f) ms [] (ns ∷ s) r e h =
     (omega (arith, ap length (tail-is ns s))) in
     step-first f ms (stepsBytes (ns ∷ s)) ∙ rw (tail-is ns s, i, append-nil ms)
 
-pub steps-all : (f : ℕ) (s : List (List Mark)) → Each (Rises 0) s → length (stepsBytes s) ≤ f
+steps-all : (f : ℕ) (s : List (List Mark)) → Each (Rises 0) s → length (stepsBytes s) ≤ f
     → stepsIn f [] (stepsBytes s) ≡ record { ok = true; steps = s }
 unfolding stepsBytes flatMap Each leastOf
 steps-all f [] e h = last-read f (omega arith)

@@ -54,7 +54,7 @@ module _ (f : ℕ) (bs : List ℕ) where
   unfolding cellRecords
   cells-none t = rw (t, cellRecords)
 
-  pub corners-next : startsb 86 13 bs ≡ true → cornerRecords (suc f) bs .1 ≡ cornerRecords f (drop 13 bs) .1
+  corners-next : startsb 86 13 bs ≡ true → cornerRecords (suc f) bs .1 ≡ cornerRecords f (drop 13 bs) .1
   unfolding cornerRecords
   corners-next t = rw (t, cornerRecords)
 
@@ -63,7 +63,7 @@ module _ (f : ℕ) (bs : List ℕ) where
   unfolding cornerRecords
   corners-longer t = rw (t, cornerRecords)
 
-  pub cell-records-next : startsb 84 9 bs ≡ true → cellRecords (suc f) bs .1 ≡ cellRecords f (drop 9 bs) .1
+  cell-records-next : startsb 84 9 bs ≡ true → cellRecords (suc f) bs .1 ≡ cellRecords f (drop 9 bs) .1
   unfolding cellRecords
   cell-records-next t = rw (t, cellRecords)
 

@@ -16,9 +16,11 @@ use Rattle.archive.specs.Job.{Job}
 abbrev pub Mark : Type 0
 Mark = ℕ × ℕ
 
+-- Rule 10.1.
 abbrev pub cellOf : Mark → ℕ
 cellOf m = m .0
 
+-- Rule 10.1.
 abbrev pub markOf : Mark → ℕ
 markOf m = m .1
 

@@ -19,6 +19,7 @@ unfoldable pub Rises : ℕ → List Mark → Type 0
 Rises least [] = Unit {0}
 Rises least (m ∷ ms) = (least ≤ m .0) × (m .0 < 65536) × (1 ≤ m .1) × (m .1 ≤ 2) × Rises (suc (m .0)) ms
 
+-- Rule 10.2: a number that a u16 holds.
 abbrev pub TwoBytes : ℕ → Type 0
 TwoBytes x = x < 65536
 

@@ -31,7 +31,7 @@ head-is l [] h e = absurd (omega arith)
 head-is l (b ∷ bs) h e = ap (λ (x : ℕ). x ∷ bs) (sym e)
 
 module _ {bs : List ℕ} (o : Octets bs) where
-  pub piece : (k i : ℕ) → i + k ≤ length bs → bytes k (whole k (drop i bs)) ++ drop (i + k) bs ≡ drop i bs
+  piece : (k i : ℕ) → i + k ≤ length bs → bytes k (whole k (drop i bs)) ++ drop (i + k) bs ≡ drop i bs
   piece k i h =
       rw (bytes-back k (drop i bs) (omega (arith, length-drop i bs)) (octets-drop o i), ← drop-drop k i bs)
       (take-append-drop k (drop i bs))

@@ -75,9 +75,9 @@ marks-snoc (n ∷ ms) m l =
     ∙ ap (λ (t : List ℕ). markBytes n ++ t) (marks-snoc ms m l)
     ∙ sym (append-assoc (markBytes n) (flatMap markBytes ms) (markBytes m ++ l))
 
-pub record Behind (ms : List Mark) (bs : List ℕ) (r : Steps) : Type 0 where
-  pub written : stepsBytes (r .steps) ≡ flatMap markBytes ms ++ bs
-  pub rising : Each (Rises 0) (r .steps)
+record Behind (ms : List Mark) (bs : List ℕ) (r : Steps) : Type 0 where
+  written : stepsBytes (r .steps) ≡ flatMap markBytes ms ++ bs
+  rising : Each (Rises 0) (r .steps)
 
 -- E alone
 only-end : (ms : List Mark) (bs : List ℕ) → T (startsb 69 1 bs && (emptyb ms && eqb (length bs) 1))
@@ -139,7 +139,7 @@ none : Rises 0 []
 unfolding Rises
 none = tt
 
-pub steps-written : (f : ℕ) (ms : List Mark) (bs : List ℕ) → Octets bs → Rises 0 ms → T (stepsIn f ms bs .ok)
+steps-written : (f : ℕ) (ms : List Mark) (bs : List ℕ) → Octets bs → Rises 0 ms → T (stepsIn f ms bs .ok)
     → Behind ms bs (stepsIn f ms bs)
 steps-written zero ms bs o r t = absurd (no-fuel ms bs t)
 steps-written (suc f) ms bs o r t =

@@ -65,7 +65,7 @@ abbrev pub Shares : Cell Point → Cell Point → ℕ → Type 0
 Shares c q i = (m : ℕ) × (i < 4) × (m < 4) × (corner [] c i ≡ corner [] q m)
 
 module _ (n k : ℕ) (c q : Cell Point) (h : k < 10) (r : Regular n k c) (s : Regular n k q) where
-  pub held-between : (i j : ℕ) → i < j → Shares c q i → Shares c q j → T (heldb sameb (edges [] q) (edge [] c (edgeOf (digit i j))))
+  held-between : (i j : ℕ) → i < j → Shares c q i → Shares c q j → T (heldb sameb (edges [] q) (edge [] c (edgeOf (digit i j))))
   held-between i j l (m, _, hm, e) (m', hj, hm', e') =
       let w : m < m' = lower-too n k c q r s i j m m' hj hm e e' l in
       held-at [] q sameb (edge [] c (edgeOf (digit i j))) (edgeOf (digit m m')) (between-below m m' w hm')
@@ -104,7 +104,7 @@ module _ (n k : ℕ) (c q : Cell Point) (h : k < 10) (r : Regular n k c) (s : Re
         let (b0, b1) = digit-ends b hb in
         ((low a, omega arith, omega arith, x0), ((high a, d1, a1, x1), ((low b, omega arith, omega arith, y0), ((high b, e1, b1, y1), tt))))
 
-    pub carried : (p : ℕ) → p < 64 → ((z : ℕ) → z < 6 → T (heldb sameb (edges [] q) (edge [] c z)) → T (split p z))
+    carried : (p : ℕ) → p < 64 → ((z : ℕ) → z < 6 → T (heldb sameb (edges [] q) (edge [] c z)) → T (split p z))
         → T (joinedb (family p) d e)
     unfolding impb
     carried p hp f =
@@ -118,7 +118,7 @@ module _ (n k : ℕ) (c q : Cell Point) (h : k < 10) (r : Regular n k c) (s : Re
         go i j u v true w = let l : i < j = ltb-true i j w in f (edgeOf (digit i j)) (between-below i j l (v .1)) (held-between i j l u v)
         go i j u v false w = tt
 
-    pub shared : (d ≡ e → ⊥) → (z : ℕ) × (z < 6) × T (heldb sameb (edges [] q) (edge [] c z))
+    shared : (d ≡ e → ⊥) → (z : ℕ) × (z < 6) × T (heldb sameb (edges [] q) (edge [] c z))
     shared w =
         let u = corners-shared in
         ⊎-elim (λ (l : low d < high d). (

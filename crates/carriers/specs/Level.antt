@@ -20,7 +20,7 @@ use Rattle.lattice.specs.Edges.{joins}
 use Rattle.carriers.specs.Lists.{held-which}
 
 module _ (n m l : ℕ) (q : Cell Point) (s : Regular n m q) where
-  pub not-both-on : l < m → m ≤ 10 → (i j : ℕ) → i < j → j < 4 → On l (corner [] q i) → On l (corner [] q j) → ⊥
+  not-both-on : l < m → m ≤ 10 → (i j : ℕ) → i < j → j < 4 → On l (corner [] q i) → On l (corner [] q j) → ⊥
   not-both-on h g i j hi hj a b =
       let x = s .coordinates in
       let (p, w) = gap x (s .kuhn) i j hi hj in

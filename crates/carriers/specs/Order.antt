@@ -31,7 +31,7 @@ beq-self true = tt
 beq-self false = tt
 
 module _ (n m : ℕ) (c q : Cell Point) (r : Regular n m c) (s : Regular n m q) where
-  pub ltb-too : (i j k l : ℕ) → i < 4 → j < 4 → k < 4 → l < 4 → corner [] c i ≡ corner [] q k → corner [] c j ≡ corner [] q l
+  ltb-too : (i j k l : ℕ) → i < 4 → j < 4 → k < 4 → l < 4 → corner [] c i ≡ corner [] q k → corner [] c j ≡ corner [] q l
       → ltb i j ≡ ltb k l
   ltb-too i j k l hi hj hk hl e f = go (ltb i j) refl (ltb k l) refl
     where

@@ -38,9 +38,3 @@ module _ {A : Type 0} (o : A) (same : A → A → Bool) (es : List (A × A)) (c 
   split-pattern x h =
       split-bits (map (heldb same es) (edges o c)) x
       ∙ getD-map (heldb same es) (edges o c) x (o, o) false (omega (arith, edge-count o c)) ∙ ap (heldb same es) (edge-at o c x h)
-
-  pub pattern-six : pattern o same es c < 64
-  unfolding pattern edges bitsOf
-  pattern-six =
-      let held : ℕ → Bool = λ e. heldb same es (edge o c e) in
-      omega (arith, one-most (held 0), one-most (held 1), one-most (held 2), one-most (held 3), one-most (held 4), one-most (held 5))

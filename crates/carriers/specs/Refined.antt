@@ -1,6 +1,6 @@
 -- A cell that the red cells of its level split: what its own family joins.
 --   StatusIn es c s   s is the status of c where es are the edges of its level's red cells
--- Laws: status-regular, status-green, pattern-red, pattern-green, pattern-small (what a status says); joined-here and refined-here
+-- Laws: status-regular, status-green, pattern-red, pattern-green, asked-small (what a status says); joined-here and refined-here
 -- (a cell that shares an edge of a red cell's child: its own family joins the ends of that edge, and it is refined).
 use mathlib.Core.Path.{_≡_, refl, sym, _∙_, ap}
 use mathlib.Core.Logic.{_≢_}
@@ -15,9 +15,10 @@ use Rattle.cutting.specs.Rule.{split, family}
 use Rattle.families.specs.Faces.{joinedb}
 use Rattle.mesh.specs.Cells.{Cell, redb, patternOf, edge, edges, joinsb, heldb, pattern, statusOf}
 use Rattle.mesh.specs.Weights.{Point, point}
+use Rattle.mesh.specs.Laws.{pattern-small}
 use Rattle.lattice.specs.Regular.{Regular}
 use Rattle.carriers.specs.Carrier.{carried-edge, shared-edge}
-use Rattle.carriers.specs.Patterns.{split-none, split-red, split-pattern, pattern-six}
+use Rattle.carriers.specs.Patterns.{split-none, split-red, split-pattern}
 use Rattle.carriers.specs.Joins.{Edge}
 
 abbrev pub StatusIn : List Edge → Cell Point → ℕ → Type 0
@@ -44,14 +45,14 @@ pub pattern-green : (s : ℕ) → redb s ≡ false → patternOf s ≡ s
 unfolding patternOf
 pattern-green s e = rw (e, patternOf)
 
-pub pattern-small : (es : List Edge) (c : Cell Point) (s : ℕ) → StatusIn es c s → patternOf s < 64
+pub asked-small : (es : List Edge) (c : Cell Point) (s : ℕ) → StatusIn es c s → patternOf s < 64
 unfolding statusOf
-pattern-small es c s q = go (redb s) refl (c .regular) refl
+asked-small es c s q = go (redb s) refl (c .regular) refl
   where
     go : (b : Bool) → redb s ≡ b → (d : Bool) → c .regular ≡ d → patternOf s < 64
     go true e d f = rw (pattern-red s e) (omega arith)
     go false e true f = let w : s ≡ pattern [] sameb es c = status-green es c s q (rw f tt) e in
-        rw (pattern-green s e, w) (pattern-six [] sameb es c)
+        rw (pattern-green s e, w) (pattern-small [] sameb es c)
     go false e false f = let w : s ≡ 0 = rw (f, statusOf) at q in rw (pattern-green s e, w) (omega arith)
 
 module _ (n k : ℕ) (g p : Cell Point) (h : k < 10) (r : Regular n k g) (s : Regular n k p) (es : List Edge)
@@ -60,7 +61,7 @@ module _ (n k : ℕ) (g p : Cell Point) (h : k < 10) (r : Regular n k g) (s : Re
     (d e a b : ℕ) (hd : d < 10) (he : e < 10) (ha : a < 10) (hb : b < 10) (j : T (joinedb (family 63) a b))
     (x : T (joinsb sameb (point g d, point g e) (point p a, point p b))) where
   pub joined-here : T (joinedb (family (patternOf t)) d e)
-  joined-here = carried-edge n k g p h r s d e a b hd he ha hb j x (patternOf t) (pattern-small es g t q)
+  joined-here = carried-edge n k g p h r s d e a b hd he ha hb j x (patternOf t) (asked-small es g t q)
       (λ z hz u. go (redb t) refl z hz (reds (edge [] g z) u))
     where
       go : (b : Bool) → redb t ≡ b → (z : ℕ) → z < 6 → T (heldb sameb es (edge [] g z)) → T (split (patternOf t) z)

@@ -18,7 +18,7 @@ use Rattle.edges.specs.Table.{listed}
 use Rattle.closure.specs.Ready.{listedPattern, listedStatus, listedClosed}
 use Rattle.rows.specs.Laws.{cells-cons}
 
--- the six tests of a cell
+-- Rule 6.2: the six tests of a cell.
 abbrev pub tests : List Pair → Cell ℕ → List Bool
 tests es c = map (λ e. hasb isb es (sorted e)) (edges 0 c)
 
@@ -53,16 +53,16 @@ bits-2 es c = omega (arith, bits-more es c 2 (omega arith), bits-3 es c, one-mos
 bits-1 : (es : List Pair) (c : Cell ℕ) → bitsOf (drop 1 (tests es c)) ≤ 31
 bits-1 es c = omega (arith, bits-more es c 1 (omega arith), bits-2 es c, one-most (hasb isb es (sorted (edge 0 c 1))))
 
-pub bits-small : (es : List Pair) (c : Cell ℕ) (e : ℕ) → e < 6 → bitsOf (drop (suc e) (tests es c)) ≤ 31
-bits-small es c zero h = bits-1 es c
-bits-small es c (suc zero) h = omega (arith, bits-2 es c)
-bits-small es c (suc (suc zero)) h = omega (arith, bits-3 es c)
-bits-small es c (suc (suc (suc zero))) h = omega (arith, bits-4 es c)
-bits-small es c (suc (suc (suc (suc zero)))) h = omega (arith, bits-5 es c)
-bits-small es c (suc (suc (suc (suc (suc zero))))) h = omega (arith, no-bits es c)
-bits-small es c (suc (suc (suc (suc (suc (suc e)))))) h = absurd (omega arith)
+pub tail-small : (es : List Pair) (c : Cell ℕ) (e : ℕ) → e < 6 → bitsOf (drop (suc e) (tests es c)) ≤ 31
+tail-small es c zero h = bits-1 es c
+tail-small es c (suc zero) h = omega (arith, bits-2 es c)
+tail-small es c (suc (suc zero)) h = omega (arith, bits-3 es c)
+tail-small es c (suc (suc (suc zero))) h = omega (arith, bits-4 es c)
+tail-small es c (suc (suc (suc (suc zero)))) h = omega (arith, bits-5 es c)
+tail-small es c (suc (suc (suc (suc (suc zero))))) h = omega (arith, no-bits es c)
+tail-small es c (suc (suc (suc (suc (suc (suc e)))))) h = absurd (omega arith)
 
-pub part-cons : (l : List ℕ) (k m : ℕ) → k < length l → part l k (suc m) ≡ getD l k 0 ∷ part l (suc k) m
+part-cons : (l : List ℕ) (k m : ℕ) → k < length l → part l k (suc m) ≡ getD l k 0 ∷ part l (suc k) m
 part-cons l k m h = rw (drop-cons l k 0 h)
 
 module _ (es : List Pair) (t l : List ℕ) where
@@ -112,7 +112,7 @@ module _ (es reds : List Pair) (m : Lists es reds) where
   pub held-listed : (e : Pair) → hasb isb es (sorted e) ≡ heldb eqb reds e
   held-listed e = m .has (sorted e) ∙ sym (joins-pair reds e)
 
-  pub pattern-listed : (c : Cell ℕ) → listedPattern es c ≡ pattern 0 eqb reds c
+  pattern-listed : (c : Cell ℕ) → listedPattern es c ≡ pattern 0 eqb reds c
   unfolding listedPattern pattern
   pattern-listed c = ap (λ (f : Pair → Bool). bitsOf (map f (edges 0 c))) (fun-ext held-listed)
 
@@ -136,9 +136,9 @@ unfolding listedPattern edges
 six-bits es c p q r s t u e f g h i j = rw (e, f, g, h, i, j)
 
 -- no edge is listed
-pub none-listed : (xs ys : List ℕ) (from n : ℕ) (c : Cell ℕ) → from ≡ n → listedPattern (listed xs ys from n) c ≡ 0
+pub pattern-unlisted : (xs ys : List ℕ) (from n : ℕ) (c : Cell ℕ) → from ≡ n → listedPattern (listed xs ys from n) c ≡ 0
 unfolding listedPattern pairsOf hasb bitsOf edges one-if
-none-listed xs ys from n c e = let w : n - from ≡ 0 = omega arith in rw w
+pattern-unlisted xs ys from n c e = let w : n - from ≡ 0 = omega arith in rw w
 
 -- the three cases of a status
 module _ (es : List Pair) (r : Bool) (c : Cell ℕ) where

@@ -111,7 +111,7 @@ module _ (xs₀ ys₀ heads₀ links₀ : List ℕ) (from n : ℕ) (c : Cell ℕ
       (edge 0 c e ∷ []) g)
 
 -- the red cells of a range, one cell more
-pub red-snoc : (cs : List (Cell ℕ)) (ss : List ℕ) (c : Cell ℕ) (s : ℕ) → length cs ≡ length ss
+red-snoc : (cs : List (Cell ℕ)) (ss : List ℕ) (c : Cell ℕ) (s : ℕ) → length cs ≡ length ss
     → redEdges 0 (cs ++ (c ∷ [])) (ss ++ (s ∷ [])) ≡ redEdges 0 cs ss ++ redOf s c
 unfolding redEdges redOf
 red-snoc [] [] c s e = go (redb s)
@@ -141,7 +141,7 @@ pub red-not : (s : ℕ) (c : Cell ℕ) → (s ≡ 64 → ⊥) → redOf s c ≡ 
 unfolding redOf
 red-not s c e = rw (ne-eqb s 64 e, redOf)
 
-pub length-red : (s : ℕ) (c : Cell ℕ) → length (redOf s c) ≡ 6 * one-if (redb s)
+length-red : (s : ℕ) (c : Cell ℕ) → length (redOf s c) ≡ 6 * one-if (redb s)
 unfolding redOf edges one-if
 length-red s c = go (redb s)
   where
@@ -167,7 +167,7 @@ count-append [] ts = sym (zero-add (redCount ts))
 count-append (s ∷ ss) ts = omega (arith, count-append ss ts)
 
 module _ (t l : List ℕ) (first : ℕ) where
-  pub reds-more : (m : ℕ) → first + m < length l
+  reds-more : (m : ℕ) → first + m < length l
       → redEdges 0 (cellsAt t first (suc m)) (part l first (suc m)) ≡ redEdges 0 (cellsAt t first m) (part l first m) ++ redOf
       (getD l (first + m) 0) (cellAt t (first + m))
   unfolding cellsAt
@@ -177,7 +177,7 @@ module _ (t l : List ℕ) (first : ℕ) where
       (length-cells t first m ∙ sym (length-part l first m (omega arith))))
 
   -- the red edges of the cells so far and the next one's are within those of the whole range
-  pub reds-within : (m k : ℕ) → m < k → first + k ≤ length l
+  reds-within : (m k : ℕ) → m < k → first + k ≤ length l
       → length (redEdges 0 (cellsAt t first m) (part l first m)) + length (redOf (getD l (first + m) 0) (cellAt t (first + m))) ≤ 6
       * redCount (part l first k)
   reds-within m k h g =

@@ -68,7 +68,8 @@ fn red_cell(
     from: usize,
     n: usize,
 ) -> usize
-    requires { ⌜ Ready (now cells) (now xs) (now ys) (now heads) (now links) (c + 1) from n (length (redOf status (cellAt (now cells) c))) ⌝ }
+    requires { ⌜ Ready (now cells) (now xs) (now ys) (now heads) (now links) (c + 1) from n
+        (length (redOf status (cellAt (now cells) c))) ⌝ }
     ensures { λ r. ⌜ Grown (was xs) (was ys) from n (redOf status (cellAt (was cells) c)) (is xs) (is ys) (is heads) (is links) r ⌝ }
 {
     if status != 64 {

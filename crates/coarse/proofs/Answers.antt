@@ -3,9 +3,9 @@
 use mathlib.Core.Path.{_≡_, sym, _∙_}
 use mathlib.Core.Bool.{Bool, true, false, _&&_, not}
 use mathlib.Core.List.{List, [], _∷_}
-use Prim.Native.Nat.{ℕ, _/_, _%_, _≤_, _<_}
+use Prim.Native.Nat.{ℕ, _/_, _≤_, _<_}
 use native.Mathlib.Omega.{arith}
-use lib.Dec.{T, ltb, eqb→eq, leb→le, ltb→lt, lt→ltb}
+use lib.Dec.{T, ltb, ltb→lt, lt→ltb}
 use lib.IntN.{ℤ}
 use lib.ListN.{length, getD}
 use borrow.Author.Tests.{not-true, not-false}
@@ -15,6 +15,7 @@ use Rattle.base.specs.Bools.{is-true, and-left, and-right}
 use Rattle.base.specs.Fours.{fours}
 use Rattle.base.specs.declared.Answer.the-variants.{Accepted, Refused}
 use Rattle.mesh.specs.Coarse.{cornerCount, countsb, positionsb, cellb, cellsb, solidb, twiceb, singleb, meshAnswer}
+use Rattle.mesh.specs.Laws.{mesh-counts}
 use Rattle.coarse.specs.Cells.{Ranked, crowdedb}
 
 -- what a call answered, and the test of it
@@ -64,15 +65,6 @@ module _ {b : Bool} (qs : List (List ℕ)) (e : b ≡ not (twiceb qs)) where
   half-single t f = f ∙ rw (passed e t)
 
 -- at most 512 corners
-record Counts (ps : List ℤ) (ts : List ℕ) : Type 0 where
-  whole : length ts % 4 ≡ 0
-  corners : length ps / 3 ≤ 512
-  few : length ts / 4 ≤ 256
-
-counts : (ps : List ℤ) (ts : List ℕ) → T (countsb ps ts) → Counts ps ts
-unfolding countsb
-counts ps ts t = search (and-left, and-right, eqb→eq, leb→le)
-
 cell-mono : (n : ℕ) → n ≤ 512 → (q : List ℕ) → T (cellb n q) → T (cellb 512 q)
 unfolding cellb
 cell-mono n h q t =
@@ -94,9 +86,9 @@ cells-mono n h (q ∷ qs) t =
 
 pub ranked : (ps : List ℤ) (ts : List ℕ) → countsb ps ts ≡ true → cellsb (cornerCount ps) (fours ts) ≡ true → Ranked ts
 ranked ps ts a c =
-    let k = counts ps ts (rw a tt) in
+    let k = mesh-counts ps ts (rw a tt) in
     record {
-      whole = k .whole;
-      few = omega (arith, k .whole, k .few);
-      cells = is-true (cellsb 512 (fours ts)) (cells-mono (length ps / 3) (k .corners) (fours ts) (rw c tt));
+      whole = k .fours;
+      few = omega (arith, k .fours, k .few);
+      cells = is-true (cellsb 512 (fours ts)) (cells-mono (length ps / 3) (k .corners-few) (fours ts) (rw c tt));
     }

@@ -13,7 +13,7 @@ use Rattle.base.specs.Lists.{anyb, sameb}
 use Rattle.base.specs.Bools.{one-if}
 use Rattle.base.specs.Fours.{faces, holders}
 use Rattle.coarse.specs.Cells.{crowdedb}
-use Rattle.coarse.specs.Tally.{high, lowFace}
+use Rattle.coarse.specs.Tally.{lead, lowFace}
 use Rattle.coarse.proofs.Rows.{Rising}
 use Rattle.coarse.proofs.Count.{count, count-filter, count-append, count-le, one-le, or-right, any-at, any-never, any-le-count}
 use Rattle.coarse.proofs.Meets.{keyb, key-x, key-y, key-not}
@@ -23,7 +23,7 @@ use Rattle.coarse.proofs.Repeats.{Cells, none, cell, same-key}
 pub data Shape : List ℕ → Type 0 where
   shape : {p q r : ℕ} → q < 512 → Shape (p ∷ q ∷ r ∷ [])
 
-pub face-shape : {qs : List (List ℕ)} → Cells qs → (i : ℕ) → i < length (flatMap faces qs) → Shape (getD (flatMap faces qs) i [])
+face-shape : {qs : List (List ℕ)} → Cells qs → (i : ℕ) → i < length (flatMap faces qs) → Shape (getD (flatMap faces qs) i [])
 unfolding flatMap faces
 face-shape none i h = absurd (omega arith)
 face-shape (cell {c = c} r cs) zero h = shape {q = c} (omega (arith, r))
@@ -44,7 +44,7 @@ holders-le t [] = omega arith
 holders-le t (q ∷ qs) =
     omega (arith, count-append (sameb t) (faces q) (flatMap faces qs), any-le-count (sameb t) (faces q), holders-le t qs)
 
-pub crowd-none : (qs : List (List ℕ)) → ((x y : ℕ) → count (keyb high lowFace x y) (flatMap faces qs) ≤ 2) → crowdedb qs ≡ false
+pub crowd-none : (qs : List (List ℕ)) → ((x y : ℕ) → count (keyb lead lowFace x y) (flatMap faces qs) ≤ 2) → crowdedb qs ≡ false
 unfolding crowdedb
 crowd-none qs h =
     any-never (λ t. leb 3 (holders qs t))
@@ -52,19 +52,19 @@ crowd-none qs h =
       arith,
       holders-count qs t,
       holders-le t qs,
-      count-le (sameb t) (keyb high lowFace (high t) (lowFace t)) (same-key high lowFace t)
+      count-le (sameb t) (keyb lead lowFace (lead t) (lowFace t)) (same-key lead lowFace t)
           (flatMap faces qs),
-      h (high t) (lowFace t),
+      h (lead t) (lowFace t),
     )))
     (flatMap faces qs)
 
 -- a test that passes at most one of a list
 module _ {A : Type 0} (f : A → Bool) (x : A) (l : List A) where
-  pub none-more : f x ≡ false → count f l ≡ 0 → count f (x ∷ l) ≡ 0
+  none-more : f x ≡ false → count f l ≡ 0 → count f (x ∷ l) ≡ 0
   unfolding count one-if
   none-more e z = let o : one-if (f x) ≡ 0 = rw e in omega arith
 
-  pub once-more : (f x ≡ true → count f l ≡ 0) → count f l ≤ one-if (anyb f l) → count f (x ∷ l) ≤ one-if (anyb f (x ∷ l))
+  once-more : (f x ≡ true → count f l ≡ 0) → count f l ≤ one-if (anyb f l) → count f (x ∷ l) ≤ one-if (anyb f (x ∷ l))
   unfolding count anyb one-if
   once-more z h = go (f x) z
     where
@@ -75,17 +75,17 @@ module _ {A : Type 0} (f : A → Bool) (x : A) (l : List A) where
 -- the four faces of a cell have different keys
 module _ (x y a b c d : ℕ) (r : Rising 512 a b c d) where
   abbrev k : List ℕ → Bool
-  k t = keyb high lowFace x y t
+  k t = keyb lead lowFace x y t
 
-  another : (p q s u v w : ℕ) → keyb high lowFace x y (p ∷ q ∷ s ∷ []) ≡ true → ((p * 512 + q ≡ u * 512 + v) → s ≡ w → ⊥)
-      → keyb high lowFace x y (u ∷ v ∷ w ∷ []) ≡ false
-  unfolding high lowFace
+  another : (p q s u v w : ℕ) → keyb lead lowFace x y (p ∷ q ∷ s ∷ []) ≡ true → ((p * 512 + q ≡ u * 512 + v) → s ≡ w → ⊥)
+      → keyb lead lowFace x y (u ∷ v ∷ w ∷ []) ≡ false
+  unfolding lead lowFace
   another p q s u v w e ne =
-      key-not high lowFace x y (u ∷ v ∷ w ∷ [])
-      (λ i j. ne (key-x high lowFace x y (p ∷ q ∷ s ∷ []) e ∙ sym i) (key-y high lowFace x y (p ∷ q ∷ s ∷ []) e ∙ sym j))
+      key-not lead lowFace x y (u ∷ v ∷ w ∷ [])
+      (λ i j. ne (key-x lead lowFace x y (p ∷ q ∷ s ∷ []) e ∙ sym i) (key-y lead lowFace x y (p ∷ q ∷ s ∷ []) e ∙ sym j))
 
-  faces-once : count (keyb high lowFace x y) (faces (a ∷ b ∷ c ∷ d ∷ [])) ≤ one-if
-      (anyb (keyb high lowFace x y) (faces (a ∷ b ∷ c ∷ d ∷ [])))
+  faces-once : count (keyb lead lowFace x y) (faces (a ∷ b ∷ c ∷ d ∷ [])) ≤ one-if
+      (anyb (keyb lead lowFace x y) (faces (a ∷ b ∷ c ∷ d ∷ [])))
   unfolding faces count anyb
   faces-once =
       once-more k (b ∷ c ∷ d ∷ []) ((a ∷ c ∷ d ∷ []) ∷ (a ∷ b ∷ d ∷ []) ∷ (a ∷ b ∷ c ∷ []) ∷ [])
@@ -107,16 +107,16 @@ or-imp false b a′ b′ f g e = or-right a′ b′ (g e)
 
 -- a face with the key of t is t
 module _ (p q r : ℕ) (h : q < 512) where
-  face-same : (u v w : ℕ) → v < 512 → keyb high lowFace (high (p ∷ q ∷ r ∷ [])) (lowFace (p ∷ q ∷ r ∷ [])) (u ∷ v ∷ w ∷ []) ≡ true
+  face-same : (u v w : ℕ) → v < 512 → keyb lead lowFace (lead (p ∷ q ∷ r ∷ [])) (lowFace (p ∷ q ∷ r ∷ [])) (u ∷ v ∷ w ∷ []) ≡ true
       → sameb (p ∷ q ∷ r ∷ []) (u ∷ v ∷ w ∷ []) ≡ true
-  unfolding high lowFace sameb
+  unfolding lead lowFace sameb
   face-same u v w l e =
-      let i : u * 512 + v ≡ p * 512 + q = key-x high lowFace (p * 512 + q) r (u ∷ v ∷ w ∷ []) e in
-      let j : w ≡ r = key-y high lowFace (p * 512 + q) r (u ∷ v ∷ w ∷ []) e in
+      let i : u * 512 + v ≡ p * 512 + q = key-x lead lowFace (p * 512 + q) r (u ∷ v ∷ w ∷ []) e in
+      let j : w ≡ r = key-y lead lowFace (p * 512 + q) r (u ∷ v ∷ w ∷ []) e in
       rw (eq-eqb p u (omega arith), eq-eqb q v (omega arith), eq-eqb r w (omega arith))
 
   abbrev key : List ℕ → Bool
-  key t = keyb high lowFace (high (p ∷ q ∷ r ∷ [])) (lowFace (p ∷ q ∷ r ∷ [])) t
+  key t = keyb lead lowFace (lead (p ∷ q ∷ r ∷ [])) (lowFace (p ∷ q ∷ r ∷ [])) t
 
   abbrev same : List ℕ → Bool
   same t = sameb (p ∷ q ∷ r ∷ []) t
@@ -141,19 +141,19 @@ module _ (p q r : ℕ) (h : q < 512) where
       omega (
         arith,
         count-append key f (flatMap faces qs),
-        faces-once (high (p ∷ q ∷ r ∷ [])) (lowFace (p ∷ q ∷ r ∷ [])) a b c d s,
+        faces-once (lead (p ∷ q ∷ r ∷ [])) (lowFace (p ∷ q ∷ r ∷ [])) a b c d s,
         one-le
             (anyb key f) (anyb same f) (has-face s),
         held-le cs,
       )
 
 module _ {qs : List (List ℕ)} (cs : Cells qs) where
-  many : (t : List ℕ) → Shape t → 2 < count (keyb high lowFace (high t) (lowFace t)) (flatMap faces qs) → leb 3 (holders qs t) ≡ true
+  many : (t : List ℕ) → Shape t → 2 < count (keyb lead lowFace (lead t) (lowFace t)) (flatMap faces qs) → leb 3 (holders qs t) ≡ true
   many t (shape {p} {q} {r} h) l = le-leb 3 (holders qs (p ∷ q ∷ r ∷ []))
       (omega (arith, holders-count qs (p ∷ q ∷ r ∷ []), held-le p q r h cs))
 
   pub crowd-some : (i : ℕ) → i < length (flatMap faces qs)
-      → 2 < count (keyb high lowFace (high (getD (flatMap faces qs) i [])) (lowFace (getD (flatMap faces qs) i []))) (flatMap faces qs)
+      → 2 < count (keyb lead lowFace (lead (getD (flatMap faces qs) i [])) (lowFace (getD (flatMap faces qs) i []))) (flatMap faces qs)
       → crowdedb qs ≡ true
   unfolding crowdedb
   crowd-some i h l =

@@ -40,7 +40,7 @@ module _ {xs ys heads links counts : List ℕ} {n x y : ℕ} (o : Open xs ys hea
         in-links = omega (arith, t .in-links);
       }
 
-  pub in-counts : n < length counts
+  in-counts : n < length counts
   in-counts = omega (arith, o .tables .in-counts, o .room)
 
   module _ (e : ℕ) (found-at : e ≡ seek xs ys x y 0 (n - 0)) where

@@ -12,7 +12,7 @@ use Rattle.base.specs.Lists.{allb, anyb, sameb, sameb-eq}
 use Rattle.base.specs.Bools.{one-if, is-true, and-left, and-right}
 use Rattle.base.specs.Fours.{fours}
 use Rattle.mesh.specs.Coarse.{cellb, cellsb, twiceb}
-use Rattle.coarse.specs.Tally.{high, lowCell}
+use Rattle.coarse.specs.Tally.{lead, lowCell}
 use Rattle.coarse.proofs.Rows.{Rising, rising}
 use Rattle.coarse.proofs.Count.{count, count-le, or-right, any-le-count}
 use Rattle.coarse.proofs.Meets.{keyb, key-is, key-x, key-y}
@@ -45,48 +45,48 @@ never f g h l z = go (anyb f l) refl
     go true e = let o : one-if (anyb f l) ≡ 1 = rw e in absurd (omega (arith, any-le-count f l, count-le f g h l))
     go false e = refl
 
-pub twice-none : {qs : List (List ℕ)} → Cells qs → ((x y : ℕ) → count (keyb high lowCell x y) qs ≤ 1) → twiceb qs ≡ false
+pub twice-none : {qs : List (List ℕ)} → Cells qs → ((x y : ℕ) → count (keyb lead lowCell x y) qs ≤ 1) → twiceb qs ≡ false
 unfolding twiceb count one-if
 twice-none none h = refl
 twice-none (cell {a} {b} {c} {d} {qs} r cs) h =
     let q = a ∷ b ∷ c ∷ d ∷ [] in
-    let k : keyb high lowCell (high q) (lowCell q) q ≡ true = key-is high lowCell (high q) (lowCell q) q refl refl in
-    let o : one-if (keyb high lowCell (high q) (lowCell q) q) ≡ 1 = rw k in
-    let z : count (keyb high lowCell (high q) (lowCell q)) qs ≡ 0 = omega (arith, h (high q) (lowCell q)) in
-    rw (never (sameb q) (keyb high lowCell (high q) (lowCell q)) (same-key high lowCell q) qs z)
+    let k : keyb lead lowCell (lead q) (lowCell q) q ≡ true = key-is lead lowCell (lead q) (lowCell q) q refl refl in
+    let o : one-if (keyb lead lowCell (lead q) (lowCell q) q) ≡ 1 = rw k in
+    let z : count (keyb lead lowCell (lead q) (lowCell q)) qs ≡ 0 = omega (arith, h (lead q) (lowCell q)) in
+    rw (never (sameb q) (keyb lead lowCell (lead q) (lowCell q)) (same-key lead lowCell q) qs z)
     (twice-none cs (λ x y. omega (arith, h x y)))
 
 -- one of the cells has the key of a cell: it is the cell
-module _ (x y a b c d : ℕ) (r : Rising 512 a b c d) (k : keyb high lowCell x y (a ∷ b ∷ c ∷ d ∷ []) ≡ true) where
-  one-same : {p q s t : ℕ} → Rising 512 p q s t → keyb high lowCell x y (p ∷ q ∷ s ∷ t ∷ []) ≡ true
+module _ (x y a b c d : ℕ) (r : Rising 512 a b c d) (k : keyb lead lowCell x y (a ∷ b ∷ c ∷ d ∷ []) ≡ true) where
+  one-same : {p q s t : ℕ} → Rising 512 p q s t → keyb lead lowCell x y (p ∷ q ∷ s ∷ t ∷ []) ≡ true
       → sameb (a ∷ b ∷ c ∷ d ∷ []) (p ∷ q ∷ s ∷ t ∷ []) ≡ true
-  unfolding sameb high lowCell
+  unfolding sameb lead lowCell
   one-same {p} {q} {s} {t} r′ l =
-      let e : a * 512 + b ≡ x = key-x high lowCell x y (a ∷ b ∷ c ∷ d ∷ []) k in
-      let f : c * 512 + d ≡ y = key-y high lowCell x y (a ∷ b ∷ c ∷ d ∷ []) k in
-      let g : p * 512 + q ≡ x = key-x high lowCell x y (p ∷ q ∷ s ∷ t ∷ []) l in
-      let i : s * 512 + t ≡ y = key-y high lowCell x y (p ∷ q ∷ s ∷ t ∷ []) l in
+      let e : a * 512 + b ≡ x = key-x lead lowCell x y (a ∷ b ∷ c ∷ d ∷ []) k in
+      let f : c * 512 + d ≡ y = key-y lead lowCell x y (a ∷ b ∷ c ∷ d ∷ []) k in
+      let g : p * 512 + q ≡ x = key-x lead lowCell x y (p ∷ q ∷ s ∷ t ∷ []) l in
+      let i : s * 512 + t ≡ y = key-y lead lowCell x y (p ∷ q ∷ s ∷ t ∷ []) l in
       rw (eq-eqb a p (omega arith), eq-eqb b q (omega arith), eq-eqb c s (omega arith), eq-eqb d t (omega arith))
 
-  any-same : {qs : List (List ℕ)} → Cells qs → 1 ≤ count (keyb high lowCell x y) qs → anyb (sameb (a ∷ b ∷ c ∷ d ∷ [])) qs ≡ true
+  any-same : {qs : List (List ℕ)} → Cells qs → 1 ≤ count (keyb lead lowCell x y) qs → anyb (sameb (a ∷ b ∷ c ∷ d ∷ [])) qs ≡ true
   unfolding count anyb one-if
   any-same none h = absurd (omega arith)
-  any-same (cell {a = p} {b = q} {c = s} {d = t} {qs = qs} r′ cs) h = go (keyb high lowCell x y (p ∷ q ∷ s ∷ t ∷ [])) refl (any-same cs) h
+  any-same (cell {a = p} {b = q} {c = s} {d = t} {qs = qs} r′ cs) h = go (keyb lead lowCell x y (p ∷ q ∷ s ∷ t ∷ [])) refl (any-same cs) h
     where
-      go : (m : Bool) → keyb high lowCell x y (p ∷ q ∷ s ∷ t ∷ []) ≡ m
-          → (1 ≤ count (keyb high lowCell x y) qs → anyb (sameb (a ∷ b ∷ c ∷ d ∷ [])) qs ≡ true)
-          → 1 ≤ one-if m + count (keyb high lowCell x y) qs
+      go : (m : Bool) → keyb lead lowCell x y (p ∷ q ∷ s ∷ t ∷ []) ≡ m
+          → (1 ≤ count (keyb lead lowCell x y) qs → anyb (sameb (a ∷ b ∷ c ∷ d ∷ [])) qs ≡ true)
+          → 1 ≤ one-if m + count (keyb lead lowCell x y) qs
           → sameb (a ∷ b ∷ c ∷ d ∷ []) (p ∷ q ∷ s ∷ t ∷ []) || anyb (sameb (a ∷ b ∷ c ∷ d ∷ [])) qs ≡ true
       go true e less h = rw (one-same r′ e)
       go false e less h = or-right (sameb (a ∷ b ∷ c ∷ d ∷ []) (p ∷ q ∷ s ∷ t ∷ [])) (anyb (sameb (a ∷ b ∷ c ∷ d ∷ [])) qs)
           (less (omega arith))
 
-pub twice-some : (x y : ℕ) {qs : List (List ℕ)} → Cells qs → 1 < count (keyb high lowCell x y) qs → twiceb qs ≡ true
+pub twice-some : (x y : ℕ) {qs : List (List ℕ)} → Cells qs → 1 < count (keyb lead lowCell x y) qs → twiceb qs ≡ true
 unfolding twiceb count one-if
 twice-some x y none h = absurd (omega arith)
-twice-some x y (cell {a} {b} {c} {d} {qs} r cs) h = go (keyb high lowCell x y (a ∷ b ∷ c ∷ d ∷ [])) refl (twice-some x y cs) h
+twice-some x y (cell {a} {b} {c} {d} {qs} r cs) h = go (keyb lead lowCell x y (a ∷ b ∷ c ∷ d ∷ [])) refl (twice-some x y cs) h
   where
-    go : (m : Bool) → keyb high lowCell x y (a ∷ b ∷ c ∷ d ∷ []) ≡ m → (1 < count (keyb high lowCell x y) qs → twiceb qs ≡ true)
-        → 1 < one-if m + count (keyb high lowCell x y) qs → anyb (sameb (a ∷ b ∷ c ∷ d ∷ [])) qs || twiceb qs ≡ true
+    go : (m : Bool) → keyb lead lowCell x y (a ∷ b ∷ c ∷ d ∷ []) ≡ m → (1 < count (keyb lead lowCell x y) qs → twiceb qs ≡ true)
+        → 1 < one-if m + count (keyb lead lowCell x y) qs → anyb (sameb (a ∷ b ∷ c ∷ d ∷ [])) qs || twiceb qs ≡ true
     go true e less h = rw (any-same x y a b c d r e cs (omega arith))
     go false e less h = or-right (anyb (sameb (a ∷ b ∷ c ∷ d ∷ [])) qs) (twiceb qs) (less (omega arith))

@@ -11,7 +11,7 @@ use lib.ListN.{length, getD, replicate, length-replicate}
 use Rattle.base.specs.Fours.{fours, faces, length-fours}
 use Rattle.mesh.specs.Coarse.{twiceb}
 use Rattle.coarse.specs.Cells.{faceOfFour, Ranked, crowdedb}
-use Rattle.coarse.specs.Tally.{high, lowCell, lowFace, Tables, Open, Tallied}
+use Rattle.coarse.specs.Tally.{lead, lowCell, lowFace, Tables, Open, Tallied}
 use Rattle.coarse.proofs.Rows.{in-fours}
 use Rattle.coarse.proofs.Faces.{length-faces, in-faces}
 use Rattle.coarse.proofs.Meets.{Sofar, meets-open, meets-turn, meets-over, meets-end}
@@ -35,50 +35,50 @@ fresh heads e =
 
 module _ {ts : List ℕ} (r : Ranked ts) where
   -- of the cells, k have been counted
-  module _ {xs ys heads links counts : List ℕ} {n k : ℕ} (s : Sofar high lowCell 1 (fours ts) xs ys heads links counts n k) where
+  module _ {xs ys heads links counts : List ℕ} {n k : ℕ} (s : Sofar lead lowCell 1 (fours ts) xs ys heads links counts n k) where
     pub cells-end : length ts / 4 ≤ k → true ≡ not (twiceb (fours ts))
     cells-end h = sym (ap not (twice-none (cells ts (rw (r .cells) tt))
-        (meets-end high lowCell 1 (fours ts) s (omega (arith, length-fours ts)))))
+        (meets-end lead lowCell 1 (fours ts) s (omega (arith, length-fours ts)))))
 
     module _ (h : k < length ts / 4) where
       pub cells-open : (x y : ℕ) → Open xs ys heads links counts n x y
-      cells-open x y = meets-open high lowCell 1 (fours ts) s (in-fours ts k h) (omega (arith, length-fours ts, r .few)) (lit< tt) x y
+      cells-open x y = meets-open lead lowCell 1 (fours ts) s (in-fours ts k h) (omega (arith, length-fours ts, r .few)) (lit< tt) x y
 
-      module _ {q : List ℕ} (e : q ≡ getD (fours ts) k []) {x y : ℕ} (ex : x ≡ high q) (ey : y ≡ lowCell q)
+      module _ {q : List ℕ} (e : q ≡ getD (fours ts) k []) {x y : ℕ} (ex : x ≡ lead q) (ey : y ≡ lowCell q)
           {xs′ ys′ heads′ links′ counts′ : List ℕ} {n′ c : ℕ} (a : Tallied xs ys counts n x y xs′ ys′ heads′ links′ counts′ n′ c) where
-        pub cells-turn : c ≤ 1 → Sofar high lowCell 1 (fours ts) xs′ ys′ heads′ links′ counts′ n′ (k + 1)
-        cells-turn l = meets-turn high lowCell 1 (fours ts) s (in-fours ts k h) (ex ∙ ap high e) (ey ∙ ap lowCell e) a l
+        pub cells-turn : c ≤ 1 → Sofar lead lowCell 1 (fours ts) xs′ ys′ heads′ links′ counts′ n′ (k + 1)
+        cells-turn l = meets-turn lead lowCell 1 (fours ts) s (in-fours ts k h) (ex ∙ ap lead e) (ey ∙ ap lowCell e) a l
 
         pub cells-over : 1 < c → false ≡ not (twiceb (fours ts))
         cells-over l =
             let q = getD (fours ts) k [] in
-            sym (ap not (twice-some (high q) (lowCell q) (cells ts (rw (r .cells) tt))
-            (meets-over high lowCell 1 (fours ts) s (in-fours ts k h) (ex ∙ ap high e) (ey ∙ ap lowCell e) a l)))
+            sym (ap not (twice-some (lead q) (lowCell q) (cells ts (rw (r .cells) tt))
+            (meets-over lead lowCell 1 (fours ts) s (in-fours ts k h) (ex ∙ ap lead e) (ey ∙ ap lowCell e) a l)))
 
   -- of their faces, i have been counted
-  module _ {xs ys heads links counts : List ℕ} {n i : ℕ} (s : Sofar high lowFace 2 (flatMap faces (fours ts)) xs ys heads links counts n i)
+  module _ {xs ys heads links counts : List ℕ} {n i : ℕ} (s : Sofar lead lowFace 2 (flatMap faces (fours ts)) xs ys heads links counts n i)
     where
       pub faces-end : length ts ≤ i → true ≡ not (crowdedb (fours ts))
       faces-end h = sym
           (ap not (crowd-none (fours ts)
-          (meets-end high lowFace 2 (flatMap faces (fours ts)) s (omega (arith, length-faces (fours ts), length-fours ts)))))
+          (meets-end lead lowFace 2 (flatMap faces (fours ts)) s (omega (arith, length-faces (fours ts), length-fours ts)))))
 
       module _ (h : i < length ts) where
         pub faces-open : (x y : ℕ) → Open xs ys heads links counts n x y
         faces-open x y =
-            meets-open high lowFace 2 (flatMap faces (fours ts)) s (in-faces ts i (r .whole) h)
+            meets-open lead lowFace 2 (flatMap faces (fours ts)) s (in-faces ts i (r .whole) h)
             (omega (arith, length-faces (fours ts), length-fours ts, r .few)) (lit< tt) x y
 
-        module _ {t : List ℕ} (e : t ≡ faceOfFour ts i) {x y : ℕ} (ex : x ≡ high t) (ey : y ≡ lowFace t)
+        module _ {t : List ℕ} (e : t ≡ faceOfFour ts i) {x y : ℕ} (ex : x ≡ lead t) (ey : y ≡ lowFace t)
             {xs′ ys′ heads′ links′ counts′ : List ℕ} {n′ c : ℕ} (a : Tallied xs ys counts n x y xs′ ys′ heads′ links′ counts′ n′ c) where
-          pub faces-turn : c ≤ 2 → Sofar high lowFace 2 (flatMap faces (fours ts)) xs′ ys′ heads′ links′ counts′ n′ (i + 1)
+          pub faces-turn : c ≤ 2 → Sofar lead lowFace 2 (flatMap faces (fours ts)) xs′ ys′ heads′ links′ counts′ n′ (i + 1)
           unfolding faceOfFour
-          faces-turn l = meets-turn high lowFace 2 (flatMap faces (fours ts)) s (in-faces ts i (r .whole) h) (ex ∙ ap high e)
+          faces-turn l = meets-turn lead lowFace 2 (flatMap faces (fours ts)) s (in-faces ts i (r .whole) h) (ex ∙ ap lead e)
               (ey ∙ ap lowFace e) a l
 
           pub faces-over : 2 < c → false ≡ not (crowdedb (fours ts))
           unfolding faceOfFour
           faces-over l =
               sym (ap not (crowd-some (cells ts (rw (r .cells) tt)) i (in-faces ts i (r .whole) h)
-              (meets-over high lowFace 2 (flatMap faces (fours ts)) s (in-faces ts i (r .whole) h) (ex ∙ ap high e) (ey ∙ ap lowFace e) a
+              (meets-over lead lowFace 2 (flatMap faces (fours ts)) s (in-faces ts i (r .whole) h) (ex ∙ ap lead e) (ey ∙ ap lowFace e) a
               l)))

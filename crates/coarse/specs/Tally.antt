@@ -1,5 +1,5 @@
 -- Counting the keys of cells and faces. A key is a pair of numbers, kept as `pairs` keeps it with a count beside each entry.
---   high t                     the first number of the key of a cell or a face
+--   lead t                     the first number of the key of a cell or a face
 --   lowCell q, lowFace t       its second number
 --   times xs ys counts n x y   how often the pair x, y was counted: what stands beside its entry, 0 where it has none
 --   Tables ..                  the tables have room for as many entries as there can be faces
@@ -12,8 +12,8 @@ use lib.ListN.{length, getD}
 use Rattle.pairs.specs.Keys.{seek, Keys}
 
 -- Rule 1.6: a cell or face as a key of two numbers.
-unfoldable pub high : List ℕ → ℕ
-high t = getD t 0 0 * 512 + getD t 1 0
+unfoldable pub lead : List ℕ → ℕ
+lead t = getD t 0 0 * 512 + getD t 1 0
 
 -- Rule 1.6: the second number of a cell's key.
 unfoldable pub lowCell : List ℕ → ℕ

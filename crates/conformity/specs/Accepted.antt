@@ -37,10 +37,10 @@ module _ (ps : List ℤ) (ts : List ℕ) where
         (t, passed 5 (singleb qs) Accepted d .0)
 
     module _ (ss : List ℕ) (sound : T (soundb n (fours ts) ss)) where
-      pub table-open : T (openb n (fours ts) ss)
+      table-open : T (openb n (fours ts) ss)
       table-open = sound-open n (fours ts) ss (fours-four ts) (mesh-parts .0) sound
 
-      pub table-meets : T (meetb n (fours ts) ss)
+      table-meets : T (meetb n (fours ts) ss)
       table-meets = sound-meets n (fours ts) ss (fours-four ts) (mesh-parts .0) (mesh-parts .1) sound
 
   module _ (ss : List ℕ) (e : tableAnswer ps ts ss ≡ Accepted) where

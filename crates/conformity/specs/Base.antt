@@ -3,13 +3,13 @@
 -- Laws: coarse-injective, off-coarse (a coarse corner lies on the coarse faces that have it), coarse-within, rise-below, count-holders
 -- (how many coarse cells have a face), count-same (how many have the corners of a cell), once-same (one, where no two are the same).
 use mathlib.Core.Path.{_≡_, refl, sym, _∙_, ap, ap₂}
-use mathlib.Core.Bool.{Bool, true, false, _&&_, _||_}
+use mathlib.Core.Bool.{Bool, true, false, _||_, and-true}
 use mathlib.Core.List.{List, [], _∷_, map}
 use Prim.Native.Nat.{ℕ, zero, suc, _+_, _*_, _-_, _<_, _≤_, min}
 use native.Mathlib.Omega.{arith}
 use lib.ListN.{length, getD, replicate, set}
 use Rattle.base.specs.Lists.{allb, anyb, filterb, memberb, sameb, sameb-eq}
-use Rattle.base.specs.Bools.{one-if, is-true, not-both}
+use Rattle.base.specs.Bools.{one-if, is-true, not-both, false-from}
 use Rattle.base.specs.Fours.{faces, holders}
 use Rattle.base.specs.Places.{sameb-self}
 use Rattle.mesh.specs.Weights.{Point, coarse, coarseFrom}
@@ -17,13 +17,13 @@ use Rattle.mesh.specs.Coarse.{twiceb}
 use Rattle.base.specs.Every.{All, any-at}
 use Rattle.lattice.specs.Tails.{tailSum, tail-sum-coarse}
 use Rattle.conformity.specs.Leaves.{offb}
-use Rattle.conformity.specs.Having.{false-from, withinb, count, within-map}
+use Rattle.conformity.specs.Having.{withinb, count, within-map}
 use Rattle.conformity.specs.Fours.{Rise, Rise3, within-face, within-four}
 
 not-before : (i j : ℕ) → min 1 (suc i - i) * 1024 ≡ min 1 (suc j - i) * 1024 → i ≤ j
 not-before i j e = omega arith
 
-pub coarse-injective : (n i j : ℕ) → i < n → j < n → coarse n i ≡ coarse n j → i ≡ j
+coarse-injective : (n i j : ℕ) → i < n → j < n → coarse n i ≡ coarse n j → i ≡ j
 coarse-injective n i j hi hj e =
     let t : (k : ℕ) → min 1 (suc i - k) * 1024 ≡ min 1 (suc j - k) * 1024 =
     (λ k. sym (tail-sum-coarse n i k hi) ∙ ap (λ (p : Point). tailSum p k) e ∙ tail-sum-coarse n j k hj) in
@@ -37,10 +37,6 @@ unfolding offb
 off-zeros k zero t = refl
 off-zeros k (suc n) t = off-zeros (suc k) n t
 
-and-true : (b : Bool) → (b && true) ≡ b
-and-true true = refl
-and-true false = refl
-
 off-set : (k n i : ℕ) (t : List ℕ) → i < n → offb k (set (replicate n 0) i 1024) t ≡ memberb (k + i) t
 unfolding offb
 off-set k zero i t h = absurd (omega arith)
@@ -51,7 +47,7 @@ pub off-coarse : (n i : ℕ) (t : List ℕ) → i < n → offb 0 (coarse n i) t 
 unfolding coarse
 off-coarse n i t h = off-set 0 n i t h ∙ ap (λ (m : ℕ). memberb m t) (omega arith)
 
-pub coarse-within : (n : ℕ) (t q : List ℕ) → All (λ x. x < n) t → All (λ x. x < n) q → withinb (map (coarse n) t) (map (coarse n) q) ≡ allb
+coarse-within : (n : ℕ) (t q : List ℕ) → All (λ x. x < n) t → All (λ x. x < n) q → withinb (map (coarse n) t) (map (coarse n) q) ≡ allb
     (λ x. memberb x q) t
 coarse-within n t q a b = within-map n (coarse n) (λ x y hx hy e. coarse-injective n x y hx hy e) t q a b
 
@@ -74,7 +70,7 @@ module _ (n : ℕ) (t : List ℕ) (a : All (λ x. x < n) t) where
       go false f i = rw (e, f, filterb) (omega arith)
 
   -- the same four corners
-  abbrev pub sames : List (List ℕ) → ℕ
+  abbrev sames : List (List ℕ) → ℕ
   sames [] = 0
   sames (q ∷ qs) = one-if (sameb t q) + sames qs
 

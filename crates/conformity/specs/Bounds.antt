@@ -14,7 +14,7 @@ use lib.Dec.{T, eqb, eqb→eq}
 use lib.ListN.{length, getD}
 use borrow.Author.Tests.{eq-eqb}
 use Rattle.base.specs.Lists.{allb, anyb, allb-at, memberb}
-use Rattle.base.specs.Bools.{and-left, and-right, or-either, and-both}
+use Rattle.base.specs.Bools.{and-left, and-right, or-either, and-both, same-test, false-from}
 use Rattle.base.specs.Fours.{faces}
 use Rattle.cutting.specs.Rule.{low, high, digit}
 use Rattle.mesh.specs.Cells.{Cell, corner}
@@ -23,18 +23,17 @@ use Rattle.base.specs.Every.{All, all-at, all-of, below-at, all-pass, any-place
 use Rattle.families.specs.Kuhn.{digit-ends}
 use Rattle.lattice.specs.Tails.{tailSum}
 use Rattle.lattice.specs.Regular.{unit, unit-half, Regular}
-use Rattle.base.specs.Each.{all-filter}
+use Rattle.base.specs.Each.{all-filter, all-through}
 use Rattle.conformity.specs.Leaves.{offb, onCoarseFaceb, onBoundaryb, boundaryFaces}
 use Rattle.families.specs.Digits.{cornersAt, lift, digitTriples, usesb}
 use Rattle.families.specs.FaceKinds.{OnSide}
-use Rattle.conformity.specs.Having.{bool-ext, false-from, all-through}
 use Rattle.conformity.specs.Shared.{Below10, digit-of}
 use Rattle.conformity.specs.Sides.{three-at, triple-small, side-small}
 
 -- a midpoint's weight is 0 where its ends' weights are
 half-zero : (a b x y : ℕ) → a ≡ 2 * x → b ≡ 2 * y → eqb ((a + b) / 2) 0 ≡ (eqb a 0 && eqb b 0)
 half-zero a b x y e f =
-    bool-ext (eqb ((a + b) / 2) 0) (eqb a 0 && eqb b 0)
+    same-test (eqb ((a + b) / 2) 0) (eqb a 0 && eqb b 0)
     (λ t. let w : (a + b) / 2 ≡ 0 = eqb→eq ((a + b) / 2) 0 t in
     let a0 : a ≡ 0 = omega arith in
     let b0 : b ≡ 0 = omega arith in
@@ -57,7 +56,7 @@ regroup true false false true q = refl
 regroup true false false false q = refl
 regroup false b false p q = refl
 
-pub off-mid : (i : ℕ) (p q : Point) (t : List ℕ) (x y : ℕ → ℕ) → length p ≡ length q → ((j : ℕ) → tailSum p j ≡ 2 * x j)
+off-mid : (i : ℕ) (p q : Point) (t : List ℕ) (x y : ℕ → ℕ) → length p ≡ length q → ((j : ℕ) → tailSum p j ≡ 2 * x j)
     → ((j : ℕ) → tailSum q j ≡ 2 * y j)
     → offb i (mid p q) t ≡ (offb i p t && offb i q t)
 unfolding offb mid
@@ -75,7 +74,7 @@ module _ (n k : ℕ) (c : Cell Point) (h : k < 10) (r : Regular n k c) (t : List
   even : (i : ℕ) → i < 4 → (j : ℕ) → tailSum (corner [] c i) j ≡ 2 * (r .coordinates i j * unit (suc k))
   even i l j = r .tails i l j ∙ rw (unit-half k h) (omega arith)
 
-  pub off-point : (x : ℕ) → x < 10 → offb 0 (point c x) t ≡ (offb 0 (corner [] c (low x)) t && offb 0 (corner [] c (high x)) t)
+  off-point : (x : ℕ) → x < 10 → offb 0 (point c x) t ≡ (offb 0 (corner [] c (low x)) t && offb 0 (corner [] c (high x)) t)
   unfolding point
   off-point x hx =
       let (a, b) = digit-ends x hx in
@@ -84,7 +83,7 @@ module _ (n k : ℕ) (c : Cell Point) (h : k < 10) (r : Regular n k c) (t : List
       (r .sized (low x) (omega arith) .places ∙ sym (r .sized (high x) b .places)) (even (low x) (omega arith)) (even (high x) b)
 
   -- the corners that some points use lie where the points do
-  pub off-used : (f : List ℕ) → Below10 f → T (allb (λ p. offb 0 p t) (map (point c) f)) → (m : ℕ) → T (usesb f m)
+  off-used : (f : List ℕ) → Below10 f → T (allb (λ p. offb 0 p t) (map (point c) f)) → (m : ℕ) → T (usesb f m)
       → T (offb 0 (corner [] c m) t)
   off-used f a w m u =
       let w' : T (allb (λ x. offb 0 (point c x) t) f) = rw (all-through (point c) (λ p. offb 0 p t) f) at w in
@@ -131,11 +130,11 @@ module _ (n k : ℕ) (c : Cell Point) (h : k < 10) (r : Regular n k c) (t : List
         (allb (λ p. offb 0 p t) (map (point c) (map (lift (z0 ∷ z1 ∷ z2 ∷ [])) s)))
         (off-lift k (a .0)) (off-lifts s (a .1))
 
-  pub side-off : (ds : List (List ℕ)) (f : List ℕ) → (w : OnSide ds f) → onCoarseFaceb (map (point c) f) t ≡ onCoarseFaceb
+  side-off : (ds : List (List ℕ)) (f : List ℕ) → (w : OnSide ds f) → onCoarseFaceb (map (point c) f) t ≡ onCoarseFaceb
       (map (corner [] c) (cornersAt (w .z))) t
   unfolding onCoarseFaceb
   side-off ds f w =
-      bool-ext (allb (λ p. offb 0 p t) (map (point c) f)) (allb (λ p. offb 0 p t) (map (corner [] c) (cornersAt (w .z)))) there back
+      same-test (allb (λ p. offb 0 p t) (map (point c) f)) (allb (λ p. offb 0 p t) (map (corner [] c) (cornersAt (w .z)))) there back
     where
       there : T (allb (λ p. offb 0 p t) (map (point c) f)) → T (allb (λ p. offb 0 p t) (map (corner [] c) (cornersAt (w .z))))
       there u =
@@ -155,7 +154,7 @@ module _ (n k : ℕ) (c : Cell Point) (h : k < 10) (r : Regular n k c) (t : List
           subst (λ (f : List ℕ). T (allb (λ p. offb 0 p t) (map (point c) f))) (sym e)
           (off-lifts (v .a) (v .b) (v .c) (v .ab) (v .bc) (v .c4) (a .0) (a .1 .0) (a .1 .1 .0) tr (triple-small (w .t) (w .below)))
 
-pub any-same : {A : Type 0} (f g : A → Bool) (l : List A) → ((x : A) → f x ≡ g x) → anyb f l ≡ anyb g l
+any-same : {A : Type 0} (f g : A → Bool) (l : List A) → ((x : A) → f x ≡ g x) → anyb f l ≡ anyb g l
 unfolding anyb
 any-same f g [] e = refl
 any-same f g (x ∷ l) e = ap₂ _||_ (e x) (any-same f g l e)
@@ -174,7 +173,7 @@ unfolding flatMap faces
 faces-three [] = tt
 faces-three (q ∷ qs) = (refl, (refl, (refl, (refl, faces-three qs))))
 
-pub bound-three : (qs : List (List ℕ)) → All (λ t. length t ≡ 3) (boundaryFaces qs)
+bound-three : (qs : List (List ℕ)) → All (λ t. length t ≡ 3) (boundaryFaces qs)
 unfolding boundaryFaces
 bound-three qs = all-filter _ (λ t. length t ≡ 3) (flatMap faces qs) (faces-three qs)
 

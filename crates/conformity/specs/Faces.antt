@@ -11,14 +11,15 @@ use lib.Dec.{T, eqb, ltb, ltb→lt}
 use lib.ListN.{length, getD, length-map}
 use borrow.Author.Tests.{ne-eqb}
 use Rattle.base.specs.Lists.{allb, belowb, belowb-at, memberb, member-place}
-use Rattle.base.specs.Bools.{impb, impb-use, and-left, and-right, and-both}
+use Rattle.base.specs.Bools.{impb, impb-use, and-left, and-right, and-both, same-test}
 use Rattle.mesh.specs.Cells.{Cell, corner}
 use Rattle.mesh.specs.Weights.{Point}
 use Rattle.base.specs.Every.{All, all-at, all-of, below-at, getD-map, all-pass, any-place, any-at}
+use Rattle.base.specs.Each.{all-through}
 use Rattle.carriers.specs.Carrier.{Shares}
 use Rattle.conformity.specs.Leaves.{faceAt, sameFaceb, hasFaceb}
 use Rattle.families.specs.Digits.{cornersAt}
-use Rattle.conformity.specs.Having.{bool-ext, inb, withinb, in-at, in-from, all-through}
+use Rattle.conformity.specs.Having.{inb, withinb, in-at, in-from}
 use Rattle.conformity.specs.Shared.{within-shares}
 use Rattle.conformity.specs.Sides.{three-at}
 use Rattle.conformity.specs.Meeting.{faceOf, corners-below, others-are}
@@ -116,4 +117,4 @@ module _ (o c : Cell Point) (a : Apart o) (b : Apart c) (i : ℕ) (hi : i < 4) w
       (among c (x ∷ y ∷ z ∷ []) (cornersAt m) (r .back)) (among c (cornersAt m) (x ∷ y ∷ z ∷ []) (r .there))))
 
   pub has-within : hasFaceb (faceOf o i) c ≡ withinb (faceOf o i) (c .points)
-  has-within = bool-ext (hasFaceb (faceOf o i) c) (withinb (faceOf o i) (c .points)) has-there has-back
+  has-within = same-test (hasFaceb (faceOf o i) c) (withinb (faceOf o i) (c .points)) has-there has-back

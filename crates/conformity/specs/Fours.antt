@@ -13,14 +13,14 @@ use native.Mathlib.Omega.{arith}
 use lib.Dec.{T, ltb→lt}
 use lib.ListN.{length, getD}
 use Rattle.base.specs.Lists.{allb, anyb, allb-at, memberb, sameb, sameb-eq, member-at, member-place}
-use Rattle.base.specs.Bools.{and-left, and-right, and-both}
+use Rattle.base.specs.Bools.{and-left, and-right, and-both, same-test}
 use Rattle.base.specs.Fours.{faces}
 use Rattle.base.specs.Places.{sameb-self}
 use Rattle.mesh.specs.Coarse.{cellb, cellsb}
 use Rattle.base.specs.Every.{Below, below-at, All, any-place, any-at, all-each}
 use Rattle.families.specs.Digits.{cornersAt}
 use Rattle.conformity.specs.Sides.{three-at, face-of}
-use Rattle.conformity.specs.Having.{bool-ext, four-elements}
+use Rattle.conformity.specs.Having.{four-elements}
 
 pub record Rise (n : ℕ) (q : List ℕ) : Type 0 where
   pub a : ℕ
@@ -78,7 +78,7 @@ module _ (a b c d : ℕ) (ab : a < b) (bc : b < c) (cd : c < d) where
       below-at (λ i. i ≤ j → getD (a ∷ b ∷ c ∷ d ∷ []) i 0 ≤ getD (a ∷ b ∷ c ∷ d ∷ []) j 0) 4
       (below-at (λ j. Below (λ i. i ≤ j → getD (a ∷ b ∷ c ∷ d ∷ []) i 0 ≤ getD (a ∷ b ∷ c ∷ d ∷ []) j 0) 4) 4 (omega arith) j hj) i hi
 
-  pub place-rise : (x y i j : ℕ) → x < y → i < 4 → j < 4 → getD (a ∷ b ∷ c ∷ d ∷ []) i 0 ≡ x → getD (a ∷ b ∷ c ∷ d ∷ []) j 0 ≡ y → i < j
+  place-rise : (x y i j : ℕ) → x < y → i < 4 → j < 4 → getD (a ∷ b ∷ c ∷ d ∷ []) i 0 ≡ x → getD (a ∷ b ∷ c ∷ d ∷ []) j 0 ≡ y → i < j
   place-rise x y i j h hi hj e f = elim (decLt i j) [ yes l ↦ l | no l ↦ absurd (omega (arith, rise-mono i hi j hj (omega arith))) ]
 
 pub faces-at : (q : List ℕ) (m : ℕ) → m < 4 → getD (faces q) m [] ≡ map (λ i. getD q i 0) (cornersAt m)
@@ -125,7 +125,7 @@ corner-member a b c d m hm =
 
 pub within-face : (n : ℕ) (t q : List ℕ) → Rise3 t → Rise n q → allb (λ e. memberb e q) t ≡ anyb (sameb t) (faces q)
 within-face n t q s r =
-    rw (s .is, r .is) (bool-ext (allb (λ e. memberb e (r .a ∷ r .b ∷ r .c ∷ r .d ∷ [])) (s .x ∷ s .y ∷ s .z ∷ []))
+    rw (s .is, r .is) (same-test (allb (λ e. memberb e (r .a ∷ r .b ∷ r .c ∷ r .d ∷ [])) (s .x ∷ s .y ∷ s .z ∷ []))
     (anyb (sameb (s .x ∷ s .y ∷ s .z ∷ [])) (faces (r .a ∷ r .b ∷ r .c ∷ r .d ∷ [])))
     (face-there (s .x) (s .y) (s .z) (s .xy) (s .yz) (r .a) (r .b) (r .c) (r .d) (r .ab) (r .bc) (r .cd))
     (back (s .x ∷ s .y ∷ s .z ∷ []) (r .a) (r .b) (r .c) (r .d)))
@@ -140,7 +140,7 @@ within-face n t q s r =
 
 pub within-four : (n : ℕ) (p q : List ℕ) → Rise n p → Rise n q → allb (λ e. memberb e q) p ≡ sameb p q
 within-four n p q s r =
-    rw (s .is, r .is) (bool-ext (allb (λ e. memberb e (r .a ∷ r .b ∷ r .c ∷ r .d ∷ [])) (s .a ∷ s .b ∷ s .c ∷ s .d ∷ []))
+    rw (s .is, r .is) (same-test (allb (λ e. memberb e (r .a ∷ r .b ∷ r .c ∷ r .d ∷ [])) (s .a ∷ s .b ∷ s .c ∷ s .d ∷ []))
     (sameb (s .a ∷ s .b ∷ s .c ∷ s .d ∷ []) (r .a ∷ r .b ∷ r .c ∷ r .d ∷ []))
     (λ t. there (s .a) (s .b) (s .c) (s .d) (s .ab) (s .bc) (s .cd) (r .a) (r .b) (r .c) (r .d) (r .ab) (r .bc) (r .cd) t)
     (λ t. back (s .a ∷ s .b ∷ s .c ∷ s .d ∷ []) (r .a ∷ r .b ∷ r .c ∷ r .d ∷ []) t))

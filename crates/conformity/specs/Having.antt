@@ -3,12 +3,12 @@
 --   count u cs           how many of the cells cs have all points of u
 --   countDigits u f ds   how many of the children ds have them, where f gives the point of a digit
 --   Scaled u t h c       c counts for u as often as h times for t; Carried u t h c s  so do c with status s and its children
--- Laws: bool-ext, false-from (tests), in-at, in-from (by places), all-through, count-both, count-scaled (one count by another),
+-- Laws: in-at, in-from (by places), all-through, count-both, count-scaled (one count by another),
 -- count-children (a family's), digits-none (no child has them), four-elements, corner-points, digits-leaf (a cell that is not refined),
 -- count-level (the leaves and the children of a level), within-map, digits-holds (points by their numbers).
 use mathlib.Core.Path.{_≡_, refl, sym, _∙_, ap, ap₂}
 use mathlib.Core.Logic.{_≢_}
-use mathlib.Core.Bool.{Bool, true, false, _&&_, _||_}
+use mathlib.Core.Bool.{Bool, true, false, _||_, _&&_}
 use mathlib.Core.List.{List, [], _∷_, _++_, map}
 use Prim.Native.Nat.{ℕ, suc, _+_, _*_, _<_}
 use native.Mathlib.Nat.{mul-add}
@@ -30,16 +30,6 @@ use Rattle.families.specs.FaceKinds.{family-leaf}
 use Rattle.mesh.specs.Laws.{mid-self}
 
 -- tests
-pub bool-ext : (a b : Bool) → (T a → T b) → (T b → T a) → a ≡ b
-bool-ext true true f g = refl
-bool-ext true false f g = absurd (f tt)
-bool-ext false true f g = absurd (g tt)
-bool-ext false false f g = refl
-
-pub false-from : (b : Bool) → (T b → ⊥) → b ≡ false
-false-from true f = absurd (f tt)
-false-from false f = refl
-
 abbrev pub inb : Point → List Point → Bool
 inb p l = anyb (sameb p) l
 
@@ -53,11 +43,6 @@ pub in-from : (p : Point) (l : List Point) (i : ℕ) → i < length l → p ≡ 
 in-from p l i h e = any-at (sameb p) [] l i h (rw (e, sameb-self (getD l i [])) tt)
 
 -- a test on a map
-pub all-through : {A B : Type 0} (f : A → B) (t : B → Bool) (l : List A) → allb t (map f l) ≡ allb (λ x. t (f x)) l
-unfolding allb
-all-through f t [] = refl
-all-through f t (x ∷ l) = ap (λ (b : Bool). t (f x) && b) (all-through f t l)
-
 abbrev pub count : List Point → List (Cell Point) → ℕ
 count u [] = 0
 count u (c ∷ cs) = one-if (withinb u (c .points)) + count u cs
@@ -84,7 +69,7 @@ module _ (u : List Point) (k : ℕ) (c : Cell Point) where
   count-from r f i [] = refl
   count-from r f i (d ∷ ds) = ap (λ (m : ℕ). one-if (withinb u (map f d)) + m) (count-from r f (suc i) ds)
 
-  pub count-children : (s : ℕ) → s ≢ 0 → count u (children k c s (point c)) ≡ countDigits u (point c) (family (patternOf s))
+  count-children : (s : ℕ) → s ≢ 0 → count u (children k c s (point c)) ≡ countDigits u (point c) (family (patternOf s))
   unfolding children
   count-children s z = rw (ne-eqb s 0 z, children) (count-from (redb s) (point c) 0 (family (patternOf s)))
 

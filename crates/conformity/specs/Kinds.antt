@@ -28,7 +28,7 @@ use Rattle.lattice.specs.Facts.{same-mid, mid-not-coarse, edge-level}
 use Rattle.carriers.specs.Lists.{held-which}
 use Rattle.carriers.specs.Carrier.{joins-self}
 use Rattle.carriers.specs.Patterns.{split-none, split-pattern}
-use Rattle.carriers.specs.Refined.{status-regular, status-green, pattern-green, pattern-small}
+use Rattle.carriers.specs.Refined.{status-regular, status-green, pattern-green, asked-small}
 use Rattle.soundness.specs.Held.{RedHas, red-which, closed-at, red-regular, regular-at}
 use Rattle.soundness.specs.Family.{family-child}
 use Rattle.soundness.specs.Sound.{Sound, lv, level-closed, level-next, level-there}
@@ -37,15 +37,15 @@ use Rattle.conformity.specs.Leaves.{pointsOf}
 use Rattle.conformity.specs.Middles.{IsMiddle, middle-point, middle-none}
 use Rattle.conformity.specs.Corners.{corners-each}
 
-pub record RedMid (n : ℕ) (qs : List (List ℕ)) (ss : List ℕ) (p : Point) : Type 0 where
-  pub j : ℕ
-  pub low : j < 10
-  pub u : ℕ
-  pub below : u < length (lv n qs ss j .cells)
-  pub red : getD (lv n qs ss j .statuses) u 0 ≡ 64
-  pub y : ℕ
-  pub small : y < 6
-  pub is : p ≡ point (getD (lv n qs ss j .cells) u noCell) (middle y)
+record RedMid (n : ℕ) (qs : List (List ℕ)) (ss : List ℕ) (p : Point) : Type 0 where
+  j : ℕ
+  low : j < 10
+  u : ℕ
+  below : u < length (lv n qs ss j .cells)
+  red : getD (lv n qs ss j .statuses) u 0 ≡ 64
+  y : ℕ
+  small : y < 6
+  is : p ≡ point (getD (lv n qs ss j .cells) u noCell) (middle y)
 
 abbrev pub Kind : ℕ → List (List ℕ) → List ℕ → Point → Type 0
 Kind n qs ss p = ((i : ℕ) × (i < n) × (p ≡ coarse n i)) ⊎ RedMid n qs ss p
@@ -64,7 +64,7 @@ module _ (n : ℕ) (qs : List (List ℕ)) (ss : List ℕ) (s : Sound n qs ss) wh
       let (known, st) = closed-at l (level-closed n qs ss (s .closed) j) p h in
       let there : j < length (levelsOf n qs ss) = level-there n qs ss j p h in
       let low : j ≤ 10 = omega (arith, s .high) in
-      let small = pattern-small (redEdges [] (l .cells) (l .statuses)) (getD (l .cells) p noCell) (getD (l .statuses) p 0) st in
+      let small = asked-small (redEdges [] (l .cells) (l .statuses)) (getD (l .cells) p noCell) (getD (l .statuses) p 0) st in
       let w = family-child l up (level-next n qs ss j low) p 0 h known z (some-child (patternOf (getD (l .statuses) p 0)) small) in
       omega (arith, s .high, level-there n qs ss (suc j) (w .u) (w .below))
 
@@ -126,7 +126,7 @@ module _ (n : ℕ) (qs : List (List ℕ)) (ss : List ℕ) (s : Sound n qs ss) wh
         let z : getD ss i 0 ≡ getD (lv n qs ss (o .j) .statuses) (o .p) 0 = rw (o .number) at (o .at .status) in
         inr (rw c (split-mid (o .j) (o .p) (o .below) y hy (rw z at t))))
 
-    pub kind-length : (p : Point) → Kind n qs ss p → length p ≡ n
+    kind-length : (p : Point) → Kind n qs ss p → length p ≡ n
     kind-length p (inl (i, h, e)) = rw e (sized-coarse n i h .places)
     kind-length p (inr w) =
         let l = lv n qs ss (w .j) in

@@ -36,6 +36,7 @@ use Rattle.conformity.specs.OldFaces.{old-count}
 use Rattle.conformity.specs.Bounds.{side-bound, Wide, inside-bound}
 use Rattle.conformity.specs.Stages.{below, stage, pattern-at, reads-at, carry}
 
+-- Rule 13.2: how many leaves must have a face.
 unfoldable pub bound : List (List ℕ) → List Point → ℕ
 bound qs u = elim (onBoundaryb qs u) [ true ↦ 1 | false ↦ 2 ]
 
@@ -47,6 +48,7 @@ pub bound-two : (qs : List (List ℕ)) (u : List Point) → onBoundaryb qs u ≡
 unfolding bound
 bound-two qs u e = rw (e, bound)
 
+-- Rule 2.1.
 abbrev pub faceOf : Cell Point → ℕ → List Point
 faceOf c i = map (corner [] c) (cornersAt i)
 
@@ -64,7 +66,7 @@ map-digits c v d e f [] a = refl
 map-digits c v d e f (m ∷ l) a = ap₂ _∷_ (ap (λ (p : List Point). getD p m []) e ∙ getD-map (point c) d m 0 [] (omega (arith, a .0)))
     (map-digits c v d e f l (a .1))
 
-pub face-digits : (c v : Cell Point) (d : List ℕ) → v .points ≡ map (point c) d → length d ≡ 4 → (i : ℕ) → i < 4
+face-digits : (c v : Cell Point) (d : List ℕ) → v .points ≡ map (point c) d → length d ≡ 4 → (i : ℕ) → i < 4
     → faceOf v i ≡ map (point c) (without d i)
 face-digits c v d e f i hi = map-digits c v d e f (cornersAt i) (corners-below i hi)
     ∙ ap (λ (l : List ℕ). map (point c) (map (λ j. getD d j 0) l)) (others-are i hi)
@@ -94,7 +96,7 @@ pub all-first : {A : Type 0} (P : A → Type 0) (l m : List A) → All P (l ++ m
 all-first P [] m a = tt
 all-first P (x ∷ l) m a = (a .0, all-first P l m (a .1))
 
-pub all-second : {A : Type 0} (P : A → Type 0) (l m : List A) → All P (l ++ m) → All P m
+all-second : {A : Type 0} (P : A → Type 0) (l m : List A) → All P (l ++ m) → All P m
 all-second P [] m a = a
 all-second P (x ∷ l) m a = all-second P l m (a .1)
 
@@ -123,10 +125,10 @@ module _ (n : ℕ) (qs : List (List ℕ)) (ss : List ℕ) (s : Sound n qs ss) (r
       ∙ omega (arith, right i hi)
 
   module _ (v : ℕ) (hv : v < length (lv n qs ss j .cells)) (rv : T (getD (lv n qs ss j .cells) v noCell .regular)) where
-    abbrev pub cell : Cell Point
+    abbrev cell : Cell Point
     cell = getD (lv n qs ss j .cells) v noCell
 
-    abbrev pub pat : ℕ
+    abbrev pat : ℕ
     pat = patternOf (getD (lv n qs ss j .statuses) v 0)
 
     -- points of a child that use every corner

@@ -89,7 +89,7 @@ module _ (n : ℕ) (qs : List (List ℕ)) (ss : List ℕ) (s : Sound n qs ss) wh
   unfolding below
   below-all = ap (flatMap leavesOn) (sym (take-all 11 (levelsOf n qs ss) (s .high)))
 
-  pub leaves-stage : leavesOf n qs ss ≡ stage n qs ss 10
+  leaves-stage : leavesOf n qs ss ≡ stage n qs ss 10
   unfolding leavesOf levelsOf
   leaves-stage =
       leaves-levels 12 0 (coarseCells n qs) ss ∙ below-all
@@ -99,7 +99,7 @@ module _ (n : ℕ) (qs : List (List ℕ)) (ss : List ℕ) (s : Sound n qs ss) wh
       leaf-top)
 
   module _ (regular : (i : ℕ) → All (IfRegular n i) (lv n qs ss i .cells)) where
-    pub apart-here : (j u : ℕ) → u < length (lv n qs ss j .cells) → Apart (getD (lv n qs ss j .cells) u noCell)
+    apart-here : (j u : ℕ) → u < length (lv n qs ss j .cells) → Apart (getD (lv n qs ss j .cells) u noCell)
     apart-here j u hu = go (getD (lv n qs ss j .cells) u noCell .regular) refl
       where
         go : (b : Bool) → getD (lv n qs ss j .cells) u noCell .regular ≡ b → Apart (getD (lv n qs ss j .cells) u noCell)
@@ -137,7 +137,7 @@ count-faces o a i hi (c ∷ cs) b = go (hasFaceb (faceOf o i) c) refl (count-fac
 
 module _ (n : ℕ) (qs : List (List ℕ)) (ss : List ℕ) (four : All (λ q. length q ≡ 4) qs) (cells : T (cellsb n qs)) (single : T (singleb qs))
     (s : Sound n qs ss) (regular : (i : ℕ) → All (IfRegular n i) (lv n qs ss i .cells)) where
-  pub meeting : (j : ℕ) → j ≤ 10 → Meeting n qs ss j
+  meeting : (j : ℕ) → j ≤ 10 → Meeting n qs ss j
   meeting zero h = meeting-zero n qs ss four cells single
   meeting (suc j) h = meeting-next n qs ss s regular j (omega arith) (meeting j (omega arith))
 

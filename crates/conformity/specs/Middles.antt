@@ -20,6 +20,7 @@ use Rattle.lattice.specs.Regular.{unit, unit-half, Regular, point-sized, point-
 use Rattle.families.specs.Children.{middle, middle-ends}
 use Rattle.conformity.specs.Leaves.{middleb}
 
+-- Rule 5.4, by tail sums.
 pub record IsMiddle (p a b : Point) : Type 0 where
   pub half : (j : ℕ) → 2 * tailSum p j ≡ tailSum a j + tailSum b j
 

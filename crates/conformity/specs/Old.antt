@@ -15,11 +15,12 @@ use native.Mathlib.Omega.{arith}
 use lib.Dec.{T, eqb, ltb, eqb→eq, ltb→lt}
 use lib.ListN.{length, getD}
 use Rattle.base.specs.Lists.{allb, allb-at, sameb}
-use Rattle.base.specs.Bools.{one-if, is-true, or-either, and-both, not-both}
+use Rattle.base.specs.Bools.{one-if, is-true, or-either, and-both, not-both, false-from}
 use Rattle.cutting.specs.Rule.{low, high, digit, edgeOf, split, family}
 use Rattle.mesh.specs.Cells.{Cell, corner, heldb, redEdges, noCell}
 use Rattle.mesh.specs.Weights.{Point, point}
 use Rattle.base.specs.Every.{Below, All, all-at, all-of, below-at, all-pass, any-place}
+use Rattle.base.specs.Each.{all-through}
 use Rattle.families.specs.Kuhn.{digit-ends, digit-named}
 use Rattle.lattice.specs.Regular.{Regular, On, mid-off}
 use Rattle.lattice.specs.Edges.{corner-apart}
@@ -33,7 +34,7 @@ use Rattle.soundness.specs.Sound.{lv}
 use Rattle.soundness.specs.Whole.{RedAt}
 use Rattle.families.specs.Digits.{cornersAt, lift, digitTriples, usesb}
 use Rattle.families.specs.FaceKinds.{OnSide, Present, midb}
-use Rattle.conformity.specs.Having.{false-from, inb, withinb, in-at, in-from, all-through, four-elements}
+use Rattle.conformity.specs.Having.{inb, withinb, in-at, in-from, four-elements}
 use Rattle.conformity.specs.Shared.{Reads, digit-of, within-shares}
 use Rattle.conformity.specs.Sides.{Three, three-at, triple-small}
 
@@ -47,7 +48,7 @@ pub record OldCell (n : ℕ) (qs : List (List ℕ)) (ss : List ℕ) (j : ℕ) (o
 abbrev pub redsAt : ℕ → List (List ℕ) → List ℕ → ℕ → List Edge
 redsAt n qs ss j = redEdges [] (lv n qs ss j .cells) (lv n qs ss j .statuses)
 
-pub held-red : (n : ℕ) (qs : List (List ℕ)) (ss : List ℕ) (j : ℕ) (e : Edge) → T (heldb sameb (redsAt n qs ss j) e) → RedAt n qs ss j e
+held-red : (n : ℕ) (qs : List (List ℕ)) (ss : List ℕ) (j : ℕ) (e : Edge) → T (heldb sameb (redsAt n qs ss j) e) → RedAt n qs ss j e
 held-red n qs ss j e t =
     let l = lv n qs ss j in
     let w : RedHas (l .cells) (l .statuses) e = red-which e (l .cells) (l .statuses) t in

@@ -27,7 +27,7 @@ use Rattle.carriers.specs.Joins.{Edge, SameEnds, ends-of, joins-from, joins-sym
 use Rattle.carriers.specs.Carrier.{between-below, between-low, between-high, edge-between}
 use Rattle.carriers.specs.Child.{own-or-mid}
 use Rattle.carriers.specs.Level.{next-level, not-own}
-use Rattle.carriers.specs.Refined.{status-regular, pattern-small}
+use Rattle.carriers.specs.Refined.{status-regular, asked-small}
 use Rattle.soundness.specs.Held.{closed-at, red-regular, regular-at}
 use Rattle.soundness.specs.Family.{ChildAt, born-of}
 use Rattle.soundness.specs.Sound.{Sound, lv, level-closed, level-next}
@@ -36,7 +36,7 @@ use Rattle.soundness.specs.Clash.{clash}
 use Rattle.conformity.specs.Kinds.{refined-low}
 use Rattle.conformity.specs.Old.{OldCell}
 
-pub red-turned : (n : ℕ) (qs : List (List ℕ)) (ss : List ℕ) (j : ℕ) (p q : Point) → RedAt n qs ss j (p, q) → RedAt n qs ss j (q, p)
+red-turned : (n : ℕ) (qs : List (List ℕ)) (ss : List ℕ) (j : ℕ) (p q : Point) → RedAt n qs ss j (p, q) → RedAt n qs ss j (q, p)
 red-turned n qs ss j p q w =
     record {
       u = w .u;
@@ -54,7 +54,7 @@ red-turned n qs ss j p q w =
         go (inl (a, b)) = inr (b, a)
         go (inr (a, b)) = inl (b, a)
 
-pub on-up : (i j : ℕ) (p : Point) → i ≤ j → j ≤ 10 → On i p → On j p
+on-up : (i j : ℕ) (p : Point) → i ≤ j → j ≤ 10 → On i p → On j p
 on-up i j p h l (x, e) =
     elim (decLt i j) [
       | yes g ↦ let (m, _, u) = unit-even i j g l in ((λ k. x k * (m + m)), (λ k. e k ∙ rw u (omega arith)))
@@ -79,7 +79,7 @@ module _ (n k : ℕ) (h : k < 10) (g c : Cell Point) (r : Regular n k g) (p i : 
   length-child : length (c .points) ≡ 4
   length-child = rw e (length-map (digitsOf p i) (point g) ∙ child-four p i hp hi)
 
-  pub corner-at : (m : ℕ) → m < 4 → corner [] c m ≡ point g (getD (digitsOf p i) m 0)
+  corner-at : (m : ℕ) → m < 4 → corner [] c m ≡ point g (getD (digitsOf p i) m 0)
   corner-at m l = rw e (getD-map (point g) (digitsOf p i) m 0 [] (omega (arith, child-four p i hp hi)))
 
   rises : (a b : ℕ) → a < b → b < 4 → (at a < at b) × (at b < 10)
@@ -112,7 +112,7 @@ module _ (n : ℕ) (qs : List (List ℕ)) (ss : List ℕ) (s : Sound n qs ss) (r
         let l = lv n qs ss j in
         regular-at n j l (regular j) (w .u) (w .below) (red-regular l (level-closed n qs ss (s .closed) j) (w .u) (w .below) (w .red))
 
-    pub old-regular : (i j : ℕ) → i < j → j ≤ 10 → (c : Cell Point) → Regular n i c → OldCell n qs ss j c
+    old-regular : (i j : ℕ) → i < j → j ≤ 10 → (c : Cell Point) → Regular n i c → OldCell n qs ss j c
     unfolding edge
     old-regular i j h l c r =
         record {
@@ -142,7 +142,7 @@ module _ (n : ℕ) (qs : List (List ℕ)) (ss : List ℕ) (s : Sound n qs ss) (r
         let t = getD (lo .statuses) (b .p) 0 in
         let es = redEdges [] (lo .cells) (lo .statuses) in
         let st = closed-at lo (level-closed n qs ss (s .closed) k) (b .p) (b .below) .1 in
-        let small = pattern-small es g t st in
+        let small = asked-small es g t st in
         let rg = regular-at n k lo (regular k) (b .p) (b .below) (status-regular es g t st (b .refined)) in
         let low10 = refined-low n qs ss s k (b .p) (b .below) (b .refined) in
         let points = ap (λ (c : Cell Point). c .points) (b .is) in
@@ -176,7 +176,7 @@ module _ (n : ℕ) (qs : List (List ℕ)) (ss : List ℕ) (s : Sound n qs ss) (r
         omega arith)
         (own-or-mid g dx dy xr yb)
 
-    pub old-child : (k u j : ℕ) → suc k ≤ j → j ≤ 10 → u < length (lv n qs ss (suc k) .cells)
+    old-child : (k u j : ℕ) → suc k ≤ j → j ≤ 10 → u < length (lv n qs ss (suc k) .cells)
         → getD (lv n qs ss (suc k) .cells) u noCell .regular
         ≡ false
         → OldCell n qs ss j (getD (lv n qs ss (suc k) .cells) u noCell)
@@ -189,7 +189,7 @@ module _ (n : ℕ) (qs : List (List ℕ)) (ss : List ℕ) (s : Sound n qs ss) (r
         let es = redEdges [] (lo .cells) (lo .statuses) in
         let green : redb t ≡ false = sym (ap (λ (c : Cell Point). c .regular) (b .is)) ∙ irr in
         let st = closed-at lo (level-closed n qs ss (s .closed) k) (b .p) (b .below) .1 in
-        let small = pattern-small es g t st in
+        let small = asked-small es g t st in
         let rg = regular-at n k lo (regular k) (b .p) (b .below) (status-regular es g t st (b .refined)) in
         let low10 = refined-low n qs ss s k (b .p) (b .below) (b .refined) in
         let points = ap (λ (c : Cell Point). c .points) (b .is) in

@@ -39,7 +39,7 @@ red-pattern s e = rw e refl
 
 module _ (n : ℕ) (qs : List (List ℕ)) (ss : List ℕ) (s : Sound n qs ss) (regular : (i : ℕ) → All (IfRegular n i) (lv n qs ss i .cells))
     (j : ℕ) (hj : j < 10) (meet : Meeting n qs ss j) where
-  pub leaf-right : (v : ℕ) → v < length (lv n qs ss j .cells) → getD (lv n qs ss j .statuses) v 0 ≡ 0
+  leaf-right : (v : ℕ) → v < length (lv n qs ss j .cells) → getD (lv n qs ss j .statuses) v 0 ≡ 0
       → Right n qs ss (suc j) (getD (lv n qs ss j .cells) v noCell)
   leaf-right v hv z = go (getD (lv n qs ss j .cells) v noCell .regular) refl
     where

@@ -33,7 +33,7 @@ use Rattle.carriers.specs.Joins.{Edge, joins-trans}
 use Rattle.carriers.specs.Carrier.{between-below, edge-between}
 use Rattle.carriers.specs.Child.{corner-point, digits-joined, child-edge, EdgeAt, edge-child, edge-joins}
 use Rattle.carriers.specs.Patterns.{split-none, split-pattern}
-use Rattle.carriers.specs.Refined.{status-regular, status-green, pattern-green, pattern-small}
+use Rattle.carriers.specs.Refined.{status-regular, status-green, pattern-green, asked-small}
 use Rattle.soundness.specs.Held.{red-at, closed-at, regular-at}
 use Rattle.soundness.specs.Family.{born-of}
 use Rattle.soundness.specs.Sound.{Sound, sound-parts, lv, level-closed, level-next, level-there}
@@ -60,7 +60,7 @@ turn : (p a b : Point) → IsMiddle p a b → IsMiddle p b a
 turn p a b m = record { half = λ j. omega (arith, m .half j) }
 
 module _ (n : ℕ) (qs : List (List ℕ)) (ss : List ℕ) (s : Sound n qs ss) where
-  pub red-held : (j : ℕ) (e : Edge) → RedAt n qs ss j e → T (heldb sameb (redEdges [] (lv n qs ss j .cells) (lv n qs ss j .statuses)) e)
+  red-held : (j : ℕ) (e : Edge) → RedAt n qs ss j e → T (heldb sameb (redEdges [] (lv n qs ss j .cells) (lv n qs ss j .statuses)) e)
   red-held j e w =
       let l = lv n qs ss j in
       red-at e (l .cells) (l .statuses) (record {
@@ -71,7 +71,7 @@ module _ (n : ℕ) (qs : List (List ℕ)) (ss : List ℕ) (s : Sound n qs ss) wh
         has = held-at [] (getD (l .cells) (w .u) noCell) sameb e (w .y) (w .small) (w .joins);
       })
 
-  pub unsplit : (j p : ℕ) → p < length (lv n qs ss j .cells) → T (getD (lv n qs ss j .cells) p noCell .regular)
+  unsplit : (j p : ℕ) → p < length (lv n qs ss j .cells) → T (getD (lv n qs ss j .cells) p noCell .regular)
       → redb (getD (lv n qs ss j .statuses) p 0) ≡ false
       → (y : ℕ) → y < 6 → split (getD (lv n qs ss j .statuses) p 0) y ≡ false
       → RedAt n qs ss j (edge [] (getD (lv n qs ss j .cells) p noCell) y) → ⊥
@@ -146,7 +146,7 @@ module _ (n : ℕ) (qs : List (List ℕ)) (ss : List ℕ) (s : Sound n qs ss) wh
         let joined : T (joinedb (family t) d e) = rw (pattern-green t green) at joins in
         let low10 = refined-low n qs ss s j p h z in
         let st = closed-at l (level-closed n qs ss (s .closed) j) p h .1 in
-        let small : t < 64 = rw (pattern-green t green) at (pattern-small (redEdges [] (l .cells) (l .statuses)) g t st) in
+        let small : t < 64 = rw (pattern-green t green) at (asked-small (redEdges [] (l .cells) (l .statuses)) g t st) in
         let r : T (g .regular) = status-regular (redEdges [] (l .cells) (l .statuses)) g t st z in
         let rg = regular-at n j l (regular j) p h r in
         let (d0, d1) = digit-ends d (omega arith) in
@@ -194,7 +194,7 @@ module _ (n : ℕ) (qs : List (List ℕ)) (ss : List ℕ) (s : Sound n qs ss) wh
         let t = getD (l .statuses) (b .p) 0 in
         let st = closed-at l (level-closed n qs ss (s .closed) j) (b .p) (b .below) .1 in
         let green : redb t ≡ false = sym (ap (λ (c : Cell Point). c .regular) (b .is)) ∙ r in
-        let small : patternOf t < 64 = pattern-small (redEdges [] (l .cells) (l .statuses)) g t st in
+        let small : patternOf t < 64 = asked-small (redEdges [] (l .cells) (l .statuses)) g t st in
         let rg : T (g .regular) = status-regular (redEdges [] (l .cells) (l .statuses)) g t st (b .refined) in
         let reg = regular-at n j l (regular j) (b .p) (b .below) rg in
         let low10 = refined-low n qs ss s j (b .p) (b .below) (b .refined) in
@@ -210,7 +210,7 @@ module _ (n : ℕ) (qs : List (List ℕ)) (ss : List ℕ) (s : Sound n qs ss) wh
         ∙ sym (point-sized n j g low10 reg e he .places)) m' in
         green-open j (b .p) (b .below) (b .refined) green d e de he (digits-joined (patternOf t) (b .i) small (b .child) y hy) mid
 
-    pub leaf-open : (j p : ℕ) → p < length (lv n qs ss j .cells) → getD (lv n qs ss j .statuses) p 0 ≡ 0
+    leaf-open : (j p : ℕ) → p < length (lv n qs ss j .cells) → getD (lv n qs ss j .statuses) p 0 ≡ 0
         → (y : ℕ) → y < 6 → T (middleb x (edge [] (getD (lv n qs ss j .cells) p noCell) y)) → ⊥
     leaf-open j p h leaf y hy m = go j h leaf m (getD (lv n qs ss j .cells) p noCell .regular) refl
       where

@@ -19,7 +19,7 @@ use Rattle.families.specs.Kuhn.{reds, family-red}
 
 -- where one of the two is a corner and the other a midpoint of the opposite edge of a face: the midpoints of the other edges of the
 -- face; where they are 12 and 34, or 14 and 23: 13 and 24
-abbrev pub other : ℕ → ℕ → ℕ × ℕ
+abbrev other : ℕ → ℕ → ℕ × ℕ
 other d e =
     elim (joinedb reds d e) [
       | true ↦ (d, e)

@@ -29,11 +29,11 @@ whole = 64 ∷ 64 ∷ replicate 16 0
 abbrev closed : List ℕ
 closed = 64 ∷ 11 ∷ replicate 12 0
 
-pub takes-open : map (openb 5 pair) ((0 ∷ 0 ∷ []) ∷ whole ∷ closed ∷ halfRefined ∷ []) ≡ true ∷ true ∷ true ∷ false ∷ []
+takes-open : map (openb 5 pair) ((0 ∷ 0 ∷ []) ∷ whole ∷ closed ∷ halfRefined ∷ []) ≡ true ∷ true ∷ true ∷ false ∷ []
 unfolding openb family
 takes-open = refl
 
-pub takes-meets : map (meetb 5 pair) ((0 ∷ 0 ∷ []) ∷ whole ∷ closed ∷ halfRefined ∷ []) ≡ true ∷ true ∷ true ∷ false ∷ []
+takes-meets : map (meetb 5 pair) ((0 ∷ 0 ∷ []) ∷ whole ∷ closed ∷ halfRefined ∷ []) ≡ true ∷ true ∷ true ∷ false ∷ []
 unfolding meetb family
 takes-meets = refl
 
@@ -41,7 +41,7 @@ takes-meets = refl
 abbrev splitBeside : List (List ℕ)
 splitBeside = quad 0 1 4 5 ∷ quad 0 2 4 5 ∷ quad 0 3 4 5 ∷ quad 1 2 4 5 ∷ quad 1 3 4 5 ∷ quad 2 3 4 5 ∷ []
 
-pub each-edge : map (λ q. openb 6 (quad 0 1 2 3 ∷ q ∷ []) (0 ∷ 1 ∷ 0 ∷ 0 ∷ [])) splitBeside ≡ replicate 6 false
+each-edge : map (λ q. openb 6 (quad 0 1 2 3 ∷ q ∷ []) (0 ∷ 1 ∷ 0 ∷ 0 ∷ [])) splitBeside ≡ replicate 6 false
 unfolding openb family
 each-edge = refl
 
@@ -54,6 +54,6 @@ crowded =
     ∷ (quad 0 1 2 3 ∷ quad 0 1 2 4 ∷ quad 0 1 2 5 ∷ [])
     ∷ []
 
-pub each-face : map (λ qs. meetb 6 qs (0 ∷ 0 ∷ 0 ∷ [])) crowded ≡ replicate 4 false
+each-face : map (λ qs. meetb 6 qs (0 ∷ 0 ∷ 0 ∷ [])) crowded ≡ replicate 4 false
 unfolding meetb memberb
 each-face = refl

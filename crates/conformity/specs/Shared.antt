@@ -3,7 +3,7 @@
 --   Reads es c p   the pattern p of c says which of its edges stand in es
 -- Laws: family-small, digit-of, point-digit (the point between two corners), found-within (the corners that points use are corners of
 -- both),
--- shares-within, within-shares (corners of both), same-points, points-point, points-edge (cells with the same corners), map-all,
+-- shares-within, within-shares (corners of both), same-points, points-point, points-edge (cells with the same corners), map-same,
 -- all-every, one-times, none-times, no-child (no child has them, where the second cell has not those corners), inside-count (points that
 -- use every corner: the second cell is the first).
 use mathlib.Core.Path.{_≡_, refl, sym, _∙_, ap, ap₂, subst}
@@ -21,6 +21,7 @@ use Rattle.cutting.specs.Rule.{low, high, digit, split, family}
 use Rattle.mesh.specs.Cells.{Cell, corner, edge, heldb}
 use Rattle.mesh.specs.Weights.{Point, point, mid}
 use Rattle.base.specs.Every.{below-at, All, all-at, all-of, all-more, getD-map, all-pass, any-place}
+use Rattle.base.specs.Each.{map-same, all-through}
 use Rattle.families.specs.Kuhn.{digit-ends}
 use Rattle.lattice.specs.Regular.{Regular, same-ends}
 use Rattle.families.specs.Children.{middle}
@@ -30,7 +31,7 @@ use Rattle.carriers.specs.Carrier.{Shares}
 use Rattle.carriers.specs.Order.{lower-too}
 use Rattle.families.specs.Digits.{usesb, holds}
 use Rattle.families.specs.FaceKinds.{pattern-sum, family-present, Present}
-use Rattle.conformity.specs.Having.{inb, withinb, in-at, in-from, all-through, countDigits, digits-none, digits-holds, four-elements}
+use Rattle.conformity.specs.Having.{inb, withinb, in-at, in-from, countDigits, digits-none, digits-holds, four-elements}
 
 abbrev pub Below10 : List ℕ → Type 0
 Below10 f = All (λ x. x < 10) f
@@ -78,7 +79,7 @@ module _ (n k : ℕ) (c g : Cell Point) (h : k < 10) (r : Regular n k c) (s : Re
       let hi' : i < length d = rw (length-map d (point g)) at hi in
       (getD d i 0, all-at (λ x. x < 10) 0 d a i hi', e ∙ getD-map (point g) d i 0 [] hi')
 
-  pub found-within : (f d : List ℕ) → Below10 f → Below10 d → T (withinb (map (point c) f) (map (point g) d)) → (m : ℕ) → m < 4
+  found-within : (f d : List ℕ) → Below10 f → Below10 d → T (withinb (map (point c) f) (map (point g) d)) → (m : ℕ) → m < 4
       → T (usesb f m)
       → Shares c g m
   found-within f d a b t m hm u =
@@ -94,7 +95,7 @@ module _ (n k : ℕ) (c g : Cell Point) (h : k < 10) (r : Regular n k c) (s : Re
       (or-either (eqb (low x) m) (eqb (high x) m) v)
 
 -- corners of both
-pub shares-within : (c g : Cell Point) → length (g .points) ≡ 4 → (z : List ℕ) → All (Shares c g) z
+shares-within : (c g : Cell Point) → length (g .points) ≡ 4 → (z : List ℕ) → All (Shares c g) z
     → T (withinb (map (corner [] c) z) (g .points))
 shares-within c g e z a =
     rw (all-through (corner [] c) (λ p. inb p (g .points)) z)
@@ -113,7 +114,7 @@ within-shares c g e (m ∷ z) a t =
 
 -- all four corners
 module _ (n k : ℕ) (c g : Cell Point) (r : Regular n k c) (s : Regular n k g) where
-  pub same-points : ((m : ℕ) → m < 4 → Shares c g m) → c .points ≡ g .points
+  same-points : ((m : ℕ) → m < 4 → Shares c g m) → c .points ≡ g .points
   same-points f =
       let (a, _, a4, ea) = f 0 (omega arith) in
       let (b, _, b4, eb) = f 1 (omega arith) in
@@ -131,19 +132,15 @@ module _ (n k : ℕ) (c g : Cell Point) (r : Regular n k c) (s : Regular n k g) 
       (ap₂ _∷_ (eb ∙ ap (corner [] g) pb) (ap₂ _∷_ (ed ∙ ap (corner [] g) pd) (ap₂ _∷_ (ee ∙ ap (corner [] g) pe) refl)))
       ∙ sym (four-elements [] (g .points) (s .four))
 
-pub points-point : (c g : Cell Point) → c .points ≡ g .points → (x : ℕ) → point c x ≡ point g x
+points-point : (c g : Cell Point) → c .points ≡ g .points → (x : ℕ) → point c x ≡ point g x
 unfolding point
 points-point c g e x = ap (λ (l : List Point). mid (getD l (low x) []) (getD l (high x) [])) e
 
-pub points-edge : (c g : Cell Point) → c .points ≡ g .points → (y : ℕ) → edge [] c y ≡ edge [] g y
+points-edge : (c g : Cell Point) → c .points ≡ g .points → (y : ℕ) → edge [] c y ≡ edge [] g y
 unfolding edge
 points-edge c g e y = ap {A = List Point} {B = Edge} (λ l. (getD l (low (middle y)) [], getD l (high (middle y)) [])) e
 
-pub map-all : (f g : ℕ → Point) (l : List ℕ) → All (λ x. f x ≡ g x) l → map f l ≡ map g l
-map-all f g [] a = refl
-map-all f g (x ∷ l) a = ap₂ _∷_ (a .0) (map-all f g l (a .1))
-
-pub all-every : {A : Type 0} (P : A → Type 0) → ((x : A) → P x) → (l : List A) → All P l
+all-every : {A : Type 0} (P : A → Type 0) → ((x : A) → P x) → (l : List A) → All P l
 all-every P f [] = tt
 all-every P f (x ∷ l) = (f x, all-every P f l)
 
@@ -196,7 +193,7 @@ module _ (n k : ℕ) (c g : Cell Point) (h : k < 10) (r : Regular n k c) (s : Re
           let same : c .points ≡ g .points = same-points n k c g r s
           (below-at (Shares c g) 4 ((((tt, a .0), a .1 .0), a .1 .1 .0), a .1 .1 .1 .0)) in
           let pq : p ≡ q = pattern-sum p q hp hq (λ y hy. rp y hy ∙ ap (heldb sameb es) (points-edge c g same y) ∙ sym (rq y hy)) in
-          let m : map (point c) f ≡ map (point g) f = map-all (point c) (point g) f
+          let m : map (point c) f ≡ map (point g) f = map-same (point c) (point g) f
           (all-every (λ x. point c x ≡ point g x) (points-point c g same) f) in
           ap (λ (u : List Point). countDigits u (point g) (family q)) m
           ∙ digits-holds 10 (point g) (λ x y hx hy w. point-injective n k g s h x y hx hy w) f small (family q) (family-small q hq)

@@ -25,7 +25,7 @@ use Rattle.lattice.specs.Levels.{noLevel, IfRegular}
 use Rattle.carriers.specs.Lists.{held-at}
 use Rattle.carriers.specs.Carrier.{joins-self}
 use Rattle.carriers.specs.Patterns.{split-red, split-pattern}
-use Rattle.carriers.specs.Refined.{status-regular, status-green, pattern-red, pattern-green, pattern-small}
+use Rattle.carriers.specs.Refined.{status-regular, status-green, pattern-red, pattern-green, asked-small}
 use Rattle.soundness.specs.Held.{red-at, closed-at, closed-length, regular-at}
 use Rattle.soundness.specs.Sound.{Sound, lv, level-closed, level-next}
 use Rattle.conformity.specs.Leaves.{leavesIn}
@@ -35,6 +35,7 @@ use Rattle.conformity.specs.Open.{leaves-each}
 use Rattle.conformity.specs.Old.{OldCell, redsAt}
 use Rattle.conformity.specs.Olds.{old-at}
 
+-- Rule 4.1.
 abbrev pub leavesOn : Level → List (Cell Point)
 leavesOn l = leavesIn (l .cells) (l .statuses)
 
@@ -77,7 +78,7 @@ module _ (n : ℕ) (qs : List (List ℕ)) (ss : List ℕ) (s : Sound n qs ss) (r
       pub pattern-at : patternOf (getD (lv n qs ss j .statuses) v 0) < 64
       pattern-at =
           let l = lv n qs ss j in
-          pattern-small (redEdges [] (l .cells) (l .statuses)) (getD (l .cells) v noCell) (getD (l .statuses) v 0)
+          asked-small (redEdges [] (l .cells) (l .statuses)) (getD (l .cells) v noCell) (getD (l .statuses) v 0)
           (closed-at l (level-closed n qs ss (s .closed) j) v hv .1)
 
       pub reads-at : T (getD (lv n qs ss j .cells) v noCell .regular) → Reads (redsAt n qs ss j) (getD (lv n qs ss j .cells) v noCell)

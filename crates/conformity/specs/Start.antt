@@ -11,21 +11,22 @@ use lib.Dec.{T, eqb, leb}
 use lib.ListN.{length, getD}
 use borrow.Author.Tests.{eqb-true, eq-eqb, le-leb}
 use Rattle.base.specs.Lists.{allb, anyb, allb-at, filterb, memberb, sameb, member-at}
-use Rattle.base.specs.Bools.{is-true, is-false, and-left, and-right, or-either, or-first, or-second, and-both, not-both}
+use Rattle.base.specs.Bools.{is-true, is-false, and-left, and-right, or-either, or-first, or-second, and-both, not-both, same-test}
 use Rattle.base.specs.Fours.{faces, holders}
 use Rattle.base.specs.Places.{sameb-self}
 use Rattle.mesh.specs.Cells.{Cell, corner, noCell}
 use Rattle.mesh.specs.Weights.{Point, coarse, coarseCells}
 use Rattle.mesh.specs.Coarse.{cellsb, twiceb, singleb}
 use Rattle.mesh.specs.Table.{levelsOf}
+use Rattle.mesh.specs.Laws.{length-coarse}
 use Rattle.base.specs.Every.{All, all-at, all-from, getD-map, any-place, any-at, all-each}
 use Rattle.base.specs.Each.{all-filter, filter-passes}
-use Rattle.lineage.specs.Paths.{length-coarse, coarse-at}
+use Rattle.lineage.specs.Paths.{coarse-at}
 use Rattle.lineage.specs.Levels.{cells-first}
 use Rattle.soundness.specs.Sound.{lv}
 use Rattle.conformity.specs.Leaves.{offb, onCoarseFaceb, onBoundaryb, boundaryFaces}
 use Rattle.families.specs.Digits.{cornersAt}
-use Rattle.conformity.specs.Having.{bool-ext, count}
+use Rattle.conformity.specs.Having.{count}
 use Rattle.conformity.specs.Bounds.{Wide}
 use Rattle.conformity.specs.Fours.{Rise, Rise3, rise-all, faces-at, faces-four, within-three, face-rise, faces-rise, four-in-three}
 use Rattle.conformity.specs.Stages.{below, stage}
@@ -120,7 +121,7 @@ module _ (n : ℕ) (qs : List (List ℕ)) (r : All (Rise n) qs) (single : T (sin
   on-bound =
       let below = face-below n (getD qs k []) own m hm in
       let rise = face-rise n (getD qs k []) own m hm in
-      bool-ext (anyb (onCoarseFaceb (map (coarse n) cut)) (boundaryFaces qs)) (eqb (holders qs cut) 1)
+      same-test (anyb (onCoarseFaceb (map (coarse n) cut)) (boundaryFaces qs)) (eqb (holders qs cut) 1)
       (λ t. let (i, hi, w) = any-place (onCoarseFaceb (map (coarse n) cut)) [] (boundaryFaces qs) t in
       let u = getD (boundaryFaces qs) i [] in
       let one : eqb (holders qs u) 1 ≡ true = all-at (λ t. eqb (holders qs t) 1 ≡ true) [] (boundaryFaces qs)
@@ -134,7 +135,7 @@ module _ (n : ℕ) (qs : List (List ℕ)) (r : All (Rise n) qs) (single : T (sin
       (and-both (eqb (holders qs cut) 1) (onCoarseFaceb (map (coarse n) cut) cut) t
       (rw (on-coarse n cut cut below) (all-each (λ x. memberb x cut) 0 cut (member-at cut))))))
 
-  pub bound-coarse : holders qs cut ≡ bound qs (map (coarse n) cut)
+  bound-coarse : holders qs cut ≡ bound qs (map (coarse n) cut)
   bound-coarse = go (eqb (holders qs cut) 1) refl
     where
       go : (b : Bool) → eqb (holders qs cut) 1 ≡ b → holders qs cut ≡ bound qs (map (coarse n) cut)

@@ -13,19 +13,19 @@ use Rattle.corners.specs.Sums.{SmallSum, half}
 use Rattle.base.specs.Integers.{add-size}
 use Rattle.corners.specs.Sizes.{neg-size}
 
-pub small-add : {m n : ℕ} {x y : ℤ} → SmallSum m x → SmallSum n y → SmallSum (m + n) (x +ℤ y)
+small-add : {m n : ℕ} {x y : ℤ} → SmallSum m x → SmallSum n y → SmallSum (m + n) (x +ℤ y)
 small-add {x = x} {y = y} p q = record { size = omega (arith, add-size x y, p .size, q .size) }
 
 pub small-scaled : (z : ℤ) → SmallSum 500000 z → SmallSum 512000000 (pos 1024 *ℤ z)
 small-scaled (pos a) p = record { size = omega (arith, p .size) }
 small-scaled (negsuc a) p = record { size = rw (neg-size (1024 * suc a)) (omega (arith, p .size)) }
 
-pub small-half : (z : ℤ) → SmallSum 1024000000 z → SmallSum 512000000 (half z)
+small-half : (z : ℤ) → SmallSum 1024000000 z → SmallSum 512000000 (half z)
 unfolding half
 small-half (pos a) p = record { size = omega (arith, p .size) }
 small-half (negsuc a) p = record { size = rw (neg-size (suc a / 2)) (omega (arith, p .size)) }
 
-pub small-fits : {n : ℕ} {z : ℤ} → SmallSum n z → n < 2 ^ 31 → SFits w32 z
+small-fits : {n : ℕ} {z : ℤ} → SmallSum n z → n < 2 ^ 31 → SFits w32 z
 small-fits {z = pos a} p h = record { sfits = omega (arith, p .size) }
 small-fits {z = negsuc a} p h = record { sfits = omega (arith, p .size) }
 

@@ -46,7 +46,7 @@ coarse-small ps s (suc i) =
     (small-scaled (coordinateAt ps i 1) (s .at (3 * i + 1)))
     (small-scaled (coordinateAt ps i 2) (s .at (3 * i + 2)))
 
-pub new-small : (l : List ℤ) (xs ys : List ℕ) → Smalls 512000000 l → (m : ℕ) → Smalls 512000000 (addSums l xs ys m)
+new-small : (l : List ℤ) (xs ys : List ℕ) → Smalls 512000000 l → (m : ℕ) → Smalls 512000000 (addSums l xs ys m)
 unfolding addSums
 new-small l xs ys s zero = s
 new-small l xs ys s (suc j) =

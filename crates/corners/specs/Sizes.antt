@@ -17,7 +17,7 @@ pub neg-size : (n : ℕ) → natAbs (negℤ (pos n)) ≡ n
 neg-size zero = refl
 neg-size (suc n) = refl
 
-pub scale-size : (w : ℕ) (z : ℤ) → natAbs (pos w *ℤ z) ≡ w * natAbs z
+scale-size : (w : ℕ) (z : ℤ) → natAbs (pos w *ℤ z) ≡ w * natAbs z
 scale-size w (pos a) = refl
 scale-size w (negsuc a) = neg-size (w * suc a)
 

@@ -6,11 +6,11 @@
 --   sums-at                 what stands there of corner i
 use mathlib.Core.Path.{_≡_, refl, sym, _∙_, ap}
 use mathlib.Core.Logic.{⊎-elim}
-use mathlib.Core.List.{List, [], _∷_, _++_, flatMap, append-assoc, append-nil}
+use mathlib.Core.List.{List, [], _∷_, _++_, flatMap}
 use Prim.Native.Nat.{ℕ, zero, suc, _+_, _*_, _≤_, _<_}
 use native.Mathlib.Nat.{add-suc, add-zero, zero-add, eq-or-lt-of-le}
 use native.Mathlib.Omega.{arith}
-use lib.ListN.{length, getD, take, replicate, length-append, length-set, length-replicate, List·getD-append}
+use lib.ListN.{length, getD, take, replicate, length-set, length-replicate, List·getD-append}
 use lib.Seq.{take-suc, take-all, getD-take, length-take-le, getD-at}
 use lib.IntN.{ℤ, pos, _+ℤ_}
 use Rattle.mesh.specs.Coarse.{coordinateAt}
@@ -19,13 +19,14 @@ use Rattle.mesh.specs.Layout.{Corner, coarseCorners, coarseCornersTo, endTable,
 use Rattle.corners.specs.Ends.{Ends, coarseEnds, addEnds, endNumbers}
 use Rattle.corners.specs.Sums.{half, coarseSums, midSums, addSums, sumNumbers}
 use Rattle.corners.specs.Weighted.{Evens, half-mid, weighted-coarse}
-use Rattle.mesh.specs.Laws.{length-mid}
+use Rattle.mesh.specs.Laws.{length-mid, length-corners}
+use Rattle.base.specs.Append.{flat-snoc}
 
 -- corner i; where there is none, one with no weights
-abbrev pub cornerNumbered : List Corner → ℕ → Corner
+abbrev cornerNumbered : List Corner → ℕ → Corner
 cornerNumbered ks i = getD ks i (record { weights = []; low = 0; high = 0 })
 
-abbrev pub weightsNumbered : List Corner → ℕ → Point
+abbrev weightsNumbered : List Corner → ℕ → Point
 weightsNumbered ks i = cornerNumbered ks i .weights
 
 -- Rules 5.2, 5.5, 9.3: coarse corners first, then midpoints of corners before them.
@@ -39,11 +40,6 @@ pub record CornersNumbered (n : ℕ) (xs ys : List ℕ) (m : ℕ) (ks : List Cor
   pub even : (j : ℕ) → j < m → Evens (weightsNumbered ks (getD xs j 0)) (weightsNumbered ks (getD ys j 0))
 
 -- the tables corner by corner
-flat-snoc : {A B : Type 0} (f : A → List B) (l : List A) (a : A) → flatMap f (l ++ (a ∷ [])) ≡ flatMap f l ++ f a
-unfolding flatMap
-flat-snoc f [] a = append-nil (f a)
-flat-snoc f (x ∷ l) a = rw (flat-snoc f l a) (sym (append-assoc (f x) (flatMap f l) (f a)))
-
 abbrev endsOf : Corner → List ℕ
 endsOf k = k .low ∷ k .high ∷ []
 
@@ -84,19 +80,14 @@ sums-at ps k h (c ∷ ks) (suc i) l =
 
 -- coarse corners
 module _ (n : ℕ) where
-  length-coarse : (i : ℕ) → length (coarseCornersTo n i) ≡ i
-  unfolding coarseCornersTo
-  length-coarse zero = refl
-  length-coarse (suc i) = simp length-append (omega (arith, length-coarse i))
-
   coarse-at : (k i : ℕ) → i < k → weightsNumbered (coarseCornersTo n k) i ≡ coarse n i
   unfolding coarseCornersTo
   coarse-at zero i h = absurd (omega arith)
   coarse-at (suc k) i h =
       ⊎-elim
-      (λ (e : i ≡ k). rw e (ap (λ (c : Corner). c .weights) (getD-at (coarseCornersTo n k) _ [] _ k (length-coarse k))))
+      (λ (e : i ≡ k). rw e (ap (λ (c : Corner). c .weights) (getD-at (coarseCornersTo n k) _ [] _ k (length-corners n k))))
       (λ (l : i < k).
-      ap (λ (c : Corner). c .weights) (List·getD-append (coarseCornersTo n k) _ _ i (rw (length-coarse k) l))
+      ap (λ (c : Corner). c .weights) (List·getD-append (coarseCornersTo n k) _ _ i (rw (length-corners n k) l))
       ∙ coarse-at k i l)
       (eq-or-lt-of-le (omega arith))
 

@@ -49,7 +49,7 @@ module _ (ps : List ℤ) (k : ℕ) where
       ∙ ap₂ _+ℤ_ (sym (add-weights w w z) ∙ ap (λ (n : ℕ). pos n *ℤ z) m ∙ add-weights x y z) s
       ∙ interchange (pos x *ℤ z) (pos y *ℤ z) a b
 
-  pub weighted-mid : (p q : Point) → length p ≡ length q → Evens p q
+  weighted-mid : (p q : Point) → length p ≡ length q → Evens p q
       → weightedSum ps k (mid p q) +ℤ weightedSum ps k (mid p q) ≡ weightedSum ps k p +ℤ weightedSum ps k q
   unfolding weightedSum
   weighted-mid p q e h = mid-from 0 p q e (h .at)
@@ -72,7 +72,7 @@ module _ (ps : List ℤ) (k : ℕ) where
   weighted-coarse n j h = from-one 0 n j h ∙ rw (zero-add j)
 
 -- halving undoes doubling
-pub half-twice : (z : ℤ) → half (z +ℤ z) ≡ z
+half-twice : (z : ℤ) → half (z +ℤ z) ≡ z
 unfolding half
 half-twice (pos a) = ap pos (let e : (a + a) / 2 ≡ a = omega arith in e)
 half-twice (negsuc a) = let e : suc (suc (a + a)) / 2 ≡ suc a = omega arith in rw e

@@ -48,7 +48,7 @@ module _ (f : ℕ → Bool) where
   unfolding countIf filterb
   count-none l first = let e : first - first ≡ 0 = omega arith in rw e
 
-  pub count-step : (l : List ℕ) (first c : ℕ) → first ≤ c → c < length l
+  count-step : (l : List ℕ) (first c : ℕ) → first ≤ c → c < length l
       → countIf f (part l first (c + 1 - first)) ≡ countIf f (part l first (c - first)) + one-if (f (getD l c 0))
   count-step l first c h g =
       let e : c + 1 - first ≡ suc (c - first) = omega arith in

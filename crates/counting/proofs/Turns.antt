@@ -21,7 +21,7 @@ first-below (suc f) first last ss h =
     (omega (arith, first-below f last (nextEnd first last ss) ss (next-after first last ss))))
     (eq-or-lt-of-le h)
 
-pub last-below : (f first last : ℕ) (ss : List ℕ) → first ≤ last → last ≤ levelEnd (suc f) first last ss
+last-below : (f first last : ℕ) (ss : List ℕ) → first ≤ last → last ≤ levelEnd (suc f) first last ss
 last-below f first last ss h =
     ⊎-elim (λ (e : first ≡ last). rw (end-none (suc f) first last ss (omega arith)) (omega arith))
     (λ (l : first < last). rw (end-more f first last ss l) (first-below f last (nextEnd first last ss) ss (next-after first last ss)))
@@ -41,10 +41,10 @@ module _ (l vs : List ℕ) (n : ℕ) (e : length vs ≡ 4) (h : n + 4 ≤ length
   front-size : length (take n l ++ vs) ≡ n + 4
   front-size = length-append (take n l) vs ∙ rw (length-take-le n l (omega arith), e)
 
-  pub stored-front : take (n + 4) (sets l n vs) ≡ take n l ++ vs
+  stored-front : take (n + 4) (sets l n vs) ≡ take n l ++ vs
   stored-front = ap (take (n + 4)) stored ∙ take-at (take n l ++ vs) (drop (n + 4) l) (n + 4) front-size
 
-  pub stored-behind : drop (n + 4) (sets l n vs) ≡ drop (n + 4) l
+  stored-behind : drop (n + 4) (sets l n vs) ≡ drop (n + 4) l
   stored-behind = ap (drop (n + 4)) stored ∙ drop-at (take n l ++ vs) (drop (n + 4) l) (n + 4) front-size
 
 -- before the level `level`, with the cells from first to last

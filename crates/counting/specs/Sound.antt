@@ -10,23 +10,17 @@ use lib.Dec.{T, eqb, leb, eqb→eq, leb→le}
 use lib.ListN.{length, take, drop, length-append, length-drop, take-append-drop}
 use borrow.Author.Tests.{le-leb}
 use Rattle.base.specs.Lists.{allb, sameb}
-use Rattle.base.specs.Bools.{and-left, and-right, one-most}
-use Rattle.mesh.specs.Cells.{Cell, redb, edge, edges, heldb, bitsOf, pattern, statusOf, redEdges, closedFrom}
+use Rattle.base.specs.Bools.{and-left, and-right}
+use Rattle.mesh.specs.Cells.{Cell, redb, pattern, statusOf, redEdges, closedFrom}
 use Rattle.mesh.specs.Weights.{Point, coarseCells}
 use Rattle.mesh.specs.Table.{Level, next, levels, levelsOf, cellsOf, closedb, apartb, soundb}
+use Rattle.mesh.specs.Laws.{pattern-small}
 use Rattle.counting.specs.Levels.{Levels}
 use Rattle.counting.specs.Whole.{number-right, end-right}
 
 -- a status that the rule gives is at most 64
-six-bits : (a b c d e f : Bool) → bitsOf (a ∷ b ∷ c ∷ d ∷ e ∷ f ∷ []) ≤ 63
-unfolding bitsOf
-six-bits a b c d e f = omega (arith, one-most a, one-most b, one-most c, one-most d, one-most e, one-most f)
-
 pattern-few : (es : List (Point × Point)) (c : Cell Point) → pattern [] sameb es c ≤ 63
-unfolding pattern edges
-pattern-few es c =
-    let held : ℕ → Bool = λ e. heldb sameb es (edge [] c e) in
-    six-bits (held 0) (held 1) (held 2) (held 3) (held 4) (held 5)
+pattern-few es c = omega (arith, pattern-small [] sameb es c)
 
 status-few : (es : List (Point × Point)) (r : Bool) (c : Cell Point) → statusOf [] sameb es r c ≤ 64
 unfolding statusOf

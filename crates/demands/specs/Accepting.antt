@@ -27,9 +27,11 @@ cornersA =
 pub cellsA : List ℕ
 cellsA = 0 ∷ 1 ∷ 2 ∷ 3 ∷ []
 
+-- Rules 12.11, 14.2 to 14.6: a step over mesh A.
 abbrev pub AcceptsStep : List ℕ → List ℕ → Type 0
 AcceptsStep ss ms = (table : List ℕ) → mostCells ≤ length table → stepAnswer cornersA cellsA ss ms table ≡ Accepted
 
+-- Rules 14.2 to 14.6: none of their steps is refused.
 pub record StarredAccepted : Type 0 where
   pub tables : (ss ms : List ℕ) → newTable (cornerCount cornersA) (fours cellsA) ss ms ≡ flatten (step ss ms)
   pub A-deleted : AcceptsStep (0 ∷ []) (2 ∷ [])

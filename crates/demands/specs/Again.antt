@@ -25,7 +25,7 @@ use Rattle.replay.specs.Run.{jobAnswer, jobTable}
 use Rattle.jobs.specs.Calls.{archiveAnswer}
 use Rattle.jobs.specs.Sound.{job-parts, job-sound, archive-job}
 
-pub sound-accepted : (ps : List ℤ) (ts ss : List ℕ) → meshAnswer ps ts ≡ Accepted → T (soundb (cornerCount ps) (fours ts) ss)
+sound-accepted : (ps : List ℤ) (ts ss : List ℕ) → meshAnswer ps ts ≡ Accepted → T (soundb (cornerCount ps) (fours ts) ss)
     → tableAnswer ps ts ss ≡ Accepted
 unfolding tableAnswer andThen refuse
 sound-accepted ps ts ss m s = rw (m, is-true (soundb (cornerCount ps) (fours ts) ss) s)

@@ -126,7 +126,7 @@ module _ (n : ℕ) (qs : List (List ℕ)) where
         and-both (memberb 7 ns) (memberb 7 ns && (memberb 8 ns && (memberb 9 ns && rest))) seven
         (one-numbers rest (flat-numbers last h u e ms es))
 
-pub job-first : (j : Job) → jobAnswer j ≡ firstOf (jobTests j)
+job-first : (j : Job) → jobAnswer j ≡ firstOf (jobTests j)
 unfolding jobAnswer
 job-first j =
     let n = cornerCount (j .positions) in
@@ -135,7 +135,7 @@ job-first j =
     ∙ after (meshAnswer (j .positions) (j .cells)) (meshTests (j .positions) (j .cells)) (runTests n qs (restTable qs) (j .steps))
     (mesh-first (j .positions) (j .cells))
 
-pub archive-first : (bs : List ℕ) → archiveAnswer bs ≡ firstOf (archiveTests bs)
+archive-first : (bs : List ℕ) → archiveAnswer bs ≡ firstOf (archiveTests bs)
 unfolding archiveAnswer firstOf
 archive-first bs = ap (refuse 17 (formb bs)) (job-first (jobOf bs))
 

@@ -1,7 +1,7 @@
 -- Demand 1: every call is answered with a result or one of its numbered refusals, and a refusal changes nothing (Rules 12.1 to 12.17).
--- A contract (src/ of `cutting`, `coarse`, `layout`, `position`, `step`, `jobs`, and of `yuccadice` for the library; for the calls on parts see
--- `PartCalls`) says: the call
--- answers as its definition does; afterwards a lent table is `heldAfter` of that answer, a lent number `valueAfter` of it. What follows:
+-- A contract (src/ of `cutting`, `coarse`, `layout`, `position`, `step`, `jobs`, and of `yuccadice` for the library; for the calls on
+-- parts see `PartCalls`) says: the call answers as its definition does; afterwards a lent table is `heldAfter` of that answer, a lent
+-- number `valueAfter` of it. What follows:
 --   Answered a ts ns   the answer a is that of the tests ts in order (`Tests`), the first that fails giving its number; so a is
 --                      accepted, or its number is one of ns
 -- No contract of a call has a `requires`: it holds on any bytes, numbers and tables. That no fault can happen is part of every proof.

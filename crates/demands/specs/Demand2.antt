@@ -40,6 +40,7 @@ use Rattle.demands.specs.Again.{step-again, job-again, archive-again}
 use Rattle.demands.specs.Positions.{Exactly, sumsAfter, position-exact}
 use Rattle.demands.specs.Accepting.{StarredAccepted, starred-accepted}
 
+-- Rules 13.1, 13.2.
 abbrev pub FaceToFace : List ℤ → List ℕ → List ℕ → Type 0
 FaceToFace ps ts ss = T (openb (cornerCount ps) (fours ts) ss) × T (meetb (cornerCount ps) (fours ts) ss)
 

@@ -61,7 +61,7 @@ use Rattle.agreement.specs.Agreed.{all-fetched}
 use Rattle.agreement.specs.Outcomes.{X, any-marks, known, serial-is, says-accepted, says-refused, limits, held-new, held-old}
 use Rattle.agreement.specs.Merges.{merges-new, merges-old}
 
--- the entries es are those of fs, each once
+-- Rule 15.18: the entries es are those of fs, each once.
 pub record JustThese (es fs : List Entry) : Type 0 where
   pub these : (e : Entry) → List·Memᴰ e es → List·Memᴰ e fs
   pub all : (e : Entry) → List·Memᴰ e fs → List·Memᴰ e es
@@ -71,7 +71,7 @@ pub record JustThese (es fs : List Entry) : Type 0 where
 abbrev pub laid : Calls → Stores → List ℕ → List ℕ → List ℕ
 laid cs w l rest = flatMap (lastStore cs w) l ++ rest
 
--- merging these, into any table of full length, is accepted and leaves the table ts in front
+-- Rules 15.12, 15.18: merging these, into any table of full length, is accepted and leaves the table ts in front.
 abbrev pub MergesTo : List ℕ → List ℕ → Type 0
 MergesTo stores ts = (t : List ℕ) → 4096 ≤ length t
     → (mergedOf (mergeAnswer stores t) (length (mergeTable (storesIn stores) (field stores COARSE))) ≡ Cells (length ts))
@@ -79,6 +79,7 @@ MergesTo stores ts = (t : List ℕ) → 4096 ≤ length t
 
 -- n coarse corners, qs coarse cells; the table ss with its owners os before, the table ts with its owners after; P parts
 module _ (n : ℕ) (qs : List (List ℕ)) (ss os : List ℕ) (P : ℕ) (cs : Calls) (w : Stores) where
+  -- Rule 15.18, where the serial step has a result.
   pub record Serial (ts : List ℕ) : Type 0 where
     -- each part says that it is done, and holds just the masters and ghosts that the owners' rule and the serial table make
     pub ended : (p : ℕ) → 1 ≤ p → p ≤ P → saysOf (lastStore cs w p) ≡ Done
@@ -105,14 +106,14 @@ module _ (n : ℕ) (qs : List (List ℕ)) (ss os : List ℕ) (P : ℕ) (cs : Cal
     pub before : Admissible n qs ss P os
     pub after : Admissible n qs ts P (ownersAfter n qs ss os ts)
 
-  -- every part says that it is done with the refusal's number, and holds its old mesh
+  -- Rules 15.10, 15.18: every part says that it is done with the refusal's number, and holds its old mesh.
   pub record AsBefore (k : ℕ) : Type 0 where
     pub number : (k ≡ 8) ⊎ (k ≡ 9)
     pub ended : (p : ℕ) → 1 ≤ p → p ≤ P → saysOf (lastStore cs w p) ≡ Ended k
     pub held : (p : ℕ) → 1 ≤ p → p ≤ P → heldIn (lastStore cs w p) ≡ entriesOf n qs ss os p
     pub merges : (l : List ℕ) → Order P l → (rest : List ℕ) → 16 * full ≤ length (laid cs w l rest) → MergesTo (laid cs w l rest) ss
 
--- after the calls cs on the stores w of an accepted split
+-- Rules 15.17 to 15.19: after the calls cs on the stores w of an accepted split.
 pub record Split3 (ps : List ℤ) (ts ss : List ℕ) (P : ℕ) (os : List ℕ) (w : Stores) (cs : Calls) : Type 0 where
   -- all done: as the serial step
   pub accepted : T (alldoneb (play act cs w)) → markedAnswer ps ts ss (serialMarks os cs w) ≡ Accepted
@@ -139,7 +140,7 @@ pub record Split3 (ps : List ℤ) (ts ss : List ℕ) (P : ℕ) (os : List ℕ) (
   pub any-marks : (ms : List ℕ) → T (marksb ss ms)
       → ((p : ℕ) → T (startb ss os p (marksOn os ms p))) × (putTogether os (marksOn os ms) ≡ ms)
 
--- every accepted split, and every lawful list of calls on its stores, refused ones included
+-- Rule 15.17: every accepted split, and every lawful list of calls on its stores, refused ones included.
 abbrev pub Demand3 : Type 0
 Demand3 = (ps : List ℤ) (ts ss : List ℕ) (P : ℕ) (os b : List ℕ) → splitAnswer ps ts ss P os b ≡ Accepted
     → (cs : Calls) → Lawful act cs (afterSplit P (splitAfter ps ts ss P os b))

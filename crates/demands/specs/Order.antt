@@ -16,9 +16,11 @@ use Rattle.base.specs.Refuse.{refuse, andThen, passed}
 use Rattle.base.specs.declared.Answer.{Answer}
 use Rattle.base.specs.declared.Answer.the-variants.{Accepted, Refused}
 
+-- Rule 12.1: a refusal, and the test that it is given without.
 abbrev pub Test : Type 0
 Test = ℕ × Bool
 
+-- Rule 12.1: the first that fails gives the number.
 unfoldable pub firstOf : List Test → Answer
 unfolding refuse
 firstOf [] = Accepted
@@ -29,6 +31,7 @@ unfolding memberb
 oneOfb ns Accepted = true
 oneOfb ns (Refused k) = memberb k ns
 
+-- Rule 12.1: the answer of these tests, one of these numbers where it is refused.
 pub record Answered (a : Answer) (ts : List Test) (ns : List ℕ) : Type 0 where
   pub first : a ≡ firstOf ts
   pub among : T (oneOfb ns a)

@@ -1,4 +1,5 @@
--- Demand 1 of the calls on parts (Rules 15.5 to 15.16): each is answered with a result or one of its numbers, and a refusal changes no store.
+-- Demand 1 of the calls on parts (Rules 15.5 to 15.16): each is answered with a result or one of its numbers,
+-- and a refusal changes no store.
 --   splitTests, startTests, .. the tests of each call, in the order of their refusals
 --   PartCalls                  the calls, each with its numbers in order, and what stands beside a refusal
 use mathlib.Core.Path.{_≡_, refl, ap, _∙_, sym, subst}
@@ -41,31 +42,39 @@ use Rattle.demands.specs.Order.{Test, firstOf, first-then, Answered, ans
 use Rattle.demands.specs.Tests.{tableTests}
 use Rattle.demands.specs.Answered.{table-first}
 
+-- Rules 12.6, 15.14, 15.16.
 abbrev pub splitTests : List ℤ → List ℕ → List ℕ → ℕ → List ℕ → List ℕ → List Test
 splitTests ps ts ss P os b =
     (15, leb (16 * full) (length b)) ∷ (tableTests ps ts ss
     ++ ((10, leb 1 P && leb P 16) ∷ (11, ownersb (cornerCount ps) (fours ts) ss P os) ∷ []))
 
+-- Rules 15.6, 15.16.
 abbrev pub startTests : List ℕ → List ℕ → List Test
 startTests x ms = (15, leb full (length x)) ∷ (16, headerb x && eqb (field x STAGE) 0) ∷ (7, marksDue x ms (field x CELLS) 0 0) ∷ []
 
+-- Rules 15.7, 15.16.
 abbrev pub partTests : List ℕ → List Test
 partTests x = (15, leb full (length x)) ∷ (16, headerb x && (eqb (field x STAGE) 1 && readyb x)) ∷ []
 
+-- Rules 15.8, 15.16.
 abbrev pub fetchTests : List ℕ → List ℕ → List Test
 fetchTests x out = (15, leb full (length x) && leb 9 (length out)) ∷ (16, headerb x && not (eqb (field x STAGE) 0)) ∷ []
 
+-- Rules 15.15, 15.16.
 abbrev pub handTests : List ℕ → List ℕ → List Test
 handTests x m =
     (15, leb full (length x)) ∷ (16, headerb x && not (eqb (field x STAGE) 0)) ∷ (12, wellb x m) ∷ (13, leb (takenAt x m) (numberAt m 3))
     ∷ (14, leb (numberAt m 3) (takenAt x m) && (eqb (field x STAGE) 1 && leb (endedAt x m) (field x ROUND))) ∷ []
 
+-- Rule 15.16.
 abbrev pub stageTests : List ℕ → List Test
 stageTests x = (15, leb full (length x)) ∷ (16, headerb x && not (eqb (field x STAGE) 0)) ∷ []
 
+-- Rules 15.11, 15.16.
 abbrev pub heldTests : List ℕ → List ℕ → List Test
 heldTests x rows = (15, leb full (length x) && leb fullHeld (length rows)) ∷ (16, headerb x && eqb (field x STAGE) 2) ∷ []
 
+-- Rules 15.12, 15.16.
 abbrev pub mergeTests : List ℕ → List ℕ → List Test
 mergeTests b t = (15, leb (16 * full) (length b) && leb 4096 (length t)) ∷ (16, mergeb b) ∷ []
 

@@ -17,12 +17,13 @@ use lib.ListN.{length, getD, drop, length-append, length-drop, List·getD-append
 use Rattle.base.specs.Bools.{and-left, and-right}
 use Rattle.base.specs.Every.{All}
 use Rattle.base.specs.Fours.{fours}
-use Rattle.base.specs.Limits.{mostCorners, mostCoarseCorners, fullSums}
+use Rattle.base.specs.Limits.{mostCorners, fullSums}
 use Rattle.base.specs.Refuse.{heldAfter}
 use Rattle.base.specs.declared.Answer.the-variants.{Accepted}
-use Rattle.mesh.specs.Coarse.{cornerCount, coordinateAt, countsb}
+use Rattle.mesh.specs.Coarse.{cornerCount, coordinateAt}
 use Rattle.mesh.specs.Weights as weights
 use Rattle.mesh.specs.Layout.{Corner, weightedSum, sumTable}
+use Rattle.mesh.specs.Laws.{mesh-counts}
 use Rattle.lattice.specs.Levels.{fours-four}
 use Rattle.lattice.specs.Tails.{Sized}
 use Rattle.numbering.specs.Corners.{weightsAt, corner-sized}
@@ -41,9 +42,11 @@ use Rattle.demands.specs.Order.{first-passed}
 use Rattle.demands.specs.Tests.{layoutTests}
 use Rattle.demands.specs.Answered.{layout-first}
 
+-- Rule 8.2: the f64 x is z over 1,024.
 abbrev pub Over : Float → ℤ → Type 0
 Over x z = HasValue x (negative z) (natAbs z) 1024
 
+-- Rules 8.1, 8.2: the position of a corner with the weights p.
 pub record Exactly (ps : List ℤ) (p : weights.Point) (r : Position) : Type 0 where
   pub point : Point
   pub answer : r ≡ At point
@@ -52,6 +55,7 @@ pub record Exactly (ps : List ℤ) (p : weights.Point) (r : Position) : Type 0 w
   pub z : Over (point .z) (weightedSum ps 2 p)
   pub small : (k : ℕ) → natAbs (weightedSum ps k p) ≤ 512000000
 
+-- Rules 9.4, 12.7.
 abbrev pub sumsAfter : List ℤ → List ℕ → List ℕ → List ℕ → List ℕ → List ℤ → List ℤ
 sumsAfter ps ts ss table ends sums = heldAfter (layoutAnswer ps ts ss table ends sums) (sumTable ps (cornersIn ps ts ss)) sums
 
@@ -59,10 +63,6 @@ length-sums : (ps : List ℤ) (ks : List Corner) → length (sumTable ps ks) ≡
 unfolding sumTable flatMap
 length-sums ps [] = refl
 length-sums ps (k ∷ ks) = omega (arith, length-sums ps ks)
-
-few-coarse : (ps : List ℤ) (ts : List ℕ) → T (countsb ps ts) → cornerCount ps ≤ mostCoarseCorners
-unfolding countsb
-few-coarse ps ts t = search (and-left, and-right, leb→le)
 
 long-sums : (table ends : List ℕ) (sums : List ℤ) → T (lentb table ends sums) → fullSums ≤ length sums
 unfolding lentb
@@ -117,7 +117,7 @@ module _ (ps : List ℤ) (ts ss table ends : List ℕ) (sums : List ℤ) (e : la
     below : i < mostCorners
     below =
         let (_, (counts, (_, (_, (_, (_, (sound, _))))))) = tests in
-        omega (arith, corners-few (cornerCount ps) (fours ts) ss (few-coarse ps ts counts) sound)
+        omega (arith, corners-few (cornerCount ps) (fours ts) ss (mesh-counts ps ts counts .corners-few) sound)
 
     over : (k : ℕ) → k < 3 → Over (coordinateOf (getD (sumsAfter ps ts ss table ends sums) (3 * i + k) (pos 0))) (weightedSum ps k p)
     over k h = rw (sum-at k h) (exact (weightedSum ps k p) (omega (arith, within k)))

@@ -19,6 +19,7 @@ use Rattle.families.specs.Facts.{child-at, no-tie}
 abbrev pub corners4 : List ℕ → List ℕ
 corners4 c = getD c 0 0 ∷ getD c 1 0 ∷ getD c 2 0 ∷ getD c 3 0 ∷ []
 
+-- Rule 2.6: the value that is tested, and never 0.
 abbrev pub riseOver : List ℕ → ℕ → ℤ
 riseOver c x = rise (getD c 0 0) (getD c 1 0) (getD c 2 0) (getD c 3 0) x
 

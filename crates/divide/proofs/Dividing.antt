@@ -11,8 +11,7 @@ use native.Mathlib.Omega.{arith}
 use lib.ListN.{length, getD, take, drop, set, length-set, length-append}
 use lib.Seq.{getD-set-same, getD-set-other, take-at, drop-at, drop-drop}
 use borrow.Rule.Slice.PartMut.{putMid}
-use Rattle.base.specs.Range.{range}
-use Rattle.reds.specs.Ranges.{range-snoc}
+use Rattle.base.specs.Range.{range, range-snoc}
 use Rattle.store.specs.Fields.{full, CODE}
 use Rattle.store.specs.Stores.{storeIn, rest-size}
 use Rattle.slots.specs.Slots.{Rising}

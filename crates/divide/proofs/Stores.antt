@@ -12,11 +12,10 @@ use borrow.Author.Tests.{lt-ltb, le-ltb, ltb-true}
 use Rattle.base.specs.Bools.{one-if}
 use Rattle.base.specs.Fours.{fours, length-fours}
 use Rattle.base.specs.Lists.{anyb}
-use Rattle.base.specs.Range.{range}
+use Rattle.base.specs.Range.{range, range-append, range-snoc}
 use Rattle.mesh.specs.Cells.{bitsOf}
 use Rattle.mesh.specs.Layout.{edgeNumbers}
 use Rattle.mesh.specs.Table.{levelsOf}
-use Rattle.reds.specs.Ranges.{range-append, range-snoc}
 use Rattle.parts.specs.Owners.{nthCell, familyOf}
 use Rattle.parts.specs.Held.{masterb}
 use Rattle.store.specs.declared.Place.{Place}

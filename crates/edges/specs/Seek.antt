@@ -34,7 +34,7 @@ module _ (xs ys : List ℕ) (k : ℕ) where
       (eq-or-lt-of-le (omega arith))
 
   -- a search that finds, and one that does not
-  pub found : (x y m : ℕ) → (seek xs ys x y k m ≡ 65535 → ⊥) → hasb isb (pairsOf xs ys k m) (x, y) ≡ true
+  found : (x y m : ℕ) → (seek xs ys x y k m ≡ 65535 → ⊥) → hasb isb (pairsOf xs ys k m) (x, y) ≡ true
   found x y m ne =
       let f = seek-found xs ys x y k m ne in
       let e = seek xs ys x y k m in
@@ -44,7 +44,7 @@ module _ (xs ys : List ℕ) (k : ℕ) where
       ∙ rw w (ap₂ (λ (a b : ℕ). (a, b)) (f .x-is) (f .y-is)) in
       rw p at (has-at isb (0, 0) same-pair (pairsOf xs ys k m) (e - k) (rw (length-listed m) l))
 
-  pub missing : (x y m : ℕ) → k + m ≤ 65535 → seek xs ys x y k m ≡ 65535 → hasb isb (pairsOf xs ys k m) (x, y) ≡ false
+  missing : (x y m : ℕ) → k + m ≤ 65535 → seek xs ys x y k m ≡ 65535 → hasb isb (pairsOf xs ys k m) (x, y) ≡ false
   missing x y m h none = ⊎-elim (λ t. absurd (no t)) (λ t. t) (either (hasb isb (pairsOf xs ys k m) (x, y)))
     where
       no : hasb isb (pairsOf xs ys k m) (x, y) ≡ true → ⊥
@@ -56,7 +56,7 @@ module _ (xs ys : List ℕ) (k : ℕ) where
           seek-none xs ys x y k (k + i) (omega arith) (ap (λ (q : Pair). q .0) p) (ap (λ (q : Pair). q .1) p) m h none (omega arith)
 
   -- where different pairs are listed, a search finds the pair's place
-  pub found-place : (x y m : ℕ) → Distinct isb (0, 0) same-pair (pairsOf xs ys k m) → (seek xs ys x y k m ≡ 65535 → ⊥)
+  found-place : (x y m : ℕ) → Distinct isb (0, 0) same-pair (pairsOf xs ys k m) → (seek xs ys x y k m ≡ 65535 → ⊥)
       → seek xs ys x y k m ≡ k + placeIn isb (pairsOf xs ys k m) (x, y)
   found-place x y m d ne =
       let f = seek-found xs ys x y k m ne in
@@ -77,7 +77,7 @@ module _ (xs ys : List ℕ) (k n x y : ℕ) where
       let ne : k + m ≡ n → ⊥ = λ e. omega arith in
       rw (same-below m (omega arith), getD-set-other xs n (k + m) x 0 ne, getD-set-other ys n (k + m) y 0 ne)
 
-  pub listed-more : k ≤ n → n < length xs → n < length ys → listed (set xs n x) (set ys n y) k (n + 1) ≡ listed xs ys k n ++ ((x, y) ∷ [])
+  listed-more : k ≤ n → n < length xs → n < length ys → listed (set xs n x) (set ys n y) k (n + 1) ≡ listed xs ys k n ++ ((x, y) ∷ [])
   unfolding pairsOf
   listed-more h hx hy =
       let e : n + 1 - k ≡ suc (n - k) = omega arith in

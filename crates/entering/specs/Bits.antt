@@ -1,7 +1,7 @@
 -- Bits of numbers.
 -- Laws: bit-none (0 has none), bit-power (2 ^ a has the bit a), bit-ones (2 ^ n - 1 has those below n), bit-less (one bit taken away).
 use mathlib.Core.Path.{_≡_, refl, sym, _∙_, ap, ap₂}
-use mathlib.Core.Bool.{Bool, true, false, _&&_, not}
+use mathlib.Core.Bool.{Bool, true, false, _&&_, not, and-true}
 use Prim.Native.Nat.{ℕ, zero, suc, _+_, _-_, _*_, _/_, _%_, _^_, _≤_, _<_}
 use native.Mathlib.Nat.{div-div-eq-div-mul, div-one, div-eq-of-lt, pow-succ', lt-of-lt-of-le}
 use native.Mathlib.Decide.{ℕ-discrete, decLt}
@@ -45,10 +45,6 @@ lt-suc b a = elim (decLt b a) [
   | yes e ↦ lt-ltb (suc b) (suc a) (omega arith) ∙ sym (lt-ltb b a e)
   | no n ↦ le-ltb (suc b) (suc a) (omega arith) ∙ sym (le-ltb b a (omega arith))
 ]
-
-and-true : (c : Bool) → (c && true) ≡ c
-and-true true = refl
-and-true false = refl
 
 pub bit-power : (a b : ℕ) → bitb (2 ^ a) b ≡ eqb b a
 unfolding bitb

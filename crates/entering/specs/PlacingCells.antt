@@ -19,7 +19,7 @@ use Rattle.base.specs.Range.{range, range-member}
 use Rattle.mesh.specs.Cells.{bitsOf}
 use Rattle.mesh.specs.Table.{sizeOf}
 use Rattle.mesh.specs.Layout.{edgeNumbers}
-use Rattle.rows.specs.Sizes.{size-leaf, size-red}
+use Rattle.rows.specs.Sizes.{size-leaf, size-red, size-few}
 use Rattle.families.specs.Children.{lowDigit, highDigit}
 use Rattle.parts.specs.Held.{Entry}
 use Rattle.exchange.specs.Finite.{Finite, parts}
@@ -47,7 +47,7 @@ use Rattle.entering.specs.Columns.{Columns, Heard}
 use Rattle.entering.specs.PlacingSteps.{Else, StepHeld, placed-master, placed-ghost, placed-leaves, placed-child, leafBy}
 use Rattle.entering.specs.PlacingSteps.{each-adds, flat-one, held-placed, else-nine, else-ten, else-eleven}
 use Rattle.entering.specs.PlacingStatus.{cell-few, holds-owner, holds-family, owner-is, family-is, stored-is, status-is, stays-is}
-use Rattle.entering.specs.PlacingStatus.{anew-is, fresh-read, status-few, fresh-few, size-few}
+use Rattle.entering.specs.PlacingStatus.{anew-is, fresh-read, status-few, fresh-few}
 
 -- lists and loops
 flat-agree : {A B : Type 0} (f g : A → List B) → ((a : A) → f a ≡ g a) → (l : List A) → flatMap f l ≡ flatMap g l

@@ -4,20 +4,19 @@
 use mathlib.Core.Path.{_≡_, refl, sym, _∙_, ap, ap₂, subst}
 use mathlib.Core.Logic.{_≢_, inl, inr}
 use mathlib.Core.Bool.{Bool, true, false, _&&_, _||_, not}
-use mathlib.Core.List.{List, [], _∷_, map}
+use mathlib.Core.List.{List, map}
 use Prim.Native.Nat.{ℕ, zero, suc, _+_, _-_, _*_, _≤_, _<_, min, Fin}
 use native.Mathlib.Decide.{ℕ-discrete, Fin·val-path}
 use native.Mathlib.Nat.{add-zero}
 use native.Mathlib.Omega.{arith}
 use lib.Dec.{eqb, ltb, leb}
 use borrow.Author.Tests.{eq-eqb, ne-eqb, lt-ltb}
-use Rattle.base.specs.Bools.{eqb-one, one-most, or-first, or-second, and-both, not-both}
+use Rattle.base.specs.Bools.{eqb-one, or-first, or-second, and-both, not-both}
 use Rattle.base.specs.Lists.{anyb, memberb}
 use Rattle.base.specs.Range.{range, member-range, range-member}
 use Rattle.cutting.specs.Rule.{family}
-use Rattle.cutting.specs.Rows.{family-few}
 use Rattle.mesh.specs.Cells.{patternOf, bitsOf}
-use Rattle.mesh.specs.Laws.{pattern-below}
+use Rattle.mesh.specs.Laws.{bits-small}
 use Rattle.mesh.specs.Table.{sizeOf}
 use Rattle.mesh.specs.Layout.{edgeNumbers}
 use Rattle.families.specs.Children.{lowDigit, highDigit}
@@ -82,18 +81,6 @@ any-shift f c k (suc n) =
     let z : suc (c + k) ≡ c + suc k = omega arith in
     ap (λ (b : Bool). f (c + k) || b) (ap (λ (m : ℕ). anyb f (range m n)) z ∙ any-shift f c (suc k) n)
 
-six-few : (a b c d e f : Bool) → bitsOf (a ∷ b ∷ c ∷ d ∷ e ∷ f ∷ []) < 64
-unfolding bitsOf
-six-few a b c d e f = omega (arith, one-most a, one-most b, one-most c, one-most d, one-most e, one-most f)
-
-pub size-few : (s : ℕ) → s ≤ 64 → sizeOf s ≤ 8
-unfolding sizeOf
-size-few s h = go (eqb s 0) refl
-  where
-    go : (b : Bool) → eqb s 0 ≡ b → sizeOf s ≤ 8
-    go true e = rw (e, sizeOf) (omega arith)
-    go false e = rw (e, sizeOf) (family-few (patternOf s) (pattern-below s h))
-
 module _ {Part : Type 0} (J : Task Part) (st : State) where
   pub status-few : (c : ℕ) → statusNew J st c ≤ 64
   unfolding statusNew
@@ -103,7 +90,7 @@ module _ {Part : Type 0} (J : Task Part) (st : State) where
       go true e true f = rw (e, f, statusNew) (omega arith)
       go true e false f = rw (e, f, statusNew) (omega (
         arith,
-        six-few (heldNow J st (J .slot c 0)) (heldNow J st (J .slot c 1))
+        bits-small (heldNow J st (J .slot c 0)) (heldNow J st (J .slot c 1))
             (heldNow J st (J .slot c 2)) (heldNow J st (J .slot c 3)) (heldNow J st (J .slot c 4)) (heldNow J st (J .slot c 5)),
       ))
       go false e b f = rw (e, statusNew) (omega arith)
@@ -112,7 +99,7 @@ module _ {Part : Type 0} (J : Task Part) (st : State) where
   fresh-few c i =
       let at : ℕ → Bool = λ y. pairHeld J st c (lowDigit 63 i y) (highDigit 63 i y) in
       subst (λ (n : ℕ). n ≤ 64) (sym (fresh-bits J st c i)) (most (bitsOf (map at edgeNumbers))
-      (six-few (at 0) (at 1) (at 2) (at 3) (at 4) (at 5)))
+      (bits-small (at 0) (at 1) (at 2) (at 3) (at 4) (at 5)))
     where
       most : (n : ℕ) → n < 64 → n ≤ 64
       most n h = omega arith

@@ -16,7 +16,7 @@ use Rattle.base.specs.Lists.{allb, allb-at, belowb, belowb-at, filterb}
 use Rattle.base.specs.Bools.{and-left, and-right}
 use Rattle.cutting.specs.Rows.{familyRows, row, family-row, family-fours}
 
--- The edges of a cell by their number.
+-- Rules 2.1, 2.3: the midpoint of an edge, as a digit.
 abbrev pub middle : ℕ → ℕ
 middle e = getD (1 ∷ 2 ∷ 3 ∷ 5 ∷ 6 ∷ 8 ∷ []) e 0
 
@@ -24,6 +24,7 @@ pub middle-ends : (e : ℕ) → e < 6 → (low (middle e) < high (middle e)) × 
 unfolding low high
 middle-ends = below-at (λ e. (low (middle e) < high (middle e)) × (high (middle e) < 4) × (middle e < 10)) 6 (omega arith)
 
+-- Rules 2.7, 3.3: a child by its number.
 abbrev pub digitsOf : ℕ → ℕ → List ℕ
 digitsOf p i = getD (family p) i []
 

@@ -20,13 +20,14 @@ use Rattle.base.specs.Bools.{one-if}
 use Rattle.cutting.specs.Rule.{low, high, digit, edgeOf, split}
 use Rattle.cutting.specs.Rows.{familyRows, row}
 
+-- Rule 2.1: the corners of a face.
 abbrev pub cornersAt : ℕ → List ℕ
 cornersAt z = getD ((1 ∷ 2 ∷ 3 ∷ []) ∷ (0 ∷ 2 ∷ 3 ∷ []) ∷ (0 ∷ 1 ∷ 3 ∷ []) ∷ (0 ∷ 1 ∷ 2 ∷ []) ∷ []) z []
 
-abbrev pub first : ℕ → ℕ
+abbrev first : ℕ → ℕ
 first k = getD (0 ∷ 0 ∷ 0 ∷ 1 ∷ 1 ∷ 2 ∷ []) k 0
 
-abbrev pub second : ℕ → ℕ
+abbrev second : ℕ → ℕ
 second k = getD (0 ∷ 1 ∷ 2 ∷ 1 ∷ 2 ∷ 2 ∷ []) k 0
 
 abbrev pub lift : List ℕ → ℕ → ℕ

@@ -24,7 +24,7 @@ unfolding faces flatMap
 facesOf f = flatMap faces f
 
 -- Rule 2.1: a point lies on face n where neither of its two corners is the corner n.
-unfoldable pub onSideb : ℕ → ℕ → Bool
+unfoldable onSideb : ℕ → ℕ → Bool
 unfolding low high
 onSideb n d = not (eqb (low d) n) && not (eqb (high d) n)
 
@@ -44,12 +44,12 @@ unfolding anyb memberb
 joinedb f a b = anyb (λ c. memberb a c && memberb b c) f
 
 -- Rules 2.1, 2.3: the six points of a face.
-unfoldable pub sidePoints : ℕ → List ℕ
+unfoldable sidePoints : ℕ → List ℕ
 unfolding onSideb filterb
 sidePoints n = filterb (onSideb n) points
 
 -- Rule 2.1: the three edges of a face.
-unfoldable pub sideEdges : ℕ → List ℕ
+unfoldable sideEdges : ℕ → List ℕ
 unfolding sidePoints filterb edgeOf low high
 sideEdges n = map edgeOf (filterb (λ d. not (eqb (low d) (high d))) (sidePoints n))
 
@@ -60,7 +60,7 @@ bits p n =
     let e = sideEdges n in
     one-if (split p (getD e 0 6)) + 2 * one-if (split p (getD e 1 6)) + 4 * one-if (split p (getD e 2 6))
 
-unfoldable pub triples : List (List ℕ)
+unfoldable triples : List (List ℕ)
 unfolding choose
 triples = choose 3 (0 ∷ 1 ∷ 2 ∷ 3 ∷ 4 ∷ 5 ∷ [])
 

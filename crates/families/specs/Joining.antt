@@ -39,7 +39,7 @@ alike-test = tt
 abbrev pub joinCorners : ℕ → ℕ → List ℕ
 joinCorners d e = low d ∷ high d ∷ low e ∷ high e ∷ []
 
-abbrev pub splitb : ℕ → ℕ → ℕ → Bool
+abbrev splitb : ℕ → ℕ → ℕ → Bool
 splitb p d e = allb (λ i. allb (λ j. impb (ltb i j) (split p (edgeOf (digit i j)))) (joinCorners d e)) (joinCorners d e)
 
 splitTest : ℕ → List (List ℕ) → ℕ → ℕ → Bool

@@ -13,7 +13,6 @@
 --   SameStep      the step i of the red child m is its parent's step order m i, at the place j
 --   Step x y      x rises to y, by 1 at most
 use mathlib.Core.Path.{_≡_, refl}
-use mathlib.Core.Logic.{_≢_}
 use mathlib.Core.Bool.{Bool, _&&_}
 use mathlib.Core.List.{List, [], _∷_}
 use Prim.Native.Nat.{ℕ, suc, _+_, _≤_, _<_}
@@ -91,24 +90,21 @@ unfolding allb belowb
 red-digits = all-of Digits digitsb digits-of reds tt
 
 -- The three steps of a red child are its parent's three steps in some order, whatever the coordinates are.
-abbrev pub order : ℕ → ℕ → ℕ
+abbrev order : ℕ → ℕ → ℕ
 order m i =
     getD (getD ((0 ∷ 1 ∷ 2 ∷ []) ∷ (1 ∷ 2 ∷ 0 ∷ []) ∷ (1 ∷ 0 ∷ 2 ∷ []) ∷ (0 ∷ 1 ∷ 2 ∷ [])
     ∷ (2 ∷ 0 ∷ 1 ∷ []) ∷ (0 ∷ 2 ∷ 1 ∷ []) ∷ (0 ∷ 1 ∷ 2 ∷ []) ∷ (0 ∷ 1 ∷ 2 ∷ []) ∷ []) m []) i 0
 
-pub order-below : (m i : ℕ) → m < 8 → i < 3 → order m i < 3
+order-below : (m i : ℕ) → m < 8 → i < 3 → order m i < 3
 order-below m i hm hi = below-at (λ i. order m i < 3) 3 (below-at (λ m. Below (λ i. order m i < 3) 3) 8 (omega arith) m hm) i hi
 
-pub order-differs : (m : ℕ) → m < 8 → (order m 0 ≢ order m 1) × (order m 0 ≢ order m 2) × (order m 1 ≢ order m 2)
-order-differs = below-at (λ m. (order m 0 ≢ order m 1) × (order m 0 ≢ order m 2) × (order m 1 ≢ order m 2)) 8 (omega arith)
-
-abbrev pub red : Coordinates → ℕ → Coordinates
+abbrev red : Coordinates → ℕ → Coordinates
 red x m = partOf x (getD reds m [])
 
-abbrev pub SameStep : Coordinates → ℕ → ℕ → ℕ → Type 0
+abbrev SameStep : Coordinates → ℕ → ℕ → ℕ → Type 0
 SameStep x j m i = red x m (suc i) j + x (order m i) j ≡ red x m i j + x (suc (order m i)) j
 
-pub red-step : (x : Coordinates) (m i j : ℕ) → m < 8 → i < 3 → SameStep x j m i
+red-step : (x : Coordinates) (m i j : ℕ) → m < 8 → i < 3 → SameStep x j m i
 unfolding low high
 red-step x m i j hm hi = below-at (SameStep x j m) 3 (below-at (λ m. Below (SameStep x j m) 3) 8 (omega arith) m hm) i hi
 

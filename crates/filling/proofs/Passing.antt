@@ -17,9 +17,10 @@ use lib.Seq.{drop-cons, set-at, append-snoc, getD-set-same, getD-set-other}
 use borrow.Author.Tests.{eq-eqb, ne-eqb, lt-ltb, le-ltb}
 use Rattle.base.specs.Bools.{one-if, one-most}
 use Rattle.base.specs.Lists.{anyb, belowb, belowb-at}
-use Rattle.base.specs.Range.{range, length-range}
+use Rattle.base.specs.Range.{range, length-range, range-snoc}
 use Rattle.mesh.specs.Cells.{bitsOf}
 use Rattle.mesh.specs.Layout.{edgeNumbers}
+use Rattle.mesh.specs.Laws.{edges-more}
 use Rattle.filling.specs.Regions.{Tabled, holdb, pickBy, pickTo, inColumn, inSix, columnTo, columnBy, slotTo, slotBy, heldSlotTo}
 use Rattle.filling.specs.Regions.{holderTo, zeros, SmallSlots, heldSlotb, holderBy, maskFrom, cornerBy, headBy}
 use Rattle.filling.specs.Passes.{Column, Six, sixHaveb, Masked, AllBelow, Doubled}
@@ -178,18 +179,9 @@ any-snoc f (y ∷ l) x = go (f y) (any-snoc f l x)
     go true i = refl
     go false i = i
 
-six-more : (e : ℕ) → e < 6 → take (suc e) edgeNumbers ≡ take e edgeNumbers ++ (e ∷ [])
-six-more zero h = refl
-six-more (suc zero) h = refl
-six-more (suc (suc zero)) h = refl
-six-more (suc (suc (suc zero))) h = refl
-six-more (suc (suc (suc (suc zero)))) h = refl
-six-more (suc (suc (suc (suc (suc zero))))) h = refl
-six-more (suc (suc (suc (suc (suc (suc e)))))) h = absurd (omega arith)
-
 own-more : (sl : List ℕ) (c e s : ℕ) → e < 6 → sixHaveb sl c (suc e) s ≡ (sixHaveb sl c e s || eqb (getD sl (6 * c + e) 0) s)
 own-more sl c e s h =
-    ap (anyb (λ i. eqb (getD sl (6 * c + i) 0) s)) (six-more e h)
+    ap (anyb (λ i. eqb (getD sl (6 * c + i) 0) s)) (edges-more e h)
     ∙ any-snoc (λ i. eqb (getD sl (6 * c + i) 0) s) (take e edgeNumbers) e
 
 module _ (sl ms : List ℕ) (c : ℕ) (x : List ℕ) where
@@ -220,18 +212,13 @@ module _ (sl ms : List ℕ) (c : ℕ) (x : List ℕ) where
             ];
       }
 
-range-more : (k m : ℕ) → range k (suc m) ≡ range k m ++ ((k + m) ∷ [])
-unfolding range
-range-more k zero = let z : k + 0 ≡ k = omega arith in rw z
-range-more k (suc m) = let z : k + suc m ≡ suc k + m = omega arith in rw z (ap (λ (l : List ℕ). k ∷ l) (range-more (suc k) m))
-
 module _ (cols : List ℕ) (m p : ℕ) (sl ms : List ℕ) where
   mark-more : (k s : ℕ) → heldSlotTo cols m p sl (suc k) s ≡ (heldSlotTo cols m p sl k s || (holdb cols m p k && sixHaveb sl k 6 s))
   unfolding heldSlotTo
   mark-more k s =
       let f : ℕ → Bool = λ c. holdb cols m p c && anyb (λ e. eqb (getD sl (6 * c + e) 0) s) edgeNumbers in
       let z : 0 + k ≡ k = omega arith in
-      ap (anyb f) (range-more 0 k ∙ ap (λ (x : ℕ). range 0 k ++ (x ∷ [])) z) ∙ any-snoc f (range 0 k) k
+      ap (anyb f) (range-snoc 0 k ∙ ap (λ (x : ℕ). range 0 k ++ (x ∷ [])) z) ∙ any-snoc f (range 0 k) k
 
   module _ (k : ℕ) (x : List ℕ) (a : Tabled 24576 (holderTo cols m p sl ms k) x) where
     pub mark-here : holdb cols m p k ≡ true → (y : List ℕ) → Masked sl ms k 6 x y → Tabled 24576 (holderTo cols m p sl ms (k + 1)) y

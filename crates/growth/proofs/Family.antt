@@ -12,6 +12,8 @@ use lib.Seq.{take-suc, take-length, length-take-le, getD-append-add}
 use borrow.Author.Tests.{lt-ltb}
 use Rattle.base.specs.Lists.{allb, memberb}
 use Rattle.base.specs.Bools.{one-if, and-left, and-right, is-true}
+use Rattle.base.specs.Each.{allb-take}
+use Rattle.base.specs.Append.{allb-append}
 use Rattle.cutting.specs.Rule.{present, family}
 use Rattle.cutting.specs.Answer.{cutInto, cutOf, cutOf-accepted}
 use Rattle.cutting.specs.declared.Family.{Family}
@@ -30,27 +32,16 @@ four-numbers f ds j p q r s ep eq er es = rw (ep, eq, er, es)
 
 -- a digit is below ten
 module _ {A : Type 0} (f : A → Bool) where
-  all-append : (l m : List A) → T (allb f l) → T (allb f m) → T (allb f (l ++ m))
-  unfolding allb
-  all-append [] m s t = t
-  all-append (x ∷ l) m s t = rw (is-true (f x) (and-left (f x) (allb f l) s)) (all-append l m (and-right (f x) (allb f l) s) t)
-
   all-flat : (l : List (List A)) → T (allb (allb f) l) → T (allb f (flatten l))
   unfolding allb flatten
   all-flat [] t = tt
-  all-flat (x ∷ l) t = all-append x (flatten l) (and-left (allb f x) (allb (allb f) l) t)
+  all-flat (x ∷ l) t = allb-append f x (flatten l) (and-left (allb f x) (allb (allb f) l) t)
       (all-flat l (and-right (allb f x) (allb (allb f) l) t))
 
   all-repeat : (x : A) → T (f x) → (n : ℕ) → T (allb f (replicate n x))
   unfolding allb
   all-repeat x t zero = tt
   all-repeat x t (suc n) = rw (is-true (f x) t) (all-repeat x t n)
-
-  pub all-take : (n : ℕ) (l : List A) → T (allb f l) → T (allb f (take n l))
-  unfolding allb
-  all-take zero l t = tt
-  all-take (suc n) [] t = tt
-  all-take (suc n) (x ∷ l) t = rw (is-true (f x) (and-left (f x) (allb f l) t)) (all-take n l (and-right (f x) (allb f l) t))
 
   all-more : (g : A → Bool) → ((x : A) → T (f x) → T (g x)) → (l : List A) → T (allb f l) → T (allb g l)
   unfolding allb
@@ -72,7 +63,7 @@ digits-below p h j =
     (family-has p h) in
     rw (cutOf-accepted p h)
     (all-below (flatten (family p) ++ replicate (32 - length (flatten (family p))) 0)
-    (all-append (λ d. ltb d 10) (flatten (family p)) (replicate (32 - length (flatten (family p))) 0)
+    (allb-append (λ d. ltb d 10) (flatten (family p)) (replicate (32 - length (flatten (family p))) 0)
     (all-flat (λ d. ltb d 10) (family p) f)
     (all-repeat (λ d. ltb d 10) 0 tt (32 - length (flatten (family p))))) j)
 
@@ -113,7 +104,7 @@ child-four (c ∷ f) t z (suc i) h =
     rw (append-assoc c (flatten f) z, w, four-behind c (flatten f ++ z) (4 * i))
     (child-four f (and-right (eqb (length c) 4) (allb (λ c. eqb (length c) 4) f) t) z i (omega arith))
 
-pub child-digits : (p : ℕ) → p < 64 → (i : ℕ) → i < length (family p) → fourAt (cutOf p .digits) (4 * i) ≡ getD (family p) i []
+child-digits : (p : ℕ) → p < 64 → (i : ℕ) → i < length (family p) → fourAt (cutOf p .digits) (4 * i) ≡ getD (family p) i []
 unfolding cutInto
 child-digits p h i l = rw (cutOf-accepted p h) (child-four (family p) (family-fours p h) (replicate (32 - length (flatten (family p))) 0) i
     l)
@@ -147,7 +138,7 @@ module _ (cells₀ : List ℕ) (at l k : ℕ) (r : Bool) (f : ℕ → ℕ) (p : 
       (x : Rows cells₀ at l k r f p cells i) where
     length-some : length (childRows l k r f 0 (take i (family p))) ≡ 8 * i
     length-some =
-        length-child-rows l k r f 0 (take i (family p)) (all-take (λ c. eqb (length c) 4) i (family p) (family-fours p h))
+        length-child-rows l k r f 0 (take i (family p)) (allb-take (λ c. eqb (length c) 4) i (family p) (family-fours p h))
         ∙ rw (length-take-le i (family p) (x .below))
 
     pub rows-more : i < length (family p) → (cells′ : List ℕ) → length cells′ ≡ length cells

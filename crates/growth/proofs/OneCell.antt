@@ -17,7 +17,7 @@ use Rattle.growth.specs.Places.{rows-same}
 use Rattle.growth.specs.Points.{PointsSet}
 use Rattle.growth.specs.Level.{Laid}
 
-pub no-edges : (c : Cell ℕ) → splitEdges 0 c 0 ≡ []
+no-edges : (c : Cell ℕ) → splitEdges 0 c 0 ≡ []
 unfolding splitEdges
 no-edges c = refl
 

@@ -19,7 +19,7 @@ use Rattle.growth.specs.Places.{middleEdge}
 use Rattle.growth.specs.Points.{splitAt, marked}
 
 module _ (p : ℕ) (c : Cell ℕ) (e : ℕ) where
-  pub split-none : split p e ≡ false → splitAt p c e ≡ []
+  split-none : split p e ≡ false → splitAt p c e ≡ []
   unfolding splitAt filterb
   split-none t = rw (t, filterb)
 

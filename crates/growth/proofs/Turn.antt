@@ -3,23 +3,27 @@
 use mathlib.Core.Path.{_≡_, refl, sym, _∙_, ap}
 use mathlib.Core.Logic.{⊎-elim}
 use mathlib.Core.Bool.{Bool, true, false, _&&_, not, or-true}
-use mathlib.Core.List.{List, [], _∷_, _++_, map}
+use mathlib.Core.List.{List, [], _∷_, _++_, map, map-append}
 use Prim.Native.Nat.{ℕ, zero, suc, _+_, _*_, _≤_, _<_}
 use native.Mathlib.Nat.{eq-or-lt-of-le}
 use native.Mathlib.Omega.{arith}
 use lib.Dec.{T, eqb, eqb→eq}
 use lib.ListN.{length, getD, take, drop, set, length-set, length-append, length-map, take-append-drop}
-use lib.Seq.{getD-set-same, getD-set-other, take-suc}
+use lib.Seq.{getD-set-same, getD-set-other}
 use Rattle.base.specs.Lists.{belowb, belowb-at, filterb, memberb}
 use Rattle.base.specs.Bools.{and-left, and-right, is-false, either, not-both}
 use Rattle.base.specs.Places.{hasb, placeIn}
+use Rattle.base.specs.Append.{filter-append}
+use Rattle.base.specs.Every.{getD-map}
 use Rattle.cutting.specs.Rule.{low, high, edgeOf, points, split, present}
 use Rattle.mesh.specs.Cells.{Cell, corner, edge, patternOf}
 use Rattle.mesh.specs.Layout.{edgeNumbers, splitEdges}
+use Rattle.mesh.specs.Laws.{edges-more}
 use Rattle.edges.specs.Pairs.{Pair, sorted, isb, addPairs, same-pair, has-pairs}
 use Rattle.edges.specs.Table.{listed, Edges, Space, Grown, grown-none, grown-both}
 use Rattle.rows.specs.Numbered.{cellAt, pointAt}
-use Rattle.growth.specs.Places.{middleEdge, extends-pairs, present-point, middle-digit, pointAt-corner, point-middle}
+use Rattle.rows.specs.Laws.{pointAt-corner}
+use Rattle.growth.specs.Places.{middleEdge, extends-pairs, present-point, middle-digit, point-middle}
 use Rattle.growth.specs.Points.{splitAt, lowCorners, marked, PointsSet, ReadyToGrow}
 use Rattle.growth.proofs.Found.{middle-below}
 use Rattle.growth.proofs.Split.{split-one, marked-none, marked-one}
@@ -28,28 +32,6 @@ use Rattle.growth.proofs.Split.{split-one, marked-none, marked-one}
 unfoldable pub splitsTo : ℕ → Cell ℕ → ℕ → List Pair
 unfolding edge filterb split
 splitsTo p c e = map (edge 0 c) (filterb (split p) (take e edgeNumbers))
-
-filter-append : (f : ℕ → Bool) (l m : List ℕ) → filterb f (l ++ m) ≡ filterb f l ++ filterb f m
-unfolding filterb
-filter-append f [] m = refl
-filter-append f (x ∷ l) m = go (f x) refl (filter-append f l m)
-  where
-    go : (b : Bool) → f x ≡ b → filterb f (l ++ m) ≡ filterb f l ++ filterb f m
-        → elim b [ true ↦ x ∷ filterb f (l ++ m) | false ↦ filterb f (l ++ m) ] ≡ elim b [ true ↦ x ∷ filterb f l | false ↦ filterb f l ]
-        ++ filterb f m
-    go true e i = ap (λ (r : List ℕ). x ∷ r) i
-    go false e i = i
-
-map-append : (f : ℕ → Pair) (l m : List ℕ) → map f (l ++ m) ≡ map f l ++ map f m
-map-append f [] m = refl
-map-append f (x ∷ l) m = ap (λ (r : List Pair). f x ∷ r) (map-append f l m)
-
-edges-more : (e : ℕ) → e < 6 → take (suc e) edgeNumbers ≡ take e edgeNumbers ++ (e ∷ [])
-unfolding belowb
-edges-more e h =
-    take-suc edgeNumbers e 0 h
-    ∙ ap (λ (x : ℕ). take e edgeNumbers ++ (x ∷ []))
-    (eqb→eq (getD edgeNumbers e 0) e (belowb-at (λ e. eqb (getD edgeNumbers e 0) e) 6 tt e h))
 
 module _ (p : ℕ) (c : Cell ℕ) where
   splits-more : (e : ℕ) → e < 6 → splitsTo p c (suc e) ≡ splitsTo p c e ++ splitAt p c e
@@ -99,18 +81,13 @@ pub record Numbered (n : ℕ) (es : List Pair) (c : Cell ℕ) (p e : ℕ) (ps : 
   pub has : (f : ℕ) → f < e → split p f ≡ true → hasb isb es (sorted (edge 0 c f)) ≡ true
   pub middles : (f : ℕ) → f < e → split p f ≡ true → getD ps (middleEdge f) 0 ≡ n + placeIn isb es (sorted (edge 0 c f))
 
-mapped : (f : ℕ → ℕ) (l : List ℕ) (k a b : ℕ) → k < length l → getD (map f l) k b ≡ f (getD l k a)
-mapped f [] k a b h = absurd (omega arith)
-mapped f (x ∷ l) zero a b h = refl
-mapped f (x ∷ l) (suc k) a b h = mapped f l k a b (omega arith)
-
 lows : (c : Cell ℕ) (d : ℕ) → d < 10 → getD (lowCorners c) d 0 ≡ corner 0 c (low d)
 unfolding lowCorners belowb
 lows c d h =
-    mapped (λ d. corner 0 c (low d)) points d 0 0 h
+    getD-map (λ d. corner 0 c (low d)) points d 0 0 h
     ∙ ap (λ (i : ℕ). corner 0 c (low i)) (eqb→eq (getD points d 0) d (belowb-at (λ d. eqb (getD points d 0) d) 10 tt d h))
 
-pub numbered-none : (n : ℕ) (es : List Pair) (c : Cell ℕ) (p : ℕ) → Numbered n es c p 0 (lowCorners c)
+numbered-none : (n : ℕ) (es : List Pair) (c : Cell ℕ) (p : ℕ) → Numbered n es c p 0 (lowCorners c)
 unfolding lowCorners
 numbered-none n es c p =
     record { long = refl; corners = λ d h e. lows c d h; has = λ f h t. absurd (omega arith); middles = λ f h t. absurd (omega arith) }
@@ -170,11 +147,11 @@ module _ (n : ℕ) (es : List Pair) (c : Cell ℕ) (p e : ℕ) (ps : List ℕ) (
             getD-set-other ps (middleEdge e) (middleEdge f) (n + placeIn isb es′ (sorted (edge 0 c e))) 0 other
             ∙ r .middles f w u ∙ ap (λ (k : ℕ). n + k) (sym (stays f w u))
 
-    pub numbered-more : Numbered n es′ c p (suc e) (marked n es′ c p e ps)
+    numbered-more : Numbered n es′ c p (suc e) (marked n es′ c p e ps)
     numbered-more = ⊎-elim halved-more whole-more (either (split p e))
 
 -- after all six edges, each present point has its number
-pub numbered-all : (n : ℕ) (es : List Pair) (c : Cell ℕ) (p : ℕ) (ps : List ℕ) → Numbered n es c p 6 ps → PointsSet n es c p ps
+numbered-all : (n : ℕ) (es : List Pair) (c : Cell ℕ) (p : ℕ) (ps : List ℕ) → Numbered n es c p 6 ps → PointsSet n es c p ps
 unfolding middleEdge
 numbered-all n es c p ps r = record { at = λ d t. ⊎-elim (own d t) (between d t) (either (eqb (low d) (high d))) }
   where

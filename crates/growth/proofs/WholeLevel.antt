@@ -22,7 +22,7 @@ use Rattle.growth.specs.Points.{ReadyToGrow}
 use Rattle.growth.specs.Level.{Laid, Roomy, Grows}
 
 module _ (cells xs ys heads links ss : List ℕ) (first l at n m : ℕ) where
-  pub grows-none : Edges xs ys heads links 0 m → m ≤ at → Grows cells xs ys ss first 0 l at n m cells xs ys heads links at m
+  grows-none : Edges xs ys heads links 0 m → m ≤ at → Grows cells xs ys ss first 0 l at n m cells xs ys heads links at m
   unfolding cellsAt endsFrom rowsAll sizes
   grows-none r h =
       record {
@@ -66,12 +66,12 @@ module _ (cells xs ys heads links ss : List ℕ) (first l at n m : ℕ) where
     splits : m₁ + length (splitEdges 0 (cellAt cells₁ (first + k)) (getD ss (first + k) 0)) ≤ at + sizes (part ss first (last - first))
     splits = omega (arith, within, g .few, splits-few (cellAt cells₁ (first + k)) (getD ss (first + k) 0) small)
 
-    pub refine-asked : length cells₁ ≡ length cells
+    refine-asked : length cells₁ ≡ length cells
         → (first + k < at₁) × (getD ss (first + k) 0 ≤ 64) × (at₁ + sizeOf (getD ss (first + k) 0) ≤ 4096)
         × (8 * (at₁ + sizeOf (getD ss (first + k) 0)) ≤ length cells₁)
     refine-asked e = (omega (arith, r .done, g .next), small, omega (arith, within, r .most), omega (arith, within, r .in-cells))
 
-    pub refine-ready : length cells₁ ≡ length cells → length xs₁ ≡ length xs → length ys₁ ≡ length ys → length links₁ ≡ length links
+    refine-ready : length cells₁ ≡ length cells → length xs₁ ≡ length xs → length ys₁ ≡ length ys → length links₁ ≡ length links
         → ReadyToGrow cells₁ xs₁ ys₁ heads₁ links₁ (first + k) (getD ss (first + k) 0) n m₁
     refine-ready e ex ey el =
         record {
@@ -126,7 +126,7 @@ module _ (cells xs ys heads links ss : List ℕ) (first l at n m : ℕ) where
           d .rows ∙ rw (own, e, v, q) (written-more cells (8 * at) vs (omega (arith, within, g .next, r .in-cells))
           (rowsOf l (first + k) s (pointAt n es c)))
 
-      pub grows-more : Grows cells xs ys ss first (suc k) l at n m cells₂ xs₂ ys₂ heads₂ links₂ at₂ m₂
+      grows-more : Grows cells xs ys ss first (suc k) l at n m cells₂ xs₂ ys₂ heads₂ links₂ at₂ m₂
       grows-more =
           record {
             edges = d .table .edges;

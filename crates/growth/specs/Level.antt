@@ -3,20 +3,16 @@
 --                 are in the table of edges
 --   Roomy ..      the tables have room for the families of the cells `first` to `last` - 1
 --   Grows ..      what Laid says, of the k cells from `first` on in turn; all numbers are those of the last list of ends
--- Law: grows-front (what the table holds up to the last row that is written).
-use mathlib.Core.Path.{_≡_, sym, _∙_}
-use mathlib.Core.List.{List, _++_}
+use mathlib.Core.Path.{_≡_}
+use mathlib.Core.List.{List}
 use Prim.Native.Nat.{ℕ, _+_, _*_, _-_, _≤_, _<_}
-use native.Mathlib.Omega.{arith}
 use lib.ListN.{length, getD, take}
 use Rattle.mesh.specs.Layout.{splitEdges}
 use Rattle.edges.specs.Table.{listed, Edges, Grown}
 use Rattle.rows.specs.Numbered.{cellAt, cellsAt, part, endsFrom, pointAt, rowsOf}
 use Rattle.mesh.specs.Table.{sizeOf, sizes}
-use Rattle.growth.specs.Written.{written, take-written}
-use Rattle.growth.specs.Rows.{rowsAll, length-rowsOf}
-use Rattle.rows.specs.Laws.{length-cells, length-part}
-use Rattle.growth.specs.Parts.{small-part}
+use Rattle.growth.specs.Written.{written}
+use Rattle.growth.specs.Rows.{rowsAll}
 
 -- Rules 5.5, 9.2: a family's rows and its new corners.
 pub record Laid (cells xs ys : List ℕ) (c s l at n m : ℕ) (cells′ xs′ ys′ heads′ links′ : List ℕ) (at′ m′ : ℕ) : Type 0 where
@@ -47,20 +43,3 @@ pub record Grows (cells xs ys ss : List ℕ) (first k l at n m : ℕ) (cells′ 
   pub rows : cells′ ≡ written cells (8 * at) (rowsAll l n (listed xs′ ys′ 0 m′) first (cellsAt cells first k) (part ss first k))
   pub next : at′ ≡ at + sizes (part ss first k)
   pub few : m′ ≤ at′
-
--- the table of cells up to the last row that is written
-module _ (cells xs ys heads links ss : List ℕ) (first last l at n m : ℕ) (r : Roomy cells xs ys heads links ss first last at n m)
-    (cells′ xs′ ys′ heads′ links′ : List ℕ) (at′ m′ : ℕ)
-    (g : Grows cells xs ys ss first (last - first) l at n m cells′ xs′ ys′ heads′ links′ at′ m′) where
-  pub grows-front : take (8 * at′) cells′ ≡ take (8 * at) cells ++ rowsAll l n (listed xs′ ys′ 0 m′) first
-      (cellsAt cells first (last - first)) (part ss first (last - first))
-  grows-front =
-      let k : ℕ = last - first in
-      let vs : List ℕ = rowsAll l n (listed xs′ ys′ 0 m′) first (cellsAt cells first k) (part ss first k) in
-      let h : first + k ≤ length ss = omega (arith, r .rise, r .statuses) in
-      let long : length vs ≡ 8 * sizes (part ss first k) =
-      length-rowsOf l n (listed xs′ ys′ 0 m′) first (cellsAt cells first k) (part ss first k)
-      (length-cells cells first k ∙ sym (length-part ss first k h))
-      (small-part ss first k h (λ c a b. r .small c a (omega (arith, r .rise)))) in
-      let e : 8 * at′ ≡ 8 * at + length vs = omega (arith, g .next) in
-      rw (e, g .rows) (take-written cells (8 * at) vs (omega (arith, r .in-cells)))

@@ -4,4 +4,3 @@ pub mod Places
 pub mod Parts
 pub mod Points
 pub mod Level
-pub mod ReadBack

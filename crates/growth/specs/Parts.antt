@@ -7,14 +7,14 @@ use lib.ListN.{length, getD, take, drop}
 use lib.Seq.{take-nil, getD-take, getD-drop}
 use borrow.Author.Tests.{le-leb}
 use Rattle.base.specs.Lists.{allb}
+use Rattle.base.specs.Every.{all-each}
 use Rattle.rows.specs.Numbered.{part}
 use Rattle.mesh.specs.Table.{sizes}
-use Rattle.growth.specs.Places.{allb-from}
 use Rattle.rows.specs.Laws.{length-part}
 
 pub small-part : (l : List ℕ) (k m : ℕ) → k + m ≤ length l → ((c : ℕ) → k ≤ c → c < k + m → getD l c 0 ≤ 64)
     → T (allb (λ s. leb s 64) (part l k m))
-small-part l k m h q = allb-from (λ s. leb s 64) 0 (part l k m) at
+small-part l k m h q = all-each (λ s. leb s 64) 0 (part l k m) at
   where
     at : (i : ℕ) → i < length (part l k m) → T (leb (getD (part l k m) i 0) 64)
     at i g =

@@ -17,9 +17,10 @@ use borrow.Author.Tests.{eqb-true}
 use Rattle.base.specs.Lists.{allb, belowb, belowb-at, filterb, memberb}
 use Rattle.base.specs.Bools.{impb, and-left, and-right, impb-use, is-true, either, not-both}
 use Rattle.base.specs.Places.{hasb, placeIn, kept, place-kept}
+use Rattle.base.specs.Every.{all-each}
 use Rattle.cutting.specs.Rule.{low, high, edgeOf, split, points, present, family}
 use Rattle.families.specs.Facts.{child-at}
-use Rattle.mesh.specs.Cells.{Cell, corner, redb, patternOf, edge}
+use Rattle.mesh.specs.Cells.{Cell, redb, patternOf, edge}
 use Rattle.mesh.specs.Layout.{edgeNumbers, splitEdges}
 use Rattle.edges.specs.Pairs.{Pair, sorted, isb, addPair, addPairs, same-pair, has-pairs}
 use Rattle.rows.specs.Numbered.{endsFrom, pointAt, childRows, rowsOf}
@@ -32,10 +33,10 @@ pub record Extends (es es′ : List Pair) : Type 0 where
   pub has : (p : Pair) → hasb isb es p ≡ true → hasb isb es′ p ≡ true
   pub place : (p : Pair) → hasb isb es p ≡ true → placeIn isb es′ p ≡ placeIn isb es p
 
-pub extends-self : (es : List Pair) → Extends es es
+extends-self : (es : List Pair) → Extends es es
 extends-self es = record { has = λ p t. t; place = λ p t. refl }
 
-pub extends-both : (a b c : List Pair) → Extends a b → Extends b c → Extends a c
+extends-both : (a b c : List Pair) → Extends a b → Extends b c → Extends a c
 extends-both a b c f g = record { has = λ p t. g .has p (f .has p t); place = λ p t. g .place p (f .has p t) ∙ f .place p t }
 
 extends-pair : (es : List Pair) (e : Pair) → Extends es (addPair es e)
@@ -51,7 +52,7 @@ unfolding addPairs
 extends-pairs es [] = extends-self es
 extends-pairs es (e ∷ l) = extends-both es (addPair es e) (addPairs (addPair es e) l) (extends-pair es e) (extends-pairs (addPair es e) l)
 
-pub extends-ends : (es : List Pair) (cs : List (Cell ℕ)) (ss : List ℕ) → Extends es (endsFrom es cs ss)
+extends-ends : (es : List Pair) (cs : List (Cell ℕ)) (ss : List ℕ) → Extends es (endsFrom es cs ss)
 unfolding endsFrom
 extends-ends es [] ss = extends-self es
 extends-ends es (c ∷ cs) [] = extends-self es
@@ -128,10 +129,6 @@ middle-digit d h e =
     }
 
 module _ (n : ℕ) (es : List Pair) (c : Cell ℕ) (d : ℕ) where
-  pub pointAt-corner : eqb (low d) (high d) ≡ true → pointAt n es c d ≡ corner 0 c (low d)
-  unfolding pointAt
-  pointAt-corner e = rw (e, pointAt)
-
   pub point-middle : eqb (low d) (high d) ≡ false → d < 10 → pointAt n es c d ≡ n + placeIn isb es (sorted (edge 0 c (edgeOf d)))
   unfolding pointAt edge middleEdge
   point-middle e h = rw (middle-digit d h e .digit, e, pointAt)
@@ -142,12 +139,12 @@ unfolding belowb memberb
 edge-number = belowb-at (λ e. memberb e edgeNumbers) 6 tt
 
 module _ (es : List Pair) (c : Cell ℕ) (s : ℕ) where
-  pub has-split : (e : ℕ) → e < 6 → split (patternOf s) e ≡ true → hasb isb (addPairs es (splitEdges 0 c s)) (sorted (edge 0 c e)) ≡ true
+  has-split : (e : ℕ) → e < 6 → split (patternOf s) e ≡ true → hasb isb (addPairs es (splitEdges 0 c s)) (sorted (edge 0 c e)) ≡ true
   unfolding splitEdges
   has-split e h t = has-pairs es (splitEdges 0 c s) (sorted (edge 0 c e))
       ∙ rw (has-picked (split (patternOf s)) (edge 0 c) e t edgeNumbers (edge-number e h), or-true)
 
-  pub point-kept : (n : ℕ) (es′ : List Pair) → Extends (addPairs es (splitEdges 0 c s)) es′ → (d : ℕ)
+  point-kept : (n : ℕ) (es′ : List Pair) → Extends (addPairs es (splitEdges 0 c s)) es′ → (d : ℕ)
       → T (memberb d (present (patternOf s)))
       → pointAt n es′ c d ≡ pointAt n (addPairs es (splitEdges 0 c s)) c d
   point-kept n es′ x d t = ⊎-elim same other (either (eqb (low d) (high d)))
@@ -180,13 +177,8 @@ module _ (q : ℕ → Bool) (f g : ℕ → ℕ) (same : (d : ℕ) → T (q d) �
         (and-right (allb q d) (allb (allb q) ds) t),
   )
 
-pub allb-from : {A : Type 0} (f : A → Bool) (o : A) (l : List A) → ((k : ℕ) → k < length l → T (f (getD l k o))) → T (allb f l)
-unfolding allb
-allb-from f o [] t = tt
-allb-from f o (x ∷ l) t = rw (is-true (f x) (t 0 (omega arith))) (allb-from f o l (λ k h. t (suc k) (omega arith)))
-
 pub family-has : (p : ℕ) → p < 64 → T (allb (allb (λ d. memberb d (present p))) (family p))
-family-has p h = allb-from (allb (λ d. memberb d (present p))) [] (family p) (λ k l. child-at p k h l .present)
+family-has p h = all-each (allb (λ d. memberb d (present p))) [] (family p) (λ k l. child-at p k h l .present)
 
 pub rows-same : (l k s : ℕ) (f g : ℕ → ℕ) → s ≤ 64 → ((d : ℕ) → T (memberb d (present (patternOf s))) → f d ≡ g d)
     → rowsOf l k s f ≡ rowsOf l k s g

@@ -29,7 +29,7 @@ rowsAll l n es k (c ∷ cs) [] = []
 rowsAll l n es k (c ∷ cs) (s ∷ ss) = rowsOf l k s (pointAt n es c) ++ rowsAll l n es (suc k) cs ss
 
 -- the child number of a path is its last
-pub child-number : (path : List ℕ) (i : ℕ) → 1 ≤ length path → childNumber (path ++ (i ∷ [])) ≡ i
+child-number : (path : List ℕ) (i : ℕ) → 1 ≤ length path → childNumber (path ++ (i ∷ [])) ≡ i
 unfolding childNumber
 child-number [] i h = absurd (omega arith)
 child-number (a ∷ []) i h = refl
@@ -59,7 +59,7 @@ module _ (l k : ℕ) (c : Cell ℕ) (deep : length (c .path) ≡ l) (up : 1 ≤ 
       go false e = rw (e, rowsOf, children) (from-children (redb s) 0 (family (patternOf s)))
 
 -- the number of a point goes by the cell's points alone
-pub pointAt-same : (n : ℕ) (es : List Pair) (c c′ : Cell ℕ) → c .points ≡ c′ .points → pointAt n es c ≡ pointAt n es c′
+pointAt-same : (n : ℕ) (es : List Pair) (c c′ : Cell ℕ) → c .points ≡ c′ .points → pointAt n es c ≡ pointAt n es c′
 unfolding pointAt
 pointAt-same n es c c′ e = fun-ext at
   where
@@ -95,7 +95,7 @@ length-child-rows l k r f i (d ∷ ds) t =
     let h = length-child-rows l k r f (suc i) ds (and-right (eqb (length d) 4) (allb (λ c. eqb (length c) 4) ds) t) in
     simp (length-append, length-map) (omega arith)
 
-pub length-family : (l k : ℕ) (f : ℕ → ℕ) (s : ℕ) → s ≤ 64 → length (rowsOf l k s f) ≡ 8 * sizeOf s
+length-family : (l k : ℕ) (f : ℕ → ℕ) (s : ℕ) → s ≤ 64 → length (rowsOf l k s f) ≡ 8 * sizeOf s
 unfolding rowsOf sizeOf
 length-family l k f s h = go (eqb s 0) refl
   where

@@ -1,15 +1,15 @@
 -- A list with a part written over.
 --   written l i vs   l with vs from the place i on
--- Laws: written-none, written-more (two parts, one behind the other), written-rows (rows of eight), what stands before and
--- behind (take-written, drop-written, getD-written), and the cells before (cell-kept, written-cells-kept).
-use mathlib.Core.Path.{_≡_, refl, sym, _∙_, ap}
+-- Laws: written-none, written-more (two parts, one behind the other), what stands before and behind (take-written,
+-- drop-written, getD-written), and the cells before (cell-kept).
+use mathlib.Core.Path.{_≡_, sym, _∙_, ap}
 use mathlib.Core.List.{List, [], _++_, append-assoc}
-use Prim.Native.Nat.{ℕ, zero, suc, _+_, _*_, _≤_, _<_}
+use Prim.Native.Nat.{ℕ, _+_, _*_, _≤_, _<_}
 use native.Mathlib.Nat.{add-zero, add-assoc}
 use native.Mathlib.Omega.{arith}
 use lib.ListN.{length, getD, take, drop, length-append, length-drop, take-append-drop, List·getD-append}
 use lib.Seq.{length-take-le, take-at, drop-at, drop-drop, getD-take}
-use Rattle.rows.specs.Numbered.{cellAt, cellsAt}
+use Rattle.rows.specs.Numbered.{cellAt}
 
 unfoldable pub written : List ℕ → ℕ → List ℕ → List ℕ
 written l i vs = take i l ++ (vs ++ drop (i + length vs) l)
@@ -50,12 +50,6 @@ module _ (l : List ℕ) (i : ℕ) (vs : List ℕ) (h : i + length vs ≤ length 
       ∙ append-assoc (take i l) vs (ws ++ drop (i + length (vs ++ ws)) l)
       ∙ ap (λ (r : List ℕ). take i l ++ r) (sym (append-assoc vs ws (drop (i + length (vs ++ ws)) l)))
 
--- k rows of eight from row `at` on
-pub written-rows : (t : List ℕ) (at k : ℕ) (vs : List ℕ) → length vs ≡ 8 * k
-    → written t (8 * at) vs ≡ take (8 * at) t ++ (vs ++ drop (8 * (at + k)) t)
-unfolding written
-written-rows t at k vs e = let w : 8 * at + length vs ≡ 8 * (at + k) = omega arith in rw w
-
 -- what stands before
 pub getD-written : (l : List ℕ) (i : ℕ) (vs : List ℕ) → i ≤ length l → (j d : ℕ) → j < i → getD (written l i vs) j d ≡ getD l j d
 unfolding written
@@ -74,8 +68,3 @@ module _ (t : List ℕ) (at : ℕ) (vs : List ℕ) (h : 8 * at ≤ length t) whe
         getD-written t (8 * at) vs h (8 * k + 6) 0 (omega arith),
         getD-written t (8 * at) vs h (8 * k + 7) 0 (omega arith),
       )
-
-  pub written-cells-kept : (k m : ℕ) → k + m ≤ at → cellsAt (written t (8 * at) vs) k m ≡ cellsAt t k m
-  unfolding cellsAt
-  written-cells-kept k zero l = refl
-  written-cells-kept k (suc m) l = rw (written-cells-kept k m (omega arith), cell-kept (k + m) (omega arith))

@@ -100,7 +100,8 @@ fn add_edge(
     requires { ⌜ (8 * c + 8 ≤ length (now cells)) × (e < 6) ⌝ }
     requires { ⌜ Edges (now xs) (now ys) (now heads) (now links) 0 m ⌝ }
     requires { ⌜ Room (now xs) (now ys) (now links) m ⌝ }
-    ensures { λ r. ⌜ Inserted (was xs) (was ys) 0 m (edge 0 (cellAt (was cells) c) e) (is xs) (is ys) (is heads) (is links) (r .at) (r .n) ⌝ }
+    ensures { λ r. ⌜ Inserted (was xs) (was ys) 0 m (edge 0 (cellAt (was cells) c) e) (is xs) (is ys) (is heads) (is links)
+        (r .at) (r .n) ⌝ }
 {
     let ends = rows::edge_of(cells, c, e);
     edges::insert(xs, ys, heads, links, 0, m, ends.a, ends.b)
@@ -156,7 +157,8 @@ fn points_of(
     m: usize,
 ) -> Ten
     requires { ⌜ ReadyToGrow (now cells) (now xs) (now ys) (now heads) (now links) c status n m ⌝ }
-    ensures { λ r. ⌜ Grown (was xs) (was ys) 0 m (splitEdges 0 (cellAt (was cells) c) status) (is xs) (is ys) (is heads) (is links) (r .m) ⌝ }
+    ensures { λ r. ⌜ Grown (was xs) (was ys) 0 m (splitEdges 0 (cellAt (was cells) c) status) (is xs) (is ys) (is heads) (is links)
+        (r .m) ⌝ }
     ensures { λ r. ⌜ PointsSet n (listed (is xs) (is ys) 0 (r .m)) (cellAt (was cells) c) (patternOf status) (r .numbers) ⌝ }
 {
     let pattern = pattern_of(status);

@@ -1,22 +1,19 @@
 -- The rows of entries, as the code writes them.
 use mathlib.Core.Path.{_≡_, refl, sym, _∙_, ap, ap₂}
-use mathlib.Core.List.{List, [], _∷_, _++_, map, flatMap}
+use mathlib.Core.List.{List, _∷_, map, flatMap}
 use Prim.Native.Nat.{ℕ, zero, suc, pred, _+_, _-_, _*_, _/_, _%_, _≤_, _<_}
-use native.Mathlib.Nat.{add-zero, add-suc, suc-add}
+use native.Mathlib.Nat.{add-zero, add-suc}
 use native.Mathlib.Omega.{arith}
 use lib.ListN.{length, set, replicate, length-append, length-replicate, length-map}
 use lib.Seq.{sets}
 use Rattle.base.specs.Bools.{one-if}
 use Rattle.base.specs.Range.{range, length-range}
+use Rattle.base.specs.Append.{sets-append}
 use Rattle.parts.specs.Held.{Entry}
 use Rattle.store.specs.Fields.{field, ENTRIES, PLACE-HEAD, PLACE-DIGITS, PLACE-MORE}
 use Rattle.store.specs.Places.{eights}
 use Rattle.held.specs.Held.{entryIn, heldIn, entryRow, heldRows}
 use Rattle.held.specs.Key.{keyPath, Keyed, key-place, key-digits, length-eights}
-
-sets-append : (xs ys l : List ℕ) (i : ℕ) → sets l i (xs ++ ys) ≡ sets (sets l i xs) (i + length xs) ys
-sets-append [] ys l i = rw add-zero
-sets-append (x ∷ xs) ys l i = sets-append xs ys (set l i x) (suc i) ∙ rw (suc-add i (length xs), add-suc i (length xs))
 
 pub digits-all : (l : List ℕ) (at z : ℕ) → sets l (at + 0) (eights (10 - 0) z) ≡ sets l at (eights 10 z)
 digits-all l at z = rw (add-zero at)

@@ -98,14 +98,14 @@ module _ (m : ℕ) (pre post : List ℕ) where
             let n : i < length (family (patternOf t)) = rw (e, sizeOf) at h in
             rw (e, children) (from-own (m + sizes pre) k c (redb t) (point c) 0 (family (patternOf t)) i n)
 
-    pub family-own : oldsOf m (pre ++ (t ∷ post)) t (orNone (c .regular) (length pre)) ≡ ownOlds (m + sizes pre) (children k c t (point c))
+    family-own : oldsOf m (pre ++ (t ∷ post)) t (orNone (c .regular) (length pre)) ≡ ownOlds (m + sizes pre) (children k c t (point c))
     unfolding ss o
     family-own =
         ext-getD none (oldsOf m ss t o) (ownOlds (m + sizes pre) (children k c t (point c))) same
         (λ i h. let n : i < sizeOf t = omega (arith, length-olds-of m ss t o) in at i n ∙ sym (at-next i n))
 
 -- One level up.
-pub olds-own : (m : ℕ) (pre ts post : List ℕ) (cs : List (Cell Point)) → length cs ≡ length ts → Refined cs ts
+olds-own : (m : ℕ) (pre ts post : List ℕ) (cs : List (Cell Point)) → length cs ≡ length ts → Refined cs ts
     → oldsNext m (pre ++ (ts ++ post)) ts (ownOlds (length pre) cs) ≡ ownOlds (m + sizes pre) (next (length pre) cs ts)
 unfolding oldsNext ownOlds next
 olds-own m pre [] post [] e w = refl
@@ -147,7 +147,7 @@ module _ (ss : List ℕ) (small : length ss ≤ 65535) where
       go true f = rw (f, e, getD-append-seam pre t post 0)
       go false f = rw (f, List·getD-eq-default ss 0 small, zero-of t (λ z. not-both (c .regular) (is-true (c .regular) (w .regular z)) f))
 
-  pub reds-own : (pre ts post : List ℕ) (cs : List (Cell Point)) → ss ≡ pre ++ (ts ++ post) → length cs ≡ length ts → Refined cs ts
+  reds-own : (pre ts post : List ℕ) (cs : List (Cell Point)) → ss ≡ pre ++ (ts ++ post) → length cs ≡ length ts → Refined cs ts
       → redsBy (flagsIn ss) (ownOlds (length pre) cs) ≡ flagsIn ts
   unfolding redsBy ownOlds
   reds-own pre [] post [] e l w = refl

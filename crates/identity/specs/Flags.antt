@@ -3,7 +3,7 @@
 -- Laws: flags-own (the flags, level by level).
 use mathlib.Core.Path.{_≡_, refl, sym, _∙_, ap, ap₂}
 use mathlib.Core.Logic.{_≢_}
-use mathlib.Core.Bool.{Bool, true, false, _&&_, _||_, not, and-false, or-true, or-assoc}
+use mathlib.Core.Bool.{Bool, true, false, _&&_, _||_, not, and-false, or-true}
 use mathlib.Core.List.{List, [], _∷_, _++_, map, flatMap, append-assoc}
 use Prim.Native.Nat.{ℕ, zero, suc, _+_, _<_}
 use native.Mathlib.Omega.{arith}
@@ -14,16 +14,17 @@ use lib.Seq.{getD-append-add}
 use Rattle.base.specs.Lists.{allb, anyb, filterb, sameb, allb-at}
 use Rattle.base.specs.Bools.{and-left, and-right, is-true, not-both}
 use Rattle.cutting.specs.Rule.{family}
-use Rattle.mesh.specs.Cells.{Cell, redb, patternOf, edges, joinsb, heldb, redEdges, closedFrom, noCell}
+use Rattle.mesh.specs.Cells.{Cell, redb, patternOf, edges, heldb, redEdges, closedFrom, noCell}
 use Rattle.mesh.specs.Weights.{Point}
 use Rattle.mesh.specs.Table.{Level, next, levels, cellsOf, closedb, sizes}
 use Rattle.mesh.specs.Step.{Row, rowsFrom, rows, kids, deletedb, turnedb, newRedb, rowsUp, edgesUp, newReds, redAfterb}
+use Rattle.mesh.specs.Laws.{held-append}
 use Rattle.rows.specs.Many.{closed-many}
 use Rattle.lineage.specs.Olds.{flagOf, flagsOf, flags}
 use Rattle.lineage.specs.Flags.{noRow, rows-from, length-rows-from}
 use Rattle.lineage.specs.Born.{born, born-at, born-below}
 use Rattle.identity.specs.Again.{flagsIn, red-edges-flags}
-use Rattle.base.specs.Each.{default-free}
+use Rattle.base.specs.Each.{default-free, allb-failing}
 use Rattle.lineage.specs.Deep.{red-some}
 
 -- Rule 7.10: each mark is 0.
@@ -36,16 +37,6 @@ rowAt k cs ss ms t = record { number = k + t; cell = getD cs t noCell; status = 
 
 -- tests on the rows that pass another
 module _ {A : Type 0} (o : A) (f q : A → Bool) where
-  all-fails : (l : List A) (u : ℕ) → u < length l → q (getD l u o) ≡ true → f (getD l u o) ≡ false → allb f (filterb q l) ≡ false
-  unfolding allb filterb
-  all-fails [] u h a b = absurd (omega arith)
-  all-fails (x ∷ l) zero h a b = rw (a, b, filterb)
-  all-fails (x ∷ l) (suc u) h a b = go (q x) refl (all-fails l u (omega arith) a b)
-    where
-      go : (z : Bool) → q x ≡ z → allb f (filterb q l) ≡ false → allb f (filterb q (x ∷ l)) ≡ false
-      go true e i = rw (e, i, filterb) (and-false (f x))
-      go false e i = rw (e, filterb) i
-
   any-fails : (l : List A) → ((u : ℕ) → u < length l → q (getD l u o) ≡ true → f (getD l u o) ≡ false) → anyb f (filterb q l) ≡ false
   unfolding anyb filterb
   any-fails [] h = refl
@@ -122,7 +113,7 @@ module _ (ms : List ℕ) (unmarked : Unmarked ms) (k : ℕ) (cs : List (Cell Poi
       let u = sizes (take t ts) + 0 in
       let r = up-row u (omega (arith, up-long)) in
       let p : getD (next k cs ts) u noCell .parent ≡ k + t = ap (λ (c : Cell Point). c .parent) (born-at k cs ts t 0 h (omega arith) z i) in
-      all-fails noRow _ (λ r. eqb (r .cell .parent) (k + t)) up u (omega (arith, up-long))
+      allb-failing (λ r. eqb (r .cell .parent) (k + t)) _ noRow up u (omega (arith, up-long))
       (rw r (eq-eqb (getD (next k cs ts) u noCell .parent) (k + t) p))
       (rw (r, unmarked (k + length cs + u)) (left-false (eqb (getD us u 0) 0) _))
     where
@@ -190,14 +181,6 @@ redLevels ls = flatMap (λ (l : Level). redEdges [] (l .cells) (l .statuses)) ls
 abbrev pub Within : List (Point × Point) → List (Point × Point) → Type 0
 Within es fs = (e : Point × Point) → heldb sameb es e ≡ true → heldb sameb fs e ≡ true
 
-held-append : (es fs : List (Point × Point)) (e : Point × Point) → heldb sameb (es ++ fs) e ≡ (heldb sameb es e || heldb sameb fs e)
-unfolding heldb anyb
-held-append es fs e = any-append (joinsb sameb e) es fs
-  where
-    any-append : (f : Point × Point → Bool) (l m : List (Point × Point)) → anyb f (l ++ m) ≡ (anyb f l || anyb f m)
-    any-append f [] m = refl
-    any-append f (x ∷ l) m = ap (λ (b : Bool). f x || b) (any-append f l m) ∙ sym (or-assoc (f x) (anyb f l) (anyb f m))
-
 -- What lies above a level: the rows of the next one, and the edges of its new red cells.
 record Above (ls : List Level) (k : ℕ) (cs : List (Cell Point)) (ms : List ℕ) (reds : List (Point × Point)) : Type 0 where
   us : List ℕ
@@ -242,7 +225,7 @@ module _ (ms : List ℕ) (unmarked : Unmarked ms) (all : List (Cell Point)) (red
         rows-up = refl;
         tail = cellsOf ls;
         cells-up = refl;
-        within = λ e t. w e (held-append (redEdges [] cs′ us) (redLevels ls) e ∙ ap (λ (b : Bool). b || heldb sameb (redLevels ls) e)
+        within = λ e t. w e (held-append sameb (redEdges [] cs′ us) (redLevels ls) e ∙ ap (λ (b : Bool). b || heldb sameb (redLevels ls) e)
             (rw q at t));
       }
 
@@ -303,7 +286,7 @@ module _ (ms : List ℕ) (unmarked : Unmarked ms) (all : List (Cell Point)) (red
       let v : T (closedFrom [] sameb (redEdges [] cs′ ts) cs′ ts) = and-left (closedb l) (allb closedb ls) u in
       let v′ : T (allb closedb ls) = and-right (closedb l) (allb closedb ls) u in
       let m : length cs′ ≡ length ts = sym (closed-many (redEdges [] cs′ ts) cs′ ts v) in
-      let w′ : Within (redLevels ls) reds = λ e t. w e (held-append (redEdges [] cs′ ts) (redLevels ls) e
+      let w′ : Within (redLevels ls) reds = λ e t. w e (held-append sameb (redEdges [] cs′ ts) (redLevels ls) e
       ∙ rw t (or-true (heldb sameb (redEdges [] cs′ ts) e))) in
       let p′ : all ≡ (done ++ cs′) ++ cellsOf ls = p ∙ sym (append-assoc done cs′ (cellsOf ls)) in
       let i : flags ls ms ≡ map (λ (l : Level). flagsIn (l .statuses)) ls =

@@ -16,9 +16,10 @@ use Rattle.mesh.specs.Table.{Level, next, levels, levelsOf, cellsOf, closedb, a
 use Rattle.rows.specs.Many.{closed-many}
 use Rattle.lattice.specs.Levels.{sound-levels}
 use Rattle.lineage.specs.Olds.{flagOf, flagTable, upTo, stepBy}
-use Rattle.lineage.specs.Paths.{length-coarse, length-upto, upto-at}
+use Rattle.lineage.specs.Paths.{length-upto, upto-at}
 use Rattle.lineage.specs.Step.{step-by}
 use Rattle.mesh.specs.Step.{stepTable}
+use Rattle.mesh.specs.Laws.{length-coarse}
 use Rattle.identity.specs.Again.{orNone, ownOlds, flagsIn, statusLists, grow-own, length-own-olds}
 use Rattle.identity.specs.Flags.{Unmarked, redLevels, Within, flags-own}
 
@@ -136,7 +137,7 @@ module _ (n : ℕ) (qs : List (List ℕ)) (ss ms : List ℕ) (sound : T (soundb 
       ap flatten (flags-own ms none cs (redEdges [] cs ss) apart 12 0 (coarseCells n qs) ss [] refl refl (omega arith) closed reds)
       ∙ flags-concat ls ∙ ap flagsIn table-is
 
-  pub unmarked-by : flatten (stepBy n qs ss ms) ≡ ss
+  unmarked-by : flatten (stepBy n qs ss ms) ≡ ss
   unfolding stepBy ls levelsOf sizes
   unmarked-by =
       let small : length ss ≤ 65535 = omega (arith, counted, few) in

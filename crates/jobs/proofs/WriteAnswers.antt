@@ -25,7 +25,7 @@ use Rattle.jobs.specs.declared.Writing.{Writing}
 use Rattle.jobs.specs.declared.Writing.the-variants as writing
 
 module _ (ps : List ℤ) (ts cs ms es out : List ℕ) where
-  abbrev pub archive : List ℕ
+  abbrev archive : List ℕ
   archive = jobBytes (jobFrom ps ts cs ms es)
 
   abbrev answer : Answer
@@ -59,10 +59,10 @@ module _ (ps : List ℤ) (ts cs ms es out : List ℕ) where
       pub write-taken : Taken ps ts cs ms es
       write-taken = tables-taken ps ts cs ms es accepted
 
-      abbrev pub size : ℕ
+      abbrev size : ℕ
       size = 13 * cornerCount ps + 9 * cellCount ts + 4 * length cs + length es + 1
 
-      pub measured : length archive ≡ size
+      measured : length archive ≡ size
       measured =
           let t : Taken ps ts cs ms es = write-taken in
           omega (arith, stored-measure (t .storable), t .written .last, t .marks)

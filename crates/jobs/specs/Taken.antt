@@ -17,6 +17,7 @@ use Rattle.base.specs.Refuse.{refuse, andThen, passed, both}
 use Rattle.base.specs.declared.Answer.the-variants.{Accepted}
 use Rattle.mesh.specs.Coarse.{cornerCount, cellCount, countsb, positionsb, cellb, cellsb, solidb, singleb, meshAnswer}
 use Rattle.mesh.specs.Answers.{marksb, limitsAnswer}
+use Rattle.mesh.specs.Laws.{MeshCounts, mesh-counts}
 use Rattle.archive.specs.Bytes.{Word}
 use Rattle.archive.specs.Writable.{Each, Rises, TwoBytes}
 use Rattle.archive.specs.Tables.{Mark, pairs, stepsFrom}
@@ -28,16 +29,6 @@ use Rattle.replay.specs.Accepted.{limits-within}
 use Rattle.replay.specs.Marking.{from-start}
 
 -- the mesh
-record Meshed (ps : List ℤ) (ts : List ℕ) : Type 0 where
-  threes : length ps % 3 ≡ 0
-  fours : length ts % 4 ≡ 0
-  corners : cornerCount ps ≤ 512
-  cells : cellCount ts ≤ 256
-
-meshed : (ps : List ℤ) (ts : List ℕ) → T (countsb ps ts) → Meshed ps ts
-unfolding countsb
-meshed ps ts t = search (and-left, and-right, eqb→eq, leb→le)
-
 word-of : (z : ℤ) → natAbs z ≤ 500000 → Word z
 unfolding Word
 word-of (pos n) h = omega arith
@@ -144,8 +135,8 @@ module _ (ps : List ℤ) (ts cs ms es : List ℕ) (e : tablesAnswer ps ts cs ms 
       let (c, d) = passed 2 (positionsb ps) three b in
       let (f, _) = passed 3 (cellsb n qs) four d in
       let (g, h) = passed 7 (eqb (length cs) (length ms)) flat steps in
-      let k : Meshed ps ts = meshed ps ts a in
-      let l : length (restTable qs) ≤ 4096 = omega (arith, length-replicate {A = ℕ} (length qs) 0, length-fours ts, k .cells) in
+      let k : MeshCounts ps ts = mesh-counts ps ts a in
+      let l : length (restTable qs) ≤ 4096 = omega (arith, length-replicate {A = ℕ} (length qs) 0, length-fours ts, k .few) in
       let w : Written 0 (pairs cs ms) es = flat-written n qs (restTable qs) 0 (pairs cs ms) es l h in
       let same : length cs ≡ length ms = eqb→eq (length cs) (length ms) g in
       let many : length (pairs cs ms) ≡ length cs = length-pairs cs ms same in
@@ -159,10 +150,10 @@ module _ (ps : List ℤ) (ts cs ms es : List ℕ) (e : tablesAnswer ps ts cs ms 
             in-marks = λ i h. omega (arith, climbs-within 0 (length (pairs cs ms)) es (w .climbs) i h, many, same);
           };
         };
-        corners = k .corners;
-        cells = k .cells;
+        corners = k .corners-few;
+        cells = k .few;
         words = words-of ps c;
-        numbers = numbers-of n ts (k .corners) (k .fours) f;
+        numbers = numbers-of n ts (k .corners-few) (k .fours) f;
         same = same;
         marks = many;
         written = w;

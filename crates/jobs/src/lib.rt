@@ -116,11 +116,10 @@ fn hand_out(
 
 // Replays an archive: its table in the one lent, and the counts of every level. Refusals 15, 17, 1 to 5 and 7 to 9.
 pub fn replay(bytes: &[u8], table: &mut [u8], counts: &mut [u16]) -> Replayed
-    ensures { λ r. ⌜ r ≡ replayedOf (replayAnswer (was bytes) (was table) (was counts)) (replaySize (jobOf (was bytes))) ⌝ }
-    ensures { λ r. ⌜ is table
-        ≡ heldAfter (replayAnswer (was bytes) (was table) (was counts)) (jobTable (jobOf (was bytes))) (was table) ⌝ }
-    ensures { λ r. ⌜ is counts
-        ≡ heldAfter (replayAnswer (was bytes) (was table) (was counts)) (jobCounts (jobOf (was bytes))) (was counts) ⌝ }
+    ensures { λ r. let a = replayAnswer (was bytes) (was table) (was counts) in let j = jobOf (was bytes) in
+        ⌜ (r ≡ replayedOf a (replaySize j))
+        × (is table ≡ heldAfter a (jobTable j) (was table))
+        × (is counts ≡ heldAfter a (jobCounts j) (was counts)) ⌝ }
 {
     if table.len() < 4096 {
         return Replayed::Refused(15);
@@ -170,24 +169,14 @@ pub fn read(
     marks: &mut [u8],
     ends: &mut [u16],
 ) -> Reading
-    ensures { λ r. ⌜ r
-        ≡ readingOf (readAnswer (was bytes) (was positions) (was cells) (was marked) (was marks) (was ends))
-        (lengthsOf (jobOf (was bytes))) ⌝ }
-    ensures { λ r. ⌜ is positions
-        ≡ heldAfter (readAnswer (was bytes) (was positions) (was cells) (was marked) (was marks) (was ends))
-        (jobOf (was bytes) .positions) (was positions) ⌝ }
-    ensures { λ r. ⌜ is cells
-        ≡ heldAfter (readAnswer (was bytes) (was positions) (was cells) (was marked) (was marks) (was ends))
-        (jobOf (was bytes) .cells) (was cells) ⌝ }
-    ensures { λ r. ⌜ is marked
-        ≡ heldAfter (readAnswer (was bytes) (was positions) (was cells) (was marked) (was marks) (was ends))
-        (markedOf (jobOf (was bytes) .steps)) (was marked) ⌝ }
-    ensures { λ r. ⌜ is marks
-        ≡ heldAfter (readAnswer (was bytes) (was positions) (was cells) (was marked) (was marks) (was ends))
-        (marksOf (jobOf (was bytes) .steps)) (was marks) ⌝ }
-    ensures { λ r. ⌜ is ends
-        ≡ heldAfter (readAnswer (was bytes) (was positions) (was cells) (was marked) (was marks) (was ends))
-        (endsOf (jobOf (was bytes) .steps)) (was ends) ⌝ }
+    ensures { λ r. let a = readAnswer (was bytes) (was positions) (was cells) (was marked) (was marks) (was ends) in
+        let j = jobOf (was bytes) in
+        ⌜ (r ≡ readingOf a (lengthsOf j))
+        × (is positions ≡ heldAfter a (j .positions) (was positions))
+        × (is cells ≡ heldAfter a (j .cells) (was cells))
+        × (is marked ≡ heldAfter a (markedOf (j .steps)) (was marked))
+        × (is marks ≡ heldAfter a (marksOf (j .steps)) (was marks))
+        × (is ends ≡ heldAfter a (endsOf (j .steps)) (was ends)) ⌝ }
 {
     if !lent(positions, cells, marked, marks, ends) {
         return Reading::Refused(15);

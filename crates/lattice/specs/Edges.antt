@@ -52,7 +52,7 @@ module _ (n k l : ℕ) (c d : Cell Point) (r : Regular n k c) (s : Regular n l d
       (λ h. mid-off n k (suc l) c (point d g) hk r h (point-on n l d hl s g hg) f hf zf e)
 
   -- An edge belongs to one level: where its ends differ they differ by the unit. Its lower end is told by the coordinates.
-  pub ends-level : k ≤ 10 → l ≤ 10 → (a b i j : ℕ) → a < b → b < 4 → i < j → j < 4 → corner [] c a ≡ corner [] d i
+  ends-level : k ≤ 10 → l ≤ 10 → (a b i j : ℕ) → a < b → b < 4 → i < j → j < 4 → corner [] c a ≡ corner [] d i
       → corner [] c b ≡ corner [] d j → k ≡ l
   ends-level hk hl a b i j ha hb hi hj e f =
       let x = r .coordinates in

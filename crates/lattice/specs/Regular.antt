@@ -73,7 +73,7 @@ module _ (n k : ℕ) (c : Cell Point) (h : k < 10) (r : Regular n k c) where
       ∙ sym (add-mul (r .coordinates (low d) j) (r .coordinates (high d) j) (unit (suc k)))
 
   -- The children of a red cell are regular of the next level.
-  pub part-regular : (f : List ℕ) → Digits f → Kuhn (partOf (r .coordinates) f) → (path : List ℕ) (parent : ℕ) (b : Bool)
+  part-regular : (f : List ℕ) → Digits f → Kuhn (partOf (r .coordinates) f) → (path : List ℕ) (parent : ℕ) (b : Bool)
       → Regular n (suc k) (record { path = path; parent = parent; regular = b; points = map (point c) f })
   part-regular f g w path parent b =
       record {

@@ -27,11 +27,11 @@ module _ (ps : List ℤ) (ts ss : List ℕ) where
       let r : meshAnswer ps ts ≡ Refused k = mesh-code ps ts ∙ ap answerOf (sym e) ∙ answer-refused k h in
       rw r (sym (answer-refused k h))
 
-  pub table-unsound : codeOf (meshAnswer ps ts) ≡ 0 → soundb (cornerCount ps) (fours ts) ss ≡ false → tableAnswer ps ts ss ≡ answerOf 6
+  table-unsound : codeOf (meshAnswer ps ts) ≡ 0 → soundb (cornerCount ps) (fours ts) ss ≡ false → tableAnswer ps ts ss ≡ answerOf 6
   unfolding tableAnswer andThen answerOf
   table-unsound e f = rw (mesh-passed ps ts e .accepted, f)
 
-  pub table-sound : codeOf (meshAnswer ps ts) ≡ 0 → soundb (cornerCount ps) (fours ts) ss ≡ true → tableAnswer ps ts ss ≡ answerOf 0
+  table-sound : codeOf (meshAnswer ps ts) ≡ 0 → soundb (cornerCount ps) (fours ts) ss ≡ true → tableAnswer ps ts ss ≡ answerOf 0
   unfolding tableAnswer andThen answerOf
   table-sound e f = rw (mesh-passed ps ts e .accepted, f)
 

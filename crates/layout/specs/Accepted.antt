@@ -3,27 +3,16 @@
 use mathlib.Core.Path.{_≡_, refl}
 use mathlib.Core.Bool.{Bool, true, false}
 use mathlib.Core.List.{List}
-use Prim.Native.Nat.{ℕ, _/_, _%_, _≤_}
+use Prim.Native.Nat.{ℕ}
 use native.Mathlib.Omega.{arith}
-use lib.Dec.{T, eqb→eq, leb→le}
+use lib.Dec.{T}
 use lib.IntN.{ℤ}
-use lib.ListN.{length}
-use Rattle.base.specs.Bools.{and-left, and-right}
 use Rattle.base.specs.Fours.{fours}
 use Rattle.base.specs.declared.Answer.the-variants.{Accepted}
 use Rattle.mesh.specs.Coarse.{cornerCount, countsb, positionsb, cellsb, solidb, singleb, meshAnswer}
+use Rattle.mesh.specs.Laws.{mesh-counts}
 use Rattle.tables.specs.Sound.{Mesh}
 use Rattle.base.specs.Refuse.{codeOf, answerOf}
-
-record Counts (ps : List ℤ) (ts : List ℕ) : Type 0 where
-  whole : length ts % 4 ≡ 0
-  some : 1 ≤ length ts / 4
-  few : length ts / 4 ≤ 256
-  corners : cornerCount ps ≤ 512
-
-counts : (ps : List ℤ) (ts : List ℕ) → T (countsb ps ts) → Counts ps ts
-unfolding countsb
-counts ps ts t = search (and-left, and-right, eqb→eq, leb→le)
 
 pub record Passed (ps : List ℤ) (ts : List ℕ) : Type 0 where
   pub accepted : meshAnswer ps ts ≡ Accepted
@@ -46,17 +35,17 @@ module _ (ps : List ℤ) (ts : List ℕ) where
   coded true true true true false f g h i j = record
       { tells = rw (f, g, h, i, j); passed = λ z. absurd (omega (arith, rw (f, g, h, i, j) at z)) }
   coded true true true true true f g h i j =
-      let k = counts ps ts (rw f tt) in
+      let k = mesh-counts ps ts (rw f tt) in
       record {
         tells = rw (f, g, h, i, j);
         passed = λ z. record {
           accepted = rw (f, g, h, i, j);
           positions = rw g tt;
           mesh = record {
-            whole = k .whole;
-            few = omega (arith, k .whole, k .few);
+            whole = k .fours;
+            few = omega (arith, k .fours, k .few);
             some = omega (arith, k .some);
-            corners = k .corners;
+            corners = k .corners-few;
             cells = rw h tt;
           };
         };

@@ -124,21 +124,12 @@ pub fn lay_out(
     ends: &mut [u16],
     sums: &mut [i32],
 ) -> Laid
-    ensures { λ r. ⌜ r
-        ≡ laidOf (layoutAnswer (was positions) (was cells) (was status) (was table) (was ends) (was sums))
-        (sizesOf (was positions) (was cells) (was status)) ⌝ }
-    ensures { λ r. ⌜ is table
-        ≡ heldAfter (layoutAnswer (was positions) (was cells) (was status) (was table) (was ends) (was sums))
-        (cellTable (cornersIn (was positions) (was cells) (was status)) (cellsIn (was positions) (was cells) (was status)))
-        (was table) ⌝ }
-    ensures { λ r. ⌜ is ends
-        ≡ heldAfter (layoutAnswer (was positions) (was cells) (was status) (was table) (was ends) (was sums))
-        (endTable (cornersIn (was positions) (was cells) (was status)))
-        (was ends) ⌝ }
-    ensures { λ r. ⌜ is sums
-        ≡ heldAfter (layoutAnswer (was positions) (was cells) (was status) (was table) (was ends) (was sums))
-        (sumTable (was positions) (cornersIn (was positions) (was cells) (was status)))
-        (was sums) ⌝ }
+    ensures { λ r. let a = layoutAnswer (was positions) (was cells) (was status) (was table) (was ends) (was sums) in
+        let ks = cornersIn (was positions) (was cells) (was status) in
+        ⌜ (r ≡ laidOf a (sizesOf (was positions) (was cells) (was status)))
+        × (is table ≡ heldAfter a (cellTable ks (cellsIn (was positions) (was cells) (was status))) (was table))
+        × (is ends ≡ heldAfter a (endTable ks) (was ends))
+        × (is sums ≡ heldAfter a (sumTable (was positions) ks) (was sums)) ⌝ }
 {
     if !lent(table, ends, sums) {
         return Laid::Refused(15);

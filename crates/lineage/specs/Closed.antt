@@ -16,9 +16,10 @@ use Rattle.cutting.specs.Rule.{family}
 use Rattle.mesh.specs.Cells.{Cell, none, redb, patternOf, edges, redEdges, pattern, statusOf, closedFrom, children, childrenFrom}
 use Rattle.mesh.specs.Weights.{Point, point, coarseFrom, coarseCells}
 use Rattle.mesh.specs.Table.{next, sizeOf}
-use Rattle.numbering.specs.Refined.{Both, pattern-in-six}
+use Rattle.mesh.specs.Laws.{pattern-small, length-coarse}
+use Rattle.numbering.specs.Refined.{Both}
 use Rattle.rows.specs.Many.{length-children}
-use Rattle.lineage.specs.Paths.{length-coarse, length-upto}
+use Rattle.lineage.specs.Paths.{length-upto}
 use Rattle.lineage.specs.Same.{both-append, length-olds-of}
 use Rattle.lineage.specs.Levels.{length-redsBy}
 use Rattle.lineage.specs.Olds.{flagOf, oldsOf, oldsNext, oldChild, upTo, redsBy, closedBy, statusesBy}
@@ -108,7 +109,7 @@ red-status es r c h = go (c .regular) refl (redb r) refl
   where
     go : (b : Bool) → c .regular ≡ b → (d : Bool) → redb r ≡ d → redb (statusOf [] sameb es (redb r) c) ≡ redb r
     go true e true f = rw (e, f, statusOf)
-    go true e false f = rw (e, f, statusOf) (ne-eqb (pattern [] sameb es c) 64 (λ x. omega (arith, pattern-in-six [] sameb es c)))
+    go true e false f = rw (e, f, statusOf) (ne-eqb (pattern [] sameb es c) 64 (λ x. omega (arith, pattern-small [] sameb es c)))
     go false e d f = rw (e, h e, statusOf)
 
 red-edges-one : (c : Cell Point) (cs : List (Cell Point)) (s t : ℕ) (ss ts : List ℕ) → redb s ≡ redb t

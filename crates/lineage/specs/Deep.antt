@@ -34,7 +34,7 @@ use Rattle.lineage.specs.Stays.{Stays, stays}
 
 -- a test on a list
 module _ {A : Type 0} (d : A) (f : A → Bool) where
-  pub any-true-at : (l : List A) → anyb f l ≡ true → (t : ℕ) × (t < length l) × (f (getD l t d) ≡ true)
+  any-true-at : (l : List A) → anyb f l ≡ true → (t : ℕ) × (t < length l) × (f (getD l t d) ≡ true)
   unfolding anyb
   any-true-at [] e = not-both false e refl
   any-true-at (x ∷ l) e = go (f x) refl e (any-true-at l)
@@ -44,7 +44,7 @@ module _ {A : Type 0} (d : A) (f : A → Bool) where
       go true q e i = (0, omega arith, q)
       go false q e i = let (t, h, p) = i e in (suc t, omega arith, p)
 
-  pub none-at : (l : List A) → anyb f l ≡ false → (t : ℕ) → t < length l → f (getD l t d) ≡ false
+  none-at : (l : List A) → anyb f l ≡ false → (t : ℕ) → t < length l → f (getD l t d) ≡ false
   unfolding anyb
   none-at [] e t h = absurd (omega arith)
   none-at (x ∷ l) e t h = go (f x) refl e (none-at l) t h
@@ -60,7 +60,7 @@ flags-none : (ms : List ℕ) → flagsOf [] ms (rows noLevel ms) ≡ []
 unfolding flagsOf rows rowsFrom
 flags-none ms = refl
 
-pub flags-at : (ls : List Level) (ms : List ℕ) (j : ℕ) → getD (flags ls ms) j [] ≡ flagsOf (drop (suc j) ls) ms
+flags-at : (ls : List Level) (ms : List ℕ) (j : ℕ) → getD (flags ls ms) j [] ≡ flagsOf (drop (suc j) ls) ms
     (rows (getD ls j noLevel) ms)
 unfolding flags
 flags-at [] ms j = sym (flags-none ms)
@@ -102,7 +102,7 @@ module _ (n : ℕ) (qs : List (List ℕ)) (ss ms : List ℕ) (s : T (soundb n qs
   dark e c o (inr (p, f)) = ap redb (ap (λ (x : ℕ). getD (flagTable n qs ss ms) x 0) p
       ∙ flag-none (flagTable n qs ss ms) (flagged n qs ss ms s j .small))
 
-  pub nothing-above : suc j < 12 → anyb redb here ≡ false → newAt n qs ss ms (suc j) .cells ≡ []
+  nothing-above : suc j < 12 → anyb redb here ≡ false → newAt n qs ss ms (suc j) .cells ≡ []
   nothing-above g e =
       let x = traced n qs ss ms s j in
       let l' = newAt n qs ss ms j in
@@ -112,7 +112,7 @@ module _ (n : ℕ) (qs : List (List ℕ)) (ss ms : List ℕ) (s : T (soundb n qs
       (no-reds fs (l' .cells) (x .os) (both-more (Old (oldAt n qs ss j)) (Dark fs) (dark e) (l' .cells) (x .os) (x .olds)))
 
   -- a flag: a red cell, and its children
-  pub some-above : suc j < 12 → anyb redb here ≡ true → 0 < length (newAt n qs ss ms (suc j) .cells)
+  some-above : suc j < 12 → anyb redb here ≡ true → 0 < length (newAt n qs ss ms (suc j) .cells)
   some-above g e =
       let (t, h, p) = any-true-at 0 redb here e in
       let h' : t < length (oldAt n qs ss j .cells) = rw flags-many at h in
@@ -146,7 +146,7 @@ module _ (n : ℕ) (qs : List (List ℕ)) (ss ms : List ℕ) where
       ∙ length-map (newLevels n qs ss ms) (λ l. l .statuses)
 
   module _ (s : T (soundb n qs ss)) where
-    pub step-height : length (stepTable n qs ss ms) ≡ length (newLevels n qs ss ms)
+    step-height : length (stepTable n qs ss ms) ≡ length (newLevels n qs ss ms)
     step-height = ap length (step-by n qs ss ms s) ∙ step-length
 
     pub deep : leb (length (stepTable n qs ss ms)) 11 ≡ not (anyb redb (getD (flags (levelsOf n qs ss) ms) 10 []))

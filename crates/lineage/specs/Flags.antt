@@ -87,7 +87,7 @@ module _ {A : Type 0} (d : A) (f g : A → Bool) where
       go true e i = rw (e, filterb) (rw i (or-true (g x)))
       go false e i = rw (e, filterb) i
 
-  pub none-chosen : (l : List A) → ((t : ℕ) → t < length l → f (getD l t d) ≡ true → g (getD l t d) ≡ true → ⊥)
+  none-chosen : (l : List A) → ((t : ℕ) → t < length l → f (getD l t d) ≡ true → g (getD l t d) ≡ true → ⊥)
       → anyb g (filterb f l) ≡ false
   unfolding anyb filterb
   none-chosen [] u = refl

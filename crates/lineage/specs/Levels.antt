@@ -14,12 +14,14 @@ use lib.Seq.{take-at, drop-at}
 use Rattle.mesh.specs.Cells.{Cell, redEdges}
 use Rattle.mesh.specs.Weights.{Point, coarseCells}
 use Rattle.mesh.specs.Table.{Level, next, levels, levelsOf}
+use Rattle.mesh.specs.Laws.{length-coarse}
 use Rattle.lattice.specs.Levels.{noLevel}
 use Rattle.lineage.specs.Olds.{flagTable, upTo, oldsNext, redsBy, closedBy, statusesBy, growBy, stepBy}
 use Rattle.rows.specs.Many.{length-next}
-use Rattle.lineage.specs.Paths.{length-coarse, length-upto}
+use Rattle.lineage.specs.Paths.{length-upto}
 use Rattle.lineage.specs.Same.{length-olds}
 
+-- Rule 7.7, by old numbers, with the cells of each level.
 unfoldable pub growLevels : ℕ → List ℕ → List ℕ → ℕ → ℕ → List (Cell Point) → List ℕ → List Level
 unfolding statusesBy oldsNext next
 growLevels m ss fs zero k cs os = []

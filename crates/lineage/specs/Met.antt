@@ -22,11 +22,12 @@ use Rattle.cutting.specs.Rule.{family}
 use Rattle.mesh.specs.Cells.{Cell, redb, patternOf, noCell}
 use Rattle.mesh.specs.Weights.{Point, coarseCells}
 use Rattle.mesh.specs.Table.{Level, next, levelsOf, soundb, sizes}
+use Rattle.mesh.specs.Laws.{length-coarse}
 use Rattle.lattice.specs.Levels.{noLevel}
 use Rattle.numbering.specs.Refined.{Follows, Refined}
 use Rattle.lineage.specs.Olds.{flagTable, upTo, stepBy}
 use Rattle.lineage.specs.Born.{childOf, Born, born, born-below, born-at}
-use Rattle.lineage.specs.Paths.{pathAt, length-coarse, coarse-at}
+use Rattle.lineage.specs.Paths.{pathAt, coarse-at}
 use Rattle.lineage.specs.Same.{Is, Fresh, Old, both-at}
 use Rattle.lineage.specs.Levels.{newLevels, length-statuses, new-levels, levels-next, cells-first}
 use Rattle.lineage.specs.Flags.{newRedAt, FlaggedLevel, flag-red, flag-none}
@@ -80,7 +81,7 @@ module _ (n : ℕ) (qs : List (List ℕ)) (ss ms : List ℕ) where
       subst (λ (ls : List Level). getD ls 0 noLevel .cells ≡ coarseCells n qs) (new-levels n qs ss ms)
       (cells-first 11 0 (coarseCells n qs) (flatten (stepBy n qs ss ms)))
 
-  pub new-below : (j i : ℕ) → i < length (newAt n qs ss ms j .cells) → j < 12
+  new-below : (j i : ℕ) → i < length (newAt n qs ss ms j .cells) → j < 12
   new-below j i h =
       elim (decLt j 12) [
         | yes u ↦ u

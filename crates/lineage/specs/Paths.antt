@@ -1,7 +1,7 @@
 -- Paths tell the cells of a level apart, and the coarse cells by their places.
 --   pathAt cs t   the path of the cell t of cs
 --   Paths cs      no two cells of cs have the same path
--- Laws: snoc-inj (a path behind which a child number stands), paths-next, coarse-at (a coarse cell), paths-coarse, length-coarse,
+-- Laws: snoc-inj (a path behind which a child number stands), paths-next, coarse-at (a coarse cell), paths-coarse,
 -- upto-at, length-upto (numbers in their order).
 use mathlib.Core.Path.{_≡_, refl, sym, _∙_, ap, ap₂}
 use mathlib.Core.Logic.{⊎-elim}
@@ -17,7 +17,7 @@ use Rattle.mesh.specs.Weights.{Point, coarse, coarseFrom, coarseCells}
 use Rattle.mesh.specs.Table.{next, sizes}
 use Rattle.lineage.specs.Olds.{upTo}
 use Rattle.lineage.specs.Born.{born}
-use Rattle.mesh.specs.Laws.{length-from}
+use Rattle.mesh.specs.Laws.{length-coarse}
 
 abbrev pub pathAt : List (Cell Point) → ℕ → List ℕ
 pathAt cs t = getD cs t noCell .path
@@ -65,10 +65,6 @@ coarse-at n qs t h =
     from-at n 0 qs t h
     ∙ ap {A = ℕ} {B = Cell Point} (λ x. record { path = x ∷ []; parent = none; regular = true; points = map (coarse n) (getD qs t []) })
     (omega arith)
-
-pub length-coarse : (n : ℕ) (qs : List (List ℕ)) → length (coarseCells n qs) ≡ length qs
-unfolding coarseCells
-length-coarse n qs = length-from n 0 qs
 
 pub paths-coarse : (n : ℕ) (qs : List (List ℕ)) → Paths (coarseCells n qs)
 paths-coarse n qs t u ht hu e =

@@ -22,11 +22,11 @@ use Rattle.lattice.specs.Levels.{sound-levels}
 use Rattle.numbering.specs.Refined.{Follows, closed-refined}
 use Rattle.lineage.specs.Olds.{flagOf, flagsOf, flags, flagTable, firstChild}
 use Rattle.rows.specs.Many.{length-next}
-use Rattle.lineage.specs.Paths.{Paths, paths-next, paths-coarse, length-coarse}
+use Rattle.lineage.specs.Paths.{Paths, paths-next, paths-coarse}
 use Rattle.lineage.specs.Same.{Up, both-at}
 use Rattle.lineage.specs.Levels.{here}
 use Rattle.lineage.specs.Flags.{noRow, newRedAt, FlaggedLevel, length-rows, rows-at}
-use Rattle.mesh.specs.Laws.{sizes-append}
+use Rattle.mesh.specs.Laws.{sizes-append, length-coarse}
 
 pub record Rest (m : ℕ) (ss fs ms : List ℕ) (h k : ℕ) (cs : List (Cell Point)) (rs : List ℕ) : Type 0 where
   pub rest : drop k ss ≡ rs
@@ -107,14 +107,14 @@ module _ (m : ℕ) (ss fs ms : List ℕ) (h k : ℕ) (c : Cell Point) (cs : List
   abbrev own : List ℕ
   own = take (length (c ∷ cs)) rs
 
-  abbrev pub upper : List Level
+  abbrev upper : List Level
   upper = levels h (k + length (c ∷ cs)) (next k (c ∷ cs) own) (drop (length (c ∷ cs)) rs)
 
   cells-count : k + (length (c ∷ cs) + length (cellsOf upper)) ≡ length ss
   unfolding levels cellsOf flatMap flatten
   cells-count = ap (λ (x : ℕ). k + x) (sym (length-append (c ∷ cs) (cellsOf upper))) ∙ r .count
 
-  pub length-own : length own ≡ length (c ∷ cs)
+  length-own : length own ≡ length (c ∷ cs)
   length-own = length-take-le (length (c ∷ cs)) rs (omega (arith, cells-count, length-drop k ss, ap length (r .rest)))
 
   closed-here : T (closedb (here k (c ∷ cs) rs)) × T (allb closedb upper)

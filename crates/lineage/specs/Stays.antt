@@ -5,7 +5,7 @@
 -- stays red), up-rows (the rows one level up), parent and parent-stays (the parent of a new red cell is one), stays (the theorem).
 use mathlib.Core.Path.{_≡_, refl, sym, _∙_, ap}
 use mathlib.Core.Logic.{_≢_, _⊎_, inl, inr}
-use mathlib.Core.Bool.{Bool, true, false, _&&_, and-false}
+use mathlib.Core.Bool.{Bool, true, false, _&&_}
 use mathlib.Core.List.{List, [], _∷_, _++_}
 use Prim.Native.Nat.{ℕ, zero, suc, _+_, _<_}
 use native.Mathlib.Omega.{arith}
@@ -13,8 +13,8 @@ use lib.Dec.{T, eqb}
 use lib.ListN.{length, getD, take}
 use lib.Seq.{getD-drop}
 use borrow.Author.Tests.{eqb-true, eq-eqb, ne-eqb}
-use Rattle.base.specs.Lists.{allb, filterb}
 use Rattle.base.specs.Bools.{is-true, and-right}
+use Rattle.base.specs.Each.{allb-failing}
 use Rattle.cutting.specs.Rule.{family}
 use Rattle.mesh.specs.Cells.{Cell, redb, patternOf, noCell}
 use Rattle.mesh.specs.Weights.{Point}
@@ -28,19 +28,8 @@ use Rattle.lineage.specs.Flags.{noRow, newRedAt, length-rows, rows-at, n
 use Rattle.lineage.specs.Met.{oldAt, oldAbove, newAt, Matched, old-next, new-next, old-coarse, new-coarse, flagged, new-known, met}
 
 -- a chosen element that fails a test
-all-failing : {A : Type 0} (d : A) (f g : A → Bool) (l : List A) (t : ℕ) → t < length l → g (getD l t d) ≡ true → f (getD l t d) ≡ false
-    → allb f (filterb g l) ≡ false
-unfolding allb filterb
-all-failing d f g [] t h p q = absurd (omega arith)
-all-failing d f g (x ∷ l) zero h p q = rw (p, filterb) (rw q)
-all-failing d f g (x ∷ l) (suc t) h p q = go (g x) refl (all-failing d f g l t (omega arith) p q)
-  where
-    go : (b : Bool) → g x ≡ b → allb f (filterb g l) ≡ false → allb f (filterb g (x ∷ l)) ≡ false
-    go true e i = rw (e, filterb) (rw i (and-false (f x)))
-    go false e i = rw (e, filterb) i
-
 -- a new red cell is refined already, or marked 1
-pub new-red-kept : (up : List Row) (es : List (Point × Point)) (r : Row) → newRedb up es r ≡ true
+new-red-kept : (up : List Row) (es : List (Point × Point)) (r : Row) → newRedb up es r ≡ true
     → (eqb (r .status) 0 && eqb (r .mark) 2) ≡ false
 unfolding redAfterb
 new-red-kept up es r n = go (eqb (r .status) 0) refl
@@ -64,7 +53,7 @@ pub not-deleted : (up : List Row) (es : List (Point × Point)) (k t : ℕ) → t
     → (eqb (getD up t noRow .status) 0 && eqb (getD up t noRow .mark) 2) ≡ false → deletedb (kids up k) es ≡ false
 unfolding deletedb kids
 not-deleted up es k t h p q =
-    all-failing noRow _ (λ r. eqb (r .cell .parent) k) up t h (eq-eqb (getD up t noRow .cell .parent) k p) (rw q)
+    allb-failing (λ r. eqb (r .cell .parent) k) _ noRow up t h (eq-eqb (getD up t noRow .cell .parent) k p) (rw q)
 
 -- the rows one level up
 rows-none : (ms : List ℕ) → rows noLevel ms ≡ []
@@ -85,7 +74,7 @@ module _ (n : ℕ) (qs : List (List ℕ)) (ss ms : List ℕ) where
     pub status : getD (newAt n qs ss ms j .statuses) i 0 ≡ 64
 
   -- the old cell t of level j will be red
-  abbrev pub Red : ℕ → ℕ → Type 0
+  abbrev Red : ℕ → ℕ → Type 0
   Red j t = newRedAt ms (oldAbove n qs ss j) (oldAt n qs ss j) t ≡ true
 
   pub up-rows : (j : ℕ) → rowsUp (oldAbove n qs ss j) ms ≡ rows (oldAt n qs ss (suc j)) ms
@@ -130,7 +119,7 @@ module _ (n : ℕ) (qs : List (List ℕ)) (ss ms : List ℕ) (s : T (soundb n qs
     abbrev u : Level
     u = oldAt n qs ss (suc j)
 
-    pub parent : Born (l .first) (l .cells) (l .statuses) (getD (u .cells) t noCell)
+    parent : Born (l .first) (l .cells) (l .statuses) (getD (u .cells) t noCell)
     parent =
         let q = old-next n qs ss ms j g in
         rw q (born (l .first) (l .cells) (l .statuses) t (rw q at h) .0)
@@ -140,7 +129,7 @@ module _ (n : ℕ) (qs : List (List ℕ)) (ss ms : List ℕ) (s : T (soundb n qs
         eqb-true (getD (l .statuses) (parent .p) 0) 64
         (sym (ap (λ (c : Cell Point). c .regular) (parent .is)) ∙ is-true (getD (u .cells) t noCell .regular) (red-regular (suc j) t h e))
 
-    pub parent-stays : Red n qs ss ms j (parent .p)
+    parent-stays : Red n qs ss ms j (parent .p)
     parent-stays =
         let known : length (u .statuses) ≡ length (u .cells) = flagged n qs ss ms s (suc j) .known in
         let at : getD (rowsUp (oldAbove n qs ss j) ms) t noRow ≡ rowIn u ms t = ap (λ (rs : List Row). getD rs t noRow)

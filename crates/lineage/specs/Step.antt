@@ -17,10 +17,11 @@ use Rattle.mesh.specs.Cells.{Cell, redb, edges, heldb, bitsOf, pattern, redEdge
 use Rattle.mesh.specs.Weights.{Point, coarseCells}
 use Rattle.mesh.specs.Table.{Level, next, levels, levelsOf, soundb}
 use Rattle.mesh.specs.Step.{Row, newReds, amongb, redCells, grow, stepTable}
+use Rattle.mesh.specs.Laws.{length-coarse}
 use Rattle.numbering.specs.Refined.{Both, Refined, refined-red, status-follows}
 use Rattle.numbering.specs.Leaves.{Leaves, leaf-next}
 use Rattle.lineage.specs.Olds.{flagTable, upTo, oldsNext, redsBy, closedBy, statusesBy, growBy, stepBy}
-use Rattle.lineage.specs.Paths.{coarse-at, length-coarse, length-upto, upto-at}
+use Rattle.lineage.specs.Paths.{coarse-at, length-upto, upto-at}
 use Rattle.lineage.specs.Same.{Old, both-from, both-more, olds-next}
 use Rattle.lineage.specs.Levels.{here, length-up}
 use Rattle.lineage.specs.Flags.{redRows, flag-red, flag-none, among-old, among-none}
@@ -42,7 +43,7 @@ module _ (n : ℕ) (qs : List (List ℕ)) (ss : List ℕ) where
   olds-start = both-from (Old (here 0 (coarseCells n qs) ss)) (coarseCells n qs) (upTo (length qs)) olds-many olds-coarse
 
 -- the statuses of a level
-abbrev pub Agrees : List Row → List ℕ → Cell Point → ℕ → Type 0
+abbrev Agrees : List Row → List ℕ → Cell Point → ℕ → Type 0
 Agrees reds fs c o = amongb reds c ≡ redb (getD fs o 0)
 
 module _ (reds : List Row) (fs : List ℕ) where
@@ -65,7 +66,7 @@ module _ (reds : List Row) (fs : List ℕ) where
       ap₂ _∷_ (ap (λ (x : Bool). statusOf [] sameb es x c) (b .0 ∙ sym (flag-red (redb (getD fs o 0)))))
       (closed-same es cs os (omega arith) (b .1))
 
-  pub statuses-same : (cs : List (Cell Point)) (os : List ℕ) → length os ≡ length cs → Both (Agrees reds fs) cs os
+  statuses-same : (cs : List (Cell Point)) (os : List ℕ) → length os ≡ length cs → Both (Agrees reds fs) cs os
       → map (λ c. statusOf [] sameb (redCells reds cs) (amongb reds c) c) cs ≡ statusesBy fs cs os
   unfolding statusesBy
   statuses-same cs os e b =
@@ -118,7 +119,7 @@ module _ (fs : List ℕ) where
   no-reds cs os b = rw (no-edges cs os b) (closed-leaves cs os b)
 
 -- level after level
-pub grow-nothing : (m : ℕ) (ss fs : List ℕ) (h k : ℕ) (os : List ℕ) → growBy m ss fs h k [] os ≡ []
+grow-nothing : (m : ℕ) (ss fs : List ℕ) (h k : ℕ) (os : List ℕ) → growBy m ss fs h k [] os ≡ []
 unfolding growBy
 grow-nothing m ss fs zero k os = refl
 grow-nothing m ss fs (suc h) k os = refl

@@ -15,9 +15,10 @@ use Rattle.base.specs.Lists.{sameb}
 use Rattle.mesh.specs.Cells.{Cell, redb, pattern, redEdges, statusOf, noCell}
 use Rattle.mesh.specs.Weights.{Point}
 use Rattle.mesh.specs.Table.{Level, next, levels}
+use Rattle.mesh.specs.Laws.{pattern-small}
 use Rattle.base.specs.Every.{getD-map}
 use Rattle.lattice.specs.Levels.{noLevel}
-use Rattle.numbering.specs.Refined.{Both, refined-red, pattern-in-six}
+use Rattle.numbering.specs.Refined.{Both, refined-red}
 use Rattle.numbering.specs.Leaves.{leaf-next}
 use Rattle.lineage.specs.Olds.{flagOf, oldsNext, redsBy, closedBy, statusesBy}
 use Rattle.lineage.specs.Same.{Old, both-more, olds-next}
@@ -37,7 +38,7 @@ status-redb : (es : List (Point × Point)) (r : Bool) (c : Cell Point) → T (c 
 unfolding statusOf
 status-redb es true c t = rw (is-true (c .regular) t, statusOf) refl
 status-redb es false c t = rw (is-true (c .regular) t, statusOf)
-    (ne-eqb (pattern [] sameb es c) 64 (λ e. omega (arith, pattern-in-six [] sameb es c)))
+    (ne-eqb (pattern [] sameb es c) 64 (λ e. omega (arith, pattern-small [] sameb es c)))
 
 closed-at : (es : List (Point × Point)) (cs : List (Cell Point)) (rs : List ℕ) → length rs ≡ length cs → (i : ℕ) → i < length cs
     → getD (closedBy es cs rs) i 0 ≡ statusOf [] sameb es (redb (getD rs i 0)) (getD cs i noCell)

@@ -23,7 +23,7 @@ lines-few i (a ∷ b ∷ c ∷ []) h = refl
 lines-few i (a ∷ b ∷ c ∷ d ∷ cs) h = absurd (omega arith)
 
 -- the numbers of a level
-abbrev pub row : ℕ → List ℕ → List ℕ
+abbrev row : ℕ → List ℕ → List ℕ
 row i cs = i ∷ getD cs (4 * i) 0 ∷ getD cs (4 * i + 1) 0 ∷ getD cs (4 * i + 2) 0 ∷ getD cs (4 * i + 3) 0 ∷ []
 
 four-on : (cs : List ℕ) (k : ℕ) → k + 4 ≤ length cs

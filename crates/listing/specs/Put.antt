@@ -4,11 +4,12 @@
 -- says by parts (put-parts, put-front).
 use mathlib.Core.Path.{_≡_, refl, sym, _∙_, ap}
 use mathlib.Core.List.{List, [], _∷_, _++_, append-assoc}
-use Prim.Native.Nat.{ℕ, suc, _+_, _≤_, _<_}
-use native.Mathlib.Nat.{add-zero, zero-add, add-suc, suc-add}
+use Prim.Native.Nat.{ℕ, _+_, _≤_, _<_}
+use native.Mathlib.Nat.{add-zero, zero-add}
 use native.Mathlib.Omega.{arith}
 use lib.ListN.{length, set, take, drop, length-append}
 use lib.Seq.{sets, sets-eq, length-sets}
+use Rattle.base.specs.Append.{sets-append}
 
 pub record Put (l : List ℕ) (at : ℕ) (bs m : List ℕ) (r : ℕ) : Type 0 where
   pub bytes : m ≡ sets l at bs
@@ -20,10 +21,6 @@ put-none l at h = record { bytes = refl; behind = sym (add-zero at); inside = h 
 
 pub put-one : (l : List ℕ) (at b : ℕ) → at < length l → Put l at (b ∷ []) (set l at b) (at + 1)
 put-one l at b h = record { bytes = refl; behind = refl; inside = omega arith }
-
-sets-append : (xs ys l : List ℕ) (i : ℕ) → sets l i (xs ++ ys) ≡ sets (sets l i xs) (i + length xs) ys
-sets-append [] ys l i = rw add-zero
-sets-append (x ∷ xs) ys l i = sets-append xs ys (set l i x) (suc i) ∙ rw (suc-add i (length xs), add-suc i (length xs))
 
 pub put-length : {l bs m : List ℕ} {at r : ℕ} → Put l at bs m r → length m ≡ length l
 put-length {l} {bs} {m} {at} p = ap length (p .bytes) ∙ length-sets l at bs
@@ -40,7 +37,7 @@ pub put-as : {l m xs ys : List ℕ} {at r : ℕ} → xs ≡ ys → Put l at xs m
 put-as e p = rw e at p
 
 module _ {l bs m : List ℕ} where
-  pub put-parts : {at r : ℕ} → Put l at bs m r → m ≡ take at l ++ (bs ++ drop (at + length bs) l)
+  put-parts : {at r : ℕ} → Put l at bs m r → m ≡ take at l ++ (bs ++ drop (at + length bs) l)
   put-parts {at} p = p .bytes ∙ sets-eq bs l at (omega (arith, p .behind, p .inside))
       ∙ append-assoc (take at l) bs (drop (at + length bs) l)
 

@@ -29,7 +29,7 @@ unfolding fields
 length-line i a b c d = simp length-append
     (omega (arith, length-decimal i, length-decimal a, length-decimal b, length-decimal c, length-decimal d))
 
-pub length-lines : (i : ℕ) (cs : List ℕ) → length (lines i cs) ≤ 8 * length cs
+length-lines : (i : ℕ) (cs : List ℕ) → length (lines i cs) ≤ 8 * length cs
 unfolding lines
 length-lines i [] = omega arith
 length-lines i (a ∷ []) = omega arith

@@ -2,18 +2,18 @@
 use mathlib.Core.Path.{_≡_, refl, sym, _∙_, ap, ap₂}
 use mathlib.Core.Bool.{Bool, true, false, _&&_}
 use mathlib.Core.List.{List, [], _∷_, _++_, map, map-append, append-assoc}
-use Prim.Native.Nat.{ℕ, zero, suc, _+_, _-_, _*_, _%_, _≤_, _<_}
-use native.Mathlib.Nat.{add-zero}
+use Prim.Native.Nat.{ℕ, suc, _+_, _-_, _*_, _%_, _≤_, _<_}
 use native.Mathlib.Omega.{arith}
 use lib.Dec.{T, ltb}
 use lib.ListN.{length, getD, take, drop, set, length-append, length-drop, length-map}
 use lib.Seq.{drop-cons, length-take-le, sets, sets-eq, length-sets, take-at, drop-at, take-append-seam}
 use borrow.Author.Tests.{lt-ltb, le-ltb}
-use Rattle.base.specs.Bools.{is-true, not-both, and-both, and-left, and-right}
+use Rattle.base.specs.Bools.{is-true, not-both, and-both}
 use Rattle.base.specs.Every.{getD-map}
 use Rattle.base.specs.Fours.{fours}
 use Rattle.base.specs.Lists.{allb, anyb, allb-at}
-use Rattle.base.specs.Range.{range, length-range, range-at}
+use Rattle.base.specs.Range.{range, length-range, range-at, range-snoc}
+use Rattle.base.specs.Append.{allb-append}
 use Rattle.mesh.specs.Coarse.{cellb, cellsb}
 use Rattle.store.specs.Fields.{full, CORNER}
 use Rattle.store.specs.Stores.{storeIn, storesBy, store-long, field-in}
@@ -100,18 +100,6 @@ fours-more (a ∷ b ∷ c ∷ []) q h g = absurd (omega arith)
 fours-more (a ∷ b ∷ c ∷ d ∷ l) q h g =
     ap (λ (k : List (List ℕ)). (a ∷ b ∷ c ∷ d ∷ []) ∷ k) (fours-more l q (omega arith) g)
 
-range-more : (k m : ℕ) → range k (suc m) ≡ range k m ++ ((k + m) ∷ [])
-unfolding range
-range-more k zero = rw (add-zero k)
-range-more k (suc m) =
-    let z : k + suc m ≡ suc k + m = omega arith in rw z (ap (λ (l : List ℕ). k ∷ l) (range-more (suc k) m))
-
-all-join : {A : Type 0} (f : A → Bool) (l m : List A) → T (allb f l) → T (allb f m) → T (allb f (l ++ m))
-unfolding allb
-all-join f [] m s t = t
-all-join f (x ∷ l) m s t =
-    and-both (f x) (allb f (l ++ m)) (and-left (f x) (allb f l) s) (all-join f l m (and-right (f x) (allb f l) s) t)
-
 module _ (b : List ℕ) (P n m : ℕ) where
   abbrev xs : List (List ℕ)
   xs = storesBy b P
@@ -172,7 +160,7 @@ module _ (b : List ℕ) (P n m : ℕ) where
     all-corners : map (cornersAmong xs) (range 0 (suc i)) ≡ map (cornersAmong xs) (range 0 i) ++ (cornersAmong xs i ∷ [])
     all-corners =
         let z : 0 + i ≡ i = omega arith in
-        let r : range 0 (suc i) ≡ range 0 i ++ (i ∷ []) = rw z at (range-more 0 i) in
+        let r : range 0 (suc i) ≡ range 0 i ++ (i ∷ []) = rw z at (range-snoc 0 i) in
         ap (map (cornersAmong xs)) r ∙ map-append (cornersAmong xs) (range 0 i) (i ∷ [])
 
     pub gathering-low : cellb n (take 4 (drop (4 * i) mesh′)) ≡ false → (last : List ℕ) → Gathered b P n m last false
@@ -204,9 +192,9 @@ module _ (b : List ℕ) (P n m : ℕ) where
         record {
           few = h;
           long = ap length e ∙ length-sets mesh (4 * i) q ∙ s .long;
-          owned = rw (range-more 0 i, z) (all-join ownedb (range 0 i) (i ∷ []) (s .owned)
+          owned = rw (range-snoc 0 i, z) (allb-append ownedb (range 0 i) (i ∷ []) (s .owned)
               (and-both (ownedb i) true (rw (o .some below .0) tt) tt));
-          cells = rw all-corners (all-join (cellb n) (map (cornersAmong xs) (range 0 i)) (cornersAmong xs i ∷ []) (s .cells)
+          cells = rw all-corners (allb-append (cellb n) (map (cornersAmong xs) (range 0 i)) (cornersAmong xs i ∷ []) (s .cells)
               (and-both (cellb n (cornersAmong xs i)) true (rw c tt) tt));
           mesh-is =
               let w : 4 * suc i ≡ 4 * i + 4 = omega arith in

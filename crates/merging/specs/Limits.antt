@@ -15,12 +15,12 @@ use borrow.Author.Tests.{le-leb, lt-leb}
 use Rattle.base.specs.Refuse.{refuse}
 use Rattle.base.specs.declared.Answer.{Answer}
 use Rattle.base.specs.declared.Answer.the-variants.{Accepted}
-use Rattle.mesh.specs.Cells.{Cell}
-use Rattle.mesh.specs.Weights.{Point, coarseCells}
+use Rattle.mesh.specs.Weights.{coarseCells}
 use Rattle.mesh.specs.Table.{Level}
 use Rattle.lattice.specs.Levels.{noLevel}
 use Rattle.lineage.specs.Olds.{flagTable, upTo, stepBy}
-use Rattle.lineage.specs.Levels.{growLevels, newLevels}
+use Rattle.lineage.specs.Levels.{newLevels}
+use Rattle.lineage.specs.Deep.{grow-some}
 use Rattle.soundness.specs.Grown.{grow-high}
 use Rattle.rounds.specs.Rounds.{capped, largest}
 
@@ -50,15 +50,6 @@ capped-few x =
     ]
 
 -- how many levels there are
-module _ (m : ℕ) (ss fs : List ℕ) where
-  level-filled : (h k : ℕ) (cs : List (Cell Point)) (os : List ℕ) (j : ℕ) → j < length (growLevels m ss fs h k cs os)
-      → 0 < length (getD (growLevels m ss fs h k cs os) j noLevel .cells)
-  unfolding growLevels
-  level-filled zero k cs os j l = absurd (omega arith)
-  level-filled (suc h) k [] os j l = absurd (omega arith)
-  level-filled (suc h) k (c ∷ cs) os zero l = omega arith
-  level-filled (suc h) k (c ∷ cs) os (suc j) l = level-filled h _ _ _ j (omega arith)
-
 beyond : (ls : List Level) (j : ℕ) → 0 < length (getD ls j noLevel .cells) → j < length ls
 beyond [] j h = absurd (omega arith)
 beyond (l ∷ ls) zero h = omega arith
@@ -84,7 +75,7 @@ module _ (n : ℕ) (qs : List (List ℕ)) (ss ms : List ℕ) where
   levels-eleven =
       elim (decLt 11 (length (stepBy n qs ss ms))) [
         | yes h ↦
-            let f = level-filled (length qs) ss (flagTable n qs ss ms) 12 0 (coarseCells n qs) (upTo (length qs)) 11
+            let f = grow-some (length qs) ss (flagTable n qs ss ms) 12 0 (coarseCells n qs) (upTo (length qs)) 11
             (omega (arith, step-high)) in
             lt-leb (length (stepBy n qs ss ms)) 11 h ∙ sym (ap not (le-leb 1 (length (last .cells)) f))
         | no h ↦ le-leb (length (stepBy n qs ss ms)) 11 (omega arith) ∙ sym (ap not (last-empty (omega arith)))

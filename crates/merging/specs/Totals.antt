@@ -14,12 +14,12 @@ use lib.Dec.{T, leb, leb→le, le→leb}
 use lib.ListN.{length, length-append}
 use Rattle.base.specs.Refuse.{refuse}
 use Rattle.base.specs.declared.Answer.the-variants.{Accepted}
+use Rattle.base.specs.Bools.{same-test}
 use Rattle.lineage.specs.Olds.{stepBy}
 use Rattle.lineage.specs.Paths.{pathAt}
 use Rattle.lineage.specs.Met.{newAt}
 use Rattle.soundness.specs.Grown.{new-many}
 use Rattle.exchange.specs.Finite.{Finite, sumOver}
-use Rattle.rounds.specs.Tests.{same-test}
 use Rattle.rounds.specs.Task.{Task}
 use Rattle.rounds.specs.Rounds.{State, capped, largest, sized}
 use Rattle.rounds.specs.Among.{largest-in}

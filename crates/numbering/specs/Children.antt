@@ -21,6 +21,7 @@ use Rattle.mesh.specs.Table.{next}
 use Rattle.mesh.specs.Layout.{Corner, numberIn, mapCell, splitEdges, edgeNumbers}
 use Rattle.edges.specs.Pairs.{Pair, isb, sorted}
 use Rattle.rows.specs.Numbered.{pointAt, nextOf}
+use Rattle.rows.specs.Laws.{pointAt-corner}
 use Rattle.base.specs.Every.{All, all-more, all-append, all-from, all-of, below-at}
 use Rattle.families.specs.Kuhn.{digit-ends}
 use Rattle.families.specs.Children.{middle}
@@ -74,15 +75,11 @@ split-has ks c s a e h t =
     h) t)
 
 -- The point of a digit.
-pub record Numbered (n : ℕ) (ks ks′ : List Corner) (es : List Pair) (c : Cell Point) (d : ℕ) : Type 0 where
-  pub has : Has ks′ (point c d)
-  pub number : pointAt n es (mapCell (numberIn ks) c) d ≡ numberIn ks′ (point c d)
+record Numbered (n : ℕ) (ks ks′ : List Corner) (es : List Pair) (c : Cell Point) (d : ℕ) : Type 0 where
+  has : Has ks′ (point c d)
+  number : pointAt n es (mapCell (numberIn ks) c) d ≡ numberIn ks′ (point c d)
 
 module _ (n : ℕ) (es : List Pair) (c : Cell ℕ) (d : ℕ) where
-  point-at-corner : eqb (low d) (high d) ≡ true → pointAt n es c d ≡ corner 0 c (low d)
-  unfolding pointAt
-  point-at-corner t = rw (t, pointAt)
-
   point-at-middle : eqb (low d) (high d) ≡ false → pointAt n es c d ≡ n + placeIn isb es (sorted (corner 0 c (low d), corner 0 c (high d)))
   unfolding pointAt
   point-at-middle t = rw (t, pointAt)
@@ -103,7 +100,7 @@ module _ (n k : ℕ) (h : k < 10) (ks ks′ : List Corner) (es : List Pair) (w :
       let q : point c d ≡ corner [] c (low d) = rw (← e) (mid-self (corner [] c (low d))) in
       record {
         has = rw q (kept-has ks ks′ kept (corner [] c (low d)) (corner-has (low d) (omega arith)));
-        number = point-at-corner n es (mapCell (numberIn ks) c) d t ∙ corner-number (low d) (omega arith) ∙ ap (numberIn ks′) (sym q);
+        number = pointAt-corner n es (mapCell (numberIn ks) c) d t ∙ corner-number (low d) (omega arith) ∙ ap (numberIn ks′) (sym q);
       }
 
   numbered-middle : (d : ℕ) → d < 10 → eqb (low d) (high d) ≡ false → split (patternOf s) (edgeOf d) ≡ true → Numbered n ks ks′ es c d
@@ -126,7 +123,7 @@ module _ (n k : ℕ) (h : k < 10) (ks ks′ : List Corner) (es : List Pair) (w :
             (kept-has ks ks′ kept q₁ (corner-has (high d) y)) v);
       }
 
-  pub numbered-present : (d : ℕ) → T (memberb d (present (patternOf s))) → Numbered n ks ks′ es c d
+  numbered-present : (d : ℕ) → T (memberb d (present (patternOf s))) → Numbered n ks ks′ es c d
   numbered-present d t = let (l, u) = present-digit (patternOf s) d t in go l (eqb (low d) (high d)) refl u
     where
       go : d < 10 → (b : Bool) → eqb (low d) (high d) ≡ b → (b || split (patternOf s) (edgeOf d)) ≡ true → Numbered n ks ks′ es c d

@@ -9,7 +9,7 @@
 -- Laws: number-there, number-below, number-own, number-injective (numbers and weights), has-corner, kept-same, kept-both (Kept is
 -- an order), kept-corner, kept-has, kept-number (what it says), corners-start (the coarse corners), corner-coarse,
 -- number-coarse (they are the first), corner-sized, even-sum (weights).
-use mathlib.Core.Path.{_≡_, refl, sym, _∙_, ap}
+use mathlib.Core.Path.{_≡_, sym, _∙_, ap}
 use mathlib.Core.Logic.{_≢_, ⊎-elim}
 use mathlib.Core.Bool.{true}
 use mathlib.Core.List.{List, [], _∷_, _++_, map-append, append-assoc, append-nil}
@@ -17,7 +17,7 @@ use Prim.Native.Nat.{ℕ, zero, suc, _+_, _-_, _%_, _≤_, _<_}
 use native.Mathlib.Nat.{eq-or-lt-of-le}
 use native.Mathlib.Decide.{decLt}
 use native.Mathlib.Omega.{arith}
-use lib.ListN.{length, getD, take, replicate, length-append, length-map, length-replicate, getD-replicate, List·getD-append, List·getD-map}
+use lib.ListN.{length, getD, take, replicate, length-map, length-replicate, getD-replicate, List·getD-append, List·getD-map}
 use lib.Seq.{take-all, getD-take, getD-set-same, getD-set-other, getD-at}
 use Rattle.base.specs.Lists.{sameb}
 use Rattle.base.specs.Places.{hasb, placeIn, Distinct, has-at, has-below, has-append, place-there, place-append, distinct-nil}
@@ -25,6 +25,7 @@ use Rattle.base.specs.Places.{distinct-snoc, same-list}
 use Rattle.base.specs.Bools.{either}
 use Rattle.mesh.specs.Weights.{Point, coarse, mid}
 use Rattle.mesh.specs.Layout.{Corner, weightsOf, numberIn, coarseCorners, coarseCornersTo}
+use Rattle.mesh.specs.Laws.{length-corners}
 use Rattle.edges.specs.Pairs.{Pair}
 use Rattle.lattice.specs.Tails.{Sized, sized-coarse}
 use Rattle.numbering.specs.Ends.{Splittable, mid-sized, ends-even}
@@ -110,20 +111,15 @@ module _ (ks ks′ : List Corner) (k : Kept ks ks′) where
 
 -- The coarse corners.
 module _ (n : ℕ) where
-  abbrev pub coarseCorner : ℕ → Corner
+  abbrev coarseCorner : ℕ → Corner
   coarseCorner i = record { weights = coarse n i; low = i; high = i }
-
-  length-coarse : (m : ℕ) → length (coarseCornersTo n m) ≡ m
-  unfolding coarseCornersTo
-  length-coarse zero = refl
-  length-coarse (suc m) = length-append (coarseCornersTo n m) (coarseCorner m ∷ []) ∙ rw (length-coarse m) (omega arith)
 
   coarse-at : (m i : ℕ) → i < m → cornerAt (coarseCornersTo n m) i ≡ coarseCorner i
   unfolding coarseCornersTo
   coarse-at zero i h = absurd (omega arith)
   coarse-at (suc m) i h =
-      ⊎-elim (λ (e : i ≡ m). rw e (getD-at (coarseCornersTo n m) (coarseCorner m) [] noCorner m (length-coarse m)))
-      (λ (l : i < m). List·getD-append (coarseCornersTo n m) (coarseCorner m ∷ []) noCorner i (rw (length-coarse m) l) ∙ coarse-at m i l)
+      ⊎-elim (λ (e : i ≡ m). rw e (getD-at (coarseCornersTo n m) (coarseCorner m) [] noCorner m (length-corners n m)))
+      (λ (l : i < m). List·getD-append (coarseCornersTo n m) (coarseCorner m ∷ []) noCorner i (rw (length-corners n m) l) ∙ coarse-at m i l)
       (eq-or-lt-of-le (omega arith))
 
   coarse-differ : (i j : ℕ) → i < n → j < n → i ≢ j → coarse n i ≢ coarse n j
@@ -146,7 +142,7 @@ module _ (n : ℕ) where
       old : Has (coarseCornersTo n m) (coarse n m) → ⊥
       old t =
           let i = numberIn (coarseCornersTo n m) (coarse n m) in
-          let l : i < m = rw (length-coarse m) at (number-below (coarseCornersTo n m) (coarse n m) t) in
+          let l : i < m = rw (length-corners n m) at (number-below (coarseCornersTo n m) (coarse n m) t) in
           coarse-differ i m (omega arith) (omega arith) (λ e. omega arith)
           (ap (λ (k : Corner). k .weights) (sym (coarse-at m i l)) ∙ number-there (coarseCornersTo n m) (coarse n m) t)
 
@@ -154,8 +150,8 @@ pub corners-start : (n : ℕ) → NumberedCorners n (coarseCorners n) []
 unfolding coarseCorners
 corners-start n =
     record {
-      count = length-coarse n n ∙ omega arith;
-      first = take-all n (coarseCornersTo n n) (omega (arith, length-coarse n n));
+      count = length-corners n n ∙ omega arith;
+      first = take-all n (coarseCornersTo n n) (omega (arith, length-corners n n));
       distinct = coarse-distinct n n (omega arith);
       midpoint = λ j h. absurd (omega arith);
     }
@@ -163,7 +159,7 @@ corners-start n =
 -- The coarse corners are the first. Every corner has n weights that add to 1,024, and the weights of a midpoint's ends have
 -- even sums.
 module _ (n : ℕ) (ks : List Corner) (es : List Pair) (c : NumberedCorners n ks es) where
-  pub corner-coarse : (i : ℕ) → i < n → cornerAt ks i ≡ coarseCorner n i
+  corner-coarse : (i : ℕ) → i < n → cornerAt ks i ≡ coarseCorner n i
   unfolding coarseCorners
   corner-coarse i h = sym (getD-take n ks i noCorner h) ∙ ap (λ (l : List Corner). cornerAt l i) (c .first) ∙ coarse-at n n i h
 

@@ -72,13 +72,6 @@ module _ (n : ℕ) (p q : Point) (s : Splittable n p q) where
       let (a, _, b) = middle-ends (s .number) (s .sixth) in
       mid-not-coarse n (s .level) (s .cell) (s .fine) (s .regular) (middle (s .number)) i b a h (mid-edge ∙ e)
 
-  pub ends-sized : Sized n p × Sized n q
-  unfolding edge
-  ends-sized =
-      let (a, b, _) = middle-ends (s .number) (s .sixth) in
-      either-order s (λ x y. Sized n x × Sized n y) (λ x y w. (w .1, w .0))
-      (s .regular .sized (low (middle (s .number))) (omega arith), s .regular .sized (high (middle (s .number))) b)
-
   pub mid-sized : Sized n (mid p q)
   unfolding edge point
   mid-sized =

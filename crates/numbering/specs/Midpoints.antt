@@ -23,11 +23,11 @@ use Rattle.mesh.specs.Layout.{Corner, weightsOf, numberIn, addCorner}
 use Rattle.edges.specs.Pairs.{Pair, sorted, isb, addPair, same-pair, test-ext}
 use Rattle.numbering.specs.Ends.{Splittable, splittable-turned, mid-comm, mid-fine, mid-ends, ends-differ}
 use Rattle.numbering.specs.Corners.{noCorner, cornerAt, weightsAt, endsAt, Has, Kept, Midpoint, NumberedCorners, number-there}
-use Rattle.numbering.specs.Corners.{number-below, number-own, number-injective, has-corner, kept-corner, kept-weights, kept-has}
-use Rattle.numbering.specs.Corners.{kept-number, weights-coarse}
+use Rattle.numbering.specs.Corners.{number-below, number-own, number-injective, has-corner, kept-corner, kept-weights}
+use Rattle.numbering.specs.Corners.{weights-coarse}
 
 -- the pair of the numbers of two points
-abbrev pub pairIn : List Corner → Point → Point → Pair
+abbrev pairIn : List Corner → Point → Point → Pair
 pairIn ks p q = sorted (numberIn ks p, numberIn ks q)
 
 -- the corners e have the weights p and q, in either order
@@ -154,7 +154,7 @@ module _ (n : ℕ) (ks : List Corner) (es : List Pair) (c : NumberedCorners n ks
   pair-below : hasb isb es (pairIn ks p q) ≡ true → n + placeIn isb es (pairIn ks p q) < length ks
   pair-below t = omega (arith, has-below isb es (pairIn ks p q) t, c .count)
 
-  pub has-midpoint : hasb sameb (weightsOf ks) (mid p q) ≡ hasb isb es (pairIn ks p q)
+  has-midpoint : hasb sameb (weightsOf ks) (mid p q) ≡ hasb isb es (pairIn ks p q)
   has-midpoint =
       test-ext (hasb sameb (weightsOf ks) (mid p q)) (hasb isb es (pairIn ks p q)) pair-has
       (λ t. rw (← pair-there t) (has-corner ks (n + placeIn isb es (pairIn ks p q)) (pair-below t)))
@@ -226,14 +226,3 @@ module _ (n : ℕ) (ks : List Corner) (es : List Pair) (c : NumberedCorners n ks
       (λ (t : hasb sameb (weightsOf ks) (mid p q) ≡ false). rw
       (corner-new ks (p, q) t, add-new isb es (pairIn ks p q) (sym has-midpoint ∙ t)) (corners-longer t))
       (either (hasb sameb (weightsOf ks) (mid p q)))
-
-module _ (n : ℕ) (ks : List Corner) (es : List Pair) (c : NumberedCorners n ks es) (p q : Point) (s : Splittable n p q) (hp : Has ks p)
-    (hq : Has ks q) where
-  pub number-added : numberIn (addCorner ks (p, q)) (mid p q) ≡ n + placeIn isb (addPair es (numberIn ks p, numberIn ks q)) (pairIn ks p q)
-  number-added =
-      let ks₁ = addCorner ks (p, q) in
-      let es₁ = addPair es (numberIn ks p, numberIn ks q) in
-      let k = added-kept ks (p, q) in
-      number-midpoint n ks₁ es₁ (corners-add n ks es c p q s hp hq) p q s (kept-has ks ks₁ k p hp) (kept-has ks ks₁ k q hq)
-      (added-has ks p q)
-      ∙ ap₂ (λ (a b : ℕ). n + placeIn isb es₁ (sorted (a, b))) (kept-number ks ks₁ k p hp) (kept-number ks ks₁ k q hq)

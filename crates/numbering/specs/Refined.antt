@@ -7,15 +7,16 @@
 use mathlib.Core.Path.{_≡_, refl}
 use mathlib.Core.Logic.{_≢_}
 use mathlib.Core.Bool.{Bool, true, false}
-use mathlib.Core.List.{List, [], _∷_, map}
-use Prim.Native.Nat.{ℕ, _≤_, _<_}
+use mathlib.Core.List.{List, [], _∷_}
+use Prim.Native.Nat.{ℕ, _≤_}
 use native.Mathlib.Omega.{arith}
 use lib.Dec.{T, eqb, eqb→eq}
-use Rattle.base.specs.Bools.{and-left, and-right, one-most}
+use Rattle.base.specs.Bools.{and-left, and-right}
 use Rattle.base.specs.Lists.{sameb}
-use Rattle.mesh.specs.Cells.{Cell, redb, edge, edges, pattern, bitsOf, heldb, statusOf, closedFrom, redEdges}
+use Rattle.mesh.specs.Cells.{Cell, redb, statusOf, closedFrom, redEdges}
 use Rattle.mesh.specs.Weights.{Point}
 use Rattle.mesh.specs.Table.{Level, closedb}
+use Rattle.mesh.specs.Laws.{pattern-small}
 use Rattle.lattice.specs.Levels.{RedRegular}
 
 abbrev pub Both : {A : Type 0} → (Cell A → ℕ → Type 0) → List (Cell A) → List ℕ → Type 0
@@ -36,29 +37,15 @@ refined-red [] ss r = tt
 refined-red (c ∷ cs) [] r = tt
 refined-red (c ∷ cs) (s ∷ ss) r = (λ e. r .0 .regular (λ z. omega arith), refined-red cs ss (r .1))
 
-bits-small : (a b c d e f : Bool) → bitsOf (a ∷ b ∷ c ∷ d ∷ e ∷ f ∷ []) < 64
-unfolding bitsOf
-bits-small a b c d e f = omega (arith, one-most a, one-most b, one-most c, one-most d, one-most e, one-most f)
-
 module _ {A : Type 0} (o : A) (same : A → A → Bool) (es : List (A × A)) where
-  pub pattern-in-six : (c : Cell A) → pattern o same es c < 64
-  unfolding pattern edges
-  pattern-in-six c =
-      bits-small (heldb same es (edge o c 0)) (heldb same es (edge o c 1)) (heldb same es (edge o c 2)) (heldb same es (edge o c 3))
-      (heldb same es (edge o c 4)) (heldb same es (edge o c 5))
-
   pub status-follows : (r : Bool) (c : Cell A) → Follows c (statusOf o same es r c)
   unfolding statusOf
   status-follows r c = go (c .regular) refl r
     where
       go : (b : Bool) → c .regular ≡ b → (r : Bool) → Follows c (statusOf o same es r c)
       go true e true = rw (e, statusOf) (record { small = omega arith; regular = λ z. tt })
-      go true e false = rw (e, statusOf) (record { small = omega (arith, pattern-in-six c); regular = λ z. tt })
+      go true e false = rw (e, statusOf) (record { small = omega (arith, pattern-small o same es c); regular = λ z. tt })
       go false e r = rw (e, statusOf) (record { small = omega arith; regular = λ z. absurd (z refl) })
-
-  pub status-refined : (f : Cell A → Bool) (cs : List (Cell A)) → Refined cs (map (λ c. statusOf o same es (f c) c) cs)
-  status-refined f [] = tt
-  status-refined f (c ∷ cs) = (status-follows (f c) c, status-refined f cs)
 
   pub closed-follows : (cs : List (Cell A)) (ss : List ℕ) → T (closedFrom o same es cs ss) → Refined cs ss
   unfolding closedFrom

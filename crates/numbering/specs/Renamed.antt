@@ -150,7 +150,7 @@ module _ {A B : Type 0} (o : A) (o′ : B) (same : A → A → Bool) (same′ : 
   helds-map es [] p q = refl
   helds-map es (e ∷ l) p q = ap₂ _∷_ (held-map es e p (q .0)) (helds-map es l p (q .1))
 
-  pub pattern-map : (es : List (A × A)) (c : Cell A) → All (EndsIn Q) es → Points Q c
+  pattern-map : (es : List (A × A)) (c : Cell A) → All (EndsIn Q) es → Points Q c
       → pattern o′ same′ (map (mapEdge f) es) (mapCell f c) ≡ pattern o same es c
   unfolding pattern
   pattern-map es c p q = ap bitsOf (ap (map (heldb same′ (map (mapEdge f) es))) (edges-map o o′ f Q c q)

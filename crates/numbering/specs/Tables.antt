@@ -57,7 +57,7 @@ corners-append ks (c ∷ cs) [] [] = refl
 corners-append ks (c ∷ cs) (d ∷ ds) [] = refl
 corners-append ks (c ∷ cs) ds (s ∷ ss) = corners-append (addCorners ks (splitEdges [] c s)) cs ds ss
 
-pub ends-append : (es : List Pair) (cs ds : List (Cell ℕ)) (ss : List ℕ)
+ends-append : (es : List Pair) (cs ds : List (Cell ℕ)) (ss : List ℕ)
     → endsFrom es (cs ++ ds) ss ≡ endsFrom (endsFrom es cs (take (length cs) ss)) ds (drop (length cs) ss)
 unfolding endsFrom
 ends-append es [] ds ss = refl
@@ -168,14 +168,15 @@ levels-numbers n zero = claim-none n
 levels-numbers n (suc m) = claim-more n m (levels-numbers n m)
 
 -- A table whose levels are closed, at most eleven; so a sound table.
-abbrev pub tableCorners : ℕ → List (List ℕ) → List ℕ → List Corner
+abbrev tableCorners : ℕ → List (List ℕ) → List ℕ → List Corner
 tableCorners n qs ss = cornersOf n (cellsOf (levelsOf n qs ss)) ss
 
+-- Rules 5.5, 9.3: by first appearance.
 abbrev pub tableEnds : ℕ → List (List ℕ) → List ℕ → List Pair
 tableEnds n qs ss = endsFrom [] (numberedCells (tableCorners n qs ss) (cellsOf (levelsOf n qs ss))) ss
 
 module _ (n : ℕ) (qs : List (List ℕ)) (ss : List ℕ) (e : All (λ q. length q ≡ 4) qs) (t : T (cellsb n qs)) where
-  pub table-numbers : T (allb closedb (levelsOf n qs ss)) → length (levelsOf n qs ss) ≤ 11
+  table-numbers : T (allb closedb (levelsOf n qs ss)) → length (levelsOf n qs ss) ≤ 11
       → Numbers n (tableCorners n qs ss) (tableEnds n qs ss) (levelsOf n qs ss) (numberLevels n 12 0 [] (coarseNumbers qs) ss)
   unfolding levelsOf cornersOf
   table-numbers u l =

@@ -3,14 +3,13 @@
 --   edgeIn ks e     the numbers of the ends of e
 --   Placed ks c     c has four points, each of them a corner
 --   EndsPlaced ks e   both ends of e are corners
--- Laws: same-number, numbers-below (numbers), held-numbers, status-numbers, red-status-numbers, closed-numbers, apart-numbers
+-- Laws: same-number (numbers), held-numbers, status-numbers, red-status-numbers, closed-numbers, apart-numbers
 -- (tests).
 use mathlib.Core.Path.{_≡_, ap}
 use mathlib.Core.Bool.{Bool}
 use mathlib.Core.List.{List, [], map}
-use Prim.Native.Nat.{ℕ, _<_}
+use Prim.Native.Nat.{ℕ}
 use lib.Dec.{eqb}
-use lib.ListN.{length}
 use borrow.Author.Tests.{eqb-true, eq-eqb}
 use Rattle.base.specs.Lists.{sameb}
 use Rattle.base.specs.Places.{same-list}
@@ -19,9 +18,8 @@ use Rattle.mesh.specs.Weights.{Point}
 use Rattle.mesh.specs.Table.{apartb}
 use Rattle.mesh.specs.Layout.{Corner, numberIn, mapCell}
 use Rattle.edges.specs.Pairs.{Pair, test-ext}
-use Rattle.base.specs.Every.{All, all-more}
-use Rattle.base.specs.Each.{all-mapped}
-use Rattle.numbering.specs.Corners.{Has, number-below, number-injective}
+use Rattle.base.specs.Every.{All}
+use Rattle.numbering.specs.Corners.{Has, number-injective}
 use Rattle.numbering.specs.Renamed.{mapEdge, Points, EndsIn, held-map, status-map, closed-map, red-edges-in, red-edges-map, apartOf}
 use Rattle.numbering.specs.Renamed.{apart-map}
 
@@ -39,22 +37,17 @@ EndsPlaced ks e = EndsIn (Has ks) e
 
 module _ (ks : List Corner) where
   -- numbers are the same where weights are
-  pub same-number : (p q : Point) → Has ks p → Has ks q → eqb (numberIn ks p) (numberIn ks q) ≡ sameb p q
+  same-number : (p q : Point) → Has ks p → Has ks q → eqb (numberIn ks p) (numberIn ks q) ≡ sameb p q
   same-number p q hp hq =
       test-ext (eqb (numberIn ks p) (numberIn ks q)) (sameb p q)
       (λ t. rw (number-injective ks p q hp hq (eqb-true (numberIn ks p) (numberIn ks q) t)) (same-list .self q))
       (λ t. eq-eqb (numberIn ks p) (numberIn ks q) (ap (numberIn ks) (same-list .sound p q t)))
 
-  pub numbers-below : (c : Cell Point) → Placed ks c → All (λ i. i < length ks) (mapCell (numberIn ks) c .points)
-  unfolding mapCell
-  numbers-below c p = all-mapped (λ i. i < length ks) (numberIn ks) (c .points)
-      (all-more (Has ks) (λ q. numberIn ks q < length ks) (number-below ks) (c .points) (p .each))
-
   pub held-numbers : (es : List (Point × Point)) (e : Point × Point) → All (EndsPlaced ks) es → EndsPlaced ks e
       → heldb eqb (map (edgeIn ks) es) (edgeIn ks e) ≡ heldb sameb es e
   held-numbers = held-map [] 0 sameb eqb (numberIn ks) (Has ks) same-number
 
-  pub status-numbers : (es : List (Point × Point)) (r : Bool) (c : Cell Point) → All (EndsPlaced ks) es → Placed ks c
+  status-numbers : (es : List (Point × Point)) (r : Bool) (c : Cell Point) → All (EndsPlaced ks) es → Placed ks c
       → statusOf 0 eqb (map (edgeIn ks) es) r (mapCell (numberIn ks) c) ≡ statusOf [] sameb es r c
   status-numbers = status-map [] 0 sameb eqb (numberIn ks) (Has ks) same-number
 

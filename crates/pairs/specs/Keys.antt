@@ -61,7 +61,7 @@ pub record Added (xs ys : List ℕ) (n x y : ℕ) (xs′ ys′ heads′ links′
 
 -- Whether an entry is the pair.
 module _ (xs ys : List ℕ) (x y e : ℕ) where
-  pub here-eq : getD xs e 0 ≡ x → getD ys e 0 ≡ y → hereb xs ys x y e ≡ true
+  here-eq : getD xs e 0 ≡ x → getD ys e 0 ≡ y → hereb xs ys x y e ≡ true
   unfolding hereb
   here-eq p q = rw (eq-eqb (getD xs e 0) x p, eq-eqb (getD ys e 0) y q)
 
@@ -137,7 +137,7 @@ unfolding hereb
 here-set xs ys x y n v w e h = let ne : e ≡ n → ⊥ = λ i. omega arith in rw (getD-set-other xs n e v 0 ne, getD-set-other ys n e w 0 ne)
 
 module _ (xs ys : List ℕ) (x y from n v w : ℕ) where
-  pub seek-set : (m : ℕ) → from + m ≤ n → seek (set xs n v) (set ys n w) x y from m ≡ seek xs ys x y from m
+  seek-set : (m : ℕ) → from + m ≤ n → seek (set xs n v) (set ys n w) x y from m ≡ seek xs ys x y from m
   unfolding seek
   seek-set zero h = refl
   seek-set (suc m) h = rw (here-set xs ys x y n v w (from + m) (omega arith), seek-set m (omega arith))

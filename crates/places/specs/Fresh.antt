@@ -24,7 +24,7 @@ use Rattle.mesh.specs.Cells.{bitsOf, patternOf}
 use Rattle.mesh.specs.Table.{sizeOf}
 use Rattle.families.specs.Children.{middle, digitsOf, lowDigit, highDigit, middle-ends}
 use Rattle.rows.specs.Many.{size-refined, size-some}
-use Rattle.rows.specs.Sizes.{size-red}
+use Rattle.rows.specs.Sizes.{red-eight}
 use Rattle.mesh.specs.Layout.{edgeNumbers}
 use Rattle.store.specs.Fields.{field, CELLS, STATUS, CHILD}
 use Rattle.turns.specs.Loops.{someFrom}
@@ -112,10 +112,6 @@ some-same f g (suc n) k h = ap₂ _||_ (h k (omega arith) (omega arith)) (some-s
 
 six-same : (f g : ℕ → Bool) → ((y : ℕ) → y < 6 → f y ≡ g y) → map f edgeNumbers ≡ map g edgeNumbers
 six-same f g h = rw (h 0 (omega arith), h 1 (omega arith), h 2 (omega arith), h 3 (omega arith), h 4 (omega arith), h 5 (omega arith))
-
-red-eight : length (family 63) ≡ 8
-unfolding patternOf
-red-eight = sym (size-refined 64 (λ z. absurd (omega (arith, z)))) ∙ size-red 64 refl
 
 green-size : (s : ℕ) → s ≤ 63 → (j : ℕ) → j < sizeOf s → j < length (family s)
 unfolding patternOf

@@ -33,7 +33,7 @@ use Rattle.reds.proofs.Levels.{Stands, rows-range, cells-of-rows, place
 use Rattle.lineage.specs.Flags.{flag-red}
 use Rattle.base.specs.Range.{range}
 
-pub filter-red : (f : Row → Bool) (rs : List Row) → flatMap (λ r. edges [] (r .cell)) (filterb f rs) ≡ redEdges [] (map (λ r. r .cell) rs)
+filter-red : (f : Row → Bool) (rs : List Row) → flatMap (λ r. edges [] (r .cell)) (filterb f rs) ≡ redEdges [] (map (λ r. r .cell) rs)
     (map (λ r. flagOf (f r)) rs)
 unfolding filterb redEdges flatMap flatten
 filter-red f [] = refl

@@ -24,12 +24,13 @@ use Rattle.rows.specs.Many.{next-size}
 use Rattle.tables.specs.Cells.{strip}
 use Rattle.lineage.specs.Olds.{firstChild}
 use Rattle.reds.specs.Flags.{kidsOf}
-use Rattle.reds.specs.Ranges.{Blocks, blocks, filterb-map}
+use Rattle.reds.specs.Ranges.{Blocks, blocks}
 use Rattle.reds.specs.Born.{born-row}
 use Rattle.reds.specs.Firsts.{first-add, first-next, first-up, Firsts}
 use Rattle.reds.proofs.Tests.{rowAt, Seen}
 use Rattle.rows.specs.Laws.{cells-cons}
 use Rattle.base.specs.Range.{range}
+use Rattle.base.specs.Each.{filter-map}
 
 abbrev pub Stands : List (Cell Point) → ℕ → List (Cell Point) → List (Cell Point) → Type 0
 Stands cs k ds es = drop k cs ≡ ds ++ es
@@ -45,7 +46,7 @@ module _ (cs : List (Cell Point)) (k : ℕ) (d : Cell Point) (ds es : List (Cell
   stands-in : k < length cs
   stands-in = omega (arith, ap length b, length-drop k cs)
 
-pub stands-at : (cs : List (Cell Point)) (k : ℕ) (ds es : List (Cell Point)) → Stands cs k ds es → (i : ℕ) → i < length ds
+stands-at : (cs : List (Cell Point)) (k : ℕ) (ds es : List (Cell Point)) → Stands cs k ds es → (i : ℕ) → i < length ds
     → getD cs (k + i) noCell ≡ getD ds i noCell
 stands-at cs k ds es b i h = sym (getD-drop k cs i noCell) ∙ ap (λ (l : List (Cell Point)). getD l i noCell) b
     ∙ List·getD-append ds es noCell i h
@@ -132,7 +133,7 @@ module _ (m : ℕ) (ss : List ℕ) (first : ℕ) (ds : List (Cell Point)) where
           let bl : Blocks (λ j. getD cs j noCell .parent) (firstChild m ss) first last =
           record { up = λ x y a c d. first-up m ss x y c; own = λ k j a c x y. parent-of k j a c x y } in
           let n : length (next first ds own) ≡ firstChild m ss last - firstChild m ss first = omega (arith, up-end, e) in
-          filterb-map (λ r. eqb (r .cell .parent) k) (rowAt cs ss ms) (range last (length (next first ds own)))
+          filter-map (λ r. eqb (r .cell .parent) k) (rowAt cs ss ms) (range last (length (next first ds own)))
           ∙ ap (map (rowAt cs ss ms))
           (ap (λ (l : List ℕ). filterb (λ j. eqb (getD cs j noCell .parent) k) l) (ap₂ range e n)
           ∙ blocks (λ j. getD cs j noCell .parent) (firstChild m ss) (length ds) first last k refl bl p q

@@ -3,20 +3,19 @@
 -- marked-flags, marked-length, marked-result (what the functions ask for and give).
 -- Assumes nothing.
 use mathlib.Core.Path.{_≡_, refl, sym, _∙_, ap, ap₂}
-use mathlib.Core.Bool.{true, _&&_}
+use mathlib.Core.Bool.{true}
 use mathlib.Core.Logic.{⊎-elim}
 use mathlib.Core.List.{List, _++_, flatMap}
 use Prim.Native.Nat.{ℕ, zero, suc, _+_, _*_, _-_, _≤_, _<_}
 use native.Mathlib.Nat.{eq-or-lt-of-le, zero-add}
 use native.Mathlib.Omega.{arith}
-use lib.Dec.{T, eqb, leb, eqb→eq}
+use lib.Dec.{eqb}
 use lib.ListN.{length, getD, take, drop, length-append, length-take}
 use Rattle.base.specs.Fours.{fours}
-use Rattle.base.specs.Bools.{is-true, and-left}
-use Rattle.base.specs.Lists.{allb}
+use Rattle.base.specs.Bools.{is-true}
 use Rattle.mesh.specs.Cells.{Cell, heldb, Four, noCell}
 use Rattle.mesh.specs.Weights.{Point, coarseCells}
-use Rattle.mesh.specs.Table.{levelsOf, cellsOf, closedb, apartb, soundb}
+use Rattle.mesh.specs.Table.{levelsOf, soundb}
 use Rattle.mesh.specs.Layout.{Corner, numberIn, mapCell, rowOf}
 use Rattle.base.specs.Every.{All, all-at, getD-map}
 use Rattle.lattice.specs.Levels.{fours-four}
@@ -28,7 +27,7 @@ use Rattle.tables.specs.Sound.{tableCells, examinedCorners}
 use Rattle.tables.specs.Cells.{strip, cell-at}
 use Rattle.tables.specs.Onward.{four-in, length-in}
 use Rattle.tables.specs.Finish.{rows-in}
-use Rattle.mesh.specs.Laws.{length-from}
+use Rattle.mesh.specs.Laws.{sound-count, length-coarse}
 use Rattle.lineage.specs.Olds.{firstChild, flagTable}
 use Rattle.reds.specs.Flags.{flagsAt, redsUp, flagsUp}
 use Rattle.reds.specs.Old.{OldRows, Marked}
@@ -57,7 +56,7 @@ whole-from m ss (suc h) first last u e k =
     (omega (arith, number-more h first last ss l))))
     (eq-or-lt-of-le u)
 
-pub count-whole : (n : ℕ) (qs : List (List ℕ)) (ss : List ℕ) → soundb n qs ss ≡ true → firstChild (length qs) ss (length ss) ≡ length ss
+count-whole : (n : ℕ) (qs : List (List ℕ)) (ss : List ℕ) → soundb n qs ss ≡ true → firstChild (length qs) ss (length ss) ≡ length ss
 count-whole n qs ss t =
     let l = sound-counted n qs ss t in
     rw (l .whole) at (whole-from (length qs) ss 12 0 (length qs) (omega arith) (sym (first-start (length qs) ss)) (omega (arith, l .few)))
@@ -89,16 +88,6 @@ module _ (m : ℕ) (t ss ms firsts : List ℕ) (f : Firsts m ss firsts) where
       ))
       (eq-or-lt-of-le u)
 
--- one status a cell
-cells-count : (n : ℕ) (qs : List (List ℕ)) (ss : List ℕ) → T (soundb n qs ss) → length ss ≡ length (tableCells n qs ss)
-unfolding soundb
-cells-count n qs ss t =
-    let ls = levelsOf n qs ss in
-    let cs = cellsOf ls in
-    let a = eqb (length ss) (length cs) in
-    let b = leb (length ls) 11 && leb (length cs) 4096 in
-    eqb→eq (length ss) (length cs) (and-left a b (and-left (a && b) (allb closedb ls && apartb cs ss) t))
-
 module _ (n : ℕ) (mesh rows ss ms firsts red : List ℕ) (g : Marked n mesh rows ss ms firsts red) where
   abbrev qs : List (List ℕ)
   qs = fours mesh
@@ -113,7 +102,7 @@ module _ (n : ℕ) (mesh rows ss ms firsts red : List ℕ) (g : Marked n mesh ro
   sound = is-true (soundb n qs ss) (g .sound)
 
   count : length cs ≡ length ss
-  count = sym (cells-count n qs ss (g .sound))
+  count = sym (sound-count n qs ss (g .sound))
 
   placed : All (Placed ks) cs
   placed = sound-numbers n qs ss (fours-four mesh) (g .accepted .cells) (g .sound) .placed
@@ -157,14 +146,10 @@ module _ (n : ℕ) (mesh rows ss ms firsts red : List ℕ) (g : Marked n mesh ro
         top = firsts-top (length qs) ss firsts firsts-are;
       }
 
-  coarse : length (coarseCells n qs) ≡ length qs
-  unfolding coarseCells
-  coarse = length-from n 0 qs
-
-  pub marked-flags : flagsUp rows ss ms firsts 12 0 (getD firsts 0 0) ≡ flagTable n qs ss ms
+  marked-flags : flagsUp rows ss ms firsts 12 0 (getD firsts 0 0) ≡ flagTable n qs ss ms
   unfolding flagTable levelsOf
   marked-flags =
-      let e : 0 + length (coarseCells n qs) ≡ firstChild (length qs) ss 0 = zero-add (length (coarseCells n qs)) ∙ coarse
+      let e : 0 + length (coarseCells n qs) ≡ firstChild (length qs) ss 0 = zero-add (length (coarseCells n qs)) ∙ length-coarse n qs
       ∙ sym (first-start (length qs) ss) in
       let d : Down ks cs rows seen (length qs) ss ms firsts firsts-are count 12 0 (coarseCells n qs) =
       down ks cs rows seen (length qs) ss ms firsts firsts-are count 12 0 (coarseCells n qs) e (omega arith) refl in
@@ -173,7 +158,7 @@ module _ (n : ℕ) (mesh rows ss ms firsts red : List ℕ) (g : Marked n mesh ro
   pub marked-start : getD firsts 0 0 ≤ length ss
   marked-start = firsts-top (length qs) ss firsts firsts-are 0 (omega arith)
 
-  pub marked-length : length (flagTable n qs ss ms) ≡ length ss
+  marked-length : length (flagTable n qs ss ms) ≡ length ss
   marked-length =
       let e : getD firsts 0 0 ≡ length qs = firsts-are .at 0 (omega arith) ∙ first-start (length qs) ss in
       sym (ap length marked-flags)

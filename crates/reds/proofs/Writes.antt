@@ -13,11 +13,10 @@ use lib.Seq.{drop-cons, set-at, drop-at, take-take, take-append-le, length-take-
 use Rattle.edges.specs.Pairs.{Pair}
 use Rattle.lineage.specs.Olds.{firstChild, flagOf}
 use Rattle.reds.specs.Flags.{redAtb, flagsAt}
-use Rattle.reds.specs.Ranges.{range-snoc}
-use Rattle.base.specs.Range.{range, length-range}
+use Rattle.base.specs.Range.{range, length-range, range-snoc}
 
 -- one number more behind those that are written
-pub written-more : (l p out : List ℕ) (n v : ℕ) → out ≡ p ++ drop n l → length p ≡ n → n < length l
+written-more : (l p out : List ℕ) (n v : ℕ) → out ≡ p ++ drop n l → length p ≡ n → n < length l
     → set out n v ≡ (p ++ (v ∷ [])) ++ drop (suc n) l
 written-more l p out n v e h g =
     ap (λ (x : List ℕ). set x n v) (e ∙ ap (λ (x : List ℕ). p ++ x) (drop-cons l n 0 g)) ∙ set-at p (getD l n 0) (drop (suc n) l) v n h

@@ -73,7 +73,8 @@ fn are_idle(
 ) -> bool
     requires { ⌜ Looks (now rows) (now xs) (now ys) (now heads) (now links) last from n ⌝ }
     requires { ⌜ (last ≤ length (now status)) × (last ≤ length (now marks)) ⌝ }
-    ensures { λ r. ⌜ r ≡ allb (idleb (was rows) (was status) (was marks) (listedb (was xs) (was ys) from n)) (range first (last - first)) ⌝ }
+    ensures { λ r. ⌜ r ≡ allb (idleb (was rows) (was status) (was marks) (listedb (was xs) (was ys) from n))
+        (range first (last - first)) ⌝ }
 {
     let mut j = first;
     while j < last {
@@ -229,8 +230,8 @@ fn flag_level(
     requires { ⌜ OldRows (now rows) (now status) (now marks) (now kids) ⌝ }
     requires { ⌜ Table (now xs) (now ys) (now heads) (now links) from n ⌝ }
     requires { ⌜ Span (now status) (now red) first last ⌝ }
-    ensures { λ r. ⌜ is red ≡ take first (was red) ++ (flagsAt (was rows) (was status) (was marks) (was kids) (listedb (was xs) (was ys) from n)
-        first (last - first) ++ drop last (was red)) ⌝ }
+    ensures { λ r. ⌜ is red ≡ take first (was red) ++ (flagsAt (was rows) (was status) (was marks) (was kids)
+        (listedb (was xs) (was ys) from n) first (last - first) ++ drop last (was red)) ⌝ }
 {
     let mut c = first;
     while c < last {

@@ -13,7 +13,7 @@ use Rattle.edges.specs.Pairs.{Pair, sorted, isb}
 use Rattle.rows.specs.Numbered.{cellAt, cellsAt, part}
 use Rattle.mesh.specs.Table.{sizeOf, sizes}
 use Rattle.closure.specs.Ready.{listedPattern, listedStatus}
-use Rattle.closure.specs.Closed.{bits-more, bits-small}
+use Rattle.closure.specs.Closed.{bits-more, tail-small}
 use Rattle.rows.specs.Laws.{length-part, length-cells}
 use Rattle.growth.specs.Written.{written, written-none, length-written}
 use Rattle.mesh.specs.Laws.{sizes-append, sizes-one}
@@ -25,7 +25,7 @@ unfolding listedPattern
 pattern-few es c = omega (
   arith,
   bits-more es c 0 (omega arith),
-  bits-small es c 0 (omega arith),
+  tail-small es c 0 (omega arith),
   one-most
       (hasb isb es (sorted (edge 0 c 0))),
 )

@@ -18,7 +18,7 @@ use Rattle.numbering.specs.Refined.{Refined}
 use Rattle.lineage.specs.Olds.{growBy, statusesBy, oldsNext}
 use Rattle.lineage.specs.Levels.{length-statuses, length-up}
 use Rattle.lineage.specs.Step.{refined-statuses}
-use Rattle.tables.specs.Levels.{allb-append}
+use Rattle.tables.specs.Levels.{allb-both}
 use Rattle.tables.specs.Onward.{drop-take}
 
 -- the lowest level of cells that there are
@@ -63,7 +63,7 @@ grow-fit m ss fs (suc h) k [] os e = refl
 grow-fit m ss fs (suc h) k (c ∷ cs) os e =
     let ts : List ℕ = statusesBy fs (c ∷ cs) os in
     let us : List (List ℕ) = growBy m ss fs h (k + length (c ∷ cs)) (next k (c ∷ cs) ts) (oldsNext m ss ts os) in
-    allb-append (λ s. leb s 64) ts (flatten us)
+    allb-both (λ s. leb s 64) ts (flatten us)
     ∙ rw (
       statuses-fit fs (c ∷ cs) os e,
       grow-fit m ss fs h (k + length (c ∷ cs)) (next k (c ∷ cs) ts) (oldsNext m ss ts os)
@@ -78,7 +78,7 @@ module _ (all : List ℕ) (first : ℕ) (ts us : List ℕ) (e : drop first all �
   pub rest-is : drop (first + length ts) all ≡ us
   rest-is = sym (drop-drop (length ts) first all) ∙ ap (drop (length ts)) e ∙ drop-at ts us (length ts) refl
 
-  pub part-is : part all first (length ts) ≡ ts
+  part-is : part all first (length ts) ≡ ts
   part-is = rw e (take-at ts us (length ts) refl)
 
   -- and where the table is cut behind it

@@ -4,7 +4,6 @@ use mathlib.Core.Path.{_≡_, refl, sym, _∙_, ap, ap₂}
 use mathlib.Core.Bool.{Bool, true, false}
 use mathlib.Core.List.{List, [], _∷_, _++_, map, map-append, append-nil, append-assoc}
 use Prim.Native.Nat.{ℕ, suc, _+_, _*_, _-_, _≤_, _<_}
-use native.Mathlib.Decide.{ℕ-discrete}
 use native.Mathlib.Omega.{arith}
 use lib.Dec.{T, leb, leb→le}
 use lib.ListN.{length, getD, take, drop, set, length-set, length-map, List·getD-eq-default}
@@ -15,7 +14,7 @@ use Rattle.base.specs.Bools.{and-left, and-right}
 use Rattle.mesh.specs.Cells.{redb}
 use Rattle.rows.specs.Numbered.{part}
 use Rattle.mesh.specs.Table.{sizeOf, sizes}
-use Rattle.rows.specs.Sizes.{size-leaf, size-red, size-green, green-few, sizes-step}
+use Rattle.rows.specs.Sizes.{sizes-step, size-few}
 use Rattle.rows.specs.Laws.{length-part}
 use Rattle.growth.specs.Parts.{sizes-take}
 use Rattle.growth.specs.Written.{written, written-none, written-more, length-written, getD-written}
@@ -26,14 +25,6 @@ use Rattle.renew.specs.Levels.{Olds, oldIn}
 use Rattle.renew.proofs.Writing.{set-written, part-next}
 
 -- numbers stay small
-size-few : (s : ℕ) → s ≤ 64 → sizeOf s ≤ 8
-size-few s h = go (ℕ-discrete s 0) (ℕ-discrete s 64)
-  where
-    go : Dec (s ≡ 0) → Dec (s ≡ 64) → sizeOf s ≤ 8
-    go (yes e) d = omega (arith, size-leaf s e)
-    go (no e) (yes d) = omega (arith, size-red s d)
-    go (no e) (no d) = omega (arith, size-green s e d h, green-few s d h)
-
 sizes-few : (ss : List ℕ) → T (allb (λ s. leb s 64) ss) → sizes ss ≤ 8 * length ss
 unfolding sizes allb
 sizes-few [] t = omega arith

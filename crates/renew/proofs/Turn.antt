@@ -10,6 +10,7 @@ use lib.Dec.{T, leb}
 use lib.ListN.{length, take, drop, length-append, length-take}
 use Rattle.base.specs.Lists.{allb, sameb}
 use Rattle.base.specs.Bools.{is-true}
+use Rattle.base.specs.Each.{allb-take}
 use Rattle.mesh.specs.Cells.{Cell, redEdges, closedFrom}
 use Rattle.mesh.specs.Weights.{Point, coarseCells}
 use Rattle.mesh.specs.Table.{next, sizes}
@@ -24,7 +25,7 @@ use Rattle.tables.specs.Checked as checked
 use Rattle.tables.specs.Checked.{Statuses}
 use Rattle.tables.specs.Cells.{strip}
 use Rattle.tables.specs.Space.{red-sizes}
-use Rattle.tables.specs.Onward.{all-take, cells-are}
+use Rattle.tables.specs.Onward.{cells-are}
 use Rattle.renew.specs.Levels.{ownFlags, madeReds, madeStatuses, Made}
 use Rattle.renew.specs.Result.{renewed}
 use Rattle.renew.specs.Going.{roomy, RenewGoing}
@@ -41,7 +42,7 @@ room-fits n qs ss fs =
     let f = grow-fit (length qs) ss fs 12 0 (coarseCells n qs) (upTo (length qs)) (owned-start n qs .many) in
     record {
       few = simp length-take (omega arith);
-      fit = is-true _ (all-take (λ s. leb s 64) 4096 (flatten (renewed n qs ss fs)) (rw f tt));
+      fit = is-true _ (allb-take (λ s. leb s 64) 4096 (flatten (renewed n qs ss fs)) (rw f tt));
     }
 
 module _ (n : ℕ) (qs : List (List ℕ)) (ss fs : List ℕ) (j first last : ℕ) (rows xs ys heads links : List ℕ) (k : ℕ)

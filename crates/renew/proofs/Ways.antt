@@ -108,7 +108,7 @@ module _ (n : ℕ) (qs : List (List ℕ)) (ss fs : List ℕ) (j first last : ℕ
   table-is : table₁ ≡ written table first own
   table-is = whole .written-is ∙ ap (written table first) statuses
 
-  pub part-table : part table₁ first (last - first) ≡ own
+  part-table : part table₁ first (last - first) ≡ own
   part-table =
       let e : length own ≡ last - first = omega (arith, end-own) in
       ap (λ (l : List ℕ). part l first (last - first)) table-is ∙ part-written table first own (last - first) e
@@ -231,7 +231,7 @@ module _ (n : ℕ) (qs : List (List ℕ)) (ss fs : List ℕ) (j first last : ℕ
     reds-next : Reds xs₁ ys₁ heads₁ links₁ k₁ last₂
     reds-next = let e : last + size ≡ last₂ = omega (arith, end-next, size-is) in rw e at reds
 
-    pub here-up : Here n qs (roomy all) (suc j) last last₂ rows₂ xs₁ ys₁ heads₁ links₁ k₁ ps₂ ps₂′ heads₂ links₂ m₂
+    here-up : Here n qs (roomy all) (suc j) last last₂ rows₂ xs₁ ys₁ heads₁ links₁ k₁ ps₂ ps₂′ heads₂ links₂ m₂
     here-up =
         here-next n qs (roomy all) j first last rows xs ys heads links k ps ps′ heads′ links′ m (g .here)
         (turn.closed n qs ss fs j first last rows xs ys heads links k ps ps′ heads′ links′ m old table g small)

@@ -15,7 +15,7 @@ unfolding written
 set-one l i v h = let e : i + 1 ≡ suc i = omega arith in rw e (set-split l i v h)
 
 -- what stands before
-pub take-before : (l : List ℕ) (i k : ℕ) (vs : List ℕ) → k ≤ i → i ≤ length l → take k (written l i vs) ≡ take k l
+take-before : (l : List ℕ) (i k : ℕ) (vs : List ℕ) → k ≤ i → i ≤ length l → take k (written l i vs) ≡ take k l
 unfolding written
 take-before l i k vs h g =
     take-append-le k (take i l) (vs ++ drop (i + length vs) l) (rw (length-take-le i l g) h) ∙ take-take k i l h

@@ -106,7 +106,8 @@ fn make_level(
 ) -> Level
     requires { ⌜ Reds (now xs) (now ys) (now heads) (now links) n last ⌝ }
     requires { ⌜ (3072 ≤ length (now xs)) × (3072 ≤ length (now ys)) × (3072 ≤ length (now links)) ⌝ }
-    requires { ⌜ (first ≤ last) × (last ≤ 4096) × (last ≤ length (now old)) × (last ≤ length (now table)) × (8 * last ≤ length (now rows)) ⌝ }
+    requires { ⌜ (first ≤ last) × (last ≤ 4096) × (last ≤ length (now old)) × (last ≤ length (now table))
+        × (8 * last ≤ length (now rows)) ⌝ }
     ensures { λ r. ⌜ Made (was red) (was old) (was rows) first last (was table) (was xs) (was ys) n (is table) (is xs) (is ys) (is heads)
         (is links) (r .n) (r .size) ⌝ }
 {

@@ -19,7 +19,7 @@ use Rattle.replay.specs.Scan.{Spread, Fitting}
 use Rattle.replay.specs.Going.{ReplayGoing, Stepped}
 
 -- a table with its front written
-pub front : (k : ℕ) (from old new : List ℕ) → k ≤ length from → new ≡ take k from ++ drop k old → take k new ≡ take k from
+front : (k : ℕ) (from old new : List ℕ) → k ≤ length from → new ≡ take k from ++ drop k old → take k new ≡ take k from
 front k from old new h e = rw e (take-at (take k from) (drop k old) k (length-take-le k from h))
 
 -- the marks are examined

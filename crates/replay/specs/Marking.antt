@@ -48,7 +48,7 @@ module _ (cs ms : List ℕ) (i : ℕ) (h : i < length cs) (e : length cs ≡ len
   abbrev rest : List (ℕ × ℕ)
   rest = pairs (drop (i + 1) cs) (drop (i + 1) ms)
 
-  pub pairs-next : pairs (drop i cs) (drop i ms) ≡ (getD cs i 0, getD ms i 0) ∷ rest
+  pairs-next : pairs (drop i cs) (drop i ms) ≡ (getD cs i 0, getD ms i 0) ∷ rest
   unfolding pairs
   pairs-next = let n : i + 1 ≡ suc i = omega arith in rw n (ap₂ pairs (drop-cons cs i 0 h) (drop-cons ms i 0 (omega arith)))
 

@@ -43,7 +43,7 @@ all-regular f n i [] = refl
 all-regular f n i (q ∷ qs) = all-regular f n (suc i) qs
 
 -- one level
-pub rest-levels : (n : ℕ) (q : List ℕ) (qs : List (List ℕ))
+rest-levels : (n : ℕ) (q : List ℕ) (qs : List (List ℕ))
     → levelsOf n (q ∷ qs) (restTable (q ∷ qs)) ≡ record { first = 0; cells = coarseCells n (q ∷ qs); statuses = restTable (q ∷ qs) } ∷ []
 unfolding levelsOf levels coarseCells coarseFrom
 rest-levels n q qs =

@@ -17,7 +17,7 @@ use Rattle.base.specs.Refuse.{passed, both}
 use Rattle.replay.specs.Accepted.{limits-within}
 
 module _ (n : ℕ) (qs : List (List ℕ)) (four : All (λ q. length q ≡ 4) qs) (cells : T (cellsb n qs)) where
-  pub one-sound : (t : List ℕ) (m : List (ℕ × ℕ)) → T (soundb n qs t) → oneAnswer n qs t m ≡ Accepted → T (soundb n qs (oneTable n qs t m))
+  one-sound : (t : List ℕ) (m : List (ℕ × ℕ)) → T (soundb n qs t) → oneAnswer n qs t m ≡ Accepted → T (soundb n qs (oneTable n qs t m))
   unfolding oneAnswer
   one-sound t m s e =
       let ms = spread (length t) m in

@@ -7,7 +7,7 @@
 use mathlib.Core.Path.{_≡_, refl, sym, _∙_, ap, ap₂, subst}
 use mathlib.Core.Logic.{_≢_, _⊎_, ⊎-elim}
 use mathlib.Core.Bool.{Bool, true, false, _&&_, _||_, not, or-false}
-use Rattle.base.specs.Bools.{not-both, is-true, is-false, and-left, and-right, and-both, or-first, or-second, or-either}
+use Rattle.base.specs.Bools.{not-both, is-true, is-false, and-left, and-right, and-both, or-first, or-second, or-either, same-test}
 use mathlib.Core.List.{List, [], _∷_, _++_, map}
 use Prim.Native.Nat.{ℕ, suc, _+_, _-_, _≤_, _<_}
 use native.Mathlib.Decide.{ℕ-discrete}
@@ -18,7 +18,7 @@ use borrow.Author.Tests.{eq-eqb, ne-eqb, eqb-false, lt-ltb}
 use Rattle.base.specs.Lists.{anyb, filterb, memberb}
 use Rattle.mesh.specs.Layout.{edgeNumbers}
 use Rattle.exchange.specs.Finite.{Finite, sumOver}
-use Rattle.rounds.specs.Tests.{Member, same-test, member-head, member-tail, member-cases, any-member, member-any, filtered-member}
+use Rattle.rounds.specs.Tests.{Member, member-head, member-tail, member-cases, any-member, member-any, filtered-member}
 use Rattle.rounds.specs.Tests.{member-filtered, filter-agree}
 use Rattle.rounds.specs.Task.{Task, Fit, has, rule, redAt, hitAt, rule-same}
 use Rattle.rounds.specs.Rounds.{Body, mark, count, end, Phase, marks, counts, State, tells, worth, isPart, mine, holdsb, decides}

@@ -11,11 +11,10 @@ use native.Mathlib.Omega.{arith}
 use lib.Dec.{T}
 use Rattle.base.specs.Lists.{anyb}
 use Rattle.exchange.specs.Finite.{Finite, parts, sumOver, sum-change, upd, upd-same, upd-other}
-use Rattle.rounds.specs.Tests.{same-test}
 use Rattle.rounds.specs.Rounds.{Body, State, tells, worth, mastersIn, topIn, largest, told, added, mastersTold}
 use Rattle.rounds.specs.Rounds.{topTold, redTold, sumTold}
 use Rattle.rounds.specs.Among.{any-part, part-any, largest-more}
-use Rattle.base.specs.Bools.{or-first, or-second, or-either}
+use Rattle.base.specs.Bools.{or-first, or-second, or-either, same-test}
 
 module _ (P : ℕ) (got : Fin P → List Body) (q : Fin P) (b : Body) where
   abbrev F : Finite (Fin P)

@@ -1,5 +1,4 @@
 -- Tests on lists by membership.
---   same-test      two tests that pass together are equal
 --   any-member, member-any   an element that passes
 --   Member x l     x stands in l
 use mathlib.Core.Path.{_≡_, refl, ap₂}
@@ -14,12 +13,6 @@ use Rattle.base.specs.Bools.{or-first, or-second, or-either}
 
 abbrev pub Member : ℕ → List ℕ → Type 0
 Member x l = T (memberb x l)
-
-pub same-test : (a b : Bool) → (T a → T b) → (T b → T a) → a ≡ b
-same-test true true f g = refl
-same-test true false f g = absurd (f tt)
-same-test false true f g = absurd (g tt)
-same-test false false f g = refl
 
 pub member-head : (x : ℕ) (l : List ℕ) → Member x (x ∷ l)
 unfolding memberb

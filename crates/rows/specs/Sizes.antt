@@ -1,11 +1,11 @@
 -- Sizes of statuses and of lists of them.
 -- Assumes nothing.
 use mathlib.Core.Path.{_≡_, refl, sym, _∙_, ap}
-use mathlib.Core.Bool.{true, false}
+use mathlib.Core.Bool.{true, false, Bool}
 use mathlib.Core.List.{List, [], _∷_}
 use Prim.Native.Nat.{ℕ, suc, _+_, _-_, _≤_, _<_}
 use native.Mathlib.Omega.{arith}
-use lib.Dec.{leb, leb→le}
+use lib.Dec.{leb, leb→le, eqb}
 use lib.ListN.{length, getD, drop, length-drop}
 use lib.Seq.{drop-cons, take-suc, getD-drop}
 use borrow.Author.Tests.{eq-eqb, ne-eqb, le-leb, lt-leb}
@@ -17,20 +17,20 @@ use Rattle.cutting.specs.Rows.{family-few}
 use Rattle.mesh.specs.Cells.{patternOf}
 use Rattle.mesh.specs.Table.{sizeOf, sizes}
 use Rattle.rows.specs.Numbered.{part}
-use Rattle.mesh.specs.Laws.{sizes-append, sizes-one}
+use Rattle.mesh.specs.Laws.{sizes-append, sizes-one, pattern-below}
 
 -- the three cases of a status
 pub size-leaf : (s : ℕ) → s ≡ 0 → sizeOf s ≡ 0
 unfolding sizeOf
 size-leaf s e = rw (eq-eqb s 0 e, sizeOf)
 
-eight : length (family 63) ≡ 8
+pub red-eight : length (family 63) ≡ 8
 unfolding family
-eight = refl
+red-eight = refl
 
 pub size-red : (s : ℕ) → s ≡ 64 → sizeOf s ≡ 8
 unfolding sizeOf patternOf
-size-red s e = rw e eight
+size-red s e = rw e red-eight
 
 pattern-green : (s : ℕ) → (s ≡ 64 → ⊥) → patternOf s ≡ s
 unfolding patternOf
@@ -47,6 +47,15 @@ size-green s a b h = size-refined s a ∙ rw (pattern-green s b) (sym (ap (λ (f
 pub green-few : (s : ℕ) → (s ≡ 64 → ⊥) → s ≤ 64 → cutOf s .count ≤ 8
 unfolding cutInto
 green-few s b h = rw (cutOf-accepted s (omega (arith, b))) (family-few s (omega (arith, b)))
+
+-- no family has more than eight cells
+pub size-few : (s : ℕ) → s ≤ 64 → sizeOf s ≤ 8
+unfolding sizeOf
+size-few s h = go (eqb s 0) refl
+  where
+    go : (b : Bool) → eqb s 0 ≡ b → sizeOf s ≤ 8
+    go true e = rw (e, sizeOf) (omega arith)
+    go false e = rw (e, sizeOf) (family-few (patternOf s) (pattern-below s h))
 
 pub sizes-step : (l : List ℕ) (first c : ℕ) → first ≤ c → c < length l
     → sizes (part l first (c + 1 - first)) ≡ sizes (part l first (c - first)) + sizeOf (getD l c 0)

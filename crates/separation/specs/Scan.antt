@@ -85,6 +85,7 @@ module _ (own es : List Pair) (e p : Pair) (q : p ≡ e) (held : Bool) (h : held
       let w : hasb isb es (sorted e) ≡ true = sym (rw q at h) ∙ f in
       rw (w, or-false (heldb eqb own e)) (rw q at g)
 
+-- Rule 6.4, of one edge of a child.
 abbrev pub apartTest : List Pair → List ℕ → ℕ → Pair → Bool
 apartTest es t g e = heldb eqb (edges 0 (cellAt t g)) e || not (hasb isb es (sorted e))
 

@@ -14,7 +14,7 @@ use lib.Dec.{T}
 use lib.ListN.{length, getD, drop, drop-of-length-le}
 use lib.Seq.{drop-cons}
 use Rattle.base.specs.Lists.{anyb, filterb, sameb}
-use Rattle.base.specs.Bools.{not-both}
+use Rattle.base.specs.Bools.{not-both, same-test}
 use Rattle.mesh.specs.Cells.{redb, edges, heldb, bitsOf, pattern, redEdges, noCell}
 use Rattle.mesh.specs.Table.{Level, levelsOf, closedb, soundb}
 use Rattle.mesh.specs.Step.{Row, rows, edgesUp, newReds}
@@ -32,7 +32,6 @@ use Rattle.soundness.specs.Reds.{held-up}
 use Rattle.soundness.specs.Sound.{Sound, sound-from, level-closed, level-there}
 use Rattle.soundness.specs.Meets.{edges-alike}
 use Rattle.soundness.specs.Grown.{new-closed}
-use Rattle.rounds.specs.Tests.{same-test}
 use Rattle.splitting.specs.Split.{newEdges, newRedRow}
 
 -- the row of a flat list of edges

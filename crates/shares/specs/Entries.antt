@@ -13,7 +13,7 @@ use lib.Dec.{T, eqb}
 use lib.ListN.{length, getD}
 use borrow.Author.Tests.{eq-eqb, eqb-false, ne-eqb}
 use Rattle.base.specs.Lists.{sameb}
-use Rattle.base.specs.Bools.{is-true, is-false, and-left, and-right, one-if, not-both}
+use Rattle.base.specs.Bools.{is-true, is-false, and-left, and-right, one-if, not-both, false-from}
 use Rattle.base.specs.Range.{range, member-range}
 use Rattle.cutting.specs.Rule.{family}
 use Rattle.mesh.specs.Cells.{Cell, redb, patternOf, edges, heldb, bitsOf, noCell}
@@ -345,14 +345,10 @@ module _ {Part : Type 0} {F : Finite Part} (X : Settled F) (p : Part) where
         }
 
   -- no cell of level 11 is refined
-  no-true : (b : Bool) → (T b → ⊥) → b ≡ false
-  no-true true f = absurd (f tt)
-  no-true false f = refl
-
   eleven : (u : ℕ) → u < length (new 11 .cells) → T (newCell 11 u .regular) → redb (newStatus 11 u) ≡ false → newStatus 11 u ≡ 0
   eleven u g r d =
       let quiet : (e : Edge) → heldb sameb (newEdges n qs ss ms 11) e ≡ false =
-      (λ e. no-true (heldb sameb (newEdges n qs ss ms 11) e) (λ t. let w = will n qs ss ms s 11 e t in
+      (λ e. false-from (heldb sameb (newEdges n qs ss ms 11) e) (λ t. let w = will n qs ss ms s 11 e t in
       omega (arith, level-there n qs ss 11 (w .t) (w .below), s .high))) in
       new-status n qs ss ms s 11 (omega arith) u g r d
       ∙ dark-bits (heldb sameb (newEdges n qs ss ms 11)) (edges [] (newCell 11 u)) quiet

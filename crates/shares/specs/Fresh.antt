@@ -13,7 +13,7 @@ use lib.Dec.{T, eqb, eqb→eq, eqb-refl}
 use lib.ListN.{length, getD}
 use borrow.Author.Tests.{eqb-true}
 use Rattle.base.specs.Lists.{anyb, sameb}
-use Rattle.base.specs.Bools.{is-true, and-left, and-right, and-both, or-first}
+use Rattle.base.specs.Bools.{is-true, and-left, and-right, and-both, or-first, same-test}
 use Rattle.cutting.specs.Rule.{family}
 use Rattle.mesh.specs.Cells.{Cell, redb, patternOf, edge, edges, heldb, bitsOf, noCell}
 use Rattle.mesh.specs.Weights.{Point, point}
@@ -33,13 +33,13 @@ use Rattle.carriers.specs.Joins.{Edge, SameEnds, ends-of, held-joined, joins-sy
 use Rattle.carriers.specs.Lists.{held-which}
 use Rattle.families.specs.Children.{digitsOf, lowDigit, highDigit, digits-rise, digits-below}
 use Rattle.carriers.specs.Child.{child-edge}
-use Rattle.carriers.specs.Refined.{pattern-small}
+use Rattle.carriers.specs.Refined.{asked-small}
 use Rattle.soundness.specs.Held.{closed-at, regular-at}
 use Rattle.soundness.specs.Family.{ChildAt, child-points, child-parent, red-child, born-of}
 use Rattle.soundness.specs.Turn.{Sharing, sharing}
 use Rattle.soundness.specs.Sound.{Sound, sound-from, lv, level-closed, level-next, level-there}
 use Rattle.soundness.specs.Meets.{edges-alike, point-same}
-use Rattle.rounds.specs.Tests.{Member, same-test, any-member, member-any}
+use Rattle.rounds.specs.Tests.{Member, any-member, member-any}
 use Rattle.rounds.specs.Task.{Task, redAt, hitAt}
 use Rattle.rounds.specs.Rounds.{State, isPart, mine}
 use Rattle.rounds.specs.Among.{is-same}
@@ -120,7 +120,7 @@ module _ (n : ℕ) (qs : List (List ℕ)) (ss ms : List ℕ) (s : Sound n qs ss)
       let x : Sharing l up t (point g d, point g e) = sharing n k h l up nx cl (regular k) t ht rt d e (omega arith) he (λ z. omega arith) r
       (red-child l up nx (w .t) (w .below) ru) y hy js in
       let st = closed-at l cl t ht .1 in
-      let small : patternOf (getD (l .statuses) t 0) < 64 = pattern-small _ g (getD (l .statuses) t 0) st in
+      let small : patternOf (getD (l .statuses) t 0) < 64 = asked-small _ g (getD (l .statuses) t 0) st in
       let c = getD (up .cells) (x .child .u) noCell in
       let inside = inside-child k t (x .i) ht (x .child) in
       let ce = child-edge (patternOf (getD (l .statuses) t 0)) (x .i) small inside (x .y) (x .below) g c
@@ -348,7 +348,7 @@ module _ {Part : Type 0} {F : Finite Part} (X : Settled F) (p : Part) where
         let last : lastOf (nthCell n qs ss d .path) ≡ b' .i = ap (λ (c : Cell Point). lastOf (c .path)) (cd ∙ b' .is)
         ∙ last-snoc (getD (l .cells) (b' .p) noCell .path) (b' .i) in
         let st' = closed-at l (level-closed n qs ss (s .closed) k) t ht .1 in
-        let small : patternOf sOld < 64 = pattern-small _ G sOld st' in
+        let small : patternOf sOld < 64 = asked-small _ G sOld st' in
         let inside : b' .i < length (family (patternOf sOld)) =
         subst (λ (x : ℕ). b' .i < length (family (patternOf (getD (l .statuses) x 0)))) pt (b' .child) in
         let pts : nthCell n qs ss d .points ≡ map (point G) (digitsOf (patternOf sOld) (b' .i)) =

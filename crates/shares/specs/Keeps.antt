@@ -18,7 +18,8 @@ use Rattle.base.specs.Places.{sameb-self}
 use Rattle.base.specs.Range.{range, member-range, range-member}
 use Rattle.mesh.specs.Cells.{Cell}
 use Rattle.mesh.specs.Weights.{Point}
-use Rattle.lineage.specs.Paths.{pathAt, coarse-at, length-coarse}
+use Rattle.mesh.specs.Laws.{length-coarse}
+use Rattle.lineage.specs.Paths.{pathAt, coarse-at}
 use Rattle.lineage.specs.Met.{old-coarse}
 use Rattle.soundness.specs.Sound.{Sound, lv, level-there}
 use Rattle.rounds.specs.Tests.{Member, filtered-member, member-filtered}

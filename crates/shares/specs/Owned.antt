@@ -20,8 +20,9 @@ use Rattle.base.specs.Range.{range, member-range, range-member}
 use Rattle.mesh.specs.Cells.{Cell, noCell}
 use Rattle.mesh.specs.Weights.{Point}
 use Rattle.mesh.specs.Table.{Level, soundb}
+use Rattle.mesh.specs.Laws.{length-coarse}
 use Rattle.lineage.specs.Born.{Born}
-use Rattle.lineage.specs.Paths.{pathAt, snoc-inj, coarse-at, length-coarse}
+use Rattle.lineage.specs.Paths.{pathAt, snoc-inj, coarse-at}
 use Rattle.lineage.specs.Same.{Fresh}
 use Rattle.lineage.specs.Met.{Fostered, newAt, new-next, new-coarse, old-coarse, flagged, new-follows}
 use Rattle.soundness.specs.Family.{born-of}

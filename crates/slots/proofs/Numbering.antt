@@ -5,7 +5,7 @@
 use mathlib.Core.Path.{_≡_, refl, sym, _∙_, ap}
 use mathlib.Core.Logic.{_⊎_, ⊎-elim}
 use mathlib.Core.Bool.{true}
-use mathlib.Core.List.{List, [], _∷_, _++_, map}
+use mathlib.Core.List.{List, [], _∷_, _++_, map, map-append}
 use Prim.Native.Nat.{ℕ, zero, suc, _+_, _*_, _-_, _/_, _%_, _≤_, _<_}
 use native.Mathlib.Nat.{eq-or-lt-of-le}
 use native.Mathlib.Omega.{arith}
@@ -13,7 +13,7 @@ use lib.ListN.{length, getD, set, length-set}
 use lib.Seq.{getD-set-same, getD-set-other}
 use Rattle.base.specs.Bools.{either}
 use Rattle.base.specs.Places.{hasb, placeIn, add, has-below, place-missing, has-new, kept, place-kept}
-use Rattle.base.specs.Range.{range}
+use Rattle.base.specs.Range.{range, range-snoc}
 use Rattle.mesh.specs.Cells.{edge}
 use Rattle.rows.specs.Numbered.{cellAt}
 use Rattle.pairs.specs.Keys.{Keys, Room}
@@ -70,15 +70,6 @@ pub record Run (t : List ℕ) (start from i : ℕ) (xs₀ ys₀ heads₀ links�
   pub same-links : length links ≡ length links₀
   pub same-sl : length sl ≡ length sl₀
 
-range-more : (k m : ℕ) → range k (suc m) ≡ range k m ++ ((k + m) ∷ [])
-unfolding range
-range-more k zero = let z : k + 0 ≡ k = omega arith in rw z
-range-more k (suc m) = let z : k + suc m ≡ suc k + m = omega arith in rw z (ap (λ (l : List ℕ). k ∷ l) (range-more (suc k) m))
-
-map-append : (f : ℕ → Pair) (l m : List ℕ) → map f (l ++ m) ≡ map f l ++ map f m
-map-append f [] m = refl
-map-append f (x ∷ l) m = ap (λ (r : List Pair). f x ∷ r) (map-append f l m)
-
 module _ (t : List ℕ) (start from : ℕ) (xs₀ ys₀ heads₀ links₀ sl₀ : List ℕ) where
   pub run-start : Keys xs₀ ys₀ heads₀ links₀ from → Run t start from start xs₀ ys₀ heads₀ links₀ sl₀ xs₀ ys₀ heads₀ links₀ sl₀ from
   unfolding pairsOf range addPairs
@@ -108,7 +99,7 @@ module _ (t : List ℕ) (start from : ℕ) (xs₀ ys₀ heads₀ links₀ sl₀ 
     edge-more =
         let z : suc i - start ≡ suc (i - start) = omega arith in
         let y : start + (i - start) ≡ i = omega arith in
-        rw (z, range-more start (i - start), y) (map-append (edgeAt t) (range start (i - start)) (i ∷ []))
+        rw (z, range-snoc start (i - start), y) (map-append (edgeAt t) (range start (i - start)) (i ∷ []))
 
     list-more : listed xs′ ys′ from m′ ≡ addPairs [] (map (edgeAt t) (range start (suc i - start)))
     unfolding addPairs

@@ -17,6 +17,7 @@ use Rattle.base.specs.Every.{all-each}
 use Rattle.carriers.specs.Lists.{edge-at, edge-count}
 
 module _ (cs : List (Cell Point)) (ss : List ℕ) where
+  -- Rule 6.4: a child's green cell.
   abbrev pub parentOf : Cell Point → Cell Point
   parentOf c = getD cs (c .parent) c
 

@@ -29,7 +29,7 @@ pub record RedChild (l : Level) (c : Cell Point) : Type 0 where
   pub inside : i < length (family 63)
   pub points : c .points ≡ map (point (getD (l .cells) p noCell)) (digitsOf 63 i)
 
-pub born-red : (l : Level) (c : Cell Point) → Born (l .first) (l .cells) (l .statuses) c → T (c .regular) → RedChild l c
+born-red : (l : Level) (c : Cell Point) → Born (l .first) (l .cells) (l .statuses) c → T (c .regular) → RedChild l c
 unfolding patternOf
 born-red l c b r =
     let q : getD (l .statuses) (b .p) 0 ≡ 64 = eqb-true (getD (l .statuses) (b .p) 0) 64

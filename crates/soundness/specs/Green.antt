@@ -37,7 +37,7 @@ use Rattle.soundness.specs.Meets.{Meets, point-same, edge-same, edges-al
 module _ (n : ℕ) (qs : List (List ℕ)) (ss ms ts : List ℕ) (old : Sound n qs ss)
     (regular : (i : ℕ) → All (IfRegular n i) (lv n qs ss i .cells)) where
   -- a cell that was there: it would be red
-  pub no-kept : (j : ℕ) → j < 10 → (g r : Cell Point) (s : ℕ) → redb s ≡ false → Matched ms (oldAbove n qs ss j) (lv n qs ss j) g s
+  no-kept : (j : ℕ) → j < 10 → (g r : Cell Point) (s : ℕ) → redb s ≡ false → Matched ms (oldAbove n qs ss j) (lv n qs ss j) g s
       → Matched ms (oldAbove n qs ss (suc j)) (lv n qs ss (suc j)) r 64
       → (d e : ℕ) → d < 10 → e < 10 → (d ≡ e → ⊥) → heldb sameb (edges [] g) (point g d, point g e) ≡ false
       → (y : ℕ) → y < 6 → T (joinsb sameb (point g d, point g e) (edge [] r y)) → ⊥
@@ -61,7 +61,7 @@ module _ (n : ℕ) (qs : List (List ℕ)) (ss ms ts : List ℕ) (old : Sound n q
       not-both (redb s) (w .red ∙ b) green
 
   -- a cell that was not there
-  pub no-fresh : (j : ℕ) → suc j < 10 → (l' : Level) (g r : Cell Point) → Regular n (suc j) g → Fostered (lv n qs ss j) l' g
+  no-fresh : (j : ℕ) → suc j < 10 → (l' : Level) (g r : Cell Point) → Regular n (suc j) g → Fostered (lv n qs ss j) l' g
       → Matched ms (oldAbove n qs ss (suc (suc j))) (lv n qs ss (suc (suc j))) r 64
       → (d e : ℕ) → d < 10 → e < 10 → (d ≡ e → ⊥) → (y : ℕ) → y < 6 → T (joinsb sameb (point g d, point g e) (edge [] r y)) → ⊥
   unfolding patternOf

@@ -11,14 +11,15 @@ use Rattle.base.specs.Lists.{allb}
 use Rattle.mesh.specs.Cells.{Cell}
 use Rattle.mesh.specs.Weights.{Point, coarseCells}
 use Rattle.mesh.specs.Table.{Level, next, levelsOf, cellsOf, closedb, soundb}
+use Rattle.mesh.specs.Laws.{length-coarse}
 use Rattle.lineage.specs.Olds.{flagTable, upTo, oldsNext, statusesBy, growBy, stepBy}
-use Rattle.lineage.specs.Paths.{length-coarse, length-upto}
+use Rattle.lineage.specs.Paths.{length-upto}
 use Rattle.lineage.specs.Levels.{growLevels, length-statuses, length-up, grow-statuses, new-levels}
 use Rattle.lineage.specs.Closed.{Owned, owned-start, owned-next, closed-by}
 use Rattle.lineage.specs.Met.{flagged}
 
 module _ (m : ℕ) (ss fs : List ℕ) where
-  pub grow-closed : length fs ≤ 65535 → (h k : ℕ) (cs : List (Cell Point)) (os : List ℕ) → Owned cs os
+  grow-closed : length fs ≤ 65535 → (h k : ℕ) (cs : List (Cell Point)) (os : List ℕ) → Owned cs os
       → T (allb closedb (growLevels m ss fs h k cs os))
   unfolding growLevels allb closedb
   grow-closed small zero k cs os w = tt
@@ -28,7 +29,7 @@ module _ (m : ℕ) (ss fs : List ℕ) where
       rw (closed-by fs small (c ∷ cs) os w) (grow-closed small h (k + length (c ∷ cs)) (next k (c ∷ cs) us) (oldsNext m ss us os)
       (owned-next m ss k (c ∷ cs) us os w))
 
-  pub grow-many : (h k : ℕ) (cs : List (Cell Point)) (os : List ℕ) → length os ≡ length cs
+  grow-many : (h k : ℕ) (cs : List (Cell Point)) (os : List ℕ) → length os ≡ length cs
       → length (flatten (growBy m ss fs h k cs os)) ≡ length (cellsOf (growLevels m ss fs h k cs os))
   unfolding growLevels growBy cellsOf flatMap flatten
   grow-many zero k cs os e = refl

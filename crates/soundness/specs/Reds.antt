@@ -19,6 +19,7 @@ use Rattle.mesh.specs.Step.{Row, rows, kids, deletedb, turnedb, newRedb, rowsUp
 use Rattle.lineage.specs.Same.{rowIn}
 use Rattle.lineage.specs.Flags.{noRow, newRedAt, length-rows, rows-at, any-chosen}
 use Rattle.base.specs.Every.{any-at}
+use Rattle.base.specs.Each.{allb-failing}
 use Rattle.carriers.specs.Lists.{edge-at, edge-count}
 use Rattle.carriers.specs.Joins.{Edge, held-first, held-second}
 
@@ -47,17 +48,6 @@ held-up ms ls l k u h q e t =
     (ap (newRedb (rowsUp ls ms) (edgesUp (newReds ls ms))) x ∙ q) (rw x t)
 
 -- a chosen element that fails a test
-all-chosen : {A : Type 0} (d : A) (f g : A → Bool) (l : List A) (t : ℕ) → t < length l → f (getD l t d) ≡ true → g (getD l t d) ≡ false
-    → allb g (filterb f l) ≡ false
-unfolding allb filterb
-all-chosen d f g [] t h p q = absurd (omega arith)
-all-chosen d f g (x ∷ l) zero h p q = rw (p, filterb) (rw q)
-all-chosen d f g (x ∷ l) (suc t) h p q = go (f x) refl (all-chosen d f g l t (omega arith) p q)
-  where
-    go : (b : Bool) → f x ≡ b → allb g (filterb f l) ≡ false → allb g (filterb f (x ∷ l)) ≡ false
-    go true e i = rw (e, filterb) (rw i (and-false (g x)))
-    go false e i = rw (e, filterb) i
-
 all-fails : {A : Type 0} (d : A) (g : A → Bool) (l : List A) (t : ℕ) → t < length l → g (getD l t d) ≡ false → allb g l ≡ false
 unfolding allb
 all-fails d g [] t h q = absurd (omega arith)
@@ -91,7 +81,7 @@ module _ (l : Level) (ms : List ℕ) (known : length (l .statuses) ≡ length (l
       let w : allb free (edges [] c) ≡ false =
       all-fails ([], []) free (edges [] c) y (omega (arith, edge-count [] c))
       (ap free (edge-at [] c y hy) ∙ rw (is-true (heldb sameb es (edge [] c y)) held) refl) in
-      all-chosen noRow mine gone (rows l ms) u long is-mine
+      allb-failing mine gone noRow (rows l ms) u long is-mine
       (ap gone at ∙ rw w (and-false (eqb (getD (l .statuses) u 0) 0 && eqb (getD ms (l .first + u) 0) 2)))
 
   turned : (own : List Edge) → heldb sameb own (edge [] c y) ≡ false → turnedb own (kids (rows l ms) (r .number)) es ≡ true

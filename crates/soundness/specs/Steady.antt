@@ -27,7 +27,7 @@ use Rattle.carriers.specs.Level.{next-level}
 use Rattle.carriers.specs.Joins.{Edge}
 use Rattle.families.specs.Children.{lowDigit, highDigit, digits-rise, digits-below}
 use Rattle.carriers.specs.Child.{child-edge, own-or-mid}
-use Rattle.carriers.specs.Refined.{status-regular, pattern-small}
+use Rattle.carriers.specs.Refined.{status-regular, asked-small}
 use Rattle.soundness.specs.Held.{closed-at, red-regular, regular-at}
 use Rattle.soundness.specs.Apart.{parentOf, apart-from}
 use Rattle.soundness.specs.Family.{born-of}
@@ -52,7 +52,7 @@ module _ (n : ℕ) (qs : List (List ℕ)) (ss ms ts : List ℕ) (old : Sound n q
       let g = getD (l .cells) (b .p) noCell in
       let s = getD (l .statuses) (b .p) 0 in
       let st = closed-at l (cl j) (b .p) (b .below) .1 in
-      let small : patternOf s < 64 = pattern-small (redEdges [] (l .cells) (l .statuses)) g s st in
+      let small : patternOf s < 64 = asked-small (redEdges [] (l .cells) (l .statuses)) g s st in
       let green : redb s ≡ false = sym (ap (λ (c : Cell Point). c .regular) (b .is)) ∙ r in
       let rg : T (g .regular) = status-regular (redEdges [] (l .cells) (l .statuses)) g s st (b .refined) in
       let d = lowDigit (patternOf s) (b .i) y in
@@ -87,7 +87,7 @@ module _ (n : ℕ) (qs : List (List ℕ)) (ss ms ts : List ℕ) (old : Sound n q
       child-apart j (omega arith) (getD (lv n qs ts (suc j) .cells) p noCell)
       (born-of (lv n qs ts j) (lv n qs ts (suc j)) (level-next n qs ts j (omega arith)) p h) r y hy own w
 
-  pub new-apart : T (apartb (cellsOf (levelsOf n qs ts)) ts)
+  new-apart : T (apartb (cellsOf (levelsOf n qs ts)) ts)
   new-apart =
       apart-from (cellsOf (levelsOf n qs ts)) ts (λ i h r y hy own held.
       let o = spot-with n qs ts i h in

@@ -24,7 +24,7 @@ use Rattle.carriers.specs.Lists.{held-at}
 use Rattle.carriers.specs.Joins.{Edge, joins-sym, joins-trans, held-joined}
 use Rattle.families.specs.Children.{lowDigit, highDigit, digits-rise, digits-below}
 use Rattle.carriers.specs.Child.{digits-joined, child-edge, EdgeAt, edge-child, edge-joins}
-use Rattle.carriers.specs.Refined.{pattern-small, joined-here, refined-here}
+use Rattle.carriers.specs.Refined.{asked-small, joined-here, refined-here}
 use Rattle.soundness.specs.Held.{red-at, closed-at, closed-length, red-regular, regular-at}
 use Rattle.soundness.specs.Reds.{held-up, new-red-by}
 use Rattle.soundness.specs.Family.{RedChild, ChildAt, red-child, family-child, child-points, child-parent}
@@ -57,7 +57,7 @@ module _ (n k : ℕ) (h : k < 10) (l up : Level) (next-up : up .cells ≡ next (
         let s = getD (l .statuses) t 0 in
         let es = redEdges [] (l .cells) (l .statuses) in
         let (known, st) = closed-at l closed t ht in
-        let small = pattern-small es g s st in
+        let small = asked-small es g s st in
         let reds : (f : Edge) → T (heldb sameb (edges [] p) f) → T (heldb sameb es f) =
         (λ f u. red-at f (l .cells) (l .statuses) (record { i = w .p; below = w .below; known = w .known; red = w .red; has = u })) in
         let a = lowDigit 63 (w .i) y in

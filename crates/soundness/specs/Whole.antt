@@ -14,7 +14,8 @@ use Rattle.base.specs.Lists.{sameb}
 use Rattle.mesh.specs.Cells.{Cell, edge, edges, joinsb, heldb, redEdges, noCell}
 use Rattle.mesh.specs.Weights.{Point, coarseCells}
 use Rattle.mesh.specs.Table.{levelsOf, cellsOf}
-use Rattle.lineage.specs.Paths.{length-coarse, coarse-at}
+use Rattle.mesh.specs.Laws.{length-coarse}
+use Rattle.lineage.specs.Paths.{coarse-at}
 use Rattle.lineage.specs.Levels.{cells-first}
 use Rattle.carriers.specs.Lists.{held-which}
 use Rattle.carriers.specs.Joins.{Edge}

@@ -17,8 +17,9 @@ use Rattle.base.specs.Range.{range, member-range}
 use Rattle.mesh.specs.Cells.{Cell, noCell}
 use Rattle.mesh.specs.Weights.{Point, coarseCells}
 use Rattle.mesh.specs.Table.{levelsOf, cellsOf}
+use Rattle.mesh.specs.Laws.{length-coarse}
 use Rattle.base.specs.Every.{getD-map, all-each}
-use Rattle.lineage.specs.Paths.{pathAt, coarse-at, length-coarse}
+use Rattle.lineage.specs.Paths.{pathAt, coarse-at}
 use Rattle.lineage.specs.Met.{old-coarse}
 use Rattle.base.specs.Bools.{and-both}
 use Rattle.soundness.specs.Family.{born-of}

@@ -12,13 +12,13 @@ use lib.Dec.{T, eqb, eqb→eq}
 use lib.ListN.{length, getD}
 use borrow.Author.Tests.{eq-eqb}
 use Rattle.base.specs.Lists.{sameb}
-use Rattle.base.specs.Bools.{is-true}
+use Rattle.base.specs.Bools.{is-true, same-test}
 use Rattle.base.specs.Places.{Same, hasb, placeIn, has-below, place-there}
 use Rattle.base.specs.Range.{range, member-range, range-member}
 use Rattle.mesh.specs.Cells.{edge, joinsb}
 use Rattle.mesh.specs.Layout.{edgeNumbers}
 use Rattle.soundness.specs.Sound.{Sound}
-use Rattle.rounds.specs.Tests.{Member, same-test}
+use Rattle.rounds.specs.Tests.{Member}
 use Rattle.parts.specs.Owners.{nthCell}
 use Rattle.splitting.specs.Numbers.{numbersOf, level-of}
 use Rattle.splitting.specs.Split.{Slots}

@@ -1,20 +1,20 @@
 -- Tests on lists of numbers by their members.
--- Laws: all-member and member-all (each member passes), any-members and all-members (lists with the same members), filter-map,
--- all-mapped-by and any-mapped-by (tests on mapped numbers), map-agree (two maps that agree on the members), first-in, first-all and
+-- Laws: all-member and member-all (each member passes), any-members and all-members (lists with the same members),
+-- any-mapped-by (a test on mapped numbers), map-agree (two maps that agree on the members), first-in, first-all and
 -- first-none (the first of a list), six-below and below-six (the edge numbers).
 use mathlib.Core.Path.{_≡_, refl, ap, ap₂}
 use mathlib.Core.Logic.{⊎-elim}
-use mathlib.Core.Bool.{Bool, true, false, _&&_, _||_}
+use mathlib.Core.Bool.{Bool, _||_}
 use mathlib.Core.List.{List, [], _∷_, map}
 use Prim.Native.Nat.{ℕ, _<_}
 use native.Mathlib.Decide.{decLt}
 use native.Mathlib.Omega.{arith}
 use lib.Dec.{T}
 use borrow.Author.Tests.{ne-eqb}
-use Rattle.base.specs.Lists.{allb, anyb, filterb, memberb}
-use Rattle.base.specs.Bools.{and-left, and-right, and-both}
+use Rattle.base.specs.Lists.{allb, anyb, memberb}
+use Rattle.base.specs.Bools.{and-left, and-right, and-both, same-test}
 use Rattle.base.specs.Every.{below-at}
-use Rattle.rounds.specs.Tests.{Member, same-test, member-head, member-tail, member-cases, any-member, member-any}
+use Rattle.rounds.specs.Tests.{Member, member-head, member-tail, member-cases, any-member, member-any}
 use Rattle.parts.specs.Owners.{firstOr}
 use Rattle.mesh.specs.Layout.{edgeNumbers}
 
@@ -42,21 +42,6 @@ module _ (f : ℕ → Bool) (a b : List ℕ) (up : (x : ℕ) → Member x a → 
       (λ t. member-all f a (λ x m. all-member f b t x (up x m)))
 
 module _ {A : Type 0} (g : ℕ → A) (f : A → Bool) where
-  pub filter-map : (l : List ℕ) → filterb f (map g l) ≡ map g (filterb (λ x. f (g x)) l)
-  unfolding filterb
-  filter-map [] = refl
-  filter-map (x ∷ l) = go (f (g x)) refl (filter-map l)
-    where
-      go : (b : Bool) → f (g x) ≡ b → filterb f (map g l) ≡ map g (filterb (λ x. f (g x)) l)
-          → filterb f (map g (x ∷ l)) ≡ map g (filterb (λ x. f (g x)) (x ∷ l))
-      go true e i = rw (e, filterb) (ap (λ (m : List A). g x ∷ m) i)
-      go false e i = rw (e, filterb) i
-
-  pub all-mapped-by : (l : List ℕ) → allb f (map g l) ≡ allb (λ x. f (g x)) l
-  unfolding allb
-  all-mapped-by [] = refl
-  all-mapped-by (x ∷ l) = ap (λ (b : Bool). f (g x) && b) (all-mapped-by l)
-
   pub any-mapped-by : (l : List ℕ) → anyb f (map g l) ≡ anyb (λ x. f (g x)) l
   unfolding anyb
   any-mapped-by [] = refl

@@ -23,12 +23,13 @@ use Rattle.mesh.specs.Cells.{Cell, none, patternOf, redEdges, noCell}
 use Rattle.mesh.specs.Weights.{Point, coarseCells}
 use Rattle.mesh.specs.Table.{levelsOf}
 use Rattle.mesh.specs.Step.{Row, rows}
+use Rattle.mesh.specs.Laws.{length-coarse}
 use Rattle.base.specs.Every.{getD-map}
-use Rattle.lineage.specs.Paths.{length-coarse, coarse-at}
+use Rattle.lineage.specs.Paths.{coarse-at}
 use Rattle.lineage.specs.Levels.{first-first, levels-first, cells-first}
 use Rattle.lineage.specs.Same.{rowIn}
 use Rattle.lineage.specs.Flags.{noRow, rows-at, length-rows}
-use Rattle.carriers.specs.Refined.{pattern-small}
+use Rattle.carriers.specs.Refined.{asked-small}
 use Rattle.soundness.specs.Held.{closed-at, closed-length}
 use Rattle.soundness.specs.Family.{born-of, family-child, child-parent}
 use Rattle.soundness.specs.Sound.{Sound, lv, level-closed, level-next, level-there}
@@ -187,7 +188,7 @@ module _ (n : ℕ) (qs : List (List ℕ)) (ss : List ℕ) where
         let a = at-level k (p .t) (p .below) in
         let top = level-there n qs ss k (p .t) (p .below) in
         let (known, st) = closed-at l (level-closed n qs ss (s .closed) k) (p .t) (p .below) in
-        let small = pattern-small (redEdges [] (l .cells) (l .statuses)) (getD (l .cells) (p .t) noCell) (getD (l .statuses) (p .t) 0) st in
+        let small = asked-small (redEdges [] (l .cells) (l .statuses)) (getD (l .cells) (p .t) noCell) (getD (l .statuses) (p .t) 0) st in
         let nz : getD (l .statuses) (p .t) 0 ≢ 0 = (λ e. z (ap (λ (x : ℕ). getD ss x 0) (p .number) ∙ a .status-is ∙ e)) in
         let w = family-child l (lv n qs ss (suc k)) (level-next n qs ss k (omega (arith, s .high))) (p .t) 0 (p .below) known nz
         (some-child (patternOf (getD (l .statuses) (p .t) 0)) small) in

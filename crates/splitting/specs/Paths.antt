@@ -9,9 +9,10 @@ use lib.ListN.{length, getD, take, drop, length-append}
 use Rattle.mesh.specs.Cells.{Cell}
 use Rattle.mesh.specs.Weights.{Point, coarseCells}
 use Rattle.mesh.specs.Table.{Level, next, levels, levelsOf}
+use Rattle.mesh.specs.Laws.{length-coarse}
 use Rattle.lattice.specs.Levels.{noLevel}
 use Rattle.lineage.specs.Olds.{stepBy}
-use Rattle.lineage.specs.Paths.{pathAt, Paths, paths-next, paths-coarse, coarse-at, length-coarse}
+use Rattle.lineage.specs.Paths.{pathAt, Paths, paths-next, paths-coarse, coarse-at}
 use Rattle.lineage.specs.Levels.{new-levels}
 use Rattle.lineage.specs.Met.{old-coarse, newAt}
 use Rattle.soundness.specs.Family.{born-of}

@@ -7,9 +7,8 @@
 -- Laws: owners-fit (what the test of the owners says), leaf-owner (a leaf has no family), fits (it is a fit task), flags-red (its flags are
 -- the new red cells), hits (its slots of new red cells are their edges).
 use mathlib.Core.Path.{_≡_, refl, sym, _∙_, ap, ap₂, subst}
-use mathlib.Core.Logic.{⊎-elim}
 use mathlib.Core.Bool.{Bool, true, false, _&&_, _||_, not}
-use mathlib.Core.List.{List, [], _∷_, _++_, map, flatMap}
+use mathlib.Core.List.{List, [], _∷_, map, flatMap}
 use Prim.Native.Nat.{ℕ, zero, suc, _-_, _≤_, _<_, pred}
 use native.Mathlib.Nat.{suc-pred-eq-of-pos}
 use native.Mathlib.Omega.{arith}
@@ -18,20 +17,22 @@ use lib.ListN.{length, getD, drop}
 use lib.Seq.{drop-cons}
 use borrow.Author.Tests.{eq-eqb}
 use Rattle.base.specs.Lists.{allb, anyb, filterb, sameb}
-use Rattle.base.specs.Bools.{and-right, or-first, or-second, or-either}
+use Rattle.base.specs.Bools.{and-right}
 use Rattle.base.specs.Range.{range, range-member}
+use Rattle.base.specs.Each.{filter-map, all-through}
 use Rattle.mesh.specs.Cells.{edge, edges, joinsb, heldb}
 use Rattle.mesh.specs.Table.{Level, levelsOf}
 use Rattle.mesh.specs.Step.{Row, kids, deletedb, turnedb, newRedb, rowsUp, edgesUp, newReds, redAfterb}
 use Rattle.mesh.specs.Layout.{edgeNumbers}
+use Rattle.mesh.specs.Laws.{held-append}
 use Rattle.lattice.specs.Levels.{noLevel}
 use Rattle.lineage.specs.Stays.{up-rows}
-use Rattle.carriers.specs.Joins.{Edge, held-either, held-first, held-second}
+use Rattle.carriers.specs.Joins.{Edge}
 use Rattle.soundness.specs.Sound.{Sound, level-there}
-use Rattle.rounds.specs.Tests.{Member, same-test, any-agree, all-agree, filtered-member, member-filtered}
+use Rattle.rounds.specs.Tests.{Member, any-agree, all-agree, filtered-member, member-filtered}
 use Rattle.rounds.specs.Task.{Task, Fit, has, idle, pulled, rule, redAt, hitAt}
 use Rattle.parts.specs.Owners.{nthCell, childrenOf, familyOf, ownersb}
-use Rattle.splitting.specs.Members.{all-member, first-none, any-members, all-members, filter-map, all-mapped-by, any-mapped-by}
+use Rattle.splitting.specs.Members.{all-member, first-none, any-members, all-members, any-mapped-by}
 use Rattle.splitting.specs.Numbers.{numbersOf, rowBy, kid, kid-in, number-inside, one-level, rows-numbers, stands}
 
 -- Rule 7.2.
@@ -87,14 +88,6 @@ taskOf n qs ss slot slots os part =
 
 -- the edges of chosen rows
 module _ (g : ℕ → Row) (f : Row → Bool) (e : Edge) where
-  held-append : (es fs : List Edge) → heldb sameb (es ++ fs) e ≡ (heldb sameb es e || heldb sameb fs e)
-  held-append es fs =
-      same-test (heldb sameb (es ++ fs) e) (heldb sameb es e || heldb sameb fs e)
-      (λ t. ⊎-elim (λ (u : T (heldb sameb es e)). or-first (heldb sameb es e) (heldb sameb fs e) u)
-      (λ (u : T (heldb sameb fs e)). or-second (heldb sameb es e) (heldb sameb fs e) u) (held-either e es fs t))
-      (λ t. ⊎-elim (λ (u : T (heldb sameb es e)). held-first e es fs u) (λ (u : T (heldb sameb fs e)). held-second e es fs u)
-      (or-either (heldb sameb es e) (heldb sameb fs e) t))
-
   held-rows : (l : List ℕ) → heldb sameb (flatMap (λ (r : Row). edges [] (r .cell)) (filterb f (map g l))) e ≡ anyb
       (λ d. f (g d) && heldb sameb (edges [] (g d .cell)) e) l
   unfolding filterb flatMap anyb heldb
@@ -107,7 +100,7 @@ module _ (g : ℕ → Row) (f : Row → Bool) (e : Edge) where
       go : (b : Bool) → f (g x) ≡ b → heldb sameb rest e ≡ anyb (λ d. f (g d) && heldb sameb (edges [] (g d .cell)) e) l
           → heldb sameb (flatMap (λ (r : Row). edges [] (r .cell)) (filterb f (map g (x ∷ l)))) e
           ≡ ((f (g x) && heldb sameb (edges [] (g x .cell)) e) || anyb (λ d. f (g d) && heldb sameb (edges [] (g d .cell)) e) l)
-      go true q i = rw (q, filterb) (held-append (edges [] (g x .cell)) rest
+      go true q i = rw (q, filterb) (held-append sameb (edges [] (g x .cell)) rest e
           ∙ ap (λ (b : Bool). heldb sameb (edges [] (g x .cell)) e || b) i)
       go false q i = rw (q, filterb) i
 
@@ -175,7 +168,7 @@ module _ {Part : Type 0} (n : ℕ) (qs : List (List ℕ)) (ss : List ℕ) (s : S
 
       kids-are : kids (rowsUp (drop (suc k) (levelsOf n qs ss)) ms) c ≡ map (rowBy n qs ss ms) (filterb mineb (numbersOf n qs ss (suc k)))
       unfolding kids rowBy
-      kids-are = ap (λ (rs : List Row). kids rs c) (rows-above k) ∙ filter-map (rowBy n qs ss ms) (λ r. eqb (r .cell .parent) c)
+      kids-are = ap (λ (rs : List Row). kids rs c) (rows-above k) ∙ filter-map (λ r. eqb (r .cell .parent) c) (rowBy n qs ss ms)
           (numbersOf n qs ss (suc k))
 
       kids-up : (x : ℕ) → Member x (filterb mineb (numbersOf n qs ss (suc k))) → Member x (childrenOf n qs ss c)
@@ -191,7 +184,7 @@ module _ {Part : Type 0} (n : ℕ) (qs : List (List ℕ)) (ss : List ℕ) (s : S
       unfolding deletedb idle edges allb rowBy
       deleted-same =
           let f : Row → Bool = λ r. (eqb (r .status) 0 && eqb (r .mark) 2) && allb (λ e. not (heldb sameb es e)) (edges [] (r .cell)) in
-          ap (λ (rs : List Row). deletedb rs es) kids-are ∙ all-mapped-by (rowBy n qs ss ms) f (filterb mineb (numbersOf n qs ss (suc k)))
+          ap (λ (rs : List Row). deletedb rs es) kids-are ∙ all-through (rowBy n qs ss ms) f (filterb mineb (numbersOf n qs ss (suc k)))
           ∙ all-members (λ d. f (rowBy n qs ss ms d)) (filterb mineb (numbersOf n qs ss (suc k))) (childrenOf n qs ss c) kids-up kids-down
           ∙ all-agree (λ d. f (rowBy n qs ss ms d)) (idle J h mark) (childrenOf n qs ss c) (λ d q.
           ap (λ (b : Bool). (eqb (getD ss d 0) 0 && eqb (getD ms d 0) 2) && b)

@@ -10,7 +10,7 @@ use native.Mathlib.Decide.{ℕ-discrete, Fin·val-path}
 use lib.Dec.{eqb, ltb}
 use lib.ListN.{length, getD, length-append}
 use borrow.Author.Tests.{eq-eqb, ne-eqb, lt-ltb, le-leb}
-use Rattle.base.specs.Bools.{one-if, not-both}
+use Rattle.base.specs.Bools.{one-if, not-both, one-most}
 use Rattle.base.specs.declared.Answer.the-variants.{Accepted}
 use Rattle.exchange.specs.Finite.{parts, upd, upd-same, upd-other}
 use Rattle.exchange.specs.Protocol.{withBody}
@@ -126,16 +126,11 @@ module _ (P : ℕ) (J : Task (Fin P)) (p : Fin P) (l : L P J) (x : List ℕ) (u 
   shape-go (total n h) m (a, e, i, j) = shape-ok m 8 e (omega arith) (length-third (getD m 0 0) a)
   shape-go end m (a, e) = shape-ok m 5 e (omega arith) (length-fourth (getD m 0 0) a)
 
-  flag-small : (v : Bool) → one-if v ≤ 1
-  unfolding one-if
-  flag-small true = omega arith
-  flag-small false = omega arith
-
   content-go : (b : Body) (m : List ℕ) → CanTake P J p b → Content m b → contentb x m ≡ true
   unfolding Content CanTake
   content-go (mark c v) m (h, f) (a, e, i, j) =
       sym (content-first x m a) ∙ sym (mark-value x m c (sym i) (u .cells c f .0) (u .cells c f .1))
-      ∙ le-leb (getD m 7 0) 1 (omega (arith, j, flag-small v))
+      ∙ le-leb (getD m 7 0) 1 (omega (arith, j, one-most v))
   content-go (count s n) m (h, f, o, t) (a, e, i, j) =
       sym (content-second x m a) ∙ sym (count-value x m s (sym i) h (u .slots s f .1) n (sym j) o) ∙ le-leb n 4096 t
   content-go (total n h) m (o, t) (a, e, i, j) =

@@ -2,20 +2,19 @@
 -- Assumes nothing.
 use mathlib.Core.Path.{_≡_, refl, sym, _∙_, ap}
 use mathlib.Core.Logic.{_⊎_, ⊎-elim}
-use mathlib.Core.Bool.{Bool, true, false, _&&_, not}
+use mathlib.Core.Bool.{Bool, true, false, not}
 use mathlib.Core.List.{List, _++_}
 use Prim.Native.Nat.{ℕ, suc, _+_, _*_, _/_, _≤_, _<_}
 use native.Mathlib.Omega.{arith}
-use lib.Dec.{T, eqb, leb, eqb→eq}
+use lib.Dec.{leb}
 use lib.ListN.{length, getD, take, List·getD-append}
 use lib.Seq.{take-at}
 use borrow.Author.Tests.{le-leb, lt-leb}
-use Rattle.base.specs.Lists.{allb}
-use Rattle.base.specs.Bools.{and-left, is-true}
+use Rattle.base.specs.Bools.{is-true}
 use Rattle.base.specs.Fours.{fours, length-fours}
 use Rattle.base.specs.Refuse.{refuse, answerOf, answer-none}
 use Rattle.base.specs.declared.Answer.the-variants.{Accepted, Refused}
-use Rattle.mesh.specs.Table.{levelsOf, cellsOf, closedb, apartb, soundb}
+use Rattle.mesh.specs.Table.{soundb}
 use Rattle.mesh.specs.Step.{stepTable}
 use Rattle.lattice.specs.Levels as lattice
 use Rattle.counting.specs.Levels.{Levels}
@@ -34,6 +33,7 @@ use Rattle.reds.specs.Firsts.{firsts-taken, first-at, length-firsts}
 use Rattle.renew.specs.Levels.{Kids}
 use Rattle.renew.specs.Result.{Result, renewed}
 use Rattle.mesh.specs.Answers.{newTable, limitsAnswer}
+use Rattle.mesh.specs.Laws.{sound-count}
 use Rattle.step.specs.Deep.{deepFrom, Decided}
 use Rattle.step.specs.Advanced.{Held, Advanced}
 use Rattle.step.proofs.TopLevel.{flags-long, deep-scan}
@@ -51,15 +51,6 @@ module _ (n : ℕ) (qs : List (List ℕ)) (ss ms : List ℕ) where
   limits-many : leb (length (stepTable n qs ss ms)) 11 ≡ true → 4096 < length (newTable n qs ss ms) → limitsAnswer n qs ss ms ≡ Refused 9
   unfolding limitsAnswer refuse
   limits-many a b = rw (a, lt-leb (length (newTable n qs ss ms)) 4096 b)
-
--- a sound table has as many cells as statuses
-sound-counted : (n : ℕ) (qs : List (List ℕ)) (ss : List ℕ) → T (soundb n qs ss) → length ss ≡ length (tableCells n qs ss)
-unfolding soundb
-sound-counted n qs ss t =
-    let ls = levelsOf n qs ss in
-    let cs = cellsOf ls in
-    eqb→eq (length ss) (length cs) (and-left (eqb (length ss) (length cs)) (leb (length ls) 11 && leb (length cs) 4096)
-    (and-left (eqb (length ss) (length cs) && (leb (length ls) 11 && leb (length cs) 4096)) (allb closedb ls && apartb cs ss) t))
 
 module _ (n : ℕ) (mesh rows ss : List ℕ) (h : Held n mesh rows ss) where
   abbrev qs : List (List ℕ)
@@ -96,7 +87,7 @@ module _ (n : ℕ) (mesh rows ss : List ℕ) (h : Held n mesh rows ss) where
   -- the flags
   module _ (ms red rest : List ℕ) (e : red ≡ flagTable n qs ss ms ++ rest) where
     counted : length ss ≡ length (tableCells n qs ss)
-    counted = sound-counted n qs ss (h .sound)
+    counted = sound-count n qs ss (h .sound)
 
     long-flags : length (flagTable n qs ss ms) ≡ length (tableCells n qs ss)
     long-flags = flags-long n qs ss ms (lattice.sound-levels n qs ss (h .sound) .1)
@@ -108,7 +99,7 @@ module _ (n : ℕ) (mesh rows ss : List ℕ) (h : Held n mesh rows ss) where
         ∙ sym (step-by n qs ss ms (h .sound))
 
     -- the scan of level 10
-    pub held-deep : leb (length (stepTable n qs ss ms)) 11 ≡ not (deepFrom rows red 0 (length ss))
+    held-deep : leb (length (stepTable n qs ss ms)) 11 ≡ not (deepFrom rows red 0 (length ss))
     held-deep =
         deep n qs ss ms (h .sound)
         ∙ ap not (sym (ap (deepFrom rows red 0) counted ∙ deep-scan n qs ss ms (lattice.sound-levels n qs ss (h .sound) .1) rows red

@@ -10,7 +10,7 @@ use Rattle.base.specs.Fours.{fours, length-fours}
 use Rattle.growth.specs.Written.{written, take-written}
 use Rattle.tables.specs.Start.{coarseRow}
 
-pub four-at : (l : List ℕ) (c : ℕ) → 4 * c + 4 ≤ length l
+four-at : (l : List ℕ) (c : ℕ) → 4 * c + 4 ≤ length l
     → getD (fours l) c [] ≡ getD l (4 * c) 0 ∷ getD l (4 * c + 1) 0 ∷ getD l (4 * c + 2) 0 ∷ getD l (4 * c + 3) 0 ∷ []
 unfolding fours
 four-at [] c h = absurd (omega arith)

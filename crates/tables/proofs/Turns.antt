@@ -34,12 +34,12 @@ module _ (n : ℕ) (qs : List (List ℕ)) (ss : List ℕ) (j first last : ℕ) (
           ]
         ]
 
-    pub record Fitting : Type 0 where
-      pub inside : last ≤ length ss
-      pub fit : last + sizes (ownStatuses rows ss first last) ≤ length ss
-      pub whole : Whole rows ss first last xs ys k xs₁ ys₁ heads₁ links₁ ok k₁ size
+    record Fitting : Type 0 where
+      inside : last ≤ length ss
+      fit : last + sizes (ownStatuses rows ss first last) ≤ length ss
+      whole : Whole rows ss first last xs ys k xs₁ ys₁ heads₁ links₁ ok k₁ size
 
-    pub turn-fits : ok ≡ true → Fitting
+    turn-fits : ok ≡ true → Fitting
     turn-fits e =
         elim (decLt (length ss) last) [
           | yes l ↦ not-both ok e (c .short l)

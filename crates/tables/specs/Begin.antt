@@ -8,7 +8,7 @@ use lib.ListN.{length, take}
 use Rattle.base.specs.Bools.{one-if}
 use Rattle.base.specs.Places.{hasb}
 use Rattle.base.specs.Fours.{fours, length-fours}
-use Rattle.mesh.specs.Laws.{length-from}
+use Rattle.mesh.specs.Laws.{length-coarse}
 use Rattle.mesh.specs.Cells.{none, redEdges}
 use Rattle.mesh.specs.Weights.{coarseCells}
 use Rattle.mesh.specs.Table.{cellsOf}
@@ -40,10 +40,6 @@ module _ (n : ℕ) (mesh ss : List ℕ) (s : Mesh n mesh) (xs ys heads links ps 
   abbrev fs : List (List ℕ)
   fs = fours mesh
 
-  size : length (coarseCells n fs) ≡ length fs
-  unfolding coarseCells
-  size = length-from n 0 fs
-
   module _ (rows : List ℕ) (count : ℕ) (c : count ≡ length fs) (t : take (8 * count) rows ≡ flatMap coarseRow fs) where
     pub here-start : Here n fs ss 0 0 count rows xs ys heads links 0 ps qs heads′ links′ 0
     unfolding reached-start cellsOf flatMap cornersFrom redEdges coarseCells hasb pairsOf
@@ -55,8 +51,8 @@ module _ (n : ℕ) (mesh ss : List ℕ) (s : Mesh n mesh) (xs ys heads links ps 
           reached = reached-start n fs ss;
           stage = stage-start n fs q (s .cells);
           low = omega arith;
-          some = omega (arith, size, length-fours mesh, s .some, s .whole);
-          end = omega (arith, size);
+          some = omega (arith, length-coarse n fs, length-fours mesh, s .some, s .whole);
+          end = omega (arith, length-coarse n fs);
           few = omega (arith, length-fours mesh, s .few);
           placed = tt;
           named = refl;

@@ -19,40 +19,40 @@ use Rattle.rows.specs.Laws.{length-part}
 
 -- a level, and the levels above it
 module _ (k : ℕ) (cs : List (Cell Point)) (ss : List ℕ) where
-  abbrev pub own : List ℕ
+  abbrev own : List ℕ
   own = take (length cs) ss
 
-  abbrev pub level : Level
+  abbrev level : Level
   level = record { first = k; cells = cs; statuses = own }
 
-  abbrev pub above : ℕ → List Level
+  abbrev above : ℕ → List Level
   above m = levels m (k + length cs) (next k cs own) (drop (length cs) ss)
 
-pub levels-step : (m k : ℕ) (cs : List (Cell Point)) (ss : List ℕ) → 0 < length cs → levels (suc m) k cs ss ≡ level k cs ss ∷ above k cs ss
+levels-step : (m k : ℕ) (cs : List (Cell Point)) (ss : List ℕ) → 0 < length cs → levels (suc m) k cs ss ≡ level k cs ss ∷ above k cs ss
     m
 unfolding levels
 levels-step m k [] ss h = absurd (omega arith)
 levels-step m k (c ∷ cs) ss h = refl
 
-pub levels-none : (m k : ℕ) (cs : List (Cell Point)) (ss : List ℕ) → length cs ≡ 0 → levels m k cs ss ≡ []
+levels-none : (m k : ℕ) (cs : List (Cell Point)) (ss : List ℕ) → length cs ≡ 0 → levels m k cs ss ≡ []
 unfolding levels
 levels-none zero k cs ss h = refl
 levels-none (suc m) k [] ss h = refl
 levels-none (suc m) k (c ∷ cs) ss h = absurd (omega arith)
 
-pub cells-append : (ls ms : List Level) → cellsOf (ls ++ ms) ≡ cellsOf ls ++ cellsOf ms
+cells-append : (ls ms : List Level) → cellsOf (ls ++ ms) ≡ cellsOf ls ++ cellsOf ms
 unfolding cellsOf flatMap
 cells-append [] ms = refl
 cells-append (l ∷ ls) ms = rw (cells-append ls ms) (sym (append-assoc (l .cells) (cellsOf ls) (cellsOf ms)))
 
-pub cells-one : (l : Level) (ms : List Level) → cellsOf (l ∷ ms) ≡ l .cells ++ cellsOf ms
+cells-one : (l : Level) (ms : List Level) → cellsOf (l ∷ ms) ≡ l .cells ++ cellsOf ms
 unfolding cellsOf flatMap
 cells-one l ms = refl
 
-pub allb-append : {A : Type 0} (f : A → Bool) (l m : List A) → allb f (l ++ m) ≡ (allb f l && allb f m)
+pub allb-both : {A : Type 0} (f : A → Bool) (l m : List A) → allb f (l ++ m) ≡ (allb f l && allb f m)
 unfolding allb
-allb-append f [] m = refl
-allb-append f (x ∷ l) m = go (f x) (allb-append f l m)
+allb-both f [] m = refl
+allb-both f (x ∷ l) m = go (f x) (allb-both f l m)
   where
     go : (b : Bool) → allb f (l ++ m) ≡ (allb f l && allb f m) → (b && allb f (l ++ m)) ≡ ((b && allb f l) && allb f m)
     go true i = i
@@ -60,10 +60,10 @@ allb-append f (x ∷ l) m = go (f x) (allb-append f l m)
 
 -- The ways a table fails.
 module _ (n : ℕ) (qs : List (List ℕ)) (ss : List ℕ) where
-  abbrev pub ls : List Level
+  abbrev ls : List Level
   ls = levelsOf n qs ss
 
-  abbrev pub cs : List (Cell Point)
+  abbrev cs : List (Cell Point)
   cs = cellsOf (levelsOf n qs ss)
 
   whole : soundb n qs ss ≡ ((eqb (length ss) (length cs) && (leb (length ls) 11 && leb (length cs) 4096))
@@ -71,20 +71,20 @@ module _ (n : ℕ) (qs : List (List ℕ)) (ss : List ℕ) where
   unfolding soundb
   whole = refl
 
-  pub unsound-closed : allb closedb ls ≡ false → soundb n qs ss ≡ false
+  unsound-closed : allb closedb ls ≡ false → soundb n qs ss ≡ false
   unsound-closed e = whole ∙ rw e (and-false (eqb (length ss) (length cs) && (leb (length ls) 11 && leb (length cs) 4096)))
 
-  pub unsound-count : (length ss ≡ length cs → ⊥) → soundb n qs ss ≡ false
+  unsound-count : (length ss ≡ length cs → ⊥) → soundb n qs ss ≡ false
   unsound-count h = whole ∙ rw (ne-eqb (length ss) (length cs) h)
 
-  pub unsound-height : 11 < length ls → soundb n qs ss ≡ false
+  unsound-height : 11 < length ls → soundb n qs ss ≡ false
   unsound-height h = whole ∙ rw (lt-leb (length ls) 11 h) (go (eqb (length ss) (length cs)))
     where
       go : (b : Bool) → ((b && false) && (allb closedb ls && apartb cs ss)) ≡ false
       go true = refl
       go false = refl
 
-  pub sound-apart : length ss ≡ length cs → length ls ≤ 11 → length cs ≤ 4096 → allb closedb ls ≡ true → soundb n qs ss ≡ apartb cs ss
+  sound-apart : length ss ≡ length cs → length ls ≤ 11 → length cs ≤ 4096 → allb closedb ls ≡ true → soundb n qs ss ≡ apartb cs ss
   sound-apart a b c d = whole ∙ rw (eq-eqb (length ss) (length cs) a, le-leb (length ls) 11 b, le-leb (length cs) 4096 c, d)
 
 -- How far a program has come: the levels below j are closed, and the cells of level j begin at `first`.
@@ -101,7 +101,7 @@ reached-start n qs ss = record { done = []; rest = refl; closed = refl; many = r
 
 module _ (n : ℕ) (qs : List (List ℕ)) (ss : List ℕ) (j first : ℕ) (cells : List (Cell Point)) (r : Reached n qs ss j first cells)
     (low : j ≤ 10) (some : 0 < length cells) where
-  abbrev pub statuses : List ℕ
+  abbrev statuses : List ℕ
   statuses = part ss first (length cells)
 
   here : Level
@@ -120,7 +120,7 @@ module _ (n : ℕ) (qs : List (List ℕ)) (ss : List ℕ) (j first : ℕ) (cells
 
   all-closed : allb closedb (levelsOf n qs ss) ≡ (closedb here && allb closedb up)
   unfolding allb
-  all-closed = ap (allb closedb) split ∙ allb-append closedb (r .done) (here ∷ up) ∙ rw (r .closed)
+  all-closed = ap (allb closedb) split ∙ allb-both closedb (r .done) (here ∷ up) ∙ rw (r .closed)
 
   -- a level that is not closed
   pub reached-open : closedFrom [] sameb (redEdges [] cells statuses) cells statuses ≡ false → soundb n qs ss ≡ false
@@ -189,7 +189,7 @@ module _ (n : ℕ) (qs : List (List ℕ)) (ss : List ℕ) (j first : ℕ) (cells
             record {
               done = r .done ++ (here ∷ []);
               rest = split ∙ rw (f, m) (sym (append-assoc (r .done) (here ∷ []) up));
-              closed = allb-append closedb (r .done) (here ∷ []) ∙ rw (r .closed, e);
+              closed = allb-both closedb (r .done) (here ∷ []) ∙ rw (r .closed, e);
               many = length-append (r .done) (here ∷ []) ∙ omega (arith, r .many);
               counted = ap length b ∙ length-append (cellsOf (r .done)) cells ∙ omega (arith, r .counted, f);
             };

@@ -20,6 +20,7 @@ use Rattle.edges.specs.Pairs.{Pair, sorted, isb, addPairs, pairsOf}
 use Rattle.edges.specs.Table.{Grown, listed}
 use Rattle.rows.specs.Numbered.{cellsAt, part, endsFrom}
 use Rattle.base.specs.Every.{All, all-append, all-more}
+use Rattle.base.specs.Each.{allb-take}
 use Rattle.numbering.specs.Tests.{numberedCells, Placed, closed-numbers}
 use Rattle.numbering.specs.Refined.{Refined, closed-follows}
 use Rattle.numbering.specs.Levels.{placed-kept, cells-kept}
@@ -91,16 +92,6 @@ drop-take (suc a) b [] = rw (suc-add a b) (sym (take-nil b))
 drop-take (suc a) b (x ∷ l) = rw (suc-add a b) (drop-take a b l)
 
 -- a part of a list that passes a test passes it
-pub all-take : (f : ℕ → Bool) (m : ℕ) (l : List ℕ) → T (allb f l) → T (allb f (take m l))
-unfolding allb
-all-take f zero l t = tt
-all-take f (suc m) [] t = tt
-all-take f (suc m) (x ∷ l) t = go (f x) t (all-take f m l)
-  where
-    go : (b : Bool) → T (b && allb f l) → (T (allb f l) → T (allb f (take m l))) → T (b && allb f (take m l))
-    go true u i = i u
-    go false u i = u
-
 all-drop : (f : ℕ → Bool) (m : ℕ) (l : List ℕ) → T (allb f l) → T (allb f (drop m l))
 unfolding allb
 all-drop f zero l t = t
@@ -108,7 +99,7 @@ all-drop f (suc m) [] t = tt
 all-drop f (suc m) (x ∷ l) t = all-drop f m l (and-right (f x) (allb f l) t)
 
 part-fits : (ss : List ℕ) → allb (λ s. leb s 64) ss ≡ true → (k m : ℕ) → T (allb (λ s. leb s 64) (part ss k m))
-part-fits ss t k m = all-take (λ s. leb s 64) m (drop k ss) (all-drop (λ s. leb s 64) k ss (rw t tt))
+part-fits ss t k m = allb-take (λ s. leb s 64) m (drop k ss) (all-drop (λ s. leb s 64) k ss (rw t tt))
 
 deep-in : (ks : List Corner) (l : ℕ) (cs : List (Cell Point)) → T (allb (λ c. eqb (length (c .path)) l) cs)
     → T (allb (λ c. eqb (length (c .path)) l) (numberedCells ks cs))
@@ -134,7 +125,7 @@ module _ (n : ℕ) (qs : List (List ℕ)) (ss : List ℕ) (j first last : ℕ) (
   many : last - first ≡ length (h .cells)
   many = omega (arith, h .end)
 
-  pub own-is : ownStatuses rows ss first last ≡ part ss first (length (h .cells))
+  own-is : ownStatuses rows ss first last ≡ part ss first (length (h .cells))
   own-is = rw many
 
   halves : numberedCells (h .corners) (before ++ h .cells) ≡ numberedCells (h .corners) before ++ numberedCells (h .corners) (h .cells)
@@ -211,7 +202,7 @@ module _ (n : ℕ) (qs : List (List ℕ)) (ss : List ℕ) (j first last : ℕ) (
           rw halves (red-append (numberedCells (h .corners) before) (numberedCells (h .corners) (h .cells)) (take last ss)
           ∙ rw (counted, a, b))
 
-      pub reds-after : Lists (listed xs′ ys′ 0 k′) (redEdges 0 (numberedCells (h .corners) (before ++ h .cells)) (take last ss))
+      reds-after : Lists (listed xs′ ys′ 0 k′) (redEdges 0 (numberedCells (h .corners) (before ++ h .cells)) (take last ss))
       reds-after =
           record {
             has = λ p.

@@ -6,20 +6,21 @@
 use mathlib.Core.Path.{_≡_, sym, ap, subst}
 use mathlib.Core.Bool.{Bool, true, _&&_}
 use mathlib.Core.List.{List}
-use Prim.Native.Nat.{ℕ, suc, _*_, _%_, _≤_, Fin}
+use Prim.Native.Nat.{ℕ, suc, _*_, _≤_, Fin}
 use native.Mathlib.Omega.{arith}
-use lib.Dec.{T, eqb, leb, leb→le}
+use lib.Dec.{T, leb, leb→le}
 use lib.ListN.{length, getD}
 use lib.IntN.{ℤ}
-use Rattle.base.specs.Bools.{and-left, and-right}
+use Rattle.base.specs.Bools.{and-right}
 use Rattle.base.specs.Every.{All}
 use Rattle.base.specs.Fours.{fours, length-fours}
 use Rattle.base.specs.Refuse.{refuse, andThen, passed, both}
 use Rattle.base.specs.declared.Answer.{Answer}
 use Rattle.base.specs.declared.Answer.the-variants.{Accepted}
-use Rattle.mesh.specs.Coarse.{cornerCount, cellCount, countsb, positionsb, cellsb, solidb, singleb, meshAnswer}
+use Rattle.mesh.specs.Coarse.{cornerCount, countsb, positionsb, cellsb, solidb, singleb, meshAnswer}
 use Rattle.mesh.specs.Table.{soundb}
 use Rattle.mesh.specs.Answers.{tableAnswer}
+use Rattle.mesh.specs.Laws.{mesh-counts}
 use Rattle.lattice.specs.Levels.{fours-four}
 use Rattle.soundness.specs.Sound.{sound-parts}
 use Rattle.exchange.specs.Finite.{parts}
@@ -54,21 +55,6 @@ pub record Splits (Q n : ℕ) (qs : List (List ℕ)) (ss os : List ℕ) : Type 0
   pub corners-most : n ≤ 512
   pub coarse-least : 1 ≤ length qs
   pub coarse-most : length qs ≤ 256
-
--- within the limits of a mesh
-module _ (ps : List ℤ) (ts : List ℕ) (t : T (countsb ps ts)) where
-  counts : (4 ≤ cornerCount ps) × (cornerCount ps ≤ 512) × (1 ≤ cellCount ts) × (cellCount ts ≤ 256)
-  unfolding countsb
-  counts =
-      let a = and-right (eqb (length ps % 3) 0 && eqb (length ts % 4) 0)
-      ((leb 4 (cornerCount ps) && leb (cornerCount ps) 512) && (leb 1 (cellCount ts) && leb (cellCount ts) 256)) t in
-      let b = and-left (leb 4 (cornerCount ps) && leb (cornerCount ps) 512) (leb 1 (cellCount ts) && leb (cellCount ts) 256) a in
-      let c = and-right (leb 4 (cornerCount ps) && leb (cornerCount ps) 512) (leb 1 (cellCount ts) && leb (cellCount ts) 256) a in (
-        leb→le 4 (cornerCount ps) (and-left (leb 4 (cornerCount ps)) (leb (cornerCount ps) 512) b),
-        leb→le (cornerCount ps) 512 (and-right (leb 4 (cornerCount ps)) (leb (cornerCount ps) 512) b),
-        leb→le 1 (cellCount ts) (and-left (leb 1 (cellCount ts)) (leb (cellCount ts) 256) c),
-        leb→le (cellCount ts) 256 (and-right (leb 1 (cellCount ts)) (leb (cellCount ts) 256) c),
-      )
 
 module _ (ps : List ℤ) (ts ss : List ℕ) (Q : ℕ) (os b : List ℕ) (e : splitAnswer ps ts ss (suc Q) os b ≡ Accepted) where
   abbrev n : ℕ
@@ -115,7 +101,7 @@ module _ (ps : List ℤ) (ts ss : List ℕ) (Q : ℕ) (os b : List ℕ) (e : spl
 
   pub splits-from : Splits Q (cornerCount ps) (fours ts) ss os
   splits-from =
-      let (a, c, d, f) = counts ps ts (meshed .0) in
+      let k = mesh-counts ps ts (meshed .0) in
       let l = length-fours ts in
       record {
         four = fours-four ts;
@@ -123,10 +109,10 @@ module _ (ps : List ℤ) (ts ss : List ℕ) (Q : ℕ) (os b : List ℕ) (e : spl
         sound = table .1;
         owners = steps .3;
         parts-few = leb→le (suc Q) 16 (and-right (leb 1 (suc Q)) (leb (suc Q) 16) (steps .2));
-        corners-least = a;
-        corners-most = c;
-        coarse-least = omega arith;
-        coarse-most = omega arith;
+        corners-least = k .corners-some;
+        corners-most = k .corners-few;
+        coarse-least = omega (arith, k .some);
+        coarse-most = omega (arith, k .few);
       }
 
   -- the table after the call

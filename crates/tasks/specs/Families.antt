@@ -20,13 +20,12 @@ use Rattle.cutting.specs.Rule.{family}
 use Rattle.mesh.specs.Cells.{Cell, noCell, patternOf, redEdges}
 use Rattle.mesh.specs.Weights.{Point, coarseCells}
 use Rattle.mesh.specs.Table.{levelsOf, next, sizeOf, sizes}
-use Rattle.mesh.specs.Laws.{sizes-append, sizes-one}
+use Rattle.mesh.specs.Laws.{sizes-append, sizes-one, length-coarse}
 use Rattle.rows.specs.Many.{size-refined, size-some, length-next}
 use Rattle.lineage.specs.Born.{childOf, born, born-below, born-at}
 use Rattle.lineage.specs.Levels.{cells-first}
-use Rattle.lineage.specs.Paths.{length-coarse}
 use Rattle.lineage.specs.Olds.{firstChild}
-use Rattle.carriers.specs.Refined.{pattern-small}
+use Rattle.carriers.specs.Refined.{asked-small}
 use Rattle.soundness.specs.Held.{closed-at, closed-length}
 use Rattle.soundness.specs.Sound.{Sound, lv, level-closed, level-next, level-there}
 use Rattle.rounds.specs.Tests.{Member}
@@ -111,7 +110,7 @@ module _ (n : ℕ) (qs : List (List ℕ)) (ss : List ℕ) (s : Sound n qs ss) wh
       let a = at-level n qs ss s k (p .t) (p .below) in
       let l = lv n qs ss k in
       let st = closed-at l (level-closed n qs ss (s .closed) k) (p .t) (p .below) .1 in
-      let small = pattern-small (redEdges [] (l .cells) (l .statuses)) (getD (l .cells) (p .t) noCell) (getD (l .statuses) (p .t) 0) st in
+      let small = asked-small (redEdges [] (l .cells) (l .statuses)) (getD (l .cells) (p .t) noCell) (getD (l .statuses) (p .t) 0) st in
       let e : getD ss c 0 ≡ getD (sts k) (p .t) 0 = ap (λ (x : ℕ). getD ss x 0) (p .number) ∙ a .status-is in
       rw e (pattern-most (getD (sts k) (p .t) 0) small)
 

@@ -13,7 +13,7 @@ use lib.Dec.{T, eqb, eqb→eq}
 use lib.ListN.{length, getD, length-map, List·getD-eq-default}
 use borrow.Author.Tests.{eq-eqb, ne-eqb}
 use Rattle.base.specs.Lists.{anyb}
-use Rattle.base.specs.Bools.{and-left, and-right}
+use Rattle.base.specs.Bools.{and-left, and-right, same-test}
 use Rattle.base.specs.Every.{All, getD-map}
 use Rattle.base.specs.Range.{range, length-range, range-at, range-member, member-range}
 use Rattle.mesh.specs.Coarse.{cellsb}
@@ -21,7 +21,7 @@ use Rattle.mesh.specs.Table.{soundb}
 use Rattle.mesh.specs.Layout.{edgeNumbers}
 use Rattle.soundness.specs.Sound.{Sound, sound-parts}
 use Rattle.exchange.specs.Finite.{Finite, parts}
-use Rattle.rounds.specs.Tests.{Member, same-test, any-member, member-any}
+use Rattle.rounds.specs.Tests.{Member, any-member, member-any}
 use Rattle.rounds.specs.Task.{Task, has}
 use Rattle.rounds.specs.Rounds.{isPart, mine, holdsb}
 use Rattle.rounds.specs.Among.{is-eq, is-same}

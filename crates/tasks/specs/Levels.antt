@@ -12,9 +12,9 @@ use lib.Seq.{take-suc, take-all}
 use Rattle.base.specs.Range.{range}
 use Rattle.mesh.specs.Weights.{coarseCells}
 use Rattle.mesh.specs.Table.{Level, levelsOf, cellsOf}
+use Rattle.mesh.specs.Laws.{length-coarse}
 use Rattle.lattice.specs.Levels.{noLevel}
 use Rattle.lineage.specs.Levels.{levels-first, cells-first}
-use Rattle.lineage.specs.Paths.{length-coarse}
 use Rattle.soundness.specs.Sound.{Sound, lv, level-there}
 use Rattle.rounds.specs.Tests.{Member}
 use Rattle.splitting.specs.Numbers.{numbersOf, first-zero, stands}

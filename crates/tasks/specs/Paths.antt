@@ -11,9 +11,10 @@ use Rattle.base.specs.Every.{all-append}
 use Rattle.cutting.specs.Rows.{family-few}
 use Rattle.mesh.specs.Cells.{Cell, noCell, patternOf, redEdges}
 use Rattle.mesh.specs.Weights.{Point, coarseCells}
-use Rattle.lineage.specs.Paths.{pathAt, coarse-at, length-coarse}
+use Rattle.mesh.specs.Laws.{length-coarse}
+use Rattle.lineage.specs.Paths.{pathAt, coarse-at}
 use Rattle.lineage.specs.Met.{old-coarse}
-use Rattle.carriers.specs.Refined.{pattern-small}
+use Rattle.carriers.specs.Refined.{asked-small}
 use Rattle.soundness.specs.Held.{closed-at}
 use Rattle.soundness.specs.Family.{born-of}
 use Rattle.soundness.specs.Sound.{Sound, lv, level-closed, level-next, level-there}
@@ -44,7 +45,7 @@ module _ (n : ℕ) (qs : List (List ℕ)) (ss : List ℕ) (few : length qs ≤ 2
       let top = level-there n qs ss (suc k) t h in
       let b = born-of l (lv n qs ss (suc k)) (level-next n qs ss k (omega (arith, s .high))) t h in
       let st = closed-at l (level-closed n qs ss (s .closed) k) (b .p) (b .below) .1 in
-      let small = pattern-small (redEdges [] (l .cells) (l .statuses)) (getD (l .cells) (b .p) noCell) (getD (l .statuses) (b .p) 0) st in
+      let small = asked-small (redEdges [] (l .cells) (l .statuses)) (getD (l .cells) (b .p) noCell) (getD (l .statuses) (b .p) 0) st in
       let low : b .i < 8 = omega (arith, b .child, family-few (patternOf (getD (l .statuses) (b .p) 0)) small) in
       let r = place-room k (b .p) (b .below) in
       record {

@@ -25,7 +25,7 @@ use Rattle.lattice.specs.Regular.{Regular}
 use Rattle.lattice.specs.Edges.{corner-injective, point-injective}
 use Rattle.lattice.specs.Facts.{sound-regular}
 use Rattle.carriers.specs.Joins.{ends-of}
-use Rattle.carriers.specs.Refined.{pattern-small, status-regular}
+use Rattle.carriers.specs.Refined.{asked-small, status-regular}
 use Rattle.soundness.specs.Held.{closed-at, regular-at}
 use Rattle.soundness.specs.Family.{born-of}
 use Rattle.soundness.specs.Sound.{Sound, lv, sound-parts, level-closed, level-next, level-there}
@@ -144,7 +144,7 @@ module _ (n : ℕ) (qs : List (List ℕ)) (ss : List ℕ) (four : All (λ q. len
           let st = closed-at l (level-closed n qs ss (s .closed) k) (b .p) (b .below) .1 in
           let es = redEdges [] (l .cells) (l .statuses) in
           let c = getD (l .cells) (b .p) noCell in
-          let small = pattern-small es c (getD (l .statuses) (b .p) 0) st in
+          let small = asked-small es c (getD (l .statuses) (b .p) 0) st in
           let r = regular-at n k l (sound-regular n qs ss four accepted sound k) (b .p) (b .below)
           (status-regular es c (getD (l .statuses) (b .p) 0) st (b .refined)) in
           child-apart (patternOf (getD (l .statuses) (b .p) 0)) (b .i) small (b .child) n k c (getD (lv n qs ss (suc k) .cells) t noCell)

@@ -24,34 +24,40 @@ unfoldable pub cutAnswer : ℕ → List ℕ → Answer
 unfolding refuse cutOf
 cutAnswer p digits = refuse 15 (leb 32 (length digits)) (cutOf p .answer)
 
+-- Rules 12.17, 15.8: 0 for a message and for none.
 unfoldable pub fetchedCode : Fetched → ℕ
 fetchedCode (fetched.Message n) = 0
 fetchedCode fetched.Nothing = 0
 fetchedCode (fetched.Refused k) = k
 
+-- Rules 12.17, 15.8: no bytes where there is none.
 unfoldable pub fetchedLength : ℕ → Fetched → ℕ
 fetchedLength old (fetched.Message n) = n
 fetchedLength old fetched.Nothing = 0
 fetchedLength old (fetched.Refused k) = old
 
+-- Rules 12.17, 15.10: an end with 8 or 9 is no refusal.
 unfoldable pub progressCode : Progress → ℕ
 progressCode (progress.Running r) = 0
 progressCode progress.Done = 0
 progressCode (progress.Ended k) = 0
 progressCode (progress.Refused k) = k
 
+-- Rules 12.17, 15.11: 1 running, 2 done.
 unfoldable pub progressStage : ℕ → Progress → ℕ
 progressStage old (progress.Running r) = 1
 progressStage old progress.Done = 2
 progressStage old (progress.Ended k) = 2
 progressStage old (progress.Refused k) = old
 
+-- Rule 12.17: the round of a running store.
 unfoldable pub progressRound : ℕ → Progress → ℕ
 progressRound old (progress.Running r) = r
 progressRound old progress.Done = 0
 progressRound old (progress.Ended k) = 0
 progressRound old (progress.Refused k) = old
 
+-- Rules 12.17, 15.10: what a done store ended with.
 unfoldable pub progressResult : ℕ → Progress → ℕ
 progressResult old (progress.Running r) = 0
 progressResult old progress.Done = 0

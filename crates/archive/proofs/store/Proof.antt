@@ -19,15 +19,17 @@ mul-from : tie.Need-mul-from
 mul-from c = search needs
 
 store-cells-requires : tie.Need-store-cells-requires
-store-cells-requires c κs = let e = c .before .before .before .before .before .before .before .before .before .before in let s = e .args in (
-  e .pre .0 .fours,
-  omega (
-    arith,
-    steps-room (e .pre .0) (s .bytes .now) (e .pre .1),
-    sets-length (s .bytes .now) 0
-        (cornerBytes (s .positions .now)) (c .before .before .before .store-corners .ensures),
-  ),
-)
+store-cells-requires c κs =
+    let e = c .before .before .before .before .before .before .before .before .before .before in
+    let s = e .args in (
+      e .pre .0 .fours,
+      omega (
+        arith,
+        steps-room (e .pre .0) (s .bytes .now) (e .pre .1),
+        sets-length (s .bytes .now) 0
+            (cornerBytes (s .positions .now)) (c .before .before .before .store-corners .ensures),
+      ),
+    )
 
 mul-store-steps : tie.Need-mul-store-steps
 mul-store-steps c = search needs

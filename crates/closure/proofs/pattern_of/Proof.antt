@@ -2,7 +2,7 @@
 -- Assumes nothing.
 use mathlib.Core.Path.{sym}
 use Rattle.rows.specs.Numbered.{cellAt}
-use Rattle.closure.specs.Closed.{none-listed}
+use Rattle.closure.specs.Closed.{pattern-unlisted}
 use borrow.Author.Needs.{needs}
 use Rattle.closure.proofs.pattern_of.Statement.{statement}
 use Rattle.closure.proofs.pattern_of.Tie as tie
@@ -10,7 +10,7 @@ use Rattle.closure.proofs.pattern_of.Tie as tie
 returns : tie.Need-returns
 returns c =
     let a = c .before .before .before .before .before .before .args in
-    sym (none-listed (a .xs .now) (a .ys .now) (a .from) (a .n) (cellAt (a .cells .now) (a .c)) (c .if1 .taken))
+    sym (pattern-unlisted (a .xs .now) (a .ys .now) (a .from) (a .n) (cellAt (a .cells .now) (a .c)) (c .if1 .taken))
 
 pattern-in-requires : tie.Need-pattern-in-requires
 pattern-in-requires c κs = search needs

@@ -4,7 +4,7 @@ use mathlib.Core.Path.{sym, _∙_}
 use borrow.Author.Tests.{not-true, not-false}
 use Rattle.edges.specs.Table.{listed}
 use Rattle.rows.specs.Numbered.{cellAt}
-use Rattle.closure.specs.Closed.{status-irregular, listed-red, status-pattern, none-listed}
+use Rattle.closure.specs.Closed.{status-irregular, listed-red, status-pattern, pattern-unlisted}
 use borrow.Author.Needs.{needs}
 use Rattle.closure.proofs.status_of.Statement.{statement}
 use Rattle.closure.proofs.status_of.Tie as tie
@@ -31,7 +31,7 @@ returns-3 c =
     let t = cellAt (a .cells .now) (a .c) in
     sym (status-pattern es (a .red) t
     (sym (c .before .before .before .is-regular .ensures) ∙ not-false _ (c .before .before .if1 .left)) (c .before .if2 .left)
-    ∙ none-listed (a .xs .now) (a .ys .now) (a .from) (a .n) t (c .if3 .taken))
+    ∙ pattern-unlisted (a .xs .now) (a .ys .now) (a .from) (a .n) t (c .if3 .taken))
 
 pattern-in-requires : tie.Need-pattern-in-requires
 pattern-in-requires c κs = search needs

@@ -7,7 +7,7 @@ use native.Mathlib.Omega.{arith}
 use lib.ListN.{length}
 use borrow.Author.Needs.{needs}
 use Rattle.base.specs.Fours.{fours}
-use Rattle.coarse.specs.Tally.{high, lowCell}
+use Rattle.coarse.specs.Tally.{lead, lowCell}
 use Rattle.coarse.proofs.Meets.{Sofar, meets-start}
 use Rattle.coarse.proofs.Turns.{fresh, cells-open, cells-turn, cells-over, cells-end}
 use Rattle.coarse.proofs.cells_differ.Statement.{statement}
@@ -15,7 +15,7 @@ use Rattle.coarse.proofs.cells_differ.Tie as tie
 
 abbrev Inv-loop : tie.InvT-loop
 Inv-loop cells xs₀ ys₀ heads₀ links₀ counts₀ n₀ k₀ k-end xs ys heads links counts n k = (k ≤ k-end) × (k-end ≡ length cells / 4) × Sofar
-    high lowCell 1 (fours cells) xs ys heads links counts n k
+    lead lowCell 1 (fours cells) xs ys heads links counts n k
 
 abbrev μ-loop : tie.MeasureT-loop
 μ-loop cells xs₀ ys₀ heads₀ links₀ counts₀ n₀ k₀ k-end xs ys heads links counts n k = k-end - k
@@ -37,7 +37,7 @@ loop-holds : tie.Need-loop-holds Inv-loop μ-loop
 loop-holds c =
     let s = c .before .before .before .before in
     let k = c .before .clear in
-    (omega arith, refl, meets-start high lowCell 1 (fours (s .args .cells .now)) (fresh (k .last .0) (k .kept .0)) (k .ensures))
+    (omega arith, refl, meets-start lead lowCell 1 (fours (s .args .cells .now)) (fresh (k .last .0) (k .kept .0)) (k .ensures))
 
 cell-at-requires : tie.Need-cell-at-requires Inv-loop μ-loop
 cell-at-requires c κs = c .loop-test .taken
@@ -56,7 +56,7 @@ tally-requires c κs =
     cells-open (entry l .pre) (l .loop .inv .2) (q .before .loop-test .taken) (p .before .pair .result) (p .pair2 .result)
 
 returns : tie.Need-returns Inv-loop μ-loop
-unfolding high lowCell
+unfolding lead lowCell
 returns c =
     let a = c .before .before in
     let p = a .before .before .before .before .before .before in
@@ -72,7 +72,7 @@ loop-less : tie.Need-loop-less Inv-loop μ-loop
 loop-less c = search needs
 
 loop-again : tie.Need-loop-again Inv-loop μ-loop
-unfolding high lowCell
+unfolding lead lowCell
 loop-again c =
     let a = c .before .before in
     let p = a .before .before .before .before .before .before in

@@ -8,14 +8,14 @@ use native.Mathlib.Omega.{arith}
 use lib.ListN.{length}
 use borrow.Author.Needs.{needs}
 use Rattle.base.specs.Fours.{fours, faces}
-use Rattle.coarse.specs.Tally.{high, lowFace}
+use Rattle.coarse.specs.Tally.{lead, lowFace}
 use Rattle.coarse.proofs.Meets.{Sofar, meets-start}
 use Rattle.coarse.proofs.Turns.{fresh, faces-open, faces-turn, faces-over, faces-end}
 use Rattle.coarse.proofs.faces_ok.Statement.{statement}
 use Rattle.coarse.proofs.faces_ok.Tie as tie
 
 abbrev Inv-loop : tie.InvT-loop
-Inv-loop cells xs₀ ys₀ heads₀ links₀ counts₀ n₀ i₀ i-end xs ys heads links counts n i = (i ≤ i-end) × (i-end ≡ length cells) × Sofar high
+Inv-loop cells xs₀ ys₀ heads₀ links₀ counts₀ n₀ i₀ i-end xs ys heads links counts n i = (i ≤ i-end) × (i-end ≡ length cells) × Sofar lead
     lowFace 2 (flatMap faces (fours cells)) xs ys heads links counts n i
 
 abbrev μ-loop : tie.MeasureT-loop
@@ -40,7 +40,7 @@ loop-holds c =
     let k = c .before .clear in (
       omega arith,
       refl,
-      meets-start high lowFace 2 (flatMap faces (fours (s .args .cells .now))) (fresh (k .last .0) (k .kept .0))
+      meets-start lead lowFace 2 (flatMap faces (fours (s .args .cells .now))) (fresh (k .last .0) (k .kept .0))
           (k .ensures),
     )
 
@@ -61,7 +61,7 @@ tally-requires c κs =
     faces-open (entry l .pre) (l .loop .inv .2) (q .before .loop-test .taken) (p .pair .result) (q .face-at .result .c)
 
 returns : tie.Need-returns Inv-loop μ-loop
-unfolding high lowFace
+unfolding lead lowFace
 returns c =
     let a = c .before .before in
     let p = a .before .before .before .before .before .before .before in
@@ -77,7 +77,7 @@ loop-less : tie.Need-loop-less Inv-loop μ-loop
 loop-less c = search needs
 
 loop-again : tie.Need-loop-again Inv-loop μ-loop
-unfolding high lowFace
+unfolding lead lowFace
 loop-again c =
     let a = c .before .before in
     let p = a .before .before .before .before .before .before .before in

@@ -8,8 +8,7 @@ use lib.ListN.{length, getD}
 use borrow.Author.Tests.{eq-eqb, ne-eqb}
 use Rattle.columns.proofs.Owning.{ownedb}
 use Rattle.columns.specs.Ten.{familyBy}
-use Rattle.reds.specs.Ranges.{all-range-miss, all-range-next, all-range-end}
-use Rattle.base.specs.Range.{range}
+use Rattle.base.specs.Range.{range, all-range-miss, all-range-next, all-range-end}
 use Rattle.base.specs.Lists.{allb}
 use borrow.Author.Needs.{needs}
 use Rattle.columns.proofs.one_owner.Statement.{statement}

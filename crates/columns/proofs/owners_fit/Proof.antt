@@ -6,8 +6,7 @@ use native.Mathlib.Omega.{arith}
 use lib.ListN.{length}
 use borrow.Author.Tests.{not-true, not-false}
 use Rattle.columns.proofs.Owning.{onceb, owners-many, owners-parts, owners-then}
-use Rattle.reds.specs.Ranges.{all-range-miss, all-range-next, all-range-end}
-use Rattle.base.specs.Range.{range}
+use Rattle.base.specs.Range.{range, all-range-miss, all-range-next, all-range-end}
 use Rattle.base.specs.Lists.{allb}
 use Rattle.columns.specs.Ten.{FirstKids}
 use borrow.Author.Needs.{needs}

@@ -30,21 +30,22 @@ returns-3 c = replay-refused (c .before .before .before .before .before .before 
     _ _ _ (c .before .before .reopen .ensures) (c .if3 .taken)
 
 hand-out-requires : tie.Need-hand-out-requires
-hand-out-requires c κs = let few = c .before .before .before .before .before .reopen .ensures .few (c .before .before .before .if3 .left) in (
-  (
-    few,
-    omega (arith, few, c .before .before .before .before .before .before .before .before .if1 .left),
-    omega
-        (arith, c .before .before .before .before .before .before .before .if2 .left),
-  ),
-  replay-levels
-      (c .before .before .before .before .before .before .before .before .before .before .before .before .args .bytes .now)
-      (c .before .before .before .before .before .before .before .before .before .before .before .before .args .table .now)
-      (c .before .before .before .before .before .before .before .before .before .before .before .before .args .counts .now)
-      (omega (arith, c .before .before .before .before .before .before .before .before .if1 .left))
-      (omega (arith, c .before .before .before .before .before .before .before .if2 .left)) _ _ _ _ _
-      (c .before .before .before .before .before .reopen .ensures) (c .before .before .before .if3 .left),
-)
+hand-out-requires c κs =
+    let few = c .before .before .before .before .before .reopen .ensures .few (c .before .before .before .if3 .left) in (
+      (
+        few,
+        omega (arith, few, c .before .before .before .before .before .before .before .before .if1 .left),
+        omega
+            (arith, c .before .before .before .before .before .before .before .if2 .left),
+      ),
+      replay-levels
+          (c .before .before .before .before .before .before .before .before .before .before .before .before .args .bytes .now)
+          (c .before .before .before .before .before .before .before .before .before .before .before .before .args .table .now)
+          (c .before .before .before .before .before .before .before .before .before .before .before .before .args .counts .now)
+          (omega (arith, c .before .before .before .before .before .before .before .before .if1 .left))
+          (omega (arith, c .before .before .before .before .before .before .before .if2 .left)) _ _ _ _ _
+          (c .before .before .before .before .before .reopen .ensures) (c .before .before .before .if3 .left),
+    )
 
 same-length : tie.Need-same-length
 same-length c = search needs

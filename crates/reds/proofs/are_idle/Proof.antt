@@ -6,11 +6,10 @@ use native.Mathlib.Omega.{arith}
 use borrow.Author.Tests.{not-true, not-false}
 use Rattle.base.specs.Lists.{allb}
 use Rattle.reds.specs.Flags.{listedb, idleb}
-use Rattle.reds.specs.Ranges.{all-range-miss, all-range-next, all-range-end}
 use borrow.Author.Needs.{needs}
 use Rattle.reds.proofs.are_idle.Statement.{statement}
 use Rattle.reds.proofs.are_idle.Tie as tie
-use Rattle.base.specs.Range.{range}
+use Rattle.base.specs.Range.{range, all-range-miss, all-range-next, all-range-end}
 
 abbrev Inv-loop : tie.InvT-loop
 Inv-loop rows status marks first last xs ys heads links from n j₀ j =

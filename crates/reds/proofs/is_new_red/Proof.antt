@@ -58,7 +58,8 @@ returns c =
 one-pulled-requires : tie.Need-one-pulled-requires
 one-pulled-requires c κs =
     let s = c .before .before .before .before .before .before .before .before .before .before .before .before .before in
-    let w : getD (s .args .kids .now) (s .args .c + 1) 0 ≤ length (s .args .status .now) = s .pre .0 .top (s .args .c + 1) (omega arith) in (
+    let w : getD (s .args .kids .now) (s .args .c + 1) 0 ≤ length (s .args .status .now) =
+    s .pre .0 .top (s .args .c + 1) (omega arith) in (
       record { rows = omega (arith, s .pre .0 .rows); table = s .pre .1 .0 },
       (omega (arith, s .pre .0 .rows), omega (arith, s .pre .0 .marks)),
     )

@@ -5,11 +5,10 @@ use Prim.Native.Nat.{_-_}
 use native.Mathlib.Omega.{arith}
 use Rattle.base.specs.Lists.{anyb}
 use Rattle.reds.specs.Flags.{listedb, pulledb}
-use Rattle.reds.specs.Ranges.{any-range-hit, any-range-next, any-range-end}
 use borrow.Author.Needs.{needs}
 use Rattle.reds.proofs.one_pulled.Statement.{statement}
 use Rattle.reds.proofs.one_pulled.Tie as tie
-use Rattle.base.specs.Range.{range}
+use Rattle.base.specs.Range.{range, any-range-hit, any-range-next, any-range-end}
 
 abbrev Inv-loop : tie.InvT-loop
 Inv-loop rows marks g first last xs ys heads links from n j₀ j =

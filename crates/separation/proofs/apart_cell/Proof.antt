@@ -36,7 +36,8 @@ cast-g c = omega (arith, c .shared-slice-known6 .given (8 * c .before .before .b
 apart-child-requires : tie.Need-apart-child-requires
 apart-child-requires c κs = (
   search needs,
-  c .before .before .before .before .before .before .before .before .pre .1 (sym (c .before .before .is-regular .ensures) ∙ c .before .if1 .left),
+  c .before .before .before .before .before .before .before .before .pre .1
+      (sym (c .before .before .is-regular .ensures) ∙ c .before .if1 .left),
 )
 
 returns-2 : tie.Need-returns-2

@@ -43,9 +43,8 @@ returns-2 c =
     let a = c .before .before .before .before .before .before .before .before .before .before .before .args in
     let l = c .before .before .before .loop in
     let es = listed (a .xs .now) (a .ys .now) (a .from) (a .n) in
-    sym (sym (l .inv .1) ∙ all-miss (apartTest es (a .cells .now) (a .g)) (cellAt (a .cells .now) (a .c)) (l .e) (c .before .before
-    .loop-test .taken)
-    (sym (c .before .apart-edge .ensures) ∙ not-true _ (c .if2 .taken)))
+    sym (sym (l .inv .1) ∙ all-miss (apartTest es (a .cells .now) (a .g)) (cellAt (a .cells .now) (a .c)) (l .e)
+    (c .before .before .loop-test .taken) (sym (c .before .apart-edge .ensures) ∙ not-true _ (c .if2 .taken)))
 
 add-e : tie.Need-add-e Inv-loop μ-loop
 add-e c = search needs
