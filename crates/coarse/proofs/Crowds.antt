@@ -20,7 +20,7 @@ use Rattle.coarse.proofs.Meets.{keyb, key-x, key-y, key-not}
 use Rattle.coarse.proofs.Repeats.{Cells, none, cell, same-key}
 
 -- the faces of cells in order have three corners, the middle one below 512
-pub data Shape : List ℕ → Type 0 where
+data Shape : List ℕ → Type 0 where
   shape : {p q r : ℕ} → q < 512 → Shape (p ∷ q ∷ r ∷ [])
 
 face-shape : {qs : List (List ℕ)} → Cells qs → (i : ℕ) → i < length (flatMap faces qs) → Shape (getD (flatMap faces qs) i [])

@@ -37,7 +37,7 @@ use Rattle.conformity.specs.Leaves.{pointsOf}
 use Rattle.conformity.specs.Middles.{IsMiddle, middle-point, middle-none}
 use Rattle.conformity.specs.Corners.{corners-each}
 
-record RedMid (n : ℕ) (qs : List (List ℕ)) (ss : List ℕ) (p : Point) : Type 0 where
+pub record RedMid (n : ℕ) (qs : List (List ℕ)) (ss : List ℕ) (p : Point) : Type 0 where
   j : ℕ
   low : j < 10
   u : ℕ

@@ -24,6 +24,7 @@ use Rattle.mesh.specs.Cells.{Cell, redb, patternOf, edge}
 use Rattle.mesh.specs.Layout.{edgeNumbers, splitEdges}
 use Rattle.edges.specs.Pairs.{Pair, sorted, isb, addPair, addPairs, same-pair, has-pairs}
 use Rattle.rows.specs.Numbered.{endsFrom, pointAt, childRows, rowsOf}
+use Rattle.rows.specs.Laws.{pointAt-corner}
 use Rattle.mesh.specs.Table.{sizeOf}
 use Rattle.growth.specs.Rows.{rowsAll}
 use Rattle.mesh.specs.Laws.{pattern-below}
