@@ -52,7 +52,7 @@ unfolding wayBytes
 way-length done since =
     omega (arith, length-append (flatMap stepBytes done) (flatMap markBytes since), marks-length since, steps-length done, done-length done)
 
-mark-length : (x : Mark) → length (markBytes x) ≡ 4
+pub mark-length : (x : Mark) → length (markBytes x) ≡ 4
 unfolding markBytes bytes
 mark-length x = refl
 
@@ -60,7 +60,7 @@ unfoldable pub restFrom : List Mark → ℕ → List Mark → List ℕ → List 
 restFrom since m ms [] = []
 restFrom since m ms (e ∷ es) = (since ++ take (e - m) (drop m ms)) ∷ stepsFrom e ms es
 
-rest-none : (m : ℕ) (ms : List Mark) (es : List ℕ) → stepsFrom m ms es ≡ restFrom [] m ms es
+pub rest-none : (m : ℕ) (ms : List Mark) (es : List ℕ) → stepsFrom m ms es ≡ restFrom [] m ms es
 unfolding stepsFrom restFrom
 rest-none m ms [] = refl
 rest-none m ms (e ∷ es) = refl
@@ -117,7 +117,7 @@ way-start ms es from =
     }
 
 module _ {ms : List Mark} {es : List ℕ} {from at m s : ℕ} (w : Way ms es from at m s) where
-  turn-mark : s < length es → m < getD es s 0 → getD es s 0 ≤ length ms
+  pub turn-mark : s < length es → m < getD es s 0 → getD es s 0 ≤ length ms
       → restFrom (w .since) m ms (drop s es) ≡ restFrom (w .since ++ (getD ms m none ∷ [])) (m + 1) ms (drop s es)
   turn-mark h g k = rw (drop-cons es s 0 h) (rest-mark (w .since) m ms (getD es s 0) (drop (suc s) es) g k)
 
@@ -140,7 +140,7 @@ module _ {ms : List Mark} {es : List ℕ} {from at m s : ℕ} (w : Way ms es fro
         near = w .near;
       }
 
-  turn-step : s < length es → getD es s 0 ≤ m → restFrom (w .since) m ms (drop s es) ≡ w .since ∷ restFrom [] m ms (drop (s + 1) es)
+  pub turn-step : s < length es → getD es s 0 ≤ m → restFrom (w .since) m ms (drop s es) ≡ w .since ∷ restFrom [] m ms (drop (s + 1) es)
   turn-step h g =
       let n : s + 1 ≡ suc s = omega arith in
       rw (n, drop-cons es s 0 h) (rest-step (w .since) m ms (getD es s 0) (drop (suc s) es) (omega (arith, w .low h)))

@@ -17,7 +17,8 @@ use Rattle.archive.specs.Tables.{Mark}
 use Rattle.archive.specs.Scan.{leastOf, least-snoc, markRecordb, marked-least, markIn, steps-mark, steps-step}
 use Rattle.archive.specs.Measure.{stepsBytes, corner-length, cell-length, job-length}
 use Rattle.archive.specs.Bytes.{Word, two-back, four-back, word-below, word-back}
-use Rattle.archive.specs.Writable.{Each, Rises, TwoBytes, Writable}
+use Rattle.archive.specs.Writable.{Rises, TwoBytes, Writable}
+use Rattle.base.specs.Every.{All}
 
 -- no record with another letter starts
 pub no-start : (l k : ℕ) (bs : List ℕ) → (letter bs ≡ l → ⊥) → startsb l k bs ≡ false
@@ -51,9 +52,9 @@ corner-first f x y z l a b c =
     let t : startsb 86 13 bs ≡ true = start 86 13 bs refl (omega arith) in
     rw (t, cornerRecords, back x (bytes 4 (word y) ++ (bytes 4 (word z) ++ l)) a, back y (bytes 4 (word z) ++ l) b, back z l c)
 
-corners-read : (f : ℕ) (ps : List ℤ) (l : List ℕ) → length ps % 3 ≡ 0 → Each Word ps → (letter l ≡ 86 → ⊥) → length ps ≤ f
+corners-read : (f : ℕ) (ps : List ℤ) (l : List ℕ) → length ps % 3 ≡ 0 → All Word ps → (letter l ≡ 86 → ⊥) → length ps ≤ f
     → cornerRecords f (cornerBytes ps ++ l) ≡ (ps, l)
-unfolding cornerBytes Each
+unfolding cornerBytes
 corners-read f [] l m w n h = corners-stop f l n
 corners-read f (x ∷ []) l m w n h = absurd (omega arith)
 corners-read f (x ∷ y ∷ []) l m w n h = absurd (omega arith)
@@ -80,9 +81,9 @@ cell-first f a b c d l p q r s =
       two-back d l s,
     )
 
-cells-read : (f : ℕ) (ts : List ℕ) (l : List ℕ) → length ts % 4 ≡ 0 → Each TwoBytes ts → (letter l ≡ 84 → ⊥) → length ts ≤ f
+cells-read : (f : ℕ) (ts : List ℕ) (l : List ℕ) → length ts % 4 ≡ 0 → All TwoBytes ts → (letter l ≡ 84 → ⊥) → length ts ≤ f
     → cellRecords f (cellBytes ts ++ l) ≡ (ts, l)
-unfolding cellBytes Each
+unfolding cellBytes
 cells-read f [] l m w n h = cells-stop f l n
 cells-read f (a ∷ []) l m w n h = absurd (omega arith)
 cells-read f (a ∷ b ∷ []) l m w n h = absurd (omega arith)
@@ -138,9 +139,9 @@ mark-longer n l = omega arith
 least-next : (ms : List Mark) (n : Mark) (ns : List Mark) → Rises (suc (n .0)) ns → Rises (leastOf (ms ++ (n ∷ []))) ns
 least-next ms n ns r = rw (least-snoc ms n) r
 
-steps-read : (f : ℕ) (ms ns : List Mark) (s : List (List Mark)) → Rises (leastOf ms) ns → Each (Rises 0) s → length (tailBytes ns s) ≤ f
+steps-read : (f : ℕ) (ms ns : List Mark) (s : List (List Mark)) → Rises (leastOf ms) ns → All (Rises 0) s → length (tailBytes ns s) ≤ f
     → stepsIn f ms (tailBytes ns s) ≡ record { ok = true; steps = (ms ++ ns) ∷ s }
-unfolding tailBytes stepsBytes flatMap Rises Each leastOf
+unfolding tailBytes stepsBytes flatMap Rises leastOf
 steps-read zero ms [] s r e h = absurd (omega arith)
 steps-read zero ms (n ∷ ns) s r e h = absurd (omega (arith, ap length (tail-mark n ns s), mark-longer n (tailBytes ns s)))
 steps-read (suc f) ms (n ∷ ns) s r e h =
@@ -157,9 +158,9 @@ steps-read (suc f) ms [] (ns ∷ s) r e h =
     (omega (arith, ap length (tail-is ns s))) in
     step-first f ms (stepsBytes (ns ∷ s)) ∙ rw (tail-is ns s, i, append-nil ms)
 
-steps-all : (f : ℕ) (s : List (List Mark)) → Each (Rises 0) s → length (stepsBytes s) ≤ f
+steps-all : (f : ℕ) (s : List (List Mark)) → All (Rises 0) s → length (stepsBytes s) ≤ f
     → stepsIn f [] (stepsBytes s) ≡ record { ok = true; steps = s }
-unfolding stepsBytes flatMap Each leastOf
+unfolding stepsBytes flatMap leastOf
 steps-all f [] e h = last-read f (omega arith)
 steps-all f (ns ∷ s) e h =
     ap (stepsIn f []) (tail-is ns s) ∙ steps-read f [] ns s (e .0) (e .1) (omega (arith, ap length (tail-is ns s)))

@@ -65,7 +65,7 @@ pub marked-least : (ms : List Mark) (bs : List ℕ) → markedb ms bs ≡ markRe
 unfolding markedb markRecordb
 marked-least ms bs = rw (follows-least ms (u16At bs 1))
 
-mark-long : (least : ℕ) (bs : List ℕ) → markRecordb least bs ≡ true → 4 ≤ length bs
+pub mark-long : (least : ℕ) (bs : List ℕ) → markRecordb least bs ≡ true → 4 ≤ length bs
 unfolding markRecordb
 mark-long least bs t =
     starts-long 77 4 bs (is-true (startsb 77 4 bs)
@@ -97,7 +97,7 @@ module _ (f : ℕ) (ms : List Mark) (bs : List ℕ) where
   unfolding stepsIn
   steps-end t u = rw (t, u, stepsIn)
 
-flatten-snoc : (s : List (List Mark)) (ms : List Mark) → length (flatten (s ++ (ms ∷ []))) ≡ length (flatten s) + length ms
+pub flatten-snoc : (s : List (List Mark)) (ms : List Mark) → length (flatten (s ++ (ms ∷ []))) ≡ length (flatten s) + length ms
 unfolding flatten
 flatten-snoc [] ms = rw (append-nil ms) (omega arith)
 flatten-snoc (a ∷ s) ms = omega (arith, length-append a (flatten (s ++ (ms ∷ []))), length-append a (flatten s), flatten-snoc s ms)
@@ -126,7 +126,7 @@ on-start bs from h =
       rest = let w : length bs - (0 + 0) ≡ length bs = omega arith in rw w;
     }
 
-behind-behind : (a b : List (List Mark)) (r : Steps) → behind a (behind b r) ≡ behind (a ++ b) r
+pub behind-behind : (a b : List (List Mark)) (r : Steps) → behind a (behind b r) ≡ behind (a ++ b) r
 behind-behind a b r = rw (append-assoc a b (r .steps))
 
 module _ {bs : List ℕ} {from at least marks steps : ℕ} (o : ScanAt bs from at least marks steps) where
@@ -134,7 +134,7 @@ module _ {bs : List ℕ} {from at least marks steps : ℕ} (o : ScanAt bs from a
   same-mark = marked-least (o .since) (drop at bs) ∙ rw (o .least-is)
 
   -- so much of the fuel is left
-  fuel-left : at < length bs → (k : ℕ) → k ≡ suc (marks + steps) → length bs - (marks + steps) ≡ suc (length bs - k)
+  pub fuel-left : at < length bs → (k : ℕ) → k ≡ suc (marks + steps) → length bs - (marks + steps) ≡ suc (length bs - k)
   fuel-left h k e = omega (arith, o .way)
 
   unfoldable pub on-mark : markRecordb least (drop at bs) ≡ true → (n : ℕ) → n ≡ whole 2 (drop (at + 1) bs)

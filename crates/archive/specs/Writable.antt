@@ -1,5 +1,4 @@
 -- Jobs that can be written.
---   Each P l         every element of l has P
 --   Rises least ms   the marks ms are 1 or 2, on cells below 65,536 that ascend strictly from least on
 --   Writable j       positions are i32 by threes, cells u16 by fours, each step's marks rise, and the archive is at most 65,536 bytes
 use mathlib.Core.Path.{_≡_}
@@ -9,10 +8,7 @@ use lib.ListN.{length}
 use Rattle.archive.specs.Job.{Job, jobBytes}
 use Rattle.archive.specs.Bytes.{Word}
 use Rattle.archive.specs.Tables.{Mark}
-
-unfoldable pub Each : {A : Type 0} → (A → Type 0) → List A → Type 0
-Each P [] = Unit {0}
-Each P (x ∷ l) = P x × Each P l
+use Rattle.base.specs.Every.{All}
 
 -- Rules 10.2, 10.4: marks that an archive can hold.
 unfoldable pub Rises : ℕ → List Mark → Type 0
@@ -26,8 +22,8 @@ TwoBytes x = x < 65536
 -- Rules 10.2 to 10.5: a job that an archive can hold.
 pub record Writable (j : Job) : Type 0 where
   pub threes : length (j .positions) % 3 ≡ 0
-  pub words : Each Word (j .positions)
+  pub words : All Word (j .positions)
   pub fours : length (j .cells) % 4 ≡ 0
-  pub numbers : Each TwoBytes (j .cells)
-  pub rising : Each (Rises 0) (j .steps)
+  pub numbers : All TwoBytes (j .cells)
+  pub rising : All (Rises 0) (j .steps)
   pub few : length (jobBytes j) ≤ 65536

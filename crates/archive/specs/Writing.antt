@@ -13,12 +13,13 @@ use lib.ListN.{length, drop, length-drop, take-append-drop}
 use lib.Seq.{drop-drop, drop-cons}
 use borrow.Author.Tests.{eqb-true}
 use Rattle.base.specs.Bools.{is-true, and-left}
+use Rattle.base.specs.Every.{All}
 use Rattle.archive.specs.Job.{bytes, word, cornerBytes, cellBytes, markBytes}
 use Rattle.archive.specs.Form.{whole, letter, i32At, u16At, startsb, cornerRecords, cellRecords}
 use Rattle.archive.specs.Records.{starts-long, corners-none, cells-none}
 use Rattle.archive.specs.Scan.{markIn}
 use Rattle.archive.specs.Bytes.{Octets, octets-drop, over, whole-below, bytes-back, Word, signed-word, signed-back}
-use Rattle.archive.specs.Writable.{Each, TwoBytes}
+use Rattle.archive.specs.Writable.{TwoBytes}
 
 pub starts-letter : (l k : ℕ) (bs : List ℕ) → startsb l k bs ≡ true → letter bs ≡ l
 unfolding startsb
@@ -91,14 +92,14 @@ module _ (f : ℕ) (bs : List ℕ) where
 -- the list r .0 can be written, and with the rest r .1 behind it is bs
 pub record CornersRead (bs : List ℕ) (r : List ℤ × List ℕ) : Type 0 where
   pub written : cornerBytes (r .0) ++ r .1 ≡ bs
-  pub words : Each Word (r .0)
+  pub words : All Word (r .0)
 
 pub record Cells (bs : List ℕ) (r : List ℕ × List ℕ) : Type 0 where
   pub written : cellBytes (r .0) ++ r .1 ≡ bs
-  pub numbers : Each TwoBytes (r .0)
+  pub numbers : All TwoBytes (r .0)
 
 pub corners-written : (f : ℕ) (bs : List ℕ) → Octets bs → CornersRead bs (cornerRecords f bs)
-unfolding cornerRecords cornerBytes Each
+unfolding cornerRecords cornerBytes
 corners-written zero bs o = record { written = refl; words = tt }
 corners-written (suc f) bs o = go (startsb 86 13 bs) refl (corners-written f (drop 13 bs) (octets-drop o 13))
   where
@@ -113,7 +114,7 @@ corners-written (suc f) bs o = go (startsb 86 13 bs) refl (corners-written f (dr
     go false t i = rw (corners-none f bs t) (record { written = refl; words = tt })
 
 pub cells-written : (f : ℕ) (bs : List ℕ) → Octets bs → Cells bs (cellRecords f bs)
-unfolding cellRecords cellBytes Each
+unfolding cellRecords cellBytes
 cells-written zero bs o = record { written = refl; numbers = tt }
 cells-written (suc f) bs o = go (startsb 84 9 bs) refl (cells-written f (drop 9 bs) (octets-drop o 9))
   where

@@ -13,6 +13,7 @@ use lib.Dec.{T, eqb, leb, leb→le}
 use lib.ListN.{length, getD, drop}
 use borrow.Author.Tests.{eqb-true}
 use Rattle.base.specs.Bools.{is-true, and-left, and-right}
+use Rattle.base.specs.Every.{All}
 use Rattle.archive.specs.Job.{cornerBytes, cellBytes, markBytes, jobBytes}
 use Rattle.archive.specs.Form.{letter, u16At, startsb, Steps, stepsIn, markedb, emptyb, behindCorners, behindCells, formb, jobOf}
 use Rattle.archive.specs.Records.{recordsIn, starts-long, corners-many, corners-behind, cells-many, cells-behind}
@@ -20,7 +21,7 @@ use Rattle.archive.specs.Tables.{Mark}
 use Rattle.archive.specs.Scan.{leastOf, markRecordb, marked-least, markIn, no-fuel, steps-mark, steps-step, steps-end}
 use Rattle.archive.specs.Measure.{stepsBytes}
 use Rattle.archive.specs.Bytes.{Octets, octets-drop}
-use Rattle.archive.specs.Writable.{Each, Rises, TwoBytes, Writable}
+use Rattle.archive.specs.Writable.{Rises, TwoBytes, Writable}
 use Rattle.archive.specs.Reading.{tailBytes, tail-is}
 use Rattle.archive.specs.Writing.{starts-letter, head-is, two-below, mark-written, corners-written, cells-written}
 
@@ -77,7 +78,7 @@ marks-snoc (n ∷ ms) m l =
 
 record Behind (ms : List Mark) (bs : List ℕ) (r : Steps) : Type 0 where
   written : stepsBytes (r .steps) ≡ flatMap markBytes ms ++ bs
-  rising : Each (Rises 0) (r .steps)
+  rising : All (Rises 0) (r .steps)
 
 -- E alone
 only-end : (ms : List Mark) (bs : List ℕ) → T (startsb 69 1 bs && (emptyb ms && eqb (length bs) 1))
@@ -118,7 +119,7 @@ module _ (f : ℕ) (ms : List Mark) (bs : List ℕ) where
   step-read : Rises 0 ms → markedb ms bs ≡ false → startsb 71 1 bs ≡ true
       → (T (stepsIn f [] (drop 1 bs) .ok) → Behind [] (drop 1 bs) (stepsIn f [] (drop 1 bs)))
       → T (stepsIn (suc f) ms bs .ok) → Behind ms bs (stepsIn (suc f) ms bs)
-  unfolding Each tailBytes flatMap
+  unfolding tailBytes flatMap
   step-read r d e i t =
       let b : Behind [] (drop 1 bs) (stepsIn f [] (drop 1 bs)) = i (rw (steps-step f ms bs d e) at t) in
       rw (steps-step f ms bs d e)
@@ -131,7 +132,6 @@ module _ (f : ℕ) (ms : List Mark) (bs : List ℕ) where
       })
 
   end-read : markedb ms bs ≡ false → startsb 71 1 bs ≡ false → T (stepsIn (suc f) ms bs .ok) → Behind ms bs (stepsIn (suc f) ms bs)
-  unfolding Each
   end-read d e t =
       rw (steps-end f ms bs d e) (record { written = only-end ms bs (rw (steps-end f ms bs d e) at t); rising = tt })
 

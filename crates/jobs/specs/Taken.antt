@@ -15,11 +15,12 @@ use Rattle.base.specs.Bools.{and-left, and-right}
 use Rattle.base.specs.Fours.{fours, length-fours}
 use Rattle.base.specs.Refuse.{refuse, andThen, passed, both}
 use Rattle.base.specs.declared.Answer.the-variants.{Accepted}
+use Rattle.base.specs.Every.{All}
 use Rattle.mesh.specs.Coarse.{cornerCount, cellCount, countsb, positionsb, cellb, cellsb, solidb, singleb, meshAnswer}
 use Rattle.mesh.specs.Answers.{marksb, limitsAnswer}
 use Rattle.mesh.specs.Laws.{MeshCounts, mesh-counts}
 use Rattle.archive.specs.Bytes.{Word}
-use Rattle.archive.specs.Writable.{Each, Rises, TwoBytes}
+use Rattle.archive.specs.Writable.{Rises, TwoBytes}
 use Rattle.archive.specs.Tables.{Mark, pairs, stepsFrom}
 use Rattle.archive.specs.Stored.{Storable}
 use Rattle.archive.specs.Ends.{Climbs, lastFrom, climbs-rising, climbs-within, length-pairs}
@@ -34,8 +35,8 @@ unfolding Word
 word-of (pos n) h = omega arith
 word-of (negsuc n) h = omega arith
 
-words-of : (ps : List ℤ) → T (positionsb ps) → Each Word ps
-unfolding positionsb allb Each
+words-of : (ps : List ℤ) → T (positionsb ps) → All Word ps
+unfolding positionsb allb
 words-of [] t = tt
 words-of (z ∷ ps) t =
     let b = allb (λ z. leb (natAbs z) 500000) ps in
@@ -45,8 +46,8 @@ cell-rises : (n a b c d : ℕ) → T (cellb n (a ∷ b ∷ c ∷ d ∷ [])) → 
 unfolding cellb
 cell-rises n a b c d t = search (and-left, and-right, ltb→lt)
 
-numbers-of : (n : ℕ) (ts : List ℕ) → n ≤ 512 → length ts % 4 ≡ 0 → T (cellsb n (fours ts)) → Each TwoBytes ts
-unfolding cellsb allb fours Each
+numbers-of : (n : ℕ) (ts : List ℕ) → n ≤ 512 → length ts % 4 ≡ 0 → T (cellsb n (fours ts)) → All TwoBytes ts
+unfolding cellsb allb fours
 numbers-of n [] h m t = tt
 numbers-of n (a ∷ []) h m t = absurd (omega arith)
 numbers-of n (a ∷ b ∷ []) h m t = absurd (omega arith)
@@ -71,7 +72,7 @@ rises-from k b (m ∷ ms) h t =
 pub record Written (p : ℕ) (ms : List Mark) (es : List ℕ) : Type 0 where
   pub climbs : Climbs p (length ms) es
   pub last : lastFrom p es ≡ length ms
-  pub rising : Each (Rises 0) (stepsFrom p ms es)
+  pub rising : All (Rises 0) (stepsFrom p ms es)
 
 module _ (n : ℕ) (qs : List (List ℕ)) where
   one-rises : (t : List ℕ) (m : List Mark) → length t ≤ 4096 → oneAnswer n qs t m ≡ Accepted → Rises 0 m
@@ -90,7 +91,7 @@ module _ (n : ℕ) (qs : List (List ℕ)) where
 
   flat-written : (t : List ℕ) (p : ℕ) (ms : List Mark) (es : List ℕ) → length t ≤ 4096 → flatAnswer n qs t p ms es ≡ Accepted
       → Written p ms es
-  unfolding flatAnswer Climbs lastFrom stepsFrom Each
+  unfolding flatAnswer Climbs lastFrom stepsFrom
   flat-written t p ms [] h a = record { climbs = tt; last = eqb→eq p (length ms) (passed 7 (eqb p (length ms)) Accepted a .0); rising = tt }
   flat-written t p ms (e ∷ es) h a =
       let m = take (e - p) (drop p ms) in
@@ -113,8 +114,8 @@ pub record Taken (ps : List ℤ) (ts cs ms es : List ℕ) : Type 0 where
   pub storable : Storable ps ts cs ms es
   pub corners : cornerCount ps ≤ 512
   pub cells : cellCount ts ≤ 256
-  pub words : Each Word ps
-  pub numbers : Each TwoBytes ts
+  pub words : All Word ps
+  pub numbers : All TwoBytes ts
   pub same : length cs ≡ length ms
   pub marks : length (pairs cs ms) ≡ length cs
   pub written : Written 0 (pairs cs ms) es

@@ -118,8 +118,8 @@ fn hand_out(
 pub fn replay(bytes: &[u8], table: &mut [u8], counts: &mut [u16]) -> Replayed
     ensures { λ r. let a = replayAnswer (was bytes) (was table) (was counts) in let j = jobOf (was bytes) in
         ⌜ (r ≡ replayedOf a (replaySize j))
-        × (is table ≡ heldAfter a (jobTable j) (was table))
-        × (is counts ≡ heldAfter a (jobCounts j) (was counts)) ⌝ }
+        × ((is table ≡ heldAfter a (jobTable j) (was table))
+        × (is counts ≡ heldAfter a (jobCounts j) (was counts))) ⌝ }
 {
     if table.len() < 4096 {
         return Replayed::Refused(15);
@@ -172,11 +172,11 @@ pub fn read(
     ensures { λ r. let a = readAnswer (was bytes) (was positions) (was cells) (was marked) (was marks) (was ends) in
         let j = jobOf (was bytes) in
         ⌜ (r ≡ readingOf a (lengthsOf j))
-        × (is positions ≡ heldAfter a (j .positions) (was positions))
-        × (is cells ≡ heldAfter a (j .cells) (was cells))
-        × (is marked ≡ heldAfter a (markedOf (j .steps)) (was marked))
-        × (is marks ≡ heldAfter a (marksOf (j .steps)) (was marks))
-        × (is ends ≡ heldAfter a (endsOf (j .steps)) (was ends)) ⌝ }
+        × ((is positions ≡ heldAfter a (j .positions) (was positions))
+        × ((is cells ≡ heldAfter a (j .cells) (was cells))
+        × ((is marked ≡ heldAfter a (markedOf (j .steps)) (was marked))
+        × ((is marks ≡ heldAfter a (marksOf (j .steps)) (was marks))
+        × (is ends ≡ heldAfter a (endsOf (j .steps)) (was ends)))))) ⌝ }
 {
     if !lent(positions, cells, marked, marks, ends) {
         return Reading::Refused(15);

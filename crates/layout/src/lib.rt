@@ -127,9 +127,9 @@ pub fn lay_out(
     ensures { λ r. let a = layoutAnswer (was positions) (was cells) (was status) (was table) (was ends) (was sums) in
         let ks = cornersIn (was positions) (was cells) (was status) in
         ⌜ (r ≡ laidOf a (sizesOf (was positions) (was cells) (was status)))
-        × (is table ≡ heldAfter a (cellTable ks (cellsIn (was positions) (was cells) (was status))) (was table))
-        × (is ends ≡ heldAfter a (endTable ks) (was ends))
-        × (is sums ≡ heldAfter a (sumTable (was positions) ks) (was sums)) ⌝ }
+        × ((is table ≡ heldAfter a (cellTable ks (cellsIn (was positions) (was cells) (was status))) (was table))
+        × ((is ends ≡ heldAfter a (endTable ks) (was ends))
+        × (is sums ≡ heldAfter a (sumTable (was positions) ks) (was sums)))) ⌝ }
 {
     if !lent(table, ends, sums) {
         return Laid::Refused(15);
