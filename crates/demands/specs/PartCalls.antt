@@ -174,7 +174,8 @@ module _ (x out : List ℕ) where
 
   fetch-lent : 9 ≤ length out → gives (fetchAnswer x out) (fetchBytes x out) (fetchAfter x out) ≡ act Fetch x
   unfolding act gives fetchAnswer fetchBytes fetchAfter givesb foundOf
-  fetch-lent h = subst (λ (r : ℕ). by r out ≡ act Fetch x) (sym (lent-same h)) (go (eqb (fetchRefusal x nine) 0) (ltb (nextToGive x .bit) 16))
+  fetch-lent h =
+      subst (λ (r : ℕ). by r out ≡ act Fetch x) (sym (lent-same h)) (go (eqb (fetchRefusal x nine) 0) (ltb (nextToGive x .bit) 16))
     where
       found : Bool → Bool → ℕ → Fetched
       found u v r = elim u [
