@@ -21,6 +21,18 @@ mostCorners = 16384
 abbrev pub mostLevels : ℕ
 mostLevels = 11
 
+-- Rule 15.1: parts of a split.
+abbrev pub mostParts : ℕ
+mostParts = 16
+
+-- Rule 15.5: edges of a table, those of each level by themselves; six a cell.
+abbrev pub mostSlots : ℕ
+mostSlots = 24576
+
+-- Rule 15.10: stands for every number of cells above the limit.
+abbrev pub tooMany : ℕ
+tooMany = 4097
+
 -- Rule 10.5: of an archive, in bytes.
 abbrev pub mostBytes : ℕ
 mostBytes = 65536

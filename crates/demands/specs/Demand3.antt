@@ -21,6 +21,7 @@ use lib.ListN.{length, getD, drop}
 use lib.IntN.{ℤ}
 use Rattle.base.specs.Fours.{fours}
 use Rattle.base.specs.Bools.{and-left, and-right, is-true, is-false, not-both}
+use Rattle.base.specs.Limits.{mostCells, mostParts}
 use Rattle.base.specs.Refuse.{refuse, andThen, passed, both, codeOf, heldAfter}
 use Rattle.base.specs.declared.Answer.the-variants.{Accepted, Refused}
 use Rattle.mesh.specs.Coarse.{cornerCount}
@@ -73,7 +74,7 @@ laid cs w l rest = flatMap (lastStore cs w) l ++ rest
 
 -- Rules 15.12, 15.18: merging these, into any table of full length, is accepted and leaves the table ts in front.
 abbrev pub MergesTo : List ℕ → List ℕ → Type 0
-MergesTo stores ts = (t : List ℕ) → 4096 ≤ length t
+MergesTo stores ts = (t : List ℕ) → mostCells ≤ length t
     → (mergedOf (mergeAnswer stores t) (length (mergeTable (storesIn stores) (field stores COARSE))) ≡ Cells (length ts))
     × (heldAfter (mergeAnswer stores t) (mergeTable (storesIn stores) (field stores COARSE)) t ≡ ts ++ drop (length ts) t)
 
@@ -85,7 +86,7 @@ module _ (n : ℕ) (qs : List (List ℕ)) (ss os : List ℕ) (P : ℕ) (cs : Cal
     pub ended : (p : ℕ) → 1 ≤ p → p ≤ P → saysOf (lastStore cs w p) ≡ Done
     pub held : (p : ℕ) → 1 ≤ p → p ≤ P → JustThese (heldIn (lastStore cs w p)) (entriesOf n qs ts (ownersAfter n qs ss os ts) p)
     -- put together, in any order of the stores, they are the serial table
-    pub merges : (l : List ℕ) → Order P l → (rest : List ℕ) → 16 * full ≤ length (laid cs w l rest) → MergesTo (laid cs w l rest) ts
+    pub merges : (l : List ℕ) → Order P l → (rest : List ℕ) → mostParts * full ≤ length (laid cs w l rest) → MergesTo (laid cs w l rest) ts
     -- the owners after the step are accepted ones
     pub owners : T (ownersb n qs ts P (ownersAfter n qs ss os ts))
     -- a coarse cell keeps its master
@@ -111,7 +112,7 @@ module _ (n : ℕ) (qs : List (List ℕ)) (ss os : List ℕ) (P : ℕ) (cs : Cal
     pub number : (k ≡ 8) ⊎ (k ≡ 9)
     pub ended : (p : ℕ) → 1 ≤ p → p ≤ P → saysOf (lastStore cs w p) ≡ Ended k
     pub held : (p : ℕ) → 1 ≤ p → p ≤ P → heldIn (lastStore cs w p) ≡ entriesOf n qs ss os p
-    pub merges : (l : List ℕ) → Order P l → (rest : List ℕ) → 16 * full ≤ length (laid cs w l rest) → MergesTo (laid cs w l rest) ss
+    pub merges : (l : List ℕ) → Order P l → (rest : List ℕ) → mostParts * full ≤ length (laid cs w l rest) → MergesTo (laid cs w l rest) ss
 
 -- Rules 15.17 to 15.19: after the calls cs on the stores w of an accepted split.
 pub record Split3 (ps : List ℤ) (ts ss : List ℕ) (P : ℕ) (os : List ℕ) (w : Stores) (cs : Calls) : Type 0 where

@@ -15,6 +15,7 @@ use lib.Seq.{sets}
 use borrow.Author.Tests.{le-leb}
 use Rattle.base.specs.Fours.{fours}
 use Rattle.base.specs.Lists.{allb, memberb}
+use Rattle.base.specs.Limits.{mostCells, mostParts}
 use Rattle.base.specs.Refuse.{refuse, andThen}
 use Rattle.base.specs.declared.Answer.{Answer}
 use Rattle.base.specs.declared.Answer.the-variants.{Accepted, Refused}
@@ -45,8 +46,8 @@ use Rattle.demands.specs.Answered.{table-first}
 -- Rules 12.6, 15.14, 15.16.
 abbrev pub splitTests : List ℤ → List ℕ → List ℕ → ℕ → List ℕ → List ℕ → List Test
 splitTests ps ts ss P os b =
-    (15, leb (16 * full) (length b)) ∷ (tableTests ps ts ss
-    ++ ((10, leb 1 P && leb P 16) ∷ (11, ownersb (cornerCount ps) (fours ts) ss P os) ∷ []))
+    (15, leb (mostParts * full) (length b)) ∷ (tableTests ps ts ss
+    ++ ((10, leb 1 P && leb P mostParts) ∷ (11, ownersb (cornerCount ps) (fours ts) ss P os) ∷ []))
 
 -- Rules 15.6, 15.16.
 abbrev pub startTests : List ℕ → List ℕ → List Test
@@ -76,7 +77,7 @@ heldTests x rows = (15, leb full (length x) && leb fullHeld (length rows)) ∷ (
 
 -- Rules 15.12, 15.16.
 abbrev pub mergeTests : List ℕ → List ℕ → List Test
-mergeTests b t = (15, leb (16 * full) (length b) && leb 4096 (length t)) ∷ (16, mergeb b) ∷ []
+mergeTests b t = (15, leb (mostParts * full) (length b) && leb mostCells (length t)) ∷ (16, mergeb b) ∷ []
 
 -- a fetch, and what `stage` says, as an answer
 unfoldable pub fetchedAs : Fetched → Answer

@@ -11,6 +11,7 @@ use Prim.Native.Nat.{ℕ, _+_, _-_, _%_, pred}
 use lib.Dec.{eqb, leb}
 use lib.ListN.{length, replicate}
 use Rattle.base.specs.Bools.{one-if}
+use Rattle.base.specs.Limits.{mostLevels}
 use Rattle.base.specs.Range.{range}
 use Rattle.base.specs.Refuse.{refuse}
 use Rattle.base.specs.declared.Answer.{Answer}
@@ -43,7 +44,7 @@ heldIn x = map (entryIn x) (range 0 (field x ENTRIES))
 -- Rule 15.11: a path has the coarse cell and at most ten child numbers
 unfoldable pub entryRow : Entry → List ℕ
 unfolding one-if
-entryRow e = (one-if (e .ghost) ∷ e .status ∷ pred (length (e .path)) ∷ e .path) ++ replicate (11 - length (e .path)) 0
+entryRow e = (one-if (e .ghost) ∷ e .status ∷ pred (length (e .path)) ∷ e .path) ++ replicate (mostLevels - length (e .path)) 0
 
 -- Rule 15.11.
 unfoldable pub heldRows : List ℕ → List ℕ

@@ -11,6 +11,7 @@ use mathlib.Core.List.{List, [], _∷_, map, flatMap, flatten}
 use Prim.Native.Nat.{ℕ, _+_, _*_}
 use lib.Dec.{eqb, leb}
 use lib.ListN.{length, take, drop}
+use Rattle.base.specs.Limits.{mostCells, mostParts}
 use Rattle.base.specs.Lists.{allb, anyb}
 use Rattle.base.specs.Range.{range}
 use Rattle.base.specs.Refuse.{refuse}
@@ -87,7 +88,7 @@ mergeb b =
 -- Rules 15.12, 15.16.
 unfoldable pub mergeAnswer : List ℕ → List ℕ → Answer
 unfolding refuse mergeb
-mergeAnswer b t = refuse 15 (leb (16 * full) (length b) && leb 4096 (length t)) (refuse 16 (mergeb b) Accepted)
+mergeAnswer b t = refuse 15 (leb (mostParts * full) (length b) && leb mostCells (length t)) (refuse 16 (mergeb b) Accepted)
 
 -- Rule 15.12: what `merge` answers: how many cells the table has
 unfoldable pub mergedOf : Answer → ℕ → Merged

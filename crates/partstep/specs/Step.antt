@@ -10,6 +10,7 @@ use mathlib.Core.List.{List}
 use Prim.Native.Nat.{ℕ, _+_, _-_, _*_, _/_, _%_}
 use lib.Dec.{eqb, ltb, leb}
 use lib.ListN.{length, set}
+use Rattle.base.specs.Limits.{mostCells, mostLevels}
 use Rattle.base.specs.Refuse.{refuse}
 use Rattle.base.specs.declared.Answer.{Answer}
 use Rattle.base.specs.declared.Answer.the-variants.{Accepted, Refused}
@@ -50,7 +51,8 @@ enterTotals x = postEnd (postTotals (eachFrom placeCell (field x CELLS) 0 (clear
 
 -- Rules 7.8, 15.10.
 unfoldable pub endNumber : List ℕ → ℕ
-endNumber x = elim (leb 11 (field x HIGH)) [ true ↦ 8 | false ↦ elim (leb (field x TOTAL) 4096) [ true ↦ 0 | false ↦ 9 ] ]
+endNumber x =
+    elim (leb mostLevels (field x HIGH)) [ true ↦ 8 | false ↦ elim (leb (field x TOTAL) mostCells) [ true ↦ 0 | false ↦ 9 ] ]
 
 -- Rule 15.10.
 unfoldable pub oldPlaces : List ℕ → List ℕ

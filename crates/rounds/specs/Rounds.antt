@@ -10,6 +10,7 @@ use mathlib.Core.List.{List, [], _∷_, _++_, map}
 use Prim.Native.Nat.{ℕ, zero, suc, _+_, _-_, min, max}
 use lib.Dec.{eqb, ltb}
 use lib.ListN.{length}
+use Rattle.base.specs.Limits.{tooMany}
 use Rattle.base.specs.Lists.{anyb, filterb, memberb}
 use Rattle.exchange.specs.Finite.{Finite, sumOver}
 use Rattle.rounds.specs.Task.{Task, has, rule}
@@ -74,7 +75,7 @@ topIn (total n h) = h
 topIn end = 0
 
 abbrev pub capped : ℕ → ℕ
-capped n = min n 4097
+capped n = min n tooMany
 
 unfoldable pub largest : {A : Type 0} → (A → ℕ) → List A → ℕ
 largest f [] = 0

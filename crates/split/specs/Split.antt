@@ -12,6 +12,7 @@ use lib.ListN.{length, getD, drop, replicate}
 use lib.IntN.{ℤ}
 use Rattle.base.specs.Bools.{one-if}
 use Rattle.base.specs.Fours.{fours}
+use Rattle.base.specs.Limits.{mostCoarseCells, mostCells, mostParts, mostSlots}
 use Rattle.base.specs.Range.{range}
 use Rattle.base.specs.Refuse.{refuse, andThen}
 use Rattle.base.specs.declared.Answer.{Answer}
@@ -33,7 +34,7 @@ module _ (n : ℕ) (qs : List (List ℕ)) (ss : List ℕ) (P : ℕ) (os : List �
   -- Rule 15.3: of other cells a part knows nothing
   unfoldable pub byCell : (ℕ → ℕ) → List ℕ
   unfolding holdsCell range
-  byCell f = map (λ c. elim (ltb c (length ss) && holdsCell n qs ss os p c) [ true ↦ f c | false ↦ 0 ]) (range 0 4096)
+  byCell f = map (λ c. elim (ltb c (length ss) && holdsCell n qs ss os p c) [ true ↦ f c | false ↦ 0 ]) (range 0 mostCells)
 
   -- Rule 3.3.
   abbrev pub placeAlong : ℕ → Place
@@ -65,8 +66,8 @@ module _ (n : ℕ) (qs : List (List ℕ)) (ss : List ℕ) (P : ℕ) (os : List �
       ++ byCell (firstChild (length qs) ss) ++ byCell (λ c. nthCell n qs ss c .parent)
       ++ byCell (λ c. placeAlong c .head) ++ byCell (λ c. placeAlong c .digits) ++ byCell (λ c. placeAlong c .more)
       ++ byCell (innerBits n qs ss) ++ replicate 8192 0
-      ++ flatMap fourOf (range 0 256) ++ flatMap sixOf (range 0 4096)
-      ++ map holdersAt (range 0 24576) ++ replicate 24576 0
+      ++ flatMap fourOf (range 0 mostCoarseCells) ++ flatMap sixOf (range 0 mostCells)
+      ++ map holdersAt (range 0 mostSlots) ++ replicate mostSlots 0
 
 -- Rule 15.5.
 unfoldable pub storesAfter : ℕ → List (List ℕ) → List ℕ → ℕ → List ℕ → List ℕ → List ℕ
@@ -78,8 +79,8 @@ storesAfter n qs ss P os b =
 unfoldable pub splitAnswer : List ℤ → List ℕ → List ℕ → ℕ → List ℕ → List ℕ → Answer
 unfolding refuse andThen tableAnswer ownersb
 splitAnswer ps ts ss P os b =
-    refuse 15 (leb (16 * full) (length b)) (andThen (tableAnswer ps ts ss)
-    (refuse 10 (leb 1 P && leb P 16) (refuse 11 (ownersb (cornerCount ps) (fours ts) ss P os) Accepted)))
+    refuse 15 (leb (mostParts * full) (length b)) (andThen (tableAnswer ps ts ss)
+    (refuse 10 (leb 1 P && leb P mostParts) (refuse 11 (ownersb (cornerCount ps) (fours ts) ss P os) Accepted)))
 
 -- Rule 15.5: a refused call changes nothing
 unfoldable pub splitIn : Answer → List ℕ → List ℕ → List ℕ

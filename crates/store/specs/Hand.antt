@@ -10,6 +10,7 @@ use mathlib.Core.Path.{_≡_}
 use Prim.Native.Nat.{ℕ, suc, _+_, _-_, _*_, _%_, _≤_, _<_, min, max}
 use lib.Dec.{eqb, ltb, leb}
 use lib.ListN.{length, getD, set}
+use Rattle.base.specs.Limits.{mostCells, mostLevels, mostSlots, tooMany}
 use Rattle.base.specs.Refuse.{refuse}
 use Rattle.base.specs.declared.Answer.{Answer}
 use Rattle.base.specs.declared.Answer.the-variants.{Accepted, Refused}
@@ -49,12 +50,12 @@ ghostMarkb x m = ltb (numberAt m 5) (field x CELLS) && (not (eqb (field x (OWNER
 
 -- Rule 15.15.
 unfoldable pub edgeCountb : List ℕ → List ℕ → Bool
-edgeCountb x m = ltb (numberAt m 5) 24576 && (not (eqb (field x (HOLDERS + numberAt m 5)) 0)
-    && (leb 1 (numberAt m 7) && leb (numberAt m 7) 4096))
+edgeCountb x m = ltb (numberAt m 5) mostSlots && (not (eqb (field x (HOLDERS + numberAt m 5)) 0)
+    && (leb 1 (numberAt m 7) && leb (numberAt m 7) mostCells))
 
 -- Rule 15.15.
 unfoldable pub cellTotalb : List ℕ → Bool
-cellTotalb m = leb (numberAt m 5) 4097 && leb (getD m 7 0) 11
+cellTotalb m = leb (numberAt m 5) tooMany && leb (getD m 7 0) mostLevels
 
 -- Rule 15.15.
 unfoldable pub contentb : List ℕ → List ℕ → Bool
@@ -107,7 +108,7 @@ absorbed x m =
         | true ↦ set x (SUM + numberAt m 5) ((field x (SUM + numberAt m 5) + numberAt m 7) % 65536)
         | false ↦ elim (eqb (getD m 0 0) 3) [
           | true ↦
-              set (set x TOTAL (min (field x TOTAL + numberAt m 5) 4097)) HIGH (max (field x HIGH) (getD m 7 0))
+              set (set x TOTAL (min (field x TOTAL + numberAt m 5) tooMany)) HIGH (max (field x HIGH) (getD m 7 0))
           | false ↦ set x (ENDED + getD m 1 0) ((field x (ENDED + getD m 1 0) + 1) % 65536)
         ]
       ]

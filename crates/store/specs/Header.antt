@@ -5,6 +5,7 @@ use mathlib.Core.Bool.{Bool, true, false, _&&_, _||_}
 use mathlib.Core.List.{List}
 use Prim.Native.Nat.{ℕ, _+_, _*_}
 use lib.Dec.{eqb, leb}
+use Rattle.base.specs.Limits.{mostCoarseCorners, mostCoarseCells, mostCells, mostLevels, mostParts}
 use Rattle.store.specs.Fields.{field, STAGE, PART, PARTS, CORNERS, COARSE, CELLS, LEVELS, ROUND, RESULT, ENTRIES}
 
 -- Rule 15.16.
@@ -23,7 +24,9 @@ stageb x =
 unfoldable pub headerb : List ℕ → Bool
 unfolding stageb
 headerb x =
-    leb 1 (field x PARTS) && (leb (field x PARTS) 16 && (leb 1 (field x PART) && (leb (field x PART) (field x PARTS)
-    && (leb 4 (field x CORNERS) && (leb (field x CORNERS) 512 && (leb 1 (field x COARSE) && (leb (field x COARSE) 256
-    && (leb (field x COARSE) (field x CELLS) && (leb (field x CELLS) 4096 && (leb 1 (field x LEVELS) && (leb (field x LEVELS) 11
-    && (leb (field x ENTRIES) 4096 && stageb x))))))))))))
+    leb 1 (field x PARTS) && (leb (field x PARTS) mostParts && (leb 1 (field x PART) && (leb (field x PART) (field x PARTS)
+    && (leb 4 (field x CORNERS) && (leb (field x CORNERS) mostCoarseCorners
+    && (leb 1 (field x COARSE) && (leb (field x COARSE) mostCoarseCells
+    && (leb (field x COARSE) (field x CELLS) && (leb (field x CELLS) mostCells
+    && (leb 1 (field x LEVELS) && (leb (field x LEVELS) mostLevels
+    && (leb (field x ENTRIES) mostCells && stageb x))))))))))))
