@@ -327,8 +327,8 @@ record PlayedOut : Type 0 where
 played-out : PlayedOut
 unfolding moves changed answer answerAt acceptsb does calls begin first mail B pt slotsOfB pathsOfB family fins Fin-discrete taking phase
     starting writing grownOf orderOf upFrom packed parcel numbered pick upd wholeFrom wholeb given nextb bodyIn startb ownersOfB marksFrom
-    call hands fetches endBy counted totalled marked summed Option·elim markb marksb play startedWith begun putTogether roundIn resultOf holds
-    share after lawfulb fairb toCome
+    call hands fetches endBy counted totalled marked summed Option·elim markb marksb play startedWith begun putTogether roundIn resultOf
+    holds share after lawfulb fairb toCome
 played-out = record {
   lawful = refl;
   moved = refl;

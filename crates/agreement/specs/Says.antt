@@ -37,7 +37,8 @@ use Rattle.partstep.specs.Step.{readyb, partAnswer, partAfter}
 use Rattle.held.specs.Held.{stageAnswer, stageOf, progressOf, entryIn, heldIn}
 use Rattle.held.specs.declared.Progress.{Progress}
 use Rattle.held.specs.declared.Progress.the-variants as progress
-use Rattle.outcome.specs.Program.{yields, gives, nine, act}
+use Rattle.outcome.specs.Program.{gives, nine, act}
+use Rattle.outcome.specs.Machines.{some-accepted}
 use Rattle.agreement.specs.Terms.{Calls, Stores, saysOf, doneb}
 
 -- what is said, by what it rests on
@@ -172,11 +173,6 @@ fetch-same x = go (givesb x nine) refl
         (λ i l. passed-else x s i (λ z. omega arith) (λ z. omega arith) (λ z. omega arith)))
 
 -- what an accepted call leaves
-yields-is : (a : Answer) (z : List ℕ) (y : List ℕ × List (List ℕ)) → yields a z ≡ some y → a ≡ Accepted
-unfolding yields
-yields-is Accepted z y e = refl
-yields-is (Refused k) z y e = let c : _≡_ {A = ℕ} 0 1 = cc in absurd (omega arith)
-
 gives-is : (a : Fetched) (b z : List ℕ) (y : List ℕ × List (List ℕ)) → gives a b z ≡ some y → z ≡ y .0
 unfolding gives
 gives-is (Message n) b z y e = cc
@@ -186,9 +182,9 @@ gives-is (FetchRefused k) b z y e = let c : _≡_ {A = ℕ} 0 1 = cc in absurd (
 kept-by : (c : Request (List ℕ) (List ℕ)) (x : List ℕ) (y : List ℕ × List (List ℕ)) → field x STAGE ≡ 2 → act c x ≡ some y
     → SameSays x (y .0)
 unfolding act
-kept-by (Start ms) x y s e = absurd (no-start x s ms (yields-is (startAnswer x ms) (startAfter x ms) y e))
-kept-by Step x y s e = absurd (no-step x s (yields-is (partAnswer x) (partAfter x) y e))
-kept-by (Hand m) x y s e = absurd (no-hand x s m (yields-is (handAnswer x m) (handAfter x m) y e))
+kept-by (Start ms) x y s e = absurd (no-start x s ms (some-accepted (startAnswer x ms) (startAfter x ms) y e))
+kept-by Step x y s e = absurd (no-step x s (some-accepted (partAnswer x) (partAfter x) y e))
+kept-by (Hand m) x y s e = absurd (no-hand x s m (some-accepted (handAnswer x m) (handAfter x m) y e))
 kept-by Fetch x y s e = subst (SameSays x) (gives-is (fetchAnswer x nine) (fetchBytes x nine) (fetchAfter x nine) y e) (fetch-same x)
 
 -- none to send is the answer of a part that has started

@@ -9,8 +9,9 @@ use mathlib.Core.Path.{_≡_, refl, sym, _∙_, ap}
 use mathlib.Core.List.{List, [], _∷_, _++_, map, append-assoc, append-nil, flatten}
 use Prim.Native.Nat.{ℕ, suc, _+_, _≤_, _<_}
 use native.Mathlib.Omega.{arith}
-use lib.ListN.{length, getD, drop, set, length-drop, length-append, length-map}
+use lib.ListN.{length, getD, drop, set, length-append, length-map}
 use lib.Seq.{getD-drop, drop-drop}
+use Rattle.base.specs.Append.{front-length}
 use Rattle.archive.specs.Form.{whole}
 use Rattle.archive.specs.Tables.{Mark, cellOf, markOf, markedOf, marksOf, endsOf, endsAfter}
 use Rattle.archive.specs.Scan.{markIn, ScanAt, on-start, on-mark, on-step}
@@ -52,9 +53,6 @@ pub record Load (bs : List ℕ) (from : ℕ) (cs₀ ks₀ es₀ cs ks es : List 
   pub cells : cs ≡ map cellOf (passed on) ++ drop m cs₀
   pub marks : ks ≡ map markOf (passed on) ++ drop m ks₀
   pub ends : es ≡ endsOf (on .done) ++ drop s es₀
-
-front-length : (l t : List ℕ) (m : ℕ) → length l ≡ m → m ≤ length t → length (l ++ drop m t) ≡ length t
-front-length l t m e h = omega (arith, length-append l (drop m t), length-drop m t)
 
 module _ {bs : List ℕ} {from : ℕ} {cs₀ ks₀ es₀ : List ℕ} (f : StepsFit bs from cs₀ ks₀ es₀) where
   pub load-start : Load bs from cs₀ ks₀ es₀ cs₀ ks₀ es₀ from 0 0

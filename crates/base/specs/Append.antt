@@ -1,13 +1,14 @@
 -- Lists one behind the other.
 -- Laws: allb-append, anyb-append, filter-append (tests and filters), flat-snoc (one element more), sets-append (numbers written one behind
--- the other).
+-- the other), front-length (a list put in front of another).
 use mathlib.Core.Path.{_≡_, refl, sym, _∙_, ap}
 use mathlib.Core.Bool.{Bool, true, false, _||_}
 use mathlib.Core.List.{List, [], _∷_, _++_, flatMap, append-assoc, append-nil}
-use Prim.Native.Nat.{ℕ, suc, _+_}
+use Prim.Native.Nat.{ℕ, suc, _+_, _≤_}
 use native.Mathlib.Nat.{add-zero, add-suc, suc-add}
+use native.Mathlib.Omega.{arith}
 use lib.Dec.{T}
-use lib.ListN.{length, set}
+use lib.ListN.{length, drop, set, length-append, length-drop}
 use lib.Seq.{sets}
 use Rattle.base.specs.Bools.{and-left, and-right, and-both}
 use Rattle.base.specs.Lists.{allb, anyb, filterb}
@@ -47,3 +48,6 @@ flat-snoc f (x ∷ l) a = rw (flat-snoc f l a) (sym (append-assoc (f x) (flatMap
 pub sets-append : (xs ys l : List ℕ) (i : ℕ) → sets l i (xs ++ ys) ≡ sets (sets l i xs) (i + length xs) ys
 sets-append [] ys l i = rw add-zero
 sets-append (x ∷ xs) ys l i = sets-append xs ys (set l i x) (suc i) ∙ rw (suc-add i (length xs), add-suc i (length xs))
+
+pub front-length : {A : Type 0} (b l : List A) (n : ℕ) → length b ≡ n → n ≤ length l → length (b ++ drop n l) ≡ length l
+front-length b l n e h = omega (arith, length-append b (drop n l), length-drop n l)

@@ -33,7 +33,7 @@ bits-more es c (suc (suc (suc (suc zero)))) h = refl
 bits-more es c (suc (suc (suc (suc (suc zero))))) h = refl
 bits-more es c (suc (suc (suc (suc (suc (suc e)))))) h = absurd (omega arith)
 
-pub no-bits : (es : List Pair) (c : Cell ℕ) → bitsOf (drop 6 (tests es c)) ≡ 0
+no-bits : (es : List Pair) (c : Cell ℕ) → bitsOf (drop 6 (tests es c)) ≡ 0
 unfolding bitsOf edges
 no-bits es c = refl
 

@@ -79,10 +79,10 @@ pub six : (c : Cell ℕ) → length (edges 0 c) ≡ 6
 unfolding edges
 six c = refl
 
-pub next-edge : (c : Cell ℕ) (e : ℕ) → e < 6 → take (suc e) (edges 0 c) ≡ take e (edges 0 c) ++ (edge 0 c e ∷ [])
+next-edge : (c : Cell ℕ) (e : ℕ) → e < 6 → take (suc e) (edges 0 c) ≡ take e (edges 0 c) ++ (edge 0 c e ∷ [])
 next-edge c e h = take-suc (edges 0 c) e (0, 0) (rw (six c) h) ∙ ap (λ (p : Pair). take e (edges 0 c) ++ (p ∷ [])) (edge-at c e h)
 
-pub length-edges : (c : Cell ℕ) (e : ℕ) → e ≤ 6 → length (take e (edges 0 c)) ≡ e
+length-edges : (c : Cell ℕ) (e : ℕ) → e ≤ 6 → length (take e (edges 0 c)) ≡ e
 length-edges c e h = length-take-le e (edges 0 c) (rw (six c) h)
 
 pub all-edges : (c : Cell ℕ) → take 6 (edges 0 c) ≡ edges 0 c

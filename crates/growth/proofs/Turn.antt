@@ -53,7 +53,7 @@ module _ (p : ℕ) (c : Cell ℕ) where
             (filterb (split p) (drop e edgeNumbers)),
       ))
 
-pub splits-all : (s : ℕ) (c : Cell ℕ) → splitsTo (patternOf s) c 6 ≡ splitEdges 0 c s
+splits-all : (s : ℕ) (c : Cell ℕ) → splitsTo (patternOf s) c 6 ≡ splitEdges 0 c s
 unfolding splitsTo splitEdges
 splits-all s c = refl
 
@@ -202,7 +202,7 @@ module _ (c : Cell ℕ) (p n : ℕ) (xs₀ ys₀ heads₀ links₀ : List ℕ) (
               (splitAt p c e),
         )
 
-    pub turn-room : Space xs₀ ys₀ links₀ m (length (splitsTo p c 6)) → Space xs ys links k (length (splitAt p c e))
+    turn-room : Space xs₀ ys₀ links₀ m (length (splitsTo p c 6)) → Space xs ys links k (length (splitAt p c e))
     turn-room s =
         record {
           small = omega (arith, within, s .small);
@@ -211,7 +211,7 @@ module _ (c : Cell ℕ) (p n : ℕ) (xs₀ ys₀ heads₀ links₀ : List ℕ) (
           in-links = omega (arith, within, s .in-links, r .links-long);
         }
 
-    pub turn-small : n + m + length (splitsTo p c 6) < 65536 → n + k < 65536
+    turn-small : n + m + length (splitsTo p c 6) < 65536 → n + k < 65536
     turn-small s = omega (arith, within)
 
     pub turn-more : (xs′ ys′ heads′ links′ ps′ : List ℕ) (k′ : ℕ) → length xs′ ≡ length xs → length ys′ ≡ length ys

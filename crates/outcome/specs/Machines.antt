@@ -66,7 +66,7 @@ accepted-some : (a : Answer) (y : List ℕ) → a ≡ Accepted → yields a y �
 unfolding yields
 accepted-some a y e = ap (λ (b : Answer). yields b y) e
 
-some-accepted : (a : Answer) (y : List ℕ) (w : List ℕ × List (List ℕ)) → yields a y ≡ some w → a ≡ Accepted
+pub some-accepted : (a : Answer) (y : List ℕ) (w : List ℕ × List (List ℕ)) → yields a y ≡ some w → a ≡ Accepted
 unfolding yields
 some-accepted Accepted y w e = refl
 some-accepted (Refused k) y w e = no-some e

@@ -45,14 +45,14 @@ module _ (f : ℕ → Bool) where
       later false q w z = record { below = rw (z, q, filterb) (w .below); is = rw (z, q, filterb) (w .is) }
 
 module _ (os : List ℕ) (c : ℕ) (h : c < length os) where
-  pub place-below : placeOn os c < length (mastersOn os (getD os c 0))
+  place-below : placeOn os c < length (mastersOn os (getD os c 0))
   unfolding placeOn mastersOn masterb
   place-below =
       let z : c - 0 ≡ c = omega arith in
       rw z at (filter-place (masterb os (getD os c 0)) 0 (length os) c (omega arith) (omega arith)
       (eq-eqb (getD os c 0) (getD os c 0) refl) .below)
 
-  pub place-is : getD (mastersOn os (getD os c 0)) (placeOn os c) 0 ≡ c
+  place-is : getD (mastersOn os (getD os c 0)) (placeOn os c) 0 ≡ c
   unfolding placeOn mastersOn masterb
   place-is =
       let z : c - 0 ≡ c = omega arith in
@@ -67,7 +67,7 @@ each-at (s ∷ ss) [] t i h = absurd t
 each-at (s ∷ ss) (m ∷ ms) t zero h = and-left (markb s m) (marksb ss ms) t
 each-at (s ∷ ss) (m ∷ ms) t (suc i) h = each-at ss ms (and-right (markb s m) (marksb ss ms) t) i (omega arith)
 
-pub each-from : (ss ms : List ℕ) → length ms ≡ length ss → ((i : ℕ) → i < length ss → T (markb (getD ss i 0) (getD ms i 0)))
+each-from : (ss ms : List ℕ) → length ms ≡ length ss → ((i : ℕ) → i < length ss → T (markb (getD ss i 0) (getD ms i 0)))
     → T (marksb ss ms)
 unfolding marksb
 each-from [] [] e g = tt

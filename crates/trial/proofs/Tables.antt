@@ -3,7 +3,6 @@
 --   tabbed-start, tabbed-length, tabbed-more, tabbed-front, tabbed-all
 --   fill-next               the number behind a filling's k-th
 --   check-next, check-end   one element more, and none left
---   front-length             bytes put in front of a list leave its length
 --   front-false, front-fit   what reading bytes leaves where it is answered false, and where they fit
 --   list-none, list-all      what reading numbers leaves where it is answered false, and where it is answered true
 --   mesh-first, mesh-both    a mesh of which the coordinates were not read, and one of which they were
@@ -36,7 +35,7 @@ module _ {A : Type 0} (g : ℕ → A) where
     tabbed-start = record { within = omega arith; table = refl }
 
     module _ {t : List A} {k : ℕ} (f : Tabbed t₀ t k) where
-      pub tabbed-length : length t ≡ length t₀
+      tabbed-length : length t ≡ length t₀
       tabbed-length =
           rw (f .table) (omega (arith, length-append (tabOf g k) (drop k t₀), length-tab k, length-drop k t₀, f .within))
 
@@ -71,9 +70,6 @@ module _ {A : Type 0} (f : A → ℕ) (s : ℕ) (l : List A) (i : ℕ) where
   pub check-end : length l ≤ i → checkFrom f s (drop i l) ≡ s
   unfolding checkFrom
   check-end h = rw (drop-of-length-le l h)
-
-pub front-length : (b l : List ℕ) (n : ℕ) → length b ≡ n → n ≤ length l → length (b ++ drop n l) ≡ length l
-front-length b l n e h = omega (arith, length-append b (drop n l), length-drop n l)
 
 module _ {n : ℕ} {l l′ : List ℕ} where
   pub front-false : drop n l′ ≡ drop n l → length l′ ≡ length l → FrontRead false n l l′

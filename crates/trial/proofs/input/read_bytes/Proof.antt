@@ -7,7 +7,8 @@ use lib.Seq.{drop-at, length-take-le}
 use borrow.Rule.Slice.PartMut.{post-is}
 use native.Mathlib.Omega.{arith}
 use borrow.Author.Needs.{needs}
-use Rattle.trial.proofs.Tables.{front-false, front-fit, front-length}
+use Rattle.base.specs.Append.{front-length}
+use Rattle.trial.proofs.Tables.{front-false, front-fit}
 use Rattle.trial.proofs.input.read_bytes.Statement.{statement}
 use Rattle.trial.proofs.input.read_bytes.Tie as tie
 
