@@ -1,2 +1,3 @@
 pub mod CoarseRows
 pub mod Turns
+pub mod Empty

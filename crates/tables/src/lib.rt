@@ -6,6 +6,7 @@ ghost use lib.ListN.{length, take};
 ghost use Rattle.base.specs.Fours.{fours};
 ghost use Rattle.base.specs.Lent.{was, is};
 ghost use Rattle.cutting.specs.Answer.{digitTable};
+ghost use Rattle.pairs.specs.Keys.{Clear};
 ghost use Rattle.tables.specs.Checked.{Statuses, Reds, Checked};
 ghost use Rattle.tables.specs.Start.{Coarse, coarseRow};
 ghost use Rattle.tables.specs.Sound.{Mesh, Examined};
@@ -101,7 +102,7 @@ pub fn lay_coarse(mesh: &[u16], rows: &mut [u16; 32768]) -> usize
 }
 
 // Builds a table of few statuses level by level, and examines it. The tables from xs to mid_links are for the work, whatever they
-// hold, and `digits` is the cutting table.
+// hold but for the two of heads, which are empty, and `digits` is the cutting table.
 fn build(
     mesh: &[u16],
     status: &[u8],
@@ -120,10 +121,9 @@ fn build(
     requires { ⌜ Mesh n (now mesh) ⌝ }
     requires { ⌜ Statuses (now status) ⌝ }
     requires { ⌜ now digits ≡ digitTable ⌝ }
+    requires { ⌜ Clear (now heads) × Clear (now «mid_heads») ⌝ }
     ensures { λ r. ⌜ Examined n (fours (was mesh)) (was status) (is rows) (is ps) (is qs) (r .refusal) (r .cells) (r .levels) (r .mids) ⌝ }
 {
-    pairs::clear(heads);
-    pairs::clear(mid_heads);
     let coarse = lay_coarse(mesh, rows);
     let mut first = 0;
     let mut last = coarse;
@@ -197,9 +197,9 @@ pub fn examine(
     }
     let mut xs = [0u32; 3072];
     let mut ys = [0u32; 3072];
-    let mut heads = [0u16; 4096];
+    let mut heads = [65535u16; 4096];
     let mut links = [0u16; 3072];
-    let mut mid_heads = [0u16; 4096];
+    let mut mid_heads = [65535u16; 4096];
     let mut mid_links = [0u16; 4096];
     let digits = cutting::digit_table();
     build(

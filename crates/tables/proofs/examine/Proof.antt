@@ -4,6 +4,7 @@ use mathlib.Core.Path.{sym, _∙_}
 use borrow.Author.Tests.{not-true, not-false}
 use Rattle.base.specs.Fours.{fours}
 use Rattle.tables.specs.Finish.{unsound-examined, unsound-long, unsound-status}
+use Rattle.tables.proofs.Empty.{clear-new}
 use borrow.Author.Needs.{needs}
 use Rattle.tables.proofs.examine.Statement.{statement}
 use Rattle.tables.proofs.examine.Tie as tie
@@ -49,7 +50,10 @@ build-requires c
           fit = sym (c .before .before .before .before .before .before .before .before .before .before .before .before .fits2 .ensures)
               ∙ not-false _ (c .before .before .before .before .before .before .before .before .before .before .before .if2 .left);
         },
-        c .before .before .before .before .before .before .before .before .before .before .digit-table .ensures,
+        (
+          c .before .before .before .before .before .before .before .before .before .before .digit-table .ensures,
+          (clear-new, clear-new),
+        ),
       ),
     )
 
