@@ -33,6 +33,19 @@ fresh heads e =
           omega arith;
     }
 
+-- the same tables with other heads
+pub tables-on : {xs ys heads links counts : List ℕ} → Tables xs ys heads links counts → (heads′ : List ℕ) → length heads′ ≡ length heads
+    → Tables xs ys heads′ links counts
+tables-on t heads′ e =
+    record {
+      in-xs = t .in-xs;
+      in-ys = t .in-ys;
+      in-heads = omega (arith, t .in-heads);
+      in-links = t .in-links;
+      in-counts = t .in-counts;
+      short = t .short;
+    }
+
 module _ {ts : List ℕ} (r : Ranked ts) where
   -- of the cells, k have been counted
   module _ {xs ys heads links counts : List ℕ} {n k : ℕ} (s : Sofar lead lowCell 1 (fours ts) xs ys heads links counts n k) where

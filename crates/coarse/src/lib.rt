@@ -13,7 +13,7 @@ ghost use Rattle.cutting.specs.Rule.{zerob};
 ghost use Rattle.mesh.specs.Coarse.{countsb, positionsb, cellb, cellsb, coordinateAt, determinant, solidb, twiceb, singleb, meshAnswer};
 ghost use Rattle.coarse.specs.Cells.{cornersOfCell, faceCorners, faceOfFour, PlacedCells, Ranked, crowdedb};
 ghost use Rattle.coarse.specs.Volume.{Small, CornerThere, CornersThere, edgeVector, termOf};
-ghost use Rattle.coarse.specs.Tally.{Open, Tallied};
+ghost use Rattle.coarse.specs.Tally.{Tables, Open, Tallied};
 
 // A cell's corner numbers.
 struct Cell {
@@ -213,32 +213,27 @@ fn pair(a: u16, b: u16) -> u32
     a as u32 * 512 + b as u32
 }
 
-// No two cells have the same corners.
-fn cells_differ(cells: &[u16]) -> bool
+// No two cells have the same corners. The five tables are for the work, whatever they hold; so it is for the faces.
+fn cells_differ(
+    cells: &[u16],
+    xs: &mut [u32; 1024],
+    ys: &mut [u32; 1024],
+    heads: &mut [u16; 4096],
+    links: &mut [u16; 1024],
+    counts: &mut [u8; 1024],
+) -> bool
     requires { ⌜ Ranked (now cells) ⌝ }
+    requires { ⌜ Tables (now xs) (now ys) (now heads) (now links) (now counts) ⌝ }
     ensures { λ r. ⌜ r ≡ not (twiceb (fours (was cells))) ⌝ }
+    ensures { λ r. ⌜ Tables (is xs) (is ys) (is heads) (is links) (is counts) ⌝ }
 {
-    let mut xs = [0u32; 1024];
-    let mut ys = [0u32; 1024];
-    let mut heads = [0u16; 4096];
-    let mut links = [0u16; 1024];
-    let mut counts = [0u8; 1024];
-    pairs::clear(&mut heads);
+    pairs::clear(heads);
     let mut n: usize = 0;
     for k in 0..cells.len() / 4 {
         let q = cell_at(cells, k);
         let x = pair(q.a, q.b);
         let y = pair(q.c, q.d);
-        let t = tally(
-            &mut xs,
-            &mut ys,
-            &mut heads,
-            &mut links,
-            &mut counts,
-            n,
-            x,
-            y,
-        );
+        let t = tally(xs, ys, heads, links, counts, n, x, y);
         if t.count > 1 {
             return false;
         }
@@ -283,31 +278,25 @@ fn face_at(cells: &[u16], i: usize) -> Face
 }
 
 // No face is in three cells.
-fn faces_ok(cells: &[u16]) -> bool
+fn faces_ok(
+    cells: &[u16],
+    xs: &mut [u32; 1024],
+    ys: &mut [u32; 1024],
+    heads: &mut [u16; 4096],
+    links: &mut [u16; 1024],
+    counts: &mut [u8; 1024],
+) -> bool
     requires { ⌜ Ranked (now cells) ⌝ }
+    requires { ⌜ Tables (now xs) (now ys) (now heads) (now links) (now counts) ⌝ }
     ensures { λ r. ⌜ r ≡ not (crowdedb (fours (was cells))) ⌝ }
 {
-    let mut xs = [0u32; 1024];
-    let mut ys = [0u32; 1024];
-    let mut heads = [0u16; 4096];
-    let mut links = [0u16; 1024];
-    let mut counts = [0u8; 1024];
-    pairs::clear(&mut heads);
+    pairs::clear(heads);
     let mut n: usize = 0;
     for i in 0..cells.len() {
         let f = face_at(cells, i);
         let x = pair(f.a, f.b);
         let y = f.c as u32;
-        let t = tally(
-            &mut xs,
-            &mut ys,
-            &mut heads,
-            &mut links,
-            &mut counts,
-            n,
-            x,
-            y,
-        );
+        let t = tally(xs, ys, heads, links, counts, n, x, y);
         if t.count > 2 {
             return false;
         }
@@ -321,10 +310,15 @@ fn single(cells: &[u16]) -> bool
     requires { ⌜ Ranked (now cells) ⌝ }
     ensures { λ r. ⌜ r ≡ singleb (fours (was cells)) ⌝ }
 {
-    if !cells_differ(cells) {
+    let mut xs = [0u32; 1024];
+    let mut ys = [0u32; 1024];
+    let mut heads = [0u16; 4096];
+    let mut links = [0u16; 1024];
+    let mut counts = [0u8; 1024];
+    if !cells_differ(cells, &mut xs, &mut ys, &mut heads, &mut links, &mut counts) {
         return false;
     }
-    faces_ok(cells)
+    faces_ok(cells, &mut xs, &mut ys, &mut heads, &mut links, &mut counts)
 }
 
 // Whether a coarse mesh is accepted, and if not, why.

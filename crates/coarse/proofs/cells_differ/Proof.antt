@@ -9,7 +9,7 @@ use borrow.Author.Needs.{needs}
 use Rattle.base.specs.Fours.{fours}
 use Rattle.coarse.specs.Tally.{lead, lowCell}
 use Rattle.coarse.proofs.Meets.{Sofar, meets-start}
-use Rattle.coarse.proofs.Turns.{fresh, cells-open, cells-turn, cells-over, cells-end}
+use Rattle.coarse.proofs.Turns.{tables-on, cells-open, cells-turn, cells-over, cells-end}
 use Rattle.coarse.proofs.cells_differ.Statement.{statement}
 use Rattle.coarse.proofs.cells_differ.Tie as tie
 
@@ -25,19 +25,16 @@ abbrev top : tie.After-cell-at Inv-loop μ-loop → tie.At-loop Inv-loop μ-loop
 top c = c .before .before
 
 abbrev entry : tie.At-loop Inv-loop μ-loop → tie.Start Inv-loop μ-loop
-entry c = c .before .before .before .before .before
-
-slice-aggregate-clear : tie.Need-slice-aggregate-clear Inv-loop μ-loop
-slice-aggregate-clear c = search needs
+entry c = c .before .before .before .before
 
 clear-requires : tie.Need-clear-requires Inv-loop μ-loop
 clear-requires c κs = search needs
 
 loop-holds : tie.Need-loop-holds Inv-loop μ-loop
 loop-holds c =
-    let s = c .before .before .before .before in
-    let k = c .before .clear in
-    (omega arith, refl, meets-start lead lowCell 1 (fours (s .args .cells .now)) (fresh (k .last .0) (k .kept .0)) (k .ensures))
+    let s = c .before .before .before in
+    let k = c .clear in
+    (omega arith, refl, meets-start lead lowCell 1 (fours (s .args .cells .now)) (tables-on (s .pre .1) (k .last .0) (k .kept .0)) (k .ensures))
 
 cell-at-requires : tie.Need-cell-at-requires Inv-loop μ-loop
 cell-at-requires c κs = c .loop-test .taken
@@ -53,7 +50,7 @@ tally-requires c κs =
     let p = c .before .before .before .before .before in
     let q = p .before .before in
     let l = top q in
-    cells-open (entry l .pre) (l .loop .inv .2) (q .before .loop-test .taken) (p .before .pair .result) (p .pair2 .result)
+    cells-open (entry l .pre .0) (l .loop .inv .2) (q .before .loop-test .taken) (p .before .pair .result) (p .pair2 .result)
 
 returns : tie.Need-returns Inv-loop μ-loop
 unfolding lead lowCell
@@ -61,9 +58,11 @@ returns c =
     let a = c .before .before in
     let p = a .before .before .before .before .before .before in
     let q = p .before .before in
-    let l = top q in
-    cells-over (entry l .pre) (l .loop .inv .2) (q .before .loop-test .taken) (q .cell-at .ensures) (p .before .pair .ensures)
-    (p .pair2 .ensures) (a .tally .ensures) (omega (arith, c .if1 .taken))
+    let l = top q in (
+      cells-over (entry l .pre .0) (l .loop .inv .2) (q .before .loop-test .taken) (q .cell-at .ensures) (p .before .pair .ensures)
+          (p .pair2 .ensures) (a .tally .ensures) (omega (arith, c .if1 .taken)),
+      a .tally .ensures .tables,
+    )
 
 add-k : tie.Need-add-k Inv-loop μ-loop
 add-k c = search needs
@@ -80,12 +79,12 @@ loop-again c =
     let l = top q in (
       omega arith,
       l .loop .inv .1,
-      cells-turn (entry l .pre) (l .loop .inv .2) (q .before .loop-test .taken) (q .cell-at .ensures)
+      cells-turn (entry l .pre .0) (l .loop .inv .2) (q .before .loop-test .taken) (q .cell-at .ensures)
           (p .before .pair .ensures) (p .pair2 .ensures) (a .tally .ensures) (omega (arith, c .if1 .left)),
     )
 
 returns-2 : tie.Need-returns-2 Inv-loop μ-loop
-returns-2 c = cells-end (entry (c .before) .pre) (c .before .loop .inv .2) (omega arith)
+returns-2 c = (cells-end (entry (c .before) .pre .0) (c .before .loop .inv .2) (omega arith), c .before .loop .inv .2 .tables)
 
 pub cells-differ-spec : {M : Type 1} → statement M
 cells-differ-spec =
@@ -93,7 +92,6 @@ cells-differ-spec =
     (tie.spec
     Inv-loop
     μ-loop
-    slice-aggregate-clear
     clear-requires
     loop-holds
     cell-at-requires

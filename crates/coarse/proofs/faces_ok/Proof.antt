@@ -10,7 +10,7 @@ use borrow.Author.Needs.{needs}
 use Rattle.base.specs.Fours.{fours, faces}
 use Rattle.coarse.specs.Tally.{lead, lowFace}
 use Rattle.coarse.proofs.Meets.{Sofar, meets-start}
-use Rattle.coarse.proofs.Turns.{fresh, faces-open, faces-turn, faces-over, faces-end}
+use Rattle.coarse.proofs.Turns.{tables-on, faces-open, faces-turn, faces-over, faces-end}
 use Rattle.coarse.proofs.faces_ok.Statement.{statement}
 use Rattle.coarse.proofs.faces_ok.Tie as tie
 
@@ -26,26 +26,23 @@ abbrev top : tie.After-face-at Inv-loop μ-loop → tie.At-loop Inv-loop μ-loop
 top c = c .before .before
 
 abbrev entry : tie.At-loop Inv-loop μ-loop → tie.Start Inv-loop μ-loop
-entry c = c .before .before .before .before .before
-
-slice-aggregate-clear : tie.Need-slice-aggregate-clear Inv-loop μ-loop
-slice-aggregate-clear c = search needs
+entry c = c .before .before .before .before
 
 clear-requires : tie.Need-clear-requires Inv-loop μ-loop
 clear-requires c κs = search needs
 
 loop-holds : tie.Need-loop-holds Inv-loop μ-loop
 loop-holds c =
-    let s = c .before .before .before .before in
-    let k = c .before .clear in (
+    let s = c .before .before .before in
+    let k = c .clear in (
       omega arith,
       refl,
-      meets-start lead lowFace 2 (flatMap faces (fours (s .args .cells .now))) (fresh (k .last .0) (k .kept .0))
+      meets-start lead lowFace 2 (flatMap faces (fours (s .args .cells .now))) (tables-on (s .pre .1) (k .last .0) (k .kept .0))
           (k .ensures),
     )
 
 face-at-requires : tie.Need-face-at-requires Inv-loop μ-loop
-face-at-requires c κs = omega (arith, entry (c .before) .pre .whole, c .loop-test .taken)
+face-at-requires c κs = omega (arith, entry (c .before) .pre .0 .whole, c .loop-test .taken)
 
 pair-requires : tie.Need-pair-requires Inv-loop μ-loop
 pair-requires c κs = search needs
@@ -58,7 +55,7 @@ tally-requires c κs =
     let p = c .before .before .before .before .before .before in
     let q = p .before in
     let l = top q in
-    faces-open (entry l .pre) (l .loop .inv .2) (q .before .loop-test .taken) (p .pair .result) (q .face-at .result .c)
+    faces-open (entry l .pre .0) (l .loop .inv .2) (q .before .loop-test .taken) (p .pair .result) (q .face-at .result .c)
 
 returns : tie.Need-returns Inv-loop μ-loop
 unfolding lead lowFace
@@ -67,7 +64,7 @@ returns c =
     let p = a .before .before .before .before .before .before .before in
     let q = p .before in
     let l = top q in
-    faces-over (entry l .pre) (l .loop .inv .2) (q .before .loop-test .taken) (q .face-at .ensures) (p .pair .ensures) refl
+    faces-over (entry l .pre .0) (l .loop .inv .2) (q .before .loop-test .taken) (q .face-at .ensures) (p .pair .ensures) refl
     (a .tally .ensures) (omega (arith, c .if1 .taken))
 
 add-i : tie.Need-add-i Inv-loop μ-loop
@@ -85,12 +82,12 @@ loop-again c =
     let l = top q in (
       omega arith,
       l .loop .inv .1,
-      faces-turn (entry l .pre) (l .loop .inv .2) (q .before .loop-test .taken) (q .face-at .ensures)
+      faces-turn (entry l .pre .0) (l .loop .inv .2) (q .before .loop-test .taken) (q .face-at .ensures)
           (p .pair .ensures) refl (a .tally .ensures) (omega (arith, c .if1 .left)),
     )
 
 returns-2 : tie.Need-returns-2 Inv-loop μ-loop
-returns-2 c = faces-end (entry (c .before) .pre) (c .before .loop .inv .2) (omega arith)
+returns-2 c = faces-end (entry (c .before) .pre .0) (c .before .loop .inv .2) (omega arith)
 
 pub faces-ok-spec : {M : Type 1} → statement M
 faces-ok-spec =
@@ -98,7 +95,6 @@ faces-ok-spec =
     (tie.spec
     Inv-loop
     μ-loop
-    slice-aggregate-clear
     clear-requires
     loop-holds
     face-at-requires
