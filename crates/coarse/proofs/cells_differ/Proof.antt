@@ -34,7 +34,8 @@ loop-holds : tie.Need-loop-holds Inv-loop μ-loop
 loop-holds c =
     let s = c .before .before .before in
     let k = c .clear in
-    (omega arith, refl, meets-start lead lowCell 1 (fours (s .args .cells .now)) (tables-on (s .pre .1) (k .last .0) (k .kept .0)) (k .ensures))
+    let t = tables-on (s .pre .1) (k .last .0) (k .kept .0) in
+    (omega arith, refl, meets-start lead lowCell 1 (fours (s .args .cells .now)) t (k .ensures))
 
 cell-at-requires : tie.Need-cell-at-requires Inv-loop μ-loop
 cell-at-requires c κs = c .loop-test .taken

@@ -9,20 +9,30 @@ use Rattle.coarse.proofs.single.Statement.{statement}
 use Rattle.coarse.proofs.single.Tie as tie
 
 cells-differ-requires : tie.Need-cells-differ-requires
-cells-differ-requires c κs = (c .before .before .before .before .before .before .pre, fresh (replicate 4096 0) (length-replicate {A = ℕ} 4096 0))
+cells-differ-requires c κs = (
+  c .before .before .before .before .before .before .pre,
+  fresh (replicate 4096 0) (length-replicate
+      {A = ℕ} 4096 0),
+)
 
 returns : tie.Need-returns
 returns c =
     let d = c .before in
-    not-single (fours (d .before .before .before .before .before .before .before .args .cells .now)) (d .cells-differ .ensures .0) (c .if1 .taken)
+    not-single (fours (d .before .before .before .before .before .before .before .args .cells .now)) (d .cells-differ .ensures
+    .0) (c .if1 .taken)
 
 faces-ok-requires : tie.Need-faces-ok-requires
-faces-ok-requires c κs = (c .before .before .before .before .before .before .before .before .before .before .before .before .before .pre, c .before .before .before .before .before .before .cells-differ .ensures .1)
+faces-ok-requires c κs = (
+  c .before .before .before .before .before .before .before .before .before .before .before .before
+      .before .pre,
+  c .before .before .before .before .before .before .cells-differ .ensures .1,
+)
 
 returns-2 : tie.Need-returns-2
 returns-2 c =
     let d = c .before .before .before .before .before .before .before in
-    half-single (fours (d .before .before .before .before .before .before .before .args .cells .now)) (d .cells-differ .ensures .0) (c .before .before .before .before .before .before .if1 .left) (c .faces-ok .ensures)
+    half-single (fours (d .before .before .before .before .before .before .before .args .cells .now)) (d .cells-differ .ensures
+    .0) (c .before .before .before .before .before .before .if1 .left) (c .faces-ok .ensures)
 
 pub single-spec : {M : Type 1} → statement M
 single-spec = tie.close (tie.spec cells-differ-requires returns faces-ok-requires returns-2)
