@@ -29,7 +29,7 @@ compare() { # INPUT
 }
 
 printf '%6s %6s %14s %15s %7s\n' cells tables 'plain ns/cell' 'proved ns/cell' ratio
-for size in 500 1000 2000 4000; do
+for size in 100 500 1000 2000 4000; do
     declare -A times=()
     high=$((visits / (cases * size)))
     low=$((high / 20))

@@ -33,7 +33,7 @@ compare() { # INPUT
 
 # The last two columns are of the plain step that trusts its input.
 printf '%6s %6s %14s %15s %7s %17s %7s\n' cells steps 'plain ns/cell' 'proved ns/cell' ratio 'trusting ns/cell' ratio
-for size in 450 900 1800 3600; do
+for size in 100 450 900 1800 3600; do
     declare -A times=()
     high=$((visits / (cases * steps * size)))
     low=$((high / 20))
