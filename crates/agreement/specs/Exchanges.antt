@@ -1,4 +1,4 @@
--- The exchange of a split: the calls on its stores, with the marks that each part starts with, are a machine of the rounds.
+-- The exchange of a split (rule 15.17): the calls on its stores, with the marks that each part starts with, are a machine of the rounds.
 --   wanted p             marks that the part p takes: 0 for each of its masters
 --   reads p ms c         the mark of the cell c among the marks ms of the part p; takes p ms whether it starts with them
 -- Laws: first-idle (the stores of a split are those of parts that have not started), and what the theorem of the exchange is applied to.

@@ -1,4 +1,4 @@
--- How many cells have given points among their corners.
+-- How many cells have given points among their corners (rule 13.2 counts so).
 --   inb p l              p is one of the points l; withinb u l  every point of u is
 --   count u cs           how many of the cells cs have all points of u
 --   countDigits u f ds   how many of the children ds have them, where f gives the point of a digit

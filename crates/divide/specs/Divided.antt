@@ -1,4 +1,4 @@
--- What the functions ask for and leave.
+-- What the functions of a split (rule 15.5) ask for and leave.
 --   firstBy ks k           the first cell of level k, where ks are the numbers of first children
 --   Leveled ks m           levels rise, and none begins behind the m cells
 --   FirstCells ks fs       fs has the first cell of each level

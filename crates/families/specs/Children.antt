@@ -1,4 +1,4 @@
--- The children of a family by the digits of their corners.
+-- The children of a family by the digits of their corners (rules 2.3, 2.7).
 --   middle e                    the digit of the midpoint of edge e
 --   digitsOf p i                the digits of the child i of the family p
 --   lowDigit, highDigit p i y   the digits of the ends of its edge y

@@ -1,4 +1,4 @@
--- The faces of a family's children by their digits, computed over the 64 rows. Corners and faces are counted from 0.
+-- The faces of a family's children by their digits (rules 2.3, 2.6), computed over the 64 rows. Corners and faces are counted from 0.
 --   cornersAt z     the three corners of a cell's face z
 --   lift m k        the point with place k on the face with corners m: its six points are pairs of these corners (first k, second k)
 --   digitTriples         the twenty triples of those six places

@@ -1,4 +1,4 @@
--- What holds of every family, by one computed test over the 64 rows and a lemma for each fact. The statements speak of
+-- What holds of every family (rules 2.6, 2.7), by one computed test over the 64 rows and a lemma for each fact. The statements speak of
 -- `family` alone, so that a caller never looks at the table.
 use mathlib.Core.Path.{_≡_, refl, _∙_, sym, ap}
 use mathlib.Core.Logic.{_≢_}

@@ -1,4 +1,4 @@
--- What a family joins, by computed tests over digits: two digits are told by the order of the corners that they lie between.
+-- What a family (rule 2.6) joins, by computed tests over digits: two digits are told by the order of the corners that they lie between.
 --   agreeb i j k l     the numbers i and j compare as k and l do
 --   orderedb d e a b   the corners of the digits d and e compare as those of a and b do
 --   joinCorners d e      the corners that the digits d and e lie between

@@ -1,4 +1,4 @@
--- The numbers of a part's store, region by region: from the columns `cols` of a table of m cells (ten of 4,096 places, owners first and
+-- A part's store (rule 15.5), region by region: from the columns `cols` of a table of m cells (ten of 4,096 places, owners first and
 -- families second), the slots `sl` of its edges, six for each cell, and the coarse cells' corners.
 --   holdb cols m p c          the part p has the cell c, as master or ghost
 --   pickBy κ h v i              v i, where the cell κ i passes the test h

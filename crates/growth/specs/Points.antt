@@ -1,4 +1,4 @@
--- The numbers of a cell's ten points, as they are found edge by edge.
+-- The numbers of a cell's ten points (rules 2.3, 5.5), as they are found edge by edge.
 --   splitAt p c e            the edge e of c where the pattern splits it, else nothing
 --   lowCorners c             for each of the ten points the number of its lower corner: a corner's own
 --   marked n es c p e ps     the numbers ps with that of the midpoint of the edge e set, where the pattern splits it

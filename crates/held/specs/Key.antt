@@ -1,4 +1,4 @@
--- A place as two numbers that tell its path: 256 times the level (at most 10) and the coarse cell; the child numbers, base 8.
+-- A place as two numbers that tell its path (rule 3.3): 256 times the level (at most 10) and the coarse cell; the child numbers, base 8.
 --   keyPath x y       the path of the key x, y
 --   Key x y           the level is at most 10, and there are no more digits than levels
 --   Keyed l x y       x, y is the key of the path l

@@ -1,4 +1,4 @@
--- The table that entries make, cell by cell: the cells that are known stand in a row as keys, those of the level at hand first.
+-- The table that entries make (rule 15.12), cell by cell: the cells that are known stand in a row as keys, those of this level first.
 --   kidPaths l t             the paths of the children of a cell with the path l and the status t
 --   statusesLeft h es c a    the statuses still to come, of the cells c of the level at hand and of those behind; a the first of these
 --   filledLeft h es c a      each of these places has a master

@@ -1,4 +1,4 @@
--- The statuses of new children as the code finds them, from the digits of the old family and of the red one.
+-- The statuses of new children (rule 7.7) as the code finds them, from the digits of the old family and of the red one.
 --   lowAt, highAt ds j y    the digits of the ends of the edge y of the child j, from a family's digits in a row
 --   edgeHas ds j a b y      that edge joins the points with the digits a and b
 --   kidHas x ds d a b j     the child j, which is the cell d, has such an edge that is hit

@@ -1,4 +1,4 @@
--- The masters and ghosts of a part after the step, written one behind the other.
+-- The masters and ghosts of a part after the step (rule 15.11), written one behind the other.
 --   placeAt x c           the place of the cell c of the table that was split
 --   put x p s             the store with an entry more: the place p and the status s, while there is room
 --   putMaster x p s       the same for a master, which also counts for the totals

@@ -1,4 +1,4 @@
--- How many messages the parts write, and how many calls can move an exchange on.
+-- How many messages the parts write, and how many calls can move an exchange on (rule 15.19).
 --   sumTo f n        f 0 + .. + f (n - 1)
 --   room f           the most messages of one part for another in a round; pairMost J in all rounds: one for each cell and each slot, an
 --                    end for each round, and a total

@@ -1,4 +1,4 @@
--- The rounds as a protocol of the exchange, and what each part knows after them.
+-- The rounds (rule 15.7) as a protocol of the exchange, and what each part knows after them.
 --   protocol pack reads     the rounds, where pack makes a message of its heading and body, and reads tells marks by cell from an input
 -- Laws: phase-marks, phase-counts, phase-totals (which round exchanges what), enough (after the rounds of all levels each part knows
 -- the new red cells among its masters and ghosts, and the edges of new red cells among theirs), and the laws that the exchange

@@ -1,4 +1,4 @@
--- The rounds of a split step: what a part decides, writes and takes, from its own cells and ghosts alone.
+-- The rounds of a split step (rules 15.4, 15.7): what a part decides, writes and takes, from its own cells and ghosts alone.
 --   Body                    a message without its heading: a ghost's mark, an edge's count, cell totals and top level, a round's end
 --   Phase, phase r          what a round exchanges
 --   State                   what a part knows: marks of its masters, flags of its masters and ghosts, counts of their edges, totals

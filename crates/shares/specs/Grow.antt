@@ -1,4 +1,4 @@
--- What a part makes of its masters and ghosts after the last round, from what it knows alone.
+-- What a part makes of its masters and ghosts after the last round (rules 7.7, 15.11), from what it knows alone.
 --   lastOf l            the last number of a path
 --   heldNow st x        a new red cell has the slot x
 --   statusNew st c      the new status of the cell c, if it stays

@@ -1,4 +1,4 @@
--- Owners after the step, of cells that were there and of new ones.
+-- Owners after the step (rule 15.13), of cells that were there and of new ones.
 --   ownAt k i, famAt k i    the owner of the new cell i of level k, and of its family
 -- Laws: child-owner (a child has its family's owner), matched-owner and matched-family (a cell that was there keeps its owner and its
 -- family's), fresh-family (a cell that was not there has its family with it), fostered-owner (a new child of a cell that was there is with

@@ -1,5 +1,5 @@
--- Slots by the places of keys: a level's edges have keys, which stand in a list of the level, and levels follow one another. So a program
--- numbers the edges of a table by first appearance.
+-- Slots (edges, rule 5.4) by the places of keys: a level's edges have keys, which stand in a list of the level, and levels follow one
+-- another. So a program numbers the edges of a table by first appearance.
 --   keyedSlot c e, keyedSlots k    the slot of the edge e of the cell c; those of level k
 -- Law: keyed-slots (they are slots).
 use mathlib.Core.Path.{_≡_, sym, _∙_, ap, subst}

@@ -1,4 +1,4 @@
--- Messages of the exchange as bytes.
+-- Messages of the exchange as bytes (rule 15.4).
 --   entryCode, entryValue    a body as it is written in an entry
 --   bodyb b                  the numbers of the body have room
 --   packed q p k b           the bytes; a message without room, or with a count of more than two bytes, is no message

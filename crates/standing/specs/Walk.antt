@@ -1,4 +1,4 @@
--- The walk of a fetch is the queue: the messages that are left, in order, and a fetch gives the first of them.
+-- The walk of a fetch (rule 15.8) is the queue: the messages that are left, in order, and a fetch gives the first of them.
 --   bitsFrom k m b       the bits set from b on
 --   spotsFrom x k j b    entries and receivers from a place on
 --   leftOf x             those that are left

@@ -1,5 +1,5 @@
--- Fetching. A part keeps what it has written as entries, each a code, a value and its receivers as sixteen bits, in the order of writing.
--- The cursor is an entry and a receiver: those before it are given.
+-- Fetching (rule 15.8). A part keeps what it has written as entries, each a code, a value and its receivers as sixteen bits, in the order
+-- of writing. The cursor is an entry and a receiver: those before it are given.
 --   entryCount x                  how many entries there are
 --   bitb m b, bitFrom k m b       bit b of m; the first bit set from b on, 16 where there is none
 --   seekFrom x k j b              the first entry and receiver from the entry j and the receiver b on, over k entries

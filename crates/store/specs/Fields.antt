@@ -1,4 +1,4 @@
--- A part's store: numbers at fixed offsets, by their names. docs/PARTS.md has them with their ranges.
+-- A part's store (rule 15.3): numbers at fixed offsets, by their names. docs/PARTS.md has them with their ranges.
 --   field x i     the number at the place i of the store x
 --   full          how many numbers a store has
 use mathlib.Core.List.{List}

@@ -1,4 +1,4 @@
--- Handing a message over.
+-- Handing a message over (rules 15.9, 15.15).
 --   lengthOf k        the length of a message of the kind k, 0 where there is no such kind
 --   wellb x m         the message is one for this store: 12 where it is not
 --   handAnswer x m    15, 16, 12, 13 (taken before), 14 (too early) in this order

@@ -1,4 +1,4 @@
--- How many masters of a level that will be red have each slot: on entering a round of counts this is added to the sums.
+-- How many masters of a level that will be red have each slot (rule 15.4): on entering a round of counts this is added to the sums.
 --   addEdge c x e    the store with one more at the slot of the edge e of the cell c
 --   tallyOne x c     the store with the edges of c added, if it is a master that will be red
 use mathlib.Core.Bool.{Bool, true, false, _&&_}
