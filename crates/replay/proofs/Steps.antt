@@ -4,7 +4,7 @@
 use mathlib.Core.Path.{_≡_, refl, sym, _∙_, ap}
 use mathlib.Core.Bool.{Bool, true, false}
 use mathlib.Core.List.{List, _++_}
-use Prim.Native.Nat.{ℕ, _*_, _≤_}
+use Prim.Native.Nat.{ℕ, _≤_}
 use native.Mathlib.Omega.{arith}
 use lib.ListN.{length, take, drop}
 use lib.Seq.{take-at, length-take-le}
@@ -39,10 +39,10 @@ module _ (ss : List ℕ) (ms : List (ℕ × ℕ)) (new : List ℕ) where
       }
 
 -- the new table takes the place of the old one
-module _ (n : ℕ) (mesh old ms new-rows ps qs new : List ℕ) (refusal cells levels mids : ℕ)
-    (a : Advanced n mesh old ms new-rows ps qs new refusal cells levels mids) where
-  pub stepped-refused : (rows table : List ℕ) (k c l : ℕ) → k ≡ refusal → (refusal ≡ 0 → ⊥) → Stepped n mesh old ms rows table k c l
-  stepped-refused rows table k c l e z =
+module _ (n : ℕ) (mesh old ms rows ps qs new : List ℕ) (refusal cells levels mids : ℕ)
+    (a : Advanced n mesh old ms rows ps qs new refusal cells levels mids) where
+  pub stepped-refused : (table : List ℕ) (k c l : ℕ) → k ≡ refusal → (refusal ≡ 0 → ⊥) → Stepped n mesh old ms rows table k c l
+  stepped-refused table k c l e z =
       record {
         answer = a .answer ∙ ap answerOf (sym e);
         table-is = λ y. absurd (z (sym e ∙ y));
@@ -50,25 +50,17 @@ module _ (n : ℕ) (mesh old ms new-rows ps qs new : List ℕ) (refusal cells le
         high = λ y. absurd (z (sym e ∙ y));
       }
 
-  pub stepped-on : refusal ≡ 0 → (rows₀ table₀ rows table : List ℕ) → rows ≡ take (8 * cells) new-rows ++ drop (8 * cells) rows₀
-      → table ≡ take cells new ++ drop cells table₀
-      → 4096 ≤ length new → 32768 ≤ length new-rows → 4096 ≤ length table → (k : ℕ) → k ≡ 0
+  pub stepped-on : refusal ≡ 0 → (table₀ table : List ℕ) → table ≡ take cells new ++ drop cells table₀
+      → 4096 ≤ length new → 4096 ≤ length table → (k : ℕ) → k ≡ 0
       → Stepped n mesh old ms rows table k cells levels
-  stepped-on z rows₀ table₀ rows table e f room long lent k q =
+  stepped-on z table₀ table f room lent k q =
       let few = a .few z in
-      let h = a .held z in
       let s = a .laid z in
       let t : take cells table ≡ newTable n (fours mesh) old ms = front cells new table₀ table (omega arith) f ∙ a .table-is z in
-      let r : take (8 * cells) rows ≡ take (8 * cells) new-rows = front (8 * cells) new-rows rows₀ rows (omega arith) e in
       record {
         answer = a .answer ∙ ap answerOf (z ∙ sym q);
         table-is = λ y. t;
-        going = λ y.
-            record {
-              held = rw t (record { accepted = h .accepted; sound = h .sound; table = rw (s .counted) (r ∙ s .table) });
-              few = few;
-              room = lent;
-            };
+        going = λ y. record { held = rw t (a .held z); few = few; room = lent };
         high = λ y. rw t (s .high);
       }
 

@@ -83,7 +83,6 @@ fn next_step(
     rows: &mut [u16; 32768],
     table: &mut [u8; 4096],
     spread_marks: &mut [u8; 4096],
-    new_rows: &mut [u16; 32768],
     ps: &mut [u32; 4096],
     qs: &mut [u32; 4096],
     new: &mut [u8; 4096],
@@ -121,7 +120,6 @@ fn next_step(
         rows,
         &status[..cells],
         &spread[..cells],
-        new_rows,
         ps,
         qs,
         new,
@@ -139,7 +137,6 @@ fn next_step(
     if r.refusal != 0 {
         return r;
     }
-    base::copy_numbers(new_rows, 8 * r.cells, rows);
     base::copy_bytes(new, r.cells, table);
     r
 }
@@ -197,7 +194,6 @@ fn run_steps(
         (r .refusal) (r .cells) (r .levels) ⌝ }
 {
     let mut spread_marks = [0u8; 4096];
-    let mut new_rows = [0u16; 32768];
     let mut ps = [0u32; 4096];
     let mut qs = [0u32; 4096];
     let mut new = [0u8; 4096];
@@ -229,7 +225,6 @@ fn run_steps(
             rows,
             table,
             &mut spread_marks,
-            &mut new_rows,
             &mut ps,
             &mut qs,
             &mut new,

@@ -58,11 +58,15 @@ module _ (ss ms : List ℕ) (c : ℕ) where
   marks-end h e = let g : length ms ≤ c = omega arith in ap₂ marksb (drop-of-length-le ss h) (drop-of-length-le ms g)
 
 module _ (rows red : List ℕ) (c : ℕ) where
-  pub deep-no : (getD rows (8 * c) 0 ≡ 10 → ⊥) → false ≡ deepAt rows red c
-  deep-no h = rw (ne-eqb (getD rows (8 * c) 0) 10 h)
+  pub deep-no : (getD red c 0 ≡ 64 → ⊥) → false ≡ deepAt rows red c
+  deep-no h = rw (ne-eqb (getD red c 0) 64 h, and-false (eqb (getD rows (8 * c) 0) 10))
 
-  pub deep-red : getD rows (8 * c) 0 ≡ 10 → eqb (getD red c 0) 64 ≡ deepAt rows red c
-  deep-red e = rw e
+  pub deep-red : getD red c 0 ≡ 64 → eqb (getD rows (8 * c) 0) 10 ≡ deepAt rows red c
+  deep-red e = rw e (go (eqb (getD rows (8 * c) 0) 10))
+    where
+      go : (b : Bool) → b ≡ (b && true)
+      go true = refl
+      go false = refl
 
 module _ (rows red : List ℕ) (c n : ℕ) where
   deep-step : c < n → deepFrom rows red c (n - c) ≡ (deepAt rows red c || deepFrom rows red (c + 1) (n - (c + 1)))

@@ -161,18 +161,17 @@ module _ (n : ℕ) (mesh rows ss : List ℕ) (h : Held n mesh rows ss) where
           let l : 4096 < length (newTable n qs ss ms) = rw t at (r .many e) in
           refused refusal (λ z. omega arith) (limits-many n qs ss ms (held-deep ∙ ap not d) l ∙ rw e) cells levels mids
 
-      pub advanced : (k : ℕ) → Decided (deepFrom rows red 0 (length ss)) refusal k → Advanced n mesh ss ms rows′ ps qs′ table k cells levels
-          mids
-      advanced k d =
+      pub advanced : (d : Bool) → d ≡ deepFrom rows red 0 (length ss) → (k : ℕ) → Decided d refusal k
+          → Advanced n mesh ss ms rows′ ps qs′ table k cells levels mids
+      advanced d s k g =
           ⊎-elim (λ (e : refusal ≡ 0). same (λ z. absurd (omega arith)) (accepted e))
           (⊎-elim (λ (e : refusal ≡ 8). same (λ z. absurd (omega arith)) (high e))
-          (λ (e : refusal ≡ 9). go (deepFrom rows red 0 (length ss)) refl e)) (r .one)
+          (λ (e : refusal ≡ 9). go d refl e)) (r .one)
         where
-          same : (refusal ≡ 9 → deepFrom rows red 0 (length ss) ≡ false) → Advanced n mesh ss ms rows′ ps qs′ table refusal cells levels
-              mids
+          same : (refusal ≡ 9 → d ≡ false) → Advanced n mesh ss ms rows′ ps qs′ table refusal cells levels mids
               → Advanced n mesh ss ms rows′ ps qs′ table k cells levels mids
-          same h a = let q : k ≡ refusal = d .kept h in rw q a
+          same h a = let q : k ≡ refusal = g .kept h in rw q a
 
-          go : (b : Bool) → deepFrom rows red 0 (length ss) ≡ b → refusal ≡ 9 → Advanced n mesh ss ms rows′ ps qs′ table k cells levels mids
-          go true t e = over t k (d .over e t)
-          go false t e = same (λ x. t) (many e t)
+          go : (b : Bool) → d ≡ b → refusal ≡ 9 → Advanced n mesh ss ms rows′ ps qs′ table k cells levels mids
+          go true t e = over (sym s ∙ t) k (g .over e t)
+          go false t e = same (λ x. t) (many e (sym s ∙ t))

@@ -69,37 +69,34 @@ fn is_deep(rows: &[u16], red: &[u8], c: usize) -> bool
     requires { ⌜ (8 * c + 8 ≤ length (now rows)) × (c < length (now red)) ⌝ }
     ensures { λ r. ⌜ r ≡ deepAt (was rows) (was red) c ⌝ }
 {
-    if rows[8 * c] != 10 {
+    if red[c] != 64 {
         return false;
     }
-    red[c] == 64
+    rows[8 * c] == 10
 }
 
 // The refusal of a step: 9 gives way to 8 where a cell of level 10 will be red.
-fn decided(refusal: u8, rows: &[u16], red: &[u8], cells: usize) -> u8
-    requires { ⌜ (8 * cells ≤ length (now rows)) × (cells ≤ length (now red)) ⌝ }
-    ensures { λ r. ⌜ Decided (deepFrom (was rows) (was red) 0 cells) refusal r ⌝ }
+fn decided(refusal: u8, deep: bool) -> u8
+    ensures { λ r. ⌜ Decided deep refusal r ⌝ }
 {
     if refusal != 9 {
         return refusal;
     }
-    if too_deep(rows, red, cells) {
+    if deep {
         return 8;
     }
     9
 }
 
-// The work of a step, on a sound table with its rows and marks that fit it: the new statuses in `table`, the rows of the new cells,
-// and the ends of the new corners. Nothing is examined here. The tables from xs to red are for the work, whatever they hold, and `digits`
-// is
-// the cutting table. Refusals 8 and 9.
+// The work of a step, on a sound table with its rows and marks that fit it: the new statuses in `table`, the rows of the new cells in
+// place of the old ones, and the ends of the new corners. Nothing is examined here. The tables from xs to red are for the work, whatever
+// they hold, and `digits` is the cutting table. Refusals 8 and 9; beside one, the rows hold anything.
 pub fn advance(
     mesh: &[u16],
     n: usize,
-    rows: &[u16; 32768],
+    rows: &mut [u16; 32768],
     status: &[u8],
     marks: &[u8],
-    new_rows: &mut [u16; 32768],
     ps: &mut [u32; 4096],
     qs: &mut [u32; 4096],
     table: &mut [u8; 4096],
@@ -117,7 +114,7 @@ pub fn advance(
     requires { ⌜ Held n (now mesh) (now rows) (now status) ⌝ }
     requires { ⌜ length (now marks) ≡ length (now status) ⌝ }
     requires { ⌜ now digits ≡ digitTable ⌝ }
-    ensures { λ r. ⌜ Advanced n (was mesh) (was status) (was marks) (is «new_rows») (is ps) (is qs) (is table) (r .refusal) (r .cells)
+    ensures { λ r. ⌜ Advanced n (was mesh) (was status) (was marks) (is rows) (is ps) (is qs) (is table) (r .refusal) (r .cells)
         (r .levels) (r .mids) ⌝ }
 {
     let k = status.len();
@@ -136,13 +133,14 @@ pub fn advance(
         links,
     );
     let flags = &red[..];
+    let deep = too_deep(rows, flags, k);
     let r = renew::renew(
         mesh,
         n,
         status,
         kids,
         &flags[..k],
-        new_rows,
+        rows,
         ps,
         qs,
         table,
@@ -155,7 +153,7 @@ pub fn advance(
         old,
         digits,
     );
-    let refusal = decided(r.refusal, rows, flags, k);
+    let refusal = decided(r.refusal, deep);
     Outcome {
         refusal,
         coarse: r.coarse,
@@ -202,7 +200,6 @@ pub fn step(
     if !marks_fit(status, marks) {
         return Stepped::Refused(7);
     }
-    let mut new_rows = [0u16; 32768];
     let mut new = [0u8; 4096];
     let mut xs = [0u32; 24576];
     let mut ys = [0u32; 24576];
@@ -217,10 +214,9 @@ pub fn step(
     let r = advance(
         cells,
         positions.len() / 3,
-        &rows,
+        &mut rows,
         status,
         marks,
-        &mut new_rows,
         &mut ps,
         &mut qs,
         &mut new,

@@ -1,5 +1,5 @@
--- `replay::next_step` meets its contract: the marks are examined, the step is made in the work tables, and its result takes the place of
--- the old table.
+-- `replay::next_step` meets its contract: the marks are examined, the step is made, its rows in place, and the new table takes the place of
+-- the old one.
 -- Assumes nothing.
 use mathlib.Core.Path.{_≡_, refl, sym, _∙_}
 use mathlib.Core.Bool.{true, false}
@@ -131,21 +131,19 @@ advance-requires c κs =
     let
     a =
     c .before .before .before .before .before .before .before .before .before .before .before .before .before .before .before .before
-    .before .before .before .before .before .before .before .before .before .before .before .before .before .before .before .before
-    .args in
+    .before .before .before .before .before .before .before .before .before .before .before .before .before .before .before .args in
     let
     p =
     c .before .before .before .before .before .before .before .before .before .before .before .before .before .before .before .before
-    .before .before .before .before .before .before .before .before .before .before .before .before .before .before .before .before .pre
+    .before .before .before .before .before .before .before .before .before .before .before .before .before .before .before .pre
     in
     let m = length-take-le (a .cells)
     (c .before .before .before .before .before .before .before .before .before .before .before .before .before .before .before .before
-    .before .before .before .examine-marks .last .1 .1 .1 .0)
+    .before .before .examine-marks .last .1 .1 .1 .0)
     (omega (
       arith,
       p .0 .few,
-      c .before .before .before .before .before .before .before .before .before .before .before .before .before .before .before .before
-          .spread2,
+      c .before .before .before .before .before .before .before .before .before .before .before .before .before .before .before .spread2,
     )) in
     let l = length-take-le (a .cells) (a .table .now) (omega (arith, p .0 .few, p .0 .room)) in
     (p .0 .held, (m ∙ sym l, p .1 .1))
@@ -155,55 +153,47 @@ returns-4 c =
     let
     a =
     c .before .before .before .before .before .before .before .before .before .before .before .before .before .before .before .before
-    .before .before .before .before .before .before .before .before .before .before .before .before .before .before .before .before
-    .before .before .before .args in
+    .before .before .before .before .before .before .before .before .before .before .before .before .before .before .before .before .before
+    .before .args in
     let
     e :
     c .before .before .before .before .before .before .before .before .before .before .before .before .before .before .before .before
-    .before .before .before .before .before .before .examine-marks .result ≡ true = not-false _
+    .before .before .before .before .before .examine-marks .result ≡ true = not-false _
     (c .before .before .before .before .before .before .before .before .before .before .before .before .before .before .before .before
-    .before .before .before .before .before .if3 .left) in
+    .before .before .before .before .if3 .left) in
     let l = length-take-le (a .cells) (a .table .now)
     (omega (
       arith,
       c .before .before .before .before .before .before .before .before .before .before .before .before .before .before .before .before
           .before .before .before .before .before .before .before .before .before .before .before .before .before .before .before .before
-          .before .before .before .pre .0 .few,
+          .before .before .pre .0 .few,
       c .before .before .before .before .before .before .before .before .before .before .before .before .before .before .before .before
           .before .before .before .before .before .before .before .before .before .before .before .before .before .before .before .before
-          .before .before .before .pre .0 .room,
+          .before .before .pre .0 .room,
     )) in
     next-moved _ _ _ _ _ _ _ _ (omega (
       arith,
       c .before .before .before .before .before .before .before .before .before .before .before .before .before .before .before .before
-          .before .before .before .before .before .before .before .before .before .before .before .before .before .before .if1 .left,
+          .before .before .before .before .before .before .before .before .before .before .before .before .before .if1 .left,
     )) (omega (
       arith,
       length-pairs (a .marked .now) (a .marks .now)
           (c .before .before .before .before .before .before .before .before .before .before .before .before .before .before .before .before
           .before .before .before .before .before .before .before .before .before .before .before .before .before .before .before .before
-          .before .before .before .pre .1 .0),
+          .before .before .pre .1 .0),
       c .before .before .before .before .before .before .before .before .before .before .before .before .before .before .before .before
-          .before .before .before .before .before .before .before .before .before .before .before .before .before .if2 .left,
+          .before .before .before .before .before .before .before .before .before .before .before .before .if2 .left,
     )) _ _ _ _
     (pairs-part (a .e - a .p) (a .p) (a .marked .now) (a .marks .now))
     (moved-on _ _ _ _ _ _ _ (rw e at
     (c .before .before .before .before .before .before .before .before .before .before .before .before .before .before .before .before
-    .before .before .before .before .before .before .examine-marks .ensures)) _ l _ _ _
-    (stepped-refused _ _ _ _ _ _ _ _ _ _ _ _ (c .before .before .advance .ensures) _ _ _ _ _ refl (c .if4 .taken)))
-
-mul-copy-numbers : tie.Need-mul-copy-numbers
-mul-copy-numbers c = omega (arith, c .before .before .before .before .before .advance .ensures .few (c .before .before .before .if4 .left))
-
-copy-numbers-requires : tie.Need-copy-numbers-requires
-copy-numbers-requires c κs = let few = c .before .before .before .before .before .before .advance .ensures .few
-    (c .before .before .before .before .if4 .left) in
-    (omega (arith, few, c .before .before .copy-numbers-arg2), omega (arith, few, c .copy-numbers-arg3))
+    .before .before .before .before .before .examine-marks .ensures)) _ l _ _ _
+    (stepped-refused _ _ _ _ _ _ _ _ _ _ _ _ (c .before .before .advance .ensures) _ _ _ _ refl (c .if4 .taken)))
 
 copy-bytes-requires : tie.Need-copy-bytes-requires
 copy-bytes-requires c κs = let
-    few = c .before .before .before .before .before .before .before .before .before .before .advance .ensures .few
-    (c .before .before .before .before .before .before .before .before .if4 .left) in
+    few = c .before .before .before .before .before .advance .ensures .few
+    (c .before .before .before .if4 .left) in
     (omega (arith, few, c .before .copy-bytes-arg2), omega (arith, few, c .copy-bytes-arg3))
 
 returns-5 : tie.Need-returns-5
@@ -211,51 +201,48 @@ returns-5 c =
     let
     a =
     c .before .before .before .before .before .before .before .before .before .before .before .before .before .before .before .before
-    .before .before .before .before .before .before .before .before .before .before .before .before .before .before .before .before
-    .before .before .before .before .before .before .before .before .before .before .before .before .args in
+    .before .before .before .before .before .before .before .before .before .before .before .before .before .before .before .before .before
+    .before .before .before .before .before .args in
     let
     e :
     c .before .before .before .before .before .before .before .before .before .before .before .before .before .before .before .before
-    .before .before .before .before .before .before .before .before .before .before .before .before .before .before .before
-    .examine-marks .result ≡ true = not-false _
+    .before .before .before .before .before .before .before .before .before .examine-marks .result ≡ true = not-false _
     (c .before .before .before .before .before .before .before .before .before .before .before .before .before .before .before .before
-    .before .before .before .before .before .before .before .before .before .before .before .before .before .before .if3 .left) in
+    .before .before .before .before .before .before .before .before .if3 .left) in
     let l = length-take-le (a .cells) (a .table .now)
     (omega (
       arith,
       c .before .before .before .before .before .before .before .before .before .before .before .before .before .before .before .before
           .before .before .before .before .before .before .before .before .before .before .before .before .before .before .before .before
-          .before .before .before .before .before .before .before .before .before .before .before .before .pre .0 .few,
+          .before .before .before .before .before .before .pre .0 .few,
       c .before .before .before .before .before .before .before .before .before .before .before .before .before .before .before .before
           .before .before .before .before .before .before .before .before .before .before .before .before .before .before .before .before
-          .before .before .before .before .before .before .before .before .before .before .before .before .pre .0 .room,
+          .before .before .before .before .before .before .pre .0 .room,
     )) in
-    let z = c .before .before .before .before .before .before .before .before .before .if4 .left in
+    let z = c .before .before .before .before .if4 .left in
     next-moved _ _ _ _ _ _ _ _ (omega (
       arith,
       c .before .before .before .before .before .before .before .before .before .before .before .before .before .before .before .before
           .before .before .before .before .before .before .before .before .before .before .before .before .before .before .before .before
-          .before .before .before .before .before .before .before .if1 .left,
+          .before .if1 .left,
     )) (omega (
       arith,
       length-pairs (a .marked .now) (a .marks .now)
           (c .before .before .before .before .before .before .before .before .before .before .before .before .before .before .before .before
           .before .before .before .before .before .before .before .before .before .before .before .before .before .before .before .before
-          .before .before .before .before .before .before .before .before .before .before .before .before .pre .1 .0),
+          .before .before .before .before .before .before .pre .1 .0),
       c .before .before .before .before .before .before .before .before .before .before .before .before .before .before .before .before
           .before .before .before .before .before .before .before .before .before .before .before .before .before .before .before .before
-          .before .before .before .before .before .before .if2 .left,
+          .if2
+          .left,
     )) _ _ _ _
     (pairs-part (a .e - a .p) (a .p) (a .marked .now) (a .marks .now))
     (moved-on _ _ _ _ _ _ _ (rw e at
     (c .before .before .before .before .before .before .before .before .before .before .before .before .before .before .before .before
-    .before .before .before .before .before .before .before .before .before .before .before .before .before .before .before
-    .examine-marks .ensures)) _ l _ _ _
+    .before .before .before .before .before .before .before .before .before .examine-marks .ensures)) _ l _ _ _
     (stepped-on _ _ _ _ _ _ _ _ _ _ _ _
-    (c .before .before .before .before .before .before .before .before .before .before .before .advance .ensures) z _ _ _ _
-    (c .before .before .before .before .copy-numbers .ensures) (c .copy-bytes .ensures)
+    (c .before .before .before .before .before .before .advance .ensures) z _ _ (c .copy-bytes .ensures)
     (omega (arith, c .before .before .copy-bytes-arg2))
-    (omega (arith, c .before .before .before .before .before .before .before .copy-numbers-arg2))
     (omega (arith, c .copy-bytes .kept .1 .1 .0, c .before .copy-bytes-arg3)) _ z))
 
 pub next-step-spec : {M : Type 1} → statement M
@@ -279,7 +266,5 @@ next-step-spec =
     slice-aggregate-advance-2
     advance-requires
     returns-4
-    mul-copy-numbers
-    copy-numbers-requires
     copy-bytes-requires
     returns-5)
