@@ -1,3 +1,4 @@
 pub mod Ready
 pub mod Closed
 pub mod Steps
+pub mod Near

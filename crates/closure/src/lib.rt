@@ -1,6 +1,7 @@
 // The statuses of one level: the edges of its red cells, and the pattern that each other cell is closed with.
 use rows::Ends;
 ghost use mathlib.Core.Path.{_≡_};
+ghost use mathlib.Core.Bool.{false};
 ghost use mathlib.Core.List.{[], _∷_};
 ghost use Prim.Native.Nat.{_+_, _*_, _-_, _≤_, _<_};
 ghost use lib.ListN.{length};
@@ -11,6 +12,7 @@ ghost use Rattle.mesh.specs.Cells.{edge, edges, bitsOf, redEdges};
 ghost use Rattle.edges.specs.Pairs.{isb, sorted};
 ghost use Rattle.edges.specs.Table.{Grown, listed};
 ghost use Rattle.rows.specs.Numbered.{cellAt, cellsAt, part};
+ghost use Rattle.closure.specs.Near.{twob, Unlisted};
 ghost use Rattle.closure.specs.Ready.{Ready, Range, Looks, redOf, redCount, listedPattern, listedStatus, listedClosed};
 
 // Inserts one edge of a cell.
@@ -145,6 +147,35 @@ fn bits(a: bool, b: bool, c: bool, d: bool, e: bool, f: bool) -> u8
     bit(a) + 2 * s
 }
 
+// Whether two of four tests pass.
+fn two_of(p: bool, q: bool, r: bool, s: bool) -> bool
+    ensures { λ t. ⌜ t ≡ twob p q r s ⌝ }
+{
+    bit(p) + bit(q) + bit(r) + bit(s) >= 2
+}
+
+// Whether an edge of the cell may be listed: two of its corners may be. Where it may not, none is.
+pub fn is_near(
+    cells: &[u16],
+    c: usize,
+    xs: &[u32],
+    ys: &[u32],
+    heads: &[u16],
+    links: &[u16],
+    from: usize,
+    n: usize,
+) -> bool
+    requires { ⌜ Looks (now cells) (now xs) (now ys) (now heads) (now links) (c + 1) from n ⌝ }
+    ensures { λ r. ⌜ (r ≡ false → Unlisted (listed (was xs) (was ys) from n) (cellAt (was cells) c)) ⌝ }
+{
+    two_of(
+        edges::may_meet(xs, ys, heads, links, from, n, cells[8 * c + 4]),
+        edges::may_meet(xs, ys, heads, links, from, n, cells[8 * c + 5]),
+        edges::may_meet(xs, ys, heads, links, from, n, cells[8 * c + 6]),
+        edges::may_meet(xs, ys, heads, links, from, n, cells[8 * c + 7]),
+    )
+}
+
 // The pattern of the cell's edges that are listed, by six searches.
 fn pattern_in(
     cells: &[u16],
@@ -169,6 +200,26 @@ fn pattern_in(
     )
 }
 
+// The same, without a search where no edge of the cell may be listed.
+fn pattern_near(
+    cells: &[u16],
+    c: usize,
+    xs: &[u32],
+    ys: &[u32],
+    heads: &[u16],
+    links: &[u16],
+    from: usize,
+    n: usize,
+) -> u8
+    requires { ⌜ Looks (now cells) (now xs) (now ys) (now heads) (now links) (c + 1) from n ⌝ }
+    ensures { λ r. ⌜ r ≡ listedPattern (listed (was xs) (was ys) from n) (cellAt (was cells) c) ⌝ }
+{
+    if !is_near(cells, c, xs, ys, heads, links, from, n) {
+        return 0;
+    }
+    pattern_in(cells, c, xs, ys, heads, links, from, n)
+}
+
 // The pattern of the cell's edges that are listed. On the highest level none is.
 pub fn pattern_of(
     cells: &[u16],
@@ -186,7 +237,7 @@ pub fn pattern_of(
     if from == n {
         return 0;
     }
-    pattern_in(cells, c, xs, ys, heads, links, from, n)
+    pattern_near(cells, c, xs, ys, heads, links, from, n)
 }
 
 // The status of a cell that is red or not, where the edges of its level's red cells are listed.
@@ -213,7 +264,7 @@ pub fn status_of(
     if from == n {
         return 0;
     }
-    pattern_in(cells, c, xs, ys, heads, links, from, n)
+    pattern_near(cells, c, xs, ys, heads, links, from, n)
 }
 
 // Whether each cell from first to last has the status that the listed edges ask for.

@@ -6,7 +6,8 @@ ghost use Rattle.base.specs.Places.{hasb};
 ghost use Rattle.base.specs.Lent.{was, is};
 ghost use Rattle.pairs.specs.Keys.{Room};
 ghost use Rattle.edges.specs.Pairs.{sorted, isb};
-ghost use Rattle.edges.specs.Table.{listed, Table, Edges, Inserted};
+ghost use Rattle.edges.specs.Table.{listed, Table, Edges, Inserted, Apart};
+ghost use mathlib.Core.Bool.{false};
 
 // Where an edge stands in the table, and how many entries the table has.
 pub struct Slot {
@@ -48,6 +49,22 @@ pub fn holds(
     let e = sorted_ends(a, b);
     let at = pairs::find(xs, ys, heads, links, from, n, e.low, e.high);
     at != 65535
+}
+
+// Whether an edge from `from` on may have the corner a. Where none may, none has.
+pub fn may_meet(
+    xs: &[u32],
+    ys: &[u32],
+    heads: &[u16],
+    links: &[u16],
+    from: usize,
+    n: usize,
+    a: u16,
+) -> bool
+    requires { ⌜ Table (now xs) (now ys) (now heads) (now links) from n ⌝ }
+    ensures { λ r. ⌜ (r ≡ false → Apart (listed (was xs) (was ys) from n) a) ⌝ }
+{
+    pairs::may_have(xs, ys, heads, links, from, n, a as u32)
 }
 
 // Finds the edge among the entries from `from` on, or adds it behind them.

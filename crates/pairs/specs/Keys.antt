@@ -3,19 +3,23 @@
 --   seek xs ys x y from m      the largest of the m entries from `from` on that is the pair x, y, or 65535
 --   bucket x y                 which of the 4096 buckets the pair lies in
 --   latest xs ys b m           the largest entry below m that lies in the bucket b, or 65535
+--   endOf x                    which of the 1024 places behind the buckets the number x lies in
+--   lastWith xs ys s m         the largest entry below m of which one number lies in the place s, or 65535
+--   noted heads n x y          heads in which n is the last entry at the places of x and y; short ones have no such places
 --   Keys xs ys heads links n   the table is in order, with n entries; callers hand it on and look at no field
 --   Room xs ys links n         one entry more has room
---   Clear heads                no bucket has an entry
+--   Clear heads                no bucket has an entry; clear-new: 65535 throughout
 --   Added xs ys n x y ..       what adding the pair x, y as the entry n leaves
+--   Without xs ys from n x     no entry from `from` to n has the number x
 --   Found xs ys x y from m e   e is one of the m entries from `from` on, and it is the pair x, y
 -- Laws of seek: seek-found, seek-none, seek-set (a store behind the entries), seek-same and seek-other (with one entry more).
 use mathlib.Core.Path.{_≡_, refl, sym, _∙_}
-use mathlib.Core.Bool.{Bool, true, false, _&&_, cond}
+use mathlib.Core.Bool.{Bool, true, false, _&&_, _||_, cond}
 use mathlib.Core.List.{List}
 use Prim.Native.Nat.{ℕ, zero, suc, _+_, _-_, _*_, _%_, _≤_, _<_}
 use native.Mathlib.Omega.{arith}
-use lib.Dec.{eqb}
-use lib.ListN.{length, getD, set}
+use lib.Dec.{eqb, leb}
+use lib.ListN.{length, getD, set, replicate, length-replicate, getD-replicate}
 use lib.Seq.{getD-set-same, getD-set-other}
 use borrow.Author.Tests.{eqb-true, eq-eqb, ne-eqb}
 
@@ -36,6 +40,19 @@ unfolding bucket
 latest xs ys b zero = 65535
 latest xs ys b (suc m) = cond (eqb (bucket (getD xs m 0) (getD ys m 0)) b) m (latest xs ys b m)
 
+-- places of single numbers, so that a search can be spared where no entry has a number; any function would do
+unfoldable pub endOf : ℕ → ℕ
+endOf x = x % 1024
+
+unfoldable pub lastWith : List ℕ → List ℕ → ℕ → ℕ → ℕ
+unfolding endOf
+lastWith xs ys s zero = 65535
+lastWith xs ys s (suc m) = cond (eqb (endOf (getD xs m 0)) s || eqb (endOf (getD ys m 0)) s) m (lastWith xs ys s m)
+
+unfoldable pub noted : List ℕ → ℕ → ℕ → ℕ → List ℕ
+unfolding endOf
+noted heads n x y = elim (leb 5120 (length heads)) [ true ↦ set (set heads (4096 + endOf x) n) (4096 + endOf y) n | false ↦ heads ]
+
 pub record Keys (xs ys heads links : List ℕ) (n : ℕ) : Type 0 where
   pub small : n ≤ 65535
   pub in-xs : n ≤ length xs
@@ -44,6 +61,7 @@ pub record Keys (xs ys heads links : List ℕ) (n : ℕ) : Type 0 where
   pub in-heads : 4096 ≤ length heads
   pub heads-right : (b : ℕ) → b < 4096 → getD heads b 0 ≡ latest xs ys b n
   pub links-right : (e : ℕ) → e < n → getD links e 0 ≡ latest xs ys (bucket (getD xs e 0) (getD ys e 0)) e
+  pub ends-right : 5120 ≤ length heads → (s : ℕ) → s < 1024 → getD heads (4096 + s) 0 ≡ lastWith xs ys s n
 
 pub record Room (xs ys links : List ℕ) (n : ℕ) : Type 0 where
   pub small : n < 65535
@@ -53,6 +71,28 @@ pub record Room (xs ys links : List ℕ) (n : ℕ) : Type 0 where
 
 pub record Clear (heads : List ℕ) : Type 0 where
   pub empty : (xs ys links : List ℕ) → Keys xs ys heads links 0
+
+pub clear-new : (k : ℕ) → 4096 ≤ k → Clear (replicate k 65535)
+unfolding latest lastWith
+clear-new k h =
+    let l : length {A = ℕ} (replicate k 65535) ≡ k = length-replicate {A = ℕ} k 65535 in
+    record {
+      empty = λ xs ys links.
+          record {
+            small = omega arith;
+            in-xs = omega arith;
+            in-ys = omega arith;
+            in-links = omega arith;
+            in-heads = omega arith;
+            heads-right = λ b m. getD-replicate k b 65535 0 (omega arith);
+            links-right = λ e m. absurd (omega arith);
+            ends-right = λ j s m. getD-replicate k (4096 + s) 65535 0 (omega arith);
+          };
+    }
+
+pub record Without (xs ys : List ℕ) (from n x : ℕ) : Type 0 where
+  pub first : (e : ℕ) → from ≤ e → e < n → getD xs e 0 ≡ x → ⊥
+  pub second : (e : ℕ) → from ≤ e → e < n → getD ys e 0 ≡ x → ⊥
 
 pub record Added (xs ys : List ℕ) (n x y : ℕ) (xs′ ys′ heads′ links′ : List ℕ) : Type 0 where
   pub xs-is : xs′ ≡ set xs n x

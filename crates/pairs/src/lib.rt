@@ -1,11 +1,12 @@
 // A table of pairs of numbers in which a pair is found fast. Its four lists are lent by the caller: the pairs in the order
 // in which they were added, n of them in use; each bucket's last entry; and behind each entry the one before it in its bucket.
-// 65535 stands for no entry.
+// 65535 stands for no entry. Where there are 1,024 places behind those of the buckets, they have the last entry with each number.
 ghost use mathlib.Core.Path.{_≡_};
 ghost use Prim.Native.Nat.{_+_, _-_, _<_, _≤_};
 ghost use lib.ListN.{length};
 ghost use Rattle.base.specs.Lent.{was, is};
-ghost use Rattle.pairs.specs.Keys.{bucket, hereb, seek, Keys, Room, Clear, Added};
+ghost use mathlib.Core.Bool.{false};
+ghost use Rattle.pairs.specs.Keys.{bucket, endOf, noted, hereb, seek, Keys, Room, Clear, Added, Without};
 
 // The bucket that the pair lies in.
 fn bucket_of(x: u32, y: u32) -> usize
@@ -27,7 +28,8 @@ pub fn clear(heads: &mut [u16])
     requires { ⌜ 4096 ≤ length (now heads) ⌝ }
     ensures { λ r. ⌜ Clear (is heads) ⌝ }
 {
-    for b in 0..4096 {
+    let k = heads.len();
+    for b in 0..k {
         heads[b] = 65535;
     }
 }
@@ -61,6 +63,48 @@ pub fn find(
     65535
 }
 
+// Where the last entry with x stands.
+fn end_of(x: u32) -> usize
+    ensures { λ r. ⌜ (r ≡ 4096 + endOf x) × (r < 5120) ⌝ }
+{
+    4096 + x as usize % 1024
+}
+
+// Whether an entry from `from` on may have x for one of its two numbers. Where it may not, none has.
+pub fn may_have(
+    xs: &[u32],
+    ys: &[u32],
+    heads: &[u16],
+    links: &[u16],
+    from: usize,
+    n: usize,
+    x: u32,
+) -> bool
+    requires { ⌜ Keys (now xs) (now ys) (now heads) (now links) n ⌝ }
+    ensures { λ r. ⌜ (r ≡ false → Without (was xs) (was ys) from n x) ⌝ }
+{
+    if heads.len() < 5120 {
+        return true;
+    }
+    let s = end_of(x);
+    let e = heads[s];
+    (e as usize + 1) % 65536 > from
+}
+
+// Notes n as the last entry with x and with y.
+fn note(heads: &mut [u16], n: usize, x: u32, y: u32)
+    requires { ⌜ n < 65536 ⌝ }
+    ensures { λ r. ⌜ is heads ≡ noted (was heads) n x y ⌝ }
+{
+    if heads.len() < 5120 {
+        return;
+    }
+    let a = end_of(x);
+    let b = end_of(y);
+    heads[a] = n as u16;
+    heads[b] = n as u16;
+}
+
 // Adds the pair as entry n, whether it is there already or not.
 pub fn add(
     xs: &mut [u32],
@@ -81,4 +125,5 @@ pub fn add(
     ys[n] = y;
     links[n] = before;
     heads[b] = n as u16;
+    note(heads, n, x, y);
 }

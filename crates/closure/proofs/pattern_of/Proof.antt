@@ -12,11 +12,11 @@ returns c =
     let a = c .before .before .before .before .before .before .args in
     sym (pattern-unlisted (a .xs .now) (a .ys .now) (a .from) (a .n) (cellAt (a .cells .now) (a .c)) (c .if1 .taken))
 
-pattern-in-requires : tie.Need-pattern-in-requires
-pattern-in-requires c κs = search needs
+pattern-near-requires : tie.Need-pattern-near-requires
+pattern-near-requires c κs = search needs
 
 returns-2 : tie.Need-returns-2
 returns-2 c = search needs
 
 pub pattern-of-spec : {M : Type 1} → statement M
-pattern-of-spec = tie.close (tie.spec returns pattern-in-requires returns-2)
+pattern-of-spec = tie.close (tie.spec returns pattern-near-requires returns-2)

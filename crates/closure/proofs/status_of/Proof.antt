@@ -33,17 +33,17 @@ returns-3 c =
     (sym (c .before .before .before .is-regular .ensures) ∙ not-false _ (c .before .before .if1 .left)) (c .before .if2 .left)
     ∙ pattern-unlisted (a .xs .now) (a .ys .now) (a .from) (a .n) t (c .if3 .taken))
 
-pattern-in-requires : tie.Need-pattern-in-requires
-pattern-in-requires c κs = search needs
+pattern-near-requires : tie.Need-pattern-near-requires
+pattern-near-requires c κs = search needs
 
 returns-4 : tie.Need-returns-4
 returns-4 c =
     let a = c .before .before .before .before .before .before .before .before .before .before .args in
-    c .pattern-in .ensures
+    c .pattern-near .ensures
     ∙ sym (status-pattern (listed (a .xs .now) (a .ys .now) (a .from) (a .n)) (a .red) (cellAt (a .cells .now) (a .c))
     (sym (c .before .before .before .before .is-regular .ensures) ∙ not-false _ (c .before .before .before .if1 .left))
     (c .before .before .if2 .left))
 
 pub status-of-spec : {M : Type 1} → statement M
 status-of-spec =
-    tie.close (tie.spec is-regular-requires returns returns-2 returns-3 pattern-in-requires returns-4)
+    tie.close (tie.spec is-regular-requires returns returns-2 returns-3 pattern-near-requires returns-4)

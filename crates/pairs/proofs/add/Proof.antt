@@ -1,7 +1,9 @@
 -- `pairs::add` meets its contract: the entry is stored behind the others, and becomes the last one of its bucket.
 -- Assumes nothing.
+use mathlib.Core.Path.{_∙_, ap}
+use lib.ListN.{length, set, length-set}
 use borrow.Author.Needs.{needs}
-use Rattle.pairs.proofs.More.{added-at}
+use Rattle.pairs.proofs.More.{added-at, noted-length}
 use Rattle.pairs.proofs.add.Statement.{statement}
 use Rattle.pairs.proofs.add.Tie as tie
 
@@ -41,6 +43,9 @@ mul-heads c = search needs
 slice-write-heads : tie.Need-slice-write-heads
 slice-write-heads c = search needs
 
+note-requires : tie.Need-note-requires
+note-requires c κs = search needs
+
 same-length : tie.Need-same-length
 same-length c = search needs
 
@@ -48,16 +53,20 @@ same-length-2 : tie.Need-same-length-2
 same-length-2 c = search needs
 
 same-length-3 : tie.Need-same-length-3
-same-length-3 c = search needs
+same-length-3 c =
+    let a = c .before .before .before .before .before .before .before .before .before .before .args in
+    let b = c .before .before .before .before .before .bucket-of .result in
+    ap length (c .before .before .note .ensures) ∙ noted-length (set (a .heads .now) b (a .n)) (a .n) (a .x) (a .y)
+    ∙ length-set (a .heads .now) b (a .n)
 
 same-length-4 : tie.Need-same-length-4
 same-length-4 c = search needs
 
 returns : tie.Need-returns
 returns c =
-    let s = c .before .before .before .before .before .before in
-    let b = c .before .bucket-of in
-    added-at (s .pre .0) (s .pre .1) (b .result) (b .ensures .0) (b .ensures .1)
+    let s = c .before .before .before .before .before .before .before .before .before .before in
+    let b = c .before .before .before .before .before .bucket-of in
+    rw (c .before .before .note .ensures) (added-at (s .pre .0) (s .pre .1) (b .result) (b .ensures .0) (b .ensures .1))
 
 pub add-spec : {M : Type 1} → statement M
 add-spec =
@@ -75,6 +84,7 @@ add-spec =
     cast-heads
     mul-heads
     slice-write-heads
+    note-requires
     same-length
     same-length-2
     same-length-3

@@ -1,21 +1,22 @@
--- `pairs::clear` meets its contract: the heads passed are 65535. The measure is what is left of the 4096.
+-- `pairs::clear` meets its contract: the heads passed are 65535. The measure is what is left of them.
 -- Assumes nothing.
-use mathlib.Core.Path.{_≡_}
-use mathlib.Core.List.{_++_}
-use Prim.Native.Nat.{_-_, _≤_}
+use mathlib.Core.Path.{_≡_, _∙_}
+use mathlib.Core.List.{_++_, append-nil}
+use Prim.Native.Nat.{ℕ, _-_, _≤_}
 use native.Mathlib.Omega.{arith}
 use lib.ListN.{length, drop, replicate}
+use lib.Seq.{drop-length}
 use borrow.Author.Needs.{needs}
 use borrow.Author.Fill.{fill-none, fill-more}
-use Rattle.pairs.proofs.More.{cleared}
+use Rattle.pairs.specs.Keys.{Clear, clear-new}
 use Rattle.pairs.proofs.clear.Statement.{statement}
 use Rattle.pairs.proofs.clear.Tie as tie
 
 abbrev Inv-loop : tie.InvT-loop
-Inv-loop heads₀ b₀ heads b = (b ≤ 4096) × (length heads ≡ length heads₀) × (heads ≡ replicate b 65535 ++ drop b heads₀)
+Inv-loop heads₀ k b₀ heads b = (b ≤ k) × (length heads ≡ length heads₀) × (heads ≡ replicate b 65535 ++ drop b heads₀)
 
 abbrev μ-loop : tie.MeasureT-loop
-μ-loop heads₀ b₀ heads b = 4096 - b
+μ-loop heads₀ k b₀ heads b = k - b
 
 loop-holds : tie.Need-loop-holds Inv-loop μ-loop
 loop-holds c = (search needs, search needs, fill-none (c .args .heads .now) 65535)
@@ -45,8 +46,9 @@ returns : tie.Need-returns Inv-loop μ-loop
 returns c =
     let l = c .before .loop in
     let o = c .before .before .args .heads .now in
-    let e : l .b ≡ 4096 = omega arith in
-    cleared o (l .heads) (omega arith) (rw e at (l .inv .2))
+    let e : l .b ≡ length o = omega arith in
+    let w : l .heads ≡ replicate (length o) 65535 ++ drop (length o) o = rw e at (l .inv .2) in
+    rw (w, drop-length o, append-nil {A = ℕ} (replicate (length o) 65535)) (clear-new (length o) (omega (arith, c .before .before .pre)))
 
 pub clear-spec : {M : Type 1} → statement M
 clear-spec =

@@ -1,0 +1,40 @@
+-- `pairs::may_have` meets its contract: an entry with x is not above the last one noted at its place.
+-- Assumes nothing.
+use mathlib.Core.Path.{refl}
+use mathlib.Core.Bool.{true}
+use native.Mathlib.Omega.{arith}
+use borrow.Author.Tests.{ltb-false}
+use Rattle.base.specs.Bools.{not-both}
+use borrow.Author.Needs.{needs}
+use Rattle.pairs.proofs.More.{without}
+use Rattle.pairs.proofs.may_have.Statement.{statement}
+use Rattle.pairs.proofs.may_have.Tie as tie
+
+returns : tie.Need-returns
+returns c = λ h. not-both true refl h
+
+end-of-requires : tie.Need-end-of-requires
+end-of-requires c κs = search needs
+
+mul-e : tie.Need-mul-e
+mul-e c = search needs
+
+shared-slice-read-e : tie.Need-shared-slice-read-e
+shared-slice-read-e c = search needs
+
+cast-result : tie.Need-cast-result
+cast-result c = omega (arith, c .shared-slice-known5 .given (c .before .end-of .result))
+
+add-result : tie.Need-add-result
+add-result c = omega (arith, c .shared-slice-known5 .given (c .before .end-of .result))
+
+returns-2 : tie.Need-returns-2
+returns-2 c = λ h.
+    let s = c .before .before .before .before .before .before .before in
+    without (s .args .xs .now) (s .args .ys .now) (s .args .heads .now) (s .args .links .now) (s .args .n) (s .args .x) (s .pre)
+    (omega (arith, c .before .before .if1 .left)) (s .args .from) _ (rw (c .before .end-of .ensures .0)) (ltb-false _ _ h)
+
+pub may-have-spec : {M : Type 1} → statement M
+may-have-spec =
+    tie.close
+    (tie.spec returns end-of-requires mul-e shared-slice-read-e cast-result add-result returns-2)

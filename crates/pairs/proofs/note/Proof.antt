@@ -1,0 +1,69 @@
+-- `pairs::note` meets its contract: two stores behind the buckets, where there is room for them.
+-- Assumes nothing.
+use native.Mathlib.Omega.{arith}
+use lib.ListN.{length-set}
+use borrow.Author.Needs.{needs}
+use Rattle.pairs.proofs.More.{noted-short, noted-long}
+use Rattle.pairs.proofs.note.Statement.{statement}
+use Rattle.pairs.proofs.note.Tie as tie
+
+returns : tie.Need-returns
+returns c =
+    let a = c .before .before .args in
+    noted-short (a .heads .now) (a .n) (a .x) (a .y) (c .if1 .taken)
+
+end-of-requires : tie.Need-end-of-requires
+end-of-requires c κs = search needs
+
+end-of-requires-2 : tie.Need-end-of-requires-2
+end-of-requires-2 c κs = search needs
+
+cast-heads : tie.Need-cast-heads
+cast-heads c = search needs
+
+mul-heads : tie.Need-mul-heads
+mul-heads c = search needs
+
+slice-write-heads : tie.Need-slice-write-heads
+slice-write-heads c = search needs
+
+cast-heads-2 : tie.Need-cast-heads-2
+cast-heads-2 c = search needs
+
+mul-heads-2 : tie.Need-mul-heads-2
+mul-heads-2 c = search needs
+
+slice-write-heads-2 : tie.Need-slice-write-heads-2
+slice-write-heads-2 c =
+    let a = c .before .before .before .before .args in
+    omega (
+      arith,
+      length-set (a .heads .now) (c .before .end-of .result) (a .n),
+      c .before .before .if1 .left,
+      c .end-of2 .ensures .1,
+    )
+
+same-length : tie.Need-same-length
+same-length c = search needs
+
+returns-2 : tie.Need-returns-2
+returns-2 c =
+    let a = c .before .before .before .before .args in
+    noted-long (a .heads .now) (a .n) (a .x) (a .y) (omega (arith, c .before .before .if1 .left)) (c .before .end-of .result)
+    (c .end-of2 .result) (c .before .end-of .ensures .0) (c .end-of2 .ensures .0)
+
+pub note-spec : {M : Type 1} → statement M
+note-spec =
+    tie.close
+    (tie.spec
+    returns
+    end-of-requires
+    end-of-requires-2
+    cast-heads
+    mul-heads
+    slice-write-heads
+    cast-heads-2
+    mul-heads-2
+    slice-write-heads-2
+    same-length
+    returns-2)
