@@ -1,3 +1,2 @@
 pub mod CoarseRows
 pub mod Turns
-pub mod Empty

@@ -49,7 +49,7 @@ fn check_level(
     last: usize,
     xs: &mut [u32; 3072],
     ys: &mut [u32; 3072],
-    heads: &mut [u16; 4096],
+    heads: &mut [u16; 5120],
     links: &mut [u16; 3072],
     n: usize,
 ) -> Level
@@ -112,7 +112,7 @@ fn build(
     qs: &mut [u32; 4096],
     xs: &mut [u32; 3072],
     ys: &mut [u32; 3072],
-    heads: &mut [u16; 4096],
+    heads: &mut [u16; 5120],
     links: &mut [u16; 3072],
     mid_heads: &mut [u16; 4096],
     mid_links: &mut [u16; 4096],
@@ -197,7 +197,7 @@ pub fn examine(
     }
     let mut xs = [0u32; 3072];
     let mut ys = [0u32; 3072];
-    let mut heads = [65535u16; 4096];
+    let mut heads = [65535u16; 5120];
     let mut links = [0u16; 3072];
     let mut mid_heads = [65535u16; 4096];
     let mut mid_links = [0u16; 4096];

@@ -4,7 +4,8 @@ use mathlib.Core.Path.{sym, _∙_}
 use borrow.Author.Tests.{not-true, not-false}
 use Rattle.base.specs.Fours.{fours}
 use Rattle.tables.specs.Finish.{unsound-examined, unsound-long, unsound-status}
-use Rattle.tables.proofs.Empty.{clear-new}
+use native.Mathlib.Omega.{arith}
+use Rattle.pairs.specs.Keys.{clear-new}
 use borrow.Author.Needs.{needs}
 use Rattle.tables.proofs.examine.Statement.{statement}
 use Rattle.tables.proofs.examine.Tie as tie
@@ -52,7 +53,7 @@ build-requires c
         },
         (
           c .before .before .before .before .before .before .before .before .before .before .digit-table .ensures,
-          (clear-new, clear-new),
+          (clear-new 5120 (omega arith), clear-new 4096 (omega arith)),
         ),
       ),
     )
