@@ -8,6 +8,7 @@ ghost use lib.Dec.{leb};
 ghost use lib.IntN.{natAbs};
 ghost use lib.ListN.{length, getD};
 ghost use Rattle.base.specs.Fours.{fours};
+ghost use Rattle.pairs.specs.Keys.{Clear};
 ghost use Rattle.base.specs.Lent.{was, is};
 ghost use Rattle.cutting.specs.Rule.{zerob};
 ghost use Rattle.mesh.specs.Coarse.{countsb, positionsb, cellb, cellsb, coordinateAt, determinant, solidb, twiceb, singleb, meshAnswer};
@@ -213,7 +214,7 @@ fn pair(a: u16, b: u16) -> u32
     a as u32 * 512 + b as u32
 }
 
-// No two cells have the same corners. The five tables are for the work, whatever they hold; so it is for the faces.
+// No two cells have the same corners. The five tables are for the work, whatever they hold but for the heads, which are empty.
 fn cells_differ(
     cells: &[u16],
     xs: &mut [u32; 1024],
@@ -224,10 +225,10 @@ fn cells_differ(
 ) -> bool
     requires { ⌜ Ranked (now cells) ⌝ }
     requires { ⌜ Tables (now xs) (now ys) (now heads) (now links) (now counts) ⌝ }
+    requires { ⌜ Clear (now heads) ⌝ }
     ensures { λ r. ⌜ r ≡ not (twiceb (fours (was cells))) ⌝ }
     ensures { λ r. ⌜ Tables (is xs) (is ys) (is heads) (is links) (is counts) ⌝ }
 {
-    pairs::clear(heads);
     let mut n: usize = 0;
     for k in 0..cells.len() / 4 {
         let q = cell_at(cells, k);
@@ -277,7 +278,7 @@ fn face_at(cells: &[u16], i: usize) -> Face
     }
 }
 
-// No face is in three cells.
+// No face is in three cells. The tables are for the work, whatever they hold.
 fn faces_ok(
     cells: &[u16],
     xs: &mut [u32; 1024],
@@ -312,7 +313,7 @@ fn single(cells: &[u16]) -> bool
 {
     let mut xs = [0u32; 1024];
     let mut ys = [0u32; 1024];
-    let mut heads = [0u16; 4096];
+    let mut heads = [65535u16; 4096];
     let mut links = [0u16; 1024];
     let mut counts = [0u8; 1024];
     if !cells_differ(cells, &mut xs, &mut ys, &mut heads, &mut links, &mut counts) {

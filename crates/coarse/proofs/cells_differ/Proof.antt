@@ -9,7 +9,7 @@ use borrow.Author.Needs.{needs}
 use Rattle.base.specs.Fours.{fours}
 use Rattle.coarse.specs.Tally.{lead, lowCell}
 use Rattle.coarse.proofs.Meets.{Sofar, meets-start}
-use Rattle.coarse.proofs.Turns.{tables-on, cells-open, cells-turn, cells-over, cells-end}
+use Rattle.coarse.proofs.Turns.{cells-open, cells-turn, cells-over, cells-end}
 use Rattle.coarse.proofs.cells_differ.Statement.{statement}
 use Rattle.coarse.proofs.cells_differ.Tie as tie
 
@@ -25,17 +25,12 @@ abbrev top : tie.After-cell-at Inv-loop μ-loop → tie.At-loop Inv-loop μ-loop
 top c = c .before .before
 
 abbrev entry : tie.At-loop Inv-loop μ-loop → tie.Start Inv-loop μ-loop
-entry c = c .before .before .before .before
-
-clear-requires : tie.Need-clear-requires Inv-loop μ-loop
-clear-requires c κs = search needs
+entry c = c .before .before
 
 loop-holds : tie.Need-loop-holds Inv-loop μ-loop
 loop-holds c =
-    let s = c .before .before .before in
-    let k = c .clear in
-    let t = tables-on (s .pre .1) (k .last .0) (k .kept .0) in
-    (omega arith, refl, meets-start lead lowCell 1 (fours (s .args .cells .now)) t (k .ensures))
+    let s = c .before in
+    (omega arith, refl, meets-start lead lowCell 1 (fours (s .args .cells .now)) (s .pre .1 .0) (s .pre .1 .1))
 
 cell-at-requires : tie.Need-cell-at-requires Inv-loop μ-loop
 cell-at-requires c κs = c .loop-test .taken
@@ -93,7 +88,6 @@ cells-differ-spec =
     (tie.spec
     Inv-loop
     μ-loop
-    clear-requires
     loop-holds
     cell-at-requires
     pair-requires

@@ -1,7 +1,9 @@
 -- `coarse::single` meets its contract: its two halves are those of the definition.
 -- Assumes nothing.
 use Prim.Native.Nat.{ℕ}
+use native.Mathlib.Omega.{arith}
 use lib.ListN.{replicate, length-replicate}
+use Rattle.pairs.specs.Keys.{clear-new}
 use Rattle.base.specs.Fours.{fours}
 use Rattle.coarse.proofs.Answers.{not-single, half-single}
 use Rattle.coarse.proofs.Turns.{fresh}
@@ -11,8 +13,7 @@ use Rattle.coarse.proofs.single.Tie as tie
 cells-differ-requires : tie.Need-cells-differ-requires
 cells-differ-requires c κs = (
   c .before .before .before .before .before .before .pre,
-  fresh (replicate 4096 0) (length-replicate
-      {A = ℕ} 4096 0),
+  (fresh (replicate 4096 65535) (length-replicate {A = ℕ} 4096 65535), clear-new 4096 (omega arith)),
 )
 
 returns : tie.Need-returns
