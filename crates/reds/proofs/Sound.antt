@@ -1,6 +1,6 @@
 -- What a sound table with its rows gives the functions.
--- Laws: count-whole (a table's cells are the coarse ones and all children), marked-old, marked-start,
--- marked-flags, marked-length, marked-result (what the functions ask for and give).
+-- Laws: count-whole (a table's cells are the coarse ones and all children), marked-old, marked-span,
+-- marked-result (what the functions ask for and give).
 -- Assumes nothing.
 use mathlib.Core.Path.{_≡_, refl, sym, _∙_, ap, ap₂}
 use mathlib.Core.Bool.{true}
@@ -30,7 +30,7 @@ use Rattle.tables.specs.Finish.{rows-in}
 use Rattle.mesh.specs.Laws.{sound-count, length-coarse}
 use Rattle.lineage.specs.Olds.{firstChild, flagTable}
 use Rattle.reds.specs.Flags.{flagsAt, redsUp, flagsUp}
-use Rattle.reds.specs.Old.{OldRows, Marked}
+use Rattle.reds.specs.Old.{OldRows, Span, FlagsWritten, Marked}
 use Rattle.reds.specs.Firsts.{first-add, first-start, first-at, Firsts, firsts-top, firsts-up, length-firsts}
 use Rattle.reds.proofs.Tests.{Seen}
 use Rattle.reds.proofs.Writes.{length-flags}
@@ -155,8 +155,11 @@ module _ (n : ℕ) (mesh rows ss ms firsts red : List ℕ) (g : Marked n mesh ro
       down ks cs rows seen (length qs) ss ms firsts firsts-are count 12 0 (coarseCells n qs) e (omega arith) refl in
       ap (flagsUp rows ss ms firsts 12 0) (firsts-are .at 0 (omega arith) ∙ sym e) ∙ sym (d .flags-are)
 
-  pub marked-start : getD firsts 0 0 ≤ length ss
+  marked-start : getD firsts 0 0 ≤ length ss
   marked-start = firsts-top (length qs) ss firsts firsts-are 0 (omega arith)
+
+  pub marked-span : Span ss red 0 (getD firsts 0 0)
+  marked-span = record { up = omega arith; inside = marked-start; room = g .room }
 
   marked-length : length (flagTable n qs ss ms) ≡ length ss
   marked-length =
@@ -170,8 +173,7 @@ module _ (n : ℕ) (mesh rows ss ms firsts red : List ℕ) (g : Marked n mesh ro
       )
 
   pub marked-result : (red′ : List ℕ)
-      → red′ ≡ take 0 red ++ (flagsUp rows ss ms firsts 12 0 (getD firsts 0 0) ++ drop
-      (0 + length (flagsUp rows ss ms firsts 12 0 (getD firsts 0 0))) red)
+      → FlagsWritten rows ss ms firsts 12 0 (getD firsts 0 0) red red′
       → red′ ≡ flagTable n qs ss ms ++ drop (length ss) red
   marked-result red′ e =
       let up : List ℕ = flagsUp rows ss ms firsts 12 0 (getD firsts 0 0) in

@@ -3,9 +3,9 @@
 -- for), above-more (one level more).
 -- Assumes nothing.
 use mathlib.Core.Path.{_≡_, refl, sym, _∙_, ap, ap₂, fun-ext}
-use mathlib.Core.Bool.{Bool}
+use mathlib.Core.Bool.{Bool, true, false}
 use mathlib.Core.List.{List, [], _∷_, _++_}
-use Prim.Native.Nat.{ℕ, suc, _+_, _*_, _-_, _≤_}
+use Prim.Native.Nat.{ℕ, zero, suc, _+_, _*_, _-_, _≤_}
 use native.Mathlib.Nat.{add-zero}
 use native.Mathlib.Omega.{arith}
 use lib.Dec.{eqb}
@@ -19,16 +19,32 @@ use Rattle.rows.specs.Numbered.{cellsAt, part}
 use Rattle.closure.specs.Ready.{Ready, Range, redCount}
 use Rattle.closure.specs.Closed.{lists-added, held-listed}
 use Rattle.closure.specs.Steps.{length-reds}
-use Rattle.reds.specs.Flags.{listedb, flagsAt, redsUp, flagsUp}
-use Rattle.reds.specs.Old.{OldRows, Span, OneLevel, Above}
+use Rattle.lineage.specs.Olds.{flagOf}
+use Rattle.reds.specs.Flags.{listedb, redAtb, flagsAt, redsUp, flagsUp}
+use Rattle.reds.specs.Crowd.{candidateb, crowdOf, crowd-one, crowd-most, crowd-add, crowd-rest}
+use Rattle.reds.specs.Old.{OldRows, Span, OneLevel, CrowdRoom, Above}
+use Rattle.reds.proofs.Cases.{red-candidate}
 use Rattle.reds.proofs.Writes.{length-flags, flags-both}
-use Rattle.base.specs.Bools.{one-most}
+use Rattle.base.specs.Bools.{one-if}
+use Rattle.base.specs.Range.{range}
 use Rattle.rows.specs.Laws.{length-cells}
 
-reds-few : (ss : List ℕ) → redCount ss ≤ length ss
-unfolding redCount
-reds-few [] = omega arith
-reds-few (s ∷ ss) = omega (arith, reds-few ss, one-most (redb s))
+flag-few : (b c : Bool) → (b ≡ true → c ≡ true) → one-if (redb (flagOf b)) ≤ one-if c
+unfolding flagOf one-if
+flag-few true c h = rw (h refl) (omega arith)
+flag-few false c h = omega arith
+
+-- the new red cells of a level are of the crowd
+reds-few : (t ss ms ks : List ℕ) (held : Pair → Bool) (k m : ℕ) → redCount (flagsAt t ss ms ks held k m) ≤ crowdOf ss ms k m
+unfolding flagsAt redCount range
+reds-few t ss ms ks held k zero = omega arith
+reds-few t ss ms ks held k (suc m) =
+    omega (
+      arith,
+      reds-few t ss ms ks held (suc k) m,
+      flag-few (redAtb t ss ms ks held k) (candidateb (getD ss k 0) (getD ms k 0)) (red-candidate t ss ms ks held k),
+      crowd-one ss ms k m,
+    )
 
 none-listed : (xs ys : List ℕ) (n : ℕ) → listed xs ys n n ≡ []
 unfolding pairsOf
@@ -85,17 +101,24 @@ module _ (t ss ms ks : List ℕ) (h first last : ℕ) (red red₁ xs₁ ys₁ he
         ∙ ap (take (last - first)) (drop-at (take first red₁) (own ++ drop last red₁) first k) ∙ take-at own (drop last red₁) (last - first)
         own-length
 
-    few-own : redCount (part red₂ first (last - first)) ≤ last - first
-    few-own = omega (arith, ap redCount own-part, reds-few own, own-length)
+    few-own : redCount (part red₂ first (last - first)) ≤ crowdOf ss ms first (last - first)
+    few-own = omega (arith, ap redCount own-part, reds-few t ss ms ks (listedb xs₁ ys₁ from₁ n₁) first (last - first))
 
-    module _ (ix : 24576 ≤ length xs₁) (iy : 24576 ≤ length ys₁) (il : 24576 ≤ length links₁) (same₂ : length red₂ ≡ length red₁) where
+    -- the crowd of this level and of those above it
+    crowd-both : crowdOf ss ms first (length ss - first) ≡ crowdOf ss ms first (last - first) + crowdOf ss ms last (length ss - last)
+    crowd-both =
+        let i : length ss - first ≡ (last - first) + (length ss - last) = omega (arith, s .up, s .inside) in
+        let j : first + (last - first) ≡ last = omega (arith, s .up) in
+        rw i (rw j at (crowd-add ss ms first (last - first) (length ss - last)))
+
+    module _ (room : CrowdRoom ss ms xs₁ ys₁ links₁) (same₂ : length red₂ ≡ length red₁) where
       pub reds-range : Range red₂ first last
       reds-range = record { up = s .up; inside = omega (arith, s .inside, s .room, same, same₂) }
 
       pub reds-ready : Ready t xs₁ ys₁ heads₁ links₁ last n₁ n₁ (6 * redCount (part red₂ first (last - first)))
       reds-ready =
-          let w : n₁ + 6 * redCount (part red₂ first (last - first)) ≤ 24576 = omega
-          (arith, few-own, above .few, o .few, s .up, s .inside) in
+          let w : n₁ + 6 * redCount (part red₂ first (last - first)) ≤ 6 * crowdOf ss ms 0 (length ss) = omega
+          (arith, few-own, above .few, crowd-both, crowd-rest ss ms first (length ss) (omega (arith, s .up, s .inside))) in
           record {
             rows = omega (arith, o .rows, s .inside);
             table = record {
@@ -104,7 +127,12 @@ module _ (t ss ms ks : List ℕ) (h first last : ℕ) (red red₁ xs₁ ys₁ he
               distinct = rw (none-listed xs₁ ys₁ n₁)
                   (distinct-nil isb (0, 0) same-pair);
             };
-            space = record { small = omega arith; in-xs = omega arith; in-ys = omega arith; in-links = omega arith };
+            space = record {
+              small = omega (arith, crowd-most ss ms 0 (length ss), o .few);
+              in-xs = omega (arith, room .in-xs);
+              in-ys = omega (arith, room .in-ys);
+              in-links = omega (arith, room .in-links);
+            };
           }
 
     module _ (xs₂ ys₂ heads₂ links₂ : List ℕ) (m : ℕ) where
@@ -115,7 +143,7 @@ module _ (t ss ms ks : List ℕ) (h first last : ℕ) (red red₁ xs₁ ys₁ he
       unfolding redsUp
       es-are = ap (redEdges 0 (cellsAt t first (last - first))) (own-part ∙ own-are)
 
-      es-few : length es ≤ 6 * (last - first)
+      es-few : length es ≤ 6 * crowdOf ss ms first (last - first)
       es-few =
           omega (
             arith,
@@ -138,5 +166,5 @@ module _ (t ss ms ks : List ℕ) (h first last : ℕ) (red red₁ xs₁ ys₁ he
             flags = rw own-are at f;
             table = record { keys = g .edges .keys; up = g .more };
             lists = rw l (lists-added (redsUp t ss ms ks (suc h) first last));
-            few = omega (arith, g .most, es-few, above .few, s .up, s .inside);
+            few = omega (arith, g .most, es-few, above .few, crowd-both);
           })

@@ -1,4 +1,5 @@
 pub mod Flags
+pub mod Crowd
 pub mod Old
 pub mod Ranges
 pub mod Born

@@ -3,6 +3,8 @@
 --   OldRows t ss ms ks       the old table, as far as it matters for looking at it
 --   Span ..              cells of the old table from first to last, and flags for all cells
 --   OneLevel ..          the same where they are a level, and an edge table with nothing in it
+--   CrowdRoom ..         room for six edges of each cell that may be red
+--   FlagsWritten ..      the flags that treating h levels from this one on leaves
 --   Above ..             what treating h levels from this one on leaves
 --   Marked ..            a sound table over an accepted mesh of n corners with its rows, and marks
 use mathlib.Core.Path.{_≡_}
@@ -18,6 +20,7 @@ use Rattle.edges.specs.Table.{Table, listed}
 use Rattle.closure.specs.Closed.{Lists}
 use Rattle.tables.specs.Sound.{Mesh, tableCells, examinedCorners}
 use Rattle.reds.specs.Flags.{firstChildren, redsUp, flagsUp}
+use Rattle.reds.specs.Crowd.{crowdOf}
 
 pub record OldRows (t ss ms ks : List ℕ) : Type 0 where
   pub few : length ss ≤ 4096
@@ -37,11 +40,20 @@ pub record OneLevel (ss ks red xs ys heads links : List ℕ) (first last : ℕ) 
   pub children : last ≡ getD ks first 0
   pub keys : Keys xs ys heads links 0
 
+pub record CrowdRoom (ss ms xs ys links : List ℕ) : Type 0 where
+  pub in-xs : 6 * crowdOf ss ms 0 (length ss) ≤ length xs
+  pub in-ys : 6 * crowdOf ss ms 0 (length ss) ≤ length ys
+  pub in-links : 6 * crowdOf ss ms 0 (length ss) ≤ length links
+
+abbrev pub FlagsWritten : List ℕ → List ℕ → List ℕ → List ℕ → ℕ → ℕ → ℕ → List ℕ → List ℕ → Type 0
+FlagsWritten t ss ms ks h first last red red′ = red′ ≡ take first red ++ (flagsUp t ss ms ks h first last ++ drop
+    (first + length (flagsUp t ss ms ks h first last)) red)
+
 pub record Above (t ss ms ks : List ℕ) (h first last : ℕ) (red red′ xs′ ys′ heads′ links′ : List ℕ) (from n : ℕ) : Type 0 where
-  pub flags : red′ ≡ take first red ++ (flagsUp t ss ms ks h first last ++ drop (first + length (flagsUp t ss ms ks h first last)) red)
+  pub flags : FlagsWritten t ss ms ks h first last red red′
   pub table : Table xs′ ys′ heads′ links′ from n
   pub lists : Lists (listed xs′ ys′ from n) (redsUp t ss ms ks h first last)
-  pub few : n ≤ 6 * (length ss - first)
+  pub few : n ≤ 6 * crowdOf ss ms first (length ss - first)
 
 -- Rules 6.1 to 6.4, 7.1: a sound table with its rows, and one mark for each cell.
 pub record Marked (n : ℕ) (mesh rows ss ms ks red : List ℕ) : Type 0 where

@@ -4,15 +4,18 @@ ghost use mathlib.Core.Bool.{true};
 ghost use mathlib.Core.List.{_++_};
 ghost use Prim.Native.Nat.{suc, _+_, _*_, _-_, _≤_, _<_};
 ghost use lib.Dec.{leb};
-ghost use lib.ListN.{length, take, drop};
+ghost use lib.ListN.{length, getD, take, drop};
 ghost use Rattle.base.specs.Fours.{fours};
 ghost use Rattle.base.specs.Lists.{allb, anyb};
+ghost use Rattle.base.specs.Bools.{one-if};
 ghost use Rattle.base.specs.Lent.{was, is};
+ghost use Rattle.pairs.specs.Keys.{Clear};
 ghost use Rattle.edges.specs.Table.{Table};
 ghost use Rattle.closure.specs.Ready.{Looks};
 ghost use Rattle.lineage.specs.Olds.{flagOf, flagTable};
 ghost use Rattle.reds.specs.Flags.{firstChildren, listedb, idleb, touchedb, redAtb, flagsAt, pulledb};
-ghost use Rattle.reds.specs.Old.{OldRows, Span, OneLevel, Above, Marked};
+ghost use Rattle.reds.specs.Crowd.{candidateb, crowdOf};
+ghost use Rattle.reds.specs.Old.{OldRows, Span, OneLevel, CrowdRoom, FlagsWritten, Above, Marked};
 ghost use Rattle.base.specs.Range.{range};
 
 // The number of the first child of each cell, and behind them the count of all cells.
@@ -241,6 +244,31 @@ fn flag_level(
     }
 }
 
+// 1 for a cell that is refined or marked 1, else 0.
+fn candidate(status: u8, mark: u8) -> usize
+    ensures { λ r. ⌜ r ≡ one-if (candidateb status mark) ⌝ }
+    ensures { λ r. ⌜ r ≤ 1 ⌝ }
+{
+    if status != 0 {
+        return 1;
+    }
+    if mark == 1 { 1 } else { 0 }
+}
+
+// How many cells are refined or marked 1. No other cell will be red.
+fn crowd(status: &[u8], marks: &[u8]) -> usize
+    requires { ⌜ length (now marks) ≡ length (now status) ⌝ }
+    ensures { λ r. ⌜ r ≡ crowdOf (was status) (was marks) 0 (length (was status)) ⌝ }
+{
+    let mut n = 0;
+    let mut c = 0;
+    while c < status.len() {
+        n += candidate(status[c], marks[c]);
+        c += 1;
+    }
+    n
+}
+
 // The entries of a level's edges in the edge table.
 struct Entries {
     from: usize,
@@ -248,7 +276,7 @@ struct Entries {
 }
 
 // Writes the flags of the level from first to last and of those above it, depth levels in all, and lists the edges of its new red
-// cells behind those of the levels above. The edge table has room for six edges of each of 4,096 cells.
+// cells behind those of the levels above. The edge table has room for six edges of each cell of the crowd.
 fn flag_up(
     rows: &[u16],
     status: &[u8],
@@ -258,13 +286,14 @@ fn flag_up(
     first: usize,
     last: usize,
     depth: usize,
-    xs: &mut [u32; 24576],
-    ys: &mut [u32; 24576],
+    xs: &mut [u32],
+    ys: &mut [u32],
     heads: &mut [u16; 4096],
-    links: &mut [u16; 24576],
+    links: &mut [u16],
 ) -> Entries
     requires { ⌜ OldRows (now rows) (now status) (now marks) (now kids) ⌝ }
     requires { ⌜ OneLevel (now status) (now kids) (now red) (now xs) (now ys) (now heads) (now links) first last ⌝ }
+    requires { ⌜ CrowdRoom (now status) (now marks) (now xs) (now ys) (now links) ⌝ }
     ensures { λ r. ⌜ Above (was rows) (was status) (was marks) (was kids) depth first last (was red) (is red) (is xs) (is ys) (is heads)
         (is links) (r .from) (r .n) ⌝ }
 {
@@ -305,8 +334,41 @@ fn flag_up(
     Entries { from: up.n, n: m }
 }
 
+// The same from the lowest level on, where the crowd is large: it makes an edge table with room for six edges of each of 4,096 cells.
+fn many_reds(
+    rows: &[u16],
+    status: &[u8],
+    marks: &[u8],
+    kids: &[u16],
+    red: &mut [u8],
+    heads: &mut [u16; 4096],
+)
+    requires { ⌜ OldRows (now rows) (now status) (now marks) (now kids) ⌝ }
+    requires { ⌜ Span (now status) (now red) 0 (getD (now kids) 0 0) ⌝ }
+    requires { ⌜ Clear (now heads) ⌝ }
+    ensures { λ r. ⌜ FlagsWritten (was rows) (was status) (was marks) (was kids) 12 0 (getD (was kids) 0 0) (was red) (is red) ⌝ }
+{
+    let mut xs = [0u32; 24576];
+    let mut ys = [0u32; 24576];
+    let mut links = [0u16; 24576];
+    flag_up(
+        rows,
+        status,
+        marks,
+        kids,
+        red,
+        0,
+        kids[0] as usize,
+        12,
+        &mut xs,
+        &mut ys,
+        heads,
+        &mut links,
+    );
+}
+
 // Writes 64 for each cell that will be red and 0 for each other. The last four tables are for the work, whatever they hold; what they hold
-// after is free.
+// after is free. They have room for six edges of each of 512 cells, which is enough for nearly every step.
 pub fn new_reds(
     mesh: &[u16],
     n: usize,
@@ -315,15 +377,19 @@ pub fn new_reds(
     marks: &[u8],
     kids: &[u16],
     red: &mut [u8],
-    xs: &mut [u32; 24576],
-    ys: &mut [u32; 24576],
+    xs: &mut [u32; 3072],
+    ys: &mut [u32; 3072],
     heads: &mut [u16; 4096],
-    links: &mut [u16; 24576],
+    links: &mut [u16; 3072],
 )
     requires { ⌜ Marked n (now mesh) (now rows) (now status) (now marks) (now kids) (now red) ⌝ }
     ensures { λ r. ⌜ is red ≡ flagTable n (fours (was mesh)) (was status) (was marks) ++ drop (length (was status)) (was red) ⌝ }
 {
     pairs::clear(heads);
+    if crowd(status, marks) > 512 {
+        many_reds(rows, status, marks, kids, red, heads);
+        return;
+    }
     flag_up(
         rows,
         status,

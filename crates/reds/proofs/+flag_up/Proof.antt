@@ -3,6 +3,7 @@
 -- Assumes nothing.
 use mathlib.Core.Path.{_≡_, _∙_}
 use native.Mathlib.Omega.{arith}
+use Rattle.reds.specs.Old.{CrowdRoom}
 use Rattle.reds.proofs.Up.{above-none, level-up, reds-range, reds-ready, above-more}
 use Prim.Native.Nat.{ℕ, suc, _-_, _<_}
 use borrow.Fn.Kinds.{In}
@@ -30,118 +31,137 @@ known t = (flag-up-below t, flag-up.Post, flag-level-reads.Asked, flag-level-rea
 
 flag-up-returns : (t : ℕ) → flag-up-lts.Need-returns (known t) (flag-up-at t) flag-up.Post
 flag-up-returns t c =
-    let a = c .before .before .before .before .before .before .args in
+    let a = c .before .before .before .before .before .before .before .before .before .args in
     above-none (a .rows .now) (a .status .now) (a .marks .now) (a .kids .now) (a .first) (a .last) (a .red .now) (a .xs .now) (a .ys .now)
-    (a .heads .now) (a .links .now) (c .before .before .before .before .before .before .pre .1 .1) (a .depth) (c .if1 .taken)
+    (a .heads .now) (a .links .now) (c .before .before .before .before .before .before .before .before .before .pre .1 .1 .0) (a .depth)
+    (c .if1 .taken)
 
 flag-up-mul-end : (t : ℕ) → flag-up-lts.Need-mul-end (known t) (flag-up-at t) flag-up.Post
 flag-up-mul-end t c = omega (
   arith,
-  c .before .before .before .before .before .before .pre .1 .0 .few,
-  c .before .before .before .before .before .before .pre .1 .1 .span .inside,
+  c .before .before .before .before .before .before .before .before .before .pre .1 .0 .few,
+  c .before .before .before .before .before .before .before .before .before .pre .1 .1 .0 .span .inside,
 )
 
 flag-up-shared-slice-read-end : (t : ℕ) → flag-up-lts.Need-shared-slice-read-end (known t) (flag-up-at t) flag-up.Post
 flag-up-shared-slice-read-end t c = omega (
   arith,
-  c .before .before .before .before .before .before .before .pre .1 .0 .size,
-  c .before .before .before .before .before .before .before .pre .1 .1 .span .inside,
+  c .before .before .before .before .before .before .before .before .before .before .pre .1 .0 .size,
+  c .before .before .before .before .before .before .before .before .before .before .pre .1 .1 .0 .span .inside,
 )
 
 flag-up-cast-end : (t : ℕ) → flag-up-lts.Need-cast-end (known t) (flag-up-at t) flag-up.Post
-flag-up-cast-end t c = omega (arith, c .shared-slice-known5 .given (c .before .before .before .before .before .before .before .args .last))
+flag-up-cast-end t c = omega (
+  arith,
+  c .shared-slice-known5 .given (c .before .before .before .before .before .before .before .before .before .before .args .last),
+)
 
 flag-up-sub-flag-up : (t : ℕ) → flag-up-lts.Need-sub-flag-up (known t) (flag-up-at t) flag-up.Post
 flag-up-sub-flag-up t c = omega (arith, c .before .before .if1 .left)
 
 flag-up-flag-up-requires : (t : ℕ) → flag-up-lts.Need-flag-up-requires (known t) (flag-up-at t) flag-up.Post
 flag-up-flag-up-requires t c κs =
-    let a = c .before .before .before .before .before .before .before .before .before .before .before .before .args in
-    let p = c .before .before .before .before .before .before .before .before .before .before .before .before .pre in (
+    let a = c .before .before .before .before .before .before .before .before .before .before .before .before .before .before .before
+    .args in
+    let p = c .before .before .before .before .before .before .before .before .before .before .before .before .before .before .before .pre
+    in (
       omega (arith, p .0, c .before .before .before .before .before .before .if1 .left),
       (
         p .1 .0,
-        level-up (a .rows .now) (a .status .now) (a .marks .now) (a .kids .now) (a .red .now) (a .xs .now) (a .ys .now)
-            (a .heads .now) (a .links .now) (a .first) (a .last) (p .1 .0) (p .1 .1),
+        (
+          level-up (a .rows .now) (a .status .now) (a .marks .now) (a .kids .now) (a .red .now) (a .xs .now) (a .ys .now)
+              (a .heads .now) (a .links .now) (a .first) (a .last) (p .1 .0) (p .1 .1 .0),
+          p .1 .1 .1,
+        ),
       ),
     )
 
 flag-up-flag-level-requires : (t : ℕ) → flag-up-lts.Need-flag-level-requires (known t) (flag-up-at t) flag-up.Post
 flag-up-flag-level-requires t c κs =
-    let
-    s =
-    c .before .before .before .before .before .before .before .before .before .before .before .before .before .before .before .before
-    .before .before .before .before .before .before .before .before .pre .1 in
-    let u = c .before .before .before .before .before .before .before .before .before .before .before .flag-up in (
+    let s = c .before .before .before .before .before .before .before .before .before .before .before .before .before .before .before
+    .before .before .before .before .before .before .before .before .before .before .before .before .before .before .before .pre .1 in
+    let u = c .before .before .before .before .before .before .before .before .before .before .before .before .before .before .flag-up in (
       s .0,
       (
         u .ensures .table,
         record
-            { up = s .1 .span .up; inside = s .1 .span .inside; room = omega (arith, s .1 .span .room, u .kept .1 .1 .1 .1 .0) },
+            { up = s .1 .0 .span .up; inside = s .1 .0 .span .inside; room = omega (arith, s .1 .0 .span .room, u .kept .1 .1 .1 .1 .0) },
       ),
     )
 
 flag-up-red-level-requires : (t : ℕ) → flag-up-lts.Need-red-level-requires (known t) (flag-up-at t) flag-up.Post
 flag-up-red-level-requires t c κs =
-    let
-    a =
-    c .before .before .before .before .before .before .before .before .before .before .before .before .before .before .before .before
+    let a = c .before .before .before .before .before .before .before .before .before .before .before .before .before .before .before
     .before .before .before .before .before .before .before .before .before .before .before .before .before .before .before .before
-    .args in
-    let
-    p =
-    c .before .before .before .before .before .before .before .before .before .before .before .before .before .before .before .before
-    .before .before .before .before .before .before .before .before .before .before .before .before .before .before .before .before .pre
-    .1 in
-    let
-    u =
-    c .before .before .before .before .before .before .before .before .before .before .before .before .before .before .before .before
-    .before .before .before .flag-up in
-    let f = c .before .before .before .before .before .before .before .flag-level in (
+    .before .before .before .before .before .before .before .args in
+    let p = c .before .before .before .before .before .before .before .before .before .before .before .before .before .before .before
+    .before .before .before .before .before .before .before .before .before .before .before .before .before .before .before .before
+    .before .before .before .before .before .before .before .pre .1 in
+    let u = c .before .before .before .before .before .before .before .before .before .before .before .before .before .before .before
+    .before .before .before .before .before .before .before .flag-up in
+    let f = c .before .before .before .before .before .before .before .flag-level in
+    let room : CrowdRoom (a .status .now) (a .marks .now) (u .last .1 .1 .1 .1 .1 .1 .1 .1 .0) (u .last .1 .1 .1 .1 .1 .1 .1 .1 .1 .0)
+    (u .last .1 .1 .1 .1 .1 .1 .1 .1 .1 .1 .1 .0) = record {
+      in-xs = omega (arith, p .1 .1 .in-xs, u .kept .1 .1 .1 .1 .1 .1 .1 .1 .0);
+      in-ys = omega (arith, p .1 .1 .in-ys, u .kept .1 .1 .1 .1 .1 .1 .1 .1 .1 .0);
+      in-links = omega (arith, p .1 .1 .in-links, u .kept .1 .1 .1 .1 .1 .1 .1 .1 .1 .1 .1 .0);
+    } in (
       reds-range (a .rows .now) (a .status .now) (a .marks .now) (a .kids .now) (a .depth - 1) (a .first) (a .last) (a .red .now)
           (u .last .1 .1 .1 .1 .0) (u .last .1 .1 .1 .1 .1 .1 .1 .1 .0) (u .last .1 .1 .1 .1 .1 .1 .1 .1 .1 .0)
           (u .last .1 .1 .1 .1 .1 .1 .1 .1 .1 .1 .0) (u .last .1 .1 .1 .1 .1 .1 .1 .1 .1 .1 .1 .0) (u .result .from) (u .result .n) (p .0)
-          (p .1 .span) (u .ensures) (u .kept .1 .1 .1 .1 .0) (f .last .1 .1 .1 .1 .0) (f .ensures)
-          (omega arith) (omega arith) (omega arith) (f .kept .1 .1 .1 .1 .0),
+          (p .1 .0 .span) (u .ensures) (u .kept .1 .1 .1 .1 .0) (f .last .1 .1 .1 .1 .0) (f .ensures)
+          room (f .kept .1 .1 .1 .1 .0),
       reds-ready (a .rows .now) (a .status .now) (a .marks .now) (a .kids .now) (a .depth - 1) (a .first) (a .last) (a .red .now)
           (u .last .1 .1 .1 .1 .0) (u .last .1 .1 .1 .1 .1 .1 .1 .1 .0) (u .last .1 .1 .1 .1 .1 .1 .1 .1 .1 .0)
           (u .last .1 .1 .1 .1 .1 .1 .1 .1 .1 .1 .0) (u .last .1 .1 .1 .1 .1 .1 .1 .1 .1 .1 .1 .0) (u .result .from) (u .result .n) (p .0)
-          (p .1 .span) (u .ensures) (u .kept .1 .1 .1 .1 .0) (f .last .1 .1 .1 .1 .0) (f .ensures)
-          (omega arith) (omega arith) (omega arith) (f .kept .1 .1 .1 .1 .0),
+          (p .1 .0 .span) (u .ensures) (u .kept .1 .1 .1 .1 .0) (f .last .1 .1 .1 .1 .0) (f .ensures)
+          room (f .kept .1 .1 .1 .1 .0),
     )
 
 flag-up-same-length : (t : ℕ) → flag-up-lts.Need-same-length (known t) (flag-up-at t) flag-up.Post
-flag-up-same-length t c = c .before .before .before .before .before .before .before .before .flag-level .kept .1 .1 .1 .1 .0
-    ∙ c .before .before .before .before .before .before .before .before .before .before .before .before .before .before .before .before
-    .before .before .before .before .flag-up .kept .1 .1 .1 .1 .0
+flag-up-same-length t c = c .before .before .before .before .before .before .before .before .before .before .before .before .before
+    .before .flag-level .kept .1 .1 .1 .1 .0 ∙ c .before .before .before .before .before .before .before .before .before .before .before
+    .before .before .before .before .before .before .before .before .before .before .before .before .before .before .before .before
+    .before .before .flag-up .kept .1 .1 .1 .1 .0
+
+flag-up-same-length-2 : (t : ℕ) → flag-up-lts.Need-same-length-2 (known t) (flag-up-at t) flag-up.Post
+flag-up-same-length-2 t c = c .before .before .before .before .before .before .red-level .kept .1 .1 .1 .1 .0 ∙ c .before .before .before
+    .before .before .before .before .before .before .before .before .before .before .before .before .before .before .before .before
+    .before .before .before .before .before .before .before .before .before .before .flag-up .kept .1 .1 .1 .1 .1 .1 .1 .1 .0
+
+flag-up-same-length-3 : (t : ℕ) → flag-up-lts.Need-same-length-3 (known t) (flag-up-at t) flag-up.Post
+flag-up-same-length-3 t c = c .before .before .before .before .before .before .red-level .kept .1 .1 .1 .1 .1 .0 ∙ c .before .before
+    .before .before .before .before .before .before .before .before .before .before .before .before .before .before .before .before
+    .before .before .before .before .before .before .before .before .before .before .before .flag-up .kept .1 .1 .1 .1 .1 .1 .1 .1 .1 .0
+
+flag-up-same-length-4 : (t : ℕ) → flag-up-lts.Need-same-length-4 (known t) (flag-up-at t) flag-up.Post
+flag-up-same-length-4 t c = c .before .before .before .before .before .before .red-level .kept .1 .1 .1 .1 .1 .1 .1 .0 ∙ c .before .before
+    .before .before .before .before .before .before .before .before .before .before .before .before .before .before .before .before
+    .before .before .before .before .before .before .before .before .before .before .before .flag-up .kept .1 .1 .1 .1 .1 .1 .1 .1 .1 .1
+    .1 .0
 
 flag-up-returns-2 : (t : ℕ) → flag-up-lts.Need-returns-2 (known t) (flag-up-at t) flag-up.Post
 flag-up-returns-2 t c =
-    let
-    a =
-    c .before .before .before .before .before .before .before .before .before .before .before .before .before .before .before .before
+    let a = c .before .before .before .before .before .before .before .before .before .before .before .before .before .before .before
     .before .before .before .before .before .before .before .before .before .before .before .before .before .before .before .before
-    .before .args in
-    let
-    p =
-    c .before .before .before .before .before .before .before .before .before .before .before .before .before .before .before .before
+    .before .before .before .before .before .before .before .before .before .before .before .before .before .before .args in
+    let p = c .before .before .before .before .before .before .before .before .before .before .before .before .before .before .before
     .before .before .before .before .before .before .before .before .before .before .before .before .before .before .before .before
-    .before .pre .1 in
-    let
-    u =
-    c .before .before .before .before .before .before .before .before .before .before .before .before .before .before .before .before
-    .before .before .before .before .flag-up in
-    let f = c .before .before .before .before .before .before .before .before .flag-level in
-    let r = c .red-level in
+    .before .before .before .before .before .before .before .before .before .before .before .before .before .before .pre .1 in
+    let u = c .before .before .before .before .before .before .before .before .before .before .before .before .before .before .before
+    .before .before .before .before .before .before .before .before .before .before .before .before .before .before .flag-up in
+    let f = c .before .before .before .before .before .before .before .before .before .before .before .before .before .before .flag-level in
+    let r = c .before .before .before .before .before .before .red-level in
     let d : a .depth ≡ suc (a .depth - 1) = omega (
       arith,
-      c .before .before .before .before .before .before .before .before .before .before .before .before .before .before .before .before
+      c .before .before .before .before .before .before .before .before .before
+          .before .before .before .before .before .before .before .before .before .before .before .before .before .before .before .before
           .before .before .before .before .before .before .before .before .before .before .before .if1 .left,
     ) in
     above-more (a .rows .now) (a .status .now) (a .marks .now) (a .kids .now) (a .depth - 1) (a .first) (a .last) (a .red .now)
     (u .last .1 .1 .1 .1 .0) (u .last .1 .1 .1 .1 .1 .1 .1 .1 .0) (u .last .1 .1 .1 .1 .1 .1 .1 .1 .1 .0)
     (u .last .1 .1 .1 .1 .1 .1 .1 .1 .1 .1 .0) (u .last .1 .1 .1 .1 .1 .1 .1 .1 .1 .1 .1 .0) (u .result .from) (u .result .n) (p .0)
-    (p .1 .span) (u .ensures) (u .kept .1 .1 .1 .1 .0) (f .last .1 .1 .1 .1 .0) (f .ensures)
+    (p .1 .0 .span) (u .ensures) (u .kept .1 .1 .1 .1 .0) (f .last .1 .1 .1 .1 .0) (f .ensures)
     (r .last .1 .1 .1 .1 .0) (r .last .1 .1 .1 .1 .1 .0) (r .last .1 .1 .1 .1 .1 .1 .0) (r .last .1 .1 .1 .1 .1 .1 .1 .0) (r .result)
     (a .depth) d (r .ensures)
 
@@ -158,4 +178,7 @@ pub +flag-up-spec : {M : Type 1} → statement M
     (flag-up-flag-level-requires t)
     (flag-up-red-level-requires t)
     (flag-up-same-length t)
+    (flag-up-same-length-2 t)
+    (flag-up-same-length-3 t)
+    (flag-up-same-length-4 t)
     (flag-up-returns-2 t)

@@ -2,7 +2,7 @@
 -- Assumes nothing.
 use mathlib.Core.Path.{refl}
 use native.Mathlib.Omega.{arith}
-use Rattle.reds.proofs.Sound.{marked-old, marked-start, marked-result}
+use Rattle.reds.proofs.Sound.{marked-old, marked-span, marked-result}
 use borrow.Author.Needs.{needs}
 use Rattle.reds.proofs.new_reds.Statement.{statement}
 use Rattle.reds.proofs.new_reds.Tie as tie
@@ -10,33 +10,18 @@ use Rattle.reds.proofs.new_reds.Tie as tie
 clear-requires : tie.Need-clear-requires
 clear-requires c κs = search needs
 
-shared-slice-read-flag-up : tie.Need-shared-slice-read-flag-up
-shared-slice-read-flag-up c =
-    let a = c .before .before .before .before .before .before .before .before .before .before .args in
-    omega (
-      arith,
-      marked-old (a .n) (a .mesh .now) (a .rows .now) (a .status .now) (a .marks .now) (a .kids .now) (a .red .now)
-          (c .before .before .before .before .before .before .before .before .before .before .pre) .size,
-    )
+crowd-requires : tie.Need-crowd-requires
+crowd-requires c κs = search needs
 
-cast-flag-up : tie.Need-cast-flag-up
-cast-flag-up c = omega (arith, c .shared-slice-known6 .given 0)
-
-flag-up-requires : tie.Need-flag-up-requires
-flag-up-requires c κs =
-    let a = c .before .before .before .before .before .before .before .before .before .before .before .before .before .before .args in
-    let p = c .before .before .before .before .before .before .before .before .before .before .before .before .before .before .pre in (
+many-reds-requires : tie.Need-many-reds-requires
+many-reds-requires c κs =
+    let a = c .before .before .before .before .before .before .before .before .before .before .before .before .args in
+    let p = c .before .before .before .before .before .before .before .before .before .before .before .before .pre in (
       marked-old (a .n) (a .mesh .now) (a .rows .now) (a .status .now) (a .marks .now) (a .kids .now) (a .red .now) p,
-      record {
-        span =
-            record {
-              up = omega arith;
-              inside = marked-start (a .n) (a .mesh .now) (a .rows .now) (a .status .now) (a .marks .now) (a .kids .now) (a .red .now) p;
-              room = p .room;
-            };
-        children = refl;
-        keys = c .before .before .before .before .before .before .clear .ensures .empty _ _ _;
-      },
+      (
+        marked-span (a .n) (a .mesh .now) (a .rows .now) (a .status .now) (a .marks .now) (a .kids .now) (a .red .now) p,
+        c .before .before .before .before .clear .ensures,
+      ),
     )
 
 same-length : tie.Need-same-length
@@ -44,22 +29,71 @@ same-length c = search needs
 
 returns : tie.Need-returns
 returns c =
-    let
-    a =
-    c .before .before .before .before .before .before .before .before .before .before .before .before .before .before .before .before
+    let a = c .before .before .before .before .before .before .before .before .before .before .before .before .before .before .before
+    .args in
+    let u = c .before .before .many-reds in
+    marked-result (a .n) (a .mesh .now) (a .rows .now) (a .status .now) (a .marks .now) (a .kids .now) (a .red .now)
+    (c .before .before .before .before .before .before .before .before .before .before .before .before .before .before .before .pre)
+    (u .last .1 .1 .1 .1 .0) (u .ensures)
+
+shared-slice-read-flag-up : tie.Need-shared-slice-read-flag-up
+shared-slice-read-flag-up c =
+    let a = c .before .before .before .before .before .before .before .before .before .before .before .before .args in
+    omega (
+      arith,
+      marked-old (a .n) (a .mesh .now) (a .rows .now) (a .status .now) (a .marks .now) (a .kids .now) (a .red .now)
+          (c .before .before .before .before .before .before .before .before .before .before .before .before .pre) .size,
+    )
+
+cast-flag-up : tie.Need-cast-flag-up
+cast-flag-up c = omega (arith, c .shared-slice-known6 .given 0)
+
+flag-up-requires : tie.Need-flag-up-requires
+flag-up-requires c κs =
+    let a = c .before .before .before .before .before .before .before .before .before .before .before .before .before .before .before
     .before .args in
+    let p = c .before .before .before .before .before .before .before .before .before .before .before .before .before .before .before
+    .before .pre in
+    let k = c .before .before .before .before .before .before .before .crowd .ensures in
+    let h = c .before .before .before .before .before .before .if1 .left in (
+      marked-old (a .n) (a .mesh .now) (a .rows .now) (a .status .now) (a .marks .now) (a .kids .now) (a .red .now) p,
+      (
+        record {
+          span = marked-span (a .n) (a .mesh .now) (a .rows .now) (a .status .now) (a .marks .now) (a .kids .now) (a .red .now) p;
+          children = refl;
+          keys = c .before .before .before .before .before .before .before .before .clear .ensures .empty _ _ _;
+        },
+        record {
+          in-xs = omega (arith, k, h, c .before .before .before .flag-up-arg2 .given .0 .1);
+          in-ys = omega (arith, k, h, c .before .before .flag-up-arg3 .given .0 .1);
+          in-links = omega (arith, k, h, c .flag-up-arg5 .given .0 .1);
+        },
+      ),
+    )
+
+same-length-2 : tie.Need-same-length-2
+same-length-2 c = search needs
+
+returns-2 : tie.Need-returns-2
+returns-2 c =
+    let a = c .before .before .before .before .before .before .before .before .before .before .before .before .before .before .before
+    .before .before .before .before .args in
     let u = c .before .before .flag-up in
     marked-result (a .n) (a .mesh .now) (a .rows .now) (a .status .now) (a .marks .now) (a .kids .now) (a .red .now)
     (c .before .before .before .before .before .before .before .before .before .before .before .before .before .before .before .before
-    .before .pre) (u .last .1 .1 .1 .1 .0) (u .ensures .flags)
+    .before .before .before .pre) (u .last .1 .1 .1 .1 .0) (u .ensures .flags)
 
 pub new-reds-spec : {M : Type 1} → statement M
 new-reds-spec =
     tie.close
     (tie.spec
     clear-requires
+    crowd-requires
+    many-reds-requires
+    same-length
+    returns
     shared-slice-read-flag-up
     cast-flag-up
     flag-up-requires
-    same-length
-    returns)
+    same-length-2
+    returns-2)
