@@ -86,10 +86,10 @@ fn next_step(
     ps: &mut [u32; 4096],
     qs: &mut [u32; 4096],
     new: &mut [u8; 4096],
-    xs: &mut [u32; 24576],
-    ys: &mut [u32; 24576],
+    xs: &mut [u32; 3072],
+    ys: &mut [u32; 3072],
     heads: &mut [u16; 4096],
-    links: &mut [u16; 24576],
+    links: &mut [u16; 3072],
     mid_heads: &mut [u16; 4096],
     mid_links: &mut [u16; 4096],
     old: &mut [u16; 4096],
@@ -197,10 +197,10 @@ fn run_steps(
     let mut ps = [0u32; 4096];
     let mut qs = [0u32; 4096];
     let mut new = [0u8; 4096];
-    let mut xs = [0u32; 24576];
-    let mut ys = [0u32; 24576];
+    let mut xs = [0u32; 3072];
+    let mut ys = [0u32; 3072];
     let mut heads = [0u16; 4096];
-    let mut links = [0u16; 24576];
+    let mut links = [0u16; 3072];
     let mut mid_heads = [0u16; 4096];
     let mut mid_links = [0u16; 4096];
     let mut old = [0u16; 4096];

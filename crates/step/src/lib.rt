@@ -100,10 +100,10 @@ pub fn advance(
     ps: &mut [u32; 4096],
     qs: &mut [u32; 4096],
     table: &mut [u8; 4096],
-    xs: &mut [u32; 24576],
-    ys: &mut [u32; 24576],
+    xs: &mut [u32; 3072],
+    ys: &mut [u32; 3072],
     heads: &mut [u16; 4096],
-    links: &mut [u16; 24576],
+    links: &mut [u16; 3072],
     mid_heads: &mut [u16; 4096],
     mid_links: &mut [u16; 4096],
     old: &mut [u16; 4096],
@@ -201,10 +201,10 @@ pub fn step(
         return Stepped::Refused(7);
     }
     let mut new = [0u8; 4096];
-    let mut xs = [0u32; 24576];
-    let mut ys = [0u32; 24576];
+    let mut xs = [0u32; 3072];
+    let mut ys = [0u32; 3072];
     let mut heads = [0u16; 4096];
-    let mut links = [0u16; 24576];
+    let mut links = [0u16; 3072];
     let mut mid_heads = [0u16; 4096];
     let mut mid_links = [0u16; 4096];
     let mut old = [0u16; 4096];
