@@ -367,7 +367,7 @@ fn many_reds(
     );
 }
 
-// Writes 64 for each cell that will be red and 0 for each other. The last four tables are for the work, whatever they hold; what they hold
+// Writes 64 for each cell that will be red and 0 for each other. The last three tables are for the work, whatever they hold; what they hold
 // after is free. They have room for six edges of each of 512 cells, which is enough for nearly every step.
 pub fn new_reds(
     mesh: &[u16],
@@ -379,15 +379,14 @@ pub fn new_reds(
     red: &mut [u8],
     xs: &mut [u32; 3072],
     ys: &mut [u32; 3072],
-    heads: &mut [u16; 4096],
     links: &mut [u16; 3072],
 )
     requires { ⌜ Marked n (now mesh) (now rows) (now status) (now marks) (now kids) (now red) ⌝ }
     ensures { λ r. ⌜ is red ≡ flagTable n (fours (was mesh)) (was status) (was marks) ++ drop (length (was status)) (was red) ⌝ }
 {
-    pairs::clear(heads);
+    let mut heads = [65535u16; 4096];
     if crowd(status, marks) > 512 {
-        many_reds(rows, status, marks, kids, red, heads);
+        many_reds(rows, status, marks, kids, red, &mut heads);
         return;
     }
     flag_up(
@@ -401,7 +400,7 @@ pub fn new_reds(
         12,
         xs,
         ys,
-        heads,
+        &mut heads,
         links,
     );
 }

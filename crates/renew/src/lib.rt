@@ -8,6 +8,7 @@ ghost use Rattle.base.specs.Fours.{fours};
 ghost use Rattle.base.specs.Lent.{was, is};
 ghost use Rattle.cutting.specs.Answer.{digitTable};
 ghost use Rattle.mesh.specs.Cells.{redb};
+ghost use Rattle.pairs.specs.Keys.{Clear};
 ghost use Rattle.edges.specs.Table.{listed};
 ghost use Rattle.mesh.specs.Table.{sizeOf, sizes};
 ghost use Rattle.rows.specs.Numbered.{part};
@@ -200,12 +201,8 @@ fn old_coarse(coarse: usize, old: &mut [u16])
     }
 }
 
-// Builds the table in which the cells with a flag in `red` are red and all others are closed, over an accepted mesh of n corners, level
-// by level. Flags go by the numbers of the old table `status`, and `kids` has the number of each old cell's first child. Refusal 8 where
-// a level above 10 would arise, 9 where more than 4,096 cells would; where there is none, the table's first entries are the new statuses,
-// the rows are those of its cells, and ps and qs have the ends of its new corners. The tables from xs to old are for the work, whatever
-// they hold, and `digits` is the cutting table.
-pub fn renew(
+// Builds the table, level by level, from heads of buckets without entries (`renew` says what the other tables are).
+fn build(
     mesh: &[u16],
     n: usize,
     status: &[u8],
@@ -229,11 +226,10 @@ pub fn renew(
     requires { ⌜ Kids (length (fours (now mesh))) (now status) (now kids) ⌝ }
     requires { ⌜ length (now red) ≤ 4096 ⌝ }
     requires { ⌜ now digits ≡ digitTable ⌝ }
+    requires { ⌜ Clear (now heads) × Clear (now «mid_heads») ⌝ }
     ensures { λ r. ⌜ Result n (fours (was mesh)) (was status) (was red) (is rows) (is ps) (is qs) (is table) (r .refusal) (r .cells)
         (r .levels) (r .mids) ⌝ }
 {
-    pairs::clear(heads);
-    pairs::clear(mid_heads);
     let coarse = tables::lay_coarse(mesh, rows);
     old_coarse(coarse, old);
     let mut first = 0;
@@ -280,4 +276,57 @@ pub fn renew(
         last = g.at;
         level += 1;
     }
+}
+
+// Builds the table in which the cells with a flag in `red` are red and all others are closed, over an accepted mesh of n corners, level
+// by level. Flags go by the numbers of the old table `status`, and `kids` has the number of each old cell's first child. Refusal 8 where
+// a level above 10 would arise, 9 where more than 4,096 cells would; where there is none, the table's first entries are the new statuses,
+// the rows are those of its cells, and ps and qs have the ends of its new corners. The tables from xs to old are for the work, whatever
+// they hold, and `digits` is the cutting table.
+pub fn renew(
+    mesh: &[u16],
+    n: usize,
+    status: &[u8],
+    kids: &[u16],
+    red: &[u8],
+    rows: &mut [u16; 32768],
+    ps: &mut [u32; 4096],
+    qs: &mut [u32; 4096],
+    table: &mut [u8; 4096],
+    xs: &mut [u32; 3072],
+    ys: &mut [u32; 3072],
+    links: &mut [u16; 3072],
+    mid_links: &mut [u16; 4096],
+    old: &mut [u16; 4096],
+    digits: &[u8],
+) -> Outcome
+    requires { ⌜ Mesh n (now mesh) ⌝ }
+    requires { ⌜ Statuses (now status) ⌝ }
+    requires { ⌜ Kids (length (fours (now mesh))) (now status) (now kids) ⌝ }
+    requires { ⌜ length (now red) ≤ 4096 ⌝ }
+    requires { ⌜ now digits ≡ digitTable ⌝ }
+    ensures { λ r. ⌜ Result n (fours (was mesh)) (was status) (was red) (is rows) (is ps) (is qs) (is table) (r .refusal) (r .cells)
+        (r .levels) (r .mids) ⌝ }
+{
+    let mut heads = [65535u16; 4096];
+    let mut mid_heads = [65535u16; 4096];
+    build(
+        mesh,
+        n,
+        status,
+        kids,
+        red,
+        rows,
+        ps,
+        qs,
+        table,
+        xs,
+        ys,
+        &mut heads,
+        links,
+        &mut mid_heads,
+        mid_links,
+        old,
+        digits,
+    )
 }

@@ -88,9 +88,7 @@ fn next_step(
     new: &mut [u8; 4096],
     xs: &mut [u32; 3072],
     ys: &mut [u32; 3072],
-    heads: &mut [u16; 4096],
     links: &mut [u16; 3072],
-    mid_heads: &mut [u16; 4096],
     mid_links: &mut [u16; 4096],
     old: &mut [u16; 4096],
     kids: &mut [u16; 4097],
@@ -125,9 +123,7 @@ fn next_step(
         new,
         xs,
         ys,
-        heads,
         links,
-        mid_heads,
         mid_links,
         old,
         kids,
@@ -199,9 +195,7 @@ fn run_steps(
     let mut new = [0u8; 4096];
     let mut xs = [0u32; 3072];
     let mut ys = [0u32; 3072];
-    let mut heads = [0u16; 4096];
     let mut links = [0u16; 3072];
-    let mut mid_heads = [0u16; 4096];
     let mut mid_links = [0u16; 4096];
     let mut old = [0u16; 4096];
     let mut kids = [0u16; 4097];
@@ -230,9 +224,7 @@ fn run_steps(
             &mut new,
             &mut xs,
             &mut ys,
-            &mut heads,
             &mut links,
-            &mut mid_heads,
             &mut mid_links,
             &mut old,
             &mut kids,

@@ -102,9 +102,7 @@ pub fn advance(
     table: &mut [u8; 4096],
     xs: &mut [u32; 3072],
     ys: &mut [u32; 3072],
-    heads: &mut [u16; 4096],
     links: &mut [u16; 3072],
-    mid_heads: &mut [u16; 4096],
     mid_links: &mut [u16; 4096],
     old: &mut [u16; 4096],
     kids: &mut [u16; 4097],
@@ -119,19 +117,7 @@ pub fn advance(
 {
     let k = status.len();
     reds::first_children(status, mesh.len() / 4, kids);
-    reds::new_reds(
-        mesh,
-        n,
-        rows,
-        status,
-        marks,
-        kids,
-        red,
-        xs,
-        ys,
-        heads,
-        links,
-    );
+    reds::new_reds(mesh, n, rows, status, marks, kids, red, xs, ys, links);
     let flags = &red[..];
     let deep = too_deep(rows, flags, k);
     let r = renew::renew(
@@ -146,9 +132,7 @@ pub fn advance(
         table,
         xs,
         ys,
-        heads,
         links,
-        mid_heads,
         mid_links,
         old,
         digits,
@@ -203,9 +187,7 @@ pub fn step(
     let mut new = [0u8; 4096];
     let mut xs = [0u32; 3072];
     let mut ys = [0u32; 3072];
-    let mut heads = [0u16; 4096];
     let mut links = [0u16; 3072];
-    let mut mid_heads = [0u16; 4096];
     let mut mid_links = [0u16; 4096];
     let mut old = [0u16; 4096];
     let mut kids = [0u16; 4097];
@@ -222,9 +204,7 @@ pub fn step(
         &mut new,
         &mut xs,
         &mut ys,
-        &mut heads,
         &mut links,
-        &mut mid_heads,
         &mut mid_links,
         &mut old,
         &mut kids,

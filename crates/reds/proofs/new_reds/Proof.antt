@@ -2,25 +2,23 @@
 -- Assumes nothing.
 use mathlib.Core.Path.{refl}
 use native.Mathlib.Omega.{arith}
+use Rattle.pairs.specs.Keys.{clear-new}
 use Rattle.reds.proofs.Sound.{marked-old, marked-span, marked-result}
 use borrow.Author.Needs.{needs}
 use Rattle.reds.proofs.new_reds.Statement.{statement}
 use Rattle.reds.proofs.new_reds.Tie as tie
-
-clear-requires : tie.Need-clear-requires
-clear-requires c κs = search needs
 
 crowd-requires : tie.Need-crowd-requires
 crowd-requires c κs = search needs
 
 many-reds-requires : tie.Need-many-reds-requires
 many-reds-requires c κs =
-    let a = c .before .before .before .before .before .before .before .before .before .before .before .before .args in
-    let p = c .before .before .before .before .before .before .before .before .before .before .before .before .pre in (
+    let a = c .before .before .before .before .before .before .before .before .before .before .args in
+    let p = c .before .before .before .before .before .before .before .before .before .before .pre in (
       marked-old (a .n) (a .mesh .now) (a .rows .now) (a .status .now) (a .marks .now) (a .kids .now) (a .red .now) p,
       (
         marked-span (a .n) (a .mesh .now) (a .rows .now) (a .status .now) (a .marks .now) (a .kids .now) (a .red .now) p,
-        c .before .before .before .before .clear .ensures,
+        clear-new 4096 (omega arith),
       ),
     )
 
@@ -29,20 +27,19 @@ same-length c = search needs
 
 returns : tie.Need-returns
 returns c =
-    let a = c .before .before .before .before .before .before .before .before .before .before .before .before .before .before .before
-    .args in
+    let a = c .before .before .before .before .before .before .before .before .before .before .before .before .before .args in
     let u = c .before .before .many-reds in
     marked-result (a .n) (a .mesh .now) (a .rows .now) (a .status .now) (a .marks .now) (a .kids .now) (a .red .now)
-    (c .before .before .before .before .before .before .before .before .before .before .before .before .before .before .before .pre)
+    (c .before .before .before .before .before .before .before .before .before .before .before .before .before .pre)
     (u .last .1 .1 .1 .1 .0) (u .ensures)
 
 shared-slice-read-flag-up : tie.Need-shared-slice-read-flag-up
 shared-slice-read-flag-up c =
-    let a = c .before .before .before .before .before .before .before .before .before .before .before .before .args in
+    let a = c .before .before .before .before .before .before .before .before .before .before .args in
     omega (
       arith,
       marked-old (a .n) (a .mesh .now) (a .rows .now) (a .status .now) (a .marks .now) (a .kids .now) (a .red .now)
-          (c .before .before .before .before .before .before .before .before .before .before .before .before .pre) .size,
+          (c .before .before .before .before .before .before .before .before .before .before .pre) .size,
     )
 
 cast-flag-up : tie.Need-cast-flag-up
@@ -50,10 +47,8 @@ cast-flag-up c = omega (arith, c .shared-slice-known6 .given 0)
 
 flag-up-requires : tie.Need-flag-up-requires
 flag-up-requires c κs =
-    let a = c .before .before .before .before .before .before .before .before .before .before .before .before .before .before .before
-    .before .args in
-    let p = c .before .before .before .before .before .before .before .before .before .before .before .before .before .before .before
-    .before .pre in
+    let a = c .before .before .before .before .before .before .before .before .before .before .before .before .before .before .args in
+    let p = c .before .before .before .before .before .before .before .before .before .before .before .before .before .before .pre in
     let k = c .before .before .before .before .before .before .before .crowd .ensures in
     let h = c .before .before .before .before .before .before .if1 .left in (
       marked-old (a .n) (a .mesh .now) (a .rows .now) (a .status .now) (a .marks .now) (a .kids .now) (a .red .now) p,
@@ -61,12 +56,12 @@ flag-up-requires c κs =
         record {
           span = marked-span (a .n) (a .mesh .now) (a .rows .now) (a .status .now) (a .marks .now) (a .kids .now) (a .red .now) p;
           children = refl;
-          keys = c .before .before .before .before .before .before .before .before .clear .ensures .empty _ _ _;
+          keys = clear-new 4096 (omega arith) .empty _ _ _;
         },
         record {
           in-xs = omega (arith, k, h, c .before .before .before .flag-up-arg2 .given .0 .1);
           in-ys = omega (arith, k, h, c .before .before .flag-up-arg3 .given .0 .1);
-          in-links = omega (arith, k, h, c .flag-up-arg5 .given .0 .1);
+          in-links = omega (arith, k, h, c .flag-up-arg4 .given .0 .1);
         },
       ),
     )
@@ -77,17 +72,16 @@ same-length-2 c = search needs
 returns-2 : tie.Need-returns-2
 returns-2 c =
     let a = c .before .before .before .before .before .before .before .before .before .before .before .before .before .before .before
-    .before .before .before .before .args in
+    .before .before .args in
     let u = c .before .before .flag-up in
     marked-result (a .n) (a .mesh .now) (a .rows .now) (a .status .now) (a .marks .now) (a .kids .now) (a .red .now)
     (c .before .before .before .before .before .before .before .before .before .before .before .before .before .before .before .before
-    .before .before .before .pre) (u .last .1 .1 .1 .1 .0) (u .ensures .flags)
+    .before .pre) (u .last .1 .1 .1 .1 .0) (u .ensures .flags)
 
 pub new-reds-spec : {M : Type 1} → statement M
 new-reds-spec =
     tie.close
     (tie.spec
-    clear-requires
     crowd-requires
     many-reds-requires
     same-length

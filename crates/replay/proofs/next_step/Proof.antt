@@ -131,19 +131,19 @@ advance-requires c κs =
     let
     a =
     c .before .before .before .before .before .before .before .before .before .before .before .before .before .before .before .before
-    .before .before .before .before .before .before .before .before .before .before .before .before .before .before .before .args in
+    .before .before .before .before .before .before .before .before .before .before .before .before .before .args in
     let
     p =
     c .before .before .before .before .before .before .before .before .before .before .before .before .before .before .before .before
-    .before .before .before .before .before .before .before .before .before .before .before .before .before .before .before .pre
+    .before .before .before .before .before .before .before .before .before .before .before .before .before .pre
     in
     let m = length-take-le (a .cells)
     (c .before .before .before .before .before .before .before .before .before .before .before .before .before .before .before .before
-    .before .before .examine-marks .last .1 .1 .1 .0)
+    .examine-marks .last .1 .1 .1 .0)
     (omega (
       arith,
       p .0 .few,
-      c .before .before .before .before .before .before .before .before .before .before .before .before .before .before .before .spread2,
+      c .before .before .before .before .before .before .before .before .before .before .before .before .before .spread2,
     )) in
     let l = length-take-le (a .cells) (a .table .now) (omega (arith, p .0 .few, p .0 .room)) in
     (p .0 .held, (m ∙ sym l, p .1 .1))
@@ -153,41 +153,42 @@ returns-4 c =
     let
     a =
     c .before .before .before .before .before .before .before .before .before .before .before .before .before .before .before .before
-    .before .before .before .before .before .before .before .before .before .before .before .before .before .before .before .before .before
-    .before .args in
+    .before .before .before .before .before .before .before .before .before .before .before .before .before .before .before .before .args in
     let
     e :
     c .before .before .before .before .before .before .before .before .before .before .before .before .before .before .before .before
-    .before .before .before .before .before .examine-marks .result ≡ true = not-false _
+    .before .before .before .examine-marks .result ≡ true = not-false _
     (c .before .before .before .before .before .before .before .before .before .before .before .before .before .before .before .before
-    .before .before .before .before .if3 .left) in
+    .before .before .if3 .left) in
     let l = length-take-le (a .cells) (a .table .now)
     (omega (
       arith,
       c .before .before .before .before .before .before .before .before .before .before .before .before .before .before .before .before
           .before .before .before .before .before .before .before .before .before .before .before .before .before .before .before .before
-          .before .before .pre .0 .few,
+          .pre
+          .0 .few,
       c .before .before .before .before .before .before .before .before .before .before .before .before .before .before .before .before
           .before .before .before .before .before .before .before .before .before .before .before .before .before .before .before .before
-          .before .before .pre .0 .room,
+          .pre
+          .0 .room,
     )) in
     next-moved _ _ _ _ _ _ _ _ (omega (
       arith,
       c .before .before .before .before .before .before .before .before .before .before .before .before .before .before .before .before
-          .before .before .before .before .before .before .before .before .before .before .before .before .before .if1 .left,
+          .before .before .before .before .before .before .before .before .before .before .before .if1 .left,
     )) (omega (
       arith,
       length-pairs (a .marked .now) (a .marks .now)
           (c .before .before .before .before .before .before .before .before .before .before .before .before .before .before .before .before
           .before .before .before .before .before .before .before .before .before .before .before .before .before .before .before .before
-          .before .before .pre .1 .0),
+          .pre .1 .0),
       c .before .before .before .before .before .before .before .before .before .before .before .before .before .before .before .before
-          .before .before .before .before .before .before .before .before .before .before .before .before .if2 .left,
+          .before .before .before .before .before .before .before .before .before .before .if2 .left,
     )) _ _ _ _
     (pairs-part (a .e - a .p) (a .p) (a .marked .now) (a .marks .now))
     (moved-on _ _ _ _ _ _ _ (rw e at
     (c .before .before .before .before .before .before .before .before .before .before .before .before .before .before .before .before
-    .before .before .before .before .before .examine-marks .ensures)) _ l _ _ _
+    .before .before .before .examine-marks .ensures)) _ l _ _ _
     (stepped-refused _ _ _ _ _ _ _ _ _ _ _ _ (c .before .before .advance .ensures) _ _ _ _ refl (c .if4 .taken)))
 
 copy-bytes-requires : tie.Need-copy-bytes-requires
@@ -202,44 +203,43 @@ returns-5 c =
     a =
     c .before .before .before .before .before .before .before .before .before .before .before .before .before .before .before .before
     .before .before .before .before .before .before .before .before .before .before .before .before .before .before .before .before .before
-    .before .before .before .before .before .args in
+    .before .before .before .args in
     let
     e :
     c .before .before .before .before .before .before .before .before .before .before .before .before .before .before .before .before
-    .before .before .before .before .before .before .before .before .before .examine-marks .result ≡ true = not-false _
+    .before .before .before .before .before .before .before .examine-marks .result ≡ true = not-false _
     (c .before .before .before .before .before .before .before .before .before .before .before .before .before .before .before .before
-    .before .before .before .before .before .before .before .before .if3 .left) in
+    .before .before .before .before .before .before .if3 .left) in
     let l = length-take-le (a .cells) (a .table .now)
     (omega (
       arith,
       c .before .before .before .before .before .before .before .before .before .before .before .before .before .before .before .before
           .before .before .before .before .before .before .before .before .before .before .before .before .before .before .before .before
-          .before .before .before .before .before .before .pre .0 .few,
+          .before .before .before .before .pre .0 .few,
       c .before .before .before .before .before .before .before .before .before .before .before .before .before .before .before .before
           .before .before .before .before .before .before .before .before .before .before .before .before .before .before .before .before
-          .before .before .before .before .before .before .pre .0 .room,
+          .before .before .before .before .pre .0 .room,
     )) in
     let z = c .before .before .before .before .if4 .left in
     next-moved _ _ _ _ _ _ _ _ (omega (
       arith,
       c .before .before .before .before .before .before .before .before .before .before .before .before .before .before .before .before
-          .before .before .before .before .before .before .before .before .before .before .before .before .before .before .before .before
-          .before .if1 .left,
+          .before .before .before .before .before .before .before .before .before .before .before .before .before .before .before .if1
+          .left,
     )) (omega (
       arith,
       length-pairs (a .marked .now) (a .marks .now)
           (c .before .before .before .before .before .before .before .before .before .before .before .before .before .before .before .before
           .before .before .before .before .before .before .before .before .before .before .before .before .before .before .before .before
-          .before .before .before .before .before .before .pre .1 .0),
+          .before .before .before .before .pre .1 .0),
       c .before .before .before .before .before .before .before .before .before .before .before .before .before .before .before .before
-          .before .before .before .before .before .before .before .before .before .before .before .before .before .before .before .before
-          .if2
+          .before .before .before .before .before .before .before .before .before .before .before .before .before .before .if2
           .left,
     )) _ _ _ _
     (pairs-part (a .e - a .p) (a .p) (a .marked .now) (a .marks .now))
     (moved-on _ _ _ _ _ _ _ (rw e at
     (c .before .before .before .before .before .before .before .before .before .before .before .before .before .before .before .before
-    .before .before .before .before .before .before .before .before .before .examine-marks .ensures)) _ l _ _ _
+    .before .before .before .before .before .before .before .examine-marks .ensures)) _ l _ _ _
     (stepped-on _ _ _ _ _ _ _ _ _ _ _ _
     (c .before .before .before .before .before .before .advance .ensures) z _ _ (c .copy-bytes .ensures)
     (omega (arith, c .before .before .copy-bytes-arg2))

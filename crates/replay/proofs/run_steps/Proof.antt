@@ -12,14 +12,14 @@ use Rattle.replay.proofs.run_steps.Statement.{statement}
 use Rattle.replay.proofs.run_steps.Tie as tie
 
 abbrev Inv-loop : tie.InvT-loop
-Inv-loop mesh n marked marks ends first high inner rows₀ table₀ spread-marks₀ ps₀ qs₀ new₀ xs₀ ys₀ heads₀ links₀ mid-heads₀
-    mid-links₀ old₀ kids₀ red₀ digits cells₀ levels₀ mids₀ p₀ g₀ rows table spread-marks ps qs new xs ys heads links mid-heads
+Inv-loop mesh n marked marks ends first high inner rows₀ table₀ spread-marks₀ ps₀ qs₀ new₀ xs₀ ys₀ links₀
+    mid-links₀ old₀ kids₀ red₀ digits cells₀ levels₀ mids₀ p₀ g₀ rows table spread-marks ps qs new xs ys links
     mid-links old kids red cells levels mids p g = Turn n mesh (take first table₀) (pairs marked marks) ends rows table cells levels p g
     × (length ends < 18446744073709551616)
 
 abbrev μ-loop : tie.MeasureT-loop
-μ-loop mesh n marked marks ends first high inner rows₀ table₀ spread-marks₀ ps₀ qs₀ new₀ xs₀ ys₀ heads₀ links₀ mid-heads₀
-    mid-links₀ old₀ kids₀ red₀ digits cells₀ levels₀ mids₀ p₀ g₀ rows table spread-marks ps qs new xs ys heads links mid-heads
+μ-loop mesh n marked marks ends first high inner rows₀ table₀ spread-marks₀ ps₀ qs₀ new₀ xs₀ ys₀ links₀
+    mid-links₀ old₀ kids₀ red₀ digits cells₀ levels₀ mids₀ p₀ g₀ rows table spread-marks ps qs new xs ys links
     mid-links old kids red cells levels mids p g = length ends - g
 
 digit-table-requires : tie.Need-digit-table-requires Inv-loop μ-loop
@@ -48,48 +48,48 @@ next-step-requires : tie.Need-next-step-requires Inv-loop μ-loop
 next-step-requires c
     κs = (
       c .before .before .before .before .before .before .before .before .before .before .before .before .before .before .before .before
-          .before .before .loop .inv .0 .going,
+          .loop .inv .0 .going,
       (
         c .before .before .before .before .before .before .before .before .before .before .before .before .before .before .before .before
-            .before .before .before .before .before .before .before .before .pre .1 .0,
+            .before .before .before .before .before .before .pre .1 .0,
         c .before .before .before .before .before .before .before .before .before .before .before .before .before .before .before .before
-            .before .before .before .digit-table .ensures,
+            .before .digit-table .ensures,
       ),
     )
 
 returns : tie.Need-returns Inv-loop μ-loop
 returns c = turn-refused _ _ _ _ _ _ _ _ _ _ _
     (c .before .before .before .before .before .before .before .before .before .before .before .before .before .before .before .before
-    .before .before .before .before .before .loop .inv .0)
+    .before .before .before .loop .inv .0)
     (c .before .before .before .before .before .before .before .before .before .before .before .before .before .before .before .before
-    .before .before .before .before .loop-test .taken) _ _ _ _ _ (c .before .before .next-step .ensures) (c .if1 .taken) _ _ _
+    .before .before .loop-test .taken) _ _ _ _ _ (c .before .before .next-step .ensures) (c .if1 .taken) _ _ _
     refl
 
 add-g : tie.Need-add-g Inv-loop μ-loop
 add-g c = omega (
   arith,
   c .before .before .before .before .before .before .before .before .before .before .before .before .before .before .before .before .before
-      .before .before .before .loop-test .taken,
+      .before .loop-test .taken,
   c .before .before .before .before .before .before .before .before .before .before .before .before .before .before .before .before .before
-      .before .before .before .before .loop .inv .1,
+      .before .before .loop .inv .1,
 )
 
 loop-less : tie.Need-loop-less Inv-loop μ-loop
 loop-less c = omega (
   arith,
   c .before .before .before .before .before .before .before .before .before .before .before .before .before .before .before .before .before
-      .before .before .before .loop-test .taken,
+      .before .loop-test .taken,
 )
 
 loop-again : tie.Need-loop-again Inv-loop μ-loop
 loop-again c = (
   turn-next _ _ _ _ _ _ _ _ _ _ _
       (c .before .before .before .before .before .before .before .before .before .before .before .before .before .before .before .before
-      .before .before .before .before .before .loop .inv .0)
+      .before .before .before .loop .inv .0)
       (c .before .before .before .before .before .before .before .before .before .before .before .before .before .before .before .before
-      .before .before .before .before .loop-test .taken) _ _ _ _ _ (c .before .before .next-step .ensures) (c .if1 .left),
+      .before .before .loop-test .taken) _ _ _ _ _ (c .before .before .next-step .ensures) (c .if1 .left),
   c .before .before .before .before .before .before .before .before .before .before .before .before .before .before .before .before .before
-      .before .before .before .before .loop .inv .1,
+      .before .before .loop .inv .1,
 )
 
 refused-requires : tie.Need-refused-requires Inv-loop μ-loop

@@ -24,22 +24,22 @@ first-children-requires c κs =
 
 new-reds-requires : tie.Need-new-reds-requires
 new-reds-requires c κs =
-    let a = c .before .before .before .before .before .before .before .before .before .before .before .before .before .before .before .args
+    let a = c .before .before .before .before .before .before .before .before .before .before .before .before .before .before .args
     in
     let t = held-statuses (a .n) (a .mesh .now) (a .rows .now) (a .status .now)
-    (c .before .before .before .before .before .before .before .before .before .before .before .before .before .before .before .pre .0) in
+    (c .before .before .before .before .before .before .before .before .before .before .before .before .before .before .pre .0) in
     held-marked (a .n) (a .mesh .now) (a .rows .now) (a .status .now)
-    (c .before .before .before .before .before .before .before .before .before .before .before .before .before .before .before .pre .0) _ _
-    (c .before .before .before .before .before .before .before .before .before .first-children .ensures) (a .marks .now) _
-    (c .before .before .before .before .before .before .before .before .before .before .before .before .before .before .before .pre .1 .0)
+    (c .before .before .before .before .before .before .before .before .before .before .before .before .before .before .pre .0) _ _
+    (c .before .before .before .before .before .before .before .before .first-children .ensures) (a .marks .now) _
+    (c .before .before .before .before .before .before .before .before .before .before .before .before .before .before .pre .1 .0)
     (omega (arith, t .few))
 
 too-deep-requires : tie.Need-too-deep-requires
 too-deep-requires c κs =
     let a = c .before .before .before .before .before .before .before .before .before .before .before .before .before .before .before
-    .before .before .before .before .before .args in
+    .before .before .before .before .args in
     let p = c .before .before .before .before .before .before .before .before .before .before .before .before .before .before .before
-    .before .before .before .before .before .pre .0 in
+    .before .before .before .before .pre .0 in
     let t = held-statuses (a .n) (a .mesh .now) (a .rows .now) (a .status .now) p in (
       held-rows (a .n) (a .mesh .now) (a .rows .now) (a .status .now) p (omega (arith, c .too-deep-arg2)),
       omega (arith, t .few, c .before .before .flags2),
@@ -50,10 +50,10 @@ slice-aggregate-renew c =
     let
     a =
     c .before .before .before .before .before .before .before .before .before .before .before .before .before .before .before .before
-    .before .before .before .before .before .before .before .before .args in
+    .before .before .before .before .before .before .before .args in
     let t = held-statuses (a .n) (a .mesh .now) (a .rows .now) (a .status .now)
     (c .before .before .before .before .before .before .before .before .before .before .before .before .before .before .before .before
-    .before .before .before .before .before .before .before .before .pre .0) in
+    .before .before .before .before .before .before .before .pre .0) in
     sym (length-take-le (length (a .status .now)) (c .before .before .before .before .before .before .before .before .new-reds .last .1 .1
     .1 .1 .1 .1 .0)
     (omega (arith, t .few, c .before .before .before .before .before .before .flags2)))
@@ -63,24 +63,23 @@ renew-requires c κs =
     let
     a =
     c .before .before .before .before .before .before .before .before .before .before .before .before .before .before .before .before
-    .before .before .before .before .before .before .before .before .before .before .before .before .before .before .before .before .before
-    .before .before .args in
+    .before .before .before .before .before .before .before .before .before .before .before .before .before .before .before .before .args in
     let t = held-statuses (a .n) (a .mesh .now) (a .rows .now) (a .status .now)
     (c .before .before .before .before .before .before .before .before .before .before .before .before .before .before .before .before
-    .before .before .before .before .before .before .before .before .before .before .before .before .before .before .before .before .before
-    .before .before .pre .0) in
+    .before .before .before .before .before .before .before .before .before .before .before .before .before .before .before .before .pre .0)
+    in
     let k = length-take-le (length (a .status .now))
     (c .before .before .before .before .before .before .before .before .before .before .before .before .before .before .before .before
-    .before .before .before .new-reds .last .1 .1 .1 .1 .1 .1 .0)
+    .before .new-reds .last .1 .1 .1 .1 .1 .1 .0)
     (omega (
       arith,
       t .few,
-      c .before .before .before .before .before .before .before .before .before .before .before .before .before .before .before .before
-          .before .flags2,
+      c .before .before .before .before .before .before .before .before .before .before .before .before .before .before .before .flags2,
     )) in (
       c .before .before .before .before .before .before .before .before .before .before .before .before .before .before .before .before
           .before .before .before .before .before .before .before .before .before .before .before .before .before .before .before .before
-          .before .before .before .pre .0
+          .pre
+          .0
           .accepted,
       (
         t,
@@ -88,17 +87,16 @@ renew-requires c κs =
           held-kids (a .n) (a .mesh .now) (a .rows .now) (a .status .now)
               (c .before .before .before .before .before .before .before .before .before .before .before .before .before .before .before
               .before .before .before .before .before .before .before .before .before .before .before .before .before .before .before
-              .before .before .before .before .before .pre
+              .before .before .pre
               .0) _ _
               (c .before .before .before .before .before .before .before .before .before .before .before .before .before .before .before
-              .before .before .before .before .before .before .before .before .before .before .before .before .before .before
-              .first-children .ensures),
+              .before .before .before .before .before .before .before .before .before .before .before .first-children .ensures),
           (
             omega (arith, k, t .few),
             c .before .before .before .before .before .before .before .before .before .before .before .before .before .before .before
                 .before .before .before .before .before .before .before .before .before .before .before .before .before .before .before
                 .before
-                .before .before .before .before .pre
+                .before .pre
                 .1
                 .1,
           ),
@@ -115,15 +113,14 @@ returns c =
     a =
     c .before .before .before .before .before .before .before .before .before .before .before .before .before .before .before .before
     .before .before .before .before .before .before .before .before .before .before .before .before .before .before .before .before .before
-    .before .before .before .before .args in
+    .before .args in
     advanced (a .n) (a .mesh .now) (a .rows .now) (a .status .now)
     (c .before .before .before .before .before .before .before .before .before .before .before .before .before .before .before .before
     .before .before .before .before .before .before .before .before .before .before .before .before .before .before .before .before .before
-    .before .before .before .before .pre .0) (a .marks .now) _ _
+    .before .pre .0) (a .marks .now) _ _
     (c .before .before .before .before .before .before .before .before .before .before .before .before .before .before .before .before
-    .before .before .before .before .before .new-reds .ensures) _ _ _ _ _ _ _ _ (c .before .renew .ensures) _ (c .before .before .before
-    .before .before .before .before .before .before .before .before .before .before .before .before .before .too-deep .ensures) _ (c
-    .decided .ensures)
+    .before .before .before .new-reds .ensures) _ _ _ _ _ _ _ _ (c .before .renew .ensures) _ (c .before .before .before .before .before
+    .before .before .before .before .before .before .before .before .before .too-deep .ensures) _ (c .decided .ensures)
 
 pub advance-spec : {M : Type 1} → statement M
 advance-spec =

@@ -60,26 +60,25 @@ advance-requires c κs =
     let
     a =
     c .before .before .before .before .before .before .before .before .before .before .before .before .before .before .before .before
-    .before .before .before .before .before .before .before .before .before .before .before .before .args in
+    .before .before .before .before .before .before .before .before .before .before .args in
     let
     o =
     c .before .before .before .before .before .before .before .before .before .before .before .before .before .before .before .before
-    .before .before .before .«open» in
+    .before .«open» in
     let z : o .result .refusal ≡ 0 = omega (
       arith,
-      c .before .before .before .before .before .before .before .before .before .before .before .before .before .before .before .before
-          .before .if2 .left,
+      c .before .before .before .before .before .before .before .before .before .before .before .before .before .before .before .if2 .left,
     ) in (
       opened-held _ _ _ _ _ _ _ _ _ (o .ensures .fits z),
       (
         marks-many (a .status .now) (a .marks .now)
             (sym
-            (c .before .before .before .before .before .before .before .before .before .before .before .before .before .before .before
-            .before .marks-fit .ensures)
+            (c .before .before .before .before .before .before .before .before .before .before .before .before .before .before .marks-fit
+            .ensures)
             ∙ not-false _
-            (c .before .before .before .before .before .before .before .before .before .before .before .before .before .before .before .if3
+            (c .before .before .before .before .before .before .before .before .before .before .before .before .before .if3
             .left)),
-        c .before .before .before .before .before .before .before .before .before .before .before .before .before .before .digit-table
+        c .before .before .before .before .before .before .before .before .before .before .before .before .digit-table
             .ensures,
       ),
     )
@@ -89,31 +88,31 @@ returns-4 c =
     let
     a =
     c .before .before .before .before .before .before .before .before .before .before .before .before .before .before .before .before
-    .before .before .before .before .before .before .before .before .before .before .before .before .before .before .before .args in
+    .before .before .before .before .before .before .before .before .before .before .before .before .before .args in
     let ans = stepAnswer (a .positions .now) (a .cells .now) (a .status .now) (a .marks .now) (a .table .now) in
     let new = newTable (cornerCount (a .positions .now)) (fours (a .cells .now)) (a .status .now) (a .marks .now) in
     let
     o =
     c .before .before .before .before .before .before .before .before .before .before .before .before .before .before .before .before
-    .before .before .before .before .before .before .«open» in
+    .before .before .before .before .«open» in
     let r = c .before .before .advance in
     let m = step-limits (a .positions .now) (a .cells .now) (a .status .now) (a .marks .now) (a .table .now)
     (omega (
       arith,
       c .before .before .before .before .before .before .before .before .before .before .before .before .before .before .before .before
-          .before .before .before .before .before .before .before .before .before .before .if1 .left,
+          .before .before .before .before .before .before .before .before .if1 .left,
     )) (o .result .refusal) (o .ensures .answer)
     (omega (
       arith,
       c .before .before .before .before .before .before .before .before .before .before .before .before .before .before .before .before
-          .before .before .before .before .if2 .left,
+          .before .before .if2 .left,
     ))
     (sym
     (c .before .before .before .before .before .before .before .before .before .before .before .before .before .before .before .before
-    .before .before .before .marks-fit .ensures)
+    .before .marks-fit .ensures)
     ∙ not-false _
-    (c .before .before .before .before .before .before .before .before .before .before .before .before .before .before .before .before
-    .before .before .if3 .left)) in
+    (c .before .before .before .before .before .before .before .before .before .before .before .before .before .before .before .before .if3
+    .left)) in
     refused-so ans new (a .table .now) (r .result .refusal) (m ∙ r .ensures .answer ∙ answer-refused (r .result .refusal) (c .if4 .taken))
 
 hand-out-requires : tie.Need-hand-out-requires
@@ -126,7 +125,7 @@ hand-out-requires c κs =
         arith,
         few,
         c .before .before .before .before .before .before .before .before .before .before .before .before .before .before .before .before
-            .before .before .before .before .before .before .before .before .before .before .before .before .if1 .left,
+            .before .before .before .before .before .before .before .before .before .before .if1 .left,
       ),
     )
 
@@ -139,33 +138,33 @@ returns-5 c =
     a =
     c .before .before .before .before .before .before .before .before .before .before .before .before .before .before .before .before
     .before .before .before .before .before .before .before .before .before .before .before .before .before .before .before .before .before
-    .before .before .before .args in
+    .before .args in
     let ans = stepAnswer (a .positions .now) (a .cells .now) (a .status .now) (a .marks .now) (a .table .now) in
     let new = newTable (cornerCount (a .positions .now)) (fours (a .cells .now)) (a .status .now) (a .marks .now) in
     let
     o =
     c .before .before .before .before .before .before .before .before .before .before .before .before .before .before .before .before
-    .before .before .before .before .before .before .before .before .before .before .before .«open» in
+    .before .before .before .before .before .before .before .before .before .«open» in
     let r = c .before .before .before .before .before .before .before .advance in
     let z : r .result .refusal ≡ 0 = omega (arith, c .before .before .before .before .before .if4 .left) in
     let m = step-limits (a .positions .now) (a .cells .now) (a .status .now) (a .marks .now) (a .table .now)
     (omega (
       arith,
       c .before .before .before .before .before .before .before .before .before .before .before .before .before .before .before .before
-          .before .before .before .before .before .before .before .before .before .before .before .before .before .before .before .if1
+          .before .before .before .before .before .before .before .before .before .before .before .before .before .if1
           .left,
     )) (o .result .refusal) (o .ensures .answer)
     (omega (
       arith,
       c .before .before .before .before .before .before .before .before .before .before .before .before .before .before .before .before
-          .before .before .before .before .before .before .before .before .before .if2 .left,
+          .before .before .before .before .before .before .before .if2 .left,
     ))
     (sym
     (c .before .before .before .before .before .before .before .before .before .before .before .before .before .before .before .before
-    .before .before .before .before .before .before .before .before .marks-fit .ensures)
+    .before .before .before .before .before .before .marks-fit .ensures)
     ∙ not-false _
     (c .before .before .before .before .before .before .before .before .before .before .before .before .before .before .before .before
-    .before .before .before .before .before .before .before .if3 .left)) in
+    .before .before .before .before .before .if3 .left)) in
     accepted-so ans new (a .table .now) (r .result .cells) _ _ (m ∙ r .ensures .answer ∙ answer-none (r .result .refusal) z)
     (r .ensures .counted z) (r .ensures .table-is z) (c .before .before .hand-out .ensures)
 
