@@ -14,7 +14,7 @@ use Rattle.base.specs.Lists.{allb}
 use Rattle.base.specs.Places.{hasb}
 use Rattle.mesh.specs.Cells.{Cell, corner, edge, edges, bitsOf}
 use Rattle.edges.specs.Pairs.{Pair, sorted, isb}
-use Rattle.edges.specs.Table.{Apart}
+use Rattle.edges.specs.Table.{Unmet}
 use Rattle.closure.specs.Ready.{listedPattern}
 use Rattle.closure.specs.Closed.{six-bits}
 
@@ -26,14 +26,14 @@ pub record Unlisted (es : List Pair) (c : Cell ℕ) : Type 0 where
   pub none : (e : ℕ) → e < 6 → hasb isb es (sorted (edge 0 c e)) ≡ false
 
 -- an edge whose ends are not both listed
-ends-apart : (es : List Pair) (a b : ℕ) (p q : Bool) → (p ≡ false → Apart es a) → (q ≡ false → Apart es b)
+ends-apart : (es : List Pair) (a b : ℕ) (p q : Bool) → (p ≡ false → Unmet es a) → (q ≡ false → Unmet es b)
     → (p ≡ true → q ≡ true → ⊥) → hasb isb es (sorted (a, b)) ≡ false
 ends-apart es a b true true f g n = absurd (n refl refl)
 ends-apart es a b true false f g n = g refl .second a
 ends-apart es a b false q f g n = f refl .first b
 
-module _ (es : List Pair) (c : Cell ℕ) (p q r s : Bool) (f : p ≡ false → Apart es (corner 0 c 0)) (g : q ≡ false → Apart es (corner 0 c 1))
-    (h : r ≡ false → Apart es (corner 0 c 2)) (i : s ≡ false → Apart es (corner 0 c 3)) where
+module _ (es : List Pair) (c : Cell ℕ) (p q r s : Bool) (f : p ≡ false → Unmet es (corner 0 c 0)) (g : q ≡ false → Unmet es (corner 0 c 1))
+    (h : r ≡ false → Unmet es (corner 0 c 2)) (i : s ≡ false → Unmet es (corner 0 c 3)) where
   abbrev sum : ℕ
   sum = one-if p + one-if q + one-if r + one-if s
 

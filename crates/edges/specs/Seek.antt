@@ -17,7 +17,7 @@ use Rattle.base.specs.Places.{place-behind, distinct-nil}
 use Rattle.base.specs.Bools.{either}
 use Rattle.pairs.specs.Keys.{Keys, Room, Added, Without, seek, seek-found, seek-none}
 use Rattle.edges.specs.Pairs.{Pair, sorted, isb, addPair, pairsOf, same-pair}
-use Rattle.edges.specs.Table.{listed, Table, Edges, Inserted, Apart}
+use Rattle.edges.specs.Table.{listed, Table, Edges, Inserted, Unmet}
 
 module _ (xs ys : List ℕ) (k : ℕ) where
   pub length-listed : (m : ℕ) → length (pairsOf xs ys k m) ≡ m
@@ -177,7 +177,7 @@ module _ (xs ys heads links : List ℕ) (from n : ℕ) (r : Table xs ys heads li
           let l : seek xs ys x y from (n - from) < n = omega (arith, f .below, r .up) in
           absurd (⊎-elim (λ p. w .first _ (f .above) l (f .x-is ∙ p)) (λ p. w .second _ (f .above) l (f .y-is ∙ p)) o)
 
-  pub none-meets : Apart (listed xs ys from n) a
+  pub none-meets : Unmet (listed xs ys from n) a
   unfolding sorted
   none-meets =
       record {

@@ -2,7 +2,7 @@
 --   listed xs ys from n           the pairs of the entries from `from` to n
 --   Table xs ys heads links from n    the table can be looked into
 --   Edges xs ys heads links from n    and its entries from `from` on are different
---   Apart es a                    no edge of the list has the corner a
+--   Unmet es a                    no edge of the list has the corner a
 --   Space xs ys links n k         k entries more have room
 --   Inserted ..                   what inserting an edge leaves
 --   Grown ..                      what inserting a list of edges leaves; grown-none, grown-more, grown-both make it up
@@ -39,7 +39,7 @@ pub record Inserted (xs ys : List ℕ) (from n : ℕ) (e : Pair) (xs′ ys′ he
   pub kept-xs : take n xs′ ≡ take n xs
   pub kept-ys : take n ys′ ≡ take n ys
 
-pub record Apart (es : List Pair) (a : ℕ) : Type 0 where
+pub record Unmet (es : List Pair) (a : ℕ) : Type 0 where
   pub first : (b : ℕ) → hasb isb es (sorted (a, b)) ≡ false
   pub second : (b : ℕ) → hasb isb es (sorted (b, a)) ≡ false
 

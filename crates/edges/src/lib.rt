@@ -6,7 +6,7 @@ ghost use Rattle.base.specs.Places.{hasb};
 ghost use Rattle.base.specs.Lent.{was, is};
 ghost use Rattle.pairs.specs.Keys.{Room};
 ghost use Rattle.edges.specs.Pairs.{sorted, isb};
-ghost use Rattle.edges.specs.Table.{listed, Table, Edges, Inserted, Apart};
+ghost use Rattle.edges.specs.Table.{listed, Table, Edges, Inserted, Unmet};
 ghost use mathlib.Core.Bool.{false};
 
 // Where an edge stands in the table, and how many entries the table has.
@@ -62,7 +62,7 @@ pub fn may_meet(
     a: u16,
 ) -> bool
     requires { ⌜ Table (now xs) (now ys) (now heads) (now links) from n ⌝ }
-    ensures { λ r. ⌜ (r ≡ false → Apart (listed (was xs) (was ys) from n) a) ⌝ }
+    ensures { λ r. ⌜ (r ≡ false → Unmet (listed (was xs) (was ys) from n) a) ⌝ }
 {
     pairs::may_have(xs, ys, heads, links, from, n, a as u32)
 }

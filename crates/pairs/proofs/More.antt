@@ -1,4 +1,4 @@
--- The buckets after a pair is added: its own bucket's last entry is the new one, and no other bucket changes. So it is with the places
+-- The buckets after a pair is added: its own bucket's last entry is the new one, and no other bucket changes. So it is with the spots
 -- of single numbers.
 -- Assumes nothing.
 use mathlib.Core.Path.{_≡_, refl, sym, _∙_, ap}
@@ -13,7 +13,7 @@ use lib.ListN.{length, getD, set, length-set}
 use lib.Seq.{getD-set-same, getD-set-other}
 use borrow.Author.Tests.{eq-eqb, ne-eqb, le-leb, lt-leb}
 use Rattle.base.specs.Bools.{not-both}
-use Rattle.pairs.specs.Keys.{bucket, latest, endOf, lastWith, noted, Keys, Room, Added, Without}
+use Rattle.pairs.specs.Keys.{bucket, latest, spotOf, lastWith, noted, Keys, Room, Added, Without}
 
 -- a store at n changes nothing below it
 latest-set : (xs ys : List ℕ) (b n x y m : ℕ) → m ≤ n → latest (set xs n x) (set ys n y) b m ≡ latest xs ys b m
@@ -30,13 +30,13 @@ last-set xs ys s n x y (suc m) h =
     let ne : m ≡ n → ⊥ = λ q. omega arith in
     rw (getD-set-other xs n m x 0 ne, getD-set-other ys n m y 0 ne, last-set xs ys s n x y m (omega arith))
 
--- heads with the last entry noted: the buckets are as they were, and the places of the two numbers have the entry
+-- heads with the last entry noted: the buckets are as they were, and the spots of the two numbers have the entry
 module _ (heads : List ℕ) (n x y : ℕ) where
   pub noted-short : length heads < 5120 → heads ≡ noted heads n x y
   unfolding noted
   noted-short h = rw (lt-leb 5120 (length heads) h, noted)
 
-  pub noted-long : 5120 ≤ length heads → (a b : ℕ) → a ≡ 4096 + endOf x → b ≡ 4096 + endOf y → set (set heads a n) b n ≡ noted heads n x y
+  pub noted-long : 5120 ≤ length heads → (a b : ℕ) → a ≡ 4096 + spotOf x → b ≡ 4096 + spotOf y → set (set heads a n) b n ≡ noted heads n x y
   unfolding noted
   noted-long h a b p q = rw (le-leb 5120 (length heads) h, noted, p, q)
 
@@ -45,8 +45,8 @@ module _ (heads : List ℕ) (n x y : ℕ) where
   noted-length = go (leb 5120 (length heads))
     where
       go : (b : Bool)
-          → length {A = ℕ} (elim b [ true ↦ set (set heads (4096 + endOf x) n) (4096 + endOf y) n | false ↦ heads ]) ≡ length heads
-      go true = length-set (set heads (4096 + endOf x) n) (4096 + endOf y) n ∙ length-set heads (4096 + endOf x) n
+          → length {A = ℕ} (elim b [ true ↦ set (set heads (4096 + spotOf x) n) (4096 + spotOf y) n | false ↦ heads ]) ≡ length heads
+      go true = length-set (set heads (4096 + spotOf x) n) (4096 + spotOf y) n ∙ length-set heads (4096 + spotOf x) n
       go false = refl
 
   noted-below : (b : ℕ) → b < 4096 → getD (noted heads n x y) b 0 ≡ getD heads b 0
@@ -54,36 +54,36 @@ module _ (heads : List ℕ) (n x y : ℕ) where
   noted-below b h = go (leb 5120 (length heads))
     where
       go : (t : Bool)
-          → getD (elim t [ true ↦ set (set heads (4096 + endOf x) n) (4096 + endOf y) n | false ↦ heads ]) b 0 ≡ getD heads b 0
+          → getD (elim t [ true ↦ set (set heads (4096 + spotOf x) n) (4096 + spotOf y) n | false ↦ heads ]) b 0 ≡ getD heads b 0
       go true =
-          getD-set-other (set heads (4096 + endOf x) n) (4096 + endOf y) b n 0 (λ q. omega arith)
-          ∙ getD-set-other heads (4096 + endOf x) b n 0 (λ q. omega arith)
+          getD-set-other (set heads (4096 + spotOf x) n) (4096 + spotOf y) b n 0 (λ q. omega arith)
+          ∙ getD-set-other heads (4096 + spotOf x) b n 0 (λ q. omega arith)
       go false = refl
 
   noted-at : 5120 ≤ length heads → (s : ℕ) → s < 1024
-      → getD (noted heads n x y) (4096 + s) 0 ≡ cond (eqb (endOf x) s || eqb (endOf y) s) n (getD heads (4096 + s) 0)
+      → getD (noted heads n x y) (4096 + s) 0 ≡ cond (eqb (spotOf x) s || eqb (spotOf y) s) n (getD heads (4096 + s) 0)
   noted-at l s h =
-      ap (λ (l : List ℕ). getD l (4096 + s) 0) (sym (noted-long l (4096 + endOf x) (4096 + endOf y) refl refl))
-      ∙ go (ℕ-discrete (endOf y) s) (ℕ-discrete (endOf x) s)
+      ap (λ (l : List ℕ). getD l (4096 + s) 0) (sym (noted-long l (4096 + spotOf x) (4096 + spotOf y) refl refl))
+      ∙ go (ℕ-discrete (spotOf y) s) (ℕ-discrete (spotOf x) s)
     where
       once : List ℕ
-      once = set heads (4096 + endOf x) n
+      once = set heads (4096 + spotOf x) n
 
-      go : Dec (endOf y ≡ s) → Dec (endOf x ≡ s)
-          → getD (set once (4096 + endOf y) n) (4096 + s) 0 ≡ cond (eqb (endOf x) s || eqb (endOf y) s) n (getD heads (4096 + s) 0)
+      go : Dec (spotOf y ≡ s) → Dec (spotOf x ≡ s)
+          → getD (set once (4096 + spotOf y) n) (4096 + s) 0 ≡ cond (eqb (spotOf x) s || eqb (spotOf y) s) n (getD heads (4096 + s) 0)
       go (yes q) (yes p) =
-          rw (q, eq-eqb (endOf x) s p) (getD-set-same once (4096 + s) n 0 (omega (arith, length-set heads (4096 + endOf x) n)))
+          rw (q, eq-eqb (spotOf x) s p) (getD-set-same once (4096 + s) n 0 (omega (arith, length-set heads (4096 + spotOf x) n)))
       go (yes q) (no p) =
-          rw (ne-eqb (endOf x) s p, eq-eqb (endOf y) s q, q)
-          (getD-set-same once (4096 + s) n 0 (omega (arith, length-set heads (4096 + endOf x) n)))
+          rw (ne-eqb (spotOf x) s p, eq-eqb (spotOf y) s q, q)
+          (getD-set-same once (4096 + s) n 0 (omega (arith, length-set heads (4096 + spotOf x) n)))
       go (no q) (yes p) =
-          rw (eq-eqb (endOf x) s p)
-          (getD-set-other once (4096 + endOf y) (4096 + s) n 0 (λ e. q (omega arith))
+          rw (eq-eqb (spotOf x) s p)
+          (getD-set-other once (4096 + spotOf y) (4096 + s) n 0 (λ e. q (omega arith))
           ∙ rw p (getD-set-same heads (4096 + s) n 0 (omega arith)))
       go (no q) (no p) =
-          rw (ne-eqb (endOf x) s p, ne-eqb (endOf y) s q)
-          (getD-set-other once (4096 + endOf y) (4096 + s) n 0 (λ e. q (omega arith))
-          ∙ getD-set-other heads (4096 + endOf x) (4096 + s) n 0 (λ e. p (omega arith)))
+          rw (ne-eqb (spotOf x) s p, ne-eqb (spotOf y) s q)
+          (getD-set-other once (4096 + spotOf y) (4096 + s) n 0 (λ e. q (omega arith))
+          ∙ getD-set-other heads (4096 + spotOf x) (4096 + s) n 0 (λ e. p (omega arith)))
 
 module _ (xs ys heads links : List ℕ) (n x y : ℕ) (k : Keys xs ys heads links n) (r : Room xs ys links n) (in-heads : bucket x y < 4096)
   where
@@ -135,17 +135,17 @@ module _ (xs ys heads links : List ℕ) (n x y : ℕ) (k : Keys xs ys heads link
         )
         (k .links-right e (omega (arith, q)))
 
-    ends-added : 5120 ≤ length heads → (s : ℕ) → s < 1024
+    spots-added : 5120 ≤ length heads → (s : ℕ) → s < 1024
         → getD (noted (set heads (bucket x y) n) n x y) (4096 + s) 0 ≡ lastWith (set xs n x) (set ys n y) s (suc n)
     unfolding lastWith
-    ends-added l s h =
+    spots-added l s h =
         noted-at (set heads (bucket x y) n) n x y (simp length-set l) s h
         ∙ rw (
           getD-set-same xs n x 0 (r .in-xs),
           getD-set-same ys n y 0 (r .in-ys),
           last-set xs ys s n x y n (omega arith),
           getD-set-other heads (bucket x y) (4096 + s) n 0 (λ q. omega arith),
-          k .ends-right l s h,
+          k .spots-right l s h,
         )
 
     added : Added xs ys n x y (set xs n x) (set ys n y) (noted (set heads (bucket x y) n) n x y)
@@ -166,7 +166,7 @@ module _ (xs ys heads links : List ℕ) (n x y : ℕ) (k : Keys xs ys heads link
                 in-heads = omega (arith, k .in-heads);
                 heads-right = λ b h. noted-below (set heads (bucket x y) n) n x y b h ∙ heads-added b h (ℕ-discrete b (bucket x y));
                 links-right = λ e h. links-added e h (ℕ-discrete e n);
-                ends-right = λ m s h. ends-added (omega arith) s h;
+                spots-right = λ m s h. spots-added (omega arith) s h;
               });
         }
 
@@ -175,33 +175,33 @@ pub added-at : {xs ys heads links : List ℕ} {n x y : ℕ} → Keys xs ys heads
     → Added xs ys n x y (set xs n x) (set ys n y) (noted (set heads b n) n x y) (set links n (getD heads b 0))
 added-at {xs} {ys} {heads} {links} {n} {x} {y} k r b e h = rw e (added xs ys heads links n x y k r (rw e at h))
 
--- an entry with a number is not above the last one noted at the number's place
-module _ (xs ys : List ℕ) (s e : ℕ) (t : (eqb (endOf (getD xs e 0)) s || eqb (endOf (getD ys e 0)) s) ≡ true) where
+-- an entry with a number is not above the last one noted at its spot
+module _ (xs ys : List ℕ) (s e : ℕ) (t : (eqb (spotOf (getD xs e 0)) s || eqb (spotOf (getD ys e 0)) s) ≡ true) where
   pub not-above : (m : ℕ) → e < m → (e ≤ lastWith xs ys s m) × (lastWith xs ys s m < m)
   unfolding lastWith
   not-above zero h = absurd (omega arith)
-  not-above (suc m) h = go (eqb (endOf (getD xs m 0)) s || eqb (endOf (getD ys m 0)) s) refl (not-above m)
+  not-above (suc m) h = go (eqb (spotOf (getD xs m 0)) s || eqb (spotOf (getD ys m 0)) s) refl (not-above m)
     where
-      go : (b : Bool) → (eqb (endOf (getD xs m 0)) s || eqb (endOf (getD ys m 0)) s) ≡ b
+      go : (b : Bool) → (eqb (spotOf (getD xs m 0)) s || eqb (spotOf (getD ys m 0)) s) ≡ b
           → (e < m → (e ≤ lastWith xs ys s m) × (lastWith xs ys s m < m))
           → (e ≤ cond b m (lastWith xs ys s m)) × (cond b m (lastWith xs ys s m) < suc m)
       go true q less = (omega arith, omega arith)
       go false q less =
-          let ne : e ≡ m → ⊥ = λ i. not-both (eqb (endOf (getD xs m 0)) s || eqb (endOf (getD ys m 0)) s) (rw i at t) q in
+          let ne : e ≡ m → ⊥ = λ i. not-both (eqb (spotOf (getD xs m 0)) s || eqb (spotOf (getD ys m 0)) s) (rw i at t) q in
           let (a, b) = less (omega (arith, ne)) in
           (a, omega arith)
 
--- what the last entry noted at the place of x says
+-- what the last entry noted at the spot of x says
 module _ (xs ys heads links : List ℕ) (n x : ℕ) (k : Keys xs ys heads links n) (l : 5120 ≤ length heads) where
-  pub without : (from e : ℕ) → e ≡ getD heads (4096 + endOf x) 0 → (e + 1) % 65536 ≤ from → Without xs ys from n x
-  unfolding endOf
+  pub without : (from e : ℕ) → e ≡ getD heads (4096 + spotOf x) 0 → (e + 1) % 65536 ≤ from → Without xs ys from n x
+  unfolding spotOf
   without from e q h =
-      let p : e ≡ lastWith xs ys (endOf x) n = q ∙ k .ends-right l (endOf x) (omega arith) in
+      let p : e ≡ lastWith xs ys (spotOf x) n = q ∙ k .spots-right l (spotOf x) (omega arith) in
       record {
-        first = λ i u v w. let (a, b) = not-above xs ys (endOf x) i (rw (w, eq-eqb (endOf x) (endOf x) refl)) n v in
+        first = λ i u v w. let (a, b) = not-above xs ys (spotOf x) i (rw (w, eq-eqb (spotOf x) (spotOf x) refl)) n v in
             omega (arith, k .small);
-        second = λ i u v w. let (a, b) = not-above xs ys (endOf x) i (or-right i w) n v in omega (arith, k .small);
+        second = λ i u v w. let (a, b) = not-above xs ys (spotOf x) i (or-right i w) n v in omega (arith, k .small);
       }
     where
-      or-right : (i : ℕ) → getD ys i 0 ≡ x → (eqb (endOf (getD xs i 0)) (endOf x) || eqb (endOf (getD ys i 0)) (endOf x)) ≡ true
-      or-right i w = rw (w, eq-eqb (endOf x) (endOf x) refl, or-true (eqb (endOf (getD xs i 0)) (endOf x)))
+      or-right : (i : ℕ) → getD ys i 0 ≡ x → (eqb (spotOf (getD xs i 0)) (spotOf x) || eqb (spotOf (getD ys i 0)) (spotOf x)) ≡ true
+      or-right i w = rw (w, eq-eqb (spotOf x) (spotOf x) refl, or-true (eqb (spotOf (getD xs i 0)) (spotOf x)))

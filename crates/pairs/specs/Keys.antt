@@ -3,9 +3,9 @@
 --   seek xs ys x y from m      the largest of the m entries from `from` on that is the pair x, y, or 65535
 --   bucket x y                 which of the 4096 buckets the pair lies in
 --   latest xs ys b m           the largest entry below m that lies in the bucket b, or 65535
---   endOf x                    which of the 1024 places behind the buckets the number x lies in
---   lastWith xs ys s m         the largest entry below m of which one number lies in the place s, or 65535
---   noted heads n x y          heads in which n is the last entry at the places of x and y; short ones have no such places
+--   spotOf x                   which of the 1024 spots behind the buckets the number x lies in
+--   lastWith xs ys s m         the largest entry below m of which one number lies in the spot s, or 65535
+--   noted heads n x y          heads in which n is the last entry at the spots of x and y; short ones have no spots
 --   Keys xs ys heads links n   the table is in order, with n entries; callers hand it on and look at no field
 --   Room xs ys links n         one entry more has room
 --   Clear heads                no bucket has an entry; clear-new: 65535 throughout
@@ -40,18 +40,18 @@ unfolding bucket
 latest xs ys b zero = 65535
 latest xs ys b (suc m) = cond (eqb (bucket (getD xs m 0) (getD ys m 0)) b) m (latest xs ys b m)
 
--- places of single numbers, so that a search can be spared where no entry has a number; any function would do
-unfoldable pub endOf : ℕ → ℕ
-endOf x = x % 1024
+-- spots of single numbers, so that a search can be spared where no entry has a number; any function would do
+unfoldable pub spotOf : ℕ → ℕ
+spotOf x = x % 1024
 
 unfoldable pub lastWith : List ℕ → List ℕ → ℕ → ℕ → ℕ
-unfolding endOf
+unfolding spotOf
 lastWith xs ys s zero = 65535
-lastWith xs ys s (suc m) = cond (eqb (endOf (getD xs m 0)) s || eqb (endOf (getD ys m 0)) s) m (lastWith xs ys s m)
+lastWith xs ys s (suc m) = cond (eqb (spotOf (getD xs m 0)) s || eqb (spotOf (getD ys m 0)) s) m (lastWith xs ys s m)
 
 unfoldable pub noted : List ℕ → ℕ → ℕ → ℕ → List ℕ
-unfolding endOf
-noted heads n x y = elim (leb 5120 (length heads)) [ true ↦ set (set heads (4096 + endOf x) n) (4096 + endOf y) n | false ↦ heads ]
+unfolding spotOf
+noted heads n x y = elim (leb 5120 (length heads)) [ true ↦ set (set heads (4096 + spotOf x) n) (4096 + spotOf y) n | false ↦ heads ]
 
 pub record Keys (xs ys heads links : List ℕ) (n : ℕ) : Type 0 where
   pub small : n ≤ 65535
@@ -61,7 +61,7 @@ pub record Keys (xs ys heads links : List ℕ) (n : ℕ) : Type 0 where
   pub in-heads : 4096 ≤ length heads
   pub heads-right : (b : ℕ) → b < 4096 → getD heads b 0 ≡ latest xs ys b n
   pub links-right : (e : ℕ) → e < n → getD links e 0 ≡ latest xs ys (bucket (getD xs e 0) (getD ys e 0)) e
-  pub ends-right : 5120 ≤ length heads → (s : ℕ) → s < 1024 → getD heads (4096 + s) 0 ≡ lastWith xs ys s n
+  pub spots-right : 5120 ≤ length heads → (s : ℕ) → s < 1024 → getD heads (4096 + s) 0 ≡ lastWith xs ys s n
 
 pub record Room (xs ys links : List ℕ) (n : ℕ) : Type 0 where
   pub small : n < 65535
@@ -86,7 +86,7 @@ clear-new k h =
             in-heads = omega arith;
             heads-right = λ b m. getD-replicate k b 65535 0 (omega arith);
             links-right = λ e m. absurd (omega arith);
-            ends-right = λ j s m. getD-replicate k (4096 + s) 65535 0 (omega arith);
+            spots-right = λ j s m. getD-replicate k (4096 + s) 65535 0 (omega arith);
           };
     }
 

@@ -1,12 +1,12 @@
 // A table of pairs of numbers in which a pair is found fast. Its four lists are lent by the caller: the pairs in the order
 // in which they were added, n of them in use; each bucket's last entry; and behind each entry the one before it in its bucket.
-// 65535 stands for no entry. Where there are 1,024 places behind those of the buckets, they have the last entry with each number.
+// 65535 stands for no entry. Where there are 1,024 spots behind the buckets, each has the last entry with a number that lies in it.
 ghost use mathlib.Core.Path.{_≡_};
 ghost use Prim.Native.Nat.{_+_, _-_, _<_, _≤_};
 ghost use lib.ListN.{length};
 ghost use Rattle.base.specs.Lent.{was, is};
 ghost use mathlib.Core.Bool.{false};
-ghost use Rattle.pairs.specs.Keys.{bucket, endOf, noted, hereb, seek, Keys, Room, Clear, Added, Without};
+ghost use Rattle.pairs.specs.Keys.{bucket, spotOf, noted, hereb, seek, Keys, Room, Clear, Added, Without};
 
 // The bucket that the pair lies in.
 fn bucket_of(x: u32, y: u32) -> usize
@@ -64,8 +64,8 @@ pub fn find(
 }
 
 // Where the last entry with x stands.
-fn end_of(x: u32) -> usize
-    ensures { λ r. ⌜ (r ≡ 4096 + endOf x) × (r < 5120) ⌝ }
+fn spot_of(x: u32) -> usize
+    ensures { λ r. ⌜ (r ≡ 4096 + spotOf x) × (r < 5120) ⌝ }
 {
     4096 + x as usize % 1024
 }
@@ -86,7 +86,7 @@ pub fn may_have(
     if heads.len() < 5120 {
         return true;
     }
-    let s = end_of(x);
+    let s = spot_of(x);
     let e = heads[s];
     (e as usize + 1) % 65536 > from
 }
@@ -99,8 +99,8 @@ fn note(heads: &mut [u16], n: usize, x: u32, y: u32)
     if heads.len() < 5120 {
         return;
     }
-    let a = end_of(x);
-    let b = end_of(y);
+    let a = spot_of(x);
+    let b = spot_of(y);
     heads[a] = n as u16;
     heads[b] = n as u16;
 }

@@ -288,7 +288,7 @@ fn flag_up(
     depth: usize,
     xs: &mut [u32],
     ys: &mut [u32],
-    heads: &mut [u16; 4096],
+    heads: &mut [u16; 5120],
     links: &mut [u16],
 ) -> Entries
     requires { ⌜ OldRows (now rows) (now status) (now marks) (now kids) ⌝ }
@@ -341,7 +341,7 @@ fn many_reds(
     marks: &[u8],
     kids: &[u16],
     red: &mut [u8],
-    heads: &mut [u16; 4096],
+    heads: &mut [u16; 5120],
 )
     requires { ⌜ OldRows (now rows) (now status) (now marks) (now kids) ⌝ }
     requires { ⌜ Span (now status) (now red) 0 (getD (now kids) 0 0) ⌝ }
@@ -384,7 +384,7 @@ pub fn new_reds(
     requires { ⌜ Marked n (now mesh) (now rows) (now status) (now marks) (now kids) (now red) ⌝ }
     ensures { λ r. ⌜ is red ≡ flagTable n (fours (was mesh)) (was status) (was marks) ++ drop (length (was status)) (was red) ⌝ }
 {
-    let mut heads = [65535u16; 4096];
+    let mut heads = [65535u16; 5120];
     if crowd(status, marks) > 512 {
         many_reds(rows, status, marks, kids, red, &mut heads);
         return;

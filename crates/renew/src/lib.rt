@@ -214,7 +214,7 @@ fn build(
     table: &mut [u8; 4096],
     xs: &mut [u32; 3072],
     ys: &mut [u32; 3072],
-    heads: &mut [u16; 4096],
+    heads: &mut [u16; 5120],
     links: &mut [u16; 3072],
     mid_heads: &mut [u16; 4096],
     mid_links: &mut [u16; 4096],
@@ -308,7 +308,7 @@ pub fn renew(
     ensures { λ r. ⌜ Result n (fours (was mesh)) (was status) (was red) (is rows) (is ps) (is qs) (is table) (r .refusal) (r .cells)
         (r .levels) (r .mids) ⌝ }
 {
-    let mut heads = [65535u16; 4096];
+    let mut heads = [65535u16; 5120];
     let mut mid_heads = [65535u16; 4096];
     build(
         mesh,

@@ -15,7 +15,8 @@ is-near-requires c κs = search needs
 returns : tie.Need-returns
 returns c =
     let a = c .before .before .before .before .before .before .before .args in
-    sym (unlisted-pattern (listed (a .xs .now) (a .ys .now) (a .from) (a .n)) (cellAt (a .cells .now) (a .c)) (c .before .is-near .ensures (not-true _ (c .if1 .taken))))
+    sym (unlisted-pattern (listed (a .xs .now) (a .ys .now) (a .from) (a .n)) (cellAt (a .cells .now) (a .c))
+    (c .before .is-near .ensures (not-true _ (c .if1 .taken))))
 
 pattern-in-requires : tie.Need-pattern-in-requires
 pattern-in-requires c κs = search needs

@@ -1,4 +1,4 @@
--- `pairs::may_have` meets its contract: an entry with x is not above the last one noted at its place.
+-- `pairs::may_have` meets its contract: an entry with x is not above the last one noted at its spot.
 -- Assumes nothing.
 use mathlib.Core.Path.{refl}
 use mathlib.Core.Bool.{true}
@@ -13,8 +13,8 @@ use Rattle.pairs.proofs.may_have.Tie as tie
 returns : tie.Need-returns
 returns c = λ h. not-both true refl h
 
-end-of-requires : tie.Need-end-of-requires
-end-of-requires c κs = search needs
+spot-of-requires : tie.Need-spot-of-requires
+spot-of-requires c κs = search needs
 
 mul-e : tie.Need-mul-e
 mul-e c = search needs
@@ -23,18 +23,18 @@ shared-slice-read-e : tie.Need-shared-slice-read-e
 shared-slice-read-e c = search needs
 
 cast-result : tie.Need-cast-result
-cast-result c = omega (arith, c .shared-slice-known5 .given (c .before .end-of .result))
+cast-result c = omega (arith, c .shared-slice-known5 .given (c .before .spot-of .result))
 
 add-result : tie.Need-add-result
-add-result c = omega (arith, c .shared-slice-known5 .given (c .before .end-of .result))
+add-result c = omega (arith, c .shared-slice-known5 .given (c .before .spot-of .result))
 
 returns-2 : tie.Need-returns-2
 returns-2 c = λ h.
     let s = c .before .before .before .before .before .before .before in
     without (s .args .xs .now) (s .args .ys .now) (s .args .heads .now) (s .args .links .now) (s .args .n) (s .args .x) (s .pre)
-    (omega (arith, c .before .before .if1 .left)) (s .args .from) _ (rw (c .before .end-of .ensures .0)) (ltb-false _ _ h)
+    (omega (arith, c .before .before .if1 .left)) (s .args .from) _ (rw (c .before .spot-of .ensures .0)) (ltb-false _ _ h)
 
 pub may-have-spec : {M : Type 1} → statement M
 may-have-spec =
     tie.close
-    (tie.spec returns end-of-requires mul-e shared-slice-read-e cast-result add-result returns-2)
+    (tie.spec returns spot-of-requires mul-e shared-slice-read-e cast-result add-result returns-2)

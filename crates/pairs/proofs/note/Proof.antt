@@ -12,11 +12,11 @@ returns c =
     let a = c .before .before .args in
     noted-short (a .heads .now) (a .n) (a .x) (a .y) (c .if1 .taken)
 
-end-of-requires : tie.Need-end-of-requires
-end-of-requires c κs = search needs
+spot-of-requires : tie.Need-spot-of-requires
+spot-of-requires c κs = search needs
 
-end-of-requires-2 : tie.Need-end-of-requires-2
-end-of-requires-2 c κs = search needs
+spot-of-requires-2 : tie.Need-spot-of-requires-2
+spot-of-requires-2 c κs = search needs
 
 cast-heads : tie.Need-cast-heads
 cast-heads c = search needs
@@ -38,9 +38,9 @@ slice-write-heads-2 c =
     let a = c .before .before .before .before .args in
     omega (
       arith,
-      length-set (a .heads .now) (c .before .end-of .result) (a .n),
+      length-set (a .heads .now) (c .before .spot-of .result) (a .n),
       c .before .before .if1 .left,
-      c .end-of2 .ensures .1,
+      c .spot-of2 .ensures .1,
     )
 
 same-length : tie.Need-same-length
@@ -49,16 +49,16 @@ same-length c = search needs
 returns-2 : tie.Need-returns-2
 returns-2 c =
     let a = c .before .before .before .before .args in
-    noted-long (a .heads .now) (a .n) (a .x) (a .y) (omega (arith, c .before .before .if1 .left)) (c .before .end-of .result)
-    (c .end-of2 .result) (c .before .end-of .ensures .0) (c .end-of2 .ensures .0)
+    noted-long (a .heads .now) (a .n) (a .x) (a .y) (omega (arith, c .before .before .if1 .left)) (c .before .spot-of .result)
+    (c .spot-of2 .result) (c .before .spot-of .ensures .0) (c .spot-of2 .ensures .0)
 
 pub note-spec : {M : Type 1} → statement M
 note-spec =
     tie.close
     (tie.spec
     returns
-    end-of-requires
-    end-of-requires-2
+    spot-of-requires
+    spot-of-requires-2
     cast-heads
     mul-heads
     slice-write-heads

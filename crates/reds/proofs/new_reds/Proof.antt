@@ -18,7 +18,7 @@ many-reds-requires c κs =
       marked-old (a .n) (a .mesh .now) (a .rows .now) (a .status .now) (a .marks .now) (a .kids .now) (a .red .now) p,
       (
         marked-span (a .n) (a .mesh .now) (a .rows .now) (a .status .now) (a .marks .now) (a .kids .now) (a .red .now) p,
-        clear-new 4096 (omega arith),
+        clear-new 5120 (omega arith),
       ),
     )
 
@@ -56,7 +56,7 @@ flag-up-requires c κs =
         record {
           span = marked-span (a .n) (a .mesh .now) (a .rows .now) (a .status .now) (a .marks .now) (a .kids .now) (a .red .now) p;
           children = refl;
-          keys = clear-new 4096 (omega arith) .empty _ _ _;
+          keys = clear-new 5120 (omega arith) .empty _ _ _;
         },
         record {
           in-xs = omega (arith, k, h, c .before .before .before .flag-up-arg2 .given .0 .1);

@@ -10,7 +10,7 @@ build-requires : tie.Need-build-requires
 build-requires c κs =
     let p = c .before .before .before .before .before .before .before .before .before .before .before .before .before .before .before
     .before .pre in
-    (p .0, (p .1 .0, (p .1 .1 .0, (p .1 .1 .1 .0, (p .1 .1 .1 .1, (clear-new 4096 (omega arith), clear-new 4096 (omega arith)))))))
+    (p .0, (p .1 .0, (p .1 .1 .0, (p .1 .1 .1 .0, (p .1 .1 .1 .1, (clear-new 5120 (omega arith), clear-new 4096 (omega arith)))))))
 
 returns : tie.Need-returns
 returns c = search needs
