@@ -80,9 +80,9 @@ module _ (cells xs ys heads links ss : List ℕ) (first l at n m : ℕ) where
           space =
               record {
                 small = omega (arith, splits, r .most);
-                in-xs = omega (arith, splits, r .most, r .in-xs);
-                in-ys = omega (arith, splits, r .most, r .in-ys);
-                in-links = omega (arith, splits, r .most, r .in-links);
+                in-xs = omega (arith, splits, r .in-xs);
+                in-ys = omega (arith, splits, r .in-ys);
+                in-links = omega (arith, splits, r .in-links);
               };
           small = omega (arith, splits, r .most, r .coarse);
         }

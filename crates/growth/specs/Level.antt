@@ -30,9 +30,9 @@ pub record Roomy (cells xs ys heads links ss : List ℕ) (first last at n m : �
   pub coarse : n ≤ 512
   pub few : m ≤ at
   pub edges : Edges xs ys heads links 0 m
-  pub in-xs : 4096 ≤ length xs
-  pub in-ys : 4096 ≤ length ys
-  pub in-links : 4096 ≤ length links
+  pub in-xs : at + sizes (part ss first (last - first)) ≤ length xs
+  pub in-ys : at + sizes (part ss first (last - first)) ≤ length ys
+  pub in-links : at + sizes (part ss first (last - first)) ≤ length links
 
 pub record Grows (cells xs ys ss : List ℕ) (first k l at n m : ℕ) (cells′ xs′ ys′ heads′ links′ : List ℕ) (at′ m′ : ℕ) : Type 0 where
   pub edges : Edges xs′ ys′ heads′ links′ 0 m′

@@ -3,7 +3,7 @@
 use mathlib.Core.Path.{_≡_, sym, _∙_}
 use mathlib.Core.Bool.{Bool, true, false}
 use mathlib.Core.List.{List, []}
-use Prim.Native.Nat.{ℕ, suc, _+_, _-_, _≤_}
+use Prim.Native.Nat.{ℕ, suc, _+_, _*_, _-_, _≤_}
 use native.Mathlib.Decide.{decLt}
 use native.Mathlib.Omega.{arith}
 use lib.ListN.{length}
@@ -70,7 +70,7 @@ module _ (n : ℕ) (qs : List (List ℕ)) (ss : List ℕ) (j first last : ℕ) (
           let s = f .whole .many in
           fails-high n qs ss j first last rows xs ys heads links k ps ps′ heads′ links′ m h t (f .inside) (omega (arith, z))
 
-      pub turn-room : n ≤ 512 → 32768 ≤ length rows → 4096 ≤ length ps → 4096 ≤ length ps′ → 4096 ≤ length links′
+      pub turn-room : n ≤ 512 → 8 * length ss ≤ length rows → length ss ≤ length ps → length ss ≤ length ps′ → length ss ≤ length links′
           → Roomy rows ps ps′ heads′ links′ ss first last last n m
       turn-room c long lp lq ll =
           let f = turn-fits e in
@@ -80,17 +80,17 @@ module _ (n : ℕ) (qs : List (List ℕ)) (ss : List ℕ) (j first last : ℕ) (
             done = omega arith;
             statuses = f .inside;
             small = λ i a b. status-fits ss (st .fit) i (omega (arith, f .inside));
-            in-cells = omega (arith, f .fit, st .few);
+            in-cells = omega (arith, f .fit, long);
             most = omega (arith, f .fit, st .few);
             coarse = c;
             few = d .few;
             edges = d .edges;
-            in-xs = lp;
-            in-ys = lq;
-            in-links = ll;
+            in-xs = omega (arith, f .fit, lp);
+            in-ys = omega (arith, f .fit, lq);
+            in-links = omega (arith, f .fit, ll);
           }
 
-      pub turn-next : (size ≡ 0 → ⊥) → (j ≡ 10 → ⊥) → 32768 ≤ length rows → (rows₂ ps₂ ps₂′ heads₂ links₂ : List ℕ) (last₂ m₂ : ℕ)
+      pub turn-next : (size ≡ 0 → ⊥) → (j ≡ 10 → ⊥) → 8 * length ss ≤ length rows → (rows₂ ps₂ ps₂′ heads₂ links₂ : List ℕ) (last₂ m₂ : ℕ)
           → Grows rows ps ps′ ss first (last - first) (suc j) last n m rows₂ ps₂ ps₂′ heads₂ links₂ last₂ m₂
           → Here n qs ss (suc j) last last₂ rows₂ xs₁ ys₁ heads₁ links₁ k₁ ps₂ ps₂′ heads₂ links₂ m₂
       turn-next z t long rows₂ ps₂ ps₂′ heads₂ links₂ last₂ m₂ g =

@@ -5,7 +5,7 @@ use mathlib.Core.Logic.{⊎-elim}
 use mathlib.Core.Bool.{false, Bool, true}
 use mathlib.Core.List.{List, [], _∷_, _++_, flatMap}
 use Rattle.numbering.specs.Renamed.{apartOf}
-use Prim.Native.Nat.{ℕ, suc, _+_, _-_, _<_, _≤_}
+use Prim.Native.Nat.{ℕ, suc, _+_, _*_, _-_, _<_, _≤_}
 use native.Mathlib.Omega.{arith}
 use lib.Dec.{eqb, leb}
 use lib.ListN.{length, take}
@@ -59,8 +59,8 @@ module _ (n : ℕ) (qs : List (List ℕ)) (ss : List ℕ) (j last : ℕ) (rows x
   size : length (numberedCells (t .corners) (t .all)) ≡ last
   size = length-in (t .corners) (t .all) ∙ t .counted
 
-  pub top-looks : 32768 ≤ length rows → Looks rows xs ys heads links last 0 k
-  top-looks long = record { rows = omega (arith, t .few); table = record { keys = t .reds .keys; up = omega arith } }
+  pub top-looks : 8 * last ≤ length rows → Looks rows xs ys heads links last 0 k
+  top-looks long = record { rows = long; table = record { keys = t .reds .keys; up = omega arith } }
 
   pub top-parents : Parents rows last
   top-parents =

@@ -1,4 +1,5 @@
 pub mod Checked
+pub mod Room
 pub mod Levels
 pub mod Here
 pub mod Start

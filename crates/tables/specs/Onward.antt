@@ -225,7 +225,7 @@ module _ (n : ℕ) (qs : List (List ℕ)) (ss : List ℕ) (j first last : ℕ) (
   module _ (w : closedFrom [] sameb (redEdges [] (h .cells) own) (h .cells) own ≡ true) (inside : last ≤ length ss) (high : j < 10)
       (st : Statuses ss)
       (fit : last + sizes (ownStatuses rows ss first last) ≤ length ss) (grows : 0 < sizes (ownStatuses rows ss first last))
-      (long : 32768 ≤ length rows)
+      (long : 8 * length ss ≤ length rows)
       (rows′ : List ℕ) (ps₁ ps₁′ heads₁ links₁ : List ℕ) (last′ m′ : ℕ)
       (g : Grows rows ps ps′ ss first (last - first) (suc j) last n m rows′ ps₁ ps₁′ heads₁ links₁ last′ m′) where
     abbrev up : List (Cell Point)
@@ -275,7 +275,7 @@ module _ (n : ℕ) (qs : List (List ℕ)) (ss : List ℕ) (j first last : ℕ) (
         rw (cells-are, own-is) (length-rowsOf (suc j) n (listed ps₁ ps₁′ 0 m′) first (map strip (numberedCells (h .corners) (h .cells))) own
         (length-map (numberedCells (h .corners) (h .cells)) strip ∙ length-in (h .corners) (h .cells) ∙ same-length) fits-part) in
         let e : 8 * last′ ≡ 8 * last + length vs = omega (arith, lv, end-is, length-up) in
-        let room : 8 * last + length vs ≤ length rows = omega (arith, lv, long, st .few, ap sizes own-is) in
+        let room : 8 * last + length vs ≤ length rows = omega (arith, lv, long, ap sizes own-is) in
         let kept : numberedCells ks′ (before ++ h .cells) ≡ numberedCells (h .corners) (before ++ h .cells) = cells-kept (h .corners) ks′
         (step .kept) (before ++ h .cells) all-before in
         rw (e, g .rows) (take-written rows (8 * last) vs room

@@ -17,6 +17,7 @@ use Rattle.rows.specs.Sizes.{size-red}
 use Rattle.closure.specs.Ready.{redCount, Ready, Looks, listedClosed}
 use Rattle.closure.specs.Steps.{length-reds}
 use Rattle.closure.specs.Closed.{lists-added, closed-listed}
+use Rattle.tables.specs.Room.{RedRoom}
 use Rattle.tables.specs.Checked.{Reds, Checked, ownCells, ownStatuses, ownReds}
 use Rattle.rows.specs.Laws.{length-cells, length-part}
 
@@ -37,15 +38,20 @@ module _ (rows ss : List ℕ) (first last : ℕ) (xs ys heads links : List ℕ) 
     (up : first ≤ last) (in-rows : 8 * last ≤ length rows) (inside : last ≤ length ss) (few : length ss ≤ 4096)
     (fit : last + sizes (ownStatuses rows ss first last) ≤ length ss) where
   -- the tables of red edges have room for all red cells of a table
-  pub ready : 3072 ≤ length xs → 3072 ≤ length ys → 3072 ≤ length links
-      → Ready rows xs ys heads links last n n (6 * redCount (ownStatuses rows ss first last))
-  ready lx ly ll =
+  pub ready : RedRoom ss xs ys links → Ready rows xs ys heads links last n n (6 * redCount (ownStatuses rows ss first last))
+  ready room =
       let h = red-sizes (ownStatuses rows ss first last) in
       let f = r .few in
       record {
         rows = in-rows;
         table = none-listed xs ys heads links n (r .keys);
-        space = record { small = omega arith; in-xs = omega arith; in-ys = omega arith; in-links = omega arith };
+        space =
+            record {
+              small = omega arith;
+              in-xs = omega (arith, room .in-xs);
+              in-ys = omega (arith, room .in-ys);
+              in-links = omega (arith, room .in-links);
+            };
       }
 
   module _ (xs′ ys′ heads′ links′ : List ℕ) (m : ℕ) (g : Grown xs ys n n (ownReds rows ss first last) xs′ ys′ heads′ links′ m) where

@@ -8,6 +8,7 @@ ghost use Rattle.base.specs.Lent.{was, is};
 ghost use Rattle.cutting.specs.Answer.{digitTable};
 ghost use Rattle.pairs.specs.Keys.{Clear};
 ghost use Rattle.tables.specs.Checked.{Statuses, Reds, Checked};
+ghost use Rattle.tables.specs.Room.{TableRoom, RedRoom};
 ghost use Rattle.tables.specs.Start.{Coarse, coarseRow};
 ghost use Rattle.tables.specs.Sound.{Mesh, Examined};
 
@@ -43,19 +44,20 @@ struct Level {
 
 // Checks the level from first to last.
 fn check_level(
-    rows: &[u16; 32768],
+    rows: &[u16],
     status: &[u8],
     first: usize,
     last: usize,
-    xs: &mut [u32; 3072],
-    ys: &mut [u32; 3072],
-    heads: &mut [u16; 5120],
-    links: &mut [u16; 3072],
+    xs: &mut [u32],
+    ys: &mut [u32],
+    heads: &mut [u16],
+    links: &mut [u16],
     n: usize,
 ) -> Level
     requires { ⌜ Statuses (now status) ⌝ }
     requires { ⌜ Reds (now xs) (now ys) (now heads) (now links) n last ⌝ }
-    requires { ⌜ (first ≤ last) × (last ≤ 4096) ⌝ }
+    requires { ⌜ first ≤ last ⌝ }
+    requires { ⌜ (8 * length (now status) ≤ length (now rows)) × RedRoom (now status) (now xs) (now ys) (now links) ⌝ }
     ensures { λ r. ⌜ Checked (was rows) (was status) first last (was xs) (was ys) n (is xs) (is ys) (is heads) (is links) (r .ok) (r .n)
         (r .size) ⌝ }
 {
@@ -76,8 +78,8 @@ fn check_level(
 }
 
 // Lays out the coarse cells. What the table holds behind their rows is free.
-pub fn lay_coarse(mesh: &[u16], rows: &mut [u16; 32768]) -> usize
-    requires { ⌜ Coarse (now mesh) ⌝ }
+pub fn lay_coarse(mesh: &[u16], rows: &mut [u16]) -> usize
+    requires { ⌜ Coarse (now mesh) × (2048 ≤ length (now rows)) ⌝ }
     ensures { λ r. ⌜ (r ≡ length (fours (was mesh))) × (take (8 * r) (is rows) ≡ flatMap coarseRow (fours (was mesh))) ⌝ }
 {
     let count = mesh.len() / 4;
@@ -107,21 +109,23 @@ fn build(
     mesh: &[u16],
     status: &[u8],
     n: usize,
-    rows: &mut [u16; 32768],
-    ps: &mut [u32; 4096],
-    qs: &mut [u32; 4096],
-    xs: &mut [u32; 3072],
-    ys: &mut [u32; 3072],
-    heads: &mut [u16; 5120],
-    links: &mut [u16; 3072],
-    mid_heads: &mut [u16; 4096],
-    mid_links: &mut [u16; 4096],
+    rows: &mut [u16],
+    ps: &mut [u32],
+    qs: &mut [u32],
+    xs: &mut [u32],
+    ys: &mut [u32],
+    heads: &mut [u16],
+    links: &mut [u16],
+    mid_heads: &mut [u16],
+    mid_links: &mut [u16],
     digits: &[u8],
 ) -> Outcome
     requires { ⌜ Mesh n (now mesh) ⌝ }
     requires { ⌜ Statuses (now status) ⌝ }
     requires { ⌜ now digits ≡ digitTable ⌝ }
     requires { ⌜ Clear (now heads) × Clear (now «mid_heads») ⌝ }
+    requires { ⌜ TableRoom (now status) (now rows) (now ps) (now qs) × RedRoom (now status) (now xs) (now ys) (now links)
+        × (length (now status) ≤ length (now «mid_links»)) ⌝ }
     ensures { λ r. ⌜ Examined n (fours (was mesh)) (was status) (is rows) (is ps) (is qs) (r .refusal) (r .cells) (r .levels) (r .mids) ⌝ }
 {
     let coarse = lay_coarse(mesh, rows);
@@ -176,25 +180,58 @@ fn build(
     }
 }
 
-// Examines a status table over an accepted mesh of n corners: 6 where it is not sound. Where it is sound, the rows are those of its
-// cells, and ps and qs have the ends of its new corners.
-pub fn examine(
+// Builds and examines a table of at most 512 statuses, with small tables for the work.
+fn examine_few(
     mesh: &[u16],
     status: &[u8],
     n: usize,
-    rows: &mut [u16; 32768],
-    ps: &mut [u32; 4096],
-    qs: &mut [u32; 4096],
+    rows: &mut [u16],
+    ps: &mut [u32],
+    qs: &mut [u32],
 ) -> Outcome
     requires { ⌜ Mesh n (now mesh) ⌝ }
+    requires { ⌜ Statuses (now status) × (length (now status) ≤ 512) ⌝ }
+    requires { ⌜ TableRoom (now status) (now rows) (now ps) (now qs) ⌝ }
     ensures { λ r. ⌜ Examined n (fours (was mesh)) (was status) (is rows) (is ps) (is qs) (r .refusal) (r .cells) (r .levels) (r .mids) ⌝ }
 {
-    if status.len() > 4096 {
-        return refused(6);
-    }
-    if !rows::fits(status) {
-        return refused(6);
-    }
+    let mut xs = [0u32; 384];
+    let mut ys = [0u32; 384];
+    let mut heads = [65535u16; 5120];
+    let mut links = [0u16; 384];
+    let mut mid_heads = [65535u16; 4096];
+    let mut mid_links = [0u16; 512];
+    let digits = cutting::digit_table();
+    build(
+        mesh,
+        status,
+        n,
+        rows,
+        ps,
+        qs,
+        &mut xs,
+        &mut ys,
+        &mut heads,
+        &mut links,
+        &mut mid_heads,
+        &mut mid_links,
+        &digits,
+    )
+}
+
+// Builds and examines a table of at most 4096 statuses.
+fn examine_many(
+    mesh: &[u16],
+    status: &[u8],
+    n: usize,
+    rows: &mut [u16],
+    ps: &mut [u32],
+    qs: &mut [u32],
+) -> Outcome
+    requires { ⌜ Mesh n (now mesh) ⌝ }
+    requires { ⌜ Statuses (now status) ⌝ }
+    requires { ⌜ TableRoom (now status) (now rows) (now ps) (now qs) ⌝ }
+    ensures { λ r. ⌜ Examined n (fours (was mesh)) (was status) (is rows) (is ps) (is qs) (r .refusal) (r .cells) (r .levels) (r .mids) ⌝ }
+{
     let mut xs = [0u32; 3072];
     let mut ys = [0u32; 3072];
     let mut heads = [65535u16; 5120];
@@ -217,4 +254,30 @@ pub fn examine(
         &mut mid_links,
         &digits,
     )
+}
+
+// Examines a status table over an accepted mesh of n corners: 6 where it is not sound. Where it is sound, the rows are those of its
+// cells, and ps and qs have the ends of its new corners. A small table is built in small tables, as these are set to zero first.
+pub fn examine(
+    mesh: &[u16],
+    status: &[u8],
+    n: usize,
+    rows: &mut [u16],
+    ps: &mut [u32],
+    qs: &mut [u32],
+) -> Outcome
+    requires { ⌜ Mesh n (now mesh) ⌝ }
+    requires { ⌜ (length (now status) ≤ 4096 → TableRoom (now status) (now rows) (now ps) (now qs)) ⌝ }
+    ensures { λ r. ⌜ Examined n (fours (was mesh)) (was status) (is rows) (is ps) (is qs) (r .refusal) (r .cells) (r .levels) (r .mids) ⌝ }
+{
+    if status.len() > 4096 {
+        return refused(6);
+    }
+    if !rows::fits(status) {
+        return refused(6);
+    }
+    if status.len() <= 512 {
+        return examine_few(mesh, status, n, rows, ps, qs);
+    }
+    examine_many(mesh, status, n, rows, ps, qs)
 }

@@ -1,13 +1,14 @@
 -- `tables::build` meets its contract: the loop holds `Here` (crate's specs), and each way out is one of its laws. The measure is
 -- the number of levels left.
 -- Assumes nothing.
-use mathlib.Core.Path.{_≡_, sym, _∙_}
+use mathlib.Core.Path.{_≡_, refl, sym, _∙_}
 use Prim.Native.Nat.{_-_}
 use native.Mathlib.Numerals.{add-one}
 use native.Mathlib.Omega.{arith}
 use borrow.Author.Tests.{not-true, not-false}
 use Rattle.base.specs.Fours.{fours}
 use Rattle.tables.specs.Here.{Here, Top}
+use Rattle.tables.specs.Room.{SameLengths}
 use Rattle.tables.specs.Begin.{here-start}
 use Rattle.tables.proofs.Turns.{turn-fails, turn-top, turn-high, turn-room, turn-next}
 use Rattle.tables.specs.Finish.{unsound-examined, top-looks, top-parents, top-not, top-apart, top-examined}
@@ -19,9 +20,9 @@ use lib.ListN.{length}
 abbrev Inv-loop : tie.InvT-loop
 Inv-loop mesh status n rows₀ ps₀ qs₀ xs₀ ys₀ heads₀ links₀ mid-heads₀ mid-links₀ digits coarse first₀ last₀ level₀ k₀ m₀ rows ps qs
     xs ys
-    heads links mid-heads mid-links first last level k m = Here n (fours mesh) status level first last rows xs ys heads links k ps
-    qs
-    mid-heads mid-links m
+    heads links mid-heads mid-links first last level k m = SameLengths rows₀ ps₀ qs₀ xs₀ ys₀ heads₀ links₀ mid-heads₀ mid-links₀ rows ps
+    qs xs ys heads links mid-heads mid-links
+    × Here n (fours mesh) status level first last rows xs ys heads links k ps qs mid-heads mid-links m
 
 abbrev μ-loop : tie.MeasureT-loop
 μ-loop mesh status n rows₀ ps₀ qs₀ xs₀ ys₀ heads₀ links₀ mid-heads₀ mid-links₀ digits coarse first₀ last₀ level₀ k₀ m₀ rows ps qs xs
@@ -29,44 +30,90 @@ abbrev μ-loop : tie.MeasureT-loop
     heads links mid-heads mid-links first last level k m = 11 - level
 
 lay-coarse-requires : tie.Need-lay-coarse-requires Inv-loop μ-loop
-lay-coarse-requires c κs = record {
-  whole = c .before .before .before .before .pre .0 .whole;
-  few =
-      c .before .before .before .before .pre .0 .few;
-}
+lay-coarse-requires c κs = (record { whole = c .before .before .before .before .before .before .before .before .before .before .before .before .before .pre .0 .whole; few = c .before .before .before .before .before .before .before .before .before .before .before .before .before .pre .0 .few }, c .before .before .before .before .before .before .before .before .before .before .before .before .before .pre .1 .1 .1 .1 .0 .in-coarse)
 
 loop-holds : tie.Need-loop-holds Inv-loop μ-loop
 loop-holds c =
-    let a = c .before .before .before .before .before .args in
-    let i = c .lay-coarse in
-    here-start (a .n) (a .mesh .now) (a .status .now) (c .before .before .before .before .before .pre .0)
-    (a .xs .now) (a .ys .now) (a .heads .now) (a .links .now) (a .ps .now) (a .qs .now)
-    (a .mid-heads .now) (a .mid-links .now)
-    (c .before .before .before .before .before .pre .1 .1 .1 .0) (c .before .before .before .before .before .pre .1 .1 .1 .1) (i
-    .last .1 .0) (i .result) (i .ensures .0)
-    (i .ensures .1)
+    let a = c .before .before .before .before .before .before .before .before .before .before .before .before .before .before .before .before .args in
+    let p = c .before .before .before .before .before .before .before .before .before .before .before .before .before .before .before .before .pre in
+    let i = c .before .before .lay-coarse in (
+      record {
+        of-rows = refl;
+        of-ps = refl;
+        of-qs = refl;
+        of-xs = refl;
+        of-ys = refl;
+        of-heads = refl;
+        of-links = refl;
+        of-heads′ = refl;
+        of-links′ = refl;
+      },
+      here-start (a .n) (a .mesh .now) (a .status .now) (p .0) (a .xs .now) (a .ys .now) (a .heads .now) (a .links .now) (a .ps .now)
+          (a .qs .now) (a .mid-heads .now) (a .mid-links .now) (p .1 .1 .1 .0 .0) (p .1 .1 .1 .0 .1) (i .last .1 .0) (i .result)
+          (i .ensures .0) (i .ensures .1),
+    )
 
 check-level-requires : tie.Need-check-level-requires Inv-loop μ-loop
-check-level-requires c κs = let h = c .before .before .before .before .before .loop .inv in (
-  c .before .before .before .before .before .before .before .before .before .before .before .pre .1 .0,
-  (h .reds, (omega (arith, h .end), h .few)),
-)
+check-level-requires c κs =
+    let w = c .before .before .before .before .before .loop .inv .0 in
+    let h = c .before .before .before .before .before .loop .inv .1 in
+    let r = c .before .before .before .before .before .before .before .before .before .before .before .before .before .before .before .before .before .before .before .before .before .before .pre .1 .1 .1 .1 in (
+      c .before .before .before .before .before .before .before .before .before .before .before .before .before .before .before .before .before .before .before .before .before .before .pre .1 .0,
+      (
+        h .reds,
+        (
+          omega (arith, h .end),
+          (
+            omega (arith, r .0 .in-rows, w .of-rows, c .before .before .before .before .before .before .before .before .lay-coarse .kept .1 .0),
+            record {
+              in-xs = omega (arith, r .1 .in-xs, w .of-xs);
+              in-ys = omega (arith, r .1 .in-ys, w .of-ys);
+              in-links = omega (arith, r .1 .in-links, w .of-links);
+            },
+          ),
+        ),
+      ),
+    )
 
 refused-requires : tie.Need-refused-requires Inv-loop μ-loop
 refused-requires c κs = search needs
 
+same-length : tie.Need-same-length Inv-loop μ-loop
+same-length c = c .before .before .before .before .before .before .before .before .before .before .before .before .before .before .before .before .before .loop .inv .0 .of-rows ∙ c .before .before .before .before .before .before .before .before .before .before .before .before .before .before .before .before .before .before .before .before .lay-coarse .kept .1 .0
+
+same-length-2 : tie.Need-same-length-2 Inv-loop μ-loop
+same-length-2 c = c .before .before .before .before .before .before .before .before .before .before .before .before .before .before .before .before .before .loop .inv .0 .of-ps
+
+same-length-3 : tie.Need-same-length-3 Inv-loop μ-loop
+same-length-3 c = c .before .before .before .before .before .before .before .before .before .before .before .before .before .before .before .before .before .loop .inv .0 .of-qs
+
+same-length-4 : tie.Need-same-length-4 Inv-loop μ-loop
+same-length-4 c = c .before .before .before .before .before .before .before .before .before .before .before .check-level .kept .1 .1 .1 .1 .0 ∙ c .before .before .before .before .before .before .before .before .before .before .before .before .before .before .before .before .before .loop .inv .0 .of-xs
+
+same-length-5 : tie.Need-same-length-5 Inv-loop μ-loop
+same-length-5 c = c .before .before .before .before .before .before .before .before .before .before .before .check-level .kept .1 .1 .1 .1 .1 .0 ∙ c .before .before .before .before .before .before .before .before .before .before .before .before .before .before .before .before .before .loop .inv .0 .of-ys
+
+same-length-6 : tie.Need-same-length-6 Inv-loop μ-loop
+same-length-6 c = c .before .before .before .before .before .before .before .before .before .before .before .check-level .kept .1 .1 .1 .1 .1 .1 .0 ∙ c .before .before .before .before .before .before .before .before .before .before .before .before .before .before .before .before .before .loop .inv .0 .of-heads
+
+same-length-7 : tie.Need-same-length-7 Inv-loop μ-loop
+same-length-7 c = c .before .before .before .before .before .before .before .before .before .before .before .check-level .kept .1 .1 .1 .1 .1 .1 .1 .0 ∙ c .before .before .before .before .before .before .before .before .before .before .before .before .before .before .before .before .before .loop .inv .0 .of-links
+
+same-length-8 : tie.Need-same-length-8 Inv-loop μ-loop
+same-length-8 c = c .before .before .before .before .before .before .before .before .before .before .before .before .before .before .before .before .before .loop .inv .0 .of-heads′
+
+same-length-9 : tie.Need-same-length-9 Inv-loop μ-loop
+same-length-9 c = c .before .before .before .before .before .before .before .before .before .before .before .before .before .before .before .before .before .loop .inv .0 .of-links′
+
 returns : tie.Need-returns Inv-loop μ-loop
 returns c =
-    let l = c .before .before .before .before .before .before .before .before .before .loop in
-    let
-    a =
-    c .before .before .before .before .before .before .before .before .before .before .before .before .before .before .before .args
-    in
-    let t = c .before .before .before .check-level in
+    let l = c .before .before .before .before .before .before .before .before .before .before .before .before .before .before .before .before .before .loop in
+    let a = c .before .before .before .before .before .before .before .before .before .before .before .before .before .before .before .before .before .before .before .before .before .before .before .before .before .before .before .before .before .before .before .before .before .before .args in
+    let t = c .before .before .before .before .before .before .before .before .before .before .before .check-level in
     unsound-examined (a .n) (fours (a .mesh .now)) (a .status .now) (l .rows) (l .ps) (l .qs) _ _ _ _ (c .refused .ensures .0)
     (turn-fails (a .n) (fours (a .mesh .now)) (a .status .now) (l .level) (l .first) (l .last) (l .rows) (l .xs) (l .ys) (l .heads)
-    (l .links) (l .k) (l .ps) (l .qs) (l .mid-heads) (l .mid-links) (l .m) (l .inv)
-    (c .before .before .before .before .before .before .before .before .before .before .before .before .before .before .before .pre
+    (l .links) (l .k) (l .ps) (l .qs) (l .mid-heads) (l .mid-links) (l .m) (l .inv .1)
+    (c .before .before .before .before .before .before .before .before .before .before .before .before .before .before .before .before .before .before .before .before .before .before .before .before .before .before .before .before .before .before .before .before .before .before .pre
     .1 .0) (t .last .1 .1 .1 .1 .0) (t .last .1 .1 .1 .1 .1 .0) (t .last .1 .1 .1 .1 .1 .1 .0)
     (t .last .1 .1 .1 .1 .1 .1 .1 .0) (t .result .ok) (t .result .n) (t .result .size) (t .ensures)
     (not-true _ (c .before .if1 .taken)))
@@ -74,20 +121,43 @@ returns c =
 refused-requires-2 : tie.Need-refused-requires-2 Inv-loop μ-loop
 refused-requires-2 c κs = search needs
 
+same-length-10 : tie.Need-same-length-10 Inv-loop μ-loop
+same-length-10 c = c .before .before .before .before .before .before .before .before .before .before .before .before .before .before .before .before .before .before .before .before .loop .inv .0 .of-rows ∙ c .before .before .before .before .before .before .before .before .before .before .before .before .before .before .before .before .before .before .before .before .before .before .before .lay-coarse .kept .1 .0
+
+same-length-11 : tie.Need-same-length-11 Inv-loop μ-loop
+same-length-11 c = c .before .before .before .before .before .before .before .before .before .before .before .before .before .before .before .before .before .before .before .before .loop .inv .0 .of-ps
+
+same-length-12 : tie.Need-same-length-12 Inv-loop μ-loop
+same-length-12 c = c .before .before .before .before .before .before .before .before .before .before .before .before .before .before .before .before .before .before .before .before .loop .inv .0 .of-qs
+
+same-length-13 : tie.Need-same-length-13 Inv-loop μ-loop
+same-length-13 c = c .before .before .before .before .before .before .before .before .before .before .before .before .before .before .check-level .kept .1 .1 .1 .1 .0 ∙ c .before .before .before .before .before .before .before .before .before .before .before .before .before .before .before .before .before .before .before .before .loop .inv .0 .of-xs
+
+same-length-14 : tie.Need-same-length-14 Inv-loop μ-loop
+same-length-14 c = c .before .before .before .before .before .before .before .before .before .before .before .before .before .before .check-level .kept .1 .1 .1 .1 .1 .0 ∙ c .before .before .before .before .before .before .before .before .before .before .before .before .before .before .before .before .before .before .before .before .loop .inv .0 .of-ys
+
+same-length-15 : tie.Need-same-length-15 Inv-loop μ-loop
+same-length-15 c = c .before .before .before .before .before .before .before .before .before .before .before .before .before .before .check-level .kept .1 .1 .1 .1 .1 .1 .0 ∙ c .before .before .before .before .before .before .before .before .before .before .before .before .before .before .before .before .before .before .before .before .loop .inv .0 .of-heads
+
+same-length-16 : tie.Need-same-length-16 Inv-loop μ-loop
+same-length-16 c = c .before .before .before .before .before .before .before .before .before .before .before .before .before .before .check-level .kept .1 .1 .1 .1 .1 .1 .1 .0 ∙ c .before .before .before .before .before .before .before .before .before .before .before .before .before .before .before .before .before .before .before .before .loop .inv .0 .of-links
+
+same-length-17 : tie.Need-same-length-17 Inv-loop μ-loop
+same-length-17 c = c .before .before .before .before .before .before .before .before .before .before .before .before .before .before .before .before .before .before .before .before .loop .inv .0 .of-heads′
+
+same-length-18 : tie.Need-same-length-18 Inv-loop μ-loop
+same-length-18 c = c .before .before .before .before .before .before .before .before .before .before .before .before .before .before .before .before .before .before .before .before .loop .inv .0 .of-links′
+
 returns-2 : tie.Need-returns-2 Inv-loop μ-loop
 returns-2 c =
-    let l = c .before .before .before .before .before .before .before .before .before .before .before .before .loop in
-    let
-    a =
-    c .before .before .before .before .before .before .before .before .before .before .before .before .before .before .before
-    .before .before .before .args in
-    let t = c .before .before .before .before .before .before .check-level in
+    let l = c .before .before .before .before .before .before .before .before .before .before .before .before .before .before .before .before .before .before .before .before .loop in
+    let a = c .before .before .before .before .before .before .before .before .before .before .before .before .before .before .before .before .before .before .before .before .before .before .before .before .before .before .before .before .before .before .before .before .before .before .before .before .before .args in
+    let t = c .before .before .before .before .before .before .before .before .before .before .before .before .before .before .check-level in
     let o : Top (a .n) (fours (a .mesh .now)) (a .status .now) (l .level) (l .last) (l .rows) (t .last .1 .1 .1 .1 .0)
     (t .last .1 .1 .1 .1 .1 .0) (t .last .1 .1 .1 .1 .1 .1 .0) (t .last .1 .1 .1 .1 .1 .1 .1 .0) (t .result .n) (l .ps) (l .qs)
     (l .mid-heads) (l .mid-links) (l .m) = turn-top (a .n) (fours (a .mesh .now)) (a .status .now) (l .level) (l .first) (l .last)
-    (l .rows) (l .xs) (l .ys) (l .heads) (l .links) (l .k) (l .ps) (l .qs) (l .mid-heads) (l .mid-links) (l .m) (l .inv)
-    (c .before .before .before .before .before .before .before .before .before .before .before .before .before .before .before
-    .before .before .before .pre .1 .0) (t .last .1 .1 .1 .1 .0) (t .last .1 .1 .1 .1 .1 .0)
+    (l .rows) (l .xs) (l .ys) (l .heads) (l .links) (l .k) (l .ps) (l .qs) (l .mid-heads) (l .mid-links) (l .m) (l .inv .1)
+    (c .before .before .before .before .before .before .before .before .before .before .before .before .before .before .before .before .before .before .before .before .before .before .before .before .before .before .before .before .before .before .before .before .before .before .before .before .before .pre .1 .0) (t .last .1 .1 .1 .1 .0) (t .last .1 .1 .1 .1 .1 .0)
     (t .last .1 .1 .1 .1 .1 .1 .0) (t .last .1 .1 .1 .1 .1 .1 .1 .0) (t .result .ok) (t .result .n) (t .result .size) (t .ensures)
     (not-false _ (c .before .before .before .before .if1 .left)) (c .before .before .if2 .taken) in
     unsound-examined (a .n) (fours (a .mesh .now)) (a .status .now) (l .rows) (l .ps) (l .qs) _ _ _ _ (c .refused2 .ensures .0)
@@ -97,34 +167,24 @@ returns-2 c =
 
 apart-requires : tie.Need-apart-requires Inv-loop μ-loop
 apart-requires c κs =
-    let
-    l =
-    c .before .before .before .before .before .before .before .before .before .before .before .before .before .before .before
-    .before .before .before .before .before .before .loop in
-    let
-    a =
-    c .before .before .before .before .before .before .before .before .before .before .before .before .before .before .before
-    .before .before .before .before .before .before .before .before .before .before .before .before .args in
-    let
-    t =
-    c .before .before .before .before .before .before .before .before .before .before .before .before .before .before .before
-    .check-level
-    in
+    let l = c .before .before .before .before .before .before .before .before .before .before .before .before .before .before .before .before .before .before .before .before .before .before .before .before .loop in
+    let a = c .before .before .before .before .before .before .before .before .before .before .before .before .before .before .before .before .before .before .before .before .before .before .before .before .before .before .before .before .before .before .before .before .before .before .before .before .before .before .before .before .before .args in
+    let t = c .before .before .before .before .before .before .before .before .before .before .before .before .before .before .before .before .before .before .check-level in
     let o : Top (a .n) (fours (a .mesh .now)) (a .status .now) (l .level) (l .last) (l .rows) (t .last .1 .1 .1 .1 .0)
     (t .last .1 .1 .1 .1 .1 .0) (t .last .1 .1 .1 .1 .1 .1 .0) (t .last .1 .1 .1 .1 .1 .1 .1 .0) (t .result .n) (l .ps) (l .qs)
     (l .mid-heads) (l .mid-links) (l .m) = turn-top (a .n) (fours (a .mesh .now)) (a .status .now) (l .level) (l .first) (l .last)
-    (l .rows) (l .xs) (l .ys) (l .heads) (l .links) (l .k) (l .ps) (l .qs) (l .mid-heads) (l .mid-links) (l .m) (l .inv)
-    (c .before .before .before .before .before .before .before .before .before .before .before .before .before .before .before
-    .before .before .before .before .before .before .before .before .before .before .before .before .pre .1 .0)
+    (l .rows) (l .xs) (l .ys) (l .heads) (l .links) (l .k) (l .ps) (l .qs) (l .mid-heads) (l .mid-links) (l .m) (l .inv .1)
+    (c .before .before .before .before .before .before .before .before .before .before .before .before .before .before .before .before .before .before .before .before .before .before .before .before .before .before .before .before .before .before .before .before .before .before .before .before .before .before .before .before .before .pre .1 .0)
     (t .last .1 .1 .1 .1 .0) (t .last .1 .1 .1 .1 .1 .0) (t .last .1 .1 .1 .1 .1 .1 .0) (t .last .1 .1 .1 .1 .1 .1 .1 .0)
     (t .result .ok) (t .result .n) (t .result .size) (t .ensures)
-    (not-false _ (c .before .before .before .before .before .before .before .before .before .before .before .before .before .if1
+    (not-false _ (c .before .before .before .before .before .before .before .before .if1
     .left))
-    (c .before .before .before .before .before .before .before .before .before .before .before .if2 .taken) in (
+    (c .before .before .before .before .before .before .if2 .taken) in (
       top-looks (a .n) (fours (a .mesh .now)) (a .status .now) (l .level) (l .last) (l .rows) (t .last .1 .1 .1 .1 .0)
           (t .last .1 .1 .1 .1 .1 .0) (t .last .1 .1 .1 .1 .1 .1 .0) (t .last .1 .1 .1 .1 .1 .1 .1 .0) (t .result .n) (l .ps) (l
           .qs)
-          (l .mid-heads) (l .mid-links) (l .m) o (omega arith),
+          (l .mid-heads) (l .mid-links) (l .m) o
+          (omega (arith, c .before .before .before .before .before .before .before .before .before .before .before .before .before .before .before .before .before .before .before .before .before .before .before .before .before .before .before .before .before .before .before .before .before .before .before .before .before .before .before .before .before .pre .1 .1 .1 .1 .0 .in-rows, l .inv .0 .of-rows, c .before .before .before .before .before .before .before .before .before .before .before .before .before .before .before .before .before .before .before .before .before .before .before .before .before .before .before .lay-coarse .kept .1 .0, c .before .before .before .before .before .if3 .left)),
       top-parents (a .n) (fours (a .mesh .now)) (a .status .now) (l .level)
           (l .last) (l .rows) (t .last .1 .1 .1 .1 .0) (t .last .1 .1 .1 .1 .1 .0) (t .last .1 .1 .1 .1 .1 .1 .0)
           (t .last .1 .1 .1 .1 .1 .1 .1 .0) (t .result .n) (l .ps) (l .qs) (l .mid-heads) (l .mid-links) (l .m) o,
@@ -133,76 +193,107 @@ apart-requires c κs =
 refused-requires-3 : tie.Need-refused-requires-3 Inv-loop μ-loop
 refused-requires-3 c κs = search needs
 
+same-length-19 : tie.Need-same-length-19 Inv-loop μ-loop
+same-length-19 c = c .before .before .before .before .before .before .before .before .before .before .before .before .before .before .before .before .before .before .before .before .before .before .before .before .before .before .before .loop .inv .0 .of-rows ∙ c .before .before .before .before .before .before .before .before .before .before .before .before .before .before .before .before .before .before .before .before .before .before .before .before .before .before .before .before .before .before .lay-coarse .kept .1 .0
+
+same-length-20 : tie.Need-same-length-20 Inv-loop μ-loop
+same-length-20 c = c .before .before .before .before .before .before .before .before .before .before .before .before .before .before .before .before .before .before .before .before .before .before .before .before .before .before .before .loop .inv .0 .of-ps
+
+same-length-21 : tie.Need-same-length-21 Inv-loop μ-loop
+same-length-21 c = c .before .before .before .before .before .before .before .before .before .before .before .before .before .before .before .before .before .before .before .before .before .before .before .before .before .before .before .loop .inv .0 .of-qs
+
+same-length-22 : tie.Need-same-length-22 Inv-loop μ-loop
+same-length-22 c = c .before .before .before .before .before .before .before .before .before .before .before .before .before .before .before .before .before .before .before .before .before .check-level .kept .1 .1 .1 .1 .0 ∙ c .before .before .before .before .before .before .before .before .before .before .before .before .before .before .before .before .before .before .before .before .before .before .before .before .before .before .before .loop .inv .0 .of-xs
+
+same-length-23 : tie.Need-same-length-23 Inv-loop μ-loop
+same-length-23 c = c .before .before .before .before .before .before .before .before .before .before .before .before .before .before .before .before .before .before .before .before .before .check-level .kept .1 .1 .1 .1 .1 .0 ∙ c .before .before .before .before .before .before .before .before .before .before .before .before .before .before .before .before .before .before .before .before .before .before .before .before .before .before .before .loop .inv .0 .of-ys
+
+same-length-24 : tie.Need-same-length-24 Inv-loop μ-loop
+same-length-24 c = c .before .before .before .before .before .before .before .before .before .before .before .before .before .before .before .before .before .before .before .before .before .check-level .kept .1 .1 .1 .1 .1 .1 .0 ∙ c .before .before .before .before .before .before .before .before .before .before .before .before .before .before .before .before .before .before .before .before .before .before .before .before .before .before .before .loop .inv .0 .of-heads
+
+same-length-25 : tie.Need-same-length-25 Inv-loop μ-loop
+same-length-25 c = c .before .before .before .before .before .before .before .before .before .before .before .before .before .before .before .before .before .before .before .before .before .check-level .kept .1 .1 .1 .1 .1 .1 .1 .0 ∙ c .before .before .before .before .before .before .before .before .before .before .before .before .before .before .before .before .before .before .before .before .before .before .before .before .before .before .before .loop .inv .0 .of-links
+
+same-length-26 : tie.Need-same-length-26 Inv-loop μ-loop
+same-length-26 c = c .before .before .before .before .before .before .before .before .before .before .before .before .before .before .before .before .before .before .before .before .before .before .before .before .before .before .before .loop .inv .0 .of-heads′
+
+same-length-27 : tie.Need-same-length-27 Inv-loop μ-loop
+same-length-27 c = c .before .before .before .before .before .before .before .before .before .before .before .before .before .before .before .before .before .before .before .before .before .before .before .before .before .before .before .loop .inv .0 .of-links′
+
 returns-3 : tie.Need-returns-3 Inv-loop μ-loop
 returns-3 c =
-    let
-    l =
-    c .before .before .before .before .before .before .before .before .before .before .before .before .before .before .before
-    .before .before .before .before .before .before .before .before .before .loop in
-    let
-    a =
-    c .before .before .before .before .before .before .before .before .before .before .before .before .before .before .before
-    .before .before .before .before .before .before .before .before .before .before .before .before .before .before .before .args in
-    let
-    t =
-    c .before .before .before .before .before .before .before .before .before .before .before .before .before .before .before
-    .before .before .before .check-level in
+    let l = c .before .before .before .before .before .before .before .before .before .before .before .before .before .before .before .before .before .before .before .before .before .before .before .before .before .before .before .loop in
+    let a = c .before .before .before .before .before .before .before .before .before .before .before .before .before .before .before .before .before .before .before .before .before .before .before .before .before .before .before .before .before .before .before .before .before .before .before .before .before .before .before .before .before .before .before .before .args in
+    let t = c .before .before .before .before .before .before .before .before .before .before .before .before .before .before .before .before .before .before .before .before .before .check-level in
     let o : Top (a .n) (fours (a .mesh .now)) (a .status .now) (l .level) (l .last) (l .rows) (t .last .1 .1 .1 .1 .0)
     (t .last .1 .1 .1 .1 .1 .0) (t .last .1 .1 .1 .1 .1 .1 .0) (t .last .1 .1 .1 .1 .1 .1 .1 .0) (t .result .n) (l .ps) (l .qs)
     (l .mid-heads) (l .mid-links) (l .m) = turn-top (a .n) (fours (a .mesh .now)) (a .status .now) (l .level) (l .first) (l .last)
-    (l .rows) (l .xs) (l .ys) (l .heads) (l .links) (l .k) (l .ps) (l .qs) (l .mid-heads) (l .mid-links) (l .m) (l .inv)
-    (c .before .before .before .before .before .before .before .before .before .before .before .before .before .before .before
-    .before .before .before .before .before .before .before .before .before .before .before .before .before .before .before .pre .1
+    (l .rows) (l .xs) (l .ys) (l .heads) (l .links) (l .k) (l .ps) (l .qs) (l .mid-heads) (l .mid-links) (l .m) (l .inv .1)
+    (c .before .before .before .before .before .before .before .before .before .before .before .before .before .before .before .before .before .before .before .before .before .before .before .before .before .before .before .before .before .before .before .before .before .before .before .before .before .before .before .before .before .before .before .before .pre .1
     .0) (t .last .1 .1 .1 .1 .0) (t .last .1 .1 .1 .1 .1 .0) (t .last .1 .1 .1 .1 .1 .1 .0)
     (t .last .1 .1 .1 .1 .1 .1 .1 .0) (t .result .ok) (t .result .n) (t .result .size) (t .ensures)
     (not-false _
-    (c .before .before .before .before .before .before .before .before .before .before .before .before .before .before .before
-    .before
-    .if1 .left))
-    (c .before .before .before .before .before .before .before .before .before .before .before .before .before .before .if2 .taken)
+    (c .before .before .before .before .before .before .before .before .before .before .before .if1 .left))
+    (c .before .before .before .before .before .before .before .before .before .if2 .taken)
     in
     let e : length (a .status .now) ≡ l .last = omega
-    (arith, c .before .before .before .before .before .before .before .before .before .before .before .before .before .if3 .left) in
+    (arith, c .before .before .before .before .before .before .before .before .if3 .left) in
     unsound-examined (a .n) (fours (a .mesh .now)) (a .status .now) (l .rows) (l .ps) (l .qs) _ _ _ _ (c .refused3 .ensures .0)
     (sym (top-apart (a .n) (fours (a .mesh .now)) (a .status .now) (l .level) (l .last) (l .rows) (t .last .1 .1 .1 .1 .0)
     (t .last .1 .1 .1 .1 .1 .0) (t .last .1 .1 .1 .1 .1 .1 .0) (t .last .1 .1 .1 .1 .1 .1 .1 .0) (t .result .n) (l .ps) (l .qs)
     (l .mid-heads) (l .mid-links) (l .m) o e) ∙ sym (c .before .before .apart .ensures) ∙ not-true _ (c .before .if4 .taken))
 
-add-t29 : tie.Need-add-t29 Inv-loop μ-loop
-add-t29 c = omega (
+add-t35 : tie.Need-add-t35 Inv-loop μ-loop
+add-t35 c = omega (
   arith,
-  c .before .before .before .before .before .before .before .before .before .before .before .before .before .before .before .before
-      .before .before .before .before .before .before .before .loop .inv .low,
+  c .before .before .before .before .before .before .before .before .before .before .before .before .before .before .before .before .before .before .before .before .before .before .before .before .before .before .loop .inv .1 .low,
 )
+
+same-length-28 : tie.Need-same-length-28 Inv-loop μ-loop
+same-length-28 c = c .before .before .before .before .before .before .before .before .before .before .before .before .before .before .before .before .before .before .before .before .before .before .before .before .before .before .loop .inv .0 .of-rows ∙ c .before .before .before .before .before .before .before .before .before .before .before .before .before .before .before .before .before .before .before .before .before .before .before .before .before .before .before .before .before .lay-coarse .kept .1 .0
+
+same-length-29 : tie.Need-same-length-29 Inv-loop μ-loop
+same-length-29 c = c .before .before .before .before .before .before .before .before .before .before .before .before .before .before .before .before .before .before .before .before .before .before .before .before .before .before .loop .inv .0 .of-ps
+
+same-length-30 : tie.Need-same-length-30 Inv-loop μ-loop
+same-length-30 c = c .before .before .before .before .before .before .before .before .before .before .before .before .before .before .before .before .before .before .before .before .before .before .before .before .before .before .loop .inv .0 .of-qs
+
+same-length-31 : tie.Need-same-length-31 Inv-loop μ-loop
+same-length-31 c = c .before .before .before .before .before .before .before .before .before .before .before .before .before .before .before .before .before .before .before .before .check-level .kept .1 .1 .1 .1 .0 ∙ c .before .before .before .before .before .before .before .before .before .before .before .before .before .before .before .before .before .before .before .before .before .before .before .before .before .before .loop .inv .0 .of-xs
+
+same-length-32 : tie.Need-same-length-32 Inv-loop μ-loop
+same-length-32 c = c .before .before .before .before .before .before .before .before .before .before .before .before .before .before .before .before .before .before .before .before .check-level .kept .1 .1 .1 .1 .1 .0 ∙ c .before .before .before .before .before .before .before .before .before .before .before .before .before .before .before .before .before .before .before .before .before .before .before .before .before .before .loop .inv .0 .of-ys
+
+same-length-33 : tie.Need-same-length-33 Inv-loop μ-loop
+same-length-33 c = c .before .before .before .before .before .before .before .before .before .before .before .before .before .before .before .before .before .before .before .before .check-level .kept .1 .1 .1 .1 .1 .1 .0 ∙ c .before .before .before .before .before .before .before .before .before .before .before .before .before .before .before .before .before .before .before .before .before .before .before .before .before .before .loop .inv .0 .of-heads
+
+same-length-34 : tie.Need-same-length-34 Inv-loop μ-loop
+same-length-34 c = c .before .before .before .before .before .before .before .before .before .before .before .before .before .before .before .before .before .before .before .before .check-level .kept .1 .1 .1 .1 .1 .1 .1 .0 ∙ c .before .before .before .before .before .before .before .before .before .before .before .before .before .before .before .before .before .before .before .before .before .before .before .before .before .before .loop .inv .0 .of-links
+
+same-length-35 : tie.Need-same-length-35 Inv-loop μ-loop
+same-length-35 c = c .before .before .before .before .before .before .before .before .before .before .before .before .before .before .before .before .before .before .before .before .before .before .before .before .before .before .loop .inv .0 .of-heads′
+
+same-length-36 : tie.Need-same-length-36 Inv-loop μ-loop
+same-length-36 c = c .before .before .before .before .before .before .before .before .before .before .before .before .before .before .before .before .before .before .before .before .before .before .before .before .before .before .loop .inv .0 .of-links′
 
 returns-4 : tie.Need-returns-4 Inv-loop μ-loop
 returns-4 c =
-    let
-    l =
-    c .before .before .before .before .before .before .before .before .before .before .before .before .before .before .before
-    .before .before .before .before .before .before .before .before .loop in
-    let
-    a =
-    c .before .before .before .before .before .before .before .before .before .before .before .before .before .before .before
-    .before .before .before .before .before .before .before .before .before .before .before .before .before .before .args in
-    let
-    t =
-    c .before .before .before .before .before .before .before .before .before .before .before .before .before .before .before
-    .before .before .check-level in
+    let l = c .before .before .before .before .before .before .before .before .before .before .before .before .before .before .before .before .before .before .before .before .before .before .before .before .before .before .loop in
+    let a = c .before .before .before .before .before .before .before .before .before .before .before .before .before .before .before .before .before .before .before .before .before .before .before .before .before .before .before .before .before .before .before .before .before .before .before .before .before .before .before .before .before .before .before .args in
+    let t = c .before .before .before .before .before .before .before .before .before .before .before .before .before .before .before .before .before .before .before .before .check-level in
     let o : Top (a .n) (fours (a .mesh .now)) (a .status .now) (l .level) (l .last) (l .rows) (t .last .1 .1 .1 .1 .0)
     (t .last .1 .1 .1 .1 .1 .0) (t .last .1 .1 .1 .1 .1 .1 .0) (t .last .1 .1 .1 .1 .1 .1 .1 .0) (t .result .n) (l .ps) (l .qs)
     (l .mid-heads) (l .mid-links) (l .m) = turn-top (a .n) (fours (a .mesh .now)) (a .status .now) (l .level) (l .first) (l .last)
-    (l .rows) (l .xs) (l .ys) (l .heads) (l .links) (l .k) (l .ps) (l .qs) (l .mid-heads) (l .mid-links) (l .m) (l .inv)
-    (c .before .before .before .before .before .before .before .before .before .before .before .before .before .before .before
-    .before .before .before .before .before .before .before .before .before .before .before .before .before .before .pre .1 .0) (t
+    (l .rows) (l .xs) (l .ys) (l .heads) (l .links) (l .k) (l .ps) (l .qs) (l .mid-heads) (l .mid-links) (l .m) (l .inv .1)
+    (c .before .before .before .before .before .before .before .before .before .before .before .before .before .before .before .before .before .before .before .before .before .before .before .before .before .before .before .before .before .before .before .before .before .before .before .before .before .before .before .before .before .before .before .pre .1 .0) (t
     .last .1 .1 .1 .1 .0) (t .last .1 .1 .1 .1 .1 .0) (t .last .1 .1 .1 .1 .1 .1 .0)
     (t .last .1 .1 .1 .1 .1 .1 .1 .0) (t .result .ok) (t .result .n) (t .result .size) (t .ensures)
     (not-false _
-    (c .before .before .before .before .before .before .before .before .before .before .before .before .before .before .before .if1
-    .left)) (c .before .before .before .before .before .before .before .before .before .before .before .before .before .if2 .taken)
+    (c .before .before .before .before .before .before .before .before .before .before .if1
+    .left)) (c .before .before .before .before .before .before .before .before .if2 .taken)
     in
     let e : length (a .status .now) ≡ l .last = omega
-    (arith, c .before .before .before .before .before .before .before .before .before .before .before .before .if3 .left) in
+    (arith, c .before .before .before .before .before .before .before .if3 .left) in
     rw (add-one (l .level)) (top-examined (a .n) (fours (a .mesh .now)) (a .status .now) (l .level) (l .last) (l .rows)
     (t .last .1 .1 .1 .1 .0) (t .last .1 .1 .1 .1 .1 .0) (t .last .1 .1 .1 .1 .1 .1 .0) (t .last .1 .1 .1 .1 .1 .1 .1 .0) (t .result
     .n)
@@ -212,102 +303,119 @@ returns-4 c =
 refused-requires-4 : tie.Need-refused-requires-4 Inv-loop μ-loop
 refused-requires-4 c κs = search needs
 
+same-length-37 : tie.Need-same-length-37 Inv-loop μ-loop
+same-length-37 c = c .before .before .before .before .before .before .before .before .before .before .before .before .before .before .before .before .before .before .before .before .loop .inv .0 .of-rows ∙ c .before .before .before .before .before .before .before .before .before .before .before .before .before .before .before .before .before .before .before .before .before .before .before .lay-coarse .kept .1 .0
+
+same-length-38 : tie.Need-same-length-38 Inv-loop μ-loop
+same-length-38 c = c .before .before .before .before .before .before .before .before .before .before .before .before .before .before .before .before .before .before .before .before .loop .inv .0 .of-ps
+
+same-length-39 : tie.Need-same-length-39 Inv-loop μ-loop
+same-length-39 c = c .before .before .before .before .before .before .before .before .before .before .before .before .before .before .before .before .before .before .before .before .loop .inv .0 .of-qs
+
+same-length-40 : tie.Need-same-length-40 Inv-loop μ-loop
+same-length-40 c = c .before .before .before .before .before .before .before .before .before .before .before .before .before .before .check-level .kept .1 .1 .1 .1 .0 ∙ c .before .before .before .before .before .before .before .before .before .before .before .before .before .before .before .before .before .before .before .before .loop .inv .0 .of-xs
+
+same-length-41 : tie.Need-same-length-41 Inv-loop μ-loop
+same-length-41 c = c .before .before .before .before .before .before .before .before .before .before .before .before .before .before .check-level .kept .1 .1 .1 .1 .1 .0 ∙ c .before .before .before .before .before .before .before .before .before .before .before .before .before .before .before .before .before .before .before .before .loop .inv .0 .of-ys
+
+same-length-42 : tie.Need-same-length-42 Inv-loop μ-loop
+same-length-42 c = c .before .before .before .before .before .before .before .before .before .before .before .before .before .before .check-level .kept .1 .1 .1 .1 .1 .1 .0 ∙ c .before .before .before .before .before .before .before .before .before .before .before .before .before .before .before .before .before .before .before .before .loop .inv .0 .of-heads
+
+same-length-43 : tie.Need-same-length-43 Inv-loop μ-loop
+same-length-43 c = c .before .before .before .before .before .before .before .before .before .before .before .before .before .before .check-level .kept .1 .1 .1 .1 .1 .1 .1 .0 ∙ c .before .before .before .before .before .before .before .before .before .before .before .before .before .before .before .before .before .before .before .before .loop .inv .0 .of-links
+
+same-length-44 : tie.Need-same-length-44 Inv-loop μ-loop
+same-length-44 c = c .before .before .before .before .before .before .before .before .before .before .before .before .before .before .before .before .before .before .before .before .loop .inv .0 .of-heads′
+
+same-length-45 : tie.Need-same-length-45 Inv-loop μ-loop
+same-length-45 c = c .before .before .before .before .before .before .before .before .before .before .before .before .before .before .before .before .before .before .before .before .loop .inv .0 .of-links′
+
 returns-5 : tie.Need-returns-5 Inv-loop μ-loop
 returns-5 c =
-    let l = c .before .before .before .before .before .before .before .before .before .before .before .before .loop in
-    let
-    a =
-    c .before .before .before .before .before .before .before .before .before .before .before .before .before .before .before
-    .before .before .before .args in
-    let t = c .before .before .before .before .before .before .check-level in
+    let l = c .before .before .before .before .before .before .before .before .before .before .before .before .before .before .before .before .before .before .before .before .loop in
+    let a = c .before .before .before .before .before .before .before .before .before .before .before .before .before .before .before .before .before .before .before .before .before .before .before .before .before .before .before .before .before .before .before .before .before .before .before .before .before .args in
+    let t = c .before .before .before .before .before .before .before .before .before .before .before .before .before .before .check-level in
     unsound-examined (a .n) (fours (a .mesh .now)) (a .status .now) (l .rows) (l .ps) (l .qs) _ _ _ _ (c .refused4 .ensures .0)
     (turn-high (a .n) (fours (a .mesh .now)) (a .status .now) (l .level) (l .first) (l .last) (l .rows) (l .xs) (l .ys) (l .heads)
-    (l .links) (l .k) (l .ps) (l .qs) (l .mid-heads) (l .mid-links) (l .m) (l .inv)
-    (c .before .before .before .before .before .before .before .before .before .before .before .before .before .before .before
-    .before .before .before .pre .1 .0) (t .last .1 .1 .1 .1 .0) (t .last .1 .1 .1 .1 .1 .0)
+    (l .links) (l .k) (l .ps) (l .qs) (l .mid-heads) (l .mid-links) (l .m) (l .inv .1)
+    (c .before .before .before .before .before .before .before .before .before .before .before .before .before .before .before .before .before .before .before .before .before .before .before .before .before .before .before .before .before .before .before .before .before .before .before .before .before .pre .1 .0) (t .last .1 .1 .1 .1 .0) (t .last .1 .1 .1 .1 .1 .0)
     (t .last .1 .1 .1 .1 .1 .1 .0) (t .last .1 .1 .1 .1 .1 .1 .1 .0) (t .result .ok) (t .result .n) (t .result .size) (t .ensures)
     (not-false _ (c .before .before .before .before .if1 .left)) (c .before .before .if2 .left) (c .before .if5 .taken))
 
 add-grow-level : tie.Need-add-grow-level Inv-loop μ-loop
 add-grow-level c = omega (
   arith,
-  c .before .before .before .before .before .before .before .before .before .before .before .before .loop .inv .low,
+  c .before .before .before .before .before .before .before .before .before .before .before .before .before .before .before .before .before .before .before .before .loop .inv .1 .low,
 )
 
 cast-grow-level : tie.Need-cast-grow-level Inv-loop μ-loop
 cast-grow-level c = omega (
   arith,
-  c .before .before .before .before .before .before .before .before .before .before .before .before .loop .inv .low,
+  c .before .before .before .before .before .before .before .before .before .before .before .before .before .before .before .before .before .before .before .before .loop .inv .1 .low,
 )
 
 grow-level-requires : tie.Need-grow-level-requires Inv-loop μ-loop
 grow-level-requires c κs =
-    let
-    l =
-    c .before .before .before .before .before .before .before .before .before .before .before .before .before .before .before
-    .before .loop
-    in
-    let
-    a =
-    c .before .before .before .before .before .before .before .before .before .before .before .before .before .before .before
-    .before .before .before .before .before .before .before .args in
-    let t = c .before .before .before .before .before .before .before .before .before .before .check-level in (
+    let l = c .before .before .before .before .before .before .before .before .before .before .before .before .before .before .before .before .before .before .before .before .before .before .before .before .loop in
+    let a = c .before .before .before .before .before .before .before .before .before .before .before .before .before .before .before .before .before .before .before .before .before .before .before .before .before .before .before .before .before .before .before .before .before .before .before .before .before .before .before .before .before .args in
+    let t = c .before .before .before .before .before .before .before .before .before .before .before .before .before .before .before .before .before .before .check-level in
+    let w = l .inv .0 in
+    let r = c .before .before .before .before .before .before .before .before .before .before .before .before .before .before .before .before .before .before .before .before .before .before .before .before .before .before .before .before .before .before .before .before .before .before .before .before .before .before .before .before .before .pre .1 .1 .1 .1 in (
       turn-room (a .n) (fours (a .mesh .now)) (a .status .now) (l .level) (l .first) (l .last) (l .rows) (l .xs) (l .ys) (l .heads)
-          (l .links) (l .k) (l .ps) (l .qs) (l .mid-heads) (l .mid-links) (l .m) (l .inv)
-          (c .before .before .before .before .before .before .before .before .before .before .before .before .before .before .before
-          .before .before .before .before .before .before .before .pre .1 .0) (t .last .1 .1 .1 .1 .0)
+          (l .links) (l .k) (l .ps) (l .qs) (l .mid-heads) (l .mid-links) (l .m) (l .inv .1)
+          (c .before .before .before .before .before .before .before .before .before .before .before .before .before .before .before .before .before .before .before .before .before .before .before .before .before .before .before .before .before .before .before .before .before .before .before .before .before .before .before .before .before .pre .1 .0) (t .last .1 .1 .1 .1 .0)
           (t .last .1 .1 .1 .1 .1 .0) (t .last .1 .1 .1 .1 .1 .1 .0) (t .last .1 .1 .1 .1 .1 .1 .1 .0) (t .result .ok) (t .result
           .n)
           (t .result .size) (t .ensures) (not-false _ (c .before .before .before .before .before .before .before .before .if1
           .left))
-          (c .before .before .before .before .before .before .before .before .before .before .before .before .before .before .before
-          .before .before .before .before .before .before .before .pre .0 .corners) (omega arith)
-          (omega arith) (omega arith) (omega arith),
-      c .before .before .before .before .before .before .before .before .before .before .before .before .before .before .before
-          .before .before .before .before .before .before .before .pre .1 .1 .0,
+          (c .before .before .before .before .before .before .before .before .before .before .before .before .before .before .before .before .before .before .before .before .before .before .before .before .before .before .before .before .before .before .before .before .before .before .before .before .before .before .before .before .before .pre .0 .corners) (omega (arith, r .0 .in-rows, w .of-rows, c .before .before .before .before .before .before .before .before .before .before .before .before .before .before .before .before .before .before .before .before .before .before .before .before .before .before .before .lay-coarse .kept .1 .0)) (omega (arith, r .0 .in-ps, w .of-ps))
+          (omega (arith, r .0 .in-qs, w .of-qs)) (omega (arith, r .2, w .of-links′)),
+      c .before .before .before .before .before .before .before .before .before .before .before .before .before .before .before .before .before .before .before .before .before .before .before .before .before .before .before .before .before .before .before .before .before .before .before .before .before .before .before .before .before .pre .1 .1 .0,
     )
 
 add-level : tie.Need-add-level Inv-loop μ-loop
 add-level c = omega (
   arith,
-  c .before .before .before .before .before .before .before .before .before .before .before .before .before .before .before .before
-      .before
-      .loop .inv .low,
+  c .before .before .before .before .before .before .before .before .before .before .before .before .before .before .before .before .before .before .before .before .before .before .before .before .before .before .before .before .before .before .before .before .before .before .before .loop .inv .1 .low,
 )
 
 loop-less : tie.Need-loop-less Inv-loop μ-loop
 loop-less c = omega (
   arith,
-  c .before .before .before .before .before .before .before .before .before .before .before .before .before .before .before .before
-      .before
-      .loop .inv .low,
+  c .before .before .before .before .before .before .before .before .before .before .before .before .before .before .before .before .before .before .before .before .before .before .before .before .before .before .before .before .before .before .before .before .before .before .before .loop .inv .1 .low,
 )
 
 loop-again : tie.Need-loop-again Inv-loop μ-loop
 loop-again c =
-    let
-    l =
-    c .before .before .before .before .before .before .before .before .before .before .before .before .before .before .before
-    .before .before .loop in
-    let
-    a =
-    c .before .before .before .before .before .before .before .before .before .before .before .before .before .before .before
-    .before .before .before .before .before .before .before .before .args in
-    let t = c .before .before .before .before .before .before .before .before .before .before .before .check-level in
-    let g = c .grow-level in
-    rw (add-one (l .level)) (turn-next (a .n) (fours (a .mesh .now)) (a .status .now) (l .level) (l .first) (l .last) (l .rows) (l
-    .xs)
-    (l .ys) (l .heads) (l .links) (l .k) (l .ps) (l .qs) (l .mid-heads) (l .mid-links) (l .m) (l .inv)
-    (c .before .before .before .before .before .before .before .before .before .before .before .before .before .before .before
-    .before .before .before .before .before .before .before .before .pre .1 .0) (t .last .1 .1 .1 .1 .0)
-    (t .last .1 .1 .1 .1 .1 .0) (t .last .1 .1 .1 .1 .1 .1 .0) (t .last .1 .1 .1 .1 .1 .1 .1 .0) (t .result .ok) (t .result .n)
-    (t .result .size) (t .ensures) (not-false _ (c .before .before .before .before .before .before .before .before .before .if1
-    .left))
-    (c .before .before .before .before .before .before .before .if2 .left)
-    (c .before .before .before .before .before .before .if5 .left)
-    (omega (arith, c .before .before .before .before .before .grow-level-arg))
-    (g .last .0) (g .last .1 .1 .1 .1 .1 .1 .1 .0) (g .last .1 .1 .1 .1 .1 .1 .1 .1 .0) (g .last .1 .1 .1 .1 .1 .1 .1 .1 .1 .0)
-    (g .last .1 .1 .1 .1 .1 .1 .1 .1 .1 .1 .0) (g .result .at) (g .result .m) (rw (add-one (l .level)) at (g .ensures)))
+    let l = c .before .before .before .before .before .before .before .before .before .before .before .before .before .before .before .before .before .before .before .before .before .before .before .before .before .before .before .before .before .before .before .before .before .before .before .loop in
+    let a = c .before .before .before .before .before .before .before .before .before .before .before .before .before .before .before .before .before .before .before .before .before .before .before .before .before .before .before .before .before .before .before .before .before .before .before .before .before .before .before .before .before .before .before .before .before .before .before .before .before .before .before .before .args in
+    let t = c .before .before .before .before .before .before .before .before .before .before .before .before .before .before .before .before .before .before .before .before .before .before .before .before .before .before .before .before .before .check-level in
+    let g = c .before .before .before .before .before .before .before .before .before .before .grow-level in
+    let w = l .inv .0 in (
+      record {
+        of-rows = g .kept .0 ∙ w .of-rows;
+        of-ps = g .kept .1 .1 .1 .1 .1 .1 .1 .0 ∙ w .of-ps;
+        of-qs = g .kept .1 .1 .1 .1 .1 .1 .1 .1 .0 ∙ w .of-qs;
+        of-xs = t .kept .1 .1 .1 .1 .0 ∙ w .of-xs;
+        of-ys = t .kept .1 .1 .1 .1 .1 .0 ∙ w .of-ys;
+        of-heads = t .kept .1 .1 .1 .1 .1 .1 .0 ∙ w .of-heads;
+        of-links = t .kept .1 .1 .1 .1 .1 .1 .1 .0 ∙ w .of-links;
+        of-heads′ = g .kept .1 .1 .1 .1 .1 .1 .1 .1 .1 .0 ∙ w .of-heads′;
+        of-links′ = g .kept .1 .1 .1 .1 .1 .1 .1 .1 .1 .1 .0 ∙ w .of-links′;
+      },
+      rw (add-one (l .level)) (turn-next (a .n) (fours (a .mesh .now)) (a .status .now) (l .level) (l .first) (l .last) (l .rows) (l
+          .xs)
+          (l .ys) (l .heads) (l .links) (l .k) (l .ps) (l .qs) (l .mid-heads) (l .mid-links) (l .m) (l .inv .1)
+          (c .before .before .before .before .before .before .before .before .before .before .before .before .before .before .before .before .before .before .before .before .before .before .before .before .before .before .before .before .before .before .before .before .before .before .before .before .before .before .before .before .before .before .before .before .before .before .before .before .before .before .before .before .pre .1 .0) (t .last .1 .1 .1 .1 .0)
+          (t .last .1 .1 .1 .1 .1 .0) (t .last .1 .1 .1 .1 .1 .1 .0) (t .last .1 .1 .1 .1 .1 .1 .1 .0) (t .result .ok) (t .result .n)
+          (t .result .size) (t .ensures) (not-false _ (c .before .before .before .before .before .before .before .before .before .before .before .before .before .before .before .before .before .before .before .if1
+          .left))
+          (c .before .before .before .before .before .before .before .before .before .before .before .before .before .before .before .before .before .if2 .left)
+          (c .before .before .before .before .before .before .before .before .before .before .before .before .before .before .before .before .if5 .left)
+          (omega (arith, c .before .before .before .before .before .before .before .before .before .before .before .before .before .before .before .before .before .before .before .before .before .before .before .before .before .before .before .before .before .before .before .before .before .before .before .before .before .before .before .before .before .before .before .before .before .before .before .before .before .before .before .before .pre .1 .1 .1 .1 .0 .in-rows, w .of-rows, c .before .before .before .before .before .before .before .before .before .before .before .before .before .before .before .before .before .before .before .before .before .before .before .before .before .before .before .before .before .before .before .before .before .before .before .before .before .before .lay-coarse .kept .1 .0))
+          (g .last .0) (g .last .1 .1 .1 .1 .1 .1 .1 .0) (g .last .1 .1 .1 .1 .1 .1 .1 .1 .0) (g .last .1 .1 .1 .1 .1 .1 .1 .1 .1 .0)
+          (g .last .1 .1 .1 .1 .1 .1 .1 .1 .1 .1 .0) (g .result .at) (g .result .m) (rw (add-one (l .level)) at (g .ensures))),
+    )
 
 pub build-spec : {M : Type 1} → statement M
 build-spec =
@@ -319,15 +427,60 @@ build-spec =
     loop-holds
     check-level-requires
     refused-requires
+    same-length
+    same-length-2
+    same-length-3
+    same-length-4
+    same-length-5
+    same-length-6
+    same-length-7
+    same-length-8
+    same-length-9
     returns
     refused-requires-2
+    same-length-10
+    same-length-11
+    same-length-12
+    same-length-13
+    same-length-14
+    same-length-15
+    same-length-16
+    same-length-17
+    same-length-18
     returns-2
     apart-requires
     refused-requires-3
+    same-length-19
+    same-length-20
+    same-length-21
+    same-length-22
+    same-length-23
+    same-length-24
+    same-length-25
+    same-length-26
+    same-length-27
     returns-3
-    add-t29
+    add-t35
+    same-length-28
+    same-length-29
+    same-length-30
+    same-length-31
+    same-length-32
+    same-length-33
+    same-length-34
+    same-length-35
+    same-length-36
     returns-4
     refused-requires-4
+    same-length-37
+    same-length-38
+    same-length-39
+    same-length-40
+    same-length-41
+    same-length-42
+    same-length-43
+    same-length-44
+    same-length-45
     returns-5
     add-grow-level
     cast-grow-level

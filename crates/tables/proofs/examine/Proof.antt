@@ -4,8 +4,6 @@ use mathlib.Core.Path.{sym, _∙_}
 use borrow.Author.Tests.{not-true, not-false}
 use Rattle.base.specs.Fours.{fours}
 use Rattle.tables.specs.Finish.{unsound-examined, unsound-long, unsound-status}
-use native.Mathlib.Omega.{arith}
-use Rattle.pairs.specs.Keys.{clear-new}
 use borrow.Author.Needs.{needs}
 use Rattle.tables.proofs.examine.Statement.{statement}
 use Rattle.tables.proofs.examine.Tie as tie
@@ -15,7 +13,7 @@ refused-requires c κs = search needs
 
 returns : tie.Need-returns
 returns c =
-    let a = c .before .before .before .before .args in
+    let a = c .before .before .before .before .before .before .before .args in
     unsound-examined (a .n) (fours (a .mesh .now)) (a .status .now) (a .rows .now) (a .ps .now) (a .qs .now) _ _ _ _
     (c .refused .ensures .0)
     (unsound-long (a .n) (fours (a .mesh .now)) (a .status .now) (c .before .if1 .taken))
@@ -28,38 +26,47 @@ refused-requires-2 c κs = search needs
 
 returns-2 : tie.Need-returns-2
 returns-2 c =
-    let a = c .before .before .before .before .before .before .args in
+    let a = c .before .before .before .before .before .before .before .before .before .args in
     unsound-examined (a .n) (fours (a .mesh .now)) (a .status .now) (a .rows .now) (a .ps .now) (a .qs .now) _ _ _ _
     (c .refused2 .ensures .0)
     (unsound-status (a .n) (fours (a .mesh .now)) (a .status .now) (sym (c .before .before .fits2 .ensures)
     ∙ not-true _ (c .before .if2 .taken)))
 
-digit-table-requires : tie.Need-digit-table-requires
-digit-table-requires c κs = search needs
+examine-few-requires : tie.Need-examine-few-requires
+examine-few-requires c κs = (
+  c .before .before .before .before .before .before .before .before .before .before .before .before .pre .0,
+  ((record { few = c .before .before .before .before .before .before .if1 .left; fit = sym (c .before .before .before .before .before .fits2 .ensures) ∙ not-false _ (c .before .before .before .before .if2 .left) }, c .before .before .before .if3 .taken), c .before .before .before .before .before .before .before .before .before .before .before .before .pre .1 (c .before .before .before .before .before .before .if1 .left)),
+)
 
-slice-aggregate-build : tie.Need-slice-aggregate-build
-slice-aggregate-build c = search needs
+same-length : tie.Need-same-length
+same-length c = search needs
 
-build-requires : tie.Need-build-requires
-build-requires c
-    κs = (
-      c .before .before .before .before .before .before .before .before .before .before .before .before .before .before .before .before
-          .pre,
-      (
-        record {
-          few = c .before .before .before .before .before .before .before .before .before .before .before .before .before .if1 .left;
-          fit = sym (c .before .before .before .before .before .before .before .before .before .before .before .before .fits2 .ensures)
-              ∙ not-false _ (c .before .before .before .before .before .before .before .before .before .before .before .if2 .left);
-        },
-        (
-          c .before .before .before .before .before .before .before .before .before .before .digit-table .ensures,
-          (clear-new 5120 (omega arith), clear-new 4096 (omega arith)),
-        ),
-      ),
-    )
+same-length-2 : tie.Need-same-length-2
+same-length-2 c = search needs
+
+same-length-3 : tie.Need-same-length-3
+same-length-3 c = search needs
 
 returns-3 : tie.Need-returns-3
 returns-3 c = search needs
+
+examine-many-requires : tie.Need-examine-many-requires
+examine-many-requires c κs = (
+  c .before .before .before .before .before .before .before .before .before .before .before .before .pre .0,
+  (record { few = c .before .before .before .before .before .before .if1 .left; fit = sym (c .before .before .before .before .before .fits2 .ensures) ∙ not-false _ (c .before .before .before .before .if2 .left) }, c .before .before .before .before .before .before .before .before .before .before .before .before .pre .1 (c .before .before .before .before .before .before .if1 .left)),
+)
+
+same-length-4 : tie.Need-same-length-4
+same-length-4 c = search needs
+
+same-length-5 : tie.Need-same-length-5
+same-length-5 c = search needs
+
+same-length-6 : tie.Need-same-length-6
+same-length-6 c = search needs
+
+returns-4 : tie.Need-returns-4
+returns-4 c = search needs
 
 pub examine-spec : {M : Type 1} → statement M
 examine-spec =
@@ -70,7 +77,13 @@ examine-spec =
     fits-requires
     refused-requires-2
     returns-2
-    digit-table-requires
-    slice-aggregate-build
-    build-requires
-    returns-3)
+    examine-few-requires
+    same-length
+    same-length-2
+    same-length-3
+    returns-3
+    examine-many-requires
+    same-length-4
+    same-length-5
+    same-length-6
+    returns-4)

@@ -1,6 +1,6 @@
 -- `tables::lay_coarse` meets its contract: a turn writes the row of the next coarse cell. The measure is what is left of them.
 -- Assumes nothing.
-use mathlib.Core.Path.{_≡_, refl, sym}
+use mathlib.Core.Path.{_≡_, refl, sym, _∙_}
 use mathlib.Core.List.{flatMap}
 use Prim.Native.Nat.{_*_, _/_, _-_, _≤_}
 use native.Mathlib.Omega.{arith}
@@ -14,7 +14,7 @@ use Rattle.tables.proofs.lay_coarse.Statement.{statement}
 use Rattle.tables.proofs.lay_coarse.Tie as tie
 
 abbrev Inv-loop : tie.InvT-loop
-Inv-loop mesh rows₀ count c₀ rows c = (c ≤ count) × (count ≡ length mesh / 4)
+Inv-loop mesh rows₀ count c₀ rows c = (c ≤ count) × (count ≡ length mesh / 4) × (length rows ≡ length rows₀)
     × (take (8 * c) rows ≡ flatMap coarseRow (take c (fours mesh)))
 
 abbrev μ-loop : tie.MeasureT-loop
@@ -22,7 +22,7 @@ abbrev μ-loop : tie.MeasureT-loop
 
 loop-holds : tie.Need-loop-holds Inv-loop μ-loop
 unfolding flatMap
-loop-holds c = (omega arith, refl, refl)
+loop-holds c = (omega arith, refl, refl, refl)
 
 mul-i : tie.Need-mul-i Inv-loop μ-loop
 mul-i c = search needs
@@ -71,26 +71,31 @@ loop-less c = search needs
 
 loop-again : tie.Need-loop-again Inv-loop μ-loop
 loop-again c =
-    let l = c .before .before .before .before .before .before .before .loop in
-    let w = c .write-row in
-    let t = c .before .before .before .before .before .before .loop-test .taken in (
+    let l = c .before .before .before .before .before .before .before .before .before .loop in
+    let w = c .before .before .write-row in
+    let t = c .before .before .before .before .before .before .before .before .loop-test .taken in (
       omega (arith, t),
       refl,
-      rw (w .ensures) (row-more (c .before .before .before .before .before .before .before .before .before .args .mesh .now) (l .rows)
+      w .kept .0 ∙ l .inv .2,
+      rw (w .ensures) (row-more (c .before .before .before .before .before .before .before .before .before .before .before .before .args .mesh .now) (l .rows)
           (l .c) (omega (arith, t)) (omega (
             arith,
             t,
-            c .before .before .before .before .before .write-row-arg,
-            c .before .before .before .before .before .before .before .before .before .pre .few,
-          )) (l .inv .2)),
+            l .inv .2,
+            c .before .before .before .before .before .before .before .before .before .before .before .before .pre .1,
+            c .before .before .before .before .before .before .before .before .before .before .before .before .pre .0 .few,
+          )) (l .inv .3)),
     )
+
+same-length : tie.Need-same-length Inv-loop μ-loop
+same-length c = search needs
 
 returns : tie.Need-returns Inv-loop μ-loop
 returns c =
     let l = c .before .loop in
-    let a = c .before .before .before .args in
+    let a = c .before .before .before .before .args in
     let k : l .c ≡ length (a .mesh .now) / 4 = omega (arith, l .inv .0, c .loop-test .left) in
-    let w = l .inv .2 in
+    let w = l .inv .3 in
     let t : take (length (a .mesh .now) / 4) (fours (a .mesh .now)) ≡ fours (a .mesh .now) = take-all (length (a .mesh .now) / 4)
     (fours (a .mesh .now)) (omega (arith, length-fours (a .mesh .now))) in
     (sym (length-fours (a .mesh .now)), rw (k, t) at w)
@@ -118,4 +123,5 @@ lay-coarse-spec =
     add-c
     loop-less
     loop-again
+    same-length
     returns)
