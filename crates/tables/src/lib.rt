@@ -5,8 +5,6 @@ ghost use Prim.Native.Nat.{_*_, _≤_};
 ghost use lib.ListN.{length, take};
 ghost use Rattle.base.specs.Fours.{fours};
 ghost use Rattle.base.specs.Lent.{was, is};
-ghost use Rattle.cutting.specs.Answer.{digitTable};
-ghost use Rattle.pairs.specs.Keys.{Clear};
 ghost use Rattle.tables.specs.Checked.{Statuses, Reds, Checked};
 ghost use Rattle.tables.specs.Room.{TableRoom, RedRoom};
 ghost use Rattle.tables.specs.Start.{Coarse, coarseRow};
@@ -103,8 +101,7 @@ pub fn lay_coarse(mesh: &[u16], rows: &mut [u16]) -> usize
     count
 }
 
-// Builds a table of few statuses level by level, and examines it. The tables from xs to mid_links are for the work, whatever they
-// hold but for the two of heads, which are empty, and `digits` is the cutting table.
+// Builds a table of few statuses level by level, and examines it. The tables from xs on are for the work, whatever they hold.
 fn build(
     mesh: &[u16],
     status: &[u8],
@@ -114,20 +111,18 @@ fn build(
     qs: &mut [u32],
     xs: &mut [u32],
     ys: &mut [u32],
-    heads: &mut [u16],
     links: &mut [u16],
-    mid_heads: &mut [u16],
     mid_links: &mut [u16],
-    digits: &[u8],
 ) -> Outcome
     requires { ⌜ Mesh n (now mesh) ⌝ }
     requires { ⌜ Statuses (now status) ⌝ }
-    requires { ⌜ now digits ≡ digitTable ⌝ }
-    requires { ⌜ Clear (now heads) × Clear (now «mid_heads») ⌝ }
     requires { ⌜ TableRoom (now status) (now rows) (now ps) (now qs) × RedRoom (now status) (now xs) (now ys) (now links)
         × (length (now status) ≤ length (now «mid_links»)) ⌝ }
     ensures { λ r. ⌜ Examined n (fours (was mesh)) (was status) (is rows) (is ps) (is qs) (r .refusal) (r .cells) (r .levels) (r .mids) ⌝ }
 {
+    let mut heads = [65535u16; 5120];
+    let mut mid_heads = [65535u16; 4096];
+    let digits = cutting::digit_table();
     let coarse = lay_coarse(mesh, rows);
     let mut first = 0;
     let mut last = coarse;
@@ -135,7 +130,7 @@ fn build(
     let mut k = 0;
     let mut m = 0;
     loop {
-        let c = check_level(rows, status, first, last, xs, ys, heads, links, k);
+        let c = check_level(rows, status, first, last, xs, ys, &mut heads, links, k);
         if !c.ok {
             return refused(6);
         }
@@ -144,7 +139,7 @@ fn build(
             if status.len() != last {
                 return refused(6);
             }
-            if !separation::apart(rows, last, xs, ys, heads, links, 0, k) {
+            if !separation::apart(rows, last, xs, ys, &heads, links, 0, k) {
                 return refused(6);
             }
             return Outcome {
@@ -168,10 +163,10 @@ fn build(
             n,
             ps,
             qs,
-            mid_heads,
+            &mut mid_heads,
             mid_links,
             m,
-            digits,
+            &digits,
         );
         m = g.m;
         first = last;
@@ -196,11 +191,8 @@ fn examine_few(
 {
     let mut xs = [0u32; 384];
     let mut ys = [0u32; 384];
-    let mut heads = [65535u16; 5120];
     let mut links = [0u16; 384];
-    let mut mid_heads = [65535u16; 4096];
     let mut mid_links = [0u16; 512];
-    let digits = cutting::digit_table();
     build(
         mesh,
         status,
@@ -210,11 +202,8 @@ fn examine_few(
         qs,
         &mut xs,
         &mut ys,
-        &mut heads,
         &mut links,
-        &mut mid_heads,
         &mut mid_links,
-        &digits,
     )
 }
 
@@ -234,11 +223,8 @@ fn examine_many(
 {
     let mut xs = [0u32; 3072];
     let mut ys = [0u32; 3072];
-    let mut heads = [65535u16; 5120];
     let mut links = [0u16; 3072];
-    let mut mid_heads = [65535u16; 4096];
     let mut mid_links = [0u16; 4096];
-    let digits = cutting::digit_table();
     build(
         mesh,
         status,
@@ -248,11 +234,8 @@ fn examine_many(
         qs,
         &mut xs,
         &mut ys,
-        &mut heads,
         &mut links,
-        &mut mid_heads,
         &mut mid_links,
-        &digits,
     )
 }
 
