@@ -56,7 +56,7 @@ loop-holds c =
     )
 
 slice-aggregate-check-level : tie.Need-slice-aggregate-check-level Inv-loop μ-loop
-slice-aggregate-check-level c = search needs
+slice-aggregate-check-level c = sym (c .before .before .before .before .loop .inv .0 .of-heads)
 
 check-level-requires : tie.Need-check-level-requires Inv-loop μ-loop
 check-level-requires c κs =
@@ -159,7 +159,7 @@ returns-2 c =
     (l .mid-heads) (l .mid-links) (l .m) o (c .before .if3 .taken))
 
 slice-aggregate-apart : tie.Need-slice-aggregate-apart Inv-loop μ-loop
-slice-aggregate-apart c = search needs
+slice-aggregate-apart c = sym (c .before .before .before .before .before .before .before .before .before .before .before .before .before .before .before .before .check-level .kept .1 .1 .1 .1 .1 .1 .0 ∙ c .before .before .before .before .before .before .before .before .before .before .before .before .before .before .before .before .before .before .before .before .before .before .loop .inv .0 .of-heads)
 
 apart-requires : tie.Need-apart-requires Inv-loop μ-loop
 apart-requires c κs =
@@ -333,7 +333,7 @@ cast-grow-level c = omega (
 )
 
 slice-aggregate-grow-level : tie.Need-slice-aggregate-grow-level Inv-loop μ-loop
-slice-aggregate-grow-level c = search needs
+slice-aggregate-grow-level c = sym (c .before .before .before .before .before .before .before .before .before .before .before .before .before .before .before .before .before .before .before .before .before .before .loop .inv .0 .of-heads′)
 
 slice-aggregate-grow-level-2 : tie.Need-slice-aggregate-grow-level-2 Inv-loop μ-loop
 slice-aggregate-grow-level-2 c = search (c .before .before .before .before .before .before .before .before .before .before .before .before .before .before .before .before .before .before .before .before .before .before .before .before .before .before .before .before .before .digit-table .ok, needs)
