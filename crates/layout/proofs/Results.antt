@@ -25,7 +25,8 @@ use Rattle.mesh.specs.Cells.{noCell}
 use Rattle.ancestors.specs.Table.{table-upward, table-climb}
 use Rattle.counting.specs.Levels.{Levels, levelNumber, levelCounts, counts-length}
 use Rattle.counting.specs.Sound.{sound-counted}
-use Rattle.counting.specs.Whole.{counts-right, number-right}
+use Rattle.counting.specs.Whole.{counts-right, number-right, end-right}
+use Rattle.tables.specs.Room.{TableRoom}
 use Rattle.layout.specs.Opened.{Fits}
 use Rattle.layout.specs.Calls.{levelsIn, cellsIn, cornersIn, lentb}
 use Rattle.layout.proofs.Numbering.{corner-count, ends, numbered}
@@ -58,6 +59,28 @@ module _ (ps : List ℤ) (ts ss rows xs ys : List ℕ) (cells levels m : ℕ) (f
 
   pub fits-small : Smalls 500000 ps
   fits-small = positions-small ps (f .positions)
+
+  -- a sound table has a cell for each status, so that tables with room for its statuses have room for its cells
+  fits-counted : cells ≡ length ss
+  fits-counted =
+      let s = is-true (soundb (cornerCount ps) (fours ts) ss) (f .table) in
+      sym (f .sound .counted) ∙ end-right (cornerCount ps) (fours ts) ss ∙ sound-counted (cornerCount ps) (fours ts) ss s .whole
+
+  pub record RoomLeft : Type 0 where
+    pub in-rows : 8 * cells ≤ length rows
+    pub in-xs : m ≤ length xs
+    pub in-ys : m ≤ length ys
+
+  pub room-left : (rows₀ xs₀ ys₀ : List ℕ) → (length ss ≤ 4096 → TableRoom ss rows₀ xs₀ ys₀) → length rows ≡ length rows₀
+      → length xs ≡ length xs₀ → length ys ≡ length ys₀ → RoomLeft
+  room-left rows₀ xs₀ ys₀ room er ex ey =
+      let c = fits-counted in
+      let r = room (omega (arith, f .sound .few)) in
+      record {
+        in-rows = omega (arith, r .in-rows);
+        in-xs = omega (arith, r .in-ps, f .sound .most);
+        in-ys = omega (arith, r .in-qs, f .sound .most);
+      }
 
   -- what a layout leaves
   module _ (in-rows : 8 * cells ≤ length rows) (in-xs : m ≤ length xs) (in-ys : m ≤ length ys) where

@@ -1,8 +1,10 @@
 -- The calls on a status table over a coarse mesh: what each answers, and what the lent tables hold after (docs/METHOD.md, rules 12.6
 -- to 12.10). A mesh is ps and ts, a table ss.
 --   layoutAnswer ..          laying out: 15 where a table is too short, then 1 to 6; laidOf, sizesOf, its result
+--   LaysOut ..               its result, and what the lent tables hold after
 --   ancestorAnswer ..        a cell's ancestor: 1 to 6, then 7 where there is no such cell; ancestryOf its result
 --   countsAnswer ..          counts: 15, then 1 to 6; countedOf its result
+use mathlib.Core.Path.{_≡_}
 use mathlib.Core.Bool.{Bool, _&&_}
 use mathlib.Core.List.{List}
 use Prim.Native.Nat.{ℕ}
@@ -10,7 +12,7 @@ use lib.Dec.{leb, ltb}
 use lib.IntN.{ℤ}
 use lib.ListN.{length}
 use Rattle.base.specs.Fours.{fours}
-use Rattle.base.specs.Refuse.{refuse, andThen}
+use Rattle.base.specs.Refuse.{refuse, andThen, heldAfter}
 use Rattle.base.specs.declared.Answer.{Answer}
 use Rattle.base.specs.declared.Answer.the-variants.{Accepted, Refused}
 use Rattle.base.specs.Limits.{fullRows, fullEnds, fullSums, fullCounts}
@@ -18,7 +20,7 @@ use Rattle.mesh.specs.Cells.{Cell}
 use Rattle.mesh.specs.Weights.{Point}
 use Rattle.mesh.specs.Coarse.{cornerCount}
 use Rattle.mesh.specs.Table.{Level, levelsOf, cellsOf}
-use Rattle.mesh.specs.Layout.{Corner, cornersOf}
+use Rattle.mesh.specs.Layout.{Corner, cornersOf, cellTable, endTable, sumTable}
 use Rattle.ancestors.specs.declared.Ancestor.{Ancestor}
 use Rattle.layout.specs.declared.Sizes.{Sizes}
 use Rattle.layout.specs.declared.Laid.{Laid}
@@ -59,6 +61,15 @@ sizesOf ps ts ss =
 unfoldable pub laidOf : Answer → Sizes → Laid
 laidOf Accepted s = laid.Out s
 laidOf (Refused k) s = laid.Refused k
+
+-- Rules 9.2 to 9.4, 12.7: the result, and what the lent tables hold after.
+abbrev pub LaysOut : List ℤ → List ℕ → List ℕ → List ℕ → List ℕ → List ℤ → Laid → List ℕ → List ℕ → List ℤ → Type 0
+LaysOut ps ts ss table ends sums r table′ ends′ sums′ =
+    let a = layoutAnswer ps ts ss table ends sums in
+    let ks = cornersIn ps ts ss in
+    (r ≡ laidOf a (sizesOf ps ts ss))
+    × ((table′ ≡ heldAfter a (cellTable ks (cellsIn ps ts ss)) table)
+    × ((ends′ ≡ heldAfter a (endTable ks) ends) × (sums′ ≡ heldAfter a (sumTable ps ks) sums)))
 
 -- Rule 12.9: 1 to 6, then 7.
 unfoldable pub ancestorAnswer : List ℤ → List ℕ → List ℕ → ℕ → Answer

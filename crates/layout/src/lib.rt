@@ -3,6 +3,7 @@ use ancestors::Ancestor;
 use base::Answer;
 use tables::Outcome;
 ghost use mathlib.Core.Path.{_≡_};
+ghost use mathlib.Core.Bool.{true};
 ghost use mathlib.Core.List.{_++_};
 ghost use Prim.Native.Nat.{_+_, _*_, _≤_};
 ghost use lib.ListN.{length, take, drop, getD};
@@ -15,10 +16,11 @@ ghost use Rattle.ancestors.specs.Linked.{ancestorOf};
 ghost use Rattle.mesh.specs.Cells.{noCell};
 ghost use Rattle.base.specs.Refuse.{heldAfter};
 ghost use Rattle.base.specs.Lent.{was, is};
+ghost use Rattle.tables.specs.Room.{TableRoom};
 ghost use Rattle.layout.specs.Opened.{Opened};
 ghost use Rattle.mesh.specs.Answers.{tableAnswer};
 ghost use Rattle.layout.specs.Calls.{levelsIn, cellsIn, cornersIn, lentb, layoutAnswer, sizesOf, laidOf, ancestorAnswer, ancestryOf};
-ghost use Rattle.layout.specs.Calls.{countsAnswer, countedOf};
+ghost use Rattle.layout.specs.Calls.{countsAnswer, countedOf, LaysOut};
 
 // How many cells, corners and levels a table has.
 pub struct Sizes {
@@ -47,10 +49,11 @@ pub fn open(
     positions: &[i32],
     cells: &[u16],
     status: &[u8],
-    rows: &mut [u16; 32768],
-    xs: &mut [u32; 4096],
-    ys: &mut [u32; 4096],
+    rows: &mut [u16],
+    xs: &mut [u32],
+    ys: &mut [u32],
 ) -> Outcome
+    requires { ⌜ (length (now status) ≤ 4096 → TableRoom (now status) (now rows) (now xs) (now ys)) ⌝ }
     ensures { λ r. ⌜ Opened (was positions) (was cells) (was status) (is rows) (is xs) (is ys) (r .refusal) (r .cells) (r .levels) (r .mids)
         ⌝ }
 {
@@ -92,9 +95,9 @@ fn lent(table: &[u16], ends: &[u16], sums: &[i32]) -> bool
 fn write_out(
     positions: &[i32],
     n: usize,
-    rows: &[u16; 32768],
-    xs: &[u32; 4096],
-    ys: &[u32; 4096],
+    rows: &[u16],
+    xs: &[u32],
+    ys: &[u32],
     cells: usize,
     m: usize,
     table: &mut [u16],
@@ -103,9 +106,8 @@ fn write_out(
 )
     requires { ⌜ (cells ≤ 4096) × (m ≤ cells) × (n ≤ 512) × (3 * n ≤ length (now positions)) ⌝ }
     requires { ⌜ Smalls 500000 (now positions) ⌝ }
-    requires { ⌜ (m ≤ length (now xs) → m ≤ length (now ys) → Ends n (now xs) (now ys) m) ⌝ }
+    requires { ⌜ (8 * cells ≤ length (now rows)) × Ends n (now xs) (now ys) m ⌝ }
     requires { ⌜ (32768 ≤ length (now table)) × (32768 ≤ length (now ends)) × (49152 ≤ length (now sums)) ⌝ }
-    ensures { λ r. ⌜ (8 * cells ≤ length (was rows)) × (m ≤ length (was xs)) × (m ≤ length (was ys)) ⌝ }
     ensures { λ r. ⌜ is table ≡ take (8 * cells) (was rows) ++ drop (8 * cells) (was table) ⌝ }
     ensures { λ r. ⌜ is ends ≡ endNumbers n (was xs) (was ys) m ++ drop (2 * (n + m)) (was ends) ⌝ }
     ensures { λ r. ⌜ is sums ≡ sumNumbers (was positions) n (was xs) (was ys) m ++ drop (3 * (n + m)) (was sums) ⌝ }
@@ -113,6 +115,103 @@ fn write_out(
     base::copy_numbers(rows, 8 * cells, table);
     corners::fill_ends(xs, ys, n, m, ends);
     corners::fill_sums(positions, xs, ys, n, m, sums);
+}
+
+// Lays a table out, with three tables for the work that have room for it.
+fn lay_out_in(
+    positions: &[i32],
+    cells: &[u16],
+    status: &[u8],
+    rows: &mut [u16],
+    xs: &mut [u32],
+    ys: &mut [u32],
+    table: &mut [u16],
+    ends: &mut [u16],
+    sums: &mut [i32],
+) -> Laid
+    requires { ⌜ (length (now status) ≤ 4096 → TableRoom (now status) (now rows) (now xs) (now ys)) ⌝ }
+    requires { ⌜ lentb (now table) (now ends) (now sums) ≡ true ⌝ }
+    ensures { λ r. ⌜ LaysOut (was positions) (was cells) (was status) (was table) (was ends) (was sums) r (is table) (is ends) (is sums) ⌝ }
+{
+    let f = open(positions, cells, status, rows, xs, ys);
+    if f.refusal != 0 {
+        return Laid::Refused(f.refusal);
+    }
+    let n = positions.len() / 3;
+    write_out(
+        positions,
+        n,
+        rows,
+        xs,
+        ys,
+        f.cells,
+        f.mids,
+        table,
+        ends,
+        sums,
+    );
+    Laid::Out(Sizes {
+        cells: f.cells,
+        corners: n + f.mids,
+        levels: f.levels,
+    })
+}
+
+// Lays out a table of at most 512 statuses, in small tables: these are set to zero first.
+fn lay_out_few(
+    positions: &[i32],
+    cells: &[u16],
+    status: &[u8],
+    table: &mut [u16],
+    ends: &mut [u16],
+    sums: &mut [i32],
+) -> Laid
+    requires { ⌜ length (now status) ≤ 512 ⌝ }
+    requires { ⌜ lentb (now table) (now ends) (now sums) ≡ true ⌝ }
+    ensures { λ r. ⌜ LaysOut (was positions) (was cells) (was status) (was table) (was ends) (was sums) r (is table) (is ends) (is sums) ⌝ }
+{
+    let mut rows = [0u16; 4096];
+    let mut xs = [0u32; 512];
+    let mut ys = [0u32; 512];
+    lay_out_in(
+        positions,
+        cells,
+        status,
+        &mut rows,
+        &mut xs,
+        &mut ys,
+        table,
+        ends,
+        sums,
+    )
+}
+
+// Lays out any table.
+fn lay_out_many(
+    positions: &[i32],
+    cells: &[u16],
+    status: &[u8],
+    table: &mut [u16],
+    ends: &mut [u16],
+    sums: &mut [i32],
+) -> Laid
+    requires { ⌜ lentb (now table) (now ends) (now sums) ≡ true ⌝ }
+    ensures { λ r. ⌜ LaysOut (was positions) (was cells) (was status) (was table) (was ends) (was sums) r (is table) (is ends) (is sums) ⌝ }
+{
+    let mut rows = [0u16; 32768];
+    let mut xs = [0u32; 4096];
+    let mut ys = [0u32; 4096];
+    lay_out_in(
+        positions,
+        cells,
+        status,
+        &mut rows,
+        &mut xs,
+        &mut ys,
+        table,
+        ends,
+        sums,
+    )
 }
 
 // Lays a table out: eight numbers a cell, the two ends and the three weighted sums of each corner. Refusals 15 and 1 to 6.
@@ -134,31 +233,10 @@ pub fn lay_out(
     if !lent(table, ends, sums) {
         return Laid::Refused(15);
     }
-    let mut rows = [0u16; 32768];
-    let mut xs = [0u32; 4096];
-    let mut ys = [0u32; 4096];
-    let f = open(positions, cells, status, &mut rows, &mut xs, &mut ys);
-    if f.refusal != 0 {
-        return Laid::Refused(f.refusal);
+    if status.len() <= 512 {
+        return lay_out_few(positions, cells, status, table, ends, sums);
     }
-    let n = positions.len() / 3;
-    write_out(
-        positions,
-        n,
-        &rows,
-        &xs,
-        &ys,
-        f.cells,
-        f.mids,
-        table,
-        ends,
-        sums,
-    );
-    Laid::Out(Sizes {
-        cells: f.cells,
-        corners: n + f.mids,
-        levels: f.levels,
-    })
+    lay_out_many(positions, cells, status, table, ends, sums)
 }
 
 // A cell's coarse ancestor and level, by the rows.

@@ -19,7 +19,7 @@ refused-requires c κs = search needs
 
 returns : tie.Need-returns
 returns c =
-    let a = c .before .before .before .before .before .before .args in
+    let a = c .before .before .before .before .before .before .before .before .before .args in
     let e = c .refused .ensures .0 in
     record {
       answer = table-mesh (a .positions .now) (a .cells .now) (a .status .now) (c .before .before .code .result)
@@ -29,17 +29,26 @@ returns c =
     }
 
 examine-requires : tie.Need-examine-requires
-examine-requires c κs = mesh-passed (c .before .before .before .before .before .before .before .before .args .positions .now)
-    (c .before .before .before .before .before .before .before .before .args .cells .now)
+examine-requires c κs = (mesh-passed (c .before .before .before .before .before .before .before .before .before .before .before .args .positions .now)
+    (c .before .before .before .before .before .before .before .before .before .before .before .args .cells .now)
     (ap codeOf (sym (c .before .before .before .before .before .examine-mesh .ensures))
-    ∙ sym (c .before .before .before .before .code .ensures) ∙ c .before .before .before .if1 .left) .mesh
+    ∙ sym (c .before .before .before .before .code .ensures) ∙ c .before .before .before .if1 .left) .mesh, c .before .before .before .before .before .before .before .before .before .before .before .pre)
+
+same-length : tie.Need-same-length
+same-length c = search needs
+
+same-length-2 : tie.Need-same-length-2
+same-length-2 c = search needs
+
+same-length-3 : tie.Need-same-length-3
+same-length-3 c = search needs
 
 returns-2 : tie.Need-returns-2
 returns-2 c =
-    let a = c .before .before .before .before .before .before .before .before .before .args in
-    let x = c .examine in
-    let e = ap codeOf (sym (c .before .before .before .before .before .before .examine-mesh .ensures))
-    ∙ sym (c .before .before .before .before .before .code .ensures) ∙ c .before .before .before .before .if1 .left in
+    let a = c .before .before .before .before .before .before .before .before .before .before .before .before .before .before .before .before .before .before .args in
+    let x = c .before .before .before .before .before .before .examine in
+    let e = ap codeOf (sym (c .before .before .before .before .before .before .before .before .before .before .before .before .examine-mesh .ensures))
+    ∙ sym (c .before .before .before .before .before .before .before .before .before .before .before .code .ensures) ∙ c .before .before .before .before .before .before .before .before .before .before .if1 .left in
     let p = mesh-passed (a .positions .now) (a .cells .now) e in
     record {
       answer = table-examined (a .positions .now) (a .cells .now) (a .status .now) (x .result .refusal) e (x .ensures .answer);
@@ -61,4 +70,7 @@ open-spec =
     refused-requires
     returns
     examine-requires
+    same-length
+    same-length-2
+    same-length-3
     returns-2)

@@ -12,25 +12,14 @@ copy-numbers-requires : tie.Need-copy-numbers-requires
 copy-numbers-requires c κs = search needs
 
 fill-ends-requires : tie.Need-fill-ends-requires
-fill-ends-requires c κs = let p = c .before .before .before .before .before .before .before .before .before .before .pre in (
-  p .1 .1 .0 (omega (arith, p .0 .0, p .0 .1)) (omega (arith, p .0 .0, p .0 .1)),
-  (omega (arith, p .0), omega (arith, p .0, p .1 .1 .1 .1)),
-)
+fill-ends-requires c κs =
+    let p = c .before .before .before .before .before .before .before .before .before .before .pre in
+    (p .1 .1 .0 .1, (omega (arith, p .0), omega (arith, p .0, p .1 .1 .1 .1)))
 
 fill-sums-requires : tie.Need-fill-sums-requires
-fill-sums-requires c κs = let p =
-    c .before .before .before .before .before .before .before .before .before .before .before .before .before .before .before .before .pre
-    in (
-      p .0 .3,
-      (
-        p .1 .0,
-        (
-          p .1 .1 .0 (omega (arith, p .0 .0, p .0 .1)) (omega (arith, p .0 .0, p .0 .1)),
-          omega
-              (arith, p .0, p .1 .1 .1 .2),
-        ),
-      ),
-    )
+fill-sums-requires c κs =
+    let p = c .before .before .before .before .before .before .before .before .before .before .before .before .before .before .pre in
+    (p .0 .3, (p .1 .0, (p .1 .1 .0 .1, omega (arith, p .0, p .1 .1 .1 .2))))
 
 same-length : tie.Need-same-length
 same-length c = search needs
@@ -42,34 +31,7 @@ same-length-3 : tie.Need-same-length-3
 same-length-3 c = search needs
 
 returns : tie.Need-returns
-returns
-    c = (
-      (
-        omega (
-          arith,
-          c .before .before .before .before .before .before .before .before .before .before .before .before .before .before .before .before
-              .before .before .pre .0 .0,
-          c .before .before .before .before .before .before .before .before .before .before .before .before .before .before .before
-              .copy-numbers-arg,
-        ),
-        omega (
-          arith,
-          c .before .before .before .before .before .before .before .before .before .before .before .before .before .before .before
-              .before .before .before .pre .0,
-          c .before .before .before .before .before .before .before .before .before .before .fill-ends-arg,
-        ),
-        omega (
-          arith,
-          c .before .before .before .before .before .before .before .before .before .before .before .before .before .before .before
-              .before .before .before .pre .0,
-          c .before .before .before .before .before .before .before .before .before .fill-ends-arg2,
-        ),
-      ),
-      (
-        c .before .before .before .before .before .before .before .before .before .before .before .before .before .copy-numbers .ensures,
-        (c .before .before .before .before .before .before .before .fill-ends .ensures, c .before .fill-sums .ensures),
-      ),
-    )
+returns c = (c .before .before .before .before .before .before .before .before .before .copy-numbers .ensures, (c .before .before .before .before .before .fill-ends .ensures, c .before .fill-sums .ensures))
 
 pub write-out-spec : {M : Type 1} → statement M
 write-out-spec =
