@@ -3,7 +3,7 @@
 use mathlib.Core.Path.{_≡_, refl, sym, _∙_, ap}
 use mathlib.Core.Logic.{inl, inr}
 use mathlib.Core.List.{List, _++_, flatten}
-use Prim.Native.Nat.{ℕ, suc, _+_, _-_, _≤_, _<_}
+use Prim.Native.Nat.{ℕ, suc, _+_, _*_, _-_, _≤_, _<_}
 use native.Mathlib.Omega.{arith}
 use lib.Dec.{leb, leb→le}
 use lib.ListN.{length, getD, take, drop, length-take}
@@ -207,9 +207,9 @@ module _ (n : ℕ) (qs : List (List ℕ)) (ss fs : List ℕ) (j first last : ℕ
         coarse = c;
         few = i .few;
         edges = i .edges;
-        in-xs = lp;
-        in-ys = lq;
-        in-links = ll;
+        in-xs = omega (arith, room-sizes);
+        in-ys = omega (arith, room-sizes);
+        in-links = omega (arith, room-sizes);
       }
 
   module _ (more : size ≡ 0 → ⊥) (low : j ≡ 10 → ⊥) (long : 32768 ≤ length rows) (rows₂ ps₂ ps₂′ heads₂ links₂ : List ℕ) (last₂ m₂ : ℕ)
@@ -228,6 +228,9 @@ module _ (n : ℕ) (qs : List (List ℕ)) (ss fs : List ℕ) (j first last : ℕ
         (omega (arith, size-is, more)) in
         simp length-take (omega (arith, a, ap sizes room-own, size-is))
 
+    in-long : 8 * length (roomy all) ≤ length rows
+    in-long = omega (arith, long, turn.room-fits n qs ss fs .few)
+
     reds-next : Reds xs₁ ys₁ heads₁ links₁ k₁ last₂
     reds-next = let e : last + size ≡ last₂ = omega (arith, end-next, size-is) in rw e at reds
 
@@ -236,7 +239,7 @@ module _ (n : ℕ) (qs : List (List ℕ)) (ss fs : List ℕ) (j first last : ℕ
         here-next n qs (roomy all) j first last rows xs ys heads links k ps ps′ heads′ links′ m (g .here)
         (turn.closed n qs ss fs j first last rows xs ys heads links k ps ps′ heads′ links′ m old table g small)
         (turn.inside n qs ss fs j first last rows xs ys heads links k ps ps′ heads′ links′ m old table g small)
-        (omega (arith, low, g .here .low)) (turn.room-fits n qs ss fs) in-room (omega (arith, ap sizes room-own, size-is, more)) long
+        (omega (arith, low, g .here .low)) (turn.room-fits n qs ss fs) in-room (omega (arith, ap sizes room-own, size-is, more)) in-long
         rows₂ ps₂ ps₂′ heads₂ links₂ last₂ m₂ grows xs₁ ys₁ heads₁ links₁ k₁ grown reds-next
 
     cells-up : here-up .cells ≡ next first (g .here .cells) own
@@ -245,7 +248,7 @@ module _ (n : ℕ) (qs : List (List ℕ)) (ss fs : List ℕ) (j first last : ℕ
         cells-onward n qs (roomy all) j first last rows xs ys heads links k ps ps′ heads′ links′ m (g .here)
         (turn.closed n qs ss fs j first last rows xs ys heads links k ps ps′ heads′ links′ m old table g small)
         (turn.inside n qs ss fs j first last rows xs ys heads links k ps ps′ heads′ links′ m old table g small)
-        (omega (arith, low, g .here .low)) (turn.room-fits n qs ss fs) in-room (omega (arith, ap sizes room-own, size-is, more)) long
+        (omega (arith, low, g .here .low)) (turn.room-fits n qs ss fs) in-room (omega (arith, ap sizes room-own, size-is, more)) in-long
         rows₂ ps₂ ps₂′ heads₂ links₂ last₂ m₂ grows xs₁ ys₁ heads₁ links₁ k₁ grown reds-next
         ∙ ap (next first (g .here .cells)) (turn.room-cells n qs ss fs j first last rows xs ys heads links k ps ps′ heads′ links′ m old
         table g small)
