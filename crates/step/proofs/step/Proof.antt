@@ -22,17 +22,26 @@ returns c =
     refused-so ans new (a .table .now) 15 (step-short (a .positions .now) (a .cells .now) (a .status .now) (a .marks .now) (a .table .now)
     (c .if1 .taken))
 
+slice-aggregate-open : tie.Need-slice-aggregate-open
+slice-aggregate-open c = search needs
+
+slice-aggregate-open-2 : tie.Need-slice-aggregate-open-2
+slice-aggregate-open-2 c = search needs
+
+slice-aggregate-open-3 : tie.Need-slice-aggregate-open-3
+slice-aggregate-open-3 c = search needs
+
 open-requires : tie.Need-open-requires
-open-requires c κs = search needs
+open-requires c κs = λ h. record { in-coarse = omega arith; in-rows = omega (arith, h); in-ps = omega (arith, h); in-qs = omega (arith, h) }
 
 returns-2 : tie.Need-returns-2
 returns-2 c =
-    let a = c .before .before .before .before .before .before .before .before .before .before .before .args in
+    let a = c .before .before .before .before .before .before .before .before .before .before .before .before .before .before .args in
     let ans = stepAnswer (a .positions .now) (a .cells .now) (a .status .now) (a .marks .now) (a .table .now) in
     let new = newTable (cornerCount (a .positions .now)) (fours (a .cells .now)) (a .status .now) (a .marks .now) in
-    let o = c .before .before .«open» in
+    let o = c .before .before .before .before .before .«open» in
     refused-so ans new (a .table .now) (o .result .refusal) (step-table (a .positions .now) (a .cells .now) (a .status .now) (a .marks .now)
-    (a .table .now) (omega (arith, c .before .before .before .before .before .before .if1 .left)) (o .result .refusal)
+    (a .table .now) (omega (arith, c .before .before .before .before .before .before .before .before .before .if1 .left)) (o .result .refusal)
     (o .ensures .answer) (c .if2 .taken))
 
 marks-fit-requires : tie.Need-marks-fit-requires
@@ -40,12 +49,12 @@ marks-fit-requires c κs = search needs
 
 returns-3 : tie.Need-returns-3
 returns-3 c =
-    let a = c .before .before .before .before .before .before .before .before .before .before .before .before .before .args in
+    let a = c .before .before .before .before .before .before .before .before .before .before .before .before .before .before .before .before .args in
     let ans = stepAnswer (a .positions .now) (a .cells .now) (a .status .now) (a .marks .now) (a .table .now) in
     let new = newTable (cornerCount (a .positions .now)) (fours (a .cells .now)) (a .status .now) (a .marks .now) in
-    let o = c .before .before .before .before .«open» in
+    let o = c .before .before .before .before .before .before .before .«open» in
     refused-so ans new (a .table .now) 7 (step-marks (a .positions .now) (a .cells .now) (a .status .now) (a .marks .now) (a .table .now)
-    (omega (arith, c .before .before .before .before .before .before .before .before .if1 .left)) (o .result .refusal)
+    (omega (arith, c .before .before .before .before .before .before .before .before .before .before .before .if1 .left)) (o .result .refusal)
     (o .ensures .answer) (omega (arith, c .before .before .if2 .left)) (sym (c .before .marks-fit .ensures)
     ∙ not-true _ (c .if3 .taken)))
 
@@ -59,12 +68,10 @@ advance-requires : tie.Need-advance-requires
 advance-requires c κs =
     let
     a =
-    c .before .before .before .before .before .before .before .before .before .before .before .before .before .before .before .before
-    .before .before .before .before .before .before .before .before .before .before .args in
+    c .before .before .before .before .before .before .before .before .before .before .before .before .before .before .before .before .before .before .before .before .before .before .before .before .before .before .before .before .before .args in
     let
     o =
-    c .before .before .before .before .before .before .before .before .before .before .before .before .before .before .before .before
-    .before .«open» in
+    c .before .before .before .before .before .before .before .before .before .before .before .before .before .before .before .before .before .before .before .before .«open» in
     let z : o .result .refusal ≡ 0 = omega (
       arith,
       c .before .before .before .before .before .before .before .before .before .before .before .before .before .before .before .if2 .left,
@@ -87,29 +94,24 @@ returns-4 : tie.Need-returns-4
 returns-4 c =
     let
     a =
-    c .before .before .before .before .before .before .before .before .before .before .before .before .before .before .before .before
-    .before .before .before .before .before .before .before .before .before .before .before .before .before .args in
+    c .before .before .before .before .before .before .before .before .before .before .before .before .before .before .before .before .before .before .before .before .before .before .before .before .before .before .before .before .before .before .before .before .args in
     let ans = stepAnswer (a .positions .now) (a .cells .now) (a .status .now) (a .marks .now) (a .table .now) in
     let new = newTable (cornerCount (a .positions .now)) (fours (a .cells .now)) (a .status .now) (a .marks .now) in
     let
     o =
-    c .before .before .before .before .before .before .before .before .before .before .before .before .before .before .before .before
-    .before .before .before .before .«open» in
+    c .before .before .before .before .before .before .before .before .before .before .before .before .before .before .before .before .before .before .before .before .before .before .before .«open» in
     let r = c .before .before .advance in
     let m = step-limits (a .positions .now) (a .cells .now) (a .status .now) (a .marks .now) (a .table .now)
     (omega (
       arith,
-      c .before .before .before .before .before .before .before .before .before .before .before .before .before .before .before .before
-          .before .before .before .before .before .before .before .before .if1 .left,
+      c .before .before .before .before .before .before .before .before .before .before .before .before .before .before .before .before .before .before .before .before .before .before .before .before .before .before .before .if1 .left,
     )) (o .result .refusal) (o .ensures .answer)
     (omega (
       arith,
-      c .before .before .before .before .before .before .before .before .before .before .before .before .before .before .before .before
-          .before .before .if2 .left,
+      c .before .before .before .before .before .before .before .before .before .before .before .before .before .before .before .before .before .before .if2 .left,
     ))
     (sym
-    (c .before .before .before .before .before .before .before .before .before .before .before .before .before .before .before .before
-    .before .marks-fit .ensures)
+    (c .before .before .before .before .before .before .before .before .before .before .before .before .before .before .before .before .before .marks-fit .ensures)
     ∙ not-false _
     (c .before .before .before .before .before .before .before .before .before .before .before .before .before .before .before .before .if3
     .left)) in
@@ -124,8 +126,7 @@ hand-out-requires c κs =
       omega (
         arith,
         few,
-        c .before .before .before .before .before .before .before .before .before .before .before .before .before .before .before .before
-            .before .before .before .before .before .before .before .before .before .before .if1 .left,
+        c .before .before .before .before .before .before .before .before .before .before .before .before .before .before .before .before .before .before .before .before .before .before .before .before .before .before .before .before .before .if1 .left,
       ),
     )
 
@@ -136,35 +137,28 @@ returns-5 : tie.Need-returns-5
 returns-5 c =
     let
     a =
-    c .before .before .before .before .before .before .before .before .before .before .before .before .before .before .before .before
-    .before .before .before .before .before .before .before .before .before .before .before .before .before .before .before .before .before
-    .before .args in
+    c .before .before .before .before .before .before .before .before .before .before .before .before .before .before .before .before .before .before .before .before .before .before .before .before .before .before .before .before .before .before .before .before .before .before .before .before .before .args in
     let ans = stepAnswer (a .positions .now) (a .cells .now) (a .status .now) (a .marks .now) (a .table .now) in
     let new = newTable (cornerCount (a .positions .now)) (fours (a .cells .now)) (a .status .now) (a .marks .now) in
     let
     o =
-    c .before .before .before .before .before .before .before .before .before .before .before .before .before .before .before .before
-    .before .before .before .before .before .before .before .before .before .«open» in
+    c .before .before .before .before .before .before .before .before .before .before .before .before .before .before .before .before .before .before .before .before .before .before .before .before .before .before .before .before .«open» in
     let r = c .before .before .before .before .before .before .before .advance in
     let z : r .result .refusal ≡ 0 = omega (arith, c .before .before .before .before .before .if4 .left) in
     let m = step-limits (a .positions .now) (a .cells .now) (a .status .now) (a .marks .now) (a .table .now)
     (omega (
       arith,
-      c .before .before .before .before .before .before .before .before .before .before .before .before .before .before .before .before
-          .before .before .before .before .before .before .before .before .before .before .before .before .before .if1
+      c .before .before .before .before .before .before .before .before .before .before .before .before .before .before .before .before .before .before .before .before .before .before .before .before .before .before .before .before .before .before .before .before .if1
           .left,
     )) (o .result .refusal) (o .ensures .answer)
     (omega (
       arith,
-      c .before .before .before .before .before .before .before .before .before .before .before .before .before .before .before .before
-          .before .before .before .before .before .before .before .if2 .left,
+      c .before .before .before .before .before .before .before .before .before .before .before .before .before .before .before .before .before .before .before .before .before .before .before .if2 .left,
     ))
     (sym
-    (c .before .before .before .before .before .before .before .before .before .before .before .before .before .before .before .before
-    .before .before .before .before .before .before .marks-fit .ensures)
+    (c .before .before .before .before .before .before .before .before .before .before .before .before .before .before .before .before .before .before .before .before .before .before .marks-fit .ensures)
     ∙ not-false _
-    (c .before .before .before .before .before .before .before .before .before .before .before .before .before .before .before .before
-    .before .before .before .before .before .if3 .left)) in
+    (c .before .before .before .before .before .before .before .before .before .before .before .before .before .before .before .before .before .before .before .before .before .if3 .left)) in
     accepted-so ans new (a .table .now) (r .result .cells) _ _ (m ∙ r .ensures .answer ∙ answer-none (r .result .refusal) z)
     (r .ensures .counted z) (r .ensures .table-is z) (c .before .before .hand-out .ensures)
 
@@ -173,6 +167,9 @@ step-spec =
     tie.close
     (tie.spec
     returns
+    slice-aggregate-open
+    slice-aggregate-open-2
+    slice-aggregate-open-3
     open-requires
     returns-2
     marks-fit-requires
