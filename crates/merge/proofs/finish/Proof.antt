@@ -25,8 +25,18 @@ slice-aggregate-examine-2 c = table-in (c .before .before .before .before .befor
     (omega (arith, c .before .before .before .cells)) (omega (arith, c .before .before .status))
     (c .before .before .before .before .before .pre .0 .1) (c .before .before .before .before .before .pre .0 .3)
 
+slice-aggregate-examine-3 : tie.Need-slice-aggregate-examine-3
+slice-aggregate-examine-3 c = search needs
+
+slice-aggregate-examine-4 : tie.Need-slice-aggregate-examine-4
+slice-aggregate-examine-4 c = search needs
+
+slice-aggregate-examine-5 : tie.Need-slice-aggregate-examine-5
+slice-aggregate-examine-5 c = search needs
+
 examine-requires : tie.Need-examine-requires
-examine-requires c κs = mesh-fits (c .before .before .before .before .before .before .before .before .args .mesh .now)
+examine-requires c κs = (
+  mesh-fits (c .before .before .before .before .before .before .before .before .args .mesh .now)
     (c .before .before .before .before .before .before .before .before .args .m)
     (c .before .before .before .before .before .before .before .before .args .n)
     (c .before .before .before .before .before .before .before .before .args .st .now)
@@ -36,31 +46,33 @@ examine-requires c κs = mesh-fits (c .before .before .before .before .before .b
     .1) (c .before .before .before .before .before .before .before .before .pre .0 .3)
     (c .before .before .before .before .before .before .before .before .pre .0 .0)
     (c .before .before .before .before .before .before .before .before .pre .0 .2)
-    (c .before .before .before .before .before .before .before .before .pre .1)
+    (c .before .before .before .before .before .before .before .before .pre .1),
+  λ h. record { in-coarse = omega arith; in-rows = omega (arith, h); in-ps = omega (arith, h); in-qs = omega (arith, h) },
+)
 
 returns : tie.Need-returns
-returns c = finish-none (c .before .before .before .before .before .before .before .before .before .before .before .args .mesh .now)
-    (c .before .before .before .before .before .before .before .before .before .before .before .args .m)
-    (c .before .before .before .before .before .before .before .before .before .before .before .args .n)
-    (c .before .before .before .before .before .before .before .before .before .before .before .args .st .now)
-    (c .before .before .before .before .before .before .before .before .before .before .before .args .r)
-    (omega (arith, c .before .before .before .before .before .before .before .before .before .cells))
-    (omega (arith, c .before .before .before .before .before .before .before .before .status))
-    (c .before .before .before .before .before .before .before .before .before .before .before .pre .0 .1)
-    (c .before .before .before .before .before .before .before .before .before .before .before .pre .0 .3) _ _ _ _ _ _ _ _
-    (c .before .before .examine .ensures) (c .if1 .taken)
+returns c = finish-none (c .before .before .before .before .before .before .before .before .before .before .before .before .before .before .args .mesh .now)
+    (c .before .before .before .before .before .before .before .before .before .before .before .before .before .before .args .m)
+    (c .before .before .before .before .before .before .before .before .before .before .before .before .before .before .args .n)
+    (c .before .before .before .before .before .before .before .before .before .before .before .before .before .before .args .st .now)
+    (c .before .before .before .before .before .before .before .before .before .before .before .before .before .before .args .r)
+    (omega (arith, c .before .before .before .before .before .before .before .before .before .before .before .before .cells))
+    (omega (arith, c .before .before .before .before .before .before .before .before .before .before .before .status))
+    (c .before .before .before .before .before .before .before .before .before .before .before .before .before .before .pre .0 .1)
+    (c .before .before .before .before .before .before .before .before .before .before .before .before .before .before .pre .0 .3) _ _ _ _ _ _ _ _
+    (c .before .before .before .before .before .examine .ensures) (c .if1 .taken)
 
 copy-bytes-requires : tie.Need-copy-bytes-requires
 copy-bytes-requires c κs = (
   omega (
     arith,
-    c .before .before .before .before .before .before .before .before .before .status,
-    c .before .before .before .before .before .before .before .before .before .before .before .before .pre .0 .3,
+    c .before .before .before .before .before .before .before .before .before .before .before .before .status,
+    c .before .before .before .before .before .before .before .before .before .before .before .before .before .before .before .pre .0 .3,
   ),
   omega (
     arith,
-    c .before .before .before .before .before .before .before .before .before .before .before .before .pre .0 .3,
-    c .before .before .before .before .before .before .before .before .before .before .before .before .pre .0 .4,
+    c .before .before .before .before .before .before .before .before .before .before .before .before .before .before .before .pre .0 .3,
+    c .before .before .before .before .before .before .before .before .before .before .before .before .before .before .before .pre .0 .4,
   ),
 )
 
@@ -68,22 +80,13 @@ same-length : tie.Need-same-length
 same-length c = search needs
 
 returns-2 : tie.Need-returns-2
-returns-2 c = finish-all (c .before .before .before .before .before .before .before .before .before .before .before .before .before
-    .before .before .args .mesh .now) (c .before .before .before .before .before .before .before .before .before .before .before .before
-    .before .before .before .args .m) (c .before .before .before .before .before .before .before .before .before .before .before .before
-    .before .before .before .args .n) (c .before .before .before .before .before .before .before .before .before .before .before .before
-    .before .before .before .args .st .now) (c .before .before .before .before .before .before .before .before .before .before .before
-    .before .before .before .before .args .r) (omega (
+returns-2 c = finish-all (c .before .before .before .before .before .before .before .before .before .before .before .before .before .before .before .before .before .before .args .mesh .now) (c .before .before .before .before .before .before .before .before .before .before .before .before .before .before .before .before .before .before .args .m) (c .before .before .before .before .before .before .before .before .before .before .before .before .before .before .before .before .before .before .args .n) (c .before .before .before .before .before .before .before .before .before .before .before .before .before .before .before .before .before .before .args .st .now) (c .before .before .before .before .before .before .before .before .before .before .before .before .before .before .before .before .before .before .args .r) (omega (
       arith,
-      c .before .before .before .before .before .before .before .before .before
-          .before .before .before .before .cells,
+      c .before .before .before .before .before .before .before .before .before .before .before .before .before .before .before .before .cells,
     )) (omega (
       arith,
-      c .before .before .before .before .before .before .before .before .before
-          .before .before .before .status,
-    )) (c .before .before .before .before .before .before .before .before .before .before .before .before
-    .before .before .before .pre .0 .1) (c .before .before .before .before .before .before .before .before .before .before .before .before
-    .before .before .before .pre .0 .3) _ _ _ _ _ _ _ _ (c .before .before .before .before .before .before .examine .ensures)
+      c .before .before .before .before .before .before .before .before .before .before .before .before .before .before .before .status,
+    )) (c .before .before .before .before .before .before .before .before .before .before .before .before .before .before .before .before .before .before .pre .0 .1) (c .before .before .before .before .before .before .before .before .before .before .before .before .before .before .before .before .before .before .pre .0 .3) _ _ _ _ _ _ _ _ (c .before .before .before .before .before .before .before .before .before .examine .ensures)
     (c .before .before .before .before .if1 .left) _ (c .before .before .copy-bytes .ensures)
 
 pub finish-spec : {M : Type 1} → statement M
@@ -93,6 +96,9 @@ finish-spec =
     mul-k
     slice-aggregate-examine
     slice-aggregate-examine-2
+    slice-aggregate-examine-3
+    slice-aggregate-examine-4
+    slice-aggregate-examine-5
     examine-requires
     returns
     copy-bytes-requires
