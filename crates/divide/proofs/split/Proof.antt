@@ -19,31 +19,37 @@ returns c =
     let a = c .before .before .before .before .before .args in
     split-short (a .positions .now) (a .cells .now) (a .status .now) (a .parts) (a .owners .now) (a .stores .now) (c .if1 .taken)
 
+slice-aggregate-open : tie.Need-slice-aggregate-open
+slice-aggregate-open c = search needs
+
+slice-aggregate-open-2 : tie.Need-slice-aggregate-open-2
+slice-aggregate-open-2 c = search needs
+
+slice-aggregate-open-3 : tie.Need-slice-aggregate-open-3
+slice-aggregate-open-3 c = search needs
+
 open-requires : tie.Need-open-requires
-open-requires c κs = search needs
+open-requires c κs = λ h. record { in-coarse = omega arith; in-rows = omega (arith, h); in-ps = omega (arith, h); in-qs = omega (arith, h) }
 
 returns-2 : tie.Need-returns-2
 returns-2 c =
-    let a = c .before .before .before .before .before .before .before .before .before .before .before .args in
-    let o = c .before .before .«open» in
-    split-table (a .positions .now) (a .cells .now) (a .status .now) (a .parts) (a .owners .now) (a .stores .now) (c .before .before
-    .before .before .before .before .if1 .left)
+    let a = c .before .before .before .before .before .before .before .before .before .before .before .before .before .before .args in
+    let o = c .before .before .before .before .before .«open» in
+    split-table (a .positions .now) (a .cells .now) (a .status .now) (a .parts) (a .owners .now) (a .stores .now) (c .before .before .before .before .before .before .before .before .before .if1 .left)
     (o .result .refusal) (o .ensures .answer) (c .if2 .taken)
 
 returns-3 : tie.Need-returns-3
 returns-3 c =
-    let a = c .before .before .before .before .before .before .before .before .before .before .before .before .args in
-    let o = c .before .before .before .«open» in
-    split-none (a .positions .now) (a .cells .now) (a .status .now) (a .parts) (a .owners .now) (a .stores .now) (c .before .before
-    .before .before .before .before .before .if1 .left)
+    let a = c .before .before .before .before .before .before .before .before .before .before .before .before .before .before .before .args in
+    let o = c .before .before .before .before .before .before .«open» in
+    split-none (a .positions .now) (a .cells .now) (a .status .now) (a .parts) (a .owners .now) (a .stores .now) (c .before .before .before .before .before .before .before .before .before .before .if1 .left)
     (o .result .refusal) (o .ensures .answer) (omega (arith, c .before .if2 .left)) (c .if3 .taken)
 
 returns-4 : tie.Need-returns-4
 returns-4 c =
-    let a = c .before .before .before .before .before .before .before .before .before .before .before .before .before .args in
-    let o = c .before .before .before .before .«open» in
-    split-many (a .positions .now) (a .cells .now) (a .status .now) (a .parts) (a .owners .now) (a .stores .now) (c .before .before
-    .before .before .before .before .before .before .if1 .left)
+    let a = c .before .before .before .before .before .before .before .before .before .before .before .before .before .before .before .before .args in
+    let o = c .before .before .before .before .before .before .before .«open» in
+    split-many (a .positions .now) (a .cells .now) (a .status .now) (a .parts) (a .owners .now) (a .stores .now) (c .before .before .before .before .before .before .before .before .before .before .before .if1 .left)
     (o .result .refusal) (o .ensures .answer) (omega (arith, c .before .before .if2 .left)) (c .before .if3 .left) (c .if4 .taken)
 
 slice-aggregate-first-children : tie.Need-slice-aggregate-first-children
@@ -51,7 +57,7 @@ slice-aggregate-first-children c = search needs
 
 first-children-requires : tie.Need-first-children-requires
 first-children-requires c κs =
-    let o = c .before .before .before .before .before .«open» in
+    let o = c .before .before .before .before .before .before .before .before .«open» in
     let z : o .result .refusal ≡ 0 = omega (arith, c .before .before .before .if2 .left) in
     let f = o .ensures .fits z in (
       statuses-few _ _ _ _ _ _ _ _ _ f,
@@ -69,28 +75,22 @@ owners-fit-requires : tie.Need-owners-fit-requires
 owners-fit-requires c κs =
     let s = c .before .before .before .before .before .before .before .before .before .before .before .before .before .before .before
     .before .before in
-    let o = c .before .before .before .before .before .before .before .before .«open» in
+    let o = c .before .before .before .before .before .before .before .before .before .before .before .«open» in
     let z : o .result .refusal ≡ 0 = omega (arith, c .before .before .before .before .before .before .if2 .left) in
-    kids-known _ _ _ _ _ _ _ _ _ (o .ensures .fits z) (c .before .before .first-children .last .1 .1 .0) _ (c .before .before
-    .first-children .ensures) (s .args .parts)
-    (s .args .stores .now) (c .before .before .before .before .if4 .left) (c .before .before .before .before .before .before .before
-    .before .before .before .before .before .if1 .left)
+    kids-known _ _ _ _ _ _ _ _ _ (o .ensures .fits z) (c .before .before .first-children .last .1 .1 .0) _ (c .before .before .first-children .ensures) (s .args .parts)
+    (s .args .stores .now) (c .before .before .before .before .if4 .left) (c .before .before .before .before .before .before .before .before .before .before .before .before .before .before .before .if1 .left)
 
 returns-5 : tie.Need-returns-5
 returns-5 c =
     let s = c .before .before .before .before .before .before .before .before .before .before .before .before .before .before .before
     .before .before .before .before in
     let a = s .args in
-    let o = c .before .before .before .before .before .before .before .before .before .before .«open» in
+    let o = c .before .before .before .before .before .before .before .before .before .before .before .before .before .«open» in
     let z : o .result .refusal ≡ 0 = omega (arith, c .before .before .before .before .before .before .before .before .if2 .left) in
-    split-owners (a .positions .now) (a .cells .now) (a .status .now) (a .parts) (a .owners .now) (a .stores .now) (c .before .before
-    .before .before .before .before .before .before .before .before .before .before .before .before .if1 .left)
-    (o .result .refusal) (o .ensures .answer) z (c .before .before .before .before .before .before .before .if3 .left) (c .before
-    .before .before .before .before .before .if4 .left)
-    (sym (owned-is _ _ _ _ _ _ _ _ _ (o .ensures .fits z) (c .before .before .before .before .first-children .last .1 .1 .0) _ (c
-    .before .before .before .before .first-children .ensures) (a .parts)
-    (a .stores .now) (c .before .before .before .before .before .before .if4 .left) (c .before .before .before .before .before .before
-    .before .before .before .before .before .before .before .before .if1 .left) (a .owners .now)) ∙ sym (c .before .owners-fit
+    split-owners (a .positions .now) (a .cells .now) (a .status .now) (a .parts) (a .owners .now) (a .stores .now) (c .before .before .before .before .before .before .before .before .before .before .before .before .before .before .before .before .before .if1 .left)
+    (o .result .refusal) (o .ensures .answer) z (c .before .before .before .before .before .before .before .if3 .left) (c .before .before .before .before .before .before .if4 .left)
+    (sym (owned-is _ _ _ _ _ _ _ _ _ (o .ensures .fits z) (c .before .before .before .before .first-children .last .1 .1 .0) _ (c .before .before .before .before .first-children .ensures) (a .parts)
+    (a .stores .now) (c .before .before .before .before .before .before .if4 .left) (c .before .before .before .before .before .before .before .before .before .before .before .before .before .before .before .before .before .if1 .left) (a .owners .now)) ∙ sym (c .before .owners-fit
     .ensures) ∙ not-true _ (c .if5 .taken))
 
 slice-aggregate-divide : tie.Need-slice-aggregate-divide
@@ -101,21 +101,18 @@ divide-requires c κs =
     let s = c .before .before .before .before .before .before .before .before .before .before .before .before .before .before .before
     .before .before .before .before .before .before .before in
     let a = s .args in
-    let o = c .before .before .before .before .before .before .before .before .before .before .before .before .before .«open» in
+    let o = c .before .before .before .before .before .before .before .before .before .before .before .before .before .before .before .before .«open» in
     let z : o .result .refusal ≡ 0 = omega (
       arith,
-      c .before .before .before .before .before .before .before .before .before .before
-          .before .if2 .left,
+      c .before .before .before .before .before .before .before .before .before .before .before .if2 .left,
     ) in
     divisible-known _ _ _ _ _ _ _ _ _ (o .ensures .fits z) (c .before .before .before .before .before .before .before .first-children
     .last .1 .1 .0) _ (c .before .before .before .before .before .before .before .first-children .ensures) (a .parts)
-    (a .stores .now) (c .before .before .before .before .before .before .before .before .before .if4 .left) (c .before .before .before
-    .before .before .before .before .before .before .before .before .before .before .before .before .before .before .if1 .left) (a
+    (a .stores .now) (c .before .before .before .before .before .before .before .before .before .if4 .left) (c .before .before .before .before .before .before .before .before .before .before .before .before .before .before .before .before .before .before .before .before .if1 .left) (a
     .owners .now)
     (sym (owned-is _ _ _ _ _ _ _ _ _ (o .ensures .fits z) (c .before .before .before .before .before .before .before .first-children
     .last .1 .1 .0) _ (c .before .before .before .before .before .before .before .first-children .ensures) (a .parts)
-    (a .stores .now) (c .before .before .before .before .before .before .before .before .before .if4 .left) (c .before .before .before
-    .before .before .before .before .before .before .before .before .before .before .before .before .before .before .if1 .left) (a
+    (a .stores .now) (c .before .before .before .before .before .before .before .before .before .if4 .left) (c .before .before .before .before .before .before .before .before .before .before .before .before .before .before .before .before .before .before .before .before .if1 .left) (a
     .owners .now)) ∙ sym (c .before .before .before .before .owners-fit .ensures) ∙ not-false _ (c .before .before .before .if5
     .left))
 
@@ -127,26 +124,15 @@ returns-6 c =
     let s = c .before .before .before .before .before .before .before .before .before .before .before .before .before .before .before
     .before .before .before .before .before .before .before .before .before .before in
     let a = s .args in
-    let o = c .before .before .before .before .before .before .before .before .before .before .before .before .before .before .before
-    .before .«open» in
+    let o = c .before .before .before .before .before .before .before .before .before .before .before .before .before .before .before .before .before .before .before .«open» in
     let z : o .result .refusal ≡ 0 = omega (
       arith,
-      c .before .before .before .before .before .before .before .before .before .before
-          .before .before .before .before .if2 .left,
+      c .before .before .before .before .before .before .before .before .before .before .before .before .before .before .if2 .left,
     ) in
-    split-yes (a .positions .now) (a .cells .now) (a .status .now) (a .parts) (a .owners .now) (a .stores .now) (c .before .before
-    .before .before .before .before .before .before .before .before .before .before .before .before .before .before .before .before
-    .before .before .if1 .left)
-    (o .result .refusal) (o .ensures .answer) z (c .before .before .before .before .before .before .before .before .before .before
-    .before .before .before .if3 .left) (c .before .before .before .before .before .before .before .before .before .before .before
-    .before .if4 .left)
-    (sym (owned-is _ _ _ _ _ _ _ _ _ (o .ensures .fits z) (c .before .before .before .before .before .before .before .before .before
-    .before .first-children .last .1 .1 .0) _ (c .before .before .before .before .before .before .before .before .before .before
-    .first-children .ensures) (a .parts)
-    (a .stores .now) (c .before .before .before .before .before .before .before .before .before .before .before .before .if4 .left) (c
-    .before .before .before .before .before .before .before .before .before .before .before .before .before .before .before .before
-    .before .before .before .before .if1 .left) (a .owners .now)) ∙ sym (c .before .before .before .before .before .before
-    .before .owners-fit .ensures) ∙ not-false _ (c .before .before .before .before .before .before .if5 .left))
+    split-yes (a .positions .now) (a .cells .now) (a .status .now) (a .parts) (a .owners .now) (a .stores .now) (c .before .before .before .before .before .before .before .before .before .before .before .before .before .before .before .before .before .before .before .before .before .before .before .if1 .left)
+    (o .result .refusal) (o .ensures .answer) z (c .before .before .before .before .before .before .before .before .before .before .before .before .before .if3 .left) (c .before .before .before .before .before .before .before .before .before .before .before .before .if4 .left)
+    (sym (owned-is _ _ _ _ _ _ _ _ _ (o .ensures .fits z) (c .before .before .before .before .before .before .before .before .before .before .first-children .last .1 .1 .0) _ (c .before .before .before .before .before .before .before .before .before .before .first-children .ensures) (a .parts)
+    (a .stores .now) (c .before .before .before .before .before .before .before .before .before .before .before .before .if4 .left) (c .before .before .before .before .before .before .before .before .before .before .before .before .before .before .before .before .before .before .before .before .before .before .before .if1 .left) (a .owners .now)) ∙ sym (c .before .before .before .before .before .before .before .owners-fit .ensures) ∙ not-false _ (c .before .before .before .before .before .before .if5 .left))
     (c .before .before .divide .last .1 .1 .1 .1 .1 .1 .1 .1 .0) (c .before .before .divide .ensures)
 
 pub split-spec : {M : Type 1} → statement M
@@ -155,6 +141,9 @@ split-spec =
     (tie.spec
     mul-if1
     returns
+    slice-aggregate-open
+    slice-aggregate-open-2
+    slice-aggregate-open-3
     open-requires
     returns-2
     returns-3
