@@ -18,14 +18,20 @@ slice-aggregate-open : tie.Need-slice-aggregate-open
 slice-aggregate-open c = sym (length-take-le (c .before .before .before .before .before .few .result) _
     (omega (arith, c .before .before .before .before .before .few .ensures .0, c .before .status2)))
 
+slice-aggregate-open-2 : tie.Need-slice-aggregate-open-2
+slice-aggregate-open-2 c = search needs
+
+slice-aggregate-open-3 : tie.Need-slice-aggregate-open-3
+slice-aggregate-open-3 c = search needs
+
 open-requires : tie.Need-open-requires
 open-requires c κs = search needs
 
 returns : tie.Need-returns
-returns c = rested _ _ _ (c .before .before .before .before .before .before .before .before .before .few .ensures .1) _ _ _ _ _ _ _ _ _
-    (c .before .before .before .before .before .before .before .clear .ensures)
-    (c .before .before .before .before .before .before .before .before .before .few .ensures .0)
-    (omega (arith, c .before .before .before .before .before .status2)) (c .«open» .ensures)
+returns c = rested _ _ _ (c .before .before .before .before .before .before .before .before .before .before .before .few .ensures .1) _ _ _ _ _ _ _ _ _
+    (c .before .before .before .before .before .before .before .before .before .clear .ensures)
+    (c .before .before .before .before .before .before .before .before .before .before .before .few .ensures .0)
+    (omega (arith, c .before .before .before .before .before .before .before .status2)) (c .before .before .«open» .ensures)
 
 pub at-rest-spec : {M : Type 1} → statement M
 at-rest-spec =
@@ -34,5 +40,7 @@ at-rest-spec =
     few-requires
     clear-requires
     slice-aggregate-open
+    slice-aggregate-open-2
+    slice-aggregate-open-3
     open-requires
     returns)
