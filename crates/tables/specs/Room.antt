@@ -21,13 +21,14 @@ pub record RedRoom (ss xs ys links : List ℕ) : Type 0 where
   pub in-links : 3 * length ss ≤ 4 * length links
 
 -- tables that are as long as they were
-pub record SameLengths (rows ps qs xs ys heads links heads′ links′ rows₁ ps₁ qs₁ xs₁ ys₁ heads₁ links₁ heads₁′ links₁′ : List ℕ) : Type 0 where
-  pub of-rows : length rows₁ ≡ length rows
-  pub of-ps : length ps₁ ≡ length ps
-  pub of-qs : length qs₁ ≡ length qs
-  pub of-xs : length xs₁ ≡ length xs
-  pub of-ys : length ys₁ ≡ length ys
-  pub of-heads : length heads₁ ≡ length heads
-  pub of-links : length links₁ ≡ length links
-  pub of-heads′ : length heads₁′ ≡ length heads′
-  pub of-links′ : length links₁′ ≡ length links′
+pub record SameLengths (rows ps qs xs ys heads links heads′ links′ rows₁ ps₁ qs₁ xs₁ ys₁ heads₁ links₁ heads₁′ links₁′ : List ℕ) : Type 0
+  where
+    pub of-rows : length rows₁ ≡ length rows
+    pub of-ps : length ps₁ ≡ length ps
+    pub of-qs : length qs₁ ≡ length qs
+    pub of-xs : length xs₁ ≡ length xs
+    pub of-ys : length ys₁ ≡ length ys
+    pub of-heads : length heads₁ ≡ length heads
+    pub of-links : length links₁ ≡ length links
+    pub of-heads′ : length heads₁′ ≡ length heads′
+    pub of-links′ : length links₁′ ≡ length links′

@@ -35,21 +35,26 @@ returns-2 : tie.Need-returns-2
 returns-2 c =
     let a = c .before .before .before .before .before .before .before .before .before .before .before .before .before .before .args in
     let o = c .before .before .before .before .before .«open» in
-    split-table (a .positions .now) (a .cells .now) (a .status .now) (a .parts) (a .owners .now) (a .stores .now) (c .before .before .before .before .before .before .before .before .before .if1 .left)
+    split-table (a .positions .now) (a .cells .now) (a .status .now) (a .parts) (a .owners .now) (a .stores .now) (c .before .before
+    .before .before .before .before .before .before .before .if1 .left)
     (o .result .refusal) (o .ensures .answer) (c .if2 .taken)
 
 returns-3 : tie.Need-returns-3
 returns-3 c =
-    let a = c .before .before .before .before .before .before .before .before .before .before .before .before .before .before .before .args in
+    let a = c .before .before .before .before .before .before .before .before .before .before .before .before .before .before .before
+    .args in
     let o = c .before .before .before .before .before .before .«open» in
-    split-none (a .positions .now) (a .cells .now) (a .status .now) (a .parts) (a .owners .now) (a .stores .now) (c .before .before .before .before .before .before .before .before .before .before .if1 .left)
+    split-none (a .positions .now) (a .cells .now) (a .status .now) (a .parts) (a .owners .now) (a .stores .now) (c .before .before
+    .before .before .before .before .before .before .before .before .if1 .left)
     (o .result .refusal) (o .ensures .answer) (omega (arith, c .before .if2 .left)) (c .if3 .taken)
 
 returns-4 : tie.Need-returns-4
 returns-4 c =
-    let a = c .before .before .before .before .before .before .before .before .before .before .before .before .before .before .before .before .args in
+    let a = c .before .before .before .before .before .before .before .before .before .before .before .before .before .before .before
+    .before .args in
     let o = c .before .before .before .before .before .before .before .«open» in
-    split-many (a .positions .now) (a .cells .now) (a .status .now) (a .parts) (a .owners .now) (a .stores .now) (c .before .before .before .before .before .before .before .before .before .before .before .if1 .left)
+    split-many (a .positions .now) (a .cells .now) (a .status .now) (a .parts) (a .owners .now) (a .stores .now) (c .before .before
+    .before .before .before .before .before .before .before .before .before .if1 .left)
     (o .result .refusal) (o .ensures .answer) (omega (arith, c .before .before .if2 .left)) (c .before .if3 .left) (c .if4 .taken)
 
 slice-aggregate-first-children : tie.Need-slice-aggregate-first-children
@@ -74,23 +79,30 @@ slice-aggregate-owners-fit c = search needs
 owners-fit-requires : tie.Need-owners-fit-requires
 owners-fit-requires c κs =
     let s = c .before .before .before .before .before .before .before .before .before .before .before .before .before .before .before
-    .before .before in
+    .before .before .before .before .before in
     let o = c .before .before .before .before .before .before .before .before .before .before .before .«open» in
     let z : o .result .refusal ≡ 0 = omega (arith, c .before .before .before .before .before .before .if2 .left) in
-    kids-known _ _ _ _ _ _ _ _ _ (o .ensures .fits z) (c .before .before .first-children .last .1 .1 .0) _ (c .before .before .first-children .ensures) (s .args .parts)
-    (s .args .stores .now) (c .before .before .before .before .if4 .left) (c .before .before .before .before .before .before .before .before .before .before .before .before .before .before .before .if1 .left)
+    kids-known _ _ _ _ _ _ _ _ _ (o .ensures .fits z) (c .before .before .first-children .last .1 .1 .0) _ (c .before .before
+    .first-children .ensures) (s .args .parts)
+    (s .args .stores .now) (c .before .before .before .before .if4 .left) (c .before .before .before .before .before .before .before
+    .before .before .before .before .before .before .before .before .if1 .left)
 
 returns-5 : tie.Need-returns-5
 returns-5 c =
     let s = c .before .before .before .before .before .before .before .before .before .before .before .before .before .before .before
-    .before .before .before .before in
+    .before .before .before .before .before .before .before in
     let a = s .args in
     let o = c .before .before .before .before .before .before .before .before .before .before .before .before .before .«open» in
     let z : o .result .refusal ≡ 0 = omega (arith, c .before .before .before .before .before .before .before .before .if2 .left) in
-    split-owners (a .positions .now) (a .cells .now) (a .status .now) (a .parts) (a .owners .now) (a .stores .now) (c .before .before .before .before .before .before .before .before .before .before .before .before .before .before .before .before .before .if1 .left)
-    (o .result .refusal) (o .ensures .answer) z (c .before .before .before .before .before .before .before .if3 .left) (c .before .before .before .before .before .before .if4 .left)
-    (sym (owned-is _ _ _ _ _ _ _ _ _ (o .ensures .fits z) (c .before .before .before .before .first-children .last .1 .1 .0) _ (c .before .before .before .before .first-children .ensures) (a .parts)
-    (a .stores .now) (c .before .before .before .before .before .before .if4 .left) (c .before .before .before .before .before .before .before .before .before .before .before .before .before .before .before .before .before .if1 .left) (a .owners .now)) ∙ sym (c .before .owners-fit
+    split-owners (a .positions .now) (a .cells .now) (a .status .now) (a .parts) (a .owners .now) (a .stores .now) (c .before .before
+    .before .before .before .before .before .before .before .before .before .before .before .before .before .before .before .if1 .left)
+    (o .result .refusal) (o .ensures .answer) z (c .before .before .before .before .before .before .before .if3 .left) (c .before .before
+    .before .before .before .before .if4 .left)
+    (sym (owned-is _ _ _ _ _ _ _ _ _ (o .ensures .fits z) (c .before .before .before .before .first-children .last .1 .1 .0) _ (c .before
+    .before .before .before .first-children .ensures) (a .parts)
+    (a .stores .now) (c .before .before .before .before .before .before .if4 .left) (c .before .before .before .before .before .before
+    .before .before .before .before .before .before .before .before .before .before .before .if1 .left) (a .owners .now)) ∙ sym (c
+    .before .owners-fit
     .ensures) ∙ not-true _ (c .if5 .taken))
 
 slice-aggregate-divide : tie.Need-slice-aggregate-divide
@@ -99,20 +111,25 @@ slice-aggregate-divide c = search needs
 divide-requires : tie.Need-divide-requires
 divide-requires c κs =
     let s = c .before .before .before .before .before .before .before .before .before .before .before .before .before .before .before
-    .before .before .before .before .before .before .before in
+    .before .before .before .before .before .before .before .before .before .before in
     let a = s .args in
-    let o = c .before .before .before .before .before .before .before .before .before .before .before .before .before .before .before .before .«open» in
+    let o = c .before .before .before .before .before .before .before .before .before .before .before .before .before .before .before
+    .before .«open» in
     let z : o .result .refusal ≡ 0 = omega (
       arith,
       c .before .before .before .before .before .before .before .before .before .before .before .if2 .left,
     ) in
     divisible-known _ _ _ _ _ _ _ _ _ (o .ensures .fits z) (c .before .before .before .before .before .before .before .first-children
     .last .1 .1 .0) _ (c .before .before .before .before .before .before .before .first-children .ensures) (a .parts)
-    (a .stores .now) (c .before .before .before .before .before .before .before .before .before .if4 .left) (c .before .before .before .before .before .before .before .before .before .before .before .before .before .before .before .before .before .before .before .before .if1 .left) (a
+    (a .stores .now) (c .before .before .before .before .before .before .before .before .before .if4 .left) (c .before .before .before
+    .before .before .before .before .before .before .before .before .before .before .before .before .before .before .before .before
+    .before .if1 .left) (a
     .owners .now)
     (sym (owned-is _ _ _ _ _ _ _ _ _ (o .ensures .fits z) (c .before .before .before .before .before .before .before .first-children
     .last .1 .1 .0) _ (c .before .before .before .before .before .before .before .first-children .ensures) (a .parts)
-    (a .stores .now) (c .before .before .before .before .before .before .before .before .before .if4 .left) (c .before .before .before .before .before .before .before .before .before .before .before .before .before .before .before .before .before .before .before .before .if1 .left) (a
+    (a .stores .now) (c .before .before .before .before .before .before .before .before .before .if4 .left) (c .before .before .before
+    .before .before .before .before .before .before .before .before .before .before .before .before .before .before .before .before
+    .before .if1 .left) (a
     .owners .now)) ∙ sym (c .before .before .before .before .owners-fit .ensures) ∙ not-false _ (c .before .before .before .if5
     .left))
 
@@ -122,17 +139,27 @@ same-length c = search needs
 returns-6 : tie.Need-returns-6
 returns-6 c =
     let s = c .before .before .before .before .before .before .before .before .before .before .before .before .before .before .before
-    .before .before .before .before .before .before .before .before .before .before in
+    .before .before .before .before .before .before .before .before .before .before .before .before .before in
     let a = s .args in
-    let o = c .before .before .before .before .before .before .before .before .before .before .before .before .before .before .before .before .before .before .before .«open» in
+    let o = c .before .before .before .before .before .before .before .before .before .before .before .before .before .before .before
+    .before .before .before .before .«open» in
     let z : o .result .refusal ≡ 0 = omega (
       arith,
       c .before .before .before .before .before .before .before .before .before .before .before .before .before .before .if2 .left,
     ) in
-    split-yes (a .positions .now) (a .cells .now) (a .status .now) (a .parts) (a .owners .now) (a .stores .now) (c .before .before .before .before .before .before .before .before .before .before .before .before .before .before .before .before .before .before .before .before .before .before .before .if1 .left)
-    (o .result .refusal) (o .ensures .answer) z (c .before .before .before .before .before .before .before .before .before .before .before .before .before .if3 .left) (c .before .before .before .before .before .before .before .before .before .before .before .before .if4 .left)
-    (sym (owned-is _ _ _ _ _ _ _ _ _ (o .ensures .fits z) (c .before .before .before .before .before .before .before .before .before .before .first-children .last .1 .1 .0) _ (c .before .before .before .before .before .before .before .before .before .before .first-children .ensures) (a .parts)
-    (a .stores .now) (c .before .before .before .before .before .before .before .before .before .before .before .before .if4 .left) (c .before .before .before .before .before .before .before .before .before .before .before .before .before .before .before .before .before .before .before .before .before .before .before .if1 .left) (a .owners .now)) ∙ sym (c .before .before .before .before .before .before .before .owners-fit .ensures) ∙ not-false _ (c .before .before .before .before .before .before .if5 .left))
+    split-yes (a .positions .now) (a .cells .now) (a .status .now) (a .parts) (a .owners .now) (a .stores .now) (c .before .before .before
+    .before .before .before .before .before .before .before .before .before .before .before .before .before .before .before .before
+    .before .before .before .before .if1 .left)
+    (o .result .refusal) (o .ensures .answer) z (c .before .before .before .before .before .before .before .before .before .before .before
+    .before .before .if3 .left) (c .before .before .before .before .before .before .before .before .before .before .before .before
+    .if4 .left)
+    (sym (owned-is _ _ _ _ _ _ _ _ _ (o .ensures .fits z) (c .before .before .before .before .before .before .before .before .before
+    .before .first-children .last .1 .1 .0) _ (c .before .before .before .before .before .before .before .before .before .before
+    .first-children .ensures) (a .parts)
+    (a .stores .now) (c .before .before .before .before .before .before .before .before .before .before .before .before .if4 .left) (c
+    .before .before .before .before .before .before .before .before .before .before .before .before .before .before .before .before
+    .before .before .before .before .before .before .before .if1 .left) (a .owners .now)) ∙ sym (c .before .before .before .before
+    .before .before .before .owners-fit .ensures) ∙ not-false _ (c .before .before .before .before .before .before .if5 .left))
     (c .before .before .divide .last .1 .1 .1 .1 .1 .1 .1 .1 .0) (c .before .before .divide .ensures)
 
 pub split-spec : {M : Type 1} → statement M

@@ -41,12 +41,14 @@ returns-2 c =
 climb-requires : tie.Need-climb-requires
 climb-requires c κs = fits-upward _ _ _ _ _ _ _ _ _
     (c .before .before .before .before .before .before .before .before .«open» .ensures .fits (c .before .before .before .if1 .left))
-    (c .before .before .before .before .before .before .before .before .before .before .before .before .before .before .args .cell) (omega arith)
+    (c .before .before .before .before .before .before .before .before .before .before .before .before .before .before .args .cell) (omega
+    arith)
 
 returns-3 : tie.Need-returns-3
 unfolding ancestryOf
 returns-3 c =
-    let a = c .before .before .before .before .before .before .before .before .before .before .before .before .before .before .before .args in
+    let a = c .before .before .before .before .before .before .before .before .before .before .before .before .before .before .before
+    .args in
     let o = c .before .before .before .before .before .before .before .before .before .«open» in
     rw (ancestor-there (a .positions .now) (a .cells .now) (a .status .now) (o .result .refusal) (a .cell) (o .ensures .answer)
     (c .before .before .before .before .if1 .left)

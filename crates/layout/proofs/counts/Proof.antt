@@ -53,13 +53,15 @@ same-length c = search needs
 returns-3 : tie.Need-returns-3
 unfolding countedOf heldAfter
 returns-3 c =
-    let a = c .before .before .before .before .before .before .before .before .before .before .before .before .before .before .before .before .before .args in
+    let a = c .before .before .before .before .before .before .before .before .before .before .before .before .before .before .before
+    .before .before .args in
     let o = c .before .before .before .before .before .before .before .before .before .«open» in
     let f = o .ensures .fits (c .before .before .before .before .if2 .left) in
     let r = c .before .before .count-levels in
     let e : countsAnswer (a .positions .now) (a .cells .now) (a .status .now) (a .counts .now) ≡ Accepted =
     counts-long (a .positions .now) (a .cells .now) (a .status .now) (a .counts .now)
-    (c .before .before .before .before .before .before .before .before .before .before .before .before .before .if1 .left) ∙ o .ensures .answer
+    (c .before .before .before .before .before .before .before .before .before .before .before .before .before .if1 .left) ∙ o .ensures
+    .answer
     ∙ answer-none (o .result .refusal) (c .before .before .before .before .if2 .left) in (
       rw e (ap counted.Levels (number-after _ _ _ _ _ _ _ _ _ f (r .result) (r .ensures .0))),
       rw e (counts-after _ _ _ _ _ _ _ _ _ f (a .counts .now) _ (r .result) (r .ensures .0) (r .ensures .1)),

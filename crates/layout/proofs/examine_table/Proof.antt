@@ -19,10 +19,12 @@ open-requires : tie.Need-open-requires
 open-requires c κs = search needs
 
 returns : tie.Need-returns
-returns c = let o = c .before .before .before .before .before .«open» in sym (o .ensures .answer ∙ answer-none (o .result .refusal) (c .if1 .taken))
+returns c = let o = c .before .before .before .before .before .«open» in sym (o .ensures .answer ∙ answer-none (o .result .refusal) (c
+    .if1 .taken))
 
 returns-2 : tie.Need-returns-2
-returns-2 c = let o = c .before .before .before .before .before .«open» in sym (o .ensures .answer ∙ answer-refused (o .result .refusal) (c .if1 .left))
+returns-2 c = let o = c .before .before .before .before .before .«open» in sym (o .ensures .answer ∙ answer-refused (o .result .refusal)
+    (c .if1 .left))
 
 pub examine-table-spec : {M : Type 1} → statement M
 examine-table-spec =

@@ -30,7 +30,11 @@ returns c =
     (rw e, (rw e, (rw e, rw e)))
 
 lay-out-few-requires : tie.Need-lay-out-few-requires
-lay-out-few-requires c κs = (c .before .before .before .if2 .taken, sym (c .before .before .before .before .before .lent .ensures) ∙ not-false _ (c .before .before .before .before .if1 .left))
+lay-out-few-requires c κs = (
+  c .before .before .before .if2 .taken,
+  sym (c .before .before .before .before .before .lent .ensures) ∙
+      not-false _ (c .before .before .before .before .if1 .left),
+)
 
 same-length-4 : tie.Need-same-length-4
 same-length-4 c = search needs
@@ -45,7 +49,8 @@ returns-2 : tie.Need-returns-2
 returns-2 c = c .before .before .before .before .before .lay-out-few .ensures
 
 lay-out-many-requires : tie.Need-lay-out-many-requires
-lay-out-many-requires c κs = sym (c .before .before .before .before .before .lent .ensures) ∙ not-false _ (c .before .before .before .before .if1 .left)
+lay-out-many-requires c κs = sym (c .before .before .before .before .before .lent .ensures) ∙ not-false _ (c .before .before .before
+    .before .if1 .left)
 
 same-length-7 : tie.Need-same-length-7
 same-length-7 c = search needs

@@ -27,22 +27,29 @@ same-length-3 c = c .before .before .before .before .before .before .before .bef
 returns : tie.Need-returns
 unfolding laidOf heldAfter
 returns c =
-    let a = c .before .before .before .before .before .before .before .before .before .before .before .before .before .before .before .before .before .before .before .args in
+    let a = c .before .before .before .before .before .before .before .before .before .before .before .before .before .before .before
+    .before .before .before .before .args in
     let o = c .before .before .before .before .before .before .before .before .«open» in
     let e : layoutAnswer (a .positions .now) (a .cells .now) (a .status .now) (a .table .now) (a .ends .now) (a .sums .now) ≡ Refused
     (o .result .refusal) =
     layout-long (a .positions .now) (a .cells .now) (a .status .now) (a .table .now) (a .ends .now) (a .sums .now)
-    (c .before .before .before .before .before .before .before .before .before .before .before .before .before .before .before .before .before .before .before .pre .1) ∙ o .ensures .answer
+    (c .before .before .before .before .before .before .before .before .before .before .before .before .before .before .before .before
+    .before .before .before .pre .1) ∙ o .ensures .answer
     ∙ answer-refused (o .result .refusal) (c .if1 .taken) in
     (rw e, (rw e, (rw e, rw e)))
 
 write-out-requires : tie.Need-write-out-requires
 write-out-requires c κs =
-    let a = c .before .before .before .before .before .before .before .before .before .before .before .before .before .before .before .before .before .before .before .before .before .before .before .before .before .args in
+    let a = c .before .before .before .before .before .before .before .before .before .before .before .before .before .before .before
+    .before .before .before .before .before .before .before .before .before .before .args in
     let o = c .before .before .before .before .before .before .before .before .before .before .before .before .before .before .«open» in
     let f = o .ensures .fits (c .before .before .before .before .before .before .if1 .left) in
-    let l : Lent (a .table .now) (a .ends .now) (a .sums .now) = lent-long _ _ _ (c .before .before .before .before .before .before .before .before .before .before .before .before .before .before .before .before .before .before .before .before .before .before .before .before .before .pre .1) in
-    let r = room-left _ _ _ _ _ _ _ _ _ f (a .rows .now) (a .xs .now) (a .ys .now) (c .before .before .before .before .before .before .before .before .before .before .before .before .before .before .before .before .before .before .before .before .before .before .before .before .before .pre .0) (o .kept .1 .1 .1 .0)
+    let l : Lent (a .table .now) (a .ends .now) (a .sums .now) = lent-long _ _ _ (c .before .before .before .before .before .before
+    .before .before .before .before .before .before .before .before .before .before .before .before .before .before .before .before
+    .before .before .before .pre .1) in
+    let r = room-left _ _ _ _ _ _ _ _ _ f (a .rows .now) (a .xs .now) (a .ys .now) (c .before .before .before .before .before .before
+    .before .before .before .before .before .before .before .before .before .before .before .before .before .before .before .before
+    .before .before .before .pre .0) (o .kept .1 .1 .1 .0)
     (o .kept .1 .1 .1 .1 .0) (o .kept .1 .1 .1 .1 .1 .0) in (
       (f .sound .few, f .sound .most, f .mesh .corners, omega arith),
       (
@@ -55,19 +62,23 @@ add-t19 : tie.Need-add-t19
 add-t19 c = omega (
   arith,
   fits-few _ _ _ _ _ _ _ _ _
-      (c .before .before .before .before .before .before .before .before .before .before .before .before .before .before .before .before .before .before .before .before .before .«open»
+      (c .before .before .before .before .before .before .before .before .before .before .before .before .before .before .before .before
+      .before .before .before .before .before .«open»
       .ensures .fits
       (c .before .before .before .before .before .before .before .before .before .before .before .before .before .if1 .left)),
 )
 
 same-length-4 : tie.Need-same-length-4
-same-length-4 c = c .before .before .before .before .before .before .before .before .before .before .before .before .before .before .before .before .before .before .before .before .before .«open» .kept .1 .1 .1 .0
+same-length-4 c = c .before .before .before .before .before .before .before .before .before .before .before .before .before .before
+    .before .before .before .before .before .before .before .«open» .kept .1 .1 .1 .0
 
 same-length-5 : tie.Need-same-length-5
-same-length-5 c = c .before .before .before .before .before .before .before .before .before .before .before .before .before .before .before .before .before .before .before .before .before .«open» .kept .1 .1 .1 .1 .0
+same-length-5 c = c .before .before .before .before .before .before .before .before .before .before .before .before .before .before
+    .before .before .before .before .before .before .before .«open» .kept .1 .1 .1 .1 .0
 
 same-length-6 : tie.Need-same-length-6
-same-length-6 c = c .before .before .before .before .before .before .before .before .before .before .before .before .before .before .before .before .before .before .before .before .before .«open» .kept .1 .1 .1 .1 .1 .0
+same-length-6 c = c .before .before .before .before .before .before .before .before .before .before .before .before .before .before
+    .before .before .before .before .before .before .before .«open» .kept .1 .1 .1 .1 .1 .0
 
 same-length-7 : tie.Need-same-length-7
 same-length-7 c = search needs
@@ -81,16 +92,23 @@ same-length-9 c = search needs
 returns-2 : tie.Need-returns-2
 unfolding laidOf heldAfter
 returns-2 c =
-    let a = c .before .before .before .before .before .before .before .before .before .before .before .before .before .before .before .before .before .before .before .before .before .before .before .before .before .before .before .before .before .before .before .before .args in
-    let o = c .before .before .before .before .before .before .before .before .before .before .before .before .before .before .before .before .before .before .before .before .before .«open» in
+    let a = c .before .before .before .before .before .before .before .before .before .before .before .before .before .before .before
+    .before .before .before .before .before .before .before .before .before .before .before .before .before .before .before .before
+    .before .args in
+    let o = c .before .before .before .before .before .before .before .before .before .before .before .before .before .before .before
+    .before .before .before .before .before .before .«open» in
     let f = o .ensures .fits
     (c .before .before .before .before .before .before .before .before .before .before .before .before .before .if1 .left) in
     let w = c .before .before .before .before .before .before .write-out .ensures in
-    let r = room-left _ _ _ _ _ _ _ _ _ f (a .rows .now) (a .xs .now) (a .ys .now) (c .before .before .before .before .before .before .before .before .before .before .before .before .before .before .before .before .before .before .before .before .before .before .before .before .before .before .before .before .before .before .before .before .pre .0) (o .kept .1 .1 .1 .0)
+    let r = room-left _ _ _ _ _ _ _ _ _ f (a .rows .now) (a .xs .now) (a .ys .now) (c .before .before .before .before .before .before
+    .before .before .before .before .before .before .before .before .before .before .before .before .before .before .before .before
+    .before .before .before .before .before .before .before .before .before .before .pre .0) (o .kept .1 .1 .1 .0)
     (o .kept .1 .1 .1 .1 .0) (o .kept .1 .1 .1 .1 .1 .0) in
     let e : layoutAnswer (a .positions .now) (a .cells .now) (a .status .now) (a .table .now) (a .ends .now) (a .sums .now) ≡ Accepted =
     layout-long (a .positions .now) (a .cells .now) (a .status .now) (a .table .now) (a .ends .now) (a .sums .now)
-    (c .before .before .before .before .before .before .before .before .before .before .before .before .before .before .before .before .before .before .before .before .before .before .before .before .before .before .before .before .before .before .before .before .pre .1) ∙ o .ensures .answer
+    (c .before .before .before .before .before .before .before .before .before .before .before .before .before .before .before .before
+    .before .before .before .before .before .before .before .before .before .before .before .before .before .before .before .before
+    .pre .1) ∙ o .ensures .answer
     ∙ answer-none (o .result .refusal)
     (c .before .before .before .before .before .before .before .before .before .before .before .before .before .if1 .left) in (
       rw (e, f .sound .counted, f .sound .high, fits-corners _ _ _ _ _ _ _ _ _ f),

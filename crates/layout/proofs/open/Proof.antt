@@ -29,10 +29,15 @@ returns c =
     }
 
 examine-requires : tie.Need-examine-requires
-examine-requires c κs = (mesh-passed (c .before .before .before .before .before .before .before .before .before .before .before .args .positions .now)
-    (c .before .before .before .before .before .before .before .before .before .before .before .args .cells .now)
-    (ap codeOf (sym (c .before .before .before .before .before .examine-mesh .ensures))
-    ∙ sym (c .before .before .before .before .code .ensures) ∙ c .before .before .before .if1 .left) .mesh, c .before .before .before .before .before .before .before .before .before .before .before .pre)
+examine-requires c κs = (
+  mesh-passed (c .before .before .before .before .before .before .before .before .before .before .before .args
+      .positions .now)
+      (c .before .before .before .before .before .before .before .before .before .before .before .args .cells .now)
+      (ap codeOf (sym (c .before .before .before .before .before .examine-mesh .ensures))
+      ∙ sym (c .before .before .before .before .code .ensures) ∙ c .before .before .before .if1 .left) .mesh,
+  c .before .before .before
+      .before .before .before .before .before .before .before .before .pre,
+)
 
 same-length : tie.Need-same-length
 same-length c = search needs
@@ -45,10 +50,13 @@ same-length-3 c = search needs
 
 returns-2 : tie.Need-returns-2
 returns-2 c =
-    let a = c .before .before .before .before .before .before .before .before .before .before .before .before .before .before .before .before .before .before .args in
+    let a = c .before .before .before .before .before .before .before .before .before .before .before .before .before .before .before
+    .before .before .before .args in
     let x = c .before .before .before .before .before .before .examine in
-    let e = ap codeOf (sym (c .before .before .before .before .before .before .before .before .before .before .before .before .examine-mesh .ensures))
-    ∙ sym (c .before .before .before .before .before .before .before .before .before .before .before .code .ensures) ∙ c .before .before .before .before .before .before .before .before .before .before .if1 .left in
+    let e = ap codeOf (sym (c .before .before .before .before .before .before .before .before .before .before .before .before
+    .examine-mesh .ensures))
+    ∙ sym (c .before .before .before .before .before .before .before .before .before .before .before .code .ensures) ∙ c .before .before
+    .before .before .before .before .before .before .before .before .if1 .left in
     let p = mesh-passed (a .positions .now) (a .cells .now) e in
     record {
       answer = table-examined (a .positions .now) (a .cells .now) (a .status .now) (x .result .refusal) e (x .ensures .answer);

@@ -31,7 +31,14 @@ same-length-3 : tie.Need-same-length-3
 same-length-3 c = search needs
 
 returns : tie.Need-returns
-returns c = (c .before .before .before .before .before .before .before .before .before .copy-numbers .ensures, (c .before .before .before .before .before .fill-ends .ensures, c .before .fill-sums .ensures))
+returns c = (
+  c .before .before .before .before .before .before .before .before .before .copy-numbers .ensures,
+  (
+    c .before .before .before
+        .before .before .fill-ends .ensures,
+    c .before .fill-sums .ensures,
+  ),
+)
 
 pub write-out-spec : {M : Type 1} → statement M
 write-out-spec =

@@ -37,21 +37,22 @@ slice-aggregate-examine-5 c = search needs
 examine-requires : tie.Need-examine-requires
 examine-requires c κs = (
   mesh-fits (c .before .before .before .before .before .before .before .before .args .mesh .now)
-    (c .before .before .before .before .before .before .before .before .args .m)
-    (c .before .before .before .before .before .before .before .before .args .n)
-    (c .before .before .before .before .before .before .before .before .args .st .now)
-    (c .before .before .before .before .before .before .before .before .args .r)
-    (omega (arith, c .before .before .before .before .before .before .cells)) (omega
-    (arith, c .before .before .before .before .before .status)) (c .before .before .before .before .before .before .before .before .pre .0
-    .1) (c .before .before .before .before .before .before .before .before .pre .0 .3)
-    (c .before .before .before .before .before .before .before .before .pre .0 .0)
-    (c .before .before .before .before .before .before .before .before .pre .0 .2)
-    (c .before .before .before .before .before .before .before .before .pre .1),
+      (c .before .before .before .before .before .before .before .before .args .m)
+      (c .before .before .before .before .before .before .before .before .args .n)
+      (c .before .before .before .before .before .before .before .before .args .st .now)
+      (c .before .before .before .before .before .before .before .before .args .r)
+      (omega (arith, c .before .before .before .before .before .before .cells)) (omega
+      (arith, c .before .before .before .before .before .status)) (c .before .before .before .before .before .before .before .before .pre .0
+      .1) (c .before .before .before .before .before .before .before .before .pre .0 .3)
+      (c .before .before .before .before .before .before .before .before .pre .0 .0)
+      (c .before .before .before .before .before .before .before .before .pre .0 .2)
+      (c .before .before .before .before .before .before .before .before .pre .1),
   λ h. record { in-coarse = omega arith; in-rows = omega (arith, h); in-ps = omega (arith, h); in-qs = omega (arith, h) },
 )
 
 returns : tie.Need-returns
-returns c = finish-none (c .before .before .before .before .before .before .before .before .before .before .before .before .before .before .args .mesh .now)
+returns c = finish-none (c .before .before .before .before .before .before .before .before .before .before .before .before .before .before
+    .args .mesh .now)
     (c .before .before .before .before .before .before .before .before .before .before .before .before .before .before .args .m)
     (c .before .before .before .before .before .before .before .before .before .before .before .before .before .before .args .n)
     (c .before .before .before .before .before .before .before .before .before .before .before .before .before .before .args .st .now)
@@ -59,7 +60,8 @@ returns c = finish-none (c .before .before .before .before .before .before .befo
     (omega (arith, c .before .before .before .before .before .before .before .before .before .before .before .before .cells))
     (omega (arith, c .before .before .before .before .before .before .before .before .before .before .before .status))
     (c .before .before .before .before .before .before .before .before .before .before .before .before .before .before .pre .0 .1)
-    (c .before .before .before .before .before .before .before .before .before .before .before .before .before .before .pre .0 .3) _ _ _ _ _ _ _ _
+    (c .before .before .before .before .before .before .before .before .before .before .before .before .before .before .pre .0 .3) _ _ _ _
+    _ _ _ _
     (c .before .before .before .before .before .examine .ensures) (c .if1 .taken)
 
 copy-bytes-requires : tie.Need-copy-bytes-requires
@@ -80,13 +82,23 @@ same-length : tie.Need-same-length
 same-length c = search needs
 
 returns-2 : tie.Need-returns-2
-returns-2 c = finish-all (c .before .before .before .before .before .before .before .before .before .before .before .before .before .before .before .before .before .before .args .mesh .now) (c .before .before .before .before .before .before .before .before .before .before .before .before .before .before .before .before .before .before .args .m) (c .before .before .before .before .before .before .before .before .before .before .before .before .before .before .before .before .before .before .args .n) (c .before .before .before .before .before .before .before .before .before .before .before .before .before .before .before .before .before .before .args .st .now) (c .before .before .before .before .before .before .before .before .before .before .before .before .before .before .before .before .before .before .args .r) (omega (
+returns-2 c = finish-all (c .before .before .before .before .before .before .before .before .before .before .before .before .before
+    .before .before .before .before .before .args .mesh .now) (c .before .before .before .before .before .before .before .before .before
+    .before .before .before .before .before .before .before .before .before .args .m) (c .before .before .before .before .before .before
+    .before .before .before .before .before .before .before .before .before .before .before .before .args .n) (c .before .before .before
+    .before .before .before .before .before .before .before .before .before .before .before .before .before .before .before .args .st
+    .now) (c .before .before .before .before .before .before .before .before .before .before .before .before .before .before .before
+    .before .before .before .args .r) (omega (
       arith,
-      c .before .before .before .before .before .before .before .before .before .before .before .before .before .before .before .before .cells,
+      c .before .before .before .before .before .before .before .before .before .before .before .before .before .before .before .before
+          .cells,
     )) (omega (
       arith,
       c .before .before .before .before .before .before .before .before .before .before .before .before .before .before .before .status,
-    )) (c .before .before .before .before .before .before .before .before .before .before .before .before .before .before .before .before .before .before .pre .0 .1) (c .before .before .before .before .before .before .before .before .before .before .before .before .before .before .before .before .before .before .pre .0 .3) _ _ _ _ _ _ _ _ (c .before .before .before .before .before .before .before .before .before .examine .ensures)
+    )) (c .before .before .before .before .before .before .before .before .before .before .before .before .before .before .before .before
+    .before .before .pre .0 .1) (c .before .before .before .before .before .before .before .before .before .before .before .before
+    .before .before .before .before .before .before .pre .0 .3) _ _ _ _ _ _ _ _ (c .before .before .before .before .before .before
+    .before .before .before .examine .ensures)
     (c .before .before .before .before .if1 .left) _ (c .before .before .copy-bytes .ensures)
 
 pub finish-spec : {M : Type 1} → statement M

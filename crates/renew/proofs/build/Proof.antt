@@ -25,7 +25,14 @@ abbrev μ-loop : tie.MeasureT-loop
     rows ps qs table xs ys heads links mid-heads mid-links old first last level k m = 11 - level
 
 lay-coarse-requires : tie.Need-lay-coarse-requires Inv-loop μ-loop
-lay-coarse-requires c κs = (record { whole = c .before .before .before .before .before .before .pre .0 .whole; few = c .before .before .before .before .before .before .pre .0 .few }, omega (arith, c .lay-coarse-arg))
+lay-coarse-requires c κs = (
+  record {
+    whole = c .before .before .before .before .before .before .pre .0 .whole;
+    few = c .before .before
+        .before .before .before .before .pre .0 .few;
+  },
+  omega (arith, c .lay-coarse-arg),
+)
 
 old-coarse-requires : tie.Need-old-coarse-requires Inv-loop μ-loop
 old-coarse-requires c κs =
@@ -44,7 +51,8 @@ loop-holds c =
     (c .before .before .before .before .before .before .before .before .before .pre .0) (i .result)
     (i .ensures .0) (a .xs .now) (a .ys .now) (a .heads .now) (a .links .now)
     (a .ps .now) (a .qs .now) (a .mid-heads .now) (a .mid-links .now)
-    (c .before .before .before .before .before .before .before .before .before .pre .1 .1 .1 .1 .1 .0) (c .before .before .before .before .before .before .before .before .before .pre .1 .1 .1 .1 .1 .1) (i .last .1 .0)
+    (c .before .before .before .before .before .before .before .before .before .pre .1 .1 .1 .1 .1 .0) (c .before .before .before .before
+    .before .before .before .before .before .pre .1 .1 .1 .1 .1 .1) (i .last .1 .0)
     (i .ensures .1) (a .status .now) (a .red .now) (a .old .now) (o .last .1 .0) (a .table .now) (o .ensures) (omega arith)
 
 make-level-requires : tie.Need-make-level-requires Inv-loop μ-loop
@@ -70,8 +78,10 @@ add-t46 c = omega
 
 returns : tie.Need-returns Inv-loop μ-loop
 returns c =
-    let a = c .before .before .before .before .before .before .before .before .before .before .before .before .before .before .before .before .before .before .before .before .before .before .args in
-    let p = c .before .before .before .before .before .before .before .before .before .before .before .before .before .before .before .before .before .before .before .before .before .before .pre in
+    let a = c .before .before .before .before .before .before .before .before .before .before .before .before .before .before .before
+    .before .before .before .before .before .before .before .args in
+    let p = c .before .before .before .before .before .before .before .before .before .before .before .before .before .before .before
+    .before .before .before .before .before .before .before .pre in
     let l = c .before .before .before .before .before .before .before .before .before .before .before .before .loop in
     let t = c .before .before .make-level in
     result-end (a .n) (fours (a .mesh .now)) (a .status .now) (a .red .now) (l .level) (l .first) (l .last) (l .rows) (l .xs) (l .ys)
@@ -87,8 +97,10 @@ refused-requires c κs = search needs
 
 returns-2 : tie.Need-returns-2 Inv-loop μ-loop
 returns-2 c =
-    let a = c .before .before .before .before .before .before .before .before .before .before .before .before .before .before .before .before .before .before .before .before .before .before .before .before .args in
-    let p = c .before .before .before .before .before .before .before .before .before .before .before .before .before .before .before .before .before .before .before .before .before .before .before .before .pre in
+    let a = c .before .before .before .before .before .before .before .before .before .before .before .before .before .before .before
+    .before .before .before .before .before .before .before .before .before .args in
+    let p = c .before .before .before .before .before .before .before .before .before .before .before .before .before .before .before
+    .before .before .before .before .before .before .before .before .before .pre in
     let l = c .before .before .before .before .before .before .before .before .before .before .before .before .before .before .loop in
     let t = c .before .before .before .before .make-level in
     result-high (a .n) (fours (a .mesh .now)) (a .status .now) (a .red .now) (l .rows) (l .ps) (l .qs) (t .last .1 .1 .1 .1 .1 .0) _ _ _ _
@@ -108,9 +120,12 @@ refused-requires-2 c κs = search needs
 
 returns-3 : tie.Need-returns-3 Inv-loop μ-loop
 returns-3 c =
-    let a = c .before .before .before .before .before .before .before .before .before .before .before .before .before .before .before .before .before .before .before .before .before .before .before .before .before .before .args in
-    let p = c .before .before .before .before .before .before .before .before .before .before .before .before .before .before .before .before .before .before .before .before .before .before .before .before .before .before .pre in
-    let l = c .before .before .before .before .before .before .before .before .before .before .before .before .before .before .before .before .loop in
+    let a = c .before .before .before .before .before .before .before .before .before .before .before .before .before .before .before
+    .before .before .before .before .before .before .before .before .before .before .before .args in
+    let p = c .before .before .before .before .before .before .before .before .before .before .before .before .before .before .before
+    .before .before .before .before .before .before .before .before .before .before .before .pre in
+    let l = c .before .before .before .before .before .before .before .before .before .before .before .before .before .before .before
+    .before .loop in
     let t = c .before .before .before .before .before .before .make-level in
     result-many (a .n) (fours (a .mesh .now)) (a .status .now) (a .red .now) (l .rows) (l .ps) (l .qs) (t .last .1 .1 .1 .1 .1 .0) _ _ _ _
     (c .refused2 .ensures .0)
@@ -123,20 +138,27 @@ returns-3 c =
 add-grow-level : tie.Need-add-grow-level Inv-loop μ-loop
 add-grow-level c = omega (
   arith,
-  c .before .before .before .before .before .before .before .before .before .before .before .before .before .before .before .before .before .before .loop .inv .here .low,
+  c .before .before .before .before .before .before .before .before .before .before .before .before .before .before .before .before
+      .before .before .loop .inv .here .low,
 )
 
 cast-grow-level : tie.Need-cast-grow-level Inv-loop μ-loop
 cast-grow-level c = omega (
   arith,
-  c .before .before .before .before .before .before .before .before .before .before .before .before .before .before .before .before .before .before .loop .inv .here .low,
+  c .before .before .before .before .before .before .before .before .before .before .before .before .before .before .before .before
+      .before .before .loop .inv .here .low,
 )
 
 grow-level-requires : tie.Need-grow-level-requires Inv-loop μ-loop
 grow-level-requires c κs =
-    let a = c .before .before .before .before .before .before .before .before .before .before .before .before .before .before .before .before .before .before .before .before .before .before .before .before .before .before .before .before .before .before .before .before .args in
-    let p = c .before .before .before .before .before .before .before .before .before .before .before .before .before .before .before .before .before .before .before .before .before .before .before .before .before .before .before .before .before .before .before .before .pre in
-    let l = c .before .before .before .before .before .before .before .before .before .before .before .before .before .before .before .before .before .before .before .before .before .before .loop in
+    let a = c .before .before .before .before .before .before .before .before .before .before .before .before .before .before .before
+    .before .before .before .before .before .before .before .before .before .before .before .before .before .before .before .before
+    .before .args in
+    let p = c .before .before .before .before .before .before .before .before .before .before .before .before .before .before .before
+    .before .before .before .before .before .before .before .before .before .before .before .before .before .before .before .before
+    .before .pre in
+    let l = c .before .before .before .before .before .before .before .before .before .before .before .before .before .before .before
+    .before .before .before .before .before .before .before .loop in
     let t = c .before .before .before .before .before .before .before .before .before .before .before .before .make-level in
     let h = l .inv .here in (
       room-next (a .n) (fours (a .mesh .now)) (a .status .now) (a .red .now) (l .level) (l .first) (l .last) (l .rows) (l .xs) (l .ys)
@@ -145,11 +167,13 @@ grow-level-requires c κs =
           (t .last .1 .1 .1 .1 .1 .1 .1 .1 .1 .0) (t .result .n) (t .result .size) (t .ensures)
           (omega (
             arith,
-            c .before .before .before .before .before .before .before .before .before .before .before .before .before .before .before .before .before .before .make-level-arg4,
+            c .before .before .before .before .before .before .before .before .before .before .before .before .before .before .before
+                .before .before .before .make-level-arg4,
           ))
           (omega (
             arith,
-            c .before .before .before .before .before .before .before .before .before .before .before .before .before .before .before .before .before .make-level-arg5,
+            c .before .before .before .before .before .before .before .before .before .before .before .before .before .before .before
+                .before .before .make-level-arg5,
           ))
           (omega (arith, c .before .before .before .before .before .before .before .if3 .left, h .few)) (p .0 .corners)
           (omega (arith, h .few, c .before .before .before .before .grow-level-arg3))
@@ -161,19 +185,28 @@ grow-level-requires c κs =
 
 old-level-requires : tie.Need-old-level-requires Inv-loop μ-loop
 old-level-requires c κs =
-    let a = c .before .before .before .before .before .before .before .before .before .before .before .before .before .before .before .before .before .before .before .before .before .before .before .before .before .before .before .before .before .before .before .before .before .before .before .before .args in
-    let p = c .before .before .before .before .before .before .before .before .before .before .before .before .before .before .before .before .before .before .before .before .before .before .before .before .before .before .before .before .before .before .before .before .before .before .before .before .pre in
-    let l = c .before .before .before .before .before .before .before .before .before .before .before .before .before .before .before .before .before .before .before .before .before .before .before .before .before .before .loop in
-    let t = c .before .before .before .before .before .before .before .before .before .before .before .before .before .before .before .before .make-level in
-    let i = c .before .before .before .before .before .before .before .before .before .before .before .before .before .before .before .before .before .before .before .before .before .before .before .before .before .before .before .before .before .lay-coarse in
+    let a = c .before .before .before .before .before .before .before .before .before .before .before .before .before .before .before
+    .before .before .before .before .before .before .before .before .before .before .before .before .before .before .before .before
+    .before .before .before .before .before .args in
+    let p = c .before .before .before .before .before .before .before .before .before .before .before .before .before .before .before
+    .before .before .before .before .before .before .before .before .before .before .before .before .before .before .before .before
+    .before .before .before .before .before .pre in
+    let l = c .before .before .before .before .before .before .before .before .before .before .before .before .before .before .before
+    .before .before .before .before .before .before .before .before .before .before .before .loop in
+    let t = c .before .before .before .before .before .before .before .before .before .before .before .before .before .before .before
+    .before .make-level in
+    let i = c .before .before .before .before .before .before .before .before .before .before .before .before .before .before .before
+    .before .before .before .before .before .before .before .before .before .before .before .before .before .before .lay-coarse in
     let h = l .inv .here in
     let io : 4096 ≤ length (l .old) = omega (
       arith,
-      c .before .before .before .before .before .before .before .before .before .before .before .before .before .before .before .before .before .before .before .before .before .before .make-level-arg4,
+      c .before .before .before .before .before .before .before .before .before .before .before .before .before .before .before .before
+          .before .before .before .before .before .before .make-level-arg4,
     ) in
     let it : 4096 ≤ length (l .table) = omega (
       arith,
-      c .before .before .before .before .before .before .before .before .before .before .before .before .before .before .before .before .before .before .before .before .before .make-level-arg5,
+      c .before .before .before .before .before .before .before .before .before .before .before .before .before .before .before .before
+          .before .before .before .before .before .make-level-arg5,
     ) in
     let z = room-sizes (a .n) (fours (a .mesh .now)) (a .status .now) (a .red .now) (l .level) (l .first) (l .last) (l .rows) (l .xs)
     (l .ys) (l .heads) (l .links) (l .k) (l .ps) (l .qs) (l .mid-heads) (l .mid-links) (l .m) (l .old) (l .table) (l .inv)
@@ -203,22 +236,32 @@ old-level-requires c κs =
 add-level : tie.Need-add-level Inv-loop μ-loop
 add-level c = omega (
   arith,
-  c .before .before .before .before .before .before .before .before .before .before .before .before .before .before .before .before .before .before .before .before .before .before .before .before .before .before .before .loop .inv .here .low,
+  c .before .before .before .before .before .before .before .before .before .before .before .before .before .before .before .before
+      .before .before .before .before .before .before .before .before .before .before .before .loop .inv .here .low,
 )
 
 loop-less : tie.Need-loop-less Inv-loop μ-loop
 loop-less c = omega (
   arith,
-  c .before .before .before .before .before .before .before .before .before .before .before .before .before .before .before .before .before .before .before .before .before .before .before .before .before .before .before .loop .inv .here .low,
+  c .before .before .before .before .before .before .before .before .before .before .before .before .before .before .before .before
+      .before .before .before .before .before .before .before .before .before .before .before .loop .inv .here .low,
 )
 
 loop-again : tie.Need-loop-again Inv-loop μ-loop
 loop-again c =
-    let a = c .before .before .before .before .before .before .before .before .before .before .before .before .before .before .before .before .before .before .before .before .before .before .before .before .before .before .before .before .before .before .before .before .before .before .before .before .before .args in
-    let p = c .before .before .before .before .before .before .before .before .before .before .before .before .before .before .before .before .before .before .before .before .before .before .before .before .before .before .before .before .before .before .before .before .before .before .before .before .before .pre in
-    let l = c .before .before .before .before .before .before .before .before .before .before .before .before .before .before .before .before .before .before .before .before .before .before .before .before .before .before .before .loop in
-    let t = c .before .before .before .before .before .before .before .before .before .before .before .before .before .before .before .before .before .make-level in
-    let i = c .before .before .before .before .before .before .before .before .before .before .before .before .before .before .before .before .before .before .before .before .before .before .before .before .before .before .before .before .before .before .lay-coarse in
+    let a = c .before .before .before .before .before .before .before .before .before .before .before .before .before .before .before
+    .before .before .before .before .before .before .before .before .before .before .before .before .before .before .before .before
+    .before .before .before .before .before .before .args in
+    let p = c .before .before .before .before .before .before .before .before .before .before .before .before .before .before .before
+    .before .before .before .before .before .before .before .before .before .before .before .before .before .before .before .before
+    .before .before .before .before .before .before .pre in
+    let l = c .before .before .before .before .before .before .before .before .before .before .before .before .before .before .before
+    .before .before .before .before .before .before .before .before .before .before .before .before .loop in
+    let t = c .before .before .before .before .before .before .before .before .before .before .before .before .before .before .before
+    .before .before .make-level in
+    let i = c .before .before .before .before .before .before .before .before .before .before .before .before .before .before .before
+    .before .before .before .before .before .before .before .before .before .before .before .before .before .before .before
+    .lay-coarse in
     let g = c .before .before .before .before .grow-level in
     let o = c .old-level in
     rw (add-one (l .level)) (going-next (a .n) (fours (a .mesh .now)) (a .status .now) (a .red .now) (l .level) (l .first) (l .last)
@@ -228,11 +271,13 @@ loop-again c =
     (t .last .1 .1 .1 .1 .1 .1 .1 .1 .1 .0) (t .result .n) (t .result .size) (t .ensures)
     (omega (
       arith,
-      c .before .before .before .before .before .before .before .before .before .before .before .before .before .before .before .before .before .before .before .before .before .before .before .make-level-arg4,
+      c .before .before .before .before .before .before .before .before .before .before .before .before .before .before .before .before
+          .before .before .before .before .before .before .before .make-level-arg4,
     ))
     (omega (
       arith,
-      c .before .before .before .before .before .before .before .before .before .before .before .before .before .before .before .before .before .before .before .before .before .before .make-level-arg5,
+      c .before .before .before .before .before .before .before .before .before .before .before .before .before .before .before .before
+          .before .before .before .before .before .before .make-level-arg5,
     ))
     (omega (
       arith,
@@ -244,7 +289,8 @@ loop-again c =
     (c .before .before .before .before .before .before .before .before .before .before .before .before .before .before .if2 .left)
     (omega (
       arith,
-      c .before .before .before .before .before .before .before .before .before .before .before .before .before .before .before .before .before .before .before .before .before .before .before .before .before .make-level-arg2,
+      c .before .before .before .before .before .before .before .before .before .before .before .before .before .before .before .before
+          .before .before .before .before .before .before .before .before .before .make-level-arg2,
     ))
     (g .last .0) (g .last .1 .1 .1 .1 .1 .1 .1 .0) (g .last .1 .1 .1 .1 .1 .1 .1 .1 .0) (g .last .1 .1 .1 .1 .1 .1 .1 .1 .1 .0)
     (g .last .1 .1 .1 .1 .1 .1 .1 .1 .1 .1 .0) (g .result .at) (g .result .m) (rw (add-one (l .level)) at (g .ensures))

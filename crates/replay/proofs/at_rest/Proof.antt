@@ -28,7 +28,8 @@ open-requires : tie.Need-open-requires
 open-requires c κs = search needs
 
 returns : tie.Need-returns
-returns c = rested _ _ _ (c .before .before .before .before .before .before .before .before .before .before .before .few .ensures .1) _ _ _ _ _ _ _ _ _
+returns c = rested _ _ _ (c .before .before .before .before .before .before .before .before .before .before .before .few .ensures .1) _ _
+    _ _ _ _ _ _ _
     (c .before .before .before .before .before .before .before .before .before .clear .ensures)
     (c .before .before .before .before .before .before .before .before .before .before .before .few .ensures .0)
     (omega (arith, c .before .before .before .before .before .before .before .status2)) (c .before .before .«open» .ensures)

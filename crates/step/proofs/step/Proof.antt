@@ -41,7 +41,8 @@ returns-2 c =
     let new = newTable (cornerCount (a .positions .now)) (fours (a .cells .now)) (a .status .now) (a .marks .now) in
     let o = c .before .before .before .before .before .«open» in
     refused-so ans new (a .table .now) (o .result .refusal) (step-table (a .positions .now) (a .cells .now) (a .status .now) (a .marks .now)
-    (a .table .now) (omega (arith, c .before .before .before .before .before .before .before .before .before .if1 .left)) (o .result .refusal)
+    (a .table .now) (omega (arith, c .before .before .before .before .before .before .before .before .before .if1 .left)) (o .result
+    .refusal)
     (o .ensures .answer) (c .if2 .taken))
 
 marks-fit-requires : tie.Need-marks-fit-requires
@@ -49,12 +50,14 @@ marks-fit-requires c κs = search needs
 
 returns-3 : tie.Need-returns-3
 returns-3 c =
-    let a = c .before .before .before .before .before .before .before .before .before .before .before .before .before .before .before .before .args in
+    let a = c .before .before .before .before .before .before .before .before .before .before .before .before .before .before .before
+    .before .args in
     let ans = stepAnswer (a .positions .now) (a .cells .now) (a .status .now) (a .marks .now) (a .table .now) in
     let new = newTable (cornerCount (a .positions .now)) (fours (a .cells .now)) (a .status .now) (a .marks .now) in
     let o = c .before .before .before .before .before .before .before .«open» in
     refused-so ans new (a .table .now) 7 (step-marks (a .positions .now) (a .cells .now) (a .status .now) (a .marks .now) (a .table .now)
-    (omega (arith, c .before .before .before .before .before .before .before .before .before .before .before .if1 .left)) (o .result .refusal)
+    (omega (arith, c .before .before .before .before .before .before .before .before .before .before .before .if1 .left)) (o .result
+    .refusal)
     (o .ensures .answer) (omega (arith, c .before .before .if2 .left)) (sym (c .before .marks-fit .ensures)
     ∙ not-true _ (c .if3 .taken)))
 
@@ -68,10 +71,12 @@ advance-requires : tie.Need-advance-requires
 advance-requires c κs =
     let
     a =
-    c .before .before .before .before .before .before .before .before .before .before .before .before .before .before .before .before .before .before .before .before .before .before .before .before .before .before .before .before .before .args in
+    c .before .before .before .before .before .before .before .before .before .before .before .before .before .before .before .before
+    .before .before .before .before .before .before .before .before .before .before .before .before .before .args in
     let
     o =
-    c .before .before .before .before .before .before .before .before .before .before .before .before .before .before .before .before .before .before .before .before .«open» in
+    c .before .before .before .before .before .before .before .before .before .before .before .before .before .before .before .before
+    .before .before .before .before .«open» in
     let z : o .result .refusal ≡ 0 = omega (
       arith,
       c .before .before .before .before .before .before .before .before .before .before .before .before .before .before .before .if2 .left,
@@ -94,24 +99,30 @@ returns-4 : tie.Need-returns-4
 returns-4 c =
     let
     a =
-    c .before .before .before .before .before .before .before .before .before .before .before .before .before .before .before .before .before .before .before .before .before .before .before .before .before .before .before .before .before .before .before .before .args in
+    c .before .before .before .before .before .before .before .before .before .before .before .before .before .before .before .before
+    .before .before .before .before .before .before .before .before .before .before .before .before .before .before .before .before
+    .args in
     let ans = stepAnswer (a .positions .now) (a .cells .now) (a .status .now) (a .marks .now) (a .table .now) in
     let new = newTable (cornerCount (a .positions .now)) (fours (a .cells .now)) (a .status .now) (a .marks .now) in
     let
     o =
-    c .before .before .before .before .before .before .before .before .before .before .before .before .before .before .before .before .before .before .before .before .before .before .before .«open» in
+    c .before .before .before .before .before .before .before .before .before .before .before .before .before .before .before .before
+    .before .before .before .before .before .before .before .«open» in
     let r = c .before .before .advance in
     let m = step-limits (a .positions .now) (a .cells .now) (a .status .now) (a .marks .now) (a .table .now)
     (omega (
       arith,
-      c .before .before .before .before .before .before .before .before .before .before .before .before .before .before .before .before .before .before .before .before .before .before .before .before .before .before .before .if1 .left,
+      c .before .before .before .before .before .before .before .before .before .before .before .before .before .before .before .before
+          .before .before .before .before .before .before .before .before .before .before .before .if1 .left,
     )) (o .result .refusal) (o .ensures .answer)
     (omega (
       arith,
-      c .before .before .before .before .before .before .before .before .before .before .before .before .before .before .before .before .before .before .if2 .left,
+      c .before .before .before .before .before .before .before .before .before .before .before .before .before .before .before .before
+          .before .before .if2 .left,
     ))
     (sym
-    (c .before .before .before .before .before .before .before .before .before .before .before .before .before .before .before .before .before .marks-fit .ensures)
+    (c .before .before .before .before .before .before .before .before .before .before .before .before .before .before .before .before
+    .before .marks-fit .ensures)
     ∙ not-false _
     (c .before .before .before .before .before .before .before .before .before .before .before .before .before .before .before .before .if3
     .left)) in
@@ -126,7 +137,8 @@ hand-out-requires c κs =
       omega (
         arith,
         few,
-        c .before .before .before .before .before .before .before .before .before .before .before .before .before .before .before .before .before .before .before .before .before .before .before .before .before .before .before .before .before .if1 .left,
+        c .before .before .before .before .before .before .before .before .before .before .before .before .before .before .before .before
+            .before .before .before .before .before .before .before .before .before .before .before .before .before .if1 .left,
       ),
     )
 
@@ -137,28 +149,36 @@ returns-5 : tie.Need-returns-5
 returns-5 c =
     let
     a =
-    c .before .before .before .before .before .before .before .before .before .before .before .before .before .before .before .before .before .before .before .before .before .before .before .before .before .before .before .before .before .before .before .before .before .before .before .before .before .args in
+    c .before .before .before .before .before .before .before .before .before .before .before .before .before .before .before .before
+    .before .before .before .before .before .before .before .before .before .before .before .before .before .before .before .before
+    .before .before .before .before .before .args in
     let ans = stepAnswer (a .positions .now) (a .cells .now) (a .status .now) (a .marks .now) (a .table .now) in
     let new = newTable (cornerCount (a .positions .now)) (fours (a .cells .now)) (a .status .now) (a .marks .now) in
     let
     o =
-    c .before .before .before .before .before .before .before .before .before .before .before .before .before .before .before .before .before .before .before .before .before .before .before .before .before .before .before .before .«open» in
+    c .before .before .before .before .before .before .before .before .before .before .before .before .before .before .before .before
+    .before .before .before .before .before .before .before .before .before .before .before .before .«open» in
     let r = c .before .before .before .before .before .before .before .advance in
     let z : r .result .refusal ≡ 0 = omega (arith, c .before .before .before .before .before .if4 .left) in
     let m = step-limits (a .positions .now) (a .cells .now) (a .status .now) (a .marks .now) (a .table .now)
     (omega (
       arith,
-      c .before .before .before .before .before .before .before .before .before .before .before .before .before .before .before .before .before .before .before .before .before .before .before .before .before .before .before .before .before .before .before .before .if1
+      c .before .before .before .before .before .before .before .before .before .before .before .before .before .before .before .before
+          .before .before .before .before .before .before .before .before .before .before .before .before .before .before .before .before
+          .if1
           .left,
     )) (o .result .refusal) (o .ensures .answer)
     (omega (
       arith,
-      c .before .before .before .before .before .before .before .before .before .before .before .before .before .before .before .before .before .before .before .before .before .before .before .if2 .left,
+      c .before .before .before .before .before .before .before .before .before .before .before .before .before .before .before .before
+          .before .before .before .before .before .before .before .if2 .left,
     ))
     (sym
-    (c .before .before .before .before .before .before .before .before .before .before .before .before .before .before .before .before .before .before .before .before .before .before .marks-fit .ensures)
+    (c .before .before .before .before .before .before .before .before .before .before .before .before .before .before .before .before
+    .before .before .before .before .before .before .marks-fit .ensures)
     ∙ not-false _
-    (c .before .before .before .before .before .before .before .before .before .before .before .before .before .before .before .before .before .before .before .before .before .if3 .left)) in
+    (c .before .before .before .before .before .before .before .before .before .before .before .before .before .before .before .before
+    .before .before .before .before .before .if3 .left)) in
     accepted-so ans new (a .table .now) (r .result .cells) _ _ (m ∙ r .ensures .answer ∙ answer-none (r .result .refusal) z)
     (r .ensures .counted z) (r .ensures .table-is z) (c .before .before .hand-out .ensures)
 

@@ -19,20 +19,30 @@ use Rattle.tables.proofs.build.Tie as tie
 use lib.ListN.{length}
 
 abbrev Inv-loop : tie.InvT-loop
-Inv-loop mesh status n rows₀ ps₀ qs₀ xs₀ ys₀ links₀ mid-links₀ heads₀ mid-heads₀ digits coarse first₀ last₀ level₀ k₀ m₀ rows ps qs xs ys links
+Inv-loop mesh status n rows₀ ps₀ qs₀ xs₀ ys₀ links₀ mid-links₀ heads₀ mid-heads₀ digits coarse first₀ last₀ level₀ k₀ m₀ rows ps qs xs ys
+    links
     mid-links heads mid-heads first last level k m = SameLengths rows₀ ps₀ qs₀ xs₀ ys₀ heads₀ links₀ mid-heads₀ mid-links₀ rows ps qs xs ys
     heads links mid-heads mid-links
     × Here n (fours mesh) status level first last rows xs ys heads links k ps qs mid-heads mid-links m
 
 abbrev μ-loop : tie.MeasureT-loop
-μ-loop mesh status n rows₀ ps₀ qs₀ xs₀ ys₀ links₀ mid-links₀ heads₀ mid-heads₀ digits coarse first₀ last₀ level₀ k₀ m₀ rows ps qs xs ys links
+μ-loop mesh status n rows₀ ps₀ qs₀ xs₀ ys₀ links₀ mid-links₀ heads₀ mid-heads₀ digits coarse first₀ last₀ level₀ k₀ m₀ rows ps qs xs ys
+    links
     mid-links heads mid-heads first last level k m = 11 - level
 
 digit-table-requires : tie.Need-digit-table-requires Inv-loop μ-loop
 digit-table-requires c κs = search needs
 
 lay-coarse-requires : tie.Need-lay-coarse-requires Inv-loop μ-loop
-lay-coarse-requires c κs = (record { whole = c .before .before .before .before .before .before .before .before .before .before .before .pre .0 .whole; few = c .before .before .before .before .before .before .before .before .before .before .before .pre .0 .few }, c .before .before .before .before .before .before .before .before .before .before .before .pre .1 .1 .0 .in-coarse)
+lay-coarse-requires c κs = (
+  record {
+    whole = c .before .before .before .before .before .before .before .before .before .before .before
+        .pre .0 .whole;
+    few = c .before .before .before .before .before .before .before .before .before .before .before .pre .0 .few;
+  },
+  c
+      .before .before .before .before .before .before .before .before .before .before .before .pre .1 .1 .0 .in-coarse,
+)
 
 loop-holds : tie.Need-loop-holds Inv-loop μ-loop
 loop-holds c =
@@ -62,14 +72,22 @@ check-level-requires : tie.Need-check-level-requires Inv-loop μ-loop
 check-level-requires c κs =
     let w = c .before .before .before .before .before .loop .inv .0 in
     let h = c .before .before .before .before .before .loop .inv .1 in
-    let r = c .before .before .before .before .before .before .before .before .before .before .before .before .before .before .before .before .before .before .before .before .pre .1 .1 in (
-      c .before .before .before .before .before .before .before .before .before .before .before .before .before .before .before .before .before .before .before .before .pre .1 .0,
+    let r = c .before .before .before .before .before .before .before .before .before .before .before .before .before .before .before
+    .before .before .before .before .before .pre .1 .1 in (
+      c .before .before .before .before .before .before .before .before .before .before .before .before .before .before .before .before
+          .before .before .before .before .pre .1 .0,
       (
         h .reds,
         (
           omega (arith, h .end),
           (
-            omega (arith, r .0 .in-rows, w .of-rows, c .before .before .before .before .before .before .before .before .lay-coarse .kept .1 .0),
+            omega (
+              arith,
+              r .0 .in-rows,
+              w .of-rows,
+              c .before .before .before .before .before .before .before .before .lay-coarse .kept
+                  .1 .0,
+            ),
             record {
               in-xs = omega (arith, r .1 .in-xs, w .of-xs);
               in-ys = omega (arith, r .1 .in-ys, w .of-ys);
@@ -84,35 +102,50 @@ refused-requires : tie.Need-refused-requires Inv-loop μ-loop
 refused-requires c κs = search needs
 
 same-length : tie.Need-same-length Inv-loop μ-loop
-same-length c = c .before .before .before .before .before .before .before .before .before .before .before .before .before .before .before .before .loop .inv .0 .of-rows ∙ c .before .before .before .before .before .before .before .before .before .before .before .before .before .before .before .before .before .before .before .lay-coarse .kept .1 .0
+same-length c = c .before .before .before .before .before .before .before .before .before .before .before .before .before .before .before
+    .before .loop .inv .0 .of-rows ∙ c .before .before .before .before .before .before .before .before .before .before .before .before
+    .before .before .before .before .before .before .before .lay-coarse .kept .1 .0
 
 same-length-2 : tie.Need-same-length-2 Inv-loop μ-loop
-same-length-2 c = c .before .before .before .before .before .before .before .before .before .before .before .before .before .before .before .before .loop .inv .0 .of-ps
+same-length-2 c = c .before .before .before .before .before .before .before .before .before .before .before .before .before .before
+    .before .before .loop .inv .0 .of-ps
 
 same-length-3 : tie.Need-same-length-3 Inv-loop μ-loop
-same-length-3 c = c .before .before .before .before .before .before .before .before .before .before .before .before .before .before .before .before .loop .inv .0 .of-qs
+same-length-3 c = c .before .before .before .before .before .before .before .before .before .before .before .before .before .before
+    .before .before .loop .inv .0 .of-qs
 
 same-length-4 : tie.Need-same-length-4 Inv-loop μ-loop
-same-length-4 c = c .before .before .before .before .before .before .before .before .before .before .check-level .kept .1 .1 .1 .1 .0 ∙ c .before .before .before .before .before .before .before .before .before .before .before .before .before .before .before .before .loop .inv .0 .of-xs
+same-length-4 c = c .before .before .before .before .before .before .before .before .before .before .check-level .kept .1 .1 .1 .1 .0 ∙ c
+    .before .before .before .before .before .before .before .before .before .before .before .before .before .before .before .before .loop
+    .inv .0 .of-xs
 
 same-length-5 : tie.Need-same-length-5 Inv-loop μ-loop
-same-length-5 c = c .before .before .before .before .before .before .before .before .before .before .check-level .kept .1 .1 .1 .1 .1 .0 ∙ c .before .before .before .before .before .before .before .before .before .before .before .before .before .before .before .before .loop .inv .0 .of-ys
+same-length-5 c = c .before .before .before .before .before .before .before .before .before .before .check-level .kept .1 .1 .1 .1 .1 .0 ∙
+    c .before .before .before .before .before .before .before .before .before .before .before .before .before .before .before .before
+    .loop .inv .0 .of-ys
 
 same-length-6 : tie.Need-same-length-6 Inv-loop μ-loop
-same-length-6 c = c .before .before .before .before .before .before .before .before .before .before .check-level .kept .1 .1 .1 .1 .1 .1 .1 .0 ∙ c .before .before .before .before .before .before .before .before .before .before .before .before .before .before .before .before .loop .inv .0 .of-links
+same-length-6 c = c .before .before .before .before .before .before .before .before .before .before .check-level .kept .1 .1 .1 .1 .1 .1
+    .1 .0 ∙ c .before .before .before .before .before .before .before .before .before .before .before .before .before .before .before
+    .before .loop .inv .0 .of-links
 
 same-length-7 : tie.Need-same-length-7 Inv-loop μ-loop
-same-length-7 c = c .before .before .before .before .before .before .before .before .before .before .before .before .before .before .before .before .loop .inv .0 .of-links′
+same-length-7 c = c .before .before .before .before .before .before .before .before .before .before .before .before .before .before
+    .before .before .loop .inv .0 .of-links′
 
 returns : tie.Need-returns Inv-loop μ-loop
 returns c =
-    let l = c .before .before .before .before .before .before .before .before .before .before .before .before .before .before .before .before .loop in
-    let a = c .before .before .before .before .before .before .before .before .before .before .before .before .before .before .before .before .before .before .before .before .before .before .before .before .before .before .before .before .before .before .before .args in
+    let l = c .before .before .before .before .before .before .before .before .before .before .before .before .before .before .before
+    .before .loop in
+    let a = c .before .before .before .before .before .before .before .before .before .before .before .before .before .before .before
+    .before .before .before .before .before .before .before .before .before .before .before .before .before .before .before .before
+    .args in
     let t = c .before .before .before .before .before .before .before .before .before .before .check-level in
     unsound-examined (a .n) (fours (a .mesh .now)) (a .status .now) (l .rows) (l .ps) (l .qs) _ _ _ _ (c .refused .ensures .0)
     (turn-fails (a .n) (fours (a .mesh .now)) (a .status .now) (l .level) (l .first) (l .last) (l .rows) (l .xs) (l .ys) (l .heads)
     (l .links) (l .k) (l .ps) (l .qs) (l .mid-heads) (l .mid-links) (l .m) (l .inv .1)
-    (c .before .before .before .before .before .before .before .before .before .before .before .before .before .before .before .before .before .before .before .before .before .before .before .before .before .before .before .before .before .before .before .pre
+    (c .before .before .before .before .before .before .before .before .before .before .before .before .before .before .before .before
+    .before .before .before .before .before .before .before .before .before .before .before .before .before .before .before .pre
     .1 .0) (t .last .1 .1 .1 .1 .0) (t .last .1 .1 .1 .1 .1 .0) (t .last .1 .1 .1 .1 .1 .1 .0)
     (t .last .1 .1 .1 .1 .1 .1 .1 .0) (t .result .ok) (t .result .n) (t .result .size) (t .ensures)
     (not-true _ (c .before .if1 .taken)))
@@ -121,36 +154,52 @@ refused-requires-2 : tie.Need-refused-requires-2 Inv-loop μ-loop
 refused-requires-2 c κs = search needs
 
 same-length-8 : tie.Need-same-length-8 Inv-loop μ-loop
-same-length-8 c = c .before .before .before .before .before .before .before .before .before .before .before .before .before .before .before .before .before .before .before .loop .inv .0 .of-rows ∙ c .before .before .before .before .before .before .before .before .before .before .before .before .before .before .before .before .before .before .before .before .before .before .lay-coarse .kept .1 .0
+same-length-8 c = c .before .before .before .before .before .before .before .before .before .before .before .before .before .before
+    .before .before .before .before .before .loop .inv .0 .of-rows ∙ c .before .before .before .before .before .before .before .before
+    .before .before .before .before .before .before .before .before .before .before .before .before .before .before .lay-coarse .kept .1 .0
 
 same-length-9 : tie.Need-same-length-9 Inv-loop μ-loop
-same-length-9 c = c .before .before .before .before .before .before .before .before .before .before .before .before .before .before .before .before .before .before .before .loop .inv .0 .of-ps
+same-length-9 c = c .before .before .before .before .before .before .before .before .before .before .before .before .before .before
+    .before .before .before .before .before .loop .inv .0 .of-ps
 
 same-length-10 : tie.Need-same-length-10 Inv-loop μ-loop
-same-length-10 c = c .before .before .before .before .before .before .before .before .before .before .before .before .before .before .before .before .before .before .before .loop .inv .0 .of-qs
+same-length-10 c = c .before .before .before .before .before .before .before .before .before .before .before .before .before .before
+    .before .before .before .before .before .loop .inv .0 .of-qs
 
 same-length-11 : tie.Need-same-length-11 Inv-loop μ-loop
-same-length-11 c = c .before .before .before .before .before .before .before .before .before .before .before .before .before .check-level .kept .1 .1 .1 .1 .0 ∙ c .before .before .before .before .before .before .before .before .before .before .before .before .before .before .before .before .before .before .before .loop .inv .0 .of-xs
+same-length-11 c = c .before .before .before .before .before .before .before .before .before .before .before .before .before .check-level
+    .kept .1 .1 .1 .1 .0 ∙ c .before .before .before .before .before .before .before .before .before .before .before .before .before
+    .before .before .before .before .before .before .loop .inv .0 .of-xs
 
 same-length-12 : tie.Need-same-length-12 Inv-loop μ-loop
-same-length-12 c = c .before .before .before .before .before .before .before .before .before .before .before .before .before .check-level .kept .1 .1 .1 .1 .1 .0 ∙ c .before .before .before .before .before .before .before .before .before .before .before .before .before .before .before .before .before .before .before .loop .inv .0 .of-ys
+same-length-12 c = c .before .before .before .before .before .before .before .before .before .before .before .before .before .check-level
+    .kept .1 .1 .1 .1 .1 .0 ∙ c .before .before .before .before .before .before .before .before .before .before .before .before .before
+    .before .before .before .before .before .before .loop .inv .0 .of-ys
 
 same-length-13 : tie.Need-same-length-13 Inv-loop μ-loop
-same-length-13 c = c .before .before .before .before .before .before .before .before .before .before .before .before .before .check-level .kept .1 .1 .1 .1 .1 .1 .1 .0 ∙ c .before .before .before .before .before .before .before .before .before .before .before .before .before .before .before .before .before .before .before .loop .inv .0 .of-links
+same-length-13 c = c .before .before .before .before .before .before .before .before .before .before .before .before .before .check-level
+    .kept .1 .1 .1 .1 .1 .1 .1 .0 ∙ c .before .before .before .before .before .before .before .before .before .before .before .before
+    .before .before .before .before .before .before .before .loop .inv .0 .of-links
 
 same-length-14 : tie.Need-same-length-14 Inv-loop μ-loop
-same-length-14 c = c .before .before .before .before .before .before .before .before .before .before .before .before .before .before .before .before .before .before .before .loop .inv .0 .of-links′
+same-length-14 c = c .before .before .before .before .before .before .before .before .before .before .before .before .before .before
+    .before .before .before .before .before .loop .inv .0 .of-links′
 
 returns-2 : tie.Need-returns-2 Inv-loop μ-loop
 returns-2 c =
-    let l = c .before .before .before .before .before .before .before .before .before .before .before .before .before .before .before .before .before .before .before .loop in
-    let a = c .before .before .before .before .before .before .before .before .before .before .before .before .before .before .before .before .before .before .before .before .before .before .before .before .before .before .before .before .before .before .before .before .before .before .args in
+    let l = c .before .before .before .before .before .before .before .before .before .before .before .before .before .before .before
+    .before .before .before .before .loop in
+    let a = c .before .before .before .before .before .before .before .before .before .before .before .before .before .before .before
+    .before .before .before .before .before .before .before .before .before .before .before .before .before .before .before .before
+    .before .before .before .args in
     let t = c .before .before .before .before .before .before .before .before .before .before .before .before .before .check-level in
     let o : Top (a .n) (fours (a .mesh .now)) (a .status .now) (l .level) (l .last) (l .rows) (t .last .1 .1 .1 .1 .0)
     (t .last .1 .1 .1 .1 .1 .0) (t .last .1 .1 .1 .1 .1 .1 .0) (t .last .1 .1 .1 .1 .1 .1 .1 .0) (t .result .n) (l .ps) (l .qs)
     (l .mid-heads) (l .mid-links) (l .m) = turn-top (a .n) (fours (a .mesh .now)) (a .status .now) (l .level) (l .first) (l .last)
     (l .rows) (l .xs) (l .ys) (l .heads) (l .links) (l .k) (l .ps) (l .qs) (l .mid-heads) (l .mid-links) (l .m) (l .inv .1)
-    (c .before .before .before .before .before .before .before .before .before .before .before .before .before .before .before .before .before .before .before .before .before .before .before .before .before .before .before .before .before .before .before .before .before .before .pre .1 .0) (t .last .1 .1 .1 .1 .0) (t .last .1 .1 .1 .1 .1 .0)
+    (c .before .before .before .before .before .before .before .before .before .before .before .before .before .before .before .before
+    .before .before .before .before .before .before .before .before .before .before .before .before .before .before .before .before
+    .before .before .pre .1 .0) (t .last .1 .1 .1 .1 .0) (t .last .1 .1 .1 .1 .1 .0)
     (t .last .1 .1 .1 .1 .1 .1 .0) (t .last .1 .1 .1 .1 .1 .1 .1 .0) (t .result .ok) (t .result .n) (t .result .size) (t .ensures)
     (not-false _ (c .before .before .before .before .if1 .left)) (c .before .before .if2 .taken) in
     unsound-examined (a .n) (fours (a .mesh .now)) (a .status .now) (l .rows) (l .ps) (l .qs) _ _ _ _ (c .refused2 .ensures .0)
@@ -159,18 +208,26 @@ returns-2 c =
     (l .mid-heads) (l .mid-links) (l .m) o (c .before .if3 .taken))
 
 slice-aggregate-apart : tie.Need-slice-aggregate-apart Inv-loop μ-loop
-slice-aggregate-apart c = sym (c .before .before .before .before .before .before .before .before .before .before .before .before .before .before .before .before .check-level .kept .1 .1 .1 .1 .1 .1 .0 ∙ c .before .before .before .before .before .before .before .before .before .before .before .before .before .before .before .before .before .before .before .before .before .before .loop .inv .0 .of-heads)
+slice-aggregate-apart c = sym (c .before .before .before .before .before .before .before .before .before .before .before .before .before
+    .before .before .before .check-level .kept .1 .1 .1 .1 .1 .1 .0 ∙ c .before .before .before .before .before .before .before .before
+    .before .before .before .before .before .before .before .before .before .before .before .before .before .before .loop .inv .0 .of-heads)
 
 apart-requires : tie.Need-apart-requires Inv-loop μ-loop
 apart-requires c κs =
-    let l = c .before .before .before .before .before .before .before .before .before .before .before .before .before .before .before .before .before .before .before .before .before .before .before .loop in
-    let a = c .before .before .before .before .before .before .before .before .before .before .before .before .before .before .before .before .before .before .before .before .before .before .before .before .before .before .before .before .before .before .before .before .before .before .before .before .before .before .args in
-    let t = c .before .before .before .before .before .before .before .before .before .before .before .before .before .before .before .before .before .check-level in
+    let l = c .before .before .before .before .before .before .before .before .before .before .before .before .before .before .before
+    .before .before .before .before .before .before .before .before .loop in
+    let a = c .before .before .before .before .before .before .before .before .before .before .before .before .before .before .before
+    .before .before .before .before .before .before .before .before .before .before .before .before .before .before .before .before
+    .before .before .before .before .before .before .before .args in
+    let t = c .before .before .before .before .before .before .before .before .before .before .before .before .before .before .before
+    .before .before .check-level in
     let o : Top (a .n) (fours (a .mesh .now)) (a .status .now) (l .level) (l .last) (l .rows) (t .last .1 .1 .1 .1 .0)
     (t .last .1 .1 .1 .1 .1 .0) (t .last .1 .1 .1 .1 .1 .1 .0) (t .last .1 .1 .1 .1 .1 .1 .1 .0) (t .result .n) (l .ps) (l .qs)
     (l .mid-heads) (l .mid-links) (l .m) = turn-top (a .n) (fours (a .mesh .now)) (a .status .now) (l .level) (l .first) (l .last)
     (l .rows) (l .xs) (l .ys) (l .heads) (l .links) (l .k) (l .ps) (l .qs) (l .mid-heads) (l .mid-links) (l .m) (l .inv .1)
-    (c .before .before .before .before .before .before .before .before .before .before .before .before .before .before .before .before .before .before .before .before .before .before .before .before .before .before .before .before .before .before .before .before .before .before .before .before .before .before .pre .1 .0)
+    (c .before .before .before .before .before .before .before .before .before .before .before .before .before .before .before .before
+    .before .before .before .before .before .before .before .before .before .before .before .before .before .before .before .before
+    .before .before .before .before .before .before .pre .1 .0)
     (t .last .1 .1 .1 .1 .0) (t .last .1 .1 .1 .1 .1 .0) (t .last .1 .1 .1 .1 .1 .1 .0) (t .last .1 .1 .1 .1 .1 .1 .1 .0)
     (t .result .ok) (t .result .n) (t .result .size) (t .ensures)
     (not-false _ (c .before .before .before .before .before .before .before .before .if1
@@ -180,7 +237,18 @@ apart-requires c κs =
           (t .last .1 .1 .1 .1 .1 .0) (t .last .1 .1 .1 .1 .1 .1 .0) (t .last .1 .1 .1 .1 .1 .1 .1 .0) (t .result .n) (l .ps) (l
           .qs)
           (l .mid-heads) (l .mid-links) (l .m) o
-          (omega (arith, c .before .before .before .before .before .before .before .before .before .before .before .before .before .before .before .before .before .before .before .before .before .before .before .before .before .before .before .before .before .before .before .before .before .before .before .before .before .before .pre .1 .1 .0 .in-rows, l .inv .0 .of-rows, c .before .before .before .before .before .before .before .before .before .before .before .before .before .before .before .before .before .before .before .before .before .before .before .before .before .before .lay-coarse .kept .1 .0, c .before .before .before .before .before .if3 .left)),
+          (omega (
+            arith,
+            c .before .before .before .before .before .before .before .before .before .before .before .before .before .before
+                .before .before .before .before .before .before .before .before .before .before .before .before .before .before .before .before
+                .before .before .before .before .before .before .before .before .pre .1 .1 .0 .in-rows,
+            l .inv .0 .of-rows,
+            c .before .before
+                .before .before .before .before .before .before .before .before .before .before .before .before .before .before .before .before
+                .before .before .before .before .before .before .before .before .lay-coarse .kept .1 .0,
+            c .before .before .before .before
+                .before .if3 .left,
+          )),
       top-parents (a .n) (fours (a .mesh .now)) (a .status .now) (l .level)
           (l .last) (l .rows) (t .last .1 .1 .1 .1 .0) (t .last .1 .1 .1 .1 .1 .0) (t .last .1 .1 .1 .1 .1 .1 .0)
           (t .last .1 .1 .1 .1 .1 .1 .1 .0) (t .result .n) (l .ps) (l .qs) (l .mid-heads) (l .mid-links) (l .m) o,
@@ -190,36 +258,57 @@ refused-requires-3 : tie.Need-refused-requires-3 Inv-loop μ-loop
 refused-requires-3 c κs = search needs
 
 same-length-15 : tie.Need-same-length-15 Inv-loop μ-loop
-same-length-15 c = c .before .before .before .before .before .before .before .before .before .before .before .before .before .before .before .before .before .before .before .before .before .before .before .before .before .before .loop .inv .0 .of-rows ∙ c .before .before .before .before .before .before .before .before .before .before .before .before .before .before .before .before .before .before .before .before .before .before .before .before .before .before .before .before .before .lay-coarse .kept .1 .0
+same-length-15 c = c .before .before .before .before .before .before .before .before .before .before .before .before .before .before
+    .before .before .before .before .before .before .before .before .before .before .before .before .loop .inv .0 .of-rows ∙ c .before
+    .before .before .before .before .before .before .before .before .before .before .before .before .before .before .before .before
+    .before .before .before .before .before .before .before .before .before .before .before .before .lay-coarse .kept .1 .0
 
 same-length-16 : tie.Need-same-length-16 Inv-loop μ-loop
-same-length-16 c = c .before .before .before .before .before .before .before .before .before .before .before .before .before .before .before .before .before .before .before .before .before .before .before .before .before .before .loop .inv .0 .of-ps
+same-length-16 c = c .before .before .before .before .before .before .before .before .before .before .before .before .before .before
+    .before .before .before .before .before .before .before .before .before .before .before .before .loop .inv .0 .of-ps
 
 same-length-17 : tie.Need-same-length-17 Inv-loop μ-loop
-same-length-17 c = c .before .before .before .before .before .before .before .before .before .before .before .before .before .before .before .before .before .before .before .before .before .before .before .before .before .before .loop .inv .0 .of-qs
+same-length-17 c = c .before .before .before .before .before .before .before .before .before .before .before .before .before .before
+    .before .before .before .before .before .before .before .before .before .before .before .before .loop .inv .0 .of-qs
 
 same-length-18 : tie.Need-same-length-18 Inv-loop μ-loop
-same-length-18 c = c .before .before .before .before .before .before .before .before .before .before .before .before .before .before .before .before .before .before .before .before .check-level .kept .1 .1 .1 .1 .0 ∙ c .before .before .before .before .before .before .before .before .before .before .before .before .before .before .before .before .before .before .before .before .before .before .before .before .before .before .loop .inv .0 .of-xs
+same-length-18 c = c .before .before .before .before .before .before .before .before .before .before .before .before .before .before
+    .before .before .before .before .before .before .check-level .kept .1 .1 .1 .1 .0 ∙ c .before .before .before .before .before .before
+    .before .before .before .before .before .before .before .before .before .before .before .before .before .before .before .before
+    .before .before .before .before .loop .inv .0 .of-xs
 
 same-length-19 : tie.Need-same-length-19 Inv-loop μ-loop
-same-length-19 c = c .before .before .before .before .before .before .before .before .before .before .before .before .before .before .before .before .before .before .before .before .check-level .kept .1 .1 .1 .1 .1 .0 ∙ c .before .before .before .before .before .before .before .before .before .before .before .before .before .before .before .before .before .before .before .before .before .before .before .before .before .before .loop .inv .0 .of-ys
+same-length-19 c = c .before .before .before .before .before .before .before .before .before .before .before .before .before .before
+    .before .before .before .before .before .before .check-level .kept .1 .1 .1 .1 .1 .0 ∙ c .before .before .before .before .before
+    .before .before .before .before .before .before .before .before .before .before .before .before .before .before .before .before
+    .before .before .before .before .before .loop .inv .0 .of-ys
 
 same-length-20 : tie.Need-same-length-20 Inv-loop μ-loop
-same-length-20 c = c .before .before .before .before .before .before .before .before .before .before .before .before .before .before .before .before .before .before .before .before .check-level .kept .1 .1 .1 .1 .1 .1 .1 .0 ∙ c .before .before .before .before .before .before .before .before .before .before .before .before .before .before .before .before .before .before .before .before .before .before .before .before .before .before .loop .inv .0 .of-links
+same-length-20 c = c .before .before .before .before .before .before .before .before .before .before .before .before .before .before
+    .before .before .before .before .before .before .check-level .kept .1 .1 .1 .1 .1 .1 .1 .0 ∙ c .before .before .before .before .before
+    .before .before .before .before .before .before .before .before .before .before .before .before .before .before .before .before
+    .before .before .before .before .before .loop .inv .0 .of-links
 
 same-length-21 : tie.Need-same-length-21 Inv-loop μ-loop
-same-length-21 c = c .before .before .before .before .before .before .before .before .before .before .before .before .before .before .before .before .before .before .before .before .before .before .before .before .before .before .loop .inv .0 .of-links′
+same-length-21 c = c .before .before .before .before .before .before .before .before .before .before .before .before .before .before
+    .before .before .before .before .before .before .before .before .before .before .before .before .loop .inv .0 .of-links′
 
 returns-3 : tie.Need-returns-3 Inv-loop μ-loop
 returns-3 c =
-    let l = c .before .before .before .before .before .before .before .before .before .before .before .before .before .before .before .before .before .before .before .before .before .before .before .before .before .before .loop in
-    let a = c .before .before .before .before .before .before .before .before .before .before .before .before .before .before .before .before .before .before .before .before .before .before .before .before .before .before .before .before .before .before .before .before .before .before .before .before .before .before .before .before .before .args in
-    let t = c .before .before .before .before .before .before .before .before .before .before .before .before .before .before .before .before .before .before .before .before .check-level in
+    let l = c .before .before .before .before .before .before .before .before .before .before .before .before .before .before .before
+    .before .before .before .before .before .before .before .before .before .before .before .loop in
+    let a = c .before .before .before .before .before .before .before .before .before .before .before .before .before .before .before
+    .before .before .before .before .before .before .before .before .before .before .before .before .before .before .before .before
+    .before .before .before .before .before .before .before .before .before .before .args in
+    let t = c .before .before .before .before .before .before .before .before .before .before .before .before .before .before .before
+    .before .before .before .before .before .check-level in
     let o : Top (a .n) (fours (a .mesh .now)) (a .status .now) (l .level) (l .last) (l .rows) (t .last .1 .1 .1 .1 .0)
     (t .last .1 .1 .1 .1 .1 .0) (t .last .1 .1 .1 .1 .1 .1 .0) (t .last .1 .1 .1 .1 .1 .1 .1 .0) (t .result .n) (l .ps) (l .qs)
     (l .mid-heads) (l .mid-links) (l .m) = turn-top (a .n) (fours (a .mesh .now)) (a .status .now) (l .level) (l .first) (l .last)
     (l .rows) (l .xs) (l .ys) (l .heads) (l .links) (l .k) (l .ps) (l .qs) (l .mid-heads) (l .mid-links) (l .m) (l .inv .1)
-    (c .before .before .before .before .before .before .before .before .before .before .before .before .before .before .before .before .before .before .before .before .before .before .before .before .before .before .before .before .before .before .before .before .before .before .before .before .before .before .before .before .before .pre .1
+    (c .before .before .before .before .before .before .before .before .before .before .before .before .before .before .before .before
+    .before .before .before .before .before .before .before .before .before .before .before .before .before .before .before .before
+    .before .before .before .before .before .before .before .before .before .pre .1
     .0) (t .last .1 .1 .1 .1 .0) (t .last .1 .1 .1 .1 .1 .0) (t .last .1 .1 .1 .1 .1 .1 .0)
     (t .last .1 .1 .1 .1 .1 .1 .1 .0) (t .result .ok) (t .result .n) (t .result .size) (t .ensures)
     (not-false _
@@ -236,40 +325,62 @@ returns-3 c =
 add-t36 : tie.Need-add-t36 Inv-loop μ-loop
 add-t36 c = omega (
   arith,
-  c .before .before .before .before .before .before .before .before .before .before .before .before .before .before .before .before .before .before .before .before .before .before .before .before .before .loop .inv .1 .low,
+  c .before .before .before .before .before .before .before .before .before .before .before .before .before .before .before .before
+      .before .before .before .before .before .before .before .before .before .loop .inv .1 .low,
 )
 
 same-length-22 : tie.Need-same-length-22 Inv-loop μ-loop
-same-length-22 c = c .before .before .before .before .before .before .before .before .before .before .before .before .before .before .before .before .before .before .before .before .before .before .before .before .before .loop .inv .0 .of-rows ∙ c .before .before .before .before .before .before .before .before .before .before .before .before .before .before .before .before .before .before .before .before .before .before .before .before .before .before .before .before .lay-coarse .kept .1 .0
+same-length-22 c = c .before .before .before .before .before .before .before .before .before .before .before .before .before .before
+    .before .before .before .before .before .before .before .before .before .before .before .loop .inv .0 .of-rows ∙ c .before .before
+    .before .before .before .before .before .before .before .before .before .before .before .before .before .before .before .before
+    .before .before .before .before .before .before .before .before .before .before .lay-coarse .kept .1 .0
 
 same-length-23 : tie.Need-same-length-23 Inv-loop μ-loop
-same-length-23 c = c .before .before .before .before .before .before .before .before .before .before .before .before .before .before .before .before .before .before .before .before .before .before .before .before .before .loop .inv .0 .of-ps
+same-length-23 c = c .before .before .before .before .before .before .before .before .before .before .before .before .before .before
+    .before .before .before .before .before .before .before .before .before .before .before .loop .inv .0 .of-ps
 
 same-length-24 : tie.Need-same-length-24 Inv-loop μ-loop
-same-length-24 c = c .before .before .before .before .before .before .before .before .before .before .before .before .before .before .before .before .before .before .before .before .before .before .before .before .before .loop .inv .0 .of-qs
+same-length-24 c = c .before .before .before .before .before .before .before .before .before .before .before .before .before .before
+    .before .before .before .before .before .before .before .before .before .before .before .loop .inv .0 .of-qs
 
 same-length-25 : tie.Need-same-length-25 Inv-loop μ-loop
-same-length-25 c = c .before .before .before .before .before .before .before .before .before .before .before .before .before .before .before .before .before .before .before .check-level .kept .1 .1 .1 .1 .0 ∙ c .before .before .before .before .before .before .before .before .before .before .before .before .before .before .before .before .before .before .before .before .before .before .before .before .before .loop .inv .0 .of-xs
+same-length-25 c = c .before .before .before .before .before .before .before .before .before .before .before .before .before .before
+    .before .before .before .before .before .check-level .kept .1 .1 .1 .1 .0 ∙ c .before .before .before .before .before .before .before
+    .before .before .before .before .before .before .before .before .before .before .before .before .before .before .before .before
+    .before .before .loop .inv .0 .of-xs
 
 same-length-26 : tie.Need-same-length-26 Inv-loop μ-loop
-same-length-26 c = c .before .before .before .before .before .before .before .before .before .before .before .before .before .before .before .before .before .before .before .check-level .kept .1 .1 .1 .1 .1 .0 ∙ c .before .before .before .before .before .before .before .before .before .before .before .before .before .before .before .before .before .before .before .before .before .before .before .before .before .loop .inv .0 .of-ys
+same-length-26 c = c .before .before .before .before .before .before .before .before .before .before .before .before .before .before
+    .before .before .before .before .before .check-level .kept .1 .1 .1 .1 .1 .0 ∙ c .before .before .before .before .before .before
+    .before .before .before .before .before .before .before .before .before .before .before .before .before .before .before .before
+    .before .before .before .loop .inv .0 .of-ys
 
 same-length-27 : tie.Need-same-length-27 Inv-loop μ-loop
-same-length-27 c = c .before .before .before .before .before .before .before .before .before .before .before .before .before .before .before .before .before .before .before .check-level .kept .1 .1 .1 .1 .1 .1 .1 .0 ∙ c .before .before .before .before .before .before .before .before .before .before .before .before .before .before .before .before .before .before .before .before .before .before .before .before .before .loop .inv .0 .of-links
+same-length-27 c = c .before .before .before .before .before .before .before .before .before .before .before .before .before .before
+    .before .before .before .before .before .check-level .kept .1 .1 .1 .1 .1 .1 .1 .0 ∙ c .before .before .before .before .before .before
+    .before .before .before .before .before .before .before .before .before .before .before .before .before .before .before .before
+    .before .before .before .loop .inv .0 .of-links
 
 same-length-28 : tie.Need-same-length-28 Inv-loop μ-loop
-same-length-28 c = c .before .before .before .before .before .before .before .before .before .before .before .before .before .before .before .before .before .before .before .before .before .before .before .before .before .loop .inv .0 .of-links′
+same-length-28 c = c .before .before .before .before .before .before .before .before .before .before .before .before .before .before
+    .before .before .before .before .before .before .before .before .before .before .before .loop .inv .0 .of-links′
 
 returns-4 : tie.Need-returns-4 Inv-loop μ-loop
 returns-4 c =
-    let l = c .before .before .before .before .before .before .before .before .before .before .before .before .before .before .before .before .before .before .before .before .before .before .before .before .before .loop in
-    let a = c .before .before .before .before .before .before .before .before .before .before .before .before .before .before .before .before .before .before .before .before .before .before .before .before .before .before .before .before .before .before .before .before .before .before .before .before .before .before .before .before .args in
-    let t = c .before .before .before .before .before .before .before .before .before .before .before .before .before .before .before .before .before .before .before .check-level in
+    let l = c .before .before .before .before .before .before .before .before .before .before .before .before .before .before .before
+    .before .before .before .before .before .before .before .before .before .before .loop in
+    let a = c .before .before .before .before .before .before .before .before .before .before .before .before .before .before .before
+    .before .before .before .before .before .before .before .before .before .before .before .before .before .before .before .before
+    .before .before .before .before .before .before .before .before .before .args in
+    let t = c .before .before .before .before .before .before .before .before .before .before .before .before .before .before .before
+    .before .before .before .before .check-level in
     let o : Top (a .n) (fours (a .mesh .now)) (a .status .now) (l .level) (l .last) (l .rows) (t .last .1 .1 .1 .1 .0)
     (t .last .1 .1 .1 .1 .1 .0) (t .last .1 .1 .1 .1 .1 .1 .0) (t .last .1 .1 .1 .1 .1 .1 .1 .0) (t .result .n) (l .ps) (l .qs)
     (l .mid-heads) (l .mid-links) (l .m) = turn-top (a .n) (fours (a .mesh .now)) (a .status .now) (l .level) (l .first) (l .last)
     (l .rows) (l .xs) (l .ys) (l .heads) (l .links) (l .k) (l .ps) (l .qs) (l .mid-heads) (l .mid-links) (l .m) (l .inv .1)
-    (c .before .before .before .before .before .before .before .before .before .before .before .before .before .before .before .before .before .before .before .before .before .before .before .before .before .before .before .before .before .before .before .before .before .before .before .before .before .before .before .before .pre .1 .0) (t
+    (c .before .before .before .before .before .before .before .before .before .before .before .before .before .before .before .before
+    .before .before .before .before .before .before .before .before .before .before .before .before .before .before .before .before
+    .before .before .before .before .before .before .before .before .pre .1 .0) (t
     .last .1 .1 .1 .1 .0) (t .last .1 .1 .1 .1 .1 .0) (t .last .1 .1 .1 .1 .1 .1 .0)
     (t .last .1 .1 .1 .1 .1 .1 .1 .0) (t .result .ok) (t .result .n) (t .result .size) (t .ensures)
     (not-false _
@@ -288,92 +399,148 @@ refused-requires-4 : tie.Need-refused-requires-4 Inv-loop μ-loop
 refused-requires-4 c κs = search needs
 
 same-length-29 : tie.Need-same-length-29 Inv-loop μ-loop
-same-length-29 c = c .before .before .before .before .before .before .before .before .before .before .before .before .before .before .before .before .before .before .before .loop .inv .0 .of-rows ∙ c .before .before .before .before .before .before .before .before .before .before .before .before .before .before .before .before .before .before .before .before .before .before .lay-coarse .kept .1 .0
+same-length-29 c = c .before .before .before .before .before .before .before .before .before .before .before .before .before .before
+    .before .before .before .before .before .loop .inv .0 .of-rows ∙ c .before .before .before .before .before .before .before .before
+    .before .before .before .before .before .before .before .before .before .before .before .before .before .before .lay-coarse .kept .1 .0
 
 same-length-30 : tie.Need-same-length-30 Inv-loop μ-loop
-same-length-30 c = c .before .before .before .before .before .before .before .before .before .before .before .before .before .before .before .before .before .before .before .loop .inv .0 .of-ps
+same-length-30 c = c .before .before .before .before .before .before .before .before .before .before .before .before .before .before
+    .before .before .before .before .before .loop .inv .0 .of-ps
 
 same-length-31 : tie.Need-same-length-31 Inv-loop μ-loop
-same-length-31 c = c .before .before .before .before .before .before .before .before .before .before .before .before .before .before .before .before .before .before .before .loop .inv .0 .of-qs
+same-length-31 c = c .before .before .before .before .before .before .before .before .before .before .before .before .before .before
+    .before .before .before .before .before .loop .inv .0 .of-qs
 
 same-length-32 : tie.Need-same-length-32 Inv-loop μ-loop
-same-length-32 c = c .before .before .before .before .before .before .before .before .before .before .before .before .before .check-level .kept .1 .1 .1 .1 .0 ∙ c .before .before .before .before .before .before .before .before .before .before .before .before .before .before .before .before .before .before .before .loop .inv .0 .of-xs
+same-length-32 c = c .before .before .before .before .before .before .before .before .before .before .before .before .before .check-level
+    .kept .1 .1 .1 .1 .0 ∙ c .before .before .before .before .before .before .before .before .before .before .before .before .before
+    .before .before .before .before .before .before .loop .inv .0 .of-xs
 
 same-length-33 : tie.Need-same-length-33 Inv-loop μ-loop
-same-length-33 c = c .before .before .before .before .before .before .before .before .before .before .before .before .before .check-level .kept .1 .1 .1 .1 .1 .0 ∙ c .before .before .before .before .before .before .before .before .before .before .before .before .before .before .before .before .before .before .before .loop .inv .0 .of-ys
+same-length-33 c = c .before .before .before .before .before .before .before .before .before .before .before .before .before .check-level
+    .kept .1 .1 .1 .1 .1 .0 ∙ c .before .before .before .before .before .before .before .before .before .before .before .before .before
+    .before .before .before .before .before .before .loop .inv .0 .of-ys
 
 same-length-34 : tie.Need-same-length-34 Inv-loop μ-loop
-same-length-34 c = c .before .before .before .before .before .before .before .before .before .before .before .before .before .check-level .kept .1 .1 .1 .1 .1 .1 .1 .0 ∙ c .before .before .before .before .before .before .before .before .before .before .before .before .before .before .before .before .before .before .before .loop .inv .0 .of-links
+same-length-34 c = c .before .before .before .before .before .before .before .before .before .before .before .before .before .check-level
+    .kept .1 .1 .1 .1 .1 .1 .1 .0 ∙ c .before .before .before .before .before .before .before .before .before .before .before .before
+    .before .before .before .before .before .before .before .loop .inv .0 .of-links
 
 same-length-35 : tie.Need-same-length-35 Inv-loop μ-loop
-same-length-35 c = c .before .before .before .before .before .before .before .before .before .before .before .before .before .before .before .before .before .before .before .loop .inv .0 .of-links′
+same-length-35 c = c .before .before .before .before .before .before .before .before .before .before .before .before .before .before
+    .before .before .before .before .before .loop .inv .0 .of-links′
 
 returns-5 : tie.Need-returns-5 Inv-loop μ-loop
 returns-5 c =
-    let l = c .before .before .before .before .before .before .before .before .before .before .before .before .before .before .before .before .before .before .before .loop in
-    let a = c .before .before .before .before .before .before .before .before .before .before .before .before .before .before .before .before .before .before .before .before .before .before .before .before .before .before .before .before .before .before .before .before .before .before .args in
+    let l = c .before .before .before .before .before .before .before .before .before .before .before .before .before .before .before
+    .before .before .before .before .loop in
+    let a = c .before .before .before .before .before .before .before .before .before .before .before .before .before .before .before
+    .before .before .before .before .before .before .before .before .before .before .before .before .before .before .before .before
+    .before .before .before .args in
     let t = c .before .before .before .before .before .before .before .before .before .before .before .before .before .check-level in
     unsound-examined (a .n) (fours (a .mesh .now)) (a .status .now) (l .rows) (l .ps) (l .qs) _ _ _ _ (c .refused4 .ensures .0)
     (turn-high (a .n) (fours (a .mesh .now)) (a .status .now) (l .level) (l .first) (l .last) (l .rows) (l .xs) (l .ys) (l .heads)
     (l .links) (l .k) (l .ps) (l .qs) (l .mid-heads) (l .mid-links) (l .m) (l .inv .1)
-    (c .before .before .before .before .before .before .before .before .before .before .before .before .before .before .before .before .before .before .before .before .before .before .before .before .before .before .before .before .before .before .before .before .before .before .pre .1 .0) (t .last .1 .1 .1 .1 .0) (t .last .1 .1 .1 .1 .1 .0)
+    (c .before .before .before .before .before .before .before .before .before .before .before .before .before .before .before .before
+    .before .before .before .before .before .before .before .before .before .before .before .before .before .before .before .before
+    .before .before .pre .1 .0) (t .last .1 .1 .1 .1 .0) (t .last .1 .1 .1 .1 .1 .0)
     (t .last .1 .1 .1 .1 .1 .1 .0) (t .last .1 .1 .1 .1 .1 .1 .1 .0) (t .result .ok) (t .result .n) (t .result .size) (t .ensures)
     (not-false _ (c .before .before .before .before .if1 .left)) (c .before .before .if2 .left) (c .before .if5 .taken))
 
 add-grow-level : tie.Need-add-grow-level Inv-loop μ-loop
 add-grow-level c = omega (
   arith,
-  c .before .before .before .before .before .before .before .before .before .before .before .before .before .before .before .before .before .before .before .loop .inv .1 .low,
+  c .before .before .before .before .before .before .before .before .before .before .before .before .before .before .before .before
+      .before .before .before .loop .inv .1 .low,
 )
 
 cast-grow-level : tie.Need-cast-grow-level Inv-loop μ-loop
 cast-grow-level c = omega (
   arith,
-  c .before .before .before .before .before .before .before .before .before .before .before .before .before .before .before .before .before .before .before .loop .inv .1 .low,
+  c .before .before .before .before .before .before .before .before .before .before .before .before .before .before .before .before
+      .before .before .before .loop .inv .1 .low,
 )
 
 slice-aggregate-grow-level : tie.Need-slice-aggregate-grow-level Inv-loop μ-loop
-slice-aggregate-grow-level c = sym (c .before .before .before .before .before .before .before .before .before .before .before .before .before .before .before .before .before .before .before .before .before .before .loop .inv .0 .of-heads′)
+slice-aggregate-grow-level c = sym (c .before .before .before .before .before .before .before .before .before .before .before .before
+    .before .before .before .before .before .before .before .before .before .before .loop .inv .0 .of-heads′)
 
 slice-aggregate-grow-level-2 : tie.Need-slice-aggregate-grow-level-2 Inv-loop μ-loop
-slice-aggregate-grow-level-2 c = search (c .before .before .before .before .before .before .before .before .before .before .before .before .before .before .before .before .before .before .before .before .before .before .before .before .before .before .before .before .before .digit-table .ok, needs)
+slice-aggregate-grow-level-2 c = search (
+  c .before .before .before .before .before .before .before .before .before .before .before .before
+      .before .before .before .before .before .before .before .before .before .before .before .before .before .before .before .before
+      .before .digit-table .ok,
+  needs,
+)
 
 grow-level-requires : tie.Need-grow-level-requires Inv-loop μ-loop
 grow-level-requires c κs =
-    let l = c .before .before .before .before .before .before .before .before .before .before .before .before .before .before .before .before .before .before .before .before .before .before .before .before .loop in
-    let a = c .before .before .before .before .before .before .before .before .before .before .before .before .before .before .before .before .before .before .before .before .before .before .before .before .before .before .before .before .before .before .before .before .before .before .before .before .before .before .before .args in
-    let t = c .before .before .before .before .before .before .before .before .before .before .before .before .before .before .before .before .before .before .check-level in
+    let l = c .before .before .before .before .before .before .before .before .before .before .before .before .before .before .before
+    .before .before .before .before .before .before .before .before .before .loop in
+    let a = c .before .before .before .before .before .before .before .before .before .before .before .before .before .before .before
+    .before .before .before .before .before .before .before .before .before .before .before .before .before .before .before .before
+    .before .before .before .before .before .before .before .before .args in
+    let t = c .before .before .before .before .before .before .before .before .before .before .before .before .before .before .before
+    .before .before .before .check-level in
     let w = l .inv .0 in
-    let r = c .before .before .before .before .before .before .before .before .before .before .before .before .before .before .before .before .before .before .before .before .before .before .before .before .before .before .before .before .before .before .before .before .before .before .before .before .before .before .before .pre .1 .1 in (
+    let r = c .before .before .before .before .before .before .before .before .before .before .before .before .before .before .before
+    .before .before .before .before .before .before .before .before .before .before .before .before .before .before .before .before
+    .before .before .before .before .before .before .before .before .pre .1 .1 in (
       turn-room (a .n) (fours (a .mesh .now)) (a .status .now) (l .level) (l .first) (l .last) (l .rows) (l .xs) (l .ys) (l .heads)
           (l .links) (l .k) (l .ps) (l .qs) (l .mid-heads) (l .mid-links) (l .m) (l .inv .1)
-          (c .before .before .before .before .before .before .before .before .before .before .before .before .before .before .before .before .before .before .before .before .before .before .before .before .before .before .before .before .before .before .before .before .before .before .before .before .before .before .before .pre .1 .0) (t .last .1 .1 .1 .1 .0)
+          (c .before .before .before .before .before .before .before .before .before .before .before .before .before .before .before
+          .before .before .before .before .before .before .before .before .before .before .before .before .before .before .before .before
+          .before .before .before .before .before .before .before .before .pre .1 .0) (t .last .1 .1 .1 .1 .0)
           (t .last .1 .1 .1 .1 .1 .0) (t .last .1 .1 .1 .1 .1 .1 .0) (t .last .1 .1 .1 .1 .1 .1 .1 .0) (t .result .ok) (t .result
           .n)
           (t .result .size) (t .ensures) (not-false _ (c .before .before .before .before .before .before .before .before .before .if1
           .left))
-          (c .before .before .before .before .before .before .before .before .before .before .before .before .before .before .before .before .before .before .before .before .before .before .before .before .before .before .before .before .before .before .before .before .before .before .before .before .before .before .before .pre .0 .corners) (omega (arith, r .0 .in-rows, w .of-rows, c .before .before .before .before .before .before .before .before .before .before .before .before .before .before .before .before .before .before .before .before .before .before .before .before .before .before .before .lay-coarse .kept .1 .0)) (omega (arith, r .0 .in-ps, w .of-ps))
+          (c .before .before .before .before .before .before .before .before .before .before .before .before .before .before .before
+          .before .before .before .before .before .before .before .before .before .before .before .before .before .before .before .before
+          .before .before .before .before .before .before .before .before .pre .0 .corners) (omega (
+            arith,
+            r .0 .in-rows,
+            w .of-rows,
+            c
+                .before .before .before .before .before .before .before .before .before .before .before .before .before .before .before .before
+                .before .before .before .before .before .before .before .before .before .before .before .lay-coarse .kept .1 .0,
+          )) (omega (
+            arith,
+            r .0 .in-ps,
+            w .of-ps,
+          ))
           (omega (arith, r .0 .in-qs, w .of-qs)) (omega (arith, r .2, w .of-links′)),
-      c .before .before .before .before .before .before .before .before .before .before .before .before .before .before .before .before .before .before .before .before .before .before .before .before .before .before .before .before .before .digit-table .ensures,
+      c .before .before .before .before .before .before .before .before .before .before .before .before .before .before .before .before
+          .before .before .before .before .before .before .before .before .before .before .before .before .before .digit-table .ensures,
     )
 
 add-level : tie.Need-add-level Inv-loop μ-loop
 add-level c = omega (
   arith,
-  c .before .before .before .before .before .before .before .before .before .before .before .before .before .before .before .before .before .before .before .before .before .before .before .before .before .before .before .before .before .before .before .before .before .before .loop .inv .1 .low,
+  c .before .before .before .before .before .before .before .before .before .before .before .before .before .before .before .before
+      .before .before .before .before .before .before .before .before .before .before .before .before .before .before .before .before
+      .before .before .loop .inv .1 .low,
 )
 
 loop-less : tie.Need-loop-less Inv-loop μ-loop
 loop-less c = omega (
   arith,
-  c .before .before .before .before .before .before .before .before .before .before .before .before .before .before .before .before .before .before .before .before .before .before .before .before .before .before .before .before .before .before .before .before .before .before .loop .inv .1 .low,
+  c .before .before .before .before .before .before .before .before .before .before .before .before .before .before .before .before
+      .before .before .before .before .before .before .before .before .before .before .before .before .before .before .before .before
+      .before .before .loop .inv .1 .low,
 )
 
 loop-again : tie.Need-loop-again Inv-loop μ-loop
 loop-again c =
-    let l = c .before .before .before .before .before .before .before .before .before .before .before .before .before .before .before .before .before .before .before .before .before .before .before .before .before .before .before .before .before .before .before .before .before .before .loop in
-    let a = c .before .before .before .before .before .before .before .before .before .before .before .before .before .before .before .before .before .before .before .before .before .before .before .before .before .before .before .before .before .before .before .before .before .before .before .before .before .before .before .before .before .before .before .before .before .before .before .before .before .args in
-    let t = c .before .before .before .before .before .before .before .before .before .before .before .before .before .before .before .before .before .before .before .before .before .before .before .before .before .before .before .before .check-level in
+    let l = c .before .before .before .before .before .before .before .before .before .before .before .before .before .before .before
+    .before .before .before .before .before .before .before .before .before .before .before .before .before .before .before .before
+    .before .before .before .loop in
+    let a = c .before .before .before .before .before .before .before .before .before .before .before .before .before .before .before
+    .before .before .before .before .before .before .before .before .before .before .before .before .before .before .before .before
+    .before .before .before .before .before .before .before .before .before .before .before .before .before .before .before .before
+    .before .before .args in
+    let t = c .before .before .before .before .before .before .before .before .before .before .before .before .before .before .before
+    .before .before .before .before .before .before .before .before .before .before .before .before .before .check-level in
     let g = c .before .before .before .before .before .before .before .before .before .grow-level in
     let w = l .inv .0 in (
       record {
@@ -387,18 +554,34 @@ loop-again c =
         of-heads′ = g .kept .1 .1 .1 .1 .1 .1 .1 .1 .1 .0 ∙ w .of-heads′;
         of-links′ = g .kept .1 .1 .1 .1 .1 .1 .1 .1 .1 .1 .0 ∙ w .of-links′;
       },
-    rw (add-one (l .level)) (turn-next (a .n) (fours (a .mesh .now)) (a .status .now) (l .level) (l .first) (l .last) (l .rows) (l
-    .xs)
-    (l .ys) (l .heads) (l .links) (l .k) (l .ps) (l .qs) (l .mid-heads) (l .mid-links) (l .m) (l .inv .1)
-    (c .before .before .before .before .before .before .before .before .before .before .before .before .before .before .before .before .before .before .before .before .before .before .before .before .before .before .before .before .before .before .before .before .before .before .before .before .before .before .before .before .before .before .before .before .before .before .before .before .before .pre .1 .0) (t .last .1 .1 .1 .1 .0)
-    (t .last .1 .1 .1 .1 .1 .0) (t .last .1 .1 .1 .1 .1 .1 .0) (t .last .1 .1 .1 .1 .1 .1 .1 .0) (t .result .ok) (t .result .n)
-    (t .result .size) (t .ensures) (not-false _ (c .before .before .before .before .before .before .before .before .before .before .before .before .before .before .before .before .before .before .before .if1
-    .left))
-    (c .before .before .before .before .before .before .before .before .before .before .before .before .before .before .before .before .before .if2 .left)
-    (c .before .before .before .before .before .before .before .before .before .before .before .before .before .before .before .before .if5 .left)
-    (omega (arith, c .before .before .before .before .before .before .before .before .before .before .before .before .before .before .before .before .before .before .before .before .before .before .before .before .before .before .before .before .before .before .before .before .before .before .before .before .before .before .before .before .before .before .before .before .before .before .before .before .before .pre .1 .1 .0 .in-rows, w .of-rows, c .before .before .before .before .before .before .before .before .before .before .before .before .before .before .before .before .before .before .before .before .before .before .before .before .before .before .before .before .before .before .before .before .before .before .before .before .before .lay-coarse .kept .1 .0))
-    (g .last .0) (g .last .1 .1 .1 .1 .1 .1 .1 .0) (g .last .1 .1 .1 .1 .1 .1 .1 .1 .0) (g .last .1 .1 .1 .1 .1 .1 .1 .1 .1 .0)
-    (g .last .1 .1 .1 .1 .1 .1 .1 .1 .1 .1 .0) (g .result .at) (g .result .m) (rw (add-one (l .level)) at (g .ensures))),
+      rw (add-one (l .level)) (turn-next (a .n) (fours (a .mesh .now)) (a .status .now) (l .level) (l .first) (l .last) (l .rows) (l
+          .xs)
+          (l .ys) (l .heads) (l .links) (l .k) (l .ps) (l .qs) (l .mid-heads) (l .mid-links) (l .m) (l .inv .1)
+          (c .before .before .before .before .before .before .before .before .before .before .before .before .before .before .before .before
+          .before .before .before .before .before .before .before .before .before .before .before .before .before .before .before .before
+          .before .before .before .before .before .before .before .before .before .before .before .before .before .before .before .before
+          .before .pre .1 .0) (t .last .1 .1 .1 .1 .0)
+          (t .last .1 .1 .1 .1 .1 .0) (t .last .1 .1 .1 .1 .1 .1 .0) (t .last .1 .1 .1 .1 .1 .1 .1 .0) (t .result .ok) (t .result .n)
+          (t .result .size) (t .ensures) (not-false _ (c .before .before .before .before .before .before .before .before .before .before .before
+          .before .before .before .before .before .before .before .before .if1
+          .left))
+          (c .before .before .before .before .before .before .before .before .before .before .before .before .before .before .before .before
+          .before .if2 .left)
+          (c .before .before .before .before .before .before .before .before .before .before .before .before .before .before .before .before
+          .if5 .left)
+          (omega (
+            arith,
+            c .before .before .before .before .before .before .before .before .before .before .before .before .before .before
+                .before .before .before .before .before .before .before .before .before .before .before .before .before .before .before .before
+                .before .before .before .before .before .before .before .before .before .before .before .before .before .before .before .before
+                .before .before .before .pre .1 .1 .0 .in-rows,
+            w .of-rows,
+            c .before .before .before .before .before .before .before .before
+                .before .before .before .before .before .before .before .before .before .before .before .before .before .before .before .before
+                .before .before .before .before .before .before .before .before .before .before .before .before .before .lay-coarse .kept .1 .0,
+          ))
+          (g .last .0) (g .last .1 .1 .1 .1 .1 .1 .1 .0) (g .last .1 .1 .1 .1 .1 .1 .1 .1 .0) (g .last .1 .1 .1 .1 .1 .1 .1 .1 .1 .0)
+          (g .last .1 .1 .1 .1 .1 .1 .1 .1 .1 .1 .0) (g .result .at) (g .result .m) (rw (add-one (l .level)) at (g .ensures))),
     )
 
 pub build-spec : {M : Type 1} → statement M

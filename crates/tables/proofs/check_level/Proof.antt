@@ -46,9 +46,12 @@ red-level-requires c κs =
 
 closed-level-requires : tie.Need-closed-level-requires
 closed-level-requires c κs =
-    let a = c .before .before .before .before .before .before .before .before .before .before .before .before .before .before .before .before .before .before .before .before .before .before .before .before .before .before .args in
-    let p = c .before .before .before .before .before .before .before .before .before .before .before .before .before .before .before .before .before .before .before .before .before .before .before .before .before .before .pre in
-    let i = c .before .before .before .before .before .before .before .before .before .before .before .before .before .before .before .before .before .before .before .if1 .left in
+    let a = c .before .before .before .before .before .before .before .before .before .before .before .before .before .before .before
+    .before .before .before .before .before .before .before .before .before .before .before .args in
+    let p = c .before .before .before .before .before .before .before .before .before .before .before .before .before .before .before
+    .before .before .before .before .before .before .before .before .before .before .before .pre in
+    let i = c .before .before .before .before .before .before .before .before .before .before .before .before .before .before .before
+    .before .before .before .before .if1 .left in
     let r = c .before .before .before .before .before .before .before .before .before .before .before .before .red-level in
     let l : 8 * a .last ≤ length (a .rows .now) = omega (arith, i, p .1 .1 .1 .0) in (
       record { up = p .1 .1 .0; inside = i },
@@ -56,9 +59,11 @@ closed-level-requires c κs =
           (p .1 .1 .0) l i (p .0 .few)
           (omega (
             arith,
-            c .before .before .before .before .before .before .before .before .before .before .before .before .before .before .before .before .before .if2
+            c .before .before .before .before .before .before .before .before .before .before .before .before .before .before .before
+                .before .before .if2
                 .left,
-            c .before .before .before .before .before .before .before .before .before .before .before .before .before .before .before .before .before .before .level-size .ensures,
+            c .before .before .before .before .before .before .before .before .before .before .before .before .before .before .before
+                .before .before .before .level-size .ensures,
             i,
           ))
           (r .last .1 .1 .1 .1 .0) (r .last .1 .1 .1 .1 .1 .0) (r .last .1 .1 .1 .1 .1 .1 .0) (r .last .1 .1 .1 .1 .1 .1 .1 .0) (r .result)
@@ -79,25 +84,32 @@ same-length-4 c = search needs
 
 returns-3 : tie.Need-returns-3
 returns-3 c =
-    let a = c .before .before .before .before .before .before .before .before .before .before .before .before .before .before .before .before .before .before .before .before .before .before .before .before .before .before .before .args in
-    let p = c .before .before .before .before .before .before .before .before .before .before .before .before .before .before .before .before .before .before .before .before .before .before .before .before .before .before .before .pre in
-    let i = c .before .before .before .before .before .before .before .before .before .before .before .before .before .before .before .before .before .before .before .before .if1 .left in
+    let a = c .before .before .before .before .before .before .before .before .before .before .before .before .before .before .before
+    .before .before .before .before .before .before .before .before .before .before .before .before .args in
+    let p = c .before .before .before .before .before .before .before .before .before .before .before .before .before .before .before
+    .before .before .before .before .before .before .before .before .before .before .before .before .pre in
+    let i = c .before .before .before .before .before .before .before .before .before .before .before .before .before .before .before
+    .before .before .before .before .before .if1 .left in
     let r = c .before .before .before .before .before .before .before .before .before .before .before .before .before .red-level in
     let l : 8 * a .last ≤ length (a .rows .now) = omega (arith, i, p .1 .1 .1 .0) in
     checked (a .rows .now) (a .status .now) (a .first) (a .last) (a .xs .now) (a .ys .now) (a .heads .now) (a .links .now) (a .n) (p .1 .0)
     (p .1 .1 .0) l i (p .0 .few)
     (omega (
       arith,
-      c .before .before .before .before .before .before .before .before .before .before .before .before .before .before .before .before .before .before .if2
+      c .before .before .before .before .before .before .before .before .before .before .before .before .before .before .before .before
+          .before .before .if2
           .left,
-      c .before .before .before .before .before .before .before .before .before .before .before .before .before .before .before .before .before .before .before .level-size .ensures,
+      c .before .before .before .before .before .before .before .before .before .before .before .before .before .before .before .before
+          .before .before .before .level-size .ensures,
       i,
     ))
     (r .last .1 .1 .1 .1 .0) (r .last .1 .1 .1 .1 .1 .0) (r .last .1 .1 .1 .1 .1 .1 .0) (r .last .1 .1 .1 .1 .1 .1 .1 .0) (r .result)
     (r .ensures)
     (c .closed-level .result)
-    (c .before .before .before .before .before .before .before .before .before .before .before .before .before .before .before .before .before .before .before .level-size .result)
-    (c .before .before .before .before .before .before .before .before .before .before .before .before .before .before .before .before .before .before .before .level-size .ensures) (c .closed-level .ensures)
+    (c .before .before .before .before .before .before .before .before .before .before .before .before .before .before .before .before
+    .before .before .before .level-size .result)
+    (c .before .before .before .before .before .before .before .before .before .before .before .before .before .before .before .before
+    .before .before .before .level-size .ensures) (c .closed-level .ensures)
 
 pub check-level-spec : {M : Type 1} → statement M
 check-level-spec =

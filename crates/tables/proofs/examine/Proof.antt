@@ -35,7 +35,19 @@ returns-2 c =
 examine-few-requires : tie.Need-examine-few-requires
 examine-few-requires c κs = (
   c .before .before .before .before .before .before .before .before .before .before .before .before .pre .0,
-  ((record { few = c .before .before .before .before .before .before .if1 .left; fit = sym (c .before .before .before .before .before .fits2 .ensures) ∙ not-false _ (c .before .before .before .before .if2 .left) }, c .before .before .before .if3 .taken), c .before .before .before .before .before .before .before .before .before .before .before .before .pre .1 (c .before .before .before .before .before .before .if1 .left)),
+  (
+    (
+      record {
+        few = c .before .before .before .before .before .before .if1 .left;
+        fit = sym (c .before .before .before .before .before
+            .fits2 .ensures) ∙ not-false _ (c .before .before .before .before .if2 .left);
+      },
+      c .before .before .before .if3 .taken,
+    ),
+    c .before
+        .before .before .before .before .before .before .before .before .before .before .before .pre .1 (c .before .before .before .before
+        .before .before .if1 .left),
+  ),
 )
 
 same-length : tie.Need-same-length
@@ -53,7 +65,15 @@ returns-3 c = search needs
 examine-many-requires : tie.Need-examine-many-requires
 examine-many-requires c κs = (
   c .before .before .before .before .before .before .before .before .before .before .before .before .pre .0,
-  (record { few = c .before .before .before .before .before .before .if1 .left; fit = sym (c .before .before .before .before .before .fits2 .ensures) ∙ not-false _ (c .before .before .before .before .if2 .left) }, c .before .before .before .before .before .before .before .before .before .before .before .before .pre .1 (c .before .before .before .before .before .before .if1 .left)),
+  (
+    record {
+      few = c .before .before .before .before .before .before .if1 .left;
+      fit = sym (c .before .before .before .before .before
+          .fits2 .ensures) ∙ not-false _ (c .before .before .before .before .if2 .left);
+    },
+    c .before .before .before .before .before .before
+        .before .before .before .before .before .before .pre .1 (c .before .before .before .before .before .before .if1 .left),
+  ),
 )
 
 same-length-4 : tie.Need-same-length-4

@@ -77,7 +77,8 @@ loop-again c =
       omega (arith, t),
       refl,
       w .kept .0 ∙ l .inv .2,
-      rw (w .ensures) (row-more (c .before .before .before .before .before .before .before .before .before .before .before .before .args .mesh .now) (l .rows)
+      rw (w .ensures) (row-more (c .before .before .before .before .before .before .before .before .before .before .before .before .args
+          .mesh .now) (l .rows)
           (l .c) (omega (arith, t)) (omega (
             arith,
             t,
