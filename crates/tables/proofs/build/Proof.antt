@@ -240,11 +240,13 @@ apart-requires c κs =
           (omega (
             arith,
             c .before .before .before .before .before .before .before .before .before .before .before .before .before .before
-                .before .before .before .before .before .before .before .before .before .before .before .before .before .before .before .before
+                .before .before .before .before .before .before .before .before .before .before .before .before .before .before
+                .before .before
                 .before .before .before .before .before .before .before .before .pre .1 .1 .0 .in-rows,
             l .inv .0 .of-rows,
             c .before .before
-                .before .before .before .before .before .before .before .before .before .before .before .before .before .before .before .before
+                .before .before .before .before .before .before .before .before .before .before .before .before .before .before
+                .before .before
                 .before .before .before .before .before .before .before .before .lay-coarse .kept .1 .0,
             c .before .before .before .before
                 .before .if3 .left,
@@ -502,7 +504,8 @@ grow-level-requires c κs =
             r .0 .in-rows,
             w .of-rows,
             c
-                .before .before .before .before .before .before .before .before .before .before .before .before .before .before .before .before
+                .before .before .before .before .before .before .before .before .before .before .before .before .before .before
+                .before .before
                 .before .before .before .before .before .before .before .before .before .before .before .lay-coarse .kept .1 .0,
           )) (omega (
             arith,
@@ -562,7 +565,8 @@ loop-again c =
           .before .before .before .before .before .before .before .before .before .before .before .before .before .before .before .before
           .before .pre .1 .0) (t .last .1 .1 .1 .1 .0)
           (t .last .1 .1 .1 .1 .1 .0) (t .last .1 .1 .1 .1 .1 .1 .0) (t .last .1 .1 .1 .1 .1 .1 .1 .0) (t .result .ok) (t .result .n)
-          (t .result .size) (t .ensures) (not-false _ (c .before .before .before .before .before .before .before .before .before .before .before
+          (t .result .size) (t .ensures) (not-false _ (c .before .before .before .before .before .before .before .before .before
+          .before .before
           .before .before .before .before .before .before .before .before .if1
           .left))
           (c .before .before .before .before .before .before .before .before .before .before .before .before .before .before .before .before
@@ -572,13 +576,17 @@ loop-again c =
           (omega (
             arith,
             c .before .before .before .before .before .before .before .before .before .before .before .before .before .before
-                .before .before .before .before .before .before .before .before .before .before .before .before .before .before .before .before
-                .before .before .before .before .before .before .before .before .before .before .before .before .before .before .before .before
+                .before .before .before .before .before .before .before .before .before .before .before .before .before .before
+                .before .before
+                .before .before .before .before .before .before .before .before .before .before .before .before .before .before
+                .before .before
                 .before .before .before .pre .1 .1 .0 .in-rows,
             w .of-rows,
             c .before .before .before .before .before .before .before .before
-                .before .before .before .before .before .before .before .before .before .before .before .before .before .before .before .before
-                .before .before .before .before .before .before .before .before .before .before .before .before .before .lay-coarse .kept .1 .0,
+                .before .before .before .before .before .before .before .before .before .before .before .before .before .before
+                .before .before
+                .before .before .before .before .before .before .before .before .before .before .before .before .before .lay-coarse
+                .kept .1 .0,
           ))
           (g .last .0) (g .last .1 .1 .1 .1 .1 .1 .1 .0) (g .last .1 .1 .1 .1 .1 .1 .1 .1 .0) (g .last .1 .1 .1 .1 .1 .1 .1 .1 .1 .0)
           (g .last .1 .1 .1 .1 .1 .1 .1 .1 .1 .1 .0) (g .result .at) (g .result .m) (rw (add-one (l .level)) at (g .ensures))),
