@@ -56,6 +56,9 @@ module _ (n : ℕ) (qs : List (List ℕ)) (ss : List ℕ) (j first last : ℕ) (
       closed = sym (closed-are n qs ss j first last rows xs ys heads links k ps ps′ heads′ links′ m h) ∙ sym (turn-fits e .whole .closed)
           ∙ e
 
+      pub turn-inside : last ≤ length ss
+      turn-inside = turn-fits e .inside
+
       pub turn-top : size ≡ 0 → Top n qs ss j last rows xs₁ ys₁ heads₁ links₁ k₁ ps ps′ heads′ links′ m
       turn-top z =
           let f = turn-fits e in

@@ -2,10 +2,11 @@
 -- Assumes nothing.
 use mathlib.Core.Path.{_≡_, refl, sym, _∙_, ap}
 use mathlib.Core.Logic.{⊎-elim}
-use mathlib.Core.Bool.{false, Bool, true}
+use mathlib.Core.Bool.{false, Bool, true, _&&_}
 use mathlib.Core.List.{List, [], _∷_, _++_, flatMap}
 use Rattle.numbering.specs.Renamed.{apartOf}
 use Prim.Native.Nat.{ℕ, suc, _+_, _*_, _-_, _<_, _≤_}
+use native.Mathlib.Decide.{ℕ-discrete}
 use native.Mathlib.Omega.{arith}
 use lib.Dec.{eqb, leb}
 use lib.ListN.{length, take}
@@ -27,6 +28,26 @@ use Rattle.tables.specs.Here.{Top, Child}
 use Rattle.tables.specs.Sound.{LaidSound, examinedCorners, unlessSound, Examined}
 use Rattle.tables.specs.Apart.{apart-rows, parents-rows}
 use Rattle.tables.specs.Onward.{four-in, length-in}
+
+-- what the end of a building finds: whether all statuses are used and the third condition holds, and then the counts
+pub record Concluded (ss rows xs ys : List ℕ) (k last level m refusal cells levels mids : ℕ) : Type 0 where
+  pub answer : refusal ≡ unlessSound (eqb (length ss) last && apartAll (listed xs ys 0 k) rows last)
+  pub counts : refusal ≡ 0 → (cells ≡ last) × (levels ≡ suc level) × (mids ≡ m)
+
+module _ (ss rows xs ys : List ℕ) (k last level m refusal cells levels mids : ℕ) where
+  pub ended-short : (length ss ≡ last → ⊥) → refusal ≡ 6 → Concluded ss rows xs ys k last level m refusal cells levels mids
+  unfolding unlessSound
+  ended-short ne six = record { answer = six ∙ rw (ne-eqb (length ss) last ne); counts = λ z. absurd (omega arith) }
+
+  module _ (e : length ss ≡ last) (ok : Bool) (a : ok ≡ apartAll (listed xs ys 0 k) rows last) where
+    pub ended-not : ok ≡ false → refusal ≡ 6 → Concluded ss rows xs ys k last level m refusal cells levels mids
+    unfolding unlessSound
+    ended-not f six =
+        record { answer = six ∙ rw (eq-eqb (length ss) last e, sym a ∙ f); counts = λ z. absurd (omega arith) }
+
+    pub ended-so : ok ≡ true → Concluded ss rows xs ys k last level m 0 last (level + 1) m
+    unfolding unlessSound
+    ended-so t = record { answer = rw (eq-eqb (length ss) last e, sym a ∙ t); counts = λ z. (refl, omega arith, refl) }
 
 -- what a sound table cannot be
 module _ (n : ℕ) (qs : List (List ℕ)) (ss : List ℕ) where
@@ -102,6 +123,18 @@ module _ (n : ℕ) (qs : List (List ℕ)) (ss : List ℕ) (j last : ℕ) (rows x
           corners = rw named (t .numbered);
         }
 
-    pub top-examined : (ok : Bool) → ok ≡ apartAll (listed xs ys 0 k) rows last → ok ≡ true → Examined n qs ss rows ps ps′ 0 last (suc j) m
-    unfolding unlessSound
-    top-examined ok a o = record { answer = sym (ap unlessSound (sym top-apart ∙ sym a ∙ o)); sound = λ z. top-sound }
+  -- what the end of a building finds
+  pub top-ended : (refusal cells levels mids : ℕ) → Concluded ss rows xs ys k last j m refusal cells levels mids
+      → Examined n qs ss rows ps ps′ refusal cells levels mids
+  unfolding unlessSound
+  top-ended refusal cells levels mids d = go (ℕ-discrete (length ss) last)
+    where
+      go : Dec (length ss ≡ last) → Examined n qs ss rows ps ps′ refusal cells levels mids
+      go (yes e) =
+          let a : refusal ≡ unlessSound (soundb n qs ss) = rw (eq-eqb (length ss) last e, top-apart e) at (d .answer) in
+          record {
+            answer = a;
+            sound = λ z. let (c, l, i) = d .counts z in rw (c, l, i) (top-sound e);
+          }
+      go (no e) =
+          unsound-examined n qs ss rows ps ps′ refusal cells levels mids (d .answer ∙ rw (ne-eqb (length ss) last e)) (top-not e)

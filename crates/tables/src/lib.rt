@@ -5,7 +5,10 @@ ghost use Prim.Native.Nat.{_*_, _≤_};
 ghost use lib.ListN.{length, take};
 ghost use Rattle.base.specs.Fours.{fours};
 ghost use Rattle.base.specs.Lent.{was, is};
+ghost use Rattle.closure.specs.Ready.{Looks};
+ghost use Rattle.separation.specs.Parents.{Parents};
 ghost use Rattle.tables.specs.Checked.{Statuses, Reds, Checked};
+ghost use Rattle.tables.specs.Finish.{Concluded};
 ghost use Rattle.tables.specs.Room.{TableRoom, RedRoom};
 ghost use Rattle.tables.specs.Start.{Coarse, coarseRow};
 ghost use Rattle.tables.specs.Sound.{Mesh, Examined};
@@ -101,6 +104,40 @@ pub fn lay_coarse(mesh: &[u16], rows: &mut [u16]) -> usize
     count
 }
 
+// The end of a building, at so many cells and new corners up to this level: refusal 6 where there are more statuses or the third condition
+// does not hold.
+fn finish(
+    status: &[u8],
+    rows: &[u16],
+    xs: &[u32],
+    ys: &[u32],
+    heads: &[u16],
+    links: &[u16],
+    k: usize,
+    coarse: usize,
+    last: usize,
+    level: usize,
+    m: usize,
+) -> Outcome
+    requires { ⌜ Looks (now rows) (now xs) (now ys) (now heads) (now links) last 0 k ⌝ }
+    requires { ⌜ Parents (now rows) last × (level ≤ 10) ⌝ }
+    ensures { λ r. ⌜ Concluded (was status) (was rows) (was xs) (was ys) k last level m (r .refusal) (r .cells) (r .levels) (r .mids) ⌝ }
+{
+    if status.len() != last {
+        return refused(6);
+    }
+    if !separation::apart(rows, last, xs, ys, heads, links, 0, k) {
+        return refused(6);
+    }
+    Outcome {
+        refusal: 0,
+        coarse,
+        cells: last,
+        levels: level + 1,
+        mids: m,
+    }
+}
+
 // Builds a table of few statuses level by level, and examines it. The tables from xs on are for the work, whatever they hold.
 fn build(
     mesh: &[u16],
@@ -136,19 +173,19 @@ fn build(
         }
         k = c.n;
         if c.size == 0 {
-            if status.len() != last {
-                return refused(6);
-            }
-            if !separation::apart(rows, last, xs, ys, &heads, links, 0, k) {
-                return refused(6);
-            }
-            return Outcome {
-                refusal: 0,
+            return finish(
+                status,
+                rows,
+                xs,
+                ys,
+                &heads,
+                links,
+                k,
                 coarse,
-                cells: last,
-                levels: level + 1,
-                mids: m,
-            };
+                last,
+                level,
+                m,
+            );
         }
         if level == 10 {
             return refused(6);

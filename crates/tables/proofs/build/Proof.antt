@@ -10,8 +10,8 @@ use Rattle.base.specs.Fours.{fours}
 use Rattle.tables.specs.Here.{Here, Top}
 use Rattle.tables.specs.Room.{SameLengths}
 use Rattle.tables.specs.Begin.{here-start}
-use Rattle.tables.proofs.Turns.{turn-fails, turn-top, turn-high, turn-room, turn-next}
-use Rattle.tables.specs.Finish.{unsound-examined, top-looks, top-parents, top-not, top-apart, top-examined}
+use Rattle.tables.proofs.Turns.{turn-fails, turn-inside, turn-top, turn-high, turn-room, turn-next}
+use Rattle.tables.specs.Finish.{unsound-examined, top-looks, top-parents, top-ended}
 use Rattle.pairs.specs.Keys.{clear-new}
 use borrow.Author.Needs.{needs}
 use Rattle.tables.proofs.build.Statement.{statement}
@@ -150,70 +150,99 @@ returns c =
     (t .last .1 .1 .1 .1 .1 .1 .1 .0) (t .result .ok) (t .result .n) (t .result .size) (t .ensures)
     (not-true _ (c .before .if1 .taken)))
 
-refused-requires-2 : tie.Need-refused-requires-2 Inv-loop μ-loop
-refused-requires-2 c κs = search needs
+slice-aggregate-finish : tie.Need-slice-aggregate-finish Inv-loop μ-loop
+slice-aggregate-finish c = sym (c .before .before .before .before .before .before .before .before .before .before .before .before .before
+    .before .before .check-level .kept .1 .1 .1 .1 .1 .1 .0 ∙ c .before .before .before .before .before .before .before .before .before
+    .before .before .before .before .before .before .before .before .before .before .before .before .loop .inv .0 .of-heads)
 
-same-length-8 : tie.Need-same-length-8 Inv-loop μ-loop
-same-length-8 c = c .before .before .before .before .before .before .before .before .before .before .before .before .before .before
-    .before .before .before .before .before .loop .inv .0 .of-rows ∙ c .before .before .before .before .before .before .before .before
-    .before .before .before .before .before .before .before .before .before .before .before .before .before .before .lay-coarse .kept .1 .0
-
-same-length-9 : tie.Need-same-length-9 Inv-loop μ-loop
-same-length-9 c = c .before .before .before .before .before .before .before .before .before .before .before .before .before .before
-    .before .before .before .before .before .loop .inv .0 .of-ps
-
-same-length-10 : tie.Need-same-length-10 Inv-loop μ-loop
-same-length-10 c = c .before .before .before .before .before .before .before .before .before .before .before .before .before .before
-    .before .before .before .before .before .loop .inv .0 .of-qs
-
-same-length-11 : tie.Need-same-length-11 Inv-loop μ-loop
-same-length-11 c = c .before .before .before .before .before .before .before .before .before .before .before .before .before .check-level
-    .kept .1 .1 .1 .1 .0 ∙ c .before .before .before .before .before .before .before .before .before .before .before .before .before
-    .before .before .before .before .before .before .loop .inv .0 .of-xs
-
-same-length-12 : tie.Need-same-length-12 Inv-loop μ-loop
-same-length-12 c = c .before .before .before .before .before .before .before .before .before .before .before .before .before .check-level
-    .kept .1 .1 .1 .1 .1 .0 ∙ c .before .before .before .before .before .before .before .before .before .before .before .before .before
-    .before .before .before .before .before .before .loop .inv .0 .of-ys
-
-same-length-13 : tie.Need-same-length-13 Inv-loop μ-loop
-same-length-13 c = c .before .before .before .before .before .before .before .before .before .before .before .before .before .check-level
-    .kept .1 .1 .1 .1 .1 .1 .1 .0 ∙ c .before .before .before .before .before .before .before .before .before .before .before .before
-    .before .before .before .before .before .before .before .loop .inv .0 .of-links
-
-same-length-14 : tie.Need-same-length-14 Inv-loop μ-loop
-same-length-14 c = c .before .before .before .before .before .before .before .before .before .before .before .before .before .before
-    .before .before .before .before .before .loop .inv .0 .of-links′
-
-returns-2 : tie.Need-returns-2 Inv-loop μ-loop
-returns-2 c =
+finish-requires : tie.Need-finish-requires Inv-loop μ-loop
+finish-requires c κs =
     let l = c .before .before .before .before .before .before .before .before .before .before .before .before .before .before .before
-    .before .before .before .before .loop in
+    .before .before .before .before .before .before .before .loop in
     let a = c .before .before .before .before .before .before .before .before .before .before .before .before .before .before .before
     .before .before .before .before .before .before .before .before .before .before .before .before .before .before .before .before
-    .before .before .before .args in
-    let t = c .before .before .before .before .before .before .before .before .before .before .before .before .before .check-level in
+    .before .before .before .before .before .before .args in
+    let t = c .before .before .before .before .before .before .before .before .before .before .before .before .before .before .before
+    .before .check-level in
+    let ok = not-false _ (c .before .before .before .before .before .before .before .if1 .left) in
     let o : Top (a .n) (fours (a .mesh .now)) (a .status .now) (l .level) (l .last) (l .rows) (t .last .1 .1 .1 .1 .0)
     (t .last .1 .1 .1 .1 .1 .0) (t .last .1 .1 .1 .1 .1 .1 .0) (t .last .1 .1 .1 .1 .1 .1 .1 .0) (t .result .n) (l .ps) (l .qs)
     (l .mid-heads) (l .mid-links) (l .m) = turn-top (a .n) (fours (a .mesh .now)) (a .status .now) (l .level) (l .first) (l .last)
     (l .rows) (l .xs) (l .ys) (l .heads) (l .links) (l .k) (l .ps) (l .qs) (l .mid-heads) (l .mid-links) (l .m) (l .inv .1)
     (c .before .before .before .before .before .before .before .before .before .before .before .before .before .before .before .before
     .before .before .before .before .before .before .before .before .before .before .before .before .before .before .before .before
-    .before .before .pre .1 .0) (t .last .1 .1 .1 .1 .0) (t .last .1 .1 .1 .1 .1 .0)
-    (t .last .1 .1 .1 .1 .1 .1 .0) (t .last .1 .1 .1 .1 .1 .1 .1 .0) (t .result .ok) (t .result .n) (t .result .size) (t .ensures)
-    (not-false _ (c .before .before .before .before .if1 .left)) (c .before .before .if2 .taken) in
-    unsound-examined (a .n) (fours (a .mesh .now)) (a .status .now) (l .rows) (l .ps) (l .qs) _ _ _ _ (c .refused2 .ensures .0)
-    (top-not (a .n) (fours (a .mesh .now)) (a .status .now) (l .level) (l .last) (l .rows) (t .last .1 .1 .1 .1 .0)
-    (t .last .1 .1 .1 .1 .1 .0) (t .last .1 .1 .1 .1 .1 .1 .0) (t .last .1 .1 .1 .1 .1 .1 .1 .0) (t .result .n) (l .ps) (l .qs)
-    (l .mid-heads) (l .mid-links) (l .m) o (c .before .if3 .taken))
+    .before .before .before .before .before .pre .1 .0)
+    (t .last .1 .1 .1 .1 .0) (t .last .1 .1 .1 .1 .1 .0) (t .last .1 .1 .1 .1 .1 .1 .0) (t .last .1 .1 .1 .1 .1 .1 .1 .0)
+    (t .result .ok) (t .result .n) (t .result .size) (t .ensures) ok (c .before .before .before .before .before .if2 .taken) in
+    let i = turn-inside (a .n) (fours (a .mesh .now)) (a .status .now) (l .level) (l .first) (l .last)
+    (l .rows) (l .xs) (l .ys) (l .heads) (l .links) (l .k) (l .ps) (l .qs) (l .mid-heads) (l .mid-links) (l .m) (l .inv .1)
+    (c .before .before .before .before .before .before .before .before .before .before .before .before .before .before .before .before
+    .before .before .before .before .before .before .before .before .before .before .before .before .before .before .before .before
+    .before .before .before .before .before .pre .1 .0)
+    (t .last .1 .1 .1 .1 .0) (t .last .1 .1 .1 .1 .1 .0) (t .last .1 .1 .1 .1 .1 .1 .0) (t .last .1 .1 .1 .1 .1 .1 .1 .0)
+    (t .result .ok) (t .result .n) (t .result .size) (t .ensures) ok in (
+      top-looks (a .n) (fours (a .mesh .now)) (a .status .now) (l .level) (l .last) (l .rows) (t .last .1 .1 .1 .1 .0)
+          (t .last .1 .1 .1 .1 .1 .0) (t .last .1 .1 .1 .1 .1 .1 .0) (t .last .1 .1 .1 .1 .1 .1 .1 .0) (t .result .n) (l .ps) (l
+          .qs)
+          (l .mid-heads) (l .mid-links) (l .m) o
+          (omega (
+            arith,
+            c .before .before .before .before .before .before .before .before .before .before .before .before .before .before
+                .before .before .before .before .before .before .before .before .before .before .before .before .before .before .before
+                .before
+                .before .before .before .before .before .before .before .pre .1 .1 .0 .in-rows,
+            l .inv .0 .of-rows,
+            c .before .before .before
+                .before .before .before .before .before .before .before .before .before .before .before .before .before .before .before
+                .before
+                .before .before .before .before .before .before .lay-coarse .kept .1 .0,
+            i,
+          )),
+      (
+        top-parents (a .n) (fours (a .mesh .now)) (a .status .now) (l .level)
+            (l .last) (l .rows) (t .last .1 .1 .1 .1 .0) (t .last .1 .1 .1 .1 .1 .0) (t .last .1 .1 .1 .1 .1 .1 .0)
+            (t .last .1 .1 .1 .1 .1 .1 .1 .0) (t .result .n) (l .ps) (l .qs) (l .mid-heads) (l .mid-links) (l .m) o,
+        o .low,
+      ),
+    )
 
-slice-aggregate-apart : tie.Need-slice-aggregate-apart Inv-loop μ-loop
-slice-aggregate-apart c = sym (c .before .before .before .before .before .before .before .before .before .before .before .before .before
-    .before .before .before .check-level .kept .1 .1 .1 .1 .1 .1 .0 ∙ c .before .before .before .before .before .before .before .before
-    .before .before .before .before .before .before .before .before .before .before .before .before .before .before .loop .inv .0 .of-heads)
+same-length-8 : tie.Need-same-length-8 Inv-loop μ-loop
+same-length-8 c = c .before .before .before .before .before .before .before .before .before .before .before .before .before .before
+    .before .before .before .before .before .before .before .before .before .loop .inv .0 .of-rows ∙ c .before .before .before .before
+    .before .before .before .before .before .before .before .before .before .before .before .before .before .before .before .before
+    .before .before .before .before .before .before .lay-coarse .kept .1 .0
 
-apart-requires : tie.Need-apart-requires Inv-loop μ-loop
-apart-requires c κs =
+same-length-9 : tie.Need-same-length-9 Inv-loop μ-loop
+same-length-9 c = c .before .before .before .before .before .before .before .before .before .before .before .before .before .before
+    .before .before .before .before .before .before .before .before .before .loop .inv .0 .of-ps
+
+same-length-10 : tie.Need-same-length-10 Inv-loop μ-loop
+same-length-10 c = c .before .before .before .before .before .before .before .before .before .before .before .before .before .before
+    .before .before .before .before .before .before .before .before .before .loop .inv .0 .of-qs
+
+same-length-11 : tie.Need-same-length-11 Inv-loop μ-loop
+same-length-11 c = c .before .before .before .before .before .before .before .before .before .before .before .before .before .before
+    .before .before .before .check-level .kept .1 .1 .1 .1 .0 ∙ c .before .before .before .before .before .before .before .before .before
+    .before .before .before .before .before .before .before .before .before .before .before .before .before .before .loop .inv .0 .of-xs
+
+same-length-12 : tie.Need-same-length-12 Inv-loop μ-loop
+same-length-12 c = c .before .before .before .before .before .before .before .before .before .before .before .before .before .before
+    .before .before .before .check-level .kept .1 .1 .1 .1 .1 .0 ∙ c .before .before .before .before .before .before .before .before
+    .before .before .before .before .before .before .before .before .before .before .before .before .before .before .before .loop .inv .0
+    .of-ys
+
+same-length-13 : tie.Need-same-length-13 Inv-loop μ-loop
+same-length-13 c = c .before .before .before .before .before .before .before .before .before .before .before .before .before .before
+    .before .before .before .check-level .kept .1 .1 .1 .1 .1 .1 .1 .0 ∙ c .before .before .before .before .before .before .before .before
+    .before .before .before .before .before .before .before .before .before .before .before .before .before .before .before .loop .inv .0
+    .of-links
+
+same-length-14 : tie.Need-same-length-14 Inv-loop μ-loop
+same-length-14 c = c .before .before .before .before .before .before .before .before .before .before .before .before .before .before
+    .before .before .before .before .before .before .before .before .before .loop .inv .0 .of-links′
+
+returns-2 : tie.Need-returns-2 Inv-loop μ-loop
+returns-2 c =
     let l = c .before .before .before .before .before .before .before .before .before .before .before .before .before .before .before
     .before .before .before .before .before .before .before .before .loop in
     let a = c .before .before .before .before .before .before .before .before .before .before .before .before .before .before .before
@@ -221,6 +250,7 @@ apart-requires c κs =
     .before .before .before .before .before .before .before .args in
     let t = c .before .before .before .before .before .before .before .before .before .before .before .before .before .before .before
     .before .before .check-level in
+    let f = c .finish in
     let o : Top (a .n) (fours (a .mesh .now)) (a .status .now) (l .level) (l .last) (l .rows) (t .last .1 .1 .1 .1 .0)
     (t .last .1 .1 .1 .1 .1 .0) (t .last .1 .1 .1 .1 .1 .1 .0) (t .last .1 .1 .1 .1 .1 .1 .1 .0) (t .result .n) (l .ps) (l .qs)
     (l .mid-heads) (l .mid-links) (l .m) = turn-top (a .n) (fours (a .mesh .now)) (a .status .now) (l .level) (l .first) (l .last)
@@ -229,225 +259,64 @@ apart-requires c κs =
     .before .before .before .before .before .before .before .before .before .before .before .before .before .before .before .before
     .before .before .before .before .before .before .pre .1 .0)
     (t .last .1 .1 .1 .1 .0) (t .last .1 .1 .1 .1 .1 .0) (t .last .1 .1 .1 .1 .1 .1 .0) (t .last .1 .1 .1 .1 .1 .1 .1 .0)
-    (t .result .ok) (t .result .n) (t .result .size) (t .ensures)
-    (not-false _ (c .before .before .before .before .before .before .before .before .if1
-    .left))
-    (c .before .before .before .before .before .before .if2 .taken) in (
-      top-looks (a .n) (fours (a .mesh .now)) (a .status .now) (l .level) (l .last) (l .rows) (t .last .1 .1 .1 .1 .0)
-          (t .last .1 .1 .1 .1 .1 .0) (t .last .1 .1 .1 .1 .1 .1 .0) (t .last .1 .1 .1 .1 .1 .1 .1 .0) (t .result .n) (l .ps) (l
-          .qs)
-          (l .mid-heads) (l .mid-links) (l .m) o
-          (omega (
-            arith,
-            c .before .before .before .before .before .before .before .before .before .before .before .before .before .before
-                .before .before .before .before .before .before .before .before .before .before .before .before .before .before
-                .before .before
-                .before .before .before .before .before .before .before .before .pre .1 .1 .0 .in-rows,
-            l .inv .0 .of-rows,
-            c .before .before
-                .before .before .before .before .before .before .before .before .before .before .before .before .before .before
-                .before .before
-                .before .before .before .before .before .before .before .before .lay-coarse .kept .1 .0,
-            c .before .before .before .before
-                .before .if3 .left,
-          )),
-      top-parents (a .n) (fours (a .mesh .now)) (a .status .now) (l .level)
-          (l .last) (l .rows) (t .last .1 .1 .1 .1 .0) (t .last .1 .1 .1 .1 .1 .0) (t .last .1 .1 .1 .1 .1 .1 .0)
-          (t .last .1 .1 .1 .1 .1 .1 .1 .0) (t .result .n) (l .ps) (l .qs) (l .mid-heads) (l .mid-links) (l .m) o,
-    )
+    (t .result .ok) (t .result .n) (t .result .size) (t .ensures) (not-false _ (c .before .before .before .before .before .before .before
+    .before .if1 .left)) (c .before .before .before .before .before .before .if2 .taken) in
+    top-ended (a .n) (fours (a .mesh .now)) (a .status .now) (l .level) (l .last) (l .rows)
+    (t .last .1 .1 .1 .1 .0) (t .last .1 .1 .1 .1 .1 .0) (t .last .1 .1 .1 .1 .1 .1 .0) (t .last .1 .1 .1 .1 .1 .1 .1 .0) (t .result .n)
+    (l .ps) (l .qs) (l .mid-heads) (l .mid-links) (l .m) o (f .result .refusal) (f .result .cells) (f .result .levels) (f .result .mids)
+    (f .ensures)
 
-refused-requires-3 : tie.Need-refused-requires-3 Inv-loop μ-loop
-refused-requires-3 c κs = search needs
+refused-requires-2 : tie.Need-refused-requires-2 Inv-loop μ-loop
+refused-requires-2 c κs = search needs
 
 same-length-15 : tie.Need-same-length-15 Inv-loop μ-loop
 same-length-15 c = c .before .before .before .before .before .before .before .before .before .before .before .before .before .before
-    .before .before .before .before .before .before .before .before .before .before .before .before .loop .inv .0 .of-rows ∙ c .before
-    .before .before .before .before .before .before .before .before .before .before .before .before .before .before .before .before
-    .before .before .before .before .before .before .before .before .before .before .before .before .lay-coarse .kept .1 .0
-
-same-length-16 : tie.Need-same-length-16 Inv-loop μ-loop
-same-length-16 c = c .before .before .before .before .before .before .before .before .before .before .before .before .before .before
-    .before .before .before .before .before .before .before .before .before .before .before .before .loop .inv .0 .of-ps
-
-same-length-17 : tie.Need-same-length-17 Inv-loop μ-loop
-same-length-17 c = c .before .before .before .before .before .before .before .before .before .before .before .before .before .before
-    .before .before .before .before .before .before .before .before .before .before .before .before .loop .inv .0 .of-qs
-
-same-length-18 : tie.Need-same-length-18 Inv-loop μ-loop
-same-length-18 c = c .before .before .before .before .before .before .before .before .before .before .before .before .before .before
-    .before .before .before .before .before .before .check-level .kept .1 .1 .1 .1 .0 ∙ c .before .before .before .before .before .before
-    .before .before .before .before .before .before .before .before .before .before .before .before .before .before .before .before
-    .before .before .before .before .loop .inv .0 .of-xs
-
-same-length-19 : tie.Need-same-length-19 Inv-loop μ-loop
-same-length-19 c = c .before .before .before .before .before .before .before .before .before .before .before .before .before .before
-    .before .before .before .before .before .before .check-level .kept .1 .1 .1 .1 .1 .0 ∙ c .before .before .before .before .before
-    .before .before .before .before .before .before .before .before .before .before .before .before .before .before .before .before
-    .before .before .before .before .before .loop .inv .0 .of-ys
-
-same-length-20 : tie.Need-same-length-20 Inv-loop μ-loop
-same-length-20 c = c .before .before .before .before .before .before .before .before .before .before .before .before .before .before
-    .before .before .before .before .before .before .check-level .kept .1 .1 .1 .1 .1 .1 .1 .0 ∙ c .before .before .before .before .before
-    .before .before .before .before .before .before .before .before .before .before .before .before .before .before .before .before
-    .before .before .before .before .before .loop .inv .0 .of-links
-
-same-length-21 : tie.Need-same-length-21 Inv-loop μ-loop
-same-length-21 c = c .before .before .before .before .before .before .before .before .before .before .before .before .before .before
-    .before .before .before .before .before .before .before .before .before .before .before .before .loop .inv .0 .of-links′
-
-returns-3 : tie.Need-returns-3 Inv-loop μ-loop
-returns-3 c =
-    let l = c .before .before .before .before .before .before .before .before .before .before .before .before .before .before .before
-    .before .before .before .before .before .before .before .before .before .before .before .loop in
-    let a = c .before .before .before .before .before .before .before .before .before .before .before .before .before .before .before
-    .before .before .before .before .before .before .before .before .before .before .before .before .before .before .before .before
-    .before .before .before .before .before .before .before .before .before .before .args in
-    let t = c .before .before .before .before .before .before .before .before .before .before .before .before .before .before .before
-    .before .before .before .before .before .check-level in
-    let o : Top (a .n) (fours (a .mesh .now)) (a .status .now) (l .level) (l .last) (l .rows) (t .last .1 .1 .1 .1 .0)
-    (t .last .1 .1 .1 .1 .1 .0) (t .last .1 .1 .1 .1 .1 .1 .0) (t .last .1 .1 .1 .1 .1 .1 .1 .0) (t .result .n) (l .ps) (l .qs)
-    (l .mid-heads) (l .mid-links) (l .m) = turn-top (a .n) (fours (a .mesh .now)) (a .status .now) (l .level) (l .first) (l .last)
-    (l .rows) (l .xs) (l .ys) (l .heads) (l .links) (l .k) (l .ps) (l .qs) (l .mid-heads) (l .mid-links) (l .m) (l .inv .1)
-    (c .before .before .before .before .before .before .before .before .before .before .before .before .before .before .before .before
-    .before .before .before .before .before .before .before .before .before .before .before .before .before .before .before .before
-    .before .before .before .before .before .before .before .before .before .pre .1
-    .0) (t .last .1 .1 .1 .1 .0) (t .last .1 .1 .1 .1 .1 .0) (t .last .1 .1 .1 .1 .1 .1 .0)
-    (t .last .1 .1 .1 .1 .1 .1 .1 .0) (t .result .ok) (t .result .n) (t .result .size) (t .ensures)
-    (not-false _
-    (c .before .before .before .before .before .before .before .before .before .before .before .if1 .left))
-    (c .before .before .before .before .before .before .before .before .before .if2 .taken)
-    in
-    let e : length (a .status .now) ≡ l .last = omega
-    (arith, c .before .before .before .before .before .before .before .before .if3 .left) in
-    unsound-examined (a .n) (fours (a .mesh .now)) (a .status .now) (l .rows) (l .ps) (l .qs) _ _ _ _ (c .refused3 .ensures .0)
-    (sym (top-apart (a .n) (fours (a .mesh .now)) (a .status .now) (l .level) (l .last) (l .rows) (t .last .1 .1 .1 .1 .0)
-    (t .last .1 .1 .1 .1 .1 .0) (t .last .1 .1 .1 .1 .1 .1 .0) (t .last .1 .1 .1 .1 .1 .1 .1 .0) (t .result .n) (l .ps) (l .qs)
-    (l .mid-heads) (l .mid-links) (l .m) o e) ∙ sym (c .before .before .apart .ensures) ∙ not-true _ (c .before .if4 .taken))
-
-add-t36 : tie.Need-add-t36 Inv-loop μ-loop
-add-t36 c = omega (
-  arith,
-  c .before .before .before .before .before .before .before .before .before .before .before .before .before .before .before .before
-      .before .before .before .before .before .before .before .before .before .loop .inv .1 .low,
-)
-
-same-length-22 : tie.Need-same-length-22 Inv-loop μ-loop
-same-length-22 c = c .before .before .before .before .before .before .before .before .before .before .before .before .before .before
-    .before .before .before .before .before .before .before .before .before .before .before .loop .inv .0 .of-rows ∙ c .before .before
-    .before .before .before .before .before .before .before .before .before .before .before .before .before .before .before .before
-    .before .before .before .before .before .before .before .before .before .before .lay-coarse .kept .1 .0
-
-same-length-23 : tie.Need-same-length-23 Inv-loop μ-loop
-same-length-23 c = c .before .before .before .before .before .before .before .before .before .before .before .before .before .before
-    .before .before .before .before .before .before .before .before .before .before .before .loop .inv .0 .of-ps
-
-same-length-24 : tie.Need-same-length-24 Inv-loop μ-loop
-same-length-24 c = c .before .before .before .before .before .before .before .before .before .before .before .before .before .before
-    .before .before .before .before .before .before .before .before .before .before .before .loop .inv .0 .of-qs
-
-same-length-25 : tie.Need-same-length-25 Inv-loop μ-loop
-same-length-25 c = c .before .before .before .before .before .before .before .before .before .before .before .before .before .before
-    .before .before .before .before .before .check-level .kept .1 .1 .1 .1 .0 ∙ c .before .before .before .before .before .before .before
-    .before .before .before .before .before .before .before .before .before .before .before .before .before .before .before .before
-    .before .before .loop .inv .0 .of-xs
-
-same-length-26 : tie.Need-same-length-26 Inv-loop μ-loop
-same-length-26 c = c .before .before .before .before .before .before .before .before .before .before .before .before .before .before
-    .before .before .before .before .before .check-level .kept .1 .1 .1 .1 .1 .0 ∙ c .before .before .before .before .before .before
-    .before .before .before .before .before .before .before .before .before .before .before .before .before .before .before .before
-    .before .before .before .loop .inv .0 .of-ys
-
-same-length-27 : tie.Need-same-length-27 Inv-loop μ-loop
-same-length-27 c = c .before .before .before .before .before .before .before .before .before .before .before .before .before .before
-    .before .before .before .before .before .check-level .kept .1 .1 .1 .1 .1 .1 .1 .0 ∙ c .before .before .before .before .before .before
-    .before .before .before .before .before .before .before .before .before .before .before .before .before .before .before .before
-    .before .before .before .loop .inv .0 .of-links
-
-same-length-28 : tie.Need-same-length-28 Inv-loop μ-loop
-same-length-28 c = c .before .before .before .before .before .before .before .before .before .before .before .before .before .before
-    .before .before .before .before .before .before .before .before .before .before .before .loop .inv .0 .of-links′
-
-returns-4 : tie.Need-returns-4 Inv-loop μ-loop
-returns-4 c =
-    let l = c .before .before .before .before .before .before .before .before .before .before .before .before .before .before .before
-    .before .before .before .before .before .before .before .before .before .before .loop in
-    let a = c .before .before .before .before .before .before .before .before .before .before .before .before .before .before .before
-    .before .before .before .before .before .before .before .before .before .before .before .before .before .before .before .before
-    .before .before .before .before .before .before .before .before .before .args in
-    let t = c .before .before .before .before .before .before .before .before .before .before .before .before .before .before .before
-    .before .before .before .before .check-level in
-    let o : Top (a .n) (fours (a .mesh .now)) (a .status .now) (l .level) (l .last) (l .rows) (t .last .1 .1 .1 .1 .0)
-    (t .last .1 .1 .1 .1 .1 .0) (t .last .1 .1 .1 .1 .1 .1 .0) (t .last .1 .1 .1 .1 .1 .1 .1 .0) (t .result .n) (l .ps) (l .qs)
-    (l .mid-heads) (l .mid-links) (l .m) = turn-top (a .n) (fours (a .mesh .now)) (a .status .now) (l .level) (l .first) (l .last)
-    (l .rows) (l .xs) (l .ys) (l .heads) (l .links) (l .k) (l .ps) (l .qs) (l .mid-heads) (l .mid-links) (l .m) (l .inv .1)
-    (c .before .before .before .before .before .before .before .before .before .before .before .before .before .before .before .before
-    .before .before .before .before .before .before .before .before .before .before .before .before .before .before .before .before
-    .before .before .before .before .before .before .before .before .pre .1 .0) (t
-    .last .1 .1 .1 .1 .0) (t .last .1 .1 .1 .1 .1 .0) (t .last .1 .1 .1 .1 .1 .1 .0)
-    (t .last .1 .1 .1 .1 .1 .1 .1 .0) (t .result .ok) (t .result .n) (t .result .size) (t .ensures)
-    (not-false _
-    (c .before .before .before .before .before .before .before .before .before .before .if1
-    .left)) (c .before .before .before .before .before .before .before .before .if2 .taken)
-    in
-    let e : length (a .status .now) ≡ l .last = omega
-    (arith, c .before .before .before .before .before .before .before .if3 .left) in
-    rw (add-one (l .level)) (top-examined (a .n) (fours (a .mesh .now)) (a .status .now) (l .level) (l .last) (l .rows)
-    (t .last .1 .1 .1 .1 .0) (t .last .1 .1 .1 .1 .1 .0) (t .last .1 .1 .1 .1 .1 .1 .0) (t .last .1 .1 .1 .1 .1 .1 .1 .0) (t .result
-    .n)
-    (l .ps) (l .qs) (l .mid-heads) (l .mid-links) (l .m) o e (c .before .apart .result) (c .before .apart .ensures)
-    (not-false _ (c .if4 .left)))
-
-refused-requires-4 : tie.Need-refused-requires-4 Inv-loop μ-loop
-refused-requires-4 c κs = search needs
-
-same-length-29 : tie.Need-same-length-29 Inv-loop μ-loop
-same-length-29 c = c .before .before .before .before .before .before .before .before .before .before .before .before .before .before
     .before .before .before .before .before .loop .inv .0 .of-rows ∙ c .before .before .before .before .before .before .before .before
     .before .before .before .before .before .before .before .before .before .before .before .before .before .before .lay-coarse .kept .1 .0
 
-same-length-30 : tie.Need-same-length-30 Inv-loop μ-loop
-same-length-30 c = c .before .before .before .before .before .before .before .before .before .before .before .before .before .before
+same-length-16 : tie.Need-same-length-16 Inv-loop μ-loop
+same-length-16 c = c .before .before .before .before .before .before .before .before .before .before .before .before .before .before
     .before .before .before .before .before .loop .inv .0 .of-ps
 
-same-length-31 : tie.Need-same-length-31 Inv-loop μ-loop
-same-length-31 c = c .before .before .before .before .before .before .before .before .before .before .before .before .before .before
+same-length-17 : tie.Need-same-length-17 Inv-loop μ-loop
+same-length-17 c = c .before .before .before .before .before .before .before .before .before .before .before .before .before .before
     .before .before .before .before .before .loop .inv .0 .of-qs
 
-same-length-32 : tie.Need-same-length-32 Inv-loop μ-loop
-same-length-32 c = c .before .before .before .before .before .before .before .before .before .before .before .before .before .check-level
+same-length-18 : tie.Need-same-length-18 Inv-loop μ-loop
+same-length-18 c = c .before .before .before .before .before .before .before .before .before .before .before .before .before .check-level
     .kept .1 .1 .1 .1 .0 ∙ c .before .before .before .before .before .before .before .before .before .before .before .before .before
     .before .before .before .before .before .before .loop .inv .0 .of-xs
 
-same-length-33 : tie.Need-same-length-33 Inv-loop μ-loop
-same-length-33 c = c .before .before .before .before .before .before .before .before .before .before .before .before .before .check-level
+same-length-19 : tie.Need-same-length-19 Inv-loop μ-loop
+same-length-19 c = c .before .before .before .before .before .before .before .before .before .before .before .before .before .check-level
     .kept .1 .1 .1 .1 .1 .0 ∙ c .before .before .before .before .before .before .before .before .before .before .before .before .before
     .before .before .before .before .before .before .loop .inv .0 .of-ys
 
-same-length-34 : tie.Need-same-length-34 Inv-loop μ-loop
-same-length-34 c = c .before .before .before .before .before .before .before .before .before .before .before .before .before .check-level
+same-length-20 : tie.Need-same-length-20 Inv-loop μ-loop
+same-length-20 c = c .before .before .before .before .before .before .before .before .before .before .before .before .before .check-level
     .kept .1 .1 .1 .1 .1 .1 .1 .0 ∙ c .before .before .before .before .before .before .before .before .before .before .before .before
     .before .before .before .before .before .before .before .loop .inv .0 .of-links
 
-same-length-35 : tie.Need-same-length-35 Inv-loop μ-loop
-same-length-35 c = c .before .before .before .before .before .before .before .before .before .before .before .before .before .before
+same-length-21 : tie.Need-same-length-21 Inv-loop μ-loop
+same-length-21 c = c .before .before .before .before .before .before .before .before .before .before .before .before .before .before
     .before .before .before .before .before .loop .inv .0 .of-links′
 
-returns-5 : tie.Need-returns-5 Inv-loop μ-loop
-returns-5 c =
+returns-3 : tie.Need-returns-3 Inv-loop μ-loop
+returns-3 c =
     let l = c .before .before .before .before .before .before .before .before .before .before .before .before .before .before .before
     .before .before .before .before .loop in
     let a = c .before .before .before .before .before .before .before .before .before .before .before .before .before .before .before
     .before .before .before .before .before .before .before .before .before .before .before .before .before .before .before .before
     .before .before .before .args in
     let t = c .before .before .before .before .before .before .before .before .before .before .before .before .before .check-level in
-    unsound-examined (a .n) (fours (a .mesh .now)) (a .status .now) (l .rows) (l .ps) (l .qs) _ _ _ _ (c .refused4 .ensures .0)
+    unsound-examined (a .n) (fours (a .mesh .now)) (a .status .now) (l .rows) (l .ps) (l .qs) _ _ _ _ (c .refused2 .ensures .0)
     (turn-high (a .n) (fours (a .mesh .now)) (a .status .now) (l .level) (l .first) (l .last) (l .rows) (l .xs) (l .ys) (l .heads)
     (l .links) (l .k) (l .ps) (l .qs) (l .mid-heads) (l .mid-links) (l .m) (l .inv .1)
     (c .before .before .before .before .before .before .before .before .before .before .before .before .before .before .before .before
     .before .before .before .before .before .before .before .before .before .before .before .before .before .before .before .before
     .before .before .pre .1 .0) (t .last .1 .1 .1 .1 .0) (t .last .1 .1 .1 .1 .1 .0)
     (t .last .1 .1 .1 .1 .1 .1 .0) (t .last .1 .1 .1 .1 .1 .1 .1 .0) (t .result .ok) (t .result .n) (t .result .size) (t .ensures)
-    (not-false _ (c .before .before .before .before .if1 .left)) (c .before .before .if2 .left) (c .before .if5 .taken))
+    (not-false _ (c .before .before .before .before .if1 .left)) (c .before .before .if2 .left) (c .before .if3 .taken))
 
 add-grow-level : tie.Need-add-grow-level Inv-loop μ-loop
 add-grow-level c = omega (
@@ -504,8 +373,8 @@ grow-level-requires c κs =
             r .0 .in-rows,
             w .of-rows,
             c
-                .before .before .before .before .before .before .before .before .before .before .before .before .before .before
-                .before .before
+                .before .before .before .before .before .before .before .before .before .before .before .before .before .before .before
+                .before
                 .before .before .before .before .before .before .before .before .before .before .before .lay-coarse .kept .1 .0,
           )) (omega (
             arith,
@@ -565,28 +434,28 @@ loop-again c =
           .before .before .before .before .before .before .before .before .before .before .before .before .before .before .before .before
           .before .pre .1 .0) (t .last .1 .1 .1 .1 .0)
           (t .last .1 .1 .1 .1 .1 .0) (t .last .1 .1 .1 .1 .1 .1 .0) (t .last .1 .1 .1 .1 .1 .1 .1 .0) (t .result .ok) (t .result .n)
-          (t .result .size) (t .ensures) (not-false _ (c .before .before .before .before .before .before .before .before .before
-          .before .before
+          (t .result .size) (t .ensures) (not-false _ (c .before .before .before .before .before .before .before .before .before .before
+          .before
           .before .before .before .before .before .before .before .before .if1
           .left))
           (c .before .before .before .before .before .before .before .before .before .before .before .before .before .before .before .before
           .before .if2 .left)
           (c .before .before .before .before .before .before .before .before .before .before .before .before .before .before .before .before
-          .if5 .left)
+          .if3 .left)
           (omega (
             arith,
             c .before .before .before .before .before .before .before .before .before .before .before .before .before .before
-                .before .before .before .before .before .before .before .before .before .before .before .before .before .before
-                .before .before
-                .before .before .before .before .before .before .before .before .before .before .before .before .before .before
-                .before .before
+                .before .before .before .before .before .before .before .before .before .before .before .before .before .before .before
+                .before
+                .before .before .before .before .before .before .before .before .before .before .before .before .before .before .before
+                .before
                 .before .before .before .pre .1 .1 .0 .in-rows,
             w .of-rows,
             c .before .before .before .before .before .before .before .before
-                .before .before .before .before .before .before .before .before .before .before .before .before .before .before
-                .before .before
-                .before .before .before .before .before .before .before .before .before .before .before .before .before .lay-coarse
-                .kept .1 .0,
+                .before .before .before .before .before .before .before .before .before .before .before .before .before .before .before
+                .before
+                .before .before .before .before .before .before .before .before .before .before .before .before .before .lay-coarse .kept
+                .1 .0,
           ))
           (g .last .0) (g .last .1 .1 .1 .1 .1 .1 .1 .0) (g .last .1 .1 .1 .1 .1 .1 .1 .1 .0) (g .last .1 .1 .1 .1 .1 .1 .1 .1 .1 .0)
           (g .last .1 .1 .1 .1 .1 .1 .1 .1 .1 .1 .0) (g .result .at) (g .result .m) (rw (add-one (l .level)) at (g .ensures))),
@@ -612,7 +481,8 @@ build-spec =
     same-length-6
     same-length-7
     returns
-    refused-requires-2
+    slice-aggregate-finish
+    finish-requires
     same-length-8
     same-length-9
     same-length-10
@@ -621,9 +491,7 @@ build-spec =
     same-length-13
     same-length-14
     returns-2
-    slice-aggregate-apart
-    apart-requires
-    refused-requires-3
+    refused-requires-2
     same-length-15
     same-length-16
     same-length-17
@@ -632,24 +500,6 @@ build-spec =
     same-length-20
     same-length-21
     returns-3
-    add-t36
-    same-length-22
-    same-length-23
-    same-length-24
-    same-length-25
-    same-length-26
-    same-length-27
-    same-length-28
-    returns-4
-    refused-requires-4
-    same-length-29
-    same-length-30
-    same-length-31
-    same-length-32
-    same-length-33
-    same-length-34
-    same-length-35
-    returns-5
     add-grow-level
     cast-grow-level
     slice-aggregate-grow-level
