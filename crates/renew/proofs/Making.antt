@@ -22,8 +22,8 @@ use Rattle.renew.proofs.Writing.{part-written, written-over}
 use Rattle.renew.proofs.Closing.{length-listed}
 
 module _ (fs old rows : List ℕ) (first last : ℕ) (table xs ys heads links : List ℕ) (n : ℕ) (r : Reds xs ys heads links n last)
-    (up : first ≤ last) (few : last ≤ 4096) (in-old : last ≤ length old) (in-table : last ≤ length table) (in-rows : 8 * last ≤ length rows)
-    (in-xs : 3072 ≤ length xs) (in-ys : 3072 ≤ length ys) (in-links : 3072 ≤ length links)
+    (most : ℕ) (up : first ≤ last) (few : last ≤ most) (cap : most ≤ 4096) (in-old : last ≤ length old) (in-table : last ≤ length table) (in-rows : 8 * last ≤ length rows)
+    (in-xs : 3 * most ≤ 4 * length xs) (in-ys : 3 * most ≤ 4 * length ys) (in-links : 3 * most ≤ 4 * length links)
     (table₁ : List ℕ) (reds : ℕ) (f : Flagged fs old first last table table₁ reds) where
   abbrev rs : List ℕ
   rs = ownFlags fs old rows first last
@@ -35,10 +35,10 @@ module _ (fs old rows : List ℕ) (first last : ℕ) (table xs ys heads links : 
   flags-are = rw (f .written-is) (part-written table first rs (last - first) long (omega arith))
 
   -- too many cells
-  pub made-over : 4096 - last < 8 * reds → Made fs old rows first last table xs ys n table₁ xs ys heads links n (8 * reds)
+  pub made-over : most - last < 8 * reds → Made fs old rows first last table xs ys n table₁ xs ys heads links n (8 * reds) most
   made-over h = record { least = inr (rw (f .count)); whole = λ g. absurd (omega arith) }
 
-  module _ (fit : 8 * reds ≤ 4096 - last) where
+  module _ (fit : 8 * reds ≤ most - last) where
     pub make-ready : Ready rows xs ys heads links last n n (6 * redCount (part table₁ first (last - first)))
     make-ready =
         let k : redCount (part table₁ first (last - first)) ≡ reds = rw flags-are (sym (f .count)) in
@@ -78,7 +78,7 @@ module _ (fs old rows : List ℕ) (first last : ℕ) (table xs ys heads links : 
           same = length-listed (addPairs [] (madeReds fs old rows first last)) (madeCells fs old rows first last) rs
               (length-cells rows first (last - first) ∙ sym long)
 
-          pub made : Made fs old rows first last table xs ys n table₂ xs₁ ys₁ heads₁ links₁ m size
+          pub made : Made fs old rows first last table xs ys n table₂ xs₁ ys₁ heads₁ links₁ m size most
           made =
               let z : size ≡ sizes (madeStatuses fs old rows first last) = c .many ∙ ap sizes statuses-are in
               record {

@@ -37,17 +37,17 @@ unfolding flatMap flatten
 concat-one l ls = refl
 
 -- the table as far as it has room is one of few statuses
-pub room-fits : (n : ℕ) (qs : List (List ℕ)) (ss fs : List ℕ) → Statuses (roomy (flatten (renewed n qs ss fs)))
-room-fits n qs ss fs =
+pub room-fits : (most n : ℕ) (qs : List (List ℕ)) (ss fs : List ℕ) → most ≤ 4096 → Statuses (roomy most (flatten (renewed n qs ss fs)))
+room-fits most n qs ss fs cap =
     let f = grow-fit (length qs) ss fs 12 0 (coarseCells n qs) (upTo (length qs)) (owned-start n qs .many) in
     record {
       few = simp length-take (omega arith);
-      fit = is-true _ (allb-take (λ s. leb s 64) 4096 (flatten (renewed n qs ss fs)) (rw f tt));
+      fit = is-true _ (allb-take (λ s. leb s 64) most (flatten (renewed n qs ss fs)) (rw f tt));
     }
 
-module _ (n : ℕ) (qs : List (List ℕ)) (ss fs : List ℕ) (j first last : ℕ) (rows xs ys heads links : List ℕ) (k : ℕ)
+module _ (most n : ℕ) (qs : List (List ℕ)) (ss fs : List ℕ) (j first last : ℕ) (rows xs ys heads links : List ℕ) (k : ℕ)
     (ps ps′ heads′ links′ : List ℕ) (m : ℕ)
-    (old table : List ℕ) (g : RenewGoing n qs ss fs j first last rows xs ys heads links k ps ps′ heads′ links′ m old table)
+    (old table : List ℕ) (g : RenewGoing most n qs ss fs j first last rows xs ys heads links k ps ps′ heads′ links′ m old table)
     (small : length fs ≤ 4096) where
   abbrev pub cells : List (Cell Point)
   cells = g .here .cells
@@ -98,30 +98,30 @@ module _ (n : ℕ) (qs : List (List ℕ)) (ss fs : List ℕ) (j first last : ℕ
   pub front-own : take last all ≡ take first all ++ own
   front-own = rw end-own at (take-is all first own (flatten above) split some)
 
-  pub room-own : part (roomy all) first (last - first) ≡ own
+  pub room-own : part (roomy most all) first (last - first) ≡ own
   room-own =
       let e : last - first ≡ length own = omega (arith, end-own) in
-      ap (λ (x : ℕ). part (roomy all) first x) e ∙ part-cut all first own (flatten above) split some 4096
-      (omega (arith, end-own, g .here .few))
+      ap (λ (x : ℕ). part (roomy most all) first x) e ∙ part-cut all first own (flatten above) split some most
+      (omega (arith, end-own, g .within))
 
-  pub room-cells : part (roomy all) first (length cells) ≡ own
-  room-cells = let e : length cells ≡ last - first = omega (arith, g .here .end) in ap (λ (x : ℕ). part (roomy all) first x) e ∙ room-own
+  pub room-cells : part (roomy most all) first (length cells) ≡ own
+  room-cells = let e : length cells ≡ last - first = omega (arith, g .here .end) in ap (λ (x : ℕ). part (roomy most all) first x) e ∙ room-own
 
-  pub closed : closedFrom [] sameb (redEdges [] cells (part (roomy all) first (length cells))) cells (part (roomy all) first (length cells))
+  pub closed : closedFrom [] sameb (redEdges [] cells (part (roomy most all) first (length cells))) cells (part (roomy most all) first (length cells))
       ≡ true
   closed = rw room-cells (closed-by fs tiny cells olds (g .owned))
 
-  pub inside : last ≤ length (roomy all)
-  inside = simp length-take (omega (arith, total, g .here .few))
+  pub inside : last ≤ length (roomy most all)
+  inside = simp length-take (omega (arith, total, g .within))
 
   -- over numbers
   rows-are : cellsAt rows first (last - first) ≡ map strip (numberedCells (g .here .corners) cells)
-  rows-are = cells-are n qs (roomy all) j first last rows xs ys heads links k ps ps′ heads′ links′ m (g .here)
+  rows-are = cells-are n qs (roomy most all) j first last rows xs ys heads links k ps ps′ heads′ links′ m (g .here)
 
   pub made-statuses : madeStatuses fs old rows first last ≡ own
   made-statuses = rw rows-are (statuses-are (g .here .corners) cells (g .here .stage .placed) fs olds)
 
-  pub made-reds : madeReds fs old rows first last ≡ checked.ownReds rows (roomy all) first last
+  pub made-reds : madeReds fs old rows first last ≡ checked.ownReds rows (roomy most all) first last
   made-reds = rw (rows-are, room-own) (reds-are (g .here .corners) cells (g .here .stage .placed) fs olds tiny (g .owned))
 
   pub made-count : redCount (ownFlags fs old rows first last) ≡ redCount own
@@ -182,7 +182,7 @@ module _ (n : ℕ) (qs : List (List ℕ)) (ss fs : List ℕ) (j first last : ℕ
 
   -- What making the level finds.
   module _ (table₁ xs₁ ys₁ heads₁ links₁ : List ℕ) (k₁ size : ℕ)
-      (d : Made fs old rows first last table xs ys k table₁ xs₁ ys₁ heads₁ links₁ k₁ size) where
+      (d : Made fs old rows first last table xs ys k table₁ xs₁ ys₁ heads₁ links₁ k₁ size most) where
     pub size-least : size ≤ sizes own
     size-least =
         ⊎-elim (λ e. omega (arith, e, ap sizes made-statuses))
@@ -191,5 +191,5 @@ module _ (n : ℕ) (qs : List (List ℕ)) (ss fs : List ℕ) (j first last : ℕ
     pub found-high : (size ≡ 0 → ⊥) → j ≡ 10 → length (renewed n qs ss fs) ≡ 12
     found-high z e = twelve (omega (arith, size-least, z)) e
 
-    pub found-many : 4096 < last + size → 4096 < length all
-    found-many e = omega (arith, size-least, has-more (omega (arith, size-least, g .here .few)))
+    pub found-many : most < last + size → most < length all
+    found-many e = omega (arith, size-least, has-more (omega (arith, size-least, g .within)))

@@ -34,8 +34,8 @@ use Rattle.renew.proofs.Writing.{part-written}
 use Rattle.renew.proofs.Turn as turn
 
 -- the refusals
-module _ (n : ℕ) (qs : List (List ℕ)) (ss fs rows ps ps′ table : List ℕ) (refusal cells levels mids : ℕ) where
-  pub result-high : refusal ≡ 8 → length (renewed n qs ss fs) ≡ 12 → Result n qs ss fs rows ps ps′ table refusal cells levels mids
+module _ (most n : ℕ) (qs : List (List ℕ)) (ss fs rows ps ps′ table : List ℕ) (refusal cells levels mids : ℕ) where
+  pub result-high : refusal ≡ 8 → length (renewed n qs ss fs) ≡ 12 → Result most n qs ss fs rows ps ps′ table refusal cells levels mids
   result-high e h =
       record {
         one = inr (inl e);
@@ -47,7 +47,7 @@ module _ (n : ℕ) (qs : List (List ℕ)) (ss fs rows ps ps′ table : List ℕ)
         sound = λ z. absurd (omega arith);
       }
 
-  pub result-many : refusal ≡ 9 → 4096 < length (flatten (renewed n qs ss fs)) → Result n qs ss fs rows ps ps′ table refusal cells levels
+  pub result-many : refusal ≡ 9 → most < length (flatten (renewed n qs ss fs)) → Result most n qs ss fs rows ps ps′ table refusal cells levels
       mids
   result-many e h =
       record {
@@ -77,15 +77,15 @@ grows-same cells xs ys ss ts first k l at n m cells′ xs′ ys′ heads′ link
       few = g .few;
     }
 
-module _ (n : ℕ) (qs : List (List ℕ)) (ss fs : List ℕ) (j first last : ℕ) (rows xs ys heads links : List ℕ) (k : ℕ)
+module _ (most n : ℕ) (qs : List (List ℕ)) (ss fs : List ℕ) (j first last : ℕ) (rows xs ys heads links : List ℕ) (k : ℕ)
     (ps ps′ heads′ links′ : List ℕ) (m : ℕ)
-    (old table : List ℕ) (g : RenewGoing n qs ss fs j first last rows xs ys heads links k ps ps′ heads′ links′ m old table)
+    (old table : List ℕ) (g : RenewGoing most n qs ss fs j first last rows xs ys heads links k ps ps′ heads′ links′ m old table)
     (small : length fs ≤ 4096)
     (table₁ xs₁ ys₁ heads₁ links₁ : List ℕ) (k₁ size : ℕ)
-    (d : Made fs old rows first last table xs ys k table₁ xs₁ ys₁ heads₁ links₁ k₁ size)
-    (in-old : 4096 ≤ length old) (in-table : 4096 ≤ length table) (fit : last + size ≤ 4096) where
+    (d : Made fs old rows first last table xs ys k table₁ xs₁ ys₁ heads₁ links₁ k₁ size most)
+    (cap : most ≤ 4096) (in-old : most ≤ length old) (in-table : most ≤ length table) (fit : last + size ≤ most) where
   abbrev own : List ℕ
-  own = turn.own n qs ss fs j first last rows xs ys heads links k ps ps′ heads′ links′ m old table g small
+  own = turn.own most n qs ss fs j first last rows xs ys heads links k ps ps′ heads′ links′ m old table g small
 
   abbrev olds : List ℕ
   olds = part old first (last - first)
@@ -97,13 +97,13 @@ module _ (n : ℕ) (qs : List (List ℕ)) (ss fs : List ℕ) (j first last : ℕ
   whole = d .whole fit
 
   statuses : madeStatuses fs old rows first last ≡ own
-  statuses = turn.made-statuses n qs ss fs j first last rows xs ys heads links k ps ps′ heads′ links′ m old table g small
+  statuses = turn.made-statuses most n qs ss fs j first last rows xs ys heads links k ps ps′ heads′ links′ m old table g small
 
   size-is : size ≡ sizes own
   size-is = whole .many ∙ ap sizes statuses
 
   end-own : first + length own ≡ last
-  end-own = turn.end-own n qs ss fs j first last rows xs ys heads links k ps ps′ heads′ links′ m old table g small
+  end-own = turn.end-own most n qs ss fs j first last rows xs ys heads links k ps ps′ heads′ links′ m old table g small
 
   table-is : table₁ ≡ written table first own
   table-is = whole .written-is ∙ ap (written table first) statuses
@@ -112,35 +112,35 @@ module _ (n : ℕ) (qs : List (List ℕ)) (ss fs : List ℕ) (j first last : ℕ
   part-table =
       let e : length own ≡ last - first = omega (arith, end-own) in
       ap (λ (l : List ℕ). part l first (last - first)) table-is ∙ part-written table first own (last - first) e
-      (omega (arith, end-own, in-table, g .here .few))
+      (omega (arith, end-own, in-table, g .within))
 
   front : take last table₁ ≡ take last all
   front =
       let a : take (first + length own) (written table first own) ≡ take first table ++ own = take-written table first own
-      (omega (arith, end-own, in-table, g .here .few)) in
+      (omega (arith, end-own, in-table, g .within)) in
       let b : take last (written table first own) ≡ take first table ++ own = ap (λ (x : ℕ). take x (written table first own)) (sym end-own)
       ∙ a in
       ap (take last) table-is ∙ b ∙ ap (λ (l : List ℕ). l ++ own) (g .front)
-      ∙ sym (turn.front-own n qs ss fs j first last rows xs ys heads links k ps ps′ heads′ links′ m old table g small)
+      ∙ sym (turn.front-own most n qs ss fs j first last rows xs ys heads links k ps ps′ heads′ links′ m old table g small)
 
-  grown : Grown xs ys k k (checked.ownReds rows (roomy all) first last) xs₁ ys₁ heads₁ links₁ k₁
-  grown = rw (turn.made-reds n qs ss fs j first last rows xs ys heads links k ps ps′ heads′ links′ m old table g small) at (whole .grown)
+  grown : Grown xs ys k k (checked.ownReds rows (roomy most all) first last) xs₁ ys₁ heads₁ links₁ k₁
+  grown = rw (turn.made-reds most n qs ss fs j first last rows xs ys heads links k ps ps′ heads′ links′ m old table g small) at (whole .grown)
 
   reds : Reds xs₁ ys₁ heads₁ links₁ k₁ (last + size)
   reds =
       let r = g .here .reds in
       let lo : length (ownFlags fs old rows first last) ≡ last - first =
-      same.length-redsBy fs olds ∙ length-part old first (last - first) (omega (arith, g .here .end, g .here .few, in-old)) in
+      same.length-redsBy fs olds ∙ length-part old first (last - first) (omega (arith, g .here .end, g .within, in-old)) in
       let q = length-reds (madeCells fs old rows first last) (ownFlags fs old rows first last) (length-cells rows first (last - first)
       ∙ sym lo) in
-      let c = turn.made-count n qs ss fs j first last rows xs ys heads links k ps ps′ heads′ links′ m old table g small in
+      let c = turn.made-count most n qs ss fs j first last rows xs ys heads links k ps ps′ heads′ links′ m old table g small in
       record {
         keys = whole .grown .edges .keys;
         few = omega (arith, whole .grown .most, q, c, red-sizes own, size-is, r .few);
       }
 
-  room-own : part (roomy all) first (last - first) ≡ own
-  room-own = turn.room-own n qs ss fs j first last rows xs ys heads links k ps ps′ heads′ links′ m old table g small
+  room-own : part (roomy most all) first (last - first) ≡ own
+  room-own = turn.room-own most n qs ss fs j first last rows xs ys heads links k ps ps′ heads′ links′ m old table g small
 
   -- The end of the table.
   module _ (none : size ≡ 0) where
@@ -148,25 +148,25 @@ module _ (n : ℕ) (qs : List (List ℕ)) (ss fs : List ℕ) (j first last : ℕ
     no-size = omega (arith, size-is)
 
     ended : length all ≡ last
-    ended = turn.all-length n qs ss fs j first last rows xs ys heads links k ps ps′ heads′ links′ m old table g small no-size
+    ended = turn.all-length most n qs ss fs j first last rows xs ys heads links k ps ps′ heads′ links′ m old table g small no-size
 
-    cut : roomy all ≡ all
-    cut = take-all 4096 all (omega (arith, ended, g .here .few))
+    cut : roomy most all ≡ all
+    cut = take-all most all (omega (arith, ended, g .within))
 
-    top : Top n qs (roomy all) j last rows xs₁ ys₁ heads₁ links₁ k₁ ps ps′ heads′ links′ m
+    top : Top n qs (roomy most all) j last rows xs₁ ys₁ heads₁ links₁ k₁ ps ps′ heads′ links′ m
     top =
         let e : last + size ≡ last = omega arith in
-        here-top n qs (roomy all) j first last rows xs ys heads links k ps ps′ heads′ links′ m (g .here)
-        (turn.closed n qs ss fs j first last rows xs ys heads links k ps ps′ heads′ links′ m old table g small)
-        (turn.inside n qs ss fs j first last rows xs ys heads links k ps ps′ heads′ links′ m old table g small)
-        (turn.room-fits n qs ss fs) (ap sizes room-own ∙ no-size) xs₁ ys₁ heads₁ links₁ k₁ grown (rw e at reds)
+        here-top n qs (roomy most all) j first last rows xs ys heads links k ps ps′ heads′ links′ m (g .here)
+        (turn.closed most n qs ss fs j first last rows xs ys heads links k ps ps′ heads′ links′ m old table g small)
+        (turn.inside most n qs ss fs j first last rows xs ys heads links k ps ps′ heads′ links′ m old table g small)
+        (turn.room-fits most n qs ss fs cap) (ap sizes room-own ∙ no-size) xs₁ ys₁ heads₁ links₁ k₁ grown (rw e at reds)
 
-    pub result-end : Result n qs ss fs rows ps ps′ table₁ 0 last (j + 1) m
+    pub result-end : Result most n qs ss fs rows ps ps′ table₁ 0 last (j + 1) m
     result-end =
         let e : j + 1 ≡ suc j = omega arith in
-        let h = turn.all-height n qs ss fs j first last rows xs ys heads links k ps ps′ heads′ links′ m old table g small no-size in
-        let s : LaidSound n qs (roomy all) rows ps ps′ last (suc j) m =
-        top-sound n qs (roomy all) j last rows xs₁ ys₁ heads₁ links₁ k₁ ps ps′ heads′ links′ m top (ap length cut ∙ ended) in
+        let h = turn.all-height most n qs ss fs j first last rows xs ys heads links k ps ps′ heads′ links′ m old table g small no-size in
+        let s : LaidSound n qs (roomy most all) rows ps ps′ last (suc j) m =
+        top-sound n qs (roomy most all) j last rows xs₁ ys₁ heads₁ links₁ k₁ ps ps′ heads′ links′ m top (ap length cut ∙ ended) in
         record {
           one = inl refl;
           high = λ z. absurd (omega arith);
@@ -185,7 +185,7 @@ module _ (n : ℕ) (qs : List (List ℕ)) (ss fs : List ℕ) (j first last : ℕ
       sym (ap (λ (l : List ℕ). getD l (c - first) 0) part-table) ∙ getD-take (last - first) (drop first table₁) (c - first) 0 (omega arith)
       ∙ getD-drop first table₁ (c - first) 0 ∙ rw w in
       let f = leb→le (getD own (c - first) 0) 64
-      (allb-at (λ s. leb s 64) 0 own (turn.own-fits n qs ss fs j first last rows xs ys heads links k ps ps′ heads′ links′ m old table g
+      (allb-at (λ s. leb s 64) 0 own (turn.own-fits most n qs ss fs j first last rows xs ys heads links k ps ps′ heads′ links′ m old table g
       small) (c - first)
       (omega (arith, end-own))) in
       omega (arith, e, f)
@@ -193,7 +193,7 @@ module _ (n : ℕ) (qs : List (List ℕ)) (ss fs : List ℕ) (j first last : ℕ
   pub room-sizes : sizes (part table₁ first (last - first)) ≡ size
   room-sizes = ap sizes part-table ∙ sym size-is
 
-  pub room-next : n ≤ 512 → last ≤ length table₁ → 32768 ≤ length rows → 4096 ≤ length ps → 4096 ≤ length ps′ → 4096 ≤ length links′
+  pub room-next : n ≤ 512 → last ≤ length table₁ → 8 * most ≤ length rows → most ≤ length ps → most ≤ length ps′ → most ≤ length links′
       → Roomy rows ps ps′ heads′ links′ table₁ first last last n m
   room-next c inside long lp lq ll =
       let i = g .here .mids in
@@ -212,67 +212,68 @@ module _ (n : ℕ) (qs : List (List ℕ)) (ss fs : List ℕ) (j first last : ℕ
         in-links = omega (arith, room-sizes);
       }
 
-  module _ (more : size ≡ 0 → ⊥) (low : j ≡ 10 → ⊥) (long : 32768 ≤ length rows) (rows₂ ps₂ ps₂′ heads₂ links₂ : List ℕ) (last₂ m₂ : ℕ)
+  module _ (more : size ≡ 0 → ⊥) (low : j ≡ 10 → ⊥) (long : 8 * most ≤ length rows) (rows₂ ps₂ ps₂′ heads₂ links₂ : List ℕ) (last₂ m₂ : ℕ)
       (w : Grows rows ps ps′ table₁ first (last - first) (suc j) last n m rows₂ ps₂ ps₂′ heads₂ links₂ last₂ m₂)
       (old₂ : List ℕ) (o : old₂ ≡ written old last (oldsNext (length qs) ss (part table₁ first (last - first)) olds)) where
-    grows : Grows rows ps ps′ (roomy all) first (last - first) (suc j) last n m rows₂ ps₂ ps₂′ heads₂ links₂ last₂ m₂
-    grows = grows-same rows ps ps′ table₁ (roomy all) first (last - first) (suc j) last n m rows₂ ps₂ ps₂′ heads₂ links₂ last₂ m₂
+    grows : Grows rows ps ps′ (roomy most all) first (last - first) (suc j) last n m rows₂ ps₂ ps₂′ heads₂ links₂ last₂ m₂
+    grows = grows-same rows ps ps′ table₁ (roomy most all) first (last - first) (suc j) last n m rows₂ ps₂ ps₂′ heads₂ links₂ last₂ m₂
         (part-table ∙ sym room-own) w
 
     end-next : last₂ ≡ last + sizes own
     end-next = omega (arith, w .next, room-sizes, size-is)
 
-    in-room : last + sizes (part (roomy all) first (last - first)) ≤ length (roomy all)
+    in-room : last + sizes (part (roomy most all) first (last - first)) ≤ length (roomy most all)
     in-room =
-        let a = turn.has-more n qs ss fs j first last rows xs ys heads links k ps ps′ heads′ links′ m old table g small
+        let a = turn.has-more most n qs ss fs j first last rows xs ys heads links k ps ps′ heads′ links′ m old table g small
         (omega (arith, size-is, more)) in
         simp length-take (omega (arith, a, ap sizes room-own, size-is))
 
-    in-long : 8 * length (roomy all) ≤ length rows
-    in-long = omega (arith, long, turn.room-fits n qs ss fs .few)
+    long-room : 8 * length (roomy most all) ≤ length rows
+    long-room = simp length-take (omega arith)
 
     reds-next : Reds xs₁ ys₁ heads₁ links₁ k₁ last₂
     reds-next = let e : last + size ≡ last₂ = omega (arith, end-next, size-is) in rw e at reds
 
-    here-up : Here n qs (roomy all) (suc j) last last₂ rows₂ xs₁ ys₁ heads₁ links₁ k₁ ps₂ ps₂′ heads₂ links₂ m₂
+    here-up : Here n qs (roomy most all) (suc j) last last₂ rows₂ xs₁ ys₁ heads₁ links₁ k₁ ps₂ ps₂′ heads₂ links₂ m₂
     here-up =
-        here-next n qs (roomy all) j first last rows xs ys heads links k ps ps′ heads′ links′ m (g .here)
-        (turn.closed n qs ss fs j first last rows xs ys heads links k ps ps′ heads′ links′ m old table g small)
-        (turn.inside n qs ss fs j first last rows xs ys heads links k ps ps′ heads′ links′ m old table g small)
-        (omega (arith, low, g .here .low)) (turn.room-fits n qs ss fs) in-room (omega (arith, ap sizes room-own, size-is, more)) in-long
+        here-next n qs (roomy most all) j first last rows xs ys heads links k ps ps′ heads′ links′ m (g .here)
+        (turn.closed most n qs ss fs j first last rows xs ys heads links k ps ps′ heads′ links′ m old table g small)
+        (turn.inside most n qs ss fs j first last rows xs ys heads links k ps ps′ heads′ links′ m old table g small)
+        (omega (arith, low, g .here .low)) (turn.room-fits most n qs ss fs cap) in-room (omega (arith, ap sizes room-own, size-is, more)) long-room
         rows₂ ps₂ ps₂′ heads₂ links₂ last₂ m₂ grows xs₁ ys₁ heads₁ links₁ k₁ grown reds-next
 
     cells-up : here-up .cells ≡ next first (g .here .cells) own
     unfolding here-up
     cells-up =
-        cells-onward n qs (roomy all) j first last rows xs ys heads links k ps ps′ heads′ links′ m (g .here)
-        (turn.closed n qs ss fs j first last rows xs ys heads links k ps ps′ heads′ links′ m old table g small)
-        (turn.inside n qs ss fs j first last rows xs ys heads links k ps ps′ heads′ links′ m old table g small)
-        (omega (arith, low, g .here .low)) (turn.room-fits n qs ss fs) in-room (omega (arith, ap sizes room-own, size-is, more)) in-long
+        cells-onward n qs (roomy most all) j first last rows xs ys heads links k ps ps′ heads′ links′ m (g .here)
+        (turn.closed most n qs ss fs j first last rows xs ys heads links k ps ps′ heads′ links′ m old table g small)
+        (turn.inside most n qs ss fs j first last rows xs ys heads links k ps ps′ heads′ links′ m old table g small)
+        (omega (arith, low, g .here .low)) (turn.room-fits most n qs ss fs cap) in-room (omega (arith, ap sizes room-own, size-is, more)) long-room
         rows₂ ps₂ ps₂′ heads₂ links₂ last₂ m₂ grows xs₁ ys₁ heads₁ links₁ k₁ grown reds-next
-        ∙ ap (next first (g .here .cells)) (turn.room-cells n qs ss fs j first last rows xs ys heads links k ps ps′ heads′ links′ m old
+        ∙ ap (next first (g .here .cells)) (turn.room-cells most n qs ss fs j first last rows xs ys heads links k ps ps′ heads′ links′ m old
         table g small)
 
     olds-up : part old₂ last (last₂ - last) ≡ oldsNext (length qs) ss own olds
     olds-up =
         let lo : length own ≡ length olds = omega
-        (arith, end-own, length-part old first (last - first) (omega (arith, g .here .end, g .here .few, in-old))) in
+        (arith, end-own, length-part old first (last - first) (omega (arith, g .here .end, g .within, in-old))) in
         let e : length (oldsNext (length qs) ss own olds) ≡ last₂ - last = length-olds (length qs) ss own olds (sym lo)
         ∙ omega (arith, end-next) in
         let q : old₂ ≡ written old last (oldsNext (length qs) ss own olds) = o
         ∙ ap (λ (l : List ℕ). written old last (oldsNext (length qs) ss l olds)) part-table in
         ap (λ (l : List ℕ). part l last (last₂ - last)) q ∙ part-written old last (oldsNext (length qs) ss own olds) (last₂ - last) e
-        (omega (arith, in-old, g .here .few))
+        (omega (arith, in-old, g .within))
 
-    pub going-next : RenewGoing n qs ss fs (suc j) last last₂ rows₂ xs₁ ys₁ heads₁ links₁ k₁ ps₂ ps₂′ heads₂ links₂ m₂ old₂ table₁
+    pub going-next : RenewGoing most n qs ss fs (suc j) last last₂ rows₂ xs₁ ys₁ heads₁ links₁ k₁ ps₂ ps₂′ heads₂ links₂ m₂ old₂ table₁
     going-next =
         let e : 12 - suc j ≡ 11 - j = omega arith in
         record {
           here = here-up;
           owned = rw (cells-up, olds-up) (owned-next (length qs) ss first (g .here .cells) own olds (g .owned));
-          height = rw (cells-up, olds-up, e) (turn.height-above n qs ss fs j first last rows xs ys heads links k ps ps′ heads′ links′ m old
+          height = rw (cells-up, olds-up, e) (turn.height-above most n qs ss fs j first last rows xs ys heads links k ps ps′ heads′ links′ m old
               table g small);
-          rest = rw (cells-up, olds-up, e) (turn.rest-above n qs ss fs j first last rows xs ys heads links k ps ps′ heads′ links′ m old
+          rest = rw (cells-up, olds-up, e) (turn.rest-above most n qs ss fs j first last rows xs ys heads links k ps ps′ heads′ links′ m old
               table g small);
+          within = omega (arith, end-next, size-is);
           front = front;
         }

@@ -1,10 +1,10 @@
 -- How far the building of the new table has come, beside the levels that the tables hold.
---   roomy ss        as much of a table as has room
+--   roomy most ss   as much of a table as has room
 --   RenewGoing ..        the levels below j are made and laid out; the cells of level j are the rows from first to last, and the old
 --                   numbers in `old` are theirs
 use mathlib.Core.Path.{_≡_}
 use mathlib.Core.List.{List, flatten}
-use Prim.Native.Nat.{ℕ, _+_, _-_}
+use Prim.Native.Nat.{ℕ, _+_, _-_, _≤_}
 use lib.ListN.{length, take, drop}
 use Rattle.rows.specs.Numbered.{part}
 use Rattle.lineage.specs.Olds.{growBy}
@@ -12,17 +12,18 @@ use Rattle.lineage.specs.Closed.{Owned}
 use Rattle.tables.specs.Here.{Here}
 use Rattle.renew.specs.Result.{renewed}
 
-abbrev pub roomy : List ℕ → List ℕ
-roomy ss = take 4096 ss
+abbrev pub roomy : ℕ → List ℕ → List ℕ
+roomy most ss = take most ss
 
-module _ (n : ℕ) (qs : List (List ℕ)) (ss fs : List ℕ) (j first last : ℕ) (rows xs ys heads links : List ℕ) (k : ℕ)
+module _ (most n : ℕ) (qs : List (List ℕ)) (ss fs : List ℕ) (j first last : ℕ) (rows xs ys heads links : List ℕ) (k : ℕ)
     (ps ps′ heads′ links′ : List ℕ) (m : ℕ)
     (old table : List ℕ) where
   pub record RenewGoing : Type 0 where
-    pub here : Here n qs (roomy (flatten (renewed n qs ss fs))) j first last rows xs ys heads links k ps ps′ heads′ links′ m
+    pub here : Here n qs (roomy most (flatten (renewed n qs ss fs))) j first last rows xs ys heads links k ps ps′ heads′ links′ m
     pub owned : Owned (here .cells) (part old first (last - first))
     pub height : length (renewed n qs ss fs) ≡ j + length
         (growBy (length qs) ss fs (12 - j) first (here .cells) (part old first (last - first)))
     pub rest : drop first (flatten (renewed n qs ss fs)) ≡ flatten
         (growBy (length qs) ss fs (12 - j) first (here .cells) (part old first (last - first)))
+    pub within : last ≤ most
     pub front : take first table ≡ take first (flatten (renewed n qs ss fs))

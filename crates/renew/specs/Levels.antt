@@ -77,6 +77,6 @@ module _ (fs old rows : List ℕ) (first last : ℕ) (table xs ys : List ℕ) (n
     pub many : size ≡ sizes (madeStatuses fs old rows first last)
     pub grown : Grown xs ys n n (madeReds fs old rows first last) xs′ ys′ heads′ links′ n′
 
-  pub record Made : Type 0 where
+  pub record Made (most : ℕ) : Type 0 where
     pub least : (size ≡ sizes (madeStatuses fs old rows first last)) ⊎ (size ≡ 8 * redCount (ownFlags fs old rows first last))
-    pub whole : last + size ≤ 4096 → WholeMade
+    pub whole : last + size ≤ most → WholeMade

@@ -1,3 +1,4 @@
 pub mod Levels
 pub mod Result
 pub mod Going
+pub mod RenewRoom

@@ -19,6 +19,7 @@ ghost use Rattle.tables.specs.Checked.{Statuses, Reds};
 ghost use Rattle.tables.specs.Sound.{Mesh};
 ghost use Rattle.renew.specs.Levels.{Kids, Olds, oldIn, Flagged, Closed, Made};
 ghost use Rattle.renew.specs.Result.{Result};
+ghost use Rattle.renew.specs.RenewRoom.{RenewRoom};
 
 // The flag of a cell by its old number: 64 where it will be red, else 0.
 fn flag_of(red: &[u8], o: usize) -> u8
@@ -104,16 +105,17 @@ fn make_level(
     heads: &mut [u16],
     links: &mut [u16],
     n: usize,
+    most: usize,
 ) -> Level
     requires { ⌜ Reds (now xs) (now ys) (now heads) (now links) n last ⌝ }
-    requires { ⌜ (3072 ≤ length (now xs)) × (3072 ≤ length (now ys)) × (3072 ≤ length (now links)) ⌝ }
-    requires { ⌜ (first ≤ last) × (last ≤ 4096) × (last ≤ length (now old)) × (last ≤ length (now table))
+    requires { ⌜ (3 * most ≤ 4 * length (now xs)) × (3 * most ≤ 4 * length (now ys)) × (3 * most ≤ 4 * length (now links)) ⌝ }
+    requires { ⌜ (first ≤ last) × (last ≤ most) × (most ≤ 4096) × (last ≤ length (now old)) × (last ≤ length (now table))
         × (8 * last ≤ length (now rows)) ⌝ }
     ensures { λ r. ⌜ Made (was red) (was old) (was rows) first last (was table) (was xs) (was ys) n (is table) (is xs) (is ys) (is heads)
-        (is links) (r .n) (r .size) ⌝ }
+        (is links) (r .n) (r .size) most ⌝ }
 {
     let reds = flag_level(red, old, first, last, table);
-    if 8 * reds > 4096 - last {
+    if 8 * reds > most - last {
         return Level { n, size: 8 * reds };
     }
     let m = closure::red_level(rows, table, first, last, xs, ys, heads, links, n, n);
@@ -208,26 +210,28 @@ fn build(
     status: &[u8],
     kids: &[u16],
     red: &[u8],
-    rows: &mut [u16; 32768],
-    ps: &mut [u32; 4096],
-    qs: &mut [u32; 4096],
-    table: &mut [u8; 4096],
-    xs: &mut [u32; 3072],
-    ys: &mut [u32; 3072],
+    rows: &mut [u16],
+    ps: &mut [u32],
+    qs: &mut [u32],
+    table: &mut [u8],
+    xs: &mut [u32],
+    ys: &mut [u32],
     heads: &mut [u16; 5120],
-    links: &mut [u16; 3072],
+    links: &mut [u16],
     mid_heads: &mut [u16; 4096],
-    mid_links: &mut [u16; 4096],
-    old: &mut [u16; 4096],
+    mid_links: &mut [u16],
+    old: &mut [u16],
     digits: &[u8],
+    most: usize,
 ) -> Outcome
     requires { ⌜ Mesh n (now mesh) ⌝ }
     requires { ⌜ Statuses (now status) ⌝ }
     requires { ⌜ Kids (length (fours (now mesh))) (now status) (now kids) ⌝ }
     requires { ⌜ length (now red) ≤ 4096 ⌝ }
     requires { ⌜ now digits ≡ digitTable ⌝ }
+    requires { ⌜ RenewRoom most (now rows) (now ps) (now qs) (now table) (now xs) (now ys) (now links) (now «mid_links») (now old) ⌝ }
     requires { ⌜ Clear (now heads) × Clear (now «mid_heads») ⌝ }
-    ensures { λ r. ⌜ Result n (fours (was mesh)) (was status) (was red) (is rows) (is ps) (is qs) (is table) (r .refusal) (r .cells)
+    ensures { λ r. ⌜ Result most n (fours (was mesh)) (was status) (was red) (is rows) (is ps) (is qs) (is table) (r .refusal) (r .cells)
         (r .levels) (r .mids) ⌝ }
 {
     let coarse = tables::lay_coarse(mesh, rows);
@@ -238,7 +242,7 @@ fn build(
     let mut k = 0;
     let mut m = 0;
     loop {
-        let c = make_level(rows, red, old, first, last, table, xs, ys, heads, links, k);
+        let c = make_level(rows, red, old, first, last, table, xs, ys, heads, links, k, most);
         k = c.n;
         if c.size == 0 {
             return Outcome {
@@ -252,7 +256,7 @@ fn build(
         if level == 10 {
             return tables::refused(8);
         }
-        if c.size > 4096 - last {
+        if c.size > most - last {
             return tables::refused(9);
         }
         let g = growth::grow_level(
@@ -280,7 +284,7 @@ fn build(
 
 // Builds the table in which the cells with a flag in `red` are red and all others are closed, over an accepted mesh of n corners, level
 // by level. Flags go by the numbers of the old table `status`, and `kids` has the number of each old cell's first child. Refusal 8 where
-// a level above 10 would arise, 9 where more than 4,096 cells would; where there is none, the table's first entries are the new statuses,
+// a level above 10 would arise, 9 where more than `most` cells would, for which the tables have room; where there is none, the table's first entries are the new statuses,
 // the rows are those of its cells, and ps and qs have the ends of its new corners. The tables from xs to old are for the work, whatever
 // they hold, and `digits` is the cutting table.
 pub fn renew(
@@ -289,23 +293,25 @@ pub fn renew(
     status: &[u8],
     kids: &[u16],
     red: &[u8],
-    rows: &mut [u16; 32768],
-    ps: &mut [u32; 4096],
-    qs: &mut [u32; 4096],
-    table: &mut [u8; 4096],
-    xs: &mut [u32; 3072],
-    ys: &mut [u32; 3072],
-    links: &mut [u16; 3072],
-    mid_links: &mut [u16; 4096],
-    old: &mut [u16; 4096],
+    rows: &mut [u16],
+    ps: &mut [u32],
+    qs: &mut [u32],
+    table: &mut [u8],
+    xs: &mut [u32],
+    ys: &mut [u32],
+    links: &mut [u16],
+    mid_links: &mut [u16],
+    old: &mut [u16],
     digits: &[u8],
+    most: usize,
 ) -> Outcome
     requires { ⌜ Mesh n (now mesh) ⌝ }
     requires { ⌜ Statuses (now status) ⌝ }
     requires { ⌜ Kids (length (fours (now mesh))) (now status) (now kids) ⌝ }
     requires { ⌜ length (now red) ≤ 4096 ⌝ }
     requires { ⌜ now digits ≡ digitTable ⌝ }
-    ensures { λ r. ⌜ Result n (fours (was mesh)) (was status) (was red) (is rows) (is ps) (is qs) (is table) (r .refusal) (r .cells)
+    requires { ⌜ RenewRoom most (now rows) (now ps) (now qs) (now table) (now xs) (now ys) (now links) (now «mid_links») (now old) ⌝ }
+    ensures { λ r. ⌜ Result most n (fours (was mesh)) (was status) (was red) (is rows) (is ps) (is qs) (is table) (r .refusal) (r .cells)
         (r .levels) (r .mids) ⌝ }
 {
     let mut heads = [65535u16; 5120];
@@ -328,5 +334,6 @@ pub fn renew(
         mid_links,
         old,
         digits,
+        most,
     )
 }

@@ -1,13 +1,14 @@
 -- `renew::build` meets its contract: the loop holds `Going` (crate's specs), and each way out is one of its laws. The measure is
 -- the number of levels left.
 -- Assumes nothing.
-use Prim.Native.Nat.{_-_, _≤_}
+use mathlib.Core.Path.{refl, _∙_}
+use Prim.Native.Nat.{_-_}
 use native.Mathlib.Numerals.{add-one}
 use native.Mathlib.Omega.{arith}
-use lib.ListN.{length}
 use Rattle.base.specs.Fours.{fours}
+use Rattle.renew.specs.RenewRoom.{RenewKept}
 use Rattle.renew.specs.Going.{RenewGoing}
-use Rattle.renew.proofs.Starts.{few-coarse, going-start}
+use Rattle.renew.proofs.Starts.{few-coarse, room-later, going-start}
 use Rattle.renew.proofs.Turn.{found-high, found-many}
 use Rattle.renew.proofs.Ways.{result-high, result-many, result-end, small-own, room-sizes, room-next, going-next}
 use borrow.Author.Needs.{needs}
@@ -15,219 +16,268 @@ use Rattle.renew.proofs.build.Statement.{statement}
 use Rattle.renew.proofs.build.Tie as tie
 
 abbrev Inv-loop : tie.InvT-loop
-Inv-loop mesh n status kids red rows₀ ps₀ qs₀ table₀ xs₀ ys₀ heads₀ links₀ mid-heads₀ mid-links₀ old₀ digits coarse first₀ last₀ level₀ k₀
-    m₀ rows ps qs table xs ys heads links mid-heads mid-links old first last level k m = RenewGoing n (fours mesh) status red level first
-    last
-    rows xs ys heads links k ps qs mid-heads mid-links m old table
+Inv-loop mesh n status kids red rows₀ ps₀ qs₀ table₀ xs₀ ys₀ heads₀ links₀ mid-heads₀ mid-links₀ old₀ digits most coarse first₀ last₀ level₀ k₀
+    m₀ rows ps qs table xs ys heads links mid-heads mid-links old first last level k m = RenewKept rows₀ ps₀ qs₀ table₀ xs₀ ys₀ links₀ mid-links₀ old₀ rows ps qs
+    table xs ys links mid-links old
+    × RenewGoing most n (fours mesh) status red level first last rows xs ys heads links k ps qs mid-heads mid-links m old table
 
 abbrev μ-loop : tie.MeasureT-loop
-μ-loop mesh n status kids red rows₀ ps₀ qs₀ table₀ xs₀ ys₀ heads₀ links₀ mid-heads₀ mid-links₀ old₀ digits coarse first₀ last₀ level₀ k₀ m₀
+μ-loop mesh n status kids red rows₀ ps₀ qs₀ table₀ xs₀ ys₀ heads₀ links₀ mid-heads₀ mid-links₀ old₀ digits most coarse first₀ last₀ level₀ k₀ m₀
     rows ps qs table xs ys heads links mid-heads mid-links old first last level k m = 11 - level
 
 lay-coarse-requires : tie.Need-lay-coarse-requires Inv-loop μ-loop
-lay-coarse-requires c κs = (
-  record {
-    whole = c .before .before .before .before .before .before .pre .0 .whole;
-    few = c .before .before
-        .before .before .before .before .pre .0 .few;
-  },
-  omega (arith, c .lay-coarse-arg),
-)
+lay-coarse-requires c κs =
+    let p = c .before .before .before .before .before .before .before .before .before .before .before .before .before .before .before .pre in
+    (record { whole = p .0 .whole; few = p .0 .few }, omega (arith, p .1 .1 .1 .1 .1 .0 .least, p .1 .1 .1 .1 .1 .0 .in-rows))
 
 old-coarse-requires : tie.Need-old-coarse-requires Inv-loop μ-loop
 old-coarse-requires c κs =
-    let f = few-coarse (c .before .before .before .before .before .before .before .before .args .n)
-    (c .before .before .before .before .before .before .before .before .args .mesh .now)
-    (c .before .before .before .before .before .before .before .before .pre .0)
-    (c .before .lay-coarse .result) (c .before .lay-coarse .ensures .0) in
-    (f, omega (arith, f))
+    let f = few-coarse (c .before .before .before .before .before .before .before .before .before .before .before .before .before .before .before .before .before .before .before .args .n)
+    (c .before .before .before .before .before .before .before .before .before .before .before .before .before .before .before .before .before .before .before .args .mesh .now)
+    (c .before .before .before .before .before .before .before .before .before .before .before .before .before .before .before .before .before .before .before .pre .0)
+    (c .before .before .before .lay-coarse .result) (c .before .before .before .lay-coarse .ensures .0) in
+    (f, omega (arith, f, c .before .before .before .before .before .before .before .before .before .before .before .before .before .before .before .before .before .before .before .pre .1 .1 .1 .1 .1 .0 .least, c .before .before .before .before .before .before .before .before .before .before .before .before .before .before .before .before .before .before .before .pre .1 .1 .1 .1 .1 .0 .in-old))
 
 loop-holds : tie.Need-loop-holds Inv-loop μ-loop
 loop-holds c =
-    let a = c .before .before .before .before .before .before .before .before .before .args in
-    let i = c .before .before .lay-coarse in
-    let o = c .old-coarse in
-    going-start (a .n) (a .mesh .now)
-    (c .before .before .before .before .before .before .before .before .before .pre .0) (i .result)
-    (i .ensures .0) (a .xs .now) (a .ys .now) (a .heads .now) (a .links .now)
-    (a .ps .now) (a .qs .now) (a .mid-heads .now) (a .mid-links .now)
-    (c .before .before .before .before .before .before .before .before .before .pre .1 .1 .1 .1 .1 .0) (c .before .before .before .before
-    .before .before .before .before .before .pre .1 .1 .1 .1 .1 .1) (i .last .1 .0)
-    (i .ensures .1) (a .status .now) (a .red .now) (a .old .now) (o .last .1 .0) (a .table .now) (o .ensures) (omega arith)
+    let a = c .before .before .before .before .before .before .before .before .before .before .before .before .before .before .before .before .before .before .before .before .before .before .args in
+    let i = c .before .before .before .before .before .before .lay-coarse in
+    let o = c .before .before .old-coarse in
+    let p = c .before .before .before .before .before .before .before .before .before .before .before .before .before .before .before .before .before .before .before .before .before .before .pre in (
+      record {
+        of-rows = refl;
+        of-ps = refl;
+        of-qs = refl;
+        of-table = refl;
+        of-xs = refl;
+        of-ys = refl;
+        of-links = refl;
+        of-links′ = refl;
+        of-old = refl;
+      },
+      going-start (a .n) (a .mesh .now) (p .0) (i .result) (i .ensures .0) (a .xs .now) (a .ys .now) (a .heads .now) (a .links .now)
+          (a .ps .now) (a .qs .now) (a .mid-heads .now) (a .mid-links .now) (p .1 .1 .1 .1 .1 .1 .0) (p .1 .1 .1 .1 .1 .1 .1) (i .last .1 .0)
+          (i .ensures .1) (a .status .now) (a .red .now) (a .old .now) (o .last .1 .0) (a .table .now) (o .ensures) (a .most)
+          (p .1 .1 .1 .1 .1 .0 .least) (p .1 .1 .1 .1 .1 .0 .in-old),
+    )
 
 make-level-requires : tie.Need-make-level-requires Inv-loop μ-loop
 make-level-requires c κs =
-    let h = c .before .before .before .before .before .before .before .before .before .loop .inv .here in (
+    let p = c .before .before .before .before .before .before .before .before .before .before .before .before .before .before .before .before .before .before .before .before .before .before .before .before .before .before .before .before .before .before .pre in
+    let l = c .before .before .before .before .before .before .before .loop in
+    let r = room-later (p .1 .1 .1 .1 .1 .0) (l .inv .0) (c .before .before .before .before .before .before .before .before .before .before .before .before .before .before .lay-coarse .kept .1 .0) (c .before .before .before .before .before .before .before .before .before .before .old-coarse .kept .1 .0) in
+    let h = l .inv .1 .here in
+    let w = l .inv .1 .within in (
       h .reds,
       (
-        (omega arith, omega arith, omega arith),
+        (r .in-xs, r .in-ys, r .in-links),
         (
           omega (arith, h .end),
-          h .few,
-          omega (arith, h .few),
-          omega (arith, h .few),
-          omega
-              (arith, h .few),
+          w,
+          r .few,
+          omega (arith, w, r .in-old),
+          omega (arith, w, r .in-table),
+          omega (arith, w, r .in-rows),
         ),
       ),
     )
 
-add-t46 : tie.Need-add-t46 Inv-loop μ-loop
-add-t46 c = omega
-    (arith, c .before .before .before .before .before .before .before .before .before .before .before .before .loop .inv .here .low)
+add-t47 : tie.Need-add-t47 Inv-loop μ-loop
+add-t47 c = omega
+    (arith, c .before .before .before .before .before .before .before .before .before .before .before .before .before .before .before .before .before .before .loop .inv .1 .here .low)
+
+same-length : tie.Need-same-length Inv-loop μ-loop
+same-length c = c .before .before .before .before .before .before .before .before .before .before .before .before .before .before .before .before .before .before .loop .inv .0 .of-rows ∙ c .before .before .before .before .before .before .before .before .before .before .before .before .before .before .before .before .before .before .before .before .before .before .before .before .before .lay-coarse .kept .1 .0
+
+same-length-2 : tie.Need-same-length-2 Inv-loop μ-loop
+same-length-2 c = c .before .before .before .before .before .before .before .before .before .before .before .before .before .before .before .before .before .before .loop .inv .0 .of-ps
+
+same-length-3 : tie.Need-same-length-3 Inv-loop μ-loop
+same-length-3 c = c .before .before .before .before .before .before .before .before .before .before .before .before .before .before .before .before .before .before .loop .inv .0 .of-qs
+
+same-length-4 : tie.Need-same-length-4 Inv-loop μ-loop
+same-length-4 c = c .before .before .before .before .before .before .before .before .before .before .make-level .kept .1 .1 .1 .1 .1 .0 ∙ c .before .before .before .before .before .before .before .before .before .before .before .before .before .before .before .before .before .before .loop .inv .0 .of-table
+
+same-length-5 : tie.Need-same-length-5 Inv-loop μ-loop
+same-length-5 c = c .before .before .before .before .before .before .before .before .before .before .make-level .kept .1 .1 .1 .1 .1 .1 .0 ∙ c .before .before .before .before .before .before .before .before .before .before .before .before .before .before .before .before .before .before .loop .inv .0 .of-xs
+
+same-length-6 : tie.Need-same-length-6 Inv-loop μ-loop
+same-length-6 c = c .before .before .before .before .before .before .before .before .before .before .make-level .kept .1 .1 .1 .1 .1 .1 .1 .0 ∙ c .before .before .before .before .before .before .before .before .before .before .before .before .before .before .before .before .before .before .loop .inv .0 .of-ys
+
+same-length-7 : tie.Need-same-length-7 Inv-loop μ-loop
+same-length-7 c = c .before .before .before .before .before .before .before .before .before .before .make-level .kept .1 .1 .1 .1 .1 .1 .1 .1 .1 .0 ∙ c .before .before .before .before .before .before .before .before .before .before .before .before .before .before .before .before .before .before .loop .inv .0 .of-links
+
+same-length-8 : tie.Need-same-length-8 Inv-loop μ-loop
+same-length-8 c = c .before .before .before .before .before .before .before .before .before .before .before .before .before .before .before .before .before .before .loop .inv .0 .of-links′
+
+same-length-9 : tie.Need-same-length-9 Inv-loop μ-loop
+same-length-9 c = c .before .before .before .before .before .before .before .before .before .before .before .before .before .before .before .before .before .before .loop .inv .0 .of-old ∙ c .before .before .before .before .before .before .before .before .before .before .before .before .before .before .before .before .before .before .before .before .before .old-coarse .kept .1 .0
 
 returns : tie.Need-returns Inv-loop μ-loop
 returns c =
-    let a = c .before .before .before .before .before .before .before .before .before .before .before .before .before .before .before
-    .before .before .before .before .before .before .before .args in
-    let p = c .before .before .before .before .before .before .before .before .before .before .before .before .before .before .before
-    .before .before .before .before .before .before .before .pre in
-    let l = c .before .before .before .before .before .before .before .before .before .before .before .before .loop in
-    let t = c .before .before .make-level in
-    result-end (a .n) (fours (a .mesh .now)) (a .status .now) (a .red .now) (l .level) (l .first) (l .last) (l .rows) (l .xs) (l .ys)
-    (l .heads) (l .links) (l .k) (l .ps) (l .qs) (l .mid-heads) (l .mid-links) (l .m) (l .old) (l .table) (l .inv) (p .1 .1 .1 .0)
+    let a = c .before .before .before .before .before .before .before .before .before .before .before .before .before .before .before .before .before .before .before .before .before .before .before .before .before .before .before .before .before .before .before .before .before .before .before .before .before .before .before .before .before .args in
+    let p = c .before .before .before .before .before .before .before .before .before .before .before .before .before .before .before .before .before .before .before .before .before .before .before .before .before .before .before .before .before .before .before .before .before .before .before .before .before .before .before .before .before .pre in
+    let l = c .before .before .before .before .before .before .before .before .before .before .before .before .before .before .before .before .before .before .loop in
+    let r = room-later (p .1 .1 .1 .1 .1 .0) (l .inv .0) (c .before .before .before .before .before .before .before .before .before .before .before .before .before .before .before .before .before .before .before .before .before .before .before .before .before .lay-coarse .kept .1 .0) (c .before .before .before .before .before .before .before .before .before .before .before .before .before .before .before .before .before .before .before .before .before .old-coarse .kept .1 .0) in
+    let t = c .before .before .before .before .before .before .before .before .before .before .make-level in
+    result-end (a .most) (a .n) (fours (a .mesh .now)) (a .status .now) (a .red .now) (l .level) (l .first) (l .last) (l .rows) (l .xs) (l .ys)
+    (l .heads) (l .links) (l .k) (l .ps) (l .qs) (l .mid-heads) (l .mid-links) (l .m) (l .old) (l .table) (l .inv .1) (p .1 .1 .1 .0)
     (t .last .1 .1 .1 .1 .1 .0) (t .last .1 .1 .1 .1 .1 .1 .0) (t .last .1 .1 .1 .1 .1 .1 .1 .0) (t .last .1 .1 .1 .1 .1 .1 .1 .1 .0)
     (t .last .1 .1 .1 .1 .1 .1 .1 .1 .1 .0) (t .result .n) (t .result .size) (t .ensures)
-    (omega (arith, c .before .before .before .before .before .before .before .before .make-level-arg4))
-    (omega (arith, c .before .before .before .before .before .before .before .make-level-arg5))
-    (omega (arith, c .if1 .taken, l .inv .here .few)) (c .if1 .taken)
+    (r .few) (r .in-old) (r .in-table)
+    (omega (arith, c .if1 .taken, l .inv .1 .within)) (c .if1 .taken)
 
 refused-requires : tie.Need-refused-requires Inv-loop μ-loop
 refused-requires c κs = search needs
 
+same-length-10 : tie.Need-same-length-10 Inv-loop μ-loop
+same-length-10 c = c .before .before .before .before .before .before .before .before .before .before .before .before .before .before .before .before .before .before .before .before .loop .inv .0 .of-rows ∙ c .before .before .before .before .before .before .before .before .before .before .before .before .before .before .before .before .before .before .before .before .before .before .before .before .before .before .before .lay-coarse .kept .1 .0
+
+same-length-11 : tie.Need-same-length-11 Inv-loop μ-loop
+same-length-11 c = c .before .before .before .before .before .before .before .before .before .before .before .before .before .before .before .before .before .before .before .before .loop .inv .0 .of-ps
+
+same-length-12 : tie.Need-same-length-12 Inv-loop μ-loop
+same-length-12 c = c .before .before .before .before .before .before .before .before .before .before .before .before .before .before .before .before .before .before .before .before .loop .inv .0 .of-qs
+
+same-length-13 : tie.Need-same-length-13 Inv-loop μ-loop
+same-length-13 c = c .before .before .before .before .before .before .before .before .before .before .before .before .make-level .kept .1 .1 .1 .1 .1 .0 ∙ c .before .before .before .before .before .before .before .before .before .before .before .before .before .before .before .before .before .before .before .before .loop .inv .0 .of-table
+
+same-length-14 : tie.Need-same-length-14 Inv-loop μ-loop
+same-length-14 c = c .before .before .before .before .before .before .before .before .before .before .before .before .make-level .kept .1 .1 .1 .1 .1 .1 .0 ∙ c .before .before .before .before .before .before .before .before .before .before .before .before .before .before .before .before .before .before .before .before .loop .inv .0 .of-xs
+
+same-length-15 : tie.Need-same-length-15 Inv-loop μ-loop
+same-length-15 c = c .before .before .before .before .before .before .before .before .before .before .before .before .make-level .kept .1 .1 .1 .1 .1 .1 .1 .0 ∙ c .before .before .before .before .before .before .before .before .before .before .before .before .before .before .before .before .before .before .before .before .loop .inv .0 .of-ys
+
+same-length-16 : tie.Need-same-length-16 Inv-loop μ-loop
+same-length-16 c = c .before .before .before .before .before .before .before .before .before .before .before .before .make-level .kept .1 .1 .1 .1 .1 .1 .1 .1 .1 .0 ∙ c .before .before .before .before .before .before .before .before .before .before .before .before .before .before .before .before .before .before .before .before .loop .inv .0 .of-links
+
+same-length-17 : tie.Need-same-length-17 Inv-loop μ-loop
+same-length-17 c = c .before .before .before .before .before .before .before .before .before .before .before .before .before .before .before .before .before .before .before .before .loop .inv .0 .of-links′
+
+same-length-18 : tie.Need-same-length-18 Inv-loop μ-loop
+same-length-18 c = c .before .before .before .before .before .before .before .before .before .before .before .before .before .before .before .before .before .before .before .before .loop .inv .0 .of-old ∙ c .before .before .before .before .before .before .before .before .before .before .before .before .before .before .before .before .before .before .before .before .before .before .before .old-coarse .kept .1 .0
+
 returns-2 : tie.Need-returns-2 Inv-loop μ-loop
 returns-2 c =
-    let a = c .before .before .before .before .before .before .before .before .before .before .before .before .before .before .before
-    .before .before .before .before .before .before .before .before .before .args in
-    let p = c .before .before .before .before .before .before .before .before .before .before .before .before .before .before .before
-    .before .before .before .before .before .before .before .before .before .pre in
-    let l = c .before .before .before .before .before .before .before .before .before .before .before .before .before .before .loop in
-    let t = c .before .before .before .before .make-level in
-    result-high (a .n) (fours (a .mesh .now)) (a .status .now) (a .red .now) (l .rows) (l .ps) (l .qs) (t .last .1 .1 .1 .1 .1 .0) _ _ _ _
+    let a = c .before .before .before .before .before .before .before .before .before .before .before .before .before .before .before .before .before .before .before .before .before .before .before .before .before .before .before .before .before .before .before .before .before .before .before .before .before .before .before .before .before .before .before .args in
+    let p = c .before .before .before .before .before .before .before .before .before .before .before .before .before .before .before .before .before .before .before .before .before .before .before .before .before .before .before .before .before .before .before .before .before .before .before .before .before .before .before .before .before .before .before .pre in
+    let l = c .before .before .before .before .before .before .before .before .before .before .before .before .before .before .before .before .before .before .before .before .loop in
+    let t = c .before .before .before .before .before .before .before .before .before .before .before .before .make-level in
+    result-high (a .most) (a .n) (fours (a .mesh .now)) (a .status .now) (a .red .now) (l .rows) (l .ps) (l .qs) (t .last .1 .1 .1 .1 .1 .0) _ _ _ _
     (c .refused .ensures .0)
-    (found-high (a .n) (fours (a .mesh .now)) (a .status .now) (a .red .now) (l .level) (l .first) (l .last) (l .rows) (l .xs) (l .ys)
-    (l .heads) (l .links) (l .k) (l .ps) (l .qs) (l .mid-heads) (l .mid-links) (l .m) (l .old) (l .table) (l .inv) (p .1 .1 .1 .0)
+    (found-high (a .most) (a .n) (fours (a .mesh .now)) (a .status .now) (a .red .now) (l .level) (l .first) (l .last) (l .rows) (l .xs) (l .ys)
+    (l .heads) (l .links) (l .k) (l .ps) (l .qs) (l .mid-heads) (l .mid-links) (l .m) (l .old) (l .table) (l .inv .1) (p .1 .1 .1 .0)
     (t .last .1 .1 .1 .1 .1 .0) (t .last .1 .1 .1 .1 .1 .1 .0) (t .last .1 .1 .1 .1 .1 .1 .1 .0) (t .last .1 .1 .1 .1 .1 .1 .1 .1 .0)
     (t .last .1 .1 .1 .1 .1 .1 .1 .1 .1 .0) (t .result .n) (t .result .size) (t .ensures) (c .before .before .if1 .left)
     (c .before .if2 .taken))
 
 sub-if3 : tie.Need-sub-if3 Inv-loop μ-loop
 sub-if3 c = omega
-    (arith, c .before .before .before .before .before .before .before .before .before .before .before .before .before .loop .inv .here .few)
+    (arith, c .before .before .before .before .before .before .before .before .before .before .before .before .before .before .before .before .before .before .before .loop .inv .1 .within)
 
 refused-requires-2 : tie.Need-refused-requires-2 Inv-loop μ-loop
 refused-requires-2 c κs = search needs
 
+same-length-19 : tie.Need-same-length-19 Inv-loop μ-loop
+same-length-19 c = c .before .before .before .before .before .before .before .before .before .before .before .before .before .before .before .before .before .before .before .before .before .before .loop .inv .0 .of-rows ∙ c .before .before .before .before .before .before .before .before .before .before .before .before .before .before .before .before .before .before .before .before .before .before .before .before .before .before .before .before .before .lay-coarse .kept .1 .0
+
+same-length-20 : tie.Need-same-length-20 Inv-loop μ-loop
+same-length-20 c = c .before .before .before .before .before .before .before .before .before .before .before .before .before .before .before .before .before .before .before .before .before .before .loop .inv .0 .of-ps
+
+same-length-21 : tie.Need-same-length-21 Inv-loop μ-loop
+same-length-21 c = c .before .before .before .before .before .before .before .before .before .before .before .before .before .before .before .before .before .before .before .before .before .before .loop .inv .0 .of-qs
+
+same-length-22 : tie.Need-same-length-22 Inv-loop μ-loop
+same-length-22 c = c .before .before .before .before .before .before .before .before .before .before .before .before .before .before .make-level .kept .1 .1 .1 .1 .1 .0 ∙ c .before .before .before .before .before .before .before .before .before .before .before .before .before .before .before .before .before .before .before .before .before .before .loop .inv .0 .of-table
+
+same-length-23 : tie.Need-same-length-23 Inv-loop μ-loop
+same-length-23 c = c .before .before .before .before .before .before .before .before .before .before .before .before .before .before .make-level .kept .1 .1 .1 .1 .1 .1 .0 ∙ c .before .before .before .before .before .before .before .before .before .before .before .before .before .before .before .before .before .before .before .before .before .before .loop .inv .0 .of-xs
+
+same-length-24 : tie.Need-same-length-24 Inv-loop μ-loop
+same-length-24 c = c .before .before .before .before .before .before .before .before .before .before .before .before .before .before .make-level .kept .1 .1 .1 .1 .1 .1 .1 .0 ∙ c .before .before .before .before .before .before .before .before .before .before .before .before .before .before .before .before .before .before .before .before .before .before .loop .inv .0 .of-ys
+
+same-length-25 : tie.Need-same-length-25 Inv-loop μ-loop
+same-length-25 c = c .before .before .before .before .before .before .before .before .before .before .before .before .before .before .make-level .kept .1 .1 .1 .1 .1 .1 .1 .1 .1 .0 ∙ c .before .before .before .before .before .before .before .before .before .before .before .before .before .before .before .before .before .before .before .before .before .before .loop .inv .0 .of-links
+
+same-length-26 : tie.Need-same-length-26 Inv-loop μ-loop
+same-length-26 c = c .before .before .before .before .before .before .before .before .before .before .before .before .before .before .before .before .before .before .before .before .before .before .loop .inv .0 .of-links′
+
+same-length-27 : tie.Need-same-length-27 Inv-loop μ-loop
+same-length-27 c = c .before .before .before .before .before .before .before .before .before .before .before .before .before .before .before .before .before .before .before .before .before .before .loop .inv .0 .of-old ∙ c .before .before .before .before .before .before .before .before .before .before .before .before .before .before .before .before .before .before .before .before .before .before .before .before .before .old-coarse .kept .1 .0
+
 returns-3 : tie.Need-returns-3 Inv-loop μ-loop
 returns-3 c =
-    let a = c .before .before .before .before .before .before .before .before .before .before .before .before .before .before .before
-    .before .before .before .before .before .before .before .before .before .before .before .args in
-    let p = c .before .before .before .before .before .before .before .before .before .before .before .before .before .before .before
-    .before .before .before .before .before .before .before .before .before .before .before .pre in
-    let l = c .before .before .before .before .before .before .before .before .before .before .before .before .before .before .before
-    .before .loop in
-    let t = c .before .before .before .before .before .before .make-level in
-    result-many (a .n) (fours (a .mesh .now)) (a .status .now) (a .red .now) (l .rows) (l .ps) (l .qs) (t .last .1 .1 .1 .1 .1 .0) _ _ _ _
+    let a = c .before .before .before .before .before .before .before .before .before .before .before .before .before .before .before .before .before .before .before .before .before .before .before .before .before .before .before .before .before .before .before .before .before .before .before .before .before .before .before .before .before .before .before .before .before .args in
+    let p = c .before .before .before .before .before .before .before .before .before .before .before .before .before .before .before .before .before .before .before .before .before .before .before .before .before .before .before .before .before .before .before .before .before .before .before .before .before .before .before .before .before .before .before .before .before .pre in
+    let l = c .before .before .before .before .before .before .before .before .before .before .before .before .before .before .before .before .before .before .before .before .before .before .loop in
+    let t = c .before .before .before .before .before .before .before .before .before .before .before .before .before .before .make-level in
+    result-many (a .most) (a .n) (fours (a .mesh .now)) (a .status .now) (a .red .now) (l .rows) (l .ps) (l .qs) (t .last .1 .1 .1 .1 .1 .0) _ _ _ _
     (c .refused2 .ensures .0)
-    (found-many (a .n) (fours (a .mesh .now)) (a .status .now) (a .red .now) (l .level) (l .first) (l .last) (l .rows) (l .xs) (l .ys)
-    (l .heads) (l .links) (l .k) (l .ps) (l .qs) (l .mid-heads) (l .mid-links) (l .m) (l .old) (l .table) (l .inv) (p .1 .1 .1 .0)
+    (found-many (a .most) (a .n) (fours (a .mesh .now)) (a .status .now) (a .red .now) (l .level) (l .first) (l .last) (l .rows) (l .xs) (l .ys)
+    (l .heads) (l .links) (l .k) (l .ps) (l .qs) (l .mid-heads) (l .mid-links) (l .m) (l .old) (l .table) (l .inv .1) (p .1 .1 .1 .0)
     (t .last .1 .1 .1 .1 .1 .0) (t .last .1 .1 .1 .1 .1 .1 .0) (t .last .1 .1 .1 .1 .1 .1 .1 .0) (t .last .1 .1 .1 .1 .1 .1 .1 .1 .0)
     (t .last .1 .1 .1 .1 .1 .1 .1 .1 .1 .0) (t .result .n) (t .result .size) (t .ensures)
-    (omega (arith, c .before .if3 .taken, l .inv .here .few)))
+    (omega (arith, c .before .if3 .taken, l .inv .1 .within)))
 
 add-grow-level : tie.Need-add-grow-level Inv-loop μ-loop
 add-grow-level c = omega (
   arith,
-  c .before .before .before .before .before .before .before .before .before .before .before .before .before .before .before .before
-      .before .before .loop .inv .here .low,
+  c .before .before .before .before .before .before .before .before .before .before .before .before .before .before .before .before .before .before .before .before .before .before .before .loop .inv .1 .here .low,
 )
 
 cast-grow-level : tie.Need-cast-grow-level Inv-loop μ-loop
 cast-grow-level c = omega (
   arith,
-  c .before .before .before .before .before .before .before .before .before .before .before .before .before .before .before .before
-      .before .before .loop .inv .here .low,
+  c .before .before .before .before .before .before .before .before .before .before .before .before .before .before .before .before .before .before .before .before .before .before .before .loop .inv .1 .here .low,
 )
 
 grow-level-requires : tie.Need-grow-level-requires Inv-loop μ-loop
 grow-level-requires c κs =
-    let a = c .before .before .before .before .before .before .before .before .before .before .before .before .before .before .before
-    .before .before .before .before .before .before .before .before .before .before .before .before .before .before .before .before
-    .before .args in
-    let p = c .before .before .before .before .before .before .before .before .before .before .before .before .before .before .before
-    .before .before .before .before .before .before .before .before .before .before .before .before .before .before .before .before
-    .before .pre in
-    let l = c .before .before .before .before .before .before .before .before .before .before .before .before .before .before .before
-    .before .before .before .before .before .before .before .loop in
-    let t = c .before .before .before .before .before .before .before .before .before .before .before .before .make-level in
-    let h = l .inv .here in (
-      room-next (a .n) (fours (a .mesh .now)) (a .status .now) (a .red .now) (l .level) (l .first) (l .last) (l .rows) (l .xs) (l .ys)
-          (l .heads) (l .links) (l .k) (l .ps) (l .qs) (l .mid-heads) (l .mid-links) (l .m) (l .old) (l .table) (l .inv) (p .1 .1 .1 .0)
+    let a = c .before .before .before .before .before .before .before .before .before .before .before .before .before .before .before .before .before .before .before .before .before .before .before .before .before .before .before .before .before .before .before .before .before .before .before .before .before .before .before .before .before .before .before .before .before .before .before .before .before .before .args in
+    let p = c .before .before .before .before .before .before .before .before .before .before .before .before .before .before .before .before .before .before .before .before .before .before .before .before .before .before .before .before .before .before .before .before .before .before .before .before .before .before .before .before .before .before .before .before .before .before .before .before .before .before .pre in
+    let l = c .before .before .before .before .before .before .before .before .before .before .before .before .before .before .before .before .before .before .before .before .before .before .before .before .before .before .before .loop in
+    let r = room-later (p .1 .1 .1 .1 .1 .0) (l .inv .0) (c .before .before .before .before .before .before .before .before .before .before .before .before .before .before .before .before .before .before .before .before .before .before .before .before .before .before .before .before .before .before .before .before .before .before .lay-coarse .kept .1 .0) (c .before .before .before .before .before .before .before .before .before .before .before .before .before .before .before .before .before .before .before .before .before .before .before .before .before .before .before .before .before .before .old-coarse .kept .1 .0) in
+    let t = c .before .before .before .before .before .before .before .before .before .before .before .before .before .before .before .before .before .before .before .make-level in
+    let h = l .inv .1 .here in (
+      room-next (a .most) (a .n) (fours (a .mesh .now)) (a .status .now) (a .red .now) (l .level) (l .first) (l .last) (l .rows) (l .xs) (l .ys)
+          (l .heads) (l .links) (l .k) (l .ps) (l .qs) (l .mid-heads) (l .mid-links) (l .m) (l .old) (l .table) (l .inv .1) (p .1 .1 .1 .0)
           (t .last .1 .1 .1 .1 .1 .0) (t .last .1 .1 .1 .1 .1 .1 .0) (t .last .1 .1 .1 .1 .1 .1 .1 .0) (t .last .1 .1 .1 .1 .1 .1 .1 .1 .0)
           (t .last .1 .1 .1 .1 .1 .1 .1 .1 .1 .0) (t .result .n) (t .result .size) (t .ensures)
-          (omega (
-            arith,
-            c .before .before .before .before .before .before .before .before .before .before .before .before .before .before .before
-                .before .before .before .make-level-arg4,
-          ))
-          (omega (
-            arith,
-            c .before .before .before .before .before .before .before .before .before .before .before .before .before .before .before
-                .before .before .make-level-arg5,
-          ))
-          (omega (arith, c .before .before .before .before .before .before .before .if3 .left, h .few)) (p .0 .corners)
-          (omega (arith, h .few, c .before .before .before .before .grow-level-arg3))
-          (omega (arith, c .before .before .before .before .before .before .grow-level-arg))
-          (omega (arith, c .before .before .before .grow-level-arg4)) (omega (arith, c .before .before .grow-level-arg5))
-          (omega (arith, c .grow-level-arg7)),
+          (r .few) (r .in-old) (r .in-table)
+          (omega (arith, c .before .before .before .before .before .before .if3 .left, l .inv .1 .within)) (p .0 .corners)
+          (omega (arith, l .inv .1 .within, r .in-table, t .kept .1 .1 .1 .1 .1 .0)) (r .in-rows) (r .in-ps) (r .in-qs) (r .in-links′),
       p .1 .1 .1 .1 .0,
     )
 
 old-level-requires : tie.Need-old-level-requires Inv-loop μ-loop
 old-level-requires c κs =
-    let a = c .before .before .before .before .before .before .before .before .before .before .before .before .before .before .before
-    .before .before .before .before .before .before .before .before .before .before .before .before .before .before .before .before
-    .before .before .before .before .before .args in
-    let p = c .before .before .before .before .before .before .before .before .before .before .before .before .before .before .before
-    .before .before .before .before .before .before .before .before .before .before .before .before .before .before .before .before
-    .before .before .before .before .before .pre in
-    let l = c .before .before .before .before .before .before .before .before .before .before .before .before .before .before .before
-    .before .before .before .before .before .before .before .before .before .before .before .loop in
-    let t = c .before .before .before .before .before .before .before .before .before .before .before .before .before .before .before
-    .before .make-level in
-    let i = c .before .before .before .before .before .before .before .before .before .before .before .before .before .before .before
-    .before .before .before .before .before .before .before .before .before .before .before .before .before .before .lay-coarse in
-    let h = l .inv .here in
-    let io : 4096 ≤ length (l .old) = omega (
-      arith,
-      c .before .before .before .before .before .before .before .before .before .before .before .before .before .before .before .before
-          .before .before .before .before .before .before .make-level-arg4,
-    ) in
-    let it : 4096 ≤ length (l .table) = omega (
-      arith,
-      c .before .before .before .before .before .before .before .before .before .before .before .before .before .before .before .before
-          .before .before .before .before .before .make-level-arg5,
-    ) in
-    let z = room-sizes (a .n) (fours (a .mesh .now)) (a .status .now) (a .red .now) (l .level) (l .first) (l .last) (l .rows) (l .xs)
-    (l .ys) (l .heads) (l .links) (l .k) (l .ps) (l .qs) (l .mid-heads) (l .mid-links) (l .m) (l .old) (l .table) (l .inv)
+    let a = c .before .before .before .before .before .before .before .before .before .before .before .before .before .before .before .before .before .before .before .before .before .before .before .before .before .before .before .before .before .before .before .before .before .before .before .before .before .before .before .before .before .before .before .before .before .before .before .before .before .before .before .before .before .before .before .before .before .before .before .before .before .args in
+    let p = c .before .before .before .before .before .before .before .before .before .before .before .before .before .before .before .before .before .before .before .before .before .before .before .before .before .before .before .before .before .before .before .before .before .before .before .before .before .before .before .before .before .before .before .before .before .before .before .before .before .before .before .before .before .before .before .before .before .before .before .before .before .pre in
+    let l = c .before .before .before .before .before .before .before .before .before .before .before .before .before .before .before .before .before .before .before .before .before .before .before .before .before .before .before .before .before .before .before .before .before .before .before .before .before .before .loop in
+    let r = room-later (p .1 .1 .1 .1 .1 .0) (l .inv .0) (c .before .before .before .before .before .before .before .before .before .before .before .before .before .before .before .before .before .before .before .before .before .before .before .before .before .before .before .before .before .before .before .before .before .before .before .before .before .before .before .before .before .before .before .before .before .lay-coarse .kept .1 .0) (c .before .before .before .before .before .before .before .before .before .before .before .before .before .before .before .before .before .before .before .before .before .before .before .before .before .before .before .before .before .before .before .before .before .before .before .before .before .before .before .before .before .old-coarse .kept .1 .0) in
+    let t = c .before .before .before .before .before .before .before .before .before .before .before .before .before .before .before .before .before .before .before .before .before .before .before .before .before .before .before .before .before .before .make-level in
+    let i = c .before .before .before .before .before .before .before .before .before .before .before .before .before .before .before .before .before .before .before .before .before .before .before .before .before .before .before .before .before .before .before .before .before .before .before .before .before .before .before .before .before .before .before .before .before .lay-coarse in
+    let h = l .inv .1 .here in
+    
+    let z = room-sizes (a .most) (a .n) (fours (a .mesh .now)) (a .status .now) (a .red .now) (l .level) (l .first) (l .last) (l .rows) (l .xs)
+    (l .ys) (l .heads) (l .links) (l .k) (l .ps) (l .qs) (l .mid-heads) (l .mid-links) (l .m) (l .old) (l .table) (l .inv .1)
     (p .1 .1 .1 .0)
     (t .last .1 .1 .1 .1 .1 .0) (t .last .1 .1 .1 .1 .1 .1 .0) (t .last .1 .1 .1 .1 .1 .1 .1 .0) (t .last .1 .1 .1 .1 .1 .1 .1 .1 .0)
-    (t .last .1 .1 .1 .1 .1 .1 .1 .1 .1 .0) (t .result .n) (t .result .size) (t .ensures) io it
-    (omega (arith, c .before .before .before .before .before .before .before .before .before .before .before .if3 .left, h .few)) in
-    let q = small-own (a .n) (fours (a .mesh .now)) (a .status .now) (a .red .now) (l .level) (l .first) (l .last) (l .rows) (l .xs) (l .ys)
-    (l .heads) (l .links) (l .k) (l .ps) (l .qs) (l .mid-heads) (l .mid-links) (l .m) (l .old) (l .table) (l .inv) (p .1 .1 .1 .0)
+    (t .last .1 .1 .1 .1 .1 .1 .1 .1 .1 .0) (t .result .n) (t .result .size) (t .ensures) (r .few) (r .in-old) (r .in-table)
+    (omega (arith, c .before .before .before .before .before .before .before .before .before .before .before .before .before .before .before .before .before .if3 .left, l .inv .1 .within)) in
+    let q = small-own (a .most) (a .n) (fours (a .mesh .now)) (a .status .now) (a .red .now) (l .level) (l .first) (l .last) (l .rows) (l .xs) (l .ys)
+    (l .heads) (l .links) (l .k) (l .ps) (l .qs) (l .mid-heads) (l .mid-links) (l .m) (l .old) (l .table) (l .inv .1) (p .1 .1 .1 .0)
     (t .last .1 .1 .1 .1 .1 .0) (t .last .1 .1 .1 .1 .1 .1 .0) (t .last .1 .1 .1 .1 .1 .1 .1 .0) (t .last .1 .1 .1 .1 .1 .1 .1 .1 .0)
-    (t .last .1 .1 .1 .1 .1 .1 .1 .1 .1 .0) (t .result .n) (t .result .size) (t .ensures) io it
-    (omega (arith, c .before .before .before .before .before .before .before .before .before .before .before .if3 .left, h .few)) in
+    (t .last .1 .1 .1 .1 .1 .1 .1 .1 .1 .0) (t .result .n) (t .result .size) (t .ensures) (r .few) (r .in-old) (r .in-table)
+    (omega (arith, c .before .before .before .before .before .before .before .before .before .before .before .before .before .before .before .before .before .if3 .left, l .inv .1 .within)) in
     let f = few-coarse (a .n) (a .mesh .now) (p .0) (i .result) (i .ensures .0) in (
       record { coarse = f; statuses = p .1 .0; kids = rw (i .ensures .0) (p .1 .1 .0) },
       (
         (
           omega (arith, h .end),
           omega arith,
-          omega (arith, h .few, it, t .kept .1 .1 .1 .1 .1 .0),
-          omega
-              (arith, z, io, h .few, c .before .before .before .before .before .before .before .before .before .before .before .if3 .left),
+          omega (arith, l .inv .1 .within, r .in-table, t .kept .1 .1 .1 .1 .1 .0),
+          omega (arith, z, r .in-old, c .before .before .before .before .before .before .before .before .before .before .before .before .before .before .before .before .before .if3 .left, l .inv .1 .within),
         ),
         q,
       ),
@@ -236,65 +286,54 @@ old-level-requires c κs =
 add-level : tie.Need-add-level Inv-loop μ-loop
 add-level c = omega (
   arith,
-  c .before .before .before .before .before .before .before .before .before .before .before .before .before .before .before .before
-      .before .before .before .before .before .before .before .before .before .before .before .loop .inv .here .low,
+  c .before .before .before .before .before .before .before .before .before .before .before .before .before .before .before .before .before .before .before .before .before .before .before .before .before .before .before .before .before .before .before .before .before .before .before .before .before .before .before .before .before .loop .inv .1 .here .low,
 )
 
 loop-less : tie.Need-loop-less Inv-loop μ-loop
 loop-less c = omega (
   arith,
-  c .before .before .before .before .before .before .before .before .before .before .before .before .before .before .before .before
-      .before .before .before .before .before .before .before .before .before .before .before .loop .inv .here .low,
+  c .before .before .before .before .before .before .before .before .before .before .before .before .before .before .before .before .before .before .before .before .before .before .before .before .before .before .before .before .before .before .before .before .before .before .before .before .before .before .before .before .before .loop .inv .1 .here .low,
 )
 
 loop-again : tie.Need-loop-again Inv-loop μ-loop
 loop-again c =
-    let a = c .before .before .before .before .before .before .before .before .before .before .before .before .before .before .before
-    .before .before .before .before .before .before .before .before .before .before .before .before .before .before .before .before
-    .before .before .before .before .before .before .args in
-    let p = c .before .before .before .before .before .before .before .before .before .before .before .before .before .before .before
-    .before .before .before .before .before .before .before .before .before .before .before .before .before .before .before .before
-    .before .before .before .before .before .before .pre in
-    let l = c .before .before .before .before .before .before .before .before .before .before .before .before .before .before .before
-    .before .before .before .before .before .before .before .before .before .before .before .before .loop in
-    let t = c .before .before .before .before .before .before .before .before .before .before .before .before .before .before .before
-    .before .before .make-level in
-    let i = c .before .before .before .before .before .before .before .before .before .before .before .before .before .before .before
-    .before .before .before .before .before .before .before .before .before .before .before .before .before .before .before
-    .lay-coarse in
-    let g = c .before .before .before .before .grow-level in
-    let o = c .old-level in
-    rw (add-one (l .level)) (going-next (a .n) (fours (a .mesh .now)) (a .status .now) (a .red .now) (l .level) (l .first) (l .last)
+    let a = c .before .before .before .before .before .before .before .before .before .before .before .before .before .before .before .before .before .before .before .before .before .before .before .before .before .before .before .before .before .before .before .before .before .before .before .before .before .before .before .before .before .before .before .before .before .before .before .before .before .before .before .before .before .before .before .before .before .before .before .before .before .before .before .before .args in
+    let p = c .before .before .before .before .before .before .before .before .before .before .before .before .before .before .before .before .before .before .before .before .before .before .before .before .before .before .before .before .before .before .before .before .before .before .before .before .before .before .before .before .before .before .before .before .before .before .before .before .before .before .before .before .before .before .before .before .before .before .before .before .before .before .before .before .pre in
+    let l = c .before .before .before .before .before .before .before .before .before .before .before .before .before .before .before .before .before .before .before .before .before .before .before .before .before .before .before .before .before .before .before .before .before .before .before .before .before .before .before .before .before .loop in
+    let r = room-later (p .1 .1 .1 .1 .1 .0) (l .inv .0) (c .before .before .before .before .before .before .before .before .before .before .before .before .before .before .before .before .before .before .before .before .before .before .before .before .before .before .before .before .before .before .before .before .before .before .before .before .before .before .before .before .before .before .before .before .before .before .before .before .lay-coarse .kept .1 .0) (c .before .before .before .before .before .before .before .before .before .before .before .before .before .before .before .before .before .before .before .before .before .before .before .before .before .before .before .before .before .before .before .before .before .before .before .before .before .before .before .before .before .before .before .before .old-coarse .kept .1 .0) in
+    let t = c .before .before .before .before .before .before .before .before .before .before .before .before .before .before .before .before .before .before .before .before .before .before .before .before .before .before .before .before .before .before .before .before .before .make-level in
+    let i = c .before .before .before .before .before .before .before .before .before .before .before .before .before .before .before .before .before .before .before .before .before .before .before .before .before .before .before .before .before .before .before .before .before .before .before .before .before .before .before .before .before .before .before .before .before .before .before .before .lay-coarse in
+    let g = c .before .before .before .before .before .before .before .before .before .before .before .before .before .grow-level in
+    let o = c .before .before .old-level in
+    let w = l .inv .0 in (
+      record {
+        of-rows = g .kept .0 ∙ w .of-rows;
+        of-ps = g .kept .1 .1 .1 .1 .1 .1 .1 .0 ∙ w .of-ps;
+        of-qs = g .kept .1 .1 .1 .1 .1 .1 .1 .1 .0 ∙ w .of-qs;
+        of-table = t .kept .1 .1 .1 .1 .1 .0 ∙ w .of-table;
+        of-xs = t .kept .1 .1 .1 .1 .1 .1 .0 ∙ w .of-xs;
+        of-ys = t .kept .1 .1 .1 .1 .1 .1 .1 .0 ∙ w .of-ys;
+        of-links = t .kept .1 .1 .1 .1 .1 .1 .1 .1 .1 .0 ∙ w .of-links;
+        of-links′ = g .kept .1 .1 .1 .1 .1 .1 .1 .1 .1 .1 .0 ∙ w .of-links′;
+        of-old = o .kept .1 .1 .1 .1 .1 .1 .0 ∙ w .of-old;
+      },
+      rw (add-one (l .level)) (going-next (a .most) (a .n) (fours (a .mesh .now)) (a .status .now) (a .red .now) (l .level) (l .first) (l .last)
     (l .rows) (l .xs) (l .ys) (l .heads) (l .links) (l .k) (l .ps) (l .qs) (l .mid-heads) (l .mid-links) (l .m) (l .old) (l .table)
-    (l .inv) (p .1 .1 .1 .0)
+    (l .inv .1) (p .1 .1 .1 .0)
     (t .last .1 .1 .1 .1 .1 .0) (t .last .1 .1 .1 .1 .1 .1 .0) (t .last .1 .1 .1 .1 .1 .1 .1 .0) (t .last .1 .1 .1 .1 .1 .1 .1 .1 .0)
     (t .last .1 .1 .1 .1 .1 .1 .1 .1 .1 .0) (t .result .n) (t .result .size) (t .ensures)
+    (r .few) (r .in-old) (r .in-table)
     (omega (
       arith,
-      c .before .before .before .before .before .before .before .before .before .before .before .before .before .before .before .before
-          .before .before .before .before .before .before .before .make-level-arg4,
+      c .before .before .before .before .before .before .before .before .before .before .before .before .before .before .before .before .before .before .before .before .if3 .left, l .inv .1 .within
     ))
-    (omega (
-      arith,
-      c .before .before .before .before .before .before .before .before .before .before .before .before .before .before .before .before
-          .before .before .before .before .before .before .make-level-arg5,
-    ))
-    (omega (
-      arith,
-      c .before .before .before .before .before .before .before .before .before .before .before .before .if3 .left,
-      l .inv .here .few,
-    ))
-    (c .before .before .before .before .before .before .before .before .before .before .before .before .before .before .before .if1
-    .left)
-    (c .before .before .before .before .before .before .before .before .before .before .before .before .before .before .if2 .left)
-    (omega (
-      arith,
-      c .before .before .before .before .before .before .before .before .before .before .before .before .before .before .before .before
-          .before .before .before .before .before .before .before .before .before .make-level-arg2,
-    ))
+    (c .before .before .before .before .before .before .before .before .before .before .before .before .before .before .before .before .before .before .before .before .before .before .before .if1 .left)
+    (c .before .before .before .before .before .before .before .before .before .before .before .before .before .before .before .before .before .before .before .before .before .before .if2 .left)
+    (r .in-rows)
     (g .last .0) (g .last .1 .1 .1 .1 .1 .1 .1 .0) (g .last .1 .1 .1 .1 .1 .1 .1 .1 .0) (g .last .1 .1 .1 .1 .1 .1 .1 .1 .1 .0)
     (g .last .1 .1 .1 .1 .1 .1 .1 .1 .1 .1 .0) (g .result .at) (g .result .m) (rw (add-one (l .level)) at (g .ensures))
-    (o .last .1 .1 .1 .1 .1 .1 .0) (rw (i .ensures .0) at (o .ensures)))
+    (o .last .1 .1 .1 .1 .1 .1 .0) (rw (i .ensures .0) at (o .ensures))),
+    )
 
 pub build-spec : {M : Type 1} → statement M
 build-spec =
@@ -306,12 +345,39 @@ build-spec =
     old-coarse-requires
     loop-holds
     make-level-requires
-    add-t46
+    add-t47
+    same-length
+    same-length-2
+    same-length-3
+    same-length-4
+    same-length-5
+    same-length-6
+    same-length-7
+    same-length-8
+    same-length-9
     returns
     refused-requires
+    same-length-10
+    same-length-11
+    same-length-12
+    same-length-13
+    same-length-14
+    same-length-15
+    same-length-16
+    same-length-17
+    same-length-18
     returns-2
     sub-if3
     refused-requires-2
+    same-length-19
+    same-length-20
+    same-length-21
+    same-length-22
+    same-length-23
+    same-length-24
+    same-length-25
+    same-length-26
+    same-length-27
     returns-3
     add-grow-level
     cast-grow-level

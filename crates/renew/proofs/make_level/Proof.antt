@@ -9,8 +9,8 @@ use Rattle.renew.proofs.make_level.Tie as tie
 flag-level-requires : tie.Need-flag-level-requires
 flag-level-requires c κs = (
   c .before .before .before .before .before .before .before .before .before .pre .1 .1 .0,
-  c .before .before .before .before .before .before .before .before .before .pre .1 .1 .2,
   c .before .before .before .before .before .before .before .before .before .pre .1 .1 .3,
+  c .before .before .before .before .before .before .before .before .before .pre .1 .1 .4,
 )
 
 mul-if1 : tie.Need-mul-if1
@@ -18,16 +18,18 @@ mul-if1 c = omega (
   arith,
   c .before .before .flag-level .ensures .few,
   c .before .before .before .before .before .before .before .before .before .before .before .before .pre .1 .1 .1,
+  c .before .before .before .before .before .before .before .before .before .before .before .before .pre .1 .1 .2,
 )
 
 sub-if1 : tie.Need-sub-if1
 sub-if1 c = omega (arith, c .before .before .before .before .before .before .before .before .before .before .before .before .pre .1 .1 .1)
 
-mul-t20 : tie.Need-mul-t20
-mul-t20 c = omega (
+mul-t21 : tie.Need-mul-t21
+mul-t21 c = omega (
   arith,
   c .before .before .before .flag-level .ensures .few,
   c .before .before .before .before .before .before .before .before .before .before .before .before .before .pre .1 .1 .1,
+  c .before .before .before .before .before .before .before .before .before .before .before .before .before .pre .1 .1 .2,
 )
 
 same-length : tie.Need-same-length
@@ -39,7 +41,7 @@ returns c =
     let p = c .before .before .before .before .before .before .before .before .before .before .before .before .before .pre in
     let f = c .before .before .before .flag-level in
     made-over (a .red .now) (a .old .now) (a .rows .now) (a .first) (a .last) (a .table .now) (a .xs .now) (a .ys .now) (a .heads .now)
-    (a .links .now) (a .n) (p .0) (p .1 .1 .0) (p .1 .1 .1) (p .1 .1 .2) (p .1 .1 .3) (p .1 .1 .4) (p .1 .0 .0) (p .1 .0 .1)
+    (a .links .now) (a .n) (p .0) (a .most) (p .1 .1 .0) (p .1 .1 .1) (p .1 .1 .2) (p .1 .1 .3) (p .1 .1 .4) (p .1 .1 .5) (p .1 .0 .0) (p .1 .0 .1)
     (p .1 .0 .2)
     (f .last .1 .1 .1 .1 .0) (f .result) (f .ensures) (c .if1 .taken)
 
@@ -47,16 +49,14 @@ red-level-requires : tie.Need-red-level-requires
 red-level-requires c κs =
     let
     a =
-    c .before .before .before .before .before .before .before .before .before .before .before .before .before .before .before .before
-    .before .before .args in
+    c .before .before .before .before .before .before .before .before .before .before .before .before .before .before .before .before .before .before .args in
     let
     p =
-    c .before .before .before .before .before .before .before .before .before .before .before .before .before .before .before .before
-    .before .before .pre in
+    c .before .before .before .before .before .before .before .before .before .before .before .before .before .before .before .before .before .before .pre in
     let f = c .before .before .before .before .before .before .before .before .flag-level in (
-      record { up = p .1 .1 .0; inside = omega (arith, p .1 .1 .3, f .kept .1 .1 .1 .1 .0) },
+      record { up = p .1 .1 .0; inside = omega (arith, p .1 .1 .4, f .kept .1 .1 .1 .1 .0) },
       make-ready (a .red .now) (a .old .now) (a .rows .now) (a .first) (a .last) (a .table .now) (a .xs .now) (a .ys .now) (a .heads .now)
-          (a .links .now) (a .n) (p .0) (p .1 .1 .0) (p .1 .1 .1) (p .1 .1 .2) (p .1 .1 .3) (p .1 .1 .4) (p .1 .0 .0) (p .1 .0 .1)
+          (a .links .now) (a .n) (p .0) (a .most) (p .1 .1 .0) (p .1 .1 .1) (p .1 .1 .2) (p .1 .1 .3) (p .1 .1 .4) (p .1 .1 .5) (p .1 .0 .0) (p .1 .0 .1)
           (p .1 .0 .2)
           (f .last .1 .1 .1 .1 .0) (f .result) (f .ensures) (c .before .before .before .before .before .if1 .left),
     )
@@ -65,85 +65,68 @@ close-level-requires : tie.Need-close-level-requires
 close-level-requires c κs =
     let
     a =
-    c .before .before .before .before .before .before .before .before .before .before .before .before .before .before .before .before
-    .before .before .before .before .before .before .before .before .before .before .before .before .before .before .before .before
-    .args in
+    c .before .before .before .before .before .before .before .before .before .before .before .before .before .before .before .before .before .before .before .before .before .before .before .before .before .before .before .before .before .before .before .before .args in
     let
     p =
-    c .before .before .before .before .before .before .before .before .before .before .before .before .before .before .before .before
-    .before .before .before .before .before .before .before .before .before .before .before .before .before .before .before .before .pre
+    c .before .before .before .before .before .before .before .before .before .before .before .before .before .before .before .before .before .before .before .before .before .before .before .before .before .before .before .before .before .before .before .before .pre
     in
     let
     f =
-    c .before .before .before .before .before .before .before .before .before .before .before .before .before .before .before .before
-    .before .before .before .before .before .before .flag-level in
+    c .before .before .before .before .before .before .before .before .before .before .before .before .before .before .before .before .before .before .before .before .before .before .flag-level in
     let i = c .before .before .before .before .before .before .before .before .before .before .before .before .before .red-level in (
-      (p .1 .1 .0, p .1 .1 .1, omega (arith, p .1 .1 .3, f .kept .1 .1 .1 .1 .0)),
+      (p .1 .1 .0, omega (arith, p .1 .1 .1, p .1 .1 .2), omega (arith, p .1 .1 .4, f .kept .1 .1 .1 .1 .0)),
       make-looks (a .red .now) (a .old .now) (a .rows .now) (a .first) (a .last) (a .table .now) (a .xs .now) (a .ys .now) (a .heads .now)
-          (a .links .now) (a .n) (p .0) (p .1 .1 .0) (p .1 .1 .1) (p .1 .1 .2) (p .1 .1 .3) (p .1 .1 .4) (p .1 .0 .0) (p .1 .0 .1)
+          (a .links .now) (a .n) (p .0) (a .most) (p .1 .1 .0) (p .1 .1 .1) (p .1 .1 .2) (p .1 .1 .3) (p .1 .1 .4) (p .1 .1 .5) (p .1 .0 .0) (p .1 .0 .1)
           (p .1 .0 .2)
           (f .last .1 .1 .1 .1 .0) (f .result) (f .ensures)
-          (c .before .before .before .before .before .before .before .before .before .before .before .before .before .before .before .before
-          .before .before .before .if1 .left) (i .last .1 .1 .1 .1 .0) (i .last .1 .1 .1 .1 .1 .0) (i .last .1 .1 .1 .1 .1 .1 .0)
+          (c .before .before .before .before .before .before .before .before .before .before .before .before .before .before .before .before .before .before .before .if1 .left) (i .last .1 .1 .1 .1 .0) (i .last .1 .1 .1 .1 .1 .0) (i .last .1 .1 .1 .1 .1 .1 .0)
           (i .last .1 .1 .1 .1 .1 .1 .1 .0) (i .result) (i .ensures),
     )
 
 same-length-2 : tie.Need-same-length-2
 same-length-2 c = c .before .before .close-level .kept .1 .1 .1 .1 .1 .1 .1 .1 .1 .0
-    ∙ c .before .before .before .before .before .before .before .before .before .before .before .before .before .before .before .before
-    .before .before .before .before .before .before .before .before .before .flag-level .kept .1 .1 .1 .1 .0
+    ∙ c .before .before .before .before .before .before .before .before .before .before .before .before .before .before .before .before .before .before .before .before .before .before .before .before .before .flag-level .kept .1 .1 .1 .1 .0
 
 same-length-3 : tie.Need-same-length-3
 same-length-3
     c =
-    c .before .before .before .before .before .before .before .before .before .before .before .before .before .before .before .before
-    .red-level .kept .1 .1 .1 .1 .0
+    c .before .before .before .before .before .before .before .before .before .before .before .before .before .before .before .before .red-level .kept .1 .1 .1 .1 .0
 
 same-length-4 : tie.Need-same-length-4
 same-length-4
     c =
-    c .before .before .before .before .before .before .before .before .before .before .before .before .before .before .before .before
-    .red-level .kept .1 .1 .1 .1 .1 .0
+    c .before .before .before .before .before .before .before .before .before .before .before .before .before .before .before .before .red-level .kept .1 .1 .1 .1 .1 .0
 
 same-length-5 : tie.Need-same-length-5
 same-length-5
     c =
-    c .before .before .before .before .before .before .before .before .before .before .before .before .before .before .before .before
-    .red-level .kept .1 .1 .1 .1 .1 .1 .0
+    c .before .before .before .before .before .before .before .before .before .before .before .before .before .before .before .before .red-level .kept .1 .1 .1 .1 .1 .1 .0
 
 same-length-6 : tie.Need-same-length-6
 same-length-6
     c =
-    c .before .before .before .before .before .before .before .before .before .before .before .before .before .before .before .before
-    .red-level .kept .1 .1 .1 .1 .1 .1 .1 .0
+    c .before .before .before .before .before .before .before .before .before .before .before .before .before .before .before .before .red-level .kept .1 .1 .1 .1 .1 .1 .1 .0
 
 returns-2 : tie.Need-returns-2
 returns-2 c =
     let
     a =
-    c .before .before .before .before .before .before .before .before .before .before .before .before .before .before .before .before
-    .before .before .before .before .before .before .before .before .before .before .before .before .before .before .before .before
-    .before .before .before .args in
+    c .before .before .before .before .before .before .before .before .before .before .before .before .before .before .before .before .before .before .before .before .before .before .before .before .before .before .before .before .before .before .before .before .before .before .before .args in
     let
     p =
-    c .before .before .before .before .before .before .before .before .before .before .before .before .before .before .before .before
-    .before .before .before .before .before .before .before .before .before .before .before .before .before .before .before .before
-    .before .before .before .pre in
+    c .before .before .before .before .before .before .before .before .before .before .before .before .before .before .before .before .before .before .before .before .before .before .before .before .before .before .before .before .before .before .before .before .before .before .before .pre in
     let
     f =
-    c .before .before .before .before .before .before .before .before .before .before .before .before .before .before .before .before
-    .before .before .before .before .before .before .before .before .before .flag-level in
+    c .before .before .before .before .before .before .before .before .before .before .before .before .before .before .before .before .before .before .before .before .before .before .before .before .before .flag-level in
     let
     i =
-    c .before .before .before .before .before .before .before .before .before .before .before .before .before .before .before .before
-    .red-level in
+    c .before .before .before .before .before .before .before .before .before .before .before .before .before .before .before .before .red-level in
     let z = c .before .before .close-level in
     made (a .red .now) (a .old .now) (a .rows .now) (a .first) (a .last) (a .table .now) (a .xs .now) (a .ys .now) (a .heads .now)
-    (a .links .now) (a .n) (p .0) (p .1 .1 .0) (p .1 .1 .1) (p .1 .1 .2) (p .1 .1 .3) (p .1 .1 .4) (p .1 .0 .0) (p .1 .0 .1)
+    (a .links .now) (a .n) (p .0) (a .most) (p .1 .1 .0) (p .1 .1 .1) (p .1 .1 .2) (p .1 .1 .3) (p .1 .1 .4) (p .1 .1 .5) (p .1 .0 .0) (p .1 .0 .1)
     (p .1 .0 .2)
     (f .last .1 .1 .1 .1 .0) (f .result) (f .ensures)
-    (c .before .before .before .before .before .before .before .before .before .before .before .before .before .before .before .before
-    .before .before .before .before .before .before .if1 .left) (i .last .1 .1 .1 .1 .0) (i .last .1 .1 .1 .1 .1 .0)
+    (c .before .before .before .before .before .before .before .before .before .before .before .before .before .before .before .before .before .before .before .before .before .before .if1 .left) (i .last .1 .1 .1 .1 .0) (i .last .1 .1 .1 .1 .1 .0)
     (i .last .1 .1 .1 .1 .1 .1 .0) (i .last .1 .1 .1 .1 .1 .1 .1 .0) (i .result) (i .ensures)
     (z .last .1 .1 .1 .1 .1 .1 .1 .1 .1 .0) (z .result) (z .ensures)
 
@@ -154,7 +137,7 @@ make-level-spec =
     flag-level-requires
     mul-if1
     sub-if1
-    mul-t20
+    mul-t21
     same-length
     returns
     red-level-requires
