@@ -368,7 +368,7 @@ fn many_reds(
 }
 
 // Writes 64 for each cell that will be red and 0 for each other. The last three tables are for the work, whatever they hold; what they hold
-// after is free. They have room for six edges of each of 512 cells, which is enough for nearly every step.
+// after is free. Where they have no room for six edges of each cell of the crowd, other ones are made.
 pub fn new_reds(
     mesh: &[u16],
     n: usize,
@@ -377,15 +377,16 @@ pub fn new_reds(
     marks: &[u8],
     kids: &[u16],
     red: &mut [u8],
-    xs: &mut [u32; 3072],
-    ys: &mut [u32; 3072],
-    links: &mut [u16; 3072],
+    xs: &mut [u32],
+    ys: &mut [u32],
+    links: &mut [u16],
 )
     requires { ⌜ Marked n (now mesh) (now rows) (now status) (now marks) (now kids) (now red) ⌝ }
+    requires { ⌜ (length (now xs) ≤ length (now ys)) × (length (now xs) ≤ length (now links)) ⌝ }
     ensures { λ r. ⌜ is red ≡ flagTable n (fours (was mesh)) (was status) (was marks) ++ drop (length (was status)) (was red) ⌝ }
 {
     let mut heads = [65535u16; 5120];
-    if crowd(status, marks) > 512 {
+    if 6 * crowd(status, marks) > xs.len() {
         many_reds(rows, status, marks, kids, red, &mut heads);
         return;
     }
