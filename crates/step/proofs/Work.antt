@@ -31,12 +31,33 @@ use Rattle.reds.specs.Flags.{firstChildren}
 use Rattle.reds.specs.Old.{Marked}
 use Rattle.reds.specs.Firsts.{firsts-taken, first-at, length-firsts}
 use Rattle.renew.specs.Levels.{Kids}
+use Rattle.renew.specs.RenewRoom.{RenewRoom}
 use Rattle.renew.specs.Result.{Result, renewed}
 use Rattle.mesh.specs.Answers.{newTable, limitsAnswer}
 use Rattle.mesh.specs.Laws.{sound-count}
 use Rattle.step.specs.Deep.{deepFrom, Decided}
 use Rattle.step.specs.Advanced.{Held, Advanced}
 use Rattle.step.proofs.TopLevel.{flags-long, deep-scan}
+
+-- tables that are as long as they were have room
+pub room-same : {most : ℕ} {rows ps qs table xs ys links links′ old rows₁ ps₁ qs₁ xs₁ ys₁ links₁ : List ℕ}
+    → RenewRoom most rows ps qs table xs ys links links′ old → length rows₁ ≡ length rows → length ps₁ ≡ length ps
+    → length qs₁ ≡ length qs → length xs₁ ≡ length xs → length ys₁ ≡ length ys → length links₁ ≡ length links
+    → RenewRoom most rows₁ ps₁ qs₁ table xs₁ ys₁ links₁ links′ old
+room-same r a b c d e f =
+    record {
+      least = r .least;
+      few = r .few;
+      in-rows = omega (arith, r .in-rows);
+      in-ps = omega (arith, r .in-ps);
+      in-qs = omega (arith, r .in-qs);
+      in-table = r .in-table;
+      in-xs = omega (arith, r .in-xs);
+      in-ys = omega (arith, r .in-ys);
+      in-links = omega (arith, r .in-links);
+      in-links′ = r .in-links′;
+      in-old = r .in-old;
+    }
 
 -- the limits
 module _ (n : ℕ) (qs : List (List ℕ)) (ss ms : List ℕ) where
@@ -64,9 +85,6 @@ module _ (n : ℕ) (mesh rows ss : List ℕ) (h : Held n mesh rows ss) where
 
   pub held-coarse : length mesh / 4 ≤ 256
   held-coarse = omega (arith, h .accepted .few)
-
-  pub held-rows : 32768 ≤ length rows → 8 * length ss ≤ length rows
-  held-rows l = omega (arith, levels .small)
 
   -- the numbers of first children
   module _ (ks rest : List ℕ) (e : ks ≡ firstChildren (length mesh / 4) ss ++ rest) where
@@ -108,8 +126,8 @@ module _ (n : ℕ) (mesh rows ss : List ℕ) (h : Held n mesh rows ss) where
 
     -- what the building leaves
     module _ (rows′ ps qs′ table : List ℕ) (refusal cells levels mids : ℕ)
-        (r : Result n qs ss (take (length ss) red) rows′ ps qs′ table refusal cells levels mids) where
-      accepted : refusal ≡ 0 → Advanced n mesh ss ms rows′ ps qs′ table refusal cells levels mids
+        (most : ℕ) (r : Result most n qs ss (take (length ss) red) rows′ ps qs′ table refusal cells levels mids) where
+      accepted : refusal ≡ 0 → Advanced most n mesh ss ms rows′ ps qs′ table refusal cells levels mids
       accepted z =
           let t = same-table in
           let c : length (newTable n qs ss ms) ≡ cells = rw t at (r .counted z) in
@@ -117,7 +135,7 @@ module _ (n : ℕ) (mesh rows ss : List ℕ) (h : Held n mesh rows ss) where
           let low : length (stepTable n qs ss ms) ≤ 11 = rw t at (r .low z) in
           let few : length (newTable n qs ss ms) ≤ 4096 = omega (arith, s .few) in
           record {
-            answer = limits-pass n qs ss ms low few ∙ sym (answer-none refusal z);
+            answer = λ y. limits-pass n qs ss ms low few ∙ sym (answer-none refusal z);
             counted = λ y. c;
             few = λ y. s .few;
             table-is = λ y. rw t at (r .table-is z);
@@ -130,8 +148,8 @@ module _ (n : ℕ) (mesh rows ss : List ℕ) (h : Held n mesh rows ss) where
           }
 
       -- a refusal
-      refused : (k : ℕ) → (k ≡ 0 → ⊥) → limitsAnswer n qs ss ms ≡ answerOf k → (c l m : ℕ)
-          → Advanced n mesh ss ms rows′ ps qs′ table k c l m
+      refused : (k : ℕ) → (k ≡ 0 → ⊥) → ((k ≡ 9 → most ≡ 4096) → limitsAnswer n qs ss ms ≡ answerOf k) → (c l m : ℕ)
+          → Advanced most n mesh ss ms rows′ ps qs′ table k c l m
       refused k z a c l m =
           record {
             answer = a;
@@ -142,36 +160,37 @@ module _ (n : ℕ) (mesh rows ss : List ℕ) (h : Held n mesh rows ss) where
             laid = λ y. absurd (z y);
           }
 
-      high : refusal ≡ 8 → Advanced n mesh ss ms rows′ ps qs′ table refusal cells levels mids
+      high : refusal ≡ 8 → Advanced most n mesh ss ms rows′ ps qs′ table refusal cells levels mids
       unfolding answerOf
       high e =
           let t = same-table in
           let l : length (stepTable n qs ss ms) ≡ 12 = rw t at (r .high e) in
-          refused refusal (λ z. omega arith) (limits-high n qs ss ms (lt-leb (length (stepTable n qs ss ms)) 11 (omega arith)) ∙ rw e) cells
+          refused refusal (λ z. omega arith) (λ y. limits-high n qs ss ms (lt-leb (length (stepTable n qs ss ms)) 11 (omega arith)) ∙ rw e) cells
           levels mids
 
-      over : deepFrom rows red 0 (length ss) ≡ true → (k : ℕ) → k ≡ 8 → Advanced n mesh ss ms rows′ ps qs′ table k cells levels mids
+      over : deepFrom rows red 0 (length ss) ≡ true → (k : ℕ) → k ≡ 8 → Advanced most n mesh ss ms rows′ ps qs′ table k cells levels mids
       unfolding answerOf
-      over d k e = refused k (λ z. omega arith) (limits-high n qs ss ms (held-deep ∙ ap not d) ∙ rw e) cells levels mids
+      over d k e = refused k (λ z. omega arith) (λ y. limits-high n qs ss ms (held-deep ∙ ap not d) ∙ rw e) cells levels mids
 
-      many : refusal ≡ 9 → deepFrom rows red 0 (length ss) ≡ false → Advanced n mesh ss ms rows′ ps qs′ table refusal cells levels mids
+      many : refusal ≡ 9 → deepFrom rows red 0 (length ss) ≡ false → Advanced most n mesh ss ms rows′ ps qs′ table refusal cells levels mids
       unfolding answerOf
       many e d =
           let t = same-table in
-          let l : 4096 < length (newTable n qs ss ms) = rw t at (r .many e) in
-          refused refusal (λ z. omega arith) (limits-many n qs ss ms (held-deep ∙ ap not d) l ∙ rw e) cells levels mids
+          let l : most < length (newTable n qs ss ms) = rw t at (r .many e) in
+          refused refusal (λ z. omega arith)
+          (λ y. limits-many n qs ss ms (held-deep ∙ ap not d) (omega (arith, l, y e)) ∙ rw e) cells levels mids
 
       pub advanced : (d : Bool) → d ≡ deepFrom rows red 0 (length ss) → (k : ℕ) → Decided d refusal k
-          → Advanced n mesh ss ms rows′ ps qs′ table k cells levels mids
+          → Advanced most n mesh ss ms rows′ ps qs′ table k cells levels mids
       advanced d s k g =
           ⊎-elim (λ (e : refusal ≡ 0). same (λ z. absurd (omega arith)) (accepted e))
           (⊎-elim (λ (e : refusal ≡ 8). same (λ z. absurd (omega arith)) (high e))
           (λ (e : refusal ≡ 9). go d refl e)) (r .one)
         where
-          same : (refusal ≡ 9 → d ≡ false) → Advanced n mesh ss ms rows′ ps qs′ table refusal cells levels mids
-              → Advanced n mesh ss ms rows′ ps qs′ table k cells levels mids
+          same : (refusal ≡ 9 → d ≡ false) → Advanced most n mesh ss ms rows′ ps qs′ table refusal cells levels mids
+              → Advanced most n mesh ss ms rows′ ps qs′ table k cells levels mids
           same h a = let q : k ≡ refusal = g .kept h in rw q a
 
-          go : (b : Bool) → d ≡ b → refusal ≡ 9 → Advanced n mesh ss ms rows′ ps qs′ table k cells levels mids
+          go : (b : Bool) → d ≡ b → refusal ≡ 9 → Advanced most n mesh ss ms rows′ ps qs′ table k cells levels mids
           go true t e = over (sym s ∙ t) k (g .over e t)
           go false t e = same (λ x. t) (many e (sym s ∙ t))

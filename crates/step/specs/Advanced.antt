@@ -1,15 +1,17 @@
 -- What the work of a step asks for and leaves.
 --   Held n mesh rows ss   an accepted mesh of n corners and a sound table over it, with the rows of its cells
+--   AdvanceRoom most ..   tables with room for a table ss and for `most` new cells
 --   Advanced ..           the answer, and where there is no refusal the new table, with its rows and the ends of its corners
 use mathlib.Core.Path.{_≡_}
 use mathlib.Core.List.{List}
-use Prim.Native.Nat.{ℕ, _*_, _≤_}
+use Prim.Native.Nat.{ℕ, _*_, _≤_, _<_}
 use lib.Dec.{T}
 use lib.ListN.{length, take}
 use Rattle.base.specs.Fours.{fours}
 use Rattle.mesh.specs.Table.{soundb}
 use Rattle.mesh.specs.Layout.{cellTable}
 use Rattle.tables.specs.Sound.{Mesh, LaidSound, tableCells, examinedCorners}
+use Rattle.renew.specs.RenewRoom.{RenewRoom}
 use Rattle.base.specs.Refuse.{answerOf}
 use Rattle.mesh.specs.Answers.{newTable, limitsAnswer}
 
@@ -20,9 +22,18 @@ pub record Held (n : ℕ) (mesh rows ss : List ℕ) : Type 0 where
   pub table : take (8 * length (tableCells n (fours mesh) ss)) rows ≡ cellTable (examinedCorners n (fours mesh) ss)
       (tableCells n (fours mesh) ss)
 
--- Rules 7.7, 7.8: the answer, and the new table with its rows and ends.
-pub record Advanced (n : ℕ) (mesh ss ms rows ps qs table : List ℕ) (refusal cells levels mids : ℕ) : Type 0 where
-  pub answer : limitsAnswer n (fours mesh) ss ms ≡ answerOf refusal
+-- Rules 1.1, 9.2, 9.3: room for the old table and for `most` new cells.
+pub record AdvanceRoom (most : ℕ) (ss rows ps qs table xs ys links links′ old kids red : List ℕ) : Type 0 where
+  pub renewing : RenewRoom most rows ps qs table xs ys links links′ old
+  pub old-few : length ss ≤ most
+  pub in-ys : length xs ≤ length ys
+  pub in-links : length xs ≤ length links
+  pub in-kids : length ss < length kids
+  pub in-red : length ss ≤ length red
+
+-- Rules 7.7, 7.8, with room for `most` new cells: the answer, and the new table with its rows and ends.
+pub record Advanced (most n : ℕ) (mesh ss ms rows ps qs table : List ℕ) (refusal cells levels mids : ℕ) : Type 0 where
+  pub answer : (refusal ≡ 9 → most ≡ 4096) → limitsAnswer n (fours mesh) ss ms ≡ answerOf refusal
   pub counted : refusal ≡ 0 → length (newTable n (fours mesh) ss ms) ≡ cells
   pub few : refusal ≡ 0 → cells ≤ 4096
   pub table-is : refusal ≡ 0 → take cells table ≡ newTable n (fours mesh) ss ms

@@ -2,3 +2,4 @@ pub mod Calls
 pub mod Deep
 pub mod Advanced
 pub mod Answers
+pub mod Within

@@ -2,17 +2,18 @@
 use tables::Outcome;
 ghost use mathlib.Core.Path.{_≡_};
 ghost use Prim.Native.Nat.{_+_, _*_, _≤_, _<_};
-ghost use lib.ListN.{length, take, drop};
+ghost use lib.ListN.{length};
 ghost use Rattle.base.specs.Fours.{fours};
 ghost use Rattle.cutting.specs.Answer.{digitTable};
 ghost use Rattle.mesh.specs.Coarse.{cornerCount};
-ghost use Rattle.base.specs.Refuse.{heldAfter};
+ghost use Rattle.base.specs.Refuse.{heldAfter, answerOf};
+ghost use Rattle.tables.specs.Room.{TableRoom};
 ghost use Rattle.base.specs.Lent.{was, is};
 ghost use Rattle.mesh.specs.Answers.{markb, marksb, newTable};
 ghost use Rattle.step.specs.Calls.{stepAnswer, steppedOf};
 ghost use Rattle.step.specs.Deep.{deepAt, deepFrom, Decided};
-ghost use Rattle.step.specs.Advanced.{Held, Advanced};
-ghost use mathlib.Core.List.{_++_};
+ghost use Rattle.step.specs.Advanced.{Held, AdvanceRoom, Advanced};
+ghost use Rattle.step.specs.Within.{Begun, StepsIn};
 
 pub enum Stepped {
     Cells(usize),
@@ -94,38 +95,40 @@ fn decided(refusal: u8, deep: bool) -> u8
 pub fn advance(
     mesh: &[u16],
     n: usize,
-    rows: &mut [u16; 32768],
+    rows: &mut [u16],
     status: &[u8],
     marks: &[u8],
-    ps: &mut [u32; 4096],
-    qs: &mut [u32; 4096],
-    table: &mut [u8; 4096],
-    xs: &mut [u32; 3072],
-    ys: &mut [u32; 3072],
-    links: &mut [u16; 3072],
-    mid_links: &mut [u16; 4096],
-    old: &mut [u16; 4096],
-    kids: &mut [u16; 4097],
-    red: &mut [u8; 4096],
+    ps: &mut [u32],
+    qs: &mut [u32],
+    table: &mut [u8],
+    xs: &mut [u32],
+    ys: &mut [u32],
+    links: &mut [u16],
+    mid_links: &mut [u16],
+    old: &mut [u16],
+    kids: &mut [u16],
+    red: &mut [u8],
     digits: &[u8],
+    most: usize,
 ) -> Outcome
     requires { ⌜ Held n (now mesh) (now rows) (now status) ⌝ }
     requires { ⌜ length (now marks) ≡ length (now status) ⌝ }
     requires { ⌜ now digits ≡ digitTable ⌝ }
-    ensures { λ r. ⌜ Advanced n (was mesh) (was status) (was marks) (is rows) (is ps) (is qs) (is table) (r .refusal) (r .cells)
+    requires { ⌜ AdvanceRoom most (now status) (now rows) (now ps) (now qs) (now table) (now xs) (now ys) (now links) (now «mid_links»)
+        (now old) (now kids) (now red) ⌝ }
+    ensures { λ r. ⌜ Advanced most n (was mesh) (was status) (was marks) (is rows) (is ps) (is qs) (is table) (r .refusal) (r .cells)
         (r .levels) (r .mids) ⌝ }
 {
     let k = status.len();
     reds::first_children(status, mesh.len() / 4, kids);
     reds::new_reds(mesh, n, rows, status, marks, kids, red, xs, ys, links);
-    let flags = &red[..];
-    let deep = too_deep(rows, flags, k);
+    let deep = too_deep(rows, red, k);
     let r = renew::renew(
         mesh,
         n,
         status,
         kids,
-        &flags[..k],
+        &red[..k],
         rows,
         ps,
         qs,
@@ -136,6 +139,7 @@ pub fn advance(
         mid_links,
         old,
         digits,
+        most,
     );
     let refusal = decided(r.refusal, deep);
     Outcome {
@@ -147,42 +151,103 @@ pub fn advance(
     }
 }
 
-// Copies the first n statuses of a new table.
-fn hand_out(new: &[u8; 4096], n: usize, table: &mut [u8])
-    requires { ⌜ (n ≤ 4096) × (n ≤ length (now table)) ⌝ }
-    ensures { λ r. ⌜ is table ≡ take n (was new) ++ drop n (was table) ⌝ }
+// Opens the table and looks at the marks: refusals 1 to 7, else 0.
+fn begin(
+    positions: &[i32],
+    cells: &[u16],
+    status: &[u8],
+    marks: &[u8],
+    rows: &mut [u16],
+    ps: &mut [u32],
+    qs: &mut [u32],
+) -> u8
+    requires { ⌜ (length (now status) ≤ 4096 → TableRoom (now status) (now rows) (now ps) (now qs)) ⌝ }
+    ensures { λ r. ⌜ Begun (was positions) (was cells) (was status) (was marks) (is rows) r ⌝ }
 {
-    base::copy_bytes(new, n, table);
+    let f = layout::open(positions, cells, status, rows, ps, qs);
+    if f.refusal != 0 {
+        return f.refusal;
+    }
+    if !marks_fit(status, marks) {
+        return 7;
+    }
+    0
 }
 
-// One step: the new status table in the lent one, and how many cells it has. Refusals 15 and 1 to 9.
-pub fn step(
+// The step of at most 512 statuses, in tables with room for 1,024 new cells: where there are more, 9.
+fn step_few(
     positions: &[i32],
     cells: &[u16],
     status: &[u8],
     marks: &[u8],
     table: &mut [u8],
-) -> Stepped
-    ensures { λ r. ⌜ r
-        ≡ steppedOf (stepAnswer (was positions) (was cells) (was status) (was marks) (was table))
-        (length (newTable (cornerCount (was positions)) (fours (was cells)) (was status) (was marks))) ⌝ }
-    ensures { λ r. ⌜ is table
-        ≡ heldAfter (stepAnswer (was positions) (was cells) (was status) (was marks) (was table))
-        (newTable (cornerCount (was positions)) (fours (was cells)) (was status) (was marks))
-        (was table) ⌝ }
+) -> Outcome
+    requires { ⌜ (length (now status) ≤ 512) × (4096 ≤ length (now table)) ⌝ }
+    ensures { λ r. ⌜ StepsIn 1024 (was positions) (was cells) (was status) (was marks) (was table) (is table) (r .refusal) (r .cells) ⌝ }
 {
-    if table.len() < 4096 {
-        return Stepped::Refused(15);
+    let mut rows = [0u16; 8192];
+    let mut ps = [0u32; 1024];
+    let mut qs = [0u32; 1024];
+    let refusal = begin(
+        positions, cells, status, marks, &mut rows, &mut ps, &mut qs,
+    );
+    if refusal != 0 {
+        return tables::refused(refusal);
     }
+    let mut new = [0u8; 1024];
+    let mut xs = [0u32; 1536];
+    let mut ys = [0u32; 1536];
+    let mut links = [0u16; 1536];
+    let mut mid_links = [0u16; 1024];
+    let mut old = [0u16; 1024];
+    let mut kids = [0u16; 513];
+    let mut red = [0u8; 512];
+    let digits = cutting::digit_table();
+    let r = advance(
+        cells,
+        positions.len() / 3,
+        &mut rows,
+        status,
+        marks,
+        &mut ps,
+        &mut qs,
+        &mut new,
+        &mut xs,
+        &mut ys,
+        &mut links,
+        &mut mid_links,
+        &mut old,
+        &mut kids,
+        &mut red,
+        &digits,
+        1024,
+    );
+    if r.refusal != 0 {
+        return r;
+    }
+    base::copy_bytes(&new, r.cells, table);
+    r
+}
+
+// The step of any table.
+fn step_many(
+    positions: &[i32],
+    cells: &[u16],
+    status: &[u8],
+    marks: &[u8],
+    table: &mut [u8],
+) -> Outcome
+    requires { ⌜ 4096 ≤ length (now table) ⌝ }
+    ensures { λ r. ⌜ StepsIn 4096 (was positions) (was cells) (was status) (was marks) (was table) (is table) (r .refusal) (r .cells) ⌝ }
+{
     let mut rows = [0u16; 32768];
     let mut ps = [0u32; 4096];
     let mut qs = [0u32; 4096];
-    let f = layout::open(positions, cells, status, &mut rows, &mut ps, &mut qs);
-    if f.refusal != 0 {
-        return Stepped::Refused(f.refusal);
-    }
-    if !marks_fit(status, marks) {
-        return Stepped::Refused(7);
+    let refusal = begin(
+        positions, cells, status, marks, &mut rows, &mut ps, &mut qs,
+    );
+    if refusal != 0 {
+        return tables::refused(refusal);
     }
     let mut new = [0u8; 4096];
     let mut xs = [0u32; 3072];
@@ -210,10 +275,53 @@ pub fn step(
         &mut kids,
         &mut red,
         &digits,
+        4096,
     );
     if r.refusal != 0 {
-        return Stepped::Refused(r.refusal);
+        return r;
     }
-    hand_out(&new, r.cells, table);
-    Stepped::Cells(r.cells)
+    base::copy_bytes(&new, r.cells, table);
+    r
+}
+
+// The call's answer.
+fn answer(refusal: u8, cells: usize) -> Stepped
+    ensures { λ r. ⌜ r ≡ steppedOf (answerOf refusal) cells ⌝ }
+{
+    if refusal != 0 {
+        return Stepped::Refused(refusal);
+    }
+    Stepped::Cells(cells)
+}
+
+// One step: the new status table in the lent one, and how many cells it has. Refusals 15 and 1 to 9. A
+// small table is refined in small tables, as these are set to zero first; where these have no room, it is done again in large ones.
+pub fn step(
+    positions: &[i32],
+    cells: &[u16],
+    status: &[u8],
+    marks: &[u8],
+    table: &mut [u8],
+) -> Stepped
+    ensures { λ r. ⌜ r
+        ≡ steppedOf (stepAnswer (was positions) (was cells) (was status) (was marks) (was table))
+        (length (newTable (cornerCount (was positions)) (fours (was cells)) (was status) (was marks))) ⌝ }
+    ensures { λ r. ⌜ is table
+        ≡ heldAfter (stepAnswer (was positions) (was cells) (was status) (was marks) (was table))
+        (newTable (cornerCount (was positions)) (fours (was cells)) (was status) (was marks))
+        (was table) ⌝ }
+{
+    if table.len() < 4096 {
+        return Stepped::Refused(15);
+    }
+    if status.len() > 512 {
+        let r = step_many(positions, cells, status, marks, table);
+        return answer(r.refusal, r.cells);
+    }
+    let r = step_few(positions, cells, status, marks, table);
+    if r.refusal == 9 {
+        let r = step_many(positions, cells, status, marks, table);
+        return answer(r.refusal, r.cells);
+    }
+    answer(r.refusal, r.cells)
 }

@@ -1,203 +1,83 @@
--- `step::step` meets its contract: it answers as the definition does at each return, and fills the table at the last one.
+-- `step::step` meets its contract.
 -- Assumes nothing.
-use mathlib.Core.Path.{_≡_, sym, _∙_}
-use Prim.Native.Nat.{_≤_}
+use mathlib.Core.Path.{refl, _∙_}
 use native.Mathlib.Omega.{arith}
-use borrow.Author.Tests.{not-true, not-false}
 use Rattle.base.specs.Fours.{fours}
 use Rattle.mesh.specs.Coarse.{cornerCount}
-use Rattle.base.specs.Refuse.{answer-refused, answer-none}
 use Rattle.mesh.specs.Answers.{newTable}
 use Rattle.step.specs.Calls.{stepAnswer}
-use Rattle.step.specs.Answers.{step-short, step-table, step-marks, step-limits, refused-so, accepted-so, marks-many, opened-held}
+use Rattle.step.specs.Answers.{step-short, refused-so}
+use Rattle.step.specs.Within.{steps-again, steps-so}
 use borrow.Author.Needs.{needs}
 use Rattle.step.proofs.step.Statement.{statement}
 use Rattle.step.proofs.step.Tie as tie
+use Rattle.step.proofs.step.Reads as reads
+use Rattle.step.proofs.step.Lts as lts
+use Rattle.step.proofs.answer.Reads as answer-reads
+use Rattle.step.proofs.step_few.Reads as step-few-reads
+use Rattle.step.proofs.step_many.Reads as step-many-reads
 
 returns : tie.Need-returns
-returns c =
-    let a = c .before .before .before .before .before .args in
+returns c = let a = c .before .before .before .before .before .args in
     let ans = stepAnswer (a .positions .now) (a .cells .now) (a .status .now) (a .marks .now) (a .table .now) in
     let new = newTable (cornerCount (a .positions .now)) (fours (a .cells .now)) (a .status .now) (a .marks .now) in
     refused-so ans new (a .table .now) 15 (step-short (a .positions .now) (a .cells .now) (a .status .now) (a .marks .now) (a .table .now)
     (c .if1 .taken))
 
-slice-aggregate-open : tie.Need-slice-aggregate-open
-slice-aggregate-open c = search needs
+step-many-requires : tie.Need-step-many-requires
+step-many-requires c κs = search needs
 
-slice-aggregate-open-2 : tie.Need-slice-aggregate-open-2
-slice-aggregate-open-2 c = search needs
-
-slice-aggregate-open-3 : tie.Need-slice-aggregate-open-3
-slice-aggregate-open-3 c = search needs
-
-open-requires : tie.Need-open-requires
-open-requires c κs = λ h. record { in-coarse = omega arith; in-rows = omega (arith, h); in-ps = omega (arith, h); in-qs = omega (arith, h) }
-
-returns-2 : tie.Need-returns-2
-returns-2 c =
-    let a = c .before .before .before .before .before .before .before .before .before .before .before .before .before .before .args in
-    let ans = stepAnswer (a .positions .now) (a .cells .now) (a .status .now) (a .marks .now) (a .table .now) in
-    let new = newTable (cornerCount (a .positions .now)) (fours (a .cells .now)) (a .status .now) (a .marks .now) in
-    let o = c .before .before .before .before .before .«open» in
-    refused-so ans new (a .table .now) (o .result .refusal) (step-table (a .positions .now) (a .cells .now) (a .status .now) (a .marks .now)
-    (a .table .now) (omega (arith, c .before .before .before .before .before .before .before .before .before .if1 .left)) (o .result
-    .refusal)
-    (o .ensures .answer) (c .if2 .taken))
-
-marks-fit-requires : tie.Need-marks-fit-requires
-marks-fit-requires c κs = search needs
-
-returns-3 : tie.Need-returns-3
-returns-3 c =
-    let a = c .before .before .before .before .before .before .before .before .before .before .before .before .before .before .before
-    .before .args in
-    let ans = stepAnswer (a .positions .now) (a .cells .now) (a .status .now) (a .marks .now) (a .table .now) in
-    let new = newTable (cornerCount (a .positions .now)) (fours (a .cells .now)) (a .status .now) (a .marks .now) in
-    let o = c .before .before .before .before .before .before .before .«open» in
-    refused-so ans new (a .table .now) 7 (step-marks (a .positions .now) (a .cells .now) (a .status .now) (a .marks .now) (a .table .now)
-    (omega (arith, c .before .before .before .before .before .before .before .before .before .before .before .if1 .left)) (o .result
-    .refusal)
-    (o .ensures .answer) (omega (arith, c .before .before .if2 .left)) (sym (c .before .marks-fit .ensures)
-    ∙ not-true _ (c .if3 .taken)))
-
-digit-table-requires : tie.Need-digit-table-requires
-digit-table-requires c κs = search needs
-
-slice-aggregate-advance : tie.Need-slice-aggregate-advance
-slice-aggregate-advance c = search needs
-
-advance-requires : tie.Need-advance-requires
-advance-requires c κs =
-    let
-    a =
-    c .before .before .before .before .before .before .before .before .before .before .before .before .before .before .before .before
-    .before .before .before .before .before .before .before .before .before .before .before .before .before .args in
-    let
-    o =
-    c .before .before .before .before .before .before .before .before .before .before .before .before .before .before .before .before
-    .before .before .before .before .«open» in
-    let z : o .result .refusal ≡ 0 = omega (
-      arith,
-      c .before .before .before .before .before .before .before .before .before .before .before .before .before .before .before .if2 .left,
-    ) in (
-      opened-held _ _ _ _ _ _ _ _ _ (o .ensures .fits z),
-      (
-        marks-many (a .status .now) (a .marks .now)
-            (sym
-            (c .before .before .before .before .before .before .before .before .before .before .before .before .before .before .marks-fit
-            .ensures)
-            ∙ not-false _
-            (c .before .before .before .before .before .before .before .before .before .before .before .before .before .if3
-            .left)),
-        c .before .before .before .before .before .before .before .before .before .before .before .before .digit-table
-            .ensures,
-      ),
-    )
-
-returns-4 : tie.Need-returns-4
-returns-4 c =
-    let
-    a =
-    c .before .before .before .before .before .before .before .before .before .before .before .before .before .before .before .before
-    .before .before .before .before .before .before .before .before .before .before .before .before .before .before .before .before
-    .args in
-    let ans = stepAnswer (a .positions .now) (a .cells .now) (a .status .now) (a .marks .now) (a .table .now) in
-    let new = newTable (cornerCount (a .positions .now)) (fours (a .cells .now)) (a .status .now) (a .marks .now) in
-    let
-    o =
-    c .before .before .before .before .before .before .before .before .before .before .before .before .before .before .before .before
-    .before .before .before .before .before .before .before .«open» in
-    let r = c .before .before .advance in
-    let m = step-limits (a .positions .now) (a .cells .now) (a .status .now) (a .marks .now) (a .table .now)
-    (omega (
-      arith,
-      c .before .before .before .before .before .before .before .before .before .before .before .before .before .before .before .before
-          .before .before .before .before .before .before .before .before .before .before .before .if1 .left,
-    )) (o .result .refusal) (o .ensures .answer)
-    (omega (
-      arith,
-      c .before .before .before .before .before .before .before .before .before .before .before .before .before .before .before .before
-          .before .before .if2 .left,
-    ))
-    (sym
-    (c .before .before .before .before .before .before .before .before .before .before .before .before .before .before .before .before
-    .before .marks-fit .ensures)
-    ∙ not-false _
-    (c .before .before .before .before .before .before .before .before .before .before .before .before .before .before .before .before .if3
-    .left)) in
-    refused-so ans new (a .table .now) (r .result .refusal) (m ∙ r .ensures .answer ∙ answer-refused (r .result .refusal) (c .if4 .taken))
-
-hand-out-requires : tie.Need-hand-out-requires
-hand-out-requires c κs =
-    let r = c .before .before .before .before .advance in
-    let z : r .result .refusal ≡ 0 = omega (arith, c .before .before .if4 .left) in
-    let few : r .result .cells ≤ 4096 = r .ensures .few z in (
-      few,
-      omega (
-        arith,
-        few,
-        c .before .before .before .before .before .before .before .before .before .before .before .before .before .before .before .before
-            .before .before .before .before .before .before .before .before .before .before .before .before .before .if1 .left,
-      ),
-    )
+answer-requires : tie.Need-answer-requires
+answer-requires c κs = search needs
 
 same-length : tie.Need-same-length
 same-length c = search needs
 
-returns-5 : tie.Need-returns-5
-returns-5 c =
-    let
-    a =
-    c .before .before .before .before .before .before .before .before .before .before .before .before .before .before .before .before
-    .before .before .before .before .before .before .before .before .before .before .before .before .before .before .before .before
-    .before .before .before .before .before .args in
-    let ans = stepAnswer (a .positions .now) (a .cells .now) (a .status .now) (a .marks .now) (a .table .now) in
-    let new = newTable (cornerCount (a .positions .now)) (fours (a .cells .now)) (a .status .now) (a .marks .now) in
-    let
-    o =
-    c .before .before .before .before .before .before .before .before .before .before .before .before .before .before .before .before
-    .before .before .before .before .before .before .before .before .before .before .before .before .«open» in
-    let r = c .before .before .before .before .before .before .before .advance in
-    let z : r .result .refusal ≡ 0 = omega (arith, c .before .before .before .before .before .if4 .left) in
-    let m = step-limits (a .positions .now) (a .cells .now) (a .status .now) (a .marks .now) (a .table .now)
-    (omega (
-      arith,
-      c .before .before .before .before .before .before .before .before .before .before .before .before .before .before .before .before
-          .before .before .before .before .before .before .before .before .before .before .before .before .before .before .before .before
-          .if1
-          .left,
-    )) (o .result .refusal) (o .ensures .answer)
-    (omega (
-      arith,
-      c .before .before .before .before .before .before .before .before .before .before .before .before .before .before .before .before
-          .before .before .before .before .before .before .before .if2 .left,
-    ))
-    (sym
-    (c .before .before .before .before .before .before .before .before .before .before .before .before .before .before .before .before
-    .before .before .before .before .before .before .marks-fit .ensures)
-    ∙ not-false _
-    (c .before .before .before .before .before .before .before .before .before .before .before .before .before .before .before .before
-    .before .before .before .before .before .if3 .left)) in
-    accepted-so ans new (a .table .now) (r .result .cells) _ _ (m ∙ r .ensures .answer ∙ answer-none (r .result .refusal) z)
-    (r .ensures .counted z) (r .ensures .table-is z) (c .before .before .hand-out .ensures)
+returns-2 : tie.Need-returns-2
+returns-2 c = let s = steps-so 4096 _ _ _ _ _ _ _ _ (c .before .before .before .step-many .ensures) (λ z. refl) in
+    (c .answer .ensures ∙ s .0, s .1)
+
+step-few-requires : tie.Need-step-few-requires
+step-few-requires c κs = search needs
+
+step-many-requires-2 : tie.Need-step-many-requires-2
+step-many-requires-2 c κs = search needs
+
+answer-requires-2 : tie.Need-answer-requires-2
+answer-requires-2 c κs = search needs
+
+same-length-2 : tie.Need-same-length-2
+same-length-2 c = search needs
+
+returns-3 : tie.Need-returns-3
+returns-3 c = let s = steps-so 4096 _ _ _ _ _ _ _ _ (steps-again _ _ _ _ _ _ _ _ _ _ _ _ _ (c .before .before .before .before .before .before .before .before .before .step-few .ensures)
+    (λ z. absurd (omega (arith, z, c .before .before .before .before .before .if3 .taken))) (c .before .before .before .step-many2 .ensures)) (λ z. refl) in
+    (c .answer2 .ensures ∙ s .0, s .1)
+
+answer-requires-3 : tie.Need-answer-requires-3
+answer-requires-3 c κs = search needs
+
+same-length-3 : tie.Need-same-length-3
+same-length-3 c = search needs
+
+returns-4 : tie.Need-returns-4
+returns-4 c = let s = steps-so 1024 _ _ _ _ _ _ _ _ (c .before .before .before .before .before .step-few .ensures) (λ z. absurd (c .before .if3 .left z)) in
+    (c .answer3 .ensures ∙ s .0, s .1)
 
 pub step-spec : {M : Type 1} → statement M
 step-spec =
     tie.close
     (tie.spec
     returns
-    slice-aggregate-open
-    slice-aggregate-open-2
-    slice-aggregate-open-3
-    open-requires
-    returns-2
-    marks-fit-requires
-    returns-3
-    digit-table-requires
-    slice-aggregate-advance
-    advance-requires
-    returns-4
-    hand-out-requires
+    step-many-requires
+    answer-requires
     same-length
-    returns-5)
+    returns-2
+    step-few-requires
+    step-many-requires-2
+    answer-requires-2
+    same-length-2
+    returns-3
+    answer-requires-3
+    same-length-3
+    returns-4)
