@@ -22,7 +22,8 @@ use Rattle.renew.proofs.Writing.{part-written, written-over}
 use Rattle.renew.proofs.Closing.{length-listed}
 
 module _ (fs old rows : List ℕ) (first last : ℕ) (table xs ys heads links : List ℕ) (n : ℕ) (r : Reds xs ys heads links n last)
-    (most : ℕ) (up : first ≤ last) (few : last ≤ most) (cap : most ≤ 4096) (in-old : last ≤ length old) (in-table : last ≤ length table) (in-rows : 8 * last ≤ length rows)
+    (most : ℕ) (up : first ≤ last) (few : last ≤ most) (cap : most ≤ 4096) (in-old : last ≤ length old) (in-table : last ≤ length table)
+    (in-rows : 8 * last ≤ length rows)
     (in-xs : 3 * most ≤ 4 * length xs) (in-ys : 3 * most ≤ 4 * length ys) (in-links : 3 * most ≤ 4 * length links)
     (table₁ : List ℕ) (reds : ℕ) (f : Flagged fs old first last table table₁ reds) where
   abbrev rs : List ℕ

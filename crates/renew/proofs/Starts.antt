@@ -23,7 +23,8 @@ use Rattle.renew.specs.Going.{roomy, RenewGoing}
 use Rattle.renew.proofs.Writing.{part-written}
 
 -- tables that are as long as they were have room
-pub room-later : {most : ℕ} {rows₀ old₀ rows ps qs table xs ys links links′ old rows₁ ps₁ qs₁ table₁ xs₁ ys₁ links₁ links′₁ old₁ : List ℕ} → RenewRoom most rows₀ ps qs table xs ys links links′ old₀
+pub room-later : {most : ℕ} {rows₀ old₀ rows ps qs table xs ys links links′ old rows₁ ps₁ qs₁ table₁ xs₁ ys₁ links₁ links′₁ old₁ : List ℕ} →
+    RenewRoom most rows₀ ps qs table xs ys links links′ old₀
     → RenewKept rows ps qs table xs ys links links′ old rows₁ ps₁ qs₁ table₁ xs₁ ys₁ links₁ links′₁ old₁
     → length rows ≡ length rows₀ → length old ≡ length old₀ → RenewRoom most rows₁ ps₁ qs₁ table₁ xs₁ ys₁ links₁ links′₁ old₁
 room-later r k e f =
@@ -47,29 +48,31 @@ module _ (n : ℕ) (mesh : List ℕ) (s : Mesh n mesh) (count : ℕ) (c : count 
 
   module _ (xs ys heads links ps qs heads′ links′ : List ℕ) (red : Clear heads) (mid : Clear heads′)
       (rows : List ℕ) (t : take (8 * count) rows ≡ flatMap coarseRow (fours mesh))
-      (ss fs old old₁ table : List ℕ) (o : old₁ ≡ written old 0 (upTo count)) (most : ℕ) (least : 256 ≤ most) (in-old : most ≤ length old) where
-    abbrev room : List ℕ
-    room = roomy most (flatten (renewed n (fours mesh) ss fs))
+      (ss fs old old₁ table : List ℕ) (o : old₁ ≡ written old 0 (upTo count)) (most : ℕ) (least : 256 ≤ most) (in-old : most ≤ length old)
+    where
+      abbrev room : List ℕ
+      room = roomy most (flatten (renewed n (fours mesh) ss fs))
 
-    here : Here n (fours mesh) room 0 0 count rows xs ys heads links 0 ps qs heads′ links′ 0
-    here = here-start n mesh room s xs ys heads links ps qs heads′ links′ red mid rows count c t
+      here : Here n (fours mesh) room 0 0 count rows xs ys heads links 0 ps qs heads′ links′ 0
+      here = here-start n mesh room s xs ys heads links ps qs heads′ links′ red mid rows count c t
 
-    cells-are : here .cells ≡ coarseCells n (fours mesh)
-    unfolding here
-    cells-are = cells-start n mesh room s xs ys heads links ps qs heads′ links′ red mid rows count c t
+      cells-are : here .cells ≡ coarseCells n (fours mesh)
+      unfolding here
+      cells-are = cells-start n mesh room s xs ys heads links ps qs heads′ links′ red mid rows count c t
 
-    olds-are : part old₁ 0 (count - 0) ≡ upTo (length (fours mesh))
-    olds-are =
-        let e : length (upTo count) ≡ count - 0 = length-upto count ∙ omega arith in
-        ap (λ (x : List ℕ). part x 0 (count - 0)) o ∙ part-written old 0 (upTo count) (count - 0) e (omega (arith, few-coarse)) ∙ ap upTo c
+      olds-are : part old₁ 0 (count - 0) ≡ upTo (length (fours mesh))
+      olds-are =
+          let e : length (upTo count) ≡ count - 0 = length-upto count ∙ omega arith in
+          ap (λ (x : List ℕ). part x 0 (count - 0)) o ∙ part-written old 0 (upTo count) (count - 0) e (omega (arith, few-coarse)) ∙ ap upTo
+          c
 
-    pub going-start : RenewGoing most n (fours mesh) ss fs 0 0 count rows xs ys heads links 0 ps qs heads′ links′ 0 old₁ table
-    going-start =
-        record {
-          here = here;
-          owned = rw (cells-are, olds-are) (owned-start n (fours mesh));
-          height = rw (cells-are, olds-are) (omega arith);
-          rest = rw (cells-are, olds-are);
-          within = omega (arith, few-coarse);
-          front = refl;
-        }
+      pub going-start : RenewGoing most n (fours mesh) ss fs 0 0 count rows xs ys heads links 0 ps qs heads′ links′ 0 old₁ table
+      going-start =
+          record {
+            here = here;
+            owned = rw (cells-are, olds-are) (owned-start n (fours mesh));
+            height = rw (cells-are, olds-are) (omega arith);
+            rest = rw (cells-are, olds-are);
+            within = omega (arith, few-coarse);
+            front = refl;
+          }

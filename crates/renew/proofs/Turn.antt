@@ -105,9 +105,11 @@ module _ (most n : ℕ) (qs : List (List ℕ)) (ss fs : List ℕ) (j first last 
       (omega (arith, end-own, g .within))
 
   pub room-cells : part (roomy most all) first (length cells) ≡ own
-  room-cells = let e : length cells ≡ last - first = omega (arith, g .here .end) in ap (λ (x : ℕ). part (roomy most all) first x) e ∙ room-own
+  room-cells = let e : length cells ≡ last - first = omega (arith, g .here .end) in ap (λ (x : ℕ). part (roomy most all) first x) e ∙
+      room-own
 
-  pub closed : closedFrom [] sameb (redEdges [] cells (part (roomy most all) first (length cells))) cells (part (roomy most all) first (length cells))
+  pub closed : closedFrom [] sameb (redEdges [] cells (part (roomy most all) first (length cells))) cells (part (roomy most all) first
+      (length cells))
       ≡ true
   closed = rw room-cells (closed-by fs tiny cells olds (g .owned))
 

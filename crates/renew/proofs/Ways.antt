@@ -47,7 +47,8 @@ module _ (most n : ℕ) (qs : List (List ℕ)) (ss fs rows ps ps′ table : List
         sound = λ z. absurd (omega arith);
       }
 
-  pub result-many : refusal ≡ 9 → most < length (flatten (renewed n qs ss fs)) → Result most n qs ss fs rows ps ps′ table refusal cells levels
+  pub result-many : refusal ≡ 9 → most < length (flatten (renewed n qs ss fs)) → Result most n qs ss fs rows ps ps′ table refusal cells
+      levels
       mids
   result-many e h =
       record {
@@ -124,7 +125,8 @@ module _ (most n : ℕ) (qs : List (List ℕ)) (ss fs : List ℕ) (j first last 
       ∙ sym (turn.front-own most n qs ss fs j first last rows xs ys heads links k ps ps′ heads′ links′ m old table g small)
 
   grown : Grown xs ys k k (checked.ownReds rows (roomy most all) first last) xs₁ ys₁ heads₁ links₁ k₁
-  grown = rw (turn.made-reds most n qs ss fs j first last rows xs ys heads links k ps ps′ heads′ links′ m old table g small) at (whole .grown)
+  grown = rw (turn.made-reds most n qs ss fs j first last rows xs ys heads links k ps ps′ heads′ links′ m old table g small) at (whole
+      .grown)
 
   reds : Reds xs₁ ys₁ heads₁ links₁ k₁ (last + size)
   reds =
@@ -239,7 +241,8 @@ module _ (most n : ℕ) (qs : List (List ℕ)) (ss fs : List ℕ) (j first last 
         here-next n qs (roomy most all) j first last rows xs ys heads links k ps ps′ heads′ links′ m (g .here)
         (turn.closed most n qs ss fs j first last rows xs ys heads links k ps ps′ heads′ links′ m old table g small)
         (turn.inside most n qs ss fs j first last rows xs ys heads links k ps ps′ heads′ links′ m old table g small)
-        (omega (arith, low, g .here .low)) (turn.room-fits most n qs ss fs cap) in-room (omega (arith, ap sizes room-own, size-is, more)) long-room
+        (omega (arith, low, g .here .low)) (turn.room-fits most n qs ss fs cap) in-room (omega (arith, ap sizes room-own, size-is, more))
+        long-room
         rows₂ ps₂ ps₂′ heads₂ links₂ last₂ m₂ grows xs₁ ys₁ heads₁ links₁ k₁ grown reds-next
 
     cells-up : here-up .cells ≡ next first (g .here .cells) own
@@ -248,7 +251,8 @@ module _ (most n : ℕ) (qs : List (List ℕ)) (ss fs : List ℕ) (j first last 
         cells-onward n qs (roomy most all) j first last rows xs ys heads links k ps ps′ heads′ links′ m (g .here)
         (turn.closed most n qs ss fs j first last rows xs ys heads links k ps ps′ heads′ links′ m old table g small)
         (turn.inside most n qs ss fs j first last rows xs ys heads links k ps ps′ heads′ links′ m old table g small)
-        (omega (arith, low, g .here .low)) (turn.room-fits most n qs ss fs cap) in-room (omega (arith, ap sizes room-own, size-is, more)) long-room
+        (omega (arith, low, g .here .low)) (turn.room-fits most n qs ss fs cap) in-room (omega (arith, ap sizes room-own, size-is, more))
+        long-room
         rows₂ ps₂ ps₂′ heads₂ links₂ last₂ m₂ grows xs₁ ys₁ heads₁ links₁ k₁ grown reds-next
         ∙ ap (next first (g .here .cells)) (turn.room-cells most n qs ss fs j first last rows xs ys heads links k ps ps′ heads′ links′ m old
         table g small)
@@ -270,7 +274,8 @@ module _ (most n : ℕ) (qs : List (List ℕ)) (ss fs : List ℕ) (j first last 
         record {
           here = here-up;
           owned = rw (cells-up, olds-up) (owned-next (length qs) ss first (g .here .cells) own olds (g .owned));
-          height = rw (cells-up, olds-up, e) (turn.height-above most n qs ss fs j first last rows xs ys heads links k ps ps′ heads′ links′ m old
+          height = rw (cells-up, olds-up, e) (turn.height-above most n qs ss fs j first last rows xs ys heads links k ps ps′ heads′ links′ m
+              old
               table g small);
           rest = rw (cells-up, olds-up, e) (turn.rest-above most n qs ss fs j first last rows xs ys heads links k ps ps′ heads′ links′ m old
               table g small);

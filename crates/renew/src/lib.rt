@@ -242,7 +242,20 @@ fn build(
     let mut k = 0;
     let mut m = 0;
     loop {
-        let c = make_level(rows, red, old, first, last, table, xs, ys, heads, links, k, most);
+        let c = make_level(
+            rows,
+            red,
+            old,
+            first,
+            last,
+            table,
+            xs,
+            ys,
+            heads,
+            links,
+            k,
+            most,
+        );
         k = c.n;
         if c.size == 0 {
             return Outcome {
@@ -284,9 +297,9 @@ fn build(
 
 // Builds the table in which the cells with a flag in `red` are red and all others are closed, over an accepted mesh of n corners, level
 // by level. Flags go by the numbers of the old table `status`, and `kids` has the number of each old cell's first child. Refusal 8 where
-// a level above 10 would arise, 9 where more than `most` cells would, for which the tables have room; where there is none, the table's first entries are the new statuses,
-// the rows are those of its cells, and ps and qs have the ends of its new corners. The tables from xs to old are for the work, whatever
-// they hold, and `digits` is the cutting table.
+// a level above 10 would arise, 9 where more cells would than the `most` for which there is room; where there is none, the table's first
+// entries are the new statuses, the rows are those of its cells, and ps and qs have the ends of its new corners. The tables from xs to old
+// are for the work, whatever they hold, and `digits` is the cutting table.
 pub fn renew(
     mesh: &[u16],
     n: usize,

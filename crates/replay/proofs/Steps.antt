@@ -40,11 +40,11 @@ module _ (ss : List ℕ) (ms : List (ℕ × ℕ)) (new : List ℕ) where
 
 -- the new table takes the place of the old one
 module _ (n : ℕ) (mesh old ms rows ps qs new : List ℕ) (refusal cells levels mids : ℕ)
-    (a : Advanced n mesh old ms rows ps qs new refusal cells levels mids) where
+    (a : Advanced 4096 n mesh old ms rows ps qs new refusal cells levels mids) where
   pub stepped-refused : (table : List ℕ) (k c l : ℕ) → k ≡ refusal → (refusal ≡ 0 → ⊥) → Stepped n mesh old ms rows table k c l
   stepped-refused table k c l e z =
       record {
-        answer = a .answer ∙ ap answerOf (sym e);
+        answer = a .answer (λ z. refl) ∙ ap answerOf (sym e);
         table-is = λ y. absurd (z (sym e ∙ y));
         going = λ y. absurd (z (sym e ∙ y));
         high = λ y. absurd (z (sym e ∙ y));
@@ -58,7 +58,7 @@ module _ (n : ℕ) (mesh old ms rows ps qs new : List ℕ) (refusal cells levels
       let s = a .laid z in
       let t : take cells table ≡ newTable n (fours mesh) old ms = front cells new table₀ table (omega arith) f ∙ a .table-is z in
       record {
-        answer = a .answer ∙ ap answerOf (z ∙ sym q);
+        answer = a .answer (λ z. refl) ∙ ap answerOf (z ∙ sym q);
         table-is = λ y. t;
         going = λ y. record { held = rw t (a .held z); few = few; room = lent };
         high = λ y. rw t (s .high);

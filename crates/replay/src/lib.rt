@@ -129,6 +129,7 @@ fn next_step(
         kids,
         red,
         digits,
+        4096,
     );
     if r.refusal != 0 {
         return r;

@@ -165,7 +165,8 @@ module _ (n : ℕ) (mesh rows ss : List ℕ) (h : Held n mesh rows ss) where
       high e =
           let t = same-table in
           let l : length (stepTable n qs ss ms) ≡ 12 = rw t at (r .high e) in
-          refused refusal (λ z. omega arith) (λ y. limits-high n qs ss ms (lt-leb (length (stepTable n qs ss ms)) 11 (omega arith)) ∙ rw e) cells
+          refused refusal (λ z. omega arith) (λ y. limits-high n qs ss ms (lt-leb (length (stepTable n qs ss ms)) 11 (omega arith)) ∙ rw e)
+          cells
           levels mids
 
       over : deepFrom rows red 0 (length ss) ≡ true → (k : ℕ) → k ≡ 8 → Advanced most n mesh ss ms rows′ ps qs′ table k cells levels mids

@@ -125,7 +125,8 @@ unfolding steppedOf
 answer-cells k c z = rw (answer-none k z)
 
 -- the new cells are in the table
-pub advanced-inside : (most n : ℕ) (mesh ss ms rows ps qs table : List ℕ) (k c h m : ℕ) → Advanced most n mesh ss ms rows ps qs table k c h m
+pub advanced-inside : (most n : ℕ) (mesh ss ms rows ps qs table : List ℕ) (k c h m : ℕ) → Advanced most n mesh ss ms rows ps qs table k c h
+    m
     → k ≡ 0 → c ≤ length table
 advanced-inside most n mesh ss ms rows ps qs table k c h m a z =
     let e : length (take c table) ≡ c = ap length (a .table-is z) ∙ a .counted z in

@@ -188,9 +188,7 @@ fn step_few(
     let mut rows = [0u16; 8192];
     let mut ps = [0u32; 1024];
     let mut qs = [0u32; 1024];
-    let refusal = begin(
-        positions, cells, status, marks, &mut rows, &mut ps, &mut qs,
-    );
+    let refusal = begin(positions, cells, status, marks, &mut rows, &mut ps, &mut qs);
     if refusal != 0 {
         return tables::refused(refusal);
     }
@@ -243,9 +241,7 @@ fn step_many(
     let mut rows = [0u16; 32768];
     let mut ps = [0u32; 4096];
     let mut qs = [0u32; 4096];
-    let refusal = begin(
-        positions, cells, status, marks, &mut rows, &mut ps, &mut qs,
-    );
+    let refusal = begin(positions, cells, status, marks, &mut rows, &mut ps, &mut qs);
     if refusal != 0 {
         return tables::refused(refusal);
     }

@@ -20,7 +20,8 @@ mul-if1 c =
       arith,
       c .crowd .ensures,
       crowd-most (a .status .now) (a .marks .now) 0 (length (a .status .now)),
-      marked-old (a .n) (a .mesh .now) (a .rows .now) (a .status .now) (a .marks .now) (a .kids .now) (a .red .now) (c .before .before .before .before .before .before .before .before .before .before .pre .0) .few,
+      marked-old (a .n) (a .mesh .now) (a .rows .now) (a .status .now) (a .marks .now) (a .kids .now) (a .red .now) (c .before .before
+          .before .before .before .before .before .before .before .before .pre .0) .few,
     )
 
 many-reds-requires : tie.Need-many-reds-requires
@@ -39,10 +40,12 @@ same-length c = search needs
 
 returns : tie.Need-returns
 returns c =
-    let a = c .before .before .before .before .before .before .before .before .before .before .before .before .before .before .before .before .args in
+    let a = c .before .before .before .before .before .before .before .before .before .before .before .before .before .before .before
+    .before .args in
     let u = c .before .before .many-reds in
     marked-result (a .n) (a .mesh .now) (a .rows .now) (a .status .now) (a .marks .now) (a .kids .now) (a .red .now)
-    (c .before .before .before .before .before .before .before .before .before .before .before .before .before .before .before .before .pre .0)
+    (c .before .before .before .before .before .before .before .before .before .before .before .before .before .before .before .before .pre
+    .0)
     (u .last .1 .1 .1 .1 .0) (u .ensures)
 
 shared-slice-read-flag-up : tie.Need-shared-slice-read-flag-up
@@ -59,8 +62,10 @@ cast-flag-up c = omega (arith, c .shared-slice-known6 .given 0)
 
 flag-up-requires : tie.Need-flag-up-requires
 flag-up-requires c κs =
-    let a = c .before .before .before .before .before .before .before .before .before .before .before .before .before .before .before .before .before .args in
-    let p = c .before .before .before .before .before .before .before .before .before .before .before .before .before .before .before .before .before .pre .0 in
+    let a = c .before .before .before .before .before .before .before .before .before .before .before .before .before .before .before
+    .before .before .args in
+    let p = c .before .before .before .before .before .before .before .before .before .before .before .before .before .before .before
+    .before .before .pre .0 in
     let k = c .before .before .before .before .before .before .before .crowd .ensures in
     let h = c .before .before .before .before .before .before .if1 .left in (
       marked-old (a .n) (a .mesh .now) (a .rows .now) (a .status .now) (a .marks .now) (a .kids .now) (a .red .now) p,
@@ -72,8 +77,20 @@ flag-up-requires c κs =
         },
         record {
           in-xs = omega (arith, k, h);
-          in-ys = omega (arith, k, h, c .before .before .before .before .before .before .before .before .before .before .before .before .before .before .before .before .before .pre .1 .0);
-          in-links = omega (arith, k, h, c .before .before .before .before .before .before .before .before .before .before .before .before .before .before .before .before .before .pre .1 .1);
+          in-ys = omega (
+            arith,
+            k,
+            h,
+            c .before .before .before .before .before .before .before .before .before .before .before .before
+                .before .before .before .before .before .pre .1 .0,
+          );
+          in-links = omega (
+            arith,
+            k,
+            h,
+            c .before .before .before .before .before .before .before .before .before .before .before .before
+                .before .before .before .before .before .pre .1 .1,
+          );
         },
       ),
     )
@@ -92,10 +109,12 @@ same-length-5 c = c .before .before .before .before .before .before .before .bef
 
 returns-2 : tie.Need-returns-2
 returns-2 c =
-    let a = c .before .before .before .before .before .before .before .before .before .before .before .before .before .before .before .before .before .before .before .before .before .before .before .before .before .before .args in
+    let a = c .before .before .before .before .before .before .before .before .before .before .before .before .before .before .before
+    .before .before .before .before .before .before .before .before .before .before .before .args in
     let u = c .before .before .before .before .before .before .before .before .flag-up in
     marked-result (a .n) (a .mesh .now) (a .rows .now) (a .status .now) (a .marks .now) (a .kids .now) (a .red .now)
-    (c .before .before .before .before .before .before .before .before .before .before .before .before .before .before .before .before .before .before .before .before .before .before .before .before .before .before .pre .0) (u .last .1 .1 .1 .1 .0) (u .ensures .flags)
+    (c .before .before .before .before .before .before .before .before .before .before .before .before .before .before .before .before
+    .before .before .before .before .before .before .before .before .before .before .pre .0) (u .last .1 .1 .1 .1 .0) (u .ensures .flags)
 
 pub new-reds-spec : {M : Type 1} → statement M
 new-reds-spec =

@@ -41,7 +41,8 @@ returns c =
     let p = c .before .before .before .before .before .before .before .before .before .before .before .before .before .pre in
     let f = c .before .before .before .flag-level in
     made-over (a .red .now) (a .old .now) (a .rows .now) (a .first) (a .last) (a .table .now) (a .xs .now) (a .ys .now) (a .heads .now)
-    (a .links .now) (a .n) (p .0) (a .most) (p .1 .1 .0) (p .1 .1 .1) (p .1 .1 .2) (p .1 .1 .3) (p .1 .1 .4) (p .1 .1 .5) (p .1 .0 .0) (p .1 .0 .1)
+    (a .links .now) (a .n) (p .0) (a .most) (p .1 .1 .0) (p .1 .1 .1) (p .1 .1 .2) (p .1 .1 .3) (p .1 .1 .4) (p .1 .1 .5) (p .1 .0 .0) (p .1
+    .0 .1)
     (p .1 .0 .2)
     (f .last .1 .1 .1 .1 .0) (f .result) (f .ensures) (c .if1 .taken)
 
@@ -49,14 +50,17 @@ red-level-requires : tie.Need-red-level-requires
 red-level-requires c κs =
     let
     a =
-    c .before .before .before .before .before .before .before .before .before .before .before .before .before .before .before .before .before .before .args in
+    c .before .before .before .before .before .before .before .before .before .before .before .before .before .before .before .before
+    .before .before .args in
     let
     p =
-    c .before .before .before .before .before .before .before .before .before .before .before .before .before .before .before .before .before .before .pre in
+    c .before .before .before .before .before .before .before .before .before .before .before .before .before .before .before .before
+    .before .before .pre in
     let f = c .before .before .before .before .before .before .before .before .flag-level in (
       record { up = p .1 .1 .0; inside = omega (arith, p .1 .1 .4, f .kept .1 .1 .1 .1 .0) },
       make-ready (a .red .now) (a .old .now) (a .rows .now) (a .first) (a .last) (a .table .now) (a .xs .now) (a .ys .now) (a .heads .now)
-          (a .links .now) (a .n) (p .0) (a .most) (p .1 .1 .0) (p .1 .1 .1) (p .1 .1 .2) (p .1 .1 .3) (p .1 .1 .4) (p .1 .1 .5) (p .1 .0 .0) (p .1 .0 .1)
+          (a .links .now) (a .n) (p .0) (a .most) (p .1 .1 .0) (p .1 .1 .1) (p .1 .1 .2) (p .1 .1 .3) (p .1 .1 .4) (p .1 .1 .5) (p .1 .0 .0)
+          (p .1 .0 .1)
           (p .1 .0 .2)
           (f .last .1 .1 .1 .1 .0) (f .result) (f .ensures) (c .before .before .before .before .before .if1 .left),
     )
@@ -65,68 +69,86 @@ close-level-requires : tie.Need-close-level-requires
 close-level-requires c κs =
     let
     a =
-    c .before .before .before .before .before .before .before .before .before .before .before .before .before .before .before .before .before .before .before .before .before .before .before .before .before .before .before .before .before .before .before .before .args in
+    c .before .before .before .before .before .before .before .before .before .before .before .before .before .before .before .before
+    .before .before .before .before .before .before .before .before .before .before .before .before .before .before .before .before .args in
     let
     p =
-    c .before .before .before .before .before .before .before .before .before .before .before .before .before .before .before .before .before .before .before .before .before .before .before .before .before .before .before .before .before .before .before .before .pre
+    c .before .before .before .before .before .before .before .before .before .before .before .before .before .before .before .before
+    .before .before .before .before .before .before .before .before .before .before .before .before .before .before .before .before .pre
     in
     let
     f =
-    c .before .before .before .before .before .before .before .before .before .before .before .before .before .before .before .before .before .before .before .before .before .before .flag-level in
+    c .before .before .before .before .before .before .before .before .before .before .before .before .before .before .before .before
+    .before .before .before .before .before .before .flag-level in
     let i = c .before .before .before .before .before .before .before .before .before .before .before .before .before .red-level in (
       (p .1 .1 .0, omega (arith, p .1 .1 .1, p .1 .1 .2), omega (arith, p .1 .1 .4, f .kept .1 .1 .1 .1 .0)),
       make-looks (a .red .now) (a .old .now) (a .rows .now) (a .first) (a .last) (a .table .now) (a .xs .now) (a .ys .now) (a .heads .now)
-          (a .links .now) (a .n) (p .0) (a .most) (p .1 .1 .0) (p .1 .1 .1) (p .1 .1 .2) (p .1 .1 .3) (p .1 .1 .4) (p .1 .1 .5) (p .1 .0 .0) (p .1 .0 .1)
+          (a .links .now) (a .n) (p .0) (a .most) (p .1 .1 .0) (p .1 .1 .1) (p .1 .1 .2) (p .1 .1 .3) (p .1 .1 .4) (p .1 .1 .5) (p .1 .0 .0)
+          (p .1 .0 .1)
           (p .1 .0 .2)
           (f .last .1 .1 .1 .1 .0) (f .result) (f .ensures)
-          (c .before .before .before .before .before .before .before .before .before .before .before .before .before .before .before .before .before .before .before .if1 .left) (i .last .1 .1 .1 .1 .0) (i .last .1 .1 .1 .1 .1 .0) (i .last .1 .1 .1 .1 .1 .1 .0)
+          (c .before .before .before .before .before .before .before .before .before .before .before .before .before .before .before .before
+          .before .before .before .if1 .left) (i .last .1 .1 .1 .1 .0) (i .last .1 .1 .1 .1 .1 .0) (i .last .1 .1 .1 .1 .1 .1 .0)
           (i .last .1 .1 .1 .1 .1 .1 .1 .0) (i .result) (i .ensures),
     )
 
 same-length-2 : tie.Need-same-length-2
 same-length-2 c = c .before .before .close-level .kept .1 .1 .1 .1 .1 .1 .1 .1 .1 .0
-    ∙ c .before .before .before .before .before .before .before .before .before .before .before .before .before .before .before .before .before .before .before .before .before .before .before .before .before .flag-level .kept .1 .1 .1 .1 .0
+    ∙ c .before .before .before .before .before .before .before .before .before .before .before .before .before .before .before .before
+    .before .before .before .before .before .before .before .before .before .flag-level .kept .1 .1 .1 .1 .0
 
 same-length-3 : tie.Need-same-length-3
 same-length-3
     c =
-    c .before .before .before .before .before .before .before .before .before .before .before .before .before .before .before .before .red-level .kept .1 .1 .1 .1 .0
+    c .before .before .before .before .before .before .before .before .before .before .before .before .before .before .before .before
+    .red-level .kept .1 .1 .1 .1 .0
 
 same-length-4 : tie.Need-same-length-4
 same-length-4
     c =
-    c .before .before .before .before .before .before .before .before .before .before .before .before .before .before .before .before .red-level .kept .1 .1 .1 .1 .1 .0
+    c .before .before .before .before .before .before .before .before .before .before .before .before .before .before .before .before
+    .red-level .kept .1 .1 .1 .1 .1 .0
 
 same-length-5 : tie.Need-same-length-5
 same-length-5
     c =
-    c .before .before .before .before .before .before .before .before .before .before .before .before .before .before .before .before .red-level .kept .1 .1 .1 .1 .1 .1 .0
+    c .before .before .before .before .before .before .before .before .before .before .before .before .before .before .before .before
+    .red-level .kept .1 .1 .1 .1 .1 .1 .0
 
 same-length-6 : tie.Need-same-length-6
 same-length-6
     c =
-    c .before .before .before .before .before .before .before .before .before .before .before .before .before .before .before .before .red-level .kept .1 .1 .1 .1 .1 .1 .1 .0
+    c .before .before .before .before .before .before .before .before .before .before .before .before .before .before .before .before
+    .red-level .kept .1 .1 .1 .1 .1 .1 .1 .0
 
 returns-2 : tie.Need-returns-2
 returns-2 c =
     let
     a =
-    c .before .before .before .before .before .before .before .before .before .before .before .before .before .before .before .before .before .before .before .before .before .before .before .before .before .before .before .before .before .before .before .before .before .before .before .args in
+    c .before .before .before .before .before .before .before .before .before .before .before .before .before .before .before .before
+    .before .before .before .before .before .before .before .before .before .before .before .before .before .before .before .before .before
+    .before .before .args in
     let
     p =
-    c .before .before .before .before .before .before .before .before .before .before .before .before .before .before .before .before .before .before .before .before .before .before .before .before .before .before .before .before .before .before .before .before .before .before .before .pre in
+    c .before .before .before .before .before .before .before .before .before .before .before .before .before .before .before .before
+    .before .before .before .before .before .before .before .before .before .before .before .before .before .before .before .before .before
+    .before .before .pre in
     let
     f =
-    c .before .before .before .before .before .before .before .before .before .before .before .before .before .before .before .before .before .before .before .before .before .before .before .before .before .flag-level in
+    c .before .before .before .before .before .before .before .before .before .before .before .before .before .before .before .before
+    .before .before .before .before .before .before .before .before .before .flag-level in
     let
     i =
-    c .before .before .before .before .before .before .before .before .before .before .before .before .before .before .before .before .red-level in
+    c .before .before .before .before .before .before .before .before .before .before .before .before .before .before .before .before
+    .red-level in
     let z = c .before .before .close-level in
     made (a .red .now) (a .old .now) (a .rows .now) (a .first) (a .last) (a .table .now) (a .xs .now) (a .ys .now) (a .heads .now)
-    (a .links .now) (a .n) (p .0) (a .most) (p .1 .1 .0) (p .1 .1 .1) (p .1 .1 .2) (p .1 .1 .3) (p .1 .1 .4) (p .1 .1 .5) (p .1 .0 .0) (p .1 .0 .1)
+    (a .links .now) (a .n) (p .0) (a .most) (p .1 .1 .0) (p .1 .1 .1) (p .1 .1 .2) (p .1 .1 .3) (p .1 .1 .4) (p .1 .1 .5) (p .1 .0 .0) (p .1
+    .0 .1)
     (p .1 .0 .2)
     (f .last .1 .1 .1 .1 .0) (f .result) (f .ensures)
-    (c .before .before .before .before .before .before .before .before .before .before .before .before .before .before .before .before .before .before .before .before .before .before .if1 .left) (i .last .1 .1 .1 .1 .0) (i .last .1 .1 .1 .1 .1 .0)
+    (c .before .before .before .before .before .before .before .before .before .before .before .before .before .before .before .before
+    .before .before .before .before .before .before .if1 .left) (i .last .1 .1 .1 .1 .0) (i .last .1 .1 .1 .1 .1 .0)
     (i .last .1 .1 .1 .1 .1 .1 .0) (i .last .1 .1 .1 .1 .1 .1 .1 .0) (i .result) (i .ensures)
     (z .last .1 .1 .1 .1 .1 .1 .1 .1 .1 .0) (z .result) (z .ensures)
 

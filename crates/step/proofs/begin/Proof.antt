@@ -26,7 +26,8 @@ same-length-3 : tie.Need-same-length-3
 same-length-3 c = search needs
 
 returns : tie.Need-returns
-returns c = begun-table _ _ _ _ _ _ (c .before .before .before .before .before .before .before .before .«open» .ensures .answer) (c .if1 .taken)
+returns c = begun-table _ _ _ _ _ _ (c .before .before .before .before .before .before .before .before .«open» .ensures .answer) (c .if1
+    .taken)
 
 marks-fit-requires : tie.Need-marks-fit-requires
 marks-fit-requires c κs = search needs
@@ -41,7 +42,8 @@ same-length-6 : tie.Need-same-length-6
 same-length-6 c = search needs
 
 returns-2 : tie.Need-returns-2
-returns-2 c = begun-marks _ _ _ _ _ _ (c .before .before .before .before .before .before .before .before .before .before .«open» .ensures .answer) (omega (arith, c .before .before .if1 .left))
+returns-2 c = begun-marks _ _ _ _ _ _ (c .before .before .before .before .before .before .before .before .before .before .«open» .ensures
+    .answer) (omega (arith, c .before .before .if1 .left))
     (sym (c .before .marks-fit .ensures) ∙ not-true _ (c .if2 .taken))
 
 same-length-7 : tie.Need-same-length-7
@@ -54,9 +56,12 @@ same-length-9 : tie.Need-same-length-9
 same-length-9 c = search needs
 
 returns-3 : tie.Need-returns-3
-returns-3 c = let z : c .before .before .before .before .before .before .before .before .before .before .«open» .result .refusal ≡ 0 = omega (arith, c .before .before .if1 .left) in
-    begun-held _ _ _ _ _ _ (c .before .before .before .before .before .before .before .before .before .before .«open» .ensures .answer) z (sym (c .before .marks-fit .ensures) ∙ not-false _ (c .if2 .left))
-    (opened-held _ _ _ _ _ _ _ _ _ (c .before .before .before .before .before .before .before .before .before .before .«open» .ensures .fits z))
+returns-3 c = let z : c .before .before .before .before .before .before .before .before .before .before .«open» .result .refusal ≡ 0 = omega
+    (arith, c .before .before .if1 .left) in
+    begun-held _ _ _ _ _ _ (c .before .before .before .before .before .before .before .before .before .before .«open» .ensures .answer) z
+    (sym (c .before .marks-fit .ensures) ∙ not-false _ (c .if2 .left))
+    (opened-held _ _ _ _ _ _ _ _ _ (c .before .before .before .before .before .before .before .before .before .before .«open» .ensures .fits
+    z))
 
 pub begin-spec : {M : Type 1} → statement M
 begin-spec =

@@ -50,8 +50,10 @@ same-length-2 : tie.Need-same-length-2
 same-length-2 c = search needs
 
 returns-3 : tie.Need-returns-3
-returns-3 c = let s = steps-so 4096 _ _ _ _ _ _ _ _ (steps-again _ _ _ _ _ _ _ _ _ _ _ _ _ (c .before .before .before .before .before .before .before .before .before .step-few .ensures)
-    (λ z. absurd (omega (arith, z, c .before .before .before .before .before .if3 .taken))) (c .before .before .before .step-many2 .ensures)) (λ z. refl) in
+returns-3 c = let s = steps-so 4096 _ _ _ _ _ _ _ _ (steps-again _ _ _ _ _ _ _ _ _ _ _ _ _ (c .before .before .before .before .before
+    .before .before .before .before .step-few .ensures)
+    (λ z. absurd (omega (arith, z, c .before .before .before .before .before .if3 .taken))) (c .before .before .before .step-many2
+    .ensures)) (λ z. refl) in
     (c .answer2 .ensures ∙ s .0, s .1)
 
 answer-requires-3 : tie.Need-answer-requires-3
@@ -61,7 +63,8 @@ same-length-3 : tie.Need-same-length-3
 same-length-3 c = search needs
 
 returns-4 : tie.Need-returns-4
-returns-4 c = let s = steps-so 1024 _ _ _ _ _ _ _ _ (c .before .before .before .before .before .step-few .ensures) (λ z. absurd (c .before .if3 .left z)) in
+returns-4 c = let s = steps-so 1024 _ _ _ _ _ _ _ _ (c .before .before .before .before .before .step-few .ensures) (λ z. absurd (c .before
+    .if3 .left z)) in
     (c .answer3 .ensures ∙ s .0, s .1)
 
 pub step-spec : {M : Type 1} → statement M
