@@ -128,15 +128,10 @@ slice-aggregate-advance-2 c = sym
 
 advance-requires : tie.Need-advance-requires
 advance-requires c κs =
-    let
-    a =
-    c .before .before .before .before .before .before .before .before .before .before .before .before .before .before .before .before
-    .before .before .before .before .before .before .before .before .before .before .before .before .before .args in
-    let
-    p =
-    c .before .before .before .before .before .before .before .before .before .before .before .before .before .before .before .before
-    .before .before .before .before .before .before .before .before .before .before .before .before .before .pre
-    in
+    let a = c .before .before .before .before .before .before .before .before .before .before .before .before .before .before .before
+    .before .before .before .before .before .before .before .before .before .before .before .before .before .before .args in
+    let p = c .before .before .before .before .before .before .before .before .before .before .before .before .before .before .before
+    .before .before .before .before .before .before .before .before .before .before .before .before .before .before .pre in
     let m = length-take-le (a .cells)
     (c .before .before .before .before .before .before .before .before .before .before .before .before .before .before .before .before
     .examine-marks .last .1 .1 .1 .0)
@@ -145,15 +140,42 @@ advance-requires c κs =
       p .0 .few,
       c .before .before .before .before .before .before .before .before .before .before .before .before .before .spread2,
     )) in
-    let l = length-take-le (a .cells) (a .table .now) (omega (arith, p .0 .few, p .0 .room)) in
-    (p .0 .held, (m ∙ sym l, p .1 .1))
+    let l = length-take-le (a .cells) (a .table .now) (omega (arith, p .0 .few, p .0 .room)) in (
+      p .0 .held,
+      (
+        m ∙ sym l,
+        (
+          p .1 .1,
+          record {
+            renewing =
+                record {
+                  least = omega arith;
+                  few = omega arith;
+                  in-rows = omega arith;
+                  in-ps = omega arith;
+                  in-qs = omega arith;
+                  in-table = omega arith;
+                  in-xs = omega arith;
+                  in-ys = omega arith;
+                  in-links = omega arith;
+                  in-links′ = omega arith;
+                  in-old = omega arith;
+                };
+            old-few = omega (arith, l, p .0 .few);
+            in-ys = omega arith;
+            in-links = omega arith;
+            in-kids = omega (arith, l, p .0 .few);
+            in-red = omega (arith, l, p .0 .few);
+          },
+        ),
+      ),
+    )
 
 returns-4 : tie.Need-returns-4
 returns-4 c =
-    let
-    a =
-    c .before .before .before .before .before .before .before .before .before .before .before .before .before .before .before .before
-    .before .before .before .before .before .before .before .before .before .before .before .before .before .before .before .before .args in
+    let a = c .before .before .before .before .before .before .before .before .before .before .before .before .before .before .before
+    .before .before .before .before .before .before .before .before .before .before .before .before .before .before .before .before .before
+    .args in
     let
     e :
     c .before .before .before .before .before .before .before .before .before .before .before .before .before .before .before .before
@@ -199,11 +221,9 @@ copy-bytes-requires c κs = let
 
 returns-5 : tie.Need-returns-5
 returns-5 c =
-    let
-    a =
-    c .before .before .before .before .before .before .before .before .before .before .before .before .before .before .before .before
+    let a = c .before .before .before .before .before .before .before .before .before .before .before .before .before .before .before
     .before .before .before .before .before .before .before .before .before .before .before .before .before .before .before .before .before
-    .before .before .before .args in
+    .before .before .before .before .args in
     let
     e :
     c .before .before .before .before .before .before .before .before .before .before .before .before .before .before .before .before
