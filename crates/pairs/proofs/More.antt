@@ -177,7 +177,7 @@ added-at {xs} {ys} {heads} {links} {n} {x} {y} k r b e h = rw e (added xs ys hea
 
 -- an entry with a number is not above the last one noted at its spot
 module _ (xs ys : List ℕ) (s e : ℕ) (t : (eqb (spotOf (getD xs e 0)) s || eqb (spotOf (getD ys e 0)) s) ≡ true) where
-  pub not-above : (m : ℕ) → e < m → (e ≤ lastWith xs ys s m) × (lastWith xs ys s m < m)
+  not-above : (m : ℕ) → e < m → (e ≤ lastWith xs ys s m) × (lastWith xs ys s m < m)
   unfolding lastWith
   not-above zero h = absurd (omega arith)
   not-above (suc m) h = go (eqb (spotOf (getD xs m 0)) s || eqb (spotOf (getD ys m 0)) s) refl (not-above m)

@@ -2,17 +2,17 @@
 -- Assumes nothing.
 use mathlib.Core.Path.{_≡_, refl, _∙_, ap}
 use mathlib.Core.Bool.{true, false, _&&_}
-use mathlib.Core.List.{List, [], _∷_, _++_}
+use mathlib.Core.List.{List, [], _∷_}
 use Prim.Native.Nat.{ℕ, suc, _≤_, _<_}
 use lib.Dec.{T}
 use lib.IntN.{ℤ}
-use lib.ListN.{length, take, drop}
+use lib.ListN.{length}
 use borrow.Author.Tests.{le-leb, lt-leb}
 use Rattle.base.specs.Bools.{and-right, is-true, not-both}
 use Rattle.base.specs.Fours.{fours}
 use Rattle.base.specs.Refuse.{refuse, andThen, heldAfter, answerOf, answer-refused, answer-none}
 use Rattle.base.specs.declared.Answer.{Answer}
-use Rattle.base.specs.declared.Answer.the-variants.{Accepted, Refused}
+use Rattle.base.specs.declared.Answer.the-variants.{Refused}
 use Rattle.mesh.specs.Coarse.{cornerCount}
 use Rattle.mesh.specs.Answers.{tableAnswer, markb, marksb, limitsAnswer}
 use Rattle.layout.specs.Opened.{Fits}
@@ -53,11 +53,6 @@ module _ (a : Answer) (new old : List ℕ) where
   pub refused-so : (k : ℕ) → a ≡ Refused k → (stepped.Refused k ≡ steppedOf a (length new)) × (old ≡ heldAfter a new old)
   unfolding steppedOf heldAfter
   refused-so k e = (rw e, rw e)
-
-  pub accepted-so : (k : ℕ) (from now : List ℕ) → a ≡ Accepted → length new ≡ k → take k from ≡ new → now ≡ take k from ++ drop k old
-      → (stepped.Cells k ≡ steppedOf a (length new)) × (now ≡ heldAfter a new old)
-  unfolding steppedOf heldAfter
-  accepted-so k from now e l t w = (rw (e, l), w ∙ rw (e, t, l))
 
 -- the marks are as many as the statuses
 pub marks-many : (ss ms : List ℕ) → marksb ss ms ≡ true → length ms ≡ length ss

@@ -1,5 +1,5 @@
 -- The parts of the step's call. A mesh is ps and ts, the old table ss, the marks ms.
---   Begun ..           the table is opened and the marks are looked at: 0, or 1 to 7
+--   StepBegun ..           the table is opened and the marks are looked at: 0, or 1 to 7
 --   StepsIn most ..    the step in tables with room for `most` new cells: where there are more, 9 says nothing of the limits
 -- Laws: begun-table, begun-marks, begun-held (the ways out of the beginning), within-refused, within-limits, within-done (those of the
 -- step), steps-again (twice), steps-so (the call's answer).
@@ -22,7 +22,7 @@ use Rattle.step.specs.Answers.{step-table, step-marks, step-limits, mark
 use Rattle.step.specs.declared.Stepped.the-variants as stepped
 
 -- Rule 12.11: 1 to 6, 7.
-pub record Begun (ps : List ℤ) (ts ss ms rows : List ℕ) (refusal : ℕ) : Type 0 where
+pub record StepBegun (ps : List ℤ) (ts ss ms rows : List ℕ) (refusal : ℕ) : Type 0 where
   pub answer : (refusal ≡ 0 → ⊥) → (table : List ℕ) → 4096 ≤ length table → stepAnswer ps ts ss ms table ≡ Refused refusal
   pub limits : refusal ≡ 0 → (table : List ℕ) → 4096 ≤ length table
       → stepAnswer ps ts ss ms table ≡ limitsAnswer (cornerCount ps) (fours ts) ss ms
@@ -37,7 +37,7 @@ pub record StepsIn (most : ℕ) (ps : List ℤ) (ts ss ms table table′ : List 
   pub filled : refusal ≡ 0 → table′ ≡ newTable (cornerCount ps) (fours ts) ss ms ++ drop cells table
 
 module _ (ps : List ℤ) (ts ss ms rows : List ℕ) where
-  pub begun-table : (k : ℕ) → tableAnswer ps ts ss ≡ answerOf k → (k ≡ 0 → ⊥) → Begun ps ts ss ms rows k
+  pub begun-table : (k : ℕ) → tableAnswer ps ts ss ≡ answerOf k → (k ≡ 0 → ⊥) → StepBegun ps ts ss ms rows k
   begun-table k e z =
       record {
         answer = λ y table l. step-table ps ts ss ms table l k e z;
@@ -47,7 +47,7 @@ module _ (ps : List ℤ) (ts ss ms rows : List ℕ) where
       }
 
   module _ (k : ℕ) (e : tableAnswer ps ts ss ≡ answerOf k) (z : k ≡ 0) where
-    pub begun-marks : marksb ss ms ≡ false → Begun ps ts ss ms rows 7
+    pub begun-marks : marksb ss ms ≡ false → StepBegun ps ts ss ms rows 7
     begun-marks m =
         record {
           answer = λ y table l. step-marks ps ts ss ms table l k e z m;
@@ -56,7 +56,7 @@ module _ (ps : List ℤ) (ts ss ms rows : List ℕ) where
           marks = λ y. absurd (omega arith);
         }
 
-    pub begun-held : marksb ss ms ≡ true → Held (cornerCount ps) ts rows ss → Begun ps ts ss ms rows 0
+    pub begun-held : marksb ss ms ≡ true → Held (cornerCount ps) ts rows ss → StepBegun ps ts ss ms rows 0
     begun-held m h =
         record {
           answer = λ y. absurd (y refl);

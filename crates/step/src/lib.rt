@@ -13,7 +13,7 @@ ghost use Rattle.mesh.specs.Answers.{markb, marksb, newTable};
 ghost use Rattle.step.specs.Calls.{stepAnswer, steppedOf};
 ghost use Rattle.step.specs.Deep.{deepAt, deepFrom, Decided};
 ghost use Rattle.step.specs.Advanced.{Held, AdvanceRoom, Advanced};
-ghost use Rattle.step.specs.Within.{Begun, StepsIn};
+ghost use Rattle.step.specs.Within.{StepBegun, StepsIn};
 
 pub enum Stepped {
     Cells(usize),
@@ -162,7 +162,7 @@ fn begin(
     qs: &mut [u32],
 ) -> u8
     requires { ⌜ (length (now status) ≤ 4096 → TableRoom (now status) (now rows) (now ps) (now qs)) ⌝ }
-    ensures { λ r. ⌜ Begun (was positions) (was cells) (was status) (was marks) (is rows) r ⌝ }
+    ensures { λ r. ⌜ StepBegun (was positions) (was cells) (was status) (was marks) (is rows) r ⌝ }
 {
     let f = layout::open(positions, cells, status, rows, ps, qs);
     if f.refusal != 0 {

@@ -90,14 +90,14 @@ module _ (n : ℕ) (qs : List (List ℕ)) (ss : List ℕ) (j last : ℕ) (rows x
       (child-in (length (numberedCells (t .corners) (t .all))) (t .corners) (t .all) (rw size (t .children))) in
       rw size at z
 
-  pub top-not : (length ss ≡ last → ⊥) → soundb n qs ss ≡ false
+  top-not : (length ss ≡ last → ⊥) → soundb n qs ss ≡ false
   top-not h = t .sound ∙ rw (ne-eqb (length ss) last h)
 
   module _ (e : length ss ≡ last) where
     all-of : take last ss ≡ ss
     all-of = rw (← e) (take-length ss)
 
-    pub top-apart : apartAll (listed xs ys 0 k) rows last ≡ soundb n qs ss
+    top-apart : apartAll (listed xs ys 0 k) rows last ≡ soundb n qs ss
     top-apart =
         let z : apartAll (listed xs ys 0 k) rows (length (numberedCells (t .corners) (t .all))) ≡ apartOf 0 eqb
         (numberedCells (t .corners) (t .all)) (take last ss) =

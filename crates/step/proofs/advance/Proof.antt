@@ -1,4 +1,4 @@
--- `step::advance` meets its contract.
+-- `step::advance` meets its contract: each part asks for what the table that is held gives, and their results come to the step's.
 -- Assumes nothing.
 use mathlib.Core.Path.{refl, sym, _∙_}
 use native.Mathlib.Omega.{arith}

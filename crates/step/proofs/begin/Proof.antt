@@ -1,4 +1,4 @@
--- `step::begin` meets its contract.
+-- `step::begin` meets its contract: its ways out are those of the definition.
 -- Assumes nothing.
 use mathlib.Core.Path.{_≡_, sym, _∙_}
 use native.Mathlib.Omega.{arith}

@@ -1,4 +1,4 @@
--- `step::step` meets its contract.
+-- `step::step` meets its contract: what the small tables have no room for is done again in large ones.
 -- Assumes nothing.
 use mathlib.Core.Path.{refl, _∙_}
 use native.Mathlib.Omega.{arith}

@@ -1,4 +1,4 @@
--- `step::step_few` meets its contract.
+-- `step::step_few` meets its contract: the tables have room for 512 old and 1,024 new cells.
 -- Assumes nothing.
 use mathlib.Core.Path.{_≡_}
 use native.Mathlib.Omega.{arith}

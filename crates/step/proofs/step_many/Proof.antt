@@ -1,4 +1,4 @@
--- `step::step_many` meets its contract.
+-- `step::step_many` meets its contract: the tables have room for any cells that pass the limits.
 -- Assumes nothing.
 use mathlib.Core.Path.{_≡_}
 use native.Mathlib.Omega.{arith}
