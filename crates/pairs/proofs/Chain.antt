@@ -7,15 +7,15 @@ use Prim.Native.Nat.{ℕ, zero, suc, _+_, _-_, _%_, _≤_, _<_}
 use native.Mathlib.Decide.{ℕ-discrete}
 use native.Mathlib.Omega.{arith}
 use lib.Dec.{eqb, ltb}
-use lib.ListN.{getD}
+use lib.ListN.{length, getD}
 use borrow.Author.Tests.{eqb-true, eqb-false, ltb-true, ltb-false}
-use Rattle.pairs.specs.Keys.{hereb, seek, bucket, latest, Keys, here-x, here-y, seek-here, seek-past}
+use Rattle.pairs.specs.Keys.{hereb, seek, bucketsOf, bucket, latest, Keys, here-x, here-y, seek-here, seek-past}
 
 -- where a chain stands: at no entry, and the pair is not among the n; or at an entry, and the pair is not above it
-pub record On (xs ys : List ℕ) (x y from n e : ℕ) : Type 0 where
+pub record On (w : ℕ) (xs ys : List ℕ) (x y from n e : ℕ) : Type 0 where
   pub none : e ≡ 65535 → seek xs ys x y from (n - from) ≡ 65535
   pub below : (e ≡ 65535 → ⊥) → e < n
-  pub key : (e ≡ 65535 → ⊥) → bucket (getD xs e 0) (getD ys e 0) ≡ bucket x y
+  pub key : (e ≡ 65535 → ⊥) → bucket w (getD xs e 0) (getD ys e 0) ≡ bucket w x y
   pub rest : (e ≡ 65535 → ⊥) → seek xs ys x y from (n - from) ≡ seek xs ys x y from (suc e - from)
 
 module _ (xs ys : List ℕ) (x y from : ℕ) where
@@ -44,19 +44,20 @@ module _ (xs ys : List ℕ) (x y from : ℕ) where
   unfolding seek
   old e h = let p : suc e - from ≡ 0 = omega arith in rw p
 
-  elsewhere : (e : ℕ) → (bucket (getD xs e 0) (getD ys e 0) ≡ bucket x y → ⊥) → hereb xs ys x y e ≡ false
+module _ (w : ℕ) (xs ys : List ℕ) (x y from : ℕ) where
+  elsewhere : (e : ℕ) → (bucket w (getD xs e 0) (getD ys e 0) ≡ bucket w x y → ⊥) → hereb xs ys x y e ≡ false
   elsewhere e ne = go (hereb xs ys x y e) refl
     where
       go : (b : Bool) → hereb xs ys x y e ≡ b → b ≡ false
       go true t = absurd (ne (rw (here-x xs ys x y e t, here-y xs ys x y e t)))
       go false t = refl
 
-  here : (m : ℕ) → m < 65535 → bucket (getD xs m 0) (getD ys m 0) ≡ bucket x y → On xs ys x y from (suc m) m
+  here : (m : ℕ) → m < 65535 → bucket w (getD xs m 0) (getD ys m 0) ≡ bucket w x y → On w xs ys x y from (suc m) m
   here m h k = record { none = λ e. absurd (omega arith); below = λ ne. omega arith; key = λ ne. k; rest = λ ne. refl }
 
   -- the same chain, said of more entries, none of which is the pair
-  longer : (m n e : ℕ) → m ≤ n → seek xs ys x y from (n - from) ≡ seek xs ys x y from (m - from) → On xs ys x y from m e
-      → On xs ys x y from n e
+  longer : (m n e : ℕ) → m ≤ n → seek xs ys x y from (n - from) ≡ seek xs ys x y from (m - from) → On w xs ys x y from m e
+      → On w xs ys x y from n e
   longer m n e h s o =
       record {
         none = λ z. s ∙ o .none z;
@@ -65,44 +66,52 @@ module _ (xs ys : List ℕ) (x y from : ℕ) where
         rest = λ ne. s ∙ o .rest ne;
       }
 
-  empty : On xs ys x y from 0 65535
+  empty : On w xs ys x y from 0 65535
   unfolding seek
   empty =
       let p : 0 - from ≡ 0 = omega arith in
       record { none = λ z. rw p; below = λ ne. absurd (ne refl); key = λ ne. absurd (ne refl); rest = λ ne. absurd (ne refl) }
 
-  latest-on : (m : ℕ) → m ≤ 65535 → On xs ys x y from m (latest xs ys (bucket x y) m)
+  latest-on : (m : ℕ) → m ≤ 65535 → On w xs ys x y from m (latest w xs ys (bucket w x y) m)
   unfolding latest
   latest-on zero h = empty
-  latest-on (suc m) h = go (eqb (bucket (getD xs m 0) (getD ys m 0)) (bucket x y)) refl (latest-on m (omega arith))
+  latest-on (suc m) h = go (eqb (bucket w (getD xs m 0) (getD ys m 0)) (bucket w x y)) refl (latest-on m (omega arith))
     where
-      go : (t : Bool) → eqb (bucket (getD xs m 0) (getD ys m 0)) (bucket x y) ≡ t → On xs ys x y from m (latest xs ys (bucket x y) m)
-          → On xs ys x y from (suc m) (cond t m (latest xs ys (bucket x y) m))
-      go true t o = here m (omega arith) (eqb-true (bucket (getD xs m 0) (getD ys m 0)) (bucket x y) t)
+      go : (t : Bool) → eqb (bucket w (getD xs m 0) (getD ys m 0)) (bucket w x y) ≡ t → On w xs ys x y from m (latest w xs ys (bucket w x y) m)
+          → On w xs ys x y from (suc m) (cond t m (latest w xs ys (bucket w x y) m))
+      go true t o = here m (omega arith) (eqb-true (bucket w (getD xs m 0) (getD ys m 0)) (bucket w x y) t)
       go false t o =
-          longer m (suc m) (latest xs ys (bucket x y) m) (omega arith)
-          (passed m (elsewhere m (eqb-false (bucket (getD xs m 0) (getD ys m 0)) (bucket x y) t))) o
+          longer m (suc m) (latest w xs ys (bucket w x y) m) (omega arith)
+          (passed xs ys x y from m (elsewhere m (eqb-false (bucket w (getD xs m 0) (getD ys m 0)) (bucket w x y) t))) o
 
 -- the loop of `find`
 module _ {xs ys heads links : List ℕ} {from n x y : ℕ} (k : Keys xs ys heads links n) where
-  pub start : (b : ℕ) → b ≡ bucket x y → b < 4096 → On xs ys x y from n (getD heads b 0)
-  start b e h = rw (k .heads-right b h, e) (latest-on xs ys x y from n (k .small))
+  pub start : (b : ℕ) → b ≡ bucket (bucketsOf (length heads)) x y → b < bucketsOf (length heads) → On (bucketsOf (length heads)) xs ys x y from n (getD heads b 0)
+  start b e h = rw (k .heads-right b h, e) (latest-on (bucketsOf (length heads)) xs ys x y from n (k .small))
 
-  module _ {e : ℕ} (o : On xs ys x y from n e) (ne : e ≡ 65535 → ⊥) where
+  -- where the chain is at its end, or at an older entry
+  pub ended : {e : ℕ} → On (bucketsOf (length heads)) xs ys x y from n e → e ≤ 65535 → (e + 1) % 65536 ≤ from → seek xs ys x y from (n - from) ≡ 65535
+  ended {e} o m h = go (ℕ-discrete e 65535)
+    where
+      go : Dec (e ≡ 65535) → seek xs ys x y from (n - from) ≡ 65535
+      go (yes q) = o .none q
+      go (no q) = o .rest q ∙ old xs ys x y from e (omega (arith, q))
+
+  module _ {e : ℕ} (o : On (bucketsOf (length heads)) xs ys x y from n e) (ne : e ≡ 65535 → ⊥) where
     pub hit : from ≤ e → {b : Bool} → b ≡ hereb xs ys x y e → b ≡ true → e ≡ seek xs ys x y from (n - from)
     hit h t u = sym (o .rest ne ∙ found xs ys x y from e h (sym t ∙ u))
 
     pub stop : e < from → 65535 ≡ seek xs ys x y from (n - from)
     stop h = sym (o .rest ne ∙ old xs ys x y from e h)
 
-    link : getD links e 0 ≡ latest xs ys (bucket x y) e
+    link : getD links e 0 ≡ latest (bucketsOf (length heads)) xs ys (bucket (bucketsOf (length heads)) x y) e
     link = k .links-right e (o .below ne) ∙ rw (o .key ne)
 
-    link-on : On xs ys x y from e (getD links e 0)
-    link-on = rw link (latest-on xs ys x y from e (omega (arith, o .below ne, k .small)))
+    link-on : On (bucketsOf (length heads)) xs ys x y from e (getD links e 0)
+    link-on = rw link (latest-on (bucketsOf (length heads)) xs ys x y from e (omega (arith, o .below ne, k .small)))
 
-    pub turn : {b : Bool} → b ≡ hereb xs ys x y e → b ≡ false → On xs ys x y from n (getD links e 0)
-    turn t u = longer xs ys x y from e n (getD links e 0) (omega (arith, o .below ne)) (o .rest ne ∙ passed xs ys x y from e (sym t ∙ u))
+    pub turn : {b : Bool} → b ≡ hereb xs ys x y e → b ≡ false → On (bucketsOf (length heads)) xs ys x y from n (getD links e 0)
+    turn t u = longer (bucketsOf (length heads)) xs ys x y from e n (getD links e 0) (omega (arith, o .below ne)) (o .rest ne ∙ passed xs ys x y from e (sym t ∙ u))
         link-on
 
     pub less : getD links e 0 ≤ 65535 → (getD links e 0 + 1) % 65536 < (e + 1) % 65536

@@ -13,15 +13,15 @@ use lib.ListN.{length, getD, set, length-set}
 use lib.Seq.{getD-set-same, getD-set-other}
 use borrow.Author.Tests.{eq-eqb, ne-eqb, le-leb, lt-leb}
 use Rattle.base.specs.Bools.{not-both}
-use Rattle.pairs.specs.Keys.{bucket, latest, spotOf, lastWith, noted, Keys, Room, Added, Without}
+use Rattle.pairs.specs.Keys.{bucketsOf, buckets-inside, bucket, latest, spotOf, lastWith, noted, Keys, Room, Added, Without}
 
 -- a store at n changes nothing below it
-latest-set : (xs ys : List ℕ) (b n x y m : ℕ) → m ≤ n → latest (set xs n x) (set ys n y) b m ≡ latest xs ys b m
+latest-set : (w : ℕ) (xs ys : List ℕ) (b n x y m : ℕ) → m ≤ n → latest w (set xs n x) (set ys n y) b m ≡ latest w xs ys b m
 unfolding latest
-latest-set xs ys b n x y zero h = refl
-latest-set xs ys b n x y (suc m) h =
+latest-set w xs ys b n x y zero h = refl
+latest-set w xs ys b n x y (suc m) h =
     let ne : m ≡ n → ⊥ = λ q. omega arith in
-    rw (getD-set-other xs n m x 0 ne, getD-set-other ys n m y 0 ne, latest-set xs ys b n x y m (omega arith))
+    rw (getD-set-other xs n m x 0 ne, getD-set-other ys n m y 0 ne, latest-set w xs ys b n x y m (omega arith))
 
 last-set : (xs ys : List ℕ) (s n x y m : ℕ) → m ≤ n → lastWith (set xs n x) (set ys n y) s m ≡ lastWith xs ys s m
 unfolding lastWith
@@ -32,127 +32,134 @@ last-set xs ys s n x y (suc m) h =
 
 -- heads with the last entry noted: the buckets are as they were, and the spots of the two numbers have the entry
 module _ (heads : List ℕ) (n x y : ℕ) where
-  pub noted-short : length heads < 5120 → heads ≡ noted heads n x y
-  unfolding noted
-  noted-short h = rw (lt-leb 5120 (length heads) h, noted)
+  abbrev w : ℕ
+  w = bucketsOf (length heads)
 
-  pub noted-long : 5120 ≤ length heads → (a b : ℕ) → a ≡ 4096 + spotOf x → b ≡ 4096 + spotOf y → set (set heads a n) b n ≡ noted heads n x y
+  pub noted-short : length heads < w + 1024 → heads ≡ noted heads n x y
   unfolding noted
-  noted-long h a b p q = rw (le-leb 5120 (length heads) h, noted, p, q)
+  noted-short h = rw (lt-leb (w + 1024) (length heads) h, noted)
+
+  pub noted-long : w + 1024 ≤ length heads → (a b : ℕ) → a ≡ w + spotOf x → b ≡ w + spotOf y → set (set heads a n) b n ≡ noted heads n x y
+  unfolding noted
+  noted-long h a b p q = rw (le-leb (w + 1024) (length heads) h, noted, p, q)
 
   pub noted-length : length (noted heads n x y) ≡ length heads
   unfolding noted
-  noted-length = go (leb 5120 (length heads))
+  noted-length = go (leb (w + 1024) (length heads))
     where
       go : (b : Bool)
-          → length {A = ℕ} (elim b [ true ↦ set (set heads (4096 + spotOf x) n) (4096 + spotOf y) n | false ↦ heads ]) ≡ length heads
-      go true = length-set (set heads (4096 + spotOf x) n) (4096 + spotOf y) n ∙ length-set heads (4096 + spotOf x) n
+          → length {A = ℕ} (elim b [ true ↦ set (set heads (w + spotOf x) n) (w + spotOf y) n | false ↦ heads ]) ≡ length heads
+      go true = length-set (set heads (w + spotOf x) n) (w + spotOf y) n ∙ length-set heads (w + spotOf x) n
       go false = refl
 
-  noted-below : (b : ℕ) → b < 4096 → getD (noted heads n x y) b 0 ≡ getD heads b 0
+  noted-below : (b : ℕ) → b < w → getD (noted heads n x y) b 0 ≡ getD heads b 0
   unfolding noted
-  noted-below b h = go (leb 5120 (length heads))
+  noted-below b h = go (leb (w + 1024) (length heads))
     where
       go : (t : Bool)
-          → getD (elim t [ true ↦ set (set heads (4096 + spotOf x) n) (4096 + spotOf y) n | false ↦ heads ]) b 0 ≡ getD heads b 0
+          → getD (elim t [ true ↦ set (set heads (w + spotOf x) n) (w + spotOf y) n | false ↦ heads ]) b 0 ≡ getD heads b 0
       go true =
-          getD-set-other (set heads (4096 + spotOf x) n) (4096 + spotOf y) b n 0 (λ q. omega arith)
-          ∙ getD-set-other heads (4096 + spotOf x) b n 0 (λ q. omega arith)
+          getD-set-other (set heads (w + spotOf x) n) (w + spotOf y) b n 0 (λ q. omega arith)
+          ∙ getD-set-other heads (w + spotOf x) b n 0 (λ q. omega arith)
       go false = refl
 
-  noted-at : 5120 ≤ length heads → (s : ℕ) → s < 1024
-      → getD (noted heads n x y) (4096 + s) 0 ≡ cond (eqb (spotOf x) s || eqb (spotOf y) s) n (getD heads (4096 + s) 0)
+  noted-at : w + 1024 ≤ length heads → (s : ℕ) → s < 1024
+      → getD (noted heads n x y) (w + s) 0 ≡ cond (eqb (spotOf x) s || eqb (spotOf y) s) n (getD heads (w + s) 0)
   noted-at l s h =
-      ap (λ (l : List ℕ). getD l (4096 + s) 0) (sym (noted-long l (4096 + spotOf x) (4096 + spotOf y) refl refl))
+      ap (λ (l : List ℕ). getD l (w + s) 0) (sym (noted-long l (w + spotOf x) (w + spotOf y) refl refl))
       ∙ go (ℕ-discrete (spotOf y) s) (ℕ-discrete (spotOf x) s)
     where
       once : List ℕ
-      once = set heads (4096 + spotOf x) n
+      once = set heads (w + spotOf x) n
 
       go : Dec (spotOf y ≡ s) → Dec (spotOf x ≡ s)
-          → getD (set once (4096 + spotOf y) n) (4096 + s) 0 ≡ cond (eqb (spotOf x) s || eqb (spotOf y) s) n (getD heads (4096 + s) 0)
+          → getD (set once (w + spotOf y) n) (w + s) 0 ≡ cond (eqb (spotOf x) s || eqb (spotOf y) s) n (getD heads (w + s) 0)
       go (yes q) (yes p) =
-          rw (q, eq-eqb (spotOf x) s p) (getD-set-same once (4096 + s) n 0 (omega (arith, length-set heads (4096 + spotOf x) n)))
+          rw (q, eq-eqb (spotOf x) s p) (getD-set-same once (w + s) n 0 (omega (arith, length-set heads (w + spotOf x) n)))
       go (yes q) (no p) =
           rw (ne-eqb (spotOf x) s p, eq-eqb (spotOf y) s q, q)
-          (getD-set-same once (4096 + s) n 0 (omega (arith, length-set heads (4096 + spotOf x) n)))
+          (getD-set-same once (w + s) n 0 (omega (arith, length-set heads (w + spotOf x) n)))
       go (no q) (yes p) =
           rw (eq-eqb (spotOf x) s p)
-          (getD-set-other once (4096 + spotOf y) (4096 + s) n 0 (λ e. q (omega arith))
-          ∙ rw p (getD-set-same heads (4096 + s) n 0 (omega arith)))
+          (getD-set-other once (w + spotOf y) (w + s) n 0 (λ e. q (omega arith))
+          ∙ rw p (getD-set-same heads (w + s) n 0 (omega arith)))
       go (no q) (no p) =
           rw (ne-eqb (spotOf x) s p, ne-eqb (spotOf y) s q)
-          (getD-set-other once (4096 + spotOf y) (4096 + s) n 0 (λ e. q (omega arith))
-          ∙ getD-set-other heads (4096 + spotOf x) (4096 + s) n 0 (λ e. p (omega arith)))
+          (getD-set-other once (w + spotOf y) (w + s) n 0 (λ e. q (omega arith))
+          ∙ getD-set-other heads (w + spotOf x) (w + s) n 0 (λ e. p (omega arith)))
 
-module _ (xs ys heads links : List ℕ) (n x y : ℕ) (k : Keys xs ys heads links n) (r : Room xs ys links n) (in-heads : bucket x y < 4096)
-  where
-    heads-added : (b : ℕ) → b < 4096 → Dec (b ≡ bucket x y) → getD (set heads (bucket x y) n) b 0 ≡ latest (set xs n x) (set ys n y) b
-        (suc n)
+module _ (xs ys heads links : List ℕ) (n x y : ℕ) (k : Keys xs ys heads links n) (r : Room xs ys links n) where
+  abbrev v : ℕ
+  v = bucketsOf (length heads)
+
+  module _ (in-heads : bucket v x y < v) where
+    inside : bucket v x y < length heads
+    inside = omega (arith, buckets-inside (length heads) (k .in-heads))
+
+    heads-added : (b : ℕ) → b < v → Dec (b ≡ bucket v x y)
+        → getD (set heads (bucket v x y) n) b 0 ≡ latest v (set xs n x) (set ys n y) b (suc n)
     unfolding latest
     heads-added b h (yes q) =
-        let l : bucket x y < length heads = omega (arith, k .in-heads) in
         rw (
           q,
-          getD-set-same heads (bucket x y) n 0 l,
+          getD-set-same heads (bucket v x y) n 0 inside,
           getD-set-same xs n x 0 (r .in-xs),
           getD-set-same ys n y 0 (r .in-ys),
-          eq-eqb
-              (bucket x y) (bucket x y) refl,
+          eq-eqb (bucket v x y) (bucket v x y) refl,
         )
     heads-added b h (no q) =
-        let ne : bucket x y ≡ b → ⊥ = λ e. q (sym e) in
+        let ne : bucket v x y ≡ b → ⊥ = λ e. q (sym e) in
         rw (
-          getD-set-other heads (bucket x y) b n 0 q,
+          getD-set-other heads (bucket v x y) b n 0 q,
           getD-set-same xs n x 0 (r .in-xs),
           getD-set-same ys n y 0 (r .in-ys),
-          ne-eqb
-              (bucket x y) b ne,
-          latest-set xs ys b n x y n (omega arith),
+          ne-eqb (bucket v x y) b ne,
+          latest-set v xs ys b n x y n (omega arith),
         )
         (k .heads-right b h)
 
     links-added : (e : ℕ) → e < suc n → Dec (e ≡ n)
-        → getD (set links n (getD heads (bucket x y) 0)) e 0 ≡ latest (set xs n x) (set ys n y)
-        (bucket (getD (set xs n x) e 0) (getD (set ys n y) e 0)) e
+        → getD (set links n (getD heads (bucket v x y) 0)) e 0 ≡ latest v (set xs n x) (set ys n y)
+        (bucket v (getD (set xs n x) e 0) (getD (set ys n y) e 0)) e
     links-added e h (yes q) =
         rw (
           q,
-          getD-set-same links n (getD heads (bucket x y) 0) 0 (r .in-links),
+          getD-set-same links n (getD heads (bucket v x y) 0) 0 (r .in-links),
           getD-set-same xs n x 0 (r .in-xs),
-          getD-set-same ys n y 0
-              (r .in-ys),
-          latest-set xs ys (bucket x y) n x y n (omega arith),
+          getD-set-same ys n y 0 (r .in-ys),
+          latest-set v xs ys (bucket v x y) n x y n (omega arith),
         )
-        (k .heads-right (bucket x y) in-heads)
+        (k .heads-right (bucket v x y) in-heads)
     links-added e h (no q) =
         rw (
-          getD-set-other links n e (getD heads (bucket x y) 0) 0 q,
+          getD-set-other links n e (getD heads (bucket v x y) 0) 0 q,
           getD-set-other xs n e x 0 q,
           getD-set-other ys n e y 0 q,
-          latest-set xs
-              ys (bucket (getD xs e 0) (getD ys e 0)) n x y e (omega arith),
+          latest-set v xs ys (bucket v (getD xs e 0) (getD ys e 0)) n x y e (omega arith),
         )
         (k .links-right e (omega (arith, q)))
 
-    spots-added : 5120 ≤ length heads → (s : ℕ) → s < 1024
-        → getD (noted (set heads (bucket x y) n) n x y) (4096 + s) 0 ≡ lastWith (set xs n x) (set ys n y) s (suc n)
+    same-heads : length (set heads (bucket v x y) n) ≡ length heads
+    same-heads = length-set heads (bucket v x y) n
+
+    spots-added : v + 1024 ≤ length heads → (s : ℕ) → s < 1024
+        → getD (noted (set heads (bucket v x y) n) n x y) (v + s) 0 ≡ lastWith (set xs n x) (set ys n y) s (suc n)
     unfolding lastWith
     spots-added l s h =
-        noted-at (set heads (bucket x y) n) n x y (simp length-set l) s h
+        rw same-heads at (noted-at (set heads (bucket v x y) n) n x y (rw same-heads l) s h)
         ∙ rw (
           getD-set-same xs n x 0 (r .in-xs),
           getD-set-same ys n y 0 (r .in-ys),
           last-set xs ys s n x y n (omega arith),
-          getD-set-other heads (bucket x y) (4096 + s) n 0 (λ q. omega arith),
+          getD-set-other heads (bucket v x y) (v + s) n 0 (λ q. omega arith),
           k .spots-right l s h,
         )
 
-    added : Added xs ys n x y (set xs n x) (set ys n y) (noted (set heads (bucket x y) n) n x y)
-        (set links n (getD heads (bucket x y) 0))
+    added : Added xs ys n x y (set xs n x) (set ys n y) (noted (set heads (bucket v x y) n) n x y)
+        (set links n (getD heads (bucket v x y) 0))
     added =
-        let l : length (noted (set heads (bucket x y) n) n x y) ≡ length heads =
-        noted-length (set heads (bucket x y) n) n x y ∙ length-set heads (bucket x y) n in
+        let l : length (noted (set heads (bucket v x y) n) n x y) ≡ length heads =
+        noted-length (set heads (bucket v x y) n) n x y ∙ same-heads in
         record {
           xs-is = refl;
           ys-is = refl;
@@ -164,14 +171,16 @@ module _ (xs ys heads links : List ℕ) (n x y : ℕ) (k : Keys xs ys heads link
                 in-ys = simp length-set (r .in-ys);
                 in-links = simp length-set (r .in-links);
                 in-heads = omega (arith, k .in-heads);
-                heads-right = λ b h. noted-below (set heads (bucket x y) n) n x y b h ∙ heads-added b h (ℕ-discrete b (bucket x y));
-                links-right = λ e h. links-added e h (ℕ-discrete e n);
-                spots-right = λ m s h. spots-added (omega arith) s h;
+                heads-right = λ b h.
+                    let m : b < v = rw l at h in
+                    rw l (noted-below (set heads (bucket v x y) n) n x y b (rw same-heads m) ∙ heads-added b m (ℕ-discrete b (bucket v x y)));
+                links-right = λ e h. rw l (links-added e h (ℕ-discrete e n));
+                spots-right = λ m s h. rw l (spots-added (rw l at m) s h);
               });
         }
 
-pub added-at : {xs ys heads links : List ℕ} {n x y : ℕ} → Keys xs ys heads links n → Room xs ys links n → (b : ℕ) → b ≡ bucket x y
-    → b < 4096
+pub added-at : {xs ys heads links : List ℕ} {n x y : ℕ} → Keys xs ys heads links n → Room xs ys links n → (b : ℕ)
+    → b ≡ bucket (bucketsOf (length heads)) x y → b < bucketsOf (length heads)
     → Added xs ys n x y (set xs n x) (set ys n y) (noted (set heads b n) n x y) (set links n (getD heads b 0))
 added-at {xs} {ys} {heads} {links} {n} {x} {y} k r b e h = rw e (added xs ys heads links n x y k r (rw e at h))
 
@@ -192,8 +201,9 @@ module _ (xs ys : List ℕ) (s e : ℕ) (t : (eqb (spotOf (getD xs e 0)) s || eq
           (a, omega arith)
 
 -- what the last entry noted at the spot of x says
-module _ (xs ys heads links : List ℕ) (n x : ℕ) (k : Keys xs ys heads links n) (l : 5120 ≤ length heads) where
-  pub without : (from e : ℕ) → e ≡ getD heads (4096 + spotOf x) 0 → (e + 1) % 65536 ≤ from → Without xs ys from n x
+module _ (xs ys heads links : List ℕ) (n x : ℕ) (k : Keys xs ys heads links n)
+  (l : bucketsOf (length heads) + 1024 ≤ length heads) where
+  pub without : (from e : ℕ) → e ≡ getD heads (bucketsOf (length heads) + spotOf x) 0 → (e + 1) % 65536 ≤ from → Without xs ys from n x
   unfolding spotOf
   without from e q h =
       let p : e ≡ lastWith xs ys (spotOf x) n = q ∙ k .spots-right l (spotOf x) (omega arith) in

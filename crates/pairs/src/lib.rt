@@ -1,18 +1,31 @@
 // A table of pairs of numbers in which a pair is found fast. Its four lists are lent by the caller: the pairs in the order
 // in which they were added, n of them in use; each bucket's last entry; and behind each entry the one before it in its bucket.
-// 65535 stands for no entry. Where there are 1,024 spots behind the buckets, each has the last entry with a number that lies in it.
+// 65535 stands for no entry. There are 4,096 buckets, or 1,024 where the heads are fewer than 4,096. Where there are 1,024 spots behind the
+// buckets, each has the last entry with a number that lies in it.
 ghost use mathlib.Core.Path.{_≡_};
 ghost use Prim.Native.Nat.{_+_, _-_, _<_, _≤_};
 ghost use lib.ListN.{length};
 ghost use Rattle.base.specs.Lent.{was, is};
 ghost use mathlib.Core.Bool.{false};
-ghost use Rattle.pairs.specs.Keys.{bucket, spotOf, noted, hereb, seek, Keys, Room, Clear, Added, Without};
+ghost use Rattle.pairs.specs.Keys.{bucketsOf, bucket, spotOf, noted, hereb, seek, Keys, Room, Clear, Added, Without};
 
-// The bucket that the pair lies in.
-fn bucket_of(x: u32, y: u32) -> usize
-    ensures { λ r. ⌜ (r ≡ bucket x y) × (r < 4096) ⌝ }
+// How many buckets so many heads are for.
+fn buckets_of(k: usize) -> usize
+    ensures { λ r. ⌜ (r ≡ bucketsOf k) × (r ≤ 4096) ⌝ }
 {
-    (x as usize * 2531 + y as usize) % 4096
+    if k < 4096 {
+        return 1024;
+    }
+    4096
+}
+
+// The bucket that the pair lies in, of those of k heads.
+fn bucket_of(k: usize, x: u32, y: u32) -> usize
+    requires { ⌜ 1024 ≤ k ⌝ }
+    ensures { λ r. ⌜ (r ≡ bucket (bucketsOf k) x y) × (r < bucketsOf k) × (r < k) ⌝ }
+{
+    let v = x as usize * 2531 + y as usize;
+    if k < 4096 { v % 1024 } else { v % 4096 }
 }
 
 // Whether entry e is the pair.
@@ -25,7 +38,7 @@ fn stands(xs: &[u32], ys: &[u32], e: usize, x: u32, y: u32) -> bool
 
 // Makes the table empty.
 pub fn clear(heads: &mut [u16])
-    requires { ⌜ 4096 ≤ length (now heads) ⌝ }
+    requires { ⌜ 1024 ≤ length (now heads) ⌝ }
     ensures { λ r. ⌜ Clear (is heads) ⌝ }
 {
     let k = heads.len();
@@ -48,7 +61,7 @@ pub fn find(
     requires { ⌜ Keys (now xs) (now ys) (now heads) (now links) n ⌝ }
     ensures { λ r. ⌜ r ≡ seek (was xs) (was ys) x y from (n - from) ⌝ }
 {
-    let b = bucket_of(x, y);
+    let b = bucket_of(heads.len(), x, y);
     let mut e = heads[b];
     while e != 65535 {
         let i = e as usize;
@@ -63,11 +76,12 @@ pub fn find(
     65535
 }
 
-// Where the last entry with x stands.
-fn spot_of(x: u32) -> usize
-    ensures { λ r. ⌜ (r ≡ 4096 + spotOf x) × (r < 5120) ⌝ }
+// Where the last entry with x stands, behind so many buckets.
+fn spot_of(buckets: usize, x: u32) -> usize
+    requires { ⌜ buckets ≤ 4096 ⌝ }
+    ensures { λ r. ⌜ (r ≡ buckets + spotOf x) × (r < buckets + 1024) ⌝ }
 {
-    4096 + x as usize % 1024
+    buckets + x as usize % 1024
 }
 
 // Whether an entry from `from` on may have x for one of its two numbers. Where it may not, none has.
@@ -83,10 +97,11 @@ pub fn may_have(
     requires { ⌜ Keys (now xs) (now ys) (now heads) (now links) n ⌝ }
     ensures { λ r. ⌜ (r ≡ false → Without (was xs) (was ys) from n x) ⌝ }
 {
-    if heads.len() < 5120 {
+    let m = buckets_of(heads.len());
+    if heads.len() < m + 1024 {
         return true;
     }
-    let s = spot_of(x);
+    let s = spot_of(m, x);
     let e = heads[s];
     (e as usize + 1) % 65536 > from
 }
@@ -96,11 +111,12 @@ fn note(heads: &mut [u16], n: usize, x: u32, y: u32)
     requires { ⌜ n < 65536 ⌝ }
     ensures { λ r. ⌜ is heads ≡ noted (was heads) n x y ⌝ }
 {
-    if heads.len() < 5120 {
+    let m = buckets_of(heads.len());
+    if heads.len() < m + 1024 {
         return;
     }
-    let a = spot_of(x);
-    let b = spot_of(y);
+    let a = spot_of(m, x);
+    let b = spot_of(m, y);
     heads[a] = n as u16;
     heads[b] = n as u16;
 }
@@ -119,7 +135,7 @@ pub fn add(
     requires { ⌜ Room (now xs) (now ys) (now links) n ⌝ }
     ensures { λ r. ⌜ Added (was xs) (was ys) n x y (is xs) (is ys) (is heads) (is links) ⌝ }
 {
-    let b = bucket_of(x, y);
+    let b = bucket_of(heads.len(), x, y);
     let before = heads[b];
     xs[n] = x;
     ys[n] = y;

@@ -4,13 +4,15 @@
 use mathlib.Core.Path.{sym}
 use Prim.Native.Nat.{_+_, _%_, _≤_}
 use native.Mathlib.Omega.{arith}
+use lib.ListN.{length}
 use borrow.Author.Needs.{needs}
+use Rattle.pairs.specs.Keys.{bucketsOf}
 use Rattle.pairs.proofs.Chain.{On, start, hit, stop, turn, less}
 use Rattle.pairs.proofs.find.Statement.{statement}
 use Rattle.pairs.proofs.find.Tie as tie
 
 abbrev Inv-loop : tie.InvT-loop
-Inv-loop xs ys heads links from n x y b e₀ e = On xs ys x y from n e × (e ≤ 65535)
+Inv-loop xs ys heads links from n x y b e₀ e = On (bucketsOf (length heads)) xs ys x y from n e × (e ≤ 65535)
 
 abbrev μ-loop : tie.MeasureT-loop
 μ-loop xs ys heads links from n x y b e₀ e = (e + 1) % 65536

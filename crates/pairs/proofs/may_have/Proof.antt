@@ -10,6 +10,12 @@ use Rattle.pairs.proofs.More.{without}
 use Rattle.pairs.proofs.may_have.Statement.{statement}
 use Rattle.pairs.proofs.may_have.Tie as tie
 
+buckets-of-requires : tie.Need-buckets-of-requires
+buckets-of-requires c κs = search needs
+
+add-if1 : tie.Need-add-if1
+add-if1 c = search needs
+
 returns : tie.Need-returns
 returns c = λ h. not-both true refl h
 
@@ -30,11 +36,23 @@ add-result c = omega (arith, c .shared-slice-known5 .given (c .before .spot-of .
 
 returns-2 : tie.Need-returns-2
 returns-2 c = λ h.
-    let s = c .before .before .before .before .before .before .before in
-    without (s .args .xs .now) (s .args .ys .now) (s .args .heads .now) (s .args .links .now) (s .args .n) (s .args .x) (s .pre)
-    (omega (arith, c .before .before .if1 .left)) (s .args .from) _ (rw (c .before .spot-of .ensures .0)) (ltb-false _ _ h)
+    let a = c .before .before .before .before .before .before .before .before .args in
+    without (a .xs .now) (a .ys .now) (a .heads .now) (a .links .now) (a .n) (a .x) (c .before .before .before .before .before .before
+        .before .before .pre)
+    (omega (arith, c .before .before .if1 .left, c .before .before .before .buckets-of .ensures .0)) (a .from) _ (rw (c .before .spot-of
+        .ensures .0, c .before .before .before .buckets-of .ensures .0))
+    (ltb-false _ _ h)
 
 pub may-have-spec : {M : Type 1} → statement M
 may-have-spec =
     tie.close
-    (tie.spec returns spot-of-requires mul-e shared-slice-read-e cast-result add-result returns-2)
+    (tie.spec
+    buckets-of-requires
+    add-if1
+    returns
+    spot-of-requires
+    mul-e
+    shared-slice-read-e
+    cast-result
+    add-result
+    returns-2)
