@@ -154,7 +154,8 @@ fn two_of(p: bool, q: bool, r: bool, s: bool) -> bool
     bit(p) + bit(q) + bit(r) + bit(s) >= 2
 }
 
-// Whether an edge of the cell may be listed: two of its corners may be. Where it may not, none is.
+// Whether an edge of the cell may be listed: two of its corners may be. Where it may not, none is. The scans ask before they call what
+// searches: so the test is compiled into their loops, and most cells need no call.
 pub fn is_near(
     cells: &[u16],
     c: usize,
@@ -200,26 +201,6 @@ fn pattern_in(
     )
 }
 
-// The same, without a search where no edge of the cell may be listed.
-fn pattern_near(
-    cells: &[u16],
-    c: usize,
-    xs: &[u32],
-    ys: &[u32],
-    heads: &[u16],
-    links: &[u16],
-    from: usize,
-    n: usize,
-) -> u8
-    requires { ⌜ Looks (now cells) (now xs) (now ys) (now heads) (now links) (c + 1) from n ⌝ }
-    ensures { λ r. ⌜ r ≡ listedPattern (listed (was xs) (was ys) from n) (cellAt (was cells) c) ⌝ }
-{
-    if !is_near(cells, c, xs, ys, heads, links, from, n) {
-        return 0;
-    }
-    pattern_in(cells, c, xs, ys, heads, links, from, n)
-}
-
 // The pattern of the cell's edges that are listed. On the highest level none is.
 pub fn pattern_of(
     cells: &[u16],
@@ -237,7 +218,10 @@ pub fn pattern_of(
     if from == n {
         return 0;
     }
-    pattern_near(cells, c, xs, ys, heads, links, from, n)
+    if !is_near(cells, c, xs, ys, heads, links, from, n) {
+        return 0;
+    }
+    pattern_in(cells, c, xs, ys, heads, links, from, n)
 }
 
 // The status of a cell that is red or not, where the edges of its level's red cells are listed.
@@ -264,7 +248,10 @@ pub fn status_of(
     if from == n {
         return 0;
     }
-    pattern_near(cells, c, xs, ys, heads, links, from, n)
+    if !is_near(cells, c, xs, ys, heads, links, from, n) {
+        return 0;
+    }
+    pattern_in(cells, c, xs, ys, heads, links, from, n)
 }
 
 // Whether each cell from first to last has the status that the listed edges ask for.

@@ -89,7 +89,8 @@ fn are_idle(
     true
 }
 
-// Whether an edge of the cell j, not of the cell g, is listed. Where no cell one level up will be red, none is.
+// Whether an edge of the cell j, not of the cell g, is listed. Where no cell one level up will be red, none is. That none is near is asked
+// here, so that it is compiled into the loop over the children.
 fn is_touched(
     rows: &[u16],
     g: usize,
@@ -106,6 +107,9 @@ fn is_touched(
     ensures { λ r. ⌜ r ≡ touchedb (was rows) (listedb (was xs) (was ys) from n) g j ⌝ }
 {
     if from == n {
+        return false;
+    }
+    if !closure::is_near(rows, j, xs, ys, heads, links, from, n) {
         return false;
     }
     !separation::apart_child(rows, j, g, xs, ys, heads, links, from, n)

@@ -108,26 +108,6 @@ fn is_free(
     true
 }
 
-// The same, without a search where no edge of the cell may be listed.
-fn is_clear(
-    cells: &[u16],
-    c: usize,
-    xs: &[u32],
-    ys: &[u32],
-    heads: &[u16],
-    links: &[u16],
-    from: usize,
-    n: usize,
-) -> bool
-    requires { ⌜ Looks (now cells) (now xs) (now ys) (now heads) (now links) (c + 1) from n ⌝ }
-    ensures { λ r. ⌜ (r ≡ true → allb (freeTest (listed (was xs) (was ys) from n)) (edges 0 (cellAt (was cells) c)) ≡ true) ⌝ }
-{
-    if !closure::is_near(cells, c, xs, ys, heads, links, from, n) {
-        return true;
-    }
-    is_free(cells, c, xs, ys, heads, links, from, n)
-}
-
 // The condition at each edge of the cell c, whose parent is g. In a sound table no edge is listed.
 pub fn apart_child(
     cells: &[u16],
@@ -144,7 +124,7 @@ pub fn apart_child(
     requires { ⌜ 8 * g + 8 ≤ length (now cells) ⌝ }
     ensures { λ r. ⌜ r ≡ allb (apartTest (listed (was xs) (was ys) from n) (was cells) g) (edges 0 (cellAt (was cells) c)) ⌝ }
 {
-    if is_clear(cells, c, xs, ys, heads, links, from, n) {
+    if is_free(cells, c, xs, ys, heads, links, from, n) {
         return true;
     }
     let mut e = 0;
@@ -157,7 +137,7 @@ pub fn apart_child(
     true
 }
 
-// The condition at the cell c.
+// The condition at the cell c. That no edge is near is asked here, so that it is compiled into the loop over the cells.
 fn apart_cell(
     cells: &[u16],
     c: usize,
@@ -173,6 +153,9 @@ fn apart_cell(
     ensures { λ r. ⌜ r ≡ listedApart (listed (was xs) (was ys) from n) (was cells) (cellAt (was cells) c) ⌝ }
 {
     if rows::is_regular(cells, c) {
+        return true;
+    }
+    if !closure::is_near(cells, c, xs, ys, heads, links, from, n) {
         return true;
     }
     let g = cells[8 * c + 1] as usize;

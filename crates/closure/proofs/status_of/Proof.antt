@@ -5,6 +5,7 @@ use borrow.Author.Tests.{not-true, not-false}
 use Rattle.edges.specs.Table.{listed}
 use Rattle.rows.specs.Numbered.{cellAt}
 use Rattle.closure.specs.Closed.{status-irregular, listed-red, status-pattern, pattern-unlisted}
+use Rattle.closure.specs.Near.{unlisted-pattern}
 use borrow.Author.Needs.{needs}
 use Rattle.closure.proofs.status_of.Statement.{statement}
 use Rattle.closure.proofs.status_of.Tie as tie
@@ -33,17 +34,40 @@ returns-3 c =
     (sym (c .before .before .before .is-regular .ensures) ∙ not-false _ (c .before .before .if1 .left)) (c .before .if2 .left)
     ∙ pattern-unlisted (a .xs .now) (a .ys .now) (a .from) (a .n) t (c .if3 .taken))
 
-pattern-near-requires : tie.Need-pattern-near-requires
-pattern-near-requires c κs = search needs
+is-near-requires : tie.Need-is-near-requires
+is-near-requires c κs = search needs
 
 returns-4 : tie.Need-returns-4
 returns-4 c =
-    let a = c .before .before .before .before .before .before .before .before .before .before .args in
-    c .pattern-near .ensures
+    let a = c .before .before .before .before .before .before .before .before .before .before .before .args in
+    let es = listed (a .xs .now) (a .ys .now) (a .from) (a .n) in
+    let t = cellAt (a .cells .now) (a .c) in
+    sym (status-pattern es (a .red) t
+    (sym (c .before .before .before .before .before .is-regular .ensures) ∙ not-false _ (c .before .before .before .before .if1 .left)) (c
+    .before .before .before .if2 .left)
+    ∙ unlisted-pattern es t (c .before .is-near .ensures (not-true _ (c .if4 .taken))))
+
+pattern-in-requires : tie.Need-pattern-in-requires
+pattern-in-requires c κs = search needs
+
+returns-5 : tie.Need-returns-5
+returns-5 c =
+    let a = c .before .before .before .before .before .before .before .before .before .before .before .before .args in
+    c .pattern-in .ensures
     ∙ sym (status-pattern (listed (a .xs .now) (a .ys .now) (a .from) (a .n)) (a .red) (cellAt (a .cells .now) (a .c))
-    (sym (c .before .before .before .before .is-regular .ensures) ∙ not-false _ (c .before .before .before .if1 .left))
-    (c .before .before .if2 .left))
+    (sym (c .before .before .before .before .before .before .is-regular .ensures) ∙ not-false _ (c .before .before .before .before .before
+    .if1 .left))
+    (c .before .before .before .before .if2 .left))
 
 pub status-of-spec : {M : Type 1} → statement M
 status-of-spec =
-    tie.close (tie.spec is-regular-requires returns returns-2 returns-3 pattern-near-requires returns-4)
+    tie.close
+    (tie.spec
+    is-regular-requires
+    returns
+    returns-2
+    returns-3
+    is-near-requires
+    returns-4
+    pattern-in-requires
+    returns-5)

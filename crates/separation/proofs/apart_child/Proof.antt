@@ -23,14 +23,14 @@ Inv-loop cells c g xs ys heads links from n e₀ e = (e ≤ 6)
 abbrev μ-loop : tie.MeasureT-loop
 μ-loop cells c g xs ys heads links from n e₀ e = 6 - e
 
-is-clear-requires : tie.Need-is-clear-requires Inv-loop μ-loop
-is-clear-requires c κs = search needs
+is-free-requires : tie.Need-is-free-requires Inv-loop μ-loop
+is-free-requires c κs = search needs
 
 returns : tie.Need-returns Inv-loop μ-loop
 returns c =
     let a = c .before .before .before .before .before .before .before .args in
     sym (free-apart (listed (a .xs .now) (a .ys .now) (a .from) (a .n)) (a .cells .now) (a .g) (edges 0 (cellAt (a .cells .now) (a .c)))
-    (c .before .is-clear .ensures (c .if1 .taken)))
+    (c .before .is-free .ensures (c .if1 .taken)))
 
 loop-holds : tie.Need-loop-holds Inv-loop μ-loop
 loop-holds c = (omega arith, refl)
@@ -77,7 +77,7 @@ apart-child-spec =
     (tie.spec
     Inv-loop
     μ-loop
-    is-clear-requires
+    is-free-requires
     returns
     loop-holds
     apart-edge-requires
