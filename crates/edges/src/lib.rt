@@ -1,10 +1,10 @@
 // A table of edges, each the pair of its two corner numbers, over `pairs`: the entries from `from` on are different edges in the
 // order of their first appearance.
 ghost use mathlib.Core.Path.{_≡_};
-ghost use Prim.Native.Nat.{_-_};
+ghost use Prim.Native.Nat.{_-_, _<_};
 ghost use Rattle.base.specs.Places.{hasb};
 ghost use Rattle.base.specs.Lent.{was, is};
-ghost use Rattle.pairs.specs.Keys.{Room};
+ghost use Rattle.pairs.specs.Keys.{Room, Probed};
 ghost use Rattle.edges.specs.Pairs.{sorted, isb};
 ghost use Rattle.edges.specs.Table.{listed, Table, Edges, Inserted, Unmet};
 ghost use mathlib.Core.Bool.{false};
@@ -49,6 +49,24 @@ pub fn holds(
     let e = sorted_ends(a, b);
     let at = pairs::find(xs, ys, heads, links, from, n, e.low, e.high);
     at != 65535
+}
+
+// One look for the edge among the entries from `from` on: 0 where it is not there, 1 where it is, 2 where a search must tell.
+pub fn probe(
+    xs: &[u32],
+    ys: &[u32],
+    heads: &[u16],
+    links: &[u16],
+    from: usize,
+    n: usize,
+    a: u16,
+    b: u16,
+) -> usize
+    requires { ⌜ Table (now xs) (now ys) (now heads) (now links) from n × (from < n) ⌝ }
+    ensures { λ r. ⌜ Probed (hasb isb (listed (was xs) (was ys) from n) (sorted (a, b))) r ⌝ }
+{
+    let e = sorted_ends(a, b);
+    pairs::probe(xs, ys, heads, links, from, n, e.low, e.high)
 }
 
 // Whether an edge from `from` on may have the corner a. Where none may, none has.

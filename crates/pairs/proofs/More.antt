@@ -202,7 +202,7 @@ module _ (xs ys : List ℕ) (s e : ℕ) (t : (eqb (spotOf (getD xs e 0)) s || eq
 
 -- what the last entry noted at the spot of x says
 module _ (xs ys heads links : List ℕ) (n x : ℕ) (k : Keys xs ys heads links n)
-  (l : bucketsOf (length heads) + 1024 ≤ length heads) where
+    (l : bucketsOf (length heads) + 1024 ≤ length heads) where
   pub without : (from e : ℕ) → e ≡ getD heads (bucketsOf (length heads) + spotOf x) 0 → (e + 1) % 65536 ≤ from → Without xs ys from n x
   unfolding spotOf
   without from e q h =

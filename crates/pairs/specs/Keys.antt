@@ -73,9 +73,9 @@ lastWith xs ys s (suc m) = cond (eqb (spotOf (getD xs m 0)) s || eqb (spotOf (ge
 unfoldable pub noted : List ℕ → ℕ → ℕ → ℕ → List ℕ
 unfolding bucketsOf spotOf
 noted heads n x y = elim (leb (bucketsOf (length heads) + 1024) (length heads)) [
-      true ↦ set (set heads (bucketsOf (length heads) + spotOf x) n) (bucketsOf (length heads) + spotOf y) n
-    | false ↦ heads
-    ]
+  | true ↦ set (set heads (bucketsOf (length heads) + spotOf x) n) (bucketsOf (length heads) + spotOf y) n
+  | false ↦ heads
+]
 
 pub record Keys (xs ys heads links : List ℕ) (n : ℕ) : Type 0 where
   pub small : n ≤ 65535

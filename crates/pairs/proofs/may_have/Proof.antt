@@ -38,9 +38,12 @@ returns-2 : tie.Need-returns-2
 returns-2 c = λ h.
     let a = c .before .before .before .before .before .before .before .before .args in
     without (a .xs .now) (a .ys .now) (a .heads .now) (a .links .now) (a .n) (a .x) (c .before .before .before .before .before .before
-        .before .before .pre)
-    (omega (arith, c .before .before .if1 .left, c .before .before .before .buckets-of .ensures .0)) (a .from) _ (rw (c .before .spot-of
-        .ensures .0, c .before .before .before .buckets-of .ensures .0))
+    .before .before .pre)
+    (omega (arith, c .before .before .if1 .left, c .before .before .before .buckets-of .ensures .0)) (a .from) _ (rw (
+      c .before .spot-of
+          .ensures .0,
+      c .before .before .before .buckets-of .ensures .0,
+    ))
     (ltb-false _ _ h)
 
 pub may-have-spec : {M : Type 1} → statement M

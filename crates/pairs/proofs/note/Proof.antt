@@ -56,10 +56,14 @@ same-length c = search needs
 returns-2 : tie.Need-returns-2
 returns-2 c =
     let a = c .before .before .before .before .before .args in
-    noted-long (a .heads .now) (a .n) (a .x) (a .y) (omega (arith, c .before .before .if1 .left, c .before .before .before .buckets-of
-        .ensures .0)) (c .before .spot-of .result)
+    noted-long (a .heads .now) (a .n) (a .x) (a .y) (omega (
+      arith,
+      c .before .before .if1 .left,
+      c .before .before .before .buckets-of
+          .ensures .0,
+    )) (c .before .spot-of .result)
     (c .spot-of2 .result) (c .before .spot-of .ensures .0 ∙ rw (c .before .before .before .buckets-of .ensures .0)) (c .spot-of2 .ensures
-        .0 ∙ rw (c .before .before .before .buckets-of .ensures .0))
+    .0 ∙ rw (c .before .before .before .buckets-of .ensures .0))
 
 pub note-spec : {M : Type 1} → statement M
 note-spec =
