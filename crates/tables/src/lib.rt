@@ -5,6 +5,7 @@ ghost use Prim.Native.Nat.{_*_, _≤_};
 ghost use lib.ListN.{length, take};
 ghost use Rattle.base.specs.Fours.{fours};
 ghost use Rattle.base.specs.Lent.{was, is};
+ghost use Rattle.pairs.specs.Keys.{Clear};
 ghost use Rattle.closure.specs.Ready.{Looks};
 ghost use Rattle.separation.specs.Parents.{Parents};
 ghost use Rattle.tables.specs.Checked.{Statuses, Reds, Checked};
@@ -138,7 +139,8 @@ fn finish(
     }
 }
 
-// Builds a table of few statuses level by level, and examines it. The tables from xs on are for the work, whatever they hold.
+// Builds a table of few statuses level by level, and examines it. The tables from xs on are for the work; no bucket of the heads has
+// an entry.
 fn build(
     mesh: &[u16],
     status: &[u8],
@@ -148,17 +150,18 @@ fn build(
     qs: &mut [u32],
     xs: &mut [u32],
     ys: &mut [u32],
+    heads: &mut [u16],
     links: &mut [u16],
+    mid_heads: &mut [u16],
     mid_links: &mut [u16],
 ) -> Outcome
     requires { ⌜ Mesh n (now mesh) ⌝ }
     requires { ⌜ Statuses (now status) ⌝ }
     requires { ⌜ TableRoom (now status) (now rows) (now ps) (now qs) × RedRoom (now status) (now xs) (now ys) (now links)
         × (length (now status) ≤ length (now «mid_links»)) ⌝ }
+    requires { ⌜ Clear (now heads) × Clear (now «mid_heads») ⌝ }
     ensures { λ r. ⌜ Examined n (fours (was mesh)) (was status) (is rows) (is ps) (is qs) (r .refusal) (r .cells) (r .levels) (r .mids) ⌝ }
 {
-    let mut heads = [65535u16; 5120];
-    let mut mid_heads = [65535u16; 4096];
     let digits = cutting::digit_table();
     let coarse = lay_coarse(mesh, rows);
     let mut first = 0;
@@ -167,7 +170,7 @@ fn build(
     let mut k = 0;
     let mut m = 0;
     loop {
-        let c = check_level(rows, status, first, last, xs, ys, &mut heads, links, k);
+        let c = check_level(rows, status, first, last, xs, ys, heads, links, k);
         if !c.ok {
             return refused(6);
         }
@@ -178,7 +181,7 @@ fn build(
                 rows,
                 xs,
                 ys,
-                &heads,
+                heads,
                 links,
                 k,
                 coarse,
@@ -200,7 +203,7 @@ fn build(
             n,
             ps,
             qs,
-            &mut mid_heads,
+            mid_heads,
             mid_links,
             m,
             &digits,
@@ -210,6 +213,42 @@ fn build(
         last = g.at;
         level += 1;
     }
+}
+
+// Builds and examines a table of at most 128 statuses, with the smallest tables for the work.
+fn examine_least(
+    mesh: &[u16],
+    status: &[u8],
+    n: usize,
+    rows: &mut [u16],
+    ps: &mut [u32],
+    qs: &mut [u32],
+) -> Outcome
+    requires { ⌜ Mesh n (now mesh) ⌝ }
+    requires { ⌜ Statuses (now status) × (length (now status) ≤ 128) ⌝ }
+    requires { ⌜ TableRoom (now status) (now rows) (now ps) (now qs) ⌝ }
+    ensures { λ r. ⌜ Examined n (fours (was mesh)) (was status) (is rows) (is ps) (is qs) (r .refusal) (r .cells) (r .levels) (r .mids) ⌝ }
+{
+    let mut xs = [0u32; 96];
+    let mut ys = [0u32; 96];
+    let mut heads = [65535u16; 5120];
+    let mut links = [0u16; 96];
+    let mut mid_heads = [65535u16; 4096];
+    let mut mid_links = [0u16; 128];
+    build(
+        mesh,
+        status,
+        n,
+        rows,
+        ps,
+        qs,
+        &mut xs,
+        &mut ys,
+        &mut heads,
+        &mut links,
+        &mut mid_heads,
+        &mut mid_links,
+    )
 }
 
 // Builds and examines a table of at most 512 statuses, with small tables for the work.
@@ -228,7 +267,9 @@ fn examine_few(
 {
     let mut xs = [0u32; 384];
     let mut ys = [0u32; 384];
+    let mut heads = [65535u16; 5120];
     let mut links = [0u16; 384];
+    let mut mid_heads = [65535u16; 4096];
     let mut mid_links = [0u16; 512];
     build(
         mesh,
@@ -239,7 +280,9 @@ fn examine_few(
         qs,
         &mut xs,
         &mut ys,
+        &mut heads,
         &mut links,
+        &mut mid_heads,
         &mut mid_links,
     )
 }
@@ -260,7 +303,9 @@ fn examine_many(
 {
     let mut xs = [0u32; 3072];
     let mut ys = [0u32; 3072];
+    let mut heads = [65535u16; 5120];
     let mut links = [0u16; 3072];
+    let mut mid_heads = [65535u16; 4096];
     let mut mid_links = [0u16; 4096];
     build(
         mesh,
@@ -271,7 +316,9 @@ fn examine_many(
         qs,
         &mut xs,
         &mut ys,
+        &mut heads,
         &mut links,
+        &mut mid_heads,
         &mut mid_links,
     )
 }
@@ -295,6 +342,9 @@ pub fn examine(
     }
     if !rows::fits(status) {
         return refused(6);
+    }
+    if status.len() <= 128 {
+        return examine_least(mesh, status, n, rows, ps, qs);
     }
     if status.len() <= 512 {
         return examine_few(mesh, status, n, rows, ps, qs);

@@ -32,21 +32,19 @@ returns-2 c =
     (unsound-status (a .n) (fours (a .mesh .now)) (a .status .now) (sym (c .before .before .fits2 .ensures)
     ∙ not-true _ (c .before .if2 .taken)))
 
-examine-few-requires : tie.Need-examine-few-requires
-examine-few-requires c κs = (
+examine-least-requires : tie.Need-examine-least-requires
+examine-least-requires c κs = (
   c .before .before .before .before .before .before .before .before .before .before .before .before .pre .0,
   (
     (
       record {
         few = c .before .before .before .before .before .before .if1 .left;
-        fit = sym (c .before .before .before .before .before
-            .fits2 .ensures) ∙ not-false _ (c .before .before .before .before .if2 .left);
+        fit = sym (c .before .before .before .before .before .fits2 .ensures) ∙ not-false _ (c .before .before .before .before .if2 .left);
       },
       c .before .before .before .if3 .taken,
     ),
-    c .before
-        .before .before .before .before .before .before .before .before .before .before .before .pre .1 (c .before .before .before .before
-        .before .before .if1 .left),
+    c .before .before .before .before .before .before .before .before .before .before .before .before .pre .1 (c .before .before .before
+        .before .before .before .if1 .left),
   ),
 )
 
@@ -62,17 +60,20 @@ same-length-3 c = search needs
 returns-3 : tie.Need-returns-3
 returns-3 c = search needs
 
-examine-many-requires : tie.Need-examine-many-requires
-examine-many-requires c κs = (
-  c .before .before .before .before .before .before .before .before .before .before .before .before .pre .0,
+examine-few-requires : tie.Need-examine-few-requires
+examine-few-requires c κs = (
+  c .before .before .before .before .before .before .before .before .before .before .before .before .before .pre .0,
   (
-    record {
-      few = c .before .before .before .before .before .before .if1 .left;
-      fit = sym (c .before .before .before .before .before
-          .fits2 .ensures) ∙ not-false _ (c .before .before .before .before .if2 .left);
-    },
-    c .before .before .before .before .before .before
-        .before .before .before .before .before .before .pre .1 (c .before .before .before .before .before .before .if1 .left),
+    (
+      record {
+        few = c .before .before .before .before .before .before .before .if1 .left;
+        fit = sym (c .before .before .before .before .before .before .fits2 .ensures) ∙ not-false _ (c .before .before .before .before
+            .before .if2 .left);
+      },
+      c .before .before .before .if4 .taken,
+    ),
+    c .before .before .before .before .before .before .before .before .before .before .before .before .before .pre .1 (c .before .before
+        .before .before .before .before .before .if1 .left),
   ),
 )
 
@@ -88,6 +89,32 @@ same-length-6 c = search needs
 returns-4 : tie.Need-returns-4
 returns-4 c = search needs
 
+examine-many-requires : tie.Need-examine-many-requires
+examine-many-requires c κs = (
+  c .before .before .before .before .before .before .before .before .before .before .before .before .before .pre .0,
+  (
+    record {
+      few = c .before .before .before .before .before .before .before .if1 .left;
+      fit = sym (c .before .before .before .before .before .before .fits2 .ensures) ∙ not-false _ (c .before .before .before .before
+          .before .if2 .left);
+    },
+    c .before .before .before .before .before .before .before .before .before .before .before .before .before .pre .1 (c .before .before
+        .before .before .before .before .before .if1 .left),
+  ),
+)
+
+same-length-7 : tie.Need-same-length-7
+same-length-7 c = search needs
+
+same-length-8 : tie.Need-same-length-8
+same-length-8 c = search needs
+
+same-length-9 : tie.Need-same-length-9
+same-length-9 c = search needs
+
+returns-5 : tie.Need-returns-5
+returns-5 c = search needs
+
 pub examine-spec : {M : Type 1} → statement M
 examine-spec =
     tie.close
@@ -97,13 +124,18 @@ examine-spec =
     fits-requires
     refused-requires-2
     returns-2
-    examine-few-requires
+    examine-least-requires
     same-length
     same-length-2
     same-length-3
     returns-3
-    examine-many-requires
+    examine-few-requires
     same-length-4
     same-length-5
     same-length-6
-    returns-4)
+    returns-4
+    examine-many-requires
+    same-length-7
+    same-length-8
+    same-length-9
+    returns-5)
