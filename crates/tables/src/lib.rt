@@ -231,9 +231,9 @@ fn examine_least(
 {
     let mut xs = [0u32; 96];
     let mut ys = [0u32; 96];
-    let mut heads = [65535u16; 5120];
+    let mut heads = [65535u16; 2048];
     let mut links = [0u16; 96];
-    let mut mid_heads = [65535u16; 4096];
+    let mut mid_heads = [65535u16; 1024];
     let mut mid_links = [0u16; 128];
     build(
         mesh,

@@ -36,7 +36,7 @@ build-requires c κs =
             record { in-xs = omega (arith, p .1 .0 .1); in-ys = omega (arith, p .1 .0 .1); in-links = omega (arith, p .1 .0 .1) },
             omega (arith, p .1 .0 .1),
           ),
-          (clear-new 5120 (omega arith), clear-new 4096 (omega arith)),
+          (clear-new 2048 (omega arith), clear-new 1024 (omega arith)),
         ),
       ),
     )
