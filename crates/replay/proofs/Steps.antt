@@ -13,7 +13,7 @@ use Rattle.base.specs.Fours.{fours}
 use Rattle.base.specs.Refuse.{refuse, answerOf}
 use Rattle.mesh.specs.Table.{levelsOf}
 use Rattle.mesh.specs.Answers.{marksb, newTable}
-use Rattle.step.specs.Advanced.{Advanced}
+use Rattle.advance.specs.Advanced.{Advanced}
 use Rattle.replay.specs.Run.{spread, oneAnswer, oneTable}
 use Rattle.replay.specs.Scan.{Spread, Fitting}
 use Rattle.replay.specs.Going.{ReplayGoing, Stepped}

@@ -18,7 +18,7 @@ use Rattle.base.specs.declared.Answer.{Answer}
 use Rattle.mesh.specs.Coarse.{cornerCount, meshAnswer}
 use Rattle.mesh.specs.Table.{levelsOf, soundb}
 use Rattle.mesh.specs.Answers.{newTable, limitsAnswer}
-use Rattle.step.specs.Advanced.{Held}
+use Rattle.advance.specs.Advanced.{Held}
 use Rattle.archive.specs.Tables.{stepsFrom, stepsOf}
 use Rattle.replay.specs.Run.{oneAnswer, oneTable, runTable, restTable, flatAnswer, tablesAnswer}
 

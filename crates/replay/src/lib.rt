@@ -112,7 +112,7 @@ fn next_step(
         return tables::refused(7);
     }
     let spread = &spread_marks[..];
-    let r = step::advance(
+    let r = advance::advance(
         mesh,
         n,
         rows,

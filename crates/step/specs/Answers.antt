@@ -17,7 +17,7 @@ use Rattle.mesh.specs.Coarse.{cornerCount}
 use Rattle.mesh.specs.Answers.{tableAnswer, markb, marksb, limitsAnswer}
 use Rattle.layout.specs.Opened.{Fits}
 use Rattle.step.specs.Calls.{stepAnswer, steppedOf}
-use Rattle.step.specs.Advanced.{Held}
+use Rattle.advance.specs.Advanced.{Held}
 use Rattle.step.specs.declared.Stepped.the-variants as stepped
 
 module _ (ps : List ℤ) (ts ss ms table : List ℕ) where

@@ -17,7 +17,7 @@ use Rattle.base.specs.declared.Answer.the-variants.{Accepted, Refused}
 use Rattle.mesh.specs.Coarse.{cornerCount}
 use Rattle.mesh.specs.Answers.{tableAnswer, marksb, newTable, limitsAnswer}
 use Rattle.step.specs.Calls.{stepAnswer, steppedOf}
-use Rattle.step.specs.Advanced.{Held, Advanced}
+use Rattle.advance.specs.Advanced.{Held, Advanced}
 use Rattle.step.specs.Answers.{step-table, step-marks, step-limits, marks-many}
 use Rattle.step.specs.declared.Stepped.the-variants as stepped
 

@@ -1,18 +1,15 @@
 // One step of the multilevel red/green method.
 use tables::Outcome;
 ghost use mathlib.Core.Path.{_≡_};
-ghost use Prim.Native.Nat.{_+_, _*_, _≤_, _<_};
+ghost use Prim.Native.Nat.{_≤_};
 ghost use lib.ListN.{length};
 ghost use Rattle.base.specs.Fours.{fours};
-ghost use Rattle.cutting.specs.Answer.{digitTable};
 ghost use Rattle.mesh.specs.Coarse.{cornerCount};
 ghost use Rattle.base.specs.Refuse.{heldAfter, answerOf};
 ghost use Rattle.tables.specs.Room.{TableRoom};
 ghost use Rattle.base.specs.Lent.{was, is};
 ghost use Rattle.mesh.specs.Answers.{markb, marksb, newTable};
 ghost use Rattle.step.specs.Calls.{stepAnswer, steppedOf};
-ghost use Rattle.step.specs.Deep.{deepAt, deepFrom, Decided};
-ghost use Rattle.step.specs.Advanced.{Held, AdvanceRoom, Advanced};
 ghost use Rattle.step.specs.Within.{StepBegun, StepsIn};
 
 pub enum Stepped {
@@ -48,107 +45,6 @@ pub fn marks_fit(status: &[u8], marks: &[u8]) -> bool
         c += 1;
     }
     true
-}
-
-// Whether a cell of level 10 will be red.
-fn too_deep(rows: &[u16], red: &[u8], cells: usize) -> bool
-    requires { ⌜ (8 * cells ≤ length (now rows)) × (cells ≤ length (now red)) ⌝ }
-    ensures { λ r. ⌜ r ≡ deepFrom (was rows) (was red) 0 cells ⌝ }
-{
-    let mut c = 0;
-    while c < cells {
-        if is_deep(rows, red, c) {
-            return true;
-        }
-        c += 1;
-    }
-    false
-}
-
-// Whether the cell c is on level 10 and will be red.
-fn is_deep(rows: &[u16], red: &[u8], c: usize) -> bool
-    requires { ⌜ (8 * c + 8 ≤ length (now rows)) × (c < length (now red)) ⌝ }
-    ensures { λ r. ⌜ r ≡ deepAt (was rows) (was red) c ⌝ }
-{
-    if red[c] != 64 {
-        return false;
-    }
-    rows[8 * c] == 10
-}
-
-// The refusal of a step: 9 gives way to 8 where a cell of level 10 will be red.
-fn decided(refusal: u8, deep: bool) -> u8
-    ensures { λ r. ⌜ Decided deep refusal r ⌝ }
-{
-    if refusal != 9 {
-        return refusal;
-    }
-    if deep {
-        return 8;
-    }
-    9
-}
-
-// The work of a step, on a sound table with its rows and marks that fit it: the new statuses in `table`, the rows of the new cells in
-// place of the old ones, and the ends of the new corners. Nothing is examined here. The tables from xs to red are for the work, whatever
-// they hold, and `digits` is the cutting table. Refusals 8 and 9; beside one, the rows hold anything.
-pub fn advance(
-    mesh: &[u16],
-    n: usize,
-    rows: &mut [u16],
-    status: &[u8],
-    marks: &[u8],
-    ps: &mut [u32],
-    qs: &mut [u32],
-    table: &mut [u8],
-    xs: &mut [u32],
-    ys: &mut [u32],
-    links: &mut [u16],
-    mid_links: &mut [u16],
-    old: &mut [u16],
-    kids: &mut [u16],
-    red: &mut [u8],
-    digits: &[u8],
-    most: usize,
-) -> Outcome
-    requires { ⌜ Held n (now mesh) (now rows) (now status) ⌝ }
-    requires { ⌜ length (now marks) ≡ length (now status) ⌝ }
-    requires { ⌜ now digits ≡ digitTable ⌝ }
-    requires { ⌜ AdvanceRoom most (now status) (now rows) (now ps) (now qs) (now table) (now xs) (now ys) (now links) (now «mid_links»)
-        (now old) (now kids) (now red) ⌝ }
-    ensures { λ r. ⌜ Advanced most n (was mesh) (was status) (was marks) (is rows) (is ps) (is qs) (is table) (r .refusal) (r .cells)
-        (r .levels) (r .mids) ⌝ }
-{
-    let k = status.len();
-    reds::first_children(status, mesh.len() / 4, kids);
-    reds::new_reds(mesh, n, rows, status, marks, kids, red, xs, ys, links);
-    let deep = too_deep(rows, red, k);
-    let r = renew::renew(
-        mesh,
-        n,
-        status,
-        kids,
-        &red[..k],
-        rows,
-        ps,
-        qs,
-        table,
-        xs,
-        ys,
-        links,
-        mid_links,
-        old,
-        digits,
-        most,
-    );
-    let refusal = decided(r.refusal, deep);
-    Outcome {
-        refusal,
-        coarse: r.coarse,
-        cells: r.cells,
-        levels: r.levels,
-        mids: r.mids,
-    }
 }
 
 // Opens the table and looks at the marks: refusals 1 to 7, else 0.
@@ -201,7 +97,7 @@ fn step_few(
     let mut kids = [0u16; 513];
     let mut red = [0u8; 512];
     let digits = cutting::digit_table();
-    let r = advance(
+    let r = advance::advance(
         cells,
         positions.len() / 3,
         &mut rows,
@@ -254,7 +150,7 @@ fn step_many(
     let mut kids = [0u16; 4097];
     let mut red = [0u8; 4096];
     let digits = cutting::digit_table();
-    let r = advance(
+    let r = advance::advance(
         cells,
         positions.len() / 3,
         &mut rows,

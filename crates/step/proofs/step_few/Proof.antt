@@ -10,7 +10,7 @@ use Rattle.step.proofs.step_few.Reads as reads
 use Rattle.step.proofs.step_few.Lts as lts
 use Rattle.base.proofs.copy_bytes.Reads as copy-bytes-reads
 use Rattle.cutting.proofs.digit_table.Reads as digit-table-reads
-use Rattle.step.proofs.advance.Reads as advance-reads
+use Rattle.advance.proofs.advance.Reads as advance-reads
 use Rattle.step.proofs.begin.Reads as begin-reads
 use Rattle.tables.proofs.refused.Reads as refused-reads
 

@@ -3,7 +3,7 @@
 use mathlib.Core.Path.{_≡_}
 use native.Mathlib.Omega.{arith}
 use Rattle.step.specs.Within.{within-refused, within-limits, within-done, advanced-inside}
-use Rattle.step.proofs.Work.{held-statuses}
+use Rattle.advance.specs.Advanced.{held-statuses}
 use borrow.Author.Needs.{needs}
 use Rattle.step.proofs.step_many.Statement.{statement}
 use Rattle.step.proofs.step_many.Tie as tie
@@ -11,7 +11,7 @@ use Rattle.step.proofs.step_many.Reads as reads
 use Rattle.step.proofs.step_many.Lts as lts
 use Rattle.base.proofs.copy_bytes.Reads as copy-bytes-reads
 use Rattle.cutting.proofs.digit_table.Reads as digit-table-reads
-use Rattle.step.proofs.advance.Reads as advance-reads
+use Rattle.advance.proofs.advance.Reads as advance-reads
 use Rattle.step.proofs.begin.Reads as begin-reads
 use Rattle.tables.proofs.refused.Reads as refused-reads
 

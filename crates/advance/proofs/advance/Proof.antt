@@ -1,20 +1,21 @@
--- `step::advance` meets its contract: each part asks for what the table that is held gives, and their results come to the step's.
+-- `advance::advance` meets its contract: each part asks for what the table that is held gives, and their results come to the step's.
 -- Assumes nothing.
 use mathlib.Core.Path.{refl, sym, _∙_}
 use native.Mathlib.Omega.{arith}
 use lib.ListN.{length}
 use lib.Seq.{length-take-le}
-use Rattle.step.proofs.Work.{room-same, held-statuses, held-coarse, held-kids, held-marked, advanced}
+use Rattle.advance.specs.Advanced.{held-statuses}
+use Rattle.advance.proofs.Work.{room-same, held-coarse, held-kids, held-marked, advanced}
 use borrow.Author.Needs.{needs}
-use Rattle.step.proofs.advance.Statement.{statement}
-use Rattle.step.proofs.advance.Tie as tie
-use Rattle.step.proofs.advance.Reads as reads
-use Rattle.step.proofs.advance.Lts as lts
+use Rattle.advance.proofs.advance.Statement.{statement}
+use Rattle.advance.proofs.advance.Tie as tie
+use Rattle.advance.proofs.advance.Reads as reads
+use Rattle.advance.proofs.advance.Lts as lts
 use Rattle.reds.proofs.first_children.Reads as first-children-reads
 use Rattle.reds.proofs.new_reds.Reads as new-reds-reads
 use Rattle.renew.proofs.renew.Reads as renew-reads
-use Rattle.step.proofs.decided.Reads as decided-reads
-use Rattle.step.proofs.too_deep.Reads as too-deep-reads
+use Rattle.advance.proofs.decided.Reads as decided-reads
+use Rattle.advance.proofs.too_deep.Reads as too-deep-reads
 
 first-children-requires : tie.Need-first-children-requires
 first-children-requires c κs = let a = c .before .before .before .before .before .before .before .before .before .before .before .before

@@ -2,14 +2,19 @@
 --   Held n mesh rows ss   an accepted mesh of n corners and a sound table over it, with the rows of its cells
 --   AdvanceRoom most ..   tables with room for a table ss and for `most` new cells
 --   Advanced ..           the answer, and where there is no refusal the new table, with its rows and the ends of its corners
+-- Law: held-statuses (the statuses of a held table).
 use mathlib.Core.Path.{_≡_}
 use mathlib.Core.List.{List}
 use Prim.Native.Nat.{ℕ, _*_, _≤_, _<_}
 use lib.Dec.{T}
 use lib.ListN.{length, take}
+use Rattle.base.specs.Bools.{is-true}
 use Rattle.base.specs.Fours.{fours}
 use Rattle.mesh.specs.Table.{soundb}
 use Rattle.mesh.specs.Layout.{cellTable}
+use Rattle.counting.specs.Levels.{Levels}
+use Rattle.counting.specs.Sound as counting
+use Rattle.tables.specs.Checked.{Statuses}
 use Rattle.tables.specs.Sound.{Mesh, LaidSound, tableCells, examinedCorners}
 use Rattle.renew.specs.RenewRoom.{RenewRoom}
 use Rattle.base.specs.Refuse.{answerOf}
@@ -39,3 +44,9 @@ pub record Advanced (most n : ℕ) (mesh ss ms rows ps qs table : List ℕ) (ref
   pub table-is : refusal ≡ 0 → take cells table ≡ newTable n (fours mesh) ss ms
   pub held : refusal ≡ 0 → Held n mesh rows (newTable n (fours mesh) ss ms)
   pub laid : refusal ≡ 0 → LaidSound n (fours mesh) (newTable n (fours mesh) ss ms) rows ps qs cells levels mids
+
+-- a held table has few statuses, and each fits
+pub held-statuses : (n : ℕ) (mesh rows ss : List ℕ) → Held n mesh rows ss → Statuses ss
+held-statuses n mesh rows ss h =
+    let l : Levels ss (length (fours mesh)) = counting.sound-counted n (fours mesh) ss (is-true (soundb n (fours mesh) ss) (h .sound)) in
+    record { few = l .small; fit = l .statuses }

@@ -19,7 +19,7 @@ use Rattle.mesh.specs.Step.{rows}
 use Rattle.lineage.specs.Olds.{flags, flagsOf, flagTable}
 use Rattle.lineage.specs.Flags.{length-rows}
 use Rattle.tables.specs.Rising.{deepb, deep-next, deep-coarse}
-use Rattle.step.specs.Deep.{deepFrom}
+use Rattle.advance.specs.Deep.{deepFrom}
 
 unfoldable deepIn : List (Cell Point) → List ℕ → Bool
 deepIn [] fs = false

@@ -1,10 +1,10 @@
--- `step::is_deep` meets its contract.
+-- `advance::is_deep` meets its contract.
 -- Assumes nothing.
 use native.Mathlib.Omega.{arith}
 use borrow.Author.Needs.{needs}
-use Rattle.step.proofs.Marks.{deep-no, deep-red}
-use Rattle.step.proofs.is_deep.Statement.{statement}
-use Rattle.step.proofs.is_deep.Tie as tie
+use Rattle.advance.proofs.Scan.{deep-no, deep-red}
+use Rattle.advance.proofs.is_deep.Statement.{statement}
+use Rattle.advance.proofs.is_deep.Tie as tie
 
 shared-slice-read-if1 : tie.Need-shared-slice-read-if1
 shared-slice-read-if1 c = search needs

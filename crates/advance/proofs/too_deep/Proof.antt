@@ -1,13 +1,13 @@
--- `step::too_deep` meets its contract: the rest of the cells decides as the whole does. The measure is what is left of it.
+-- `advance::too_deep` meets its contract: the rest of the cells decides as the whole does. The measure is what is left of it.
 -- Assumes nothing.
 use mathlib.Core.Path.{_≡_, sym, _∙_}
 use Prim.Native.Nat.{_-_, _≤_}
 use native.Mathlib.Omega.{arith}
 use borrow.Author.Needs.{needs}
-use Rattle.step.specs.Deep.{deepFrom}
-use Rattle.step.proofs.Marks.{deep-next, deep-hit, deep-end}
-use Rattle.step.proofs.too_deep.Statement.{statement}
-use Rattle.step.proofs.too_deep.Tie as tie
+use Rattle.advance.specs.Deep.{deepFrom}
+use Rattle.advance.proofs.Scan.{deep-next, deep-hit, deep-end}
+use Rattle.advance.proofs.too_deep.Statement.{statement}
+use Rattle.advance.proofs.too_deep.Tie as tie
 
 abbrev Inv-loop : tie.InvT-loop
 Inv-loop rows red cells c₀ c = (c ≤ cells) × (deepFrom rows red c (cells - c) ≡ deepFrom rows red 0 cells)

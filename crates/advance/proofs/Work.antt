@@ -10,22 +10,17 @@ use lib.Dec.{leb}
 use lib.ListN.{length, getD, take, List·getD-append}
 use lib.Seq.{take-at}
 use borrow.Author.Tests.{le-leb, lt-leb}
-use Rattle.base.specs.Bools.{is-true}
 use Rattle.base.specs.Fours.{fours, length-fours}
 use Rattle.base.specs.Refuse.{refuse, answerOf, answer-none}
 use Rattle.base.specs.declared.Answer.the-variants.{Accepted, Refused}
-use Rattle.mesh.specs.Table.{soundb}
 use Rattle.mesh.specs.Step.{stepTable}
 use Rattle.lattice.specs.Levels as lattice
-use Rattle.counting.specs.Levels.{Levels}
-use Rattle.counting.specs.Sound as counting
 use Rattle.ancestors.specs.Table.{table-level}
 use Rattle.lineage.specs.Olds.{flagTable, stepBy}
 use Rattle.lineage.specs.Step.{step-by}
 use Rattle.lineage.specs.Deep.{deep}
 use Rattle.mesh.specs.Cells.{noCell}
 use Rattle.soundness.specs.Steady.{step-sound}
-use Rattle.tables.specs.Checked.{Statuses}
 use Rattle.tables.specs.Sound.{LaidSound, tableCells, examinedCorners}
 use Rattle.reds.specs.Flags.{firstChildren}
 use Rattle.reds.specs.Old.{Marked}
@@ -35,9 +30,9 @@ use Rattle.renew.specs.RenewRoom.{RenewRoom}
 use Rattle.renew.specs.Result.{Result, renewed}
 use Rattle.mesh.specs.Answers.{newTable, limitsAnswer}
 use Rattle.mesh.specs.Laws.{sound-count}
-use Rattle.step.specs.Deep.{deepFrom, Decided}
-use Rattle.step.specs.Advanced.{Held, Advanced}
-use Rattle.step.proofs.TopLevel.{flags-long, deep-scan}
+use Rattle.advance.specs.Deep.{deepFrom, Decided}
+use Rattle.advance.specs.Advanced.{Held, Advanced}
+use Rattle.advance.proofs.TopLevel.{flags-long, deep-scan}
 
 -- tables that are as long as they were have room
 pub room-same : {most : ℕ} {rows ps qs table xs ys links links′ old rows₁ ps₁ qs₁ xs₁ ys₁ links₁ : List ℕ}
@@ -76,12 +71,6 @@ module _ (n : ℕ) (qs : List (List ℕ)) (ss ms : List ℕ) where
 module _ (n : ℕ) (mesh rows ss : List ℕ) (h : Held n mesh rows ss) where
   abbrev qs : List (List ℕ)
   qs = fours mesh
-
-  levels : Levels ss (length qs)
-  levels = counting.sound-counted n qs ss (is-true (soundb n qs ss) (h .sound))
-
-  pub held-statuses : Statuses ss
-  held-statuses = record { few = levels .small; fit = levels .statuses }
 
   pub held-coarse : length mesh / 4 ≤ 256
   held-coarse = omega (arith, h .accepted .few)

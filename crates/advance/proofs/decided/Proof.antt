@@ -1,10 +1,10 @@
--- `step::decided` meets its contract.
+-- `advance::decided` meets its contract.
 -- Assumes nothing.
 use mathlib.Core.Path.{refl}
 use native.Mathlib.Omega.{arith}
 use Rattle.base.specs.Bools.{not-both}
-use Rattle.step.proofs.decided.Statement.{statement}
-use Rattle.step.proofs.decided.Tie as tie
+use Rattle.advance.proofs.decided.Statement.{statement}
+use Rattle.advance.proofs.decided.Tie as tie
 
 returns : tie.Need-returns
 returns c = record { over = λ e d. absurd (c .if1 .taken e); kept = λ h. refl }

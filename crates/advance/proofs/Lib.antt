@@ -1,0 +1,3 @@
+pub mod Scan
+pub mod TopLevel
+pub mod Work
