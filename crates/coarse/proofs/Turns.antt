@@ -19,7 +19,7 @@ use Rattle.coarse.proofs.Repeats.{cells, twice-none, twice-some}
 use Rattle.coarse.proofs.Crowds.{crowd-none, crowd-some}
 
 -- tables of zeros, with no entry
-pub fresh : (heads : List ℕ) → length heads ≡ 4096 → Tables (replicate 1024 0) (replicate 1024 0) heads (replicate 1024 0)
+pub fresh : (heads : List ℕ) → length heads ≡ 1024 → Tables (replicate 1024 0) (replicate 1024 0) heads (replicate 1024 0)
     (replicate 1024 0)
 fresh heads e =
     let l : length {A = ℕ} (replicate 1024 0) ≡ 1024 = length-replicate {A = ℕ} 1024 0 in

@@ -31,7 +31,7 @@ times xs ys counts n x y = getD counts (seek xs ys x y 0 n) 0
 pub record Tables (xs ys heads links counts : List ℕ) : Type 0 where
   pub in-xs : 1024 ≤ length xs
   pub in-ys : 1024 ≤ length ys
-  pub in-heads : 4096 ≤ length heads
+  pub in-heads : 1024 ≤ length heads
   pub in-links : 1024 ≤ length links
   pub in-counts : 1024 ≤ length counts
   pub short : length counts ≤ 65535

@@ -186,7 +186,7 @@ struct Counted {
 fn tally(
     xs: &mut [u32; 1024],
     ys: &mut [u32; 1024],
-    heads: &mut [u16; 4096],
+    heads: &mut [u16; 1024],
     links: &mut [u16; 1024],
     counts: &mut [u8; 1024],
     n: usize,
@@ -219,7 +219,7 @@ fn cells_differ(
     cells: &[u16],
     xs: &mut [u32; 1024],
     ys: &mut [u32; 1024],
-    heads: &mut [u16; 4096],
+    heads: &mut [u16; 1024],
     links: &mut [u16; 1024],
     counts: &mut [u8; 1024],
 ) -> bool
@@ -283,7 +283,7 @@ fn faces_ok(
     cells: &[u16],
     xs: &mut [u32; 1024],
     ys: &mut [u32; 1024],
-    heads: &mut [u16; 4096],
+    heads: &mut [u16; 1024],
     links: &mut [u16; 1024],
     counts: &mut [u8; 1024],
 ) -> bool
@@ -313,7 +313,7 @@ fn single(cells: &[u16]) -> bool
 {
     let mut xs = [0u32; 1024];
     let mut ys = [0u32; 1024];
-    let mut heads = [65535u16; 4096];
+    let mut heads = [65535u16; 1024];
     let mut links = [0u16; 1024];
     let mut counts = [0u8; 1024];
     if !cells_differ(cells, &mut xs, &mut ys, &mut heads, &mut links, &mut counts) {

@@ -78,7 +78,8 @@ module _ (w : ℕ) (xs ys : List ℕ) (x y from : ℕ) where
   latest-on zero h = empty
   latest-on (suc m) h = go (eqb (bucket w (getD xs m 0) (getD ys m 0)) (bucket w x y)) refl (latest-on m (omega arith))
     where
-      go : (t : Bool) → eqb (bucket w (getD xs m 0) (getD ys m 0)) (bucket w x y) ≡ t → On w xs ys x y from m (latest w xs ys (bucket w x y) m)
+      go : (t : Bool) → eqb (bucket w (getD xs m 0) (getD ys m 0)) (bucket w x y) ≡ t
+          → On w xs ys x y from m (latest w xs ys (bucket w x y) m)
           → On w xs ys x y from (suc m) (cond t m (latest w xs ys (bucket w x y) m))
       go true t o = here m (omega arith) (eqb-true (bucket w (getD xs m 0) (getD ys m 0)) (bucket w x y) t)
       go false t o =

@@ -173,7 +173,8 @@ module _ (xs ys heads links : List ℕ) (n x y : ℕ) (k : Keys xs ys heads link
                 in-heads = omega (arith, k .in-heads);
                 heads-right = λ b h.
                     let m : b < v = rw l at h in
-                    rw l (noted-below (set heads (bucket v x y) n) n x y b (rw same-heads m) ∙ heads-added b m (ℕ-discrete b (bucket v x y)));
+                    rw l
+                    (noted-below (set heads (bucket v x y) n) n x y b (rw same-heads m) ∙ heads-added b m (ℕ-discrete b (bucket v x y)));
                 links-right = λ e h. rw l (links-added e h (ℕ-discrete e n));
                 spots-right = λ m s h. rw l (spots-added (rw l at m) s h);
               });

@@ -13,7 +13,7 @@ use Rattle.coarse.proofs.single.Tie as tie
 cells-differ-requires : tie.Need-cells-differ-requires
 cells-differ-requires c κs = (
   c .before .before .before .before .before .before .pre,
-  (fresh (replicate 4096 65535) (length-replicate {A = ℕ} 4096 65535), clear-new 4096 (omega arith)),
+  (fresh (replicate 1024 65535) (length-replicate {A = ℕ} 1024 65535), clear-new 1024 (omega arith)),
 )
 
 returns : tie.Need-returns
