@@ -4,7 +4,8 @@ ghost use mathlib.Core.Path.{_≡_};
 ghost use Prim.Native.Nat.{_-_, _<_};
 ghost use Rattle.base.specs.Places.{hasb};
 ghost use Rattle.base.specs.Lent.{was, is};
-ghost use Rattle.pairs.specs.Keys.{Room, Probed};
+ghost use Rattle.pairs.specs.Keys.{Room};
+ghost use Rattle.probing.specs.Probed.{Probed};
 ghost use Rattle.edges.specs.Pairs.{sorted, isb};
 ghost use Rattle.edges.specs.Table.{listed, Table, Edges, Inserted, Unmet};
 ghost use mathlib.Core.Bool.{false};
@@ -66,7 +67,7 @@ pub fn probe(
     ensures { λ r. ⌜ Probed (hasb isb (listed (was xs) (was ys) from n) (sorted (a, b))) r ⌝ }
 {
     let e = sorted_ends(a, b);
-    pairs::probe(xs, ys, heads, links, from, n, e.low, e.high)
+    probing::probe(xs, ys, heads, links, from, n, e.low, e.high)
 }
 
 // Whether an edge from `from` on may have the corner a. Where none may, none has.

@@ -1,3 +1,1 @@
-mod Chain
 mod More
-mod Units

@@ -10,7 +10,6 @@
 --   Keys xs ys heads links n   the table is in order, with n entries; callers hand it on and look at no field
 --   Room xs ys links n         one entry more has room
 --   Clear heads                no bucket has an entry; clear-new: 65535 throughout
---   Probed held r              what one look says: 0 where the pair is not there, 1 where it is, 2 where it has to be searched
 --   Added xs ys n x y ..       what adding the pair x, y as the entry n leaves
 --   Without xs ys from n x     no entry from `from` to n has the number x
 --   Found xs ys x y from m e   e is one of the m entries from `from` on, and it is the pair x, y
@@ -119,11 +118,6 @@ clear-new k h =
 pub record Without (xs ys : List ℕ) (from n x : ℕ) : Type 0 where
   pub first : (e : ℕ) → from ≤ e → e < n → getD xs e 0 ≡ x → ⊥
   pub second : (e : ℕ) → from ≤ e → e < n → getD ys e 0 ≡ x → ⊥
-
-pub record Probed (held : Bool) (r : ℕ) : Type 0 where
-  pub small : r ≤ 2
-  pub none : r ≡ 0 → held ≡ false
-  pub here : r ≡ 1 → held ≡ true
 
 pub record Added (xs ys : List ℕ) (n x y : ℕ) (xs′ ys′ heads′ links′ : List ℕ) : Type 0 where
   pub xs-is : xs′ ≡ set xs n x

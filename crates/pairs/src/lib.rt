@@ -3,13 +3,11 @@
 // 65535 stands for no entry. There are 4,096 buckets, or 1,024 where the heads are fewer than 4,096. Where there are 1,024 spots behind the
 // buckets, each has the last entry with a number that lies in it.
 ghost use mathlib.Core.Path.{_≡_};
-ghost use Prim.Native.Nat.{_+_, _-_, _*_, _<_, _≤_};
+ghost use Prim.Native.Nat.{_+_, _-_, _<_, _≤_};
 ghost use lib.ListN.{length};
 ghost use Rattle.base.specs.Lent.{was, is};
-ghost use mathlib.Core.Bool.{false, not};
-ghost use lib.Dec.{eqb};
-ghost use Rattle.base.specs.Bools.{one-if};
-ghost use Rattle.pairs.specs.Keys.{bucketsOf, bucket, spotOf, noted, hereb, seek, Keys, Room, Clear, Probed, Added, Without};
+ghost use mathlib.Core.Bool.{false};
+ghost use Rattle.pairs.specs.Keys.{bucketsOf, bucket, spotOf, noted, hereb, seek, Keys, Room, Clear, Added, Without};
 
 // How many buckets so many heads are for.
 fn buckets_of(k: usize) -> usize
@@ -22,7 +20,7 @@ fn buckets_of(k: usize) -> usize
 }
 
 // The bucket that the pair lies in, of those of k heads.
-fn bucket_of(k: usize, x: u32, y: u32) -> usize
+pub fn bucket_of(k: usize, x: u32, y: u32) -> usize
     requires { ⌜ 1024 ≤ k ⌝ }
     ensures { λ r. ⌜ (r ≡ bucket (bucketsOf k) x y) × (r < bucketsOf k) × (r < k) ⌝ }
 {
@@ -76,60 +74,6 @@ pub fn find(
         e = links[i];
     }
     65535
-}
-
-fn one(b: bool) -> usize
-    ensures { λ r. ⌜ (r ≡ one-if b) × (r ≤ 1) ⌝ }
-{
-    if b { 1 } else { 0 }
-}
-
-// 1 where entry e is the pair, else 0.
-fn same_at(xs: &[u32], ys: &[u32], e: usize, x: u32, y: u32) -> usize
-    requires { ⌜ (e < length (now xs)) × (e < length (now ys)) ⌝ }
-    ensures { λ r. ⌜ r ≡ one-if (hereb (was xs) (was ys) x y e) ⌝ }
-{
-    one(xs[e] == x) * one(ys[e] == y)
-}
-
-// The entry k - 1 where there is one, else 0.
-fn entry_or_first(there: usize, k: usize) -> usize
-    requires { ⌜ (there ≤ 1) × (there ≤ k) × (k < 65536) ⌝ }
-    ensures { λ r. ⌜ (there ≡ 0 → r ≡ 0) × (there ≡ 1 → r + 1 ≡ k) ⌝ }
-{
-    there * k - there
-}
-
-// 0 where there is no entry or it is the last one and another pair, 1 where it is the pair, else 2.
-fn verdict(there: usize, same: usize, more: usize) -> usize
-    requires { ⌜ (there ≤ 1) × (same ≤ 1) × (more ≤ 1) ⌝ }
-    ensures { λ r. ⌜ (there ≡ 0 → r ≡ 0) × (there ≡ 1 → same ≡ 1 → r ≡ 1) × (there ≡ 1 → same ≡ 0 → r ≡ 2 * more) ⌝ }
-{
-    there * (same + 2 * (1 - same) * more)
-}
-
-// One look for the pair among the entries from `from` on: 0 where it is not there, 1 where it is, 2 where a search must tell. There is no
-// branch in it: on large meshes a processor guesses wrong whether a bucket is empty.
-pub fn probe(
-    xs: &[u32],
-    ys: &[u32],
-    heads: &[u16],
-    links: &[u16],
-    from: usize,
-    n: usize,
-    x: u32,
-    y: u32,
-) -> usize
-    requires { ⌜ Keys (now xs) (now ys) (now heads) (now links) n × (from < n) ⌝ }
-    ensures { λ r. ⌜ Probed (not (eqb (seek (was xs) (was ys) x y from (n - from)) 65535)) r ⌝ }
-{
-    let b = bucket_of(heads.len(), x, y);
-    let k = (heads[b] as usize + 1) % 65536;
-    let there = one(k > from);
-    let e = entry_or_first(there, k);
-    let same = same_at(xs, ys, e, x, y);
-    let more = one((links[e] as usize + 1) % 65536 > from);
-    verdict(there, same, more)
 }
 
 // Where the last entry with x stands, behind so many buckets.

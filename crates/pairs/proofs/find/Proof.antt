@@ -7,7 +7,7 @@ use native.Mathlib.Omega.{arith}
 use lib.ListN.{length}
 use borrow.Author.Needs.{needs}
 use Rattle.pairs.specs.Keys.{bucketsOf}
-use Rattle.pairs.proofs.Chain.{On, start, hit, stop, turn, less}
+use Rattle.pairs.specs.Chain.{On, start, hit, stop, turn, less}
 use Rattle.pairs.proofs.find.Statement.{statement}
 use Rattle.pairs.proofs.find.Tie as tie
 

@@ -1,9 +1,9 @@
--- `pairs::entry_or_first` meets its contract.
+-- `probing::entry_or_first` meets its contract.
 -- Assumes nothing.
 use native.Mathlib.Omega.{arith}
-use Rattle.pairs.proofs.Units.{unit-times, unit-most}
-use Rattle.pairs.proofs.entry_or_first.Statement.{statement}
-use Rattle.pairs.proofs.entry_or_first.Tie as tie
+use Rattle.probing.proofs.Units.{unit-times, unit-most}
+use Rattle.probing.proofs.entry_or_first.Statement.{statement}
+use Rattle.probing.proofs.entry_or_first.Tie as tie
 
 mul-result : tie.Need-mul-result
 mul-result c = let (z, o, m) = unit-times (c .args .there) (c .args .k) (c .pre .0) in omega (arith, m, c .pre .2)

@@ -1,13 +1,13 @@
--- `pairs::same_at` meets its contract: a product of two tests is both.
+-- `probing::same_at` meets its contract: a product of two tests is both.
 -- Assumes nothing.
 use native.Mathlib.Omega.{arith}
 use lib.Dec.{eqb}
 use lib.ListN.{getD}
 use Rattle.pairs.specs.Keys.{hereb}
-use Rattle.pairs.proofs.Units.{one-both, unit-times}
+use Rattle.probing.proofs.Units.{one-both, unit-times}
 use borrow.Author.Needs.{needs}
-use Rattle.pairs.proofs.same_at.Statement.{statement}
-use Rattle.pairs.proofs.same_at.Tie as tie
+use Rattle.probing.proofs.same_at.Statement.{statement}
+use Rattle.probing.proofs.same_at.Tie as tie
 
 mul-one : tie.Need-mul-one
 mul-one c = search needs

@@ -1,12 +1,12 @@
--- `pairs::verdict` meets its contract, case by case.
+-- `probing::verdict` meets its contract, case by case.
 -- Assumes nothing.
 use mathlib.Core.Path.{_∙_}
 use native.Mathlib.Omega.{arith}
 use Prim.Native.Nat.{_+_, _-_, _*_}
-use Rattle.pairs.proofs.Units.{unit-times, twice}
+use Rattle.probing.proofs.Units.{unit-times, twice}
 use borrow.Author.Needs.{needs}
-use Rattle.pairs.proofs.verdict.Statement.{statement}
-use Rattle.pairs.proofs.verdict.Tie as tie
+use Rattle.probing.proofs.verdict.Statement.{statement}
+use Rattle.probing.proofs.verdict.Tie as tie
 
 sub-result : tie.Need-sub-result
 sub-result c = search needs

@@ -1,16 +1,17 @@
--- `pairs::probe` meets its contract: the last entry of the bucket is the pair, or the chain ends behind it, or more is to be searched.
+-- `probing::probe` meets its contract: the last entry of the bucket is the pair, or the chain ends behind it, or more is to be searched.
 -- Assumes nothing.
 use mathlib.Core.Path.{refl}
 use Prim.Native.Nat.{_+_, _%_, _≤_}
 use native.Mathlib.Omega.{arith}
 use lib.ListN.{getD}
 use Rattle.base.specs.Bools.{one-most}
 use Rattle.pairs.specs.Keys.{hereb}
-use Rattle.pairs.proofs.Units.{one-below}
-use Rattle.pairs.proofs.Chain.{start, look-inside, looked}
+use Rattle.probing.proofs.Units.{one-below}
+use Rattle.pairs.specs.Chain.{start}
+use Rattle.probing.proofs.Looks.{look-inside, looked}
 use borrow.Author.Needs.{needs}
-use Rattle.pairs.proofs.probe.Statement.{statement}
-use Rattle.pairs.proofs.probe.Tie as tie
+use Rattle.probing.proofs.probe.Statement.{statement}
+use Rattle.probing.proofs.probe.Tie as tie
 
 bucket-of-requires : tie.Need-bucket-of-requires
 bucket-of-requires c κs = search needs

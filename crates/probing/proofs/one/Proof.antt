@@ -1,10 +1,10 @@
--- `pairs::one` meets its contract.
+-- `probing::one` meets its contract.
 -- Assumes nothing.
 use mathlib.Core.Path.{refl}
 use native.Mathlib.Omega.{arith}
 use Rattle.base.specs.Bools.{one-if}
-use Rattle.pairs.proofs.one.Statement.{statement}
-use Rattle.pairs.proofs.one.Tie as tie
+use Rattle.probing.proofs.one.Statement.{statement}
+use Rattle.probing.proofs.one.Tie as tie
 
 returns : tie.Need-returns
 unfolding one-if
