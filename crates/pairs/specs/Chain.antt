@@ -1,4 +1,6 @@
 -- How a chain and a search go down together: what the chain jumps over lies in other buckets, so it is not the pair.
+--   On w xs ys x y from n e   where a search for the pair stands in its chain, with w buckets
+-- Laws: start (at the bucket), ended (the pair is not there), hit, stop, turn, less (at an entry).
 -- Assumes nothing.
 use mathlib.Core.Path.{_≡_, refl, sym, _∙_}
 use mathlib.Core.Bool.{Bool, true, false, cond}
