@@ -15,7 +15,7 @@ use Rattle.mesh.specs.Cells.{Cell, redb, edge, edges, bitsOf, heldb, pattern, s
 use Rattle.rows.specs.Numbered.{cellAt, cellsAt, part}
 use Rattle.edges.specs.Pairs.{Pair, sorted, isb, addPairs, pairsOf, joins-pair, has-pairs}
 use Rattle.edges.specs.Table.{listed}
-use Rattle.closure.specs.Ready.{listedPattern, listedStatus, listedClosed}
+use Rattle.closure.specs.Listed.{listedPattern, listedStatus, listedClosed}
 use Rattle.rows.specs.Laws.{cells-cons}
 
 -- Rule 6.2: the six tests of a cell.

@@ -1,4 +1,3 @@
-pub mod Ready
+pub mod Listed
 pub mod Closed
-pub mod Steps
 pub mod Near

@@ -15,7 +15,7 @@ use Rattle.base.specs.Places.{hasb}
 use Rattle.mesh.specs.Cells.{Cell, corner, edge, edges, bitsOf}
 use Rattle.edges.specs.Pairs.{Pair, sorted, isb}
 use Rattle.edges.specs.Table.{Unmet}
-use Rattle.closure.specs.Ready.{listedPattern}
+use Rattle.closure.specs.Listed.{listedPattern}
 use Rattle.closure.specs.Closed.{six-bits}
 
 unfoldable pub twob : Bool → Bool → Bool → Bool → Bool

@@ -20,7 +20,7 @@ use Rattle.mesh.specs.Cells.{edges, heldb, bitsOf}
 use Rattle.edges.specs.Pairs.{Pair, sorted, isb, pairsOf}
 use Rattle.edges.specs.Table.{listed}
 use Rattle.rows.specs.Numbered.{cellAt}
-use Rattle.closure.specs.Ready.{listedPattern}
+use Rattle.closure.specs.Listed.{listedPattern}
 use Rattle.separation.specs.Scan.{apartTest}
 use Rattle.reds.specs.Flags.{kidsOf, listedb, idleb, touchedb, pulledb, redAtb}
 use Rattle.reds.specs.Crowd.{candidateb}

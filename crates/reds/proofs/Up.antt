@@ -16,9 +16,9 @@ use Rattle.mesh.specs.Cells.{redb, redEdges, heldb}
 use Rattle.edges.specs.Pairs.{Pair, isb, same-pair, addPairs, pairsOf}
 use Rattle.edges.specs.Table.{Grown, listed}
 use Rattle.rows.specs.Numbered.{cellsAt, part}
-use Rattle.closure.specs.Ready.{Ready, Range, redCount}
+use Rattle.redlist.specs.Ready.{Ready, Range, redCount}
 use Rattle.closure.specs.Closed.{lists-added, held-listed}
-use Rattle.closure.specs.Steps.{length-reds}
+use Rattle.redlist.specs.Steps.{length-reds}
 use Rattle.lineage.specs.Olds.{flagOf}
 use Rattle.reds.specs.Flags.{listedb, redAtb, flagsAt, redsUp, flagsUp}
 use Rattle.reds.specs.Crowd.{candidateb, crowdOf, crowd-one, crowd-most, crowd-add, crowd-rest}

@@ -11,7 +11,7 @@ ghost use Rattle.base.specs.Bools.{one-if};
 ghost use Rattle.base.specs.Lent.{was, is};
 ghost use Rattle.pairs.specs.Keys.{Clear};
 ghost use Rattle.edges.specs.Table.{Table};
-ghost use Rattle.closure.specs.Ready.{Looks};
+ghost use Rattle.closure.specs.Listed.{Looks};
 ghost use Rattle.lineage.specs.Olds.{flagOf, flagTable};
 ghost use Rattle.reds.specs.Flags.{firstChildren, listedb, idleb, touchedb, redAtb, flagsAt, pulledb};
 ghost use Rattle.reds.specs.Crowd.{candidateb, crowdOf};
@@ -334,7 +334,7 @@ fn flag_up(
         up.from,
         up.n,
     );
-    let m = closure::red_level(rows, red, first, last, xs, ys, heads, links, up.n, up.n);
+    let m = redlist::red_level(rows, red, first, last, xs, ys, heads, links, up.n, up.n);
     Entries { from: up.n, n: m }
 }
 

@@ -12,7 +12,7 @@ use Rattle.mesh.specs.Cells.{Cell, redb, edge}
 use Rattle.edges.specs.Pairs.{Pair, sorted, isb}
 use Rattle.rows.specs.Numbered.{cellAt, cellsAt, part}
 use Rattle.mesh.specs.Table.{sizeOf, sizes}
-use Rattle.closure.specs.Ready.{listedPattern, listedStatus}
+use Rattle.closure.specs.Listed.{listedPattern, listedStatus}
 use Rattle.closure.specs.Closed.{bits-more, tail-small}
 use Rattle.rows.specs.Laws.{length-part, length-cells}
 use Rattle.growth.specs.Written.{written, written-none, length-written}

@@ -9,8 +9,8 @@ use borrow.Author.Tests.{ne-eqb}
 use Rattle.base.specs.Bools.{one-if}
 use Rattle.mesh.specs.Cells.{redb}
 use Rattle.rows.specs.Numbered.{part}
-use Rattle.closure.specs.Ready.{redCount, count-one}
-use Rattle.closure.specs.Steps.{count-append}
+use Rattle.redlist.specs.Ready.{redCount, count-one}
+use Rattle.redlist.specs.Steps.{count-append}
 use Rattle.rows.specs.Laws.{length-part}
 use Rattle.growth.specs.Written.{written, written-none, length-written}
 use Rattle.lineage.specs.Olds.{flagOf, redsBy}

@@ -12,7 +12,8 @@ use Rattle.edges.specs.Table.{Space, Grown, listed}
 use Rattle.edges.specs.Seek.{none-listed}
 use Rattle.rows.specs.Numbered.{cellsAt, part}
 use Rattle.mesh.specs.Table.{sizes}
-use Rattle.closure.specs.Ready.{redCount, Ready, Looks}
+use Rattle.redlist.specs.Ready.{redCount, Ready}
+use Rattle.closure.specs.Listed.{Looks}
 use Rattle.rows.specs.Laws.{length-part, length-cells}
 use Rattle.growth.specs.Written.{written}
 use Rattle.lineage.specs.Levels.{length-redsBy}

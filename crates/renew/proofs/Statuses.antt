@@ -13,8 +13,8 @@ use Rattle.mesh.specs.Layout.{Corner, mapCell, numberIn}
 use Rattle.edges.specs.Pairs.{Pair, addPairs}
 use Rattle.base.specs.Every.{All}
 use Rattle.numbering.specs.Tests.{numberedCells, edgeIn, Placed, red-edges-numbers, red-status-numbers}
-use Rattle.closure.specs.Ready.{redCount}
-use Rattle.closure.specs.Steps.{length-reds}
+use Rattle.redlist.specs.Ready.{redCount}
+use Rattle.redlist.specs.Steps.{length-reds}
 use Rattle.closure.specs.Closed.{lists-added, status-listed}
 use Rattle.lineage.specs.Olds.{redsBy, closedBy, statusesBy}
 use Rattle.lineage.specs.Levels.{length-statuses}

@@ -16,7 +16,7 @@ use Rattle.mesh.specs.Weights.{Point, coarseCells}
 use Rattle.mesh.specs.Table.{next, sizes}
 use Rattle.rows.specs.Numbered.{cellsAt, part}
 use Rattle.numbering.specs.Tests.{numberedCells}
-use Rattle.closure.specs.Ready.{redCount}
+use Rattle.redlist.specs.Ready.{redCount}
 use Rattle.lineage.specs.Olds.{growBy, statusesBy, oldsNext, upTo}
 use Rattle.lineage.specs.Closed.{Owned, owned-start, owned-next, closed-by}
 use Rattle.lineage.specs.Levels.{length-statuses}

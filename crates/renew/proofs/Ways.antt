@@ -12,7 +12,7 @@ use Rattle.base.specs.Lists.{allb-at}
 use Rattle.mesh.specs.Table.{next, sizes}
 use Rattle.edges.specs.Table.{Grown}
 use Rattle.rows.specs.Numbered.{part}
-use Rattle.closure.specs.Steps.{length-reds}
+use Rattle.redlist.specs.Steps.{length-reds}
 use Rattle.rows.specs.Laws.{length-cells, length-part}
 use Rattle.growth.specs.Written.{written, take-written}
 use Rattle.growth.specs.Level.{Roomy, Grows}

@@ -21,7 +21,8 @@ use Rattle.edges.specs.Pairs.{Pair, addPairs}
 use Rattle.edges.specs.Table.{Grown}
 use Rattle.rows.specs.Numbered.{cellsAt, part}
 use Rattle.mesh.specs.Table.{sizes}
-use Rattle.closure.specs.Ready.{redCount, listedStatus}
+use Rattle.redlist.specs.Ready.{redCount}
+use Rattle.closure.specs.Listed.{listedStatus}
 use Rattle.growth.specs.Written.{written}
 use Rattle.tables.specs.Checked.{Statuses}
 use Rattle.lineage.specs.Olds.{firstChild, oldChild, redsBy}

@@ -12,7 +12,7 @@ ghost use Rattle.pairs.specs.Keys.{Clear};
 ghost use Rattle.edges.specs.Table.{listed};
 ghost use Rattle.mesh.specs.Table.{sizeOf, sizes};
 ghost use Rattle.rows.specs.Numbered.{part};
-ghost use Rattle.closure.specs.Ready.{Looks};
+ghost use Rattle.closure.specs.Listed.{Looks};
 ghost use Rattle.growth.specs.Written.{written};
 ghost use Rattle.lineage.specs.Olds.{flagOf, oldsOf, oldsNext, upTo};
 ghost use Rattle.tables.specs.Checked.{Statuses, Reds};
@@ -118,7 +118,7 @@ fn make_level(
     if 8 * reds > most - last {
         return Level { n, size: 8 * reds };
     }
-    let m = closure::red_level(rows, table, first, last, xs, ys, heads, links, n, n);
+    let m = redlist::red_level(rows, table, first, last, xs, ys, heads, links, n, n);
     let size = close_level(rows, first, last, xs, ys, heads, links, n, m, table);
     Level { n: m, size }
 }

@@ -9,7 +9,7 @@ use lib.ListN.{getD}
 use Rattle.base.specs.Lists.{allb}
 use Rattle.rows.specs.Numbered.{cellAt, cellsAt}
 use Rattle.edges.specs.Pairs.{Pair}
-use Rattle.closure.specs.Ready.{listedApart}
+use Rattle.closure.specs.Listed.{listedApart}
 
 -- Rule 3.2: the parent of a cell that is not regular comes before it.
 pub record Parents (t : List ℕ) (last : ℕ) : Type 0 where

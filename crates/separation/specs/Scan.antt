@@ -13,7 +13,7 @@ use Rattle.base.specs.Lists.{allb, anyb}
 use Rattle.mesh.specs.Cells.{Cell, edge, edges, heldb}
 use Rattle.rows.specs.Numbered.{cellAt, cellsAt}
 use Rattle.edges.specs.Pairs.{Pair, isb, sorted}
-use Rattle.closure.specs.Ready.{listedApart}
+use Rattle.closure.specs.Listed.{listedApart}
 use Rattle.rows.specs.Laws.{cells-cons}
 
 drop-edge : (c : Cell ℕ) (e : ℕ) → e < 6 → drop e (edges 0 c) ≡ edge 0 c e ∷ drop (suc e) (edges 0 c)

@@ -12,7 +12,7 @@ ghost use Rattle.mesh.specs.Cells.{joinsb, heldb, edge, edges};
 ghost use Rattle.rows.specs.Numbered.{cellAt};
 ghost use Rattle.edges.specs.Pairs.{isb, sorted};
 ghost use Rattle.edges.specs.Table.{listed};
-ghost use Rattle.closure.specs.Ready.{Looks, listedApart};
+ghost use Rattle.closure.specs.Listed.{Looks, listedApart};
 ghost use Rattle.separation.specs.Parents.{Parents, apartAll};
 ghost use Rattle.separation.specs.Scan.{apartTest, freeTest};
 

@@ -15,7 +15,7 @@ use Rattle.edges.specs.Pairs.{Pair, sorted, isb}
 use Rattle.rows.specs.Numbered.{cellAt}
 use Rattle.base.specs.Every.{All}
 use Rattle.numbering.specs.Renamed.{apartOf}
-use Rattle.closure.specs.Ready.{listedApart}
+use Rattle.closure.specs.Listed.{listedApart}
 use Rattle.closure.specs.Closed.{Lists, held-listed}
 use Rattle.separation.specs.Parents.{Parents, apartAll}
 use Rattle.tables.specs.Here.{Child}

@@ -21,7 +21,7 @@ use Rattle.mesh.specs.Layout.{Corner, rowOf, mapCell, numberIn, cellTable, corn
 use Rattle.edges.specs.Table.{listed}
 use Rattle.base.specs.Every.{All}
 use Rattle.numbering.specs.Tests.{numberedCells, apart-numbers}
-use Rattle.closure.specs.Ready.{Looks}
+use Rattle.closure.specs.Listed.{Looks}
 use Rattle.separation.specs.Parents.{Parents, apartAll}
 use Rattle.counting.specs.Sound.{sound-counted}
 use Rattle.tables.specs.Here.{Top, Child}

@@ -14,8 +14,9 @@ use Rattle.edges.specs.Table.{Grown, listed}
 use Rattle.edges.specs.Seek.{none-listed}
 use Rattle.mesh.specs.Table.{sizeOf, sizes}
 use Rattle.rows.specs.Sizes.{size-red}
-use Rattle.closure.specs.Ready.{redCount, Ready, Looks, listedClosed}
-use Rattle.closure.specs.Steps.{length-reds}
+use Rattle.redlist.specs.Ready.{redCount, Ready}
+use Rattle.closure.specs.Listed.{Looks, listedClosed}
+use Rattle.redlist.specs.Steps.{length-reds}
 use Rattle.closure.specs.Closed.{lists-added, closed-listed}
 use Rattle.tables.specs.Room.{RedRoom}
 use Rattle.tables.specs.Checked.{Reds, Checked, ownCells, ownStatuses, ownReds}

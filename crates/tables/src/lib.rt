@@ -6,7 +6,7 @@ ghost use lib.ListN.{length, take};
 ghost use Rattle.base.specs.Fours.{fours};
 ghost use Rattle.base.specs.Lent.{was, is};
 ghost use Rattle.pairs.specs.Keys.{Clear};
-ghost use Rattle.closure.specs.Ready.{Looks};
+ghost use Rattle.closure.specs.Listed.{Looks};
 ghost use Rattle.separation.specs.Parents.{Parents};
 ghost use Rattle.tables.specs.Checked.{Statuses, Reds, Checked};
 ghost use Rattle.tables.specs.Finish.{Concluded};
@@ -74,7 +74,7 @@ fn check_level(
     if size > status.len() - last {
         return Level { ok: false, n, size };
     }
-    let m = closure::red_level(rows, status, first, last, xs, ys, heads, links, n, n);
+    let m = redlist::red_level(rows, status, first, last, xs, ys, heads, links, n, n);
     let ok = closure::closed_level(rows, status, first, last, xs, ys, heads, links, n, m);
     Level { ok, n: m, size }
 }

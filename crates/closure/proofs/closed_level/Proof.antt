@@ -7,7 +7,7 @@ use lib.ListN.{getD}
 use Rattle.mesh.specs.Cells.{redb}
 use Rattle.edges.specs.Table.{listed}
 use Rattle.rows.specs.Numbered.{cellAt, cellsAt, part}
-use Rattle.closure.specs.Ready.{listedClosed, listedStatus}
+use Rattle.closure.specs.Listed.{listedClosed, listedStatus}
 use Rattle.closure.specs.Closed.{closed-next, closed-not, closed-end}
 use borrow.Author.Needs.{needs}
 use Rattle.closure.proofs.closed_level.Statement.{statement}

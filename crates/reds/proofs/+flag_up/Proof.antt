@@ -11,7 +11,7 @@ use borrow.Fn.PlainCycle.{Measures, is, falls, and}
 use Rattle.reds.proofs.flag_up.Reads as flag-up
 use Rattle.reds.proofs.flag_up.Kinds as flag-up-kinds
 use Rattle.reds.proofs.+flag_up.Lts-flag_up as flag-up-lts
-use Rattle.closure.proofs.red_level.Reads as red-level-reads
+use Rattle.redlist.proofs.red_level.Reads as red-level-reads
 use Rattle.reds.proofs.flag_level.Reads as flag-level-reads
 use Rattle.reds.proofs.+flag_up.{statement}
 use Rattle.reds.proofs.+flag_up.Tie.{close}

@@ -8,7 +8,7 @@ use borrow.Author.Tests.{not-true, not-false}
 use Rattle.base.specs.Lists.{allb}
 use Rattle.edges.specs.Table.{listed}
 use Rattle.rows.specs.Numbered.{cellsAt}
-use Rattle.closure.specs.Ready.{listedApart}
+use Rattle.closure.specs.Listed.{listedApart}
 use Rattle.separation.specs.Parents.{apartAll}
 use Rattle.separation.specs.Scan.{cells-miss, cells-next, cells-end}
 use borrow.Author.Needs.{needs}

@@ -1,14 +1,14 @@
--- `closure::red_edges` meets its contract: the cell's six edges are inserted one after the other.
+-- `redlist::red_edges` meets its contract: the cell's six edges are inserted one after the other.
 -- Assumes nothing.
 use native.Mathlib.Omega.{arith}
 use Prim.Native.Nat.{_+_}
 use lib.ListN.{take}
 use Rattle.mesh.specs.Cells.{edges}
 use Rattle.rows.specs.Numbered.{cellAt}
-use Rattle.closure.specs.Ready.{Run}
-use Rattle.closure.specs.Steps.{run-start, run-edge, ready-edge, all-edges}
-use Rattle.closure.proofs.red_edges.Statement.{statement}
-use Rattle.closure.proofs.red_edges.Tie as tie
+use Rattle.redlist.specs.Ready.{Run}
+use Rattle.redlist.specs.Steps.{run-start, run-edge, ready-edge, all-edges}
+use Rattle.redlist.proofs.red_edges.Statement.{statement}
+use Rattle.redlist.proofs.red_edges.Tie as tie
 
 run1 : (c : tie.After-red-edge)
     → Run (c .before .before .before .before .before .before .before .before .before .before .args .xs .now) (c .before .before

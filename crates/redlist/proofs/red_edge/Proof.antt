@@ -1,10 +1,10 @@
--- `closure::red_edge` meets its contract: it inserts the edge's two ends.
+-- `redlist::red_edge` meets its contract: it inserts the edge's two ends.
 -- Assumes nothing.
 use Rattle.edges.specs.Table.{grown-one}
-use Rattle.closure.specs.Steps.{room-one}
+use Rattle.redlist.specs.Steps.{room-one}
 use borrow.Author.Needs.{needs}
-use Rattle.closure.proofs.red_edge.Statement.{statement}
-use Rattle.closure.proofs.red_edge.Tie as tie
+use Rattle.redlist.proofs.red_edge.Statement.{statement}
+use Rattle.redlist.proofs.red_edge.Tie as tie
 
 edge-of-requires : tie.Need-edge-of-requires
 edge-of-requires c κs = search needs

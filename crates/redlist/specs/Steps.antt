@@ -15,7 +15,7 @@ use Rattle.base.specs.Bools.{one-if}
 use Rattle.rows.specs.Numbered.{cellAt, cellsAt, part}
 use Rattle.edges.specs.Pairs.{Pair}
 use Rattle.edges.specs.Table.{Edges, Space, Grown, grown-none, grown-both}
-use Rattle.closure.specs.Ready.{Ready, Run, redOf, redCount, count-one}
+use Rattle.redlist.specs.Ready.{Ready, Run, redOf, redCount, count-one}
 use Rattle.rows.specs.Laws.{length-cells, length-part, part-more}
 
 pub run-start : (xs ys heads links : List ℕ) (from n : ℕ) → Edges xs ys heads links from n

@@ -1,4 +1,4 @@
--- `closure::red_cell` meets its contract: a status that is not red asks for nothing.
+-- `redlist::red_cell` meets its contract: a status that is not red asks for nothing.
 -- Assumes nothing.
 use mathlib.Core.Path.{_≡_, ap, _∙_}
 use mathlib.Core.List.{List}
@@ -7,11 +7,11 @@ use lib.ListN.{length}
 use Rattle.edges.specs.Pairs.{Pair}
 use Rattle.edges.specs.Table.{grown-none}
 use Rattle.rows.specs.Numbered.{cellAt}
-use Rattle.closure.specs.Ready.{redOf}
-use Rattle.closure.specs.Steps.{red-is, red-not, six}
+use Rattle.redlist.specs.Ready.{redOf}
+use Rattle.redlist.specs.Steps.{red-is, red-not, six}
 use borrow.Author.Needs.{needs}
-use Rattle.closure.proofs.red_cell.Statement.{statement}
-use Rattle.closure.proofs.red_cell.Tie as tie
+use Rattle.redlist.proofs.red_cell.Statement.{statement}
+use Rattle.redlist.proofs.red_cell.Tie as tie
 
 returns : tie.Need-returns
 returns c =

@@ -1,4 +1,4 @@
--- `closure::red_level` meets its contract: a turn inserts the edges of the next cell, if it is red. The measure is what is left of the
+-- `redlist::red_level` meets its contract: a turn inserts the edges of the next cell, if it is red. The measure is what is left of the
 -- range.
 -- Assumes nothing.
 use mathlib.Core.Path.{_≡_}
@@ -7,11 +7,11 @@ use native.Mathlib.Omega.{arith}
 use lib.ListN.{length, getD}
 use Rattle.mesh.specs.Cells.{redEdges}
 use Rattle.rows.specs.Numbered.{cellAt, cellsAt, part}
-use Rattle.closure.specs.Ready.{Run, redOf, redCount}
-use Rattle.closure.specs.Steps.{run-start, run-more, space-left, reds-step, reds-fit, none-yet}
+use Rattle.redlist.specs.Ready.{Run, redOf, redCount}
+use Rattle.redlist.specs.Steps.{run-start, run-more, space-left, reds-step, reds-fit, none-yet}
 use borrow.Author.Needs.{needs}
-use Rattle.closure.proofs.red_level.Statement.{statement}
-use Rattle.closure.proofs.red_level.Tie as tie
+use Rattle.redlist.proofs.red_level.Statement.{statement}
+use Rattle.redlist.proofs.red_level.Tie as tie
 
 abbrev Inv-loop : tie.InvT-loop
 Inv-loop cells status first last xs₀ ys₀ heads₀ links₀ from n m₀ c₀ xs ys heads links m c = (first ≤ c) × (c ≤ last) × Run xs₀ ys₀ heads₀
