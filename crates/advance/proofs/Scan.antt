@@ -1,7 +1,7 @@
 -- The scan for a red cell of level 10, one cell after the other.
 -- Assumes nothing.
 use mathlib.Core.Path.{_≡_, refl, _∙_, ap}
-use mathlib.Core.Bool.{Bool, true, false, _&&_, _||_, and-false}
+use mathlib.Core.Bool.{Bool, true, false, _||_}
 use mathlib.Core.List.{List}
 use Prim.Native.Nat.{ℕ, suc, _+_, _*_, _-_, _≤_, _<_}
 use native.Mathlib.Omega.{arith}
@@ -11,15 +11,11 @@ use borrow.Author.Tests.{ne-eqb}
 use Rattle.advance.specs.Deep.{deepAt, deepFrom}
 
 module _ (rows red : List ℕ) (c : ℕ) where
-  pub deep-no : (getD red c 0 ≡ 64 → ⊥) → false ≡ deepAt rows red c
-  deep-no h = rw (ne-eqb (getD red c 0) 64 h, and-false (eqb (getD rows (8 * c) 0) 10))
+  pub deep-no : (getD rows (8 * c) 0 ≡ 10 → ⊥) → false ≡ deepAt rows red c
+  deep-no h = rw (ne-eqb (getD rows (8 * c) 0) 10 h)
 
-  pub deep-red : getD red c 0 ≡ 64 → eqb (getD rows (8 * c) 0) 10 ≡ deepAt rows red c
-  deep-red e = rw e (go (eqb (getD rows (8 * c) 0) 10))
-    where
-      go : (b : Bool) → b ≡ (b && true)
-      go true = refl
-      go false = refl
+  pub deep-level : getD rows (8 * c) 0 ≡ 10 → eqb (getD red c 0) 64 ≡ deepAt rows red c
+  deep-level e = rw e
 
 module _ (rows red : List ℕ) (c n : ℕ) where
   deep-step : c < n → deepFrom rows red c (n - c) ≡ (deepAt rows red c || deepFrom rows red (c + 1) (n - (c + 1)))

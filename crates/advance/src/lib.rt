@@ -23,15 +23,15 @@ fn too_deep(rows: &[u16], red: &[u8], cells: usize) -> bool
     false
 }
 
-// Whether the cell c is on level 10 and will be red.
+// Whether the cell c is on level 10 and will be red. Few cells are on level 10, so that its test is guessed right.
 fn is_deep(rows: &[u16], red: &[u8], c: usize) -> bool
     requires { ⌜ (8 * c + 8 ≤ length (now rows)) × (c < length (now red)) ⌝ }
     ensures { λ r. ⌜ r ≡ deepAt (was rows) (was red) c ⌝ }
 {
-    if red[c] != 64 {
+    if rows[8 * c] != 10 {
         return false;
     }
-    rows[8 * c] == 10
+    red[c] == 64
 }
 
 // The refusal of a step: 9 gives way to 8 where a cell of level 10 will be red.
