@@ -3,7 +3,7 @@
 use mathlib.Core.Path.{_≡_, refl, sym, _∙_, ap, fun-ext}
 use mathlib.Core.Bool.{Bool, true, false}
 use mathlib.Core.List.{List, [], _∷_, map}
-use Prim.Native.Nat.{ℕ, zero, suc, _+_, _*_, _-_, _≤_, _<_}
+use Prim.Native.Nat.{ℕ, zero, suc, _+_, _*_, _-_, _/_, _≤_, _<_}
 use native.Mathlib.Omega.{arith}
 use lib.Dec.{eqb}
 use lib.ListN.{length, getD, drop}
@@ -13,6 +13,7 @@ use Rattle.base.specs.Bools.{one-if, one-most}
 use Rattle.base.specs.Places.{hasb}
 use Rattle.mesh.specs.Cells.{Cell, redb, edge, edges, bitsOf, heldb, pattern, statusOf, closedFrom}
 use Rattle.rows.specs.Numbered.{cellAt, cellsAt, part}
+use Rattle.probing.specs.Probed.{Probed}
 use Rattle.edges.specs.Pairs.{Pair, sorted, isb, addPairs, pairsOf, joins-pair, has-pairs}
 use Rattle.edges.specs.Table.{listed}
 use Rattle.closure.specs.Listed.{listedPattern, listedStatus, listedClosed}
@@ -134,6 +135,31 @@ pub six-bits : (es : List Pair) (c : Cell ℕ) (p q r s t u : Bool) → p ≡ ha
     → bitsOf (p ∷ q ∷ r ∷ s ∷ t ∷ u ∷ []) ≡ listedPattern es c
 unfolding listedPattern edges
 six-bits es c p q r s t u e f g h i j = rw (e, f, g, h, i, j)
+
+-- one look that decides, as a bit
+probed-bit : (b : Bool) (r : ℕ) → Probed b r → r / 2 ≡ 0 → r ≡ one-if b
+unfolding one-if
+probed-bit b zero k h = sym (ap one-if (k .none refl))
+probed-bit b (suc zero) k h = sym (ap one-if (k .here refl))
+probed-bit b (suc (suc r)) k h = absurd (omega arith)
+
+-- six looks that all decide
+pub probed-bits : (es : List Pair) (c : Cell ℕ) (p q r s t u : ℕ) → Probed (hasb isb es (sorted (edge 0 c 0))) p
+    → Probed (hasb isb es (sorted (edge 0 c 1))) q → Probed (hasb isb es (sorted (edge 0 c 2))) r
+    → Probed (hasb isb es (sorted (edge 0 c 3))) s → Probed (hasb isb es (sorted (edge 0 c 4))) t
+    → Probed (hasb isb es (sorted (edge 0 c 5))) u → p / 2 + q / 2 + r / 2 + s / 2 + t / 2 + u / 2 ≡ 0
+    → p + 2 * q + 4 * r + 8 * s + 16 * t + 32 * u ≡ listedPattern es c
+unfolding bitsOf
+probed-bits es c p q r s t u e f g h i j z = omega (
+  arith,
+  six-bits es c _ _ _ _ _ _ refl refl refl refl refl refl,
+  probed-bit _ p e (omega arith),
+  probed-bit _ q f (omega arith),
+  probed-bit _ r g (omega arith),
+  probed-bit _ s h (omega arith),
+  probed-bit _ t i (omega arith),
+  probed-bit _ u j (omega arith),
+)
 
 -- no edge is listed
 pub pattern-unlisted : (xs ys : List ℕ) (from n : ℕ) (c : Cell ℕ) → from ≡ n → listedPattern (listed xs ys from n) c ≡ 0

@@ -8,6 +8,7 @@ ghost use Rattle.base.specs.Bools.{one-if};
 ghost use Rattle.base.specs.Places.{hasb};
 ghost use Rattle.base.specs.Lent.{was};
 ghost use Rattle.mesh.specs.Cells.{edge, bitsOf};
+ghost use Rattle.probing.specs.Probed.{Probed};
 ghost use Rattle.edges.specs.Pairs.{isb, sorted};
 ghost use Rattle.edges.specs.Table.{listed};
 ghost use Rattle.rows.specs.Numbered.{cellAt, cellsAt, part};
@@ -83,7 +84,7 @@ pub fn is_near(
 }
 
 // The pattern of the cell's edges that are listed, by six searches.
-fn pattern_in(
+fn pattern_searched(
     cells: &[u16],
     c: usize,
     xs: &[u32],
@@ -104,6 +105,54 @@ fn pattern_in(
         is_held(cells, c, 4, xs, ys, heads, links, from, n),
         is_held(cells, c, 5, xs, ys, heads, links, from, n),
     )
+}
+
+// Whether an edge of a cell is listed, by one look: 0 it is not, 1 it is, 2 it has to be searched.
+fn probe_edge(
+    cells: &[u16],
+    c: usize,
+    e: usize,
+    xs: &[u32],
+    ys: &[u32],
+    heads: &[u16],
+    links: &[u16],
+    from: usize,
+    n: usize,
+) -> usize
+    requires { ⌜ Looks (now cells) (now xs) (now ys) (now heads) (now links) (c + 1) from n ⌝ }
+    requires { ⌜ (from < n) × (e < 6) ⌝ }
+    ensures { λ r. ⌜ Probed (hasb isb (listed (was xs) (was ys) from n) (sorted (edge 0 (cellAt (was cells) c) e))) r ⌝ }
+{
+    let ends = rows::edge_of(cells, c, e);
+    edges::probe(xs, ys, heads, links, from, n, ends.a, ends.b)
+}
+
+// The pattern of the cell's edges that are listed, by six looks; searched where one of them does not decide. One branch for all six: with
+// one for each, those of a large mesh are guessed wrong too often.
+fn pattern_in(
+    cells: &[u16],
+    c: usize,
+    xs: &[u32],
+    ys: &[u32],
+    heads: &[u16],
+    links: &[u16],
+    from: usize,
+    n: usize,
+) -> u8
+    requires { ⌜ Looks (now cells) (now xs) (now ys) (now heads) (now links) (c + 1) from n ⌝ }
+    requires { ⌜ from < n ⌝ }
+    ensures { λ r. ⌜ r ≡ listedPattern (listed (was xs) (was ys) from n) (cellAt (was cells) c) ⌝ }
+{
+    let p = probe_edge(cells, c, 0, xs, ys, heads, links, from, n);
+    let q = probe_edge(cells, c, 1, xs, ys, heads, links, from, n);
+    let r = probe_edge(cells, c, 2, xs, ys, heads, links, from, n);
+    let s = probe_edge(cells, c, 3, xs, ys, heads, links, from, n);
+    let t = probe_edge(cells, c, 4, xs, ys, heads, links, from, n);
+    let u = probe_edge(cells, c, 5, xs, ys, heads, links, from, n);
+    if p / 2 + q / 2 + r / 2 + s / 2 + t / 2 + u / 2 != 0 {
+        return pattern_searched(cells, c, xs, ys, heads, links, from, n);
+    }
+    (p + 2 * q + 4 * r + 8 * s + 16 * t + 32 * u) as u8
 }
 
 // The pattern of the cell's edges that are listed. On the highest level none is.
