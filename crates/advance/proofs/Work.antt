@@ -25,9 +25,9 @@ use Rattle.tables.specs.Sound.{LaidSound, tableCells, examinedCorners}
 use Rattle.reds.specs.Flags.{firstChildren}
 use Rattle.reds.specs.Old.{Marked}
 use Rattle.reds.specs.Firsts.{firsts-taken, first-at, length-firsts}
-use Rattle.renew.specs.Levels.{Kids}
-use Rattle.renew.specs.RenewRoom.{RenewRoom}
-use Rattle.renew.specs.Result.{Result, renewed}
+use Rattle.remaking.specs.Levels.{Kids}
+use Rattle.remaking.specs.RenewRoom.{RenewRoom}
+use Rattle.remaking.specs.Result.{Result, renewed}
 use Rattle.mesh.specs.Answers.{newTable, limitsAnswer}
 use Rattle.mesh.specs.Laws.{sound-count}
 use Rattle.advance.specs.Deep.{deepFrom, Decided}

@@ -16,7 +16,7 @@ use Rattle.counting.specs.Levels.{Levels}
 use Rattle.counting.specs.Sound as counting
 use Rattle.tables.specs.Checked.{Statuses}
 use Rattle.tables.specs.Sound.{Mesh, LaidSound, tableCells, examinedCorners}
-use Rattle.renew.specs.RenewRoom.{RenewRoom}
+use Rattle.remaking.specs.RenewRoom.{RenewRoom}
 use Rattle.base.specs.Refuse.{answerOf}
 use Rattle.mesh.specs.Answers.{newTable, limitsAnswer}
 
