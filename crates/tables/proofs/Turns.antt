@@ -1,10 +1,10 @@
 -- What the check of a level means for the building: the table fails, the level is the highest, or the next one follows.
 -- Assumes nothing.
-use mathlib.Core.Path.{_≡_, sym, _∙_}
+use mathlib.Core.Path.{_≡_, refl, sym, _∙_}
 use mathlib.Core.Bool.{Bool, true, false}
 use mathlib.Core.List.{List, []}
 use Prim.Native.Nat.{ℕ, suc, _+_, _*_, _-_, _≤_}
-use native.Mathlib.Decide.{decLt}
+use native.Mathlib.Decide.{decLt, ℕ-discrete}
 use native.Mathlib.Omega.{arith}
 use lib.ListN.{length}
 use Rattle.base.specs.Lists.{sameb}
@@ -14,6 +14,10 @@ use Rattle.mesh.specs.Table.{soundb, sizes}
 use Rattle.rows.specs.Numbered.{part}
 use Rattle.growth.specs.Level.{Grows, Roomy}
 use Rattle.rows.specs.Sizes.{status-fits}
+use Rattle.closure.specs.Listed.{Looks}
+use Rattle.separation.specs.Parents.{Parents}
+use Rattle.tables.specs.Sound.{Examined}
+use Rattle.tables.specs.Finish.{EndedWith, unsound-examined, top-looks, top-parents, top-ended}
 use Rattle.tables.specs.Checked.{Statuses, Whole, Checked, ownStatuses}
 use Rattle.tables.specs.Here.{Here, Top}
 use Rattle.tables.specs.Onward.{fails-short, fails-more, fails-high, fails-open, closed-are, here-next, here-top}
@@ -23,7 +27,7 @@ module _ (n : ℕ) (qs : List (List ℕ)) (ss : List ℕ) (j first last : ℕ) (
     (h : Here n qs ss j first last rows xs ys heads links k ps ps′ heads′ links′ m) (st : Statuses ss)
     (xs₁ ys₁ heads₁ links₁ : List ℕ) (ok : Bool) (k₁ size : ℕ) (c : Checked rows ss first last xs ys k xs₁ ys₁ heads₁ links₁ ok k₁ size)
   where
-    pub turn-fails : ok ≡ false → soundb n qs ss ≡ false
+    turn-fails : ok ≡ false → soundb n qs ss ≡ false
     turn-fails e =
         elim (decLt (length ss) last) [
           | yes l ↦ fails-short n qs ss j first last rows xs ys heads links k ps ps′ heads′ links′ m h l
@@ -56,10 +60,10 @@ module _ (n : ℕ) (qs : List (List ℕ)) (ss : List ℕ) (j first last : ℕ) (
       closed = sym (closed-are n qs ss j first last rows xs ys heads links k ps ps′ heads′ links′ m h) ∙ sym (turn-fits e .whole .closed)
           ∙ e
 
-      pub turn-inside : last ≤ length ss
+      turn-inside : last ≤ length ss
       turn-inside = turn-fits e .inside
 
-      pub turn-top : size ≡ 0 → Top n qs ss j last rows xs₁ ys₁ heads₁ links₁ k₁ ps ps′ heads′ links′ m
+      turn-top : size ≡ 0 → Top n qs ss j last rows xs₁ ys₁ heads₁ links₁ k₁ ps ps′ heads′ links′ m
       turn-top z =
           let f = turn-fits e in
           let s : sizes (ownStatuses rows ss first last) ≡ 0 = sym (f .whole .many) ∙ z in
@@ -67,7 +71,7 @@ module _ (n : ℕ) (qs : List (List ℕ)) (ss : List ℕ) (j first last : ℕ) (
           here-top n qs ss j first last rows xs ys heads links k ps ps′ heads′ links′ m h closed (f .inside) st s xs₁ ys₁ heads₁ links₁ k₁
           (f .whole .grown) (rw q at (f .whole .reds))
 
-      pub turn-high : (size ≡ 0 → ⊥) → j ≡ 10 → soundb n qs ss ≡ false
+      turn-high : (size ≡ 0 → ⊥) → j ≡ 10 → soundb n qs ss ≡ false
       turn-high z t =
           let f = turn-fits e in
           let s = f .whole .many in
@@ -103,3 +107,21 @@ module _ (n : ℕ) (qs : List (List ℕ)) (ss : List ℕ) (j first last : ℕ) (
           here-next n qs ss j first last rows xs ys heads links k ps ps′ heads′ links′ m h closed (f .inside) (omega (arith, t, h .low)) st
           (f .fit) (omega (arith, z)) long
           rows₂ ps₂ ps₂′ heads₂ links₂ last₂ m₂ g xs₁ ys₁ heads₁ links₁ k₁ (f .whole .grown) (rw q at (f .whole .reds))
+
+    -- where the building ends
+    pub turn-looks : 8 * length ss ≤ length rows → ok ≡ true → size ≡ 0 → Looks rows xs₁ ys₁ heads₁ links₁ last 0 k₁ × Parents rows last
+    turn-looks long t z = (
+      top-looks n qs ss j last rows xs₁ ys₁ heads₁ links₁ k₁ ps ps′ heads′ links′ m (turn-top t z) (omega (arith, turn-inside t, long)),
+      top-parents n qs ss j last rows xs₁ ys₁ heads₁ links₁ k₁ ps ps′ heads′ links′ m (turn-top t z),
+    )
+
+    pub turn-ended : (ok ≡ true → (size ≡ 0 → ⊥) → j ≡ 10) → (refusal cells levels mids : ℕ)
+        → EndedWith ok size ss rows xs₁ ys₁ k₁ last j m refusal cells levels mids
+        → Examined n qs ss rows ps ps′ refusal cells levels mids
+    turn-ended high refusal cells levels mids d = go ok refl (ℕ-discrete size 0)
+      where
+        go : (b : Bool) → ok ≡ b → Dec (size ≡ 0) → Examined n qs ss rows ps ps′ refusal cells levels mids
+        go false f e = unsound-examined n qs ss rows ps ps′ refusal cells levels mids (d .torn f) (turn-fails f)
+        go true t (no e) = unsound-examined n qs ss rows ps ps′ refusal cells levels mids (d .above e) (turn-high t e (high t e))
+        go true t (yes z) = top-ended n qs ss j last rows xs₁ ys₁ heads₁ links₁ k₁ ps ps′ heads′ links′ m (turn-top t z) refusal cells
+            levels mids (d .whole t z)

@@ -49,6 +49,29 @@ module _ (ss rows xs ys : List ℕ) (k last level m refusal cells levels mids : 
     unfolding unlessSound
     ended-so t = record { answer = rw (eq-eqb (length ss) last e, sym a ∙ t); counts = λ z. (refl, omega arith, refl) }
 
+-- the next level follows
+pub record GoesOn (ok : Bool) (size level : ℕ) : Type 0 where
+  pub closed : ok ≡ true
+  pub above : size ≡ 0 → ⊥
+  pub low : level ≡ 10 → ⊥
+
+-- the end with a level that is closed or not and has so many cells above it
+pub record EndedWith (ok : Bool) (size : ℕ) (ss rows xs ys : List ℕ) (k last level m refusal cells levels mids : ℕ) : Type 0 where
+  pub torn : ok ≡ false → refusal ≡ 6
+  pub above : (size ≡ 0 → ⊥) → refusal ≡ 6
+  pub whole : ok ≡ true → size ≡ 0 → Concluded ss rows xs ys k last level m refusal cells levels mids
+
+module _ (ok : Bool) (size : ℕ) (ss rows xs ys : List ℕ) (k last level m refusal cells levels mids : ℕ) where
+  pub ended-open : ok ≡ false → refusal ≡ 6 → EndedWith ok size ss rows xs ys k last level m refusal cells levels mids
+  ended-open f six = record { torn = λ e. six; above = λ e. six; whole = λ t z. not-both ok t f }
+
+  pub ended-above : (size ≡ 0 → ⊥) → refusal ≡ 6 → EndedWith ok size ss rows xs ys k last level m refusal cells levels mids
+  ended-above ne six = record { torn = λ e. six; above = λ e. six; whole = λ t z. absurd (ne z) }
+
+  pub ended-whole : ok ≡ true → size ≡ 0 → Concluded ss rows xs ys k last level m refusal cells levels mids
+      → EndedWith ok size ss rows xs ys k last level m refusal cells levels mids
+  ended-whole t z c = record { torn = λ f. not-both ok t f; above = λ ne. absurd (ne z); whole = λ e e′. c }
+
 -- what a sound table cannot be
 module _ (n : ℕ) (qs : List (List ℕ)) (ss : List ℕ) where
   pub unsound-long : 4096 < length ss → soundb n qs ss ≡ false

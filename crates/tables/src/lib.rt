@@ -1,5 +1,6 @@
 // Status tables over a coarse mesh: examined and laid out.
 ghost use mathlib.Core.Path.{_≡_};
+ghost use mathlib.Core.Bool.{true, false};
 ghost use mathlib.Core.List.{flatMap};
 ghost use Prim.Native.Nat.{_*_, _≤_};
 ghost use lib.ListN.{length, take};
@@ -9,7 +10,7 @@ ghost use Rattle.pairs.specs.Keys.{Clear};
 ghost use Rattle.closure.specs.Listed.{Looks};
 ghost use Rattle.separation.specs.Parents.{Parents};
 ghost use Rattle.tables.specs.Checked.{Statuses, Reds, Checked};
-ghost use Rattle.tables.specs.Finish.{Concluded};
+ghost use Rattle.tables.specs.Finish.{GoesOn, EndedWith};
 ghost use Rattle.tables.specs.Room.{TableRoom, RedRoom};
 ghost use Rattle.tables.specs.Start.{Coarse, coarseRow};
 ghost use Rattle.tables.specs.Sound.{Mesh, Examined};
@@ -105,9 +106,24 @@ pub fn lay_coarse(mesh: &[u16], rows: &mut [u16]) -> usize
     count
 }
 
-// The end of a building, at so many cells and new corners up to this level: refusal 6 where there are more statuses or the third condition
-// does not hold.
+// Whether the building ends with a level: it is not closed, or no cell lies above it, or none may.
+fn is_last(ok: bool, size: usize, level: usize) -> bool
+    ensures { λ r. ⌜ (r ≡ true → ok ≡ true → (size ≡ 0 → ⊥) → level ≡ 10) × (r ≡ false → GoesOn ok size level) ⌝ }
+{
+    if !ok {
+        return true;
+    }
+    if size == 0 {
+        return true;
+    }
+    level == 10
+}
+
+// The end of a building, with a level that is closed or not and has so many cells above it, at so many cells and new corners up to it:
+// refusal 6 where the level is not closed, cells lie above it, there are more statuses, or the third condition does not hold.
 fn finish(
+    ok: bool,
+    size: usize,
     status: &[u8],
     rows: &[u16],
     xs: &[u32],
@@ -120,10 +136,17 @@ fn finish(
     level: usize,
     m: usize,
 ) -> Outcome
-    requires { ⌜ Looks (now rows) (now xs) (now ys) (now heads) (now links) last 0 k ⌝ }
-    requires { ⌜ Parents (now rows) last × (level ≤ 10) ⌝ }
-    ensures { λ r. ⌜ Concluded (was status) (was rows) (was xs) (was ys) k last level m (r .refusal) (r .cells) (r .levels) (r .mids) ⌝ }
+    requires { ⌜ (ok ≡ true → size ≡ 0 → Looks (now rows) (now xs) (now ys) (now heads) (now links) last 0 k × Parents (now rows) last)
+        × (level ≤ 10) ⌝ }
+    ensures { λ r. ⌜ EndedWith ok size (was status) (was rows) (was xs) (was ys) k last level m (r .refusal) (r .cells) (r .levels)
+        (r .mids) ⌝ }
 {
+    if !ok {
+        return refused(6);
+    }
+    if size != 0 {
+        return refused(6);
+    }
     if status.len() != last {
         return refused(6);
     }
@@ -171,12 +194,11 @@ fn build(
     let mut m = 0;
     loop {
         let c = check_level(rows, status, first, last, xs, ys, heads, links, k);
-        if !c.ok {
-            return refused(6);
-        }
         k = c.n;
-        if c.size == 0 {
+        if is_last(c.ok, c.size, level) {
             return finish(
+                c.ok,
+                c.size,
                 status,
                 rows,
                 xs,
@@ -189,9 +211,6 @@ fn build(
                 level,
                 m,
             );
-        }
-        if level == 10 {
-            return refused(6);
         }
         let g = growth::grow_level(
             rows,

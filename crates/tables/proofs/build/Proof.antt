@@ -5,13 +5,11 @@ use mathlib.Core.Path.{_≡_, refl, sym, _∙_}
 use Prim.Native.Nat.{_-_}
 use native.Mathlib.Numerals.{add-one}
 use native.Mathlib.Omega.{arith}
-use borrow.Author.Tests.{not-true, not-false}
 use Rattle.base.specs.Fours.{fours}
-use Rattle.tables.specs.Here.{Here, Top}
+use Rattle.tables.specs.Here.{Here}
 use Rattle.tables.specs.Room.{SameLengths}
 use Rattle.tables.specs.Begin.{here-start}
-use Rattle.tables.proofs.Turns.{turn-fails, turn-inside, turn-top, turn-high, turn-room, turn-next}
-use Rattle.tables.specs.Finish.{unsound-examined, top-looks, top-parents, top-ended}
+use Rattle.tables.proofs.Turns.{turn-looks, turn-ended, turn-room, turn-next}
 use borrow.Author.Needs.{needs}
 use Rattle.tables.proofs.build.Statement.{statement}
 use Rattle.tables.proofs.build.Tie as tie
@@ -94,302 +92,151 @@ check-level-requires c κs =
       ),
     )
 
-refused-requires : tie.Need-refused-requires Inv-loop μ-loop
-refused-requires c κs = search needs
-
-same-length : tie.Need-same-length Inv-loop μ-loop
-same-length c = c .before .before .before .before .before .before .before .before .before .before .before .before .before .before .before
-    .before .before .loop .inv .0 .of-rows ∙ c .before .before .before .before .before .before .before .before .before .before .before
-    .before .before .before .before .before .before .before .before .before .lay-coarse .kept .1 .0
-
-same-length-2 : tie.Need-same-length-2 Inv-loop μ-loop
-same-length-2 c = c .before .before .before .before .before .before .before .before .before .before .before .before .before .before .before
-    .before .before .loop .inv .0 .of-ps
-
-same-length-3 : tie.Need-same-length-3 Inv-loop μ-loop
-same-length-3 c = c .before .before .before .before .before .before .before .before .before .before .before .before .before .before .before
-    .before .before .loop .inv .0 .of-qs
-
-same-length-4 : tie.Need-same-length-4 Inv-loop μ-loop
-same-length-4 c = c .before .before .before .before .before .before .before .before .before .before .before .check-level .kept .1 .1 .1 .1
-    .0 ∙ c .before .before .before .before .before .before .before .before .before .before .before .before .before .before .before .before
-    .before .loop .inv .0 .of-xs
-
-same-length-5 : tie.Need-same-length-5 Inv-loop μ-loop
-same-length-5 c = c .before .before .before .before .before .before .before .before .before .before .before .check-level .kept .1 .1 .1 .1
-    .1 .0 ∙ c .before .before .before .before .before .before .before .before .before .before .before .before .before .before .before
-    .before .before .loop .inv .0 .of-ys
-
-same-length-6 : tie.Need-same-length-6 Inv-loop μ-loop
-same-length-6 c = c .before .before .before .before .before .before .before .before .before .before .before .check-level .kept .1 .1 .1 .1
-    .1 .1 .0 ∙ c .before .before .before .before .before .before .before .before .before .before .before .before .before .before .before
-    .before .before .loop .inv .0 .of-heads
-
-same-length-7 : tie.Need-same-length-7 Inv-loop μ-loop
-same-length-7 c = c .before .before .before .before .before .before .before .before .before .before .before .check-level .kept .1 .1 .1 .1
-    .1 .1 .1 .0 ∙ c .before .before .before .before .before .before .before .before .before .before .before .before .before .before .before
-    .before .before .loop .inv .0 .of-links
-
-same-length-8 : tie.Need-same-length-8 Inv-loop μ-loop
-same-length-8 c = c .before .before .before .before .before .before .before .before .before .before .before .before .before .before .before
-    .before .before .loop .inv .0 .of-heads′
-
-same-length-9 : tie.Need-same-length-9 Inv-loop μ-loop
-same-length-9 c = c .before .before .before .before .before .before .before .before .before .before .before .before .before .before .before
-    .before .before .loop .inv .0 .of-links′
-
-returns : tie.Need-returns Inv-loop μ-loop
-returns c =
-    let l = c .before .before .before .before .before .before .before .before .before .before .before .before .before .before .before
-    .before .before .loop in
-    let a = c .before .before .before .before .before .before .before .before .before .before .before .before .before .before .before
-    .before .before .before .before .before .before .before .before .before .before .before .before .before .before .before .before
-    .before .before .before .args in
-    let t = c .before .before .before .before .before .before .before .before .before .before .before .check-level in
-    unsound-examined (a .n) (fours (a .mesh .now)) (a .status .now) (l .rows) (l .ps) (l .qs) _ _ _ _ (c .refused .ensures .0)
-    (turn-fails (a .n) (fours (a .mesh .now)) (a .status .now) (l .level) (l .first) (l .last) (l .rows) (l .xs) (l .ys) (l .heads)
-    (l .links) (l .k) (l .ps) (l .qs) (l .mid-heads) (l .mid-links) (l .m) (l .inv .1)
-    (c .before .before .before .before .before .before .before .before .before .before .before .before .before .before .before .before
-    .before .before .before .before .before .before .before .before .before .before .before .before .before .before .before .before
-    .before .before .pre
-    .1 .0) (t .last .1 .1 .1 .1 .0) (t .last .1 .1 .1 .1 .1 .0) (t .last .1 .1 .1 .1 .1 .1 .0)
-    (t .last .1 .1 .1 .1 .1 .1 .1 .0) (t .result .ok) (t .result .n) (t .result .size) (t .ensures)
-    (not-true _ (c .before .if1 .taken)))
+is-last-requires : tie.Need-is-last-requires Inv-loop μ-loop
+is-last-requires c κs = search needs
 
 finish-requires : tie.Need-finish-requires Inv-loop μ-loop
 finish-requires c κs =
     let l = c .before .before .before .before .before .before .before .before .before .before .before .before .before .before .before
-    .before .before .before .before .before .before .before .before .loop in
+    .before .before .before .before .before .before .loop in
     let a = c .before .before .before .before .before .before .before .before .before .before .before .before .before .before .before
     .before .before .before .before .before .before .before .before .before .before .before .before .before .before .before .before
-    .before .before .before .before .before .before .before .before .before .args in
+    .before .before .before .before .before .before .before .args in
     let t = c .before .before .before .before .before .before .before .before .before .before .before .before .before .before .before
-    .before .before .check-level in
-    let ok = not-false _ (c .before .before .before .before .before .before .before .if1 .left) in
-    let o : Top (a .n) (fours (a .mesh .now)) (a .status .now) (l .level) (l .last) (l .rows) (t .last .1 .1 .1 .1 .0)
-    (t .last .1 .1 .1 .1 .1 .0) (t .last .1 .1 .1 .1 .1 .1 .0) (t .last .1 .1 .1 .1 .1 .1 .1 .0) (t .result .n) (l .ps) (l .qs)
-    (l .mid-heads) (l .mid-links) (l .m) = turn-top (a .n) (fours (a .mesh .now)) (a .status .now) (l .level) (l .first) (l .last)
-    (l .rows) (l .xs) (l .ys) (l .heads) (l .links) (l .k) (l .ps) (l .qs) (l .mid-heads) (l .mid-links) (l .m) (l .inv .1)
-    (c .before .before .before .before .before .before .before .before .before .before .before .before .before .before .before .before
-    .before .before .before .before .before .before .before .before .before .before .before .before .before .before .before .before
-    .before .before .before .before .before .before .before .before .pre .1 .0)
-    (t .last .1 .1 .1 .1 .0) (t .last .1 .1 .1 .1 .1 .0) (t .last .1 .1 .1 .1 .1 .1 .0) (t .last .1 .1 .1 .1 .1 .1 .1 .0)
-    (t .result .ok) (t .result .n) (t .result .size) (t .ensures) ok (c .before .before .before .before .before .if2 .taken) in
-    let i = turn-inside (a .n) (fours (a .mesh .now)) (a .status .now) (l .level) (l .first) (l .last)
-    (l .rows) (l .xs) (l .ys) (l .heads) (l .links) (l .k) (l .ps) (l .qs) (l .mid-heads) (l .mid-links) (l .m) (l .inv .1)
-    (c .before .before .before .before .before .before .before .before .before .before .before .before .before .before .before .before
-    .before .before .before .before .before .before .before .before .before .before .before .before .before .before .before .before
-    .before .before .before .before .before .before .before .before .pre .1 .0)
-    (t .last .1 .1 .1 .1 .0) (t .last .1 .1 .1 .1 .1 .0) (t .last .1 .1 .1 .1 .1 .1 .0) (t .last .1 .1 .1 .1 .1 .1 .1 .0)
-    (t .result .ok) (t .result .n) (t .result .size) (t .ensures) ok in (
-      top-looks (a .n) (fours (a .mesh .now)) (a .status .now) (l .level) (l .last) (l .rows) (t .last .1 .1 .1 .1 .0)
-          (t .last .1 .1 .1 .1 .1 .0) (t .last .1 .1 .1 .1 .1 .1 .0) (t .last .1 .1 .1 .1 .1 .1 .1 .0) (t .result .n) (l .ps) (l
-          .qs)
-          (l .mid-heads) (l .mid-links) (l .m) o
+    .check-level in (
+      turn-looks (a .n) (fours (a .mesh .now)) (a .status .now) (l .level) (l .first) (l .last) (l .rows) (l .xs) (l .ys) (l .heads)
+          (l .links) (l .k) (l .ps) (l .qs) (l .mid-heads) (l .mid-links) (l .m) (l .inv .1) (c .before .before .before .before .before
+          .before .before .before .before .before .before .before .before .before .before .before .before .before .before .before .before
+          .before .before .before .before .before .before .before .before .before .before .before .before .before .before .before .before
+          .before .pre .1 .0) (t .last .1 .1 .1 .1 .0)
+          (t .last .1 .1 .1 .1 .1 .0) (t .last .1 .1 .1 .1 .1 .1 .0) (t .last .1 .1 .1 .1 .1 .1 .1 .0) (t .result .ok) (t .result .n)
+          (t .result .size) (t .ensures)
           (omega (
             arith,
-            c .before .before .before .before .before .before .before .before .before .before .before .before .before .before .before
+            c .before .before .before .before .before .before .before .before .before .before .before .before .before .before
                 .before .before .before .before .before .before .before .before .before .before .before .before .before .before .before
-                .before .before .before .before .before .before .before .before .before .before .pre .1 .1 .0 .0 .in-rows,
+                .before .before .before .before .before .before .before .before .before .pre .1 .1 .0 .0 .in-rows,
             l .inv .0 .of-rows,
-            c .before .before .before .before .before .before .before .before .before .before .before .before .before .before .before
-                .before .before .before .before .before .before .before .before .before .before .before .lay-coarse .kept .1 .0,
-            i,
+            c .before .before
+                .before .before .before .before .before .before .before .before .before .before .before .before .before .before .before
+                .before .before .before .before .before .before .before .lay-coarse .kept .1 .0,
           )),
-      (
-        top-parents (a .n) (fours (a .mesh .now)) (a .status .now) (l .level)
-            (l .last) (l .rows) (t .last .1 .1 .1 .1 .0) (t .last .1 .1 .1 .1 .1 .0) (t .last .1 .1 .1 .1 .1 .1 .0)
-            (t .last .1 .1 .1 .1 .1 .1 .1 .0) (t .result .n) (l .ps) (l .qs) (l .mid-heads) (l .mid-links) (l .m) o,
-        o .low,
-      ),
+      l .inv .1 .low,
     )
 
-same-length-10 : tie.Need-same-length-10 Inv-loop μ-loop
-same-length-10 c = c .before .before .before .before .before .before .before .before .before .before .before .before .before .before
-    .before .before .before .before .before .before .before .before .before .before .loop .inv .0 .of-rows ∙ c .before .before .before
+same-length : tie.Need-same-length Inv-loop μ-loop
+same-length c = c .before .before .before .before .before .before .before .before .before .before .before .before .before .before .before
+    .before .before .before .before .before .before .before .loop .inv .0 .of-rows ∙ c .before .before .before .before .before .before
     .before .before .before .before .before .before .before .before .before .before .before .before .before .before .before .before .before
-    .before .before .before .before .before .before .before .lay-coarse .kept .1 .0
+    .before .before .lay-coarse .kept .1 .0
 
-same-length-11 : tie.Need-same-length-11 Inv-loop μ-loop
-same-length-11 c = c .before .before .before .before .before .before .before .before .before .before .before .before .before .before
-    .before .before .before .before .before .before .before .before .before .before .loop .inv .0 .of-ps
+same-length-2 : tie.Need-same-length-2 Inv-loop μ-loop
+same-length-2 c = c .before .before .before .before .before .before .before .before .before .before .before .before .before .before .before
+    .before .before .before .before .before .before .before .loop .inv .0 .of-ps
 
-same-length-12 : tie.Need-same-length-12 Inv-loop μ-loop
-same-length-12 c = c .before .before .before .before .before .before .before .before .before .before .before .before .before .before
-    .before .before .before .before .before .before .before .before .before .before .loop .inv .0 .of-qs
+same-length-3 : tie.Need-same-length-3 Inv-loop μ-loop
+same-length-3 c = c .before .before .before .before .before .before .before .before .before .before .before .before .before .before .before
+    .before .before .before .before .before .before .before .loop .inv .0 .of-qs
 
-same-length-13 : tie.Need-same-length-13 Inv-loop μ-loop
-same-length-13 c = c .before .before .before .before .before .before .before .before .before .before .before .before .before .before
-    .before .before .before .before .check-level .kept .1 .1 .1 .1 .0 ∙ c .before .before .before .before .before .before .before .before
-    .before .before .before .before .before .before .before .before .before .before .before .before .before .before .before .before .loop
-    .inv .0 .of-xs
+same-length-4 : tie.Need-same-length-4 Inv-loop μ-loop
+same-length-4 c = c .before .before .before .before .before .before .before .before .before .before .before .before .before .before .before
+    .before .check-level .kept .1 .1 .1 .1 .0 ∙ c .before .before .before .before .before .before .before .before .before .before .before
+    .before .before .before .before .before .before .before .before .before .before .before .loop .inv .0 .of-xs
 
-same-length-14 : tie.Need-same-length-14 Inv-loop μ-loop
-same-length-14 c = c .before .before .before .before .before .before .before .before .before .before .before .before .before .before
-    .before .before .before .before .check-level .kept .1 .1 .1 .1 .1 .0 ∙ c .before .before .before .before .before .before .before
-    .before .before .before .before .before .before .before .before .before .before .before .before .before .before .before .before .before
-    .loop .inv .0 .of-ys
+same-length-5 : tie.Need-same-length-5 Inv-loop μ-loop
+same-length-5 c = c .before .before .before .before .before .before .before .before .before .before .before .before .before .before .before
+    .before .check-level .kept .1 .1 .1 .1 .1 .0 ∙ c .before .before .before .before .before .before .before .before .before .before
+    .before .before .before .before .before .before .before .before .before .before .before .before .loop .inv .0 .of-ys
 
-same-length-15 : tie.Need-same-length-15 Inv-loop μ-loop
-same-length-15 c = c .before .before .before .before .before .before .before .before .before .before .before .before .before .before
-    .before .before .before .before .check-level .kept .1 .1 .1 .1 .1 .1 .0 ∙ c .before .before .before .before .before .before .before
-    .before .before .before .before .before .before .before .before .before .before .before .before .before .before .before .before .before
-    .loop .inv .0 .of-heads
+same-length-6 : tie.Need-same-length-6 Inv-loop μ-loop
+same-length-6 c = c .before .before .before .before .before .before .before .before .before .before .before .before .before .before .before
+    .before .check-level .kept .1 .1 .1 .1 .1 .1 .0 ∙ c .before .before .before .before .before .before .before .before .before .before
+    .before .before .before .before .before .before .before .before .before .before .before .before .loop .inv .0 .of-heads
 
-same-length-16 : tie.Need-same-length-16 Inv-loop μ-loop
-same-length-16 c = c .before .before .before .before .before .before .before .before .before .before .before .before .before .before
-    .before .before .before .before .check-level .kept .1 .1 .1 .1 .1 .1 .1 .0 ∙ c .before .before .before .before .before .before .before
-    .before .before .before .before .before .before .before .before .before .before .before .before .before .before .before .before .before
-    .loop .inv .0 .of-links
+same-length-7 : tie.Need-same-length-7 Inv-loop μ-loop
+same-length-7 c = c .before .before .before .before .before .before .before .before .before .before .before .before .before .before .before
+    .before .check-level .kept .1 .1 .1 .1 .1 .1 .1 .0 ∙ c .before .before .before .before .before .before .before .before .before .before
+    .before .before .before .before .before .before .before .before .before .before .before .before .loop .inv .0 .of-links
 
-same-length-17 : tie.Need-same-length-17 Inv-loop μ-loop
-same-length-17 c = c .before .before .before .before .before .before .before .before .before .before .before .before .before .before
-    .before .before .before .before .before .before .before .before .before .before .loop .inv .0 .of-heads′
+same-length-8 : tie.Need-same-length-8 Inv-loop μ-loop
+same-length-8 c = c .before .before .before .before .before .before .before .before .before .before .before .before .before .before .before
+    .before .before .before .before .before .before .before .loop .inv .0 .of-heads′
 
-same-length-18 : tie.Need-same-length-18 Inv-loop μ-loop
-same-length-18 c = c .before .before .before .before .before .before .before .before .before .before .before .before .before .before
-    .before .before .before .before .before .before .before .before .before .before .loop .inv .0 .of-links′
+same-length-9 : tie.Need-same-length-9 Inv-loop μ-loop
+same-length-9 c = c .before .before .before .before .before .before .before .before .before .before .before .before .before .before .before
+    .before .before .before .before .before .before .before .loop .inv .0 .of-links′
 
-returns-2 : tie.Need-returns-2 Inv-loop μ-loop
-returns-2 c =
+returns : tie.Need-returns Inv-loop μ-loop
+returns c =
     let l = c .before .before .before .before .before .before .before .before .before .before .before .before .before .before .before
-    .before .before .before .before .before .before .before .before .before .loop in
+    .before .before .before .before .before .before .before .loop in
     let a = c .before .before .before .before .before .before .before .before .before .before .before .before .before .before .before
     .before .before .before .before .before .before .before .before .before .before .before .before .before .before .before .before
-    .before .before .before .before .before .before .before .before .before .before .args in
+    .before .before .before .before .before .before .before .before .args in
     let t = c .before .before .before .before .before .before .before .before .before .before .before .before .before .before .before
-    .before .before .before .check-level in
+    .before .check-level in
     let f = c .finish in
-    let o : Top (a .n) (fours (a .mesh .now)) (a .status .now) (l .level) (l .last) (l .rows) (t .last .1 .1 .1 .1 .0)
-    (t .last .1 .1 .1 .1 .1 .0) (t .last .1 .1 .1 .1 .1 .1 .0) (t .last .1 .1 .1 .1 .1 .1 .1 .0) (t .result .n) (l .ps) (l .qs)
-    (l .mid-heads) (l .mid-links) (l .m) = turn-top (a .n) (fours (a .mesh .now)) (a .status .now) (l .level) (l .first) (l .last)
-    (l .rows) (l .xs) (l .ys) (l .heads) (l .links) (l .k) (l .ps) (l .qs) (l .mid-heads) (l .mid-links) (l .m) (l .inv .1)
-    (c .before .before .before .before .before .before .before .before .before .before .before .before .before .before .before .before
+    turn-ended (a .n) (fours (a .mesh .now)) (a .status .now) (l .level) (l .first) (l .last) (l .rows) (l .xs) (l .ys) (l .heads)
+    (l .links) (l .k) (l .ps) (l .qs) (l .mid-heads) (l .mid-links) (l .m) (l .inv .1) (c .before .before .before .before .before .before
     .before .before .before .before .before .before .before .before .before .before .before .before .before .before .before .before
-    .before .before .before .before .before .before .before .before .before .pre .1 .0)
-    (t .last .1 .1 .1 .1 .0) (t .last .1 .1 .1 .1 .1 .0) (t .last .1 .1 .1 .1 .1 .1 .0) (t .last .1 .1 .1 .1 .1 .1 .1 .0)
-    (t .result .ok) (t .result .n) (t .result .size) (t .ensures) (not-false _ (c .before .before .before .before .before .before .before
-    .before .if1 .left)) (c .before .before .before .before .before .before .if2 .taken) in
-    top-ended (a .n) (fours (a .mesh .now)) (a .status .now) (l .level) (l .last) (l .rows)
-    (t .last .1 .1 .1 .1 .0) (t .last .1 .1 .1 .1 .1 .0) (t .last .1 .1 .1 .1 .1 .1 .0) (t .last .1 .1 .1 .1 .1 .1 .1 .0) (t .result .n)
-    (l .ps) (l .qs) (l .mid-heads) (l .mid-links) (l .m) o (f .result .refusal) (f .result .cells) (f .result .levels) (f .result .mids)
-    (f .ensures)
-
-refused-requires-2 : tie.Need-refused-requires-2 Inv-loop μ-loop
-refused-requires-2 c κs = search needs
-
-same-length-19 : tie.Need-same-length-19 Inv-loop μ-loop
-same-length-19 c = c .before .before .before .before .before .before .before .before .before .before .before .before .before .before
-    .before .before .before .before .before .before .loop .inv .0 .of-rows ∙ c .before .before .before .before .before .before .before
     .before .before .before .before .before .before .before .before .before .before .before .before .before .before .before .before
-    .lay-coarse .kept .1 .0
-
-same-length-20 : tie.Need-same-length-20 Inv-loop μ-loop
-same-length-20 c = c .before .before .before .before .before .before .before .before .before .before .before .before .before .before
-    .before .before .before .before .before .before .loop .inv .0 .of-ps
-
-same-length-21 : tie.Need-same-length-21 Inv-loop μ-loop
-same-length-21 c = c .before .before .before .before .before .before .before .before .before .before .before .before .before .before
-    .before .before .before .before .before .before .loop .inv .0 .of-qs
-
-same-length-22 : tie.Need-same-length-22 Inv-loop μ-loop
-same-length-22 c = c .before .before .before .before .before .before .before .before .before .before .before .before .before .before
-    .check-level .kept .1 .1 .1 .1 .0 ∙ c .before .before .before .before .before .before .before .before .before .before .before .before
-    .before .before .before .before .before .before .before .before .loop .inv .0 .of-xs
-
-same-length-23 : tie.Need-same-length-23 Inv-loop μ-loop
-same-length-23 c = c .before .before .before .before .before .before .before .before .before .before .before .before .before .before
-    .check-level .kept .1 .1 .1 .1 .1 .0 ∙ c .before .before .before .before .before .before .before .before .before .before .before
-    .before .before .before .before .before .before .before .before .before .loop .inv .0 .of-ys
-
-same-length-24 : tie.Need-same-length-24 Inv-loop μ-loop
-same-length-24 c = c .before .before .before .before .before .before .before .before .before .before .before .before .before .before
-    .check-level .kept .1 .1 .1 .1 .1 .1 .0 ∙ c .before .before .before .before .before .before .before .before .before .before .before
-    .before .before .before .before .before .before .before .before .before .loop .inv .0 .of-heads
-
-same-length-25 : tie.Need-same-length-25 Inv-loop μ-loop
-same-length-25 c = c .before .before .before .before .before .before .before .before .before .before .before .before .before .before
-    .check-level .kept .1 .1 .1 .1 .1 .1 .1 .0 ∙ c .before .before .before .before .before .before .before .before .before .before .before
-    .before .before .before .before .before .before .before .before .before .loop .inv .0 .of-links
-
-same-length-26 : tie.Need-same-length-26 Inv-loop μ-loop
-same-length-26 c = c .before .before .before .before .before .before .before .before .before .before .before .before .before .before
-    .before .before .before .before .before .before .loop .inv .0 .of-heads′
-
-same-length-27 : tie.Need-same-length-27 Inv-loop μ-loop
-same-length-27 c = c .before .before .before .before .before .before .before .before .before .before .before .before .before .before
-    .before .before .before .before .before .before .loop .inv .0 .of-links′
-
-returns-3 : tie.Need-returns-3 Inv-loop μ-loop
-returns-3 c =
-    let l = c .before .before .before .before .before .before .before .before .before .before .before .before .before .before .before
-    .before .before .before .before .before .loop in
-    let a = c .before .before .before .before .before .before .before .before .before .before .before .before .before .before .before
-    .before .before .before .before .before .before .before .before .before .before .before .before .before .before .before .before
-    .before .before .before .before .before .before .args in
-    let t = c .before .before .before .before .before .before .before .before .before .before .before .before .before .before .check-level
-    in
-    unsound-examined (a .n) (fours (a .mesh .now)) (a .status .now) (l .rows) (l .ps) (l .qs) _ _ _ _ (c .refused2 .ensures .0)
-    (turn-high (a .n) (fours (a .mesh .now)) (a .status .now) (l .level) (l .first) (l .last) (l .rows) (l .xs) (l .ys) (l .heads)
-    (l .links) (l .k) (l .ps) (l .qs) (l .mid-heads) (l .mid-links) (l .m) (l .inv .1)
-    (c .before .before .before .before .before .before .before .before .before .before .before .before .before .before .before .before
-    .before .before .before .before .before .before .before .before .before .before .before .before .before .before .before .before
-    .before .before .before .before .before .pre .1 .0) (t .last .1 .1 .1 .1 .0) (t .last .1 .1 .1 .1 .1 .0)
-    (t .last .1 .1 .1 .1 .1 .1 .0) (t .last .1 .1 .1 .1 .1 .1 .1 .0) (t .result .ok) (t .result .n) (t .result .size) (t .ensures)
-    (not-false _ (c .before .before .before .before .if1 .left)) (c .before .before .if2 .left) (c .before .if3 .taken))
+    .before .pre .1 .0) (t .last .1 .1 .1 .1 .0)
+    (t .last .1 .1 .1 .1 .1 .0) (t .last .1 .1 .1 .1 .1 .1 .0) (t .last .1 .1 .1 .1 .1 .1 .1 .0) (t .result .ok) (t .result .n)
+    (t .result .size) (t .ensures)
+    (c .before .before .before .before .before .before .before .is-last .ensures .0 (c .before .before .before .before .before .before .if1
+    .taken)) (f .result .refusal) (f .result .cells) (f .result .levels) (f .result .mids) (f .ensures)
 
 add-grow-level : tie.Need-add-grow-level Inv-loop μ-loop
 add-grow-level c = omega (
   arith,
   c .before .before .before .before .before .before .before .before .before .before .before .before .before .before .before .before .before
-      .before .before .before .loop .inv .1 .low,
+      .loop .inv .1 .low,
 )
 
 cast-grow-level : tie.Need-cast-grow-level Inv-loop μ-loop
 cast-grow-level c = omega (
   arith,
   c .before .before .before .before .before .before .before .before .before .before .before .before .before .before .before .before .before
-      .before .before .before .loop .inv .1 .low,
+      .loop .inv .1 .low,
 )
 
 slice-aggregate-grow-level : tie.Need-slice-aggregate-grow-level Inv-loop μ-loop
 slice-aggregate-grow-level c = search (
   c .before .before .before .before .before .before .before .before .before .before .before .before .before .before .before .before .before
-      .before .before .before .before .before .before .before .before .before .before .before .before .before .digit-table .ok,
+      .before .before .before .before .before .before .before .before .before .before .digit-table .ok,
   needs,
 )
 
 grow-level-requires : tie.Need-grow-level-requires Inv-loop μ-loop
 grow-level-requires c κs =
     let l = c .before .before .before .before .before .before .before .before .before .before .before .before .before .before .before
-    .before .before .before .before .before .before .before .before .before .before .loop in
+    .before .before .before .before .before .before .before .loop in
     let a = c .before .before .before .before .before .before .before .before .before .before .before .before .before .before .before
     .before .before .before .before .before .before .before .before .before .before .before .before .before .before .before .before
-    .before .before .before .before .before .before .before .before .before .before .before .args in
+    .before .before .before .before .before .before .before .before .args in
     let t = c .before .before .before .before .before .before .before .before .before .before .before .before .before .before .before
-    .before .before .before .before .check-level in
+    .before .check-level in
     let w = l .inv .0 in
     let r = c .before .before .before .before .before .before .before .before .before .before .before .before .before .before .before
     .before .before .before .before .before .before .before .before .before .before .before .before .before .before .before .before
-    .before .before .before .before .before .before .before .before .before .before .before .pre .1 .1 .0 in (
+    .before .before .before .before .before .before .before .before .pre .1 .1 .0 in (
       turn-room (a .n) (fours (a .mesh .now)) (a .status .now) (l .level) (l .first) (l .last) (l .rows) (l .xs) (l .ys) (l .heads)
           (l .links) (l .k) (l .ps) (l .qs) (l .mid-heads) (l .mid-links) (l .m) (l .inv .1)
           (c .before .before .before .before .before .before .before .before .before .before .before .before .before .before .before
           .before .before .before .before .before .before .before .before .before .before .before .before .before .before .before .before
-          .before .before .before .before .before .before .before .before .before .before .before .pre .1 .0) (t .last .1 .1 .1 .1 .0)
+          .before .before .before .before .before .before .before .before .pre .1 .0) (t .last .1 .1 .1 .1 .0)
           (t .last .1 .1 .1 .1 .1 .0) (t .last .1 .1 .1 .1 .1 .1 .0) (t .last .1 .1 .1 .1 .1 .1 .1 .0) (t .result .ok) (t .result
           .n)
-          (t .result .size) (t .ensures) (not-false _ (c .before .before .before .before .before .before .before .before .before .if1
-          .left))
+          (t .result .size) (t .ensures) (c .before .before .before .before .before .before .before .is-last .ensures .1 (c .before .before
+          .before .before .before .before .if1 .left) .closed)
           (c .before .before .before .before .before .before .before .before .before .before .before .before .before .before .before
           .before .before .before .before .before .before .before .before .before .before .before .before .before .before .before .before
-          .before .before .before .before .before .before .before .before .before .before .before .pre .0 .corners) (omega (
+          .before .before .before .before .before .before .before .before .pre .0 .corners) (omega (
             arith,
             r .0 .in-rows,
             w .of-rows,
             c .before .before .before .before .before .before .before .before .before .before .before .before .before .before .before
-                .before .before .before .before .before .before .before .before .before .before .before .before .before .lay-coarse .kept
-                .1 .0,
+                .before .before .before .before .before .before .before .before .before .before .lay-coarse .kept .1 .0,
           )) (omega (
             arith,
             r .0 .in-ps,
@@ -397,38 +244,36 @@ grow-level-requires c κs =
           ))
           (omega (arith, r .0 .in-qs, w .of-qs)) (omega (arith, r .2, w .of-links′)),
       c .before .before .before .before .before .before .before .before .before .before .before .before .before .before .before .before
-          .before .before .before .before .before .before .before .before .before .before .before .before .before .before .digit-table
-          .ensures,
+          .before .before .before .before .before .before .before .before .before .before .before .digit-table .ensures,
     )
 
 add-level : tie.Need-add-level Inv-loop μ-loop
 add-level c = omega (
   arith,
   c .before .before .before .before .before .before .before .before .before .before .before .before .before .before .before .before .before
-      .before .before .before .before .before .before .before .before .before .before .before .before .before .before .before .before
-      .before .before .before .loop .inv .1 .low,
+      .before .before .before .before .before .before .before .before .before .before .before .before .before .before .before .before .loop
+      .inv .1 .low,
 )
 
 loop-less : tie.Need-loop-less Inv-loop μ-loop
 loop-less c = omega (
   arith,
   c .before .before .before .before .before .before .before .before .before .before .before .before .before .before .before .before .before
-      .before .before .before .before .before .before .before .before .before .before .before .before .before .before .before .before
-      .before .before .before .loop .inv .1 .low,
+      .before .before .before .before .before .before .before .before .before .before .before .before .before .before .before .before .loop
+      .inv .1 .low,
 )
 
 loop-again : tie.Need-loop-again Inv-loop μ-loop
 loop-again c =
     let l = c .before .before .before .before .before .before .before .before .before .before .before .before .before .before .before
     .before .before .before .before .before .before .before .before .before .before .before .before .before .before .before .before
-    .before .before .before .before .before .loop in
+    .before .before .loop in
     let a = c .before .before .before .before .before .before .before .before .before .before .before .before .before .before .before
     .before .before .before .before .before .before .before .before .before .before .before .before .before .before .before .before
     .before .before .before .before .before .before .before .before .before .before .before .before .before .before .before .before
-    .before .before .before .before .before .before .args in
+    .before .before .before .args in
     let t = c .before .before .before .before .before .before .before .before .before .before .before .before .before .before .before
-    .before .before .before .before .before .before .before .before .before .before .before .before .before .before .before
-    .check-level in
+    .before .before .before .before .before .before .before .before .before .before .before .before .check-level in
     let g = c .before .before .before .before .before .before .before .before .before .before .grow-level in
     let w = l .inv .0 in (
       record {
@@ -448,25 +293,27 @@ loop-again c =
           (c .before .before .before .before .before .before .before .before .before .before .before .before .before .before .before
           .before .before .before .before .before .before .before .before .before .before .before .before .before .before .before .before
           .before .before .before .before .before .before .before .before .before .before .before .before .before .before .before .before
-          .before .before .before .before .before .before .pre .1 .0) (t .last .1 .1 .1 .1 .0)
+          .before .before .before .pre .1 .0) (t .last .1 .1 .1 .1 .0)
           (t .last .1 .1 .1 .1 .1 .0) (t .last .1 .1 .1 .1 .1 .1 .0) (t .last .1 .1 .1 .1 .1 .1 .1 .0) (t .result .ok) (t .result .n)
-          (t .result .size) (t .ensures) (not-false _ (c .before .before .before .before .before .before .before .before .before .before
-          .before .before .before .before .before .before .before .before .before .before .if1
-          .left))
+          (t .result .size) (t .ensures) (c .before .before .before .before .before .before .before .before .before .before .before .before
+          .before .before .before .before .before .before .is-last .ensures .1 (c .before .before .before .before .before .before .before
+          .before .before .before .before .before .before .before .before .before .before .if1 .left) .closed)
           (c .before .before .before .before .before .before .before .before .before .before .before .before .before .before .before
-          .before .before .before .if2 .left)
+          .before .before .before .is-last .ensures .1 (c .before .before .before .before .before .before .before .before .before .before
+          .before .before .before .before .before .before .before .if1 .left) .above)
           (c .before .before .before .before .before .before .before .before .before .before .before .before .before .before .before
-          .before .before .if3 .left)
+          .before .before .before .is-last .ensures .1 (c .before .before .before .before .before .before .before .before .before .before
+          .before .before .before .before .before .before .before .if1 .left) .low)
           (omega (
             arith,
             c .before .before .before .before .before .before .before .before .before .before .before .before .before .before .before
                 .before .before .before .before .before .before .before .before .before .before .before .before .before .before .before
                 .before .before .before .before .before .before .before .before .before .before .before .before .before .before .before
-                .before .before .before .before .before .before .before .before .pre .1 .1 .0 .0 .in-rows,
+                .before .before .before .before .before .pre .1 .1 .0 .0 .in-rows,
             w .of-rows,
             c .before .before .before .before .before .before .before .before .before .before .before .before .before .before .before
                 .before .before .before .before .before .before .before .before .before .before .before .before .before .before .before
-                .before .before .before .before .before .before .before .before .before .lay-coarse .kept
+                .before .before .before .before .before .before .lay-coarse .kept
                 .1 .0,
           ))
           (g .last .0) (g .last .1 .1 .1 .1 .1 .1 .1 .0) (g .last .1 .1 .1 .1 .1 .1 .1 .1 .0) (g .last .1 .1 .1 .1 .1 .1 .1 .1 .1 .0)
@@ -483,7 +330,8 @@ build-spec =
     lay-coarse-requires
     loop-holds
     check-level-requires
-    refused-requires
+    is-last-requires
+    finish-requires
     same-length
     same-length-2
     same-length-3
@@ -494,28 +342,6 @@ build-spec =
     same-length-8
     same-length-9
     returns
-    finish-requires
-    same-length-10
-    same-length-11
-    same-length-12
-    same-length-13
-    same-length-14
-    same-length-15
-    same-length-16
-    same-length-17
-    same-length-18
-    returns-2
-    refused-requires-2
-    same-length-19
-    same-length-20
-    same-length-21
-    same-length-22
-    same-length-23
-    same-length-24
-    same-length-25
-    same-length-26
-    same-length-27
-    returns-3
     add-grow-level
     cast-grow-level
     slice-aggregate-grow-level
