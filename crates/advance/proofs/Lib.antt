@@ -1,3 +1,4 @@
+pub mod Rooms
 pub mod Scan
 pub mod TopLevel
 pub mod Work

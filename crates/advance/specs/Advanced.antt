@@ -1,6 +1,7 @@
 -- What the work of a step asks for and leaves.
 --   Held n mesh rows ss   an accepted mesh of n corners and a sound table over it, with the rows of its cells
 --   AdvanceRoom most ..   tables with room for a table ss and for `most` new cells
+--   NewRoom most some ..  a table ss of at most `some` statuses, and room for what is made of it
 --   Advanced ..           the answer, and where there is no refusal the new table, with its rows and the ends of its corners
 -- Law: held-statuses (the statuses of a held table).
 use mathlib.Core.Path.{_≡_}
@@ -35,6 +36,14 @@ pub record AdvanceRoom (most : ℕ) (ss rows ps qs table xs ys links links′ ol
   pub in-links : length xs ≤ length links
   pub in-kids : length ss < length kids
   pub in-red : length ss ≤ length red
+
+-- Rules 9.2, 9.3: a table of at most `some` statuses, and room for the rows, ends and statuses of `most` new cells.
+pub record NewRoom (most some : ℕ) (ss rows ps qs table : List ℕ) : Type 0 where
+  pub old-few : length ss ≤ some
+  pub in-rows : 8 * most ≤ length rows
+  pub in-ps : most ≤ length ps
+  pub in-qs : most ≤ length qs
+  pub in-table : most ≤ length table
 
 -- Rules 7.7, 7.8, with room for `most` new cells: the answer, and the new table with its rows and ends.
 pub record Advanced (most n : ℕ) (mesh ss ms rows ps qs table : List ℕ) (refusal cells levels mids : ℕ) : Type 0 where

@@ -6,7 +6,7 @@ ghost use lib.ListN.{length};
 ghost use Rattle.cutting.specs.Answer.{digitTable};
 ghost use Rattle.base.specs.Lent.{was, is};
 ghost use Rattle.advance.specs.Deep.{deepAt, deepFrom, Decided};
-ghost use Rattle.advance.specs.Advanced.{Held, AdvanceRoom, Advanced};
+ghost use Rattle.advance.specs.Advanced.{Held, AdvanceRoom, NewRoom, Advanced};
 
 // Whether a cell of level 10 will be red.
 fn too_deep(rows: &[u16], red: &[u8], cells: usize) -> bool
@@ -107,4 +107,142 @@ pub fn advance(
         levels: r.levels,
         mids: r.mids,
     }
+}
+
+// The same for at most 128 statuses, with tables for the work that have room for 256 new cells.
+pub fn advance_least(
+    mesh: &[u16],
+    n: usize,
+    rows: &mut [u16],
+    status: &[u8],
+    marks: &[u8],
+    ps: &mut [u32],
+    qs: &mut [u32],
+    table: &mut [u8],
+) -> Outcome
+    requires { ⌜ Held n (now mesh) (now rows) (now status) ⌝ }
+    requires { ⌜ length (now marks) ≡ length (now status) ⌝ }
+    requires { ⌜ NewRoom 256 128 (now status) (now rows) (now ps) (now qs) (now table) ⌝ }
+    ensures { λ r. ⌜ Advanced 256 n (was mesh) (was status) (was marks) (is rows) (is ps) (is qs) (is table) (r .refusal) (r .cells)
+        (r .levels) (r .mids) ⌝ }
+{
+    let mut xs = [0u32; 384];
+    let mut ys = [0u32; 384];
+    let mut links = [0u16; 384];
+    let mut mid_links = [0u16; 256];
+    let mut old = [0u16; 256];
+    let mut kids = [0u16; 129];
+    let mut red = [0u8; 128];
+    let digits = cutting::digit_table();
+    advance(
+        mesh,
+        n,
+        rows,
+        status,
+        marks,
+        ps,
+        qs,
+        table,
+        &mut xs,
+        &mut ys,
+        &mut links,
+        &mut mid_links,
+        &mut old,
+        &mut kids,
+        &mut red,
+        &digits,
+        256,
+    )
+}
+
+// The same for at most 512 statuses and 1,024 new cells.
+pub fn advance_few(
+    mesh: &[u16],
+    n: usize,
+    rows: &mut [u16],
+    status: &[u8],
+    marks: &[u8],
+    ps: &mut [u32],
+    qs: &mut [u32],
+    table: &mut [u8],
+) -> Outcome
+    requires { ⌜ Held n (now mesh) (now rows) (now status) ⌝ }
+    requires { ⌜ length (now marks) ≡ length (now status) ⌝ }
+    requires { ⌜ NewRoom 1024 512 (now status) (now rows) (now ps) (now qs) (now table) ⌝ }
+    ensures { λ r. ⌜ Advanced 1024 n (was mesh) (was status) (was marks) (is rows) (is ps) (is qs) (is table) (r .refusal) (r .cells)
+        (r .levels) (r .mids) ⌝ }
+{
+    let mut xs = [0u32; 1536];
+    let mut ys = [0u32; 1536];
+    let mut links = [0u16; 1536];
+    let mut mid_links = [0u16; 1024];
+    let mut old = [0u16; 1024];
+    let mut kids = [0u16; 513];
+    let mut red = [0u8; 512];
+    let digits = cutting::digit_table();
+    advance(
+        mesh,
+        n,
+        rows,
+        status,
+        marks,
+        ps,
+        qs,
+        table,
+        &mut xs,
+        &mut ys,
+        &mut links,
+        &mut mid_links,
+        &mut old,
+        &mut kids,
+        &mut red,
+        &digits,
+        1024,
+    )
+}
+
+// The same for any table.
+pub fn advance_many(
+    mesh: &[u16],
+    n: usize,
+    rows: &mut [u16],
+    status: &[u8],
+    marks: &[u8],
+    ps: &mut [u32],
+    qs: &mut [u32],
+    table: &mut [u8],
+) -> Outcome
+    requires { ⌜ Held n (now mesh) (now rows) (now status) ⌝ }
+    requires { ⌜ length (now marks) ≡ length (now status) ⌝ }
+    requires { ⌜ NewRoom 4096 4096 (now status) (now rows) (now ps) (now qs) (now table) ⌝ }
+    ensures { λ r. ⌜ Advanced 4096 n (was mesh) (was status) (was marks) (is rows) (is ps) (is qs) (is table) (r .refusal) (r .cells)
+        (r .levels) (r .mids) ⌝ }
+{
+    let mut xs = [0u32; 3072];
+    let mut ys = [0u32; 3072];
+    let mut links = [0u16; 3072];
+    let mut mid_links = [0u16; 4096];
+    let mut old = [0u16; 4096];
+    let mut kids = [0u16; 4097];
+    let mut red = [0u8; 4096];
+    let digits = cutting::digit_table();
+    advance(
+        mesh,
+        n,
+        rows,
+        status,
+        marks,
+        ps,
+        qs,
+        table,
+        &mut xs,
+        &mut ys,
+        &mut links,
+        &mut mid_links,
+        &mut old,
+        &mut kids,
+        &mut red,
+        &digits,
+        4096,
+    )
 }

@@ -2,7 +2,7 @@
 --   StepBegun ..           the table is opened and the marks are looked at: 0, or 1 to 7
 --   StepsIn most ..    the step in tables with room for `most` new cells: where there are more, 9 says nothing of the limits
 -- Laws: begun-table, begun-marks, begun-held (the ways out of the beginning), within-refused, within-limits, within-done (those of the
--- step), steps-again (twice), steps-so (the call's answer).
+-- step), steps-again (twice), steps-sure (no 9), steps-so (the call's answer).
 -- Assumes nothing.
 use mathlib.Core.Path.{_≡_, refl, sym, _∙_, ap}
 use mathlib.Core.Bool.{true, false}
@@ -101,6 +101,12 @@ pub steps-again : (m m′ : ℕ) (ps : List ℤ) (ts ss ms table₀ table₁ tab
     → StepsIn m ps ts ss ms table₀ table₁ k c → (k ≡ 0 → ⊥) → StepsIn m′ ps ts ss ms table₁ table₂ k′ c′
     → StepsIn m′ ps ts ss ms table₀ table₂ k′ c′
 steps-again m m′ ps ts ss ms table₀ table₁ table₂ k c k′ c′ a z b = rw (a .kept z) at b
+
+-- what is no 9 holds with any room
+pub steps-sure : (m m′ : ℕ) (ps : List ℤ) (ts ss ms table table′ : List ℕ) (k c : ℕ) → StepsIn m ps ts ss ms table table′ k c
+    → (k ≡ 9 → ⊥) → StepsIn m′ ps ts ss ms table table′ k c
+steps-sure m m′ ps ts ss ms table table′ k c s n =
+    record { answer = λ y. s .answer (λ z. absurd (n z)); kept = s .kept; counted = s .counted; filled = s .filled }
 
 pub steps-so : (most : ℕ) (ps : List ℤ) (ts ss ms table table′ : List ℕ) (k c : ℕ) → StepsIn most ps ts ss ms table table′ k c
     → (k ≡ 9 → most ≡ 4096)

@@ -70,7 +70,43 @@ fn begin(
     0
 }
 
-// The step of at most 512 statuses, in tables with room for 1,024 new cells: where there are more, 9.
+// The step of at most 128 statuses, in tables with room for 256 new cells: where there are more, 9.
+fn step_least(
+    positions: &[i32],
+    cells: &[u16],
+    status: &[u8],
+    marks: &[u8],
+    table: &mut [u8],
+) -> Outcome
+    requires { ⌜ (length (now status) ≤ 128) × (4096 ≤ length (now table)) ⌝ }
+    ensures { λ r. ⌜ StepsIn 256 (was positions) (was cells) (was status) (was marks) (was table) (is table) (r .refusal) (r .cells) ⌝ }
+{
+    let mut rows = [0u16; 2048];
+    let mut ps = [0u32; 256];
+    let mut qs = [0u32; 256];
+    let refusal = begin(positions, cells, status, marks, &mut rows, &mut ps, &mut qs);
+    if refusal != 0 {
+        return tables::refused(refusal);
+    }
+    let mut new = [0u8; 256];
+    let r = advance::advance_least(
+        cells,
+        positions.len() / 3,
+        &mut rows,
+        status,
+        marks,
+        &mut ps,
+        &mut qs,
+        &mut new,
+    );
+    if r.refusal != 0 {
+        return r;
+    }
+    base::copy_bytes(&new, r.cells, table);
+    r
+}
+
+// The step of at most 512 statuses, in tables with room for 1,024 new cells.
 fn step_few(
     positions: &[i32],
     cells: &[u16],
@@ -89,15 +125,7 @@ fn step_few(
         return tables::refused(refusal);
     }
     let mut new = [0u8; 1024];
-    let mut xs = [0u32; 1536];
-    let mut ys = [0u32; 1536];
-    let mut links = [0u16; 1536];
-    let mut mid_links = [0u16; 1024];
-    let mut old = [0u16; 1024];
-    let mut kids = [0u16; 513];
-    let mut red = [0u8; 512];
-    let digits = cutting::digit_table();
-    let r = advance::advance(
+    let r = advance::advance_few(
         cells,
         positions.len() / 3,
         &mut rows,
@@ -106,21 +134,33 @@ fn step_few(
         &mut ps,
         &mut qs,
         &mut new,
-        &mut xs,
-        &mut ys,
-        &mut links,
-        &mut mid_links,
-        &mut old,
-        &mut kids,
-        &mut red,
-        &digits,
-        1024,
     );
     if r.refusal != 0 {
         return r;
     }
     base::copy_bytes(&new, r.cells, table);
     r
+}
+
+// The step of at most 512 statuses, in the least tables first where there are at most 128.
+fn step_small(
+    positions: &[i32],
+    cells: &[u16],
+    status: &[u8],
+    marks: &[u8],
+    table: &mut [u8],
+) -> Outcome
+    requires { ⌜ (length (now status) ≤ 512) × (4096 ≤ length (now table)) ⌝ }
+    ensures { λ r. ⌜ StepsIn 1024 (was positions) (was cells) (was status) (was marks) (was table) (is table) (r .refusal) (r .cells) ⌝ }
+{
+    if status.len() > 128 {
+        return step_few(positions, cells, status, marks, table);
+    }
+    let r = step_least(positions, cells, status, marks, table);
+    if r.refusal != 9 {
+        return r;
+    }
+    step_few(positions, cells, status, marks, table)
 }
 
 // The step of any table.
@@ -142,15 +182,7 @@ fn step_many(
         return tables::refused(refusal);
     }
     let mut new = [0u8; 4096];
-    let mut xs = [0u32; 3072];
-    let mut ys = [0u32; 3072];
-    let mut links = [0u16; 3072];
-    let mut mid_links = [0u16; 4096];
-    let mut old = [0u16; 4096];
-    let mut kids = [0u16; 4097];
-    let mut red = [0u8; 4096];
-    let digits = cutting::digit_table();
-    let r = advance::advance(
+    let r = advance::advance_many(
         cells,
         positions.len() / 3,
         &mut rows,
@@ -159,15 +191,6 @@ fn step_many(
         &mut ps,
         &mut qs,
         &mut new,
-        &mut xs,
-        &mut ys,
-        &mut links,
-        &mut mid_links,
-        &mut old,
-        &mut kids,
-        &mut red,
-        &digits,
-        4096,
     );
     if r.refusal != 0 {
         return r;
@@ -186,8 +209,8 @@ fn answer(refusal: u8, cells: usize) -> Stepped
     Stepped::Cells(cells)
 }
 
-// One step: the new status table in the lent one, and how many cells it has. Refusals 15 and 1 to 9. A
-// small table is refined in small tables, as these are set to zero first; where these have no room, it is done again in large ones.
+// One step: the new status table in the lent one, and how many cells it has. Refusals 15 and 1 to 9. A small table is refined in small
+// tables, as these are set to zero first; where they have no room, it is done again in larger ones.
 pub fn step(
     positions: &[i32],
     cells: &[u16],
@@ -210,7 +233,7 @@ pub fn step(
         let r = step_many(positions, cells, status, marks, table);
         return answer(r.refusal, r.cells);
     }
-    let r = step_few(positions, cells, status, marks, table);
+    let r = step_small(positions, cells, status, marks, table);
     if r.refusal == 9 {
         let r = step_many(positions, cells, status, marks, table);
         return answer(r.refusal, r.cells);

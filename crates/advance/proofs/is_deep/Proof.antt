@@ -22,8 +22,11 @@ shared-slice-read-result : tie.Need-shared-slice-read-result
 shared-slice-read-result c = search needs
 
 returns-2 : tie.Need-returns-2
-returns-2 c = let a = c .before .before .before .args in deep-level (a .rows .now) (a .red .now) (a .c) (omega (arith, c .before .if1
-    .left))
+returns-2 c = let a = c .before .before .before .args in deep-level (a .rows .now) (a .red .now) (a .c) (omega (
+  arith,
+  c .before .if1
+      .left,
+))
 
 pub is-deep-spec : {M : Type 1} → statement M
 is-deep-spec =

@@ -1,4 +1,4 @@
--- `step::step` meets its contract: what the small tables have no room for is done again in large ones.
+-- `step::step` meets its contract: what the small tables have no room for is done again in the large ones.
 -- Assumes nothing.
 use mathlib.Core.Path.{refl, _∙_}
 use native.Mathlib.Omega.{arith}
@@ -14,7 +14,7 @@ use Rattle.step.proofs.step.Tie as tie
 use Rattle.step.proofs.step.Reads as reads
 use Rattle.step.proofs.step.Lts as lts
 use Rattle.step.proofs.answer.Reads as answer-reads
-use Rattle.step.proofs.step_few.Reads as step-few-reads
+use Rattle.step.proofs.step_small.Reads as step-small-reads
 use Rattle.step.proofs.step_many.Reads as step-many-reads
 
 returns : tie.Need-returns
@@ -37,8 +37,8 @@ returns-2 : tie.Need-returns-2
 returns-2 c = let s = steps-so 4096 _ _ _ _ _ _ _ _ (c .before .before .before .step-many .ensures) (λ z. refl) in
     (c .answer .ensures ∙ s .0, s .1)
 
-step-few-requires : tie.Need-step-few-requires
-step-few-requires c κs = search needs
+step-small-requires : tie.Need-step-small-requires
+step-small-requires c κs = search needs
 
 step-many-requires-2 : tie.Need-step-many-requires-2
 step-many-requires-2 c κs = search needs
@@ -51,7 +51,7 @@ same-length-2 c = search needs
 
 returns-3 : tie.Need-returns-3
 returns-3 c = let s = steps-so 4096 _ _ _ _ _ _ _ _ (steps-again _ _ _ _ _ _ _ _ _ _ _ _ _ (c .before .before .before .before .before
-    .before .before .before .before .step-few .ensures)
+    .before .before .before .before .step-small .ensures)
     (λ z. absurd (omega (arith, z, c .before .before .before .before .before .if3 .taken))) (c .before .before .before .step-many2
     .ensures)) (λ z. refl) in
     (c .answer2 .ensures ∙ s .0, s .1)
@@ -63,8 +63,8 @@ same-length-3 : tie.Need-same-length-3
 same-length-3 c = search needs
 
 returns-4 : tie.Need-returns-4
-returns-4 c = let s = steps-so 1024 _ _ _ _ _ _ _ _ (c .before .before .before .before .before .step-few .ensures) (λ z. absurd (c .before
-    .if3 .left z)) in
+returns-4 c = let s = steps-so 1024 _ _ _ _ _ _ _ _ (c .before .before .before .before .before .step-small .ensures) (λ z. absurd (c
+    .before .if3 .left z)) in
     (c .answer3 .ensures ∙ s .0, s .1)
 
 pub step-spec : {M : Type 1} → statement M
@@ -76,7 +76,7 @@ step-spec =
     answer-requires
     same-length
     returns-2
-    step-few-requires
+    step-small-requires
     step-many-requires-2
     answer-requires-2
     same-length-2
