@@ -61,7 +61,7 @@ pub fn open(
     if refusal != 0 {
         return tables::refused(refusal);
     }
-    tables::examine(cells, status, positions.len() / 3, rows, xs, ys)
+    examining::examine(cells, status, positions.len() / 3, rows, xs, ys)
 }
 
 // Whether a mesh and a table over it are accepted, and if not, why: refusals 1 to 6.

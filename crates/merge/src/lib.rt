@@ -428,7 +428,7 @@ fn finish(
     let mut rows = [0u16; 32768];
     let mut ps = [0u32; 4096];
     let mut qs = [0u32; 4096];
-    let f = tables::examine(&cells[..k], &status[..r], n, &mut rows, &mut ps, &mut qs);
+    let f = examining::examine(&cells[..k], &status[..r], n, &mut rows, &mut ps, &mut qs);
     if f.refusal != 0 {
         return false;
     }

@@ -1,4 +1,4 @@
-// Status tables over a coarse mesh: examined and laid out.
+// Status tables over a coarse mesh: examined and laid out level by level, in tables that the caller lends.
 ghost use mathlib.Core.Path.{_≡_};
 ghost use mathlib.Core.Bool.{true, false};
 ghost use mathlib.Core.List.{flatMap};
@@ -162,9 +162,10 @@ fn finish(
     }
 }
 
-// Builds a table of few statuses level by level, and examines it. The tables from xs on are for the work; no bucket of the heads has
-// an entry.
-fn build(
+// Builds a table of few statuses over an accepted mesh of n corners level by level, and examines it: 6 where it is not sound. Where it is
+// sound, the rows are those of its cells, and ps and qs have the ends of its new corners. The tables from xs on are for the work; no
+// bucket of the heads has an entry.
+pub fn build(
     mesh: &[u16],
     status: &[u8],
     n: usize,
@@ -232,141 +233,4 @@ fn build(
         last = g.at;
         level += 1;
     }
-}
-
-// Builds and examines a table of at most 128 statuses, with the smallest tables for the work.
-fn examine_least(
-    mesh: &[u16],
-    status: &[u8],
-    n: usize,
-    rows: &mut [u16],
-    ps: &mut [u32],
-    qs: &mut [u32],
-) -> Outcome
-    requires { ⌜ Mesh n (now mesh) ⌝ }
-    requires { ⌜ Statuses (now status) × (length (now status) ≤ 128) ⌝ }
-    requires { ⌜ TableRoom (now status) (now rows) (now ps) (now qs) ⌝ }
-    ensures { λ r. ⌜ Examined n (fours (was mesh)) (was status) (is rows) (is ps) (is qs) (r .refusal) (r .cells) (r .levels) (r .mids) ⌝ }
-{
-    let mut xs = [0u32; 96];
-    let mut ys = [0u32; 96];
-    let mut heads = [65535u16; 2048];
-    let mut links = [0u16; 96];
-    let mut mid_heads = [65535u16; 1024];
-    let mut mid_links = [0u16; 128];
-    build(
-        mesh,
-        status,
-        n,
-        rows,
-        ps,
-        qs,
-        &mut xs,
-        &mut ys,
-        &mut heads,
-        &mut links,
-        &mut mid_heads,
-        &mut mid_links,
-    )
-}
-
-// Builds and examines a table of at most 512 statuses, with small tables for the work.
-fn examine_few(
-    mesh: &[u16],
-    status: &[u8],
-    n: usize,
-    rows: &mut [u16],
-    ps: &mut [u32],
-    qs: &mut [u32],
-) -> Outcome
-    requires { ⌜ Mesh n (now mesh) ⌝ }
-    requires { ⌜ Statuses (now status) × (length (now status) ≤ 512) ⌝ }
-    requires { ⌜ TableRoom (now status) (now rows) (now ps) (now qs) ⌝ }
-    ensures { λ r. ⌜ Examined n (fours (was mesh)) (was status) (is rows) (is ps) (is qs) (r .refusal) (r .cells) (r .levels) (r .mids) ⌝ }
-{
-    let mut xs = [0u32; 384];
-    let mut ys = [0u32; 384];
-    let mut heads = [65535u16; 5120];
-    let mut links = [0u16; 384];
-    let mut mid_heads = [65535u16; 4096];
-    let mut mid_links = [0u16; 512];
-    build(
-        mesh,
-        status,
-        n,
-        rows,
-        ps,
-        qs,
-        &mut xs,
-        &mut ys,
-        &mut heads,
-        &mut links,
-        &mut mid_heads,
-        &mut mid_links,
-    )
-}
-
-// Builds and examines a table of at most 4096 statuses.
-fn examine_many(
-    mesh: &[u16],
-    status: &[u8],
-    n: usize,
-    rows: &mut [u16],
-    ps: &mut [u32],
-    qs: &mut [u32],
-) -> Outcome
-    requires { ⌜ Mesh n (now mesh) ⌝ }
-    requires { ⌜ Statuses (now status) ⌝ }
-    requires { ⌜ TableRoom (now status) (now rows) (now ps) (now qs) ⌝ }
-    ensures { λ r. ⌜ Examined n (fours (was mesh)) (was status) (is rows) (is ps) (is qs) (r .refusal) (r .cells) (r .levels) (r .mids) ⌝ }
-{
-    let mut xs = [0u32; 3072];
-    let mut ys = [0u32; 3072];
-    let mut heads = [65535u16; 5120];
-    let mut links = [0u16; 3072];
-    let mut mid_heads = [65535u16; 4096];
-    let mut mid_links = [0u16; 4096];
-    build(
-        mesh,
-        status,
-        n,
-        rows,
-        ps,
-        qs,
-        &mut xs,
-        &mut ys,
-        &mut heads,
-        &mut links,
-        &mut mid_heads,
-        &mut mid_links,
-    )
-}
-
-// Examines a status table over an accepted mesh of n corners: 6 where it is not sound. Where it is sound, the rows are those of its
-// cells, and ps and qs have the ends of its new corners. A small table is built in small tables, as these are set to zero first.
-pub fn examine(
-    mesh: &[u16],
-    status: &[u8],
-    n: usize,
-    rows: &mut [u16],
-    ps: &mut [u32],
-    qs: &mut [u32],
-) -> Outcome
-    requires { ⌜ Mesh n (now mesh) ⌝ }
-    requires { ⌜ (length (now status) ≤ 4096 → TableRoom (now status) (now rows) (now ps) (now qs)) ⌝ }
-    ensures { λ r. ⌜ Examined n (fours (was mesh)) (was status) (is rows) (is ps) (is qs) (r .refusal) (r .cells) (r .levels) (r .mids) ⌝ }
-{
-    if status.len() > 4096 {
-        return refused(6);
-    }
-    if !rows::fits(status) {
-        return refused(6);
-    }
-    if status.len() <= 128 {
-        return examine_least(mesh, status, n, rows, ps, qs);
-    }
-    if status.len() <= 512 {
-        return examine_few(mesh, status, n, rows, ps, qs);
-    }
-    examine_many(mesh, status, n, rows, ps, qs)
 }

@@ -7,7 +7,7 @@ use Rattle.merge.proofs.finish.Tie as tie
 use Rattle.merge.proofs.finish.Reads as reads
 use Rattle.merge.proofs.finish.Lts as lts
 use Rattle.base.proofs.copy_bytes.Reads as copy-bytes-reads
-use Rattle.tables.proofs.examine.Reads as examine-reads
+use Rattle.examining.proofs.examine.Reads as examine-reads
 
 mul-k : tie.Need-mul-k
 mul-k c = search needs

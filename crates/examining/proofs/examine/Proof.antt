@@ -1,12 +1,12 @@
--- `tables::examine` meets its contract: a table that is too long or has other statuses is not sound, and any other is built.
+-- `examining::examine` meets its contract: a table that is too long or has other statuses is not sound, and any other is built.
 -- Assumes nothing.
 use mathlib.Core.Path.{sym, _∙_}
 use borrow.Author.Tests.{not-true, not-false}
 use Rattle.base.specs.Fours.{fours}
 use Rattle.tables.specs.Finish.{unsound-examined, unsound-long, unsound-status}
 use borrow.Author.Needs.{needs}
-use Rattle.tables.proofs.examine.Statement.{statement}
-use Rattle.tables.proofs.examine.Tie as tie
+use Rattle.examining.proofs.examine.Statement.{statement}
+use Rattle.examining.proofs.examine.Tie as tie
 
 refused-requires : tie.Need-refused-requires
 refused-requires c κs = search needs

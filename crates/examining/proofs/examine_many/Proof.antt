@@ -1,10 +1,10 @@
--- `tables::examine_least` meets its contract: 96 red edges and 128 new corners are enough for 128 statuses.
+-- `examining::examine_many` meets its contract: 3072 red edges and 4096 new corners are enough for 4096 statuses.
 -- Assumes nothing.
 use native.Mathlib.Omega.{arith}
 use Rattle.pairs.specs.Keys.{clear-new}
 use borrow.Author.Needs.{needs}
-use Rattle.tables.proofs.examine_least.Statement.{statement}
-use Rattle.tables.proofs.examine_least.Tie as tie
+use Rattle.examining.proofs.examine_many.Statement.{statement}
+use Rattle.examining.proofs.examine_many.Tie as tie
 
 slice-aggregate-build : tie.Need-slice-aggregate-build
 slice-aggregate-build c = search needs
@@ -29,14 +29,14 @@ build-requires c κs =
     let p = c .before .before .before .before .before .before .before .before .before .before .before .before .before .before .pre in (
       p .0,
       (
-        p .1 .0 .0,
+        p .1 .0,
         (
           (
             p .1 .1,
-            record { in-xs = omega (arith, p .1 .0 .1); in-ys = omega (arith, p .1 .0 .1); in-links = omega (arith, p .1 .0 .1) },
-            omega (arith, p .1 .0 .1),
+            record { in-xs = omega (arith, p .1 .0 .few); in-ys = omega (arith, p .1 .0 .few); in-links = omega (arith, p .1 .0 .few) },
+            omega (arith, p .1 .0 .few),
           ),
-          (clear-new 2048 (omega arith), clear-new 1024 (omega arith)),
+          (clear-new 5120 (omega arith), clear-new 4096 (omega arith)),
         ),
       ),
     )
@@ -55,8 +55,8 @@ same-length-3 c = c .before .before .before .before .before .before .before .bef
 returns : tie.Need-returns
 returns c = search needs
 
-pub examine-least-spec : {M : Type 1} → statement M
-examine-least-spec =
+pub examine-many-spec : {M : Type 1} → statement M
+examine-many-spec =
     tie.close
     (tie.spec
     slice-aggregate-build

@@ -1,10 +1,10 @@
--- `tables::examine_few` meets its contract: 384 red edges and 512 new corners are enough for 512 statuses.
+-- `examining::examine_few` meets its contract: 384 red edges and 512 new corners are enough for 512 statuses.
 -- Assumes nothing.
 use native.Mathlib.Omega.{arith}
 use Rattle.pairs.specs.Keys.{clear-new}
 use borrow.Author.Needs.{needs}
-use Rattle.tables.proofs.examine_few.Statement.{statement}
-use Rattle.tables.proofs.examine_few.Tie as tie
+use Rattle.examining.proofs.examine_few.Statement.{statement}
+use Rattle.examining.proofs.examine_few.Tie as tie
 
 slice-aggregate-build : tie.Need-slice-aggregate-build
 slice-aggregate-build c = search needs
