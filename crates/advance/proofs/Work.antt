@@ -22,9 +22,8 @@ use Rattle.lineage.specs.Deep.{deep}
 use Rattle.mesh.specs.Cells.{noCell}
 use Rattle.soundness.specs.Steady.{step-sound}
 use Rattle.tables.specs.Sound.{LaidSound, tableCells, examinedCorners}
-use Rattle.reds.specs.Flags.{firstChildren}
-use Rattle.reds.specs.Old.{Marked}
-use Rattle.reds.specs.Firsts.{firsts-taken, first-at, length-firsts}
+use Rattle.reds.specs.Marked.{Marked}
+use Rattle.reds.specs.Firsts.{firstChildren, firsts-taken, first-at, length-firsts}
 use Rattle.remaking.specs.Levels.{Kids}
 use Rattle.remaking.specs.RenewRoom.{RenewRoom}
 use Rattle.remaking.specs.Result.{Result, renewed}

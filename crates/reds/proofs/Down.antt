@@ -26,7 +26,7 @@ use Rattle.numbering.specs.Renamed.{red-edges-in}
 use Rattle.numbering.specs.Tests.{numberedCells, edgeIn, EndsPlaced, red-edges-numbers}
 use Rattle.tables.specs.Cells.{red-strip}
 use Rattle.lineage.specs.Olds.{flagOf, flagsOf, flags, firstChild}
-use Rattle.reds.specs.Flags.{kidsOf, redAtb, flagsAt, redsUp, flagsUp}
+use Rattle.flagging.specs.Flags.{kidsOf, redAtb, flagsAt, redsUp, flagsUp}
 use Rattle.reds.specs.Firsts.{first-up, Firsts, firsts-top, firsts-up}
 use Rattle.reds.proofs.Tests.{rowAt, Seen, all-range, red-row}
 use Rattle.reds.proofs.Levels.{Stands, rows-range, cells-of-rows, placed-range, cells-range, up-end, kids-range}

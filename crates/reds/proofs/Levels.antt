@@ -23,7 +23,7 @@ use Rattle.numbering.specs.Tests.{numberedCells, Placed}
 use Rattle.rows.specs.Many.{next-size}
 use Rattle.tables.specs.Cells.{strip}
 use Rattle.lineage.specs.Olds.{firstChild}
-use Rattle.reds.specs.Flags.{kidsOf}
+use Rattle.flagging.specs.Flags.{kidsOf}
 use Rattle.reds.specs.Ranges.{Blocks, blocks}
 use Rattle.reds.specs.Born.{born-row}
 use Rattle.reds.specs.Firsts.{first-add, first-next, first-up, Firsts}

@@ -29,11 +29,12 @@ use Rattle.tables.specs.Onward.{four-in, length-in}
 use Rattle.tables.specs.Finish.{rows-in}
 use Rattle.mesh.specs.Laws.{sound-count, length-coarse}
 use Rattle.lineage.specs.Olds.{firstChild, flagTable}
-use Rattle.reds.specs.Flags.{flagsAt, redsUp, flagsUp}
-use Rattle.reds.specs.Old.{OldRows, Span, FlagsWritten, Marked}
+use Rattle.flagging.specs.Flags.{flagsAt, redsUp, flagsUp}
+use Rattle.flagging.specs.Old.{OldRows, Span, FlagsWritten}
+use Rattle.reds.specs.Marked.{Marked}
 use Rattle.reds.specs.Firsts.{first-add, first-start, first-at, Firsts, firsts-top, firsts-up, length-firsts}
 use Rattle.reds.proofs.Tests.{Seen}
-use Rattle.reds.proofs.Writes.{length-flags}
+use Rattle.flagging.specs.Writes.{length-flags}
 use Rattle.reds.proofs.Down.{flags-none, Down, down}
 use Rattle.rows.specs.Laws.{rows-size}
 

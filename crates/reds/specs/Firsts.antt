@@ -1,10 +1,11 @@
 -- The numbers of first children.
---   Firsts m ss ks   ks has the first child of each cell of the table ss, which has as many cells as statuses
+--   firstChildren m ss   the number of the first child of each cell, in a table ss over m coarse cells, and the count of all cells
+--   Firsts m ss ks       ks has the first child of each cell of the table ss, which has as many cells as statuses
 -- Laws: first-start, first-add, first-next, first-up (how firstChild grows), firsts-top, firsts-up (the same of ks), first-at,
 -- firsts-taken, length-firsts (ks from its equation).
 -- Assumes nothing.
 use mathlib.Core.Path.{_≡_, sym, _∙_, ap}
-use mathlib.Core.List.{List, _++_}
+use mathlib.Core.List.{List, _++_, map}
 use Prim.Native.Nat.{ℕ, suc, _+_, _-_, _≤_, _<_}
 use native.Mathlib.Nat.{zero-add}
 use native.Mathlib.Omega.{arith}
@@ -13,10 +14,14 @@ use lib.Seq.{take-add, getD-take, take-at}
 use Rattle.mesh.specs.Table.{sizeOf, sizes}
 use Rattle.base.specs.Every.{getD-map}
 use Rattle.lineage.specs.Olds.{firstChild}
-use Rattle.reds.specs.Flags.{firstChildren}
 use Rattle.reds.specs.Born.{sizes-next}
 use Rattle.mesh.specs.Laws.{sizes-append}
 use Rattle.base.specs.Range.{range, length-range, range-at}
+
+-- Rule 3.2: where each family begins.
+unfoldable pub firstChildren : ℕ → List ℕ → List ℕ
+unfolding firstChild range
+firstChildren m ss = map (firstChild m ss) (range 0 (suc (length ss)))
 
 module _ (m : ℕ) (ss : List ℕ) where
   pub first-add : (a b : ℕ) → firstChild m ss (a + b) ≡ firstChild m ss a + sizes (take b (drop a ss))

@@ -1,6 +1,4 @@
-pub mod Flags
-pub mod Crowd
-pub mod Old
 pub mod Ranges
 pub mod Born
 pub mod Firsts
+pub mod Marked

@@ -8,9 +8,8 @@ use lib.Dec.{T, leb, leb→le}
 use lib.ListN.{length, getD, drop, length-set}
 use Rattle.base.specs.Lists.{allb-at}
 use Rattle.lineage.specs.Olds.{firstChild}
-use Rattle.reds.specs.Flags.{firstChildren}
-use Rattle.reds.specs.Firsts.{first-next, first-start}
-use Rattle.reds.proofs.Writes.{firsts-more, firsts-none}
+use Rattle.reds.specs.Firsts.{firstChildren, first-next, first-start}
+use Rattle.flagging.specs.Writes.{firsts-more, firsts-none}
 use borrow.Author.Needs.{needs}
 use Rattle.reds.proofs.first_children.Statement.{statement}
 use Rattle.reds.proofs.first_children.Tie as tie

@@ -1,0 +1,4 @@
+pub mod Flags
+pub mod Crowd
+pub mod Old
+pub mod Writes
