@@ -1,5 +1,5 @@
--- `flagging::crowd` meets its contract: what is counted and the crowd of the cells that are left make the whole. The measure is how many are
--- left.
+-- `flagging::crowd` meets its contract: what is counted and the crowd of the cells that are left make the whole. The measure is how many
+-- are left.
 -- Assumes nothing.
 use mathlib.Core.Path.{_≡_, ap}
 use Prim.Native.Nat.{_+_, _-_, _≤_}

@@ -1,4 +1,4 @@
--- `remaking::build` meets its contract: the loop holds `Going` (crate's specs), and each way out is one of its laws. The measure is
+-- `remaking::build` meets its contract: the loop holds `Going` (crate's specs), and its way out is a law (`result-now`). The measure is
 -- the number of levels left.
 -- Assumes nothing.
 use mathlib.Core.Path.{refl, _∙_}
@@ -332,7 +332,11 @@ loop-again c =
     .before .before .lay-coarse in
     let g = c .before .before .before .before .before .before .before .before .before .before .before .before .before .before .before
     .grow-level in
-    let o = c .before .before .old-level in (
+    let o = c .before .before .old-level in
+    let e = c .before .before .before .before .before .before .before .before .before .before .before .before .before .before .before
+    .before .before .before .before .before .before .before .before .ending .ensures in
+    let on = c .before .before .before .before .before .before .before .before .before .before .before .before .before .before .before
+    .before .before .before .before .before .before .before .if1 .left in (
       kept-later (l .inv .0) (g .kept .0) (g .kept .1 .1 .1 .1 .1 .1 .1 .0) (g .kept .1 .1 .1 .1 .1 .1 .1 .1 .0)
           (t .kept .1 .1 .1 .1 .1 .0) (t .kept .1 .1 .1 .1 .1 .1 .0) (t .kept .1 .1 .1 .1 .1 .1 .1 .0) (t .kept .1 .1 .1 .1 .1 .1 .1 .1 .0)
           (t .kept .1 .1 .1 .1 .1 .1 .1 .1 .1 .0) (g .kept .1 .1 .1 .1 .1 .1 .1 .1 .1 .0) (g .kept .1 .1 .1 .1 .1 .1 .1 .1 .1 .1 .0)
@@ -344,21 +348,9 @@ loop-again c =
           (t .last .1 .1 .1 .1 .1 .0) (t .last .1 .1 .1 .1 .1 .1 .0) (t .last .1 .1 .1 .1 .1 .1 .1 .0) (t .last .1 .1 .1 .1 .1 .1 .1 .1 .0)
           (t .last .1 .1 .1 .1 .1 .1 .1 .1 .1 .0) (t .result .n) (t .result .size) (t .ensures)
           (r .few) (r .in-old) (r .in-table)
-          (c .before .before .before .before .before .before .before .before .before .before .before .before .before .before .before
-          .before .before .before .before .before .before .before .before .ending .ensures .fit (c .before .before .before .before .before
-          .before .before .before .before .before .before .before .before .before .before .before .before .before .before .before .before
-          .before .if1 .left))
-          (c .before .before .before .before .before .before .before .before .before .before .before .before .before .before .before
-          .before .before .before .before .before .before .before .before .ending .ensures .some (omega (
-            arith,
-            c .before .before .before
-                .before .before .before .before .before .before .before .before .before .before .before .before .before .before .before .before
-                .before .before .before .if1 .left,
-          )))
-          (c .before .before .before .before .before .before .before .before .before .before .before .before .before .before .before
-          .before .before .before .before .before .before .before .before .ending .ensures .low (c .before .before .before .before .before
-          .before .before .before .before .before .before .before .before .before .before .before .before .before .before .before .before
-          .before .if1 .left))
+          (e .fit on)
+          (e .some (omega (arith, on)))
+          (e .low on)
           (r .in-rows)
           (g .last .0) (g .last .1 .1 .1 .1 .1 .1 .1 .0) (g .last .1 .1 .1 .1 .1 .1 .1 .1 .0) (g .last .1 .1 .1 .1 .1 .1 .1 .1 .1 .0)
           (g .last .1 .1 .1 .1 .1 .1 .1 .1 .1 .1 .0) (g .result .at) (g .result .m) (rw (add-one (l .level)) at (g .ensures))
