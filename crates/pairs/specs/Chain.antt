@@ -1,6 +1,6 @@
 -- How a chain and a search go down together: what the chain jumps over lies in other buckets, so it is not the pair.
---   On w xs ys x y from n e   where a search for the pair stands in its chain, with w buckets
--- Laws: start (at the bucket), ended (the pair is not there), hit, stop, turn, less (at an entry).
+--   InChain w xs ys x y from n e   where a search for the pair stands in its chain, with w buckets
+-- Laws: chain-start (at the bucket), chain-ended (the pair is not there), chain-hit, chain-stop, chain-turn, chain-less (at an entry).
 -- Assumes nothing.
 use mathlib.Core.Path.{_≡_, refl, sym, _∙_}
 use mathlib.Core.Bool.{Bool, true, false, cond}
@@ -14,7 +14,7 @@ use borrow.Author.Tests.{eqb-true, eqb-false, ltb-true, ltb-false}
 use Rattle.pairs.specs.Keys.{hereb, seek, bucketsOf, bucket, latest, Keys, here-x, here-y, seek-here, seek-past}
 
 -- where a chain stands: at no entry, and the pair is not among the n; or at an entry, and the pair is not above it
-pub record On (w : ℕ) (xs ys : List ℕ) (x y from n e : ℕ) : Type 0 where
+pub record InChain (w : ℕ) (xs ys : List ℕ) (x y from n e : ℕ) : Type 0 where
   pub none : e ≡ 65535 → seek xs ys x y from (n - from) ≡ 65535
   pub below : (e ≡ 65535 → ⊥) → e < n
   pub key : (e ≡ 65535 → ⊥) → bucket w (getD xs e 0) (getD ys e 0) ≡ bucket w x y
@@ -54,12 +54,12 @@ module _ (w : ℕ) (xs ys : List ℕ) (x y from : ℕ) where
       go true t = absurd (ne (rw (here-x xs ys x y e t, here-y xs ys x y e t)))
       go false t = refl
 
-  here : (m : ℕ) → m < 65535 → bucket w (getD xs m 0) (getD ys m 0) ≡ bucket w x y → On w xs ys x y from (suc m) m
+  here : (m : ℕ) → m < 65535 → bucket w (getD xs m 0) (getD ys m 0) ≡ bucket w x y → InChain w xs ys x y from (suc m) m
   here m h k = record { none = λ e. absurd (omega arith); below = λ ne. omega arith; key = λ ne. k; rest = λ ne. refl }
 
   -- the same chain, said of more entries, none of which is the pair
-  longer : (m n e : ℕ) → m ≤ n → seek xs ys x y from (n - from) ≡ seek xs ys x y from (m - from) → On w xs ys x y from m e
-      → On w xs ys x y from n e
+  longer : (m n e : ℕ) → m ≤ n → seek xs ys x y from (n - from) ≡ seek xs ys x y from (m - from) → InChain w xs ys x y from m e
+      → InChain w xs ys x y from n e
   longer m n e h s o =
       record {
         none = λ z. s ∙ o .none z;
@@ -68,20 +68,20 @@ module _ (w : ℕ) (xs ys : List ℕ) (x y from : ℕ) where
         rest = λ ne. s ∙ o .rest ne;
       }
 
-  empty : On w xs ys x y from 0 65535
+  empty : InChain w xs ys x y from 0 65535
   unfolding seek
   empty =
       let p : 0 - from ≡ 0 = omega arith in
       record { none = λ z. rw p; below = λ ne. absurd (ne refl); key = λ ne. absurd (ne refl); rest = λ ne. absurd (ne refl) }
 
-  latest-on : (m : ℕ) → m ≤ 65535 → On w xs ys x y from m (latest w xs ys (bucket w x y) m)
+  latest-on : (m : ℕ) → m ≤ 65535 → InChain w xs ys x y from m (latest w xs ys (bucket w x y) m)
   unfolding latest
   latest-on zero h = empty
   latest-on (suc m) h = go (eqb (bucket w (getD xs m 0) (getD ys m 0)) (bucket w x y)) refl (latest-on m (omega arith))
     where
       go : (t : Bool) → eqb (bucket w (getD xs m 0) (getD ys m 0)) (bucket w x y) ≡ t
-          → On w xs ys x y from m (latest w xs ys (bucket w x y) m)
-          → On w xs ys x y from (suc m) (cond t m (latest w xs ys (bucket w x y) m))
+          → InChain w xs ys x y from m (latest w xs ys (bucket w x y) m)
+          → InChain w xs ys x y from (suc m) (cond t m (latest w xs ys (bucket w x y) m))
       go true t o = here m (omega arith) (eqb-true (bucket w (getD xs m 0) (getD ys m 0)) (bucket w x y) t)
       go false t o =
           longer m (suc m) (latest w xs ys (bucket w x y) m) (omega arith)
@@ -89,39 +89,39 @@ module _ (w : ℕ) (xs ys : List ℕ) (x y from : ℕ) where
 
 -- the loop of `find`
 module _ {xs ys heads links : List ℕ} {from n x y : ℕ} (k : Keys xs ys heads links n) where
-  pub start : (b : ℕ) → b ≡ bucket (bucketsOf (length heads)) x y → b < bucketsOf (length heads)
-      → On (bucketsOf (length heads)) xs ys x y from n (getD heads b 0)
-  start b e h = rw (k .heads-right b h, e) (latest-on (bucketsOf (length heads)) xs ys x y from n (k .small))
+  pub chain-start : (b : ℕ) → b ≡ bucket (bucketsOf (length heads)) x y → b < bucketsOf (length heads)
+      → InChain (bucketsOf (length heads)) xs ys x y from n (getD heads b 0)
+  chain-start b e h = rw (k .heads-right b h, e) (latest-on (bucketsOf (length heads)) xs ys x y from n (k .small))
 
   -- where the chain is at its end, or at an older entry
-  pub ended : {e : ℕ} → On (bucketsOf (length heads)) xs ys x y from n e → e ≤ 65535 → (e + 1) % 65536 ≤ from
+  pub chain-ended : {e : ℕ} → InChain (bucketsOf (length heads)) xs ys x y from n e → e ≤ 65535 → (e + 1) % 65536 ≤ from
       → seek xs ys x y from (n - from) ≡ 65535
-  ended {e} o m h = go (ℕ-discrete e 65535)
+  chain-ended {e} o m h = go (ℕ-discrete e 65535)
     where
       go : Dec (e ≡ 65535) → seek xs ys x y from (n - from) ≡ 65535
       go (yes q) = o .none q
       go (no q) = o .rest q ∙ old xs ys x y from e (omega (arith, q))
 
-  module _ {e : ℕ} (o : On (bucketsOf (length heads)) xs ys x y from n e) (ne : e ≡ 65535 → ⊥) where
-    pub hit : from ≤ e → {b : Bool} → b ≡ hereb xs ys x y e → b ≡ true → e ≡ seek xs ys x y from (n - from)
-    hit h t u = sym (o .rest ne ∙ found xs ys x y from e h (sym t ∙ u))
+  module _ {e : ℕ} (o : InChain (bucketsOf (length heads)) xs ys x y from n e) (ne : e ≡ 65535 → ⊥) where
+    pub chain-hit : from ≤ e → {b : Bool} → b ≡ hereb xs ys x y e → b ≡ true → e ≡ seek xs ys x y from (n - from)
+    chain-hit h t u = sym (o .rest ne ∙ found xs ys x y from e h (sym t ∙ u))
 
-    pub stop : e < from → 65535 ≡ seek xs ys x y from (n - from)
-    stop h = sym (o .rest ne ∙ old xs ys x y from e h)
+    pub chain-stop : e < from → 65535 ≡ seek xs ys x y from (n - from)
+    chain-stop h = sym (o .rest ne ∙ old xs ys x y from e h)
 
     link : getD links e 0 ≡ latest (bucketsOf (length heads)) xs ys (bucket (bucketsOf (length heads)) x y) e
     link = k .links-right e (o .below ne) ∙ rw (o .key ne)
 
-    link-on : On (bucketsOf (length heads)) xs ys x y from e (getD links e 0)
+    link-on : InChain (bucketsOf (length heads)) xs ys x y from e (getD links e 0)
     link-on = rw link (latest-on (bucketsOf (length heads)) xs ys x y from e (omega (arith, o .below ne, k .small)))
 
-    pub turn : {b : Bool} → b ≡ hereb xs ys x y e → b ≡ false → On (bucketsOf (length heads)) xs ys x y from n (getD links e 0)
-    turn t u = longer (bucketsOf (length heads)) xs ys x y from e n (getD links e 0) (omega (arith, o .below ne))
+    pub chain-turn : {b : Bool} → b ≡ hereb xs ys x y e → b ≡ false → InChain (bucketsOf (length heads)) xs ys x y from n (getD links e 0)
+    chain-turn t u = longer (bucketsOf (length heads)) xs ys x y from e n (getD links e 0) (omega (arith, o .below ne))
         (o .rest ne ∙ passed xs ys x y from e (sym t ∙ u))
         link-on
 
-    pub less : getD links e 0 ≤ 65535 → (getD links e 0 + 1) % 65536 < (e + 1) % 65536
-    less h = go (ℕ-discrete (getD links e 0) 65535)
+    pub chain-less : getD links e 0 ≤ 65535 → (getD links e 0 + 1) % 65536 < (e + 1) % 65536
+    chain-less h = go (ℕ-discrete (getD links e 0) 65535)
       where
         go : Dec (getD links e 0 ≡ 65535) → (getD links e 0 + 1) % 65536 < (e + 1) % 65536
         go (yes q) = omega (arith, o .below ne, k .small)

@@ -7,12 +7,12 @@ use native.Mathlib.Omega.{arith}
 use lib.ListN.{length}
 use borrow.Author.Needs.{needs}
 use Rattle.pairs.specs.Keys.{bucketsOf}
-use Rattle.pairs.specs.Chain.{On, start, hit, stop, turn, less}
+use Rattle.pairs.specs.Chain.{InChain, chain-start, chain-hit, chain-stop, chain-turn, chain-less}
 use Rattle.pairs.proofs.find.Statement.{statement}
 use Rattle.pairs.proofs.find.Tie as tie
 
 abbrev Inv-loop : tie.InvT-loop
-Inv-loop xs ys heads links from n x y b e₀ e = On (bucketsOf (length heads)) xs ys x y from n e × (e ≤ 65535)
+Inv-loop xs ys heads links from n x y b e₀ e = InChain (bucketsOf (length heads)) xs ys x y from n e × (e ≤ 65535)
 
 abbrev μ-loop : tie.MeasureT-loop
 μ-loop xs ys heads links from n x y b e₀ e = (e + 1) % 65536
@@ -32,7 +32,7 @@ shared-slice-read-e c = search needs
 loop-holds : tie.Need-loop-holds Inv-loop μ-loop
 loop-holds c =
     let b = c .before .bucket-of in (
-      start (c .before .before .before .before .before .before .pre) (b .result) (b .ensures .0) (b .ensures .1),
+      chain-start (c .before .before .before .before .before .before .pre) (b .result) (b .ensures .0) (b .ensures .1),
       omega
           (arith, c .shared-slice-known5 .given (b .result)),
     )
@@ -43,7 +43,7 @@ cast-i c = search needs
 returns : tie.Need-returns Inv-loop μ-loop
 returns c =
     let p = c .before in
-    stop (entry (p .before) .pre) (p .before .loop .inv .0) (p .loop-test .taken) (c .if1 .taken)
+    chain-stop (entry (p .before) .pre) (p .before .loop .inv .0) (p .loop-test .taken) (c .if1 .taken)
 
 stands-requires : tie.Need-stands-requires Inv-loop μ-loop
 stands-requires c κs =
@@ -53,7 +53,8 @@ stands-requires c κs =
 returns-2 : tie.Need-returns-2 Inv-loop μ-loop
 returns-2 c =
     let p = c .before .before .before in
-    hit (entry (p .before) .pre) (p .before .loop .inv .0) (p .loop-test .taken) (c .before .before .if1 .left) (c .before .stands .ensures)
+    chain-hit (entry (p .before) .pre) (p .before .loop .inv .0) (p .loop-test .taken) (c .before .before .if1 .left)
+    (c .before .stands .ensures)
     (c .if2 .taken)
 
 mul-e-2 : tie.Need-mul-e-2 Inv-loop μ-loop
@@ -69,13 +70,13 @@ shared-slice-read-e-2 c =
 loop-less : tie.Need-loop-less Inv-loop μ-loop
 loop-less c =
     let p = c .before .before .before .before in
-    less (entry (p .before) .pre) (p .before .loop .inv .0) (p .loop-test .taken)
+    chain-less (entry (p .before) .pre) (p .before .loop .inv .0) (p .loop-test .taken)
     (omega (arith, c .shared-slice-known6 .given (p .before .loop .e)))
 
 loop-again : tie.Need-loop-again Inv-loop μ-loop
 loop-again c =
     let p = c .before .before .before .before in (
-      turn (entry (p .before) .pre) (p .before .loop .inv .0) (p .loop-test .taken) (c .before .before .stands .ensures)
+      chain-turn (entry (p .before) .pre) (p .before .loop .inv .0) (p .loop-test .taken) (c .before .before .stands .ensures)
           (c .before .if2 .left),
       omega (arith, c .shared-slice-known6 .given (p .before .loop .e)),
     )

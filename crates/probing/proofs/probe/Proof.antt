@@ -7,7 +7,7 @@ use lib.ListN.{getD}
 use Rattle.base.specs.Bools.{one-most}
 use Rattle.pairs.specs.Keys.{hereb}
 use Rattle.probing.proofs.Units.{one-below}
-use Rattle.pairs.specs.Chain.{start}
+use Rattle.pairs.specs.Chain.{chain-start}
 use Rattle.probing.proofs.Looks.{look-inside, looked}
 use borrow.Author.Needs.{needs}
 use Rattle.probing.proofs.probe.Statement.{statement}
@@ -42,7 +42,7 @@ same-at-requires c κs =
     let a = c .before .before .before .before .before .before .before .before .args in
     let h = getD (a .heads .now) (c .before .before .before .bucket-of .result) 0 in
     let p : h ≤ 65535 = omega (arith, c .before .before .shared-slice-known5 .given (c .before .before .before .bucket-of .result)) in
-    let o = start (c .before .before .before .before .before .before .before .before .pre .0) (c .before .before .before .bucket-of
+    let o = chain-start (c .before .before .before .before .before .before .before .before .pre .0) (c .before .before .before .bucket-of
     .result) (c .before .before .before .bucket-of .ensures .0) (c .before .before .before .bucket-of .ensures .1) in
     let i = look-inside (c .before .before .before .before .before .before .before .before .pre .0) (c .before .before .before .before
     .before .before .before .before .pre .1) h p o (c .before .one .result) (c .entry-or-first .result) (c .before .one .ensures .0) (c
@@ -65,7 +65,8 @@ mul-one c =
       c .before .before .before .shared-slice-known5 .given (c .before .before .before .before .bucket-of
           .result),
     ) in
-    let o = start (c .before .before .before .before .before .before .before .before .before .pre .0) (c .before .before .before .before
+    let o = chain-start (c .before .before .before .before .before .before .before .before .before .pre .0)
+    (c .before .before .before .before
     .bucket-of .result) (c .before .before .before .before .bucket-of .ensures .0) (c .before .before .before .before .bucket-of
     .ensures .1) in
     let i = look-inside (c .before .before .before .before .before .before .before .before .before .pre .0) (c .before .before .before
@@ -82,7 +83,8 @@ shared-slice-read-one c =
       c .before .before .before .before .shared-slice-known5 .given (c .before .before .before .before
           .before .bucket-of .result),
     ) in
-    let o = start (c .before .before .before .before .before .before .before .before .before .before .pre .0) (c .before .before .before
+    let o = chain-start (c .before .before .before .before .before .before .before .before .before .before .pre .0)
+    (c .before .before .before
     .before .before .bucket-of .result) (c .before .before .before .before .before .bucket-of .ensures .0) (c .before .before .before
     .before .before .bucket-of .ensures .1) in
     let i = look-inside (c .before .before .before .before .before .before .before .before .before .before .pre .0) (c .before .before
@@ -125,7 +127,8 @@ returns c =
       c .before .before .shared-slice-known6 .given (c .before .before .before .before .entry-or-first
           .result),
     ) in
-    let o = start (c .before .before .before .before .before .before .before .before .before .before .before .before .pre .0) (c .before
+    let o = chain-start (c .before .before .before .before .before .before .before .before .before .before .before .before .pre .0)
+    (c .before
     .before .before .before .before .before .before .bucket-of .result) (c .before .before .before .before .before .before .before
     .bucket-of .ensures .0) (c .before .before .before .before .before .before .before .bucket-of .ensures .1) in
     looked (c .before .before .before .before .before .before .before .before .before .before .before .before .pre .0) (c .before .before
