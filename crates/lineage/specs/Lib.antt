@@ -1,4 +1,6 @@
 pub mod Olds
+pub mod Kept
+pub mod KeptSample
 pub mod Born
 pub mod Paths
 pub mod Same
