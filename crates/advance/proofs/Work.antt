@@ -23,7 +23,7 @@ use Rattle.mesh.specs.Cells.{noCell}
 use Rattle.soundness.specs.Steady.{step-sound}
 use Rattle.tables.specs.Sound.{LaidSound, tableCells, examinedCorners}
 use Rattle.reds.specs.Marked.{Marked}
-use Rattle.reds.specs.Firsts.{firstChildren, firsts-taken, first-at, length-firsts}
+use Rattle.lineage.specs.Firsts.{firstChildren, firsts-taken, first-at, length-firsts}
 use Rattle.remaking.specs.Levels.{Kids}
 use Rattle.remaking.specs.RenewRoom.{RenewRoom}
 use Rattle.remaking.specs.Result.{Result, renewed}

@@ -42,7 +42,7 @@ use Rattle.split.specs.Columns.{numberedCell, cellLevel, cellsBelow, innerBits}
 use Rattle.tasks.specs.Levels.{one-at-least, below-more, below-none, below-top, below-all}
 use Rattle.tasks.specs.Families.{below-up, kids-are, kids-inside}
 use Rattle.lineage.specs.Olds.{firstChild}
-use Rattle.reds.specs.Firsts.{first-next, first-up, first-start}
+use Rattle.lineage.specs.Firsts.{first-next, first-up, first-start}
 use Rattle.columns.specs.Ten.{familyBy, ownersBy, placeBy, innerBy, outerb}
 
 first-range : (os : List ℕ) (a b o : ℕ)

@@ -10,7 +10,7 @@ use Rattle.base.specs.Fours.{fours, length-fours}
 use Rattle.base.specs.Range.{range}
 use Rattle.lattice.specs.Levels.{fours-four}
 use Rattle.soundness.specs.Sound.{Sound, sound-parts}
-use Rattle.reds.specs.Firsts.{first-at, length-firsts}
+use Rattle.lineage.specs.Firsts.{first-at, length-firsts}
 use Rattle.store.specs.Fields.{full, CODE}
 use Rattle.store.specs.Stores.{storeIn}
 use Rattle.split.specs.Columns.{cellsBelow}

@@ -9,7 +9,7 @@ use Rattle.base.specs.Fours.{fours}
 use Rattle.mesh.specs.Table.{levelsOf, soundb}
 use Rattle.mesh.specs.Layout.{cellTable}
 use Rattle.tables.specs.Sound.{Mesh, tableCells, examinedCorners}
-use Rattle.reds.specs.Firsts.{firstChildren}
+use Rattle.lineage.specs.Firsts.{firstChildren}
 use Rattle.store.specs.Fields.{full}
 
 -- Rule 15.5.

@@ -1,12 +1,12 @@
 -- The step's statuses from what the old cells keep, by cell numbers of the old table ss over m coarse cells: no new cell is looked at.
 --   keptOf es b c          what the cell c keeps: 64 where b says that it will be red, else the pattern of its edges that stand in es
---   kept ls ms             what the cells keep, level by level, where es are the edges of the level's new red cells; keptTable n qs ss ms
+--   keptLevels ls ms             what the cells keep, level by level, where es are the edges of the level's new red cells; keptTable n qs ss ms
 --                          of a whole table, in cell order
 --   digitPair p i y        the edge y of the child i of the family p: the digits of its ends as one number
 --   heldPairs m ss ks o    the edges of the old children of the cell o that new red cells hold, so; ks is what the old cells keep
 --   freshOf m ss ks o      the statuses of the eight children of the cell o, which was not red and will be
---   familyBy m ss ks t o   the statuses of the children of a cell with new status t and old number o
---   nextBy m ss ks ts os   those one level up of cells with new statuses ts and old numbers os
+--   bornBy m ss ks t o   the statuses of the children of a cell with new status t and old number o
+--   bornNext m ss ks ts os   those one level up of cells with new statuses ts and old numbers os
 --   writeBy m ss ks h ts os   at most h levels of statuses, from those of a level on
 use mathlib.Core.Bool.{Bool, true, false}
 use mathlib.Core.List.{List, [], _∷_, _++_, map, flatMap, flatten}
@@ -37,15 +37,15 @@ unfolding keptOf redAfterb rowsUp edgesUp newReds sameb
 keptRows ls ms es rs = map (λ r. keptOf [] sameb es (newRedb (rowsUp ls ms) (edgesUp (newReds ls ms)) r) (r .cell)) rs
 
 -- Rule 7.7, level by level.
-unfoldable pub kept : List Level → List ℕ → List (List ℕ)
+unfoldable pub keptLevels : List Level → List ℕ → List (List ℕ)
 unfolding keptRows rows edgesUp newReds
-kept [] ms = []
-kept (l ∷ ls) ms = keptRows ls ms (edgesUp (newReds (l ∷ ls) ms)) (rows l ms) ∷ kept ls ms
+keptLevels [] ms = []
+keptLevels (l ∷ ls) ms = keptRows ls ms (edgesUp (newReds (l ∷ ls) ms)) (rows l ms) ∷ keptLevels ls ms
 
 -- Rule 7.7: what each old cell keeps, by cell number.
 unfoldable pub keptTable : ℕ → List (List ℕ) → List ℕ → List ℕ → List ℕ
-unfolding kept levelsOf
-keptTable n qs ss ms = flatten (kept (levelsOf n qs ss) ms)
+unfolding keptLevels levelsOf
+keptTable n qs ss ms = flatten (keptLevels (levelsOf n qs ss) ms)
 
 -- Rule 2.3: an edge of a child by its two digits.
 abbrev pub digitPair : ℕ → ℕ → ℕ → ℕ
@@ -65,24 +65,24 @@ module _ (m : ℕ) (ss ks : List ℕ) where
   freshOf o = map (λ i. bitsOf (map (λ y. memberb (digitPair 63 i y) (heldPairs o)) edgeNumbers)) (range 0 8)
 
   -- Rules 4.2, 6.3, 7.7: a family that stays, one that is new, and the leaves of a green cell.
-  unfoldable pub familyBy : ℕ → ℕ → List ℕ
+  unfoldable pub bornBy : ℕ → ℕ → List ℕ
   unfolding freshOf firstChild sizeOf
-  familyBy t o =
+  bornBy t o =
       elim (redb t) [
         | true ↦ elim (redb (getD ss o 0)) [ true ↦ part ks (firstChild m ss o) 8 | false ↦ freshOf o ]
         | false ↦ replicate (sizeOf t) 0
       ]
 
   -- Rule 3.2: by parent and then by place in the family.
-  unfoldable pub nextBy : List ℕ → List ℕ → List ℕ
-  unfolding familyBy
-  nextBy [] os = []
-  nextBy (t ∷ ts) [] = []
-  nextBy (t ∷ ts) (o ∷ os) = familyBy t o ++ nextBy ts os
+  unfoldable pub bornNext : List ℕ → List ℕ → List ℕ
+  unfolding bornBy
+  bornNext [] os = []
+  bornNext (t ∷ ts) [] = []
+  bornNext (t ∷ ts) (o ∷ os) = bornBy t o ++ bornNext ts os
 
   -- Rule 7.7, level after level.
   unfoldable pub writeBy : ℕ → List ℕ → List ℕ → List (List ℕ)
-  unfolding nextBy oldsNext
+  unfolding bornNext oldsNext
   writeBy zero ts os = []
   writeBy (suc h) [] os = []
-  writeBy (suc h) (t ∷ ts) os = (t ∷ ts) ∷ writeBy h (nextBy (t ∷ ts) os) (oldsNext m ss (t ∷ ts) os)
+  writeBy (suc h) (t ∷ ts) os = (t ∷ ts) ∷ writeBy h (bornNext (t ∷ ts) os) (oldsNext m ss (t ∷ ts) os)

@@ -1,4 +1,5 @@
 pub mod Olds
+pub mod Firsts
 pub mod Kept
 pub mod KeptSample
 pub mod Born

@@ -26,7 +26,7 @@ use Rattle.lineage.specs.Olds.{firstChild}
 use Rattle.flagging.specs.Flags.{kidsOf}
 use Rattle.reds.specs.Ranges.{Blocks, blocks}
 use Rattle.reds.specs.Born.{born-row}
-use Rattle.reds.specs.Firsts.{first-add, first-next, first-up, Firsts}
+use Rattle.lineage.specs.Firsts.{first-add, first-next, first-up, Firsts}
 use Rattle.reds.proofs.Tests.{rowAt, Seen}
 use Rattle.rows.specs.Laws.{cells-cons}
 use Rattle.base.specs.Range.{range}

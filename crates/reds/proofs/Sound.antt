@@ -32,7 +32,7 @@ use Rattle.lineage.specs.Olds.{firstChild, flagTable}
 use Rattle.flagging.specs.Flags.{flagsAt, redsUp, flagsUp}
 use Rattle.flagging.specs.Old.{OldRows, Span, FlagsWritten}
 use Rattle.reds.specs.Marked.{Marked}
-use Rattle.reds.specs.Firsts.{first-add, first-start, first-at, Firsts, firsts-top, firsts-up, length-firsts}
+use Rattle.lineage.specs.Firsts.{first-add, first-start, first-at, Firsts, firsts-top, firsts-up, length-firsts}
 use Rattle.reds.proofs.Tests.{Seen}
 use Rattle.flagging.specs.Writes.{length-flags}
 use Rattle.reds.proofs.Down.{flags-none, Down, down}

@@ -1,20 +1,19 @@
 -- The cells one level up, by their places: each has the cell as its parent under which it stands.
--- Laws: born (the parent of a cell of `next`), sizes-next (how many cells there are).
+-- Law: born-row (the parent of a cell of `next`).
 -- Assumes nothing.
-use mathlib.Core.Path.{_≡_, refl, _∙_, ap}
+use mathlib.Core.Path.{_≡_, refl}
 use mathlib.Core.Bool.{Bool, true, false}
 use mathlib.Core.List.{List, [], _∷_}
 use Prim.Native.Nat.{ℕ, zero, suc, _+_, _<_}
 use native.Mathlib.Omega.{arith}
 use lib.Dec.{eqb}
 use lib.ListN.{length, getD, take, List·getD-append}
-use lib.Seq.{getD-append-add, take-suc}
+use lib.Seq.{getD-append-add}
 use Rattle.cutting.specs.Rule.{family}
 use Rattle.mesh.specs.Cells.{Cell, redb, patternOf, children, childrenFrom}
 use Rattle.mesh.specs.Weights.{Point, point}
 use Rattle.mesh.specs.Table.{next, sizeOf, sizes}
 use Rattle.rows.specs.Many.{length-children}
-use Rattle.mesh.specs.Laws.{sizes-append}
 
 from-parent : (k : ℕ) (c : Cell Point) (r : Bool) (f : ℕ → Point) (d : Cell Point) (i : ℕ) (ds : List (List ℕ)) (j : ℕ)
     → j < length (childrenFrom k c r f i ds)
@@ -51,7 +50,3 @@ born-row k d (c ∷ cs) (s ∷ ss) e (suc i) h j g =
     let w : k + suc i ≡ suc k + i = omega arith in
     rw (z, w, getD-append-add (children k c s (point c)) (next (suc k) cs ss) (sizes (take i ss) + j) d)
     (born-row (suc k) d cs ss (omega arith) i (omega arith) j g)
-
-pub sizes-next : (ss : List ℕ) (k : ℕ) → k < length ss → sizes (take (suc k) ss) ≡ sizes (take k ss) + sizeOf (getD ss k 0)
-unfolding sizes
-sizes-next ss k h = ap sizes (take-suc ss k 0 h) ∙ sizes-append (take k ss) (getD ss k 0 ∷ []) ∙ omega arith

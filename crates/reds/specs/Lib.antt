@@ -1,4 +1,3 @@
 pub mod Ranges
 pub mod Born
-pub mod Firsts
 pub mod Marked

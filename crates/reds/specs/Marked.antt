@@ -9,7 +9,7 @@ use Rattle.base.specs.Fours.{fours}
 use Rattle.mesh.specs.Table.{soundb}
 use Rattle.mesh.specs.Layout.{cellTable}
 use Rattle.tables.specs.Sound.{Mesh, tableCells, examinedCorners}
-use Rattle.reds.specs.Firsts.{firstChildren}
+use Rattle.lineage.specs.Firsts.{firstChildren}
 
 -- Rules 6.1 to 6.4, 7.1: a sound table with its rows, and one mark for each cell.
 pub record Marked (n : ℕ) (mesh rows ss ms ks red : List ℕ) : Type 0 where

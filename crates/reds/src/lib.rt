@@ -11,7 +11,7 @@ ghost use Rattle.base.specs.Lent.{was, is};
 ghost use Rattle.pairs.specs.Keys.{Clear};
 ghost use Rattle.lineage.specs.Olds.{flagTable};
 ghost use Rattle.flagging.specs.Old.{OldRows, Span, FlagsWritten};
-ghost use Rattle.reds.specs.Firsts.{firstChildren};
+ghost use Rattle.lineage.specs.Firsts.{firstChildren};
 ghost use Rattle.reds.specs.Marked.{Marked};
 
 // The number of the first child of each cell, and behind them the count of all cells.

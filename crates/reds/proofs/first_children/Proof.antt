@@ -8,7 +8,7 @@ use lib.Dec.{T, leb, leb→le}
 use lib.ListN.{length, getD, drop, length-set}
 use Rattle.base.specs.Lists.{allb-at}
 use Rattle.lineage.specs.Olds.{firstChild}
-use Rattle.reds.specs.Firsts.{firstChildren, first-next, first-start}
+use Rattle.lineage.specs.Firsts.{firstChildren, first-next, first-start}
 use Rattle.flagging.specs.Writes.{firsts-more, firsts-none}
 use borrow.Author.Needs.{needs}
 use Rattle.reds.proofs.first_children.Statement.{statement}

@@ -5,18 +5,22 @@
 -- firsts-taken, length-firsts (ks from its equation).
 -- Assumes nothing.
 use mathlib.Core.Path.{_≡_, sym, _∙_, ap}
-use mathlib.Core.List.{List, _++_, map}
+use mathlib.Core.List.{List, [], _∷_, _++_, map}
 use Prim.Native.Nat.{ℕ, suc, _+_, _-_, _≤_, _<_}
 use native.Mathlib.Nat.{zero-add}
 use native.Mathlib.Omega.{arith}
 use lib.ListN.{length, getD, take, drop, length-take, length-map}
-use lib.Seq.{take-add, getD-take, take-at}
+use lib.Seq.{take-add, take-suc, getD-take, take-at}
 use Rattle.mesh.specs.Table.{sizeOf, sizes}
 use Rattle.base.specs.Every.{getD-map}
 use Rattle.lineage.specs.Olds.{firstChild}
-use Rattle.reds.specs.Born.{sizes-next}
 use Rattle.mesh.specs.Laws.{sizes-append}
 use Rattle.base.specs.Range.{range, length-range, range-at}
+
+-- the children of one cell more
+sizes-next : (ss : List ℕ) (k : ℕ) → k < length ss → sizes (take (suc k) ss) ≡ sizes (take k ss) + sizeOf (getD ss k 0)
+unfolding sizes
+sizes-next ss k h = ap sizes (take-suc ss k 0 h) ∙ sizes-append (take k ss) (getD ss k 0 ∷ []) ∙ omega arith
 
 -- Rule 3.2: where each family begins.
 unfoldable pub firstChildren : ℕ → List ℕ → List ℕ
