@@ -33,9 +33,9 @@ use Rattle.rounds.specs.Rounds.{State, isPart}
 use Rattle.rounds.specs.Among.{is-same, is-eq}
 use Rattle.parts.specs.Held.{Entry}
 use Rattle.splitting.specs.Numbers.{at-level, stands}
-use Rattle.splitting.specs.Split.{newEdges, Owners}
+use Rattle.succession.specs.After.{newEdges, will, new-status}
+use Rattle.splitting.specs.Split.{Owners}
 use Rattle.shares.specs.Flat.{flat-in, map-in, only-one}
-use Rattle.shares.specs.After.{will, new-status}
 use Rattle.shares.specs.Grow.{statusNew, staysb, masterEntry, ghostEntry, anewb, childStatus, childEntries, freshEntries, entries}
 use Rattle.shares.specs.Grow.{entryBy, cellEntries, levelEntries}
 use Rattle.shares.specs.There.{Met, There, red-parent, refined-there}

@@ -1,11 +1,9 @@
 -- What a part makes is what the step makes.
---   FreshEdge k t d e    a child of the old cell t that has an edge with the digits d and e, where a new red cell one level up has it
--- Laws: fresh-edge, known-red and known-held (what the part knows of a cell and of an edge), kept-status (a cell that was there), pair and
+-- Laws: known-red and known-held (what the part knows of a cell and of an edge), kept-status (a cell that was there), pair and
 -- fresh-status (a new child of a cell that was not red).
 use mathlib.Core.Path.{_≡_, refl, sym, _∙_, ap, ap₂, subst}
-use mathlib.Core.Logic.{inl, inr}
 use mathlib.Core.Bool.{Bool, true, false, _&&_}
-use mathlib.Core.List.{List, [], _∷_, _++_, map}
+use mathlib.Core.List.{List, [], map}
 use Prim.Native.Nat.{ℕ, suc, _+_, _-_, _<_}
 use native.Mathlib.Nat.{suc-pred-eq-of-pos}
 use native.Mathlib.Omega.{arith}
@@ -17,27 +15,19 @@ use Rattle.base.specs.Bools.{is-true, and-left, and-right, and-both, or-first, 
 use Rattle.cutting.specs.Rule.{family}
 use Rattle.mesh.specs.Cells.{Cell, redb, patternOf, edge, edges, heldb, bitsOf, noCell}
 use Rattle.mesh.specs.Weights.{Point, point}
-use Rattle.mesh.specs.Table.{Level, levelsOf, soundb}
-use Rattle.mesh.specs.Step.{rowsUp, edgesUp, newReds}
+use Rattle.mesh.specs.Table.{Level, levelsOf}
 use Rattle.mesh.specs.Layout.{edgeNumbers}
 use Rattle.base.specs.Every.{All}
 use Rattle.lattice.specs.Levels.{IfRegular}
-use Rattle.lattice.specs.Regular.{Regular}
-use Rattle.lattice.specs.Edges.{point-injective}
-use Rattle.lineage.specs.Paths.{snoc-inj}
-use Rattle.lineage.specs.Same.{rowIn}
-use Rattle.lineage.specs.Flags.{new-red-regular}
-use Rattle.lineage.specs.Met.{Matched, Fostered, oldAbove, flagged}
+use Rattle.lineage.specs.Met.{Matched, Fostered, oldAbove}
 use Rattle.exchange.specs.Finite.{Finite}
-use Rattle.carriers.specs.Joins.{Edge, SameEnds, ends-of, held-joined, joins-sym}
-use Rattle.carriers.specs.Lists.{held-which}
+use Rattle.carriers.specs.Joins.{Edge}
 use Rattle.families.specs.Children.{digitsOf, lowDigit, highDigit, digits-rise, digits-below}
 use Rattle.carriers.specs.Child.{child-edge}
 use Rattle.carriers.specs.Refined.{asked-small}
-use Rattle.soundness.specs.Held.{closed-at, regular-at}
-use Rattle.soundness.specs.Family.{ChildAt, child-points, child-parent, red-child, born-of}
-use Rattle.soundness.specs.Turn.{Sharing, sharing}
-use Rattle.soundness.specs.Sound.{Sound, sound-from, lv, level-closed, level-next, level-there}
+use Rattle.soundness.specs.Held.{closed-at}
+use Rattle.soundness.specs.Family.{child-parent, born-of}
+use Rattle.soundness.specs.Sound.{Sound, lv, level-closed, level-next, level-there}
 use Rattle.soundness.specs.Meets.{edges-alike, point-same}
 use Rattle.rounds.specs.Tests.{Member, any-member, member-any}
 use Rattle.rounds.specs.Task.{Task, redAt, hitAt}
@@ -47,103 +37,14 @@ use Rattle.rounds.specs.Enough.{Known, holds-by, member-has}
 use Rattle.parts.specs.Owners.{nthCell, childrenOf}
 use Rattle.splitting.specs.Members.{map-agree, six-below, below-six}
 use Rattle.splitting.specs.Numbers.{numbersOf, rowBy, at-level, stands, kid, kid-in, row-of-cell}
-use Rattle.splitting.specs.Split.{newEdges, newRedRow, Slots, Owners, fits, flags-red, hits}
-use Rattle.shares.specs.After.{WillHave, will, new-status}
+use Rattle.succession.specs.After.{newEdges, newRedRow, new-status}
+use Rattle.succession.specs.FreshEdge.{fresh-edge}
+use Rattle.splitting.specs.Split.{Slots, Owners, fits, flags-red, hits}
 use Rattle.shares.specs.Grow.{lastOf, last-snoc, heldNow, statusNew, pairHeld, freshStatus, fresh-is}
 use Rattle.shares.specs.Settled.{Settled, taskIn, newLevelIn, numIn}
 
 eq-T : (a b : ℕ) → a ≡ b → T (eqb a b)
 eq-T a b e = subst (λ (x : ℕ). T (eqb a x)) e (eqb-refl a)
-
--- the digits of two points of a regular cell
-digits-same : (n k : ℕ) (g : Cell Point) → k < 10 → Regular n k g → (d e a b : ℕ) → d < e → e < 10 → a < b → b < 10
-    → SameEnds (point g d, point g e) (point g a, point g b) → (d ≡ a) × (e ≡ b)
-digits-same n k g h r d e a b de he ab hb (inl (x, y)) =
-    (point-injective n k g r h d a (omega arith) (omega arith) x, point-injective n k g r h e b he hb y)
-digits-same n k g h r d e a b de he ab hb (inr (x, y)) =
-    let p = point-injective n k g r h d b (omega arith) hb x in
-    let q = point-injective n k g r h e a he (omega arith) y in
-    absurd (omega arith)
-
-module _ (n : ℕ) (qs : List (List ℕ)) (ss ms : List ℕ) (s : Sound n qs ss) (regular : (i : ℕ)
-    → All (IfRegular n i) (lv n qs ss i .cells)) where
-  abbrev sound : T (soundb n qs ss)
-  sound = sound-from n qs ss s
-
-  -- a child's number is one of the family
-  inside-child : (k t i : ℕ) → t < length (lv n qs ss k .cells) → ChildAt (lv n qs ss k) (lv n qs ss (suc k)) t i
-      → i < length (family (patternOf (getD (lv n qs ss k .statuses) t 0)))
-  inside-child k t i h w =
-      let l = lv n qs ss k in
-      let up = lv n qs ss (suc k) in
-      let top = level-there n qs ss (suc k) (w .u) (w .below) in
-      let b = born-of l up (level-next n qs ss k (omega (arith, s .high))) (w .u) (w .below) in
-      let p : l .first + b .p ≡ l .first + t = sym (ap (λ (c : Cell Point). c .parent) (b .is)) ∙ child-parent l up t i w in
-      let q : b .p ≡ t = omega arith in
-      let e : getD (l .cells) (b .p) noCell .path ++ (b .i ∷ []) ≡ getD (l .cells) t noCell .path ++ (i ∷ []) =
-      sym (ap (λ (c : Cell Point). c .path) (b .is)) ∙ ap (λ (c : Cell Point). c .path) (w .is) in
-      let z : b .i ≡ i = snoc-inj (getD (l .cells) (b .p) noCell .path) (getD (l .cells) t noCell .path) (b .i) i e .1 in
-      subst (λ (x : ℕ). i < length (family (patternOf (getD (l .statuses) x 0)))) q
-      (subst (λ (x : ℕ). x < length (family (patternOf (getD (l .statuses) (b .p) 0)))) z (b .child))
-
-  -- an edge with two digits of an old cell that a new red cell one level up has: a child of the cell has it at the same digits
-  record FreshEdge (k t d e : ℕ) : Type 0 where
-    pub i : ℕ
-    pub child : ChildAt (lv n qs ss k) (lv n qs ss (suc k)) t i
-    pub y : ℕ
-    pub below : y < 6
-    pub low-is : d ≡ lowDigit (patternOf (getD (lv n qs ss k .statuses) t 0)) i y
-    pub high-is : e ≡ highDigit (patternOf (getD (lv n qs ss k .statuses) t 0)) i y
-    pub held : T (heldb sameb (newEdges n qs ss ms (suc k)) (edge [] (getD (lv n qs ss (suc k) .cells) (child .u) noCell) y))
-
-  fresh-edge : (k t : ℕ) → t < length (lv n qs ss k .cells) → T (getD (lv n qs ss k .cells) t noCell .regular) → (d e : ℕ) → d < e
-      → e < 10
-      → T (heldb sameb (newEdges n qs ss ms (suc k)) (
-        point (getD (lv n qs ss k .cells) t noCell) d,
-        point
-            (getD (lv n qs ss k .cells) t noCell) e,
-      )) → FreshEdge k t d e
-  fresh-edge k t ht rt d e de he held =
-      let l = lv n qs ss k in
-      let up = lv n qs ss (suc k) in
-      let g = getD (l .cells) t noCell in
-      let w : WillHave n qs ss ms s (suc k) (point g d, point g e) = will n qs ss ms s (suc k) (point g d, point g e) held in
-      let top = level-there n qs ss (suc k) (w .t) (w .below) in
-      let h : k < 10 = omega (arith, s .high) in
-      let r = getD (up .cells) (w .t) noCell in
-      let ru : T (r .regular) =
-      new-red-regular (rowsUp (oldAbove n qs ss (suc k)) ms) (edgesUp (newReds (oldAbove n qs ss (suc k)) ms)) (rowIn up ms (w .t))
-      (flagged n qs ss ms sound (suc k) .follows (w .t) (w .below)) (w .red) in
-      let nx = level-next n qs ss k (omega arith) in
-      let cl = level-closed n qs ss (s .closed) k in
-      let (y, hy, js) = held-which [] r sameb (point g d, point g e) (w .has) in
-      let x : Sharing l up t (point g d, point g e) = sharing n k h l up nx cl (regular k) t ht rt d e (omega arith) he (λ z. omega arith) r
-      (red-child l up nx (w .t) (w .below) ru) y hy js in
-      let st = closed-at l cl t ht .1 in
-      let small : patternOf (getD (l .statuses) t 0) < 64 = asked-small _ g (getD (l .statuses) t 0) st in
-      let c = getD (up .cells) (x .child .u) noCell in
-      let inside = inside-child k t (x .i) ht (x .child) in
-      let ce = child-edge (patternOf (getD (l .statuses) t 0)) (x .i) small inside (x .y) (x .below) g c
-      (child-points l up t (x .i) (x .child)) in
-      let rise = digits-rise (patternOf (getD (l .statuses) t 0)) (x .i) small inside (x .y) (x .below) in
-      let under = digits-below (patternOf (getD (l .statuses) t 0)) (x .i) small inside (x .y) (x .below) in
-      let (a, o) = digits-same n k g h (regular-at n k l (regular k) t ht rt) d e (lowDigit (patternOf (getD (l .statuses) t 0)) (x .i)
-      (x .y)) (highDigit (patternOf (getD (l .statuses) t 0)) (x .i) (x .y)) de he rise under
-      (ends-of (point g d, point g e) (
-        point g (lowDigit (patternOf (getD (l .statuses) t 0)) (x .i) (x .y)),
-        point g
-            (highDigit (patternOf (getD (l .statuses) t 0)) (x .i) (x .y)),
-      ) (rw ce at (x .joins))) in
-      record {
-        i = x .i;
-        child = x .child;
-        y = x .y;
-        below = x .below;
-        low-is = a;
-        high-is = o;
-        held = held-joined (newEdges n qs ss ms (suc k)) (edge [] c (x .y)) (point g d, point g e)
-            (joins-sym (point g d, point g e) (edge [] c (x .y)) (x .joins)) held;
-      }
 
 -- what a part that knows of the new red cells makes
 module _ {Part : Type 0} {F : Finite Part} (X : Settled F) (p : Part) where

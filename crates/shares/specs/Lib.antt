@@ -1,5 +1,4 @@
 pub mod Flat
-pub mod After
 pub mod Grow
 pub mod There
 pub mod Owned

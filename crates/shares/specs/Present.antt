@@ -34,7 +34,8 @@ use Rattle.rounds.specs.Rounds.{State, isPart, mine}
 use Rattle.rounds.specs.Among.{is-same, is-eq}
 use Rattle.parts.specs.Held.{Entry}
 use Rattle.splitting.specs.Numbers.{at-level, row-of-cell}
-use Rattle.splitting.specs.Split.{newRedRow, Slots, Owners, fits}
+use Rattle.succession.specs.After.{newRedRow}
+use Rattle.splitting.specs.Split.{Slots, Owners, fits}
 use Rattle.shares.specs.Flat.{in-flat, in-map}
 use Rattle.shares.specs.Grow.{statusNew, freshStatus, coarseb, staysb, masterEntry, ghostEntry, anewb, childStatus, childEntries}
 use Rattle.shares.specs.Grow.{freshEntries, entries, entryBy, cellEntries, levelEntries}

@@ -30,7 +30,7 @@ use Rattle.soundness.specs.Sound.{Sound, sound-from, lv, level-next, level-ther
 use Rattle.rounds.specs.Tests.{Member}
 use Rattle.parts.specs.Owners.{childrenOf}
 use Rattle.splitting.specs.Numbers.{at-level, kid-in}
-use Rattle.splitting.specs.Split.{newEdges}
+use Rattle.succession.specs.After.{newEdges}
 
 abbrev pub Met : ℕ → List (List ℕ) → List ℕ → List ℕ → ℕ → ℕ → Type 0
 Met n qs ss ms k i =

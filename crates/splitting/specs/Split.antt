@@ -1,5 +1,4 @@
 -- The task that a split table is, and that its flags are those of the step (sections 7 and 15 of the method).
---   newEdges k      the edges of the new red cells of level k; newRedRow k the test that chooses these cells
 --   Slots           numbers for the edges of each level: one for each edge, whichever cells have it
 --   Owners          children of one cell have its family's owner
 --   innerOf d e     the edge e of the cell d is not also its parent's
@@ -22,25 +21,19 @@ use Rattle.base.specs.Range.{range, range-member}
 use Rattle.base.specs.Each.{filter-map, all-through}
 use Rattle.mesh.specs.Cells.{edge, edges, joinsb, heldb}
 use Rattle.mesh.specs.Table.{Level, levelsOf}
-use Rattle.mesh.specs.Step.{Row, kids, deletedb, turnedb, newRedb, rowsUp, edgesUp, newReds, redAfterb}
+use Rattle.mesh.specs.Step.{Row, kids, deletedb, turnedb, rowsUp, edgesUp, newReds, redAfterb}
 use Rattle.mesh.specs.Layout.{edgeNumbers}
 use Rattle.mesh.specs.Laws.{held-append}
 use Rattle.lattice.specs.Levels.{noLevel}
 use Rattle.lineage.specs.Stays.{up-rows}
 use Rattle.carriers.specs.Joins.{Edge}
 use Rattle.soundness.specs.Sound.{Sound, level-there}
+use Rattle.succession.specs.After.{newEdges, newRedRow}
 use Rattle.rounds.specs.Tests.{Member, any-agree, all-agree, filtered-member, member-filtered}
 use Rattle.rounds.specs.Task.{Task, Fit, has, idle, pulled, rule, redAt, hitAt}
 use Rattle.parts.specs.Owners.{nthCell, childrenOf, familyOf, ownersb}
 use Rattle.splitting.specs.Members.{all-member, first-none, any-members, all-members, any-mapped-by}
 use Rattle.splitting.specs.Numbers.{numbersOf, rowBy, kid, kid-in, number-inside, one-level, rows-numbers, stands}
-
--- Rule 7.2.
-abbrev pub newEdges : ℕ → List (List ℕ) → List ℕ → List ℕ → ℕ → List Edge
-newEdges n qs ss ms k = edgesUp (newReds (drop k (levelsOf n qs ss)) ms)
-
-abbrev pub newRedRow : ℕ → List (List ℕ) → List ℕ → List ℕ → ℕ → Row → Bool
-newRedRow n qs ss ms k = newRedb (rowsUp (drop (suc k) (levelsOf n qs ss)) ms) (newEdges n qs ss ms (suc k))
 
 -- Rule 5.4.
 pub record Slots (n : ℕ) (qs : List (List ℕ)) (ss : List ℕ) (slot : ℕ → ℕ → ℕ) (slots : ℕ → List ℕ) : Type 0 where

@@ -1,4 +1,5 @@
 -- The statuses after the step, from the flags and edges of the old table.
+--   newEdges k       the edges of the new red cells of level k; newRedRow k the test that chooses these cells
 --   Chosen rs        a row of rs that passes a test and has an edge
 --   WillHave k e     an old cell of level k that will be red and has the edge e
 -- Laws: chosen (the edges of chosen rows), will and have (the edges of the new red cells), new-held (the edges of the red cells of a new
@@ -17,7 +18,7 @@ use Rattle.base.specs.Lists.{anyb, filterb, sameb}
 use Rattle.base.specs.Bools.{not-both, same-test}
 use Rattle.mesh.specs.Cells.{redb, edges, heldb, bitsOf, pattern, redEdges, noCell}
 use Rattle.mesh.specs.Table.{Level, levelsOf, closedb, soundb}
-use Rattle.mesh.specs.Step.{Row, rows, edgesUp, newReds}
+use Rattle.mesh.specs.Step.{Row, rows, newRedb, rowsUp, edgesUp, newReds}
 use Rattle.lattice.specs.Levels.{noLevel}
 use Rattle.lineage.specs.Olds.{stepBy}
 use Rattle.lineage.specs.Same.{Fresh}
@@ -32,7 +33,13 @@ use Rattle.soundness.specs.Reds.{held-up}
 use Rattle.soundness.specs.Sound.{Sound, sound-from, level-closed, level-there}
 use Rattle.soundness.specs.Meets.{edges-alike}
 use Rattle.soundness.specs.Grown.{new-closed}
-use Rattle.splitting.specs.Split.{newEdges, newRedRow}
+
+-- Rule 7.2.
+abbrev pub newEdges : ℕ → List (List ℕ) → List ℕ → List ℕ → ℕ → List Edge
+newEdges n qs ss ms k = edgesUp (newReds (drop k (levelsOf n qs ss)) ms)
+
+abbrev pub newRedRow : ℕ → List (List ℕ) → List ℕ → List ℕ → ℕ → Row → Bool
+newRedRow n qs ss ms k = newRedb (rowsUp (drop (suc k) (levelsOf n qs ss)) ms) (newEdges n qs ss ms (suc k))
 
 -- the row of a flat list of edges
 module _ (f : Row → Bool) (e : Edge) where
