@@ -12,7 +12,7 @@ use lib.Dec.{eqb}
 use lib.ListN.{length, getD, replicate, length-map}
 use borrow.Author.Tests.{eq-eqb, lt-ltb}
 use Rattle.mesh.specs.Answers.{markb, marksb}
-use Rattle.rounds.specs.Tests.{Member}
+use Rattle.base.specs.Member.{Member}
 use Rattle.rounds.specs.Task.{Task, Fit}
 use Rattle.parts.specs.Held.{masterb}
 use Rattle.parts.specs.Starts.{mastersOn, startb, placeOn}

@@ -23,7 +23,7 @@ use Rattle.mesh.specs.Step.{stepTable}
 use Rattle.mesh.specs.Answers.{newTable, markedAnswer}
 use Rattle.exchange.specs.Calls.{play, Lawful}
 use Rattle.exchange.specs.Finite.{parts}
-use Rattle.rounds.specs.Tests.{Member}
+use Rattle.base.specs.Member.{Member}
 use Rattle.rounds.specs.Rounds.{isPart}
 use Rattle.rounds.specs.Among.{is-self, is-eq}
 use Rattle.parts.specs.Held.{Entry, masterb, entriesOf}

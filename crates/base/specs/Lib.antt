@@ -1,5 +1,6 @@
 pub mod Bools
 pub mod Lists
+pub mod Member
 pub mod Every
 pub mod Each
 pub mod Append

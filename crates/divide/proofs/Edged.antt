@@ -5,15 +5,15 @@ use mathlib.Core.List.{List, [], _∷_, _++_, map, flatMap}
 use Prim.Native.Nat.{ℕ, zero, suc, _+_, _-_, _*_, _/_, _%_, _≤_, _<_}
 use native.Mathlib.Omega.{arith}
 use lib.ListN.{length, getD}
+use Rattle.mesh.specs.Laws.{below-six}
 use Rattle.base.specs.Places.{placeIn}
 use Rattle.base.specs.Range.{range, member-range}
 use Rattle.mesh.specs.Cells.{edge, edges}
 use Rattle.edges.specs.Pairs.{Pair, sorted, isb, addPairs}
 use Rattle.rows.specs.Numbered.{cellAt}
 use Rattle.soundness.specs.Sound.{Sound}
-use Rattle.rounds.specs.Tests.{Member}
+use Rattle.base.specs.Member.{Member}
 use Rattle.splitting.specs.Numbers.{numbersOf}
-use Rattle.splitting.specs.Members.{below-six}
 use Rattle.split.specs.Columns.{numberedCell, cellLevel, levelAt, cellsBelow, keysAt, slotsBelow, slotOf}
 use Rattle.tasks.specs.Levels.{below-more, below-all, level-gap, level-top}
 use Rattle.tasks.specs.Edges.{slots-follow, slots-split}

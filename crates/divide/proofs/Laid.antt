@@ -34,7 +34,7 @@ use Rattle.ancestors.specs.Climb.{levelIn, parentIn}
 use Rattle.ancestors.specs.Linked.{Descends}
 use Rattle.ancestors.specs.Levels.{cells-linked}
 use Rattle.soundness.specs.Sound.{Sound, sound-parts}
-use Rattle.rounds.specs.Tests.{Member}
+use Rattle.base.specs.Member.{Member}
 use Rattle.splitting.specs.Numbers.{numbersOf, level-at, level-of}
 use Rattle.parts.specs.Owners.{nthCell, childrenOf, familyOf, firstOr, ownersb}
 use Rattle.store.specs.Places.{placeOf, coarsePlace, childPlace, place-child}

@@ -18,7 +18,7 @@ use Rattle.base.specs.declared.Answer.{Answer}
 use Rattle.base.specs.declared.Answer.the-variants.{Accepted, Refused}
 use Rattle.exchange.specs.Finite.{parts}
 use Rattle.exchange.specs.Protocol.{atStart}
-use Rattle.rounds.specs.Tests.{Member}
+use Rattle.base.specs.Member.{Member}
 use Rattle.rounds.specs.Task.{Task, Fit, rule}
 use Rattle.rounds.specs.Rounds.{marks, phase, State, isPart, told, added, redTold, sumTold, decides, starting, holdsb}
 use Rattle.rounds.specs.Rounded.{overb, sizedb, endedb, phase-marks}

@@ -14,7 +14,7 @@ use Rattle.base.specs.Bools.{one-if}
 use Rattle.base.specs.Every.{All}
 use Rattle.base.specs.Range.{range}
 use Rattle.exchange.specs.Finite.{parts}
-use Rattle.rounds.specs.Tests.{Member}
+use Rattle.base.specs.Member.{Member}
 use Rattle.rounds.specs.Task.{Task}
 use Rattle.rounds.specs.Rounds.{State, mine, holdsb}
 use Rattle.store.specs.Fields.{field, full, PART, PARTS, CELLS, LEVELS, FIRST-CELL, FIRST-SLOT, OWNER, FAMILY, STATUS, REGULAR, CHILD}

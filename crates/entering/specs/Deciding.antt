@@ -12,19 +12,19 @@ use native.Mathlib.Decide.{Fin·val-path}
 use lib.Dec.{eqb, ltb, leb}
 use lib.ListN.{length, set}
 use borrow.Author.Tests.{eq-eqb, ne-eqb, eqb-true}
+use Rattle.mesh.specs.Laws.{six-below}
 use Rattle.base.specs.Bools.{one-if, eqb-one, not-both}
 use Rattle.base.specs.Lists.{allb, anyb, memberb}
 use Rattle.base.specs.Range.{range}
 use Rattle.mesh.specs.Table.{sizeOf}
 use Rattle.mesh.specs.Layout.{edgeNumbers}
 use Rattle.exchange.specs.Finite.{parts}
-use Rattle.rounds.specs.Tests.{Member, any-agree}
+use Rattle.base.specs.Member.{Member, any-agree}
 use Rattle.rounds.specs.Task.{Task, Fit, idle, pulled, rule}
 use Rattle.rounds.specs.Rounds.{isPart, mine, decides}
 use Rattle.rounds.specs.Among.{is-same, is-eq}
 use Rattle.store.specs.Fields.{field, PART, CELLS, FAMILY, STATUS, REGULAR, CHILD, INNER, MARK, RED, SLOT, SUM}
 use Rattle.store.specs.Fetch.{bitb}
-use Rattle.splitting.specs.Members.{six-below}
 use Rattle.standing.specs.Busy.{HoldsCell, HoldsSlot}
 use Rattle.turns.specs.Loops.{someFrom, eachFrom}
 use Rattle.turns.specs.Decide.{slotAt, hitb, hitOf, pullOf, idleKid, pulledKid, kidCount, busyb, ruleb, decideOne}

@@ -17,7 +17,7 @@ use Rattle.base.specs.Range.{range, member-range}
 use Rattle.mesh.specs.Table.{sizeOf}
 use Rattle.exchange.specs.Finite.{Finite, parts, sumOver}
 use Rattle.exchange.specs.Protocol.{Local, Protocol, only, numbered, parcel, enter}
-use Rattle.rounds.specs.Tests.{Member}
+use Rattle.base.specs.Member.{Member}
 use Rattle.rounds.specs.Task.{Task}
 use Rattle.rounds.specs.Rounds.{Body, Phase, phase, State, isPart, told, added, mastersTold, topTold, redTold, sumTold, capped, largest}
 use Rattle.rounds.specs.Rounds.{holdsb, mine}

@@ -5,7 +5,7 @@ use mathlib.Core.Path.{_≡_}
 use mathlib.Core.Bool.{Bool, true, false}
 use Prim.Native.Nat.{ℕ, _-_, _≤_, _<_, Fin}
 use Rattle.exchange.specs.Finite.{parts}
-use Rattle.rounds.specs.Tests.{Member}
+use Rattle.base.specs.Member.{Member}
 use Rattle.rounds.specs.Task.{Task}
 use Rattle.rounds.specs.Rounds.{Phase, marks, counts, totals, over, phase, holdsb, told, added}
 use Rattle.standing.specs.Busy.{L, Good}

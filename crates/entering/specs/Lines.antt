@@ -15,7 +15,7 @@ use borrow.Author.Tests.{eq-eqb, ne-eqb, lt-ltb, le-ltb, le-leb}
 use Rattle.base.specs.Bools.{one-if}
 use Rattle.base.specs.Range.{range, range-member}
 use Rattle.exchange.specs.Finite.{parts}
-use Rattle.rounds.specs.Tests.{Member}
+use Rattle.base.specs.Member.{Member}
 use Rattle.rounds.specs.Task.{Task}
 use Rattle.rounds.specs.Rounds.{Body, mark, count, total, end, marks, counts, totals, State, isPart, mine, holdsb}
 use Rattle.rounds.specs.Among.{is-same, is-not}

@@ -23,7 +23,7 @@ use Rattle.rows.specs.Sizes.{size-leaf, size-red, size-few}
 use Rattle.families.specs.Children.{lowDigit, highDigit}
 use Rattle.parts.specs.Held.{Entry}
 use Rattle.exchange.specs.Finite.{Finite, parts}
-use Rattle.rounds.specs.Tests.{Member}
+use Rattle.base.specs.Member.{Member}
 use Rattle.rounds.specs.Task.{Task, Fit}
 use Rattle.rounds.specs.Rounds.{State, isPart, capped, largest}
 use Rattle.rounds.specs.Among.{is-eq}

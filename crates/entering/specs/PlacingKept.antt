@@ -14,7 +14,7 @@ use Rattle.base.specs.Every.{All, all-append, all-at}
 use Rattle.base.specs.Range.{range, range-member}
 use Rattle.parts.specs.Held.{Entry}
 use Rattle.exchange.specs.Finite.{parts}
-use Rattle.rounds.specs.Tests.{Member}
+use Rattle.base.specs.Member.{Member}
 use Rattle.rounds.specs.Task.{Task}
 use Rattle.rounds.specs.Rounds.{isPart}
 use Rattle.rounds.specs.Among.{is-eq}

@@ -16,18 +16,17 @@ use Rattle.base.specs.Lists.{anyb, memberb}
 use Rattle.base.specs.Range.{range, member-range, range-member}
 use Rattle.cutting.specs.Rule.{family}
 use Rattle.mesh.specs.Cells.{patternOf, bitsOf}
-use Rattle.mesh.specs.Laws.{bits-small}
+use Rattle.mesh.specs.Laws.{bits-small, below-six, six-below}
 use Rattle.mesh.specs.Table.{sizeOf}
 use Rattle.mesh.specs.Layout.{edgeNumbers}
 use Rattle.families.specs.Children.{lowDigit, highDigit}
 use Rattle.exchange.specs.Finite.{parts}
-use Rattle.rounds.specs.Tests.{Member, any-agree, member-any}
+use Rattle.base.specs.Member.{Member, any-agree, member-any, map-agree}
 use Rattle.rounds.specs.Task.{Task, Fit, has}
 use Rattle.rounds.specs.Rounds.{State, isPart, mine, holdsb}
 use Rattle.rounds.specs.Among.{is-eq, is-same, is-not}
 use Rattle.store.specs.Fields.{field, PART, CELLS, FIRST-CELL, FIRST-SLOT, OWNER, FAMILY, STATUS, REGULAR}
 use Rattle.store.specs.Fields.{CHILD, PARENT, HEAD, RED, SLOT, SUM}
-use Rattle.splitting.specs.Members.{map-agree, below-six, six-below}
 use Rattle.standing.specs.Busy.{HoldsCell, HoldsSlot}
 use Rattle.turns.specs.Decide.{hitb, hitOf, kidCount}
 use Rattle.places.specs.Status.{newStatus, lastsb, remadeb, pairHit, freshBits}

@@ -15,7 +15,7 @@ use Rattle.base.specs.Bools.{one-if, eqb-one, not-both}
 use Rattle.base.specs.Lists.{anyb, filterb}
 use Rattle.base.specs.Range.{range, range-member}
 use Rattle.exchange.specs.Finite.{parts}
-use Rattle.rounds.specs.Tests.{Member}
+use Rattle.base.specs.Member.{Member}
 use Rattle.rounds.specs.Task.{Task, has}
 use Rattle.rounds.specs.Rounds.{isPart, mine, tally}
 use Rattle.rounds.specs.Among.{is-same, is-eq}

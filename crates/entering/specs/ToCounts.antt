@@ -13,7 +13,7 @@ use Rattle.base.specs.Range.{length-range}
 use Rattle.base.specs.Range.{range}
 use Rattle.exchange.specs.Finite.{parts}
 use Rattle.exchange.specs.Protocol.{following}
-use Rattle.rounds.specs.Tests.{Member}
+use Rattle.base.specs.Member.{Member}
 use Rattle.rounds.specs.Task.{Task, Fit}
 use Rattle.rounds.specs.Rounds.{Body, Phase, marks, counts, totals, over, after, phase, State, isPart, told, added, redTold, sumTold}
 use Rattle.rounds.specs.Rounds.{capped, tally, holdsb}

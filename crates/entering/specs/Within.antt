@@ -14,7 +14,7 @@ use Rattle.base.specs.Range.{range, member-range, range-member}
 use Rattle.mesh.specs.Table.{sizeOf}
 use Rattle.mesh.specs.Layout.{edgeNumbers}
 use Rattle.exchange.specs.Finite.{parts}
-use Rattle.rounds.specs.Tests.{Member, any-member, member-any}
+use Rattle.base.specs.Member.{Member, any-member, member-any}
 use Rattle.rounds.specs.Task.{Task, has}
 use Rattle.rounds.specs.Rounds.{isPart, mine, holdsb}
 use Rattle.rounds.specs.Among.{is-same}

@@ -14,7 +14,7 @@ use Rattle.base.specs.Lists.{memberb}
 use Rattle.mesh.specs.Table.{soundb}
 use Rattle.soundness.specs.Sound.{Sound}
 use Rattle.exchange.specs.Finite.{Finite, parts}
-use Rattle.rounds.specs.Tests.{Member, member-cases}
+use Rattle.base.specs.Member.{Member, member-cases}
 use Rattle.parts.specs.Owners.{ownersb}
 use Rattle.parts.specs.Held.{Entry, entriesOf}
 use Rattle.parts.specs.Merge.{merged, completeb}

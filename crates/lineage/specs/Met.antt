@@ -4,7 +4,7 @@
 --                          levels above l
 --   Fostered l l' c        c is a child of a red cell of the new level l', which is the cell t of the old level l that was not red
 -- Laws: old-next and new-next (neighbouring levels), old-coarse and new-coarse (the coarse level), new-below (at most twelve levels),
--- flagged and traced (each level), new-known and new-follows (the statuses of a new level), met (each regular cell), met-coarse (a coarse
+-- flagged, old-up and traced (each level), new-known and new-follows (the statuses of a new level), met (each regular cell), met-coarse (a coarse
 -- cell is met), fostered (a
 -- regular cell that is not met).
 use mathlib.Core.Path.{_≡_, sym, _∙_, ap, subst}
@@ -28,11 +28,11 @@ use Rattle.numbering.specs.Refined.{Follows, Refined}
 use Rattle.lineage.specs.Olds.{flagTable, upTo, stepBy}
 use Rattle.lineage.specs.Born.{childOf, Born, born, born-below, born-at}
 use Rattle.lineage.specs.Paths.{pathAt, coarse-at}
-use Rattle.lineage.specs.Same.{Is, Fresh, Old, both-at}
+use Rattle.lineage.specs.Same.{Is, Fresh, Old, Up, both-at}
 use Rattle.lineage.specs.Levels.{newLevels, length-statuses, new-levels, levels-next, cells-first}
 use Rattle.lineage.specs.Flags.{newRedAt, FlaggedLevel, flag-red, flag-none}
 use Rattle.lineage.specs.Rest.{rest-start}
-use Rattle.lineage.specs.Traced.{Traced, red-status, flagged-at, traced-at, length-grow}
+use Rattle.lineage.specs.Traced.{Traced, red-status, flagged-at, up-at, traced-at, length-grow}
 use Rattle.lineage.specs.Step.{olds-many, olds-start, refined-statuses}
 
 pub record Matched (ms : List ℕ) (ls : List Level) (l : Level) (c : Cell Point) (s : ℕ) : Type 0 where
@@ -96,6 +96,10 @@ module _ (n : ℕ) (qs : List (List ℕ)) (ss ms : List ℕ) (t : T (soundb n qs
   pub flagged : (j : ℕ) → FlaggedLevel (flagTable n qs ss ms) ms (oldAbove n qs ss j) (oldAt n qs ss j)
   unfolding levelsOf
   flagged = flagged-at (length qs) ss (flagTable n qs ss ms) ms 12 0 (coarseCells n qs) ss (rest-start n qs ss ms t)
+
+  pub old-up : (j : ℕ) → 0 < length (oldAt n qs ss (suc j) .cells) → Up (length qs) ss (oldAt n qs ss j) (oldAt n qs ss (suc j))
+  unfolding levelsOf
+  old-up = up-at (length qs) ss (flagTable n qs ss ms) ms 12 0 (coarseCells n qs) ss (rest-start n qs ss ms t)
 
   pub traced : (j : ℕ) → Traced (flagTable n qs ss ms) (oldAt n qs ss j) (newAt n qs ss ms j)
   unfolding levelsOf

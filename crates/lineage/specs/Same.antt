@@ -4,7 +4,8 @@
 --   Old l c o      o is the old number of the new cell c
 --   rowIn l ms t   the row of the cell t
 --   Up m ss l u    u is the level above l, in a table ss over m coarse cells
--- Laws: both-from, both-at, both-append, both-more (cells with their numbers), length-olds-of and length-olds (how many), olds-next
+-- Laws: both-from, both-at, both-append, both-more (cells with their numbers), child-old (the child of a red cell), length-olds-of and
+-- length-olds (how many), olds-next
 -- (the old numbers one level up).
 use mathlib.Core.Path.{_≡_, refl, sym, _∙_, ap, ap₂}
 use mathlib.Core.Logic.{_≢_, _⊎_, inl, inr}
@@ -89,7 +90,7 @@ both-more P Q f (c ∷ cs) [] b = tt
 both-more P Q f (c ∷ cs) (o ∷ os) b = (f c o (b .0), both-more P Q f cs os (b .1))
 
 -- the points of a child depend on the points of its parent alone
-points-same : (c d : Cell Point) (l : List ℕ) → c .points ≡ d .points → map (point c) l ≡ map (point d) l
+pub points-same : (c d : Cell Point) (l : List ℕ) → c .points ≡ d .points → map (point c) l ≡ map (point d) l
 unfolding point
 points-same c d l e = ap (λ (ps : List Point). map (λ x. mid (getD ps (low x) []) (getD ps (high x) [])) l) e
 
@@ -99,7 +100,7 @@ module _ (m : ℕ) (ss : List ℕ) (o i : ℕ) where
   unfolding oldChild
   old-red e = rw (e, oldChild)
 
-  old-none : redb (getD ss o 0) ≡ false → oldChild m ss o i ≡ none
+  pub old-none : redb (getD ss o 0) ≡ false → oldChild m ss o i ≡ none
   unfolding oldChild
   old-none e = rw (e, oldChild)
 
@@ -143,8 +144,8 @@ module _ (m : ℕ) (ss : List ℕ) (l u : Level) (up : Up m ss l u) (k : ℕ) (c
         },
       )
 
-  red-child : (o : ℕ) → T (c .regular) → Old l c o → Old u (childOf k c 64 i) (oldChild m ss o i)
-  red-child o r (inl (t, e, q, is)) = go (either (redb (getD ss o 0)))
+  pub child-old : (o : ℕ) → T (c .regular) → Old l c o → Old u (childOf k c 64 i) (oldChild m ss o i)
+  child-old o r (inl (t, e, q, is)) = go (either (redb (getD ss o 0)))
     where
       st : getD ss o 0 ≡ getD (l .statuses) t 0
       st = ap (λ (x : ℕ). getD ss x 0) e ∙ up .status t (is .below)
@@ -159,7 +160,7 @@ module _ (m : ℕ) (ss : List ℕ) (l u : Level) (up : Up m ss l u) (k : ℕ) (c
                 let y : redb (getD ss o 0) ≡ true = rw (st, ← x, g) refl in
                 not-both (redb (getD ss o 0)) y z),
           )
-  red-child o r (inr (e, f)) =
+  child-old o r (inr (e, f)) =
       inr (
         old-none m ss o i (rw (e, List·getD-eq-default ss 0 {n = none} (omega (arith, up .small))) refl),
         λ _. fresh-child (λ p h g w. f r p h (up .reds p h g) w),
@@ -200,7 +201,7 @@ module _ (m : ℕ) (ss : List ℕ) (l u : Level) (up : Up m ss l u) where
       go : (redb s ≡ true) ⊎ (redb s ≡ false) → Old u (getD (children k c s (point c)) i noCell) (getD (oldsOf m ss s o) i 0)
       go (inl e) =
           let q : s ≡ 64 = eqb-true s 64 e in
-          rw (children-at k c s i z f, olds-of-red m ss s o i h' e, q) (red-child m ss l u up k c i (rw q at f) o (r q) old)
+          rw (children-at k c s i z f, olds-of-red m ss s o i h' e, q) (child-old m ss l u up k c i (rw q at f) o (r q) old)
       go (inr e) = rw (children-at k c s i z f, olds-of-none m ss s o i h' e) (inr (refl, λ t. not-both (redb s) (is-true (redb s) t) e))
 
   pub olds-next : (k : ℕ) (cs : List (Cell Point)) (ts os : List ℕ) → RedRegular cs ts → Both (Old l) cs os

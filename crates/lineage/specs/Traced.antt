@@ -1,6 +1,6 @@
 -- The old numbers of the new cells, level by level, and the flags of the old ones.
 --   Traced fs l l'   the old numbers of the cells of the new level l', where l is the old level and fs are the flags
--- Laws: red-status (which cells are red), flagged-at and traced-at (each level), length-grow (at most so many levels).
+-- Laws: red-status (which cells are red), flagged-at, up-at and traced-at (each level), length-grow (at most so many levels).
 use mathlib.Core.Path.{_≡_, refl, sym, _∙_, ap, subst}
 use mathlib.Core.Logic.{inl, inr}
 use mathlib.Core.Bool.{Bool, true, false}
@@ -21,7 +21,7 @@ use Rattle.lattice.specs.Levels.{noLevel}
 use Rattle.numbering.specs.Refined.{Both, refined-red}
 use Rattle.numbering.specs.Leaves.{leaf-next}
 use Rattle.lineage.specs.Olds.{flagOf, oldsNext, redsBy, closedBy, statusesBy}
-use Rattle.lineage.specs.Same.{Old, both-more, olds-next}
+use Rattle.lineage.specs.Same.{Old, Up, both-more, olds-next}
 use Rattle.lineage.specs.Levels.{growLevels, here, length-redsBy, length-up}
 use Rattle.lineage.specs.Flags.{FlaggedLevel, flag-red}
 use Rattle.lineage.specs.Rest.{Rest, rest-next, rest-up, rest-flagged}
@@ -80,6 +80,14 @@ unfolding growLevels
 grow-none m ss fs zero k os = refl
 grow-none m ss fs (suc h) k os = refl
 
+-- the first of some levels
+pub levels-here : (h k : ℕ) (cs : List (Cell Point)) (rs : List ℕ) → 0 < length (getD (levels h k cs rs) 0 noLevel .cells)
+    → getD (levels h k cs rs) 0 noLevel ≡ here k cs rs
+unfolding levels
+levels-here zero k cs rs l = absurd (omega arith)
+levels-here (suc h) k [] rs l = absurd (omega arith)
+levels-here (suc h) k (c ∷ cs) rs l = refl
+
 module _ (m : ℕ) (ss fs ms : List ℕ) where
   pub flagged-at : (h k : ℕ) (cs : List (Cell Point)) (rs : List ℕ) → Rest m ss fs ms h k cs rs → (j : ℕ)
       → FlaggedLevel fs ms (drop (suc j) (levels h k cs rs)) (getD (levels h k cs rs) j noLevel)
@@ -90,6 +98,19 @@ module _ (m : ℕ) (ss fs ms : List ℕ) where
   flagged-at (suc h) k (c ∷ cs) rs r (suc j) =
       flagged-at h (k + length (c ∷ cs)) (next k (c ∷ cs) (take (length (c ∷ cs)) rs)) (drop (length (c ∷ cs)) rs)
       (rest-next m ss fs ms h k c cs rs r) j
+
+  pub up-at : (h k : ℕ) (cs : List (Cell Point)) (rs : List ℕ) → Rest m ss fs ms h k cs rs → (j : ℕ)
+      → 0 < length (getD (levels h k cs rs) (suc j) noLevel .cells)
+      → Up m ss (getD (levels h k cs rs) j noLevel) (getD (levels h k cs rs) (suc j) noLevel)
+  unfolding levels
+  up-at zero k cs rs r j l = absurd (omega (arith, r .high))
+  up-at (suc h) k [] rs r j l = absurd (omega arith)
+  up-at (suc h) k (c ∷ cs) rs r zero l =
+      let own = take (length (c ∷ cs)) rs in
+      rw (levels-here h (k + length (c ∷ cs)) (next k (c ∷ cs) own) (drop (length (c ∷ cs)) rs) l) (rest-up m ss fs ms h k c cs rs r)
+  up-at (suc h) k (c ∷ cs) rs r (suc j) l =
+      up-at h (k + length (c ∷ cs)) (next k (c ∷ cs) (take (length (c ∷ cs)) rs)) (drop (length (c ∷ cs)) rs)
+      (rest-next m ss fs ms h k c cs rs r) j l
 
   old-empty : (l : Level) → l .cells ≡ [] → (c : Cell Point) (o : ℕ) → Old l c o → Old noLevel c o
   old-empty l z c o (inl (t, e, r, is)) = absurd (omega (arith, is .below, ap length z))

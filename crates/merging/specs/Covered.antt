@@ -12,7 +12,7 @@ use Rattle.base.specs.Bools.{not-both}
 use Rattle.mesh.specs.Cells.{Cell}
 use Rattle.mesh.specs.Weights.{Point}
 use Rattle.soundness.specs.Sound.{Sound, lv}
-use Rattle.rounds.specs.Tests.{Member, member-cases}
+use Rattle.base.specs.Member.{Member, member-cases}
 use Rattle.parts.specs.Owners.{nthCell, ownersb}
 use Rattle.parts.specs.Held.{Entry, masterb, entriesOf}
 use Rattle.splitting.specs.Numbers.{at-level, stands, level-at}

@@ -1,12 +1,15 @@
 -- Laws of the definitions: what the counts of a mesh are, how many children lists of statuses make, how many coarse cells and coarse
 -- corners there are, the middle of two points, patterns below 64, edges held by one of two lists, the first edges of a cell, how many cells
--- a sound table has.
+-- a sound table has, the numbers of the six edges.
 use mathlib.Core.Path.{_≡_, sym, refl, ap, ap₂, _∙_}
 use mathlib.Core.List.{List, [], _∷_, _++_, zipWith}
 use Prim.Native.Nat.{ℕ, _+_, _%_, suc, zero, _≤_, _<_}
 use native.Mathlib.Nat.{zero-add}
 use native.Mathlib.Omega.{arith}
-use Rattle.base.specs.Lists.{allb, belowb, belowb-at}
+use native.Mathlib.Decide.{decLt}
+use Rattle.base.specs.Member.{Member}
+use Rattle.base.specs.Every.{below-at}
+use Rattle.base.specs.Lists.{allb, belowb, belowb-at, memberb}
 use Rattle.base.specs.Bools.{one-most, and-left, and-right}
 use Rattle.base.specs.Append.{anyb-append}
 use Rattle.mesh.specs.Coarse.{cornerCount, cellCount, countsb}
@@ -18,7 +21,7 @@ use lib.IntN.{ℤ}
 use Rattle.mesh.specs.Weights.{coarseFrom, coarseCells, Point, mid}
 use mathlib.Core.Bool.{Bool, true, false, _&&_, _||_}
 use lib.Dec.{T, eqb, leb, eqb→eq, leb→le}
-use borrow.Author.Tests.{eqb-false}
+use borrow.Author.Tests.{eqb-false, ne-eqb}
 use Rattle.mesh.specs.Cells.{Cell, edge, edges, bitsOf, joinsb, heldb, pattern, patternOf}
 
 -- Rule 1.2: what a mesh that is not refused with 1 has.
@@ -113,3 +116,23 @@ sound-count n qs ss t =
     let a = eqb (length ss) (length cs) in
     let b = leb (length ls) 11 && leb (length cs) 4096 in
     eqb→eq (length ss) (length cs) (and-left a b (and-left (a && b) (allb closedb ls && apartb cs ss) t))
+
+-- Rule 2.1: the six numbers.
+pub below-six : (e : ℕ) → e < 6 → Member e edgeNumbers
+unfolding memberb
+below-six e h = below-at (λ e. Member e edgeNumbers) 6 ((((((tt, tt), tt), tt), tt), tt), tt) e h
+
+pub six-below : (e : ℕ) → Member e edgeNumbers → e < 6
+unfolding memberb
+six-below e m = elim (decLt e 6) [ yes h ↦ h | no h ↦ absurd (beyond h m) ]
+  where
+    beyond : (e < 6 → ⊥) → Member e edgeNumbers → ⊥
+    beyond h t =
+        rw (
+          ne-eqb e 0 (λ q. h (omega arith)),
+          ne-eqb e 1 (λ q. h (omega arith)),
+          ne-eqb e 2 (λ q. h (omega arith)),
+          ne-eqb e 3 (λ q. h (omega arith)),
+          ne-eqb e 4 (λ q. h (omega arith)),
+          ne-eqb e 5 (λ q. h (omega arith)),
+        ) at t

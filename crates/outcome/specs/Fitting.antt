@@ -15,7 +15,7 @@ use Rattle.exchange.specs.Finite.{Finite, parts}
 use Rattle.exchange.specs.Protocol.{Protocol}
 use Rattle.exchange.specs.Lockstep.{lock, mail, mailCount, local}
 use Rattle.exchange.specs.Theorem.{Can}
-use Rattle.rounds.specs.Tests.{Member, any-member}
+use Rattle.base.specs.Member.{Member, any-member}
 use Rattle.rounds.specs.Task.{Task, Fit, has}
 use Rattle.rounds.specs.Rounds.{Body, mark, count, total, end, Phase, marks, counts, totals, over, phase, State, isPart, mine, holdsb, told}
 use Rattle.rounds.specs.Rounds.{tells, worth, added}

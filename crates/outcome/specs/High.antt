@@ -18,7 +18,7 @@ use Rattle.mesh.specs.Layout.{edgeNumbers}
 use Rattle.families.specs.Children.{lowDigit, highDigit}
 use Rattle.parts.specs.Held.{Entry}
 use Rattle.exchange.specs.Finite.{Finite}
-use Rattle.rounds.specs.Tests.{Member, member-head, member-tail}
+use Rattle.base.specs.Member.{Member, member-head, member-tail}
 use Rattle.rounds.specs.Task.{Task, Fit}
 use Rattle.rounds.specs.Rounds.{State, largest, isPart}
 use Rattle.shares.specs.Grow.{entryBy, statusNew, pairHeld, freshStatus, fresh-is, staysb, masterEntry, ghostEntry, anewb, childStatus}

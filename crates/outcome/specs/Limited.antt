@@ -12,7 +12,7 @@ use Rattle.base.specs.Range.{range, length-range, member-range}
 use Rattle.exchange.specs.Finite.{parts}
 use Rattle.exchange.specs.Lockstep.{local}
 use Rattle.exchange.specs.Theorem.{Can}
-use Rattle.rounds.specs.Tests.{Member}
+use Rattle.base.specs.Member.{Member}
 use Rattle.rounds.specs.Task.{Task, Fit}
 use Rattle.rounds.specs.Rounded.{protocol}
 use Rattle.rounds.specs.Upward.{ups}

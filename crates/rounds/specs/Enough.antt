@@ -18,8 +18,8 @@ use borrow.Author.Tests.{eq-eqb, ne-eqb, eqb-false, lt-ltb}
 use Rattle.base.specs.Lists.{anyb, filterb, memberb}
 use Rattle.mesh.specs.Layout.{edgeNumbers}
 use Rattle.exchange.specs.Finite.{Finite, sumOver}
-use Rattle.rounds.specs.Tests.{Member, member-head, member-tail, member-cases, any-member, member-any, filtered-member}
-use Rattle.rounds.specs.Tests.{member-filtered, filter-agree}
+use Rattle.base.specs.Member.{Member, member-head, member-tail, member-cases, any-member, member-any, filtered-member}
+use Rattle.base.specs.Member.{member-filtered, filter-agree}
 use Rattle.rounds.specs.Task.{Task, Fit, has, rule, redAt, hitAt, rule-same}
 use Rattle.rounds.specs.Rounds.{Body, mark, count, end, Phase, marks, counts, State, tells, worth, isPart, mine, holdsb, decides}
 use Rattle.rounds.specs.Rounds.{tally}

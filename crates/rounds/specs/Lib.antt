@@ -1,4 +1,3 @@
-pub mod Tests
 pub mod Task
 pub mod Rounds
 pub mod Among

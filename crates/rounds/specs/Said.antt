@@ -15,7 +15,7 @@ use Rattle.base.specs.Lists.{anyb, filterb}
 use Rattle.base.specs.Bools.{is-false, and-left, and-right}
 use Rattle.base.specs.Every.{All, all-append, all-more}
 use Rattle.exchange.specs.Finite.{Finite, sumOver}
-use Rattle.rounds.specs.Tests.{Member, member-head, member-tail}
+use Rattle.base.specs.Member.{Member, member-head, member-tail}
 use Rattle.rounds.specs.Task.{Task}
 use Rattle.rounds.specs.Rounds.{Body, mark, count, total, end, Phase, marks, counts, totals, over, State, tells, worth, isPart}
 use Rattle.rounds.specs.Rounds.{holdsb, told, added, ghostMarks, edgeCounts, says, writing}

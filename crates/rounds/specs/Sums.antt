@@ -19,7 +19,7 @@ use Rattle.base.specs.Lists.{filterb}
 use Rattle.base.specs.Range.{range}
 use Rattle.exchange.specs.Finite.{Finite, parts, sumOver, sum-le, sum-change, upd, upd-same, upd-other}
 use Rattle.exchange.specs.Lockstep.{lock}
-use Rattle.rounds.specs.Tests.{Member}
+use Rattle.base.specs.Member.{Member}
 use Rattle.rounds.specs.Task.{Task, Fit, has, redAt}
 use Rattle.rounds.specs.Rounds.{Body, count, end, Phase, marks, counts, totals, over, phase, State, worth, isPart, holdsb, tally}
 use Rattle.rounds.specs.Rounds.{starting, added, redTold, sumTold, edgeCounts, says, writing, sized, taking}

@@ -14,7 +14,7 @@ use lib.Dec.{eqb}
 use borrow.Author.Tests.{eqb-true}
 use Rattle.base.specs.Lists.{allb, anyb}
 use Rattle.mesh.specs.Layout.{edgeNumbers}
-use Rattle.rounds.specs.Tests.{Member, any-agree, all-agree}
+use Rattle.base.specs.Member.{Member, any-agree, all-agree}
 
 pub record Task (Part : Type 0) : Type 0 where
   pub top : ℕ  -- the highest level

@@ -12,7 +12,7 @@ use native.Mathlib.Omega.{arith}
 use Rattle.base.specs.Lists.{memberb}
 use Rattle.base.specs.Range.{range, member-range}
 use Rattle.parts.specs.Held.{Entry}
-use Rattle.rounds.specs.Tests.{Member, member-head, member-tail, member-cases}
+use Rattle.base.specs.Member.{Member, member-head, member-tail, member-cases}
 
 -- Rule 15.18.
 abbrev pub NoTwice : List Entry → Type 0

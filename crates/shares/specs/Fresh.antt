@@ -10,6 +10,7 @@ use native.Mathlib.Omega.{arith}
 use lib.Dec.{T, eqb, eqb→eq, eqb-refl}
 use lib.ListN.{length, getD}
 use borrow.Author.Tests.{eqb-true}
+use Rattle.mesh.specs.Laws.{six-below, below-six}
 use Rattle.base.specs.Lists.{anyb, sameb}
 use Rattle.base.specs.Bools.{is-true, and-left, and-right, and-both, or-first, same-test}
 use Rattle.cutting.specs.Rule.{family}
@@ -29,13 +30,12 @@ use Rattle.soundness.specs.Held.{closed-at}
 use Rattle.soundness.specs.Family.{child-parent, born-of}
 use Rattle.soundness.specs.Sound.{Sound, lv, level-closed, level-next, level-there}
 use Rattle.soundness.specs.Meets.{edges-alike, point-same}
-use Rattle.rounds.specs.Tests.{Member, any-member, member-any}
+use Rattle.base.specs.Member.{Member, any-member, member-any, map-agree}
 use Rattle.rounds.specs.Task.{Task, redAt, hitAt}
 use Rattle.rounds.specs.Rounds.{State, isPart, mine}
 use Rattle.rounds.specs.Among.{is-same}
 use Rattle.rounds.specs.Enough.{Known, holds-by, member-has}
 use Rattle.parts.specs.Owners.{nthCell, childrenOf}
-use Rattle.splitting.specs.Members.{map-agree, six-below, below-six}
 use Rattle.splitting.specs.Numbers.{numbersOf, rowBy, at-level, stands, kid, kid-in, row-of-cell}
 use Rattle.succession.specs.After.{newEdges, newRedRow, new-status}
 use Rattle.succession.specs.FreshEdge.{fresh-edge}

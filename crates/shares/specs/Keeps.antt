@@ -22,7 +22,7 @@ use Rattle.mesh.specs.Laws.{length-coarse}
 use Rattle.lineage.specs.Paths.{pathAt, coarse-at}
 use Rattle.lineage.specs.Met.{old-coarse}
 use Rattle.soundness.specs.Sound.{Sound, lv, level-there}
-use Rattle.rounds.specs.Tests.{Member, filtered-member, member-filtered}
+use Rattle.base.specs.Member.{Member, filtered-member, member-filtered}
 use Rattle.parts.specs.Owners.{nthCell, familyOf, refinedAt, familyAfter, ownerDown, ownerAfter, ownersAfter}
 use Rattle.splitting.specs.Members.{first-all, first-none}
 use Rattle.splitting.specs.Numbers.{first-zero, numbersOf, at-level, level-at, kid-some}

@@ -27,7 +27,7 @@ use Rattle.lineage.specs.Same.{Fresh}
 use Rattle.lineage.specs.Met.{Fostered, newAt, new-next, new-coarse, old-coarse, flagged, new-follows}
 use Rattle.soundness.specs.Family.{born-of}
 use Rattle.soundness.specs.Sound.{Sound, sound-from, lv, level-there}
-use Rattle.rounds.specs.Tests.{Member, filtered-member, member-filtered}
+use Rattle.base.specs.Member.{Member, filtered-member, member-filtered}
 use Rattle.parts.specs.Owners.{nthCell, familyOf, refinedAt, familyAfter, ownerDown, ownerAfter}
 use Rattle.splitting.specs.Numbers.{first-zero, at-level, stands, level-at}
 use Rattle.splitting.specs.Members.{first-all, first-none}

@@ -18,7 +18,7 @@ use Rattle.lineage.specs.Olds.{stepBy}
 use Rattle.lineage.specs.Paths.{pathAt}
 use Rattle.soundness.specs.Sound.{Sound, lv}
 use Rattle.exchange.specs.Finite.{Finite}
-use Rattle.rounds.specs.Tests.{Member}
+use Rattle.base.specs.Member.{Member}
 use Rattle.parts.specs.Owners.{nthCell, childrenOf, familyOf, ownersb, familyAfter, ownerAfter, ownersAfter}
 use Rattle.parts.specs.Held.{Entry, masterb, ghostb, entriesOf}
 use Rattle.splitting.specs.Numbers.{numbersOf, At, at-level, Stands, stands, level-at, number-inside, kid, kid-some}

@@ -27,7 +27,7 @@ use Rattle.lineage.specs.Met.{Matched, oldAbove, newAt, new-next, new-coarse, o
 use Rattle.lineage.specs.Stays.{Stays, stays, red-stays, not-deleted, up-rows}
 use Rattle.soundness.specs.Family.{ChildAt, born-of, family-child}
 use Rattle.soundness.specs.Sound.{Sound, sound-from, lv, level-next, level-there}
-use Rattle.rounds.specs.Tests.{Member}
+use Rattle.base.specs.Member.{Member}
 use Rattle.parts.specs.Owners.{childrenOf}
 use Rattle.splitting.specs.Numbers.{at-level, kid-in}
 use Rattle.succession.specs.After.{newEdges}

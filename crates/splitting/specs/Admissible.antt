@@ -13,7 +13,7 @@ use borrow.Author.Tests.{eq-eqb}
 use Rattle.base.specs.Lists.{allb, allb-at}
 use Rattle.base.specs.Bools.{is-true, is-false, and-left, and-right, not-both}
 use Rattle.base.specs.Range.{range}
-use Rattle.rounds.specs.Tests.{Member, member-head}
+use Rattle.base.specs.Member.{Member, member-head}
 use Rattle.parts.specs.Owners.{childrenOf, firstOr, familyOf, ownersb}
 use Rattle.parts.specs.Held.{masterb, ghostb}
 use Rattle.splitting.specs.Split.{owners-fit}

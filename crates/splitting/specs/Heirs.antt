@@ -24,7 +24,7 @@ use Rattle.lineage.specs.Met.{old-coarse}
 use Rattle.base.specs.Bools.{and-both}
 use Rattle.soundness.specs.Family.{born-of}
 use Rattle.soundness.specs.Sound.{Sound, lv, level-next}
-use Rattle.rounds.specs.Tests.{Member, filtered-member}
+use Rattle.base.specs.Member.{Member, filtered-member}
 use Rattle.parts.specs.Owners.{nthCell, childrenOf, familyOf, ownersb, refinedAt, familyAfter, ownerDown, ownerAfter, ownersAfter}
 use Rattle.splitting.specs.Members.{member-all, first-in, first-all}
 use Rattle.splitting.specs.Numbers.{at-level, stands, level-at, kid, number-inside}

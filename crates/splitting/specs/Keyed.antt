@@ -18,7 +18,7 @@ use Rattle.base.specs.Range.{range, member-range, range-member}
 use Rattle.mesh.specs.Cells.{edge, joinsb}
 use Rattle.mesh.specs.Layout.{edgeNumbers}
 use Rattle.soundness.specs.Sound.{Sound}
-use Rattle.rounds.specs.Tests.{Member}
+use Rattle.base.specs.Member.{Member}
 use Rattle.parts.specs.Owners.{nthCell}
 use Rattle.splitting.specs.Numbers.{numbersOf, level-of}
 use Rattle.splitting.specs.Split.{Slots}

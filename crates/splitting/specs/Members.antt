@@ -1,22 +1,16 @@
 -- Tests on lists of numbers by their members.
 -- Laws: all-member and member-all (each member passes), any-members and all-members (lists with the same members),
--- any-mapped-by (a test on mapped numbers), map-agree (two maps that agree on the members), first-in, first-all and
--- first-none (the first of a list), six-below and below-six (the edge numbers).
-use mathlib.Core.Path.{_≡_, refl, ap, ap₂}
+-- any-mapped-by (a test on mapped numbers), first-in, first-all and first-none (the first of a list).
+use mathlib.Core.Path.{_≡_, refl, ap}
 use mathlib.Core.Logic.{⊎-elim}
 use mathlib.Core.Bool.{Bool, _||_}
 use mathlib.Core.List.{List, [], _∷_, map}
-use Prim.Native.Nat.{ℕ, _<_}
-use native.Mathlib.Decide.{decLt}
-use native.Mathlib.Omega.{arith}
+use Prim.Native.Nat.{ℕ}
 use lib.Dec.{T}
-use borrow.Author.Tests.{ne-eqb}
 use Rattle.base.specs.Lists.{allb, anyb, memberb}
 use Rattle.base.specs.Bools.{and-left, and-right, and-both, same-test}
-use Rattle.base.specs.Every.{below-at}
-use Rattle.rounds.specs.Tests.{Member, member-head, member-tail, member-cases, any-member, member-any}
+use Rattle.base.specs.Member.{Member, member-head, member-tail, member-cases, any-member, member-any}
 use Rattle.parts.specs.Owners.{firstOr}
-use Rattle.mesh.specs.Layout.{edgeNumbers}
 
 pub all-member : (f : ℕ → Bool) (l : List ℕ) → T (allb f l) → (x : ℕ) → Member x l → T (f x)
 unfolding allb memberb
@@ -47,10 +41,6 @@ module _ {A : Type 0} (g : ℕ → A) (f : A → Bool) where
   any-mapped-by [] = refl
   any-mapped-by (x ∷ l) = ap (λ (b : Bool). f (g x) || b) (any-mapped-by l)
 
-pub map-agree : {A : Type 0} (f g : ℕ → A) (l : List ℕ) → ((x : ℕ) → Member x l → f x ≡ g x) → map f l ≡ map g l
-map-agree f g [] h = refl
-map-agree f g (x ∷ l) h = ap₂ _∷_ (h x (member-head x l)) (map-agree f g l (λ y m. h y (member-tail y x l m)))
-
 -- the first of a list, or what stands for it
 module _ {A : Type 0} (f : ℕ → A) (a : A) where
   pub first-in : (Q : A → Type 0) (l : List ℕ) → Q a → ((x : ℕ) → Member x l → Q (f x)) → Q (firstOr f a l)
@@ -67,22 +57,3 @@ module _ {A : Type 0} (f : ℕ → A) (a : A) where
   unfolding firstOr
   first-none [] h = refl
   first-none (x ∷ l) h = absurd (h x (member-head x l))
-
-pub below-six : (e : ℕ) → e < 6 → Member e edgeNumbers
-unfolding memberb
-below-six e h = below-at (λ e. Member e edgeNumbers) 6 ((((((tt, tt), tt), tt), tt), tt), tt) e h
-
-pub six-below : (e : ℕ) → Member e edgeNumbers → e < 6
-unfolding memberb
-six-below e m = elim (decLt e 6) [ yes h ↦ h | no h ↦ absurd (beyond h m) ]
-  where
-    beyond : (e < 6 → ⊥) → Member e edgeNumbers → ⊥
-    beyond h t =
-        rw (
-          ne-eqb e 0 (λ q. h (omega arith)),
-          ne-eqb e 1 (λ q. h (omega arith)),
-          ne-eqb e 2 (λ q. h (omega arith)),
-          ne-eqb e 3 (λ q. h (omega arith)),
-          ne-eqb e 4 (λ q. h (omega arith)),
-          ne-eqb e 5 (λ q. h (omega arith)),
-        ) at t

@@ -34,7 +34,7 @@ use Rattle.soundness.specs.Held.{closed-at, closed-length}
 use Rattle.soundness.specs.Family.{born-of, family-child, child-parent}
 use Rattle.soundness.specs.Sound.{Sound, lv, level-closed, level-next, level-there}
 use Rattle.soundness.specs.Whole.{spot-at, spot-with}
-use Rattle.rounds.specs.Tests.{Member, filtered-member, member-filtered}
+use Rattle.base.specs.Member.{Member, filtered-member, member-filtered}
 use Rattle.parts.specs.Owners.{nthCell, childrenOf}
 use Rattle.splitting.specs.Paths.{path-length}
 

@@ -29,7 +29,7 @@ use Rattle.lineage.specs.Stays.{up-rows}
 use Rattle.carriers.specs.Joins.{Edge}
 use Rattle.soundness.specs.Sound.{Sound, level-there}
 use Rattle.succession.specs.After.{newEdges, newRedRow}
-use Rattle.rounds.specs.Tests.{Member, any-agree, all-agree, filtered-member, member-filtered}
+use Rattle.base.specs.Member.{Member, any-agree, all-agree, filtered-member, member-filtered}
 use Rattle.rounds.specs.Task.{Task, Fit, has, idle, pulled, rule, redAt, hitAt}
 use Rattle.parts.specs.Owners.{nthCell, childrenOf, familyOf, ownersb}
 use Rattle.splitting.specs.Members.{all-member, first-none, any-members, all-members, any-mapped-by}

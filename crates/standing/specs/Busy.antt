@@ -19,7 +19,7 @@ use Rattle.base.specs.Bools.{one-if, is-false, and-left, and-right, not-both}
 use Rattle.base.specs.declared.Answer.the-variants.{Accepted}
 use Rattle.exchange.specs.Finite.{parts}
 use Rattle.exchange.specs.Protocol.{Local, withQueue}
-use Rattle.rounds.specs.Tests.{Member}
+use Rattle.base.specs.Member.{Member}
 use Rattle.rounds.specs.Task.{Task}
 use Rattle.rounds.specs.Rounds.{Body, mark, count, total, end, State, phase, isPart, mine, holdsb, redTold, sumTold, capped, mastersTold}
 use Rattle.rounds.specs.Rounds.{topTold}

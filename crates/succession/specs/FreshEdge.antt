@@ -2,7 +2,7 @@
 --   FreshEdge k t d e    a child of the cell t of level k that has it, at the digits d and e
 -- Laws: inside-child (a child's number), fresh-edge (the theorem).
 use mathlib.Core.Path.{_≡_, sym, _∙_, ap, subst}
-use mathlib.Core.Logic.{inl, inr}
+use mathlib.Core.Logic.{_≢_, inl, inr}
 use mathlib.Core.List.{List, [], _∷_, _++_}
 use Prim.Native.Nat.{ℕ, suc, _+_, _<_}
 use native.Mathlib.Omega.{arith}
@@ -66,6 +66,7 @@ module _ (n : ℕ) (qs : List (List ℕ)) (ss ms : List ℕ) (s : Sound n qs ss)
 
   -- an edge with two digits of an old cell that a new red cell one level up has: a child of the cell has it at the same digits
   pub record FreshEdge (k t d e : ℕ) : Type 0 where
+    pub refined : getD (lv n qs ss k .statuses) t 0 ≢ 0
     pub i : ℕ
     pub child : ChildAt (lv n qs ss k) (lv n qs ss (suc k)) t i
     pub y : ℕ
@@ -113,6 +114,7 @@ module _ (n : ℕ) (qs : List (List ℕ)) (ss ms : List ℕ) (s : Sound n qs ss)
             (highDigit (patternOf (getD (l .statuses) t 0)) (x .i) (x .y)),
       ) (rw ce at (x .joins))) in
       record {
+        refined = x .refined;
         i = x .i;
         child = x .child;
         y = x .y;

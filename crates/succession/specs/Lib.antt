@@ -1,2 +1,6 @@
 pub mod After
 pub mod FreshEdge
+pub mod Keeps
+pub mod OldFamily
+pub mod Next
+pub mod Write

@@ -18,7 +18,7 @@ use Rattle.mesh.specs.Coarse.{cellsb}
 use Rattle.mesh.specs.Table.{levelsOf, soundb, sizeOf}
 use Rattle.soundness.specs.Sound.{Sound, sound-parts}
 use Rattle.exchange.specs.Finite.{Finite, parts}
-use Rattle.rounds.specs.Tests.{Member}
+use Rattle.base.specs.Member.{Member}
 use Rattle.rounds.specs.Task.{Task}
 use Rattle.rounds.specs.Rounds.{isPart, mine}
 use Rattle.rounds.specs.Among.{is-same}

@@ -10,6 +10,7 @@ use Prim.Native.Nat.{ℕ, suc, _+_, _<_}
 use native.Mathlib.Omega.{arith}
 use lib.Dec.{T, eqb}
 use lib.ListN.{length}
+use Rattle.mesh.specs.Laws.{six-below}
 use Rattle.base.specs.Lists.{anyb, sameb, memberb}
 use Rattle.base.specs.Bools.{is-true, or-first, or-second}
 use Rattle.base.specs.Every.{All, all-at}
@@ -26,11 +27,10 @@ use Rattle.numbering.specs.Tests.{edgeIn, Placed, EndsPlaced, held-numbers}
 use Rattle.numbering.specs.Renamed.{edge-in, edge-map}
 use Rattle.numbering.specs.Tables.{sound-numbers}
 use Rattle.soundness.specs.Sound.{Sound, sound-parts}
-use Rattle.rounds.specs.Tests.{Member, member-cases}
+use Rattle.base.specs.Member.{Member, member-cases}
 use Rattle.parts.specs.Owners.{nthCell}
 use Rattle.splitting.specs.Numbers.{numbersOf, number-inside}
 use Rattle.splitting.specs.Split.{Slots}
-use Rattle.splitting.specs.Members.{six-below}
 use Rattle.splitting.specs.Keyed.{keyedSlot, keyedSlots, keyed-slots}
 use Rattle.split.specs.Columns.{numberedCell, keysAt, slotsBelow, slotOf}
 use Rattle.tasks.specs.Levels.{level-range}

@@ -28,7 +28,7 @@ use Rattle.lineage.specs.Olds.{firstChild}
 use Rattle.carriers.specs.Refined.{asked-small}
 use Rattle.soundness.specs.Held.{closed-at, closed-length}
 use Rattle.soundness.specs.Sound.{Sound, lv, level-closed, level-next, level-there}
-use Rattle.rounds.specs.Tests.{Member}
+use Rattle.base.specs.Member.{Member}
 use Rattle.parts.specs.Owners.{nthCell, childrenOf}
 use Rattle.splitting.specs.Numbers.{numbersOf, at-level, stands, number-inside, level-at, kid, kid-in}
 use Rattle.split.specs.Columns.{cellsBelow}

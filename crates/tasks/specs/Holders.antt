@@ -21,7 +21,7 @@ use Rattle.mesh.specs.Table.{soundb}
 use Rattle.mesh.specs.Layout.{edgeNumbers}
 use Rattle.soundness.specs.Sound.{Sound, sound-parts}
 use Rattle.exchange.specs.Finite.{Finite, parts}
-use Rattle.rounds.specs.Tests.{Member, any-member, member-any}
+use Rattle.base.specs.Member.{Member, any-member, member-any}
 use Rattle.rounds.specs.Task.{Task, has}
 use Rattle.rounds.specs.Rounds.{isPart, mine, holdsb}
 use Rattle.rounds.specs.Among.{is-eq, is-same}

@@ -20,7 +20,7 @@ use Rattle.numbering.specs.Tests.{held-numbers}
 use Rattle.numbering.specs.Renamed.{edges-in, edges-map}
 use Rattle.carriers.specs.Patterns.{split-bits}
 use Rattle.soundness.specs.Sound.{Sound, sound-parts}
-use Rattle.rounds.specs.Tests.{Member}
+use Rattle.base.specs.Member.{Member}
 use Rattle.store.specs.Fetch.{bitb}
 use Rattle.parts.specs.Owners.{nthCell}
 use Rattle.splitting.specs.Numbers.{numbersOf, number-inside, level-of}

@@ -16,7 +16,7 @@ use Rattle.mesh.specs.Laws.{length-coarse}
 use Rattle.lattice.specs.Levels.{noLevel}
 use Rattle.lineage.specs.Levels.{levels-first, cells-first}
 use Rattle.soundness.specs.Sound.{Sound, lv, level-there}
-use Rattle.rounds.specs.Tests.{Member}
+use Rattle.base.specs.Member.{Member}
 use Rattle.splitting.specs.Numbers.{numbersOf, first-zero, stands}
 use Rattle.split.specs.Columns.{levelAt, cellsBelow}
 

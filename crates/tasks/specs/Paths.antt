@@ -18,7 +18,7 @@ use Rattle.carriers.specs.Refined.{asked-small}
 use Rattle.soundness.specs.Held.{closed-at}
 use Rattle.soundness.specs.Family.{born-of}
 use Rattle.soundness.specs.Sound.{Sound, lv, level-closed, level-next, level-there}
-use Rattle.rounds.specs.Tests.{Member}
+use Rattle.base.specs.Member.{Member}
 use Rattle.store.specs.declared.Place.{Place}
 use Rattle.store.specs.Places.{placeLevel, placeOf, eights, pathOf, path-place}
 use Rattle.parts.specs.Owners.{nthCell}

@@ -11,6 +11,7 @@ use native.Mathlib.Omega.{arith}
 use lib.Dec.{T, eqb, eqb→eq}
 use lib.ListN.{length, getD}
 use borrow.Author.Tests.{eq-eqb}
+use Rattle.mesh.specs.Laws.{below-six}
 use Rattle.base.specs.Lists.{belowb, belowb-at, sameb}
 use Rattle.base.specs.Bools.{impb, impb-use, either, not-both}
 use Rattle.base.specs.Every.{All, getD-map}
@@ -30,10 +31,9 @@ use Rattle.soundness.specs.Held.{closed-at, regular-at}
 use Rattle.soundness.specs.Family.{born-of}
 use Rattle.soundness.specs.Sound.{Sound, lv, sound-parts, level-closed, level-next, level-there}
 use Rattle.soundness.specs.Whole.{coarse-level}
-use Rattle.rounds.specs.Tests.{Member}
+use Rattle.base.specs.Member.{Member}
 use Rattle.parts.specs.Owners.{nthCell}
 use Rattle.splitting.specs.Numbers.{numbersOf, at-level, stands}
-use Rattle.splitting.specs.Members.{below-six}
 use Rattle.split.specs.Columns.{slotOf}
 use Rattle.tasks.specs.Edges.{slots-split}
 
