@@ -11,3 +11,4 @@ pub mod Lent
 pub mod Limits
 pub mod Integers
 pub mod Range
+pub mod Distinct

@@ -19,7 +19,7 @@ use Rattle.rounds.specs.Rounds.{largest}
 use Rattle.rounds.specs.Among.{largest-in}
 use Rattle.shares.specs.Grow.{entryBy}
 use Rattle.merging.specs.Complete.{masterPaths, paths-append, path-by}
-use Rattle.merging.specs.Distinct.{mem-at}
+use Rattle.base.specs.Distinct.{mem-at}
 use Rattle.merging.specs.Limits.{topOf}
 use Rattle.store.specs.Fields.{field, ENTRIES, TOTAL, HIGH}
 use Rattle.store.specs.declared.Place.{Place}

@@ -20,7 +20,7 @@ use Rattle.parts.specs.Held.{Entry, entriesOf}
 use Rattle.parts.specs.Merge.{merged, completeb}
 use Rattle.shares.specs.Settled.{Settled, entriesIn}
 use Rattle.shares.specs.Share.{Named, tableIn}
-use Rattle.merging.specs.Distinct.{NoDup, place-of}
+use Rattle.base.specs.Distinct.{NoDup, place-of}
 use Rattle.merging.specs.Merge.{Covers, merged-table}
 use Rattle.merging.specs.Complete.{masterPaths, complete-is}
 use Rattle.merging.specs.Covered.{covered, split-apart}

@@ -1,6 +1,6 @@
 -- What an old cell keeps, by its level and place.
 --   keptAt n qs ss ms k t   what the cell t of level k keeps
--- Laws: kept-length (one number for each cell), kept-at (the number of a cell).
+-- Laws: keeps-many and keeps-at (of a level), kept-length (one number for each cell), kept-at (the number of a cell).
 use mathlib.Core.Path.{_≡_, refl, sym, _∙_, ap}
 use mathlib.Core.List.{List, [], _∷_, flatMap, flatten}
 use Prim.Native.Nat.{ℕ, zero, suc, _+_, _<_}
@@ -52,12 +52,12 @@ module _ (m : ℕ) (ss fs ms : List ℕ) where
     abbrev keeps : List ℕ
     keeps = keptRows upper ms (edgesUp (newReds (level ∷ upper) ms)) (rows level ms)
 
-    keeps-many : length keeps ≡ length (c ∷ cs)
+    pub keeps-many : length keeps ≡ length (c ∷ cs)
     keeps-many =
         length-kept-rows upper ms (edgesUp (newReds (level ∷ upper) ms)) (rows level ms)
         ∙ length-rows level ms (rest-flagged m ss fs ms h k c cs rs r .known)
 
-    keeps-at : (t : ℕ) → t < length (c ∷ cs) → getD keeps t 0 ≡ keptIn ms (level ∷ upper) 0 t
+    pub keeps-at : (t : ℕ) → t < length (c ∷ cs) → getD keeps t 0 ≡ keptIn ms (level ∷ upper) 0 t
     unfolding keptRows
     keeps-at t g =
         let known = rest-flagged m ss fs ms h k c cs rs r .known in

@@ -22,7 +22,7 @@ use Rattle.shares.specs.Present.{newEntry, masters-in}
 use Rattle.shares.specs.Entries.{entries-are}
 use Rattle.shares.specs.Once.{each-once}
 use Rattle.shares.specs.Share.{tableIn}
-use Rattle.merging.specs.Distinct.{NoDup, no-dup-append}
+use Rattle.base.specs.Distinct.{NoDup, no-dup-append}
 use Rattle.merging.specs.Merge.{Covers}
 use Rattle.merging.specs.Complete.{masterPaths, path-from, paths-once, paths-append}
 

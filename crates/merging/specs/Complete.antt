@@ -29,7 +29,7 @@ use Rattle.parts.specs.Held.{Entry}
 use Rattle.parts.specs.Merge.{lookup, childPaths, merged, masters, filledb, completeb}
 use Rattle.splitting.specs.Paths.{one-place}
 use Rattle.shares.specs.Flat.{NoTwice}
-use Rattle.merging.specs.Distinct.{NoDup, no-more, place-of, mem-at, no-dup-by}
+use Rattle.base.specs.Distinct.{NoDup, no-more, place-of, mem-at, no-dup-by}
 use Rattle.merging.specs.Merge.{entryAt, Covers, FoundAll, next-paths, coarse-paths, statuses-found, found-at, merged-table}
 
 unfoldable pub masterPaths : List Entry → List (List ℕ)

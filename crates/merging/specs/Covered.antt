@@ -17,10 +17,9 @@ use Rattle.parts.specs.Owners.{nthCell, ownersb}
 use Rattle.parts.specs.Held.{Entry, masterb, entriesOf}
 use Rattle.splitting.specs.Numbers.{at-level, stands, level-at}
 use Rattle.splitting.specs.Admissible.{admissible}
-use Rattle.shares.specs.Flat.{in-flat, flat-in}
 use Rattle.shares.specs.Grow.{entryBy}
 use Rattle.shares.specs.Held.{master-held, held-is, same-path, held-once}
-use Rattle.merging.specs.Distinct.{NoDup, no-dup-append}
+use Rattle.base.specs.Distinct.{NoDup, no-dup-append, in-flat, flat-in}
 use Rattle.merging.specs.Merge.{Covers}
 use Rattle.merging.specs.Complete.{masterPaths, path-from, paths-once, paths-append}
 

@@ -1,4 +1,3 @@
-pub mod Distinct
 pub mod Merge
 pub mod Complete
 pub mod All

@@ -39,7 +39,7 @@ use Rattle.shares.specs.Entries.{entries-are}
 use Rattle.shares.specs.Once.{each-once}
 use Rattle.shares.specs.Share.{Named, tableIn, share-held, held-share}
 use Rattle.shares.specs.Keeps.{coarse-keeps, family-keeps, family-first}
-use Rattle.merging.specs.Distinct.{NoDup}
+use Rattle.base.specs.Distinct.{NoDup}
 use Rattle.merging.specs.Merge.{merged-step}
 use Rattle.merging.specs.Complete.{no-more-held, complete-is}
 use Rattle.merging.specs.All.{entriesAll, entries-cover, all-apart}

@@ -37,7 +37,7 @@ use Rattle.splitting.specs.Split.{Slots, taskOf, fits, owners-fit}
 use Rattle.shares.specs.Grow.{statusNew, pairHeld, freshStatus, staysb, masterEntry, ghostEntry, anewb, childStatus, childEntries}
 use Rattle.shares.specs.Grow.{freshEntries, entries}
 use Rattle.shares.specs.Share.{Named}
-use Rattle.merging.specs.Distinct.{NoDup}
+use Rattle.base.specs.Distinct.{NoDup}
 use Rattle.merging.specs.Limits.{topOf, endOf}
 use Rattle.merging.specs.Complete.{masterPaths}
 use Rattle.merging.specs.Totals.{grownOf, grown-plain}

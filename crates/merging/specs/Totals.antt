@@ -29,7 +29,7 @@ use Rattle.shares.specs.Grow.{statusNew, pairHeld, freshStatus, staysb, masterE
 use Rattle.shares.specs.Grow.{freshEntries, entries}
 use Rattle.shares.specs.Settled.{Settled, entriesIn, ownIn}
 use Rattle.shares.specs.Present.{newEntry, masters-in}
-use Rattle.merging.specs.Distinct.{NoDup}
+use Rattle.base.specs.Distinct.{NoDup}
 use Rattle.merging.specs.Complete.{masterPaths, path-by, paths-append, masters-counted}
 use Rattle.merging.specs.All.{entriesAll, entries-cover, where-is, all-apart}
 use Rattle.merging.specs.Limits.{topOf, endOf, largest-from, capped-few, levels-eleven}

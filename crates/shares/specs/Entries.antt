@@ -35,7 +35,7 @@ use Rattle.parts.specs.Held.{Entry}
 use Rattle.splitting.specs.Numbers.{at-level, stands}
 use Rattle.succession.specs.After.{newEdges, will, new-status}
 use Rattle.splitting.specs.Split.{Owners}
-use Rattle.shares.specs.Flat.{flat-in, map-in, only-one}
+use Rattle.base.specs.Distinct.{flat-in, map-in, only-one}
 use Rattle.shares.specs.Grow.{statusNew, staysb, masterEntry, ghostEntry, anewb, childStatus, childEntries, freshEntries, entries}
 use Rattle.shares.specs.Grow.{entryBy, cellEntries, levelEntries}
 use Rattle.shares.specs.There.{Met, There, red-parent, refined-there}

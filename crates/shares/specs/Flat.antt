@@ -1,53 +1,22 @@
--- Lists that are put together, element by element, and lists of entries with each path once.
+-- Lists of entries with each path once.
 --   NoTwice l     no path stands twice among the entries l
 --   Disjoint f l  the lists that f gives for different numbers of l share no path
--- Laws: in-flat and flat-in (elements of a flat list), in-map and map-in (elements of a map), only-one (the element of a list of one),
--- once-append, once-range, once-map (NoTwice of lists that are put together).
-use mathlib.Core.Path.{_≡_, refl, sym, _∙_, ap, subst}
+-- Laws: once-append, once-range, once-map (NoTwice of lists that are put together).
+use mathlib.Core.Path.{_≡_, refl, sym, _∙_, ap}
 use mathlib.Core.Logic.{_≢_, ⊎-elim}
-use mathlib.Core.List.{List, [], _∷_, _++_, map, flatMap, List·Memᴰ, List·Memᴰ·head, List·Memᴰ·tail, List·Memᴰ·not-nil}
-use mathlib.Core.List.{List·Memᴰ·cases-cons, List·Memᴰ·append-cases, Memᴰ·append-left, Memᴰ·append-right}
+use mathlib.Core.List.{List, [], _∷_, _++_, map, flatMap, List·Memᴰ, List·Memᴰ·head, List·Memᴰ·tail}
+use mathlib.Core.List.{List·Memᴰ·append-cases}
 use Prim.Native.Nat.{ℕ, zero, suc}
 use native.Mathlib.Omega.{arith}
-use Rattle.base.specs.Lists.{memberb}
+use Rattle.base.specs.Distinct.{flat-in, map-in}
 use Rattle.base.specs.Range.{range, member-range}
 use Rattle.parts.specs.Held.{Entry}
-use Rattle.base.specs.Member.{Member, member-head, member-tail, member-cases}
+use Rattle.base.specs.Member.{Member, member-head, member-tail}
 
 -- Rule 15.18.
 abbrev pub NoTwice : List Entry → Type 0
 NoTwice [] = Unit {0}
 NoTwice (e ∷ l) = ((f : Entry) → List·Memᴰ f l → f .path ≡ e .path → ⊥) × NoTwice l
-
-module _ {A : Type 0} where
-  pub in-flat : (f : ℕ → List A) (l : List ℕ) (x : ℕ) (a : A) → Member x l → List·Memᴰ a (f x) → List·Memᴰ a (flatMap f l)
-  unfolding flatMap memberb
-  in-flat f [] x a m t = absurd m
-  in-flat f (y ∷ l) x a m t =
-      ⊎-elim (λ (e : x ≡ y). Memᴰ·append-left (flatMap f l) (subst (λ (z : ℕ). List·Memᴰ a (f z)) e t))
-      (λ (n : Member x l). Memᴰ·append-right (f y) (in-flat f l x a n t)) (member-cases x y l m)
-
-  pub flat-in : (f : ℕ → List A) (l : List ℕ) (a : A) → List·Memᴰ a (flatMap f l) → (x : ℕ) × Member x l × List·Memᴰ a (f x)
-  unfolding flatMap
-  flat-in f [] a t = absurd (List·Memᴰ·not-nil t)
-  flat-in f (y ∷ l) a t =
-      ⊎-elim (λ (u : List·Memᴰ a (f y)). (y, member-head y l, u))
-      (λ (u : List·Memᴰ a (flatMap f l)). let (x, m, v) = flat-in f l a u in (x, member-tail x y l m, v)) (List·Memᴰ·append-cases (f y) t)
-
-  pub in-map : (f : ℕ → A) (l : List ℕ) (x : ℕ) → Member x l → List·Memᴰ (f x) (map f l)
-  unfolding memberb
-  in-map f [] x m = absurd m
-  in-map f (y ∷ l) x m =
-      ⊎-elim (λ (e : x ≡ y). List·Memᴰ·head (ap f e)) (λ (n : Member x l). List·Memᴰ·tail (in-map f l x n)) (member-cases x y l m)
-
-  pub map-in : (f : ℕ → A) (l : List ℕ) (a : A) → List·Memᴰ a (map f l) → (x : ℕ) × Member x l × (a ≡ f x)
-  map-in f [] a t = absurd (List·Memᴰ·not-nil t)
-  map-in f (y ∷ l) a t =
-      ⊎-elim (λ (e : a ≡ f y). (y, member-head y l, e))
-      (λ (u : List·Memᴰ a (map f l)). let (x, m, v) = map-in f l a u in (x, member-tail x y l m, v)) (List·Memᴰ·cases-cons t)
-
-  pub only-one : (a x : A) → List·Memᴰ a (x ∷ []) → a ≡ x
-  only-one a x m = ⊎-elim (λ (q : a ≡ x). q) (λ (q : List·Memᴰ a []). absurd (List·Memᴰ·not-nil q)) (List·Memᴰ·cases-cons m)
 
 pub once-append : (a b : List Entry) → NoTwice a → NoTwice b → ((e f : Entry) → List·Memᴰ e a → List·Memᴰ f b → f .path ≡ e .path → ⊥)
     → NoTwice (a ++ b)

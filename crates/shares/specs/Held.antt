@@ -19,7 +19,8 @@ use Rattle.parts.specs.Held.{Entry, masterb, ghostb, entryOf, entriesOf}
 use Rattle.splitting.specs.Numbers.{at-level, stands, level-at}
 use Rattle.splitting.specs.Paths.{one-place}
 use Rattle.splitting.specs.Admissible.{ghost-other}
-use Rattle.shares.specs.Flat.{NoTwice, in-flat, flat-in, only-one, once-range}
+use Rattle.base.specs.Distinct.{in-flat, flat-in, only-one}
+use Rattle.shares.specs.Flat.{NoTwice, once-range}
 use Rattle.shares.specs.Grow.{entryBy}
 
 module _ (n : ℕ) (qs : List (List ℕ)) (ss os : List ℕ) (p : ℕ) where

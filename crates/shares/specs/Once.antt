@@ -28,7 +28,8 @@ use Rattle.parts.specs.Held.{Entry}
 use Rattle.splitting.specs.Numbers.{numbersOf, at-level, stands}
 use Rattle.splitting.specs.Paths.{path-length, new-one-place}
 use Rattle.splitting.specs.Split.{Owners}
-use Rattle.shares.specs.Flat.{NoTwice, flat-in, map-in, only-one, once-append, once-range, once-map}
+use Rattle.base.specs.Distinct.{flat-in, map-in, only-one}
+use Rattle.shares.specs.Flat.{NoTwice, once-append, once-range, once-map}
 use Rattle.shares.specs.Grow.{statusNew, staysb, masterEntry, ghostEntry, anewb, childStatus, childEntries, freshEntries, entries}
 use Rattle.shares.specs.Grow.{entryBy, cellEntries, levelEntries}
 use Rattle.shares.specs.There.{There, refined-there}

@@ -36,7 +36,7 @@ use Rattle.parts.specs.Held.{Entry}
 use Rattle.splitting.specs.Numbers.{at-level, row-of-cell}
 use Rattle.succession.specs.After.{newRedRow}
 use Rattle.splitting.specs.Split.{Slots, Owners, fits}
-use Rattle.shares.specs.Flat.{in-flat, in-map}
+use Rattle.base.specs.Distinct.{in-flat, in-map}
 use Rattle.shares.specs.Grow.{statusNew, freshStatus, coarseb, staysb, masterEntry, ghostEntry, anewb, childStatus, childEntries}
 use Rattle.shares.specs.Grow.{freshEntries, entries, entryBy, cellEntries, levelEntries}
 use Rattle.shares.specs.Fresh.{known-red, kept-status, fresh-status}

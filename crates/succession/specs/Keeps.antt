@@ -1,26 +1,31 @@
 -- A cell that was there has after the step what it keeps.
--- Laws: kept-red, kept-pattern (what a cell keeps), kept-status (the new status of a cell that was there).
-use mathlib.Core.Path.{_≡_, sym, _∙_, ap}
+-- Laws: kept-red, kept-pattern (what a cell keeps), kept-flag (it keeps 64 where it will be red), kept-status (the new status of a cell that
+-- was there).
+use mathlib.Core.Path.{_≡_, refl, sym, _∙_, ap}
 use mathlib.Core.Logic.{_⊎_, inl, inr}
 use mathlib.Core.Bool.{Bool, true, false}
 use mathlib.Core.List.{List, [], map}
-use Prim.Native.Nat.{ℕ, _<_}
+use Prim.Native.Nat.{ℕ, _+_, _<_}
+use native.Mathlib.Omega.{arith}
 use lib.Dec.{T}
 use lib.ListN.{length, getD}
-use borrow.Author.Tests.{eqb-true}
+use borrow.Author.Tests.{eqb-true, ne-eqb}
 use Rattle.base.specs.Lists.{sameb}
 use Rattle.base.specs.Bools.{either}
 use Rattle.mesh.specs.Cells.{Cell, redb, heldb, bitsOf, pattern, noCell}
 use Rattle.mesh.specs.Weights.{Point}
 use Rattle.mesh.specs.Table.{soundb}
-use Rattle.lineage.specs.Kept.{keptOf}
-use Rattle.lineage.specs.KeptAt.{keptAt}
+use Rattle.mesh.specs.Laws.{pattern-small}
+use Rattle.lineage.specs.Olds.{flagTable}
+use Rattle.lineage.specs.Kept.{keptOf, keptTable}
+use Rattle.lineage.specs.KeptAt.{keptAt, kept-at}
 use Rattle.lineage.specs.Same.{Is, Fresh}
-use Rattle.lineage.specs.Flags.{newRedAt}
+use Rattle.lineage.specs.Flags.{newRedAt, flag-red}
 use Rattle.lineage.specs.Met.{Matched, oldAt, oldAbove, newAt, flagged, met}
 use Rattle.carriers.specs.Joins.{Edge}
 use Rattle.soundness.specs.Sound.{Sound, sound-from}
 use Rattle.soundness.specs.Meets.{edges-alike}
+use Rattle.soundness.specs.Whole.{spot-with}
 use Rattle.succession.specs.After.{newEdges, new-status}
 
 module _ (es : List Edge) (b : Bool) (c : Cell Point) where
@@ -65,3 +70,18 @@ module _ (n : ℕ) (qs : List (List ℕ)) (ss ms : List ℕ) (s : Sound n qs ss)
           let y : w .t ≡ t = flagged n qs ss ms sound k .paths (w .t) t (w .is .below) (is .below) (w .is .path ∙ sym (is .path)) in
           by (w .red ∙ ap (will k) y) (either (will k t))
       go (inr (a, f)) = absurd (f t (is .below) (is .regular) (is .path))
+
+  pub red-kept : (es : List Edge) (b : Bool) (c : Cell Point) → redb (keptOf [] sameb es b c) ≡ b
+  red-kept es true c = ap redb (kept-red es true c refl)
+  red-kept es false c =
+      ap redb (kept-pattern es false c refl)
+      ∙ ne-eqb (pattern [] sameb es c) 64 (λ e. omega (arith, pattern-small [] sameb es c))
+
+  pub kept-flag : (c : ℕ) → c < length ss → redb (getD (keptTable n qs ss ms) c 0) ≡ redb (getD (flagTable n qs ss ms) c 0)
+  kept-flag c h =
+      let o = spot-with n qs ss c (omega (arith, s .many)) in
+      let e : oldAt n qs ss (o .j) .first + o .p ≡ c = omega (arith, o .at .first, o .number) in
+      rw (← e)
+      (ap redb (kept-at n qs ss ms sound (o .j) (o .p) (o .below))
+      ∙ red-kept (newEdges n qs ss ms (o .j)) (will (o .j) (o .p)) (getD (oldAt n qs ss (o .j) .cells) (o .p) noCell)
+      ∙ sym (ap redb (flagged n qs ss ms sound (o .j) .flag (o .p) (o .below)) ∙ flag-red (will (o .j) (o .p))))

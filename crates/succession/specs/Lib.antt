@@ -4,3 +4,4 @@ pub mod Keeps
 pub mod OldFamily
 pub mod Next
 pub mod Write
+pub mod Count

@@ -1,5 +1,5 @@
 -- The step's table, written level by level from what the old cells keep.
--- Law: write-step (the theorem).
+-- Laws: first-of and behind (levels from one on), grow-none (no cells), write-step (the theorem).
 use mathlib.Core.Path.{_≡_, refl, sym, _∙_, ap, subst}
 use mathlib.Core.List.{List, [], _∷_, _++_}
 use Prim.Native.Nat.{ℕ, zero, suc, _+_, _-_, _<_}
@@ -49,7 +49,7 @@ unfolding writeBy
 write-none m ss ks zero os = refl
 write-none m ss ks (suc h) os = refl
 
-grow-none : (m : ℕ) (ss fs : List ℕ) (h k : ℕ) (os : List ℕ) → growBy m ss fs h k [] os ≡ []
+pub grow-none : (m : ℕ) (ss fs : List ℕ) (h k : ℕ) (os : List ℕ) → growBy m ss fs h k [] os ≡ []
 unfolding growBy
 grow-none m ss fs zero k os = refl
 grow-none m ss fs (suc h) k os = refl
@@ -63,10 +63,10 @@ first-statuses m ss fs h k (c ∷ cs) os = refl
 
 -- one level more, and the levels behind it
 module _ {A : Type 0} (d : A) (l : List A) (j : ℕ) where
-  first-of : (r : List A) → r ≡ drop j l → getD r 0 d ≡ getD l j d
+  pub first-of : (r : List A) → r ≡ drop j l → getD r 0 d ≡ getD l j d
   first-of r e = ap (λ (x : List A). getD x 0 d) e ∙ getD-drop j l 0 d ∙ ap (λ (x : ℕ). getD l x d) (add-zero j)
 
-  behind : (r : List A) → r ≡ drop j l → drop 1 r ≡ drop (suc j) l
+  pub behind : (r : List A) → r ≡ drop j l → drop 1 r ≡ drop (suc j) l
   behind r e = let w : j + 1 ≡ suc j = omega arith in ap (drop 1) e ∙ drop-drop 1 j l ∙ ap (λ (x : ℕ). drop x l) w
 
 module _ (n : ℕ) (qs : List (List ℕ)) (ss ms : List ℕ) (s : Sound n qs ss) (regular : (i : ℕ)
