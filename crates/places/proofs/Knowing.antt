@@ -19,7 +19,8 @@ use Rattle.turns.specs.Loops.{someFrom}
 use Rattle.turns.specs.Decide.{hitOf, kidCount}
 use Rattle.families.specs.Children.{lowDigit, highDigit}
 use Rattle.places.specs.Status.{newStatus, lastsb, remadeb, pairHit, freshBits}
-use Rattle.places.specs.Fresh.{lowAt, highAt, edgeHas, edgeHit, kidHas, pairHas, freshBy, fresh-bits-is, fresh-none}
+use Rattle.digits.specs.Ends.{lowAt, highAt}
+use Rattle.places.specs.Fresh.{edgeHas, edgeHit, kidHas, pairHas, freshBy, fresh-bits-is, fresh-none}
 use Rattle.places.proofs.Bits.{bits-few}
 
 module _ (x : List ℕ) (c : ℕ) where

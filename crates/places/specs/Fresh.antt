@@ -1,28 +1,26 @@
 -- The statuses of new children (rule 7.7) as the code finds them, from the digits of the old family and of the red one.
---   lowAt, highAt ds j y    the digits of the ends of the edge y of the child j, from a family's digits in a row
 --   edgeHas ds j a b y      that edge joins the points with the digits a and b
 --   kidHas x ds d a b j     the child j, which is the cell d, has such an edge that is hit
 --   pairHas x ds f n a b    one of the n children from f on has
 --   freshBy x ds rs f n i   the status of the new child i, where rs are the red family's digits
--- Laws: digits-at (a family's digits), fresh-bits-is (this is freshBits), fresh-none (a status that is none).
+-- Laws: fresh-bits-is (this is freshBits), fresh-none (a status that is none).
 use mathlib.Core.Path.{_≡_, refl, sym, _∙_, ap, ap₂, subst}
 use mathlib.Core.Bool.{Bool, true, false, _&&_, _||_}
-use mathlib.Core.List.{List, [], _∷_, _++_, map, flatten, append-assoc}
-use Prim.Native.Nat.{ℕ, zero, suc, _+_, _*_, _-_, _^_, _≤_, _<_, min}
+use mathlib.Core.List.{List, map}
+use Prim.Native.Nat.{ℕ, zero, suc, _+_, _-_, _≤_, _<_, min}
 use native.Mathlib.Omega.{arith}
-use lib.Dec.{T, eqb, leb, eqb→eq}
-use lib.ListN.{length, getD, replicate, List·getD-append}
-use lib.Seq.{getD-append-add}
+use lib.Dec.{eqb}
+use lib.ListN.{length, getD}
 use borrow.Author.Tests.{ne-eqb, le-leb, lt-leb}
-use Rattle.base.specs.Bools.{one-if, and-left, and-right}
-use Rattle.base.specs.Lists.{anyb, allb}
+use Rattle.base.specs.Bools.{one-if}
+use Rattle.base.specs.Lists.{anyb}
 use Rattle.base.specs.Range.{range}
-use Rattle.cutting.specs.Rule.{family, low, high}
-use Rattle.cutting.specs.Rows.{family-fours}
-use Rattle.cutting.specs.Answer.{cutInto, cutOf, cutOf-accepted}
+use Rattle.cutting.specs.Rule.{family}
+use Rattle.cutting.specs.Answer.{cutOf}
 use Rattle.mesh.specs.Cells.{bitsOf, patternOf}
 use Rattle.mesh.specs.Table.{sizeOf}
-use Rattle.families.specs.Children.{middle, digitsOf, lowDigit, highDigit, middle-ends}
+use Rattle.families.specs.Children.{lowDigit, highDigit}
+use Rattle.digits.specs.Ends.{lowAt, highAt, low-end, high-end, six-same}
 use Rattle.rows.specs.Many.{size-refined, size-some}
 use Rattle.rows.specs.Sizes.{red-eight}
 use Rattle.mesh.specs.Layout.{edgeNumbers}
@@ -30,12 +28,6 @@ use Rattle.store.specs.Fields.{field, CELLS, STATUS, CHILD}
 use Rattle.turns.specs.Loops.{someFrom}
 use Rattle.turns.specs.Decide.{hitOf, kidCount}
 use Rattle.places.specs.Status.{pairHit, freshBits}
-
-abbrev pub lowAt : List ℕ → ℕ → ℕ → ℕ
-lowAt ds j y = getD ds (4 * j + low (middle y)) 0
-
-abbrev pub highAt : List ℕ → ℕ → ℕ → ℕ
-highAt ds j y = getD ds (4 * j + high (middle y)) 0
 
 unfoldable pub edgeHas : List ℕ → ℕ → ℕ → ℕ → ℕ → Bool
 edgeHas ds j a b y = eqb a (lowAt ds j y) && eqb b (highAt ds j y)
@@ -68,33 +60,6 @@ EightAs f l = (i : ℕ) → i < 8 → getD l i 0 ≡ f i
 abbrev pub EightFew : List ℕ → Type 0
 EightFew l = (i : ℕ) → i < 8 → getD l i 0 ≤ 64
 
--- four digits a child
-flat-at : (ls : List (List ℕ)) (r : List ℕ) → T (allb (λ c. eqb (length c) 4) ls) → (j k : ℕ) → j < length ls → k < 4
-    → getD (flatten ls ++ r) (4 * j + k) 0 ≡ getD (getD ls j []) k 0
-unfolding allb flatten
-flat-at [] r t j k h g = absurd (omega arith)
-flat-at (l ∷ ls) r t zero k h g =
-    let n : length l ≡ 4 = eqb→eq (length l) 4 (and-left (eqb (length l) 4) (allb (λ c. eqb (length c) 4) ls) t) in
-    let z : 4 * 0 + k ≡ k = omega arith in
-    rw (z, append-assoc l (flatten ls) r) (List·getD-append l (flatten ls ++ r) 0 k (omega arith))
-flat-at (l ∷ ls) r t (suc j) k h g =
-    let n : length l ≡ 4 = eqb→eq (length l) 4 (and-left (eqb (length l) 4) (allb (λ c. eqb (length c) 4) ls) t) in
-    let z : 4 * suc j + k ≡ length l + (4 * j + k) = omega arith in
-    rw (z, append-assoc l (flatten ls) r) (getD-append-add l (flatten ls ++ r) (4 * j + k) 0
-    ∙ flat-at ls r (and-right (eqb (length l) 4) (allb (λ c. eqb (length c) 4) ls) t) j k (omega arith) g)
-
-module _ (p : ℕ) (h : p < 64) (j : ℕ) (g : j < length (family p)) where
-  digits-at : (k : ℕ) → k < 4 → getD (cutOf p .digits) (4 * j + k) 0 ≡ getD (digitsOf p j) k 0
-  unfolding cutInto
-  digits-at k m = rw (cutOf-accepted p h) (flat-at (family p) (replicate (32 - length (flatten (family p))) 0) (family-fours p h) j k g m)
-
-  module _ (y : ℕ) (m : y < 6) where
-    low-is : lowAt (cutOf p .digits) j y ≡ lowDigit p j y
-    low-is = let e = middle-ends y m in digits-at (low (middle y)) (omega (arith, e .0, e .1))
-
-    high-is : highAt (cutOf p .digits) j y ≡ highDigit p j y
-    high-is = let e = middle-ends y m in digits-at (high (middle y)) (e .1)
-
 -- loops over the same tests
 any-range : (f : ℕ → Bool) (n k : ℕ) → anyb f (range k n) ≡ someFrom f n k
 unfolding anyb range someFrom
@@ -109,9 +74,6 @@ pub some-same : (f g : ℕ → Bool) (n k : ℕ) → ((j : ℕ) → k ≤ j → 
 unfolding someFrom
 some-same f g zero k h = refl
 some-same f g (suc n) k h = ap₂ _||_ (h k (omega arith) (omega arith)) (some-same f g n (suc k) (λ j a b. h j (omega arith) (omega arith)))
-
-six-same : (f g : ℕ → Bool) → ((y : ℕ) → y < 6 → f y ≡ g y) → map f edgeNumbers ≡ map g edgeNumbers
-six-same f g h = rw (h 0 (omega arith), h 1 (omega arith), h 2 (omega arith), h 3 (omega arith), h 4 (omega arith), h 5 (omega arith))
 
 green-size : (s : ℕ) → s ≤ 63 → (j : ℕ) → j < sizeOf s → j < length (family s)
 unfolding patternOf
@@ -134,8 +96,8 @@ module _ (x : List ℕ) (c : ℕ) where
         some-same _ _ (kidCount x c) 0 (λ j l m.
         some-same _ _ 6 0 (λ y k n.
         ap₂ (λ (u v : ℕ). (eqb a u && eqb b v) && hitOf x (field x (CHILD + c) + j) y)
-        (low-is (field x (STATUS + c)) (omega arith) j (kid-in j (omega (arith, m))) y n)
-        (high-is (field x (STATUS + c)) (omega arith) j (kid-in j (omega (arith, m))) y n))
+        (low-end (field x (STATUS + c)) (omega arith) j (kid-in j (omega (arith, m))) y n)
+        (high-end (field x (STATUS + c)) (omega arith) j (kid-in j (omega (arith, m))) y n))
         ∙ sym (any-six (λ y. (eqb a (lowDigit (field x (STATUS + c)) j y) && eqb b (highDigit (field x (STATUS + c)) j y))
         && hitOf x (field x (CHILD + c) + j) y)))
         ∙ sym (any-range (λ j. anyb (λ y. (eqb a (lowDigit (field x (STATUS + c)) j y) && eqb b (highDigit (field x (STATUS + c)) j y))
@@ -146,7 +108,7 @@ module _ (x : List ℕ) (c : ℕ) where
     unfolding freshBy freshBits
     fresh-bits-is i g = ap bitsOf (six-same _ _ (λ y m. ap₂
         (pairHas x (cutOf (field x (STATUS + c)) .digits) (field x (CHILD + c)) (kidCount x c))
-        (low-is 63 (omega arith) i (omega (arith, red-eight)) y m) (high-is 63 (omega arith) i (omega (arith, red-eight)) y m)
+        (low-end 63 (omega arith) i (omega (arith, red-eight)) y m) (high-end 63 (omega arith) i (omega (arith, red-eight)) y m)
         ∙ pair-is (lowDigit 63 i y) (highDigit 63 i y)))
 
   -- a status that is none has no children

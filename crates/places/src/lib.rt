@@ -1,5 +1,7 @@
 // The masters and ghosts of a part after the step, from its store alone: statuses, and places written one behind the other.
 use cutting::cut;
+use digits::high_digit;
+use digits::low_digit;
 use rows::size_of;
 use store::CELLS;
 use store::CHILD;
@@ -32,17 +34,15 @@ ghost use lib.Dec.{eqb};
 ghost use lib.ListN.{length, getD};
 ghost use Rattle.base.specs.Bools.{one-if};
 ghost use Rattle.base.specs.Lent.{was, is};
-ghost use Rattle.cutting.specs.Rule.{low, high};
 ghost use Rattle.mesh.specs.Cells.{bitsOf};
 ghost use Rattle.mesh.specs.Table.{sizeOf};
-ghost use Rattle.families.specs.Children.{middle};
 ghost use Rattle.mesh.specs.Layout.{edgeNumbers};
 ghost use Rattle.store.specs.Fields.{field, full};
 ghost use Rattle.store.specs.Places.{childPlace};
 ghost use Rattle.turns.specs.Loops.{eachFrom};
 ghost use Rattle.turns.specs.Decide.{hitOf};
 ghost use Rattle.places.specs.Status.{newStatus, lastsb, remadeb, freshBits};
-ghost use Rattle.places.specs.Fresh.{lowAt, highAt, edgeHas, edgeHit, kidHas, pairHas, freshBy, KidsInside, EightAs, EightFew};
+ghost use Rattle.places.specs.Fresh.{edgeHas, edgeHit, kidHas, pairHas, freshBy, KidsInside, EightAs, EightFew};
 ghost use Rattle.places.specs.Put.{placeAt, put, putMaster, putLeaf, putLeaves, putChild, placeMaster, placeGhost, placeFamily};
 ghost use Rattle.places.specs.Put.{placeCell, placeOld};
 
@@ -122,52 +122,6 @@ fn anew(store: &[u16], c: usize) -> bool
         return true;
     }
     status != 64
-}
-
-// The first corner of an edge.
-fn low_corner(y: usize) -> usize
-    requires { ⌜ y < 6 ⌝ }
-    ensures { λ r. ⌜ (r ≡ low (middle y)) × (r < 4) ⌝ }
-{
-    if y < 3 {
-        return 0;
-    }
-    if y < 5 {
-        return 1;
-    }
-    2
-}
-
-// The second corner of an edge.
-fn high_corner(y: usize) -> usize
-    requires { ⌜ y < 6 ⌝ }
-    ensures { λ r. ⌜ (r ≡ high (middle y)) × (r < 4) ⌝ }
-{
-    if y < 3 {
-        return y + 1;
-    }
-    if y < 5 {
-        return y - 1;
-    }
-    3
-}
-
-// The digit of the first end of an edge of a child, from the family's digits.
-fn low_digit(digits: &[u8; 32], j: usize, y: usize) -> u8
-    requires { ⌜ (j < 8) × (y < 6) ⌝ }
-    ensures { λ r. ⌜ r ≡ lowAt (was digits) j y ⌝ }
-{
-    let at = 4 * j + low_corner(y);
-    digits[at]
-}
-
-// The digit of the second end.
-fn high_digit(digits: &[u8; 32], j: usize, y: usize) -> u8
-    requires { ⌜ (j < 8) × (y < 6) ⌝ }
-    ensures { λ r. ⌜ r ≡ highAt (was digits) j y ⌝ }
-{
-    let at = 4 * j + high_corner(y);
-    digits[at]
 }
 
 // Whether an edge of a child joins the points with the digits a and b.

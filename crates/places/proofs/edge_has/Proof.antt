@@ -4,8 +4,6 @@ use Rattle.places.proofs.edge_has.Statement.{statement}
 use Rattle.places.proofs.edge_has.Tie as tie
 use Rattle.places.proofs.edge_has.Reads as reads
 use Rattle.places.proofs.edge_has.Lts as lts
-use Rattle.places.proofs.high_digit.Reads as high-digit-reads
-use Rattle.places.proofs.low_digit.Reads as low-digit-reads
 
 low-digit-requires : tie.Need-low-digit-requires
 low-digit-requires c κs = search needs

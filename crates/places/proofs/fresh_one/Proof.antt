@@ -11,8 +11,6 @@ use Rattle.places.proofs.fresh_one.Tie as tie
 use Rattle.places.proofs.fresh_one.Reads as reads
 use Rattle.places.proofs.fresh_one.Lts as lts
 use Rattle.places.proofs.bit.Reads as bit-reads
-use Rattle.places.proofs.high_digit.Reads as high-digit-reads
-use Rattle.places.proofs.low_digit.Reads as low-digit-reads
 use Rattle.places.proofs.pair_has.Reads as pair-has-reads
 
 abbrev Inv-loop : tie.InvT-loop

@@ -1,12 +1,10 @@
+-- `digits::low_digit` meets its contract. Assumes nothing.
 use lib.ListN.{getD}
 use Prim.Native.Nat.{ℕ, _+_, _*_}
 use mathlib.Core.Path.{ap}
 use borrow.Author.Needs.{needs}
-use Rattle.places.proofs.low_digit.Statement.{statement}
-use Rattle.places.proofs.low_digit.Tie as tie
-use Rattle.places.proofs.low_digit.Reads as reads
-use Rattle.places.proofs.low_digit.Lts as lts
-use Rattle.places.proofs.low_corner.Reads as low-corner-reads
+use Rattle.digits.proofs.low_digit.Statement.{statement}
+use Rattle.digits.proofs.low_digit.Tie as tie
 
 mul-at : tie.Need-mul-at
 mul-at c = search needs

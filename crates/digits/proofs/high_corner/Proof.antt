@@ -1,10 +1,9 @@
+-- `digits::high_corner` meets its contract. Assumes nothing.
 use native.Mathlib.Omega.{arith}
-use Rattle.places.proofs.Bits.{high-first, high-second, high-third}
+use Rattle.digits.proofs.Corners.{high-first, high-second, high-third}
 use borrow.Author.Needs.{needs}
-use Rattle.places.proofs.high_corner.Statement.{statement}
-use Rattle.places.proofs.high_corner.Tie as tie
-use Rattle.places.proofs.high_corner.Reads as reads
-use Rattle.places.proofs.high_corner.Lts as lts
+use Rattle.digits.proofs.high_corner.Statement.{statement}
+use Rattle.digits.proofs.high_corner.Tie as tie
 
 add-result : tie.Need-add-result
 add-result c = search needs

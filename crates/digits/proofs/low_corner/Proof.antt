@@ -1,10 +1,8 @@
-use borrow.Author.Needs.{needs}
+-- `digits::low_corner` meets its contract. Assumes nothing.
 use native.Mathlib.Omega.{arith}
-use Rattle.places.proofs.Bits.{low-first, low-second, low-third}
-use Rattle.places.proofs.low_corner.Statement.{statement}
-use Rattle.places.proofs.low_corner.Tie as tie
-use Rattle.places.proofs.low_corner.Reads as reads
-use Rattle.places.proofs.low_corner.Lts as lts
+use Rattle.digits.proofs.Corners.{low-first, low-second, low-third}
+use Rattle.digits.proofs.low_corner.Statement.{statement}
+use Rattle.digits.proofs.low_corner.Tie as tie
 
 returns : tie.Need-returns
 returns c = (low-first (c .before .args .y) (omega arith) (omega arith), omega arith)

@@ -1,12 +1,10 @@
+-- `digits::high_digit` meets its contract. Assumes nothing.
 use lib.ListN.{getD}
 use Prim.Native.Nat.{ℕ, _+_, _*_}
 use mathlib.Core.Path.{ap}
 use borrow.Author.Needs.{needs}
-use Rattle.places.proofs.high_digit.Statement.{statement}
-use Rattle.places.proofs.high_digit.Tie as tie
-use Rattle.places.proofs.high_digit.Reads as reads
-use Rattle.places.proofs.high_digit.Lts as lts
-use Rattle.places.proofs.high_corner.Reads as high-corner-reads
+use Rattle.digits.proofs.high_digit.Statement.{statement}
+use Rattle.digits.proofs.high_digit.Tie as tie
 
 mul-at : tie.Need-mul-at
 mul-at c = search needs

@@ -1,0 +1,4 @@
+pub mod Keeps
+pub mod Wrote
+pub mod Held
+pub mod Result
