@@ -19,6 +19,20 @@ use Rattle.rows.specs.Numbered.{part}
 use Rattle.lineage.specs.Olds.{firstChild}
 use Rattle.lineage.specs.Kept.{digitPair, heldPairs, freshOf, bornBy, bornNext}
 
+-- new children
+module _ (s : ℕ) (ks : List ℕ) (f : ℕ) where
+  abbrev bits : ℕ → ℕ
+  bits i = bitsOf (map (λ y. memberb (digitPair 63 i y) (heldPairs s ks f)) edgeNumbers)
+
+  pub length-fresh : length (freshOf s ks f) ≡ 8
+  unfolding freshOf
+  length-fresh = length-map (range 0 8) bits ∙ length-range 0 8
+
+  pub fresh-at : (i : ℕ) → i < 8
+      → getD (freshOf s ks f) i 0 ≡ bitsOf (map (λ y. memberb (digitPair 63 i y) (heldPairs s ks f)) edgeNumbers)
+  unfolding freshOf
+  fresh-at i h = getD-map bits (range 0 8) i 0 0 (omega (arith, length-range 0 8)) ∙ ap bits (range-at 0 8 i 0 h ∙ zero-add i)
+
 module _ (m : ℕ) (ss ks : List ℕ) where
   module _ (t o : ℕ) where
     pub born-green : redb t ≡ false → bornBy m ss ks t o ≡ replicate (sizeOf t) 0
@@ -29,23 +43,9 @@ module _ (m : ℕ) (ss ks : List ℕ) where
     unfolding bornBy
     born-kept e f = rw (e, f, bornBy)
 
-    pub born-fresh : redb t ≡ true → redb (getD ss o 0) ≡ false → bornBy m ss ks t o ≡ freshOf m ss ks o
+    pub born-fresh : redb t ≡ true → redb (getD ss o 0) ≡ false → bornBy m ss ks t o ≡ freshOf (getD ss o 0) ks (firstChild m ss o)
     unfolding bornBy
     born-fresh e f = rw (e, f, bornBy)
-
-  -- new children
-  abbrev bits : ℕ → ℕ → ℕ
-  bits o i = bitsOf (map (λ y. memberb (digitPair 63 i y) (heldPairs m ss ks o)) edgeNumbers)
-
-  pub length-fresh : (o : ℕ) → length (freshOf m ss ks o) ≡ 8
-  unfolding freshOf
-  length-fresh o = length-map (range 0 8) (bits o) ∙ length-range 0 8
-
-  pub fresh-at : (o i : ℕ) → i < 8
-      → getD (freshOf m ss ks o) i 0 ≡ bitsOf (map (λ y. memberb (digitPair 63 i y) (heldPairs m ss ks o)) edgeNumbers)
-  unfolding freshOf
-  fresh-at o i h =
-      getD-map (bits o) (range 0 8) i 0 0 (omega (arith, length-range 0 8)) ∙ ap (bits o) (range-at 0 8 i 0 h ∙ zero-add i)
 
   -- a level, family by family
   pub born-next : (ts os l : List ℕ) → length os ≡ length ts → length l ≡ sizes ts

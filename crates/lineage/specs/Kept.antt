@@ -3,8 +3,9 @@
 --   keptLevels ls ms             what the cells keep, level by level, where es are the edges of the level's new red cells; keptTable n qs ss ms
 --                          of a whole table, in cell order
 --   digitPair p i y        the edge y of the child i of the family p: the digits of its ends as one number
---   heldPairs m ss ks o    the edges of the old children of the cell o that new red cells hold, so; ks is what the old cells keep
---   freshOf m ss ks o      the statuses of the eight children of the cell o, which was not red and will be
+--   heldPairs s ks f       the edges of the old children of a cell that new red cells hold, so; s was its status, f is the number of its first
+--                          child, and ks is what the old cells keep
+--   freshOf s ks f         the statuses of the eight children of that cell, which was not red and will be
 --   bornBy m ss ks t o   the statuses of the children of a cell with new status t and old number o
 --   bornNext m ss ks ts os   those one level up of cells with new statuses ts and old numbers os
 --   writeBy m ss ks h ts os   at most h levels of statuses, from those of a level on
@@ -51,25 +52,24 @@ keptTable n qs ss ms = flatten (keptLevels (levelsOf n qs ss) ms)
 abbrev pub digitPair : ℕ → ℕ → ℕ → ℕ
 digitPair p i y = 10 * lowDigit p i y + highDigit p i y
 
-module _ (m : ℕ) (ss ks : List ℕ) where
+module _ (s : ℕ) (ks : List ℕ) (f : ℕ) where
   -- Rules 6.2, 7.5: the edges that new red cells hold, among those of an old family.
-  unfoldable pub heldPairs : ℕ → List ℕ
-  unfolding firstChild patternOf sizeOf range split filterb flatMap family low high
-  heldPairs o =
-      let s : ℕ = getD ss o 0 in
-      flatMap (λ j. map (digitPair (patternOf s) j) (filterb (split (getD ks (firstChild m ss o + j) 0)) edgeNumbers)) (range 0 (sizeOf s))
+  unfoldable pub heldPairs : List ℕ
+  unfolding patternOf sizeOf range split filterb flatMap family low high
+  heldPairs = flatMap (λ j. map (digitPair (patternOf s) j) (filterb (split (getD ks (f + j) 0)) edgeNumbers)) (range 0 (sizeOf s))
 
   -- Rules 6.2, 7.7: an edge of a new child that a new red cell holds is an edge of the old family.
-  unfoldable pub freshOf : ℕ → List ℕ
+  unfoldable pub freshOf : List ℕ
   unfolding heldPairs bitsOf range memberb family low high
-  freshOf o = map (λ i. bitsOf (map (λ y. memberb (digitPair 63 i y) (heldPairs o)) edgeNumbers)) (range 0 8)
+  freshOf = map (λ i. bitsOf (map (λ y. memberb (digitPair 63 i y) heldPairs) edgeNumbers)) (range 0 8)
 
+module _ (m : ℕ) (ss ks : List ℕ) where
   -- Rules 4.2, 6.3, 7.7: a family that stays, one that is new, and the leaves of a green cell.
   unfoldable pub bornBy : ℕ → ℕ → List ℕ
   unfolding freshOf firstChild sizeOf
   bornBy t o =
       elim (redb t) [
-        | true ↦ elim (redb (getD ss o 0)) [ true ↦ part ks (firstChild m ss o) 8 | false ↦ freshOf o ]
+        | true ↦ elim (redb (getD ss o 0)) [ true ↦ part ks (firstChild m ss o) 8 | false ↦ freshOf (getD ss o 0) ks (firstChild m ss o) ]
         | false ↦ replicate (sizeOf t) 0
       ]
 

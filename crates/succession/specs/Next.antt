@@ -203,7 +203,7 @@ module _ (n : ℕ) (qs : List (List ℕ)) (ss ms : List ℕ) (s : Sound n qs ss)
           not-red z = not-both (redb (getD ss (o p) 0)) (ap redb (w .status ∙ z)) k
 
           fresh-many : length (bornBy m ss ks (t p) (o p)) ≡ sizeOf (t p)
-          fresh-many = ap length (born-fresh m ss ks (t p) (o p) (ap redb e) k) ∙ length-fresh m ss ks (o p) ∙ sym (size-red (t p) e)
+          fresh-many = ap length (born-fresh m ss ks (t p) (o p) (ap redb e) k) ∙ length-fresh (getD ss (o p) 0) ks (firstChild m ss (o p)) ∙ sym (size-red (t p) e)
 
           module _ (i : ℕ) (l : i < 8) where
             abbrev d : Cell Point
@@ -245,7 +245,7 @@ module _ (n : ℕ) (qs : List (List ℕ)) (ss ms : List ℕ) (s : Sound n qs ss)
             G = getD (old j .cells) (w .u) noCell
 
             held-edge : (y : ℕ) → y < 6
-                → heldb sameb (newEdges n qs ss ms (suc j)) (edge [] d y) ≡ memberb (digitPair 63 i y) (heldPairs m ss ks (o p))
+                → heldb sameb (newEdges n qs ss ms (suc j)) (edge [] d y) ≡ memberb (digitPair 63 i y) (heldPairs (getD ss (o p) 0) ks (firstChild m ss (o p)))
             unfolding patternOf
             held-edge y hy =
                 let up63 : 63 < 64 = omega arith in
@@ -259,7 +259,7 @@ module _ (n : ℕ) (qs : List (List ℕ)) (ss ms : List ℕ) (s : Sound n qs ss)
                 ap (heldb sameb (newEdges n qs ss ms (suc j))) same
                 ∙ pair n qs ss ms s j (w .u) (w .is .below) not-red regular (w .is .regular) a b
                 (digits-rise 63 i up63 (small i l) y hy) (digits-below 63 i up63 (small i l) y hy)
-                ∙ ap (λ (x : ℕ). memberb (10 * a + b) (heldPairs m ss ks x)) (sym (w .number))
+                ∙ ap (λ (x : ℕ). memberb (10 * a + b) (heldPairs (getD ss x 0) ks (firstChild m ss x))) (sym (w .number))
 
             edges-six : (f : Edge → Bool) (x : Cell Point) → map f (edges [] x) ≡ map (λ y. f (edge [] x y)) edgeNumbers
             unfolding edges
@@ -267,11 +267,11 @@ module _ (n : ℕ) (qs : List (List ℕ)) (ss ms : List ℕ) (s : Sound n qs ss)
 
             fresh-one : getD (bornBy m ss ks (t p) (o p)) i 0 ≡ getD (new (suc j) .statuses) (v p i h (eight i l)) 0
             fresh-one =
-                ap (λ (r : List ℕ). getD r i 0) (born-fresh m ss ks (t p) (o p) (ap redb e) k) ∙ fresh-at m ss ks (o p) i l
+                ap (λ (r : List ℕ). getD r i 0) (born-fresh m ss ks (t p) (o p) (ap redb e) k) ∙ fresh-at (getD ss (o p) 0) ks (firstChild m ss (o p)) i l
                 ∙ sym (new-status n qs ss ms s (suc j) g (v p i h (eight i l)) (below p i h (eight i l)) reg-d red-not
                 ∙ ap bitsOf (edges-six (heldb sameb (newEdges n qs ss ms (suc j))) d
                 ∙ map-agree (λ y. heldb sameb (newEdges n qs ss ms (suc j)) (edge [] d y))
-                (λ y. memberb (digitPair 63 i y) (heldPairs m ss ks (o p))) edgeNumbers (λ y q. held-edge y (six-below y q))))
+                (λ y. memberb (digitPair 63 i y) (heldPairs (getD ss (o p) 0) ks (firstChild m ss (o p)))) edgeNumbers (λ y q. held-edge y (six-below y q))))
 
       -- any family
       many-at : (p : ℕ) → p < length (new j .statuses) → length (bornBy m ss ks (t p) (o p)) ≡ sizeOf (t p)

@@ -136,7 +136,7 @@ module _ (n : ℕ) (qs : List (List ℕ)) (ss ms : List ℕ) (s : Sound n qs ss)
 
       module _ (regular : (i : ℕ) → All (IfRegular n i) (lv n qs ss i .cells)) (rt : T (G .regular)) where
         pair-up : (a b : ℕ) → a < b → b < 10 → T (heldb sameb (new (suc j)) (point G a, point G b))
-            → T (memberb (10 * a + b) (heldPairs m ss ks o))
+            → T (memberb (10 * a + b) (heldPairs (getD ss o 0) ks (firstChild m ss o)))
         unfolding heldPairs
         pair-up a b ab hb held =
             let w : FreshEdge n qs ss ms s regular j t a b = fresh-edge n qs ss ms s regular j t ht rt a b ab hb held in
@@ -149,14 +149,14 @@ module _ (n : ℕ) (qs : List (List ℕ)) (ss ms : List ℕ) (s : Sound n qs ss)
             let value : digitPair (patternOf (getD ss o 0)) (w .i) (w .y) ≡ 10 * a + b =
             ap (λ (x : ℕ). digitPair (patternOf x) (w .i) (w .y)) status-is ∙ omega (arith, w .low-is, w .high-is) in
             let many : w .i < sizeOf (getD ss o 0) = rw status-is (omega (arith, size-refined S (w .refined), inside)) in
-            subst (λ (x : ℕ). Member x (heldPairs m ss ks o)) value
+            subst (λ (x : ℕ). Member x (heldPairs (getD ss o 0) ks (firstChild m ss o))) value
             (member-flat pairsOf (range 0 (sizeOf (getD ss o 0))) (w .i) (digitPair (patternOf (getD ss o 0)) (w .i) (w .y))
             (range-member 0 (sizeOf (getD ss o 0)) (w .i) (omega arith) (omega arith))
             (member-map (digitPair (patternOf (getD ss o 0)) (w .i)) (filterb (split (getD ks (firstChild m ss o + w .i) 0)) edgeNumbers)
             (w .y)
             (member-filtered (split (getD ks (firstChild m ss o + w .i) 0)) edgeNumbers (w .y) (below-six (w .y) (w .below)) held')))
 
-        pair-down : (a b : ℕ) → b < 10 → T (memberb (10 * a + b) (heldPairs m ss ks o))
+        pair-down : (a b : ℕ) → b < 10 → T (memberb (10 * a + b) (heldPairs (getD ss o 0) ks (firstChild m ss o)))
             → T (heldb sameb (new (suc j)) (point G a, point G b))
         unfolding heldPairs
         pair-down a b hb r =
@@ -187,7 +187,7 @@ module _ (n : ℕ) (qs : List (List ℕ)) (ss ms : List ℕ) (s : Sound n qs ss)
             (ce ∙ ap₂ {A = ℕ} {B = ℕ} {C = Edge} (λ x y. (point G x, point G y)) p q) here
 
         pub pair : (a b : ℕ) → a < b → b < 10
-            → heldb sameb (new (suc j)) (point G a, point G b) ≡ memberb (10 * a + b) (heldPairs m ss ks o)
+            → heldb sameb (new (suc j)) (point G a, point G b) ≡ memberb (10 * a + b) (heldPairs (getD ss o 0) ks (firstChild m ss o))
         pair a b ab hb =
-            same-test (heldb sameb (new (suc j)) (point G a, point G b)) (memberb (10 * a + b) (heldPairs m ss ks o)) (pair-up a b ab hb)
+            same-test (heldb sameb (new (suc j)) (point G a, point G b)) (memberb (10 * a + b) (heldPairs (getD ss o 0) ks (firstChild m ss o))) (pair-up a b ab hb)
             (pair-down a b hb)

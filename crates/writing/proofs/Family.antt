@@ -14,10 +14,10 @@ use Rattle.rows.specs.Sizes.{size-red, status-fits}
 use Rattle.growth.specs.Written.{written}
 use Rattle.lineage.specs.Olds.{firstChild, oldChild, oldsOf, upTo}
 use Rattle.lineage.specs.Firsts.{first-next, first-up}
-use Rattle.lineage.specs.Kept.{heldPairs, freshOf, bornBy}
+use Rattle.lineage.specs.Families as families
+use Rattle.lineage.specs.Kept.{freshOf, bornBy}
 use Rattle.writing.specs.Keeps.{Keeps}
 use Rattle.writing.specs.Wrote.{Wrote}
-use Rattle.writing.specs.Held.{heldFrom, freshFrom}
 use Rattle.writing.proofs.Fresh.{fresh-leaf}
 
 -- numbers in a row, and the same number again and again
@@ -56,17 +56,15 @@ module _ (m : ℕ) (ss ks : List ℕ) (t o : ℕ) where
 
     module _ (same : getD ss o 0 ≡ 64) where
       pub born-kept : bornBy m ss ks t o ≡ part ks (firstChild m ss o) 8
-      unfolding bornBy
-      born-kept = rw (eq-eqb t 64 red, eq-eqb (getD ss o 0) 64 same, bornBy)
+      born-kept = families.born-kept m ss ks t o (eq-eqb t 64 red) (eq-eqb (getD ss o 0) 64 same)
 
       olds-kept : oldsOf m ss t o ≡ range (firstChild m ss o) 8
       unfolding oldsOf oldChild
       olds-kept = rw (eq-eqb t 64 red, eq-eqb (getD ss o 0) 64 same, oldChild, eight) (up-range (firstChild m ss o) 8)
 
     module _ (other : getD ss o 0 ≡ 64 → ⊥) where
-      pub born-fresh : bornBy m ss ks t o ≡ freshFrom (getD ss o 0) ks (firstChild m ss o)
-      unfolding bornBy freshOf heldPairs freshFrom heldFrom
-      born-fresh = rw (eq-eqb t 64 red, ne-eqb (getD ss o 0) 64 other, bornBy)
+      pub born-fresh : bornBy m ss ks t o ≡ freshOf (getD ss o 0) ks (firstChild m ss o)
+      born-fresh = families.born-fresh m ss ks t o (eq-eqb t 64 red) (ne-eqb (getD ss o 0) 64 other)
 
       olds-fresh : oldsOf m ss t o ≡ replicate 8 65535
       unfolding oldsOf oldChild
@@ -74,8 +72,7 @@ module _ (m : ℕ) (ss ks : List ℕ) (t o : ℕ) where
 
   module _ (green : t ≡ 64 → ⊥) where
     pub born-leaves : bornBy m ss ks t o ≡ replicate (sizeOf t) 0
-    unfolding bornBy
-    born-leaves = rw (ne-eqb t 64 green, bornBy)
+    born-leaves = families.born-green m ss ks t o (ne-eqb t 64 green)
 
     olds-leaves : oldsOf m ss t o ≡ replicate (sizeOf t) 65535
     unfolding oldsOf
@@ -113,7 +110,7 @@ module _ {m : ℕ} {ss kids ks : List ℕ} (w : Keeps m ss kids ks) (t o : ℕ) 
           → Wrote table old at (bornBy m ss ks t o) (oldsOf m ss t o) table′ old′
       done-kept red same r = done r (rw first (sym (born-kept m ss ks t o red same))) (rw first (sym (olds-kept m ss ks t o red same)))
 
-      pub done-fresh : {l : List ℕ} → t ≡ 64 → (getD ss o 0 ≡ 64 → ⊥) → l ≡ freshFrom (getD ss o 0) ks f
+      pub done-fresh : {l : List ℕ} → t ≡ 64 → (getD ss o 0 ≡ 64 → ⊥) → l ≡ freshOf (getD ss o 0) ks f
           → Wrote table old at l (replicate 8 65535) table′ old′ → Wrote table old at (bornBy m ss ks t o) (oldsOf m ss t o) table′ old′
       done-fresh red n i r = done r (i ∙ rw first (sym (born-fresh m ss ks t o red n))) (sym (olds-fresh m ss ks t o red n))
 

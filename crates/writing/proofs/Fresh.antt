@@ -1,7 +1,7 @@
 -- The new children of a cell that was not red and will be.
 -- Assumes nothing.
 use mathlib.Core.Path.{_≡_, refl, sym, _∙_, ap}
-use mathlib.Core.Bool.{false, not}
+use mathlib.Core.Bool.{Bool, false, not}
 use mathlib.Core.List.{List, [], _∷_, map, flatMap}
 use Prim.Native.Nat.{ℕ, _+_, _*_, _-_, _≤_, _<_}
 use native.Mathlib.Decide.{ℕ-discrete}
@@ -10,7 +10,7 @@ use lib.Dec.{T, eqb}
 use lib.ListN.{length, getD, take, set, replicate, length-map}
 use borrow.Author.Tests.{ne-eqb}
 use Rattle.base.specs.Bools.{one-if, one-most, eqb-one}
-use Rattle.base.specs.Each.{map-same, all-mapped}
+use Rattle.base.specs.Each.{map-same}
 use Rattle.base.specs.Every.{All, all-from, any-at, getD-map}
 use Rattle.base.specs.Lists.{anyb, memberb, filterb}
 use Rattle.base.specs.Range.{range, length-range, range-at}
@@ -23,8 +23,9 @@ use Rattle.mesh.specs.Layout.{edgeNumbers}
 use Rattle.mesh.specs.Table.{sizeOf}
 use Rattle.rows.specs.Sizes.{red-eight}
 use Rattle.growth.specs.Written.{written}
-use Rattle.lineage.specs.Kept.{digitPair}
-use Rattle.writing.specs.Held.{pairAt, EndsBelow, heldFrom, freshFrom, bitsAt, Noted, ZeroOrOne}
+use Rattle.lineage.specs.Families as families
+use Rattle.lineage.specs.Kept.{digitPair, heldPairs, freshOf}
+use Rattle.writing.specs.Held.{pairAt, EndsBelow, bitsAt, Noted, ZeroOrOne}
 use Rattle.writing.proofs.Front.{anew-more, anew-all}
 
 -- numbers from 0 on
@@ -92,19 +93,19 @@ module _ (held : List ℕ) where
       anew-all (replicate 8 0) row n i l e (omega arith)
 
 module _ (s : ℕ) (ks : List ℕ) (f : ℕ) where
-  module _ (held : List ℕ) (d : Noted held (heldFrom s ks f)) where
+  module _ (held : List ℕ) (d : Noted held (heldPairs s ks f)) where
     fresh-at : (i : ℕ) → i < 8
-        → bitsAt held (cutOf 63 .digits) i ≡ bitsOf (map (λ y. memberb (digitPair 63 i y) (heldFrom s ks f)) edgeNumbers)
+        → bitsAt held (cutOf 63 .digits) i ≡ bitsOf (map (λ y. memberb (digitPair 63 i y) (heldPairs s ks f)) edgeNumbers)
     unfolding bitsAt
     fresh-at i h = ap bitsOf (six-same _ _ (λ y m.
         ap (λ (v : ℕ). eqb v 1) (d (pairAt (cutOf 63 .digits) i y) (red-small i h y m))
-        ∙ eqb-one (memberb (pairAt (cutOf 63 .digits) i y) (heldFrom s ks f))
-        ∙ ap (λ (v : ℕ). memberb v (heldFrom s ks f)) (red-pair i h y m)))
+        ∙ eqb-one (memberb (pairAt (cutOf 63 .digits) i y) (heldPairs s ks f))
+        ∙ ap (λ (v : ℕ). memberb v (heldPairs s ks f)) (red-pair i h y m)))
 
-    pub fresh-is : map (bitsAt held (cutOf 63 .digits)) (range 0 8) ≡ freshFrom s ks f
-    unfolding freshFrom
+    pub fresh-is : map (bitsAt held (cutOf 63 .digits)) (range 0 8) ≡ freshOf s ks f
+    unfolding freshOf
     fresh-is =
-        let g : ℕ → ℕ = λ i. bitsOf (map (λ y. memberb (digitPair 63 i y) (heldFrom s ks f)) edgeNumbers) in
+        let g : ℕ → ℕ = λ i. bitsOf (map (λ y. memberb (digitPair 63 i y) (heldPairs s ks f)) edgeNumbers) in
         map-same (bitsAt held (cutOf 63 .digits)) g (range 0 8) (below-all (λ i. bitsAt held (cutOf 63 .digits) i ≡ g i) 8 fresh-at)
 
   -- where the old children keep nothing
@@ -119,30 +120,24 @@ module _ (s : ℕ) (ks : List ℕ) (f : ℕ) where
             rw none at (any-at (λ c. not (eqb (getD ks c 0) 0)) 0 (range f (f + n - f)) j
             (omega (arith, length-range f (f + n - f))) t)
 
-    held-none : heldFrom s ks f ≡ []
-    unfolding heldFrom split filterb
+    held-none : heldPairs s ks f ≡ []
+    unfolding heldPairs split filterb
     held-none = flat-none _ (range 0 (sizeOf s)) (below-all _ (sizeOf s) (λ j h. rw (keeps-none j (omega arith))))
 
-    pub fresh-none : replicate 8 0 ≡ freshFrom s ks f
-    unfolding freshFrom memberb bitsOf range one-if
+    pub fresh-none : replicate 8 0 ≡ freshOf s ks f
+    unfolding freshOf memberb bitsOf range one-if
     fresh-none = sym (ap (λ (l : List ℕ). map (λ i. bitsOf (map (λ y. memberb (digitPair 63 i y) l) edgeNumbers)) (range 0 8)) held-none)
 
 -- a leaf has no children
-pub fresh-leaf : (ks : List ℕ) (f : ℕ) → replicate 8 0 ≡ freshFrom 0 ks f
-unfolding freshFrom heldFrom sizeOf range flatMap memberb bitsOf one-if
+pub fresh-leaf : (ks : List ℕ) (f : ℕ) → replicate 8 0 ≡ freshOf 0 ks f
+unfolding freshOf heldPairs sizeOf range flatMap memberb bitsOf one-if
 fresh-leaf ks f = refl
 
-pub fresh-long : (s : ℕ) (ks : List ℕ) (f : ℕ) → length (freshFrom s ks f) ≡ 8
-unfolding freshFrom
-fresh-long s ks f = eight-long (λ i. bitsOf (map (λ y. memberb (digitPair 63 i y) (heldFrom s ks f)) edgeNumbers))
-
-pub fresh-small : (s : ℕ) (ks : List ℕ) (f : ℕ) → All (λ x. x ≤ 64) (freshFrom s ks f)
-unfolding freshFrom
+pub fresh-small : (s : ℕ) (ks : List ℕ) (f : ℕ) → All (λ x. x ≤ 64) (freshOf s ks f)
 fresh-small s ks f =
-    let g : ℕ → ℕ = λ i. bitsOf (map (λ y. memberb (digitPair 63 i y) (heldFrom s ks f)) edgeNumbers) in
-    all-mapped (λ x. x ≤ 64) g (range 0 8) (below-all (λ i. g i ≤ 64) 8 (λ i h. omega (
-      arith,
-      bits-small (memberb (digitPair 63 i 0) (heldFrom s ks f)) (memberb (digitPair 63 i 1) (heldFrom s ks f))
-          (memberb (digitPair 63 i 2) (heldFrom s ks f)) (memberb (digitPair 63 i 3) (heldFrom s ks f))
-          (memberb (digitPair 63 i 4) (heldFrom s ks f)) (memberb (digitPair 63 i 5) (heldFrom s ks f)),
-    )))
+    all-from (λ x. x ≤ 64) 0 (freshOf s ks f) (λ i h.
+    rw (families.fresh-at s ks f i (omega (arith, families.length-fresh s ks f)))
+    (bits-few (λ y. memberb (digitPair 63 i y) (heldPairs s ks f))))
+  where
+    bits-few : (g : ℕ → Bool) → bitsOf (map g edgeNumbers) ≤ 64
+    bits-few g = omega (arith, bits-small (g 0) (g 1) (g 2) (g 3) (g 4) (g 5))

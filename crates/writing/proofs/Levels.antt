@@ -16,12 +16,13 @@ use Rattle.rows.specs.Sizes.{size-red, sizes-step}
 use Rattle.growth.specs.Parts.{small-part, sizes-take}
 use Rattle.growth.specs.Written.{written, written-none, written-more, length-written, getD-written}
 use Rattle.lineage.specs.Olds.{firstChild, oldsOf, oldsNext}
+use Rattle.lineage.specs.Families.{length-fresh}
 use Rattle.lineage.specs.Kept.{bornBy, bornNext}
 use Rattle.lineage.specs.Same.{length-olds}
 use Rattle.writing.specs.Keeps.{Keeps}
 use Rattle.writing.specs.Wrote.{RoomFor, RoomAbove, Wrote}
 use Rattle.writing.proofs.Front.{part-on}
-use Rattle.writing.proofs.Fresh.{fresh-long, fresh-small}
+use Rattle.writing.proofs.Fresh.{fresh-small}
 use Rattle.writing.proofs.Family.{born-kept, born-fresh, born-leaves, first-inside, no-cell}
 
 part-small : (l : List ℕ) (k n : ℕ) → k + n ≤ length l → ((c : ℕ) → k ≤ c → c < k + n → getD l c 0 ≤ 64) → All (λ s. s ≤ 64) (part l k n)
@@ -48,7 +49,7 @@ module _ {m : ℕ} {ss kids ks : List ℕ} (w : Keeps m ss kids ks) where
     where
       eight : t ≡ 64 → Dec (getD ss o 0 ≡ 64) → length (bornBy m ss ks t o) ≡ 8
       eight red (yes same) = red-long t o red same
-      eight red (no other) = ap length (born-fresh m ss ks t o red other) ∙ fresh-long (getD ss o 0) ks (firstChild m ss o)
+      eight red (no other) = ap length (born-fresh m ss ks t o red other) ∙ length-fresh (getD ss o 0) ks (firstChild m ss o)
 
   pub length-born : (ts os : List ℕ) → length os ≡ length ts → length (bornNext m ss ks ts os) ≡ sizes ts
   unfolding bornNext sizes

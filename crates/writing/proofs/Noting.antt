@@ -22,8 +22,8 @@ use Rattle.mesh.specs.Laws.{edges-more}
 use Rattle.mesh.specs.Layout.{edgeNumbers}
 use Rattle.mesh.specs.Table.{sizeOf}
 use Rattle.rows.specs.Many.{size-refined, size-some}
-use Rattle.lineage.specs.Kept.{digitPair}
-use Rattle.writing.specs.Held.{pairAt, pairsAt, EndsBelow, heldBelow, heldFrom, ones, Noted}
+use Rattle.lineage.specs.Kept.{digitPair, heldPairs}
+use Rattle.writing.specs.Held.{pairAt, pairsAt, EndsBelow, heldBelow, ones, Noted}
 
 ones-append : (h l m : List ℕ) → ones h (l ++ m) ≡ ones (ones h l) m
 unfolding ones
@@ -132,8 +132,8 @@ module _ (s : ℕ) (small : s < 64) where
         ∙ ap (ones (replicate 100 0)) (sym (flat-snoc g (range 0 j) j) ∙ ap (flatMap g) (rw w (sym (rw z at (range-snoc 0 j)))))
 
     pub held-all : (j : ℕ) (held : List ℕ) → held ≡ ones (replicate 100 0) (heldBelow s ks f j) → j ≡ sizeOf s
-        → Noted held (heldFrom s ks f)
-    unfolding heldFrom
+        → Noted held (heldPairs s ks f)
+    unfolding heldPairs
     held-all j held e w k g =
         ap (λ (l : List ℕ). getD l k 0) (e ∙ ap (λ (n : ℕ). ones (replicate 100 0) (heldBelow s ks f n)) w)
         ∙ noted-zeros (heldBelow s ks f (sizeOf s)) k g

@@ -2,8 +2,7 @@
 -- old status s and the number f of its first child.
 --   pairAt ds j y       the edge y of the child j by its two digits, from a family's digits in a row
 --   pairsAt ds j p ys   those of its edges ys that the pattern p splits
---   heldFrom s ks f     the edges of the old children that new red cells hold; heldBelow s ks f n of the first n
---   freshFrom s ks f    the statuses of the eight new children
+--   heldBelow s ks f n  the edges of the first n old children that new red cells hold
 --   bitsAt held ds i    the status of the new child i, where `held` has a one for each edge that is held
 --   ones h l            h with a one at each number of l
 --   EndsBelow ds j      the ends of the child's edges are digits
@@ -21,7 +20,6 @@ use Rattle.cutting.specs.Rule.{split}
 use Rattle.digits.specs.Ends.{lowAt, highAt}
 use Rattle.mesh.specs.Cells.{patternOf, bitsOf}
 use Rattle.mesh.specs.Layout.{edgeNumbers}
-use Rattle.mesh.specs.Table.{sizeOf}
 use Rattle.lineage.specs.Kept.{digitPair}
 
 abbrev pub pairAt : List ℕ → ℕ → ℕ → ℕ
@@ -37,14 +35,6 @@ EndsBelow ds j = (y : ℕ) → y < 6 → (lowAt ds j y < 10) × (highAt ds j y <
 module _ (s : ℕ) (ks : List ℕ) (f : ℕ) where
   abbrev pub heldBelow : ℕ → List ℕ
   heldBelow n = flatMap (λ j. map (digitPair (patternOf s) j) (filterb (split (getD ks (f + j) 0)) edgeNumbers)) (range 0 n)
-
-  unfoldable pub heldFrom : List ℕ
-  unfolding patternOf sizeOf range split filterb flatMap
-  heldFrom = heldBelow (sizeOf s)
-
-  unfoldable pub freshFrom : List ℕ
-  unfolding heldFrom bitsOf range memberb
-  freshFrom = map (λ i. bitsOf (map (λ y. memberb (digitPair 63 i y) heldFrom) edgeNumbers)) (range 0 8)
 
 unfoldable pub bitsAt : List ℕ → List ℕ → ℕ → ℕ
 unfolding bitsOf

@@ -14,10 +14,10 @@ ghost use Rattle.mesh.specs.Layout.{edgeNumbers};
 ghost use Rattle.mesh.specs.Table.{sizeOf, sizes};
 ghost use Rattle.rows.specs.Numbered.{part};
 ghost use Rattle.lineage.specs.Olds.{oldsOf, oldsNext, upTo};
-ghost use Rattle.lineage.specs.Kept.{bornBy, bornNext};
+ghost use Rattle.lineage.specs.Kept.{bornBy, bornNext, heldPairs, freshOf};
 ghost use Rattle.writing.specs.Keeps.{Keeps};
 ghost use Rattle.writing.specs.Wrote.{RoomFor, RoomAbove, Wrote};
-ghost use Rattle.writing.specs.Held.{pairAt, pairsAt, EndsBelow, heldFrom, freshFrom, bitsAt, ones, Noted, ZeroOrOne};
+ghost use Rattle.writing.specs.Held.{pairAt, pairsAt, EndsBelow, bitsAt, ones, Noted, ZeroOrOne};
 ghost use Rattle.writing.specs.Result.{TableWritten, WriteEnding};
 
 // Writes the family of a cell that stays red: what its children keep, and their numbers.
@@ -99,7 +99,7 @@ fn note_child(digits: &[u8; 32], j: usize, pattern: u8, held: &mut [u8; 100])
 // A one for each edge of the old children, `count` from `first` on, that a new red cell holds.
 fn held_pairs(status: u8, kept: &[u8], first: usize, count: usize) -> [u8; 100]
     requires { ⌜ (status < 64) × (count ≡ sizeOf status) × (count ≤ 8) × (first + count ≤ length (now kept)) ⌝ }
-    ensures { λ r. ⌜ Noted r (heldFrom status (was kept) first) ⌝ }
+    ensures { λ r. ⌜ Noted r (heldPairs status (was kept) first) ⌝ }
 {
     let mut held = [0u8; 100];
     let whole = cutting::cut(status);
@@ -169,7 +169,7 @@ fn some_held(kept: &[u8], first: usize, last: usize) -> bool
 // The statuses of the eight children of a cell that was not red and will be. Where its old children keep nothing, they are leaves.
 fn fresh_of(status: u8, kept: &[u8], first: usize) -> [u8; 8]
     requires { ⌜ (status < 64) × (first + sizeOf status ≤ length (now kept)) ⌝ }
-    ensures { λ r. ⌜ r ≡ freshFrom status (was kept) first ⌝ }
+    ensures { λ r. ⌜ r ≡ freshOf status (was kept) first ⌝ }
 {
     let count = rows::size_of(status);
     if !some_held(kept, first, first + count) {

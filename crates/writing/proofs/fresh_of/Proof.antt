@@ -2,7 +2,7 @@
 use mathlib.Core.Path.{sym, _∙_}
 use borrow.Author.Needs.{needs}
 use borrow.Author.Tests.{not-true}
-use Rattle.writing.specs.Held.{heldFrom}
+use Rattle.lineage.specs.Kept.{heldPairs}
 use Rattle.writing.proofs.Fresh.{noted-small, fresh-is, fresh-none}
 use Rattle.writing.proofs.fresh_of.Statement.{statement}
 use Rattle.writing.proofs.fresh_of.Tie as tie
@@ -25,7 +25,7 @@ held-pairs-requires : tie.Need-held-pairs-requires
 held-pairs-requires c κs = search needs
 
 fresh-with-requires : tie.Need-fresh-with-requires
-fresh-with-requires c κs = noted-small (c .before .held-pairs .result) (heldFrom (c .before .before .before .before .before .before .args
+fresh-with-requires c κs = noted-small (c .before .held-pairs .result) (heldPairs (c .before .before .before .before .before .before .args
     .status) (c .before .before .before .before .before .before .args .kept .now) (c .before .before .before .before .before .before .args
     .first))
     (c .before .held-pairs .ensures)
