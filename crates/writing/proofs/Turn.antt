@@ -77,9 +77,9 @@ module _ {m : ℕ} {ss kids ks : List ℕ} (w : Keeps m ss kids ks) where
   pub coarse-inside : m ≤ length ss
   coarse-inside = omega (arith, first-start m ss, first-up m ss 0 (length ss) (omega arith), w .firsts .whole)
 
-  pub going-start : {table old table₁ old₁ : List ℕ} → length table ≡ 4096 → length old ≡ 4096 → (m ≡ 0 → ⊥)
+  pub going-start : {table old table₁ old₁ : List ℕ} → length table ≡ 4096 → length old ≡ 4096
       → Wrote table old 0 (take m ks) (upTo m) table₁ old₁ → WriteGoing m ss ks 0 0 m table₁ old₁
-  going-start {table} {old} {table₁} {old₁} lt lo n r =
+  going-start {table} {old} {table₁} {old₁} lt lo r =
       let k : length (take m ks) ≡ m - 0 = length-take-le m ks (omega (arith, coarse-inside, w .in-kept)) ∙ omega arith in
       let u : length (upTo m) ≡ m - 0 = length-upto m ∙ omega arith in
       let c = w .coarse in
@@ -89,7 +89,7 @@ module _ {m : ℕ} {ss kids ks : List ℕ} (w : Keeps m ss kids ks) where
       ∙ part-of-written old 0 (upTo m) (omega arith) (m - 0) u in
       record {
         low = omega arith;
-        some = omega arith;
+        some = w .some;
         within = omega arith;
         in-table = ap length (r .statuses) ∙ length-written table 0 (take m ks) (omega arith) ∙ lt;
         in-old = ap length (r .olds) ∙ length-written old 0 (upTo m) (omega arith) ∙ lo;
@@ -261,19 +261,3 @@ module _ {m : ℕ} {ss kids ks : List ℕ} (w : Keeps m ss kids ks) where
             rest = rw (pt, po, q) (rest-above ∙ ap (λ (l : List ℕ). l ++ flatten above)
                 (sym (ap (take last) (d .statuses) ∙ take-front table last born (omega (arith, g .within, g .in-table)))));
           }
-
--- no coarse cells
-pub result-none : (m : ℕ) (ss ks table : List ℕ) → m ≡ 0 → TableWritten m ss ks table 0 0 0
-unfolding writeBy flatMap flatten upTo
-result-none m ss ks table e =
-    let n : writtenLevels m ss ks ≡ [] = rw e in
-    record {
-      one = inl refl;
-      high = λ z. absurd (omega arith);
-      many = λ z. absurd (omega arith);
-      low = λ z. rw n (omega arith);
-      counted = λ z. rw n;
-      height = λ z. rw n;
-      table-is = λ z. rw n;
-      few = omega arith;
-    }

@@ -12,6 +12,7 @@ use Rattle.lineage.specs.Firsts.{Firsts}
 
 -- Rules 1.1, 3.2, 3.4, 4.1.
 pub record Keeps (m : ℕ) (ss kids ks : List ℕ) : Type 0 where
+  pub some : 0 < m
   pub coarse : m ≤ 256
   pub few : length ss ≤ 4096
   pub fit : allb (λ s. leb s 64) ss ≡ true

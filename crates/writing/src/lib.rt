@@ -321,13 +321,6 @@ pub fn write_table(
     requires { ⌜ Keeps coarse (now status) (now kids) (now kept) ⌝ }
     ensures { λ r. ⌜ TableWritten coarse (was status) (was kept) (is table) (r .refusal) (r .cells) (r .levels) ⌝ }
 {
-    if coarse == 0 {
-        return NewTable {
-            refusal: 0,
-            cells: 0,
-            levels: 0,
-        };
-    }
     write_coarse(kept, coarse, table, old);
     let mut first = 0;
     let mut last = coarse;

@@ -2,7 +2,7 @@
 -- Assumes nothing.
 use Prim.Native.Nat.{_-_}
 use native.Mathlib.Omega.{arith}
-use Rattle.writing.proofs.Turn.{WriteGoing, coarse-inside, going-start, level-room, result-now, going-next, result-none}
+use Rattle.writing.proofs.Turn.{WriteGoing, coarse-inside, going-start, level-room, result-now, going-next}
 use Rattle.writing.proofs.write_table.Statement.{statement}
 use Rattle.writing.proofs.write_table.Tie as tie
 
@@ -13,19 +13,15 @@ Inv-loop status kids kept coarse table₀ old₀ first₀ last₀ level₀ table
 abbrev μ-loop : tie.MeasureT-loop
 μ-loop status kids kept coarse table₀ old₀ first₀ last₀ level₀ table old first last level = 11 - level
 
-returns : tie.Need-returns Inv-loop μ-loop
-returns c = result-none (c .before .before .before .before .args .coarse) (c .before .before .before .before .args .status .now) (c .before
-    .before .before .before .args .kept .now) _ (c .if1 .taken)
-
 write-coarse-requires : tie.Need-write-coarse-requires Inv-loop μ-loop
 write-coarse-requires c κs =
-    let p = c .before .before .before .before .before .before .pre in
+    let p = c .before .before .before .before .before .pre in
     let i = coarse-inside p in
     (omega (arith, p .coarse), omega (arith, i, p .in-kept), omega (arith, p .coarse), omega (arith, p .coarse))
 
 loop-holds : tie.Need-loop-holds Inv-loop μ-loop
-loop-holds c = going-start (c .before .before .before .before .before .before .before .pre) (c .before .before .write-coarse-arg .given .0
-    .1) (c .before .write-coarse-arg2 .given .0 .1) (c .before .before .before .if1 .left) (c .write-coarse .ensures)
+loop-holds c = going-start (c .before .before .before .before .before .before .pre) (c .before .before .write-coarse-arg .given .0
+    .1) (c .before .write-coarse-arg2 .given .0 .1) (c .write-coarse .ensures)
 
 level-size-requires : tie.Need-level-size-requires Inv-loop μ-loop
 level-size-requires c κs = let g = c .before .loop .inv in (omega (arith, g .some), g .within, g .small)
@@ -33,23 +29,23 @@ level-size-requires c κs = let g = c .before .loop .inv in (omega (arith, g .so
 ending-requires : tie.Need-ending-requires Inv-loop μ-loop
 ending-requires c κs = c .before .before .loop .inv .within
 
-add-t20 : tie.Need-add-t20 Inv-loop μ-loop
-add-t20 c = omega (arith, c .before .before .before .before .loop .inv .low)
+add-t19 : tie.Need-add-t19 Inv-loop μ-loop
+add-t19 c = omega (arith, c .before .before .before .before .loop .inv .low)
 
-returns-2 : tie.Need-returns-2 Inv-loop μ-loop
-returns-2 c = result-now (c .before .before .before .before .before .before .before .before .before .before .before .before .pre) (c
-    .before .before .before .before .loop .inv) (c .before .before .level-size .ensures) (c .before .ending .ensures) (c .if2 .taken)
+returns : tie.Need-returns Inv-loop μ-loop
+returns c = result-now (c .before .before .before .before .before .before .before .before .before .before .before .pre) (c .before .before
+    .before .before .loop .inv) (c .before .before .level-size .ensures) (c .before .ending .ensures) (c .if1 .taken)
 
 write-level-requires : tie.Need-write-level-requires Inv-loop μ-loop
 write-level-requires c κs = (
-  c .before .before .before .before .before .before .before .before .before .before .before .before .before .before .pre,
-  level-room (c .before .before .before .before .before .before .before .before .before .before .before .before .before .before .pre) (c
-      .before .before .before .before .before .before .loop .inv) (c .before .before .before .before .level-size .result) (c .before
-      .before .before .before .level-size .ensures) (c .before .before .before .ending .ensures .fit (c .before .before .if2 .left)),
+  c .before .before .before .before .before .before .before .before .before .before .before .before .before .pre,
+  level-room (c .before .before .before .before .before .before .before .before .before .before .before .before .before .pre) (c .before
+      .before .before .before .before .before .loop .inv) (c .before .before .before .before .level-size .result) (c .before .before
+      .before .before .level-size .ensures) (c .before .before .before .ending .ensures .fit (c .before .before .if1 .left)),
 )
 
 add-last : tie.Need-add-last Inv-loop μ-loop
-add-last c = omega (arith, c .before .before .before .before .ending .ensures .fit (c .before .before .before .if2 .left))
+add-last c = omega (arith, c .before .before .before .before .ending .ensures .fit (c .before .before .before .if1 .left))
 
 add-level : tie.Need-add-level Inv-loop μ-loop
 add-level c = omega (arith, c .before .before .before .before .before .before .before .loop .inv .low)
@@ -59,8 +55,8 @@ loop-less c = omega (arith, c .before .before .before .before .before .before .b
 
 loop-again : tie.Need-loop-again Inv-loop μ-loop
 loop-again c = going-next (c .before .before .before .before .before .before .before .before .before .before .before .before .before
-    .before .before .pre) (c .before .before .before .before .before .before .before .loop .inv) (c .before .before .before .before .before
-    .level-size .ensures) (c .before .before .before .before .ending .ensures) (c .before .before .before .if2 .left) (c .write-level
+    .before .pre) (c .before .before .before .before .before .before .before .loop .inv) (c .before .before .before .before .before
+    .level-size .ensures) (c .before .before .before .before .ending .ensures) (c .before .before .before .if1 .left) (c .write-level
     .ensures)
 
 pub write-table-spec : {M : Type 1} → statement M
@@ -69,13 +65,12 @@ write-table-spec =
     (tie.spec
     Inv-loop
     μ-loop
-    returns
     write-coarse-requires
     loop-holds
     level-size-requires
     ending-requires
-    add-t20
-    returns-2
+    add-t19
+    returns
     write-level-requires
     add-last
     add-level
