@@ -1,4 +1,2 @@
-pub mod Rooms
-pub mod Scan
-pub mod TopLevel
-pub mod Work
+mod Small
+mod Work

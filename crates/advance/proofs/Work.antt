@@ -3,55 +3,41 @@
 use mathlib.Core.Path.{_≡_, refl, sym, _∙_, ap}
 use mathlib.Core.Logic.{_⊎_, ⊎-elim}
 use mathlib.Core.Bool.{Bool, true, false, not}
-use mathlib.Core.List.{List, _++_}
+use mathlib.Core.List.{List, _++_, flatten}
 use Prim.Native.Nat.{ℕ, suc, _+_, _*_, _/_, _≤_, _<_}
 use native.Mathlib.Omega.{arith}
 use lib.Dec.{leb}
-use lib.ListN.{length, getD, take, List·getD-append}
+use lib.ListN.{length, take, drop}
 use lib.Seq.{take-at}
 use borrow.Author.Tests.{le-leb, lt-leb}
+use Rattle.base.specs.Bools.{is-true}
+use Rattle.base.specs.Each.{filter-few}
 use Rattle.base.specs.Fours.{fours, length-fours}
+use Rattle.base.specs.Lists.{filterb}
 use Rattle.base.specs.Refuse.{refuse, answerOf, answer-none}
 use Rattle.base.specs.declared.Answer.the-variants.{Accepted, Refused}
+use Rattle.mesh.specs.Cells.{redb}
 use Rattle.mesh.specs.Step.{stepTable}
-use Rattle.lattice.specs.Levels as lattice
-use Rattle.ancestors.specs.Table.{table-level}
-use Rattle.lineage.specs.Olds.{flagTable, stepBy}
-use Rattle.lineage.specs.Step.{step-by}
-use Rattle.lineage.specs.Deep.{deep}
-use Rattle.mesh.specs.Cells.{noCell}
-use Rattle.soundness.specs.Steady.{step-sound}
-use Rattle.tables.specs.Sound.{LaidSound, tableCells, examinedCorners}
-use Rattle.reds.specs.Marked.{Marked}
-use Rattle.lineage.specs.Firsts.{firstChildren, firsts-taken, first-at, length-firsts}
-use Rattle.remaking.specs.Levels.{Kids}
-use Rattle.remaking.specs.RenewRoom.{RenewRoom}
-use Rattle.remaking.specs.Result.{Result, renewed}
+use Rattle.mesh.specs.Table.{soundb}
 use Rattle.mesh.specs.Answers.{newTable, limitsAnswer}
 use Rattle.mesh.specs.Laws.{sound-count}
-use Rattle.advance.specs.Deep.{deepFrom, Decided}
-use Rattle.advance.specs.Advanced.{Held, Advanced}
-use Rattle.advance.proofs.TopLevel.{flags-long, deep-scan}
-
--- tables that are as long as they were have room
-pub room-same : {most : ℕ} {rows ps qs table xs ys links links′ old rows₁ ps₁ qs₁ xs₁ ys₁ links₁ : List ℕ}
-    → RenewRoom most rows ps qs table xs ys links links′ old → length rows₁ ≡ length rows → length ps₁ ≡ length ps
-    → length qs₁ ≡ length qs → length xs₁ ≡ length xs → length ys₁ ≡ length ys → length links₁ ≡ length links
-    → RenewRoom most rows₁ ps₁ qs₁ table xs₁ ys₁ links₁ links′ old
-room-same r a b c d e f =
-    record {
-      least = r .least;
-      few = r .few;
-      in-rows = omega (arith, r .in-rows);
-      in-ps = omega (arith, r .in-ps);
-      in-qs = omega (arith, r .in-qs);
-      in-table = r .in-table;
-      in-xs = omega (arith, r .in-xs);
-      in-ys = omega (arith, r .in-ys);
-      in-links = omega (arith, r .in-links);
-      in-links′ = r .in-links′;
-      in-old = r .in-old;
-    }
+use Rattle.lattice.specs.Levels as lattice
+use Rattle.lattice.specs.Facts.{sound-regular}
+use Rattle.lineage.specs.Kept.{keptTable}
+use Rattle.lineage.specs.KeptAt.{kept-length}
+use Rattle.lineage.specs.Step.{step-by}
+use Rattle.lineage.specs.Deep.{deep}
+use Rattle.lineage.specs.Firsts.{Firsts, firstChildren, firsts-taken, length-firsts}
+use Rattle.soundness.specs.Sound.{Sound, sound-parts}
+use Rattle.soundness.specs.Steady.{step-sound}
+use Rattle.succession.specs.Write.{write-step}
+use Rattle.succession.specs.Count.{reds-counted}
+use Rattle.writing.specs.Keeps.{Keeps}
+use Rattle.writing.specs.Result.{TableWritten, writtenLevels}
+use Rattle.keeping.specs.Marked.{Marked, KeptOrFull}
+use Rattle.keeping.specs.Whole.{sound-firsts}
+use Rattle.advance.specs.Advanced.{Held, Decided, Advanced, held-statuses}
+use Rattle.advance.proofs.Small.{kept-small}
 
 -- the limits
 module _ (n : ℕ) (qs : List (List ℕ)) (ss ms : List ℕ) where
@@ -67,6 +53,18 @@ module _ (n : ℕ) (qs : List (List ℕ)) (ss ms : List ℕ) where
   unfolding limitsAnswer refuse
   limits-many a b = rw (a, lt-leb (length (newTable n qs ss ms)) 4096 b)
 
+-- a refusal
+refused : (n : ℕ) (mesh ss ms table : List ℕ) (k c : ℕ) → (k ≡ 0 → ⊥) → limitsAnswer n (fours mesh) ss ms ≡ answerOf k
+    → Advanced n mesh ss ms table k c
+refused n mesh ss ms table k c z a =
+    record {
+      answer = a;
+      counted = λ y. absurd (z y);
+      few = λ y. absurd (z y);
+      table-is = λ y. absurd (z y);
+      sound = λ y. absurd (z y);
+    }
+
 module _ (n : ℕ) (mesh rows ss : List ℕ) (h : Held n mesh rows ss) where
   abbrev qs : List (List ℕ)
   qs = fours mesh
@@ -79,107 +77,115 @@ module _ (n : ℕ) (mesh rows ss : List ℕ) (h : Held n mesh rows ss) where
     firsts : take (suc (length ss)) ks ≡ firstChildren (length qs) ss
     firsts = firsts-taken (length qs) ss ks rest (rw (length-fours mesh) e)
 
-    pub held-kids : Kids (length qs) ss ks
-    held-kids =
-        record {
-          long = omega (arith, length-firsts (length qs) ss ks firsts);
-          each = λ c l. first-at (length qs) ss ks firsts c (omega arith);
-        }
+    pub held-firsts : Firsts (length qs) ss ks
+    held-firsts = sound-firsts n qs ss ks (is-true (soundb n qs ss) (h .sound)) firsts
 
-    pub held-marked : (ms red : List ℕ) → length ms ≡ length ss → length ss ≤ length red → Marked n mesh rows ss ms ks red
-    held-marked ms red m r =
+    pub held-long : length ss < length ks
+    held-long = length-firsts (length qs) ss ks firsts
+
+    pub held-marked : (ms kept : List ℕ) → length ms ≡ length ss → length ss ≤ length kept → Marked n mesh rows ss ms ks kept
+    held-marked ms kept m r =
         record { accepted = h .accepted; sound = h .sound; table = h .table; marks = m; firsts = firsts; room = r }
 
-  -- the flags
-  module _ (ms red rest : List ℕ) (e : red ≡ flagTable n qs ss ms ++ rest) where
-    counted : length ss ≡ length (tableCells n qs ss)
-    counted = sound-count n qs ss (h .sound)
+  module _ (ms : List ℕ) where
+    abbrev keeps : List ℕ
+    keeps = keptTable n qs ss ms
 
-    long-flags : length (flagTable n qs ss ms) ≡ length (tableCells n qs ss)
-    long-flags = flags-long n qs ss ms (lattice.sound-levels n qs ss (h .sound) .1)
+    whole : Sound n qs ss
+    whole = sound-parts n qs ss (h .sound)
 
-    same-table : renewed n qs ss (take (length ss) red) ≡ stepTable n qs ss ms
-    unfolding stepBy
-    same-table =
-        ap (renewed n qs ss) (ap (take (length ss)) e ∙ take-at (flagTable n qs ss ms) rest (length ss) (long-flags ∙ sym counted))
+    long : length keeps ≡ length ss
+    long = kept-length n qs ss ms (h .sound) ∙ sym (sound-count n qs ss (h .sound))
+
+    -- the new table is that which the kept statuses are written to
+    written-is : writtenLevels (length qs) ss keeps ≡ stepTable n qs ss ms
+    written-is =
+        write-step n qs ss ms whole (sound-regular n qs ss (lattice.fours-four mesh) (h .accepted .cells) (h .sound))
         ∙ sym (step-by n qs ss ms (h .sound))
 
-    -- the scan of level 10
-    held-deep : leb (length (stepTable n qs ss ms)) 11 ≡ not (deepFrom rows red 0 (length ss))
-    held-deep =
-        deep n qs ss ms (h .sound)
-        ∙ ap not (sym (ap (deepFrom rows red 0) counted ∙ deep-scan n qs ss ms (lattice.sound-levels n qs ss (h .sound) .1) rows red
-        (λ i l. table-level n qs ss (lattice.fours-four mesh) (examinedCorners n qs ss) rows (h .table) i l noCell)
-        (λ i l. ap (λ (l : List ℕ). getD l i 0) e ∙ List·getD-append (flagTable n qs ss ms) rest 0 i (omega (arith, long-flags)))))
+    reds-many : 8 * length (filterb redb keeps) ≤ length (newTable n qs ss ms)
+    reds-many = omega (arith, reds-counted n qs ss ms whole, ap (λ (l : List (List ℕ)). length (flatten l)) (step-by n qs ss ms (h .sound)))
 
-    -- what the building leaves
-    module _ (rows′ ps qs′ table : List ℕ) (refusal cells levels mids : ℕ)
-        (most : ℕ) (r : Result most n qs ss (take (length ss) red) rows′ ps qs′ table refusal cells levels mids) where
-      accepted : refusal ≡ 0 → Advanced most n mesh ss ms rows′ ps qs′ table refusal cells levels mids
-      accepted z =
-          let t = same-table in
-          let c : length (newTable n qs ss ms) ≡ cells = rw t at (r .counted z) in
-          let s : LaidSound n qs (newTable n qs ss ms) rows′ ps qs′ cells levels mids = rw t at (r .sound z) in
-          let low : length (stepTable n qs ss ms) ≤ 11 = rw t at (r .low z) in
-          let few : length (newTable n qs ss ms) ≤ 4096 = omega (arith, s .few) in
-          record {
-            answer = λ y. limits-pass n qs ss ms low few ∙ sym (answer-none refusal z);
-            counted = λ y. c;
-            few = λ y. s .few;
-            table-is = λ y. rw t at (r .table-is z);
-            held = λ y. record {
-              accepted = h .accepted;
-              sound = step-sound n qs ss ms (lattice.fours-four mesh) (h .accepted .cells) (h .sound) low few;
-              table = rw (s .counted) (s .table);
-            };
-            laid = λ y. s;
-          }
+    -- what is kept of a table
+    module _ (kept kept′ xs : List ℕ) (ok high : Bool) (r : KeptOrFull n qs ss ms kept kept′ xs ok high) where
+      held-deep : leb (length (stepTable n qs ss ms)) 11 ≡ not high
+      held-deep = deep n qs ss ms (h .sound) ∙ ap not (sym (r .top))
 
-      -- a refusal
-      refused : (k : ℕ) → (k ≡ 0 → ⊥) → ((k ≡ 9 → most ≡ 4096) → limitsAnswer n qs ss ms ≡ answerOf k) → (c l m : ℕ)
-          → Advanced most n mesh ss ms rows′ ps qs′ table k c l m
-      refused k z a c l m =
-          record {
-            answer = a;
-            counted = λ y. absurd (z y);
-            few = λ y. absurd (z y);
-            table-is = λ y. absurd (z y);
-            held = λ y. absurd (z y);
-            laid = λ y. absurd (z y);
-          }
-
-      high : refusal ≡ 8 → Advanced most n mesh ss ms rows′ ps qs′ table refusal cells levels mids
+      -- 8 where a cell of level 10 will be red, 9 where more than 4,096 cells would arise
+      over : high ≡ true → (table : List ℕ) (k c : ℕ) → k ≡ 8 → Advanced n mesh ss ms table k c
       unfolding answerOf
-      high e =
-          let t = same-table in
-          let l : length (stepTable n qs ss ms) ≡ 12 = rw t at (r .high e) in
-          refused refusal (λ z. omega arith) (λ y. limits-high n qs ss ms (lt-leb (length (stepTable n qs ss ms)) 11 (omega arith)) ∙ rw e)
-          cells
-          levels mids
+      over d table k c e = refused n mesh ss ms table k c (λ z. omega arith) (limits-high n qs ss ms (held-deep ∙ ap not d) ∙ rw e)
 
-      over : deepFrom rows red 0 (length ss) ≡ true → (k : ℕ) → k ≡ 8 → Advanced most n mesh ss ms rows′ ps qs′ table k cells levels mids
+      many : high ≡ false → 4096 < length (newTable n qs ss ms) → (table : List ℕ) (k c : ℕ) → k ≡ 9 → Advanced n mesh ss ms table k c
       unfolding answerOf
-      over d k e = refused k (λ z. omega arith) (λ y. limits-high n qs ss ms (held-deep ∙ ap not d) ∙ rw e) cells levels mids
+      many d l table k c e =
+          refused n mesh ss ms table k c (λ z. omega arith) (limits-many n qs ss ms (held-deep ∙ ap not d) l ∙ rw e)
 
-      many : refusal ≡ 9 → deepFrom rows red 0 (length ss) ≡ false → Advanced most n mesh ss ms rows′ ps qs′ table refusal cells levels mids
-      unfolding answerOf
-      many e d =
-          let t = same-table in
-          let l : most < length (newTable n qs ss ms) = rw t at (r .many e) in
-          refused refusal (λ z. omega arith)
-          (λ y. limits-many n qs ss ms (held-deep ∙ ap not d) (omega (arith, l, y e)) ∙ rw e) cells levels mids
-
-      pub advanced : (d : Bool) → d ≡ deepFrom rows red 0 (length ss) → (k : ℕ) → Decided d refusal k
-          → Advanced most n mesh ss ms rows′ ps qs′ table k cells levels mids
-      advanced d s k g =
-          ⊎-elim (λ (e : refusal ≡ 0). same (λ z. absurd (omega arith)) (accepted e))
-          (⊎-elim (λ (e : refusal ≡ 8). same (λ z. absurd (omega arith)) (high e))
-          (λ (e : refusal ≡ 9). go d refl e)) (r .one)
+      too-many : 4096 < length (newTable n qs ss ms) → (table : List ℕ) (k c : ℕ) → Decided high 9 k → Advanced n mesh ss ms table k c
+      too-many l table k c g = go high refl
         where
-          same : (refusal ≡ 9 → d ≡ false) → Advanced most n mesh ss ms rows′ ps qs′ table refusal cells levels mids
-              → Advanced most n mesh ss ms rows′ ps qs′ table k cells levels mids
-          same h a = let q : k ≡ refusal = g .kept h in rw q a
+          go : (b : Bool) → high ≡ b → Advanced n mesh ss ms table k c
+          go true t = over t table k c (g .over refl t)
+          go false t = many t l table k c (g .kept (λ x. t))
 
-          go : (b : Bool) → d ≡ b → refusal ≡ 9 → Advanced most n mesh ss ms rows′ ps qs′ table k cells levels mids
-          go true t e = over (sym s ∙ t) k (g .over e t)
-          go false t e = same (λ x. t) (many e (sym s ∙ t))
+      -- no room
+      pub advanced-full : ok ≡ false → (3072 ≤ length xs) ⊎ (6 * length ss ≤ length xs) → (table : List ℕ) (k c : ℕ) → Decided high 9 k
+          → Advanced n mesh ss ms table k c
+      advanced-full f room table k c g =
+          ⊎-elim (λ (l : 3072 ≤ length xs). too-many (omega (arith, r .full f, reds-many)) table k c g)
+          (λ (l : 6 * length ss ≤ length xs). absurd (omega (arith, r .full f, filter-few redb keeps, long))) room
+
+      module _ (t : ok ≡ true) where
+        kept-is : take (length ss) kept′ ≡ keeps
+        kept-is = ap (take (length ss)) (r .table t) ∙ take-at keeps (drop (length ss) kept) (length ss) long
+
+        pub held-keeps : (ks : List ℕ) → Firsts (length qs) ss ks → length ss < length ks
+            → Keeps (length mesh / 4) ss ks (take (length ss) kept′)
+        held-keeps ks f l =
+            let s = held-statuses n mesh rows ss h in
+            rw (← length-fours mesh, kept-is)
+            (record {
+              some = omega (arith, length-fours mesh, h .accepted .some, h .accepted .whole);
+              coarse = omega (arith, length-fours mesh, held-coarse);
+              few = s .few;
+              fit = s .fit;
+              firsts = f;
+              in-kids = l;
+              in-kept = omega (arith, long);
+              kept = λ c i. kept-small n qs ss ms c;
+            })
+
+        -- what the writing leaves
+        module _ (table : List ℕ) (refusal cells : ℕ) (w : TableWritten (length mesh / 4) ss (take (length ss) kept′) table refusal cells)
+          where
+            written : TableWritten (length qs) ss keeps table refusal cells
+            written = rw (kept-is, ← length-fours mesh) at w
+
+            done : refusal ≡ 0 → Advanced n mesh ss ms table refusal cells
+            done z =
+                let low : length (stepTable n qs ss ms) ≤ 11 = rw written-is at (written .low z) in
+                let c : length (newTable n qs ss ms) ≡ cells = rw written-is at (written .counted z) in
+                let few : length (newTable n qs ss ms) ≤ 4096 = omega (arith, written .few) in
+                record {
+                  answer = limits-pass n qs ss ms low few ∙ sym (answer-none refusal z);
+                  counted = λ y. c;
+                  few = λ y. written .few;
+                  table-is = λ y. rw written-is at (written .table-is z);
+                  sound = λ y. step-sound n qs ss ms (lattice.fours-four mesh) (h .accepted .cells) (h .sound) low few;
+                }
+
+            too-high : refusal ≡ 8 → Advanced n mesh ss ms table refusal cells
+            unfolding answerOf
+            too-high e =
+                let l : length (stepTable n qs ss ms) ≡ 12 = rw written-is at (written .high e) in
+                refused n mesh ss ms table refusal cells (λ z. omega arith)
+                (limits-high n qs ss ms (lt-leb (length (stepTable n qs ss ms)) 11 (omega arith)) ∙ rw e)
+
+            pub advanced : (k : ℕ) → Decided high refusal k → Advanced n mesh ss ms table k cells
+            advanced k g =
+                ⊎-elim (λ (e : refusal ≡ 0). same (λ z. absurd (omega arith)) (done e))
+                (⊎-elim (λ (e : refusal ≡ 8). same (λ z. absurd (omega arith)) (too-high e))
+                (λ (e : refusal ≡ 9). too-many (rw written-is at (written .many e)) table k cells (rw e at g))) (written .one)
+              where
+                same : (refusal ≡ 9 → high ≡ false) → Advanced n mesh ss ms table refusal cells → Advanced n mesh ss ms table k cells
+                same f a = let q : k ≡ refusal = g .kept f in rw q a

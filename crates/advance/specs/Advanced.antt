@@ -1,10 +1,12 @@
 -- What the work of a step asks for and leaves.
 --   Held n mesh rows ss   an accepted mesh of n corners and a sound table over it, with the rows of its cells
---   AdvanceRoom most ..   tables with room for a table ss and for `most` new cells
---   NewRoom most some ..  a table ss of at most `some` statuses, and room for what is made of it
---   Advanced ..           the answer, and where there is no refusal the new table, with its rows and the ends of its corners
+--   AdvanceRoom ..        tables with room for the work on a table ss
+--   Decided d k r         r is 8 where d holds and k is 9, else k
+--   Advanced ..           the answer, and where there is no refusal the new table
 -- Law: held-statuses (the statuses of a held table).
 use mathlib.Core.Path.{_≡_}
+use mathlib.Core.Logic.{_⊎_}
+use mathlib.Core.Bool.{Bool, true, false}
 use mathlib.Core.List.{List}
 use Prim.Native.Nat.{ℕ, _*_, _≤_, _<_}
 use lib.Dec.{T}
@@ -16,8 +18,8 @@ use Rattle.mesh.specs.Layout.{cellTable}
 use Rattle.counting.specs.Levels.{Levels}
 use Rattle.counting.specs.Sound as counting
 use Rattle.tables.specs.Checked.{Statuses}
-use Rattle.tables.specs.Sound.{Mesh, LaidSound, tableCells, examinedCorners}
-use Rattle.remaking.specs.RenewRoom.{RenewRoom}
+use Rattle.tables.specs.Sound.{Mesh, tableCells, examinedCorners}
+use Rattle.flagging.specs.Old.{SideBySide}
 use Rattle.base.specs.Refuse.{answerOf}
 use Rattle.mesh.specs.Answers.{newTable, limitsAnswer}
 
@@ -28,31 +30,25 @@ pub record Held (n : ℕ) (mesh rows ss : List ℕ) : Type 0 where
   pub table : take (8 * length (tableCells n (fours mesh) ss)) rows ≡ cellTable (examinedCorners n (fours mesh) ss)
       (tableCells n (fours mesh) ss)
 
--- Rules 1.1, 9.2, 9.3: room for the old table and for `most` new cells.
-pub record AdvanceRoom (most : ℕ) (ss rows ps qs table xs ys links links′ old kids red : List ℕ) : Type 0 where
-  pub renewing : RenewRoom most rows ps qs table xs ys links links′ old
-  pub old-few : length ss ≤ most
-  pub in-ys : length xs ≤ length ys
-  pub in-links : length xs ≤ length links
+-- Rules 1.1, 7.8: room for six edges of each cell, or of 512 cells: of more red ones there are more than 4,096 children.
+pub record AdvanceRoom (ss xs ys links kids kept : List ℕ) : Type 0 where
+  pub enough : (3072 ≤ length xs) ⊎ (6 * length ss ≤ length xs)
+  pub side : SideBySide xs ys links
   pub in-kids : length ss < length kids
-  pub in-red : length ss ≤ length red
+  pub in-kept : length ss ≤ length kept
 
--- Rules 9.2, 9.3: a table of at most `some` statuses, and room for the rows, ends and statuses of `most` new cells.
-pub record NewRoom (most some : ℕ) (ss rows ps qs table : List ℕ) : Type 0 where
-  pub old-few : length ss ≤ some
-  pub in-rows : 8 * most ≤ length rows
-  pub in-ps : most ≤ length ps
-  pub in-qs : most ≤ length qs
-  pub in-table : most ≤ length table
+-- Rule 7.8: 8 comes before 9.
+pub record Decided (d : Bool) (k r : ℕ) : Type 0 where
+  pub over : k ≡ 9 → d ≡ true → r ≡ 8
+  pub kept : (k ≡ 9 → d ≡ false) → r ≡ k
 
--- Rules 7.7, 7.8, with room for `most` new cells: the answer, and the new table with its rows and ends.
-pub record Advanced (most n : ℕ) (mesh ss ms rows ps qs table : List ℕ) (refusal cells levels mids : ℕ) : Type 0 where
-  pub answer : (refusal ≡ 9 → most ≡ 4096) → limitsAnswer n (fours mesh) ss ms ≡ answerOf refusal
+-- Rules 7.7, 7.8: the answer, and the new table.
+pub record Advanced (n : ℕ) (mesh ss ms table : List ℕ) (refusal cells : ℕ) : Type 0 where
+  pub answer : limitsAnswer n (fours mesh) ss ms ≡ answerOf refusal
   pub counted : refusal ≡ 0 → length (newTable n (fours mesh) ss ms) ≡ cells
   pub few : refusal ≡ 0 → cells ≤ 4096
   pub table-is : refusal ≡ 0 → take cells table ≡ newTable n (fours mesh) ss ms
-  pub held : refusal ≡ 0 → Held n mesh rows (newTable n (fours mesh) ss ms)
-  pub laid : refusal ≡ 0 → LaidSound n (fours mesh) (newTable n (fours mesh) ss ms) rows ps qs cells levels mids
+  pub sound : refusal ≡ 0 → T (soundb n (fours mesh) (newTable n (fours mesh) ss ms))
 
 -- a held table has few statuses, and each fits
 pub held-statuses : (n : ℕ) (mesh rows ss : List ℕ) → Held n mesh rows ss → Statuses ss

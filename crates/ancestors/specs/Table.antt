@@ -2,7 +2,7 @@
 -- Assumes nothing.
 use mathlib.Core.Path.{_≡_, refl, _∙_, ap}
 use mathlib.Core.List.{List, [], _∷_, _++_, map, flatMap}
-use Prim.Native.Nat.{ℕ, _+_, _*_, _<_, pred}
+use Prim.Native.Nat.{ℕ, _+_, _*_, _<_}
 use native.Mathlib.Omega.{arith}
 use lib.ListN.{length, getD, take, length-map, List·getD-map}
 use Rattle.mesh.specs.Cells.{Cell, noCell, Four}
@@ -10,9 +10,9 @@ use Rattle.mesh.specs.Weights.{Point}
 use Rattle.mesh.specs.Table.{levelsOf, cellsOf}
 use Rattle.mesh.specs.Layout.{Corner, rowOf, mapCell, numberIn, cellTable}
 use Rattle.base.specs.Every.{All}
-use Rattle.ancestors.specs.Climb.{levelIn, Upward, upward-to, climbFrom}
+use Rattle.ancestors.specs.Climb.{Upward, upward-to, climbFrom}
 use Rattle.ancestors.specs.Linked.{Linked, ancestorOf}
-use Rattle.ancestors.specs.Ways.{upward, level-held, climb-right}
+use Rattle.ancestors.specs.Ways.{upward, climb-right}
 use Rattle.ancestors.specs.Levels.{cells-linked, map-linked}
 use Rattle.ancestors.specs.Points.{cells-four, map-four}
 use Rattle.base.specs.Each.{default-free}
@@ -47,13 +47,6 @@ module _ (ks : List Corner) (cs : List (Cell Point)) (l : Linked cs) (four : All
       climb-right numbered (map-linked (numberIn ks) cs l) (map-four (numberIn ks) cs four) t held c (omega (arith, size))
       ∙ ap ancestorOf (List·getD-map (mapCell (numberIn ks)) cs c noCell) ∙ ap ancestorOf (default-free cs c noCell d h)
 
-  rows-level : (c : ℕ) → c < length cs → (d : Cell Point) → levelIn t c ≡ pred (length (getD cs c d .path))
-  unfolding numbered mapCell
-  rows-level c h d =
-      level-held numbered (map-linked (numberIn ks) cs l) (map-four (numberIn ks) cs four) t held c (omega (arith, size))
-      ∙ ap (λ (x : Cell ℕ). pred (length (x .path))) (List·getD-map (mapCell (numberIn ks)) cs c noCell)
-      ∙ ap (λ (x : Cell Point). pred (length (x .path))) (default-free cs c noCell d h)
-
 -- the table that a status table over cells of four corners is laid out as
 module _ (n : ℕ) (qs : List (List ℕ)) (ss : List ℕ) (four : All (λ q. length q ≡ 4) qs) (ks : List Corner) (t : List ℕ)
     (rows : take (8 * length (cellsOf (levelsOf n qs ss))) t ≡ cellTable ks (cellsOf (levelsOf n qs ss))) (c : ℕ)
@@ -63,6 +56,3 @@ module _ (n : ℕ) (qs : List (List ℕ)) (ss : List ℕ) (four : All (λ q. len
 
   pub table-climb : (d : Cell Point) → climbFrom t c c ≡ ancestorOf (getD (cellsOf (levelsOf n qs ss)) c d)
   table-climb = rows-climb ks (cellsOf (levelsOf n qs ss)) (cells-linked n qs ss) (cells-four n qs ss four) t rows c h
-
-  pub table-level : (d : Cell Point) → levelIn t c ≡ pred (length (getD (cellsOf (levelsOf n qs ss)) c d .path))
-  table-level = rows-level ks (cellsOf (levelsOf n qs ss)) (cells-linked n qs ss) (cells-four n qs ss four) t rows c h

@@ -2,11 +2,12 @@
 -- Laws: all-default (an element, or the one for none there), all-mapped and all-unmapped (elements renamed), all-map and map-more
 -- (a test, and a second renaming, of renamed elements), map-same (two renamings alike), all-filter and filter-passes (the
 -- elements that pass a test), filter-map and all-through (a filter and a test of renamed elements), allb-take (a test of the first
--- ones), allb-failing (a chosen element that fails), filter-member and member-of (a number that stands in a list).
+-- ones), allb-failing (a chosen element that fails), filter-member and member-of (a number that stands in a list), filter-few
+-- (no more pass than there are).
 use mathlib.Core.Path.{_≡_, refl, ap, ap₂}
 use mathlib.Core.Bool.{Bool, true, false, _&&_, _||_, and-false}
 use mathlib.Core.List.{List, [], _∷_, map}
-use Prim.Native.Nat.{ℕ, zero, suc, _<_}
+use Prim.Native.Nat.{ℕ, zero, suc, _≤_, _<_}
 use lib.Dec.{T, eqb}
 use lib.ListN.{getD, length, take}
 use borrow.Author.Tests.{eqb-true}
@@ -120,3 +121,13 @@ pub default-free : {A : Type 0} (l : List A) (t : ℕ) (a b : A) → t < length 
 default-free [] t a b h = absurd (omega arith)
 default-free (x ∷ l) zero a b h = refl
 default-free (x ∷ l) (suc t) a b h = default-free l t a b (omega arith)
+
+-- no more pass than there are
+pub filter-few : (f : ℕ → Bool) (l : List ℕ) → length (filterb f l) ≤ length l
+unfolding filterb
+filter-few f [] = omega arith
+filter-few f (x ∷ l) = go (f x) refl (filter-few f l)
+  where
+    go : (b : Bool) → f x ≡ b → length (filterb f l) ≤ length l → length (filterb f (x ∷ l)) ≤ suc (length l)
+    go true e i = rw (e, filterb) (omega arith)
+    go false e i = rw (e, filterb) (omega arith)

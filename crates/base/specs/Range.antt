@@ -1,11 +1,11 @@
 -- Numbers in a row.
 --   range k m     the m numbers from k on
 -- Laws: length-range, range-at (the i-th of them), range-append, range-snoc (its parts), member-range and range-member (which numbers
--- these are); all-range-miss, all-range-next, all-range-end, any-range-hit, any-range-next, any-range-end (a test of the numbers below a
--- last one: the rest decides as the whole does).
-use mathlib.Core.Path.{_≡_, refl, _∙_, ap}
+-- these are), map-range (two renamings alike); all-range-miss, all-range-next, all-range-end, any-range-hit, any-range-next,
+-- any-range-end (a test of the numbers below a last one: the rest decides as the whole does).
+use mathlib.Core.Path.{_≡_, refl, _∙_, ap, ap₂}
 use mathlib.Core.Bool.{Bool, true, false}
-use mathlib.Core.List.{List, [], _∷_, _++_}
+use mathlib.Core.List.{List, [], _∷_, _++_, map}
 use Prim.Native.Nat.{ℕ, zero, suc, _+_, _-_, _≤_, _<_}
 use native.Mathlib.Decide.{ℕ-discrete}
 use native.Mathlib.Omega.{arith}
@@ -28,6 +28,12 @@ unfolding range
 range-at k zero i d h = absurd (omega arith)
 range-at k (suc m) zero d h = omega arith
 range-at k (suc m) (suc i) d h = let z : suc k + i ≡ k + suc i = omega arith in range-at (suc k) m i d (omega arith) ∙ z
+
+pub map-range : (f g : ℕ → ℕ) (k m : ℕ) → ((i : ℕ) → k ≤ i → i < k + m → f i ≡ g i) → map f (range k m) ≡ map g (range k m)
+unfolding range
+map-range f g k zero e = refl
+map-range f g k (suc m) e =
+    ap₂ _∷_ (e k (omega arith) (omega arith)) (map-range f g (suc k) m (λ i a b. e i (omega arith) (omega arith)))
 
 pub member-range : (k m x : ℕ) → T (memberb x (range k m)) → (k ≤ x) × (x < k + m)
 unfolding range memberb

@@ -6,10 +6,10 @@ use mathlib.Core.List.{List, [], _∷_, map}
 use Prim.Native.Nat.{ℕ, zero, suc, _+_, _*_, _-_, _/_, _≤_, _<_}
 use native.Mathlib.Omega.{arith}
 use lib.Dec.{eqb}
-use lib.ListN.{length, getD, drop}
+use lib.ListN.{length, getD}
 use lib.Seq.{drop-cons}
 use borrow.Author.Tests.{eq-eqb, ne-eqb}
-use Rattle.base.specs.Bools.{one-if, one-most}
+use Rattle.base.specs.Bools.{one-if}
 use Rattle.base.specs.Places.{hasb}
 use Rattle.mesh.specs.Cells.{Cell, redb, edge, edges, bitsOf, heldb, pattern, statusOf, closedFrom}
 use Rattle.rows.specs.Numbered.{cellAt, cellsAt, part}
@@ -18,50 +18,6 @@ use Rattle.edges.specs.Pairs.{Pair, sorted, isb, addPairs, pairsOf, joins-pair,
 use Rattle.edges.specs.Table.{listed}
 use Rattle.closure.specs.Listed.{listedPattern, listedStatus, listedClosed}
 use Rattle.rows.specs.Laws.{cells-cons}
-
--- Rule 6.2: the six tests of a cell.
-abbrev pub tests : List Pair → Cell ℕ → List Bool
-tests es c = map (λ e. hasb isb es (sorted e)) (edges 0 c)
-
-pub bits-more : (es : List Pair) (c : Cell ℕ) (e : ℕ) → e < 6
-    → bitsOf (drop e (tests es c)) ≡ one-if (hasb isb es (sorted (edge 0 c e))) + 2 * bitsOf (drop (suc e) (tests es c))
-unfolding bitsOf edges
-bits-more es c zero h = refl
-bits-more es c (suc zero) h = refl
-bits-more es c (suc (suc zero)) h = refl
-bits-more es c (suc (suc (suc zero))) h = refl
-bits-more es c (suc (suc (suc (suc zero)))) h = refl
-bits-more es c (suc (suc (suc (suc (suc zero))))) h = refl
-bits-more es c (suc (suc (suc (suc (suc (suc e)))))) h = absurd (omega arith)
-
-no-bits : (es : List Pair) (c : Cell ℕ) → bitsOf (drop 6 (tests es c)) ≡ 0
-unfolding bitsOf edges
-no-bits es c = refl
-
--- what is left of the bits is small
-bits-5 : (es : List Pair) (c : Cell ℕ) → bitsOf (drop 5 (tests es c)) ≤ 1
-bits-5 es c = omega (arith, bits-more es c 5 (omega arith), no-bits es c, one-most (hasb isb es (sorted (edge 0 c 5))))
-
-bits-4 : (es : List Pair) (c : Cell ℕ) → bitsOf (drop 4 (tests es c)) ≤ 3
-bits-4 es c = omega (arith, bits-more es c 4 (omega arith), bits-5 es c, one-most (hasb isb es (sorted (edge 0 c 4))))
-
-bits-3 : (es : List Pair) (c : Cell ℕ) → bitsOf (drop 3 (tests es c)) ≤ 7
-bits-3 es c = omega (arith, bits-more es c 3 (omega arith), bits-4 es c, one-most (hasb isb es (sorted (edge 0 c 3))))
-
-bits-2 : (es : List Pair) (c : Cell ℕ) → bitsOf (drop 2 (tests es c)) ≤ 15
-bits-2 es c = omega (arith, bits-more es c 2 (omega arith), bits-3 es c, one-most (hasb isb es (sorted (edge 0 c 2))))
-
-bits-1 : (es : List Pair) (c : Cell ℕ) → bitsOf (drop 1 (tests es c)) ≤ 31
-bits-1 es c = omega (arith, bits-more es c 1 (omega arith), bits-2 es c, one-most (hasb isb es (sorted (edge 0 c 1))))
-
-pub tail-small : (es : List Pair) (c : Cell ℕ) (e : ℕ) → e < 6 → bitsOf (drop (suc e) (tests es c)) ≤ 31
-tail-small es c zero h = bits-1 es c
-tail-small es c (suc zero) h = omega (arith, bits-2 es c)
-tail-small es c (suc (suc zero)) h = omega (arith, bits-3 es c)
-tail-small es c (suc (suc (suc zero))) h = omega (arith, bits-4 es c)
-tail-small es c (suc (suc (suc (suc zero)))) h = omega (arith, bits-5 es c)
-tail-small es c (suc (suc (suc (suc (suc zero))))) h = omega (arith, no-bits es c)
-tail-small es c (suc (suc (suc (suc (suc (suc e)))))) h = absurd (omega arith)
 
 part-cons : (l : List ℕ) (k m : ℕ) → k < length l → part l k (suc m) ≡ getD l k 0 ∷ part l (suc k) m
 part-cons l k m h = rw (drop-cons l k 0 h)
@@ -117,7 +73,7 @@ module _ (es reds : List Pair) (m : Lists es reds) where
   unfolding listedPattern pattern
   pattern-listed c = ap (λ (f : Pair → Bool). bitsOf (map f (edges 0 c))) (fun-ext held-listed)
 
-  pub status-listed : (r : Bool) (c : Cell ℕ) → listedStatus es r c ≡ statusOf 0 eqb reds r c
+  status-listed : (r : Bool) (c : Cell ℕ) → listedStatus es r c ≡ statusOf 0 eqb reds r c
   unfolding listedStatus statusOf
   status-listed r c = ap (λ (p : ℕ). elim (c .regular) [ true ↦ elim r [ true ↦ 64 | false ↦ p ] | false ↦ 0 ]) (pattern-listed c)
 

@@ -7,11 +7,12 @@ use native.Mathlib.Nat.{add-zero, add-suc}
 use native.Mathlib.Omega.{arith}
 use lib.Dec.{T, eqb, leb, eqb→eq, leb→le}
 use lib.ListN.{length, getD, take, drop, length-append, length-map, List·getD-map}
-use lib.Seq.{take-suc, take-append-seam, drop-append-seam}
+use lib.Seq.{take-suc, take-append-seam, drop-append-seam, ext-getD}
 use Rattle.base.specs.Lists.{belowb, belowb-at, sameb, sameb-eq, allb}
 use Rattle.base.specs.Bools.{and-left, and-right}
+use Rattle.base.specs.Range.{range, length-range, range-at}
 use Rattle.cutting.specs.Rule.{family}
-use Rattle.cutting.specs.Answer.{digitsBelow, digitTable}
+use Rattle.cutting.specs.Answer.{digitsBelow, digitTable, startTable}
 use Rattle.cutting.specs.Rows.{familyRows, row, family-row, family-few, family-fours}
 
 -- the rows one after the other
@@ -73,8 +74,8 @@ digits-right l e at =
     ∙ sym (List·getD-map (λ b. b % 16) digits at 0)
     ∙ ap (λ (m : List ℕ). getD m at 0) (sameb-eq (map (λ b. b % 16) digits) (flat familyRows) digits-test ∙ sym all-digits)
 
-pub starts-right : (p : ℕ) → p < 65 → getD starts p 0 ≡ length (digitsBelow p)
-starts-right p h =
+starts-read : (p : ℕ) → p < 65 → getD starts p 0 ≡ length (digitsBelow p)
+starts-read p h =
     eqb→eq (getD starts p 0) (length (flat (take p familyRows)))
     (belowb-at (λ p. eqb (getD starts p 0) (length (flat (take p familyRows)))) 65 starts-test p h)
     ∙ ap length (sym (below-flat p (omega arith)))
@@ -83,8 +84,30 @@ small-test : T (belowb (λ p. leb (getD starts p 0) 1172) 65)
 unfolding belowb starts familyRows flatten
 small-test = tt
 
-pub starts-small : (p : ℕ) → p < 65 → getD starts p 0 ≤ 1172
-starts-small p h = leb→le (getD starts p 0) 1172 (belowb-at (λ p. leb (getD starts p 0) 1172) 65 small-test p h)
+pub starts-length : (l : List ℕ) → l ≡ startTable → length l ≡ 65
+unfolding startTable
+starts-length l e = ap length e ∙ length-map (range 0 65) (λ p. length (digitsBelow p)) ∙ length-range 0 65
+
+pub starts-right : (l : List ℕ) → l ≡ startTable → (p : ℕ) → p < 65 → getD l p 0 ≡ length (digitsBelow p)
+unfolding startTable digitsBelow
+starts-right l e p h =
+    let z : 0 + p ≡ p = omega arith in
+    ap (λ (m : List ℕ). getD m p 0) e
+    ∙ List·getD-map (λ p. length (digitsBelow p)) (range 0 65) p 0
+    ∙ ap (λ (q : ℕ). length (digitsBelow q)) (range-at 0 65 p 0 h ∙ z)
+
+starts-long : length starts ≡ 65
+unfolding starts familyRows flatten
+starts-long = refl
+
+pub starts-table : starts ≡ startTable
+starts-table =
+    ext-getD 0 starts startTable (starts-long ∙ sym (starts-length startTable refl)) (λ p h.
+    let g : p < 65 = omega (arith, h, starts-long) in starts-read p g ∙ sym (starts-right startTable refl p g))
+
+pub starts-small : (l : List ℕ) → l ≡ startTable → (p : ℕ) → p < 65 → getD l p 0 ≤ 1172
+starts-small l e p h =
+    rw (e ∙ sym starts-table) (leb→le (getD starts p 0) 1172 (belowb-at (λ p. leb (getD starts p 0) 1172) 65 small-test p h))
 
 -- how many children each family has, in ASCII digits
 unfoldable pub counts : List ℕ

@@ -4,7 +4,7 @@ ghost use mathlib.Core.Path.{_≡_};
 ghost use mathlib.Core.List.{_++_};
 ghost use Prim.Native.Nat.{_+_, _-_, _≤_, _<_};
 ghost use lib.ListN.{length, getD, take, drop, replicate};
-ghost use Rattle.cutting.specs.Answer.{digitsBelow, digitTable, cutOf};
+ghost use Rattle.cutting.specs.Answer.{digitsBelow, digitTable, startTable, cutOf};
 
 // The families of the patterns 0 to 63, a line each, four digits a child.
 const DIGITS: [u8; 1172] = *b"\
@@ -160,11 +160,18 @@ pub struct Family {
     pub digits: [u8; 32],
 }
 
-// The table that `cut_from` reads. To read a constant is to copy all of it: who cuts many cells makes the table once.
+// The tables that `cut_from` reads. To read a constant is to copy all of it: who cuts many cells makes the tables once.
 pub fn digit_table() -> [u8; 1172]
     ensures { λ r. ⌜ r ≡ digitTable ⌝ }
 {
     DIGITS
+}
+
+// Where each family starts in the table of digits, and the end of the last.
+pub fn start_table() -> [u16; 65]
+    ensures { λ r. ⌜ r ≡ startTable ⌝ }
+{
+    STARTS
 }
 
 // The digit at a place of the table: an ASCII digit is 48 and its value.
@@ -176,11 +183,13 @@ fn digit(digits: &[u8], at: usize) -> u8
     digits[at] % 16
 }
 
-fn start(pattern: usize) -> usize
+// Where the family of a pattern starts.
+fn start(starts: &[u16], pattern: usize) -> usize
+    requires { ⌜ now starts ≡ startTable ⌝ }
     requires { ⌜ pattern < 65 ⌝ }
     ensures { λ r. ⌜ r ≡ length (digitsBelow pattern) ⌝ }
 {
-    STARTS[pattern] as usize
+    starts[pattern] as usize
 }
 
 // The digits of the table from a place on, with zeros behind them.
@@ -208,9 +217,10 @@ pub fn count(pattern: u8) -> u8
     COUNTS[pattern as usize] % 16
 }
 
-// The family of a pattern, from the table; 6 where the pattern is above 63.
-pub fn cut_from(digits: &[u8], pattern: u8) -> Family
+// The family of a pattern, from the tables; 6 where the pattern is above 63.
+pub fn cut_from(digits: &[u8], starts: &[u16], pattern: u8) -> Family
     requires { ⌜ now digits ≡ digitTable ⌝ }
+    requires { ⌜ now starts ≡ startTable ⌝ }
     ensures { λ r. ⌜ r ≡ cutOf pattern ⌝ }
 {
     if pattern > 63 {
@@ -228,8 +238,8 @@ pub fn cut_from(digits: &[u8], pattern: u8) -> Family
         };
     }
     let row = pattern as usize;
-    let from = start(row);
-    let count = start(row + 1) - from;
+    let from = start(starts, row);
+    let count = start(starts, row + 1) - from;
     Family {
         answer: Answer::Accepted,
         count: (count / 4) as u8,
@@ -242,5 +252,6 @@ pub fn cut(pattern: u8) -> Family
     ensures { λ r. ⌜ r ≡ cutOf pattern ⌝ }
 {
     let digits = digit_table();
-    cut_from(&digits, pattern)
+    let starts = start_table();
+    cut_from(&digits, &starts, pattern)
 }

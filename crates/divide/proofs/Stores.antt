@@ -12,7 +12,7 @@ use borrow.Author.Tests.{lt-ltb, le-ltb, ltb-true}
 use Rattle.base.specs.Bools.{one-if}
 use Rattle.base.specs.Fours.{fours, length-fours}
 use Rattle.base.specs.Lists.{anyb}
-use Rattle.base.specs.Range.{range, range-append, range-snoc}
+use Rattle.base.specs.Range.{range, range-append, range-snoc, map-range}
 use Rattle.mesh.specs.Cells.{bitsOf}
 use Rattle.mesh.specs.Layout.{edgeNumbers}
 use Rattle.mesh.specs.Table.{levelsOf}
@@ -47,12 +47,6 @@ tab-add k m f =
     let z : 0 + k ≡ k + 0 = omega arith in
     ap (map f) (range-append 0 k m) ∙ map-append f (range 0 k) (range (0 + k) m)
     ∙ ap (λ (l : List ℕ). map f (range 0 k) ++ l) (ap (λ (a : ℕ). map f (range a m)) z ∙ shift f k 0 m)
-
-map-range : (f h : ℕ → ℕ) (k m : ℕ) → ((i : ℕ) → k ≤ i → i < k + m → f i ≡ h i) → map f (range k m) ≡ map h (range k m)
-unfolding range
-map-range f h k zero e = refl
-map-range f h k (suc m) e =
-    ap₂ _∷_ (e k (omega arith) (omega arith)) (map-range f h (suc k) m (λ i a b. e i (omega arith) (omega arith)))
 
 tab-same : (m : ℕ) (f h : ℕ → ℕ) → ((i : ℕ) → i < m → f i ≡ h i) → tab m f ≡ tab m h
 unfolding tab

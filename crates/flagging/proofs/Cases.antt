@@ -1,7 +1,7 @@
 -- The cases of the tests on one cell.
 --   touchTest t held g e   the edge e is held and none of the cell g
 -- Laws: idle-status, idle-mark, idle-pattern; touched-is, untouched; pulled-mark, pulled-touch; red-old, red-green, red-irregular,
--- red-leaf, red-candidate.
+-- red-leaf.
 -- Assumes nothing.
 use mathlib.Core.Path.{_≡_, refl, sym, _∙_, ap}
 use mathlib.Core.Bool.{Bool, true, false, _&&_, _||_, not, and-false}
@@ -14,7 +14,7 @@ use lib.Dec.{eqb}
 use lib.ListN.{getD}
 use borrow.Author.Tests.{eq-eqb, ne-eqb}
 use Rattle.base.specs.Lists.{allb, anyb}
-use Rattle.base.specs.Bools.{one-if, is-true, and-right}
+use Rattle.base.specs.Bools.{one-if}
 use Rattle.base.specs.Places.{hasb}
 use Rattle.mesh.specs.Cells.{edges, heldb, bitsOf}
 use Rattle.edges.specs.Pairs.{Pair, sorted, isb, pairsOf}
@@ -23,7 +23,6 @@ use Rattle.rows.specs.Numbered.{cellAt}
 use Rattle.closure.specs.Listed.{listedPattern}
 use Rattle.separation.specs.Scan.{apartTest}
 use Rattle.flagging.specs.Flags.{kidsOf, listedb, idleb, touchedb, pulledb, redAtb}
-use Rattle.flagging.specs.Crowd.{candidateb}
 use Rattle.base.specs.Range.{range}
 
 -- no bit
@@ -141,15 +140,3 @@ module _ (t ss ms ks : List ℕ) (held : Pair → Bool) (k : ℕ) where
 
   pub red-leaf : getD ss k 0 ≡ 0 → cellAt t k .regular ≡ true → redAtb t ss ms ks held k ≡ eqb (getD ms k 0) 1
   red-leaf h r = leaf h ∙ ap (λ (b : Bool). b && eqb (getD ms k 0) 1) r
-
-  -- a new red cell is refined or marked 1
-  pub red-candidate : redAtb t ss ms ks held k ≡ true → candidateb (getD ss k 0) (getD ms k 0) ≡ true
-  unfolding candidateb
-  red-candidate e =
-      elim (ℕ-discrete (getD ss k 0) 0) [
-        | yes h ↦
-            let m : eqb (getD ms k 0) 1 ≡ true =
-            is-true (eqb (getD ms k 0) 1) (and-right (cellAt t k .regular) (eqb (getD ms k 0) 1) (rw (sym (leaf h) ∙ e) tt)) in
-            rw (eq-eqb (getD ss k 0) 0 h, m)
-        | no h ↦ rw (ne-eqb (getD ss k 0) 0 h)
-      ]

@@ -1,2 +1,4 @@
 pub mod Cases
+pub mod Level
+pub mod Treat
 pub mod Up

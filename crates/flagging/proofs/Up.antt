@@ -1,71 +1,52 @@
 -- One level more on the way down.
--- Laws: above-none (no level), level-up (what the level above asks for), reds-range, reds-ready (what listing a level's edges asks
--- for), above-more (one level more).
+-- Laws: up-none (no level), level-up (what the level above asks for), up-full (the level above had no room), up-side, up-span (what
+-- treating the level asks for), up-more (one level more).
 -- Assumes nothing.
-use mathlib.Core.Path.{_≡_, refl, sym, _∙_, ap, ap₂, fun-ext}
-use mathlib.Core.Bool.{Bool, true, false}
+use mathlib.Core.Path.{_≡_, refl, sym, _∙_, ap, fun-ext}
+use mathlib.Core.Bool.{Bool, true, false, _||_}
 use mathlib.Core.List.{List, [], _∷_, _++_}
-use Prim.Native.Nat.{ℕ, zero, suc, _+_, _*_, _-_, _≤_}
-use native.Mathlib.Nat.{add-zero}
+use Prim.Native.Nat.{ℕ, zero, suc, _+_, _*_, _-_, _≤_, _<_}
+use native.Mathlib.Nat.{add-zero, zero-add}
 use native.Mathlib.Omega.{arith}
-use lib.Dec.{eqb}
+use lib.Dec.{eqb, ltb}
 use lib.ListN.{length, getD, take, drop, take-append-drop}
-use lib.Seq.{take-at, drop-at, length-take-le}
-use Rattle.base.specs.Places.{hasb, distinct-nil}
-use Rattle.mesh.specs.Cells.{redb, redEdges, heldb}
-use Rattle.edges.specs.Pairs.{Pair, isb, same-pair, addPairs, pairsOf}
-use Rattle.edges.specs.Table.{Grown, listed}
-use Rattle.rows.specs.Numbered.{cellsAt, part}
-use Rattle.redlist.specs.Ready.{Ready, Range, redCount}
+use borrow.Author.Tests.{lt-ltb}
+use Rattle.base.specs.Bools.{one-if, not-both}
+use Rattle.base.specs.Lists.{anyb}
+use Rattle.base.specs.Places.{hasb}
+use Rattle.mesh.specs.Cells.{redb, heldb}
+use Rattle.edges.specs.Pairs.{Pair, isb, addPairs}
+use Rattle.edges.specs.Table.{listed}
+use Rattle.redlist.specs.Ready.{redCount}
+use Rattle.redlist.specs.Steps.{count-append}
 use Rattle.closure.specs.Closed.{lists-added, held-listed}
-use Rattle.redlist.specs.Steps.{length-reds}
-use Rattle.lineage.specs.Olds.{flagOf}
-use Rattle.flagging.specs.Flags.{listedb, redAtb, flagsAt, redsUp, flagsUp}
-use Rattle.flagging.specs.Crowd.{candidateb, crowdOf, crowd-one, crowd-most, crowd-add, crowd-rest}
-use Rattle.flagging.specs.Old.{OldRows, Span, OneLevel, CrowdRoom, Above}
-use Rattle.flagging.proofs.Cases.{red-candidate}
-use Rattle.flagging.specs.Writes.{length-flags, flags-both}
-use Rattle.base.specs.Bools.{one-if}
-use Rattle.base.specs.Range.{range}
-use Rattle.rows.specs.Laws.{length-cells}
+use Rattle.flagging.specs.Flags.{listedb, flagsAt, keptsAt, redsUp, keptUp, highUp}
+use Rattle.flagging.specs.Old.{OldRows, Span, SideBySide, OneLevel, Treated, Above, LookedUp}
+use Rattle.flagging.specs.Writes.{length-kepts, flags-both}
+use Rattle.flagging.proofs.Treat.{none-listed, kept-many, red-many}
 
-flag-few : (b c : Bool) → (b ≡ true → c ≡ true) → one-if (redb (flagOf b)) ≤ one-if c
-unfolding flagOf one-if
-flag-few true c h = rw (h refl) (omega arith)
-flag-few false c h = omega arith
-
--- the new red cells of a level are of the crowd
-reds-few : (t ss ms ks : List ℕ) (held : Pair → Bool) (k m : ℕ) → redCount (flagsAt t ss ms ks held k m) ≤ crowdOf ss ms k m
-unfolding flagsAt redCount range
-reds-few t ss ms ks held k zero = omega arith
-reds-few t ss ms ks held k (suc m) =
-    omega (
-      arith,
-      reds-few t ss ms ks held (suc k) m,
-      flag-few (redAtb t ss ms ks held k) (candidateb (getD ss k 0) (getD ms k 0)) (red-candidate t ss ms ks held k),
-      crowd-one ss ms k m,
-    )
-
-none-listed : (xs ys : List ℕ) (n : ℕ) → listed xs ys n n ≡ []
-unfolding pairsOf
-none-listed xs ys n = let e : n - n ≡ 0 = omega arith in rw e
-
-pub above-none : (t ss ms ks : List ℕ) (first last : ℕ) (red xs ys heads links : List ℕ) → OneLevel ss ks red xs ys heads links first last
-    → (depth : ℕ) → depth ≡ 0 → Above t ss ms ks depth first last red red xs ys heads links 0 0
-unfolding flagsUp redsUp
-above-none t ss ms ks first last red xs ys heads links l depth d =
+pub up-none : (t ss ms ks : List ℕ) (first last : ℕ) (kept xs ys heads links : List ℕ)
+    → OneLevel ss ks kept xs ys heads links first last → (depth : ℕ) → depth ≡ 0
+    → LookedUp t ss ms ks depth first last kept kept xs xs ys heads links true false 0 0
+unfolding keptUp redsUp highUp redCount
+up-none t ss ms ks first last kept xs ys heads links l depth d =
     rw d
     (record {
-      flags = sym (ap (λ (x : ℕ). take first red ++ drop x red) (add-zero first) ∙ take-append-drop first red);
-      table = record { keys = l .keys; up = omega arith };
-      lists = record { has = λ p. ap (λ (es : List Pair). hasb isb es p) (none-listed xs ys 0) };
-      few = omega arith;
+      whole = λ b. record {
+        written = sym (ap (λ (x : ℕ). take first kept ++ drop x kept) (add-zero first) ∙ take-append-drop first kept);
+        table = record { keys = l .keys; up = omega arith };
+        lists = record { has = λ p. ap (λ (es : List Pair). hasb isb es p) (none-listed xs ys 0) };
+        few = omega arith;
+        within = omega arith;
+      };
+      full = λ b. not-both true refl b;
+      top = refl;
     })
 
-pub level-up : (t ss ms ks red xs ys heads links : List ℕ) (first last : ℕ) → OldRows t ss ms ks
-    → OneLevel ss ks red xs ys heads links first last
-    → OneLevel ss ks red xs ys heads links last (getD ks last 0)
-level-up t ss ms ks red xs ys heads links first last o l =
+pub level-up : (t ss ms ks kept xs ys heads links : List ℕ) (first last : ℕ) → OldRows t ss ms ks
+    → OneLevel ss ks kept xs ys heads links first last
+    → OneLevel ss ks kept xs ys heads links last (getD ks last 0)
+level-up t ss ms ks kept xs ys heads links first last o l =
     record {
       span =
           record {
@@ -77,94 +58,111 @@ level-up t ss ms ks red xs ys heads links first last o l =
       keys = l .keys;
     }
 
-module _ (t ss ms ks : List ℕ) (h first last : ℕ) (red red₁ xs₁ ys₁ heads₁ links₁ : List ℕ) (from₁ n₁ : ℕ) (o : OldRows t ss ms ks)
-    (s : Span ss red first last)
-    (above : Above t ss ms ks h last (getD ks last 0) red red₁ xs₁ ys₁ heads₁ links₁ from₁ n₁) (same : length red₁ ≡ length red)
-    (red₂ : List ℕ) (e : red₂ ≡ take first red₁ ++ (flagsAt t ss ms ks (listedb xs₁ ys₁ from₁ n₁) first (last - first) ++ drop last red₁))
+pub up-side : (xs ys links xs₁ ys₁ links₁ : List ℕ) → SideBySide xs ys links → length xs₁ ≡ length xs → length ys₁ ≡ length ys
+    → length links₁ ≡ length links → SideBySide xs₁ ys₁ links₁
+up-side xs ys links xs₁ ys₁ links₁ s e f g =
+    record { small = omega (arith, s .small); in-ys = omega (arith, s .in-ys); in-links = omega (arith, s .in-links) }
+
+pub up-span : (ss kept kept₁ : List ℕ) (first last : ℕ) → Span ss kept first last → length kept₁ ≡ length kept → Span ss kept₁ first last
+up-span ss kept kept₁ first last s e = record { up = s .up; inside = s .inside; room = omega (arith, s .room) }
+
+-- a count above 0
+any-count : (l : List ℕ) → ltb 0 (redCount l) ≡ anyb redb l
+unfolding redCount anyb one-if
+any-count [] = refl
+any-count (s ∷ l) = go (redb s) (any-count l)
   where
-    abbrev own : List ℕ
-    own = flagsAt t ss ms ks (listedb xs₁ ys₁ from₁ n₁) first (last - first)
+    go : (b : Bool) → ltb 0 (redCount l) ≡ anyb redb l → ltb 0 (one-if b + redCount l) ≡ (b || anyb redb l)
+    go true i = lt-ltb 0 (1 + redCount l) (omega arith)
+    go false i = rw (zero-add (redCount l)) i
 
-    -- the flags of the level
-    own-are : own ≡ flagsAt t ss ms ks (heldb eqb (redsUp t ss ms ks h last (getD ks last 0))) first (last - first)
-    own-are =
-        ap (λ (f : Pair → Bool). flagsAt t ss ms ks f first (last - first))
-        (fun-ext (held-listed (listed xs₁ ys₁ from₁ n₁) (redsUp t ss ms ks h last (getD ks last 0)) (above .lists)))
+module _ (t ss ms ks : List ℕ) (first last : ℕ) where
+  abbrev end : ℕ
+  end = getD ks last 0
 
-    own-length : length own ≡ last - first
-    own-length = length-flags t ss ms ks (listedb xs₁ ys₁ from₁ n₁) first (last - first)
+  abbrev heldUp : ℕ → Pair → Bool
+  heldUp h = heldb eqb (redsUp t ss ms ks h last end)
 
-    own-part : part red₂ first (last - first) ≡ own
-    own-part =
-        let k : length (take first red₁) ≡ first = length-take-le first red₁ (omega (arith, s .up, s .inside, s .room, same)) in
-        ap (λ (l : List ℕ). part l first (last - first)) e
-        ∙ ap (take (last - first)) (drop-at (take first red₁) (own ++ drop last red₁) first k) ∙ take-at own (drop last red₁) (last - first)
-        own-length
+  abbrev flagsUp : ℕ → List ℕ
+  flagsUp h = flagsAt t ss ms ks (heldUp h) first (last - first)
 
-    few-own : redCount (part red₂ first (last - first)) ≤ crowdOf ss ms first (last - first)
-    few-own = omega (arith, ap redCount own-part, reds-few t ss ms ks (listedb xs₁ ys₁ from₁ n₁) first (last - first))
+  -- the new red cells of this level and of those above it
+  count-both : (h : ℕ) → redCount (keptUp t ss ms ks (suc h) first last) ≡ redCount (flagsUp h) + redCount (keptUp t ss ms ks h last end)
+  unfolding keptUp
+  count-both h =
+      let es : List Pair = redsUp t ss ms ks (suc h) first last in
+      let up : List ℕ = keptUp t ss ms ks h last end in
+      count-append (keptsAt t ss ms ks (heldUp h) es first (last - first)) up
+      ∙ ap (λ (x : ℕ). x + redCount up) (kept-many t ss ms ks (heldUp h) es first (last - first))
 
-    -- the crowd of this level and of those above it
-    crowd-both : crowdOf ss ms first (length ss - first) ≡ crowdOf ss ms first (last - first) + crowdOf ss ms last (length ss - last)
-    crowd-both =
-        let i : length ss - first ≡ (last - first) + (length ss - last) = omega (arith, s .up, s .inside) in
-        let j : first + (last - first) ≡ last = omega (arith, s .up) in
-        rw i (rw j at (crowd-add ss ms first (last - first) (length ss - last)))
+  -- the highest level is that of the levels above
+  high-above : (h : ℕ) → (h ≡ 0 → ⊥) → highUp t ss ms ks h last end ≡ highUp t ss ms ks (suc h) first last
+  unfolding highUp
+  high-above zero n = absurd (n refl)
+  high-above (suc h) n = refl
 
-    module _ (room : CrowdRoom ss ms xs₁ ys₁ links₁) (same₂ : length red₂ ≡ length red₁) where
-      pub reds-range : Range red₂ first last
-      reds-range = record { up = s .up; inside = omega (arith, s .inside, s .room, same, same₂) }
+  high-is : (h reds : ℕ) (up r : Bool) → (suc h ≡ 1 → r ≡ ltb 0 reds) → ((suc h ≡ 1 → ⊥) → r ≡ up) → up ≡ highUp t ss ms ks h last end
+      → reds ≡ redCount (flagsUp h) → r ≡ highUp t ss ms ks (suc h) first last
+  unfolding highUp
+  high-is zero reds up r a b e c = a refl ∙ ap (ltb 0) c ∙ any-count (flagsUp 0)
+  high-is (suc h) reds up r a b e c = b (λ z. omega arith) ∙ e
 
-      pub reds-ready : Ready t xs₁ ys₁ heads₁ links₁ last n₁ n₁ (6 * redCount (part red₂ first (last - first)))
-      reds-ready =
-          let w : n₁ + 6 * redCount (part red₂ first (last - first)) ≤ 6 * crowdOf ss ms 0 (length ss) = omega
-          (arith, few-own, above .few, crowd-both, crowd-rest ss ms first (length ss) (omega (arith, s .up, s .inside))) in
+  none-red : redCount (keptUp t ss ms ks 0 last end) ≡ 0
+  unfolding keptUp redCount
+  none-red = refl
+
+  module _ (h : ℕ) (kept kept₁ xs xs₁ ys₁ heads₁ links₁ : List ℕ) (ok₁ high₁ : Bool) (from₁ n₁ : ℕ)
+      (u : LookedUp t ss ms ks h last end kept kept₁ xs xs₁ ys₁ heads₁ links₁ ok₁ high₁ from₁ n₁) where
+    pub up-full : (depth : ℕ) → depth ≡ suc h → ok₁ ≡ false
+        → LookedUp t ss ms ks depth first last kept kept₁ xs xs₁ ys₁ heads₁ links₁ false high₁ 0 0
+    up-full depth d b =
+        let f : length xs < 6 * redCount (keptUp t ss ms ks h last end) = u .full b in
+        let z : h ≡ 0 → ⊥ = λ e. omega (arith, none-red, ap (λ (x : ℕ). redCount (keptUp t ss ms ks x last end)) e) in
+        rw d
+        (record {
+          whole = λ e. not-both false e refl;
+          full = λ e. omega (arith, f, count-both h);
+          top = u .top ∙ high-above h z;
+        })
+
+    module _ (b : ok₁ ≡ true) (s : Span ss kept first last) (same-xs : length xs₁ ≡ length xs) (kept₂ xs₂ ys₂ heads₂ links₂ : List ℕ)
+        (ok : Bool) (reds n₂ : ℕ)
+        (r : Treated t ss ms ks (listedb xs₁ ys₁ from₁ n₁) first last kept₁ xs₁ ys₁ n₁ kept₂ xs₂ ys₂ heads₂ links₂ ok reds n₂)
+        (same₂ : length xs₂ ≡ length xs₁) where
+      abbrev above : Above t ss ms ks h last end kept kept₁ xs₁ ys₁ heads₁ links₁ from₁ n₁
+      above = u .whole b
+
+      -- what was listed is what new red cells one level up hold
+      treated : Treated t ss ms ks (heldUp h) first last kept₁ xs₁ ys₁ n₁ kept₂ xs₂ ys₂ heads₂ links₂ ok reds n₂
+      treated =
+          let e : listedb xs₁ ys₁ from₁ n₁ ≡ heldUp h =
+          fun-ext (held-listed (listed xs₁ ys₁ from₁ n₁) (redsUp t ss ms ks h last end) (above .lists)) in
+          rw e at r
+
+      more-above : ok ≡ true → Above t ss ms ks (suc h) first last kept kept₂ xs₂ ys₂ heads₂ links₂ n₁ n₂
+      unfolding keptUp redsUp
+      more-above e =
+          let es : List Pair = redsUp t ss ms ks (suc h) first last in
+          let g = treated .grown e in
+          let own : List ℕ = keptsAt t ss ms ks (heldUp h) es first (last - first) in
+          let up : List ℕ = keptUp t ss ms ks h last end in
+          let l : listed xs₂ ys₂ n₁ n₂ ≡ addPairs [] es = g .list ∙ ap (λ (x : List Pair). addPairs x es) (none-listed xs₁ ys₁ n₁) in
+          let m : n₂ ≤ n₁ + 6 * reds = omega (arith, g .most, red-many t ss ms ks (heldUp h) first last, treated .count) in
           record {
-            rows = omega (arith, o .rows, s .inside);
-            table = record {
-              keys = above .table .keys;
-              up = omega arith;
-              distinct = rw (none-listed xs₁ ys₁ n₁)
-                  (distinct-nil isb (0, 0) same-pair);
-            };
-            space = record {
-              small = omega (arith, crowd-most ss ms 0 (length ss), o .few);
-              in-xs = omega (arith, room .in-xs);
-              in-ys = omega (arith, room .in-ys);
-              in-links = omega (arith, room .in-links);
-            };
+            written = flags-both kept kept₁ kept₂ own up first last (s .up) (omega (arith, s .inside, s .room))
+                (length-kepts t ss ms ks (heldUp h) es first (last - first)) (above .written) (treated .written e);
+            table = record { keys = g .edges .keys; up = g .more };
+            lists = rw l (lists-added es);
+            few = omega (arith, m, above .few, count-both h, treated .count);
+            within = omega (arith, m, treated .room e);
           }
 
-    module _ (xs₂ ys₂ heads₂ links₂ : List ℕ) (m : ℕ) where
-      abbrev es : List Pair
-      es = redEdges 0 (cellsAt t first (last - first)) (part red₂ first (last - first))
-
-      es-are : es ≡ redsUp t ss ms ks (suc h) first last
-      unfolding redsUp
-      es-are = ap (redEdges 0 (cellsAt t first (last - first))) (own-part ∙ own-are)
-
-      es-few : length es ≤ 6 * crowdOf ss ms first (last - first)
-      es-few =
-          omega (
-            arith,
-            few-own,
-            length-reds (cellsAt t first (last - first)) (part red₂ first (last - first))
-                (length-cells t first (last - first) ∙ sym (ap length own-part ∙ own-length)),
-          )
-
-      pub above-more : (depth : ℕ) → depth ≡ suc h → Grown xs₁ ys₁ n₁ n₁ es xs₂ ys₂ heads₂ links₂ m
-          → Above t ss ms ks depth first last red red₂ xs₂ ys₂ heads₂ links₂ n₁ m
-      unfolding flagsUp
-      above-more depth d g =
-          let up : List ℕ = flagsUp t ss ms ks h last (getD ks last 0) in
-          let l : listed xs₂ ys₂ n₁ m ≡ addPairs [] (redsUp t ss ms ks (suc h) first last) =
-          g .list ∙ ap₂ addPairs (none-listed xs₁ ys₁ n₁) es-are in
-          let f : red₂ ≡ take first red ++ ((own ++ up) ++ drop (first + length (own ++ up)) red) =
-          flags-both red red₁ red₂ own up first last (s .up) (omega (arith, s .inside, s .room)) own-length (above .flags) e in
+      pub up-more : (depth : ℕ) → depth ≡ suc h → (high : Bool) → (depth ≡ 1 → high ≡ ltb 0 reds) → ((depth ≡ 1 → ⊥) → high ≡ high₁)
+          → LookedUp t ss ms ks depth first last kept kept₂ xs xs₂ ys₂ heads₂ links₂ ok high n₁ n₂
+      up-more depth d high p q =
           rw d
           (record {
-            flags = rw own-are at f;
-            table = record { keys = g .edges .keys; up = g .more };
-            lists = rw l (lists-added (redsUp t ss ms ks (suc h) first last));
-            few = omega (arith, g .most, es-few, above .few, crowd-both);
+            whole = more-above;
+            full = λ e. omega (arith, treated .full e, above .few, count-both h, treated .count);
+            top = high-is h reds high₁ high (rw d at p) (rw d at q) (u .top) (treated .count);
           })

@@ -1,4 +1,3 @@
 pub mod Flags
-pub mod Crowd
 pub mod Old
 pub mod Writes

@@ -1,6 +1,7 @@
 -- Tables that are written from a place on.
--- Laws: written-more (one number more), firsts-none, firsts-more (the first children of one cell more), length-flags, flags-start,
--- flags-more (one flag more), flags-both (the flags of a level before those of the levels above it).
+-- Laws: firsts-none, firsts-more (the first children of one cell more); of a function's numbers over a level over-start, over-next,
+-- over-more (one number more), over-left (what is not written yet), over-at, over-part (what is written), over-again (written twice);
+-- length-flags, length-kepts; flags-both (a level before the levels above it).
 -- Assumes nothing.
 use mathlib.Core.Path.{_≡_, refl, sym, _∙_, ap}
 use mathlib.Core.Bool.{Bool}
@@ -8,12 +9,16 @@ use mathlib.Core.List.{List, [], _∷_, _++_, map, map-append, append-assoc, app
 use Prim.Native.Nat.{ℕ, suc, _+_, _-_, _≤_, _<_}
 use native.Mathlib.Nat.{zero-add}
 use native.Mathlib.Omega.{arith}
-use lib.ListN.{length, getD, take, drop, set, length-append, length-map, take-append-drop}
-use lib.Seq.{drop-cons, set-at, drop-at, take-take, take-append-le, length-take-le}
+use lib.Dec.{eqb}
+use lib.ListN.{length, getD, take, drop, set, length-append, length-map, take-append-drop, List·getD-append}
+use lib.Seq.{drop-cons, set-at, getD-at, take-at, drop-at, take-take, take-append-le, length-take-le, getD-append-add}
+use Rattle.base.specs.Every.{getD-map}
 use Rattle.edges.specs.Pairs.{Pair}
 use Rattle.lineage.specs.Olds.{firstChild, flagOf}
-use Rattle.flagging.specs.Flags.{redAtb, flagsAt}
-use Rattle.base.specs.Range.{range, length-range, range-snoc}
+use Rattle.lineage.specs.Kept.{keptOf}
+use Rattle.rows.specs.Numbered.{cellAt, part}
+use Rattle.flagging.specs.Flags.{redAtb, flagsAt, keptsAt}
+use Rattle.base.specs.Range.{range, length-range, range-at, range-snoc}
 
 -- one number more behind those that are written
 written-more : (l p out : List ℕ) (n v : ℕ) → out ≡ p ++ drop n l → length p ≡ n → n < length l
@@ -43,40 +48,84 @@ firsts-more l out m ss c v e h q =
     w = ap (λ (x : ℕ). map (firstChild m ss) (range 0 c) ++ (x ∷ [])) (q ∙ ap (firstChild m ss) (sym (zero-add c)))
         ∙ map-snoc (firstChild m ss) 0 c
 
--- the flags of the cells from first to c
+-- the numbers of f from first to c are written
+module _ (f : ℕ → ℕ) (l : List ℕ) (first : ℕ) where
+  pub over-start : l ≡ (take first l ++ map f (range first (first - first))) ++ drop first l
+  unfolding range
+  over-start =
+      let z : first - first ≡ 0 = omega arith in
+      rw z (sym (ap (λ (x : List ℕ). x ++ drop first l) (append-nil (take first l)) ∙ take-append-drop first l))
+
+  pub over-next : (c : ℕ) → first ≤ c → map f (range first (c + 1 - first)) ≡ map f (range first (c - first)) ++ (f c ∷ [])
+  over-next c h =
+      let z : first + (c - first) ≡ c = omega arith in
+      let y : c + 1 - first ≡ suc (c - first) = omega arith in
+      rw y (sym (rw z at (map-snoc f first (c - first))))
+
+  front : (c : ℕ) → first ≤ c → first ≤ length l → length (take first l ++ map f (range first (c - first))) ≡ c
+  front c h g =
+      length-append (take first l) (map f (range first (c - first)))
+      ∙ omega (arith, length-take-le first l g, length-map-range f first (c - first))
+
+  module _ (out : List ℕ) (c : ℕ) (h : first ≤ c) (g : c < length l)
+      (e : out ≡ (take first l ++ map f (range first (c - first))) ++ drop c l) where
+    pub over-more : (v : ℕ) → v ≡ f c → set out c v ≡ (take first l ++ map f (range first (c + 1 - first))) ++ drop (c + 1) l
+    over-more v q =
+        let fs = map f (range first (c - first)) in
+        let x : c + 1 ≡ suc c = omega arith in
+        rw (over-next c h, x, ← q)
+        (written-more l (take first l ++ fs) out c v e (front c h (omega arith)) g
+        ∙ ap (λ (p : List ℕ). p ++ drop (suc c) l) (append-assoc (take first l) fs (v ∷ [])))
+
+    -- what is not written yet
+    pub over-left : getD out c 0 ≡ getD l c 0
+    over-left =
+        let fs = map f (range first (c - first)) in
+        ap (λ (x : List ℕ). getD x c 0) (e ∙ ap (λ (x : List ℕ). (take first l ++ fs) ++ x) (drop-cons l c 0 g))
+        ∙ getD-at (take first l ++ fs) (getD l c 0) (drop (suc c) l) 0 c (front c h (omega arith))
+
+-- a level's numbers
+module _ (f : ℕ → ℕ) (l : List ℕ) (first last : ℕ) (h : first ≤ last) (g : last ≤ length l) (rest : List ℕ) where
+  -- one of them
+  pub over-at : (c : ℕ) → first ≤ c → c < last → getD (take first l ++ (map f (range first (last - first)) ++ rest)) c 0 ≡ f c
+  over-at c i j =
+      let k : length (take first l) + (c - first) ≡ c = omega (arith, length-take-le first l (omega arith)) in
+      let w : first + (c - first) ≡ c = omega arith in
+      let fs = map f (range first (last - first)) in
+      let n : length fs ≡ last - first = length-map-range f first (last - first) in
+      let a : getD (take first l ++ (fs ++ rest)) c 0 ≡ getD (fs ++ rest) (c - first) 0 =
+      rw k at (getD-append-add (take first l) (fs ++ rest) (c - first) 0) in
+      a ∙ List·getD-append fs rest 0 (c - first) (omega arith)
+      ∙ getD-map f (range first (last - first)) (c - first) 0 0 (omega (arith, length-range first (last - first)))
+      ∙ ap f (range-at first (last - first) (c - first) 0 (omega arith) ∙ w)
+
+  -- all of them
+  pub over-part : part (take first l ++ (map f (range first (last - first)) ++ rest)) first (last - first) ≡ map f
+      (range first (last - first))
+  over-part =
+      let fs = map f (range first (last - first)) in
+      ap (take (last - first)) (drop-at (take first l) (fs ++ rest) first (length-take-le first l (omega arith)))
+      ∙ take-at fs rest (last - first) (length-map-range f first (last - first))
+
+-- a level written over again
+pub over-again : (l x y a b : List ℕ) (first last : ℕ) → first ≤ last → last ≤ length l → length x ≡ last - first
+    → a ≡ take first l ++ (x ++ drop last l) → b ≡ take first a ++ (y ++ drop last a) → b ≡ take first l ++ (y ++ drop last l)
+over-again l x y a b first last h g n e f =
+    let k : length (take first l) ≡ first = length-take-le first l (omega arith) in
+    let u : take first a ≡ take first l = ap (take first) e ∙ take-at (take first l) (x ++ drop last l) first k in
+    let m : length (take first l ++ x) ≡ last = length-append (take first l) x ∙ omega arith in
+    let v : drop last a ≡ drop last l =
+    ap (drop last) (e ∙ sym (append-assoc (take first l) x (drop last l))) ∙ drop-at (take first l ++ x) (drop last l) last m in
+    f ∙ rw (u, v)
+
 module _ (t ss ms ks : List ℕ) (held : Pair → Bool) where
   pub length-flags : (k m : ℕ) → length (flagsAt t ss ms ks held k m) ≡ m
   unfolding flagsAt
   length-flags k m = length-map-range (λ k. flagOf (redAtb t ss ms ks held k)) k m
 
-  module _ (l : List ℕ) (first : ℕ) where
-    pub flags-start : l ≡ (take first l ++ flagsAt t ss ms ks held first (first - first)) ++ drop first l
-    unfolding flagsAt range
-    flags-start =
-        let z : first - first ≡ 0 = omega arith in
-        rw z (sym (ap (λ (x : List ℕ). x ++ drop first l) (append-nil (take first l)) ∙ take-append-drop first l))
-
-    flags-snoc : (m : ℕ) → flagsAt t ss ms ks held first m ++ (flagOf (redAtb t ss ms ks held (first + m)) ∷ []) ≡ flagsAt t ss ms ks held
-        first (suc m)
-    unfolding flagsAt
-    flags-snoc m = map-snoc (λ k. flagOf (redAtb t ss ms ks held k)) first m
-
-    pub flags-more : (out : List ℕ) (c v : ℕ) → first ≤ c → c < length l → out ≡ (take first l ++ flagsAt t ss ms ks held first (c - first))
-        ++ drop c l
-        → v ≡ flagOf (redAtb t ss ms ks held c) → set out c v ≡ (take first l ++ flagsAt t ss ms ks held first (c + 1 - first)) ++ drop
-        (c + 1) l
-    flags-more out c v h g e q =
-        let m = c - first in
-        let fs = flagsAt t ss ms ks held first m in
-        let z : first + m ≡ c = omega arith in
-        let y : c + 1 - first ≡ suc m = omega arith in
-        let x : c + 1 ≡ suc c = omega arith in
-        let n : length (take first l ++ fs) ≡ c = length-append (take first l) fs
-        ∙ omega (arith, length-take-le first l (omega arith), length-flags first m) in
-        let w : fs ++ (v ∷ []) ≡ flagsAt t ss ms ks held first (suc m) =
-        ap (λ (x : ℕ). fs ++ (x ∷ [])) (q ∙ ap (λ (k : ℕ). flagOf (redAtb t ss ms ks held k)) (sym z)) ∙ flags-snoc m in
-        rw (y, x) (written-more l (take first l ++ fs) out c v e n g
-        ∙ ap (λ (p : List ℕ). p ++ drop (suc c) l) (append-assoc (take first l) fs (v ∷ []) ∙ ap (λ (p : List ℕ). take first l ++ p) w))
+  pub length-kepts : (es : List Pair) (k m : ℕ) → length (keptsAt t ss ms ks held es k m) ≡ m
+  unfolding keptsAt
+  length-kepts es k m = length-map-range (λ k. keptOf 0 eqb es (redAtb t ss ms ks held k) (cellAt t k)) k m
 
 -- what a level writes below what is written above it
 pub flags-both : (l a b x y : List ℕ) (first last : ℕ) → first ≤ last → last ≤ length l → length x ≡ last - first

@@ -1,18 +1,19 @@
-// Flags of the cells of an old table that will be red after a step, level by level from the highest down.
+// Which cells of an old table will be red after a step, and what each cell keeps, level by level from the highest down.
 ghost use mathlib.Core.Path.{_≡_};
 ghost use mathlib.Core.List.{_++_};
 ghost use Prim.Native.Nat.{_+_, _*_, _-_, _≤_, _<_};
+ghost use lib.Dec.{ltb};
 ghost use lib.ListN.{length, getD, take, drop};
 ghost use Rattle.base.specs.Lists.{allb, anyb};
 ghost use Rattle.base.specs.Bools.{one-if};
 ghost use Rattle.base.specs.Lent.{was, is};
 ghost use Rattle.pairs.specs.Keys.{Clear};
-ghost use Rattle.edges.specs.Table.{Table};
+ghost use Rattle.edges.specs.Table.{Table, listed};
+ghost use Rattle.mesh.specs.Cells.{redb};
 ghost use Rattle.closure.specs.Listed.{Looks};
 ghost use Rattle.lineage.specs.Olds.{flagOf};
-ghost use Rattle.flagging.specs.Flags.{listedb, idleb, touchedb, redAtb, flagsAt, pulledb};
-ghost use Rattle.flagging.specs.Crowd.{candidateb, crowdOf};
-ghost use Rattle.flagging.specs.Old.{OldRows, Span, OneLevel, CrowdRoom, FlagsWritten, Above};
+ghost use Rattle.flagging.specs.Flags.{listedb, idleb, touchedb, redAtb, pulledb, closedAt, closedOver};
+ghost use Rattle.flagging.specs.Old.{OldRows, Span, SideBySide, OneLevel, Flagged, Treated, LookedUp, LookedAt};
 ghost use Rattle.base.specs.Range.{range};
 
 // Whether the cell j is a leaf marked 2 with no edge listed.
@@ -199,13 +200,72 @@ fn flag(b: bool) -> u8
     if b { 64 } else { 0 }
 }
 
-// Writes the flags of the cells from first to last.
+// 1 for a flag, else 0.
+fn one(flag: u8) -> usize
+    ensures { λ r. ⌜ (r ≡ one-if (redb flag)) × (r ≤ 1) ⌝ }
+{
+    if flag == 64 { 1 } else { 0 }
+}
+
+// Writes the flags of the cells from first to last. Gives how many will be red.
 fn flag_level(
     rows: &[u16],
     status: &[u8],
     marks: &[u8],
     kids: &[u16],
-    red: &mut [u8],
+    kept: &mut [u8],
+    first: usize,
+    last: usize,
+    xs: &[u32],
+    ys: &[u32],
+    heads: &[u16],
+    links: &[u16],
+    from: usize,
+    n: usize,
+) -> usize
+    requires { ⌜ OldRows (now rows) (now status) (now marks) (now kids) ⌝ }
+    requires { ⌜ Table (now xs) (now ys) (now heads) (now links) from n ⌝ }
+    requires { ⌜ Span (now status) (now kept) first last ⌝ }
+    ensures { λ r. ⌜ Flagged (was rows) (was status) (was marks) (was kids) (listedb (was xs) (was ys) from n) first last (was kept)
+        (is kept) r ⌝ }
+{
+    let mut reds = 0;
+    let mut c = first;
+    while c < last {
+        let b = is_new_red(rows, status, marks, kids, c, xs, ys, heads, links, from, n);
+        let f = flag(b);
+        reds += one(f);
+        kept[c] = f;
+        c += 1;
+    }
+    reds
+}
+
+// What a cell keeps, from its flag.
+fn kept_of(
+    flag: u8,
+    rows: &[u16],
+    c: usize,
+    xs: &[u32],
+    ys: &[u32],
+    heads: &[u16],
+    links: &[u16],
+    from: usize,
+    n: usize,
+) -> u8
+    requires { ⌜ Looks (now rows) (now xs) (now ys) (now heads) (now links) (c + 1) from n ⌝ }
+    ensures { λ r. ⌜ r ≡ closedAt (listed (was xs) (was ys) from n) (was rows) flag c ⌝ }
+{
+    if flag == 64 {
+        return 64;
+    }
+    closure::pattern_of(rows, c, xs, ys, heads, links, from, n)
+}
+
+// Writes what the cells from first to last keep over their flags, where the edges of the level's new red cells are listed.
+fn close_level(
+    rows: &[u16],
+    kept: &mut [u8],
     first: usize,
     last: usize,
     xs: &[u32],
@@ -215,59 +275,104 @@ fn flag_level(
     from: usize,
     n: usize,
 )
-    requires { ⌜ OldRows (now rows) (now status) (now marks) (now kids) ⌝ }
-    requires { ⌜ Table (now xs) (now ys) (now heads) (now links) from n ⌝ }
-    requires { ⌜ Span (now status) (now red) first last ⌝ }
-    ensures { λ r. ⌜ is red ≡ take first (was red) ++ (flagsAt (was rows) (was status) (was marks) (was kids)
-        (listedb (was xs) (was ys) from n) first (last - first) ++ drop last (was red)) ⌝ }
+    requires { ⌜ Looks (now rows) (now xs) (now ys) (now heads) (now links) last from n ⌝ }
+    requires { ⌜ (first ≤ last) × (last ≤ length (now kept)) ⌝ }
+    ensures { λ u. ⌜ is kept ≡ take first (was kept) ++ (closedOver (listed (was xs) (was ys) from n) (was rows) (was kept) first
+        (last - first) ++ drop last (was kept)) ⌝ }
 {
     let mut c = first;
     while c < last {
-        let b = is_new_red(rows, status, marks, kids, c, xs, ys, heads, links, from, n);
-        red[c] = flag(b);
+        kept[c] = kept_of(kept[c], rows, c, xs, ys, heads, links, from, n);
         c += 1;
     }
 }
 
-// 1 for a cell that is refined or marked 1, else 0.
-fn candidate(status: u8, mark: u8) -> usize
-    ensures { λ r. ⌜ r ≡ one-if (candidateb status mark) ⌝ }
-    ensures { λ r. ⌜ r ≤ 1 ⌝ }
-{
-    if status != 0 {
-        return 1;
-    }
-    if mark == 1 { 1 } else { 0 }
+// What treating a level finds: whether there is room for six edges of each cell that will be red, how many there are, and the entries
+// of the edge table then.
+struct Treatment {
+    ok: bool,
+    reds: usize,
+    n: usize,
 }
 
-// How many cells are refined or marked 1. No other cell will be red.
-pub fn crowd(status: &[u8], marks: &[u8]) -> usize
-    requires { ⌜ length (now marks) ≡ length (now status) ⌝ }
-    ensures { λ r. ⌜ r ≡ crowdOf (was status) (was marks) 0 (length (was status)) ⌝ }
+// Lists the edges of the new red cells from first to last behind the entries that there are, and writes what these cells keep; the entries
+// of the level above go from `from` to n.
+fn treat_level(
+    rows: &[u16],
+    status: &[u8],
+    marks: &[u8],
+    kids: &[u16],
+    kept: &mut [u8],
+    first: usize,
+    last: usize,
+    xs: &mut [u32],
+    ys: &mut [u32],
+    heads: &mut [u16],
+    links: &mut [u16],
+    from: usize,
+    n: usize,
+) -> Treatment
+    requires { ⌜ OldRows (now rows) (now status) (now marks) (now kids) ⌝ }
+    requires { ⌜ Table (now xs) (now ys) (now heads) (now links) from n ⌝ }
+    requires { ⌜ Span (now status) (now kept) first last ⌝ }
+    requires { ⌜ SideBySide (now xs) (now ys) (now links) × (n ≤ length (now xs)) ⌝ }
+    ensures { λ r. ⌜ Treated (was rows) (was status) (was marks) (was kids) (listedb (was xs) (was ys) from n) first last (was kept)
+        (was xs) (was ys) n (is kept) (is xs) (is ys) (is heads) (is links) (r .ok) (r .reds) (r .n) ⌝ }
 {
-    let mut n = 0;
-    let mut c = 0;
-    while c < status.len() {
-        n += candidate(status[c], marks[c]);
-        c += 1;
+    let reds = flag_level(
+        rows,
+        status,
+        marks,
+        kids,
+        kept,
+        first,
+        last,
+        xs,
+        ys,
+        heads,
+        links,
+        from,
+        n,
+    );
+    if 6 * reds > xs.len() - n {
+        return Treatment { ok: false, reds, n };
     }
-    n
+    let m = redlist::red_level(rows, kept, first, last, xs, ys, heads, links, n, n);
+    close_level(rows, kept, first, last, xs, ys, heads, links, n, m);
+    Treatment {
+        ok: true,
+        reds,
+        n: m,
+    }
 }
 
-// The entries of a level's edges in the edge table.
+// Whether a cell of the highest level will be red: the level itself, if it is the highest of those that are looked at, or as the level
+// above says.
+fn is_high(depth: usize, reds: usize, up: bool) -> bool
+    ensures { λ r. ⌜ (depth ≡ 1 → r ≡ ltb 0 reds) × ((depth ≡ 1 → ⊥) → r ≡ up) ⌝ }
+{
+    if depth == 1 {
+        return reds > 0;
+    }
+    up
+}
+
+// What looking at levels finds: whether the edge table had room, whether a cell of the highest one will be red, and where the level's
+// entries are.
 struct Entries {
+    ok: bool,
+    high: bool,
     from: usize,
     n: usize,
 }
 
-// Writes the flags of the level from first to last and of those above it, depth levels in all, and lists the edges of its new red
-// cells behind those of the levels above. The edge table has room for six edges of each cell of the crowd.
+// Treats the level from first to last and those above it, depth levels in all, the highest one first.
 fn flag_up(
     rows: &[u16],
     status: &[u8],
     marks: &[u8],
     kids: &[u16],
-    red: &mut [u8],
+    kept: &mut [u8],
     first: usize,
     last: usize,
     depth: usize,
@@ -277,13 +382,18 @@ fn flag_up(
     links: &mut [u16],
 ) -> Entries
     requires { ⌜ OldRows (now rows) (now status) (now marks) (now kids) ⌝ }
-    requires { ⌜ OneLevel (now status) (now kids) (now red) (now xs) (now ys) (now heads) (now links) first last ⌝ }
-    requires { ⌜ CrowdRoom (now status) (now marks) (now xs) (now ys) (now links) ⌝ }
-    ensures { λ r. ⌜ Above (was rows) (was status) (was marks) (was kids) depth first last (was red) (is red) (is xs) (is ys) (is heads)
-        (is links) (r .from) (r .n) ⌝ }
+    requires { ⌜ OneLevel (now status) (now kids) (now kept) (now xs) (now ys) (now heads) (now links) first last ⌝ }
+    requires { ⌜ SideBySide (now xs) (now ys) (now links) ⌝ }
+    ensures { λ r. ⌜ LookedUp (was rows) (was status) (was marks) (was kids) depth first last (was kept) (is kept) (was xs) (is xs) (is ys)
+        (is heads) (is links) (r .ok) (r .high) (r .from) (r .n) ⌝ }
 {
     if depth == 0 {
-        return Entries { from: 0, n: 0 };
+        return Entries {
+            ok: true,
+            high: false,
+            from: 0,
+            n: 0,
+        };
     }
     let end = kids[last] as usize;
     let up = flag_up(
@@ -291,7 +401,7 @@ fn flag_up(
         status,
         marks,
         kids,
-        red,
+        kept,
         last,
         end,
         depth - 1,
@@ -300,12 +410,20 @@ fn flag_up(
         heads,
         links,
     );
-    flag_level(
+    if !up.ok {
+        return Entries {
+            ok: false,
+            high: up.high,
+            from: 0,
+            n: 0,
+        };
+    }
+    let t = treat_level(
         rows,
         status,
         marks,
         kids,
-        red,
+        kept,
         first,
         last,
         xs,
@@ -315,40 +433,57 @@ fn flag_up(
         up.from,
         up.n,
     );
-    let m = redlist::red_level(rows, red, first, last, xs, ys, heads, links, up.n, up.n);
-    Entries { from: up.n, n: m }
+    let high = is_high(depth, t.reds, up.high);
+    Entries {
+        ok: t.ok,
+        high,
+        from: up.n,
+        n: t.n,
+    }
 }
 
-// The same for all levels.
+// What looking at a table finds: whether there was room for six edges of each cell that will be red, and whether one is on level 10.
+pub struct Looked {
+    pub ok: bool,
+    pub high: bool,
+}
+
+// Writes what each cell keeps. The tables from xs on are for the work, whatever they hold; no bucket of the heads has an entry. There are
+// at most eleven levels.
 pub fn flag_all(
     rows: &[u16],
     status: &[u8],
     marks: &[u8],
     kids: &[u16],
-    red: &mut [u8],
+    kept: &mut [u8],
     xs: &mut [u32],
     ys: &mut [u32],
     heads: &mut [u16],
     links: &mut [u16],
-)
+) -> Looked
     requires { ⌜ OldRows (now rows) (now status) (now marks) (now kids) ⌝ }
-    requires { ⌜ Span (now status) (now red) 0 (getD (now kids) 0 0) ⌝ }
+    requires { ⌜ Span (now status) (now kept) 0 (getD (now kids) 0 0) ⌝ }
     requires { ⌜ Clear (now heads) ⌝ }
-    requires { ⌜ CrowdRoom (now status) (now marks) (now xs) (now ys) (now links) ⌝ }
-    ensures { λ r. ⌜ FlagsWritten (was rows) (was status) (was marks) (was kids) 12 0 (getD (was kids) 0 0) (was red) (is red) ⌝ }
+    requires { ⌜ SideBySide (now xs) (now ys) (now links) ⌝ }
+    ensures { λ r. ⌜ LookedAt (was rows) (was status) (was marks) (was kids) 11 0 (getD (was kids) 0 0) (was kept) (is kept) (was xs)
+        (r .ok) (r .high) ⌝ }
 {
-    flag_up(
+    let r = flag_up(
         rows,
         status,
         marks,
         kids,
-        red,
+        kept,
         0,
         kids[0] as usize,
-        12,
+        11,
         xs,
         ys,
         heads,
         links,
     );
+    Looked {
+        ok: r.ok,
+        high: r.high,
+    }
 }

@@ -8,7 +8,7 @@ ghost use lib.ListN.{length, getD};
 ghost use Rattle.base.specs.Bools.{one-if};
 ghost use Rattle.base.specs.Lent.{was, is};
 ghost use Rattle.cutting.specs.Rule.{split, family};
-ghost use Rattle.cutting.specs.Answer.{digitTable};
+ghost use Rattle.cutting.specs.Answer.{digitTable, startTable};
 ghost use Rattle.mesh.specs.Cells.{patternOf, edge};
 ghost use Rattle.mesh.specs.Layout.{splitEdges};
 ghost use Rattle.pairs.specs.Keys.{Room};
@@ -296,14 +296,16 @@ fn write_children(
     points: &[u16; 10],
     pattern: u8,
     digits: &[u8],
+    starts: &[u16],
 ) -> usize
     requires { ⌜ (pattern < 64) × (8 * (at + length (family pattern)) ≤ length (now cells)) ⌝ }
     requires { ⌜ now digits ≡ digitTable ⌝ }
+    requires { ⌜ now starts ≡ startTable ⌝ }
     ensures { λ r. ⌜ r ≡ at + length (family pattern) ⌝ }
     ensures { λ r. ⌜ is cells ≡ written (was cells) (8 * at)
         (childRows level parent regular (λ d. getD (was points) d 0) 0 (family pattern)) ⌝ }
 {
-    let whole = cutting::cut_from(digits, pattern);
+    let whole = cutting::cut_from(digits, starts, pattern);
     let count = whole.count as usize;
     let kind = flag(regular);
     for i in 0..count {
@@ -332,10 +334,12 @@ fn refine(
     links: &mut [u16],
     m: usize,
     digits: &[u8],
+    starts: &[u16],
 ) -> Refined
     requires { ⌜ (c < at) × (status ≤ 64) × (at + sizeOf status ≤ 4096) × (8 * (at + sizeOf status) ≤ length (now cells)) ⌝ }
     requires { ⌜ ReadyToGrow (now cells) (now xs) (now ys) (now heads) (now links) c status n m ⌝ }
     requires { ⌜ now digits ≡ digitTable ⌝ }
+    requires { ⌜ now starts ≡ startTable ⌝ }
     ensures { λ r. ⌜ Laid (was cells) (was xs) (was ys) c status level at n m (is cells) (is xs) (is ys) (is heads) (is links) (r .at)
         (r .m) ⌝ }
 {
@@ -352,6 +356,7 @@ fn refine(
         &found.numbers,
         pattern_of(status),
         digits,
+        starts,
     );
     Refined {
         at: next,
@@ -374,9 +379,11 @@ pub fn grow_level(
     links: &mut [u16],
     m: usize,
     digits: &[u8],
+    starts: &[u16],
 ) -> Refined
     requires { ⌜ Roomy (now cells) (now xs) (now ys) (now heads) (now links) (now status) first last at n m ⌝ }
     requires { ⌜ now digits ≡ digitTable ⌝ }
+    requires { ⌜ now starts ≡ startTable ⌝ }
     ensures { λ r. ⌜ Grows (was cells) (was xs) (was ys) (was status) first (last - first) level at n m (is cells) (is xs) (is ys)
         (is heads) (is links) (r .at) (r .m) ⌝ }
 {
@@ -396,6 +403,7 @@ pub fn grow_level(
             links,
             k,
             digits,
+            starts,
         );
         next = r.at;
         k = r.m;

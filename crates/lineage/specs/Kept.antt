@@ -1,10 +1,10 @@
 -- The step's statuses from what the old cells keep, by cell numbers of the old table ss over m coarse cells: no new cell is looked at.
 --   keptOf es b c          what the cell c keeps: 64 where b says that it will be red, else the pattern of its edges that stand in es
---   keptLevels ls ms             what the cells keep, level by level, where es are the edges of the level's new red cells; keptTable n qs ss ms
---                          of a whole table, in cell order
+--   keptLevels ls ms       what the cells keep, level by level, where es are the edges of the level's new red cells;
+--                          keptTable n qs ss ms of a whole table, in cell order
 --   digitPair p i y        the edge y of the child i of the family p: the digits of its ends as one number
---   heldPairs s ks f       the edges of the old children of a cell that new red cells hold, so; s was its status, f is the number of its first
---                          child, and ks is what the old cells keep
+--   heldPairs s ks f       the edges of the old children of a cell that new red cells hold, so; s was its status, f is the number of its
+--                          first child, and ks is what the old cells keep
 --   freshOf s ks f         the statuses of the eight children of that cell, which was not red and will be
 --   bornBy m ss ks t o   the statuses of the children of a cell with new status t and old number o
 --   bornNext m ss ks ts os   those one level up of cells with new statuses ts and old numbers os

@@ -4,9 +4,8 @@
 --                          levels above l
 --   Fostered l l' c        c is a child of a red cell of the new level l', which is the cell t of the old level l that was not red
 -- Laws: old-next and new-next (neighbouring levels), old-coarse and new-coarse (the coarse level), new-below (at most twelve levels),
--- flagged, old-up and traced (each level), new-known and new-follows (the statuses of a new level), met (each regular cell), met-coarse (a coarse
--- cell is met), fostered (a
--- regular cell that is not met).
+-- flagged, old-up and traced (each level), new-known and new-follows (the statuses of a new level), met (each regular cell), met-coarse
+-- (a coarse cell is met), fostered (a regular cell that is not met).
 use mathlib.Core.Path.{_≡_, sym, _∙_, ap, subst}
 use mathlib.Core.Logic.{_≢_, _⊎_, inl, inr}
 use mathlib.Core.Bool.{true, false}

@@ -100,9 +100,9 @@ module _ (m : ℕ) (ss : List ℕ) (o i : ℕ) where
   unfolding oldChild
   old-red e = rw (e, oldChild)
 
-  pub old-none : redb (getD ss o 0) ≡ false → oldChild m ss o i ≡ none
+  pub child-none : redb (getD ss o 0) ≡ false → oldChild m ss o i ≡ none
   unfolding oldChild
-  old-none e = rw (e, oldChild)
+  child-none e = rw (e, oldChild)
 
 module _ (m : ℕ) (ss : List ℕ) (l u : Level) (up : Up m ss l u) (k : ℕ) (c : Cell Point) (i : ℕ)
     (small : i < length (family (patternOf 64))) where
@@ -154,7 +154,7 @@ module _ (m : ℕ) (ss : List ℕ) (l u : Level) (up : Up m ss l u) (k : ℕ) (c
       go (inl z) = rw (old-red m ss o i z) (kept-child t o e is (sym st ∙ eqb-true (getD ss o 0) 64 z))
       go (inr z) =
           inr (
-            old-none m ss o i z,
+            child-none m ss o i z,
             λ _. fresh-child (λ p h g w.
                 let x : p ≡ t = up .paths p t h (is .below) (w ∙ sym (is .path)) in
                 let y : redb (getD ss o 0) ≡ true = rw (st, ← x, g) refl in
@@ -162,7 +162,7 @@ module _ (m : ℕ) (ss : List ℕ) (l u : Level) (up : Up m ss l u) (k : ℕ) (c
           )
   child-old o r (inr (e, f)) =
       inr (
-        old-none m ss o i (rw (e, List·getD-eq-default ss 0 {n = none} (omega (arith, up .small))) refl),
+        child-none m ss o i (rw (e, List·getD-eq-default ss 0 {n = none} (omega (arith, up .small))) refl),
         λ _. fresh-child (λ p h g w. f r p h (up .reds p h g) w),
       )
 

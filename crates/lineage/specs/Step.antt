@@ -119,7 +119,7 @@ module _ (fs : List ℕ) where
   no-reds cs os b = rw (no-edges cs os b) (closed-leaves cs os b)
 
 -- level after level
-grow-nothing : (m : ℕ) (ss fs : List ℕ) (h k : ℕ) (os : List ℕ) → growBy m ss fs h k [] os ≡ []
+pub grow-nothing : (m : ℕ) (ss fs : List ℕ) (h k : ℕ) (os : List ℕ) → growBy m ss fs h k [] os ≡ []
 unfolding growBy
 grow-nothing m ss fs zero k os = refl
 grow-nothing m ss fs (suc h) k os = refl

@@ -3,24 +3,22 @@
 --   edgeIn ks e     the numbers of the ends of e
 --   Placed ks c     c has four points, each of them a corner
 --   EndsPlaced ks e   both ends of e are corners
--- Laws: same-number (numbers), held-numbers, status-numbers, red-status-numbers, closed-numbers, apart-numbers
--- (tests).
+-- Laws: same-number (numbers), held-numbers, closed-numbers, apart-numbers (tests).
 use mathlib.Core.Path.{_≡_, ap}
-use mathlib.Core.Bool.{Bool}
 use mathlib.Core.List.{List, [], map}
 use Prim.Native.Nat.{ℕ}
 use lib.Dec.{eqb}
 use borrow.Author.Tests.{eqb-true, eq-eqb}
 use Rattle.base.specs.Lists.{sameb}
 use Rattle.base.specs.Places.{same-list}
-use Rattle.mesh.specs.Cells.{Cell, heldb, statusOf, closedFrom, redEdges}
+use Rattle.mesh.specs.Cells.{Cell, heldb, closedFrom, redEdges}
 use Rattle.mesh.specs.Weights.{Point}
 use Rattle.mesh.specs.Table.{apartb}
 use Rattle.mesh.specs.Layout.{Corner, numberIn, mapCell}
 use Rattle.edges.specs.Pairs.{Pair, test-ext}
 use Rattle.base.specs.Every.{All}
 use Rattle.numbering.specs.Corners.{Has, number-injective}
-use Rattle.numbering.specs.Renamed.{mapEdge, Points, EndsIn, held-map, status-map, closed-map, red-edges-in, red-edges-map, apartOf}
+use Rattle.numbering.specs.Renamed.{mapEdge, Points, EndsIn, held-map, closed-map, red-edges-in, red-edges-map, apartOf}
 use Rattle.numbering.specs.Renamed.{apart-map}
 
 abbrev pub numberedCells : List Corner → List (Cell Point) → List (Cell ℕ)
@@ -47,18 +45,9 @@ module _ (ks : List Corner) where
       → heldb eqb (map (edgeIn ks) es) (edgeIn ks e) ≡ heldb sameb es e
   held-numbers = held-map [] 0 sameb eqb (numberIn ks) (Has ks) same-number
 
-  status-numbers : (es : List (Point × Point)) (r : Bool) (c : Cell Point) → All (EndsPlaced ks) es → Placed ks c
-      → statusOf 0 eqb (map (edgeIn ks) es) r (mapCell (numberIn ks) c) ≡ statusOf [] sameb es r c
-  status-numbers = status-map [] 0 sameb eqb (numberIn ks) (Has ks) same-number
-
   module _ (cs : List (Cell Point)) (ss : List ℕ) (p : All (Placed ks) cs) where
     pub red-edges-numbers : redEdges 0 (numberedCells ks cs) ss ≡ map (edgeIn ks) (redEdges [] cs ss)
     red-edges-numbers = red-edges-map [] 0 (numberIn ks) (Has ks) cs ss p
-
-    pub red-status-numbers : (r : Bool) (c : Cell Point) → Placed ks c
-        → statusOf 0 eqb (redEdges 0 (numberedCells ks cs) ss) r (mapCell (numberIn ks) c) ≡ statusOf [] sameb (redEdges [] cs ss) r c
-    red-status-numbers r c q = rw red-edges-numbers
-        (status-numbers (redEdges [] cs ss) r c (red-edges-in [] 0 (numberIn ks) (Has ks) cs ss p) q)
 
     pub closed-numbers : closedFrom 0 eqb (redEdges 0 (numberedCells ks cs) ss) (numberedCells ks cs) ss ≡ closedFrom [] sameb
         (redEdges [] cs ss) cs ss

@@ -6,20 +6,22 @@ use mathlib.Core.Bool.{Bool, true, false}
 use mathlib.Core.List.{List, _++_}
 use Prim.Native.Nat.{ℕ, _≤_}
 use native.Mathlib.Omega.{arith}
+use lib.Dec.{T}
 use lib.ListN.{length, take, drop}
 use lib.Seq.{take-at, length-take-le}
 use Rattle.base.specs.Bools.{not-both}
 use Rattle.base.specs.Fours.{fours}
 use Rattle.base.specs.Refuse.{refuse, answerOf}
-use Rattle.mesh.specs.Table.{levelsOf}
-use Rattle.mesh.specs.Answers.{marksb, newTable}
+use Rattle.mesh.specs.Table.{levelsOf, soundb}
+use Rattle.mesh.specs.Answers.{marksb}
 use Rattle.advance.specs.Advanced.{Advanced}
 use Rattle.replay.specs.Run.{spread, oneAnswer, oneTable}
 use Rattle.replay.specs.Scan.{Spread, Fitting}
-use Rattle.replay.specs.Going.{ReplayGoing, Stepped}
+use Rattle.tables.specs.Sound.{Mesh, LaidSound}
+use Rattle.replay.specs.Going.{ReplayGoing, Relaid, Stepped}
 
 -- a table with its front written
-front : (k : ℕ) (from old new : List ℕ) → k ≤ length from → new ≡ take k from ++ drop k old → take k new ≡ take k from
+pub front : (k : ℕ) (from old new : List ℕ) → k ≤ length from → new ≡ take k from ++ drop k old → take k new ≡ take k from
 front k from old new h e = rw e (take-at (take k from) (drop k old) k (length-take-le k from h))
 
 -- the marks are examined
@@ -38,30 +40,44 @@ module _ (ss : List ℕ) (ms : List (ℕ × ℕ)) (new : List ℕ) where
         marks = λ z. s .marks refl;
       }
 
+-- a table with its rows
+pub relaid : (n : ℕ) (mesh new table₀ table rows ps qs : List ℕ) (cells levels mids k : ℕ) → Mesh n mesh
+    → T (soundb n (fours mesh) (take cells new)) → cells ≤ 4096 → 4096 ≤ length new → 4096 ≤ length table
+    → table ≡ take cells new ++ drop cells table₀ → LaidSound n (fours mesh) (take cells table) rows ps qs k levels mids
+    → Relaid n mesh new cells rows table 0 cells levels
+relaid n mesh new table₀ table rows ps qs cells levels mids k m s few room lent w l =
+    let t : take cells table ≡ take cells new = front cells new table₀ table (omega arith) w in
+    record {
+      none = refl;
+      many = refl;
+      table-is = t;
+      going = record {
+        held = record { accepted = m; sound = rw t s; table = rw (l .counted) (l .table) };
+        few = few;
+        room = lent;
+      };
+      high = l .high;
+    }
+
 -- the new table takes the place of the old one
-module _ (n : ℕ) (mesh old ms rows ps qs new : List ℕ) (refusal cells levels mids : ℕ)
-    (a : Advanced 4096 n mesh old ms rows ps qs new refusal cells levels mids) where
-  pub stepped-refused : (table : List ℕ) (k c l : ℕ) → k ≡ refusal → (refusal ≡ 0 → ⊥) → Stepped n mesh old ms rows table k c l
-  stepped-refused table k c l e z =
+module _ (n : ℕ) (mesh old ms new : List ℕ) (refusal cells : ℕ) (a : Advanced n mesh old ms new refusal cells) where
+  pub stepped-refused : (rows table : List ℕ) (k c l : ℕ) → k ≡ refusal → (refusal ≡ 0 → ⊥) → Stepped n mesh old ms rows table k c l
+  stepped-refused rows table k c l e z =
       record {
-        answer = a .answer (λ z. refl) ∙ ap answerOf (sym e);
+        answer = a .answer ∙ ap answerOf (sym e);
         table-is = λ y. absurd (z (sym e ∙ y));
         going = λ y. absurd (z (sym e ∙ y));
         high = λ y. absurd (z (sym e ∙ y));
       }
 
-  pub stepped-on : refusal ≡ 0 → (table₀ table : List ℕ) → table ≡ take cells new ++ drop cells table₀
-      → 4096 ≤ length new → 4096 ≤ length table → (k : ℕ) → k ≡ 0
-      → Stepped n mesh old ms rows table k cells levels
-  stepped-on z table₀ table f room lent k q =
-      let few = a .few z in
-      let s = a .laid z in
-      let t : take cells table ≡ newTable n (fours mesh) old ms = front cells new table₀ table (omega arith) f ∙ a .table-is z in
+  pub stepped-on : refusal ≡ 0 → (rows table : List ℕ) (k c levels : ℕ) → Relaid n mesh new cells rows table k c levels
+      → Stepped n mesh old ms rows table k c levels
+  stepped-on z rows table k c levels r =
       record {
-        answer = a .answer (λ z. refl) ∙ ap answerOf (z ∙ sym q);
-        table-is = λ y. t;
-        going = λ y. record { held = rw t (a .held z); few = few; room = lent };
-        high = λ y. rw t (s .high);
+        answer = a .answer ∙ ap answerOf (z ∙ sym (r .none));
+        table-is = λ y. r .table-is ∙ a .table-is z;
+        going = λ y. r .going;
+        high = λ y. r .high;
       }
 
 -- a step by its marked cells

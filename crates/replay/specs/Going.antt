@@ -1,6 +1,7 @@
 -- What the functions of a replay hold and leave. A refusal is a number, and 0 stands for none.
 --   ReplayGoing n mesh rows table cells   a sound table of so many cells over an accepted mesh, with the rows of its cells
 --   Rested ..     a mesh at rest
+--   Relaid ..     a sound table copied and laid out
 --   Stepped ..    one step, by one mark a cell
 --   NextTurn ..       the step whose marks go from p up to e
 --   Finished ..   the steps in turn
@@ -34,6 +35,14 @@ pub record Rested (ps : List ℤ) (mesh rows table : List ℕ) (refusal cells le
   pub table-is : refusal ≡ 0 → take cells table ≡ restTable (fours mesh)
   pub going : refusal ≡ 0 → ReplayGoing (cornerCount ps) mesh rows table cells
   pub high : refusal ≡ 0 → length (levelsOf (cornerCount ps) (fours mesh) (take cells table)) ≡ levels
+
+-- Rules 9.2, 9.3: a table with its rows in place of those that there were.
+pub record Relaid (n : ℕ) (mesh new : List ℕ) (kept : ℕ) (rows table : List ℕ) (refusal cells levels : ℕ) : Type 0 where
+  pub none : refusal ≡ 0
+  pub many : cells ≡ kept
+  pub table-is : take cells table ≡ take kept new
+  pub going : ReplayGoing n mesh rows table cells
+  pub high : length (levelsOf n (fours mesh) (take cells table)) ≡ levels
 
 -- Rules 7.7, 7.8: one step, by one mark a cell.
 pub record Stepped (n : ℕ) (mesh old ms rows table : List ℕ) (refusal cells levels : ℕ) : Type 0 where

@@ -1,16 +1,20 @@
 // Jobs done again: the steps of a job in turn.
 use tables::Outcome;
+use writing::NewTable;
 ghost use mathlib.Core.Path.{_≡_};
 ghost use mathlib.Core.List.{_++_};
-ghost use Prim.Native.Nat.{_+_, _*_, _/_, _≤_, _<_};
+ghost use Prim.Native.Nat.{_+_, _/_, _≤_, _<_};
+ghost use lib.Dec.{T};
 ghost use lib.ListN.{length, take, drop, replicate};
 ghost use Rattle.base.specs.Fours.{fours};
 ghost use Rattle.base.specs.Lent.{was, is};
-ghost use Rattle.cutting.specs.Answer.{digitTable};
-ghost use Rattle.mesh.specs.Table.{levelsOf};
+ghost use Rattle.cutting.specs.Answer.{digitTable, startTable};
+ghost use Rattle.mesh.specs.Table.{levelsOf, soundb};
+ghost use Rattle.tables.specs.Sound.{Mesh};
+ghost use Rattle.advance.specs.Advanced.{Advanced};
 ghost use Rattle.archive.specs.Tables.{pairs};
 ghost use Rattle.replay.specs.Scan.{mayb, Spread, Fitting};
-ghost use Rattle.replay.specs.Going.{ReplayGoing, Rested, NextTurn, Finished, Replayed};
+ghost use Rattle.replay.specs.Going.{ReplayGoing, Rested, Relaid, NextTurn, Finished, Replayed};
 
 // Makes the first k bytes 0.
 fn clear(out: &mut [u8], k: usize)
@@ -70,8 +74,93 @@ fn examine_marks(marked: &[u16], marks: &[u8], status: &[u8], out: &mut [u8]) ->
     step::marks_fit(status, &out[..k])
 }
 
+// The step on a sound table of so many cells with its rows, by one mark a cell: the new statuses in `new`. The tables from xs on are for
+// the work, whatever they hold. Refusals 8 and 9.
+fn make(
+    mesh: &[u16],
+    n: usize,
+    rows: &[u16; 32768],
+    table: &[u8; 4096],
+    cells: usize,
+    marks: &[u8; 4096],
+    new: &mut [u8; 4096],
+    xs: &mut [u32; 3072],
+    ys: &mut [u32; 3072],
+    links: &mut [u16; 3072],
+    old: &mut [u16; 4096],
+    kids: &mut [u16; 4097],
+    kept: &mut [u8; 4096],
+) -> NewTable
+    requires { ⌜ ReplayGoing n (now mesh) (now rows) (now table) cells ⌝ }
+    ensures { λ r. ⌜ Advanced n (was mesh) (take cells (was table)) (take cells (was marks)) (is new) (r .refusal) (r .cells) ⌝ }
+{
+    let mut heads = [65535u16; 5120];
+    let status = &table[..];
+    let spread = &marks[..];
+    advance::advance(
+        mesh,
+        n,
+        rows,
+        &status[..cells],
+        &spread[..cells],
+        new,
+        xs,
+        ys,
+        &mut heads,
+        links,
+        old,
+        kids,
+        kept,
+    )
+}
+
+// Copies a sound table of so many cells into `table`, and lays out its rows. The tables from ps on are for the work, whatever they hold,
+// `digits` and `starts` are the cutting table.
+fn settle(
+    mesh: &[u16],
+    n: usize,
+    new: &[u8; 4096],
+    cells: usize,
+    rows: &mut [u16; 32768],
+    table: &mut [u8; 4096],
+    ps: &mut [u32; 4096],
+    qs: &mut [u32; 4096],
+    links: &mut [u16; 4096],
+    digits: &[u8],
+    starts: &[u16],
+) -> Outcome
+    requires { ⌜ Mesh n (now mesh) ⌝ }
+    requires { ⌜ T (soundb n (fours (now mesh)) (take cells (now new))) ⌝ }
+    requires { ⌜ cells ≤ 4096 ⌝ }
+    requires { ⌜ (now digits ≡ digitTable) × (now starts ≡ startTable) ⌝ }
+    ensures { λ r. ⌜ Relaid n (was mesh) (was new) cells (is rows) (is table) (r .refusal) (r .cells) (r .levels) ⌝ }
+{
+    base::copy_bytes(new, cells, table);
+    let mut heads = [65535u16; 4096];
+    let status = &table[..];
+    let r = laying::lay(
+        mesh,
+        n,
+        &status[..cells],
+        rows,
+        ps,
+        qs,
+        &mut heads,
+        links,
+        digits,
+        starts,
+    );
+    Outcome {
+        refusal: 0,
+        coarse: r.coarse,
+        cells,
+        levels: r.levels,
+        mids: r.mids,
+    }
+}
+
 // One step on a sound table with its rows: the step whose marks go from p up to e. The new table and its rows take the place of the old
-// ones. The other tables are for the work, whatever they hold, and `digits` is the cutting table. Refusals 7 to 9.
+// ones. The other tables are for the work, whatever they hold, `digits` and `starts` are the cutting table. Refusals 7 to 9.
 fn next_step(
     mesh: &[u16],
     n: usize,
@@ -83,21 +172,22 @@ fn next_step(
     rows: &mut [u16; 32768],
     table: &mut [u8; 4096],
     spread_marks: &mut [u8; 4096],
-    ps: &mut [u32; 4096],
-    qs: &mut [u32; 4096],
     new: &mut [u8; 4096],
     xs: &mut [u32; 3072],
     ys: &mut [u32; 3072],
     links: &mut [u16; 3072],
-    mid_links: &mut [u16; 4096],
     old: &mut [u16; 4096],
     kids: &mut [u16; 4097],
-    red: &mut [u8; 4096],
+    kept: &mut [u8; 4096],
+    ps: &mut [u32; 4096],
+    qs: &mut [u32; 4096],
+    mid_links: &mut [u16; 4096],
     digits: &[u8],
+    starts: &[u16],
 ) -> Outcome
     requires { ⌜ ReplayGoing n (now mesh) (now rows) (now table) cells ⌝ }
     requires { ⌜ length (now marked) ≡ length (now marks) ⌝ }
-    requires { ⌜ now digits ≡ digitTable ⌝ }
+    requires { ⌜ (now digits ≡ digitTable) × (now starts ≡ startTable) ⌝ }
     ensures { λ r. ⌜ NextTurn n (was mesh) (take cells (was table)) p e (pairs (was marked) (was marks)) (is rows) (is table) (r .refusal)
         (r .cells) (r .levels) ⌝ }
 {
@@ -111,31 +201,37 @@ fn next_step(
     if !examine_marks(&marked[p..e], &marks[p..e], &status[..cells], spread_marks) {
         return tables::refused(7);
     }
-    let spread = &spread_marks[..];
-    let r = advance::advance(
+    let r = make(
         mesh,
         n,
         rows,
-        &status[..cells],
-        &spread[..cells],
-        ps,
-        qs,
+        table,
+        cells,
+        spread_marks,
         new,
         xs,
         ys,
         links,
-        mid_links,
         old,
         kids,
-        red,
-        digits,
-        4096,
+        kept,
     );
     if r.refusal != 0 {
-        return r;
+        return tables::refused(r.refusal);
     }
-    base::copy_bytes(new, r.cells, table);
-    r
+    settle(
+        mesh,
+        n,
+        new,
+        r.cells,
+        rows,
+        table,
+        ps,
+        qs,
+        mid_links,
+        digits,
+        starts,
+    )
 }
 
 // A mesh at rest: each cell a leaf, with its rows. Refusals 1 to 5.
@@ -191,17 +287,18 @@ fn run_steps(
         (r .refusal) (r .cells) (r .levels) ⌝ }
 {
     let mut spread_marks = [0u8; 4096];
-    let mut ps = [0u32; 4096];
-    let mut qs = [0u32; 4096];
     let mut new = [0u8; 4096];
     let mut xs = [0u32; 3072];
     let mut ys = [0u32; 3072];
     let mut links = [0u16; 3072];
-    let mut mid_links = [0u16; 4096];
     let mut old = [0u16; 4096];
     let mut kids = [0u16; 4097];
-    let mut red = [0u8; 4096];
+    let mut kept = [0u8; 4096];
+    let mut ps = [0u32; 4096];
+    let mut qs = [0u32; 4096];
+    let mut mid_links = [0u16; 4096];
     let digits = cutting::digit_table();
+    let starts = cutting::start_table();
     let mut cells = first;
     let mut levels = high;
     let mut mids = inner;
@@ -220,17 +317,18 @@ fn run_steps(
             rows,
             table,
             &mut spread_marks,
-            &mut ps,
-            &mut qs,
             &mut new,
             &mut xs,
             &mut ys,
             &mut links,
-            &mut mid_links,
             &mut old,
             &mut kids,
-            &mut red,
+            &mut kept,
+            &mut ps,
+            &mut qs,
+            &mut mid_links,
             &digits,
+            &starts,
         );
         if r.refusal != 0 {
             return r;

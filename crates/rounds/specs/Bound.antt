@@ -12,6 +12,7 @@ use native.Mathlib.Nat.{le-refl, le-trans}
 use native.Mathlib.Omega.{arith}
 use lib.Dec.{eqb}
 use lib.ListN.{length, length-append, length-map}
+use Rattle.base.specs.Each.{filter-few}
 use Rattle.base.specs.Lists.{filterb}
 use Rattle.exchange.specs.Finite.{Finite, parts, fins, step-down, sumOver, sum-le, sum-change, upd, upd-all, upd-same, upd-other}
 use Rattle.exchange.specs.Protocol.{Protocol}
@@ -21,15 +22,6 @@ use Rattle.rounds.specs.Rounds.{Body, mark, count, end, Phase, marks, co
 use Rattle.rounds.specs.Rounds.{edgeCounts, says, writing}
 use Rattle.rounds.specs.Among.{is-self}
 use Rattle.rounds.specs.Rounded.{protocol, phase-marks, phase-counts, phase-totals}
-
-pub filter-few : (f : ℕ → Bool) (l : List ℕ) → length (filterb f l) ≤ length l
-unfolding filterb
-filter-few f [] = omega arith
-filter-few f (x ∷ l) = go (f x) refl (filter-few f l)
-  where
-    go : (b : Bool) → f x ≡ b → length (filterb f l) ≤ length l → length (filterb f (x ∷ l)) ≤ suc (length l)
-    go true e i = rw (e, filterb) (omega arith)
-    go false e i = rw (e, filterb) (omega arith)
 
 unfoldable pub sumTo : (ℕ → ℕ) → ℕ → ℕ
 sumTo f zero = 0

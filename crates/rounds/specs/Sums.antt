@@ -26,7 +26,8 @@ use Rattle.rounds.specs.Rounds.{starting, added, redTold, sumTold, edgeC
 use Rattle.rounds.specs.Among.{is-self, is-not}
 use Rattle.rounds.specs.Enough.{Marking, Counting, from, own-writes, other-writes, tally-else, none-added}
 use Rattle.rounds.specs.Rounded.{protocol, phase-marks, phase-counts, phase-totals, phase-over, lock-on, marking, to-counts}
-use Rattle.rounds.specs.Bound.{sumTo, filter-few}
+use Rattle.rounds.specs.Bound.{sumTo}
+use Rattle.base.specs.Each.{filter-few}
 use Rattle.rounds.specs.Said.{taken, uncounted, marks-count, totals-count, over-count}
 use Rattle.rounds.specs.Turns.{Turn, in-marks, in-counts, in-totals, in-over, turn-of, same-counts, marks-counts, totals-counts}
 use Rattle.rounds.specs.Turns.{over-counts}

@@ -1,19 +1,19 @@
 -- The parts of the step's call. A mesh is ps and ts, the old table ss, the marks ms.
---   StepBegun ..           the table is opened and the marks are looked at: 0, or 1 to 7
---   StepsIn most ..    the step in tables with room for `most` new cells: where there are more, 9 says nothing of the limits
--- Laws: begun-table, begun-marks, begun-held (the ways out of the beginning), within-refused, within-limits, within-done (those of the
--- step), steps-again (twice), steps-sure (no 9), steps-so (the call's answer).
+--   StepBegun ..   the table is opened and the marks are looked at: 0, or 1 to 7
+--   StepMade ..    the step is made: its answer where the lent table is long enough, and the new statuses
+-- Laws: begun-table, begun-marks, begun-held (the ways out of the beginning), made-refused, made-advanced (those of the step),
+-- call-refused, call-done (the call's).
 -- Assumes nothing.
 use mathlib.Core.Path.{_≡_, refl, sym, _∙_, ap}
 use mathlib.Core.Bool.{true, false}
 use mathlib.Core.List.{List, _++_}
-use Prim.Native.Nat.{ℕ, zero, suc, _≤_}
+use Prim.Native.Nat.{ℕ, _≤_}
 use native.Mathlib.Omega.{arith}
 use lib.IntN.{ℤ}
-use lib.ListN.{length, take, drop, length-take}
+use lib.ListN.{length, take, drop}
 use Rattle.base.specs.Fours.{fours}
 use Rattle.base.specs.Refuse.{heldAfter, answerOf, answer-refused, answer-none}
-use Rattle.base.specs.declared.Answer.the-variants.{Accepted, Refused}
+use Rattle.base.specs.declared.Answer.the-variants.{Refused}
 use Rattle.mesh.specs.Coarse.{cornerCount}
 use Rattle.mesh.specs.Answers.{tableAnswer, marksb, newTable, limitsAnswer}
 use Rattle.step.specs.Calls.{stepAnswer, steppedOf}
@@ -29,12 +29,12 @@ pub record StepBegun (ps : List ℤ) (ts ss ms rows : List ℕ) (refusal : ℕ) 
   pub held : refusal ≡ 0 → Held (cornerCount ps) ts rows ss
   pub marks : refusal ≡ 0 → length ms ≡ length ss
 
--- Rules 12.1, 12.11: the answer, and what the lent table holds after.
-pub record StepsIn (most : ℕ) (ps : List ℤ) (ts ss ms table table′ : List ℕ) (refusal cells : ℕ) : Type 0 where
-  pub answer : (refusal ≡ 9 → most ≡ 4096) → stepAnswer ps ts ss ms table ≡ answerOf refusal
-  pub kept : (refusal ≡ 0 → ⊥) → table′ ≡ table
+-- Rule 12.11: the answer, and the new table.
+pub record StepMade (ps : List ℤ) (ts ss ms new : List ℕ) (refusal cells : ℕ) : Type 0 where
+  pub answer : (table : List ℕ) → 4096 ≤ length table → stepAnswer ps ts ss ms table ≡ answerOf refusal
   pub counted : refusal ≡ 0 → length (newTable (cornerCount ps) (fours ts) ss ms) ≡ cells
-  pub filled : refusal ≡ 0 → table′ ≡ newTable (cornerCount ps) (fours ts) ss ms ++ drop cells table
+  pub few : refusal ≡ 0 → cells ≤ 4096
+  pub table-is : refusal ≡ 0 → take cells new ≡ newTable (cornerCount ps) (fours ts) ss ms
 
 module _ (ps : List ℤ) (ts ss ms rows : List ℕ) where
   pub begun-table : (k : ℕ) → tableAnswer ps ts ss ≡ answerOf k → (k ≡ 0 → ⊥) → StepBegun ps ts ss ms rows k
@@ -65,75 +65,37 @@ module _ (ps : List ℤ) (ts ss ms rows : List ℕ) where
           marks = λ y. marks-many ss ms m;
         }
 
-module _ (most : ℕ) (ps : List ℤ) (ts ss ms table : List ℕ) where
-  pub within-refused : (j k c : ℕ) → k ≡ j → stepAnswer ps ts ss ms table ≡ Refused j → (j ≡ 0 → ⊥)
-      → StepsIn most ps ts ss ms table table k c
-  within-refused j k c e a z =
+module _ (ps : List ℤ) (ts ss ms rows new : List ℕ) (k : ℕ) (b : StepBegun ps ts ss ms rows k) where
+  pub made-refused : (k ≡ 0 → ⊥) → StepMade ps ts ss ms new k 0
+  made-refused z =
       record {
-        answer = λ y. rw e (a ∙ sym (answer-refused j z));
-        kept = λ y. refl;
-        counted = λ y. absurd (z (sym e ∙ y));
-        filled = λ y. absurd (z (sym e ∙ y));
+        answer = λ table l. b .answer z table l ∙ sym (answer-refused k z);
+        counted = λ y. absurd (z y);
+        few = λ y. absurd (z y);
+        table-is = λ y. absurd (z y);
       }
 
-  module _ (l : stepAnswer ps ts ss ms table ≡ limitsAnswer (cornerCount ps) (fours ts) ss ms) (rows xs ys new : List ℕ) (k c h m : ℕ)
-      (a : Advanced most (cornerCount ps) ts ss ms rows xs ys new k c h m) where
-    pub within-limits : (k ≡ 0 → ⊥) → StepsIn most ps ts ss ms table table k c
-    within-limits z =
-        record {
-          answer = λ y. l ∙ a .answer y;
-          kept = λ y. refl;
-          counted = λ y. absurd (z y);
-          filled = λ y. absurd (z y);
-        }
+  pub made-advanced : k ≡ 0 → (r c : ℕ) → Advanced (cornerCount ps) ts ss ms new r c → StepMade ps ts ss ms new r c
+  made-advanced z r c a =
+      record {
+        answer = λ table l. b .limits z table l ∙ a .answer;
+        counted = a .counted;
+        few = a .few;
+        table-is = a .table-is;
+      }
 
-    pub within-done : k ≡ 0 → (table′ : List ℕ) → table′ ≡ take c new ++ drop c table → StepsIn most ps ts ss ms table table′ k c
-    within-done z table′ w =
-        record {
-          answer = λ y. l ∙ a .answer y;
-          kept = λ y. absurd (y z);
-          counted = a .counted;
-          filled = λ y. w ∙ ap (λ (t : List ℕ). t ++ drop c table) (a .table-is y);
-        }
+-- Rule 12.1: the call's answer and what the lent table holds after.
+module _ (ps : List ℤ) (ts ss ms table new : List ℕ) (k c : ℕ) (m : StepMade ps ts ss ms new k c) (l : 4096 ≤ length table) where
+  pub call-refused : (k ≡ 0 → ⊥)
+      → (stepped.Refused k ≡ steppedOf (stepAnswer ps ts ss ms table) (length (newTable (cornerCount ps) (fours ts) ss ms)))
+      × (table ≡ heldAfter (stepAnswer ps ts ss ms table) (newTable (cornerCount ps) (fours ts) ss ms) table)
+  unfolding steppedOf heldAfter
+  call-refused z = let e : stepAnswer ps ts ss ms table ≡ Refused k = m .answer table l ∙ answer-refused k z in (rw e, rw e)
 
--- a refusal leaves the table as it was
-pub steps-again : (m m′ : ℕ) (ps : List ℤ) (ts ss ms table₀ table₁ table₂ : List ℕ) (k c k′ c′ : ℕ)
-    → StepsIn m ps ts ss ms table₀ table₁ k c → (k ≡ 0 → ⊥) → StepsIn m′ ps ts ss ms table₁ table₂ k′ c′
-    → StepsIn m′ ps ts ss ms table₀ table₂ k′ c′
-steps-again m m′ ps ts ss ms table₀ table₁ table₂ k c k′ c′ a z b = rw (a .kept z) at b
-
--- what is no 9 holds with any room
-pub steps-sure : (m m′ : ℕ) (ps : List ℤ) (ts ss ms table table′ : List ℕ) (k c : ℕ) → StepsIn m ps ts ss ms table table′ k c
-    → (k ≡ 9 → ⊥) → StepsIn m′ ps ts ss ms table table′ k c
-steps-sure m m′ ps ts ss ms table table′ k c s n =
-    record { answer = λ y. s .answer (λ z. absurd (n z)); kept = s .kept; counted = s .counted; filled = s .filled }
-
-pub steps-so : (most : ℕ) (ps : List ℤ) (ts ss ms table table′ : List ℕ) (k c : ℕ) → StepsIn most ps ts ss ms table table′ k c
-    → (k ≡ 9 → most ≡ 4096)
-    → (steppedOf (answerOf k) c ≡ steppedOf (stepAnswer ps ts ss ms table) (length (newTable (cornerCount ps) (fours ts) ss ms)))
-    × (table′ ≡ heldAfter (stepAnswer ps ts ss ms table) (newTable (cornerCount ps) (fours ts) ss ms) table)
-unfolding steppedOf heldAfter answerOf
-steps-so most ps ts ss ms table table′ zero c s h =
-    let e : stepAnswer ps ts ss ms table ≡ Accepted = s .answer h in
-    let l = s .counted refl in
-    (rw (e, l), s .filled refl ∙ rw (e, l))
-steps-so most ps ts ss ms table table′ (suc k) c s h =
-    let e : stepAnswer ps ts ss ms table ≡ Refused (suc k) = s .answer h in
-    (rw e, s .kept (λ z. absurd (omega arith)) ∙ rw e)
-
--- the call's answer by its number
-pub answer-out : (k c : ℕ) → (k ≡ 0 → ⊥) → stepped.Refused k ≡ steppedOf (answerOf k) c
-unfolding steppedOf
-answer-out k c z = rw (answer-refused k z)
-
-pub answer-cells : (k c : ℕ) → k ≡ 0 → stepped.Cells c ≡ steppedOf (answerOf k) c
-unfolding steppedOf
-answer-cells k c z = rw (answer-none k z)
-
--- the new cells are in the table
-pub advanced-inside : (most n : ℕ) (mesh ss ms rows ps qs table : List ℕ) (k c h m : ℕ) → Advanced most n mesh ss ms rows ps qs table k c h
-    m
-    → k ≡ 0 → c ≤ length table
-advanced-inside most n mesh ss ms rows ps qs table k c h m a z =
-    let e : length (take c table) ≡ c = ap length (a .table-is z) ∙ a .counted z in
-    omega (arith, length-take c table, e)
+  pub call-done : k ≡ 0 → (table′ : List ℕ) → table′ ≡ take c new ++ drop c table
+      → (stepped.Cells c ≡ steppedOf (stepAnswer ps ts ss ms table) (length (newTable (cornerCount ps) (fours ts) ss ms)))
+      × (table′ ≡ heldAfter (stepAnswer ps ts ss ms table) (newTable (cornerCount ps) (fours ts) ss ms) table)
+  unfolding steppedOf heldAfter
+  call-done z table′ w =
+      let e = m .answer table l ∙ answer-none k z in
+      (rw (e, m .counted z), w ∙ ap (λ (t : List ℕ). t ++ drop c table) (m .table-is z) ∙ rw (e, m .counted z))

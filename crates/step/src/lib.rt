@@ -1,16 +1,17 @@
 // One step of the multilevel red/green method.
-use tables::Outcome;
+use writing::NewTable;
 ghost use mathlib.Core.Path.{_≡_};
+ghost use mathlib.Core.List.{_++_};
 ghost use Prim.Native.Nat.{_≤_};
-ghost use lib.ListN.{length};
+ghost use lib.ListN.{length, take, drop};
 ghost use Rattle.base.specs.Fours.{fours};
 ghost use Rattle.mesh.specs.Coarse.{cornerCount};
-ghost use Rattle.base.specs.Refuse.{heldAfter, answerOf};
+ghost use Rattle.base.specs.Refuse.{heldAfter};
 ghost use Rattle.tables.specs.Room.{TableRoom};
 ghost use Rattle.base.specs.Lent.{was, is};
 ghost use Rattle.mesh.specs.Answers.{markb, marksb, newTable};
 ghost use Rattle.step.specs.Calls.{stepAnswer, steppedOf};
-ghost use Rattle.step.specs.Within.{StepBegun, StepsIn};
+ghost use Rattle.step.specs.Within.{StepBegun, StepMade};
 
 pub enum Stepped {
     Cells(usize),
@@ -70,97 +71,46 @@ fn begin(
     0
 }
 
-// The step of at most 128 statuses, in tables with room for 256 new cells: where there are more, 9.
+// The step of at most 128 statuses, in small tables.
 fn step_least(
     positions: &[i32],
     cells: &[u16],
     status: &[u8],
     marks: &[u8],
-    table: &mut [u8],
-) -> Outcome
-    requires { ⌜ (length (now status) ≤ 128) × (4096 ≤ length (now table)) ⌝ }
-    ensures { λ r. ⌜ StepsIn 256 (was positions) (was cells) (was status) (was marks) (was table) (is table) (r .refusal) (r .cells) ⌝ }
+    new: &mut [u8; 4096],
+) -> NewTable
+    requires { ⌜ length (now status) ≤ 128 ⌝ }
+    ensures { λ r. ⌜ StepMade (was positions) (was cells) (was status) (was marks) (is new) (r .refusal) (r .cells) ⌝ }
 {
     let mut rows = [0u16; 2048];
-    let mut ps = [0u32; 256];
-    let mut qs = [0u32; 256];
+    let mut ps = [0u32; 128];
+    let mut qs = [0u32; 128];
     let refusal = begin(positions, cells, status, marks, &mut rows, &mut ps, &mut qs);
     if refusal != 0 {
-        return tables::refused(refusal);
+        return NewTable { refusal, cells: 0 };
     }
-    let mut new = [0u8; 256];
-    let r = advance::advance_least(
-        cells,
-        positions.len() / 3,
-        &mut rows,
-        status,
-        marks,
-        &mut ps,
-        &mut qs,
-        &mut new,
-    );
-    if r.refusal != 0 {
-        return r;
-    }
-    base::copy_bytes(&new, r.cells, table);
-    r
+    advance::advance_least(cells, positions.len() / 3, &rows, status, marks, new)
 }
 
-// The step of at most 512 statuses, in tables with room for 1,024 new cells.
+// The step of at most 512 statuses.
 fn step_few(
     positions: &[i32],
     cells: &[u16],
     status: &[u8],
     marks: &[u8],
-    table: &mut [u8],
-) -> Outcome
-    requires { ⌜ (length (now status) ≤ 512) × (4096 ≤ length (now table)) ⌝ }
-    ensures { λ r. ⌜ StepsIn 1024 (was positions) (was cells) (was status) (was marks) (was table) (is table) (r .refusal) (r .cells) ⌝ }
+    new: &mut [u8; 4096],
+) -> NewTable
+    requires { ⌜ length (now status) ≤ 512 ⌝ }
+    ensures { λ r. ⌜ StepMade (was positions) (was cells) (was status) (was marks) (is new) (r .refusal) (r .cells) ⌝ }
 {
-    let mut rows = [0u16; 8192];
-    let mut ps = [0u32; 1024];
-    let mut qs = [0u32; 1024];
+    let mut rows = [0u16; 4096];
+    let mut ps = [0u32; 512];
+    let mut qs = [0u32; 512];
     let refusal = begin(positions, cells, status, marks, &mut rows, &mut ps, &mut qs);
     if refusal != 0 {
-        return tables::refused(refusal);
+        return NewTable { refusal, cells: 0 };
     }
-    let mut new = [0u8; 1024];
-    let r = advance::advance_few(
-        cells,
-        positions.len() / 3,
-        &mut rows,
-        status,
-        marks,
-        &mut ps,
-        &mut qs,
-        &mut new,
-    );
-    if r.refusal != 0 {
-        return r;
-    }
-    base::copy_bytes(&new, r.cells, table);
-    r
-}
-
-// The step of at most 512 statuses, in the least tables first where there are at most 128.
-fn step_small(
-    positions: &[i32],
-    cells: &[u16],
-    status: &[u8],
-    marks: &[u8],
-    table: &mut [u8],
-) -> Outcome
-    requires { ⌜ (length (now status) ≤ 512) × (4096 ≤ length (now table)) ⌝ }
-    ensures { λ r. ⌜ StepsIn 1024 (was positions) (was cells) (was status) (was marks) (was table) (is table) (r .refusal) (r .cells) ⌝ }
-{
-    if status.len() > 128 {
-        return step_few(positions, cells, status, marks, table);
-    }
-    let r = step_least(positions, cells, status, marks, table);
-    if r.refusal != 9 {
-        return r;
-    }
-    step_few(positions, cells, status, marks, table)
+    advance::advance_many(cells, positions.len() / 3, &rows, status, marks, new)
 }
 
 // The step of any table.
@@ -169,48 +119,48 @@ fn step_many(
     cells: &[u16],
     status: &[u8],
     marks: &[u8],
-    table: &mut [u8],
-) -> Outcome
-    requires { ⌜ 4096 ≤ length (now table) ⌝ }
-    ensures { λ r. ⌜ StepsIn 4096 (was positions) (was cells) (was status) (was marks) (was table) (is table) (r .refusal) (r .cells) ⌝ }
+    new: &mut [u8; 4096],
+) -> NewTable
+    ensures { λ r. ⌜ StepMade (was positions) (was cells) (was status) (was marks) (is new) (r .refusal) (r .cells) ⌝ }
 {
     let mut rows = [0u16; 32768];
     let mut ps = [0u32; 4096];
     let mut qs = [0u32; 4096];
     let refusal = begin(positions, cells, status, marks, &mut rows, &mut ps, &mut qs);
     if refusal != 0 {
-        return tables::refused(refusal);
+        return NewTable { refusal, cells: 0 };
     }
-    let mut new = [0u8; 4096];
-    let r = advance::advance_many(
-        cells,
-        positions.len() / 3,
-        &mut rows,
-        status,
-        marks,
-        &mut ps,
-        &mut qs,
-        &mut new,
-    );
-    if r.refusal != 0 {
-        return r;
-    }
-    base::copy_bytes(&new, r.cells, table);
-    r
+    advance::advance_many(cells, positions.len() / 3, &rows, status, marks, new)
 }
 
-// The call's answer.
-fn answer(refusal: u8, cells: usize) -> Stepped
-    ensures { λ r. ⌜ r ≡ steppedOf (answerOf refusal) cells ⌝ }
+// The step in tables for so many statuses: these are set to zero first.
+fn make(
+    positions: &[i32],
+    cells: &[u16],
+    status: &[u8],
+    marks: &[u8],
+    new: &mut [u8; 4096],
+) -> NewTable
+    ensures { λ r. ⌜ StepMade (was positions) (was cells) (was status) (was marks) (is new) (r .refusal) (r .cells) ⌝ }
 {
-    if refusal != 0 {
-        return Stepped::Refused(refusal);
+    if status.len() > 512 {
+        return step_many(positions, cells, status, marks, new);
     }
-    Stepped::Cells(cells)
+    if status.len() > 128 {
+        return step_few(positions, cells, status, marks, new);
+    }
+    step_least(positions, cells, status, marks, new)
 }
 
-// One step: the new status table in the lent one, and how many cells it has. Refusals 15 and 1 to 9. A small table is refined in small
-// tables, as these are set to zero first; where they have no room, it is done again in larger ones.
+// Copies the new statuses into the lent table.
+fn hand_out(new: &[u8; 4096], cells: usize, table: &mut [u8])
+    requires { ⌜ (cells ≤ 4096) × (4096 ≤ length (now table)) ⌝ }
+    ensures { λ u. ⌜ is table ≡ take cells (was new) ++ drop cells (was table) ⌝ }
+{
+    base::copy_bytes(new, cells, table);
+}
+
+// One step: the new status table in the lent one, and how many cells it has. Refusals 15 and 1 to 9.
 pub fn step(
     positions: &[i32],
     cells: &[u16],
@@ -229,14 +179,11 @@ pub fn step(
     if table.len() < 4096 {
         return Stepped::Refused(15);
     }
-    if status.len() > 512 {
-        let r = step_many(positions, cells, status, marks, table);
-        return answer(r.refusal, r.cells);
+    let mut new = [0u8; 4096];
+    let r = make(positions, cells, status, marks, &mut new);
+    if r.refusal != 0 {
+        return Stepped::Refused(r.refusal);
     }
-    let r = step_small(positions, cells, status, marks, table);
-    if r.refusal == 9 {
-        let r = step_many(positions, cells, status, marks, table);
-        return answer(r.refusal, r.cells);
-    }
-    answer(r.refusal, r.cells)
+    hand_out(&new, r.cells, table);
+    Stepped::Cells(r.cells)
 }

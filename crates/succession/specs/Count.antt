@@ -1,5 +1,5 @@
 -- The cells of the step's table are at least eight for each cell that will be red, and the coarse ones.
--- Laws: level-reds (of one level), reds-counted (of all).
+-- Law: reds-counted.
 use mathlib.Core.Path.{_≡_, refl, sym, _∙_, ap, ap₂, subst}
 use mathlib.Core.Bool.{Bool, true, false}
 use mathlib.Core.List.{List, [], _∷_, _++_, map, flatMap, flatten, List·Memᴰ}
@@ -32,10 +32,10 @@ use Rattle.lineage.specs.Paths.{pathAt}
 use Rattle.lineage.specs.Flags.{newRedAt}
 use Rattle.lineage.specs.Met.{oldAt, oldAbove, newAt, flagged, new-known}
 use Rattle.lineage.specs.Stays.{Stays, stays}
-use Rattle.lineage.specs.Step.{olds-many}
 use Rattle.soundness.specs.Sound.{Sound, sound-from}
-use Rattle.succession.specs.Keeps.{red-kept}
-use Rattle.succession.specs.Write.{first-of, behind, grow-none}
+use Rattle.succession.specs.Keeps.{kept-is-red}
+use Rattle.succession.specs.Write.{first-of, level-behind}
+use Rattle.lineage.specs.Step.{olds-many, grow-nothing}
 
 -- a range that begins one later
 range-later : (k n : ℕ) → range (suc k) n ≡ map suc (range k n)
@@ -114,7 +114,7 @@ module _ (n : ℕ) (qs : List (List ℕ)) (ss ms : List ℕ) (s : Sound n qs ss)
       (member-filtered (λ i. redb (getD (new k .statuses) i 0)) (range 0 (length (new k .statuses))) (z .i)
       (range-member 0 (length (new k .statuses)) (z .i) (omega arith) (omega arith)) (rw (z .status) tt)))
 
-  pub level-reds : (k : ℕ) → k < 12 → 8 * length (willPlaces k) ≤ sizes (new k .statuses)
+  level-reds : (k : ℕ) → k < 12 → 8 * length (willPlaces k) ≤ sizes (new k .statuses)
   level-reds k g =
       let f = no-more (map (pathAt (old k .cells)) (willPlaces k)) (map (pathAt (new k .cells)) (redPlaces (new k .statuses)))
       (no-dup-chosen (pathAt (old k .cells)) (will k) 0 (length (old k .cells))
@@ -149,7 +149,7 @@ module _ (n : ℕ) (qs : List (List ℕ)) (ss ms : List ℕ) (s : Sound n qs ss)
     unfolding levels
     count-level j ol =
         let old-is : level ≡ old j = first-of noLevel (levelsOf n qs ss) j (level ∷ upper) ol in
-        let up-is : upper ≡ oldAbove n qs ss j = behind noLevel (levelsOf n qs ss) j (level ∷ upper) ol in
+        let up-is : upper ≡ oldAbove n qs ss j = level-behind noLevel (levelsOf n qs ss) j (level ∷ upper) ol in
         let many : length keeps ≡ length (old j .cells) = keeps-many m ss fs ms h i c cs rs r
         ∙ ap (λ (l : Level). length (l .cells)) old-is in
         count-places redb keeps
@@ -160,7 +160,7 @@ module _ (n : ℕ) (qs : List (List ℕ)) (ss ms : List ℕ) (s : Sound n qs ss)
           member-range 0 (length keeps) t q .1,
           keeps-many m ss fs ms h i c cs rs r,
         )))
-        ∙ red-kept n qs ss ms s (edgesUp (newReds (level ∷ upper) ms)) (newRedAt ms upper level t) (getD (c ∷ cs) t noCell)
+        ∙ kept-is-red n qs ss ms s (edgesUp (newReds (level ∷ upper) ms)) (newRedAt ms upper level t) (getD (c ∷ cs) t noCell)
         ∙ ap₂ (λ (u : List Level) (l : Level). newRedAt ms u l t) up-is old-is))
         ∙ ap (λ (x : ℕ). length (filterb (will j) (range 0 x))) many
 
@@ -191,7 +191,7 @@ module _ (n : ℕ) (qs : List (List ℕ)) (ss ms : List ℕ) (s : Sound n qs ss)
       let up = levels h (i + length (c ∷ cs)) (next i (c ∷ cs) (take (length (c ∷ cs)) rs)) (drop (length (c ∷ cs)) rs) in
       let here-is : _≡_ {A = Level} noLevel (newAt n qs ss ms j) = first-of noLevel (newLevels n qs ss ms) j [] nl in
       let nl' : growLevels m ss fs h k [] [] ≡ drop (suc j) (newLevels n qs ss ms) =
-      levels-none h k [] ∙ behind noLevel (newLevels n qs ss ms) j [] nl in
+      levels-none h k [] ∙ level-behind noLevel (newLevels n qs ss ms) j [] nl in
       let none : sizes (new j .statuses) ≡ 0 = ap (λ (l : Level). sizes (l .statuses)) (sym here-is) in
       omega (
         arith,
@@ -201,8 +201,8 @@ module _ (n : ℕ) (qs : List (List ℕ)) (ss ms : List ℕ) (s : Sound n qs ss)
         none,
         count-from h (i + length (c ∷ cs)) (next i (c ∷ cs) (take (length (c ∷ cs)) rs)) (drop (length (c ∷ cs)) rs)
             (rest-next m ss fs ms h i c cs rs r) k [] [] refl (suc j) (omega arith)
-            (behind noLevel (levelsOf n qs ss) j (levels (suc h) i (c ∷ cs) rs) ol) nl',
-        ap (λ (l : List (List ℕ)). length (flatten l)) (grow-none m ss fs h k []),
+            (level-behind noLevel (levelsOf n qs ss) j (levels (suc h) i (c ∷ cs) rs) ol) nl',
+        ap (λ (l : List (List ℕ)). length (flatten l)) (grow-nothing m ss fs h k []),
       )
   count-from (suc h) i (c ∷ cs) rs r k (d ∷ ds) os e j q ol nl =
       let up = levels h (i + length (c ∷ cs)) (next i (c ∷ cs) (take (length (c ∷ cs)) rs)) (drop (length (c ∷ cs)) rs) in
@@ -222,8 +222,8 @@ module _ (n : ℕ) (qs : List (List ℕ)) (ss ms : List ℕ) (s : Sound n qs ss)
         length-append ts (flatten (growBy m ss fs h (k + length (d ∷ ds)) above os2)),
         count-from h (i + length (c ∷ cs)) (next i (c ∷ cs) (take (length (c ∷ cs)) rs)) (drop (length (c ∷ cs)) rs)
             (rest-next m ss fs ms h i c cs rs r) (k + length (d ∷ ds)) above os2 (length-up m ss fs k (d ∷ ds) os e) (suc j)
-            (omega arith) (behind noLevel (levelsOf n qs ss) j (levels (suc h) i (c ∷ cs) rs) ol)
-            (behind noLevel (newLevels n qs ss ms) j (growLevels m ss fs (suc h) k (d ∷ ds) os) nl),
+            (omega arith) (level-behind noLevel (levelsOf n qs ss) j (levels (suc h) i (c ∷ cs) rs) ol)
+            (level-behind noLevel (newLevels n qs ss ms) j (growLevels m ss fs (suc h) k (d ∷ ds) os) nl),
       )
 
   pub reds-counted : 8 * length (filterb redb (keptTable n qs ss ms)) + length qs ≤ length (flatten (stepBy n qs ss ms))

@@ -1,11 +1,11 @@
 -- A cell that was there has after the step what it keeps.
--- Laws: kept-red, kept-pattern (what a cell keeps), kept-flag (it keeps 64 where it will be red), kept-status (the new status of a cell that
--- was there).
+-- Laws: kept-pattern (what a cell keeps), kept-is-red (it keeps 64 where it will be red), status-kept (the new status of a cell that was
+-- there).
 use mathlib.Core.Path.{_≡_, refl, sym, _∙_, ap}
 use mathlib.Core.Logic.{_⊎_, inl, inr}
 use mathlib.Core.Bool.{Bool, true, false}
 use mathlib.Core.List.{List, [], map}
-use Prim.Native.Nat.{ℕ, _+_, _<_}
+use Prim.Native.Nat.{ℕ, _<_}
 use native.Mathlib.Omega.{arith}
 use lib.Dec.{T}
 use lib.ListN.{length, getD}
@@ -16,20 +16,18 @@ use Rattle.mesh.specs.Cells.{Cell, redb, heldb, bitsOf, pattern, noCell}
 use Rattle.mesh.specs.Weights.{Point}
 use Rattle.mesh.specs.Table.{soundb}
 use Rattle.mesh.specs.Laws.{pattern-small}
-use Rattle.lineage.specs.Olds.{flagTable}
-use Rattle.lineage.specs.Kept.{keptOf, keptTable}
-use Rattle.lineage.specs.KeptAt.{keptAt, kept-at}
+use Rattle.lineage.specs.Kept.{keptOf}
+use Rattle.lineage.specs.KeptAt.{keptAt}
 use Rattle.lineage.specs.Same.{Is, Fresh}
-use Rattle.lineage.specs.Flags.{newRedAt, flag-red}
+use Rattle.lineage.specs.Flags.{newRedAt}
 use Rattle.lineage.specs.Met.{Matched, oldAt, oldAbove, newAt, flagged, met}
 use Rattle.carriers.specs.Joins.{Edge}
 use Rattle.soundness.specs.Sound.{Sound, sound-from}
 use Rattle.soundness.specs.Meets.{edges-alike}
-use Rattle.soundness.specs.Whole.{spot-with}
 use Rattle.succession.specs.After.{newEdges, new-status}
 
 module _ (es : List Edge) (b : Bool) (c : Cell Point) where
-  pub kept-red : b ≡ true → keptOf [] sameb es b c ≡ 64
+  kept-red : b ≡ true → keptOf [] sameb es b c ≡ 64
   unfolding keptOf
   kept-red e = rw (e, keptOf)
 
@@ -44,11 +42,11 @@ module _ (n : ℕ) (qs : List (List ℕ)) (ss ms : List ℕ) (s : Sound n qs ss)
   abbrev will : ℕ → ℕ → Bool
   will k t = newRedAt ms (oldAbove n qs ss k) (oldAt n qs ss k) t
 
-  pub kept-status : (k : ℕ) → k < 12 → (v : ℕ) → v < length (newAt n qs ss ms k .cells) → (t : ℕ)
+  pub status-kept : (k : ℕ) → k < 12 → (v : ℕ) → v < length (newAt n qs ss ms k .cells) → (t : ℕ)
       → Is (oldAt n qs ss k) t (getD (newAt n qs ss ms k .cells) v noCell) → T (getD (newAt n qs ss ms k .cells) v noCell .regular)
       → getD (newAt n qs ss ms k .statuses) v 0 ≡ keptAt n qs ss ms k t
   unfolding pattern
-  kept-status k g v h t is r = go (met n qs ss ms sound k v h r)
+  status-kept k g v h t is r = go (met n qs ss ms sound k v h r)
     where
       by : redb (getD (newAt n qs ss ms k .statuses) v 0) ≡ will k t → (will k t ≡ true) ⊎ (will k t ≡ false)
           → getD (newAt n qs ss ms k .statuses) v 0 ≡ keptAt n qs ss ms k t
@@ -71,17 +69,8 @@ module _ (n : ℕ) (qs : List (List ℕ)) (ss ms : List ℕ) (s : Sound n qs ss)
           by (w .red ∙ ap (will k) y) (either (will k t))
       go (inr (a, f)) = absurd (f t (is .below) (is .regular) (is .path))
 
-  pub red-kept : (es : List Edge) (b : Bool) (c : Cell Point) → redb (keptOf [] sameb es b c) ≡ b
-  red-kept es true c = ap redb (kept-red es true c refl)
-  red-kept es false c =
+  pub kept-is-red : (es : List Edge) (b : Bool) (c : Cell Point) → redb (keptOf [] sameb es b c) ≡ b
+  kept-is-red es true c = ap redb (kept-red es true c refl)
+  kept-is-red es false c =
       ap redb (kept-pattern es false c refl)
       ∙ ne-eqb (pattern [] sameb es c) 64 (λ e. omega (arith, pattern-small [] sameb es c))
-
-  pub kept-flag : (c : ℕ) → c < length ss → redb (getD (keptTable n qs ss ms) c 0) ≡ redb (getD (flagTable n qs ss ms) c 0)
-  kept-flag c h =
-      let o = spot-with n qs ss c (omega (arith, s .many)) in
-      let e : oldAt n qs ss (o .j) .first + o .p ≡ c = omega (arith, o .at .first, o .number) in
-      rw (← e)
-      (ap redb (kept-at n qs ss ms sound (o .j) (o .p) (o .below))
-      ∙ red-kept (newEdges n qs ss ms (o .j)) (will (o .j) (o .p)) (getD (oldAt n qs ss (o .j) .cells) (o .p) noCell)
-      ∙ sym (ap redb (flagged n qs ss ms sound (o .j) .flag (o .p) (o .below)) ∙ flag-red (will (o .j) (o .p))))

@@ -31,7 +31,7 @@ use Rattle.lineage.specs.Kept.{keptTable, digitPair, heldPairs, bornBy, bornNex
 use Rattle.lineage.specs.KeptAt.{kept-at, kept-length}
 use Rattle.lineage.specs.Families.{born-green, born-kept, born-fresh, length-fresh, fresh-at, born-next}
 use Rattle.lineage.specs.Born.{childOf, born-below, born-at}
-use Rattle.lineage.specs.Same.{Is, Fresh, Old, both-at, points-same, old-none, child-old}
+use Rattle.lineage.specs.Same.{Is, Fresh, Old, both-at, points-same, child-none, child-old}
 use Rattle.lineage.specs.Met.{Matched, oldAt, oldAbove, newAt, new-next, old-up, new-known, new-follows, met}
 use Rattle.carriers.specs.Joins.{Edge}
 use Rattle.carriers.specs.Child.{child-edge}
@@ -39,8 +39,8 @@ use Rattle.soundness.specs.Sound.{Sound, sound-from, lv}
 use Rattle.soundness.specs.Meets.{point-same}
 use Rattle.soundness.specs.Whole.{spot-at}
 use Rattle.succession.specs.After.{newEdges, new-status}
-use Rattle.succession.specs.Keeps.{kept-status}
-use Rattle.succession.specs.OldFamily.{Kid, kid, pair}
+use Rattle.succession.specs.Keeps.{status-kept}
+use Rattle.succession.specs.OldFamily.{OldKid, kid-there, pair}
 
 module _ (n : ℕ) (qs : List (List ℕ)) (ss ms : List ℕ) (s : Sound n qs ss) (regular : (i : ℕ)
     → All (IfRegular n i) (lv n qs ss i .cells)) where
@@ -152,9 +152,9 @@ module _ (n : ℕ) (qs : List (List ℕ)) (ss ms : List ℕ) (s : Sound n qs ss)
           red : S ≡ 64
           red = eqb-true S 64 (ap redb (sym (w .status)) ∙ k)
 
-          kid-at : (i : ℕ) → i < 8 → Kid n qs ss ms s j (w .u) (w .is .below) i
+          kid-at : (i : ℕ) → i < 8 → OldKid n qs ss ms s j (w .u) (w .is .below) i
           unfolding patternOf
-          kid-at i l = kid n qs ss ms s j (w .u) (w .is .below) i (λ z. omega (arith, red, z)) (rw red (small i l))
+          kid-at i l = kid-there n qs ss ms s j (w .u) (w .is .below) i (λ z. omega (arith, red, z)) (rw red (small i l))
 
           number-is : (i : ℕ) (l : i < 8) → firstChild m ss (o p) + i ≡ old (suc j) .first + kid-at i l .u
           number-is i l = ap (λ (x : ℕ). firstChild m ss x + i) (w .number) ∙ kid-at i l .number
@@ -194,7 +194,7 @@ module _ (n : ℕ) (qs : List (List ℕ)) (ss ms : List ℕ) (s : Sound n qs ss)
               ∙ getD-drop (firstChild m ss (o p)) ks i 0
               ∙ ap (λ (z : ℕ). getD ks z 0) (number-is i l)
               ∙ kept-at n qs ss ms sound (suc j) (x .u) (x .below)
-              ∙ sym (kept-status n qs ss ms s (suc j) g (v p i h (eight i l)) (below p i h (eight i l)) (x .u) (is-at i l)
+              ∙ sym (status-kept n qs ss ms s (suc j) g (v p i h (eight i l)) (below p i h (eight i l)) (x .u) (is-at i l)
               (rw (y, e) tt))
 
         -- one that is new
@@ -203,7 +203,9 @@ module _ (n : ℕ) (qs : List (List ℕ)) (ss ms : List ℕ) (s : Sound n qs ss)
           not-red z = not-both (redb (getD ss (o p) 0)) (ap redb (w .status ∙ z)) k
 
           fresh-many : length (bornBy m ss ks (t p) (o p)) ≡ sizeOf (t p)
-          fresh-many = ap length (born-fresh m ss ks (t p) (o p) (ap redb e) k) ∙ length-fresh (getD ss (o p) 0) ks (firstChild m ss (o p)) ∙ sym (size-red (t p) e)
+          fresh-many =
+              ap length (born-fresh m ss ks (t p) (o p) (ap redb e) k) ∙ length-fresh (getD ss (o p) 0) ks (firstChild m ss (o p))
+              ∙ sym (size-red (t p) e)
 
           module _ (i : ℕ) (l : i < 8) where
             abbrev d : Cell Point
@@ -228,7 +230,7 @@ module _ (n : ℕ) (qs : List (List ℕ)) (ss ms : List ℕ) (s : Sound n qs ss)
                     → getD (old (suc j) .cells) u noCell .path ≡ c p .path ++ (i ∷ [])
                     → Old (old (suc j)) (childOf (new j .first + p) (c p) 64 i) (oldChild m ss (o p) i) → ⊥
                 go u b r q (inl (x, y, z, is)) =
-                    omega (arith, y, old-none m ss (o p) i k, number-below (suc j) x (is .below), s .many, s .few)
+                    omega (arith, y, child-none m ss (o p) i k, number-below (suc j) x (is .below), s .many, s .few)
                 go u b r q (inr (y, f)) = f tt u b r q
 
             red-not : redb (getD (new (suc j) .statuses) (v p i h (eight i l)) 0) ≡ false
@@ -245,7 +247,8 @@ module _ (n : ℕ) (qs : List (List ℕ)) (ss ms : List ℕ) (s : Sound n qs ss)
             G = getD (old j .cells) (w .u) noCell
 
             held-edge : (y : ℕ) → y < 6
-                → heldb sameb (newEdges n qs ss ms (suc j)) (edge [] d y) ≡ memberb (digitPair 63 i y) (heldPairs (getD ss (o p) 0) ks (firstChild m ss (o p)))
+                → heldb sameb (newEdges n qs ss ms (suc j)) (edge [] d y) ≡ memberb (digitPair 63 i y)
+                (heldPairs (getD ss (o p) 0) ks (firstChild m ss (o p)))
             unfolding patternOf
             held-edge y hy =
                 let up63 : 63 < 64 = omega arith in
@@ -267,11 +270,13 @@ module _ (n : ℕ) (qs : List (List ℕ)) (ss ms : List ℕ) (s : Sound n qs ss)
 
             fresh-one : getD (bornBy m ss ks (t p) (o p)) i 0 ≡ getD (new (suc j) .statuses) (v p i h (eight i l)) 0
             fresh-one =
-                ap (λ (r : List ℕ). getD r i 0) (born-fresh m ss ks (t p) (o p) (ap redb e) k) ∙ fresh-at (getD ss (o p) 0) ks (firstChild m ss (o p)) i l
+                ap (λ (r : List ℕ). getD r i 0) (born-fresh m ss ks (t p) (o p) (ap redb e) k)
+                ∙ fresh-at (getD ss (o p) 0) ks (firstChild m ss (o p)) i l
                 ∙ sym (new-status n qs ss ms s (suc j) g (v p i h (eight i l)) (below p i h (eight i l)) reg-d red-not
                 ∙ ap bitsOf (edges-six (heldb sameb (newEdges n qs ss ms (suc j))) d
                 ∙ map-agree (λ y. heldb sameb (newEdges n qs ss ms (suc j)) (edge [] d y))
-                (λ y. memberb (digitPair 63 i y) (heldPairs (getD ss (o p) 0) ks (firstChild m ss (o p)))) edgeNumbers (λ y q. held-edge y (six-below y q))))
+                (λ y. memberb (digitPair 63 i y) (heldPairs (getD ss (o p) 0) ks (firstChild m ss (o p)))) edgeNumbers
+                (λ y q. held-edge y (six-below y q))))
 
       -- any family
       many-at : (p : ℕ) → p < length (new j .statuses) → length (bornBy m ss ks (t p) (o p)) ≡ sizeOf (t p)

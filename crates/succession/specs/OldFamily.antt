@@ -1,7 +1,7 @@
 -- The edges that new red cells hold, among those of the old family of a cell that was not red.
---   Kid j t i     where the child i of the cell t of level j stands
--- Laws: kid (a family's children are there), kid-keeps (what such a child keeps), pair (an edge between two points of the cell is held where
--- it stands among the held pairs of the old family).
+--   OldKid j t i     where the child i of the cell t of level j stands
+-- Laws: kid-there (a family's children are there), kid-keeps (what such a child keeps), pair (an edge between two points of the cell is
+-- held where it stands among the held pairs of the old family).
 use mathlib.Core.Path.{_≡_, refl, sym, _∙_, ap, ap₂, subst}
 use mathlib.Core.Logic.{_≢_}
 use mathlib.Core.Bool.{Bool, true, false}
@@ -77,14 +77,14 @@ module _ (n : ℕ) (qs : List (List ℕ)) (ss ms : List ℕ) (s : Sound n qs ss)
         let e : a .o + t ≡ lv n qs ss j .first + t = omega (arith, a .first) in
         rw e at (a .status)
 
-    pub record Kid (i : ℕ) : Type 0 where
+    pub record OldKid (i : ℕ) : Type 0 where
       pub u : ℕ
       pub below : u < length (lv n qs ss (suc j) .cells)
       pub number : firstChild m ss o + i ≡ lv n qs ss (suc j) .first + u
       pub is : getD (lv n qs ss (suc j) .cells) u noCell ≡ childOf o G S i
 
-    pub kid : (i : ℕ) → S ≢ 0 → i < length (family (patternOf S)) → Kid i
-    kid i z f =
+    pub kid-there : (i : ℕ) → S ≢ 0 → i < length (family (patternOf S)) → OldKid i
+    kid-there i z f =
         let l = lv n qs ss j in
         let up = lv n qs ss (suc j) in
         let known : t < length (l .statuses) = omega (arith, flagged n qs ss ms sound j .known) in
@@ -101,7 +101,7 @@ module _ (n : ℕ) (qs : List (List ℕ)) (ss ms : List ℕ) (s : Sound n qs ss)
 
     module _ (nr : S ≢ 64) where
       -- a child that is not regular will not be red
-      stays-green : (i : ℕ) (w : Kid i) → newRedAt ms (oldAbove n qs ss (suc j)) (lv n qs ss (suc j)) (w .u) ≡ false
+      stays-green : (i : ℕ) (w : OldKid i) → newRedAt ms (oldAbove n qs ss (suc j)) (lv n qs ss (suc j)) (w .u) ≡ false
       stays-green i w = go (newRedAt ms (oldAbove n qs ss (suc j)) (lv n qs ss (suc j)) (w .u)) refl
         where
           go : (b : Bool) → newRedAt ms (oldAbove n qs ss (suc j)) (lv n qs ss (suc j)) (w .u) ≡ b
@@ -113,14 +113,14 @@ module _ (n : ℕ) (qs : List (List ℕ)) (ss ms : List ℕ) (s : Sound n qs ss)
               not-both (redb S) (sym (ap (λ (c : Cell Point). c .regular) (w .is))
               ∙ is-true (getD (lv n qs ss (suc j) .cells) (w .u) noCell .regular) r) (ne-eqb S 64 nr)
 
-      kid-keeps : (i : ℕ) (w : Kid i) → getD ks (firstChild m ss o + i) 0 ≡ pattern [] sameb (new (suc j))
+      kid-keeps : (i : ℕ) (w : OldKid i) → getD ks (firstChild m ss o + i) 0 ≡ pattern [] sameb (new (suc j))
           (getD (lv n qs ss (suc j) .cells) (w .u) noCell)
       kid-keeps i w =
           ap (λ (x : ℕ). getD ks x 0) (w .number) ∙ kept-at n qs ss ms sound (suc j) (w .u) (w .below)
           ∙ kept-pattern (new (suc j)) (newRedAt ms (oldAbove n qs ss (suc j)) (lv n qs ss (suc j)) (w .u))
           (getD (lv n qs ss (suc j) .cells) (w .u) noCell) (stays-green i w)
 
-      kid-splits : (i : ℕ) (w : Kid i) (y : ℕ) → y < 6
+      kid-splits : (i : ℕ) (w : OldKid i) (y : ℕ) → y < 6
           → split (getD ks (firstChild m ss o + i) 0) y ≡ heldb sameb (new (suc j))
           (edge [] (getD (lv n qs ss (suc j) .cells) (w .u) noCell) y)
       kid-splits i w y h =
@@ -141,7 +141,7 @@ module _ (n : ℕ) (qs : List (List ℕ)) (ss ms : List ℕ) (s : Sound n qs ss)
         pair-up a b ab hb held =
             let w : FreshEdge n qs ss ms s regular j t a b = fresh-edge n qs ss ms s regular j t ht rt a b ab hb held in
             let inside = inside-child n qs ss ms s regular j t (w .i) ht (w .child) in
-            let k : Kid (w .i) = kid (w .i) (w .refined) inside in
+            let k : OldKid (w .i) = kid-there (w .i) (w .refined) inside in
             let same : getD (lv n qs ss (suc j) .cells) (w .child .u) noCell ≡ getD (lv n qs ss (suc j) .cells) (k .u) noCell = w .child .is
             ∙ sym (k .is) in
             let held' : T (split (getD ks (firstChild m ss o + w .i) 0) (w .y)) = rw (kid-splits (w .i) k (w .y) (w .below), ← same)
@@ -168,7 +168,7 @@ module _ (n : ℕ) (qs : List (List ℕ)) (ss ms : List ℕ) (s : Sound n qs ss)
             let many : i < sizeOf S = rw (← status-is) (omega (arith, member-range 0 (sizeOf (getD ss o 0)) i mi .1)) in
             let z : S ≢ 0 = size-some S i many in
             let inside : i < length (family (patternOf S)) = omega (arith, size-refined S z, many) in
-            let k : Kid i = kid i z inside in
+            let k : OldKid i = kid-there i z inside in
             let e' : 10 * a + b ≡ digitPair (patternOf S) i y = e ∙ ap (λ (x : ℕ). digitPair (patternOf x) i y) status-is in
             let rise = digits-rise (patternOf S) i small inside y hy in
             let under = digits-below (patternOf S) i small inside y hy in
@@ -189,5 +189,5 @@ module _ (n : ℕ) (qs : List (List ℕ)) (ss ms : List ℕ) (s : Sound n qs ss)
         pub pair : (a b : ℕ) → a < b → b < 10
             → heldb sameb (new (suc j)) (point G a, point G b) ≡ memberb (10 * a + b) (heldPairs (getD ss o 0) ks (firstChild m ss o))
         pair a b ab hb =
-            same-test (heldb sameb (new (suc j)) (point G a, point G b)) (memberb (10 * a + b) (heldPairs (getD ss o 0) ks (firstChild m ss o))) (pair-up a b ab hb)
-            (pair-down a b hb)
+            same-test (heldb sameb (new (suc j)) (point G a, point G b)) (memberb (10 * a + b)
+            (heldPairs (getD ss o 0) ks (firstChild m ss o))) (pair-up a b ab hb) (pair-down a b hb)

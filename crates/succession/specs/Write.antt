@@ -1,5 +1,5 @@
 -- The step's table, written level by level from what the old cells keep.
--- Laws: first-of and behind (levels from one on), grow-none (no cells), write-step (the theorem).
+-- Laws: first-of and level-behind (levels from one on), write-step (the theorem).
 use mathlib.Core.Path.{_≡_, refl, sym, _∙_, ap, subst}
 use mathlib.Core.List.{List, [], _∷_, _++_}
 use Prim.Native.Nat.{ℕ, zero, suc, _+_, _-_, _<_}
@@ -25,11 +25,11 @@ use Rattle.lineage.specs.Same.{Old, both-more, olds-next}
 use Rattle.lineage.specs.Paths.{coarse-at}
 use Rattle.lineage.specs.Levels.{growLevels, newLevels, here, length-statuses, length-up, first-first}
 use Rattle.lineage.specs.Rest.{Rest, rest-start, rest-next, rest-up}
-use Rattle.lineage.specs.Step.{Dark, olds-many, olds-start, refined-statuses, no-reds, dark-empty}
+use Rattle.lineage.specs.Step.{Dark, olds-many, olds-start, refined-statuses, no-reds, grow-nothing, dark-empty}
 use Rattle.lineage.specs.Met.{oldAt, newAt, old-coarse, new-coarse}
 use Rattle.soundness.specs.Sound.{Sound, sound-from, lv, level-there}
 use Rattle.soundness.specs.Whole.{spot-at}
-use Rattle.succession.specs.Keeps.{kept-status}
+use Rattle.succession.specs.Keeps.{status-kept}
 use Rattle.succession.specs.Next.{next-statuses}
 
 -- leaves have no children
@@ -49,11 +49,6 @@ unfolding writeBy
 write-none m ss ks zero os = refl
 write-none m ss ks (suc h) os = refl
 
-pub grow-none : (m : ℕ) (ss fs : List ℕ) (h k : ℕ) (os : List ℕ) → growBy m ss fs h k [] os ≡ []
-unfolding growBy
-grow-none m ss fs zero k os = refl
-grow-none m ss fs (suc h) k os = refl
-
 -- the statuses of the first level
 first-statuses : (m : ℕ) (ss fs : List ℕ) (h k : ℕ) (cs : List (Cell Point)) (os : List ℕ)
     → getD (growLevels m ss fs (suc h) k cs os) 0 noLevel .statuses ≡ statusesBy fs cs os
@@ -66,8 +61,8 @@ module _ {A : Type 0} (d : A) (l : List A) (j : ℕ) where
   pub first-of : (r : List A) → r ≡ drop j l → getD r 0 d ≡ getD l j d
   first-of r e = ap (λ (x : List A). getD x 0 d) e ∙ getD-drop j l 0 d ∙ ap (λ (x : ℕ). getD l x d) (add-zero j)
 
-  pub behind : (r : List A) → r ≡ drop j l → drop 1 r ≡ drop (suc j) l
-  behind r e = let w : j + 1 ≡ suc j = omega arith in ap (drop 1) e ∙ drop-drop 1 j l ∙ ap (λ (x : ℕ). drop x l) w
+  pub level-behind : (r : List A) → r ≡ drop j l → drop 1 r ≡ drop (suc j) l
+  level-behind r e = let w : j + 1 ≡ suc j = omega arith in ap (drop 1) e ∙ drop-drop 1 j l ∙ ap (λ (x : ℕ). drop x l) w
 
 module _ (n : ℕ) (qs : List (List ℕ)) (ss ms : List ℕ) (s : Sound n qs ss) (regular : (i : ℕ)
     → All (IfRegular n i) (lv n qs ss i .cells)) where
@@ -101,7 +96,7 @@ module _ (n : ℕ) (qs : List (List ℕ)) (ss ms : List ℕ) (s : Sound n qs ss)
       ap (λ (x : List (List ℕ)). ts ∷ x)
       (ap (λ (x : List ℕ). writeBy m ss ks h x os2) born ∙ write-none m ss ks h os2
       ∙ sym (ap (λ (x : List (Cell Point)). growBy m ss fs h (k + length (d ∷ ds)) x os2) up
-      ∙ grow-none m ss fs h (k + length (d ∷ ds)) os2))
+      ∙ grow-nothing m ss fs h (k + length (d ∷ ds)) os2))
 
   write-at : (h i : ℕ) (cs : List (Cell Point)) (rs : List ℕ) → Rest m ss fs ms h i cs rs → (k : ℕ) (ds : List (Cell Point)) (os : List ℕ)
       → length os ≡ length ds → Both (Old (here i cs rs)) ds os → (j : ℕ) → j + h ≡ 12 → levels h i cs rs ≡ drop j (levelsOf n qs ss)
@@ -125,8 +120,8 @@ module _ (n : ℕ) (qs : List (List ℕ)) (ss ms : List ℕ) (s : Sound n qs ss)
       let old-is : l ≡ oldAt n qs ss j = first-of noLevel (levelsOf n qs ss) j (levels (suc (suc h)) i (c ∷ cs) rs) ol in
       let new-is : _≡_ {A = Level} (record { first = k; cells = d ∷ ds; statuses = ts }) (newAt n qs ss ms j) =
       first-of noLevel (newLevels n qs ss ms) j (growLevels m ss fs (suc (suc h)) k (d ∷ ds) (o ∷ os)) nl in
-      let ol' = behind noLevel (levelsOf n qs ss) j (levels (suc (suc h)) i (c ∷ cs) rs) ol in
-      let nl' = behind noLevel (newLevels n qs ss ms) j (growLevels m ss fs (suc (suc h)) k (d ∷ ds) (o ∷ os)) nl in
+      let ol' = level-behind noLevel (levelsOf n qs ss) j (levels (suc (suc h)) i (c ∷ cs) rs) ol in
+      let nl' = level-behind noLevel (newLevels n qs ss ms) j (growLevels m ss fs (suc (suc h)) k (d ∷ ds) (o ∷ os)) nl in
       let cells-is : d ∷ ds ≡ newAt n qs ss ms j .cells = ap (λ (x : Level). x .cells) new-is in
       let many : length (o ∷ os) ≡ length (newAt n qs ss ms j .cells) = e ∙ ap length cells-is in
       let olds : Both (Old (oldAt n qs ss j)) (newAt n qs ss ms j .cells) (o ∷ os) =
@@ -166,7 +161,7 @@ module _ (n : ℕ) (qs : List (List ℕ)) (ss ms : List ℕ) (s : Sound n qs ss)
 
     coarse-one : getD (newAt n qs ss ms 0 .statuses) i 0 ≡ getD ks i 0
     coarse-one =
-        kept-status n qs ss ms s 0 (omega arith) i (rw (← old-cells) there) i
+        status-kept n qs ss ms s 0 (omega arith) i (rw (← old-cells) there) i
         (record {
           below = there;
           path = ap (λ (x : List (Cell Point)). getD x i noCell .path) old-cells;

@@ -13,14 +13,22 @@ use Rattle.mesh.specs.Cells.{closedFrom, redEdges}
 use Rattle.mesh.specs.Table.{soundb, sizes}
 use Rattle.rows.specs.Numbered.{part}
 use Rattle.growth.specs.Level.{Grows, Roomy}
-use Rattle.rows.specs.Sizes.{status-fits}
 use Rattle.closure.specs.Listed.{Looks}
 use Rattle.separation.specs.Parents.{Parents}
 use Rattle.tables.specs.Sound.{Examined}
 use Rattle.tables.specs.Finish.{EndedWith, unsound-examined, top-looks, top-parents, top-ended}
 use Rattle.tables.specs.Checked.{Statuses, Whole, Checked, ownStatuses}
 use Rattle.tables.specs.Here.{Here, Top}
-use Rattle.tables.specs.Onward.{fails-short, fails-more, fails-high, fails-open, closed-are, here-next, here-top}
+use Rattle.tables.specs.Onward.{
+  fails-short,
+  fails-more,
+  fails-high,
+  fails-open,
+  closed-are,
+  laying-room,
+  here-next,
+  here-top,
+}
 
 module _ (n : ℕ) (qs : List (List ℕ)) (ss : List ℕ) (j first last : ℕ) (rows xs ys heads links : List ℕ) (k : ℕ)
     (ps ps′ heads′ links′ : List ℕ) (m : ℕ)
@@ -30,10 +38,10 @@ module _ (n : ℕ) (qs : List (List ℕ)) (ss : List ℕ) (j first last : ℕ) (
     turn-fails : ok ≡ false → soundb n qs ss ≡ false
     turn-fails e =
         elim (decLt (length ss) last) [
-          | yes l ↦ fails-short n qs ss j first last rows xs ys heads links k ps ps′ heads′ links′ m h l
+          | yes l ↦ fails-short n qs ss j first last rows ps ps′ heads′ links′ m (h .laying) l
           | no l ↦ elim (decLt (length ss) (last + sizes (ownStatuses rows ss first last))) [
-            | yes g ↦ fails-more n qs ss j first last rows xs ys heads links k ps ps′ heads′ links′ m h (omega (arith, l)) g
-            | no g ↦ fails-open n qs ss j first last rows xs ys heads links k ps ps′ heads′ links′ m h
+            | yes g ↦ fails-more n qs ss j first last rows ps ps′ heads′ links′ m (h .laying) (omega (arith, l)) g
+            | no g ↦ fails-open n qs ss j first last rows ps ps′ heads′ links′ m (h .laying)
                 (sym (c .whole (omega (arith, l)) (omega (arith, g)) .closed) ∙ e)
           ]
         ]
@@ -54,10 +62,10 @@ module _ (n : ℕ) (qs : List (List ℕ)) (ss : List ℕ) (j first last : ℕ) (
         ]
 
     module _ (e : ok ≡ true) where
-      closed : closedFrom [] sameb (redEdges [] (h .cells) (part ss first (length (h .cells)))) (h .cells)
-          (part ss first (length (h .cells)))
+      closed : closedFrom [] sameb (redEdges [] (h .laying .cells) (part ss first (length (h .laying .cells)))) (h .laying .cells)
+          (part ss first (length (h .laying .cells)))
           ≡ true
-      closed = sym (closed-are n qs ss j first last rows xs ys heads links k ps ps′ heads′ links′ m h) ∙ sym (turn-fits e .whole .closed)
+      closed = sym (closed-are n qs ss j first last rows ps ps′ heads′ links′ m (h .laying)) ∙ sym (turn-fits e .whole .closed)
           ∙ e
 
       turn-inside : last ≤ length ss
@@ -68,34 +76,18 @@ module _ (n : ℕ) (qs : List (List ℕ)) (ss : List ℕ) (j first last : ℕ) (
           let f = turn-fits e in
           let s : sizes (ownStatuses rows ss first last) ≡ 0 = sym (f .whole .many) ∙ z in
           let q : last + size ≡ last = omega arith in
-          here-top n qs ss j first last rows xs ys heads links k ps ps′ heads′ links′ m h closed (f .inside) st s xs₁ ys₁ heads₁ links₁ k₁
-          (f .whole .grown) (rw q at (f .whole .reds))
+          here-top n qs ss j first last rows ps ps′ heads′ links′ m (h .laying) closed (f .inside) st s xs ys k xs₁ ys₁ heads₁ links₁ k₁
+          (f .whole .grown) (h .red) (rw q at (f .whole .reds))
 
       turn-high : (size ≡ 0 → ⊥) → j ≡ 10 → soundb n qs ss ≡ false
       turn-high z t =
           let f = turn-fits e in
           let s = f .whole .many in
-          fails-high n qs ss j first last rows xs ys heads links k ps ps′ heads′ links′ m h t (f .inside) (omega (arith, z))
+          fails-high n qs ss j first last rows ps ps′ heads′ links′ m (h .laying) t (f .inside) (omega (arith, z))
 
       pub turn-room : n ≤ 512 → 8 * length ss ≤ length rows → length ss ≤ length ps → length ss ≤ length ps′ → length ss ≤ length links′
           → Roomy rows ps ps′ heads′ links′ ss first last last n m
-      turn-room c long lp lq ll =
-          let f = turn-fits e in
-          let d = h .mids in
-          record {
-            rise = omega (arith, h .end);
-            done = omega arith;
-            statuses = f .inside;
-            small = λ i a b. status-fits ss (st .fit) i (omega (arith, f .inside));
-            in-cells = omega (arith, f .fit, long);
-            most = omega (arith, f .fit, st .few);
-            coarse = c;
-            few = d .few;
-            edges = d .edges;
-            in-xs = omega (arith, f .fit, lp);
-            in-ys = omega (arith, f .fit, lq);
-            in-links = omega (arith, f .fit, ll);
-          }
+      turn-room = laying-room n qs ss j first last rows ps ps′ heads′ links′ m (h .laying) st (turn-fits e .fit)
 
       pub turn-next : (size ≡ 0 → ⊥) → (j ≡ 10 → ⊥) → 8 * length ss ≤ length rows → (rows₂ ps₂ ps₂′ heads₂ links₂ : List ℕ) (last₂ m₂ : ℕ)
           → Grows rows ps ps′ ss first (last - first) (suc j) last n m rows₂ ps₂ ps₂′ heads₂ links₂ last₂ m₂
@@ -104,9 +96,10 @@ module _ (n : ℕ) (qs : List (List ℕ)) (ss : List ℕ) (j first last : ℕ) (
           let f = turn-fits e in
           let s = f .whole .many in
           let q : last + size ≡ last₂ = omega (arith, g .next) in
-          here-next n qs ss j first last rows xs ys heads links k ps ps′ heads′ links′ m h closed (f .inside) (omega (arith, t, h .low)) st
+          here-next n qs ss j first last rows ps ps′ heads′ links′ m (h .laying) closed (f .inside) (omega (arith, t, h .laying .low)) st
           (f .fit) (omega (arith, z)) long
-          rows₂ ps₂ ps₂′ heads₂ links₂ last₂ m₂ g xs₁ ys₁ heads₁ links₁ k₁ (f .whole .grown) (rw q at (f .whole .reds))
+          rows₂ ps₂ ps₂′ heads₂ links₂ last₂ m₂ g xs ys k xs₁ ys₁ heads₁ links₁ k₁ (f .whole .grown) (h .red)
+          (rw q at (f .whole .reds))
 
     -- where the building ends
     pub turn-looks : 8 * length ss ≤ length rows → ok ≡ true → size ≡ 0 → Looks rows xs₁ ys₁ heads₁ links₁ last 0 k₁ × Parents rows last

@@ -21,7 +21,7 @@ use Rattle.numbering.specs.Corners.{corners-start}
 use Rattle.numbering.specs.Coarse.{coarseNumbersFrom, coarseNumbers, coarse-numbers}
 use Rattle.numbering.specs.Stages.{stage-start}
 use Rattle.tables.specs.Levels.{reached-start}
-use Rattle.tables.specs.Here.{Here}
+use Rattle.tables.specs.Here.{Laying, Here}
 use Rattle.tables.specs.Start.{coarseRow}
 use Rattle.tables.specs.Sound.{Mesh}
 use Rattle.tables.specs.Rising.{deep-coarse, child-coarse}
@@ -35,15 +35,14 @@ rows-coarse : (qs : List (List ℕ)) → flatMap rowOf (coarseNumbers qs) ≡ fl
 unfolding coarseNumbers
 rows-coarse qs = rows-from 0 qs
 
-module _ (n : ℕ) (mesh ss : List ℕ) (s : Mesh n mesh) (xs ys heads links ps qs heads′ links′ : List ℕ) (red : Clear heads)
-    (mid : Clear heads′) where
+module _ (n : ℕ) (mesh ss : List ℕ) (s : Mesh n mesh) (ps qs heads′ links′ : List ℕ) (mid : Clear heads′) where
   abbrev fs : List (List ℕ)
   fs = fours mesh
 
   module _ (rows : List ℕ) (count : ℕ) (c : count ≡ length fs) (t : take (8 * count) rows ≡ flatMap coarseRow fs) where
-    pub here-start : Here n fs ss 0 0 count rows xs ys heads links 0 ps qs heads′ links′ 0
-    unfolding reached-start cellsOf flatMap cornersFrom redEdges coarseCells hasb pairsOf
-    here-start =
+    pub laying-start : Laying n fs ss 0 0 count rows ps qs heads′ links′ 0
+    unfolding reached-start cellsOf flatMap cornersFrom coarseCells pairsOf
+    laying-start =
         let q = fours-four mesh in
         record {
           cells = coarseCells n fs;
@@ -59,12 +58,14 @@ module _ (n : ℕ) (mesh ss : List ℕ) (s : Mesh n mesh) (xs ys heads links ps 
           deep = deep-coarse n 0 fs;
           children = child-coarse n count 0 fs;
           table = t ∙ sym (ap (flatMap rowOf) (coarse-numbers n (coarseCorners n) [] (corners-start n) fs q (s .cells)) ∙ rows-coarse fs);
-          red = record { has = λ p. refl };
-          reds = record { keys = red .empty xs ys links; few = omega arith };
           mids = record { edges = none-listed ps qs heads′ links′ 0 (mid .empty ps qs links′); few = omega arith };
         }
 
-    -- its cells
-    pub cells-start : here-start .cells ≡ coarseCells n fs
-    unfolding here-start
-    cells-start = refl
+    pub here-start : (xs ys heads links : List ℕ) → Clear heads → Here n fs ss 0 0 count rows xs ys heads links 0 ps qs heads′ links′ 0
+    unfolding laying-start reached-start cellsOf flatMap redEdges hasb pairsOf
+    here-start xs ys heads links red =
+        record {
+          laying = laying-start;
+          red = record { has = λ p. refl };
+          reds = record { keys = red .empty xs ys links; few = omega arith };
+        }

@@ -24,7 +24,7 @@ use Rattle.numbering.specs.Tests.{numberedCells, apart-numbers}
 use Rattle.closure.specs.Listed.{Looks}
 use Rattle.separation.specs.Parents.{Parents, apartAll}
 use Rattle.counting.specs.Sound.{sound-counted}
-use Rattle.tables.specs.Here.{Top, Child}
+use Rattle.tables.specs.Here.{Roof, Top, Child}
 use Rattle.tables.specs.Sound.{LaidSound, examinedCorners, unlessSound, Examined}
 use Rattle.tables.specs.Apart.{apart-rows, parents-rows}
 use Rattle.tables.specs.Onward.{four-in, length-in}
@@ -97,54 +97,59 @@ unfolding mapCell
 child-in n ks [] h = tt
 child-in n ks (c ∷ cs) h = (h .0, child-in n ks cs (h .1))
 
+module _ (n : ℕ) (qs : List (List ℕ)) (ss : List ℕ) (j last : ℕ) (rows ps ps′ heads′ links′ : List ℕ) (m : ℕ)
+    (t : Roof n qs ss j last rows ps ps′ heads′ links′ m) (e : length ss ≡ last) where
+  all-of : take last ss ≡ ss
+  all-of = rw (← e) (take-length ss)
+
+  named : examinedCorners n qs ss ≡ t .corners
+  unfolding cornersOf
+  named = rw (t .cells) (rw all-of at (t .named))
+
+  pub roof-sound : LaidSound n qs ss rows ps ps′ last (suc j) m
+  roof-sound =
+      record {
+        counted = rw (t .cells) (t .counted);
+        high = t .levels;
+        few = t .few;
+        low = omega (arith, t .low);
+        most = t .mids .few;
+        table = t .table ∙ rows-in (t .corners) (t .all) ∙ sym (rw (named, t .cells));
+        corners = rw named (t .numbered);
+      }
+
 module _ (n : ℕ) (qs : List (List ℕ)) (ss : List ℕ) (j last : ℕ) (rows xs ys heads links : List ℕ) (k : ℕ) (ps ps′ heads′ links′ : List ℕ)
     (m : ℕ)
-    (t : Top n qs ss j last rows xs ys heads links k ps ps′ heads′ links′ m) where
+    (top : Top n qs ss j last rows xs ys heads links k ps ps′ heads′ links′ m) where
+  abbrev t : Roof n qs ss j last rows ps ps′ heads′ links′ m
+  t = top .roof
+
   size : length (numberedCells (t .corners) (t .all)) ≡ last
   size = length-in (t .corners) (t .all) ∙ t .counted
 
   pub top-looks : 8 * last ≤ length rows → Looks rows xs ys heads links last 0 k
-  top-looks long = record { rows = long; table = record { keys = t .reds .keys; up = omega arith } }
+  top-looks long = record { rows = long; table = record { keys = top .reds .keys; up = omega arith } }
 
   pub top-parents : Parents rows last
   top-parents =
       let z = parents-rows rows (numberedCells (t .corners) (t .all)) (four-in (t .corners) (t .all) (t .placed)) (rw size (t .table))
-      (take last ss) (listed xs ys 0 k) (t .red)
+      (take last ss) (listed xs ys 0 k) (top .red)
       (child-in (length (numberedCells (t .corners) (t .all))) (t .corners) (t .all) (rw size (t .children))) in
       rw size at z
 
   top-not : (length ss ≡ last → ⊥) → soundb n qs ss ≡ false
   top-not h = t .sound ∙ rw (ne-eqb (length ss) last h)
 
-  module _ (e : length ss ≡ last) where
-    all-of : take last ss ≡ ss
-    all-of = rw (← e) (take-length ss)
-
-    top-apart : apartAll (listed xs ys 0 k) rows last ≡ soundb n qs ss
-    top-apart =
-        let z : apartAll (listed xs ys 0 k) rows (length (numberedCells (t .corners) (t .all))) ≡ apartOf 0 eqb
-        (numberedCells (t .corners) (t .all)) (take last ss) =
-        apart-rows rows (numberedCells (t .corners) (t .all)) (four-in (t .corners) (t .all) (t .placed)) (rw size (t .table))
-        (take last ss) (listed xs ys 0 k) (t .red)
-        (child-in (length (numberedCells (t .corners) (t .all))) (t .corners) (t .all) (rw size (t .children))) in
-        let w : apartAll (listed xs ys 0 k) rows last ≡ apartOf 0 eqb (numberedCells (t .corners) (t .all)) ss = rw (size, all-of) at z in
-        w ∙ apart-numbers (t .corners) (t .all) ss (t .placed) ∙ sym (t .sound ∙ rw (eq-eqb (length ss) last e))
-
-    named : examinedCorners n qs ss ≡ t .corners
-    unfolding cornersOf
-    named = rw (t .cells) (rw all-of at (t .named))
-
-    pub top-sound : LaidSound n qs ss rows ps ps′ last (suc j) m
-    top-sound =
-        record {
-          counted = rw (t .cells) (t .counted);
-          high = t .levels;
-          few = t .few;
-          low = omega (arith, t .low);
-          most = t .mids .few;
-          table = t .table ∙ rows-in (t .corners) (t .all) ∙ sym (rw (named, t .cells));
-          corners = rw named (t .numbered);
-        }
+  top-apart : length ss ≡ last → apartAll (listed xs ys 0 k) rows last ≡ soundb n qs ss
+  top-apart e =
+      let z : apartAll (listed xs ys 0 k) rows (length (numberedCells (t .corners) (t .all))) ≡ apartOf 0 eqb
+      (numberedCells (t .corners) (t .all)) (take last ss) =
+      apart-rows rows (numberedCells (t .corners) (t .all)) (four-in (t .corners) (t .all) (t .placed)) (rw size (t .table))
+      (take last ss) (listed xs ys 0 k) (top .red)
+      (child-in (length (numberedCells (t .corners) (t .all))) (t .corners) (t .all) (rw size (t .children))) in
+      let a : take last ss ≡ ss = all-of n qs ss j last rows ps ps′ heads′ links′ m t e in
+      let w : apartAll (listed xs ys 0 k) rows last ≡ apartOf 0 eqb (numberedCells (t .corners) (t .all)) ss = rw (size, a) at z in
+      w ∙ apart-numbers (t .corners) (t .all) ss (t .placed) ∙ sym (t .sound ∙ rw (eq-eqb (length ss) last e))
 
   -- what the end of a building finds
   pub top-ended : (refusal cells levels mids : ℕ) → Concluded ss rows xs ys k last j m refusal cells levels mids
@@ -157,7 +162,7 @@ module _ (n : ℕ) (qs : List (List ℕ)) (ss : List ℕ) (j last : ℕ) (rows x
           let a : refusal ≡ unlessSound (soundb n qs ss) = rw (eq-eqb (length ss) last e, top-apart e) at (d .answer) in
           record {
             answer = a;
-            sound = λ z. let (c, l, i) = d .counts z in rw (c, l, i) (top-sound e);
+            sound = λ z. let (c, l, i) = d .counts z in rw (c, l, i) (roof-sound n qs ss j last rows ps ps′ heads′ links′ m t e);
           }
       go (no e) =
           unsound-examined n qs ss rows ps ps′ refusal cells levels mids (d .answer ∙ rw (ne-eqb (length ss) last e)) (top-not e)

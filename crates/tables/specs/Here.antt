@@ -1,12 +1,14 @@
 -- How far the building of a table has come: levels and corners by weights beside the program's tables.
 --   Child n c   an irregular cell has one of the first n cells as parent
 --   Mids ..     the table of new corners
---   Here ..     the levels below j are closed and laid out; the cells of level j are the rows from first to last
---   Top ..      level j is closed too, and it is the highest
+--   Laying ..   the levels below j are closed and laid out; the cells of level j are the rows from first to last
+--   Here ..     beside it, the red edges of the levels below j are listed
+--   Roof ..     level j is closed too, and it is the highest
+--   Top ..      beside it, all red edges are listed
 use mathlib.Core.Path.{_≡_}
 use mathlib.Core.Bool.{false, _&&_}
 use mathlib.Core.List.{List, _++_, flatMap}
-use Prim.Native.Nat.{ℕ, suc, _+_, _*_, _-_, _≤_, _<_}
+use Prim.Native.Nat.{ℕ, suc, _+_, _*_, _≤_, _<_}
 use lib.Dec.{T, eqb}
 use lib.ListN.{length, take}
 use Rattle.base.specs.Lists.{allb}
@@ -32,43 +34,53 @@ pub record Mids (xs ys heads links : List ℕ) (m last : ℕ) : Type 0 where
   pub edges : Edges xs ys heads links 0 m
   pub few : m ≤ last
 
+-- the levels below j are closed and laid out
+module _ (n : ℕ) (qs : List (List ℕ)) (ss : List ℕ) (j first last : ℕ) (rows ps qs′ heads′ links′ : List ℕ) (m : ℕ) where
+  pub record Laying : Type 0 where
+    pub cells : List (Cell Point)
+    pub corners : List Corner
+    pub reached : Reached n qs ss j first cells
+    pub stage : Stage n j corners (listed ps qs′ 0 m) cells
+    pub low : j ≤ 10
+    pub some : 0 < length cells
+    pub end : last ≡ first + length cells
+    pub few : last ≤ 4096
+    pub placed : All (Placed corners) (cellsOf (reached .done))
+    pub named : cornersFrom (coarseCorners n) (cellsOf (reached .done)) (take first ss) ≡ corners
+    pub deep : T (allb (λ c. eqb (length (c .path)) (suc j)) cells)
+    pub children : All (Child last) (cellsOf (reached .done) ++ cells)
+    pub table : take (8 * last) rows ≡ flatMap rowOf (numberedCells corners (cellsOf (reached .done) ++ cells))
+    pub mids : Mids ps qs′ heads′ links′ m last
+
+-- The highest level is closed, and nothing stands above it.
+module _ (n : ℕ) (qs : List (List ℕ)) (ss : List ℕ) (j last : ℕ) (rows ps qs′ heads′ links′ : List ℕ) (m : ℕ) where
+  pub record Roof : Type 0 where
+    pub all : List (Cell Point)
+    pub corners : List Corner
+    pub cells : cellsOf (levelsOf n qs ss) ≡ all
+    pub levels : length (levelsOf n qs ss) ≡ suc j
+    pub low : j ≤ 10
+    pub sound : soundb n qs ss ≡ (eqb (length ss) last && apartb all ss)
+    pub counted : length all ≡ last
+    pub few : last ≤ 4096
+    pub placed : All (Placed corners) all
+    pub named : cornersFrom (coarseCorners n) all (take last ss) ≡ corners
+    pub numbered : NumberedCorners n corners (listed ps qs′ 0 m)
+    pub children : All (Child last) all
+    pub table : take (8 * last) rows ≡ flatMap rowOf (numberedCells corners all)
+    pub mids : Mids ps qs′ heads′ links′ m last
+
+-- The same beside the table of red edges.
 module _ (n : ℕ) (qs : List (List ℕ)) (ss : List ℕ) (j first last : ℕ) (rows : List ℕ) where
   module _ (xs ys heads links : List ℕ) (k : ℕ) (ps qs′ heads′ links′ : List ℕ) (m : ℕ) where
     pub record Here : Type 0 where
-      pub cells : List (Cell Point)
-      pub corners : List Corner
-      pub reached : Reached n qs ss j first cells
-      pub stage : Stage n j corners (listed ps qs′ 0 m) cells
-      pub low : j ≤ 10
-      pub some : 0 < length cells
-      pub end : last ≡ first + length cells
-      pub few : last ≤ 4096
-      pub placed : All (Placed corners) (cellsOf (reached .done))
-      pub named : cornersFrom (coarseCorners n) (cellsOf (reached .done)) (take first ss) ≡ corners
-      pub deep : T (allb (λ c. eqb (length (c .path)) (suc j)) cells)
-      pub children : All (Child last) (cellsOf (reached .done) ++ cells)
-      pub table : take (8 * last) rows ≡ flatMap rowOf (numberedCells corners (cellsOf (reached .done) ++ cells))
-      pub red : Lists (listed xs ys 0 k) (redEdges 0 (numberedCells corners (cellsOf (reached .done))) (take first ss))
+      pub laying : Laying n qs ss j first last rows ps qs′ heads′ links′ m
+      pub red : Lists (listed xs ys 0 k) (redEdges 0 (numberedCells (laying .corners) (cellsOf (laying .reached .done))) (take first ss))
       pub reds : Reds xs ys heads links k last
-      pub mids : Mids ps qs′ heads′ links′ m last
 
--- The highest level is closed, and nothing stands above it.
 module _ (n : ℕ) (qs : List (List ℕ)) (ss : List ℕ) (j last : ℕ) (rows : List ℕ) where
   module _ (xs ys heads links : List ℕ) (k : ℕ) (ps qs′ heads′ links′ : List ℕ) (m : ℕ) where
     pub record Top : Type 0 where
-      pub all : List (Cell Point)
-      pub corners : List Corner
-      pub cells : cellsOf (levelsOf n qs ss) ≡ all
-      pub levels : length (levelsOf n qs ss) ≡ suc j
-      pub low : j ≤ 10
-      pub sound : soundb n qs ss ≡ (eqb (length ss) last && apartb all ss)
-      pub counted : length all ≡ last
-      pub few : last ≤ 4096
-      pub placed : All (Placed corners) all
-      pub named : cornersFrom (coarseCorners n) all (take last ss) ≡ corners
-      pub numbered : NumberedCorners n corners (listed ps qs′ 0 m)
-      pub children : All (Child last) all
-      pub table : take (8 * last) rows ≡ flatMap rowOf (numberedCells corners all)
-      pub red : Lists (listed xs ys 0 k) (redEdges 0 (numberedCells corners all) (take last ss))
+      pub roof : Roof n qs ss j last rows ps qs′ heads′ links′ m
+      pub red : Lists (listed xs ys 0 k) (redEdges 0 (numberedCells (roof .corners) (roof .all)) (take last ss))
       pub reds : Reds xs ys heads links k last
-      pub mids : Mids ps qs′ heads′ links′ m last

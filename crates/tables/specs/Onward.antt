@@ -30,11 +30,12 @@ use Rattle.numbering.specs.Tables.{corners-append}
 use Rattle.closure.specs.Closed.{Lists, lists-added}
 use Rattle.growth.specs.Written.{take-written}
 use Rattle.growth.specs.Rows.{rowsAll, rows-next, length-rowsOf, flat-append}
-use Rattle.growth.specs.Level.{Grows}
+use Rattle.growth.specs.Level.{Grows, Roomy}
+use Rattle.rows.specs.Sizes.{status-fits}
 use Rattle.rows.specs.Many.{length-next}
 use Rattle.tables.specs.Levels.{reached-short, reached-more, reached-high, reached-open, reached-next, reached-end}
 use Rattle.tables.specs.Checked.{Statuses, Reds, ownCells, ownStatuses, ownReds}
-use Rattle.tables.specs.Here.{Here, Top, Child}
+use Rattle.tables.specs.Here.{Laying, Here, Roof, Top, Child}
 use Rattle.tables.specs.Cells.{strip, cells-at, red-strip, closed-strip, ends-strip, points-strip}
 use Rattle.tables.specs.Rising.{deep-next, child-next}
 use Rattle.rows.specs.Laws.{length-part}
@@ -113,9 +114,8 @@ deep-in ks l (c ∷ cs) t = go (eqb (length (c .path)) l) t (deep-in ks l cs)
     go true u i = i u
     go false u i = u
 
-module _ (n : ℕ) (qs : List (List ℕ)) (ss : List ℕ) (j first last : ℕ) (rows xs ys heads links : List ℕ) (k : ℕ)
-    (ps ps′ heads′ links′ : List ℕ) (m : ℕ)
-    (h : Here n qs ss j first last rows xs ys heads links k ps ps′ heads′ links′ m) where
+module _ (n : ℕ) (qs : List (List ℕ)) (ss : List ℕ) (j first last : ℕ) (rows ps ps′ heads′ links′ : List ℕ) (m : ℕ)
+    (h : Laying n qs ss j first last rows ps ps′ heads′ links′ m) where
   abbrev before : List (Cell Point)
   before = cellsOf (h .reached .done)
 
@@ -175,53 +175,71 @@ module _ (n : ℕ) (qs : List (List ℕ)) (ss : List ℕ) (j first last : ℕ) (
   fails-open e = reached-open n qs ss j first (h .cells) (h .reached) (h .low) (h .some) (sym closed-are ∙ e)
 
   -- What is listed after the level's red edges are.
-  module _ (xs′ ys′ : List ℕ) (heads″ links″ : List ℕ) (k′ : ℕ) (g : Grown xs ys k k (ownReds rows ss first last) xs′ ys′ heads″ links″ k′)
-    where
-      both : (p : Pair) → hasb isb (listed xs′ ys′ 0 k′) p
-          ≡ (hasb isb (listed xs ys 0 k) p || hasb isb (map sorted (redEdges 0 (numberedCells (h .corners) (h .cells)) own)) p)
-      unfolding pairsOf
-      both p =
-          let e : k′ - 0 ≡ k + (k′ - k) = omega (arith, g .more) in
-          let z : 0 + k ≡ k = omega arith in
-          let u : k - 0 ≡ k = omega arith in
-          let d : k - k ≡ 0 = omega arith in
-          let new : listed xs′ ys′ k k′ ≡ addPairs [] (ownReds rows ss first last) = g .list ∙ rw d in
-          let new₀ : pairsOf xs′ ys′ (0 + k) (k′ - k) ≡ addPairs [] (ownReds rows ss first last) = rw z new in
-          let old : pairsOf xs′ ys′ 0 k ≡ listed xs ys 0 k = rw u
-          (pairs-kept xs ys xs′ ys′ k (g .kept-xs) (g .kept-ys) 0 k (omega arith)) in
-          let all : listed xs′ ys′ 0 k′ ≡ listed xs ys 0 k ++ addPairs [] (ownReds rows ss first last) =
-          rw e (pairs-split xs′ ys′ 0 k (k′ - k) ∙ ap₂ _++_ old new₀) in
-          rw all (has-append isb (listed xs ys 0 k) (addPairs [] (ownReds rows ss first last)) p
-          ∙ rw (lists-added (ownReds rows ss first last) .has p, reds-are))
+  module _ (xs ys : List ℕ) (k : ℕ) (xs′ ys′ heads″ links″ : List ℕ) (k′ : ℕ)
+      (g : Grown xs ys k k (ownReds rows ss first last) xs′ ys′ heads″ links″ k′)
+      (red : Lists (listed xs ys 0 k) (redEdges 0 (numberedCells (h .corners) before) (take first ss))) where
+    both : (p : Pair) → hasb isb (listed xs′ ys′ 0 k′) p
+        ≡ (hasb isb (listed xs ys 0 k) p || hasb isb (map sorted (redEdges 0 (numberedCells (h .corners) (h .cells)) own)) p)
+    unfolding pairsOf
+    both p =
+        let e : k′ - 0 ≡ k + (k′ - k) = omega (arith, g .more) in
+        let z : 0 + k ≡ k = omega arith in
+        let u : k - 0 ≡ k = omega arith in
+        let d : k - k ≡ 0 = omega arith in
+        let new : listed xs′ ys′ k k′ ≡ addPairs [] (ownReds rows ss first last) = g .list ∙ rw d in
+        let new₀ : pairsOf xs′ ys′ (0 + k) (k′ - k) ≡ addPairs [] (ownReds rows ss first last) = rw z new in
+        let old : pairsOf xs′ ys′ 0 k ≡ listed xs ys 0 k = rw u
+        (pairs-kept xs ys xs′ ys′ k (g .kept-xs) (g .kept-ys) 0 k (omega arith)) in
+        let all : listed xs′ ys′ 0 k′ ≡ listed xs ys 0 k ++ addPairs [] (ownReds rows ss first last) =
+        rw e (pairs-split xs′ ys′ 0 k (k′ - k) ∙ ap₂ _++_ old new₀) in
+        rw all (has-append isb (listed xs ys 0 k) (addPairs [] (ownReds rows ss first last)) p
+        ∙ rw (lists-added (ownReds rows ss first last) .has p, reds-are))
 
-      red-halves : redEdges 0 (numberedCells (h .corners) (before ++ h .cells)) (take last ss)
-          ≡ redEdges 0 (numberedCells (h .corners) before) (take first ss) ++ redEdges 0 (numberedCells (h .corners) (h .cells)) own
-      red-halves =
-          let a : take first (take last ss) ≡ take first ss = take-take first last ss (omega (arith, h .end)) in
-          let b : drop first (take last ss) ≡ own = rw (h .end) (drop-take first (length (h .cells)) ss) in
-          rw halves (red-append (numberedCells (h .corners) before) (numberedCells (h .corners) (h .cells)) (take last ss)
-          ∙ rw (counted, a, b))
+    red-halves : redEdges 0 (numberedCells (h .corners) (before ++ h .cells)) (take last ss)
+        ≡ redEdges 0 (numberedCells (h .corners) before) (take first ss) ++ redEdges 0 (numberedCells (h .corners) (h .cells)) own
+    red-halves =
+        let a : take first (take last ss) ≡ take first ss = take-take first last ss (omega (arith, h .end)) in
+        let b : drop first (take last ss) ≡ own = rw (h .end) (drop-take first (length (h .cells)) ss) in
+        rw halves (red-append (numberedCells (h .corners) before) (numberedCells (h .corners) (h .cells)) (take last ss)
+        ∙ rw (counted, a, b))
 
-      reds-after : Lists (listed xs′ ys′ 0 k′) (redEdges 0 (numberedCells (h .corners) (before ++ h .cells)) (take last ss))
-      reds-after =
-          record {
-            has = λ p.
-                both p ∙ ap (λ (b : Bool). b || hasb isb (map sorted (redEdges 0 (numberedCells (h .corners) (h .cells)) own)) p)
-                (h .red .has p)
-                ∙ sym (rw (
-                  red-halves,
-                  map-append sorted (redEdges 0 (numberedCells (h .corners) before) (take first ss))
-                      (redEdges 0 (numberedCells (h .corners) (h .cells)) own),
-                )
-                (has-append isb (map sorted (redEdges 0 (numberedCells (h .corners) before) (take first ss)))
-                (map sorted (redEdges 0 (numberedCells (h .corners) (h .cells)) own)) p));
-          }
+    reds-after : Lists (listed xs′ ys′ 0 k′) (redEdges 0 (numberedCells (h .corners) (before ++ h .cells)) (take last ss))
+    reds-after =
+        record {
+          has = λ p.
+              both p ∙ ap (λ (b : Bool). b || hasb isb (map sorted (redEdges 0 (numberedCells (h .corners) (h .cells)) own)) p)
+              (red .has p)
+              ∙ sym (rw (
+                red-halves,
+                map-append sorted (redEdges 0 (numberedCells (h .corners) before) (take first ss))
+                    (redEdges 0 (numberedCells (h .corners) (h .cells)) own),
+              )
+              (has-append isb (map sorted (redEdges 0 (numberedCells (h .corners) before) (take first ss)))
+              (map sorted (redEdges 0 (numberedCells (h .corners) (h .cells)) own)) p));
+        }
+
+  -- The next level has room.
+  pub laying-room : (st : Statuses ss) → last + sizes (ownStatuses rows ss first last) ≤ length ss → n ≤ 512 → 8 * length ss ≤ length rows
+      → length ss ≤ length ps → length ss ≤ length ps′ → length ss ≤ length links′
+      → Roomy rows ps ps′ heads′ links′ ss first last last n m
+  laying-room st fit c long lp lq ll =
+      let d = h .mids in
+      record {
+        rise = omega (arith, h .end);
+        done = omega arith;
+        statuses = omega arith;
+        small = λ i a b. status-fits ss (st .fit) i (omega arith);
+        in-cells = omega arith;
+        most = omega (arith, st .few);
+        coarse = c;
+        few = d .few;
+        edges = d .edges;
+        in-xs = omega arith;
+        in-ys = omega arith;
+        in-links = omega arith;
+      }
 
   -- The next level.
-  closed-whole : closedFrom 0 eqb (ownReds rows ss first last) (ownCells rows ss first last) (ownStatuses rows ss first last) ≡ true
-      → closedFrom [] sameb (redEdges [] (h .cells) own) (h .cells) own ≡ true
-  closed-whole e = sym closed-are ∙ e
-
   module _ (w : closedFrom [] sameb (redEdges [] (h .cells) own) (h .cells) own ≡ true) (inside : last ≤ length ss) (high : j < 10)
       (st : Statuses ss)
       (fit : last + sizes (ownStatuses rows ss first last) ≤ length ss) (grows : 0 < sizes (ownStatuses rows ss first last))
@@ -290,47 +308,47 @@ module _ (n : ℕ) (qs : List (List ℕ)) (ss : List ℕ) (j first last : ℕ) (
         let b : drop first (take last ss) ≡ own = rw (h .end) (drop-take first (length (h .cells)) ss) in
         corners-append (coarseCorners n) before (h .cells) (take last ss) ∙ rw (h .reached .counted, a, b, h .named)
 
-    module _ (xs′ ys′ heads″ links″ : List ℕ) (k′ : ℕ) (grown : Grown xs ys k k (ownReds rows ss first last) xs′ ys′ heads″ links″ k′)
+    pub laying-next : Laying n qs ss (suc j) last last′ rows′ ps₁ ps₁′ heads₁ links₁ m′
+    laying-next =
+        let r = reached-next n qs ss j first (h .cells) (h .reached) (h .low) (h .some) last (h .end) w in
+        let b : cellsOf (r .reached .done) ≡ before ++ h .cells = r .before in
+        let mono : (c : Cell Point) → Child last c → Child last′ c = λ c f q. omega (arith, f q, end-is) in
+        record {
+          cells = up;
+          corners = ks′;
+          reached = r .reached;
+          stage = rw ends-are (step .stage);
+          low = omega arith;
+          some = omega (arith, length-up, ap sizes own-is);
+          end = end-is;
+          few = omega (arith, end-is, length-up, ap sizes own-is, st .few);
+          placed = rw b (all-more (Placed (h .corners)) (Placed ks′) (placed-kept (h .corners) ks′ (step .kept)) (before ++ h .cells)
+              all-before);
+          named = rw b named-next;
+          deep = deep-next (suc j) first (h .cells) own (h .deep);
+          children = rw b (all-append (Child last′) (before ++ h .cells) up
+              (all-more (Child last) (Child last′) mono (before ++ h .cells) (h .children))
+              (child-next last′ first (h .cells) own (omega (arith, h .end, end-is))));
+          table = rw b table-is;
+          mids = record { edges = g .edges; few = g .few };
+        }
+
+    module _ (xs ys : List ℕ) (k : ℕ) (xs′ ys′ heads″ links″ : List ℕ) (k′ : ℕ)
+        (grown : Grown xs ys k k (ownReds rows ss first last) xs′ ys′ heads″ links″ k′)
+        (red : Lists (listed xs ys 0 k) (redEdges 0 (numberedCells (h .corners) before) (take first ss)))
         (reds : Reds xs′ ys′ heads″ links″ k′ last′) where
       pub here-next : Here n qs ss (suc j) last last′ rows′ xs′ ys′ heads″ links″ k′ ps₁ ps₁′ heads₁ links₁ m′
+      unfolding laying-next
       here-next =
           let r = reached-next n qs ss j first (h .cells) (h .reached) (h .low) (h .some) last (h .end) w in
           let b : cellsOf (r .reached .done) ≡ before ++ h .cells = r .before in
           let kept : numberedCells ks′ (before ++ h .cells) ≡ numberedCells (h .corners) (before ++ h .cells) = cells-kept (h .corners) ks′
           (step .kept) (before ++ h .cells) all-before in
-          let mono : (c : Cell Point) → Child last c → Child last′ c = λ c f q. omega (arith, f q, end-is) in
-          record {
-            cells = up;
-            corners = ks′;
-            reached = r .reached;
-            stage = rw ends-are (step .stage);
-            low = omega arith;
-            some = omega (arith, length-up, ap sizes own-is);
-            end = end-is;
-            few = omega (arith, end-is, length-up, ap sizes own-is, st .few);
-            placed = rw b (all-more (Placed (h .corners)) (Placed ks′) (placed-kept (h .corners) ks′ (step .kept)) (before ++ h .cells)
-                all-before);
-            named = rw b named-next;
-            deep = deep-next (suc j) first (h .cells) own (h .deep);
-            children = rw b (all-append (Child last′) (before ++ h .cells) up
-                (all-more (Child last) (Child last′) mono (before ++ h .cells) (h .children))
-                (child-next last′ first (h .cells) own (omega (arith, h .end, end-is))));
-            table = rw b table-is;
-            red = rw (b, kept) (reds-after xs′ ys′ heads″ links″ k′ grown);
-            reds = reds;
-            mids = record { edges = g .edges; few = g .few };
-          }
-
-      -- its cells
-      pub cells-onward : here-next .cells ≡ next first (h .cells) own
-      unfolding here-next
-      cells-onward = refl
+          record { laying = laying-next; red = rw (b, kept) (reds-after xs ys k xs′ ys′ heads″ links″ k′ grown red); reds = reds }
 
   -- The highest level.
   module _ (w : closedFrom [] sameb (redEdges [] (h .cells) own) (h .cells) own ≡ true) (inside : last ≤ length ss) (st : Statuses ss)
-      (none : sizes (ownStatuses rows ss first last) ≡ 0)
-      (xs′ ys′ heads″ links″ : List ℕ) (k′ : ℕ) (grown : Grown xs ys k k (ownReds rows ss first last) xs′ ys′ heads″ links″ k′)
-      (reds : Reds xs′ ys′ heads″ links″ k′ last) where
+      (none : sizes (ownStatuses rows ss first last) ≡ 0) where
     abbrev all : List (Cell Point)
     all = before ++ h .cells
 
@@ -349,8 +367,8 @@ module _ (n : ℕ) (qs : List (List ℕ)) (ss : List ℕ) (j first last : ℕ) (
         let b : drop first (take last ss) ≡ own = rw (h .end) (drop-take first (length (h .cells)) ss) in
         corners-append (coarseCorners n) before (h .cells) (take last ss) ∙ rw (h .reached .counted, a, b, h .named) leaves
 
-    pub here-top : Top n qs ss j last rows xs′ ys′ heads″ links″ k′ ps ps′ heads′ links′ m
-    here-top =
+    pub laying-top : Roof n qs ss j last rows ps ps′ heads′ links′ m
+    laying-top =
         let e = reached-end n qs ss j first (h .cells) (h .reached) (h .low) (h .some) w no-size (omega (arith, h .end)) (st .few) in
         record {
           all = before ++ h .cells;
@@ -366,7 +384,13 @@ module _ (n : ℕ) (qs : List (List ℕ)) (ss : List ℕ) (j first last : ℕ) (
           numbered = h .stage .corners;
           children = h .children;
           table = h .table;
-          red = reds-after xs′ ys′ heads″ links″ k′ grown;
-          reds = reds;
           mids = h .mids;
         }
+
+    pub here-top : (xs ys : List ℕ) (k : ℕ) (xs′ ys′ heads″ links″ : List ℕ) (k′ : ℕ)
+        → Grown xs ys k k (ownReds rows ss first last) xs′ ys′ heads″ links″ k′
+        → Lists (listed xs ys 0 k) (redEdges 0 (numberedCells (h .corners) before) (take first ss)) → Reds xs′ ys′ heads″ links″ k′ last
+        → Top n qs ss j last rows xs′ ys′ heads″ links″ k′ ps ps′ heads′ links′ m
+    unfolding laying-top
+    here-top xs ys k xs′ ys′ heads″ links″ k′ grown red reds =
+        record { roof = laying-top; red = reds-after xs ys k xs′ ys′ heads″ links″ k′ grown red; reds = reds }

@@ -187,6 +187,7 @@ pub fn build(
     ensures { λ r. ⌜ Examined n (fours (was mesh)) (was status) (is rows) (is ps) (is qs) (r .refusal) (r .cells) (r .levels) (r .mids) ⌝ }
 {
     let digits = cutting::digit_table();
+    let starts = cutting::start_table();
     let coarse = lay_coarse(mesh, rows);
     let mut first = 0;
     let mut last = coarse;
@@ -227,6 +228,7 @@ pub fn build(
             mid_links,
             m,
             &digits,
+            &starts,
         );
         m = g.m;
         first = last;

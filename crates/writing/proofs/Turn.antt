@@ -159,7 +159,7 @@ module _ {m : ℕ} {ss kids ks : List ℕ} (w : Keeps m ss kids ks) where
       unfolding flatMap flatten
       all-is = rest-above ∙ ap (λ (l : List (List ℕ)). take last table ++ flatten l) nothing ∙ append-nil (take last table)
 
-      result-end : (r : ℕ) → r ≡ 0 → TableWritten m ss ks table r last (j + 1)
+      result-end : (r : ℕ) → r ≡ 0 → TableWritten m ss ks table r last
       result-end r z =
           let h : length (writtenLevels m ss ks) ≡ suc j = omega (arith, height-above, ap length nothing) in
           record {
@@ -168,7 +168,6 @@ module _ {m : ℕ} {ss kids ks : List ℕ} (w : Keeps m ss kids ks) where
             many = λ e. absurd (omega arith);
             low = λ e. omega (arith, h, g .low);
             counted = λ e. ap length all-is ∙ length-take-le last table (omega (arith, g .within, g .in-table));
-            height = λ e. omega (arith, h);
             table-is = λ e. sym all-is;
             few = g .within;
           }
@@ -194,7 +193,7 @@ module _ {m : ℕ} {ss kids ks : List ℕ} (w : Keeps m ss kids ks) where
           (oldsNext m ss born (oldsNext m ss own olds)) in
           omega (arith, total, ap length (ap flatten step-up ∙ concat-one born ls) ∙ length-append born (flatten ls), long-born)
 
-    result-high : (r : ℕ) → r ≡ 8 → length (writtenLevels m ss ks) ≡ 12 → TableWritten m ss ks table r last (j + 1)
+    result-high : (r : ℕ) → r ≡ 8 → length (writtenLevels m ss ks) ≡ 12 → TableWritten m ss ks table r last
     result-high r z h =
         record {
           one = inr (inl z);
@@ -202,12 +201,11 @@ module _ {m : ℕ} {ss kids ks : List ℕ} (w : Keeps m ss kids ks) where
           many = λ e. absurd (omega arith);
           low = λ e. absurd (omega arith);
           counted = λ e. absurd (omega arith);
-          height = λ e. absurd (omega arith);
           table-is = λ e. absurd (omega arith);
           few = g .within;
         }
 
-    result-many : (r : ℕ) → r ≡ 9 → 4096 < length (flatten (writtenLevels m ss ks)) → TableWritten m ss ks table r last (j + 1)
+    result-many : (r : ℕ) → r ≡ 9 → 4096 < length (flatten (writtenLevels m ss ks)) → TableWritten m ss ks table r last
     result-many r z h =
         record {
           one = inr (inr z);
@@ -215,7 +213,6 @@ module _ {m : ℕ} {ss kids ks : List ℕ} (w : Keeps m ss kids ks) where
           many = λ e. h;
           low = λ e. absurd (omega arith);
           counted = λ e. absurd (omega arith);
-          height = λ e. absurd (omega arith);
           table-is = λ e. absurd (omega arith);
           few = g .within;
         }
@@ -224,7 +221,7 @@ module _ {m : ℕ} {ss kids ks : List ℕ} (w : Keeps m ss kids ks) where
       some-more : (r ≡ 0 → ⊥) → 0 < sizes own
       some-more n = omega (arith, e .some n, s)
 
-      pub result-now : (r ≡ 255 → ⊥) → TableWritten m ss ks table r last (j + 1)
+      pub result-now : (r ≡ 255 → ⊥) → TableWritten m ss ks table r last
       result-now on =
           ⊎-elim
           (λ z. result-end (omega (arith, e .none z)) r z)

@@ -16,13 +16,12 @@ abbrev pub writtenLevels : ℕ → List ℕ → List ℕ → List (List ℕ)
 writtenLevels m ss ks = writeBy m ss ks 12 (take m ks) (upTo m)
 
 -- Rules 7.7, 7.8: the new table, or 8 or 9.
-pub record TableWritten (m : ℕ) (ss ks table : List ℕ) (refusal cells levels : ℕ) : Type 0 where
+pub record TableWritten (m : ℕ) (ss ks table : List ℕ) (refusal cells : ℕ) : Type 0 where
   pub one : (refusal ≡ 0) ⊎ ((refusal ≡ 8) ⊎ (refusal ≡ 9))
   pub high : refusal ≡ 8 → length (writtenLevels m ss ks) ≡ 12
   pub many : refusal ≡ 9 → 4096 < length (flatten (writtenLevels m ss ks))
   pub low : refusal ≡ 0 → length (writtenLevels m ss ks) ≤ 11
   pub counted : refusal ≡ 0 → length (flatten (writtenLevels m ss ks)) ≡ cells
-  pub height : refusal ≡ 0 → levels ≡ length (writtenLevels m ss ks)
   pub table-is : refusal ≡ 0 → take cells table ≡ flatten (writtenLevels m ss ks)
   pub few : cells ≤ 4096
 

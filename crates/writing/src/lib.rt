@@ -301,11 +301,10 @@ fn ending(size: usize, level: usize, last: usize) -> u8
     255
 }
 
-// The table that is written: 0, or 8 or 9, and how many cells and levels it has.
+// The table that is written: 0, or 8 or 9, and how many cells it has.
 pub struct NewTable {
     pub refusal: u8,
     pub cells: usize,
-    pub levels: usize,
 }
 
 // Writes the new table, level by level. `kids` has the first children of the old cells, `kept` what each keeps; in `old` stand the old
@@ -319,7 +318,7 @@ pub fn write_table(
     old: &mut [u16; 4096],
 ) -> NewTable
     requires { ⌜ Keeps coarse (now status) (now kids) (now kept) ⌝ }
-    ensures { λ r. ⌜ TableWritten coarse (was status) (was kept) (is table) (r .refusal) (r .cells) (r .levels) ⌝ }
+    ensures { λ r. ⌜ TableWritten coarse (was status) (was kept) (is table) (r .refusal) (r .cells) ⌝ }
 {
     write_coarse(kept, coarse, table, old);
     let mut first = 0;
@@ -332,7 +331,6 @@ pub fn write_table(
             return NewTable {
                 refusal: end,
                 cells: last,
-                levels: level + 1,
             };
         }
         write_level(first, last, status, kids, kept, coarse, table, old);

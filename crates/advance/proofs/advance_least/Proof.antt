@@ -1,16 +1,13 @@
--- `advance::advance_least` meets its contract: tables for 128 old and 256 new cells have room for them.
+-- `advance::advance_least` meets its contract: its tables have room for 128 cells.
 -- Assumes nothing.
-use Rattle.advance.proofs.Rooms.{room-least}
+use mathlib.Core.Logic.{inr}
+use native.Mathlib.Omega.{arith}
+use lib.ListN.{length-replicate}
+use Prim.Native.Nat.{ℕ}
+use Rattle.pairs.specs.Keys.{clear-new}
 use borrow.Author.Needs.{needs}
 use Rattle.advance.proofs.advance_least.Statement.{statement}
 use Rattle.advance.proofs.advance_least.Tie as tie
-use Rattle.advance.proofs.advance_least.Reads as reads
-use Rattle.advance.proofs.advance_least.Lts as lts
-use Rattle.advance.proofs.advance.Reads as advance-reads
-use Rattle.cutting.proofs.digit_table.Reads as digit-table-reads
-
-digit-table-requires : tie.Need-digit-table-requires
-digit-table-requires c κs = search needs
 
 slice-aggregate-advance : tie.Need-slice-aggregate-advance
 slice-aggregate-advance c = search needs
@@ -30,66 +27,37 @@ slice-aggregate-advance-5 c = search needs
 slice-aggregate-advance-6 : tie.Need-slice-aggregate-advance-6
 slice-aggregate-advance-6 c = search needs
 
-slice-aggregate-advance-7 : tie.Need-slice-aggregate-advance-7
-slice-aggregate-advance-7 c = search needs
-
-slice-aggregate-advance-8 : tie.Need-slice-aggregate-advance-8
-slice-aggregate-advance-8 c = search needs
-
 advance-requires : tie.Need-advance-requires
-advance-requires c κs = let p = c .before .before .before .before .before .before .before .before .before .before .before .before .before
-    .before .before .before .before .before .before .before .pre in (
+advance-requires c κs =
+    let p = c .before .before .before .before .before .before .before .before .before .before .before .before .pre in
+    let long = length-replicate {A = ℕ} 768 0 in (
       p .0,
       (
         p .1 .0,
         (
-          c .before .before .before .before .before .before .before .before .before .before .before .before .digit-table
-              .ensures,
-          room-least (p .1 .1) (slice-aggregate-advance (c .before .before .before .before .before .before .before))
-              (slice-aggregate-advance-2 (c .before .before .before .before .before .before)) (slice-aggregate-advance-3 (c .before .before
-              .before .before .before)) (slice-aggregate-advance-4 (c .before .before .before .before))
-              (slice-aggregate-advance-5 (c .before
-              .before .before)) (slice-aggregate-advance-6 (c .before .before)) (slice-aggregate-advance-7 (c .before)),
+          record {
+            enough = inr (omega (arith, long, p .1 .1));
+            side = record { small = omega (arith, long); in-ys = omega (arith, long); in-links = omega (arith, long) };
+            in-kids = omega (arith, length-replicate {A = ℕ} 129 0, p .1 .1);
+            in-kept = omega (arith, length-replicate {A = ℕ} 128 0, p .1 .1);
+          },
+          clear-new 2048 (omega arith),
         ),
       ),
     )
 
-same-length : tie.Need-same-length
-same-length c = c .before .before .before .before .before .before .before .before .before .before .before .before .before .before .before
-    .advance .kept .1 .1 .0
-
-same-length-2 : tie.Need-same-length-2
-same-length-2 c = c .before .before .before .before .before .before .before .before .before .before .before .before .before .before .before
-    .advance .kept .1 .1 .1 .1 .1 .0
-
-same-length-3 : tie.Need-same-length-3
-same-length-3 c = c .before .before .before .before .before .before .before .before .before .before .before .before .before .before .before
-    .advance .kept .1 .1 .1 .1 .1 .1 .0
-
-same-length-4 : tie.Need-same-length-4
-same-length-4 c = c .before .before .before .before .before .before .before .before .before .before .before .before .before .before .before
-    .advance .kept .1 .1 .1 .1 .1 .1 .1 .0
-
 returns : tie.Need-returns
-returns c = c .before .before .before .before .before .before .before .before .before .before .before .before .before .before .before
-    .advance .ensures
+returns c = search needs
 
 pub advance-least-spec : {M : Type 1} → statement M
 advance-least-spec =
     tie.close
     (tie.spec
-    digit-table-requires
     slice-aggregate-advance
     slice-aggregate-advance-2
     slice-aggregate-advance-3
     slice-aggregate-advance-4
     slice-aggregate-advance-5
     slice-aggregate-advance-6
-    slice-aggregate-advance-7
-    slice-aggregate-advance-8
     advance-requires
-    same-length
-    same-length-2
-    same-length-3
-    same-length-4
     returns)

@@ -1,16 +1,14 @@
 -- `advance::advance_many` meets its contract: its tables have room for any.
 -- Assumes nothing.
-use Rattle.advance.proofs.Rooms.{room-many}
+use mathlib.Core.Logic.{inl}
+use native.Mathlib.Omega.{arith}
+use lib.ListN.{length-replicate}
+use Prim.Native.Nat.{ℕ}
+use Rattle.pairs.specs.Keys.{clear-new}
 use borrow.Author.Needs.{needs}
 use Rattle.advance.proofs.advance_many.Statement.{statement}
 use Rattle.advance.proofs.advance_many.Tie as tie
-use Rattle.advance.proofs.advance_many.Reads as reads
-use Rattle.advance.proofs.advance_many.Lts as lts
-use Rattle.advance.proofs.advance.Reads as advance-reads
-use Rattle.cutting.proofs.digit_table.Reads as digit-table-reads
-
-digit-table-requires : tie.Need-digit-table-requires
-digit-table-requires c κs = search needs
+use Rattle.advance.specs.Advanced.{held-statuses}
 
 slice-aggregate-advance : tie.Need-slice-aggregate-advance
 slice-aggregate-advance c = search needs
@@ -30,66 +28,37 @@ slice-aggregate-advance-5 c = search needs
 slice-aggregate-advance-6 : tie.Need-slice-aggregate-advance-6
 slice-aggregate-advance-6 c = search needs
 
-slice-aggregate-advance-7 : tie.Need-slice-aggregate-advance-7
-slice-aggregate-advance-7 c = search needs
-
-slice-aggregate-advance-8 : tie.Need-slice-aggregate-advance-8
-slice-aggregate-advance-8 c = search needs
-
 advance-requires : tie.Need-advance-requires
-advance-requires c κs = let p = c .before .before .before .before .before .before .before .before .before .before .before .before .before
-    .before .before .before .before .before .before .before .pre in (
+advance-requires c κs =
+    let p = c .before .before .before .before .before .before .before .before .before .before .before .before .pre in
+    let long = length-replicate {A = ℕ} 3072 0 in (
       p .0,
       (
-        p .1 .0,
+        p .1,
         (
-          c .before .before .before .before .before .before .before .before .before .before .before .before .digit-table
-              .ensures,
-          room-many (p .1 .1) (slice-aggregate-advance (c .before .before .before .before .before .before .before))
-              (slice-aggregate-advance-2 (c .before .before .before .before .before .before)) (slice-aggregate-advance-3 (c .before .before
-              .before .before .before)) (slice-aggregate-advance-4 (c .before .before .before .before))
-              (slice-aggregate-advance-5 (c .before
-              .before .before)) (slice-aggregate-advance-6 (c .before .before)) (slice-aggregate-advance-7 (c .before)),
+          record {
+            enough = inl (omega (arith, long, held-statuses _ _ _ _ (p .0) .few));
+            side = record { small = omega (arith, long); in-ys = omega (arith, long); in-links = omega (arith, long) };
+            in-kids = omega (arith, length-replicate {A = ℕ} 4097 0, held-statuses _ _ _ _ (p .0) .few);
+            in-kept = omega (arith, length-replicate {A = ℕ} 4096 0, held-statuses _ _ _ _ (p .0) .few);
+          },
+          clear-new 5120 (omega arith),
         ),
       ),
     )
 
-same-length : tie.Need-same-length
-same-length c = c .before .before .before .before .before .before .before .before .before .before .before .before .before .before .before
-    .advance .kept .1 .1 .0
-
-same-length-2 : tie.Need-same-length-2
-same-length-2 c = c .before .before .before .before .before .before .before .before .before .before .before .before .before .before .before
-    .advance .kept .1 .1 .1 .1 .1 .0
-
-same-length-3 : tie.Need-same-length-3
-same-length-3 c = c .before .before .before .before .before .before .before .before .before .before .before .before .before .before .before
-    .advance .kept .1 .1 .1 .1 .1 .1 .0
-
-same-length-4 : tie.Need-same-length-4
-same-length-4 c = c .before .before .before .before .before .before .before .before .before .before .before .before .before .before .before
-    .advance .kept .1 .1 .1 .1 .1 .1 .1 .0
-
 returns : tie.Need-returns
-returns c = c .before .before .before .before .before .before .before .before .before .before .before .before .before .before .before
-    .advance .ensures
+returns c = search needs
 
 pub advance-many-spec : {M : Type 1} → statement M
 advance-many-spec =
     tie.close
     (tie.spec
-    digit-table-requires
     slice-aggregate-advance
     slice-aggregate-advance-2
     slice-aggregate-advance-3
     slice-aggregate-advance-4
     slice-aggregate-advance-5
     slice-aggregate-advance-6
-    slice-aggregate-advance-7
-    slice-aggregate-advance-8
     advance-requires
-    same-length
-    same-length-2
-    same-length-3
-    same-length-4
     returns)

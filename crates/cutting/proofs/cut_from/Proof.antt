@@ -10,15 +10,15 @@ use Rattle.cutting.proofs.Found.{Found, found, accepted}
 use Rattle.cutting.proofs.cut_from.Statement.{statement}
 use Rattle.cutting.proofs.cut_from.Tie as tie
 
-between : (c : tie.After-start2) → Found (c .before .before .before .before .before .args .pattern) (c .before .start .result)
+between : (c : tie.After-start2) → Found (c .before .before .before .before .before .before .args .pattern) (c .before .start .result)
     (c .start2 .result)
 between c =
-    found (c .before .before .before .before .before .args .pattern) (c .before .start .result) (c .start2 .result)
+    found (c .before .before .before .before .before .before .args .pattern) (c .before .start .result) (c .start2 .result)
     (omega arith) (c .before .start .ensures) (c .start2 .ensures)
 
 returns : tie.Need-returns
 unfolding noCut
-returns c = sym (cutOf-refused (c .before .before .args .pattern) (c .if1 .taken))
+returns c = sym (cutOf-refused (c .before .before .before .args .pattern) (c .if1 .taken))
 
 returns-2 : tie.Need-returns-2
 unfolding cutInto row familyRows flatten
@@ -36,19 +36,28 @@ start-requires-2 c κs = search needs
 sub-count : tie.Need-sub-count
 sub-count c = between c .up
 
-cast-t14 : tie.Need-cast-t14
-cast-t14 c = omega (arith, between c)
+cast-t15 : tie.Need-cast-t15
+cast-t15 c = omega (arith, between c)
 
 copied-requires : tie.Need-copied-requires
-copied-requires c κs = (c .before .before .before .before .before .pre, omega (arith, between c))
+copied-requires c κs = (c .before .before .before .before .before .before .pre .0, omega (arith, between c))
 
 returns-3 : tie.Need-returns-3
 returns-3 c =
-    let b = c .before in
-    accepted (b .before .before .before .before .before .args .pattern) (b .before .start .result) (b .start2 .result)
-    (omega arith) (b .before .start .ensures) (b .start2 .ensures) (c .copied .result) (c .copied .ensures)
+    accepted (c .before .before .before .before .before .before .before .args .pattern) (c .before .before .start .result) (c .before
+    .start2 .result)
+    (omega arith) (c .before .before .start .ensures) (c .before .start2 .ensures) (c .copied .result) (c .copied .ensures)
 
 pub cut-from-spec : {M : Type 1} → statement M
 cut-from-spec =
     tie.close
-    (tie.spec returns returns-2 start-requires add-start start-requires-2 sub-count cast-t14 copied-requires returns-3)
+    (tie.spec
+    returns
+    returns-2
+    start-requires
+    add-start
+    start-requires-2
+    sub-count
+    cast-t15
+    copied-requires
+    returns-3)

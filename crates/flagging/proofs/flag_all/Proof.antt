@@ -42,7 +42,9 @@ same-length-5 c = c .before .before .before .before .before .before .before .bef
     .1 .1 .1 .0
 
 returns : tie.Need-returns
-returns c = c .before .before .before .before .before .before .before .before .before .before .flag-up .ensures .flags
+returns c =
+    let u = c .before .before .before .before .before .before .before .before .before .before .flag-up .ensures in
+    record { whole = λ e. u .whole e .written; full = u .full; top = u .top }
 
 pub flag-all-spec : {M : Type 1} → statement M
 flag-all-spec =

@@ -8,10 +8,9 @@ use Rattle.growth.proofs.refine.Tie as tie
 
 returns : tie.Need-returns
 returns c =
-    let s = c .before .before .before .before .before .before .before in
-    let a = s .args in
+    let a = c .before .before .before .before .before .before .before .before .args in
     laid-leaf (a .cells .now) (a .xs .now) (a .ys .now) (a .heads .now) (a .links .now) (a .c) (a .status) (a .level) (a .at) (a .n) (a .m)
-    (c .if1 .taken) (s .pre .1 .0 .edges)
+    (c .if1 .taken) (c .before .before .before .before .before .before .before .before .pre .1 .0 .edges)
 
 points-of-requires : tie.Need-points-of-requires
 points-of-requires c κs = search needs
@@ -24,18 +23,22 @@ pattern-of-requires c κs = search needs
 
 write-children-requires : tie.Need-write-children-requires
 write-children-requires c κs =
-    let
-    s =
-    c .before .before .before .before .before .before .before .before .before .before .before .before .before .before .before .before
-    .before .before .before .before .before .before .before .before .before in
-    let a = s .args in (
+    let a = c .before .before .before .before .before .before .before .before .before .before .before .before .before .before .before
+    .before .before .before .before .before .before .before .before .before .before .before .args in (
       rw (
         c .pattern-of .ensures,
         ← size-some (a .status)
             (c .before .before .before .before .before .before .before .before .before .before .before .before .before .before .before
             .before .before .before .if1 .left),
-      ) (pattern-below (a .status) (s .pre .0 .1), s .pre .0 .3),
-      s .pre .1 .1,
+      ) (
+        pattern-below (a .status) (c .before .before .before .before .before .before .before .before .before .before .before .before
+            .before .before .before .before .before .before .before .before .before .before .before .before .before .before .pre .0 .1),
+        c
+            .before .before .before .before .before .before .before .before .before .before .before .before .before .before .before .before
+            .before .before .before .before .before .before .before .before .before .before .pre .0 .3,
+      ),
+      c .before .before .before .before .before .before .before .before .before .before .before .before .before .before .before .before
+          .before .before .before .before .before .before .before .before .before .before .pre .1 .1,
     )
 
 same-length : tie.Need-same-length
@@ -55,20 +58,17 @@ same-length-5 c = search needs
 
 returns-2 : tie.Need-returns-2
 returns-2 c =
-    let
-    s =
-    c .before .before .before .before .before .before .before .before .before .before .before .before .before .before .before .before
-    .before .before .before .before .before .before .before .before .before .before .before .before in
-    let a = s .args in
-    let
-    p =
-    c .before .before .before .before .before .before .before .before .before .before .before .before .before .before .before .points-of
-    in
+    let a = c .before .before .before .before .before .before .before .before .before .before .before .before .before .before .before
+    .before .before .before .before .before .before .before .before .before .before .before .before .before .before .args in
+    let p = c .before .before .before .before .before .before .before .before .before .before .before .before .before .before .before
+    .points-of in
     let w = c .before .before .write-children in
     laid-family (a .cells .now) (a .xs .now) (a .ys .now) (a .heads .now) (a .links .now) (a .c) (a .status) (a .level) (a .at) (a .n)
     (a .m)
     (c .before .before .before .before .before .before .before .before .before .before .before .before .before .before .before .before
-    .before .before .before .before .before .if1 .left) (s .pre .0 .1)
+    .before .before .before .before .before .if1 .left) (c .before .before .before .before .before .before .before .before .before
+    .before .before .before .before .before .before .before .before .before .before .before .before .before .before .before .before
+    .before .before .before .before .pre .0 .1)
     (w .last .0) (p .last .1 .1 .1 .1 .0) (p .last .1 .1 .1 .1 .1 .0) (p .last .1 .1 .1 .1 .1 .1 .0) (p .last .1 .1 .1 .1 .1 .1 .1 .0)
     (p .result .numbers) (w .result) (p .result .m)
     (p .ensures .0) (p .ensures .1) (rw (c .before .before .before .pattern-of .ensures) at (w .ensures .1))

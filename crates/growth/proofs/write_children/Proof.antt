@@ -14,22 +14,23 @@ use Rattle.growth.proofs.write_children.Statement.{statement}
 use Rattle.growth.proofs.write_children.Tie as tie
 
 abbrev Inv-loop : tie.InvT-loop
-Inv-loop cells₀ at level parent regular points pattern digits whole count kind i₀ cells i = Rows cells₀ at level parent regular
+Inv-loop cells₀ at level parent regular points pattern digits starts whole count kind i₀ cells i = Rows cells₀ at level parent regular
     (λ d. getD points d 0) pattern cells i
 
 abbrev μ-loop : tie.MeasureT-loop
-μ-loop cells₀ at level parent regular points pattern digits whole count kind i₀ cells i = count - i
+μ-loop cells₀ at level parent regular points pattern digits starts whole count kind i₀ cells i = count - i
 
 -- how many children there are
-size : (c : tie.After-cut-from Inv-loop μ-loop) → c .cut-from .result .count ≡ length (family (c .before .before .before .args .pattern))
-size c = ap (λ (f : Family). f .count) (c .cut-from .ensures) ∙ child-count (c .before .before .before .args .pattern)
-    (c .before .before .before .pre .0 .0)
+size : (c : tie.After-cut-from Inv-loop μ-loop) → c .cut-from .result .count ≡ length (family (c .before .before .before .before .args
+    .pattern))
+size c = ap (λ (f : Family). f .count) (c .cut-from .ensures) ∙ child-count (c .before .before .before .before .args .pattern)
+    (c .before .before .before .before .pre .0 .0)
 
-few : (c : tie.After-cut-from Inv-loop μ-loop) → length (family (c .before .before .before .args .pattern)) ≤ 8
-few c = family-few (c .before .before .before .args .pattern) (c .before .before .before .pre .0 .0)
+few : (c : tie.After-cut-from Inv-loop μ-loop) → length (family (c .before .before .before .before .args .pattern)) ≤ 8
+few c = family-few (c .before .before .before .before .args .pattern) (c .before .before .before .before .pre .0 .0)
 
 cut-from-requires : tie.Need-cut-from-requires Inv-loop μ-loop
-cut-from-requires c κs = c .before .before .pre .1
+cut-from-requires c κs = c .before .before .before .pre .1
 
 cast-count : tie.Need-cast-count Inv-loop μ-loop
 cast-count c = search needs
@@ -39,7 +40,7 @@ flag-requires c κs = search needs
 
 loop-holds : tie.Need-loop-holds Inv-loop μ-loop
 loop-holds c =
-    let a = c .before .before .before .before .args in
+    let a = c .before .before .before .before .before .args in
     rows-none (a .cells .now) (a .at) (a .level) (a .parent) (a .regular) (λ d. getD (a .points .now) d 0) (a .pattern)
 
 add-write-child : tie.Need-add-write-child Inv-loop μ-loop
@@ -52,7 +53,7 @@ add-write-child c = omega (
 
 write-child-requires : tie.Need-write-child-requires Inv-loop μ-loop
 write-child-requires c κs =
-    let a = c .before .before .before .before .before .before .before .before .before .args in (
+    let a = c .before .before .before .before .before .before .before .before .before .before .args in (
       (
         omega (arith, size (c .before .before .before .before .before .before)),
         omega (
@@ -64,7 +65,7 @@ write-child-requires c κs =
       ),
       λ j. rw
           (ap (λ (f : Family). f .digits) (c .before .before .before .before .before .before .cut-from .ensures))
-          (digits-below (a .pattern) (c .before .before .before .before .before .before .before .before .before .pre .0 .0) j),
+          (digits-below (a .pattern) (c .before .before .before .before .before .before .before .before .before .before .pre .0 .0) j),
     )
 
 add-i : tie.Need-add-i Inv-loop μ-loop
@@ -75,14 +76,14 @@ loop-less c = search needs
 
 loop-again : tie.Need-loop-again Inv-loop μ-loop
 loop-again c =
-    let a = c .before .before .before .before .before .before .before .before .before .before .before .before .args in
+    let a = c .before .before .before .before .before .before .before .before .before .before .before .before .before .args in
     let l = c .before .before .before .before .before .before .before .loop in
     let w = c .before .before .write-child in
     let f = c .before .before .before .before .before .before .before .before .before .cut-from in
     rw (add-one (l .i))
     (rows-more (a .cells .now) (a .at) (a .level) (a .parent) (a .regular) (λ d. getD (a .points .now) d 0) (a .pattern)
-    (c .before .before .before .before .before .before .before .before .before .before .before .before .pre .0 .0)
-    (c .before .before .before .before .before .before .before .before .before .before .before .before .pre .0 .1) (l .cells)
+    (c .before .before .before .before .before .before .before .before .before .before .before .before .before .pre .0 .0)
+    (c .before .before .before .before .before .before .before .before .before .before .before .before .before .pre .0 .1) (l .cells)
     (l .i) (l .inv)
     (omega (arith, size (c .before .before .before .before .before .before .before .before .before))) (w .last .0) (w .kept .0)
     (w .ensures
@@ -96,12 +97,12 @@ same-length c = c .before .loop .inv .long
 
 returns : tie.Need-returns Inv-loop μ-loop
 returns c =
-    let a = c .before .before .before .before .before .before .args in
+    let a = c .before .before .before .before .before .before .before .args in
     let l = c .before .loop in (
       rw (size (c .before .before .before)),
       rows-all (a .cells .now) (a .at) (a .level) (a .parent) (a .regular) (λ d. getD (a .points .now) d 0) (a .pattern)
-          (c .before .before .before .before .before .before .pre .0 .0)
-          (c .before .before .before .before .before .before .pre .0 .1) (l .cells) (l .i) (l .inv)
+          (c .before .before .before .before .before .before .before .pre .0 .0)
+          (c .before .before .before .before .before .before .before .pre .0 .1) (l .cells) (l .i) (l .inv)
           (omega (arith, size (c .before .before .before), l .inv .below)),
     )
 

@@ -1,7 +1,7 @@
 -- `replay::next_step` meets its contract: the marks are examined, the step is made, its rows in place, and the new table takes the place of
 -- the old one.
 -- Assumes nothing.
-use mathlib.Core.Path.{_≡_, refl, sym, _∙_}
+use mathlib.Core.Path.{_≡_, sym, _∙_}
 use mathlib.Core.Bool.{true, false}
 use Prim.Native.Nat.{_-_}
 use native.Mathlib.Omega.{arith}
@@ -28,9 +28,9 @@ returns-2 : tie.Need-returns-2
 returns-2 c = next-behind _ _ _ _ _ _ _ _
     (omega (
       arith,
-      length-pairs (c .before .before .before .before .before .before .before .args .marked .now)
-          (c .before .before .before .before .before .before .before .args .marks .now)
-          (c .before .before .before .before .before .before .before .pre .1 .0),
+      length-pairs (c .before .before .before .before .before .before .before .before .args .marked .now)
+          (c .before .before .before .before .before .before .before .before .args .marks .now)
+          (c .before .before .before .before .before .before .before .before .pre .1 .0),
       c .before .if2 .taken,
     )) _ _ _ (c .refused2 .ensures .0)
 
@@ -51,18 +51,18 @@ part-examine-marks-end-2 c = search needs
 
 slice-aggregate-examine-marks : tie.Need-slice-aggregate-examine-marks
 slice-aggregate-examine-marks c = sym
-    (length-take-le (c .before .before .before .before .before .before .before .before .before .before .before .args .cells)
-    (c .before .before .before .before .before .before .before .before .before .before .before .args .table .now)
+    (length-take-le (c .before .before .before .before .before .before .before .before .before .before .before .before .args .cells)
+    (c .before .before .before .before .before .before .before .before .before .before .before .before .args .table .now)
     (omega (
       arith,
-      c .before .before .before .before .before .before .before .before .before .before .before .pre .0 .few,
-      c .before .before .before .before .before .before .before .before .before .before .before .pre .0 .room,
+      c .before .before .before .before .before .before .before .before .before .before .before .before .pre .0 .few,
+      c .before .before .before .before .before .before .before .before .before .before .before .before .pre .0 .room,
     )))
 
 examine-marks-requires : tie.Need-examine-marks-requires
 examine-marks-requires c κs =
-    let a = c .before .before .before .before .before .before .before .before .before .before .before .before .args in
-    let p = c .before .before .before .before .before .before .before .before .before .before .before .before .pre in
+    let a = c .before .before .before .before .before .before .before .before .before .before .before .before .before .args in
+    let p = c .before .before .before .before .before .before .before .before .before .before .before .before .before .pre in
     let f = length-take-le (a .e - a .p) (drop (a .p) (a .marked .now))
     (omega (
       arith,
@@ -86,184 +86,120 @@ refused-requires-3 c κs = search needs
 
 returns-3 : tie.Need-returns-3
 returns-3 c =
-    let a = c .before .before .before .before .before .before .before .before .before .before .before .before .before .before .before .args
+    let a = c .before .before .before .before .before .before .before .before .before .before .before .before .before .before .before
+    .before .args
     in
     let e : c .before .before .examine-marks .result ≡ false = not-true _ (c .before .if3 .taken) in
     next-moved _ _ _ _ _ _ _ _ (omega (arith, c .before .before .before .before .before .before .before .before .before .before .if1 .left))
     (omega (
       arith,
       length-pairs (a .marked .now) (a .marks .now)
-          (c .before .before .before .before .before .before .before .before .before .before .before .before .before .before .before .pre .1
+          (c .before .before .before .before .before .before .before .before .before .before .before .before .before .before .before
+          .before .pre .1
           .0),
       c .before .before .before .before .before .before .before .before .before .if2 .left,
     )) _ _ _ _ (pairs-part (a .e - a .p) (a .p) (a .marked .now) (a .marks .now))
     (moved-missed _ _ _ _ _ _ _ (rw e at (c .before .before .examine-marks .ensures)) _ _ _ (c .refused3 .ensures .0))
 
-slice-aggregate-advance : tie.Need-slice-aggregate-advance
-slice-aggregate-advance c = sym
-    (length-take-le
-    (c .before .before .before .before .before .before .before .before .before .before .before .before .before .before .before .before
-    .before .before .args .cells)
-    (c .before .before .before .before .before .before .before .before .before .before .before .before .before .before .before .before
-    .before .before .args .table .now)
-    (omega (
-      arith,
-      c .before .before .before .before .before .before .before .before .before .before .before .before .before .before .before .before
-          .before .before .pre .0 .few,
-      c .before .before .before .before .before .before .before .before .before .before .before .before .before .before .before .before
-          .before .before .pre .0 .room,
-    )))
+make-requires : tie.Need-make-requires
+make-requires c κs = c .before .before .before .before .before .before .before .before .before .before .before .before .before .before
+    .before .before .before .before .before .before .before .before .before .before .before .pre .0
 
-slice-aggregate-advance-2 : tie.Need-slice-aggregate-advance-2
-slice-aggregate-advance-2 c = sym
-    (length-take-le
-    (c .before .before .before .before .before .before .before .before .before .before .before .before .before .before .before .before
-    .before .before .before .args .cells) (c .before .before .before .before .before .before .examine-marks .last .1 .1 .1 .0)
-    (omega (
-      arith,
-      c .before .before .before .before .before .before .before .before .before .before .before .before .before .before .before .before
-          .before .before .before .pre .0 .few,
-      c .before .before .before .spread2,
-    )))
-
-advance-requires : tie.Need-advance-requires
-advance-requires c κs =
-    let a = c .before .before .before .before .before .before .before .before .before .before .before .before .before .before .before
-    .before .before .before .before .before .before .before .before .before .before .before .before .before .before .args in
-    let p = c .before .before .before .before .before .before .before .before .before .before .before .before .before .before .before
-    .before .before .before .before .before .before .before .before .before .before .before .before .before .before .pre in
-    let m = length-take-le (a .cells)
-    (c .before .before .before .before .before .before .before .before .before .before .before .before .before .before .before .before
-    .examine-marks .last .1 .1 .1 .0)
-    (omega (
-      arith,
-      p .0 .few,
-      c .before .before .before .before .before .before .before .before .before .before .before .before .before .spread2,
-    )) in
-    let l = length-take-le (a .cells) (a .table .now) (omega (arith, p .0 .few, p .0 .room)) in (
-      p .0 .held,
-      (
-        m ∙ sym l,
-        (
-          p .1 .1,
-          record {
-            renewing =
-                record {
-                  least = omega arith;
-                  few = omega arith;
-                  in-rows = omega arith;
-                  in-ps = omega arith;
-                  in-qs = omega arith;
-                  in-table = omega arith;
-                  in-xs = omega arith;
-                  in-ys = omega arith;
-                  in-links = omega arith;
-                  in-links′ = omega arith;
-                  in-old = omega arith;
-                };
-            old-few = omega (arith, l, p .0 .few);
-            in-ys = omega arith;
-            in-links = omega arith;
-            in-kids = omega (arith, l, p .0 .few);
-            in-red = omega (arith, l, p .0 .few);
-          },
-        ),
-      ),
-    )
+refused-requires-4 : tie.Need-refused-requires-4
+refused-requires-4 c κs = search needs
 
 returns-4 : tie.Need-returns-4
 returns-4 c =
     let a = c .before .before .before .before .before .before .before .before .before .before .before .before .before .before .before
-    .before .before .before .before .before .before .before .before .before .before .before .before .before .before .before .before .before
-    .args in
-    let
-    e :
-    c .before .before .before .before .before .before .before .before .before .before .before .before .before .before .before .before
-    .before .before .before .examine-marks .result ≡ true = not-false _
-    (c .before .before .before .before .before .before .before .before .before .before .before .before .before .before .before .before
-    .before .before .if3 .left) in
-    let l = length-take-le (a .cells) (a .table .now)
-    (omega (
+    .before .before .before .before .before .before .before .before .before .before .before .before .before .before .args in
+    let e : c .before .before .before .before .before .before .before .before .before .before .before .before .before .before .before
+    .examine-marks .result ≡ true = not-false _ (c .before .before .before .before .before .before .before .before .before .before
+    .before .before .before .before .if3 .left) in
+    let l = length-take-le (a .cells) (a .table .now) (omega (
       arith,
-      c .before .before .before .before .before .before .before .before .before .before .before .before .before .before .before .before
+      c .before .before .before .before .before .before .before .before
           .before .before .before .before .before .before .before .before .before .before .before .before .before .before .before .before
-          .pre
-          .0 .few,
-      c .before .before .before .before .before .before .before .before .before .before .before .before .before .before .before .before
+          .before .before .before .before .before .pre .0 .few,
+      c .before .before .before .before .before .before .before .before .before
           .before .before .before .before .before .before .before .before .before .before .before .before .before .before .before .before
-          .pre
-          .0 .room,
+          .before .before .before .before .pre .0 .room,
     )) in
     next-moved _ _ _ _ _ _ _ _ (omega (
       arith,
-      c .before .before .before .before .before .before .before .before .before .before .before .before .before .before .before .before
-          .before .before .before .before .before .before .before .before .before .before .before .if1 .left,
-    )) (omega (
+      c .before .before .before .before .before .before .before .before .before .before .before
+          .before .before .before .before .before .before .before .before .before .before .before .before .if1 .left,
+    ))
+    (omega (
       arith,
-      length-pairs (a .marked .now) (a .marks .now)
-          (c .before .before .before .before .before .before .before .before .before .before .before .before .before .before .before .before
+      length-pairs (a .marked .now) (a .marks .now) (c .before .before .before .before .before .before .before .before .before
           .before .before .before .before .before .before .before .before .before .before .before .before .before .before .before .before
-          .pre .1 .0),
-      c .before .before .before .before .before .before .before .before .before .before .before .before .before .before .before .before
-          .before .before .before .before .before .before .before .before .before .before .if2 .left,
+          .before .before .before .before .pre .1 .0),
+      c .before .before .before .before .before .before .before .before .before .before
+          .before .before .before .before .before .before .before .before .before .before .before .before .if2 .left,
     )) _ _ _ _
     (pairs-part (a .e - a .p) (a .p) (a .marked .now) (a .marks .now))
-    (moved-on _ _ _ _ _ _ _ (rw e at
-    (c .before .before .before .before .before .before .before .before .before .before .before .before .before .before .before .before
+    (moved-on _ _ _ _ _ _ _ (rw e at (c .before .before .before .before .before .before .before .before .before .before .before .before
     .before .before .before .examine-marks .ensures)) _ l _ _ _
-    (stepped-refused _ _ _ _ _ _ _ _ _ _ _ _ (c .before .before .advance .ensures) _ _ _ _ refl (c .if4 .taken)))
+    (stepped-refused _ _ _ _ _ _ _ (c .before .before .before .make .ensures) _ _ _ _ _ (c .refused4 .ensures .0) (c .before .if4 .taken)))
 
-copy-bytes-requires : tie.Need-copy-bytes-requires
-copy-bytes-requires c κs = let
-    few = c .before .before .before .before .before .advance .ensures .few
-    (c .before .before .before .if4 .left) in
-    (omega (arith, few, c .before .copy-bytes-arg2), omega (arith, few, c .copy-bytes-arg3))
+settle-requires : tie.Need-settle-requires
+settle-requires c κs =
+    let z = c .before .before .before .before .before .before .if4 .left in
+    let m = c .before .before .before .before .before .before .before .before .make .ensures in (
+      c .before .before .before .before .before .before .before .before .before .before .before .before .before .before .before .before
+          .before .before .before .before .before .before .before .before .before .before .before .before .before .before .before .before
+          .before .before .pre .0 .held .accepted,
+      (
+        rw (m .table-is z) (m .sound z),
+        (
+          m .few z,
+          c .before .before .before .before .before
+              .before .before .before .before .before .before .before .before .before .before .before .before
+              .before .before .before .before
+              .before .before .before .before .before .before .before .before .before .before .before .before .before .pre .1 .1,
+        ),
+      ),
+    )
 
 returns-5 : tie.Need-returns-5
 returns-5 c =
     let a = c .before .before .before .before .before .before .before .before .before .before .before .before .before .before .before
-    .before .before .before .before .before .before .before .before .before .before .before .before .before .before .before .before .before
+    .before .before .before .before .before .before .before .before .before .before .before .before .before .before .before .before
     .before .before .before .before .args in
-    let
-    e :
-    c .before .before .before .before .before .before .before .before .before .before .before .before .before .before .before .before
-    .before .before .before .before .before .before .before .examine-marks .result ≡ true = not-false _
-    (c .before .before .before .before .before .before .before .before .before .before .before .before .before .before .before .before
-    .before .before .before .before .before .before .if3 .left) in
-    let l = length-take-le (a .cells) (a .table .now)
-    (omega (
+    let e : c .before .before .before .before .before .before .before .before .before .before .before .before .before .before .before
+    .before .before .before .before .before .before .examine-marks .result ≡ true = not-false _ (c .before .before .before .before
+    .before .before .before .before .before .before .before .before .before .before .before .before .before .before .before .before
+    .if3 .left) in
+    let l = length-take-le (a .cells) (a .table .now) (omega (
       arith,
-      c .before .before .before .before .before .before .before .before .before .before .before .before .before .before .before .before
+      c .before .before .before .before .before .before .before .before
           .before .before .before .before .before .before .before .before .before .before .before .before .before .before .before .before
-          .before .before .before .before .pre .0 .few,
-      c .before .before .before .before .before .before .before .before .before .before .before .before .before .before .before .before
+          .before .before .before .before .before .before .before .before .before .before .before .pre .0 .few,
+      c .before .before .before
           .before .before .before .before .before .before .before .before .before .before .before .before .before .before .before .before
-          .before .before .before .before .pre .0 .room,
+          .before .before .before .before .before .before .before .before .before .before .before .before .before .before .before .before
+          .pre .0 .room,
     )) in
-    let z = c .before .before .before .before .if4 .left in
     next-moved _ _ _ _ _ _ _ _ (omega (
       arith,
-      c .before .before .before .before .before .before .before .before .before .before .before .before .before .before .before .before
-          .before .before .before .before .before .before .before .before .before .before .before .before .before .before .before .if1
-          .left,
-    )) (omega (
-      arith,
-      length-pairs (a .marked .now) (a .marks .now)
-          (c .before .before .before .before .before .before .before .before .before .before .before .before .before .before .before .before
+      c .before .before .before .before .before .before .before .before .before .before .before
           .before .before .before .before .before .before .before .before .before .before .before .before .before .before .before .before
-          .before .before .before .before .pre .1 .0),
-      c .before .before .before .before .before .before .before .before .before .before .before .before .before .before .before .before
-          .before .before .before .before .before .before .before .before .before .before .before .before .before .before .if2
-          .left,
+          .before .before .if1 .left,
+    ))
+    (omega (
+      arith,
+      length-pairs (a .marked .now) (a .marks .now) (c .before .before .before .before .before .before .before .before .before
+          .before .before .before .before .before .before .before .before .before .before .before .before .before .before .before .before
+          .before .before .before .before .before .before .before .before .before .before .pre .1 .0),
+      c .before .before .before .before
+          .before .before .before .before .before .before .before .before .before .before .before .before .before .before .before .before
+          .before .before .before .before .before .before .before .before .if2 .left,
     )) _ _ _ _
     (pairs-part (a .e - a .p) (a .p) (a .marked .now) (a .marks .now))
-    (moved-on _ _ _ _ _ _ _ (rw e at
-    (c .before .before .before .before .before .before .before .before .before .before .before .before .before .before .before .before
-    .before .before .before .before .before .before .before .examine-marks .ensures)) _ l _ _ _
-    (stepped-on _ _ _ _ _ _ _ _ _ _ _ _
-    (c .before .before .before .before .before .before .advance .ensures) z _ _ (c .copy-bytes .ensures)
-    (omega (arith, c .before .before .copy-bytes-arg2))
-    (omega (arith, c .copy-bytes .kept .1 .1 .0, c .before .copy-bytes-arg3)) _ z))
+    (moved-on _ _ _ _ _ _ _ (rw e at (c .before .before .before .before .before .before .before .before .before .before .before .before
+    .before .before .before .before .before .before .before .before .before .examine-marks .ensures)) _ l _ _ _
+    (stepped-on _ _ _ _ _ _ _ (c .before .before .before .before .before .before .before .before .before .make .ensures) (c .before .before
+    .before .before .before .before .before .if4 .left) _ _ _ _ _ (c .settle .ensures)))
 
 pub next-step-spec : {M : Type 1} → statement M
 next-step-spec =
@@ -282,9 +218,8 @@ next-step-spec =
     examine-marks-requires
     refused-requires-3
     returns-3
-    slice-aggregate-advance
-    slice-aggregate-advance-2
-    advance-requires
+    make-requires
+    refused-requires-4
     returns-4
-    copy-bytes-requires
+    settle-requires
     returns-5)

@@ -8,10 +8,6 @@ use Prim.Native.Nat.{_-_, _≤_}
 use mathlib.Core.Path.{_≡_, sym, _∙_}
 use Rattle.replay.proofs.spread.Statement.{statement}
 use Rattle.replay.proofs.spread.Tie as tie
-use Rattle.replay.proofs.spread.Reads as reads
-use Rattle.replay.proofs.spread.Lts as lts
-use Rattle.replay.proofs.clear.Reads as clear-reads
-use Rattle.replay.proofs.may_stand.Reads as may-stand-reads
 
 abbrev Inv-loop : tie.InvT-loop
 Inv-loop marked marks k out₀ i₀ next₀ out i next = (length out ≡ length out₀) × (k ≤ length out) × Scanned marked marks k out i next

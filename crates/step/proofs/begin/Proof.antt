@@ -8,10 +8,6 @@ use Rattle.step.specs.Within.{begun-table, begun-marks, begun-held}
 use borrow.Author.Needs.{needs}
 use Rattle.step.proofs.begin.Statement.{statement}
 use Rattle.step.proofs.begin.Tie as tie
-use Rattle.step.proofs.begin.Reads as reads
-use Rattle.step.proofs.begin.Lts as lts
-use Rattle.layout.proofs.open.Reads as open-reads
-use Rattle.step.proofs.marks_fit.Reads as marks-fit-reads
 
 open-requires : tie.Need-open-requires
 open-requires c κs = search needs

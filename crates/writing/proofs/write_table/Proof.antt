@@ -29,9 +29,6 @@ level-size-requires c κs = let g = c .before .loop .inv in (omega (arith, g .so
 ending-requires : tie.Need-ending-requires Inv-loop μ-loop
 ending-requires c κs = c .before .before .loop .inv .within
 
-add-t19 : tie.Need-add-t19 Inv-loop μ-loop
-add-t19 c = omega (arith, c .before .before .before .before .loop .inv .low)
-
 returns : tie.Need-returns Inv-loop μ-loop
 returns c = result-now (c .before .before .before .before .before .before .before .before .before .before .before .pre) (c .before .before
     .before .before .loop .inv) (c .before .before .level-size .ensures) (c .before .ending .ensures) (c .if1 .taken)
@@ -69,7 +66,6 @@ write-table-spec =
     loop-holds
     level-size-requires
     ending-requires
-    add-t19
     returns
     write-level-requires
     add-last

@@ -1,0 +1,4 @@
+pub mod Ranges
+pub mod Born
+pub mod Marked
+pub mod Whole

@@ -1,4 +1,0 @@
-pub mod Levels
-pub mod Result
-pub mod Going
-pub mod RenewRoom
