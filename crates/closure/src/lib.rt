@@ -129,7 +129,7 @@ fn probe_edge(
 
 // The pattern of the cell's edges that are listed, by six looks; searched where one of them does not decide. One branch for all six: with
 // one for each, those of a large mesh are guessed wrong too often.
-fn pattern_in(
+pub fn pattern_in(
     cells: &[u16],
     c: usize,
     xs: &[u32],

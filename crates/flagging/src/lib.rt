@@ -241,7 +241,7 @@ fn flag_level(
     reds
 }
 
-// What a cell keeps, from its flag.
+// What a cell keeps, from its flag. That none of its edges is near is asked here, so that it is compiled into the loop over the cells.
 fn kept_of(
     flag: u8,
     rows: &[u16],
@@ -259,7 +259,13 @@ fn kept_of(
     if flag == 64 {
         return 64;
     }
-    closure::pattern_of(rows, c, xs, ys, heads, links, from, n)
+    if from == n {
+        return 0;
+    }
+    if !closure::is_near(rows, c, xs, ys, heads, links, from, n) {
+        return 0;
+    }
+    closure::pattern_in(rows, c, xs, ys, heads, links, from, n)
 }
 
 // Writes what the cells from first to last keep over their flags, where the edges of the level's new red cells are listed.
