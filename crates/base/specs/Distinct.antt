@@ -1,8 +1,8 @@
 -- Elements of lists, and lists without repetition.
 --   NoDup l      no element stands twice in l
 -- Laws: in-flat, flat-in, in-map, map-in, only-one (elements of lists that are mapped and joined), no-more (a list without repetition,
--- all of whose elements stand in another, is not longer), place-of and mem-at (elements and places), no-dup-by, no-dup-append and no-dup-chosen
--- (lists without repetition).
+-- all of whose elements stand in another, is not longer), place-of and mem-at (elements and places), no-dup-by, no-dup-append and
+-- no-dup-chosen (lists without repetition).
 use mathlib.Core.Path.{_≡_, refl, sym, ap, subst}
 use mathlib.Core.Logic.{⊎-elim}
 use mathlib.Core.Bool.{Bool, true, false}

@@ -69,7 +69,7 @@ module _ (es reds : List Pair) (m : Lists es reds) where
   pub held-listed : (e : Pair) → hasb isb es (sorted e) ≡ heldb eqb reds e
   held-listed e = m .has (sorted e) ∙ sym (joins-pair reds e)
 
-  pattern-listed : (c : Cell ℕ) → listedPattern es c ≡ pattern 0 eqb reds c
+  pub pattern-listed : (c : Cell ℕ) → listedPattern es c ≡ pattern 0 eqb reds c
   unfolding listedPattern pattern
   pattern-listed c = ap (λ (f : Pair → Bool). bitsOf (map f (edges 0 c))) (fun-ext held-listed)
 

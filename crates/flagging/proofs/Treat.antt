@@ -2,7 +2,7 @@
 -- Laws: none-listed, kept-many (how many will be red, of what is kept), red-many (how many edges there are), reds-range, reds-ready (what
 -- listing asks for), closed-looks (what writing asks for), treated-full, treated-whole (the two ways to end).
 -- Assumes nothing.
-use mathlib.Core.Path.{_≡_, refl, sym, _∙_, ap, ap₂, fun-ext}
+use mathlib.Core.Path.{_≡_, refl, sym, _∙_, ap, ap₂}
 use mathlib.Core.Bool.{Bool, true, false}
 use mathlib.Core.List.{List, [], _∷_, _++_, map}
 use Prim.Native.Nat.{ℕ, _+_, _*_, _-_, _≤_, _<_}
@@ -13,7 +13,7 @@ use borrow.Author.Tests.{ne-eqb}
 use Rattle.base.specs.Bools.{one-if, not-both}
 use Rattle.base.specs.Places.{distinct-nil}
 use Rattle.base.specs.Range.{range, map-range}
-use Rattle.mesh.specs.Cells.{Cell, redb, edges, bitsOf, pattern, redEdges}
+use Rattle.mesh.specs.Cells.{Cell, redb, edges, pattern, redEdges}
 use Rattle.mesh.specs.Laws.{pattern-small}
 use Rattle.edges.specs.Pairs.{Pair, isb, same-pair, addPairs, pairsOf}
 use Rattle.edges.specs.Table.{Table, Grown, listed}
@@ -21,8 +21,8 @@ use Rattle.rows.specs.Numbered.{cellAt, cellsAt, part}
 use Rattle.rows.specs.Laws.{length-cells}
 use Rattle.redlist.specs.Ready.{Ready, Range, redCount}
 use Rattle.redlist.specs.Steps.{length-reds}
-use Rattle.closure.specs.Listed.{Looks, listedPattern}
-use Rattle.closure.specs.Closed.{Lists, lists-added, held-listed}
+use Rattle.closure.specs.Listed.{Looks}
+use Rattle.closure.specs.Closed.{Lists, lists-added, pattern-listed}
 use Rattle.lineage.specs.Olds.{flagOf}
 use Rattle.lineage.specs.Flags.{flag-red}
 use Rattle.lineage.specs.Kept.{keptOf}
@@ -35,15 +35,11 @@ unfolding pairsOf
 none-listed xs ys n = let e : n - n ≡ 0 = omega arith in rw e
 
 -- where the edges of new red cells are listed, a cell keeps its pattern
-pattern-is : (es reds : List Pair) → Lists es reds → (c : Cell ℕ) → listedPattern es c ≡ pattern 0 eqb reds c
-unfolding listedPattern pattern
-pattern-is es reds m c = ap (λ (f : Pair → Bool). bitsOf (map f (edges 0 c))) (fun-ext (held-listed es reds m))
-
 closed-is : (es reds : List Pair) → Lists es reds → (t : List ℕ) (c : ℕ) (b : Bool) → closedAt es t (flagOf b) c ≡ keptOf 0 eqb reds b
     (cellAt t c)
 unfolding closedAt keptOf flagOf
 closed-is es reds m t c true = refl
-closed-is es reds m t c false = pattern-is es reds m (cellAt t c)
+closed-is es reds m t c false = pattern-listed es reds m (cellAt t c)
 
 -- what is kept is red where the flag is
 kept-red : (es : List Pair) (b : Bool) (c : Cell ℕ) → redb (keptOf 0 eqb es b c) ≡ b
