@@ -179,7 +179,7 @@ pub fn pattern_of(
 }
 
 // The status of a cell that is red or not, where the edges of its level's red cells are listed.
-pub fn status_of(
+fn status_of(
     cells: &[u16],
     c: usize,
     red: bool,

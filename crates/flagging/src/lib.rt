@@ -373,7 +373,7 @@ struct Entries {
 }
 
 // Treats the level from first to last and those above it, depth levels in all, the highest one first.
-fn flag_up(
+fn treat_up(
     rows: &[u16],
     status: &[u8],
     marks: &[u8],
@@ -402,7 +402,7 @@ fn flag_up(
         };
     }
     let end = kids[last] as usize;
-    let up = flag_up(
+    let up = treat_up(
         rows,
         status,
         marks,
@@ -456,7 +456,7 @@ pub struct Looked {
 
 // Writes what each cell keeps. The tables from xs on are for the work, whatever they hold; no bucket of the heads has an entry. There are
 // at most eleven levels.
-pub fn flag_all(
+pub fn treat_all(
     rows: &[u16],
     status: &[u8],
     marks: &[u8],
@@ -474,7 +474,7 @@ pub fn flag_all(
     ensures { λ r. ⌜ LookedAt (was rows) (was status) (was marks) (was kids) 11 0 (getD (was kids) 0 0) (was kept) (is kept) (was xs)
         (r .ok) (r .high) ⌝ }
 {
-    let r = flag_up(
+    let r = treat_up(
         rows,
         status,
         marks,

@@ -51,5 +51,5 @@ pub fn keep(
     requires { ⌜ Clear (now heads) ⌝ }
     ensures { λ r. ⌜ KeptOrFull n (fours (was mesh)) (was status) (was marks) (was kept) (is kept) (was xs) (r .ok) (r .high) ⌝ }
 {
-    flagging::flag_all(rows, status, marks, kids, kept, xs, ys, heads, links)
+    flagging::treat_all(rows, status, marks, kids, kept, xs, ys, heads, links)
 }

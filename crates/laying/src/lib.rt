@@ -34,6 +34,7 @@ pub fn lay(
     requires { ⌜ now digits ≡ digitTable ⌝ }
     requires { ⌜ now starts ≡ startTable ⌝ }
     ensures { λ r. ⌜ LaidSound n (fours (was mesh)) (was status) (is rows) (is ps) (is qs) (r .cells) (r .levels) (r .mids) ⌝ }
+    ensures { λ r. ⌜ (r .refusal ≡ 0) × (r .coarse ≡ length (fours (was mesh))) ⌝ }
 {
     let coarse = tables::lay_coarse(mesh, rows);
     let mut first = 0;

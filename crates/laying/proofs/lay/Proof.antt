@@ -79,12 +79,14 @@ returns c =
     let a = c .before .before .before .before .before .before .before .before .before .before .before .before .before .before .before
     .before .args
     in
-    let s = c .before .level-size in
-    rw (add-one (l .level)) (lay-ended (a .n) (fours (a .mesh .now)) (a .status .now) (c .before .before .before .before .before .before
-    .before .before .before .before .before .before .before .before .before .before .pre .1 .0) (l .level) (l .first) (l .last) (l
-    .rows)
-    (l .ps) (l .qs) (l .heads) (l .links) (l .m) (l .inv .1) (s .result) (s .ensures)
-    (c .if1 .taken))
+    let s = c .before .level-size in (
+      rw (add-one (l .level)) (lay-ended (a .n) (fours (a .mesh .now)) (a .status .now) (c .before .before .before .before .before .before
+          .before .before .before .before .before .before .before .before .before .before .pre .1 .0) (l .level) (l .first) (l .last) (l
+          .rows)
+          (l .ps) (l .qs) (l .heads) (l .links) (l .m) (l .inv .1) (s .result) (s .ensures)
+          (c .if1 .taken)),
+      (refl, c .before .before .before .before .before .lay-coarse .ensures .0),
+    )
 
 add-grow-level : tie.Need-add-grow-level Inv-loop μ-loop
 add-grow-level c = omega (arith, c .before .before .before .loop .inv .1 .low)
@@ -158,8 +160,8 @@ loop-again c =
           (omega (
             arith,
             c .before .before .before .before .before .before .before .before .before .before .before .before .before .before .before
-                .before .before .before .before .before .before .before .before .before .before .before .before .before .before .before
-                .before .before .pre .1 .1 .0 .0 .in-rows,
+                .before .before .before .before .before .before .before .before .before .before .before .before .before .before .before .before
+                .before .pre .1 .1 .0 .0 .in-rows,
             w .of-rows,
             c .before .before .before .before .before .before .before .before .before .before .before .before .before .before .before
                 .before .before .before .before .before .before .lay-coarse .kept .1 .0,

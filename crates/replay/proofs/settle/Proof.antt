@@ -77,7 +77,7 @@ returns c = let p = c .before .before .before .before .before .before .before .b
       c .before
           .before .before .before .before .before .before .before .before .before .before .copy-bytes-arg2,
     )) (c .before .before .before
-    .before .before .before .before .before .before .before .copy-bytes .ensures) (c .before .lay .ensures)
+    .before .before .before .before .before .before .before .copy-bytes .ensures) (c .before .lay .ensures .0)
 
 pub settle-spec : {M : Type 1} → statement M
 settle-spec =
