@@ -160,7 +160,8 @@ loop-again c =
           (omega (
             arith,
             c .before .before .before .before .before .before .before .before .before .before .before .before .before .before .before
-                .before .before .before .before .before .before .before .before .before .before .before .before .before .before .before .before
+                .before .before .before .before .before .before .before .before .before .before
+                .before .before .before .before .before .before
                 .before .pre .1 .1 .0 .0 .in-rows,
             w .of-rows,
             c .before .before .before .before .before .before .before .before .before .before .before .before .before .before .before
