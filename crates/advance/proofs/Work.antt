@@ -23,8 +23,9 @@ use Rattle.mesh.specs.Answers.{newTable, limitsAnswer}
 use Rattle.mesh.specs.Laws.{sound-count}
 use Rattle.lattice.specs.Levels as lattice
 use Rattle.lattice.specs.Facts.{sound-regular}
-use Rattle.lineage.specs.Kept.{keptTable}
-use Rattle.lineage.specs.KeptAt.{kept-length}
+use Rattle.kept.specs.Kept.{keptTable}
+use Rattle.kept.specs.KeptAt.{kept-length}
+use Rattle.kept.specs.Laws.{kept-small}
 use Rattle.lineage.specs.Step.{step-by}
 use Rattle.lineage.specs.Deep.{deep}
 use Rattle.lineage.specs.Firsts.{Firsts, firstChildren, firsts-taken, length-firsts}
@@ -37,7 +38,6 @@ use Rattle.writing.specs.Result.{TableWritten, writtenLevels}
 use Rattle.keeping.specs.Marked.{Marked, KeptOrFull}
 use Rattle.keeping.specs.Whole.{sound-firsts}
 use Rattle.advance.specs.Advanced.{Held, Decided, Advanced, held-statuses}
-use Rattle.advance.proofs.Small.{kept-small}
 
 -- the limits
 module _ (n : ℕ) (qs : List (List ℕ)) (ss ms : List ℕ) where

@@ -18,9 +18,10 @@ use Rattle.base.specs.declared.Answer.the-variants.{Accepted}
 use Rattle.cutting.specs.Answer.{cutOf}
 use Rattle.mesh.specs.Coarse.{cornerCount, meshAnswer}
 use Rattle.mesh.specs.Table.{soundb}
-use Rattle.mesh.specs.Answers.{tableAnswer, marksb, limitsAnswer, markedAnswer}
+use Rattle.mesh.specs.Answers.{cellsIn, tableAnswer, marksb, limitsAnswer, markedAnswer}
 use Rattle.position.specs.Position.{cornerAnswer}
-use Rattle.layout.specs.Calls.{cellsIn, lentb, layoutAnswer, ancestorAnswer, countsAnswer}
+use Rattle.layout.specs.Calls.{lentb, layoutAnswer}
+use Rattle.queries.specs.Calls.{ancestorAnswer, countsAnswer}
 use Rattle.step.specs.Calls.{stepAnswer}
 use Rattle.archive.specs.Job.{Job, jobBytes}
 use Rattle.archive.specs.Form.{formb, jobOf}

@@ -21,7 +21,8 @@ use Rattle.cutting.specs.Answer.{cutOf}
 use Rattle.mesh.specs.Coarse.{cornerCount, meshAnswer}
 use Rattle.mesh.specs.Answers.{tableAnswer}
 use Rattle.position.specs.Position.{cornerAnswer}
-use Rattle.layout.specs.Calls.{layoutAnswer, ancestorAnswer, countsAnswer}
+use Rattle.layout.specs.Calls.{layoutAnswer}
+use Rattle.queries.specs.Calls.{ancestorAnswer, countsAnswer}
 use Rattle.step.specs.Calls.{stepAnswer}
 use Rattle.archive.specs.Job.{jobBytes}
 use Rattle.archive.specs.Form.{jobOf}

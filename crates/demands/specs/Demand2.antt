@@ -21,13 +21,13 @@ use Rattle.cutting.specs.Answer.{cutInto, cutOf, cutOf-accepted}
 use Rattle.mesh.specs.Coarse.{cornerCount}
 use Rattle.mesh.specs.Step.{stepTable}
 use Rattle.mesh.specs.Layout.{cellTable, endTable}
-use Rattle.mesh.specs.Answers.{tableAnswer, newTable}
+use Rattle.mesh.specs.Answers.{cellsIn, cornersIn, tableAnswer, newTable}
 use Rattle.cases.specs.Starred.{Starred, starred}
 use Rattle.numbering.specs.Corners.{weightsAt}
 use Rattle.conformity.specs.Leaves.{openb, meetb}
 use Rattle.conformity.specs.Accepted.{examined-open, examined-meets}
 use Rattle.position.specs.Position.{positionOf}
-use Rattle.layout.specs.Calls.{cellsIn, cornersIn, layoutAnswer}
+use Rattle.layout.specs.Calls.{layoutAnswer}
 use Rattle.step.specs.Calls.{stepAnswer}
 use Rattle.archive.specs.Job.{Job}
 use Rattle.archive.specs.Form.{jobOf}

@@ -23,6 +23,7 @@ use Rattle.base.specs.declared.Answer.the-variants.{Accepted}
 use Rattle.mesh.specs.Coarse.{cornerCount, coordinateAt}
 use Rattle.mesh.specs.Weights as weights
 use Rattle.mesh.specs.Layout.{Corner, weightedSum, sumTable}
+use Rattle.mesh.specs.Answers.{cornersIn}
 use Rattle.mesh.specs.Laws.{mesh-counts}
 use Rattle.lattice.specs.Levels.{fours-four}
 use Rattle.lattice.specs.Tails.{Sized}
@@ -36,7 +37,7 @@ use Rattle.position.specs.Position.{coordinateOf, pointOf, positionOf, position
 use Rattle.position.specs.declared.Point.{Point}
 use Rattle.position.specs.declared.Position.{Position}
 use Rattle.position.specs.declared.Position.the-variants.{At}
-use Rattle.layout.specs.Calls.{cornersIn, lentb, layoutAnswer}
+use Rattle.layout.specs.Calls.{lentb, layoutAnswer}
 use Rattle.layout.specs.Few.{corners-few}
 use Rattle.demands.specs.Order.{first-passed}
 use Rattle.demands.specs.Tests.{layoutTests}

@@ -16,8 +16,8 @@ use Rattle.base.specs.Limits.{mostCells, mostLevels, mostCorners, mostBytes, fu
 use Rattle.mesh.specs.Coarse.{cornerCount, countsb, positionsb, cellsb, solidb, singleb}
 use Rattle.mesh.specs.Table.{soundb}
 use Rattle.mesh.specs.Step.{stepTable}
-use Rattle.mesh.specs.Answers.{marksb, newTable}
-use Rattle.layout.specs.Calls.{cellsIn, lentb}
+use Rattle.mesh.specs.Answers.{cellsIn, marksb, newTable}
+use Rattle.layout.specs.Calls.{lentb}
 use Rattle.archive.specs.Job.{Job, jobBytes}
 use Rattle.archive.specs.Form.{formb, jobOf}
 use Rattle.archive.specs.Stored.{jobFrom}

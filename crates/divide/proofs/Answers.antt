@@ -21,7 +21,7 @@ use Rattle.mesh.specs.Coarse.{cornerCount}
 use Rattle.mesh.specs.Table.{soundb}
 use Rattle.mesh.specs.Answers.{tableAnswer}
 use Rattle.counting.specs.Sound.{sound-counted}
-use Rattle.layout.specs.Opened.{Fits}
+use Rattle.opening.specs.Opened.{Fits}
 use Rattle.lineage.specs.Firsts.{firstChildren, firsts-taken}
 use Rattle.parts.specs.Owners.{ownersb}
 use Rattle.store.specs.Fields.{full}

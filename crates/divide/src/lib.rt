@@ -230,7 +230,7 @@ pub fn split(
     let mut rows = [0u16; 32768];
     let mut xs = [0u32; 4096];
     let mut ys = [0u32; 4096];
-    let f = layout::open(positions, cells, status, &mut rows, &mut xs, &mut ys);
+    let f = opening::open(positions, cells, status, &mut rows, &mut xs, &mut ys);
     if f.refusal != 0 {
         return Answer::Refused(f.refusal);
     }

@@ -15,7 +15,8 @@ use lib.Seq.{getD-set-same, getD-set-other, take-set-le, getD-at}
 use Rattle.base.specs.Places.{hasb, placeIn, add, Distinct, has-at, has-below, place-there, add-old, add-new, distinct-add, place-here}
 use Rattle.base.specs.Places.{place-behind, distinct-nil}
 use Rattle.base.specs.Bools.{either}
-use Rattle.pairs.specs.Keys.{Keys, Room, Added, Without, seek, seek-found, seek-none}
+use Rattle.spots.specs.Spots.{Without}
+use Rattle.pairs.specs.Keys.{Keys, Room, Added, seek, seek-found, seek-none}
 use Rattle.edges.specs.Pairs.{Pair, sorted, isb, addPair, pairsOf, same-pair}
 use Rattle.edges.specs.Table.{listed, Table, Edges, Inserted, Unmet}
 

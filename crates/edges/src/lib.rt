@@ -83,7 +83,7 @@ pub fn may_meet(
     requires { ⌜ Table (now xs) (now ys) (now heads) (now links) from n ⌝ }
     ensures { λ r. ⌜ (r ≡ false → Unmet (listed (was xs) (was ys) from n) a) ⌝ }
 {
-    pairs::may_have(xs, ys, heads, links, from, n, a as u32)
+    spots::may_have(heads, from, a as u32)
 }
 
 // Finds the edge among the entries from `from` on, or adds it behind them.

@@ -9,12 +9,10 @@ use Prim.Native.Nat.{ℕ, _+_, _*_, _-_, _≤_, _<_}
 use native.Mathlib.Omega.{arith}
 use lib.Dec.{eqb}
 use lib.ListN.{length, getD, take, drop}
-use borrow.Author.Tests.{ne-eqb}
 use Rattle.base.specs.Bools.{one-if, not-both}
 use Rattle.base.specs.Places.{distinct-nil}
 use Rattle.base.specs.Range.{range, map-range}
-use Rattle.mesh.specs.Cells.{Cell, redb, edges, pattern, redEdges}
-use Rattle.mesh.specs.Laws.{pattern-small}
+use Rattle.mesh.specs.Cells.{redb, redEdges}
 use Rattle.edges.specs.Pairs.{Pair, isb, same-pair, addPairs, pairsOf}
 use Rattle.edges.specs.Table.{Table, Grown, listed}
 use Rattle.rows.specs.Numbered.{cellAt, cellsAt, part}
@@ -25,7 +23,8 @@ use Rattle.closure.specs.Listed.{Looks}
 use Rattle.closure.specs.Closed.{Lists, lists-added, pattern-listed}
 use Rattle.lineage.specs.Olds.{flagOf}
 use Rattle.lineage.specs.Flags.{flag-red}
-use Rattle.lineage.specs.Kept.{keptOf}
+use Rattle.kept.specs.Kept.{keptOf}
+use Rattle.kept.specs.Laws.{red-kept}
 use Rattle.flagging.specs.Flags.{redAtb, flagsAt, keptsAt, closedAt, closedOver}
 use Rattle.flagging.specs.Old.{OldRows, Span, SideBySide, Flagged, Treated, levelReds}
 use Rattle.flagging.specs.Writes.{over-at, over-part, over-again, length-flags}
@@ -41,12 +40,6 @@ unfolding closedAt keptOf flagOf
 closed-is es reds m t c true = refl
 closed-is es reds m t c false = pattern-listed es reds m (cellAt t c)
 
--- what is kept is red where the flag is
-kept-red : (es : List Pair) (b : Bool) (c : Cell ℕ) → redb (keptOf 0 eqb es b c) ≡ b
-unfolding keptOf
-kept-red es true c = refl
-kept-red es false c = ne-eqb (pattern 0 eqb es c) 64 (λ e. omega (arith, pattern-small 0 eqb es c, e))
-
 count-same : (f g : ℕ → ℕ) → ((c : ℕ) → redb (f c) ≡ redb (g c)) → (l : List ℕ) → redCount (map f l) ≡ redCount (map g l)
 unfolding redCount
 count-same f g h [] = refl
@@ -57,7 +50,7 @@ module _ (t ss ms ks : List ℕ) (held : Pair → Bool) where
   unfolding keptsAt flagsAt
   kept-many es k m =
       count-same (λ c. keptOf 0 eqb es (redAtb t ss ms ks held c) (cellAt t c)) (λ c. flagOf (redAtb t ss ms ks held c))
-      (λ c. kept-red es (redAtb t ss ms ks held c) (cellAt t c) ∙ sym (flag-red (redAtb t ss ms ks held c))) (range k m)
+      (λ c. red-kept 0 eqb es (redAtb t ss ms ks held c) (cellAt t c) ∙ sym (flag-red (redAtb t ss ms ks held c))) (range k m)
 
   module _ (first last : ℕ) where
     abbrev own : List ℕ

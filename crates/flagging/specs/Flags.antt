@@ -25,7 +25,7 @@ use Rattle.edges.specs.Table.{listed}
 use Rattle.closure.specs.Listed.{listedPattern}
 use Rattle.rows.specs.Numbered.{cellAt, cellsAt}
 use Rattle.lineage.specs.Olds.{flagOf}
-use Rattle.lineage.specs.Kept.{keptOf}
+use Rattle.kept.specs.Kept.{keptOf}
 use Rattle.base.specs.Range.{range}
 
 -- Rule 3.2: the children of a cell, by number.

@@ -1,21 +1,20 @@
 -- Tables that are written from a place on.
--- Laws: firsts-none, firsts-more (the first children of one cell more); of a function's numbers over a level over-start, over-next,
--- over-more (one number more), over-left (what is not written yet), over-at, over-part (what is written), over-again (written twice);
--- length-flags, length-kepts; flags-both (a level before the levels above it).
+-- Laws: of a function's numbers over a level over-start, over-next, over-more (one number more), over-left (what is not written yet),
+-- over-at, over-part (what is written), over-again (written twice); length-flags, length-kepts; flags-both (a level before the levels above
+-- it).
 -- Assumes nothing.
 use mathlib.Core.Path.{_≡_, refl, sym, _∙_, ap}
 use mathlib.Core.Bool.{Bool}
 use mathlib.Core.List.{List, [], _∷_, _++_, map, map-append, append-assoc, append-nil}
 use Prim.Native.Nat.{ℕ, suc, _+_, _-_, _≤_, _<_}
-use native.Mathlib.Nat.{zero-add}
 use native.Mathlib.Omega.{arith}
 use lib.Dec.{eqb}
 use lib.ListN.{length, getD, take, drop, set, length-append, length-map, take-append-drop, List·getD-append}
 use lib.Seq.{drop-cons, set-at, getD-at, take-at, drop-at, take-take, take-append-le, length-take-le, getD-append-add}
 use Rattle.base.specs.Every.{getD-map}
 use Rattle.edges.specs.Pairs.{Pair}
-use Rattle.lineage.specs.Olds.{firstChild, flagOf}
-use Rattle.lineage.specs.Kept.{keptOf}
+use Rattle.lineage.specs.Olds.{flagOf}
+use Rattle.kept.specs.Kept.{keptOf}
 use Rattle.rows.specs.Numbered.{cellAt, part}
 use Rattle.flagging.specs.Flags.{redAtb, flagsAt, keptsAt}
 use Rattle.base.specs.Range.{range, length-range, range-at, range-snoc}
@@ -32,21 +31,6 @@ map-snoc f k m = sym (ap (map f) (range-snoc k m) ∙ map-append f (range k m) (
 
 length-map-range : (f : ℕ → ℕ) (k m : ℕ) → length (map f (range k m)) ≡ m
 length-map-range f k m = length-map (range k m) f ∙ length-range k m
-
-pub firsts-none : (l : List ℕ) (m : ℕ) (ss : List ℕ) → l ≡ map (firstChild m ss) (range 0 0) ++ drop 0 l
-unfolding range
-firsts-none l m ss = refl
-
-pub firsts-more : (l out : List ℕ) (m : ℕ) (ss : List ℕ) (c v : ℕ) → out ≡ map (firstChild m ss) (range 0 c) ++ drop c l → c < length l
-    → v ≡ firstChild m ss c
-    → set out c v ≡ map (firstChild m ss) (range 0 (suc c)) ++ drop (suc c) l
-firsts-more l out m ss c v e h q =
-    written-more l (map (firstChild m ss) (range 0 c)) out c v e (length-map-range (firstChild m ss) 0 c) h
-    ∙ ap (λ (x : List ℕ). x ++ drop (suc c) l) w
-  where
-    w : map (firstChild m ss) (range 0 c) ++ (v ∷ []) ≡ map (firstChild m ss) (range 0 (suc c))
-    w = ap (λ (x : ℕ). map (firstChild m ss) (range 0 c) ++ (x ∷ [])) (q ∙ ap (firstChild m ss) (sym (zero-add c)))
-        ∙ map-snoc (firstChild m ss) 0 c
 
 -- the numbers of f from first to c are written
 module _ (f : ℕ → ℕ) (l : List ℕ) (first : ℕ) where

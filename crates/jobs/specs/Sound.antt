@@ -21,7 +21,7 @@ use Rattle.mesh.specs.Counts.{countsOf, countTable}
 use Rattle.lattice.specs.Levels.{fours-four}
 use Rattle.tables.specs.Sound.{Mesh}
 use Rattle.base.specs.Refuse.{codeOf, passed, both}
-use Rattle.layout.specs.Accepted.{mesh-passed}
+use Rattle.opening.specs.Accepted.{mesh-passed}
 use Rattle.archive.specs.Job.{Job}
 use Rattle.archive.specs.Form.{formb, jobOf}
 use Rattle.replay.specs.Run.{runAnswer, restTable, jobAnswer, jobTable}

@@ -26,7 +26,7 @@ use Rattle.numbering.specs.Renamed.{red-edges-in}
 use Rattle.numbering.specs.Tests.{numberedCells, edgeIn, EndsPlaced, red-edges-numbers}
 use Rattle.tables.specs.Cells.{red-strip}
 use Rattle.lineage.specs.Olds.{flagOf, flagsOf, flags, firstChild}
-use Rattle.lineage.specs.Kept.{keptOf, keptRows, keptLevels}
+use Rattle.kept.specs.Kept.{keptOf, keptRows, keptLevels}
 use Rattle.flagging.specs.Flags.{kidsOf, redAtb, flagsAt, redsUp, keptsAt, keptUp, highUp}
 use Rattle.lineage.specs.Firsts.{first-up, Firsts, firsts-top, firsts-up}
 use Rattle.keeping.proofs.Tests.{rowAt, Seen, all-range, red-row, kept-row}

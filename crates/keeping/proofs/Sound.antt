@@ -27,8 +27,8 @@ use Rattle.tables.specs.Onward.{four-in, length-in}
 use Rattle.tables.specs.Finish.{rows-in}
 use Rattle.mesh.specs.Laws.{sound-count, length-coarse}
 use Rattle.lineage.specs.Olds.{firstChild, flags}
-use Rattle.lineage.specs.Kept.{keptLevels, keptTable}
-use Rattle.lineage.specs.KeptAt.{kept-length}
+use Rattle.kept.specs.Kept.{keptLevels, keptTable}
+use Rattle.kept.specs.KeptAt.{kept-length}
 use Rattle.flagging.specs.Flags.{keptUp, highUp}
 use Rattle.flagging.specs.Old.{OldRows, Span, LookedAt}
 use Rattle.keeping.specs.Marked.{Marked, KeptOrFull}

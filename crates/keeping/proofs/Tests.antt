@@ -23,7 +23,7 @@ use Rattle.numbering.specs.Corners.{Has}
 use Rattle.numbering.specs.Renamed.{edges-map, edges-in}
 use Rattle.numbering.specs.Tests.{edgeIn, Placed, EndsPlaced, held-numbers}
 use Rattle.tables.specs.Cells.{strip}
-use Rattle.lineage.specs.Kept.{keptOf}
+use Rattle.kept.specs.Kept.{keptOf}
 use Rattle.flagging.specs.Flags.{kidsOf, idleb, touchedb, pulledb, redAtb}
 use Rattle.base.specs.Range.{range}
 

@@ -15,7 +15,7 @@ use Rattle.mesh.specs.Table.{soundb, levelsOf}
 use Rattle.mesh.specs.Layout.{cellTable}
 use Rattle.tables.specs.Sound.{Mesh, tableCells, examinedCorners}
 use Rattle.lineage.specs.Firsts.{firstChildren}
-use Rattle.lineage.specs.Kept.{keptTable}
+use Rattle.kept.specs.Kept.{keptTable}
 use Rattle.lineage.specs.Olds.{flags}
 
 -- Rules 6.1 to 6.4, 7.1: a sound table with its rows, and one mark for each cell.

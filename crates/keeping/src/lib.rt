@@ -31,8 +31,8 @@ pub fn first_children(status: &[u8], coarse: usize, kids: &mut [u16])
 }
 
 // Writes what each cell keeps: 64 where it will be red, else the pattern of its edges that cells of its level hold which will be. Says
-// whether there was room for six edges of each cell that will be red, and whether one is on level 10. The tables from xs on are for the
-// work, whatever they hold, but no bucket of the heads has an entry.
+// whether there was room for six edges of each cell that will be red, and whether one is on level 10; without that room, what `kept` holds
+// is free. The tables from xs on are for the work, whatever they hold, but no bucket of the heads has an entry.
 pub fn keep(
     mesh: &[u16],
     n: usize,

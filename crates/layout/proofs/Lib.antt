@@ -1,3 +1,2 @@
-pub mod Numbering
-pub mod Answers
-pub mod Results
+mod Numbering
+mod Results

@@ -1,40 +1,47 @@
--- What an accepted mesh and a sound table give the calls.
+-- What a table that is opened gives its layout.
+-- Laws: layout-short, layout-long, lent-long (the lent tables), fits-few, fits-corners, fits-ends, fits-small, room-left (what writing asks
+-- for), table-after, ends-after, sums-after (what it leaves).
 -- Assumes nothing.
-use mathlib.Core.Path.{_≡_, sym, _∙_, ap}
-use mathlib.Core.Bool.{true}
+use mathlib.Core.Path.{_≡_, sym, _∙_}
+use mathlib.Core.Bool.{true, false}
 use mathlib.Core.List.{List, _++_}
-use Prim.Native.Nat.{ℕ, _+_, _*_, _/_, _≤_, _<_}
+use Prim.Native.Nat.{ℕ, _+_, _*_, _≤_}
 use native.Mathlib.Omega.{arith}
 use lib.Dec.{T, leb→le}
 use lib.IntN.{ℤ}
-use lib.ListN.{length, getD, take, drop}
+use lib.ListN.{length, take, drop}
 use lib.Seq.{length-take-le}
 use Rattle.base.specs.Bools.{is-true, and-left, and-right}
-use Rattle.base.specs.Fours.{fours, length-fours}
+use Rattle.base.specs.Fours.{fours}
+use Rattle.base.specs.declared.Answer.the-variants.{Refused}
 use Rattle.mesh.specs.Coarse.{cornerCount}
 use Rattle.mesh.specs.Table.{soundb}
 use Rattle.mesh.specs.Layout.{cellTable, endTable, sumTable}
-use Rattle.mesh.specs.Counts.{countTable}
-use Rattle.lattice.specs.Levels.{fours-four}
+use Rattle.mesh.specs.Answers.{cellsIn, cornersIn, tableAnswer}
 use Rattle.corners.specs.Ends.{Ends, endNumbers, coarseEnds, length-coarseEnds, length-addEnds}
 use Rattle.corners.specs.Sums.{Smalls, sumNumbers, coarseSums, length-coarseSums, length-addSums, positions-small}
 use Rattle.corners.specs.Tables.{CornersNumbered, ends-are, sums-are}
-use Rattle.ancestors.specs.Climb.{Upward, climbFrom}
-use Rattle.ancestors.specs.Linked.{ancestorOf}
-use Rattle.mesh.specs.Cells.{noCell}
-use Rattle.ancestors.specs.Table.{table-upward, table-climb}
-use Rattle.counting.specs.Levels.{Levels, levelNumber, levelCounts, counts-length}
 use Rattle.counting.specs.Sound.{sound-counted}
-use Rattle.counting.specs.Whole.{counts-right, number-right, end-right}
+use Rattle.counting.specs.Whole.{end-right}
 use Rattle.tables.specs.Room.{TableRoom}
-use Rattle.layout.specs.Opened.{Fits}
-use Rattle.layout.specs.Calls.{levelsIn, cellsIn, cornersIn, lentb}
+use Rattle.opening.specs.Opened.{Fits}
+use Rattle.layout.specs.Calls.{lentb, layoutAnswer}
 use Rattle.layout.proofs.Numbering.{corner-count, ends, numbered}
 
 pub record Lent (table ends : List ℕ) (sums : List ℤ) : Type 0 where
   pub long-table : 32768 ≤ length table
   pub long-ends : 32768 ≤ length ends
   pub long-sums : 49152 ≤ length sums
+
+pub layout-short : (ps : List ℤ) (ts ss table ends : List ℕ) (sums : List ℤ) → lentb table ends sums ≡ false
+    → layoutAnswer ps ts ss table ends sums ≡ Refused 15
+unfolding layoutAnswer
+layout-short ps ts ss table ends sums e = rw e
+
+pub layout-long : (ps : List ℤ) (ts ss table ends : List ℕ) (sums : List ℤ) → lentb table ends sums ≡ true
+    → layoutAnswer ps ts ss table ends sums ≡ tableAnswer ps ts ss
+unfolding layoutAnswer
+layout-long ps ts ss table ends sums e = rw e
 
 pub lent-long : (table ends : List ℕ) (sums : List ℤ) → lentb table ends sums ≡ true → Lent table ends sums
 unfolding lentb
@@ -104,34 +111,3 @@ module _ (ps : List ℤ) (ts ss rows xs ys : List ℕ) (cells levels m : ℕ) (f
     sums-after old new e =
         written old new _ _ (3 * (cornerCount ps + m)) e (sym (sums-are (cornerCount ps) xs ys m (cornersIn ps ts ss) fits-numbered ps))
         (length-addSums (coarseSums ps (cornerCount ps)) xs ys m ∙ rw (length-coarseSums ps (cornerCount ps)) (omega arith))
-
-  -- a cell's way up
-  module _ (c : ℕ) (h : c < cells) where
-    all-rows : take (8 * length (cellsIn ps ts ss)) rows ≡ cellTable (cornersIn ps ts ss) (cellsIn ps ts ss)
-    all-rows = rw (f .sound .counted) (f .sound .table)
-
-    there : c < length (cellsIn ps ts ss)
-    there = rw (f .sound .counted) h
-
-    pub fits-upward : Upward rows (c + 1)
-    fits-upward = table-upward (cornerCount ps) (fours ts) ss (fours-four ts) (cornersIn ps ts ss) rows all-rows c there
-
-    pub fits-climb : climbFrom rows c c ≡ ancestorOf (getD (cellsIn ps ts ss) c noCell)
-    fits-climb = table-climb (cornerCount ps) (fours ts) ss (fours-four ts) (cornersIn ps ts ss) rows all-rows c there noCell
-
-  -- counts
-  pub fits-levels : Levels ss (length ts / 4)
-  fits-levels = rw (length-fours ts) at
-      (sound-counted (cornerCount ps) (fours ts) ss (is-true (soundb (cornerCount ps) (fours ts) ss) (f .table)))
-
-  pub number-after : (r : ℕ) → r ≡ levelNumber 12 0 (length ts / 4) ss → r ≡ length (levelsIn ps ts ss)
-  number-after r e = e ∙ rw (← length-fours ts) (sym (number-right (cornerCount ps) (fours ts) ss))
-
-  pub counts-after : (old new : List ℕ) (r : ℕ) → r ≡ levelNumber 12 0 (length ts / 4) ss
-      → new ≡ levelCounts 12 0 (length ts / 4) ss ++ drop (4 * r) old
-      → new ≡ countTable (levelsIn ps ts ss) ++ drop (length (countTable (levelsIn ps ts ss))) old
-  counts-after old new r e g =
-      let c : levelCounts 12 0 (length ts / 4) ss ≡ countTable (levelsIn ps ts ss) = rw (← length-fours ts)
-      (sym (counts-right (cornerCount ps) (fours ts) ss)) in
-      written old new _ _ (4 * r) g c
-      (counts-length 12 0 (length ts / 4) ss ∙ ap (λ (k : ℕ). 4 * k) (sym e))

@@ -1,4 +1,2 @@
 pub mod Calls
-pub mod Opened
 pub mod Few
-pub mod Accepted

@@ -1,26 +1,17 @@
-// The calls on a status table over a coarse mesh: examined, laid out, a cell's ancestor, the counts of every level.
-use ancestors::Ancestor;
-use base::Answer;
-use tables::Outcome;
+// A status table over a coarse mesh, laid out: the rows of its cells, the ends and the sums of its corners.
 ghost use mathlib.Core.Path.{_≡_};
 ghost use mathlib.Core.Bool.{true};
 ghost use mathlib.Core.List.{_++_};
 ghost use Prim.Native.Nat.{_+_, _*_, _≤_};
-ghost use lib.ListN.{length, take, drop, getD};
+ghost use lib.ListN.{length, take, drop};
+ghost use Rattle.base.specs.Lent.{was, is};
+ghost use Rattle.base.specs.Refuse.{heldAfter};
 ghost use Rattle.mesh.specs.Layout.{cellTable, endTable, sumTable};
-ghost use Rattle.mesh.specs.Counts.{countTable};
+ghost use Rattle.mesh.specs.Answers.{cellsIn, cornersIn};
 ghost use Rattle.corners.specs.Ends.{Ends, endNumbers};
 ghost use Rattle.corners.specs.Sums.{Smalls, sumNumbers};
-ghost use Rattle.ancestors.specs.Climb.{Upward, climbFrom};
-ghost use Rattle.ancestors.specs.Linked.{ancestorOf};
-ghost use Rattle.mesh.specs.Cells.{noCell};
-ghost use Rattle.base.specs.Refuse.{heldAfter};
-ghost use Rattle.base.specs.Lent.{was, is};
 ghost use Rattle.tables.specs.Room.{TableRoom};
-ghost use Rattle.layout.specs.Opened.{Opened};
-ghost use Rattle.mesh.specs.Answers.{tableAnswer};
-ghost use Rattle.layout.specs.Calls.{levelsIn, cellsIn, cornersIn, lentb, layoutAnswer, sizesOf, laidOf, ancestorAnswer, ancestryOf};
-ghost use Rattle.layout.specs.Calls.{countsAnswer, countedOf, LaysOut};
+ghost use Rattle.layout.specs.Calls.{lentb, layoutAnswer, sizesOf, laidOf, LaysOut};
 
 // How many cells, corners and levels a table has.
 pub struct Sizes {
@@ -32,50 +23,6 @@ pub struct Sizes {
 pub enum Laid {
     Out(Sizes),
     Refused(u8),
-}
-
-pub enum Ancestry {
-    Under(Ancestor),
-    Refused(u8),
-}
-
-pub enum Counted {
-    Levels(usize),
-    Refused(u8),
-}
-
-// Examines a mesh and a table over it: 0, or refusals 1 to 6. Beside a refusal what the three lent tables hold is free.
-pub fn open(
-    positions: &[i32],
-    cells: &[u16],
-    status: &[u8],
-    rows: &mut [u16],
-    xs: &mut [u32],
-    ys: &mut [u32],
-) -> Outcome
-    requires { ⌜ (length (now status) ≤ 4096 → TableRoom (now status) (now rows) (now xs) (now ys)) ⌝ }
-    ensures { λ r. ⌜ Opened (was positions) (was cells) (was status) (is rows) (is xs) (is ys) (r .refusal) (r .cells) (r .levels) (r .mids)
-        ⌝ }
-{
-    let refusal = base::code(coarse::examine_mesh(positions, cells));
-    if refusal != 0 {
-        return tables::refused(refusal);
-    }
-    examining::examine(cells, status, positions.len() / 3, rows, xs, ys)
-}
-
-// Whether a mesh and a table over it are accepted, and if not, why: refusals 1 to 6.
-pub fn examine_table(positions: &[i32], cells: &[u16], status: &[u8]) -> Answer
-    ensures { λ r. ⌜ r ≡ tableAnswer (was positions) (was cells) (was status) ⌝ }
-{
-    let mut rows = [0u16; 32768];
-    let mut xs = [0u32; 4096];
-    let mut ys = [0u32; 4096];
-    let f = open(positions, cells, status, &mut rows, &mut xs, &mut ys);
-    if f.refusal == 0 {
-        return Answer::Accepted;
-    }
-    Answer::Refused(f.refusal)
 }
 
 // Whether the lent tables are long enough.
@@ -133,7 +80,7 @@ fn lay_out_in(
     requires { ⌜ lentb (now table) (now ends) (now sums) ≡ true ⌝ }
     ensures { λ r. ⌜ LaysOut (was positions) (was cells) (was status) (was table) (was ends) (was sums) r (is table) (is ends) (is sums) ⌝ }
 {
-    let f = open(positions, cells, status, rows, xs, ys);
+    let f = opening::open(positions, cells, status, rows, xs, ys);
     if f.refusal != 0 {
         return Laid::Refused(f.refusal);
     }
@@ -237,54 +184,4 @@ pub fn lay_out(
         return lay_out_few(positions, cells, status, table, ends, sums);
     }
     lay_out_many(positions, cells, status, table, ends, sums)
-}
-
-// A cell's coarse ancestor and level, by the rows.
-fn climb(rows: &[u16; 32768], cell: usize) -> Ancestor
-    requires { ⌜ Upward (now rows) (cell + 1) ⌝ }
-    ensures { λ r. ⌜ r ≡ climbFrom (was rows) cell cell ⌝ }
-{
-    ancestors::climb(rows, cell)
-}
-
-// A cell's coarse ancestor and level. Refusals 1 to 6, then 7 where there is no such cell.
-pub fn ancestor(positions: &[i32], cells: &[u16], status: &[u8], cell: usize) -> Ancestry
-    ensures { λ r. ⌜ r
-        ≡ ancestryOf (ancestorAnswer (was positions) (was cells) (was status) cell)
-        (ancestorOf (getD (cellsIn (was positions) (was cells) (was status)) cell noCell)) ⌝ }
-{
-    let mut rows = [0u16; 32768];
-    let mut xs = [0u32; 4096];
-    let mut ys = [0u32; 4096];
-    let f = open(positions, cells, status, &mut rows, &mut xs, &mut ys);
-    if f.refusal != 0 {
-        return Ancestry::Refused(f.refusal);
-    }
-    if cell >= f.cells {
-        return Ancestry::Refused(7);
-    }
-    Ancestry::Under(climb(&rows, cell))
-}
-
-// The counts of every level, four numbers each: cells, red, green, leaf. Refusals 15 and 1 to 6.
-pub fn counts(positions: &[i32], cells: &[u16], status: &[u8], counts: &mut [u16]) -> Counted
-    ensures { λ r. ⌜ r
-        ≡ countedOf (countsAnswer (was positions) (was cells) (was status) (was counts))
-        (length (levelsIn (was positions) (was cells) (was status))) ⌝ }
-    ensures { λ r. ⌜ is counts
-        ≡ heldAfter (countsAnswer (was positions) (was cells) (was status) (was counts))
-        (countTable (levelsIn (was positions) (was cells) (was status)))
-        (was counts) ⌝ }
-{
-    if counts.len() < 44 {
-        return Counted::Refused(15);
-    }
-    let mut rows = [0u16; 32768];
-    let mut xs = [0u32; 4096];
-    let mut ys = [0u32; 4096];
-    let f = open(positions, cells, status, &mut rows, &mut xs, &mut ys);
-    if f.refusal != 0 {
-        return Counted::Refused(f.refusal);
-    }
-    Counted::Levels(counting::count_levels(status, cells.len() / 4, counts))
 }

@@ -1,15 +1,11 @@
 pub mod Olds
 pub mod Firsts
-pub mod Families
-pub mod Kept
-pub mod KeptSample
 pub mod Born
 pub mod Paths
 pub mod Same
 pub mod Levels
 pub mod Flags
 pub mod Rest
-pub mod KeptAt
 pub mod Step
 pub mod Traced
 pub mod Met

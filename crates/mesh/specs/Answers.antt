@@ -1,4 +1,5 @@
--- What a mesh with its table, and a step of it, are answered, lent tables aside.
+-- What a mesh with its table, and a step of it, are answered, lent tables aside. A mesh is ps and ts, a table ss.
+--   levelsIn, cellsIn, cornersIn ps ts ss    the table's levels, its cells and their corners
 --   tableAnswer ps ts ss    a mesh and a table: accepted, or 1 to 6
 --   markb s m               the mark m may stand at a cell with status s
 --   marksb ss ms            refusal 7: the marks fit the table
@@ -14,11 +15,26 @@ use Rattle.base.specs.declared.Answer.{Answer}
 use Rattle.base.specs.declared.Answer.the-variants.{Accepted}
 use Rattle.base.specs.Limits.{mostLevels, mostCells}
 use Rattle.mesh.specs.Coarse.{cornerCount, meshAnswer}
-use Rattle.mesh.specs.Table.{soundb}
+use Rattle.mesh.specs.Cells.{Cell}
+use Rattle.mesh.specs.Weights.{Point}
+use Rattle.mesh.specs.Table.{Level, levelsOf, cellsOf, soundb}
+use Rattle.mesh.specs.Layout.{Corner, cornersOf}
 use mathlib.Core.Bool.{Bool, true, false, _&&_, _||_}
 use lib.Dec.{eqb, leb}
 use lib.ListN.{length}
 use Rattle.mesh.specs.Step.{stepTable}
+
+-- Rule 4.4.
+abbrev pub levelsIn : List ℤ → List ℕ → List ℕ → List Level
+levelsIn ps ts ss = levelsOf (cornerCount ps) (fours ts) ss
+
+-- Rule 4.4.
+abbrev pub cellsIn : List ℤ → List ℕ → List ℕ → List (Cell Point)
+cellsIn ps ts ss = cellsOf (levelsIn ps ts ss)
+
+-- Rule 5.5.
+abbrev pub cornersIn : List ℤ → List ℕ → List ℕ → List Corner
+cornersIn ps ts ss = cornersOf (cornerCount ps) (cellsIn ps ts ss) ss
 
 -- Rule 12.6: the mesh, then 6 where the table is not sound.
 unfoldable pub tableAnswer : List ℤ → List ℕ → List ℕ → Answer

@@ -11,7 +11,8 @@ use native.Mathlib.Omega.{arith}
 use lib.Dec.{eqb, ltb}
 use lib.ListN.{length, getD}
 use borrow.Author.Tests.{eqb-true, eqb-false, ltb-true, ltb-false}
-use Rattle.pairs.specs.Keys.{hereb, seek, bucketsOf, bucket, latest, Keys, here-x, here-y, seek-here, seek-past}
+use Rattle.spots.specs.Spots.{bucketsOf}
+use Rattle.pairs.specs.Keys.{hereb, seek, bucket, latest, Keys, here-x, here-y, seek-here, seek-past}
 
 -- where a chain stands: at no entry, and the pair is not among the n; or at an entry, and the pair is not above it
 pub record InChain (w : ℕ) (xs ys : List ℕ) (x y from n e : ℕ) : Type 0 where

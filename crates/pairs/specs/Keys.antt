@@ -1,28 +1,24 @@
 -- Tables of pairs: the entry e is the pair of the numbers that the lists xs and ys have at e. 65535 stands for no entry.
 --   hereb xs ys x y e          the entry e is the pair x, y
 --   seek xs ys x y from m      the largest of the m entries from `from` on that is the pair x, y, or 65535
---   bucketsOf k                how many buckets heads of length k have; buckets-short, buckets-long, buckets-inside
 --   bucket m x y               which of m buckets the pair lies in
 --   latest m xs ys b n         the largest entry below n that lies in the bucket b of m, or 65535
---   spotOf x                   which of the 1024 spots behind the buckets the number x lies in
---   lastWith xs ys s m         the largest entry below m of which one number lies in the spot s, or 65535
---   noted heads n x y          heads in which n is the last entry at the spots of x and y; short ones have no spots
 --   Keys xs ys heads links n   the table is in order, with n entries; callers hand it on and look at no field
 --   Room xs ys links n         one entry more has room
 --   Clear heads                no bucket has an entry; clear-new: 65535 throughout
 --   Added xs ys n x y ..       what adding the pair x, y as the entry n leaves
---   Without xs ys from n x     no entry from `from` to n has the number x
 --   Found xs ys x y from m e   e is one of the m entries from `from` on, and it is the pair x, y
 -- Laws of seek: seek-found, seek-none, seek-set (a store behind the entries), seek-same and seek-other (with one entry more).
 use mathlib.Core.Path.{_≡_, refl, sym, _∙_}
-use mathlib.Core.Bool.{Bool, true, false, _&&_, _||_, cond}
+use mathlib.Core.Bool.{Bool, true, false, _&&_, cond}
 use mathlib.Core.List.{List}
 use Prim.Native.Nat.{ℕ, zero, suc, _+_, _-_, _*_, _%_, _≤_, _<_}
 use native.Mathlib.Omega.{arith}
-use lib.Dec.{eqb, leb}
+use lib.Dec.{eqb}
 use lib.ListN.{length, getD, set, replicate, length-replicate, getD-replicate}
 use lib.Seq.{getD-set-same, getD-set-other}
-use borrow.Author.Tests.{eqb-true, eq-eqb, ne-eqb, leb-true, leb-false, le-leb, lt-leb}
+use borrow.Author.Tests.{eqb-true, eq-eqb, ne-eqb}
+use Rattle.spots.specs.Spots.{bucketsOf, buckets-inside, Spots, spots-none}
 
 unfoldable pub hereb : List ℕ → List ℕ → ℕ → ℕ → ℕ → Bool
 hereb xs ys x y e = eqb (getD xs e 0) x && eqb (getD ys e 0) y
@@ -31,25 +27,6 @@ unfoldable pub seek : List ℕ → List ℕ → ℕ → ℕ → ℕ → ℕ → 
 unfolding hereb
 seek xs ys x y from zero = 65535
 seek xs ys x y from (suc m) = cond (hereb xs ys x y (from + m)) (from + m) (seek xs ys x y from m)
-
--- short heads serve small tables, which are made anew for each call
-unfoldable pub bucketsOf : ℕ → ℕ
-bucketsOf k = elim (leb 4096 k) [ true ↦ 4096 | false ↦ 1024 ]
-
-pub buckets-long : (k : ℕ) → 4096 ≤ k → bucketsOf k ≡ 4096
-unfolding bucketsOf
-buckets-long k h = rw (le-leb 4096 k h, bucketsOf)
-
-pub buckets-short : (k : ℕ) → k < 4096 → bucketsOf k ≡ 1024
-unfolding bucketsOf
-buckets-short k h = rw (lt-leb 4096 k h, bucketsOf)
-
-pub buckets-inside : (k : ℕ) → 1024 ≤ k → (1024 ≤ bucketsOf k) × (bucketsOf k ≤ k)
-buckets-inside k h = go (leb 4096 k) refl
-  where
-    go : (b : Bool) → leb 4096 k ≡ b → (1024 ≤ bucketsOf k) × (bucketsOf k ≤ k)
-    go true b = (omega (arith, buckets-long k (leb-true 4096 k b)), omega (arith, buckets-long k (leb-true 4096 k b), leb-true 4096 k b))
-    go false b = (omega (arith, buckets-short k (leb-false 4096 k b)), omega (arith, buckets-short k (leb-false 4096 k b)))
 
 -- any function would do; this one spreads corner pairs, faces and cells
 unfoldable pub bucket : ℕ → ℕ → ℕ → ℕ
@@ -60,22 +37,6 @@ unfolding bucket
 latest m xs ys b zero = 65535
 latest m xs ys b (suc n) = cond (eqb (bucket m (getD xs n 0) (getD ys n 0)) b) n (latest m xs ys b n)
 
--- spots of single numbers, so that a search can be spared where no entry has a number; any function would do
-unfoldable pub spotOf : ℕ → ℕ
-spotOf x = x % 1024
-
-unfoldable pub lastWith : List ℕ → List ℕ → ℕ → ℕ → ℕ
-unfolding spotOf
-lastWith xs ys s zero = 65535
-lastWith xs ys s (suc m) = cond (eqb (spotOf (getD xs m 0)) s || eqb (spotOf (getD ys m 0)) s) m (lastWith xs ys s m)
-
-unfoldable pub noted : List ℕ → ℕ → ℕ → ℕ → List ℕ
-unfolding bucketsOf spotOf
-noted heads n x y = elim (leb (bucketsOf (length heads) + 1024) (length heads)) [
-  | true ↦ set (set heads (bucketsOf (length heads) + spotOf x) n) (bucketsOf (length heads) + spotOf y) n
-  | false ↦ heads
-]
-
 pub record Keys (xs ys heads links : List ℕ) (n : ℕ) : Type 0 where
   pub small : n ≤ 65535
   pub in-xs : n ≤ length xs
@@ -85,8 +46,7 @@ pub record Keys (xs ys heads links : List ℕ) (n : ℕ) : Type 0 where
   pub heads-right : (b : ℕ) → b < bucketsOf (length heads) → getD heads b 0 ≡ latest (bucketsOf (length heads)) xs ys b n
   pub links-right : (e : ℕ) → e < n → getD links e 0
       ≡ latest (bucketsOf (length heads)) xs ys (bucket (bucketsOf (length heads)) (getD xs e 0) (getD ys e 0)) e
-  pub spots-right : bucketsOf (length heads) + 1024 ≤ length heads → (s : ℕ) → s < 1024
-      → getD heads (bucketsOf (length heads) + s) 0 ≡ lastWith xs ys s n
+  pub spots : Spots xs ys heads n
 
 pub record Room (xs ys links : List ℕ) (n : ℕ) : Type 0 where
   pub small : n < 65535
@@ -98,7 +58,7 @@ pub record Clear (heads : List ℕ) : Type 0 where
   pub empty : (xs ys links : List ℕ) → Keys xs ys heads links 0
 
 pub clear-new : (k : ℕ) → 1024 ≤ k → Clear (replicate k 65535)
-unfolding latest lastWith
+unfolding latest
 clear-new k h =
     let l : length {A = ℕ} (replicate k 65535) ≡ k = length-replicate {A = ℕ} k 65535 in
     record {
@@ -111,13 +71,9 @@ clear-new k h =
             in-heads = omega arith;
             heads-right = λ b m. getD-replicate k b 65535 0 (omega (arith, rw l at m, buckets-inside k h));
             links-right = λ e m. absurd (omega arith);
-            spots-right = λ j s m. getD-replicate k (bucketsOf (length {A = ℕ} (replicate k 65535)) + s) 65535 0 (omega arith);
+            spots = spots-none xs ys k;
           };
     }
-
-pub record Without (xs ys : List ℕ) (from n x : ℕ) : Type 0 where
-  pub first : (e : ℕ) → from ≤ e → e < n → getD xs e 0 ≡ x → ⊥
-  pub second : (e : ℕ) → from ≤ e → e < n → getD ys e 0 ≡ x → ⊥
 
 pub record Added (xs ys : List ℕ) (n x y : ℕ) (xs′ ys′ heads′ links′ : List ℕ) : Type 0 where
   pub xs-is : xs′ ≡ set xs n x

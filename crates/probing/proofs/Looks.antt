@@ -9,7 +9,8 @@ use lib.Dec.{eqb, ltb}
 use lib.ListN.{length, getD}
 use borrow.Author.Tests.{ne-eqb, ltb-true, ltb-false}
 use Rattle.base.specs.Bools.{one-if}
-use Rattle.pairs.specs.Keys.{hereb, seek, bucketsOf, Keys}
+use Rattle.spots.specs.Spots.{bucketsOf}
+use Rattle.pairs.specs.Keys.{hereb, seek, Keys}
 use Rattle.pairs.specs.Chain.{InChain, chain-ended, chain-hit, chain-turn}
 use Rattle.probing.specs.Probed.{Probed}
 

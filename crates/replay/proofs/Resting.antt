@@ -15,8 +15,8 @@ use Rattle.mesh.specs.Coarse.{cornerCount, meshAnswer}
 use Rattle.mesh.specs.Table.{soundb}
 use Rattle.tables.specs.Sound.{Mesh}
 use Rattle.mesh.specs.Answers.{tableAnswer}
-use Rattle.layout.specs.Opened.{Opened}
-use Rattle.layout.specs.Accepted.{mesh-passed}
+use Rattle.opening.specs.Opened.{Opened}
+use Rattle.opening.specs.Accepted.{mesh-passed}
 use Rattle.step.specs.Answers.{opened-held}
 use Rattle.replay.specs.Run.{restTable}
 use Rattle.replay.specs.Going.{Rested}

@@ -248,7 +248,7 @@ fn at_rest(
     let status = &table[..];
     let mut xs = [0u32; 4096];
     let mut ys = [0u32; 4096];
-    let f = layout::open(positions, cells, &status[..k], rows, &mut xs, &mut ys);
+    let f = opening::open(positions, cells, &status[..k], rows, &mut xs, &mut ys);
     Outcome {
         refusal: f.refusal,
         coarse: k,

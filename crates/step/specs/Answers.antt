@@ -15,7 +15,7 @@ use Rattle.base.specs.declared.Answer.{Answer}
 use Rattle.base.specs.declared.Answer.the-variants.{Refused}
 use Rattle.mesh.specs.Coarse.{cornerCount}
 use Rattle.mesh.specs.Answers.{tableAnswer, markb, marksb, limitsAnswer}
-use Rattle.layout.specs.Opened.{Fits}
+use Rattle.opening.specs.Opened.{Fits}
 use Rattle.step.specs.Calls.{stepAnswer, steppedOf}
 use Rattle.advance.specs.Advanced.{Held}
 use Rattle.step.specs.declared.Stepped.the-variants as stepped

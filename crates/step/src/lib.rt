@@ -61,7 +61,7 @@ fn begin(
     requires { ⌜ (length (now status) ≤ 4096 → TableRoom (now status) (now rows) (now ps) (now qs)) ⌝ }
     ensures { λ r. ⌜ StepBegun (was positions) (was cells) (was status) (was marks) (is rows) r ⌝ }
 {
-    let f = layout::open(positions, cells, status, rows, ps, qs);
+    let f = opening::open(positions, cells, status, rows, ps, qs);
     if f.refusal != 0 {
         return f.refusal;
     }

@@ -8,7 +8,7 @@ use native.Mathlib.Omega.{arith}
 use lib.Dec.{T}
 use lib.ListN.{length, getD, take, drop, length-append, length-map}
 use borrow.Author.Tests.{eqb-true}
-use Rattle.base.specs.Lists.{filterb}
+use Rattle.base.specs.Lists.{filterb, sameb}
 use Rattle.base.specs.Bools.{is-true}
 use Rattle.base.specs.Each.{filter-map}
 use Rattle.base.specs.Append.{filter-append}
@@ -24,8 +24,9 @@ use Rattle.lattice.specs.Levels.{noLevel}
 use Rattle.rows.specs.Many.{length-next}
 use Rattle.rows.specs.Sizes.{size-red}
 use Rattle.lineage.specs.Olds.{flagTable, upTo, oldsNext, statusesBy, growBy, stepBy}
-use Rattle.lineage.specs.Kept.{keptRows, keptLevels, keptTable}
-use Rattle.lineage.specs.KeptAt.{keeps-many, keeps-at}
+use Rattle.kept.specs.Kept.{keptRows, keptLevels, keptTable}
+use Rattle.kept.specs.KeptAt.{keeps-many, keeps-at}
+use Rattle.kept.specs.Laws.{red-kept}
 use Rattle.lineage.specs.Levels.{growLevels, newLevels, here, length-statuses, length-up}
 use Rattle.lineage.specs.Rest.{Rest, rest-start, rest-next}
 use Rattle.lineage.specs.Paths.{pathAt}
@@ -33,7 +34,6 @@ use Rattle.lineage.specs.Flags.{newRedAt}
 use Rattle.lineage.specs.Met.{oldAt, oldAbove, newAt, flagged, new-known}
 use Rattle.lineage.specs.Stays.{Stays, stays}
 use Rattle.soundness.specs.Sound.{Sound, sound-from}
-use Rattle.succession.specs.Keeps.{kept-is-red}
 use Rattle.succession.specs.Write.{first-of, level-behind}
 use Rattle.lineage.specs.Step.{olds-many, grow-nothing}
 
@@ -160,7 +160,7 @@ module _ (n : ℕ) (qs : List (List ℕ)) (ss ms : List ℕ) (s : Sound n qs ss)
           member-range 0 (length keeps) t q .1,
           keeps-many m ss fs ms h i c cs rs r,
         )))
-        ∙ kept-is-red n qs ss ms s (edgesUp (newReds (level ∷ upper) ms)) (newRedAt ms upper level t) (getD (c ∷ cs) t noCell)
+        ∙ red-kept [] sameb (edgesUp (newReds (level ∷ upper) ms)) (newRedAt ms upper level t) (getD (c ∷ cs) t noCell)
         ∙ ap₂ (λ (u : List Level) (l : Level). newRedAt ms u l t) up-is old-is))
         ∙ ap (λ (x : ℕ). length (filterb (will j) (range 0 x))) many
 

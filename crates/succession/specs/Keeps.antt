@@ -1,23 +1,19 @@
 -- A cell that was there has after the step what it keeps.
--- Laws: kept-pattern (what a cell keeps), kept-is-red (it keeps 64 where it will be red), status-kept (the new status of a cell that was
--- there).
-use mathlib.Core.Path.{_≡_, refl, sym, _∙_, ap}
+-- Law: status-kept.
+use mathlib.Core.Path.{_≡_, sym, _∙_, ap}
 use mathlib.Core.Logic.{_⊎_, inl, inr}
 use mathlib.Core.Bool.{Bool, true, false}
 use mathlib.Core.List.{List, [], map}
 use Prim.Native.Nat.{ℕ, _<_}
-use native.Mathlib.Omega.{arith}
 use lib.Dec.{T}
 use lib.ListN.{length, getD}
-use borrow.Author.Tests.{eqb-true, ne-eqb}
+use borrow.Author.Tests.{eqb-true}
 use Rattle.base.specs.Lists.{sameb}
 use Rattle.base.specs.Bools.{either}
-use Rattle.mesh.specs.Cells.{Cell, redb, heldb, bitsOf, pattern, noCell}
-use Rattle.mesh.specs.Weights.{Point}
+use Rattle.mesh.specs.Cells.{redb, heldb, bitsOf, pattern, noCell}
 use Rattle.mesh.specs.Table.{soundb}
-use Rattle.mesh.specs.Laws.{pattern-small}
-use Rattle.lineage.specs.Kept.{keptOf}
-use Rattle.lineage.specs.KeptAt.{keptAt}
+use Rattle.kept.specs.Laws.{kept-red, kept-pattern}
+use Rattle.kept.specs.KeptAt.{keptAt}
 use Rattle.lineage.specs.Same.{Is, Fresh}
 use Rattle.lineage.specs.Flags.{newRedAt}
 use Rattle.lineage.specs.Met.{Matched, oldAt, oldAbove, newAt, flagged, met}
@@ -25,15 +21,6 @@ use Rattle.carriers.specs.Joins.{Edge}
 use Rattle.soundness.specs.Sound.{Sound, sound-from}
 use Rattle.soundness.specs.Meets.{edges-alike}
 use Rattle.succession.specs.After.{newEdges, new-status}
-
-module _ (es : List Edge) (b : Bool) (c : Cell Point) where
-  kept-red : b ≡ true → keptOf [] sameb es b c ≡ 64
-  unfolding keptOf
-  kept-red e = rw (e, keptOf)
-
-  pub kept-pattern : b ≡ false → keptOf [] sameb es b c ≡ pattern [] sameb es c
-  unfolding keptOf
-  kept-pattern e = rw (e, keptOf)
 
 module _ (n : ℕ) (qs : List (List ℕ)) (ss ms : List ℕ) (s : Sound n qs ss) where
   abbrev sound : T (soundb n qs ss)
@@ -52,12 +39,12 @@ module _ (n : ℕ) (qs : List (List ℕ)) (ss ms : List ℕ) (s : Sound n qs ss)
           → getD (newAt n qs ss ms k .statuses) v 0 ≡ keptAt n qs ss ms k t
       by e (inl y) =
           eqb-true (getD (newAt n qs ss ms k .statuses) v 0) 64 (e ∙ y)
-          ∙ sym (kept-red (newEdges n qs ss ms k) (will k t) (getD (oldAt n qs ss k .cells) t noCell) y)
+          ∙ sym (kept-red [] sameb (newEdges n qs ss ms k) (will k t) (getD (oldAt n qs ss k .cells) t noCell) y)
       by e (inr y) =
           new-status n qs ss ms s k g v h r (e ∙ y)
           ∙ ap (λ (l : List Edge). bitsOf (map (heldb sameb (newEdges n qs ss ms k)) l))
           (sym (edges-alike (getD (oldAt n qs ss k .cells) t noCell) (getD (newAt n qs ss ms k .cells) v noCell) (is .points)))
-          ∙ sym (kept-pattern (newEdges n qs ss ms k) (will k t) (getD (oldAt n qs ss k .cells) t noCell) y)
+          ∙ sym (kept-pattern [] sameb (newEdges n qs ss ms k) (will k t) (getD (oldAt n qs ss k .cells) t noCell) y)
 
       go : Matched ms (oldAbove n qs ss k) (oldAt n qs ss k) (getD (newAt n qs ss ms k .cells) v noCell)
           (getD (newAt n qs ss ms k .statuses) v 0)
@@ -68,9 +55,3 @@ module _ (n : ℕ) (qs : List (List ℕ)) (ss ms : List ℕ) (s : Sound n qs ss)
           let y : w .t ≡ t = flagged n qs ss ms sound k .paths (w .t) t (w .is .below) (is .below) (w .is .path ∙ sym (is .path)) in
           by (w .red ∙ ap (will k) y) (either (will k t))
       go (inr (a, f)) = absurd (f t (is .below) (is .regular) (is .path))
-
-  pub kept-is-red : (es : List Edge) (b : Bool) (c : Cell Point) → redb (keptOf [] sameb es b c) ≡ b
-  kept-is-red es true c = ap redb (kept-red es true c refl)
-  kept-is-red es false c =
-      ap redb (kept-pattern es false c refl)
-      ∙ ne-eqb (pattern [] sameb es c) 64 (λ e. omega (arith, pattern-small [] sameb es c))

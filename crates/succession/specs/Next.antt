@@ -27,9 +27,9 @@ use Rattle.numbering.specs.Refined.{Both}
 use Rattle.rows.specs.Many.{length-next, size-refined, size-some}
 use Rattle.rows.specs.Sizes.{red-eight, size-red}
 use Rattle.lineage.specs.Olds.{firstChild, oldChild}
-use Rattle.lineage.specs.Kept.{keptTable, digitPair, heldPairs, bornBy, bornNext}
-use Rattle.lineage.specs.KeptAt.{kept-at, kept-length}
-use Rattle.lineage.specs.Families.{born-green, born-kept, born-fresh, length-fresh, fresh-at, born-next}
+use Rattle.kept.specs.Kept.{keptTable, digitPair, heldPairs, bornBy, bornNext}
+use Rattle.kept.specs.KeptAt.{kept-at, kept-length}
+use Rattle.kept.specs.Families.{born-green, born-kept, born-fresh, length-fresh, fresh-at, born-next}
 use Rattle.lineage.specs.Born.{childOf, born-below, born-at}
 use Rattle.lineage.specs.Same.{Is, Fresh, Old, both-at, points-same, child-none, child-old}
 use Rattle.lineage.specs.Met.{Matched, oldAt, oldAbove, newAt, new-next, old-up, new-known, new-follows, met}

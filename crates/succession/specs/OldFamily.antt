@@ -27,8 +27,9 @@ use Rattle.mesh.specs.Laws.{below-six, six-below}
 use Rattle.lattice.specs.Levels.{IfRegular}
 use Rattle.rows.specs.Many.{size-refined, size-some}
 use Rattle.lineage.specs.Olds.{firstChild}
-use Rattle.lineage.specs.Kept.{keptTable, digitPair, heldPairs}
-use Rattle.lineage.specs.KeptAt.{kept-at}
+use Rattle.kept.specs.Kept.{keptTable, digitPair, heldPairs}
+use Rattle.kept.specs.KeptAt.{kept-at}
+use Rattle.kept.specs.Laws.{kept-pattern}
 use Rattle.lineage.specs.Born.{childOf, born-below, born-at}
 use Rattle.lineage.specs.Same.{rowIn}
 use Rattle.lineage.specs.Flags.{newRedAt, new-red-regular}
@@ -41,7 +42,6 @@ use Rattle.soundness.specs.Held.{closed-at}
 use Rattle.soundness.specs.Sound.{Sound, sound-from, lv, level-closed, level-next, level-there}
 use Rattle.soundness.specs.Whole.{spot-at}
 use Rattle.succession.specs.After.{newEdges}
-use Rattle.succession.specs.Keeps.{kept-pattern}
 use Rattle.succession.specs.FreshEdge.{FreshEdge, fresh-edge, inside-child}
 
 module _ (n : ℕ) (qs : List (List ℕ)) (ss ms : List ℕ) (s : Sound n qs ss) where
@@ -117,7 +117,7 @@ module _ (n : ℕ) (qs : List (List ℕ)) (ss ms : List ℕ) (s : Sound n qs ss)
           (getD (lv n qs ss (suc j) .cells) (w .u) noCell)
       kid-keeps i w =
           ap (λ (x : ℕ). getD ks x 0) (w .number) ∙ kept-at n qs ss ms sound (suc j) (w .u) (w .below)
-          ∙ kept-pattern (new (suc j)) (newRedAt ms (oldAbove n qs ss (suc j)) (lv n qs ss (suc j)) (w .u))
+          ∙ kept-pattern [] sameb (new (suc j)) (newRedAt ms (oldAbove n qs ss (suc j)) (lv n qs ss (suc j)) (w .u))
           (getD (lv n qs ss (suc j) .cells) (w .u) noCell) (stays-green i w)
 
       kid-splits : (i : ℕ) (w : OldKid i) (y : ℕ) → y < 6

@@ -18,9 +18,9 @@ use Rattle.lattice.specs.Levels.{IfRegular, noLevel}
 use Rattle.numbering.specs.Refined.{Both, refined-red}
 use Rattle.numbering.specs.Leaves.{Leaves, leaf-next}
 use Rattle.lineage.specs.Olds.{flagTable, upTo, oldsNext, redsBy, closedBy, statusesBy, growBy, stepBy}
-use Rattle.lineage.specs.Kept.{keptTable, bornBy, bornNext, writeBy}
-use Rattle.lineage.specs.Families.{born-green}
-use Rattle.lineage.specs.KeptAt.{kept-at, kept-length}
+use Rattle.kept.specs.Kept.{keptTable, bornBy, bornNext, writeBy}
+use Rattle.kept.specs.Families.{born-green}
+use Rattle.kept.specs.KeptAt.{kept-at, kept-length}
 use Rattle.lineage.specs.Same.{Old, both-more, olds-next}
 use Rattle.lineage.specs.Paths.{coarse-at}
 use Rattle.lineage.specs.Levels.{growLevels, newLevels, here, length-statuses, length-up, first-first}

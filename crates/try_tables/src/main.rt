@@ -2,9 +2,9 @@
 // The input is made by independent/src/bin/table_cases.rs, and so are the lines that are expected.
 mod print;
 
-use layout::Counted;
 use layout::Laid;
 use position::Position;
+use queries::Counted;
 use trial::input;
 use trial::layouts;
 use trial::pattern;
@@ -145,7 +145,7 @@ fn count_in(
     case: Header,
 ) -> Counted {
     let n = pattern::lent(counts.len(), case.short == 4);
-    layout::counts(positions, cells, status, &mut counts[0..n])
+    queries::counts(positions, cells, status, &mut counts[0..n])
 }
 
 fn print_counts(positions: &[i32], cells: &[u16], status: &[u8], counts: &mut [u16], case: Header) {
@@ -162,9 +162,9 @@ fn try_counts(positions: &[i32], cells: &[u16], status: &[u8], case: Header) {
 
 fn try_case(positions: &[i32], cells: &[u16], status: &[u8], case: Header) {
     print::first(coarse::examine_mesh(positions, cells));
-    print::answer(layout::examine_table(positions, cells, status));
+    print::answer(opening::examine_table(positions, cells, status));
     try_layout(positions, cells, status, case);
-    print::ancestry(layout::ancestor(positions, cells, status, case.cell));
+    print::ancestry(queries::ancestor(positions, cells, status, case.cell));
     try_counts(positions, cells, status, case);
     print::end();
 }

@@ -1,9 +1,9 @@
 // Printing answers: the refusal's number, or 0 and what was answered; zeros stand for what a refusal does not give. No contract can say
 // what is written, so these functions are the program's own.
 use base::Answer;
-use layout::Ancestry;
-use layout::Counted;
 use position::Position;
+use queries::Ancestry;
+use queries::Counted;
 use trial::layouts::Summary;
 
 // A further number of a line.

@@ -14,8 +14,8 @@ use Rattle.rows.specs.Sizes.{size-red, status-fits}
 use Rattle.growth.specs.Written.{written}
 use Rattle.lineage.specs.Olds.{firstChild, oldChild, oldsOf, upTo}
 use Rattle.lineage.specs.Firsts.{first-next, first-up}
-use Rattle.lineage.specs.Families as families
-use Rattle.lineage.specs.Kept.{freshOf, bornBy}
+use Rattle.kept.specs.Families as families
+use Rattle.kept.specs.Kept.{freshOf, bornBy}
 use Rattle.writing.specs.Keeps.{Keeps}
 use Rattle.writing.specs.Wrote.{Wrote}
 use Rattle.writing.proofs.Fresh.{fresh-leaf}

@@ -23,8 +23,8 @@ use Rattle.mesh.specs.Layout.{edgeNumbers}
 use Rattle.mesh.specs.Table.{sizeOf}
 use Rattle.rows.specs.Sizes.{red-eight}
 use Rattle.growth.specs.Written.{written}
-use Rattle.lineage.specs.Families as families
-use Rattle.lineage.specs.Kept.{digitPair, heldPairs, freshOf}
+use Rattle.kept.specs.Families as families
+use Rattle.kept.specs.Kept.{digitPair, heldPairs, freshOf}
 use Rattle.writing.specs.Held.{pairAt, EndsBelow, bitsAt, Noted, ZeroOrOne}
 use Rattle.writing.proofs.Front.{anew-more, anew-all}
 

@@ -16,8 +16,8 @@ use Rattle.rows.specs.Sizes.{size-red, sizes-step}
 use Rattle.growth.specs.Parts.{small-part, sizes-take}
 use Rattle.growth.specs.Written.{written, written-none, written-more, length-written, getD-written}
 use Rattle.lineage.specs.Olds.{firstChild, oldsOf, oldsNext}
-use Rattle.lineage.specs.Families.{length-fresh}
-use Rattle.lineage.specs.Kept.{bornBy, bornNext}
+use Rattle.kept.specs.Families.{length-fresh}
+use Rattle.kept.specs.Kept.{bornBy, bornNext}
 use Rattle.lineage.specs.Same.{length-olds}
 use Rattle.writing.specs.Keeps.{Keeps}
 use Rattle.writing.specs.Wrote.{RoomFor, RoomAbove, Wrote}

@@ -22,7 +22,7 @@ use Rattle.mesh.specs.Laws.{edges-more}
 use Rattle.mesh.specs.Layout.{edgeNumbers}
 use Rattle.mesh.specs.Table.{sizeOf}
 use Rattle.rows.specs.Many.{size-refined, size-some}
-use Rattle.lineage.specs.Kept.{digitPair, heldPairs}
+use Rattle.kept.specs.Kept.{digitPair, heldPairs}
 use Rattle.writing.specs.Held.{pairAt, pairsAt, EndsBelow, heldBelow, ones, Noted}
 
 ones-append : (h l m : List ℕ) → ones h (l ++ m) ≡ ones (ones h l) m

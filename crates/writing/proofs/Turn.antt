@@ -15,7 +15,7 @@ use Rattle.rows.specs.Laws.{length-part}
 use Rattle.growth.specs.Written.{written, length-written}
 use Rattle.lineage.specs.Olds.{oldsNext, upTo}
 use Rattle.lineage.specs.Firsts.{first-start, first-up}
-use Rattle.lineage.specs.Kept.{bornNext, writeBy}
+use Rattle.kept.specs.Kept.{bornNext, writeBy}
 use Rattle.lineage.specs.Paths.{length-upto}
 use Rattle.lineage.specs.Same.{length-olds}
 use Rattle.writing.specs.Keeps.{Keeps}

@@ -20,7 +20,7 @@ use Rattle.cutting.specs.Rule.{split}
 use Rattle.digits.specs.Ends.{lowAt, highAt}
 use Rattle.mesh.specs.Cells.{patternOf, bitsOf}
 use Rattle.mesh.specs.Layout.{edgeNumbers}
-use Rattle.lineage.specs.Kept.{digitPair}
+use Rattle.kept.specs.Kept.{digitPair}
 
 abbrev pub pairAt : List ℕ → ℕ → ℕ → ℕ
 pairAt ds j y = 10 * lowAt ds j y + highAt ds j y

@@ -9,7 +9,7 @@ use mathlib.Core.List.{List, flatten}
 use Prim.Native.Nat.{ℕ, _+_, _≤_, _<_}
 use lib.ListN.{length, take}
 use Rattle.lineage.specs.Olds.{upTo}
-use Rattle.lineage.specs.Kept.{writeBy}
+use Rattle.kept.specs.Kept.{writeBy}
 
 -- Rules 7.7, 7.8.
 abbrev pub writtenLevels : ℕ → List ℕ → List ℕ → List (List ℕ)

@@ -14,7 +14,7 @@ ghost use Rattle.mesh.specs.Layout.{edgeNumbers};
 ghost use Rattle.mesh.specs.Table.{sizeOf, sizes};
 ghost use Rattle.rows.specs.Numbered.{part};
 ghost use Rattle.lineage.specs.Olds.{oldsOf, oldsNext, upTo};
-ghost use Rattle.lineage.specs.Kept.{bornBy, bornNext, heldPairs, freshOf};
+ghost use Rattle.kept.specs.Kept.{bornBy, bornNext, heldPairs, freshOf};
 ghost use Rattle.writing.specs.Keeps.{Keeps};
 ghost use Rattle.writing.specs.Wrote.{RoomFor, RoomAbove, Wrote};
 ghost use Rattle.writing.specs.Held.{pairAt, pairsAt, EndsBelow, bitsAt, ones, Noted, ZeroOrOne};

@@ -12,14 +12,15 @@ use Rattle.position.specs.declared.Point.{Point}
 use Rattle.position.specs.declared.Position.{Position}
 use Rattle.position.specs.declared.Position.the-variants as position
 use Rattle.base.specs.Refuse.{codeOf, valueAfter}
-use Rattle.layout.specs.Calls.{laidOf, ancestryOf, countedOf}
+use Rattle.layout.specs.Calls.{laidOf}
 use Rattle.layout.specs.declared.Sizes.{Sizes}
 use Rattle.layout.specs.declared.Laid.{Laid}
 use Rattle.layout.specs.declared.Laid.the-variants as laid
-use Rattle.layout.specs.declared.Ancestry.{Ancestry}
-use Rattle.layout.specs.declared.Ancestry.the-variants as ancestry
-use Rattle.layout.specs.declared.Counted.{Counted}
-use Rattle.layout.specs.declared.Counted.the-variants as counted
+use Rattle.queries.specs.Calls.{ancestryOf, countedOf}
+use Rattle.queries.specs.declared.Ancestry.{Ancestry}
+use Rattle.queries.specs.declared.Ancestry.the-variants as ancestry
+use Rattle.queries.specs.declared.Counted.{Counted}
+use Rattle.queries.specs.declared.Counted.the-variants as counted
 use Rattle.step.specs.Calls.{steppedOf}
 use Rattle.step.specs.declared.Stepped.{Stepped}
 use Rattle.step.specs.declared.Stepped.the-variants as stepped

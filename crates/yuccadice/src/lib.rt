@@ -5,11 +5,11 @@ use held::Progress;
 use jobs::Reading;
 use jobs::Replayed;
 use jobs::Writing;
-use layout::Ancestry;
-use layout::Counted;
 use layout::Laid;
 use merge::Merged;
 use position::Position;
+use queries::Ancestry;
+use queries::Counted;
 use step::Stepped;
 use store::Fetched;
 ghost use mathlib.Core.Path.{_≡_};
@@ -24,8 +24,9 @@ ghost use Rattle.ancestors.specs.Linked.{ancestorOf};
 ghost use Rattle.mesh.specs.Cells.{noCell};
 ghost use Rattle.position.specs.Position.{cornerAnswer, pointOf};
 ghost use Rattle.base.specs.Refuse.{codeOf, heldAfter, valueAfter};
-ghost use Rattle.mesh.specs.Answers.{tableAnswer, newTable};
-ghost use Rattle.layout.specs.Calls.{layoutAnswer, ancestorAnswer, countsAnswer, levelsIn, cellsIn, cornersIn};
+ghost use Rattle.mesh.specs.Answers.{levelsIn, cellsIn, cornersIn, tableAnswer, newTable};
+ghost use Rattle.layout.specs.Calls.{layoutAnswer};
+ghost use Rattle.queries.specs.Calls.{ancestorAnswer, countsAnswer};
 ghost use Rattle.step.specs.Calls.{stepAnswer};
 ghost use Rattle.archive.specs.Job.{jobBytes};
 ghost use Rattle.archive.specs.Form.{jobOf};
@@ -85,7 +86,7 @@ pub extern "C" fn yd_examine_mesh(positions: &[i32], cells: &[u16]) -> u8
 pub extern "C" fn yd_examine_table(positions: &[i32], cells: &[u16], status: &[u8]) -> u8
     ensures { λ r. ⌜ r ≡ codeOf (tableAnswer (was positions) (was cells) (was status)) ⌝ }
 {
-    base::code(layout::examine_table(positions, cells, status))
+    base::code(opening::examine_table(positions, cells, status))
 }
 
 // Lays a table out: eight numbers a cell, the two ends and the three weighted sums of each corner. Refusals 15 and 1 to 6.
@@ -168,7 +169,7 @@ pub extern "C" fn yd_ancestor(
         × (is coarse ≡ valueAfter a (up .coarse) (was coarse))
         × (is level ≡ valueAfter a (up .level) (was level)) ⌝ }
 {
-    let ancestry = layout::ancestor(positions, cells, status, cell);
+    let ancestry = queries::ancestor(positions, cells, status, cell);
     match ancestry {
         Ancestry::Under(a) => {
             *coarse = a.coarse;
@@ -194,7 +195,7 @@ pub extern "C" fn yd_counts(
         × (is counts ≡ heldAfter a (countTable ls) (was counts))
         × (is «level_count» ≡ valueAfter a (length ls) (was «level_count»)) ⌝ }
 {
-    let counted = layout::counts(positions, cells, status, counts);
+    let counted = queries::counts(positions, cells, status, counts);
     match counted {
         Counted::Levels(n) => {
             *level_count = n;

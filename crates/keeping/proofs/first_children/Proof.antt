@@ -1,19 +1,27 @@
 -- `keeping::first_children` meets its contract: a turn writes the first child of one cell more. The measure is how many are left.
 -- Assumes nothing.
 use mathlib.Core.Path.{_≡_, refl, sym, _∙_}
-use mathlib.Core.List.{_++_, map}
-use Prim.Native.Nat.{suc, _+_, _*_, _-_, _≤_}
+use mathlib.Core.List.{List, _++_, map}
+use Prim.Native.Nat.{ℕ, suc, _+_, _*_, _-_, _≤_, _<_}
 use native.Mathlib.Omega.{arith}
 use lib.Dec.{T, leb, leb→le}
-use lib.ListN.{length, getD, drop, length-set}
+use lib.ListN.{length, getD, drop, set, length-set}
 use Rattle.base.specs.Lists.{allb-at}
 use Rattle.lineage.specs.Olds.{firstChild}
 use Rattle.lineage.specs.Firsts.{firstChildren, first-next, first-start}
-use Rattle.flagging.specs.Writes.{firsts-more, firsts-none}
+use Rattle.flagging.specs.Writes.{over-start, over-more}
 use borrow.Author.Needs.{needs}
 use Rattle.keeping.proofs.first_children.Statement.{statement}
 use Rattle.keeping.proofs.first_children.Tie as tie
 use Rattle.base.specs.Range.{range}
+
+-- one first child more
+one-more : (m : ℕ) (ss kids₀ kids : List ℕ) (c at : ℕ) → kids ≡ map (firstChild m ss) (range 0 c) ++ drop c kids₀ → c < length kids₀
+    → at ≡ firstChild m ss c → set kids c at ≡ map (firstChild m ss) (range 0 (c + 1)) ++ drop (c + 1) kids₀
+one-more m ss kids₀ kids c at e h q =
+    let z : c - 0 ≡ c = omega arith in
+    let y : c + 1 - 0 ≡ c + 1 = omega arith in
+    rw y at (over-more (firstChild m ss) kids₀ 0 kids c (omega arith) h (rw z e) at q)
 
 abbrev Inv-loop : tie.InvT-loop
 Inv-loop status coarse kids₀ at₀ c₀ kids at c = (c ≤ length status) × (at ≡ firstChild coarse status c) × (at ≤ 256 + 8 * c)
@@ -30,8 +38,7 @@ loop-holds c =
       sym (first-start (s .args .coarse) (s .args .status .now)),
       omega (arith, s .pre .1 .2),
       refl,
-      firsts-none
-          (s .args .kids .now) (s .args .coarse) (s .args .status .now),
+      over-start (firstChild (s .args .coarse) (s .args .status .now)) (s .args .kids .now) 0,
     )
 
 cast-kids : tie.Need-cast-kids Inv-loop μ-loop
@@ -74,13 +81,12 @@ loop-again c =
     let s = c .before .before .before .before .before .before in
     let l = c .before .before .before .loop in
     let h = c .before .before .loop-test .taken in
-    let e : l .c + 1 ≡ suc (l .c) = omega arith in
-    rw e (
+    let e : l .c + 1 ≡ suc (l .c) = omega arith in (
       omega arith,
-      omega (arith, first-next (s .args .coarse) (s .args .status .now) (l .c) h, l .inv .1, c .size-of .ensures .0),
+      rw e (omega (arith, first-next (s .args .coarse) (s .args .status .now) (l .c) h, l .inv .1, c .size-of .ensures .0)),
       omega (arith, l .inv .2, c .size-of .ensures .1),
       length-set (l .kids) (l .c) (l .at) ∙ l .inv .3,
-      firsts-more (s .args .kids .now) (l .kids) (s .args .coarse) (s .args .status .now) (l .c) (l .at) (l .inv .4)
+      one-more (s .args .coarse) (s .args .status .now) (s .args .kids .now) (l .kids) (l .c) (l .at) (l .inv .4)
           (omega (arith, s .pre .1 .1)) (l .inv .1),
     )
 
@@ -102,9 +108,10 @@ returns c =
     let s = c .before .before .before .before in
     let l = c .before .loop in
     let k : l .c ≡ length (s .args .status .now) = omega (arith, l .inv .0, c .loop-test .left) in
-    let w = firsts-more (s .args .kids .now) (l .kids) (s .args .coarse) (s .args .status .now) (l .c) (l .at) (l .inv .4)
-    (omega (arith, s .pre .1 .1)) (l .inv .1) in
-    w ∙ rw k
+    let e : l .c + 1 ≡ suc (l .c) = omega arith in
+    one-more (s .args .coarse) (s .args .status .now) (s .args .kids .now) (l .kids) (l .c) (l .at) (l .inv .4)
+    (omega (arith, s .pre .1 .1)) (l .inv .1)
+    ∙ rw (e, k)
 
 pub first-children-spec : {M : Type 1} → statement M
 first-children-spec =

@@ -4,7 +4,7 @@ use mathlib.Core.Path.{sym, _∙_}
 use borrow.Author.Tests.{not-true, not-false}
 use Rattle.layout.specs.Calls.{laidOf}
 use Rattle.base.specs.Refuse.{heldAfter}
-use Rattle.layout.proofs.Answers.{layout-short}
+use Rattle.layout.proofs.Results.{layout-short}
 use borrow.Author.Needs.{needs}
 use Rattle.layout.proofs.lay_out.Statement.{statement}
 use Rattle.layout.proofs.lay_out.Tie as tie

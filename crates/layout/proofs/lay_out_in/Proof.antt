@@ -5,7 +5,7 @@ use native.Mathlib.Omega.{arith}
 use Rattle.base.specs.declared.Answer.the-variants.{Accepted, Refused}
 use Rattle.layout.specs.Calls.{layoutAnswer, laidOf}
 use Rattle.base.specs.Refuse.{heldAfter, answer-refused, answer-none}
-use Rattle.layout.proofs.Answers.{layout-long}
+use Rattle.layout.proofs.Results.{layout-long}
 use Rattle.layout.proofs.Results.{Lent, lent-long, fits-few, fits-corners, fits-ends, fits-small, table-after, ends-after}
 use Rattle.layout.proofs.Results.{RoomLeft, room-left, sums-after}
 use borrow.Author.Needs.{needs}

@@ -1,9 +1,9 @@
 -- `pairs::add` meets its contract: the entry is stored behind the others, and becomes the last one of its bucket.
 -- Assumes nothing.
-use mathlib.Core.Path.{_∙_, ap}
-use lib.ListN.{length, set, length-set}
+use mathlib.Core.Path.{_∙_}
+use lib.ListN.{length-set}
 use borrow.Author.Needs.{needs}
-use Rattle.pairs.proofs.More.{added-at, noted-length}
+use Rattle.pairs.proofs.More.{added-at}
 use Rattle.pairs.proofs.add.Statement.{statement}
 use Rattle.pairs.proofs.add.Tie as tie
 
@@ -55,9 +55,7 @@ same-length-2 c = search needs
 same-length-3 : tie.Need-same-length-3
 same-length-3 c =
     let a = c .before .before .before .before .before .before .before .before .before .before .args in
-    let b = c .before .before .before .before .before .bucket-of .result in
-    ap length (c .before .before .note .ensures) ∙ noted-length (set (a .heads .now) b (a .n)) (a .n) (a .x) (a .y)
-    ∙ length-set (a .heads .now) b (a .n)
+    c .before .before .note .kept .0 ∙ length-set (a .heads .now) (c .before .before .before .before .before .bucket-of .result) (a .n)
 
 same-length-4 : tie.Need-same-length-4
 same-length-4 c = search needs

@@ -3,7 +3,8 @@
 use mathlib.Core.Path.{refl}
 use native.Mathlib.Omega.{arith}
 use borrow.Author.Needs.{needs}
-use Rattle.pairs.specs.Keys.{bucket, buckets-short, buckets-long}
+use Rattle.spots.specs.Spots.{buckets-short, buckets-long}
+use Rattle.pairs.specs.Keys.{bucket}
 use Rattle.pairs.proofs.bucket_of.Statement.{statement}
 use Rattle.pairs.proofs.bucket_of.Tie as tie
 

@@ -6,7 +6,7 @@ use Prim.Native.Nat.{_+_, _%_, _≤_}
 use native.Mathlib.Omega.{arith}
 use lib.ListN.{length}
 use borrow.Author.Needs.{needs}
-use Rattle.pairs.specs.Keys.{bucketsOf}
+use Rattle.spots.specs.Spots.{bucketsOf}
 use Rattle.pairs.specs.Chain.{InChain, chain-start, chain-hit, chain-stop, chain-turn, chain-less}
 use Rattle.pairs.proofs.find.Statement.{statement}
 use Rattle.pairs.proofs.find.Tie as tie

@@ -2,7 +2,7 @@
 use mathlib.Core.Path.{sym, _∙_}
 use borrow.Author.Needs.{needs}
 use borrow.Author.Tests.{not-true}
-use Rattle.lineage.specs.Kept.{heldPairs}
+use Rattle.kept.specs.Kept.{heldPairs}
 use Rattle.writing.proofs.Fresh.{noted-small, fresh-is, fresh-none}
 use Rattle.writing.proofs.fresh_of.Statement.{statement}
 use Rattle.writing.proofs.fresh_of.Tie as tie

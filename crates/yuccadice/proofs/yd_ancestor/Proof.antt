@@ -8,7 +8,7 @@ use Rattle.yuccadice.proofs.yd_ancestor.Statement.{statement}
 use Rattle.yuccadice.proofs.yd_ancestor.Tie as tie
 use Rattle.yuccadice.proofs.yd_ancestor.Reads as reads
 use Rattle.yuccadice.proofs.yd_ancestor.Lts as lts
-use Rattle.layout.proofs.ancestor.Reads as ancestor-reads
+use Rattle.queries.proofs.ancestor.Reads as ancestor-reads
 
 ancestor-requires : tie.Need-ancestor-requires
 ancestor-requires c κs = search needs

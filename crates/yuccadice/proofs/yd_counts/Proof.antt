@@ -6,7 +6,7 @@ use Rattle.yuccadice.proofs.yd_counts.Statement.{statement}
 use Rattle.yuccadice.proofs.yd_counts.Tie as tie
 use Rattle.yuccadice.proofs.yd_counts.Reads as reads
 use Rattle.yuccadice.proofs.yd_counts.Lts as lts
-use Rattle.layout.proofs.counts.Reads as counts-reads
+use Rattle.queries.proofs.counts.Reads as counts-reads
 
 counts-requires : tie.Need-counts-requires
 counts-requires c κs = search needs

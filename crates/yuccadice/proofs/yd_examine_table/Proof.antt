@@ -8,7 +8,7 @@ use Rattle.yuccadice.proofs.yd_examine_table.Tie as tie
 use Rattle.yuccadice.proofs.yd_examine_table.Reads as reads
 use Rattle.yuccadice.proofs.yd_examine_table.Lts as lts
 use Rattle.base.proofs.code.Reads as code-reads
-use Rattle.layout.proofs.examine_table.Reads as examine-table-reads
+use Rattle.opening.proofs.examine_table.Reads as examine-table-reads
 
 examine-table-requires : tie.Need-examine-table-requires
 examine-table-requires c κs = search needs

@@ -1,0 +1,5 @@
+pub mod Kept
+pub mod Sample
+pub mod Laws
+pub mod Families
+pub mod KeptAt
