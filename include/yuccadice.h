@@ -29,8 +29,8 @@ extern "C" {
 #endif
 
 /* The version of this header and its library: 10,000 times the first number, 100 times the second, the third. */
-#define YD_VERSION "1.2.3"
-#define YD_VERSION_NUMBER 10203
+#define YD_VERSION "1.2.4"
+#define YD_VERSION_NUMBER 10204
 
 /* The limits. */
 #define YD_MOST_COARSE_CORNERS 512 /* 4 to 512 corners of a coarse mesh */

@@ -18,7 +18,7 @@ pub mod lent;
 pub mod parts;
 
 /// The version of the library that this crate belongs to.
-pub const VERSION: &str = "1.2.3";
+pub const VERSION: &str = "1.2.4";
 /// The version as one number: 10,000 times its first, 100 times its second, its third.
 pub const VERSION_NUMBER: u32 = 10_203;
 

@@ -24,7 +24,7 @@ use Rattle.closure.specs.Closed.{Lists, lists-added, pattern-listed}
 use Rattle.lineage.specs.Olds.{flagOf}
 use Rattle.lineage.specs.Flags.{flag-red}
 use Rattle.kept.specs.Kept.{keptOf}
-use Rattle.kept.specs.Laws.{red-kept}
+use Rattle.kept.specs.Laws.{kept-is-red}
 use Rattle.flagging.specs.Flags.{redAtb, flagsAt, keptsAt, closedAt, closedOver}
 use Rattle.flagging.specs.Old.{OldRows, Span, SideBySide, Flagged, Treated, levelReds}
 use Rattle.flagging.specs.Writes.{over-at, over-part, over-again, length-flags}
@@ -50,7 +50,7 @@ module _ (t ss ms ks : List ℕ) (held : Pair → Bool) where
   unfolding keptsAt flagsAt
   kept-many es k m =
       count-same (λ c. keptOf 0 eqb es (redAtb t ss ms ks held c) (cellAt t c)) (λ c. flagOf (redAtb t ss ms ks held c))
-      (λ c. red-kept 0 eqb es (redAtb t ss ms ks held c) (cellAt t c) ∙ sym (flag-red (redAtb t ss ms ks held c))) (range k m)
+      (λ c. kept-is-red 0 eqb es (redAtb t ss ms ks held c) (cellAt t c) ∙ sym (flag-red (redAtb t ss ms ks held c))) (range k m)
 
   module _ (first last : ℕ) where
     abbrev own : List ℕ

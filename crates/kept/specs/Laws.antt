@@ -1,5 +1,5 @@
 -- What a cell keeps, by whether it will be red.
--- Laws: kept-red, kept-pattern (the two cases), red-kept (it keeps 64 just where it will be red), kept-small (it is a status).
+-- Laws: kept-red, kept-pattern (the two cases), kept-is-red (it keeps 64 just where it will be red), kept-small (it is a status).
 -- Assumes nothing.
 use mathlib.Core.Path.{_≡_, refl}
 use mathlib.Core.Bool.{Bool, true, false}
@@ -25,10 +25,10 @@ module _ {A : Type 0} (o : A) (same : A → A → Bool) (es : List (A × A)) whe
   unfolding keptOf
   kept-pattern b c e = rw (e, keptOf)
 
-  pub red-kept : (b : Bool) (c : Cell A) → redb (keptOf o same es b c) ≡ b
+  pub kept-is-red : (b : Bool) (c : Cell A) → redb (keptOf o same es b c) ≡ b
   unfolding keptOf
-  red-kept true c = refl
-  red-kept false c = ne-eqb (pattern o same es c) 64 (λ e. omega (arith, pattern-small o same es c, e))
+  kept-is-red true c = refl
+  kept-is-red false c = ne-eqb (pattern o same es c) 64 (λ e. omega (arith, pattern-small o same es c, e))
 
   one-small : (b : Bool) (c : Cell A) → keptOf o same es b c ≤ 64
   unfolding keptOf

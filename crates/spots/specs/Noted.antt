@@ -1,6 +1,6 @@
 -- Spots after an entry is noted, and what they tell.
 -- Laws: noted-short, noted-long (the two cases), noted-length, noted-below (buckets are as they were), spots-stored (a store in a bucket),
--- spots-noted (one entry more), have-short, have-long (the two cases), without (what `mayHave` tells).
+-- spots-noted (one entry more), have-short, have-long (the two cases), have-none (what `mayHave` tells).
 -- Assumes nothing.
 use mathlib.Core.Path.{_≡_, refl, sym, _∙_, ap}
 use mathlib.Core.Bool.{Bool, true, false, _||_, cond, or-true}
@@ -143,8 +143,8 @@ module _ (heads : List ℕ) (from x : ℕ) where
         or-right : (i : ℕ) → getD ys i 0 ≡ x → (eqb (spotOf (getD xs i 0)) (spotOf x) || eqb (spotOf (getD ys i 0)) (spotOf x)) ≡ true
         or-right i c = rw (c, eq-eqb (spotOf x) (spotOf x) refl, or-true (eqb (spotOf (getD xs i 0)) (spotOf x)))
 
-    pub without : mayHave heads from x ≡ false → Without xs ys from n x
-    without e = go (leb (u + 1024) (length heads)) refl
+    pub have-none : mayHave heads from x ≡ false → Without xs ys from n x
+    have-none e = go (leb (u + 1024) (length heads)) refl
       where
         go : (b : Bool) → leb (u + 1024) (length heads) ≡ b → Without xs ys from n x
         go true b =

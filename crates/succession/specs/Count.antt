@@ -26,7 +26,7 @@ use Rattle.rows.specs.Sizes.{size-red}
 use Rattle.lineage.specs.Olds.{flagTable, upTo, oldsNext, statusesBy, growBy, stepBy}
 use Rattle.kept.specs.Kept.{keptRows, keptLevels, keptTable}
 use Rattle.kept.specs.KeptAt.{keeps-many, keeps-at}
-use Rattle.kept.specs.Laws.{red-kept}
+use Rattle.kept.specs.Laws.{kept-is-red}
 use Rattle.lineage.specs.Levels.{growLevels, newLevels, here, length-statuses, length-up}
 use Rattle.lineage.specs.Rest.{Rest, rest-start, rest-next}
 use Rattle.lineage.specs.Paths.{pathAt}
@@ -160,7 +160,7 @@ module _ (n : ℕ) (qs : List (List ℕ)) (ss ms : List ℕ) (s : Sound n qs ss)
           member-range 0 (length keeps) t q .1,
           keeps-many m ss fs ms h i c cs rs r,
         )))
-        ∙ red-kept [] sameb (edgesUp (newReds (level ∷ upper) ms)) (newRedAt ms upper level t) (getD (c ∷ cs) t noCell)
+        ∙ kept-is-red [] sameb (edgesUp (newReds (level ∷ upper) ms)) (newRedAt ms upper level t) (getD (c ∷ cs) t noCell)
         ∙ ap₂ (λ (u : List Level) (l : Level). newRedAt ms u l t) up-is old-is))
         ∙ ap (λ (x : ℕ). length (filterb (will j) (range 0 x))) many
 

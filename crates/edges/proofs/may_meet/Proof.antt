@@ -2,7 +2,7 @@
 -- Assumes nothing.
 use mathlib.Core.Path.{sym, _∙_}
 use borrow.Author.Needs.{needs}
-use Rattle.spots.specs.Noted.{without}
+use Rattle.spots.specs.Noted.{have-none}
 use Rattle.edges.specs.Seek.{none-meets}
 use Rattle.edges.proofs.may_meet.Statement.{statement}
 use Rattle.edges.proofs.may_meet.Tie as tie
@@ -15,7 +15,7 @@ returns c = λ h.
     let s = c .before .before .before .before .before in
     none-meets (s .args .xs .now) (s .args .ys .now) (s .args .heads .now) (s .args .links .now) (s .args .from) (s .args .n) (s .pre)
     (s .args .a)
-    (without (s .args .heads .now) (s .args .from) (s .args .a) (s .args .xs .now) (s .args .ys .now) (s .args .n) (s .pre .keys .spots)
+    (have-none (s .args .heads .now) (s .args .from) (s .args .a) (s .args .xs .now) (s .args .ys .now) (s .args .n) (s .pre .keys .spots)
     (s .pre .keys .small) (sym (c .may-have .ensures) ∙ h))
 
 pub may-meet-spec : {M : Type 1} → statement M
