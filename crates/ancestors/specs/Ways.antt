@@ -40,7 +40,7 @@ module _ (cs : List (Cell ℕ)) (l : Linked cs) (four : All Four cs) (t : List �
       sym (getD-take (8 * length cs) t (8 * k + i) 0 (omega arith)) ∙ ap (λ (m : List ℕ). getD m (8 * k + i) 0) rows
       ∙ row-at cs four k i h g
 
-  pub level-held : (k : ℕ) → k < length cs → levelIn t k ≡ pred (length (linkedPath cs k))
+  level-held : (k : ℕ) → k < length cs → levelIn t k ≡ pred (length (linkedPath cs k))
   unfolding rowOf
   level-held k h = let e : 8 * k + 0 ≡ 8 * k = omega arith in rw e at (held k 0 h (omega arith))
 

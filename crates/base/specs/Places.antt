@@ -49,7 +49,7 @@ module _ {A : Type 0} (same : A → A → Bool) where
   unfolding placeIn
   place-here x l a t = rw (t, placeIn)
 
-  pub place-past : (x : A) (l : List A) (a : A) → same x a ≡ false → placeIn same (x ∷ l) a ≡ suc (placeIn same l a)
+  place-past : (x : A) (l : List A) (a : A) → same x a ≡ false → placeIn same (x ∷ l) a ≡ suc (placeIn same l a)
   unfolding placeIn
   place-past x l a t = rw (t, placeIn)
 

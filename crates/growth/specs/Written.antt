@@ -1,7 +1,7 @@
 -- A list with a part written over.
 --   written l i vs   l with vs from the place i on
 -- Laws: written-none, written-more (two parts, one behind the other), what stands before and behind (take-written,
--- drop-written, getD-written), and the cells before (cell-kept).
+-- getD-written), and the cells before (cell-kept).
 use mathlib.Core.Path.{_≡_, sym, _∙_, ap}
 use mathlib.Core.List.{List, [], _++_, append-assoc}
 use Prim.Native.Nat.{ℕ, _+_, _*_, _≤_, _<_}
@@ -27,7 +27,7 @@ module _ (l : List ℕ) (i : ℕ) (vs : List ℕ) (h : i + length vs ≤ length 
   take-written = rw (← append-assoc (take i l) vs (drop (i + length vs) l))
       (take-at (take i l ++ vs) (drop (i + length vs) l) (i + length vs) front)
 
-  pub drop-written : drop (i + length vs) (written l i vs) ≡ drop (i + length vs) l
+  drop-written : drop (i + length vs) (written l i vs) ≡ drop (i + length vs) l
   unfolding written
   drop-written = rw (← append-assoc (take i l) vs (drop (i + length vs) l))
       (drop-at (take i l ++ vs) (drop (i + length vs) l) (i + length vs) front)

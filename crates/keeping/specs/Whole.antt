@@ -1,5 +1,5 @@
 -- A sound table is whole: its cells are the coarse ones and all children, on at most eleven levels.
--- Laws: count-whole, sound-firsts (its numbers of first children), eleven-levels (eleven levels are all).
+-- Laws: sound-firsts (its numbers of first children), eleven-levels (eleven levels are all).
 -- Assumes nothing.
 use mathlib.Core.Path.{_≡_, refl, sym, ap}
 use mathlib.Core.Bool.{true}
@@ -48,7 +48,7 @@ levels-stop (suc h) k (c ∷ cs) rs l =
     (levels-stop h (k + length (c ∷ cs)) (next k (c ∷ cs) (take (length (c ∷ cs)) rs)) (drop (length (c ∷ cs)) rs) (omega arith))
 
 module _ (n : ℕ) (qs : List (List ℕ)) (ss : List ℕ) (t : soundb n qs ss ≡ true) where
-  pub count-whole : firstChild (length qs) ss (length ss) ≡ length ss
+  count-whole : firstChild (length qs) ss (length ss) ≡ length ss
   count-whole =
       let l = sound-counted n qs ss t in
       rw (l .whole) at (whole-from (length qs) ss 12 0 (length qs) (omega arith) (sym (first-start (length qs) ss))

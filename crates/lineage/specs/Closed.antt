@@ -1,7 +1,6 @@
 -- The statuses that the step gives a level close it.
 --   Owned cs os   as many old numbers as cells, and none for a cell that is not regular
--- Laws: owned-start (the coarse level), owned-next (one level up), reds-same (the red cells are those with a flag), closed-by (the
--- level is closed).
+-- Laws: owned-start (the coarse level), owned-next (one level up), closed-by (the level is closed).
 use mathlib.Core.Path.{_≡_, refl, sym, _∙_, ap, ap₂}
 use mathlib.Core.Bool.{Bool, true, false}
 use mathlib.Core.List.{List, [], _∷_, _++_, map}
@@ -147,7 +146,7 @@ module _ (fs : List ℕ) (small : length fs ≤ 65535) where
   flagged (c ∷ cs) (o ∷ os) h = (λ e. rw (h .0 e, List·getD-eq-default fs 0 small) refl, flagged cs os (h .1))
 
   module _ (cs : List (Cell Point)) (os : List ℕ) (w : Owned cs os) where
-    pub reds-same : redEdges [] cs (statusesBy fs cs os) ≡ redEdges [] cs (redsBy fs os)
+    reds-same : redEdges [] cs (statusesBy fs cs os) ≡ redEdges [] cs (redsBy fs os)
     unfolding statusesBy
     reds-same = reds-closed (redEdges [] cs (redsBy fs os)) cs (redsBy fs os) (flagged cs os (w .each))
 

@@ -2,8 +2,8 @@
 --   growLevels m ss fs h k cs os   as growBy, with the whole levels
 --   newLevels n qs ss ms           the levels of the step's table
 --   here k cs rs                   the level of the cells cs, numbered from k, where rs is the rest of the table
--- Laws: length-closed, length-redsBy and length-statuses (one status for each cell), length-up (one old number for each cell one level
--- up), grow-statuses, grow-levels, new-levels (the levels of the table are these), cells-first, levels-next and levels-first (the
+-- Laws: length-redsBy and length-statuses (one status for each cell), length-up (one old number for each cell one level
+-- up), grow-statuses, new-levels (the levels of the table are these), cells-first, levels-next and levels-first (the
 -- cells one level up, and their numbers).
 use mathlib.Core.Path.{_≡_, refl, sym, _∙_, ap, ap₂}
 use mathlib.Core.List.{List, [], _∷_, _++_, map, flatMap, flatten}
@@ -39,7 +39,7 @@ abbrev pub here : ℕ → List (Cell Point) → List ℕ → Level
 here k cs rs = record { first = k; cells = cs; statuses = take (length cs) rs }
 
 -- one status for each cell
-pub length-closed : (es : List (Point × Point)) (cs : List (Cell Point)) (rs : List ℕ) → length rs ≡ length cs
+length-closed : (es : List (Point × Point)) (cs : List (Cell Point)) (rs : List ℕ) → length rs ≡ length cs
     → length (closedBy es cs rs) ≡ length cs
 unfolding closedBy
 length-closed es [] rs e = refl
@@ -82,7 +82,7 @@ module _ (m : ℕ) (ss fs : List ℕ) where
       (λ a b. record { first = k; cells = c ∷ cs; statuses = a } ∷ levels h (k + length (c ∷ cs)) (next k (c ∷ cs) a) b)
       (take-at ts rs (length (c ∷ cs)) e) (drop-at ts rs (length (c ∷ cs)) e)
 
-  pub grow-levels : (h k : ℕ) (cs : List (Cell Point)) (os : List ℕ) → length os ≡ length cs
+  grow-levels : (h k : ℕ) (cs : List (Cell Point)) (os : List ℕ) → length os ≡ length cs
       → levels h k cs (flatten (growBy m ss fs h k cs os)) ≡ growLevels m ss fs h k cs os
   unfolding growLevels growBy levels flatMap flatten
   grow-levels zero k cs os e = refl

@@ -81,7 +81,7 @@ grow-none m ss fs zero k os = refl
 grow-none m ss fs (suc h) k os = refl
 
 -- the first of some levels
-pub levels-here : (h k : ℕ) (cs : List (Cell Point)) (rs : List ℕ) → 0 < length (getD (levels h k cs rs) 0 noLevel .cells)
+levels-here : (h k : ℕ) (cs : List (Cell Point)) (rs : List ℕ) → 0 < length (getD (levels h k cs rs) 0 noLevel .cells)
     → getD (levels h k cs rs) 0 noLevel ≡ here k cs rs
 unfolding levels
 levels-here zero k cs rs l = absurd (omega arith)

@@ -6,7 +6,7 @@
 --   splitNumbers s   the numbers of the edges that the status s splits
 --   apartOf cs ss    `apartb` of mesh, over points of any kind
 -- Laws: edge-map, edges-map, red-edges-map, split-edges-map (renaming and then looking is looking and then renaming), held-map,
--- status-map, closed-map, apart-map (the tests are kept).
+-- closed-map, apart-map (the tests are kept).
 use mathlib.Core.Path.{_≡_, refl, sym, _∙_, ap, ap₂}
 use mathlib.Core.Bool.{Bool, true, false, _||_, not}
 use mathlib.Core.List.{List, [], _∷_, _++_, map, map-append}
@@ -156,7 +156,7 @@ module _ {A B : Type 0} (o : A) (o′ : B) (same : A → A → Bool) (same′ : 
   pattern-map es c p q = ap bitsOf (ap (map (heldb same′ (map (mapEdge f) es))) (edges-map o o′ f Q c q)
       ∙ helds-map es (edges o c) p (edges-in o o′ f Q c q))
 
-  pub status-map : (es : List (A × A)) (r : Bool) (c : Cell A) → All (EndsIn Q) es → Points Q c
+  status-map : (es : List (A × A)) (r : Bool) (c : Cell A) → All (EndsIn Q) es → Points Q c
       → statusOf o′ same′ (map (mapEdge f) es) r (mapCell f c) ≡ statusOf o same es r c
   unfolding statusOf mapCell
   status-map es r c p q = ap (chosen (c .regular) r) (pattern-map es c p q)

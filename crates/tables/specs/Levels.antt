@@ -49,7 +49,7 @@ cells-one : (l : Level) (ms : List Level) → cellsOf (l ∷ ms) ≡ l .cells ++
 unfolding cellsOf flatMap
 cells-one l ms = refl
 
-pub allb-both : {A : Type 0} (f : A → Bool) (l m : List A) → allb f (l ++ m) ≡ (allb f l && allb f m)
+allb-both : {A : Type 0} (f : A → Bool) (l m : List A) → allb f (l ++ m) ≡ (allb f l && allb f m)
 unfolding allb
 allb-both f [] m = refl
 allb-both f (x ∷ l) m = go (f x) (allb-both f l m)

@@ -87,7 +87,7 @@ pairs-kept xs ys xs′ ys′ n ex ey k (suc m) h =
     ∙ ap (λ (l : List ℕ). getD l (k + m) 0) ey ∙ getD-take n ys (k + m) 0 (omega arith) in
     rw (pairs-kept xs ys xs′ ys′ n ex ey k m (omega arith), a, b)
 
-pub drop-take : (a b : ℕ) (l : List ℕ) → drop a (take (a + b) l) ≡ take b (drop a l)
+drop-take : (a b : ℕ) (l : List ℕ) → drop a (take (a + b) l) ≡ take b (drop a l)
 drop-take zero b l = rw (zero-add b)
 drop-take (suc a) b [] = rw (suc-add a b) (sym (take-nil b))
 drop-take (suc a) b (x ∷ l) = rw (suc-add a b) (drop-take a b l)
@@ -138,7 +138,7 @@ module _ (n : ℕ) (qs : List (List ℕ)) (ss : List ℕ) (j first last : ℕ) (
   whole-length = length-append (numberedCells (h .corners) before) (numberedCells (h .corners) (h .cells))
       ∙ omega (arith, counted, length-in (h .corners) (h .cells), h .end)
 
-  pub cells-are : ownCells rows ss first last ≡ map strip (numberedCells (h .corners) (h .cells))
+  cells-are : ownCells rows ss first last ≡ map strip (numberedCells (h .corners) (h .cells))
   cells-are =
       let z = cells-at rows (numberedCells (h .corners) before) (numberedCells (h .corners) (h .cells))
       (all-append Four (numberedCells (h .corners) before) (numberedCells (h .corners) (h .cells)) (four-in (h .corners) before (h .placed))

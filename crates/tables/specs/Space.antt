@@ -30,7 +30,7 @@ one-size s = go (redb s) refl
     go true e = omega (arith, size-red s (eqb-true s 64 e))
     go false e = omega arith
 
-pub red-sizes : (ss : List ℕ) → 8 * redCount ss ≤ sizes ss
+red-sizes : (ss : List ℕ) → 8 * redCount ss ≤ sizes ss
 unfolding redCount sizes
 red-sizes [] = omega arith
 red-sizes (s ∷ ss) = omega (arith, one-size s, red-sizes ss)
