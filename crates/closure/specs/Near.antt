@@ -14,7 +14,7 @@ use Rattle.base.specs.Lists.{allb}
 use Rattle.base.specs.Places.{hasb}
 use Rattle.mesh.specs.Cells.{Cell, corner, edge, edges, bitsOf}
 use Rattle.edges.specs.Pairs.{Pair, sorted, isb}
-use Rattle.edges.specs.Table.{Unmet}
+use Rattle.probing.specs.Probed.{Unmet}
 use Rattle.closure.specs.Listed.{listedPattern}
 use Rattle.closure.specs.Closed.{six-bits}
 

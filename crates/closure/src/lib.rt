@@ -76,10 +76,10 @@ pub fn is_near(
     ensures { λ r. ⌜ (r ≡ false → Unlisted (listed (was xs) (was ys) from n) (cellAt (was cells) c)) ⌝ }
 {
     two_of(
-        edges::may_meet(xs, ys, heads, links, from, n, cells[8 * c + 4]),
-        edges::may_meet(xs, ys, heads, links, from, n, cells[8 * c + 5]),
-        edges::may_meet(xs, ys, heads, links, from, n, cells[8 * c + 6]),
-        edges::may_meet(xs, ys, heads, links, from, n, cells[8 * c + 7]),
+        probing::may_meet(xs, ys, heads, links, from, n, cells[8 * c + 4]),
+        probing::may_meet(xs, ys, heads, links, from, n, cells[8 * c + 5]),
+        probing::may_meet(xs, ys, heads, links, from, n, cells[8 * c + 6]),
+        probing::may_meet(xs, ys, heads, links, from, n, cells[8 * c + 7]),
     )
 }
 
@@ -124,7 +124,7 @@ fn probe_edge(
     ensures { λ r. ⌜ Probed (hasb isb (listed (was xs) (was ys) from n) (sorted (edge 0 (cellAt (was cells) c) e))) r ⌝ }
 {
     let ends = rows::edge_of(cells, c, e);
-    edges::probe(xs, ys, heads, links, from, n, ends.a, ends.b)
+    probing::probe(xs, ys, heads, links, from, n, ends.a, ends.b)
 }
 
 // The pattern of the cell's edges that are listed, by six looks; searched where one of them does not decide. One branch for all six: with

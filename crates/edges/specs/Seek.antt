@@ -1,24 +1,22 @@
 -- From a search of `pairs` to the list of pairs: what it finds is the pair's place.
 -- Assumes nothing.
 use mathlib.Core.Path.{_≡_, refl, sym, _∙_, ap, ap₂}
-use mathlib.Core.Logic.{_⊎_, inl, inr, ⊎-elim}
+use mathlib.Core.Logic.{⊎-elim}
 use mathlib.Core.Bool.{Bool, true, false, not}
 use lib.Dec.{eqb}
 use borrow.Author.Tests.{eqb-true, eqb-false}
 use mathlib.Core.List.{List, [], _∷_, _++_}
-use Prim.Native.Nat.{ℕ, zero, suc, _+_, _-_, _≤_, _<_, min, max}
+use Prim.Native.Nat.{ℕ, zero, suc, _+_, _-_, _≤_, _<_}
 use native.Mathlib.Nat.{eq-or-lt-of-le}
-use native.Mathlib.Decide.{ℕ-discrete, decLt}
 use native.Mathlib.Omega.{arith}
 use lib.ListN.{length, getD, set, length-append, List·getD-append}
 use lib.Seq.{getD-set-same, getD-set-other, take-set-le, getD-at}
 use Rattle.base.specs.Places.{hasb, placeIn, add, Distinct, has-at, has-below, place-there, add-old, add-new, distinct-add, place-here}
 use Rattle.base.specs.Places.{place-behind, distinct-nil}
 use Rattle.base.specs.Bools.{either}
-use Rattle.spots.specs.Spots.{Without}
 use Rattle.pairs.specs.Keys.{Keys, Room, Added, seek, seek-found, seek-none}
 use Rattle.edges.specs.Pairs.{Pair, sorted, isb, addPair, pairsOf, same-pair}
-use Rattle.edges.specs.Table.{listed, Table, Edges, Inserted, Unmet}
+use Rattle.edges.specs.Table.{listed, Table, Edges, Inserted}
 
 module _ (xs ys : List ℕ) (k : ℕ) where
   pub length-listed : (m : ℕ) → length (pairsOf xs ys k m) ≡ m
@@ -46,7 +44,7 @@ module _ (xs ys : List ℕ) (k : ℕ) where
       ∙ rw w (ap₂ (λ (a b : ℕ). (a, b)) (f .x-is) (f .y-is)) in
       rw p at (has-at isb (0, 0) same-pair (pairsOf xs ys k m) (e - k) (rw (length-listed m) l))
 
-  missing : (x y m : ℕ) → k + m ≤ 65535 → seek xs ys x y k m ≡ 65535 → hasb isb (pairsOf xs ys k m) (x, y) ≡ false
+  pub missing : (x y m : ℕ) → k + m ≤ 65535 → seek xs ys x y k m ≡ 65535 → hasb isb (pairsOf xs ys k m) (x, y) ≡ false
   missing x y m h none = ⊎-elim (λ t. absurd (no t)) (λ t. t) (either (hasb isb (pairsOf xs ys k m) (x, y)))
     where
       no : hasb isb (pairsOf xs ys k m) (x, y) ≡ true → ⊥
@@ -102,14 +100,14 @@ module _ (xs ys heads links : List ℕ) (from n : ℕ) (r : Edges xs ys heads li
         kept-ys = refl;
       }
 
-  pub new : seek xs ys x y from (n - from) ≡ 65535 → Room xs ys links n → (xs′ ys′ heads′ links′ : List ℕ)
+  pub new : (k : ℕ) → k ≡ seek xs ys x y from (n - from) → k ≡ 65535 → Room xs ys links n → (xs′ ys′ heads′ links′ : List ℕ)
       → Added xs ys n x y xs′ ys′ heads′ links′
       → Inserted xs ys from n e xs′ ys′ heads′ links′ n (n + 1)
   unfolding addPair
-  new none m xs′ ys′ heads′ links′ a =
+  new k k-is none m xs′ ys′ heads′ links′ a =
       let up = r .up in
       let g : hasb isb (listed xs ys from n) (sorted e) ≡ false = rw s at
-      (missing xs ys from x y (n - from) (omega (arith, m .small)) none) in
+      (missing xs ys from x y (n - from) (omega (arith, m .small)) (sym k-is ∙ none)) in
       let w : listed xs′ ys′ from (n + 1) ≡ listed xs ys from n ++ (sorted e ∷ []) =
       rw (a .xs-is, a .ys-is, ← s) (listed-more xs ys from n x y up (m .in-xs) (m .in-ys)) in
       let v : listed xs′ ys′ from (n + 1) ≡ add isb (listed xs ys from n) (sorted e) = w
@@ -150,38 +148,3 @@ told-place xs ys heads links from n r e x y s at q = go (eqb at 65535) refl
     go : (t : Bool) → eqb at 65535 ≡ t → not t ≡ hasb isb (listed xs ys from n) (sorted e)
     go true t = sym (rw s at (missing xs ys from x y (n - from) (omega (arith, r .up, r .keys .small)) (sym q ∙ eqb-true at 65535 t)))
     go false t = sym (rw s at (found xs ys from x y (n - from) (rw q at (eqb-false at 65535 t))))
-
--- each end of an edge is one of its pair
-end-first : (a b : ℕ) → (min a b ≡ a) ⊎ (max a b ≡ a)
-end-first a b = go (decLt a b)
-  where
-    go : Dec (a < b) → (min a b ≡ a) ⊎ (max a b ≡ a)
-    go (yes l) = inl (omega arith)
-    go (no l) = inr (omega (arith, l))
-
-end-second : (a b : ℕ) → (min a b ≡ b) ⊎ (max a b ≡ b)
-end-second a b = go (decLt a b)
-  where
-    go : Dec (a < b) → (min a b ≡ b) ⊎ (max a b ≡ b)
-    go (yes l) = inr (omega arith)
-    go (no l) = inl (omega (arith, l))
-
--- what `may_meet` answers: a search for an edge with a corner that no entry has finds nothing
-module _ (xs ys heads links : List ℕ) (from n : ℕ) (r : Table xs ys heads links from n) (a : ℕ) (w : Without xs ys from n a) where
-  no-entry : (x y : ℕ) → (x ≡ a) ⊎ (y ≡ a) → hasb isb (listed xs ys from n) (x, y) ≡ false
-  no-entry x y o = missing xs ys from x y (n - from) (omega (arith, r .up, r .keys .small)) (go (ℕ-discrete _ 65535))
-    where
-      go : Dec (seek xs ys x y from (n - from) ≡ 65535) → seek xs ys x y from (n - from) ≡ 65535
-      go (yes q) = q
-      go (no q) =
-          let f = seek-found xs ys x y from (n - from) q in
-          let l : seek xs ys x y from (n - from) < n = omega (arith, f .below, r .up) in
-          absurd (⊎-elim (λ p. w .first _ (f .above) l (f .x-is ∙ p)) (λ p. w .second _ (f .above) l (f .y-is ∙ p)) o)
-
-  pub none-meets : Unmet (listed xs ys from n) a
-  unfolding sorted
-  none-meets =
-      record {
-        first = λ b. no-entry (min a b) (max a b) (end-first a b);
-        second = λ b. no-entry (min b a) (max b a) (end-second b a);
-      }

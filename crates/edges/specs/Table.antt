@@ -2,18 +2,16 @@
 --   listed xs ys from n           the pairs of the entries from `from` to n
 --   Table xs ys heads links from n    the table can be looked into
 --   Edges xs ys heads links from n    and its entries from `from` on are different
---   Unmet es a                    no edge of the list has the corner a
 --   Space xs ys links n k         k entries more have room
 --   Inserted ..                   what inserting an edge leaves
 --   Grown ..                      what inserting a list of edges leaves; grown-none, grown-more, grown-both make it up
-use mathlib.Core.Bool.{false}
 use mathlib.Core.Path.{_≡_, refl, sym, _∙_, ap}
 use mathlib.Core.List.{List, [], _∷_, _++_}
 use Prim.Native.Nat.{ℕ, _+_, _-_, _≤_}
 use native.Mathlib.Omega.{arith}
 use lib.ListN.{length, take, length-append}
 use lib.Seq.{take-take}
-use Rattle.base.specs.Places.{hasb, placeIn, Distinct}
+use Rattle.base.specs.Places.{placeIn, Distinct}
 use Rattle.pairs.specs.Keys.{Keys}
 use Rattle.edges.specs.Pairs.{Pair, sorted, isb, addPair, addPairs, pairsOf, same-pair}
 
@@ -38,10 +36,6 @@ pub record Inserted (xs ys : List ℕ) (from n : ℕ) (e : Pair) (xs′ ys′ he
   pub one : n′ ≤ n + 1
   pub kept-xs : take n xs′ ≡ take n xs
   pub kept-ys : take n ys′ ≡ take n ys
-
-pub record Unmet (es : List Pair) (a : ℕ) : Type 0 where
-  pub first : (b : ℕ) → hasb isb es (sorted (a, b)) ≡ false
-  pub second : (b : ℕ) → hasb isb es (sorted (b, a)) ≡ false
 
 pub record Space (xs ys links : List ℕ) (n k : ℕ) : Type 0 where
   pub small : n + k ≤ 65535

@@ -1,14 +1,11 @@
 // A table of edges, each the pair of its two corner numbers, over `pairs`: the entries from `from` on are different edges in the
 // order of their first appearance.
 ghost use mathlib.Core.Path.{_≡_};
-ghost use Prim.Native.Nat.{_-_, _<_};
 ghost use Rattle.base.specs.Places.{hasb};
 ghost use Rattle.base.specs.Lent.{was, is};
 ghost use Rattle.pairs.specs.Keys.{Room};
-ghost use Rattle.probing.specs.Probed.{Probed};
 ghost use Rattle.edges.specs.Pairs.{sorted, isb};
-ghost use Rattle.edges.specs.Table.{listed, Table, Edges, Inserted, Unmet};
-ghost use mathlib.Core.Bool.{false};
+ghost use Rattle.edges.specs.Table.{listed, Table, Edges, Inserted};
 
 // Where an edge stands in the table, and how many entries the table has.
 pub struct Slot {
@@ -16,12 +13,13 @@ pub struct Slot {
     pub n: usize,
 }
 
-struct Ends {
-    low: u32,
-    high: u32,
+// The two corners of an edge, the lower one first.
+pub struct Ends {
+    pub low: u32,
+    pub high: u32,
 }
 
-fn sorted_ends(a: u16, b: u16) -> Ends
+pub fn sorted_ends(a: u16, b: u16) -> Ends
     ensures { λ r. ⌜ ((r .low), (r .high)) ≡ sorted (a, b) ⌝ }
 {
     let x = a as u32;
@@ -50,40 +48,6 @@ pub fn holds(
     let e = sorted_ends(a, b);
     let at = pairs::find(xs, ys, heads, links, from, n, e.low, e.high);
     at != 65535
-}
-
-// One look for the edge among the entries from `from` on: 0 where it is not there, 1 where it is, 2 where a search must tell.
-pub fn probe(
-    xs: &[u32],
-    ys: &[u32],
-    heads: &[u16],
-    links: &[u16],
-    from: usize,
-    n: usize,
-    a: u16,
-    b: u16,
-) -> usize
-    requires { ⌜ Table (now xs) (now ys) (now heads) (now links) from n × (from < n) ⌝ }
-    ensures { λ r. ⌜ Probed (hasb isb (listed (was xs) (was ys) from n) (sorted (a, b))) r ⌝ }
-{
-    let e = sorted_ends(a, b);
-    probing::probe(xs, ys, heads, links, from, n, e.low, e.high)
-}
-
-// Whether an edge from `from` on may have the corner a. Where none may, none has.
-pub fn may_meet(
-    xs: &[u32],
-    ys: &[u32],
-    heads: &[u16],
-    links: &[u16],
-    from: usize,
-    n: usize,
-    a: u16,
-) -> bool
-    requires { ⌜ Table (now xs) (now ys) (now heads) (now links) from n ⌝ }
-    ensures { λ r. ⌜ (r ≡ false → Unmet (listed (was xs) (was ys) from n) a) ⌝ }
-{
-    spots::may_have(heads, from, a as u32)
 }
 
 // Finds the edge among the entries from `from` on, or adds it behind them.

@@ -1,2 +1,3 @@
 mod Units
 mod Looks
+mod Meets

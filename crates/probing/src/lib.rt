@@ -1,13 +1,16 @@
-// One look into a table of pairs, without a branch.
+// Looks into a table of edges that spare a search: whether an edge may have a corner, and one look for an edge, without a branch.
 ghost use mathlib.Core.Path.{_≡_};
-ghost use mathlib.Core.Bool.{not};
+ghost use mathlib.Core.Bool.{not, false};
 ghost use Prim.Native.Nat.{_+_, _-_, _*_, _<_, _≤_};
 ghost use lib.Dec.{eqb};
 ghost use lib.ListN.{length};
 ghost use Rattle.base.specs.Bools.{one-if};
+ghost use Rattle.base.specs.Places.{hasb};
 ghost use Rattle.base.specs.Lent.{was};
 ghost use Rattle.pairs.specs.Keys.{hereb, seek, Keys};
-ghost use Rattle.probing.specs.Probed.{Probed};
+ghost use Rattle.edges.specs.Pairs.{sorted, isb};
+ghost use Rattle.edges.specs.Table.{listed, Table};
+ghost use Rattle.probing.specs.Probed.{Probed, Unmet};
 
 fn one(b: bool) -> usize
     ensures { λ r. ⌜ (r ≡ one-if b) × (r ≤ 1) ⌝ }
@@ -41,7 +44,7 @@ fn verdict(there: usize, same: usize, more: usize) -> usize
 
 // One look for the pair among the entries from `from` on: 0 where it is not there, 1 where it is, 2 where a search must tell. There is no
 // branch in it: on large meshes a processor guesses wrong whether a bucket is empty.
-pub fn probe(
+fn probe_pair(
     xs: &[u32],
     ys: &[u32],
     heads: &[u16],
@@ -61,4 +64,38 @@ pub fn probe(
     let same = same_at(xs, ys, e, x, y);
     let more = one((links[e] as usize + 1) % 65536 > from);
     verdict(there, same, more)
+}
+
+// One look for the edge among the entries from `from` on: 0 where it is not there, 1 where it is, 2 where a search must tell.
+pub fn probe(
+    xs: &[u32],
+    ys: &[u32],
+    heads: &[u16],
+    links: &[u16],
+    from: usize,
+    n: usize,
+    a: u16,
+    b: u16,
+) -> usize
+    requires { ⌜ Table (now xs) (now ys) (now heads) (now links) from n × (from < n) ⌝ }
+    ensures { λ r. ⌜ Probed (hasb isb (listed (was xs) (was ys) from n) (sorted (a, b))) r ⌝ }
+{
+    let e = edges::sorted_ends(a, b);
+    probe_pair(xs, ys, heads, links, from, n, e.low, e.high)
+}
+
+// Whether an edge from `from` on may have the corner a. Where none may, none has.
+pub fn may_meet(
+    xs: &[u32],
+    ys: &[u32],
+    heads: &[u16],
+    links: &[u16],
+    from: usize,
+    n: usize,
+    a: u16,
+) -> bool
+    requires { ⌜ Table (now xs) (now ys) (now heads) (now links) from n ⌝ }
+    ensures { λ r. ⌜ (r ≡ false → Unmet (listed (was xs) (was ys) from n) a) ⌝ }
+{
+    spots::may_have(heads, from, a as u32)
 }

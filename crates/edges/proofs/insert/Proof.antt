@@ -1,6 +1,5 @@
 -- `edges::insert` meets its contract: an edge that is found is at its place, and one that is not goes behind the others.
 -- Assumes nothing.
-use mathlib.Core.Path.{_≡_, sym, _∙_}
 use native.Mathlib.Omega.{arith}
 use Rattle.edges.specs.Seek.{old, new}
 use borrow.Author.Needs.{needs}
@@ -59,11 +58,7 @@ returns-2 c =
     c .before .before .before .before .before .before .before .before .before .before .before .before .before .before .before .before
     .before .before .before .before .before .before .before .before in
     let a = c .before .before .before .before .before .before .before .before .add in
-    let
-    missing :
-    c .before .before .before .before .before .before .before .before .before .before .before .before .before .before .find .result
-    ≡ 65535 = omega
-    (arith, c .before .before .before .before .before .before .before .before .before .before .before .before .before .if1 .left) in
+    let f = c .before .before .before .before .before .before .before .before .before .before .before .before .before .before .find in
     new (s .args .xs .now) (s .args .ys .now) (s .args .heads .now) (s .args .links .now) (s .args .from) (s .args .n) (s .pre .0)
     (s .args .a, s .args .b)
     (c .before .before .before .before .before .before .before .before .before .before .before .before .before .before .before .before
@@ -72,8 +67,9 @@ returns-2 c =
     .before .before .before .sorted-ends .result .high)
     (c .before .before .before .before .before .before .before .before .before .before .before .before .before .before .before .before
     .before .before .before .sorted-ends .ensures)
-    (sym (c .before .before .before .before .before .before .before .before .before .before .before .before .before .before .find .ensures)
-    ∙ missing) (s .pre .1) (a .last .0) (a .last .1 .0) (a .last .1 .1 .0) (a .last .1 .1 .1 .0) (a .ensures)
+    (f .result) (f .ensures)
+    (omega (arith, c .before .before .before .before .before .before .before .before .before .before .before .before .before .if1 .left))
+    (s .pre .1) (a .last .0) (a .last .1 .0) (a .last .1 .1 .0) (a .last .1 .1 .1 .0) (a .ensures)
 
 pub insert-spec : {M : Type 1} → statement M
 insert-spec =

@@ -1,11 +1,11 @@
--- `edges::may_meet` meets its contract: where no entry has the corner, no edge that is listed has it.
+-- `probing::may_meet` meets its contract: where no entry has the corner, no edge that is listed has it.
 -- Assumes nothing.
 use mathlib.Core.Path.{sym, _∙_}
 use borrow.Author.Needs.{needs}
 use Rattle.spots.specs.Noted.{have-none}
-use Rattle.edges.specs.Seek.{none-meets}
-use Rattle.edges.proofs.may_meet.Statement.{statement}
-use Rattle.edges.proofs.may_meet.Tie as tie
+use Rattle.probing.proofs.Meets.{none-meets}
+use Rattle.probing.proofs.may_meet.Statement.{statement}
+use Rattle.probing.proofs.may_meet.Tie as tie
 
 may-have-requires : tie.Need-may-have-requires
 may-have-requires c κs = search needs
