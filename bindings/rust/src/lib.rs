@@ -20,7 +20,7 @@ pub mod parts;
 /// The version of the library that this crate belongs to.
 pub const VERSION: &str = "1.2.4";
 /// The version as one number: 10,000 times its first, 100 times its second, its third.
-pub const VERSION_NUMBER: u32 = 10_203;
+pub const VERSION_NUMBER: u32 = 10_204;
 
 /// A coarse mesh has 4 to so many corners.
 pub const MOST_COARSE_CORNERS: usize = 512;
