@@ -45,7 +45,7 @@ pub fn advance(
 {
     let k = status.len();
     let coarse = mesh.len() / 4;
-    keeping::first_children(status, coarse, kids);
+    firsts::first_children(status, coarse, kids);
     let l = keeping::keep(
         mesh,
         n,

@@ -1,4 +1,4 @@
--- The answer from the five tests in their order, and what the earlier ones grant the last.
+-- What a call's test says, the two halves of refusal 5, and what the earlier tests grant the last.
 -- Assumes nothing.
 use mathlib.Core.Path.{_≡_, sym, _∙_}
 use mathlib.Core.Bool.{Bool, true, false, _&&_, not}
@@ -13,8 +13,7 @@ use mir.Facts.{yes-and}
 use Rattle.base.specs.Lists.{allb}
 use Rattle.base.specs.Bools.{is-true, and-left, and-right}
 use Rattle.base.specs.Fours.{fours}
-use Rattle.base.specs.declared.Answer.the-variants.{Accepted, Refused}
-use Rattle.mesh.specs.Coarse.{cornerCount, countsb, positionsb, cellb, cellsb, solidb, twiceb, singleb, meshAnswer}
+use Rattle.mesh.specs.Coarse.{cornerCount, countsb, cellb, cellsb, twiceb, singleb}
 use Rattle.mesh.specs.Laws.{mesh-counts}
 use Rattle.coarse.specs.Cells.{Ranked, crowdedb}
 
@@ -24,35 +23,6 @@ passed {b} e t = sym e ∙ not-false b t
 
 pub failed : {b f : Bool} → b ≡ f → not b ≡ true → f ≡ false
 failed {b} e t = sym e ∙ not-true b t
-
-module _ (ps : List ℤ) (ts : List ℕ) where
-  pub answer-1 : countsb ps ts ≡ false → Refused 1 ≡ meshAnswer ps ts
-  unfolding meshAnswer
-  answer-1 a = rw a
-
-  module _ (a : countsb ps ts ≡ true) where
-    pub answer-2 : positionsb ps ≡ false → Refused 2 ≡ meshAnswer ps ts
-    unfolding meshAnswer
-    answer-2 b = rw (a, b)
-
-    module _ (b : positionsb ps ≡ true) where
-      pub answer-3 : cellsb (cornerCount ps) (fours ts) ≡ false → Refused 3 ≡ meshAnswer ps ts
-      unfolding meshAnswer
-      answer-3 c = rw (a, b, c)
-
-      module _ (c : cellsb (cornerCount ps) (fours ts) ≡ true) where
-        pub answer-4 : solidb ps (fours ts) ≡ false → Refused 4 ≡ meshAnswer ps ts
-        unfolding meshAnswer
-        answer-4 d = rw (a, b, c, d)
-
-        module _ (d : solidb ps (fours ts) ≡ true) where
-          pub answer-5 : singleb (fours ts) ≡ false → Refused 5 ≡ meshAnswer ps ts
-          unfolding meshAnswer
-          answer-5 e = rw (a, b, c, d, e)
-
-          pub answer-0 : singleb (fours ts) ≡ true → Accepted ≡ meshAnswer ps ts
-          unfolding meshAnswer
-          answer-0 e = rw (a, b, c, d, e)
 
 -- the two halves of refusal 5
 module _ {b : Bool} (qs : List (List ℕ)) (e : b ≡ not (twiceb qs)) where

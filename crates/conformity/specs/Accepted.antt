@@ -9,9 +9,10 @@ use lib.IntN.{ℤ}
 use Rattle.base.specs.Fours.{fours}
 use Rattle.base.specs.Refuse.{refuse, passed, both}
 use Rattle.base.specs.declared.Answer.the-variants.{Accepted}
-use Rattle.mesh.specs.Coarse.{cornerCount, countsb, positionsb, cellsb, solidb, singleb, meshAnswer}
+use Rattle.mesh.specs.Coarse.{cornerCount, cellsb, singleb, meshAnswer}
 use Rattle.mesh.specs.Table.{soundb}
 use Rattle.mesh.specs.Answers.{tableAnswer}
+use Rattle.mesh.specs.Laws.{mesh-accepted}
 use Rattle.lattice.specs.Levels.{fours-four}
 use Rattle.conformity.specs.Leaves.{openb, meetb}
 use Rattle.conformity.specs.Open.{sound-open}
@@ -23,18 +24,7 @@ module _ (ps : List ℤ) (ts : List ℕ) where
 
   module _ (accepted : meshAnswer ps ts ≡ Accepted) where
     pub mesh-parts : T (cellsb n (fours ts)) × T (singleb (fours ts))
-    unfolding meshAnswer
-    mesh-parts =
-        let qs = fours ts in
-        let five = refuse 5 (singleb qs) Accepted in
-        let four = refuse 4 (solidb ps qs) five in
-        let three = refuse 3 (cellsb n qs) four in
-        let two = refuse 2 (positionsb ps) three in
-        let (_, a) = passed 1 (countsb ps ts) two accepted in
-        let (_, b) = passed 2 (positionsb ps) three a in
-        let (t, c) = passed 3 (cellsb n qs) four b in
-        let (_, d) = passed 4 (solidb ps qs) five c in
-        (t, passed 5 (singleb qs) Accepted d .0)
+    mesh-parts = let m = mesh-accepted ps ts accepted in (m .cells, m .single)
 
     module _ (ss : List ℕ) (sound : T (soundb n (fours ts) ss)) where
       table-open : T (openb n (fours ts) ss)

@@ -242,7 +242,7 @@ pub fn split(
     }
     let n = positions.len() / 3;
     let mut kids = [0u16; 4097];
-    keeping::first_children(status, cells.len() / 4, &mut kids);
+    firsts::first_children(status, cells.len() / 4, &mut kids);
     if !columns::owners_fit(owners, status, parts, &kids) {
         return Answer::Refused(11);
     }

@@ -11,7 +11,8 @@ use lib.ListN.{length, take, drop, length-map}
 use lib.Seq.{take-at}
 use borrow.Author.Tests.{lt-leb}
 use Rattle.base.specs.Refuse.{refuse, andThen, answerOf}
-use Rattle.mesh.specs.Coarse.{countsb, meshAnswer}
+use Rattle.mesh.specs.Coarse.{countsb}
+use Rattle.mesh.specs.Laws.{answer-1}
 use Rattle.archive.specs.Job.{Job}
 use Rattle.archive.specs.Form.{formb, jobOf}
 use Rattle.archive.specs.Tables.{Counts, markedOf, marksOf, endsAfter, endsOf, cellOf, markOf}
@@ -51,8 +52,8 @@ module _ (bs : List ℕ) where
     in-form = rw f
 
     uncounted : countsb (j .positions) (j .cells) ≡ false → (table : List ℕ) (k a b c : ℕ) → k ≡ 1 → Reopened bs table k a b c
-    unfolding jobAnswer meshAnswer andThen refuse answerOf
-    uncounted n table k a b c e = failed table k a b c (in-form ∙ rw (n, e)) (λ y. omega arith)
+    unfolding jobAnswer andThen answerOf
+    uncounted n table k a b c e = failed table k a b c (in-form ∙ rw (← answer-1 (j .positions) (j .cells) n, e)) (λ y. omega arith)
 
     pub reopened-corners : 512 < v → (table : List ℕ) (k a b c : ℕ) → k ≡ 1 → Reopened bs table k a b c
     unfolding countsb

@@ -16,9 +16,9 @@ use Rattle.base.specs.Fours.{fours, length-fours}
 use Rattle.base.specs.Refuse.{refuse, andThen, passed, both}
 use Rattle.base.specs.declared.Answer.the-variants.{Accepted}
 use Rattle.base.specs.Every.{All}
-use Rattle.mesh.specs.Coarse.{cornerCount, cellCount, countsb, positionsb, cellb, cellsb, solidb, singleb, meshAnswer}
+use Rattle.mesh.specs.Coarse.{cornerCount, cellCount, positionsb, cellb, cellsb, meshAnswer}
 use Rattle.mesh.specs.Answers.{marksb, limitsAnswer}
-use Rattle.mesh.specs.Laws.{MeshCounts, mesh-counts}
+use Rattle.mesh.specs.Laws.{MeshCounts, AcceptedMesh, mesh-counts, mesh-accepted}
 use Rattle.archive.specs.Bytes.{Word}
 use Rattle.archive.specs.Writable.{Rises, TwoBytes}
 use Rattle.archive.specs.Tables.{Mark, pairs, stepsFrom}
@@ -122,21 +122,15 @@ pub record Taken (ps : List ℤ) (ts cs ms es : List ℕ) : Type 0 where
 
 module _ (ps : List ℤ) (ts cs ms es : List ℕ) (e : tablesAnswer ps ts cs ms es ≡ Accepted) where
   pub tables-taken : Taken ps ts cs ms es
-  unfolding tablesAnswer meshAnswer
+  unfolding tablesAnswer
   tables-taken =
       let qs = fours ts in
       let n = cornerCount ps in
-      let five = refuse 5 (singleb qs) Accepted in
-      let four = refuse 4 (solidb ps qs) five in
-      let three = refuse 3 (cellsb n qs) four in
-      let two = refuse 2 (positionsb ps) three in
       let flat = flatAnswer n qs (restTable qs) 0 (pairs cs ms) es in
       let (mesh, steps) = both (meshAnswer ps ts) (refuse 7 (eqb (length cs) (length ms)) flat) e in
-      let (a, b) = passed 1 (countsb ps ts) two mesh in
-      let (c, d) = passed 2 (positionsb ps) three b in
-      let (f, _) = passed 3 (cellsb n qs) four d in
+      let m : AcceptedMesh ps ts = mesh-accepted ps ts mesh in
       let (g, h) = passed 7 (eqb (length cs) (length ms)) flat steps in
-      let k : MeshCounts ps ts = mesh-counts ps ts a in
+      let k : MeshCounts ps ts = mesh-counts ps ts (m .counts) in
       let l : length (restTable qs) ≤ 4096 = omega (arith, length-replicate {A = ℕ} (length qs) 0, length-fours ts, k .few) in
       let w : Written 0 (pairs cs ms) es = flat-written n qs (restTable qs) 0 (pairs cs ms) es l h in
       let same : length cs ≡ length ms = eqb→eq (length cs) (length ms) g in
@@ -153,8 +147,8 @@ module _ (ps : List ℤ) (ts cs ms es : List ℕ) (e : tablesAnswer ps ts cs ms 
         };
         corners = k .corners-few;
         cells = k .few;
-        words = words-of ps c;
-        numbers = numbers-of n ts (k .corners-few) (k .fours) f;
+        words = words-of ps (m .positions);
+        numbers = numbers-of n ts (k .corners-few) (k .fours) (m .cells);
         same = same;
         marks = many;
         written = w;

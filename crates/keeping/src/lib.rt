@@ -1,34 +1,10 @@
 // What each cell of an old table keeps after a step.
-ghost use mathlib.Core.Path.{_≡_};
-ghost use mathlib.Core.Bool.{true};
-ghost use mathlib.Core.List.{_++_};
-ghost use Prim.Native.Nat.{suc, _≤_, _<_};
-ghost use lib.Dec.{leb};
-ghost use lib.ListN.{length, drop};
 ghost use Rattle.base.specs.Fours.{fours};
-ghost use Rattle.base.specs.Lists.{allb};
 ghost use Rattle.base.specs.Lent.{was, is};
 ghost use Rattle.pairs.specs.Keys.{Clear};
 ghost use Rattle.flagging.specs.Old.{SideBySide};
-ghost use Rattle.lineage.specs.Firsts.{firstChildren};
 ghost use Rattle.keeping.specs.Marked.{Marked, KeptOrFull};
 use flagging::Looked;
-
-// The number of the first child of each cell, and behind them the count of all cells.
-pub fn first_children(status: &[u8], coarse: usize, kids: &mut [u16])
-    requires { ⌜ allb (λ s. leb s 64) (now status) ≡ true ⌝ }
-    requires { ⌜ (length (now status) ≤ 4096) × (length (now status) < length (now kids)) × (coarse ≤ 256) ⌝ }
-    ensures { λ r. ⌜ is kids ≡ firstChildren coarse (was status) ++ drop (suc (length (was status))) (was kids) ⌝ }
-{
-    let mut at = coarse;
-    let mut c = 0;
-    while c < status.len() {
-        kids[c] = at as u16;
-        at += rows::size_of(status[c]);
-        c += 1;
-    }
-    kids[c] = at as u16;
-}
 
 // Writes what each cell keeps: 64 where it will be red, else the pattern of its edges that cells of its level hold which will be. Says
 // whether there was room for six edges of each cell that will be red, and whether one is on level 10; without that room, what `kept` holds

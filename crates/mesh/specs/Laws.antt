@@ -1,6 +1,9 @@
 -- Laws of the definitions: what the counts of a mesh are, how many children lists of statuses make, how many coarse cells and coarse
 -- corners there are, the middle of two points, patterns below 64, edges held by one of two lists, the first edges of a cell, how many cells
--- a sound table has, the numbers of the six edges.
+-- a sound table has, the numbers of the six edges. Of the answer to a mesh, which proofs take apart by these:
+--   AcceptedMesh ps ts   what an accepted mesh passes, a field for each test
+-- mesh-accepted (it passes them), mesh-code (an answer's number tells it), answer-1 to answer-5 and answer-0 (the answer from the tests in
+-- their order).
 use mathlib.Core.Path.{_≡_, sym, refl, ap, ap₂, _∙_}
 use mathlib.Core.List.{List, [], _∷_, _++_, zipWith}
 use Prim.Native.Nat.{ℕ, _+_, _%_, suc, zero, _≤_, _<_}
@@ -12,7 +15,11 @@ use Rattle.base.specs.Every.{below-at}
 use Rattle.base.specs.Lists.{allb, belowb, belowb-at, memberb}
 use Rattle.base.specs.Bools.{one-most, and-left, and-right}
 use Rattle.base.specs.Append.{anyb-append}
-use Rattle.mesh.specs.Coarse.{cornerCount, cellCount, countsb}
+use Rattle.base.specs.Fours.{fours}
+use Rattle.base.specs.Refuse.{refuse, passed, codeOf, answerOf}
+use Rattle.base.specs.declared.Answer.{Answer}
+use Rattle.base.specs.declared.Answer.the-variants.{Accepted, Refused}
+use Rattle.mesh.specs.Coarse.{cornerCount, cellCount, countsb, positionsb, cellsb, solidb, singleb, meshAnswer}
 use Rattle.mesh.specs.Table.{levelsOf, cellsOf, closedb, apartb, soundb, sizeOf, sizes}
 use Rattle.mesh.specs.Layout.{coarseCornersTo, edgeNumbers}
 use lib.ListN.{length, getD, take, length-append}
@@ -36,6 +43,89 @@ pub record MeshCounts (ps : List ℤ) (ts : List ℕ) : Type 0 where
 pub mesh-counts : (ps : List ℤ) (ts : List ℕ) → T (countsb ps ts) → MeshCounts ps ts
 unfolding countsb
 mesh-counts ps ts t = search (and-left, and-right, eqb→eq, leb→le)
+
+-- Rule 12.5: what an accepted mesh passes, in the order of the refusals.
+pub record AcceptedMesh (ps : List ℤ) (ts : List ℕ) : Type 0 where
+  -- Rule 1.2, else 1: whole corners and cells, and how many.
+  pub counts : T (countsb ps ts)
+  -- Rule 1.3, else 2: no coordinate too far out.
+  pub positions : T (positionsb ps)
+  -- Rule 1.4, else 3: ascending numbers of corners that are there.
+  pub cells : T (cellsb (cornerCount ps) (fours ts))
+  -- Rule 1.5, else 4: no cell is flat.
+  pub solid : T (solidb ps (fours ts))
+  -- Rule 1.6, else 5: no cell twice, no face in three cells.
+  pub single : T (singleb (fours ts))
+
+-- a refusal's number tells it, and so the answer's
+coded : (n : ℕ) (b : Bool) (a : Answer) → a ≡ answerOf (codeOf a) → refuse (suc n) b a ≡ answerOf (codeOf (refuse (suc n) b a))
+unfolding refuse codeOf answerOf
+coded n true a e = e
+coded n false a e = refl
+
+module _ (ps : List ℤ) (ts : List ℕ) where
+  abbrev n : ℕ
+  n = cornerCount ps
+
+  abbrev qs : List (List ℕ)
+  qs = fours ts
+
+  -- the answers from each test on
+  abbrev five : Answer
+  five = refuse 5 (singleb qs) Accepted
+
+  abbrev four : Answer
+  four = refuse 4 (solidb ps qs) five
+
+  abbrev three : Answer
+  three = refuse 3 (cellsb n qs) four
+
+  abbrev two : Answer
+  two = refuse 2 (positionsb ps) three
+
+  pub mesh-accepted : meshAnswer ps ts ≡ Accepted → AcceptedMesh ps ts
+  unfolding meshAnswer
+  mesh-accepted e =
+      let (a, p) = passed 1 (countsb ps ts) two e in
+      let (b, q) = passed 2 (positionsb ps) three p in
+      let (c, r) = passed 3 (cellsb n qs) four q in
+      let (d, s) = passed 4 (solidb ps qs) five r in
+      record { counts = a; positions = b; cells = c; solid = d; single = passed 5 (singleb qs) Accepted s .0 }
+
+  pub mesh-code : meshAnswer ps ts ≡ answerOf (codeOf (meshAnswer ps ts))
+  unfolding meshAnswer codeOf answerOf
+  mesh-code =
+      coded 0 (countsb ps ts) two
+      (coded 1 (positionsb ps) three (coded 2 (cellsb n qs) four (coded 3 (solidb ps qs) five (coded 4 (singleb qs) Accepted refl))))
+
+  -- the answer, where the tests before are passed
+  pub answer-1 : countsb ps ts ≡ false → Refused 1 ≡ meshAnswer ps ts
+  unfolding meshAnswer
+  answer-1 a = rw a
+
+  module _ (a : countsb ps ts ≡ true) where
+    pub answer-2 : positionsb ps ≡ false → Refused 2 ≡ meshAnswer ps ts
+    unfolding meshAnswer
+    answer-2 b = rw (a, b)
+
+    module _ (b : positionsb ps ≡ true) where
+      pub answer-3 : cellsb (cornerCount ps) (fours ts) ≡ false → Refused 3 ≡ meshAnswer ps ts
+      unfolding meshAnswer
+      answer-3 c = rw (a, b, c)
+
+      module _ (c : cellsb (cornerCount ps) (fours ts) ≡ true) where
+        pub answer-4 : solidb ps (fours ts) ≡ false → Refused 4 ≡ meshAnswer ps ts
+        unfolding meshAnswer
+        answer-4 d = rw (a, b, c, d)
+
+        module _ (d : solidb ps (fours ts) ≡ true) where
+          pub answer-5 : singleb (fours ts) ≡ false → Refused 5 ≡ meshAnswer ps ts
+          unfolding meshAnswer
+          answer-5 e = rw (a, b, c, d, e)
+
+          pub answer-0 : singleb (fours ts) ≡ true → Accepted ≡ meshAnswer ps ts
+          unfolding meshAnswer
+          answer-0 e = rw (a, b, c, d, e)
 
 pub sizes-append : (ss ts : List ℕ) → sizes (ss ++ ts) ≡ sizes ss + sizes ts
 unfolding sizes

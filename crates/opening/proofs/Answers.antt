@@ -14,8 +14,9 @@ use Rattle.base.specs.Refuse.{answer-refused, codeOf, answerOf, andThen}
 use Rattle.mesh.specs.Coarse.{cornerCount, meshAnswer}
 use Rattle.mesh.specs.Table.{soundb}
 use Rattle.mesh.specs.Answers.{tableAnswer}
+use Rattle.mesh.specs.Laws.{mesh-code}
 use Rattle.tables.specs.Sound.{unlessSound}
-use Rattle.opening.specs.Accepted.{mesh-code, mesh-passed}
+use Rattle.opening.specs.Accepted.{mesh-passed}
 
 module _ (ps : List ℤ) (ts ss : List ℕ) where
   -- a table over a mesh that is refused, and over one that is not

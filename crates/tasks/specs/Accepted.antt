@@ -17,10 +17,10 @@ use Rattle.base.specs.Fours.{fours, length-fours}
 use Rattle.base.specs.Refuse.{refuse, andThen, passed, both}
 use Rattle.base.specs.declared.Answer.{Answer}
 use Rattle.base.specs.declared.Answer.the-variants.{Accepted}
-use Rattle.mesh.specs.Coarse.{cornerCount, countsb, positionsb, cellsb, solidb, singleb, meshAnswer}
+use Rattle.mesh.specs.Coarse.{cornerCount, cellsb, meshAnswer}
 use Rattle.mesh.specs.Table.{soundb}
 use Rattle.mesh.specs.Answers.{tableAnswer}
-use Rattle.mesh.specs.Laws.{mesh-counts}
+use Rattle.mesh.specs.Laws.{AcceptedMesh, mesh-counts, mesh-accepted}
 use Rattle.lattice.specs.Levels.{fours-four}
 use Rattle.soundness.specs.Sound.{sound-parts}
 use Rattle.exchange.specs.Finite.{parts}
@@ -82,17 +82,6 @@ module _ (ps : List ℤ) (ts ss : List ℕ) (Q : ℕ) (os b : List ℕ) (e : spl
       let (m, t) = both (meshAnswer ps ts) (refuse 6 (soundb (cornerCount ps) (fours ts) ss) Accepted) (steps .1) in
       (m, passed 6 (soundb (cornerCount ps) (fours ts) ss) Accepted t .0)
 
-  meshed : T (countsb ps ts) × T (cellsb (cornerCount ps) (fours ts))
-  unfolding meshAnswer
-  meshed =
-      let five = refuse 5 (singleb qs) Accepted in
-      let four = refuse 4 (solidb ps qs) five in
-      let three = refuse 3 (cellsb n qs) four in
-      let two = refuse 2 (positionsb ps) three in
-      let (a, r) = passed 1 (countsb ps ts) two (table .0) in
-      let (_, d) = passed 2 (positionsb ps) three r in
-      (a, passed 3 (cellsb n qs) four d .0)
-
   split-room : 16 * full ≤ length b
   split-room = steps .0
 
@@ -101,11 +90,12 @@ module _ (ps : List ℤ) (ts ss : List ℕ) (Q : ℕ) (os b : List ℕ) (e : spl
 
   pub splits-from : Splits Q (cornerCount ps) (fours ts) ss os
   splits-from =
-      let k = mesh-counts ps ts (meshed .0) in
+      let m : AcceptedMesh ps ts = mesh-accepted ps ts (table .0) in
+      let k = mesh-counts ps ts (m .counts) in
       let l = length-fours ts in
       record {
         four = fours-four ts;
-        mesh = meshed .1;
+        mesh = m .cells;
         sound = table .1;
         owners = steps .3;
         parts-few = leb→le (suc Q) 16 (and-right (leb 1 (suc Q)) (leb (suc Q) 16) (steps .2));

@@ -5,7 +5,8 @@ use mathlib.Core.Bool.{true}
 use borrow.Author.Needs.{needs}
 use Rattle.base.specs.Fours.{fours}
 use Rattle.mesh.specs.Coarse.{cornerCount, countsb, positionsb, cellsb, solidb}
-use Rattle.coarse.proofs.Answers.{passed, failed, ranked, answer-0, answer-1, answer-2, answer-3, answer-4, answer-5}
+use Rattle.mesh.specs.Laws.{answer-0, answer-1, answer-2, answer-3, answer-4, answer-5}
+use Rattle.coarse.proofs.Answers.{passed, failed, ranked}
 use Rattle.coarse.proofs.examine_mesh.Statement.{statement}
 use Rattle.coarse.proofs.examine_mesh.Tie as tie
 

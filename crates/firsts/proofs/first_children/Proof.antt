@@ -1,27 +1,34 @@
--- `keeping::first_children` meets its contract: a turn writes the first child of one cell more. The measure is how many are left.
+-- `firsts::first_children` meets its contract: a turn writes the first child of one cell more. The measure is how many are left.
 -- Assumes nothing.
-use mathlib.Core.Path.{_≡_, refl, sym, _∙_}
-use mathlib.Core.List.{List, _++_, map}
+use mathlib.Core.Path.{_≡_, refl, sym, _∙_, ap}
+use mathlib.Core.List.{List, [], _∷_, _++_, map, map-append, append-assoc}
 use Prim.Native.Nat.{ℕ, suc, _+_, _*_, _-_, _≤_, _<_}
 use native.Mathlib.Omega.{arith}
 use lib.Dec.{T, leb, leb→le}
-use lib.ListN.{length, getD, drop, set, length-set}
+use lib.ListN.{length, getD, drop, set, length-set, length-map}
+use lib.Seq.{drop-cons, set-at}
 use Rattle.base.specs.Lists.{allb-at}
 use Rattle.lineage.specs.Olds.{firstChild}
 use Rattle.lineage.specs.Firsts.{firstChildren, first-next, first-start}
-use Rattle.flagging.specs.Writes.{over-start, over-more}
 use borrow.Author.Needs.{needs}
-use Rattle.keeping.proofs.first_children.Statement.{statement}
-use Rattle.keeping.proofs.first_children.Tie as tie
-use Rattle.base.specs.Range.{range}
+use Rattle.firsts.proofs.first_children.Statement.{statement}
+use Rattle.firsts.proofs.first_children.Tie as tie
+use Rattle.base.specs.Range.{range, length-range, range-snoc}
 
 -- one first child more
 one-more : (m : ℕ) (ss kids₀ kids : List ℕ) (c at : ℕ) → kids ≡ map (firstChild m ss) (range 0 c) ++ drop c kids₀ → c < length kids₀
     → at ≡ firstChild m ss c → set kids c at ≡ map (firstChild m ss) (range 0 (c + 1)) ++ drop (c + 1) kids₀
 one-more m ss kids₀ kids c at e h q =
-    let z : c - 0 ≡ c = omega arith in
-    let y : c + 1 - 0 ≡ c + 1 = omega arith in
-    rw y at (over-more (firstChild m ss) kids₀ 0 kids c (omega arith) h (rw z e) at q)
+    let f = firstChild m ss in
+    let fs = map f (range 0 c) in
+    let n : length fs ≡ c = length-map (range 0 c) f ∙ length-range 0 c in
+    let k : c + 1 ≡ suc c = omega arith in
+    let z : 0 + c ≡ c = omega arith in
+    let more : map f (range 0 (suc c)) ≡ fs ++ (f c ∷ []) =
+    rw z at (ap (map f) (range-snoc 0 c) ∙ map-append f (range 0 c) ((0 + c) ∷ [])) in
+    ap (λ (x : List ℕ). set x c at) (e ∙ ap (λ (x : List ℕ). fs ++ x) (drop-cons kids₀ c 0 h))
+    ∙ set-at fs (getD kids₀ c 0) (drop (suc c) kids₀) at c n ∙ sym (append-assoc fs (at ∷ []) (drop (suc c) kids₀))
+    ∙ rw (k, more, q)
 
 abbrev Inv-loop : tie.InvT-loop
 Inv-loop status coarse kids₀ at₀ c₀ kids at c = (c ≤ length status) × (at ≡ firstChild coarse status c) × (at ≤ 256 + 8 * c)
@@ -32,13 +39,14 @@ abbrev μ-loop : tie.MeasureT-loop
 μ-loop status coarse kids₀ at₀ c₀ kids at c = length status - c
 
 loop-holds : tie.Need-loop-holds Inv-loop μ-loop
+unfolding range
 loop-holds c =
     let s = c .before .before in (
       omega arith,
       sym (first-start (s .args .coarse) (s .args .status .now)),
       omega (arith, s .pre .1 .2),
       refl,
-      over-start (firstChild (s .args .coarse) (s .args .status .now)) (s .args .kids .now) 0,
+      refl,
     )
 
 cast-kids : tie.Need-cast-kids Inv-loop μ-loop
