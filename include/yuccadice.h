@@ -29,8 +29,8 @@ extern "C" {
 #endif
 
 /* The version of this header and its library: 10,000 times the first number, 100 times the second, the third. */
-#define YD_VERSION "1.2.4"
-#define YD_VERSION_NUMBER 10204
+#define YD_VERSION "1.2.5"
+#define YD_VERSION_NUMBER 10205
 
 /* The limits. */
 #define YD_MOST_COARSE_CORNERS 512 /* 4 to 512 corners of a coarse mesh */

@@ -16,8 +16,8 @@ module yuccadice
   private :: c_int8_t, c_int16_t, c_int32_t, c_size_t, c_double
 
   ! The version of this module and its library.
-  character(len=*), parameter :: YD_VERSION = "1.2.4"
-  integer(c_int32_t), parameter :: YD_VERSION_NUMBER = 10204_c_int32_t
+  character(len=*), parameter :: YD_VERSION = "1.2.5"
+  integer(c_int32_t), parameter :: YD_VERSION_NUMBER = 10205_c_int32_t
 
   ! The limits.
   integer(c_size_t), parameter :: YD_MOST_COARSE_CORNERS = 512_c_size_t ! 4 to 512 corners of a coarse mesh

@@ -18,9 +18,9 @@ pub mod lent;
 pub mod parts;
 
 /// The version of the library that this crate belongs to.
-pub const VERSION: &str = "1.2.4";
+pub const VERSION: &str = "1.2.5";
 /// The version as one number: 10,000 times its first, 100 times its second, its third.
-pub const VERSION_NUMBER: u32 = 10_204;
+pub const VERSION_NUMBER: u32 = 10_205;
 
 /// A coarse mesh has 4 to so many corners.
 pub const MOST_COARSE_CORNERS: usize = 512;

@@ -13,6 +13,7 @@ use borrow.Author.Tests.{le-leb, lt-leb}
 use Rattle.base.specs.Bools.{is-true}
 use Rattle.base.specs.Each.{filter-few}
 use Rattle.base.specs.Fours.{fours, length-fours}
+use Rattle.base.specs.Limits.{mostCells, mostLevels}
 use Rattle.base.specs.Lists.{filterb}
 use Rattle.base.specs.Refuse.{refuse, answerOf, answer-none}
 use Rattle.base.specs.declared.Answer.the-variants.{Accepted, Refused}
@@ -41,17 +42,18 @@ use Rattle.advance.specs.Advanced.{Held, Decided, Advanced, held-statuse
 
 -- the limits
 module _ (n : ℕ) (qs : List (List ℕ)) (ss ms : List ℕ) where
-  limits-pass : length (stepTable n qs ss ms) ≤ 11 → length (newTable n qs ss ms) ≤ 4096 → limitsAnswer n qs ss ms ≡ Accepted
+  limits-pass : length (stepTable n qs ss ms) ≤ mostLevels → length (newTable n qs ss ms) ≤ mostCells → limitsAnswer n qs ss ms ≡ Accepted
   unfolding limitsAnswer refuse
-  limits-pass a b = rw (le-leb (length (stepTable n qs ss ms)) 11 a, le-leb (length (newTable n qs ss ms)) 4096 b)
+  limits-pass a b = rw (le-leb (length (stepTable n qs ss ms)) mostLevels a, le-leb (length (newTable n qs ss ms)) mostCells b)
 
-  limits-high : leb (length (stepTable n qs ss ms)) 11 ≡ false → limitsAnswer n qs ss ms ≡ Refused 8
+  limits-high : leb (length (stepTable n qs ss ms)) mostLevels ≡ false → limitsAnswer n qs ss ms ≡ Refused 8
   unfolding limitsAnswer refuse
   limits-high a = rw a
 
-  limits-many : leb (length (stepTable n qs ss ms)) 11 ≡ true → 4096 < length (newTable n qs ss ms) → limitsAnswer n qs ss ms ≡ Refused 9
+  limits-many : leb (length (stepTable n qs ss ms)) mostLevels ≡ true → mostCells < length (newTable n qs ss ms)
+      → limitsAnswer n qs ss ms ≡ Refused 9
   unfolding limitsAnswer refuse
-  limits-many a b = rw (a, lt-leb (length (newTable n qs ss ms)) 4096 b)
+  limits-many a b = rw (a, lt-leb (length (newTable n qs ss ms)) mostCells b)
 
 -- a refusal
 refused : (n : ℕ) (mesh ss ms table : List ℕ) (k c : ℕ) → (k ≡ 0 → ⊥) → limitsAnswer n (fours mesh) ss ms ≡ answerOf k
@@ -108,7 +110,7 @@ module _ (n : ℕ) (mesh rows ss : List ℕ) (h : Held n mesh rows ss) where
 
     -- what is kept of a table
     module _ (kept kept′ xs : List ℕ) (ok high : Bool) (r : KeptOrFull n qs ss ms kept kept′ xs ok high) where
-      held-deep : leb (length (stepTable n qs ss ms)) 11 ≡ not high
+      held-deep : leb (length (stepTable n qs ss ms)) mostLevels ≡ not high
       held-deep = deep n qs ss ms (h .sound) ∙ ap not (sym (r .top))
 
       -- 8 where a cell of level 10 will be red, 9 where more than 4,096 cells would arise
@@ -116,12 +118,12 @@ module _ (n : ℕ) (mesh rows ss : List ℕ) (h : Held n mesh rows ss) where
       unfolding answerOf
       over d table k c e = refused n mesh ss ms table k c (λ z. omega arith) (limits-high n qs ss ms (held-deep ∙ ap not d) ∙ rw e)
 
-      many : high ≡ false → 4096 < length (newTable n qs ss ms) → (table : List ℕ) (k c : ℕ) → k ≡ 9 → Advanced n mesh ss ms table k c
+      many : high ≡ false → mostCells < length (newTable n qs ss ms) → (table : List ℕ) (k c : ℕ) → k ≡ 9 → Advanced n mesh ss ms table k c
       unfolding answerOf
       many d l table k c e =
           refused n mesh ss ms table k c (λ z. omega arith) (limits-many n qs ss ms (held-deep ∙ ap not d) l ∙ rw e)
 
-      too-many : 4096 < length (newTable n qs ss ms) → (table : List ℕ) (k c : ℕ) → Decided high 9 k → Advanced n mesh ss ms table k c
+      too-many : mostCells < length (newTable n qs ss ms) → (table : List ℕ) (k c : ℕ) → Decided high 9 k → Advanced n mesh ss ms table k c
       too-many l table k c g = go high refl
         where
           go : (b : Bool) → high ≡ b → Advanced n mesh ss ms table k c
@@ -163,9 +165,9 @@ module _ (n : ℕ) (mesh rows ss : List ℕ) (h : Held n mesh rows ss) where
 
             done : refusal ≡ 0 → Advanced n mesh ss ms table refusal cells
             done z =
-                let low : length (stepTable n qs ss ms) ≤ 11 = rw written-is at (written .low z) in
+                let low : length (stepTable n qs ss ms) ≤ mostLevels = rw written-is at (written .low z) in
                 let c : length (newTable n qs ss ms) ≡ cells = rw written-is at (written .counted z) in
-                let few : length (newTable n qs ss ms) ≤ 4096 = omega (arith, written .few) in
+                let few : length (newTable n qs ss ms) ≤ mostCells = omega (arith, written .few) in
                 record {
                   answer = limits-pass n qs ss ms low few ∙ sym (answer-none refusal z);
                   counted = λ y. c;
@@ -179,7 +181,7 @@ module _ (n : ℕ) (mesh rows ss : List ℕ) (h : Held n mesh rows ss) where
             too-high e =
                 let l : length (stepTable n qs ss ms) ≡ 12 = rw written-is at (written .high e) in
                 refused n mesh ss ms table refusal cells (λ z. omega arith)
-                (limits-high n qs ss ms (lt-leb (length (stepTable n qs ss ms)) 11 (omega arith)) ∙ rw e)
+                (limits-high n qs ss ms (lt-leb (length (stepTable n qs ss ms)) mostLevels (omega arith)) ∙ rw e)
 
             pub advanced : (k : ℕ) → Decided high refusal k → Advanced n mesh ss ms table k cells
             advanced k g =

@@ -13,6 +13,7 @@ use lib.Dec.{T}
 use lib.ListN.{length, take}
 use Rattle.base.specs.Bools.{is-true}
 use Rattle.base.specs.Fours.{fours}
+use Rattle.base.specs.Limits.{mostCells}
 use Rattle.mesh.specs.Table.{soundb}
 use Rattle.mesh.specs.Layout.{cellTable}
 use Rattle.counting.specs.Levels.{Levels}
@@ -46,7 +47,7 @@ pub record Decided (d : Bool) (k r : ℕ) : Type 0 where
 pub record Advanced (n : ℕ) (mesh ss ms table : List ℕ) (refusal cells : ℕ) : Type 0 where
   pub answer : limitsAnswer n (fours mesh) ss ms ≡ answerOf refusal
   pub counted : refusal ≡ 0 → length (newTable n (fours mesh) ss ms) ≡ cells
-  pub few : refusal ≡ 0 → cells ≤ 4096
+  pub few : refusal ≡ 0 → cells ≤ mostCells
   pub table-is : refusal ≡ 0 → take cells table ≡ newTable n (fours mesh) ss ms
   pub sound : refusal ≡ 0 → T (soundb n (fours mesh) (newTable n (fours mesh) ss ms))
 

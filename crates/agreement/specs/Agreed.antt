@@ -1,34 +1,36 @@
 -- What any lawful list of calls on the stores of a split comes to: the theorem of the exchange, said of the stores.
---   splitStore p, world      the stores of the split
+--   splitStore p, world      the stores of the split, with what is lent behind each
 --   inputOf cs p             the marks that the calls start a part with; 0 for each master where they do not
 -- Laws: done-phase and phase-done (a done part is one past the last round), at-end (what a done part's store stands for), starts-taken
--- (which starts are accepted), moves-most, moves-on and completed (what can be called next), all-fetched (where a part has none to send),
+-- (which starts are accepted), moves-most, moves-on and completed (what can be called next), all-fetched and letters-fetched (where a part
+-- has none to send), only-written (which messages were given),
 -- all-phases and phases-all (all parts say that they are done just where all are past the last round).
-use mathlib.Core.Path.{_≡_, refl, sym, _∙_, ap, ap₂, subst}
+use mathlib.Core.Path.{_≡_, refl, sym, _∙_, ap, subst}
 use mathlib.Core.Logic.{_⊎_, inl, inr, _≢_}
 use mathlib.Core.Bool.{Bool, true, false}
 use mathlib.Core.Option.{Option, none, some, Option·elim}
-use mathlib.Core.List.{List, [], _∷_, _++_, List·Memᴰ}
+use mathlib.Core.List.{List, [], _∷_, _++_, append-nil, List·Memᴰ}
 use Prim.Native.Nat.{ℕ, suc, _+_, _≤_, _<_, Fin}
 use native.Mathlib.Nat.{le-trans}
 use native.Mathlib.Omega.{arith}
-use lib.Dec.{T, eqb, eqb→eq}
-use borrow.Author.Tests.{eq-eqb}
-use lib.ListN.{length, getD, drop}
+use lib.Dec.{T}
+use lib.ListN.{length, getD, drop, length-map}
 use lib.IntN.{ℤ}
-use Rattle.base.specs.Every.{all-each}
+use Rattle.base.specs.Every.{all-each, getD-map}
 use Rattle.base.specs.Lists.{allb-at}
+use Rattle.base.specs.Range.{range, length-range, range-at}
 use Rattle.base.specs.Fours.{fours}
 use Rattle.base.specs.declared.Answer.{Answer}
 use Rattle.base.specs.declared.Answer.the-variants.{Accepted, Refused}
 use Rattle.mesh.specs.Coarse.{cornerCount}
-use Rattle.exchange.specs.Calls.{Start, Fetch, Call, World, play, moves, acceptsb, startedWith, Lawful}
+use Rattle.exchange.specs.Calls.{Start, Fetch, Call, play, moves, acceptsb, startedWith, Lawful}
 use Rattle.exchange.specs.Finite.{parts}
 use Rattle.exchange.specs.Protocol.{Alone, Machine, Protocol}
-use Rattle.exchange.specs.Lockstep.{lock, mailCount, post, local}
+use Rattle.exchange.specs.Lockstep.{lock, mailCount, post, letters, local, post-letter, letter-post}
 use Rattle.exchange.specs.Played.{play-length}
 use Rattle.exchange.specs.Begun.{first-fine}
-use Rattle.exchange.specs.Theorem.{Can, Allowed, deterministic, begun-with, result, moves-few, completion, all-given}
+use Rattle.exchange.specs.Theorem.{Can, Allowed, deterministic, begun-with, result, done-stays, moves-few, completion, all-given}
+use Rattle.exchange.specs.Theorem.{given-post}
 use Rattle.exchange.specs.Theorem.{onward as moved-on}
 use Rattle.rounds.specs.Rounds.{Body, end, State, phase}
 use Rattle.rounds.specs.Task.{Task}
@@ -39,7 +41,7 @@ use Rattle.rounds.specs.Bound.{callsMost, calls-few}
 use Rattle.parts.specs.Starts.{startb, placeOn}
 use Rattle.merging.specs.Totals.{grownOf}
 use Rattle.store.specs.Fields.{field, STAGE, ROUND}
-use Rattle.store.specs.Stores.{storeIn, length-stores, stores-at}
+use Rattle.store.specs.Stores.{storeIn}
 use Rattle.split.specs.Split.{splitAnswer, splitAfter}
 use Rattle.split.specs.Stored.{Stored}
 use Rattle.standing.specs.Busy.{pack, L}
@@ -50,11 +52,13 @@ use Rattle.entering.specs.Begins.{start-yes, start-fine}
 use Rattle.tasks.specs.Holders.{splitTask}
 use Rattle.tasks.specs.Accepted.{Splits, splits-from, split-store, split-columns, split-bound}
 use Rattle.turns.specs.Start.{startAnswer, startAfter}
-use Rattle.outcome.specs.Program.{yields, act}
+use Rattle.outcome.specs.Program.{yields, act, phaseOf}
 use Rattle.outcome.specs.Limited.{fitting-of}
-use Rattle.outcome.specs.Machines.{machine, alone, phaseOf}
-use Rattle.agreement.specs.Terms.{Calls, Stores, afterSplit, saysOf, doneb, alldoneb}
-use Rattle.agreement.specs.Says.{says-stage, says-so}
+use Rattle.outcome.specs.Machines.{machine, alone}
+use Rattle.agreement.specs.Terms.{Calls, Stores, afterSplit, alldoneb}
+use Rattle.held.specs.Says.{saysOf, doneb}
+use Rattle.agreement.specs.Says.{says-so}
+use Rattle.held.specs.Says.{says-stage}
 use Rattle.agreement.specs.Exchanges.{fit, reads, takes, reads-mark, first-idle, wanted, wanted-fit}
 
 -- a store that stands as it stood
@@ -82,7 +86,8 @@ over-last top r h o = go (turn-of top r h)
     go (in-totals e) = differ (sym (ap overb (ap (phase top) e ∙ phase-totals top)) ∙ o)
     go (in-over e) = e
 
-module _ (ps : List ℤ) (ts ss : List ℕ) (Q : ℕ) (os b : List ℕ) (e : splitAnswer ps ts ss (suc Q) os b ≡ Accepted) where
+module _ (ps : List ℤ) (ts ss : List ℕ) (Q : ℕ) (os b : List ℕ) (behind : ℕ → List ℕ)
+    (e : splitAnswer ps ts ss (suc Q) os b ≡ Accepted) where
   abbrev pub n : ℕ
   n = cornerCount ps
 
@@ -93,13 +98,13 @@ module _ (ps : List ℤ) (ts ss : List ℕ) (Q : ℕ) (os b : List ℕ) (e : spl
   g = splits-from ps ts ss Q os b e
 
   abbrev pub splitStore : Fin (suc Q) → List ℕ
-  splitStore p = storeIn (splitAfter ps ts ss (suc Q) os b) (p .0)
+  splitStore p = storeIn (splitAfter ps ts ss (suc Q) os b) (p .0) ++ behind (suc (p .0))
 
   abbrev pub world : Stores
-  world = afterSplit (suc Q) (splitAfter ps ts ss (suc Q) os b)
+  world = afterSplit (suc Q) (splitAfter ps ts ss (suc Q) os b) behind
 
   stored : (p : Fin (suc Q)) → Stored n qs ss (suc Q) os (suc (p .0)) (splitStore p)
-  stored = split-store ps ts ss Q os b e
+  stored p = split-store ps ts ss Q os b e (behind (suc (p .0))) p
 
   abbrev pub J : Task (Fin (suc Q))
   J = splitTask Q (cornerCount ps) (fours ts) ss os
@@ -119,10 +124,18 @@ module _ (ps : List ℤ) (ts ss : List ℕ) (Q : ℕ) (os b : List ℕ) (e : spl
   A = alone (suc Q) J (fit Q n qs ss os g) (reads Q n qs ss os g) (placeOn os) (takes Q n qs ss os g) splitStore (reads-mark Q n qs ss os g)
 
   all : length (world .stores) ≡ suc Q
-  all = length-stores (splitAfter ps ts ss (suc Q) os b) (suc Q)
+  all = length-map (range 0 (suc Q)) (λ j. storeIn (splitAfter ps ts ss (suc Q) os b) j ++ behind (suc j)) ∙ length-range 0 (suc Q)
+
+  store-there : (p : Fin (suc Q)) → getD (world .stores) (p .0) [] ≡ splitStore p
+  store-there p =
+      let h : p .0 < suc Q = p .1 in
+      getD-map (λ j. storeIn (splitAfter ps ts ss (suc Q) os b) j ++ behind (suc j)) (range 0 (suc Q)) (p .0) 0 []
+      (omega (arith, length-range 0 (suc Q)))
+      ∙ ap (λ (j : ℕ). storeIn (splitAfter ps ts ss (suc Q) os b) j ++ behind (suc j))
+      (range-at 0 (suc Q) (p .0) 0 (p .1) ∙ let z : 0 + p .0 ≡ p .0 = omega arith in z)
 
   idle : (p : Fin (suc Q)) → M .Idle p (getD (world .stores) (p .0) [])
-  idle p = subst (M .Idle p) (sym (stores-at (splitAfter ps ts ss (suc Q) os b) (suc Q) (p .0) (p .1)))
+  idle p = subst (M .Idle p) (sym (store-there p))
       (first-idle Q n qs ss os g p (splitStore p) (stored p), stay-self (splitStore p))
 
   -- the marks that the calls start a part with
@@ -138,7 +151,7 @@ module _ (ps : List ℤ) (ts ss : List ℕ) (Q : ℕ) (os b : List ℕ) (e : spl
       go (some ms) f =
           first-fine (suc Q) R M (Fitted (suc Q) J) Fi A [] p ms cs world (subst (λ (k : ℕ). p .0 < k) (sym all) (p .1)) (idle p) f
 
-  good : (cs : Calls) (p : Fin (suc Q)) (r : ℕ) (k : Fin (suc Q) → ℕ) (f : ℕ) → Can (parts (suc Q)) R (inputOf cs) p r k f
+  pub good : (cs : Calls) (p : Fin (suc Q)) (r : ℕ) (k : Fin (suc Q) → ℕ) (f : ℕ) → Can (parts (suc Q)) R (inputOf cs) p r k f
       → Fitted (suc Q) J p (local (parts (suc Q)) R (inputOf cs) p r k f)
   good cs p r k f c =
       fitting-of (suc Q) J p (splitStore p) (split-columns Q n qs ss os g p (splitStore p) (stored p)) (fit Q n qs ss os g)
@@ -264,7 +277,7 @@ module _ (ps : List ℤ) (ts ss : List ℕ) (Q : ℕ) (os b : List ℕ) (e : spl
         (ds, a .lawful, d)
 
     -- NONE TO SEND: all that the part wrote up to its round is given
-    pub all-fetched : (p : Fin (suc Q)) → act Fetch (storeOf cs p) ≡ none → field (storeOf cs p) STAGE ≢ 0
+    all-fetched : (p : Fin (suc Q)) → act Fetch (storeOf cs p) ≡ none → field (storeOf cs p) STAGE ≢ 0
         → (m : List ℕ) → List·Memᴰ m (post (parts (suc Q)) R (inputOf cs) (suc (field (storeOf cs p) ROUND)) p)
         → List·Memᴰ m (play act cs world .given)
     all-fetched p h s =
@@ -281,6 +294,29 @@ module _ (ps : List ℤ) (ts ss : List ℕ) (Q : ℕ) (os b : List ℕ) (e : spl
             subst (λ (j : ℕ). (m : List ℕ) → List·Memᴰ m (post (parts (suc Q)) R (inputOf cs) (suc j) p)
             → List·Memᴰ m (play act cs world .given))
             (sym (t .0 .busy .round)) v
+
+    pub phase-most : (p : Fin (suc Q)) → phaseOf (storeOf cs p) ≤ suc (R .rounds)
+    phase-most p =
+        subst (λ (ds : Calls). phaseOf (storeOf ds p) ≤ suc (R .rounds)) (append-nil cs)
+        (done-stays (suc Q) R M (Fitted (suc Q) J) Fi A (inputOf cs) (fine cs) end [] [] (good cs) world all idle refl cs []
+        (subst Al (sym (append-nil cs)) allowed) p .1)
+
+    -- AND NO OTHERS: each message that was given is one that its sender wrote up to its round for some part
+    pub only-written : (m : List ℕ) → List·Memᴰ m (play act cs world .given)
+        → (p : Fin (suc Q)) × (q : Fin (suc Q)) × (phaseOf (storeOf cs p) ≤ suc (R .rounds))
+        × List·Memᴰ m (letters (parts (suc Q)) R (inputOf cs) (phaseOf (storeOf cs p)) p q)
+    only-written m i =
+        let (p, t) = given-post (suc Q) R M (Fitted (suc Q) J) Fi A (inputOf cs) (fine cs) end [] [] (good cs) world all idle refl cs
+        allowed m i in
+        let (q, u) = post-letter (parts (suc Q)) R (inputOf cs) M end [] (A .ordered) (phaseOf (storeOf cs p)) p m t in
+        (p, q, phase-most p, u)
+
+    pub letters-fetched : (p q : Fin (suc Q)) → act Fetch (storeOf cs p) ≡ none → field (storeOf cs p) STAGE ≢ 0
+        → (m : List ℕ) → List·Memᴰ m (letters (parts (suc Q)) R (inputOf cs) (suc (field (storeOf cs p) ROUND)) p q)
+        → List·Memᴰ m (play act cs world .given)
+    letters-fetched p q h s m i =
+        all-fetched p h s m
+        (letter-post (parts (suc Q)) R (inputOf cs) M end [] (A .ordered) (suc (field (storeOf cs p) ROUND)) p q m i)
 
   -- all parts are done, as the stores say and by the rounds
   pub many-now : (cs : Calls) → length (play act cs world .stores) ≡ suc Q

@@ -21,7 +21,7 @@ use Rattle.splitting.specs.Split.{fits, owners-fit}
 use Rattle.splitting.specs.Numbers.{number-inside}
 use Rattle.splitting.specs.Admissible.{owners-counted}
 use Rattle.merging.specs.Run.{nthPart, numberOf, named, marksFrom}
-use Rattle.store.specs.Fields.{field, TAKEN, ENDED, GIVEN}
+use Rattle.store.specs.Fields.{field, TAKEN, ENDED, GIVEN, FIRST-TAKEN, FIRST-ENDED, OWNER}
 use Rattle.split.specs.Columns.{slotOf}
 use Rattle.split.specs.Stored.{Stored}
 use Rattle.standing.specs.Busy.{HoldsCell}
@@ -98,18 +98,18 @@ module _ (Q n : ℕ) (qs : List (List ℕ)) (ss os : List ℕ) (g : Splits Q n q
         marks = split-marks Q n qs ss os g p x st;
       }
     where
-      zero-at : (i : ℕ) → 64 ≤ i → i < 112 → field x i ≡ 0
-      zero-at i a b = elim (decLt i 80) [
+      zero-at : (i : ℕ) → FIRST-TAKEN ≤ i → i < OWNER → field x i ≡ 0
+      zero-at i a b = elim (decLt i FIRST-ENDED) [
         | yes h ↦
-            let z : TAKEN + (i - 63) ≡ i = omega arith in
-            ap (field x) (sym z) ∙ st .taken (i - 63) (omega arith) (omega arith)
-        | no h ↦ elim (decLt i 96) [
+            let z : TAKEN + (i - TAKEN) ≡ i = omega arith in
+            ap (field x) (sym z) ∙ st .taken (i - TAKEN) (omega arith) (omega arith)
+        | no h ↦ elim (decLt i GIVEN) [
           | yes k ↦
-              let z : ENDED + (i - 79) ≡ i = omega arith in
-              ap (field x) (sym z) ∙ st .ended (i - 79) (omega arith) (omega arith)
+              let z : ENDED + (i - ENDED) ≡ i = omega arith in
+              ap (field x) (sym z) ∙ st .ended (i - ENDED) (omega arith) (omega arith)
           | no k ↦
-              let z : GIVEN + (i - 96) ≡ i = omega arith in
-              ap (field x) (sym z) ∙ st .given (i - 96) (omega arith)
+              let z : GIVEN + (i - GIVEN) ≡ i = omega arith in
+              ap (field x) (sym z) ∙ st .given (i - GIVEN) (omega arith)
         ]
       ]
 

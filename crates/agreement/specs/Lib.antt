@@ -1,7 +1,10 @@
 pub mod Terms
 pub mod Says
+pub mod Masters
 pub mod Exchanges
+pub mod Told
 pub mod Agreed
 pub mod Outcomes
+pub mod Written
 pub mod Merges
 pub mod Sample

@@ -1,42 +1,41 @@
 -- What all parts of a split come to when they are done.
--- Laws: any-marks (serial marks can be started with), serial-is (the serial step's answer from the limits), result-is (each part ended
+-- Laws: any-marks (serial marks can be started with), starts-serial (the marks of the starts are the serial ones), serial-is (the
+-- serial step's answer from the limits), result-is (each part ended
 -- with its number), says-accepted and says-refused (and says so), held-new (what a part holds where the step is accepted), held-old (where
 -- it is not).
 use mathlib.Core.Path.{_≡_, refl, sym, _∙_, ap, ap₂, subst}
-use mathlib.Core.Logic.{_⊎_, inl, inr, _≢_}
+use mathlib.Core.Logic.{inl, _≢_}
 use mathlib.Core.Bool.{Bool, true, false, _&&_, not}
-use mathlib.Core.List.{List, [], _∷_, _++_, map, flatMap, flatten}
-use Prim.Native.Nat.{ℕ, zero, suc, _+_, _-_, _*_, _≤_, _<_, pred, Fin}
+use mathlib.Core.List.{List, [], _∷_, _++_, map, flatMap}
+use Prim.Native.Nat.{ℕ, zero, suc, _+_, _-_, _≤_, _<_, Fin}
 use native.Mathlib.Omega.{arith}
 use lib.Dec.{T, eqb, ltb, leb, leb→le}
 use lib.ListN.{length, getD, take}
 use lib.Seq.{take-all}
 use lib.IntN.{ℤ}
-use borrow.Author.Tests.{lt-ltb, eq-eqb}
-use Rattle.base.specs.Bools.{and-right, and-both, is-true, not-both}
+use Rattle.base.specs.Limits.{mostCells, mostLevels}
+use Rattle.base.specs.Bools.{and-right, and-both, is-true}
 use Rattle.base.specs.Every.{All}
 use Rattle.base.specs.Each.{all-filter}
 use Rattle.base.specs.Fours.{fours}
 use Rattle.base.specs.Range.{range}
-use Rattle.base.specs.Refuse.{refuse, andThen, codeOf, passed, both}
-use Rattle.base.specs.declared.Answer.{Answer}
+use Rattle.base.specs.Refuse.{refuse, andThen, codeOf, passed}
 use Rattle.base.specs.declared.Answer.the-variants.{Accepted, Refused}
 use Rattle.mesh.specs.Coarse.{cornerCount}
 use Rattle.mesh.specs.Step.{stepTable}
 use Rattle.mesh.specs.Answers.{tableAnswer, markb, marksb, newTable, limitsAnswer, markedAnswer}
 use Rattle.exchange.specs.Calls.{Lawful}
-use Rattle.exchange.specs.Finite.{Finite, parts}
-use Rattle.rounds.specs.Rounds.{Body, State, isPart, phase, over}
+use Rattle.exchange.specs.Finite.{parts}
+use Rattle.rounds.specs.Rounds.{State, isPart}
 use Rattle.rounds.specs.Enough.{Known}
 use Rattle.rounds.specs.Rounded.{phase-over}
 use Rattle.rounds.specs.Totals.{enough-last}
 use Rattle.rounds.specs.Upward.{ups}
-use Rattle.parts.specs.Owners.{nthCell, familyOf}
+use Rattle.parts.specs.Owners.{familyOf}
 use Rattle.parts.specs.Held.{Entry, masterb, ghostb, entryOf, entriesOf}
 use Rattle.parts.specs.Starts.{mastersOn, startb, placeOn, putTogether, marksOn}
-use Rattle.soundness.specs.Sound.{sound-parts}
 use Rattle.splitting.specs.Starts.{each-at, together-is, together-fits}
-use Rattle.shares.specs.Grow.{entries, entryBy}
+use Rattle.shares.specs.Grow.{entries}
 use Rattle.shares.specs.Settled.{Settled, entriesIn}
 use Rattle.merging.specs.Limits.{endOf}
 use Rattle.merging.specs.Totals.{grownOf, grown-plain}
@@ -53,11 +52,11 @@ use Rattle.tasks.specs.Holders.{splitTask, part-numbered, owner-ranged, family-
 use Rattle.tasks.specs.Accepted.{Splits, split-slots, split-store, split-table}
 use Rattle.held.specs.Held.{heldIn}
 use Rattle.held.specs.declared.Progress.the-variants as progress
-use Rattle.outcome.specs.Program.{act}
-use Rattle.outcome.specs.Machines.{phaseOf}
-use Rattle.agreement.specs.Terms.{Calls, marksGiven, serialMarks, saysOf}
+use Rattle.outcome.specs.Program.{act, phaseOf}
+use Rattle.agreement.specs.Terms.{Calls, marksGiven, serialMarks}
+use Rattle.held.specs.Says.{saysOf}
 use Rattle.agreement.specs.Says.{says-done, says-ended}
-use Rattle.agreement.specs.Exchanges.{fit, reads, takes}
+use Rattle.agreement.specs.Exchanges.{fit, reads}
 use Rattle.agreement.specs.Agreed.{n, qs, g, splitStore, world, J, R, inputOf, storeOf, ending, at-end, phase-done, input-fine}
 
 -- any marks that the serial step takes can be started with: each part gets those of its masters
@@ -93,7 +92,7 @@ any-marks ss os ms e t = (
 -- the number of a result
 result-code : (t h : ℕ) → resultOf t h ≡ codeOf (endOf t h)
 unfolding resultOf endOf codeOf refuse
-result-code t h = go (leb 11 h) (leb t 4096)
+result-code t h = go (leb mostLevels h) (leb t mostCells)
   where
     go : (a b : Bool) → elim a [ true ↦ 8 | false ↦ elim b [ true ↦ 0 | false ↦ 9 ] ] ≡ codeOf (refuse 8 (not a) (refuse 9 b Accepted))
     go true b = refl
@@ -133,9 +132,27 @@ module _ (Q n : ℕ) (qs : List (List ℕ)) (ss os : List ℕ) (g : Splits Q n q
       go m a h =
           flat-agree (oldEntry (suc Q) (splitTask Q n qs ss os) p) (entryOf n qs ss os (suc (p .0))) m a (λ c i j. old-is c (omega arith))
 
-module _ (ps : List ℤ) (ts ss : List ℕ) (Q : ℕ) (os b : List ℕ) (e : splitAnswer ps ts ss (suc Q) os b ≡ Accepted) (cs : Calls)
-    (lawful : Lawful act cs (world ps ts ss Q os b e))
-    (done : (p : Fin (suc Q)) → phaseOf (storeOf ps ts ss Q os b e cs p) ≡ suc (R ps ts ss Q os b e .rounds)) where
+-- the marks of the starts are the serial ones
+module _ (ps : List ℤ) (ts ss : List ℕ) (Q : ℕ) (os b : List ℕ) (behind : ℕ → List ℕ)
+    (e : splitAnswer ps ts ss (suc Q) os b ≡ Accepted) (cs : Calls) where
+  given-is : (p : Fin (suc Q)) → marksGiven os cs (world ps ts ss Q os b behind e) (suc (p .0)) ≡ inputOf ps ts ss Q os b behind e cs p
+  unfolding marksGiven
+  given-is p = refl
+
+  pub starts-serial : (p : Fin (suc Q)) (c : ℕ) → nthPart Q (getD os c 0) ≡ p
+      → reads Q (cornerCount ps) (fours ts) ss os (g ps ts ss Q os b behind e) p (inputOf ps ts ss Q os b behind e cs p) c
+      ≡ getD (serialMarks os cs (world ps ts ss Q os b behind e)) c 0
+  unfolding serialMarks marksFrom
+  starts-serial p c h =
+      ap (λ (l : List ℕ). elim (ltb c (length os) && masterb os (numberOf p) c) [ true ↦ getD l (placeOn os c) 0 | false ↦ 0 ])
+      (sym (given-is p))
+      ∙ starts-together os (marksGiven os cs (world ps ts ss Q os b behind e)) Q (cornerCount ps) (fours ts) ss
+      (g ps ts ss Q os b behind e .owners) p c h
+
+module _ (ps : List ℤ) (ts ss : List ℕ) (Q : ℕ) (os b : List ℕ) (behind : ℕ → List ℕ)
+    (e : splitAnswer ps ts ss (suc Q) os b ≡ Accepted) (cs : Calls)
+    (lawful : Lawful act cs (world ps ts ss Q os b behind e))
+    (done : (p : Fin (suc Q)) → phaseOf (storeOf ps ts ss Q os b behind e cs p) ≡ suc (R ps ts ss Q os b behind e .rounds)) where
   abbrev nn : ℕ
   nn = cornerCount ps
 
@@ -143,36 +160,29 @@ module _ (ps : List ℤ) (ts ss : List ℕ) (Q : ℕ) (os b : List ℕ) (e : spl
   cells = fours ts
 
   abbrev gg : Splits Q nn cells ss os
-  gg = g ps ts ss Q os b e
+  gg = g ps ts ss Q os b behind e
 
   abbrev pub ms : List ℕ
-  ms = serialMarks os cs (world ps ts ss Q os b e)
+  ms = serialMarks os cs (world ps ts ss Q os b behind e)
 
   abbrev input : Fin (suc Q) → List ℕ
-  input = inputOf ps ts ss Q os b e cs
-
-  -- these are the marks of the starts
-  given-is : (p : Fin (suc Q)) → marksGiven os cs (world ps ts ss Q os b e) (suc (p .0)) ≡ input p
-  unfolding marksGiven
-  given-is p = refl
+  input = inputOf ps ts ss Q os b behind e cs
 
   pub starts : (p : Fin (suc Q)) (c : ℕ) → nthPart Q (getD os c 0) ≡ p → reads Q nn cells ss os gg p (input p) c ≡ getD ms c 0
-  unfolding serialMarks marksFrom
-  starts p c h =
-      ap (λ (l : List ℕ). elim (ltb c (length os) && masterb os (numberOf p) c) [ true ↦ getD l (placeOn os c) 0 | false ↦ 0 ])
-      (sym (given-is p))
-      ∙ starts-together os (marksGiven os cs (world ps ts ss Q os b e)) Q nn cells ss (gg .owners) p c h
+  starts = starts-serial ps ts ss Q os b behind e cs
 
   -- what each part knows after the rounds
   abbrev last : Fin (suc Q) → State
   last = final Q nn cells ss ms (gg .four) (gg .mesh) (gg .sound) os (gg .owners) (slotOf nn cells ss) (slotsOn nn cells ss)
-      (split-slots Q nn cells ss os gg) (ups (suc Q)) (pack (suc Q) (J ps ts ss Q os b e)) (reads Q nn cells ss os gg) input starts
+      (split-slots Q nn cells ss os gg) (ups (suc Q)) (pack (suc Q) (J ps ts ss Q os b behind e)) (reads Q nn cells ss os gg) input starts
 
-  pub known : (p : Fin (suc Q)) → Known (parts (suc Q)) (J ps ts ss Q os b e) (λ c. getD ms c 0) (suc (J ps ts ss Q os b e .top)) p (last p)
+  pub known : (p : Fin (suc Q))
+      → Known (parts (suc Q)) (J ps ts ss Q os b behind e) (λ c. getD ms c 0) (suc (J ps ts ss Q os b behind e .top)) p (last p)
   known p =
-      enough-last (suc Q) (J ps ts ss Q os b e) (grownOf (parts (suc Q)) (J ps ts ss Q os b e))
-      (grown-plain (parts (suc Q)) (J ps ts ss Q os b e))
-      (ups (suc Q)) (pack (suc Q) (J ps ts ss Q os b e)) (reads Q nn cells ss os gg) input p (fit Q nn cells ss os gg) (λ c. getD ms c 0)
+      enough-last (suc Q) (J ps ts ss Q os b behind e) (grownOf (parts (suc Q)) (J ps ts ss Q os b behind e))
+      (grown-plain (parts (suc Q)) (J ps ts ss Q os b behind e))
+      (ups (suc Q)) (pack (suc Q) (J ps ts ss Q os b behind e)) (reads Q nn cells ss os gg) input p (fit Q nn cells ss os gg)
+      (λ c. getD ms c 0)
       starts
 
   -- the split table after the rounds
@@ -189,14 +199,14 @@ module _ (ps : List ℤ) (ts ss : List ℕ) (Q : ℕ) (os b : List ℕ) (e : spl
   marks-fit : marksb ss ms ≡ true
   unfolding serialMarks
   marks-fit =
-      is-true (marksb ss ms) (together-fits nn cells ss (suc Q) os (marksGiven os cs (world ps ts ss Q os b e)) (gg .owners)
+      is-true (marksb ss ms) (together-fits nn cells ss (suc Q) os (marksGiven os cs (world ps ts ss Q os b behind e)) (gg .owners)
       each-fits)
     where
-      each-fits : (q : ℕ) → 1 ≤ q → q ≤ suc Q → T (startb ss os q (marksGiven os cs (world ps ts ss Q os b e) q))
+      each-fits : (q : ℕ) → 1 ≤ q → q ≤ suc Q → T (startb ss os q (marksGiven os cs (world ps ts ss Q os b behind e) q))
       each-fits zero a c = absurd (omega arith)
       each-fits (suc j) a c =
           let p : Fin (suc Q) = (j, omega arith) in
-          rw (given-is (j, omega arith), input-fine ps ts ss Q os b e cs lawful (j, omega arith)) tt
+          rw (given-is ps ts ss Q os b behind e cs (j, omega arith), input-fine ps ts ss Q os b behind e cs lawful (j, omega arith)) tt
 
   pub serial-is : markedAnswer ps ts ss ms ≡ limitsAnswer nn cells ss ms
   unfolding markedAnswer andThen refuse
@@ -206,26 +216,27 @@ module _ (ps : List ℤ) (ts ss : List ℕ) (Q : ℕ) (os b : List ℕ) (e : spl
   unfolding limitsAnswer
   ended-is p =
       run-answer Q nn cells ss ms (gg .four) (gg .mesh) (gg .sound) os (gg .owners) (slotOf nn cells ss) (slotsOn nn cells ss)
-      (split-slots Q nn cells ss os gg) (ups (suc Q)) (pack (suc Q) (J ps ts ss Q os b e)) (reads Q nn cells ss os gg) input starts p
+      (split-slots Q nn cells ss os gg) (ups (suc Q)) (pack (suc Q) (J ps ts ss Q os b behind e)) (reads Q nn cells ss os gg) input starts p
       ∙ sym serial-is
 
   -- the store of a done part
   abbrev x : Fin (suc Q) → List ℕ
-  x = storeOf ps ts ss Q os b e cs
+  x = storeOf ps ts ss Q os b behind e cs
 
-  pub end-stands : (p : Fin (suc Q)) → Standing (suc Q) (J ps ts ss Q os b e) p
-      (ending ps ts ss Q os b e cs lawful p (at-end ps ts ss Q os b e cs lawful p (done p) .0)) (x p)
-  end-stands p = at-end ps ts ss Q os b e cs lawful p (done p) .1
+  pub end-stands : (p : Fin (suc Q)) → Standing (suc Q) (J ps ts ss Q os b behind e) p
+      (ending ps ts ss Q os b behind e cs lawful p (at-end ps ts ss Q os b behind e cs lawful p (done p) .0)) (x p)
+  end-stands p = at-end ps ts ss Q os b behind e cs lawful p (done p) .1
 
-  pub split-stays : (p : Fin (suc Q)) → Stay (splitStore ps ts ss Q os b e p) (x p)
-  split-stays p = at-end ps ts ss Q os b e cs lawful p (done p) .2
+  pub split-stays : (p : Fin (suc Q)) → Stay (splitStore ps ts ss Q os b behind e p) (x p)
+  split-stays p = at-end ps ts ss Q os b behind e cs lawful p (done p) .2
 
   holds : (p : Fin (suc Q)) → (field (x p) RESULT ≡ resultOf (last p .total) (last p .high))
-      × ((field (x p) RESULT ≡ 0 → heldIn (x p) ≡ take 4096 (entries (parts (suc Q)) (J ps ts ss Q os b e) p (last p)))
-      × (field (x p) RESULT ≢ 0 → heldIn (x p) ≡ olds (suc Q) (J ps ts ss Q os b e) p (field (x p) CELLS)))
+      × ((field (x p) RESULT ≡ 0 → heldIn (x p) ≡ take mostCells (entries (parts (suc Q)) (J ps ts ss Q os b behind e) p (last p)))
+      × (field (x p) RESULT ≢ 0 → heldIn (x p) ≡ olds (suc Q) (J ps ts ss Q os b behind e) p (field (x p) CELLS)))
   unfolding Holding
   holds p =
-      subst (λ f. Holding (suc Q) (J ps ts ss Q os b e) p f (last p) (x p)) (phase-over (J ps ts ss Q os b e .top)) (end-stands p .holding)
+      subst (λ f. Holding (suc Q) (J ps ts ss Q os b behind e) p f (last p) (x p)) (phase-over (J ps ts ss Q os b behind e .top))
+      (end-stands p .holding)
 
   -- EACH PART ENDED WITH THE SERIAL STEP'S NUMBER
   pub result-is : (p : Fin (suc Q)) → field (x p) RESULT ≡ codeOf (markedAnswer ps ts ss ms)
@@ -236,7 +247,7 @@ module _ (ps : List ℤ) (ts ss : List ℕ) (Q : ℕ) (os b : List ℕ) (e : spl
       × ((k : ℕ) → k ≢ 0 → field (x p) RESULT ≡ k → saysOf (x p) ≡ progress.Ended k)
   says p =
       let u = end-stands p .busy in
-      let s = phase-done ps ts ss Q os b e cs lawful p (done p) in
+      let s = phase-done ps ts ss Q os b behind e cs lawful p (done p) in
       (says-done (x p) (u .long) (u .header) s, says-ended (x p) (u .long) (u .header) s)
 
   module _ (yes : markedAnswer ps ts ss ms ≡ Accepted) where
@@ -244,14 +255,15 @@ module _ (ps : List ℤ) (ts ss : List ℕ) (Q : ℕ) (os b : List ℕ) (e : spl
     unfolding codeOf
     says-accepted p = says p .0 (result-is p ∙ ap codeOf yes)
 
-    pub limits : (length (stepTable nn cells ss ms) ≤ 11) × (length (newTable nn cells ss ms) ≤ 4096)
+    pub limits : (length (stepTable nn cells ss ms) ≤ mostLevels) × (length (newTable nn cells ss ms) ≤ mostCells)
     unfolding limitsAnswer
     limits =
         let t : limitsAnswer nn cells ss ms ≡ Accepted = sym serial-is ∙ yes in
         let (a, r) =
-        passed 8 (leb (length (stepTable nn cells ss ms)) 11) (refuse 9 (leb (length (newTable nn cells ss ms)) 4096) Accepted) t in (
-          leb→le (length (stepTable nn cells ss ms)) 11 a,
-          leb→le (length (newTable nn cells ss ms)) 4096 (passed 9 (leb (length (newTable nn cells ss ms)) 4096) Accepted r .0),
+        passed 8 (leb (length (stepTable nn cells ss ms)) mostLevels)
+        (refuse 9 (leb (length (newTable nn cells ss ms)) mostCells) Accepted) t in (
+          leb→le (length (stepTable nn cells ss ms)) mostLevels a,
+          leb→le (length (newTable nn cells ss ms)) mostCells (passed 9 (leb (length (newTable nn cells ss ms)) mostCells) Accepted r .0),
         )
 
     pub held-new : (p : Fin (suc Q)) → heldIn (x p) ≡ entriesIn X p
@@ -261,7 +273,7 @@ module _ (ps : List ℤ) (ts ss : List ℕ) (Q : ℕ) (os b : List ℕ) (e : spl
         let few : length (entriesIn X p) ≤ length (newTable nn cells ss ms) =
         share-few (parts (suc Q)) nn cells ss ms (gg .four) (gg .mesh) (gg .sound) (suc Q) os (gg .owners) (slotOf nn cells ss)
         (slotsOn nn cells ss) (split-slots Q nn cells ss os gg) (nthPart Q) numberOf (named Q) last known (limits .0) (limits .1) p in
-        holds p .1 .0 z ∙ take-all 4096 (entriesIn X p) (omega (arith, few, limits .1))
+        holds p .1 .0 z ∙ take-all mostCells (entriesIn X p) (omega (arith, few, limits .1))
 
   pub says-refused : (k : ℕ) → markedAnswer ps ts ss ms ≡ Refused (suc k) → (p : Fin (suc Q)) → saysOf (x p) ≡ progress.Ended (suc k)
   unfolding codeOf
@@ -273,7 +285,7 @@ module _ (ps : List ℤ) (ts ss : List ℕ) (Q : ℕ) (os b : List ℕ) (e : spl
   held-old k f p =
       let z : field (x p) RESULT ≢ 0 = (λ y. absurd (omega (arith, y, result-is p ∙ ap codeOf f))) in
       let c : field (x p) CELLS ≡ length ss = split-stays p .else CELLS (inl (omega arith, omega arith)) ∙ first-cells p in
-      holds p .1 .1 z ∙ ap (olds (suc Q) (J ps ts ss Q os b e) p) c ∙ olds-are Q nn cells ss os gg p
+      holds p .1 .1 z ∙ ap (olds (suc Q) (J ps ts ss Q os b behind e) p) c ∙ olds-are Q nn cells ss os gg p
     where
-      first-cells : (p : Fin (suc Q)) → field (splitStore ps ts ss Q os b e p) CELLS ≡ length ss
-      first-cells p = split-store ps ts ss Q os b e p .cells
+      first-cells : (p : Fin (suc Q)) → field (splitStore ps ts ss Q os b behind e p) CELLS ≡ length ss
+      first-cells p = split-store ps ts ss Q os b e (behind (suc (p .0))) p .cells

@@ -1,30 +1,29 @@
 -- What a part says of itself, as the call `stage` answers it, and that a part which says that it is done says and holds the same for ever.
 --   SameSays x y  the stores x and y say and hold the same
--- Laws: says-stage (who says that it is done has that stage), says-done and says-ended (and the other way), done-kept
--- (whatever is called next).
+-- Laws: says-done and says-ended (what a done store says), done-kept (whatever is called next).
 use mathlib.Core.Path.{_≡_, refl, sym, _∙_, ap, ap₂, subst, fun-ext}
-use mathlib.Core.Logic.{_≢_, _⊎_, inl, inr}
+use mathlib.Core.Logic.{_≢_}
 use mathlib.Core.Bool.{Bool, true, false, _&&_, not}
 use mathlib.Core.Option.{Option, none, some}
 use mathlib.Core.List.{List, [], _∷_, map}
-use Prim.Native.Nat.{ℕ, zero, suc, _+_, _≤_, _<_}
+use Prim.Native.Nat.{ℕ, _+_, _≤_, _<_}
 use native.Mathlib.Decide.{ℕ-discrete}
 use native.Mathlib.Omega.{arith}
 use lib.Dec.{T, eqb, ltb, leb, ltb→lt}
 use lib.ListN.{length, getD, set, length-set}
 use lib.Seq.{getD-set-same, getD-set-other}
 use borrow.Author.Tests.{eq-eqb, ne-eqb, eqb-true, le-leb}
-use Rattle.base.specs.Bools.{and-left, and-right, is-true, not-both}
+use Rattle.base.specs.Limits.{mostParts}
+use Rattle.base.specs.Bools.{and-left, and-right, is-true}
 use Rattle.base.specs.Range.{range}
 use Rattle.base.specs.Refuse.{refuse}
-use Rattle.base.specs.declared.Answer.{Answer}
-use Rattle.base.specs.declared.Answer.the-variants.{Accepted, Refused}
-use Rattle.exchange.specs.Calls.{Request, Start, Step, Fetch, Hand, Call, World, answerAt, answer, changed, play}
-use Rattle.exchange.specs.Played.{answer-at, answer-there, play-none, play-some}
+use Rattle.base.specs.declared.Answer.the-variants.{Accepted}
+use Rattle.exchange.specs.Calls.{Request, Start, Step, Fetch, Hand, answerAt, answer, changed, play}
+use Rattle.exchange.specs.Played.{answer-at, play-none, play-some}
 use Rattle.parts.specs.Held.{Entry}
-use Rattle.store.specs.Fields.{field, full, STAGE, ROUND, RESULT, ENTRIES, PLACE-HEAD, PLACE-DIGITS, PLACE-MORE, PLACE-STATUS}
-use Rattle.store.specs.Header.{headerb, stageb}
-use Rattle.store.specs.Headed.{header-is, header-yes, other-no}
+use Rattle.store.specs.Fields.{field, full, STAGE, ROUND, RESULT, ENTRIES, CURSOR, OWNER, PLACE-HEAD, PLACE-DIGITS, PLACE-MORE}
+use Rattle.store.specs.Fields.{PLACE-STATUS}
+use Rattle.store.specs.Header.{headerb}
 use Rattle.store.specs.Fetch.{nextToGive, passedBy, fetchAnswer, fetchBytes, fetchAfter, fetchRefusal, givesb}
 use Rattle.store.specs.Hand.{handAnswer, handAfter}
 use Rattle.store.specs.Handing.{refuse-on, taken-is}
@@ -32,14 +31,15 @@ use Rattle.store.specs.declared.Fetched.{Fetched}
 use Rattle.store.specs.declared.Fetched.the-variants.{Message, Nothing, Refused as FetchRefused}
 use Rattle.standing.specs.Busy.{header-same}
 use Rattle.standing.specs.Walk.{passed-else, passed-length}
-use Rattle.turns.specs.Start.{startAnswer, startAfter, marksDue}
+use Rattle.turns.specs.Start.{startAnswer, startAfter}
 use Rattle.partstep.specs.Step.{readyb, partAnswer, partAfter}
 use Rattle.held.specs.Held.{stageAnswer, stageOf, progressOf, entryIn, heldIn}
+use Rattle.held.specs.Says.{saysOf, doneb, says-stage}
 use Rattle.held.specs.declared.Progress.{Progress}
 use Rattle.held.specs.declared.Progress.the-variants as progress
 use Rattle.outcome.specs.Program.{gives, nine, act}
 use Rattle.outcome.specs.Machines.{some-accepted}
-use Rattle.agreement.specs.Terms.{Calls, Stores, saysOf, doneb}
+use Rattle.agreement.specs.Terms.{Calls, Stores}
 
 -- what is said, by what it rests on
 saysFrom : ℕ → Bool → ℕ → ℕ → ℕ → Progress
@@ -55,35 +55,7 @@ module _ (x : List ℕ) where
   unfolding saysOf saysFrom stageAnswer stageOf
   says-from = refl
 
-  accepted : T (doneb (saysOf x)) → stageAnswer x ≡ Accepted
-  unfolding saysOf doneb progressOf
-  accepted t = go (stageAnswer x) refl
-    where
-      go : (a : Answer) → stageAnswer x ≡ a → stageAnswer x ≡ Accepted
-      go Accepted e = e
-      go (Refused k) e = absurd (subst (λ (b : Answer). T (doneb (progressOf b (stageOf x)))) e t)
-
-  -- who says that it is done has that stage
-  pub says-stage : T (doneb (saysOf x)) → field x STAGE ≡ 2
-  unfolding saysOf doneb progressOf stageAnswer stageOf
-  says-stage t =
-      let (a, f) = refuse-on 15 (leb full (length x)) _ (accepted t) in
-      let (b, g) = refuse-on 16 (headerb x && not (eqb (field x STAGE) 0)) Accepted f in
-      let u : T (headerb x && not (eqb (field x STAGE) 0)) = rw b tt in
-      let h = and-left (headerb x) (not (eqb (field x STAGE) 0)) u in
-      let z = and-right (headerb x) (not (eqb (field x STAGE) 0)) u in
-      let s : T (doneb (stageOf x)) = subst (λ (c : Answer). T (doneb (progressOf c (stageOf x)))) (accepted t) t in
-      go h z s (ℕ-discrete (field x STAGE) 0) (ℕ-discrete (field x STAGE) 1) (ℕ-discrete (field x STAGE) 2)
-    where
-      go : T (headerb x) → T (not (eqb (field x STAGE) 0)) → T (doneb (stageOf x)) → Dec (field x STAGE ≡ 0) → Dec (field x STAGE ≡ 1)
-          → Dec (field x STAGE ≡ 2) → field x STAGE ≡ 2
-      go h z s a b (yes c) = c
-      go h z s (yes a) b (no c) = absurd (rw (eq-eqb (field x STAGE) 0 a) at z)
-      go h z s (no a) (yes b) (no c) = absurd (rw (eq-eqb (field x STAGE) 1 b, stageOf) at s)
-      go h z s (no a) (no b) (no c) =
-          not-both (stageb x) (sym (header-yes x (header-is x h)) ∙ is-true (headerb x) h) (sym (other-no x a b c))
-
-  -- and what a done store says
+  -- what a done store says
   module _ (long : full ≤ length x) (head : headerb x ≡ true) (stage : field x STAGE ≡ 2) where
     says-by : saysOf x ≡ elim (eqb (field x RESULT) 0) [ true ↦ progress.Done | false ↦ progress.Ended (field x RESULT) ]
     unfolding saysFrom refuse
@@ -111,8 +83,8 @@ same-on : (x y z : List ℕ) → SameSays x y → SameSays y z → SameSays x z
 same-on x y z a b = record { says = b .says ∙ a .says; holds = b .holds ∙ a .holds }
 
 -- stores that differ only between the header and the columns
-module _ (x y : List ℕ) (size : length y ≡ length x) (low : (i : ℕ) → i < 12 → field y i ≡ field x i)
-    (high : (i : ℕ) → 112 ≤ i → field y i ≡ field x i) where
+module _ (x y : List ℕ) (size : length y ≡ length x) (low : (i : ℕ) → i < CURSOR → field y i ≡ field x i)
+    (high : (i : ℕ) → OWNER ≤ i → field y i ≡ field x i) where
   entry-same : (j : ℕ) → entryIn y j ≡ entryIn x j
   unfolding entryIn
   entry-same j = rw (
@@ -124,13 +96,13 @@ module _ (x y : List ℕ) (size : length y ≡ length x) (low : (i : ℕ) → i 
 
   from : saysFrom (length y) (headerb y) (field y STAGE) (field y ROUND) (field y RESULT)
       ≡ saysFrom (length x) (headerb x) (field x STAGE) (field x ROUND) (field x RESULT)
-  from = rw (size, header-same x y (λ i h. low i (omega arith)), low 0 (omega arith), low 7 (omega arith), low 8 (omega arith))
+  from = rw (size, header-same x y (λ i h. low i (omega arith)), low STAGE (omega arith), low ROUND (omega arith), low RESULT (omega arith))
 
   alike : SameSays x y
   unfolding heldIn
   alike = record {
     says = says-from y ∙ from ∙ sym (says-from x);
-    holds = ap₂ (λ (f : ℕ → Entry) (n : ℕ). map f (range 0 n)) (fun-ext entry-same) (low 9 (omega arith));
+    holds = ap₂ (λ (f : ℕ → Entry) (n : ℕ). map f (range 0 n)) (fun-ext entry-same) (low ENTRIES (omega arith));
   }
 
 -- an accepted call of a done store is a fetch
@@ -166,8 +138,8 @@ fetch-same x = go (givesb x nine) refl
     go true e =
         let s = nextToGive x in
         let t : T (givesb x nine) = rw e tt in
-        let h : nextToGive x .bit < 16 = ltb→lt (nextToGive x .bit) 16
-        (and-right (eqb (fetchRefusal x nine) 0) (ltb (nextToGive x .bit) 16) t) in
+        let h : nextToGive x .bit < mostParts = ltb→lt (nextToGive x .bit) mostParts
+        (and-right (eqb (fetchRefusal x nine) 0) (ltb (nextToGive x .bit) mostParts) t) in
         subst (SameSays x) (sym (rw (e, fetchAfter))) (alike x (passedBy x s) (passed-length x s)
         (λ i l. passed-else x s i (λ z. omega arith) (λ z. omega arith) (λ z. omega arith))
         (λ i l. passed-else x s i (λ z. omega arith) (λ z. omega arith) (λ z. omega arith)))

@@ -1,4 +1,5 @@
 // Archives of jobs (docs/METHOD.md, section 10).
+use base::MOST_BYTES;
 ghost use mathlib.Core.Path.{_≡_};
 ghost use mathlib.Core.List.{[], _∷_};
 ghost use Prim.Native.Nat.{_+_, _*_, _/_, _%_, _≤_, _<_};
@@ -135,7 +136,7 @@ fn scan_steps(bytes: &[u8], from: usize) -> Scan
 pub fn examine_form(bytes: &[u8]) -> Form
     ensures { λ r. ⌜ FormExamined (was bytes) r ⌝ }
 {
-    if bytes.len() > 65536 {
+    if bytes.len() > MOST_BYTES {
         return Form {
             ok: false,
             corners: 0,

@@ -1,5 +1,5 @@
 -- The limits, by name.
-use Prim.Native.Nat.{ℕ}
+use Prim.Native.Nat.{ℕ, _+_, _*_}
 
 -- Rule 1.2: of a coarse mesh.
 abbrev pub mostCoarseCorners : ℕ
@@ -21,17 +21,21 @@ mostCorners = 16384
 abbrev pub mostLevels : ℕ
 mostLevels = 11
 
+-- Rule 3.4: the highest of them.
+abbrev pub topLevel : ℕ
+topLevel = 10
+
 -- Rule 15.1: parts of a split.
 abbrev pub mostParts : ℕ
 mostParts = 16
 
 -- Rule 15.5: edges of a table, those of each level by themselves; six a cell.
 abbrev pub mostSlots : ℕ
-mostSlots = 24576
+mostSlots = 6 * mostCells
 
 -- Rule 15.10: stands for every number of cells above the limit.
 abbrev pub tooMany : ℕ
-tooMany = 4097
+tooMany = mostCells + 1
 
 -- Rule 10.5: of an archive, in bytes.
 abbrev pub mostBytes : ℕ
@@ -40,16 +44,28 @@ mostBytes = 65536
 -- Full lengths of lent tables (rule 9.1).
 -- Rule 9.2: eight numbers a cell.
 abbrev pub fullRows : ℕ
-fullRows = 32768
+fullRows = 8 * mostCells
 
 -- Rule 9.3: two ends a corner.
 abbrev pub fullEnds : ℕ
-fullEnds = 32768
+fullEnds = 2 * mostCorners
 
 -- Rule 9.4: three sums a corner.
 abbrev pub fullSums : ℕ
-fullSums = 49152
+fullSums = 3 * mostCorners
 
 -- Rule 9.5: four counts a level.
 abbrev pub fullCounts : ℕ
-fullCounts = 44
+fullCounts = 4 * mostLevels
+
+-- Rule 9.7: three coordinates a coarse corner.
+abbrev pub fullPositions : ℕ
+fullPositions = 3 * mostCoarseCorners
+
+-- Rule 9.7: four corners a coarse cell.
+abbrev pub fullCoarse : ℕ
+fullCoarse = 4 * mostCoarseCells
+
+-- Rule 9.7: marks of a job; no archive has more, as each takes four bytes.
+abbrev pub mostMarks : ℕ
+mostMarks = 16384

@@ -1,5 +1,7 @@
 // The refusals 1 to 5 of a coarse mesh (docs/METHOD.md, section 1).
 use base::Answer;
+use base::MOST_COARSE_CELLS;
+use base::MOST_COARSE_CORNERS;
 ghost use mathlib.Core.Path.{_≡_};
 ghost use mathlib.Core.Bool.{not};
 ghost use mathlib.Core.List.{[]};
@@ -45,14 +47,14 @@ fn counts_ok(positions: &[i32], cells: &[u16]) -> bool
     if cornersOfCell < 4 {
         return false;
     }
-    if cornersOfCell > 512 {
+    if cornersOfCell > MOST_COARSE_CORNERS {
         return false;
     }
     let count = cells.len() / 4;
     if count < 1 {
         return false;
     }
-    count <= 256
+    count <= MOST_COARSE_CELLS
 }
 
 // Whether a number of a position lies within its bounds.

@@ -13,6 +13,7 @@ use lib.Dec.{T, eqb, leb, leb→le}
 use lib.ListN.{length, getD, drop}
 use borrow.Author.Tests.{eq-eqb, ne-eqb}
 use Rattle.base.specs.Bools.{one-if, one-most}
+use Rattle.base.specs.Limits.{mostCells}
 use Rattle.base.specs.Lists.{belowb, belowb-at}
 use Rattle.mesh.specs.Cells.{edge, edges, heldb, bitsOf}
 use Rattle.mesh.specs.Layout.{edgeNumbers}
@@ -23,6 +24,7 @@ use Rattle.store.specs.declared.Place.{Place}
 use Rattle.store.specs.Places.{childPlace}
 use Rattle.store.specs.Written.{WroteAt}
 use Rattle.columns.specs.Ten.{outerb, innerBy, placeBy, familyBy, tenOf, FirstKids, Sources, Filled, ParentPlaced}
+use Rattle.columns.specs.Ten.{digitsColumn, headColumn, moreColumn}
 
 module _ (t cols : List ℕ) (c : ℕ) where
   pub place-coarse : levelIn t c ≡ 0 → _≡_ {A = Place} (record { head = c; digits = 0; more = 0 }) (placeBy t (levelIn t c) c)
@@ -31,9 +33,9 @@ module _ (t cols : List ℕ) (c : ℕ) where
 
   pub place-child : ParentPlaced t cols c → 0 < levelIn t c → (r : Place)
       → r ≡ childPlace (record {
-        head = getD cols (24576 + parentIn t c) 0;
-        digits = getD cols (28672 + parentIn t c) 0;
-        more = getD cols (32768 + parentIn t c) 0;
+        head = getD cols (headColumn + parentIn t c) 0;
+        digits = getD cols (digitsColumn + parentIn t c) 0;
+        more = getD cols (moreColumn + parentIn t c) 0;
       }) (getD t (8 * c + 2) 0)
       → r ≡ placeBy t (levelIn t c) c
   unfolding placeBy
@@ -118,13 +120,13 @@ module _ (t ss ks os : List ℕ) where
   pub filled-none : (cols : List ℕ) → Filled t ss ks os 0 cols
   filled-none cols = record { at = λ d j h g. absurd (omega arith) }
 
-  pub filled-more : (c : ℕ) (cols l cols′ : List ℕ) → c < 4096 → Filled t ss ks os c cols → l ≡ tenOf t ss ks os c
-      → WroteAt (λ j. 4096 * j + c) (λ j. getD l j 0) 10 cols cols′ → Filled t ss ks os (suc c) cols′
+  pub filled-more : (c : ℕ) (cols l cols′ : List ℕ) → c < mostCells → Filled t ss ks os c cols → l ≡ tenOf t ss ks os c
+      → WroteAt (λ j. mostCells * j + c) (λ j. getD l j 0) 10 cols cols′ → Filled t ss ks os (suc c) cols′
   filled-more c cols l cols′ low f e w =
       record {
         at = λ d j h g.
             ⊎-elim (λ (q : d ≡ c). rw (q, ← e) (w .here j g))
-            (λ (q : d < c). w .other (4096 * j + d) (λ i k z. absurd (omega (arith, z))) ∙ f .at d j q g)
+            (λ (q : d < c). w .other (mostCells * j + d) (λ i k z. absurd (omega (arith, z))) ∙ f .at d j q g)
             (eq-or-lt-of-le (omega arith));
       }
 
@@ -135,7 +137,8 @@ module _ (t ss ks os : List ℕ) where
         below = λ u. r .up c h u .0;
         is = λ u.
             let b = r .up c h u .0 in
-            same (getD cols (24576 + parentIn t c) 0) (getD cols (28672 + parentIn t c) 0) (getD cols (32768 + parentIn t c) 0)
+            same (getD cols (headColumn + parentIn t c) 0) (getD cols (digitsColumn + parentIn t c) 0)
+            (getD cols (moreColumn + parentIn t c) 0)
             (placeBy t (levelIn t (parentIn t c)) (parentIn t c)) (f .at (parentIn t c) 6 b (omega arith)) (f .at (parentIn t c) 7 b
             (omega arith))
             (f .at (parentIn t c) 8 b (omega arith));

@@ -15,12 +15,14 @@ use mathlib.Core.List.{List, [], _∷_, map}
 use Prim.Native.Nat.{ℕ, zero, suc, _+_, _-_, _*_, _≤_, _<_}
 use lib.Dec.{eqb, leb, ltb}
 use lib.ListN.{length, getD}
+use Rattle.base.specs.Limits.{mostCells}
 use Rattle.base.specs.Lists.{allb}
 use Rattle.base.specs.Range.{range}
 use Rattle.mesh.specs.Cells.{edge, edges, heldb, bitsOf}
 use Rattle.mesh.specs.Layout.{edgeNumbers}
 use Rattle.rows.specs.Numbered.{cellAt}
 use Rattle.ancestors.specs.Climb.{levelIn, parentIn}
+use Rattle.store.specs.Fields.{DIGITS, HEAD, MORE, OWNER}
 use Rattle.store.specs.declared.Place.{Place}
 use Rattle.store.specs.Places.{coarsePlace, childPlace}
 
@@ -60,28 +62,37 @@ ownersBy ss ks P os =
     && allb (λ c. allb (λ d. eqb (getD os d 0) (familyBy ks os c)) (range (getD ks c 0) (getD ks (suc c) 0 - getD ks c 0)))
     (range 0 (length ss))
 
+-- where the columns of places begin, as in a store
+abbrev pub headColumn : ℕ
+headColumn = HEAD - OWNER
+
+abbrev pub digitsColumn : ℕ
+digitsColumn = DIGITS - OWNER
+
+abbrev pub moreColumn : ℕ
+moreColumn = MORE - OWNER
+
 pub record FirstKids (ks : List ℕ) (m : ℕ) : Type 0 where
   pub long : m < length ks
   pub top : (c : ℕ) → c ≤ m → getD ks c 0 ≤ m
 
 pub record Sources (t ss ks os : List ℕ) : Type 0 where
-  pub few : length ss ≤ 4096
+  pub few : length ss ≤ mostCells
   pub rows : 8 * length ss ≤ length t
   pub kids : FirstKids ks (length ss)
   pub owners : length os ≡ length ss
   pub up : (c : ℕ) → c < length ss → 0 < levelIn t c → (parentIn t c < c) × (levelIn t c ≡ suc (levelIn t (parentIn t c)))
 
 pub record Filled (t ss ks os : List ℕ) (c : ℕ) (cols : List ℕ) : Type 0 where
-  pub at : (d j : ℕ) → d < c → j < 10 → getD cols (4096 * j + d) 0 ≡ getD (tenOf t ss ks os d) j 0
+  pub at : (d j : ℕ) → d < c → j < 10 → getD cols (mostCells * j + d) 0 ≡ getD (tenOf t ss ks os d) j 0
 
 pub record ParentPlaced (t cols : List ℕ) (c : ℕ) : Type 0 where
   pub below : 0 < levelIn t c → parentIn t c < c
   pub is : 0 < levelIn t c → _≡_ {A = Place}
       (record {
-        head = getD cols (24576 + parentIn t c) 0;
-        digits = getD cols (28672 + parentIn t c) 0;
-        more = getD cols (32768 +
-            parentIn t c) 0;
+        head = getD cols (headColumn + parentIn t c) 0;
+        digits = getD cols (digitsColumn + parentIn t c) 0;
+        more = getD cols (moreColumn + parentIn t c) 0;
       })
       (placeBy t (levelIn t (parentIn t c)) (parentIn t c))
   pub level : 0 < levelIn t c → levelIn t c ≡ suc (levelIn t (parentIn t c))

@@ -1,5 +1,10 @@
 // What the parts' stores say of each cell of a laid out table, ten numbers a cell, and whether owners fit the table.
+use base::MOST_CELLS;
 use rows::Ends;
+use store::DIGITS;
+use store::HEAD;
+use store::MORE;
+use store::OWNER;
 use store::Place;
 ghost use mathlib.Core.Path.{_≡_};
 ghost use mathlib.Core.Bool.{_&&_, true};
@@ -8,9 +13,11 @@ ghost use lib.Dec.{eqb, leb};
 ghost use lib.ListN.{length, getD};
 ghost use Rattle.base.specs.Bools.{one-if};
 ghost use Rattle.base.specs.Lent.{was, is};
+ghost use Rattle.base.specs.Limits.{mostCells};
 ghost use Rattle.base.specs.Lists.{allb};
 ghost use Rattle.base.specs.Range.{range};
 ghost use Rattle.ancestors.specs.Climb.{levelIn, parentIn};
+ghost use Rattle.store.specs.Fields.{columnsLength};
 ghost use Rattle.store.specs.Written.{WroteAt};
 ghost use Rattle.columns.specs.Ten.{outerb, innerBy, familyBy, placeBy, tenOf, ownersBy, FirstKids, Sources, Filled, ParentPlaced};
 
@@ -118,9 +125,16 @@ fn inner_of(rows: &[u16], c: usize) -> u16
     bits
 }
 
+// Where the columns of places begin, as in a store.
+const HEAD_COLUMN: usize = HEAD - OWNER;
+
+const DIGITS_COLUMN: usize = DIGITS - OWNER;
+
+const MORE_COLUMN: usize = MORE - OWNER;
+
 // The place of a cell, where the columns have those of the cells before it.
 fn place_of(rows: &[u16], cols: &[u16], c: usize) -> Place
-    requires { ⌜ (8 * c + 8 ≤ length (now rows)) × (c < 4096) × (length (now cols) ≡ 40960) ⌝ }
+    requires { ⌜ (8 * c + 8 ≤ length (now rows)) × (c < mostCells) × (length (now cols) ≡ columnsLength) ⌝ }
     requires { ⌜ ParentPlaced (now rows) (now cols) c ⌝ }
     ensures { λ r. ⌜ r ≡ placeBy (was rows) (levelIn (was rows) c) c ⌝ }
 {
@@ -133,9 +147,9 @@ fn place_of(rows: &[u16], cols: &[u16], c: usize) -> Place
     }
     let g = rows[8 * c + 1] as usize;
     let p = Place {
-        head: cols[24576 + g],
-        digits: cols[28672 + g],
-        more: cols[32768 + g],
+        head: cols[HEAD_COLUMN + g],
+        digits: cols[DIGITS_COLUMN + g],
+        more: cols[MORE_COLUMN + g],
     };
     store::child_place(p, rows[8 * c + 2])
 }
@@ -150,7 +164,7 @@ fn ten_of(
     c: usize,
 ) -> [u16; 10]
     requires { ⌜ Sources (now rows) (now status) (now kids) (now owners) ⌝ }
-    requires { ⌜ (c < length (now status)) × (length (now cols) ≡ 40960) ⌝ }
+    requires { ⌜ (c < length (now status)) × (length (now cols) ≡ columnsLength) ⌝ }
     requires { ⌜ Filled (now rows) (now status) (now kids) (now owners) c (now cols) ⌝ }
     ensures { λ r. ⌜ r ≡ tenOf (was rows) (was status) (was kids) (was owners) c ⌝ }
 {
@@ -173,12 +187,12 @@ fn ten_of(
 
 // Writes the ten numbers of a cell, one into each column.
 fn put_ten(cols: &mut [u16], c: usize, ten: &[u16; 10])
-    requires { ⌜ (length (now cols) ≡ 40960) × (c < 4096) ⌝ }
-    ensures { λ r. ⌜ WroteAt (λ j. 4096 * j + c) (λ j. getD (was ten) j 0) 10 (was cols) (is cols) ⌝ }
+    requires { ⌜ (length (now cols) ≡ columnsLength) × (c < mostCells) ⌝ }
+    ensures { λ r. ⌜ WroteAt (λ j. mostCells * j + c) (λ j. getD (was ten) j 0) 10 (was cols) (is cols) ⌝ }
 {
     let mut j = 0;
     while j < 10 {
-        cols[4096 * j + c] = ten[j];
+        cols[MOST_CELLS * j + c] = ten[j];
         j += 1;
     }
 }
@@ -186,7 +200,7 @@ fn put_ten(cols: &mut [u16], c: usize, ten: &[u16; 10])
 // Writes the ten columns of a table: 4,096 places each, one for each cell.
 pub fn fill(rows: &[u16], status: &[u8], kids: &[u16], owners: &[u8], cols: &mut [u16])
     requires { ⌜ Sources (now rows) (now status) (now kids) (now owners) ⌝ }
-    requires { ⌜ length (now cols) ≡ 40960 ⌝ }
+    requires { ⌜ length (now cols) ≡ columnsLength ⌝ }
     ensures { λ r. ⌜ Filled (was rows) (was status) (was kids) (was owners) (length (was status)) (is cols) ⌝ }
 {
     let mut c = 0;

@@ -7,6 +7,7 @@ ghost use lib.ListN.{length, take, drop};
 ghost use lib.Seq.{sets};
 ghost use lib.IntN.{pos, _+ℤ_, _*ℤ_};
 ghost use Rattle.base.specs.Lent.{was, is};
+ghost use Rattle.base.specs.Limits.{mostCorners};
 ghost use Rattle.mesh.specs.Coarse.{coordinateAt};
 ghost use Rattle.corners.specs.Ends.{Ends, coarseEnds, addEnds, endNumbers};
 ghost use Rattle.corners.specs.Sums.{SmallSum, Smalls, SumHeld, half, coarseSums, midSums, addSums, sumNumbers};
@@ -22,7 +23,7 @@ fn put_ends(ends: &mut [u16], at: usize, low: u16, high: u16)
 
 // A coarse corner is both its ends.
 fn coarse_ends(n: usize, ends: &mut [u16])
-    requires { ⌜ n ≤ 16384 ⌝ }
+    requires { ⌜ n ≤ mostCorners ⌝ }
     requires { ⌜ 2 * n ≤ length (now ends) ⌝ }
     ensures { λ r. ⌜ is ends ≡ coarseEnds n ++ drop (2 * n) (was ends) ⌝ }
 {
@@ -34,7 +35,7 @@ fn coarse_ends(n: usize, ends: &mut [u16])
 // The ends of the new corners, behind those of the coarse ones.
 fn new_ends(xs: &[u32], ys: &[u32], n: usize, m: usize, ends: &mut [u16])
     requires { ⌜ Ends n (now xs) (now ys) m ⌝ }
-    requires { ⌜ n + m ≤ 16384 ⌝ }
+    requires { ⌜ n + m ≤ mostCorners ⌝ }
     requires { ⌜ 2 * (n + m) ≤ length (now ends) ⌝ }
     ensures { λ r. ⌜ is ends
         ≡ addEnds (take (2 * n) (was ends)) (was xs) (was ys) m
@@ -48,7 +49,7 @@ fn new_ends(xs: &[u32], ys: &[u32], n: usize, m: usize, ends: &mut [u16])
 // Two numbers a corner: the numbers of its ends.
 pub fn fill_ends(xs: &[u32], ys: &[u32], n: usize, m: usize, ends: &mut [u16])
     requires { ⌜ Ends n (now xs) (now ys) m ⌝ }
-    requires { ⌜ n + m ≤ 16384 ⌝ }
+    requires { ⌜ n + m ≤ mostCorners ⌝ }
     requires { ⌜ 2 * (n + m) ≤ length (now ends) ⌝ }
     ensures { λ r. ⌜ is ends
         ≡ endNumbers n (was xs) (was ys) m ++ drop (2 * (n + m)) (was ends) ⌝ }

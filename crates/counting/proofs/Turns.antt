@@ -8,6 +8,7 @@ use native.Mathlib.Nat.{eq-or-lt-of-le}
 use native.Mathlib.Omega.{arith}
 use lib.ListN.{length, take, drop, length-append, take-append-drop}
 use lib.Seq.{sets, sets-eq, length-sets, length-take-le, take-at, drop-at, drop-drop}
+use Rattle.base.specs.Limits.{fullCounts}
 use Rattle.counting.specs.Levels.{Levels, nextEnd, countsAt, levelCounts, levelNumber, levelEnd, counts-more, counts-none}
 use Rattle.counting.specs.Levels.{number-more, number-none, end-more, end-none, next-after}
 
@@ -70,7 +71,7 @@ module _ {ss : List ℕ} {coarse : ℕ} {before : List ℕ} (g : Levels ss coars
         let w : levelEnd (suc (11 - level)) first last ss ≡ length ss = rw k at (a .ends) ∙ g .whole in
         omega (arith, last-below (11 - level) first last ss (a .rising), w)
 
-  module _ (room : 44 ≤ length before) {level first last : ℕ} {counts : List ℕ} (a : At ss coarse before level first last counts)
+  module _ (room : fullCounts ≤ length before) {level first last : ℕ} {counts : List ℕ} (a : At ss coarse before level first last counts)
       (h : first < last) where
     fuel : 12 - level ≡ suc (12 - (level + 1))
     fuel = omega (arith, few-levels a)

@@ -15,6 +15,7 @@ use native.Mathlib.Omega.{arith}
 use lib.Dec.{eqb, leb, ltb}
 use lib.ListN.{length}
 use borrow.Author.Tests.{lt-ltb, le-ltb}
+use Rattle.base.specs.Limits.{mostCells, mostLevels}
 use Rattle.base.specs.Lists.{allb}
 use Rattle.mesh.specs.Cells.{redb}
 use Rattle.mesh.specs.Counts.{countIf, greenb}
@@ -60,8 +61,8 @@ tallyNumbers t = t .cells ∷ t .red ∷ t .green ∷ t .leaf ∷ []
 -- Rules 3.4, 4.1, 6.1: statuses within the limits, one for each cell.
 pub record Levels (ss : List ℕ) (coarse : ℕ) : Type 0 where
   pub statuses : allb (λ s. leb s 64) ss ≡ true
-  pub small : length ss ≤ 4096
-  pub few : levelNumber 12 0 coarse ss ≤ 11
+  pub small : length ss ≤ mostCells
+  pub few : levelNumber 12 0 coarse ss ≤ mostLevels
   pub whole : levelEnd 12 0 coarse ss ≡ length ss
 
 -- a level with cells, and the end

@@ -9,6 +9,7 @@ use native.Mathlib.Omega.{arith}
 use lib.Dec.{T, eqb, leb, eqb→eq, leb→le}
 use lib.ListN.{length, take, drop, length-append, length-drop, take-append-drop}
 use borrow.Author.Tests.{le-leb}
+use Rattle.base.specs.Limits.{mostCells, mostLevels}
 use Rattle.base.specs.Lists.{allb, sameb}
 use Rattle.base.specs.Bools.{and-left, and-right}
 use Rattle.mesh.specs.Cells.{Cell, redb, pattern, statusOf, redEdges, closedFrom}
@@ -89,10 +90,11 @@ sound-counted n qs ss t =
     let ls = levelsOf n qs ss in
     let cs = cellsOf ls in
     let m = length cs in
-    let (a, b, c, d) = parts (eqb (length ss) m) (leb (length ls) 11) (leb m 4096) (allb closedb ls) (apartb cs ss) (rw t tt) in
+    let (a, b, c, d) = parts (eqb (length ss) m) (leb (length ls) mostLevels) (leb m mostCells) (allb closedb ls) (apartb cs ss)
+    (rw t tt) in
     let e : length ss ≡ m = eqb→eq (length ss) m a in
-    let few : length ls ≤ 11 = leb→le (length ls) 11 b in
-    let small : m ≤ 4096 = leb→le m 4096 c in
+    let few : length ls ≤ mostLevels = leb→le (length ls) mostLevels b in
+    let small : m ≤ mostCells = leb→le m mostCells c in
     record {
       statuses = levels-fit 12 0 (coarseCells n qs) ss d (sym e);
       small = omega arith;

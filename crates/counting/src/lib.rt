@@ -6,6 +6,7 @@ ghost use lib.ListN.{length, drop};
 ghost use lib.Seq.{sets};
 ghost use Rattle.base.specs.Bools.{one-if};
 ghost use Rattle.base.specs.Lent.{was, is};
+ghost use Rattle.base.specs.Limits.{fullCounts, mostCells};
 ghost use Rattle.mesh.specs.Counts.{greenb};
 ghost use Rattle.counting.specs.Levels.{Levels, countsAt, levelCounts, levelNumber, tallyNumbers};
 
@@ -34,7 +35,7 @@ fn is_green(status: u8) -> bool
 
 // The counts of the cells from first to last.
 fn count_range(status: &[u8], first: usize, last: usize) -> Tally
-    requires { ⌜ (first ≤ last) × (last ≤ length (now status)) × (length (now status) ≤ 4096) ⌝ }
+    requires { ⌜ (first ≤ last) × (last ≤ length (now status)) × (length (now status) ≤ mostCells) ⌝ }
     ensures { λ r. ⌜ tallyNumbers r ≡ countsAt first last (was status) ⌝ }
 {
     let mut red: u16 = 0;
@@ -70,7 +71,7 @@ fn put_tally(counts: &mut [u16], at: usize, t: Tally)
 // Writes four numbers a level from the front, and answers the number of levels.
 pub fn count_levels(status: &[u8], coarse: usize, counts: &mut [u16]) -> usize
     requires { ⌜ Levels (now status) coarse ⌝ }
-    requires { ⌜ 44 ≤ length (now counts) ⌝ }
+    requires { ⌜ fullCounts ≤ length (now counts) ⌝ }
     ensures { λ r. ⌜ r ≡ levelNumber 12 0 coarse (was status) ⌝ }
     ensures { λ r. ⌜ is counts
         ≡ levelCounts 12 0 coarse (was status) ++ drop (4 * r) (was counts) ⌝ }

@@ -2,6 +2,7 @@
 -- go both ways. What a family, a step, a corner number and a sum are is said in specs/ of `cutting` (`Rule`) and `mesh`.
 --   FaceToFace ps ts ss   no leaf edge has a corner in its middle, and each leaf face is in two leaves, or in one and on the coarse
 --                         boundary (`conformity` `Leaves`)
+--   TakesTable, TakesArchive   see `Takes`
 --   Exactly, sumsAfter    see `Positions`; ReadAgain, WrittenAgain: `jobs` `Round`; Starred: `cases`; StarredAccepted: `Accepting`
 use mathlib.Core.Path.{_≡_}
 use mathlib.Core.Logic.{_≢_}
@@ -38,6 +39,7 @@ use Rattle.jobs.specs.Round.{ReadAgain, WrittenAgain, write-read, read-write}
 use Rattle.demands.specs.Ties.{corners4, riseOver, child-no-tie}
 use Rattle.demands.specs.Again.{step-again, job-again, archive-again}
 use Rattle.demands.specs.Positions.{Exactly, sumsAfter, position-exact}
+use Rattle.demands.specs.Takes.{TakesTable, TakesArchive, takes-table, takes-archive}
 use Rattle.demands.specs.Accepting.{StarredAccepted, starred-accepted}
 
 -- Rules 13.1, 13.2.
@@ -60,6 +62,9 @@ pub record Demand2 : Type 0 where
   pub job-again : (j : Job) → jobAnswer j ≡ Accepted → tableAnswer (j .positions) (j .cells) (jobTable j) ≡ Accepted
   pub archive-again : (bs : List ℕ) → archiveAnswer bs ≡ Accepted
       → tableAnswer (jobOf bs .positions) (jobOf bs .cells) (jobTable (jobOf bs)) ≡ Accepted
+  -- and whatever table or archive is accepted, every call takes it
+  pub takes-table : (ps : List ℤ) (ts ss : List ℕ) → tableAnswer ps ts ss ≡ Accepted → TakesTable ps ts ss
+  pub takes-archive : (bs : List ℕ) → archiveAnswer bs ≡ Accepted → TakesArchive bs
   -- corner numbers (Rule 5.5): the rows of the cells and the ends of the corners that laying out leaves
   pub rows : (ps : List ℤ) (ts ss table ends : List ℕ) (sums : List ℤ) → layoutAnswer ps ts ss table ends sums ≡ Accepted
       → heldAfter (layoutAnswer ps ts ss table ends sums) (cellTable (cornersIn ps ts ss) (cellsIn ps ts ss)) table
@@ -98,6 +103,8 @@ demand2 =
       step-again = step-again;
       job-again = job-again;
       archive-again = archive-again;
+      takes-table = takes-table;
+      takes-archive = takes-archive;
       rows = λ ps ts ss table ends sums e. rw e;
       ends = λ ps ts ss table ends sums e. rw e;
       positions = position-exact;

@@ -4,8 +4,10 @@ pub mod Answered
 pub mod Ties
 pub mod Again
 pub mod Positions
+pub mod Takes
 pub mod Accepting
 pub mod PartCalls
 pub mod Demand1
 pub mod Demand2
 pub mod Demand3
+pub mod Demand3Proof

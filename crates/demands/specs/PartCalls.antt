@@ -20,7 +20,6 @@ use Rattle.base.specs.Refuse.{refuse, andThen}
 use Rattle.base.specs.declared.Answer.{Answer}
 use Rattle.base.specs.declared.Answer.the-variants.{Accepted, Refused}
 use Rattle.mesh.specs.Coarse.{cornerCount}
-use Rattle.mesh.specs.Answers.{tableAnswer}
 use Rattle.parts.specs.Owners.{ownersb}
 use Rattle.exchange.specs.Calls.{Fetch}
 use Rattle.store.specs.Fields.{field, full, STAGE, CELLS, ROUND, RESULT}
@@ -38,7 +37,7 @@ use Rattle.split.specs.Split.{storesAfter, splitAnswer, splitIn, splitAfter}
 use Rattle.merge.specs.Merge.{mergeb, mergeAnswer}
 use Rattle.outcome.specs.Program.{gives, nine, act}
 use Rattle.outcome.specs.Machines.{take-sets, given-short}
-use Rattle.agreement.specs.Terms.{saysOf}
+use Rattle.held.specs.Says.{saysOf}
 use Rattle.demands.specs.Order.{Test, firstOf, first-then, Answered, answered-by}
 use Rattle.demands.specs.Tests.{tableTests}
 use Rattle.demands.specs.Answered.{table-first}
@@ -114,8 +113,8 @@ pub record PartCalls : Type 1 where
 split-first : (ps : List ℤ) (ts ss : List ℕ) (P : ℕ) (os b : List ℕ) → splitAnswer ps ts ss P os b ≡ firstOf (splitTests ps ts ss P os b)
 unfolding splitAnswer firstOf
 split-first ps ts ss P os b =
-    let last : List Test = (10, leb 1 P && leb P 16) ∷ (11, ownersb (cornerCount ps) (fours ts) ss P os) ∷ [] in
-    ap (refuse 15 (leb (16 * full) (length b)))
+    let last : List Test = (10, leb 1 P && leb P mostParts) ∷ (11, ownersb (cornerCount ps) (fours ts) ss P os) ∷ [] in
+    ap (refuse 15 (leb (mostParts * full) (length b)))
     (ap (λ a. andThen a (firstOf last)) (table-first ps ts ss) ∙ sym (first-then (tableTests ps ts ss) last))
 
 -- fetching, by its refusal's number
@@ -123,7 +122,7 @@ module _ (x out : List ℕ) where
   fetched-by : fetchedAs (fetchAnswer x out)
       ≡ elim (eqb (fetchRefusal x out) 0) [ true ↦ Accepted | false ↦ Refused (fetchRefusal x out) ]
   unfolding fetchAnswer foundOf fetchedAs
-  fetched-by = go (eqb (fetchRefusal x out) 0) (ltb (nextToGive x .bit) 16)
+  fetched-by = go (eqb (fetchRefusal x out) 0) (ltb (nextToGive x .bit) mostParts)
     where
       go : (a b : Bool) → fetchedAs (elim a [
         | true ↦ elim b [ true ↦ fetched.Message (length (given x (nextToGive x))) | false ↦ fetched.Nothing ]
@@ -153,7 +152,7 @@ module _ (x out : List ℕ) where
       go (eqb (fetchRefusal x out) 0) z
     where
       go : (a : Bool) → _≡_ {A = Answer} (elim a [ true ↦ Accepted | false ↦ Refused (fetchRefusal x out) ]) (Refused k)
-          → (a && ltb (nextToGive x .bit) 16) ≡ false
+          → (a && ltb (nextToGive x .bit) mostParts) ≡ false
       go true f = let c : _≡_ {A = ℕ} 0 1 = cc in absurd (omega arith)
       go false f = refl
 
@@ -176,7 +175,7 @@ module _ (x out : List ℕ) where
   fetch-lent : 9 ≤ length out → gives (fetchAnswer x out) (fetchBytes x out) (fetchAfter x out) ≡ act Fetch x
   unfolding act gives fetchAnswer fetchBytes fetchAfter givesb foundOf
   fetch-lent h =
-      subst (λ (r : ℕ). by r out ≡ act Fetch x) (sym (lent-same h)) (go (eqb (fetchRefusal x nine) 0) (ltb (nextToGive x .bit) 16))
+      subst (λ (r : ℕ). by r out ≡ act Fetch x) (sym (lent-same h)) (go (eqb (fetchRefusal x nine) 0) (ltb (nextToGive x .bit) mostParts))
     where
       found : Bool → Bool → ℕ → Fetched
       found u v r = elim u [
@@ -189,7 +188,7 @@ module _ (x out : List ℕ) where
           (elim (u && v) [ true ↦ passedBy x (nextToGive x) | false ↦ x ])
 
       by : ℕ → List ℕ → Option (List ℕ × List (List ℕ))
-      by r l = from (eqb r 0) (ltb (nextToGive x .bit) 16) r l
+      by r l = from (eqb r 0) (ltb (nextToGive x .bit) mostParts) r l
 
       go : (u v : Bool) → from u v (fetchRefusal x nine) out ≡ from u v (fetchRefusal x nine) nine
       go true true =

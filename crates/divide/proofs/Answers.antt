@@ -13,6 +13,7 @@ use lib.ListN.{length, take}
 use borrow.Author.Tests.{le-leb, lt-leb}
 use Rattle.base.specs.Bools.{is-true, not-both}
 use Rattle.base.specs.Fours.{fours, length-fours}
+use Rattle.base.specs.Limits.{mostCells, mostParts, mostCoarseCells}
 use Rattle.base.specs.Lists.{allb}
 use Rattle.base.specs.Refuse.{refuse, andThen, answerOf, answer-refused, answer-none}
 use Rattle.base.specs.declared.Answer.{Answer}
@@ -51,43 +52,45 @@ module _ (ps : List ℤ) (ts ss : List ℕ) (P : ℕ) (os b : List ℕ) where
   told : Bool → Answer → Bool → Bool → Bool → Answer
   told room table low high own = refuse 15 room (andThen table (refuse 10 (low && high) (refuse 11 own Accepted)))
 
-  is-told : splitAnswer ps ts ss P os b ≡ told (leb (16 * full) (length b)) (tableAnswer ps ts ss) (leb 1 P) (leb P 16) owned
+  is-told : splitAnswer ps ts ss P os b ≡ told (leb (mostParts * full) (length b)) (tableAnswer ps ts ss) (leb 1 P) (leb P mostParts) owned
   unfolding splitAnswer told
   is-told = refl
 
-  pub split-short : length b < 16 * full → Split (Refused 15) b
+  pub split-short : length b < mostParts * full → Split (Refused 15) b
   unfolding told refuse
-  split-short h = refused 15 (is-told ∙ ap (λ (x : Bool). told x (tableAnswer ps ts ss) (leb 1 P) (leb P 16) owned) (lt-leb (16 * full)
+  split-short h = refused 15 (is-told ∙ ap (λ (x : Bool). told x (tableAnswer ps ts ss) (leb 1 P) (leb P mostParts) owned)
+      (lt-leb (mostParts * full)
       (length b) h))
 
-  module _ (room : 16 * full ≤ length b) where
-    here : splitAnswer ps ts ss P os b ≡ told true (tableAnswer ps ts ss) (leb 1 P) (leb P 16) owned
-    here = is-told ∙ ap (λ (x : Bool). told x (tableAnswer ps ts ss) (leb 1 P) (leb P 16) owned) (le-leb (16 * full) (length b) room)
+  module _ (room : mostParts * full ≤ length b) where
+    here : splitAnswer ps ts ss P os b ≡ told true (tableAnswer ps ts ss) (leb 1 P) (leb P mostParts) owned
+    here = is-told ∙ ap (λ (x : Bool). told x (tableAnswer ps ts ss) (leb 1 P) (leb P mostParts) owned)
+        (le-leb (mostParts * full) (length b) room)
 
     pub split-table : (k : ℕ) → tableAnswer ps ts ss ≡ answerOf k → (k ≡ 0 → ⊥) → Split (Refused k) b
     unfolding told refuse andThen
     split-table k e n =
-        refused k (here ∙ ap (λ (x : Answer). told true x (leb 1 P) (leb P 16) owned) (e ∙ answer-refused k n))
+        refused k (here ∙ ap (λ (x : Answer). told true x (leb 1 P) (leb P mostParts) owned) (e ∙ answer-refused k n))
 
     module _ (k : ℕ) (e : tableAnswer ps ts ss ≡ answerOf k) (z : k ≡ 0) where
-      next : splitAnswer ps ts ss P os b ≡ told true Accepted (leb 1 P) (leb P 16) owned
-      next = here ∙ ap (λ (x : Answer). told true x (leb 1 P) (leb P 16) owned) (e ∙ answer-none k z)
+      next : splitAnswer ps ts ss P os b ≡ told true Accepted (leb 1 P) (leb P mostParts) owned
+      next = here ∙ ap (λ (x : Answer). told true x (leb 1 P) (leb P mostParts) owned) (e ∙ answer-none k z)
 
       pub split-none : P < 1 → Split (Refused 10) b
       unfolding told refuse andThen
-      split-none h = refused 10 (next ∙ ap (λ (x : Bool). told true Accepted x (leb P 16) owned) (lt-leb 1 P h))
+      split-none h = refused 10 (next ∙ ap (λ (x : Bool). told true Accepted x (leb P mostParts) owned) (lt-leb 1 P h))
 
       module _ (low : 1 ≤ P) where
-        more : splitAnswer ps ts ss P os b ≡ told true Accepted true (leb P 16) owned
-        more = next ∙ ap (λ (x : Bool). told true Accepted x (leb P 16) owned) (le-leb 1 P low)
+        more : splitAnswer ps ts ss P os b ≡ told true Accepted true (leb P mostParts) owned
+        more = next ∙ ap (λ (x : Bool). told true Accepted x (leb P mostParts) owned) (le-leb 1 P low)
 
-        pub split-many : 16 < P → Split (Refused 10) b
+        pub split-many : mostParts < P → Split (Refused 10) b
         unfolding told refuse andThen
-        split-many h = refused 10 (more ∙ ap (λ (x : Bool). told true Accepted true x owned) (lt-leb P 16 h))
+        split-many h = refused 10 (more ∙ ap (λ (x : Bool). told true Accepted true x owned) (lt-leb P mostParts h))
 
-        module _ (high : P ≤ 16) where
+        module _ (high : P ≤ mostParts) where
           last : splitAnswer ps ts ss P os b ≡ told true Accepted true true owned
-          last = more ∙ ap (λ (x : Bool). told true Accepted true x owned) (le-leb P 16 high)
+          last = more ∙ ap (λ (x : Bool). told true Accepted true x owned) (le-leb P mostParts high)
 
           pub split-owners : ownersb (cornerCount ps) (fours ts) ss P os ≡ false → Split (Refused 11) b
           unfolding told refuse andThen
@@ -114,17 +117,17 @@ module _ (ps : List ℤ) (ts ss rows xs ys : List ℕ) (cells levels m : ℕ) (f
   pub statuses-few : allb (λ s. leb s 64) ss ≡ true
   statuses-few = sound-counted n (fours ts) ss (is-true (soundb n (fours ts) ss) (f .table)) .statuses
 
-  pub cells-few : length ss ≤ 4096
+  pub cells-few : length ss ≤ mostCells
   cells-few = sound-counted n (fours ts) ss (is-true (soundb n (fours ts) ss) (f .table)) .small
 
-  pub coarse-small : length ts / 4 ≤ 256
+  pub coarse-small : length ts / 4 ≤ mostCoarseCells
   coarse-small = omega (arith, f .mesh .few)
 
   module _ (ks rest : List ℕ) (made : ks ≡ firstChildren (length ts / 4) ss ++ rest) where
     firsts : take (suc (length ss)) ks ≡ firstChildren (length (fours ts)) ss
     firsts = rw (length-fours ts) (firsts-taken (length ts / 4) ss ks rest made)
 
-    divisible-of : (os : List ℕ) (P : ℕ) (b : List ℕ) → length os ≡ length ss → P ≤ 16 → 16 * full ≤ length b
+    divisible-of : (os : List ℕ) (P : ℕ) (b : List ℕ) → length os ≡ length ss → P ≤ mostParts → mostParts * full ≤ length b
         → Divisible n ts ss rows ks os P levels b
     divisible-of os P b l h r =
         record {
@@ -138,7 +141,7 @@ module _ (ps : List ℤ) (ts ss rows xs ys : List ℕ) (cells levels m : ℕ) (f
           room = r;
         }
 
-    module _ (P : ℕ) (b : List ℕ) (h : P ≤ 16) (r : 16 * full ≤ length b) where
+    module _ (P : ℕ) (b : List ℕ) (h : P ≤ mostParts) (r : mostParts * full ≤ length b) where
       some : Divisible n ts ss rows ks ss P levels b
       some = divisible-of ss P b refl h r
 

@@ -11,8 +11,9 @@ use native.Mathlib.Omega.{arith}
 use lib.ListN.{length, getD, take, drop, set, length-set, length-append}
 use lib.Seq.{getD-set-same, getD-set-other, take-at, drop-at, drop-drop}
 use borrow.Rule.Slice.PartMut.{putMid}
+use Rattle.base.specs.Limits.{fullCoarse, mostCells, mostLevels, mostParts, mostSlots}
 use Rattle.base.specs.Range.{range, range-snoc}
-use Rattle.store.specs.Fields.{full, CODE}
+use Rattle.store.specs.Fields.{full, FRONT, columnsLength, firstsLength, flagsLength, freeLength}
 use Rattle.store.specs.Stores.{storeIn, rest-size}
 use Rattle.slots.specs.Slots.{Rising}
 use Rattle.filling.specs.Regions.{putBy, columnBy, cornerBy, slotBy, holderBy, regions}
@@ -20,10 +21,10 @@ use Rattle.filling.specs.Laws.{tab-length, zero-length, header-size, between}
 use Rattle.divide.specs.Divided.{firstBy, Leveled, FirstCells, storeWith, storesTo, storePut, masksOf, partBy}
 
 pub record Firsts (ks : List ℕ) (k : ℕ) (fs : List ℕ) : Type 0 where
-  pub size : length fs ≡ 12
+  pub size : length fs ≡ firstsLength
   pub at : (j : ℕ) → j ≤ k → getD fs j 0 ≡ firstBy ks j
 
-pub firsts-start : (ks fs : List ℕ) → length fs ≡ 12 → Firsts ks 0 (set fs 0 0)
+pub firsts-start : (ks fs : List ℕ) → length fs ≡ firstsLength → Firsts ks 0 (set fs 0 0)
 unfolding firstBy
 firsts-start ks fs l =
     record {
@@ -31,7 +32,7 @@ firsts-start ks fs l =
       at = λ j h. let z : j ≡ 0 = omega arith in rw z (getD-set-same fs 0 0 0 (omega arith));
     }
 
-pub firsts-turn : (ks fs : List ℕ) (k : ℕ) → k < 11 → Firsts ks k fs → Firsts ks (suc k) (set fs (suc k) (getD ks (getD fs k 0) 0))
+pub firsts-turn : (ks fs : List ℕ) (k : ℕ) → k < mostLevels → Firsts ks k fs → Firsts ks (suc k) (set fs (suc k) (getD ks (getD fs k 0) 0))
 unfolding firstBy
 firsts-turn ks fs k h f =
     let v = getD ks (getD fs k 0) 0 in
@@ -45,10 +46,10 @@ firsts-turn ks fs k h f =
           (eq-or-lt-of-le g);
     }
 
-pub firsts-done : (ks fs : List ℕ) (k : ℕ) → k ≡ 11 → Firsts ks k fs → FirstCells ks fs
+pub firsts-done : (ks fs : List ℕ) (k : ℕ) → k ≡ mostLevels → Firsts ks k fs → FirstCells ks fs
 firsts-done ks fs k e f = record { size = f .size; at = λ j h. f .at j (omega arith) }
 
-pub rising-of : (ks fs : List ℕ) (m : ℕ) → m ≤ 4096 → Leveled ks m → FirstCells ks fs → Rising fs
+pub rising-of : (ks fs : List ℕ) (m : ℕ) → m ≤ mostCells → Leveled ks m → FirstCells ks fs → Rising fs
 rising-of ks fs m h l f =
     record {
       up = λ k g. rw (f .at k (omega arith), f .at (suc k) (omega arith)) (l .up k g);
@@ -56,20 +57,20 @@ rising-of ks fs m h l f =
     }
 
 -- the length of all regions
-module _ (cols mesh sl ms fs st : List ℕ) (m p P n l : ℕ) (fl : length fs ≡ 12) (sl' : length st ≡ 12) where
-  regions-length : length (regions cols mesh sl ms fs st m p P n l) ≡ CODE
+module _ (cols mesh sl ms fs st : List ℕ) (m p P n l : ℕ) (fl : length fs ≡ firstsLength) (sl' : length st ≡ firstsLength) where
+  regions-length : length (regions cols mesh sl ms fs st m p P n l) ≡ FRONT
   unfolding regions
   regions-length =
       simp length-append (omega (
         arith,
         header-size p P n (length mesh / 4) m l,
-        zero-length 72,
-        tab-length 40960 (columnBy cols m p),
-        zero-length 8192,
-        tab-length 1024 (cornerBy cols mesh p),
-        tab-length 24576 (slotBy cols m p sl),
-        tab-length 24576 (holderBy cols m p sl ms),
-        zero-length 24576,
+        zero-length freeLength,
+        tab-length columnsLength (columnBy cols m p),
+        zero-length flagsLength,
+        tab-length fullCoarse (cornerBy cols mesh p),
+        tab-length mostSlots (slotBy cols m p sl),
+        tab-length mostSlots (holderBy cols m p sl ms),
+        zero-length mostSlots,
       ))
 
 -- store by store
@@ -98,12 +99,12 @@ flat-snoc f j =
     ap (flatMap f) (range-snoc 0 j) ∙ flat-append f (range 0 j) ((0 + j) ∷ [])
     ∙ ap (λ (r : List ℕ). flatMap f (range 0 j) ++ r) (append-nil (f (0 + j)) ∙ ap f y)
 
-module _ (f : ℕ → List ℕ) (sized : (p : ℕ) → length (f p) ≡ CODE) (b : List ℕ) where
+module _ (f : ℕ → List ℕ) (sized : (p : ℕ) → length (f p) ≡ FRONT) (b : List ℕ) where
   store-length : (j : ℕ) → full * j + full ≤ length b → length (storeWith f b j) ≡ full
   unfolding storeWith
   store-length j h =
-      length-append (f (suc j)) (drop CODE (storeIn b j))
-      ∙ ap₂ _+_ (sized (suc j)) (rest-size b j CODE h)
+      length-append (f (suc j)) (drop FRONT (storeIn b j))
+      ∙ ap₂ _+_ (sized (suc j)) (rest-size b j FRONT h)
 
   all-length : (j : ℕ) → full * j ≤ length b → length (flatMap (storeWith f b) (range 0 j)) ≡ full * j
   unfolding flatMap range
@@ -130,7 +131,7 @@ module _ (f : ℕ → List ℕ) (sized : (p : ℕ) → length (f p) ≡ CODE) (b
 
     same-store : storeWith f (storesTo f b j) j ≡ storeWith f b j
     unfolding storeWith storeIn
-    same-store = ap (λ (l : List ℕ). f (suc j) ++ drop CODE (take full l)) dropped
+    same-store = ap (λ (l : List ℕ). f (suc j) ++ drop FRONT (take full l)) dropped
 
     behind : drop (full * j + full) (storesTo f b j) ≡ drop (full * suc j) b
     behind =
@@ -152,27 +153,28 @@ module _ (f : ℕ → List ℕ) (sized : (p : ℕ) → length (f p) ≡ CODE) (b
   more-start = let z : full * 0 ≡ 0 = omega arith in refl
 
 store-part : (cols mesh sl fs st : List ℕ) (m P n l : ℕ) (x : List ℕ) (j : ℕ)
-    → regions cols mesh sl (masksOf cols m sl) fs st m (suc j) P n l ++ drop CODE (storeIn x j)
+    → regions cols mesh sl (masksOf cols m sl) fs st m (suc j) P n l ++ drop FRONT (storeIn x j)
     ≡ storeWith (partBy cols mesh sl fs st m P n l) x j
 unfolding partBy storeWith
 store-part cols mesh sl fs st m P n l x j = refl
 
 -- a store lent to a call
-pub lent-length : (x : List ℕ) (j : ℕ) → j < 16 → 16 * full ≤ length x → length (take (full * j + full - full * j) (drop (full * j) x))
+pub lent-length : (x : List ℕ) (j : ℕ) → j < mostParts → mostParts * full ≤ length x
+    → length (take (full * j + full - full * j) (drop (full * j) x))
     ≡ full
 lent-length x j h l = between x (full * j) full (omega arith)
 
 module _ (cols mesh sl ms fs st : List ℕ) (m P n l : ℕ) (is : ms ≡ masksOf cols m sl) where
   pub lent-back : (x y : List ℕ) (j : ℕ)
-      → y ≡ regions cols mesh sl ms fs st m (j + 1) P n l ++ drop CODE (take (full * j + full - full * j) (drop (full * j) x))
+      → y ≡ regions cols mesh sl ms fs st m (j + 1) P n l ++ drop FRONT (take (full * j + full - full * j) (drop (full * j) x))
       → putMid (full * j) (full * j + full - full * j) x y ≡ storePut (partBy cols mesh sl fs st m P n l) x j
   unfolding storeIn
   lent-back x y j e =
       let z : full * j + full - full * j ≡ full = back (full * j) full in
       let v : j + 1 ≡ suc j = omega arith in
       let q : y ≡ storeWith (partBy cols mesh sl fs st m P n l) x j =
-      e ∙ ap₂ (λ (u : List ℕ) (k : ℕ). regions cols mesh sl u fs st m (j + 1) P n l ++ drop CODE (take k (drop (full * j) x))) is z
-      ∙ ap (λ (k : ℕ). regions cols mesh sl (masksOf cols m sl) fs st m k P n l ++ drop CODE (storeIn x j)) v
+      e ∙ ap₂ (λ (u : List ℕ) (k : ℕ). regions cols mesh sl u fs st m (j + 1) P n l ++ drop FRONT (take k (drop (full * j) x))) is z
+      ∙ ap (λ (k : ℕ). regions cols mesh sl (masksOf cols m sl) fs st m k P n l ++ drop FRONT (storeIn x j)) v
       ∙ store-of x j in
       ap (λ (k : ℕ). putMid (full * j) k x y) z ∙ put-mid (full * j) full x y
       ∙ ap (λ (u : List ℕ). take (full * j) x ++ (u ++ drop (full * j + full) x)) q
@@ -185,14 +187,14 @@ module _ (cols mesh sl ms fs st : List ℕ) (m P n l : ℕ) (is : ms ≡ masksOf
       put-mid a k x y = ap (λ (u : List ℕ). take a x ++ (y ++ u)) (drop-drop k a x)
 
       store-of : (x : List ℕ) (j : ℕ)
-          → regions cols mesh sl (masksOf cols m sl) fs st m (suc j) P n l ++ drop CODE (storeIn x j)
+          → regions cols mesh sl (masksOf cols m sl) fs st m (suc j) P n l ++ drop FRONT (storeIn x j)
           ≡ storeWith (partBy cols mesh sl fs st m P n l) x j
       store-of x j = store-part cols mesh sl fs st m P n l x j
 
-pub part-length : (cols mesh sl fs st : List ℕ) (m P n l : ℕ) → length fs ≡ 12 → length st ≡ 12 → (p : ℕ)
-    → length (partBy cols mesh sl fs st m P n l p) ≡ CODE
+pub part-length : (cols mesh sl fs st : List ℕ) (m P n l : ℕ) → length fs ≡ firstsLength → length st ≡ firstsLength → (p : ℕ)
+    → length (partBy cols mesh sl fs st m P n l p) ≡ FRONT
 unfolding partBy
 part-length cols mesh sl fs st m P n l a b p = regions-length cols mesh sl (masksOf cols m sl) fs st m p P n l a b
 
-pub parts-room : (b : List ℕ) (j : ℕ) → j < 16 → 16 * full ≤ length b → full * j + full ≤ length b
+pub parts-room : (b : List ℕ) (j : ℕ) → j < mostParts → mostParts * full ≤ length b → full * j + full ≤ length b
 parts-room b j h l = omega arith

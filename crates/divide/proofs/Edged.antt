@@ -5,6 +5,7 @@ use mathlib.Core.List.{List, [], _∷_, _++_, map, flatMap}
 use Prim.Native.Nat.{ℕ, zero, suc, _+_, _-_, _*_, _/_, _%_, _≤_, _<_}
 use native.Mathlib.Omega.{arith}
 use lib.ListN.{length, getD}
+use Rattle.base.specs.Limits.{mostLevels, mostSlots}
 use Rattle.mesh.specs.Laws.{below-six}
 use Rattle.base.specs.Places.{placeIn}
 use Rattle.base.specs.Range.{range, member-range}
@@ -13,6 +14,7 @@ use Rattle.edges.specs.Pairs.{Pair, sorted, isb, addPairs}
 use Rattle.rows.specs.Numbered.{cellAt}
 use Rattle.soundness.specs.Sound.{Sound}
 use Rattle.base.specs.Member.{Member}
+use Rattle.store.specs.Fields.{firstsLength}
 use Rattle.splitting.specs.Numbers.{numbersOf}
 use Rattle.split.specs.Columns.{numberedCell, cellLevel, levelAt, cellsBelow, keysAt, slotsBelow, slotOf}
 use Rattle.tasks.specs.Levels.{below-more, below-all, level-gap, level-top}
@@ -66,11 +68,11 @@ flat-same f h k (suc m) e =
     ap₂ _++_ (e k (omega arith) (omega arith)) (flat-same f h (suc k) m (λ c a b. e c (omega arith) (omega arith)))
 
 module _ (n : ℕ) (qs : List (List ℕ)) (ss t ks : List ℕ) (g : Table n qs ss t ks) (fs : List ℕ)
-    (first : (k : ℕ) → k < 12 → getD fs k 0 ≡ cellsBelow n qs ss k) where
+    (first : (k : ℕ) → k < firstsLength → getD fs k 0 ≡ cellsBelow n qs ss k) where
   abbrev so : Sound n qs ss
   so = s n qs ss t ks g
 
-  keys-are : (k : ℕ) → k < 11 → keysIn t (getD fs k 0) (getD fs (suc k) 0) ≡ keysAt n qs ss k
+  keys-are : (k : ℕ) → k < mostLevels → keysIn t (getD fs k 0) (getD fs (suc k) 0) ≡ keysAt n qs ss k
   unfolding keysIn keysAt
   keys-are k h =
       let a = cellsBelow n qs ss k in
@@ -82,14 +84,14 @@ module _ (n : ℕ) (qs : List (List ℕ)) (ss t ks : List ℕ) (g : Table n qs s
       ∙ flat-same (λ c. edges 0 (cellAt t c)) (λ c. edges 0 (numberedCell n qs ss c)) a m
       (λ c u v. edges-are n qs ss t ks g c (omega (arith, below-more n qs ss k, below-all n qs ss so (suc k)))))
 
-  slots-to : (k : ℕ) → k ≤ 11 → slotsTo t fs k ≡ slotsBelow n qs ss k
+  slots-to : (k : ℕ) → k ≤ mostLevels → slotsTo t fs k ≡ slotsBelow n qs ss k
   unfolding slotsTo
   slots-to zero h = sym (slots-none n qs ss)
   slots-to (suc k) h =
       ap₂ (λ (x : ℕ) (l : List Pair). x + length l) (slots-to k (omega arith)) (keys-are k (omega arith)) ∙ sym (slots-follow n qs ss k)
 
   module _ (sl st : List ℕ) (w : Slotted t fs sl st) where
-    pub starts-are : (k : ℕ) → k < 12 → getD st k 0 ≡ slotsBelow n qs ss k
+    pub starts-are : (k : ℕ) → k < firstsLength → getD st k 0 ≡ slotsBelow n qs ss k
     starts-are k h = w .starts k h ∙ slots-to k (omega arith)
 
     module _ (c e : ℕ) (h : c < length ss) (small : e < 6) where
@@ -99,7 +101,7 @@ module _ (n : ℕ) (qs : List (List ℕ)) (ss t ks : List ℕ) (g : Table n qs s
       here : Member c (numbersOf n qs ss lev)
       here = at n qs ss t ks g c h
 
-      low : lev < 11
+      low : lev < mostLevels
       low = omega (arith, level-top n qs ss so lev c here, so .high)
 
       inside : (cellsBelow n qs ss lev ≤ c) × (c < cellsBelow n qs ss (suc lev))
@@ -120,7 +122,7 @@ module _ (n : ℕ) (qs : List (List ℕ)) (ss t ks : List ℕ) (g : Table n qs s
           ∙ ap (λ (p : Pair). slotsBelow n qs ss lev + placeIn isb (keysAt n qs ss lev) (sorted p))
           (edge-at t c e (6 * c + e) small refl ∙ edge-is n qs ss t ks g c e h)
 
-      slot-below : getD sl (6 * c + e) 0 < 24576
+      slot-below : getD sl (6 * c + e) 0 < mostSlots
       slot-below =
           let m = slots-split n qs ss (g .four) (g .accepted) (g .sound) .there lev c e here (below-six e small) in
           let (a, b) = member-range (slotsBelow n qs ss lev) (length (keysAt n qs ss lev)) (slotOf n qs ss c e) m in

@@ -11,6 +11,7 @@ use lib.ListN.{length, getD, replicate, getD-replicate}
 use borrow.Author.Tests.{lt-ltb, le-ltb, ltb-true}
 use Rattle.base.specs.Bools.{one-if}
 use Rattle.base.specs.Fours.{fours, length-fours}
+use Rattle.base.specs.Limits.{fullCoarse, mostCells, mostCoarseCells, mostSlots, mostParts}
 use Rattle.base.specs.Lists.{anyb}
 use Rattle.base.specs.Range.{range, range-append, range-snoc, map-range}
 use Rattle.mesh.specs.Cells.{bitsOf}
@@ -18,6 +19,7 @@ use Rattle.mesh.specs.Layout.{edgeNumbers}
 use Rattle.mesh.specs.Table.{levelsOf}
 use Rattle.parts.specs.Owners.{nthCell, familyOf}
 use Rattle.parts.specs.Held.{masterb}
+use Rattle.store.specs.Fields.{columnsLength, firstsLength, flagsLength, freeLength}
 use Rattle.store.specs.declared.Place.{Place}
 use Rattle.store.specs.Places.{placeOf}
 use Rattle.split.specs.Columns.{cellsBelow, slotsBelow, slotOf, innerBits, holdsCell, holdsSlot, holdersOf}
@@ -80,23 +82,24 @@ hold-beyond : (cols : List ℕ) (m p c : ℕ) → m ≤ c → holdb cols m p c �
 unfolding holdb
 hold-beyond cols m p c h = rw (le-ltb c m h)
 
-ten-tabs : (f : ℕ → ℕ) → tab 40960 f
-    ≡ tab 4096 (λ i. f (4096 * 0 + i)) ++ tab 4096 (λ i. f (4096 * 1 + i)) ++ tab 4096 (λ i. f (4096 * 2 + i)) ++ tab 4096 (λ i. f
-    (4096 * 3 + i))
-    ++ tab 4096 (λ i. f (4096 * 4 + i)) ++ tab 4096 (λ i. f (4096 * 5 + i)) ++ tab 4096 (λ i. f (4096 * 6 + i))
-    ++ tab 4096 (λ i. f (4096 * 7 + i)) ++ tab 4096 (λ i. f (4096 * 8 + i)) ++ tab 4096 (λ i. f (4096 * 9 + i))
+ten-tabs : (f : ℕ → ℕ) → tab columnsLength f
+    ≡ tab mostCells (λ i. f (mostCells * 0 + i)) ++ tab mostCells (λ i. f (mostCells * 1 + i))
+    ++ tab mostCells (λ i. f (mostCells * 2 + i)) ++ tab mostCells (λ i. f (mostCells * 3 + i))
+    ++ tab mostCells (λ i. f (mostCells * 4 + i)) ++ tab mostCells (λ i. f (mostCells * 5 + i))
+    ++ tab mostCells (λ i. f (mostCells * 6 + i)) ++ tab mostCells (λ i. f (mostCells * 7 + i))
+    ++ tab mostCells (λ i. f (mostCells * 8 + i)) ++ tab mostCells (λ i. f (mostCells * 9 + i))
 ten-tabs f =
-    tab-add 36864 4096 f
-    ∙ ap (λ (l : List ℕ). l ++ tab 4096 (λ i. f (4096 * 9 + i))) (tab-add 32768 4096 f
-    ∙ ap (λ (l : List ℕ). l ++ tab 4096 (λ i. f (4096 * 8 + i))) (tab-add 28672 4096 f
-    ∙ ap (λ (l : List ℕ). l ++ tab 4096 (λ i. f (4096 * 7 + i))) (tab-add 24576 4096 f
-    ∙ ap (λ (l : List ℕ). l ++ tab 4096 (λ i. f (4096 * 6 + i))) (tab-add 20480 4096 f
-    ∙ ap (λ (l : List ℕ). l ++ tab 4096 (λ i. f (4096 * 5 + i))) (tab-add 16384 4096 f
-    ∙ ap (λ (l : List ℕ). l ++ tab 4096 (λ i. f (4096 * 4 + i))) (tab-add 12288 4096 f
-    ∙ ap (λ (l : List ℕ). l ++ tab 4096 (λ i. f (4096 * 3 + i))) (tab-add 8192 4096 f
-    ∙ ap (λ (l : List ℕ). l ++ tab 4096 (λ i. f (4096 * 2 + i))) (tab-add 4096 4096 f
-    ∙ ap (λ (l : List ℕ). l ++ tab 4096 (λ i. f (4096 * 1 + i)))
-    (tab-same 4096 f (λ i. f (4096 * 0 + i)) (λ i h. let z : i ≡ 4096 * 0 + i = omega arith in ap f z))))))))))
+    tab-add (9 * mostCells) mostCells f
+    ∙ ap (λ (l : List ℕ). l ++ tab mostCells (λ i. f (mostCells * 9 + i))) (tab-add (8 * mostCells) mostCells f
+    ∙ ap (λ (l : List ℕ). l ++ tab mostCells (λ i. f (mostCells * 8 + i))) (tab-add (7 * mostCells) mostCells f
+    ∙ ap (λ (l : List ℕ). l ++ tab mostCells (λ i. f (mostCells * 7 + i))) (tab-add (6 * mostCells) mostCells f
+    ∙ ap (λ (l : List ℕ). l ++ tab mostCells (λ i. f (mostCells * 6 + i))) (tab-add (5 * mostCells) mostCells f
+    ∙ ap (λ (l : List ℕ). l ++ tab mostCells (λ i. f (mostCells * 5 + i))) (tab-add (4 * mostCells) mostCells f
+    ∙ ap (λ (l : List ℕ). l ++ tab mostCells (λ i. f (mostCells * 4 + i))) (tab-add (3 * mostCells) mostCells f
+    ∙ ap (λ (l : List ℕ). l ++ tab mostCells (λ i. f (mostCells * 3 + i))) (tab-add (2 * mostCells) mostCells f
+    ∙ ap (λ (l : List ℕ). l ++ tab mostCells (λ i. f (mostCells * 2 + i))) (tab-add mostCells mostCells f
+    ∙ ap (λ (l : List ℕ). l ++ tab mostCells (λ i. f (mostCells * 1 + i)))
+    (tab-same mostCells f (λ i. f (mostCells * 0 + i)) (λ i h. let z : i ≡ mostCells * 0 + i = omega arith in ap f z))))))))))
 
 ten-join : (a b c d e f g h i j a' b' c' d' e' f' g' h' i' j' : List ℕ) → a ≡ a' → b ≡ b' → c ≡ c' → d ≡ d' → e ≡ e' → f ≡ f' → g ≡ g'
     → h ≡ h' → i ≡ i' → j ≡ j' → a ++ b ++ c ++ d ++ e ++ f ++ g ++ h ++ i ++ j ≡ a' ++ b' ++ c' ++ d' ++ e' ++ f' ++ g' ++ h' ++ i' ++ j'
@@ -176,9 +179,12 @@ fours-at (a ∷ b ∷ c ∷ d ∷ l) (suc i) e h k =
     let z : 4 * suc i + e ≡ suc (suc (suc (suc (4 * i + e)))) = omega arith in
     fours-at l i e (omega arith) k ∙ sym (ap (λ (j : ℕ). getD (a ∷ b ∷ c ∷ d ∷ l) j 0) z)
 
-module _ (n : ℕ) (ts ss t ks : List ℕ) (g : Table n (fours ts) ss t ks) (few : length ss ≤ 4096) (small : length (fours ts) ≤ 256)
-    (fs : List ℕ) (first : (k : ℕ) → k < 12 → getD fs k 0 ≡ cellsBelow n (fours ts) ss k) (fs-long : length fs ≡ 12) (sl st : List ℕ)
-    (w : Slotted t fs sl st) (st-long : length st ≡ 12) (os : List ℕ) (cols : List ℕ) (a : Filled t ss ks os (length ss) cols) where
+module _ (n : ℕ) (ts ss t ks : List ℕ) (g : Table n (fours ts) ss t ks) (few : length ss ≤ mostCells)
+    (small : length (fours ts) ≤ mostCoarseCells)
+    (fs : List ℕ) (first : (k : ℕ) → k < firstsLength → getD fs k 0 ≡ cellsBelow n (fours ts) ss k) (fs-long : length fs ≡ firstsLength)
+    (sl st : List ℕ)
+    (w : Slotted t fs sl st) (st-long : length st ≡ firstsLength) (os : List ℕ) (cols : List ℕ)
+    (a : Filled t ss ks os (length ss) cols) where
   abbrev qs : List (List ℕ)
   qs = fours ts
 
@@ -187,9 +193,9 @@ module _ (n : ℕ) (ts ss t ks : List ℕ) (g : Table n (fours ts) ss t ks) (few
 
   owner-at : (c : ℕ) → c < length ss → getD cols c 0 ≡ getD os c 0
   unfolding tenOf
-  owner-at c h = let z : 4096 * 0 + c ≡ c = omega arith in rw z at (a .at c 0 h (omega arith))
+  owner-at c h = let z : mostCells * 0 + c ≡ c = omega arith in rw z at (a .at c 0 h (omega arith))
 
-  family-at : (c : ℕ) → c < length ss → getD cols (4096 + c) 0 ≡ familyOf n qs ss os c
+  family-at : (c : ℕ) → c < length ss → getD cols (mostCells + c) 0 ≡ familyOf n qs ss os c
   unfolding tenOf
   family-at c h = a .at c 1 h (omega arith) ∙ family-is n qs ss t ks g os c h
 
@@ -226,25 +232,25 @@ module _ (n : ℕ) (ts ss t ks : List ℕ) (g : Table n (fours ts) ss t ks) (few
         ]
 
     -- the columns
-    by-cell : (f : ℕ → ℕ) → byCell n qs ss P os p f ≡ tab 4096 (ifHeld n qs ss os p f)
+    by-cell : (f : ℕ → ℕ) → byCell n qs ss P os p f ≡ tab mostCells (ifHeld n qs ss os p f)
     unfolding byCell tab ifHeld
     by-cell f = refl
 
     column-is : (j : ℕ) (f : ℕ → ℕ) → j < 10 → ((c : ℕ) → c < length ss → getD (tenOf t ss ks os c) j 0 ≡ f c)
-        → tab 4096 (λ i. columnBy cols m p (4096 * j + i)) ≡ byCell n qs ss P os p f
+        → tab mostCells (λ i. columnBy cols m p (mostCells * j + i)) ≡ byCell n qs ss P os p f
     unfolding pickBy ifHeld
     column-is j f h e =
-        tab-same 4096 (λ i. columnBy cols m p (4096 * j + i)) (ifHeld n qs ss os p f)
+        tab-same mostCells (λ i. columnBy cols m p (mostCells * j + i)) (ifHeld n qs ss os p f)
         (λ i l.
-        let z : (4096 * j + i) % 4096 ≡ i = omega arith in
-        ap (λ (c : ℕ). elim (holdb cols m p c) [ true ↦ getD cols (4096 * j + i) 0 | false ↦ 0 ]) z
-        ∙ picked i (getD cols (4096 * j + i) 0) (f i) (λ k. a .at i j k h ∙ e i k))
+        let z : (mostCells * j + i) % mostCells ≡ i = omega arith in
+        ap (λ (c : ℕ). elim (holdb cols m p c) [ true ↦ getD cols (mostCells * j + i) 0 | false ↦ 0 ]) z
+        ∙ picked i (getD cols (mostCells * j + i) 0) (f i) (λ k. a .at i j k h ∙ e i k))
         ∙ sym (by-cell f)
 
     abbrev column : (ℕ → ℕ) → List ℕ
     column f = byCell n qs ss P os p f
 
-    columns-are : tab 40960 (columnBy cols m p)
+    columns-are : tab columnsLength (columnBy cols m p)
         ≡ column (λ c. getD os c 0) ++ column (familyOf n qs ss os) ++ column (λ c. getD ss c 0)
         ++ column (λ c. one-if (nthCell n qs ss c .regular)) ++ column (firstChild (length qs) ss)
         ++ column (λ c. nthCell n qs ss c .parent)
@@ -305,9 +311,9 @@ module _ (n : ℕ) (ts ss t ks : List ℕ) (g : Table n (fours ts) ss t ks) (few
             ap (λ (b : Bool). left (b && eqb (getD os i 0) p)) (le-ltb i (length qs) (omega arith)) ∙ getD-replicate 4 e 0 0 k
             ∙ sym (ap (λ (b : Bool). right (b && eqb (getD cols ((4 * i + e) / 4) 0) p)) y)
 
-    corners-are : tab 1024 (cornerBy cols ts p) ≡ flatMap (fourOf n qs ss P os p) (range 0 256)
+    corners-are : tab fullCoarse (cornerBy cols ts p) ≡ flatMap (fourOf n qs ss P os p) (range 0 mostCoarseCells)
     corners-are =
-        sym (flat-tab (fourOf n qs ss P os p) 4 (cornerBy cols ts p) 256 (λ i h. four-length n qs ss P os p (fours-long ts) i)
+        sym (flat-tab (fourOf n qs ss P os p) 4 (cornerBy cols ts p) mostCoarseCells (λ i h. four-length n qs ss P os p (fours-long ts) i)
         (λ i e h k. corner-is i e k))
 
     -- the slots
@@ -333,8 +339,8 @@ module _ (n : ℕ) (ts ss t ks : List ℕ) (g : Table n (fours ts) ss t ks) (few
         go true = refl
         go false = refl
 
-    sixes-are : tab 24576 (slotBy cols m p sl) ≡ flatMap (sixOf n qs ss P os p) (range 0 4096)
-    sixes-are = sym (flat-tab (sixOf n qs ss P os p) 6 (slotBy cols m p sl) 4096 (λ c h. six-length c) (λ c e h k. six-is c e k))
+    sixes-are : tab mostSlots (slotBy cols m p sl) ≡ flatMap (sixOf n qs ss P os p) (range 0 mostCells)
+    sixes-are = sym (flat-tab (sixOf n qs ss P os p) 6 (slotBy cols m p sl) mostCells (λ c h. six-length c) (λ c e h k. six-is c e k))
 
   -- the holders of slots
   mark-is : (q s : ℕ) → heldSlotb cols m q sl s ≡ holdsSlot n qs ss os q s
@@ -350,55 +356,61 @@ module _ (n : ℕ) (ts ss t ks : List ℕ) (g : Table n (fours ts) ss t ks) (few
 
   mask-is : (s : ℕ) → maskBy cols m sl s ≡ holdersOf n qs ss os s
   unfolding maskFrom holdersOf
-  mask-is s = ap bitsOf (map-all (λ q. heldSlotb cols m q sl s) (λ q. holdsSlot n qs ss os q s) (range 1 16) (λ q. mark-is q s))
+  mask-is s = ap bitsOf (map-all (λ q. heldSlotb cols m q sl s) (λ q. holdsSlot n qs ss os q s) (range 1 mostParts) (λ q. mark-is q s))
 
-  module _ (ms : List ℕ) (masks : Tabled 24576 (maskBy cols m sl) ms) (P p : ℕ) where
-    holder-is : (s : ℕ) → s < 24576 → holderBy cols m p sl ms s ≡ holdersAt n qs ss P os p s
+  module _ (ms : List ℕ) (masks : Tabled mostSlots (maskBy cols m sl) ms) (P p : ℕ) where
+    holder-is : (s : ℕ) → s < mostSlots → holderBy cols m p sl ms s ≡ holdersAt n qs ss P os p s
     unfolding holderTo holdersAt
     holder-is s h =
         ap₂ (λ (b : Bool) (x : ℕ). elim b [ true ↦ x | false ↦ 0 ]) (mark-is p s) (masks .at s h ∙ mask-is s)
 
-    holders-are : tab 24576 (holderBy cols m p sl ms) ≡ tab 24576 (holdersAt n qs ss P os p)
-    holders-are = tab-same 24576 (holderBy cols m p sl ms) (holdersAt n qs ss P os p) holder-is
+    holders-are : tab mostSlots (holderBy cols m p sl ms) ≡ tab mostSlots (holdersAt n qs ss P os p)
+    holders-are = tab-same mostSlots (holderBy cols m p sl ms) (holdersAt n qs ss P os p) holder-is
 
     opened : partStore n qs ss P os p
-        ≡ (((0 ∷ p ∷ P ∷ n ∷ length qs ∷ length ss ∷ length (levelsOf n qs ss) ∷ replicate 9 0) ++ map (cellsBelow n qs ss) (range 0 12)
-        ++ map (slotsBelow n qs ss) (range 0 12) ++ replicate 72 0)
+        ≡ (((0 ∷ p ∷ P ∷ n ∷ length qs ∷ length ss ∷ length (levelsOf n qs ss) ∷ replicate 9 0) ++ map (cellsBelow n qs ss)
+        (range 0 firstsLength)
+        ++ map (slotsBelow n qs ss) (range 0 firstsLength) ++ replicate freeLength 0)
         ++ ((column P p (λ c. getD os c 0) ++ column P p (familyOf n qs ss os) ++ column P p (λ c. getD ss c 0)
         ++ column P p (λ c. one-if (nthCell n qs ss c .regular)) ++ column P p (firstChild (length qs) ss)
         ++ column P p (λ c. nthCell n qs ss c .parent)
         ++ column P p (λ c. placeOf (nthCell n qs ss c .path) .head) ++ column P p (λ c. placeOf (nthCell n qs ss c .path) .digits)
-        ++ column P p (λ c. placeOf (nthCell n qs ss c .path) .more) ++ column P p (innerBits n qs ss)) ++ replicate 8192 0
-        ++ flatMap (fourOf n qs ss P os p) (range 0 256)))
-        ++ (flatMap (sixOf n qs ss P os p) (range 0 4096) ++ map (holdersAt n qs ss P os p) (range 0 24576) ++ replicate 24576 0)
+        ++ column P p (λ c. placeOf (nthCell n qs ss c .path) .more) ++ column P p (innerBits n qs ss)) ++ replicate flagsLength 0
+        ++ flatMap (fourOf n qs ss P os p) (range 0 mostCoarseCells)))
+        ++ (flatMap (sixOf n qs ss P os p) (range 0 mostCells) ++ map (holdersAt n qs ss P os p)
+        (range 0 mostSlots) ++ replicate mostSlots 0)
     unfolding partStore
     opened =
         regroup (0 ∷ p ∷ P ∷ n ∷ length qs ∷ length ss ∷ length (levelsOf n qs ss) ∷ replicate 9 0) (map (cellsBelow n qs ss) (range 0
-        12))
-        (map (slotsBelow n qs ss) (range 0 12)) (replicate 72 0) (column P p (λ c. getD os c 0)) (column P p (familyOf n qs ss os))
+        firstsLength))
+        (map (slotsBelow n qs ss) (range 0 firstsLength)) (replicate freeLength 0) (column P p (λ c. getD os c 0))
+        (column P p (familyOf n qs ss os))
         (column P p (λ c. getD ss c 0)) (column P p (λ c. one-if (nthCell n qs ss c .regular))) (column P p (firstChild (length qs) ss))
         (column P p (λ c. nthCell n qs ss c .parent)) (column P p (λ c. placeOf (nthCell n qs ss c .path) .head))
         (column P p (λ c. placeOf (nthCell n qs ss c .path) .digits)) (column P p (λ c. placeOf (nthCell n qs ss c .path) .more))
-        (column P p (innerBits n qs ss)) (replicate 8192 0) (flatMap (fourOf n qs ss P os p) (range 0 256))
-        (flatMap (sixOf n qs ss P os p) (range 0 4096)) (map (holdersAt n qs ss P os p) (range 0 24576)) (replicate 24576 0)
+        (column P p (innerBits n qs ss)) (replicate flagsLength 0) (flatMap (fourOf n qs ss P os p) (range 0 mostCoarseCells))
+        (flatMap (sixOf n qs ss P os p) (range 0 mostCells)) (map (holdersAt n qs ss P os p) (range 0 mostSlots)) (replicate mostSlots 0)
 
     pub regions-are : (l : ℕ) → l ≡ length (levelsOf n qs ss) → regions cols ts sl ms fs st m p P n l ≡ partStore n qs ss P os p
     unfolding regions
     regions-are l e =
-        same-regions (headBy p P n (length ts / 4) m l) fs st (zeros 72) (tab 40960 (columnBy cols m p)) (zeros 8192)
-        (tab 1024 (cornerBy cols ts p)) (tab 24576 (slotBy cols m p sl)) (tab 24576 (holderBy cols m p sl ms)) (zeros 24576)
-        (0 ∷ p ∷ P ∷ n ∷ length qs ∷ length ss ∷ length (levelsOf n qs ss) ∷ replicate 9 0) (map (cellsBelow n qs ss) (range 0 12))
-        (map (slotsBelow n qs ss) (range 0 12)) (replicate 72 0)
+        same-regions (headBy p P n (length ts / 4) m l) fs st (zeros freeLength) (tab columnsLength (columnBy cols m p)) (zeros flagsLength)
+        (tab fullCoarse (cornerBy cols ts p)) (tab mostSlots (slotBy cols m p sl)) (tab mostSlots (holderBy cols m p sl ms))
+        (zeros mostSlots)
+        (0 ∷ p ∷ P ∷ n ∷ length qs ∷ length ss ∷ length (levelsOf n qs ss) ∷ replicate 9 0)
+        (map (cellsBelow n qs ss) (range 0 firstsLength))
+        (map (slotsBelow n qs ss) (range 0 firstsLength)) (replicate freeLength 0)
         (column P p (λ c. getD os c 0) ++ column P p (familyOf n qs ss os) ++ column P p (λ c. getD ss c 0)
         ++ column P p (λ c. one-if (nthCell n qs ss c .regular)) ++ column P p (firstChild (length qs) ss)
         ++ column P p (λ c. nthCell n qs ss c .parent)
         ++ column P p (λ c. placeOf (nthCell n qs ss c .path) .head) ++ column P p (λ c. placeOf (nthCell n qs ss c .path) .digits)
-        ++ column P p (λ c. placeOf (nthCell n qs ss c .path) .more) ++ column P p (innerBits n qs ss)) (replicate 8192 0)
-        (flatMap (fourOf n qs ss P os p) (range 0 256)) (flatMap (sixOf n qs ss P os p) (range 0 4096))
-        (map (holdersAt n qs ss P os p) (range 0 24576)) (replicate 24576 0)
+        ++ column P p (λ c. placeOf (nthCell n qs ss c .path) .more) ++ column P p (innerBits n qs ss)) (replicate flagsLength 0)
+        (flatMap (fourOf n qs ss P os p) (range 0 mostCoarseCells)) (flatMap (sixOf n qs ss P os p) (range 0 mostCells))
+        (map (holdersAt n qs ss P os p) (range 0 mostSlots)) (replicate mostSlots 0)
         (head-is p P n (length ts / 4) m l (length qs) (length ss) (length (levelsOf n qs ss)) (sym (length-fours ts)) refl e)
-        (tab-list 12 (cellsBelow n qs ss) fs fs-long first ∙ tab-is 12 (cellsBelow n qs ss))
-        (tab-list 12 (slotsBelow n qs ss) st st-long (starts-are n qs ss t ks g fs first sl st w) ∙ tab-is 12 (slotsBelow n qs ss))
-        (zeros-is 72) (columns-are P p) (zeros-is 8192) (corners-are P p) (sixes-are P p)
-        (holders-are ∙ tab-is 24576 (holdersAt n qs ss P os p)) (zeros-is 24576)
+        (tab-list firstsLength (cellsBelow n qs ss) fs fs-long first ∙ tab-is firstsLength (cellsBelow n qs ss))
+        (tab-list firstsLength (slotsBelow n qs ss) st st-long (starts-are n qs ss t ks g fs first sl st w)
+        ∙ tab-is firstsLength (slotsBelow n qs ss))
+        (zeros-is freeLength) (columns-are P p) (zeros-is flagsLength) (corners-are P p) (sixes-are P p)
+        (holders-are ∙ tab-is mostSlots (holdersAt n qs ss P os p)) (zeros-is mostSlots)
         ∙ sym opened

@@ -7,11 +7,12 @@ use Prim.Native.Nat.{ℕ, zero, suc, _+_, _*_, _≤_, _<_}
 use native.Mathlib.Omega.{arith}
 use lib.ListN.{length, getD, drop, replicate, length-replicate, getD-replicate}
 use Rattle.base.specs.Fours.{fours, length-fours}
+use Rattle.base.specs.Limits.{mostCells, mostLevels, mostSlots, fullRows}
 use Rattle.base.specs.Range.{range}
 use Rattle.lattice.specs.Levels.{fours-four}
 use Rattle.soundness.specs.Sound.{Sound, sound-parts}
 use Rattle.lineage.specs.Firsts.{first-at, length-firsts}
-use Rattle.store.specs.Fields.{full, CODE}
+use Rattle.store.specs.Fields.{full, FRONT, firstsLength}
 use Rattle.store.specs.Stores.{storeIn}
 use Rattle.split.specs.Columns.{cellsBelow}
 use Rattle.split.specs.Split.{partStore, storesAfter}
@@ -25,16 +26,16 @@ use Rattle.divide.proofs.Laid.{Table, first-top, below-step, upward}
 use Rattle.divide.proofs.Edged.{slots-small}
 use Rattle.divide.proofs.Stores.{regions-are}
 
-pub ones-are : Tabled 24576 (λ s. 1) (replicate 24576 1)
-ones-are = record { size = length-replicate {A = ℕ} 24576 1; at = λ s h. getD-replicate 24576 s 1 0 h }
+pub ones-are : Tabled mostSlots (λ s. 1) (replicate mostSlots 1)
+ones-are = record { size = length-replicate {A = ℕ} mostSlots 1; at = λ s h. getD-replicate mostSlots s 1 0 h }
 
-pub masks-are : (cols : List ℕ) (m : ℕ) (sl ms : List ℕ) → Tabled 24576 (maskBy cols m sl) ms → ms ≡ masksOf cols m sl
+pub masks-are : (cols : List ℕ) (m : ℕ) (sl ms : List ℕ) → Tabled mostSlots (maskBy cols m sl) ms → ms ≡ masksOf cols m sl
 unfolding masksOf
-masks-are cols m sl ms a = tabled-is 24576 (maskBy cols m sl) ms a
+masks-are cols m sl ms a = tabled-is mostSlots (maskBy cols m sl) ms a
 
-masks-each : (cols : List ℕ) (m : ℕ) (sl : List ℕ) → Tabled 24576 (maskBy cols m sl) (masksOf cols m sl)
+masks-each : (cols : List ℕ) (m : ℕ) (sl : List ℕ) → Tabled mostSlots (maskBy cols m sl) (masksOf cols m sl)
 unfolding masksOf
-masks-each cols m sl = tab-at 24576 (maskBy cols m sl)
+masks-each cols m sl = tab-at mostSlots (maskBy cols m sl)
 
 flat-all : (f h : ℕ → List ℕ) (l : List ℕ) → ((j : ℕ) → f j ≡ h j) → flatMap f l ≡ flatMap h l
 unfolding flatMap
@@ -42,9 +43,9 @@ flat-all f h [] e = refl
 flat-all f h (x ∷ l) e = ap₂ _++_ (e x) (flat-all f h l e)
 
 store-as : (f : ℕ → List ℕ) (b : List ℕ) (j : ℕ) (x : List ℕ) → f (suc j) ≡ x
-    → storeWith f b j ≡ x ++ drop CODE (storeIn b j)
+    → storeWith f b j ≡ x ++ drop FRONT (storeIn b j)
 unfolding storeWith
-store-as f b j x e = ap (λ (l : List ℕ). l ++ drop CODE (storeIn b j)) e
+store-as f b j x e = ap (λ (l : List ℕ). l ++ drop FRONT (storeIn b j)) e
 
 part-as : (cols mesh sl fs st : List ℕ) (m P n l p : ℕ)
     → partBy cols mesh sl fs st m P n l p ≡ regions cols mesh sl (masksOf cols m sl) fs st m p P n l
@@ -69,10 +70,10 @@ module _ (n : ℕ) (ts ss rows ks os : List ℕ) (P levels : ℕ) (b : List ℕ)
         kids = λ c h. first-at (length qs) ss ks (d .kids) c h;
       }
 
-  pub few-cells : length ss ≤ 4096
+  pub few-cells : length ss ≤ mostCells
   few-cells = omega (arith, so .many, so .few)
 
-  pub few-levels : levels ≤ 11
+  pub few-levels : levels ≤ mostLevels
   few-levels = omega (arith, d .high, so .high)
 
   pub kids-of : FirstKids ks (length ss)
@@ -96,7 +97,7 @@ module _ (n : ℕ) (ts ss rows ks os : List ℕ) (P levels : ℕ) (b : List ℕ)
         most = λ k h. rw (first-by k) (below-all n qs ss so k);
       }
 
-  pub ready-of : length rows ≡ 32768 → Sources rows ss ks os
+  pub ready-of : length rows ≡ fullRows → Sources rows ss ks os
   ready-of l =
       record {
         few = few-cells;
@@ -107,7 +108,7 @@ module _ (n : ℕ) (ts ss rows ks os : List ℕ) (P levels : ℕ) (b : List ℕ)
       }
 
   module _ (fs st sl : List ℕ) (w : EdgesNumbered rows ks fs st sl) where
-    first-are : (k : ℕ) → k < 12 → getD fs k 0 ≡ cellsBelow n qs ss k
+    first-are : (k : ℕ) → k < firstsLength → getD fs k 0 ≡ cellsBelow n qs ss k
     first-are k h = w .firsts .at k h ∙ first-by k
 
     pub small-of : SmallSlots sl (length ss)
@@ -119,11 +120,11 @@ module _ (n : ℕ) (ts ss rows ks os : List ℕ) (P levels : ℕ) (b : List ℕ)
     stores-are cols a =
         ap (λ (l : List ℕ). l ++ drop (full * P) b)
         (flat-all (storeWith (partBy cols ts sl fs st (length ss) P n levels) b)
-        (λ j. partStore n qs ss P os (suc j) ++ drop CODE (storeIn b j)) (range 0 P)
+        (λ j. partStore n qs ss P os (suc j) ++ drop FRONT (storeIn b j)) (range 0 P)
         (λ j. same j))
       where
         same : (j : ℕ) → storeWith (partBy cols ts sl fs st (length ss) P n levels) b j
-            ≡ partStore n qs ss P os (suc j) ++ drop CODE (storeIn b j)
+            ≡ partStore n qs ss P os (suc j) ++ drop FRONT (storeIn b j)
         same j =
             store-as (partBy cols ts sl fs st (length ss) P n levels) b j (partStore n qs ss P os (suc j))
             (part-as cols ts sl fs st (length ss) P n levels (suc j)

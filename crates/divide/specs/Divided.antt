@@ -11,8 +11,9 @@ use mathlib.Core.Path.{_≡_}
 use mathlib.Core.List.{List, _++_, flatMap}
 use Prim.Native.Nat.{ℕ, zero, suc, _+_, _*_, _≤_, _<_}
 use lib.ListN.{length, getD, drop}
+use Rattle.base.specs.Limits.{mostLevels, mostSlots}
 use Rattle.base.specs.Range.{range}
-use Rattle.store.specs.Fields.{full, CODE}
+use Rattle.store.specs.Fields.{full, FRONT, firstsLength}
 use Rattle.store.specs.Stores.{storeIn}
 use Rattle.slots.specs.Slots.{Slotted}
 use Rattle.filling.specs.Regions.{tab, putBy, maskBy, regions}
@@ -23,22 +24,22 @@ firstBy ks zero = 0
 firstBy ks (suc k) = getD ks (firstBy ks k) 0
 
 pub record Leveled (ks : List ℕ) (m : ℕ) : Type 0 where
-  pub up : (k : ℕ) → k < 11 → firstBy ks k ≤ firstBy ks (suc k)
-  pub most : (k : ℕ) → k < 12 → firstBy ks k ≤ m
+  pub up : (k : ℕ) → k < mostLevels → firstBy ks k ≤ firstBy ks (suc k)
+  pub most : (k : ℕ) → k < firstsLength → firstBy ks k ≤ m
 
 pub record FirstCells (ks fs : List ℕ) : Type 0 where
-  pub size : length fs ≡ 12
-  pub at : (k : ℕ) → k < 12 → getD fs k 0 ≡ firstBy ks k
+  pub size : length fs ≡ firstsLength
+  pub at : (k : ℕ) → k < firstsLength → getD fs k 0 ≡ firstBy ks k
 
 -- the slots with the first cells and slots of the levels
 pub record EdgesNumbered (t ks fs st sl : List ℕ) : Type 0 where
   pub firsts : FirstCells ks fs
-  pub starts : length st ≡ 12
+  pub starts : length st ≡ firstsLength
   pub slots : Slotted t fs sl st
 
 -- Rule 15.2.
 unfoldable pub masksOf : List ℕ → ℕ → List ℕ → List ℕ
-masksOf cols m sl = tab 24576 (maskBy cols m sl)
+masksOf cols m sl = tab mostSlots (maskBy cols m sl)
 
 -- Rule 15.5.
 unfoldable pub partBy : List ℕ → List ℕ → List ℕ → List ℕ → List ℕ → ℕ → ℕ → ℕ → ℕ → ℕ → List ℕ
@@ -46,7 +47,7 @@ partBy cols mesh sl fs st m P n l p = regions cols mesh sl (masksOf cols m sl) f
 
 unfoldable pub storeWith : (ℕ → List ℕ) → List ℕ → ℕ → List ℕ
 unfolding storeIn
-storeWith f b j = f (suc j) ++ drop CODE (storeIn b j)
+storeWith f b j = f (suc j) ++ drop FRONT (storeIn b j)
 
 -- Rule 15.5.
 unfoldable pub storesTo : (ℕ → List ℕ) → List ℕ → ℕ → List ℕ

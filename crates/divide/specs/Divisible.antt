@@ -6,6 +6,7 @@ use Prim.Native.Nat.{ℕ, suc, _*_, _≤_}
 use lib.Dec.{T}
 use lib.ListN.{length, take}
 use Rattle.base.specs.Fours.{fours}
+use Rattle.base.specs.Limits.{mostParts}
 use Rattle.mesh.specs.Table.{levelsOf, soundb}
 use Rattle.mesh.specs.Layout.{cellTable}
 use Rattle.tables.specs.Sound.{Mesh, tableCells, examinedCorners}
@@ -20,6 +21,6 @@ pub record Divisible (n : ℕ) (ts ss rows ks os : List ℕ) (P levels : ℕ) (b
       ts) ss)
   pub kids : take (suc (length ss)) ks ≡ firstChildren (length (fours ts)) ss
   pub owners : length os ≡ length ss
-  pub parts : P ≤ 16
+  pub parts : P ≤ mostParts
   pub high : levels ≡ length (levelsOf n (fours ts) ss)
-  pub room : 16 * full ≤ length b
+  pub room : mostParts * full ≤ length b

@@ -1,5 +1,7 @@
 // A table split over parts: the call.
 use base::Answer;
+use base::MOST_LEVELS;
+use base::MOST_PARTS;
 use store::FULL;
 use tables::Outcome;
 ghost use mathlib.Core.Path.{_≡_};
@@ -7,7 +9,8 @@ ghost use Prim.Native.Nat.{_*_, _≤_, _<_};
 ghost use lib.ListN.{length};
 ghost use Rattle.base.specs.Fours.{fours};
 ghost use Rattle.base.specs.Lent.{was, is};
-ghost use Rattle.store.specs.Fields.{full};
+ghost use Rattle.base.specs.Limits.{fullCoarse, mostCells, mostCoarseCorners, mostLevels, mostParts, mostSlots};
+ghost use Rattle.store.specs.Fields.{full, columnsLength, firstsLength};
 ghost use Rattle.split.specs.Split.{splitAnswer, splitAfter, storesAfter};
 ghost use Rattle.columns.specs.Ten.{FirstKids};
 ghost use Rattle.filling.specs.Regions.{SmallSlots};
@@ -16,12 +19,12 @@ ghost use Rattle.divide.specs.Divisible.{Divisible};
 
 // The first cell of each level: a level begins where the children of the one below begin.
 fn fill_firsts(kids: &[u16], cells: usize, firsts: &mut [u16])
-    requires { ⌜ (FirstKids (now kids) cells) × (Leveled (now kids) cells) × (length (now firsts) ≡ 12) ⌝ }
+    requires { ⌜ (FirstKids (now kids) cells) × (Leveled (now kids) cells) × (length (now firsts) ≡ firstsLength) ⌝ }
     ensures { λ r. ⌜ FirstCells (was kids) (is firsts) ⌝ }
 {
     firsts[0] = 0;
     let mut k = 0;
-    while k < 11 {
+    while k < MOST_LEVELS {
         let first = firsts[k] as usize;
         firsts[k + 1] = kids[first];
         k += 1;
@@ -37,8 +40,8 @@ fn number_slots(
     starts: &mut [u16],
     slots: &mut [u16; 24576],
 )
-    requires { ⌜ (FirstKids (now kids) cells) × (Leveled (now kids) cells) × (cells ≤ 4096) ⌝ }
-    requires { ⌜ (length (now firsts) ≡ 12) × (length (now starts) ≡ 12) ⌝ }
+    requires { ⌜ (FirstKids (now kids) cells) × (Leveled (now kids) cells) × (cells ≤ mostCells) ⌝ }
+    requires { ⌜ (length (now firsts) ≡ firstsLength) × (length (now starts) ≡ firstsLength) ⌝ }
     ensures { λ r. ⌜ EdgesNumbered (was rows) (was kids) (is firsts) (is starts) (is slots) ⌝ }
 {
     fill_firsts(kids, cells, firsts);
@@ -73,10 +76,12 @@ fn write_part(
     slots: &[u16],
     masks: &[u16],
 )
-    requires { ⌜ (16 * full ≤ length (now stores)) × (j < 16) × (parts ≤ 16) × (n ≤ 512) × (levels ≤ 11) ⌝ }
-    requires { ⌜ (length (now mesh) ≤ 1024) × (cells ≤ 4096) × (length (now firsts) ≡ 12) × (length (now starts) ≡ 12) ⌝ }
-    requires { ⌜ (length (now cols) ≡ 40960) × (length (now slots) ≡ 24576) × (SmallSlots (now slots) cells) ⌝ }
-    requires { ⌜ (length (now masks) ≡ 24576) × (now masks ≡ masksOf (now cols) cells (now slots)) ⌝ }
+    requires { ⌜ (mostParts * full ≤ length (now stores)) × (j < mostParts) × (parts ≤ mostParts)
+        × (n ≤ mostCoarseCorners) × (levels ≤ mostLevels) ⌝ }
+    requires { ⌜ (length (now mesh) ≤ fullCoarse) × (cells ≤ mostCells) × (length (now firsts) ≡ firstsLength)
+        × (length (now starts) ≡ firstsLength) ⌝ }
+    requires { ⌜ (length (now cols) ≡ columnsLength) × (length (now slots) ≡ mostSlots) × (SmallSlots (now slots) cells) ⌝ }
+    requires { ⌜ (length (now masks) ≡ mostSlots) × (now masks ≡ masksOf (now cols) cells (now slots)) ⌝ }
     ensures { λ r. ⌜ is stores
         ≡ storePut (partBy (was cols) (was mesh) (was slots) (was firsts) (was starts) cells parts n levels) (was stores) j ⌝ }
 {
@@ -111,10 +116,11 @@ fn write_parts(
     slots: &[u16],
     masks: &[u16],
 )
-    requires { ⌜ (16 * full ≤ length (now stores)) × (parts ≤ 16) × (n ≤ 512) × (levels ≤ 11) ⌝ }
-    requires { ⌜ (length (now mesh) ≤ 1024) × (cells ≤ 4096) × (length (now firsts) ≡ 12) × (length (now starts) ≡ 12) ⌝ }
-    requires { ⌜ (length (now cols) ≡ 40960) × (length (now slots) ≡ 24576) × (SmallSlots (now slots) cells) ⌝ }
-    requires { ⌜ (length (now masks) ≡ 24576) × (now masks ≡ masksOf (now cols) cells (now slots)) ⌝ }
+    requires { ⌜ (mostParts * full ≤ length (now stores)) × (parts ≤ mostParts) × (n ≤ mostCoarseCorners) × (levels ≤ mostLevels) ⌝ }
+    requires { ⌜ (length (now mesh) ≤ fullCoarse) × (cells ≤ mostCells) × (length (now firsts) ≡ firstsLength)
+        × (length (now starts) ≡ firstsLength) ⌝ }
+    requires { ⌜ (length (now cols) ≡ columnsLength) × (length (now slots) ≡ mostSlots) × (SmallSlots (now slots) cells) ⌝ }
+    requires { ⌜ (length (now masks) ≡ mostSlots) × (now masks ≡ masksOf (now cols) cells (now slots)) ⌝ }
     ensures { λ r. ⌜ is stores
         ≡ storesTo (partBy (was cols) (was mesh) (was slots) (was firsts) (was starts) cells parts n levels) (was stores) parts ⌝ }
 {
@@ -151,9 +157,10 @@ fn write_stores(
     cols: &[u16],
     slots: &[u16; 24576],
 )
-    requires { ⌜ (16 * full ≤ length (now stores)) × (parts ≤ 16) × (n ≤ 512) × (levels ≤ 11) ⌝ }
-    requires { ⌜ (length (now mesh) ≤ 1024) × (cells ≤ 4096) × (length (now firsts) ≡ 12) × (length (now starts) ≡ 12) ⌝ }
-    requires { ⌜ (length (now cols) ≡ 40960) × (SmallSlots (now slots) cells) ⌝ }
+    requires { ⌜ (mostParts * full ≤ length (now stores)) × (parts ≤ mostParts) × (n ≤ mostCoarseCorners) × (levels ≤ mostLevels) ⌝ }
+    requires { ⌜ (length (now mesh) ≤ fullCoarse) × (cells ≤ mostCells) × (length (now firsts) ≡ firstsLength)
+        × (length (now starts) ≡ firstsLength) ⌝ }
+    requires { ⌜ (length (now cols) ≡ columnsLength) × (SmallSlots (now slots) cells) ⌝ }
     ensures { λ r. ⌜ is stores
         ≡ storesTo (partBy (was cols) (was mesh) (was slots) (was firsts) (was starts) cells parts n levels) (was stores) parts ⌝ }
 {
@@ -224,7 +231,7 @@ pub fn split(
     ensures { λ r. ⌜ r ≡ splitAnswer (was positions) (was cells) (was status) parts (was owners) (was stores) ⌝ }
     ensures { λ r. ⌜ is stores ≡ splitAfter (was positions) (was cells) (was status) parts (was owners) (was stores) ⌝ }
 {
-    if stores.len() < 16 * FULL {
+    if stores.len() < MOST_PARTS * FULL {
         return Answer::Refused(15);
     }
     let mut rows = [0u16; 32768];
@@ -237,7 +244,7 @@ pub fn split(
     if parts < 1 {
         return Answer::Refused(10);
     }
-    if parts > 16 {
+    if parts > MOST_PARTS {
         return Answer::Refused(10);
     }
     let n = positions.len() / 3;

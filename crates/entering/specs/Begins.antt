@@ -13,6 +13,7 @@ use lib.ListN.{length, getD, set, length-set}
 use lib.Seq.{getD-set-same, getD-set-other}
 use borrow.Author.Tests.{eq-eqb, ne-eqb, lt-ltb, le-leb, eqb-true}
 use Rattle.base.specs.Bools.{one-if, and-left, and-right, not-both, is-true}
+use Rattle.base.specs.Limits.{mostCells, mostSlots, mostParts}
 use Rattle.base.specs.Refuse.{refuse}
 use Rattle.base.specs.declared.Answer.{Answer}
 use Rattle.base.specs.declared.Answer.the-variants.{Accepted, Refused}
@@ -24,6 +25,7 @@ use Rattle.rounds.specs.Rounds.{marks, phase, State, isPart, told, added, redTo
 use Rattle.rounds.specs.Rounded.{overb, sizedb, endedb, phase-marks}
 use Rattle.store.specs.Fields.{field, full, STAGE, PART, PARTS, CELLS, LEVELS, ROUND, RESULT, ENTRIES, WRITTEN, CURSOR, BIT, FIRST-CELL}
 use Rattle.store.specs.Fields.{FIRST-SLOT, OWNER, STATUS, MARK, RED, HOLDERS, SUM, GIVEN}
+use Rattle.store.specs.Fields.{CORNER, FIRST-ENDED, FIRST-TAKEN, FREE, mostEntries}
 use Rattle.store.specs.Header.{headerb, stageb}
 use Rattle.store.specs.Headed.{header-is, header-yes, split-is, split-no}
 use Rattle.store.specs.Fetch.{entryCount, bitb}
@@ -93,7 +95,7 @@ marked-else ms (suc n) c j x i h = marked-else ms n (suc c) (nextMark x c j) (ma
     not-here (inr a) e = omega (arith, e)
 
 module _ (x₀ ms : List ℕ) where
-  own-same : (x : List ℕ) → ((i : ℕ) → i < MARK → field x i ≡ field x₀ i) → (c : ℕ) → c < 4096 → ownb x c ≡ ownb x₀ c
+  own-same : (x : List ℕ) → ((i : ℕ) → i < MARK → field x i ≡ field x₀ i) → (c : ℕ) → c < mostCells → ownb x c ≡ ownb x₀ c
   unfolding ownb
   own-same x h c l = ap₂ eqb (h (OWNER + c) (omega arith)) (h PART (omega arith))
 
@@ -109,7 +111,7 @@ module _ (x₀ ms : List ℕ) where
   unfolding nextMark
   next-same x c j o = ap (λ (b : Bool). elim b [ true ↦ suc j | false ↦ j ]) o
 
-  marked-at : (n c j : ℕ) (x : List ℕ) → c + n ≤ 4096 → full ≤ length x → ((i : ℕ) → i < MARK → field x i ≡ field x₀ i)
+  marked-at : (n c j : ℕ) (x : List ℕ) → c + n ≤ mostCells → full ≤ length x → ((i : ℕ) → i < MARK → field x i ≡ field x₀ i)
       → j ≡ countBefore x₀ c → marksDue x₀ ms n c j ≡ true → (d : ℕ) → c ≤ d → d < c + n → ownb x₀ d ≡ true
       → field (markedFrom x ms n c j) (MARK + d) ≡ getD ms (countBefore x₀ d) 0
   unfolding markedFrom marksDue
@@ -161,10 +163,10 @@ split-rest x h s = go (ℕ-discrete (field x ROUND) 0)
 -- nothing written
 no-entries : (x : List ℕ) → field x WRITTEN ≡ 0 → entryCount x ≡ 0
 unfolding entryCount
-no-entries x e = ap (λ (n : ℕ). elim (ltb n 28696) [ true ↦ n | false ↦ 28696 ]) e
+no-entries x e = ap (λ (n : ℕ). elim (ltb n mostEntries) [ true ↦ n | false ↦ mostEntries ]) e
 
-empty-queue : (x : List ℕ) → field x WRITTEN ≡ 0 → field x CURSOR ≡ 0 → ((q : ℕ) → q < 16 → field x (GIVEN + q) ≡ 0)
-    → (queueOf x ≡ []) × ((q : ℕ) → q < 16 → givenAfter (givenTo x) (leftOf x) q ≡ 0)
+empty-queue : (x : List ℕ) → field x WRITTEN ≡ 0 → field x CURSOR ≡ 0 → ((q : ℕ) → q < mostParts → field x (GIVEN + q) ≡ 0)
+    → (queueOf x ≡ []) × ((q : ℕ) → q < mostParts → givenAfter (givenTo x) (leftOf x) q ≡ 0)
 unfolding queueOf leftOf spotsFrom stream givenAfter
 empty-queue x w c g =
     let z : entryCount x - field x CURSOR ≡ 0 = omega (arith, no-entries x w, c) in
@@ -212,20 +214,21 @@ module _ (P : ℕ) (J : Task (Fin P)) (fit : Fit J) (reads : Fin P → List ℕ 
   due : marksDue x ms (field x CELLS) 0 0 ≡ true
   due = idle .marks ms ∙ fine
 
-  else : (i : ℕ) → i ≢ 0 → (i < MARK) ⊎ (MARK + 4096 ≤ i) → field x0 i ≡ field x i
+  else : (i : ℕ) → i ≢ STAGE → (i < MARK) ⊎ (MARK + mostCells ≤ i) → field x0 i ≡ field x i
   else i h (inl a) = getD-set-other m STAGE i 1 0 h ∙ marked-else ms (field x CELLS) 0 0 x i (inl (omega arith))
   else i h (inr a) = getD-set-other m STAGE i 1 0 h ∙ marked-else ms (field x CELLS) 0 0 x i (inr (omega (arith, co .cells-few)))
 
   size : length x0 ≡ length x
   size = length-set m STAGE 1 ∙ marked-size ms (field x CELLS) 0 0 x
 
-  below : (i : ℕ) → 1 ≤ i → i < MARK → field x0 i ≡ field x i
+  below : (i : ℕ) → PART ≤ i → i < MARK → field x0 i ≡ field x i
   below i a b = else i (λ e. absurd (omega (arith, e))) (inl b)
 
   stay : Stay x x0
   stay = record { size = size; else = λ i h. go i h }
     where
-      go : (i : ℕ) → ((1 ≤ i) × (i < 7)) ⊎ (((16 ≤ i) × (i < 40)) ⊎ (((112 ≤ i) × (i < 41072)) ⊎ ((49264 ≤ i) × (i < 99440))))
+      go : (i : ℕ) → ((PART ≤ i) × (i < ROUND)) ⊎ (((FIRST-CELL ≤ i) × (i < FREE))
+          ⊎ (((OWNER ≤ i) × (i < MARK)) ⊎ ((CORNER ≤ i) × (i < SUM))))
           → field x0 i ≡ field x i
       go i (inl (a, b)) = below i a (omega arith)
       go i (inr (inl (a, b))) = below i (omega arith) (omega arith)
@@ -270,7 +273,7 @@ module _ (P : ℕ) (J : Task (Fin P)) (fit : Fit J) (reads : Fin P → List ℕ 
   sums : (j : ℕ) → HoldsSlot P J p j → field x0 (SUM + j) ≡ 0
   sums j h = else (SUM + j) (λ e. absurd (omega (arith, e))) (inr (omega arith)) ∙ idle .sums j h
 
-  nothing : (queueOf x0 ≡ []) × ((q : ℕ) → q < 16 → givenAfter (givenTo x0) (leftOf x0) q ≡ 0)
+  nothing : (queueOf x0 ≡ []) × ((q : ℕ) → q < mostParts → givenAfter (givenTo x0) (leftOf x0) q ≡ 0)
   nothing =
       empty-queue x0 (below WRITTEN (omega arith) (omega arith) ∙ idle .written) (below CURSOR (omega arith) (omega arith) ∙ idle .cursor)
       (λ q h. below (GIVEN + q) (omega arith) (omega arith) ∙ idle .no-counts (GIVEN + q) (omega arith) (omega arith))
@@ -289,12 +292,12 @@ module _ (P : ℕ) (J : Task (Fin P)) (fit : Fit J) (reads : Fin P → List ℕ 
     round = below ROUND (omega arith) (omega arith) ∙ no-round .0;
     taken = λ q.
         let h : q .0 < P = q .1 in
-        below (64 + q .0) (omega arith) (omega (arith, co .parts-few))
-        ∙ idle .no-counts (64 + q .0) (omega arith) (omega (arith, co .parts-few));
+        below (FIRST-TAKEN + q .0) (omega arith) (omega (arith, co .parts-few))
+        ∙ idle .no-counts (FIRST-TAKEN + q .0) (omega arith) (omega (arith, co .parts-few));
     ends = λ q i o.
         let h : q .0 < P = q .1 in
-        below (80 + q .0) (omega arith) (omega (arith, co .parts-few))
-        ∙ idle .no-counts (80 + q .0) (omega arith) (omega (arith, co .parts-few));
+        below (FIRST-ENDED + q .0) (omega arith) (omega (arith, co .parts-few))
+        ∙ idle .no-counts (FIRST-ENDED + q .0) (omega arith) (omega (arith, co .parts-few));
     queue = nothing .0;
     sent = λ q. let h : q .0 < P = q .1 in nothing .1 (q .0) (omega (arith, co .parts-few));
     cursor =
@@ -318,7 +321,7 @@ module _ (P : ℕ) (J : Task (Fin P)) (fit : Fit J) (reads : Fin P → List ℕ 
 
   hits : (i : ℕ) → HoldsSlot P J p i → hitb x0 i ≡ false
   unfolding hitb
-  hits i h = rw (sums i h) (and-none (ltb i 24576))
+  hits i h = rw (sums i h) (and-none (ltb i mostSlots))
     where
       and-none : (b : Bool) → (b && false) ≡ false
       and-none true = refl
@@ -357,11 +360,11 @@ module _ (P : ℕ) (J : Task (Fin P)) (fit : Fit J) (reads : Fin P → List ℕ 
   unfolding overb
   live = ap overb here
 
-  no-ends : (q : Fin P) → isPart (parts P) q p ≡ false → field x0 (80 + q .0) ≡ 0
+  no-ends : (q : Fin P) → isPart (parts P) q p ≡ false → field x0 (FIRST-ENDED + q .0) ≡ 0
   unfolding one-if endedb
   no-ends q j = busy0 .ends q j live
 
-  keep : (i : ℕ) → i ≢ 14 → i < RED → field z i ≡ field x0 i
+  keep : (i : ℕ) → i ≢ WRITTEN → i < RED → field z i ≡ field x0 i
   unfolding starting
   keep = enter-keeps P J fit reads p l0 x0 busy0 co0 (reads p ms) marked (λ i. false) hits (λ c. false) no-flags 0 (omega arith) 0 here
       (omega arith) (starting (parts P) J p (reads p ms)) first-red (λ i h. sums i h) refl no-ends spent (fits .sent)

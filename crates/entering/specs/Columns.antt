@@ -12,6 +12,7 @@ use lib.Dec.{ltb}
 use lib.ListN.{length}
 use Rattle.base.specs.Bools.{one-if}
 use Rattle.base.specs.Every.{All}
+use Rattle.base.specs.Limits.{mostCells, mostSlots, mostCoarseCells, mostLevels, mostParts}
 use Rattle.base.specs.Range.{range}
 use Rattle.exchange.specs.Finite.{parts}
 use Rattle.base.specs.Member.{Member}
@@ -33,7 +34,7 @@ pub record Path (k : ℕ) (l : List ℕ) : Type 0 where
   pub coarse : ℕ
   pub down : List ℕ
   pub is : l ≡ coarse ∷ down
-  pub coarse-few : coarse < 256
+  pub coarse-few : coarse < mostCoarseCells
   pub deep : length down ≡ k
   pub digits : All (λ i. i < 8) down
 
@@ -42,11 +43,11 @@ module _ (P : ℕ) (J : Task (Fin P)) (p : Fin P) where
     pub long : full ≤ length x
     pub part : field x PART ≡ suc (p .0)
     pub many : field x PARTS ≡ P
-    pub parts-few : P ≤ 16
+    pub parts-few : P ≤ mostParts
     -- levels
     pub levels : field x LEVELS ≡ suc (J .top)
-    pub levels-few : J .top < 11
-    pub cells-few : field x CELLS ≤ 4096
+    pub levels-few : J .top < mostLevels
+    pub cells-few : field x CELLS ≤ mostCells
     pub first-cell : field x (FIRST-CELL + 0) ≡ 0
     pub last-cell : field x (FIRST-CELL + suc (J .top)) ≡ field x CELLS
     pub cells-rise : (k : ℕ) → k ≤ J .top → field x (FIRST-CELL + k) ≤ field x (FIRST-CELL + suc k)
@@ -54,10 +55,10 @@ module _ (P : ℕ) (J : Task (Fin P)) (p : Fin P) where
     pub cells : (k : ℕ) → k ≤ J .top
         → J .cells k ≡ range (field x (FIRST-CELL + k)) (field x (FIRST-CELL + suc k) - field x (FIRST-CELL + k))
     pub no-cells : (k c : ℕ) → Member c (J .cells k) → k ≤ J .top
-    pub slots-low : (k s : ℕ) → Member s (J .slots k) → s < 24576
+    pub slots-low : (k s : ℕ) → Member s (J .slots k) → s < mostSlots
     pub first-slot : field x (FIRST-SLOT + 0) ≡ 0
     pub slots-rise : (k : ℕ) → k ≤ J .top → field x (FIRST-SLOT + k) ≤ field x (FIRST-SLOT + suc k)
-    pub slots-in : (k : ℕ) → k ≤ suc (J .top) → field x (FIRST-SLOT + k) ≤ 24576
+    pub slots-in : (k : ℕ) → k ≤ suc (J .top) → field x (FIRST-SLOT + k) ≤ mostSlots
     pub slots : (k : ℕ) → k ≤ J .top
         → J .slots k ≡ range (field x (FIRST-SLOT + k)) (field x (FIRST-SLOT + suc k) - field x (FIRST-SLOT + k))
     -- cells that the part holds, and others
@@ -84,7 +85,7 @@ module _ (P : ℕ) (J : Task (Fin P)) (p : Fin P) where
     -- slots that the part holds, and others
     pub holders : (k s : ℕ) → Member s (J .slots k) → holdsb (parts P) J p k s ≡ true → (q : Fin P)
         → bitb (field x (HOLDERS + s)) (q .0) ≡ holdsb (parts P) J q k s
-    pub no-more : (s i : ℕ) → s < 24576 → P ≤ i → bitb (field x (HOLDERS + s)) i ≡ false
+    pub no-more : (s i : ℕ) → s < mostSlots → P ≤ i → bitb (field x (HOLDERS + s)) i ≡ false
     pub no-holders : (k s : ℕ) → Member s (J .slots k) → holdsb (parts P) J p k s ≡ false → field x (HOLDERS + s) ≡ 0
     pub held-slot : (k s : ℕ) → holdsb (parts P) J p k s ≡ true → Member s (J .slots k)
 

@@ -12,6 +12,7 @@ use native.Mathlib.Decide.{Fin·val-path}
 use lib.Dec.{eqb, ltb, leb}
 use lib.ListN.{length, set}
 use borrow.Author.Tests.{eq-eqb, ne-eqb, eqb-true}
+use Rattle.base.specs.Limits.{mostCells, mostSlots}
 use Rattle.mesh.specs.Laws.{six-below}
 use Rattle.base.specs.Bools.{one-if, eqb-one, not-both}
 use Rattle.base.specs.Lists.{allb, anyb, memberb}
@@ -77,16 +78,16 @@ unfolding ruleb ruleOf
 rule-of x c = refl
 
 -- the rule does not look at flags
-module _ (x y : List ℕ) (s : SameBut RED 4096 x y) where
+module _ (x y : List ℕ) (s : SameBut RED mostCells x y) where
   hit-keeps : (n : ℕ) → hitb y n ≡ hitb x n
   unfolding hitb
-  hit-keeps n = ap (λ (i : ℕ). ltb n 24576 && not (eqb i 0)) (s .rest (SUM + n) (inr (omega arith)))
+  hit-keeps n = ap (λ (i : ℕ). ltb n mostSlots && not (eqb i 0)) (s .rest (SUM + n) (inr (omega arith)))
 
   edge-keeps : (d e : ℕ) → hitOf y d e ≡ hitOf x d e
   unfolding hitOf
   edge-keeps d e = hit-keeps (slotAt y d e) ∙ ap (hitb x) (s .rest (SLOT + (6 * d + e)) (inr (omega arith)))
 
-  idle-keeps : (d : ℕ) → d < 4096 → idleKid y d ≡ idleKid x d
+  idle-keeps : (d : ℕ) → d < mostCells → idleKid y d ≡ idleKid x d
   unfolding idleKid
   idle-keeps d l = rw (
     s .rest (STATUS + d) (inl (omega arith)),
@@ -94,33 +95,33 @@ module _ (x y : List ℕ) (s : SameBut RED 4096 x y) where
     some-same (hitOf y d) (hitOf x d) 6 0 (λ e a b. edge-keeps d e),
   ) refl
 
-  busy-keeps : (d : ℕ) → d < 4096 → busyb y d ≡ busyb x d
+  busy-keeps : (d : ℕ) → d < mostCells → busyb y d ≡ busyb x d
   unfolding busyb
   busy-keeps d l = ap not (idle-keeps d l)
 
-  pull-keeps : (d e : ℕ) → d < 4096 → pullOf y d e ≡ pullOf x d e
+  pull-keeps : (d e : ℕ) → d < mostCells → pullOf y d e ≡ pullOf x d e
   unfolding pullOf
   pull-keeps d e l = ap₂ (λ (i : ℕ) (b : Bool). bitb i e && b) (s .rest (INNER + d) (inl (omega arith))) (edge-keeps d e)
 
-  pulled-keeps : (d : ℕ) → d < 4096 → pulledKid y d ≡ pulledKid x d
+  pulled-keeps : (d : ℕ) → d < mostCells → pulledKid y d ≡ pulledKid x d
   unfolding pulledKid
   pulled-keeps d l = ap₂ (λ (i : ℕ) (b : Bool). eqb i 1 || b) (s .rest (MARK + d) (inl (omega arith)))
       (some-same (pullOf y d) (pullOf x d) 6 0 (λ e a b. pull-keeps d e l))
 
-  count-keeps : (c : ℕ) → c < 4096 → kidCount y c ≡ kidCount x c
+  count-keeps : (c : ℕ) → c < mostCells → kidCount y c ≡ kidCount x c
   count-keeps c l =
       let e : countOf (field y (STATUS + c)) (field y CELLS) (field y (CHILD + c))
       ≡ countOf (field x (STATUS + c)) (field x CELLS) (field x (CHILD + c)) =
       rw (s .rest (STATUS + c) (inl (omega arith)), s .rest CELLS (inl (omega arith)), s .rest (CHILD + c) (inl (omega arith))) refl in
       count-of y c ∙ e ∙ sym (count-of x c)
 
-  kids-keep : (f g : ℕ → Bool) (c : ℕ) → c < 4096 → field x CELLS ≤ 4096 → ((d : ℕ) → d < 4096 → f d ≡ g d)
+  kids-keep : (f g : ℕ → Bool) (c : ℕ) → c < mostCells → field x CELLS ≤ mostCells → ((d : ℕ) → d < mostCells → f d ≡ g d)
       → someFrom f (kidCount y c) (field y (CHILD + c)) ≡ someFrom g (kidCount x c) (field x (CHILD + c))
   kids-keep f g c l few h =
       ap₂ (λ (n e : ℕ). someFrom f n e) (count-keeps c l) (s .rest (CHILD + c) (inl (omega arith)))
       ∙ some-same f g (kidCount x c) (field x (CHILD + c)) (λ d a b. h d (omega (arith, a, b, kids-in x c, few)))
 
-  rule-keeps : (c : ℕ) → c < 4096 → field x CELLS ≤ 4096 → ruleb y c ≡ ruleb x c
+  rule-keeps : (c : ℕ) → c < mostCells → field x CELLS ≤ mostCells → ruleb y c ≡ ruleb x c
   rule-keeps c l few =
       let leaf : eqb (field y (REGULAR + c)) 1 && eqb (field y (MARK + c)) 1 ≡ eqb (field x (REGULAR + c)) 1 && eqb (field x (MARK + c)) 1 =
       rw (s .rest (REGULAR + c) (inl (omega arith)), s .rest (MARK + c) (inl (omega arith))) refl in
@@ -131,20 +132,20 @@ module _ (x y : List ℕ) (s : SameBut RED 4096 x y) where
       (kids-keep (pulledKid y) (pulledKid x) c l few pulled-keeps)
       ∙ sym (rule-of x c)
 
-decide-but : (y : List ℕ) (c : ℕ) → c < 4096 → SameBut RED 4096 y (decideOne y c)
+decide-but : (y : List ℕ) (c : ℕ) → c < mostCells → SameBut RED mostCells y (decideOne y c)
 unfolding decideOne
 decide-but y c l = go (eqb (field y (FAMILY + c)) (field y PART) && ruleb y c) refl
   where
-    go : (b : Bool) → eqb (field y (FAMILY + c)) (field y PART) && ruleb y c ≡ b → SameBut RED 4096 y (decideOne y c)
-    go true e = rw (e, decideOne) (but-set RED 4096 y (RED + c) 1 (omega arith) (omega arith))
-    go false e = rw (e, decideOne) (but-self RED 4096 y)
+    go : (b : Bool) → eqb (field y (FAMILY + c)) (field y PART) && ruleb y c ≡ b → SameBut RED mostCells y (decideOne y c)
+    go true e = rw (e, decideOne) (but-set RED mostCells y (RED + c) 1 (omega arith) (omega arith))
+    go false e = rw (e, decideOne) (but-self RED mostCells y)
 
 module _ (P : ℕ) (J : Task (Fin P)) (p : Fin P) (x : List ℕ) (u : Columns P J p x) (k : ℕ) where
-  decided-but : SameBut RED 4096 x (decidedAt x k)
-  decided-but = but-each RED 4096 decideOne 4096 decide-but (levelFrom x (k + 1) - levelFrom x k) (levelFrom x k)
+  decided-but : SameBut RED mostCells x (decidedAt x k)
+  decided-but = but-each RED mostCells decideOne mostCells decide-but (levelFrom x (k + 1) - levelFrom x k) (levelFrom x k)
       (level-inside P J p x u k) x
 
-  pub decided-else : (i : ℕ) → (i < RED) ⊎ (RED + 4096 ≤ i) → field (decidedAt x k) i ≡ field x i
+  pub decided-else : (i : ℕ) → (i < RED) ⊎ (RED + mostCells ≤ i) → field (decidedAt x k) i ≡ field x i
   decided-else = decided-but .rest
 
   pub decided-length : length (decidedAt x k) ≡ length x
@@ -219,9 +220,9 @@ module _ (P : ℕ) (J : Task (Fin P)) (fit : Fit J) (p : Fin P) (x : List ℕ) (
             ∙ any-agree (pulledKid x) (pulled J h g) (J .kids c) (λ d n. pulled-is k c d m f n (kid-held d n) (kid-own d n)))
 
     -- the test of a cell in the loop, by a store that differs in flags only
-    turn-here : (y : List ℕ) → SameBut RED 4096 x y → eqb (field y (FAMILY + c)) (field y PART) && ruleb y c ≡ rule J h g c
+    turn-here : (y : List ℕ) → SameBut RED mostCells x y → eqb (field y (FAMILY + c)) (field y PART) && ruleb y c ≡ rule J h g c
     turn-here y s =
-        let l : c < 4096 = cell-low P J p x u c held-c in
+        let l : c < mostCells = cell-low P J p x u c held-c in
         let e : field y (FAMILY + c) ≡ field y PART =
         s .rest (FAMILY + c) (inl (omega arith)) ∙ u .family c held-c ∙ ap (λ (q : Fin P). suc (q .0)) f ∙ sym (u .part)
         ∙ sym (s .rest PART (inl (omega arith))) in
@@ -237,11 +238,11 @@ module _ (P : ℕ) (J : Task (Fin P)) (fit : Fit J) (p : Fin P) (x : List ℕ) (
       go false i = absurd (omega (arith, u .no-family k c m i, u .part, e))
 
   -- what the loop does at a cell of the level
-  test-is : (k c : ℕ) → Member c (J .cells k) → (y : List ℕ) → SameBut RED 4096 x y
+  test-is : (k c : ℕ) → Member c (J .cells k) → (y : List ℕ) → SameBut RED mostCells x y
       → eqb (field y (FAMILY + c)) (field y PART) && ruleb y c ≡ isPart (parts P) (J .family c) p && rule J h g c
   test-is k c m y s = go (isPart (parts P) (J .family c) p) refl
     where
-      l : c < 4096
+      l : c < mostCells
       l = omega (arith, member-low P J p x u k c m, u .cells-few)
 
       same : eqb (field y (FAMILY + c)) (field y PART) ≡ eqb (field x (FAMILY + c)) (field x PART)
@@ -264,7 +265,7 @@ module _ (P : ℕ) (J : Task (Fin P)) (fit : Fit J) (p : Fin P) (x : List ℕ) (
     test : ℕ → Bool
     test c = isPart (parts P) (J .family c) p && rule J h g c
 
-    turn : (y : List ℕ) (c : ℕ) → SameBut RED 4096 x y → first ≤ c → c < first + many
+    turn : (y : List ℕ) (c : ℕ) → SameBut RED mostCells x y → first ≤ c → c < first + many
         → decideOne y c ≡ elim (test c) [ true ↦ set y (RED + c) 1 | false ↦ y ]
     unfolding first many test decideOne
     turn y c s a b =
@@ -286,8 +287,8 @@ module _ (P : ℕ) (J : Task (Fin P)) (fit : Fit J) (p : Fin P) (x : List ℕ) (
         → field (decidedAt x k) (RED + c) ≡ one-if (red c || (decides (parts P) J p k c && rule J h g c))
     unfolding first many test decides
     decided c held =
-        each-flag RED 4096 decideOne test x (omega (arith, u .long)) first many (level-inside P J p x u k) turn many first x
-        (but-self RED 4096 x) (omega arith) (omega arith) c
+        each-flag RED mostCells decideOne test x (omega (arith, u .long)) first many (level-inside P J p x u k) turn many first x
+        (but-self RED mostCells x) (omega arith) (omega arith) c
         ∙ join (red c) (memberb c (range first many)) (isPart (parts P) (J .family c) p) (rule J h g c) (field x (RED + c)) (flags c held)
         ∙ ap (λ (l : List ℕ). one-if (red c || ((memberb c l && isPart (parts P) (J .family c) p) && rule J h g c)))
         (sym (cells-of-level P J p x u k low))

@@ -11,6 +11,7 @@ use native.Mathlib.Omega.{arith}
 use native.Mathlib.Nat.{min-le-right}
 use lib.Dec.{T, eqb, ltb, leb}
 use lib.ListN.{length, getD}
+use Rattle.base.specs.Limits.{mostCells}
 use Rattle.base.specs.Lists.{anyb}
 use Rattle.base.specs.Bools.{one-if}
 use Rattle.base.specs.Range.{range, member-range}
@@ -24,7 +25,7 @@ use Rattle.rounds.specs.Rounds.{holdsb, mine}
 use Rattle.rounds.specs.Rounded.{overb, sizedb, endedb}
 use Rattle.store.specs.Fields.{field, full, STAGE, PART, PARTS, CELLS, LEVELS, ROUND, TOTAL, HIGH, CURSOR, BIT, WRITTEN, FIRST-CELL}
 use Rattle.store.specs.Fields.{FIRST-SLOT, OWNER, FAMILY, STATUS, REGULAR, CHILD, PARENT, HEAD, DIGITS, MORE, INNER, MARK, RED, SLOT}
-use Rattle.store.specs.Fields.{HOLDERS, SUM}
+use Rattle.store.specs.Fields.{HOLDERS, SUM, CORNER, FIRST-ENDED, FIRST-TAKEN, FREE}
 use Rattle.store.specs.Header.{headerb}
 use Rattle.store.specs.Fetch.{entryCount, bitb}
 use Rattle.store.specs.declared.Place.{Place}
@@ -73,15 +74,15 @@ module _ (P : ℕ) where
 
 -- what entering a round leaves
 abbrev pub Untouched : ℕ → Type 0
-Untouched i = (i ≢ 14) × (((1 ≤ i) × (i < 7)) ⊎ (((12 ≤ i) × (i < 41072)) ⊎ ((49264 ≤ i) × (i < 99440))))
+Untouched i = (i ≢ WRITTEN) × (((PART ≤ i) × (i < ROUND)) ⊎ (((CURSOR ≤ i) × (i < MARK)) ⊎ ((CORNER ≤ i) × (i < SUM))))
 
-low-kept : (i : ℕ) → 1 ≤ i → i < 7 → Untouched i
+low-kept : (i : ℕ) → PART ≤ i → i < ROUND → Untouched i
 low-kept i a b = ((λ z. absurd (omega (arith, z))), inl (a, b))
 
-mid-kept : (i : ℕ) → 12 ≤ i → i < 41072 → i ≢ 14 → Untouched i
+mid-kept : (i : ℕ) → CURSOR ≤ i → i < MARK → i ≢ WRITTEN → Untouched i
 mid-kept i a b n = (n, inr (inl (a, b)))
 
-high-kept : (i : ℕ) → 49264 ≤ i → i < 99440 → Untouched i
+high-kept : (i : ℕ) → CORNER ≤ i → i < SUM → Untouched i
 high-kept i a b = ((λ z. absurd (omega (arith, z))), inr (inr (a, b)))
 
 module _ (P : ℕ) (J : Task (Fin P)) (p : Fin P) (l : L P J) (x : List ℕ) (u : Busy P J p l x) where
@@ -90,7 +91,7 @@ module _ (P : ℕ) (J : Task (Fin P)) (p : Fin P) (l : L P J) (x : List ℕ) (u 
       (size : length z ≡ length x) (same : (i : ℕ) → Untouched i → field z i ≡ field x i)
       (head : headerb z ≡ true) (round : field z ROUND ≡ r)
       (running : overb (phase (J .top) r) ≡ false → field z STAGE ≡ 1) (done : overb (phase (J .top) r) ≡ true → field z STAGE ≡ 2)
-      (ends : (q : Fin P) → isPart (parts P) q p ≡ false → overb (phase (J .top) r) ≡ false → field x (80 + q .0) ≡ r)
+      (ends : (q : Fin P) → isPart (parts P) q p ≡ false → overb (phase (J .top) r) ≡ false → field x (FIRST-ENDED + q .0) ≡ r)
       (flags : (c : ℕ) → HoldsCell P J p c → field z (RED + c) ≡ one-if (s .red c))
       (sums : (i : ℕ) → HoldsSlot P J p i → field z (SUM + i) ≡ s .sum i)
       (sized : sizedb (phase (J .top) r) ≡ true → (field z TOTAL ≡ capped (s .total)) × (field z HIGH ≡ s .high)) where
@@ -120,10 +121,12 @@ module _ (P : ℕ) (J : Task (Fin P)) (p : Fin P) (l : L P J) (x : List ℕ) (u 
         round = round;
         taken = λ q.
             let h = part-low P J p l x u q in
-            same (64 + q .0) (mid-kept (64 + q .0) (omega arith) (omega arith) (λ e. absurd (omega (arith, e)))) ∙ u .taken q ∙ omega arith;
+            same (FIRST-TAKEN + q .0) (mid-kept (FIRST-TAKEN + q .0) (omega arith) (omega arith) (λ e. absurd (omega (arith, e))))
+            ∙ u .taken q ∙ omega arith;
         ends = λ q i o.
             let h = part-low P J p l x u q in
-            same (80 + q .0) (mid-kept (80 + q .0) (omega arith) (omega arith) (λ e. absurd (omega (arith, e)))) ∙ ends q i o ∙ omega arith;
+            same (FIRST-ENDED + q .0) (mid-kept (FIRST-ENDED + q .0) (omega arith) (omega arith) (λ e. absurd (omega (arith, e))))
+            ∙ ends q i o ∙ omega arith;
         queue = step-queue P J p z part-own l x n u longer t matches room;
         sent = step-sent P J p z part-own l x n u longer t matches room;
         cursor =
@@ -150,12 +153,12 @@ module _ (P : ℕ) (J : Task (Fin P)) (p : Fin P) (l : L P J) (x : List ℕ) (u 
         high = λ o. sized o .1 ∙ omega (arith, top-none P);
       }
         where
-          few : field x CELLS ≤ 4096
+          few : field x CELLS ≤ mostCells
           few = held-few P J p l x u
 
 -- the columns of the split
 abbrev pub Static : ℕ → Type 0
-Static i = ((1 ≤ i) × (i < 7)) ⊎ (((16 ≤ i) × (i < 40)) ⊎ (((112 ≤ i) × (i < 41072)) ⊎ ((49264 ≤ i) × (i < 99440))))
+Static i = ((PART ≤ i) × (i < ROUND)) ⊎ (((FIRST-CELL ≤ i) × (i < FREE)) ⊎ (((OWNER ≤ i) × (i < MARK)) ⊎ ((CORNER ≤ i) × (i < SUM))))
 
 pub static-low : (i : ℕ) → Static i → (i < SUM) × (i ≢ ROUND) × (i ≢ WRITTEN)
 static-low i (inl (a, b)) = (omega arith, (λ e. absurd (omega (arith, e))), λ e. absurd (omega (arith, e)))
@@ -183,16 +186,16 @@ place-like x y c a b d =
     ∙ ap {A = ℕ} {B = Place} (λ m. record { head = field x (HEAD + c); digits = field x (DIGITS + c); more = m }) d
 
 module _ (P : ℕ) (J : Task (Fin P)) (p : Fin P) (x y : List ℕ) (s : Stay x y) where
-  low : (i : ℕ) → 1 ≤ i → i < 7 → field y i ≡ field x i
+  low : (i : ℕ) → PART ≤ i → i < ROUND → field y i ≡ field x i
   low i a b = s .else i (inl (a, b))
 
-  level : (i : ℕ) → 16 ≤ i → i < 40 → field y i ≡ field x i
+  level : (i : ℕ) → FIRST-CELL ≤ i → i < FREE → field y i ≡ field x i
   level i a b = s .else i (inr (inl (a, b)))
 
-  column : (i : ℕ) → 112 ≤ i → i < 41072 → field y i ≡ field x i
+  column : (i : ℕ) → OWNER ≤ i → i < MARK → field y i ≡ field x i
   column i a b = s .else i (inr (inr (inl (a, b))))
 
-  upper : (i : ℕ) → 49264 ≤ i → i < 99440 → field y i ≡ field x i
+  upper : (i : ℕ) → CORNER ≤ i → i < SUM → field y i ≡ field x i
   upper i a b = s .else i (inr (inr (inr (a, b))))
 
   pub columns-stay : Columns P J p x → Columns P J p y
@@ -249,27 +252,27 @@ module _ (P : ℕ) (J : Task (Fin P)) (p : Fin P) (x y : List ℕ) (s : Stay x y
       slot-first : (k : ℕ) → k ≤ suc (J .top) → field y (FIRST-SLOT + k) ≡ field x (FIRST-SLOT + k)
       slot-first k h = level (FIRST-SLOT + k) (omega arith) (omega (arith, co .levels-few))
 
-      member-low : (k c : ℕ) → Member c (J .cells k) → c < 4096
+      member-low : (k c : ℕ) → Member c (J .cells k) → c < mostCells
       member-low k c m =
           let h = co .no-cells k c m in
           let (a, b) = member-range (field x (FIRST-CELL + k)) (field x (FIRST-CELL + suc k) - field x (FIRST-CELL + k)) c
           (subst (Member c) (co .cells k h) m) in
           omega (arith, b, co .cells-in (suc k) (omega arith), co .cells-rise k h, co .cells-few)
 
-      cell-low : (c : ℕ) → HoldsCell P J p c → c < 4096
+      cell-low : (c : ℕ) → HoldsCell P J p c → c < mostCells
       cell-low c (k, m, h) = member-low k c m
 
-      by : (o k c : ℕ) → Member c (J .cells k) → 112 ≤ o → o ≤ 36976 → field y (o + c) ≡ field x (o + c)
+      by : (o k c : ℕ) → Member c (J .cells k) → OWNER ≤ o → o ≤ INNER → field y (o + c) ≡ field x (o + c)
       by o k c m a b = column (o + c) (omega arith) (omega (arith, member-low k c m))
 
-      at : (o c : ℕ) → HoldsCell P J p c → 112 ≤ o → o ≤ 36976 → field y (o + c) ≡ field x (o + c)
+      at : (o c : ℕ) → HoldsCell P J p c → OWNER ≤ o → o ≤ INNER → field y (o + c) ≡ field x (o + c)
       at o c h a b = column (o + c) (omega arith) (omega (arith, cell-low c h))
 
       kids-same : (k c : ℕ) → Member c (J .cells k) → kidCount y c ≡ kidCount x c
       kids-same k c m =
           kid-count x y c (by STATUS k c m (omega arith) (omega arith)) (by CHILD k c m (omega arith) (omega arith)) cells-same
 
-      kid-at : (o k c d : ℕ) → Member c (J .cells k) → J .family c ≡ p → Member d (J .kids c) → 112 ≤ o → o ≤ 36976
+      kid-at : (o k c d : ℕ) → Member c (J .cells k) → J .family c ≡ p → Member d (J .kids c) → OWNER ≤ o → o ≤ INNER
           → field y (o + d) ≡ field x (o + d)
       kid-at o k c d m f i a b =
           let (v, w) = member-range (field x (CHILD + c)) (kidCount x c) d (subst (Member d) (co .kids k c m f) i) in

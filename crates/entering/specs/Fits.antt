@@ -4,6 +4,7 @@
 use mathlib.Core.Path.{_≡_}
 use mathlib.Core.Bool.{Bool, true, false}
 use Prim.Native.Nat.{ℕ, _-_, _≤_, _<_, Fin}
+use Rattle.base.specs.Limits.{mostCells, mostLevels, tooMany}
 use Rattle.exchange.specs.Finite.{parts}
 use Rattle.base.specs.Member.{Member}
 use Rattle.rounds.specs.Task.{Task}
@@ -29,9 +30,9 @@ module _ (P : ℕ) (J : Task (Fin P)) (p : Fin P) where
     -- in a round of counts all that is known of a slot are the own masters
     pub own : (i s : ℕ) → phase (J .top) (l .round) ≡ counts i → Member s (J .slots (J .top - i))
         → holdsb (parts P) J p (J .top - i) s ≡ true → l .state .own s ≡ l .state .sum s
-    pub count : (s : ℕ) → l .state .own s ≤ 4096
-    pub total : phase (J .top) (l .round) ≡ totals → l .state .total ≤ 4097
-    pub high : phase (J .top) (l .round) ≡ totals → l .state .high ≤ 11
+    pub count : (s : ℕ) → l .state .own s ≤ mostCells
+    pub total : phase (J .top) (l .round) ≡ totals → l .state .total ≤ tooMany
+    pub high : phase (J .top) (l .round) ≡ totals → l .state .high ≤ mostLevels
     -- marks are told in rounds of marks only, counts in rounds of counts
     pub no-marks : ofMarksb (phase (J .top) (l .round)) ≡ false → (c : ℕ) → told (parts P) (l .got) c ≡ false
     pub no-counts : ofCountsb (phase (J .top) (l .round)) ≡ false → (s : ℕ) → added (parts P) (l .got) s ≡ 0

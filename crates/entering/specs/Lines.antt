@@ -13,6 +13,7 @@ use lib.Dec.{eqb, ltb, leb}
 use lib.ListN.{length}
 use borrow.Author.Tests.{eq-eqb, ne-eqb, lt-ltb, le-ltb, le-leb}
 use Rattle.base.specs.Bools.{one-if}
+use Rattle.base.specs.Limits.{mostCells, mostLevels, mostSlots, tooMany, mostParts}
 use Rattle.base.specs.Range.{range, range-member}
 use Rattle.exchange.specs.Finite.{parts}
 use Rattle.base.specs.Member.{Member}
@@ -22,7 +23,7 @@ use Rattle.rounds.specs.Among.{is-same, is-not}
 use Rattle.rounds.specs.Order.{toAll, otherb, orderOf}
 use Rattle.rounds.specs.Upward.{ups}
 use Rattle.store.specs.Fields.{field, full, PART, PARTS, HIGH, TOTAL, WRITTEN, OWNER, FAMILY, RED, HOLDERS}
-use Rattle.store.specs.Fields.{SUM}
+use Rattle.store.specs.Fields.{SUM, CODE, countCode, mostEntries, totalsCode}
 use Rattle.store.specs.Fetch.{bitb}
 use Rattle.standing.specs.Absorbs.{and-none}
 use Rattle.standing.specs.Busy.{HoldsCell}
@@ -123,9 +124,9 @@ module _ (P : ℕ) (J : Task (Fin P)) (p : Fin P) (x : List ℕ) (co : Columns P
   abbrev pub totalLine : ℕ → ℕ → Line P
   totalLine n h = record { body = total n h; test = other; mask = othersOf x }
 
-  total-sent : (n h : ℕ) → n ≤ 4097 → h ≤ 11 → Sent P (totalLine n h)
+  total-sent : (n h : ℕ) → n ≤ tooMany → h ≤ mostLevels → Sent P (totalLine n h)
   unfolding bodyb
-  total-sent n h a b = record { room = λ e. rw (le-leb n 4097 a, le-leb h 11 b); bits = others-bits; beyond = others-beyond }
+  total-sent n h a b = record { room = λ e. rw (le-leb n tooMany a, le-leb h mostLevels b); bits = others-bits; beyond = others-beyond }
 
   -- what is read of a store that differs in its entries alone
   others-same : (y : List ℕ) → SameElse x y → othersOf y ≡ othersOf x
@@ -133,7 +134,8 @@ module _ (P : ℕ) (J : Task (Fin P)) (p : Fin P) (x : List ℕ) (co : Columns P
   others-same y s = ap₂ (λ (a b : ℕ). 2 ^ a - 1 - 2 ^ (b - 1)) (s .else PARTS (λ z. absurd (omega (arith, z))) (inl (omega arith)))
       (s .else PART (λ z. absurd (omega (arith, z))) (inl (omega arith)))
 
-  end-written : (y : List ℕ) → SameElse x y → field y WRITTEN + 1 ≤ 28696 → WroteLines P (co .parts-few) J p y (postEnd y) (endLine ∷ [])
+  end-written : (y : List ℕ) → SameElse x y → field y WRITTEN + 1 ≤ mostEntries
+      → WroteLines P (co .parts-few) J p y (postEnd y) (endLine ∷ [])
   unfolding postEnd entryCode entryValue
   end-written y s h =
       let l : full ≤ length y = omega (arith, s .size, co .long) in
@@ -208,8 +210,8 @@ module _ (P : ℕ) (J : Task (Fin P)) (p : Fin P) (x : List ℕ) (co : Columns P
             ap₂ eqb (co .family c held) (co .part) ∙ part-same P (J .family c) p f in
             let low : J .owner c .0 < P = J .owner c .1 in
             let h1 : leb 1 (field x (OWNER + c)) ≡ true = le-leb 1 (field x (OWNER + c)) (omega (arith, co .owner c held)) in
-            let h2 : leb (field x (OWNER + c)) 16 ≡ true =
-            le-leb (field x (OWNER + c)) 16 (omega (arith, co .owner c held, co .parts-few)) in
+            let h2 : leb (field x (OWNER + c)) mostParts ≡ true =
+            le-leb (field x (OWNER + c)) mostParts (omega (arith, co .owner c held, co .parts-few)) in
             ghost (rw (o, g, h1, h2)) (omega (arith, co .owner c held)) held
             (λ q.
             elim (parts P .same? p q) [
@@ -222,7 +224,7 @@ module _ (P : ℕ) (J : Task (Fin P)) (p : Fin P) (x : List ℕ) (co : Columns P
             ap₂ eqb (co .no-family k c m mn) (co .part) ∙ ne-eqb 0 (suc (p .0)) (λ z. absurd (omega (arith, z))) in
             none (rw g) (λ q. rw (is-not (parts P) (J .family c) p f) (and-none (other q)))
 
-    mark-sent : (k c : ℕ) → Member c (J .cells k) → c < 4096 → Sent P (markLine c)
+    mark-sent : (k c : ℕ) → Member c (J .cells k) → c < mostCells → Sent P (markLine c)
     unfolding bodyb markTest
     mark-sent k c m h = go (kind k c m)
       where
@@ -236,7 +238,7 @@ module _ (P : ℕ) (J : Task (Fin P)) (p : Fin P) (x : List ℕ) (co : Columns P
         go (ghost g o held t) =
             let z : markMask c ≡ 2 ^ (J .owner c .0) = a-mask c g ∙ ap (λ (n : ℕ). 2 ^ n) o in
             let low : J .owner c .0 < P = J .owner c .1 in record {
-              room = λ e. lt-ltb c 4096 h;
+              room = λ e. lt-ltb c mostCells h;
               bits = λ q. ap (λ (n : ℕ). bitb n (q .0)) z ∙ bit-power (J .owner c .0) (q .0) ∙ number-is P q (J .owner c)
                   ∙ part-sym P q (J .owner c) ∙ sym (t q);
               beyond =
@@ -244,12 +246,12 @@ module _ (P : ℕ) (J : Task (Fin P)) (p : Fin P) (x : List ℕ) (co : Columns P
                   ∙ ne-eqb i (J .owner c .0) (λ e. absurd (omega (arith, e)));
             }
 
-    mark-does : (k c : ℕ) → Member c (J .cells k) → c < 4096 → (y : List ℕ) → SameElse x y
+    mark-does : (k c : ℕ) → Member c (J .cells k) → c < mostCells → (y : List ℕ) → SameElse x y
         → markOne y c ≡ postLine P (co .parts-few) J p y (markLine c)
     unfolding markOne ghostAt entryCode entryValue posted
     mark-does k c m h y s = go (kind k c m)
       where
-        at : (i : ℕ) → i ≢ WRITTEN → i < 124016 → field y i ≡ field x i
+        at : (i : ℕ) → i ≢ WRITTEN → i < CODE → field y i ≡ field x i
         at i a b = s .else i a (inl b)
 
         same : ghostAt y c ≡ ghostAt x c
@@ -265,7 +267,7 @@ module _ (P : ℕ) (J : Task (Fin P)) (p : Fin P) (x : List ℕ) (co : Columns P
             let w : field y (OWNER + c) ≡ field x (OWNER + c) = at (OWNER + c) (λ z. absurd (omega (arith, z))) (omega arith) in
             rw (same ∙ g, markOne) (ap₂ (λ (a b : ℕ). posted y c a (2 ^ (b - 1))) r w ∙ sym (ap (posted y c (one-if (red c))) (a-mask c g)))
 
-    pub marks-written : (k a n : ℕ) → J .cells k ≡ range a n → a + n ≤ 4096 → field x WRITTEN + (n + 1) ≤ 28696
+    pub marks-written : (k a n : ℕ) → J .cells k ≡ range a n → a + n ≤ mostCells → field x WRITTEN + (n + 1) ≤ mostEntries
         → WroteLines P (co .parts-few) J p x (postEnd (eachFrom markOne n a x)) (map markLine (range a n) ++ (endLine ∷ []))
     marks-written k a n e few room =
         wrote-each P (co .parts-few) J p x (co .long) markOne markLine postEnd (endLine ∷ []) end-written n a
@@ -282,7 +284,7 @@ module _ (P : ℕ) (J : Task (Fin P)) (p : Fin P) (x : List ℕ) (co : Columns P
         (orders-one endLine)
 
   -- COUNTS
-  module _ (own : ℕ → ℕ) (k : ℕ) (few : (s : ℕ) → own s ≤ 4096)
+  module _ (own : ℕ → ℕ) (k : ℕ) (few : (s : ℕ) → own s ≤ mostCells)
       (sums : (s : ℕ) → Member s (J .slots k) → holdsb (parts P) J p k s ≡ true → field x (SUM + s) ≡ own s) where
     abbrev countMask : ℕ → ℕ
     countMask s = onlyIf (not (eqb (field x (SUM + s)) 0)) (besides x (field x (HOLDERS + s)))
@@ -330,7 +332,7 @@ module _ (P : ℕ) (J : Task (Fin P)) (p : Fin P) (x : List ℕ) (co : Columns P
             some (sums s m e) d
             (mask-some s (λ z. d (sym (sums s m e) ∙ z)) ∙ besides-own x (field x (HOLDERS + s)) (p .0) (omega (arith, co .part)) b) b e
 
-    count-sent : (s : ℕ) → Member s (J .slots k) → s < 24576 → Sent P (countLine s)
+    count-sent : (s : ℕ) → Member s (J .slots k) → s < mostSlots → Sent P (countLine s)
     unfolding bodyb countTest
     count-sent s m h = go (countKind s m)
       where
@@ -343,7 +345,7 @@ module _ (P : ℕ) (J : Task (Fin P)) (p : Fin P) (x : List ℕ) (co : Columns P
             }
         go (some e n z b w) =
             record {
-              room = λ d. rw (lt-ltb s 24576 h, le-leb 1 (own s) (omega (arith, n)), le-leb (own s) 4096 (few s));
+              room = λ d. rw (lt-ltb s mostSlots h, le-leb 1 (own s) (omega (arith, n)), le-leb (own s) mostCells (few s));
               bits = λ q. ap (λ (n : ℕ). bitb n (q .0)) z ∙ bit-less (p .0) (q .0) (field x (HOLDERS + s)) b
                   ∙ ap₂ (λ (a c : Bool). a && not c) (co .holders k s m w q) (number-is P q p ∙ part-sym P q p)
                   ∙ and-swap (holdsb (parts P) J q k s) (isPart (parts P) p q)
@@ -352,7 +354,7 @@ module _ (P : ℕ) (J : Task (Fin P)) (p : Fin P) (x : List ℕ) (co : Columns P
                   ∙ ap (λ (a : Bool). a && not (eqb i (p .0))) (co .no-more s i h l);
             }
 
-    count-does : (s : ℕ) → Member s (J .slots k) → s < 24576 → (y : List ℕ) → SameElse x y
+    count-does : (s : ℕ) → Member s (J .slots k) → s < mostSlots → (y : List ℕ) → SameElse x y
         → countOne y s ≡ postLine P (co .parts-few) J p y (countLine s)
     unfolding countOne entryCode entryValue posted
     count-does s m h y t = go (countKind s m) (ℕ-discrete (field x (SUM + s)) 0)
@@ -367,16 +369,16 @@ module _ (P : ℕ) (J : Task (Fin P)) (p : Fin P) (x : List ℕ) (co : Columns P
         go : CountKind s → Dec (field x (SUM + s) ≡ 0) → countOne y s ≡ postLine P (co .parts-few) J p y (countLine s)
         go c (yes e) =
             rw (eq-eqb (field y (SUM + s)) 0 (sm ∙ e), countOne)
-            (sym (ap (posted y (4096 + s) (own s)) (mask-none s e)))
+            (sym (ap (posted y (countCode + s) (own s)) (mask-none s e)))
         go (none z w) (no e) =
             let g : besides x (field x (HOLDERS + s)) ≡ 0 = sym (mask-some s e) ∙ z in
             rw (ne-eqb (field y (SUM + s)) 0 (λ i. e (sym sm ∙ i)), countOne)
-            (ap (posted y (4096 + s) (field y (SUM + s))) (bs ∙ g) ∙ sym (ap (posted y (4096 + s) (own s)) z))
+            (ap (posted y (countCode + s) (field y (SUM + s))) (bs ∙ g) ∙ sym (ap (posted y (countCode + s) (own s)) z))
         go (some i n z b w) (no e) =
             rw (ne-eqb (field y (SUM + s)) 0 (λ i. e (sym sm ∙ i)), countOne)
-            (ap₂ (posted y (4096 + s)) (sm ∙ i) (bs ∙ sym (mask-some s e)))
+            (ap₂ (posted y (countCode + s)) (sm ∙ i) (bs ∙ sym (mask-some s e)))
 
-    pub counts-written : (a n : ℕ) → J .slots k ≡ range a n → a + n ≤ 24576 → field x WRITTEN + (n + 1) ≤ 28696
+    pub counts-written : (a n : ℕ) → J .slots k ≡ range a n → a + n ≤ mostSlots → field x WRITTEN + (n + 1) ≤ mostEntries
         → WroteLines P (co .parts-few) J p x (postEnd (eachFrom countOne n a x)) (map countLine (range a n) ++ (endLine ∷ []))
     counts-written a n e below room =
         wrote-each P (co .parts-few) J p x (co .long) countOne countLine postEnd (endLine ∷ []) end-written n a
@@ -396,11 +398,11 @@ module _ (P : ℕ) (J : Task (Fin P)) (p : Fin P) (x : List ℕ) (co : Columns P
         (orders-one endLine)
 
   -- TOTALS
-  pub totals-written : (n h : ℕ) → field x TOTAL ≡ n → field x HIGH ≡ h → n ≤ 4097 → h ≤ 11 → field x WRITTEN + 2 ≤ 28696
+  pub totals-written : (n h : ℕ) → field x TOTAL ≡ n → field x HIGH ≡ h → n ≤ tooMany → h ≤ mostLevels → field x WRITTEN + 2 ≤ mostEntries
       → WroteLines P (co .parts-few) J p x (postEnd (postTotals x)) (totalLine n h ∷ endLine ∷ [])
   unfolding postTotals entryCode entryValue
   totals-written n h e f a b room =
-      let z : (28672 + field x HIGH) % 65536 ≡ 28672 + h = omega (arith, f) in
+      let z : (totalsCode + field x HIGH) % 65536 ≡ totalsCode + h = omega (arith, f) in
       let g : postTotals x ≡ postLine P (co .parts-few) J p x (totalLine n h) = ap₂ (λ (c v : ℕ). posted x c v (othersOf x)) z e in
       let s = posted-same P (co .parts-few) J p x (totalLine n h) (co .long) (omega arith) in
       subst (λ (y : List ℕ). WroteLines P (co .parts-few) J p x (postEnd y) (totalLine n h ∷ endLine ∷ [])) (sym g)

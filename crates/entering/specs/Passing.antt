@@ -11,6 +11,7 @@ use lib.Dec.{T, eqb, ltb, ltb→lt}
 use lib.ListN.{length, getD, take}
 use lib.Seq.{sets}
 use Rattle.base.specs.Bools.{and-right}
+use Rattle.base.specs.Limits.{mostLevels}
 use Rattle.base.specs.declared.Answer.the-variants.{Accepted}
 use Rattle.exchange.specs.Finite.{parts}
 use Rattle.exchange.specs.Protocol.{withQueue, withBody}
@@ -20,6 +21,7 @@ use Rattle.rounds.specs.Rounded.{wholeb}
 use Rattle.shares.specs.Grow.{entries}
 use Rattle.merging.specs.Totals.{grownOf}
 use Rattle.store.specs.Fields.{field, full, CELLS, RESULT, ENTRIES, WRITTEN, FIRST-CELL, FIRST-SLOT, MARK}
+use Rattle.store.specs.Fields.{BIT, CODE, CORNER, CURSOR, FIRST-TAKEN, FREE, GIVEN, OWNER, PART, PLACE-HEAD, RED, ROUND, SUM, TOTAL}
 use Rattle.store.specs.declared.Fetched.the-variants.{Message}
 use Rattle.store.specs.Fetch.{fetchRefusal, nextToGive, passedBy, givesb, fetchAnswer, fetchBytes, fetchAfter}
 use Rattle.store.specs.Hand.{handAnswer, handAfter}
@@ -39,11 +41,11 @@ module _ (x out : List ℕ) where
   unfolding givesb
   gives-low t = ltb→lt (nextToGive x .bit) 16 (and-right (eqb (fetchRefusal x out) 0) (ltb (nextToGive x .bit) 16) t)
 
-  fetch-keeps : (i : ℕ) → i ≢ 12 → i ≢ 13 → (i < 96) ⊎ (112 ≤ i) → field (fetchAfter x out) i ≡ field x i
+  fetch-keeps : (i : ℕ) → i ≢ CURSOR → i ≢ BIT → (i < GIVEN) ⊎ (OWNER ≤ i) → field (fetchAfter x out) i ≡ field x i
   unfolding fetchAfter
   fetch-keeps i a b c = go (givesb x out) refl c
     where
-      go : (g : Bool) → givesb x out ≡ g → (i < 96) ⊎ (112 ≤ i) → field (fetchAfter x out) i ≡ field x i
+      go : (g : Bool) → givesb x out ≡ g → (i < GIVEN) ⊎ (OWNER ≤ i) → field (fetchAfter x out) i ≡ field x i
       go true e (inl h) = rw (e, fetchAfter) (passed-else x (nextToGive x) i a b (λ z. absurd (omega (arith, z))))
       go true e (inr h) =
           let l = gives-low (rw e tt) in
@@ -59,9 +61,9 @@ module _ (x out : List ℕ) where
       go false e = rw (e, fetchAfter)
 
 -- what stands in a store beside its place, where columns, entries and places are as they were
-module _ (P : ℕ) (J : Task (Fin P)) (p : Fin P) (x y : List ℕ) (few : J .top < 11)
-    (low : (i : ℕ) → i < 10 → field y i ≡ field x i) (written : field y WRITTEN ≡ field x WRITTEN)
-    (levels : (i : ℕ) → 16 ≤ i → i < 40 → field y i ≡ field x i) (far : (i : ℕ) → 210104 ≤ i → field y i ≡ field x i) where
+module _ (P : ℕ) (J : Task (Fin P)) (p : Fin P) (x y : List ℕ) (few : J .top < mostLevels)
+    (low : (i : ℕ) → i < TOTAL → field y i ≡ field x i) (written : field y WRITTEN ≡ field x WRITTEN)
+    (levels : (i : ℕ) → FIRST-CELL ≤ i → i < FREE → field y i ≡ field x i) (far : (i : ℕ) → PLACE-HEAD ≤ i → field y i ≡ field x i) where
   spent-same : (f : Phase) → Spent P J f x → Spent P J f y
   unfolding Spent
   spent-same (marks i) h =
@@ -105,19 +107,20 @@ module _ (P : ℕ) (J : Task (Fin P)) (p : Fin P) (l : L P J) (x : List ℕ) (st
     abbrev y : List ℕ
     y = fetchAfter x out
 
-    keeps : (i : ℕ) → i ≢ 12 → i ≢ 13 → (i < 96) ⊎ (112 ≤ i) → field y i ≡ field x i
+    keeps : (i : ℕ) → i ≢ CURSOR → i ≢ BIT → (i < GIVEN) ⊎ (OWNER ≤ i) → field y i ≡ field x i
     keeps = fetch-keeps x out
 
-    fetch-low : (i : ℕ) → i < 10 → field y i ≡ field x i
+    fetch-low : (i : ℕ) → i < TOTAL → field y i ≡ field x i
     fetch-low i h = keeps i (λ z. absurd (omega (arith, z))) (λ z. absurd (omega (arith, z))) (inl (omega arith))
 
-    fetch-mid : (i : ℕ) → 14 ≤ i → (i < 96) ⊎ (112 ≤ i) → field y i ≡ field x i
+    fetch-mid : (i : ℕ) → WRITTEN ≤ i → (i < GIVEN) ⊎ (OWNER ≤ i) → field y i ≡ field x i
     fetch-mid i h = keeps i (λ z. absurd (omega (arith, z))) (λ z. absurd (omega (arith, z)))
 
     pub fetch-stay : Stay x y
     fetch-stay = record { size = fetch-size x out; else = λ i h. go i h }
       where
-        go : (i : ℕ) → ((1 ≤ i) × (i < 7)) ⊎ (((16 ≤ i) × (i < 40)) ⊎ (((112 ≤ i) × (i < 41072)) ⊎ ((49264 ≤ i) × (i < 99440))))
+        go : (i : ℕ) → ((PART ≤ i) × (i < ROUND)) ⊎ (((FIRST-CELL ≤ i) × (i < FREE))
+            ⊎ (((OWNER ≤ i) × (i < MARK)) ⊎ ((CORNER ≤ i) × (i < SUM))))
             → field y i ≡ field x i
         go i (inl (a, b)) = fetch-low i (omega arith)
         go i (inr (inl (a, b))) = fetch-mid i (omega arith) (inl (omega arith))
@@ -154,14 +157,16 @@ module _ (P : ℕ) (J : Task (Fin P)) (p : Fin P) (l : L P J) (x : List ℕ) (st
     abbrev z : List ℕ
     z = handAfter x (pack P J q p k b)
 
-    hand-keeps : (i : ℕ) → (i < 10) ⊎ (((12 ≤ i) × (i < 64)) ⊎ (((112 ≤ i) × (i < 45168)) ⊎ (((49264 ≤ i) × (i < 99440)) ⊎ (124016 ≤ i))))
+    hand-keeps : (i : ℕ) → (i < TOTAL) ⊎ (((CURSOR ≤ i) × (i < FIRST-TAKEN))
+        ⊎ (((OWNER ≤ i) × (i < RED)) ⊎ (((CORNER ≤ i) × (i < SUM)) ⊎ (CODE ≤ i))))
         → field z i ≡ field x i
     hand-keeps = hand-else P J p l x (st .busy) q b (fits .good) w
 
     pub hand-stay : Stay x z
     hand-stay = record { size = hand-length P J p l x (st .busy) q b (fits .good) w; else = λ i h. go i h }
       where
-        go : (i : ℕ) → ((1 ≤ i) × (i < 7)) ⊎ (((16 ≤ i) × (i < 40)) ⊎ (((112 ≤ i) × (i < 41072)) ⊎ ((49264 ≤ i) × (i < 99440))))
+        go : (i : ℕ) → ((PART ≤ i) × (i < ROUND)) ⊎ (((FIRST-CELL ≤ i) × (i < FREE))
+            ⊎ (((OWNER ≤ i) × (i < MARK)) ⊎ ((CORNER ≤ i) × (i < SUM))))
             → field z i ≡ field x i
         go i (inl (a, d)) = hand-keeps i (inl (omega arith))
         go i (inr (inl (a, d))) = hand-keeps i (inr (inl (omega arith, omega arith)))

@@ -17,6 +17,7 @@ use lib.ListN.{length, getD, set, take, length-set, length-append, length-take, 
 use lib.Seq.{getD-set-same, getD-set-other, getD-append-seam, getD-take, ext-getD}
 use borrow.Author.Tests.{ltb-true, ltb-false, le-leb, lt-leb}
 use Rattle.base.specs.Every.{getD-map}
+use Rattle.base.specs.Limits.{mostCells, topLevel}
 use Rattle.base.specs.Range.{range, length-range, range-at}
 use Rattle.parts.specs.Held.{Entry}
 use Rattle.store.specs.Fields.{field, full, ENTRIES, PLACE-HEAD, PLACE-DIGITS, PLACE-MORE, PLACE-STATUS}
@@ -27,7 +28,7 @@ use Rattle.places.specs.Put.{entrySet, put}
 use Rattle.entering.specs.Columns.{Path}
 
 -- what is held is read from the number of entries, and from the columns of their places and statuses
-entry-same : (x y : List ℕ) → ((i : ℕ) → 210104 ≤ i → field y i ≡ field x i) → (j : ℕ) → entryIn y j ≡ entryIn x j
+entry-same : (x y : List ℕ) → ((i : ℕ) → PLACE-HEAD ≤ i → field y i ≡ field x i) → (j : ℕ) → entryIn y j ≡ entryIn x j
 unfolding entryIn
 entry-same x y e j =
     rw (
@@ -41,7 +42,8 @@ map-same : {A B : Type 0} (f g : A → B) → ((a : A) → f a ≡ g a) → (l :
 map-same f g h [] = refl
 map-same f g h (a ∷ l) = ap₂ _∷_ (h a) (map-same f g h l)
 
-pub held-same : (x y : List ℕ) → field y ENTRIES ≡ field x ENTRIES → ((i : ℕ) → 210104 ≤ i → field y i ≡ field x i) → heldIn y ≡ heldIn x
+pub held-same : (x y : List ℕ) → field y ENTRIES ≡ field x ENTRIES → ((i : ℕ) → PLACE-HEAD ≤ i → field y i ≡ field x i)
+    → heldIn y ≡ heldIn x
 unfolding heldIn
 held-same x y n e =
     map-same (entryIn y) (entryIn x) (entry-same x y e) (range 0 (field y ENTRIES))
@@ -71,7 +73,7 @@ module _ (x : List ℕ) (j : ℕ) (p : Place) (s : ℕ) where
       getD-set-other mored (PLACE-STATUS + j) i s 0 d ∙ getD-set-other dug (PLACE-MORE + j) i (p .more) 0 c
       ∙ getD-set-other headed (PLACE-DIGITS + j) i (p .digits) 0 b ∙ getD-set-other x (PLACE-HEAD + j) i (p .head) 0 a
 
-  module _ (long : full ≤ length x) (few : j < 4096) where
+  module _ (long : full ≤ length x) (few : j < mostCells) where
     set-head : field (entrySet x j p s) (PLACE-HEAD + j) ≡ p .head
     unfolding entrySet
     set-head =
@@ -118,8 +120,8 @@ pub record EntryAt (e : Entry) (y : List ℕ) (j : ℕ) : Type 0 where
 
 pub record EntriesAt (es : List Entry) (y : List ℕ) : Type 0 where
   pub long : full ≤ length y
-  pub entries : field y ENTRIES ≡ min (length es) 4096
-  pub at : (j : ℕ) → j < length es → j < 4096 → EntryAt (getD es j noEntry) y j
+  pub entries : field y ENTRIES ≡ min (length es) mostCells
+  pub at : (j : ℕ) → j < length es → j < mostCells → EntryAt (getD es j noEntry) y j
 
 row-same : (e : Entry) (x y : List ℕ) (j : ℕ) → ((i : ℕ) → i ≡ PLACE-HEAD + j → field y i ≡ field x i)
     → ((i : ℕ) → i ≡ PLACE-DIGITS + j → field y i ≡ field x i) → ((i : ℕ) → i ≡ PLACE-MORE + j → field y i ≡ field x i)
@@ -134,7 +136,7 @@ row-same e x y j a b c d r =
 
 -- what is written stands in these places alone
 pub wrote-same : (es : List Entry) (x y : List ℕ) → length y ≡ length x → field y ENTRIES ≡ field x ENTRIES
-    → ((i : ℕ) → 210104 ≤ i → field y i ≡ field x i) → EntriesAt es x → EntriesAt es y
+    → ((i : ℕ) → PLACE-HEAD ≤ i → field y i ≡ field x i) → EntriesAt es x → EntriesAt es y
 wrote-same es x y l n e w =
     record {
       long = omega (arith, w .long);
@@ -147,18 +149,18 @@ wrote-same es x y l n e w =
 module _ (x : List ℕ) (p : Place) (s : ℕ) where
   pub put-size : length (put x p s) ≡ length x
   unfolding put
-  put-size = go (ltb (field x ENTRIES) 4096) refl
+  put-size = go (ltb (field x ENTRIES) mostCells) refl
     where
-      go : (b : Bool) → ltb (field x ENTRIES) 4096 ≡ b → length (put x p s) ≡ length x
+      go : (b : Bool) → ltb (field x ENTRIES) mostCells ≡ b → length (put x p s) ≡ length x
       go true e = rw (e, put) (length-set (entrySet x (field x ENTRIES) p s) ENTRIES (field x ENTRIES + 1)
           ∙ set-size x (field x ENTRIES) p s)
       go false e = rw (e, put)
 
-  pub put-else : (i : ℕ) → i ≢ ENTRIES → i < 210104 → field (put x p s) i ≡ field x i
+  pub put-else : (i : ℕ) → i ≢ ENTRIES → i < PLACE-HEAD → field (put x p s) i ≡ field x i
   unfolding put
-  put-else i h l = go (ltb (field x ENTRIES) 4096) refl
+  put-else i h l = go (ltb (field x ENTRIES) mostCells) refl
     where
-      go : (b : Bool) → ltb (field x ENTRIES) 4096 ≡ b → field (put x p s) i ≡ field x i
+      go : (b : Bool) → ltb (field x ENTRIES) mostCells ≡ b → field (put x p s) i ≡ field x i
       go true e = rw (e, put) (getD-set-other (entrySet x (field x ENTRIES) p s) ENTRIES i (field x ENTRIES + 1) 0 h
           ∙ set-else x (field x ENTRIES) p s i (λ z. absurd (omega (arith, z))) (λ z. absurd (omega (arith, z)))
           (λ z. absurd (omega (arith, z))) (λ z. absurd (omega (arith, z))))
@@ -177,7 +179,7 @@ module _ (x : List ℕ) (p : Place) (s : ℕ) where
     abbrev after : List ℕ
     after = set set-in ENTRIES (n + 1)
 
-    here : length es < 4096 → EntryAt (getD more (length es) noEntry) after (length es)
+    here : length es < mostCells → EntryAt (getD more (length es) noEntry) after (length es)
     here h =
         let z : n ≡ length es = omega (arith, w .entries) in
         let q : getD more (length es) noEntry ≡ e = getD-append-seam es e [] noEntry in
@@ -194,10 +196,10 @@ module _ (x : List ℕ) (p : Place) (s : ℕ) where
         } in
         subst (λ (f : Entry). EntryAt f after (length es)) (sym q) (subst (EntryAt e after) z r)
 
-    before : length es < 4096 → (j : ℕ) → j < length es → EntryAt (getD more j noEntry) after j
+    before : length es < mostCells → (j : ℕ) → j < length es → EntryAt (getD more j noEntry) after j
     before h j l =
         let z : n ≡ length es = omega (arith, w .entries) in
-        let else : (i : ℕ) → 210104 ≤ i → i ≢ PLACE-HEAD + n → i ≢ PLACE-DIGITS + n → i ≢ PLACE-MORE + n → i ≢ PLACE-STATUS + n
+        let else : (i : ℕ) → PLACE-HEAD ≤ i → i ≢ PLACE-HEAD + n → i ≢ PLACE-DIGITS + n → i ≢ PLACE-MORE + n → i ≢ PLACE-STATUS + n
         → field after i ≡ field x i =
         λ i a b c d f. getD-set-other set-in ENTRIES i (n + 1) 0 (λ y. absurd (omega (arith, y))) ∙ set-else x n p s i b c d f in
         let q : getD more j noEntry ≡ getD es j noEntry = List·getD-append es (e ∷ []) noEntry j l in
@@ -214,14 +216,14 @@ module _ (x : List ℕ) (p : Place) (s : ℕ) where
 
     pub put-wrote : EntriesAt more (put x p s)
     unfolding put
-    put-wrote = go (ltb n 4096) refl
+    put-wrote = go (ltb n mostCells) refl
       where
         len : length more ≡ length es + 1
         len = length-append es (e ∷ [])
 
-        go : (b : Bool) → ltb n 4096 ≡ b → EntriesAt more (put x p s)
+        go : (b : Bool) → ltb n mostCells ≡ b → EntriesAt more (put x p s)
         go true q =
-            let h : n < 4096 = ltb-true n 4096 q in
+            let h : n < mostCells = ltb-true n mostCells q in
             let z : n ≡ length es = omega (arith, w .entries) in
             rw (q, put) (record {
               long = omega (arith, length-set set-in ENTRIES (n + 1), set-size x n p s, w .long);
@@ -232,7 +234,7 @@ module _ (x : List ℕ) (p : Place) (s : ℕ) where
               ];
             })
         go false q =
-            let h : 4096 ≤ n = ltb-false n 4096 q in
+            let h : mostCells ≤ n = ltb-false n mostCells q in
             rw (q, put) (record {
               long = w .long;
               entries = w .entries ∙ omega (arith, len, w .entries);
@@ -246,15 +248,15 @@ pub record EntryRoom (e : Entry) : Type 0 where
   pub path : Path level (e .path)
   pub deep : level ≤ 20
   pub status : e .status < 128
-  pub ghost : e .ghost ≡ true → level ≤ 10
+  pub ghost : e .ghost ≡ true → level ≤ topLevel
 
 -- the path of a place, at most ten levels deep
-path-back : (k : ℕ) (l : List ℕ) → Path k l → k ≤ 10 → pathOf (placeOf l) ≡ l
+path-back : (k : ℕ) (l : List ℕ) → Path k l → k ≤ topLevel → pathOf (placeOf l) ≡ l
 path-back k l w h =
     ap (λ (m : List ℕ). pathOf (placeOf m)) (w .is) ∙ path-place (w .coarse) (w .down) (w .coarse-few) (omega (arith, w .deep)) (w .digits)
     ∙ sym (w .is)
 
-entry-is : (y : List ℕ) (j : ℕ) (e : Entry) → EntryAt e y j → (r : EntryRoom e) → r .level ≤ 10 → entryIn y j ≡ e
+entry-is : (y : List ℕ) (j : ℕ) (e : Entry) → EntryAt e y j → (r : EntryRoom e) → r .level ≤ topLevel → entryIn y j ≡ e
 unfolding entryIn statusCode
 entry-is y j e w r h =
     go (e .ghost) refl
@@ -278,20 +280,20 @@ entry-is y j e w r h =
 
 -- what is held is what was written
 pub held-wrote : (es : List Entry) (y : List ℕ) → EntriesAt es y
-    → ((j : ℕ) → j < length es → j < 4096 → (r : EntryRoom (getD es j noEntry)) × (r .level ≤ 10))
-    → heldIn y ≡ take 4096 es
+    → ((j : ℕ) → j < length es → j < mostCells → (r : EntryRoom (getD es j noEntry)) × (r .level ≤ topLevel))
+    → heldIn y ≡ take mostCells es
 unfolding heldIn
 held-wrote es y w f =
-    ext-getD noEntry (map (entryIn y) (range 0 (field y ENTRIES))) (take 4096 es)
-    (long ∙ w .entries ∙ omega (arith, length-take 4096 es))
+    ext-getD noEntry (map (entryIn y) (range 0 (field y ENTRIES))) (take mostCells es)
+    (long ∙ w .entries ∙ omega (arith, length-take mostCells es))
     (λ i h.
     let a : i < field y ENTRIES = omega (arith, long) in
     let b : i < length es = omega (arith, w .entries) in
-    let c : i < 4096 = omega (arith, w .entries) in
+    let c : i < mostCells = omega (arith, w .entries) in
     let (r, k) = f i b c in
     getD-map (entryIn y) (range 0 (field y ENTRIES)) i 0 noEntry (omega (arith, length-range 0 (field y ENTRIES)))
     ∙ ap (entryIn y) (range-at 0 (field y ENTRIES) i 0 a ∙ zero-add i) ∙ entry-is y i (getD es i noEntry) (w .at i b c) r k
-    ∙ sym (getD-take 4096 es i noEntry c))
+    ∙ sym (getD-take mostCells es i noEntry c))
   where
     long : length (map (entryIn y) (range 0 (field y ENTRIES))) ≡ field y ENTRIES
     long = length-map (range 0 (field y ENTRIES)) (entryIn y) ∙ length-range 0 (field y ENTRIES)

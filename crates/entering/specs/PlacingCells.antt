@@ -14,6 +14,7 @@ use lib.ListN.{length, set, take, length-set}
 use lib.Seq.{getD-set-same, getD-set-other}
 use borrow.Author.Tests.{eq-eqb, ne-eqb, eqb-true, eqb-false}
 use Rattle.base.specs.Bools.{and-left, and-right}
+use Rattle.base.specs.Limits.{mostCells, topLevel}
 use Rattle.base.specs.Lists.{anyb}
 use Rattle.base.specs.Range.{range, range-member}
 use Rattle.mesh.specs.Cells.{bitsOf}
@@ -28,6 +29,7 @@ use Rattle.rounds.specs.Task.{Task, Fit}
 use Rattle.rounds.specs.Rounds.{State, isPart, capped, largest}
 use Rattle.rounds.specs.Among.{is-eq}
 use Rattle.store.specs.Fields.{field, PART, CELLS, ENTRIES, TOTAL, HIGH, FIRST-CELL, OWNER, FAMILY, STATUS, CHILD, HEAD, DIGITS, MORE}
+use Rattle.store.specs.Fields.{CURSOR, PLACE-HEAD}
 use Rattle.store.specs.declared.Place.{Place}
 use Rattle.store.specs.Places.{placeOf}
 use Rattle.standing.specs.Absorbs.{and-none}
@@ -216,7 +218,7 @@ module _ (P : ℕ) (J : Task (Fin P)) (p : Fin P) (x : List ℕ) (C : Columns P 
 module _ (P : ℕ) (J : Task (Fin P)) (fit : Fit J) (p : Fin P) (x : List ℕ) (C : Columns P J p x) (st : State)
     (K : Heard P J p (st .red) (st .sum) x) where
   module _ (k c : ℕ) (m : Member c (J .cells k)) where
-    deep : k ≤ 10
+    deep : k ≤ topLevel
     deep = omega (arith, C .no-cells k c m, C .levels-few)
 
     few : statusNew J st c < 128
@@ -462,7 +464,7 @@ module _ (P : ℕ) (J : Task (Fin P)) (fit : Fit J) (p : Fin P) (x : List ℕ) (
       subst (λ (n : ℕ). StepHeld x (entries (parts P) J p st) (eachFrom placeCell n 0 (cleared x))) (C .last-cell)
       (all-levels (suc (J .top)) (omega arith) (cleared x) start-placed)
 
-  pub placed-else : (i : ℕ) → i < 9 ⊎ ((12 ≤ i) × (i < 210104)) → field placedBy i ≡ field x i
+  pub placed-else : (i : ℕ) → i < ENTRIES ⊎ ((CURSOR ≤ i) × (i < PLACE-HEAD)) → field placedBy i ≡ field x i
   placed-else = all-placed .else
 
   pub placed-size : length placedBy ≡ length x
@@ -476,9 +478,9 @@ module _ (P : ℕ) (J : Task (Fin P)) (fit : Fit J) (p : Fin P) (x : List ℕ) (
   unfolding grownOf
   placed-high = all-placed .high
 
-  pub placed-entries : field placedBy ENTRIES ≡ min (length (entries (parts P) J p st)) 4096
+  pub placed-entries : field placedBy ENTRIES ≡ min (length (entries (parts P) J p st)) mostCells
   placed-entries = all-placed .wrote .entries
 
-  pub placed-held : grownOf (parts P) J p st .1 ≤ 10 → heldIn placedBy ≡ take 4096 (entries (parts P) J p st)
+  pub placed-held : grownOf (parts P) J p st .1 ≤ topLevel → heldIn placedBy ≡ take mostCells (entries (parts P) J p st)
   unfolding grownOf
   placed-held h = held-placed x (entries (parts P) J p st) placedBy all-placed h

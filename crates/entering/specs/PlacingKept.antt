@@ -11,6 +11,7 @@ use lib.Dec.{eqb}
 use lib.ListN.{length, set, length-set, length-append}
 use lib.Seq.{getD-set-same, getD-set-other, take-all}
 use Rattle.base.specs.Every.{All, all-append, all-at}
+use Rattle.base.specs.Limits.{mostCells, topLevel}
 use Rattle.base.specs.Range.{range, range-member}
 use Rattle.parts.specs.Held.{Entry}
 use Rattle.exchange.specs.Finite.{parts}
@@ -18,7 +19,7 @@ use Rattle.base.specs.Member.{Member}
 use Rattle.rounds.specs.Task.{Task}
 use Rattle.rounds.specs.Rounds.{isPart}
 use Rattle.rounds.specs.Among.{is-eq}
-use Rattle.store.specs.Fields.{field, PART, CELLS, ENTRIES, FIRST-CELL, OWNER, FAMILY, STATUS}
+use Rattle.store.specs.Fields.{field, PART, CELLS, ENTRIES, FIRST-CELL, OWNER, FAMILY, STATUS, PLACE-HEAD}
 use Rattle.store.specs.Places.{placeOf}
 use Rattle.standing.specs.Busy.{HoldsCell}
 use Rattle.places.specs.Put.{placeAt, put, placeOld}
@@ -94,12 +95,12 @@ module _ (P : ℕ) (J : Task (Fin P)) (p : Fin P) (x : List ℕ) (C : Columns P 
       ]
 
   abbrev Low : Entry → Type 0
-  Low e = (r : EntryRoom e) × (r .level ≤ 10)
+  Low e = (r : EntryRoom e) × (r .level ≤ topLevel)
 
   record Kept (es : List Entry) (y : List ℕ) : Type 0 where
     pub wrote : EntriesAt es y
     pub size : length y ≡ length x
-    pub else : (i : ℕ) → i ≢ ENTRIES → i < 210104 → field y i ≡ field x i
+    pub else : (i : ℕ) → i ≢ ENTRIES → i < PLACE-HEAD → field y i ≡ field x i
     pub room : All Low es
 
   adds : (es : List Entry) (y : List ℕ) (e : Entry) (s : ℕ) → s ≡ statusCode e → Low e → Kept es y
@@ -128,7 +129,7 @@ module _ (P : ℕ) (J : Task (Fin P)) (p : Fin P) (x : List ℕ) (C : Columns P 
 
       low : HoldsCell P J p c → (g : Bool) → Low (entryBy (J .path c) (J .status c) g)
       low h g =
-          let d : k ≤ 10 = omega (arith, C .no-cells k c m, C .levels-few) in
+          let d : k ≤ topLevel = omega (arith, C .no-cells k c m, C .levels-few) in
           (record { level = k; path = C .paths k c m; deep = omega arith; status = omega (arith, C .status-most c h); ghost = λ q. d }, d)
 
       go : (a : Bool) → isPart (parts P) (J .owner c) p ≡ a → (b : Bool) → isPart (parts P) (J .family c) p ≡ b
@@ -166,12 +167,12 @@ module _ (P : ℕ) (J : Task (Fin P)) (p : Fin P) (x : List ℕ) (C : Columns P 
         room = tt;
       })
 
-  few : length (olds P J p (field x CELLS)) ≤ 4096
+  few : length (olds P J p (field x CELLS)) ≤ mostCells
   unfolding olds
   few = omega (arith, olds-few P J p 0 (field x CELLS), C .cells-few)
 
   -- ALL THAT IS KEPT
-  pub kept-else : (i : ℕ) → i ≢ ENTRIES → i < 210104 → field (oldPlaces x) i ≡ field x i
+  pub kept-else : (i : ℕ) → i ≢ ENTRIES → i < PLACE-HEAD → field (oldPlaces x) i ≡ field x i
   kept-else = all-kept .else
 
   pub kept-size : length (oldPlaces x) ≡ length x
@@ -184,4 +185,4 @@ module _ (P : ℕ) (J : Task (Fin P)) (p : Fin P) (x : List ℕ) (C : Columns P 
   kept-held =
       held-wrote (olds P J p (field x CELLS)) (oldPlaces x) (all-kept .wrote)
       (λ j h l. all-at Low noEntry (olds P J p (field x CELLS)) (all-kept .room) j h)
-      ∙ take-all 4096 (olds P J p (field x CELLS)) few
+      ∙ take-all mostCells (olds P J p (field x CELLS)) few

@@ -12,6 +12,7 @@ use native.Mathlib.Omega.{arith}
 use lib.Dec.{eqb, ltb, leb}
 use borrow.Author.Tests.{eq-eqb, ne-eqb, lt-ltb}
 use Rattle.base.specs.Bools.{eqb-one, or-first, or-second, and-both, not-both}
+use Rattle.base.specs.Limits.{mostCells, mostSlots}
 use Rattle.base.specs.Lists.{anyb, memberb}
 use Rattle.base.specs.Range.{range, member-range, range-member}
 use Rattle.cutting.specs.Rule.{family}
@@ -26,7 +27,7 @@ use Rattle.rounds.specs.Task.{Task, Fit, has}
 use Rattle.rounds.specs.Rounds.{State, isPart, mine, holdsb}
 use Rattle.rounds.specs.Among.{is-eq, is-same, is-not}
 use Rattle.store.specs.Fields.{field, PART, CELLS, FIRST-CELL, FIRST-SLOT, OWNER, FAMILY, STATUS, REGULAR}
-use Rattle.store.specs.Fields.{CHILD, PARENT, HEAD, RED, SLOT, SUM}
+use Rattle.store.specs.Fields.{CHILD, PARENT, HEAD, RED, SLOT, SUM, PLACE-HEAD, CURSOR}
 use Rattle.standing.specs.Busy.{HoldsCell, HoldsSlot}
 use Rattle.turns.specs.Decide.{hitb, hitOf, kidCount}
 use Rattle.places.specs.Status.{newStatus, lastsb, remadeb, pairHit, freshBits}
@@ -112,7 +113,7 @@ module _ (P : ℕ) (J : Task (Fin P)) (p : Fin P) (x : List ℕ) (C : Columns P 
       (subst (λ (l : List ℕ). Member c l) (C .cells k h) m) in
       omega (arith, C .cells-in (suc k) (omega arith), C .cells-rise k h)
 
-  pub cell-few : (k c : ℕ) → Member c (J .cells k) → c < 4096
+  pub cell-few : (k c : ℕ) → Member c (J .cells k) → c < mostCells
   cell-few k c m = omega (arith, cell-inside k c m, C .cells-few)
 
   pub holds-owner : (k c : ℕ) → Member c (J .cells k) → J .owner c ≡ p → HoldsCell P J p c
@@ -124,7 +125,7 @@ module _ (P : ℕ) (J : Task (Fin P)) (p : Fin P) (x : List ℕ) (C : Columns P 
       (k, m, or-second (isPart (parts P) (J .owner c) p) (isPart (parts P) (J .family c) p) (rw (is-same (parts P) (J .family c) p e) tt))
 
   -- slots of a cell that is here
-  slot-low : Fit J → (k c e : ℕ) → Member c (J .cells k) → e < 6 → J .slot c e < 24576
+  slot-low : Fit J → (k c e : ℕ) → Member c (J .cells k) → e < 6 → J .slot c e < mostSlots
   slot-low fit k c e m h =
       let g = C .no-cells k c m in
       let (a, b) = member-range (field x (FIRST-SLOT + k)) (field x (FIRST-SLOT + suc k) - field x (FIRST-SLOT + k)) (J .slot c e)
@@ -142,7 +143,7 @@ module _ (P : ℕ) (J : Task (Fin P)) (p : Fin P) (x : List ℕ) (C : Columns P 
   )
 
   module _ (y : List ℕ) (else : Else x y) where
-    at : (o c : ℕ) → 12 ≤ o → o + c < 210104 → field y (o + c) ≡ field x (o + c)
+    at : (o c : ℕ) → CURSOR ≤ o → o + c < PLACE-HEAD → field y (o + c) ≡ field x (o + c)
     at o c a b = else (o + c) (inr (omega arith, b))
 
     -- who has a cell
@@ -189,7 +190,7 @@ module _ (P : ℕ) (J : Task (Fin P)) (p : Fin P) (x : List ℕ) (C : Columns P 
           let b : field y (SUM + J .slot c e) ≡ st .sum (J .slot c e) =
           at SUM (J .slot c e) (omega arith) (omega (arith, slot-low fit k c e m h))
           ∙ K .sums (J .slot c e) (slot-held c e (k, m, t) h) in
-          rw (a, b, lt-ltb (J .slot c e) 24576 (slot-low fit k c e m h))
+          rw (a, b, lt-ltb (J .slot c e) mostSlots (slot-low fit k c e m h))
 
       -- STATUSES
       pub status-is : (c : ℕ) → HoldsCell P J p c → newStatus y c ≡ statusNew J st c
@@ -222,7 +223,7 @@ module _ (P : ℕ) (J : Task (Fin P)) (p : Fin P) (x : List ℕ) (C : Columns P 
             a,
             stored-is c h,
             b,
-            lt-ltb (J .parent c) 4096 (cell-few j (J .parent c) n),
+            lt-ltb (J .parent c) mostCells (cell-few j (J .parent c) n),
             stored-is (J .parent c) (j, n, t),
             red-is (J .parent c) (j, n, t),
           )
@@ -233,7 +234,7 @@ module _ (P : ℕ) (J : Task (Fin P)) (p : Fin P) (x : List ℕ) (C : Columns P 
       stays-refined k c m h s =
           let a : not (eqb (field y (STATUS + c)) 0) ≡ true = ap not (ap (λ (n : ℕ). eqb n 0) (stored-is c h) ∙ ne-eqb (J .status c) 0 s) in
           let b : not (eqb (J .status c) 0) ≡ true = ap not (ne-eqb (J .status c) 0 s) in
-          or-middle (ltb (field y (HEAD + c)) 256) (not (eqb (field y (STATUS + c)) 0)) (ltb (field y (PARENT + c)) 4096
+          or-middle (ltb (field y (HEAD + c)) 256) (not (eqb (field y (STATUS + c)) 0)) (ltb (field y (PARENT + c)) mostCells
           && (eqb (field y (STATUS + field y (PARENT + c))) 64 && eqb (field y (RED + field y (PARENT + c))) 1)) a
           ∙ sym (or-middle (coarseb k) (not (eqb (J .status c) 0)) (eqb (J .status (J .parent c)) 64 && st .red (J .parent c)) b)
 

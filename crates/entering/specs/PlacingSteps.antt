@@ -12,6 +12,7 @@ use native.Mathlib.Omega.{arith}
 use lib.ListN.{length, getD, set, take, length-set, length-append}
 use lib.Seq.{getD-set-same, getD-set-other}
 use Rattle.base.specs.Every.{All, all-append, all-at}
+use Rattle.base.specs.Limits.{mostCells, tooMany, topLevel}
 use Rattle.base.specs.Range.{range}
 use Rattle.mesh.specs.Table.{sizeOf}
 use Rattle.parts.specs.Held.{Entry}
@@ -21,7 +22,7 @@ use Rattle.shares.specs.Grow.{entryBy}
 use Rattle.merging.specs.Complete.{masterPaths, paths-append, path-by}
 use Rattle.base.specs.Distinct.{mem-at}
 use Rattle.merging.specs.Limits.{topOf}
-use Rattle.store.specs.Fields.{field, ENTRIES, TOTAL, HIGH}
+use Rattle.store.specs.Fields.{field, ENTRIES, TOTAL, HIGH, CURSOR, PLACE-HEAD}
 use Rattle.store.specs.declared.Place.{Place}
 use Rattle.store.specs.Places.{placeLevel, coarsePlace, childPlace, placeDown, placeOf, place-child}
 use Rattle.turns.specs.Loops.{eachFrom}
@@ -89,21 +90,21 @@ top-snoc ls l = largest-snoc (λ l. pred (length l)) ls l
 
 -- all but the number of entries, the totals and the columns of places
 abbrev pub Else : List ℕ → List ℕ → Type 0
-Else x y = (i : ℕ) → i < 9 ⊎ ((12 ≤ i) × (i < 210104)) → field y i ≡ field x i
+Else x y = (i : ℕ) → i < ENTRIES ⊎ ((CURSOR ≤ i) × (i < PLACE-HEAD)) → field y i ≡ field x i
 
-pub else-nine : (i : ℕ) → i < 9 ⊎ ((12 ≤ i) × (i < 210104)) → i ≢ ENTRIES
+pub else-nine : (i : ℕ) → i < ENTRIES ⊎ ((CURSOR ≤ i) × (i < PLACE-HEAD)) → i ≢ ENTRIES
 else-nine i (inl a) q = omega (arith, q)
 else-nine i (inr (a, b)) q = omega (arith, q)
 
-pub else-ten : (i : ℕ) → i < 9 ⊎ ((12 ≤ i) × (i < 210104)) → i ≢ TOTAL
+pub else-ten : (i : ℕ) → i < ENTRIES ⊎ ((CURSOR ≤ i) × (i < PLACE-HEAD)) → i ≢ TOTAL
 else-ten i (inl a) q = omega (arith, q)
 else-ten i (inr (a, b)) q = omega (arith, q)
 
-pub else-eleven : (i : ℕ) → i < 9 ⊎ ((12 ≤ i) × (i < 210104)) → i ≢ HIGH
+pub else-eleven : (i : ℕ) → i < ENTRIES ⊎ ((CURSOR ≤ i) × (i < PLACE-HEAD)) → i ≢ HIGH
 else-eleven i (inl a) q = omega (arith, q)
 else-eleven i (inr (a, b)) q = omega (arith, q)
 
-pub else-below : (i : ℕ) → i < 9 ⊎ ((12 ≤ i) × (i < 210104)) → i < 210104
+pub else-below : (i : ℕ) → i < ENTRIES ⊎ ((CURSOR ≤ i) × (i < PLACE-HEAD)) → i < PLACE-HEAD
 else-below i (inl a) = omega arith
 else-below i (inr (a, b)) = b
 
@@ -111,13 +112,13 @@ pub record StepHeld (x : List ℕ) (es : List Entry) (y : List ℕ) : Type 0 whe
   pub wrote : EntriesAt es y
   pub size : length y ≡ length x
   pub else : Else x y
-  pub total : field y TOTAL ≡ min (length (masterPaths es)) 4097
+  pub total : field y TOTAL ≡ min (length (masterPaths es)) tooMany
   pub high : field y HIGH ≡ topOf (masterPaths es)
   pub room : All EntryRoom es
 
 module _ (x : List ℕ) (es : List Entry) (y : List ℕ) (w : StepHeld x es y) (k : ℕ) (l : List ℕ) (path : Path k l) (s : ℕ) (few : s < 128)
   where
-    pub placed-ghost : k ≤ 10 → StepHeld x (es ++ (entryBy l s true ∷ [])) (put y (placeOf l) (128 + s))
+    pub placed-ghost : k ≤ topLevel → StepHeld x (es ++ (entryBy l s true ∷ [])) (put y (placeOf l) (128 + s))
     unfolding masterPaths statusCode
     placed-ghost h =
         let e : Entry = entryBy l s true in
@@ -127,7 +128,7 @@ module _ (x : List ℕ) (es : List Entry) (y : List ℕ) (w : StepHeld x es y) (
           size = put-size y (placeOf l) (128 + s) ∙ w .size;
           else = λ i o. put-else y (placeOf l) (128 + s) i (else-nine i o) (else-below i o) ∙ w .else i o;
           total = put-else y (placeOf l) (128 + s) TOTAL (λ q. absurd (omega (arith, q))) (omega arith) ∙ w .total
-              ∙ ap (λ (m : List (List ℕ)). min (length m) 4097) (sym z);
+              ∙ ap (λ (m : List (List ℕ)). min (length m) tooMany) (sym z);
           high = put-else y (placeOf l) (128 + s) HIGH (λ q. absurd (omega (arith, q))) (omega arith) ∙ w .high ∙ ap topOf (sym z);
           room = all-append EntryRoom es (e ∷ []) (w .room)
               (record { level = k; path = path; deep = omega arith; status = few; ghost = λ q. h }, tt);
@@ -138,19 +139,19 @@ module _ (x : List ℕ) (es : List Entry) (y : List ℕ) (w : StepHeld x es y) (
     placed-master h =
         let e : Entry = entryBy l s false in
         let z : masterPaths (es ++ (e ∷ [])) ≡ masterPaths es ++ (l ∷ []) = paths-append es (e ∷ []) in
-        let y₁ : List ℕ = set y TOTAL (min (field y TOTAL + 1) 4097) in
+        let y₁ : List ℕ = set y TOTAL (min (field y TOTAL + 1) tooMany) in
         let y₂ : List ℕ = set y₁ HIGH (max (field y HIGH) (placeLevel (placeOf l))) in
-        let a : length y₁ ≡ length y = length-set y TOTAL (min (field y TOTAL + 1) 4097) in
+        let a : length y₁ ≡ length y = length-set y TOTAL (min (field y TOTAL + 1) tooMany) in
         let b : length y₂ ≡ length y = length-set y₁ HIGH (max (field y HIGH) (placeLevel (placeOf l))) ∙ a in
         let c : (i : ℕ) → i ≢ TOTAL → i ≢ HIGH → field y₂ i ≡ field y i =
         λ i u v. getD-set-other y₁ HIGH i (max (field y HIGH) (placeLevel (placeOf l))) 0 v
-        ∙ getD-set-other y TOTAL i (min (field y TOTAL + 1) 4097) 0 u in
+        ∙ getD-set-other y TOTAL i (min (field y TOTAL + 1) tooMany) 0 u in
         let d : EntriesAt es y₂ = wrote-same es y y₂ b (c ENTRIES (λ q. absurd (omega (arith, q))) (λ q. absurd (omega (arith, q))))
         (λ i u. c i (λ q. absurd (omega (arith, q))) (λ q. absurd (omega (arith, q)))) (w .wrote) in
         let (f, g) = level-of k l path h in
-        let t : field y₂ TOTAL ≡ min (length (masterPaths es ++ (l ∷ []))) 4097 =
+        let t : field y₂ TOTAL ≡ min (length (masterPaths es ++ (l ∷ []))) tooMany =
         getD-set-other y₁ HIGH TOTAL (max (field y HIGH) (placeLevel (placeOf l))) 0 (λ q. absurd (omega (arith, q)))
-        ∙ getD-set-same y TOTAL (min (field y TOTAL + 1) 4097) 0 (omega (arith, w .wrote .long))
+        ∙ getD-set-same y TOTAL (min (field y TOTAL + 1) tooMany) 0 (omega (arith, w .wrote .long))
         ∙ omega (arith, w .total, length-append (masterPaths es) (l ∷ [])) in
         let r : field y₂ HIGH ≡ topOf (masterPaths es ++ (l ∷ [])) =
         getD-set-same y₁ HIGH (max (field y HIGH) (placeLevel (placeOf l))) 0 (omega (arith, w .wrote .long))
@@ -160,7 +161,7 @@ module _ (x : List ℕ) (es : List Entry) (y : List ℕ) (w : StepHeld x es y) (
           size = put-size y₂ (placeOf l) s ∙ b ∙ w .size;
           else = λ i o. put-else y₂ (placeOf l) s i (else-nine i o) (else-below i o) ∙ c i (else-ten i o) (else-eleven i o) ∙ w .else i o;
           total = put-else y₂ (placeOf l) s TOTAL (λ q. absurd (omega (arith, q))) (omega arith) ∙ t
-              ∙ ap (λ (m : List (List ℕ)). min (length m) 4097) (sym z);
+              ∙ ap (λ (m : List (List ℕ)). min (length m) tooMany) (sym z);
           high = put-else y₂ (placeOf l) s HIGH (λ q. absurd (omega (arith, q))) (omega arith) ∙ r ∙ ap topOf (sym z);
           room = all-append EntryRoom es (e ∷ []) (w .room)
               (record { level = k; path = path; deep = h; status = few; ghost = λ q. absurd (false-not q) }, tt);
@@ -210,12 +211,13 @@ module _ (x : List ℕ) (k : ℕ) (l : List ℕ) (path : Path k l) (h : k < 19) 
         (append-assoc es (e ∷ []) (map (λ j. entryBy (m ++ (j ∷ [])) 0 false) (range 0 (sizeOf (f i))))) v)
 
 -- what is held when all is written, and no master is deeper than ten levels
-pub held-placed : (x : List ℕ) (es : List Entry) (y : List ℕ) → StepHeld x es y → topOf (masterPaths es) ≤ 10 → heldIn y ≡ take 4096 es
+pub held-placed : (x : List ℕ) (es : List Entry) (y : List ℕ) → StepHeld x es y → topOf (masterPaths es) ≤ topLevel
+    → heldIn y ≡ take mostCells es
 unfolding topOf
 held-placed x es y w h = held-wrote es y (w .wrote)
     (λ j b c. let r = all-at EntryRoom noEntry es (w .room) j b in (r, low j b r (getD es j noEntry .ghost) refl))
   where
-    low : (j : ℕ) → j < length es → (r : EntryRoom (getD es j noEntry)) → (g : Bool) → getD es j noEntry .ghost ≡ g → r .level ≤ 10
+    low : (j : ℕ) → j < length es → (r : EntryRoom (getD es j noEntry)) → (g : Bool) → getD es j noEntry .ghost ≡ g → r .level ≤ topLevel
     low j b r true q = r .ghost q
     low j b r false q =
         let m = path-by es (getD es j noEntry) (mem-at noEntry es j b) q in

@@ -13,6 +13,7 @@ use mathlib.Core.List.{List, [], _∷_, flatMap}
 use Prim.Native.Nat.{ℕ, suc, _+_, _-_, _≤_, _<_, Fin}
 use lib.Dec.{leb}
 use lib.ListN.{length, take}
+use Rattle.base.specs.Limits.{mostCells, mostLevels, topLevel}
 use Rattle.base.specs.Range.{range}
 use Rattle.exchange.specs.Finite.{parts}
 use Rattle.rounds.specs.Task.{Task}
@@ -21,7 +22,7 @@ use Rattle.parts.specs.Held.{Entry}
 use Rattle.shares.specs.Grow.{entryBy, entries}
 use Rattle.merging.specs.Totals.{grownOf}
 use Rattle.store.specs.Fields.{field, full, STAGE, CELLS, ROUND, RESULT, WRITTEN, CURSOR, BIT, FIRST-CELL, FIRST-SLOT, OWNER, RED, HOLDERS}
-use Rattle.store.specs.Fields.{SUM}
+use Rattle.store.specs.Fields.{SUM, FIRST-TAKEN}
 use Rattle.store.specs.Header.{headerb}
 use Rattle.standing.specs.Busy.{L, Busy, HoldsCell, HoldsSlot}
 use Rattle.turns.specs.Start.{marksDue}
@@ -31,7 +32,7 @@ use Rattle.entering.specs.Fits.{ofMarksb, ofCountsb}
 
 -- Rule 7.8.
 unfoldable pub resultOf : ℕ → ℕ → ℕ
-resultOf n h = elim (leb 11 h) [ true ↦ 8 | false ↦ elim (leb n 4096) [ true ↦ 0 | false ↦ 9 ] ]
+resultOf n h = elim (leb mostLevels h) [ true ↦ 8 | false ↦ elim (leb n mostCells) [ true ↦ 0 | false ↦ 9 ] ]
 
 module _ (P : ℕ) (J : Task (Fin P)) where
   unfoldable pub Spent : Phase → List ℕ → Type 0
@@ -62,10 +63,11 @@ module _ (P : ℕ) (J : Task (Fin P)) where
     unfolding entries grownOf heldIn olds resultOf
     Holding (marks i) s x = Unit {0}
     Holding (counts i) s x = Unit {0}
-    Holding totals s x = (s .high ≡ grownOf (parts P) J p s .1) × (s .high ≤ 10 → heldIn x ≡ take 4096 (entries (parts P) J p s))
+    Holding totals s x = (s .high ≡ grownOf (parts P) J p s .1) × (s .high ≤ topLevel → heldIn x ≡ take mostCells (entries (parts P) J p s))
     Holding over s x =
         (field x RESULT ≡ resultOf (s .total) (s .high))
-        × ((field x RESULT ≡ 0 → heldIn x ≡ take 4096 (entries (parts P) J p s)) × (field x RESULT ≢ 0 → heldIn x ≡ olds (field x CELLS)))
+        × ((field x RESULT ≡ 0 → heldIn x ≡ take mostCells (entries (parts P) J p s))
+        × (field x RESULT ≢ 0 → heldIn x ≡ olds (field x CELLS)))
 
     pub record Standing (l : L P J) (x : List ℕ) : Type 0 where
       pub busy : Busy P J p l x
@@ -84,7 +86,7 @@ module _ (P : ℕ) (J : Task (Fin P)) where
       pub written : field x WRITTEN ≡ 0
       pub cursor : field x CURSOR ≡ 0
       pub bit : field x BIT ≡ 0
-      pub no-counts : (i : ℕ) → 64 ≤ i → i < 112 → field x i ≡ 0
+      pub no-counts : (i : ℕ) → FIRST-TAKEN ≤ i → i < OWNER → field x i ≡ 0
       pub flags : (c : ℕ) → HoldsCell P J p c → field x (RED + c) ≡ 0
       pub sums : (s : ℕ) → HoldsSlot P J p s → field x (SUM + s) ≡ 0
       pub places : (c : ℕ) → HoldsCell P J p c → J .owner c ≡ p → countBefore x c ≡ place c

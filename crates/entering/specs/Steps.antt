@@ -13,11 +13,12 @@ use lib.ListN.{length, getD, set, length-set}
 use lib.Seq.{getD-set-same, getD-set-other}
 use borrow.Author.Tests.{eq-eqb, ne-eqb, lt-ltb, le-ltb, eqb-true}
 use Rattle.base.specs.Bools.{one-if}
+use Rattle.base.specs.Limits.{mostCells}
 use Rattle.exchange.specs.Finite.{parts}
 use Rattle.rounds.specs.Task.{Task}
 use Rattle.rounds.specs.Rounds.{phase, isPart, told, added, redTold, sumTold, State}
 use Rattle.rounds.specs.Rounded.{overb, endedb, wholeb}
-use Rattle.store.specs.Fields.{field, full, STAGE, PART, PARTS, CORNERS, COARSE, CELLS, LEVELS, ROUND, RESULT, ENTRIES}
+use Rattle.store.specs.Fields.{field, full, STAGE, PART, PARTS, CORNERS, COARSE, CELLS, LEVELS, ROUND, RESULT, ENTRIES, FIRST-ENDED}
 use Rattle.store.specs.Header.{stageb, headerb}
 use Rattle.store.specs.Headed.{Header, header-is, header-yes, running-is, done-is}
 use Rattle.standing.specs.Busy.{L, Busy}
@@ -30,7 +31,8 @@ pub set-reset : (y : List ℕ) (r : ℕ) → Reset y (set y ROUND r)
 set-reset y r = record { size = length-set y ROUND r; else = λ i a b c. getD-set-other y ROUND i r 0 b }
 
 -- the header, where the stage and the round are others
-module _ (x z : List ℕ) (head : headerb x ≡ true) (low : (i : ℕ) → 1 ≤ i → i < 7 → field z i ≡ field x i) (few : field z ENTRIES ≤ 4096)
+module _ (x z : List ℕ) (head : headerb x ≡ true) (low : (i : ℕ) → PART ≤ i → i < ROUND → field z i ≡ field x i)
+    (few : field z ENTRIES ≤ mostCells)
   where
     header : Header z
     header =
@@ -73,7 +75,7 @@ module _ (P : ℕ) (J : Task (Fin P)) (p : Fin P) (l : L P J) (x : List ℕ) (u 
   Wholes = (q : Fin P) → wholeb (parts P) J (l .round) q p (l .got q) ≡ true
 
   module _ (live : overb (phase (J .top) (l .round)) ≡ false) where
-    pub ends-known : Wholes → (q : Fin P) → isPart (parts P) q p ≡ false → field x (80 + q .0) ≡ suc (l .round)
+    pub ends-known : Wholes → (q : Fin P) → isPart (parts P) q p ≡ false → field x (FIRST-ENDED + q .0) ≡ suc (l .round)
     unfolding wholeb one-if
     ends-known w q i =
         let e : wholeb (parts P) J (l .round) q p (l .got q) ≡ endedb (l .got q) = rw (i, live, wholeb) in

@@ -12,6 +12,7 @@ use lib.ListN.{length, set}
 use lib.Seq.{getD-set-same, getD-set-other}
 use borrow.Author.Tests.{eq-eqb, ne-eqb, lt-ltb, ltb-true, eqb-true}
 use Rattle.base.specs.Bools.{one-if, eqb-one, not-both}
+use Rattle.base.specs.Limits.{mostCells, mostSlots}
 use Rattle.base.specs.Lists.{anyb, filterb}
 use Rattle.base.specs.Range.{range, range-member}
 use Rattle.exchange.specs.Finite.{parts}
@@ -30,28 +31,28 @@ use Rattle.entering.specs.Columns.{Columns}
 use Rattle.entering.specs.Within.{six-range, own-held, slot-held, level-inside, level-member, cells-of-level, member-low, slot-low}
 use Rattle.entering.specs.Blocks.{SameBut, but-self, but-on, but-set, but-each, each-count, count-single}
 
-add-but : (y : List ℕ) (t : ℕ) → SameBut SUM 24576 y (addOne y t)
+add-but : (y : List ℕ) (t : ℕ) → SameBut SUM mostSlots y (addOne y t)
 unfolding addOne
-add-but y t = go (ltb t 24576) refl
+add-but y t = go (ltb t mostSlots) refl
   where
-    go : (b : Bool) → ltb t 24576 ≡ b → SameBut SUM 24576 y (addOne y t)
-    go true e = rw (e, addOne) (but-set SUM 24576 y (SUM + t) ((field y (SUM + t) + 1) % 65536) (omega arith)
-        (omega (arith, ltb-true t 24576 e)))
-    go false e = rw (e, addOne) (but-self SUM 24576 y)
+    go : (b : Bool) → ltb t mostSlots ≡ b → SameBut SUM mostSlots y (addOne y t)
+    go true e = rw (e, addOne) (but-set SUM mostSlots y (SUM + t) ((field y (SUM + t) + 1) % 65536) (omega arith)
+        (omega (arith, ltb-true t mostSlots e)))
+    go false e = rw (e, addOne) (but-self SUM mostSlots y)
 
-edges-but : (c : ℕ) (y : List ℕ) → SameBut SUM 24576 y (eachFrom (addEdge c) 6 0 y)
+edges-but : (c : ℕ) (y : List ℕ) → SameBut SUM mostSlots y (eachFrom (addEdge c) 6 0 y)
 unfolding addEdge
-edges-but c y = but-each SUM 24576 (addEdge c) 6 (λ z e l. add-but z (slotAt z c e)) 6 0 (omega arith) y
+edges-but c y = but-each SUM mostSlots (addEdge c) 6 (λ z e l. add-but z (slotAt z c e)) 6 0 (omega arith) y
 
-tally-but : (y : List ℕ) (c : ℕ) → SameBut SUM 24576 y (tallyOne y c)
+tally-but : (y : List ℕ) (c : ℕ) → SameBut SUM mostSlots y (tallyOne y c)
 unfolding tallyOne
 tally-but y c = go (talliedb y c) refl
   where
-    go : (b : Bool) → talliedb y c ≡ b → SameBut SUM 24576 y (tallyOne y c)
+    go : (b : Bool) → talliedb y c ≡ b → SameBut SUM mostSlots y (tallyOne y c)
     go true e = rw (e, tallyOne) (edges-but c y)
-    go false e = rw (e, tallyOne) (but-self SUM 24576 y)
+    go false e = rw (e, tallyOne) (but-self SUM mostSlots y)
 
-add-sum : (y : List ℕ) (t s : ℕ) → t < 24576 → SUM + 24576 ≤ length y → field y (SUM + s) + one-if (eqb t s) < 65536
+add-sum : (y : List ℕ) (t s : ℕ) → t < mostSlots → SUM + mostSlots ≤ length y → field y (SUM + s) + one-if (eqb t s) < 65536
     → field (addOne y t) (SUM + s) ≡ field y (SUM + s) + one-if (eqb t s)
 unfolding addOne one-if
 add-sum y t s l long h = go (ℕ-discrete t s)
@@ -64,23 +65,23 @@ add-sum y t s l long h = go (ℕ-discrete t s)
         getD-set-same y (SUM + t) ((field y (SUM + t) + 1) % 65536) 0 (omega arith) in
         let v : field (set y (SUM + t) ((field y (SUM + t) + 1) % 65536)) (SUM + s) ≡ field y (SUM + s) + 1 =
         ap (λ (i : ℕ). field (set y (SUM + t) ((field y (SUM + t) + 1) % 65536)) (SUM + i)) (sym e) ∙ w ∙ omega (arith, z, h') in
-        rw (lt-ltb t 24576 l, addOne, eq-eqb t s e) v
+        rw (lt-ltb t mostSlots l, addOne, eq-eqb t s e) v
     go (no n) =
         let v : field (set y (SUM + t) ((field y (SUM + t) + 1) % 65536)) (SUM + s) ≡ field y (SUM + s) + 0 =
         getD-set-other y (SUM + t) (SUM + s) ((field y (SUM + t) + 1) % 65536) 0 (λ e. n (omega arith)) ∙ omega arith in
-        rw (lt-ltb t 24576 l, addOne, ne-eqb t s n) v
+        rw (lt-ltb t mostSlots l, addOne, ne-eqb t s n) v
 
 stays : (n : ℕ) (b : Bool) → b ≡ false → n ≡ n + one-if b
 unfolding one-if
 stays n b e = rw e (omega arith)
 
 module _ (P : ℕ) (J : Task (Fin P)) (p : Fin P) (x : List ℕ) (u : Columns P J p x) where
-  tallied-but : (k : ℕ) → SameBut SUM 24576 x (tallied x k)
+  tallied-but : (k : ℕ) → SameBut SUM mostSlots x (tallied x k)
   unfolding tallied
-  tallied-but k = but-each SUM 24576 tallyOne 4096 (λ y c l. tally-but y c) (levelFrom x (k + 1) - levelFrom x k) (levelFrom x k)
+  tallied-but k = but-each SUM mostSlots tallyOne mostCells (λ y c l. tally-but y c) (levelFrom x (k + 1) - levelFrom x k) (levelFrom x k)
       (level-inside P J p x u k) x
 
-  pub tallied-else : (k i : ℕ) → (i < SUM) ⊎ (SUM + 24576 ≤ i) → field (tallied x k) i ≡ field x i
+  pub tallied-else : (k i : ℕ) → (i < SUM) ⊎ (SUM + mostSlots ≤ i) → field (tallied x k) i ≡ field x i
   tallied-else k = tallied-but k .rest
 
   pub tallied-length : (k : ℕ) → length (tallied x k) ≡ length x
@@ -88,22 +89,22 @@ module _ (P : ℕ) (J : Task (Fin P)) (p : Fin P) (x : List ℕ) (u : Columns P 
 
   -- one cell: each of its slots has one more
   module _ (c : ℕ) (held : HoldsCell P J p c) (s : ℕ) where
-    slot-same : (y : List ℕ) (e : ℕ) → SameBut SUM 24576 x y → e < 6 → slotAt y c e ≡ J .slot c e
+    slot-same : (y : List ℕ) (e : ℕ) → SameBut SUM mostSlots x y → e < 6 → slotAt y c e ≡ J .slot c e
     slot-same y e b l =
         let (k, m, h) = held in
         b .rest (SLOT + (6 * c + e)) (inl (omega (arith, member-low P J p x u k c m, u .cells-few))) ∙ u .slot c e held l
 
-    edge-turn : (y : List ℕ) (e : ℕ) → SameBut SUM 24576 x y → 0 ≤ e → e < 0 + 6
-        → SameBut SUM 24576 x (addEdge c y e)
+    edge-turn : (y : List ℕ) (e : ℕ) → SameBut SUM mostSlots x y → 0 ≤ e → e < 0 + 6
+        → SameBut SUM mostSlots x (addEdge c y e)
         × (field y (SUM + s) + one-if (eqb (J .slot c e) s) < 65536
         → field (addEdge c y e) (SUM + s) ≡ field y (SUM + s) + one-if (eqb (J .slot c e) s))
     unfolding addEdge
     edge-turn y e b a l =
         let z : slotAt y c e ≡ J .slot c e = slot-same y e b (omega arith) in
         let n : Member e (range 0 6) = range-member 0 6 e a l in
-        let low : J .slot c e < 24576 = slot-low P J p x u (J .slot c e) (slot-held P J p c e held (rw six-range at n)) in
-        let long : SUM + 24576 ≤ length y = omega (arith, b .size, u .long) in (
-          but-on SUM 24576 x y (addOne y (slotAt y c e)) b (add-but y (slotAt y c e)),
+        let low : J .slot c e < mostSlots = slot-low P J p x u (J .slot c e) (slot-held P J p c e held (rw six-range at n)) in
+        let long : SUM + mostSlots ≤ length y = omega (arith, b .size, u .long) in (
+          but-on SUM mostSlots x y (addOne y (slotAt y c e)) b (add-but y (slotAt y c e)),
           λ h. ap (λ (t : ℕ). field (addOne y t) (SUM + s)) z ∙ add-sum y (J .slot c e) s low long h,
         )
 
@@ -115,10 +116,10 @@ module _ (P : ℕ) (J : Task (Fin P)) (p : Fin P) (x : List ℕ) (u : Columns P 
         (eqb-true (J .slot c i) s q ∙ sym (eqb-true (J .slot c j) s r)))
         ∙ ap (λ (l : List ℕ). one-if (anyb (λ e. eqb (J .slot c e) s) l)) six-range
 
-    cell-sum : (y : List ℕ) → SameBut SUM 24576 x y → field y (SUM + s) + one-if (has J c s) < 65536
+    cell-sum : (y : List ℕ) → SameBut SUM mostSlots x y → field y (SUM + s) + one-if (has J c s) < 65536
         → field (eachFrom (addEdge c) 6 0 y) (SUM + s) ≡ field y (SUM + s) + one-if (has J c s)
     cell-sum y b h =
-        each-count SUM 24576 (addEdge c) (λ e. eqb (J .slot c e) s) (SUM + s) x 0 6 edge-turn 6 0 y b (omega arith) (omega arith)
+        each-count SUM mostSlots (addEdge c) (λ e. eqb (J .slot c e) s) (SUM + s) x 0 6 edge-turn 6 0 y b (omega arith) (omega arith)
         (omega (arith, slots-once, h)) ∙ ap (λ (n : ℕ). field y (SUM + s) + n) slots-once
 
   owner-not : (k c : ℕ) → Member c (J .cells k) → ¬ (J .owner c ≡ p) → ¬ (field x (OWNER + c) ≡ field x PART)
@@ -132,12 +133,12 @@ module _ (P : ℕ) (J : Task (Fin P)) (p : Fin P) (x : List ℕ) (u : Columns P 
 
   module _ (k : ℕ) (low : k ≤ J .top) (red : ℕ → Bool) (flags : (c : ℕ) → HoldsCell P J p c → field x (RED + c) ≡ one-if (red c)) where
     -- the test of a cell in the loop, by a store that differs in sums only
-    test-is : (c : ℕ) → Member c (J .cells k) → (y : List ℕ) → SameBut SUM 24576 x y
+    test-is : (c : ℕ) → Member c (J .cells k) → (y : List ℕ) → SameBut SUM mostSlots x y
         → talliedb y c ≡ isPart (parts P) (J .owner c) p && red c
     unfolding talliedb
     test-is c m y b = go (isPart (parts P) (J .owner c) p) refl
       where
-        l : c < 4096
+        l : c < mostCells
         l = omega (arith, member-low P J p x u k c m, u .cells-few)
 
         same : eqb (field y (OWNER + c)) (field y PART) ≡ eqb (field x (OWNER + c)) (field x PART)
@@ -158,12 +159,16 @@ module _ (P : ℕ) (J : Task (Fin P)) (p : Fin P) (x : List ℕ) (u : Columns P 
     counted : ℕ → ℕ → Bool
     counted s c = isPart (parts P) (J .owner c) p && (red c && has J c s)
 
-    cell-turn : (s : ℕ) (y : List ℕ) (c : ℕ) → SameBut SUM 24576 x y → levelFrom x k ≤ c
+    cell-turn : (s : ℕ) (y : List ℕ) (c : ℕ) → SameBut SUM mostSlots x y → levelFrom x k ≤ c
         → c < levelFrom x k + (levelFrom x (k + 1) - levelFrom x k)
-        → SameBut SUM 24576 x (tallyOne y c)
+        → SameBut SUM mostSlots x (tallyOne y c)
         × (field y (SUM + s) + one-if (counted s c) < 65536 → field (tallyOne y c) (SUM + s) ≡ field y (SUM + s) + one-if (counted s c))
     unfolding tallyOne counted
-    cell-turn s y c b h l = (but-on SUM 24576 x y (tallyOne y c) b (tally-but y c), go (isPart (parts P) (J .owner c) p) refl (red c) refl)
+    cell-turn s y c b h l = (
+      but-on SUM mostSlots x y (tallyOne y c) b (tally-but y c),
+      go (isPart (parts P) (J .owner c) p) refl
+          (red c) refl,
+    )
       where
         m : Member c (J .cells k)
         m = level-member P J p x u k c low h l
@@ -189,6 +194,6 @@ module _ (P : ℕ) (J : Task (Fin P)) (p : Fin P) (x : List ℕ) (u : Columns P 
         let n : tally (parts P) J p red k s ≡ length (filterb (counted s) (range (levelFrom x k) (levelFrom x (k + 1) - levelFrom x k))) =
         ap (λ (l : List ℕ). length (filterb (λ c. isPart (parts P) (J .owner c) p && (red c && has J c s)) l))
         (cells-of-level P J p x u k low) in
-        each-count SUM 24576 tallyOne (counted s) (SUM + s) x (levelFrom x k) (levelFrom x (k + 1) - levelFrom x k) (cell-turn s)
-        (levelFrom x (k + 1) - levelFrom x k) (levelFrom x k) x (but-self SUM 24576 x) (omega arith) (omega arith) (omega (arith, n, h))
+        each-count SUM mostSlots tallyOne (counted s) (SUM + s) x (levelFrom x k) (levelFrom x (k + 1) - levelFrom x k) (cell-turn s)
+        (levelFrom x (k + 1) - levelFrom x k) (levelFrom x k) x (but-self SUM mostSlots x) (omega arith) (omega arith) (omega (arith, n, h))
         ∙ ap (λ (i : ℕ). field x (SUM + s) + i) (sym n)

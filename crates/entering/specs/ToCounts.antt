@@ -9,6 +9,7 @@ use native.Mathlib.Omega.{arith}
 use lib.ListN.{length, getD, set, length-set, length-append, length-map}
 use lib.Seq.{getD-set-same, getD-set-other}
 use Rattle.base.specs.Bools.{one-if, not-both}
+use Rattle.base.specs.Limits.{mostSlots}
 use Rattle.base.specs.Range.{length-range}
 use Rattle.base.specs.Range.{range}
 use Rattle.exchange.specs.Finite.{parts}
@@ -23,6 +24,7 @@ use Rattle.rounds.specs.Order.{orderOf}
 use Rattle.rounds.specs.Upward.{ups}
 use Rattle.merging.specs.Totals.{grownOf}
 use Rattle.store.specs.Fields.{field, full, STAGE, CELLS, LEVELS, ROUND, RESULT, ENTRIES, WRITTEN, FIRST-CELL, FIRST-SLOT, RED, SUM, MARK}
+use Rattle.store.specs.Fields.{CODE, CORNER, CURSOR, PLACE-HEAD, mostEntries}
 use Rattle.store.specs.Headed.{header-is}
 use Rattle.standing.specs.Busy.{L, Busy, HoldsCell, HoldsSlot}
 use Rattle.turns.specs.Loops.{eachFrom}
@@ -80,7 +82,7 @@ module _ (P : ℕ) (J : Task (Fin P)) {In : Type 0} (reads : Fin P → In → �
   abbrev x1 : List ℕ
   x1 = tallied x k
 
-  far : (j : ℕ) → (j < SUM) ⊎ (SUM + 24576 ≤ j) → field x1 j ≡ field x j
+  far : (j : ℕ) → (j < SUM) ⊎ (SUM + mostSlots ≤ j) → field x1 j ≡ field x j
   far j h = tallied-else P J p x co k j h
 
   stay : Stay x x1
@@ -92,8 +94,8 @@ module _ (P : ℕ) (J : Task (Fin P)) {In : Type 0} (reads : Fin P → In → �
   work : Worked x x1
   work = record { size = tallied-length P J p x co k; else = λ j h. far j (where-is j h) }
     where
-      where-is : (j : ℕ) → (j < 9) ⊎ (((12 ≤ j) × (j < 45168)) ⊎ (((49264 ≤ j) × (j < 99440)) ⊎ ((124016 ≤ j) × (j < 210104))))
-          → (j < SUM) ⊎ (SUM + 24576 ≤ j)
+      where-is : (j : ℕ) → (j < ENTRIES) ⊎ (((CURSOR ≤ j) × (j < RED)) ⊎ (((CORNER ≤ j) × (j < SUM)) ⊎ ((CODE ≤ j) × (j < PLACE-HEAD))))
+          → (j < SUM) ⊎ (SUM + mostSlots ≤ j)
       where-is j (inl a) = inl (omega arith)
       where-is j (inr (inl (a, b))) = inl (omega arith)
       where-is j (inr (inr (inl (a, b)))) = inl (omega arith)
@@ -140,7 +142,7 @@ module _ (P : ℕ) (J : Task (Fin P)) {In : Type 0} (reads : Fin P → In → �
       co .slots k (omega arith)
       ∙ ap₂ (λ (b c : ℕ). range b (c - b)) (sym (slot-from k (omega arith))) (sym end-at)
 
-  inside : a + n ≤ 24576
+  inside : a + n ≤ mostSlots
   inside = omega (arith, slot-from k (omega arith), end-at, co .slots-in (suc k) (omega arith), co .slots-rise k (omega arith))
 
   spent : Spent P J (marks i) x
@@ -151,7 +153,7 @@ module _ (P : ℕ) (J : Task (Fin P)) {In : Type 0} (reads : Fin P → In → �
   unfolding Spent
   spent-is = spent
 
-  room : field x1 WRITTEN + (n + 1) ≤ 28696
+  room : field x1 WRITTEN + (n + 1) ≤ mostEntries
   room =
       omega (
         arith,
@@ -178,14 +180,14 @@ module _ (P : ℕ) (J : Task (Fin P)) {In : Type 0} (reads : Fin P → In → �
   abbrev z : List ℕ
   z = set y ROUND (field x ROUND + 1)
 
-  z-else : (j : ℕ) → j ≢ 7 → field z j ≡ field y j
+  z-else : (j : ℕ) → j ≢ ROUND → field z j ≡ field y j
   z-else j h = getD-set-other y ROUND j (field x ROUND + 1) 0 h
 
-  y-else : (j : ℕ) → j ≢ 14 → j < 124016 → field y j ≡ field x1 j
+  y-else : (j : ℕ) → j ≢ WRITTEN → j < CODE → field y j ≡ field x1 j
   y-else j h g = wrote .same .else j h (inl g)
 
   -- what stands outside of sums and entries
-  z-is : (j : ℕ) → j ≢ 7 → j ≢ 14 → j < SUM → field z j ≡ field x j
+  z-is : (j : ℕ) → j ≢ ROUND → j ≢ WRITTEN → j < SUM → field z j ≡ field x j
   z-is j g h b = z-else j g ∙ y-else j h (omega arith) ∙ far j (inl b)
 
   round-is : field z ROUND ≡ suc (l .round)

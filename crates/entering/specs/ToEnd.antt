@@ -12,6 +12,7 @@ use lib.ListN.{length, getD, set, length-set, take, length-append}
 use lib.Seq.{getD-set-same, getD-set-other}
 use borrow.Author.Tests.{eq-eqb, ne-eqb, le-leb, lt-leb}
 use Rattle.base.specs.Bools.{one-if, not-both}
+use Rattle.base.specs.Limits.{mostCells, mostLevels, topLevel}
 use Rattle.base.specs.Range.{range}
 use Rattle.exchange.specs.Finite.{parts}
 use Rattle.exchange.specs.Protocol.{following}
@@ -27,6 +28,7 @@ use Rattle.shares.specs.Grow.{freshEntries}
 use Rattle.shares.specs.Grow.{entryBy, entries}
 use Rattle.merging.specs.Totals.{grownOf}
 use Rattle.store.specs.Fields.{field, full, STAGE, CELLS, LEVELS, ROUND, RESULT, ENTRIES, TOTAL, HIGH, WRITTEN, RED, SUM, MARK}
+use Rattle.store.specs.Fields.{CODE, CORNER, CURSOR, FIRST-CELL, FREE, OWNER, PART, PLACE-HEAD}
 use Rattle.store.specs.Headed.{header-is}
 use Rattle.standing.specs.Busy.{L, Busy, HoldsCell, HoldsSlot}
 use Rattle.partstep.specs.Step.{endNumber, oldPlaces, finished, roundEntered, partStepped}
@@ -46,7 +48,7 @@ use Rattle.entering.specs.Steps.{head-done, Wholes, last-round}
 module _ (n h : ℕ) where
   result-kind : (eqb (resultOf n h) 0 || (eqb (resultOf n h) 8 || eqb (resultOf n h) 9)) ≡ true
   unfolding resultOf
-  result-kind = go (leb 11 h) (leb n 4096)
+  result-kind = go (leb mostLevels h) (leb n mostCells)
     where
       go : (a b : Bool) → (eqb (elim a [ true ↦ 8 | false ↦ elim b [ true ↦ 0 | false ↦ 9 ] ]) 0
           || (eqb (elim a [ true ↦ 8 | false ↦ elim b [ true ↦ 0 | false ↦ 9 ] ]) 8
@@ -55,15 +57,15 @@ module _ (n h : ℕ) where
       go false true = refl
       go false false = refl
 
-  result-none : resultOf n h ≡ 0 → (h ≤ 10) × (n ≤ 4096)
+  result-none : resultOf n h ≡ 0 → (h ≤ topLevel) × (n ≤ mostCells)
   unfolding resultOf
-  result-none e = elim (decLt 10 h) [
+  result-none e = elim (decLt topLevel h) [
     | yes k ↦
-        let z : resultOf n h ≡ 8 = rw (le-leb 11 h k, resultOf) in
+        let z : resultOf n h ≡ 8 = rw (le-leb mostLevels h k, resultOf) in
         absurd (omega (arith, z, e))
-    | no k ↦ elim (decLt 4096 n) [
+    | no k ↦ elim (decLt mostCells n) [
       | yes m ↦
-          let z : resultOf n h ≡ 9 = rw (lt-leb 11 h (omega arith), lt-leb n 4096 m, resultOf) in
+          let z : resultOf n h ≡ 9 = rw (lt-leb mostLevels h (omega arith), lt-leb n mostCells m, resultOf) in
           absurd (omega (arith, z, e))
       | no m ↦ (omega arith, omega arith)
     ]
@@ -168,7 +170,11 @@ module _ (P : ℕ) (J : Task (Fin P)) {In : Type 0} (reads : Fin P → In → �
 
   number-is : endNumber x ≡ resultOf (s .total) (s .high)
   unfolding endNumber resultOf
-  number-is = ap₂ (λ (n h : ℕ). elim (leb 11 h) [ true ↦ 8 | false ↦ elim (leb n 4096) [ true ↦ 0 | false ↦ 9 ] ]) total-is high-is
+  number-is = ap₂ (λ (n h : ℕ). elim (leb mostLevels h) [
+    | true ↦ 8
+    | false ↦ elim
+        (leb n mostCells) [ true ↦ 0 | false ↦ 9 ]
+  ]) total-is high-is
 
   -- the store with what it holds at the end
   abbrev x1 : List ℕ
@@ -176,8 +182,8 @@ module _ (P : ℕ) (J : Task (Fin P)) {In : Type 0} (reads : Fin P → In → �
 
   record Ends (w : List ℕ) : Type 0 where
     pub size : length w ≡ length x
-    pub else : (i : ℕ) → i ≢ ENTRIES → i < 210104 → field w i ≡ field x i
-    pub few : field w ENTRIES ≤ 4096
+    pub else : (i : ℕ) → i ≢ ENTRIES → i < PLACE-HEAD → field w i ≡ field x i
+    pub few : field w ENTRIES ≤ mostCells
 
   ends-x : Ends x
   ends-x = record { size = refl; else = λ i a b. refl; few = header-is x (rw (u .header) tt) .entries-most }
@@ -200,7 +206,7 @@ module _ (P : ℕ) (J : Task (Fin P)) {In : Type 0} (reads : Fin P → In → �
   work : Worked x x1
   work = record { size = ends .size; else = λ i h. go i h }
     where
-      go : (i : ℕ) → (i < 9) ⊎ (((12 ≤ i) × (i < 45168)) ⊎ (((49264 ≤ i) × (i < 99440)) ⊎ ((124016 ≤ i) × (i < 210104))))
+      go : (i : ℕ) → (i < ENTRIES) ⊎ (((CURSOR ≤ i) × (i < RED)) ⊎ (((CORNER ≤ i) × (i < SUM)) ⊎ ((CODE ≤ i) × (i < PLACE-HEAD))))
           → field x1 i ≡ field x i
       go i (inl a) = ends .else i (λ e. absurd (omega (arith, e))) (omega arith)
       go i (inr (inl (a, b))) = ends .else i (λ e. absurd (omega (arith, e))) (omega arith)
@@ -232,14 +238,14 @@ module _ (P : ℕ) (J : Task (Fin P)) {In : Type 0} (reads : Fin P → In → �
         ∙ getD-set-other x1 RESULT i (endNumber x) 0 c;
   }
 
-  z-x : (i : ℕ) → i ≢ 0 → i ≢ 7 → i ≢ 8 → i ≢ 9 → i < 210104 → field z i ≡ field x i
+  z-x : (i : ℕ) → i ≢ STAGE → i ≢ ROUND → i ≢ RESULT → i ≢ ENTRIES → i < PLACE-HEAD → field z i ≡ field x i
   z-x i a b c d e = reset .else i a b c ∙ ends .else i d e
 
-  z-far : (i : ℕ) → 9 < i → i < 210104 → field z i ≡ field x i
+  z-far : (i : ℕ) → ENTRIES < i → i < PLACE-HEAD → field z i ≡ field x i
   z-far i a b = z-x i (λ e. absurd (omega (arith, e))) (λ e. absurd (omega (arith, e))) (λ e. absurd (omega (arith, e)))
       (λ e. absurd (omega (arith, e))) b
 
-  z-low : (i : ℕ) → 1 ≤ i → i < 7 → field z i ≡ field x i
+  z-low : (i : ℕ) → PART ≤ i → i < ROUND → field z i ≡ field x i
   z-low i a b = z-x i (λ e. absurd (omega (arith, e))) (λ e. absurd (omega (arith, e))) (λ e. absurd (omega (arith, e)))
       (λ e. absurd (omega (arith, e))) (omega arith)
 
@@ -260,7 +266,8 @@ module _ (P : ℕ) (J : Task (Fin P)) {In : Type 0} (reads : Fin P → In → �
   z-stay : Stay x z
   z-stay = record { size = size-z ∙ ends .size; else = λ i h. go i h }
     where
-      go : (i : ℕ) → ((1 ≤ i) × (i < 7)) ⊎ (((16 ≤ i) × (i < 40)) ⊎ (((112 ≤ i) × (i < 41072)) ⊎ ((49264 ≤ i) × (i < 99440))))
+      go : (i : ℕ) → ((PART ≤ i) × (i < ROUND)) ⊎ (((FIRST-CELL ≤ i) × (i < FREE))
+          ⊎ (((OWNER ≤ i) × (i < MARK)) ⊎ ((CORNER ≤ i) × (i < SUM))))
           → field z i ≡ field x i
       go i (inl (a, b)) = z-low i a b
       go i (inr (inl (a, b))) = z-far i (omega arith) (omega arith)
@@ -279,8 +286,8 @@ module _ (P : ℕ) (J : Task (Fin P)) {In : Type 0} (reads : Fin P → In → �
   x1-kept : endNumber x ≢ 0 → x1 ≡ oldPlaces x
   x1-kept e = ap (λ (b : Bool). elim b [ true ↦ x | false ↦ oldPlaces x ]) (ne-eqb (endNumber x) 0 e)
 
-  before : (l .state .high ≡ grownOf (parts P) J p (l .state) .1) × (l .state .high ≤ 10
-      → heldIn x ≡ take 4096 (entries (parts P) J p (l .state)))
+  before : (l .state .high ≡ grownOf (parts P) J p (l .state) .1) × (l .state .high ≤ topLevel
+      → heldIn x ≡ take mostCells (entries (parts P) J p (l .state)))
   unfolding Holding
   before = subst (λ (f : Phase). Holding P J p f (l .state) x) now (st .holding)
 
@@ -291,8 +298,8 @@ module _ (P : ℕ) (J : Task (Fin P)) {In : Type 0} (reads : Fin P → In → �
     (
       λ e.
           let n : endNumber x ≡ 0 = sym result-is ∙ e in
-          let h : l .state .high ≤ 10 = omega (arith, result-none (s .total) (s .high) (sym number-is ∙ n) .0, s-high) in
-          held-z ∙ ap heldIn (x1-same n) ∙ before .1 h ∙ ap (take 4096) (sym same-entries),
+          let h : l .state .high ≤ topLevel = omega (arith, result-none (s .total) (s .high) (sym number-is ∙ n) .0, s-high) in
+          held-z ∙ ap heldIn (x1-same n) ∙ before .1 h ∙ ap (take mostCells) (sym same-entries),
       λ e.
           held-z ∙ ap heldIn (x1-kept (λ n. e (result-is ∙ n))) ∙ kept-held P J p x co
           ∙ ap (olds P J p) (sym (z-low CELLS (omega arith) (omega arith))),

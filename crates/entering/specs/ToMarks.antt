@@ -11,6 +11,7 @@ use lib.ListN.{length, getD, set, length-set, length-append, length-map}
 use lib.Seq.{getD-set-same, getD-set-other}
 use borrow.Author.Tests.{lt-ltb}
 use Rattle.base.specs.Bools.{one-if, not-both}
+use Rattle.base.specs.Limits.{mostCells, mostSlots}
 use Rattle.base.specs.Range.{range, length-range}
 use Rattle.exchange.specs.Finite.{parts}
 use Rattle.exchange.specs.Protocol.{following}
@@ -22,6 +23,7 @@ use Rattle.rounds.specs.Order.{orderOf}
 use Rattle.rounds.specs.Upward.{ups}
 use Rattle.merging.specs.Totals.{grownOf}
 use Rattle.store.specs.Fields.{field, full, STAGE, CELLS, LEVELS, ROUND, RESULT, ENTRIES, WRITTEN, FIRST-CELL, FIRST-SLOT, RED, SUM, MARK}
+use Rattle.store.specs.Fields.{CODE, CORNER, CURSOR, FIRST-ENDED, FREE, OWNER, PART, PLACE-HEAD, mostEntries}
 use Rattle.store.specs.Headed.{header-is}
 use Rattle.standing.specs.Busy.{L, Busy, HoldsCell, HoldsSlot}
 use Rattle.turns.specs.Loops.{eachFrom}
@@ -51,21 +53,22 @@ module _ (P : ℕ) (J : Task (Fin P)) (fit : Fit J) {In : Type 0} (reads : Fin P
   module _ (r : ℕ) (here : phase (J .top) r ≡ marks j) (bound : r ≤ 2 * suc (J .top)) (s : State)
       (red-is : (c : ℕ) → s .red c ≡ (red c || (decides (parts P) J p k c && rule J h g c)))
       (sum-is : (i : ℕ) → HoldsSlot P J p i → field x (SUM + i) ≡ s .sum i) (given-is : s .given ≡ g)
-      (ends : (q : Fin P) → isPart (parts P) q p ≡ false → field x (80 + q .0) ≡ r)
+      (ends : (q : Fin P) → isPart (parts P) q p ≡ false → field x (FIRST-ENDED + q .0) ≡ r)
       (spent : field x WRITTEN + field x (FIRST-CELL + suc k) + field x (FIRST-SLOT + suc k)
       ≤ field x CELLS + field x (FIRST-SLOT + suc (J .top)) + (j + j))
       (sent : (q : Fin P) → entering P J reads p r s l .sent q < 65536) where
     abbrev x1 : List ℕ
     x1 = decidedAt x k
 
-    far : (i : ℕ) → (i < RED) ⊎ (RED + 4096 ≤ i) → field x1 i ≡ field x i
+    far : (i : ℕ) → (i < RED) ⊎ (RED + mostCells ≤ i) → field x1 i ≡ field x i
     far i e = decided-else P J p x co k i e
 
     stay : Stay x x1
     stay = record { size = decided-length P J p x co k; else = λ i e. far i (where-is i e) }
       where
-        where-is : (i : ℕ) → ((1 ≤ i) × (i < 7)) ⊎ (((16 ≤ i) × (i < 40)) ⊎ (((112 ≤ i) × (i < 41072)) ⊎ ((49264 ≤ i) × (i < 99440))))
-            → (i < RED) ⊎ (RED + 4096 ≤ i)
+        where-is : (i : ℕ) → ((PART ≤ i) × (i < ROUND)) ⊎ (((FIRST-CELL ≤ i) × (i < FREE))
+            ⊎ (((OWNER ≤ i) × (i < MARK)) ⊎ ((CORNER ≤ i) × (i < SUM))))
+            → (i < RED) ⊎ (RED + mostCells ≤ i)
         where-is i (inl (a, b)) = inl (omega arith)
         where-is i (inr (inl (a, b))) = inl (omega arith)
         where-is i (inr (inr (inl (a, b)))) = inl (omega arith)
@@ -77,8 +80,8 @@ module _ (P : ℕ) (J : Task (Fin P)) (fit : Fit J) {In : Type 0} (reads : Fin P
     work : Worked x x1
     work = record { size = decided-length P J p x co k; else = λ i e. far i (where-is i e) }
       where
-        where-is : (i : ℕ) → (i < 9) ⊎ (((12 ≤ i) × (i < 45168)) ⊎ (((49264 ≤ i) × (i < 99440)) ⊎ ((124016 ≤ i) × (i < 210104))))
-            → (i < RED) ⊎ (RED + 4096 ≤ i)
+        where-is : (i : ℕ) → (i < ENTRIES) ⊎ (((CURSOR ≤ i) × (i < RED)) ⊎ (((CORNER ≤ i) × (i < SUM)) ⊎ ((CODE ≤ i) × (i < PLACE-HEAD))))
+            → (i < RED) ⊎ (RED + mostCells ≤ i)
         where-is i (inl a) = inl (omega arith)
         where-is i (inr (inl (a, b))) = inl (omega arith)
         where-is i (inr (inr (inl (a, b)))) = inr (omega arith)
@@ -102,7 +105,7 @@ module _ (P : ℕ) (J : Task (Fin P)) (fit : Fit J) {In : Type 0} (reads : Fin P
     begin-at : levelFrom x k ≡ field x (FIRST-CELL + k)
     begin-at = level-is P J p x co k (omega arith)
 
-    room : field x1 WRITTEN + (n + 1) ≤ 28696
+    room : field x1 WRITTEN + (n + 1) ≤ mostEntries
     room =
         omega (
           arith,
@@ -132,7 +135,7 @@ module _ (P : ℕ) (J : Task (Fin P)) (fit : Fit J) {In : Type 0} (reads : Fin P
     unfolding enterMarks
     entered-is = refl
 
-    pub enter-keeps : (i : ℕ) → i ≢ 14 → i < RED → field (enterMarks x k) i ≡ field x i
+    pub enter-keeps : (i : ℕ) → i ≢ WRITTEN → i < RED → field (enterMarks x k) i ≡ field x i
     enter-keeps i b c = ap (λ (w : List ℕ). field w i) entered-is ∙ wrote .same .else i b (inl (omega arith)) ∙ far i (inl c)
 
     enter-size : length (enterMarks x k) ≡ length x
@@ -144,17 +147,18 @@ module _ (P : ℕ) (J : Task (Fin P)) (fit : Fit J) {In : Type 0} (reads : Fin P
       reset-y : Reset y z
       reset-y = subst (λ (w : List ℕ). Reset w z) entered-is reset
 
-      z-else : (i : ℕ) → i ≢ 0 → i ≢ 7 → i ≢ 8 → field z i ≡ field y i
+      z-else : (i : ℕ) → i ≢ STAGE → i ≢ ROUND → i ≢ RESULT → field z i ≡ field y i
       z-else i = reset-y .else i
 
-      z-is : (i : ℕ) → i ≢ 0 → i ≢ 7 → i ≢ 8 → i ≢ 14 → (i < RED) ⊎ (RED + 4096 ≤ i) → i < 124016 → field z i ≡ field x i
+      z-is : (i : ℕ) → i ≢ STAGE → i ≢ ROUND → i ≢ RESULT → i ≢ WRITTEN → (i < RED) ⊎ (RED + mostCells ≤ i) → i < CODE
+          → field z i ≡ field x i
       z-is i b c d e f m = z-else i b c d ∙ wrote .same .else i e (inl m) ∙ far i f
 
-      z-low : (i : ℕ) → 1 ≤ i → i < 7 → field z i ≡ field x i
+      z-low : (i : ℕ) → PART ≤ i → i < ROUND → field z i ≡ field x i
       z-low i b c = z-is i (λ e. absurd (omega (arith, e))) (λ e. absurd (omega (arith, e))) (λ e. absurd (omega (arith, e)))
           (λ e. absurd (omega (arith, e))) (inl (omega arith)) (omega arith)
 
-      z-far : (i : ℕ) → 14 < i → (i < RED) ⊎ (RED + 4096 ≤ i) → i < 124016 → field z i ≡ field x i
+      z-far : (i : ℕ) → WRITTEN < i → (i < RED) ⊎ (RED + mostCells ≤ i) → i < CODE → field z i ≡ field x i
       z-far i b f m = z-is i (λ e. absurd (omega (arith, e))) (λ e. absurd (omega (arith, e))) (λ e. absurd (omega (arith, e)))
           (λ e. absurd (omega (arith, e))) f m
 
@@ -165,7 +169,8 @@ module _ (P : ℕ) (J : Task (Fin P)) (fit : Fit J) {In : Type 0} (reads : Fin P
       pub enter-stay : Stay x z
       enter-stay = record { size = reset-y .size ∙ wrote .same .size ∙ work .size; else = λ i e. go i e }
         where
-          go : (i : ℕ) → ((1 ≤ i) × (i < 7)) ⊎ (((16 ≤ i) × (i < 40)) ⊎ (((112 ≤ i) × (i < 41072)) ⊎ ((49264 ≤ i) × (i < 99440))))
+          go : (i : ℕ) → ((PART ≤ i) × (i < ROUND)) ⊎ (((FIRST-CELL ≤ i) × (i < FREE))
+              ⊎ (((OWNER ≤ i) × (i < MARK)) ⊎ ((CORNER ≤ i) × (i < SUM))))
               → field z i ≡ field x i
           go i (inl (b, c)) = z-low i b c
           go i (inr (inl (b, c))) = z-far i (omega arith) (inl (omega arith)) (omega arith)
@@ -282,7 +287,7 @@ module _ (P : ℕ) (J : Task (Fin P)) (fit : Fit J) {In : Type 0} (reads : Fin P
   hits-are : (v : ℕ) → HoldsSlot P J p v → hitb x v ≡ hit v
   unfolding hitb hit
   hits-are v h =
-      ap₂ (λ (b : Bool) (m : ℕ). b && not (eqb m 0)) (lt-ltb v 24576 (slot-low P J p x (st .columns) v h)) (st .busy .sum v h)
+      ap₂ (λ (b : Bool) (m : ℕ). b && not (eqb m 0)) (lt-ltb v mostSlots (slot-low P J p x (st .columns) v h)) (st .busy .sum v h)
 
   spent-before : Spent P J (counts i) x
   spent-before = subst (λ (f : Phase). Spent P J f x) now (st .spent)

@@ -23,7 +23,7 @@ use Rattle.rounds.specs.Upward.{ups}
 use Rattle.shares.specs.Grow.{entries}
 use Rattle.merging.specs.Totals.{grownOf, grown-plain}
 use Rattle.store.specs.Fields.{field, full, STAGE, CELLS, LEVELS, ROUND, RESULT, ENTRIES, TOTAL, HIGH, WRITTEN, FIRST-CELL, FIRST-SLOT, RED}
-use Rattle.store.specs.Fields.{SUM, MARK}
+use Rattle.store.specs.Fields.{SUM, MARK, CODE, CORNER, CURSOR, FREE, OWNER, PART, PLACE-HEAD, mostEntries}
 use Rattle.store.specs.Headed.{header-is}
 use Rattle.standing.specs.Busy.{L, Busy, HoldsCell, HoldsSlot}
 use Rattle.turns.specs.Post.{postEnd}
@@ -113,13 +113,13 @@ module _ (P : ℕ) (J : Task (Fin P)) (fit : Fit J) {In : Type 0} (reads : Fin P
   abbrev x1 : List ℕ
   x1 = placedBy P J fit p x co s known
 
-  far : (i : ℕ) → i < 9 ⊎ ((12 ≤ i) × (i < 210104)) → field x1 i ≡ field x i
+  far : (i : ℕ) → i < ENTRIES ⊎ ((CURSOR ≤ i) × (i < PLACE-HEAD)) → field x1 i ≡ field x i
   far = placed-else P J fit p x co s known
 
   work : Worked x x1
   work = record { size = placed-size P J fit p x co s known; else = λ i h. go i h }
     where
-      go : (i : ℕ) → (i < 9) ⊎ (((12 ≤ i) × (i < 45168)) ⊎ (((49264 ≤ i) × (i < 99440)) ⊎ ((124016 ≤ i) × (i < 210104))))
+      go : (i : ℕ) → (i < ENTRIES) ⊎ (((CURSOR ≤ i) × (i < RED)) ⊎ (((CORNER ≤ i) × (i < SUM)) ⊎ ((CODE ≤ i) × (i < PLACE-HEAD))))
           → field x1 i ≡ field x i
       go i (inl a) = far i (inl a)
       go i (inr (inl (a, b))) = far i (inr (a, omega arith))
@@ -129,7 +129,8 @@ module _ (P : ℕ) (J : Task (Fin P)) (fit : Fit J) {In : Type 0} (reads : Fin P
   stay : Stay x x1
   stay = record { size = placed-size P J fit p x co s known; else = λ i h. go i h }
     where
-      go : (i : ℕ) → ((1 ≤ i) × (i < 7)) ⊎ (((16 ≤ i) × (i < 40)) ⊎ (((112 ≤ i) × (i < 41072)) ⊎ ((49264 ≤ i) × (i < 99440))))
+      go : (i : ℕ) → ((PART ≤ i) × (i < ROUND)) ⊎ (((FIRST-CELL ≤ i) × (i < FREE))
+          ⊎ (((OWNER ≤ i) × (i < MARK)) ⊎ ((CORNER ≤ i) × (i < SUM))))
           → field x1 i ≡ field x i
       go i (inl (a, b)) = far i (inl (omega arith))
       go i (inr (inl (a, b))) = far i (inr (omega arith, omega arith))
@@ -142,7 +143,7 @@ module _ (P : ℕ) (J : Task (Fin P)) (fit : Fit J) {In : Type 0} (reads : Fin P
   spent-before : Spent P J (counts (J .top)) x
   spent-before = subst (λ (f : Phase). Spent P J f x) now (st .spent)
 
-  room : field x1 WRITTEN + 2 ≤ 28696
+  room : field x1 WRITTEN + 2 ≤ mostEntries
   unfolding Spent
   room =
       omega (
@@ -169,20 +170,20 @@ module _ (P : ℕ) (J : Task (Fin P)) (fit : Fit J) {In : Type 0} (reads : Fin P
   abbrev z : List ℕ
   z = set y ROUND (field x ROUND + 1)
 
-  z-y : (i : ℕ) → i ≢ 7 → field z i ≡ field y i
+  z-y : (i : ℕ) → i ≢ ROUND → field z i ≡ field y i
   z-y i h = getD-set-other y ROUND i (field x ROUND + 1) 0 h
 
-  z-x1 : (i : ℕ) → i ≢ 7 → i ≢ 14 → (i < 124016) ⊎ (210104 ≤ i) → field z i ≡ field x1 i
+  z-x1 : (i : ℕ) → i ≢ ROUND → i ≢ WRITTEN → (i < CODE) ⊎ (PLACE-HEAD ≤ i) → field z i ≡ field x1 i
   z-x1 i a b c = z-y i a ∙ wrote .same .else i b c
 
-  z-is : (i : ℕ) → i ≢ 7 → i ≢ 14 → i < 9 ⊎ ((12 ≤ i) × (i < 124016)) → field z i ≡ field x i
+  z-is : (i : ℕ) → i ≢ ROUND → i ≢ WRITTEN → i < ENTRIES ⊎ ((CURSOR ≤ i) × (i < CODE)) → field z i ≡ field x i
   z-is i a b (inl c) = z-x1 i a b (inl (omega arith)) ∙ far i (inl c)
   z-is i a b (inr (c, d)) = z-x1 i a b (inl d) ∙ far i (inr (c, omega arith))
 
-  z-low : (i : ℕ) → i < 7 → field z i ≡ field x i
+  z-low : (i : ℕ) → i < ROUND → field z i ≡ field x i
   z-low i h = z-is i (λ e. absurd (omega (arith, e))) (λ e. absurd (omega (arith, e))) (inl (omega arith))
 
-  z-far : (i : ℕ) → 14 < i → i < 124016 → field z i ≡ field x i
+  z-far : (i : ℕ) → WRITTEN < i → i < CODE → field z i ≡ field x i
   z-far i a b = z-is i (λ e. absurd (omega (arith, e))) (λ e. absurd (omega (arith, e))) (inr (omega arith, b))
 
   stage-is : field z STAGE ≡ 1
@@ -198,7 +199,8 @@ module _ (P : ℕ) (J : Task (Fin P)) (fit : Fit J) {In : Type 0} (reads : Fin P
   z-stay : Stay x z
   z-stay = record { size = set-reset y (field x ROUND + 1) .size ∙ wrote .same .size ∙ work .size; else = λ i h. go i h }
     where
-      go : (i : ℕ) → ((1 ≤ i) × (i < 7)) ⊎ (((16 ≤ i) × (i < 40)) ⊎ (((112 ≤ i) × (i < 41072)) ⊎ ((49264 ≤ i) × (i < 99440))))
+      go : (i : ℕ) → ((PART ≤ i) × (i < ROUND)) ⊎ (((FIRST-CELL ≤ i) × (i < FREE))
+          ⊎ (((OWNER ≤ i) × (i < MARK)) ⊎ ((CORNER ≤ i) × (i < SUM))))
           → field z i ≡ field x i
       go i (inl (a, b)) = z-low i b
       go i (inr (inl (a, b))) = z-far i (omega arith) (omega arith)

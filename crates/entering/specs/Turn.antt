@@ -11,6 +11,7 @@ use native.Mathlib.Omega.{arith}
 use lib.Dec.{ltb}
 use lib.ListN.{length, getD}
 use Rattle.base.specs.Bools.{one-if}
+use Rattle.base.specs.Limits.{mostParts}
 use Rattle.exchange.specs.Finite.{Finite, parts}
 use Rattle.exchange.specs.Protocol.{Protocol, Local, only, numbered, parcel, enter}
 use Rattle.rounds.specs.Task.{Task}
@@ -20,6 +21,7 @@ use Rattle.rounds.specs.Rounded.{overb, sizedb, protocol}
 use Rattle.rounds.specs.Upward.{ups, once}
 use Rattle.merging.specs.Totals.{grownOf}
 use Rattle.store.specs.Fields.{field, full, STAGE, PART, ROUND, TOTAL, HIGH, CURSOR, BIT, WRITTEN, GIVEN, CODE, VALUE, RECEIVERS, RED, SUM}
+use Rattle.store.specs.Fields.{CORNER, ENTRIES, FIRST-ENDED, MARK, OWNER, PLACE-HEAD, RESULT, mostEntries}
 use Rattle.store.specs.Header.{headerb}
 use Rattle.store.specs.Fetch.{entryCount, codeAt, valueAt, receiversAt, spotAt}
 use Rattle.store.specs.declared.Spot.{Spot}
@@ -31,7 +33,7 @@ use Rattle.entering.specs.Writing.{Line, WroteLines, ordersOf, longer-on
 use Rattle.entering.specs.Entered.{Untouched, part-own, enters}
 
 abbrev pub WorkKept : ℕ → Type 0
-WorkKept i = (i < 9) ⊎ (((12 ≤ i) × (i < 45168)) ⊎ (((49264 ≤ i) × (i < 99440)) ⊎ ((124016 ≤ i) × (i < 210104))))
+WorkKept i = (i < ENTRIES) ⊎ (((CURSOR ≤ i) × (i < RED)) ⊎ (((CORNER ≤ i) × (i < SUM)) ⊎ ((CODE ≤ i) × (i < PLACE-HEAD))))
 
 pub record Worked (x y : List ℕ) : Type 0 where
   pub size : length y ≡ length x
@@ -39,34 +41,34 @@ pub record Worked (x y : List ℕ) : Type 0 where
 
 pub record Reset (y z : List ℕ) : Type 0 where
   pub size : length z ≡ length y
-  pub else : (i : ℕ) → i ≢ 0 → i ≢ 7 → i ≢ 8 → field z i ≡ field y i
+  pub else : (i : ℕ) → i ≢ STAGE → i ≢ ROUND → i ≢ RESULT → field z i ≡ field y i
 
 -- entries that agree
-module _ (y z : List ℕ) (many : field z WRITTEN ≡ field y WRITTEN) (agree : (i : ℕ) → 124016 ≤ i → i < 210104 → field z i ≡ field y i)
-    (low : (i : ℕ) → i < 7 → 1 ≤ i → field z i ≡ field y i) (head : (i : ℕ) → 12 ≤ i → i < 14 → field z i ≡ field y i)
-    (counts : (i : ℕ) → 96 ≤ i → i < 112 → field z i ≡ field y i) where
+module _ (y z : List ℕ) (many : field z WRITTEN ≡ field y WRITTEN) (agree : (i : ℕ) → CODE ≤ i → i < PLACE-HEAD → field z i ≡ field y i)
+    (low : (i : ℕ) → i < ROUND → PART ≤ i → field z i ≡ field y i) (head : (i : ℕ) → CURSOR ≤ i → i < WRITTEN → field z i ≡ field y i)
+    (counts : (i : ℕ) → GIVEN ≤ i → i < OWNER → field z i ≡ field y i) where
   count-same : entryCount z ≡ entryCount y
   unfolding entryCount
-  count-same = ap (λ (n : ℕ). elim (ltb n 28696) [ true ↦ n | false ↦ 28696 ]) many
+  count-same = ap (λ (n : ℕ). elim (ltb n mostEntries) [ true ↦ n | false ↦ mostEntries ]) many
 
   agree-longer : Longer y z 0
   agree-longer = record {
     part = low 1 (omega arith) (omega arith);
-    entry = head 12 (omega arith) (omega arith);
-    bit = head 13 (omega arith) (omega arith);
-    counts = λ b h. counts (96 + b) (omega arith) (omega arith);
+    entry = head CURSOR (omega arith) (omega arith);
+    bit = head BIT (omega arith) (omega arith);
+    counts = λ b h. counts (GIVEN + b) (omega arith) (omega arith);
     many = count-same ∙ omega arith;
     codes = λ j h. agree (CODE + j) (omega arith) (omega (arith, few));
     values = λ j h. agree (VALUE + j) (omega arith) (omega (arith, few));
     receivers = λ j h. agree (RECEIVERS + j) (omega arith) (omega (arith, few));
   }
     where
-      few : entryCount y ≤ 28696
+      few : entryCount y ≤ mostEntries
       few = written-few y
 
 -- everything of an entry that agrees
 module _ (P : ℕ) (J : Task (Fin P)) (p : Fin P) (y z : List ℕ) (own : field y PART ≡ suc (p .0)) (own' : field z PART ≡ suc (p .0))
-    (agree : (i : ℕ) → 14 < i → field z i ≡ field y i) where
+    (agree : (i : ℕ) → WRITTEN < i → field z i ≡ field y i) where
   matches-same : (l : List (Fin P × Body)) (w : List Spot) → Matches P J p y own l w → Matches P J p z own' l w
   unfolding Matches
   matches-same [] [] m = tt
@@ -104,14 +106,14 @@ module _ (P : ℕ) (J : Task (Fin P)) {In : Type 0} (reads : Fin P → In → �
   abbrev pub entering : ℕ → State → L P J → L P J
   entering r s l = enter (parts P) Q r p s (λ q. l .before q + length (l .got q)) (l .sent) (l .queue)
 
-  module _ (few : P ≤ 16) (l : L P J) (x : List ℕ) (u : Busy P J p l x) (x1 y z : List ℕ) (ts : List (Line P)) (work : Worked x x1)
+  module _ (few : P ≤ mostParts) (l : L P J) (x : List ℕ) (u : Busy P J p l x) (x1 y z : List ℕ) (ts : List (Line P)) (work : Worked x x1)
       (wrote : WroteLines P few J p x1 y ts) (reset : Reset y z) (r : ℕ) (s : State)
       (order : ordersOf P few J p ts ≡ orderOf (parts P) J (ups P) (phase (J .top) r) p s) where
     -- what a turn leaves
     turn-same : (i : ℕ) → Untouched i → field z i ≡ field x i
     turn-same i (n, h) = z-y i h ∙ y-x1 i n h ∙ x1-x i h
       where
-        z-y : (i : ℕ) → ((1 ≤ i) × (i < 7)) ⊎ (((12 ≤ i) × (i < 41072)) ⊎ ((49264 ≤ i) × (i < 99440))) → field z i ≡ field y i
+        z-y : (i : ℕ) → ((PART ≤ i) × (i < ROUND)) ⊎ (((CURSOR ≤ i) × (i < MARK)) ⊎ ((CORNER ≤ i) × (i < SUM))) → field z i ≡ field y i
         z-y i (inl (a, b)) =
             reset .else i (λ e. absurd (omega (arith, e))) (λ e. absurd (omega (arith, e))) (λ e. absurd (omega (arith, e)))
         z-y i (inr (inl (a, b))) = reset .else i (λ e. absurd (omega (arith, e))) (λ e. absurd (omega (arith, e)))
@@ -119,12 +121,13 @@ module _ (P : ℕ) (J : Task (Fin P)) {In : Type 0} (reads : Fin P → In → �
         z-y i (inr (inr (a, b))) = reset .else i (λ e. absurd (omega (arith, e))) (λ e. absurd (omega (arith, e)))
             (λ e. absurd (omega (arith, e)))
 
-        y-x1 : (i : ℕ) → i ≢ 14 → ((1 ≤ i) × (i < 7)) ⊎ (((12 ≤ i) × (i < 41072)) ⊎ ((49264 ≤ i) × (i < 99440))) → field y i ≡ field x1 i
+        y-x1 : (i : ℕ) → i ≢ WRITTEN → ((PART ≤ i) × (i < ROUND)) ⊎ (((CURSOR ≤ i) × (i < MARK)) ⊎ ((CORNER ≤ i) × (i < SUM)))
+            → field y i ≡ field x1 i
         y-x1 i n (inl (a, b)) = wrote .same .else i n (inl (omega arith))
         y-x1 i n (inr (inl (a, b))) = wrote .same .else i n (inl (omega arith))
         y-x1 i n (inr (inr (a, b))) = wrote .same .else i n (inl (omega arith))
 
-        x1-x : (i : ℕ) → ((1 ≤ i) × (i < 7)) ⊎ (((12 ≤ i) × (i < 41072)) ⊎ ((49264 ≤ i) × (i < 99440))) → field x1 i ≡ field x i
+        x1-x : (i : ℕ) → ((PART ≤ i) × (i < ROUND)) ⊎ (((CURSOR ≤ i) × (i < MARK)) ⊎ ((CORNER ≤ i) × (i < SUM))) → field x1 i ≡ field x i
         x1-x i (inl (a, b)) = work .else i (inl (omega arith))
         x1-x i (inr (inl (a, b))) = work .else i (inr (inl (a, omega arith)))
         x1-x i (inr (inr (a, b))) = work .else i (inr (inr (inl (a, b))))
@@ -138,7 +141,7 @@ module _ (P : ℕ) (J : Task (Fin P)) {In : Type 0} (reads : Fin P → In → �
     -- THE NEXT PLACE
     module _ (head : headerb z ≡ true) (round : field z ROUND ≡ r)
         (running : overb (phase (J .top) r) ≡ false → field z STAGE ≡ 1) (done : overb (phase (J .top) r) ≡ true → field z STAGE ≡ 2)
-        (ends : (q : Fin P) → isPart (parts P) q p ≡ false → overb (phase (J .top) r) ≡ false → field x (80 + q .0) ≡ r)
+        (ends : (q : Fin P) → isPart (parts P) q p ≡ false → overb (phase (J .top) r) ≡ false → field x (FIRST-ENDED + q .0) ≡ r)
         (flags : (c : ℕ) → HoldsCell P J p c → field z (RED + c) ≡ one-if (s .red c))
         (sums : (i : ℕ) → HoldsSlot P J p i → field z (SUM + i) ≡ s .sum i)
         (sized : sizedb (phase (J .top) r) ≡ true → (field z TOTAL ≡ capped (s .total)) × (field z HIGH ≡ s .high))
@@ -153,7 +156,7 @@ module _ (P : ℕ) (J : Task (Fin P)) {In : Type 0} (reads : Fin P → In → �
       own-y : field y PART ≡ suc (p .0)
       own-y = wrote .same .else PART (λ e. absurd (omega (arith, e))) (inl (omega arith)) ∙ work .else PART (inl (omega arith)) ∙ u .part
 
-      far : (i : ℕ) → 14 < i → field z i ≡ field y i
+      far : (i : ℕ) → WRITTEN < i → field z i ≡ field y i
       far i h = reset .else i (λ e. absurd (omega (arith, e))) (λ e. absurd (omega (arith, e))) (λ e. absurd (omega (arith, e)))
 
       counted : entryCount x1 ≡ entryCount x

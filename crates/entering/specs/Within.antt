@@ -10,6 +10,7 @@ use native.Mathlib.Omega.{arith}
 use lib.Dec.{T, eqb, leb}
 use borrow.Author.Tests.{eq-eqb}
 use Rattle.base.specs.Bools.{is-true, and-both, or-first, or-second}
+use Rattle.base.specs.Limits.{mostCells, mostSlots}
 use Rattle.base.specs.Range.{range, member-range, range-member}
 use Rattle.mesh.specs.Table.{sizeOf}
 use Rattle.mesh.specs.Layout.{edgeNumbers}
@@ -57,7 +58,7 @@ module _ (P : ℕ) (J : Task (Fin P)) (p : Fin P) where
     unfolding levelFrom
     level-is k h = omega (arith, u .cells-in k h)
 
-    level-most : (k : ℕ) → levelFrom x k ≤ 4096
+    level-most : (k : ℕ) → levelFrom x k ≤ mostCells
     unfolding levelFrom
     level-most k = omega (arith, u .cells-few)
 
@@ -68,7 +69,7 @@ module _ (P : ℕ) (J : Task (Fin P)) (p : Fin P) where
         let b : levelFrom x (k + 1) ≡ field x (FIRST-CELL + suc k) = ap (levelFrom x) z ∙ level-is (suc k) (omega arith) in
         u .cells k h ∙ sym (ap₂ (λ (i n : ℕ). range i (n - i)) a b)
 
-    pub level-inside : (k : ℕ) → levelFrom x k + (levelFrom x (k + 1) - levelFrom x k) ≤ 4096
+    pub level-inside : (k : ℕ) → levelFrom x k + (levelFrom x (k + 1) - levelFrom x k) ≤ mostCells
     level-inside k = omega (arith, level-most k, level-most (k + 1))
 
     pub level-member : (k c : ℕ) → k ≤ J .top → levelFrom x k ≤ c → c < levelFrom x k + (levelFrom x (k + 1) - levelFrom x k)
@@ -82,10 +83,10 @@ module _ (P : ℕ) (J : Task (Fin P)) (p : Fin P) where
         (rw (u .cells k h) at m) in
         omega (arith, a, b, u .cells-rise k h, u .cells-in (suc k) (omega arith))
 
-    pub cell-low : (c : ℕ) → HoldsCell P J p c → c < 4096
+    pub cell-low : (c : ℕ) → HoldsCell P J p c → c < mostCells
     cell-low c (k, m, h) = omega (arith, member-low k c m, u .cells-few)
 
-    pub slot-low : (s : ℕ) → HoldsSlot P J p s → s < 24576
+    pub slot-low : (s : ℕ) → HoldsSlot P J p s → s < mostSlots
     unfolding holdsb
     slot-low s (k, t) =
         let (c, m, r) = any-member (λ c. mine (parts P) J p c && has J c s) (J .cells k) t in

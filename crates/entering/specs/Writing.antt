@@ -15,6 +15,7 @@ use lib.Dec.{eqb, ltb}
 use lib.ListN.{length, getD, set, length-set, length-append}
 use lib.Seq.{getD-set-same, getD-set-other}
 use borrow.Author.Tests.{eq-eqb, ne-eqb, lt-ltb, le-ltb}
+use Rattle.base.specs.Limits.{mostParts}
 use Rattle.base.specs.Lists.{filterb}
 use Rattle.base.specs.Range.{range}
 use Rattle.exchange.specs.Finite.{parts}
@@ -22,7 +23,7 @@ use Rattle.rounds.specs.Task.{Task}
 use Rattle.rounds.specs.Rounds.{Body}
 use Rattle.rounds.specs.Order.{toAll}
 use Rattle.rounds.specs.Upward.{ups}
-use Rattle.store.specs.Fields.{field, full, PART, CURSOR, BIT, WRITTEN, GIVEN, CODE, VALUE, RECEIVERS}
+use Rattle.store.specs.Fields.{field, full, PART, CURSOR, BIT, WRITTEN, GIVEN, CODE, VALUE, RECEIVERS, PLACE-HEAD, mostEntries}
 use Rattle.store.specs.Fetch.{entryCount, codeAt, valueAt, receiversAt, bitb, spotAt}
 use Rattle.standing.specs.Walk.{bitsFrom, spotsFrom}
 use Rattle.standing.specs.Packed.{entryCode, entryValue, bodyb}
@@ -45,7 +46,7 @@ pub record Sent (P : ℕ) (t : Line P) : Type 0 where
 -- what writing leaves
 pub record SameElse (x y : List ℕ) : Type 0 where
   pub size : length y ≡ length x
-  pub else : (i : ℕ) → i ≢ WRITTEN → (i < CODE) ⊎ (210104 ≤ i) → field y i ≡ field x i
+  pub else : (i : ℕ) → i ≢ WRITTEN → (i < CODE) ⊎ (PLACE-HEAD ≤ i) → field y i ≡ field x i
 
 pub same-self : (x : List ℕ) → SameElse x x
 same-self x = record { size = refl; else = λ i h l. refl }
@@ -53,17 +54,17 @@ same-self x = record { size = refl; else = λ i h l. refl }
 same-on : (x y z : List ℕ) → SameElse x y → SameElse y z → SameElse x z
 same-on x y z a b = record { size = b .size ∙ a .size; else = λ i h l. b .else i h l ∙ a .else i h l }
 
-count-is : (y : List ℕ) → field y WRITTEN ≤ 28696 → entryCount y ≡ field y WRITTEN
+count-is : (y : List ℕ) → field y WRITTEN ≤ mostEntries → entryCount y ≡ field y WRITTEN
 unfolding entryCount
-count-is y h = elim (decLt (field y WRITTEN) 28696) [
-  | yes l ↦ rw (lt-ltb (field y WRITTEN) 28696 l, entryCount)
+count-is y h = elim (decLt (field y WRITTEN) mostEntries) [
+  | yes l ↦ rw (lt-ltb (field y WRITTEN) mostEntries l, entryCount)
   | no l ↦
-      let e : entryCount y ≡ 28696 = rw (le-ltb (field y WRITTEN) 28696 (omega arith), entryCount) in
+      let e : entryCount y ≡ mostEntries = rw (le-ltb (field y WRITTEN) mostEntries (omega arith), entryCount) in
       e ∙ omega arith
 ]
 
 -- one entry
-module _ (y : List ℕ) (k v m : ℕ) (long : full ≤ length y) (room : field y WRITTEN < 28696) where
+module _ (y : List ℕ) (k v m : ℕ) (long : full ≤ length y) (room : field y WRITTEN < mostEntries) where
   abbrev w : ℕ
   w = field y WRITTEN
 
@@ -120,7 +121,7 @@ module _ (y : List ℕ) (k v m : ℕ) (long : full ≤ length y) (room : field y
         (apart i l RECEIVERS (omega arith) (omega arith));
   }
     where
-      apart : (i : ℕ) → (i < CODE) ⊎ (210104 ≤ i) → (o : ℕ) → CODE ≤ o → o ≤ RECEIVERS → i ≢ o + w
+      apart : (i : ℕ) → (i < CODE) ⊎ (PLACE-HEAD ≤ i) → (o : ℕ) → CODE ≤ o → o ≤ RECEIVERS → i ≢ o + w
       apart i (inl h) o p q z = omega (arith, z)
       apart i (inr h) o p q z = omega (arith, z)
 
@@ -176,7 +177,7 @@ spots-first z n j i m c a b d =
     ap₂ (λ (i c : ℕ). map (spotAt i) (bitsFrom 16 (receiversAt z i) 0) ++ spotsFrom z n c 0) a d
     ∙ ap (λ (k : ℕ). map (spotAt i) (bitsFrom 16 k 0) ++ spotsFrom z n c 0) b
 
-module _ (P : ℕ) (parts-few : P ≤ 16) (J : Task (Fin P)) (p : Fin P) where
+module _ (P : ℕ) (parts-few : P ≤ mostParts) (J : Task (Fin P)) (p : Fin P) where
   unfoldable pub ordersOf : List (Line P) → List (Fin P × Body)
   unfolding flatMap toAll
   ordersOf ts = flatMap (λ t. toAll (parts P) J (ups P) (t .test) (t .body)) ts
@@ -217,12 +218,12 @@ module _ (P : ℕ) (parts-few : P ≤ 16) (J : Task (Fin P)) (p : Fin P) where
   unfolding posted
   posted-none y t e = rw (eq-eqb (t .mask) 0 e, posted)
 
-  posted-some : (y : List ℕ) (t : Line P) → t .mask ≢ 0 → field y WRITTEN < 28696
+  posted-some : (y : List ℕ) (t : Line P) → t .mask ≢ 0 → field y WRITTEN < mostEntries
       → postLine y t ≡ entered y (entryCode (t .body)) (entryValue (t .body)) (t .mask)
   unfolding posted
-  posted-some y t e h = rw (ne-eqb (t .mask) 0 e, lt-ltb (field y WRITTEN) 28696 h, posted)
+  posted-some y t e h = rw (ne-eqb (t .mask) 0 e, lt-ltb (field y WRITTEN) mostEntries h, posted)
 
-  pub posted-same : (y : List ℕ) (t : Line P) → full ≤ length y → field y WRITTEN < 28696
+  pub posted-same : (y : List ℕ) (t : Line P) → full ≤ length y → field y WRITTEN < mostEntries
       → SameElse y (postLine y t) × (field (postLine y t) WRITTEN ≤ field y WRITTEN + 1)
   posted-same y t l h = elim (ℕ-discrete (t .mask) 0) [
     | yes e ↦
@@ -240,7 +241,7 @@ module _ (P : ℕ) (parts-few : P ≤ 16) (J : Task (Fin P)) (p : Fin P) where
   ]
 
   -- a line written first
-  pub wrote-cons : (y z : List ℕ) (t : Line P) (ts : List (Line P)) → Sent P t → full ≤ length y → field y WRITTEN < 28696
+  pub wrote-cons : (y z : List ℕ) (t : Line P) (ts : List (Line P)) → Sent P t → full ≤ length y → field y WRITTEN < mostEntries
       → WroteLines (postLine y t) z ts → WroteLines y z (t ∷ ts)
   unfolding ordersOf flatMap
   wrote-cons y z t ts s l h w = elim (ℕ-discrete (t .mask) 0) [ yes e ↦ without e | no e ↦ with-it e ]
@@ -295,17 +296,17 @@ module _ (P : ℕ) (parts-few : P ≤ 16) (J : Task (Fin P)) (p : Fin P) where
 
   -- a loop, and what is written behind it
   module _ (x : List ℕ) (long : full ≤ length x) (f : List ℕ → ℕ → List ℕ) (line : ℕ → Line P) (g : List ℕ → List ℕ) (us : List (Line P))
-      (rest : (y : List ℕ) → SameElse x y → field y WRITTEN + length us ≤ 28696 → WroteLines y (g y) us) where
+      (rest : (y : List ℕ) → SameElse x y → field y WRITTEN + length us ≤ mostEntries → WroteLines y (g y) us) where
     pub wrote-each : (n c : ℕ) (does : (d : ℕ) → c ≤ d → d < c + n → Sent P (line d))
         → ((y : List ℕ) (d : ℕ) → SameElse x y → c ≤ d → d < c + n → f y d ≡ postLine y (line d))
-        → (y : List ℕ) → SameElse x y → field y WRITTEN + (n + length us) ≤ 28696
+        → (y : List ℕ) → SameElse x y → field y WRITTEN + (n + length us) ≤ mostEntries
         → WroteLines y (g (eachFrom f n c y)) (map line (range c n) ++ us)
     unfolding eachFrom range
     wrote-each zero c does is y s h = rest y s (omega arith)
     wrote-each (suc n) c does is y s h =
         let e = is y c s (omega arith) (omega arith) in
         let l : full ≤ length y = omega (arith, s .size) in
-        let r : field y WRITTEN < 28696 = omega arith in
+        let r : field y WRITTEN < mostEntries = omega arith in
         let a = posted-same y (line c) l r in
         let v = wrote-each n (suc c) (λ d i j. does d (omega arith) (omega arith)) (λ y d t i j. is y d t (omega arith) (omega arith))
         (postLine y (line c)) (same-on x y (postLine y (line c)) s (a .0)) (omega (arith, a .1)) in
@@ -314,5 +315,6 @@ module _ (P : ℕ) (parts-few : P ≤ 16) (J : Task (Fin P)) (p : Fin P) where
         (does c (omega arith) (omega arith)) l r v)
 
   -- and one entry last
-  pub wrote-last : (y : List ℕ) (t : Line P) → Sent P t → full ≤ length y → field y WRITTEN < 28696 → WroteLines y (postLine y t) (t ∷ [])
+  pub wrote-last : (y : List ℕ) (t : Line P) → Sent P t → full ≤ length y → field y WRITTEN < mostEntries
+      → WroteLines y (postLine y t) (t ∷ [])
   wrote-last y t s l h = wrote-cons y (postLine y t) t [] s l h (wrote-none (postLine y t))

@@ -1,10 +1,12 @@
 // Status tables over a coarse mesh: examined and laid out, with tables for the work that go by the number of statuses. They are set to
 // zero first, so a small table is built in small ones.
+use base::MOST_CELLS;
 use tables::Outcome;
 ghost use Prim.Native.Nat.{_≤_};
 ghost use lib.ListN.{length};
 ghost use Rattle.base.specs.Fours.{fours};
 ghost use Rattle.base.specs.Lent.{was, is};
+ghost use Rattle.base.specs.Limits.{mostCells};
 ghost use Rattle.tables.specs.Checked.{Statuses};
 ghost use Rattle.tables.specs.Room.{TableRoom};
 ghost use Rattle.tables.specs.Sound.{Mesh, Examined};
@@ -128,10 +130,10 @@ pub fn examine(
     qs: &mut [u32],
 ) -> Outcome
     requires { ⌜ Mesh n (now mesh) ⌝ }
-    requires { ⌜ (length (now status) ≤ 4096 → TableRoom (now status) (now rows) (now ps) (now qs)) ⌝ }
+    requires { ⌜ (length (now status) ≤ mostCells → TableRoom (now status) (now rows) (now ps) (now qs)) ⌝ }
     ensures { λ r. ⌜ Examined n (fours (was mesh)) (was status) (is rows) (is ps) (is qs) (r .refusal) (r .cells) (r .levels) (r .mids) ⌝ }
 {
-    if status.len() > 4096 {
+    if status.len() > MOST_CELLS {
         return tables::refused(6);
     }
     if !rows::fits(status) {

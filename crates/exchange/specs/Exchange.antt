@@ -2,8 +2,8 @@
 -- some call moves the exchange on until every part is at the end; and such calls are bounded.
 --   AtHome w      each store of the world is one that has not started, and no message is given
 --   Inputs cs w   each part that the calls start is started with its input
--- Laws, of lawful lists of calls on such a world: determined, started (a part past its start was started), ended (a part at
--- the end has taken all), rises-only (done stays), bounded, progress, completes.
+-- Laws, of lawful lists of calls on such a world: determined, given-only (no other messages are given), started (a part past its start
+-- was started), ended (a part at the end has taken all), rises-only (done stays), bounded, progress, completes.
 use Prim.Native.Nat.{ℕ, zero, suc, _+_, _≤_, _<_, pred, _-_, Fin}
 use native.Mathlib.Omega.{arith}
 use native.Mathlib.Decide.{decLt, le-ind, Fin·val-path}
@@ -55,11 +55,15 @@ module _ {In Msg Store : Type 0} (P : ℕ) (act : Program In Msg Store) (void : 
   Real : Msg → Type 0
   Real m = (q : Fin P) × (j : ℕ) × (j < E .written (E .last) q) × (m ≡ E .msg q j)
 
+  -- one that was fetched
+  Gone : (Fin P → Place (Fin P)) → Msg → Type 0
+  Gone g m = (q : Fin P) × (j : ℕ) × (j < g q .fetched) × (m ≡ E .msg q j)
+
   record Inv (w : World Msg Store) (g : Fin P → Place (Fin P)) : Type 0 where
     many : length (w .stores) ≡ P
     same : (p : Fin P) → E .Is p (g p) (storeAt void w p)
     ok : (p : Fin P) → Ok E p (g p)
-    real : (m : Msg) → List·Memᴰ m (w .given) → Real m
+    gone : (m : Msg) → List·Memᴰ m (w .given) → Gone g m
     full : (q : Fin P) (j : ℕ) → j < g q .fetched → List·Memᴰ (E .msg q j) (w .given)
 
   size : Place (Fin P) → ℕ
@@ -78,7 +82,8 @@ module _ {In Msg Store : Type 0} (P : ℕ) (act : Program In Msg Store) (void : 
     woken : startb c ≡ true → g .phase ≡ 0
     awake : 0 < to .phase
     before : startb c ≡ false → 0 < g .phase
-    real-out : (m : Msg) → List·Memᴰ m (y .1) → Real m
+    kept : g .fetched ≤ to .fetched
+    gone-out : (m : Msg) → List·Memᴰ m (y .1) → (j : ℕ) × (j < to .fetched) × (m ≡ E .msg p j)
     logged : (j : ℕ) → j < to .fetched → (j < g .fetched) ⊎ List·Memᴰ (E .msg p j) (y .1)
 
   module _ (K : Laws F act E) where
@@ -105,8 +110,10 @@ module _ {In Msg Store : Type 0} (P : ℕ) (act : Program In Msg Store) (void : 
             (List·Memᴰ·append-cases (y .1) j)
 
     known-real : (w : World Msg Store) (g : Fin P → Place (Fin P)) → Inv w g → (m : Msg) → IsWritten act w m → Real m
-    unfolding IsWritten
-    known-real w g v m (inl i) = v .real m i
+    unfolding IsWritten Gone Real
+    known-real w g v m (inl i) =
+        let (q, j, h, e) = v .gone m i in
+        (q, j, omega (arith, h, v .ok q .sent, reach q (g q .phase) (v .ok q .top)), e)
     known-real w g v m (inr (x, s, n, i)) =
         let (j, h, e) = getD-mem void s in
         let q : Fin P = (j, omega (arith, h, v .many)) in
@@ -125,7 +132,8 @@ module _ {In Msg Store : Type 0} (P : ℕ) (act : Program In Msg Store) (void : 
       woken = u;
       awake = omega arith;
       before = v;
-      real-out = λ m i. absurd (List·Memᴰ·not-nil (rw e at i));
+      kept = omega arith;
+      gone-out = λ m i. absurd (List·Memᴰ·not-nil (rw e at i));
       logged = λ j k. inl k;
     }
 
@@ -146,7 +154,8 @@ module _ {In Msg Store : Type 0} (P : ℕ) (act : Program In Msg Store) (void : 
       woken = λ e. differ e;
       awake = s;
       before = λ e. s;
-      real-out = λ m i. absurd (List·Memᴰ·not-nil (rw e at i));
+      kept = omega arith;
+      gone-out = λ m i. absurd (List·Memᴰ·not-nil (rw e at i));
       logged = λ j k. inl k;
     }
       where
@@ -155,7 +164,7 @@ module _ {In Msg Store : Type 0} (P : ℕ) (act : Program In Msg Store) (void : 
 
     give-moved : (p : Fin P) (g : Place (Fin P)) → Ok E p g → 0 < g .phase → g .fetched < E .written (g .phase) p
         → (y : Store × List Msg) → E .Is p (gave g) (y .0) → y .1 ≡ E .msg p (g .fetched) ∷ [] → Moved Fetch p g y
-    unfolding size Real startb
+    unfolding size startb
     give-moved p g o s l y a e = record {
       to = gave g;
       store-is = a;
@@ -165,7 +174,8 @@ module _ {In Msg Store : Type 0} (P : ℕ) (act : Program In Msg Store) (void : 
       woken = λ e. differ e;
       awake = s;
       before = λ e. s;
-      real-out = λ m i. (p, g .fetched, omega (arith, l, reach p (g .phase) (o .top)), List·Memᴰ·eq-of-singleton (rw e at i));
+      kept = omega arith;
+      gone-out = λ m i. (g .fetched, omega arith, List·Memᴰ·eq-of-singleton (rw e at i));
       logged = λ j k. split j k (decLt j (g .fetched));
     }
       where
@@ -217,13 +227,21 @@ module _ {In Msg Store : Type 0} (P : ℕ) (act : Program In Msg Store) (void : 
     inv-moved : (w : World Msg Store) (g : Fin P → Place (Fin P)) → Inv w g
         → (c : Request In Msg) (p : Fin P) (y : Store × List Msg) (d : Moved c p (g p) y)
         → Inv (changed act (p .0) w (some y)) (upd F g p (d .to))
-    unfolding changed
+    unfolding changed Gone
     inv-moved w g v c p y d = record {
       many = length-set (w .stores) (p .0) (y .0) ∙ v .many;
       same = λ q. subst (E .Is q (upd F g p (d .to) q)) (store-set (w .stores) p (y .0) (v .many) q)
           (upd-all F (λ q x h. E .Is q h x) (storeAt void w) g p (y .0) (d .to) (d .store-is) (v .same) q);
       ok = upd-all F {C = ℕ} (λ q h _. Ok E q h) g (λ q. 0) p (d .to) 0 (d .fine) (v .ok);
-      real = λ m i. ⊎-elim (d .real-out m) (v .real m) (List·Memᴰ·append-cases (y .1) i);
+      gone = λ m i. ⊎-elim
+          (λ (t : List·Memᴰ m (y .1)).
+          let (j, h, e) = d .gone-out m t in
+          (p, j, subst (λ (t : Place (Fin P)). j < t .fetched) (sym (upd-same F g p (d .to))) h, e))
+          (λ (t : List·Memᴰ m (w .given)).
+          let (q, j, h, e) = v .gone m t in
+          let up = upd-all F {C = ℕ} (λ q t _. g q .fetched ≤ t .fetched) g (λ q. 0) p (d .to) 0 (d .kept) (λ q. le-refl _) q in
+          (q, j, le-trans h up, e))
+          (List·Memᴰ·append-cases (y .1) i);
       full = upd-all F {C = ℕ} (λ q h _. (j : ℕ) → j < h .fetched → List·Memᴰ (E .msg q j) (y .1 ++ w .given)) g (λ q. 0) p (d .to) 0
           (λ j k. ⊎-elim (λ l. Memᴰ·append-right (y .1) (v .full p j l)) (Memᴰ·append-left (w .given)) (d .logged j k))
           (λ q j k. Memᴰ·append-right (y .1) (v .full q j k));
@@ -372,7 +390,7 @@ module _ {In Msg Store : Type 0} (P : ℕ) (act : Program In Msg Store) (void : 
       many = b .all;
       same = b .homes;
       ok = λ p. record { top = omega arith; low = λ q. N .none-yet q p; high = λ q. omega arith; sent = omega arith };
-      real = λ m i. absurd (List·Memᴰ·not-nil (rw (b .empty) at i));
+      gone = λ m i. absurd (List·Memᴰ·not-nil (rw (b .empty) at i));
       full = λ q j h. absurd (omega arith);
     }
 
@@ -393,6 +411,21 @@ module _ {In Msg Store : Type 0} (P : ℕ) (act : Program In Msg Store) (void : 
           × E .Is p g (storeAt void (play act cs w) p)
           × ((j : ℕ) → j < g .fetched → List·Memᴰ (E .msg p j) (play act cs w .given))
       determined h m p = let k = only-went h m in (k .places p, k .inv .ok p, k .inv .same p, k .inv .full p)
+
+      -- AND NO OTHERS: each message that was given is one that its sender had written up to its phase
+      pub given-only : Lawful act cs w → Inputs cs w → (m : Msg) → List·Memᴰ m (play act cs w .given)
+          → (q : Fin P) × (j : ℕ) × (E .phase-of q (storeAt void (play act cs w) q) ≤ E .last)
+          × (j < E .written (E .phase-of q (storeAt void (play act cs w) q)) q) × (m ≡ E .msg q j)
+      unfolding Gone
+      given-only h l m i =
+          let k = only-went h l in
+          let (q, j, b, e) = k .inv .gone m i in (
+            q,
+            j,
+            rw (K .phase-is q (k .places q) _ (k .inv .same q)) (k .inv .ok q .top),
+            rw (K .phase-is q (k .places q) _ (k .inv .same q)) (omega (arith, b, k .inv .ok q .sent)),
+            e,
+          )
 
       stores-kept : Lawful act cs w → Inputs cs w → length (play act cs w .stores) ≡ P
       stores-kept h m = only-went h m .inv .many

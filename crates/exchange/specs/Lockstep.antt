@@ -2,8 +2,10 @@
 --   lock r p         what p knows at the beginning of the round r, all parts together
 --   mail, mailCount  what one part writes for another in a round, and how many messages in all rounds before
 --   post φ q         all that q has written up to a phase
+--   letters φ q p    what of it is for p, each message with its count
 --   local p r n f    what p's store stands for in the round r, with n messages taken and f fetched
--- Laws: laws, live, post-length, prefix (what is written first stays first).
+-- Laws: laws, live, post-length, prefix (what is written first stays first), post-letter and letter-post (all that is written is for some
+-- part).
 use Prim.Native.Nat.{ℕ, zero, suc, _+_, _-_, _≤_, _<_}
 use native.Mathlib.Omega.{arith}
 use native.Mathlib.Decide.{decLt, le-ind}
@@ -13,7 +15,7 @@ use mathlib.Core.Logic.{_⊎_, inl, inr, ⊎-elim}
 use mathlib.Core.Bool.{Bool, true, false}
 use mathlib.Core.Option.{Option, none, some}
 use mathlib.Core.List.{List, [], _∷_, _++_, List·Memᴰ, List·Memᴰ·head, List·Memᴰ·tail, List·Memᴰ·not-nil, List·Memᴰ·cases-cons}
-use mathlib.Core.List.{List·Memᴰ·append-cases, Memᴰ·append-right}
+use mathlib.Core.List.{List·Memᴰ·append-cases, Memᴰ·append-left, Memᴰ·append-right}
 use lib.ListN.{length, getD, take, drop, length-append, List·getD-append, drop-of-length-le}
 use lib.Seq.{take-suc, take-all, drop-cons, drop-append-le, length-take-le}
 use Rattle.exchange.specs.Calls.{Request, Start, Step, Fetch, Hand}
@@ -55,6 +57,15 @@ module _ {Part In Body Msg St : Type 0} (F : Finite Part) (Q : Protocol Part In 
     unfoldable pub post : ℕ → Part → List Msg
     post zero q = []
     post (suc r) q = post r q ++ parcel F Q r q (lock r q) (λ p. mailCount r q p)
+
+    unfoldable pub addressed : Part → Part → ℕ → List Body → List Msg
+    addressed q p k [] = []
+    addressed q p k (b ∷ l) = Q .pack q p k b ∷ addressed q p (suc k) l
+
+    unfoldable pub letters : ℕ → Part → Part → List Msg
+    unfolding addressed
+    letters zero q p = []
+    letters (suc r) q p = letters r q p ++ addressed q p (mailCount r q p) (mail r q p)
 
     abbrev pub local : Part → ℕ → (Part → ℕ) → ℕ → Local Part Body Msg St
     local p r n f = record {
@@ -182,6 +193,61 @@ module _ {Part In Body Msg St : Type 0} (F : Finite Part) (Q : Protocol Part In 
           Memᴰ·append-right (post r q) (subst (λ v. List·Memᴰ (Q .pack q p (mailCount r q p + i) (getD v i blank))
           (numbered F (Q .pack) q (λ p. mailCount r q p) (Q .order r q (lock r q)))) e
           (in-number q (λ p. mailCount r q p) (Q .order r q (lock r q)) p i (rw e h)))
+
+      addressed-at : (q p : Part) (k : ℕ) (l : List Body) (i : ℕ) → i < length l
+          → List·Memᴰ (Q .pack q p (k + i) (getD l i blank)) (addressed q p k l)
+      unfolding addressed
+      addressed-at q p k [] i h = absurd (omega arith)
+      addressed-at q p k (b ∷ l) zero h = let z : k + 0 ≡ k = omega arith in List·Memᴰ·head (ap (λ j. Q .pack q p j b) z)
+      addressed-at q p k (b ∷ l) (suc i) h =
+          let z : suc k + i ≡ k + suc i = omega arith in
+          List·Memᴰ·tail (subst (λ j. List·Memᴰ (Q .pack q p j (getD l i blank)) (addressed q p (suc k) l)) z
+          (addressed-at q p (suc k) l i (omega arith)))
+
+      at-addressed : (q p : Part) (k : ℕ) (l : List Body) (m : Msg) → List·Memᴰ m (addressed q p k l)
+          → (i : ℕ) × (i < length l) × (m ≡ Q .pack q p (k + i) (getD l i blank))
+      unfolding addressed
+      at-addressed q p k [] m h = absurd (List·Memᴰ·not-nil h)
+      at-addressed q p k (b ∷ l) m h =
+          let z : k ≡ k + 0 = omega arith in
+          ⊎-elim (λ (e : m ≡ Q .pack q p k b). (0, omega arith, e ∙ ap (λ j. Q .pack q p j b) z))
+          (λ (t : List·Memᴰ m (addressed q p (suc k) l)).
+          let (i, g, e) = at-addressed q p (suc k) l m t in
+          let y : suc k + i ≡ k + suc i = omega arith in
+          (suc i, omega arith, e ∙ ap (λ j. Q .pack q p j (getD l i blank)) y)) (List·Memᴰ·cases-cons h)
+
+      pub post-letter : Ordered F Q → (φ : ℕ) (q : Part) (m : Msg) → List·Memᴰ m (post φ q) → (p : Part) × List·Memᴰ m (letters φ q p)
+      unfolding post parcel letters
+      post-letter ord zero q m h = absurd (List·Memᴰ·not-nil h)
+      post-letter ord (suc r) q m h = ⊎-elim
+          (λ (t : List·Memᴰ m (post r q)).
+          let (p, u) = post-letter ord r q m t in
+          (p, Memᴰ·append-left (addressed q p (mailCount r q p) (mail r q p)) u))
+          new (List·Memᴰ·append-cases (post r q) h)
+        where
+          new : List·Memᴰ m (numbered F (Q .pack) q (λ p. mailCount r q p) (Q .order r q (lock r q)))
+              → (p : Part) × List·Memᴰ m (letters (suc r) q p)
+          new t =
+              let b = number-in q (λ p. mailCount r q p) (Q .order r q (lock r q)) m t in
+              let e = ord r q (b .0) (lock r q) in
+              let f : m ≡ Q .pack q (b .0) (mailCount r q (b .0) + b .1) (getD (mail r q (b .0)) (b .1) blank) =
+              b .3 ∙ ap (λ v. Q .pack q (b .0) (mailCount r q (b .0) + b .1) (getD v (b .1) blank)) e in (
+                b .0,
+                Memᴰ·append-right (letters r q (b .0))
+                    (subst (λ n. List·Memᴰ n (addressed q (b .0) (mailCount r q (b .0)) (mail r q (b .0))))
+                    (sym f) (addressed-at q (b .0) (mailCount r q (b .0)) (mail r q (b .0)) (b .1) (rw (← e) (b .2)))),
+              )
+
+      pub letter-post : Ordered F Q → (φ : ℕ) (q p : Part) (m : Msg) → List·Memᴰ m (letters φ q p) → List·Memᴰ m (post φ q)
+      unfolding post letters
+      letter-post ord zero q p m h = absurd (List·Memᴰ·not-nil h)
+      letter-post ord (suc r) q p m h = ⊎-elim
+          (λ (t : List·Memᴰ m (letters r q p)).
+          Memᴰ·append-left (parcel F Q r q (lock r q) (λ p. mailCount r q p)) (letter-post ord r q p m t))
+          (λ (t : List·Memᴰ m (addressed q p (mailCount r q p) (mail r q p))).
+          let (i, g, e) = at-addressed q p (mailCount r q p) (mail r q p) m t in
+          subst (λ n. List·Memᴰ n (post (suc r) q)) (sym e) (in-post ord r q p i g))
+          (List·Memᴰ·append-cases (letters r q p) h)
 
       number-length : (p : Part) (o : Part → ℕ) (l : List (Part × Body)) → length (numbered F (Q .pack) p o l) ≡ length l
       unfolding numbered

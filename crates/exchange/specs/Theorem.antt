@@ -9,6 +9,7 @@
 --   onward          all parts are done, or some call moves the exchange on
 --   completion      further calls bring every part to the end
 --   all-given       where a fetch gives none, all that the part has written was fetched, and so was given
+--   given-post      each message that was given is one that its sender has written up to its round
 use Prim.Native.Nat.{ℕ, zero, suc, _+_, _-_, _≤_, _<_, Fin}
 use native.Mathlib.Omega.{arith}
 use native.Mathlib.Nat.{le-trans}
@@ -22,10 +23,11 @@ use lib.Seq.{take-nil, drop-cons}
 use Rattle.exchange.specs.Calls.{Fetch, Call, World, play, moves, startedWith, Lawful}
 use Rattle.exchange.specs.Finite.{Finite, parts, sumOver, sum-le}
 use Rattle.exchange.specs.Places.{Plan, Ok, Laws, Live}
-use Rattle.exchange.specs.Exchange.{storeAt, AtHome, determined, ended, rises-only, bounded, most, Goes, progress, started}
+use Rattle.exchange.specs.Exchange.{storeAt, AtHome, determined, given-only, ended, rises-only, bounded, most, Goes, progress}
+use Rattle.exchange.specs.Exchange.{started}
 use Rattle.exchange.specs.Exchange.{more-lawful, more-moves, more-inputs, callOf, completes}
 use Rattle.exchange.specs.Protocol.{Protocol, Machine, Local, Alone}
-use Rattle.exchange.specs.Played.{getD-mem}
+use Rattle.exchange.specs.Played.{getD-mem, mem-getD}
 use Rattle.exchange.specs.Lockstep.{lock, mailCount, post, local, place, plan, at-place, laws, live, post-length, prefix}
 
 pub record Can {Part In Body Msg St : Type 0} (F : Finite Part) (Q : Protocol Part In Body Msg St) (input : Part
@@ -206,3 +208,11 @@ module _ {In Body Msg St Store : Type 0} (P : ℕ) (Q : Protocol (Fin P) In Body
                 let a = prefix F Q input Z blank junk p j (suc r) (suc (Q .rounds)) (omega (arith, c .in-rounds)) h in
                 subst (λ v. List·Memᴰ v (play (Z .act) cs w .given)) (a .1 ∙ e) (t j (omega (arith, l, h))),
           )
+
+  pub given-post : (cs : List (Call In Msg)) → Allowed cs → (m : Msg) → List·Memᴰ m (play (Z .act) cs w .given)
+      → (q : Fin P) × List·Memᴰ m (post F Q input (phaseAfter cs q) q)
+  given-post cs h m i =
+      let (q, j, t, b, e) = given-only P (Z .act) void E K w home cs (h .lawful) (h .inputs) m i in
+      let a = prefix F Q input Z blank junk q j (phaseAfter cs q) (suc (Q .rounds)) t b in
+      let i = mem-getD junk (post F Q input (phaseAfter cs q) q) j b in
+      (q, subst (λ v. List·Memᴰ v (post F Q input (phaseAfter cs q) q)) (sym (e ∙ a .1)) i)

@@ -10,6 +10,8 @@ use lib.ListN.{drop-of-length-le}
 use lib.Seq.{length-take-le, take-at, drop-at, drop-drop, take-all}
 use mathlib.Core.List.{append-nil}
 use borrow.Rule.Slice.PartMut.{putMid}
+use Rattle.base.specs.Limits.{fullCoarse, mostSlots}
+use Rattle.store.specs.Fields.{FRONT, OWNER, SLOT, columnsLength, firstsLength, flagsLength, freeLength, full}
 use Rattle.filling.specs.Regions.{zeros, tab, putBy, headBy, columnBy, cornerBy, slotBy, holderBy, regions}
 use Rattle.filling.specs.Laws.{tab-length, zero-length, header-size}
 
@@ -70,27 +72,34 @@ by-front x y d = refl
 -- the whole store
 module _ (cols mesh sl ms fs st : List ℕ) (m p P n l : ℕ) where
   abbrev front : List ℕ
-  front = headBy p P n (length mesh / 4) m l ++ fs ++ st ++ zeros 72
+  front = headBy p P n (length mesh / 4) m l ++ fs ++ st ++ zeros freeLength
 
   abbrev columns : List ℕ
-  columns = tab 40960 (columnBy cols m p) ++ zeros 8192 ++ tab 1024 (cornerBy cols mesh p)
+  columns = tab columnsLength (columnBy cols m p) ++ zeros flagsLength ++ tab fullCoarse (cornerBy cols mesh p)
 
   abbrev slots : List ℕ
-  slots = tab 24576 (slotBy cols m p sl) ++ tab 24576 (holderBy cols m p sl ms) ++ zeros 24576
+  slots = tab mostSlots (slotBy cols m p sl) ++ tab mostSlots (holderBy cols m p sl ms) ++ zeros mostSlots
 
-  front-length : length fs ≡ 12 → length st ≡ 12 → length front ≡ 112
-  front-length a b = simp length-append (omega (arith, a, b, header-size p P n (length mesh / 4) m l, zero-length 72))
+  front-length : length fs ≡ firstsLength → length st ≡ firstsLength → length front ≡ OWNER
+  front-length a b = simp length-append (omega (arith, a, b, header-size p P n (length mesh / 4) m l, zero-length freeLength))
 
-  columns-length : length columns ≡ 50176
+  columns-length : length columns ≡ SLOT - OWNER
   columns-length =
-      simp length-append (omega (arith, tab-length 40960 (columnBy cols m p), zero-length 8192, tab-length 1024 (cornerBy cols mesh p)))
+      simp length-append (omega (
+        arith,
+        tab-length columnsLength (columnBy cols m p),
+        zero-length flagsLength,
+        tab-length fullCoarse
+            (cornerBy cols mesh p),
+      ))
 
-  pub store-is : (x₀ x₁ x₂ x₃ : List ℕ) → length x₀ ≡ 226488 → length fs ≡ 12 → length st ≡ 12 → x₁ ≡ putBy 0 112 x₀ front
-      → x₂ ≡ putBy 112 50288 x₁ columns → x₃ ≡ putBy 50288 124016 x₂ slots → x₃ ≡ regions cols mesh sl ms fs st m p P n l ++ drop
-      124016 x₀
+  pub store-is : (x₀ x₁ x₂ x₃ : List ℕ) → length x₀ ≡ full → length fs ≡ firstsLength → length st ≡ firstsLength
+      → x₁ ≡ putBy 0 OWNER x₀ front
+      → x₂ ≡ putBy OWNER SLOT x₁ columns → x₃ ≡ putBy SLOT FRONT x₂ slots → x₃ ≡ regions cols mesh sl ms fs st m p P n l ++ drop
+      FRONT x₀
   unfolding regions
   store-is x₀ x₁ x₂ x₃ long lf ls e₁ e₂ e₃ =
-      by-three x₀ x₁ x₂ x₃ front columns slots 0 112 50288 124016 (omega (arith, front-length lf ls)) (omega (arith, columns-length))
+      by-three x₀ x₁ x₂ x₃ front columns slots 0 OWNER SLOT FRONT (omega (arith, front-length lf ls)) (omega (arith, columns-length))
       (omega arith)
       (omega arith) e₁ e₂ e₃
-      ∙ by-front x₀ (front ++ columns ++ slots) 124016
+      ∙ by-front x₀ (front ++ columns ++ slots) FRONT

@@ -16,11 +16,13 @@ use lib.ListN.{replicate-append-replicate}
 use lib.Seq.{drop-cons, set-at, append-snoc, getD-set-same, getD-set-other}
 use borrow.Author.Tests.{eq-eqb, ne-eqb, lt-ltb, le-ltb}
 use Rattle.base.specs.Bools.{one-if, one-most}
+use Rattle.base.specs.Limits.{mostCells, mostParts, mostSlots}
 use Rattle.base.specs.Lists.{anyb, belowb, belowb-at}
 use Rattle.base.specs.Range.{range, length-range, range-snoc}
 use Rattle.mesh.specs.Cells.{bitsOf}
 use Rattle.mesh.specs.Layout.{edgeNumbers}
 use Rattle.mesh.specs.Laws.{edges-more}
+use Rattle.store.specs.Fields.{columnsLength, FIRST-CELL}
 use Rattle.filling.specs.Regions.{Tabled, holdb, pickBy, pickTo, inColumn, inSix, columnTo, columnBy, slotTo, slotBy, heldSlotTo}
 use Rattle.filling.specs.Regions.{holderTo, zeros, SmallSlots, heldSlotb, holderBy, maskFrom, cornerBy, headBy}
 use Rattle.filling.specs.Passes.{Column, Six, sixHaveb, Masked, AllBelow, Doubled}
@@ -50,7 +52,7 @@ module _ (cols : List ℕ) (m p c : ℕ) where
   unfolding holdb
   hold-own h e = rw (lt-ltb c m h, eq-eqb (getD cols c 0) p e)
 
-  pub hold-family : c < m → (getD cols c 0 ≡ p → ⊥) → eqb (getD cols (4096 + c) 0) p ≡ holdb cols m p c
+  pub hold-family : c < m → (getD cols c 0 ≡ p → ⊥) → eqb (getD cols (mostCells + c) 0) p ≡ holdb cols m p c
   unfolding holdb
   hold-family h e = rw (lt-ltb c m h, ne-eqb (getD cols c 0) p e)
 
@@ -58,8 +60,8 @@ module _ (cols : List ℕ) (m p c : ℕ) where
   unfolding holdb
   hold-there = go (ltb c m)
     where
-      go : (b : Bool) → (b && (eqb (getD cols c 0) p || eqb (getD cols (4096 + c) 0) p))
-          ≡ (b && (b && (eqb (getD cols c 0) p || eqb (getD cols (4096 + c) 0) p)))
+      go : (b : Bool) → (b && (eqb (getD cols c 0) p || eqb (getD cols (mostCells + c) 0) p))
+          ≡ (b && (b && (eqb (getD cols c 0) p || eqb (getD cols (mostCells + c) 0) p)))
       go true = refl
       go false = refl
 
@@ -125,49 +127,49 @@ module _ (κ : ℕ → ℕ) (h : ℕ → Bool) (v : ℕ → ℕ) where
 
 -- the ten numbers of a cell
 module _ (cols : List ℕ) (m p : ℕ) where
-  module _ (c : ℕ) (low : c < 4096) (x : List ℕ) (a : Tabled 40960 (columnTo cols m p c) x) where
-    pub column-here : holdb cols m p c ≡ true → (y : List ℕ) → Column cols c 10 x y → Tabled 40960 (columnTo cols m p (c + 1)) y
+  module _ (c : ℕ) (low : c < mostCells) (x : List ℕ) (a : Tabled columnsLength (columnTo cols m p c) x) where
+    pub column-here : holdb cols m p c ≡ true → (y : List ℕ) → Column cols c 10 x y → Tabled columnsLength (columnTo cols m p (c + 1)) y
     column-here t y w =
         let z : c + 1 ≡ suc c = omega arith in
-        rw z (each-here inColumn (holdb cols m p) (λ i. getD cols i 0) 40960 c x a t y (w .size)
+        rw z (each-here inColumn (holdb cols m p) (λ i. getD cols i 0) columnsLength c x a t y (w .size)
         (λ i g e.
-        let q : 4096 * (i / 4096) + c ≡ i = omega arith in
-        rw q at (w .here (i / 4096) (omega arith)))
+        let q : mostCells * (i / mostCells) + c ≡ i = omega arith in
+        rw q at (w .here (i / mostCells) (omega arith)))
         (λ i g n. w .other i (λ k h e. n (omega (arith, e)))))
 
-    pub column-not : holdb cols m p c ≡ false → Tabled 40960 (columnTo cols m p (c + 1)) x
+    pub column-not : holdb cols m p c ≡ false → Tabled columnsLength (columnTo cols m p (c + 1)) x
     column-not t =
         let z : c + 1 ≡ suc c = omega arith in
-        rw z (each-not inColumn (holdb cols m p) (λ i. getD cols i 0) 40960 c x a t)
+        rw z (each-not inColumn (holdb cols m p) (λ i. getD cols i 0) columnsLength c x a t)
 
-  pub column-none : Tabled 40960 (columnTo cols m p 0) (zeros 40960)
-  column-none = each-none inColumn (holdb cols m p) (λ i. getD cols i 0) 40960
+  pub column-none : Tabled columnsLength (columnTo cols m p 0) (zeros columnsLength)
+  column-none = each-none inColumn (holdb cols m p) (λ i. getD cols i 0) columnsLength
 
-  pub column-all : (x : List ℕ) → Tabled 40960 (columnTo cols m p m) x → Tabled 40960 (columnBy cols m p) x
-  column-all x a = each-all inColumn (holdb cols m p) (λ i. getD cols i 0) 40960 m x (hold-there cols m p) a
+  pub column-all : (x : List ℕ) → Tabled columnsLength (columnTo cols m p m) x → Tabled columnsLength (columnBy cols m p) x
+  column-all x a = each-all inColumn (holdb cols m p) (λ i. getD cols i 0) columnsLength m x (hold-there cols m p) a
 
 -- the six slots of a cell
 module _ (cols : List ℕ) (m p : ℕ) (sl : List ℕ) where
-  module _ (c : ℕ) (x : List ℕ) (a : Tabled 24576 (slotTo cols m p sl c) x) where
-    pub six-here : holdb cols m p c ≡ true → (y : List ℕ) → Six sl c 6 x y → Tabled 24576 (slotTo cols m p sl (c + 1)) y
+  module _ (c : ℕ) (x : List ℕ) (a : Tabled mostSlots (slotTo cols m p sl c) x) where
+    pub six-here : holdb cols m p c ≡ true → (y : List ℕ) → Six sl c 6 x y → Tabled mostSlots (slotTo cols m p sl (c + 1)) y
     six-here t y w =
         let z : c + 1 ≡ suc c = omega arith in
-        rw z (each-here inSix (holdb cols m p) (λ j. getD sl j 0) 24576 c x a t y (w .size)
+        rw z (each-here inSix (holdb cols m p) (λ j. getD sl j 0) mostSlots c x a t y (w .size)
         (λ j g e.
         let q : 6 * c + j % 6 ≡ j = omega arith in
         rw q at (w .here (j % 6) (omega arith)))
         (λ j g n. w .other j (λ k h e. n (omega (arith, e)))))
 
-    pub six-not : holdb cols m p c ≡ false → Tabled 24576 (slotTo cols m p sl (c + 1)) x
+    pub six-not : holdb cols m p c ≡ false → Tabled mostSlots (slotTo cols m p sl (c + 1)) x
     six-not t =
         let z : c + 1 ≡ suc c = omega arith in
-        rw z (each-not inSix (holdb cols m p) (λ j. getD sl j 0) 24576 c x a t)
+        rw z (each-not inSix (holdb cols m p) (λ j. getD sl j 0) mostSlots c x a t)
 
-  pub six-none : Tabled 24576 (slotTo cols m p sl 0) (zeros 24576)
-  six-none = each-none inSix (holdb cols m p) (λ j. getD sl j 0) 24576
+  pub six-none : Tabled mostSlots (slotTo cols m p sl 0) (zeros mostSlots)
+  six-none = each-none inSix (holdb cols m p) (λ j. getD sl j 0) mostSlots
 
-  pub six-all : (x : List ℕ) → Tabled 24576 (slotTo cols m p sl m) x → Tabled 24576 (slotBy cols m p sl) x
-  six-all x a = each-all inSix (holdb cols m p) (λ j. getD sl j 0) 24576 m x (hold-there cols m p) a
+  pub six-all : (x : List ℕ) → Tabled mostSlots (slotTo cols m p sl m) x → Tabled mostSlots (slotBy cols m p sl) x
+  six-all x a = each-all inSix (holdb cols m p) (λ j. getD sl j 0) mostSlots m x (hold-there cols m p) a
 
 -- what stands at the six slots of a cell
 any-snoc : (f : ℕ → Bool) (l : List ℕ) (x : ℕ) → anyb f (l ++ (x ∷ [])) ≡ (anyb f l || f x)
@@ -189,7 +191,7 @@ module _ (sl ms : List ℕ) (c : ℕ) (x : List ℕ) where
   unfolding anyb
   marked-start = record { size = refl; at = λ s h. refl }
 
-  pub marked-turn : (e : ℕ) (y : List ℕ) → e < 6 → length x ≡ 24576 → getD sl (6 * c + e) 0 < 24576 → Masked sl ms c e x y
+  pub marked-turn : (e : ℕ) (y : List ℕ) → e < 6 → length x ≡ mostSlots → getD sl (6 * c + e) 0 < mostSlots → Masked sl ms c e x y
       → Masked sl ms c (suc e) x (set y (getD sl (6 * c + e) 0) (getD ms (getD sl (6 * c + e) 0) 0))
   marked-turn e y h long small w =
       let o = getD sl (6 * c + e) 0 in
@@ -220,8 +222,8 @@ module _ (cols : List ℕ) (m p : ℕ) (sl ms : List ℕ) where
       let z : 0 + k ≡ k = omega arith in
       ap (anyb f) (range-snoc 0 k ∙ ap (λ (x : ℕ). range 0 k ++ (x ∷ [])) z) ∙ any-snoc f (range 0 k) k
 
-  module _ (k : ℕ) (x : List ℕ) (a : Tabled 24576 (holderTo cols m p sl ms k) x) where
-    pub mark-here : holdb cols m p k ≡ true → (y : List ℕ) → Masked sl ms k 6 x y → Tabled 24576 (holderTo cols m p sl ms (k + 1)) y
+  module _ (k : ℕ) (x : List ℕ) (a : Tabled mostSlots (holderTo cols m p sl ms k) x) where
+    pub mark-here : holdb cols m p k ≡ true → (y : List ℕ) → Masked sl ms k 6 x y → Tabled mostSlots (holderTo cols m p sl ms (k + 1)) y
     unfolding holderTo
     mark-here t y w =
         let z : k + 1 ≡ suc k = omega arith in
@@ -241,7 +243,7 @@ module _ (cols : List ℕ) (m p : ℕ) (sl ms : List ℕ) where
         go false true s e = refl
         go false false s e = e
 
-    pub mark-not : holdb cols m p k ≡ false → Tabled 24576 (holderTo cols m p sl ms (k + 1)) x
+    pub mark-not : holdb cols m p k ≡ false → Tabled mostSlots (holderTo cols m p sl ms (k + 1)) x
     unfolding holderTo
     mark-not t =
         let z : k + 1 ≡ suc k = omega arith in
@@ -254,9 +256,9 @@ module _ (cols : List ℕ) (m p : ℕ) (sl ms : List ℕ) where
               ∙ or-false (heldSlotTo cols m p sl k s)));
         })
 
-  pub mark-none : Tabled 24576 (holderTo cols m p sl ms 0) (zeros 24576)
+  pub mark-none : Tabled mostSlots (holderTo cols m p sl ms 0) (zeros mostSlots)
   unfolding zeros holderTo heldSlotTo anyb range
-  mark-none = record { size = length-replicate {A = ℕ} 24576 0; at = λ s h. getD-replicate 24576 s 0 0 h }
+  mark-none = record { size = length-replicate {A = ℕ} mostSlots 0; at = λ s h. getD-replicate mostSlots s 0 0 h }
 
 -- one bit more for each slot
 module _ (x b : List ℕ) where
@@ -303,16 +305,18 @@ module _ (cols : List ℕ) (m : ℕ) (sl : List ℕ) where
         leb→le (2 ^ k) 32768 (belowb-at (λ k. leb (2 ^ k) 32768) 16 powers k (omega arith)),
       )
 
-  pub masks-none : (x : List ℕ) → x ≡ zeros 24576 → Tabled 24576 (maskFrom cols m sl 17 0) x
+  pub masks-none : (x : List ℕ) → x ≡ zeros mostSlots → Tabled mostSlots (maskFrom cols m sl 17 0) x
   unfolding zeros maskFrom range bitsOf
   masks-none x e =
-      rw e (record { size = length-replicate {A = ℕ} 24576 0; at = λ s h. getD-replicate 24576 s 0 0 h })
+      rw e (record { size = length-replicate {A = ℕ} mostSlots 0; at = λ s h. getD-replicate mostSlots s 0 0 h })
 
-  pub masks-room : (p : ℕ) (x : List ℕ) → 0 < p → p ≤ 16 → Tabled 24576 (maskFrom cols m sl (p + 1) (16 - p)) x → AllBelow x 32768
-  masks-room p x h l a = record { below = λ s g. rw (a .at s g) (mask-below (p + 1) (16 - p) s (omega arith)) }
+  pub masks-room : (p : ℕ) (x : List ℕ) → 0 < p → p ≤ mostParts → Tabled mostSlots (maskFrom cols m sl (p + 1) (mostParts - p)) x
+      → AllBelow x 32768
+  masks-room p x h l a = record { below = λ s g. rw (a .at s g) (mask-below (p + 1) (mostParts - p) s (omega arith)) }
 
-  module _ (ones : List ℕ) (one : Tabled 24576 (λ s. 1) ones) (p : ℕ) (b : List ℕ) (f : Tabled 24576 (holderBy cols m p sl ones) b) where
-    flag-is : (s : ℕ) → s < 24576 → getD b s 0 ≡ one-if (heldSlotb cols m p sl s)
+  module _ (ones : List ℕ) (one : Tabled mostSlots (λ s. 1) ones) (p : ℕ) (b : List ℕ)
+      (f : Tabled mostSlots (holderBy cols m p sl ones) b) where
+    flag-is : (s : ℕ) → s < mostSlots → getD b s 0 ≡ one-if (heldSlotb cols m p sl s)
     unfolding holderTo one-if
     flag-is s h = f .at s h ∙ go (heldSlotb cols m p sl s)
       where
@@ -323,17 +327,25 @@ module _ (cols : List ℕ) (m : ℕ) (sl : List ℕ) where
     pub flags-room : AllBelow b 2
     flags-room = record { below = λ s h. omega (arith, flag-is s h, one-most (heldSlotb cols m p sl s)) }
 
-    pub masks-turn : 0 < p → p ≤ 16 → (x y : List ℕ) → Tabled 24576 (maskFrom cols m sl (p + 1) (16 - p)) x → Doubled 24576 x b y
-        → Tabled 24576 (maskFrom cols m sl (p - 1 + 1) (16 - (p - 1))) y
+    pub masks-turn : 0 < p → p ≤ mostParts → (x y : List ℕ) → Tabled mostSlots (maskFrom cols m sl (p + 1) (mostParts - p)) x
+        → Doubled mostSlots x b y
+        → Tabled mostSlots (maskFrom cols m sl (p - 1 + 1) (mostParts - (p - 1))) y
     masks-turn h l x y a d =
         let z : p - 1 + 1 ≡ p = omega arith in
-        let w : 16 - (p - 1) ≡ suc (16 - p) = omega arith in
+        let w : mostParts - (p - 1) ≡ suc (mostParts - p) = omega arith in
         let v : p + 1 ≡ suc p = omega arith in
         rw (z, w) (record {
           size = d .size ∙ a .size;
           at = λ s g.
               d .done s g
-              ∙ omega (arith, a .at s g, flag-is s g, mask-more p (16 - p) s, ap (λ (q : ℕ). maskFrom cols m sl q (16 - p) s) v);
+              ∙ omega (
+                arith,
+                a .at s g,
+                flag-is s g,
+                mask-more p (mostParts - p) s,
+                ap
+                    (λ (q : ℕ). maskFrom cols m sl q (mostParts - p) s) v,
+              );
         })
 
 -- corners of coarse masters
@@ -371,7 +383,7 @@ so-turn f i x y v h e s =
 pub so-each : (f : ℕ → ℕ) (k i : ℕ) (x y : List ℕ) → length x ≡ k → i ≡ k → So f i x y → Tabled k f y
 so-each f k i x y l e s = record { size = s .size ∙ l; at = λ j h. s .at j (omega arith) }
 
-pub head-is : (x : List ℕ) (p P n q m l : ℕ) → x ≡ zeros 16
+pub head-is : (x : List ℕ) (p P n q m l : ℕ) → x ≡ zeros FIRST-CELL
     → set (set (set (set (set (set x 1 p) 2 P) 3 n) 4 q) 5 m) 6 l ≡ headBy p P n q m l
 unfolding zeros headBy
 head-is x p P n q m l e = rw e

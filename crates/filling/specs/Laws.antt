@@ -9,6 +9,7 @@ use lib.ListN.{length, take, drop, length-drop, length-map, length-replicate}
 use lib.Seq.{length-take-le, ext-getD}
 use Rattle.base.specs.Every.{getD-map}
 use Rattle.base.specs.Range.{range, length-range, range-at}
+use Rattle.store.specs.Fields.{FIRST-CELL}
 use Rattle.filling.specs.Regions.{zeros, tab, headBy, Tabled}
 
 pub tab-length : (k : ℕ) (f : ℕ → ℕ) → length (tab k f) ≡ k
@@ -19,7 +20,7 @@ pub zero-length : (k : ℕ) → length (zeros k) ≡ k
 unfolding zeros
 zero-length k = length-replicate k 0
 
-pub header-size : (p P n q m l : ℕ) → length (headBy p P n q m l) ≡ 16
+pub header-size : (p P n q m l : ℕ) → length (headBy p P n q m l) ≡ FIRST-CELL
 unfolding headBy
 header-size p P n q m l = refl
 

@@ -10,12 +10,13 @@ use mathlib.Core.List.{List}
 use Prim.Native.Nat.{ℕ, _+_, _*_, _≤_, _<_}
 use lib.ListN.{length, getD, take}
 use lib.Dec.{eqb}
+use Rattle.base.specs.Limits.{mostCells, mostSlots}
 use Rattle.base.specs.Lists.{anyb}
 use Rattle.mesh.specs.Layout.{edgeNumbers}
 use Rattle.store.specs.Written.{WroteAt}
 
 abbrev pub Column : List ℕ → ℕ → ℕ → List ℕ → List ℕ → Type 0
-Column cols c j x y = WroteAt (λ i. 4096 * i + c) (λ i. getD cols (4096 * i + c) 0) j x y
+Column cols c j x y = WroteAt (λ i. mostCells * i + c) (λ i. getD cols (mostCells * i + c) 0) j x y
 
 abbrev pub Six : List ℕ → ℕ → ℕ → List ℕ → List ℕ → Type 0
 Six sl c e x y = WroteAt (λ i. 6 * c + i) (λ i. getD sl (6 * c + i) 0) e x y
@@ -26,11 +27,11 @@ sixHaveb sl c e s = anyb (λ i. eqb (getD sl (6 * c + i) 0) s) (take e edgeNumbe
 
 pub record Masked (sl ms : List ℕ) (c e : ℕ) (x y : List ℕ) : Type 0 where
   pub size : length y ≡ length x
-  pub at : (s : ℕ) → s < 24576 → getD y s 0 ≡ elim (sixHaveb sl c e s) [ true ↦ getD ms s 0 | false ↦ getD x s 0 ]
+  pub at : (s : ℕ) → s < mostSlots → getD y s 0 ≡ elim (sixHaveb sl c e s) [ true ↦ getD ms s 0 | false ↦ getD x s 0 ]
 
 -- each of the first 24,576 numbers is below k
 pub record AllBelow (x : List ℕ) (k : ℕ) : Type 0 where
-  pub below : (s : ℕ) → s < 24576 → getD x s 0 < k
+  pub below : (s : ℕ) → s < mostSlots → getD x s 0 < k
 
 -- the first i numbers of x were doubled and those of b added
 pub record Doubled (i : ℕ) (x b y : List ℕ) : Type 0 where

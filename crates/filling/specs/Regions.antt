@@ -20,10 +20,12 @@ use mathlib.Core.List.{List, _∷_, _++_, map}
 use Prim.Native.Nat.{ℕ, _+_, _*_, _/_, _%_, _<_}
 use lib.Dec.{eqb, ltb}
 use lib.ListN.{length, getD, take, drop, replicate}
+use Rattle.base.specs.Limits.{fullCoarse, mostCells, mostParts, mostSlots}
 use Rattle.base.specs.Lists.{anyb}
 use Rattle.base.specs.Range.{range}
 use Rattle.mesh.specs.Cells.{bitsOf}
 use Rattle.mesh.specs.Layout.{edgeNumbers}
+use Rattle.store.specs.Fields.{columnsLength, flagsLength, freeLength}
 
 -- lists that do not open by themselves: k zeros, and the numbers f 0 to f (k - 1)
 unfoldable pub zeros : ℕ → List ℕ
@@ -43,7 +45,7 @@ pub record Tabled (k : ℕ) (f : ℕ → ℕ) (x : List ℕ) : Type 0 where
 
 -- Rule 15.2.
 unfoldable pub holdb : List ℕ → ℕ → ℕ → ℕ → Bool
-holdb cols m p c = ltb c m && (eqb (getD cols c 0) p || eqb (getD cols (4096 + c) 0) p)
+holdb cols m p c = ltb c m && (eqb (getD cols c 0) p || eqb (getD cols (mostCells + c) 0) p)
 
 -- v i, where the cell κ i passes the test h; the second looks at the cells before c only
 unfoldable pub pickBy : (ℕ → ℕ) → (ℕ → Bool) → (ℕ → ℕ) → ℕ → ℕ
@@ -54,7 +56,7 @@ pickTo κ h v c i = elim (ltb (κ i) c && h (κ i)) [ true ↦ v i | false ↦ 0
 
 -- of which cell a number of the columns is, and a slot
 abbrev pub inColumn : ℕ → ℕ
-inColumn i = i % 4096
+inColumn i = i % mostCells
 
 abbrev pub inSix : ℕ → ℕ
 inSix j = j / 6
@@ -94,7 +96,7 @@ maskFrom cols m sl p k s = bitsOf (map (λ q. heldSlotb cols m q sl s) (range p 
 
 -- Rule 15.2.
 abbrev pub maskBy : List ℕ → ℕ → List ℕ → ℕ → ℕ
-maskBy cols m sl s = maskFrom cols m sl 1 16 s
+maskBy cols m sl s = maskFrom cols m sl 1 mostParts s
 
 -- Rule 15.5.
 unfoldable pub cornerBy : List ℕ → List ℕ → ℕ → ℕ → ℕ
@@ -107,11 +109,11 @@ headBy p P n q m l = 0 ∷ p ∷ P ∷ n ∷ q ∷ m ∷ l ∷ replicate 9 0
 
 -- the slots of the first m cells are small
 pub record SmallSlots (sl : List ℕ) (m : ℕ) : Type 0 where
-  pub small : (j : ℕ) → j < 6 * m → getD sl j 0 < 24576
+  pub small : (j : ℕ) → j < 6 * m → getD sl j 0 < mostSlots
 
 -- Rule 15.5: all regions, one behind the other
 unfoldable pub regions : List ℕ → List ℕ → List ℕ → List ℕ → List ℕ → List ℕ → ℕ → ℕ → ℕ → ℕ → ℕ → List ℕ
 regions cols mesh sl ms fs st m p P n l =
-    (headBy p P n (length mesh / 4) m l ++ fs ++ st ++ zeros 72)
-    ++ (tab 40960 (columnBy cols m p) ++ zeros 8192 ++ tab 1024 (cornerBy cols mesh p))
-    ++ (tab 24576 (slotBy cols m p sl) ++ tab 24576 (holderBy cols m p sl ms) ++ zeros 24576)
+    (headBy p P n (length mesh / 4) m l ++ fs ++ st ++ zeros freeLength)
+    ++ (tab columnsLength (columnBy cols m p) ++ zeros flagsLength ++ tab fullCoarse (cornerBy cols mesh p))
+    ++ (tab mostSlots (slotBy cols m p sl) ++ tab mostSlots (holderBy cols m p sl ms) ++ zeros mostSlots)

@@ -1,7 +1,16 @@
 // A part's store filled from the columns and slots of a table, region by region.
+use base::FULL_COARSE;
+use base::MOST_CELLS;
+use base::MOST_PARTS;
+use base::MOST_SLOTS;
+use store::COLUMNS_LENGTH;
 use store::CORNER;
 use store::FIRST_CELL;
 use store::FIRST_SLOT;
+use store::FIRSTS_LENGTH;
+use store::FLAGS_LENGTH;
+use store::FREE;
+use store::FREE_LENGTH;
 use store::HOLDERS;
 use store::MARK;
 use store::OWNER;
@@ -12,7 +21,8 @@ ghost use mathlib.Core.List.{_++_};
 ghost use Prim.Native.Nat.{_+_, _*_, _/_, _≤_, _<_};
 ghost use lib.ListN.{length, drop};
 ghost use Rattle.base.specs.Lent.{was, is};
-ghost use Rattle.store.specs.Fields.{full, CODE};
+ghost use Rattle.base.specs.Limits.{fullCoarse, mostCells, mostSlots};
+ghost use Rattle.store.specs.Fields.{full, FRONT, FIRST-CELL, OWNER, SLOT, columnsLength, firstsLength, flagsLength, freeLength};
 ghost use Rattle.filling.specs.Regions.{Tabled, holdb, columnTo, columnBy, slotTo, slotBy, holderTo, holderBy, maskBy, cornerBy};
 ghost use Rattle.filling.specs.Regions.{zeros, tab, putBy, headBy, regions, SmallSlots};
 ghost use Rattle.filling.specs.Passes.{Column, Six, Masked, AllBelow, Doubled};
@@ -30,7 +40,7 @@ fn zero(region: &mut [u16])
 
 // Whether a part has a cell, as master or ghost.
 fn holds(cols: &[u16], cells: usize, part: u16, c: usize) -> bool
-    requires { ⌜ (length (now cols) ≡ 40960) × (c < 4096) ⌝ }
+    requires { ⌜ (length (now cols) ≡ columnsLength) × (c < mostCells) ⌝ }
     ensures { λ r. ⌜ r ≡ holdb (was cols) cells part c ⌝ }
 {
     if c >= cells {
@@ -39,26 +49,26 @@ fn holds(cols: &[u16], cells: usize, part: u16, c: usize) -> bool
     if cols[c] == part {
         return true;
     }
-    cols[4096 + c] == part
+    cols[MOST_CELLS + c] == part
 }
 
 // Writes the ten numbers of a cell.
 fn put_column(region: &mut [u16], cols: &[u16], c: usize)
-    requires { ⌜ (length (now region) ≡ 40960) × (length (now cols) ≡ 40960) × (c < 4096) ⌝ }
+    requires { ⌜ (length (now region) ≡ columnsLength) × (length (now cols) ≡ columnsLength) × (c < mostCells) ⌝ }
     ensures { λ r. ⌜ Column (was cols) c 10 (was region) (is region) ⌝ }
 {
     let mut j = 0;
     while j < 10 {
-        region[4096 * j + c] = cols[4096 * j + c];
+        region[MOST_CELLS * j + c] = cols[MOST_CELLS * j + c];
         j += 1;
     }
 }
 
 // Writes the ten numbers of a cell, if the part holds it.
 fn column_cell(region: &mut [u16], cols: &[u16], cells: usize, part: u16, c: usize)
-    requires { ⌜ (length (now cols) ≡ 40960) × (c < 4096) ⌝ }
-    requires { ⌜ Tabled 40960 (columnTo (now cols) cells part c) (now region) ⌝ }
-    ensures { λ r. ⌜ Tabled 40960 (columnTo (was cols) cells part (c + 1)) (is region) ⌝ }
+    requires { ⌜ (length (now cols) ≡ columnsLength) × (c < mostCells) ⌝ }
+    requires { ⌜ Tabled columnsLength (columnTo (now cols) cells part c) (now region) ⌝ }
+    ensures { λ r. ⌜ Tabled columnsLength (columnTo (was cols) cells part (c + 1)) (is region) ⌝ }
 {
     if !holds(cols, cells, part, c) {
         return;
@@ -68,8 +78,8 @@ fn column_cell(region: &mut [u16], cols: &[u16], cells: usize, part: u16, c: usi
 
 // Writes the columns of the cells that a part holds.
 fn fill_columns(region: &mut [u16], cols: &[u16], cells: usize, part: u16)
-    requires { ⌜ (length (now region) ≡ 40960) × (length (now cols) ≡ 40960) × (cells ≤ 4096) ⌝ }
-    ensures { λ r. ⌜ Tabled 40960 (columnBy (was cols) cells part) (is region) ⌝ }
+    requires { ⌜ (length (now region) ≡ columnsLength) × (length (now cols) ≡ columnsLength) × (cells ≤ mostCells) ⌝ }
+    ensures { λ r. ⌜ Tabled columnsLength (columnBy (was cols) cells part) (is region) ⌝ }
 {
     zero(region);
     let mut c = 0;
@@ -81,7 +91,7 @@ fn fill_columns(region: &mut [u16], cols: &[u16], cells: usize, part: u16)
 
 // Writes the six slots of a cell.
 fn put_six(region: &mut [u16], slots: &[u16], c: usize)
-    requires { ⌜ (length (now region) ≡ 24576) × (length (now slots) ≡ 24576) × (c < 4096) ⌝ }
+    requires { ⌜ (length (now region) ≡ mostSlots) × (length (now slots) ≡ mostSlots) × (c < mostCells) ⌝ }
     ensures { λ r. ⌜ Six (was slots) c 6 (was region) (is region) ⌝ }
 {
     let mut e = 0;
@@ -93,9 +103,9 @@ fn put_six(region: &mut [u16], slots: &[u16], c: usize)
 
 // Writes the six slots of a cell, if the part holds it.
 fn six_cell(region: &mut [u16], cols: &[u16], cells: usize, part: u16, slots: &[u16], c: usize)
-    requires { ⌜ (length (now cols) ≡ 40960) × (c < 4096) × (length (now slots) ≡ 24576) ⌝ }
-    requires { ⌜ Tabled 24576 (slotTo (now cols) cells part (now slots) c) (now region) ⌝ }
-    ensures { λ r. ⌜ Tabled 24576 (slotTo (was cols) cells part (was slots) (c + 1)) (is region) ⌝ }
+    requires { ⌜ (length (now cols) ≡ columnsLength) × (c < mostCells) × (length (now slots) ≡ mostSlots) ⌝ }
+    requires { ⌜ Tabled mostSlots (slotTo (now cols) cells part (now slots) c) (now region) ⌝ }
+    ensures { λ r. ⌜ Tabled mostSlots (slotTo (was cols) cells part (was slots) (c + 1)) (is region) ⌝ }
 {
     if !holds(cols, cells, part, c) {
         return;
@@ -105,8 +115,9 @@ fn six_cell(region: &mut [u16], cols: &[u16], cells: usize, part: u16, slots: &[
 
 // Writes the slots of the cells that a part holds.
 fn fill_slots(region: &mut [u16], cols: &[u16], cells: usize, part: u16, slots: &[u16])
-    requires { ⌜ (length (now region) ≡ 24576) × (length (now cols) ≡ 40960) × (cells ≤ 4096) × (length (now slots) ≡ 24576) ⌝ }
-    ensures { λ r. ⌜ Tabled 24576 (slotBy (was cols) cells part (was slots)) (is region) ⌝ }
+    requires { ⌜ (length (now region) ≡ mostSlots) × (length (now cols) ≡ columnsLength) × (cells ≤ mostCells)
+        × (length (now slots) ≡ mostSlots) ⌝ }
+    ensures { λ r. ⌜ Tabled mostSlots (slotBy (was cols) cells part (was slots)) (is region) ⌝ }
 {
     zero(region);
     let mut c = 0;
@@ -118,7 +129,8 @@ fn fill_slots(region: &mut [u16], cols: &[u16], cells: usize, part: u16, slots: 
 
 // Writes what `masks` has at the six slots of a cell.
 fn put_masks(region: &mut [u16], slots: &[u16], masks: &[u16], c: usize)
-    requires { ⌜ (length (now region) ≡ 24576) × (length (now slots) ≡ 24576) × (length (now masks) ≡ 24576) × (c < 4096) ⌝ }
+    requires { ⌜ (length (now region) ≡ mostSlots) × (length (now slots) ≡ mostSlots) × (length (now masks) ≡ mostSlots)
+        × (c < mostCells) ⌝ }
     requires { ⌜ SmallSlots (now slots) (c + 1) ⌝ }
     ensures { λ r. ⌜ Masked (was slots) (was masks) c 6 (was region) (is region) ⌝ }
 {
@@ -140,10 +152,11 @@ fn mask_cell(
     masks: &[u16],
     c: usize,
 )
-    requires { ⌜ (length (now cols) ≡ 40960) × (c < 4096) × (length (now slots) ≡ 24576) × (length (now masks) ≡ 24576) ⌝ }
+    requires { ⌜ (length (now cols) ≡ columnsLength) × (c < mostCells) × (length (now slots) ≡ mostSlots)
+        × (length (now masks) ≡ mostSlots) ⌝ }
     requires { ⌜ SmallSlots (now slots) (c + 1) ⌝ }
-    requires { ⌜ Tabled 24576 (holderTo (now cols) cells part (now slots) (now masks) c) (now region) ⌝ }
-    ensures { λ r. ⌜ Tabled 24576 (holderTo (was cols) cells part (was slots) (was masks) (c + 1)) (is region) ⌝ }
+    requires { ⌜ Tabled mostSlots (holderTo (now cols) cells part (now slots) (now masks) c) (now region) ⌝ }
+    ensures { λ r. ⌜ Tabled mostSlots (holderTo (was cols) cells part (was slots) (was masks) (c + 1)) (is region) ⌝ }
 {
     if !holds(cols, cells, part, c) {
         return;
@@ -160,10 +173,10 @@ fn fill_holders(
     slots: &[u16],
     masks: &[u16],
 )
-    requires { ⌜ (length (now region) ≡ 24576) × (length (now cols) ≡ 40960) × (cells ≤ 4096) ⌝ }
-    requires { ⌜ (length (now slots) ≡ 24576) × (length (now masks) ≡ 24576) ⌝ }
+    requires { ⌜ (length (now region) ≡ mostSlots) × (length (now cols) ≡ columnsLength) × (cells ≤ mostCells) ⌝ }
+    requires { ⌜ (length (now slots) ≡ mostSlots) × (length (now masks) ≡ mostSlots) ⌝ }
     requires { ⌜ SmallSlots (now slots) cells ⌝ }
-    ensures { λ r. ⌜ Tabled 24576 (holderBy (was cols) cells part (was slots) (was masks)) (is region) ⌝ }
+    ensures { λ r. ⌜ Tabled mostSlots (holderBy (was cols) cells part (was slots) (was masks)) (is region) ⌝ }
 {
     zero(region);
     let mut c = 0;
@@ -175,13 +188,13 @@ fn fill_holders(
 
 // Doubles the masks and adds the flags.
 fn add_bits(masks: &mut [u16], flags: &[u16])
-    requires { ⌜ (length (now masks) ≡ 24576) × (length (now flags) ≡ 24576) ⌝ }
+    requires { ⌜ (length (now masks) ≡ mostSlots) × (length (now flags) ≡ mostSlots) ⌝ }
     requires { ⌜ AllBelow (now masks) 32768 ⌝ }
     requires { ⌜ AllBelow (now flags) 2 ⌝ }
-    ensures { λ r. ⌜ Doubled 24576 (was masks) (was flags) (is masks) ⌝ }
+    ensures { λ r. ⌜ Doubled mostSlots (was masks) (was flags) (is masks) ⌝ }
 {
     let mut s = 0;
-    while s < 24576 {
+    while s < MOST_SLOTS {
         masks[s] = 2 * masks[s] + flags[s];
         s += 1;
     }
@@ -196,13 +209,14 @@ pub fn fill_masks(
     ones: &[u16],
     flags: &mut [u16],
 )
-    requires { ⌜ (length (now masks) ≡ 24576) × (length (now cols) ≡ 40960) × (cells ≤ 4096) × (length (now slots) ≡ 24576) ⌝ }
-    requires { ⌜ (length (now flags) ≡ 24576) × Tabled 24576 (λ s. 1) (now ones) ⌝ }
+    requires { ⌜ (length (now masks) ≡ mostSlots) × (length (now cols) ≡ columnsLength) × (cells ≤ mostCells)
+        × (length (now slots) ≡ mostSlots) ⌝ }
+    requires { ⌜ (length (now flags) ≡ mostSlots) × Tabled mostSlots (λ s. 1) (now ones) ⌝ }
     requires { ⌜ SmallSlots (now slots) cells ⌝ }
-    ensures { λ r. ⌜ Tabled 24576 (maskBy (was cols) cells (was slots)) (is masks) ⌝ }
+    ensures { λ r. ⌜ Tabled mostSlots (maskBy (was cols) cells (was slots)) (is masks) ⌝ }
 {
     zero(masks);
-    let mut p: usize = 16;
+    let mut p: usize = MOST_PARTS;
     while p > 0 {
         fill_holders(flags, cols, cells, p as u16, slots, ones);
         add_bits(masks, flags);
@@ -212,7 +226,7 @@ pub fn fill_masks(
 
 // The corner j of the coarse cells, if its cell is a master.
 fn corner_of(mesh: &[u16], cols: &[u16], part: u16, j: usize) -> u16
-    requires { ⌜ (length (now cols) ≡ 40960) × (j < 1024) ⌝ }
+    requires { ⌜ (length (now cols) ≡ columnsLength) × (j < fullCoarse) ⌝ }
     ensures { λ r. ⌜ r ≡ cornerBy (was cols) (was mesh) part j ⌝ }
 {
     if j / 4 >= mesh.len() / 4 {
@@ -226,11 +240,11 @@ fn corner_of(mesh: &[u16], cols: &[u16], part: u16, j: usize) -> u16
 
 // Writes the corners of coarse masters.
 fn fill_corners(region: &mut [u16], mesh: &[u16], cols: &[u16], part: u16)
-    requires { ⌜ (length (now region) ≡ 1024) × (length (now cols) ≡ 40960) ⌝ }
-    ensures { λ r. ⌜ Tabled 1024 (cornerBy (was cols) (was mesh) part) (is region) ⌝ }
+    requires { ⌜ (length (now region) ≡ fullCoarse) × (length (now cols) ≡ columnsLength) ⌝ }
+    ensures { λ r. ⌜ Tabled fullCoarse (cornerBy (was cols) (was mesh) part) (is region) ⌝ }
 {
     let mut j = 0;
-    while j < 1024 {
+    while j < FULL_COARSE {
         region[j] = corner_of(mesh, cols, part, j);
         j += 1;
     }
@@ -246,7 +260,7 @@ fn fill_head(
     cells: u16,
     levels: u16,
 )
-    requires { ⌜ length (now region) ≡ 16 ⌝ }
+    requires { ⌜ length (now region) ≡ FIRST-CELL ⌝ }
     ensures { λ r. ⌜ is region ≡ headBy part parts corners coarse cells levels ⌝ }
 {
     zero(region);
@@ -268,36 +282,36 @@ fn zero_at(store: &mut [u16], at: usize, n: usize)
 
 // Writes twelve numbers from a place on.
 fn twelve_at(store: &mut [u16], at: usize, numbers: &[u16])
-    requires { ⌜ (at + 12 ≤ length (now store)) × (length (now store) < 16777216) × (length (now numbers) ≡ 12) ⌝ }
-    ensures { λ r. ⌜ is store ≡ putBy at (at + 12) (was store) (was numbers) ⌝ }
+    requires { ⌜ (at + firstsLength ≤ length (now store)) × (length (now store) < 16777216) × (length (now numbers) ≡ firstsLength) ⌝ }
+    ensures { λ r. ⌜ is store ≡ putBy at (at + firstsLength) (was store) (was numbers) ⌝ }
 {
-    base::copy_numbers(numbers, 12, &mut store[at..at + 12]);
+    base::copy_numbers(numbers, FIRSTS_LENGTH, &mut store[at..at + FIRSTS_LENGTH]);
 }
 
 // Writes the columns from a place on.
 fn columns_at(store: &mut [u16], at: usize, cols: &[u16], cells: usize, part: u16)
-    requires { ⌜ (at + 40960 ≤ length (now store)) × (length (now store) < 16777216) ⌝ }
-    requires { ⌜ (length (now cols) ≡ 40960) × (cells ≤ 4096) ⌝ }
-    ensures { λ r. ⌜ is store ≡ putBy at (at + 40960) (was store) (tab 40960 (columnBy (was cols) cells part)) ⌝ }
+    requires { ⌜ (at + columnsLength ≤ length (now store)) × (length (now store) < 16777216) ⌝ }
+    requires { ⌜ (length (now cols) ≡ columnsLength) × (cells ≤ mostCells) ⌝ }
+    ensures { λ r. ⌜ is store ≡ putBy at (at + columnsLength) (was store) (tab columnsLength (columnBy (was cols) cells part)) ⌝ }
 {
-    fill_columns(&mut store[at..at + 40960], cols, cells, part);
+    fill_columns(&mut store[at..at + COLUMNS_LENGTH], cols, cells, part);
 }
 
 // Writes the corners of coarse masters from a place on.
 fn corners_at(store: &mut [u16], at: usize, mesh: &[u16], cols: &[u16], part: u16)
-    requires { ⌜ (at + 1024 ≤ length (now store)) × (length (now store) < 16777216) × (length (now cols) ≡ 40960) ⌝ }
-    ensures { λ r. ⌜ is store ≡ putBy at (at + 1024) (was store) (tab 1024 (cornerBy (was cols) (was mesh) part)) ⌝ }
+    requires { ⌜ (at + fullCoarse ≤ length (now store)) × (length (now store) < 16777216) × (length (now cols) ≡ columnsLength) ⌝ }
+    ensures { λ r. ⌜ is store ≡ putBy at (at + fullCoarse) (was store) (tab fullCoarse (cornerBy (was cols) (was mesh) part)) ⌝ }
 {
-    fill_corners(&mut store[at..at + 1024], mesh, cols, part);
+    fill_corners(&mut store[at..at + FULL_COARSE], mesh, cols, part);
 }
 
 // Writes the slots of the cells that a part holds from a place on.
 fn slots_at(store: &mut [u16], at: usize, cols: &[u16], cells: usize, part: u16, slots: &[u16])
-    requires { ⌜ (at + 24576 ≤ length (now store)) × (length (now store) < 16777216) ⌝ }
-    requires { ⌜ (length (now cols) ≡ 40960) × (cells ≤ 4096) × (length (now slots) ≡ 24576) ⌝ }
-    ensures { λ r. ⌜ is store ≡ putBy at (at + 24576) (was store) (tab 24576 (slotBy (was cols) cells part (was slots))) ⌝ }
+    requires { ⌜ (at + mostSlots ≤ length (now store)) × (length (now store) < 16777216) ⌝ }
+    requires { ⌜ (length (now cols) ≡ columnsLength) × (cells ≤ mostCells) × (length (now slots) ≡ mostSlots) ⌝ }
+    ensures { λ r. ⌜ is store ≡ putBy at (at + mostSlots) (was store) (tab mostSlots (slotBy (was cols) cells part (was slots))) ⌝ }
 {
-    fill_slots(&mut store[at..at + 24576], cols, cells, part, slots);
+    fill_slots(&mut store[at..at + MOST_SLOTS], cols, cells, part, slots);
 }
 
 // Writes the holders of the slots that a part holds from a place on.
@@ -310,13 +324,21 @@ fn holders_at(
     slots: &[u16],
     masks: &[u16],
 )
-    requires { ⌜ (at + 24576 ≤ length (now store)) × (length (now store) < 16777216) ⌝ }
-    requires { ⌜ (length (now cols) ≡ 40960) × (cells ≤ 4096) × (length (now slots) ≡ 24576) × (length (now masks) ≡ 24576) ⌝ }
+    requires { ⌜ (at + mostSlots ≤ length (now store)) × (length (now store) < 16777216) ⌝ }
+    requires { ⌜ (length (now cols) ≡ columnsLength) × (cells ≤ mostCells) × (length (now slots) ≡ mostSlots)
+        × (length (now masks) ≡ mostSlots) ⌝ }
     requires { ⌜ SmallSlots (now slots) cells ⌝ }
     ensures { λ r. ⌜ is store
-        ≡ putBy at (at + 24576) (was store) (tab 24576 (holderBy (was cols) cells part (was slots) (was masks))) ⌝ }
+        ≡ putBy at (at + mostSlots) (was store) (tab mostSlots (holderBy (was cols) cells part (was slots) (was masks))) ⌝ }
 {
-    fill_holders(&mut store[at..at + 24576], cols, cells, part, slots, masks);
+    fill_holders(
+        &mut store[at..at + MOST_SLOTS],
+        cols,
+        cells,
+        part,
+        slots,
+        masks,
+    );
 }
 
 // Writes the header.
@@ -329,11 +351,11 @@ fn head_at(
     cells: u16,
     levels: u16,
 )
-    requires { ⌜ (16 ≤ length (now store)) × (length (now store) < 16777216) ⌝ }
-    ensures { λ r. ⌜ is store ≡ putBy 0 16 (was store) (headBy part parts corners coarse cells levels) ⌝ }
+    requires { ⌜ (FIRST-CELL ≤ length (now store)) × (length (now store) < 16777216) ⌝ }
+    ensures { λ r. ⌜ is store ≡ putBy 0 FIRST-CELL (was store) (headBy part parts corners coarse cells levels) ⌝ }
 {
     fill_head(
-        &mut store[0..16],
+        &mut store[0..FIRST_CELL],
         part,
         parts,
         corners,
@@ -355,25 +377,25 @@ fn write_front(
     firsts: &[u16],
     starts: &[u16],
 )
-    requires { ⌜ (length (now store) ≡ full) × (length (now firsts) ≡ 12) × (length (now starts) ≡ 12) ⌝ }
+    requires { ⌜ (length (now store) ≡ full) × (length (now firsts) ≡ firstsLength) × (length (now starts) ≡ firstsLength) ⌝ }
     ensures { λ r. ⌜ is store
-        ≡ putBy 0 112 (was store) (headBy part parts corners coarse cells levels ++ was firsts ++ was starts ++ zeros 72) ⌝ }
+        ≡ putBy 0 OWNER (was store) (headBy part parts corners coarse cells levels ++ was firsts ++ was starts ++ zeros freeLength) ⌝ }
 {
     head_at(store, part, parts, corners, coarse, cells, levels);
     twelve_at(store, FIRST_CELL, firsts);
     twelve_at(store, FIRST_SLOT, starts);
-    zero_at(store, 40, 72);
+    zero_at(store, FREE, FREE_LENGTH);
 }
 
 // Writes the columns of the cells that a part holds, no marks, and the corners of its coarse masters.
 fn write_columns(store: &mut [u16], mesh: &[u16], cols: &[u16], cells: usize, part: u16)
-    requires { ⌜ (length (now store) ≡ full) × (length (now cols) ≡ 40960) × (cells ≤ 4096) ⌝ }
+    requires { ⌜ (length (now store) ≡ full) × (length (now cols) ≡ columnsLength) × (cells ≤ mostCells) ⌝ }
     ensures { λ r. ⌜ is store
-        ≡ putBy 112 50288 (was store) (tab 40960 (columnBy (was cols) cells part) ++ zeros 8192
-        ++ tab 1024 (cornerBy (was cols) (was mesh) part)) ⌝ }
+        ≡ putBy OWNER SLOT (was store) (tab columnsLength (columnBy (was cols) cells part) ++ zeros flagsLength
+        ++ tab fullCoarse (cornerBy (was cols) (was mesh) part)) ⌝ }
 {
     columns_at(store, OWNER, cols, cells, part);
-    zero_at(store, MARK, 8192);
+    zero_at(store, MARK, FLAGS_LENGTH);
     corners_at(store, CORNER, mesh, cols, part);
 }
 
@@ -386,16 +408,16 @@ fn write_slots(
     slots: &[u16],
     masks: &[u16],
 )
-    requires { ⌜ (length (now store) ≡ full) × (length (now cols) ≡ 40960) × (cells ≤ 4096) ⌝ }
-    requires { ⌜ (length (now slots) ≡ 24576) × (length (now masks) ≡ 24576) ⌝ }
+    requires { ⌜ (length (now store) ≡ full) × (length (now cols) ≡ columnsLength) × (cells ≤ mostCells) ⌝ }
+    requires { ⌜ (length (now slots) ≡ mostSlots) × (length (now masks) ≡ mostSlots) ⌝ }
     requires { ⌜ SmallSlots (now slots) cells ⌝ }
     ensures { λ r. ⌜ is store
-        ≡ putBy 50288 124016 (was store) (tab 24576 (slotBy (was cols) cells part (was slots))
-        ++ tab 24576 (holderBy (was cols) cells part (was slots) (was masks)) ++ zeros 24576) ⌝ }
+        ≡ putBy SLOT FRONT (was store) (tab mostSlots (slotBy (was cols) cells part (was slots))
+        ++ tab mostSlots (holderBy (was cols) cells part (was slots) (was masks)) ++ zeros mostSlots) ⌝ }
 {
     slots_at(store, SLOT, cols, cells, part, slots);
     holders_at(store, HOLDERS, cols, cells, part, slots, masks);
-    zero_at(store, SUM, 24576);
+    zero_at(store, SUM, MOST_SLOTS);
 }
 
 // Writes a part's store up to its entries.
@@ -413,12 +435,13 @@ pub fn write_store(
     slots: &[u16],
     masks: &[u16],
 )
-    requires { ⌜ (length (now store) ≡ full) × (length (now firsts) ≡ 12) × (length (now starts) ≡ 12) ⌝ }
-    requires { ⌜ (length (now cols) ≡ 40960) × (cells ≤ 4096) × (length (now slots) ≡ 24576) × (length (now masks) ≡ 24576) ⌝ }
-    requires { ⌜ (SmallSlots (now slots) cells) × (length (now mesh) ≤ 1024) ⌝ }
+    requires { ⌜ (length (now store) ≡ full) × (length (now firsts) ≡ firstsLength) × (length (now starts) ≡ firstsLength) ⌝ }
+    requires { ⌜ (length (now cols) ≡ columnsLength) × (cells ≤ mostCells) × (length (now slots) ≡ mostSlots)
+        × (length (now masks) ≡ mostSlots) ⌝ }
+    requires { ⌜ (SmallSlots (now slots) cells) × (length (now mesh) ≤ fullCoarse) ⌝ }
     ensures { λ r. ⌜ is store
         ≡ regions (was cols) (was mesh) (was slots) (was masks) (was firsts) (was starts) cells part parts corners levels
-        ++ drop CODE (was store) ⌝ }
+        ++ drop FRONT (was store) ⌝ }
 {
     let coarse = (mesh.len() / 4) as u16;
     write_front(

@@ -16,6 +16,7 @@ use mathlib.Core.Bool.{Bool, true, false}
 use mathlib.Core.List.{List, _++_}
 use Prim.Native.Nat.{ℕ, _+_, _*_, _-_, _≤_, _<_}
 use lib.ListN.{length, getD, take, drop}
+use Rattle.base.specs.Limits.{mostCells}
 use Rattle.mesh.specs.Cells.{redEdges}
 use Rattle.pairs.specs.Keys.{Keys}
 use Rattle.edges.specs.Pairs.{Pair}
@@ -26,7 +27,7 @@ use Rattle.closure.specs.Closed.{Lists}
 use Rattle.flagging.specs.Flags.{flagsAt, keptsAt, redsUp, keptUp, highUp}
 
 pub record OldRows (t ss ms ks : List ℕ) : Type 0 where
-  pub few : length ss ≤ 4096
+  pub few : length ss ≤ mostCells
   pub rows : 8 * length ss ≤ length t
   pub marks : length ms ≡ length ss
   pub size : length ss < length ks

@@ -7,6 +7,7 @@ use native.Mathlib.Nat.{add-zero}
 use native.Mathlib.Omega.{arith}
 use lib.Dec.{T, leb}
 use lib.ListN.{length, getD, drop}
+use Rattle.base.specs.Limits.{mostCells}
 use Rattle.base.specs.Lists.{allb}
 use Rattle.mesh.specs.Layout.{splitEdges}
 use Rattle.edges.specs.Pairs.{addPairs}
@@ -67,7 +68,7 @@ module _ (cells xs ys heads links ss : List ℕ) (first l at n m : ℕ) where
     splits = omega (arith, within, g .few, splits-few (cellAt cells₁ (first + k)) (getD ss (first + k) 0) small)
 
     refine-asked : length cells₁ ≡ length cells
-        → (first + k < at₁) × (getD ss (first + k) 0 ≤ 64) × (at₁ + sizeOf (getD ss (first + k) 0) ≤ 4096)
+        → (first + k < at₁) × (getD ss (first + k) 0 ≤ 64) × (at₁ + sizeOf (getD ss (first + k) 0) ≤ mostCells)
         × (8 * (at₁ + sizeOf (getD ss (first + k) 0)) ≤ length cells₁)
     refine-asked e = (omega (arith, r .done, g .next), small, omega (arith, within, r .most), omega (arith, within, r .in-cells))
 
@@ -169,7 +170,7 @@ module _ (cells xs ys heads links ss : List ℕ) (first last l at n m : ℕ) (r 
   module _ (cells₁ xs₁ ys₁ heads₁ links₁ : List ℕ) (at₁ m₁ c : ℕ)
       (b : Between cells xs ys heads links ss first last l at n m cells₁ xs₁ ys₁ heads₁ links₁ at₁ m₁ c) where
     pub between-asked : c < last
-        → ((c < at₁) × (getD ss c 0 ≤ 64) × (at₁ + sizeOf (getD ss c 0) ≤ 4096) × (8 * (at₁ + sizeOf (getD ss c 0)) ≤ length cells₁))
+        → ((c < at₁) × (getD ss c 0 ≤ 64) × (at₁ + sizeOf (getD ss c 0) ≤ mostCells) × (8 * (at₁ + sizeOf (getD ss c 0)) ≤ length cells₁))
         × ReadyToGrow cells₁ xs₁ ys₁ heads₁ links₁ c (getD ss c 0) n m₁
     between-asked h =
         let w : first + (c - first) ≡ c = omega (arith, b .above) in

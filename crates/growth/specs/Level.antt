@@ -7,6 +7,7 @@ use mathlib.Core.Path.{_≡_}
 use mathlib.Core.List.{List}
 use Prim.Native.Nat.{ℕ, _+_, _*_, _-_, _≤_, _<_}
 use lib.ListN.{length, getD, take}
+use Rattle.base.specs.Limits.{mostCells}
 use Rattle.mesh.specs.Layout.{splitEdges}
 use Rattle.edges.specs.Table.{listed, Edges, Grown}
 use Rattle.rows.specs.Numbered.{cellAt, cellsAt, part, endsFrom, pointAt, rowsOf}
@@ -26,7 +27,7 @@ pub record Roomy (cells xs ys heads links ss : List ℕ) (first last at n m : �
   pub statuses : last ≤ length ss
   pub small : (c : ℕ) → first ≤ c → c < last → getD ss c 0 ≤ 64
   pub in-cells : 8 * (at + sizes (part ss first (last - first))) ≤ length cells
-  pub most : at + sizes (part ss first (last - first)) ≤ 4096
+  pub most : at + sizes (part ss first (last - first)) ≤ mostCells
   pub coarse : n ≤ 512
   pub few : m ≤ at
   pub edges : Edges xs ys heads links 0 m

@@ -7,6 +7,7 @@ ghost use Prim.Native.Nat.{ℕ, _+_, _*_, _-_, _≤_, _<_};
 ghost use lib.ListN.{length, getD};
 ghost use Rattle.base.specs.Bools.{one-if};
 ghost use Rattle.base.specs.Lent.{was, is};
+ghost use Rattle.base.specs.Limits.{mostCells};
 ghost use Rattle.cutting.specs.Rule.{split, family};
 ghost use Rattle.cutting.specs.Answer.{digitTable, startTable};
 ghost use Rattle.mesh.specs.Cells.{patternOf, edge};
@@ -336,7 +337,7 @@ fn refine(
     digits: &[u8],
     starts: &[u16],
 ) -> Refined
-    requires { ⌜ (c < at) × (status ≤ 64) × (at + sizeOf status ≤ 4096) × (8 * (at + sizeOf status) ≤ length (now cells)) ⌝ }
+    requires { ⌜ (c < at) × (status ≤ 64) × (at + sizeOf status ≤ mostCells) × (8 * (at + sizeOf status) ≤ length (now cells)) ⌝ }
     requires { ⌜ ReadyToGrow (now cells) (now xs) (now ys) (now heads) (now links) c status n m ⌝ }
     requires { ⌜ now digits ≡ digitTable ⌝ }
     requires { ⌜ now starts ≡ startTable ⌝ }

@@ -10,6 +10,7 @@ use lib.Dec.{T, eqb, leb, eqb→eq}
 use lib.ListN.{length, drop}
 use borrow.Author.Tests.{eq-eqb, ne-eqb, le-leb, lt-leb}
 use Rattle.base.specs.Bools.{and-left, and-right, or-either}
+use Rattle.base.specs.Limits.{mostCells}
 use Rattle.base.specs.Refuse.{refuse, heldAfter}
 use Rattle.base.specs.declared.Answer.the-variants.{Accepted, Refused}
 use Rattle.store.specs.Fields.{field, full, STAGE, LEVELS, ROUND, RESULT}
@@ -19,7 +20,7 @@ use lib.Seq.{sets, sets-eq}
 use mathlib.Core.Path.{ap}
 use Rattle.store.specs.Fields.{ENTRIES}
 use Rattle.held.proofs.Rows.{length-rows, length-held}
-use Rattle.held.specs.Held.{heldIn, heldRows, heldAnswer, stageAnswer, stageOf, progressOf, listedOf}
+use Rattle.held.specs.Held.{heldIn, heldRows, heldAnswer, stageAnswer, stageOf, progressOf, listedOf, fullHeld}
 use Rattle.held.specs.declared.Progress.the-variants as progress
 use Rattle.held.specs.declared.Listed.the-variants as listed
 
@@ -94,7 +95,7 @@ module _ (x : List ℕ) where
           omega (arith, eqb→eq (field x RESULT) 0 (and-right (eqb (field x ROUND) 0) (eqb (field x RESULT) 0) t))
       zero false q s = two (eqb (field x STAGE) 1) refl (rw (q, stageb) at s)
 
-  pub entries-few : headerb x ≡ true → field x ENTRIES ≤ 4096
+  pub entries-few : headerb x ≡ true → field x ENTRIES ≤ mostCells
   entries-few e = header-is x (rw e tt) .entries-most
 
   module _ (rows : List ℕ) where
@@ -110,29 +111,29 @@ module _ (x : List ℕ) where
     unfolding heldAnswer refuse
     held-short h = refused-by 15 (rw (lt-leb full (length x) h))
 
-    pub held-narrow : full ≤ length x → length rows < 57344 → Answered 15
+    pub held-narrow : full ≤ length x → length rows < fullHeld → Answered 15
     unfolding heldAnswer refuse
-    held-narrow h g = refused-by 15 (rw (le-leb full (length x) h, lt-leb 57344 (length rows) g))
+    held-narrow h g = refused-by 15 (rw (le-leb full (length x) h, lt-leb fullHeld (length rows) g))
 
-    pub held-header : full ≤ length x → 57344 ≤ length rows → headerb x ≡ false → Answered 16
+    pub held-header : full ≤ length x → fullHeld ≤ length rows → headerb x ≡ false → Answered 16
     unfolding heldAnswer refuse
-    held-header h g e = refused-by 16 (rw (le-leb full (length x) h, le-leb 57344 (length rows) g, e))
+    held-header h g e = refused-by 16 (rw (le-leb full (length x) h, le-leb fullHeld (length rows) g, e))
 
-    pub held-early : full ≤ length x → 57344 ≤ length rows → headerb x ≡ true → (field x STAGE ≡ 2 → ⊥) → Answered 16
+    pub held-early : full ≤ length x → fullHeld ≤ length rows → headerb x ≡ true → (field x STAGE ≡ 2 → ⊥) → Answered 16
     unfolding heldAnswer refuse
-    held-early h g e s = refused-by 16 (rw (le-leb full (length x) h, le-leb 57344 (length rows) g, e, ne-eqb (field x STAGE) 2 s))
+    held-early h g e s = refused-by 16 (rw (le-leb full (length x) h, le-leb fullHeld (length rows) g, e, ne-eqb (field x STAGE) 2 s))
 
-    held-accepted : full ≤ length x → 57344 ≤ length rows → headerb x ≡ true → field x STAGE ≡ 2 → heldAnswer x rows ≡ Accepted
+    held-accepted : full ≤ length x → fullHeld ≤ length rows → headerb x ≡ true → field x STAGE ≡ 2 → heldAnswer x rows ≡ Accepted
     unfolding heldAnswer refuse
-    held-accepted h g e s = rw (le-leb full (length x) h, le-leb 57344 (length rows) g, e, eq-eqb (field x STAGE) 2 s)
+    held-accepted h g e s = rw (le-leb full (length x) h, le-leb fullHeld (length rows) g, e, eq-eqb (field x STAGE) 2 s)
 
-    pub held-done : full ≤ length x → 57344 ≤ length rows → headerb x ≡ true → field x STAGE ≡ 2 → (n : ℕ) (out : List ℕ)
+    pub held-done : full ≤ length x → fullHeld ≤ length rows → headerb x ≡ true → field x STAGE ≡ 2 → (n : ℕ) (out : List ℕ)
         → n ≡ field x ENTRIES → out ≡ sets rows 0 (heldRows x)
         → (listed.Rows n ≡ listedOf (heldAnswer x rows) (length (heldIn x))) × (out ≡ heldAfter (heldAnswer x rows) (heldRows x) rows)
     unfolding listedOf heldAfter
     held-done h g e s n out i j =
         let a = held-accepted h g e s in
-        let few : field x ENTRIES ≤ 4096 = header-is x (rw e tt) .entries-most in (
+        let few : field x ENTRIES ≤ mostCells = header-is x (rw e tt) .entries-most in (
           rw a (ap listed.Rows (i ∙ sym (length-held x))),
           rw a (j ∙ sets-eq (heldRows x) rows 0 (omega (arith, length-rows x)) ∙ rw (zero-add (length (heldRows x)))),
         )

@@ -7,11 +7,11 @@
 --   progressOf, listedOf    what `stage` and `held` answer
 use mathlib.Core.Bool.{Bool, true, false, _&&_, not}
 use mathlib.Core.List.{List, [], _∷_, _++_, map, flatMap}
-use Prim.Native.Nat.{ℕ, _+_, _-_, _%_, pred}
+use Prim.Native.Nat.{ℕ, _+_, _-_, _*_, _%_, pred}
 use lib.Dec.{eqb, leb}
 use lib.ListN.{length, replicate}
 use Rattle.base.specs.Bools.{one-if}
-use Rattle.base.specs.Limits.{mostLevels}
+use Rattle.base.specs.Limits.{mostLevels, mostCells}
 use Rattle.base.specs.Range.{range}
 use Rattle.base.specs.Refuse.{refuse}
 use Rattle.base.specs.declared.Answer.{Answer}
@@ -53,7 +53,7 @@ heldRows x = flatMap entryRow (heldIn x)
 
 -- fourteen numbers for each of 4,096
 abbrev pub fullHeld : ℕ
-fullHeld = 57344
+fullHeld = 14 * mostCells
 
 -- Rule 15.16.
 unfoldable pub heldAnswer : List ℕ → List ℕ → Answer

@@ -1,4 +1,6 @@
 // How far a part's step is, and what a done store holds: read from this store alone.
+use base::MOST_CELLS;
+use base::TOP_LEVEL;
 use mail::header_fits;
 use store::ENTRIES;
 use store::FULL;
@@ -15,12 +17,17 @@ ghost use lib.ListN.{length};
 ghost use lib.Seq.{sets};
 ghost use Rattle.base.specs.Bools.{one-if};
 ghost use Rattle.base.specs.Lent.{was, is};
+ghost use Rattle.base.specs.Limits.{topLevel, mostCells};
 ghost use Rattle.base.specs.Refuse.{heldAfter};
-ghost use Rattle.store.specs.Fields.{field, full};
+ghost use Rattle.store.specs.Fields.{field, full, ENTRIES};
 ghost use Rattle.store.specs.Header.{headerb};
 ghost use Rattle.store.specs.Places.{eights, pathOf};
 ghost use Rattle.held.specs.Held.{entryIn, heldIn, entryRow, heldRows, heldAnswer, stageAnswer, stageOf, progressOf, listedOf};
+ghost use Rattle.held.specs.Held.{fullHeld};
 ghost use Rattle.held.specs.Key.{Keyed};
+
+// The full length of the rows that `held` is lent: fourteen numbers each.
+const FULL_HELD: usize = 14 * MOST_CELLS;
 
 // How far a part's step is: in a round, done, or ended with 8 or 9.
 pub enum Progress {
@@ -65,7 +72,7 @@ pub fn stage(store: &[u16]) -> Progress
 
 // 8 to a level.
 pub fn power(level: usize) -> usize
-    requires { ⌜ level ≤ 10 ⌝ }
+    requires { ⌜ level ≤ topLevel ⌝ }
     ensures { λ r. ⌜ (r ≡ 2 ^ (3 * level)) × (r ≤ 1073741824) × (0 < r) ⌝ }
 {
     1 << (3 * level)
@@ -73,10 +80,10 @@ pub fn power(level: usize) -> usize
 
 // The level of a place, at most 10.
 fn level_of(head: usize) -> usize
-    ensures { λ r. ⌜ (r ≡ min (head / 256) 10) × (r ≤ 10) ⌝ }
+    ensures { λ r. ⌜ (r ≡ min (head / 256) topLevel) × (r ≤ topLevel) ⌝ }
 {
     let level = head / 256;
-    if level < 10 { level } else { 10 }
+    if level < TOP_LEVEL { level } else { TOP_LEVEL }
 }
 
 // The key of a place.
@@ -95,7 +102,7 @@ fn key_from(head: usize, digits: usize, more: usize) -> PathKey
 
 // The key of a master or ghost.
 pub fn key_of(store: &[u16], j: usize) -> PathKey
-    requires { ⌜ (full ≤ length (now store)) × (j < 4096) ⌝ }
+    requires { ⌜ (full ≤ length (now store)) × (j < mostCells) ⌝ }
     ensures { λ r. ⌜ Keyed (entryIn (was store) j .path) (r .head) (r .digits) ⌝ }
 {
     key_from(
@@ -107,7 +114,7 @@ pub fn key_of(store: &[u16], j: usize) -> PathKey
 
 // Whether an entry is a ghost.
 pub fn is_ghost(store: &[u16], j: usize) -> bool
-    requires { ⌜ (full ≤ length (now store)) × (j < 4096) ⌝ }
+    requires { ⌜ (full ≤ length (now store)) × (j < mostCells) ⌝ }
     ensures { λ r. ⌜ r ≡ entryIn (was store) j .ghost ⌝ }
 {
     store[PLACE_STATUS + j] >= 128
@@ -115,7 +122,7 @@ pub fn is_ghost(store: &[u16], j: usize) -> bool
 
 // 1 for a ghost.
 fn ghost_number(store: &[u16], j: usize) -> u16
-    requires { ⌜ (full ≤ length (now store)) × (j < 4096) ⌝ }
+    requires { ⌜ (full ≤ length (now store)) × (j < mostCells) ⌝ }
     ensures { λ r. ⌜ r ≡ one-if (entryIn (was store) j .ghost) ⌝ }
 {
     if is_ghost(store, j) { 1 } else { 0 }
@@ -123,7 +130,7 @@ fn ghost_number(store: &[u16], j: usize) -> u16
 
 // The status of an entry.
 pub fn status_of(store: &[u16], j: usize) -> u8
-    requires { ⌜ (full ≤ length (now store)) × (j < 4096) ⌝ }
+    requires { ⌜ (full ≤ length (now store)) × (j < mostCells) ⌝ }
     ensures { λ r. ⌜ (r ≡ entryIn (was store) j .status) × (r < 128) ⌝ }
 {
     (store[PLACE_STATUS + j] % 128) as u8
@@ -145,7 +152,7 @@ fn write_digits(rows: &mut [u16], at: usize, digits: u32)
 
 // Writes the row of an entry.
 fn write_row(store: &[u16], rows: &mut [u16], j: usize)
-    requires { ⌜ (full ≤ length (now store)) × (j < 4096) × (57344 ≤ length (now rows)) ⌝ }
+    requires { ⌜ (full ≤ length (now store)) × (j < mostCells) × (fullHeld ≤ length (now rows)) ⌝ }
     ensures { λ r. ⌜ is rows ≡ sets (was rows) (14 * j) (entryRow (entryIn (was store) j)) ⌝ }
 {
     let at = 14 * j;
@@ -166,7 +173,7 @@ pub fn held(store: &[u16], rows: &mut [u16]) -> Listed
     if store.len() < FULL {
         return Listed::Refused(15);
     }
-    if rows.len() < 57344 {
+    if rows.len() < FULL_HELD {
         return Listed::Refused(15);
     }
     if !header_fits(store) {
@@ -180,8 +187,8 @@ pub fn held(store: &[u16], rows: &mut [u16]) -> Listed
 
 // Writes all rows, and gives their number.
 fn write_rows(store: &[u16], rows: &mut [u16]) -> usize
-    requires { ⌜ (full ≤ length (now store)) × (field (now store) 9 ≤ 4096) × (57344 ≤ length (now rows)) ⌝ }
-    ensures { λ r. ⌜ (r ≡ field (was store) 9) × (is rows ≡ sets (was rows) 0 (heldRows (was store))) ⌝ }
+    requires { ⌜ (full ≤ length (now store)) × (field (now store) ENTRIES ≤ mostCells) × (fullHeld ≤ length (now rows)) ⌝ }
+    ensures { λ r. ⌜ (r ≡ field (was store) ENTRIES) × (is rows ≡ sets (was rows) 0 (heldRows (was store))) ⌝ }
 {
     let count = store[ENTRIES] as usize;
     let mut j: usize = 0;

@@ -8,6 +8,7 @@ use native.Mathlib.Omega.{arith}
 use lib.Dec.{T, eqb, leb, eqb→eq, leb→le}
 use lib.ListN.{length, getD, take, drop, length-append}
 use lib.Seq.{ext-getD, take-length, take-add}
+use Rattle.base.specs.Limits.{mostCells, mostLevels}
 use Rattle.base.specs.Lists.{allb, sameb}
 use Rattle.base.specs.Bools.{and-left, and-right}
 use Rattle.mesh.specs.Cells.{Cell, none, redb, edges, redEdges, closedFrom}
@@ -104,20 +105,23 @@ module _ (n : ℕ) (qs : List (List ℕ)) (ss ms : List ℕ) (sound : T (soundb 
   counted : length ss ≡ length cs
   unfolding soundb ls cs
   counted =
-      eqb→eq (length ss) (length cs) (and-left (eqb (length ss) (length cs)) (leb (length ls) 11 && leb (length cs) 4096)
-      (and-left (eqb (length ss) (length cs) && (leb (length ls) 11 && leb (length cs) 4096)) (allb closedb ls && apartb cs ss) sound))
+      eqb→eq (length ss) (length cs) (and-left (eqb (length ss) (length cs)) (leb (length ls) mostLevels && leb (length cs) mostCells)
+      (and-left (eqb (length ss) (length cs) && (leb (length ls) mostLevels && leb (length cs) mostCells))
+      (allb closedb ls && apartb cs ss) sound))
 
-  few : length cs ≤ 4096
+  few : length cs ≤ mostCells
   unfolding soundb ls cs
   few =
-      leb→le (length cs) 4096 (and-right (leb (length ls) 11) (leb (length cs) 4096)
-      (and-right (eqb (length ss) (length cs)) (leb (length ls) 11 && leb (length cs) 4096)
-      (and-left (eqb (length ss) (length cs) && (leb (length ls) 11 && leb (length cs) 4096)) (allb closedb ls && apartb cs ss) sound)))
+      leb→le (length cs) mostCells (and-right (leb (length ls) mostLevels) (leb (length cs) mostCells)
+      (and-right (eqb (length ss) (length cs)) (leb (length ls) mostLevels && leb (length cs) mostCells)
+      (and-left (eqb (length ss) (length cs) && (leb (length ls) mostLevels && leb (length cs) mostCells))
+      (allb closedb ls && apartb cs ss) sound)))
 
   apart : T (apartb cs ss)
   unfolding soundb ls cs
   apart =
-      and-right (allb closedb ls) (apartb cs ss) (and-right (eqb (length ss) (length cs) && (leb (length ls) 11 && leb (length cs) 4096))
+      and-right (allb closedb ls) (apartb cs ss) (and-right (eqb (length ss) (length cs)
+      && (leb (length ls) mostLevels && leb (length cs) mostCells))
       (allb closedb ls && apartb cs ss) sound)
 
   closed : T (allb closedb ls)
@@ -132,7 +136,7 @@ module _ (n : ℕ) (qs : List (List ℕ)) (ss ms : List ℕ) (sound : T (soundb 
   flags-are : flagTable n qs ss ms ≡ flagsIn ss
   unfolding flagTable ls cs levelsOf apartb
   flags-are =
-      let low : length ls ≤ 11 = sound-levels n qs ss sound .0 in
+      let low : length ls ≤ mostLevels = sound-levels n qs ss sound .0 in
       let reds : Within (redLevels ls) (redEdges [] cs ss) = λ e t. rw (reds-all 12 0 (coarseCells n qs) ss closed, table-is) at t in
       ap flatten (flags-own ms none cs (redEdges [] cs ss) apart 12 0 (coarseCells n qs) ss [] refl refl (omega arith) closed reds)
       ∙ flags-concat ls ∙ ap flagsIn table-is

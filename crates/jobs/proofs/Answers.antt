@@ -7,6 +7,7 @@ use lib.ListN.{length, take, drop}
 use borrow.Author.Tests.{le-leb, lt-leb}
 use Rattle.base.specs.Bools.{is-true}
 use Rattle.base.specs.Fours.{fours}
+use Rattle.base.specs.Limits.{fullCounts, mostCells}
 use Rattle.base.specs.Refuse.{refuse, heldAfter, answer-refused, answer-none}
 use Rattle.base.specs.declared.Answer.{Answer}
 use Rattle.base.specs.declared.Answer.the-variants.{Accepted, Refused}
@@ -28,13 +29,13 @@ module _ (bs table counts : List ℕ) where
   abbrev answer : Answer
   answer = replayAnswer bs table counts
 
-  pub short-table : length table < 4096 → answer ≡ Refused 15
+  pub short-table : length table < mostCells → answer ≡ Refused 15
   unfolding replayAnswer refuse
-  short-table h = rw (lt-leb 4096 (length table) h)
+  short-table h = rw (lt-leb mostCells (length table) h)
 
-  pub short-counts : 4096 ≤ length table → length counts < 44 → answer ≡ Refused 15
+  pub short-counts : mostCells ≤ length table → length counts < fullCounts → answer ≡ Refused 15
   unfolding replayAnswer refuse
-  short-counts g h = rw (le-leb 4096 (length table) g, lt-leb 44 (length counts) h)
+  short-counts g h = rw (le-leb mostCells (length table) g, lt-leb fullCounts (length counts) h)
 
   -- a refusal changes nothing
   pub refused-so : (k : ℕ) → answer ≡ Refused k
@@ -43,10 +44,10 @@ module _ (bs table counts : List ℕ) where
   unfolding replayedOf heldAfter
   refused-so k e = (rw e, (rw e, rw e))
 
-  module _ (g : 4096 ≤ length table) (h : 44 ≤ length counts) where
+  module _ (g : mostCells ≤ length table) (h : fullCounts ≤ length counts) where
     pub long : answer ≡ archiveAnswer bs
     unfolding replayAnswer refuse
-    long = rw (le-leb 4096 (length table) g, le-leb 44 (length counts) h)
+    long = rw (le-leb mostCells (length table) g, le-leb fullCounts (length counts) h)
 
     module _ (new : List ℕ) (k coarse cells levels : ℕ) (r : Reopened bs new k coarse cells levels) where
       pub replay-refused : (k ≡ 0 → ⊥)

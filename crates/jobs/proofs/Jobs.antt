@@ -10,6 +10,7 @@ use lib.IntN.{ℤ}
 use lib.ListN.{length, take, drop, length-map}
 use lib.Seq.{take-at}
 use borrow.Author.Tests.{lt-leb}
+use Rattle.base.specs.Limits.{fullCoarse, fullPositions, mostMarks}
 use Rattle.base.specs.Refuse.{refuse, andThen, answerOf}
 use Rattle.mesh.specs.Coarse.{countsb}
 use Rattle.mesh.specs.Laws.{answer-1}
@@ -85,8 +86,9 @@ module _ (bs : List ℕ) where
       few-bytes : 13 * v + 9 * t + 4 * m + g + 1 ≤ 65536
       few-bytes = omega (arith, measure counts, written-read bs o (rw f tt) .1 .few)
 
-      pub job-room : v ≤ 512 → t ≤ 256 → (ps : List ℤ) (ts cs ms es : List ℕ) → 1536 ≤ length ps → 1024 ≤ length ts → 16384 ≤ length cs
-          → 16384 ≤ length ms
+      pub job-room : v ≤ 512 → t ≤ 256 → (ps : List ℤ) (ts cs ms es : List ℕ) → fullPositions ≤ length ps → fullCoarse ≤ length ts
+          → mostMarks ≤ length cs
+          → mostMarks ≤ length ms
           → 65536 ≤ length es → LoadRoom j ps ts cs ms es
       job-room hv ht ps ts cs ms es lp lt lc lm le =
           record {
@@ -97,7 +99,7 @@ module _ (bs : List ℕ) where
             ends-fit = omega (arith, counts .steps-are, few-bytes);
           }
 
-      pub job-marks : m ≤ 16384
+      pub job-marks : m ≤ mostMarks
       job-marks = omega (arith, few-bytes)
 
       pub job-steps : g ≤ 65536

@@ -7,6 +7,7 @@ use Prim.Native.Nat.{ℕ, _*_, _≤_}
 use native.Mathlib.Omega.{arith}
 use lib.ListN.{length, take, drop}
 use lib.Seq.{take-at}
+use Rattle.base.specs.Limits.{fullCounts, mostCells, mostLevels}
 use Rattle.base.specs.declared.Answer.{Answer}
 use Rattle.base.specs.declared.Answer.the-variants.{Accepted, Refused}
 use Rattle.base.specs.Refuse.{heldAfter}
@@ -30,7 +31,7 @@ unfolding replayedOf
 answer-refused Accepted k t e = let z : _≡_ {A = ℕ} 0 1 = cc in absurd (omega arith)
 answer-refused (Refused n) k t e = cc
 
-module _ (bs table counts : List ℕ) (g : 4096 ≤ length table) (h : 44 ≤ length counts) where
+module _ (bs table counts : List ℕ) (g : mostCells ≤ length table) (h : fullCounts ≤ length counts) where
   abbrev j : Job
   j = jobOf bs
 
@@ -51,7 +52,7 @@ module _ (bs table counts : List ℕ) (g : 4096 ≤ length table) (h : 44 ≤ le
     levels : s .levels ≡ length (jobLevels j)
     levels = ap (λ (x : Size). x .levels) (answer-done answer s (replaySize j) e .1)
 
-    pub done-few : s .levels ≤ 11
+    pub done-few : s .levels ≤ mostLevels
     done-few = omega (arith, levels, job-high j (archive-job bs archive))
 
     pub done-listing : (counts′ : List ℕ) → counts′ ≡ heldAfter answer (jobCounts j) counts

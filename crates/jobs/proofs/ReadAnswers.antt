@@ -9,6 +9,7 @@ use lib.Dec.{T, leb→le}
 use lib.IntN.{ℤ}
 use lib.ListN.{length}
 use Rattle.base.specs.Bools.{and-left, and-right, is-true}
+use Rattle.base.specs.Limits.{fullCoarse, fullPositions, mostMarks}
 use Rattle.base.specs.Refuse.{refuse, heldAfter, answer-refused, answer-none}
 use Rattle.base.specs.declared.Answer.{Answer}
 use Rattle.base.specs.declared.Answer.the-variants.{Accepted, Refused}
@@ -25,10 +26,10 @@ use Rattle.jobs.proofs.Jobs.{job-room}
 
 -- the lent tables have their full lengths
 record Lent (ps : List ℤ) (ts cs ms es : List ℕ) : Type 0 where
-  long-positions : 1536 ≤ length ps
-  long-cells : 1024 ≤ length ts
-  long-marked : 16384 ≤ length cs
-  long-marks : 16384 ≤ length ms
+  long-positions : fullPositions ≤ length ps
+  long-cells : fullCoarse ≤ length ts
+  long-marked : mostMarks ≤ length cs
+  long-marks : mostMarks ≤ length ms
   long-ends : 65536 ≤ length es
 
 lent-long : (ps : List ℤ) (ts cs ms es : List ℕ) → T (roomb ps ts cs ms es) → Lent ps ts cs ms es

@@ -16,7 +16,7 @@ use Rattle.base.specs.Fours.{fours}
 use Rattle.base.specs.Refuse.{refuse, andThen, answerOf}
 use Rattle.base.specs.declared.Answer.{Answer}
 use Rattle.base.specs.declared.Answer.the-variants.{Accepted, Refused}
-use Rattle.base.specs.Limits.{mostCells, mostBytes, fullCounts}
+use Rattle.base.specs.Limits.{mostCells, mostBytes, fullCounts, fullCoarse, fullPositions, mostMarks}
 use Rattle.mesh.specs.Coarse.{cornerCount}
 use Rattle.mesh.specs.Table.{Level, levelsOf, soundb}
 use Rattle.mesh.specs.Counts.{countTable}
@@ -63,7 +63,8 @@ replayedOf (Refused k) s = replayed.Refused k
 -- Rule 9.7: the full lengths; no archive holds more.
 unfoldable pub roomb : List ℤ → List ℕ → List ℕ → List ℕ → List ℕ → Bool
 roomb ps ts cs ms es =
-    leb 1536 (length ps) && (leb 1024 (length ts) && (leb 16384 (length cs) && (leb 16384 (length ms) && leb mostBytes (length es))))
+    leb fullPositions (length ps) && (leb fullCoarse (length ts)
+    && (leb mostMarks (length cs) && (leb mostMarks (length ms) && leb mostBytes (length es))))
 
 -- Rule 12.13: 15, then as the archive.
 unfoldable pub readAnswer : List ℕ → List ℤ → List ℕ → List ℕ → List ℕ → List ℕ → Answer
@@ -103,7 +104,7 @@ pub record Reopened (bs table : List ℕ) (refusal coarse cells levels : ℕ) : 
   pub answer : archiveAnswer bs ≡ answerOf refusal
   pub coarse-are : refusal ≡ 0 → length (fours (jobOf bs .cells)) ≡ coarse
   pub counted : refusal ≡ 0 → length (jobTable (jobOf bs)) ≡ cells
-  pub few : refusal ≡ 0 → cells ≤ 4096
+  pub few : refusal ≡ 0 → cells ≤ mostCells
   pub table-is : refusal ≡ 0 → take cells table ≡ jobTable (jobOf bs)
   pub sound : refusal ≡ 0 → T (soundb (cornerCount (jobOf bs .positions)) (fours (jobOf bs .cells)) (jobTable (jobOf bs)))
   pub high : refusal ≡ 0 → length (jobLevels (jobOf bs)) ≡ levels

@@ -11,6 +11,7 @@ use Prim.Native.Nat.{ℕ, _*_, _≤_}
 use native.Mathlib.Omega.{arith}
 use lib.Dec.{T, eqb, leb, leb→le}
 use lib.ListN.{length, length-append}
+use Rattle.base.specs.Limits.{fullCounts, mostCells, mostLevels}
 use Rattle.base.specs.Lists.{allb}
 use Rattle.base.specs.Bools.{and-left, and-right}
 use Rattle.base.specs.Fours.{fours, length-fours}
@@ -30,15 +31,15 @@ use Rattle.replay.specs.Rest.{rest-sound}
 use Rattle.jobs.specs.Calls.{archiveAnswer, jobLevels, jobCounts}
 
 -- a sound table has at most 11 levels
-sound-high : (n : ℕ) (qs : List (List ℕ)) (ss : List ℕ) → T (soundb n qs ss) → length (levelsOf n qs ss) ≤ 11
+sound-high : (n : ℕ) (qs : List (List ℕ)) (ss : List ℕ) → T (soundb n qs ss) → length (levelsOf n qs ss) ≤ mostLevels
 unfolding soundb
 sound-high n qs ss s =
     let ls = levelsOf n qs ss in
     let cs = cellsOf ls in
-    let low = leb (length ls) 11 && leb (length cs) 4096 in
+    let low = leb (length ls) mostLevels && leb (length cs) mostCells in
     let a : T (eqb (length ss) (length cs) && low) = and-left (eqb (length ss) (length cs) && low) (allb closedb ls && apartb cs ss) s in
     let b : T low = and-right (eqb (length ss) (length cs)) low a in
-    leb→le (length ls) 11 (and-left (leb (length ls) 11) (leb (length cs) 4096) b)
+    leb→le (length ls) mostLevels (and-left (leb (length ls) mostLevels) (leb (length cs) mostCells) b)
 
 -- four numbers a level
 count-length : (ls : List Level) → length (countTable ls) ≡ 4 * length ls
@@ -73,10 +74,10 @@ module _ (j : Job) where
         (omega (arith, l, job-mesh .few)) in
         run-sound n qs (fours-four (j .cells)) (job-mesh .cells) (restTable qs) (j .steps) (rw r tt) (job-parts .1)
 
-    pub job-high : length (jobLevels j) ≤ 11
+    pub job-high : length (jobLevels j) ≤ mostLevels
     job-high = sound-high n qs (jobTable j) job-sound
 
-    pub counts-few : length (jobCounts j) ≤ 44
+    pub counts-few : length (jobCounts j) ≤ fullCounts
     counts-few = omega (arith, job-counts, job-high)
 
 pub archive-parts : (bs : List ℕ) → archiveAnswer bs ≡ Accepted → T (formb bs) × (jobAnswer (jobOf bs) ≡ Accepted)

@@ -13,6 +13,7 @@ use lib.ListN.{length, take, drop, length-replicate}
 use Rattle.base.specs.Lists.{allb}
 use Rattle.base.specs.Bools.{and-left, and-right}
 use Rattle.base.specs.Fours.{fours, length-fours}
+use Rattle.base.specs.Limits.{mostCells}
 use Rattle.base.specs.Refuse.{refuse, andThen, passed, both}
 use Rattle.base.specs.declared.Answer.the-variants.{Accepted}
 use Rattle.base.specs.Every.{All}
@@ -62,7 +63,7 @@ may-stand : (k b c m : ℕ) → T (mayb k b c m) → (b ≤ c) × (c < k) × (1 
 unfolding mayb
 may-stand k b c m t = search (and-left, and-right, leb→le, ltb→lt)
 
-rises-from : (k b : ℕ) (ms : List Mark) → k ≤ 4096 → T (markingFrom k b ms) → Rises b ms
+rises-from : (k b : ℕ) (ms : List Mark) → k ≤ mostCells → T (markingFrom k b ms) → Rises b ms
 unfolding markingFrom Rises
 rises-from k b [] h t = tt
 rises-from k b (m ∷ ms) h t =
@@ -75,21 +76,21 @@ pub record Written (p : ℕ) (ms : List Mark) (es : List ℕ) : Type 0 where
   pub rising : All (Rises 0) (stepsFrom p ms es)
 
 module _ (n : ℕ) (qs : List (List ℕ)) where
-  one-rises : (t : List ℕ) (m : List Mark) → length t ≤ 4096 → oneAnswer n qs t m ≡ Accepted → Rises 0 m
+  one-rises : (t : List ℕ) (m : List Mark) → length t ≤ mostCells → oneAnswer n qs t m ≡ Accepted → Rises 0 m
   unfolding oneAnswer
   one-rises t m h e =
       let ms = spread (length t) m in
       let (b, _) = passed 7 (markingb (length t) m && marksb t ms) (limitsAnswer n qs t ms) e in
       rises-from (length t) 0 m h (rw (from-start (length t) m) (and-left (markingb (length t) m) (marksb t ms) b))
 
-  one-few : (t : List ℕ) (m : List Mark) → oneAnswer n qs t m ≡ Accepted → length (oneTable n qs t m) ≤ 4096
+  one-few : (t : List ℕ) (m : List Mark) → oneAnswer n qs t m ≡ Accepted → length (oneTable n qs t m) ≤ mostCells
   unfolding oneAnswer
   one-few t m e =
       let ms = spread (length t) m in
       let (_, a) = passed 7 (markingb (length t) m && marksb t ms) (limitsAnswer n qs t ms) e in
       limits-within n qs t ms a .1
 
-  flat-written : (t : List ℕ) (p : ℕ) (ms : List Mark) (es : List ℕ) → length t ≤ 4096 → flatAnswer n qs t p ms es ≡ Accepted
+  flat-written : (t : List ℕ) (p : ℕ) (ms : List Mark) (es : List ℕ) → length t ≤ mostCells → flatAnswer n qs t p ms es ≡ Accepted
       → Written p ms es
   unfolding flatAnswer Climbs lastFrom stepsFrom
   flat-written t p ms [] h a = record { climbs = tt; last = eqb→eq p (length ms) (passed 7 (eqb p (length ms)) Accepted a .0); rising = tt }
@@ -131,7 +132,7 @@ module _ (ps : List ℤ) (ts cs ms es : List ℕ) (e : tablesAnswer ps ts cs ms 
       let m : AcceptedMesh ps ts = mesh-accepted ps ts mesh in
       let (g, h) = passed 7 (eqb (length cs) (length ms)) flat steps in
       let k : MeshCounts ps ts = mesh-counts ps ts (m .counts) in
-      let l : length (restTable qs) ≤ 4096 = omega (arith, length-replicate {A = ℕ} (length qs) 0, length-fours ts, k .few) in
+      let l : length (restTable qs) ≤ mostCells = omega (arith, length-replicate {A = ℕ} (length qs) 0, length-fours ts, k .few) in
       let w : Written 0 (pairs cs ms) es = flat-written n qs (restTable qs) 0 (pairs cs ms) es l h in
       let same : length cs ≡ length ms = eqb→eq (length cs) (length ms) g in
       let many : length (pairs cs ms) ≡ length cs = length-pairs cs ms same in

@@ -1,10 +1,19 @@
 // The calls on archives of jobs.
+use base::FULL_COARSE;
+use base::FULL_COUNTS;
+use base::FULL_POSITIONS;
+use base::MOST_BYTES;
+use base::MOST_CELLS;
+use base::MOST_COARSE_CELLS;
+use base::MOST_COARSE_CORNERS;
+use base::MOST_MARKS;
 use tables::Outcome;
 ghost use mathlib.Core.Path.{_≡_};
 ghost use mathlib.Core.List.{_++_};
 ghost use Prim.Native.Nat.{_+_, _*_, _≤_};
 ghost use lib.Dec.{leb};
 ghost use lib.ListN.{length, take, drop};
+ghost use Rattle.base.specs.Limits.{fullCounts, mostBytes, mostCells, mostCoarseCells, mostCoarseCorners};
 ghost use Rattle.counting.specs.Levels.{Levels, levelNumber, levelCounts};
 ghost use Rattle.base.specs.Refuse.{heldAfter};
 ghost use Rattle.base.specs.Lent.{was, is};
@@ -54,10 +63,10 @@ fn reopen(bytes: &[u8], table: &mut [u8; 4096]) -> Outcome
     if !f.ok {
         return tables::refused(17);
     }
-    if f.corners > 512 {
+    if f.corners > MOST_COARSE_CORNERS {
         return tables::refused(1);
     }
-    if f.cells > 256 {
+    if f.cells > MOST_COARSE_CELLS {
         return tables::refused(1);
     }
     let mut positions = [0i32; 1536];
@@ -103,7 +112,7 @@ fn hand_out(
     table: &mut [u8],
     counts: &mut [u16],
 ) -> usize
-    requires { ⌜ (k ≤ 4096) × (k ≤ length (now table)) × (44 ≤ length (now counts)) ⌝ }
+    requires { ⌜ (k ≤ mostCells) × (k ≤ length (now table)) × (fullCounts ≤ length (now counts)) ⌝ }
     requires { ⌜ Levels (take k (now new)) coarse ⌝ }
     ensures { λ r. ⌜ r ≡ levelNumber 12 0 coarse (take k (was new)) ⌝ }
     ensures { λ r. ⌜ is table ≡ take k (was new) ++ drop k (was table) ⌝ }
@@ -121,10 +130,10 @@ pub fn replay(bytes: &[u8], table: &mut [u8], counts: &mut [u16]) -> Replayed
         × ((is table ≡ heldAfter a (jobTable j) (was table))
         × (is counts ≡ heldAfter a (jobCounts j) (was counts))) ⌝ }
 {
-    if table.len() < 4096 {
+    if table.len() < MOST_CELLS {
         return Replayed::Refused(15);
     }
-    if counts.len() < 44 {
+    if counts.len() < FULL_COUNTS {
         return Replayed::Refused(15);
     }
     let mut new = [0u8; 4096];
@@ -144,19 +153,19 @@ pub fn replay(bytes: &[u8], table: &mut [u8], counts: &mut [u16]) -> Replayed
 fn lent(positions: &[i32], cells: &[u16], marked: &[u16], marks: &[u8], ends: &[u16]) -> bool
     ensures { λ r. ⌜ r ≡ roomb (was positions) (was cells) (was marked) (was marks) (was ends) ⌝ }
 {
-    if positions.len() < 1536 {
+    if positions.len() < FULL_POSITIONS {
         return false;
     }
-    if cells.len() < 1024 {
+    if cells.len() < FULL_COARSE {
         return false;
     }
-    if marked.len() < 16384 {
+    if marked.len() < MOST_MARKS {
         return false;
     }
-    if marks.len() < 16384 {
+    if marks.len() < MOST_MARKS {
         return false;
     }
-    ends.len() >= 65536
+    ends.len() >= MOST_BYTES
 }
 
 // Reads an archive: its job in the lent tables, the marks of all steps one after the other and where each step ends. The archive is
@@ -198,16 +207,16 @@ pub fn read(
 
 // Whether an archive with so many corners, cells, marks and steps has at most 65,536 bytes.
 fn fits(corners: usize, cells: usize, marks: usize, steps: usize) -> bool
-    requires { ⌜ (corners ≤ 512) × (cells ≤ 256) ⌝ }
-    ensures { λ r. ⌜ r ≡ leb (13 * corners + 9 * cells + 4 * marks + steps + 1) 65536 ⌝ }
+    requires { ⌜ (corners ≤ mostCoarseCorners) × (cells ≤ mostCoarseCells) ⌝ }
+    ensures { λ r. ⌜ r ≡ leb (13 * corners + 9 * cells + 4 * marks + steps + 1) mostBytes ⌝ }
 {
-    if marks > 65536 {
+    if marks > MOST_BYTES {
         return false;
     }
-    if steps > 65536 {
+    if steps > MOST_BYTES {
         return false;
     }
-    13 * corners + 9 * cells + 4 * marks + steps + 1 <= 65536
+    13 * corners + 9 * cells + 4 * marks + steps + 1 <= MOST_BYTES
 }
 
 // Writes the archive of a job that is given by flat tables: the marked cells of all steps one after the other, their marks, and for each
@@ -230,7 +239,7 @@ pub fn write(
         (jobBytes (jobFrom (was positions) (was cells) (was marked) (was marks) (was ends)))
         (was bytes) ⌝ }
 {
-    if bytes.len() < 65536 {
+    if bytes.len() < MOST_BYTES {
         return Writing::Refused(15);
     }
     let mut table = [0u8; 4096];

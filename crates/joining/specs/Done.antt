@@ -10,10 +10,11 @@ use native.Mathlib.Omega.{arith}
 use lib.Dec.{T, eqb, leb}
 use lib.ListN.{length, getD, take, drop, length-drop}
 use lib.Seq.{getD-take, getD-drop, length-take-le, ext-getD}
+use Rattle.base.specs.Limits.{mostCells, mostCoarseCells, mostCoarseCorners, mostLevels, mostParts}
 use Rattle.base.specs.Range.{range}
 use Rattle.parts.specs.Held.{Entry}
 use Rattle.store.specs.Fields.{field, full, STAGE, PART, PARTS, CORNERS, COARSE, CELLS, LEVELS, ROUND, RESULT, ENTRIES, OWNER, CORNER}
-use Rattle.store.specs.Fields.{PLACE-HEAD, PLACE-DIGITS, PLACE-MORE, PLACE-STATUS}
+use Rattle.store.specs.Fields.{PLACE-HEAD, PLACE-DIGITS, PLACE-MORE, PLACE-STATUS, FIRST-CELL}
 use Rattle.store.specs.Places.{pathOf}
 use Rattle.store.specs.Header.{stageb, headerb}
 use Rattle.store.specs.Headed.{header-is}
@@ -35,8 +36,10 @@ pub record PartDone (P n result : ℕ) (qs : List (List ℕ)) (es : List Entry) 
 -- headers of the same numbers
 headerOf : ℕ → ℕ → ℕ → ℕ → ℕ → ℕ → ℕ → ℕ → ℕ → ℕ → Bool
 headerOf stage part parts corners coarse cells levels round result entries =
-    leb 1 parts && (leb parts 16 && (leb 1 part && (leb part parts && (leb 4 corners && (leb corners 512 && (leb 1 coarse && (leb coarse 256
-    && (leb coarse cells && (leb cells 4096 && (leb 1 levels && (leb levels 11 && (leb entries 4096 && elim (eqb stage 0) [
+    leb 1 parts && (leb parts mostParts && (leb 1 part && (leb part parts
+    && (leb 4 corners && (leb corners mostCoarseCorners && (leb 1 coarse && (leb coarse mostCoarseCells
+    && (leb coarse cells && (leb cells mostCells && (leb 1 levels
+    && (leb levels mostLevels && (leb entries mostCells && elim (eqb stage 0) [
       | true ↦ eqb round 0 && eqb result 0
       | false ↦ elim (eqb stage 1) [
         | true ↦ leb round (2 * levels) && eqb result 0
@@ -49,7 +52,7 @@ header-of : (x : List ℕ) → headerb x ≡ headerOf (field x STAGE) (field x P
 unfolding headerb stageb headerOf
 header-of x = refl
 
-pub header-agrees : (x y : List ℕ) → ((k : ℕ) → k < 16 → field x k ≡ field y k) → headerb x ≡ headerb y
+pub header-agrees : (x y : List ℕ) → ((k : ℕ) → k < FIRST-CELL → field x k ≡ field y k) → headerb x ≡ headerb y
 header-agrees x y f =
     let a : field x STAGE ≡ field y STAGE = f STAGE (omega arith) in
     let b : field x PART ≡ field y PART = f PART (omega arith) in
@@ -65,7 +68,7 @@ header-agrees x y f =
 
 -- stores of the same numbers
 module _ (x y : List ℕ) (f : (k : ℕ) → k < full → field x k ≡ field y k) where
-  entry-same : (j : ℕ) → j < 4096 → entryIn x j ≡ entryIn y j
+  entry-same : (j : ℕ) → j < mostCells → entryIn x j ≡ entryIn y j
   unfolding entryIn
   entry-same j h =
       rw (
@@ -75,12 +78,12 @@ module _ (x y : List ℕ) (f : (k : ℕ) → k < full → field x k ≡ field y 
         f (PLACE-STATUS + j) (omega arith),
       )
 
-  entries-same : (k m : ℕ) → k + m ≤ 4096 → map (entryIn x) (range k m) ≡ map (entryIn y) (range k m)
+  entries-same : (k m : ℕ) → k + m ≤ mostCells → map (entryIn x) (range k m) ≡ map (entryIn y) (range k m)
   unfolding range
   entries-same k zero h = refl
   entries-same k (suc m) h = ap₂ _∷_ (entry-same k (omega arith)) (entries-same (suc k) m (omega arith))
 
-  held-same : field y ENTRIES ≤ 4096 → heldIn x ≡ heldIn y
+  held-same : field y ENTRIES ≤ mostCells → heldIn x ≡ heldIn y
   unfolding heldIn
   held-same h = rw (f ENTRIES (omega arith)) (entries-same 0 (field y ENTRIES) (omega arith))
 
@@ -108,6 +111,6 @@ module _ (x y : List ℕ) (f : (k : ℕ) → k < full → field x k ≡ field y 
         ended = f RESULT (omega arith) ∙ d .ended;
         held = held-same (h .entries-most) ∙ d .held;
         corner = λ i l q.
-            let few : i < 256 = omega (arith, d .coarse, h .coarse-most) in
+            let few : i < mostCoarseCells = omega (arith, d .coarse, h .coarse-most) in
             four-same (CORNER + 4 * i) long (d .long) (omega arith) ∙ d .corner i l (sym (f (OWNER + i) (omega arith)) ∙ q);
       }

@@ -1,12 +1,11 @@
 -- Done stores of all parts, in any order, merge to the table that their masters are of.
 --   Joining ..      what is lent: the stores of the parts 1 to P, each once, done with the same result and of the same split, with the
 --                   masters of the table ss among their entries
--- Laws: laid-at (stores laid one behind the other), joined-merges, joined-table and joined: THE THEOREM, that merging is accepted and
--- leaves the table.
+-- Laws: laid-at (stores laid one behind the other), joined-merges, joined-accepted and joined-table: THE THEOREM, that merging is accepted
+-- and makes the table.
 use mathlib.Core.Path.{_≡_, refl, sym, _∙_, ap, ap₂}
-use mathlib.Core.Logic.{⊎-elim}
 use mathlib.Core.Bool.{Bool, true, false}
-use mathlib.Core.List.{List, [], _∷_, _++_, map, flatMap, flatten, append-assoc}
+use mathlib.Core.List.{List, [], _∷_, _++_, map, flatMap, append-assoc}
 use Prim.Native.Nat.{ℕ, zero, suc, _+_, _*_, _≤_, _<_}
 use native.Mathlib.Nat.{add-zero}
 use native.Mathlib.Omega.{arith}
@@ -14,28 +13,26 @@ use lib.Dec.{T, eqb, eqb→eq}
 use lib.ListN.{length, getD, take, drop, length-map, List·getD-append}
 use lib.Seq.{ext-getD, getD-append-add}
 use borrow.Author.Tests.{eq-eqb}
-use Rattle.base.specs.Bools.{is-true, or-either}
+use Rattle.base.specs.Bools.{is-true}
 use Rattle.base.specs.Every.{getD-map, any-at, all-each}
+use Rattle.base.specs.Limits.{mostCells, mostParts, mostCoarseCells}
 use Rattle.base.specs.Lists.{allb, anyb, member-place}
 use Rattle.base.specs.Range.{range, length-range, range-at}
-use Rattle.base.specs.Refuse.{heldAfter}
 use Rattle.base.specs.declared.Answer.the-variants.{Accepted}
 use Rattle.mesh.specs.Coarse.{cellsb}
 use Rattle.mesh.specs.Table.{soundb}
-use Rattle.soundness.specs.Sound.{Sound, sound-parts}
+use Rattle.soundness.specs.Sound.{sound-parts}
 use Rattle.parts.specs.Held.{Entry}
-use Rattle.parts.specs.Merge.{merged, completeb}
-use Rattle.store.specs.Fields.{field, full, PART, PARTS, CORNERS, COARSE, RESULT, STAGE, OWNER, CORNER}
+use Rattle.store.specs.Fields.{field, full, PART, PARTS, CORNERS, COARSE, RESULT, OWNER, CORNER}
 use Rattle.store.specs.Header.{headerb}
 use Rattle.store.specs.Headed.{Header, header-is}
 use Rattle.store.specs.Stores.{storeIn, storesBy, store-long, field-in, length-stores, stores-at}
 use Rattle.held.specs.Held.{heldIn}
 use Rattle.merge.specs.Merge.{storesIn, alikeb, everyb, ownsb, cornersAmong, mergeCells, mergeEntries, mergeTable}
-use Rattle.merge.specs.Merge.{mergeAnswer, mergedOf}
-use Rattle.merge.specs.declared.Merged.the-variants as answer
+use Rattle.merge.specs.Merge.{mergeAnswer}
 use Rattle.merge.specs.Merges.{Merges, merges-accepted}
 use Rattle.merge.specs.Stores.{alike-yes}
-use Rattle.joining.specs.Joint.{Order, Joint, joint-merged, joint-complete}
+use Rattle.joining.specs.Joint.{Order, order-count, order-within, Joint, joint-merged, joint-complete}
 use Rattle.joining.specs.Done.{PartDone, header-agrees, done-same}
 
 -- the first store that has a coarse cell
@@ -84,7 +81,7 @@ laid-at X (p ∷ l) rest w (suc j) k h g =
 
 module _ (b : List ℕ) (P n result : ℕ) (qs : List (List ℕ)) (ss : List ℕ) (es : ℕ → List Entry) (X : ℕ → List ℕ) (l : List ℕ) where
   pub record Joining : Type 0 where
-    pub room : 16 * full ≤ length b
+    pub room : mostParts * full ≤ length b
     pub some : 1 ≤ P
     pub order : Order P l
     pub at : (j k : ℕ) → j < P → k < full → getD b (full * j + k) 0 ≡ field (X (getD l j 0)) k
@@ -103,9 +100,9 @@ module _ (b : List ℕ) (P n result : ℕ) (qs : List (List ℕ)) (ss : List ℕ
 
     done-at : (j : ℕ) → j < P → PartDone P n result qs (es (partAt j)) (partAt j) (storeIn b j)
     done-at j h =
-        let (a, c) = s .order .within j (omega (arith, s .order .count)) in
+        let (a, c) = order-within P l (s .order) j (omega (arith, order-count P l (s .order))) in
         let d = s .done (partAt j) a c in
-        let few : j < 16 = omega (arith, d .parts, header-is (X (partAt j)) (d .header) .parts-most) in
+        let few : j < mostParts = omega (arith, d .parts, header-is (X (partAt j)) (d .header) .parts-most) in
         done-same (storeIn b j) (X (partAt j)) (same-at j h) P n result qs (es (partAt j)) (partAt j)
         (omega (arith, store-long b j (s .room) few)) d
 
@@ -131,12 +128,12 @@ module _ (b : List ℕ) (P n result : ℕ) (qs : List (List ℕ)) (ss : List ℕ
     unfolding storesIn
     stores-are = rw parts-are
 
-    few : length qs ≤ 256
+    few : length qs ≤ mostCoarseCells
     few = omega (arith, headed .coarse-most, first .coarse)
 
     -- a part's place
     placed : (p : ℕ) → 1 ≤ p → p ≤ P → (j : ℕ) × (j < P) × (partAt j ≡ p)
-    placed p a c = let (j, h, e) = member-place p l (s .order .every p a c) in (j, omega (arith, s .order .count), e)
+    placed p a c = let (j, h, e) = member-place p l (s .order .these p .1 a c) in (j, omega (arith, order-count P l (s .order)), e)
 
     found : (f : List ℕ → Bool) (j : ℕ) → j < P → f (storeIn b j) ≡ true → T (anyb f (storesBy b P))
     found f j h e = any-at f [] (storesBy b P) j (omega (arith, length-stores b P)) (rw (stores-at b P j h, e) tt)
@@ -194,8 +191,8 @@ module _ (b : List ℕ) (P n result : ℕ) (qs : List (List ℕ)) (ss : List ℕ
     entries-are : mergeEntries (storesBy b P) ≡ flatMap es l
     unfolding mergeEntries
     entries-are =
-        rw (← s .order .count) (flat-same b es l 0 (λ j h.
-        let z : 0 + j ≡ j = omega arith in rw z (done-at j (omega (arith, s .order .count)) .held)))
+        rw (← order-count P l (s .order)) (flat-same b es l 0 (λ j h.
+        let z : 0 + j ≡ j = omega arith in rw z (done-at j (omega (arith, order-count P l (s .order))) .held)))
 
     table-is : mergeTable (storesBy b P) (length qs) ≡ ss
     unfolding mergeTable
@@ -214,14 +211,9 @@ module _ (b : List ℕ) (P n result : ℕ) (qs : List (List ℕ)) (ss : List ℕ
           sound = rw (stores-are, coarse-are, corners-are, cells-are, table-is) (s .sound);
         }
 
-    joined-table : mergeTable (storesIn b) (field b COARSE) ≡ ss
+    -- THE THEOREM: merging is accepted, and the table is the one whose masters they hold
+    pub joined-table : mergeTable (storesIn b) (field b COARSE) ≡ ss
     joined-table = rw (stores-are, coarse-are) table-is
 
-    -- THE THEOREM
-    pub joined : (t : List ℕ) → 4096 ≤ length t
-        → (mergedOf (mergeAnswer b t) (length (mergeTable (storesIn b) (field b COARSE))) ≡ answer.Cells (length ss))
-        × (heldAfter (mergeAnswer b t) (mergeTable (storesIn b) (field b COARSE)) t ≡ ss ++ drop (length ss) t)
-    unfolding mergedOf heldAfter
-    joined t h =
-        let e : mergeAnswer b t ≡ Accepted = merges-accepted b t (s .room) h joined-merges in
-        (rw (e, joined-table), rw (e, joined-table))
+    pub joined-accepted : (t : List ℕ) → mostCells ≤ length t → mergeAnswer b t ≡ Accepted
+    joined-accepted t h = merges-accepted b t (s .room) h joined-merges

@@ -1,38 +1,71 @@
 -- The entries of all parts, by part, in whatever order of the parts.
---   Order P l          l has the parts 1 to P, each once
+--   Order P l          l has the parts 1 to P, each once, in whatever order
 --   Joint n qs ss P f  the parts' entries f have the masters of the table ss, each once, and no others, in whatever order
--- Laws: joint-merged and joint-complete (what merging makes of them), joint-old (the entries of a split table), joint-new (the entries
+-- Laws: order-count and order-within (so l has P numbers, each a part), joint-merged and joint-complete (what merging
+-- makes of them), joint-old (the entries of a split table), joint-new (the entries
 -- of the parts after the rounds).
 use mathlib.Core.Path.{_≡_, refl, sym, _∙_, ap, subst}
 use mathlib.Core.Logic.{⊎-elim}
-use mathlib.Core.List.{List, [], _∷_, _++_, map, flatMap, flatten, List·Memᴰ, List·Memᴰ·head, List·Memᴰ·tail, Memᴰ·of-map}
-use Prim.Native.Nat.{ℕ, suc, _≤_, _<_}
+use mathlib.Core.List.{List, [], _∷_, _++_, map, flatMap, flatten, List·Memᴰ, List·Memᴰ·head, List·Memᴰ·tail, List·Memᴰ·not-nil}
+use mathlib.Core.List.{List·Memᴰ·cases-cons, Memᴰ·of-map}
+use Prim.Native.Nat.{ℕ, zero, suc, _≤_, _<_}
 use native.Mathlib.Omega.{arith}
 use lib.Dec.{T}
 use lib.ListN.{length, getD}
 use Rattle.base.specs.Lists.{memberb}
-use Rattle.mesh.specs.Table.{soundb}
 use Rattle.soundness.specs.Sound.{Sound}
-use Rattle.exchange.specs.Finite.{Finite, parts}
-use Rattle.base.specs.Member.{Member, member-cases}
+use Rattle.exchange.specs.Finite.{Finite}
+use Rattle.base.specs.Member.{Member, member-head, member-tail, member-cases}
+use Rattle.base.specs.Range.{range, length-range, member-range, range-member}
 use Rattle.parts.specs.Owners.{ownersb}
 use Rattle.parts.specs.Held.{Entry, entriesOf}
 use Rattle.parts.specs.Merge.{merged, completeb}
 use Rattle.shares.specs.Settled.{Settled, entriesIn}
 use Rattle.shares.specs.Share.{Named, tableIn}
-use Rattle.base.specs.Distinct.{NoDup, place-of}
+use Rattle.base.specs.Distinct.{NoDup, no-more, place-of, mem-at}
 use Rattle.merging.specs.Merge.{Covers, merged-table}
 use Rattle.merging.specs.Complete.{masterPaths, complete-is}
 use Rattle.merging.specs.Covered.{covered, split-apart}
 use Rattle.merging.specs.All.{entriesAll, entries-cover, all-apart}
-use Rattle.merging.specs.Run.{nthPart, numberOf, named}
 
 -- Rule 15.12.
 pub record Order (P : ℕ) (l : List ℕ) : Type 0 where
-  pub count : length l ≡ P
-  pub within : (j : ℕ) → j < length l → (1 ≤ getD l j 0) × (getD l j 0 ≤ P)
-  pub every : (p : ℕ) → 1 ≤ p → p ≤ P → Member p l
+  pub these : (p : ℕ) → (Member p l → (1 ≤ p) × (p ≤ P)) × (1 ≤ p → p ≤ P → Member p l)
   pub once : NoDup l
+
+member-mem : (x : ℕ) (l : List ℕ) → Member x l → List·Memᴰ x l
+unfolding memberb
+member-mem x [] m = absurd m
+member-mem x (y ∷ l) m =
+    ⊎-elim (λ (e : x ≡ y). List·Memᴰ·head e) (λ (v : Member x l). List·Memᴰ·tail (member-mem x l v)) (member-cases x y l m)
+
+mem-member : (x : ℕ) (l : List ℕ) → List·Memᴰ x l → Member x l
+mem-member x [] m = absurd (List·Memᴰ·not-nil m)
+mem-member x (y ∷ l) m =
+    ⊎-elim (λ (e : x ≡ y). subst (λ (z : ℕ). Member x (z ∷ l)) e (member-head x l))
+    (λ (v : List·Memᴰ x l). member-tail x y l (mem-member x l v)) (List·Memᴰ·cases-cons m)
+
+range-apart : (k m : ℕ) → NoDup (range k m)
+unfolding range
+range-apart k zero = tt
+range-apart k (suc m) = (
+  (λ i. let (a, b) = member-range (suc k) m k (mem-member k (range (suc k) m) i) in absurd (omega arith)),
+  range-apart (suc k) m,
+)
+
+module _ (P : ℕ) (l : List ℕ) (o : Order P l) where
+  pub order-count : length l ≡ P
+  order-count =
+      let up = no-more l (range 1 P) (o .once) (λ x m.
+      let (a, b) = o .these x .0 (mem-member x l m) in
+      member-mem x (range 1 P) (range-member 1 P x a (omega arith))) in
+      let down = no-more (range 1 P) l (range-apart 1 P) (λ x m.
+      let (a, b) = member-range 1 P x (mem-member x (range 1 P) m) in
+      member-mem x l (o .these x .1 a (omega arith))) in
+      omega (arith, up, down, length-range 1 P)
+
+  pub order-within : (j : ℕ) → j < length l → (1 ≤ getD l j 0) × (getD l j 0 ≤ P)
+  order-within j h = o .these (getD l j 0) .0 (mem-member (getD l j 0) l (mem-at 0 l j h))
 
 pub record Joint (n : ℕ) (qs : List (List ℕ)) (ss : List ℕ) (P : ℕ) (es : ℕ → List Entry) : Type 0 where
   pub cover : (l : List ℕ) → Order P l → Covers n qs ss (flatMap es l)
@@ -50,15 +83,9 @@ module _ (n : ℕ) (qs : List (List ℕ)) (ss : List ℕ) (P : ℕ) (s : Sound n
   pub joint-old : (os : List ℕ) → T (ownersb n qs ss P os) → Joint n qs ss P (entriesOf n qs ss os)
   joint-old os t =
       record {
-        cover = λ l o. covered n qs ss s P os t l (o .every);
+        cover = λ l o. covered n qs ss s P os t l (λ p. o .these p .1);
         apart = λ l o. split-apart n qs ss s P os t l (o .once);
       }
-
-member-mem : (x : ℕ) (l : List ℕ) → Member x l → List·Memᴰ x l
-unfolding memberb
-member-mem x [] m = absurd m
-member-mem x (y ∷ l) m =
-    ⊎-elim (λ (e : x ≡ y). List·Memᴰ·head e) (λ (v : Member x l). List·Memᴰ·tail (member-mem x l v)) (member-cases x y l m)
 
 mem-map : {A : Type 0} (f : ℕ → A) (x : ℕ) {l : List ℕ} → List·Memᴰ x l → List·Memᴰ (f x) (map f l)
 mem-map f x (List·Memᴰ·head e) = List·Memᴰ·head (ap f e)
@@ -91,11 +118,11 @@ module _ {Part : Type 0} {F : Finite Part} (X : Settled F) (P : ℕ) (part : ℕ
   each-part : (l : List ℕ) → Order P l → (p : Part) → List·Memᴰ p (map part l)
   each-part l o p =
       subst (λ (x : Part). List·Memᴰ x (map part l)) (names .back p)
-      (mem-map part (number p) (member-mem (number p) l (o .every (number p) (least p) (most p))))
+      (mem-map part (number p) (member-mem (number p) l (o .these (number p) .1 (least p) (most p))))
 
   pub joint-new : Joint (X .n) (X .qs) (tableIn X) P entriesAt
   joint-new =
       record {
         cover = λ l o. rw (flat-all l) (entries-cover X (map part l) (each-part l o));
-        apart = λ l o. rw (flat-all l) (all-apart X (map part l) (named-once l (o .within) (o .once)));
+        apart = λ l o. rw (flat-all l) (all-apart X (map part l) (named-once l (order-within P l o) (o .once)));
       }

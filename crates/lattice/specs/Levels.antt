@@ -11,6 +11,7 @@ use native.Mathlib.Omega.{arith}
 use lib.Dec.{T, eqb, leb, eqb→eq, leb→le, ltb→lt}
 use lib.ListN.{length, getD, take, drop, length-map, List·getD-eq-default}
 use borrow.Author.Tests.{eqb-true}
+use Rattle.base.specs.Limits.{mostCells, mostLevels}
 use Rattle.base.specs.Lists.{allb, sameb}
 use Rattle.base.specs.Bools.{and-left, and-right}
 use Rattle.base.specs.Fours.{fours}
@@ -168,13 +169,14 @@ pub above-none : (n : ℕ) (ls : List Level) (i : ℕ) → length ls ≤ i → A
 above-none n ls i h = subst (λ (l : Level). All (IfRegular n i) (l .cells)) (sym (List·getD-eq-default ls noLevel h)) tt
 
 pub sound-levels : (n : ℕ) (qs : List (List ℕ)) (ss : List ℕ) → T (soundb n qs ss)
-    → (length (levelsOf n qs ss) ≤ 11) × T (allb closedb (levelsOf n qs ss))
+    → (length (levelsOf n qs ss) ≤ mostLevels) × T (allb closedb (levelsOf n qs ss))
 unfolding soundb
 sound-levels n qs ss t =
     let ls = levelsOf n qs ss in
     let m = length (cellsOf ls) in
-    let (few, closed) = parts (eqb (length ss) m) (leb (length ls) 11) (leb m 4096) (allb closedb ls) (apartb (cellsOf ls) ss) t in
-    (leb→le (length ls) 11 few, closed)
+    let (few, closed) = parts (eqb (length ss) m) (leb (length ls) mostLevels) (leb m mostCells) (allb closedb ls)
+    (apartb (cellsOf ls) ss) t in
+    (leb→le (length ls) mostLevels few, closed)
   where
     parts : (a b c d e : Bool) → T ((a && (b && c)) && (d && e)) → T b × T d
     parts a b c d e t = search (and-left, and-right)

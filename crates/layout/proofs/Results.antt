@@ -13,6 +13,7 @@ use lib.ListN.{length, take, drop}
 use lib.Seq.{length-take-le}
 use Rattle.base.specs.Bools.{is-true, and-left, and-right}
 use Rattle.base.specs.Fours.{fours}
+use Rattle.base.specs.Limits.{fullEnds, fullRows, fullSums, mostCells}
 use Rattle.base.specs.declared.Answer.the-variants.{Refused}
 use Rattle.mesh.specs.Coarse.{cornerCount}
 use Rattle.mesh.specs.Table.{soundb}
@@ -29,9 +30,9 @@ use Rattle.layout.specs.Calls.{lentb, layoutAnswer}
 use Rattle.layout.proofs.Numbering.{corner-count, ends, numbered}
 
 pub record Lent (table ends : List ℕ) (sums : List ℤ) : Type 0 where
-  pub long-table : 32768 ≤ length table
-  pub long-ends : 32768 ≤ length ends
-  pub long-sums : 49152 ≤ length sums
+  pub long-table : fullRows ≤ length table
+  pub long-ends : fullEnds ≤ length ends
+  pub long-sums : fullSums ≤ length sums
 
 pub layout-short : (ps : List ℤ) (ts ss table ends : List ℕ) (sums : List ℤ) → lentb table ends sums ≡ false
     → layoutAnswer ps ts ss table ends sums ≡ Refused 15
@@ -78,7 +79,7 @@ module _ (ps : List ℤ) (ts ss rows xs ys : List ℕ) (cells levels m : ℕ) (f
     pub in-xs : m ≤ length xs
     pub in-ys : m ≤ length ys
 
-  pub room-left : (rows₀ xs₀ ys₀ : List ℕ) → (length ss ≤ 4096 → TableRoom ss rows₀ xs₀ ys₀) → length rows ≡ length rows₀
+  pub room-left : (rows₀ xs₀ ys₀ : List ℕ) → (length ss ≤ mostCells → TableRoom ss rows₀ xs₀ ys₀) → length rows ≡ length rows₀
       → length xs ≡ length xs₀ → length ys ≡ length ys₀ → RoomLeft
   room-left rows₀ xs₀ ys₀ room er ex ey =
       let c = fits-counted in

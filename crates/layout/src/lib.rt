@@ -1,10 +1,14 @@
 // A status table over a coarse mesh, laid out: the rows of its cells, the ends and the sums of its corners.
+use base::FULL_ENDS;
+use base::FULL_ROWS;
+use base::FULL_SUMS;
 ghost use mathlib.Core.Path.{_≡_};
 ghost use mathlib.Core.Bool.{true};
 ghost use mathlib.Core.List.{_++_};
 ghost use Prim.Native.Nat.{_+_, _*_, _≤_};
 ghost use lib.ListN.{length, take, drop};
 ghost use Rattle.base.specs.Lent.{was, is};
+ghost use Rattle.base.specs.Limits.{fullEnds, fullRows, fullSums, mostCells, mostCoarseCorners};
 ghost use Rattle.base.specs.Refuse.{heldAfter};
 ghost use Rattle.mesh.specs.Layout.{cellTable, endTable, sumTable};
 ghost use Rattle.mesh.specs.Answers.{cellsIn, cornersIn};
@@ -29,13 +33,13 @@ pub enum Laid {
 fn lent(table: &[u16], ends: &[u16], sums: &[i32]) -> bool
     ensures { λ r. ⌜ r ≡ lentb (was table) (was ends) (was sums) ⌝ }
 {
-    if table.len() < 32768 {
+    if table.len() < FULL_ROWS {
         return false;
     }
-    if ends.len() < 32768 {
+    if ends.len() < FULL_ENDS {
         return false;
     }
-    sums.len() >= 49152
+    sums.len() >= FULL_SUMS
 }
 
 // Writes the rows of a table, the ends and the sums of its corners.
@@ -51,10 +55,10 @@ fn write_out(
     ends: &mut [u16],
     sums: &mut [i32],
 )
-    requires { ⌜ (cells ≤ 4096) × (m ≤ cells) × (n ≤ 512) × (3 * n ≤ length (now positions)) ⌝ }
+    requires { ⌜ (cells ≤ mostCells) × (m ≤ cells) × (n ≤ mostCoarseCorners) × (3 * n ≤ length (now positions)) ⌝ }
     requires { ⌜ Smalls 500000 (now positions) ⌝ }
     requires { ⌜ (8 * cells ≤ length (now rows)) × Ends n (now xs) (now ys) m ⌝ }
-    requires { ⌜ (32768 ≤ length (now table)) × (32768 ≤ length (now ends)) × (49152 ≤ length (now sums)) ⌝ }
+    requires { ⌜ (fullRows ≤ length (now table)) × (fullEnds ≤ length (now ends)) × (fullSums ≤ length (now sums)) ⌝ }
     ensures { λ r. ⌜ is table ≡ take (8 * cells) (was rows) ++ drop (8 * cells) (was table) ⌝ }
     ensures { λ r. ⌜ is ends ≡ endNumbers n (was xs) (was ys) m ++ drop (2 * (n + m)) (was ends) ⌝ }
     ensures { λ r. ⌜ is sums ≡ sumNumbers (was positions) n (was xs) (was ys) m ++ drop (3 * (n + m)) (was sums) ⌝ }
@@ -76,7 +80,7 @@ fn lay_out_in(
     ends: &mut [u16],
     sums: &mut [i32],
 ) -> Laid
-    requires { ⌜ (length (now status) ≤ 4096 → TableRoom (now status) (now rows) (now xs) (now ys)) ⌝ }
+    requires { ⌜ (length (now status) ≤ mostCells → TableRoom (now status) (now rows) (now xs) (now ys)) ⌝ }
     requires { ⌜ lentb (now table) (now ends) (now sums) ≡ true ⌝ }
     ensures { λ r. ⌜ LaysOut (was positions) (was cells) (was status) (was table) (was ends) (was sums) r (is table) (is ends) (is sums) ⌝ }
 {

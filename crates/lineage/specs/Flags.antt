@@ -14,6 +14,7 @@ use native.Mathlib.Omega.{arith}
 use lib.Dec.{T, eqb}
 use lib.ListN.{length, getD, List·getD-eq-default}
 use borrow.Author.Tests.{eqb-true, eqb-false}
+use Rattle.base.specs.Limits.{mostCells}
 use Rattle.base.specs.Lists.{anyb, filterb, sameb}
 use Rattle.base.specs.Bools.{is-true, and-left, either, not-both}
 use Rattle.base.specs.Places.{sameb-self, same-list}
@@ -38,7 +39,7 @@ pub record FlaggedLevel (fs ms : List ℕ) (ls : List Level) (l : Level) : Type 
   pub paths : Paths (l .cells)
   pub follows : (t : ℕ) → t < length (l .cells) → Follows (getD (l .cells) t noCell) (getD (l .statuses) t 0)
   pub flag : (t : ℕ) → t < length (l .cells) → getD fs (l .first + t) 0 ≡ flagOf (newRedAt ms ls l t)
-  pub small : length fs ≤ 4096
+  pub small : length fs ≤ mostCells
 
 -- the rows of a level
 abbrev pub noRow : Row
@@ -116,7 +117,7 @@ unfolding flagOf
 flag-red true = refl
 flag-red false = refl
 
-pub flag-none : (fs : List ℕ) → length fs ≤ 4096 → getD fs none 0 ≡ 0
+pub flag-none : (fs : List ℕ) → length fs ≤ mostCells → getD fs none 0 ≡ 0
 flag-none fs h = List·getD-eq-default fs 0 {n = none} (omega arith)
 
 -- by old numbers

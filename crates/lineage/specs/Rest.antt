@@ -11,6 +11,7 @@ use native.Mathlib.Omega.{arith}
 use lib.Dec.{T, eqb, leb, eqb→eq, leb→le}
 use lib.ListN.{length, getD, take, drop, length-append, length-drop, length-map, List·getD-append}
 use lib.Seq.{length-take-le, drop-drop, drop-at, take-add, take-take, getD-take, getD-drop}
+use Rattle.base.specs.Limits.{mostCells, mostLevels}
 use Rattle.base.specs.Lists.{allb}
 use Rattle.base.specs.Bools.{and-left, and-right}
 use Rattle.mesh.specs.Cells.{Cell, noCell}
@@ -33,11 +34,11 @@ pub record Rest (m : ℕ) (ss fs ms : List ℕ) (h k : ℕ) (cs : List (Cell Poi
   pub paths : Paths cs
   pub closed : T (allb closedb (levels h k cs rs))
   pub count : k + length (cellsOf (levels h k cs rs)) ≡ length ss
-  pub few : length ss ≤ 4096
+  pub few : length ss ≤ mostCells
   pub high : length (levels h k cs rs) < h
   pub first : m + sizes (take k ss) ≡ k + length cs
   pub flagged : drop k fs ≡ flatten (flags (levels h k cs rs) ms)
-  pub small : length fs ≤ 4096
+  pub small : length fs ≤ mostCells
 
 -- at most one flag for each cell
 length-rows-few : (k : ℕ) (cs : List (Cell Point)) (ss ms : List ℕ) → length (rowsFrom k cs ss ms) ≤ length cs
@@ -69,18 +70,18 @@ length-flags (l ∷ ls) ms =
 
 -- the coarse level
 module _ (n : ℕ) (qs : List (List ℕ)) (ss ms : List ℕ) (t : T (soundb n qs ss)) where
-  sound-count : (length ss ≡ length (cellsOf (levelsOf n qs ss))) × (length (cellsOf (levelsOf n qs ss)) ≤ 4096)
+  sound-count : (length ss ≡ length (cellsOf (levelsOf n qs ss))) × (length (cellsOf (levelsOf n qs ss)) ≤ mostCells)
   unfolding soundb
   sound-count =
       let ls = levelsOf n qs ss in
       let m = length (cellsOf ls) in
-      let (a, b) = parts (eqb (length ss) m) (leb (length ls) 11) (leb m 4096) (allb closedb ls && apartb (cellsOf ls) ss) t in
-      (eqb→eq (length ss) m a, leb→le m 4096 b)
+      let (a, b) = parts (eqb (length ss) m) (leb (length ls) mostLevels) (leb m mostCells) (allb closedb ls && apartb (cellsOf ls) ss) t in
+      (eqb→eq (length ss) m a, leb→le m mostCells b)
     where
       parts : (a b c d : Bool) → T ((a && (b && c)) && d) → T a × T c
       parts a b c d t = search (and-left, and-right)
 
-  flags-few : length (flagTable n qs ss ms) ≤ 4096
+  flags-few : length (flagTable n qs ss ms) ≤ mostCells
   unfolding flagTable
   flags-few = let (a, b) = sound-count in omega (arith, length-flags (levelsOf n qs ss) ms)
 

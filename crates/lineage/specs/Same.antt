@@ -17,6 +17,7 @@ use lib.Dec.{T}
 use lib.ListN.{length, getD, take, length-append, length-map, List·getD-eq-default}
 use borrow.Author.Tests.{eqb-true}
 use Rattle.base.specs.Bools.{is-true, either, not-both}
+use Rattle.base.specs.Limits.{mostCells}
 use Rattle.cutting.specs.Rule.{low, high, family}
 use Rattle.mesh.specs.Cells.{Cell, none, redb, patternOf, children, noCell}
 use Rattle.mesh.specs.Weights.{Point, point, mid}
@@ -58,7 +59,7 @@ pub record Up (m : ℕ) (ss : List ℕ) (l u : Level) : Type 0 where
   pub reds : (t : ℕ) → t < length (l .cells) → getD (l .statuses) t 0 ≡ 64 → T (getD (l .cells) t noCell .regular)
   pub status : (t : ℕ) → t < length (l .cells) → getD ss (l .first + t) 0 ≡ getD (l .statuses) t 0
   pub child : (t : ℕ) → t < length (l .cells) → firstChild m ss (l .first + t) ≡ u .first + sizes (take t (l .statuses))
-  pub small : length ss ≤ 4096
+  pub small : length ss ≤ mostCells
   pub cells : u .cells ≡ next (l .first) (l .cells) (l .statuses)
 
 -- cells with their numbers

@@ -11,6 +11,7 @@ use Prim.Native.Nat.{ℕ, zero, suc, _+_, _≤_, _<_}
 use native.Mathlib.Omega.{arith}
 use lib.Dec.{T}
 use lib.ListN.{length, getD, take, drop}
+use Rattle.base.specs.Limits.{mostCells}
 use Rattle.base.specs.Lists.{anyb, sameb}
 use Rattle.base.specs.Bools.{one-if}
 use Rattle.mesh.specs.Cells.{Cell, redb, edges, heldb, bitsOf, pattern, redEdges, statusOf, noCell}
@@ -124,7 +125,7 @@ unfolding growBy
 grow-nothing m ss fs zero k os = refl
 grow-nothing m ss fs (suc h) k os = refl
 
-module _ (m : ℕ) (ss fs ms : List ℕ) (small : length fs ≤ 4096) where
+module _ (m : ℕ) (ss fs ms : List ℕ) (small : length fs ≤ mostCells) where
   -- no old cells: no old number
   pub dark-empty : (l : Level) → l .cells ≡ [] → (c : Cell Point) (o : ℕ) → Old l c o → redb (getD fs o 0) ≡ false
   dark-empty l z c o (inl (t, e, r, is)) = absurd (omega (arith, is .below, ap length z))

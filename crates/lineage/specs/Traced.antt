@@ -11,6 +11,7 @@ use lib.Dec.{T}
 use lib.ListN.{length, getD, take, drop}
 use borrow.Author.Tests.{ne-eqb}
 use Rattle.base.specs.Bools.{is-true}
+use Rattle.base.specs.Limits.{mostCells}
 use Rattle.base.specs.Lists.{sameb}
 use Rattle.mesh.specs.Cells.{Cell, redb, pattern, redEdges, statusOf, noCell}
 use Rattle.mesh.specs.Weights.{Point}
@@ -61,7 +62,7 @@ red-status fs cs os e i h t =
     ∙ status-redb (redEdges [] cs (redsBy fs os)) (redb (getD (redsBy fs os) i 0)) (getD cs i noCell) t ∙ reds-at fs os i (omega arith)
 
 -- each level
-flagged-none : (fs ms : List ℕ) (ls : List Level) → length fs ≤ 4096 → FlaggedLevel fs ms ls noLevel
+flagged-none : (fs ms : List ℕ) (ls : List Level) → length fs ≤ mostCells → FlaggedLevel fs ms ls noLevel
 flagged-none fs ms ls h =
     record {
       known = refl;
@@ -116,7 +117,7 @@ module _ (m : ℕ) (ss fs ms : List ℕ) where
   old-empty l z c o (inl (t, e, r, is)) = absurd (omega (arith, is .below, ap length z))
   old-empty l z c o (inr (e, f)) = inr (e, λ r t h. absurd (omega arith))
 
-  traced-top : length fs ≤ 4096 → (h : ℕ) (l : Level) → l .cells ≡ [] → (k : ℕ) (ds : List (Cell Point)) (os : List ℕ)
+  traced-top : length fs ≤ mostCells → (h : ℕ) (l : Level) → l .cells ≡ [] → (k : ℕ) (ds : List (Cell Point)) (os : List ℕ)
       → length os ≡ length ds → Both (Old l) ds os
       → (j : ℕ) → Traced fs noLevel (getD (growLevels m ss fs (suc h) k ds os) j noLevel)
   unfolding growLevels

@@ -7,6 +7,7 @@ use Prim.Native.Nat.{ℕ, zero, suc, _+_, _*_, _/_, _%_, _≤_}
 use native.Mathlib.Omega.{arith}
 use lib.Dec.{ltb}
 use lib.ListN.{length, length-append}
+use Rattle.base.specs.Limits.{fullCounts}
 use Rattle.listing.specs.Lines.{digits, decimal, fields, lines, header, listing, refusal}
 
 pub length-digits : (f n : ℕ) → length (digits f n) ≤ f + 1
@@ -38,7 +39,7 @@ length-lines i (a ∷ b ∷ c ∷ []) = omega arith
 length-lines i (a ∷ b ∷ c ∷ d ∷ cs) =
     rw (length-append (fields (i ∷ a ∷ b ∷ c ∷ d ∷ [])) (lines (suc i) cs)) (omega (arith, length-line i a b c d, length-lines (suc i) cs))
 
-pub listing-fits : (cs : List ℕ) → length cs ≤ 44 → length (listing cs) ≤ 512
+pub listing-fits : (cs : List ℕ) → length cs ≤ fullCounts → length (listing cs) ≤ 512
 unfolding listing
 listing-fits cs h = rw (length-append header (lines 0 cs)) (omega (arith, length-lines 0 cs))
 

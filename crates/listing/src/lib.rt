@@ -4,6 +4,7 @@ ghost use mathlib.Core.List.{[], _∷_, _++_};
 ghost use Prim.Native.Nat.{_+_, _*_, _%_, _≤_, _<_};
 ghost use lib.ListN.{length, drop};
 ghost use Rattle.base.specs.Lent.{was, is};
+ghost use Rattle.base.specs.Limits.{fullCounts};
 ghost use Rattle.listing.specs.Lines.{digits, decimal, fields, lines, listing, refusal};
 ghost use Rattle.listing.specs.Put.{Put};
 
@@ -88,7 +89,7 @@ fn put_line(
 
 // A line for each level.
 fn put_lines(out: &mut [u8], at: usize, counts: &[u16]) -> usize
-    requires { ⌜ (length (now counts) ≤ 44) × (at + 8 * length (now counts) ≤ length (now out)) ⌝ }
+    requires { ⌜ (length (now counts) ≤ fullCounts) × (at + 8 * length (now counts) ≤ length (now out)) ⌝ }
     ensures { λ r. ⌜ Put (was out) at (lines 0 (was counts)) (is out) r ⌝ }
 {
     let mut level = 0;
@@ -111,7 +112,7 @@ fn put_lines(out: &mut [u8], at: usize, counts: &[u16]) -> usize
 
 // The listing of the counts, four a level.
 pub fn write_listing(counts: &[u16], out: &mut [u8]) -> usize
-    requires { ⌜ length (now counts) ≤ 44 ⌝ }
+    requires { ⌜ length (now counts) ≤ fullCounts ⌝ }
     requires { ⌜ 512 ≤ length (now out) ⌝ }
     ensures { λ r. ⌜ is out ≡ listing (was counts) ++ drop (length (listing (was counts))) (was out) ⌝ }
     ensures { λ r. ⌜ r ≡ length (listing (was counts)) ⌝ }

@@ -1,22 +1,35 @@
 // The calls that carry messages between parts: fetch, and hand over.
 use base::Answer;
+use base::MOST_CELLS;
+use base::MOST_LEVELS;
+use base::MOST_SLOTS;
+use base::TOO_MANY;
 use store::BIT;
 use store::CELLS;
+use store::CELLS_MOST;
 use store::COARSE;
+use store::COARSE_MOST;
 use store::CODE;
 use store::CORNERS;
+use store::CORNERS_MOST;
+use store::COUNT_CODE;
 use store::CURSOR;
+use store::END_CODE;
 use store::ENDED;
 use store::ENTRIES;
+use store::ENTRIES_MOST;
 use store::FULL;
 use store::Fetched;
 use store::GIVEN;
 use store::HIGH;
 use store::HOLDERS;
 use store::LEVELS;
+use store::LEVELS_MOST;
+use store::MOST_ENTRIES;
 use store::OWNER;
 use store::PART;
 use store::PARTS;
+use store::PARTS_MOST;
 use store::RECEIVERS;
 use store::RED;
 use store::RESULT;
@@ -26,6 +39,8 @@ use store::SUM;
 use store::Spot;
 use store::TAKEN;
 use store::TOTAL;
+use store::TOTAL_MOST;
+use store::TOTALS_CODE;
 use store::VALUE;
 use store::WRITTEN;
 ghost use mathlib.Core.Path.{_≡_};
@@ -34,12 +49,16 @@ ghost use Prim.Native.Nat.{_+_, _-_, _*_, _≤_, _<_, min, max};
 ghost use lib.ListN.{length};
 ghost use lib.Seq.{sets};
 ghost use Rattle.base.specs.Lent.{was, is};
-ghost use Rattle.store.specs.Fields.{field, full};
+ghost use Rattle.base.specs.Limits.{mostCells, tooMany};
+ghost use Rattle.store.specs.Fields.{field, full, CELLS, PART, mostEntries};
 ghost use Rattle.store.specs.Header.{stageb, headerb};
 ghost use Rattle.store.specs.Message.{two, kindOf, bodyOf, messageOf};
 ghost use Rattle.store.specs.Fetch.{entryCount, bitFrom, nextToGive, given, passedBy, spotAt, fetchAnswer, fetchBytes, fetchAfter};
 ghost use Rattle.store.specs.Hand.{numberAt, lengthOf, shapeb, routeb, ghostMarkb, edgeCountb, cellTotalb, contentb, wellb, handAnswer};
 ghost use Rattle.store.specs.Hand.{Ranges, absorbed, counted, handAfter};
+
+// The most that a message may say of the top level.
+const HIGH_MOST: u8 = MOST_LEVELS as u8;
 
 // Whether the stage fits the round and the result.
 fn stage_fits(store: &[u16]) -> bool
@@ -85,7 +104,7 @@ pub fn header_fits(store: &[u16]) -> bool
     if store[PARTS] < 1 {
         return false;
     }
-    if store[PARTS] > 16 {
+    if store[PARTS] > PARTS_MOST {
         return false;
     }
     if store[PART] < 1 {
@@ -97,28 +116,28 @@ pub fn header_fits(store: &[u16]) -> bool
     if store[CORNERS] < 4 {
         return false;
     }
-    if store[CORNERS] > 512 {
+    if store[CORNERS] > CORNERS_MOST {
         return false;
     }
     if store[COARSE] < 1 {
         return false;
     }
-    if store[COARSE] > 256 {
+    if store[COARSE] > COARSE_MOST {
         return false;
     }
     if store[COARSE] > store[CELLS] {
         return false;
     }
-    if store[CELLS] > 4096 {
+    if store[CELLS] > CELLS_MOST {
         return false;
     }
     if store[LEVELS] < 1 {
         return false;
     }
-    if store[LEVELS] > 11 {
+    if store[LEVELS] > LEVELS_MOST {
         return false;
     }
-    if store[ENTRIES] > 4096 {
+    if store[ENTRIES] > ENTRIES_MOST {
         return false;
     }
     stage_fits(store)
@@ -142,10 +161,10 @@ fn bit_from(mask: usize, from: usize) -> usize
 // How many messages are written.
 fn entries(store: &[u16]) -> usize
     requires { ⌜ full ≤ length (now store) ⌝ }
-    ensures { λ r. ⌜ (r ≡ entryCount (was store)) × (r ≤ 28696) ⌝ }
+    ensures { λ r. ⌜ (r ≡ entryCount (was store)) × (r ≤ mostEntries) ⌝ }
 {
     let n = store[WRITTEN] as usize;
-    if n < 28696 { n } else { 28696 }
+    if n < MOST_ENTRIES { n } else { MOST_ENTRIES }
 }
 
 // The next message to give.
@@ -183,13 +202,13 @@ fn put_two(out: &mut [u8], at: usize, x: usize)
 fn kind_of(code: usize) -> u8
     ensures { λ r. ⌜ r ≡ kindOf code ⌝ }
 {
-    if code < 4096 {
+    if code < COUNT_CODE {
         return 1;
     }
-    if code < 28672 {
+    if code < TOTALS_CODE {
         return 2;
     }
-    if code < 28928 { 3 } else { 4 }
+    if code < END_CODE { 3 } else { 4 }
 }
 
 // Stores what stands behind a message's heading, and gives the message's length.
@@ -197,19 +216,19 @@ fn put_body(out: &mut [u8], code: usize, value: usize) -> usize
     requires { ⌜ (9 ≤ length (now out)) × (value < 65536) ⌝ }
     ensures { λ r. ⌜ (r ≡ 5 + length (bodyOf code value)) × (is out ≡ sets (was out) 5 (bodyOf code value)) ⌝ }
 {
-    if code < 4096 {
+    if code < COUNT_CODE {
         put_two(out, 5, code);
         out[7] = (value % 256) as u8;
         return 8;
     }
-    if code < 28672 {
-        put_two(out, 5, code - 4096);
+    if code < TOTALS_CODE {
+        put_two(out, 5, code - COUNT_CODE);
         put_two(out, 7, value);
         return 9;
     }
-    if code < 28928 {
+    if code < END_CODE {
         put_two(out, 5, value);
-        out[7] = (code - 28672) as u8;
+        out[7] = (code - TOTALS_CODE) as u8;
         return 8;
     }
     5
@@ -230,7 +249,7 @@ fn put_message(out: &mut [u8], from: u8, to: u8, count: usize, code: usize, valu
 
 // Stores the message that an entry is for a receiver, and moves the cursor behind it.
 fn give(store: &mut [u16], out: &mut [u8], j: usize, b: usize) -> usize
-    requires { ⌜ (full ≤ length (now store)) × (9 ≤ length (now out)) × (field (now store) 1 < 256) × (j < 28696) × (b < 16) ⌝ }
+    requires { ⌜ (full ≤ length (now store)) × (9 ≤ length (now out)) × (field (now store) PART < 256) × (j < mostEntries) × (b < 16) ⌝ }
     ensures { λ r. ⌜ (r ≡ length (given (was store) (spotAt j b)))
         × (is out ≡ sets (was out) 0 (given (was store) (spotAt j b))) ⌝ }
     ensures { λ r. ⌜ is store ≡ passedBy (was store) (spotAt j b) ⌝ }
@@ -328,7 +347,7 @@ fn route_fits(store: &[u16], bytes: &[u8]) -> bool
 
 // Whether the part holds the cell, and the mark is 0 or 1.
 fn mark_fits(store: &[u16], bytes: &[u8]) -> bool
-    requires { ⌜ (full ≤ length (now store)) × (8 ≤ length (now bytes)) × (field (now store) 5 ≤ 4096) ⌝ }
+    requires { ⌜ (full ≤ length (now store)) × (8 ≤ length (now bytes)) × (field (now store) CELLS ≤ mostCells) ⌝ }
     ensures { λ r. ⌜ r ≡ ghostMarkb (was store) (was bytes) ⌝ }
 {
     let cell = number(bytes, 5);
@@ -347,7 +366,7 @@ fn count_fits(store: &[u16], bytes: &[u8]) -> bool
     ensures { λ r. ⌜ r ≡ edgeCountb (was store) (was bytes) ⌝ }
 {
     let slot = number(bytes, 5);
-    if slot >= 24576 {
+    if slot >= MOST_SLOTS {
         return false;
     }
     if store[HOLDERS + slot] == 0 {
@@ -357,7 +376,7 @@ fn count_fits(store: &[u16], bytes: &[u8]) -> bool
     if count < 1 {
         return false;
     }
-    count <= 4096
+    count <= MOST_CELLS
 }
 
 // Whether the totals lie in their ranges.
@@ -365,15 +384,15 @@ fn total_fits(bytes: &[u8]) -> bool
     requires { ⌜ 8 ≤ length (now bytes) ⌝ }
     ensures { λ r. ⌜ r ≡ cellTotalb (was bytes) ⌝ }
 {
-    if number(bytes, 5) > 4097 {
+    if number(bytes, 5) > TOO_MANY {
         return false;
     }
-    bytes[7] <= 11
+    bytes[7] <= HIGH_MOST
 }
 
 // Whether what stands behind a heading fits.
 fn content_fits(store: &[u16], bytes: &[u8]) -> bool
-    requires { ⌜ (full ≤ length (now store)) × (shapeb (now bytes) ≡ true) × (field (now store) 5 ≤ 4096) ⌝ }
+    requires { ⌜ (full ≤ length (now store)) × (shapeb (now bytes) ≡ true) × (field (now store) CELLS ≤ mostCells) ⌝ }
     ensures { λ r. ⌜ r ≡ contentb (was store) (was bytes) ⌝ }
 {
     let kind = bytes[0];
@@ -391,7 +410,7 @@ fn content_fits(store: &[u16], bytes: &[u8]) -> bool
 
 // Whether a message is one for this store.
 fn is_well(store: &[u16], bytes: &[u8]) -> bool
-    requires { ⌜ (full ≤ length (now store)) × (field (now store) 5 ≤ 4096) ⌝ }
+    requires { ⌜ (full ≤ length (now store)) × (field (now store) CELLS ≤ mostCells) ⌝ }
     ensures { λ r. ⌜ r ≡ wellb (was store) (was bytes) ⌝ }
 {
     if !shape_fits(bytes) {
@@ -405,9 +424,9 @@ fn is_well(store: &[u16], bytes: &[u8]) -> bool
 
 // A total, cut at 4,097.
 fn cut_total(n: usize) -> u16
-    ensures { λ r. ⌜ r ≡ min n 4097 ⌝ }
+    ensures { λ r. ⌜ r ≡ min n tooMany ⌝ }
 {
-    if n < 4097 { n as u16 } else { 4097 }
+    if n < TOO_MANY { n as u16 } else { TOTAL_MOST }
 }
 
 // The larger of two levels.

@@ -10,6 +10,7 @@ use lib.Seq.{length-take-le}
 use borrow.Author.Tests.{eq-eqb, le-leb, lt-leb}
 use Rattle.base.specs.Bools.{and-right, and-both, is-true, not-both}
 use Rattle.base.specs.Fours.{fours}
+use Rattle.base.specs.Limits.{fullCoarse, mostCells, mostCoarseCells, mostCoarseCorners, mostParts}
 use Rattle.base.specs.Lists.{allb}
 use Rattle.base.specs.Refuse.{refuse, heldAfter}
 use Rattle.base.specs.declared.Answer.the-variants.{Refused}
@@ -33,11 +34,11 @@ use Rattle.merge.specs.declared.Merged.the-variants as done
 
 -- tables of zeros, with no entry
 pub begun-fresh : (heads : List ℕ) → Clear heads
-    → Begun (replicate 4096 0) (replicate 4096 0) heads (replicate 4096 0) (replicate 4096 0) 0
+    → Begun (replicate mostCells 0) (replicate mostCells 0) heads (replicate mostCells 0) (replicate mostCells 0) 0
 begun-fresh heads c =
-    let l : length {A = ℕ} (replicate 4096 0) ≡ 4096 = length-replicate {A = ℕ} 4096 0 in
+    let l : length {A = ℕ} (replicate mostCells 0) ≡ mostCells = length-replicate {A = ℕ} mostCells 0 in
     record {
-      keys = c .empty (replicate 4096 0) (replicate 4096 0) (replicate 4096 0);
+      keys = c .empty (replicate mostCells 0) (replicate mostCells 0) (replicate mostCells 0);
       few = omega arith;
       in-xs = l;
       in-ys = l;
@@ -57,7 +58,7 @@ module _ (b : List ℕ) (P m : ℕ) (xs ys sts xs′ ys′ heads′ links′ sts
       eqb→eq (length (masters es)) (length (flatten (merged es m)))
       (and-right (filledb 12 es (coarsePaths m)) (eqb (length (masters es)) (length (flatten (merged es m)))) t)
 
-  pub assembled-many : 4096 < n → (st : List ℕ) → Assembled b P m st 65535
+  pub assembled-many : mostCells < n → (st : List ℕ) → Assembled b P m st 65535
   assembled-many h st =
       record {
         failed = λ z k qs u v.
@@ -68,7 +69,7 @@ module _ (b : List ℕ) (P m : ℕ) (xs ys sts xs′ ys′ heads′ links′ sts
         complete = λ z. absurd (z refl);
       }
 
-  module _ (few : n ≤ 4096) (st : List ℕ) (r : ℕ) (g : Built xs′ ys′ sts′ n m st r) where
+  module _ (few : n ≤ mostCells) (st : List ℕ) (r : ℕ) (g : Built xs′ ys′ sts′ n m st r) where
     all-loaded : MasterKeys es xs′ ys′ sts′ n
     all-loaded = rw (append-nil es) at (f .loaded few [] (loaded-none xs ys sts))
 
@@ -111,8 +112,9 @@ module _ (b : List ℕ) (P m : ℕ) (xs ys sts xs′ ys′ heads′ links′ sts
           }
 
 -- the table is examined
-module _ (mesh : List ℕ) (m n : ℕ) (st : List ℕ) (r : ℕ) (long : length mesh ≡ 1024) (wide : length st ≡ 4096) (few : m ≤ 256)
-    (room : r ≤ 4096)
+module _ (mesh : List ℕ) (m n : ℕ) (st : List ℕ) (r : ℕ) (long : length mesh ≡ fullCoarse) (wide : length st ≡ mostCells)
+    (few : m ≤ mostCoarseCells)
+    (room : r ≤ mostCells)
   where
     pub mesh-in : 4 * m ≡ length (take (4 * m) mesh)
     mesh-in = sym (length-take-le (4 * m) mesh (omega arith))
@@ -120,7 +122,7 @@ module _ (mesh : List ℕ) (m n : ℕ) (st : List ℕ) (r : ℕ) (long : length 
     pub table-in : r ≡ length (take r st)
     table-in = sym (length-take-le r st (omega arith))
 
-    pub mesh-fits : 1 ≤ m → n ≤ 512 → T (cellsb n (fours (take (4 * m) mesh))) → Mesh n (take (4 * m) mesh)
+    pub mesh-fits : 1 ≤ m → n ≤ mostCoarseCorners → T (cellsb n (fours (take (4 * m) mesh))) → Mesh n (take (4 * m) mesh)
     mesh-fits h g t =
         record {
           whole = omega (arith, mesh-in);
@@ -172,19 +174,24 @@ module _ (b t : List ℕ) where
   unfolding mergedOf heldAfter
   refused-by k e = record { answer = rw e; after = rw e }
 
-  pub merge-short : length b < 16 * full → Answered (done.Refused 15) t
+  pub merge-short : length b < mostParts * full → Answered (done.Refused 15) t
   unfolding mergeAnswer refuse
-  merge-short h = refused-by 15 (rw (lt-leb (16 * full) (length b) h))
+  merge-short h = refused-by 15 (rw (lt-leb (mostParts * full) (length b) h))
 
-  pub merge-narrow : 16 * full ≤ length b → length t < 4096 → Answered (done.Refused 15) t
+  pub merge-narrow : mostParts * full ≤ length b → length t < mostCells → Answered (done.Refused 15) t
   unfolding mergeAnswer refuse
-  merge-narrow h g = refused-by 15 (rw (le-leb (16 * full) (length b) h, lt-leb 4096 (length t) g))
+  merge-narrow h g = refused-by 15 (rw (le-leb (mostParts * full) (length b) h, lt-leb mostCells (length t) g))
 
-  module _ (h : 16 * full ≤ length b) (g : 4096 ≤ length t) where
+  module _ (h : mostParts * full ≤ length b) (g : mostCells ≤ length t) where
     not-merge : (Merges b → ⊥) → Answered (done.Refused 16) t
     unfolding mergeAnswer refuse
     not-merge d =
-        refused-by 16 (rw (le-leb (16 * full) (length b) h, le-leb 4096 (length t) g, ← bool-false (mergeb b) (λ u. d (merges-is b u))))
+        refused-by 16 (rw (
+          le-leb (mostParts * full) (length b) h,
+          le-leb mostCells (length t) g,
+          ← bool-false (mergeb b)
+              (λ u. d (merges-is b u)),
+        ))
 
     pub merge-header : headerb b ≡ false → Answered (done.Refused 16) t
     merge-header e = not-merge (λ s. not-both (headerb b) (is-true (headerb b) (s .header)) e)

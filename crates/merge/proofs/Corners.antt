@@ -11,6 +11,7 @@ use borrow.Author.Tests.{lt-ltb, le-ltb}
 use Rattle.base.specs.Bools.{is-true, not-both, and-both}
 use Rattle.base.specs.Every.{getD-map}
 use Rattle.base.specs.Fours.{fours}
+use Rattle.base.specs.Limits.{fullCoarse, mostCoarseCells, mostParts}
 use Rattle.base.specs.Lists.{allb, anyb, allb-at}
 use Rattle.base.specs.Range.{range, length-range, range-at, range-snoc}
 use Rattle.base.specs.Append.{allb-append}
@@ -36,7 +37,7 @@ four-at l k h =
       drop-cons l (suc (suc (suc k))) 0 (omega arith),
     )
 
-pub corners-put : (b mesh : List ℕ) (j i : ℕ) → 16 * full ≤ length b → j < 16 → i < 256
+pub corners-put : (b mesh : List ℕ) (j i : ℕ) → mostParts * full ≤ length b → j < mostParts → i < mostCoarseCells
     → set (set (set (set mesh (4 * i) (getD b (full * j + (CORNER + 4 * i)) 0)) (4 * i + 1) (getD b (full * j + (CORNER + 4 * i) + 1) 0))
     (4 * i + 2) (getD b (full * j + (CORNER + 4 * i) + 2) 0)) (4 * i + 3) (getD b (full * j + (CORNER + 4 * i) + 3) 0)
     ≡ sets mesh (4 * i) (take 4 (drop (CORNER + 4 * i) (storeIn b j)))
@@ -53,7 +54,7 @@ corners-put b mesh j i h g f =
     (sym (ap (sets mesh (4 * i)) (four-at (storeIn b j) k (omega (arith, store-long b j h g)))))
 
 -- a cell's corners
-module _ (n i : ℕ) (mesh : List ℕ) (h : i < 256) (g : length mesh ≡ 1024) where
+module _ (n i : ℕ) (mesh : List ℕ) (h : i < mostCoarseCells) (g : length mesh ≡ fullCoarse) where
   abbrev a : ℕ
   a = getD mesh (4 * i) 0
 
@@ -109,12 +110,12 @@ module _ (b : List ℕ) (P n m : ℕ) where
 
   pub record Gathering (mesh : List ℕ) (i : ℕ) : Type 0 where
     pub few : i ≤ m
-    pub long : length mesh ≡ 1024
+    pub long : length mesh ≡ fullCoarse
     pub owned : T (allb ownedb (range 0 i))
     pub cells : T (allb (cellb n) (map (cornersAmong xs) (range 0 i)))
     pub mesh-is : fours (take (4 * i) mesh) ≡ map (cornersAmong xs) (range 0 i)
 
-  pub gathering-start : (mesh : List ℕ) → length mesh ≡ 1024 → Gathering mesh 0
+  pub gathering-start : (mesh : List ℕ) → length mesh ≡ fullCoarse → Gathering mesh 0
   unfolding allb range fours
   gathering-start mesh h = record { few = omega arith; long = h; owned = tt; cells = tt; mesh-is = refl }
 
@@ -132,7 +133,8 @@ module _ (b : List ℕ) (P n m : ℕ) where
         long = λ z. not-both false z refl;
       }
 
-  module _ (mesh mesh′ : List ℕ) (i j : ℕ) (s : Gathering mesh i) (h : i < m) (few : m ≤ 256) (room : 16 * full ≤ length b) (parts : P ≤ 16)
+  module _ (mesh mesh′ : List ℕ) (i j : ℕ) (s : Gathering mesh i) (h : i < m) (few : m ≤ mostCoarseCells)
+      (room : mostParts * full ≤ length b) (parts : P ≤ mostParts)
       (below : j < P) (o : OwnedAt b P i j) (e : mesh′ ≡ sets mesh (4 * i) (take 4 (drop (CORNER + 4 * i) (storeIn b j)))) where
     abbrev q : List ℕ
     q = take 4 (drop (CORNER + 4 * i) (storeIn b j))

@@ -4,6 +4,7 @@ use mathlib.Core.List.{List, [], _∷_, _++_, map, flatMap}
 use Prim.Native.Nat.{ℕ, zero, suc, _+_, _-_, _≤_, _<_}
 use native.Mathlib.Omega.{arith}
 use lib.ListN.{length}
+use Rattle.base.specs.Limits.{mostCells}
 use Rattle.base.specs.Range.{range}
 use Rattle.parts.specs.Held.{Entry}
 use Rattle.store.specs.Fields.{field, ENTRIES}
@@ -55,13 +56,13 @@ module _ (xs ys heads links sts : List ℕ) (n : ℕ) where
   storing-none b x k = rw (stores-none x k) (load-start xs ys heads links sts n b)
 
   module _ (us vs hs ks ts : List ℕ) (m : ℕ) (us′ vs′ hs′ ks′ ts′ : List ℕ) (r : ℕ) where
-    pub loading-on : (x : List ℕ) (i j k : ℕ) → i ≡ suc j → i ≤ k → After (entriesFrom x i k) us vs hs ks ts m → m ≤ 4096
+    pub loading-on : (x : List ℕ) (i j k : ℕ) → i ≡ suc j → i ≤ k → After (entriesFrom x i k) us vs hs ks ts m → m ≤ mostCells
         → Load (entryIn x j ∷ []) us vs ts m us′ vs′ hs′ ks′ ts′ r → After (entriesFrom x j k) us′ vs′ hs′ ks′ ts′ r
     loading-on x i j k q h f few g =
         let w = load-more (entriesFrom x i k) (entryIn x j ∷ []) xs ys sts n us vs hs ks ts m f few us′ vs′ hs′ ks′ ts′ r g in
         rw (entries-more x j k (omega arith)) (rw q at w)
 
-    pub storing-on : (b : List ℕ) (i j k : ℕ) → i ≡ suc j → i ≤ k → After (storesFrom b i k) us vs hs ks ts m → m ≤ 4096
+    pub storing-on : (b : List ℕ) (i j k : ℕ) → i ≡ suc j → i ≤ k → After (storesFrom b i k) us vs hs ks ts m → m ≤ mostCells
         → (s : List ℕ) → s ≡ storeIn b j → Load (heldIn s) us vs ts m us′ vs′ hs′ ks′ ts′ r → After (storesFrom b j k) us′ vs′ hs′ ks′ ts′ r
     storing-on b i j k q h f few s e g =
         let w = load-more (storesFrom b i k) (heldIn s) xs ys sts n us vs hs ks ts m f few us′ vs′ hs′ ks′ ts′ r g in
@@ -97,7 +98,8 @@ module _ (xs ys heads links sts : List ℕ) (n : ℕ) where
           masters-append (heldIn (storeIn b j)) (storesFrom b (suc j) k),
         )
 
-    too-many : (ds es : List Entry) → 4096 < r → length (masters ds) ≤ length (masters es) → After ds us vs hs ks ts r → After es us vs hs
+    too-many : (ds es : List Entry) → mostCells < r → length (masters ds) ≤ length (masters es) → After ds us vs hs ks ts r
+        → After es us vs hs
         ks ts r
     too-many ds es h g f =
         record {
@@ -107,17 +109,17 @@ module _ (xs ys heads links sts : List ℕ) (n : ℕ) where
           loaded = λ z. absurd (omega arith);
         }
 
-    pub loading-full : (x : List ℕ) (j k : ℕ) → k ≡ field x ENTRIES → j ≤ k → 4096 < r → After (entriesFrom x j k) us vs hs ks ts r
+    pub loading-full : (x : List ℕ) (j k : ℕ) → k ≡ field x ENTRIES → j ≤ k → mostCells < r → After (entriesFrom x j k) us vs hs ks ts r
         → After (heldIn x) us vs hs ks ts r
     loading-full x j k q h g f =
         too-many (entriesFrom x j k) (heldIn x) g
         (let w = fewer x j k h in let e : entriesFrom x 0 k ≡ heldIn x = rw (← q) at (entries-all x) in rw e at w) f
 
-    pub storing-full : (b : List ℕ) (j k : ℕ) → j ≤ k → 4096 < r → After (storesFrom b j k) us vs hs ks ts r
+    pub storing-full : (b : List ℕ) (j k : ℕ) → j ≤ k → mostCells < r → After (storesFrom b j k) us vs hs ks ts r
         → After (entriesBy b k) us vs hs ks ts r
     storing-full b j k h g f =
         too-many (storesFrom b j k) (entriesBy b k) g (rw (stores-all b k) at (stored-fewer b j k h)) f
 
 -- a store that was read has few entries
-pub entries-in : (b s : List ℕ) (P i : ℕ) → s ≡ storeIn b i → FewEntries b P → i < P → field s ENTRIES ≤ 4096
+pub entries-in : (b s : List ℕ) (P i : ℕ) → s ≡ storeIn b i → FewEntries b P → i < P → field s ENTRIES ≤ mostCells
 entries-in b s P i q f h = rw q (f i h)

@@ -7,6 +7,7 @@ use native.Mathlib.Decide.{decLt}
 use native.Mathlib.Nat.{add-zero}
 use native.Mathlib.Omega.{arith}
 use lib.ListN.{length, getD, set, length-set}
+use Rattle.base.specs.Limits.{mostCells, mostCoarseCells}
 use Rattle.pairs.specs.Keys.{seek, Keys, Found, seek-found}
 use Rattle.mesh.specs.Table.{sizeOf}
 use Rattle.parts.specs.Held.{Entry}
@@ -33,7 +34,7 @@ module _ (xs ys heads links sts : List ℕ) (n : ℕ) (b : Begun xs ys heads lin
   sought : seek xs ys x y 0 n ≡ found
   sought = let z : n - 0 ≡ n = omega arith in sym (rw z at q)
 
-  pub found-in : (found ≡ 65535 → ⊥) → found < 4096
+  pub found-in : (found ≡ 65535 → ⊥) → found < mostCells
   found-in h =
       let f = seek-found xs ys x y 0 n (λ z. h (sym sought ∙ z)) in
       omega (arith, f .below, sought, b .few)
@@ -81,7 +82,7 @@ module _ (xs ys heads links sts : List ℕ) (n : ℕ) (b : Begun xs ys heads lin
           pos zero h = absurd (h refl)
           pos (suc k) h = omega arith
 
-      pub settle-room : 4096 < e + size → CellFound xs ys sts n px py st c e px py st′ 65535
+      pub settle-room : mostCells < e + size → CellFound xs ys sts n px py st c e px py st′ 65535
       settle-room d =
           record {
             row = λ z. absurd (z refl);
@@ -90,7 +91,7 @@ module _ (xs ys heads links sts : List ℕ) (n : ℕ) (b : Begun xs ys heads lin
             went = λ z. absurd (z refl);
           }
 
-      pub settle-on : e + size ≤ 4096 → (0 < size → x < 2560) → (px′ py′ : List ℕ) → Pushed px py e x y size px′ py′
+      pub settle-on : e + size ≤ mostCells → (0 < size → x < 2560) → (px′ py′ : List ℕ) → Pushed px py e x y size px′ py′
           → length px′ ≡ length px → length py′ ≡ length py → CellFound xs ys sts n px py st c e px′ py′ st′ (e + size)
       settle-on room deep px′ py′ p lx ly =
           record {
@@ -126,7 +127,8 @@ module _ (xs ys sts : List ℕ) (n m : ℕ) where
   abbrev pub Going : List ℕ → List ℕ → List ℕ → ℕ → ℕ → Type 0
   Going px py st c e = KeyRow px py st c e × (c ≤ e) × ((es : List Entry) → MasterKeys es xs ys sts n → Sweep es m px py st c e)
 
-  pub going-start : m ≤ 256 → (px py st : List ℕ) → length px ≡ 4096 → length py ≡ 4096 → length st ≡ 4096 → Seeded px py m → Going px py
+  pub going-start : m ≤ mostCoarseCells → (px py st : List ℕ) → length px ≡ mostCells → length py ≡ mostCells → length st ≡ mostCells
+      → Seeded px py m → Going px py
       st 0 m
   going-start few px py st a b d s = (
     record {

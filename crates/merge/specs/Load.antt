@@ -14,6 +14,7 @@ use lib.Dec.{T}
 use lib.ListN.{length, getD, set, length-append, length-set}
 use lib.Seq.{getD-set-same, getD-set-other}
 use Rattle.base.specs.Bools.{either, not-both, is-true}
+use Rattle.base.specs.Limits.{mostCells, tooMany, mostLevels}
 use Rattle.base.specs.Lists.{anyb, filterb, sameb, sameb-eq}
 use Rattle.base.specs.Places.{sameb-self}
 use Rattle.pairs.specs.Keys.{seek, Keys, Room, Added, seek-found, seek-same, seek-other}
@@ -28,21 +29,21 @@ pub record MasterKeys (es : List Entry) (xs ys st : List ℕ) (n : ℕ) : Type 0
   pub none : (x y : ℕ) → Key x y → seek xs ys x y 0 n ≡ 65535 → masteredb es (keyPath x y) ≡ false
   pub some : (x y : ℕ) → Key x y → (seek xs ys x y 0 n ≡ 65535 → ⊥) → (masteredb es (keyPath x y) ≡ true)
       × (lookup es (keyPath x y) ≡ getD st (seek xs ys x y 0 n) 0)
-  pub long : (l : List ℕ) → 11 < length l → masteredb es l ≡ false
+  pub long : (l : List ℕ) → mostLevels < length l → masteredb es l ≡ false
 
 pub record Begun (xs ys heads links st : List ℕ) (n : ℕ) : Type 0 where
   pub keys : Keys xs ys heads links n
-  pub few : n ≤ 4096
-  pub in-xs : length xs ≡ 4096
-  pub in-ys : length ys ≡ 4096
-  pub in-links : length links ≡ 4096
-  pub in-st : length st ≡ 4096
+  pub few : n ≤ mostCells
+  pub in-xs : length xs ≡ mostCells
+  pub in-ys : length ys ≡ mostCells
+  pub in-links : length links ≡ mostCells
+  pub in-st : length st ≡ mostCells
 
 pub record Load (ds : List Entry) (xs ys st : List ℕ) (n : ℕ) (xs′ ys′ heads′ links′ st′ : List ℕ) (r : ℕ) : Type 0 where
-  pub begun : r ≤ 4096 → Begun xs′ ys′ heads′ links′ st′ r
-  pub count : r ≤ 4096 → r ≡ length (masters ds) + n
-  pub many : 4096 < r → 4096 < length (masters ds) + n
-  pub loaded : r ≤ 4096 → (es : List Entry) → MasterKeys es xs ys st n → MasterKeys (ds ++ es) xs′ ys′ st′ r
+  pub begun : r ≤ mostCells → Begun xs′ ys′ heads′ links′ st′ r
+  pub count : r ≤ mostCells → r ≡ length (masters ds) + n
+  pub many : mostCells < r → mostCells < length (masters ds) + n
+  pub loaded : r ≤ mostCells → (es : List Entry) → MasterKeys es xs ys st n → MasterKeys (ds ++ es) xs′ ys′ st′ r
 
 pub loaded-none : (xs ys st : List ℕ) → MasterKeys [] xs ys st 0
 unfolding masters filterb anyb seek
@@ -99,7 +100,7 @@ same-not l m h = go (sameb l m) refl
     go true e = absurd (h (sameb-eq l m (rw e tt)))
     go false e = e
 
-path-short : (x y : ℕ) → Key x y → length (keyPath x y) ≤ 11
+path-short : (x y : ℕ) → Key x y → length (keyPath x y) ≤ mostLevels
 unfolding keyPath
 path-short x y k = omega (arith, length-eights (x / 256) y, k .level)
 
@@ -124,8 +125,8 @@ module _ (xs ys heads links st : List ℕ) (n : ℕ) (b : Begun xs ys heads link
               };
         }
 
-    pub load-full : e .ghost ≡ false → 4096 ≤ n → (xs′ ys′ heads′ links′ st′ : List ℕ)
-        → Load (e ∷ []) xs ys st n xs′ ys′ heads′ links′ st′ 4097
+    pub load-full : e .ghost ≡ false → mostCells ≤ n → (xs′ ys′ heads′ links′ st′ : List ℕ)
+        → Load (e ∷ []) xs ys st n xs′ ys′ heads′ links′ st′ tooMany
     load-full g h xs′ ys′ heads′ links′ st′ =
         record {
           begun = λ h. absurd (omega arith);
@@ -134,7 +135,7 @@ module _ (xs ys heads links st : List ℕ) (n : ℕ) (b : Begun xs ys heads link
           loaded = λ h. absurd (omega arith);
         }
 
-    pub load-master : e .ghost ≡ false → n < 4096 → (v w s : ℕ) (xs′ ys′ heads′ links′ : List ℕ) → Keyed (e .path) v w → s ≡ e .status
+    pub load-master : e .ghost ≡ false → n < mostCells → (v w s : ℕ) (xs′ ys′ heads′ links′ : List ℕ) → Keyed (e .path) v w → s ≡ e .status
         → Added xs ys n v w xs′ ys′ heads′ links′ → length links′ ≡ length links
         → Load (e ∷ []) xs ys st n xs′ ys′ heads′ links′ (set st n s) (n + 1)
     load-master g few v w s xs′ ys′ heads′ links′ key q a kept =
@@ -231,7 +232,7 @@ module _ (xs ys heads links st : List ℕ) (n : ℕ) (b : Begun xs ys heads link
 -- entries before entries
 module _ (ds cs : List Entry) (xs ys st : List ℕ) (n : ℕ) (xs′ ys′ heads′ links′ st′ : List ℕ) (m : ℕ)
     (f : Load ds xs ys st n xs′ ys′ heads′ links′ st′ m)
-    (few : m ≤ 4096) (us vs heads″ links″ ts : List ℕ) (r : ℕ) (g : Load cs xs′ ys′ st′ m us vs heads″ links″ ts r) where
+    (few : m ≤ mostCells) (us vs heads″ links″ ts : List ℕ) (r : ℕ) (g : Load cs xs′ ys′ st′ m us vs heads″ links″ ts r) where
   pub load-more : Load (cs ++ ds) xs ys st n us vs heads″ links″ ts r
   load-more =
       record {

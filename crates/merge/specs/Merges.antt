@@ -9,6 +9,7 @@ use lib.Dec.{T, leb}
 use lib.ListN.{length}
 use borrow.Author.Tests.{le-leb}
 use Rattle.base.specs.Bools.{and-left, and-right, and-both, is-true}
+use Rattle.base.specs.Limits.{mostCells, mostParts}
 use Rattle.base.specs.Lists.{allb, anyb}
 use Rattle.base.specs.Range.{range}
 use Rattle.base.specs.Refuse.{refuse}
@@ -76,6 +77,6 @@ module _ (b : List ℕ) where
       (s .cells))
       (and-both wholeb tableb (s .complete) (s .sound)))))
 
-  pub merges-accepted : (t : List ℕ) → 16 * full ≤ length b → 4096 ≤ length t → Merges → mergeAnswer b t ≡ Accepted
+  pub merges-accepted : (t : List ℕ) → mostParts * full ≤ length b → mostCells ≤ length t → Merges → mergeAnswer b t ≡ Accepted
   unfolding mergeAnswer refuse
-  merges-accepted t h g s = rw (le-leb (16 * full) (length b) h, le-leb 4096 (length t) g, is-true (mergeb b) (merges-by s))
+  merges-accepted t h g s = rw (le-leb (mostParts * full) (length b) h, le-leb mostCells (length t) g, is-true (mergeb b) (merges-by s))

@@ -14,6 +14,7 @@ use Prim.Native.Nat.{ℕ, suc, _+_, _*_, _≤_, _<_}
 use lib.Dec.{T}
 use lib.ListN.{length, getD, take, drop}
 use Rattle.base.specs.Fours.{fours}
+use Rattle.base.specs.Limits.{fullCoarse, mostCells}
 use Rattle.base.specs.Lists.{allb, anyb}
 use Rattle.base.specs.Range.{range}
 use Rattle.mesh.specs.Coarse.{cellsb}
@@ -29,11 +30,11 @@ use Rattle.merge.specs.Load.{MasterKeys}
 use Rattle.merge.specs.Sweep.{Sweep, Failed, coarsePaths}
 
 pub record KeyRow (px py st : List ℕ) (c e : ℕ) : Type 0 where
-  pub few : e ≤ 4096
+  pub few : e ≤ mostCells
   pub keys : (i : ℕ) → c ≤ i → i < e → Key (getD px i 0) (getD py i 0)
-  pub in-px : length px ≡ 4096
-  pub in-py : length py ≡ 4096
-  pub in-st : length st ≡ 4096
+  pub in-px : length px ≡ mostCells
+  pub in-py : length py ≡ mostCells
+  pub in-st : length st ≡ mostCells
 
 pub record CellFound (xs ys sts : List ℕ) (n : ℕ) (px py st : List ℕ) (c e : ℕ) (px′ py′ st′ : List ℕ) (r : ℕ) : Type 0 where
   pub row : (r ≡ 65535 → ⊥) → KeyRow px′ py′ st′ (suc c) r
@@ -44,7 +45,7 @@ pub record CellFound (xs ys sts : List ℕ) (n : ℕ) (px py st : List ℕ) (c e
 
 pub record Built (xs ys sts : List ℕ) (n m : ℕ) (st′ : List ℕ) (r : ℕ) : Type 0 where
   pub failed : r ≡ 65535 → (es : List Entry) → MasterKeys es xs ys sts n → Failed es m
-  pub few : (r ≡ 65535 → ⊥) → (r ≤ 4096) × (length st′ ≡ 4096)
+  pub few : (r ≡ 65535 → ⊥) → (r ≤ mostCells) × (length st′ ≡ mostCells)
   pub table : (r ≡ 65535 → ⊥) → (es : List Entry) → MasterKeys es xs ys sts n → (flatten (merged es m) ≡ take r st′)
       × (filledb 12 es (coarsePaths m) ≡ true)
 
@@ -53,11 +54,11 @@ entriesBy b P = flatMap heldIn (storesBy b P)
 
 -- as a header has it
 abbrev pub FewEntries : List ℕ → ℕ → Type 0
-FewEntries b P = (i : ℕ) → i < P → field (storeIn b i) ENTRIES ≤ 4096
+FewEntries b P = (i : ℕ) → i < P → field (storeIn b i) ENTRIES ≤ mostCells
 
 pub record Assembled (b : List ℕ) (P m : ℕ) (st′ : List ℕ) (r : ℕ) : Type 0 where
   pub failed : r ≡ 65535 → Failed (entriesBy b P) m
-  pub few : (r ≡ 65535 → ⊥) → (r ≤ 4096) × (length st′ ≡ 4096)
+  pub few : (r ≡ 65535 → ⊥) → (r ≤ mostCells) × (length st′ ≡ mostCells)
   pub table : (r ≡ 65535 → ⊥) → flatten (merged (entriesBy b P) m) ≡ take r st′
   pub complete : (r ≡ 65535 → ⊥) → T (completeb (entriesBy b P) m)
 
@@ -71,7 +72,7 @@ pub record Gathered (b : List ℕ) (P n m : ℕ) (mesh′ : List ℕ) (ok : Bool
   pub owned : ok ≡ true → T (allb (λ i. anyb (ownsb i) (storesBy b P)) (range 0 m))
   pub cells : ok ≡ true → T (cellsb n (mergeCells (storesBy b P) m))
   pub mesh : ok ≡ true → fours (take (4 * m) mesh′) ≡ mergeCells (storesBy b P) m
-  pub long : ok ≡ true → length mesh′ ≡ 1024
+  pub long : ok ≡ true → length mesh′ ≡ fullCoarse
 
 pub record HandedOut (n : ℕ) (qs : List (List ℕ)) (ss table table′ : List ℕ) (ok : Bool) : Type 0 where
   pub answer : ok ≡ soundb n qs ss

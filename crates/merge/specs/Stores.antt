@@ -9,6 +9,7 @@ use lib.ListN.{length, getD, take, drop, drop-of-length-le}
 use lib.Seq.{drop-cons}
 use borrow.Author.Tests.{eq-eqb}
 use Rattle.base.specs.Bools.{and-left, and-right}
+use Rattle.base.specs.Limits.{mostCoarseCells}
 use Rattle.base.specs.Lists.{allb, anyb, allb-at}
 use Rattle.base.specs.Range.{range, length-range, range-at}
 use Rattle.store.specs.Fields.{field, full, STAGE, PART, PARTS, CORNERS, COARSE, RESULT, OWNER}
@@ -140,7 +141,7 @@ module _ (b : List ℕ) (P i : ℕ) where
           none = λ k. sym (rw (drop-of-length-le xs {i = j} (omega (arith, length-stores b P))) at (w .any));
         }
 
-pub owns-by : (b : List ℕ) (j i u v : ℕ) → i < 256 → u ≡ getD b (full * j + (OWNER + i)) 0 → v ≡ getD b (full * j + PART) 0
+pub owns-by : (b : List ℕ) (j i u v : ℕ) → i < mostCoarseCells → u ≡ getD b (full * j + (OWNER + i)) 0 → v ≡ getD b (full * j + PART) 0
     → eqb u v ≡ ownsb i (storeIn b j)
 unfolding ownsb
 owns-by b j i u v h p q = rw (p, q, field-in b j (OWNER + i) (omega arith), field-in b j PART (omega arith))

@@ -18,6 +18,7 @@ use lib.ListN.{length, getD, take, drop, set, length-append, length-map}
 use lib.Seq.{take-suc-set, length-take-le}
 use borrow.Author.Tests.{lt-leb}
 use Rattle.base.specs.Bools.{either, not-both, is-true, and-left, and-right}
+use Rattle.base.specs.Limits.{mostCells, mostCoarseCells, mostLevels}
 use Rattle.base.specs.Lists.{allb, anyb, sameb}
 use Rattle.base.specs.Range.{range, length-range}
 use Rattle.mesh.specs.Table.{soundb, sizeOf}
@@ -208,7 +209,7 @@ module _ (es : List Entry) (m : ℕ) where
   unfolding completeb
   complete-filled t = and-left (filledb 12 es (coarsePaths m)) _ t
 
-  pub sweep-start : (px py st : List ℕ) → m ≤ 256 → Seeded px py m → Sweep es m px py st 0 m
+  pub sweep-start : (px py st : List ℕ) → m ≤ mostCoarseCells → Seeded px py m → Sweep es m px py st 0 m
   unfolding merged range
   sweep-start px py st few s =
       let z : m - 0 ≡ m = omega arith in
@@ -359,7 +360,7 @@ module _ (es : List Entry) (m : ℕ) where
           all-not f [] x k q = rw q
           all-not f (y ∷ l) x k q = rw (all-not f l x k q) (and-no (f y))
 
-      room-here : c < length st → 4096 < e + sizeOf (lookup es cell) → Failed es m
+      room-here : c < length st → mostCells < e + sizeOf (lookup es cell) → Failed es m
       room-here in-st h n qs u v = go (s .h) refl
         where
           go : (k : ℕ) → s .h ≡ k → ⊥
@@ -371,7 +372,7 @@ module _ (es : List Entry) (m : ℕ) where
               ap length w ∙ length-append (take c st) (lookup es cell ∷ r) in
               let b : length (kidPaths cell (lookup es cell)) ≡ sizeOf (lookup es cell) =
               length-map (range 0 (sizeOf (lookup es cell))) (λ i. cell ++ (i ∷ [])) ∙ length-range 0 (sizeOf (lookup es cell)) in
-              let d : 4096 < length (flatten (merged es m)) =
+              let d : mostCells < length (flatten (merged es m)) =
               omega (
                 arith,
                 length-take-le c st (omega arith),
@@ -384,7 +385,8 @@ module _ (es : List Entry) (m : ℕ) where
               not-both (soundb n qs (flatten (merged es m))) (is-true (soundb n qs (flatten (merged es m))) v)
               (unsound-long n qs (flatten (merged es m)) d)
 
-      level-here : ((l : List ℕ) → 11 < length l → masteredb es l ≡ false) → 10 ≤ getD px c 0 / 256 → 0 < sizeOf (lookup es cell) → Failed
+      level-here : ((l : List ℕ) → mostLevels < length l → masteredb es l ≡ false) → 10 ≤ getD px c 0 / 256 → 0 < sizeOf (lookup es cell)
+          → Failed
           es m
       unfolding keyPath range allb
       level-here long deep some n qs u v = go (s .h) refl
@@ -393,7 +395,7 @@ module _ (es : List Entry) (m : ℕ) where
           size-one k q t =
               let w : T (allb (masteredb es) (map (λ i. cell ++ (i ∷ [])) (range 0 (suc k)))) = rw q at t in
               let a : T (masteredb es (cell ++ (0 ∷ []))) = and-left (masteredb es (cell ++ (0 ∷ []))) _ w in
-              let b : 11 < length (cell ++ (0 ∷ [])) =
+              let b : mostLevels < length (cell ++ (0 ∷ [])) =
               omega (arith, length-append cell (0 ∷ []), length-eights (getD px c 0 / 256) (getD py c 0)) in
               not-both (masteredb es (cell ++ (0 ∷ []))) (is-true (masteredb es (cell ++ (0 ∷ []))) a) (long (cell ++ (0 ∷ [])) b)
 
@@ -424,9 +426,9 @@ module _ (es : List Entry) (m : ℕ) where
       pub no-status : 64 < lookup es (pathIn px py c) → Failed es m
       no-status = let t = turned s g in status-here (t .0) (t .1)
 
-      pub no-room : c < length st → 4096 < e + sizeOf (lookup es (pathIn px py c)) → Failed es m
+      pub no-room : c < length st → mostCells < e + sizeOf (lookup es (pathIn px py c)) → Failed es m
       no-room = let t = turned s g in room-here (t .0) (t .1)
 
-      pub no-level : ((l : List ℕ) → 11 < length l → masteredb es l ≡ false) → 10 ≤ getD px c 0 / 256
+      pub no-level : ((l : List ℕ) → mostLevels < length l → masteredb es l ≡ false) → 10 ≤ getD px c 0 / 256
           → 0 < sizeOf (lookup es (pathIn px py c)) → Failed es m
       no-level = let t = turned s g in level-here (t .0) (t .1)

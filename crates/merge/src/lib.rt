@@ -1,4 +1,7 @@
 // Merging all stores of a split: they are examined, and their masters put in the order of a table.
+use base::MOST_CELLS;
+use base::MOST_PARTS;
+use base::TOO_MANY;
 use held::is_ghost;
 use held::key_of;
 use held::power;
@@ -22,10 +25,11 @@ ghost use lib.ListN.{length, take, drop};
 ghost use lib.Seq.{sets};
 ghost use Rattle.base.specs.Fours.{fours};
 ghost use Rattle.base.specs.Lent.{was, is};
+ghost use Rattle.base.specs.Limits.{fullCoarse, mostCells, mostCoarseCells, mostCoarseCorners, mostParts};
 ghost use Rattle.base.specs.Lists.{allb, anyb};
 ghost use Rattle.base.specs.Refuse.{heldAfter};
 ghost use Rattle.mesh.specs.Coarse.{cellb, cellsb};
-ghost use Rattle.store.specs.Fields.{field, full};
+ghost use Rattle.store.specs.Fields.{field, full, COARSE, CORNER, ENTRIES, PART};
 ghost use Rattle.store.specs.Stores.{storeIn, storesBy};
 ghost use Rattle.held.specs.Held.{entryIn, heldIn};
 ghost use Rattle.held.specs.Key.{Key};
@@ -42,7 +46,7 @@ pub enum Merged {
 
 // One of the stores.
 fn store_at(stores: &[u16], j: usize) -> &[u16]
-    requires { ⌜ (16 * full ≤ length (now stores)) × (j < 16) ⌝ }
+    requires { ⌜ (mostParts * full ≤ length (now stores)) × (j < mostParts) ⌝ }
     ensures { λ r. ⌜ (now r ≡ storeIn (was stores) j) × (length (now r) ≡ full) ⌝ }
 {
     let from = FULL * j;
@@ -61,15 +65,15 @@ fn load_one(
     sts: &mut [u8; 4096],
     n: usize,
 ) -> usize
-    requires { ⌜ (full ≤ length (now store)) × (j < 4096) ⌝ }
+    requires { ⌜ (full ≤ length (now store)) × (j < mostCells) ⌝ }
     requires { ⌜ Begun (now xs) (now ys) (now heads) (now links) (now sts) n ⌝ }
     ensures { λ r. ⌜ Load (entryIn (was store) j ∷ []) (was xs) (was ys) (was sts) n (is xs) (is ys) (is heads) (is links) (is sts) r ⌝ }
 {
     if is_ghost(store, j) {
         return n;
     }
-    if n >= 4096 {
-        return 4097;
+    if n >= MOST_CELLS {
+        return TOO_MANY;
     }
     let key = key_of(store, j);
     pairs::add(xs, ys, heads, links, n, key.head, key.digits);
@@ -87,7 +91,7 @@ fn load_store(
     sts: &mut [u8; 4096],
     n: usize,
 ) -> usize
-    requires { ⌜ (full ≤ length (now store)) × (field (now store) 9 ≤ 4096) ⌝ }
+    requires { ⌜ (full ≤ length (now store)) × (field (now store) ENTRIES ≤ mostCells) ⌝ }
     requires { ⌜ Begun (now xs) (now ys) (now heads) (now links) (now sts) n ⌝ }
     ensures { λ r. ⌜ Load (heldIn (was store)) (was xs) (was ys) (was sts) n (is xs) (is ys) (is heads) (is links) (is sts) r ⌝ }
 {
@@ -96,7 +100,7 @@ fn load_store(
     while j > 0 {
         j -= 1;
         r = load_one(store, j, xs, ys, heads, links, sts, r);
-        if r > 4096 {
+        if r > MOST_CELLS {
             return r;
         }
     }
@@ -105,7 +109,7 @@ fn load_store(
 
 // Whether a store is done, and of the same parts, corners, coarse cells and result as the first.
 fn is_alike(stores: &[u16], j: usize) -> bool
-    requires { ⌜ (16 * full ≤ length (now stores)) × (j < 16) ⌝ }
+    requires { ⌜ (mostParts * full ≤ length (now stores)) × (j < mostParts) ⌝ }
     ensures { λ r. ⌜ r ≡ alikeb (was stores) (storeIn (was stores) j) ⌝ }
 {
     let store = store_at(stores, j);
@@ -129,7 +133,7 @@ fn is_alike(stores: &[u16], j: usize) -> bool
 
 // Whether all stores are so.
 fn all_alike(stores: &[u16], parts: usize) -> bool
-    requires { ⌜ (16 * full ≤ length (now stores)) × (parts ≤ 16) ⌝ }
+    requires { ⌜ (mostParts * full ≤ length (now stores)) × (parts ≤ mostParts) ⌝ }
     ensures { λ r. ⌜ r ≡ allb (alikeb (was stores)) (storesBy (was stores) parts) ⌝ }
 {
     let mut j: usize = 0;
@@ -144,8 +148,8 @@ fn all_alike(stores: &[u16], parts: usize) -> bool
 
 // Whether a part is among the stores.
 fn has_part(stores: &[u16], parts: usize, p: usize) -> bool
-    requires { ⌜ (16 * full ≤ length (now stores)) × (parts ≤ 16) ⌝ }
-    ensures { λ r. ⌜ r ≡ anyb (λ x. eqb (field x 1) p) (storesBy (was stores) parts) ⌝ }
+    requires { ⌜ (mostParts * full ≤ length (now stores)) × (parts ≤ mostParts) ⌝ }
+    ensures { λ r. ⌜ r ≡ anyb (λ x. eqb (field x PART) p) (storesBy (was stores) parts) ⌝ }
 {
     let mut j: usize = 0;
     while j < parts {
@@ -159,7 +163,7 @@ fn has_part(stores: &[u16], parts: usize, p: usize) -> bool
 
 // Whether each part is.
 fn has_all(stores: &[u16], parts: usize) -> bool
-    requires { ⌜ (16 * full ≤ length (now stores)) × (parts ≤ 16) ⌝ }
+    requires { ⌜ (mostParts * full ≤ length (now stores)) × (parts ≤ mostParts) ⌝ }
     ensures { λ r. ⌜ r ≡ everyb (storesBy (was stores) parts) ⌝ }
 {
     let mut i: usize = 0;
@@ -174,7 +178,7 @@ fn has_all(stores: &[u16], parts: usize) -> bool
 
 // The first store that has a coarse cell as master; as many as there are parts where none has.
 fn owner_at(stores: &[u16], parts: usize, i: usize) -> usize
-    requires { ⌜ (16 * full ≤ length (now stores)) × (parts ≤ 16) × (i < 256) ⌝ }
+    requires { ⌜ (mostParts * full ≤ length (now stores)) × (parts ≤ mostParts) × (i < mostCoarseCells) ⌝ }
     ensures { λ r. ⌜ OwnedAt (was stores) parts i r ⌝ }
 {
     let mut j: usize = 0;
@@ -190,8 +194,8 @@ fn owner_at(stores: &[u16], parts: usize, i: usize) -> usize
 
 // Copies the corners of a coarse cell.
 fn copy_corners(stores: &[u16], j: usize, i: usize, mesh: &mut [u16])
-    requires { ⌜ (16 * full ≤ length (now stores)) × (j < 16) × (i < 256) × (length (now mesh) ≡ 1024) ⌝ }
-    ensures { λ r. ⌜ is mesh ≡ sets (was mesh) (4 * i) (take 4 (drop (49264 + 4 * i) (storeIn (was stores) j))) ⌝ }
+    requires { ⌜ (mostParts * full ≤ length (now stores)) × (j < mostParts) × (i < mostCoarseCells) × (length (now mesh) ≡ fullCoarse) ⌝ }
+    ensures { λ r. ⌜ is mesh ≡ sets (was mesh) (4 * i) (take 4 (drop (CORNER + 4 * i) (storeIn (was stores) j))) ⌝ }
 {
     let from = FULL * j + (CORNER + 4 * i);
     let at = 4 * i;
@@ -203,7 +207,7 @@ fn copy_corners(stores: &[u16], j: usize, i: usize, mesh: &mut [u16])
 
 // Whether a cell's corner numbers rise, and are of so many corners.
 fn corners_rise(mesh: &[u16], i: usize, n: usize) -> bool
-    requires { ⌜ (i < 256) × (length (now mesh) ≡ 1024) ⌝ }
+    requires { ⌜ (i < mostCoarseCells) × (length (now mesh) ≡ fullCoarse) ⌝ }
     ensures { λ r. ⌜ r ≡ cellb n (take 4 (drop (4 * i) (was mesh))) ⌝ }
 {
     let at = 4 * i;
@@ -225,7 +229,8 @@ fn corners_rise(mesh: &[u16], i: usize, n: usize) -> bool
 
 // Gathers the corners of all coarse cells: whether each has a master, and corners in order.
 fn gather_corners(stores: &[u16], parts: usize, n: usize, m: usize, mesh: &mut [u16]) -> bool
-    requires { ⌜ (16 * full ≤ length (now stores)) × (parts ≤ 16) × (m ≤ 256) × (length (now mesh) ≡ 1024) ⌝ }
+    requires { ⌜ (mostParts * full ≤ length (now stores)) × (parts ≤ mostParts) × (m ≤ mostCoarseCells)
+        × (length (now mesh) ≡ fullCoarse) ⌝ }
     ensures { λ r. ⌜ Gathered (was stores) parts n m (is mesh) r ⌝ }
 {
     let mut i: usize = 0;
@@ -253,7 +258,7 @@ fn load_all(
     links: &mut [u16; 4096],
     sts: &mut [u8; 4096],
 ) -> usize
-    requires { ⌜ (16 * full ≤ length (now stores)) × (parts ≤ 16) ⌝ }
+    requires { ⌜ (mostParts * full ≤ length (now stores)) × (parts ≤ mostParts) ⌝ }
     requires { ⌜ FewEntries (now stores) parts ⌝ }
     requires { ⌜ Begun (now xs) (now ys) (now heads) (now links) (now sts) 0 ⌝ }
     ensures { λ r. ⌜ Load (entriesBy (was stores) parts) (was xs) (was ys) (was sts) 0 (is xs) (is ys) (is heads) (is links) (is sts) r ⌝ }
@@ -264,7 +269,7 @@ fn load_all(
         i -= 1;
         let store = store_at(stores, i);
         r = load_store(store, xs, ys, heads, links, sts, r);
-        if r > 4096 {
+        if r > MOST_CELLS {
             return r;
         }
     }
@@ -273,7 +278,7 @@ fn load_all(
 
 // Starts the row of keys with the coarse cells.
 fn seed(px: &mut [u32], py: &mut [u32], m: usize)
-    requires { ⌜ (m ≤ 256) × (length (now px) ≡ 4096) × (length (now py) ≡ 4096) ⌝ }
+    requires { ⌜ (m ≤ mostCoarseCells) × (length (now px) ≡ mostCells) × (length (now py) ≡ mostCells) ⌝ }
     ensures { λ r. ⌜ Seeded (is px) (is py) m ⌝ }
 {
     let mut i: usize = 0;
@@ -287,7 +292,7 @@ fn seed(px: &mut [u32], py: &mut [u32], m: usize)
 // Puts the keys of a cell's children behind the row.
 fn push(px: &mut [u32], py: &mut [u32], end: usize, x: u32, y: u32, size: usize)
     requires { ⌜ Key x y × (x / 256 < 10) × (size ≤ 8) ⌝ }
-    requires { ⌜ (end + size ≤ 4096) × (length (now px) ≡ 4096) × (length (now py) ≡ 4096) ⌝ }
+    requires { ⌜ (end + size ≤ mostCells) × (length (now px) ≡ mostCells) × (length (now py) ≡ mostCells) ⌝ }
     ensures { λ r. ⌜ Pushed (was px) (was py) end x y size (is px) (is py) ⌝ }
 {
     let most = power(x as usize / 256);
@@ -335,7 +340,7 @@ fn settle(
     if x >= 2560 {
         return 65535;
     }
-    if end + size > 4096 {
+    if end + size > MOST_CELLS {
         return 65535;
     }
     push(px, py, end, x, y, size);
@@ -356,7 +361,7 @@ fn build(
     m: usize,
 ) -> usize
     requires { ⌜ Begun (now xs) (now ys) (now heads) (now links) (now sts) n ⌝ }
-    requires { ⌜ (length (now px) ≡ 4096) × (length (now py) ≡ 4096) × (length (now st) ≡ 4096) × (m ≤ 256) ⌝ }
+    requires { ⌜ (length (now px) ≡ mostCells) × (length (now py) ≡ mostCells) × (length (now st) ≡ mostCells) × (m ≤ mostCoarseCells) ⌝ }
     ensures { λ r. ⌜ Built (was xs) (was ys) (was sts) n m (is st) r ⌝ }
 {
     seed(px, py, m);
@@ -375,7 +380,7 @@ fn build(
 
 // The table that the masters of all stores make: how many cells it has, or 65,535.
 fn assemble(stores: &[u16], parts: usize, m: usize, st: &mut [u8; 4096]) -> usize
-    requires { ⌜ (16 * full ≤ length (now stores)) × (parts ≤ 16) × (m ≤ 256) × (length (now st) ≡ 4096) ⌝ }
+    requires { ⌜ (mostParts * full ≤ length (now stores)) × (parts ≤ mostParts) × (m ≤ mostCoarseCells) × (length (now st) ≡ mostCells) ⌝ }
     requires { ⌜ FewEntries (now stores) parts ⌝ }
     ensures { λ r. ⌜ Assembled (was stores) parts m (is st) r ⌝ }
 {
@@ -394,7 +399,7 @@ fn assemble(stores: &[u16], parts: usize, m: usize, st: &mut [u8; 4096]) -> usiz
         &mut links,
         &mut sts,
     );
-    if n > 4096 {
+    if n > MOST_CELLS {
         return 65535;
     }
     let mut px = [0u32; 4096];
@@ -418,7 +423,7 @@ fn finish(
     r: usize,
     table: &mut [u8],
 ) -> bool
-    requires { ⌜ (1 ≤ m) × (m ≤ 256) × (n ≤ 512) × (r ≤ 4096) × (4096 ≤ length (now table)) ⌝ }
+    requires { ⌜ (1 ≤ m) × (m ≤ mostCoarseCells) × (n ≤ mostCoarseCorners) × (r ≤ mostCells) × (mostCells ≤ length (now table)) ⌝ }
     requires { ⌜ T (cellsb n (fours (take (4 * m) (now mesh)))) ⌝ }
     ensures { λ ok. ⌜ HandedOut n (fours (take (4 * m) (was mesh))) (take r (was st)) (was table) (is table) ok ⌝ }
 {
@@ -440,14 +445,14 @@ fn finish(
 // not every part once, all done with the same result, or make no sound table.
 pub fn merge(stores: &[u16], table: &mut [u8]) -> Merged
     ensures { λ r. ⌜ r
-        ≡ mergedOf (mergeAnswer (was stores) (was table)) (length (mergeTable (storesIn (was stores)) (field (was stores) 4))) ⌝ }
+        ≡ mergedOf (mergeAnswer (was stores) (was table)) (length (mergeTable (storesIn (was stores)) (field (was stores) COARSE))) ⌝ }
     ensures { λ r. ⌜ is table
-        ≡ heldAfter (mergeAnswer (was stores) (was table)) (mergeTable (storesIn (was stores)) (field (was stores) 4)) (was table) ⌝ }
+        ≡ heldAfter (mergeAnswer (was stores) (was table)) (mergeTable (storesIn (was stores)) (field (was stores) COARSE)) (was table) ⌝ }
 {
-    if stores.len() < 16 * FULL {
+    if stores.len() < MOST_PARTS * FULL {
         return Merged::Refused(15);
     }
-    if table.len() < 4096 {
+    if table.len() < MOST_CELLS {
         return Merged::Refused(15);
     }
     if !header_fits(stores) {

@@ -1,7 +1,9 @@
 -- Entries that cover a table, each master once, are complete: merging finds each place, and as many masters as cells.
 --   masterPaths es    the paths of the masters among the entries es
+--   PathAt x          the place of the cell with the number x, by its path
 -- Laws: path-from and path-by (masters and their paths), paths-once and paths-append (of lists without repetition, and put together),
--- masters-counted (as many masters as cells), complete-is (the theorem).
+-- path-at, cell-there and cells-apart (the paths of a table's cells), masters-counted (as many masters as cells), complete-is (the
+-- theorem).
 use mathlib.Core.Path.{_≡_, refl, sym, _∙_, ap, ap₂, subst}
 use mathlib.Core.Logic.{⊎-elim}
 use mathlib.Core.Bool.{Bool, true, false}
@@ -102,14 +104,14 @@ module _ (n : ℕ) (qs : List (List ℕ)) (ss : List ℕ) where
   many : length cellPaths ≡ length cells
   many = length-map cells (λ (c : Cell Point). c .path)
 
-  record PathAt (x : ℕ) : Type 0 where
+  pub record PathAt (x : ℕ) : Type 0 where
     pub k : ℕ
     pub t : ℕ
     pub below : t < length (lv n qs ss k .cells)
     pub path : getD cellPaths x [] ≡ pathAt (lv n qs ss k .cells) t
     pub number : x ≡ lv n qs ss k .first + t
 
-  path-at : (x : ℕ) → x < length cells → PathAt x
+  pub path-at : (x : ℕ) → x < length cells → PathAt x
   path-at x h =
       let w = spot-with n qs ss x h in
       record {
@@ -121,7 +123,7 @@ module _ (n : ℕ) (qs : List (List ℕ)) (ss : List ℕ) where
         number = omega (arith, w .number, w .at .first);
       }
 
-  cells-apart : NoDup cellPaths
+  pub cells-apart : NoDup cellPaths
   cells-apart =
       no-dup-by [] cellPaths (λ x y a b e.
       let v = path-at x (omega (arith, many)) in
@@ -129,7 +131,7 @@ module _ (n : ℕ) (qs : List (List ℕ)) (ss : List ℕ) where
       let (p, q) = one-place n qs ss (v .k) (v .t) (w .k) (w .t) (v .below) (w .below) (sym (v .path) ∙ e ∙ w .path) in
       v .number ∙ ap₂ (λ (k t : ℕ). lv n qs ss k .first + t) p q ∙ sym (w .number))
 
-  cell-there : (k t : ℕ) → t < length (lv n qs ss k .cells) → List·Memᴰ (pathAt (lv n qs ss k .cells) t) cellPaths
+  pub cell-there : (k t : ℕ) → t < length (lv n qs ss k .cells) → List·Memᴰ (pathAt (lv n qs ss k .cells) t) cellPaths
   cell-there k t h =
       let a = spot-at n qs ss k t h in
       let e : getD cellPaths (a .o + t) [] ≡ pathAt (lv n qs ss k .cells) t =

@@ -12,6 +12,7 @@ use native.Mathlib.Omega.{arith}
 use lib.Dec.{leb}
 use lib.ListN.{length, getD}
 use borrow.Author.Tests.{le-leb, lt-leb}
+use Rattle.base.specs.Limits.{mostCells, mostLevels}
 use Rattle.base.specs.Refuse.{refuse}
 use Rattle.base.specs.declared.Answer.{Answer}
 use Rattle.base.specs.declared.Answer.the-variants.{Accepted}
@@ -31,7 +32,7 @@ topOf ls = largest (λ l. pred (length l)) ls
 -- Rule 7.8.
 unfoldable pub endOf : ℕ → ℕ → Answer
 unfolding refuse
-endOf total high = refuse 8 (not (leb 11 high)) (refuse 9 (leb total 4096) Accepted)
+endOf total high = refuse 8 (not (leb mostLevels high)) (refuse 9 (leb total mostCells) Accepted)
 
 pub largest-from : {A : Type 0} (f : A → ℕ) (n : ℕ) (l : List A) → n < largest f l → (x : A) × List·Memᴰ x l × (n < f x)
 unfolding largest
@@ -42,11 +43,11 @@ largest-from f n (x ∷ l) h =
       | no g ↦ let (y, m, k) = largest-from f n l (omega arith) in (y, List·Memᴰ·tail m, k)
     ]
 
-pub capped-few : (x : ℕ) → leb (capped x) 4096 ≡ leb x 4096
+pub capped-few : (x : ℕ) → leb (capped x) mostCells ≡ leb x mostCells
 capped-few x =
-    elim (decLt 4096 x) [
-      | yes h ↦ lt-leb (capped x) 4096 (omega arith) ∙ sym (lt-leb x 4096 h)
-      | no h ↦ le-leb (capped x) 4096 (omega arith) ∙ sym (le-leb x 4096 (omega arith))
+    elim (decLt mostCells x) [
+      | yes h ↦ lt-leb (capped x) mostCells (omega arith) ∙ sym (lt-leb x mostCells h)
+      | no h ↦ le-leb (capped x) mostCells (omega arith) ∙ sym (le-leb x mostCells (omega arith))
     ]
 
 -- how many levels there are

@@ -4,7 +4,7 @@
 -- Laws: serial-table (merging gives the step's table, in whatever order of the parts), serial-answer (the result from the totals is the
 -- serial step's), held-each-once, just-held, share-few (a part holds its masters and ghosts, each once, and nothing else),
 -- serial-complete (merging finds them all), owners-after, coarse-owner, family-same, family-new (the owners after the step are accepted,
--- and what they keep), admissible-before and admissible-after (A1 to A6).
+-- and what they keep), admissible-after (A1 to A6).
 use mathlib.Core.Path.{_≡_, sym, _∙_, ap, subst}
 use mathlib.Core.Logic.{_≢_}
 use mathlib.Core.List.{List, List·Memᴰ, flatten}
@@ -12,6 +12,7 @@ use Prim.Native.Nat.{ℕ, suc, _≤_, _<_, pred}
 use native.Mathlib.Omega.{arith}
 use lib.Dec.{T, leb}
 use lib.ListN.{length, getD}
+use Rattle.base.specs.Limits.{mostCells, mostLevels}
 use Rattle.base.specs.Refuse.{refuse}
 use Rattle.base.specs.declared.Answer.the-variants.{Accepted}
 use Rattle.mesh.specs.Coarse.{cellsb}
@@ -31,7 +32,7 @@ use Rattle.parts.specs.Held.{Entry, entriesOf}
 use Rattle.parts.specs.Merge.{merged, completeb}
 use Rattle.splitting.specs.Paths.{new-lv}
 use Rattle.splitting.specs.Split.{Slots, taskOf, owners-fit}
-use Rattle.splitting.specs.Admissible.{Admissible, admissible}
+use Rattle.splitting.specs.Admissible.{Admissible}
 use Rattle.splitting.specs.Heirs.{heirs, heirs-admissible}
 use Rattle.shares.specs.Flat.{NoTwice}
 use Rattle.shares.specs.Settled.{Settled, entriesIn}
@@ -79,19 +80,18 @@ module _ {Part : Type 0} (F : Finite Part) (n : ℕ) (qs : List (List ℕ)) (ss 
   serial-table l every = merged-step n qs ss ms (entriesAll settle l) sound (entries-cover settle l every)
 
   pub serial-answer : NoDup (F .list) → endOf (capped (sumOver (mastersOf settle) (F .list))) (highIn settle)
-      ≡ refuse 8 (leb (length (stepTable n qs ss ms)) 11) (refuse 9 (leb (length (flatten (stepTable n qs ss ms))) 4096) Accepted)
+      ≡ refuse 8 (leb (length (stepTable n qs ss ms)) mostLevels)
+      (refuse 9 (leb (length (flatten (stepTable n qs ss ms))) mostCells) Accepted)
   serial-answer d =
-      ends settle d ∙ ap (λ (t : List (List ℕ)). refuse 8 (leb (length t) 11) (refuse 9 (leb (length (flatten t)) 4096) Accepted))
+      ends settle d ∙ ap (λ (t : List (List ℕ)). refuse 8 (leb (length t) mostLevels)
+      (refuse 9 (leb (length (flatten t)) mostCells) Accepted))
       (sym (step-by n qs ss ms sound))
 
   pub held-each-once : (p : Part) → NoTwice (entriesIn settle p)
   held-each-once p = each-once settle p
 
-  pub admissible-before : Admissible n qs ss P os
-  admissible-before = admissible n qs ss P os owners
-
   -- within the limits: what each part holds, and the conditions after the step
-  module _ (low : length (stepTable n qs ss ms) ≤ 11) (few : length (flatten (stepTable n qs ss ms)) ≤ 4096) where
+  module _ (low : length (stepTable n qs ss ms) ≤ mostLevels) (few : length (flatten (stepTable n qs ss ms)) ≤ mostCells) where
     abbrev ts : List ℕ
     ts = flatten (stepTable n qs ss ms)
 

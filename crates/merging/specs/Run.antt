@@ -15,6 +15,7 @@ use native.Mathlib.Omega.{arith}
 use lib.Dec.{T, leb, ltb}
 use lib.ListN.{length, getD, List·getD-eq-default}
 use borrow.Author.Tests.{eq-eqb, lt-ltb, le-ltb}
+use Rattle.base.specs.Limits.{mostCells, mostLevels}
 use Rattle.base.specs.Refuse.{refuse}
 use Rattle.base.specs.declared.Answer.the-variants.{Accepted}
 use Rattle.mesh.specs.Coarse.{cellsb}
@@ -150,7 +151,8 @@ module _ (Q n : ℕ) (qs : List (List ℕ)) (ss ms : List ℕ) (four : All (λ q
       ∙ ap (λ (f : Fin P → ℕ). largest f (F .list)) (fun-ext (λ q. ap (λ (es : List Entry). topOf (masterPaths es)) (sym (entries-last q))))
 
   pub run-answer : (p : Fin P) → endOf (final p .total) (final p .high)
-      ≡ refuse 8 (leb (length (stepTable n qs ss ms)) 11) (refuse 9 (leb (length (flatten (stepTable n qs ss ms))) 4096) Accepted)
+      ≡ refuse 8 (leb (length (stepTable n qs ss ms)) mostLevels)
+      (refuse 9 (leb (length (flatten (stepTable n qs ss ms))) mostCells) Accepted)
   run-answer p =
       ap₂ endOf (told-masters p) (told-top p)
       ∙ serial-answer F n qs ss ms four accepted sound P os owners slot slots numbered (nthPart Q) numberOf (named Q) final

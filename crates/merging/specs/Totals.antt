@@ -12,6 +12,7 @@ use Prim.Native.Nat.{ℕ, zero, suc, _+_, _≤_, _<_, pred}
 use native.Mathlib.Omega.{arith}
 use lib.Dec.{T, leb, leb→le, le→leb}
 use lib.ListN.{length, length-append}
+use Rattle.base.specs.Limits.{mostCells, mostLevels}
 use Rattle.base.specs.Refuse.{refuse}
 use Rattle.base.specs.declared.Answer.the-variants.{Accepted}
 use Rattle.base.specs.Bools.{same-test}
@@ -138,8 +139,8 @@ module _ {Part : Type 0} {F : Finite Part} (X : Settled F) where
 
   -- what every part finds from the totals is what the serial step answers
   pub ends : NoDup (F .list) → endOf (capped (sumOver mastersOf (F .list))) highIn
-      ≡ refuse 8 (leb (length (stepBy n qs ss ms)) 11) (refuse 9 (leb (length (flatten (stepBy n qs ss ms))) 4096) Accepted)
+      ≡ refuse 8 (leb (length (stepBy n qs ss ms)) mostLevels) (refuse 9 (leb (length (flatten (stepBy n qs ss ms))) mostCells) Accepted)
   unfolding endOf
   ends d =
       ap₂ (λ (a b : Bool). refuse 8 a (refuse 9 b Accepted)) (ap not high-is ∙ sym (levels-eleven n qs ss ms))
-      (capped-few (sumOver mastersOf (F .list)) ∙ ap (λ (x : ℕ). leb x 4096) (totals-are (F .list) (F .all) d))
+      (capped-few (sumOver mastersOf (F .list)) ∙ ap (λ (x : ℕ). leb x mostCells) (totals-are (F .list) (F .all) d))

@@ -12,6 +12,7 @@ use native.Mathlib.Omega.{arith}
 use native.Mathlib.Decide.{decLt}
 use Rattle.base.specs.Member.{Member}
 use Rattle.base.specs.Every.{below-at}
+use Rattle.base.specs.Limits.{mostLevels, mostCells}
 use Rattle.base.specs.Lists.{allb, belowb, belowb-at, memberb}
 use Rattle.base.specs.Bools.{one-most, and-left, and-right}
 use Rattle.base.specs.Append.{anyb-append}
@@ -204,7 +205,7 @@ sound-count n qs ss t =
     let ls = levelsOf n qs ss in
     let cs = cellsOf ls in
     let a = eqb (length ss) (length cs) in
-    let b = leb (length ls) 11 && leb (length cs) 4096 in
+    let b = leb (length ls) mostLevels && leb (length cs) mostCells in
     eqb→eq (length ss) (length cs) (and-left a b (and-left (a && b) (allb closedb ls && apartb cs ss) t))
 
 -- Rule 2.1: the six numbers.

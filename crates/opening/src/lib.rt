@@ -5,6 +5,7 @@ ghost use mathlib.Core.Path.{_≡_};
 ghost use Prim.Native.Nat.{_≤_};
 ghost use lib.ListN.{length};
 ghost use Rattle.base.specs.Lent.{was, is};
+ghost use Rattle.base.specs.Limits.{mostCells};
 ghost use Rattle.mesh.specs.Answers.{tableAnswer};
 ghost use Rattle.tables.specs.Room.{TableRoom};
 ghost use Rattle.opening.specs.Opened.{Opened};
@@ -18,7 +19,7 @@ pub fn open(
     xs: &mut [u32],
     ys: &mut [u32],
 ) -> Outcome
-    requires { ⌜ (length (now status) ≤ 4096 → TableRoom (now status) (now rows) (now xs) (now ys)) ⌝ }
+    requires { ⌜ (length (now status) ≤ mostCells → TableRoom (now status) (now rows) (now xs) (now ys)) ⌝ }
     ensures { λ r. ⌜ Opened (was positions) (was cells) (was status) (is rows) (is xs) (is ys) (r .refusal) (r .cells) (r .levels) (r .mids)
         ⌝ }
 {

@@ -11,6 +11,7 @@ use native.Mathlib.Decide.{decLt}
 use lib.Dec.{T}
 use lib.ListN.{length, take}
 use Rattle.base.specs.Bools.{and-right, not-both, or-first}
+use Rattle.base.specs.Limits.{mostCells, mostSlots, tooMany, mostLevels}
 use Rattle.exchange.specs.Finite.{Finite, parts}
 use Rattle.exchange.specs.Protocol.{Protocol}
 use Rattle.exchange.specs.Lockstep.{lock, mail, mailCount, local}
@@ -35,8 +36,8 @@ use Rattle.entering.specs.Fits.{Fitted, ofMarksb, ofCountsb}
 use Rattle.outcome.specs.High.{Levelled, masters-high}
 
 pub record Limits (P : ℕ) (J : Task (Fin P)) : Type 0 where
-  pub cells : (k c : ℕ) → Member c (J .cells k) → c < 4096
-  pub slots : (k s : ℕ) → k ≤ J .top → Member s (J .slots k) → s < 24576
+  pub cells : (k c : ℕ) → Member c (J .cells k) → c < mostCells
+  pub slots : (k s : ℕ) → k ≤ J .top → Member s (J .slots k) → s < mostSlots
   pub slots-once : SlotsOnce J
   pub no-cells : (k c : ℕ) → Member c (J .cells k) → k ≤ J .top
   pub paths : (k c : ℕ) → Member c (J .cells k) → length (J .path c) ≡ suc k
@@ -56,7 +57,7 @@ sum-at f (suc n) i h =
       | no l ↦ let e : i ≡ n = omega arith in omega (arith, ap f e)
     ]
 
-module _ (P : ℕ) (J : Task (Fin P)) (fit : Fit J) (lim : Limits P J) (m : ℕ) (small : SmallTask (parts P) J m) (m-few : m ≤ 4096)
+module _ (P : ℕ) (J : Task (Fin P)) (fit : Fit J) (lim : Limits P J) (m : ℕ) (small : SmallTask (parts P) J m) (m-few : m ≤ mostCells)
     {In : Type 0} (reads : Fin P → In → ℕ → ℕ) (input : Fin P → In) where
   abbrev F : Finite (Fin P)
   F = parts P
@@ -100,7 +101,7 @@ module _ (P : ℕ) (J : Task (Fin P)) (fit : Fit J) (lim : Limits P J) (m : ℕ)
         ]
 
   -- counts, totals and the highest level
-  cells-few : (k : ℕ) → k ≤ J .top → length (J .cells k) ≤ 4096
+  cells-few : (k : ℕ) → k ≤ J .top → length (J .cells k) ≤ mostCells
   cells-few k h =
       let z : J .top - (J .top - k) ≡ k = omega arith in
       omega (
@@ -111,7 +112,7 @@ module _ (P : ℕ) (J : Task (Fin P)) (fit : Fit J) (lim : Limits P J) (m : ℕ)
         m-few,
       )
 
-  count-few : (r : ℕ) → r ≤ Q .rounds → (q : Fin P) (s : ℕ) → at r q .own s ≤ 4096
+  count-few : (r : ℕ) → r ≤ Q .rounds → (q : Fin P) (s : ℕ) → at r q .own s ≤ mostCells
   count-few r h q s = omega (
     arith,
     own-few P J fit (lim .slots-once) (grownOf F J) (ups P) (pack P J) reads input q s r h,
@@ -119,10 +120,10 @@ module _ (P : ℕ) (J : Task (Fin P)) (fit : Fit J) (lim : Limits P J) (m : ℕ)
     m-few,
   )
 
-  last-total : (q : Fin P) → at (suc (suc (J .top + J .top))) q .total ≤ 4097
+  last-total : (q : Fin P) → at (suc (suc (J .top + J .top))) q .total ≤ tooMany
   last-total q = omega (arith, sized-last P J (grownOf F J) (grown-plain F J) (ups P) (pack P J) reads input q .0)
 
-  last-high : (q : Fin P) → at (suc (suc (J .top + J .top))) q .high ≤ 11
+  last-high : (q : Fin P) → at (suc (suc (J .top + J .top))) q .high ≤ mostLevels
   unfolding grownOf
   last-high q =
       omega (
@@ -140,11 +141,11 @@ module _ (P : ℕ) (J : Task (Fin P)) (fit : Fit J) (lim : Limits P J) (m : ℕ)
       go (in-totals e) = subst C (sym e) c
       go (in-over e) = over-totals (sym (phase-over (J .top)) ∙ ap (phase (J .top)) (sym e) ∙ f)
 
-  total-few : (r : ℕ) → r ≤ Q .rounds → phase (J .top) r ≡ totals → (q : Fin P) → at r q .total ≤ 4097
-  total-few r h f q = in-last (λ (r : ℕ). at r q .total ≤ 4097) (last-total q) r h f
+  total-few : (r : ℕ) → r ≤ Q .rounds → phase (J .top) r ≡ totals → (q : Fin P) → at r q .total ≤ tooMany
+  total-few r h f q = in-last (λ (r : ℕ). at r q .total ≤ tooMany) (last-total q) r h f
 
-  high-few : (r : ℕ) → r ≤ Q .rounds → phase (J .top) r ≡ totals → (q : Fin P) → at r q .high ≤ 11
-  high-few r h f q = in-last (λ (r : ℕ). at r q .high ≤ 11) (last-high q) r h f
+  high-few : (r : ℕ) → r ≤ Q .rounds → phase (J .top) r ≡ totals → (q : Fin P) → at r q .high ≤ mostLevels
+  high-few r h f q = in-last (λ (r : ℕ). at r q .high ≤ mostLevels) (last-high q) r h f
 
   -- what is written for a part it can take
   can-take : (r : ℕ) → r ≤ Q .rounds → (f : Phase) → phase (J .top) r ≡ f → (q p : Fin P) (b : Body) → Said F J f q p (at r q) b

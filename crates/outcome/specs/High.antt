@@ -8,6 +8,7 @@ use Prim.Native.Nat.{ℕ, suc, _+_, _*_, _≤_, pred}
 use native.Mathlib.Omega.{arith}
 use lib.Dec.{eqb}
 use lib.ListN.{length, length-append}
+use Rattle.base.specs.Limits.{mostLevels}
 use Rattle.base.specs.Lists.{anyb}
 use Rattle.base.specs.Bools.{one-if}
 use Rattle.base.specs.Range.{range}
@@ -46,17 +47,17 @@ no-bits f [] h = refl
 no-bits f (y ∷ l) h = ap₂ (λ (b : Bool) (n : ℕ). one-if b + 2 * n) (h y) (no-bits f l h)
 
 abbrev Low : Entry → Type 0
-Low e = pred (length (e .path)) ≤ 11
+Low e = pred (length (e .path)) ≤ mostLevels
 
-low-by : (l : List ℕ) (n : ℕ) → length l ≡ suc n → n ≤ 11 → pred (length l) ≤ 11
+low-by : (l : List ℕ) (n : ℕ) → length l ≡ suc n → n ≤ mostLevels → pred (length l) ≤ mostLevels
 low-by l n e h = omega (arith, ap pred e)
 
-masters-low : (es : List Entry) → All Low es → topOf (masterPaths es) ≤ 11
+masters-low : (es : List Entry) → All Low es → topOf (masterPaths es) ≤ mostLevels
 unfolding masterPaths topOf largest
 masters-low [] t = omega arith
 masters-low (e ∷ es) t = go (e .ghost) refl (masters-low es (t .1))
   where
-    go : (b : Bool) → e .ghost ≡ b → topOf (masterPaths es) ≤ 11 → topOf (masterPaths (e ∷ es)) ≤ 11
+    go : (b : Bool) → e .ghost ≡ b → topOf (masterPaths es) ≤ mostLevels → topOf (masterPaths (e ∷ es)) ≤ mostLevels
     go true g i = rw (g, masterPaths) i
     go false g i = rw (g, masterPaths) (omega (arith, t .0, i))
 
@@ -80,16 +81,16 @@ module _ {Part : Type 0} (F : Finite Part) (J : Task Part) (fit : Fit J) (lev : 
         go false e = rw (e, childStatus)
 
   module _ (k c : ℕ) (m : Member c (J .cells k)) where
-    here : pred (length (J .path c)) ≤ 11
+    here : pred (length (J .path c)) ≤ mostLevels
     here = low-by (J .path c) k (lev .paths k c m) (omega (arith, lev .no-cells k c m, lev .levels))
 
     child-long : (i : ℕ) → length (J .path c ++ (i ∷ [])) ≡ suc (suc k)
     child-long i = omega (arith, length-append (J .path c) (i ∷ []), lev .paths k c m)
 
-    child-low : (i : ℕ) → pred (length (J .path c ++ (i ∷ []))) ≤ 11
+    child-low : (i : ℕ) → pred (length (J .path c ++ (i ∷ []))) ≤ mostLevels
     child-low i = low-by (J .path c ++ (i ∷ [])) (suc k) (child-long i) (omega (arith, lev .no-cells k c m, lev .levels))
 
-    second-low : (i j : ℕ) → suc k ≤ J .top → pred (length ((J .path c ++ (i ∷ [])) ++ (j ∷ []))) ≤ 11
+    second-low : (i j : ℕ) → suc k ≤ J .top → pred (length ((J .path c ++ (i ∷ [])) ++ (j ∷ []))) ≤ mostLevels
     second-low i j h = low-by ((J .path c ++ (i ∷ [])) ++ (j ∷ [])) (suc (suc k))
         (omega (arith, length-append (J .path c ++ (i ∷ [])) (j ∷ []), child-long i)) (omega (arith, h, lev .levels))
 
@@ -141,5 +142,5 @@ module _ {Part : Type 0} (F : Finite Part) (J : Task Part) (fit : Fit J) (lev : 
   entries-low = all-flat Low (levelEntries F J p st) (range 0 (suc (J .top)))
       (λ k n. all-flat Low (cellEntries F J p st k) (J .cells k) (λ c m. cell-entries k c m))
 
-  pub masters-high : topOf (masterPaths (entries F J p st)) ≤ 11
+  pub masters-high : topOf (masterPaths (entries F J p st)) ≤ mostLevels
   masters-high = masters-low (entries F J p st) entries-low

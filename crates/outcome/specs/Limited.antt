@@ -7,6 +7,7 @@ use Prim.Native.Nat.{ℕ, zero, suc, _+_, _-_, _≤_, _<_, Fin}
 use native.Mathlib.Omega.{arith}
 use lib.Dec.{eqb}
 use lib.ListN.{length}
+use Rattle.base.specs.Limits.{mostCells}
 use Rattle.base.specs.Lists.{filterb}
 use Rattle.base.specs.Range.{range, length-range, member-range}
 use Rattle.exchange.specs.Finite.{parts}
@@ -63,7 +64,7 @@ module _ (P : ℕ) (J : Task (Fin P)) (p : Fin P) (x : List ℕ) (u : Columns P 
     paths = λ k c m. let w = u .paths k c m in ap length (w .is) ∙ ap suc (w .deep);
   }
 
-  small-of : SmallTask (parts P) J 4096
+  small-of : SmallTask (parts P) J mostCells
   small-of = record {
     levels = omega (arith, u .levels-few);
     cells =
@@ -97,4 +98,4 @@ module _ (P : ℕ) (J : Task (Fin P)) (p : Fin P) (x : List ℕ) (u : Columns P 
       → (q : Fin P) (r : ℕ) (n : Fin P → ℕ) (f : ℕ)
       → Can (parts P) (protocol (parts P) J (grownOf (parts P) J) (ups P) (pack P J) reads) input q r n f
       → Fitted P J q (local (parts P) (protocol (parts P) J (grownOf (parts P) J) (ups P) (pack P J) reads) input q r n f)
-  fitting-of fit reads input = fitting P J fit limits-of 4096 small-of (omega arith) reads input
+  fitting-of fit reads input = fitting P J fit limits-of mostCells small-of (omega arith) reads input

@@ -1,60 +1,59 @@
 -- The laws of one part alone, of the calls on stores.
 --   machine         the calls, and which stores stand for what
 -- Law: alone.
-use mathlib.Core.Path.{_≡_, refl, sym, _∙_, ap, ap₂, subst}
-use mathlib.Core.Logic.{_⊎_, inl, inr, _≢_}
+use mathlib.Core.Path.{_≡_, refl, sym, _∙_, ap, subst}
+use mathlib.Core.Logic.{_≢_}
 use mathlib.Core.Bool.{Bool, true, false, _&&_, _||_, not}
 use mathlib.Core.Option.{Option, none, some}
 use mathlib.Core.List.{List, [], _∷_, _++_}
-use Prim.Native.Nat.{ℕ, zero, suc, _+_, _-_, _*_, _/_, _%_, _≤_, _<_, Fin}
+use Prim.Native.Nat.{ℕ, zero, suc, _+_, _-_, _*_, _%_, _≤_, _<_, Fin}
 use native.Mathlib.Decide.{ℕ-discrete, decLt, Fin·val-path}
 use native.Mathlib.Omega.{arith}
 use lib.Dec.{T, eqb, ltb, leb, leb→le}
-use lib.ListN.{length, getD, take, drop, replicate, length-append}
+use lib.ListN.{length, getD, take, drop, length-append}
 use lib.Seq.{sets, sets-eq, take-append-seam}
 use borrow.Author.Tests.{eq-eqb, ne-eqb, le-leb, eqb-true}
 use Rattle.base.specs.Bools.{one-if, and-left, and-right, not-both, is-true}
+use Rattle.base.specs.Limits.{mostCells}
 use Rattle.base.specs.Refuse.{refuse}
 use Rattle.base.specs.declared.Answer.{Answer}
 use Rattle.base.specs.declared.Answer.the-variants.{Accepted, Refused}
 use Rattle.exchange.specs.Calls.{Start, Step, Fetch, Hand}
-use Rattle.exchange.specs.Finite.{Finite, parts}
+use Rattle.exchange.specs.Finite.{parts}
 use Rattle.exchange.specs.Protocol.{Protocol, Machine, Alone, Gives, following, atStart, withQueue, withBody}
 use Rattle.rounds.specs.Task.{Task, Fit}
 use Rattle.rounds.specs.Rounds.{Body, State, phase, isPart}
 use Rattle.rounds.specs.Rounded.{protocol, overb, endedb, wholeb, silent, whole-is, whole-all, phase-marks, phase-counts, phase-totals}
-use Rattle.rounds.specs.Rounded.{phase-over}
 use Rattle.rounds.specs.Among.{is-self, is-eq}
 use Rattle.rounds.specs.Order.{ordered}
 use Rattle.rounds.specs.Upward.{ups, once}
 use Rattle.rounds.specs.Turns.{Turn, in-marks, in-counts, in-totals, in-over, turn-of}
-use Rattle.store.specs.Fields.{field, full, STAGE, PART, PARTS, LEVELS, ROUND, ENDED, GIVEN, CELLS}
+use Rattle.store.specs.Fields.{field, full, STAGE, PART, PARTS, LEVELS, ROUND, ENDED, GIVEN, FIRST-ENDED, endCode, totalsCode}
 use Rattle.store.specs.Header.{headerb, stageb}
 use Rattle.store.specs.Headed.{header-is, header-yes, running-no}
 use Rattle.store.specs.Message.{two, messageOf, headOf, bodyOf}
-use Rattle.store.specs.Fetch.{codeAt, valueAt, fetchAnswer, fetchBytes, fetchAfter, nextToGive, given}
+use Rattle.store.specs.Fetch.{codeAt, valueAt, fetchBytes, fetchAfter, nextToGive, given}
 use Rattle.store.specs.Fetching.{before-start}
-use Rattle.store.specs.Hand.{handAnswer, handAfter, wellb, takenAt, endedAt, numberAt}
+use Rattle.store.specs.Hand.{handAnswer, handAfter}
 use Rattle.store.specs.Handing.{refuse-on}
 use Rattle.store.specs.declared.Fetched.{Fetched}
-use Rattle.store.specs.declared.Fetched.the-variants.{Message, Nothing}
-use Rattle.standing.specs.Busy.{L, pack, HoldsCell, Busy, hand-is, fetch-nothing, fetch-some, not-from-self}
+use Rattle.standing.specs.Busy.{L, pack, HoldsCell, Busy, hand-is, fetch-nothing, fetch-some}
 use Rattle.merging.specs.Totals.{grownOf}
 use Rattle.turns.specs.Loops.{someFrom}
-use Rattle.turns.specs.Start.{startAnswer, startAfter, marksDue}
+use Rattle.turns.specs.Start.{startAnswer, startAfter}
 use Rattle.partstep.specs.Step.{waitsFor, readyb, partAnswer, partAfter, partStepped, turnedIn}
 use Rattle.entering.specs.Fits.{Fitted}
 use Rattle.entering.specs.Standing.{Standing, Idle}
 use Rattle.entering.specs.Turn.{Q}
 use Rattle.entering.specs.Entered.{Stay, stay-on}
 use Rattle.entering.specs.Steps.{Wholes}
-use Rattle.entering.specs.Begins.{start-yes, start-fine, begins, begins-stay}
+use Rattle.entering.specs.Begins.{start-fine, begins, begins-stay}
 use Rattle.entering.specs.ToCounts.{into-counts, counts-stay}
 use Rattle.entering.specs.ToMarks.{into-marks, marks-stay}
 use Rattle.entering.specs.ToTotals.{into-totals, totals-stay}
 use Rattle.entering.specs.ToEnd.{into-end, end-stay}
 use Rattle.entering.specs.Passing.{fetched, fetch-stay, handed, hand-stay}
-use Rattle.outcome.specs.Program.{yields, gives, nine, act}
+use Rattle.outcome.specs.Program.{yields, gives, nine, act, phaseOf}
 
 -- an answer that is accepted, and one that is not
 refused-none : (a : Answer) (y : List ℕ) → (a ≡ Accepted → ⊥) → yields a y ≡ none
@@ -156,9 +155,9 @@ module _ (P : ℕ) (J : Task (Fin P)) (p : Fin P) (l : L P J) (x : List ℕ) (st
           rw (eq-eqb (suc (q .0)) (field x PART) (ap (λ (r : Fin P). suc (r .0)) z ∙ sym (u .part)))
       go false e =
           let f : wholeb (parts P) J (l .round) q p (l .got q) ≡ endedb (l .got q) = rw (e, live, wholeb) in
-          let g : field x (80 + q .0) ≡ suc (l .round) =
+          let g : field x (FIRST-ENDED + q .0) ≡ suc (l .round) =
           u .ends q e live ∙ ap (λ (b : Bool). l .round + one-if b) (sym f ∙ w) ∙ omega arith in
-          let i : ENDED + suc (q .0) ≡ 80 + q .0 = omega arith in
+          let i : ENDED + suc (q .0) ≡ FIRST-ENDED + q .0 = omega arith in
           let h : field x (ENDED + suc (q .0)) ≡ field x ROUND + 1 = ap (field x) i ∙ g ∙ omega (arith, u .round) in
           rw (eq-eqb (field x (ENDED + suc (q .0))) (field x ROUND + 1) h) (or-not (eqb (suc (q .0)) (field x PART)))
         where
@@ -175,7 +174,7 @@ module _ (P : ℕ) (J : Task (Fin P)) (p : Fin P) (l : L P J) (x : List ℕ) (st
       go true e c d = rw (e, wholeb)
       go false e true d = rw (e, live, d, wholeb)
       go false e false d =
-          let i : ENDED + suc (q .0) ≡ 80 + q .0 = omega arith in
+          let i : ENDED + suc (q .0) ≡ FIRST-ENDED + q .0 = omega arith in
           let h : field x (ENDED + suc (q .0)) ≢ field x ROUND + 1 =
           (λ z. absurd (omega (arith, ap (field x) i, z, u .ends q e live, ap one-if d, u .round))) in
           let o : suc (q .0) ≢ field x PART =
@@ -272,13 +271,13 @@ module _ (P : ℕ) (J : Task (Fin P)) (p : Fin P) (l : L P J) (x : List ℕ) (st
 -- a fetched message has at most nine bytes
 body-short : (c v : ℕ) → length (bodyOf c v) ≤ 4
 unfolding bodyOf
-body-short c v = go (ltb c 4096) (ltb c 28672) (ltb c 28928)
+body-short c v = go (ltb c mostCells) (ltb c totalsCode) (ltb c endCode)
   where
     go : (a b d : Bool) → length {A = ℕ} (elim a [
       | true ↦ two c ++ (v % 256 ∷ [])
       | false ↦ elim b [
-        | true ↦ two (c - 4096) ++ two v
-        | false ↦ elim d [ true ↦ two v ++ ((c - 28672) ∷ []) | false ↦ [] ]
+        | true ↦ two (c - mostCells) ++ two v
+        | false ↦ elim d [ true ↦ two v ++ ((c - totalsCode) ∷ []) | false ↦ [] ]
       ]
     ]) ≤ 4
     go true b d = omega arith
@@ -303,10 +302,6 @@ pub given-short : (x : List ℕ) → length (given x (nextToGive x)) ≤ 9
 unfolding given
 given-short x = message-short (field x PART) (nextToGive x .bit + 1) (field x (GIVEN + nextToGive x .bit)) (codeAt x (nextToGive x .entry))
     (valueAt x (nextToGive x .entry))
-
--- before the start 0, then one more than the round
-unfoldable pub phaseOf : List ℕ → ℕ
-phaseOf x = elim (eqb (field x STAGE) 0) [ true ↦ 0 | false ↦ suc (field x ROUND) ]
 
 -- first are the stores of the split
 module _ (P : ℕ) (J : Task (Fin P)) (fit : Fit J) (reads : Fin P → List ℕ → ℕ → ℕ) (place : ℕ → ℕ) (takes : Fin P → List ℕ → Bool)

@@ -9,10 +9,11 @@ use lib.ListN.{length, set, length-set}
 use lib.Seq.{getD-set-other}
 use borrow.Author.Tests.{eq-eqb, ne-eqb, lt-ltb, le-ltb, le-leb, lt-leb}
 use Rattle.base.specs.Bools.{and-left}
+use Rattle.base.specs.Limits.{mostCells, mostLevels}
 use Rattle.base.specs.Refuse.{refuse}
 use Rattle.base.specs.declared.Answer.{Answer}
 use Rattle.base.specs.declared.Answer.the-variants.{Accepted, Refused}
-use Rattle.store.specs.Fields.{field, full, STAGE, PART, PARTS, CELLS, LEVELS, ROUND, RESULT, ENTRIES, TOTAL, HIGH, ENDED}
+use Rattle.store.specs.Fields.{field, full, STAGE, PART, PARTS, CELLS, LEVELS, ROUND, RESULT, ENTRIES, TOTAL, HIGH, ENDED, totalsCode}
 use Rattle.store.specs.Header.{stageb, headerb}
 use Rattle.store.specs.Headed.{header-is, header-yes}
 use Rattle.turns.specs.Loops.{someFrom, eachFrom, SameHead}
@@ -51,7 +52,7 @@ module _ (t s r : Bool) (a b c d : List ℕ) where
 
 totals-head : (x : List ℕ) → SameHead x (postTotals x)
 unfolding postTotals
-totals-head x = posted-head x ((28672 + field x HIGH) % 65536) (field x TOTAL) (othersOf x)
+totals-head x = posted-head x ((totalsCode + field x HIGH) % 65536) (field x TOTAL) (othersOf x)
 
 module _ (x : List ℕ) where
   pub waits-own : (q : ℕ) → q ≡ field x PART → false ≡ waitsFor x q
@@ -67,7 +68,7 @@ module _ (x : List ℕ) where
   ready-by b e = ap not (sym e)
 
   -- the totals
-  pub totals-is : (y : List ℕ) (k m : ℕ) → k ≡ (28672 + field x HIGH) % 65536 → m ≡ othersOf x → y ≡ posted x k (field x TOTAL) m
+  pub totals-is : (y : List ℕ) (k m : ℕ) → k ≡ (totalsCode + field x HIGH) % 65536 → m ≡ othersOf x → y ≡ posted x k (field x TOTAL) m
       → y ≡ postTotals x
   unfolding postTotals
   totals-is y k m e f i = i ∙ ap₂ (λ (a b : ℕ). posted x a (field x TOTAL) b) e f
@@ -91,7 +92,7 @@ module _ (x : List ℕ) where
     pub clear-long : full ≤ length y
     clear-long = clear-usable .long
 
-    pub clear-cells : field y CELLS ≤ 4096
+    pub clear-cells : field y CELLS ≤ mostCells
     clear-cells = clear-usable .cells-most
 
     same-cells : field y CELLS ≡ field x CELLS
@@ -112,17 +113,17 @@ module _ (x : List ℕ) where
           h ∙ ap postEnd (g ∙ ap postTotals a)
 
   -- the end
-  pub end-high : 11 ≤ field x HIGH → 8 ≡ endNumber x
+  pub end-high : mostLevels ≤ field x HIGH → 8 ≡ endNumber x
   unfolding endNumber
-  end-high h = rw (le-leb 11 (field x HIGH) h, endNumber)
+  end-high h = rw (le-leb mostLevels (field x HIGH) h, endNumber)
 
-  pub end-fits : field x HIGH < 11 → field x TOTAL ≤ 4096 → 0 ≡ endNumber x
+  pub end-fits : field x HIGH < mostLevels → field x TOTAL ≤ mostCells → 0 ≡ endNumber x
   unfolding endNumber
-  end-fits h g = rw (lt-leb 11 (field x HIGH) h, le-leb (field x TOTAL) 4096 g, endNumber)
+  end-fits h g = rw (lt-leb mostLevels (field x HIGH) h, le-leb (field x TOTAL) mostCells g, endNumber)
 
-  pub end-many : field x HIGH < 11 → 4096 < field x TOTAL → 9 ≡ endNumber x
+  pub end-many : field x HIGH < mostLevels → mostCells < field x TOTAL → 9 ≡ endNumber x
   unfolding endNumber
-  end-many h g = rw (lt-leb 11 (field x HIGH) h, lt-leb (field x TOTAL) 4096 g, endNumber)
+  end-many h g = rw (lt-leb mostLevels (field x HIGH) h, lt-leb (field x TOTAL) mostCells g, endNumber)
 
   pub restored-none : (r : ℕ) → r ≡ 0 → x ≡ restored x r
   unfolding restored

@@ -14,7 +14,7 @@ use Rattle.base.specs.Limits.{mostCells, mostLevels}
 use Rattle.base.specs.Refuse.{refuse}
 use Rattle.base.specs.declared.Answer.{Answer}
 use Rattle.base.specs.declared.Answer.the-variants.{Accepted, Refused}
-use Rattle.store.specs.Fields.{field, full, STAGE, PART, PARTS, CELLS, LEVELS, ROUND, RESULT, ENTRIES, TOTAL, HIGH, ENDED}
+use Rattle.store.specs.Fields.{field, full, STAGE, PART, PARTS, CELLS, LEVELS, ROUND, RESULT, ENTRIES, TOTAL, HIGH, ENDED, totalsCode}
 use Rattle.store.specs.Header.{headerb}
 use Rattle.turns.specs.Loops.{someFrom, eachFrom}
 use Rattle.turns.specs.Post.{posted, othersOf, postEnd}
@@ -42,7 +42,7 @@ cleared x = set (set (set x ENTRIES 0) TOTAL 0) HIGH 0
 -- Rule 15.4.
 unfoldable pub postTotals : List ℕ → List ℕ
 unfolding posted othersOf
-postTotals x = posted x ((28672 + field x HIGH) % 65536) (field x TOTAL) (othersOf x)
+postTotals x = posted x ((totalsCode + field x HIGH) % 65536) (field x TOTAL) (othersOf x)
 
 -- Rule 15.7.
 unfoldable pub enterTotals : List ℕ → List ℕ

@@ -3,17 +3,20 @@ use base::Answer;
 use mail::header_fits;
 use places::place_cells;
 use places::place_olds;
+use store::CELLS_MOST;
 use store::ENDED;
 use store::ENTRIES;
 use store::FULL;
 use store::HIGH;
 use store::LEVELS;
+use store::LEVELS_MOST;
 use store::PART;
 use store::PARTS;
 use store::RESULT;
 use store::ROUND;
 use store::STAGE;
 use store::TOTAL;
+use store::TOTALS_CODE;
 use turns::enter_counts;
 use turns::enter_marks;
 use turns::others_of;
@@ -25,7 +28,8 @@ ghost use Prim.Native.Nat.{_≤_, _<_};
 ghost use lib.Dec.{eqb};
 ghost use lib.ListN.{length};
 ghost use Rattle.base.specs.Lent.{was, is};
-ghost use Rattle.store.specs.Fields.{field, full};
+ghost use Rattle.base.specs.Limits.{mostParts, mostCells};
+ghost use Rattle.store.specs.Fields.{field, full, CELLS, PARTS};
 ghost use Rattle.turns.specs.Usable.{Usable};
 ghost use Rattle.partstep.specs.Step.{waitsFor, readyb, partAnswer, cleared, postTotals, enterTotals};
 ghost use Rattle.partstep.specs.Step.{endNumber, finished, roundEntered};
@@ -34,7 +38,7 @@ ghost use Rattle.partstep.specs.Turning.{restored};
 
 // Whether the end of the round from another part is not taken yet.
 fn waits_for(store: &[u16], q: usize) -> bool
-    requires { ⌜ (full ≤ length (now store)) × (q ≤ 16) ⌝ }
+    requires { ⌜ (full ≤ length (now store)) × (q ≤ mostParts) ⌝ }
     ensures { λ r. ⌜ r ≡ waitsFor (was store) q ⌝ }
 {
     if q == store[PART] as usize {
@@ -45,7 +49,7 @@ fn waits_for(store: &[u16], q: usize) -> bool
 
 // Whether no other part is waited for.
 fn is_ready(store: &[u16]) -> bool
-    requires { ⌜ (full ≤ length (now store)) × (field (now store) 2 ≤ 16) ⌝ }
+    requires { ⌜ (full ≤ length (now store)) × (field (now store) PARTS ≤ mostParts) ⌝ }
     ensures { λ r. ⌜ r ≡ readyb (was store) ⌝ }
 {
     let last = store[PARTS] as usize + 1;
@@ -65,7 +69,7 @@ fn post_totals(store: &mut [u16])
     ensures { λ r. ⌜ is store ≡ postTotals (was store) ⌝ }
 {
     let mask = others_of(store);
-    let code = (28672 + store[HIGH] as usize) % 65536;
+    let code = (TOTALS_CODE + store[HIGH] as usize) % 65536;
     let total = store[TOTAL];
     post(store, code as u16, total, mask as u16);
 }
@@ -96,10 +100,10 @@ fn end_number(store: &[u16]) -> u16
     requires { ⌜ full ≤ length (now store) ⌝ }
     ensures { λ r. ⌜ r ≡ endNumber (was store) ⌝ }
 {
-    if store[HIGH] >= 11 {
+    if store[HIGH] >= LEVELS_MOST {
         return 8;
     }
-    if store[TOTAL] <= 4096 {
+    if store[TOTAL] <= CELLS_MOST {
         return 0;
     }
     9
@@ -107,7 +111,7 @@ fn end_number(store: &[u16]) -> u16
 
 // Writes the old masters and ghosts, where the step came to 8 or 9.
 fn restore(store: &mut [u16], result: u16)
-    requires { ⌜ (full ≤ length (now store)) × (field (now store) 5 ≤ 4096) ⌝ }
+    requires { ⌜ (full ≤ length (now store)) × (field (now store) CELLS ≤ mostCells) ⌝ }
     ensures { λ r. ⌜ is store ≡ restored (was store) result ⌝ }
 {
     if result == 0 {
@@ -119,7 +123,7 @@ fn restore(store: &mut [u16], result: u16)
 
 // Ends the step.
 fn finish(store: &mut [u16])
-    requires { ⌜ (full ≤ length (now store)) × (field (now store) 5 ≤ 4096) ⌝ }
+    requires { ⌜ (full ≤ length (now store)) × (field (now store) CELLS ≤ mostCells) ⌝ }
     ensures { λ r. ⌜ is store ≡ finished (was store) ⌝ }
 {
     let result = end_number(store);

@@ -10,6 +10,7 @@ use lib.ListN.{length, getD, set, replicate, length-set}
 use lib.Seq.{getD-set-same, getD-set-other}
 use borrow.Author.Tests.{eq-eqb, ne-eqb, lt-ltb, le-ltb}
 use Rattle.base.specs.Every.{below-at}
+use Rattle.base.specs.Limits.{mostCells}
 use Rattle.cutting.specs.Answer.{cutOf}
 use Rattle.cutting.specs.declared.Family.{Family}
 use Rattle.mesh.specs.Cells.{bitsOf}
@@ -47,22 +48,22 @@ module _ (x : List ℕ) (c : ℕ) where
     stays-refined s = rw (le-ltb (field x (HEAD + c)) 256 h, ne-eqb (field x (STATUS + c)) 0 s, lastsb)
 
     module _ (s : field x (STATUS + c) ≡ 0) where
-      pub stays-none : 4096 ≤ field x (PARENT + c) → false ≡ lastsb x c
+      pub stays-none : mostCells ≤ field x (PARENT + c) → false ≡ lastsb x c
       unfolding lastsb
       stays-none p = rw (
         le-ltb (field x (HEAD + c)) 256 h,
         eq-eqb (field x (STATUS + c)) 0 s,
-        le-ltb (field x (PARENT + c)) 4096 p,
+        le-ltb (field x (PARENT + c)) mostCells p,
         lastsb,
       )
 
-      module _ (p : field x (PARENT + c) < 4096) where
+      module _ (p : field x (PARENT + c) < mostCells) where
         pub stays-other : (field x (STATUS + field x (PARENT + c)) ≡ 64 → ⊥) → false ≡ lastsb x c
         unfolding lastsb
         stays-other n = rw (
           le-ltb (field x (HEAD + c)) 256 h,
           eq-eqb (field x (STATUS + c)) 0 s,
-          lt-ltb (field x (PARENT + c)) 4096 p,
+          lt-ltb (field x (PARENT + c)) mostCells p,
           ne-eqb (field x (STATUS + field x (PARENT + c))) 64 n,
           lastsb,
         )
@@ -72,7 +73,7 @@ module _ (x : List ℕ) (c : ℕ) where
         stays-red n = rw (
           le-ltb (field x (HEAD + c)) 256 h,
           eq-eqb (field x (STATUS + c)) 0 s,
-          lt-ltb (field x (PARENT + c)) 4096 p,
+          lt-ltb (field x (PARENT + c)) mostCells p,
           eq-eqb (field x (STATUS + field x (PARENT + c))) 64 n,
           lastsb,
         )

@@ -8,6 +8,7 @@ use lib.Dec.{T, eqb}
 use lib.ListN.{set}
 use borrow.Author.Tests.{eq-eqb, ne-eqb, lt-ltb, le-ltb}
 use Rattle.base.specs.Bools.{and-right}
+use Rattle.base.specs.Limits.{mostCells, tooMany}
 use Rattle.mesh.specs.Table.{sizeOf}
 use Rattle.store.specs.Fields.{field, PART, ENTRIES, TOTAL, HIGH, OWNER, FAMILY, STATUS, PLACE-HEAD, PLACE-DIGITS, PLACE-MORE, PLACE-STATUS}
 use Rattle.store.specs.declared.Place.{Place}
@@ -18,17 +19,17 @@ use Rattle.places.specs.Put.{placeAt, entrySet, put, putMaster, putLeaf,
 use Rattle.places.specs.Put.{placeFamily, placeCell, placeOld}
 
 module _ (x : List ℕ) (p : Place) (s : ℕ) where
-  pub put-full : 4096 ≤ field x ENTRIES → x ≡ put x p s
+  pub put-full : mostCells ≤ field x ENTRIES → x ≡ put x p s
   unfolding put
-  put-full h = rw (le-ltb (field x ENTRIES) 4096 h, put)
+  put-full h = rw (le-ltb (field x ENTRIES) mostCells h, put)
 
-  pub put-here : field x ENTRIES < 4096
+  pub put-here : field x ENTRIES < mostCells
       → set (set (set (set (set x (PLACE-HEAD + field x ENTRIES) (p .head)) (PLACE-DIGITS + field x ENTRIES) (p .digits))
       (PLACE-MORE + field x ENTRIES) (p .more)) (PLACE-STATUS + field x ENTRIES) s) ENTRIES (field x ENTRIES + 1) ≡ put x p s
   unfolding put entrySet
-  put-here h = rw (lt-ltb (field x ENTRIES) 4096 h, put)
+  put-here h = rw (lt-ltb (field x ENTRIES) mostCells h, put)
 
-  pub master-is : (y : List ℕ) (t h : ℕ) → t ≡ min (field x TOTAL + 1) 4097 → h ≡ max (field x HIGH) (p .head / 256)
+  pub master-is : (y : List ℕ) (t h : ℕ) → t ≡ min (field x TOTAL + 1) tooMany → h ≡ max (field x HIGH) (p .head / 256)
       → y ≡ put (set (set x TOTAL t) HIGH h) p s → y ≡ putMaster x p s
   unfolding putMaster
   master-is y t h e f i = i ∙ ap₂ (λ (a b : ℕ). put (set (set x TOTAL a) HIGH b) p s) e f

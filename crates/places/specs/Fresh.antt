@@ -13,6 +13,7 @@ use lib.Dec.{eqb}
 use lib.ListN.{length, getD}
 use borrow.Author.Tests.{ne-eqb, le-leb, lt-leb}
 use Rattle.base.specs.Bools.{one-if}
+use Rattle.base.specs.Limits.{mostCells}
 use Rattle.base.specs.Lists.{anyb}
 use Rattle.base.specs.Range.{range}
 use Rattle.cutting.specs.Rule.{family}
@@ -51,7 +52,7 @@ freshBy x ds rs f n i = bitsOf (map (λ y. pairHas x ds f n (lowAt rs i y) (high
 
 -- children that the store has
 abbrev pub KidsInside : ℕ → ℕ → Type 0
-KidsInside f n = 1 ≤ n → f + n ≤ 4096
+KidsInside f n = 1 ≤ n → f + n ≤ mostCells
 
 -- eight numbers in a row, by a function; each a status
 abbrev pub EightAs : (ℕ → ℕ) → List ℕ → Type 0

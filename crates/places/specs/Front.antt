@@ -9,6 +9,7 @@ use native.Mathlib.Omega.{arith}
 use lib.Dec.{eqb, ltb}
 use lib.ListN.{length, getD, set, length-set}
 use lib.Seq.{getD-set-other}
+use Rattle.base.specs.Limits.{mostCells, tooMany}
 use Rattle.mesh.specs.Table.{sizeOf}
 use Rattle.store.specs.Fields.{field, PART, ENTRIES, TOTAL, HIGH, OWNER, FAMILY, STATUS, PLACE-HEAD, PLACE-DIGITS, PLACE-MORE, PLACE-STATUS}
 use Rattle.store.specs.declared.Place.{Place}
@@ -21,7 +22,7 @@ use Rattle.places.specs.Put.{placeFamily, placeCell, placeOld}
 
 pub record SameFront (x y : List ℕ) : Type 0 where
   pub size : length y ≡ length x
-  pub head : (i : ℕ) → i < 9 → getD y i 0 ≡ getD x i 0
+  pub head : (i : ℕ) → i < ENTRIES → getD y i 0 ≡ getD x i 0
 
 pub front-self : (x : List ℕ) → SameFront x x
 front-self x = record { size = refl; head = λ i h. refl }
@@ -29,10 +30,10 @@ front-self x = record { size = refl; head = λ i h. refl }
 pub front-on : (x y z : List ℕ) → SameFront x y → SameFront y z → SameFront x z
 front-on x y z a b = record { size = b .size ∙ a .size; head = λ i h. b .head i h ∙ a .head i h }
 
-pub front-set : (x : List ℕ) (i n : ℕ) → 9 ≤ i → SameFront x (set x i n)
+pub front-set : (x : List ℕ) (i n : ℕ) → ENTRIES ≤ i → SameFront x (set x i n)
 front-set x i n h = record { size = length-set x i n; head = λ j l. getD-set-other x i j n 0 (λ z. absurd (omega (arith, z))) }
 
-set-on : (x y : List ℕ) (i n : ℕ) → 9 ≤ i → SameFront x y → SameFront x (set y i n)
+set-on : (x y : List ℕ) (i n : ℕ) → ENTRIES ≤ i → SameFront x y → SameFront x (set y i n)
 set-on x y i n h a = front-on x y (set y i n) a (front-set y i n h)
 
 module _ (f : List ℕ → ℕ → List ℕ) (keeps : (x : List ℕ) (c : ℕ) → SameFront x (f x c)) where
@@ -49,9 +50,9 @@ module _ (f : List ℕ → ℕ → List ℕ) (keeps : (x : List ℕ) (c : ℕ) �
 
 put-same-front : (x : List ℕ) (p : Place) (s : ℕ) → SameFront x (put x p s)
 unfolding put entrySet
-put-same-front x p s = go (ltb (field x ENTRIES) 4096) refl
+put-same-front x p s = go (ltb (field x ENTRIES) mostCells) refl
   where
-    go : (t : Bool) → ltb (field x ENTRIES) 4096 ≡ t → SameFront x (put x p s)
+    go : (t : Bool) → ltb (field x ENTRIES) mostCells ≡ t → SameFront x (put x p s)
     go false e = rw (e, put) (front-self x)
     go true e =
         rw (e, put)
@@ -66,7 +67,7 @@ unfolding putMaster
 master-front x p s =
     front-on x _ _
     (set-on x _ HIGH (max (field x HIGH) (placeLevel p)) (omega arith)
-    (front-set x TOTAL (min (field x TOTAL + 1) 4097) (omega arith))) (put-same-front _ p s)
+    (front-set x TOTAL (min (field x TOTAL + 1) tooMany) (omega arith))) (put-same-front _ p s)
 
 pub leaf-front : (p : Place) (x : List ℕ) (i : ℕ) → SameFront x (putLeaf p x i)
 unfolding putLeaf

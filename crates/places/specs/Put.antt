@@ -12,6 +12,7 @@ use mathlib.Core.List.{List}
 use Prim.Native.Nat.{ℕ, _+_, _%_, min, max}
 use lib.Dec.{eqb, ltb}
 use lib.ListN.{set}
+use Rattle.base.specs.Limits.{mostCells, tooMany}
 use Rattle.mesh.specs.Table.{sizeOf}
 use Rattle.store.specs.Fields.{field, PART, ENTRIES, TOTAL, HIGH, OWNER, FAMILY, STATUS, HEAD, DIGITS, MORE}
 use Rattle.store.specs.Fields.{PLACE-HEAD, PLACE-DIGITS, PLACE-MORE, PLACE-STATUS}
@@ -32,12 +33,12 @@ entrySet x j p s =
 unfoldable pub put : List ℕ → Place → ℕ → List ℕ
 unfolding entrySet
 put x p s =
-    elim (ltb (field x ENTRIES) 4096) [ true ↦ set (entrySet x (field x ENTRIES) p s) ENTRIES (field x ENTRIES + 1) | false ↦ x ]
+    elim (ltb (field x ENTRIES) mostCells) [ true ↦ set (entrySet x (field x ENTRIES) p s) ENTRIES (field x ENTRIES + 1) | false ↦ x ]
 
 -- Rule 15.4: totals are cut at 4,097, which stands for more
 unfoldable pub putMaster : List ℕ → Place → ℕ → List ℕ
 unfolding put
-putMaster x p s = put (set (set x TOTAL (min (field x TOTAL + 1) 4097)) HIGH (max (field x HIGH) (placeLevel p))) p s
+putMaster x p s = put (set (set x TOTAL (min (field x TOTAL + 1) tooMany)) HIGH (max (field x HIGH) (placeLevel p))) p s
 
 -- Rule 15.2.
 unfoldable pub putLeaf : Place → List ℕ → ℕ → List ℕ

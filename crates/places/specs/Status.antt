@@ -8,6 +8,7 @@ use mathlib.Core.Bool.{Bool, true, false, _&&_, _||_, not}
 use mathlib.Core.List.{List, map}
 use Prim.Native.Nat.{ℕ, _+_}
 use lib.Dec.{eqb, ltb}
+use Rattle.base.specs.Limits.{mostCells}
 use Rattle.base.specs.Lists.{anyb}
 use Rattle.base.specs.Range.{range}
 use Rattle.cutting.specs.Rule.{family, low, high}
@@ -30,7 +31,7 @@ newStatus x c =
 unfoldable pub lastsb : List ℕ → ℕ → Bool
 lastsb x c =
     ltb (field x (HEAD + c)) 256 || (not (eqb (field x (STATUS + c)) 0)
-    || (ltb (field x (PARENT + c)) 4096 && (eqb (field x (STATUS + field x (PARENT + c))) 64 && eqb
+    || (ltb (field x (PARENT + c)) mostCells && (eqb (field x (STATUS + field x (PARENT + c))) 64 && eqb
     (field x (RED + field x (PARENT + c))) 1)))
 
 -- Rule 15.13.

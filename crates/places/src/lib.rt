@@ -1,4 +1,5 @@
 // The masters and ghosts of a part after the step, from its store alone: statuses, and places written one behind the other.
+use base::MOST_CELLS;
 use cutting::cut;
 use digits::high_digit;
 use digits::low_digit;
@@ -23,6 +24,7 @@ use store::RED;
 use store::REGULAR;
 use store::STATUS;
 use store::TOTAL;
+use store::TOTAL_MOST;
 use store::child_place;
 use turns::edge_hit;
 use turns::kid_count;
@@ -34,10 +36,11 @@ ghost use lib.Dec.{eqb};
 ghost use lib.ListN.{length, getD};
 ghost use Rattle.base.specs.Bools.{one-if};
 ghost use Rattle.base.specs.Lent.{was, is};
+ghost use Rattle.base.specs.Limits.{mostCells, tooMany};
 ghost use Rattle.mesh.specs.Cells.{bitsOf};
 ghost use Rattle.mesh.specs.Table.{sizeOf};
 ghost use Rattle.mesh.specs.Layout.{edgeNumbers};
-ghost use Rattle.store.specs.Fields.{field, full};
+ghost use Rattle.store.specs.Fields.{field, full, CELLS, STATUS};
 ghost use Rattle.store.specs.Places.{childPlace};
 ghost use Rattle.turns.specs.Loops.{eachFrom};
 ghost use Rattle.turns.specs.Decide.{hitOf};
@@ -55,7 +58,7 @@ fn bit(b: bool) -> u16
 
 // The pattern of a cell's edges that are hit, from the last edge to the first.
 fn hit_bits(store: &[u16], c: usize) -> u16
-    requires { ⌜ (full ≤ length (now store)) × (c < 4096) ⌝ }
+    requires { ⌜ (full ≤ length (now store)) × (c < mostCells) ⌝ }
     ensures { λ r. ⌜ (r ≡ bitsOf (map (hitOf (was store) c) edgeNumbers)) × (r ≤ 63) ⌝ }
 {
     let mut p: u16 = 0;
@@ -70,7 +73,7 @@ fn hit_bits(store: &[u16], c: usize) -> u16
 
 // The status of a cell after the step, if it stays.
 fn new_status(store: &[u16], c: usize) -> u16
-    requires { ⌜ (full ≤ length (now store)) × (c < 4096) ⌝ }
+    requires { ⌜ (full ≤ length (now store)) × (c < mostCells) ⌝ }
     ensures { λ r. ⌜ (r ≡ newStatus (was store) c) × (r ≤ 64) ⌝ }
 {
     if store[REGULAR + c] != 1 {
@@ -84,7 +87,7 @@ fn new_status(store: &[u16], c: usize) -> u16
 
 // Whether a cell is there after the step.
 fn stays(store: &[u16], c: usize) -> bool
-    requires { ⌜ (full ≤ length (now store)) × (c < 4096) ⌝ }
+    requires { ⌜ (full ≤ length (now store)) × (c < mostCells) ⌝ }
     ensures { λ r. ⌜ r ≡ lastsb (was store) c ⌝ }
 {
     if store[HEAD + c] < 256 {
@@ -94,7 +97,7 @@ fn stays(store: &[u16], c: usize) -> bool
         return true;
     }
     let parent = store[PARENT + c] as usize;
-    if parent >= 4096 {
+    if parent >= MOST_CELLS {
         return false;
     }
     if store[STATUS + parent] != 64 {
@@ -105,7 +108,7 @@ fn stays(store: &[u16], c: usize) -> bool
 
 // Whether a cell has a family here after the step that is not its old one.
 fn anew(store: &[u16], c: usize) -> bool
-    requires { ⌜ (full ≤ length (now store)) × (c < 4096) ⌝ }
+    requires { ⌜ (full ≤ length (now store)) × (c < mostCells) ⌝ }
     ensures { λ r. ⌜ r ≡ remadeb (was store) c ⌝ }
 {
     if store[FAMILY + c] != store[PART] {
@@ -137,7 +140,7 @@ fn edge_has(digits: &[u8; 32], j: usize, y: usize, a: u8, b: u8) -> bool
 
 // Whether it does and is hit, where the child is the cell d.
 fn edge_both(store: &[u16], digits: &[u8; 32], d: usize, j: usize, y: usize, a: u8, b: u8) -> bool
-    requires { ⌜ (full ≤ length (now store)) × (d < 4096) × (j < 8) × (y < 6) ⌝ }
+    requires { ⌜ (full ≤ length (now store)) × (d < mostCells) × (j < 8) × (y < 6) ⌝ }
     ensures { λ r. ⌜ r ≡ edgeHit (was store) (was digits) d a b j y ⌝ }
 {
     if !edge_has(digits, j, y, a, b) {
@@ -148,7 +151,7 @@ fn edge_both(store: &[u16], digits: &[u8; 32], d: usize, j: usize, y: usize, a: 
 
 // Whether the child j, which is the cell d, has such an edge that is hit.
 fn kid_has(store: &[u16], digits: &[u8; 32], d: usize, j: usize, a: u8, b: u8) -> bool
-    requires { ⌜ (full ≤ length (now store)) × (d < 4096) × (j < 8) ⌝ }
+    requires { ⌜ (full ≤ length (now store)) × (d < mostCells) × (j < 8) ⌝ }
     ensures { λ r. ⌜ r ≡ kidHas (was store) (was digits) d a b j ⌝ }
 {
     let mut y: usize = 0;
@@ -209,8 +212,8 @@ fn fresh_all(store: &[u16], old: &[u8; 32], red: &[u8; 32], first: usize, n: usi
 
 // The statuses of the new children of a green cell that will be red.
 fn fresh_of(store: &[u16], c: usize) -> [u16; 8]
-    requires { ⌜ (full ≤ length (now store)) × (field (now store) 5 ≤ 4096) × (c < 4096) ⌝ }
-    requires { ⌜ (field (now store) (8304 + c) ≡ 64 → ⊥) ⌝ }
+    requires { ⌜ (full ≤ length (now store)) × (field (now store) CELLS ≤ mostCells) × (c < mostCells) ⌝ }
+    requires { ⌜ (field (now store) (STATUS + c) ≡ 64 → ⊥) ⌝ }
     ensures { λ r. ⌜ EightAs (freshBits (was store) c) r ⌝ }
 {
     let status = store[STATUS + c];
@@ -228,7 +231,7 @@ fn fresh_of(store: &[u16], c: usize) -> [u16; 8]
 
 // The place of a cell.
 fn place_at(store: &[u16], c: usize) -> Place
-    requires { ⌜ (full ≤ length (now store)) × (c < 4096) ⌝ }
+    requires { ⌜ (full ≤ length (now store)) × (c < mostCells) ⌝ }
     ensures { λ r. ⌜ r ≡ placeAt (was store) c ⌝ }
 {
     Place {
@@ -244,7 +247,7 @@ fn put_entry(store: &mut [u16], p: Place, status: u16)
     ensures { λ r. ⌜ is store ≡ put (was store) p status ⌝ }
 {
     let n = store[ENTRIES] as usize;
-    if n >= 4096 {
+    if n >= MOST_CELLS {
         return;
     }
     store[PLACE_HEAD + n] = p.head;
@@ -256,9 +259,13 @@ fn put_entry(store: &mut [u16], p: Place, status: u16)
 
 // One more, at most 4,097.
 fn one_more(total: u16) -> u16
-    ensures { λ r. ⌜ r ≡ min (total + 1) 4097 ⌝ }
+    ensures { λ r. ⌜ r ≡ min (total + 1) tooMany ⌝ }
 {
-    if total < 4097 { total + 1 } else { 4097 }
+    if total < TOTAL_MOST {
+        total + 1
+    } else {
+        TOTAL_MOST
+    }
 }
 
 // The higher of a level and that of a place.
@@ -327,8 +334,8 @@ fn put_children(store: &mut [u16], p: Place, fresh: &[u16; 8])
 
 // Writes the new family of a green cell that will be red.
 fn place_fresh(store: &mut [u16], c: usize)
-    requires { ⌜ (full ≤ length (now store)) × (field (now store) 5 ≤ 4096) × (c < 4096) ⌝ }
-    requires { ⌜ (field (now store) (8304 + c) ≡ 64 → ⊥) ⌝ }
+    requires { ⌜ (full ≤ length (now store)) × (field (now store) CELLS ≤ mostCells) × (c < mostCells) ⌝ }
+    requires { ⌜ (field (now store) (STATUS + c) ≡ 64 → ⊥) ⌝ }
     ensures { λ r. ⌜ is store ≡ eachFrom (putChild (placeAt (was store) c) (freshBits (was store) c)) 8 0 (was store) ⌝ }
 {
     let p = place_at(store, c);
@@ -338,7 +345,7 @@ fn place_fresh(store: &mut [u16], c: usize)
 
 // Writes a cell, if it is a master and stays.
 fn place_master(store: &mut [u16], c: usize)
-    requires { ⌜ (full ≤ length (now store)) × (c < 4096) ⌝ }
+    requires { ⌜ (full ≤ length (now store)) × (c < mostCells) ⌝ }
     ensures { λ r. ⌜ is store ≡ placeMaster (was store) c ⌝ }
 {
     if store[OWNER + c] != store[PART] {
@@ -354,7 +361,7 @@ fn place_master(store: &mut [u16], c: usize)
 
 // Writes a cell of another part whose family is here, if it is refined: 128 more for a ghost.
 fn place_ghost(store: &mut [u16], c: usize)
-    requires { ⌜ (full ≤ length (now store)) × (c < 4096) ⌝ }
+    requires { ⌜ (full ≤ length (now store)) × (c < mostCells) ⌝ }
     ensures { λ r. ⌜ is store ≡ placeGhost (was store) c ⌝ }
 {
     if store[OWNER + c] == store[PART] {
@@ -373,8 +380,8 @@ fn place_ghost(store: &mut [u16], c: usize)
 
 // Whether a refined cell will be red.
 fn red_beside(store: &[u16], c: usize, status: u16) -> bool
-    requires { ⌜ (full ≤ length (now store)) × (c < 4096) ⌝ }
-    ensures { λ r. ⌜ r ≡ (eqb status 64 && not (eqb (field (was store) (8304 + c)) 0)) ⌝ }
+    requires { ⌜ (full ≤ length (now store)) × (c < mostCells) ⌝ }
+    ensures { λ r. ⌜ r ≡ (eqb status 64 && not (eqb (field (was store) (STATUS + c)) 0)) ⌝ }
 {
     if status != 64 {
         return false;
@@ -384,7 +391,7 @@ fn red_beside(store: &[u16], c: usize, status: u16) -> bool
 
 // Writes the new family of a cell, if it is here.
 fn place_family(store: &mut [u16], c: usize)
-    requires { ⌜ (full ≤ length (now store)) × (field (now store) 5 ≤ 4096) × (c < 4096) ⌝ }
+    requires { ⌜ (full ≤ length (now store)) × (field (now store) CELLS ≤ mostCells) × (c < mostCells) ⌝ }
     ensures { λ r. ⌜ is store ≡ placeFamily (was store) c ⌝ }
 {
     if !anew(store, c) {
@@ -402,7 +409,7 @@ fn place_family(store: &mut [u16], c: usize)
 
 // Writes what a cell gives.
 fn place_cell(store: &mut [u16], c: usize)
-    requires { ⌜ (full ≤ length (now store)) × (field (now store) 5 ≤ 4096) × (c < 4096) ⌝ }
+    requires { ⌜ (full ≤ length (now store)) × (field (now store) CELLS ≤ mostCells) × (c < mostCells) ⌝ }
     ensures { λ r. ⌜ is store ≡ placeCell (was store) c ⌝ }
 {
     place_master(store, c);
@@ -412,8 +419,8 @@ fn place_cell(store: &mut [u16], c: usize)
 
 // Writes what all cells give.
 pub fn place_cells(store: &mut [u16])
-    requires { ⌜ (full ≤ length (now store)) × (field (now store) 5 ≤ 4096) ⌝ }
-    ensures { λ r. ⌜ is store ≡ eachFrom placeCell (field (was store) 5) 0 (was store) ⌝ }
+    requires { ⌜ (full ≤ length (now store)) × (field (now store) CELLS ≤ mostCells) ⌝ }
+    ensures { λ r. ⌜ is store ≡ eachFrom placeCell (field (was store) CELLS) 0 (was store) ⌝ }
 {
     let cells = store[CELLS] as usize;
     let mut c: usize = 0;
@@ -425,7 +432,7 @@ pub fn place_cells(store: &mut [u16])
 
 // Writes a master or ghost as it was.
 fn place_old(store: &mut [u16], c: usize)
-    requires { ⌜ (full ≤ length (now store)) × (c < 4096) ⌝ }
+    requires { ⌜ (full ≤ length (now store)) × (c < mostCells) ⌝ }
     ensures { λ r. ⌜ is store ≡ placeOld (was store) c ⌝ }
 {
     let status = store[STATUS + c];
@@ -442,8 +449,8 @@ fn place_old(store: &mut [u16], c: usize)
 
 // Writes all masters and ghosts as they were.
 pub fn place_olds(store: &mut [u16])
-    requires { ⌜ (full ≤ length (now store)) × (field (now store) 5 ≤ 4096) ⌝ }
-    ensures { λ r. ⌜ is store ≡ eachFrom placeOld (field (was store) 5) 0 (was store) ⌝ }
+    requires { ⌜ (full ≤ length (now store)) × (field (now store) CELLS ≤ mostCells) ⌝ }
+    ensures { λ r. ⌜ is store ≡ eachFrom placeOld (field (was store) CELLS) 0 (was store) ⌝ }
 {
     let cells = store[CELLS] as usize;
     let mut c: usize = 0;

@@ -53,19 +53,19 @@ unfolding positioned cornerAnswer pointOf
 positionOf sums n k = positioned (cornerAnswer sums n k) (pointOf sums k)
 
 module _ (sums : List ℤ) (n k : ℕ) where
-  pub positionOf-short : length sums < 49152 → positionOf sums n k ≡ Refused 15
+  pub positionOf-short : length sums < fullSums → positionOf sums n k ≡ Refused 15
   unfolding positionOf
-  positionOf-short h = rw (lt-leb 49152 (length sums) h, positionOf)
+  positionOf-short h = rw (lt-leb fullSums (length sums) h, positionOf)
 
-  module _ (full : 49152 ≤ length sums) where
+  module _ (full : fullSums ≤ length sums) where
     pub positionOf-beyond : n ≤ k → positionOf sums n k ≡ Refused 7
     unfolding positionOf
-    positionOf-beyond h = rw (le-leb 49152 (length sums) full, le-ltb k n h, positionOf)
+    positionOf-beyond h = rw (le-leb fullSums (length sums) full, le-ltb k n h, positionOf)
 
-    pub positionOf-above : 16384 ≤ k → positionOf sums n k ≡ Refused 7
+    pub positionOf-above : mostCorners ≤ k → positionOf sums n k ≡ Refused 7
     unfolding positionOf
-    positionOf-above h = rw (le-leb 49152 (length sums) full, le-ltb k 16384 h, and-false (ltb k n), positionOf)
+    positionOf-above h = rw (le-leb fullSums (length sums) full, le-ltb k mostCorners h, and-false (ltb k n), positionOf)
 
-    pub positionOf-at : k < n → k < 16384 → positionOf sums n k ≡ At (pointOf sums k)
+    pub positionOf-at : k < n → k < mostCorners → positionOf sums n k ≡ At (pointOf sums k)
     unfolding positionOf
-    positionOf-at h l = rw (le-leb 49152 (length sums) full, lt-ltb k n h, lt-ltb k 16384 l, positionOf)
+    positionOf-at h l = rw (le-leb fullSums (length sums) full, lt-ltb k n h, lt-ltb k mostCorners l, positionOf)

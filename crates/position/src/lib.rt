@@ -1,4 +1,6 @@
 // The position of a corner as three f64 numbers (docs/METHOD.md, section 8).
+use base::FULL_SUMS;
+use base::MOST_CORNERS;
 ghost use mathlib.Core.Path.{_≡_};
 ghost use Prim.Native.Nat.{_<_};
 ghost use lib.ListN.{length, getD};
@@ -30,13 +32,13 @@ fn coordinate(sums: &[i32], at: usize) -> f64
 pub fn position_of(sums: &[i32], corners: usize, corner: usize) -> Position
     ensures { λ r. ⌜ r ≡ positionOf (was sums) corners corner ⌝ }
 {
-    if sums.len() < 49152 {
+    if sums.len() < FULL_SUMS {
         return Position::Refused(15);
     }
     if corner >= corners {
         return Position::Refused(7);
     }
-    if corner >= 16384 {
+    if corner >= MOST_CORNERS {
         return Position::Refused(7);
     }
     let at = 3 * corner;

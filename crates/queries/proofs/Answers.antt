@@ -7,19 +7,20 @@ use Prim.Native.Nat.{ℕ, _≤_, _<_}
 use lib.IntN.{ℤ}
 use lib.ListN.{length}
 use borrow.Author.Tests.{lt-ltb, le-ltb, le-leb, lt-leb}
+use Rattle.base.specs.Limits.{fullCounts}
 use Rattle.base.specs.declared.Answer.the-variants.{Accepted, Refused}
 use Rattle.base.specs.Refuse.{answer-refused, answer-none, answerOf, andThen}
 use Rattle.mesh.specs.Answers.{cellsIn, tableAnswer}
 use Rattle.queries.specs.Calls.{ancestorAnswer, countsAnswer}
 
 module _ (ps : List ℤ) (ts ss : List ℕ) where
-  pub counts-short : (l : List ℕ) → length l < 44 → countsAnswer ps ts ss l ≡ Refused 15
+  pub counts-short : (l : List ℕ) → length l < fullCounts → countsAnswer ps ts ss l ≡ Refused 15
   unfolding countsAnswer
-  counts-short l h = rw (lt-leb 44 (length l) h)
+  counts-short l h = rw (lt-leb fullCounts (length l) h)
 
-  pub counts-long : (l : List ℕ) → 44 ≤ length l → countsAnswer ps ts ss l ≡ tableAnswer ps ts ss
+  pub counts-long : (l : List ℕ) → fullCounts ≤ length l → countsAnswer ps ts ss l ≡ tableAnswer ps ts ss
   unfolding countsAnswer
-  counts-long l h = rw (le-leb 44 (length l) h)
+  counts-long l h = rw (le-leb fullCounts (length l) h)
 
   -- a cell
   module _ (k c : ℕ) (t : tableAnswer ps ts ss ≡ answerOf k) where

@@ -1,5 +1,6 @@
 // What is asked of a status table over a coarse mesh: a cell's ancestor, the counts of every level.
 use ancestors::Ancestor;
+use base::FULL_COUNTS;
 ghost use mathlib.Core.Path.{_≡_};
 ghost use Prim.Native.Nat.{_+_};
 ghost use lib.ListN.{length, getD};
@@ -59,7 +60,7 @@ pub fn counts(positions: &[i32], cells: &[u16], status: &[u8], counts: &mut [u16
         (countTable (levelsIn (was positions) (was cells) (was status)))
         (was counts) ⌝ }
 {
-    if counts.len() < 44 {
+    if counts.len() < FULL_COUNTS {
         return Counted::Refused(15);
     }
     let mut rows = [0u16; 32768];

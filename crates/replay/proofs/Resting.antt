@@ -8,6 +8,7 @@ use lib.IntN.{ℤ}
 use lib.ListN.{length, take, replicate, length-replicate}
 use lib.Seq.{take-at}
 use Rattle.base.specs.Fours.{fours, length-fours}
+use Rattle.base.specs.Limits.{mostCells}
 use Rattle.base.specs.Refuse.{refuse, andThen, codeOf}
 use Rattle.base.specs.declared.Answer.{Answer}
 use Rattle.base.specs.declared.Answer.the-variants.{Accepted, Refused}
@@ -44,7 +45,7 @@ module _ (ps : List ℤ) (mesh : List ℕ) (k : ℕ) (few : length mesh / 4 ≤ 
                 (omega (arith, length-fours mesh, m .few)),
           )
 
-  pub rested : (table rest rows xs ys : List ℕ) (refusal cells levels mids : ℕ) → table ≡ zeros ++ rest → k ≤ 256 → 4096 ≤ length table
+  pub rested : (table rest rows xs ys : List ℕ) (refusal cells levels mids : ℕ) → table ≡ zeros ++ rest → k ≤ 256 → mostCells ≤ length table
       → Opened ps mesh (take k table) rows xs ys refusal cells levels mids → Rested ps mesh rows table refusal k levels
   rested table rest rows xs ys refusal cells levels mids e f room o =
       let t : take k table ≡ zeros = rw e (take-at zeros rest k (length-replicate k 0)) in

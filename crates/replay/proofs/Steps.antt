@@ -11,6 +11,7 @@ use lib.ListN.{length, take, drop}
 use lib.Seq.{take-at, length-take-le}
 use Rattle.base.specs.Bools.{not-both}
 use Rattle.base.specs.Fours.{fours}
+use Rattle.base.specs.Limits.{mostCells}
 use Rattle.base.specs.Refuse.{refuse, answerOf}
 use Rattle.mesh.specs.Table.{levelsOf, soundb}
 use Rattle.mesh.specs.Answers.{marksb}
@@ -42,7 +43,7 @@ module _ (ss : List ℕ) (ms : List (ℕ × ℕ)) (new : List ℕ) where
 
 -- a table with its rows
 pub relaid : (n : ℕ) (mesh new table₀ table rows ps qs : List ℕ) (cells levels mids k : ℕ) → Mesh n mesh
-    → T (soundb n (fours mesh) (take cells new)) → cells ≤ 4096 → 4096 ≤ length new → 4096 ≤ length table
+    → T (soundb n (fours mesh) (take cells new)) → cells ≤ mostCells → mostCells ≤ length new → mostCells ≤ length table
     → table ≡ take cells new ++ drop cells table₀ → LaidSound n (fours mesh) (take cells table) rows ps qs k levels mids
     → Relaid n mesh new cells rows table 0 cells levels
 relaid n mesh new table₀ table rows ps qs cells levels mids k m s few room lent w l =

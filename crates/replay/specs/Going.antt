@@ -14,6 +14,7 @@ use lib.Dec.{T, leb}
 use lib.IntN.{ℤ}
 use lib.ListN.{length, take, drop}
 use Rattle.base.specs.Fours.{fours}
+use Rattle.base.specs.Limits.{mostCells}
 use Rattle.base.specs.Refuse.{refuse, answerOf}
 use Rattle.base.specs.declared.Answer.{Answer}
 use Rattle.mesh.specs.Coarse.{cornerCount, meshAnswer}
@@ -26,8 +27,8 @@ use Rattle.replay.specs.Run.{oneAnswer, oneTable, runTable, restTable, f
 -- Rules 6.1 to 6.4, 9.2: a sound table with its rows.
 pub record ReplayGoing (n : ℕ) (mesh rows table : List ℕ) (cells : ℕ) : Type 0 where
   pub held : Held n mesh rows (take cells table)
-  pub few : cells ≤ 4096
-  pub room : 4096 ≤ length table
+  pub few : cells ≤ mostCells
+  pub room : mostCells ≤ length table
 
 -- Rules 10.1, 12.5: a mesh at rest.
 pub record Rested (ps : List ℤ) (mesh rows table : List ℕ) (refusal cells levels : ℕ) : Type 0 where
@@ -83,7 +84,7 @@ stepEnds ps ts cs ms es = runTable (cornerCount ps) (fours ts) (restTable (fours
 pub record Replayed (ps : List ℤ) (ts cs ms es table : List ℕ) (refusal cells levels : ℕ) : Type 0 where
   pub answer : tablesAnswer ps ts cs ms es ≡ answerOf refusal
   pub counted : refusal ≡ 0 → length (stepEnds ps ts cs ms es) ≡ cells
-  pub few : refusal ≡ 0 → cells ≤ 4096
+  pub few : refusal ≡ 0 → cells ≤ mostCells
   pub table-is : refusal ≡ 0 → take cells table ≡ stepEnds ps ts cs ms es
   pub sound : refusal ≡ 0 → T (soundb (cornerCount ps) (fours ts) (stepEnds ps ts cs ms es))
   pub high : refusal ≡ 0 → length (levelsOf (cornerCount ps) (fours ts) (stepEnds ps ts cs ms es)) ≡ levels

@@ -9,6 +9,7 @@ use lib.Dec.{eqb, leb}
 use lib.ListN.{length, take, replicate, length-replicate}
 use lib.Seq.{take-all}
 use borrow.Author.Tests.{le-leb, eq-eqb}
+use Rattle.base.specs.Limits.{mostCells, mostLevels}
 use Rattle.base.specs.Lists.{allb, sameb}
 use Rattle.mesh.specs.Cells.{Cell, edges, heldb, redEdges, closedFrom, statusOf, pattern, children, bitsOf}
 use Rattle.mesh.specs.Weights.{Point, coarseFrom, coarseCells}
@@ -53,7 +54,7 @@ rest-levels n q qs =
 
 abbrev tests : List Level → List ℕ → Bool
 tests ls ss =
-    (eqb (length ss) (length (cellsOf ls)) && (leb (length ls) 11 && leb (length (cellsOf ls)) 4096))
+    (eqb (length ss) (length (cellsOf ls)) && (leb (length ls) mostLevels && leb (length (cellsOf ls)) mostCells))
     && (allb closedb ls && apartb (cellsOf ls) ss)
 
 sound-tests : (n : ℕ) (qs : List (List ℕ)) (ss : List ℕ) → soundb n qs ss ≡ tests (levelsOf n qs ss) ss
@@ -80,7 +81,7 @@ module _ (n : ℕ) (qs : List (List ℕ)) where
   unfolding apartb coarseCells
   rest-apart = all-regular _ n 0 qs
 
-  rest-tests : length qs ≤ 4096 → tests (record { first = 0; cells = cs; statuses = restTable qs } ∷ []) (restTable qs) ≡ true
+  rest-tests : length qs ≤ mostCells → tests (record { first = 0; cells = cs; statuses = restTable qs } ∷ []) (restTable qs) ≡ true
   unfolding allb
   rest-tests f =
       rw (
@@ -89,10 +90,10 @@ module _ (n : ℕ) (qs : List (List ℕ)) where
         rest-apart,
         eq-eqb (length (restTable qs)) (length cs) (length-replicate {A = ℕ} (length qs) 0
             ∙ sym rest-count),
-        le-leb (length cs) 4096 (omega (arith, rest-count)),
+        le-leb (length cs) mostCells (omega (arith, rest-count)),
       )
 
-pub rest-sound : (n : ℕ) (qs : List (List ℕ)) → 0 < length qs → length qs ≤ 4096 → soundb n qs (restTable qs) ≡ true
+pub rest-sound : (n : ℕ) (qs : List (List ℕ)) → 0 < length qs → length qs ≤ mostCells → soundb n qs (restTable qs) ≡ true
 rest-sound n [] s f = absurd (omega arith)
 rest-sound n (q ∷ qs) s f =
     sound-tests n (q ∷ qs) (restTable (q ∷ qs)) ∙ ap (λ (ls : List Level). tests ls (restTable (q ∷ qs))) (rest-levels n q qs)

@@ -1,4 +1,5 @@
 // Jobs done again: the steps of a job in turn.
+use base::MOST_COARSE_CELLS;
 use tables::Outcome;
 use writing::NewTable;
 ghost use mathlib.Core.Path.{_≡_};
@@ -8,6 +9,7 @@ ghost use lib.Dec.{T};
 ghost use lib.ListN.{length, take, drop, replicate};
 ghost use Rattle.base.specs.Fours.{fours};
 ghost use Rattle.base.specs.Lent.{was, is};
+ghost use Rattle.base.specs.Limits.{mostCells, mostCoarseCells};
 ghost use Rattle.cutting.specs.Answer.{digitTable, startTable};
 ghost use Rattle.mesh.specs.Table.{levelsOf, soundb};
 ghost use Rattle.tables.specs.Sound.{Mesh};
@@ -131,7 +133,7 @@ fn settle(
 ) -> Outcome
     requires { ⌜ Mesh n (now mesh) ⌝ }
     requires { ⌜ T (soundb n (fours (now mesh)) (take cells (now new))) ⌝ }
-    requires { ⌜ cells ≤ 4096 ⌝ }
+    requires { ⌜ cells ≤ mostCells ⌝ }
     requires { ⌜ (now digits ≡ digitTable) × (now starts ≡ startTable) ⌝ }
     ensures { λ r. ⌜ Relaid n (was mesh) (was new) cells (is rows) (is table) (r .refusal) (r .cells) (r .levels) ⌝ }
 {
@@ -260,12 +262,12 @@ fn at_rest(
 
 // k, and 256 where it is more.
 fn few(k: usize) -> usize
-    ensures { λ r. ⌜ (r ≤ 256) × (k ≤ 256 → r ≡ k) ⌝ }
+    ensures { λ r. ⌜ (r ≤ mostCoarseCells) × (k ≤ mostCoarseCells → r ≡ k) ⌝ }
 {
-    if k <= 256 {
+    if k <= MOST_COARSE_CELLS {
         return k;
     }
-    256
+    MOST_COARSE_CELLS
 }
 
 // The steps of a job in turn, on a sound table with its rows, of so many cells, levels and new corners. Refusals 7 to 9.

@@ -3,6 +3,7 @@ ghost use mathlib.Core.Path.{_≡_};
 ghost use Prim.Native.Nat.{_+_, _*_, _≤_, _<_, _-_};
 ghost use lib.ListN.{length, getD};
 ghost use Rattle.base.specs.Lent.{was};
+ghost use Rattle.base.specs.Limits.{mostCells};
 ghost use Rattle.mesh.specs.Cells.{edge};
 ghost use Rattle.rows.specs.Numbered.{cellAt, part};
 ghost use Rattle.rows.specs.EdgeEnds.{lows, highs};
@@ -95,7 +96,7 @@ pub fn size_of(status: u8) -> usize
 
 // The number of children of the cells from first to last.
 pub fn level_size(status: &[u8], first: usize, last: usize) -> usize
-    requires { ⌜ (first ≤ last) × (last ≤ length (now status)) × (length (now status) ≤ 4096) ⌝ }
+    requires { ⌜ (first ≤ last) × (last ≤ length (now status)) × (length (now status) ≤ mostCells) ⌝ }
     requires { ⌜ allb (λ s. leb s 64) (now status) ≡ true ⌝ }
     ensures { λ r. ⌜ r ≡ sizes (part (was status) first (last - first)) ⌝ }
 {

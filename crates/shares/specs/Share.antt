@@ -82,7 +82,7 @@ module _ {Part : Type 0} {F : Finite Part} (X : Settled F) (P : ℕ) (number : P
   module _ (k i : ℕ) (h : i < length (newLevelIn X k .cells)) (p : Part) where
     owner-number : number (ownIn X k i) ≡ ownAt n qs (X .ss) (X .ms) (X .os) k i
     owner-number =
-        let (a, b) = owner-in n qs (X .ss) (X .os) ts u (X .sound) P t k i (inside k i h) in
+        let (a, b) = owner-in n qs (X .ss) (X .os) (X .sound) P t ts k i (inside k i h) in
         let e = heir-owner n qs (X .ss) (X .os) ts u k i (inside k i h) in
         let o : ownerAfter n qs (X .ss) (X .os) (pathAt (lv n qs ts k .cells) i) ≡ ownAt n qs (X .ss) (X .ms) (X .os) k i =
         sym e ∙ own-is k i h in

@@ -12,6 +12,7 @@ use native.Mathlib.Omega.{arith}
 use lib.ListN.{length, getD, set, length-set}
 use lib.Seq.{getD-set-same, getD-set-other}
 use Rattle.base.specs.Bools.{either}
+use Rattle.base.specs.Limits.{mostLevels}
 use Rattle.base.specs.Places.{hasb, placeIn, add, has-below, place-missing, has-new, kept, place-kept}
 use Rattle.base.specs.Range.{range, range-snoc}
 use Rattle.mesh.specs.Cells.{edge}
@@ -176,19 +177,20 @@ pub record Going (t fs : List ℕ) (k : ℕ) (xs ys heads links sl st : List ℕ
   pub starts : (i : ℕ) → i < k → getD st i 0 ≡ slotsTo t fs i
   pub slots : (i j : ℕ) → i < k → 6 * getD fs i 0 ≤ j → j < 6 * getD fs (suc i) 0
       → getD sl j 0 ≡ slotsTo t fs i + placeIn isb (keysIn t (getD fs i 0) (getD fs (suc i) 0)) (sorted (edgeAt t j))
-  pub size : length st ≡ 12
+  pub size : length st ≡ mostLevels + 1
 
-rising-to : (fs : List ℕ) → Rising fs → (i d : ℕ) → i + d < 12 → getD fs i 0 ≤ getD fs (i + d) 0
+rising-to : (fs : List ℕ) → Rising fs → (i d : ℕ) → i + d < mostLevels + 1 → getD fs i 0 ≤ getD fs (i + d) 0
 rising-to fs r i zero h = let z : i + 0 ≡ i = omega arith in rw z (omega arith)
 rising-to fs r i (suc d) h =
     let z : i + suc d ≡ suc (i + d) = omega arith in
     rw z (omega (arith, rising-to fs r i d (omega arith), r .up (i + d) (omega arith)))
 
-rising-up : (fs : List ℕ) → Rising fs → (i k : ℕ) → i ≤ k → k < 12 → getD fs i 0 ≤ getD fs k 0
+rising-up : (fs : List ℕ) → Rising fs → (i k : ℕ) → i ≤ k → k < mostLevels + 1 → getD fs i 0 ≤ getD fs k 0
 rising-up fs r i k h l = let z : i + (k - i) ≡ k = omega arith in rw z at (rising-to fs r i (k - i) (omega arith))
 
 module _ (t fs : List ℕ) where
-  pub going-start : (xs ys heads links sl st : List ℕ) → Keys xs ys heads links 0 → length st ≡ 12 → Going t fs 0 xs ys heads links sl
+  pub going-start : (xs ys heads links sl st : List ℕ) → Keys xs ys heads links 0 → length st ≡ mostLevels + 1
+      → Going t fs 0 xs ys heads links sl
       st 0
   unfolding slotsTo
   going-start xs ys heads links sl st k z =
@@ -201,7 +203,8 @@ module _ (t fs : List ℕ) where
         size = z;
       }
 
-  module _ (r : Rising fs) (k : ℕ) (below : k < 11) (xs ys heads links sl st : List ℕ) (n : ℕ) (g : Going t fs k xs ys heads links sl
+  module _ (r : Rising fs) (k : ℕ) (below : k < mostLevels) (xs ys heads links sl st : List ℕ) (n : ℕ)
+      (g : Going t fs k xs ys heads links sl
       st n)
       (xs′ ys′ heads′ links′ sl′ : List ℕ) (m : ℕ)
       (d : LevelDone t (getD fs k 0) (getD fs (suc k) 0) n sl xs′ ys′ heads′ links′ sl′ m) where
@@ -236,12 +239,12 @@ module _ (t fs : List ℕ) where
         }
 
   pub all-levels : Rising fs → (xs ys heads links sl st : List ℕ) (n : ℕ) → Going t fs 11 xs ys heads links sl st n
-      → Slotted t fs sl (set st 11 n)
+      → Slotted t fs sl (set st mostLevels n)
   all-levels r xs ys heads links sl st n g =
       record {
         starts = λ k h.
-            ⊎-elim (λ (e : k ≡ 11). rw e (getD-set-same st 11 n 0 (omega (arith, g .size)) ∙ g .count))
-            (λ (l : k < 11). getD-set-other st 11 k n 0 (λ z. absurd (omega (arith, z))) ∙ g .starts k l)
+            ⊎-elim (λ (e : k ≡ mostLevels). rw e (getD-set-same st mostLevels n 0 (omega (arith, g .size)) ∙ g .count))
+            (λ (l : k < mostLevels). getD-set-other st mostLevels k n 0 (λ z. absurd (omega (arith, z))) ∙ g .starts k l)
             (eq-or-lt-of-le (omega arith));
         few = omega (arith, g .count, g .few, r .most 11 (omega arith));
         slots = λ k j h a b. g .slots k j h a b;

@@ -10,6 +10,7 @@ use mathlib.Core.Path.{_≡_}
 use mathlib.Core.List.{List, [], map}
 use Prim.Native.Nat.{ℕ, zero, suc, _+_, _*_, _-_, _/_, _%_, _≤_, _<_}
 use lib.ListN.{length, getD, set}
+use Rattle.base.specs.Limits.{mostCells, mostLevels, mostSlots}
 use Rattle.base.specs.Places.{placeIn}
 use Rattle.base.specs.Range.{range}
 use Rattle.mesh.specs.Cells.{edge}
@@ -35,8 +36,8 @@ slotsTo t fs zero = 0
 slotsTo t fs (suc k) = slotsTo t fs k + length (keysIn t (getD fs k 0) (getD fs (suc k) 0))
 
 pub record Rising (fs : List ℕ) : Type 0 where
-  pub up : (k : ℕ) → k < 11 → getD fs k 0 ≤ getD fs (suc k) 0
-  pub most : (k : ℕ) → k < 12 → getD fs k 0 ≤ 4096
+  pub up : (k : ℕ) → k < mostLevels → getD fs k 0 ≤ getD fs (suc k) 0
+  pub most : (k : ℕ) → k < mostLevels + 1 → getD fs k 0 ≤ mostCells
 
 pub record OneMore (t : List ℕ) (i : ℕ) (xs ys : List ℕ) (from n : ℕ) (sl xs′ ys′ heads′ links′ sl′ : List ℕ) (n′ : ℕ) : Type 0 where
   pub edges : Edges xs′ ys′ heads′ links′ from n′
@@ -53,7 +54,7 @@ pub record LevelDone (t : List ℕ) (first last n : ℕ) (sl xs′ ys′ heads�
   pub kept : (j : ℕ) → j < 6 * first → getD sl′ j 0 ≡ getD sl j 0
 
 pub record Slotted (t fs sl st : List ℕ) : Type 0 where
-  pub starts : (k : ℕ) → k < 12 → getD st k 0 ≡ slotsTo t fs k
-  pub few : slotsTo t fs 11 ≤ 24576
-  pub slots : (k j : ℕ) → k < 11 → 6 * getD fs k 0 ≤ j → j < 6 * getD fs (suc k) 0
+  pub starts : (k : ℕ) → k < mostLevels + 1 → getD st k 0 ≡ slotsTo t fs k
+  pub few : slotsTo t fs mostLevels ≤ mostSlots
+  pub slots : (k j : ℕ) → k < mostLevels → 6 * getD fs k 0 ≤ j → j < 6 * getD fs (suc k) 0
       → getD sl j 0 ≡ slotsTo t fs k + placeIn isb (keysIn t (getD fs k 0) (getD fs (suc k) 0)) (sorted (edgeAt t j))

@@ -1,9 +1,11 @@
 // The slots of a table's edges: the edges of a level, each once, in the order of their first appearance, numbered behind those of lower
 // levels. An edge is known by the numbers of its two corners.
+use base::MOST_LEVELS;
 ghost use mathlib.Core.Path.{_≡_};
-ghost use Prim.Native.Nat.{_*_, _≤_, _<_};
+ghost use Prim.Native.Nat.{_+_, _*_, _≤_, _<_};
 ghost use lib.ListN.{length};
 ghost use Rattle.base.specs.Lent.{was, is};
+ghost use Rattle.base.specs.Limits.{fullRows, mostCells, mostSlots, mostLevels};
 ghost use Rattle.pairs.specs.Keys.{Keys};
 ghost use Rattle.edges.specs.Table.{Edges, Space};
 ghost use Rattle.slots.specs.Slots.{OneMore, LevelDone, Rising, Slotted};
@@ -22,7 +24,7 @@ fn number_edge(
 ) -> usize
     requires { ⌜ Edges (now xs) (now ys) (now heads) (now links) from n ⌝ }
     requires { ⌜ Space (now xs) (now ys) (now links) n 1 ⌝ }
-    requires { ⌜ (length (now rows) ≡ 32768) × (length (now slots) ≡ 24576) × (i < 24576) ⌝ }
+    requires { ⌜ (length (now rows) ≡ fullRows) × (length (now slots) ≡ mostSlots) × (i < mostSlots) ⌝ }
     ensures { λ r. ⌜ OneMore (was rows) i (was xs) (was ys) from n (was slots) (is xs) (is ys) (is heads) (is links) (is slots) r ⌝ }
 {
     let ends = rows::edge_of(rows, i / 6, i % 6);
@@ -44,9 +46,9 @@ fn number_level(
     slots: &mut [u16],
 ) -> usize
     requires { ⌜ Keys (now xs) (now ys) (now heads) (now links) n ⌝ }
-    requires { ⌜ (24576 ≤ length (now xs)) × (24576 ≤ length (now ys)) × (24576 ≤ length (now links)) ⌝ }
-    requires { ⌜ (first ≤ last) × (last ≤ 4096) × (n ≤ 6 * first) ⌝ }
-    requires { ⌜ (length (now rows) ≡ 32768) × (length (now slots) ≡ 24576) ⌝ }
+    requires { ⌜ (mostSlots ≤ length (now xs)) × (mostSlots ≤ length (now ys)) × (mostSlots ≤ length (now links)) ⌝ }
+    requires { ⌜ (first ≤ last) × (last ≤ mostCells) × (n ≤ 6 * first) ⌝ }
+    requires { ⌜ (length (now rows) ≡ fullRows) × (length (now slots) ≡ mostSlots) ⌝ }
     ensures { λ r. ⌜ LevelDone (was rows) first last n (was slots) (is xs) (is ys) (is heads) (is links) (is slots) r ⌝ }
 {
     let mut m = n;
@@ -71,13 +73,13 @@ pub fn number(
     starts: &mut [u16],
 )
     requires { ⌜ Rising (now firsts) ⌝ }
-    requires { ⌜ (length (now firsts) ≡ 12) × (length (now starts) ≡ 12) ⌝ }
+    requires { ⌜ (length (now firsts) ≡ mostLevels + 1) × (length (now starts) ≡ mostLevels + 1) ⌝ }
     ensures { λ r. ⌜ Slotted (was rows) (was firsts) (is slots) (is starts) ⌝ }
 {
     pairs::clear(heads);
     let mut n: usize = 0;
     let mut k = 0;
-    while k < 11 {
+    while k < MOST_LEVELS {
         starts[k] = n as u16;
         n = number_level(
             rows,
@@ -92,5 +94,5 @@ pub fn number(
         );
         k += 1;
     }
-    starts[11] = n as u16;
+    starts[MOST_LEVELS] = n as u16;
 }

@@ -12,6 +12,7 @@ use native.Mathlib.Omega.{arith}
 use lib.Dec.{T, eqb, leb, eqb→eq, leb→le}
 use lib.ListN.{length, getD, List·getD-eq-default}
 use borrow.Author.Tests.{eq-eqb, le-leb}
+use Rattle.base.specs.Limits.{mostCells, mostLevels}
 use Rattle.base.specs.Lists.{allb, allb-at}
 use Rattle.base.specs.Bools.{and-left, and-right, and-both}
 use Rattle.mesh.specs.Cells.{closedFrom}
@@ -23,8 +24,8 @@ use Rattle.lineage.specs.Levels.{levels-next}
 -- Rules 6.1 to 6.4, one by one.
 pub record Sound (n : ℕ) (qs : List (List ℕ)) (ss : List ℕ) : Type 0 where
   pub many : length ss ≡ length (cellsOf (levelsOf n qs ss))
-  pub high : length (levelsOf n qs ss) ≤ 11
-  pub few : length (cellsOf (levelsOf n qs ss)) ≤ 4096
+  pub high : length (levelsOf n qs ss) ≤ mostLevels
+  pub few : length (cellsOf (levelsOf n qs ss)) ≤ mostCells
   pub closed : T (allb closedb (levelsOf n qs ss))
   pub apart : T (apartb (cellsOf (levelsOf n qs ss)) ss)
 
@@ -38,12 +39,13 @@ module _ (n : ℕ) (qs : List (List ℕ)) (ss : List ℕ) where
   sound-parts t =
       let ls = levelsOf n qs ss in
       let cs = cellsOf ls in
-      let (a, b, c, d, e) = parts (eqb (length ss) (length cs)) (leb (length ls) 11) (leb (length cs) 4096) (allb closedb ls) (apartb cs ss)
+      let (a, b, c, d, e) = parts (eqb (length ss) (length cs)) (leb (length ls) mostLevels) (leb (length cs) mostCells) (allb closedb ls)
+      (apartb cs ss)
       t in
       record {
         many = eqb→eq (length ss) (length cs) a;
-        high = leb→le (length ls) 11 b;
-        few = leb→le (length cs) 4096 c;
+        high = leb→le (length ls) mostLevels b;
+        few = leb→le (length cs) mostCells c;
         closed = d;
         apart =
             e;
@@ -61,7 +63,7 @@ module _ (n : ℕ) (qs : List (List ℕ)) (ss : List ℕ) where
   sound-from s =
       let ls = levelsOf n qs ss in
       let cs = cellsOf ls in
-      rw (eq-eqb (length ss) (length cs) (s .many), le-leb (length ls) 11 (s .high), le-leb (length cs) 4096 (s .few))
+      rw (eq-eqb (length ss) (length cs) (s .many), le-leb (length ls) mostLevels (s .high), le-leb (length cs) mostCells (s .few))
       (and-both (allb closedb ls) (apartb cs ss) (s .closed) (s .apart))
 
   abbrev pub lv : ℕ → Level

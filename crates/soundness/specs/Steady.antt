@@ -8,6 +8,7 @@ use Prim.Native.Nat.{ℕ, suc, zero, _≤_, _<_}
 use native.Mathlib.Omega.{arith}
 use lib.Dec.{T}
 use lib.ListN.{length, getD}
+use Rattle.base.specs.Limits.{mostCells, mostLevels}
 use Rattle.base.specs.Lists.{allb, sameb}
 use Rattle.base.specs.Bools.{is-true, not-both}
 use Rattle.cutting.specs.Rule.{low, high}
@@ -39,7 +40,7 @@ use Rattle.soundness.specs.Grown.{new-closed, new-many, new-high}
 
 module _ (n : ℕ) (qs : List (List ℕ)) (ss ms ts : List ℕ) (old : Sound n qs ss)
     (regular : (i : ℕ) → All (IfRegular n i) (lv n qs ss i .cells))
-    (closed : T (allb closedb (levelsOf n qs ts))) (few : length (levelsOf n qs ts) ≤ 11)
+    (closed : T (allb closedb (levelsOf n qs ts))) (few : length (levelsOf n qs ts) ≤ mostLevels)
     (new : (i : ℕ) → i ≤ 10 → All (IfRegular n i) (lv n qs ts i .cells))
     (m : Meets n qs ss ms (levelsOf n qs ts)) where
   -- an edge of a child that is not regular, by the parent's digits
@@ -97,11 +98,12 @@ module _ (n : ℕ) (qs : List (List ℕ)) (ss ms ts : List ℕ) (old : Sound n q
       (rw e at (red-level n qs ts (edge [] (getD (cellsOf (levelsOf n qs ts)) i noCell) y) held)))
 
 sound-by : (n : ℕ) (qs : List (List ℕ)) (ss ms : List ℕ) → All (λ q. length q ≡ 4) qs → T (cellsb n qs) → T (soundb n qs ss)
-    → length (stepBy n qs ss ms) ≤ 11 → length (flatten (stepBy n qs ss ms)) ≤ 4096 → T (soundb n qs (flatten (stepBy n qs ss ms)))
+    → length (stepBy n qs ss ms) ≤ mostLevels → length (flatten (stepBy n qs ss ms)) ≤ mostCells
+    → T (soundb n qs (flatten (stepBy n qs ss ms)))
 sound-by n qs ss ms four cells sound high few =
     let ts = flatten (stepBy n qs ss ms) in
     let closed = new-closed n qs ss ms sound in
-    let low : length (levelsOf n qs ts) ≤ 11 = rw (new-high n qs ss ms) high in
+    let low : length (levelsOf n qs ts) ≤ mostLevels = rw (new-high n qs ss ms) high in
     sound-from n qs ts (record {
       many = new-many n qs ss ms;
       high = low;
@@ -112,5 +114,6 @@ sound-by n qs ss ms four cells sound high few =
     })
 
 pub step-sound : (n : ℕ) (qs : List (List ℕ)) (ss ms : List ℕ) → All (λ q. length q ≡ 4) qs → T (cellsb n qs) → T (soundb n qs ss)
-    → length (stepTable n qs ss ms) ≤ 11 → length (flatten (stepTable n qs ss ms)) ≤ 4096 → T (soundb n qs (flatten (stepTable n qs ss ms)))
+    → length (stepTable n qs ss ms) ≤ mostLevels → length (flatten (stepTable n qs ss ms)) ≤ mostCells
+    → T (soundb n qs (flatten (stepTable n qs ss ms)))
 step-sound n qs ss ms four cells sound = rw (step-by n qs ss ms sound) (sound-by n qs ss ms four cells sound)

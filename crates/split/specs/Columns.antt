@@ -12,6 +12,7 @@ use mathlib.Core.List.{List, [], map, flatMap}
 use Prim.Native.Nat.{ℕ, zero, suc, _+_}
 use lib.Dec.{eqb}
 use lib.ListN.{length, getD}
+use Rattle.base.specs.Limits.{mostParts}
 use Rattle.base.specs.Lists.{anyb}
 use Rattle.base.specs.Places.{placeIn}
 use Rattle.base.specs.Range.{range}
@@ -84,4 +85,4 @@ module _ (n : ℕ) (qs : List (List ℕ)) (ss : List ℕ) where
     -- Rule 15.2.
     unfoldable pub holdersOf : ℕ → ℕ
     unfolding holdsSlot bitsOf range
-    holdersOf s = bitsOf (map (λ p. holdsSlot p s) (range 1 16))
+    holdersOf s = bitsOf (map (λ p. holdsSlot p s) (range 1 mostParts))

@@ -1,3 +1,5 @@
 pub mod Columns
 pub mod Split
+pub mod Messages
+pub mod Samples
 pub mod Stored

@@ -24,7 +24,7 @@ use Rattle.mesh.specs.Layout.{edgeNumbers}
 use Rattle.lineage.specs.Olds.{firstChild}
 use Rattle.parts.specs.Owners.{nthCell, familyOf, ownersb}
 use Rattle.parts.specs.Held.{masterb}
-use Rattle.store.specs.Fields.{full, CODE}
+use Rattle.store.specs.Fields.{full, FRONT, firstsLength, flagsLength, freeLength}
 use Rattle.store.specs.declared.Place.{Place}
 use Rattle.store.specs.Places.{placeOf}
 use Rattle.store.specs.Stores.{storeIn}
@@ -60,12 +60,12 @@ module _ (n : ℕ) (qs : List (List ℕ)) (ss : List ℕ) (P : ℕ) (os : List �
   unfolding byCell sixOf fourOf holdersAt cellsBelow slotsBelow levelsOf familyOf nthCell firstChild placeOf innerBits one-if range flatMap
   partStore =
       (0 ∷ p ∷ P ∷ n ∷ length qs ∷ length ss ∷ length (levelsOf n qs ss) ∷ replicate 9 0)
-      ++ map (cellsBelow n qs ss) (range 0 12) ++ map (slotsBelow n qs ss) (range 0 12) ++ replicate 72 0
+      ++ map (cellsBelow n qs ss) (range 0 firstsLength) ++ map (slotsBelow n qs ss) (range 0 firstsLength) ++ replicate freeLength 0
       ++ byCell (λ c. getD os c 0) ++ byCell (familyOf n qs ss os)
       ++ byCell (λ c. getD ss c 0) ++ byCell (λ c. one-if (nthCell n qs ss c .regular))
       ++ byCell (firstChild (length qs) ss) ++ byCell (λ c. nthCell n qs ss c .parent)
       ++ byCell (λ c. placeAlong c .head) ++ byCell (λ c. placeAlong c .digits) ++ byCell (λ c. placeAlong c .more)
-      ++ byCell (innerBits n qs ss) ++ replicate 8192 0
+      ++ byCell (innerBits n qs ss) ++ replicate flagsLength 0
       ++ flatMap fourOf (range 0 mostCoarseCells) ++ flatMap sixOf (range 0 mostCells)
       ++ map holdersAt (range 0 mostSlots) ++ replicate mostSlots 0
 
@@ -73,7 +73,7 @@ module _ (n : ℕ) (qs : List (List ℕ)) (ss : List ℕ) (P : ℕ) (os : List �
 unfoldable pub storesAfter : ℕ → List (List ℕ) → List ℕ → ℕ → List ℕ → List ℕ → List ℕ
 unfolding partStore storeIn range flatMap
 storesAfter n qs ss P os b =
-    flatMap (λ j. partStore n qs ss P os (suc j) ++ drop CODE (storeIn b j)) (range 0 P) ++ drop (full * P) b
+    flatMap (λ j. partStore n qs ss P os (suc j) ++ drop FRONT (storeIn b j)) (range 0 P) ++ drop (full * P) b
 
 -- Rule 15.14.
 unfoldable pub splitAnswer : List ℤ → List ℕ → List ℕ → ℕ → List ℕ → List ℕ → Answer

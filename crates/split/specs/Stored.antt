@@ -4,7 +4,7 @@
 --   ifHeld .. os p f c       f c where the part p holds the cell c, else 0
 --   Stored .. P os p x       x is the store of the part p: each line of the layout
 -- Laws: when-held, not-held (ifHeld opened), fours-long, store-length, stored-front (a list that begins with a store's numbers),
--- store-cut (the table after a split, store by store), stored-split (the stores of the parts 1 to P are Stored),
+-- store-cut (the table after a split, store by store), stored-split (the stores of the parts 1 to P are Stored, also where more is lent),
 -- stores-behind (what stands behind them is as it was), rest-kept (each store's entries and places are as they were).
 use mathlib.Core.Path.{_≡_, refl, sym, _∙_, ap, ap₂}
 use mathlib.Core.Bool.{Bool, true, false, _&&_}
@@ -19,6 +19,7 @@ use lib.Seq.{ext-getD}
 use borrow.Author.Tests.{lt-ltb, ltb-true}
 use Rattle.base.specs.Bools.{one-if}
 use Rattle.base.specs.Fours.{fours}
+use Rattle.base.specs.Limits.{fullCoarse, mostCells, mostCoarseCells, mostSlots, mostParts}
 use Rattle.base.specs.Range.{range, length-range}
 use Rattle.base.specs.Every.{all-at}
 use Rattle.mesh.specs.Table.{levelsOf}
@@ -30,7 +31,8 @@ use Rattle.parts.specs.Held.{masterb}
 use Rattle.store.specs.Places.{placeOf}
 use Rattle.store.specs.Fields.{full, field, STAGE, PART, PARTS, CORNERS, COARSE, CELLS, LEVELS, ROUND, RESULT, ENTRIES, TOTAL, HIGH, CURSOR}
 use Rattle.store.specs.Fields.{BIT, WRITTEN, FIRST-CELL, FIRST-SLOT, TAKEN, ENDED, GIVEN, OWNER, FAMILY, STATUS, REGULAR, CHILD, PARENT}
-use Rattle.store.specs.Fields.{HEAD, DIGITS, MORE, INNER, MARK, RED, CORNER, SLOT, HOLDERS, SUM, CODE}
+use Rattle.store.specs.Fields.{HEAD, DIGITS, MORE, INNER, MARK, RED, CORNER, SLOT, HOLDERS, SUM, FRONT, FREE}
+use Rattle.store.specs.Fields.{firstsLength, flagsLength, freeLength}
 use Rattle.store.specs.Stores.{storeIn, rest-size}
 use Rattle.split.specs.Columns.{cellsBelow, slotsBelow, slotOf, innerBits, holdsCell}
 use Rattle.split.specs.Split.{byCell, sixOf, fourOf, holdersAt, partStore, storesAfter}
@@ -72,6 +74,10 @@ module _ (f : ℕ → List ℕ) (w most : ℕ) (all : (i : ℕ) → i < most →
       let y : 0 + i ≡ i = omega arith in
       ap (take w) (flat-drop 0 m i (omega arith) (omega arith) ∙ rw (z, y))
       ∙ take-at (f i) (flatMap f (range (suc i) (m - suc i))) w (all i (omega arith))
+
+-- more behind a list
+not-less : (x r : List ℕ) (n : ℕ) → length x ≡ n → n ≤ length (x ++ r)
+not-less x r n e = omega (arith, length-append x r)
 
 -- lists in a row, and where each begins
 joined : List (List ℕ) → List ℕ
@@ -145,7 +151,7 @@ module _ (n : ℕ) (qs : List (List ℕ)) (ss os : List ℕ) (p : ℕ) where
 
 -- Rule 15.5.
 pub record Stored (n : ℕ) (qs : List (List ℕ)) (ss : List ℕ) (P : ℕ) (os : List ℕ) (p : ℕ) (x : List ℕ) : Type 0 where
-  pub size : length x ≡ full
+  pub long : full ≤ length x
   pub stage : field x STAGE ≡ 0
   pub part : field x PART ≡ p
   pub parts : field x PARTS ≡ P
@@ -161,31 +167,34 @@ pub record Stored (n : ℕ) (qs : List (List ℕ)) (ss : List ℕ) (P : ℕ) (os
   pub cursor : field x CURSOR ≡ 0
   pub bit : field x BIT ≡ 0
   pub written : field x WRITTEN ≡ 0
-  pub first-cell : (k : ℕ) → k < 12 → field x (FIRST-CELL + k) ≡ cellsBelow n qs ss k
-  pub first-slot : (k : ℕ) → k < 12 → field x (FIRST-SLOT + k) ≡ slotsBelow n qs ss k
-  pub taken : (q : ℕ) → 1 ≤ q → q ≤ 16 → field x (TAKEN + q) ≡ 0
-  pub ended : (q : ℕ) → 1 ≤ q → q ≤ 16 → field x (ENDED + q) ≡ 0
-  pub given : (b : ℕ) → b < 16 → field x (GIVEN + b) ≡ 0
-  pub owner : (c : ℕ) → c < 4096 → field x (OWNER + c) ≡ ifHeld n qs ss os p (λ c. getD os c 0) c
-  pub family : (c : ℕ) → c < 4096 → field x (FAMILY + c) ≡ ifHeld n qs ss os p (familyOf n qs ss os) c
-  pub status : (c : ℕ) → c < 4096 → field x (STATUS + c) ≡ ifHeld n qs ss os p (λ c. getD ss c 0) c
-  pub regular : (c : ℕ) → c < 4096 → field x (REGULAR + c) ≡ ifHeld n qs ss os p (λ c. one-if (nthCell n qs ss c .regular)) c
-  pub child : (c : ℕ) → c < 4096 → field x (CHILD + c) ≡ ifHeld n qs ss os p (firstChild (length qs) ss) c
-  pub parent : (c : ℕ) → c < 4096 → field x (PARENT + c) ≡ ifHeld n qs ss os p (λ c. nthCell n qs ss c .parent) c
-  pub head : (c : ℕ) → c < 4096 → field x (HEAD + c) ≡ ifHeld n qs ss os p (λ c. placeOf (nthCell n qs ss c .path) .head) c
-  pub digits : (c : ℕ) → c < 4096 → field x (DIGITS + c) ≡ ifHeld n qs ss os p (λ c. placeOf (nthCell n qs ss c .path) .digits) c
-  pub more : (c : ℕ) → c < 4096 → field x (MORE + c) ≡ ifHeld n qs ss os p (λ c. placeOf (nthCell n qs ss c .path) .more) c
-  pub inner : (c : ℕ) → c < 4096 → field x (INNER + c) ≡ ifHeld n qs ss os p (innerBits n qs ss) c
-  pub mark : (c : ℕ) → c < 4096 → field x (MARK + c) ≡ 0
-  pub red : (c : ℕ) → c < 4096 → field x (RED + c) ≡ 0
-  pub corner : (i k : ℕ) → i < 256 → k < 4 → field x (CORNER + (4 * i + k)) ≡ getD (fourOf n qs ss P os p i) k 0
-  pub four : (i : ℕ) → i < 256 → take 4 (drop (CORNER + 4 * i) x) ≡ fourOf n qs ss P os p i
-  pub slot : (c e : ℕ) → c < 4096 → e < 6 → field x (SLOT + (6 * c + e)) ≡ ifHeld n qs ss os p (λ d. slotOf n qs ss d e) c
-  pub holders : (s : ℕ) → s < 24576 → field x (HOLDERS + s) ≡ holdersAt n qs ss P os p s
-  pub sums : (s : ℕ) → s < 24576 → field x (SUM + s) ≡ 0
+  pub first-cell : (k : ℕ) → k < firstsLength → field x (FIRST-CELL + k) ≡ cellsBelow n qs ss k
+  pub first-slot : (k : ℕ) → k < firstsLength → field x (FIRST-SLOT + k) ≡ slotsBelow n qs ss k
+  pub taken : (q : ℕ) → 1 ≤ q → q ≤ mostParts → field x (TAKEN + q) ≡ 0
+  pub ended : (q : ℕ) → 1 ≤ q → q ≤ mostParts → field x (ENDED + q) ≡ 0
+  pub given : (b : ℕ) → b < mostParts → field x (GIVEN + b) ≡ 0
+  pub owner : (c : ℕ) → c < mostCells → field x (OWNER + c) ≡ ifHeld n qs ss os p (λ c. getD os c 0) c
+  pub family : (c : ℕ) → c < mostCells → field x (FAMILY + c) ≡ ifHeld n qs ss os p (familyOf n qs ss os) c
+  pub status : (c : ℕ) → c < mostCells → field x (STATUS + c) ≡ ifHeld n qs ss os p (λ c. getD ss c 0) c
+  pub regular : (c : ℕ) → c < mostCells → field x (REGULAR + c) ≡ ifHeld n qs ss os p (λ c. one-if (nthCell n qs ss c .regular)) c
+  pub child : (c : ℕ) → c < mostCells → field x (CHILD + c) ≡ ifHeld n qs ss os p (firstChild (length qs) ss) c
+  pub parent : (c : ℕ) → c < mostCells → field x (PARENT + c) ≡ ifHeld n qs ss os p (λ c. nthCell n qs ss c .parent) c
+  pub head : (c : ℕ) → c < mostCells → field x (HEAD + c) ≡ ifHeld n qs ss os p (λ c. placeOf (nthCell n qs ss c .path) .head) c
+  pub digits : (c : ℕ) → c < mostCells → field x (DIGITS + c) ≡ ifHeld n qs ss os p (λ c. placeOf (nthCell n qs ss c .path) .digits) c
+  pub more : (c : ℕ) → c < mostCells → field x (MORE + c) ≡ ifHeld n qs ss os p (λ c. placeOf (nthCell n qs ss c .path) .more) c
+  pub inner : (c : ℕ) → c < mostCells → field x (INNER + c) ≡ ifHeld n qs ss os p (innerBits n qs ss) c
+  pub mark : (c : ℕ) → c < mostCells → field x (MARK + c) ≡ 0
+  pub red : (c : ℕ) → c < mostCells → field x (RED + c) ≡ 0
+  pub corner : (i k : ℕ) → i < mostCoarseCells → k < 4 → field x (CORNER + (4 * i + k)) ≡ getD (fourOf n qs ss P os p i) k 0
+  pub four : (i : ℕ) → i < mostCoarseCells → take 4 (drop (CORNER + 4 * i) x) ≡ fourOf n qs ss P os p i
+  pub slot : (c e : ℕ) → c < mostCells → e < 6 → field x (SLOT + (6 * c + e)) ≡ ifHeld n qs ss os p (λ d. slotOf n qs ss d e) c
+  pub holders : (s : ℕ) → s < mostSlots → field x (HOLDERS + s) ≡ holdersAt n qs ss P os p s
+  pub sums : (s : ℕ) → s < mostSlots → field x (SUM + s) ≡ 0
 
 sizes : List ℕ
-sizes = 16 ∷ 12 ∷ 12 ∷ 72 ∷ 4096 ∷ 4096 ∷ 4096 ∷ 4096 ∷ 4096 ∷ 4096 ∷ 4096 ∷ 4096 ∷ 4096 ∷ 4096 ∷ 8192 ∷ 1024 ∷ 24576 ∷ 24576 ∷ 24576 ∷ []
+sizes =
+    FIRST-CELL ∷ firstsLength ∷ firstsLength ∷ freeLength
+    ∷ mostCells ∷ mostCells ∷ mostCells ∷ mostCells ∷ mostCells ∷ mostCells ∷ mostCells ∷ mostCells ∷ mostCells ∷ mostCells
+    ∷ flagsLength ∷ fullCoarse ∷ mostSlots ∷ mostSlots ∷ mostSlots ∷ []
 
 flat-field : (f : ℕ → List ℕ) (w m : ℕ) → ((i : ℕ) → i < m → length (f i) ≡ w) → (i e : ℕ) → i < m → e < w
     → getD (flatMap f (range 0 m)) (w * i + e) 0 ≡ getD (f i) e 0
@@ -201,39 +210,39 @@ module _ (n : ℕ) (qs : List (List ℕ)) (ss : List ℕ) (P : ℕ) (os : List �
   lines : List (List ℕ)
   lines =
       (0 ∷ p ∷ P ∷ n ∷ length qs ∷ length ss ∷ length (levelsOf n qs ss) ∷ replicate 9 0)
-      ∷ map (cellsBelow n qs ss) (range 0 12) ∷ map (slotsBelow n qs ss) (range 0 12) ∷ replicate 72 0
+      ∷ map (cellsBelow n qs ss) (range 0 firstsLength) ∷ map (slotsBelow n qs ss) (range 0 firstsLength) ∷ replicate freeLength 0
       ∷ column (λ c. getD os c 0) ∷ column (familyOf n qs ss os)
       ∷ column (λ c. getD ss c 0) ∷ column (λ c. one-if (nthCell n qs ss c .regular))
       ∷ column (firstChild (length qs) ss) ∷ column (λ c. nthCell n qs ss c .parent)
       ∷ column (λ c. placeOf (nthCell n qs ss c .path) .head) ∷ column (λ c. placeOf (nthCell n qs ss c .path) .digits)
       ∷ column (λ c. placeOf (nthCell n qs ss c .path) .more)
-      ∷ column (innerBits n qs ss) ∷ replicate 8192 0
-      ∷ flatMap (fourOf n qs ss P os p) (range 0 256) ∷ flatMap (sixOf n qs ss P os p) (range 0 4096)
-      ∷ map (holdersAt n qs ss P os p) (range 0 24576) ∷ replicate 24576 0 ∷ []
+      ∷ column (innerBits n qs ss) ∷ replicate flagsLength 0
+      ∷ flatMap (fourOf n qs ss P os p) (range 0 mostCoarseCells) ∷ flatMap (sixOf n qs ss P os p) (range 0 mostCells)
+      ∷ map (holdersAt n qs ss P os p) (range 0 mostSlots) ∷ replicate mostSlots 0 ∷ []
 
   store-lines : partStore n qs ss P os p ≡ joined lines
   unfolding partStore lines
   store-lines =
       regroup (0 ∷ p ∷ P ∷ n ∷ length qs ∷ length ss ∷ length (levelsOf n qs ss) ∷ replicate 9 0)
-      (map (cellsBelow n qs ss) (range 0 12)) (map (slotsBelow n qs ss) (range 0 12)) (replicate 72 0)
+      (map (cellsBelow n qs ss) (range 0 firstsLength)) (map (slotsBelow n qs ss) (range 0 firstsLength)) (replicate freeLength 0)
       (column (λ c. getD os c 0)) (column (familyOf n qs ss os))
       (column (λ c. getD ss c 0)) (column (λ c. one-if (nthCell n qs ss c .regular)))
       (column (firstChild (length qs) ss)) (column (λ c. nthCell n qs ss c .parent))
       (column (λ c. placeOf (nthCell n qs ss c .path) .head)) (column (λ c. placeOf (nthCell n qs ss c .path) .digits))
       (column (λ c. placeOf (nthCell n qs ss c .path) .more))
-      (column (innerBits n qs ss)) (replicate 8192 0)
-      (flatMap (fourOf n qs ss P os p) (range 0 256)) (flatMap (sixOf n qs ss P os p) (range 0 4096))
-      (map (holdersAt n qs ss P os p) (range 0 24576)) (replicate 24576 0)
+      (column (innerBits n qs ss)) (replicate flagsLength 0)
+      (flatMap (fourOf n qs ss P os p) (range 0 mostCoarseCells)) (flatMap (sixOf n qs ss P os p) (range 0 mostCells))
+      (map (holdersAt n qs ss P os p) (range 0 mostSlots)) (replicate mostSlots 0)
 
-  column-is : (f : ℕ → ℕ) → column f ≡ map (ifHeld n qs ss os p f) (range 0 4096)
+  column-is : (f : ℕ → ℕ) → column f ≡ map (ifHeld n qs ss os p f) (range 0 mostCells)
   unfolding byCell ifHeld
   column-is f = refl
 
-  column-at : (f : ℕ → ℕ) (c : ℕ) → c < 4096 → getD (column f) c 0 ≡ ifHeld n qs ss os p f c
-  column-at f c h = ap (λ (l : List ℕ). getD l c 0) (column-is f) ∙ map-here (ifHeld n qs ss os p f) 4096 c h
+  column-at : (f : ℕ → ℕ) (c : ℕ) → c < mostCells → getD (column f) c 0 ≡ ifHeld n qs ss os p f c
+  column-at f c h = ap (λ (l : List ℕ). getD l c 0) (column-is f) ∙ map-here (ifHeld n qs ss os p f) mostCells c h
 
-  column-size : (f : ℕ → ℕ) → length (column f) ≡ 4096
-  column-size f = ap length (column-is f) ∙ map-size (ifHeld n qs ss os p f) 4096
+  column-size : (f : ℕ → ℕ) → length (column f) ≡ mostCells
+  column-size f = ap length (column-is f) ∙ map-size (ifHeld n qs ss os p f) mostCells
 
   four-size : Fours qs → (i : ℕ) → length (fourOf n qs ss P os p i) ≡ 4
   unfolding fourOf
@@ -275,11 +284,11 @@ module _ (n : ℕ) (qs : List (List ℕ)) (ss : List ℕ) (P : ℕ) (os : List �
   sized q = (
     refl,
     (
-      map-size (cellsBelow n qs ss) 12,
+      map-size (cellsBelow n qs ss) firstsLength,
       (
-        map-size (slotsBelow n qs ss) 12,
+        map-size (slotsBelow n qs ss) firstsLength,
         (
-          length-replicate {A = ℕ} 72 0,
+          length-replicate {A = ℕ} freeLength 0,
           (
             column-size (λ c. getD os c 0),
             (
@@ -301,14 +310,15 @@ module _ (n : ℕ) (qs : List (List ℕ)) (ss : List ℕ) (P : ℕ) (os : List �
                             (
                               column-size (innerBits n qs ss),
                               (
-                                length-replicate {A = ℕ} 8192 0,
+                                length-replicate {A = ℕ} flagsLength 0,
                                 (
-                                  flat-length (fourOf n qs ss P os p) 4 256 (λ i h. four-size q i) 0 256 (omega arith),
+                                  flat-length (fourOf n qs ss P os p) 4 mostCoarseCells (λ i h. four-size q i) 0 mostCoarseCells
+                                      (omega arith),
                                   (
-                                    flat-length (sixOf n qs ss P os p) 6 4096 (λ i h. six-size i) 0 4096 (omega arith),
+                                    flat-length (sixOf n qs ss P os p) 6 mostCells (λ i h. six-size i) 0 mostCells (omega arith),
                                     (
-                                      map-size (holdersAt n qs ss P os p) 24576,
-                                      (length-replicate {A = ℕ} 24576 0, tt),
+                                      map-size (holdersAt n qs ss P os p) mostSlots,
+                                      (length-replicate {A = ℕ} mostSlots 0, tt),
                                     ),
                                   ),
                                 ),
@@ -328,49 +338,51 @@ module _ (n : ℕ) (qs : List (List ℕ)) (ss : List ℕ) (P : ℕ) (os : List �
     ),
   )
 
-  pub store-length : Fours qs → length (partStore n qs ss P os p) ≡ CODE
+  pub store-length : Fours qs → length (partStore n qs ss P os p) ≡ FRONT
   unfolding sizes sum
   store-length q = ap length store-lines ∙ joined-length lines sizes (sized q)
 
   module _ (q : Fours qs) (x : List ℕ) (rest : List ℕ) (made : x ≡ partStore n qs ss P os p ++ rest) where
     line : (j i : ℕ) → i < getD sizes j 0 → getD x (sum (take j sizes) + i) 0 ≡ getD (getD lines j []) i 0
     line j i h =
-        let l : sum sizes ≡ CODE = sym (joined-length lines sizes (sized q)) ∙ sym (ap length store-lines) ∙ store-length q in
+        let l : sum sizes ≡ FRONT = sym (joined-length lines sizes (sized q)) ∙ sym (ap length store-lines) ∙ store-length q in
         let k : sum (take j sizes) + i < length (partStore n qs ss P os p) = omega (arith, within sizes j i h, store-length q) in
         ap (λ (l : List ℕ). getD l (sum (take j sizes) + i) 0) made
         ∙ List·getD-append (partStore n qs ss P os p) rest 0 (sum (take j sizes) + i) k
         ∙ ap (λ (l : List ℕ). getD l (sum (take j sizes) + i) 0) store-lines
         ∙ joined-at lines sizes (sized q) j i h
 
-    col : (j c : ℕ) → c < 4096 → (f : ℕ → ℕ) → getD sizes j 0 ≡ 4096 → getD lines j [] ≡ column f
+    col : (j c : ℕ) → c < mostCells → (f : ℕ → ℕ) → getD sizes j 0 ≡ mostCells → getD lines j [] ≡ column f
         → getD x (sum (take j sizes) + c) 0 ≡ ifHeld n qs ss os p f c
     col j c h f s e = line j c (omega arith) ∙ ap (λ (l : List ℕ). getD l c 0) e ∙ column-at f c h
 
-    pub stored-front : length rest ≡ full - CODE → Stored n qs ss P os p x
+    pub stored-front : full - FRONT ≤ length rest → Stored n qs ss P os p x
     unfolding lines sizes sum
     stored-front r =
         record {
-          size = ap length made ∙ simp length-append (omega (arith, r, store-length q));
-          stage = line 0 0 (omega arith);
-          part = line 0 1 (omega arith);
-          parts = line 0 2 (omega arith);
-          corners = line 0 3 (omega arith);
-          coarse = line 0 4 (omega arith);
-          cells = line 0 5 (omega arith);
-          levels = line 0 6 (omega arith);
-          round = line 0 7 (omega arith);
-          result = line 0 8 (omega arith);
-          entries = line 0 9 (omega arith);
-          total = line 0 10 (omega arith);
-          high = line 0 11 (omega arith);
-          cursor = line 0 12 (omega arith);
-          bit = line 0 13 (omega arith);
-          written = line 0 14 (omega arith);
-          first-cell = λ k h. line 1 k h ∙ map-here (cellsBelow n qs ss) 12 k h;
-          first-slot = λ k h. line 2 k h ∙ map-here (slotsBelow n qs ss) 12 k h;
-          taken = λ k a b. let z : 63 + k ≡ 40 + (23 + k) = omega arith in free (63 + k) (23 + k) z (omega arith);
-          ended = λ k a b. let z : 79 + k ≡ 40 + (39 + k) = omega arith in free (79 + k) (39 + k) z (omega arith);
-          given = λ k b. let z : 96 + k ≡ 40 + (56 + k) = omega arith in free (96 + k) (56 + k) z (omega arith);
+          long = x-long;
+          stage = line 0 STAGE (omega arith);
+          part = line 0 PART (omega arith);
+          parts = line 0 PARTS (omega arith);
+          corners = line 0 CORNERS (omega arith);
+          coarse = line 0 COARSE (omega arith);
+          cells = line 0 CELLS (omega arith);
+          levels = line 0 LEVELS (omega arith);
+          round = line 0 ROUND (omega arith);
+          result = line 0 RESULT (omega arith);
+          entries = line 0 ENTRIES (omega arith);
+          total = line 0 TOTAL (omega arith);
+          high = line 0 HIGH (omega arith);
+          cursor = line 0 CURSOR (omega arith);
+          bit = line 0 BIT (omega arith);
+          written = line 0 WRITTEN (omega arith);
+          first-cell = λ k h. line 1 k h ∙ map-here (cellsBelow n qs ss) firstsLength k h;
+          first-slot = λ k h. line 2 k h ∙ map-here (slotsBelow n qs ss) firstsLength k h;
+          taken = λ k a b. let z : TAKEN + k ≡ FREE + (TAKEN - FREE + k) = omega arith in free (TAKEN + k) (TAKEN - FREE + k) z
+              (omega arith);
+          ended = λ k a b. let z : ENDED + k ≡ FREE + (ENDED - FREE + k) = omega arith in free (ENDED + k) (ENDED - FREE + k) z
+              (omega arith);
+          given = λ k b. let z : GIVEN + k ≡ FREE + (GIVEN - FREE + k) = omega arith in free (GIVEN + k) (GIVEN - FREE + k) z (omega arith);
           owner = λ c h. col 4 c h (λ c. getD os c 0) refl refl;
           family = λ c h. col 5 c h (familyOf n qs ss os) refl refl;
           status = λ c h. col 6 c h (λ c. getD ss c 0) refl refl;
@@ -381,26 +393,31 @@ module _ (n : ℕ) (qs : List (List ℕ)) (ss : List ℕ) (P : ℕ) (os : List �
           digits = λ c h. col 11 c h (λ c. placeOf (nthCell n qs ss c .path) .digits) refl refl;
           more = λ c h. col 12 c h (λ c. placeOf (nthCell n qs ss c .path) .more) refl refl;
           inner = λ c h. col 13 c h (innerBits n qs ss) refl refl;
-          mark = λ c h. zeros (41072 + c) c refl (omega arith);
-          red = λ c h. let z : 45168 + c ≡ 41072 + (4096 + c) = omega arith in zeros (45168 + c) (4096 + c) z (omega arith);
-          corner = λ i k h l. line 15 (4 * i + k) (omega arith) ∙ flat-field (fourOf n qs ss P os p) 4 256 (λ i h. four-size q i) i k h l;
+          mark = λ c h. zeros (MARK + c) c refl (omega arith);
+          red = λ c h. let z : RED + c ≡ MARK + (mostCells + c) = omega arith in zeros (RED + c) (mostCells + c) z (omega arith);
+          corner = λ i k h l. line 15 (4 * i + k) (omega arith)
+              ∙ flat-field (fourOf n qs ss P os p) 4 mostCoarseCells (λ i h. four-size q i) i k h l;
           four = λ i h. four-is i h;
           slot = λ c e h l.
-              line 16 (6 * c + e) (omega arith) ∙ flat-field (sixOf n qs ss P os p) 6 4096 (λ i h. six-size i) c e h l ∙ six-at c e l;
-          holders = λ i h. line 17 i h ∙ map-here (holdersAt n qs ss P os p) 24576 i h;
-          sums = λ i h. line 18 i h ∙ getD-replicate 24576 i 0 0 h;
+              line 16 (6 * c + e) (omega arith) ∙ flat-field (sixOf n qs ss P os p) 6 mostCells (λ i h. six-size i) c e h l
+              ∙ six-at c e l;
+          holders = λ i h. line 17 i h ∙ map-here (holdersAt n qs ss P os p) mostSlots i h;
+          sums = λ i h. line 18 i h ∙ getD-replicate mostSlots i 0 0 h;
         }
       where
-        free : (k i : ℕ) → k ≡ 40 + i → i < 72 → field x k ≡ 0
-        free k i z h = rw z (line 3 i h ∙ getD-replicate 72 i 0 0 h)
+        x-long : full ≤ length x
+        x-long = omega (arith, r, ap length made, length-append (partStore n qs ss P os p) rest, store-length q)
 
-        zeros : (k i : ℕ) → k ≡ 41072 + i → i < 8192 → field x k ≡ 0
-        zeros k i z h = rw z (line 14 i h ∙ getD-replicate 8192 i 0 0 h)
+        free : (k i : ℕ) → k ≡ FREE + i → i < freeLength → field x k ≡ 0
+        free k i z h = rw z (line 3 i h ∙ getD-replicate freeLength i 0 0 h)
+
+        zeros : (k i : ℕ) → k ≡ MARK + i → i < flagsLength → field x k ≡ 0
+        zeros k i z h = rw z (line 14 i h ∙ getD-replicate flagsLength i 0 0 h)
 
         -- four numbers in a row
-        four-is : (i : ℕ) → i < 256 → take 4 (drop (CORNER + 4 * i) x) ≡ fourOf n qs ss P os p i
+        four-is : (i : ℕ) → i < mostCoarseCells → take 4 (drop (CORNER + 4 * i) x) ≡ fourOf n qs ss P os p i
         four-is i h =
-            let s : length x ≡ full = ap length made ∙ simp length-append (omega (arith, r, store-length q)) in
+            let s : full ≤ length x = x-long in
             let l : length (drop (CORNER + 4 * i) x) ≡ length x - (CORNER + 4 * i) = length-drop (CORNER + 4 * i) x in
             let t : length (take 4 (drop (CORNER + 4 * i) x)) ≡ 4 = length-take-le 4 (drop (CORNER + 4 * i) x) (omega arith) in
             ext-getD 0 (take 4 (drop (CORNER + 4 * i) x)) (fourOf n qs ss P os p i) (t ∙ sym (four-size q i))
@@ -408,24 +425,25 @@ module _ (n : ℕ) (qs : List (List ℕ)) (ss : List ℕ) (P : ℕ) (os : List �
             let v : k < 4 = omega arith in
             let z : CORNER + 4 * i + k ≡ CORNER + (4 * i + k) = omega arith in
             getD-take 4 (drop (CORNER + 4 * i) x) k 0 v ∙ getD-drop (CORNER + 4 * i) x k 0 ∙ ap (field x) z
-            ∙ line 15 (4 * i + k) (omega arith) ∙ flat-field (fourOf n qs ss P os p) 4 256 (λ i h. four-size q i) i k h v)
+            ∙ line 15 (4 * i + k) (omega arith) ∙ flat-field (fourOf n qs ss P os p) 4 mostCoarseCells (λ i h. four-size q i) i k h v)
 
-module _ (n : ℕ) (qs : List (List ℕ)) (ss : List ℕ) (P : ℕ) (os b : List ℕ) (q : Fours qs) (few : P ≤ 16) (room : 16 * full ≤ length b)
+module _ (n : ℕ) (qs : List (List ℕ)) (ss : List ℕ) (P : ℕ) (os b : List ℕ) (q : Fours qs) (few : P ≤ mostParts)
+    (room : mostParts * full ≤ length b)
   where
     new : ℕ → List ℕ
-    new j = partStore n qs ss P os (suc j) ++ drop CODE (storeIn b j)
+    new j = partStore n qs ss P os (suc j) ++ drop FRONT (storeIn b j)
 
     after-is : storesAfter n qs ss P os b ≡ flatMap new (range 0 P) ++ drop (full * P) b
     unfolding storesAfter new
     after-is = refl
 
-    rest-length : (j : ℕ) → j < P → length (drop CODE (storeIn b j)) ≡ full - CODE
-    rest-length j h = rest-size b j CODE (omega arith)
+    rest-length : (j : ℕ) → j < P → length (drop FRONT (storeIn b j)) ≡ full - FRONT
+    rest-length j h = rest-size b j FRONT (omega arith)
 
     new-length : (j : ℕ) → j < P → length (new j) ≡ full
     unfolding new
     new-length j h =
-        length-append (partStore n qs ss P os (suc j)) (drop CODE (storeIn b j))
+        length-append (partStore n qs ss P os (suc j)) (drop FRONT (storeIn b j))
         ∙ ap₂ _+_ (store-length n qs ss P os (suc j) q) (rest-length j h)
 
     all-length : length (flatMap new (range 0 P)) ≡ full * P
@@ -435,7 +453,7 @@ module _ (n : ℕ) (qs : List (List ℕ)) (ss : List ℕ) (P : ℕ) (os b : List
     stores-behind = ap (drop (full * P)) after-is ∙ drop-at (flatMap new (range 0 P)) (drop (full * P) b) (full * P) all-length
 
     pub store-cut : (j : ℕ) → j < P
-        → storeIn (storesAfter n qs ss P os b) j ≡ partStore n qs ss P os (suc j) ++ drop CODE (storeIn b j)
+        → storeIn (storesAfter n qs ss P os b) j ≡ partStore n qs ss P os (suc j) ++ drop FRONT (storeIn b j)
     unfolding new storeIn
     store-cut j h =
         let a = flatMap new (range 0 P) in
@@ -447,12 +465,13 @@ module _ (n : ℕ) (qs : List (List ℕ)) (ss : List ℕ) (P : ℕ) (os b : List
         ∙ take-append-le full (drop (full * j) a) (drop (full * P) b) (omega arith)
         ∙ flat-part new full P new-length P j (omega arith) h
 
-    pub stored-split : (j : ℕ) → j < P → Stored n qs ss P os (suc j) (storeIn (storesAfter n qs ss P os b) j)
-    stored-split j h =
-        stored-front n qs ss P os (suc j) q (storeIn (storesAfter n qs ss P os b) j) (drop CODE (storeIn b j)) (store-cut j h)
-        (rest-length j h)
+    pub stored-split : (j : ℕ) → j < P → (r : List ℕ) → Stored n qs ss P os (suc j) (storeIn (storesAfter n qs ss P os b) j ++ r)
+    stored-split j h r =
+        stored-front n qs ss P os (suc j) q (storeIn (storesAfter n qs ss P os b) j ++ r) (drop FRONT (storeIn b j) ++ r)
+        (ap (λ (x : List ℕ). x ++ r) (store-cut j h) ∙ append-assoc (partStore n qs ss P os (suc j)) (drop FRONT (storeIn b j)) r)
+        (not-less (drop FRONT (storeIn b j)) r (full - FRONT) (rest-length j h))
 
-    pub rest-kept : (j : ℕ) → j < P → drop CODE (storeIn (storesAfter n qs ss P os b) j) ≡ drop CODE (storeIn b j)
+    pub rest-kept : (j : ℕ) → j < P → drop FRONT (storeIn (storesAfter n qs ss P os b) j) ≡ drop FRONT (storeIn b j)
     rest-kept j h =
-        ap (drop CODE) (store-cut j h)
-        ∙ drop-at (partStore n qs ss P os (suc j)) (drop CODE (storeIn b j)) CODE (store-length n qs ss P os (suc j) q)
+        ap (drop FRONT) (store-cut j h)
+        ∙ drop-at (partStore n qs ss P os (suc j)) (drop FRONT (storeIn b j)) FRONT (store-length n qs ss P os (suc j) q)

@@ -77,6 +77,48 @@ module _ (n : ℕ) (qs : List (List ℕ)) (ts : List ℕ) where
         below = w .below;
       }
 
+-- the owners of all cells, of whatever table, are parts
+module _ (n : ℕ) (qs : List (List ℕ)) (ss os : List ℕ) (s : Sound n qs ss) (P : ℕ) (t : T (ownersb n qs ss P os)) where
+  abbrev Part? : ℕ → Type 0
+  Part? o = (1 ≤ o) × (o ≤ P)
+
+  each : (c : ℕ) → c < length ss → Part? (getD os c 0)
+  each = owners-counted n qs ss P os t .each
+
+  family-in : (c : ℕ) → c < length ss → Part? (familyOf n qs ss os c)
+  unfolding familyOf childrenOf
+  family-in c h =
+      first-in (λ d. getD os d 0) (getD os c 0) Part? (childrenOf n qs ss c) (each c h)
+      (λ d m.
+      let (a, _) = filtered-member (λ d. eqb (nthCell n qs ss d .parent) c) (range 0 (length ss)) d m in
+      let (_, g) = member-range 0 (length ss) d a in each d (omega arith))
+
+  after-in : (l : List ℕ) (o : ℕ) → Part? o → Part? (familyAfter n qs ss os l o)
+  unfolding familyAfter refinedAt
+  after-in l o w =
+      first-in (familyOf n qs ss os) o Part? (refinedAt n qs ss l) w
+      (λ d m.
+      let (a, _) = filtered-member (λ c. sameb (nthCell n qs ss c .path) l && not (eqb (getD ss c 0) 0)) (range 0 (length ss)) d m in
+      let (_, g) = member-range 0 (length ss) d a in family-in d (omega arith))
+
+  down-in : (l : List ℕ) (o : ℕ) (r : List ℕ) → Part? o → Part? (ownerDown n qs ss os l o r)
+  unfolding ownerDown
+  down-in l o [] w = w
+  down-in l o (i ∷ r) w = down-in (l ++ (i ∷ [])) (familyAfter n qs ss os l o) r (after-in l o w)
+
+  coarse-in : (c : ℕ) → c < length qs → c < length ss
+  coarse-in c h =
+      let e : length (lv n qs ss 0 .cells) ≡ length qs = ap length (old-coarse n qs ss []) ∙ length-coarse n qs in
+      omega (arith, at-level n qs ss s 0 c (omega arith) .inside)
+
+  pub owner-in : (ts : List ℕ) (k t : ℕ) → t < length (lv n qs ts k .cells)
+      → (1 ≤ ownerAfter n qs ss os (pathAt (lv n qs ts k .cells) t)) × (ownerAfter n qs ss os (pathAt (lv n qs ts k .cells) t) ≤ P)
+  unfolding ownerAfter
+  owner-in ts k t h =
+      let w = under n qs ts k t h in
+      subst (λ (l : List ℕ). Part? (ownerAfter n qs ss os l)) (sym (w .is)) (down-in (w .c ∷ []) (getD os (w .c) 0) (w .r)
+      (each (w .c) (coarse-in (w .c) (w .below))))
+
 module _ (n : ℕ) (qs : List (List ℕ)) (ss os ts : List ℕ) (u : Sound n qs ts) where
   abbrev os' : List ℕ
   os' = ownersAfter n qs ss os ts
@@ -130,51 +172,12 @@ module _ (n : ℕ) (qs : List (List ℕ)) (ss os ts : List ℕ) (u : Sound n qs 
       (λ d m. heir-child c d h m) d m
 
   module _ (s : Sound n qs ss) (P : ℕ) (t : T (ownersb n qs ss P os)) where
-    abbrev Part? : ℕ → Type 0
-    Part? o = (1 ≤ o) × (o ≤ P)
-
-    each : (c : ℕ) → c < length ss → Part? (getD os c 0)
-    each = owners-counted n qs ss P os t .each
-
-    family-in : (c : ℕ) → c < length ss → Part? (familyOf n qs ss os c)
-    unfolding familyOf childrenOf
-    family-in c h =
-        first-in (λ d. getD os d 0) (getD os c 0) Part? (childrenOf n qs ss c) (each c h)
-        (λ d m.
-        let (a, _) = filtered-member (λ d. eqb (nthCell n qs ss d .parent) c) (range 0 (length ss)) d m in
-        let (_, g) = member-range 0 (length ss) d a in each d (omega arith))
-
-    after-in : (l : List ℕ) (o : ℕ) → Part? o → Part? (familyAfter n qs ss os l o)
-    unfolding familyAfter refinedAt
-    after-in l o w =
-        first-in (familyOf n qs ss os) o Part? (refinedAt n qs ss l) w
-        (λ d m.
-        let (a, _) = filtered-member (λ c. sameb (nthCell n qs ss c .path) l && not (eqb (getD ss c 0) 0)) (range 0 (length ss)) d m in
-        let (_, g) = member-range 0 (length ss) d a in family-in d (omega arith))
-
-    down-in : (l : List ℕ) (o : ℕ) (r : List ℕ) → Part? o → Part? (ownerDown n qs ss os l o r)
-    unfolding ownerDown
-    down-in l o [] w = w
-    down-in l o (i ∷ r) w = down-in (l ++ (i ∷ [])) (familyAfter n qs ss os l o) r (after-in l o w)
-
-    coarse-in : (c : ℕ) → c < length qs → c < length ss
-    coarse-in c h =
-        let e : length (lv n qs ss 0 .cells) ≡ length qs = ap length (old-coarse n qs ss []) ∙ length-coarse n qs in
-        omega (arith, at-level n qs ss s 0 c (omega arith) .inside)
-
-    pub owner-in : (k t : ℕ) → t < length (lv n qs ts k .cells) → (1 ≤ own (pathAt (lv n qs ts k .cells) t))
-        × (own (pathAt (lv n qs ts k .cells) t) ≤ P)
-    unfolding ownerAfter
-    owner-in k t h =
-        let w = under n qs ts k t h in
-        subst (λ (l : List ℕ). Part? (own l)) (sym (w .is)) (down-in (w .c ∷ []) (getD os (w .c) 0) (w .r)
-        (each (w .c) (coarse-in (w .c) (w .below))))
-
     pub number-in : (c : ℕ) → c < length ts → (1 ≤ getD os' c 0) × (getD os' c 0 ≤ P)
     number-in c h =
         let (k, m) = level-at n qs ts u c h in
         let p = stands n qs ts u k c m in
-        subst Part? (sym (ap (λ (c : ℕ). getD os' c 0) (p .number) ∙ heir-owner k (p .t) (p .below))) (owner-in k (p .t) (p .below))
+        subst (λ (o : ℕ). (1 ≤ o) × (o ≤ P)) (sym (ap (λ (c : ℕ). getD os' c 0) (p .number) ∙ heir-owner k (p .t) (p .below)))
+        (owner-in n qs ss os s P t ts k (p .t) (p .below))
 
     pub heirs : T (ownersb n qs ts P os')
     unfolding ownersb

@@ -11,6 +11,7 @@ use lib.Dec.{eqb, ltb}
 use lib.ListN.{length, getD, length-append}
 use borrow.Author.Tests.{eq-eqb, ne-eqb, lt-ltb, le-leb}
 use Rattle.base.specs.Bools.{one-if, not-both, one-most}
+use Rattle.base.specs.Limits.{mostCells, mostLevels, mostSlots, tooMany, mostParts}
 use Rattle.base.specs.declared.Answer.the-variants.{Accepted}
 use Rattle.exchange.specs.Finite.{parts, upd, upd-same, upd-other}
 use Rattle.exchange.specs.Protocol.{withBody}
@@ -21,6 +22,7 @@ use Rattle.rounds.specs.Among.{is-self}
 use Rattle.rounds.specs.Take.{red-take, sum-take, masters-take, top-take}
 use Rattle.rounds.specs.Rounded.{wholeb, endedb, isEnd, overb}
 use Rattle.store.specs.Fields.{field, PART, GIVEN, OWNER, RED, HOLDERS, SUM, TOTAL, HIGH}
+use Rattle.store.specs.Fields.{CODE, CORNER, CURSOR, ENDED, FIRST-ENDED, FIRST-TAKEN, TAKEN, BIT}
 use Rattle.store.specs.Message.{messageOf}
 use Rattle.store.specs.Hand.{lengthOf, shapeb, routeb, contentb, wellb, takenAt, endedAt, handAnswer, handAfter, absorbed, counted}
 use Rattle.store.specs.Checks.{length-first, length-second, length-third, length-fourth, shape-some, route-to, mark-value, count-value}
@@ -75,9 +77,9 @@ module _ (P : ℕ) (J : Task (Fin P)) (p : Fin P) (l : L P J) (x : List ℕ) (u 
 
   room-of : (b : Body) → CanTake P J p b → bodyb b ≡ true
   unfolding CanTake bodyb
-  room-of (mark c v) (h, f) = lt-ltb c 4096 h
-  room-of (count s n) (h, f, i, j) = rw (lt-ltb s 24576 h, le-leb 1 n i, le-leb n 4096 j)
-  room-of (total n h) (i, j) = rw (le-leb n 4097 i, le-leb h 11 j)
+  room-of (mark c v) (h, f) = lt-ltb c mostCells h
+  room-of (count s n) (h, f, i, j) = rw (lt-ltb s mostSlots h, le-leb 1 n i, le-leb n mostCells j)
+  room-of (total n h) (i, j) = rw (le-leb n tooMany i, le-leb h mostLevels j)
   room-of end f = refl
 
   room : (ltb k 65536 && bodyb b) ≡ true
@@ -109,7 +111,7 @@ module _ (P : ℕ) (J : Task (Fin P)) (p : Fin P) (l : L P J) (x : List ℕ) (u 
   unfolding wholeb
   unended = sym (let v : wholeb (parts P) J (l .round) q p (l .got q) ≡ endedb (l .got q) = rw (apart, going, wholeb) in v) ∙ w
 
-  low-q : q .0 < 16
+  low-q : q .0 < mostParts
   low-q = part-low P J p l x u q
 
   other : q .0 ≢ p .0
@@ -132,9 +134,9 @@ module _ (P : ℕ) (J : Task (Fin P)) (p : Fin P) (l : L P J) (x : List ℕ) (u 
       sym (content-first x m a) ∙ sym (mark-value x m c (sym i) (u .cells c f .0) (u .cells c f .1))
       ∙ le-leb (getD m 7 0) 1 (omega (arith, j, one-most v))
   content-go (count s n) m (h, f, o, t) (a, e, i, j) =
-      sym (content-second x m a) ∙ sym (count-value x m s (sym i) h (u .slots s f .1) n (sym j) o) ∙ le-leb n 4096 t
+      sym (content-second x m a) ∙ sym (count-value x m s (sym i) h (u .slots s f .1) n (sym j) o) ∙ le-leb n mostCells t
   content-go (total n h) m (o, t) (a, e, i, j) =
-      sym (content-third x m a) ∙ sym (total-within m n (sym i) o) ∙ le-leb (getD m 7 0) 11 (omega (arith, j))
+      sym (content-third x m a) ∙ sym (total-within m n (sym i) o) ∙ le-leb (getD m 7 0) mostLevels (omega (arith, j))
   content-go end m f (a, e) = sym (content-other x m (λ z. absurd (omega (arith, z, a))) (λ z. absurd (omega (arith, z, a)))
       (λ z. absurd (omega (arith, z, a))))
 
@@ -150,40 +152,40 @@ module _ (P : ℕ) (J : Task (Fin P)) (p : Fin P) (l : L P J) (x : List ℕ) (u 
   hands : Hands x m Accepted y
   unfolding one-if
   hands =
-      let z : 63 + getD m 1 0 ≡ 64 + q .0 = omega (arith, r .from) in
-      let v : 79 + getD m 1 0 ≡ 80 + q .0 = omega (arith, r .from) in
-      let t : takenAt x m ≡ field x (64 + q .0) = ap (field x) z in
-      let f : endedAt x m ≡ field x (80 + q .0) = ap (field x) v in
+      let z : TAKEN + getD m 1 0 ≡ FIRST-TAKEN + q .0 = omega (arith, r .from) in
+      let v : ENDED + getD m 1 0 ≡ FIRST-ENDED + q .0 = omega (arith, r .from) in
+      let t : takenAt x m ≡ field x (FIRST-TAKEN + q .0) = ap (field x) z in
+      let f : endedAt x m ≡ field x (FIRST-ENDED + q .0) = ap (field x) v in
       let o : one-if (endedb (l .got q)) ≡ 0 = ap one-if unended in
       hand-taken x m (u .long) (u .header) (λ e. omega (arith, e, u .running going)) well k (sym (r .number)) (sym (u .taken q)
       ∙ sym t) (u .running going) (omega (arith, f, u .ends q apart going, o, u .round)) y refl
 
   -- WHAT IS LEFT AS IT WAS
-  away : (b : Body) → CanTake P J p b → (i : ℕ) → i ≢ 10 → i ≢ 11 → ((c : ℕ) → c < 4096 → i ≢ 45168 + c)
-      → ((s : ℕ) → s < 24576 → i ≢ 99440 + s) → i ≢ 80 + q .0 → Away b (q .0) i
+  away : (b : Body) → CanTake P J p b → (i : ℕ) → i ≢ TOTAL → i ≢ HIGH → ((c : ℕ) → c < mostCells → i ≢ RED + c)
+      → ((s : ℕ) → s < mostSlots → i ≢ SUM + s) → i ≢ FIRST-ENDED + q .0 → Away b (q .0) i
   unfolding Away CanTake
   away (mark c v) f i a d e h j = e c (f .0)
   away (count s n) f i a d e h j = h s (f .0)
   away (total n t) f i a d e h j = (a, d)
   away end f i a d e h j = j
 
-  keep-low : (i : ℕ) → i < 10 → field y i ≡ field x i
+  keep-low : (i : ℕ) → i < TOTAL → field y i ≡ field x i
   keep-low i h =
       else-taken x m (q .0) (p .0) k b r low-q (u .long) i (λ z. absurd (omega (arith, z)))
       (away b fits i (λ z. absurd (omega (arith, z))) (λ z. absurd (omega (arith, z))) (λ c j z. absurd (omega (arith, z)))
       (λ s j z. absurd (omega (arith, z))) (λ z. absurd (omega (arith, z))))
 
-  keep-mid : (i : ℕ) → 12 ≤ i → i < 45168 → i ≢ 64 + q .0 → i ≢ 80 + q .0 → field y i ≡ field x i
+  keep-mid : (i : ℕ) → CURSOR ≤ i → i < RED → i ≢ FIRST-TAKEN + q .0 → i ≢ FIRST-ENDED + q .0 → field y i ≡ field x i
   keep-mid i h j a d =
       else-taken x m (q .0) (p .0) k b r low-q (u .long) i a
       (away b fits i (λ z. absurd (omega (arith, z))) (λ z. absurd (omega (arith, z))) (λ c n z. absurd (omega (arith, z)))
       (λ s n z. absurd (omega (arith, z))) d)
 
-  keep-high : (i : ℕ) → 49264 ≤ i → (i < 99440) ⊎ (124016 ≤ i) → field y i ≡ field x i
+  keep-high : (i : ℕ) → CORNER ≤ i → (i < SUM) ⊎ (CODE ≤ i) → field y i ≡ field x i
   keep-high i h j =
       else-taken x m (q .0) (p .0) k b r low-q (u .long) i (λ z. absurd (omega (arith, z, low-q)))
       (away b fits i (λ z. absurd (omega (arith, z))) (λ z. absurd (omega (arith, z))) (λ c n z. absurd (omega (arith, z)))
-      (λ s n z. absurd (⊎-elim (λ (t : i < 99440). omega (arith, z, t)) (λ (t : 124016 ≤ i). omega (arith, z, t)) j))
+      (λ s n z. absurd (⊎-elim (λ (t : i < SUM). omega (arith, z, t)) (λ (t : CODE ≤ i). omega (arith, z, t)) j))
       (λ z. absurd (omega (arith, z, low-q))))
 
   posted : Posted x y
@@ -193,7 +195,7 @@ module _ (P : ℕ) (J : Task (Fin P)) (p : Fin P) (l : L P J) (x : List ℕ) (u 
     rest = λ i a d. keep-high i (omega arith) (inr a);
   }
 
-  keep-cursor : (i : ℕ) → 12 ≤ i → i < 64 → field y i ≡ field x i
+  keep-cursor : (i : ℕ) → CURSOR ≤ i → i < FIRST-TAKEN → field y i ≡ field x i
   keep-cursor i h j = keep-mid i h (omega arith) (λ z. absurd (omega (arith, z))) (λ z. absurd (omega (arith, z)))
 
   keep-given : (c : ℕ) → c < 16 → givenTo y c ≡ givenTo x c
@@ -204,49 +206,54 @@ module _ (P : ℕ) (J : Task (Fin P)) (p : Fin P) (l : L P J) (x : List ℕ) (u 
   got : Fin P → List Body
   got = upd (parts P) (l .got) q (l .got q ++ (b ∷ []))
 
-  count-after : (s : Fin P) → field y (64 + s .0) ≡ l .before s + length (withBody (parts P) l q b .got s)
+  count-after : (s : Fin P) → field y (FIRST-TAKEN + s .0) ≡ l .before s + length (withBody (parts P) l q b .got s)
   count-after s =
       elim (parts P .same? s q) [
         | yes e ↦
             let n = ap length (upd-same (parts P) (l .got) q (l .got q ++ (b ∷ []))) in
-            let a : field y (64 + q .0) ≡ (field x (64 + q .0) + 1) % 65536 =
+            let a : field y (FIRST-TAKEN + q .0) ≡ (field x (FIRST-TAKEN + q .0) + 1) % 65536 =
             count-taken x m (q .0) (p .0) k b r low-q (u .long)
-            (away b fits (64 + q .0) (λ z. absurd (omega (arith, z))) (λ z. absurd (omega (arith, z)))
+            (away b fits (FIRST-TAKEN + q .0) (λ z. absurd (omega (arith, z))) (λ z. absurd (omega (arith, z)))
             (λ c j z. absurd (omega (arith, z, low-q))) (λ s j z. absurd (omega (arith, z, low-q))) (λ z. absurd (omega (arith, z)))) in
-            let t : field y (64 + q .0) ≡ l .before q + length (withBody (parts P) l q b .got q) =
+            let t : field y (FIRST-TAKEN + q .0) ≡ l .before q + length (withBody (parts P) l q b .got q) =
             omega (arith, a, n, u .taken q, few, length-append (l .got q) (b ∷ [])) in
-            subst (λ (z : Fin P). field y (64 + z .0) ≡ l .before z + length (withBody (parts P) l q b .got z)) (sym e) t
+            subst (λ (z : Fin P). field y (FIRST-TAKEN + z .0) ≡ l .before z + length (withBody (parts P) l q b .got z)) (sym e) t
         | no n ↦
-            keep-mid (64 + s .0) (omega arith) (omega (arith, part-low P J p l x u s)) (λ z. n (Fin·val-path (omega (arith, z))))
+            keep-mid (FIRST-TAKEN + s .0) (omega arith) (omega (arith, part-low P J p l x u s)) (λ z. n (Fin·val-path (omega (arith, z))))
             (λ z. absurd (omega (arith, z, part-low P J p l x u s)))
             ∙ u .taken s ∙ sym (ap (λ (v : List Body). l .before s + length v) (upd-other (parts P) (l .got) q (l .got q ++ (b ∷ [])) s n))
       ]
 
-  ended-go : (b : Body) → CanTake P J p b → (m : List ℕ) → Read m (q .0) (p .0) k b → field x (80 + q .0) ≡ l .round → l .round < 65535
-      → field (absorbed (counted x m) m) (80 + q .0) ≡ l .round + one-if (isEnd b)
+  ended-go : (b : Body) → CanTake P J p b → (m : List ℕ) → Read m (q .0) (p .0) k b → field x (FIRST-ENDED + q .0) ≡ l .round
+      → l .round < 65535
+      → field (absorbed (counted x m) m) (FIRST-ENDED + q .0) ≡ l .round + one-if (isEnd b)
   unfolding isEnd one-if Away CanTake
-  ended-go (mark c v) f m r e h = else-taken x m (q .0) (p .0) k (mark c v) r low-q (u .long) (80 + q .0) (λ z. absurd (omega (arith, z)))
+  ended-go (mark c v) f m r e h = else-taken x m (q .0) (p .0) k (mark c v) r low-q (u .long) (FIRST-ENDED + q .0)
+      (λ z. absurd (omega (arith, z)))
       (λ z. absurd (omega (arith, z, low-q))) ∙ e ∙ omega arith
-  ended-go (count s n) f m r e h = else-taken x m (q .0) (p .0) k (count s n) r low-q (u .long) (80 + q .0) (λ z. absurd (omega (arith, z)))
+  ended-go (count s n) f m r e h = else-taken x m (q .0) (p .0) k (count s n) r low-q (u .long) (FIRST-ENDED + q .0)
+      (λ z. absurd (omega (arith, z)))
       (λ z. absurd (omega (arith, z, low-q))) ∙ e ∙ omega arith
-  ended-go (total n t) f m r e h = else-taken x m (q .0) (p .0) k (total n t) r low-q (u .long) (80 + q .0) (λ z. absurd (omega (arith, z)))
+  ended-go (total n t) f m r e h = else-taken x m (q .0) (p .0) k (total n t) r low-q (u .long) (FIRST-ENDED + q .0)
+      (λ z. absurd (omega (arith, z)))
       ((λ z. absurd (omega (arith, z))), (λ z. absurd (omega (arith, z)))) ∙ e ∙ omega arith
   ended-go end f m r e h = let a = end-taken x m (q .0) (p .0) k low-q (u .long) r in omega (arith, a, e, h)
 
   end-after : (s : Fin P) → isPart (parts P) s p ≡ false → overb (phase (J .top) (l .round)) ≡ false
-      → field y (80 + s .0) ≡ l .round + one-if (endedb (withBody (parts P) l q b .got s))
+      → field y (FIRST-ENDED + s .0) ≡ l .round + one-if (endedb (withBody (parts P) l q b .got s))
   end-after s i o =
       elim (parts P .same? s q) [
         | yes e ↦
             let n : endedb (withBody (parts P) l q b .got q) ≡ isEnd b = ap endedb (upd-same (parts P) (l .got) q (l .got q ++ (b ∷ [])))
             ∙ ended-snoc (l .got q) b ∙ ap (λ (t : Bool). t || isEnd b) unended in
-            let c : field x (80 + q .0) ≡ l .round = u .ends q apart going ∙ ap (λ (t : Bool). l .round + one-if t) unended
+            let c : field x (FIRST-ENDED + q .0) ≡ l .round = u .ends q apart going ∙ ap (λ (t : Bool). l .round + one-if t) unended
             ∙ nothing (l .round) in
-            let t : field y (80 + q .0) ≡ l .round + one-if (endedb (withBody (parts P) l q b .got q)) = ended-go b fits m r c (g .rounds)
+            let t : field y (FIRST-ENDED + q .0) ≡ l .round + one-if (endedb (withBody (parts P) l q b .got q)) = ended-go b fits m r c
+            (g .rounds)
             ∙ ap (λ (t : Bool). l .round + one-if t) (sym n) in
-            subst (λ (z : Fin P). field y (80 + z .0) ≡ l .round + one-if (endedb (withBody (parts P) l q b .got z))) (sym e) t
+            subst (λ (z : Fin P). field y (FIRST-ENDED + z .0) ≡ l .round + one-if (endedb (withBody (parts P) l q b .got z))) (sym e) t
         | no n ↦
-            keep-mid (80 + s .0) (omega arith) (omega (arith, part-low P J p l x u s)) (λ z. absurd (omega (arith, z, low-q)))
+            keep-mid (FIRST-ENDED + s .0) (omega arith) (omega (arith, part-low P J p l x u s)) (λ z. absurd (omega (arith, z, low-q)))
             (λ z. n (Fin·val-path (omega (arith, z))))
             ∙ u .ends s i o ∙ sym (ap (λ (v : List Body). l .round + one-if (endedb v))
             (upd-other (parts P) (l .got) q (l .got q ++ (b ∷ [])) s n))
@@ -255,7 +262,7 @@ module _ (P : ℕ) (J : Task (Fin P)) (p : Fin P) (l : L P J) (x : List ℕ) (u 
       nothing : (n : ℕ) → n + one-if false ≡ n
       nothing n = let z : one-if false ≡ 0 = zero-if in omega (arith, z)
 
-  red-go : (b : Body) → CanTake P J p b → (m : List ℕ) → Read m (q .0) (p .0) k b → (c : ℕ) → c < 4096 → (a : Bool)
+  red-go : (b : Body) → CanTake P J p b → (m : List ℕ) → Read m (q .0) (p .0) k b → (c : ℕ) → c < mostCells → (a : Bool)
       → field x (RED + c) ≡ one-if a → field (absorbed (counted x m) m) (RED + c) ≡ one-if (a || tells c b)
   unfolding tells one-if Away CanTake
   red-go (mark d true) f m r c h a e =
@@ -282,7 +289,8 @@ module _ (P : ℕ) (J : Task (Fin P)) (p : Fin P) (l : L P J) (x : List ℕ) (u 
       else-taken x m (q .0) (p .0) k end r low-q (u .long) (RED + c) (λ z. absurd (omega (arith, z, low-q)))
       (λ z. absurd (omega (arith, z, low-q))) ∙ e ∙ sym (ap one-if (or-false a))
 
-  sum-go : (b : Body) → CanTake P J p b → (m : List ℕ) → Read m (q .0) (p .0) k b → (s : ℕ) → s < 24576 → (n : ℕ) → field x (SUM + s) ≡ n
+  sum-go : (b : Body) → CanTake P J p b → (m : List ℕ) → Read m (q .0) (p .0) k b → (s : ℕ) → s < mostSlots → (n : ℕ)
+      → field x (SUM + s) ≡ n
       → n + worth s b < 65536 → field (absorbed (counted x m) m) (SUM + s) ≡ n + worth s b
   unfolding worth Away CanTake
   sum-go (mark d v) f m r s h n e t =
@@ -352,14 +360,15 @@ module _ (P : ℕ) (J : Task (Fin P)) (p : Fin P) (l : L P J) (x : List ℕ) (u 
     round = keep-low 7 (omega arith) ∙ u .round;
     taken = count-after;
     ends = end-after;
-    queue = queue-same x y posted (keep-cursor 12 (omega arith) (omega arith)) (keep-cursor 13 (omega arith) (omega arith)) keep-given
+    queue = queue-same x y posted (keep-cursor CURSOR (omega arith) (omega arith)) (keep-cursor BIT (omega arith) (omega arith)) keep-given
         ∙ u .queue;
-    sent = λ s. sent-same x y posted (keep-cursor 12 (omega arith) (omega arith)) (keep-cursor 13 (omega arith) (omega arith)) keep-given
+    sent = λ s. sent-same x y posted (keep-cursor CURSOR (omega arith) (omega arith))
+        (keep-cursor BIT (omega arith) (omega arith)) keep-given
         (s .0) (part-low P J p l x u s) ∙ u .sent s;
     cursor =
-        let a = keep-cursor 12 (omega arith) (omega arith) in
+        let a = keep-cursor CURSOR (omega arith) (omega arith) in
         let d = posted-written x y posted in
-        (omega (arith, a, d, u .cursor .0), λ z. keep-cursor 13 (omega arith) (omega arith) ∙ u .cursor .1 (sym a ∙ z ∙ d));
+        (omega (arith, a, d, u .cursor .0), λ z. keep-cursor BIT (omega arith) (omega arith) ∙ u .cursor .1 (sym a ∙ z ∙ d));
     cells = λ c h. (
       subst (λ (n : ℕ). c < n) (sym (keep-low 5 (omega arith))) (u .cells c h .0),
       λ z. u .cells c h .1 (sym (keep-mid (OWNER + c) (omega arith) (omega (arith, u .cells c h .0, held-few P J p l x u))
@@ -401,7 +410,8 @@ module _ (P : ℕ) (J : Task (Fin P)) (p : Fin P) (l : L P J) (x : List ℕ) (u 
   hand-length = ap length is-after ∙ length-taken x m (q .0) (p .0) k b r low-q (u .long)
 
   away-go : (b : Body) → CanTake P J p b → (i : ℕ)
-      → (i < 10) ⊎ (((12 ≤ i) × (i < 64)) ⊎ (((112 ≤ i) × (i < 45168)) ⊎ (((49264 ≤ i) × (i < 99440)) ⊎ (124016 ≤ i)))) → Away b (q .0) i
+      → (i < TOTAL) ⊎ (((CURSOR ≤ i) × (i < FIRST-TAKEN)) ⊎ (((OWNER ≤ i) × (i < RED)) ⊎ (((CORNER ≤ i) × (i < SUM)) ⊎ (CODE ≤ i))))
+      → Away b (q .0) i
   unfolding Away CanTake
   away-go (mark c v) (h, f) i (inl a) = λ z. absurd (omega (arith, z))
   away-go (mark c v) (h, f) i (inr (inl (a, d))) = λ z. absurd (omega (arith, z))
@@ -424,15 +434,17 @@ module _ (P : ℕ) (J : Task (Fin P)) (p : Fin P) (l : L P J) (x : List ℕ) (u 
   away-go end f i (inr (inr (inr (inl (a, d))))) = λ z. absurd (omega (arith, z, low-q))
   away-go end f i (inr (inr (inr (inr a)))) = λ z. absurd (omega (arith, z, low-q))
 
-  off-count : (i : ℕ) → (i < 10) ⊎ (((12 ≤ i) × (i < 64)) ⊎ (((112 ≤ i) × (i < 45168)) ⊎ (((49264 ≤ i) × (i < 99440)) ⊎ (124016 ≤ i))))
-      → i ≢ 64 + q .0
+  off-count : (i : ℕ) → (i < TOTAL) ⊎ (((CURSOR ≤ i) × (i < FIRST-TAKEN))
+      ⊎ (((OWNER ≤ i) × (i < RED)) ⊎ (((CORNER ≤ i) × (i < SUM)) ⊎ (CODE ≤ i))))
+      → i ≢ FIRST-TAKEN + q .0
   off-count i (inl a) z = omega (arith, z)
   off-count i (inr (inl (a, d))) z = omega (arith, z)
   off-count i (inr (inr (inl (a, d)))) z = omega (arith, z, low-q)
   off-count i (inr (inr (inr (inl (a, d))))) z = omega (arith, z, low-q)
   off-count i (inr (inr (inr (inr a)))) z = omega (arith, z, low-q)
 
-  pub hand-else : (i : ℕ) → (i < 10) ⊎ (((12 ≤ i) × (i < 64)) ⊎ (((112 ≤ i) × (i < 45168)) ⊎ (((49264 ≤ i) × (i < 99440)) ⊎ (124016 ≤ i))))
+  pub hand-else : (i : ℕ) → (i < TOTAL) ⊎ (((CURSOR ≤ i) × (i < FIRST-TAKEN))
+      ⊎ (((OWNER ≤ i) × (i < RED)) ⊎ (((CORNER ≤ i) × (i < SUM)) ⊎ (CODE ≤ i))))
       → field (handAfter x (pack P J q p k b)) i ≡ field x i
   hand-else i h = ap (λ (v : List ℕ). field v i) is-after
       ∙ else-taken x m (q .0) (p .0) k b r low-q (u .long) i (off-count i h) (away-go b fits i h)

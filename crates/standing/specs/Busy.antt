@@ -16,6 +16,7 @@ use lib.ListN.{length, getD}
 use lib.Seq.{sets}
 use borrow.Author.Tests.{eq-eqb}
 use Rattle.base.specs.Bools.{one-if, is-false, and-left, and-right, not-both}
+use Rattle.base.specs.Limits.{mostCells, mostLevels, mostSlots, tooMany, mostParts}
 use Rattle.base.specs.declared.Answer.the-variants.{Accepted}
 use Rattle.exchange.specs.Finite.{parts}
 use Rattle.exchange.specs.Protocol.{Local, withQueue}
@@ -26,7 +27,7 @@ use Rattle.rounds.specs.Rounds.{topTold}
 use Rattle.rounds.specs.Among.{is-eq}
 use Rattle.rounds.specs.Rounded.{wholeb, endedb, overb, sizedb}
 use Rattle.store.specs.Fields.{field, full, STAGE, PART, PARTS, CELLS, LEVELS, ROUND, RESULT, CURSOR, BIT, OWNER, RED, HOLDERS, SUM}
-use Rattle.store.specs.Fields.{TOTAL, HIGH}
+use Rattle.store.specs.Fields.{TOTAL, HIGH, ENDED, FIRST-ENDED, FIRST-TAKEN, GIVEN, TAKEN, WRITTEN}
 use Rattle.store.specs.Header.{stageb, headerb}
 use Rattle.store.specs.Message.{messageOf}
 use Rattle.store.specs.declared.Fetched.the-variants.{Message, Nothing}
@@ -53,7 +54,7 @@ stage-of : (x : List ℕ) → stageb x ≡ stageOf (field x STAGE) (field x ROUN
 unfolding stageb stageOf
 stage-of x = refl
 
-pub header-same : (x y : List ℕ) → ((i : ℕ) → i < 10 → field y i ≡ field x i) → headerb y ≡ headerb x
+pub header-same : (x y : List ℕ) → ((i : ℕ) → i < TOTAL → field y i ≡ field x i) → headerb y ≡ headerb x
 unfolding headerb
 header-same x y h =
     let e : stageOf (field y STAGE) (field y ROUND) (field y LEVELS) (field y RESULT)
@@ -99,9 +100,9 @@ module _ (P : ℕ) (J : Task (Fin P)) where
   HoldsSlot p s = (k : ℕ) × T (holdsb (parts P) J p k s)
 
   unfoldable pub CanTake : Fin P → Body → Type 0
-  CanTake p (mark c v) = (c < 4096) × HoldsCell p c
-  CanTake p (count s n) = (s < 24576) × HoldsSlot p s × (1 ≤ n) × (n ≤ 4096)
-  CanTake p (total n h) = (n ≤ 4097) × (h ≤ 11)
+  CanTake p (mark c v) = (c < mostCells) × HoldsCell p c
+  CanTake p (count s n) = (s < mostSlots) × HoldsSlot p s × (1 ≤ n) × (n ≤ mostCells)
+  CanTake p (total n h) = (n ≤ tooMany) × (h ≤ mostLevels)
   CanTake p end = Unit {0}
 
   pub record Good (p : Fin P) (l : L) : Type 0 where
@@ -118,27 +119,27 @@ module _ (P : ℕ) (J : Task (Fin P)) where
     pub part : field x PART ≡ suc (p .0)
     pub many : field x PARTS ≡ P
     pub round : field x ROUND ≡ l .round
-    pub taken : (q : Fin P) → field x (64 + q .0) ≡ l .before q + length (l .got q)
+    pub taken : (q : Fin P) → field x (FIRST-TAKEN + q .0) ≡ l .before q + length (l .got q)
     pub ends : (q : Fin P) → isPart (parts P) q p ≡ false → overb (phase (J .top) (l .round)) ≡ false
-        → field x (80 + q .0) ≡ l .round + one-if (endedb (l .got q))
+        → field x (FIRST-ENDED + q .0) ≡ l .round + one-if (endedb (l .got q))
     pub queue : queueOf x ≡ l .queue
     pub sent : (q : Fin P) → givenAfter (givenTo x) (leftOf x) (q .0) ≡ l .sent q
     pub cursor : (field x CURSOR ≤ entryCount x) × (field x CURSOR ≡ entryCount x → field x BIT ≡ 0)
     pub cells : (c : ℕ) → HoldsCell p c → (c < field x CELLS) × (field x (OWNER + c) ≢ 0)
-    pub slots : (s : ℕ) → HoldsSlot p s → (s < 24576) × (field x (HOLDERS + s) ≢ 0)
+    pub slots : (s : ℕ) → HoldsSlot p s → (s < mostSlots) × (field x (HOLDERS + s) ≢ 0)
     pub red : (c : ℕ) → HoldsCell p c → field x (RED + c) ≡ one-if (redTold (parts P) (l .state) (l .got) c)
     pub sum : (s : ℕ) → HoldsSlot p s → field x (SUM + s) ≡ sumTold (parts P) (l .state) (l .got) s
     pub total : sizedb (phase (J .top) (l .round)) ≡ true → field x TOTAL ≡ capped (l .state .total + mastersTold (parts P) (l .got))
     pub high : sizedb (phase (J .top) (l .round)) ≡ true → field x HIGH ≡ max (l .state .high) (topTold (parts P) (l .got))
 
   module _ (p : Fin P) (l : L) (x : List ℕ) (u : Busy p l x) where
-    parts-few : P ≤ 16
+    parts-few : P ≤ mostParts
     parts-few = let h = header-is x (rw (u .header) tt) in omega (arith, h .parts-most, u .many)
 
-    pub part-low : (q : Fin P) → q .0 < 16
+    pub part-low : (q : Fin P) → q .0 < mostParts
     part-low q = let h : q .0 < P = q .1 in omega (arith, parts-few)
 
-    pub held-few : field x CELLS ≤ 4096
+    pub held-few : field x CELLS ≤ mostCells
     held-few = header-is x (rw (u .header) tt) .cells-most
 
     -- FETCH: none where the queue is empty, else its first
@@ -149,7 +150,8 @@ module _ (P : ℕ) (J : Task (Fin P)) where
         × Busy p (withQueue l w) (passedBy x (nextToGive x))
     fetch-some m w e =
         let (a, b, c) = fetch-first x (u .long) m w (u .queue ∙ e) in
-        let same : (i : ℕ) → i < 12 ⊎ ((14 ≤ i × i < 96) ⊎ 112 ≤ i) → field (passedBy x (nextToGive x)) i ≡ field x i = keep a in
+        let same : (i : ℕ) → i < CURSOR ⊎ ((WRITTEN ≤ i × i < GIVEN) ⊎ OWNER ≤ i)
+        → field (passedBy x (nextToGive x)) i ≡ field x i = keep a in
         let v = fetch-rest x (u .long) m w (u .queue ∙ e) in
         let e12 = passed-entry x (nextToGive x) (u .long) a in
         let wr = posted-written x (passedBy x (nextToGive x)) (posted-passed x (nextToGive x) a) in (
@@ -163,8 +165,8 @@ module _ (P : ℕ) (J : Task (Fin P)) where
             part = same PART (inl (omega arith)) ∙ u .part;
             many = same PARTS (inl (omega arith)) ∙ u .many;
             round = same ROUND (inl (omega arith)) ∙ u .round;
-            taken = λ q. same (64 + q .0) (inr (inl (omega arith, omega (arith, part-low q)))) ∙ u .taken q;
-            ends = λ q i o. same (80 + q .0) (inr (inl (omega arith, omega (arith, part-low q)))) ∙ u .ends q i o;
+            taken = λ q. same (FIRST-TAKEN + q .0) (inr (inl (omega arith, omega (arith, part-low q)))) ∙ u .taken q;
+            ends = λ q i o. same (FIRST-ENDED + q .0) (inr (inl (omega arith, omega (arith, part-low q)))) ∙ u .ends q i o;
             queue = c;
             sent = λ q. v .1 (q .0) (part-low q) ∙ u .sent q;
             cursor = (omega (arith, v .0, e12, wr), λ z. absurd (omega (arith, v .0, e12, wr, z)));
@@ -180,7 +182,8 @@ module _ (P : ℕ) (J : Task (Fin P)) where
           },
         )
       where
-        keep : nextToGive x .bit < 16 → (i : ℕ) → i < 12 ⊎ ((14 ≤ i × i < 96) ⊎ 112 ≤ i) → field (passedBy x (nextToGive x)) i ≡ field x i
+        keep : nextToGive x .bit < 16 → (i : ℕ) → i < CURSOR ⊎ ((WRITTEN ≤ i × i < GIVEN) ⊎ OWNER ≤ i)
+            → field (passedBy x (nextToGive x)) i ≡ field x i
         keep a i (inl h) = passed-else x (nextToGive x) i (λ z. absurd (omega (arith, z))) (λ z. absurd (omega (arith, z)))
             (λ z. absurd (omega (arith, z)))
         keep a i (inr (inl h)) = passed-else x (nextToGive x) i (λ z. absurd (omega (arith, z, h .0)))
@@ -221,7 +224,7 @@ module _ (P : ℕ) (J : Task (Fin P)) where
         go true e = absurd (d (ap (λ (r : Fin P). r .0) (is-eq (parts P) q p (rw e tt))))
         go false e = e
 
-    open-round : (q : Fin P) → q .0 ≢ p .0 → field x (80 + q .0) ≤ field x ROUND → field x STAGE ≡ 1
+    open-round : (q : Fin P) → q .0 ≢ p .0 → field x (FIRST-ENDED + q .0) ≤ field x ROUND → field x STAGE ≡ 1
         → wholeb (parts P) J (l .round) q p (l .got q) ≡ false
     unfolding wholeb one-if
     open-round q d h r = go (overb (phase (J .top) (l .round))) refl (endedb (l .got q)) refl
@@ -262,13 +265,14 @@ module _ (P : ℕ) (J : Task (Fin P)) where
               ∙ e) in
               let r = read (q .0) (p' .0) k b (rw t tt) in
               let s = route x (messageOf (suc (q .0)) (suc (p' .0)) k (entryCode b) (entryValue b)) (a .well) in
-              let z : 63 + getD (messageOf (suc (q .0)) (suc (p' .0)) k (entryCode b) (entryValue b)) 1 0 ≡ 64 + q .0 =
+              let z : TAKEN + getD (messageOf (suc (q .0)) (suc (p' .0)) k (entryCode b) (entryValue b)) 1 0 ≡ FIRST-TAKEN + q .0 =
               omega (arith, r .from) in
-              let y : 79 + getD (messageOf (suc (q .0)) (suc (p' .0)) k (entryCode b) (entryValue b)) 1 0 ≡ 80 + q .0 =
+              let y : ENDED + getD (messageOf (suc (q .0)) (suc (p' .0)) k (entryCode b) (entryValue b)) 1 0 ≡ FIRST-ENDED + q .0 =
               omega (arith, r .from) in
-              let c : field x (80 + q .0) ≤ field x ROUND = subst (λ (i : ℕ). field x i ≤ field x ROUND) y (a .unended) in
+              let c : field x (FIRST-ENDED + q .0) ≤ field x ROUND = subst (λ (i : ℕ). field x i ≤ field x ROUND) y (a .unended) in
               let i : q .0 ≢ p .0 = λ j. s .0 (r .from ∙ ap suc j ∙ sym (u .part)) in
-              let n : numberAt (messageOf (suc (q .0)) (suc (p' .0)) k (entryCode b) (entryValue b)) 3 ≡ field x (64 + q .0) = a .due
+              let n : numberAt (messageOf (suc (q .0)) (suc (p' .0)) k (entryCode b) (entryValue b)) 3
+              ≡ field x (FIRST-TAKEN + q .0) = a .due
               ∙ ap (field x) z in
               (Fin·val-path (omega (arith, s .1, r .to, u .part)), open-round q i c (a .running), sym (r .number) ∙ n ∙ u .taken q)
 

@@ -12,15 +12,17 @@ use native.Mathlib.Omega.{arith}
 use lib.Dec.{T, ltb, leb, ltb→lt, leb→le}
 use lib.ListN.{length, getD}
 use Rattle.base.specs.Bools.{one-if, and-left, and-right}
+use Rattle.base.specs.Limits.{mostCells, mostLevels, mostSlots, tooMany}
 use Rattle.rounds.specs.Rounds.{Body, mark, count, total, end}
+use Rattle.store.specs.Fields.{countCode, totalsCode}
 use Rattle.store.specs.Message.{kindOf, bodyOf, headOf, messageOf}
 use Rattle.store.specs.Hand.{numberAt}
 use Rattle.store.specs.Bytes.{kind-mark, kind-count, kind-total, body-mark, body-count, body-total}
 
 unfoldable pub entryCode : Body → ℕ
 entryCode (mark c v) = c
-entryCode (count s n) = 4096 + s
-entryCode (total n h) = 28672 + h
+entryCode (count s n) = countCode + s
+entryCode (total n h) = totalsCode + h
 entryCode end = 65535
 
 unfoldable pub entryValue : Body → ℕ
@@ -31,9 +33,9 @@ entryValue (total n h) = n
 entryValue end = 0
 
 unfoldable pub bodyb : Body → Bool
-bodyb (mark c v) = ltb c 4096
-bodyb (count s n) = ltb s 24576 && (leb 1 n && leb n 4096)
-bodyb (total n h) = leb n 4097 && leb h 11
+bodyb (mark c v) = ltb c mostCells
+bodyb (count s n) = ltb s mostSlots && (leb 1 n && leb n mostCells)
+bodyb (total n h) = leb n tooMany && leb h mostLevels
 bodyb end = true
 
 -- Rule 15.4.
@@ -70,23 +72,24 @@ head-read q p k b m w h e = rw e (refl, refl, both k h, refl)
 content-read : (q p k : ℕ) (b : Body) → T (bodyb b) → Content (messageOf q p k (entryCode b) (entryValue b)) b
 unfolding Content bodyb entryCode entryValue messageOf headOf
 content-read q p k (mark c v) t =
-    let h : c < 4096 = ltb→lt c 4096 t in
+    let h : c < mostCells = ltb→lt c mostCells t in
     rw (body-mark c (one-if v) h, ← kind-mark c h) (refl, refl, both c (omega arith), flag v)
 content-read q p k (count s n) t =
-    let h : s < 24576 = ltb→lt s 24576 (and-left (ltb s 24576) (leb 1 n && leb n 4096) t) in
-    let g : n ≤ 4096 = leb→le n 4096 (and-right (leb 1 n) (leb n 4096) (and-right (ltb s 24576) (leb 1 n && leb n 4096) t)) in
-    let z : 4096 + s - 4096 ≡ s = omega arith in
-    rw (body-count (4096 + s) n (omega arith) (omega arith), ← kind-count (4096 + s) (omega arith) (omega arith), z) (
+    let h : s < mostSlots = ltb→lt s mostSlots (and-left (ltb s mostSlots) (leb 1 n && leb n mostCells) t) in
+    let g : n ≤ mostCells = leb→le n mostCells (and-right (leb 1 n) (leb n mostCells)
+    (and-right (ltb s mostSlots) (leb 1 n && leb n mostCells) t)) in
+    let z : countCode + s - countCode ≡ s = omega arith in
+    rw (body-count (countCode + s) n (omega arith) (omega arith), ← kind-count (countCode + s) (omega arith) (omega arith), z) (
       refl,
       refl,
       both s (omega arith),
       both n (omega arith),
     )
 content-read q p k (total n h) t =
-    let g : n ≤ 4097 = leb→le n 4097 (and-left (leb n 4097) (leb h 11) t) in
-    let f : h ≤ 11 = leb→le h 11 (and-right (leb n 4097) (leb h 11) t) in
-    let z : 28672 + h - 28672 ≡ h = omega arith in
-    rw (body-total (28672 + h) n (omega arith) (omega arith), ← kind-total (28672 + h) (omega arith) (omega arith), z) (
+    let g : n ≤ tooMany = leb→le n tooMany (and-left (leb n tooMany) (leb h mostLevels) t) in
+    let f : h ≤ mostLevels = leb→le h mostLevels (and-right (leb n tooMany) (leb h mostLevels) t) in
+    let z : totalsCode + h - totalsCode ≡ h = omega arith in
+    rw (body-total (totalsCode + h) n (omega arith) (omega arith), ← kind-total (totalsCode + h) (omega arith) (omega arith), z) (
       refl,
       refl,
       both n (omega arith),

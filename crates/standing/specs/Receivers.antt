@@ -5,6 +5,7 @@ use mathlib.Core.Bool.{Bool, true, false}
 use mathlib.Core.List.{List, [], _++_, map}
 use Prim.Native.Nat.{ℕ, zero, suc, _+_, _-_, _≤_, Fin}
 use native.Mathlib.Omega.{arith}
+use Rattle.base.specs.Limits.{mostParts}
 use Rattle.base.specs.Lists.{filterb}
 use Rattle.exchange.specs.Finite.{parts}
 use Rattle.rounds.specs.Task.{Task}
@@ -47,7 +48,7 @@ module _ (P : ℕ) (J : Task (Fin P)) (p : Fin P) (y : List ℕ) (own : field y 
           let d : bitb m i ≡ false = bits (i, up-here P n i h) ∙ a in
           rw (a, d, filterb, bitsFrom) r
 
-  pub matches-all : P ≤ 16 → Matches P J p y own (toAll (parts P) J (ups P) t b ++ l) (map (spotAt j) (bitsFrom 16 m 0) ++ w)
+  pub matches-all : P ≤ mostParts → Matches P J p y own (toAll (parts P) J (ups P) t b ++ l) (map (spotAt j) (bitsFrom 16 m 0) ++ w)
   unfolding toAll
   matches-all h =
       let z : P + (16 - P) ≡ 16 = omega arith in

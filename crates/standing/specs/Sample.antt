@@ -2,7 +2,8 @@
 use mathlib.Core.Path.{_≡_, refl}
 use mathlib.Core.List.{List, [], _∷_}
 use mathlib.Core.Bool.{true}
-use Prim.Native.Nat.{ℕ, zero, suc}
+use Prim.Native.Nat.{ℕ, zero, suc, _+_, _-_}
+use Rattle.store.specs.Fields.{CODE, GIVEN, countCode, mostEntries}
 use Rattle.store.specs.Header.{headerb, stageb}
 use Rattle.store.specs.Fetch.{spotAt, bitb, bitFrom, seekFrom, entryCount, nextToGive}
 use Rattle.standing.specs.Walk.{queueOf}
@@ -15,8 +16,8 @@ zeros (suc n) l = 0 ∷ zeros n l
 store : List ℕ
 unfolding zeros
 store =
-    1 ∷ 2 ∷ 3 ∷ 4 ∷ 1 ∷ 9 ∷ 2 ∷ 2 ∷ 0 ∷ 0 ∷ 0 ∷ 0 ∷ 0 ∷ 1 ∷ 3 ∷ zeros 81 (1 ∷ zeros 123919
-    (5 ∷ 4103 ∷ 65535 ∷ zeros 28693 (1 ∷ 2 ∷ 0 ∷ zeros 28693 (1 ∷ 5 ∷ 5 ∷ []))))
+    1 ∷ 2 ∷ 3 ∷ 4 ∷ 1 ∷ 9 ∷ 2 ∷ 2 ∷ 0 ∷ 0 ∷ 0 ∷ 0 ∷ 0 ∷ 1 ∷ 3 ∷ zeros (GIVEN - 15) (1 ∷ zeros (CODE - 97)
+    (5 ∷ (countCode + 7) ∷ 65535 ∷ zeros (mostEntries - 3) (1 ∷ 2 ∷ 0 ∷ zeros (mostEntries - 3) (1 ∷ 5 ∷ 5 ∷ []))))
 
 next : nextToGive store ≡ spotAt 1 0
 unfolding nextToGive store zeros seekFrom entryCount bitFrom bitb

@@ -17,7 +17,7 @@ use lib.Dec.{eqb, ltb}
 use lib.ListN.{length, set, length-set}
 use lib.Seq.{getD-set-same, getD-set-other}
 use borrow.Author.Tests.{eq-eqb, ne-eqb, lt-ltb, le-ltb}
-use Rattle.store.specs.Fields.{field, full, PART, CURSOR, BIT, WRITTEN, GIVEN, CODE, VALUE, RECEIVERS}
+use Rattle.store.specs.Fields.{field, full, PART, CURSOR, BIT, WRITTEN, GIVEN, CODE, VALUE, RECEIVERS, PLACE-HEAD, mostEntries}
 use Rattle.store.specs.Message.{messageOf}
 use Rattle.store.specs.declared.Spot.{Spot}
 use Rattle.store.specs.Fetch.{entryCount, codeAt, valueAt, receiversAt, bitb, bitFrom, spotAt, seekFrom, nextToGive, given, passedBy}
@@ -134,45 +134,45 @@ spots x (suc k) j b = go (bitsFrom (16 - b) (receiversAt x j) b) refl (bits-firs
 
 -- a fetch moves the cursor and one counter, and nothing else
 module _ (x : List ℕ) (s : Spot) where
-  pub passed-else : (i : ℕ) → i ≢ 12 → i ≢ 13 → i ≢ 96 + s .bit → field (passedBy x s) i ≡ field x i
+  pub passed-else : (i : ℕ) → i ≢ CURSOR → i ≢ BIT → i ≢ GIVEN + s .bit → field (passedBy x s) i ≡ field x i
   unfolding passedBy
   passed-else i a b c =
-      getD-set-other (set (set x 12 (s .entry)) 13 (s .bit + 1)) (GIVEN + s .bit) i ((field x (GIVEN + s .bit) + 1) % 65536) 0 c
-      ∙ getD-set-other (set x 12 (s .entry)) 13 i (s .bit + 1) 0 b ∙ getD-set-other x 12 i (s .entry) 0 a
+      getD-set-other (set (set x CURSOR (s .entry)) BIT (s .bit + 1)) (GIVEN + s .bit) i ((field x (GIVEN + s .bit) + 1) % 65536) 0 c
+      ∙ getD-set-other (set x CURSOR (s .entry)) BIT i (s .bit + 1) 0 b ∙ getD-set-other x CURSOR i (s .entry) 0 a
 
   pub passed-length : length (passedBy x s) ≡ length x
   unfolding passedBy
   passed-length =
-      length-set (set (set x 12 (s .entry)) 13 (s .bit + 1)) (GIVEN + s .bit) ((field x (GIVEN + s .bit) + 1) % 65536)
-      ∙ length-set (set x 12 (s .entry)) 13 (s .bit + 1) ∙ length-set x 12 (s .entry)
+      length-set (set (set x CURSOR (s .entry)) BIT (s .bit + 1)) (GIVEN + s .bit) ((field x (GIVEN + s .bit) + 1) % 65536)
+      ∙ length-set (set x CURSOR (s .entry)) BIT (s .bit + 1) ∙ length-set x CURSOR (s .entry)
 
   module _ (h : full ≤ length x) (g : s .bit < 16) where
-    pub passed-entry : field (passedBy x s) 12 ≡ s .entry
+    pub passed-entry : field (passedBy x s) CURSOR ≡ s .entry
     unfolding passedBy
     passed-entry =
-        getD-set-other (set (set x 12 (s .entry)) 13 (s .bit + 1)) (GIVEN + s .bit) 12 ((field x (GIVEN + s .bit) + 1) % 65536) 0
+        getD-set-other (set (set x CURSOR (s .entry)) BIT (s .bit + 1)) (GIVEN + s .bit) CURSOR ((field x (GIVEN + s .bit) + 1) % 65536) 0
         (λ z. absurd (omega (arith, z)))
-        ∙ getD-set-other (set x 12 (s .entry)) 13 12 (s .bit + 1) 0 (λ z. absurd (omega (arith, z)))
-        ∙ getD-set-same x 12 (s .entry) 0 (omega arith)
+        ∙ getD-set-other (set x CURSOR (s .entry)) BIT CURSOR (s .bit + 1) 0 (λ z. absurd (omega (arith, z)))
+        ∙ getD-set-same x CURSOR (s .entry) 0 (omega arith)
 
-    passed-bit : field (passedBy x s) 13 ≡ suc (s .bit)
+    passed-bit : field (passedBy x s) BIT ≡ suc (s .bit)
     unfolding passedBy
     passed-bit =
-        getD-set-other (set (set x 12 (s .entry)) 13 (s .bit + 1)) (GIVEN + s .bit) 13 ((field x (GIVEN + s .bit) + 1) % 65536) 0
+        getD-set-other (set (set x CURSOR (s .entry)) BIT (s .bit + 1)) (GIVEN + s .bit) BIT ((field x (GIVEN + s .bit) + 1) % 65536) 0
         (λ z. absurd (omega (arith, z)))
-        ∙ getD-set-same (set x 12 (s .entry)) 13 (s .bit + 1) 0 (omega (arith, length-set x 12 (s .entry))) ∙ omega arith
+        ∙ getD-set-same (set x CURSOR (s .entry)) BIT (s .bit + 1) 0 (omega (arith, length-set x CURSOR (s .entry))) ∙ omega arith
 
     passed-count : field (passedBy x s) (GIVEN + s .bit) ≡ (field x (GIVEN + s .bit) + 1) % 65536
     unfolding passedBy
     passed-count =
-        getD-set-same (set (set x 12 (s .entry)) 13 (s .bit + 1)) (GIVEN + s .bit) ((field x (GIVEN + s .bit) + 1) % 65536) 0
-        (omega (arith, length-set (set x 12 (s .entry)) 13 (s .bit + 1), length-set x 12 (s .entry)))
+        getD-set-same (set (set x CURSOR (s .entry)) BIT (s .bit + 1)) (GIVEN + s .bit) ((field x (GIVEN + s .bit) + 1) % 65536) 0
+        (omega (arith, length-set (set x CURSOR (s .entry)) BIT (s .bit + 1), length-set x CURSOR (s .entry)))
 
 -- what is written is the same in two stores
 pub record Posted (x y : List ℕ) : Type 0 where
   pub part : field y PART ≡ field x PART
   pub many : field y WRITTEN ≡ field x WRITTEN
-  pub rest : (i : ℕ) → 124016 ≤ i → i < 210104 → field y i ≡ field x i
+  pub rest : (i : ℕ) → CODE ≤ i → i < PLACE-HEAD → field y i ≡ field x i
 
 pub posted-passed : (x : List ℕ) (s : Spot) → s .bit < 16 → Posted x (passedBy x s)
 posted-passed x s g = record {
@@ -184,9 +184,9 @@ posted-passed x s g = record {
 module _ (x y : List ℕ) (e : Posted x y) where
   pub posted-written : entryCount y ≡ entryCount x
   unfolding entryCount
-  posted-written = ap (λ (n : ℕ). elim (ltb n 28696) [ true ↦ n | false ↦ 28696 ]) (e .many)
+  posted-written = ap (λ (n : ℕ). elim (ltb n mostEntries) [ true ↦ n | false ↦ mostEntries ]) (e .many)
 
-  posted-spots : (k j b : ℕ) → j + k ≤ 28696 → spotsFrom y k j b ≡ spotsFrom x k j b
+  posted-spots : (k j b : ℕ) → j + k ≤ mostEntries → spotsFrom y k j b ≡ spotsFrom x k j b
   unfolding spotsFrom
   posted-spots zero j b h = refl
   posted-spots (suc k) j b h =
@@ -219,7 +219,7 @@ queueOf x = stream x (givenTo x) (leftOf x)
 -- places that stand among the entries
 unfoldable EntriesIn : List Spot → Type 0
 EntriesIn [] = Unit
-EntriesIn (s ∷ l) = (s .entry < 28696) × (s .bit < 16) × EntriesIn l
+EntriesIn (s ∷ l) = (s .entry < mostEntries) × (s .bit < 16) × EntriesIn l
 
 Below : List ℕ → Type 0
 Below [] = Unit
@@ -234,12 +234,12 @@ bits-below (suc k) m b h = go (bitb m b) refl (bits-below k m (suc b) (omega ari
     go true e r = rw (e, bitsFrom) (omega arith, r)
     go false e r = rw (e, bitsFrom) r
 
-inside-map : (j : ℕ) → j < 28696 → (l : List ℕ) → Below l → (v : List Spot) → EntriesIn v → EntriesIn (map (spotAt j) l ++ v)
+inside-map : (j : ℕ) → j < mostEntries → (l : List ℕ) → Below l → (v : List Spot) → EntriesIn v → EntriesIn (map (spotAt j) l ++ v)
 unfolding EntriesIn Below
 inside-map j h [] t v i = i
 inside-map j h (c ∷ l) t v i = (h, t .0, inside-map j h l (t .1) v i)
 
-inside-spots : (x : List ℕ) (k j b : ℕ) → j + k ≤ 28696 → EntriesIn (spotsFrom x k j b)
+inside-spots : (x : List ℕ) (k j b : ℕ) → j + k ≤ mostEntries → EntriesIn (spotsFrom x k j b)
 unfolding spotsFrom EntriesIn
 inside-spots x zero j b h = tt
 inside-spots x (suc k) j b h =
@@ -285,12 +285,13 @@ module _ (x : List ℕ) (h : full ≤ length x) where
   none-next e = spots x k (field x CURSOR) (field x BIT) .none e
 
   module _ (s : Spot) (w : List Spot) (e : leftOf x ≡ s ∷ w) where
-    facts : (nextToGive x ≡ s) × (s .bit < 16) × (s .entry < 28696) × (field x CURSOR ≤ entryCount x)
+    facts : (nextToGive x ≡ s) × (s .bit < 16) × (s .entry < mostEntries) × (field x CURSOR ≤ entryCount x)
         × (spotsFrom x (entryCount x - s .entry) (s .entry) (suc (s .bit)) ≡ w)
     unfolding leftOf nextToGive
     facts = go (decLt (entryCount x) (field x CURSOR))
       where
-        go : Dec (entryCount x < field x CURSOR) → (nextToGive x ≡ s) × (s .bit < 16) × (s .entry < 28696) × (field x CURSOR ≤ entryCount x)
+        go : Dec (entryCount x < field x CURSOR) → (nextToGive x ≡ s) × (s .bit < 16) × (s .entry < mostEntries)
+            × (field x CURSOR ≤ entryCount x)
             × (spotsFrom x (entryCount x - s .entry) (s .entry) (suc (s .bit)) ≡ w)
         go (yes l) =
             let z : entryCount x - field x CURSOR ≡ 0 = omega arith in
@@ -298,7 +299,7 @@ module _ (x : List ℕ) (h : full ≤ length x) where
         go (no l) =
             let (a, b, c, d) = spots x k (field x CURSOR) (field x BIT) .first s w e in
             let z : field x CURSOR + (entryCount x - field x CURSOR) ≡ entryCount x = omega arith in
-            let y : entryCount x ≤ 28696 = written-few x in
+            let y : entryCount x ≤ mostEntries = written-few x in
             (a, b, omega arith, omega arith, ap (λ (n : ℕ). spotsFrom x (n - s .entry) (s .entry) (suc (s .bit))) (sym z) ∙ d)
 
     -- the walk stops at the first that is left
@@ -311,8 +312,8 @@ module _ (x : List ℕ) (h : full ≤ length x) where
     left-passed =
         let (a, b, c, l, d) = facts in
         let p = posted-passed x s b in
-        let z : s .entry + (entryCount x - s .entry) ≤ 28696 = omega (arith, written-few x) in
-        ap₂ (λ (n j : ℕ). spotsFrom (passedBy x s) (n - j) j (field (passedBy x s) 13)) (posted-written x (passedBy x s) p)
+        let z : s .entry + (entryCount x - s .entry) ≤ mostEntries = omega (arith, written-few x) in
+        ap₂ (λ (n j : ℕ). spotsFrom (passedBy x s) (n - j) j (field (passedBy x s) BIT)) (posted-written x (passedBy x s) p)
         (passed-entry x s h b)
         ∙ ap (λ (b : ℕ). spotsFrom (passedBy x s) (entryCount x - s .entry) (s .entry) b) (passed-bit x s h b)
         ∙ posted-spots x (passedBy x s) p (entryCount x - s .entry) (s .entry) (suc (s .bit)) z ∙ d

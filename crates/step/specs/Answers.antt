@@ -10,6 +10,7 @@ use lib.ListN.{length}
 use borrow.Author.Tests.{le-leb, lt-leb}
 use Rattle.base.specs.Bools.{and-right, is-true, not-both}
 use Rattle.base.specs.Fours.{fours}
+use Rattle.base.specs.Limits.{mostCells}
 use Rattle.base.specs.Refuse.{refuse, andThen, heldAfter, answerOf, answer-refused, answer-none}
 use Rattle.base.specs.declared.Answer.{Answer}
 use Rattle.base.specs.declared.Answer.the-variants.{Refused}
@@ -21,15 +22,15 @@ use Rattle.advance.specs.Advanced.{Held}
 use Rattle.step.specs.declared.Stepped.the-variants as stepped
 
 module _ (ps : List ℤ) (ts ss ms table : List ℕ) where
-  pub step-short : length table < 4096 → stepAnswer ps ts ss ms table ≡ Refused 15
+  pub step-short : length table < mostCells → stepAnswer ps ts ss ms table ≡ Refused 15
   unfolding stepAnswer refuse
-  step-short h = rw (lt-leb 4096 (length table) h)
+  step-short h = rw (lt-leb mostCells (length table) h)
 
-  module _ (long : 4096 ≤ length table) where
+  module _ (long : mostCells ≤ length table) where
     lent : stepAnswer ps ts ss ms table ≡ andThen (tableAnswer ps ts ss)
         (refuse 7 (marksb ss ms) (limitsAnswer (cornerCount ps) (fours ts) ss ms))
     unfolding stepAnswer refuse
-    lent = rw (le-leb 4096 (length table) long)
+    lent = rw (le-leb mostCells (length table) long)
 
     pub step-table : (k : ℕ) → tableAnswer ps ts ss ≡ answerOf k → (k ≡ 0 → ⊥) → stepAnswer ps ts ss ms table ≡ Refused k
     unfolding andThen

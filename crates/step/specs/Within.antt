@@ -12,6 +12,7 @@ use native.Mathlib.Omega.{arith}
 use lib.IntN.{ℤ}
 use lib.ListN.{length, take, drop}
 use Rattle.base.specs.Fours.{fours}
+use Rattle.base.specs.Limits.{mostCells}
 use Rattle.base.specs.Refuse.{heldAfter, answerOf, answer-refused, answer-none}
 use Rattle.base.specs.declared.Answer.the-variants.{Refused}
 use Rattle.mesh.specs.Coarse.{cornerCount}
@@ -23,17 +24,17 @@ use Rattle.step.specs.declared.Stepped.the-variants as stepped
 
 -- Rule 12.11: 1 to 6, 7.
 pub record StepBegun (ps : List ℤ) (ts ss ms rows : List ℕ) (refusal : ℕ) : Type 0 where
-  pub answer : (refusal ≡ 0 → ⊥) → (table : List ℕ) → 4096 ≤ length table → stepAnswer ps ts ss ms table ≡ Refused refusal
-  pub limits : refusal ≡ 0 → (table : List ℕ) → 4096 ≤ length table
+  pub answer : (refusal ≡ 0 → ⊥) → (table : List ℕ) → mostCells ≤ length table → stepAnswer ps ts ss ms table ≡ Refused refusal
+  pub limits : refusal ≡ 0 → (table : List ℕ) → mostCells ≤ length table
       → stepAnswer ps ts ss ms table ≡ limitsAnswer (cornerCount ps) (fours ts) ss ms
   pub held : refusal ≡ 0 → Held (cornerCount ps) ts rows ss
   pub marks : refusal ≡ 0 → length ms ≡ length ss
 
 -- Rule 12.11: the answer, and the new table.
 pub record StepMade (ps : List ℤ) (ts ss ms new : List ℕ) (refusal cells : ℕ) : Type 0 where
-  pub answer : (table : List ℕ) → 4096 ≤ length table → stepAnswer ps ts ss ms table ≡ answerOf refusal
+  pub answer : (table : List ℕ) → mostCells ≤ length table → stepAnswer ps ts ss ms table ≡ answerOf refusal
   pub counted : refusal ≡ 0 → length (newTable (cornerCount ps) (fours ts) ss ms) ≡ cells
-  pub few : refusal ≡ 0 → cells ≤ 4096
+  pub few : refusal ≡ 0 → cells ≤ mostCells
   pub table-is : refusal ≡ 0 → take cells new ≡ newTable (cornerCount ps) (fours ts) ss ms
 
 module _ (ps : List ℤ) (ts ss ms rows : List ℕ) where
@@ -85,7 +86,7 @@ module _ (ps : List ℤ) (ts ss ms rows new : List ℕ) (k : ℕ) (b : StepBegun
       }
 
 -- Rule 12.1: the call's answer and what the lent table holds after.
-module _ (ps : List ℤ) (ts ss ms table new : List ℕ) (k c : ℕ) (m : StepMade ps ts ss ms new k c) (l : 4096 ≤ length table) where
+module _ (ps : List ℤ) (ts ss ms table new : List ℕ) (k c : ℕ) (m : StepMade ps ts ss ms new k c) (l : mostCells ≤ length table) where
   pub call-refused : (k ≡ 0 → ⊥)
       → (stepped.Refused k ≡ steppedOf (stepAnswer ps ts ss ms table) (length (newTable (cornerCount ps) (fours ts) ss ms)))
       × (table ≡ heldAfter (stepAnswer ps ts ss ms table) (newTable (cornerCount ps) (fours ts) ss ms) table)

@@ -1,10 +1,12 @@
 // One step of the multilevel red/green method.
+use base::MOST_CELLS;
 use writing::NewTable;
 ghost use mathlib.Core.Path.{_≡_};
 ghost use mathlib.Core.List.{_++_};
 ghost use Prim.Native.Nat.{_≤_};
 ghost use lib.ListN.{length, take, drop};
 ghost use Rattle.base.specs.Fours.{fours};
+ghost use Rattle.base.specs.Limits.{mostCells};
 ghost use Rattle.mesh.specs.Coarse.{cornerCount};
 ghost use Rattle.base.specs.Refuse.{heldAfter};
 ghost use Rattle.tables.specs.Room.{TableRoom};
@@ -58,7 +60,7 @@ fn begin(
     ps: &mut [u32],
     qs: &mut [u32],
 ) -> u8
-    requires { ⌜ (length (now status) ≤ 4096 → TableRoom (now status) (now rows) (now ps) (now qs)) ⌝ }
+    requires { ⌜ (length (now status) ≤ mostCells → TableRoom (now status) (now rows) (now ps) (now qs)) ⌝ }
     ensures { λ r. ⌜ StepBegun (was positions) (was cells) (was status) (was marks) (is rows) r ⌝ }
 {
     let f = opening::open(positions, cells, status, rows, ps, qs);
@@ -154,7 +156,7 @@ fn make(
 
 // Copies the new statuses into the lent table.
 fn hand_out(new: &[u8; 4096], cells: usize, table: &mut [u8])
-    requires { ⌜ (cells ≤ 4096) × (4096 ≤ length (now table)) ⌝ }
+    requires { ⌜ (cells ≤ mostCells) × (mostCells ≤ length (now table)) ⌝ }
     ensures { λ u. ⌜ is table ≡ take cells (was new) ++ drop cells (was table) ⌝ }
 {
     base::copy_bytes(new, cells, table);
@@ -176,7 +178,7 @@ pub fn step(
         (newTable (cornerCount (was positions)) (fours (was cells)) (was status) (was marks))
         (was table) ⌝ }
 {
-    if table.len() < 4096 {
+    if table.len() < MOST_CELLS {
         return Stepped::Refused(15);
     }
     let mut new = [0u8; 4096];

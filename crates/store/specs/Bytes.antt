@@ -6,56 +6,57 @@ use native.Mathlib.Omega.{arith}
 use lib.ListN.{length, set, length-set}
 use lib.Seq.{sets, length-sets}
 use borrow.Author.Tests.{lt-ltb, le-ltb}
+use Rattle.store.specs.Fields.{countCode, endCode, totalsCode}
 use Rattle.store.specs.Message.{two, kindOf, bodyOf, headOf, messageOf}
 
 module _ (c : ℕ) where
-  pub kind-mark : c < 4096 → 1 ≡ kindOf c
+  pub kind-mark : c < countCode → 1 ≡ kindOf c
   unfolding kindOf
-  kind-mark h = rw (lt-ltb c 4096 h, kindOf)
+  kind-mark h = rw (lt-ltb c countCode h, kindOf)
 
-  pub kind-count : 4096 ≤ c → c < 28672 → 2 ≡ kindOf c
+  pub kind-count : countCode ≤ c → c < totalsCode → 2 ≡ kindOf c
   unfolding kindOf
-  kind-count g h = rw (le-ltb c 4096 g, lt-ltb c 28672 h, kindOf)
+  kind-count g h = rw (le-ltb c countCode g, lt-ltb c totalsCode h, kindOf)
 
-  pub kind-total : 28672 ≤ c → c < 28928 → 3 ≡ kindOf c
+  pub kind-total : totalsCode ≤ c → c < endCode → 3 ≡ kindOf c
   unfolding kindOf
-  kind-total g h = rw (le-ltb c 4096 (omega arith), le-ltb c 28672 g, lt-ltb c 28928 h, kindOf)
+  kind-total g h = rw (le-ltb c countCode (omega arith), le-ltb c totalsCode g, lt-ltb c endCode h, kindOf)
 
-  pub kind-end : 28928 ≤ c → 4 ≡ kindOf c
+  pub kind-end : endCode ≤ c → 4 ≡ kindOf c
   unfolding kindOf
-  kind-end h = rw (le-ltb c 4096 (omega arith), le-ltb c 28672 (omega arith), le-ltb c 28928 h, kindOf)
+  kind-end h = rw (le-ltb c countCode (omega arith), le-ltb c totalsCode (omega arith), le-ltb c endCode h, kindOf)
 
   module _ (v : ℕ) where
-    pub body-mark : c < 4096 → bodyOf c v ≡ two c ++ (v % 256 ∷ [])
+    pub body-mark : c < countCode → bodyOf c v ≡ two c ++ (v % 256 ∷ [])
     unfolding bodyOf
-    body-mark h = rw (lt-ltb c 4096 h, bodyOf)
+    body-mark h = rw (lt-ltb c countCode h, bodyOf)
 
-    pub body-count : 4096 ≤ c → c < 28672 → bodyOf c v ≡ two (c - 4096) ++ two v
+    pub body-count : countCode ≤ c → c < totalsCode → bodyOf c v ≡ two (c - countCode) ++ two v
     unfolding bodyOf
-    body-count g h = rw (le-ltb c 4096 g, lt-ltb c 28672 h, bodyOf)
+    body-count g h = rw (le-ltb c countCode g, lt-ltb c totalsCode h, bodyOf)
 
-    pub body-total : 28672 ≤ c → c < 28928 → bodyOf c v ≡ two v ++ ((c - 28672) ∷ [])
+    pub body-total : totalsCode ≤ c → c < endCode → bodyOf c v ≡ two v ++ ((c - totalsCode) ∷ [])
     unfolding bodyOf
-    body-total g h = rw (le-ltb c 4096 (omega arith), le-ltb c 28672 g, lt-ltb c 28928 h, bodyOf)
+    body-total g h = rw (le-ltb c countCode (omega arith), le-ltb c totalsCode g, lt-ltb c endCode h, bodyOf)
 
-    body-end : 28928 ≤ c → bodyOf c v ≡ []
+    body-end : endCode ≤ c → bodyOf c v ≡ []
     unfolding bodyOf
-    body-end h = rw (le-ltb c 4096 (omega arith), le-ltb c 28672 (omega arith), le-ltb c 28928 h, bodyOf)
+    body-end h = rw (le-ltb c countCode (omega arith), le-ltb c totalsCode (omega arith), le-ltb c endCode h, bodyOf)
 
     module _ (l : List ℕ) where
-      pub stores-mark : (t : List ℕ) → c < 4096 → t ≡ sets l 5 (two c) → (8 ≡ 5 + length (bodyOf c v))
+      pub stores-mark : (t : List ℕ) → c < countCode → t ≡ sets l 5 (two c) → (8 ≡ 5 + length (bodyOf c v))
           × (set t 7 (v % 256) ≡ sets l 5 (bodyOf c v))
       stores-mark t h e = (rw (body-mark h), rw (body-mark h, e))
 
-      pub stores-count : (t u : List ℕ) → 4096 ≤ c → c < 28672 → t ≡ sets l 5 (two (c - 4096)) → u ≡ sets t 7 (two v)
+      pub stores-count : (t u : List ℕ) → countCode ≤ c → c < totalsCode → t ≡ sets l 5 (two (c - countCode)) → u ≡ sets t 7 (two v)
           → (9 ≡ 5 + length (bodyOf c v)) × (u ≡ sets l 5 (bodyOf c v))
       stores-count t u g h e d = (rw (body-count g h), d ∙ rw (body-count g h, e))
 
-      pub stores-total : (t : List ℕ) → 28672 ≤ c → c < 28928 → t ≡ sets l 5 (two v) → (8 ≡ 5 + length (bodyOf c v))
-          × (set t 7 (c - 28672) ≡ sets l 5 (bodyOf c v))
+      pub stores-total : (t : List ℕ) → totalsCode ≤ c → c < endCode → t ≡ sets l 5 (two v) → (8 ≡ 5 + length (bodyOf c v))
+          × (set t 7 (c - totalsCode) ≡ sets l 5 (bodyOf c v))
       stores-total t g h e = (rw (body-total g h), rw (body-total g h, e))
 
-      pub stores-end : 28928 ≤ c → (5 ≡ 5 + length (bodyOf c v)) × (l ≡ sets l 5 (bodyOf c v))
+      pub stores-end : endCode ≤ c → (5 ≡ 5 + length (bodyOf c v)) × (l ≡ sets l 5 (bodyOf c v))
       stores-end h = (rw (body-end h), rw (body-end h))
 
     module _ (p q k : ℕ) (l : List ℕ) where

@@ -8,6 +8,7 @@ use lib.Dec.{T, eqb, leb, eqb→eq}
 use lib.ListN.{length, getD}
 use borrow.Author.Tests.{eq-eqb, ne-eqb, lt-ltb, le-ltb, le-leb, lt-leb}
 use Rattle.base.specs.Bools.{and-right}
+use Rattle.base.specs.Limits.{mostCells, mostLevels, mostSlots, tooMany}
 use Rattle.store.specs.Fields.{field, PART, PARTS, CELLS, OWNER, HOLDERS}
 use Rattle.store.specs.Hand.{numberAt, lengthOf, shapeb, routeb, ghostMarkb, edgeCountb, cellTotalb, contentb, wellb}
 
@@ -72,13 +73,13 @@ module _ (m : List ℕ) where
       go false p false q false r false s = let z : lengthOf (getD m 0 0) ≡ 0 = rw (p, q, r, s, lengthOf) in
           absurd (shape-not-empty e (shape-length e ∙ z))
 
-  pub total-beyond : (n : ℕ) → n ≡ numberAt m 5 → 4097 < n → false ≡ cellTotalb m
+  pub total-beyond : (n : ℕ) → n ≡ numberAt m 5 → tooMany < n → false ≡ cellTotalb m
   unfolding cellTotalb
-  total-beyond n e h = rw (lt-leb (numberAt m 5) 4097 (rw e at h), cellTotalb)
+  total-beyond n e h = rw (lt-leb (numberAt m 5) tooMany (rw e at h), cellTotalb)
 
-  pub total-within : (n : ℕ) → n ≡ numberAt m 5 → n ≤ 4097 → leb (getD m 7 0) 11 ≡ cellTotalb m
+  pub total-within : (n : ℕ) → n ≡ numberAt m 5 → n ≤ tooMany → leb (getD m 7 0) mostLevels ≡ cellTotalb m
   unfolding cellTotalb
-  total-within n e h = rw (le-leb (numberAt m 5) 4097 (rw e at h), cellTotalb)
+  total-within n e h = rw (le-leb (numberAt m 5) tooMany (rw e at h), cellTotalb)
 
 module _ (x m : List ℕ) where
   pub route-low : getD m 1 0 < 1 → false ≡ routeb x m
@@ -116,33 +117,33 @@ module _ (x m : List ℕ) where
       ghostMarkb,
     )
 
-    pub count-beyond : 24576 ≤ c → false ≡ edgeCountb x m
+    pub count-beyond : mostSlots ≤ c → false ≡ edgeCountb x m
     unfolding edgeCountb
-    count-beyond h = rw (le-ltb (numberAt m 5) 24576 (rw i at h), edgeCountb)
+    count-beyond h = rw (le-ltb (numberAt m 5) mostSlots (rw i at h), edgeCountb)
 
-    pub count-else : c < 24576 → field x (HOLDERS + c) ≡ 0 → false ≡ edgeCountb x m
+    pub count-else : c < mostSlots → field x (HOLDERS + c) ≡ 0 → false ≡ edgeCountb x m
     unfolding edgeCountb
     count-else h e = let d : field x (HOLDERS + numberAt m 5) ≡ 0 = rw i at e in
-        rw (lt-ltb (numberAt m 5) 24576 (rw i at h), eq-eqb (field x (HOLDERS + numberAt m 5)) 0 d, edgeCountb)
+        rw (lt-ltb (numberAt m 5) mostSlots (rw i at h), eq-eqb (field x (HOLDERS + numberAt m 5)) 0 d, edgeCountb)
 
-    module _ (h : c < 24576) (e : field x (HOLDERS + c) ≡ 0 → ⊥) (n : ℕ) (j : n ≡ numberAt m 7) where
+    module _ (h : c < mostSlots) (e : field x (HOLDERS + c) ≡ 0 → ⊥) (n : ℕ) (j : n ≡ numberAt m 7) where
       pub count-none : n < 1 → false ≡ edgeCountb x m
       unfolding edgeCountb
       count-none g = rw (
-        lt-ltb (numberAt m 5) 24576 (rw i at h),
+        lt-ltb (numberAt m 5) mostSlots (rw i at h),
         ne-eqb (field x (HOLDERS + numberAt m 5)) 0 (λ z. e (rw i z)),
         lt-leb 1 (numberAt m 7) (rw j at g),
         edgeCountb,
       )
 
-      pub count-value : 1 ≤ n → leb n 4096 ≡ edgeCountb x m
+      pub count-value : 1 ≤ n → leb n mostCells ≡ edgeCountb x m
       unfolding edgeCountb
       count-value g = rw (
-        lt-ltb (numberAt m 5) 24576 (rw i at h),
+        lt-ltb (numberAt m 5) mostSlots (rw i at h),
         ne-eqb (field x (HOLDERS + numberAt m 5)) 0 (λ z. e (rw i z)),
         le-leb 1 (numberAt m 7) (rw j at g),
         edgeCountb,
-      ) (ap (λ (y : ℕ). leb y 4096) j)
+      ) (ap (λ (y : ℕ). leb y mostCells) j)
 
   pub content-first : getD m 0 0 ≡ 1 → ghostMarkb x m ≡ contentb x m
   unfolding contentb

@@ -12,7 +12,7 @@ use Prim.Native.Nat.{ℕ, zero, suc, _+_, _-_, _/_, _%_, _^_}
 use lib.Dec.{eqb, ltb, leb}
 use lib.ListN.{length, set}
 use lib.Seq.{sets}
-use Rattle.store.specs.Fields.{field, full, STAGE, PART, CURSOR, BIT, WRITTEN, GIVEN, CODE, VALUE, RECEIVERS}
+use Rattle.store.specs.Fields.{field, full, STAGE, PART, CURSOR, BIT, WRITTEN, GIVEN, CODE, VALUE, RECEIVERS, mostEntries}
 use Rattle.store.specs.Header.{headerb}
 use Rattle.store.specs.Message.{messageOf}
 use Rattle.store.specs.declared.Spot.{Spot}
@@ -20,7 +20,7 @@ use Rattle.store.specs.declared.Fetched.{Fetched}
 use Rattle.store.specs.declared.Fetched.the-variants.{Message, Nothing, Refused}
 
 unfoldable pub entryCount : List ℕ → ℕ
-entryCount x = elim (ltb (field x WRITTEN) 28696) [ true ↦ field x WRITTEN | false ↦ 28696 ]
+entryCount x = elim (ltb (field x WRITTEN) mostEntries) [ true ↦ field x WRITTEN | false ↦ mostEntries ]
 
 abbrev pub codeAt : List ℕ → ℕ → ℕ
 codeAt x j = field x (CODE + j)

@@ -9,7 +9,7 @@ use lib.Dec.{ltb}
 use lib.ListN.{length}
 use lib.Seq.{sets}
 use borrow.Author.Tests.{eq-eqb, ne-eqb, lt-ltb, le-ltb, le-leb, lt-leb}
-use Rattle.store.specs.Fields.{field, full, STAGE, PART, CURSOR, BIT, WRITTEN}
+use Rattle.store.specs.Fields.{field, full, STAGE, PART, CURSOR, BIT, WRITTEN, mostEntries}
 use Rattle.store.specs.Header.{headerb}
 use Rattle.store.specs.declared.Spot.{Spot}
 use Rattle.store.specs.declared.Fetched.{Fetched}
@@ -30,26 +30,26 @@ found-inside x (suc k) j b h = go (ltb (bitFrom (16 - b) (receiversAt x j) b) 16
     go true e r = rw (e, seekFrom) (omega arith)
     go false e r = let g : seekFrom x k (suc j) 0 .bit < 16 = rw (e, seekFrom) at h in rw (e, seekFrom) (omega (arith, r g))
 
-pub written-few : (x : List ℕ) → entryCount x ≤ 28696
+pub written-few : (x : List ℕ) → entryCount x ≤ mostEntries
 unfolding entryCount
-written-few x = go (decLt (field x WRITTEN) 28696)
+written-few x = go (decLt (field x WRITTEN) mostEntries)
   where
-    go : Dec (field x WRITTEN < 28696) → entryCount x ≤ 28696
-    go (yes h) = rw (lt-ltb (field x WRITTEN) 28696 h, entryCount) (omega arith)
-    go (no h) = rw (le-ltb (field x WRITTEN) 28696 (omega arith), entryCount) (omega arith)
+    go : Dec (field x WRITTEN < mostEntries) → entryCount x ≤ mostEntries
+    go (yes h) = rw (lt-ltb (field x WRITTEN) mostEntries h, entryCount) (omega arith)
+    go (no h) = rw (le-ltb (field x WRITTEN) mostEntries (omega arith), entryCount) (omega arith)
 
-next-inside : (x : List ℕ) → nextToGive x .bit < 16 → nextToGive x .entry < 28696
+next-inside : (x : List ℕ) → nextToGive x .bit < 16 → nextToGive x .entry < mostEntries
 unfolding nextToGive
 next-inside x h = go (decLt (field x CURSOR) (entryCount x))
   where
-    go : Dec (field x CURSOR < entryCount x) → nextToGive x .entry < 28696
+    go : Dec (field x CURSOR < entryCount x) → nextToGive x .entry < mostEntries
     go (yes l) = omega (arith, found-inside x (entryCount x - field x CURSOR) (field x CURSOR) (field x BIT) h, written-few x)
     go (no l) =
         let z : nextToGive x .bit ≡ 16 = ap (λ (s : Spot). s .bit)
         (seek-out x (entryCount x) (field x CURSOR) (field x BIT) (omega arith)) in
         absurd (omega (arith, h))
 
-pub inside : (x : List ℕ) (w : Spot) → w ≡ nextToGive x → w .bit < 16 → w .entry < 28696
+pub inside : (x : List ℕ) (w : Spot) → w ≡ nextToGive x → w .bit < 16 → w .entry < mostEntries
 inside x w e h = rw e (next-inside x (rw e at h))
 
 pub part-small : (x : List ℕ) → headerb x ≡ true → field x PART < 256

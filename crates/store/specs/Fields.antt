@@ -2,8 +2,9 @@
 --   field x i     the number at the place i of the store x
 --   full          how many numbers a store has
 use mathlib.Core.List.{List}
-use Prim.Native.Nat.{ℕ}
+use Prim.Native.Nat.{ℕ, _+_, _-_, _*_}
 use lib.ListN.{getD}
+use Rattle.base.specs.Limits.{mostCells, mostSlots, mostLevels}
 
 -- Rule 15.16.
 abbrev pub full : ℕ
@@ -67,12 +68,25 @@ FIRST-CELL = 16  -- of each level, and behind the last
 abbrev pub FIRST-SLOT : ℕ
 FIRST-SLOT = 28
 
+-- first cells or slots: of each level, and behind the last
+abbrev pub firstsLength : ℕ
+firstsLength = mostLevels + 1
+
+abbrev pub FREE : ℕ
+FREE = 40  -- free numbers, up to those for each part
+
 -- a number for each part
 abbrev pub TAKEN : ℕ
 TAKEN = 63  -- of each part, from 1: messages taken from it
 
+abbrev pub FIRST-TAKEN : ℕ
+FIRST-TAKEN = 64  -- that of part 1
+
 abbrev pub ENDED : ℕ
 ENDED = 79  -- ends taken from it
+
+abbrev pub FIRST-ENDED : ℕ
+FIRST-ENDED = 80  -- that of part 1
 
 abbrev pub GIVEN : ℕ
 GIVEN = 96  -- of each part, from 0: messages given for it
@@ -80,6 +94,10 @@ GIVEN = 96  -- of each part, from 0: messages given for it
 -- a number for each cell of the table that was split
 abbrev pub OWNER : ℕ
 OWNER = 112  -- of each cell: 0 where it is not held, else its part
+
+-- from FREE to here: free numbers, taken, ended, given, which a split leaves zero
+abbrev pub freeLength : ℕ
+freeLength = OWNER - FREE
 
 abbrev pub FAMILY : ℕ
 FAMILY = 4208  -- the part of its children; of a leaf its own
@@ -108,11 +126,19 @@ MORE = 32880  -- child numbers 6 to 10
 abbrev pub INNER : ℕ
 INNER = 36976  -- six bits: the edges that are not also the parent's; 0 of a coarse cell
 
+-- the ten columns from OWNER to INNER, one behind the other
+abbrev pub columnsLength : ℕ
+columnsLength = 10 * mostCells
+
 abbrev pub MARK : ℕ
 MARK = 41072
 
 abbrev pub RED : ℕ
 RED = 45168  -- 1 where it will be red
+
+-- MARK and RED, which a split leaves zero
+abbrev pub flagsLength : ℕ
+flagsLength = 2 * mostCells
 
 -- corners of coarse cells, slots of edges
 abbrev pub CORNER : ℕ
@@ -128,7 +154,15 @@ HOLDERS = 74864  -- of each slot: sixteen bits, the parts that hold it; 0 where 
 abbrev pub SUM : ℕ
 SUM = 99440  -- masters that will be red and have it, of the parts that have told
 
+-- Rule 15.5: how many numbers a split writes; all that stands behind is as it was.
+abbrev pub FRONT : ℕ
+FRONT = SUM + mostSlots
+
 -- a number for each entry: what the part has written, in that order
+-- Rule 15.8: at most a mark for each cell, a count for each slot, the totals, and an end for each of 23 rounds.
+abbrev pub mostEntries : ℕ
+mostEntries = mostCells + mostSlots + 24
+
 abbrev pub CODE : ℕ
 CODE = 124016  -- of each entry
 
@@ -137,6 +171,16 @@ VALUE = 152712
 
 abbrev pub RECEIVERS : ℕ
 RECEIVERS = 181408  -- sixteen bits
+
+-- What CODE tells (rule 15.4): below countCode the cell of a mark.
+abbrev pub countCode : ℕ
+countCode = mostCells  -- and the slot: a count
+
+abbrev pub totalsCode : ℕ
+totalsCode = mostCells + mostSlots  -- and the top level: totals
+
+abbrev pub endCode : ℕ
+endCode = totalsCode + 256  -- and all above: the end of a round
 
 -- a number for each master and ghost of a done store
 abbrev pub PLACE-HEAD : ℕ

@@ -10,7 +10,7 @@ use mathlib.Core.Path.{_≡_}
 use Prim.Native.Nat.{ℕ, suc, _+_, _-_, _*_, _%_, _≤_, _<_, min, max}
 use lib.Dec.{eqb, ltb, leb}
 use lib.ListN.{length, getD, set}
-use Rattle.base.specs.Limits.{mostCells, mostLevels, mostSlots, tooMany}
+use Rattle.base.specs.Limits.{mostCells, mostLevels, mostSlots, tooMany, mostParts}
 use Rattle.base.specs.Refuse.{refuse}
 use Rattle.base.specs.declared.Answer.{Answer}
 use Rattle.base.specs.declared.Answer.the-variants.{Accepted, Refused}
@@ -94,9 +94,9 @@ handAnswer x m =
 pub record Ranges (m : List ℕ) : Type 0 where
   pub least : 5 ≤ length m
   pub from-least : 1 ≤ getD m 1 0
-  pub from-most : getD m 1 0 ≤ 16
-  pub mark : getD m 0 0 ≡ 1 → (8 ≤ length m) × (numberAt m 5 < 4096)
-  pub count : getD m 0 0 ≡ 2 → (9 ≤ length m) × (numberAt m 5 < 24576)
+  pub from-most : getD m 1 0 ≤ mostParts
+  pub mark : getD m 0 0 ≡ 1 → (8 ≤ length m) × (numberAt m 5 < mostCells)
+  pub count : getD m 0 0 ≡ 2 → (9 ≤ length m) × (numberAt m 5 < mostSlots)
   pub total : getD m 0 0 ≡ 3 → 8 ≤ length m
 
 -- Rule 15.9: what is taken: a mark is an "or", a count is added; totals add up to 4,097, which stands for more

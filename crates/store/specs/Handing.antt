@@ -9,6 +9,7 @@ use lib.ListN.{length, getD, set}
 use lib.Seq.{getD-set-other}
 use borrow.Author.Tests.{eq-eqb, ne-eqb, le-leb, lt-leb}
 use Rattle.base.specs.Bools.{and-left, and-right, is-true}
+use Rattle.base.specs.Limits.{mostCells, mostSlots, tooMany}
 use Rattle.base.specs.Refuse.{refuse}
 use Rattle.base.specs.declared.Answer.{Answer}
 use Rattle.base.specs.declared.Answer.the-variants.{Accepted, Refused}
@@ -35,13 +36,13 @@ module _ (x m : List ℕ) where
       rw (ne-eqb (getD m 0 0) 1 (λ z. omega arith), eq-eqb (getD m 0 0) 2 k, absorbed)
       (ap₂ (λ (s n : ℕ). set x (SUM + s) ((field x (SUM + s) + n) % 65536)) i j)
 
-  pub take-total : (n a t : ℕ) → n ≡ numberAt m 5 → a ≡ min (field x TOTAL + n) 4097 → t ≡ max (field (set x TOTAL a) HIGH) (getD m 7 0)
+  pub take-total : (n a t : ℕ) → n ≡ numberAt m 5 → a ≡ min (field x TOTAL + n) tooMany → t ≡ max (field (set x TOTAL a) HIGH) (getD m 7 0)
       → getD m 0 0 ≡ 3 → set (set x TOTAL a) HIGH t ≡ absorbed x m
   unfolding absorbed
   take-total n a t i j l k =
-      let g : field (set x TOTAL a) HIGH ≡ field x HIGH = getD-set-other x 10 11 a 0 (λ z. absurd (omega (arith, z))) in
+      let g : field (set x TOTAL a) HIGH ≡ field x HIGH = getD-set-other x TOTAL HIGH a 0 (λ z. absurd (omega (arith, z))) in
       rw (ne-eqb (getD m 0 0) 1 (λ z. omega arith), ne-eqb (getD m 0 0) 2 (λ z. omega arith), eq-eqb (getD m 0 0) 3 k, absorbed)
-      (ap₂ (λ (a t : ℕ). set (set x TOTAL a) HIGH t) (j ∙ ap (λ (n : ℕ). min (field x TOTAL + n) 4097) i) (l
+      (ap₂ (λ (a t : ℕ). set (set x TOTAL a) HIGH t) (j ∙ ap (λ (n : ℕ). min (field x TOTAL + n) tooMany) i) (l
       ∙ ap (λ (y : ℕ). max y (getD m 7 0)) g))
 
   pub take-end : (getD m 0 0 ≡ 1 → ⊥) → (getD m 0 0 ≡ 2 → ⊥) → (getD m 0 0 ≡ 3 → ⊥)
@@ -49,7 +50,7 @@ module _ (x m : List ℕ) where
   unfolding absorbed
   take-end a b c = rw (ne-eqb (getD m 0 0) 1 a, ne-eqb (getD m 0 0) 2 b, ne-eqb (getD m 0 0) 3 c, absorbed)
 
-  pub cells-few : headerb x ≡ true → field x CELLS ≤ 4096
+  pub cells-few : headerb x ≡ true → field x CELLS ≤ mostCells
   cells-few e = header-is x (rw e tt) .cells-most
 
   pub ranges-of : headerb x ≡ true → wellb x m ≡ true → Ranges m
@@ -77,8 +78,8 @@ module _ (x m : List ℕ) where
             (omega (arith, shape-first m s k), omega (arith, c, h .cells-most));
         count = λ k.
             let b : T (edgeCountb x m) = rw (content-second x m k) v in
-            let c = ltb→lt (numberAt m 5) 24576 (and-left (ltb (numberAt m 5) 24576) (not (eqb (field x (HOLDERS + numberAt m 5)) 0)
-            && (leb 1 (numberAt m 7) && leb (numberAt m 7) 4096)) b) in
+            let c = ltb→lt (numberAt m 5) mostSlots (and-left (ltb (numberAt m 5) mostSlots) (not (eqb (field x (HOLDERS + numberAt m 5)) 0)
+            && (leb 1 (numberAt m 7) && leb (numberAt m 7) mostCells)) b) in
             (omega (arith, shape-second m s k), c);
         total = λ k. omega (arith, shape-third m s k);
       }

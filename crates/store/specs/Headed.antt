@@ -8,6 +8,7 @@ use native.Mathlib.Omega.{arith}
 use lib.Dec.{T, eqb, leb, leb→le}
 use borrow.Author.Tests.{eq-eqb, ne-eqb, le-leb, lt-leb}
 use Rattle.base.specs.Bools.{and-left, and-right}
+use Rattle.base.specs.Limits.{mostCells, mostCoarseCells, mostCoarseCorners, mostLevels, mostParts}
 use Rattle.store.specs.Fields.{field, STAGE, PART, PARTS, CORNERS, COARSE, CELLS, LEVELS, ROUND, RESULT, ENTRIES}
 use Rattle.store.specs.Header.{stageb, headerb}
 
@@ -22,51 +23,51 @@ chain a b t = (and-left a b t, and-right a b t)
 module _ (x : List ℕ) where
   pub record Header : Type 0 where
     pub parts-least : 1 ≤ field x PARTS
-    pub parts-most : field x PARTS ≤ 16
+    pub parts-most : field x PARTS ≤ mostParts
     pub part-least : 1 ≤ field x PART
     pub part-most : field x PART ≤ field x PARTS
     pub corners-least : 4 ≤ field x CORNERS
-    pub corners-most : field x CORNERS ≤ 512
+    pub corners-most : field x CORNERS ≤ mostCoarseCorners
     pub coarse-least : 1 ≤ field x COARSE
-    pub coarse-most : field x COARSE ≤ 256
+    pub coarse-most : field x COARSE ≤ mostCoarseCells
     pub cells-least : field x COARSE ≤ field x CELLS
-    pub cells-most : field x CELLS ≤ 4096
+    pub cells-most : field x CELLS ≤ mostCells
     pub levels-least : 1 ≤ field x LEVELS
-    pub levels-most : field x LEVELS ≤ 11
-    pub entries-most : field x ENTRIES ≤ 4096
+    pub levels-most : field x LEVELS ≤ mostLevels
+    pub entries-most : field x ENTRIES ≤ mostCells
 
   pub header-is : T (headerb x) → Header
   unfolding headerb
   header-is t =
       let (a, t) = chain (leb 1 (field x PARTS)) _ t in
-      let (b, t) = chain (leb (field x PARTS) 16) _ t in
+      let (b, t) = chain (leb (field x PARTS) mostParts) _ t in
       let (c, t) = chain (leb 1 (field x PART)) _ t in
       let (d, t) = chain (leb (field x PART) (field x PARTS)) _ t in
       let (e, t) = chain (leb 4 (field x CORNERS)) _ t in
-      let (f, t) = chain (leb (field x CORNERS) 512) _ t in
+      let (f, t) = chain (leb (field x CORNERS) mostCoarseCorners) _ t in
       let (g, t) = chain (leb 1 (field x COARSE)) _ t in
-      let (h, t) = chain (leb (field x COARSE) 256) _ t in
+      let (h, t) = chain (leb (field x COARSE) mostCoarseCells) _ t in
       let (i, t) = chain (leb (field x COARSE) (field x CELLS)) _ t in
-      let (j, t) = chain (leb (field x CELLS) 4096) _ t in
+      let (j, t) = chain (leb (field x CELLS) mostCells) _ t in
       let (k, t) = chain (leb 1 (field x LEVELS)) _ t in
-      let (l, t) = chain (leb (field x LEVELS) 11) _ t in
-      let (m, t) = chain (leb (field x ENTRIES) 4096) _ t in
+      let (l, t) = chain (leb (field x LEVELS) mostLevels) _ t in
+      let (m, t) = chain (leb (field x ENTRIES) mostCells) _ t in
       record {
         parts-least = leb→le 1 (field x PARTS) a;
-        parts-most = leb→le (field x PARTS) 16 b;
+        parts-most = leb→le (field x PARTS) mostParts b;
         part-least = leb→le 1 (field x PART) c;
         part-most = leb→le (field x PART) (field x PARTS) d;
         corners-least = leb→le 4 (field x CORNERS) e;
-        corners-most = leb→le (field x CORNERS) 512 f;
+        corners-most = leb→le (field x CORNERS) mostCoarseCorners f;
         coarse-least =
             leb→le 1 (field x COARSE) g;
-        coarse-most = leb→le (field x COARSE) 256 h;
+        coarse-most = leb→le (field x COARSE) mostCoarseCells h;
         cells-least = leb→le (field x COARSE) (field x CELLS) i;
-        cells-most = leb→le (field x CELLS) 4096 j;
+        cells-most = leb→le (field x CELLS) mostCells j;
         levels-least =
             leb→le 1 (field x LEVELS) k;
-        levels-most = leb→le (field x LEVELS) 11 l;
-        entries-most = leb→le (field x ENTRIES) 4096 m;
+        levels-most = leb→le (field x LEVELS) mostLevels l;
+        entries-most = leb→le (field x ENTRIES) mostCells m;
       }
 
   pub header-no : (Header → ⊥) → false ≡ headerb x
@@ -77,18 +78,18 @@ module _ (x : List ℕ) where
   header-yes h =
       rw (
         le-leb 1 (field x PARTS) (h .parts-least),
-        le-leb (field x PARTS) 16 (h .parts-most),
+        le-leb (field x PARTS) mostParts (h .parts-most),
         le-leb 1 (field x PART) (h .part-least),
         le-leb (field x PART) (field x PARTS) (h .part-most),
         le-leb 4 (field x CORNERS) (h .corners-least),
-        le-leb (field x CORNERS) 512 (h .corners-most),
+        le-leb (field x CORNERS) mostCoarseCorners (h .corners-most),
         le-leb 1 (field x COARSE) (h .coarse-least),
-        le-leb (field x COARSE) 256 (h .coarse-most),
+        le-leb (field x COARSE) mostCoarseCells (h .coarse-most),
         le-leb (field x COARSE) (field x CELLS) (h .cells-least),
-        le-leb (field x CELLS) 4096 (h .cells-most),
+        le-leb (field x CELLS) mostCells (h .cells-most),
         le-leb 1 (field x LEVELS) (h .levels-least),
-        le-leb (field x LEVELS) 11 (h .levels-most),
-        le-leb (field x ENTRIES) 4096 (h .entries-most),
+        le-leb (field x LEVELS) mostLevels (h .levels-most),
+        le-leb (field x ENTRIES) mostCells (h .entries-most),
       )
 
   -- by stage

@@ -6,6 +6,7 @@ use mathlib.Core.Bool.{true, false}
 use mathlib.Core.List.{List, [], _∷_, _++_}
 use Prim.Native.Nat.{ℕ, _+_, _-_, _/_, _%_}
 use lib.Dec.{ltb}
+use Rattle.store.specs.Fields.{countCode, endCode, totalsCode}
 
 abbrev pub two : ℕ → List ℕ
 two x = x % 256 ∷ x / 256 % 256 ∷ []
@@ -13,22 +14,22 @@ two x = x % 256 ∷ x / 256 % 256 ∷ []
 -- Rule 15.4: below 4,096 a cell's mark, then a slot's count, then totals with the top level, then a round's end
 unfoldable pub kindOf : ℕ → ℕ
 kindOf c =
-    elim (ltb c 4096) [
+    elim (ltb c countCode) [
       | true ↦ 1
-      | false ↦ elim (ltb c 28672) [
+      | false ↦ elim (ltb c totalsCode) [
         | true ↦ 2
-        | false ↦ elim (ltb c 28928) [ true ↦ 3 | false ↦ 4 ]
+        | false ↦ elim (ltb c endCode) [ true ↦ 3 | false ↦ 4 ]
       ]
     ]
 
 -- Rule 15.4.
 unfoldable pub bodyOf : ℕ → ℕ → List ℕ
 bodyOf c v =
-    elim (ltb c 4096) [
+    elim (ltb c countCode) [
       | true ↦ two c ++ (v % 256 ∷ [])
-      | false ↦ elim (ltb c 28672) [
-        | true ↦ two (c - 4096) ++ two v
-        | false ↦ elim (ltb c 28928) [ true ↦ two v ++ ((c - 28672) ∷ []) | false ↦ [] ]
+      | false ↦ elim (ltb c totalsCode) [
+        | true ↦ two (c - countCode) ++ two v
+        | false ↦ elim (ltb c endCode) [ true ↦ two v ++ ((c - totalsCode) ∷ []) | false ↦ [] ]
       ]
     ]
 

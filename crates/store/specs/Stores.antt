@@ -9,6 +9,7 @@ use native.Mathlib.Omega.{arith}
 use lib.ListN.{length, getD, take, drop, length-drop, length-map}
 use lib.Seq.{length-take-le, getD-take, getD-drop}
 use Rattle.base.specs.Every.{getD-map}
+use Rattle.base.specs.Limits.{mostParts}
 use Rattle.base.specs.Range.{range, length-range, range-at}
 use Rattle.store.specs.Fields.{field, full}
 
@@ -25,7 +26,7 @@ module _ (b : List ℕ) where
   unfolding storeIn
   in-long j h = length-take-le full (drop (full * j) b) (omega (arith, length-drop (full * j) b))
 
-  pub store-long : (j : ℕ) → 16 * full ≤ length b → j < 16 → length (storeIn b j) ≡ full
+  pub store-long : (j : ℕ) → mostParts * full ≤ length b → j < mostParts → length (storeIn b j) ≡ full
   store-long j h g = in-long j (omega arith)
 
   pub rest-size : (j k : ℕ) → full * j + full ≤ length b → length (drop k (storeIn b j)) ≡ full - k

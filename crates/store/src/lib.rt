@@ -1,10 +1,17 @@
 // A part's store and the calls that carry messages, as definitions on numbers: see specs/. The types that the calls answer with, and
 // places of cells.
+use base::MOST_CELLS;
+use base::MOST_COARSE_CELLS;
+use base::MOST_COARSE_CORNERS;
+use base::MOST_LEVELS;
+use base::MOST_PARTS;
+use base::MOST_SLOTS;
+use base::TOO_MANY;
 ghost use mathlib.Core.Path.{_≡_};
 ghost use Prim.Native.Nat.{_+_, _*_, _^_, _%_, _<_};
 ghost use Rattle.store.specs.Places.{childPlace};
 
-// The offsets of specs/Fields.
+// The offsets and lengths of specs/Fields.
 pub const FULL: usize = 226488;
 
 pub const STAGE: usize = 0;
@@ -41,6 +48,10 @@ pub const FIRST_CELL: usize = 16;
 
 pub const FIRST_SLOT: usize = 28;
 
+pub const FIRSTS_LENGTH: usize = MOST_LEVELS + 1;
+
+pub const FREE: usize = 40;
+
 pub const TAKEN: usize = 63;
 
 pub const ENDED: usize = 79;
@@ -48,6 +59,8 @@ pub const ENDED: usize = 79;
 pub const GIVEN: usize = 96;
 
 pub const OWNER: usize = 112;
+
+pub const FREE_LENGTH: usize = OWNER - FREE;
 
 pub const FAMILY: usize = 4208;
 
@@ -67,9 +80,13 @@ pub const MORE: usize = 32880;
 
 pub const INNER: usize = 36976;
 
+pub const COLUMNS_LENGTH: usize = 10 * MOST_CELLS;
+
 pub const MARK: usize = 41072;
 
 pub const RED: usize = 45168;
+
+pub const FLAGS_LENGTH: usize = 2 * MOST_CELLS;
 
 pub const CORNER: usize = 49264;
 
@@ -79,11 +96,19 @@ pub const HOLDERS: usize = 74864;
 
 pub const SUM: usize = 99440;
 
+pub const MOST_ENTRIES: usize = MOST_CELLS + MOST_SLOTS + 24;
+
 pub const CODE: usize = 124016;
 
 pub const VALUE: usize = 152712;
 
 pub const RECEIVERS: usize = 181408;
+
+pub const COUNT_CODE: usize = MOST_CELLS;
+
+pub const TOTALS_CODE: usize = MOST_CELLS + MOST_SLOTS;
+
+pub const END_CODE: usize = TOTALS_CODE + 256;
 
 pub const PLACE_HEAD: usize = 210104;
 
@@ -92,6 +117,21 @@ pub const PLACE_DIGITS: usize = 214200;
 pub const PLACE_MORE: usize = 218296;
 
 pub const PLACE_STATUS: usize = 222392;
+
+// The most that numbers of the header may be, and totals.
+pub const PARTS_MOST: u16 = MOST_PARTS as u16;
+
+pub const CORNERS_MOST: u16 = MOST_COARSE_CORNERS as u16;
+
+pub const COARSE_MOST: u16 = MOST_COARSE_CELLS as u16;
+
+pub const CELLS_MOST: u16 = MOST_CELLS as u16;
+
+pub const LEVELS_MOST: u16 = MOST_LEVELS as u16;
+
+pub const ENTRIES_MOST: u16 = MOST_CELLS as u16;
+
+pub const TOTAL_MOST: u16 = TOO_MANY as u16;
 
 // A written message: its entry and the receiver's bit.
 pub struct Spot {

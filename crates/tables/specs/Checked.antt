@@ -7,6 +7,7 @@ use mathlib.Core.List.{List}
 use Prim.Native.Nat.{ℕ, _+_, _*_, _-_, _≤_, _<_}
 use lib.Dec.{eqb, leb}
 use lib.ListN.{length}
+use Rattle.base.specs.Limits.{mostCells}
 use Rattle.base.specs.Lists.{allb}
 use Rattle.mesh.specs.Cells.{Cell, redEdges, closedFrom}
 use Rattle.pairs.specs.Keys.{Keys}
@@ -16,7 +17,7 @@ use Rattle.mesh.specs.Table.{sizes}
 
 -- Rules 3.4, 4.1: a status table that is short enough, of statuses.
 pub record Statuses (ss : List ℕ) : Type 0 where
-  pub few : length ss ≤ 4096
+  pub few : length ss ≤ mostCells
   pub fit : allb (λ s. leb s 64) ss ≡ true
 
 -- at most six entries for each eight cells

@@ -4,6 +4,7 @@ use mathlib.Core.Path.{_≡_, refl, sym, _∙_, ap}
 use mathlib.Core.Logic.{⊎-elim}
 use mathlib.Core.Bool.{false, Bool, true, _&&_}
 use mathlib.Core.List.{List, [], _∷_, _++_, flatMap}
+use Rattle.base.specs.Limits.{mostCells}
 use Rattle.numbering.specs.Renamed.{apartOf}
 use Prim.Native.Nat.{ℕ, suc, _+_, _*_, _-_, _<_, _≤_}
 use native.Mathlib.Decide.{ℕ-discrete}
@@ -74,7 +75,7 @@ module _ (ok : Bool) (size : ℕ) (ss rows xs ys : List ℕ) (k last level m ref
 
 -- what a sound table cannot be
 module _ (n : ℕ) (qs : List (List ℕ)) (ss : List ℕ) where
-  pub unsound-long : 4096 < length ss → soundb n qs ss ≡ false
+  pub unsound-long : mostCells < length ss → soundb n qs ss ≡ false
   unsound-long h = ⊎-elim (λ e. absurd (omega (arith, sound-counted n qs ss e .small))) (λ e. e) (either (soundb n qs ss))
 
   pub unsound-status : allb (λ s. leb s 64) ss ≡ false → soundb n qs ss ≡ false

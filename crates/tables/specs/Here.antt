@@ -11,6 +11,7 @@ use mathlib.Core.List.{List, _++_, flatMap}
 use Prim.Native.Nat.{ℕ, suc, _+_, _*_, _≤_, _<_}
 use lib.Dec.{T, eqb}
 use lib.ListN.{length, take}
+use Rattle.base.specs.Limits.{mostCells}
 use Rattle.base.specs.Lists.{allb}
 use Rattle.mesh.specs.Cells.{Cell, redEdges}
 use Rattle.mesh.specs.Weights.{Point}
@@ -44,7 +45,7 @@ module _ (n : ℕ) (qs : List (List ℕ)) (ss : List ℕ) (j first last : ℕ) (
     pub low : j ≤ 10
     pub some : 0 < length cells
     pub end : last ≡ first + length cells
-    pub few : last ≤ 4096
+    pub few : last ≤ mostCells
     pub placed : All (Placed corners) (cellsOf (reached .done))
     pub named : cornersFrom (coarseCorners n) (cellsOf (reached .done)) (take first ss) ≡ corners
     pub deep : T (allb (λ c. eqb (length (c .path)) (suc j)) cells)
@@ -62,7 +63,7 @@ module _ (n : ℕ) (qs : List (List ℕ)) (ss : List ℕ) (j last : ℕ) (rows p
     pub low : j ≤ 10
     pub sound : soundb n qs ss ≡ (eqb (length ss) last && apartb all ss)
     pub counted : length all ≡ last
-    pub few : last ≤ 4096
+    pub few : last ≤ mostCells
     pub placed : All (Placed corners) all
     pub named : cornersFrom (coarseCorners n) all (take last ss) ≡ corners
     pub numbered : NumberedCorners n corners (listed ps qs′ 0 m)

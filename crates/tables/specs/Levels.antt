@@ -9,6 +9,7 @@ use lib.Dec.{eqb, leb}
 use lib.ListN.{length, take, drop, length-append}
 use lib.Seq.{drop-drop}
 use borrow.Author.Tests.{eq-eqb, ne-eqb, eqb-true, eqb-false, le-leb, lt-leb}
+use Rattle.base.specs.Limits.{mostCells, mostLevels}
 use Rattle.base.specs.Lists.{allb, sameb}
 use Rattle.mesh.specs.Cells.{Cell, closedFrom, redEdges}
 use Rattle.mesh.specs.Weights.{Point, coarseCells}
@@ -66,26 +67,27 @@ module _ (n : ℕ) (qs : List (List ℕ)) (ss : List ℕ) where
   abbrev cs : List (Cell Point)
   cs = cellsOf (levelsOf n qs ss)
 
-  whole : soundb n qs ss ≡ ((eqb (length ss) (length cs) && (leb (length ls) 11 && leb (length cs) 4096))
+  whole : soundb n qs ss ≡ ((eqb (length ss) (length cs) && (leb (length ls) mostLevels && leb (length cs) mostCells))
       && (allb closedb ls && apartb cs ss))
   unfolding soundb
   whole = refl
 
   unsound-closed : allb closedb ls ≡ false → soundb n qs ss ≡ false
-  unsound-closed e = whole ∙ rw e (and-false (eqb (length ss) (length cs) && (leb (length ls) 11 && leb (length cs) 4096)))
+  unsound-closed e = whole ∙ rw e (and-false (eqb (length ss) (length cs) && (leb (length ls) mostLevels && leb (length cs) mostCells)))
 
   unsound-count : (length ss ≡ length cs → ⊥) → soundb n qs ss ≡ false
   unsound-count h = whole ∙ rw (ne-eqb (length ss) (length cs) h)
 
-  unsound-height : 11 < length ls → soundb n qs ss ≡ false
-  unsound-height h = whole ∙ rw (lt-leb (length ls) 11 h) (go (eqb (length ss) (length cs)))
+  unsound-height : mostLevels < length ls → soundb n qs ss ≡ false
+  unsound-height h = whole ∙ rw (lt-leb (length ls) mostLevels h) (go (eqb (length ss) (length cs)))
     where
       go : (b : Bool) → ((b && false) && (allb closedb ls && apartb cs ss)) ≡ false
       go true = refl
       go false = refl
 
-  sound-apart : length ss ≡ length cs → length ls ≤ 11 → length cs ≤ 4096 → allb closedb ls ≡ true → soundb n qs ss ≡ apartb cs ss
-  sound-apart a b c d = whole ∙ rw (eq-eqb (length ss) (length cs) a, le-leb (length ls) 11 b, le-leb (length cs) 4096 c, d)
+  sound-apart : length ss ≡ length cs → length ls ≤ mostLevels → length cs ≤ mostCells → allb closedb ls ≡ true
+      → soundb n qs ss ≡ apartb cs ss
+  sound-apart a b c d = whole ∙ rw (eq-eqb (length ss) (length cs) a, le-leb (length ls) mostLevels b, le-leb (length cs) mostCells c, d)
 
 -- How far a program has come: the levels below j are closed, and the cells of level j begin at `first`.
 pub record Reached (n : ℕ) (qs : List (List ℕ)) (ss : List ℕ) (j first : ℕ) (cells : List (Cell Point)) : Type 0 where
@@ -203,7 +205,7 @@ module _ (n : ℕ) (qs : List (List ℕ)) (ss : List ℕ) (j first : ℕ) (cells
     pub high : length (levelsOf n qs ss) ≡ suc j
 
   pub reached-end : closedFrom [] sameb (redEdges [] cells statuses) cells statuses ≡ true → sizes statuses ≡ 0
-      → first + length cells ≤ length ss → length ss ≤ 4096 → Ended
+      → first + length cells ≤ length ss → length ss ≤ mostCells → Ended
   unfolding here up closedb allb cellsOf flatMap
   reached-end e z g s =
       let k : length cells ≡ length statuses = sym (length-part ss first (length cells) g) in

@@ -10,6 +10,7 @@ use mathlib.Core.List.{List}
 use Prim.Native.Nat.{ℕ, _*_, _%_, _≤_, _<_}
 use lib.Dec.{T}
 use lib.ListN.{length, take}
+use Rattle.base.specs.Limits.{mostCells, mostLevels}
 use Rattle.mesh.specs.Cells.{Cell}
 use Rattle.mesh.specs.Weights.{Point}
 use Rattle.base.specs.Fours.{fours}
@@ -31,8 +32,8 @@ examinedCorners n qs ss = cornersOf n (tableCells n qs ss) ss
 pub record LaidSound (n : ℕ) (qs : List (List ℕ)) (ss rows ps qs′ : List ℕ) (cells levels m : ℕ) : Type 0 where
   pub counted : length (tableCells n qs ss) ≡ cells
   pub high : length (levelsOf n qs ss) ≡ levels
-  pub few : cells ≤ 4096
-  pub low : levels ≤ 11
+  pub few : cells ≤ mostCells
+  pub low : levels ≤ mostLevels
   pub most : m ≤ cells
   pub table : take (8 * cells) rows ≡ cellTable (examinedCorners n qs ss) (tableCells n qs ss)
   pub corners : NumberedCorners n (examinedCorners n qs ss) (listed ps qs′ 0 m)

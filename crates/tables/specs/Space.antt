@@ -8,6 +8,7 @@ use native.Mathlib.Omega.{arith}
 use lib.ListN.{length}
 use borrow.Author.Tests.{eqb-true}
 use Rattle.base.specs.Bools.{one-if}
+use Rattle.base.specs.Limits.{mostCells}
 use Rattle.mesh.specs.Cells.{redb}
 use Rattle.edges.specs.Pairs.{addPairs, pairsOf}
 use Rattle.edges.specs.Table.{Grown, listed}
@@ -36,7 +37,7 @@ red-sizes [] = omega arith
 red-sizes (s ∷ ss) = omega (arith, one-size s, red-sizes ss)
 
 module _ (rows ss : List ℕ) (first last : ℕ) (xs ys heads links : List ℕ) (n : ℕ) (r : Reds xs ys heads links n last)
-    (up : first ≤ last) (in-rows : 8 * last ≤ length rows) (inside : last ≤ length ss) (few : length ss ≤ 4096)
+    (up : first ≤ last) (in-rows : 8 * last ≤ length rows) (inside : last ≤ length ss) (few : length ss ≤ mostCells)
     (fit : last + sizes (ownStatuses rows ss first last) ≤ length ss) where
   -- the tables of red edges have room for all red cells of a table
   pub ready : RedRoom ss xs ys links → Ready rows xs ys heads links last n n (6 * redCount (ownStatuses rows ss first last))

@@ -1,4 +1,5 @@
 // Status tables over a coarse mesh: examined and laid out level by level, in tables that the caller lends.
+use base::TOP_LEVEL;
 ghost use mathlib.Core.Path.{_≡_};
 ghost use mathlib.Core.Bool.{true, false};
 ghost use mathlib.Core.List.{flatMap};
@@ -6,6 +7,7 @@ ghost use Prim.Native.Nat.{_*_, _≤_};
 ghost use lib.ListN.{length, take};
 ghost use Rattle.base.specs.Fours.{fours};
 ghost use Rattle.base.specs.Lent.{was, is};
+ghost use Rattle.base.specs.Limits.{topLevel};
 ghost use Rattle.pairs.specs.Keys.{Clear};
 ghost use Rattle.closure.specs.Listed.{Looks};
 ghost use Rattle.separation.specs.Parents.{Parents};
@@ -108,7 +110,7 @@ pub fn lay_coarse(mesh: &[u16], rows: &mut [u16]) -> usize
 
 // Whether the building ends with a level: it is not closed, or no cell lies above it, or none may.
 fn is_last(ok: bool, size: usize, level: usize) -> bool
-    ensures { λ r. ⌜ (r ≡ true → ok ≡ true → (size ≡ 0 → ⊥) → level ≡ 10) × (r ≡ false → GoesOn ok size level) ⌝ }
+    ensures { λ r. ⌜ (r ≡ true → ok ≡ true → (size ≡ 0 → ⊥) → level ≡ topLevel) × (r ≡ false → GoesOn ok size level) ⌝ }
 {
     if !ok {
         return true;
@@ -116,7 +118,7 @@ fn is_last(ok: bool, size: usize, level: usize) -> bool
     if size == 0 {
         return true;
     }
-    level == 10
+    level == TOP_LEVEL
 }
 
 // The end of a building, with a level that is closed or not and has so many cells above it, at so many cells and new corners up to it:
@@ -137,7 +139,7 @@ fn finish(
     m: usize,
 ) -> Outcome
     requires { ⌜ (ok ≡ true → size ≡ 0 → Looks (now rows) (now xs) (now ys) (now heads) (now links) last 0 k × Parents (now rows) last)
-        × (level ≤ 10) ⌝ }
+        × (level ≤ topLevel) ⌝ }
     ensures { λ r. ⌜ EndedWith ok size (was status) (was rows) (was xs) (was ys) k last level m (r .refusal) (r .cells) (r .levels)
         (r .mids) ⌝ }
 {

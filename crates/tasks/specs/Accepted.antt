@@ -5,7 +5,7 @@
 -- store of it, by `Columns` and `Idle`).
 use mathlib.Core.Path.{_≡_, sym, ap, subst}
 use mathlib.Core.Bool.{Bool, true, _&&_}
-use mathlib.Core.List.{List}
+use mathlib.Core.List.{List, _++_}
 use Prim.Native.Nat.{ℕ, suc, _*_, _≤_, Fin}
 use native.Mathlib.Omega.{arith}
 use lib.Dec.{T, leb, leb→le}
@@ -110,12 +110,12 @@ module _ (ps : List ℤ) (ts ss : List ℕ) (Q : ℕ) (os b : List ℕ) (e : spl
   unfolding splitAfter splitIn
   split-after = ap (λ (a : Answer). splitIn a (storesAfter (cornerCount ps) (fours ts) ss (suc Q) os b) b) e
 
-  -- the store of a part in it
-  pub split-store : (p : Fin (suc Q))
-      → Stored (cornerCount ps) (fours ts) ss (suc Q) os (suc (p .0)) (storeIn (splitAfter ps ts ss (suc Q) os b) (p .0))
-  split-store p =
-      subst (λ (y : List ℕ). Stored n qs ss (suc Q) os (suc (p .0)) (storeIn y (p .0))) (sym split-after)
-      (stored-split n qs ss (suc Q) os b (S.fours-long ts) (splits-from .parts-few) split-room (p .0) (p .1))
+  -- the store of a part in it, and whatever is lent behind it
+  pub split-store : (r : List ℕ) (p : Fin (suc Q))
+      → Stored (cornerCount ps) (fours ts) ss (suc Q) os (suc (p .0)) (storeIn (splitAfter ps ts ss (suc Q) os b) (p .0) ++ r)
+  split-store r p =
+      subst (λ (y : List ℕ). Stored n qs ss (suc Q) os (suc (p .0)) (storeIn y (p .0) ++ r)) (sym split-after)
+      (stored-split n qs ss (suc Q) os b (S.fours-long ts) (splits-from .parts-few) split-room (p .0) (p .1) r)
 
 module _ (Q n : ℕ) (qs : List (List ℕ)) (ss os : List ℕ) (g : Splits Q n qs ss os) where
   pub split-slots : Slots n qs ss (slotOf n qs ss) (slotsOn n qs ss)

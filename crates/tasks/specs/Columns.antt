@@ -11,6 +11,7 @@ use lib.ListN.{length, getD}
 use borrow.Author.Tests.{le-leb}
 use Rattle.base.specs.Bools.{one-if, is-true, or-first, or-second}
 use Rattle.base.specs.Every.{All}
+use Rattle.base.specs.Limits.{mostCells, mostSlots, mostCoarseCells, mostParts}
 use Rattle.base.specs.Range.{range, member-range}
 use Rattle.mesh.specs.Cells.{Cell, bitsOf}
 use Rattle.mesh.specs.Weights.{Point}
@@ -73,19 +74,19 @@ module _ (Q n : ℕ) (qs : List (List ℕ)) (ss os : List ℕ) (four : All (λ q
   abbrev Holds : ℕ → Type 0
   Holds = HoldsCell (suc Q) (splitTask Q n qs ss os) p
 
-  inside : (k c : ℕ) → Member c (cells k) → (c < length ss) × (c < 4096)
+  inside : (k c : ℕ) → Member c (cells k) → (c < length ss) × (c < mostCells)
   inside k c m = let h = number-inside n qs ss s k c m in (h, omega (arith, s .many, s .few))
 
   held-as : (k c : ℕ) → Member c (cells k) → T (mine F J p c) → holdsCell n qs ss os (suc (p .0)) c ≡ true
   held-as k c m t = sym (mine-held Q n qs ss os sound owners p c (inside k c m .0)) ∙ is-true (mine F J p c) t
 
   -- a number of a cell that the part holds
-  column : (f : ℕ → ℕ) (o : ℕ) → ((c : ℕ) → c < 4096 → field x (o + c) ≡ ifHeld n qs ss os (suc (p .0)) f c)
+  column : (f : ℕ → ℕ) (o : ℕ) → ((c : ℕ) → c < mostCells → field x (o + c) ≡ ifHeld n qs ss os (suc (p .0)) f c)
       → (c : ℕ) → Holds c → field x (o + c) ≡ f c
   column f o w c (k, m, t) =
       w c (inside k c m .1) ∙ when-held n qs ss os (suc (p .0)) f c (inside k c m .0) (held-as k c m t)
 
-  empty : (f : ℕ → ℕ) (o : ℕ) → ((c : ℕ) → c < 4096 → field x (o + c) ≡ ifHeld n qs ss os (suc (p .0)) f c)
+  empty : (f : ℕ → ℕ) (o : ℕ) → ((c : ℕ) → c < mostCells → field x (o + c) ≡ ifHeld n qs ss os (suc (p .0)) f c)
       → (k c : ℕ) → Member c (cells k) → mine F J p c ≡ false → field x (o + c) ≡ 0
   empty f o w k c m t =
       w c (inside k c m .1)
@@ -123,17 +124,17 @@ module _ (Q n : ℕ) (qs : List (List ℕ)) (ss os : List ℕ) (four : All (λ q
       ])
 
   -- the parts that hold a slot
-  slot-small : (k i : ℕ) → Member i (slotsOn n qs ss k) → i < 24576
+  slot-small : (k i : ℕ) → Member i (slotsOn n qs ss k) → i < mostSlots
   slot-small k i m =
       let (a, b) = member-range (slotsBelow n qs ss k) (slotsBelow n qs ss (suc k) - slotsBelow n qs ss k) i
       (rw (slots-gap n qs ss k) at m) in
       omega (arith, slots-all n qs ss s (suc k), slots-follow n qs ss k)
 
-  holders-here : (i : ℕ) → i < 24576 → holdsSlot n qs ss os (suc (p .0)) i ≡ true → field x (HOLDERS + i) ≡ holdersOf n qs ss os i
+  holders-here : (i : ℕ) → i < mostSlots → holdsSlot n qs ss os (suc (p .0)) i ≡ true → field x (HOLDERS + i) ≡ holdersOf n qs ss os i
   unfolding holdersAt
   holders-here i h e = st .holders i h ∙ rw (e, holdersAt)
 
-  holders-none : (i : ℕ) → i < 24576 → holdsSlot n qs ss os (suc (p .0)) i ≡ false → field x (HOLDERS + i) ≡ 0
+  holders-none : (i : ℕ) → i < mostSlots → holdsSlot n qs ss os (suc (p .0)) i ≡ false → field x (HOLDERS + i) ≡ 0
   unfolding holdersAt
   holders-none i h e = st .holders i h ∙ rw (e, holdersAt)
 
@@ -141,14 +142,14 @@ module _ (Q n : ℕ) (qs : List (List ℕ)) (ss os : List ℕ) (four : All (λ q
   unfolding bitsOf
   no-bits i = bit-at [] i
 
-  no-more : (i j : ℕ) → i < 24576 → suc Q ≤ j → bitb (field x (HOLDERS + i)) j ≡ false
+  no-more : (i j : ℕ) → i < mostSlots → suc Q ≤ j → bitb (field x (HOLDERS + i)) j ≡ false
   no-more i j h g = go (holdsSlot n qs ss os (suc (p .0)) i) refl
     where
       go : (b : Bool) → holdsSlot n qs ss os (suc (p .0)) i ≡ b → bitb (field x (HOLDERS + i)) j ≡ false
       go true e = ap (λ (y : ℕ). bitb y j) (holders-here i h e) ∙ no-bit Q n qs ss os sound owners j i g
       go false e = ap (λ (y : ℕ). bitb y j) (holders-none i h e) ∙ no-bits j
 
-  module _ (parts-few : suc Q ≤ 16) (some : 1 ≤ length qs) (few : length qs ≤ 256) where
+  module _ (parts-few : suc Q ≤ mostParts) (some : 1 ≤ length qs) (few : length qs ≤ mostCoarseCells) where
     top : suc (pred (length (levelsOf n qs ss))) ≡ length (levelsOf n qs ss)
     top = up (length (levelsOf n qs ss)) (one-at-least n qs ss some)
       where
@@ -168,7 +169,7 @@ module _ (Q n : ℕ) (qs : List (List ℕ)) (ss os : List ℕ) (four : All (λ q
     pub columns-of : Columns (suc Q) (splitTask Q n qs ss os) p x
     columns-of =
         record {
-          long = omega (arith, st .size);
+          long = st .long;
           part = st .part;
           many = st .parts;
           parts-few = parts-few;

@@ -15,7 +15,6 @@ use Rattle.base.specs.Lists.{anyb, sameb, memberb}
 use Rattle.base.specs.Bools.{is-true, or-first, or-second}
 use Rattle.base.specs.Every.{All, all-at}
 use Rattle.base.specs.Places.{hasb, has-append}
-use Rattle.base.specs.Range.{range}
 use Rattle.mesh.specs.Cells.{edge, edges, joinsb, heldb, noCell}
 use Rattle.mesh.specs.Weights.{Point}
 use Rattle.mesh.specs.Coarse.{cellsb}
@@ -33,6 +32,7 @@ use Rattle.splitting.specs.Numbers.{numbersOf, number-inside}
 use Rattle.splitting.specs.Split.{Slots}
 use Rattle.splitting.specs.Keyed.{keyedSlot, keyedSlots, keyed-slots}
 use Rattle.split.specs.Columns.{numberedCell, keysAt, slotsBelow, slotOf}
+use Rattle.split.specs.Messages.{levelSlots}
 use Rattle.tasks.specs.Levels.{level-range}
 use Rattle.tables.specs.Sound.{examinedCorners}
 
@@ -41,7 +41,7 @@ module _ (n : ℕ) (qs : List (List ℕ)) (ss : List ℕ) where
   key c e = sorted (edge 0 (numberedCell n qs ss c) e)
 
   abbrev pub slotsOn : ℕ → List ℕ
-  slotsOn k = range (slotsBelow n qs ss k) (length (keysAt n qs ss k))
+  slotsOn k = levelSlots n qs ss k
 
   sixOf : ℕ → List Pair
   sixOf c = edges 0 (numberedCell n qs ss c)

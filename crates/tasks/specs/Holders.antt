@@ -12,6 +12,7 @@ use native.Mathlib.Omega.{arith}
 use lib.Dec.{T, eqb, eqb→eq}
 use lib.ListN.{length, getD, length-map, List·getD-eq-default}
 use borrow.Author.Tests.{eq-eqb, ne-eqb}
+use Rattle.base.specs.Limits.{mostParts}
 use Rattle.base.specs.Lists.{anyb}
 use Rattle.base.specs.Bools.{and-left, and-right, same-test}
 use Rattle.base.specs.Every.{All, getD-map}
@@ -139,20 +140,20 @@ module _ (Q n : ℕ) (qs : List (List ℕ)) (ss os : List ℕ) (sound : T (sound
         (subst (λ (b : Bool). T (b && hasb c x)) (sym (mine-held p c (omega arith))) u))
 
   -- sixteen bits
-  pub holder-bit : (i x : ℕ) → i < 16 → bitb (holdersOf n qs ss os x) i ≡ holdsSlot n qs ss os (suc i) x
+  pub holder-bit : (i x : ℕ) → i < mostParts → bitb (holdersOf n qs ss os x) i ≡ holdsSlot n qs ss os (suc i) x
   unfolding holdersOf
   holder-bit i x h =
-      bit-at (map (λ p. holdsSlot n qs ss os p x) (range 1 16)) i
-      ∙ getD-map (λ p. holdsSlot n qs ss os p x) (range 1 16) i 0 false (omega (arith, length-range 1 16))
-      ∙ ap (λ (p : ℕ). holdsSlot n qs ss os p x) (range-at 1 16 i 0 h ∙ omega arith)
+      bit-at (map (λ p. holdsSlot n qs ss os p x) (range 1 mostParts)) i
+      ∙ getD-map (λ p. holdsSlot n qs ss os p x) (range 1 mostParts) i 0 false (omega (arith, length-range 1 mostParts))
+      ∙ ap (λ (p : ℕ). holdsSlot n qs ss os p x) (range-at 1 mostParts i 0 h ∙ omega arith)
 
   pub no-bit : (i x : ℕ) → suc Q ≤ i → bitb (holdersOf n qs ss os x) i ≡ false
   unfolding holdersOf
   no-bit i x g =
-      elim (decLt i 16) [
+      elim (decLt i mostParts) [
         | yes h ↦ holder-bit i x h ∙ no-slot i x g
         | no h ↦
-            bit-at (map (λ p. holdsSlot n qs ss os p x) (range 1 16)) i
-            ∙ List·getD-eq-default (map (λ p. holdsSlot n qs ss os p x) (range 1 16)) false {n = i}
-            (omega (arith, length-map (range 1 16) (λ p. holdsSlot n qs ss os p x), length-range 1 16))
+            bit-at (map (λ p. holdsSlot n qs ss os p x) (range 1 mostParts)) i
+            ∙ List·getD-eq-default (map (λ p. holdsSlot n qs ss os p x) (range 1 mostParts)) false {n = i}
+            (omega (arith, length-map (range 1 mostParts) (λ p. holdsSlot n qs ss os p x), length-range 1 mostParts))
       ]

@@ -11,6 +11,7 @@ use lib.Dec.{T, eqb, leb}
 use lib.ListN.{length, getD, drop, drop-of-length-le}
 use lib.Seq.{drop-cons}
 use borrow.Author.Tests.{eq-eqb, ne-eqb, le-leb, lt-ltb, le-ltb}
+use Rattle.base.specs.Limits.{mostCells, mostCoarseCells, mostCoarseCorners, mostLevels, mostParts}
 use Rattle.base.specs.Lists.{filterb}
 use Rattle.base.specs.Bools.{one-if, not-both}
 use Rattle.base.specs.Range.{range}
@@ -57,7 +58,8 @@ module _ (n : ℕ) (qs : List (List ℕ)) (ss : List ℕ) (P : ℕ) (os : List �
       let g : eqb (field x RESULT) 0 ≡ true = ap (λ (y : ℕ). eqb y 0) (st .result) in
       rw (e, stageb) (ap₂ _&&_ f g)
 
-  pub idle-header : P ≤ 16 → suc p ≤ P → 4 ≤ n → n ≤ 512 → 1 ≤ length qs → length qs ≤ 256 → headerb x ≡ true
+  pub idle-header : P ≤ mostParts → suc p ≤ P → 4 ≤ n → n ≤ mostCoarseCorners → 1 ≤ length qs → length qs ≤ mostCoarseCells
+      → headerb x ≡ true
   unfolding headerb
   idle-header a b c d e f =
       let g : length qs ≤ length ss = omega (arith, below-coarse n qs ss, below-all n qs ss s 1) in
@@ -71,17 +73,17 @@ module _ (n : ℕ) (qs : List (List ℕ)) (ss : List ℕ) (P : ℕ) (os : List �
         st .entries,
         stage-idle,
         le-leb 1 P (omega arith),
-        le-leb P 16 a,
+        le-leb P mostParts a,
         le-leb 1 (suc p) (omega arith),
         le-leb (suc p) P b,
         le-leb 4 n c,
-        le-leb n 512 d,
+        le-leb n mostCoarseCorners d,
         le-leb 1 (length qs) e,
-        le-leb (length qs) 256 f,
+        le-leb (length qs) mostCoarseCells f,
         le-leb (length qs) (length ss) g,
-        le-leb (length ss) 4096 (omega (arith, s .many, s .few)),
+        le-leb (length ss) mostCells (omega (arith, s .many, s .few)),
         le-leb 1 (length (levelsOf n qs ss)) (one-at-least n qs ss e),
-        le-leb (length (levelsOf n qs ss)) 11 (s .high),
+        le-leb (length (levelsOf n qs ss)) mostLevels (s .high),
       )
 
   -- its masters
@@ -89,7 +91,7 @@ module _ (n : ℕ) (qs : List (List ℕ)) (ss : List ℕ) (P : ℕ) (os : List �
   unfolding ownb masterb holdsCell
   master-is c h = go (holdsCell n qs ss os (suc p) c) refl (masterb os (suc p) c) refl
     where
-      small : c < 4096
+      small : c < mostCells
       small = omega (arith, s .many, s .few)
 
       go : (b : Bool) → holdsCell n qs ss os (suc p) c ≡ b → (d : Bool) → masterb os (suc p) c ≡ d → ownb x c ≡ masterb os (suc p) c

@@ -8,6 +8,7 @@ use lib.Dec.{ltb}
 use lib.ListN.{length, getD, length-append, length-take}
 use borrow.Author.Tests.{lt-ltb, le-ltb}
 use Rattle.base.specs.Every.{all-append}
+use Rattle.base.specs.Limits.{mostCoarseCells, topLevel}
 use Rattle.cutting.specs.Rows.{family-few}
 use Rattle.mesh.specs.Cells.{Cell, noCell, patternOf, redEdges}
 use Rattle.mesh.specs.Weights.{Point, coarseCells}
@@ -27,7 +28,7 @@ use Rattle.splitting.specs.Numbers.{numbersOf, at-level, stands}
 use Rattle.shares.specs.Grow.{coarseb}
 use Rattle.entering.specs.Columns.{Path}
 
-module _ (n : ℕ) (qs : List (List ℕ)) (ss : List ℕ) (few : length qs ≤ 256) (s : Sound n qs ss) where
+module _ (n : ℕ) (qs : List (List ℕ)) (ss : List ℕ) (few : length qs ≤ mostCoarseCells) (s : Sound n qs ss) where
   place-room : (k t : ℕ) → t < length (lv n qs ss k .cells) → Path k (pathAt (lv n qs ss k .cells) t)
   place-room zero t h =
       let e : lv n qs ss 0 .cells ≡ coarseCells n qs = old-coarse n qs ss [] in
@@ -72,7 +73,7 @@ length-path p =
     ∙ ap (min (placeLevel p)) (length-append (eights 5 (p .digits)) (eights 5 (p .more))
     ∙ omega (arith, length-eights 5 (p .digits), length-eights 5 (p .more))))
 
-pub place-coarse : (k : ℕ) (l : List ℕ) → k ≤ 10 → Path k l → ltb (placeOf l .head) 256 ≡ coarseb k
+pub place-coarse : (k : ℕ) (l : List ℕ) → k ≤ topLevel → Path k l → ltb (placeOf l .head) 256 ≡ coarseb k
 unfolding coarseb
 place-coarse k l h p = go k (level (p .is) (p .deep))
   where

@@ -9,6 +9,7 @@ use Prim.Native.Nat.{ℕ, zero, suc, _+_, _-_, _*_, _≤_}
 use native.Mathlib.Omega.{arith}
 use lib.ListN.{length, length-append}
 use Rattle.base.specs.Bools.{either}
+use Rattle.base.specs.Limits.{mostSlots}
 use Rattle.base.specs.Places.{hasb, add, add-old, add-new}
 use Rattle.base.specs.Range.{range, length-range}
 use Rattle.mesh.specs.Cells.{edges}
@@ -72,7 +73,7 @@ module _ (n : ℕ) (qs : List (List ℕ)) (ss : List ℕ) where
       ap (range (slotsBelow n qs ss k)) (sym z)
 
   module _ (s : Sound n qs ss) where
-    pub slots-all : (k : ℕ) → slotsBelow n qs ss k ≤ 24576
+    pub slots-all : (k : ℕ) → slotsBelow n qs ss k ≤ mostSlots
     slots-all k = omega (arith, slots-below k, below-all n qs ss s k, s .many, s .few)
 
     pub split-small : (Q : ℕ) (os : List ℕ) → SmallTask (parts (suc Q)) (splitTask Q n qs ss os) (length ss)

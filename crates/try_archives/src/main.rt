@@ -2,6 +2,8 @@
 // The input is made by independent/src/bin/archive_cases.rs, and so are the lines that are expected.
 mod print;
 
+use base::MOST_COARSE_CELLS;
+use base::MOST_COARSE_CORNERS;
 use jobs::Lengths;
 use jobs::Reading;
 use jobs::Replayed;
@@ -186,10 +188,10 @@ fn write_back(
     ends: &[u16],
     lengths: Lengths,
 ) {
-    if lengths.corners > 512 {
+    if lengths.corners > MOST_COARSE_CORNERS {
         return;
     }
-    if lengths.cells > 256 {
+    if lengths.cells > MOST_COARSE_CELLS {
         return;
     }
     let job = Job {

@@ -1,10 +1,12 @@
 // The calls on the stores of one split, by the store's place in the table: each answers 0, a refusal's number, or one of the numbers
 // below. The contracts are short, so that the proofs above them are.
 use crate::print;
+use base::MOST_CELLS;
 use base::code;
 use held::Listed;
 use held::Progress;
 use merge::Merged;
+use store::FULL;
 use store::Fetched;
 use trial::pattern;
 ghost use Prim.Native.Nat.{_<_};
@@ -18,8 +20,8 @@ pub const RUNNING: u8 = 20;
 pub const DONE: u8 = 30;
 
 pub fn start(stores: &mut [u16], at: u8, marks: &[u8], short: bool) -> u8 {
-    let from = 226488 * (at as usize);
-    let to = from + pattern::lent(226488, short);
+    let from = FULL * (at as usize);
+    let to = from + pattern::lent(FULL, short);
     if to > stores.len() {
         return NONE;
     }
@@ -27,8 +29,8 @@ pub fn start(stores: &mut [u16], at: u8, marks: &[u8], short: bool) -> u8 {
 }
 
 pub fn step(stores: &mut [u16], at: u8, short: bool) -> u8 {
-    let from = 226488 * (at as usize);
-    let to = from + pattern::lent(226488, short);
+    let from = FULL * (at as usize);
+    let to = from + pattern::lent(FULL, short);
     if to > stores.len() {
         return NONE;
     }
@@ -36,8 +38,8 @@ pub fn step(stores: &mut [u16], at: u8, short: bool) -> u8 {
 }
 
 pub fn hand(stores: &mut [u16], at: u8, bytes: &[u8], short: bool) -> u8 {
-    let from = 226488 * (at as usize);
-    let to = from + pattern::lent(226488, short);
+    let from = FULL * (at as usize);
+    let to = from + pattern::lent(FULL, short);
     if to > stores.len() {
         return NONE;
     }
@@ -70,8 +72,8 @@ fn length_of(answer: Fetched) -> u8 {
 
 // Fetches a message: its length, then its bytes.
 pub fn fetch(stores: &mut [u16], at: u8, message: &mut [u8], short: bool) -> u8 {
-    let from = 226488 * (at as usize);
-    let to = from + pattern::lent(226488, short);
+    let from = FULL * (at as usize);
+    let to = from + pattern::lent(FULL, short);
     if to > stores.len() {
         return NONE;
     }
@@ -93,8 +95,8 @@ fn progress(answer: Progress) -> u8 {
 }
 
 pub fn stage(stores: &[u16], at: u8, short: bool) -> u8 {
-    let from = 226488 * (at as usize);
-    let to = from + pattern::lent(226488, short);
+    let from = FULL * (at as usize);
+    let to = from + pattern::lent(FULL, short);
     if to > stores.len() {
         return NONE;
     }
@@ -107,8 +109,8 @@ pub fn is_done(stores: &[u16], at: u8) -> bool {
 }
 
 fn held_in(stores: &[u16], at: u8, rows: &mut [u16], short: bool) -> Listed {
-    let from = 226488 * (at as usize);
-    let to = from + pattern::lent(226488, short);
+    let from = FULL * (at as usize);
+    let to = from + pattern::lent(FULL, short);
     if to > stores.len() {
         return Listed::Refused(NONE);
     }
@@ -124,7 +126,7 @@ fn square(x: u64) -> u64
 
 // A sum of the rows that does not depend on their order: that of the squares of their checksums.
 fn add_row(sum: u64, rows: &[u16], j: usize) -> u64 {
-    if j >= 4096 {
+    if j >= MOST_CELLS {
         return sum;
     }
     let from = 14 * j;
@@ -147,7 +149,7 @@ fn rows_sum(rows: &[u16], n: usize) -> u64 {
 
 // One more for a ghost.
 fn with_ghost(count: usize, rows: &[u16], j: usize) -> usize {
-    if j >= 4096 {
+    if j >= MOST_CELLS {
         return count;
     }
     if 14 * j >= rows.len() {
@@ -156,7 +158,7 @@ fn with_ghost(count: usize, rows: &[u16], j: usize) -> usize {
     if rows[14 * j] != 1 {
         return count;
     }
-    if count < 4096 { count + 1 } else { count }
+    if count < MOST_CELLS { count + 1 } else { count }
 }
 
 fn ghosts(rows: &[u16], n: usize) -> usize {
@@ -234,8 +236,8 @@ pub fn merge_short(stores: &[u16]) -> u8 {
 
 // A checksum of a store.
 pub fn sum(stores: &[u16], at: u8) -> u64 {
-    let from = 226488 * (at as usize);
-    let to = from + 226488;
+    let from = FULL * (at as usize);
+    let to = from + FULL;
     if to > stores.len() {
         return 0;
     }
@@ -244,7 +246,7 @@ pub fn sum(stores: &[u16], at: u8) -> u64 {
 
 // Sets a number of a store.
 pub fn set(stores: &mut [u16], at: u8, offset: u32, value: u16) {
-    let k = 226488 * (at as usize) + offset as usize;
+    let k = FULL * (at as usize) + offset as usize;
     if k < stores.len() {
         stores[k] = value;
     }
@@ -264,10 +266,10 @@ fn swap_one(stores: &mut [u16], a: usize, b: usize) {
 
 // Two stores change their places.
 pub fn swap(stores: &mut [u16], one: u8, other: u8) {
-    let a = 226488 * (one as usize);
-    let b = 226488 * (other as usize);
+    let a = FULL * (one as usize);
+    let b = FULL * (other as usize);
     let mut i: usize = 0;
-    while i < 226488 {
+    while i < FULL {
         swap_one(stores, a + i, b + i);
         i += 1;
     }
@@ -285,10 +287,10 @@ fn copy_one(stores: &mut [u16], a: usize, b: usize) {
 
 // A store copied over another.
 pub fn copy(stores: &mut [u16], one: u8, other: u8) {
-    let a = 226488 * (one as usize);
-    let b = 226488 * (other as usize);
+    let a = FULL * (one as usize);
+    let b = FULL * (other as usize);
     let mut i: usize = 0;
-    while i < 226488 {
+    while i < FULL {
         copy_one(stores, a + i, b + i);
         i += 1;
     }

@@ -2,6 +2,7 @@
 // Parts are from 0. A message is kept as ten bytes: its length, then its own.
 use crate::calls;
 use crate::calls::NONE;
+use base::MOST_PARTS;
 ghost use Prim.Native.Nat.{_<_};
 
 fn byte(list: &[u8], i: usize) -> u8 {
@@ -14,10 +15,13 @@ fn set_byte(list: &mut [u8], i: usize, x: u8) {
     }
 }
 
+// As parts are counted here.
+const PARTS: u8 = MOST_PARTS as u8;
+
 fn pair(from: u8, to: u8) -> usize
     ensures { λ r. ⌜ r < 5000 ⌝ }
 {
-    16 * (from as usize) + to as usize
+    MOST_PARTS * (from as usize) + to as usize
 }
 
 // Where the message k of a pair stands among those that wait.
@@ -53,7 +57,7 @@ fn shift(queue: &mut [u8], a: usize)
 // Whether a message from this part to any other can wait.
 fn has_room(counts: &[u8], from: u8) -> bool {
     let mut to: u8 = 0;
-    while to < 16 {
+    while to < PARTS {
         if byte(counts, pair(from, to)) >= 12 {
             return false;
         }
@@ -314,7 +318,7 @@ fn next_all(
 fn tend(stores: &mut [u16], queue: &mut [u8], counts: &mut [u8], last: &mut [u8], at: u8) {
     fetch_all(stores, queue, counts, at);
     let mut to: u8 = 0;
-    while to < 16 {
+    while to < PARTS {
         next_all(stores, queue, counts, last, at, to);
         to += 1;
     }

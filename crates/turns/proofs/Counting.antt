@@ -8,7 +8,8 @@ use native.Mathlib.Decide.{decLt}
 use native.Mathlib.Nat.{div-eq-of-lt}
 use lib.Dec.{eqb}
 use borrow.Author.Tests.{eq-eqb, ne-eqb}
-use Rattle.store.specs.Fields.{field, PART, FIRST-SLOT, HOLDERS, SUM}
+use Rattle.base.specs.Limits.{mostSlots}
+use Rattle.store.specs.Fields.{field, PART, FIRST-SLOT, HOLDERS, SUM, countCode}
 use Rattle.store.specs.Fetch.{bitb}
 use Rattle.turns.specs.Loops.{eachFrom, SameHead, head-self, head-on, each-head}
 use Rattle.turns.specs.Tally.{tallyOne}
@@ -41,9 +42,9 @@ module _ (x : List ℕ) (s : ℕ) where
   count-none h = rw (eq-eqb (field x (SUM + s)) 0 h, countOne)
 
   pub count-here : (y : List ℕ) (m : ℕ) → (field x (SUM + s) ≡ 0 → ⊥) → m ≡ besides x (field x (HOLDERS + s))
-      → y ≡ posted x (4096 + s) (field x (SUM + s)) m → y ≡ countOne x s
+      → y ≡ posted x (countCode + s) (field x (SUM + s)) m → y ≡ countOne x s
   unfolding countOne
-  count-here y m h e i = i ∙ ap (posted x (4096 + s) (field x (SUM + s))) e ∙ rw (ne-eqb (field x (SUM + s)) 0 h, countOne)
+  count-here y m h e i = i ∙ ap (posted x (countCode + s) (field x (SUM + s))) e ∙ rw (ne-eqb (field x (SUM + s)) 0 h, countOne)
 
   pub count-head : SameHead x (countOne x s)
   unfolding countOne
@@ -51,13 +52,13 @@ module _ (x : List ℕ) (s : ℕ) where
     where
       go : (t : Bool) → eqb (field x (SUM + s)) 0 ≡ t → SameHead x (countOne x s)
       go true e = rw (e, countOne) (head-self x)
-      go false e = rw (e, countOne) (posted-head x (4096 + s) (field x (SUM + s)) (besides x (field x (HOLDERS + s))))
+      go false e = rw (e, countOne) (posted-head x (countCode + s) (field x (SUM + s)) (besides x (field x (HOLDERS + s))))
 
-  pub slot-low : field x (FIRST-SLOT + s) < 24576 → field x (FIRST-SLOT + s) ≡ slotFrom x s
+  pub slot-low : field x (FIRST-SLOT + s) < mostSlots → field x (FIRST-SLOT + s) ≡ slotFrom x s
   unfolding slotFrom
   slot-low h = omega arith
 
-  pub slot-high : 24576 ≤ field x (FIRST-SLOT + s) → 24576 ≡ slotFrom x s
+  pub slot-high : mostSlots ≤ field x (FIRST-SLOT + s) → mostSlots ≡ slotFrom x s
   unfolding slotFrom
   slot-high h = omega arith
 

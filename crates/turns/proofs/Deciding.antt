@@ -5,6 +5,7 @@ use mathlib.Core.List.{List}
 use Prim.Native.Nat.{ℕ, _+_, _-_, _/_, _%_, _^_, _≤_, _<_, min}
 use lib.Dec.{eqb}
 use borrow.Author.Tests.{eq-eqb, ne-eqb, lt-ltb, le-ltb, le-leb, lt-leb}
+use Rattle.base.specs.Limits.{mostSlots}
 use Rattle.mesh.specs.Table.{sizeOf}
 use Rattle.store.specs.Fields.{field, PART, CELLS, FAMILY, STATUS, REGULAR, CHILD, INNER, MARK, RED, SUM}
 use Rattle.store.specs.Fetch.{bitb}
@@ -18,13 +19,13 @@ not-not true = refl
 not-not false = refl
 
 module _ (x : List ℕ) where
-  pub hit-beyond : (s : ℕ) → 24576 ≤ s → false ≡ hitb x s
+  pub hit-beyond : (s : ℕ) → mostSlots ≤ s → false ≡ hitb x s
   unfolding hitb
-  hit-beyond s h = rw (le-ltb s 24576 h, hitb)
+  hit-beyond s h = rw (le-ltb s mostSlots h, hitb)
 
-  pub hit-inside : (s : ℕ) → s < 24576 → not (eqb (field x (SUM + s)) 0) ≡ hitb x s
+  pub hit-inside : (s : ℕ) → s < mostSlots → not (eqb (field x (SUM + s)) 0) ≡ hitb x s
   unfolding hitb
-  hit-inside s h = rw (lt-ltb s 24576 h, hitb)
+  hit-inside s h = rw (lt-ltb s mostSlots h, hitb)
 
   pub hit-edge : (c e s : ℕ) (r : Bool) → s ≡ slotAt x c e → r ≡ hitb x s → r ≡ hitOf x c e
   unfolding hitOf

@@ -13,7 +13,7 @@ use borrow.Author.Tests.{eq-eqb, ne-eqb, lt-ltb, le-ltb, le-leb, lt-leb}
 use Rattle.base.specs.Refuse.{refuse}
 use Rattle.base.specs.declared.Answer.{Answer}
 use Rattle.base.specs.declared.Answer.the-variants.{Accepted, Refused}
-use Rattle.store.specs.Fields.{field, full, STAGE, PART, PARTS, CELLS, LEVELS, FIRST-CELL, OWNER, STATUS, MARK}
+use Rattle.store.specs.Fields.{field, full, STAGE, PART, PARTS, CELLS, LEVELS, FIRST-CELL, OWNER, STATUS, MARK, TOTAL}
 use Rattle.store.specs.Header.{headerb}
 use Rattle.store.specs.Headed.{header-is}
 use Rattle.turns.specs.Loops.{eachFrom, SameHead, head-self, head-on, head-set, each-head}
@@ -246,12 +246,13 @@ module _ (x ms : List ℕ) where
             }
 
 -- the store that enters its first round
-begun-usable : (x y : List ℕ) → Usable x → SameHead x y → Usable (set y 0 1)
+begun-usable : (x y : List ℕ) → Usable x → SameHead x y → Usable (set y STAGE 1)
 begun-usable x y u h =
-    let at : (i : ℕ) → 1 ≤ i → i < 10 → field (set y 0 1) i ≡ field x i = λ i l m. getD-set-other y 0 i 1 0 (λ z. absurd (omega (arith, z)))
+    let at : (i : ℕ) → PART ≤ i → i < TOTAL → field (set y STAGE 1) i
+    ≡ field x i = λ i l m. getD-set-other y STAGE i 1 0 (λ z. absurd (omega (arith, z)))
     ∙ h .head i m in
     record {
-      long = omega (arith, length-set y 0 1, h .size, u .long);
+      long = omega (arith, length-set y STAGE 1, h .size, u .long);
       part-least = omega (arith, at 1 (omega arith) (omega arith), u .part-least);
       part-most = omega (arith, at 1 (omega arith) (omega arith), at 2 (omega arith) (omega arith), u .part-most);
       parts-most = omega (arith, at 2 (omega arith) (omega arith), u .parts-most);
@@ -260,5 +261,5 @@ begun-usable x y u h =
       levels-most = omega (arith, at 6 (omega arith) (omega arith), u .levels-most);
     }
 
-pub begun-by : (x ms y : List ℕ) (n : ℕ) → Usable x → y ≡ markedFrom x ms n 0 0 → Usable (set y 0 1)
+pub begun-by : (x ms y : List ℕ) (n : ℕ) → Usable x → y ≡ markedFrom x ms n 0 0 → Usable (set y STAGE 1)
 begun-by x ms y n u e = begun-usable x y u (subst (SameHead x) (sym e) (marked-head x ms n 0 0))

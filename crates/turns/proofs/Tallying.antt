@@ -7,25 +7,26 @@ use native.Mathlib.Omega.{arith}
 use lib.Dec.{ltb}
 use lib.ListN.{set}
 use borrow.Author.Tests.{eq-eqb, ne-eqb, lt-ltb, le-ltb}
+use Rattle.base.specs.Limits.{mostSlots}
 use Rattle.store.specs.Fields.{field, PART, OWNER, RED, SUM}
 use Rattle.turns.specs.Loops.{eachFrom, SameHead, head-self, head-set, each-head}
 use Rattle.turns.specs.Decide.{slotAt}
 use Rattle.turns.specs.Tally.{addOne, addEdge, talliedb, tallyOne}
 
 module _ (x : List ℕ) (s : ℕ) where
-  pub add-beyond : 24576 ≤ s → x ≡ addOne x s
+  pub add-beyond : mostSlots ≤ s → x ≡ addOne x s
   unfolding addOne
-  add-beyond h = rw (le-ltb s 24576 h, addOne)
+  add-beyond h = rw (le-ltb s mostSlots h, addOne)
 
-  pub add-inside : s < 24576 → set x (SUM + s) ((field x (SUM + s) + 1) % 65536) ≡ addOne x s
+  pub add-inside : s < mostSlots → set x (SUM + s) ((field x (SUM + s) + 1) % 65536) ≡ addOne x s
   unfolding addOne
-  add-inside h = rw (lt-ltb s 24576 h, addOne)
+  add-inside h = rw (lt-ltb s mostSlots h, addOne)
 
   add-head : SameHead x (addOne x s)
   unfolding addOne
-  add-head = go (ltb s 24576) refl
+  add-head = go (ltb s mostSlots) refl
     where
-      go : (t : Bool) → ltb s 24576 ≡ t → SameHead x (addOne x s)
+      go : (t : Bool) → ltb s mostSlots ≡ t → SameHead x (addOne x s)
       go true e = rw (e, addOne) (head-set x (SUM + s) ((field x (SUM + s) + 1) % 65536) (omega arith))
       go false e = rw (e, addOne) (head-self x)
 

@@ -12,6 +12,7 @@ use mathlib.Core.List.{List}
 use Prim.Native.Nat.{ℕ, _+_, _-_, _*_, min}
 use lib.Dec.{eqb, ltb, leb}
 use lib.ListN.{set}
+use Rattle.base.specs.Limits.{mostSlots}
 use Rattle.mesh.specs.Table.{sizeOf}
 use Rattle.store.specs.Fields.{field, PART, CELLS, FAMILY, STATUS, REGULAR, CHILD, INNER, MARK, RED, SLOT, SUM}
 use Rattle.store.specs.Fetch.{bitb}
@@ -22,7 +23,7 @@ slotAt x c e = field x (SLOT + (6 * c + e))
 
 -- Rule 7.2.
 unfoldable pub hitb : List ℕ → ℕ → Bool
-hitb x s = ltb s 24576 && not (eqb (field x (SUM + s)) 0)
+hitb x s = ltb s mostSlots && not (eqb (field x (SUM + s)) 0)
 
 -- Rule 7.2.
 unfoldable pub hitOf : List ℕ → ℕ → ℕ → Bool

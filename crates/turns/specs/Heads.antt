@@ -6,7 +6,7 @@ use Prim.Native.Nat.{ℕ, _+_, _<_}
 use native.Mathlib.Omega.{arith}
 use lib.Dec.{eqb, ltb}
 use lib.ListN.{set}
-use Rattle.store.specs.Fields.{field, WRITTEN, CODE, VALUE, RECEIVERS}
+use Rattle.store.specs.Fields.{field, WRITTEN, CODE, VALUE, RECEIVERS, mostEntries}
 use Rattle.turns.specs.Loops.{SameHead, head-self, head-on, head-set}
 use Rattle.turns.specs.Post.{entered, posted}
 
@@ -24,8 +24,8 @@ module _ (x : List ℕ) (k v m : ℕ) where
 
   pub posted-head : SameHead x (posted x k v m)
   unfolding posted
-  posted-head = go (not (eqb m 0) && ltb (field x WRITTEN) 28696) refl
+  posted-head = go (not (eqb m 0) && ltb (field x WRITTEN) mostEntries) refl
     where
-      go : (t : Bool) → (not (eqb m 0) && ltb (field x WRITTEN) 28696) ≡ t → SameHead x (posted x k v m)
+      go : (t : Bool) → (not (eqb m 0) && ltb (field x WRITTEN) mostEntries) ≡ t → SameHead x (posted x k v m)
       go true e = rw (e, posted) entered-head
       go false e = rw (e, posted) (head-self x)

@@ -11,6 +11,7 @@ use Prim.Native.Nat.{ℕ, zero, suc, _-_, _≤_, _<_}
 use native.Mathlib.Omega.{arith}
 use lib.ListN.{length, getD, set, length-set}
 use lib.Seq.{getD-set-other}
+use Rattle.store.specs.Fields.{TOTAL}
 
 unfoldable pub someFrom : (ℕ → Bool) → ℕ → ℕ → Bool
 someFrom f zero e = false
@@ -56,7 +57,7 @@ module _ (f : List ℕ → ℕ → List ℕ) where
 -- a store of the same length with the same header
 pub record SameHead (x y : List ℕ) : Type 0 where
   pub size : length y ≡ length x
-  pub head : (i : ℕ) → i < 10 → getD y i 0 ≡ getD x i 0
+  pub head : (i : ℕ) → i < TOTAL → getD y i 0 ≡ getD x i 0
 
 pub head-self : (x : List ℕ) → SameHead x x
 head-self x = record { size = refl; head = λ i h. refl }
@@ -64,7 +65,7 @@ head-self x = record { size = refl; head = λ i h. refl }
 pub head-on : (x y z : List ℕ) → SameHead x y → SameHead y z → SameHead x z
 head-on x y z a b = record { size = b .size ∙ a .size; head = λ i h. b .head i h ∙ a .head i h }
 
-pub head-set : (x : List ℕ) (i n : ℕ) → 10 ≤ i → SameHead x (set x i n)
+pub head-set : (x : List ℕ) (i n : ℕ) → TOTAL ≤ i → SameHead x (set x i n)
 head-set x i n h = record { size = length-set x i n; head = λ j l. getD-set-other x i j n 0 (λ z. absurd (omega (arith, z))) }
 
 module _ (f : List ℕ → ℕ → List ℕ) (keeps : (x : List ℕ) (c : ℕ) → SameHead x (f x c)) where

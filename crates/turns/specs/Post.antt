@@ -10,7 +10,9 @@ use mathlib.Core.List.{List}
 use Prim.Native.Nat.{ℕ, _+_, _-_, _^_}
 use lib.Dec.{eqb, ltb, leb}
 use lib.ListN.{set}
+use Rattle.base.specs.Limits.{mostParts}
 use Rattle.store.specs.Fields.{field, PART, PARTS, WRITTEN, OWNER, FAMILY, RED, HOLDERS, SUM, CODE, VALUE, RECEIVERS}
+use Rattle.store.specs.Fields.{countCode, mostEntries}
 use Rattle.store.specs.Fetch.{bitb}
 
 unfoldable pub entered : List ℕ → ℕ → ℕ → ℕ → List ℕ
@@ -21,7 +23,7 @@ entered x k v m =
 -- Rule 15.4.
 unfoldable pub posted : List ℕ → ℕ → ℕ → ℕ → List ℕ
 unfolding entered
-posted x k v m = elim (not (eqb m 0) && ltb (field x WRITTEN) 28696) [ true ↦ entered x k v m | false ↦ x ]
+posted x k v m = elim (not (eqb m 0) && ltb (field x WRITTEN) mostEntries) [ true ↦ entered x k v m | false ↦ x ]
 
 -- Rule 15.4.
 unfoldable pub besides : List ℕ → ℕ → ℕ
@@ -36,7 +38,7 @@ othersOf x = 2 ^ field x PARTS - 1 - 2 ^ (field x PART - 1)
 unfoldable pub ghostAt : List ℕ → ℕ → Bool
 ghostAt x c =
     eqb (field x (FAMILY + c)) (field x PART)
-    && (not (eqb (field x (OWNER + c)) (field x PART)) && (leb 1 (field x (OWNER + c)) && leb (field x (OWNER + c)) 16))
+    && (not (eqb (field x (OWNER + c)) (field x PART)) && (leb 1 (field x (OWNER + c)) && leb (field x (OWNER + c)) mostParts))
 
 -- Rule 15.4.
 unfoldable pub markOne : List ℕ → ℕ → List ℕ
@@ -47,7 +49,7 @@ markOne x c = elim (ghostAt x c) [ true ↦ posted x c (field x (RED + c)) (2 ^ 
 unfoldable pub countOne : List ℕ → ℕ → List ℕ
 unfolding besides posted
 countOne x s =
-    elim (eqb (field x (SUM + s)) 0) [ true ↦ x | false ↦ posted x (4096 + s) (field x (SUM + s)) (besides x (field x (HOLDERS + s))) ]
+    elim (eqb (field x (SUM + s)) 0) [ true ↦ x | false ↦ posted x (countCode + s) (field x (SUM + s)) (besides x (field x (HOLDERS + s))) ]
 
 -- Rule 15.4.
 unfoldable pub postEnd : List ℕ → List ℕ

@@ -4,6 +4,7 @@
 --   enterCounts x k   the store tallied, with counts and the end written
 use mathlib.Core.List.{List}
 use Prim.Native.Nat.{ℕ, _+_, _-_, min}
+use Rattle.base.specs.Limits.{mostSlots}
 use Rattle.store.specs.Fields.{field, FIRST-SLOT}
 use Rattle.turns.specs.Loops.{eachFrom}
 use Rattle.turns.specs.Tally.{tallyOne}
@@ -11,7 +12,7 @@ use Rattle.turns.specs.Post.{countOne, postEnd}
 use Rattle.turns.specs.Start.{levelFrom}
 
 unfoldable pub slotFrom : List ℕ → ℕ → ℕ
-slotFrom x k = min (field x (FIRST-SLOT + k)) 24576
+slotFrom x k = min (field x (FIRST-SLOT + k)) mostSlots
 
 -- Rule 15.4.
 unfoldable pub tallied : List ℕ → ℕ → List ℕ

@@ -6,12 +6,13 @@ use mathlib.Core.List.{List}
 use Prim.Native.Nat.{ℕ, _+_, _%_}
 use lib.Dec.{eqb, ltb}
 use lib.ListN.{set}
+use Rattle.base.specs.Limits.{mostSlots}
 use Rattle.store.specs.Fields.{field, PART, OWNER, RED, SUM}
 use Rattle.turns.specs.Loops.{eachFrom}
 use Rattle.turns.specs.Decide.{slotAt}
 
 unfoldable pub addOne : List ℕ → ℕ → List ℕ
-addOne x s = elim (ltb s 24576) [ true ↦ set x (SUM + s) ((field x (SUM + s) + 1) % 65536) | false ↦ x ]
+addOne x s = elim (ltb s mostSlots) [ true ↦ set x (SUM + s) ((field x (SUM + s) + 1) % 65536) | false ↦ x ]
 
 unfoldable pub addEdge : ℕ → List ℕ → ℕ → List ℕ
 unfolding addOne

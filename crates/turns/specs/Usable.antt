@@ -3,6 +3,7 @@ use mathlib.Core.List.{List}
 use Prim.Native.Nat.{ℕ, _≤_}
 use native.Mathlib.Omega.{arith}
 use lib.ListN.{length}
+use Rattle.base.specs.Limits.{mostCells, mostLevels, mostParts}
 use Rattle.store.specs.Fields.{field, full, PART, PARTS, CELLS, LEVELS}
 use Rattle.turns.specs.Loops.{SameHead}
 
@@ -10,10 +11,10 @@ pub record Usable (x : List ℕ) : Type 0 where
   pub long : full ≤ length x
   pub part-least : 1 ≤ field x PART
   pub part-most : field x PART ≤ field x PARTS
-  pub parts-most : field x PARTS ≤ 16
-  pub cells-most : field x CELLS ≤ 4096
+  pub parts-most : field x PARTS ≤ mostParts
+  pub cells-most : field x CELLS ≤ mostCells
   pub levels-least : 1 ≤ field x LEVELS
-  pub levels-most : field x LEVELS ≤ 11
+  pub levels-most : field x LEVELS ≤ mostLevels
 
 pub usable-same : (x y : List ℕ) → SameHead x y → Usable x → Usable y
 usable-same x y h u = record {

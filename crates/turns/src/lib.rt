@@ -1,11 +1,14 @@
 // The turns of a part: its start, with the work on entering a round of marks: flags of the cells whose family it has, and the entries that
 // it writes.
 use base::Answer;
+use base::MOST_PARTS;
+use base::MOST_SLOTS;
 use mail::header_fits;
 use rows::size_of;
 use store::CELLS;
 use store::CHILD;
 use store::CODE;
+use store::COUNT_CODE;
 use store::FAMILY;
 use store::FIRST_CELL;
 use store::FIRST_SLOT;
@@ -14,6 +17,7 @@ use store::HOLDERS;
 use store::INNER;
 use store::LEVELS;
 use store::MARK;
+use store::MOST_ENTRIES;
 use store::OWNER;
 use store::PART;
 use store::PARTS;
@@ -30,7 +34,8 @@ ghost use mathlib.Core.Path.{_≡_};
 ghost use Prim.Native.Nat.{_+_, _-_, _*_, _^_, _≤_, _<_};
 ghost use lib.ListN.{length};
 ghost use Rattle.base.specs.Lent.{was, is};
-ghost use Rattle.store.specs.Fields.{field, full};
+ghost use Rattle.base.specs.Limits.{mostLevels, mostParts, topLevel, mostCells, mostSlots};
+ghost use Rattle.store.specs.Fields.{field, full, CELLS, CHILD};
 ghost use Rattle.turns.specs.Loops.{someFrom, eachFrom};
 ghost use Rattle.turns.specs.Decide.{slotAt, hitb, hitOf, pullOf, pulledKid, kidCount, busyb, ruleb, decideOne};
 ghost use Rattle.turns.specs.Tally.{addOne, addEdge, tallyOne};
@@ -42,7 +47,7 @@ ghost use Rattle.turns.specs.Start.{startAfter};
 
 // The slot of an edge of a cell.
 fn slot_of(store: &[u16], c: usize, e: usize) -> usize
-    requires { ⌜ (full ≤ length (now store)) × (c < 4096) × (e < 6) ⌝ }
+    requires { ⌜ (full ≤ length (now store)) × (c < mostCells) × (e < 6) ⌝ }
     ensures { λ r. ⌜ r ≡ slotAt (was store) c e ⌝ }
 {
     store[SLOT + (6 * c + e)] as usize
@@ -53,7 +58,7 @@ fn is_hit(store: &[u16], slot: usize) -> bool
     requires { ⌜ full ≤ length (now store) ⌝ }
     ensures { λ r. ⌜ r ≡ hitb (was store) slot ⌝ }
 {
-    if slot >= 24576 {
+    if slot >= MOST_SLOTS {
         return false;
     }
     store[SUM + slot] != 0
@@ -61,7 +66,7 @@ fn is_hit(store: &[u16], slot: usize) -> bool
 
 // Whether an edge of a cell is hit.
 pub fn edge_hit(store: &[u16], c: usize, e: usize) -> bool
-    requires { ⌜ (full ≤ length (now store)) × (c < 4096) × (e < 6) ⌝ }
+    requires { ⌜ (full ≤ length (now store)) × (c < mostCells) × (e < 6) ⌝ }
     ensures { λ r. ⌜ r ≡ hitOf (was store) c e ⌝ }
 {
     let slot = slot_of(store, c, e);
@@ -70,7 +75,7 @@ pub fn edge_hit(store: &[u16], c: usize, e: usize) -> bool
 
 // Whether some edge of a cell is hit.
 fn some_hit(store: &[u16], c: usize) -> bool
-    requires { ⌜ (full ≤ length (now store)) × (c < 4096) ⌝ }
+    requires { ⌜ (full ≤ length (now store)) × (c < mostCells) ⌝ }
     ensures { λ r. ⌜ r ≡ someFrom (hitOf (was store) c) 6 0 ⌝ }
 {
     let mut e = 0;
@@ -85,7 +90,7 @@ fn some_hit(store: &[u16], c: usize) -> bool
 
 // Whether an edge is hit that is not also the parent's.
 fn is_pull(store: &[u16], c: usize, e: usize) -> bool
-    requires { ⌜ (full ≤ length (now store)) × (c < 4096) × (e < 6) ⌝ }
+    requires { ⌜ (full ≤ length (now store)) × (c < mostCells) × (e < 6) ⌝ }
     ensures { λ r. ⌜ r ≡ pullOf (was store) c e ⌝ }
 {
     if (store[INNER + c] >> e) % 2 != 1 {
@@ -96,7 +101,7 @@ fn is_pull(store: &[u16], c: usize, e: usize) -> bool
 
 // Whether some edge of a cell is so.
 fn some_pull(store: &[u16], c: usize) -> bool
-    requires { ⌜ (full ≤ length (now store)) × (c < 4096) ⌝ }
+    requires { ⌜ (full ≤ length (now store)) × (c < mostCells) ⌝ }
     ensures { λ r. ⌜ r ≡ someFrom (pullOf (was store) c) 6 0 ⌝ }
 {
     let mut e = 0;
@@ -111,7 +116,7 @@ fn some_pull(store: &[u16], c: usize) -> bool
 
 // Whether a cell is not a leaf that is marked for deletion and has no hit edge.
 fn is_busy(store: &[u16], d: usize) -> bool
-    requires { ⌜ (full ≤ length (now store)) × (d < 4096) ⌝ }
+    requires { ⌜ (full ≤ length (now store)) × (d < mostCells) ⌝ }
     ensures { λ r. ⌜ r ≡ busyb (was store) d ⌝ }
 {
     if store[STATUS + d] != 0 {
@@ -125,7 +130,7 @@ fn is_busy(store: &[u16], d: usize) -> bool
 
 // Whether a green cell's child turns its parent red.
 fn is_pulled(store: &[u16], d: usize) -> bool
-    requires { ⌜ (full ≤ length (now store)) × (d < 4096) ⌝ }
+    requires { ⌜ (full ≤ length (now store)) × (d < mostCells) ⌝ }
     ensures { λ r. ⌜ r ≡ pulledKid (was store) d ⌝ }
 {
     if store[MARK + d] == 1 {
@@ -136,7 +141,7 @@ fn is_pulled(store: &[u16], d: usize) -> bool
 
 // How many children a cell has: as many as its status says, and none beyond the number of cells.
 pub fn kid_count(store: &[u16], c: usize) -> usize
-    requires { ⌜ (full ≤ length (now store)) × (c < 4096) ⌝ }
+    requires { ⌜ (full ≤ length (now store)) × (c < mostCells) ⌝ }
     ensures { λ r. ⌜ (r ≡ kidCount (was store) c) × (r ≤ 8) ⌝ }
 {
     let status = store[STATUS + c];
@@ -158,8 +163,8 @@ pub fn kid_count(store: &[u16], c: usize) -> usize
 
 // Whether some child of a cell is busy.
 fn some_busy(store: &[u16], c: usize) -> bool
-    requires { ⌜ (full ≤ length (now store)) × (field (now store) 5 ≤ 4096) × (c < 4096) ⌝ }
-    ensures { λ r. ⌜ r ≡ someFrom (busyb (was store)) (kidCount (was store) c) (field (was store) (16496 + c)) ⌝ }
+    requires { ⌜ (full ≤ length (now store)) × (field (now store) CELLS ≤ mostCells) × (c < mostCells) ⌝ }
+    ensures { λ r. ⌜ r ≡ someFrom (busyb (was store)) (kidCount (was store) c) (field (was store) (CHILD + c)) ⌝ }
 {
     let first = store[CHILD + c] as usize;
     let last = first + kid_count(store, c);
@@ -175,8 +180,8 @@ fn some_busy(store: &[u16], c: usize) -> bool
 
 // Whether some child of a cell is pulled.
 fn some_pulled(store: &[u16], c: usize) -> bool
-    requires { ⌜ (full ≤ length (now store)) × (field (now store) 5 ≤ 4096) × (c < 4096) ⌝ }
-    ensures { λ r. ⌜ r ≡ someFrom (pulledKid (was store)) (kidCount (was store) c) (field (was store) (16496 + c)) ⌝ }
+    requires { ⌜ (full ≤ length (now store)) × (field (now store) CELLS ≤ mostCells) × (c < mostCells) ⌝ }
+    ensures { λ r. ⌜ r ≡ someFrom (pulledKid (was store)) (kidCount (was store) c) (field (was store) (CHILD + c)) ⌝ }
 {
     let first = store[CHILD + c] as usize;
     let last = first + kid_count(store, c);
@@ -192,7 +197,7 @@ fn some_pulled(store: &[u16], c: usize) -> bool
 
 // Whether a cell will be red.
 fn turns_red(store: &[u16], c: usize) -> bool
-    requires { ⌜ (full ≤ length (now store)) × (field (now store) 5 ≤ 4096) × (c < 4096) ⌝ }
+    requires { ⌜ (full ≤ length (now store)) × (field (now store) CELLS ≤ mostCells) × (c < mostCells) ⌝ }
     ensures { λ r. ⌜ r ≡ ruleb (was store) c ⌝ }
 {
     if store[STATUS + c] == 64 {
@@ -209,7 +214,7 @@ fn turns_red(store: &[u16], c: usize) -> bool
 
 // Decides on a cell, if its family is here.
 fn decide_one(store: &mut [u16], c: usize)
-    requires { ⌜ (full ≤ length (now store)) × (field (now store) 5 ≤ 4096) × (c < 4096) ⌝ }
+    requires { ⌜ (full ≤ length (now store)) × (field (now store) CELLS ≤ mostCells) × (c < mostCells) ⌝ }
     ensures { λ r. ⌜ is store ≡ decideOne (was store) c ⌝ }
 {
     if store[FAMILY + c] != store[PART] {
@@ -223,7 +228,7 @@ fn decide_one(store: &mut [u16], c: usize)
 
 // Decides on the cells from `first` to `last`.
 fn decide(store: &mut [u16], first: usize, last: usize)
-    requires { ⌜ (full ≤ length (now store)) × (field (now store) 5 ≤ 4096) × (last ≤ 4096) ⌝ }
+    requires { ⌜ (full ≤ length (now store)) × (field (now store) CELLS ≤ mostCells) × (last ≤ mostCells) ⌝ }
     ensures { λ r. ⌜ is store ≡ eachFrom decideOne (last - first) first (was store) ⌝ }
 {
     let mut c = first;
@@ -242,7 +247,7 @@ pub fn post(store: &mut [u16], code: u16, value: u16, mask: u16)
         return;
     }
     let n = store[WRITTEN] as usize;
-    if n >= 28696 {
+    if n >= MOST_ENTRIES {
         return;
     }
     store[CODE + n] = code;
@@ -253,7 +258,7 @@ pub fn post(store: &mut [u16], code: u16, value: u16, mask: u16)
 
 // The bit of a part.
 fn bit_of(part: usize) -> usize
-    requires { ⌜ (1 ≤ part) × (part ≤ 16) ⌝ }
+    requires { ⌜ (1 ≤ part) × (part ≤ mostParts) ⌝ }
     ensures { λ r. ⌜ (r ≡ 2 ^ (part - 1)) × (r < 65536) ⌝ }
 {
     1 << (part - 1)
@@ -261,7 +266,7 @@ fn bit_of(part: usize) -> usize
 
 // Writes the mark of a cell for its master, if it is a ghost.
 fn mark_one(store: &mut [u16], c: usize)
-    requires { ⌜ (full ≤ length (now store)) × (c < 4096) ⌝ }
+    requires { ⌜ (full ≤ length (now store)) × (c < mostCells) ⌝ }
     ensures { λ r. ⌜ is store ≡ markOne (was store) c ⌝ }
 {
     if store[FAMILY + c] != store[PART] {
@@ -274,7 +279,7 @@ fn mark_one(store: &mut [u16], c: usize)
     if owner < 1 {
         return;
     }
-    if owner > 16 {
+    if owner > MOST_PARTS {
         return;
     }
     let mask = bit_of(owner);
@@ -284,7 +289,7 @@ fn mark_one(store: &mut [u16], c: usize)
 
 // Writes the marks of the ghosts among the cells from `first` to `last`.
 fn post_marks(store: &mut [u16], first: usize, last: usize)
-    requires { ⌜ (full ≤ length (now store)) × (last ≤ 4096) ⌝ }
+    requires { ⌜ (full ≤ length (now store)) × (last ≤ mostCells) ⌝ }
     ensures { λ r. ⌜ is store ≡ eachFrom markOne (last - first) first (was store) ⌝ }
 {
     let mut c = first;
@@ -317,8 +322,8 @@ pub fn post_end(store: &mut [u16])
 
 // The first cell of a level, at most the number of cells.
 fn level_from(store: &[u16], k: usize) -> usize
-    requires { ⌜ Usable (now store) × (k ≤ 11) ⌝ }
-    ensures { λ r. ⌜ (r ≡ levelFrom (was store) k) × (r ≤ 4096) ⌝ }
+    requires { ⌜ Usable (now store) × (k ≤ mostLevels) ⌝ }
+    ensures { λ r. ⌜ (r ≡ levelFrom (was store) k) × (r ≤ mostCells) ⌝ }
 {
     let first = store[FIRST_CELL + k] as usize;
     let cells = store[CELLS] as usize;
@@ -327,7 +332,7 @@ fn level_from(store: &[u16], k: usize) -> usize
 
 // Enters the round of marks of a level.
 pub fn enter_marks(store: &mut [u16], k: usize)
-    requires { ⌜ Usable (now store) × (k ≤ 10) ⌝ }
+    requires { ⌜ Usable (now store) × (k ≤ topLevel) ⌝ }
     ensures { λ r. ⌜ is store ≡ enterMarks (was store) k ⌝ }
 {
     let first = level_from(store, k);
@@ -339,7 +344,7 @@ pub fn enter_marks(store: &mut [u16], k: usize)
 
 // Whether a mark is 0 to 2, and 0 on a refined cell.
 fn mark_fits(store: &[u16], c: usize, mark: u8) -> bool
-    requires { ⌜ (full ≤ length (now store)) × (c < 4096) ⌝ }
+    requires { ⌜ (full ≤ length (now store)) × (c < mostCells) ⌝ }
     ensures { λ r. ⌜ r ≡ markOk (was store) c mark ⌝ }
 {
     if mark > 2 {
@@ -353,7 +358,7 @@ fn mark_fits(store: &[u16], c: usize, mark: u8) -> bool
 
 // Whether the mark that is due fits a cell, if it is a master.
 fn is_marked(store: &[u16], marks: &[u8], c: usize, j: usize) -> bool
-    requires { ⌜ (full ≤ length (now store)) × (c < 4096) ⌝ }
+    requires { ⌜ (full ≤ length (now store)) × (c < mostCells) ⌝ }
     ensures { λ r. ⌜ r ≡ markAt (was store) (was marks) c j ⌝ }
 {
     if store[OWNER + c] != store[PART] {
@@ -367,7 +372,7 @@ fn is_marked(store: &[u16], marks: &[u8], c: usize, j: usize) -> bool
 
 // The mark that is due behind a cell.
 fn next_mark(store: &[u16], c: usize, j: usize) -> usize
-    requires { ⌜ (full ≤ length (now store)) × (c < 4096) × (j < 65536) ⌝ }
+    requires { ⌜ (full ≤ length (now store)) × (c < mostCells) × (j < 65536) ⌝ }
     ensures { λ r. ⌜ r ≡ nextMark (was store) c j ⌝ }
 {
     if store[OWNER + c] == store[PART] {
@@ -380,7 +385,7 @@ fn next_mark(store: &[u16], c: usize, j: usize) -> usize
 // Whether the marks are one for each master, and fit.
 fn marks_fit(store: &[u16], marks: &[u8]) -> bool
     requires { ⌜ Usable (now store) ⌝ }
-    ensures { λ r. ⌜ r ≡ marksDue (was store) (was marks) (field (was store) 5) 0 0 ⌝ }
+    ensures { λ r. ⌜ r ≡ marksDue (was store) (was marks) (field (was store) CELLS) 0 0 ⌝ }
 {
     let cells = store[CELLS] as usize;
     let mut c: usize = 0;
@@ -397,7 +402,7 @@ fn marks_fit(store: &[u16], marks: &[u8]) -> bool
 
 // Stores the mark that is due, if a cell is a master.
 fn set_mark(store: &mut [u16], marks: &[u8], c: usize, j: usize)
-    requires { ⌜ (full ≤ length (now store)) × (c < 4096) ⌝ }
+    requires { ⌜ (full ≤ length (now store)) × (c < mostCells) ⌝ }
     ensures { λ r. ⌜ is store ≡ markSet (was store) (was marks) c j ⌝ }
 {
     if store[OWNER + c] != store[PART] {
@@ -412,7 +417,7 @@ fn set_mark(store: &mut [u16], marks: &[u8], c: usize, j: usize)
 // Stores the marks of all masters.
 fn set_marks(store: &mut [u16], marks: &[u8])
     requires { ⌜ Usable (now store) ⌝ }
-    ensures { λ r. ⌜ is store ≡ markedFrom (was store) (was marks) (field (was store) 5) 0 0 ⌝ }
+    ensures { λ r. ⌜ is store ≡ markedFrom (was store) (was marks) (field (was store) CELLS) 0 0 ⌝ }
 {
     let cells = store[CELLS] as usize;
     let mut c: usize = 0;
@@ -430,7 +435,7 @@ fn add_one(store: &mut [u16], slot: usize)
     requires { ⌜ full ≤ length (now store) ⌝ }
     ensures { λ r. ⌜ is store ≡ addOne (was store) slot ⌝ }
 {
-    if slot >= 24576 {
+    if slot >= MOST_SLOTS {
         return;
     }
     store[SUM + slot] = ((store[SUM + slot] as usize + 1) % 65536) as u16;
@@ -438,7 +443,7 @@ fn add_one(store: &mut [u16], slot: usize)
 
 // Adds one to the slot of an edge.
 fn add_edge(store: &mut [u16], c: usize, e: usize)
-    requires { ⌜ (full ≤ length (now store)) × (c < 4096) × (e < 6) ⌝ }
+    requires { ⌜ (full ≤ length (now store)) × (c < mostCells) × (e < 6) ⌝ }
     ensures { λ r. ⌜ is store ≡ addEdge c (was store) e ⌝ }
 {
     let slot = slot_of(store, c, e);
@@ -447,7 +452,7 @@ fn add_edge(store: &mut [u16], c: usize, e: usize)
 
 // Adds one to the slots of a cell's edges.
 fn add_edges(store: &mut [u16], c: usize)
-    requires { ⌜ (full ≤ length (now store)) × (c < 4096) ⌝ }
+    requires { ⌜ (full ≤ length (now store)) × (c < mostCells) ⌝ }
     ensures { λ r. ⌜ is store ≡ eachFrom (addEdge c) 6 0 (was store) ⌝ }
 {
     let mut e: usize = 0;
@@ -459,7 +464,7 @@ fn add_edges(store: &mut [u16], c: usize)
 
 // Tallies a cell, if it is a master that will be red.
 fn tally_one(store: &mut [u16], c: usize)
-    requires { ⌜ (full ≤ length (now store)) × (c < 4096) ⌝ }
+    requires { ⌜ (full ≤ length (now store)) × (c < mostCells) ⌝ }
     ensures { λ r. ⌜ is store ≡ tallyOne (was store) c ⌝ }
 {
     if store[OWNER + c] != store[PART] {
@@ -473,7 +478,7 @@ fn tally_one(store: &mut [u16], c: usize)
 
 // Tallies the cells from `first` to `last`.
 fn tally(store: &mut [u16], first: usize, last: usize)
-    requires { ⌜ (full ≤ length (now store)) × (last ≤ 4096) ⌝ }
+    requires { ⌜ (full ≤ length (now store)) × (last ≤ mostCells) ⌝ }
     ensures { λ r. ⌜ is store ≡ eachFrom tallyOne (last - first) first (was store) ⌝ }
 {
     let mut c = first;
@@ -498,7 +503,7 @@ fn without_own(store: &[u16], mask: u16) -> u16
 
 // Writes the count of a slot for its other holders, if it is not 0.
 fn count_one(store: &mut [u16], s: usize)
-    requires { ⌜ Usable (now store) × (s < 24576) ⌝ }
+    requires { ⌜ Usable (now store) × (s < mostSlots) ⌝ }
     ensures { λ r. ⌜ is store ≡ countOne (was store) s ⌝ }
 {
     let count = store[SUM + s];
@@ -507,12 +512,12 @@ fn count_one(store: &mut [u16], s: usize)
     }
     let holders = store[HOLDERS + s];
     let mask = without_own(store, holders);
-    post(store, (4096 + s) as u16, count, mask);
+    post(store, (COUNT_CODE + s) as u16, count, mask);
 }
 
 // Writes the counts of the slots from `first` to `last`.
 fn post_counts(store: &mut [u16], first: usize, last: usize)
-    requires { ⌜ Usable (now store) × (last ≤ 24576) ⌝ }
+    requires { ⌜ Usable (now store) × (last ≤ mostSlots) ⌝ }
     ensures { λ r. ⌜ is store ≡ eachFrom countOne (last - first) first (was store) ⌝ }
 {
     let mut s = first;
@@ -524,16 +529,20 @@ fn post_counts(store: &mut [u16], first: usize, last: usize)
 
 // The first slot of a level, at most 24,576.
 fn slot_from(store: &[u16], k: usize) -> usize
-    requires { ⌜ Usable (now store) × (k ≤ 11) ⌝ }
-    ensures { λ r. ⌜ (r ≡ slotFrom (was store) k) × (r ≤ 24576) ⌝ }
+    requires { ⌜ Usable (now store) × (k ≤ mostLevels) ⌝ }
+    ensures { λ r. ⌜ (r ≡ slotFrom (was store) k) × (r ≤ mostSlots) ⌝ }
 {
     let first = store[FIRST_SLOT + k] as usize;
-    if first < 24576 { first } else { 24576 }
+    if first < MOST_SLOTS {
+        first
+    } else {
+        MOST_SLOTS
+    }
 }
 
 // Enters the round of counts of a level.
 pub fn enter_counts(store: &mut [u16], k: usize)
-    requires { ⌜ Usable (now store) × (k ≤ 10) ⌝ }
+    requires { ⌜ Usable (now store) × (k ≤ topLevel) ⌝ }
     ensures { λ r. ⌜ is store ≡ enterCounts (was store) k ⌝ }
 {
     let first = level_from(store, k);

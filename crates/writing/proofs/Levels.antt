@@ -9,6 +9,7 @@ use native.Mathlib.Omega.{arith}
 use lib.ListN.{length, getD, drop, replicate, length-append, length-replicate}
 use lib.Dec.{leb, leb→le}
 use Rattle.base.specs.Every.{All, all-of, all-append}
+use Rattle.base.specs.Limits.{mostCells}
 use Rattle.mesh.specs.Table.{sizeOf, sizes}
 use Rattle.rows.specs.Numbered.{part}
 use Rattle.rows.specs.Laws.{length-part}
@@ -149,14 +150,14 @@ module _ {m : ℕ} {ss kids ks : List ℕ} (w : Keeps m ss kids ks) {first last 
     long-olds : length (oldsTo m ss ks first last table₀ old₀ c) ≡ sizes (part table₀ first (c - first))
     long-olds = length-olds m ss (part table₀ first (c - first)) (part old₀ first (c - first)) same-many
 
-    fits : last + sizes (part table₀ first (c - first)) ≤ 4096
+    fits : last + sizes (part table₀ first (c - first)) ≤ mostCells
     fits = omega (arith, sizes-take (drop first table₀) (c - first) (last - first) (omega (arith, r .below)), g .enough)
 
-    long-table : length table ≡ 4096
+    long-table : length table ≡ mostCells
     long-table = ap length (r .wrote .statuses)
         ∙ length-written table₀ last (bornTo m ss ks first last table₀ old₀ c) (omega (arith, fits, long-born, g .in-table)) ∙ g .in-table
 
-    long-old : length old ≡ 4096
+    long-old : length old ≡ mostCells
     long-old = ap length (r .wrote .olds)
         ∙ length-written old₀ last (oldsTo m ss ks first last table₀ old₀ c) (omega (arith, fits, long-olds, g .in-old)) ∙ g .in-old
 

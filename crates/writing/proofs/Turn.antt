@@ -9,6 +9,7 @@ use native.Mathlib.Omega.{arith}
 use lib.ListN.{length, getD, take, drop, length-append}
 use lib.Seq.{getD-take, getD-drop, take-add, take-at, length-take-le}
 use Rattle.base.specs.Every.{all-at}
+use Rattle.base.specs.Limits.{mostCells}
 use Rattle.mesh.specs.Table.{sizes}
 use Rattle.rows.specs.Numbered.{part}
 use Rattle.rows.specs.Laws.{length-part}
@@ -63,9 +64,9 @@ concat-one l ls = refl
 pub record WriteGoing (m : ℕ) (ss ks : List ℕ) (j first last : ℕ) (table old : List ℕ) : Type 0 where
   pub low : j ≤ 10
   pub some : first < last
-  pub within : last ≤ 4096
-  pub in-table : length table ≡ 4096
-  pub in-old : length old ≡ 4096
+  pub within : last ≤ mostCells
+  pub in-table : length table ≡ mostCells
+  pub in-old : length old ≡ mostCells
   pub small : (c : ℕ) → first ≤ c → c < last → getD table c 0 ≤ 64
   pub height : length (writtenLevels m ss ks) ≡ j + length
       (writeBy m ss ks (12 - j) (part table first (last - first)) (part old first (last - first)))
@@ -77,7 +78,7 @@ module _ {m : ℕ} {ss kids ks : List ℕ} (w : Keeps m ss kids ks) where
   pub coarse-inside : m ≤ length ss
   coarse-inside = omega (arith, first-start m ss, first-up m ss 0 (length ss) (omega arith), w .firsts .whole)
 
-  pub going-start : {table old table₁ old₁ : List ℕ} → length table ≡ 4096 → length old ≡ 4096
+  pub going-start : {table old table₁ old₁ : List ℕ} → length table ≡ mostCells → length old ≡ mostCells
       → Wrote table old 0 (take m ks) (upTo m) table₁ old₁ → WriteGoing m ss ks 0 0 m table₁ old₁
   going-start {table} {old} {table₁} {old₁} lt lo r =
       let k : length (take m ks) ≡ m - 0 = length-take-le m ks (omega (arith, coarse-inside, w .in-kept)) ∙ omega arith in
@@ -146,7 +147,7 @@ module _ {m : ℕ} {ss kids ks : List ℕ} (w : Keeps m ss kids ks) where
       length-take-le last table (omega (arith, g .within, g .in-table)),
     )
 
-    pub level-room : (size : ℕ) → size ≡ sizes own → last + size ≤ 4096 → RoomAbove table old first last
+    pub level-room : (size : ℕ) → size ≡ sizes own → last + size ≤ mostCells → RoomAbove table old first last
     level-room size e h =
         record { in-table = g .in-table; in-old = g .in-old; rise = omega (arith, g .some); small = g .small; enough = omega arith }
 
@@ -205,7 +206,7 @@ module _ {m : ℕ} {ss kids ks : List ℕ} (w : Keeps m ss kids ks) where
           few = g .within;
         }
 
-    result-many : (r : ℕ) → r ≡ 9 → 4096 < length (flatten (writtenLevels m ss ks)) → TableWritten m ss ks table r last
+    result-many : (r : ℕ) → r ≡ 9 → mostCells < length (flatten (writtenLevels m ss ks)) → TableWritten m ss ks table r last
     result-many r z h =
         record {
           one = inr (inr z);

@@ -7,6 +7,7 @@ use mathlib.Core.List.{List}
 use Prim.Native.Nat.{ℕ, _≤_, _<_}
 use lib.Dec.{leb}
 use lib.ListN.{length, getD}
+use Rattle.base.specs.Limits.{mostCells}
 use Rattle.base.specs.Lists.{allb}
 use Rattle.lineage.specs.Firsts.{Firsts}
 
@@ -14,7 +15,7 @@ use Rattle.lineage.specs.Firsts.{Firsts}
 pub record Keeps (m : ℕ) (ss kids ks : List ℕ) : Type 0 where
   pub some : 0 < m
   pub coarse : m ≤ 256
-  pub few : length ss ≤ 4096
+  pub few : length ss ≤ mostCells
   pub fit : allb (λ s. leb s 64) ss ≡ true
   pub firsts : Firsts m ss kids
   pub in-kids : length ss < length kids

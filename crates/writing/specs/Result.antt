@@ -8,6 +8,7 @@ use mathlib.Core.Logic.{_⊎_}
 use mathlib.Core.List.{List, flatten}
 use Prim.Native.Nat.{ℕ, _+_, _≤_, _<_}
 use lib.ListN.{length, take}
+use Rattle.base.specs.Limits.{mostCells, mostLevels}
 use Rattle.lineage.specs.Olds.{upTo}
 use Rattle.kept.specs.Kept.{writeBy}
 
@@ -19,11 +20,11 @@ writtenLevels m ss ks = writeBy m ss ks 12 (take m ks) (upTo m)
 pub record TableWritten (m : ℕ) (ss ks table : List ℕ) (refusal cells : ℕ) : Type 0 where
   pub one : (refusal ≡ 0) ⊎ ((refusal ≡ 8) ⊎ (refusal ≡ 9))
   pub high : refusal ≡ 8 → length (writtenLevels m ss ks) ≡ 12
-  pub many : refusal ≡ 9 → 4096 < length (flatten (writtenLevels m ss ks))
-  pub low : refusal ≡ 0 → length (writtenLevels m ss ks) ≤ 11
+  pub many : refusal ≡ 9 → mostCells < length (flatten (writtenLevels m ss ks))
+  pub low : refusal ≡ 0 → length (writtenLevels m ss ks) ≤ mostLevels
   pub counted : refusal ≡ 0 → length (flatten (writtenLevels m ss ks)) ≡ cells
   pub table-is : refusal ≡ 0 → take cells table ≡ flatten (writtenLevels m ss ks)
-  pub few : cells ≤ 4096
+  pub few : cells ≤ mostCells
 
 -- Rule 7.8: 0 where the table ends, 8 where the level above is too high, 9 where its cells have no room, else 255.
 pub record WriteEnding (size level last r : ℕ) : Type 0 where
@@ -31,6 +32,6 @@ pub record WriteEnding (size level last r : ℕ) : Type 0 where
   pub none : r ≡ 0 → size ≡ 0
   pub some : (r ≡ 0 → ⊥) → size ≡ 0 → ⊥
   pub high : r ≡ 8 → level ≡ 10
-  pub many : r ≡ 9 → 4096 < last + size
+  pub many : r ≡ 9 → mostCells < last + size
   pub low : r ≡ 255 → level ≡ 10 → ⊥
-  pub fit : r ≡ 255 → last + size ≤ 4096
+  pub fit : r ≡ 255 → last + size ≤ mostCells

@@ -1,4 +1,6 @@
 // The new table from what the old cells keep, written level by level: no new row or corner is looked at.
+use base::MOST_CELLS;
+use base::TOP_LEVEL;
 ghost use mathlib.Core.Path.{_≡_};
 ghost use mathlib.Core.Bool.{not};
 ghost use mathlib.Core.List.{[], _∷_, map};
@@ -7,6 +9,7 @@ ghost use lib.Dec.{eqb};
 ghost use lib.ListN.{length, getD, take, replicate};
 ghost use Rattle.base.specs.Bools.{one-if};
 ghost use Rattle.base.specs.Lent.{was, is};
+ghost use Rattle.base.specs.Limits.{mostCells, mostCoarseCells};
 ghost use Rattle.base.specs.Lists.{anyb};
 ghost use Rattle.base.specs.Range.{range};
 ghost use Rattle.cutting.specs.Answer.{cutOf};
@@ -22,7 +25,7 @@ ghost use Rattle.writing.specs.Result.{TableWritten, WriteEnding};
 
 // Writes the family of a cell that stays red: what its children keep, and their numbers.
 fn write_kept(kept: &[u8], first: usize, table: &mut [u8; 4096], old: &mut [u16; 4096], at: usize)
-    requires { ⌜ (first + 8 ≤ length (now kept)) × (first + 8 ≤ 4096) ⌝ }
+    requires { ⌜ (first + 8 ≤ length (now kept)) × (first + 8 ≤ mostCells) ⌝ }
     requires { ⌜ RoomFor (now table) (now old) at 8 ⌝ }
     ensures { λ u. ⌜ Wrote (was table) (was old) at (part (was kept) first 8) (range first 8) (is table) (is old) ⌝ }
 {
@@ -263,7 +266,7 @@ fn write_level(
 
 // Writes what the coarse cells keep, and their numbers.
 fn write_coarse(kept: &[u8], coarse: usize, table: &mut [u8], old: &mut [u16])
-    requires { ⌜ (coarse ≤ 256) × (coarse ≤ length (now kept)) × (coarse ≤ length (now table)) × (coarse ≤ length (now old)) ⌝ }
+    requires { ⌜ (coarse ≤ mostCoarseCells) × (coarse ≤ length (now kept)) × (coarse ≤ length (now table)) × (coarse ≤ length (now old)) ⌝ }
     ensures { λ u. ⌜ Wrote (was table) (was old) 0 (take coarse (was kept)) (upTo coarse) (is table) (is old) ⌝ }
 {
     let mut c = 0;
@@ -276,7 +279,7 @@ fn write_coarse(kept: &[u8], coarse: usize, table: &mut [u8], old: &mut [u16])
 
 // How many children the cells from first to last have.
 fn level_size(table: &[u8; 4096], first: usize, last: usize) -> usize
-    requires { ⌜ (first ≤ last) × (last ≤ 4096) × ((c : ℕ) → first ≤ c → c < last → getD (now table) c 0 ≤ 64) ⌝ }
+    requires { ⌜ (first ≤ last) × (last ≤ mostCells) × ((c : ℕ) → first ≤ c → c < last → getD (now table) c 0 ≤ 64) ⌝ }
     ensures { λ r. ⌜ r ≡ sizes (part (was table) first (last - first)) ⌝ }
 {
     let s = &table[..];
@@ -286,16 +289,16 @@ fn level_size(table: &[u8; 4096], first: usize, last: usize) -> usize
 // How the writing goes on from a level with `size` cells above it: 0 where the table ends, 8 where the level above is too high, 9 where
 // its cells have no room, else 255.
 fn ending(size: usize, level: usize, last: usize) -> u8
-    requires { ⌜ last ≤ 4096 ⌝ }
+    requires { ⌜ last ≤ mostCells ⌝ }
     ensures { λ r. ⌜ WriteEnding size level last r ⌝ }
 {
     if size == 0 {
         return 0;
     }
-    if level == 10 {
+    if level == TOP_LEVEL {
         return 8;
     }
-    if size > 4096 - last {
+    if size > MOST_CELLS - last {
         return 9;
     }
     255

@@ -5,13 +5,14 @@ use Prim.Native.Nat.{_+_, _*_, _-_, _≤_}
 use native.Mathlib.Omega.{arith}
 use lib.ListN.{getD}
 use native.Mathlib.Numerals.{add-one}
+use Rattle.base.specs.Limits.{mostCells}
 use Rattle.store.specs.Written.{WroteAt, wrote-nothing, wrote-next}
 use borrow.Author.Needs.{needs}
 use Rattle.columns.proofs.put_ten.Statement.{statement}
 use Rattle.columns.proofs.put_ten.Tie as tie
 
 abbrev Inv-loop : tie.InvT-loop
-Inv-loop cols₀ c ten j₀ cols j = (j ≤ 10) × WroteAt (λ i. 4096 * i + c) (λ i. getD ten i 0) j cols₀ cols
+Inv-loop cols₀ c ten j₀ cols j = (j ≤ 10) × WroteAt (λ i. mostCells * i + c) (λ i. getD ten i 0) j cols₀ cols
 
 abbrev μ-loop : tie.MeasureT-loop
 μ-loop cols₀ c ten j₀ cols j = 10 - j

@@ -4,13 +4,14 @@ use mathlib.Core.Path.{sym, _∙_}
 use Prim.Native.Nat.{_-_, _≤_}
 use native.Mathlib.Omega.{arith}
 use native.Mathlib.Numerals.{add-one}
+use Rattle.base.specs.Limits.{mostLevels}
 use Rattle.divide.proofs.Dividing.{Firsts, firsts-start, firsts-turn, firsts-done}
 use borrow.Author.Needs.{needs}
 use Rattle.divide.proofs.fill_firsts.Statement.{statement}
 use Rattle.divide.proofs.fill_firsts.Tie as tie
 
 abbrev Inv-loop : tie.InvT-loop
-Inv-loop kids cells firsts₀ k₀ firsts k = (k ≤ 11) × Firsts kids k firsts
+Inv-loop kids cells firsts₀ k₀ firsts k = (k ≤ mostLevels) × Firsts kids k firsts
 
 abbrev μ-loop : tie.MeasureT-loop
 μ-loop kids cells firsts₀ k₀ firsts k = 11 - k

@@ -4,6 +4,7 @@ use mathlib.Core.Path.{_≡_}
 use Prim.Native.Nat.{_-_, _≤_}
 use native.Mathlib.Omega.{arith}
 use native.Mathlib.Numerals.{add-one}
+use Rattle.base.specs.Limits.{mostSlots}
 use Rattle.filling.proofs.Passing.{doubled-start, doubled-turn}
 use Rattle.filling.specs.Passes.{Doubled}
 use borrow.Author.Needs.{needs}
@@ -11,10 +12,10 @@ use Rattle.filling.proofs.add_bits.Statement.{statement}
 use Rattle.filling.proofs.add_bits.Tie as tie
 
 abbrev Inv-loop : tie.InvT-loop
-Inv-loop masks₀ flags s₀ masks s = (s ≤ 24576) × Doubled s masks₀ flags masks
+Inv-loop masks₀ flags s₀ masks s = (s ≤ mostSlots) × Doubled s masks₀ flags masks
 
 abbrev μ-loop : tie.MeasureT-loop
-μ-loop masks₀ flags s₀ masks s = 24576 - s
+μ-loop masks₀ flags s₀ masks s = mostSlots - s
 
 loop-holds : tie.Need-loop-holds Inv-loop μ-loop
 loop-holds c = (omega arith, doubled-start (c .args .masks .now) (c .args .flags .now))
@@ -83,7 +84,7 @@ same-length c = c .before .loop .inv .1 .size
 returns : tie.Need-returns Inv-loop μ-loop
 returns c =
     let l = c .before .loop in
-    let k : l .s ≡ 24576 = omega (arith, l .inv .0, c .loop-test .left) in
+    let k : l .s ≡ mostSlots = omega (arith, l .inv .0, c .loop-test .left) in
     rw k at (l .inv .1)
 
 pub add-bits-spec : {M : Type 1} → statement M

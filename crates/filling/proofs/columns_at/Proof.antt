@@ -1,5 +1,6 @@
 -- `filling::columns_at` meets its contract.
 -- Assumes nothing.
+use Rattle.store.specs.Fields.{columnsLength}
 use Rattle.filling.proofs.Joining.{put-is}
 use Rattle.filling.specs.Laws.{tabled-is}
 use Rattle.filling.specs.Regions.{tab, columnBy}
@@ -31,8 +32,8 @@ same-length c = search needs
 returns : tie.Need-returns
 returns c =
     let a = c .before .before .before .before .before .before .args in
-    put-is (a .store .now) (c .before .before .fill-columns .last .0) (tab 40960 (columnBy (a .cols .now) (a .cells) (a .part))) (a
-    .at) 40960 (tabled-is 40960 (columnBy (a .cols .now) (a .cells) (a .part)) (c .before .before .fill-columns .last .0) (c
+    put-is (a .store .now) (c .before .before .fill-columns .last .0) (tab columnsLength (columnBy (a .cols .now) (a .cells) (a .part))) (a
+    .at) columnsLength (tabled-is columnsLength (columnBy (a .cols .now) (a .cells) (a .part)) (c .before .before .fill-columns .last .0) (c
     .before .before .fill-columns .ensures))
 
 pub columns-at-spec : {M : Type 1} → statement M

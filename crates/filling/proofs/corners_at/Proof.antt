@@ -1,5 +1,6 @@
 -- `filling::corners_at` meets its contract.
 -- Assumes nothing.
+use Rattle.base.specs.Limits.{fullCoarse}
 use Rattle.filling.proofs.Joining.{put-is}
 use Rattle.filling.specs.Laws.{tabled-is}
 use Rattle.filling.specs.Regions.{tab, cornerBy}
@@ -31,8 +32,8 @@ same-length c = search needs
 returns : tie.Need-returns
 returns c =
     let a = c .before .before .before .before .before .before .before .args in
-    put-is (a .store .now) (c .before .before .fill-corners .last .0) (tab 1024 (cornerBy (a .cols .now) (a .mesh .now) (a .part))) (a
-    .at) 1024 (tabled-is 1024 (cornerBy (a .cols .now) (a .mesh .now) (a .part)) (c .before .before .fill-corners .last .0) (c
+    put-is (a .store .now) (c .before .before .fill-corners .last .0) (tab fullCoarse (cornerBy (a .cols .now) (a .mesh .now) (a .part))) (a
+    .at) fullCoarse (tabled-is fullCoarse (cornerBy (a .cols .now) (a .mesh .now) (a .part)) (c .before .before .fill-corners .last .0) (c
     .before .before .fill-corners .ensures))
 
 pub corners-at-spec : {M : Type 1} → statement M

@@ -3,6 +3,7 @@
 use mathlib.Core.Path.{_≡_, sym, _∙_}
 use Prim.Native.Nat.{_-_, _≤_}
 use native.Mathlib.Omega.{arith}
+use Rattle.store.specs.Fields.{columnsLength}
 use Rattle.filling.proofs.Passing.{column-none, column-all, zeros-are}
 use Rattle.filling.specs.Regions.{Tabled, columnTo}
 use borrow.Author.Needs.{needs}
@@ -10,7 +11,7 @@ use Rattle.filling.proofs.fill_columns.Statement.{statement}
 use Rattle.filling.proofs.fill_columns.Tie as tie
 
 abbrev Inv-loop : tie.InvT-loop
-Inv-loop region₀ cols cells part c₀ region c = (c ≤ cells) × Tabled 40960 (columnTo cols cells part c) region
+Inv-loop region₀ cols cells part c₀ region c = (c ≤ cells) × Tabled columnsLength (columnTo cols cells part c) region
 
 abbrev μ-loop : tie.MeasureT-loop
 μ-loop region₀ cols cells part c₀ region c = cells - c
@@ -22,7 +23,7 @@ loop-holds : tie.Need-loop-holds Inv-loop μ-loop
 loop-holds c =
     let s = c .before .before .before .before .before .before in (
       omega arith,
-      zeros-are (s .args .region .now) (c .before .before .zero .last .0) 40960 (Tabled 40960 (columnTo (s .args .cols .now)
+      zeros-are (s .args .region .now) (c .before .before .zero .last .0) columnsLength (Tabled columnsLength (columnTo (s .args .cols .now)
           (s .args .cells) (s .args .part) 0))
           (c .before .before .zero .ensures) (s .pre .0) (column-none (s .args .cols .now) (s .args .cells) (s .args .part)),
     )

@@ -3,6 +3,7 @@
 use Prim.Native.Nat.{_-_, _≤_}
 use native.Mathlib.Omega.{arith}
 use native.Mathlib.Numerals.{add-one}
+use Rattle.base.specs.Limits.{fullCoarse}
 use Rattle.filling.proofs.Passing.{So, so-start, so-turn, so-each}
 use Rattle.filling.specs.Regions.{cornerBy}
 use borrow.Author.Needs.{needs}
@@ -10,10 +11,10 @@ use Rattle.filling.proofs.fill_corners.Statement.{statement}
 use Rattle.filling.proofs.fill_corners.Tie as tie
 
 abbrev Inv-loop : tie.InvT-loop
-Inv-loop region₀ mesh cols part j₀ region j = (j ≤ 1024) × So (cornerBy cols mesh part) j region₀ region
+Inv-loop region₀ mesh cols part j₀ region j = (j ≤ fullCoarse) × So (cornerBy cols mesh part) j region₀ region
 
 abbrev μ-loop : tie.MeasureT-loop
-μ-loop region₀ mesh cols part j₀ region j = 1024 - j
+μ-loop region₀ mesh cols part j₀ region j = fullCoarse - j
 
 loop-holds : tie.Need-loop-holds Inv-loop μ-loop
 loop-holds c =
@@ -59,7 +60,8 @@ returns : tie.Need-returns Inv-loop μ-loop
 returns c =
     let s = c .before .before .before .before .before in
     let l = c .before .loop in
-    so-each (cornerBy (s .args .cols .now) (s .args .mesh .now) (s .args .part)) 1024 (l .j) (s .args .region .now) (l .region) (s .pre
+    so-each (cornerBy (s .args .cols .now) (s .args .mesh .now) (s .args .part)) fullCoarse (l .j) (s .args .region .now) (l .region)
+    (s .pre
     .0)
     (omega (arith, l .inv .0, c .loop-test .left)) (l .inv .1)
 

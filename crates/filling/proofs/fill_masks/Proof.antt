@@ -4,6 +4,7 @@ use mathlib.Core.Path.{_≡_, refl, sym, _∙_, ap}
 use Prim.Native.Nat.{_+_, _-_, _≤_}
 use native.Mathlib.Omega.{arith}
 use lib.ListN.{length}
+use Rattle.base.specs.Limits.{mostParts, mostSlots}
 use Rattle.filling.proofs.Passing.{masks-none, masks-room, flags-room, masks-turn}
 use Rattle.filling.specs.Regions.{zeros, Tabled, maskFrom}
 use borrow.Author.Needs.{needs}
@@ -11,8 +12,9 @@ use Rattle.filling.proofs.fill_masks.Statement.{statement}
 use Rattle.filling.proofs.fill_masks.Tie as tie
 
 abbrev Inv-loop : tie.InvT-loop
-Inv-loop masks₀ cols cells slots ones flags₀ p₀ masks flags p = (p ≤ 16) × (length flags ≡ length flags₀) × Tabled 24576 (maskFrom cols
-    cells slots (p + 1) (16 - p)) masks
+Inv-loop masks₀ cols cells slots ones flags₀ p₀ masks flags p = (p ≤ mostParts) × (length flags ≡ length flags₀)
+    × Tabled mostSlots (maskFrom cols
+    cells slots (p + 1) (mostParts - p)) masks
 
 abbrev μ-loop : tie.MeasureT-loop
 μ-loop masks₀ cols cells slots ones flags₀ p₀ masks flags p = p

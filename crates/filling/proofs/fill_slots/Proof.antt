@@ -3,6 +3,7 @@
 use mathlib.Core.Path.{_≡_, sym, _∙_}
 use Prim.Native.Nat.{_-_, _≤_}
 use native.Mathlib.Omega.{arith}
+use Rattle.base.specs.Limits.{mostSlots}
 use Rattle.filling.proofs.Passing.{six-none, six-all, zeros-are}
 use Rattle.filling.specs.Regions.{Tabled, slotTo}
 use borrow.Author.Needs.{needs}
@@ -10,7 +11,7 @@ use Rattle.filling.proofs.fill_slots.Statement.{statement}
 use Rattle.filling.proofs.fill_slots.Tie as tie
 
 abbrev Inv-loop : tie.InvT-loop
-Inv-loop region₀ cols cells part slots c₀ region c = (c ≤ cells) × Tabled 24576 (slotTo cols cells part slots c) region
+Inv-loop region₀ cols cells part slots c₀ region c = (c ≤ cells) × Tabled mostSlots (slotTo cols cells part slots c) region
 
 abbrev μ-loop : tie.MeasureT-loop
 μ-loop region₀ cols cells part slots c₀ region c = cells - c
@@ -22,8 +23,8 @@ loop-holds : tie.Need-loop-holds Inv-loop μ-loop
 loop-holds c =
     let s = c .before .before .before .before .before .before .before in (
       omega arith,
-      zeros-are (s .args .region .now) (c .before .before .zero .last .0) 24576
-          (Tabled 24576 (slotTo (s .args .cols .now) (s .args .cells) (s .args .part) (s .args .slots .now) 0))
+      zeros-are (s .args .region .now) (c .before .before .zero .last .0) mostSlots
+          (Tabled mostSlots (slotTo (s .args .cols .now) (s .args .cells) (s .args .part) (s .args .slots .now) 0))
           (c .before .before .zero .ensures) (s .pre .0)
           (six-none (s .args .cols .now) (s .args .cells) (s .args .part) (s .args .slots .now)),
     )

@@ -1,5 +1,6 @@
 -- `filling::holders_at` meets its contract.
 -- Assumes nothing.
+use Rattle.base.specs.Limits.{mostSlots}
 use Rattle.filling.proofs.Joining.{put-is}
 use Rattle.filling.specs.Laws.{tabled-is}
 use Rattle.filling.specs.Regions.{tab, holderBy}
@@ -31,8 +32,8 @@ same-length c = search needs
 returns : tie.Need-returns
 returns c =
     let a = c .before .before .before .before .before .before .before .before .args in
-    put-is (a .store .now) (c .before .before .fill-holders .last .0) (tab 24576 (holderBy (a .cols .now) (a .cells) (a .part) (a
-    .slots .now) (a .masks .now))) (a .at) 24576 (tabled-is 24576 (holderBy (a .cols .now) (a .cells) (a .part) (a .slots .now) (a
+    put-is (a .store .now) (c .before .before .fill-holders .last .0) (tab mostSlots (holderBy (a .cols .now) (a .cells) (a .part) (a
+    .slots .now) (a .masks .now))) (a .at) mostSlots (tabled-is mostSlots (holderBy (a .cols .now) (a .cells) (a .part) (a .slots .now) (a
     .masks .now)) (c .before .before .fill-holders .last .0) (c .before .before .fill-holders .ensures))
 
 pub holders-at-spec : {M : Type 1} → statement M

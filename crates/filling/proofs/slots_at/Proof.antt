@@ -1,5 +1,6 @@
 -- `filling::slots_at` meets its contract.
 -- Assumes nothing.
+use Rattle.base.specs.Limits.{mostSlots}
 use Rattle.filling.proofs.Joining.{put-is}
 use Rattle.filling.specs.Laws.{tabled-is}
 use Rattle.filling.specs.Regions.{tab, slotBy}
@@ -31,8 +32,8 @@ same-length c = search needs
 returns : tie.Need-returns
 returns c =
     let a = c .before .before .before .before .before .before .before .args in
-    put-is (a .store .now) (c .before .before .fill-slots .last .0) (tab 24576 (slotBy (a .cols .now) (a .cells) (a .part) (a .slots
-    .now))) (a .at) 24576 (tabled-is 24576 (slotBy (a .cols .now) (a .cells) (a .part) (a .slots .now)) (c .before .before
+    put-is (a .store .now) (c .before .before .fill-slots .last .0) (tab mostSlots (slotBy (a .cols .now) (a .cells) (a .part) (a .slots
+    .now))) (a .at) mostSlots (tabled-is mostSlots (slotBy (a .cols .now) (a .cells) (a .part) (a .slots .now)) (c .before .before
     .fill-slots .last .0) (c .before .before .fill-slots .ensures))
 
 pub slots-at-spec : {M : Type 1} → statement M

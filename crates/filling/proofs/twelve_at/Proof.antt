@@ -2,6 +2,7 @@
 -- Assumes nothing.
 use Prim.Native.Nat.{_+_, _-_}
 use lib.ListN.{take, drop}
+use Rattle.store.specs.Fields.{firstsLength}
 use Rattle.filling.proofs.Joining.{put-is, copied}
 use Rattle.filling.specs.Laws.{between}
 use borrow.Author.Needs.{needs}
@@ -33,7 +34,8 @@ returns : tie.Need-returns
 returns c =
     let a = c .before .before .before .before .before .before .args in
     put-is (a .store .now) (c .before .before .copy-numbers .last .1 .1 .0) (a .numbers .now) (a .at) 12 (copied (a .numbers .now)
-    (take (a .at + 12 - a .at) (drop (a .at) (a .store .now))) (c .before .before .copy-numbers .last .1 .1 .0) 12 (c .before .before
+    (take (a .at + firstsLength - a .at) (drop (a .at) (a .store .now))) (c .before .before .copy-numbers .last .1 .1 .0) 12
+    (c .before .before
     .before .before .before .before .pre .2)
     (between (a .store .now) (a .at) 12 (c .before .before .before .before .before .before .pre .0)) (c .before .before .copy-numbers
     .ensures))

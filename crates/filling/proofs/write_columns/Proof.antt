@@ -1,6 +1,8 @@
 -- `filling::write_columns` meets its contract: three regions one behind the other.
 -- Assumes nothing.
 use native.Mathlib.Omega.{arith}
+use Rattle.base.specs.Limits.{fullCoarse}
+use Rattle.store.specs.Fields.{CORNER, MARK, OWNER, SLOT, columnsLength, flagsLength}
 use Rattle.filling.proofs.Joining.{by-three}
 use Rattle.filling.specs.Laws.{tab-length, zero-length}
 use Rattle.filling.specs.Regions.{zeros, tab, columnBy, cornerBy}
@@ -26,11 +28,12 @@ returns c =
     let a = s .args in
     by-three (a .store .now) (c .before .before .before .before .before .before .before .before .before .before .columns-at .last .0)
     (c .before .before .before .before .before .before .zero-at .last .0) (c .before .before .corners-at .last .0)
-    (tab 40960 (columnBy (a .cols .now) (a .cells) (a .part))) (zeros 8192) (tab 1024 (cornerBy (a .cols .now) (a .mesh .now) (a .part)))
-    112 41072 49264 50288 (omega (arith, tab-length 40960 (columnBy (a .cols .now) (a .cells) (a .part)))) (omega (
+    (tab columnsLength (columnBy (a .cols .now) (a .cells) (a .part))) (zeros flagsLength)
+    (tab fullCoarse (cornerBy (a .cols .now) (a .mesh .now) (a .part)))
+    OWNER MARK CORNER SLOT (omega (arith, tab-length columnsLength (columnBy (a .cols .now) (a .cells) (a .part)))) (omega (
       arith,
       zero-length
-          8192,
+          flagsLength,
     ))
     (omega arith) (omega (arith, s .pre .0)) (c .before .before .before .before .before .before .before .before .before .before
     .columns-at .ensures) (c .before .before .before .before .before .before .zero-at .ensures) (c .before .before .corners-at

@@ -1,6 +1,7 @@
 -- `filling::write_front` meets its contract: four regions one behind the other.
 -- Assumes nothing.
 use native.Mathlib.Omega.{arith}
+use Rattle.store.specs.Fields.{FIRST-CELL, FIRST-SLOT, FREE, OWNER, freeLength}
 use Rattle.filling.proofs.Joining.{by-four}
 use Rattle.filling.specs.Laws.{header-size}
 use Rattle.filling.specs.Regions.{zeros, headBy}
@@ -31,8 +32,9 @@ returns c =
     by-four (a .store .now) (c .before .before .before .before .before .before .before .before .before .before .before .before .before
     .before .head-at .last .0) (c .before .before .before .before .before .before .before .before .before .before .twelve-at .last
     .0) (c .before .before .before .before .before .before .twelve-at2 .last .0) (c .before .before .zero-at .last .0)
-    (headBy (a .part) (a .parts) (a .corners) (a .coarse) (a .cells) (a .levels)) (a .firsts .now) (a .starts .now) (zeros 72) 0 16 28
-    40 112
+    (headBy (a .part) (a .parts) (a .corners) (a .coarse) (a .cells) (a .levels)) (a .firsts .now) (a .starts .now)
+    (zeros freeLength) 0 FIRST-CELL FIRST-SLOT
+    FREE OWNER
     (omega (arith, header-size (a .part) (a .parts) (a .corners) (a .coarse) (a .cells) (a .levels))) (omega (arith, s .pre .1))
     (omega (arith, s .pre .2)) (omega arith) (omega (arith, s .pre .0)) (c .before .before .before .before .before .before .before
     .before .before .before .before .before .before .before .head-at .ensures) (c .before .before .before .before .before .before

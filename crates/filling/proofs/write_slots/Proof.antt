@@ -1,6 +1,8 @@
 -- `filling::write_slots` meets its contract: three regions one behind the other.
 -- Assumes nothing.
 use native.Mathlib.Omega.{arith}
+use Rattle.base.specs.Limits.{mostSlots}
+use Rattle.store.specs.Fields.{FRONT, HOLDERS, SLOT, SUM}
 use Rattle.filling.proofs.Joining.{by-three}
 use Rattle.filling.specs.Laws.{tab-length}
 use Rattle.filling.specs.Regions.{zeros, tab, slotBy, holderBy}
@@ -27,10 +29,10 @@ returns c =
     let a = s .args in
     by-three (a .store .now) (c .before .before .before .before .before .before .before .before .before .before .slots-at .last .0) (c
     .before .before .before .before .before .before .holders-at .last .0) (c .before .before .zero-at .last .0)
-    (tab 24576 (slotBy (a .cols .now) (a .cells) (a .part) (a .slots .now)))
-    (tab 24576 (holderBy (a .cols .now) (a .cells) (a .part) (a .slots .now) (a .masks .now))) (zeros 24576)
-    50288 74864 99440 124016 (omega (arith, tab-length 24576 (slotBy (a .cols .now) (a .cells) (a .part) (a .slots .now))))
-    (omega (arith, tab-length 24576 (holderBy (a .cols .now) (a .cells) (a .part) (a .slots .now) (a .masks .now))))
+    (tab mostSlots (slotBy (a .cols .now) (a .cells) (a .part) (a .slots .now)))
+    (tab mostSlots (holderBy (a .cols .now) (a .cells) (a .part) (a .slots .now) (a .masks .now))) (zeros mostSlots)
+    SLOT HOLDERS SUM FRONT (omega (arith, tab-length mostSlots (slotBy (a .cols .now) (a .cells) (a .part) (a .slots .now))))
+    (omega (arith, tab-length mostSlots (holderBy (a .cols .now) (a .cells) (a .part) (a .slots .now) (a .masks .now))))
     (omega arith) (omega (arith, s .pre .0 .0)) (c .before .before .before .before .before .before .before .before .before .before
     .slots-at .ensures) (c .before .before .before .before .before .before .holders-at .ensures) (c .before .before .zero-at .ensures)
 

@@ -1,3 +1,4 @@
+use Rattle.store.specs.Fields.{PLACE-DIGITS, PLACE-HEAD, PLACE-MORE}
 use Rattle.held.specs.Held.{entryIn}
 use native.Mathlib.Omega.{arith}
 use Prim.Native.Nat.{_+_}
@@ -18,7 +19,7 @@ shared-slice-read-key-from : tie.Need-shared-slice-read-key-from
 shared-slice-read-key-from c = search needs
 
 cast-key-from : tie.Need-cast-key-from
-cast-key-from c = omega (arith, c .shared-slice-known2 .given (210104 + c .before .before .args .j))
+cast-key-from c = omega (arith, c .shared-slice-known2 .given (PLACE-HEAD + c .before .before .args .j))
 
 add-key-from-2 : tie.Need-add-key-from-2
 add-key-from-2 c = search needs
@@ -30,7 +31,7 @@ shared-slice-read-key-from-2 : tie.Need-shared-slice-read-key-from-2
 shared-slice-read-key-from-2 c = search needs
 
 cast-key-from-2 : tie.Need-cast-key-from-2
-cast-key-from-2 c = omega (arith, c .shared-slice-known3 .given (214200 + c .before .before .before .args .j))
+cast-key-from-2 c = omega (arith, c .shared-slice-known3 .given (PLACE-DIGITS + c .before .before .before .args .j))
 
 add-key-from-3 : tie.Need-add-key-from-3
 add-key-from-3 c = search needs
@@ -42,15 +43,15 @@ shared-slice-read-key-from-3 : tie.Need-shared-slice-read-key-from-3
 shared-slice-read-key-from-3 c = search needs
 
 cast-key-from-3 : tie.Need-cast-key-from-3
-cast-key-from-3 c = omega (arith, c .shared-slice-known4 .given (218296 + c .before .before .before .before .args .j))
+cast-key-from-3 c = omega (arith, c .shared-slice-known4 .given (PLACE-MORE + c .before .before .before .before .args .j))
 
 key-from-requires : tie.Need-key-from-requires
 key-from-requires c κs = (
-  omega (arith, c .shared-slice-known4 .given (210104 + c .before .before .before .before .args .j)),
+  omega (arith, c .shared-slice-known4 .given (PLACE-HEAD + c .before .before .before .before .args .j)),
   omega
-      (arith, c .shared-slice-known4 .given (214200 + c .before .before .before .before .args .j)),
+      (arith, c .shared-slice-known4 .given (PLACE-DIGITS + c .before .before .before .before .args .j)),
   omega
-      (arith, c .shared-slice-known4 .given (218296 + c .before .before .before .before .args .j)),
+      (arith, c .shared-slice-known4 .given (PLACE-MORE + c .before .before .before .before .args .j)),
 )
 
 returns : tie.Need-returns

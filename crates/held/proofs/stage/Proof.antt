@@ -1,3 +1,4 @@
+use Rattle.store.specs.Fields.{ROUND}
 use Rattle.held.proofs.Stages.{stage-short, stage-header, stage-early, stage-running, stage-done, stage-ended, result-few}
 use borrow.Author.Tests.{not-true, not-false}
 use native.Mathlib.Omega.{arith}
@@ -32,7 +33,7 @@ shared-slice-read-t9 : tie.Need-shared-slice-read-t9
 shared-slice-read-t9 c = search needs
 
 cast-t10 : tie.Need-cast-t10
-cast-t10 c = omega (arith, c .shared-slice-known4 .given 7)
+cast-t10 c = omega (arith, c .shared-slice-known4 .given ROUND)
 
 returns-4 : tie.Need-returns-4
 returns-4 c = stage-running _ (omega arith) (sym (c .before .before .before .before .before .before .header-fits .ensures) ∙ not-false _

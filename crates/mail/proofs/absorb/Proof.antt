@@ -1,3 +1,4 @@
+use Rattle.store.specs.Fields.{ENDED, SUM, TOTAL}
 use Rattle.store.specs.Handing.{take-set, take-none, take-count, take-total, take-end}
 use lib.ListN.{length-set, getD}
 use Prim.Native.Nat.{_+_}
@@ -57,10 +58,10 @@ slice-read-store : tie.Need-slice-read-store
 slice-read-store c = search needs
 
 cast-store : tie.Need-cast-store
-cast-store c = omega (arith, c .slice-known2 .given (99440 + c .before .before .number2 .result))
+cast-store c = omega (arith, c .slice-known2 .given (SUM + c .before .before .number2 .result))
 
 add-store-3 : tie.Need-add-store-3
-add-store-3 c = omega (arith, c .slice-known2 .given (99440 + c .before .before .number2 .result), c .before .number3 .ensures .1)
+add-store-3 c = omega (arith, c .slice-known2 .given (SUM + c .before .before .number2 .result), c .before .number3 .ensures .1)
 
 cast-store-2 : tie.Need-cast-store-2
 cast-store-2 c = search needs
@@ -89,10 +90,10 @@ slice-read-cut-total : tie.Need-slice-read-cut-total
 slice-read-cut-total c = search needs
 
 cast-cut-total : tie.Need-cast-cut-total
-cast-cut-total c = omega (arith, c .slice-known3 .given 10)
+cast-cut-total c = omega (arith, c .slice-known3 .given TOTAL)
 
 add-cut-total : tie.Need-add-cut-total
-add-cut-total c = omega (arith, c .slice-known3 .given 10, c .before .number4 .ensures .1)
+add-cut-total c = omega (arith, c .slice-known3 .given TOTAL, c .before .number4 .ensures .1)
 
 cut-total-requires : tie.Need-cut-total-requires
 cut-total-requires c κs = search needs
@@ -148,14 +149,14 @@ cast-store-3 : tie.Need-cast-store-3
 cast-store-3 c = omega (
   arith,
   c .slice-known5 .given
-      (79 + getD (c .before .before .before .before .before .before .before .before .args .bytes .now) 1 0),
+      (ENDED + getD (c .before .before .before .before .before .before .before .before .args .bytes .now) 1 0),
 )
 
 add-store-6 : tie.Need-add-store-6
 add-store-6 c = omega (
   arith,
   c .slice-known5 .given
-      (79 + getD (c .before .before .before .before .before .before .before .before .args .bytes .now) 1 0),
+      (ENDED + getD (c .before .before .before .before .before .before .before .before .args .bytes .now) 1 0),
 )
 
 cast-store-4 : tie.Need-cast-store-4

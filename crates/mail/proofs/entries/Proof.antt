@@ -2,6 +2,7 @@ use Rattle.store.specs.Fetch.{entryCount}
 use borrow.Author.Tests.{lt-ltb, le-ltb}
 use native.Mathlib.Omega.{arith}
 use borrow.Author.Needs.{needs}
+use Rattle.store.specs.Fields.{WRITTEN}
 use Rattle.mail.proofs.entries.Statement.{statement}
 use Rattle.mail.proofs.entries.Tie as tie
 use Rattle.mail.proofs.entries.Reads as reads
@@ -11,7 +12,7 @@ shared-slice-read-n : tie.Need-shared-slice-read-n
 shared-slice-read-n c = search needs
 
 cast-n : tie.Need-cast-n
-cast-n c = omega (arith, c .shared-slice-known .given 14)
+cast-n c = omega (arith, c .shared-slice-known .given WRITTEN)
 
 returns : tie.Need-returns
 unfolding entryCount

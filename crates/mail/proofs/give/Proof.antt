@@ -4,6 +4,7 @@ use native.Mathlib.Omega.{arith}
 use lib.ListN.{length-set}
 use Rattle.store.specs.Fetch.{given, passedBy}
 use borrow.Author.Needs.{needs}
+use Rattle.store.specs.Fields.{CODE, GIVEN, VALUE}
 use Rattle.mail.proofs.give.Statement.{statement}
 use Rattle.mail.proofs.give.Tie as tie
 use Rattle.mail.proofs.give.Reads as reads
@@ -20,7 +21,7 @@ slice-read-count : tie.Need-slice-read-count
 slice-read-count c = search needs
 
 cast-count : tie.Need-cast-count
-cast-count c = omega (arith, c .slice-known3 .given (96 + c .before .before .before .args .b))
+cast-count c = omega (arith, c .slice-known3 .given (GIVEN + c .before .before .before .args .b))
 
 slice-read-from : tie.Need-slice-read-from
 slice-read-from c = search needs
@@ -38,7 +39,7 @@ slice-read-code : tie.Need-slice-read-code
 slice-read-code c = search needs
 
 cast-code : tie.Need-cast-code
-cast-code c = omega (arith, c .slice-known5 .given (124016 + c .before .before .before .before .before .args .j))
+cast-code c = omega (arith, c .slice-known5 .given (CODE + c .before .before .before .before .before .args .j))
 
 add-value : tie.Need-add-value
 add-value c = search needs
@@ -50,7 +51,7 @@ slice-read-value : tie.Need-slice-read-value
 slice-read-value c = search needs
 
 cast-value : tie.Need-cast-value
-cast-value c = omega (arith, c .slice-known6 .given (152712 + c .before .before .before .before .before .before .args .j))
+cast-value c = omega (arith, c .slice-known6 .given (VALUE + c .before .before .before .before .before .before .args .j))
 
 add-put-message : tie.Need-add-put-message
 add-put-message c = search needs
@@ -63,9 +64,9 @@ put-message-requires c κs = (
   omega arith,
   omega (
     arith,
-    c .before .before .before .before .slice-known3 .given (96 + c .before .before .before .before .before .before .before .args .b),
+    c .before .before .before .before .slice-known3 .given (GIVEN + c .before .before .before .before .before .before .before .args .b),
   ),
-  omega (arith, c .before .slice-known6 .given (152712 + c .before .before .before .before .before .before .before .args .j)),
+  omega (arith, c .before .slice-known6 .given (VALUE + c .before .before .before .before .before .before .before .args .j)),
 )
 
 cast-store : tie.Need-cast-store
@@ -87,7 +88,7 @@ add-store-2 : tie.Need-add-store-2
 add-store-2 c = omega (
   arith,
   c .before .before .before .before .before .before .before .slice-known3 .given
-      (96 + c .before .before .before .before .before .before .before .before .before .before .args .b),
+      (GIVEN + c .before .before .before .before .before .before .before .before .before .before .args .b),
 )
 
 cast-store-3 : tie.Need-cast-store-3

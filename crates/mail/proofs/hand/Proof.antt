@@ -1,4 +1,5 @@
 use borrow.Author.Needs.{needs}
+use Rattle.store.specs.Fields.{TAKEN}
 use Rattle.store.specs.Handing.{cells-few, ranges-of, hand-short, hand-header, hand-before, hand-bad, hand-again, hand-early, hand-done}
 use Rattle.store.specs.Handing.{hand-later, hand-taken}
 use lib.ListN.{getD}
@@ -127,7 +128,7 @@ cast-taken : tie.Need-cast-taken
 cast-taken c = omega (
   arith,
   c .slice-known3 .given
-      (63 + getD
+      (TAKEN + getD
       (c .before .before .before .before .before .before .before .before .before .before .before .before .before .before .args .bytes .now)
       1
       0),

@@ -1,3 +1,4 @@
+use Rattle.store.specs.Fields.{BIT, CURSOR, RECEIVERS, mostEntries}
 use Rattle.store.specs.Seek.{seek-stops, seek-on, seek-out, next-is}
 use Rattle.store.specs.Fetch.{seekFrom, nextToGive, spotAt}
 use borrow.Author.Needs.{needs}
@@ -13,7 +14,7 @@ use Rattle.mail.proofs.bit_from.Reads as bit-from-reads
 use Rattle.mail.proofs.entries.Reads as entries-reads
 
 abbrev Inv-loop : tie.InvT-loop
-Inv-loop store n j₀ b₀ j b = (n ≤ 28696) × (b < 65536) × (j < 65536) × (seekFrom store (n - j) j b ≡ nextToGive store)
+Inv-loop store n j₀ b₀ j b = (n ≤ mostEntries) × (b < 65536) × (j < 65536) × (seekFrom store (n - j) j b ≡ nextToGive store)
 
 abbrev μ-loop : tie.MeasureT-loop
 μ-loop store n j₀ b₀ j b = n - j
@@ -25,19 +26,19 @@ shared-slice-read-j : tie.Need-shared-slice-read-j Inv-loop μ-loop
 shared-slice-read-j c = search needs
 
 cast-j : tie.Need-cast-j Inv-loop μ-loop
-cast-j c = omega (arith, c .shared-slice-known2 .given 12)
+cast-j c = omega (arith, c .shared-slice-known2 .given CURSOR)
 
 shared-slice-read-b : tie.Need-shared-slice-read-b Inv-loop μ-loop
 shared-slice-read-b c = search needs
 
 cast-b : tie.Need-cast-b Inv-loop μ-loop
-cast-b c = omega (arith, c .shared-slice-known3 .given 13)
+cast-b c = omega (arith, c .shared-slice-known3 .given BIT)
 
 loop-holds : tie.Need-loop-holds Inv-loop μ-loop
 loop-holds c = (
   omega (arith, c .before .before .entries .ensures .1),
-  omega (arith, c .shared-slice-known3 .given 13),
-  omega (arith, c .before .shared-slice-known2 .given 12),
+  omega (arith, c .shared-slice-known3 .given BIT),
+  omega (arith, c .before .shared-slice-known2 .given CURSOR),
   next-is _ _ (c .before .before .entries .ensures .0),
 )
 
@@ -51,7 +52,7 @@ shared-slice-read-bit-from : tie.Need-shared-slice-read-bit-from Inv-loop μ-loo
 shared-slice-read-bit-from c = search needs
 
 cast-bit-from : tie.Need-cast-bit-from Inv-loop μ-loop
-cast-bit-from c = omega (arith, c .shared-slice-known4 .given (181408 + c .before .before .loop .j))
+cast-bit-from c = omega (arith, c .shared-slice-known4 .given (RECEIVERS + c .before .before .loop .j))
 
 bit-from-requires : tie.Need-bit-from-requires Inv-loop μ-loop
 bit-from-requires c κs = search needs

@@ -1,4 +1,5 @@
 use native.Mathlib.Omega.{arith}
+use Rattle.store.specs.Fields.{LEVELS, ROUND}
 use Rattle.store.specs.Headed.{split-no, split-is, running-no, running-is, other-no, done-no, done-first, done-second, done-third}
 use borrow.Author.Needs.{needs}
 use Rattle.mail.proofs.stage_fits.Statement.{statement}
@@ -13,13 +14,13 @@ shared-slice-read-round : tie.Need-shared-slice-read-round
 shared-slice-read-round c = search needs
 
 cast-round : tie.Need-cast-round
-cast-round c = omega (arith, c .shared-slice-known2 .given 7)
+cast-round c = omega (arith, c .shared-slice-known2 .given ROUND)
 
 shared-slice-read-levels : tie.Need-shared-slice-read-levels
 shared-slice-read-levels c = search needs
 
 cast-levels : tie.Need-cast-levels
-cast-levels c = omega (arith, c .shared-slice-known3 .given 6)
+cast-levels c = omega (arith, c .shared-slice-known3 .given LEVELS)
 
 shared-slice-read-result : tie.Need-shared-slice-read-result
 shared-slice-read-result c = search needs
@@ -31,7 +32,7 @@ returns-2 : tie.Need-returns-2
 returns-2 c = split-is _ (omega arith) (omega arith)
 
 mul-if4 : tie.Need-mul-if4
-mul-if4 c = omega (arith, c .before .before .before .shared-slice-known3 .given 6)
+mul-if4 c = omega (arith, c .before .before .before .shared-slice-known3 .given LEVELS)
 
 returns-3 : tie.Need-returns-3
 returns-3 c = running-no _ (omega arith) (omega arith)
@@ -43,10 +44,10 @@ returns-5 : tie.Need-returns-5
 returns-5 c = other-no _ (λ e. omega arith) (λ e. omega arith) (λ e. omega arith)
 
 mul-if6 : tie.Need-mul-if6
-mul-if6 c = omega (arith, c .before .before .before .before .shared-slice-known3 .given 6)
+mul-if6 c = omega (arith, c .before .before .before .before .shared-slice-known3 .given LEVELS)
 
 add-if6 : tie.Need-add-if6
-add-if6 c = omega (arith, c .before .before .before .before .shared-slice-known3 .given 6)
+add-if6 c = omega (arith, c .before .before .before .before .shared-slice-known3 .given LEVELS)
 
 returns-6 : tie.Need-returns-6
 returns-6 c = done-no _ (omega arith) (λ e. omega arith)

@@ -1,3 +1,4 @@
+use Rattle.store.specs.Fields.{TAKEN}
 use Rattle.store.specs.Hand.{counted}
 use lib.ListN.{length-set, getD}
 use Prim.Native.Nat.{_+_}
@@ -26,10 +27,10 @@ slice-read-store : tie.Need-slice-read-store
 slice-read-store c = search needs
 
 cast-store : tie.Need-cast-store
-cast-store c = omega (arith, c .slice-known2 .given (63 + getD (c .before .before .before .before .args .bytes .now) 1 0))
+cast-store c = omega (arith, c .slice-known2 .given (TAKEN + getD (c .before .before .before .before .args .bytes .now) 1 0))
 
 add-store-2 : tie.Need-add-store-2
-add-store-2 c = omega (arith, c .slice-known2 .given (63 + getD (c .before .before .before .before .args .bytes .now) 1 0))
+add-store-2 c = omega (arith, c .slice-known2 .given (TAKEN + getD (c .before .before .before .before .args .bytes .now) 1 0))
 
 cast-store-2 : tie.Need-cast-store-2
 cast-store-2 c = search needs

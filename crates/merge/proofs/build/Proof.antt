@@ -1,3 +1,4 @@
+use Rattle.base.specs.Limits.{mostCells}
 use Rattle.merge.proofs.Settling.{Going, going-start, going-on, going-failed, going-out}
 use borrow.Author.Needs.{needs}
 use native.Mathlib.Numerals.{add-one}
@@ -15,7 +16,7 @@ abbrev Inv-loop : tie.InvT-loop
 Inv-loop xs ys heads links sts n px₀ py₀ st₀ m c₀ end₀ px py st c end = Going xs ys sts n m px py st c end
 
 abbrev μ-loop : tie.MeasureT-loop
-μ-loop xs ys heads links sts n px₀ py₀ st₀ m c₀ end₀ px py st c end = 4096 - c
+μ-loop xs ys heads links sts n px₀ py₀ st₀ m c₀ end₀ px py st c end = mostCells - c
 
 seed-requires : tie.Need-seed-requires Inv-loop μ-loop
 seed-requires c κs = (c .before .before .pre .1 .3, c .before .before .pre .1 .0, c .before .before .pre .1 .1)

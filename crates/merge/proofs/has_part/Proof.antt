@@ -1,5 +1,5 @@
 use Rattle.merge.specs.Stores.{any-on, any-stop, any-out}
-use Rattle.store.specs.Fields.{field}
+use Rattle.store.specs.Fields.{field, PART, full}
 use Rattle.store.specs.Stores.{storesBy, field-in, length-stores, stores-at}
 use Rattle.base.specs.Lists.{anyb}
 use borrow.Author.Needs.{needs}
@@ -17,8 +17,8 @@ use Rattle.merge.proofs.has_part.Reads as reads
 use Rattle.merge.proofs.has_part.Lts as lts
 
 abbrev Inv-loop : tie.InvT-loop
-Inv-loop stores parts p j₀ j = (j ≤ parts) × (anyb (λ x. eqb (field x 1) p) (drop j (storesBy stores parts)) ≡ anyb
-    (λ x. eqb (field x 1) p) (storesBy stores parts))
+Inv-loop stores parts p j₀ j = (j ≤ parts) × (anyb (λ x. eqb (field x PART) p) (drop j (storesBy stores parts)) ≡ anyb
+    (λ x. eqb (field x PART) p) (storesBy stores parts))
 
 abbrev μ-loop : tie.MeasureT-loop
 μ-loop stores parts p j₀ j = parts - j
@@ -39,10 +39,10 @@ shared-slice-read-if1 : tie.Need-shared-slice-read-if1 Inv-loop μ-loop
 shared-slice-read-if1 c = search needs
 
 cast-if1 : tie.Need-cast-if1 Inv-loop μ-loop
-cast-if1 c = omega (arith, c .shared-slice-known .given (226488 * c .before .before .loop .j + 1))
+cast-if1 c = omega (arith, c .shared-slice-known .given (full * c .before .before .loop .j + 1))
 
 returns : tie.Need-returns Inv-loop μ-loop
-returns c = any-stop (λ x. eqb (field x 1) (c .before .before .before .before .args .p)) []
+returns c = any-stop (λ x. eqb (field x PART) (c .before .before .before .before .args .p)) []
     (storesBy (c .before .before .before .before .args .stores .now) (c .before .before .before .before .args .parts))
     (c .before .before .before .loop .j) _ _ (omega (
       arith,
@@ -62,7 +62,7 @@ loop-less c = search needs
 loop-again : tie.Need-loop-again Inv-loop μ-loop
 loop-again c = (
   omega arith,
-  rw add-one (any-on (λ x. eqb (field x 1) (c .before .before .before .before .args .p)) []
+  rw add-one (any-on (λ x. eqb (field x PART) (c .before .before .before .before .args .p)) []
       (storesBy (c .before .before .before .before .args .stores .now) (c .before .before .before .before .args .parts))
       (c .before .before .before .loop .j) _ _ (omega (
         arith,
@@ -75,7 +75,7 @@ loop-again c = (
 )
 
 returns-2 : tie.Need-returns-2 Inv-loop μ-loop
-returns-2 c = any-out (λ x. eqb (field x 1) (c .before .before .args .p)) [] (storesBy (c .before .before .args .stores .now)
+returns-2 c = any-out (λ x. eqb (field x PART) (c .before .before .args .p)) [] (storesBy (c .before .before .args .stores .now)
     (c .before .before .args .parts)) (c .before .loop .j) _ (omega (
       arith,
       length-stores (c .before .before .args .stores .now)

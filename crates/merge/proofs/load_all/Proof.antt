@@ -1,3 +1,4 @@
+use Rattle.base.specs.Limits.{mostCells}
 use Rattle.merge.proofs.Loading.{After, storesFrom, storing-none, storing-on, storing-out, storing-full, entries-in}
 use borrow.Author.Needs.{needs}
 use native.Mathlib.Omega.{arith}
@@ -11,7 +12,8 @@ use Rattle.merge.proofs.load_store.Reads as load-store-reads
 use Rattle.merge.proofs.store_at.Reads as store-at-reads
 
 abbrev Inv-loop : tie.InvT-loop
-Inv-loop stores parts xs₀ ys₀ heads₀ links₀ sts₀ r₀ i₀ xs ys heads links sts r i = (i ≤ parts) × (r ≤ 4096) × After xs₀ ys₀ heads₀ links₀
+Inv-loop stores parts xs₀ ys₀ heads₀ links₀ sts₀ r₀ i₀ xs ys heads links sts r i = (i ≤ parts) × (r ≤ mostCells)
+    × After xs₀ ys₀ heads₀ links₀
     sts₀ 0 (storesFrom stores i parts) xs ys heads links sts r
 
 abbrev μ-loop : tie.MeasureT-loop

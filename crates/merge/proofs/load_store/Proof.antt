@@ -1,3 +1,4 @@
+use Rattle.base.specs.Limits.{mostCells}
 use Rattle.merge.proofs.Loading.{After, entriesFrom, loading-none, loading-on, loading-out, loading-full}
 use Rattle.store.specs.Fields.{field, ENTRIES}
 use borrow.Author.Needs.{needs}
@@ -11,7 +12,7 @@ use Rattle.merge.proofs.load_store.Lts as lts
 use Rattle.merge.proofs.load_one.Reads as load-one-reads
 
 abbrev Inv-loop : tie.InvT-loop
-Inv-loop store xs₀ ys₀ heads₀ links₀ sts₀ n r₀ j₀ xs ys heads links sts r j = (j ≤ field store ENTRIES) × (r ≤ 4096) × After xs₀ ys₀
+Inv-loop store xs₀ ys₀ heads₀ links₀ sts₀ n r₀ j₀ xs ys heads links sts r j = (j ≤ field store ENTRIES) × (r ≤ mostCells) × After xs₀ ys₀
     heads₀ links₀ sts₀ n (entriesFrom store j (field store ENTRIES)) xs ys heads links sts r
 
 abbrev μ-loop : tie.MeasureT-loop
@@ -21,7 +22,7 @@ shared-slice-read-j : tie.Need-shared-slice-read-j Inv-loop μ-loop
 shared-slice-read-j c = search needs
 
 cast-j : tie.Need-cast-j Inv-loop μ-loop
-cast-j c = omega (arith, c .shared-slice-known2 .given 9)
+cast-j c = omega (arith, c .shared-slice-known2 .given ENTRIES)
 
 loop-holds : tie.Need-loop-holds Inv-loop μ-loop
 loop-holds c = (omega arith, c .before .before .pre .1 .few, loading-none _ _ _ _ _ _ (c .before .before .pre .1) _ _)

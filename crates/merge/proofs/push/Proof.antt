@@ -1,3 +1,4 @@
+use Rattle.base.specs.Limits.{mostCells}
 use Rattle.merge.proofs.Rows.{pushed-all}
 use Rattle.merge.proofs.Rows.{pushed-none, pushed-more, digits-room, product-room}
 use Rattle.merge.specs.Sweep.{Pushed}
@@ -14,7 +15,8 @@ use Rattle.merge.proofs.push.Lts as lts
 use Rattle.held.proofs.power.Reads as power-reads
 
 abbrev Inv-loop : tie.InvT-loop
-Inv-loop px₀ py₀ end x y size most i₀ px py i = (i ≤ size) × (length px ≡ 4096) × (length py ≡ 4096) × Pushed px₀ py₀ end x y i px py
+Inv-loop px₀ py₀ end x y size most i₀ px py i = (i ≤ size) × (length px ≡ mostCells) × (length py ≡ mostCells)
+    × Pushed px₀ py₀ end x y i px py
 
 abbrev μ-loop : tie.MeasureT-loop
 μ-loop px₀ py₀ end x y size most i₀ px py i = size - i

@@ -1,3 +1,4 @@
+use Rattle.base.specs.Limits.{mostCells}
 use Rattle.merge.proofs.Rows.{seeded-all}
 use Rattle.merge.proofs.Rows.{seeded-none, seeded-more}
 use Rattle.merge.specs.Sweep.{Seeded}
@@ -13,7 +14,7 @@ use Rattle.merge.proofs.seed.Reads as reads
 use Rattle.merge.proofs.seed.Lts as lts
 
 abbrev Inv-loop : tie.InvT-loop
-Inv-loop px₀ py₀ m i₀ px py i = (i ≤ m) × (length px ≡ 4096) × (length py ≡ 4096) × Seeded px py i
+Inv-loop px₀ py₀ m i₀ px py i = (i ≤ m) × (length px ≡ mostCells) × (length py ≡ mostCells) × Seeded px py i
 
 abbrev μ-loop : tie.MeasureT-loop
 μ-loop px₀ py₀ m i₀ px py i = m - i

@@ -1,4 +1,5 @@
 use native.Mathlib.Omega.{arith}
+use Rattle.store.specs.Fields.{ROUND}
 use Rattle.partstep.proofs.Stepping.{enter-end, enter-even, enter-odd, enter-last}
 use borrow.Author.Needs.{needs}
 use Rattle.partstep.proofs.enter.Statement.{statement}
@@ -14,7 +15,7 @@ slice-read-round : tie.Need-slice-read-round
 slice-read-round c = search needs
 
 cast-round : tie.Need-cast-round
-cast-round c = omega (arith, c .slice-known2 .given 7)
+cast-round c = omega (arith, c .slice-known2 .given ROUND)
 
 slice-read-levels : tie.Need-slice-read-levels
 slice-read-levels c = search needs

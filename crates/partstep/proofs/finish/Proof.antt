@@ -1,5 +1,6 @@
 use native.Mathlib.Omega.{arith}
 use lib.ListN.{length-set}
+use Rattle.store.specs.Fields.{RESULT}
 use Rattle.partstep.proofs.Stepping.{finished-by}
 use borrow.Author.Needs.{needs}
 use Rattle.partstep.proofs.finish.Statement.{statement}
@@ -21,7 +22,7 @@ slice-write-store c = search needs
 slice-write-store-2 : tie.Need-slice-write-store-2
 slice-write-store-2 c = omega (
   arith,
-  length-set (c .before .before .restore .last .0) 8
+  length-set (c .before .before .restore .last .0) RESULT
       (c .before .before .before .before .end-number .result),
   c .before .before .restore .kept .0,
 )

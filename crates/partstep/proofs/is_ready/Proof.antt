@@ -4,6 +4,7 @@ use native.Mathlib.Numerals.{add-one}
 use native.Mathlib.Omega.{arith}
 use mathlib.Core.Path.{_≡_, sym, _∙_, ap}
 use lib.ListN.{getD}
+use Rattle.store.specs.Fields.{PARTS}
 use Rattle.turns.specs.Loops.{someFrom, some-here, some-on, some-out}
 use Rattle.partstep.specs.Step.{waitsFor}
 use Rattle.partstep.proofs.Stepping.{ready-by}
@@ -14,7 +15,7 @@ use Rattle.partstep.proofs.is_ready.Lts as lts
 use Rattle.partstep.proofs.waits_for.Reads as waits-for-reads
 
 abbrev Inv-loop : tie.InvT-loop
-Inv-loop store last q₀ q = (1 ≤ q) × (someFrom (waitsFor store) (last - q) q ≡ someFrom (waitsFor store) (getD store 2 0) 1)
+Inv-loop store last q₀ q = (1 ≤ q) × (someFrom (waitsFor store) (last - q) q ≡ someFrom (waitsFor store) (getD store PARTS 0) 1)
 
 abbrev μ-loop : tie.MeasureT-loop
 μ-loop store last q₀ q = last - q

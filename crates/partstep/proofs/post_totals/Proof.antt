@@ -1,5 +1,6 @@
 use mathlib.Core.Path.{refl}
 use native.Mathlib.Omega.{arith}
+use Rattle.store.specs.Fields.{HIGH}
 use Rattle.partstep.proofs.Stepping.{totals-is}
 use borrow.Author.Needs.{needs}
 use Rattle.partstep.proofs.post_totals.Statement.{statement}
@@ -16,10 +17,10 @@ slice-read-code : tie.Need-slice-read-code
 slice-read-code c = search needs
 
 cast-code : tie.Need-cast-code
-cast-code c = omega (arith, c .slice-known2 .given 11)
+cast-code c = omega (arith, c .slice-known2 .given HIGH)
 
 add-code : tie.Need-add-code
-add-code c = omega (arith, c .slice-known2 .given 11)
+add-code c = omega (arith, c .slice-known2 .given HIGH)
 
 slice-read-total : tie.Need-slice-read-total
 slice-read-total c = search needs

@@ -1,6 +1,7 @@
 use native.Mathlib.Omega.{arith}
 use mathlib.Core.Path.{_∙_}
 use lib.ListN.{length-set}
+use Rattle.store.specs.Fields.{ENTRIES}
 use Rattle.places.specs.Front.{front-set}
 use Rattle.partstep.proofs.Stepping.{restored-none, restored-old}
 use borrow.Author.Needs.{needs}
@@ -17,12 +18,12 @@ slice-write-store : tie.Need-slice-write-store
 slice-write-store c = search needs
 
 place-olds-requires : tie.Need-place-olds-requires
-place-olds-requires c κs = let w = front-set (c .before .before .before .args .store .now) 9 0 (omega arith) in
+place-olds-requires c κs = let w = front-set (c .before .before .before .args .store .now) ENTRIES 0 (omega arith) in
     (omega (arith, w .size), omega (arith, w .head 5 (omega arith)))
 
 same-length : tie.Need-same-length
 same-length c = c .before .before .place-olds .kept .0 ∙ length-set
-    (c .before .before .before .before .before .before .args .store .now) 9 0
+    (c .before .before .before .before .before .before .args .store .now) ENTRIES 0
 
 returns-2 : tie.Need-returns-2
 returns-2 c = restored-old _ _ _ (c .before .before .before .before .if1 .left) (c .before .before .place-olds .ensures)

@@ -1,6 +1,7 @@
 use Prim.Native.Nat.{_+_}
 use native.Mathlib.Omega.{arith}
 use mathlib.Core.Path.{_≡_, refl, sym, _∙_}
+use Rattle.store.specs.Fields.{CHILD}
 use Rattle.places.proofs.Knowing.{zeros-at, above-red, fresh-by, kids-inside}
 use Rattle.places.specs.Fresh.{fresh-none}
 use borrow.Author.Needs.{needs}
@@ -34,7 +35,7 @@ shared-slice-read-first : tie.Need-shared-slice-read-first
 shared-slice-read-first c = search needs
 
 cast-first : tie.Need-cast-first
-cast-first c = omega (arith, c .shared-slice-known3 .given (16496 + c .before .before .before .before .args .c))
+cast-first c = omega (arith, c .shared-slice-known3 .given (CHILD + c .before .before .before .before .args .c))
 
 kid-count-requires : tie.Need-kid-count-requires
 kid-count-requires c κs = search needs

@@ -1,5 +1,6 @@
 use Prim.Native.Nat.{_+_}
 use native.Mathlib.Omega.{arith}
+use Rattle.store.specs.Fields.{STATUS}
 use Rattle.places.proofs.Placing.{old-own, old-else, old-ghost}
 use borrow.Author.Needs.{needs}
 use Rattle.places.proofs.place_old.Statement.{statement}
@@ -65,14 +66,14 @@ cast-put-entry : tie.Need-cast-put-entry
 cast-put-entry c = omega (
   arith,
   c .before .before .before .before .before .before .before .before .before .slice-known2 .given
-      (8304 + c .before .before .before .before .before .before .before .before .before .before .before .args .c),
+      (STATUS + c .before .before .before .before .before .before .before .before .before .before .before .args .c),
 )
 
 add-put-entry : tie.Need-add-put-entry
 add-put-entry c = omega (
   arith,
   c .before .before .before .before .before .before .before .before .before .slice-known2 .given
-      (8304 + c .before .before .before .before .before .before .before .before .before .before .before .args .c),
+      (STATUS + c .before .before .before .before .before .before .before .before .before .before .before .args .c),
 )
 
 cast-put-entry-2 : tie.Need-cast-put-entry-2

@@ -1,5 +1,6 @@
 use lib.ListN.{length-set}
 use native.Mathlib.Omega.{arith}
+use Rattle.store.specs.Fields.{ENTRIES}
 use Rattle.places.proofs.Placing.{put-full, put-here}
 use borrow.Author.Needs.{needs}
 use Rattle.places.proofs.put_entry.Statement.{statement}
@@ -11,7 +12,7 @@ slice-read-n : tie.Need-slice-read-n
 slice-read-n c = search needs
 
 cast-n : tie.Need-cast-n
-cast-n c = omega (arith, c .slice-known .given 9)
+cast-n c = omega (arith, c .slice-known .given ENTRIES)
 
 returns : tie.Need-returns
 returns c = put-full _ _ _ (omega arith)

@@ -1,5 +1,6 @@
 use Prim.Native.Nat.{_+_}
 use native.Mathlib.Omega.{arith}
+use Rattle.store.specs.Fields.{PARENT}
 use Rattle.places.proofs.Knowing.{stays-coarse, stays-refined, stays-none, stays-other, stays-red}
 use borrow.Author.Needs.{needs}
 use Rattle.places.proofs.stays.Statement.{statement}
@@ -41,7 +42,7 @@ shared-slice-read-parent : tie.Need-shared-slice-read-parent
 shared-slice-read-parent c = search needs
 
 cast-parent : tie.Need-cast-parent
-cast-parent c = omega (arith, c .shared-slice-known3 .given (20592 + c .before .before .before .before .before .args .c))
+cast-parent c = omega (arith, c .shared-slice-known3 .given (PARENT + c .before .before .before .before .before .args .c))
 
 returns-3 : tie.Need-returns-3
 returns-3 c = stays-none _ _ (omega arith) (c .before .before .if2 .left) (omega arith)

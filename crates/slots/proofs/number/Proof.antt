@@ -5,13 +5,15 @@ use Prim.Native.Nat.{_+_, _-_, _≤_, suc}
 use native.Mathlib.Omega.{arith}
 use native.Mathlib.Numerals.{add-one}
 use lib.ListN.{length-set}
+use Rattle.base.specs.Limits.{mostLevels}
 use Rattle.slots.proofs.Numbering.{Going, going-start, going-more, all-levels}
 use borrow.Author.Needs.{needs}
 use Rattle.slots.proofs.number.Statement.{statement}
 use Rattle.slots.proofs.number.Tie as tie
 
 abbrev Inv-loop : tie.InvT-loop
-Inv-loop rows firsts xs₀ ys₀ heads₀ links₀ slots₀ starts₀ n₀ k₀ xs ys heads links slots starts n k = (k ≤ 11) × Going rows firsts k xs
+Inv-loop rows firsts xs₀ ys₀ heads₀ links₀ slots₀ starts₀ n₀ k₀ xs ys heads links slots starts n k = (k ≤ mostLevels)
+    × Going rows firsts k xs
     ys heads links slots starts n
 
 abbrev μ-loop : tie.MeasureT-loop
@@ -141,7 +143,7 @@ returns : tie.Need-returns Inv-loop μ-loop
 returns c =
     let s = c .before .before .before .before .before .before in
     let l = c .before .loop in
-    let k : l .k ≡ 11 = omega (arith, l .inv .0, c .loop-test .left) in
+    let k : l .k ≡ mostLevels = omega (arith, l .inv .0, c .loop-test .left) in
     all-levels (s .args .rows .now) (s .args .firsts .now) (s .pre .0) (l .xs) (l .ys) (l .heads) (l .links) (l .slots) (l .starts) (l .n)
     (rw k at (l .inv .1))
 

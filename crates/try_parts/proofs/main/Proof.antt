@@ -2,17 +2,19 @@
 -- one would take too long. Assumes
 -- nothing.
 use borrow.Author.Needs.{needs}
-use Prim.Native.Nat.{ℕ}
+use Prim.Native.Nat.{ℕ, _*_}
 use lib.ListN.{length, replicate, length-replicate}
 use mathlib.Core.Path.{_≡_, sym}
+use Rattle.base.specs.Limits.{mostParts}
+use Rattle.store.specs.Fields.{full}
 use Rattle.try_parts.proofs.main.Statement.{statement}
 use Rattle.try_parts.proofs.main.Tie as tie
 
 slice-aggregate-all-cases : tie.Need-slice-aggregate-all-cases
 slice-aggregate-all-cases c = long
   where
-    long : 3623808 ≡ length {0} {A = ℕ} (replicate {0} {A = ℕ} 3623808 0)
-    long = sym (length-replicate {0} {A = ℕ} 3623808 0)
+    long : mostParts * full ≡ length {0} {A = ℕ} (replicate {0} {A = ℕ} (mostParts * full) 0)
+    long = sym (length-replicate {0} {A = ℕ} (mostParts * full) 0)
 
 all-cases-requires : tie.Need-all-cases-requires
 all-cases-requires c κs = search needs

@@ -1,3 +1,4 @@
+use Rattle.store.specs.Fields.{SUM}
 use Rattle.turns.proofs.Tallying.{add-beyond, add-inside}
 use Prim.Native.Nat.{_+_, _-_}
 use native.Mathlib.Omega.{arith}
@@ -20,10 +21,10 @@ slice-read-store : tie.Need-slice-read-store
 slice-read-store c = search needs
 
 cast-store : tie.Need-cast-store
-cast-store c = omega (arith, c .slice-known .given (99440 + c .before .before .args .slot))
+cast-store c = omega (arith, c .slice-known .given (SUM + c .before .before .args .slot))
 
 add-store-2 : tie.Need-add-store-2
-add-store-2 c = omega (arith, c .slice-known .given (99440 + c .before .before .args .slot))
+add-store-2 c = omega (arith, c .slice-known .given (SUM + c .before .before .args .slot))
 
 cast-store-2 : tie.Need-cast-store-2
 cast-store-2 c = search needs

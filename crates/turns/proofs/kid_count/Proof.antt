@@ -1,5 +1,6 @@
 use Prim.Native.Nat.{_+_, _-_}
 use native.Mathlib.Omega.{arith}
+use Rattle.store.specs.Fields.{CELLS, CHILD}
 use Rattle.turns.proofs.Deciding.{kids-wrong, kids-beyond, kids-all, kids-cut}
 use borrow.Author.Needs.{needs}
 use Rattle.turns.proofs.kid_count.Statement.{statement}
@@ -30,13 +31,13 @@ shared-slice-read-first : tie.Need-shared-slice-read-first
 shared-slice-read-first c = search needs
 
 cast-first : tie.Need-cast-first
-cast-first c = omega (arith, c .shared-slice-known3 .given (16496 + c .before .before .before .before .args .c))
+cast-first c = omega (arith, c .shared-slice-known3 .given (CHILD + c .before .before .before .before .args .c))
 
 shared-slice-read-cells : tie.Need-shared-slice-read-cells
 shared-slice-read-cells c = search needs
 
 cast-cells : tie.Need-cast-cells
-cast-cells c = omega (arith, c .shared-slice-known4 .given 5)
+cast-cells c = omega (arith, c .shared-slice-known4 .given CELLS)
 
 returns-2 : tie.Need-returns-2
 returns-2 c = (kids-beyond _ _ (omega arith) (omega arith), omega arith)

@@ -1,3 +1,4 @@
+use Rattle.store.specs.Fields.{FIRST-CELL}
 use Rattle.turns.proofs.Starting.{level-low, level-high}
 use Prim.Native.Nat.{_+_, _-_}
 use native.Mathlib.Omega.{arith}
@@ -17,7 +18,7 @@ shared-slice-read-first : tie.Need-shared-slice-read-first
 shared-slice-read-first c = search needs
 
 cast-first : tie.Need-cast-first
-cast-first c = omega (arith, c .shared-slice-known .given (16 + c .before .args .k))
+cast-first c = omega (arith, c .shared-slice-known .given (FIRST-CELL + c .before .args .k))
 
 shared-slice-read-cells : tie.Need-shared-slice-read-cells
 shared-slice-read-cells c = search needs

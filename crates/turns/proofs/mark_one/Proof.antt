@@ -1,3 +1,4 @@
+use Rattle.store.specs.Fields.{OWNER, PART}
 use Rattle.turns.proofs.Posting.{mark-family, mark-own, mark-low, mark-high, mark-here}
 use Prim.Native.Nat.{_+_, _-_}
 use native.Mathlib.Omega.{arith}
@@ -34,13 +35,13 @@ slice-read-owner : tie.Need-slice-read-owner
 slice-read-owner c = search needs
 
 cast-owner : tie.Need-cast-owner
-cast-owner c = omega (arith, c .slice-known4 .given (112 + c .before .before .before .before .before .args .c))
+cast-owner c = omega (arith, c .slice-known4 .given (OWNER + c .before .before .before .before .before .args .c))
 
 slice-read-if2 : tie.Need-slice-read-if2
 slice-read-if2 c = search needs
 
 cast-if2 : tie.Need-cast-if2
-cast-if2 c = omega (arith, c .slice-known5 .given 1)
+cast-if2 c = omega (arith, c .slice-known5 .given PART)
 
 returns-2 : tie.Need-returns-2
 returns-2 c = mark-own _ _ (c .before .before .before .if1 .left) (c .if2 .taken)

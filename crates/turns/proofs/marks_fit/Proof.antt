@@ -1,3 +1,5 @@
+use Rattle.base.specs.Limits.{mostCells}
+use Rattle.store.specs.Fields.{CELLS}
 use Rattle.turns.proofs.Starting.{next-few, fit-begin, fit-stop, fit-on, fit-out}
 use Rattle.turns.specs.Start.{marksDue}
 use lib.ListN.{getD}
@@ -15,8 +17,8 @@ use Rattle.turns.proofs.is_marked.Reads as is-marked-reads
 use Rattle.turns.proofs.next_mark.Reads as next-mark-reads
 
 abbrev Inv-loop : tie.InvT-loop
-Inv-loop store marks cells c₀ j₀ c j = (c ≤ 4096) × (j ≤ c)
-    × (marksDue store marks (cells - c) c j ≡ marksDue store marks (getD store 5 0) 0 0)
+Inv-loop store marks cells c₀ j₀ c j = (c ≤ mostCells) × (j ≤ c)
+    × (marksDue store marks (cells - c) c j ≡ marksDue store marks (getD store CELLS 0) 0 0)
 
 abbrev μ-loop : tie.MeasureT-loop
 μ-loop store marks cells c₀ j₀ c j = cells - c

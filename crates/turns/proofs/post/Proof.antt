@@ -1,3 +1,4 @@
+use Rattle.store.specs.Fields.{WRITTEN}
 use Rattle.turns.proofs.Posting.{posted-none, posted-full, posted-here}
 use lib.ListN.{length-set}
 use Prim.Native.Nat.{_-_}
@@ -15,7 +16,7 @@ slice-read-n : tie.Need-slice-read-n
 slice-read-n c = search needs
 
 cast-n : tie.Need-cast-n
-cast-n c = omega (arith, c .slice-known .given 14)
+cast-n c = omega (arith, c .slice-known .given WRITTEN)
 
 returns-2 : tie.Need-returns-2
 returns-2 c = posted-full _ _ _ _ (c .before .before .if1 .left) (omega arith)

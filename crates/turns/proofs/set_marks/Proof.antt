@@ -1,3 +1,4 @@
+use Rattle.store.specs.Fields.{CELLS}
 use Rattle.turns.proofs.Starting.{marked-begin, marked-again, marked-out}
 use Rattle.turns.specs.Start.{markedFrom}
 use Rattle.turns.specs.Loops.{SameHead, head-self}
@@ -16,7 +17,7 @@ use Rattle.turns.proofs.set_mark.Reads as set-mark-reads
 
 abbrev Inv-loop : tie.InvT-loop
 Inv-loop store₀ marks cells c₀ j₀ store c j = SameHead store₀ store × (j ≤ c)
-    × (markedFrom store marks (cells - c) c j ≡ markedFrom store₀ marks (getD store₀ 5 0) 0 0)
+    × (markedFrom store marks (cells - c) c j ≡ markedFrom store₀ marks (getD store₀ CELLS 0) 0 0)
 
 abbrev μ-loop : tie.MeasureT-loop
 μ-loop store₀ marks cells c₀ j₀ store c j = cells - c

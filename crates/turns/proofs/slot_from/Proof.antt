@@ -1,3 +1,4 @@
+use Rattle.store.specs.Fields.{FIRST-SLOT}
 use Rattle.turns.proofs.Counting.{slot-low, slot-high}
 use Prim.Native.Nat.{_+_, _-_}
 use native.Mathlib.Omega.{arith}
@@ -17,7 +18,7 @@ shared-slice-read-first : tie.Need-shared-slice-read-first
 shared-slice-read-first c = search needs
 
 cast-first : tie.Need-cast-first
-cast-first c = omega (arith, c .shared-slice-known .given (28 + c .before .args .k))
+cast-first c = omega (arith, c .shared-slice-known .given (FIRST-SLOT + c .before .args .k))
 
 returns : tie.Need-returns
 returns c = (slot-low _ _ (omega arith), omega arith)

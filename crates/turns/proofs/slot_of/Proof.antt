@@ -1,6 +1,7 @@
 use Prim.Native.Nat.{_+_, _*_}
 use native.Mathlib.Omega.{arith}
 use borrow.Author.Needs.{needs}
+use Rattle.store.specs.Fields.{SLOT}
 use Rattle.turns.proofs.slot_of.Statement.{statement}
 use Rattle.turns.proofs.slot_of.Tie as tie
 use Rattle.turns.proofs.slot_of.Reads as reads
@@ -22,7 +23,7 @@ shared-slice-read-result : tie.Need-shared-slice-read-result
 shared-slice-read-result c = search needs
 
 cast-result : tie.Need-cast-result
-cast-result c = omega (arith, c .shared-slice-known .given (50288 + (6 * c .before .args .c + c .before .args .e)))
+cast-result c = omega (arith, c .shared-slice-known .given (SLOT + (6 * c .before .args .c + c .before .args .e)))
 
 returns : tie.Need-returns
 returns c = search needs

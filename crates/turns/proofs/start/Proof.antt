@@ -1,3 +1,4 @@
+use Rattle.store.specs.Fields.{LEVELS, STAGE}
 use Rattle.turns.proofs.Starting.{start-short, start-header, start-stage, start-usable, start-marks, start-done, begun-by}
 use lib.ListN.{length-set}
 use borrow.Author.Tests.{not-true, not-false}
@@ -61,7 +62,7 @@ slice-read-top : tie.Need-slice-read-top
 slice-read-top c = search needs
 
 cast-top : tie.Need-cast-top
-cast-top c = omega (arith, c .slice-known3 .given 6)
+cast-top c = omega (arith, c .slice-known3 .given LEVELS)
 
 sub-top : tie.Need-sub-top
 sub-top c =
@@ -115,7 +116,7 @@ enter-marks-requires c κs = (
 
 same-length-4 : tie.Need-same-length-4
 same-length-4 c = c .before .before .enter-marks .kept .0
-    ∙ length-set (c .before .before .before .before .before .before .set-marks .last .0) 0 1
+    ∙ length-set (c .before .before .before .before .before .before .set-marks .last .0) STAGE 1
     ∙ c .before .before .before .before .before .before .set-marks .kept .0
 
 returns-5 : tie.Need-returns-5
