@@ -29,8 +29,8 @@ extern "C" {
 #endif
 
 /* The version of this header and its library: 10,000 times the first number, 100 times the second, the third. */
-#define YD_VERSION "1.2.5"
-#define YD_VERSION_NUMBER 10205
+#define YD_VERSION "1.3.0"
+#define YD_VERSION_NUMBER 10300
 
 /* The limits. */
 #define YD_MOST_COARSE_CORNERS 512 /* 4 to 512 corners of a coarse mesh */
@@ -125,8 +125,8 @@ uint8_t yd_lay_out(const int32_t *positions, size_t positions_length, const uint
  * Refusals: 15; 7 where corner is not below corners or not below 16,384. */
 uint8_t yd_position(const int32_t *sums, size_t sums_length, size_t corners, size_t corner, double *x, double *y, double *z);
 
-/* The coarse cell that a cell lies in.
- * After: *coarse is its number, *level the cell's level.
+/* The coarse cell that a cell lies in: from parent to parent until a cell has none.
+ * After: *coarse is its number, *level the number of turns, which is the cell's level.
  * Refusals: 1 to 6; 7 where cell is not below the number of cells. */
 uint8_t yd_ancestor(const int32_t *positions, size_t positions_length, const uint16_t *cells, size_t cells_length,
                     const uint8_t *status, size_t status_length, size_t cell, size_t *coarse, size_t *level);

@@ -64,7 +64,7 @@ int main(void) {
     size_t count = 77, corners, levels, ancestor, level, marks, steps;
     double x, y, z;
 
-    CHECK(YD_VERSION_NUMBER == 10205 && !strcmp(YD_VERSION, "1.2.5"));
+    CHECK(YD_VERSION_NUMBER == 10300 && !strcmp(YD_VERSION, "1.3.0"));
     CHECK(yd_cut(1, digits, YD_DIGITS_LENGTH, &count) == YD_ACCEPTED && count == 2 && digits[4] == 1);
     CHECK(yd_cut(64, digits, YD_DIGITS_LENGTH, &count) == YD_REFUSED_STATUS && count == 2);
     CHECK(yd_cut(1, digits, YD_DIGITS_LENGTH - 1, &count) == YD_REFUSED_SHORT);

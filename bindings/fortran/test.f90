@@ -21,7 +21,7 @@ program test
   allocate (coarse(YD_POSITIONS_LENGTH), coarse_cells(YD_COARSE_CELLS_LENGTH), marked(YD_MARKED_LENGTH))
   allocate (step_ends(YD_STEP_ENDS_LENGTH), digits(YD_DIGITS_LENGTH))
 
-  call check(YD_VERSION == '1.2.5' .and. YD_VERSION_NUMBER == 10205, 'version')
+  call check(YD_VERSION == '1.3.0' .and. YD_VERSION_NUMBER == 10300, 'version')
   call check(yd_cut(1_c_int8_t, digits, YD_DIGITS_LENGTH, n) == YD_ACCEPTED, 'cut')
   call check(n == 2 .and. all(digits(:8) == [0, 1, 7, 9, 1, 4, 7, 9]), 'family of pattern 1')
   call check(yd_cut(64_c_int8_t, digits, YD_DIGITS_LENGTH, n) == YD_REFUSED_STATUS, 'pattern 64')

@@ -16,8 +16,8 @@ module yuccadice
   private :: c_int8_t, c_int16_t, c_int32_t, c_size_t, c_double
 
   ! The version of this module and its library.
-  character(len=*), parameter :: YD_VERSION = "1.2.5"
-  integer(c_int32_t), parameter :: YD_VERSION_NUMBER = 10205_c_int32_t
+  character(len=*), parameter :: YD_VERSION = "1.3.0"
+  integer(c_int32_t), parameter :: YD_VERSION_NUMBER = 10300_c_int32_t
 
   ! The limits.
   integer(c_size_t), parameter :: YD_MOST_COARSE_CORNERS = 512_c_size_t ! 4 to 512 corners of a coarse mesh
@@ -140,7 +140,7 @@ module yuccadice
       integer(c_int8_t) :: answer
     end function
 
-    ! The coarse cell that a cell lies in.
+    ! The coarse cell that a cell lies in, and the number of turns from parent to parent up to it, which is the cell's level.
     function yd_ancestor(positions, positions_length, cells, cells_length, status, status_length, cell, coarse, level) &
                          bind(c) result(answer)
       import :: c_int8_t, c_int16_t, c_int32_t, c_size_t

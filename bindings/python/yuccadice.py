@@ -106,7 +106,7 @@ def _version():
     """What VERSION says: in the repository, or where tools/install put it."""
     place = _first(os.path.join(_here, *way, "VERSION") for way in (["..", ".."], ["..", "..", "share", "yuccadice"]))
     if place is None:
-        return "1.2.5"
+        return "1.3.0"
     with open(place) as file:
         return file.read().strip()
 
@@ -269,7 +269,7 @@ def match_corners(old, new):
 
 
 def ancestor(positions, cells, status, cell):
-    """A cell's coarse ancestor and its level."""
+    """A cell's coarse ancestor, and the number of turns from parent to parent up to it, which is the cell's level."""
     return tuple(_call("yd_ancestor", *_given(positions, cells, status), cell))
 
 

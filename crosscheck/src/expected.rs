@@ -44,8 +44,7 @@ pub fn ancestor(layout: &Layout, cell: usize) -> Answer<(usize, usize)> {
     if cell >= layout.cells.len() {
         return Err(7);
     }
-    let (coarse, level) = mesh::ancestor(layout, cell);
-    Ok((coarse, level as usize))
+    Ok(mesh::ancestor(layout, cell))
 }
 
 pub fn counts(layout: &Layout) -> Vec<u16> {

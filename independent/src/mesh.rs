@@ -283,13 +283,14 @@ pub fn table(layout: &Layout) -> Vec<u8> {
     layout.cells.iter().map(|c| c.status).collect()
 }
 
-/// The coarse cell that the cell lies in, and the cell's level.
-pub fn ancestor(layout: &Layout, cell: usize) -> (usize, u8) {
-    let mut coarse = cell;
+/// The coarse cell that the cell lies in, and the number of turns from parent to parent up to it.
+pub fn ancestor(layout: &Layout, cell: usize) -> (usize, usize) {
+    let (mut coarse, mut turns) = (cell, 0);
     while let Some(parent) = layout.cells[coarse].parent {
         coarse = parent;
+        turns += 1;
     }
-    (coarse, layout.cells[cell].level)
+    (coarse, turns)
 }
 
 /// For each level: cells, red, green, leaf.

@@ -167,6 +167,9 @@ fn the_first_family_by_name() {
     assert_eq!(position(&a(), &layout.corners[9]), [0.0, 8.0, 8.0]);
     assert_eq!(ancestor(&layout, 0), (0, 0));
     assert_eq!(ancestor(&layout, 17), (0, 2));
+    for (number, cell) in layout.cells.iter().enumerate() {
+        assert_eq!(ancestor(&layout, number), (0, cell.level as usize));
+    }
     assert_eq!(layout.cells[17].parent, Some(2));
     assert!(!layout.cells[17].regular && layout.cells[16].regular);
 }

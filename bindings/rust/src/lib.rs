@@ -18,9 +18,9 @@ pub mod lent;
 pub mod parts;
 
 /// The version of the library that this crate belongs to.
-pub const VERSION: &str = "1.2.5";
+pub const VERSION: &str = "1.3.0";
 /// The version as one number: 10,000 times its first, 100 times its second, its third.
-pub const VERSION_NUMBER: u32 = 10_205;
+pub const VERSION_NUMBER: u32 = 10_300;
 
 /// A coarse mesh has 4 to so many corners.
 pub const MOST_COARSE_CORNERS: usize = 512;
@@ -309,7 +309,7 @@ pub fn lay_out(mesh: &Mesh, status: &[u8]) -> Result<Layout, Refusal> {
     })
 }
 
-/// A cell's coarse ancestor and its level.
+/// A cell's coarse ancestor, and the number of turns from parent to parent up to it, which is the cell's level.
 pub fn ancestor(mesh: &Mesh, status: &[u8], cell: usize) -> Result<(usize, usize), Refusal> {
     let [mut coarse, mut level] = [0; 2];
     accepted(lent::ancestor(&mesh.positions, &mesh.cells, status, cell, &mut coarse, &mut level))?;

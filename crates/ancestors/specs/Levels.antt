@@ -12,12 +12,12 @@ use lib.ListN.{length, getD, take, drop, length-append, length-map, List·getD-a
 use lib.Seq.{getD-append-add, append-snoc, getD-append-seam}
 use borrow.Author.Tests.{ltb-true, ltb-false}
 use Rattle.cutting.specs.Rule.{family}
-use Rattle.mesh.specs.Cells.{Cell, redb, patternOf, childrenFrom, children, noCell}
+use Rattle.mesh.specs.Cells.{Cell, none, redb, patternOf, childrenFrom, children, noCell}
 use Rattle.mesh.specs.Weights.{Point, point, coarseFrom, coarseCells}
 use Rattle.mesh.specs.Table.{next, levels, levelsOf, cellsOf}
 use Rattle.mesh.specs.Layout.{mapCell}
 use Rattle.base.specs.Every.{All, all-append, all-at}
-use Rattle.ancestors.specs.Linked.{linkedPath, parentAt, Descends, Linked}
+use Rattle.ancestors.specs.Linked.{linkedPath, parentAt, Rooted, Descends, Linked}
 
 -- the cell c is a child of one of the cells l
 record KidOf {A : Type 0} (l : List (Cell A)) (c : Cell A) : Type 0 where
@@ -29,6 +29,13 @@ record KidOf {A : Type 0} (l : List (Cell A)) (c : Cell A) : Type 0 where
 module _ {A : Type 0} (l m : List (Cell A)) where
   front : (k : ℕ) → k < length l → getD (l ++ m) k noCell ≡ getD l k noCell
   front k h = List·getD-append l m noCell k h
+
+  old-root : (k : ℕ) → k < length l → Rooted l k → Rooted (l ++ m) k
+  old-root k h r =
+      record {
+        path = ap (λ (d : Cell A). d .path) (front k h) ∙ r .path;
+        parent = ap (λ (d : Cell A). d .parent) (front k h) ∙ r .parent;
+      }
 
   old-child : (k : ℕ) → k < length l → Descends l k → Descends (l ++ m) k
   old-child k h c =
@@ -59,13 +66,13 @@ module _ {A : Type 0} (l m : List (Cell A)) where
   grown : Linked l → All (KidOf l) m → Linked (l ++ m)
   grown o a = record { link = λ k h. go k h (ltb k (length l)) refl }
     where
-      old : (k : ℕ) → k < length l → (linkedPath (l ++ m) k ≡ k ∷ []) ⊎ Descends (l ++ m) k
+      old : (k : ℕ) → k < length l → Rooted (l ++ m) k ⊎ Descends (l ++ m) k
       old k h =
-          ⊎-elim (λ (e : linkedPath l k ≡ k ∷ []). inl (ap (λ (d : Cell A). d .path) (front k h) ∙ e))
+          ⊎-elim (λ (r : Rooted l k). inl (old-root k h r))
           (λ (c : Descends l k). inr (old-child k h c))
           (o .link k h)
 
-      go : (k : ℕ) → k < length (l ++ m) → (b : Bool) → ltb k (length l) ≡ b → (linkedPath (l ++ m) k ≡ k ∷ []) ⊎ Descends (l ++ m) k
+      go : (k : ℕ) → k < length (l ++ m) → (b : Bool) → ltb k (length l) ≡ b → Rooted (l ++ m) k ⊎ Descends (l ++ m) k
       go k h true t = old k (ltb-true k (length l) t)
       go k h false t =
           let j = k - length l in
@@ -121,9 +128,19 @@ coarse-path n i [] k h = absurd (omega arith)
 coarse-path n i (q ∷ qs) zero h = rw (add-zero i)
 coarse-path n i (q ∷ qs) (suc k) h = coarse-path n (suc i) qs k (omega arith) ∙ rw (suc-add i k, add-suc i k)
 
+coarse-parent : (n i : ℕ) (qs : List (List ℕ)) (k : ℕ) → k < length (coarseFrom n i qs) → parentAt (coarseFrom n i qs) k ≡ none
+unfolding coarseFrom
+coarse-parent n i [] k h = absurd (omega arith)
+coarse-parent n i (q ∷ qs) zero h = refl
+coarse-parent n i (q ∷ qs) (suc k) h = coarse-parent n (suc i) qs k (omega arith)
+
 coarse-linked : (n : ℕ) (qs : List (List ℕ)) → Linked (coarseCells n qs)
 unfolding coarseCells
-coarse-linked n qs = record { link = λ k h. inl (coarse-path n 0 qs k h ∙ let e : 0 + k ≡ k = omega arith in rw e) }
+coarse-linked n qs =
+    record {
+      link = λ k h.
+          let e : 0 + k ≡ k = omega arith in inl (record { path = coarse-path n 0 qs k h ∙ rw e; parent = coarse-parent n 0 qs k h });
+    }
 
 -- the cells of a table, which are numbered level by level
 pub cells-linked : (n : ℕ) (qs : List (List ℕ)) (ss : List ℕ) → Linked (cellsOf (levelsOf n qs ss))
@@ -141,9 +158,8 @@ map-linked {A} {B} f cs l = record { link = λ k h. go k (l .link k (omega (arit
     parent-same : (k : ℕ) → parentAt (map (mapCell f) cs) k ≡ parentAt cs k
     parent-same k = ap (λ (c : Cell B). c .parent) (List·getD-map (mapCell f) cs k noCell)
 
-    go : (k : ℕ) → (linkedPath cs k ≡ k ∷ []) ⊎ Descends cs k → (linkedPath (map (mapCell f) cs) k ≡ k ∷ []) ⊎ Descends (map (mapCell f) cs)
-        k
-    go k (inl e) = inl (path-same k ∙ e)
+    go : (k : ℕ) → Rooted cs k ⊎ Descends cs k → Rooted (map (mapCell f) cs) k ⊎ Descends (map (mapCell f) cs) k
+    go k (inl r) = inl (record { path = path-same k ∙ r .path; parent = parent-same k ∙ r .parent })
     go k (inr c) =
         inr
         record {

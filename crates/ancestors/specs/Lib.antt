@@ -4,3 +4,4 @@ pub mod Points
 pub mod Levels
 pub mod Ways
 pub mod Table
+pub mod Samples

@@ -5,6 +5,7 @@ pub mod Ties
 pub mod Again
 pub mod Positions
 pub mod Takes
+pub mod Climbs
 pub mod Accepting
 pub mod PartCalls
 pub mod Demand1

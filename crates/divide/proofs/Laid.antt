@@ -31,7 +31,7 @@ use Rattle.tables.specs.Onward.{four-in, length-in}
 use Rattle.tables.specs.Finish.{rows-in}
 use Rattle.tables.specs.Sound.{examinedCorners}
 use Rattle.ancestors.specs.Climb.{levelIn, parentIn}
-use Rattle.ancestors.specs.Linked.{Descends}
+use Rattle.ancestors.specs.Linked.{Rooted, Descends}
 use Rattle.ancestors.specs.Levels.{cells-linked}
 use Rattle.soundness.specs.Sound.{Sound, sound-parts}
 use Rattle.base.specs.Member.{Member}
@@ -244,12 +244,16 @@ module _ (n : ℕ) (qs : List (List ℕ)) (ss t ks : List ℕ) (g : Table n qs s
       (omega arith)))))
 
   -- parents
-  link : (c : ℕ) → c < length ss → (cell c .path ≡ c ∷ []) ⊎ Descends cs c
+  link : (c : ℕ) → c < length ss → Rooted cs c ⊎ Descends cs c
   unfolding nthCell
   link c h = cells-linked n qs ss .link c (omega (arith, s .many))
 
-  level-zero : (c : ℕ) → cell c .path ≡ c ∷ [] → cellLevel n qs ss c ≡ 0
-  level-zero c e = ap (λ (l : List ℕ). pred (length l)) e
+  own-path : (c : ℕ) → Rooted cs c → cell c .path ≡ c ∷ []
+  unfolding nthCell
+  own-path c r = r .path
+
+  level-zero : (c : ℕ) → Rooted cs c → cellLevel n qs ss c ≡ 0
+  level-zero c r = ap (λ (l : List ℕ). pred (length l)) (own-path c r)
 
   down : (c : ℕ) (d : Descends cs c) → cell c .path ≡ cell (cell c .parent) .path ++ (d .number ∷ [])
   unfolding nthCell
@@ -258,8 +262,8 @@ module _ (n : ℕ) (qs : List (List ℕ)) (ss t ks : List ℕ) (g : Table n qs s
   path-some : (c : ℕ) → c < length ss → 0 < length (cell c .path)
   path-some c h = go (link c h)
     where
-      go : (cell c .path ≡ c ∷ []) ⊎ Descends cs c → 0 < length (cell c .path)
-      go (inl e) = omega (arith, ap length e)
+      go : Rooted cs c ⊎ Descends cs c → 0 < length (cell c .path)
+      go (inl r) = omega (arith, ap length (own-path c r))
       go (inr d) = omega (arith, ap length (down c d), length-append (cell (cell c .parent) .path) (d .number ∷ []))
 
   parent-below : (c : ℕ) → Descends cs c → cell c .parent < c
@@ -277,8 +281,8 @@ module _ (n : ℕ) (qs : List (List ℕ)) (ss t ks : List ℕ) (g : Table n qs s
   unfolding nthCell
   up-of c h l = go (link c h)
     where
-      go : (cell c .path ≡ c ∷ []) ⊎ Descends cs c → Up c
-      go (inl e) = absurd (omega (arith, level-zero c e))
+      go : Rooted cs c ⊎ Descends cs c → Up c
+      go (inl r) = absurd (omega (arith, level-zero c r))
       go (inr d) =
           record {
             below = d .below;
@@ -301,8 +305,8 @@ module _ (n : ℕ) (qs : List (List ℕ)) (ss t ks : List ℕ) (g : Table n qs s
   unfolding placeBy
   place-at zero c h l = go (link c h)
     where
-      go : (cell c .path ≡ c ∷ []) ⊎ Descends cs c → coarsePlace c ≡ placeOf (cell c .path)
-      go (inl e) = sym (ap placeOf e ∙ place-one c)
+      go : Rooted cs c ⊎ Descends cs c → coarsePlace c ≡ placeOf (cell c .path)
+      go (inl r) = sym (ap placeOf (own-path c r) ∙ place-one c)
       go (inr d) =
           absurd (omega (
             arith,

@@ -3,12 +3,13 @@
 -- Assumes nothing.
 use mathlib.Core.Path.{_≡_, sym, _∙_}
 use mathlib.Core.List.{List, _++_}
-use Prim.Native.Nat.{ℕ, _+_, _*_, _/_, _<_}
+use Prim.Native.Nat.{ℕ, _+_, _*_, _/_, _≤_, _<_}
+use native.Mathlib.Omega.{arith}
 use lib.IntN.{ℤ}
 use lib.ListN.{length, getD, take, drop}
 use Rattle.base.specs.Bools.{is-true}
 use Rattle.base.specs.Fours.{fours, length-fours}
-use Rattle.mesh.specs.Cells.{noCell}
+use Rattle.mesh.specs.Cells.{none, noCell}
 use Rattle.mesh.specs.Coarse.{cornerCount}
 use Rattle.mesh.specs.Table.{soundb}
 use Rattle.mesh.specs.Layout.{cellTable}
@@ -32,11 +33,14 @@ module _ (ps : List ℤ) (ts ss rows xs ys : List ℕ) (cells levels m : ℕ) (f
     there : c < length (cellsIn ps ts ss)
     there = rw (f .sound .counted) h
 
+    small : length (cellsIn ps ts ss) ≤ none
+    small = omega (arith, f .sound .counted, f .sound .few)
+
     pub fits-upward : Upward rows (c + 1)
-    fits-upward = table-upward (cornerCount ps) (fours ts) ss (fours-four ts) (cornersIn ps ts ss) rows all-rows c there
+    fits-upward = table-upward (cornerCount ps) (fours ts) ss (fours-four ts) small (cornersIn ps ts ss) rows all-rows c there
 
     pub fits-climb : climbFrom rows c c ≡ ancestorOf (getD (cellsIn ps ts ss) c noCell)
-    fits-climb = table-climb (cornerCount ps) (fours ts) ss (fours-four ts) (cornersIn ps ts ss) rows all-rows c there noCell
+    fits-climb = table-climb (cornerCount ps) (fours ts) ss (fours-four ts) small (cornersIn ps ts ss) rows all-rows c there noCell
 
   -- counts
   pub fits-levels : Levels ss (length ts / 4)

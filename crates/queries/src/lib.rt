@@ -2,14 +2,12 @@
 use ancestors::Ancestor;
 use base::FULL_COUNTS;
 ghost use mathlib.Core.Path.{_≡_};
-ghost use Prim.Native.Nat.{_+_};
 ghost use lib.ListN.{length, getD};
 ghost use Rattle.base.specs.Lent.{was, is};
 ghost use Rattle.base.specs.Refuse.{heldAfter};
 ghost use Rattle.mesh.specs.Cells.{noCell};
 ghost use Rattle.mesh.specs.Counts.{countTable};
 ghost use Rattle.mesh.specs.Answers.{levelsIn, cellsIn};
-ghost use Rattle.ancestors.specs.Climb.{Upward, climbFrom};
 ghost use Rattle.ancestors.specs.Linked.{ancestorOf};
 ghost use Rattle.queries.specs.Calls.{ancestorAnswer, ancestryOf, countsAnswer, countedOf};
 
@@ -21,14 +19,6 @@ pub enum Ancestry {
 pub enum Counted {
     Levels(usize),
     Refused(u8),
-}
-
-// A cell's coarse ancestor and level, by the rows.
-fn climb(rows: &[u16; 32768], cell: usize) -> Ancestor
-    requires { ⌜ Upward (now rows) (cell + 1) ⌝ }
-    ensures { λ r. ⌜ r ≡ climbFrom (was rows) cell cell ⌝ }
-{
-    ancestors::climb(rows, cell)
 }
 
 // A cell's coarse ancestor and level. Refusals 1 to 6, then 7 where there is no such cell.
@@ -47,7 +37,7 @@ pub fn ancestor(positions: &[i32], cells: &[u16], status: &[u8], cell: usize) ->
     if cell >= f.cells {
         return Ancestry::Refused(7);
     }
-    Ancestry::Under(climb(&rows, cell))
+    Ancestry::Under(ancestors::climb(&rows, cell))
 }
 
 // The counts of every level, four numbers each: cells, red, green, leaf. Refusals 15 and 1 to 6.

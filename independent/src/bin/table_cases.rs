@@ -66,7 +66,7 @@ fn line(case: &Case) -> Line {
         _ => Err(7),
     });
     let (root, level) = under.unwrap_or((0, 0));
-    line.answer(&under, &[root, level as usize]);
+    line.answer(&under, &[root, level]);
 
     let counted = if case.short == 4 { Err(15) } else { table };
     line.answer(&counted, &[counted.as_ref().map_or(0, |layout| layout.levels)]);

@@ -9,16 +9,19 @@ use Rattle.ancestors.proofs.climb.Statement.{statement}
 use Rattle.ancestors.proofs.climb.Tie as tie
 
 abbrev Inv-loop : tie.InvT-loop
-Inv-loop rows c at₀ level₀ at level = On rows c at level
+Inv-loop rows cell at₀ turns₀ at turns = On rows cell at turns
 
 abbrev μ-loop : tie.MeasureT-loop
-μ-loop rows c at₀ level₀ at level = at
+μ-loop rows cell at₀ turns₀ at turns = at
 
 loop-holds : tie.Need-loop-holds Inv-loop μ-loop
-loop-holds c = on-first (c .args .rows .now) (c .args .c)
+loop-holds c = on-first (c .args .rows .now) (c .args .cell)
 
 mul-if1 : tie.Need-mul-if1 Inv-loop μ-loop
 mul-if1 c = search needs
+
+add-if1 : tie.Need-add-if1 Inv-loop μ-loop
+add-if1 c = search needs
 
 mul-if1-2 : tie.Need-mul-if1-2 Inv-loop μ-loop
 mul-if1-2 c = search needs
@@ -41,8 +44,8 @@ shared-slice-read-at c = search needs
 cast-at : tie.Need-cast-at Inv-loop μ-loop
 cast-at c = omega (arith, c .shared-slice-known2 .given (8 * c .before .before .before .loop .at + 1))
 
-add-level : tie.Need-add-level Inv-loop μ-loop
-add-level c = search needs
+add-turns : tie.Need-add-turns Inv-loop μ-loop
+add-turns c = search needs
 
 loop-less : tie.Need-loop-less Inv-loop μ-loop
 loop-less c = c .before .before .before .before .pre .up (c .before .before .before .loop .at)
@@ -52,7 +55,7 @@ loop-again : tie.Need-loop-again Inv-loop μ-loop
 loop-again c = on-next (c .before .before .before .loop .inv) (c .before .before .before .before .pre) (c .before .if1 .taken)
 
 returns : tie.Need-returns Inv-loop μ-loop
-returns c = on-end (c .before .before .loop .inv) (omega (arith, c .if1 .left))
+returns c = on-end (c .before .before .loop .inv) (c .if1 .left)
 
 pub climb-spec : {M : Type 1} → statement M
 climb-spec =
@@ -62,6 +65,7 @@ climb-spec =
     μ-loop
     loop-holds
     mul-if1
+    add-if1
     mul-if1-2
     shared-slice-read-if1
     mul-at
@@ -69,7 +73,7 @@ climb-spec =
     mul-at-2
     shared-slice-read-at
     cast-at
-    add-level
+    add-turns
     loop-less
     loop-again
     returns)

@@ -38,6 +38,9 @@ returns-2 c =
     rw (ancestor-beyond (a .positions .now) (a .cells .now) (a .status .now) (o .result .refusal) (a .cell) (o .ensures .answer)
     (c .before .before .if1 .left) (omega (arith, o .ensures .fits (c .before .before .if1 .left) .sound .counted)))
 
+slice-aggregate-climb : tie.Need-slice-aggregate-climb
+slice-aggregate-climb c = search needs
+
 climb-requires : tie.Need-climb-requires
 climb-requires c κs = fits-upward _ _ _ _ _ _ _ _ _
     (c .before .before .before .before .before .before .before .before .«open» .ensures .fits (c .before .before .before .if1 .left))
@@ -66,5 +69,6 @@ ancestor-spec =
     open-requires
     returns
     returns-2
+    slice-aggregate-climb
     climb-requires
     returns-3)
