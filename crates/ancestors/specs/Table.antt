@@ -27,7 +27,8 @@ rows-map ks (c ∷ cs) = ap (λ (l : List ℕ). rowOf (mapCell (numberIn ks) c) 
 rows-number : (ks : List Corner) (cs : List (Cell Point)) → All Four cs → length (cellTable ks cs) ≡ 8 * length cs
 rows-number ks cs four =
     let m : List (Cell ℕ) = map (mapCell (numberIn ks)) cs in
-    ap length (rows-map ks cs) ∙ rows-size m (map-four (numberIn ks) cs four) ∙ ap (λ (n : ℕ). 8 * n) (length-map cs (mapCell (numberIn ks)))
+    ap length (rows-map ks cs) ∙ rows-size m (map-four (numberIn ks) cs four)
+    ∙ ap (λ (n : ℕ). 8 * n) (length-map cs (mapCell (numberIn ks)))
 
 pub table-size : (n : ℕ) (qs : List (List ℕ)) (ss : List ℕ) → All (λ q. length q ≡ 4) qs → (ks : List Corner)
     → length (cellTable ks (cellsOf (levelsOf n qs ss))) ≡ 8 * length (cellsOf (levelsOf n qs ss))

@@ -1,10 +1,10 @@
--- In a table of the rows of linked cells, fewer than the number that stands for no parent, the way from a cell leads to its coarse ancestor,
--- in as many turns as its level says.
+-- In a table of the rows of linked cells, fewer than the number that stands for no parent, the way from a cell leads to its coarse
+-- ancestor, in as many turns as its level says.
 -- Laws: upward, climb-right (coarse cell and level), turns-level (the turns are what the row has for a level).
 use mathlib.Core.Path.{_≡_, sym, _∙_, ap, ap₂}
 use mathlib.Core.Logic.{_⊎_, inl, inr, ⊎-elim}
 use mathlib.Core.List.{List, [], _∷_, _++_, flatMap}
-use Prim.Native.Nat.{ℕ, zero, suc, _+_, _*_, _-_, _≤_, _<_, pred}
+use Prim.Native.Nat.{ℕ, zero, suc, _+_, _*_, _≤_, _<_, pred}
 use native.Mathlib.Omega.{arith}
 use lib.ListN.{length, getD, take, length-append, length-take, List·getD-append}
 use lib.Seq.{getD-take}

@@ -2,7 +2,7 @@
 -- each then gives is its contract's (docs/METHOD.md, section 12).
 --   TakesTable ps ts ss    every call that takes a table takes this one
 --   TakesArchive bs        every call that takes an archive takes this one
--- Laws: table-parts, takes-table, takes-archive.
+-- Laws: takes-table, takes-archive.
 use mathlib.Core.Path.{_≡_}
 use mathlib.Core.List.{List}
 use Prim.Native.Nat.{ℕ, _*_, _≤_, _<_}
@@ -14,12 +14,12 @@ use borrow.Author.Tests.{le-leb, lt-ltb}
 use Rattle.base.specs.Bools.{is-true}
 use Rattle.base.specs.Fours.{fours}
 use Rattle.base.specs.Limits.{mostCells, mostParts, fullRows, fullEnds, fullSums, fullCounts}
-use Rattle.base.specs.Refuse.{refuse, andThen, passed, both}
+use Rattle.base.specs.Refuse.{refuse, andThen}
 use Rattle.base.specs.declared.Answer.the-variants.{Accepted}
 use Rattle.mesh.specs.Coarse.{cornerCount, meshAnswer}
-use Rattle.mesh.specs.Table.{soundb}
 use Rattle.mesh.specs.Answers.{cellsIn, tableAnswer, marksb, limitsAnswer, markedAnswer}
 use Rattle.soundness.specs.Sound.{sound-parts}
+use Rattle.conformity.specs.Accepted.{table-parts}
 use Rattle.layout.specs.Calls.{lentb, layoutAnswer}
 use Rattle.queries.specs.Calls.{ancestorAnswer, countsAnswer}
 use Rattle.step.specs.Calls.{stepAnswer}
@@ -46,21 +46,14 @@ pub record TakesArchive (bs : List ℕ) : Type 0 where
   pub read : (ps : List ℤ) (ts cs ms es : List ℕ) → T (roomb ps ts cs ms es) → readAnswer bs ps ts cs ms es ≡ Accepted
 
 module _ (ps : List ℤ) (ts ss : List ℕ) (e : tableAnswer ps ts ss ≡ Accepted) where
-  pub table-parts : (meshAnswer ps ts ≡ Accepted) × T (soundb (cornerCount ps) (fours ts) ss)
-  unfolding tableAnswer
-  table-parts =
-      let six = refuse 6 (soundb (cornerCount ps) (fours ts) ss) Accepted in
-      let (a, b) = both (meshAnswer ps ts) six e in
-      (a, passed 6 (soundb (cornerCount ps) (fours ts) ss) Accepted b .0)
-
   there : (c : ℕ) → c < length ss → c < length (cellsIn ps ts ss)
-  there c h = omega (arith, h, sound-parts (cornerCount ps) (fours ts) ss (table-parts .1) .many)
+  there c h = omega (arith, h, sound-parts (cornerCount ps) (fours ts) ss (table-parts ps ts ss e .1) .many)
 
   pub takes-table : TakesTable ps ts ss
   unfolding layoutAnswer lentb ancestorAnswer countsAnswer stepAnswer markedAnswer splitAnswer andThen refuse
   takes-table =
       record {
-        mesh = table-parts .0;
+        mesh = table-parts ps ts ss e .0;
         lay-out = λ table ends sums a b c. rw (
           le-leb fullRows (length table) a,
           le-leb fullEnds (length ends) b,

@@ -1,7 +1,7 @@
 -- `ancestors::climb` meets its contract: a parent comes before its children, so that the cell's number falls with each turn. The
 -- measure is that number.
 -- Assumes nothing.
-use Prim.Native.Nat.{_+_, _*_, _-_}
+use Prim.Native.Nat.{_+_, _*_}
 use native.Mathlib.Omega.{arith}
 use Rattle.ancestors.proofs.Turns.{On, on-first, on-next, on-end}
 use borrow.Author.Needs.{needs}
