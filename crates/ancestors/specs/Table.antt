@@ -76,7 +76,7 @@ module _ (n : ℕ) (qs : List (List ℕ)) (ss : List ℕ) (four : All (λ q. len
   pub table-upward : Upward t (c + 1)
   table-upward = rows-upward ks (cellsOf (levelsOf n qs ss)) few (cells-linked n qs ss) (cells-four n qs ss four) t rows c h
 
-  -- Rule 3.5: it ends at the cell's coarse cell, and has as many turns as levels are below the cell.
+  -- Rule 3.5: the way ends at the cell's coarse cell, after as many turns as the cell's level.
   pub table-climb : (d : Cell Point) → climbFrom t c c ≡ ancestorOf (getD (cellsOf (levelsOf n qs ss)) c d)
   table-climb = rows-climb ks (cellsOf (levelsOf n qs ss)) few (cells-linked n qs ss) (cells-four n qs ss four) t rows c h
 

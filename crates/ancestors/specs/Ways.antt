@@ -1,5 +1,5 @@
--- In a table of the rows of linked cells, fewer than the number that stands for no parent, the way from a cell leads to its coarse
--- ancestor, in as many turns as its level says.
+-- In a table of the rows of linked cells the way from a cell leads to its coarse ancestor, in as many turns as its level says. All numbers
+-- of cells are below the one that stands for no parent.
 -- Laws: upward, climb-right (coarse cell and level), turns-level (the turns are what the row has for a level).
 use mathlib.Core.Path.{_≡_, sym, _∙_, ap, ap₂}
 use mathlib.Core.Logic.{_⊎_, inl, inr, ⊎-elim}
