@@ -140,7 +140,7 @@ module yuccadice
       integer(c_int8_t) :: answer
     end function
 
-    ! The coarse cell that a cell lies in, and the number of turns from parent to parent up to it, which is the cell's level.
+    ! The coarse cell that a cell lies in, and the number of turns from parent to parent, which is the cell's level.
     function yd_ancestor(positions, positions_length, cells, cells_length, status, status_length, cell, coarse, level) &
                          bind(c) result(answer)
       import :: c_int8_t, c_int16_t, c_int32_t, c_size_t

@@ -269,7 +269,7 @@ def match_corners(old, new):
 
 
 def ancestor(positions, cells, status, cell):
-    """A cell's coarse ancestor, and the number of turns from parent to parent up to it, which is the cell's level."""
+    """A cell's coarse ancestor, and the number of turns from parent to parent, which is the cell's level."""
     return tuple(_call("yd_ancestor", *_given(positions, cells, status), cell))
 
 

@@ -283,7 +283,7 @@ pub fn table(layout: &Layout) -> Vec<u8> {
     layout.cells.iter().map(|c| c.status).collect()
 }
 
-/// The coarse cell that the cell lies in, and the number of turns from parent to parent up to it.
+/// The coarse cell that the cell lies in, and the number of turns from parent to parent.
 pub fn ancestor(layout: &Layout, cell: usize) -> (usize, usize) {
     let (mut coarse, mut turns) = (cell, 0);
     while let Some(parent) = layout.cells[coarse].parent {

@@ -84,7 +84,7 @@ pub fn position(sums: &[i32], corners: usize, corner: usize, x: &mut f64, y: &mu
     unsafe { yd_position(sums.as_ptr(), sums.len(), corners, corner, x, y, z) }
 }
 
-/// A cell's coarse ancestor, and the number of turns up to it, which is the cell's level.
+/// A cell's coarse ancestor, and the number of turns from parent to parent, which is the cell's level.
 pub fn ancestor(positions: &[i32], cells: &[u16], status: &[u8], cell: usize, coarse: &mut usize, level: &mut usize) -> u8 {
     unsafe { yd_ancestor(positions.as_ptr(), positions.len(), cells.as_ptr(), cells.len(), status.as_ptr(), status.len(), cell, coarse, level) }
 }

@@ -309,7 +309,7 @@ pub fn lay_out(mesh: &Mesh, status: &[u8]) -> Result<Layout, Refusal> {
     })
 }
 
-/// A cell's coarse ancestor, and the number of turns from parent to parent up to it, which is the cell's level.
+/// A cell's coarse ancestor, and the number of turns from parent to parent, which is the cell's level.
 pub fn ancestor(mesh: &Mesh, status: &[u8], cell: usize) -> Result<(usize, usize), Refusal> {
     let [mut coarse, mut level] = [0; 2];
     accepted(lent::ancestor(&mesh.positions, &mesh.cells, status, cell, &mut coarse, &mut level))?;

@@ -18,7 +18,7 @@ use Rattle.mesh.specs.Coarse.{cornerCount}
 use Rattle.mesh.specs.Layout.{cellTable}
 use Rattle.mesh.specs.Answers.{cellsIn, cornersIn, tableAnswer}
 use Rattle.lattice.specs.Levels.{fours-four}
-use Rattle.soundness.specs.Sound.{Sound, sound-parts}
+use Rattle.soundness.specs.Sound.{sound-parts}
 use Rattle.conformity.specs.Accepted.{table-parts}
 use Rattle.ancestors.specs.Climb.{levelIn, parentIn, climbFrom, parents-decide}
 use Rattle.ancestors.specs.Linked.{ancestorOf}
@@ -26,7 +26,7 @@ use Rattle.ancestors.specs.Table.{table-size, table-climb, table-turns}
 use Rattle.layout.specs.Calls.{lentb, layoutAnswer}
 use Rattle.queries.specs.Calls.{ancestorAnswer, ancestryOf}
 use Rattle.queries.specs.declared.Ancestry.the-variants.{Under}
-use Rattle.demands.specs.Takes.{takes-table}
+use Rattle.demands.specs.Takes.{status-there, takes-table}
 
 -- Rules 9.2, 12.7.
 abbrev pub rowsAfter : List ℤ → List ℕ → List ℕ → List ℕ → List ℕ → List ℤ → List ℕ
@@ -46,14 +46,11 @@ module _ (ps : List ℤ) (ts ss table ends : List ℕ) (sums : List ℤ) (e : la
   unfolding layoutAnswer
   accepted = passed 15 (lentb table ends sums) (tableAnswer ps ts ss) e .1
 
-  sound : Sound (cornerCount ps) (fours ts) ss
-  sound = sound-parts (cornerCount ps) (fours ts) ss (table-parts ps ts ss accepted .1)
-
   few : length (cellsIn ps ts ss) ≤ none
-  few = omega (arith, sound .few)
+  few = omega (arith, sound-parts (cornerCount ps) (fours ts) ss (table-parts ps ts ss accepted .1) .few)
 
   there : (c : ℕ) → c < length ss → c < length (cellsIn ps ts ss)
-  there c h = omega (arith, h, sound .many)
+  there = status-there ps ts ss accepted
 
   rows-held : take (8 * length (cellsIn ps ts ss)) (rowsAfter ps ts ss table ends sums) ≡ cellTable (cornersIn ps ts ss) (cellsIn ps ts ss)
   unfolding heldAfter

@@ -2,7 +2,7 @@
 -- each then gives is its contract's (docs/METHOD.md, section 12).
 --   TakesTable ps ts ss    every call that takes a table takes this one
 --   TakesArchive bs        every call that takes an archive takes this one
--- Laws: takes-table, takes-archive.
+-- Laws: status-there (each status has its cell), takes-table, takes-archive.
 use mathlib.Core.Path.{_≡_}
 use mathlib.Core.List.{List}
 use Prim.Native.Nat.{ℕ, _*_, _≤_, _<_}
@@ -46,8 +46,8 @@ pub record TakesArchive (bs : List ℕ) : Type 0 where
   pub read : (ps : List ℤ) (ts cs ms es : List ℕ) → T (roomb ps ts cs ms es) → readAnswer bs ps ts cs ms es ≡ Accepted
 
 module _ (ps : List ℤ) (ts ss : List ℕ) (e : tableAnswer ps ts ss ≡ Accepted) where
-  there : (c : ℕ) → c < length ss → c < length (cellsIn ps ts ss)
-  there c h = omega (arith, h, sound-parts (cornerCount ps) (fours ts) ss (table-parts ps ts ss e .1) .many)
+  pub status-there : (c : ℕ) → c < length ss → c < length (cellsIn ps ts ss)
+  status-there c h = omega (arith, h, sound-parts (cornerCount ps) (fours ts) ss (table-parts ps ts ss e .1) .many)
 
   pub takes-table : TakesTable ps ts ss
   unfolding layoutAnswer lentb ancestorAnswer countsAnswer stepAnswer markedAnswer splitAnswer andThen refuse
@@ -60,7 +60,7 @@ module _ (ps : List ℤ) (ts ss : List ℕ) (e : tableAnswer ps ts ss ≡ Accept
           le-leb fullSums (length sums) c,
           e,
         );
-        ancestor = λ c h. rw (e, lt-ltb c (length (cellsIn ps ts ss)) (there c h));
+        ancestor = λ c h. rw (e, lt-ltb c (length (cellsIn ps ts ss)) (status-there c h));
         counts = λ counts h. rw (le-leb fullCounts (length counts) h, e);
         step = λ ms table t h. rw (le-leb mostCells (length table) h, e, is-true (marksb ss ms) t);
         split = λ P os stores a b t h. rw (

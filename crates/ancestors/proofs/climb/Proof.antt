@@ -49,13 +49,14 @@ add-turns c = search needs
 
 loop-less : tie.Need-loop-less Inv-loop μ-loop
 loop-less c = c .before .before .before .before .pre .up (c .before .before .before .loop .at)
-    (omega (arith, c .before .before .before .loop .inv .near)) (c .before .if1 .taken)
+    (omega (arith, c .before .before .before .loop .inv .near)) (λ e. omega (arith, c .before .if1 .taken, e))
 
 loop-again : tie.Need-loop-again Inv-loop μ-loop
-loop-again c = on-next (c .before .before .before .loop .inv) (c .before .before .before .before .pre) (c .before .if1 .taken)
+loop-again c = on-next (c .before .before .before .loop .inv) (c .before .before .before .before .pre)
+    (λ e. omega (arith, c .before .if1 .taken, e))
 
 returns : tie.Need-returns Inv-loop μ-loop
-returns c = on-end (c .before .before .loop .inv) (c .if1 .left)
+returns c = on-end (c .before .before .loop .inv) (omega (arith, c .if1 .left))
 
 pub climb-spec : {M : Type 1} → statement M
 climb-spec =
