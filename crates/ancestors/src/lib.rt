@@ -1,4 +1,6 @@
 // A cell's coarse ancestor and level, from a table of rows: column 1 is the parent.
+#![tactic(auto)]
+
 ghost use Rattle.std.specs.Prelude.{◌≡◌, ◌+◌};
 ghost use Rattle.base.specs.Lent.{was};
 ghost use Rattle.ancestors.specs.Climb.{Upward, climb_from};

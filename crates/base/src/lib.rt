@@ -1,4 +1,6 @@
 // What every call answers, and copies.
+#![tactic(auto)]
+
 ghost use Rattle.std.specs.Prelude.{◌≡◌, ◌++◌, ◌≤◌, length, take, drop};
 ghost use Rattle.base.specs.Refuse.{code_of};
 ghost use Rattle.base.specs.Lent.{was, is};

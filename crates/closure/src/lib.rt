@@ -1,4 +1,6 @@
 // The statuses of one level, where the edges of its red cells are listed: the pattern that each other cell is closed with.
+#![tactic(auto)]
+
 ghost use Rattle.std.specs.Prelude.{◌≡◌, false, [], ◌∷◌, ◌+◌, ◌-◌, ◌≤◌, ◌<◌};
 ghost use Rattle.base.specs.Bools.{one_if};
 ghost use Rattle.base.specs.Places.{hasb};

@@ -1,4 +1,6 @@
 // The refusals 1 to 5 of a coarse mesh (docs/METHOD.md, section 1).
+#![tactic(auto)]
+
 ghost use Rattle.std.specs.Prelude.{◌≡◌, not, [], ◌+◌, ◌*◌, ◌/◌, ◌<◌, leb, nat_abs, length, get_or};
 ghost use Rattle.base.specs.Fours.{fours};
 ghost use Rattle.pairs.specs.Keys.{Clear};

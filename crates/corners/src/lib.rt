@@ -1,5 +1,7 @@
 // The tables of a mesh's corners, from the ends of the new ones (docs/METHOD.md, rules 9.3 and 9.4).
 // A mesh has n coarse corners and m new ones. New corner j has the number n + j, and is the midpoint of xs[j] and ys[j].
+#![tactic(auto)]
+
 ghost use Rattle.std.specs.Prelude.{◌≡◌, [], ◌++◌, ◌∷◌, ◌+◌, ◌*◌, ◌≤◌, ◌<◌, length, take, drop, pos, ◌+ℤ◌, ◌*ℤ◌};
 ghost use Rattle.std.proofs.lemmas.List.Edits.{sets};
 ghost use Rattle.base.specs.Lent.{was, is};

@@ -1,4 +1,6 @@
 // The children of one cell by the pattern of its split edges (docs/METHOD.md, section 2).
+#![tactic(auto)]
+
 ghost use Rattle.std.specs.Prelude.{◌≡◌, ◌++◌, ◌+◌, ◌-◌, ◌≤◌, ◌<◌, length, get_or, take, drop, replicate};
 ghost use Rattle.cutting.specs.Answer.{digits_below, digit_table, start_table, cut_of};
 

@@ -1,4 +1,6 @@
 // The ends of a child's edges, from the digits of its family (crate cutting): four a child.
+#![tactic(auto)]
+
 ghost use Rattle.std.specs.Prelude.{◌≡◌, ◌<◌};
 ghost use Rattle.base.specs.Lent.{was};
 ghost use Rattle.cutting.specs.Rule.{low, high};

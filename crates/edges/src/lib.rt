@@ -1,5 +1,7 @@
 // A table of edges, each the pair of its two corner numbers, over `pairs`: the entries from `from` on are different edges in the
 // order of their first appearance.
+#![tactic(auto)]
+
 ghost use Rattle.std.specs.Prelude.{◌≡◌};
 ghost use Rattle.base.specs.Places.{hasb};
 ghost use Rattle.base.specs.Lent.{was, is};

@@ -1,5 +1,7 @@
 // Status tables over a coarse mesh: examined and laid out, with tables for the work that go by the number of statuses. They are set to
 // zero first, so a small table is built in small ones.
+#![tactic(auto)]
+
 ghost use Rattle.std.specs.Prelude.{◌≤◌, length};
 ghost use Rattle.base.specs.Fours.{fours};
 ghost use Rattle.base.specs.Lent.{was, is};

@@ -1,4 +1,6 @@
 // A part's store filled from the columns and slots of a table, region by region.
+#![tactic(auto)]
+
 ghost use Rattle.std.specs.Prelude.{◌≡◌, ◌++◌, ◌+◌, ◌*◌, ◌/◌, ◌≤◌, ◌<◌, length, drop};
 ghost use Rattle.base.specs.Lent.{was, is};
 ghost use Rattle.base.specs.Limits.{full_coarse, most_cells, most_slots};

@@ -1,4 +1,6 @@
 // Where each cell's family begins, from the statuses alone.
+#![tactic(auto)]
+
 ghost use Rattle.std.specs.Prelude.{◌≡◌, true, ◌++◌, suc, ◌≤◌, ◌<◌, leb, length, drop};
 ghost use Rattle.base.specs.Lists.{allb};
 ghost use Rattle.base.specs.Lent.{was, is};

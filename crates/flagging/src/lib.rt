@@ -1,4 +1,6 @@
 // Which cells of an old table will be red after a step, and what each cell keeps, level by level from the highest down.
+#![tactic(auto)]
+
 ghost use Rattle.std.specs.Prelude.{◌≡◌, ◌++◌, ◌+◌, ◌*◌, ◌-◌, ◌≤◌, ◌<◌, ltb, length, get_or, take, drop};
 ghost use Rattle.base.specs.Lists.{allb, anyb};
 ghost use Rattle.base.specs.Bools.{one_if};

@@ -1,5 +1,7 @@
 // Laying out the children of one level of cells. The table of cells has rows of eight (crate rows). New corners are the
 // entries of a table of edges (crate edges) in the order of their first appearance: entry j is the corner n + j.
+#![tactic(auto)]
+
 ghost use Rattle.std.specs.Prelude.{◌≡◌, [], ◌∷◌, map, ℕ, ◌+◌, ◌*◌, ◌-◌, ◌≤◌, ◌<◌, length, get_or};
 ghost use Rattle.base.specs.Bools.{one_if};
 ghost use Rattle.base.specs.Lent.{was, is};

@@ -1,4 +1,6 @@
 // The calls on archives of jobs.
+#![tactic(auto)]
+
 ghost use Rattle.std.specs.Prelude.{◌≡◌, ◌++◌, ◌+◌, ◌*◌, ◌≤◌, leb, length, take, drop};
 ghost use Rattle.base.specs.Limits.{full_counts, most_bytes, most_cells, most_coarse_cells, most_coarse_corners};
 ghost use Rattle.counting.specs.Levels.{Levels, level_number, level_counts};

@@ -1,4 +1,6 @@
 // What each cell of an old table keeps after a step.
+#![tactic(auto)]
+
 ghost use Rattle.base.specs.Fours.{fours};
 ghost use Rattle.base.specs.Lent.{was, is};
 ghost use Rattle.pairs.specs.Keys.{Clear};

@@ -1,4 +1,6 @@
 // A status table over a coarse mesh, laid out: the rows of its cells, the ends and the sums of its corners.
+#![tactic(auto)]
+
 ghost use Rattle.std.specs.Prelude.{◌≡◌, true, ◌++◌, ◌+◌, ◌*◌, ◌≤◌, length, take, drop};
 ghost use Rattle.base.specs.Lent.{was, is};
 ghost use Rattle.base.specs.Limits.{full_ends, full_rows, full_sums, most_cells, most_coarse_corners};

@@ -1,4 +1,6 @@
 // Reads an archive from standard input and prints its listing.
+#![tactic(auto)]
+
 use libc::{STDIN_FILENO, STDOUT_FILENO};
 
 // One byte more than an archive may have is read, so that a longer input is refused: `list_read` takes a buffer of no other size. What

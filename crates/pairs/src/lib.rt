@@ -1,6 +1,8 @@
 // A table of pairs of numbers in which a pair is found fast. Its four lists are lent by the caller: the pairs in the order
 // in which they were added, n of them in use; each bucket's last entry; and behind each entry the one before it in its bucket.
 // 65535 stands for no entry. There are 4,096 buckets, or 1,024 where the heads are fewer than 4,096; behind them there may be spots.
+#![tactic(auto)]
+
 ghost use Rattle.std.specs.Prelude.{◌≡◌, ◌-◌, ◌<◌, ◌≤◌, length};
 ghost use Rattle.base.specs.Lent.{was, is};
 ghost use Rattle.spots.specs.Spots.{buckets_of};

@@ -1,4 +1,6 @@
 // The masters and ghosts of a part after the step, from its store alone: statuses, and places written one behind the other.
+#![tactic(auto)]
+
 ghost use Rattle.std.specs.Prelude.{◌≡◌, ◌&&◌, not, map, ◌+◌, ◌*◌, ◌/◌, ◌%◌, ◌≤◌, ◌<◌, min, max, eqb, length, get_or};
 ghost use Rattle.base.specs.Bools.{one_if};
 ghost use Rattle.base.specs.Lent.{was, is};

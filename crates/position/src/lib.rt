@@ -1,4 +1,6 @@
 // The position of a corner as three f64 numbers (docs/METHOD.md, section 8).
+#![tactic(auto)]
+
 ghost use Rattle.std.specs.Prelude.{◌≡◌, ◌<◌, length, get_or, pos};
 ghost use Rattle.base.specs.Lent.{was};
 ghost use Rattle.position.specs.Position.{coordinate_of, position_of};

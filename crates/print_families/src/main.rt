@@ -1,4 +1,6 @@
 // Prints the 64 families, a line each: the pattern, then each child's four digits.
+#![tactic(auto)]
+
 ghost use Rattle.std.specs.Prelude.{◌<◌};
 
 fn print_child(digits: [u8; 32], k: usize)

@@ -1,4 +1,6 @@
 // Looks into a table of edges that spare a search: whether an edge may have a corner, and one look for an edge, without a branch.
+#![tactic(auto)]
+
 ghost use Rattle.std.specs.Prelude.{◌≡◌, not, false, ◌+◌, ◌-◌, ◌*◌, ◌<◌, ◌≤◌, eqb, length};
 ghost use Rattle.base.specs.Bools.{one_if};
 ghost use Rattle.base.specs.Places.{hasb};

@@ -1,4 +1,6 @@
 // What is asked of a status table over a coarse mesh: a cell's ancestor, the counts of every level.
+#![tactic(auto)]
+
 ghost use Rattle.std.specs.Prelude.{◌≡◌, ◌≤◌, length, get_or};
 ghost use Rattle.base.specs.Lent.{was, is};
 ghost use Rattle.base.specs.Limits.{full_counts, most_cells};

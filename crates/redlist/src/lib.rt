@@ -1,4 +1,6 @@
 // The edges of a level's red cells, listed.
+#![tactic(auto)]
+
 ghost use Rattle.std.specs.Prelude.{[], ◌∷◌, ◌+◌, ◌*◌, ◌-◌, ◌<◌, length};
 ghost use Rattle.base.specs.Lent.{was, is};
 ghost use Rattle.mesh.specs.Cells.{edge, edges, red_edges};

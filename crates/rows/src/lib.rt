@@ -1,4 +1,6 @@
 // The table of cells over corner numbers: rows of eight, level, parent, child number, 1 where regular, four corners.
+#![tactic(auto)]
+
 ghost use Rattle.std.specs.Prelude.{◌≡◌, ◌+◌, ◌*◌, ◌≤◌, ◌<◌, ◌-◌, length, get_or, true, leb};
 ghost use Rattle.base.specs.Lent.{was};
 ghost use Rattle.base.specs.Limits.{most_cells};

@@ -1,4 +1,6 @@
 // The third condition of soundness: an edge that a green cell's child has and the green cell has not is held by no red cell.
+#![tactic(auto)]
+
 ghost use Rattle.std.specs.Prelude.{◌≡◌, ◌&&◌, ◌||◌, not, true, false, ◌+◌, ◌*◌, ◌≤◌, ◌<◌, eqb, length, get_or};
 ghost use Rattle.base.specs.Lists.{allb};
 ghost use Rattle.base.specs.Places.{hasb};

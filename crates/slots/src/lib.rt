@@ -1,5 +1,7 @@
 // The slots of a table's edges: the edges of a level, each once, in the order of their first appearance, numbered behind those of lower
 // levels. An edge is known by the numbers of its two corners.
+#![tactic(auto)]
+
 ghost use Rattle.std.specs.Prelude.{◌≡◌, ◌+◌, ◌*◌, ◌≤◌, ◌<◌, length};
 ghost use Rattle.base.specs.Lent.{was, is};
 ghost use Rattle.base.specs.Limits.{full_rows, most_cells, most_slots, most_levels};

@@ -1,1 +1,3 @@
 // definitions: see specs/
+#![tactic(auto)]
+

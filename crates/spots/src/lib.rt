@@ -1,6 +1,8 @@
 // Spots of single numbers in a table of pairs, so that a search can be spared where no entry has a number. They stand behind the table's
 // buckets, 1,024 of them or none, and each has the last entry with a number that lies in it. There are 4,096 buckets, or 1,024 where the
 // heads are fewer than 4,096. 65535 stands for no entry.
+#![tactic(auto)]
+
 ghost use Rattle.std.specs.Prelude.{◌≡◌, ◌+◌, ◌<◌, ◌≤◌};
 ghost use Rattle.base.specs.Lent.{was, is};
 ghost use Rattle.spots.specs.Spots.{buckets_of, spot_of, noted, may_have};

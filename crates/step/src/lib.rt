@@ -1,4 +1,6 @@
 // One step of the multilevel red/green method.
+#![tactic(auto)]
+
 ghost use Rattle.std.specs.Prelude.{◌≡◌, ◌++◌, ◌≤◌, length, take, drop};
 ghost use Rattle.base.specs.Fours.{fours};
 ghost use Rattle.base.specs.Limits.{most_cells};

@@ -1,5 +1,7 @@
 // A part's store and the calls that carry messages, as definitions on numbers: see specs/. The types that the calls answer with, and
 // places of cells.
+#![tactic(auto)]
+
 ghost use Rattle.std.specs.Prelude.{◌≡◌, ◌+◌, ◌*◌, ◌^◌, ◌%◌, ◌<◌};
 ghost use Rattle.store.specs.Places.{child_place};
 

@@ -1,4 +1,6 @@
 // Status tables over a coarse mesh: examined and laid out level by level, in tables that the caller lends.
+#![tactic(auto)]
+
 ghost use Rattle.std.specs.Prelude.{◌≡◌, true, false, ◌*◌, ◌≤◌, length, take};
 ghost use mathlib.Core.List.{flat_map};
 ghost use Rattle.base.specs.Fours.{fours};

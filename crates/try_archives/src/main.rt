@@ -1,5 +1,7 @@
 // Runs the calls on archives over the cases of its input, and prints for each case its listing and lines of numbers.
 // The input is made by independent/src/bin/archive_cases.rs, and so are the lines that are expected.
+#![tactic(auto)]
+
 mod print;
 
 use base::{MOST_COARSE_CELLS, MOST_COARSE_CORNERS};

@@ -1,5 +1,7 @@
 // Splits meshes, carries the messages between the parts and merges them again, over the cases of its input, and prints a line of numbers
 // for each call that is asked to be told. The input is made by independent/src/bin/part_cases.rs, and so are the lines that are expected.
+#![tactic(auto)]
+
 mod calls;
 mod carrier;
 mod print;

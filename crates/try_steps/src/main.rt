@@ -1,5 +1,7 @@
 // Runs steps over the cases of its input, and prints a line of numbers for each step.
 // The input is made by independent/src/bin/step_cases.rs, and so are the lines that are expected.
+#![tactic(auto)]
+
 mod print;
 
 use step::Stepped;

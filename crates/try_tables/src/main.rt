@@ -1,5 +1,7 @@
 // Runs the calls on status tables over the cases of its input, and prints a line of numbers for each case.
 // The input is made by independent/src/bin/table_cases.rs, and so are the lines that are expected.
+#![tactic(auto)]
+
 mod print;
 
 use layout::Laid;

@@ -1,5 +1,7 @@
 // The turns of a part: its start, with the work on entering a round of marks: flags of the cells whose family it has, and the entries that
 // it writes.
+#![tactic(auto)]
+
 ghost use Rattle.std.specs.Prelude.{◌≡◌, ◌+◌, ◌-◌, ◌*◌, ◌^◌, ◌≤◌, ◌<◌, length};
 ghost use Rattle.base.specs.Lent.{was, is};
 ghost use Rattle.base.specs.Limits.{most_levels, most_parts, top_level, most_cells, most_slots};

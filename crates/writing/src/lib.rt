@@ -1,4 +1,6 @@
 // The new table from what the old cells keep, written level by level: no new row or corner is looked at.
+#![tactic(auto)]
+
 ghost use Rattle.std.specs.Prelude.{◌≡◌, not, [], ◌∷◌, map, ℕ, ◌+◌, ◌-◌, ◌≤◌, ◌<◌, eqb, length, get_or, take, replicate};
 ghost use Rattle.base.specs.Bools.{one_if};
 ghost use Rattle.base.specs.Lent.{was, is};

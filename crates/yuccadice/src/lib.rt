@@ -1,5 +1,7 @@
 // The calls for programs in other languages. Each function answers the refusal's number, 0 where the call is accepted, and hands its
 // results back in lent tables and lent numbers. include/yuccadice.h says the same for C.
+#![tactic(auto)]
+
 ghost use Rattle.std.specs.Prelude.{◌≡◌, length, get_or};
 ghost use Rattle.base.specs.Fours.{fours};
 ghost use Rattle.base.specs.Lent.{was, is};
