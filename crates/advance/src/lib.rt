@@ -2,7 +2,6 @@
 #![tactic(auto)]
 
 ghost use Rattle.std.specs.Prelude.{◌≡◌, ◌≤◌, length};
-ghost use Rattle.base.specs.Lent.{was, is};
 ghost use Rattle.pairs.specs.Keys.{Clear};
 ghost use Rattle.advance.specs.Advanced.{Held, AdvanceRoom, Decided, Advanced};
 
@@ -42,7 +41,7 @@ pub fn advance(
     requires marks_len { length marks.now ≡ length status.now }
     requires advance_room { AdvanceRoom status.now xs.old ys.old links.old kids.old kept.old }
     requires clear { Clear heads.old }
-    ensures { Advanced n (was mesh) (was status) (was marks) (is table) result.refusal result.cells }
+    ensures { Advanced n mesh.now status.now marks.now table.new result.refusal result.cells }
 {
     let k = status.len();
     let coarse = mesh.len() / 4;
@@ -74,7 +73,7 @@ pub fn advance_least(
     requires held { Held n mesh.now rows.now status.now }
     requires marks_len { length marks.now ≡ length status.now }
     requires status_len_bound { length status.now ≤ 128 }
-    ensures { Advanced n (was mesh) (was status) (was marks) (is table) result.refusal result.cells }
+    ensures { Advanced n mesh.now status.now marks.now table.new result.refusal result.cells }
 {
     let mut xs = [0u32; 768];
     let mut ys = [0u32; 768];
@@ -100,7 +99,7 @@ pub fn advance_many(
 ) -> NewTable
     requires held { Held n mesh.now rows.now status.now }
     requires marks_len { length marks.now ≡ length status.now }
-    ensures { Advanced n (was mesh) (was status) (was marks) (is table) result.refusal result.cells }
+    ensures { Advanced n mesh.now status.now marks.now table.new result.refusal result.cells }
 {
     let mut xs = [0u32; 3072];
     let mut ys = [0u32; 3072];

@@ -45,7 +45,7 @@ module _ (f : List ℕ → Bool) where
 
   chosen_in : (cs : List (Cell Point)) (l : List ℕ) → Memᴰ l (paths_of (chosen cs)) → Memᴰ l (paths_of cs) × T (f l)
   unfolding filterb
-  chosen_in [] l m = absurd (mathlib.Core.List.Memᴰ.not_nil m)
+  chosen_in [] l m = absurd (mathlib.Core.List.Memᴰ.not-nil m)
   chosen_in (c ∷ cs) l m = go (f c.path) refl (chosen_in cs l)
     where
       go : (b : Bool) → f c.path ≡ b → (Memᴰ l (paths_of (chosen cs)) → Memᴰ l (paths_of cs) × T (f l))
@@ -58,7 +58,7 @@ module _ (f : List ℕ → Bool) where
 
   in_chosen : (cs : List (Cell Point)) (l : List ℕ) → Memᴰ l (paths_of cs) → T (f l) → Memᴰ l (paths_of (chosen cs))
   unfolding filterb
-  in_chosen [] l m t = absurd (mathlib.Core.List.Memᴰ.not_nil m)
+  in_chosen [] l m t = absurd (mathlib.Core.List.Memᴰ.not-nil m)
   in_chosen (c ∷ cs) l m t = go (f c.path) refl (λ q. in_chosen cs l q t)
     where
       go : (b : Bool) → f c.path ≡ b → (Memᴰ l (paths_of cs) → Memᴰ l (paths_of (chosen cs)))

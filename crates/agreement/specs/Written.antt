@@ -46,7 +46,7 @@ module _ (ps : List ℤ) (ts ss : List ℕ) (Q : ℕ) (os b : List ℕ) (behind 
   none_own : (p : Fin (suc Q)) (r : ℕ) (m : List ℕ)
       → Memᴰ m (letters (parts (suc Q)) (R ps ts ss Q os b behind e) input r p p) → ⊥
   unfolding letters addressed
-  none_own p zero m i = Memᴰ.not_nil i
+  none_own p zero m i = Memᴰ.not-nil i
   none_own p (suc r) m i =
       let F = parts (suc Q) in
       let s = lock F (R ps ts ss Q os b behind e) input r p in
@@ -57,7 +57,7 @@ module _ (ps : List ℤ) (ts ss : List ℕ) (Q : ℕ) (os b : List ℕ) (behind 
       let l = letters F (R ps ts ss Q os b behind e) input r p p in
       ⊎_elim (λ (t : Memᴰ m l). none_own p r m t)
       (λ (t : Memᴰ m (addressed F (R ps ts ss Q os b behind e) input p p (mail_count F (R ps ts ss Q os b behind e) input r p p)
-      (mail F (R ps ts ss Q os b behind e) input r p p))). Memᴰ.not_nil (rw z at t))
+      (mail F (R ps ts ss Q os b behind e) input r p p))). Memᴰ.not-nil (rw z at t))
       (Memᴰ.append_cases l i)
 
   -- NONE TO SEND

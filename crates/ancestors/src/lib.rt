@@ -2,7 +2,6 @@
 #![tactic(auto)]
 
 ghost use Rattle.std.specs.Prelude.{◌≡◌, ◌+◌};
-ghost use Rattle.base.specs.Lent.{was};
 ghost use Rattle.ancestors.specs.Climb.{Upward, climb_from};
 
 #[derive(Drop)]
@@ -17,7 +16,7 @@ const NO_PARENT: u16 = 65535;
 // From a cell to its parent, and on, until a cell has none. The number of turns is the cell's level; no other column is read.
 pub fn climb(rows: &[u16], cell: usize) -> Ancestor
     requires { Upward rows.now (cell + 1) }
-    ensures { result ≡ climb_from (was rows) cell cell }
+    ensures { result ≡ climb_from rows.now cell cell }
 {
     let mut at = cell;
     let mut turns = 0;

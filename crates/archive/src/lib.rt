@@ -3,7 +3,6 @@
 
 ghost use Rattle.std.specs.Prelude.{◌≡◌, [], ◌∷◌, ◌+◌, ◌*◌, ◌/◌, ◌%◌, ◌≤◌, ◌<◌, T, length, drop};
 ghost use Rattle.std.proofs.lemmas.List.Edits.{sets};
-ghost use Rattle.base.specs.Lent.{was, is};
 ghost use Rattle.archive.specs.Job.{bytes, word, corner_bytes, cell_bytes, mark_bytes, job_bytes};
 ghost use Rattle.archive.specs.Form.{startsb, whole, signed, i32_at, corner_records, cell_records, formb, job_of};
 ghost use Rattle.archive.specs.Tables.{marked_of, marks_of, ends_of, steps_of};
@@ -37,7 +36,7 @@ struct Scan {
 // Whether a record of so many bytes with this letter stands at a place.
 fn starts(bytes: &[u8], at: usize, letter: u8, size: usize) -> bool
     requires { (at ≤ length bytes.now) × (1 ≤ size) }
-    ensures { result ≡ startsb letter size (drop at (was bytes)) }
+    ensures { result ≡ startsb letter size (drop at bytes.now) }
 {
     if bytes.len() - at < size {
         return false;
@@ -48,7 +47,7 @@ fn starts(bytes: &[u8], at: usize, letter: u8, size: usize) -> bool
 // The number of two bytes, least byte first.
 fn number(bytes: &[u8], at: usize) -> usize
     requires { at + 2 ≤ length bytes.now }
-    ensures { (result ≡ whole 2 (drop at (was bytes))) × (result < 65536) }
+    ensures { (result ≡ whole 2 (drop at bytes.now)) × (result < 65536) }
 {
     bytes[at] as usize + 256 * (bytes[at + 1] as usize)
 }
@@ -56,7 +55,7 @@ fn number(bytes: &[u8], at: usize) -> usize
 // How many records of one kind stand one after the other from a place on.
 fn count_records(bytes: &[u8], from: usize, letter: u8, size: usize) -> usize
     requires { (from ≤ length bytes.now) × (1 ≤ size) }
-    ensures { result ≡ records_in letter size (length (was bytes)) (drop from (was bytes)) }
+    ensures { result ≡ records_in letter size (length bytes.now) (drop from bytes.now) }
 {
     let mut at = from;
     let mut n = 0;
@@ -70,7 +69,7 @@ fn count_records(bytes: &[u8], from: usize, letter: u8, size: usize) -> usize
 // Whether a mark stands at a place, on the cell least or a later one.
 fn is_mark(bytes: &[u8], at: usize, least: usize) -> bool
     requires { at ≤ length bytes.now }
-    ensures { result ≡ mark_recordb least (drop at (was bytes)) }
+    ensures { result ≡ mark_recordb least (drop at bytes.now) }
 {
     if !starts(bytes, at, 77, 4) {
         return false;
@@ -87,7 +86,7 @@ fn is_mark(bytes: &[u8], at: usize, least: usize) -> bool
 // Whether the last record stands at a place, with no mark since the last step and nothing behind it.
 fn is_end(bytes: &[u8], at: usize, least: usize) -> bool
     requires { at ≤ length bytes.now }
-    ensures { result ≡ endb least (drop at (was bytes)) }
+    ensures { result ≡ endb least (drop at bytes.now) }
 {
     if !starts(bytes, at, 69, 1) {
         return false;
@@ -101,7 +100,7 @@ fn is_end(bytes: &[u8], at: usize, least: usize) -> bool
 // The marks and steps from a place on. A mark is on the cell least or a later one.
 fn scan_steps(bytes: &[u8], from: usize) -> Scan
     requires { from ≤ length bytes.now }
-    ensures { Scanned (was bytes) from result.ok result.marks result.steps }
+    ensures { Scanned bytes.now from result.ok result.marks result.steps }
 {
     let mut at = from;
     let mut least = 0;
@@ -135,7 +134,7 @@ fn scan_steps(bytes: &[u8], from: usize) -> Scan
 // Whether bytes are an archive in the form, and if so, how many records of each kind there are. If not, these four numbers are free: no
 // promise speaks of them (they are what was counted, and zeros where there are more than 65,536 bytes).
 pub fn examine_form(bytes: &[u8]) -> Form
-    ensures { FormExamined (was bytes) result }
+    ensures { FormExamined bytes.now result }
 {
     if bytes.len() > MOST_BYTES {
         return Form {
@@ -161,7 +160,7 @@ pub fn examine_form(bytes: &[u8]) -> Form
 // The number of four bytes, least byte first.
 fn wide_number(bytes: &[u8], at: usize) -> u32
     requires { at + 4 ≤ length bytes.now }
-    ensures { result ≡ whole 4 (drop at (was bytes)) }
+    ensures { result ≡ whole 4 (drop at bytes.now) }
 {
     number(bytes, at) as u32 + 65536 * (number(bytes, at + 2) as u32)
 }
@@ -180,7 +179,7 @@ fn signed_of(bits: u32) -> i32
 // The i32 of four bytes.
 fn coordinate(bytes: &[u8], at: usize) -> i32
     requires { at + 4 ≤ length bytes.now }
-    ensures { result ≡ i32_at (was bytes) at }
+    ensures { result ≡ i32_at bytes.now at }
 {
     signed_of(wide_number(bytes, at))
 }
@@ -189,8 +188,8 @@ fn coordinate(bytes: &[u8], at: usize) -> i32
 fn load_positions(bytes: &[u8], n: usize, positions: &mut [i32])
     requires n_value { n ≡ length (corner_records (length bytes.now) bytes.now).0 }
     requires n_in_bounds { n ≤ length positions.old }
-    ensures { is positions
-        ≡ in_front (corner_records (length (was bytes)) (was bytes)).0 (was positions) }
+    ensures { positions.new
+        ≡ in_front (corner_records (length bytes.now) bytes.now).0 positions.old }
 {
     for k in 0..n {
         positions[k] = coordinate(bytes, 13 * (k / 3) + 4 * (k % 3) + 1);
@@ -202,8 +201,8 @@ fn load_cells(bytes: &[u8], from: usize, n: usize, cells: &mut [u16])
     requires from_in_bounds { from ≤ length bytes.now }
     requires n_value { n ≡ length (cell_records (length bytes.now) (drop from bytes.now)).0 }
     requires n_in_bounds { n ≤ length cells.old }
-    ensures { is cells
-        ≡ in_front (cell_records (length (was bytes)) (drop from (was bytes))).0 (was cells) }
+    ensures { cells.new
+        ≡ in_front (cell_records (length bytes.now) (drop from bytes.now)).0 cells.old }
 {
     for k in 0..n {
         cells[k] = number(bytes, from + 9 * (k / 4) + 2 * (k % 4) + 1) as u16;
@@ -213,9 +212,9 @@ fn load_cells(bytes: &[u8], from: usize, n: usize, cells: &mut [u16])
 // The steps from a place on.
 fn load_steps(bytes: &[u8], from: usize, marked: &mut [u16], marks: &mut [u8], ends: &mut [u16])
     requires { StepsFit bytes.now from marked.old marks.old ends.old }
-    ensures marked_value { is marked ≡ in_front (marked_of (steps_at (was bytes) from).steps) (was marked) }
-    ensures marks_value { is marks ≡ in_front (marks_of (steps_at (was bytes) from).steps) (was marks) }
-    ensures ends_value { is ends ≡ in_front (ends_of (steps_at (was bytes) from).steps) (was ends) }
+    ensures marked_value { marked.new ≡ in_front (marked_of (steps_at bytes.now from).steps) marked.old }
+    ensures marks_value { marks.new ≡ in_front (marks_of (steps_at bytes.now from).steps) marks.old }
+    ensures ends_value { ends.new ≡ in_front (ends_of (steps_at bytes.now from).steps) ends.old }
 {
     let mut at = from;
     let mut m = 0;
@@ -247,9 +246,9 @@ pub fn load(
     requires t { T (formb bytes.now) }
     requires counts_of { CountsOf bytes.now form }
     requires load_room { LoadRoom (job_of bytes.now) positions.old cells.old marked.old marks.old ends.old }
-    ensures { Loaded (job_of (was bytes))
-        (was positions) (was cells) (was marked) (was marks) (was ends)
-        (is positions) (is cells) (is marked) (is marks) (is ends) }
+    ensures { Loaded (job_of bytes.now)
+        positions.old cells.old marked.old marks.old ends.old
+        positions.new cells.new marked.new marks.new ends.new }
 {
     load_positions(bytes, 3 * form.corners, positions);
     load_cells(bytes, 13 * form.corners, 4 * form.cells, cells);
@@ -265,7 +264,7 @@ pub fn load(
 // Stores a number as two bytes.
 fn put_number(out: &mut [u8], at: usize, x: u16)
     requires { at + 2 ≤ length out.old }
-    ensures { is out ≡ sets (was out) at (bytes 2 x) }
+    ensures { out.new ≡ sets out.old at (bytes 2 x) }
 {
     out[at] = (x % 256) as u8;
     out[at + 1] = (x / 256) as u8;
@@ -274,7 +273,7 @@ fn put_number(out: &mut [u8], at: usize, x: u16)
 // Stores a number as four bytes.
 fn put_wide(out: &mut [u8], at: usize, x: u32)
     requires { at + 4 ≤ length out.old }
-    ensures { is out ≡ sets (was out) at (bytes 4 x) }
+    ensures { out.new ≡ sets out.old at (bytes 4 x) }
 {
     put_number(out, at, (x % 65536) as u16);
     put_number(out, at + 2, (x / 65536) as u16);
@@ -294,7 +293,7 @@ fn bits_of(z: i32) -> u32
 // Stores a corner's record.
 fn put_corner(out: &mut [u8], at: usize, x: i32, y: i32, z: i32)
     requires { at + 13 ≤ length out.old }
-    ensures { is out ≡ sets (was out) at (corner_bytes (x ∷ y ∷ z ∷ [])) }
+    ensures { out.new ≡ sets out.old at (corner_bytes (x ∷ y ∷ z ∷ [])) }
 {
     out[at] = 86;
     put_wide(out, at + 1, bits_of(x));
@@ -305,7 +304,7 @@ fn put_corner(out: &mut [u8], at: usize, x: i32, y: i32, z: i32)
 // Stores a cell's record.
 fn put_cell(out: &mut [u8], at: usize, a: u16, b: u16, c: u16, d: u16)
     requires { at + 9 ≤ length out.old }
-    ensures { is out ≡ sets (was out) at (cell_bytes (a ∷ b ∷ c ∷ d ∷ [])) }
+    ensures { out.new ≡ sets out.old at (cell_bytes (a ∷ b ∷ c ∷ d ∷ [])) }
 {
     out[at] = 84;
     put_number(out, at + 1, a);
@@ -317,7 +316,7 @@ fn put_cell(out: &mut [u8], at: usize, a: u16, b: u16, c: u16, d: u16)
 // Stores a mark's record.
 fn put_mark(out: &mut [u8], at: usize, cell: u16, mark: u8)
     requires { at + 4 ≤ length out.old }
-    ensures { is out ≡ sets (was out) at (mark_bytes (cell, mark)) }
+    ensures { out.new ≡ sets out.old at (mark_bytes (cell, mark)) }
 {
     out[at] = 77;
     put_number(out, at + 1, cell);
@@ -328,7 +327,7 @@ fn put_mark(out: &mut [u8], at: usize, cell: u16, mark: u8)
 fn store_corners(positions: &[i32], out: &mut [u8])
     requires positions_len { length positions.now % 3 ≡ 0 }
     requires positions_in_bounds { 13 * (length positions.now / 3) ≤ length out.old }
-    ensures { is out ≡ sets (was out) 0 (corner_bytes (was positions)) }
+    ensures { out.new ≡ sets out.old 0 (corner_bytes positions.now) }
 {
     let n = positions.len() / 3;
     for i in 0..n {
@@ -346,7 +345,7 @@ fn store_corners(positions: &[i32], out: &mut [u8])
 fn store_cells(cells: &[u16], from: usize, out: &mut [u8])
     requires cells_len { length cells.now % 4 ≡ 0 }
     requires cells_in_bounds { from + 9 * (length cells.now / 4) ≤ length out.old }
-    ensures { is out ≡ sets (was out) from (cell_bytes (was cells)) }
+    ensures { out.new ≡ sets out.old from (cell_bytes cells.now) }
 {
     let n = cells.len() / 4;
     for i in 0..n {
@@ -365,9 +364,9 @@ fn store_cells(cells: &[u16], from: usize, out: &mut [u8])
 fn store_steps(marked: &[u16], marks: &[u8], ends: &[u16], from: usize, out: &mut [u8]) -> usize
     requires ends_rise { EndsRise marked.now marks.now ends.now }
     requires ends_in_bounds { from + length (steps_bytes (steps_of marked.now marks.now ends.now)) ≤ length out.old }
-    ensures out_value { is out
-        ≡ sets (was out) from (steps_bytes (steps_of (was marked) (was marks) (was ends))) }
-    ensures value { result ≡ from + length (steps_bytes (steps_of (was marked) (was marks) (was ends))) }
+    ensures out_value { out.new
+        ≡ sets out.old from (steps_bytes (steps_of marked.now marks.now ends.now)) }
+    ensures value { result ≡ from + length (steps_bytes (steps_of marked.now marks.now ends.now)) }
 {
     let mut at = from;
     let mut m = 0;
@@ -398,11 +397,11 @@ pub fn store(
 ) -> usize
     requires storable { Storable positions.now cells.now marked.now marks.now ends.now }
     requires ends_in_bounds { length (job_bytes (job_from positions.now cells.now marked.now marks.now ends.now)) ≤ length bytes.old }
-    ensures bytes_value { is bytes
-        ≡ in_front (job_bytes (job_from (was positions) (was cells) (was marked) (was marks) (was ends)))
-        (was bytes) }
+    ensures bytes_value { bytes.new
+        ≡ in_front (job_bytes (job_from positions.now cells.now marked.now marks.now ends.now))
+        bytes.old }
     ensures value { result
-        ≡ length (job_bytes (job_from (was positions) (was cells) (was marked) (was marks) (was ends))) }
+        ≡ length (job_bytes (job_from positions.now cells.now marked.now marks.now ends.now)) }
 {
     store_corners(positions, bytes);
     let from = 13 * (positions.len() / 3);

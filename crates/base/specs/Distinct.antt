@@ -24,7 +24,7 @@ module _ {A : Type 0} where
 
   pub flat_in : (f : ℕ → List A) (l : List ℕ) (a : A) → Memᴰ a (flat_map f l) → (x : ℕ) × Member x l × Memᴰ a (f x)
   unfolding flat_map
-  flat_in f [] a t = absurd (mathlib.Core.List.Memᴰ.not_nil t)
+  flat_in f [] a t = absurd (mathlib.Core.List.Memᴰ.not-nil t)
   flat_in f (y ∷ l) a t =
       ⊎_elim (λ (u : Memᴰ a (f y)). (y, member_head y l, u))
       (λ (u : Memᴰ a (flat_map f l)). let (x, m, v) = flat_in f l a u in (x, member_tail x y l m, v)) (mathlib.Core.List.Memᴰ.append_cases (f y) t)
@@ -36,13 +36,13 @@ module _ {A : Type 0} where
       ⊎_elim (λ (e : x ≡ y). mathlib.Core.List.Memᴰ.head (ap f e)) (λ (n : Member x l). mathlib.Core.List.Memᴰ.tail (in_map f l x n)) (member_cases x y l m)
 
   pub map_in : (f : ℕ → A) (l : List ℕ) (a : A) → Memᴰ a (map f l) → (x : ℕ) × Member x l × (a ≡ f x)
-  map_in f [] a t = absurd (mathlib.Core.List.Memᴰ.not_nil t)
+  map_in f [] a t = absurd (mathlib.Core.List.Memᴰ.not-nil t)
   map_in f (y ∷ l) a t =
       ⊎_elim (λ (e : a ≡ f y). (y, member_head y l, e))
       (λ (u : Memᴰ a (map f l)). let (x, m, v) = map_in f l a u in (x, member_tail x y l m, v)) (mathlib.Core.List.Memᴰ.cases_cons t)
 
   pub only_one : (a x : A) → Memᴰ a (x ∷ []) → a ≡ x
-  only_one a x m = ⊎_elim (λ (q : a ≡ x). q) (λ (q : Memᴰ a []). absurd (mathlib.Core.List.Memᴰ.not_nil q)) (mathlib.Core.List.Memᴰ.cases_cons m)
+  only_one a x m = ⊎_elim (λ (q : a ≡ x). q) (λ (q : Memᴰ a []). absurd (mathlib.Core.List.Memᴰ.not-nil q)) (mathlib.Core.List.Memᴰ.cases_cons m)
 
 module _ {A : Type 0} where
   abbrev pub NoDup : List A → Type 0

@@ -7,7 +7,6 @@ pub mod Append
 pub mod Places
 pub mod Fours
 pub mod Refuse
-pub mod Lent
 pub mod Limits
 pub mod Integers
 pub mod Range

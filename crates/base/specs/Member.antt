@@ -5,7 +5,7 @@
 -- joined lists), any_agree, all_agree, filter_agree (tests that agree on a
 -- list), map-agree (functions that do).
 use Rattle.std.specs.Prelude.{◌≡◌, ◌⊎◌, Bool, ℕ, eqb}
-use Rattle.std.proofs.Math.Path.{refl, ap₂}
+use Rattle.std.proofs.Math.Path.{refl, ap₂, subst, sym}
 use Rattle.std.proofs.Common.{ap, inl, inr, eqb→eq, eq-eqb}
 use Rattle.std.proofs.Math.Logic.{⊎_elim}
 use Rattle.std.proofs.Math.Bool.{true, false, ◌&&◌, ◌||◌}
@@ -54,7 +54,7 @@ module _ (f : ℕ → Bool) where
       go : (b : Bool) → f y ≡ b → (Member x (filterb f l) → Member x l × T (f x)) → Member x (y ∷ l) × T (f x)
       go true e r =
           let n : Member x (y ∷ filterb f l) = rw (e, filterb) at m in
-          ⊎_elim (λ (q : x ≡ y). (rw q (member_head y l), rw (q, e) tt)) (λ (q : Member x (filterb f l)). let (a, b) = r q in
+          ⊎_elim (λ (q : x ≡ y). (subst (λ (z : ℕ). Member z (y ∷ l)) (sym q) (member_head y l), rw (q, e) tt)) (λ (q : Member x (filterb f l)). let (a, b) = r q in
           (member_tail x y l a, b)) (member_cases x y (filterb f l) n)
       go false e r = let n : Member x (filterb f l) = rw (e, filterb) at m in let (a, b) = r n in (member_tail x y l a, b)
 
@@ -64,7 +64,7 @@ module _ (f : ℕ → Bool) where
   member_filtered (y ∷ l) x m t = go (f y) refl (member_filtered l x)
     where
       go : (b : Bool) → f y ≡ b → (Member x l → T (f x) → Member x (filterb f l)) → Member x (filterb f (y ∷ l))
-      go true e r = rw (e, filterb) (⊎_elim (λ (q : x ≡ y). rw q (member_head y (filterb f l)))
+      go true e r = rw (e, filterb) (⊎_elim (λ (q : x ≡ y). subst (λ (z : ℕ). Member z (y ∷ filterb f l)) (sym q) (member_head y (filterb f l)))
           (λ (q : Member x l). member_tail x y (filterb f l) (r q t)) (member_cases x y l m))
       go false e r = rw (e, filterb) (⊎_elim (λ (q : x ≡ y). absurd (rw (q, e) at t)) (λ (q : Member x l). r q t) (member_cases x y l m))
 

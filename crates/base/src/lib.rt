@@ -3,7 +3,6 @@
 
 ghost use Rattle.std.specs.Prelude.{◌≡◌, ◌++◌, ◌≤◌, length, take, drop};
 ghost use Rattle.base.specs.Refuse.{code_of};
-ghost use Rattle.base.specs.Lent.{was, is};
 
 // The limits of specs/Limits.
 pub const MOST_COARSE_CORNERS: usize = 512;
@@ -60,7 +59,7 @@ pub fn code(answer: Answer) -> u8
 // Copies the first n numbers.
 pub fn copy_numbers(from: &[u16], n: usize, to: &mut [u16])
     requires { (n ≤ length from.now) × (n ≤ length to.old) }
-    ensures { is to ≡ take n (was from) ++ drop n (was to) }
+    ensures { to.new ≡ take n from.now ++ drop n to.old }
 {
     for i in 0..n {
         to[i] = from[i];
@@ -70,7 +69,7 @@ pub fn copy_numbers(from: &[u16], n: usize, to: &mut [u16])
 // Copies the first n bytes.
 pub fn copy_bytes(from: &[u8], n: usize, to: &mut [u8])
     requires { (n ≤ length from.now) × (n ≤ length to.old) }
-    ensures { is to ≡ take n (was from) ++ drop n (was to) }
+    ensures { to.new ≡ take n from.now ++ drop n to.old }
 {
     for i in 0..n {
         to[i] = from[i];

@@ -4,7 +4,6 @@
 ghost use Rattle.std.specs.Prelude.{◌≡◌, false, [], ◌∷◌, ◌+◌, ◌-◌, ◌≤◌, ◌<◌};
 ghost use Rattle.base.specs.Bools.{one_if};
 ghost use Rattle.base.specs.Places.{hasb};
-ghost use Rattle.base.specs.Lent.{was};
 ghost use Rattle.mesh.specs.Cells.{edge, bits_of};
 ghost use Rattle.probing.specs.Probed.{Probed};
 ghost use Rattle.edges.specs.Pairs.{isb, sorted};
@@ -36,7 +35,7 @@ pub fn is_held(
 ) -> bool
     requires looks { Looks cells.now xs.now ys.now heads.now links.now (c + 1) from n }
     requires e_bound { e < 6 }
-    ensures { result ≡ hasb isb (listed (was xs) (was ys) from n) (sorted (edge 0 (cell_at (was cells) c) e)) }
+    ensures { result ≡ hasb isb (listed xs.now ys.now from n) (sorted (edge 0 (cell_at cells.now c) e)) }
 {
     let ends = rows::edge_of(cells, c, e);
     edges::holds(xs, ys, heads, links, from, n, ends.a, ends.b)
@@ -73,7 +72,7 @@ pub fn is_near(
     n: usize,
 ) -> bool
     requires { Looks cells.now xs.now ys.now heads.now links.now (c + 1) from n }
-    ensures { result ≡ false → Unlisted (listed (was xs) (was ys) from n) (cell_at (was cells) c) }
+    ensures { result ≡ false → Unlisted (listed xs.now ys.now from n) (cell_at cells.now c) }
 {
     two_of(
         probing::may_meet(xs, ys, heads, links, from, n, cells[8 * c + 4]),
@@ -95,7 +94,7 @@ fn pattern_searched(
     n: usize,
 ) -> u8
     requires { Looks cells.now xs.now ys.now heads.now links.now (c + 1) from n }
-    ensures { result ≡ listed_pattern (listed (was xs) (was ys) from n) (cell_at (was cells) c) }
+    ensures { result ≡ listed_pattern (listed xs.now ys.now from n) (cell_at cells.now c) }
 {
     bits(
         is_held(cells, c, 0, xs, ys, heads, links, from, n),
@@ -121,7 +120,7 @@ fn probe_edge(
 ) -> usize
     requires looks { Looks cells.now xs.now ys.now heads.now links.now (c + 1) from n }
     requires from_lt_n { (from < n) × (e < 6) }
-    ensures { Probed (hasb isb (listed (was xs) (was ys) from n) (sorted (edge 0 (cell_at (was cells) c) e))) result }
+    ensures { Probed (hasb isb (listed xs.now ys.now from n) (sorted (edge 0 (cell_at cells.now c) e))) result }
 {
     let ends = rows::edge_of(cells, c, e);
     probing::probe(xs, ys, heads, links, from, n, ends.a, ends.b)
@@ -141,7 +140,7 @@ pub fn pattern_in(
 ) -> u8
     requires looks { Looks cells.now xs.now ys.now heads.now links.now (c + 1) from n }
     requires from_lt_n { from < n }
-    ensures { result ≡ listed_pattern (listed (was xs) (was ys) from n) (cell_at (was cells) c) }
+    ensures { result ≡ listed_pattern (listed xs.now ys.now from n) (cell_at cells.now c) }
 {
     let p = probe_edge(cells, c, 0, xs, ys, heads, links, from, n);
     let q = probe_edge(cells, c, 1, xs, ys, heads, links, from, n);
@@ -167,7 +166,7 @@ pub fn pattern_of(
     n: usize,
 ) -> u8
     requires { Looks cells.now xs.now ys.now heads.now links.now (c + 1) from n }
-    ensures { result ≡ listed_pattern (listed (was xs) (was ys) from n) (cell_at (was cells) c) }
+    ensures { result ≡ listed_pattern (listed xs.now ys.now from n) (cell_at cells.now c) }
 {
     if from == n {
         return 0;
@@ -191,7 +190,7 @@ fn status_of(
     n: usize,
 ) -> u8
     requires { Looks cells.now xs.now ys.now heads.now links.now (c + 1) from n }
-    ensures { result ≡ listed_status (listed (was xs) (was ys) from n) red (cell_at (was cells) c) }
+    ensures { result ≡ listed_status (listed xs.now ys.now from n) red (cell_at cells.now c) }
 {
     if !rows::is_regular(cells, c) {
         return 0;
@@ -223,8 +222,8 @@ pub fn closed_level(
 ) -> bool
     requires range { Range status.now first last }
     requires looks { Looks cells.now xs.now ys.now heads.now links.now last from n }
-    ensures { result ≡ listed_closed (listed (was xs) (was ys) from n) (cells_at (was cells) first (last - first))
-        (part (was status) first (last - first)) }
+    ensures { result ≡ listed_closed (listed xs.now ys.now from n) (cells_at cells.now first (last - first))
+        (part status.now first (last - first)) }
 {
     let mut c = first;
     while c < last {

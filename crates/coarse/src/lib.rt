@@ -4,7 +4,6 @@
 ghost use Rattle.std.specs.Prelude.{◌≡◌, not, [], ◌+◌, ◌*◌, ◌/◌, ◌<◌, leb, nat_abs, length, get_or};
 ghost use Rattle.base.specs.Fours.{fours};
 ghost use Rattle.pairs.specs.Keys.{Clear};
-ghost use Rattle.base.specs.Lent.{was, is};
 ghost use Rattle.cutting.specs.Rule.{zerob};
 ghost use Rattle.mesh.specs.Coarse.{countsb, positionsb, cellb, cellsb, coordinate_at, determinant, solidb, twiceb, singleb, mesh_answer};
 ghost use Rattle.coarse.specs.Cells.{corners_of_cell, face_corners, face_of_four, PlacedCells, Ranked, crowdedb};
@@ -32,7 +31,7 @@ struct Face {
 
 // Refusal 1: how many corners and cells.
 fn counts_ok(positions: &[i32], cells: &[u16]) -> bool
-    ensures { result ≡ countsb (was positions) (was cells) }
+    ensures { result ≡ countsb positions.now cells.now }
 {
     if positions.len() % 3 != 0 {
         return false;
@@ -66,7 +65,7 @@ fn within(z: i32) -> bool
 
 // Refusal 2: each number of a position.
 fn positions_ok(positions: &[i32]) -> bool
-    ensures { result ≡ positionsb (was positions) }
+    ensures { result ≡ positionsb positions.now }
 {
     for i in 0..positions.len() {
         if !within(positions[i]) {
@@ -79,7 +78,7 @@ fn positions_ok(positions: &[i32]) -> bool
 // Cell k of the flat list.
 fn cell_at(cells: &[u16], k: usize) -> Cell
     requires { k < length cells.now / 4 }
-    ensures { corners_of_cell result ≡ get_or (fours (was cells)) k [] }
+    ensures { corners_of_cell result ≡ get_or (fours cells.now) k [] }
 {
     Cell {
         a: cells[4 * k],
@@ -107,7 +106,7 @@ fn ascending(q: Cell, count: usize) -> bool
 
 // Refusal 3: each cell's corner numbers.
 fn cells_ok(cells: &[u16], count: usize) -> bool
-    ensures { result ≡ cellsb count (fours (was cells)) }
+    ensures { result ≡ cellsb count (fours cells.now) }
 {
     for k in 0..cells.len() / 4 {
         if !ascending(cell_at(cells, k), count) {
@@ -121,7 +120,7 @@ fn cells_ok(cells: &[u16], count: usize) -> bool
 fn coordinate_of(positions: &[i32], corner: u16, axis: usize) -> i64
     requires corner_there { CornerThere positions.now corner }
     requires axis_bound { axis < 3 }
-    ensures { (result ≡ coordinate_at (was positions) corner axis) × Small 500000 result }
+    ensures { (result ≡ coordinate_at positions.now corner axis) × Small 500000 result }
 {
     positions[3 * corner as usize + axis] as i64
 }
@@ -131,7 +130,7 @@ fn edge(positions: &[i32], a: u16, b: u16, axis: usize) -> i64
     requires corner_there { CornerThere positions.now a }
     requires corner_there_2 { CornerThere positions.now b }
     requires axis_bound { axis < 3 }
-    ensures { (result ≡ edge_vector (was positions) a b axis) × Small 1000000 result }
+    ensures { (result ≡ edge_vector positions.now a b axis) × Small 1000000 result }
 {
     coordinate_of(positions, b, axis) - coordinate_of(positions, a, axis)
 }
@@ -140,7 +139,7 @@ fn edge(positions: &[i32], a: u16, b: u16, axis: usize) -> i64
 fn term(positions: &[i32], a: u16, b: u16, c: u16, d: u16, i: usize, j: usize, k: usize) -> i64
     requires corners_there { CornersThere positions.now a b c d }
     requires i_bound { (i < 3) × (j < 3) × (k < 3) }
-    ensures { (result ≡ term_of (was positions) a b c d i j k) × Small 2000000000000000000 result }
+    ensures { (result ≡ term_of positions.now a b c d i j k) × Small 2000000000000000000 result }
 {
     let p = edge(positions, a, c, j) * edge(positions, a, d, k);
     let q = edge(positions, a, c, k) * edge(positions, a, d, j);
@@ -150,7 +149,7 @@ fn term(positions: &[i32], a: u16, b: u16, c: u16, d: u16, i: usize, j: usize, k
 // Whether a cell is not flat.
 fn solid_cell(positions: &[i32], cell: Cell) -> bool
     requires { CornersThere positions.now cell.a cell.b cell.c cell.d }
-    ensures { result ≡ not (zerob (determinant (was positions) (corners_of_cell cell))) }
+    ensures { result ≡ not (zerob (determinant positions.now (corners_of_cell cell))) }
 {
     let a = cell.a;
     let b = cell.b;
@@ -165,7 +164,7 @@ fn solid_cell(positions: &[i32], cell: Cell) -> bool
 // Refusal 4: no cell is flat.
 fn solid(positions: &[i32], cells: &[u16]) -> bool
     requires { PlacedCells positions.now cells.now }
-    ensures { result ≡ solidb (was positions) (fours (was cells)) }
+    ensures { result ≡ solidb positions.now (fours cells.now) }
 {
     for k in 0..cells.len() / 4 {
         if !solid_cell(positions, cell_at(cells, k)) {
@@ -194,7 +193,7 @@ fn tally(
     y: u32,
 ) -> Counted
     requires { Open xs.old ys.old heads.old links.old counts.old n x y }
-    ensures { Tallied (was xs) (was ys) (was counts) n x y (is xs) (is ys) (is heads) (is links) (is counts) result.n result.count }
+    ensures { Tallied xs.old ys.old counts.old n x y xs.new ys.new heads.new links.new counts.new result.n result.count }
 {
     let e = pairs::find(xs, ys, heads, links, 0, n, x, y);
     if e == 65535 {
@@ -226,8 +225,8 @@ fn cells_differ(
     requires ranked { Ranked cells.now }
     requires tables { Tables xs.old ys.old heads.old links.old counts.old }
     requires clear { Clear heads.old }
-    ensures value { result ≡ not (twiceb (fours (was cells))) }
-    ensures tables_2 { Tables (is xs) (is ys) (is heads) (is links) (is counts) }
+    ensures value { result ≡ not (twiceb (fours cells.now)) }
+    ensures tables_2 { Tables xs.new ys.new heads.new links.new counts.new }
 {
     let mut n: usize = 0;
     for k in 0..cells.len() / 4 {
@@ -246,7 +245,7 @@ fn cells_differ(
 // Face i of the cells: the cell i / 4 without its corner i % 4.
 fn face_at(cells: &[u16], i: usize) -> Face
     requires { i / 4 < length cells.now / 4 }
-    ensures { face_corners result ≡ face_of_four (was cells) i }
+    ensures { face_corners result ≡ face_of_four cells.now i }
 {
     let q = cell_at(cells, i / 4);
     let out = i % 4;
@@ -289,7 +288,7 @@ fn faces_ok(
 ) -> bool
     requires ranked { Ranked cells.now }
     requires tables { Tables xs.old ys.old heads.old links.old counts.old }
-    ensures { result ≡ not (crowdedb (fours (was cells))) }
+    ensures { result ≡ not (crowdedb (fours cells.now)) }
 {
     pairs::clear(heads);
     let mut n: usize = 0;
@@ -309,7 +308,7 @@ fn faces_ok(
 // Refusal 5: no two cells with the same corners, no face in three cells.
 fn single(cells: &[u16]) -> bool
     requires { Ranked cells.now }
-    ensures { result ≡ singleb (fours (was cells)) }
+    ensures { result ≡ singleb (fours cells.now) }
 {
     let mut xs = [0u32; 1024];
     let mut ys = [0u32; 1024];
@@ -324,7 +323,7 @@ fn single(cells: &[u16]) -> bool
 
 // Whether a coarse mesh is accepted, and if not, why.
 pub fn examine_mesh(positions: &[i32], cells: &[u16]) -> Answer
-    ensures { result ≡ mesh_answer (was positions) (was cells) }
+    ensures { result ≡ mesh_answer positions.now cells.now }
 {
     if !counts_ok(positions, cells) {
         return Answer::Refused(1);

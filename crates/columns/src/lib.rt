@@ -3,7 +3,6 @@
 
 ghost use Rattle.std.specs.Prelude.{◌≡◌, ◌&&◌, true, suc, ◌+◌, ◌-◌, ◌*◌, ◌≤◌, ◌<◌, eqb, leb, length, get_or};
 ghost use Rattle.base.specs.Bools.{one_if};
-ghost use Rattle.base.specs.Lent.{was, is};
 ghost use Rattle.base.specs.Limits.{most_cells};
 ghost use Rattle.base.specs.Lists.{allb};
 ghost use Rattle.base.specs.Range.{range};
@@ -20,7 +19,7 @@ use store::{DIGITS, HEAD, MORE, OWNER, Place};
 fn family_of(owners: &[u8], kids: &[u16], c: usize) -> u8
     requires first_kids { FirstKids kids.now (length owners.now) }
     requires c_in_bounds { c < length owners.now }
-    ensures { result ≡ family_by (was kids) (was owners) c }
+    ensures { result ≡ family_by kids.now owners.now c }
 {
     let first = kids[c] as usize;
     let last = kids[c + 1] as usize;
@@ -34,8 +33,8 @@ fn family_of(owners: &[u8], kids: &[u16], c: usize) -> u8
 fn one_owner(owners: &[u8], kids: &[u16], c: usize) -> bool
     requires first_kids { FirstKids kids.now (length owners.now) }
     requires c_in_bounds { c < length owners.now }
-    ensures { result ≡ allb (λ d. eqb (get_or (was owners) d 0) (family_by (was kids) (was owners) c))
-        (range (get_or (was kids) c 0) (get_or (was kids) (suc c) 0 - get_or (was kids) c 0)) }
+    ensures { result ≡ allb (λ d. eqb (get_or owners.now d 0) (family_by kids.now owners.now c))
+        (range (get_or kids.now c 0) (get_or kids.now (suc c) 0 - get_or kids.now c 0)) }
 {
     let owner = family_of(owners, kids, c);
     let mut d = kids[c] as usize;
@@ -51,7 +50,7 @@ fn one_owner(owners: &[u8], kids: &[u16], c: usize) -> bool
 
 // Whether each owner is a part.
 fn are_parts(owners: &[u8], parts: usize) -> bool
-    ensures { result ≡ allb (λ o. leb 1 o && leb o parts) (was owners) }
+    ensures { result ≡ allb (λ o. leb 1 o && leb o parts) owners.now }
 {
     let mut c = 0;
     while c < owners.len() {
@@ -71,7 +70,7 @@ fn are_parts(owners: &[u8], parts: usize) -> bool
 // children of a cell.
 pub fn owners_fit(owners: &[u8], status: &[u8], parts: usize, kids: &[u16]) -> bool
     requires { FirstKids kids.now (length status.now) }
-    ensures { result ≡ owners_by (was status) (was kids) parts (was owners) }
+    ensures { result ≡ owners_by status.now kids.now parts owners.now }
 {
     if owners.len() != status.len() {
         return false;
@@ -92,7 +91,7 @@ pub fn owners_fit(owners: &[u8], status: &[u8], parts: usize, kids: &[u16]) -> b
 // 1 where the edge e of the cell c is not also one of the cell g, else 0.
 fn outer(rows: &[u16], g: usize, c: usize, e: usize) -> u16
     requires { (8 * g + 8 ≤ length rows.now) × (8 * c + 8 ≤ length rows.now) × (e < 6) }
-    ensures { result ≡ one_if (outerb (was rows) g c e) }
+    ensures { result ≡ one_if (outerb rows.now g c e) }
 {
     let own = rows::edge_of(rows, c, e);
     if separation::has_edge(rows, g, own.a, own.b) {
@@ -105,7 +104,7 @@ fn outer(rows: &[u16], g: usize, c: usize, e: usize) -> u16
 fn inner_of(rows: &[u16], c: usize) -> u16
     requires c_in_bounds { 8 * c + 8 ≤ length rows.now }
     requires c_bound { 0 < level_in rows.now c → parent_in rows.now c < c }
-    ensures { result ≡ inner_by (was rows) c }
+    ensures { result ≡ inner_by rows.now c }
 {
     if rows[8 * c] == 0 {
         return 0;
@@ -131,7 +130,7 @@ const MORE_COLUMN: usize = MORE - OWNER;
 fn place_of(rows: &[u16], cols: &[u16], c: usize) -> Place
     requires c_in_bounds { (8 * c + 8 ≤ length rows.now) × (c < most_cells) × (length cols.now ≡ columns_length) }
     requires parent_placed { ParentPlaced rows.now cols.now c }
-    ensures { result ≡ place_by (was rows) (level_in (was rows) c) c }
+    ensures { result ≡ place_by rows.now (level_in rows.now c) c }
 {
     if rows[8 * c] == 0 {
         return Place {
@@ -161,7 +160,7 @@ fn ten_of(
     requires sources { Sources rows.now status.now kids.now owners.now }
     requires c_in_bounds { (c < length status.now) × (length cols.now ≡ columns_length) }
     requires filled { Filled rows.now status.now kids.now owners.now c cols.now }
-    ensures { result ≡ ten_of (was rows) (was status) (was kids) (was owners) c }
+    ensures { result ≡ ten_of rows.now status.now kids.now owners.now c }
 {
     let family = family_of(owners, kids, c);
     let p = place_of(rows, cols, c);
@@ -183,7 +182,7 @@ fn ten_of(
 // Writes the ten numbers of a cell, one into each column.
 fn put_ten(cols: &mut [u16], c: usize, ten: &[u16; 10])
     requires { (length cols.old ≡ columns_length) × (c < most_cells) }
-    ensures { WroteAt (λ j. most_cells * j + c) (λ j. get_or (was ten) j 0) 10 (was cols) (is cols) }
+    ensures { WroteAt (λ j. most_cells * j + c) (λ j. get_or ten.now j 0) 10 cols.old cols.new }
 {
     let mut j = 0;
     while j < 10 {
@@ -196,7 +195,7 @@ fn put_ten(cols: &mut [u16], c: usize, ten: &[u16; 10])
 pub fn fill(rows: &[u16], status: &[u8], kids: &[u16], owners: &[u8], cols: &mut [u16])
     requires sources { Sources rows.now status.now kids.now owners.now }
     requires cols_len { length cols.old ≡ columns_length }
-    ensures { Filled (was rows) (was status) (was kids) (was owners) (length (was status)) (is cols) }
+    ensures { Filled rows.now status.now kids.now owners.now (length status.now) cols.new }
 {
     let mut c = 0;
     while c < status.len() {

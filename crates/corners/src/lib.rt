@@ -4,7 +4,6 @@
 
 ghost use Rattle.std.specs.Prelude.{◌≡◌, [], ◌++◌, ◌∷◌, ◌+◌, ◌*◌, ◌≤◌, ◌<◌, length, take, drop, pos, ◌+ℤ◌, ◌*ℤ◌};
 ghost use Rattle.std.proofs.lemmas.List.Edits.{sets};
-ghost use Rattle.base.specs.Lent.{was, is};
 ghost use Rattle.base.specs.Limits.{most_corners};
 ghost use Rattle.mesh.specs.Coarse.{coordinate_at};
 ghost use Rattle.corners.specs.Ends.{Ends, coarse_ends, add_ends, end_numbers};
@@ -13,7 +12,7 @@ ghost use Rattle.corners.specs.Sums.{SmallSum, Smalls, SumHeld, half, coarse_sum
 // Stores the two ends of a corner.
 fn put_ends(ends: &mut [u16], at: usize, low: u16, high: u16)
     requires { at + 2 ≤ length ends.old }
-    ensures { is ends ≡ sets (was ends) at (low ∷ high ∷ []) }
+    ensures { ends.new ≡ sets ends.old at (low ∷ high ∷ []) }
 {
     ends[at] = low;
     ends[at + 1] = high;
@@ -23,7 +22,7 @@ fn put_ends(ends: &mut [u16], at: usize, low: u16, high: u16)
 fn coarse_ends(n: usize, ends: &mut [u16])
     requires n_le_most_corners { n ≤ most_corners }
     requires n_in_bounds { 2 * n ≤ length ends.old }
-    ensures { is ends ≡ coarse_ends n ++ drop (2 * n) (was ends) }
+    ensures { ends.new ≡ coarse_ends n ++ drop (2 * n) ends.old }
 {
     for i in 0..n {
         put_ends(ends, 2 * i, i as u16, i as u16);
@@ -35,9 +34,9 @@ fn new_ends(xs: &[u32], ys: &[u32], n: usize, m: usize, ends: &mut [u16])
     requires ends { Ends n xs.now ys.now m }
     requires m_bound { n + m ≤ most_corners }
     requires m_in_bounds { 2 * (n + m) ≤ length ends.old }
-    ensures { is ends
-        ≡ add_ends (take (2 * n) (was ends)) (was xs) (was ys) m
-        ++ drop (2 * (n + m)) (was ends) }
+    ensures { ends.new
+        ≡ add_ends (take (2 * n) ends.old) xs.now ys.now m
+        ++ drop (2 * (n + m)) ends.old }
 {
     for j in 0..m {
         put_ends(ends, 2 * (n + j), xs[j] as u16, ys[j] as u16);
@@ -49,8 +48,8 @@ pub fn fill_ends(xs: &[u32], ys: &[u32], n: usize, m: usize, ends: &mut [u16])
     requires ends { Ends n xs.now ys.now m }
     requires m_bound { n + m ≤ most_corners }
     requires m_in_bounds { 2 * (n + m) ≤ length ends.old }
-    ensures { is ends
-        ≡ end_numbers n (was xs) (was ys) m ++ drop (2 * (n + m)) (was ends) }
+    ensures { ends.new
+        ≡ end_numbers n xs.now ys.now m ++ drop (2 * (n + m)) ends.old }
 {
     coarse_ends(n, ends);
     new_ends(xs, ys, n, m, ends);
@@ -59,7 +58,7 @@ pub fn fill_ends(xs: &[u32], ys: &[u32], n: usize, m: usize, ends: &mut [u16])
 // Stores the three sums of a corner.
 fn put_sums(sums: &mut [i32], at: usize, x: i32, y: i32, z: i32)
     requires { at + 3 ≤ length sums.old }
-    ensures { is sums ≡ sets (was sums) at (x ∷ y ∷ z ∷ []) }
+    ensures { sums.new ≡ sets sums.old at (x ∷ y ∷ z ∷ []) }
 {
     sums[at] = x;
     sums[at + 1] = y;
@@ -87,7 +86,7 @@ fn half_sum(a: i32, b: i32) -> i32
 fn coarse_sum(positions: &[i32], i: usize, k: usize) -> i32
     requires k_in_bounds { 3 * i + k < length positions.now }
     requires smalls { Smalls 500000 positions.now }
-    ensures { result ≡ pos 1024 *ℤ coordinate_at (was positions) i k }
+    ensures { result ≡ pos 1024 *ℤ coordinate_at positions.now i k }
 {
     scaled(positions[3 * i + k])
 }
@@ -97,7 +96,7 @@ fn mid_sum(sums: &[i32], a: usize, b: usize, k: usize) -> i32
     requires sum_held { SumHeld sums.now a }
     requires sum_held_2 { SumHeld sums.now b }
     requires k_bound { k < 3 }
-    ensures { result ≡ half (coordinate_at (was sums) a k +ℤ coordinate_at (was sums) b k) }
+    ensures { result ≡ half (coordinate_at sums.now a k +ℤ coordinate_at sums.now b k) }
 {
     half_sum(sums[3 * a + k], sums[3 * b + k])
 }
@@ -107,7 +106,7 @@ fn put_mid(sums: &mut [i32], at: usize, a: usize, b: usize)
     requires sum_held { SumHeld sums.old a }
     requires sum_held_2 { SumHeld sums.old b }
     requires at_in_bounds { at + 3 ≤ length sums.old }
-    ensures { is sums ≡ sets (was sums) at (mid_sums (was sums) a b) }
+    ensures { sums.new ≡ sets sums.old at (mid_sums sums.old a b) }
 {
     let x = mid_sum(sums, a, b, 0);
     let y = mid_sum(sums, a, b, 1);
@@ -120,7 +119,7 @@ fn coarse_sums(positions: &[i32], n: usize, sums: &mut [i32])
     requires n_in_bounds { 3 * n ≤ length positions.now }
     requires smalls { Smalls 500000 positions.now }
     requires n_in_bounds_2 { 3 * n ≤ length sums.old }
-    ensures { is sums ≡ coarse_sums (was positions) n ++ drop (3 * n) (was sums) }
+    ensures { sums.new ≡ coarse_sums positions.now n ++ drop (3 * n) sums.old }
 {
     for i in 0..n {
         let x = coarse_sum(positions, i, 0);
@@ -135,9 +134,9 @@ fn new_sums(xs: &[u32], ys: &[u32], n: usize, m: usize, sums: &mut [i32])
     requires ends { Ends n xs.now ys.now m }
     requires m_in_bounds { 3 * (n + m) ≤ length sums.old }
     requires smalls { Smalls 512000000 (take (3 * n) sums.old) }
-    ensures { is sums
-        ≡ add_sums (take (3 * n) (was sums)) (was xs) (was ys) m
-        ++ drop (3 * (n + m)) (was sums) }
+    ensures { sums.new
+        ≡ add_sums (take (3 * n) sums.old) xs.now ys.now m
+        ++ drop (3 * (n + m)) sums.old }
 {
     for j in 0..m {
         put_mid(sums, 3 * (n + j), xs[j] as usize, ys[j] as usize);
@@ -150,9 +149,9 @@ pub fn fill_sums(positions: &[i32], xs: &[u32], ys: &[u32], n: usize, m: usize, 
     requires smalls { Smalls 500000 positions.now }
     requires ends { Ends n xs.now ys.now m }
     requires m_in_bounds { 3 * (n + m) ≤ length sums.old }
-    ensures { is sums
-        ≡ sum_numbers (was positions) n (was xs) (was ys) m
-        ++ drop (3 * (n + m)) (was sums) }
+    ensures { sums.new
+        ≡ sum_numbers positions.now n xs.now ys.now m
+        ++ drop (3 * (n + m)) sums.old }
 {
     coarse_sums(positions, n, sums);
     new_sums(xs, ys, n, m, sums);

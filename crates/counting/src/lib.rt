@@ -4,7 +4,6 @@
 ghost use Rattle.std.specs.Prelude.{◌≡◌, ◌++◌, ◌+◌, ◌*◌, ◌≤◌, ◌<◌, length, drop};
 ghost use Rattle.std.proofs.lemmas.List.Edits.{sets};
 ghost use Rattle.base.specs.Bools.{one_if};
-ghost use Rattle.base.specs.Lent.{was, is};
 ghost use Rattle.base.specs.Limits.{full_counts, most_cells};
 ghost use Rattle.mesh.specs.Counts.{greenb};
 ghost use Rattle.counting.specs.Levels.{Levels, counts_at, level_counts, level_number, tally_numbers};
@@ -36,7 +35,7 @@ fn is_green(status: u8) -> bool
 // The counts of the cells from first to last.
 fn count_range(status: &[u8], first: usize, last: usize) -> Tally
     requires { (first ≤ last) × (last ≤ length status.now) × (length status.now ≤ most_cells) }
-    ensures { tally_numbers result ≡ counts_at first last (was status) }
+    ensures { tally_numbers result ≡ counts_at first last status.now }
 {
     let mut red: u16 = 0;
     let mut green: u16 = 0;
@@ -60,7 +59,7 @@ fn count_range(status: &[u8], first: usize, last: usize) -> Tally
 // Stores the four numbers of a tally.
 fn put_tally(counts: &mut [u16], at: usize, t: Tally)
     requires { at + 4 ≤ length counts.old }
-    ensures { is counts ≡ sets (was counts) at (tally_numbers t) }
+    ensures { counts.new ≡ sets counts.old at (tally_numbers t) }
 {
     counts[at] = t.cells;
     counts[at + 1] = t.red;
@@ -72,9 +71,9 @@ fn put_tally(counts: &mut [u16], at: usize, t: Tally)
 pub fn count_levels(status: &[u8], coarse: usize, counts: &mut [u16]) -> usize
     requires levels { Levels status.now coarse }
     requires full_counts_in_bounds { full_counts ≤ length counts.old }
-    ensures value { result ≡ level_number 12 0 coarse (was status) }
-    ensures counts_value { is counts
-        ≡ level_counts 12 0 coarse (was status) ++ drop (4 * result) (was counts) }
+    ensures value { result ≡ level_number 12 0 coarse status.now }
+    ensures counts_value { counts.new
+        ≡ level_counts 12 0 coarse status.now ++ drop (4 * result) counts.old }
 {
     let mut level = 0;
     let mut first = 0;

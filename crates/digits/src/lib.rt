@@ -2,7 +2,6 @@
 #![tactic(auto)]
 
 ghost use Rattle.std.specs.Prelude.{◌≡◌, ◌<◌};
-ghost use Rattle.base.specs.Lent.{was};
 ghost use Rattle.cutting.specs.Rule.{low, high};
 ghost use Rattle.families.specs.Children.{middle};
 ghost use Rattle.digits.specs.Ends.{low_at, high_at};
@@ -38,7 +37,7 @@ fn high_corner(y: usize) -> usize
 // The digit of the first end of an edge of a child, from the family's digits.
 pub fn low_digit(digits: &[u8; 32], j: usize, y: usize) -> u8
     requires { (j < 8) × (y < 6) }
-    ensures { result ≡ low_at (was digits) j y }
+    ensures { result ≡ low_at digits.now j y }
 {
     let at = 4 * j + low_corner(y);
     digits[at]
@@ -47,7 +46,7 @@ pub fn low_digit(digits: &[u8; 32], j: usize, y: usize) -> u8
 // The digit of the second end.
 pub fn high_digit(digits: &[u8; 32], j: usize, y: usize) -> u8
     requires { (j < 8) × (y < 6) }
-    ensures { result ≡ high_at (was digits) j y }
+    ensures { result ≡ high_at digits.now j y }
 {
     let at = 4 * j + high_corner(y);
     digits[at]

@@ -3,7 +3,6 @@
 
 ghost use Rattle.std.specs.Prelude.{◌≡◌, ◌*◌, ◌≤◌, ◌<◌, length};
 ghost use Rattle.base.specs.Fours.{fours};
-ghost use Rattle.base.specs.Lent.{was, is};
 ghost use Rattle.base.specs.Limits.{full_coarse, most_cells, most_coarse_corners, most_levels, most_parts, most_slots};
 ghost use Rattle.store.specs.Fields.{full, columns_length, firsts_length};
 ghost use Rattle.split.specs.Split.{split_answer, split_after, stores_after};
@@ -19,7 +18,7 @@ use tables::Outcome;
 // The first cell of each level: a level begins where the children of the one below begin.
 fn fill_firsts(kids: &[u16], cells: usize, firsts: &mut [u16])
     requires { (FirstKids kids.now cells) × (Leveled kids.now cells) × (length firsts.old ≡ firsts_length) }
-    ensures { FirstCells (was kids) (is firsts) }
+    ensures { FirstCells kids.now firsts.new }
 {
     firsts[0] = 0;
     let mut k = 0;
@@ -41,7 +40,7 @@ fn number_slots(
 )
     requires first_kids { (FirstKids kids.now cells) × (Leveled kids.now cells) × (cells ≤ most_cells) }
     requires firsts_len { (length firsts.old ≡ firsts_length) × (length starts.old ≡ firsts_length) }
-    ensures { EdgesNumbered (was rows) (was kids) (is firsts) (is starts) (is slots) }
+    ensures { EdgesNumbered rows.now kids.now firsts.new starts.new slots.new }
 {
     fill_firsts(kids, cells, firsts);
     let mut xs = [0u32; 24576];
@@ -74,8 +73,8 @@ fn write_part(
         × (length starts.now ≡ firsts_length) }
     requires cols_len { (length cols.now ≡ columns_length) × (length slots.now ≡ most_slots) × (SmallSlots slots.now cells) }
     requires masks_len { (length masks.now ≡ most_slots) × (masks.now ≡ masks_of cols.now cells slots.now) }
-    ensures { is stores
-        ≡ store_put (part_by (was cols) (was mesh) (was slots) (was firsts) (was starts) cells parts n levels) (was stores) j }
+    ensures { stores.new
+        ≡ store_put (part_by cols.now mesh.now slots.now firsts.now starts.now cells parts n levels) stores.old j }
 {
     let at = FULL * j;
     filling::write_store(
@@ -113,8 +112,8 @@ fn write_parts(
         × (length starts.now ≡ firsts_length) }
     requires cols_len { (length cols.now ≡ columns_length) × (length slots.now ≡ most_slots) × (SmallSlots slots.now cells) }
     requires masks_len { (length masks.now ≡ most_slots) × (masks.now ≡ masks_of cols.now cells slots.now) }
-    ensures { is stores
-        ≡ stores_to (part_by (was cols) (was mesh) (was slots) (was firsts) (was starts) cells parts n levels) (was stores) parts }
+    ensures { stores.new
+        ≡ stores_to (part_by cols.now mesh.now slots.now firsts.now starts.now cells parts n levels) stores.old parts }
 {
     let mut j = 0;
     while j < parts {
@@ -142,8 +141,8 @@ fn write_stores(
     requires mesh_len_bound { (length mesh.now ≤ full_coarse) × (cells ≤ most_cells) × (length firsts.now ≡ firsts_length)
         × (length starts.now ≡ firsts_length) }
     requires cols_len { (length cols.now ≡ columns_length) × (SmallSlots slots.now cells) }
-    ensures { is stores
-        ≡ stores_to (part_by (was cols) (was mesh) (was slots) (was firsts) (was starts) cells parts n levels) (was stores) parts }
+    ensures { stores.new
+        ≡ stores_to (part_by cols.now mesh.now slots.now firsts.now starts.now cells parts n levels) stores.old parts }
 {
     let mut masks = [0u16; 24576];
     let mut flags = [0u16; 24576];
@@ -167,7 +166,7 @@ fn divide(
     stores: &mut [u16],
 )
     requires { Divisible n mesh.now status.now rows.now kids.now owners.now parts levels stores.old }
-    ensures { is stores ≡ stores_after n (fours (was mesh)) (was status) parts (was owners) (was stores) }
+    ensures { stores.new ≡ stores_after n (fours mesh.now) status.now parts owners.now stores.old }
 {
     let cells = status.len();
     let mut firsts = [0u16; 12];
@@ -190,8 +189,8 @@ pub fn split(
     owners: &[u8],
     stores: &mut [u16],
 ) -> Answer
-    ensures value { result ≡ split_answer (was positions) (was cells) (was status) parts (was owners) (was stores) }
-    ensures stores_value { is stores ≡ split_after (was positions) (was cells) (was status) parts (was owners) (was stores) }
+    ensures value { result ≡ split_answer positions.now cells.now status.now parts owners.now stores.old }
+    ensures stores_value { stores.new ≡ split_after positions.now cells.now status.now parts owners.now stores.old }
 {
     if stores.len() < MOST_PARTS * FULL {
         return Answer::Refused(15);

@@ -4,7 +4,6 @@
 
 ghost use Rattle.std.specs.Prelude.{◌≡◌};
 ghost use Rattle.base.specs.Places.{hasb};
-ghost use Rattle.base.specs.Lent.{was, is};
 ghost use Rattle.pairs.specs.Keys.{Room};
 ghost use Rattle.edges.specs.Pairs.{sorted, isb};
 ghost use Rattle.edges.specs.Table.{listed, Table, Edges, Inserted};
@@ -47,7 +46,7 @@ pub fn holds(
     b: u16,
 ) -> bool
     requires { Table xs.now ys.now heads.now links.now from n }
-    ensures { result ≡ hasb isb (listed (was xs) (was ys) from n) (sorted (a, b)) }
+    ensures { result ≡ hasb isb (listed xs.now ys.now from n) (sorted (a, b)) }
 {
     let e = sorted_ends(a, b);
     let at = pairs::find(xs, ys, heads, links, from, n, e.low, e.high);
@@ -67,7 +66,7 @@ pub fn insert(
 ) -> Slot
     requires edges { Edges xs.old ys.old heads.old links.old from n }
     requires room { Room xs.old ys.old links.old n }
-    ensures { Inserted (was xs) (was ys) from n (a, b) (is xs) (is ys) (is heads) (is links) result.at result.n }
+    ensures { Inserted xs.old ys.old from n (a, b) xs.new ys.new heads.new links.new result.at result.n }
 {
     let e = sorted_ends(a, b);
     let at = pairs::find(xs, ys, heads, links, from, n, e.low, e.high);

@@ -4,7 +4,6 @@
 
 ghost use Rattle.std.specs.Prelude.{◌≤◌, length};
 ghost use Rattle.base.specs.Fours.{fours};
-ghost use Rattle.base.specs.Lent.{was, is};
 ghost use Rattle.base.specs.Limits.{most_cells};
 ghost use Rattle.tables.specs.Checked.{Statuses};
 ghost use Rattle.tables.specs.Room.{TableRoom};
@@ -25,7 +24,7 @@ fn examine_least(
     requires mesh { Mesh n mesh.now }
     requires statuses { Statuses status.now × (length status.now ≤ 128) }
     requires table_room { TableRoom status.now rows.old ps.old qs.old }
-    ensures { Examined n (fours (was mesh)) (was status) (is rows) (is ps) (is qs) result.refusal result.cells result.levels result.mids }
+    ensures { Examined n (fours mesh.now) status.now rows.new ps.new qs.new result.refusal result.cells result.levels result.mids }
 {
     let mut xs = [0u32; 96];
     let mut ys = [0u32; 96];
@@ -61,7 +60,7 @@ fn examine_few(
     requires mesh { Mesh n mesh.now }
     requires statuses { Statuses status.now × (length status.now ≤ 512) }
     requires table_room { TableRoom status.now rows.old ps.old qs.old }
-    ensures { Examined n (fours (was mesh)) (was status) (is rows) (is ps) (is qs) result.refusal result.cells result.levels result.mids }
+    ensures { Examined n (fours mesh.now) status.now rows.new ps.new qs.new result.refusal result.cells result.levels result.mids }
 {
     let mut xs = [0u32; 384];
     let mut ys = [0u32; 384];
@@ -97,7 +96,7 @@ fn examine_many(
     requires mesh { Mesh n mesh.now }
     requires statuses { Statuses status.now }
     requires table_room { TableRoom status.now rows.old ps.old qs.old }
-    ensures { Examined n (fours (was mesh)) (was status) (is rows) (is ps) (is qs) result.refusal result.cells result.levels result.mids }
+    ensures { Examined n (fours mesh.now) status.now rows.new ps.new qs.new result.refusal result.cells result.levels result.mids }
 {
     let mut xs = [0u32; 3072];
     let mut ys = [0u32; 3072];
@@ -133,7 +132,7 @@ pub fn examine(
 ) -> Outcome
     requires mesh { Mesh n mesh.now }
     requires table_room { length status.now ≤ most_cells → TableRoom status.now rows.old ps.old qs.old }
-    ensures { Examined n (fours (was mesh)) (was status) (is rows) (is ps) (is qs) result.refusal result.cells result.levels result.mids }
+    ensures { Examined n (fours mesh.now) status.now rows.new ps.new qs.new result.refusal result.cells result.levels result.mids }
 {
     if status.len() > MOST_CELLS {
         return tables::refused(6);

@@ -96,12 +96,12 @@ module _ {In Msg Store : Type 0} (P : ℕ) (act : Program In Msg Store) (void : 
     real_comes : (q : Fin P) (m : Msg) (n : ℕ) (x : Store) → Memᴰ m (to_come act n x) → (g : Place (Fin P)) → Ok E q g → E.Is q g x
         → Real m
     unfolding to_come Real Option·elim
-    real_comes q m zero x i g o a = absurd (mathlib.Core.List.Memᴰ.not_nil i)
+    real_comes q m zero x i g o a = absurd (mathlib.Core.List.Memᴰ.not-nil i)
     real_comes q m (suc n) x i g o a = go (act Fetch x) refl (λ y k h t b. real_comes q m n y k h t b)
       where
         go : (r : Option (Store × List Msg)) → act Fetch x ≡ r
             → ((y : Store) → Memᴰ m (to_come act n y) → (h : Place (Fin P)) → Ok E q h → E.Is q h y → Real m) → Real m
-        go none e r = absurd (mathlib.Core.List.Memᴰ.not_nil (rw (e, Option·elim) at i))
+        go none e r = absurd (mathlib.Core.List.Memᴰ.not-nil (rw (e, Option·elim) at i))
         go (some y) e r =
             let j : Memᴰ m (y.1 ++ to_come act n y.0) = rw (e, Option·elim) at i in
             let (s, f, b, l) = K.fetch_is q g o x a y e in
@@ -133,7 +133,7 @@ module _ {In Msg Store : Type 0} (P : ℕ) (act : Program In Msg Store) (void : 
       awake = omega arith;
       before = v;
       kept = omega arith;
-      gone_out = λ m i. absurd (mathlib.Core.List.Memᴰ.not_nil (rw e at i));
+      gone_out = λ m i. absurd (mathlib.Core.List.Memᴰ.not-nil (rw e at i));
       logged = λ j k. inl k;
     }
 
@@ -155,7 +155,7 @@ module _ {In Msg Store : Type 0} (P : ℕ) (act : Program In Msg Store) (void : 
       awake = s;
       before = λ e. s;
       kept = omega arith;
-      gone_out = λ m i. absurd (mathlib.Core.List.Memᴰ.not_nil (rw e at i));
+      gone_out = λ m i. absurd (mathlib.Core.List.Memᴰ.not-nil (rw e at i));
       logged = λ j k. inl k;
     }
       where
@@ -390,7 +390,7 @@ module _ {In Msg Store : Type 0} (P : ℕ) (act : Program In Msg Store) (void : 
       many = b.all;
       same = b.homes;
       ok = λ p. record { top = omega arith; low = λ q. N.none_yet q p; high = λ q. omega arith; sent = omega arith };
-      gone = λ m i. absurd (mathlib.Core.List.Memᴰ.not_nil (rw b.empty at i));
+      gone = λ m i. absurd (mathlib.Core.List.Memᴰ.not-nil (rw b.empty at i));
       full = λ q j h. absurd (omega arith);
     }
 

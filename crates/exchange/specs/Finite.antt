@@ -32,7 +32,7 @@ module _ {A : Type 0} where
 
   -- some element of the list has the first property, or each has the second
   unfoldable pub find_in : {B C : A → Type 0} → ((p : A) → B p ⊎ C p) → (l : List A) → ((p : A) × B p) ⊎ ((p : A) → Memᴰ p l → C p)
-  find_in d [] = inr (λ p m. absurd (Memᴰ.not_nil m))
+  find_in d [] = inr (λ p m. absurd (Memᴰ.not-nil m))
   find_in {B} {C} d (x ∷ l) = go (d x) (find_in d l)
     where
       both : C x → ((p : A) → Memᴰ p l → C p) → (p : A) → (p ≡ x) ⊎ Memᴰ p l → C p

@@ -100,7 +100,7 @@ module _ {Part In Body Msg St : Type 0} (F : Finite Part) (Q : Protocol Part In 
 
       number_in : (p : Part) (o : Part → ℕ) (l : List (Part × Body)) (m : Msg) → Memᴰ m (numbered F Q.pack p o l) → Among p o l m
       unfolding numbered
-      number_in p o [] m h = absurd (Memᴰ.not_nil h)
+      number_in p o [] m h = absurd (Memᴰ.not-nil h)
       number_in p o ((t, b) ∷ l) m h = go (λ k. number_in p (upd F o t (suc (o t))) l m k) (Memᴰ.cases_cons h)
         where
           later : Among p (upd F o t (suc (o t))) l m → Among p o ((t, b) ∷ l) m
@@ -178,7 +178,7 @@ module _ {Part In Body Msg St : Type 0} (F : Finite Part) (Q : Protocol Part In 
 
       post_in : Ordered F Q → (φ : ℕ) (q : Part) (m : Msg) → Memᴰ m (post φ q) → Sent q m
       unfolding post parcel
-      post_in ord zero q m h = absurd (Memᴰ.not_nil h)
+      post_in ord zero q m h = absurd (Memᴰ.not-nil h)
       post_in ord (suc r) q m h = ⊎_elim (λ t. post_in ord r q m t) new (Memᴰ.append_cases (post r q) h)
         where
           new : Memᴰ m (numbered F Q.pack q (λ p. mail_count r q p) (Q.order r q (lock r q))) → Sent q m
@@ -209,7 +209,7 @@ module _ {Part In Body Msg St : Type 0} (F : Finite Part) (Q : Protocol Part In 
       at_addressed : (q p : Part) (k : ℕ) (l : List Body) (m : Msg) → Memᴰ m (addressed q p k l)
           → (i : ℕ) × (i < length l) × (m ≡ Q.pack q p (k + i) (get_or l i blank))
       unfolding addressed
-      at_addressed q p k [] m h = absurd (Memᴰ.not_nil h)
+      at_addressed q p k [] m h = absurd (Memᴰ.not-nil h)
       at_addressed q p k (b ∷ l) m h =
           let z : k ≡ k + 0 = omega arith in
           ⊎_elim (λ (e : m ≡ Q.pack q p k b). (0, omega arith, e ∙ ap (λ j. Q.pack q p j b) z))
@@ -220,7 +220,7 @@ module _ {Part In Body Msg St : Type 0} (F : Finite Part) (Q : Protocol Part In 
 
       pub post_letter : Ordered F Q → (φ : ℕ) (q : Part) (m : Msg) → Memᴰ m (post φ q) → (p : Part) × Memᴰ m (letters φ q p)
       unfolding post parcel letters
-      post_letter ord zero q m h = absurd (Memᴰ.not_nil h)
+      post_letter ord zero q m h = absurd (Memᴰ.not-nil h)
       post_letter ord (suc r) q m h = ⊎_elim
           (λ (t : Memᴰ m (post r q)).
           let (p, u) = post_letter ord r q m t in
@@ -242,7 +242,7 @@ module _ {Part In Body Msg St : Type 0} (F : Finite Part) (Q : Protocol Part In 
 
       pub letter_post : Ordered F Q → (φ : ℕ) (q p : Part) (m : Msg) → Memᴰ m (letters φ q p) → Memᴰ m (post φ q)
       unfolding post letters
-      letter_post ord zero q p m h = absurd (Memᴰ.not_nil h)
+      letter_post ord zero q p m h = absurd (Memᴰ.not-nil h)
       letter_post ord (suc r) q p m h = ⊎_elim
           (λ (t : Memᴰ m (letters r q p)).
           Memᴰ.append_left (parcel F Q r q (lock r q) (λ p. mail_count r q p)) (letter_post ord r q p m t))

@@ -2,7 +2,6 @@
 #![tactic(auto)]
 
 ghost use Rattle.std.specs.Prelude.{◌≡◌, ◌++◌, ◌+◌, ◌*◌, ◌/◌, ◌≤◌, ◌<◌, length, drop};
-ghost use Rattle.base.specs.Lent.{was, is};
 ghost use Rattle.base.specs.Limits.{full_coarse, most_cells, most_slots};
 ghost use Rattle.store.specs.Fields.{full, FRONT, FIRST_CELL, OWNER, SLOT, columns_length, firsts_length, flags_length, free_length};
 ghost use Rattle.filling.specs.Regions.{Tabled, holdb, column_to, column_by, slot_to, slot_by, holder_to, holder_by, mask_by, corner_by};
@@ -17,7 +16,7 @@ use store::{
 
 // Writes zeros.
 fn zero(region: &mut [u16])
-    ensures { is region ≡ zeros (length (was region)) }
+    ensures { region.new ≡ zeros (length region.old) }
 {
     let mut i = 0;
     while i < region.len() {
@@ -29,7 +28,7 @@ fn zero(region: &mut [u16])
 // Whether a part has a cell, as master or ghost.
 fn holds(cols: &[u16], cells: usize, part: u16, c: usize) -> bool
     requires { (length cols.now ≡ columns_length) × (c < most_cells) }
-    ensures { result ≡ holdb (was cols) cells part c }
+    ensures { result ≡ holdb cols.now cells part c }
 {
     if c >= cells {
         return false;
@@ -43,7 +42,7 @@ fn holds(cols: &[u16], cells: usize, part: u16, c: usize) -> bool
 // Writes the ten numbers of a cell.
 fn put_column(region: &mut [u16], cols: &[u16], c: usize)
     requires { (length region.old ≡ columns_length) × (length cols.now ≡ columns_length) × (c < most_cells) }
-    ensures { Column (was cols) c 10 (was region) (is region) }
+    ensures { Column cols.now c 10 region.old region.new }
 {
     let mut j = 0;
     while j < 10 {
@@ -56,7 +55,7 @@ fn put_column(region: &mut [u16], cols: &[u16], c: usize)
 fn column_cell(region: &mut [u16], cols: &[u16], cells: usize, part: u16, c: usize)
     requires cols_len { (length cols.now ≡ columns_length) × (c < most_cells) }
     requires tabled { Tabled columns_length (column_to cols.now cells part c) region.old }
-    ensures { Tabled columns_length (column_to (was cols) cells part (c + 1)) (is region) }
+    ensures { Tabled columns_length (column_to cols.now cells part (c + 1)) region.new }
 {
     if !holds(cols, cells, part, c) {
         return;
@@ -67,7 +66,7 @@ fn column_cell(region: &mut [u16], cols: &[u16], cells: usize, part: u16, c: usi
 // Writes the columns of the cells that a part holds.
 fn fill_columns(region: &mut [u16], cols: &[u16], cells: usize, part: u16)
     requires { (length region.old ≡ columns_length) × (length cols.now ≡ columns_length) × (cells ≤ most_cells) }
-    ensures { Tabled columns_length (column_by (was cols) cells part) (is region) }
+    ensures { Tabled columns_length (column_by cols.now cells part) region.new }
 {
     zero(region);
     let mut c = 0;
@@ -80,7 +79,7 @@ fn fill_columns(region: &mut [u16], cols: &[u16], cells: usize, part: u16)
 // Writes the six slots of a cell.
 fn put_six(region: &mut [u16], slots: &[u16], c: usize)
     requires { (length region.old ≡ most_slots) × (length slots.now ≡ most_slots) × (c < most_cells) }
-    ensures { Six (was slots) c 6 (was region) (is region) }
+    ensures { Six slots.now c 6 region.old region.new }
 {
     let mut e = 0;
     while e < 6 {
@@ -93,7 +92,7 @@ fn put_six(region: &mut [u16], slots: &[u16], c: usize)
 fn six_cell(region: &mut [u16], cols: &[u16], cells: usize, part: u16, slots: &[u16], c: usize)
     requires cols_len { (length cols.now ≡ columns_length) × (c < most_cells) × (length slots.now ≡ most_slots) }
     requires tabled { Tabled most_slots (slot_to cols.now cells part slots.now c) region.old }
-    ensures { Tabled most_slots (slot_to (was cols) cells part (was slots) (c + 1)) (is region) }
+    ensures { Tabled most_slots (slot_to cols.now cells part slots.now (c + 1)) region.new }
 {
     if !holds(cols, cells, part, c) {
         return;
@@ -105,7 +104,7 @@ fn six_cell(region: &mut [u16], cols: &[u16], cells: usize, part: u16, slots: &[
 fn fill_slots(region: &mut [u16], cols: &[u16], cells: usize, part: u16, slots: &[u16])
     requires { (length region.old ≡ most_slots) × (length cols.now ≡ columns_length) × (cells ≤ most_cells)
         × (length slots.now ≡ most_slots) }
-    ensures { Tabled most_slots (slot_by (was cols) cells part (was slots)) (is region) }
+    ensures { Tabled most_slots (slot_by cols.now cells part slots.now) region.new }
 {
     zero(region);
     let mut c = 0;
@@ -120,7 +119,7 @@ fn put_masks(region: &mut [u16], slots: &[u16], masks: &[u16], c: usize)
     requires region_len { (length region.old ≡ most_slots) × (length slots.now ≡ most_slots) × (length masks.now ≡ most_slots)
         × (c < most_cells) }
     requires small_slots { SmallSlots slots.now (c + 1) }
-    ensures { Masked (was slots) (was masks) c 6 (was region) (is region) }
+    ensures { Masked slots.now masks.now c 6 region.old region.new }
 {
     let mut e = 0;
     while e < 6 {
@@ -144,7 +143,7 @@ fn mask_cell(
         × (length masks.now ≡ most_slots) }
     requires small_slots { SmallSlots slots.now (c + 1) }
     requires tabled { Tabled most_slots (holder_to cols.now cells part slots.now masks.now c) region.old }
-    ensures { Tabled most_slots (holder_to (was cols) cells part (was slots) (was masks) (c + 1)) (is region) }
+    ensures { Tabled most_slots (holder_to cols.now cells part slots.now masks.now (c + 1)) region.new }
 {
     if !holds(cols, cells, part, c) {
         return;
@@ -164,7 +163,7 @@ fn fill_holders(
     requires region_len { (length region.old ≡ most_slots) × (length cols.now ≡ columns_length) × (cells ≤ most_cells) }
     requires slots_len { (length slots.now ≡ most_slots) × (length masks.now ≡ most_slots) }
     requires small_slots { SmallSlots slots.now cells }
-    ensures { Tabled most_slots (holder_by (was cols) cells part (was slots) (was masks)) (is region) }
+    ensures { Tabled most_slots (holder_by cols.now cells part slots.now masks.now) region.new }
 {
     zero(region);
     let mut c = 0;
@@ -179,7 +178,7 @@ fn add_bits(masks: &mut [u16], flags: &[u16])
     requires masks_len { (length masks.old ≡ most_slots) × (length flags.now ≡ most_slots) }
     requires all_below { AllBelow masks.old 32768 }
     requires all_below_2 { AllBelow flags.now 2 }
-    ensures { Doubled most_slots (was masks) (was flags) (is masks) }
+    ensures { Doubled most_slots masks.old flags.now masks.new }
 {
     let mut s = 0;
     while s < MOST_SLOTS {
@@ -201,7 +200,7 @@ pub fn fill_masks(
         × (length slots.now ≡ most_slots) }
     requires flags_len { (length flags.old ≡ most_slots) × Tabled most_slots (λ s. 1) ones.now }
     requires small_slots { SmallSlots slots.now cells }
-    ensures { Tabled most_slots (mask_by (was cols) cells (was slots)) (is masks) }
+    ensures { Tabled most_slots (mask_by cols.now cells slots.now) masks.new }
 {
     zero(masks);
     let mut p: usize = MOST_PARTS;
@@ -215,7 +214,7 @@ pub fn fill_masks(
 // The corner j of the coarse cells, if its cell is a master.
 fn corner_of(mesh: &[u16], cols: &[u16], part: u16, j: usize) -> u16
     requires { (length cols.now ≡ columns_length) × (j < full_coarse) }
-    ensures { result ≡ corner_by (was cols) (was mesh) part j }
+    ensures { result ≡ corner_by cols.now mesh.now part j }
 {
     if j / 4 >= mesh.len() / 4 {
         return 0;
@@ -229,7 +228,7 @@ fn corner_of(mesh: &[u16], cols: &[u16], part: u16, j: usize) -> u16
 // Writes the corners of coarse masters.
 fn fill_corners(region: &mut [u16], mesh: &[u16], cols: &[u16], part: u16)
     requires { (length region.old ≡ full_coarse) × (length cols.now ≡ columns_length) }
-    ensures { Tabled full_coarse (corner_by (was cols) (was mesh) part) (is region) }
+    ensures { Tabled full_coarse (corner_by cols.now mesh.now part) region.new }
 {
     let mut j = 0;
     while j < FULL_COARSE {
@@ -249,7 +248,7 @@ fn fill_head(
     levels: u16,
 )
     requires { length region.old ≡ FIRST_CELL }
-    ensures { is region ≡ head_by part parts corners coarse cells levels }
+    ensures { region.new ≡ head_by part parts corners coarse cells levels }
 {
     zero(region);
     region[1] = part;
@@ -263,7 +262,7 @@ fn fill_head(
 // Writes zeros from a place on.
 fn zero_at(store: &mut [u16], at: usize, n: usize)
     requires { (at + n ≤ length store.old) × (length store.old < 16777216) }
-    ensures { is store ≡ put_by at (at + n) (was store) (zeros n) }
+    ensures { store.new ≡ put_by at (at + n) store.old (zeros n) }
 {
     zero(&mut store[at..at + n]);
 }
@@ -271,7 +270,7 @@ fn zero_at(store: &mut [u16], at: usize, n: usize)
 // Writes twelve numbers from a place on.
 fn twelve_at(store: &mut [u16], at: usize, numbers: &[u16])
     requires { (at + firsts_length ≤ length store.old) × (length store.old < 16777216) × (length numbers.now ≡ firsts_length) }
-    ensures { is store ≡ put_by at (at + firsts_length) (was store) (was numbers) }
+    ensures { store.new ≡ put_by at (at + firsts_length) store.old numbers.now }
 {
     base::copy_numbers(numbers, FIRSTS_LENGTH, &mut store[at..at + FIRSTS_LENGTH]);
 }
@@ -280,7 +279,7 @@ fn twelve_at(store: &mut [u16], at: usize, numbers: &[u16])
 fn columns_at(store: &mut [u16], at: usize, cols: &[u16], cells: usize, part: u16)
     requires columns_length_in_bounds { (at + columns_length ≤ length store.old) × (length store.old < 16777216) }
     requires cols_len { (length cols.now ≡ columns_length) × (cells ≤ most_cells) }
-    ensures { is store ≡ put_by at (at + columns_length) (was store) (tab columns_length (column_by (was cols) cells part)) }
+    ensures { store.new ≡ put_by at (at + columns_length) store.old (tab columns_length (column_by cols.now cells part)) }
 {
     fill_columns(&mut store[at..at + COLUMNS_LENGTH], cols, cells, part);
 }
@@ -288,7 +287,7 @@ fn columns_at(store: &mut [u16], at: usize, cols: &[u16], cells: usize, part: u1
 // Writes the corners of coarse masters from a place on.
 fn corners_at(store: &mut [u16], at: usize, mesh: &[u16], cols: &[u16], part: u16)
     requires { (at + full_coarse ≤ length store.old) × (length store.old < 16777216) × (length cols.now ≡ columns_length) }
-    ensures { is store ≡ put_by at (at + full_coarse) (was store) (tab full_coarse (corner_by (was cols) (was mesh) part)) }
+    ensures { store.new ≡ put_by at (at + full_coarse) store.old (tab full_coarse (corner_by cols.now mesh.now part)) }
 {
     fill_corners(&mut store[at..at + FULL_COARSE], mesh, cols, part);
 }
@@ -297,7 +296,7 @@ fn corners_at(store: &mut [u16], at: usize, mesh: &[u16], cols: &[u16], part: u1
 fn slots_at(store: &mut [u16], at: usize, cols: &[u16], cells: usize, part: u16, slots: &[u16])
     requires most_slots_in_bounds { (at + most_slots ≤ length store.old) × (length store.old < 16777216) }
     requires cols_len { (length cols.now ≡ columns_length) × (cells ≤ most_cells) × (length slots.now ≡ most_slots) }
-    ensures { is store ≡ put_by at (at + most_slots) (was store) (tab most_slots (slot_by (was cols) cells part (was slots))) }
+    ensures { store.new ≡ put_by at (at + most_slots) store.old (tab most_slots (slot_by cols.now cells part slots.now)) }
 {
     fill_slots(&mut store[at..at + MOST_SLOTS], cols, cells, part, slots);
 }
@@ -316,8 +315,8 @@ fn holders_at(
     requires cols_len { (length cols.now ≡ columns_length) × (cells ≤ most_cells) × (length slots.now ≡ most_slots)
         × (length masks.now ≡ most_slots) }
     requires small_slots { SmallSlots slots.now cells }
-    ensures { is store
-        ≡ put_by at (at + most_slots) (was store) (tab most_slots (holder_by (was cols) cells part (was slots) (was masks))) }
+    ensures { store.new
+        ≡ put_by at (at + most_slots) store.old (tab most_slots (holder_by cols.now cells part slots.now masks.now)) }
 {
     fill_holders(
         &mut store[at..at + MOST_SLOTS],
@@ -340,7 +339,7 @@ fn head_at(
     levels: u16,
 )
     requires { (FIRST_CELL ≤ length store.old) × (length store.old < 16777216) }
-    ensures { is store ≡ put_by 0 FIRST_CELL (was store) (head_by part parts corners coarse cells levels) }
+    ensures { store.new ≡ put_by 0 FIRST_CELL store.old (head_by part parts corners coarse cells levels) }
 {
     fill_head(
         &mut store[0..FIRST_CELL],
@@ -366,8 +365,8 @@ fn write_front(
     starts: &[u16],
 )
     requires { (length store.old ≡ full) × (length firsts.now ≡ firsts_length) × (length starts.now ≡ firsts_length) }
-    ensures { is store
-        ≡ put_by 0 OWNER (was store) (head_by part parts corners coarse cells levels ++ was firsts ++ was starts ++ zeros free_length) }
+    ensures { store.new
+        ≡ put_by 0 OWNER store.old (head_by part parts corners coarse cells levels ++ firsts.now ++ starts.now ++ zeros free_length) }
 {
     head_at(store, part, parts, corners, coarse, cells, levels);
     twelve_at(store, FIRST_CELL, firsts);
@@ -378,9 +377,9 @@ fn write_front(
 // Writes the columns of the cells that a part holds, no marks, and the corners of its coarse masters.
 fn write_columns(store: &mut [u16], mesh: &[u16], cols: &[u16], cells: usize, part: u16)
     requires { (length store.old ≡ full) × (length cols.now ≡ columns_length) × (cells ≤ most_cells) }
-    ensures { is store
-        ≡ put_by OWNER SLOT (was store) (tab columns_length (column_by (was cols) cells part) ++ zeros flags_length
-        ++ tab full_coarse (corner_by (was cols) (was mesh) part)) }
+    ensures { store.new
+        ≡ put_by OWNER SLOT store.old (tab columns_length (column_by cols.now cells part) ++ zeros flags_length
+        ++ tab full_coarse (corner_by cols.now mesh.now part)) }
 {
     columns_at(store, OWNER, cols, cells, part);
     zero_at(store, MARK, FLAGS_LENGTH);
@@ -399,9 +398,9 @@ fn write_slots(
     requires store_len { (length store.old ≡ full) × (length cols.now ≡ columns_length) × (cells ≤ most_cells) }
     requires slots_len { (length slots.now ≡ most_slots) × (length masks.now ≡ most_slots) }
     requires small_slots { SmallSlots slots.now cells }
-    ensures { is store
-        ≡ put_by SLOT FRONT (was store) (tab most_slots (slot_by (was cols) cells part (was slots))
-        ++ tab most_slots (holder_by (was cols) cells part (was slots) (was masks)) ++ zeros most_slots) }
+    ensures { store.new
+        ≡ put_by SLOT FRONT store.old (tab most_slots (slot_by cols.now cells part slots.now)
+        ++ tab most_slots (holder_by cols.now cells part slots.now masks.now) ++ zeros most_slots) }
 {
     slots_at(store, SLOT, cols, cells, part, slots);
     holders_at(store, HOLDERS, cols, cells, part, slots, masks);
@@ -427,9 +426,9 @@ pub fn write_store(
     requires cols_len { (length cols.now ≡ columns_length) × (cells ≤ most_cells) × (length slots.now ≡ most_slots)
         × (length masks.now ≡ most_slots) }
     requires small_slots { (SmallSlots slots.now cells) × (length mesh.now ≤ full_coarse) }
-    ensures { is store
-        ≡ regions (was cols) (was mesh) (was slots) (was masks) (was firsts) (was starts) cells part parts corners levels
-        ++ drop FRONT (was store) }
+    ensures { store.new
+        ≡ regions cols.now mesh.now slots.now masks.now firsts.now starts.now cells part parts corners levels
+        ++ drop FRONT store.old }
 {
     let coarse = (mesh.len() / 4) as u16;
     write_front(

@@ -3,7 +3,6 @@
 
 ghost use Rattle.std.specs.Prelude.{◌≡◌, true, ◌++◌, suc, ◌≤◌, ◌<◌, leb, length, drop};
 ghost use Rattle.base.specs.Lists.{allb};
-ghost use Rattle.base.specs.Lent.{was, is};
 ghost use Rattle.base.specs.Limits.{most_cells, most_coarse_cells};
 ghost use Rattle.lineage.specs.Firsts.{first_children};
 
@@ -11,7 +10,7 @@ ghost use Rattle.lineage.specs.Firsts.{first_children};
 pub fn first_children(status: &[u8], coarse: usize, kids: &mut [u16])
     requires status_value { allb (λ s. leb s 64) status.now ≡ true }
     requires status_len_bound { (length status.now ≤ most_cells) × (length status.now < length kids.old) × (coarse ≤ most_coarse_cells) }
-    ensures { is kids ≡ first_children coarse (was status) ++ drop (suc (length (was status))) (was kids) }
+    ensures { kids.new ≡ first_children coarse status.now ++ drop (suc (length status.now)) kids.old }
 {
     let mut at = coarse;
     let mut c = 0;

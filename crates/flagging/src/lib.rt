@@ -4,7 +4,6 @@
 ghost use Rattle.std.specs.Prelude.{◌≡◌, ◌++◌, ◌+◌, ◌*◌, ◌-◌, ◌≤◌, ◌<◌, ltb, length, get_or, take, drop};
 ghost use Rattle.base.specs.Lists.{allb, anyb};
 ghost use Rattle.base.specs.Bools.{one_if};
-ghost use Rattle.base.specs.Lent.{was, is};
 ghost use Rattle.pairs.specs.Keys.{Clear};
 ghost use Rattle.edges.specs.Table.{Table, listed};
 ghost use Rattle.mesh.specs.Cells.{redb};
@@ -29,7 +28,7 @@ fn is_idle(
 ) -> bool
     requires looks { Looks rows.now xs.now ys.now heads.now links.now (j + 1) from n }
     requires j_in_bounds { (j < length status.now) × (j < length marks.now) }
-    ensures { result ≡ idleb (was rows) (was status) (was marks) (listedb (was xs) (was ys) from n) j }
+    ensures { result ≡ idleb rows.now status.now marks.now (listedb xs.now ys.now from n) j }
 {
     if status[j] != 0 {
         return false;
@@ -56,7 +55,7 @@ fn are_idle(
 ) -> bool
     requires looks { Looks rows.now xs.now ys.now heads.now links.now last from n }
     requires last_in_bounds { (last ≤ length status.now) × (last ≤ length marks.now) }
-    ensures { result ≡ allb (idleb (was rows) (was status) (was marks) (listedb (was xs) (was ys) from n))
+    ensures { result ≡ allb (idleb rows.now status.now marks.now (listedb xs.now ys.now from n))
         (range first (last - first)) }
 {
     let mut j = first;
@@ -84,7 +83,7 @@ fn is_touched(
 ) -> bool
     requires looks { Looks rows.now xs.now ys.now heads.now links.now (j + 1) from n }
     requires g_in_bounds { 8 * g + 8 ≤ length rows.now }
-    ensures { result ≡ touchedb (was rows) (listedb (was xs) (was ys) from n) g j }
+    ensures { result ≡ touchedb rows.now (listedb xs.now ys.now from n) g j }
 {
     if from == n {
         return false;
@@ -110,7 +109,7 @@ fn is_pulled(
 ) -> bool
     requires looks { Looks rows.now xs.now ys.now heads.now links.now (j + 1) from n }
     requires g_in_bounds { (8 * g + 8 ≤ length rows.now) × (j < length marks.now) }
-    ensures { result ≡ pulledb (was rows) (was marks) (listedb (was xs) (was ys) from n) g j }
+    ensures { result ≡ pulledb rows.now marks.now (listedb xs.now ys.now from n) g j }
 {
     if marks[j] == 1 {
         return true;
@@ -134,7 +133,7 @@ fn one_pulled(
 ) -> bool
     requires looks { Looks rows.now xs.now ys.now heads.now links.now last from n }
     requires g_in_bounds { (8 * g + 8 ≤ length rows.now) × (last ≤ length marks.now) }
-    ensures { result ≡ anyb (pulledb (was rows) (was marks) (listedb (was xs) (was ys) from n) g) (range first (last - first)) }
+    ensures { result ≡ anyb (pulledb rows.now marks.now (listedb xs.now ys.now from n) g) (range first (last - first)) }
 {
     let mut j = first;
     while j < last {
@@ -163,7 +162,7 @@ fn is_new_red(
     requires old_rows { OldRows rows.now status.now marks.now kids.now }
     requires table { Table xs.now ys.now heads.now links.now from n }
     requires c_in_bounds { c < length status.now }
-    ensures { result ≡ red_atb (was rows) (was status) (was marks) (was kids) (listedb (was xs) (was ys) from n) c }
+    ensures { result ≡ red_atb rows.now status.now marks.now kids.now (listedb xs.now ys.now from n) c }
 {
     let s = status[c];
     let first = kids[c] as usize;
@@ -214,8 +213,8 @@ fn flag_level(
     requires old_rows { OldRows rows.now status.now marks.now kids.now }
     requires table { Table xs.now ys.now heads.now links.now from n }
     requires span { Span status.now kept.old first last }
-    ensures { Flagged (was rows) (was status) (was marks) (was kids) (listedb (was xs) (was ys) from n) first last (was kept)
-        (is kept) result }
+    ensures { Flagged rows.now status.now marks.now kids.now (listedb xs.now ys.now from n) first last kept.old
+        kept.new result }
 {
     let mut reds = 0;
     let mut c = first;
@@ -242,7 +241,7 @@ fn kept_of(
     n: usize,
 ) -> u8
     requires { Looks rows.now xs.now ys.now heads.now links.now (c + 1) from n }
-    ensures { result ≡ closed_at (listed (was xs) (was ys) from n) (was rows) flag c }
+    ensures { result ≡ closed_at (listed xs.now ys.now from n) rows.now flag c }
 {
     if flag == 64 {
         return 64;
@@ -271,8 +270,8 @@ fn close_level(
 )
     requires looks { Looks rows.now xs.now ys.now heads.now links.now last from n }
     requires first_le_last { (first ≤ last) × (last ≤ length kept.old) }
-    ensures { is kept ≡ take first (was kept) ++ (closed_over (listed (was xs) (was ys) from n) (was rows) (was kept) first
-        (last - first) ++ drop last (was kept)) }
+    ensures { kept.new ≡ take first kept.old ++ (closed_over (listed xs.now ys.now from n) rows.now kept.old first
+        (last - first) ++ drop last kept.old) }
 {
     let mut c = first;
     while c < last {
@@ -311,8 +310,8 @@ fn treat_level(
     requires table { Table xs.old ys.old heads.old links.old from n }
     requires span { Span status.now kept.old first last }
     requires side_by_side { SideBySide xs.old ys.old links.old × (n ≤ length xs.old) }
-    ensures { Treated (was rows) (was status) (was marks) (was kids) (listedb (was xs) (was ys) from n) first last (was kept)
-        (was xs) (was ys) n (is kept) (is xs) (is ys) (is heads) (is links) result.ok result.reds result.n }
+    ensures { Treated rows.now status.now marks.now kids.now (listedb xs.old ys.old from n) first last kept.old
+        xs.old ys.old n kept.new xs.new ys.new heads.new links.new result.ok result.reds result.n }
 {
     let reds = flag_level(
         rows, status, marks, kids, kept, first, last, xs, ys, heads, links, from, n,
@@ -368,8 +367,8 @@ fn treat_up(
     requires old_rows { OldRows rows.now status.now marks.now kids.now }
     requires one_level { OneLevel status.now kids.now kept.old xs.old ys.old heads.old links.old first last }
     requires side_by_side { SideBySide xs.old ys.old links.old }
-    ensures { LookedUp (was rows) (was status) (was marks) (was kids) depth first last (was kept) (is kept) (was xs) (is xs) (is ys)
-        (is heads) (is links) result.ok result.high result.from result.n }
+    ensures { LookedUp rows.now status.now marks.now kids.now depth first last kept.old kept.new xs.old xs.new ys.new
+        heads.new links.new result.ok result.high result.from result.n }
 {
     if depth == 0 {
         return Entries {
@@ -438,7 +437,7 @@ pub fn treat_all(
     requires span { Span status.now kept.old 0 (get_or kids.now 0 0) }
     requires clear { Clear heads.old }
     requires side_by_side { SideBySide xs.old ys.old links.old }
-    ensures { LookedAt (was rows) (was status) (was marks) (was kids) 11 0 (get_or (was kids) 0 0) (was kept) (is kept) (was xs)
+    ensures { LookedAt rows.now status.now marks.now kids.now 11 0 (get_or kids.now 0 0) kept.old kept.new xs.old
         result.ok result.high }
 {
     let r = treat_up(

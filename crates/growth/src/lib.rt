@@ -4,7 +4,6 @@
 
 ghost use Rattle.std.specs.Prelude.{◌≡◌, [], ◌∷◌, map, ℕ, ◌+◌, ◌*◌, ◌-◌, ◌≤◌, ◌<◌, length, get_or};
 ghost use Rattle.base.specs.Bools.{one_if};
-ghost use Rattle.base.specs.Lent.{was, is};
 ghost use Rattle.base.specs.Limits.{most_cells};
 ghost use Rattle.cutting.specs.Rule.{split, family};
 ghost use Rattle.cutting.specs.Answer.{digit_table, start_table};
@@ -50,7 +49,7 @@ fn middle_of(e: usize) -> usize
 // For each of the ten points of a cell the number of its lower corner: a corner has its own.
 fn corners_of(cells: &[u16], c: usize) -> [u16; 10]
     requires { 8 * c + 8 ≤ length cells.now }
-    ensures { result ≡ low_corners (cell_at (was cells) c) }
+    ensures { result ≡ low_corners (cell_at cells.now c) }
 {
     let at = 8 * c + 4;
     let p = cells[at];
@@ -74,7 +73,7 @@ pub fn write_row(
     s: u16,
 )
     requires { 8 * at + 8 ≤ length cells.old }
-    ensures { is cells ≡ written (was cells) (8 * at) (level ∷ parent ∷ child ∷ regular ∷ p ∷ q ∷ r ∷ s ∷ []) }
+    ensures { cells.new ≡ written cells.old (8 * at) (level ∷ parent ∷ child ∷ regular ∷ p ∷ q ∷ r ∷ s ∷ []) }
 {
     let i = 8 * at;
     cells[i] = level;
@@ -101,7 +100,7 @@ fn add_edge(
     requires c_in_bounds { (8 * c + 8 ≤ length cells.now) × (e < 6) }
     requires edges { Edges xs.old ys.old heads.old links.old 0 m }
     requires room { Room xs.old ys.old links.old m }
-    ensures { Inserted (was xs) (was ys) 0 m (edge 0 (cell_at (was cells) c) e) (is xs) (is ys) (is heads) (is links)
+    ensures { Inserted xs.old ys.old 0 m (edge 0 (cell_at cells.now c) e) xs.new ys.new heads.new links.new
         result.at result.n }
 {
     let ends = rows::edge_of(cells, c, e);
@@ -126,8 +125,8 @@ fn split_edge(
     requires c_in_bounds { (8 * c + 8 ≤ length cells.now) × (e < 6) × (n + m < 65536) }
     requires edges { Edges xs.old ys.old heads.old links.old 0 m }
     requires space { Space xs.old ys.old links.old m (length (split_at pattern (cell_at cells.now c) e)) }
-    ensures grown { Grown (was xs) (was ys) 0 m (split_at pattern (cell_at (was cells) c) e) (is xs) (is ys) (is heads) (is links) result }
-    ensures points_value { is points ≡ marked n (listed (is xs) (is ys) 0 result) (cell_at (was cells) c) pattern e (was points) }
+    ensures grown { Grown xs.old ys.old 0 m (split_at pattern (cell_at cells.now c) e) xs.new ys.new heads.new links.new result }
+    ensures points_value { points.new ≡ marked n (listed xs.new ys.new 0 result) (cell_at cells.now c) pattern e points.old }
 {
     if !is_split(pattern, e) {
         return m;
@@ -159,9 +158,9 @@ fn points_of(
     m: usize,
 ) -> Ten
     requires { ReadyToGrow cells.now xs.old ys.old heads.old links.old c status n m }
-    ensures grown { Grown (was xs) (was ys) 0 m (split_edges 0 (cell_at (was cells) c) status) (is xs) (is ys) (is heads) (is links)
+    ensures grown { Grown xs.old ys.old 0 m (split_edges 0 (cell_at cells.now c) status) xs.new ys.new heads.new links.new
         result.m }
-    ensures points_set { PointsSet n (listed (is xs) (is ys) 0 result.m) (cell_at (was cells) c) (pattern_of status) result.numbers }
+    ensures points_set { PointsSet n (listed xs.new ys.new 0 result.m) (cell_at cells.now c) (pattern_of status) result.numbers }
 {
     let pattern = pattern_of(status);
     let mut points = corners_of(cells, c);
@@ -259,7 +258,7 @@ fn flag(regular: bool) -> u16
 // The number of the point whose digit stands at a place of the family.
 fn number(points: &[u16; 10], digits: &[u8; 32], j: usize) -> u16
     requires { (j < 32) × (get_or digits.now j 0 < 10) }
-    ensures { result ≡ get_or (was points) (get_or (was digits) j 0) 0 }
+    ensures { result ≡ get_or points.now (get_or digits.now j 0) 0 }
 {
     points[digits[j] as usize]
 }
@@ -277,8 +276,8 @@ fn write_child(
 )
     requires at_in_bounds { (8 * at + 8 ≤ length cells.old) × (i < 8) }
     requires by_index { (j : ℕ) → get_or digits.now j 0 < 10 }
-    ensures { is cells ≡ written (was cells) (8 * at)
-        (level ∷ parent ∷ i ∷ regular ∷ map (λ d. get_or (was points) d 0) (four_at (was digits) (4 * i))) }
+    ensures { cells.new ≡ written cells.old (8 * at)
+        (level ∷ parent ∷ i ∷ regular ∷ map (λ d. get_or points.now d 0) (four_at digits.now (4 * i))) }
 {
     let j = 4 * i;
     let p = number(points, digits, j);
@@ -304,8 +303,8 @@ fn write_children(
     requires digits_value { digits.now ≡ digit_table }
     requires starts_value { starts.now ≡ start_table }
     ensures value { result ≡ at + length (family pattern) }
-    ensures cells_value { is cells ≡ written (was cells) (8 * at)
-        (child_rows level parent regular (λ d. get_or (was points) d 0) 0 (family pattern)) }
+    ensures cells_value { cells.new ≡ written cells.old (8 * at)
+        (child_rows level parent regular (λ d. get_or points.now d 0) 0 (family pattern)) }
 {
     let whole = cutting::cut_from(digits, starts, pattern);
     let count = whole.count as usize;
@@ -343,7 +342,7 @@ fn refine(
     requires ready_to_grow { ReadyToGrow cells.old xs.old ys.old heads.old links.old c status n m }
     requires digits_value { digits.now ≡ digit_table }
     requires starts_value { starts.now ≡ start_table }
-    ensures { Laid (was cells) (was xs) (was ys) c status level at n m (is cells) (is xs) (is ys) (is heads) (is links) result.at
+    ensures { Laid cells.old xs.old ys.old c status level at n m cells.new xs.new ys.new heads.new links.new result.at
         result.m }
 {
     if status == 0 {
@@ -387,8 +386,8 @@ pub fn grow_level(
     requires roomy { Roomy cells.old xs.old ys.old heads.old links.old status.now first last at n m }
     requires digits_value { digits.now ≡ digit_table }
     requires starts_value { starts.now ≡ start_table }
-    ensures { Grows (was cells) (was xs) (was ys) (was status) first (last - first) level at n m (is cells) (is xs) (is ys)
-        (is heads) (is links) result.at result.m }
+    ensures { Grows cells.old xs.old ys.old status.now first (last - first) level at n m cells.new xs.new ys.new
+        heads.new links.new result.at result.m }
 {
     let mut next = at;
     let mut k = m;

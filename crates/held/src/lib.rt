@@ -4,7 +4,6 @@
 ghost use Rattle.std.specs.Prelude.{◌≡◌, ◌+◌, ◌*◌, ◌/◌, ◌^◌, ◌≤◌, ◌<◌, min, length};
 ghost use Rattle.std.proofs.lemmas.List.Edits.{sets};
 ghost use Rattle.base.specs.Bools.{one_if};
-ghost use Rattle.base.specs.Lent.{was, is};
 ghost use Rattle.base.specs.Limits.{top_level, most_cells};
 ghost use Rattle.base.specs.Refuse.{held_after};
 ghost use Rattle.store.specs.Fields.{field, full, ENTRIES};
@@ -47,7 +46,7 @@ pub struct PathKey {
 
 // How far a part's step is. Refusals 15 and 16.
 pub fn stage(store: &[u16]) -> Progress
-    ensures { result ≡ progress_of (stage_answer (was store)) (stage_of (was store)) }
+    ensures { result ≡ progress_of (stage_answer store.now) (stage_of store.now) }
 {
     if store.len() < FULL {
         return Progress::Refused(15);
@@ -100,7 +99,7 @@ fn key_from(head: usize, digits: usize, more: usize) -> PathKey
 // The key of a master or ghost.
 pub fn key_of(store: &[u16], j: usize) -> PathKey
     requires { (full ≤ length store.now) × (j < most_cells) }
-    ensures { Keyed (entry_in (was store) j).path result.head result.digits }
+    ensures { Keyed (entry_in store.now j).path result.head result.digits }
 {
     key_from(
         store[PLACE_HEAD + j] as usize,
@@ -112,7 +111,7 @@ pub fn key_of(store: &[u16], j: usize) -> PathKey
 // Whether an entry is a ghost.
 pub fn is_ghost(store: &[u16], j: usize) -> bool
     requires { (full ≤ length store.now) × (j < most_cells) }
-    ensures { result ≡ (entry_in (was store) j).ghost }
+    ensures { result ≡ (entry_in store.now j).ghost }
 {
     store[PLACE_STATUS + j] >= 128
 }
@@ -120,7 +119,7 @@ pub fn is_ghost(store: &[u16], j: usize) -> bool
 // 1 for a ghost.
 fn ghost_number(store: &[u16], j: usize) -> u16
     requires { (full ≤ length store.now) × (j < most_cells) }
-    ensures { result ≡ one_if (entry_in (was store) j).ghost }
+    ensures { result ≡ one_if (entry_in store.now j).ghost }
 {
     if is_ghost(store, j) { 1 } else { 0 }
 }
@@ -128,7 +127,7 @@ fn ghost_number(store: &[u16], j: usize) -> u16
 // The status of an entry.
 pub fn status_of(store: &[u16], j: usize) -> u8
     requires { (full ≤ length store.now) × (j < most_cells) }
-    ensures { (result ≡ (entry_in (was store) j).status) × (result < 128) }
+    ensures { (result ≡ (entry_in store.now j).status) × (result < 128) }
 {
     (store[PLACE_STATUS + j] % 128) as u8
 }
@@ -136,7 +135,7 @@ pub fn status_of(store: &[u16], j: usize) -> u8
 // Writes the ten digits of a key.
 fn write_digits(rows: &mut [u16], at: usize, digits: u32)
     requires { at + 10 ≤ length rows.old }
-    ensures { is rows ≡ sets (was rows) at (eights 10 digits) }
+    ensures { rows.new ≡ sets rows.old at (eights 10 digits) }
 {
     let mut rest = digits;
     let mut i: usize = 0;
@@ -150,7 +149,7 @@ fn write_digits(rows: &mut [u16], at: usize, digits: u32)
 // Writes the row of an entry.
 fn write_row(store: &[u16], rows: &mut [u16], j: usize)
     requires { (full ≤ length store.now) × (j < most_cells) × (full_held ≤ length rows.old) }
-    ensures { is rows ≡ sets (was rows) (14 * j) (entry_row (entry_in (was store) j)) }
+    ensures { rows.new ≡ sets rows.old (14 * j) (entry_row (entry_in store.now j)) }
 {
     let at = 14 * j;
     let key = key_of(store, j);
@@ -164,8 +163,8 @@ fn write_row(store: &[u16], rows: &mut [u16], j: usize)
 // The masters and ghosts of a done store, fourteen numbers each: 1 for a ghost, status, level, coarse cell, ten child numbers with zeros
 // behind them. Refusals 15 and 16.
 pub fn held(store: &[u16], rows: &mut [u16]) -> Listed
-    ensures value { result ≡ listed_of (held_answer (was store) (was rows)) (length (held_in (was store))) }
-    ensures rows_value { is rows ≡ held_after (held_answer (was store) (was rows)) (held_rows (was store)) (was rows) }
+    ensures value { result ≡ listed_of (held_answer store.now rows.old) (length (held_in store.now)) }
+    ensures rows_value { rows.new ≡ held_after (held_answer store.now rows.old) (held_rows store.now) rows.old }
 {
     if store.len() < FULL {
         return Listed::Refused(15);
@@ -185,7 +184,7 @@ pub fn held(store: &[u16], rows: &mut [u16]) -> Listed
 // Writes all rows, and gives their number.
 fn write_rows(store: &[u16], rows: &mut [u16]) -> usize
     requires { (full ≤ length store.now) × (field store.now ENTRIES ≤ most_cells) × (full_held ≤ length rows.old) }
-    ensures { (result ≡ field (was store) ENTRIES) × (is rows ≡ sets (was rows) 0 (held_rows (was store))) }
+    ensures { (result ≡ field store.now ENTRIES) × (rows.new ≡ sets rows.old 0 (held_rows store.now)) }
 {
     let count = store[ENTRIES] as usize;
     let mut j: usize = 0;

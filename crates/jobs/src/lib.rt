@@ -5,7 +5,6 @@ ghost use Rattle.std.specs.Prelude.{◌≡◌, ◌++◌, ◌+◌, ◌*◌, ◌�
 ghost use Rattle.base.specs.Limits.{full_counts, most_bytes, most_cells, most_coarse_cells, most_coarse_corners};
 ghost use Rattle.counting.specs.Levels.{Levels, level_number, level_counts};
 ghost use Rattle.base.specs.Refuse.{held_after};
-ghost use Rattle.base.specs.Lent.{was, is};
 ghost use Rattle.archive.specs.Job.{job_bytes};
 ghost use Rattle.archive.specs.Form.{job_of};
 ghost use Rattle.archive.specs.Tables.{marked_of, marks_of, ends_of};
@@ -57,7 +56,7 @@ pub enum Writing {
 
 // Replays an archive; its table is in front of the lent one. Refusals 17, 1 to 5 and 7 to 9.
 fn reopen(bytes: &[u8], table: &mut [u8; 4096]) -> Outcome
-    ensures { Reopened (was bytes) (is table) result.refusal result.coarse result.cells result.levels }
+    ensures { Reopened bytes.now table.new result.refusal result.coarse result.cells result.levels }
 {
     let f = archive::examine_form(bytes);
     if !f.ok {
@@ -114,9 +113,9 @@ fn hand_out(
 ) -> usize
     requires k_le_most_cells { (k ≤ most_cells) × (k ≤ length table.old) × (full_counts ≤ length counts.old) }
     requires levels { Levels (take k new.now) coarse }
-    ensures value { result ≡ level_number 12 0 coarse (take k (was new)) }
-    ensures table_value { is table ≡ take k (was new) ++ drop k (was table) }
-    ensures counts_value { is counts ≡ level_counts 12 0 coarse (take k (was new)) ++ drop (4 * result) (was counts) }
+    ensures value { result ≡ level_number 12 0 coarse (take k new.now) }
+    ensures table_value { table.new ≡ take k new.now ++ drop k table.old }
+    ensures counts_value { counts.new ≡ level_counts 12 0 coarse (take k new.now) ++ drop (4 * result) counts.old }
 {
     let status = &new[..];
     base::copy_bytes(status, k, table);
@@ -125,10 +124,10 @@ fn hand_out(
 
 // Replays an archive: its table in the one lent, and the counts of every level. Refusals 15, 17, 1 to 5 and 7 to 9.
 pub fn replay(bytes: &[u8], table: &mut [u8], counts: &mut [u16]) -> Replayed
-    ensures { let a = replay_answer (was bytes) (was table) (was counts) in let j = job_of (was bytes) in
+    ensures { let a = replay_answer bytes.now table.old counts.old in let j = job_of bytes.now in
         (result ≡ replayed_of a (replay_size j))
-        × ((is table ≡ held_after a (job_table j) (was table))
-        × (is counts ≡ held_after a (job_counts j) (was counts))) }
+        × ((table.new ≡ held_after a (job_table j) table.old)
+        × (counts.new ≡ held_after a (job_counts j) counts.old)) }
 {
     if table.len() < MOST_CELLS {
         return Replayed::Refused(15);
@@ -151,7 +150,7 @@ pub fn replay(bytes: &[u8], table: &mut [u8], counts: &mut [u16]) -> Replayed
 
 // Whether the tables lent for a job are long enough.
 fn lent(positions: &[i32], cells: &[u16], marked: &[u16], marks: &[u8], ends: &[u16]) -> bool
-    ensures { result ≡ roomb (was positions) (was cells) (was marked) (was marks) (was ends) }
+    ensures { result ≡ roomb positions.now cells.now marked.now marks.now ends.now }
 {
     if positions.len() < FULL_POSITIONS {
         return false;
@@ -178,14 +177,14 @@ pub fn read(
     marks: &mut [u8],
     ends: &mut [u16],
 ) -> Reading
-    ensures { let a = read_answer (was bytes) (was positions) (was cells) (was marked) (was marks) (was ends) in
-        let j = job_of (was bytes) in
+    ensures { let a = read_answer bytes.now positions.old cells.old marked.old marks.old ends.old in
+        let j = job_of bytes.now in
         (result ≡ reading_of a (lengths_of j))
-        × ((is positions ≡ held_after a j.positions (was positions))
-        × ((is cells ≡ held_after a j.cells (was cells))
-        × ((is marked ≡ held_after a (marked_of j.steps) (was marked))
-        × ((is marks ≡ held_after a (marks_of j.steps) (was marks))
-        × (is ends ≡ held_after a (ends_of j.steps) (was ends)))))) }
+        × ((positions.new ≡ held_after a j.positions positions.old)
+        × ((cells.new ≡ held_after a j.cells cells.old)
+        × ((marked.new ≡ held_after a (marked_of j.steps) marked.old)
+        × ((marks.new ≡ held_after a (marks_of j.steps) marks.old)
+        × (ends.new ≡ held_after a (ends_of j.steps) ends.old))))) }
 {
     if !lent(positions, cells, marked, marks, ends) {
         return Reading::Refused(15);
@@ -231,13 +230,13 @@ pub fn write(
 ) -> Writing
     ensures value { result
         ≡ writing_of
-        (write_answer (was positions) (was cells) (was marked) (was marks) (was ends) (was bytes))
-        (length (job_bytes (job_from (was positions) (was cells) (was marked) (was marks) (was ends)))) }
-    ensures bytes_value { is bytes
+        (write_answer positions.now cells.now marked.now marks.now ends.now bytes.old)
+        (length (job_bytes (job_from positions.now cells.now marked.now marks.now ends.now))) }
+    ensures bytes_value { bytes.new
         ≡ held_after
-        (write_answer (was positions) (was cells) (was marked) (was marks) (was ends) (was bytes))
-        (job_bytes (job_from (was positions) (was cells) (was marked) (was marks) (was ends)))
-        (was bytes) }
+        (write_answer positions.now cells.now marked.now marks.now ends.now bytes.old)
+        (job_bytes (job_from positions.now cells.now marked.now marks.now ends.now))
+        bytes.old }
 {
     if bytes.len() < MOST_BYTES {
         return Writing::Refused(15);
@@ -260,8 +259,8 @@ pub fn write(
 
 // Lists an archive. Gives how many bytes the listing has.
 pub fn list(bytes: &[u8], out: &mut [u8; 512]) -> usize
-    ensures out_value { is out ≡ listing_of (was bytes) ++ drop (length (listing_of (was bytes))) (was out) }
-    ensures value { result ≡ length (listing_of (was bytes)) }
+    ensures out_value { out.new ≡ listing_of bytes.now ++ drop (length (listing_of bytes.now)) out.old }
+    ensures value { result ≡ length (listing_of bytes.now) }
 {
     let mut table = [0u8; 4096];
     let mut counts = [0u16; 44];
@@ -277,9 +276,9 @@ pub fn list(bytes: &[u8], out: &mut [u8; 512]) -> usize
 
 // Lists the first bytes of a slice, as many as count says, or all.
 fn list_front(bytes: &[u8], count: usize, out: &mut [u8; 512]) -> usize
-    ensures out_value { is out
-        ≡ listing_of (take count (was bytes)) ++ drop (length (listing_of (take count (was bytes)))) (was out) }
-    ensures value { result ≡ length (listing_of (take count (was bytes))) }
+    ensures out_value { out.new
+        ≡ listing_of (take count bytes.now) ++ drop (length (listing_of (take count bytes.now))) out.old }
+    ensures value { result ≡ length (listing_of (take count bytes.now)) }
 {
     if count > bytes.len() {
         return list(bytes, out);
@@ -290,9 +289,9 @@ fn list_front(bytes: &[u8], count: usize, out: &mut [u8; 512]) -> usize
 // Lists what was read into a buffer: its first bytes, as many as count says, or all. The buffer takes one byte more than an archive
 // may have, so that a longer input is refused; of another size it is no argument.
 pub fn list_read(buffer: &[u8; 65537], count: usize, out: &mut [u8; 512]) -> usize
-    ensures out_value { is out
-        ≡ listing_of (take count (was buffer)) ++ drop (length (listing_of (take count (was buffer)))) (was out) }
-    ensures value { result ≡ length (listing_of (take count (was buffer))) }
+    ensures out_value { out.new
+        ≡ listing_of (take count buffer.now) ++ drop (length (listing_of (take count buffer.now))) out.old }
+    ensures value { result ≡ length (listing_of (take count buffer.now)) }
 {
     list_front(buffer, count, out)
 }

@@ -37,7 +37,7 @@ member_mem x (y ∷ l) m =
     ⊎_elim (λ (e : x ≡ y). Memᴰ.head e) (λ (v : Member x l). Memᴰ.tail (member_mem x l v)) (member_cases x y l m)
 
 mem_member : (x : ℕ) (l : List ℕ) → Memᴰ x l → Member x l
-mem_member x [] m = absurd (Memᴰ.not_nil m)
+mem_member x [] m = absurd (Memᴰ.not-nil m)
 mem_member x (y ∷ l) m =
     ⊎_elim (λ (e : x ≡ y). subst (λ (z : ℕ). Member x (z ∷ l)) e (member_head x l))
     (λ (v : Memᴰ x l). member_tail x y l (mem_member x l v)) (Memᴰ.cases_cons m)

@@ -2,7 +2,6 @@
 #![tactic(auto)]
 
 ghost use Rattle.base.specs.Fours.{fours};
-ghost use Rattle.base.specs.Lent.{was, is};
 ghost use Rattle.pairs.specs.Keys.{Clear};
 ghost use Rattle.flagging.specs.Old.{SideBySide};
 ghost use Rattle.keeping.specs.Marked.{Marked, KeptOrFull};
@@ -28,7 +27,7 @@ pub fn keep(
     requires marked { Marked n mesh.now rows.now status.now marks.now kids.now kept.old }
     requires side_by_side { SideBySide xs.old ys.old links.old }
     requires clear { Clear heads.old }
-    ensures { KeptOrFull n (fours (was mesh)) (was status) (was marks) (was kept) (is kept) (was xs) result.ok result.high }
+    ensures { KeptOrFull n (fours mesh.now) status.now marks.now kept.old kept.new xs.old result.ok result.high }
 {
     flagging::treat_all(rows, status, marks, kids, kept, xs, ys, heads, links)
 }

@@ -3,7 +3,6 @@
 
 ghost use Rattle.std.specs.Prelude.{◌≡◌, ◌≤◌, T, length};
 ghost use Rattle.base.specs.Fours.{fours};
-ghost use Rattle.base.specs.Lent.{was, is};
 ghost use Rattle.cutting.specs.Answer.{digit_table, start_table};
 ghost use Rattle.mesh.specs.Table.{soundb};
 ghost use Rattle.pairs.specs.Keys.{Clear};
@@ -33,8 +32,8 @@ pub fn lay(
     requires clear { Clear heads.old }
     requires digits_value { digits.now ≡ digit_table }
     requires starts_value { starts.now ≡ start_table }
-    ensures laid_sound { LaidSound n (fours (was mesh)) (was status) (is rows) (is ps) (is qs) result.cells result.levels result.mids }
-    ensures refusal_value { (result.refusal ≡ 0) × (result.coarse ≡ length (fours (was mesh))) }
+    ensures laid_sound { LaidSound n (fours mesh.now) status.now rows.new ps.new qs.new result.cells result.levels result.mids }
+    ensures refusal_value { (result.refusal ≡ 0) × (result.coarse ≡ length (fours mesh.now)) }
 {
     let coarse = tables::lay_coarse(mesh, rows);
     let mut first = 0;

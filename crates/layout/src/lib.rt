@@ -2,7 +2,6 @@
 #![tactic(auto)]
 
 ghost use Rattle.std.specs.Prelude.{◌≡◌, true, ◌++◌, ◌+◌, ◌*◌, ◌≤◌, length, take, drop};
-ghost use Rattle.base.specs.Lent.{was, is};
 ghost use Rattle.base.specs.Limits.{full_ends, full_rows, full_sums, most_cells, most_coarse_corners};
 ghost use Rattle.base.specs.Refuse.{held_after};
 ghost use Rattle.mesh.specs.Layout.{cell_table, end_table, sum_table};
@@ -30,7 +29,7 @@ pub enum Laid {
 
 // Whether the lent tables are long enough.
 fn lent(table: &[u16], ends: &[u16], sums: &[i32]) -> bool
-    ensures { result ≡ lentb (was table) (was ends) (was sums) }
+    ensures { result ≡ lentb table.now ends.now sums.now }
 {
     if table.len() < FULL_ROWS {
         return false;
@@ -58,9 +57,9 @@ fn write_out(
     requires smalls { Smalls 500000 positions.now }
     requires cells_in_bounds { (8 * cells ≤ length rows.now) × Ends n xs.now ys.now m }
     requires full_rows_in_bounds { (full_rows ≤ length table.old) × (full_ends ≤ length ends.old) × (full_sums ≤ length sums.old) }
-    ensures table_value { is table ≡ take (8 * cells) (was rows) ++ drop (8 * cells) (was table) }
-    ensures ends_value { is ends ≡ end_numbers n (was xs) (was ys) m ++ drop (2 * (n + m)) (was ends) }
-    ensures sums_value { is sums ≡ sum_numbers (was positions) n (was xs) (was ys) m ++ drop (3 * (n + m)) (was sums) }
+    ensures table_value { table.new ≡ take (8 * cells) rows.now ++ drop (8 * cells) table.old }
+    ensures ends_value { ends.new ≡ end_numbers n xs.now ys.now m ++ drop (2 * (n + m)) ends.old }
+    ensures sums_value { sums.new ≡ sum_numbers positions.now n xs.now ys.now m ++ drop (3 * (n + m)) sums.old }
 {
     base::copy_numbers(rows, 8 * cells, table);
     corners::fill_ends(xs, ys, n, m, ends);
@@ -81,7 +80,7 @@ fn lay_out_in(
 ) -> Laid
     requires table_room { length status.now ≤ most_cells → TableRoom status.now rows.old xs.old ys.old }
     requires sums_value { lentb table.old ends.old sums.old ≡ true }
-    ensures { LaysOut (was positions) (was cells) (was status) (was table) (was ends) (was sums) result (is table) (is ends) (is sums) }
+    ensures { LaysOut positions.now cells.now status.now table.old ends.old sums.old result table.new ends.new sums.new }
 {
     let f = opening::open(positions, cells, status, rows, xs, ys);
     if f.refusal != 0 {
@@ -109,7 +108,7 @@ fn lay_out_few(
 ) -> Laid
     requires status_len_bound { length status.now ≤ 512 }
     requires sums_value { lentb table.old ends.old sums.old ≡ true }
-    ensures { LaysOut (was positions) (was cells) (was status) (was table) (was ends) (was sums) result (is table) (is ends) (is sums) }
+    ensures { LaysOut positions.now cells.now status.now table.old ends.old sums.old result table.new ends.new sums.new }
 {
     let mut rows = [0u16; 4096];
     let mut xs = [0u32; 512];
@@ -129,7 +128,7 @@ fn lay_out_many(
     sums: &mut [i32],
 ) -> Laid
     requires { lentb table.old ends.old sums.old ≡ true }
-    ensures { LaysOut (was positions) (was cells) (was status) (was table) (was ends) (was sums) result (is table) (is ends) (is sums) }
+    ensures { LaysOut positions.now cells.now status.now table.old ends.old sums.old result table.new ends.new sums.new }
 {
     let mut rows = [0u16; 32768];
     let mut xs = [0u32; 4096];
@@ -148,12 +147,12 @@ pub fn lay_out(
     ends: &mut [u16],
     sums: &mut [i32],
 ) -> Laid
-    ensures { let a = layout_answer (was positions) (was cells) (was status) (was table) (was ends) (was sums) in
-        let ks = corners_in (was positions) (was cells) (was status) in
-        (result ≡ laid_of a (sizes_of (was positions) (was cells) (was status)))
-        × ((is table ≡ held_after a (cell_table ks (cells_in (was positions) (was cells) (was status))) (was table))
-        × ((is ends ≡ held_after a (end_table ks) (was ends))
-        × (is sums ≡ held_after a (sum_table (was positions) ks) (was sums)))) }
+    ensures { let a = layout_answer positions.now cells.now status.now table.old ends.old sums.old in
+        let ks = corners_in positions.now cells.now status.now in
+        (result ≡ laid_of a (sizes_of positions.now cells.now status.now))
+        × ((table.new ≡ held_after a (cell_table ks (cells_in positions.now cells.now status.now)) table.old)
+        × ((ends.new ≡ held_after a (end_table ks) ends.old)
+        × (sums.new ≡ held_after a (sum_table positions.now ks) sums.old))) }
 {
     if !lent(table, ends, sums) {
         return Laid::Refused(15);

@@ -2,14 +2,13 @@
 #![tactic(auto)]
 
 ghost use Rattle.std.specs.Prelude.{◌≡◌, [], ◌∷◌, ◌++◌, ◌+◌, ◌*◌, ◌%◌, ◌≤◌, ◌<◌, length, drop};
-ghost use Rattle.base.specs.Lent.{was, is};
 ghost use Rattle.base.specs.Limits.{full_counts};
 ghost use Rattle.listing.specs.Lines.{digits, decimal, fields, lines, listing, refusal};
 ghost use Rattle.listing.specs.Put.{Put};
 
 fn put_byte(out: &mut [u8], at: usize, b: u8) -> usize
     requires { at < length out.old }
-    ensures { Put (was out) at (b ∷ []) (is out) result }
+    ensures { Put out.old at (b ∷ []) out.new result }
 {
     out[at] = b;
     at + 1
@@ -17,7 +16,7 @@ fn put_byte(out: &mut [u8], at: usize, b: u8) -> usize
 
 fn put_text(out: &mut [u8], at: usize, text: &[u8]) -> usize
     requires { at + length text.now ≤ length out.old }
-    ensures { Put (was out) at (was text) (is out) result }
+    ensures { Put out.old at text.now out.new result }
 {
     let mut i = 0;
     while i < text.len() {
@@ -30,7 +29,7 @@ fn put_text(out: &mut [u8], at: usize, text: &[u8]) -> usize
 // The last digit.
 fn put_digit(out: &mut [u8], at: usize, n: u16) -> usize
     requires { at < length out.old }
-    ensures { Put (was out) at ((48 + n % 10) ∷ []) (is out) result }
+    ensures { Put out.old at ((48 + n % 10) ∷ []) out.new result }
 {
     out[at] = 48 + (n % 10) as u8;
     at + 1
@@ -39,7 +38,7 @@ fn put_digit(out: &mut [u8], at: usize, n: u16) -> usize
 // At most more + 1 digits.
 fn put_digits(out: &mut [u8], at: usize, n: u16, more: usize) -> usize
     requires { at + more + 1 ≤ length out.old }
-    ensures { Put (was out) at (digits more n) (is out) result }
+    ensures { Put out.old at (digits more n) out.new result }
 {
     if more == 0 {
         return put_digit(out, at, n);
@@ -53,7 +52,7 @@ fn put_digits(out: &mut [u8], at: usize, n: u16, more: usize) -> usize
 
 fn put_number(out: &mut [u8], at: usize, n: u16) -> usize
     requires { at + 5 ≤ length out.old }
-    ensures { Put (was out) at (decimal n) (is out) result }
+    ensures { Put out.old at (decimal n) out.new result }
 {
     put_digits(out, at, n, 4)
 }
@@ -61,7 +60,7 @@ fn put_number(out: &mut [u8], at: usize, n: u16) -> usize
 // A number and the byte behind it.
 fn put_field(out: &mut [u8], at: usize, n: u16, end: u8) -> usize
     requires { at + 6 ≤ length out.old }
-    ensures { Put (was out) at (decimal n ++ (end ∷ [])) (is out) result }
+    ensures { Put out.old at (decimal n ++ (end ∷ [])) out.new result }
 {
     let p = put_number(out, at, n);
     put_byte(out, p, end)
@@ -77,7 +76,7 @@ fn put_line(
     leaf: u16,
 ) -> usize
     requires { at + 30 ≤ length out.old }
-    ensures { Put (was out) at (fields (level ∷ cells ∷ red ∷ green ∷ leaf ∷ [])) (is out) result }
+    ensures { Put out.old at (fields (level ∷ cells ∷ red ∷ green ∷ leaf ∷ [])) out.new result }
 {
     let p = put_field(out, at, level, b' ');
     let q = put_field(out, p, cells, b' ');
@@ -89,7 +88,7 @@ fn put_line(
 // A line for each level.
 fn put_lines(out: &mut [u8], at: usize, counts: &[u16]) -> usize
     requires { (length counts.now ≤ full_counts) × (at + 8 * length counts.now ≤ length out.old) }
-    ensures { Put (was out) at (lines 0 (was counts)) (is out) result }
+    ensures { Put out.old at (lines 0 counts.now) out.new result }
 {
     let mut level = 0;
     let mut p = at;
@@ -113,8 +112,8 @@ fn put_lines(out: &mut [u8], at: usize, counts: &[u16]) -> usize
 pub fn write_listing(counts: &[u16], out: &mut [u8]) -> usize
     requires counts_len_bound { length counts.now ≤ full_counts }
     requires in_bounds { 512 ≤ length out.old }
-    ensures out_value { is out ≡ listing (was counts) ++ drop (length (listing (was counts))) (was out) }
-    ensures value { result ≡ length (listing (was counts)) }
+    ensures out_value { out.new ≡ listing counts.now ++ drop (length (listing counts.now)) out.old }
+    ensures value { result ≡ length (listing counts.now) }
 {
     let p = put_text(out, 0, b"level cells red green leaf\n");
     put_lines(out, p, counts)
@@ -123,7 +122,7 @@ pub fn write_listing(counts: &[u16], out: &mut [u8]) -> usize
 // The line of a refused archive.
 pub fn write_refusal(k: u8, out: &mut [u8]) -> usize
     requires { 14 ≤ length out.old }
-    ensures out_value { is out ≡ refusal k ++ drop (length (refusal k)) (was out) }
+    ensures out_value { out.new ≡ refusal k ++ drop (length (refusal k)) out.old }
     ensures value { result ≡ length (refusal k) }
 {
     let p = put_text(out, 0, b"refused ");

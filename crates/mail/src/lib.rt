@@ -3,7 +3,6 @@
 
 ghost use Rattle.std.specs.Prelude.{◌≡◌, true, ◌+◌, ◌-◌, ◌*◌, ◌≤◌, ◌<◌, min, max, length};
 ghost use Rattle.std.proofs.lemmas.List.Edits.{sets};
-ghost use Rattle.base.specs.Lent.{was, is};
 ghost use Rattle.base.specs.Limits.{most_cells, too_many};
 ghost use Rattle.store.specs.Fields.{field, full, CELLS, PART, most_entries};
 ghost use Rattle.store.specs.Header.{stageb, headerb};
@@ -26,7 +25,7 @@ const HIGH_MOST: u8 = MOST_LEVELS as u8;
 // Whether the stage fits the round and the result.
 fn stage_fits(store: &[u16]) -> bool
     requires { full ≤ length store.now }
-    ensures { result ≡ stageb (was store) }
+    ensures { result ≡ stageb store.now }
 {
     let stage = store[STAGE];
     let round = store[ROUND] as usize;
@@ -62,7 +61,7 @@ fn stage_fits(store: &[u16]) -> bool
 // Whether the stage, the part and the counts lie in their ranges.
 pub fn header_fits(store: &[u16]) -> bool
     requires { full ≤ length store.now }
-    ensures { result ≡ headerb (was store) }
+    ensures { result ≡ headerb store.now }
 {
     if store[PARTS] < 1 {
         return false;
@@ -124,7 +123,7 @@ fn bit_from(mask: usize, from: usize) -> usize
 // How many messages are written.
 fn entries(store: &[u16]) -> usize
     requires { full ≤ length store.now }
-    ensures { (result ≡ entry_count (was store)) × (result ≤ most_entries) }
+    ensures { (result ≡ entry_count store.now) × (result ≤ most_entries) }
 {
     let n = store[WRITTEN] as usize;
     if n < MOST_ENTRIES { n } else { MOST_ENTRIES }
@@ -133,7 +132,7 @@ fn entries(store: &[u16]) -> usize
 // The next message to give.
 fn next(store: &[u16]) -> Spot
     requires { full ≤ length store.now }
-    ensures { result ≡ next_to_give (was store) }
+    ensures { result ≡ next_to_give store.now }
 {
     let n = entries(store);
     let mut j = store[CURSOR] as usize;
@@ -155,7 +154,7 @@ fn next(store: &[u16]) -> Spot
 // Stores a number's two bytes, least byte first.
 fn put_two(out: &mut [u8], at: usize, x: usize)
     requires { (at + 2 ≤ length out.old) × (x < 65536) }
-    ensures { is out ≡ sets (was out) at (two x) }
+    ensures { out.new ≡ sets out.old at (two x) }
 {
     out[at] = (x % 256) as u8;
     out[at + 1] = (x / 256 % 256) as u8;
@@ -177,7 +176,7 @@ fn kind_of(code: usize) -> u8
 // Stores what stands behind a message's heading, and gives the message's length.
 fn put_body(out: &mut [u8], code: usize, value: usize) -> usize
     requires { (9 ≤ length out.old) × (value < 65536) }
-    ensures { (result ≡ 5 + length (body_of code value)) × (is out ≡ sets (was out) 5 (body_of code value)) }
+    ensures { (result ≡ 5 + length (body_of code value)) × (out.new ≡ sets out.old 5 (body_of code value)) }
 {
     if code < COUNT_CODE {
         put_two(out, 5, code);
@@ -201,7 +200,7 @@ fn put_body(out: &mut [u8], code: usize, value: usize) -> usize
 fn put_message(out: &mut [u8], from: u8, to: u8, count: usize, code: usize, value: usize) -> usize
     requires { (9 ≤ length out.old) × (count < 65536) × (value < 65536) }
     ensures value { result ≡ length (message_of from to count code value) }
-    ensures out_value { is out ≡ sets (was out) 0 (message_of from to count code value) }
+    ensures out_value { out.new ≡ sets out.old 0 (message_of from to count code value) }
 {
     out[0] = kind_of(code);
     out[1] = from;
@@ -213,9 +212,9 @@ fn put_message(out: &mut [u8], from: u8, to: u8, count: usize, code: usize, valu
 // Stores the message that an entry is for a receiver, and moves the cursor behind it.
 fn give(store: &mut [u16], out: &mut [u8], j: usize, b: usize) -> usize
     requires { (full ≤ length store.old) × (9 ≤ length out.old) × (field store.old PART < 256) × (j < most_entries) × (b < 16) }
-    ensures value { (result ≡ length (given (was store) (spot_at j b)))
-        × (is out ≡ sets (was out) 0 (given (was store) (spot_at j b))) }
-    ensures store_value { is store ≡ passed_by (was store) (spot_at j b) }
+    ensures value { (result ≡ length (given store.old (spot_at j b)))
+        × (out.new ≡ sets out.old 0 (given store.old (spot_at j b))) }
+    ensures store_value { store.new ≡ passed_by store.old (spot_at j b) }
 {
     let count = store[GIVEN + b] as usize;
     let from = store[PART] as u8;
@@ -230,9 +229,9 @@ fn give(store: &mut [u16], out: &mut [u8], j: usize, b: usize) -> usize
 
 // The next message that the part has written, or none where all are given.
 pub fn fetch(store: &mut [u16], out: &mut [u8]) -> Fetched
-    ensures value { result ≡ fetch_answer (was store) (was out) }
-    ensures out_value { is out ≡ fetch_bytes (was store) (was out) }
-    ensures store_value { is store ≡ fetch_after (was store) (was out) }
+    ensures value { result ≡ fetch_answer store.old out.old }
+    ensures out_value { out.new ≡ fetch_bytes store.old out.old }
+    ensures store_value { store.new ≡ fetch_after store.old out.old }
 {
     if store.len() < FULL {
         return Fetched::Refused(15);
@@ -258,7 +257,7 @@ pub fn fetch(store: &mut [u16], out: &mut [u8]) -> Fetched
 // The number of two bytes, least byte first.
 fn number(bytes: &[u8], at: usize) -> usize
     requires { at + 2 ≤ length bytes.now }
-    ensures { (result ≡ number_at (was bytes) at) × (result < 65536) }
+    ensures { (result ≡ number_at bytes.now at) × (result < 65536) }
 {
     bytes[at] as usize + 256 * (bytes[at + 1] as usize)
 }
@@ -281,7 +280,7 @@ fn length_of(kind: u8) -> usize
 
 // Whether bytes have a kind and its length.
 fn shape_fits(bytes: &[u8]) -> bool
-    ensures { result ≡ shapeb (was bytes) }
+    ensures { result ≡ shapeb bytes.now }
 {
     if bytes.len() == 0 {
         return false;
@@ -292,7 +291,7 @@ fn shape_fits(bytes: &[u8]) -> bool
 // Whether the message is from another part to this one.
 fn route_fits(store: &[u16], bytes: &[u8]) -> bool
     requires { (full ≤ length store.now) × (5 ≤ length bytes.now) }
-    ensures { result ≡ routeb (was store) (was bytes) }
+    ensures { result ≡ routeb store.now bytes.now }
 {
     let from = bytes[1] as u16;
     let to = bytes[2] as u16;
@@ -311,7 +310,7 @@ fn route_fits(store: &[u16], bytes: &[u8]) -> bool
 // Whether the part holds the cell, and the mark is 0 or 1.
 fn mark_fits(store: &[u16], bytes: &[u8]) -> bool
     requires { (full ≤ length store.now) × (8 ≤ length bytes.now) × (field store.now CELLS ≤ most_cells) }
-    ensures { result ≡ ghost_markb (was store) (was bytes) }
+    ensures { result ≡ ghost_markb store.now bytes.now }
 {
     let cell = number(bytes, 5);
     if cell >= store[CELLS] as usize {
@@ -326,7 +325,7 @@ fn mark_fits(store: &[u16], bytes: &[u8]) -> bool
 // Whether the part holds the edge, and the count is 1 to 4,096.
 fn count_fits(store: &[u16], bytes: &[u8]) -> bool
     requires { (full ≤ length store.now) × (9 ≤ length bytes.now) }
-    ensures { result ≡ edge_countb (was store) (was bytes) }
+    ensures { result ≡ edge_countb store.now bytes.now }
 {
     let slot = number(bytes, 5);
     if slot >= MOST_SLOTS {
@@ -345,7 +344,7 @@ fn count_fits(store: &[u16], bytes: &[u8]) -> bool
 // Whether the totals lie in their ranges.
 fn total_fits(bytes: &[u8]) -> bool
     requires { 8 ≤ length bytes.now }
-    ensures { result ≡ cell_totalb (was bytes) }
+    ensures { result ≡ cell_totalb bytes.now }
 {
     if number(bytes, 5) > TOO_MANY {
         return false;
@@ -356,7 +355,7 @@ fn total_fits(bytes: &[u8]) -> bool
 // Whether what stands behind a heading fits.
 fn content_fits(store: &[u16], bytes: &[u8]) -> bool
     requires { (full ≤ length store.now) × (shapeb bytes.now ≡ true) × (field store.now CELLS ≤ most_cells) }
-    ensures { result ≡ contentb (was store) (was bytes) }
+    ensures { result ≡ contentb store.now bytes.now }
 {
     let kind = bytes[0];
     if kind == 1 {
@@ -374,7 +373,7 @@ fn content_fits(store: &[u16], bytes: &[u8]) -> bool
 // Whether a message is one for this store.
 fn is_well(store: &[u16], bytes: &[u8]) -> bool
     requires { (full ≤ length store.now) × (field store.now CELLS ≤ most_cells) }
-    ensures { result ≡ wellb (was store) (was bytes) }
+    ensures { result ≡ wellb store.now bytes.now }
 {
     if !shape_fits(bytes) {
         return false;
@@ -402,7 +401,7 @@ fn larger_of(a: u16, b: u16) -> u16
 // Takes what a message says into the store.
 fn absorb(store: &mut [u16], bytes: &[u8])
     requires { (full ≤ length store.old) × Ranges bytes.now }
-    ensures { is store ≡ absorbed (was store) (was bytes) }
+    ensures { store.new ≡ absorbed store.old bytes.now }
 {
     let kind = bytes[0];
     if kind == 1 {
@@ -431,7 +430,7 @@ fn absorb(store: &mut [u16], bytes: &[u8])
 // Counts a message and takes it.
 fn take(store: &mut [u16], bytes: &[u8])
     requires { (full ≤ length store.old) × Ranges bytes.now }
-    ensures { is store ≡ absorbed (counted (was store) (was bytes)) (was bytes) }
+    ensures { store.new ≡ absorbed (counted store.old bytes.now) bytes.now }
 {
     let from = bytes[1] as usize;
     store[TAKEN + from] = ((store[TAKEN + from] as usize + 1) % 65536) as u16;
@@ -440,8 +439,8 @@ fn take(store: &mut [u16], bytes: &[u8])
 
 // Hands a message over.
 pub fn hand(store: &mut [u16], bytes: &[u8]) -> Answer
-    ensures value { result ≡ hand_answer (was store) (was bytes) }
-    ensures store_value { is store ≡ hand_after (was store) (was bytes) }
+    ensures value { result ≡ hand_answer store.old bytes.now }
+    ensures store_value { store.new ≡ hand_after store.old bytes.now }
 {
     if store.len() < FULL {
         return Answer::Refused(15);

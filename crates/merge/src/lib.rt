@@ -4,7 +4,6 @@
 ghost use Rattle.std.specs.Prelude.{◌≡◌, [], ◌∷◌, ◌+◌, ◌*◌, ◌/◌, ◌≤◌, ◌<◌, T, eqb, length, take, drop};
 ghost use Rattle.std.proofs.lemmas.List.Edits.{sets};
 ghost use Rattle.base.specs.Fours.{fours};
-ghost use Rattle.base.specs.Lent.{was, is};
 ghost use Rattle.base.specs.Limits.{full_coarse, most_cells, most_coarse_cells, most_coarse_corners, most_parts};
 ghost use Rattle.base.specs.Lists.{allb, anyb};
 ghost use Rattle.base.specs.Refuse.{held_after};
@@ -33,7 +32,7 @@ pub enum Merged {
 // One of the stores.
 fn store_at(stores: &[u16], j: usize) -> &[u16]
     requires { (most_parts * full ≤ length stores.now) × (j < most_parts) }
-    ensures { (result.now ≡ store_in (was stores) j) × (length result.now ≡ full) }
+    ensures { (result.now ≡ store_in stores.now j) × (length result.now ≡ full) }
 {
     let from = FULL * j;
     let to = from + FULL;
@@ -53,7 +52,7 @@ fn load_one(
 ) -> usize
     requires full_in_bounds { (full ≤ length store.now) × (j < most_cells) }
     requires begun { Begun xs.old ys.old heads.old links.old sts.old n }
-    ensures { Load (entry_in (was store) j ∷ []) (was xs) (was ys) (was sts) n (is xs) (is ys) (is heads) (is links) (is sts) result }
+    ensures { Load (entry_in store.now j ∷ []) xs.old ys.old sts.old n xs.new ys.new heads.new links.new sts.new result }
 {
     if is_ghost(store, j) {
         return n;
@@ -79,7 +78,7 @@ fn load_store(
 ) -> usize
     requires full_in_bounds { (full ≤ length store.now) × (field store.now ENTRIES ≤ most_cells) }
     requires begun { Begun xs.old ys.old heads.old links.old sts.old n }
-    ensures { Load (held_in (was store)) (was xs) (was ys) (was sts) n (is xs) (is ys) (is heads) (is links) (is sts) result }
+    ensures { Load (held_in store.now) xs.old ys.old sts.old n xs.new ys.new heads.new links.new sts.new result }
 {
     let mut r = n;
     let mut j = store[ENTRIES] as usize;
@@ -96,7 +95,7 @@ fn load_store(
 // Whether a store is done, and of the same parts, corners, coarse cells and result as the first.
 fn is_alike(stores: &[u16], j: usize) -> bool
     requires { (most_parts * full ≤ length stores.now) × (j < most_parts) }
-    ensures { result ≡ alikeb (was stores) (store_in (was stores) j) }
+    ensures { result ≡ alikeb stores.now (store_in stores.now j) }
 {
     let store = store_at(stores, j);
     if !header_fits(store) {
@@ -120,7 +119,7 @@ fn is_alike(stores: &[u16], j: usize) -> bool
 // Whether all stores are so.
 fn all_alike(stores: &[u16], parts: usize) -> bool
     requires { (most_parts * full ≤ length stores.now) × (parts ≤ most_parts) }
-    ensures { result ≡ allb (alikeb (was stores)) (stores_by (was stores) parts) }
+    ensures { result ≡ allb (alikeb stores.now) (stores_by stores.now parts) }
 {
     let mut j: usize = 0;
     while j < parts {
@@ -135,7 +134,7 @@ fn all_alike(stores: &[u16], parts: usize) -> bool
 // Whether a part is among the stores.
 fn has_part(stores: &[u16], parts: usize, p: usize) -> bool
     requires { (most_parts * full ≤ length stores.now) × (parts ≤ most_parts) }
-    ensures { result ≡ anyb (λ x. eqb (field x PART) p) (stores_by (was stores) parts) }
+    ensures { result ≡ anyb (λ x. eqb (field x PART) p) (stores_by stores.now parts) }
 {
     let mut j: usize = 0;
     while j < parts {
@@ -150,7 +149,7 @@ fn has_part(stores: &[u16], parts: usize, p: usize) -> bool
 // Whether each part is.
 fn has_all(stores: &[u16], parts: usize) -> bool
     requires { (most_parts * full ≤ length stores.now) × (parts ≤ most_parts) }
-    ensures { result ≡ everyb (stores_by (was stores) parts) }
+    ensures { result ≡ everyb (stores_by stores.now parts) }
 {
     let mut i: usize = 0;
     while i < parts {
@@ -165,7 +164,7 @@ fn has_all(stores: &[u16], parts: usize) -> bool
 // The first store that has a coarse cell as master; as many as there are parts where none has.
 fn owner_at(stores: &[u16], parts: usize, i: usize) -> usize
     requires { (most_parts * full ≤ length stores.now) × (parts ≤ most_parts) × (i < most_coarse_cells) }
-    ensures { OwnedAt (was stores) parts i result }
+    ensures { OwnedAt stores.now parts i result }
 {
     let mut j: usize = 0;
     while j < parts {
@@ -181,7 +180,7 @@ fn owner_at(stores: &[u16], parts: usize, i: usize) -> usize
 // Copies the corners of a coarse cell.
 fn copy_corners(stores: &[u16], j: usize, i: usize, mesh: &mut [u16])
     requires { (most_parts * full ≤ length stores.now) × (j < most_parts) × (i < most_coarse_cells) × (length mesh.old ≡ full_coarse) }
-    ensures { is mesh ≡ sets (was mesh) (4 * i) (take 4 (drop (CORNER + 4 * i) (store_in (was stores) j))) }
+    ensures { mesh.new ≡ sets mesh.old (4 * i) (take 4 (drop (CORNER + 4 * i) (store_in stores.now j))) }
 {
     let from = FULL * j + (CORNER + 4 * i);
     let at = 4 * i;
@@ -194,7 +193,7 @@ fn copy_corners(stores: &[u16], j: usize, i: usize, mesh: &mut [u16])
 // Whether a cell's corner numbers rise, and are of so many corners.
 fn corners_rise(mesh: &[u16], i: usize, n: usize) -> bool
     requires { (i < most_coarse_cells) × (length mesh.now ≡ full_coarse) }
-    ensures { result ≡ cellb n (take 4 (drop (4 * i) (was mesh))) }
+    ensures { result ≡ cellb n (take 4 (drop (4 * i) mesh.now)) }
 {
     let at = 4 * i;
     let a = mesh[at];
@@ -217,7 +216,7 @@ fn corners_rise(mesh: &[u16], i: usize, n: usize) -> bool
 fn gather_corners(stores: &[u16], parts: usize, n: usize, m: usize, mesh: &mut [u16]) -> bool
     requires { (most_parts * full ≤ length stores.now) × (parts ≤ most_parts) × (m ≤ most_coarse_cells)
         × (length mesh.old ≡ full_coarse) }
-    ensures { Gathered (was stores) parts n m (is mesh) result }
+    ensures { Gathered stores.now parts n m mesh.new result }
 {
     let mut i: usize = 0;
     while i < m {
@@ -247,7 +246,7 @@ fn load_all(
     requires full_in_bounds { (most_parts * full ≤ length stores.now) × (parts ≤ most_parts) }
     requires few_entries { FewEntries stores.now parts }
     requires begun { Begun xs.old ys.old heads.old links.old sts.old 0 }
-    ensures { Load (entries_by (was stores) parts) (was xs) (was ys) (was sts) 0 (is xs) (is ys) (is heads) (is links) (is sts) result }
+    ensures { Load (entries_by stores.now parts) xs.old ys.old sts.old 0 xs.new ys.new heads.new links.new sts.new result }
 {
     let mut r: usize = 0;
     let mut i = parts;
@@ -265,7 +264,7 @@ fn load_all(
 // Starts the row of keys with the coarse cells.
 fn seed(px: &mut [u32], py: &mut [u32], m: usize)
     requires { (m ≤ most_coarse_cells) × (length px.old ≡ most_cells) × (length py.old ≡ most_cells) }
-    ensures { Seeded (is px) (is py) m }
+    ensures { Seeded px.new py.new m }
 {
     let mut i: usize = 0;
     while i < m {
@@ -279,7 +278,7 @@ fn seed(px: &mut [u32], py: &mut [u32], m: usize)
 fn push(px: &mut [u32], py: &mut [u32], end: usize, x: u32, y: u32, size: usize)
     requires key { Key x y × (x / 256 < 10) × (size ≤ 8) }
     requires size_bound { (end + size ≤ most_cells) × (length px.old ≡ most_cells) × (length py.old ≡ most_cells) }
-    ensures { Pushed (was px) (was py) end x y size (is px) (is py) }
+    ensures { Pushed px.old py.old end x y size px.new py.new }
 {
     let most = power(x as usize / 256);
     let mut i: usize = 0;
@@ -306,7 +305,7 @@ fn settle(
 ) -> usize
     requires begun { Begun xs.now ys.now heads.now links.now sts.now n }
     requires key_row { KeyRow px.old py.old st.old c end × (c < end) }
-    ensures { CellFound (was xs) (was ys) (was sts) n (was px) (was py) (was st) c end (is px) (is py) (is st) result }
+    ensures { CellFound xs.now ys.now sts.now n px.old py.old st.old c end px.new py.new st.new result }
 {
     let x = px[c];
     let y = py[c];
@@ -348,7 +347,7 @@ fn build(
 ) -> usize
     requires begun { Begun xs.now ys.now heads.now links.now sts.now n }
     requires px_len { (length px.old ≡ most_cells) × (length py.old ≡ most_cells) × (length st.old ≡ most_cells) × (m ≤ most_coarse_cells) }
-    ensures { Built (was xs) (was ys) (was sts) n m (is st) result }
+    ensures { Built xs.now ys.now sts.now n m st.new result }
 {
     seed(px, py, m);
     let mut c: usize = 0;
@@ -368,7 +367,7 @@ fn build(
 fn assemble(stores: &[u16], parts: usize, m: usize, st: &mut [u8; 4096]) -> usize
     requires full_in_bounds { (most_parts * full ≤ length stores.now) × (parts ≤ most_parts) × (m ≤ most_coarse_cells) × (length st.old ≡ most_cells) }
     requires few_entries { FewEntries stores.now parts }
-    ensures { Assembled (was stores) parts m (is st) result }
+    ensures { Assembled stores.now parts m st.new result }
 {
     let mut xs = [0u32; 4096];
     let mut ys = [0u32; 4096];
@@ -405,7 +404,7 @@ fn finish(
 ) -> bool
     requires le_m { (1 ≤ m) × (m ≤ most_coarse_cells) × (n ≤ most_coarse_corners) × (r ≤ most_cells) × (most_cells ≤ length table.old) }
     requires t { T (cellsb n (fours (take (4 * m) mesh.now))) }
-    ensures { HandedOut n (fours (take (4 * m) (was mesh))) (take r (was st)) (was table) (is table) result }
+    ensures { HandedOut n (fours (take (4 * m) mesh.now)) (take r st.now) table.old table.new result }
 {
     let cells = &mesh[..];
     let status = &st[..];
@@ -425,9 +424,9 @@ fn finish(
 // not every part once, all done with the same result, or make no sound table.
 pub fn merge(stores: &[u16], table: &mut [u8]) -> Merged
     ensures value { result
-        ≡ merged_of (merge_answer (was stores) (was table)) (length (merge_table (stores_in (was stores)) (field (was stores) COARSE))) }
-    ensures table_value { is table
-        ≡ held_after (merge_answer (was stores) (was table)) (merge_table (stores_in (was stores)) (field (was stores) COARSE)) (was table) }
+        ≡ merged_of (merge_answer stores.now table.old) (length (merge_table (stores_in stores.now) (field stores.now COARSE))) }
+    ensures table_value { table.new
+        ≡ held_after (merge_answer stores.now table.old) (merge_table (stores_in stores.now) (field stores.now COARSE)) table.old }
 {
     if stores.len() < MOST_PARTS * FULL {
         return Merged::Refused(15);

@@ -36,7 +36,7 @@ module _ {Part : Type 0} {F : Finite Part} (X : Settled F) where
 
   all_in : (l : List Part) (e : Entry) → Memᴰ e (entries_all l) → (p : Part) × Memᴰ p l × Memᴰ e (entries_in X p)
   unfolding entries_all
-  all_in [] e m = absurd (mathlib.Core.List.Memᴰ.not_nil m)
+  all_in [] e m = absurd (mathlib.Core.List.Memᴰ.not-nil m)
   all_in (p ∷ l) e m =
       ⊎_elim (λ (u : Memᴰ e (entries_in X p)). (p, mathlib.Core.List.Memᴰ.head refl, u))
       (λ (u : Memᴰ e (entries_all l)). let (q, a, v) = all_in l e u in (q, mathlib.Core.List.Memᴰ.tail a, v))

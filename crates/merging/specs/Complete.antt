@@ -39,7 +39,7 @@ master_paths (e ∷ l) = elim e.ghost [ true ↦ master_paths l | false ↦ e.pa
 pub path_from : (es : List Entry) (l : List ℕ) → Memᴰ l (master_paths es) → (e : Entry) × Memᴰ e es × (e.ghost ≡ false)
     × (e.path ≡ l)
 unfolding master_paths
-path_from [] l m = absurd (mathlib.Core.List.Memᴰ.not_nil m)
+path_from [] l m = absurd (mathlib.Core.List.Memᴰ.not-nil m)
 path_from (e ∷ es) l m = go e.ghost refl (path_from es l)
   where
     go : (b : Bool) → e.ghost ≡ b → (Memᴰ l (master_paths es) → (e : Entry) × Memᴰ e es × (e.ghost ≡ false) × (e.path ≡ l))
@@ -52,7 +52,7 @@ path_from (e ∷ es) l m = go e.ghost refl (path_from es l)
 
 pub path_by : (es : List Entry) (e : Entry) → Memᴰ e es → e.ghost ≡ false → Memᴰ e.path (master_paths es)
 unfolding master_paths
-path_by [] e m g = absurd (mathlib.Core.List.Memᴰ.not_nil m)
+path_by [] e m g = absurd (mathlib.Core.List.Memᴰ.not-nil m)
 path_by (f ∷ es) e m g = go f.ghost refl (path_by es e)
   where
     go : (b : Bool) → f.ghost ≡ b → (Memᴰ e es → e.ghost ≡ false → Memᴰ e.path (master_paths es))
@@ -204,7 +204,7 @@ module _ (es : List Entry) where
 
 mastered : (es : List Entry) (e : Entry) → Memᴰ e es → e.ghost ≡ false → T (anyb (λ f. sameb f.path e.path) (masters es))
 unfolding masters filterb anyb
-mastered [] e m g = absurd (mathlib.Core.List.Memᴰ.not_nil m)
+mastered [] e m g = absurd (mathlib.Core.List.Memᴰ.not-nil m)
 mastered (f ∷ es) e m g = go f.ghost refl (mastered es e)
   where
     test : Entry → Bool

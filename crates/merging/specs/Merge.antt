@@ -39,7 +39,7 @@ use Rattle.splitting.specs.Paths.{one_place}
 lookup_is : (es : List Entry) (l : List ℕ) (x : ℕ) (e : Entry) → Memᴰ e es → e.ghost ≡ false → e.path ≡ l
     → ((e : Entry) → Memᴰ e es → e.ghost ≡ false → e.path ≡ l → e.status ≡ x) → lookup es l ≡ x
 unfolding lookup
-lookup_is [] l x e m g q h = absurd (Memᴰ.not_nil m)
+lookup_is [] l x e m g q h = absurd (Memᴰ.not-nil m)
 lookup_is (f ∷ es) l x e m g q h =
     go f.ghost refl (sameb f.path l) refl (λ n. lookup_is es l x e n g q (λ e m. h e (Memᴰ.tail m)))
   where

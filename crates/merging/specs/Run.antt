@@ -61,7 +61,7 @@ named Q = record { back = λ p. native.Mathlib.Fin.val_path (low p.0 p.1); forth
 
 fins_below : (P k : ℕ) (h : k ≤ P) (p : Fin P) → Memᴰ p (fins P k h) → p.0 < k
 unfolding fins
-fins_below P zero h p m = absurd (mathlib.Core.List.Memᴰ.not_nil m)
+fins_below P zero h p m = absurd (mathlib.Core.List.Memᴰ.not-nil m)
 fins_below P (suc k) h p m =
     ⊎_elim (λ (e : p ≡ (k, h)). let z : p.0 ≡ k = ap (λ (x : Fin P). x.0) e in omega arith)
     (λ (n : Memᴰ p (fins P k (step_down h))). let z = fins_below P k (step_down h) p n in omega arith) (mathlib.Core.List.Memᴰ.cases_cons m)

@@ -2,7 +2,6 @@
 #![tactic(auto)]
 
 ghost use Rattle.std.specs.Prelude.{◌≡◌, ◌≤◌, length};
-ghost use Rattle.base.specs.Lent.{was, is};
 ghost use Rattle.base.specs.Limits.{most_cells};
 ghost use Rattle.mesh.specs.Answers.{table_answer};
 ghost use Rattle.tables.specs.Room.{TableRoom};
@@ -21,7 +20,7 @@ pub fn open(
     ys: &mut [u32],
 ) -> Outcome
     requires { length status.now ≤ most_cells → TableRoom status.now rows.old xs.old ys.old }
-    ensures { Opened (was positions) (was cells) (was status) (is rows) (is xs) (is ys) result.refusal result.cells result.levels result.mids }
+    ensures { Opened positions.now cells.now status.now rows.new xs.new ys.new result.refusal result.cells result.levels result.mids }
 {
     let refusal = base::code(coarse::examine_mesh(positions, cells));
     if refusal != 0 {
@@ -32,7 +31,7 @@ pub fn open(
 
 // Whether a mesh and a table over it are accepted, and if not, why: refusals 1 to 6.
 pub fn examine_table(positions: &[i32], cells: &[u16], status: &[u8]) -> Answer
-    ensures { result ≡ table_answer (was positions) (was cells) (was status) }
+    ensures { result ≡ table_answer positions.now cells.now status.now }
 {
     let mut rows = [0u16; 32768];
     let mut xs = [0u32; 4096];

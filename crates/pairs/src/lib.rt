@@ -4,7 +4,6 @@
 #![tactic(auto)]
 
 ghost use Rattle.std.specs.Prelude.{◌≡◌, ◌-◌, ◌<◌, ◌≤◌, length};
-ghost use Rattle.base.specs.Lent.{was, is};
 ghost use Rattle.spots.specs.Spots.{buckets_of};
 ghost use Rattle.pairs.specs.Keys.{bucket, hereb, seek, Keys, Room, Clear, Added};
 
@@ -20,7 +19,7 @@ pub fn bucket_of(k: usize, x: u32, y: u32) -> usize
 // Whether entry e is the pair.
 fn stands(xs: &[u32], ys: &[u32], e: usize, x: u32, y: u32) -> bool
     requires { (e < length xs.now) × (e < length ys.now) }
-    ensures { result ≡ hereb (was xs) (was ys) x y e }
+    ensures { result ≡ hereb xs.now ys.now x y e }
 {
     if xs[e] == x { ys[e] == y } else { false }
 }
@@ -28,7 +27,7 @@ fn stands(xs: &[u32], ys: &[u32], e: usize, x: u32, y: u32) -> bool
 // Makes the table empty.
 pub fn clear(heads: &mut [u16])
     requires { 1024 ≤ length heads.old }
-    ensures { Clear (is heads) }
+    ensures { Clear heads.new }
 {
     let k = heads.len();
     for b in 0..k {
@@ -48,7 +47,7 @@ pub fn find(
     y: u32,
 ) -> usize
     requires { Keys xs.now ys.now heads.now links.now n }
-    ensures { result ≡ seek (was xs) (was ys) x y from (n - from) }
+    ensures { result ≡ seek xs.now ys.now x y from (n - from) }
 {
     let b = bucket_of(heads.len(), x, y);
     let mut e = heads[b];
@@ -77,7 +76,7 @@ pub fn add(
 )
     requires keys { Keys xs.old ys.old heads.old links.old n }
     requires room { Room xs.old ys.old links.old n }
-    ensures { Added (was xs) (was ys) n x y (is xs) (is ys) (is heads) (is links) }
+    ensures { Added xs.old ys.old n x y xs.new ys.new heads.new links.new }
 {
     let b = bucket_of(heads.len(), x, y);
     let before = heads[b];

@@ -2,7 +2,6 @@
 #![tactic(auto)]
 
 ghost use Rattle.std.specs.Prelude.{◌≡◌, true, false, ◌≤◌, ◌<◌, eqb, length};
-ghost use Rattle.base.specs.Lent.{was, is};
 ghost use Rattle.base.specs.Limits.{most_parts, most_cells};
 ghost use Rattle.store.specs.Fields.{field, full, CELLS, PARTS};
 ghost use Rattle.turns.specs.Usable.{Usable};
@@ -23,7 +22,7 @@ use turns::{enter_counts, enter_marks, others_of, post, post_end};
 // Whether the end of the round from another part is not taken yet.
 fn waits_for(store: &[u16], q: usize) -> bool
     requires { (full ≤ length store.now) × (q ≤ most_parts) }
-    ensures { result ≡ waits_for (was store) q }
+    ensures { result ≡ waits_for store.now q }
 {
     if q == store[PART] as usize {
         return false;
@@ -34,7 +33,7 @@ fn waits_for(store: &[u16], q: usize) -> bool
 // Whether no other part is waited for.
 fn is_ready(store: &[u16]) -> bool
     requires { (full ≤ length store.now) × (field store.now PARTS ≤ most_parts) }
-    ensures { result ≡ readyb (was store) }
+    ensures { result ≡ readyb store.now }
 {
     let last = store[PARTS] as usize + 1;
     let mut q: usize = 1;
@@ -50,7 +49,7 @@ fn is_ready(store: &[u16]) -> bool
 // Writes the own totals for all others.
 fn post_totals(store: &mut [u16])
     requires { Usable store.old }
-    ensures { is store ≡ post_totals (was store) }
+    ensures { store.new ≡ post_totals store.old }
 {
     let mask = others_of(store);
     let code = (TOTALS_CODE + store[HIGH] as usize) % 65536;
@@ -61,7 +60,7 @@ fn post_totals(store: &mut [u16])
 // Sets entries and totals to 0.
 fn clear(store: &mut [u16])
     requires { full ≤ length store.old }
-    ensures { is store ≡ cleared (was store) }
+    ensures { store.new ≡ cleared store.old }
 {
     store[ENTRIES] = 0;
     store[TOTAL] = 0;
@@ -71,7 +70,7 @@ fn clear(store: &mut [u16])
 // Enters the round of totals.
 fn enter_totals(store: &mut [u16])
     requires { Usable store.old }
-    ensures { is store ≡ enter_totals (was store) }
+    ensures { store.new ≡ enter_totals store.old }
 {
     clear(store);
     place_cells(store);
@@ -82,7 +81,7 @@ fn enter_totals(store: &mut [u16])
 // The result from the totals of all parts: 8, 9 or 0.
 fn end_number(store: &[u16]) -> u16
     requires { full ≤ length store.now }
-    ensures { result ≡ end_number (was store) }
+    ensures { result ≡ end_number store.now }
 {
     if store[HIGH] >= LEVELS_MOST {
         return 8;
@@ -96,7 +95,7 @@ fn end_number(store: &[u16]) -> u16
 // Writes the old masters and ghosts, where the step came to 8 or 9.
 fn restore(store: &mut [u16], res: u16)
     requires { (full ≤ length store.old) × (field store.old CELLS ≤ most_cells) }
-    ensures { is store ≡ restored (was store) res }
+    ensures { store.new ≡ restored store.old res }
 {
     if res == 0 {
         return;
@@ -108,7 +107,7 @@ fn restore(store: &mut [u16], res: u16)
 // Ends the step.
 fn finish(store: &mut [u16])
     requires { (full ≤ length store.old) × (field store.old CELLS ≤ most_cells) }
-    ensures { is store ≡ finished (was store) }
+    ensures { store.new ≡ finished store.old }
 {
     let result = end_number(store);
     restore(store, result);
@@ -119,7 +118,7 @@ fn finish(store: &mut [u16])
 // Does the work of the next round.
 fn enter(store: &mut [u16])
     requires { Usable store.old }
-    ensures { is store ≡ round_entered (was store) }
+    ensures { store.new ≡ round_entered store.old }
 {
     let round = store[ROUND] as usize;
     let levels = store[LEVELS] as usize;
@@ -140,8 +139,8 @@ fn enter(store: &mut [u16])
 
 // Leads a part to its next round, once the ends of this one are taken from all others.
 pub fn part_step(store: &mut [u16]) -> Answer
-    ensures value { result ≡ part_answer (was store) }
-    ensures store_value { is store ≡ part_after (was store) }
+    ensures value { result ≡ part_answer store.old }
+    ensures store_value { store.new ≡ part_after store.old }
 {
     if store.len() < FULL {
         return Answer::Refused(15);

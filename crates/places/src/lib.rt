@@ -3,7 +3,6 @@
 
 ghost use Rattle.std.specs.Prelude.{◌≡◌, ◌&&◌, not, map, ◌+◌, ◌*◌, ◌/◌, ◌%◌, ◌≤◌, ◌<◌, min, max, eqb, length, get_or};
 ghost use Rattle.base.specs.Bools.{one_if};
-ghost use Rattle.base.specs.Lent.{was, is};
 ghost use Rattle.base.specs.Limits.{most_cells, too_many};
 ghost use Rattle.mesh.specs.Cells.{bits_of};
 ghost use Rattle.mesh.specs.Table.{size_of};
@@ -38,7 +37,7 @@ fn bit(b: bool) -> u16
 // The pattern of a cell's edges that are hit, from the last edge to the first.
 fn hit_bits(store: &[u16], c: usize) -> u16
     requires { (full ≤ length store.now) × (c < most_cells) }
-    ensures { (result ≡ bits_of (map (hit_of (was store) c) edge_numbers)) × (result ≤ 63) }
+    ensures { (result ≡ bits_of (map (hit_of store.now c) edge_numbers)) × (result ≤ 63) }
 {
     let mut p: u16 = 0;
     let mut e: usize = 6;
@@ -53,7 +52,7 @@ fn hit_bits(store: &[u16], c: usize) -> u16
 // The status of a cell after the step, if it stays.
 fn new_status(store: &[u16], c: usize) -> u16
     requires { (full ≤ length store.now) × (c < most_cells) }
-    ensures { (result ≡ new_status (was store) c) × (result ≤ 64) }
+    ensures { (result ≡ new_status store.now c) × (result ≤ 64) }
 {
     if store[REGULAR + c] != 1 {
         return 0;
@@ -67,7 +66,7 @@ fn new_status(store: &[u16], c: usize) -> u16
 // Whether a cell is there after the step.
 fn stays(store: &[u16], c: usize) -> bool
     requires { (full ≤ length store.now) × (c < most_cells) }
-    ensures { result ≡ lastsb (was store) c }
+    ensures { result ≡ lastsb store.now c }
 {
     if store[HEAD + c] < 256 {
         return true;
@@ -88,7 +87,7 @@ fn stays(store: &[u16], c: usize) -> bool
 // Whether a cell has a family here after the step that is not its old one.
 fn anew(store: &[u16], c: usize) -> bool
     requires { (full ≤ length store.now) × (c < most_cells) }
-    ensures { result ≡ remadeb (was store) c }
+    ensures { result ≡ remadeb store.now c }
 {
     if store[FAMILY + c] != store[PART] {
         return false;
@@ -109,7 +108,7 @@ fn anew(store: &[u16], c: usize) -> bool
 // Whether an edge of a child joins the points with the digits a and b.
 fn edge_has(digits: &[u8; 32], j: usize, y: usize, a: u8, b: u8) -> bool
     requires { (j < 8) × (y < 6) }
-    ensures { result ≡ edge_has (was digits) j a b y }
+    ensures { result ≡ edge_has digits.now j a b y }
 {
     if a != low_digit(digits, j, y) {
         return false;
@@ -120,7 +119,7 @@ fn edge_has(digits: &[u8; 32], j: usize, y: usize, a: u8, b: u8) -> bool
 // Whether it does and is hit, where the child is the cell d.
 fn edge_both(store: &[u16], digits: &[u8; 32], d: usize, j: usize, y: usize, a: u8, b: u8) -> bool
     requires { (full ≤ length store.now) × (d < most_cells) × (j < 8) × (y < 6) }
-    ensures { result ≡ edge_hit (was store) (was digits) d a b j y }
+    ensures { result ≡ edge_hit store.now digits.now d a b j y }
 {
     if !edge_has(digits, j, y, a, b) {
         return false;
@@ -131,7 +130,7 @@ fn edge_both(store: &[u16], digits: &[u8; 32], d: usize, j: usize, y: usize, a: 
 // Whether the child j, which is the cell d, has such an edge that is hit.
 fn kid_has(store: &[u16], digits: &[u8; 32], d: usize, j: usize, a: u8, b: u8) -> bool
     requires { (full ≤ length store.now) × (d < most_cells) × (j < 8) }
-    ensures { result ≡ kid_has (was store) (was digits) d a b j }
+    ensures { result ≡ kid_has store.now digits.now d a b j }
 {
     let mut y: usize = 0;
     while y < 6 {
@@ -146,7 +145,7 @@ fn kid_has(store: &[u16], digits: &[u8; 32], d: usize, j: usize, a: u8, b: u8) -
 // Whether one of the n children from `first` on has.
 fn pair_has(store: &[u16], digits: &[u8; 32], first: usize, n: usize, a: u8, b: u8) -> bool
     requires { (full ≤ length store.now) × (n ≤ 8) × KidsInside first n }
-    ensures { result ≡ pair_has (was store) (was digits) first n a b }
+    ensures { result ≡ pair_has store.now digits.now first n a b }
 {
     let mut j: usize = 0;
     while j < n {
@@ -161,7 +160,7 @@ fn pair_has(store: &[u16], digits: &[u8; 32], first: usize, n: usize, a: u8, b: 
 // The status of the new child i of a green cell that will be red, from the digits of both families.
 fn fresh_one(store: &[u16], old: &[u8; 32], red: &[u8; 32], first: usize, n: usize, i: usize) -> u16
     requires { (full ≤ length store.now) × (n ≤ 8) × KidsInside first n × (i < 8) }
-    ensures { result ≡ fresh_by (was store) (was old) (was red) first n i }
+    ensures { result ≡ fresh_by store.now old.now red.now first n i }
 {
     let mut p: u16 = 0;
     let mut y: usize = 6;
@@ -178,7 +177,7 @@ fn fresh_one(store: &[u16], old: &[u8; 32], red: &[u8; 32], first: usize, n: usi
 // The statuses of all eight.
 fn fresh_all(store: &[u16], old: &[u8; 32], red: &[u8; 32], first: usize, n: usize) -> [u16; 8]
     requires { (full ≤ length store.now) × (n ≤ 8) × KidsInside first n }
-    ensures { EightAs (fresh_by (was store) (was old) (was red) first n) result }
+    ensures { EightAs (fresh_by store.now old.now red.now first n) result }
 {
     let mut fresh = [0u16; 8];
     let mut i: usize = 0;
@@ -193,7 +192,7 @@ fn fresh_all(store: &[u16], old: &[u8; 32], red: &[u8; 32], first: usize, n: usi
 fn fresh_of(store: &[u16], c: usize) -> [u16; 8]
     requires full_in_bounds { (full ≤ length store.now) × (field store.now CELLS ≤ most_cells) × (c < most_cells) }
     requires fact { field store.now (STATUS + c) ≡ 64 → ⊥ }
-    ensures { EightAs (fresh_bits (was store) c) result }
+    ensures { EightAs (fresh_bits store.now c) result }
 {
     let status = store[STATUS + c];
     if status > 63 {
@@ -211,7 +210,7 @@ fn fresh_of(store: &[u16], c: usize) -> [u16; 8]
 // The place of a cell.
 fn place_at(store: &[u16], c: usize) -> Place
     requires { (full ≤ length store.now) × (c < most_cells) }
-    ensures { result ≡ place_at (was store) c }
+    ensures { result ≡ place_at store.now c }
 {
     Place {
         head: store[HEAD + c],
@@ -223,7 +222,7 @@ fn place_at(store: &[u16], c: usize) -> Place
 // Writes an entry, while there is room.
 fn put_entry(store: &mut [u16], p: Place, status: u16)
     requires { full ≤ length store.old }
-    ensures { is store ≡ put (was store) p status }
+    ensures { store.new ≡ put store.old p status }
 {
     let n = store[ENTRIES] as usize;
     if n >= MOST_CELLS {
@@ -258,7 +257,7 @@ fn higher_of(high: u16, head: u16) -> u16
 // Writes a master, which also counts for the totals.
 fn put_master(store: &mut [u16], p: Place, status: u16)
     requires { full ≤ length store.old }
-    ensures { is store ≡ put_master (was store) p status }
+    ensures { store.new ≡ put_master store.old p status }
 {
     let total = one_more(store[TOTAL]);
     let high = higher_of(store[HIGH], p.head);
@@ -270,7 +269,7 @@ fn put_master(store: &mut [u16], p: Place, status: u16)
 // Writes the child i of the cell at p, a leaf.
 fn put_leaf(store: &mut [u16], p: Place, i: usize)
     requires { (full ≤ length store.old) × (i < 8) }
-    ensures { is store ≡ put_leaf p (was store) i }
+    ensures { store.new ≡ put_leaf p store.old i }
 {
     let child = child_place(p, i as u16);
     put_master(store, child, 0);
@@ -279,7 +278,7 @@ fn put_leaf(store: &mut [u16], p: Place, i: usize)
 // Writes the n children of the cell at p, all leaves.
 fn put_leaves(store: &mut [u16], p: Place, n: usize)
     requires { (full ≤ length store.old) × (n ≤ 8) }
-    ensures { is store ≡ put_leaves p n (was store) }
+    ensures { store.new ≡ put_leaves p n store.old }
 {
     let mut i: usize = 0;
     while i < n {
@@ -291,7 +290,7 @@ fn put_leaves(store: &mut [u16], p: Place, n: usize)
 // Writes the new child i of the cell at p, and its children where it is refined at once.
 fn put_child(store: &mut [u16], p: Place, i: usize, status: u16)
     requires { (full ≤ length store.old) × (i < 8) × (status ≤ 64) }
-    ensures { is store ≡ put_leaves (child_place p i) (size_of status) (put_master (was store) (child_place p i) status) }
+    ensures { store.new ≡ put_leaves (child_place p i) (size_of status) (put_master store.old (child_place p i) status) }
 {
     let child = child_place(p, i as u16);
     let n = size_of(status as u8);
@@ -302,7 +301,7 @@ fn put_child(store: &mut [u16], p: Place, i: usize, status: u16)
 // Writes the eight new children.
 fn put_children(store: &mut [u16], p: Place, fresh: &[u16; 8])
     requires { (full ≤ length store.old) × EightFew fresh.now }
-    ensures { is store ≡ each_from (put_child p (λ i. get_or (was fresh) i 0)) 8 0 (was store) }
+    ensures { store.new ≡ each_from (put_child p (λ i. get_or fresh.now i 0)) 8 0 store.old }
 {
     let mut i: usize = 0;
     while i < 8 {
@@ -315,7 +314,7 @@ fn put_children(store: &mut [u16], p: Place, fresh: &[u16; 8])
 fn place_fresh(store: &mut [u16], c: usize)
     requires full_in_bounds { (full ≤ length store.old) × (field store.old CELLS ≤ most_cells) × (c < most_cells) }
     requires fact { field store.old (STATUS + c) ≡ 64 → ⊥ }
-    ensures { is store ≡ each_from (put_child (place_at (was store) c) (fresh_bits (was store) c)) 8 0 (was store) }
+    ensures { store.new ≡ each_from (put_child (place_at store.old c) (fresh_bits store.old c)) 8 0 store.old }
 {
     let p = place_at(store, c);
     let fresh = fresh_of(store, c);
@@ -325,7 +324,7 @@ fn place_fresh(store: &mut [u16], c: usize)
 // Writes a cell, if it is a master and stays.
 fn place_master(store: &mut [u16], c: usize)
     requires { (full ≤ length store.old) × (c < most_cells) }
-    ensures { is store ≡ place_master (was store) c }
+    ensures { store.new ≡ place_master store.old c }
 {
     if store[OWNER + c] != store[PART] {
         return;
@@ -341,7 +340,7 @@ fn place_master(store: &mut [u16], c: usize)
 // Writes a cell of another part whose family is here, if it is refined: 128 more for a ghost.
 fn place_ghost(store: &mut [u16], c: usize)
     requires { (full ≤ length store.old) × (c < most_cells) }
-    ensures { is store ≡ place_ghost (was store) c }
+    ensures { store.new ≡ place_ghost store.old c }
 {
     if store[OWNER + c] == store[PART] {
         return;
@@ -360,7 +359,7 @@ fn place_ghost(store: &mut [u16], c: usize)
 // Whether a refined cell will be red.
 fn red_beside(store: &[u16], c: usize, status: u16) -> bool
     requires { (full ≤ length store.now) × (c < most_cells) }
-    ensures { result ≡ (eqb status 64 && not (eqb (field (was store) (STATUS + c)) 0)) }
+    ensures { result ≡ (eqb status 64 && not (eqb (field store.now (STATUS + c)) 0)) }
 {
     if status != 64 {
         return false;
@@ -371,7 +370,7 @@ fn red_beside(store: &[u16], c: usize, status: u16) -> bool
 // Writes the new family of a cell, if it is here.
 fn place_family(store: &mut [u16], c: usize)
     requires { (full ≤ length store.old) × (field store.old CELLS ≤ most_cells) × (c < most_cells) }
-    ensures { is store ≡ place_family (was store) c }
+    ensures { store.new ≡ place_family store.old c }
 {
     if !anew(store, c) {
         return;
@@ -389,7 +388,7 @@ fn place_family(store: &mut [u16], c: usize)
 // Writes what a cell gives.
 fn place_cell(store: &mut [u16], c: usize)
     requires { (full ≤ length store.old) × (field store.old CELLS ≤ most_cells) × (c < most_cells) }
-    ensures { is store ≡ place_cell (was store) c }
+    ensures { store.new ≡ place_cell store.old c }
 {
     place_master(store, c);
     place_ghost(store, c);
@@ -399,7 +398,7 @@ fn place_cell(store: &mut [u16], c: usize)
 // Writes what all cells give.
 pub fn place_cells(store: &mut [u16])
     requires { (full ≤ length store.old) × (field store.old CELLS ≤ most_cells) }
-    ensures { is store ≡ each_from place_cell (field (was store) CELLS) 0 (was store) }
+    ensures { store.new ≡ each_from place_cell (field store.old CELLS) 0 store.old }
 {
     let cells = store[CELLS] as usize;
     let mut c: usize = 0;
@@ -412,7 +411,7 @@ pub fn place_cells(store: &mut [u16])
 // Writes a master or ghost as it was.
 fn place_old(store: &mut [u16], c: usize)
     requires { (full ≤ length store.old) × (c < most_cells) }
-    ensures { is store ≡ place_old (was store) c }
+    ensures { store.new ≡ place_old store.old c }
 {
     let status = store[STATUS + c];
     let p = place_at(store, c);
@@ -429,7 +428,7 @@ fn place_old(store: &mut [u16], c: usize)
 // Writes all masters and ghosts as they were.
 pub fn place_olds(store: &mut [u16])
     requires { (full ≤ length store.old) × (field store.old CELLS ≤ most_cells) }
-    ensures { is store ≡ each_from place_old (field (was store) CELLS) 0 (was store) }
+    ensures { store.new ≡ each_from place_old (field store.old CELLS) 0 store.old }
 {
     let cells = store[CELLS] as usize;
     let mut c: usize = 0;

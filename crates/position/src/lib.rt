@@ -2,7 +2,6 @@
 #![tactic(auto)]
 
 ghost use Rattle.std.specs.Prelude.{◌≡◌, ◌<◌, length, get_or, pos};
-ghost use Rattle.base.specs.Lent.{was};
 ghost use Rattle.position.specs.Position.{coordinate_of, position_of};
 
 use base::{FULL_SUMS, MOST_CORNERS};
@@ -23,7 +22,7 @@ pub enum Position {
 // The weighted sum at a place of the table, over 1,024.
 fn coordinate(sums: &[i32], at: usize) -> f64
     requires { at < length sums.now }
-    ensures { result ≡ coordinate_of (get_or (was sums) at (pos 0)) }
+    ensures { result ≡ coordinate_of (get_or sums.now at (pos 0)) }
 {
     sums[at] as f64 / 1024.0
 }
@@ -31,7 +30,7 @@ fn coordinate(sums: &[i32], at: usize) -> f64
 // The position of a corner. A mesh of so many corners has three weighted sums for each, in a table of 49,152.
 // 15 where the table is shorter, 7 where there is no such corner.
 pub fn position_of(sums: &[i32], corners: usize, corner: usize) -> Position
-    ensures { result ≡ position_of (was sums) corners corner }
+    ensures { result ≡ position_of sums.now corners corner }
 {
     if sums.len() < FULL_SUMS {
         return Position::Refused(15);

@@ -4,7 +4,6 @@
 ghost use Rattle.std.specs.Prelude.{◌≡◌, not, false, ◌+◌, ◌-◌, ◌*◌, ◌<◌, ◌≤◌, eqb, length};
 ghost use Rattle.base.specs.Bools.{one_if};
 ghost use Rattle.base.specs.Places.{hasb};
-ghost use Rattle.base.specs.Lent.{was};
 ghost use Rattle.pairs.specs.Keys.{hereb, seek, Keys};
 ghost use Rattle.edges.specs.Pairs.{sorted, isb};
 ghost use Rattle.edges.specs.Table.{listed, Table};
@@ -19,7 +18,7 @@ fn one(b: bool) -> usize
 // 1 where entry e is the pair, else 0.
 fn same_at(xs: &[u32], ys: &[u32], e: usize, x: u32, y: u32) -> usize
     requires { (e < length xs.now) × (e < length ys.now) }
-    ensures { result ≡ one_if (hereb (was xs) (was ys) x y e) }
+    ensures { result ≡ one_if (hereb xs.now ys.now x y e) }
 {
     one(xs[e] == x) * one(ys[e] == y)
 }
@@ -53,7 +52,7 @@ fn probe_pair(
     y: u32,
 ) -> usize
     requires { Keys xs.now ys.now heads.now links.now n × (from < n) }
-    ensures { Probed (not (eqb (seek (was xs) (was ys) x y from (n - from)) 65535)) result }
+    ensures { Probed (not (eqb (seek xs.now ys.now x y from (n - from)) 65535)) result }
 {
     let b = pairs::bucket_of(heads.len(), x, y);
     let k = (heads[b] as usize + 1) % 65536;
@@ -76,7 +75,7 @@ pub fn probe(
     b: u16,
 ) -> usize
     requires { Table xs.now ys.now heads.now links.now from n × (from < n) }
-    ensures { Probed (hasb isb (listed (was xs) (was ys) from n) (sorted (a, b))) result }
+    ensures { Probed (hasb isb (listed xs.now ys.now from n) (sorted (a, b))) result }
 {
     let e = edges::sorted_ends(a, b);
     probe_pair(xs, ys, heads, links, from, n, e.low, e.high)
@@ -93,7 +92,7 @@ pub fn may_meet(
     a: u16,
 ) -> bool
     requires { Table xs.now ys.now heads.now links.now from n }
-    ensures { result ≡ false → Unmet (listed (was xs) (was ys) from n) a }
+    ensures { result ≡ false → Unmet (listed xs.now ys.now from n) a }
 {
     spots::may_have(heads, from, a as u32)
 }

@@ -2,7 +2,6 @@
 #![tactic(auto)]
 
 ghost use Rattle.std.specs.Prelude.{◌≡◌, ◌≤◌, length, get_or};
-ghost use Rattle.base.specs.Lent.{was, is};
 ghost use Rattle.base.specs.Limits.{full_counts, most_cells};
 ghost use Rattle.base.specs.Refuse.{held_after};
 ghost use Rattle.mesh.specs.Cells.{no_cell};
@@ -38,7 +37,7 @@ fn ancestor_in(
     ys: &mut [u32],
 ) -> Ancestry
     requires { length status.now ≤ most_cells → TableRoom status.now rows.old xs.old ys.old }
-    ensures { result ≡ ancestry_in (was positions) (was cells) (was status) cell }
+    ensures { result ≡ ancestry_in positions.now cells.now status.now cell }
 {
     let f = opening::open(positions, cells, status, rows, xs, ys);
     if f.refusal != 0 {
@@ -53,7 +52,7 @@ fn ancestor_in(
 // A cell's ancestor in a table of at most 512 statuses, in small tables: these are set to zero first.
 fn ancestor_few(positions: &[i32], cells: &[u16], status: &[u8], cell: usize) -> Ancestry
     requires { length status.now ≤ 512 }
-    ensures { result ≡ ancestry_in (was positions) (was cells) (was status) cell }
+    ensures { result ≡ ancestry_in positions.now cells.now status.now cell }
 {
     let mut rows = [0u16; 4096];
     let mut xs = [0u32; 512];
@@ -63,7 +62,7 @@ fn ancestor_few(positions: &[i32], cells: &[u16], status: &[u8], cell: usize) ->
 
 // A cell's ancestor in any table.
 fn ancestor_many(positions: &[i32], cells: &[u16], status: &[u8], cell: usize) -> Ancestry
-    ensures { result ≡ ancestry_in (was positions) (was cells) (was status) cell }
+    ensures { result ≡ ancestry_in positions.now cells.now status.now cell }
 {
     let mut rows = [0u16; 32768];
     let mut xs = [0u32; 4096];
@@ -74,8 +73,8 @@ fn ancestor_many(positions: &[i32], cells: &[u16], status: &[u8], cell: usize) -
 // A cell's coarse ancestor and level. Refusals 1 to 6, then 7 where there is no such cell.
 pub fn ancestor(positions: &[i32], cells: &[u16], status: &[u8], cell: usize) -> Ancestry
     ensures { result
-        ≡ ancestry_of (ancestor_answer (was positions) (was cells) (was status) cell)
-        (ancestor_of (get_or (cells_in (was positions) (was cells) (was status)) cell no_cell)) }
+        ≡ ancestry_of (ancestor_answer positions.now cells.now status.now cell)
+        (ancestor_of (get_or (cells_in positions.now cells.now status.now) cell no_cell)) }
 {
     if status.len() <= 512 {
         return ancestor_few(positions, cells, status, cell);
@@ -95,7 +94,7 @@ fn counts_in(
 ) -> Counted
     requires table_room { length status.now ≤ most_cells → TableRoom status.now rows.old xs.old ys.old }
     requires full_counts_in_bounds { full_counts ≤ length counts.old }
-    ensures { CountsLevels (was positions) (was cells) (was status) (was counts) result (is counts) }
+    ensures { CountsLevels positions.now cells.now status.now counts.old result counts.new }
 {
     let f = opening::open(positions, cells, status, rows, xs, ys);
     if f.refusal != 0 {
@@ -108,7 +107,7 @@ fn counts_in(
 fn counts_few(positions: &[i32], cells: &[u16], status: &[u8], counts: &mut [u16]) -> Counted
     requires status_len_bound { length status.now ≤ 512 }
     requires full_counts_in_bounds { full_counts ≤ length counts.old }
-    ensures { CountsLevels (was positions) (was cells) (was status) (was counts) result (is counts) }
+    ensures { CountsLevels positions.now cells.now status.now counts.old result counts.new }
 {
     let mut rows = [0u16; 4096];
     let mut xs = [0u32; 512];
@@ -121,7 +120,7 @@ fn counts_few(positions: &[i32], cells: &[u16], status: &[u8], counts: &mut [u16
 // The counts of any table.
 fn counts_many(positions: &[i32], cells: &[u16], status: &[u8], counts: &mut [u16]) -> Counted
     requires { full_counts ≤ length counts.old }
-    ensures { CountsLevels (was positions) (was cells) (was status) (was counts) result (is counts) }
+    ensures { CountsLevels positions.now cells.now status.now counts.old result counts.new }
 {
     let mut rows = [0u16; 32768];
     let mut xs = [0u32; 4096];
@@ -134,12 +133,12 @@ fn counts_many(positions: &[i32], cells: &[u16], status: &[u8], counts: &mut [u1
 // The counts of every level, four numbers each: cells, red, green, leaf. Refusals 15 and 1 to 6.
 pub fn counts(positions: &[i32], cells: &[u16], status: &[u8], counts: &mut [u16]) -> Counted
     ensures value { result
-        ≡ counted_of (counts_answer (was positions) (was cells) (was status) (was counts))
-        (length (levels_in (was positions) (was cells) (was status))) }
-    ensures counts_value { is counts
-        ≡ held_after (counts_answer (was positions) (was cells) (was status) (was counts))
-        (count_table (levels_in (was positions) (was cells) (was status)))
-        (was counts) }
+        ≡ counted_of (counts_answer positions.now cells.now status.now counts.old)
+        (length (levels_in positions.now cells.now status.now)) }
+    ensures counts_value { counts.new
+        ≡ held_after (counts_answer positions.now cells.now status.now counts.old)
+        (count_table (levels_in positions.now cells.now status.now))
+        counts.old }
 {
     if counts.len() < FULL_COUNTS {
         return Counted::Refused(15);

@@ -2,7 +2,6 @@
 #![tactic(auto)]
 
 ghost use Rattle.std.specs.Prelude.{[], ◌∷◌, ◌+◌, ◌*◌, ◌-◌, ◌<◌, length};
-ghost use Rattle.base.specs.Lent.{was, is};
 ghost use Rattle.mesh.specs.Cells.{edge, edges, red_edges};
 ghost use Rattle.edges.specs.Table.{Grown};
 ghost use Rattle.rows.specs.Numbered.{cell_at, cells_at, part};
@@ -24,7 +23,7 @@ fn red_edge(
 ) -> usize
     requires ready { Ready cells.now xs.old ys.old heads.old links.old (c + 1) from n 1 }
     requires e_bound { e < 6 }
-    ensures { Grown (was xs) (was ys) from n (edge 0 (cell_at (was cells) c) e ∷ []) (is xs) (is ys) (is heads) (is links) result }
+    ensures { Grown xs.old ys.old from n (edge 0 (cell_at cells.now c) e ∷ []) xs.new ys.new heads.new links.new result }
 {
     let ends = rows::edge_of(cells, c, e);
     let slot = edges::insert(xs, ys, heads, links, from, n, ends.a, ends.b);
@@ -43,7 +42,7 @@ fn red_edges(
     n: usize,
 ) -> usize
     requires { Ready cells.now xs.old ys.old heads.old links.old (c + 1) from n 6 }
-    ensures { Grown (was xs) (was ys) from n (edges 0 (cell_at (was cells) c)) (is xs) (is ys) (is heads) (is links) result }
+    ensures { Grown xs.old ys.old from n (edges 0 (cell_at cells.now c)) xs.new ys.new heads.new links.new result }
 {
     let a = red_edge(cells, c, 0, xs, ys, heads, links, from, n);
     let b = red_edge(cells, c, 1, xs, ys, heads, links, from, a);
@@ -67,7 +66,7 @@ fn red_cell(
 ) -> usize
     requires { Ready cells.now xs.old ys.old heads.old links.old (c + 1) from n
         (length (red_of status (cell_at cells.now c))) }
-    ensures { Grown (was xs) (was ys) from n (red_of status (cell_at (was cells) c)) (is xs) (is ys) (is heads) (is links) result }
+    ensures { Grown xs.old ys.old from n (red_of status (cell_at cells.now c)) xs.new ys.new heads.new links.new result }
 {
     if status != 64 {
         return n;
@@ -91,9 +90,9 @@ pub fn red_level(
     requires range { Range status.now first last }
     requires ready { Ready cells.now xs.old ys.old heads.old links.old last from n
         (6 * red_count (part status.now first (last - first))) }
-    ensures { Grown (was xs) (was ys) from n
-        (red_edges 0 (cells_at (was cells) first (last - first)) (part (was status) first (last - first))) (is xs) (is ys) (is heads)
-        (is links) result }
+    ensures { Grown xs.old ys.old from n
+        (red_edges 0 (cells_at cells.now first (last - first)) (part status.now first (last - first))) xs.new ys.new heads.new
+        links.new result }
 {
     let mut m = n;
     let mut c = first;

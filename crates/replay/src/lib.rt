@@ -3,7 +3,6 @@
 
 ghost use Rattle.std.specs.Prelude.{◌≡◌, ◌++◌, ◌+◌, ◌/◌, ◌≤◌, ◌<◌, T, length, take, drop, replicate};
 ghost use Rattle.base.specs.Fours.{fours};
-ghost use Rattle.base.specs.Lent.{was, is};
 ghost use Rattle.base.specs.Limits.{most_cells, most_coarse_cells};
 ghost use Rattle.cutting.specs.Answer.{digit_table, start_table};
 ghost use Rattle.mesh.specs.Table.{levels_of, soundb};
@@ -20,7 +19,7 @@ use writing::NewTable;
 // Makes the first k bytes 0.
 fn clear(out: &mut [u8], k: usize)
     requires { k ≤ length out.old }
-    ensures { is out ≡ replicate k 0 ++ drop k (was out) }
+    ensures { out.new ≡ replicate k 0 ++ drop k out.old }
 {
     for i in 0..k {
         out[i] = 0;
@@ -46,7 +45,7 @@ fn may_stand(cell: usize, mark: u8, next: usize, k: usize) -> bool
 // The marks of a step as one byte a cell, of k cells. False where the marked cells do not ascend or are not cells, or a mark is not 1 or 2.
 fn spread(marked: &[u16], marks: &[u8], k: usize, out: &mut [u8]) -> bool
     requires { (length marked.now ≡ length marks.now) × (k ≤ length out.old) }
-    ensures { Spread k (pairs (was marked) (was marks)) (is out) result }
+    ensures { Spread k (pairs marked.now marks.now) out.new result }
 {
     clear(out, k);
     let mut i = 0;
@@ -66,7 +65,7 @@ fn spread(marked: &[u16], marks: &[u8], k: usize, out: &mut [u8]) -> bool
 // The marks of a step as one byte a cell. False where they may not stand at the cells of the table.
 fn examine_marks(marked: &[u16], marks: &[u8], status: &[u8], out: &mut [u8]) -> bool
     requires { (length marked.now ≡ length marks.now) × (length status.now ≤ length out.old) }
-    ensures { Fitting (was status) (pairs (was marked) (was marks)) (is out) result }
+    ensures { Fitting status.now (pairs marked.now marks.now) out.new result }
 {
     let k = status.len();
     if !spread(marked, marks, k, out) {
@@ -93,7 +92,7 @@ fn make(
     kept: &mut [u8; 4096],
 ) -> NewTable
     requires { ReplayGoing n mesh.now rows.now table.now cells }
-    ensures { Advanced n (was mesh) (take cells (was table)) (take cells (was marks)) (is new) result.refusal result.cells }
+    ensures { Advanced n mesh.now (take cells table.now) (take cells marks.now) new.new result.refusal result.cells }
 {
     let mut heads = [65535u16; 5120];
     let status = &table[..];
@@ -134,7 +133,7 @@ fn settle(
     requires t { T (soundb n (fours mesh.now) (take cells new.now)) }
     requires cells_le_most_cells { cells ≤ most_cells }
     requires digits_value { (digits.now ≡ digit_table) × (starts.now ≡ start_table) }
-    ensures { Relaid n (was mesh) (was new) cells (is rows) (is table) result.refusal result.cells result.levels }
+    ensures { Relaid n mesh.now new.now cells rows.new table.new result.refusal result.cells result.levels }
 {
     base::copy_bytes(new, cells, table);
     let mut heads = [65535u16; 4096];
@@ -189,7 +188,7 @@ fn next_step(
     requires replay_going { ReplayGoing n mesh.now rows.old table.old cells }
     requires marked_len { length marked.now ≡ length marks.now }
     requires digits_value { (digits.now ≡ digit_table) × (starts.now ≡ start_table) }
-    ensures { NextTurn n (was mesh) (take cells (was table)) p e (pairs (was marked) (was marks)) (is rows) (is table) result.refusal
+    ensures { NextTurn n mesh.now (take cells table.old) p e (pairs marked.now marks.now) rows.new table.new result.refusal
         result.cells result.levels }
 {
     if e < p {
@@ -232,7 +231,7 @@ fn at_rest(
     rows: &mut [u16; 32768],
     table: &mut [u8; 4096],
 ) -> Outcome
-    ensures { Rested (was positions) (was cells) (is rows) (is table) result.refusal result.cells result.levels }
+    ensures { Rested positions.now cells.now rows.new table.new result.refusal result.cells result.levels }
 {
     let k = few(cells.len() / 4);
     clear(table, k);
@@ -274,7 +273,7 @@ fn run_steps(
 ) -> Outcome
     requires replay_going { ReplayGoing n mesh.now rows.old table.old first }
     requires marked_len { (length marked.now ≡ length marks.now) × (length (levels_of n (fours mesh.now) (take first table.old)) ≡ high) }
-    ensures { Finished n (was mesh) (take first (was table)) (pairs (was marked) (was marks)) (was ends) (is rows) (is table)
+    ensures { Finished n mesh.now (take first table.old) (pairs marked.now marks.now) ends.now rows.new table.new
         result.refusal result.cells result.levels }
 {
     let mut spread_marks = [0u8; 4096];
@@ -352,7 +351,7 @@ pub fn run(
     ends: &[u16],
     table: &mut [u8; 4096],
 ) -> Outcome
-    ensures { Replayed (was positions) (was cells) (was marked) (was marks) (was ends) (is table) result.refusal result.cells result.levels }
+    ensures { Replayed positions.now cells.now marked.now marks.now ends.now table.new result.refusal result.cells result.levels }
 {
     let mut rows = [0u16; 32768];
     let r = at_rest(positions, cells, &mut rows, table);

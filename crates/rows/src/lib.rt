@@ -2,7 +2,6 @@
 #![tactic(auto)]
 
 ghost use Rattle.std.specs.Prelude.{◌≡◌, ◌+◌, ◌*◌, ◌≤◌, ◌<◌, ◌-◌, length, get_or, true, leb};
-ghost use Rattle.base.specs.Lent.{was};
 ghost use Rattle.base.specs.Limits.{most_cells};
 ghost use Rattle.mesh.specs.Cells.{edge};
 ghost use Rattle.rows.specs.Numbered.{cell_at, part};
@@ -47,7 +46,7 @@ fn high_of(e: usize) -> usize
 
 pub fn edge_of(cells: &[u16], c: usize, e: usize) -> Ends
     requires { (8 * c + 8 ≤ length cells.now) × (e < 6) }
-    ensures { (result.a, result.b) ≡ edge 0 (cell_at (was cells) c) e }
+    ensures { (result.a, result.b) ≡ edge 0 (cell_at cells.now c) e }
 {
     let a = 8 * c + 4 + low_of(e);
     let b = 8 * c + 4 + high_of(e);
@@ -60,14 +59,14 @@ pub fn edge_of(cells: &[u16], c: usize, e: usize) -> Ends
 // Whether the cell is regular.
 pub fn is_regular(cells: &[u16], c: usize) -> bool
     requires { 8 * c + 8 ≤ length cells.now }
-    ensures { result ≡ (cell_at (was cells) c).regular }
+    ensures { result ≡ (cell_at cells.now c).regular }
 {
     cells[8 * c + 3] == 1
 }
 
 // Whether each status is one: 0 to 64.
 pub fn fits(status: &[u8]) -> bool
-    ensures { result ≡ allb (λ s. leb s 64) (was status) }
+    ensures { result ≡ allb (λ s. leb s 64) status.now }
 {
     let mut c = 0;
     while c < status.len() {
@@ -97,7 +96,7 @@ pub fn size_of(status: u8) -> usize
 pub fn level_size(status: &[u8], first: usize, last: usize) -> usize
     requires first_le_last { (first ≤ last) × (last ≤ length status.now) × (length status.now ≤ most_cells) }
     requires status_value { allb (λ s. leb s 64) status.now ≡ true }
-    ensures { result ≡ sizes (part (was status) first (last - first)) }
+    ensures { result ≡ sizes (part status.now first (last - first)) }
 {
     let mut n = 0;
     let mut c = first;

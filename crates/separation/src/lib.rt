@@ -4,7 +4,6 @@
 ghost use Rattle.std.specs.Prelude.{◌≡◌, ◌&&◌, ◌||◌, not, true, false, ◌+◌, ◌*◌, ◌≤◌, ◌<◌, eqb, length, get_or};
 ghost use Rattle.base.specs.Lists.{allb};
 ghost use Rattle.base.specs.Places.{hasb};
-ghost use Rattle.base.specs.Lent.{was};
 ghost use Rattle.mesh.specs.Cells.{joinsb, heldb, edge, edges};
 ghost use Rattle.rows.specs.Numbered.{cell_at};
 ghost use Rattle.edges.specs.Pairs.{isb, sorted};
@@ -33,7 +32,7 @@ fn joins(a: u16, b: u16, c: u16, d: u16) -> bool
 // Whether an edge is one of the cell's six.
 pub fn has_edge(cells: &[u16], g: usize, a: u16, b: u16) -> bool
     requires { 8 * g + 8 ≤ length cells.now }
-    ensures { result ≡ heldb eqb (edges 0 (cell_at (was cells) g)) (a, b) }
+    ensures { result ≡ heldb eqb (edges 0 (cell_at cells.now g)) (a, b) }
 {
     let mut e = 0;
     while e < 6 {
@@ -61,8 +60,8 @@ fn apart_edge(
 ) -> bool
     requires looks { Looks cells.now xs.now ys.now heads.now links.now (c + 1) from n }
     requires g_in_bounds { (8 * g + 8 ≤ length cells.now) × (e < 6) }
-    ensures { result ≡ (heldb eqb (edges 0 (cell_at (was cells) g)) (edge 0 (cell_at (was cells) c) e) || not
-        (hasb isb (listed (was xs) (was ys) from n) (sorted (edge 0 (cell_at (was cells) c) e)))) }
+    ensures { result ≡ (heldb eqb (edges 0 (cell_at cells.now g)) (edge 0 (cell_at cells.now c) e) || not
+        (hasb isb (listed xs.now ys.now from n) (sorted (edge 0 (cell_at cells.now c) e)))) }
 {
     let ends = rows::edge_of(cells, c, e);
     let held = edges::holds(xs, ys, heads, links, from, n, ends.a, ends.b);
@@ -84,7 +83,7 @@ fn is_free(
     n: usize,
 ) -> bool
     requires { Looks cells.now xs.now ys.now heads.now links.now (c + 1) from n }
-    ensures { result ≡ true → allb (free_test (listed (was xs) (was ys) from n)) (edges 0 (cell_at (was cells) c)) ≡ true }
+    ensures { result ≡ true → allb (free_test (listed xs.now ys.now from n)) (edges 0 (cell_at cells.now c)) ≡ true }
 {
     if closure::is_held(cells, c, 0, xs, ys, heads, links, from, n) {
         return false;
@@ -121,7 +120,7 @@ pub fn apart_child(
 ) -> bool
     requires looks { Looks cells.now xs.now ys.now heads.now links.now (c + 1) from n }
     requires g_in_bounds { 8 * g + 8 ≤ length cells.now }
-    ensures { result ≡ allb (apart_test (listed (was xs) (was ys) from n) (was cells) g) (edges 0 (cell_at (was cells) c)) }
+    ensures { result ≡ allb (apart_test (listed xs.now ys.now from n) cells.now g) (edges 0 (cell_at cells.now c)) }
 {
     if is_free(cells, c, xs, ys, heads, links, from, n) {
         return true;
@@ -149,7 +148,7 @@ fn apart_cell(
 ) -> bool
     requires looks { Looks cells.now xs.now ys.now heads.now links.now (c + 1) from n }
     requires c_in_bounds { (cell_at cells.now c).regular ≡ false → 8 * get_or cells.now (8 * c + 1) 0 + 8 ≤ length cells.now }
-    ensures { result ≡ listed_apart (listed (was xs) (was ys) from n) (was cells) (cell_at (was cells) c) }
+    ensures { result ≡ listed_apart (listed xs.now ys.now from n) cells.now (cell_at cells.now c) }
 {
     if rows::is_regular(cells, c) {
         return true;
@@ -174,7 +173,7 @@ pub fn apart(
 ) -> bool
     requires looks { Looks cells.now xs.now ys.now heads.now links.now last from n }
     requires parents { Parents cells.now last }
-    ensures { result ≡ apart_all (listed (was xs) (was ys) from n) (was cells) last }
+    ensures { result ≡ apart_all (listed xs.now ys.now from n) cells.now last }
 {
     let mut c = 0;
     while c < last {

@@ -141,7 +141,7 @@ module _ {Part : Type 0} {F : Finite Part} (X : Settled F) (p : Part) where
       c = num k t
 
       go : (b : Bool) → (is_part F (owner (num k t)) p && staysb F J p st k (num k t)) ≡ b → Means e
-      go false q = absurd (mathlib.Core.List.Memᴰ.not_nil (rw (q, master_entry) at m))
+      go false q = absurd (mathlib.Core.List.Memᴰ.not-nil (rw (q, master_entry) at m))
       go true q =
           let u : T (is_part F (owner (num k t)) p && staysb F J p st k (num k t)) = subst (λ (x : Bool). T x) (sym q) tt in
           let o = is_eq F (owner (num k t)) p (and_left (is_part F (owner (num k t)) p) (staysb F J p st k (num k t)) u) in
@@ -171,7 +171,7 @@ module _ {Part : Type 0} {F : Finite Part} (X : Settled F) (p : Part) where
   ghost_means k t h e m = go (not (is_part F (owner (num k t)) p) && (is_part F (J.family (num k t)) p && not (eqb (st_now k t) 0))) refl
     where
       go : (b : Bool) → (not (is_part F (owner (num k t)) p) && (is_part F (J.family (num k t)) p && not (eqb (st_now k t) 0))) ≡ b → Means e
-      go false q = absurd (mathlib.Core.List.Memᴰ.not_nil (rw (q, ghost_entry) at m))
+      go false q = absurd (mathlib.Core.List.Memᴰ.not-nil (rw (q, ghost_entry) at m))
       go true q =
           let u : T (not (is_part F (owner (num k t)) p) && (is_part F (J.family (num k t)) p && not (eqb (st_now k t) 0))) =
           subst (λ (x : Bool). T x) (sym q) tt in
@@ -412,7 +412,7 @@ module _ {Part : Type 0} {F : Finite Part} (X : Settled F) (p : Part) where
   fresh_means k t h e m = go (anewb F J p st k (num k t)) refl
     where
       go : (b : Bool) → anewb F J p st k (num k t) ≡ b → Means e
-      go false q = absurd (mathlib.Core.List.Memᴰ.not_nil (rw (q, fresh_entries) at m))
+      go false q = absurd (mathlib.Core.List.Memᴰ.not-nil (rw (q, fresh_entries) at m))
       go true q =
           let a = anew_of k t h (subst (λ (x : Bool). T x) (sym q) tt) in
           let m' : Memᴰ e (flat_map (kid_entries k t) (range 0 (size_of (st_now k t)))) = rw (q, fresh_entries) at m in

@@ -61,7 +61,7 @@ module _ (n : ℕ) (qs : List (List ℕ)) (ss os : List ℕ) (p : ℕ) where
           let q : e ≡ entry_is c true = only_one e (entry_is c true) (rw (u, v, entry_of) at m) in
           let g : e.ghost ≡ true = ap (λ (e : Entry). e.ghost) q in
           record { c = c; below = h; is = q ∙ ap (entry_is c) (sym g); kind = inr (g, rw v tt) }
-      go false u false v = absurd (Memᴰ.not_nil (rw (u, v, entry_of) at m))
+      go false u false v = absurd (Memᴰ.not-nil (rw (u, v, entry_of) at m))
 
   pub held_is : (e : Entry) → Memᴰ e (entries_of n qs ss os p) → HeldBy e
   unfolding entries_of
@@ -76,8 +76,8 @@ module _ (n : ℕ) (qs : List (List ℕ)) (ss os : List ℕ) (p : ℕ) where
   once_one c = go (masterb os p c) refl (ghostb n qs ss os p c) refl
     where
       go : (a : Bool) → masterb os p c ≡ a → (b : Bool) → ghostb n qs ss os p c ≡ b → NoTwice (entry_of n qs ss os p c)
-      go true u b v = rw (u, entry_of) ((λ f m q. absurd (Memᴰ.not_nil m)), tt)
-      go false u true v = rw (u, v, entry_of) ((λ f m q. absurd (Memᴰ.not_nil m)), tt)
+      go true u b v = rw (u, entry_of) ((λ f m q. absurd (Memᴰ.not-nil m)), tt)
+      go false u true v = rw (u, v, entry_of) ((λ f m q. absurd (Memᴰ.not-nil m)), tt)
       go false u false v = rw (u, v, entry_of) tt
 
   entry_path : (c : ℕ) (e : Entry) → Memᴰ e (entry_of n qs ss os p c) → e.path ≡ (nth_cell n qs ss c).path
@@ -87,7 +87,7 @@ module _ (n : ℕ) (qs : List (List ℕ)) (ss os : List ℕ) (p : ℕ) where
       go : (a : Bool) → masterb os p c ≡ a → (b : Bool) → ghostb n qs ss os p c ≡ b → e.path ≡ (nth_cell n qs ss c).path
       go true u b v = ap (λ (e : Entry). e.path) (only_one e (entry_is c false) (rw (u, entry_of) at m))
       go false u true v = ap (λ (e : Entry). e.path) (only_one e (entry_is c true) (rw (u, v, entry_of) at m))
-      go false u false v = absurd (Memᴰ.not_nil (rw (u, v, entry_of) at m))
+      go false u false v = absurd (Memᴰ.not-nil (rw (u, v, entry_of) at m))
 
   module _ (s : Sound n qs ss) where
     pub same_path : (c d : ℕ) → c < length ss → d < length ss → (nth_cell n qs ss c).path ≡ (nth_cell n qs ss d).path → c ≡ d

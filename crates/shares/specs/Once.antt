@@ -205,7 +205,7 @@ module _ {Part : Type 0} {F : Finite Part} (X : Settled F) (p : Part) where
     where
       go : (b : Bool) → (is_part F (owner (num k t)) p && staysb F J p st k (num k t)) ≡ b → There n qs ss ms s k t × (e.path ≡ P k t)
           × (owner (num k t) ≡ p)
-      go false q = absurd (mathlib.Core.List.Memᴰ.not_nil (rw (q, master_entry) at m))
+      go false q = absurd (mathlib.Core.List.Memᴰ.not-nil (rw (q, master_entry) at m))
       go true q =
           let u : T (is_part F (owner (num k t)) p && staysb F J p st k (num k t)) = subst (λ (x : Bool). T x) (sym q) tt in
           let o = is_eq F (owner (num k t)) p (and_left (is_part F (owner (num k t)) p) (staysb F J p st k (num k t)) u) in (
@@ -221,7 +221,7 @@ module _ {Part : Type 0} {F : Finite Part} (X : Settled F) (p : Part) where
     where
       go : (b : Bool) → (not (is_part F (owner (num k t)) p) && (is_part F (J.family (num k t)) p && not (eqb (st_now k t) 0))) ≡ b
           → There n qs ss ms s k t × (e.path ≡ P k t) × (owner (num k t) ≢ p)
-      go false q = absurd (mathlib.Core.List.Memᴰ.not_nil (rw (q, ghost_entry) at m))
+      go false q = absurd (mathlib.Core.List.Memᴰ.not-nil (rw (q, ghost_entry) at m))
       go true q =
           let u : T (not (is_part F (owner (num k t)) p) && (is_part F (J.family (num k t)) p && not (eqb (st_now k t) 0))) =
           subst (λ (x : Bool). T x) (sym q) tt in
@@ -253,7 +253,7 @@ module _ {Part : Type 0} {F : Finite Part} (X : Settled F) (p : Part) where
   fresh_sort k t h e m = go (anewb F J p st k (num k t)) refl
     where
       go : (b : Bool) → anewb F J p st k (num k t) ≡ b → Later k t e
-      go false q = absurd (mathlib.Core.List.Memᴰ.not_nil (rw (q, fresh_entries) at m))
+      go false q = absurd (mathlib.Core.List.Memᴰ.not-nil (rw (q, fresh_entries) at m))
       go true q =
           let m' : Memᴰ e (flat_map (kid_entries k t) (range 0 (size_of (st_now k t)))) = rw (q, fresh_entries) at m in
           let (i, y, x) = flat_in (kid_entries k t) (range 0 (size_of (st_now k t))) e m' in
@@ -311,7 +311,7 @@ module _ {Part : Type 0} {F : Finite Part} (X : Settled F) (p : Part) where
   once_master k c = go (is_part F (owner c) p && staysb F J p st k c) refl
     where
       go : (b : Bool) → (is_part F (owner c) p && staysb F J p st k c) ≡ b → NoTwice (master_entry F J p st k c)
-      go true q = rw (q, master_entry) ((λ f m z. absurd (mathlib.Core.List.Memᴰ.not_nil m)), tt)
+      go true q = rw (q, master_entry) ((λ f m z. absurd (mathlib.Core.List.Memᴰ.not-nil m)), tt)
       go false q = rw (q, master_entry) tt
 
   once_ghost : (c : ℕ) → NoTwice (ghost_entry F J p st c)
@@ -320,7 +320,7 @@ module _ {Part : Type 0} {F : Finite Part} (X : Settled F) (p : Part) where
     where
       go : (b : Bool) → (not (is_part F (owner c) p) && (is_part F (J.family c) p && not (eqb (status_new J st c) 0))) ≡ b
           → NoTwice (ghost_entry F J p st c)
-      go true q = rw (q, ghost_entry) ((λ f m z. absurd (mathlib.Core.List.Memᴰ.not_nil m)), tt)
+      go true q = rw (q, ghost_entry) ((λ f m z. absurd (mathlib.Core.List.Memᴰ.not-nil m)), tt)
       go false q = rw (q, ghost_entry) tt
 
   once_fresh : (k t : ℕ) → NoTwice (fresh_entries F J p st k (num k t))

@@ -3,7 +3,6 @@
 #![tactic(auto)]
 
 ghost use Rattle.std.specs.Prelude.{◌≡◌, ◌+◌, ◌*◌, ◌≤◌, ◌<◌, length};
-ghost use Rattle.base.specs.Lent.{was, is};
 ghost use Rattle.base.specs.Limits.{full_rows, most_cells, most_slots, most_levels};
 ghost use Rattle.pairs.specs.Keys.{Keys};
 ghost use Rattle.edges.specs.Table.{Edges, Space};
@@ -26,7 +25,7 @@ fn number_edge(
     requires edges { Edges xs.old ys.old heads.old links.old from n }
     requires space { Space xs.old ys.old links.old n 1 }
     requires rows_len { (length rows.now ≡ full_rows) × (length slots.old ≡ most_slots) × (i < most_slots) }
-    ensures { OneMore (was rows) i (was xs) (was ys) from n (was slots) (is xs) (is ys) (is heads) (is links) (is slots) result }
+    ensures { OneMore rows.now i xs.old ys.old from n slots.old xs.new ys.new heads.new links.new slots.new result }
 {
     let ends = rows::edge_of(rows, i / 6, i % 6);
     let slot = edges::insert(xs, ys, heads, links, from, n, ends.a, ends.b);
@@ -50,7 +49,7 @@ fn number_level(
     requires most_slots_in_bounds { (most_slots ≤ length xs.old) × (most_slots ≤ length ys.old) × (most_slots ≤ length links.old) }
     requires first_le_last { (first ≤ last) × (last ≤ most_cells) × (n ≤ 6 * first) }
     requires rows_len { (length rows.now ≡ full_rows) × (length slots.old ≡ most_slots) }
-    ensures { LevelDone (was rows) first last n (was slots) (is xs) (is ys) (is heads) (is links) (is slots) result }
+    ensures { LevelDone rows.now first last n slots.old xs.new ys.new heads.new links.new slots.new result }
 {
     let mut m = n;
     let mut i = 6 * first;
@@ -75,7 +74,7 @@ pub fn number(
 )
     requires rising { Rising firsts.now }
     requires firsts_len { (length firsts.now ≡ most_levels + 1) × (length starts.old ≡ most_levels + 1) }
-    ensures { Slotted (was rows) (was firsts) (is slots) (is starts) }
+    ensures { Slotted rows.now firsts.now slots.new starts.new }
 {
     pairs::clear(heads);
     let mut n: usize = 0;

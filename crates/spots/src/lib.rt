@@ -4,7 +4,6 @@
 #![tactic(auto)]
 
 ghost use Rattle.std.specs.Prelude.{◌≡◌, ◌+◌, ◌<◌, ◌≤◌};
-ghost use Rattle.base.specs.Lent.{was, is};
 ghost use Rattle.spots.specs.Spots.{buckets_of, spot_of, noted, may_have};
 
 // How many buckets so many heads are for.
@@ -27,7 +26,7 @@ fn spot_of(buckets: usize, x: u32) -> usize
 
 // Whether an entry from `from` on may have x for one of its two numbers. Where it may not, none has.
 pub fn may_have(heads: &[u16], from: usize, x: u32) -> bool
-    ensures { result ≡ may_have (was heads) from x }
+    ensures { result ≡ may_have heads.now from x }
 {
     let m = buckets_of(heads.len());
     if heads.len() < m + 1024 {
@@ -41,7 +40,7 @@ pub fn may_have(heads: &[u16], from: usize, x: u32) -> bool
 // Notes n as the last entry with x and with y.
 pub fn note(heads: &mut [u16], n: usize, x: u32, y: u32)
     requires { n < 65536 }
-    ensures { is heads ≡ noted (was heads) n x y }
+    ensures { heads.new ≡ noted heads.old n x y }
 {
     let m = buckets_of(heads.len());
     if heads.len() < m + 1024 {

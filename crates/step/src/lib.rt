@@ -7,7 +7,6 @@ ghost use Rattle.base.specs.Limits.{most_cells};
 ghost use Rattle.mesh.specs.Coarse.{coarse_corner_count};
 ghost use Rattle.base.specs.Refuse.{held_after};
 ghost use Rattle.tables.specs.Room.{TableRoom};
-ghost use Rattle.base.specs.Lent.{was, is};
 ghost use Rattle.mesh.specs.Answers.{markb, marksb, new_table};
 ghost use Rattle.step.specs.Calls.{step_answer, stepped_of};
 ghost use Rattle.step.specs.Within.{StepBegun, StepMade};
@@ -36,7 +35,7 @@ fn mark_fits(status: u8, mark: u8) -> bool
 
 // Whether the marks fit the table.
 pub fn marks_fit(status: &[u8], marks: &[u8]) -> bool
-    ensures { result ≡ marksb (was status) (was marks) }
+    ensures { result ≡ marksb status.now marks.now }
 {
     if marks.len() != status.len() {
         return false;
@@ -62,7 +61,7 @@ fn begin(
     qs: &mut [u32],
 ) -> u8
     requires { length status.now ≤ most_cells → TableRoom status.now rows.old ps.old qs.old }
-    ensures { StepBegun (was positions) (was cells) (was status) (was marks) (is rows) result }
+    ensures { StepBegun positions.now cells.now status.now marks.now rows.new result }
 {
     let f = opening::open(positions, cells, status, rows, ps, qs);
     if f.refusal != 0 {
@@ -83,7 +82,7 @@ fn step_least(
     new: &mut [u8; 4096],
 ) -> NewTable
     requires { length status.now ≤ 128 }
-    ensures { StepMade (was positions) (was cells) (was status) (was marks) (is new) result.refusal result.cells }
+    ensures { StepMade positions.now cells.now status.now marks.now new.new result.refusal result.cells }
 {
     let mut rows = [0u16; 2048];
     let mut ps = [0u32; 128];
@@ -104,7 +103,7 @@ fn step_few(
     new: &mut [u8; 4096],
 ) -> NewTable
     requires { length status.now ≤ 512 }
-    ensures { StepMade (was positions) (was cells) (was status) (was marks) (is new) result.refusal result.cells }
+    ensures { StepMade positions.now cells.now status.now marks.now new.new result.refusal result.cells }
 {
     let mut rows = [0u16; 4096];
     let mut ps = [0u32; 512];
@@ -124,7 +123,7 @@ fn step_many(
     marks: &[u8],
     new: &mut [u8; 4096],
 ) -> NewTable
-    ensures { StepMade (was positions) (was cells) (was status) (was marks) (is new) result.refusal result.cells }
+    ensures { StepMade positions.now cells.now status.now marks.now new.new result.refusal result.cells }
 {
     let mut rows = [0u16; 32768];
     let mut ps = [0u32; 4096];
@@ -144,7 +143,7 @@ fn make(
     marks: &[u8],
     new: &mut [u8; 4096],
 ) -> NewTable
-    ensures { StepMade (was positions) (was cells) (was status) (was marks) (is new) result.refusal result.cells }
+    ensures { StepMade positions.now cells.now status.now marks.now new.new result.refusal result.cells }
 {
     if status.len() > 512 {
         return step_many(positions, cells, status, marks, new);
@@ -158,7 +157,7 @@ fn make(
 // Copies the new statuses into the lent table.
 fn hand_out(new: &[u8; 4096], cells: usize, table: &mut [u8])
     requires { (cells ≤ most_cells) × (most_cells ≤ length table.old) }
-    ensures { is table ≡ take cells (was new) ++ drop cells (was table) }
+    ensures { table.new ≡ take cells new.now ++ drop cells table.old }
 {
     base::copy_bytes(new, cells, table);
 }
@@ -172,12 +171,12 @@ pub fn step(
     table: &mut [u8],
 ) -> Stepped
     ensures value { result
-        ≡ stepped_of (step_answer (was positions) (was cells) (was status) (was marks) (was table))
-        (length (new_table (coarse_corner_count (was positions)) (fours (was cells)) (was status) (was marks))) }
-    ensures table_value { is table
-        ≡ held_after (step_answer (was positions) (was cells) (was status) (was marks) (was table))
-        (new_table (coarse_corner_count (was positions)) (fours (was cells)) (was status) (was marks))
-        (was table) }
+        ≡ stepped_of (step_answer positions.now cells.now status.now marks.now table.old)
+        (length (new_table (coarse_corner_count positions.now) (fours cells.now) status.now marks.now)) }
+    ensures table_value { table.new
+        ≡ held_after (step_answer positions.now cells.now status.now marks.now table.old)
+        (new_table (coarse_corner_count positions.now) (fours cells.now) status.now marks.now)
+        table.old }
 {
     if table.len() < MOST_CELLS {
         return Stepped::Refused(15);

@@ -4,7 +4,6 @@
 ghost use Rattle.std.specs.Prelude.{◌≡◌, true, false, ◌*◌, ◌≤◌, length, take};
 ghost use mathlib.Core.List.{flat_map};
 ghost use Rattle.base.specs.Fours.{fours};
-ghost use Rattle.base.specs.Lent.{was, is};
 ghost use Rattle.base.specs.Limits.{top_level};
 ghost use Rattle.pairs.specs.Keys.{Clear};
 ghost use Rattle.closure.specs.Listed.{Looks};
@@ -65,7 +64,7 @@ fn check_level(
     requires reds { Reds xs.old ys.old heads.old links.old n last }
     requires first_le_last { first ≤ last }
     requires status_in_bounds { (8 * length status.now ≤ length rows.now) × RedRoom status.now xs.old ys.old links.old }
-    ensures { Checked (was rows) (was status) first last (was xs) (was ys) n (is xs) (is ys) (is heads) (is links) result.ok result.n
+    ensures { Checked rows.now status.now first last xs.old ys.old n xs.new ys.new heads.new links.new result.ok result.n
         result.size }
 {
     if last > status.len() {
@@ -87,7 +86,7 @@ fn check_level(
 // Lays out the coarse cells. What the table holds behind their rows is free.
 pub fn lay_coarse(mesh: &[u16], rows: &mut [u16]) -> usize
     requires { Coarse mesh.now × (2048 ≤ length rows.old) }
-    ensures { (result ≡ length (fours (was mesh))) × (take (8 * result) (is rows) ≡ flat_map coarse_row (fours (was mesh))) }
+    ensures { (result ≡ length (fours mesh.now)) × (take (8 * result) rows.new ≡ flat_map coarse_row (fours mesh.now)) }
 {
     let count = mesh.len() / 4;
     let mut c = 0;
@@ -142,7 +141,7 @@ fn finish(
 ) -> Outcome
     requires { (ok ≡ true → size ≡ 0 → Looks rows.now xs.now ys.now heads.now links.now last 0 k × Parents rows.now last)
         × (level ≤ top_level) }
-    ensures { EndedWith ok size (was status) (was rows) (was xs) (was ys) k last level m result.refusal result.cells result.levels
+    ensures { EndedWith ok size status.now rows.now xs.now ys.now k last level m result.refusal result.cells result.levels
         result.mids }
 {
     if !ok {
@@ -188,7 +187,7 @@ pub fn build(
     requires table_room { TableRoom status.now rows.old ps.old qs.old × RedRoom status.now xs.old ys.old links.old
         × (length status.now ≤ length mid_links.old) }
     requires clear { Clear heads.old × Clear mid_heads.old }
-    ensures { Examined n (fours (was mesh)) (was status) (is rows) (is ps) (is qs) result.refusal result.cells result.levels result.mids }
+    ensures { Examined n (fours mesh.now) status.now rows.new ps.new qs.new result.refusal result.cells result.levels result.mids }
 {
     let digits = cutting::digit_table();
     let starts = cutting::start_table();

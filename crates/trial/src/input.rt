@@ -1,6 +1,5 @@
 // Reading numbers and lists from standard input. Every number of more than one byte has its least byte first.
 ghost use Rattle.std.specs.Prelude.{◌≡◌, ◌++◌, ◌+◌, ◌*◌, ◌<◌, ◌≤◌, length, drop};
-ghost use Rattle.base.specs.Lent.{was, is};
 ghost use Rattle.trial.specs.Input.{word_at, long_at, twos, signed_at, FrontRead, ListRead, MeshRead};
 ghost use Rattle.trial.specs.Pattern.{tab_of};
 
@@ -14,21 +13,21 @@ fn word(low: u8, high: u8) -> u32
 // The k-th number of two bytes.
 pub fn number(bytes: &[u8], k: usize) -> usize
     requires { 2 * k + 1 < length bytes.now }
-    ensures { (result ≡ word_at (was bytes) k) × (result < 65536) }
+    ensures { (result ≡ word_at bytes.now k) × (result < 65536) }
 {
     word(bytes[2 * k], bytes[2 * k + 1]) as usize
 }
 
 // Fills the list with bytes. False where the input ends. Only its length can be promised: what the input holds is free.
 pub fn read_all(list: &mut [u8]) -> bool
-    ensures { length (is list) ≡ length (was list) }
+    ensures { length list.new ≡ length list.old }
 {
     io::read_full(0, list) == list.len()
 }
 
 // Fills the first n places of a list with bytes. False where the list is shorter or the input ends.
 pub fn read_bytes(list: &mut [u8], n: usize) -> bool
-    ensures { FrontRead result n (was list) (is list) }
+    ensures { FrontRead result n list.old list.new }
 {
     if n > list.len() {
         return false;
@@ -50,7 +49,7 @@ fn signed(bits: u32) -> i32
 // The k-th number of four bytes.
 fn four(bytes: &[u8], k: usize) -> u32
     requires { 4 * k + 3 < length bytes.now }
-    ensures { result ≡ long_at (was bytes) k }
+    ensures { result ≡ long_at bytes.now k }
 {
     let at = 4 * k;
     let low = word(bytes[at], bytes[at + 1]);
@@ -61,21 +60,21 @@ fn four(bytes: &[u8], k: usize) -> u32
 // The same as a length.
 pub fn long(bytes: &[u8], k: usize) -> usize
     requires { 4 * k + 3 < length bytes.now }
-    ensures { result ≡ long_at (was bytes) k }
+    ensures { result ≡ long_at bytes.now k }
 {
     four(bytes, k) as usize
 }
 
 fn coordinate(bytes: &[u8], k: usize) -> i32
     requires { 4 * k + 3 < length bytes.now }
-    ensures { result ≡ signed_at (was bytes) k }
+    ensures { result ≡ signed_at bytes.now k }
 {
     signed(four(bytes, k))
 }
 
 fn corner(bytes: &[u8], k: usize) -> u16
     requires { 2 * k + 1 < length bytes.now }
-    ensures { result ≡ word_at (was bytes) k }
+    ensures { result ≡ word_at bytes.now k }
 {
     word(bytes[2 * k], bytes[2 * k + 1]) as u16
 }
@@ -83,7 +82,7 @@ fn corner(bytes: &[u8], k: usize) -> u16
 // Puts the first n coordinates of four bytes each into the first places of a list.
 fn decode_positions(bytes: &[u8], list: &mut [i32], n: usize)
     requires { (4 * n ≤ length bytes.now) × (n ≤ length list.old) }
-    ensures { is list ≡ tab_of (signed_at (was bytes)) n ++ drop n (was list) }
+    ensures { list.new ≡ tab_of (signed_at bytes.now) n ++ drop n list.old }
 {
     let mut i = 0;
     while i < n {
@@ -95,7 +94,7 @@ fn decode_positions(bytes: &[u8], list: &mut [i32], n: usize)
 // The same with corner or cell numbers, of two bytes each.
 fn decode_cells(bytes: &[u8], list: &mut [u16], n: usize)
     requires { (2 * n ≤ length bytes.now) × (n ≤ length list.old) }
-    ensures { is list ≡ tab_of (word_at (was bytes)) n ++ drop n (was list) }
+    ensures { list.new ≡ tab_of (word_at bytes.now) n ++ drop n list.old }
 {
     let mut i = 0;
     while i < n {
@@ -106,7 +105,7 @@ fn decode_cells(bytes: &[u8], list: &mut [u16], n: usize)
 
 // Reads n coordinates into the first places of a list, by way of room. False where one of them is too short or the input ends.
 pub fn read_positions(room: &mut [u8], list: &mut [i32], n: usize) -> bool
-    ensures { FrontRead result (4 * n) (was room) (is room) × ListRead result n (signed_at (is room)) (was list) (is list) }
+    ensures { FrontRead result (4 * n) room.old room.new × ListRead result n (signed_at room.new) list.old list.new }
 {
     if n > list.len() {
         return false;
@@ -123,7 +122,7 @@ pub fn read_positions(room: &mut [u8], list: &mut [i32], n: usize) -> bool
 
 // The same with corner or cell numbers.
 pub fn read_cells(room: &mut [u8], list: &mut [u16], n: usize) -> bool
-    ensures { FrontRead result (2 * n) (was room) (is room) × ListRead result n (word_at (is room)) (was list) (is list) }
+    ensures { FrontRead result (2 * n) room.old room.new × ListRead result n (word_at room.new) list.old list.new }
 {
     if n > list.len() {
         return false;
@@ -146,7 +145,7 @@ pub fn read_mesh(
     position_count: usize,
     cell_count: usize,
 ) -> bool
-    ensures { MeshRead result position_count cell_count (was room) (is room) (was positions) (is positions) (was cells) (is cells) }
+    ensures { MeshRead result position_count cell_count room.old room.new positions.old positions.new cells.old cells.new }
 {
     if !read_positions(room, positions, position_count) {
         return false;

@@ -1,6 +1,5 @@
 // The three tables of a layout: filled with a known pattern, laid out in, summed up.
 ghost use Rattle.std.specs.Prelude.{◌≡◌, length};
-ghost use Rattle.base.specs.Lent.{was, is};
 ghost use Rattle.layout.specs.Calls.{layout_answer, sizes_of, laid_of};
 ghost use Rattle.trial.specs.Layouts.{summary_of};
 ghost use Rattle.trial.specs.Pattern.{tab_of, word_fill, signed_fill};
@@ -33,17 +32,17 @@ pub fn lay_out(
     sums: &mut [i32],
 ) -> Laid
     ensures { result
-        ≡ laid_of (layout_answer (was positions) (was cells) (was status) (was table) (was ends) (was sums))
-        (sizes_of (was positions) (was cells) (was status)) }
+        ≡ laid_of (layout_answer positions.now cells.now status.now table.old ends.old sums.old)
+        (sizes_of positions.now cells.now status.now) }
 {
     layout::lay_out(positions, cells, status, table, ends, sums)
 }
 
 // Fills all three.
 pub fn fill(table: &mut [u16], ends: &mut [u16], sums: &mut [i32])
-    ensures table_value { is table ≡ tab_of word_fill (length (was table)) }
-    ensures ends_value { is ends ≡ tab_of word_fill (length (was ends)) }
-    ensures sums_value { is sums ≡ tab_of signed_fill (length (was sums)) }
+    ensures table_value { table.new ≡ tab_of word_fill (length table.old) }
+    ensures ends_value { ends.new ≡ tab_of word_fill (length ends.old) }
+    ensures sums_value { sums.new ≡ tab_of signed_fill (length sums.old) }
 {
     pattern::fill(table);
     pattern::fill(ends);
@@ -52,7 +51,7 @@ pub fn fill(table: &mut [u16], ends: &mut [u16], sums: &mut [i32])
 
 // Sums up a layout's answer and what the tables hold.
 pub fn sum_up(laid: Laid, table: &[u16], ends: &[u16], sums: &[i32]) -> Summary
-    ensures { result ≡ summary_of laid (was table) (was ends) (was sums) }
+    ensures { result ≡ summary_of laid table.now ends.now sums.now }
 {
     let t = pattern::checksum(table);
     let e = pattern::checksum(ends);

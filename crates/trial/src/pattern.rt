@@ -1,7 +1,6 @@
 // What tables hold before a call, and a checksum of what they hold after it.
 ghost use Rattle.std.specs.Prelude.{◌≡◌, ◌-◌, ◌<◌, ◌≤◌, length};
 ghost use Rattle.base.specs.Bools.{one_if};
-ghost use Rattle.base.specs.Lent.{was, is};
 ghost use Rattle.trial.specs.Pattern.{turned, tab_of, byte_fill, word_fill, signed_fill, check_from, above_least};
 
 fn narrow(x: u8) -> u64
@@ -27,7 +26,7 @@ fn turn(sum: u64, x: u64) -> u64
 
 // Fills a list with the first numbers of the pattern, as many as it has places; so do the next two.
 pub fn fill_bytes(list: &mut [u8])
-    ensures { is list ≡ tab_of byte_fill (length (was list)) }
+    ensures { list.new ≡ tab_of byte_fill (length list.old) }
 {
     let n = list.len();
     let mut x = 1;
@@ -40,7 +39,7 @@ pub fn fill_bytes(list: &mut [u8])
 }
 
 pub fn fill(list: &mut [u16])
-    ensures { is list ≡ tab_of word_fill (length (was list)) }
+    ensures { list.new ≡ tab_of word_fill (length list.old) }
 {
     let n = list.len();
     let mut x = 1;
@@ -53,7 +52,7 @@ pub fn fill(list: &mut [u16])
 }
 
 pub fn fill_signed(list: &mut [i32])
-    ensures { is list ≡ tab_of signed_fill (length (was list)) }
+    ensures { list.new ≡ tab_of signed_fill (length list.old) }
 {
     let n = list.len();
     let mut x = 1;
@@ -73,7 +72,7 @@ fn above(x: i32) -> u64
 }
 
 pub fn checksum_bytes(list: &[u8]) -> u64
-    ensures { result ≡ check_from (λ x. x) 1 (was list) }
+    ensures { result ≡ check_from (λ x. x) 1 list.now }
 {
     let mut sum = 1;
     let mut i = 0;
@@ -85,7 +84,7 @@ pub fn checksum_bytes(list: &[u8]) -> u64
 }
 
 pub fn checksum(list: &[u16]) -> u64
-    ensures { result ≡ check_from (λ x. x) 1 (was list) }
+    ensures { result ≡ check_from (λ x. x) 1 list.now }
 {
     let mut sum = 1;
     let mut i = 0;
@@ -97,7 +96,7 @@ pub fn checksum(list: &[u16]) -> u64
 }
 
 pub fn checksum_signed(list: &[i32]) -> u64
-    ensures { result ≡ check_from above_least 1 (was list) }
+    ensures { result ≡ check_from above_least 1 list.now }
 {
     let mut sum = 1;
     let mut i = 0;

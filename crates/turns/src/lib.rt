@@ -3,7 +3,6 @@
 #![tactic(auto)]
 
 ghost use Rattle.std.specs.Prelude.{◌≡◌, ◌+◌, ◌-◌, ◌*◌, ◌^◌, ◌≤◌, ◌<◌, length};
-ghost use Rattle.base.specs.Lent.{was, is};
 ghost use Rattle.base.specs.Limits.{most_levels, most_parts, top_level, most_cells, most_slots};
 ghost use Rattle.store.specs.Fields.{field, full, CELLS, CHILD};
 ghost use Rattle.turns.specs.Loops.{some_from, each_from};
@@ -27,7 +26,7 @@ use store::{
 // The slot of an edge of a cell.
 fn slot_of(store: &[u16], c: usize, e: usize) -> usize
     requires { (full ≤ length store.now) × (c < most_cells) × (e < 6) }
-    ensures { result ≡ slot_at (was store) c e }
+    ensures { result ≡ slot_at store.now c e }
 {
     store[SLOT + (6 * c + e)] as usize
 }
@@ -35,7 +34,7 @@ fn slot_of(store: &[u16], c: usize, e: usize) -> usize
 // Whether a cell one level up that will be red has the slot.
 fn is_hit(store: &[u16], slot: usize) -> bool
     requires { full ≤ length store.now }
-    ensures { result ≡ hitb (was store) slot }
+    ensures { result ≡ hitb store.now slot }
 {
     if slot >= MOST_SLOTS {
         return false;
@@ -46,7 +45,7 @@ fn is_hit(store: &[u16], slot: usize) -> bool
 // Whether an edge of a cell is hit.
 pub fn edge_hit(store: &[u16], c: usize, e: usize) -> bool
     requires { (full ≤ length store.now) × (c < most_cells) × (e < 6) }
-    ensures { result ≡ hit_of (was store) c e }
+    ensures { result ≡ hit_of store.now c e }
 {
     let slot = slot_of(store, c, e);
     is_hit(store, slot)
@@ -55,7 +54,7 @@ pub fn edge_hit(store: &[u16], c: usize, e: usize) -> bool
 // Whether some edge of a cell is hit.
 fn some_hit(store: &[u16], c: usize) -> bool
     requires { (full ≤ length store.now) × (c < most_cells) }
-    ensures { result ≡ some_from (hit_of (was store) c) 6 0 }
+    ensures { result ≡ some_from (hit_of store.now c) 6 0 }
 {
     let mut e = 0;
     while e < 6 {
@@ -70,7 +69,7 @@ fn some_hit(store: &[u16], c: usize) -> bool
 // Whether an edge is hit that is not also the parent's.
 fn is_pull(store: &[u16], c: usize, e: usize) -> bool
     requires { (full ≤ length store.now) × (c < most_cells) × (e < 6) }
-    ensures { result ≡ pull_of (was store) c e }
+    ensures { result ≡ pull_of store.now c e }
 {
     if (store[INNER + c] >> e) % 2 != 1 {
         return false;
@@ -81,7 +80,7 @@ fn is_pull(store: &[u16], c: usize, e: usize) -> bool
 // Whether some edge of a cell is so.
 fn some_pull(store: &[u16], c: usize) -> bool
     requires { (full ≤ length store.now) × (c < most_cells) }
-    ensures { result ≡ some_from (pull_of (was store) c) 6 0 }
+    ensures { result ≡ some_from (pull_of store.now c) 6 0 }
 {
     let mut e = 0;
     while e < 6 {
@@ -96,7 +95,7 @@ fn some_pull(store: &[u16], c: usize) -> bool
 // Whether a cell is not a leaf that is marked for deletion and has no hit edge.
 fn is_busy(store: &[u16], d: usize) -> bool
     requires { (full ≤ length store.now) × (d < most_cells) }
-    ensures { result ≡ busyb (was store) d }
+    ensures { result ≡ busyb store.now d }
 {
     if store[STATUS + d] != 0 {
         return true;
@@ -110,7 +109,7 @@ fn is_busy(store: &[u16], d: usize) -> bool
 // Whether a green cell's child turns its parent red.
 fn is_pulled(store: &[u16], d: usize) -> bool
     requires { (full ≤ length store.now) × (d < most_cells) }
-    ensures { result ≡ pulled_kid (was store) d }
+    ensures { result ≡ pulled_kid store.now d }
 {
     if store[MARK + d] == 1 {
         return true;
@@ -121,7 +120,7 @@ fn is_pulled(store: &[u16], d: usize) -> bool
 // How many children a cell has: as many as its status says, and none beyond the number of cells.
 pub fn kid_count(store: &[u16], c: usize) -> usize
     requires { (full ≤ length store.now) × (c < most_cells) }
-    ensures { (result ≡ kid_count (was store) c) × (result ≤ 8) }
+    ensures { (result ≡ kid_count store.now c) × (result ≤ 8) }
 {
     let status = store[STATUS + c];
     if status > 64 {
@@ -143,7 +142,7 @@ pub fn kid_count(store: &[u16], c: usize) -> usize
 // Whether some child of a cell is busy.
 fn some_busy(store: &[u16], c: usize) -> bool
     requires { (full ≤ length store.now) × (field store.now CELLS ≤ most_cells) × (c < most_cells) }
-    ensures { result ≡ some_from (busyb (was store)) (kid_count (was store) c) (field (was store) (CHILD + c)) }
+    ensures { result ≡ some_from (busyb store.now) (kid_count store.now c) (field store.now (CHILD + c)) }
 {
     let first = store[CHILD + c] as usize;
     let last = first + kid_count(store, c);
@@ -160,7 +159,7 @@ fn some_busy(store: &[u16], c: usize) -> bool
 // Whether some child of a cell is pulled.
 fn some_pulled(store: &[u16], c: usize) -> bool
     requires { (full ≤ length store.now) × (field store.now CELLS ≤ most_cells) × (c < most_cells) }
-    ensures { result ≡ some_from (pulled_kid (was store)) (kid_count (was store) c) (field (was store) (CHILD + c)) }
+    ensures { result ≡ some_from (pulled_kid store.now) (kid_count store.now c) (field store.now (CHILD + c)) }
 {
     let first = store[CHILD + c] as usize;
     let last = first + kid_count(store, c);
@@ -177,7 +176,7 @@ fn some_pulled(store: &[u16], c: usize) -> bool
 // Whether a cell will be red.
 fn turns_red(store: &[u16], c: usize) -> bool
     requires { (full ≤ length store.now) × (field store.now CELLS ≤ most_cells) × (c < most_cells) }
-    ensures { result ≡ ruleb (was store) c }
+    ensures { result ≡ ruleb store.now c }
 {
     if store[STATUS + c] == 64 {
         return some_busy(store, c);
@@ -194,7 +193,7 @@ fn turns_red(store: &[u16], c: usize) -> bool
 // Decides on a cell, if its family is here.
 fn decide_one(store: &mut [u16], c: usize)
     requires { (full ≤ length store.old) × (field store.old CELLS ≤ most_cells) × (c < most_cells) }
-    ensures { is store ≡ decide_one (was store) c }
+    ensures { store.new ≡ decide_one store.old c }
 {
     if store[FAMILY + c] != store[PART] {
         return;
@@ -208,7 +207,7 @@ fn decide_one(store: &mut [u16], c: usize)
 // Decides on the cells from `first` to `last`.
 fn decide(store: &mut [u16], first: usize, last: usize)
     requires { (full ≤ length store.old) × (field store.old CELLS ≤ most_cells) × (last ≤ most_cells) }
-    ensures { is store ≡ each_from decide_one (last - first) first (was store) }
+    ensures { store.new ≡ each_from decide_one (last - first) first store.old }
 {
     let mut c = first;
     while c < last {
@@ -220,7 +219,7 @@ fn decide(store: &mut [u16], first: usize, last: usize)
 // Writes an entry behind the others, if it has receivers and there is room.
 pub fn post(store: &mut [u16], code: u16, value: u16, mask: u16)
     requires { full ≤ length store.old }
-    ensures { is store ≡ posted (was store) code value mask }
+    ensures { store.new ≡ posted store.old code value mask }
 {
     if mask == 0 {
         return;
@@ -246,7 +245,7 @@ fn bit_of(part: usize) -> usize
 // Writes the mark of a cell for its master, if it is a ghost.
 fn mark_one(store: &mut [u16], c: usize)
     requires { (full ≤ length store.old) × (c < most_cells) }
-    ensures { is store ≡ mark_one (was store) c }
+    ensures { store.new ≡ mark_one store.old c }
 {
     if store[FAMILY + c] != store[PART] {
         return;
@@ -269,7 +268,7 @@ fn mark_one(store: &mut [u16], c: usize)
 // Writes the marks of the ghosts among the cells from `first` to `last`.
 fn post_marks(store: &mut [u16], first: usize, last: usize)
     requires { (full ≤ length store.old) × (last ≤ most_cells) }
-    ensures { is store ≡ each_from mark_one (last - first) first (was store) }
+    ensures { store.new ≡ each_from mark_one (last - first) first store.old }
 {
     let mut c = first;
     while c < last {
@@ -281,7 +280,7 @@ fn post_marks(store: &mut [u16], first: usize, last: usize)
 // All parts but the own one, as bits.
 pub fn others_of(store: &[u16]) -> usize
     requires { Usable store.now }
-    ensures { (result ≡ others_of (was store)) × (result < 65536) }
+    ensures { (result ≡ others_of store.now) × (result < 65536) }
 {
     let parts = store[PARTS] as usize;
     let part = store[PART] as usize;
@@ -293,7 +292,7 @@ pub fn others_of(store: &[u16]) -> usize
 // Writes the end of the round for all others.
 pub fn post_end(store: &mut [u16])
     requires { Usable store.old }
-    ensures { is store ≡ post_end (was store) }
+    ensures { store.new ≡ post_end store.old }
 {
     let mask = others_of(store);
     post(store, 65535, 0, mask as u16);
@@ -302,7 +301,7 @@ pub fn post_end(store: &mut [u16])
 // The first cell of a level, at most the number of cells.
 fn level_from(store: &[u16], k: usize) -> usize
     requires { Usable store.now × (k ≤ most_levels) }
-    ensures { (result ≡ level_from (was store) k) × (result ≤ most_cells) }
+    ensures { (result ≡ level_from store.now k) × (result ≤ most_cells) }
 {
     let first = store[FIRST_CELL + k] as usize;
     let cells = store[CELLS] as usize;
@@ -312,7 +311,7 @@ fn level_from(store: &[u16], k: usize) -> usize
 // Enters the round of marks of a level.
 pub fn enter_marks(store: &mut [u16], k: usize)
     requires { Usable store.old × (k ≤ top_level) }
-    ensures { is store ≡ enter_marks (was store) k }
+    ensures { store.new ≡ enter_marks store.old k }
 {
     let first = level_from(store, k);
     let last = level_from(store, k + 1);
@@ -324,7 +323,7 @@ pub fn enter_marks(store: &mut [u16], k: usize)
 // Whether a mark is 0 to 2, and 0 on a refined cell.
 fn mark_fits(store: &[u16], c: usize, mark: u8) -> bool
     requires { (full ≤ length store.now) × (c < most_cells) }
-    ensures { result ≡ mark_ok (was store) c mark }
+    ensures { result ≡ mark_ok store.now c mark }
 {
     if mark > 2 {
         return false;
@@ -338,7 +337,7 @@ fn mark_fits(store: &[u16], c: usize, mark: u8) -> bool
 // Whether the mark that is due fits a cell, if it is a master.
 fn is_marked(store: &[u16], marks: &[u8], c: usize, j: usize) -> bool
     requires { (full ≤ length store.now) × (c < most_cells) }
-    ensures { result ≡ mark_at (was store) (was marks) c j }
+    ensures { result ≡ mark_at store.now marks.now c j }
 {
     if store[OWNER + c] != store[PART] {
         return true;
@@ -352,7 +351,7 @@ fn is_marked(store: &[u16], marks: &[u8], c: usize, j: usize) -> bool
 // The mark that is due behind a cell.
 fn next_mark(store: &[u16], c: usize, j: usize) -> usize
     requires { (full ≤ length store.now) × (c < most_cells) × (j < 65536) }
-    ensures { result ≡ next_mark (was store) c j }
+    ensures { result ≡ next_mark store.now c j }
 {
     if store[OWNER + c] == store[PART] {
         j + 1
@@ -364,7 +363,7 @@ fn next_mark(store: &[u16], c: usize, j: usize) -> usize
 // Whether the marks are one for each master, and fit.
 fn marks_fit(store: &[u16], marks: &[u8]) -> bool
     requires { Usable store.now }
-    ensures { result ≡ marks_due (was store) (was marks) (field (was store) CELLS) 0 0 }
+    ensures { result ≡ marks_due store.now marks.now (field store.now CELLS) 0 0 }
 {
     let cells = store[CELLS] as usize;
     let mut c: usize = 0;
@@ -382,7 +381,7 @@ fn marks_fit(store: &[u16], marks: &[u8]) -> bool
 // Stores the mark that is due, if a cell is a master.
 fn set_mark(store: &mut [u16], marks: &[u8], c: usize, j: usize)
     requires { (full ≤ length store.old) × (c < most_cells) }
-    ensures { is store ≡ mark_set (was store) (was marks) c j }
+    ensures { store.new ≡ mark_set store.old marks.now c j }
 {
     if store[OWNER + c] != store[PART] {
         return;
@@ -396,7 +395,7 @@ fn set_mark(store: &mut [u16], marks: &[u8], c: usize, j: usize)
 // Stores the marks of all masters.
 fn set_marks(store: &mut [u16], marks: &[u8])
     requires { Usable store.old }
-    ensures { is store ≡ marked_from (was store) (was marks) (field (was store) CELLS) 0 0 }
+    ensures { store.new ≡ marked_from store.old marks.now (field store.old CELLS) 0 0 }
 {
     let cells = store[CELLS] as usize;
     let mut c: usize = 0;
@@ -412,7 +411,7 @@ fn set_marks(store: &mut [u16], marks: &[u8])
 // Adds one to a slot.
 fn add_one(store: &mut [u16], slot: usize)
     requires { full ≤ length store.old }
-    ensures { is store ≡ add_one (was store) slot }
+    ensures { store.new ≡ add_one store.old slot }
 {
     if slot >= MOST_SLOTS {
         return;
@@ -423,7 +422,7 @@ fn add_one(store: &mut [u16], slot: usize)
 // Adds one to the slot of an edge.
 fn add_edge(store: &mut [u16], c: usize, e: usize)
     requires { (full ≤ length store.old) × (c < most_cells) × (e < 6) }
-    ensures { is store ≡ add_edge c (was store) e }
+    ensures { store.new ≡ add_edge c store.old e }
 {
     let slot = slot_of(store, c, e);
     add_one(store, slot);
@@ -432,7 +431,7 @@ fn add_edge(store: &mut [u16], c: usize, e: usize)
 // Adds one to the slots of a cell's edges.
 fn add_edges(store: &mut [u16], c: usize)
     requires { (full ≤ length store.old) × (c < most_cells) }
-    ensures { is store ≡ each_from (add_edge c) 6 0 (was store) }
+    ensures { store.new ≡ each_from (add_edge c) 6 0 store.old }
 {
     let mut e: usize = 0;
     while e < 6 {
@@ -444,7 +443,7 @@ fn add_edges(store: &mut [u16], c: usize)
 // Tallies a cell, if it is a master that will be red.
 fn tally_one(store: &mut [u16], c: usize)
     requires { (full ≤ length store.old) × (c < most_cells) }
-    ensures { is store ≡ tally_one (was store) c }
+    ensures { store.new ≡ tally_one store.old c }
 {
     if store[OWNER + c] != store[PART] {
         return;
@@ -458,7 +457,7 @@ fn tally_one(store: &mut [u16], c: usize)
 // Tallies the cells from `first` to `last`.
 fn tally(store: &mut [u16], first: usize, last: usize)
     requires { (full ≤ length store.old) × (last ≤ most_cells) }
-    ensures { is store ≡ each_from tally_one (last - first) first (was store) }
+    ensures { store.new ≡ each_from tally_one (last - first) first store.old }
 {
     let mut c = first;
     while c < last {
@@ -470,7 +469,7 @@ fn tally(store: &mut [u16], first: usize, last: usize)
 // The receivers without the own part.
 fn without_own(store: &[u16], mask: u16) -> u16
     requires { Usable store.now }
-    ensures { result ≡ besides (was store) mask }
+    ensures { result ≡ besides store.now mask }
 {
     let part = store[PART] as usize;
     if (mask as usize >> (part - 1)) % 2 != 1 {
@@ -483,7 +482,7 @@ fn without_own(store: &[u16], mask: u16) -> u16
 // Writes the count of a slot for its other holders, if it is not 0.
 fn count_one(store: &mut [u16], s: usize)
     requires { Usable store.old × (s < most_slots) }
-    ensures { is store ≡ count_one (was store) s }
+    ensures { store.new ≡ count_one store.old s }
 {
     let count = store[SUM + s];
     if count == 0 {
@@ -497,7 +496,7 @@ fn count_one(store: &mut [u16], s: usize)
 // Writes the counts of the slots from `first` to `last`.
 fn post_counts(store: &mut [u16], first: usize, last: usize)
     requires { Usable store.old × (last ≤ most_slots) }
-    ensures { is store ≡ each_from count_one (last - first) first (was store) }
+    ensures { store.new ≡ each_from count_one (last - first) first store.old }
 {
     let mut s = first;
     while s < last {
@@ -509,7 +508,7 @@ fn post_counts(store: &mut [u16], first: usize, last: usize)
 // The first slot of a level, at most 24,576.
 fn slot_from(store: &[u16], k: usize) -> usize
     requires { Usable store.now × (k ≤ most_levels) }
-    ensures { (result ≡ slot_from (was store) k) × (result ≤ most_slots) }
+    ensures { (result ≡ slot_from store.now k) × (result ≤ most_slots) }
 {
     let first = store[FIRST_SLOT + k] as usize;
     if first < MOST_SLOTS {
@@ -522,7 +521,7 @@ fn slot_from(store: &[u16], k: usize) -> usize
 // Enters the round of counts of a level.
 pub fn enter_counts(store: &mut [u16], k: usize)
     requires { Usable store.old × (k ≤ top_level) }
-    ensures { is store ≡ enter_counts (was store) k }
+    ensures { store.new ≡ enter_counts store.old k }
 {
     let first = level_from(store, k);
     let last = level_from(store, k + 1);
@@ -535,8 +534,8 @@ pub fn enter_counts(store: &mut [u16], k: usize)
 
 // Starts a part with one mark for each of its masters.
 pub fn start(store: &mut [u16], marks: &[u8]) -> Answer
-    ensures value { result ≡ start_answer (was store) (was marks) }
-    ensures store_value { is store ≡ start_after (was store) (was marks) }
+    ensures value { result ≡ start_answer store.old marks.now }
+    ensures store_value { store.new ≡ start_after store.old marks.now }
 {
     if store.len() < FULL {
         return Answer::Refused(15);

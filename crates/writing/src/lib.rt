@@ -3,7 +3,6 @@
 
 ghost use Rattle.std.specs.Prelude.{◌≡◌, not, [], ◌∷◌, map, ℕ, ◌+◌, ◌-◌, ◌≤◌, ◌<◌, eqb, length, get_or, take, replicate};
 ghost use Rattle.base.specs.Bools.{one_if};
-ghost use Rattle.base.specs.Lent.{was, is};
 ghost use Rattle.base.specs.Limits.{most_cells, most_coarse_cells};
 ghost use Rattle.base.specs.Lists.{anyb};
 ghost use Rattle.base.specs.Range.{range};
@@ -24,7 +23,7 @@ use base::{MOST_CELLS, TOP_LEVEL};
 fn write_kept(kept: &[u8], first: usize, table: &mut [u8; 4096], old: &mut [u16; 4096], at: usize)
     requires first_in_bounds { (first + 8 ≤ length kept.now) × (first + 8 ≤ most_cells) }
     requires room_for { RoomFor table.old old.old at 8 }
-    ensures { Wrote (was table) (was old) at (part (was kept) first 8) (range first 8) (is table) (is old) }
+    ensures { Wrote table.old old.old at (part kept.now first 8) (range first 8) table.new old.new }
 {
     let mut i = 0;
     while i < 8 {
@@ -38,7 +37,7 @@ fn write_kept(kept: &[u8], first: usize, table: &mut [u8; 4096], old: &mut [u16;
 fn write_fresh(fresh: &[u8; 8], table: &mut [u8; 4096], old: &mut [u16; 4096], at: usize)
     requires fresh_len { length fresh.now ≡ 8 }
     requires room_for { RoomFor table.old old.old at 8 }
-    ensures { Wrote (was table) (was old) at (was fresh) (replicate 8 65535) (is table) (is old) }
+    ensures { Wrote table.old old.old at fresh.now (replicate 8 65535) table.new old.new }
 {
     let mut i = 0;
     while i < 8 {
@@ -51,7 +50,7 @@ fn write_fresh(fresh: &[u8; 8], table: &mut [u8; 4096], old: &mut [u16; 4096], a
 // Writes n leaves.
 fn write_leaves(n: usize, table: &mut [u8; 4096], old: &mut [u16; 4096], at: usize)
     requires { RoomFor table.old old.old at n }
-    ensures { Wrote (was table) (was old) at (replicate n 0) (replicate n 65535) (is table) (is old) }
+    ensures { Wrote table.old old.old at (replicate n 0) (replicate n 65535) table.new old.new }
 {
     let mut i = 0;
     while i < n {
@@ -64,7 +63,7 @@ fn write_leaves(n: usize, table: &mut [u8; 4096], old: &mut [u16; 4096], at: usi
 // An edge of a child by its two digits.
 fn pair_of(digits: &[u8; 32], j: usize, y: usize) -> usize
     requires { (j < 8) × (y < 6) × EndsBelow digits.now j }
-    ensures { (result ≡ pair_at (was digits) j y) × (result < 100) }
+    ensures { (result ≡ pair_at digits.now j y) × (result < 100) }
 {
     10 * digits::low_digit(digits, j, y) as usize + digits::high_digit(digits, j, y) as usize
 }
@@ -72,7 +71,7 @@ fn pair_of(digits: &[u8; 32], j: usize, y: usize) -> usize
 // Notes an edge of a child, if the pattern splits it.
 fn note_edge(digits: &[u8; 32], j: usize, y: usize, pattern: u8, held: &mut [u8; 100])
     requires { (j < 8) × (y < 6) × EndsBelow digits.now j }
-    ensures { is held ≡ ones (was held) (pairs_at (was digits) j pattern (y ∷ [])) }
+    ensures { held.new ≡ ones held.old (pairs_at digits.now j pattern (y ∷ [])) }
 {
     if (pattern >> y) % 2 != 1 {
         return;
@@ -84,7 +83,7 @@ fn note_edge(digits: &[u8; 32], j: usize, y: usize, pattern: u8, held: &mut [u8;
 // Notes the edges of a child that the pattern splits.
 fn note_child(digits: &[u8; 32], j: usize, pattern: u8, held: &mut [u8; 100])
     requires { (j < 8) × EndsBelow digits.now j }
-    ensures { is held ≡ ones (was held) (pairs_at (was digits) j pattern edge_numbers) }
+    ensures { held.new ≡ ones held.old (pairs_at digits.now j pattern edge_numbers) }
 {
     if pattern == 0 {
         return;
@@ -99,7 +98,7 @@ fn note_child(digits: &[u8; 32], j: usize, pattern: u8, held: &mut [u8; 100])
 // A one for each edge of the old children, `count` from `first` on, that a new red cell holds.
 fn held_pairs(status: u8, kept: &[u8], first: usize, count: usize) -> [u8; 100]
     requires { (status < 64) × (count ≡ size_of status) × (count ≤ 8) × (first + count ≤ length kept.now) }
-    ensures { Noted result (held_pairs status (was kept) first) }
+    ensures { Noted result (held_pairs status kept.now first) }
 {
     let mut held = [0u8; 100];
     let whole = cutting::cut(status);
@@ -115,7 +114,7 @@ fn held_pairs(status: u8, kept: &[u8], first: usize, count: usize) -> [u8; 100]
 // Whether an edge of a new child is held: 1 or 0.
 fn held_at(held: &[u8; 100], digits: &[u8; 32], i: usize, y: usize) -> u8
     requires { (i < 8) × (y < 6) × EndsBelow digits.now i × ZeroOrOne held.now }
-    ensures { (result ≡ one_if (eqb (get_or (was held) (pair_at (was digits) i y) 0) 1)) × (result ≤ 1) }
+    ensures { (result ≡ one_if (eqb (get_or held.now (pair_at digits.now i y) 0) 1)) × (result ≤ 1) }
 {
     let k = pair_of(digits, i, y);
     held[k]
@@ -124,7 +123,7 @@ fn held_at(held: &[u8; 100], digits: &[u8; 32], i: usize, y: usize) -> u8
 // The status of a new child, from what is held.
 fn fresh_status(held: &[u8; 100], digits: &[u8; 32], i: usize) -> u8
     requires { (i < 8) × EndsBelow digits.now i × ZeroOrOne held.now }
-    ensures { result ≡ bits_at (was held) (was digits) i }
+    ensures { result ≡ bits_at held.now digits.now i }
 {
     let a = held_at(held, digits, i, 0);
     let b = held_at(held, digits, i, 1);
@@ -138,7 +137,7 @@ fn fresh_status(held: &[u8; 100], digits: &[u8; 32], i: usize) -> u8
 // The statuses of all eight.
 fn fresh_with(held: &[u8; 100]) -> [u8; 8]
     requires { ZeroOrOne held.now }
-    ensures { result ≡ map (bits_at (was held) (cut_of 63).digits) (range 0 8) }
+    ensures { result ≡ map (bits_at held.now (cut_of 63).digits) (range 0 8) }
 {
     let whole = cutting::cut(63);
     let digits = whole.digits;
@@ -154,7 +153,7 @@ fn fresh_with(held: &[u8; 100]) -> [u8; 8]
 // Whether a cell from `first` to `last` keeps anything.
 fn some_held(kept: &[u8], first: usize, last: usize) -> bool
     requires { last ≤ length kept.now }
-    ensures { result ≡ anyb (λ c. not (eqb (get_or (was kept) c 0) 0)) (range first (last - first)) }
+    ensures { result ≡ anyb (λ c. not (eqb (get_or kept.now c 0) 0)) (range first (last - first)) }
 {
     let mut j = first;
     while j < last {
@@ -169,7 +168,7 @@ fn some_held(kept: &[u8], first: usize, last: usize) -> bool
 // The statuses of the eight children of a cell that was not red and will be. Where its old children keep nothing, they are leaves.
 fn fresh_of(status: u8, kept: &[u8], first: usize) -> [u8; 8]
     requires { (status < 64) × (first + size_of status ≤ length kept.now) }
-    ensures { result ≡ fresh_of status (was kept) first }
+    ensures { result ≡ fresh_of status kept.now first }
 {
     let count = rows::size_of(status);
     if !some_held(kept, first, first + count) {
@@ -192,8 +191,8 @@ fn write_red(
 )
     requires keeps { Keeps coarse status.now kids.now kept.now }
     requires room_for { RoomFor table.old old.old at 8 }
-    ensures { Wrote (was table) (was old) at (born_by coarse (was status) (was kept) 64 o) (olds_of coarse (was status) 64 o)
-        (is table) (is old) }
+    ensures { Wrote table.old old.old at (born_by coarse status.now kept.now 64 o) (olds_of coarse status.now 64 o)
+        table.new old.new }
 {
     if o >= status.len() {
         write_leaves(8, table, old, at);
@@ -223,8 +222,8 @@ fn write_family(
 ) -> usize
     requires keeps { Keeps coarse status.now kids.now kept.now }
     requires t_bound { (t ≤ 64) × RoomFor table.old old.old at (size_of t) }
-    ensures { (result ≡ at + size_of t) × Wrote (was table) (was old) at (born_by coarse (was status) (was kept) t o)
-        (olds_of coarse (was status) t o) (is table) (is old) }
+    ensures { (result ≡ at + size_of t) × Wrote table.old old.old at (born_by coarse status.now kept.now t o)
+        (olds_of coarse status.now t o) table.new old.new }
 {
     if t == 64 {
         write_red(status, kids, kept, coarse, o as usize, table, old, at);
@@ -248,10 +247,10 @@ fn write_level(
 )
     requires keeps { Keeps coarse status.now kids.now kept.now }
     requires room_above { RoomAbove table.old old.old first last }
-    ensures { Wrote (was table) (was old) last
-        (born_next coarse (was status) (was kept) (part (was table) first (last - first)) (part (was old) first (last - first)))
-        (olds_next coarse (was status) (part (was table) first (last - first)) (part (was old) first (last - first)))
-        (is table) (is old) }
+    ensures { Wrote table.old old.old last
+        (born_next coarse status.now kept.now (part table.old first (last - first)) (part old.old first (last - first)))
+        (olds_next coarse status.now (part table.old first (last - first)) (part old.old first (last - first)))
+        table.new old.new }
 {
     let mut k = last;
     let mut c = first;
@@ -264,7 +263,7 @@ fn write_level(
 // Writes what the coarse cells keep, and their numbers.
 fn write_coarse(kept: &[u8], coarse: usize, table: &mut [u8], old: &mut [u16])
     requires { (coarse ≤ most_coarse_cells) × (coarse ≤ length kept.now) × (coarse ≤ length table.old) × (coarse ≤ length old.old) }
-    ensures { Wrote (was table) (was old) 0 (take coarse (was kept)) (up_to coarse) (is table) (is old) }
+    ensures { Wrote table.old old.old 0 (take coarse kept.now) (up_to coarse) table.new old.new }
 {
     let mut c = 0;
     while c < coarse {
@@ -277,7 +276,7 @@ fn write_coarse(kept: &[u8], coarse: usize, table: &mut [u8], old: &mut [u16])
 // How many children the cells from first to last have.
 fn level_size(table: &[u8; 4096], first: usize, last: usize) -> usize
     requires { (first ≤ last) × (last ≤ most_cells) × ((c : ℕ) → first ≤ c → c < last → get_or table.now c 0 ≤ 64) }
-    ensures { result ≡ sizes (part (was table) first (last - first)) }
+    ensures { result ≡ sizes (part table.now first (last - first)) }
 {
     let s = &table[..];
     rows::level_size(&s[first..last], 0, last - first)
@@ -319,7 +318,7 @@ pub fn write_table(
     old: &mut [u16; 4096],
 ) -> NewTable
     requires { Keeps coarse status.now kids.now kept.now }
-    ensures { TableWritten coarse (was status) (was kept) (is table) result.refusal result.cells }
+    ensures { TableWritten coarse status.now kept.now table.new result.refusal result.cells }
 {
     write_coarse(kept, coarse, table, old);
     let mut first = 0;

@@ -4,7 +4,6 @@
 
 ghost use Rattle.std.specs.Prelude.{◌≡◌, length, get_or};
 ghost use Rattle.base.specs.Fours.{fours};
-ghost use Rattle.base.specs.Lent.{was, is};
 ghost use Rattle.cutting.specs.Answer.{cut_of};
 ghost use Rattle.mesh.specs.Coarse.{coarse_corner_count, mesh_answer};
 ghost use Rattle.mesh.specs.Counts.{count_table};
@@ -53,10 +52,10 @@ use store::Fetched;
 // The children of a cell by its pattern: four digits a child, 32 in all, zeros behind the last child. Refusals 15 and 6.
 #[unsafe(no_mangle)]
 pub extern "C" fn yd_cut(pattern: u8, digits: &mut [u8], count: &mut usize) -> u8
-    ensures { let a = cut_answer pattern (was digits) in
+    ensures { let a = cut_answer pattern digits.old in
         (result ≡ code_of a)
-        × (is digits ≡ held_after a (cut_of pattern).digits (was digits))
-        × (is count ≡ value_after a (cut_of pattern).count (was count)) }
+        × (digits.new ≡ held_after a (cut_of pattern).digits digits.old)
+        × (count.new ≡ value_after a (cut_of pattern).count count.old) }
 {
     if digits.len() < 32 {
         return 15;
@@ -74,7 +73,7 @@ pub extern "C" fn yd_cut(pattern: u8, digits: &mut [u8], count: &mut usize) -> u
 // Whether a coarse mesh is accepted. Refusals 1 to 5.
 #[unsafe(no_mangle)]
 pub extern "C" fn yd_examine_mesh(positions: &[i32], cells: &[u16]) -> u8
-    ensures { result ≡ code_of (mesh_answer (was positions) (was cells)) }
+    ensures { result ≡ code_of (mesh_answer positions.now cells.now) }
 {
     base::code(coarse::examine_mesh(positions, cells))
 }
@@ -82,7 +81,7 @@ pub extern "C" fn yd_examine_mesh(positions: &[i32], cells: &[u16]) -> u8
 // Whether a status table is accepted. Refusals 1 to 6.
 #[unsafe(no_mangle)]
 pub extern "C" fn yd_examine_table(positions: &[i32], cells: &[u16], status: &[u8]) -> u8
-    ensures { result ≡ code_of (table_answer (was positions) (was cells) (was status)) }
+    ensures { result ≡ code_of (table_answer positions.now cells.now status.now) }
 {
     base::code(opening::examine_table(positions, cells, status))
 }
@@ -100,15 +99,15 @@ pub extern "C" fn yd_lay_out(
     corner_count: &mut usize,
     level_count: &mut usize,
 ) -> u8
-    ensures { let ps = was positions in let ts = was cells in let ss = was status in
-        let a = layout_answer ps ts ss (was table) (was ends) (was sums) in
+    ensures { let ps = positions.now in let ts = cells.now in let ss = status.now in
+        let a = layout_answer ps ts ss table.old ends.old sums.old in
         (result ≡ code_of a)
-        × (is table ≡ held_after a (cell_table (corners_in ps ts ss) (cells_in ps ts ss)) (was table))
-        × (is ends ≡ held_after a (end_table (corners_in ps ts ss)) (was ends))
-        × (is sums ≡ held_after a (sum_table ps (corners_in ps ts ss)) (was sums))
-        × (is cell_count ≡ value_after a (length (cells_in ps ts ss)) (was cell_count))
-        × (is corner_count ≡ value_after a (length (corners_in ps ts ss)) (was corner_count))
-        × (is level_count ≡ value_after a (length (levels_in ps ts ss)) (was level_count)) }
+        × (table.new ≡ held_after a (cell_table (corners_in ps ts ss) (cells_in ps ts ss)) table.old)
+        × (ends.new ≡ held_after a (end_table (corners_in ps ts ss)) ends.old)
+        × (sums.new ≡ held_after a (sum_table ps (corners_in ps ts ss)) sums.old)
+        × (cell_count.new ≡ value_after a (length (cells_in ps ts ss)) cell_count.old)
+        × (corner_count.new ≡ value_after a (length (corners_in ps ts ss)) corner_count.old)
+        × (level_count.new ≡ value_after a (length (levels_in ps ts ss)) level_count.old) }
 {
     let laid = layout::lay_out(positions, cells, status, table, ends, sums);
     match laid {
@@ -132,12 +131,12 @@ pub extern "C" fn yd_position(
     y: &mut f64,
     z: &mut f64,
 ) -> u8
-    ensures { let a = corner_answer (was sums) corners corner in
-        let p = point_of (was sums) corner in
+    ensures { let a = corner_answer sums.now corners corner in
+        let p = point_of sums.now corner in
         (result ≡ code_of a)
-        × (is x ≡ value_after a p.x (was x))
-        × (is y ≡ value_after a p.y (was y))
-        × (is z ≡ value_after a p.z (was z)) }
+        × (x.new ≡ value_after a p.x x.old)
+        × (y.new ≡ value_after a p.y y.old)
+        × (z.new ≡ value_after a p.z z.old) }
 {
     let position = position::position_of(sums, corners, corner);
     match position {
@@ -161,11 +160,11 @@ pub extern "C" fn yd_ancestor(
     coarse: &mut usize,
     level: &mut usize,
 ) -> u8
-    ensures { let a = ancestor_answer (was positions) (was cells) (was status) cell in
-        let up = ancestor_of (get_or (cells_in (was positions) (was cells) (was status)) cell no_cell) in
+    ensures { let a = ancestor_answer positions.now cells.now status.now cell in
+        let up = ancestor_of (get_or (cells_in positions.now cells.now status.now) cell no_cell) in
         (result ≡ code_of a)
-        × (is coarse ≡ value_after a up.coarse (was coarse))
-        × (is level ≡ value_after a up.level (was level)) }
+        × (coarse.new ≡ value_after a up.coarse coarse.old)
+        × (level.new ≡ value_after a up.level level.old) }
 {
     let ancestry = queries::ancestor(positions, cells, status, cell);
     match ancestry {
@@ -187,11 +186,11 @@ pub extern "C" fn yd_counts(
     counts: &mut [u16],
     level_count: &mut usize,
 ) -> u8
-    ensures { let a = counts_answer (was positions) (was cells) (was status) (was counts) in
-        let ls = levels_in (was positions) (was cells) (was status) in
+    ensures { let a = counts_answer positions.now cells.now status.now counts.old in
+        let ls = levels_in positions.now cells.now status.now in
         (result ≡ code_of a)
-        × (is counts ≡ held_after a (count_table ls) (was counts))
-        × (is level_count ≡ value_after a (length ls) (was level_count)) }
+        × (counts.new ≡ held_after a (count_table ls) counts.old)
+        × (level_count.new ≡ value_after a (length ls) level_count.old) }
 {
     let counted = queries::counts(positions, cells, status, counts);
     match counted {
@@ -213,11 +212,11 @@ pub extern "C" fn yd_step(
     table: &mut [u8],
     cell_count: &mut usize,
 ) -> u8
-    ensures { let a = step_answer (was positions) (was cells) (was status) (was marks) (was table) in
-        let new = new_table (coarse_corner_count (was positions)) (fours (was cells)) (was status) (was marks) in
+    ensures { let a = step_answer positions.now cells.now status.now marks.now table.old in
+        let new = new_table (coarse_corner_count positions.now) (fours cells.now) status.now marks.now in
         (result ≡ code_of a)
-        × (is table ≡ held_after a new (was table))
-        × (is cell_count ≡ value_after a (length new) (was cell_count)) }
+        × (table.new ≡ held_after a new table.old)
+        × (cell_count.new ≡ value_after a (length new) cell_count.old) }
 {
     let stepped = step::step(positions, cells, status, marks, table);
     match stepped {
@@ -244,18 +243,18 @@ pub extern "C" fn yd_read(
     mark_count: &mut usize,
     step_count: &mut usize,
 ) -> u8
-    ensures { let a = read_answer (was bytes) (was positions) (was cells) (was marked) (was marks) (was ends) in
-        let j = job_of (was bytes) in
+    ensures { let a = read_answer bytes.now positions.old cells.old marked.old marks.old ends.old in
+        let j = job_of bytes.now in
         (result ≡ code_of a)
-        × (is positions ≡ held_after a j.positions (was positions))
-        × (is cells ≡ held_after a j.cells (was cells))
-        × (is marked ≡ held_after a (marked_of j.steps) (was marked))
-        × (is marks ≡ held_after a (marks_of j.steps) (was marks))
-        × (is ends ≡ held_after a (ends_of j.steps) (was ends))
-        × (is corner_count ≡ value_after a (lengths_of j).corners (was corner_count))
-        × (is cell_count ≡ value_after a (lengths_of j).cells (was cell_count))
-        × (is mark_count ≡ value_after a (lengths_of j).marks (was mark_count))
-        × (is step_count ≡ value_after a (lengths_of j).steps (was step_count)) }
+        × (positions.new ≡ held_after a j.positions positions.old)
+        × (cells.new ≡ held_after a j.cells cells.old)
+        × (marked.new ≡ held_after a (marked_of j.steps) marked.old)
+        × (marks.new ≡ held_after a (marks_of j.steps) marks.old)
+        × (ends.new ≡ held_after a (ends_of j.steps) ends.old)
+        × (corner_count.new ≡ value_after a (lengths_of j).corners corner_count.old)
+        × (cell_count.new ≡ value_after a (lengths_of j).cells cell_count.old)
+        × (mark_count.new ≡ value_after a (lengths_of j).marks mark_count.old)
+        × (step_count.new ≡ value_after a (lengths_of j).steps step_count.old) }
 {
     let reading = jobs::read(bytes, positions, cells, marked, marks, ends);
     match reading {
@@ -281,11 +280,11 @@ pub extern "C" fn yd_write(
     bytes: &mut [u8],
     byte_count: &mut usize,
 ) -> u8
-    ensures { let a = write_answer (was positions) (was cells) (was marked) (was marks) (was ends) (was bytes) in
-        let new = job_bytes (job_from (was positions) (was cells) (was marked) (was marks) (was ends)) in
+    ensures { let a = write_answer positions.now cells.now marked.now marks.now ends.now bytes.old in
+        let new = job_bytes (job_from positions.now cells.now marked.now marks.now ends.now) in
         (result ≡ code_of a)
-        × (is bytes ≡ held_after a new (was bytes))
-        × (is byte_count ≡ value_after a (length new) (was byte_count)) }
+        × (bytes.new ≡ held_after a new bytes.old)
+        × (byte_count.new ≡ value_after a (length new) byte_count.old) }
 {
     let writing = jobs::write(positions, cells, marked, marks, ends, bytes);
     match writing {
@@ -306,13 +305,13 @@ pub extern "C" fn yd_replay(
     cell_count: &mut usize,
     level_count: &mut usize,
 ) -> u8
-    ensures { let a = replay_answer (was bytes) (was table) (was counts) in
-        let j = job_of (was bytes) in
+    ensures { let a = replay_answer bytes.now table.old counts.old in
+        let j = job_of bytes.now in
         (result ≡ code_of a)
-        × (is table ≡ held_after a (job_table j) (was table))
-        × (is counts ≡ held_after a (job_counts j) (was counts))
-        × (is cell_count ≡ value_after a (replay_size j).cells (was cell_count))
-        × (is level_count ≡ value_after a (replay_size j).levels (was level_count)) }
+        × (table.new ≡ held_after a (job_table j) table.old)
+        × (counts.new ≡ held_after a (job_counts j) counts.old)
+        × (cell_count.new ≡ value_after a (replay_size j).cells cell_count.old)
+        × (level_count.new ≡ value_after a (replay_size j).levels level_count.old) }
 {
     let replayed = jobs::replay(bytes, table, counts);
     match replayed {
@@ -335,8 +334,8 @@ pub extern "C" fn yd_split(
     owners: &[u8],
     stores: &mut [u16],
 ) -> u8
-    ensures { (result ≡ code_of (split_answer (was positions) (was cells) (was status) parts (was owners) (was stores)))
-        × (is stores ≡ split_after (was positions) (was cells) (was status) parts (was owners) (was stores)) }
+    ensures { (result ≡ code_of (split_answer positions.now cells.now status.now parts owners.now stores.old))
+        × (stores.new ≡ split_after positions.now cells.now status.now parts owners.now stores.old) }
 {
     base::code(divide::split(positions, cells, status, parts, owners, stores))
 }
@@ -344,8 +343,8 @@ pub extern "C" fn yd_split(
 // Starts a part with a mark for each of its masters, in the order of cells. Refusals 15, 16 and 7.
 #[unsafe(no_mangle)]
 pub extern "C" fn yd_start(store: &mut [u16], marks: &[u8]) -> u8
-    ensures { (result ≡ code_of (start_answer (was store) (was marks)))
-        × (is store ≡ start_after (was store) (was marks)) }
+    ensures { (result ≡ code_of (start_answer store.old marks.now))
+        × (store.new ≡ start_after store.old marks.now) }
 {
     base::code(turns::start(store, marks))
 }
@@ -353,7 +352,7 @@ pub extern "C" fn yd_start(store: &mut [u16], marks: &[u8]) -> u8
 // Leads a part to its next round, once the ends of this one are taken from all others. Refusals 15 and 16.
 #[unsafe(no_mangle)]
 pub extern "C" fn yd_part_step(store: &mut [u16]) -> u8
-    ensures { (result ≡ code_of (part_answer (was store))) × (is store ≡ part_after (was store)) }
+    ensures { (result ≡ code_of (part_answer store.old)) × (store.new ≡ part_after store.old) }
 {
     base::code(partstep::part_step(store))
 }
@@ -361,11 +360,11 @@ pub extern "C" fn yd_part_step(store: &mut [u16]) -> u8
 // The next message that a part has written: its bytes and how many they are, 0 where there is none to send. Refusals 15 and 16.
 #[unsafe(no_mangle)]
 pub extern "C" fn yd_fetch(store: &mut [u16], bytes: &mut [u8], byte_count: &mut usize) -> u8
-    ensures { let a = fetch_answer (was store) (was bytes) in
+    ensures { let a = fetch_answer store.old bytes.old in
         (result ≡ fetched_code a)
-        × (is store ≡ fetch_after (was store) (was bytes))
-        × (is bytes ≡ fetch_bytes (was store) (was bytes))
-        × (is byte_count ≡ fetched_length (was byte_count) a) }
+        × (store.new ≡ fetch_after store.old bytes.old)
+        × (bytes.new ≡ fetch_bytes store.old bytes.old)
+        × (byte_count.new ≡ fetched_length byte_count.old a) }
 {
     let fetched = mail::fetch(store, bytes);
     match fetched {
@@ -384,8 +383,8 @@ pub extern "C" fn yd_fetch(store: &mut [u16], bytes: &mut [u8], byte_count: &mut
 // Hands a message over to a part. Refusals 15, 16 and 12 to 14.
 #[unsafe(no_mangle)]
 pub extern "C" fn yd_hand_over(store: &mut [u16], bytes: &[u8]) -> u8
-    ensures { (result ≡ code_of (hand_answer (was store) (was bytes)))
-        × (is store ≡ hand_after (was store) (was bytes)) }
+    ensures { (result ≡ code_of (hand_answer store.old bytes.now))
+        × (store.new ≡ hand_after store.old bytes.now) }
 {
     base::code(mail::hand(store, bytes))
 }
@@ -398,11 +397,11 @@ pub extern "C" fn yd_stage(
     round: &mut usize,
     res: &mut usize,
 ) -> u8
-    ensures { let p = progress_of (stage_answer (was store)) (stage_of (was store)) in
+    ensures { let p = progress_of (stage_answer store.now) (stage_of store.now) in
         (result ≡ progress_code p)
-        × (is stage ≡ progress_stage (was stage) p)
-        × (is round ≡ progress_round (was round) p)
-        × (is res ≡ progress_result (was res) p) }
+        × (stage.new ≡ progress_stage stage.old p)
+        × (round.new ≡ progress_round round.old p)
+        × (res.new ≡ progress_result res.old p) }
 {
     let progress = held::stage(store);
     match progress {
@@ -432,10 +431,10 @@ pub extern "C" fn yd_stage(
 // behind them. Refusals 15 and 16.
 #[unsafe(no_mangle)]
 pub extern "C" fn yd_held(store: &[u16], rows: &mut [u16], row_count: &mut usize) -> u8
-    ensures { let a = held_answer (was store) (was rows) in
+    ensures { let a = held_answer store.now rows.old in
         (result ≡ code_of a)
-        × (is rows ≡ held_after a (held_rows (was store)) (was rows))
-        × (is row_count ≡ value_after a (length (held_in (was store))) (was row_count)) }
+        × (rows.new ≡ held_after a (held_rows store.now) rows.old)
+        × (row_count.new ≡ value_after a (length (held_in store.now)) row_count.old) }
 {
     let listed = held::held(store, rows);
     match listed {
@@ -450,11 +449,11 @@ pub extern "C" fn yd_held(store: &[u16], rows: &mut [u16], row_count: &mut usize
 // The table that the masters of all done parts make. Refusals 15 and 16.
 #[unsafe(no_mangle)]
 pub extern "C" fn yd_merge(stores: &[u16], table: &mut [u8], cell_count: &mut usize) -> u8
-    ensures { let a = merge_answer (was stores) (was table) in
-        let new = merge_table (stores_in (was stores)) (field (was stores) COARSE) in
+    ensures { let a = merge_answer stores.now table.old in
+        let new = merge_table (stores_in stores.now) (field stores.now COARSE) in
         (result ≡ code_of a)
-        × (is table ≡ held_after a new (was table))
-        × (is cell_count ≡ value_after a (length new) (was cell_count)) }
+        × (table.new ≡ held_after a new table.old)
+        × (cell_count.new ≡ value_after a (length new) cell_count.old) }
 {
     let merged = merge::merge(stores, table);
     match merged {
