@@ -1,5 +1,5 @@
 -- The families of the 64 patterns, as the constant of src/ has them. A computed test shows that they are the rule's (Table).
-use Rattle.std.specs.Prelude.{List, [], ◌∷◌, ℕ, ◌-◌, ◌≤◌, ◌<◌, ◌≡◌, ◌&&◌, T, eqb, leb, length, get_or}
+use Rattle.std.specs.Prelude.{List, [], ◌∷◌, ℕ, ◌≤◌, ◌<◌, ◌≡◌, ◌&&◌, T, eqb, leb, length, get_or}
 use Rattle.std.proofs.Common.{sym, leb→le}
 use Rattle.base.specs.Lists.{belowb, belowb_at, samesb, samesb_eq, allb}
 use Rattle.base.specs.Bools.{and_left, and_right}

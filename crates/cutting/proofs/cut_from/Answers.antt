@@ -37,4 +37,3 @@ pub returns : goal.returns
 returns c =
     accepted c.args.pattern c.start-from.result c.start.result
     (omega arith) c.start-from.ensures c.start.ensures c.copied.result c.copied.ensures
-
