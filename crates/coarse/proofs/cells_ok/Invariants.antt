@@ -1,17 +1,11 @@
--- `coarse::cells_ok` meets its contract. The invariant: the cells that are left decide. The measure is how many they are.
-use mathlib.Core.List.{[]}
+-- `coarse::cells_ok` meets its contract. The invariant: the cells that are left decide.
 use mathlib.Core.Path.{◌≡◌}
-use Prim.Native.Nat.{◌-◌, ◌/◌, ◌≤◌}
-use native.Mathlib.Omega.{arith}
+use Prim.Native.Nat.{◌/◌, ◌≤◌}
 use lib.ListN.{length}
-use Rattle.base.specs.Fours.{fours, length-fours}
-use Rattle.mesh.specs.Coarse.{cellb, cellsb}
-use Rattle.coarse.proofs.Rows.{in-fours, said}
-use Rattle.coarse.proofs.Scan.{Left, scan_start, scan_turn, scan_fails, scan_ends}
+use Rattle.base.specs.Fours.{fours}
+use Rattle.mesh.specs.Coarse.{cellb}
+use Rattle.coarse.proofs.Scan.{Left}
 use Rattle.coarse.proofs.cells_ok.Given as goal
 
 abbrev pub invariant-loop-k : goal.invariant-loop-k
 invariant-loop-k l = (l.k ≤ l.k-end) × (l.k-end ≡ length l.cells / 4) × Left (cellb l.count) (fours l.cells) l.k
-
-abbrev pub decreases-loop-k : goal.decreases-loop-k
-decreases-loop-k l = l.k-end - l.k

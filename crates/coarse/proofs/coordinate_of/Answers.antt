@@ -2,7 +2,7 @@
 use Prim.Native.Nat.{◌+◌, ◌*◌}
 use lib.Dec.{lit<}
 use Rattle.mesh.specs.Coarse.{coordinate_at}
-use Rattle.coarse.proofs.Size.{kept_32, kept_fits, kept_read, kept_tells}
+use Rattle.coarse.proofs.Size.{kept_32, kept_read, kept_tells}
 use Rattle.coarse.proofs.coordinate_of.Goals as goal
 
 pub returns : goal.returns

@@ -3,7 +3,7 @@ use mathlib.Core.Path.{ap}
 use mathlib.Core.Bool.{not}
 use Rattle.mesh.specs.Coarse.{determinant}
 use Rattle.coarse.specs.Volume.{term_of}
-use Rattle.coarse.proofs.Volumes.{difference_fits, sum_fits, sum_zero}
+use Rattle.coarse.proofs.Volumes.{sum_zero}
 use Rattle.coarse.proofs.solid_cell.Goals as goal
 
 pub returns : goal.returns

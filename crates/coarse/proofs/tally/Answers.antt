@@ -1,7 +1,7 @@
 -- `coarse::tally` meets its contract: a pair with no entry gets one with the count 1, and an entry's count grows by one.
 -- the function's entry, from behind the search
 use native.Mathlib.Omega.{arith}
-use Rattle.coarse.proofs.Pairs.{room, tally_new, tally_old, entry_in, entry_low}
+use Rattle.coarse.proofs.Pairs.{tally_new, tally_old, entry_in, entry_low}
 use Rattle.coarse.proofs.tally.Goals as goal
 
 pub returns-then-e-eq65535 : goal.returns-then-e-eq65535

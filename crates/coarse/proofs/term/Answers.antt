@@ -1,6 +1,6 @@
 -- `coarse::term` meets its contract: products of numbers within a million, so that all stays far below 2 to the 63.
 use Rattle.coarse.specs.Volume.{term_of}
-use Rattle.coarse.proofs.Volumes.{product_fits, minor_fits, term_fits, term_told}
+use Rattle.coarse.proofs.Volumes.{minor_fits, term_fits, term_told}
 use Rattle.coarse.proofs.term.Goals as goal
 
 pub overflow_sub-result : goal.overflow_sub-result
