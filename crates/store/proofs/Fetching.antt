@@ -13,7 +13,7 @@ use Rattle.store.specs.declared.Fetched.{Fetched}
 use Rattle.store.specs.declared.Fetched.TheVariants.{Message, Nothing, Refused}
 use Rattle.store.specs.Fetch.{entry_count, receivers_at, bit_from, seek_from, next_to_give, given, passed_by, fetch_refusal, found_of}
 use Rattle.store.specs.Fetch.{fetch_answer, givesb, fetch_bytes, fetch_after}
-use Rattle.store.specs.Seek.{seek_out}
+use Rattle.store.proofs.Seek.{seek_out}
 use Rattle.store.specs.Headed.{header_is}
 
 -- a message that is found stands among the entries
