@@ -1,4 +1,4 @@
--- `columns::are_parts` meets its contract: the owners that are left decide as all do. The measure is their number.
+-- `columns::are_parts` meets its contract: the owners that are left decide as all do.
 use mathlib.Core.Path.{sym, ◌∙◌}
 use native.Mathlib.Omega.{arith}
 use Rattle.columns.proofs.Owning.{part_low, part_high, part_next, part_end}

@@ -1,4 +1,4 @@
--- `columns::inner_of` meets its contract: a turn puts the next lower bit in front. The measure is the number of bits left.
+-- `columns::inner_of` meets its contract: a turn puts the next lower bit in front.
 use mathlib.Core.Path.{◌≡◌}
 use Prim.Native.Nat.{◌-◌}
 use native.Mathlib.Omega.{arith}

@@ -1,4 +1,4 @@
--- `columns::one_owner` meets its contract: the children that are left decide as all do. The measure is their number.
+-- `columns::one_owner` meets its contract: the children that are left decide as all do.
 use mathlib.Core.Path.{sym, ◌∙◌}
 use Prim.Native.Nat.{◌+◌}
 use lib.ListN.{get_or}

@@ -1,4 +1,4 @@
--- `columns::owners_fit` meets its contract: the cells that are left decide as all do. The measure is their number.
+-- `columns::owners_fit` meets its contract: the cells that are left decide as all do.
 use mathlib.Core.Path.{sym, ◌∙◌}
 use native.Mathlib.Omega.{arith}
 use lib.ListN.{length}

@@ -1,4 +1,4 @@
--- `columns::put_ten` meets its contract: a turn writes the next number. The measure is how many are left.
+-- `columns::put_ten` meets its contract: a turn writes the next number.
 use mathlib.Core.Path.{◌≡◌}
 use native.Mathlib.Omega.{arith}
 use native.Mathlib.Numerals.{add-one}
