@@ -6,14 +6,14 @@ use Rattle.listing.proofs.put_line.Goals as goal
 
 pub put_field-q-requires : goal.put_field-q-requires
 put_field-q-requires c =
-    omega (arith, field_room c.args.level 32 24 c.requires c.put_field-p.ensures)
+    omega (arith, field_room _ 32 24 c.requires c.put_field-p.ensures)
 
 pub put_field-s-requires : goal.put_field-s-requires
 put_field-s-requires c =
     omega (
       arith,
-      field_room c.args.cells 32 18
-          (field_room c.args.level 32 24 c.requires c.put_field-p.ensures)
+      field_room _ 32 18
+          (field_room _ 32 24 c.requires c.put_field-p.ensures)
           c.put_field-q.ensures,
     )
 
@@ -21,9 +21,9 @@ pub put_field-t-requires : goal.put_field-t-requires
 put_field-t-requires c =
     omega (
       arith,
-      field_room c.args.red 32 12
-          (field_room c.args.cells 32 18
-          (field_room c.args.level 32 24 c.requires
+      field_room _ 32 12
+          (field_room _ 32 18
+          (field_room _ 32 24 c.requires
           c.put_field-p.ensures)
           c.put_field-q.ensures)
           c.put_field-s.ensures,
@@ -31,10 +31,10 @@ put_field-t-requires c =
 
 pub put_field-requires : goal.put_field-requires
 put_field-requires c =
-    field_room c.args.green 32 6
-    (field_room c.args.red 32 12
-    (field_room c.args.cells 32 18
-    (field_room c.args.level 32 24 c.requires
+    field_room _ 32 6
+    (field_room _ 32 12
+    (field_room _ 32 18
+    (field_room _ 32 24 c.requires
     c.put_field-p.ensures) c.put_field-q.ensures)
     c.put_field-s.ensures) c.put_field-t.ensures
 
