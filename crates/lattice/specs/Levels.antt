@@ -153,7 +153,8 @@ pub levels_regular : (n k m j : ℕ) (cs : List (Cell Point)) (ss : List ℕ) �
 unfolding levels
 levels_regular n k zero j cs ss g e i h = tt
 levels_regular n k (suc m) j [] ss g e i h = tt
-levels_regular n k (suc m) j (c ∷ cs) ss g e zero h = rw (add-zero k) g
+levels_regular n k (suc m) j (c ∷ cs) ss g e zero h =
+    subst (λ (z : ℕ). All (IfRegular n z) (c ∷ cs)) (sym (add-zero k)) g
 levels_regular n k (suc m) j (c ∷ cs) ss g e (suc i) h =
     rw (add-suc k i, ← suc-add k i) (levels_regular n (suc k) m (j + length (c ∷ cs)) (next j (c ∷ cs) (take (length (c ∷ cs)) ss))
     (drop (length (c ∷ cs)) ss)
