@@ -8,7 +8,7 @@
 use Rattle.std.proofs.Math.Path.{◌≡◌, refl, sym}
 use Rattle.std.proofs.Common.{◌∙◌, ap, subst, inl, inr, le_trans, arith}
 use Rattle.std.specs.Prelude.{◌⊎◌, ◌≢◌, Bool, true, false, T, length, get_or, drop, ℤ}
-use Rattle.std.proofs.Math.Option.{Option, none, some, Option·elim}
+use Rattle.std.proofs.Math.Option.{Option, none, some, Option-elim}
 use mathlib.Core.List.{List, [], ◌∷◌, ◌++◌, append-nil, Memᴰ}
 use Prim.Native.Nat.{ℕ, suc, ◌+◌, ◌≤◌, ◌<◌, Fin}
 use Rattle.std.proofs.lemmas.List.{length-map}
@@ -136,13 +136,13 @@ module _ (ps : List ℤ) (ts ss : List ℕ) (Q : ℕ) (os b : List ℕ) (behind 
 
   -- the marks that the calls start a part with
   abbrev pub input_of : Calls → Fin (suc Q) → List ℕ
-  input_of cs p = Option·elim (started_with act cs world p.0) (wanted Q n qs ss os g p) (λ ms. ms)
+  input_of cs p = Option-elim (started_with act cs world p.0) (wanted Q n qs ss os g p) (λ ms. ms)
 
   fine : (cs : Calls) (p : Fin (suc Q)) → Fi p (input_of cs p)
-  unfolding Option·elim
+  unfolding Option-elim
   fine cs p = go (started_with act cs world p.0) refl
     where
-      go : (o : Option (List ℕ)) → started_with act cs world p.0 ≡ o → Fi p (Option·elim o (wanted Q n qs ss os g p) (λ ms. ms))
+      go : (o : Option (List ℕ)) → started_with act cs world p.0 ≡ o → Fi p (Option-elim o (wanted Q n qs ss os g p) (λ ms. ms))
       go none f = wanted_fit Q n qs ss os g p
       go (some ms) f =
           first_fine (suc Q) R M (Fitted (suc Q) J) Fi A [] p ms cs world (subst (λ (k : ℕ). p.0 < k) (sym all) p.1) (idle p) f
@@ -163,11 +163,11 @@ module _ (ps : List ℤ) (ts ss : List ℕ) (Q : ℕ) (os b : List ℕ) (behind 
     Al ds = Allowed (suc Q) R M (Fitted (suc Q) J) Fi A (input_of cs) (fine cs) end [] [] (good cs) world all idle refl ds
 
     allowed : Al cs
-    unfolding Option·elim
+    unfolding Option-elim
     allowed =
         record {
           lawful = lawful;
-          inputs = λ p i f. sym (ap (λ (o : Option (List ℕ)). Option·elim o (wanted Q n qs ss os g p) (λ ms. ms)) f);
+          inputs = λ p i f. sym (ap (λ (o : Option (List ℕ)). Option-elim o (wanted Q n qs ss os g p) (λ ms. ms)) f);
         }
 
     -- a part that is done is past the last round

@@ -10,7 +10,7 @@
 use Rattle.std.specs.Prelude.{◌≡◌, refl, Bool, false, ◌&&◌, ◌||◌, eqb, ltb, length, get_or, replicate}
 use Rattle.std.proofs.Math.Logic.{inl, ⊎_elim}
 use Rattle.std.proofs.Math.Bool.{true, not}
-use Rattle.std.proofs.Math.Option.{Option, none, some, Option·elim}
+use Rattle.std.proofs.Math.Option.{Option, none, some, Option-elim}
 use mathlib.Core.List.{List, [], ◌∷◌, ◌++◌, map, reverse, Memᴰ}
 use Prim.Native.Nat.{ℕ, zero, suc, ◌+◌, ◌-◌, ◌*◌, Fin}
 use Rattle.std.proofs.Common.{arith}
@@ -320,13 +320,13 @@ record PlayedOut : Type 0 where
   holding : map holds (play does calls begin).stores ≡ share first (pt 0) ∷ share first (pt 1) ∷ []
   started_1 : started_with does calls begin 0 ≡ some (0 ∷ [])
   started_2 : started_with does calls begin 1 ≡ some (1 ∷ replicate 7 0)
-  together : put_together owners_of_b (λ p. Option·elim (started_with does calls begin (p - 1)) [] (λ ms. ms)) ≡ 0 ∷ 1 ∷ replicate 7 0
+  together : put_together owners_of_b (λ p. Option-elim (started_with does calls begin (p - 1)) [] (λ ms. ms)) ≡ 0 ∷ 1 ∷ replicate 7 0
   to_come_lem : map (to_come does 3) (play does (call 0 (Start (0 ∷ [])) ∷ []) begin).stores ≡ (end_by 1 2 0 ∷ []) ∷ [] ∷ []
 
 played_out : PlayedOut
 unfolding moves changed answer answer_at acceptsb does calls begin first mail B pt slots_of_b paths_of_b family fins Fin-discrete taking phase
     starting writing grown_of order_of up_from packed parcel numbered pick upd whole_from wholeb given nextb body_in startb owners_of_b marks_from
-    call hands fetches end_by counted totalled marked summed Option·elim markb marksb play started_with begun put_together round_in result_of
+    call hands fetches end_by counted totalled marked summed Option-elim markb marksb play started_with begun put_together round_in result_of
     holds share after lawfulb fairb to_come
 played_out = record {
   lawful = refl;

@@ -6,7 +6,7 @@
 --   last_store cs w p       the store of the part p, from 1, after the calls
 --   alldoneb w             all parts say that they are done
 use Rattle.std.specs.Prelude.{Bool, List, [], ◌++◌, map, ℕ, suc, pred, length, get_or, replicate}
-use Rattle.std.proofs.Math.Option.{Option·elim}
+use Rattle.std.proofs.Math.Option.{Option-elim}
 use Rattle.base.specs.Lists.{allb}
 use Rattle.base.specs.Range.{range}
 use Rattle.parts.specs.Starts.{masters_on, put_together}
@@ -29,7 +29,7 @@ after_split P b behind = record { stores = map (λ j. store_in b j ++ behind (su
 -- Rule 15.6.
 unfoldable pub marks_given : List ℕ → Calls → Stores → ℕ → List ℕ
 unfolding started_with act masters_on
-marks_given os cs w p = Option·elim (started_with act cs w (pred p)) (replicate (length (masters_on os p)) 0) (λ ms. ms)
+marks_given os cs w p = Option-elim (started_with act cs w (pred p)) (replicate (length (masters_on os p)) 0) (λ ms. ms)
 
 -- Rule 15.6.
 unfoldable pub serial_marks : List ℕ → Calls → Stores → List ℕ

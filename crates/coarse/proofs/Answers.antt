@@ -8,7 +8,6 @@ use native.Mathlib.Omega.{arith}
 use lib.Dec.{T, ltb, ltb→lt, lt→ltb}
 use lib.IntN.{ℤ}
 use lib.ListN.{length, get_or}
-use borrow.Author.Tests.{not-true, not-false}
 use mir.Facts.{yes_and}
 use Rattle.base.specs.Lists.{allb}
 use Rattle.base.specs.Bools.{is_true, and_left, and_right}
@@ -18,19 +17,19 @@ use Rattle.mesh.specs.Laws.{mesh_counts}
 use Rattle.coarse.specs.Cells.{Ranked, crowdedb}
 
 -- what a call answered, and the test of it
-pub passed : {b f : Bool} → b ≡ f → not b ≡ false → f ≡ true
-passed {b} e t = sym e ∙ not-false b t
+pub passed : {b f : Bool} → b ≡ f → b ≡ true → f ≡ true
+passed e t = sym e ∙ t
 
-pub failed : {b f : Bool} → b ≡ f → not b ≡ true → f ≡ false
-failed {b} e t = sym e ∙ not-true b t
+pub failed : {b f : Bool} → b ≡ f → b ≡ false → f ≡ false
+failed e t = sym e ∙ t
 
 -- the two halves of refusal 5
 module _ {b : Bool} (qs : List (List ℕ)) (e : b ≡ not (twiceb qs)) where
-  pub not_single : not b ≡ true → false ≡ singleb qs
+  pub not_single : b ≡ false → false ≡ singleb qs
   unfolding singleb
   not_single t = rw (failed e t)
 
-  pub half_single : not b ≡ false → {r : Bool} → r ≡ not (crowdedb qs) → r ≡ singleb qs
+  pub half_single : b ≡ true → {r : Bool} → r ≡ not (crowdedb qs) → r ≡ singleb qs
   unfolding singleb crowdedb
   half_single t f = f ∙ rw (passed e t)
 

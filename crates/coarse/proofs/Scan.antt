@@ -1,13 +1,12 @@
 -- A scan that stops at the first element that fails a test: what is left to scan decides as the whole does.
 -- Assumes nothing.
 use mathlib.Core.Path.{◌≡◌, refl, sym, ◌∙◌}
-use mathlib.Core.Bool.{Bool, true, false, ◌&&◌, not}
+use mathlib.Core.Bool.{Bool, true, false, ◌&&◌}
 use mathlib.Core.List.{List}
 use Prim.Native.Nat.{ℕ, suc, ◌+◌, ◌≤◌, ◌<◌}
 use native.Mathlib.Numerals.{add-one}
 use lib.ListN.{length, get_or, drop, drop_of_length-le}
 use lib.Seq.{drop-cons}
-use borrow.Author.Tests.{not-true, not-false}
 use Rattle.base.specs.Lists.{allb}
 
 -- what is left from i on decides
@@ -28,8 +27,8 @@ module _ {A : Type 0} {f : A → Bool} {l : List A} {i : ℕ} (o : Left f l i) w
     unfolding allb
     first = rw (drop-cons l i d h, e)
 
-    pub scan_turn : not b ≡ false → Left f l (i + 1)
-    scan_turn t = record { decides = rw (add-one i) (sym (first ∙ rw (not-false b t)) ∙ o.decides) }
+    pub scan_turn : b ≡ true → Left f l (i + 1)
+    scan_turn t = record { decides = rw (add-one i) (sym (first ∙ rw t) ∙ o.decides) }
 
-    pub scan_fails : not b ≡ true → false ≡ allb f l
-    scan_fails t = sym (first ∙ rw (not-true b t)) ∙ o.decides
+    pub scan_fails : b ≡ false → false ≡ allb f l
+    scan_fails t = sym (first ∙ rw t) ∙ o.decides

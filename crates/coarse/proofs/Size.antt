@@ -3,7 +3,7 @@
 -- Assumes nothing.
 use mathlib.Core.Path.{◌≡◌, refl, sym, ◌∙◌}
 use mathlib.Core.Bool.{Bool, true, false}
-use Prim.Native.Nat.{ℕ, zero, suc, ◌+◌, ◌-◌, ◌*◌, ◌^◌, ◌<◌}
+use Prim.Native.Nat.{ℕ, zero, suc, ◌+◌, ◌*◌, ◌^◌, ◌<◌}
 use native.Mathlib.Nat.{mul-le-mul}
 use native.Mathlib.Omega.{arith}
 use lib.Dec.{leb}
@@ -37,7 +37,7 @@ pub record Kept (n : ℕ) (z y : ℤ) : Type 0 where
   pub small : Small n z
 
 pub kept_32 : {n : ℕ} {z : ℤ} → Small n z → n < 2 ^ 31 → Kept n z (to_z w32 (of_z w32 z))
-kept_32 s h = record { is = to_z-of_z (small_fits s h); small = s }
+kept_32 s h = record { is = to_z-of_z {w = w32} (small_fits s h); small = s }
 
 module _ {n : ℕ} {z y : ℤ} where
   pub kept_fits : Kept n z y → n < 2 ^ 63 → SFits w64 y

@@ -10,7 +10,7 @@
 --   IsWritten act w m         m was written: an earlier fetch gave it, or fetches put next would
 --   Lawful act cs w           each message that is taken was written
 use Rattle.std.specs.Prelude.{◌⊎◌, Bool, true, false, ℕ, zero, suc, ◌+◌, T, eqb, set}
-use Rattle.std.proofs.Math.Option.{Option, none, some, Option·elim}
+use Rattle.std.proofs.Math.Option.{Option, none, some, Option-elim}
 use mathlib.Core.List.{List, [], ◌∷◌, ◌++◌, Memᴰ}
 use Rattle.base.specs.Bools.{one_if}
 
@@ -87,7 +87,7 @@ module _ {In Msg Store : Type 0} (act : Program In Msg Store) where
   -- Rule 15.17.
   unfoldable pub to_come : ℕ → Store → List Msg
   to_come zero x = []
-  to_come (suc n) x = Option·elim (act Fetch x) [] (λ y. y.1 ++ to_come n y.0)
+  to_come (suc n) x = Option-elim (act Fetch x) [] (λ y. y.1 ++ to_come n y.0)
 
   -- Rule 15.17.
   unfoldable pub IsWritten : World Msg Store → Msg → Type 0

@@ -13,7 +13,7 @@ use Rattle.std.proofs.Common.{subst₂, ◌∙◌, get_or-set_same, get_or-set_o
 use Rattle.std.specs.Prelude.{◌⊎◌, Bool, get_or, set}
 use Rattle.std.proofs.Math.Logic.{inl, inr, ⊎_elim}
 use Rattle.std.proofs.Math.Bool.{true, false}
-use Rattle.std.proofs.Math.Option.{Option, none, some, Option·elim}
+use Rattle.std.proofs.Math.Option.{Option, none, some, Option-elim}
 use mathlib.Core.List.{List, [], ◌∷◌, ◌++◌, append-nil, append_assoc, Memᴰ}
 use Rattle.std.proofs.Math.Dec.{eqb}
 use Rattle.std.proofs.Math.ListN.{length, length-set}
@@ -95,15 +95,15 @@ module _ {In Msg Store : Type 0} (P : ℕ) (act : Program In Msg Store) (void : 
 
     real_comes : (q : Fin P) (m : Msg) (n : ℕ) (x : Store) → Memᴰ m (to_come act n x) → (g : Place (Fin P)) → Ok E q g → E.Is q g x
         → Real m
-    unfolding to_come Real Option·elim
+    unfolding to_come Real Option-elim
     real_comes q m zero x i g o a = absurd (mathlib.Core.List.Memᴰ.not-nil i)
     real_comes q m (suc n) x i g o a = go (act Fetch x) refl (λ y k h t b. real_comes q m n y k h t b)
       where
         go : (r : Option (Store × List Msg)) → act Fetch x ≡ r
             → ((y : Store) → Memᴰ m (to_come act n y) → (h : Place (Fin P)) → Ok E q h → E.Is q h y → Real m) → Real m
-        go none e r = absurd (mathlib.Core.List.Memᴰ.not-nil (rw (e, Option·elim) at i))
+        go none e r = absurd (mathlib.Core.List.Memᴰ.not-nil (rw (e, Option-elim) at i))
         go (some y) e r =
-            let j : Memᴰ m (y.1 ++ to_come act n y.0) = rw (e, Option·elim) at i in
+            let j : Memᴰ m (y.1 ++ to_come act n y.0) = rw (e, Option-elim) at i in
             let (s, f, b, l) = K.fetch_is q g o x a y e in
             ⊎_elim (λ k. (q, g.fetched, omega (arith, f, reach q g.phase o.top), mathlib.Core.List.Memᴰ.eq_of_singleton (rw l at k)))
             (λ k. r y.0 k (gave g) (ok_give F E N q g o f) b)
@@ -497,17 +497,17 @@ module _ {In Msg Store : Type 0} (P : ℕ) (act : Program In Msg Store) (void : 
       comes : (q : Fin P) (j d : ℕ) (g : Place (Fin P)) → Ok E q g → (x : Store) → E.Is q g x → j ≡ g.fetched + d
           → j < E.written g.phase q
           → (n : ℕ) × Memᴰ (E.msg q j) (to_come act n x)
-      unfolding to_come Option·elim
+      unfolding to_come Option-elim
       comes q j zero g o x i e l =
           let (y, a) = G.fetch_does q g o x i (omega arith) in
           let (s, f, t, k) = K.fetch_is q g o x i y a in
           let z : j ≡ g.fetched = omega arith in
-          (1, rw (a, Option·elim) (mathlib.Core.List.Memᴰ.append_left {s = y.1} (to_come act 0 y.0) (rw k (mathlib.Core.List.Memᴰ.head (ap (E.msg q) z)))))
+          (1, rw (a, Option-elim) (mathlib.Core.List.Memᴰ.append_left {s = y.1} (to_come act 0 y.0) (rw k (mathlib.Core.List.Memᴰ.head (ap (E.msg q) z)))))
       comes q j (suc d) g o x i e l =
           let (y, a) = G.fetch_does q g o x i (omega arith) in
           let (s, f, t, k) = K.fetch_is q g o x i y a in
           let (n, r) = comes q j d (gave g) (ok_give F E N q g o f) y.0 t (omega arith) l in
-          (suc n, rw (a, Option·elim) (mathlib.Core.List.Memᴰ.append_right y.1 {t = to_come act n y.0} r))
+          (suc n, rw (a, Option-elim) (mathlib.Core.List.Memᴰ.append_right y.1 {t = to_come act n y.0} r))
 
       known : (w : World Msg Store) (g : Fin P → Place (Fin P)) → Inv w g → (q : Fin P) (j : ℕ) → j < E.written (g q).phase q
           → IsWritten act w (E.msg q j)
@@ -646,16 +646,16 @@ module _ {In Msg Store : Type 0} (P : ℕ) (act : Program In Msg Store) (void : 
             omega (arith, moves_append act cs one w, moves_some act (call_of (play act cs w) k) [] (play act cs w) k.accepts.0 answered)
 
         pub more_inputs : Inputs (cs ++ one) w
-        unfolding started_with Option·elim
+        unfolding started_with Option-elim
         more_inputs p i e = go (started_with act cs w p.0) refl
           where
             go : (r : Option In) → started_with act cs w p.0 ≡ r → i ≡ E.input p
             go (some j) z =
-                m p i (z ∙ sym (ap (λ r. Option·elim r (started_with act one (play act cs w) p.0) some) z)
+                m p i (z ∙ sym (ap (λ r. Option-elim r (started_with act one (play act cs w) p.0) some) z)
                 ∙ sym (started_append act cs one w p.0) ∙ e)
             go none z =
                 let f : started_with act one (play act cs w) p.0 ≡ some i =
-                sym (started_append act cs one w p.0 ∙ ap (λ r. Option·elim r (started_with act one (play act cs w) p.0) some) z)
+                sym (started_append act cs one w p.0 ∙ ap (λ r. Option-elim r (started_with act one (play act cs w) p.0) some) z)
                 ∙ e in
                 let (a, d) = begun_which p.0 k.part.0 k.request i
                 (sym (started_some act (call_of (play act cs w) k) [] (play act cs w) p.0 k.accepts.0 answered) ∙ f) in

@@ -10,7 +10,7 @@ use Rattle.std.proofs.Math.Path.{◌≡◌, refl, ap, subst}
 use Rattle.std.proofs.Common.{sym, ◌∙◌}
 use Rattle.std.specs.Prelude.{Bool, eqb, length, get_or}
 use Rattle.std.proofs.Math.Bool.{true, false}
-use Rattle.std.proofs.Math.Option.{Option, none, some, Option·elim}
+use Rattle.std.proofs.Math.Option.{Option, none, some, Option-elim}
 use mathlib.Core.List.{List, [], ◌∷◌, ◌++◌, Memᴰ}
 use Rattle.std.proofs.Math.Dec.{T}
 use Rattle.std.proofs.Math.ListN.{length-set}
@@ -117,8 +117,8 @@ module _ {In Msg Store : Type 0} (act : Program In Msg Store) where
   lawful_split (c ∷ cs) ds w h = let (a, b) = lawful_split cs ds (apply act c w) h.1 in ((h.0, a), b)
 
   pub started_append : (cs ds : List (Call In Msg)) (w : World Msg Store) (p : ℕ)
-      → started_with act (cs ++ ds) w p ≡ Option·elim (started_with act cs w p) (started_with act ds (play act cs w) p) some
-  unfolding play started_with Option·elim begun
+      → started_with act (cs ++ ds) w p ≡ Option-elim (started_with act cs w p) (started_with act ds (play act cs w) p) some
+  unfolding play started_with Option-elim begun
   started_append [] ds w p = refl
   started_append (c ∷ cs) ds w p =
       ap (begun act p c.part c.request (acceptsb act (answer act c w))) (started_append cs ds (apply act c w) p)
@@ -126,11 +126,11 @@ module _ {In Msg Store : Type 0} (act : Program In Msg Store) where
       (started_with act ds (play act cs (apply act c w)) p)
     where
       go : (k : Request In Msg) (b : Bool) (r s : Option In)
-          → begun act p c.part k b (Option·elim r s some) ≡ Option·elim (begun act p c.part k b r) s some
+          → begun act p c.part k b (Option-elim r s some) ≡ Option-elim (begun act p c.part k b r) s some
       go (Start i) true r s = pick_one (eqb p c.part)
         where
-          pick_one : (t : Bool) → elim t [ true ↦ some i | false ↦ Option·elim r s some ]
-              ≡ Option·elim (elim t [ true ↦ some i | false ↦ r ]) s some
+          pick_one : (t : Bool) → elim t [ true ↦ some i | false ↦ Option-elim r s some ]
+              ≡ Option-elim (elim t [ true ↦ some i | false ↦ r ]) s some
           pick_one true = refl
           pick_one false = refl
       go (Start i) false r s = refl

@@ -1,7 +1,7 @@
 -- A small program whose calls are played out by computing. A store is empty before its start; then it has its number, how many messages
 -- it has still to give (each is its number), and what it took. It takes one message, and only after its start.
 use Rattle.std.specs.Prelude.{ℕ, zero, suc, ◌≡◌, refl, List, [], ◌∷◌}
-use Rattle.std.proofs.Math.Option.{none, some, Option·elim}
+use Rattle.std.proofs.Math.Option.{none, some, Option-elim}
 use Rattle.exchange.specs.Calls.{Request, Start, Step, Fetch, Hand, Call, World, Program, answer_at, answer, changed, play, acceptsb}
 use Rattle.exchange.specs.Calls.{moves, begun, started_with, to_come}
 
@@ -45,5 +45,5 @@ unfolding started_with begun changed answer answer_at acceptsb does calls begin
 first_start = refl
 
 one_to_come : to_come does 3 (7 ∷ 1 ∷ 5 ∷ []) ≡ 7 ∷ []
-unfolding to_come does Option·elim
+unfolding to_come does Option-elim
 one_to_come = refl

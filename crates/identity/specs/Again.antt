@@ -139,7 +139,7 @@ zero_of (suc t) h = absurd (h (λ e. omega arith))
 module _ (ss : List ℕ) (small : length ss ≤ 65535) where
   flag_at : (o : ℕ) → redb (get_or (flags_in ss) o 0) ≡ redb (get_or ss o 0)
   unfolding flag_of
-  flag_at o = ap redb (ListN.get_d_map (λ s. flag_of (redb s)) ss o 0) ∙ flag_red (redb (get_or ss o 0))
+  flag_at o = ap redb (ListN.get_or-map (λ s. flag_of (redb s)) ss o 0) ∙ flag_red (redb (get_or ss o 0))
 
   one_own : (pre post : List ℕ) (c : Cell Point) (t : ℕ) → ss ≡ pre ++ (t ∷ post) → Follows c t
       → redb (get_or (flags_in ss) (or_none c.regular (length pre)) 0) ≡ redb t

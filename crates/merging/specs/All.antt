@@ -29,10 +29,13 @@ module _ {Part : Type 0} {F : Finite Part} (X : Settled F) where
   entries_all [] = []
   entries_all (p ∷ l) = entries_in X p ++ entries_all l
 
-  in_all : (l : List Part) (p : Part) (e : Entry) → Memᴰ p l → Memᴰ e (entries_in X p) → Memᴰ e (entries_all l)
+  of_part : (p : Part) (e : Entry) (l : List Part) → Memᴰ p l → Memᴰ e (entries_in X p) → Memᴰ e (entries_all l)
   unfolding entries_all
-  in_all l p e (mathlib.Core.List.Memᴰ.head {x = x} {xs = xs} q) m = mathlib.Core.List.Memᴰ.append_left (entries_all xs) (subst (λ y. Memᴰ e (entries_in X y)) q m)
-  in_all l p e (mathlib.Core.List.Memᴰ.tail {x = x} {xs = xs} t) m = mathlib.Core.List.Memᴰ.append_right (entries_in X x) (in_all xs p e t m)
+  of_part p e l (mathlib.Core.List.Memᴰ.head {x = x} {xs = xs} q) m = mathlib.Core.List.Memᴰ.append_left (entries_all xs) (subst (λ y. Memᴰ e (entries_in X y)) q m)
+  of_part p e l (mathlib.Core.List.Memᴰ.tail {x = x} {xs = xs} t) m = mathlib.Core.List.Memᴰ.append_right (entries_in X x) (of_part p e xs t m)
+
+  in_all : (l : List Part) (p : Part) (e : Entry) → Memᴰ p l → Memᴰ e (entries_in X p) → Memᴰ e (entries_all l)
+  in_all l p e u m = of_part p e l u m
 
   all_in : (l : List Part) (e : Entry) → Memᴰ e (entries_all l) → (p : Part) × Memᴰ p l × Memᴰ e (entries_in X p)
   unfolding entries_all

@@ -186,6 +186,6 @@ module _ {A B : Type 0} (o : A) (o' : B) (same : A → A → Bool) (same' : B �
           → apart_cell o' same' (red_edges o' (map (map_cell f) cs) ss) (get_or (map (map_cell f) cs) c.parent (map_cell f c)) (map_cell f c)
           ≡ apart_cell o same (red_edges o cs ss) (get_or cs c.parent c) c
       at c q =
-          rw (red_edges-map o o' f Q cs ss p, ListN.get_d_map (map_cell f) cs c.parent c)
+          rw (red_edges-map o o' f Q cs ss p, ListN.get_or-map (map_cell f) cs c.parent c)
           (apart_cell_lem (red_edges o cs ss) (get_or cs c.parent c) c (red_edges_in o o' f Q cs ss p)
           (all_default (Points Q) c cs p q c.parent) q)

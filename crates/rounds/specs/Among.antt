@@ -21,20 +21,26 @@ module _ {Part : Type 0} where
   any_part f [] t = absurd t
   any_part f (q ∷ l) t = ⊎_elim (λ (u : T (f q)). (q, u)) (λ (u : T (anyb f l)). any_part f l u) (or_either (f q) (anyb f l) t)
 
-  pub part_any : (f : Part → Bool) (l : List Part) (q : Part) → Memᴰ q l → T (f q) → T (anyb f l)
+  any_where : (f : Part → Bool) (q : Part) (l : List Part) → Memᴰ q l → T (f q) → T (anyb f l)
   unfolding anyb
-  part_any f l q (Memᴰ.head {x = x} {xs = xs} e) t = or_first (f x) (anyb f xs) (subst (λ y. T (f y)) e t)
-  part_any f l q (Memᴰ.tail {x = x} {xs = xs} m) t = or_second (f x) (anyb f xs) (part_any f xs q m t)
+  any_where f q l (Memᴰ.head {x = x} {xs = xs} e) t = or_first (f x) (anyb f xs) (subst (λ y. T (f y)) e t)
+  any_where f q l (Memᴰ.tail {x = x} {xs = xs} m) t = or_second (f x) (anyb f xs) (any_where f q xs m t)
+
+  pub part_any : (f : Part → Bool) (l : List Part) (q : Part) → Memᴰ q l → T (f q) → T (anyb f l)
+  part_any f l q m t = any_where f q l m t
 
   pub sum_part : (f : Part → ℕ) (l : List Part) → sum_over f l ≢ 0 → (q : Part) × (f q ≢ 0)
   unfolding sum_over
   sum_part f [] t = absurd (t refl)
   sum_part f (q ∷ l) t = elim (ℕ_discrete (f q) 0) [ no n ↦ (q, n) | yes e ↦ sum_part f l (λ w. t (omega arith)) ]
 
-  pub part_sum : (f : Part → ℕ) (l : List Part) (q : Part) → Memᴰ q l → f q ≢ 0 → sum_over f l ≢ 0
+  sum_where : (f : Part → ℕ) (q : Part) (l : List Part) → Memᴰ q l → f q ≢ 0 → sum_over f l ≢ 0
   unfolding sum_over
-  part_sum f l q (Memᴰ.head {x = x} {xs = xs} e) t w = t (ap f e ∙ omega arith)
-  part_sum f l q (Memᴰ.tail {x = x} {xs = xs} m) t w = part_sum f xs q m t (omega arith)
+  sum_where f q l (Memᴰ.head {x = x} {xs = xs} e) t w = t (ap f e ∙ omega arith)
+  sum_where f q l (Memᴰ.tail {x = x} {xs = xs} m) t w = sum_where f q xs m t (omega arith)
+
+  pub part_sum : (f : Part → ℕ) (l : List Part) (q : Part) → Memᴰ q l → f q ≢ 0 → sum_over f l ≢ 0
+  part_sum f l q m t = sum_where f q l m t
 
   pub sum_cut : (f : Part → ℕ) (l : List Part) → capped (sum_over (λ p. capped (f p)) l) ≡ capped (sum_over f l)
   unfolding sum_over
@@ -46,10 +52,13 @@ module _ {Part : Type 0} where
   largest_le f g h [] = omega arith
   largest_le f g h (p ∷ l) = omega (arith, h p, largest_le f g h l)
 
-  pub largest_in : (f : Part → ℕ) (l : List Part) (q : Part) → Memᴰ q l → f q ≤ largest f l
+  below_largest : (f : Part → ℕ) (q : Part) (l : List Part) → Memᴰ q l → f q ≤ largest f l
   unfolding largest
-  largest_in f l q (Memᴰ.head {x = x} {xs = xs} e) = let z : f q ≡ f x = ap f e in omega arith
-  largest_in f l q (Memᴰ.tail {x = x} {xs = xs} m) = omega (arith, largest_in f xs q m)
+  below_largest f q l (Memᴰ.head {x = x} {xs = xs} e) = let z : f q ≡ f x = ap f e in omega arith
+  below_largest f q l (Memᴰ.tail {x = x} {xs = xs} m) = omega (arith, below_largest f q xs m)
+
+  pub largest_in : (f : Part → ℕ) (l : List Part) (q : Part) → Memᴰ q l → f q ≤ largest f l
+  largest_in f l q m = below_largest f q l m
 
   largest_most : (f g : Part → ℕ) (n : ℕ) → ((p : Part) → g p ≤ max (f p) n) → (l : List Part) → largest g l ≤ max (largest f l) n
   unfolding largest

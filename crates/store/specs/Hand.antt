@@ -4,7 +4,7 @@
 --   hand_answer x m    15, 16, 12, 13 (taken before), 14 (too early) in this order
 --   absorbed x m      the store with what the message says; counted x m with one message more
 --   hand_after x m     the store after the call
-use Rattle.std.specs.Prelude.{Bool, true, false, ◌&&◌, not, List, ◌≡◌, ℕ, suc, ◌+◌, ◌-◌, ◌*◌, ◌%◌, ◌≤◌, ◌<◌, min, max, eqb, ltb, leb, length, get_or, set}
+use Rattle.std.specs.Prelude.{Bool, true, false, ◌&&◌, not, List, ◌≡◌, ℕ, suc, ◌+◌, ◌*◌, ◌%◌, ◌≤◌, ◌<◌, min, max, eqb, ltb, leb, length, get_or, set}
 use Rattle.base.specs.Limits.{most_cells, most_levels, most_slots, too_many, most_parts}
 use Rattle.base.specs.Refuse.{refuse}
 use Rattle.base.specs.declared.Answer.{Answer}

@@ -2,7 +2,7 @@
 --   two x           a number's two bytes, least first
 --   body_of c v      the bytes behind the heading of the written message c with the value v, and kind_of c its kind
 --   message_of p q k c v    the message from p to q with the count k
-use Rattle.std.specs.Prelude.{true, false, List, [], ◌∷◌, ◌++◌, ℕ, ◌+◌, ◌-◌, ◌/◌, ◌%◌, ltb}
+use Rattle.std.specs.Prelude.{true, false, List, [], ◌∷◌, ◌++◌, ℕ, ◌-◌, ◌/◌, ◌%◌, ltb}
 use Rattle.store.specs.Fields.{count_code, end_code, totals_code}
 
 abbrev pub two : ℕ → List ℕ

@@ -1,0 +1,14 @@
+-- `rows::fits` meets its contract: the rest decides as the whole does. The measure is what is left.
+use mathlib.Core.Path.{◌≡◌, sym, ◌∙◌}
+use Prim.Native.Nat.{◌-◌, ◌≤◌}
+use lib.Dec.{leb}
+use lib.ListN.{length, drop, drop_of_length-le}
+use Rattle.base.specs.Lists.{allb}
+use Rattle.rows.specs.Sizes.{fits_not, fits_next}
+use Rattle.rows.proofs.fits.Given as goal
+
+abbrev pub invariant-loop-c : goal.invariant-loop-c
+invariant-loop-c l = (l.c ≤ length l.status) × (allb (λ s. leb s 64) (drop l.c l.status) ≡ allb (λ s. leb s 64) l.status)
+
+abbrev pub decreases-loop-c : goal.decreases-loop-c
+decreases-loop-c l = length l.status - l.c
