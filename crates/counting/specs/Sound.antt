@@ -1,7 +1,7 @@
 -- A sound table has what the counting call requires: its levels are closed, so that each status is one that the rule gives, and
 -- they end where the table does.
 -- Assumes nothing.
-use Rattle.std.specs.Prelude.{◌≡◌, refl, Bool, true, false, ◌&&◌, ℕ, zero, suc, ◌+◌, ◌-◌, ◌≤◌, T, eqb, leb, length, take, drop}
+use Rattle.std.specs.Prelude.{◌≡◌, refl, Bool, true, false, ◌&&◌, ℕ, zero, suc, ◌+◌, ◌≤◌, T, eqb, leb, length, take, drop}
 use Rattle.std.proofs.Common.{sym, ◌∙◌, ap, subst, arith, eqb→eq, leb→le, length-append, length-drop, take-append-drop, le-leb}
 use mathlib.Core.List.{List, [], ◌∷◌, ◌++◌, flat_map}
 use Rattle.base.specs.Limits.{most_cells, most_levels}
