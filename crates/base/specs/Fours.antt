@@ -2,7 +2,7 @@
 --   fours l       the elements of l, four by four; what is left over at its end counts for nothing
 --   faces q       the four faces of q, three elements each; face n leaves out the element n (both counted from 0)
 --   holders l t   how many of the fours of l have the face t
-use Rattle.std.specs.Prelude.{List, [], ◌∷◌, ℕ, ◌/◌, ◌-◌, length, get_or, ◌≡◌, refl}
+use Rattle.std.specs.Prelude.{List, [], ◌∷◌, ℕ, ◌/◌, length, get_or, ◌≡◌, refl}
 use Rattle.base.specs.Lists.{filterb, anyb, sameb}
 use Rattle.std.proofs.Common.{arith}
 

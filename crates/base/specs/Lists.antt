@@ -5,7 +5,7 @@
 --   memberb x l          the number x stands in l
 --   sameb l m            l and m are the same numbers in the same order
 --   samesb l m           the same for lists of lists
-use Rattle.std.specs.Prelude.{◌≡◌, refl, ◌⊎◌, Bool, true, false, ◌&&◌, ◌||◌, List, [], ◌∷◌, ℕ, zero, suc, ◌<◌, T, eqb, length, get_or}
+use Rattle.std.specs.Prelude.{◌≡◌, refl, Bool, true, false, ◌&&◌, ◌||◌, List, [], ◌∷◌, ℕ, zero, suc, ◌<◌, T, eqb, length, get_or}
 use Rattle.std.proofs.Common.{ap₂, sym, ⊎_elim, eq-or-lt_of_le, arith, eqb→eq, eq-eqb}
 use Rattle.base.specs.Bools.{and_left, and_right, or_either, or_second}
 

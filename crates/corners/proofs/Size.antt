@@ -1,7 +1,7 @@
 -- The size of a sum, a product and a half; a small number fits an i32.
 -- Assumes nothing.
 use mathlib.Core.Path.{◌≡◌}
-use Prim.Native.Nat.{ℕ, suc, ◌+◌, ◌-◌, ◌*◌, ◌/◌, ◌^◌, ◌<◌}
+use Prim.Native.Nat.{ℕ, suc, ◌+◌, ◌*◌, ◌/◌, ◌^◌, ◌<◌}
 use native.Mathlib.Omega.{arith}
 use lib.Dec.{lit<}
 use lib.IntN.{ℤ, pos, negsuc, ◌+ℤ◌, ◌*ℤ◌}
@@ -44,4 +44,4 @@ module _ (a b : ℤ) (p : SmallSum 512000000 a) (q : SmallSum 512000000 b) where
 
 -- a number in an i32's range is read back from its bits
 pub read : (z : ℤ) → mag z < 2 ^ 31 → to_z w32 (of_z w32 z) ≡ z
-read z h = to_z-of_z (record { sfits = h })
+read z h = to_z-of_z {w = w32} (record { sfits = h })

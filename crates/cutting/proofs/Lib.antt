@@ -1,3 +1,4 @@
 pub mod Table
 mod Copy
 mod Found
+pub mod Rows

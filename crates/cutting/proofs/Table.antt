@@ -13,7 +13,8 @@ use Rattle.base.specs.Bools.{and_left, and_right}
 use Rattle.base.specs.Range.{range, length-range, range_at}
 use Rattle.cutting.specs.Rule.{family}
 use Rattle.cutting.specs.Answer.{digits_below, digit_table, start_table}
-use Rattle.cutting.specs.Rows.{family_rows, row, family_row, family_few, family_fours}
+use Rattle.cutting.specs.Rows.{family_rows, row}
+use Rattle.cutting.proofs.Rows.{family_row, family_few, family_fours}
 
 -- the rows one after the other
 unfoldable flat : List (List (List ℕ)) → List ℕ

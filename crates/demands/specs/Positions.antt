@@ -25,7 +25,8 @@ use Rattle.mesh.specs.Laws.{mesh_counts}
 use Rattle.lattice.specs.Levels.{fours_four}
 use Rattle.lattice.specs.Tails.{Sized}
 use Rattle.numbering.specs.Corners.{weights_at, corner_sized}
-use Rattle.numbering.specs.Tables.{table_ends, sound_numbers}
+use Rattle.numbering.specs.Tables.{table_ends}
+use Rattle.numbering.proofs.Tables.{sound_numbers}
 use Rattle.corners.specs.Sums.{positions_small}
 use Rattle.corners.specs.Sizes.{weighted_size}
 use Rattle.corners.specs.Tables.{sums_at}

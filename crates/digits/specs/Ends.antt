@@ -9,7 +9,7 @@ use Rattle.std.proofs.Math.ListN.{length, get_or-append}
 use Rattle.base.specs.Bools.{and_left, and_right}
 use Rattle.base.specs.Lists.{allb}
 use Rattle.cutting.specs.Rule.{family, low, high}
-use Rattle.cutting.specs.Rows.{family_fours}
+use Rattle.cutting.proofs.Rows.{family_fours}
 use Rattle.cutting.specs.Answer.{cut_into, cut_of, cut_of_accepted}
 use Rattle.families.specs.Children.{middle, digits_of, low_digit, high_digit, middle_ends, digits_rise, digits_below_lem}
 

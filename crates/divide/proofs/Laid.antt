@@ -25,7 +25,7 @@ use Rattle.mesh.specs.Layout.{number_in, map_cell, row_of, cell_table, child_num
 use Rattle.rows.specs.Numbered.{cell_at}
 use Rattle.rows.specs.Laws.{row_at}
 use Rattle.numbering.specs.Tests.{numbered_cells, Placed}
-use Rattle.numbering.specs.Tables.{sound_numbers}
+use Rattle.numbering.proofs.Tables.{sound_numbers}
 use Rattle.tables.specs.Cells.{strip, cell_at_lem}
 use Rattle.tables.specs.Onward.{four_in, length_in}
 use Rattle.tables.specs.Finish.{rows_in}

@@ -9,7 +9,8 @@ use Rattle.cutting.specs.Rule.{low, high, family, split}
 use Rattle.base.specs.Every.{below_at}
 use Rattle.base.specs.Lists.{allb, allb_at, belowb, belowb_at, filterb}
 use Rattle.base.specs.Bools.{and_left, and_right}
-use Rattle.cutting.specs.Rows.{family_rows, row, family_row, family_fours}
+use Rattle.cutting.specs.Rows.{family_rows, row}
+use Rattle.cutting.proofs.Rows.{family_row, family_fours}
 
 -- Rules 2.1, 2.3: the midpoint of an edge, as a digit.
 abbrev pub middle : ℕ → ℕ

@@ -12,7 +12,8 @@ use Rattle.std.proofs.Common.{sym, ◌∙◌, inl, inr, ⊎_elim, arith, eqb→e
 use Rattle.base.specs.Lists.{allb, anyb, filterb, belowb, belowb_at, allb_at, memberb, sameb, sameb_eq}
 use Rattle.base.specs.Bools.{impb, one_if, impb_use, and_left, and_right, or_either, and_both}
 use Rattle.cutting.specs.Rule.{low, high, digit, edge_of, split, family}
-use Rattle.cutting.specs.Rows.{family_rows, row, family_row}
+use Rattle.cutting.specs.Rows.{family_rows, row}
+use Rattle.cutting.proofs.Rows.{family_row}
 use Rattle.base.specs.Every.{All, all_of, below_at, any_place}
 use Rattle.families.specs.Kuhn.{reds, family_red}
 use Rattle.families.specs.Digits.{corners_at, lift, digit_triples, without, usesb, holds, insideb, side_part, sideb, alike, transferb}

@@ -8,7 +8,8 @@ use Rattle.base.specs.Lists.{allb, belowb, memberb, samesb, samesb_eq, allb_at, 
 use Rattle.base.specs.Bools.{impb, is_true, is_false, and_left, and_right, impb_use}
 use Rattle.base.specs.Fours.{holders}
 use Rattle.cutting.specs.Rule.{digit, edge_of, split, present, volume, zerob, rise, family}
-use Rattle.cutting.specs.Rows.{family_rows, row, family_row}
+use Rattle.cutting.specs.Rows.{family_rows, row}
+use Rattle.cutting.proofs.Rows.{family_row}
 use Rattle.families.specs.Faces.{faces_of, on_faceb, innerb, joinedb, bits, side}
 
 -- a test over every row, carried to the family of each pattern

@@ -14,7 +14,8 @@ use Rattle.std.proofs.Common.{ltb→lt, ne_eqb}
 use Rattle.base.specs.Lists.{allb, belowb, belowb_at}
 use Rattle.base.specs.Bools.{impb, impb_use, or_either}
 use Rattle.cutting.specs.Rule.{low, high, digit, edge_of, split, family}
-use Rattle.cutting.specs.Rows.{family_rows, row, family_row}
+use Rattle.cutting.specs.Rows.{family_rows, row}
+use Rattle.cutting.proofs.Rows.{family_row}
 use Rattle.families.specs.Faces.{joinedb}
 use Rattle.families.specs.Kuhn.{reds, family_red}
 

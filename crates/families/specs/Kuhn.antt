@@ -17,7 +17,8 @@ use Rattle.std.proofs.Common.{arith, eqb→eq, ltb→lt}
 use Rattle.base.specs.Lists.{allb, belowb, belowb_at}
 use Rattle.base.specs.Bools.{and_left, and_right}
 use Rattle.cutting.specs.Rule.{low, high, digit, family}
-use Rattle.cutting.specs.Rows.{family_rows, row, family_row}
+use Rattle.cutting.specs.Rows.{family_rows, row}
+use Rattle.cutting.proofs.Rows.{family_row}
 use Rattle.base.specs.Every.{Below, below_at, All, all_from, all_of}
 
 abbrev pub Coordinates : Type 0

@@ -17,7 +17,7 @@ use Rattle.base.specs.Append.{allb_append}
 use Rattle.cutting.specs.Rule.{present, family}
 use Rattle.cutting.specs.Answer.{cut_into, cut_of, cut_of_accepted}
 use Rattle.cutting.specs.declared.Family.{Family}
-use Rattle.cutting.specs.Rows.{family_fours}
+use Rattle.cutting.proofs.Rows.{family_fours}
 use Rattle.rows.specs.Numbered.{child_rows}
 use Rattle.growth.specs.Written.{written, written_none, written_more}
 use Rattle.growth.specs.Rows.{length-child_rows}

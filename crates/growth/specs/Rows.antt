@@ -14,7 +14,7 @@ use Rattle.std.proofs.lemmas.List.{length-map}
 use Rattle.base.specs.Lists.{allb}
 use Rattle.base.specs.Bools.{and_left, and_right}
 use Rattle.cutting.specs.Rule.{family}
-use Rattle.cutting.specs.Rows.{family_fours}
+use Rattle.cutting.proofs.Rows.{family_fours}
 use Rattle.mesh.specs.Cells.{Cell, redb, pattern_of, children, children_from}
 use Rattle.mesh.specs.Layout.{child_number, row_of}
 use Rattle.edges.specs.Pairs.{Pair}

@@ -18,7 +18,7 @@ use Rattle.mesh.specs.Layout.{Corner, number_in, map_cell, row_of}
 use Rattle.base.specs.Every.{All, all_at, get_d_map}
 use Rattle.lattice.specs.Levels.{fours_four}
 use Rattle.numbering.specs.Tests.{numbered_cells, Placed}
-use Rattle.numbering.specs.Tables.{sound_numbers}
+use Rattle.numbering.proofs.Tables.{sound_numbers}
 use Rattle.redlist.specs.Ready.{red_count}
 use Rattle.counting.specs.Sound.{sound_counted}
 use Rattle.tables.specs.Sound.{table_cells, examined_corners}

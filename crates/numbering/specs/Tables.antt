@@ -6,29 +6,25 @@
 --   Onward n ks es ss ls ns       the same above a level: ks and es are the corners and ends so far, ss is the rest of the table
 --   table_corners n qs ss          the corners of a table, and table_ends n qs ss their ends
 -- Laws: table_numbers (closed levels, at most eleven), sound_numbers (a sound table).
-use Rattle.std.specs.Prelude.{◌≡◌, ℕ, zero, suc, ◌+◌, ◌≤◌, T, length, take, drop}
+use Rattle.std.specs.Prelude.{◌≡◌, ℕ, zero, suc, ◌+◌, ◌≤◌, length, take, drop}
 use Rattle.std.proofs.Math.Path.{refl}
-use Rattle.std.proofs.Common.{sym, ◌∙◌, ap, ap₂, arith}
+use Rattle.std.proofs.Common.{sym, ◌∙◌, ap₂, arith}
 use mathlib.Core.List.{List, [], ◌∷◌, ◌++◌, map, map-append}
 use Rattle.std.proofs.Math.Decide.{dec_lt}
 use Rattle.std.proofs.lemmas.List.{length-map}
-use Rattle.base.specs.Lists.{allb}
 use Rattle.mesh.specs.Cells.{Cell}
-use Rattle.mesh.specs.Weights.{Point, coarse_cells}
-use Rattle.mesh.specs.Coarse.{cellsb}
-use Rattle.mesh.specs.Table.{Level, next, levels, levels_of, cells_of, closedb, soundb}
-use Rattle.mesh.specs.Layout.{Corner, number_in, map_cell, split_edges, coarse_corners, add_corners, corners_from, corners_of}
+use Rattle.mesh.specs.Weights.{Point}
+use Rattle.mesh.specs.Table.{Level, next, levels, levels_of, cells_of}
+use Rattle.mesh.specs.Layout.{Corner, number_in, map_cell, split_edges, add_corners, corners_from, corners_of}
 use Rattle.edges.specs.Pairs.{Pair, add_pairs}
 use Rattle.rows.specs.Numbered.{ends_from, next_of}
-use Rattle.base.specs.Every.{All, all_of, all_more, all_append}
-use Rattle.lattice.specs.Levels.{sound_levels}
-use Rattle.numbering.specs.Corners.{Kept, kept_both, NumberedCorners, corners_start}
+use Rattle.base.specs.Every.{All, all_more, all_append}
+use Rattle.numbering.specs.Corners.{Kept, kept_both, NumberedCorners}
 use Rattle.numbering.specs.Tests.{numbered_cells, Placed}
-use Rattle.numbering.specs.Refined.{Refined, closed_refined}
+use Rattle.numbering.specs.Refined.{Refined}
 use Rattle.numbering.specs.Levels.{placed_kept, cells_kept, level_kept}
-use Rattle.numbering.specs.Coarse.{coarse_numbers, coarse_numbers_lem}
 use Rattle.numbering.specs.Leaves.{next_leaves}
-use Rattle.numbering.specs.Stages.{Stage, NextStage, stage_start, stage_next, stage_leaves}
+use Rattle.numbering.specs.Stages.{Stage, NextStage, stage_next, stage_leaves}
 
 -- Rule 4.4, over numbers.
 unfoldable pub number_levels : ℕ → ℕ → ℕ → List Pair → List (Cell ℕ) → List ℕ → List (List (Cell ℕ))
@@ -71,17 +67,17 @@ ends_up ks ks' es cs ds ss e =
     rw (map-append (map_cell (number_in ks')) cs ds, e) (ends_append es (numbered_cells ks cs) (numbered_cells ks' ds) ss
     ∙ rw (length-map cs (map_cell (number_in ks))))
 
-abbrev Onward : ℕ → List Corner → List Pair → List ℕ → List Level → List (List (Cell ℕ)) → Type 0
+abbrev pub Onward : ℕ → List Corner → List Pair → List ℕ → List Level → List (List (Cell ℕ)) → Type 0
 Onward n ks es ss ls ns =
     let last = corners_from ks (cells_of ls) ss in
     Numbers n last (ends_from es (numbered_cells last (cells_of ls)) ss) ls ns
 
-onward_none : (n : ℕ) (ks : List Corner) (es : List Pair) (ss : List ℕ) (ns : List (List (Cell ℕ))) → NumberedCorners n ks es → ns ≡ []
+pub onward_none : (n : ℕ) (ks : List Corner) (es : List Pair) (ss : List ℕ) (ns : List (List (Cell ℕ))) → NumberedCorners n ks es → ns ≡ []
     → Onward n ks es ss [] ns
 unfolding cells_of corners_from ends_from
 onward_none n ks es ss ns c e = record { cells = e; corners = c; placed = tt }
 
-onward_more : (n : ℕ) (ks : List Corner) (es : List Pair) (ss : List ℕ) (l : Level) (ls : List Level) (ns ns' : List (List (Cell ℕ)))
+pub onward_more : (n : ℕ) (ks : List Corner) (es : List Pair) (ss : List ℕ) (l : Level) (ls : List Level) (ns ns' : List (List (Cell ℕ)))
     → All (Placed ks) l.cells → ns' ≡ numbered_cells ks l.cells ∷ ns
     → Onward n (corners_from ks l.cells (take (length l.cells) ss))
     (ends_from es (numbered_cells ks l.cells) (take (length l.cells) ss))
@@ -109,7 +105,7 @@ unfolding levels
 levels_none m j [] ss e = refl
 levels_none m j (c ∷ cs) ss e = absurd (omega arith)
 
-stage_up : (n k m j : ℕ) (ks : List Corner) (es : List Pair) (cs : List (Cell Point)) (own rest : List ℕ) → k + suc m ≡ 12
+pub stage_up : (n k m j : ℕ) (ks : List Corner) (es : List Pair) (cs : List (Cell Point)) (own rest : List ℕ) → k + suc m ≡ 12
     → Stage n k ks es cs → Refined cs own
     → (i : ℕ) → k + suc (length (levels m i (next j cs own) rest)) ≤ 11 → NextStage n k j ks es cs own (corners_from ks cs own)
     (ends_from es (numbered_cells ks cs) own)
@@ -120,70 +116,10 @@ stage_up n k (suc m) j ks es cs own rest h s f i l =
       | no u ↦ stage_leaves n k j ks es cs own s (next_leaves j cs own f (levels_none m i (next j cs own) rest (omega arith)))
     ]
 
-number_levels_lem : (n m j : ℕ) (es : List Pair) (c : Cell ℕ) (cs ds : List (Cell ℕ)) (ss : List ℕ) (k : ℕ) → length (c ∷ cs) ≡ k
-    → next_of n (ends_from es (c ∷ cs) (take k ss)) j (c ∷ cs) (take k ss) ≡ ds
-    → number_levels n (suc m) j es (c ∷ cs) ss ≡ (c ∷ cs) ∷ number_levels n m (j + k) (ends_from es (c ∷ cs) (take k ss)) ds (drop k ss)
-unfolding number_levels
-number_levels_lem n m j es c cs ds ss k e f =
-    ap (λ (k : ℕ). (c ∷ cs) ∷ number_levels n m (j + k) (ends_from es (c ∷ cs) (take k ss))
-    (next_of n (ends_from es (c ∷ cs) (take k ss)) j (c ∷ cs) (take k ss)) (drop k ss)) e
-    ∙ ap (λ (d : List (Cell ℕ)). (c ∷ cs) ∷ number_levels n m (j + k) (ends_from es (c ∷ cs) (take k ss)) d (drop k ss)) f
-
--- what is to be shown of m levels
-abbrev Claim : ℕ → ℕ → Type 0
-Claim n m =
-    (k j : ℕ) (ks : List Corner) (es : List Pair) (cs : List (Cell Point)) (ss : List ℕ) → k + m ≡ 12 → Stage n k ks es cs
-    → All (λ l. Refined l.cells l.statuses) (levels m j cs ss) → k + length (levels m j cs ss) ≤ 11
-    → Onward n ks es ss (levels m j cs ss) (number_levels n m j es (numbered_cells ks cs) ss)
-
-claim_none : (n : ℕ) → Claim n 0
-unfolding levels number_levels
-claim_none n k j ks es cs ss h s f l = onward_none n ks es ss [] s.corners refl
-
-no_cells : (n m j : ℕ) (es : List Pair) (ss : List ℕ) → number_levels n (suc m) j es [] ss ≡ []
-unfolding number_levels
-no_cells n m j es ss = refl
-
-claim_more : (n m : ℕ) → Claim n m → Claim n (suc m)
-unfolding levels
-claim_more n m i k j ks es [] ss h s f l = onward_none n ks es ss (number_levels n (suc m) j es [] ss) s.corners (no_cells n m j es ss)
-claim_more n m i k j ks es (c ∷ cs) ss h s f l =
-    let a = length (c ∷ cs) in
-    let own = take a ss in
-    let rest = drop a ss in
-    let up = next j (c ∷ cs) own in
-    let ks₁ = corners_from ks (c ∷ cs) own in
-    let es₁ = ends_from es (numbered_cells ks (c ∷ cs)) own in
-    let x : NextStage n k j ks es (c ∷ cs) own ks₁ es₁ = stage_up n k m j ks es (c ∷ cs) own rest h s f.0 (j + a) l in
-    onward_more n ks es ss (record { first = j; cells = c ∷ cs; statuses = own }) (levels m (j + a) up rest)
-    (number_levels n m (j + a) es₁ (numbered_cells ks₁ up) rest)
-    (number_levels n (suc m) j es (numbered_cells ks (c ∷ cs)) ss) s.placed
-    (number_levels_lem n m j es (map_cell (number_in ks) c) (numbered_cells ks cs) (numbered_cells ks₁ up) ss a
-    (ap suc (length-map cs (map_cell (number_in ks)))) x.cells)
-    (i (suc k) (j + a) ks₁ es₁ up rest (omega arith) x.stage f.1 (omega arith))
-
-levels_numbers : (n m : ℕ) → Claim n m
-levels_numbers n zero = claim_none n
-levels_numbers n (suc m) = claim_more n m (levels_numbers n m)
-
 -- A table whose levels are closed, at most eleven; so a sound table.
-abbrev table_corners : ℕ → List (List ℕ) → List ℕ → List Corner
+abbrev pub table_corners : ℕ → List (List ℕ) → List ℕ → List Corner
 table_corners n qs ss = corners_of n (cells_of (levels_of n qs ss)) ss
 
 -- Rules 5.5, 9.3: by first appearance.
 abbrev pub table_ends : ℕ → List (List ℕ) → List ℕ → List Pair
 table_ends n qs ss = ends_from [] (numbered_cells (table_corners n qs ss) (cells_of (levels_of n qs ss))) ss
-
-module _ (n : ℕ) (qs : List (List ℕ)) (ss : List ℕ) (e : All (λ q. length q ≡ 4) qs) (t : T (cellsb n qs)) where
-  table_numbers : T (allb closedb (levels_of n qs ss)) → length (levels_of n qs ss) ≤ 11
-      → Numbers n (table_corners n qs ss) (table_ends n qs ss) (levels_of n qs ss) (number_levels n 12 0 [] (coarse_numbers qs) ss)
-  unfolding levels_of corners_of
-  table_numbers u l =
-      rw (coarse_numbers_lem n (coarse_corners n) [] (corners_start n) qs e t) at
-      (levels_numbers n 12 0 0 (coarse_corners n) [] (coarse_cells n qs) ss refl
-      (stage_start n qs e t) (all_of (λ (l : Level). Refined l.cells l.statuses) closedb closed_refined
-      (levels 12 0 (coarse_cells n qs) ss) u) (omega arith))
-
-  pub sound_numbers : T (soundb n qs ss) → Numbers n (table_corners n qs ss) (table_ends n qs ss) (levels_of n qs ss)
-      (number_levels n 12 0 [] (coarse_numbers qs) ss)
-  sound_numbers u = let (l, c) = sound_levels n qs ss u in table_numbers c l

@@ -1,5 +1,5 @@
 -- Laws of reads and rows: how long they are, and how a read goes on.
-use Rattle.std.specs.Prelude.{◌≡◌, refl, true, ℕ, zero, suc, ◌+◌, ◌≤◌, ◌<◌, ◌-◌, ◌*◌, length, get_or, drop, eqb}
+use Rattle.std.specs.Prelude.{◌≡◌, refl, true, ℕ, zero, suc, ◌+◌, ◌≤◌, ◌<◌, ◌*◌, length, get_or, drop, eqb}
 use Rattle.std.proofs.Common.{◌∙◌, ap, add-zero, arith, length-append, length-take, length-drop, take-suc, get_or-drop, get_or-append-add}
 use mathlib.Core.List.{List, [], ◌∷◌, ◌++◌, flat_map}
 use Rattle.mesh.specs.Cells.{Cell, Four, no_cell, corner}

@@ -9,7 +9,7 @@ use Rattle.base.specs.Lists.{allb, allb_at}
 use Rattle.cutting.specs.Rule.{family}
 use Rattle.cutting.specs.declared.Family.{Family}
 use Rattle.cutting.specs.Answer.{cut_of, cut_into, cut_of_accepted}
-use Rattle.cutting.specs.Rows.{family_few}
+use Rattle.cutting.proofs.Rows.{family_few}
 use Rattle.mesh.specs.Cells.{pattern_of}
 use Rattle.mesh.specs.Table.{size_of, sizes}
 use Rattle.rows.specs.Numbered.{part}

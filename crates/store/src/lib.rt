@@ -147,7 +147,7 @@ pub enum Fetched {
 }
 
 // A cell's place under its coarse cell: 256 times its level and the coarse cell; child numbers 1 to 5, and 6 to 10, base 8.
-#[derive(Drop)]
+#[derive(Clone, Copy)]
 pub struct Place {
     pub head: u16,
     pub digits: u16,

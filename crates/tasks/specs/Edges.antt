@@ -23,7 +23,7 @@ use Rattle.edges.specs.Pairs.{Pair, sorted, isb, add_pairs, same_pair, joins_sor
 use Rattle.numbering.specs.Corners.{Has}
 use Rattle.numbering.specs.Tests.{edge_in, Placed, EndsPlaced, held_numbers}
 use Rattle.numbering.specs.Renamed.{edge_in_lem, edge-map}
-use Rattle.numbering.specs.Tables.{sound_numbers}
+use Rattle.numbering.proofs.Tables.{sound_numbers}
 use Rattle.soundness.specs.Sound.{Sound, sound_parts}
 use Rattle.base.specs.Member.{Member, member_cases}
 use Rattle.parts.specs.Owners.{nth_cell}

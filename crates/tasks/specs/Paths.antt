@@ -4,7 +4,7 @@ use Rattle.std.specs.Prelude.{◌≡◌, refl, List, [], ◌∷◌, ◌++◌, �
 use Rattle.std.proofs.Common.{◌∙◌, ap, arith, length-append, length-take, lt-ltb, le-ltb}
 use Rattle.base.specs.Every.{all_append}
 use Rattle.base.specs.Limits.{most_coarse_cells, top_level}
-use Rattle.cutting.specs.Rows.{family_few}
+use Rattle.cutting.proofs.Rows.{family_few}
 use Rattle.mesh.specs.Cells.{Cell, no_cell, pattern_of, red_edges}
 use Rattle.mesh.specs.Weights.{Point, coarse_cells}
 use Rattle.mesh.specs.Laws.{length-coarse}

@@ -1,16 +1,16 @@
 -- Entries written, as the code writes them.
 use mathlib.Core.Path.{◌≡◌, refl, ◌∙◌, ap}
-use mathlib.Core.Bool.{Bool, true, false, ◌&&◌, not}
+use mathlib.Core.Bool.{Bool, true, false}
 use mathlib.Core.List.{List}
 use Prim.Native.Nat.{ℕ, ◌+◌, ◌-◌, ◌*◌, ◌%◌, ◌^◌, ◌≤◌, ◌<◌}
 use native.Mathlib.Omega.{arith}
-use lib.Dec.{T, eqb, ltb, ltb→lt}
+use lib.Dec.{T, ltb, ltb→lt}
 use lib.ListN.{set}
 use borrow.Author.Tests.{eq-eqb, ne_eqb, lt-ltb, le-ltb, le-leb, lt-leb}
 use Rattle.base.specs.Limits.{most_parts}
 use Rattle.base.specs.Lists.{belowb, belowb_at}
 use Rattle.store.specs.Fields.{field, PART, WRITTEN, OWNER, FAMILY, RED, CODE, VALUE, RECEIVERS, most_entries}
-use Rattle.turns.specs.Loops.{SameHead, head_self, head_on, head-set}
+use Rattle.turns.specs.Loops.{SameHead, head_self}
 use Rattle.turns.specs.Post.{entered, posted, ghost_at, mark_one}
 use Rattle.turns.specs.Heads.{posted_head}
 

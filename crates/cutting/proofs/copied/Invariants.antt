@@ -1,13 +1,9 @@
 -- `cutting::copied` meets its contract. The array holds the digits passed, and zeros behind them. The measure is what is left to copy.
 use mathlib.Core.Path.{◌≡◌}
 use mathlib.Core.List.{◌++◌}
-use Prim.Native.Nat.{◌+◌, ◌-◌, ◌≤◌}
-use native.Mathlib.Numerals.{add-one}
-use native.Mathlib.Omega.{arith}
+use Prim.Native.Nat.{◌-◌, ◌≤◌}
 use lib.ListN.{take, drop, replicate}
 use Rattle.cutting.specs.Answer.{digits_below}
-use Rattle.cutting.proofs.Table.{digits-length}
-use Rattle.cutting.proofs.Copy.{copy_more}
 use Rattle.cutting.proofs.copied.Given as goal
 
 abbrev pub invariant-loop-i : goal.invariant-loop-i

@@ -3,7 +3,8 @@ use mathlib.Core.Path.{sym, ◌∙◌, ap}
 use mathlib.Core.List.{flatten}
 use native.Mathlib.Omega.{arith}
 use Rattle.cutting.specs.Answer.{no_cut, cut_into, cut_of, cut_of_accepted, cut_of_refused}
-use Rattle.cutting.specs.Rows.{family_rows, row, family_row}
+use Rattle.cutting.specs.Rows.{family_rows, row}
+use Rattle.cutting.proofs.Rows.{family_row}
 use Rattle.cutting.proofs.Found.{Found, found, accepted}
 use Rattle.cutting.proofs.cut_from.Goals as goal
 
@@ -37,4 +38,3 @@ pub returns : goal.returns
 returns c =
     accepted c.args.pattern c.start-from.result c.start.result
     (omega arith) c.start-from.ensures c.start.ensures c.copied.result c.copied.ensures
-

@@ -1,6 +1,6 @@
 -- `cutting::start` meets its contract: the table is read at the pattern.
 use native.Mathlib.Omega.{arith}
-use Rattle.cutting.proofs.Table.{starts-length, starts_right, starts_small}
+use Rattle.cutting.proofs.Table.{starts-length, starts_right}
 use Rattle.cutting.proofs.start.Goals as goal
 
 pub bounds-starts-pattern : goal.bounds-starts-pattern

@@ -1,4 +1,3 @@
-
 use native.Mathlib.Omega.{arith}
 use Rattle.digits.proofs.Corners.{high_first, high_second, high_third}
 use Rattle.digits.proofs.high_corner.Goals as goal

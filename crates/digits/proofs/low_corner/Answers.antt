@@ -1,4 +1,3 @@
-
 use native.Mathlib.Omega.{arith}
 use Rattle.digits.proofs.Corners.{low_first, low_second, low_third}
 use Rattle.digits.proofs.low_corner.Goals as goal

@@ -6,7 +6,7 @@ use native.Mathlib.Omega.{arith}
 use lib.ListN.{length, get_or}
 use Rattle.cutting.specs.Rule.{family}
 use Rattle.cutting.specs.declared.Family.{Family}
-use Rattle.cutting.specs.Rows.{family_few}
+use Rattle.cutting.proofs.Rows.{family_few}
 use Rattle.growth.proofs.Family.{rows_none, rows_more, rows_all, digits_below_lem, child_count}
 use Rattle.growth.proofs.write_children.Goals.{After-cut_from-whole}
 use Rattle.growth.proofs.write_children.Goals as goal

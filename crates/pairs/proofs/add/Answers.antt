@@ -1,6 +1,4 @@
 -- `pairs::add` meets its contract: the entry is stored behind the others, and becomes the last one of its bucket.
-use mathlib.Core.Path.{◌∙◌}
-use lib.ListN.{length-set}
 use Rattle.pairs.proofs.More.{added_at}
 use Rattle.pairs.proofs.add.Goals as goal
 

@@ -1,12 +1,11 @@
 -- `pairs::clear` meets its contract: the heads passed are 65535. The measure is what is left of them.
-use mathlib.Core.Path.{◌≡◌, ◌∙◌}
+use mathlib.Core.Path.{◌≡◌}
 use mathlib.Core.List.{◌++◌, append-nil}
-use Prim.Native.Nat.{ℕ, ◌-◌, ◌≤◌}
+use Prim.Native.Nat.{ℕ}
 use native.Mathlib.Omega.{arith}
 use lib.ListN.{length, drop, replicate}
 use lib.Seq.{drop-length}
-use borrow.Author.Fill.{fill_none, fill_more}
-use Rattle.pairs.specs.Keys.{Clear, clear_new}
+use Rattle.pairs.specs.Keys.{clear_new}
 use Rattle.pairs.proofs.clear.Goals as goal
 
 pub returns : goal.returns

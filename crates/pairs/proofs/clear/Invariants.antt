@@ -1,12 +1,8 @@
 -- `pairs::clear` meets its contract: the heads passed are 65535. The measure is what is left of them.
-use mathlib.Core.Path.{◌≡◌, ◌∙◌}
-use mathlib.Core.List.{◌++◌, append-nil}
-use Prim.Native.Nat.{ℕ, ◌-◌, ◌≤◌}
-use native.Mathlib.Omega.{arith}
+use mathlib.Core.Path.{◌≡◌}
+use mathlib.Core.List.{◌++◌}
+use Prim.Native.Nat.{◌-◌, ◌≤◌}
 use lib.ListN.{length, drop, replicate}
-use lib.Seq.{drop-length}
-use borrow.Author.Fill.{fill_none, fill_more}
-use Rattle.pairs.specs.Keys.{Clear, clear_new}
 use Rattle.pairs.proofs.clear.Given as goal
 
 abbrev pub invariant-loop-b : goal.invariant-loop-b

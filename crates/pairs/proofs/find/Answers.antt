@@ -1,11 +1,7 @@
 -- `pairs::find` meets its contract. The invariant: what the chain has passed is not the pair. The measure is the entry, counted
 -- so that no entry comes last.
-use mathlib.Core.Path.{sym}
-use Prim.Native.Nat.{◌+◌, ◌%◌, ◌≤◌}
 use native.Mathlib.Omega.{arith}
-use lib.ListN.{length}
-use Rattle.spots.specs.Spots.{buckets_of}
-use Rattle.pairs.specs.Chain.{InChain, chain_start, chain_hit, chain_stop, chain_turn, chain_less}
+use Rattle.pairs.specs.Chain.{chain_start, chain_hit, chain_stop, chain_turn, chain_less}
 use Rattle.pairs.proofs.find.Goals as goal
 
 pub loop-e-init : goal.loop-e-init
@@ -32,9 +28,8 @@ loop-e-smaller c =
     (omega (arith, c.shared_slice_known-in-loop-e-1.given c.loop-e.e))
 
 pub loop-e-preserved : goal.loop-e-preserved
-loop-e-preserved c =
-    (
-      chain_turn c.requires c.loop-e.invariant.0 c.loop-e-test.true c.stands.ensures
-          c.if-stands.false,
-      omega (arith, c.shared_slice_known-in-loop-e-1.given c.loop-e.e),
-    )
+loop-e-preserved c = (
+  chain_turn c.requires c.loop-e.invariant.0 c.loop-e-test.true c.stands.ensures
+      c.if-stands.false,
+  omega (arith, c.shared_slice_known-in-loop-e-1.given c.loop-e.e),
+)

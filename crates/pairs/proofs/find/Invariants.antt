@@ -1,11 +1,9 @@
 -- `pairs::find` meets its contract. The invariant: what the chain has passed is not the pair. The measure is the entry, counted
 -- so that no entry comes last.
-use mathlib.Core.Path.{sym}
 use Prim.Native.Nat.{◌+◌, ◌%◌, ◌≤◌}
-use native.Mathlib.Omega.{arith}
 use lib.ListN.{length}
 use Rattle.spots.specs.Spots.{buckets_of}
-use Rattle.pairs.specs.Chain.{InChain, chain_start, chain_hit, chain_stop, chain_turn, chain_less}
+use Rattle.pairs.specs.Chain.{InChain}
 use Rattle.pairs.proofs.find.Given as goal
 
 abbrev pub invariant-loop-e : goal.invariant-loop-e

@@ -1,9 +1,7 @@
 -- `rows::fits` meets its contract: the rest decides as the whole does. The measure is what is left.
 use Rattle.std.proofs.Common.{rules}
-use mathlib.Core.Path.{◌≡◌, sym, ◌∙◌}
-use Prim.Native.Nat.{◌-◌, ◌≤◌}
-use lib.Dec.{leb}
-use lib.ListN.{length, drop, drop_of_length-le}
+use mathlib.Core.Path.{sym, ◌∙◌}
+use lib.ListN.{drop_of_length-le}
 use Rattle.base.specs.Lists.{allb}
 use Rattle.rows.specs.Sizes.{fits_not, fits_next}
 use Rattle.rows.proofs.fits.Goals as goal

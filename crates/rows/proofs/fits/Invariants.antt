@@ -1,10 +1,9 @@
 -- `rows::fits` meets its contract: the rest decides as the whole does. The measure is what is left.
-use mathlib.Core.Path.{◌≡◌, sym, ◌∙◌}
+use mathlib.Core.Path.{◌≡◌}
 use Prim.Native.Nat.{◌-◌, ◌≤◌}
 use lib.Dec.{leb}
-use lib.ListN.{length, drop, drop_of_length-le}
+use lib.ListN.{length, drop}
 use Rattle.base.specs.Lists.{allb}
-use Rattle.rows.specs.Sizes.{fits_not, fits_next}
 use Rattle.rows.proofs.fits.Given as goal
 
 abbrev pub invariant-loop-c : goal.invariant-loop-c

@@ -1,9 +1,6 @@
 -- `rows::level_size` meets its contract: a turn adds the next cell's children. The measure is what is left of the range.
-use mathlib.Core.Path.{◌≡◌, sym}
-use Prim.Native.Nat.{◌*◌, ◌-◌, ◌≤◌}
+use mathlib.Core.Path.{sym}
 use native.Mathlib.Omega.{arith}
-use Rattle.mesh.specs.Table.{sizes}
-use Rattle.rows.specs.Numbered.{part}
 use Rattle.rows.specs.Sizes.{sizes_step, sizes_none, status_fits}
 use Rattle.rows.proofs.level_size.Goals as goal
 
@@ -17,16 +14,15 @@ size_of-n-requires c =
     c.loop-c.c (omega (arith, c.loop-c-test.true, c.requires.first_le_last.1))
 
 pub loop-c-preserved : goal.loop-c-preserved
-loop-c-preserved c =
-    (
-      omega (arith, c.loop-c.invariant.0),
-      omega (arith, c.loop-c-test.true),
-      omega (
-        arith,
-        c.loop-c.invariant.2,
-        c.size_of-n.ensures.0,
-        sizes_step c.args.status.now c.args.first c.loop-c.c c.loop-c.invariant.0
-            (omega (arith, c.loop-c-test.true, c.requires.first_le_last.1)),
-      ),
-      omega (arith, c.loop-c.invariant.3, c.loop-c.invariant.0, c.size_of-n.ensures.1),
-    )
+loop-c-preserved c = (
+  omega (arith, c.loop-c.invariant.0),
+  omega (arith, c.loop-c-test.true),
+  omega (
+    arith,
+    c.loop-c.invariant.2,
+    c.size_of-n.ensures.0,
+    sizes_step c.args.status.now c.args.first c.loop-c.c c.loop-c.invariant.0
+        (omega (arith, c.loop-c-test.true, c.requires.first_le_last.1)),
+  ),
+  omega (arith, c.loop-c.invariant.3, c.loop-c.invariant.0, c.size_of-n.ensures.1),
+)

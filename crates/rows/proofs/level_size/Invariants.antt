@@ -1,10 +1,8 @@
 -- `rows::level_size` meets its contract: a turn adds the next cell's children. The measure is what is left of the range.
-use mathlib.Core.Path.{◌≡◌, sym}
+use mathlib.Core.Path.{◌≡◌}
 use Prim.Native.Nat.{◌*◌, ◌-◌, ◌≤◌}
-use native.Mathlib.Omega.{arith}
 use Rattle.mesh.specs.Table.{sizes}
 use Rattle.rows.specs.Numbered.{part}
-use Rattle.rows.specs.Sizes.{sizes_step, sizes_none, status_fits}
 use Rattle.rows.proofs.level_size.Given as goal
 
 abbrev pub invariant-loop-c : goal.invariant-loop-c

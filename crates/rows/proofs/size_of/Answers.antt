@@ -13,9 +13,8 @@ returns-then-status-eq64 c =
     (sym (size_red c.args.status c.if-status-eq64.true), omega arith)
 
 pub returns : goal.returns
-returns c =
-    (
-      c.count.ensures ∙ sym (size_green c.args.status c.if-status-eq0.false c.if-status-eq64.false c.requires),
-      omega
-          (arith, c.count.ensures, green_few c.args.status c.if-status-eq64.false c.requires),
-    )
+returns c = (
+  c.count.ensures ∙ sym (size_green c.args.status c.if-status-eq0.false c.if-status-eq64.false c.requires),
+  omega
+      (arith, c.count.ensures, green_few c.args.status c.if-status-eq64.false c.requires),
+)

@@ -1,7 +1,6 @@
 -- `spots::note` meets its contract: two stores behind the buckets, where there is room for them.
 use mathlib.Core.Path.{◌∙◌}
 use native.Mathlib.Omega.{arith}
-use lib.ListN.{length-set}
 use Rattle.spots.specs.Noted.{noted_short, noted_long}
 use Rattle.spots.proofs.note.Goals as goal
 

@@ -1,0 +1,14 @@
+-- `filling::six_cell` meets its contract: held, or not.
+use mathlib.Core.Path.{sym, ◌∙◌}
+use Rattle.filling.proofs.Passing.{six_here, six_not}
+use Rattle.filling.proofs.six_cell.Goals as goal
+
+pub returns-then-not-holds : goal.returns-then-not-holds
+returns-then-not-holds c =
+    six_not c.args.cols.now c.args.cells c.args.part c.args.slots.now c.args.c c.args.region.now c.requires.tabled
+    (sym c.holds.ensures ∙ c.if-not-holds.true)
+
+pub returns : goal.returns
+returns c =
+    six_here c.args.cols.now c.args.cells c.args.part c.args.slots.now c.args.c c.args.region.now c.requires.tabled
+    (sym c.holds.ensures ∙ c.if-not-holds.false) c.put_six.new.region c.put_six.ensures

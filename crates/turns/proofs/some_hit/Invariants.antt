@@ -1,0 +1,11 @@
+use mathlib.Core.Path.{◌≡◌}
+use Prim.Native.Nat.{◌-◌, ◌<◌}
+use Rattle.turns.specs.Loops.{some_from}
+use Rattle.turns.specs.Decide.{hit_of}
+use Rattle.turns.proofs.some_hit.Given as goal
+
+abbrev pub invariant-loop-e : goal.invariant-loop-e
+invariant-loop-e l = (l.e < 7) × (some_from (hit_of l.store l.c) (6 - l.e) l.e ≡ some_from (hit_of l.store l.c) 6 0)
+
+abbrev pub decreases-loop-e : goal.decreases-loop-e
+decreases-loop-e l = 6 - l.e

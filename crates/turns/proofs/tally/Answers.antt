@@ -1,0 +1,16 @@
+use Rattle.turns.proofs.Tallying.{tally_head}
+use Rattle.turns.specs.Tally.{tally_one}
+use Rattle.turns.specs.Loops.{each_again, each_out}
+use native.Mathlib.Numerals.{add-one}
+use mathlib.Core.Path.{sym, ◌∙◌}
+use native.Mathlib.Omega.{arith}
+use Rattle.turns.proofs.tally.Goals as goal
+
+pub loop-c-preserved : goal.loop-c-preserved
+loop-c-preserved c =
+    rw add-one (each_again tally_one tally_head _ _ _ _ _ _ c.loop-c.invariant (omega arith)
+    c.tally_one.ensures)
+
+pub returns : goal.returns
+returns c =
+    sym (each_out tally_one _ _ _ (omega arith)) ∙ c.loop-c.invariant.1
