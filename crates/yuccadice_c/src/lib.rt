@@ -1,5 +1,5 @@
-// The exports of the static library, for C and what calls C: the functions of crate yuccadice under the same names and with the same clauses,
-// word for word. A slice crosses as a pointer and a length. include/yuccadice.h declares them.
+// The exports of the static library, for C and what calls C: the functions of crate yuccadice under the same names and with the same
+// clauses, word for word. A slice crosses as a pointer and a length. include/yuccadice.h declares them.
 #![tactic(auto)]
 
 ghost use Rattle.std.specs.Prelude.{◌≡◌, length, get_or};

@@ -16,5 +16,6 @@ returns-then-bits-lt2147483648 c =
 pub returns-else-bits-lt2147483648 : goal.returns-else-bits-lt2147483648
 returns-else-bits-lt2147483648 c =
     let b = c.args.bits in
-    to_z-of_z w32 _ (minus_fits (4294967295 - b) (omega arith)) ∙ ap (λ (z : ℤ). negsuc 0 -ℤ z) (to_z_pos w32 (4294967295 - b) (omega arith))
+    to_z-of_z w32 _ (minus_fits (4294967295 - b) (omega arith))
+    ∙ ap (λ (z : ℤ). negsuc 0 -ℤ z) (to_z_pos w32 (4294967295 - b) (omega arith))
     ∙ sym (high_half b (omega arith))
