@@ -24,7 +24,7 @@ use Rattle.store.specs.Fields.{CORNER, ENTRIES, FIRST_ENDED, MARK, OWNER, PLACE_
 use Rattle.store.specs.Header.{headerb}
 use Rattle.store.specs.Fetch.{entry_count, code_at, value_at, receivers_at, spot_at}
 use Rattle.store.specs.declared.Spot.{Spot}
-use Rattle.store.specs.Fetching.{written_few}
+use Rattle.store.proofs.Fetching.{written_few}
 use Rattle.standing.specs.Walk.{spots_from, bits_from}
 use Rattle.standing.specs.Busy.{L, Busy, HoldsCell, HoldsSlot, pack}
 use Rattle.standing.specs.Posting.{Longer, Matches}

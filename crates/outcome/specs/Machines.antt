@@ -35,7 +35,7 @@ use Rattle.store.specs.Header.{headerb, stageb}
 use Rattle.store.specs.Headed.{header_is, header_yes, running_no}
 use Rattle.store.specs.Message.{two, message_of, head_of, body_of}
 use Rattle.store.specs.Fetch.{code_at, value_at, fetch_bytes, fetch_after, next_to_give, given}
-use Rattle.store.specs.Fetching.{before_start}
+use Rattle.store.proofs.Fetching.{before_start}
 use Rattle.store.specs.Hand.{hand_answer, hand_after}
 use Rattle.store.specs.Handing.{refuse_on}
 use Rattle.store.specs.declared.Fetched.{Fetched}

@@ -1,11 +1,11 @@
 -- What a part knows of its cells after the step, as the code finds it.
 use mathlib.Core.Path.{◌≡◌, refl, sym, ◌∙◌, ap, ap₂}
-use mathlib.Core.Bool.{Bool, true, false, ◌&&◌, ◌||◌, not}
+use mathlib.Core.Bool.{Bool, true, false, not}
 use mathlib.Core.List.{List, map}
 use Prim.Native.Nat.{ℕ, suc, ◌+◌, ◌-◌, ◌≤◌, ◌<◌}
 use native.Mathlib.Omega.{arith}
 use native.Mathlib.Decide.{dec_lt}
-use lib.Dec.{eqb, ltb}
+use lib.Dec.{eqb}
 use lib.ListN.{length, get_or, set, replicate, length-set}
 use lib.Seq.{get_or-set_same, get_or-set_other}
 use borrow.Author.Tests.{eq-eqb, ne_eqb, lt-ltb, le-ltb}
@@ -21,7 +21,7 @@ use Rattle.turns.specs.Decide.{hit_of, kid_count}
 use Rattle.families.specs.Children.{low_digit, high_digit}
 use Rattle.places.specs.Status.{new_status, lastsb, remadeb, pair_hit, fresh_bits}
 use Rattle.digits.specs.Ends.{low_at, high_at}
-use Rattle.places.specs.Fresh.{edge_has, edge_hit, kid_has, pair_has, fresh_by, fresh_bits_is, fresh_none}
+use Rattle.places.specs.Fresh.{edge_has, edge_hit, kid_has, pair_has, fresh_by, fresh_bits_is}
 use Rattle.places.proofs.Bits.{bits_few}
 
 module _ (x : List ℕ) (c : ℕ) where

@@ -4,7 +4,7 @@
 --   pair_has x ds f n a b    one of the n children from f on has
 --   fresh_by x ds rs f n i   the status of the new child i, where rs are the red family's digits
 -- Laws: fresh_bits_is (this is fresh_bits), fresh_none (a status that is none).
-use Rattle.std.specs.Prelude.{◌≡◌, refl, Bool, true, ◌&&◌, ◌||◌, List, map, length, get_or}
+use Rattle.std.specs.Prelude.{◌≡◌, refl, Bool, ◌&&◌, ◌||◌, List, map, length, get_or}
 use Rattle.std.proofs.Math.Path.{sym, ap, ap₂}
 use Rattle.std.proofs.Common.{◌∙◌, subst, arith, ne_eqb, le-leb}
 use Rattle.std.proofs.Math.Bool.{false}

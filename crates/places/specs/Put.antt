@@ -7,7 +7,7 @@
 --   place_master, place_ghost, place_family x c    what the cell c gives: itself as master or ghost, and its new family
 --   place_cell x c         all of these
 --   place_old x c          the cell as it was
-use Rattle.std.specs.Prelude.{Bool, true, false, ◌&&◌, not, List, ℕ, ◌+◌, ◌%◌, min, max, eqb, ltb, set}
+use Rattle.std.specs.Prelude.{true, false, ◌&&◌, not, List, ℕ, ◌+◌, ◌%◌, min, max, eqb, ltb, set}
 use Rattle.base.specs.Limits.{most_cells, too_many}
 use Rattle.mesh.specs.Table.{size_of}
 use Rattle.store.specs.Fields.{field, PART, ENTRIES, TOTAL, HIGH, OWNER, FAMILY, STATUS, HEAD, DIGITS, MORE}

@@ -27,7 +27,7 @@ use Rattle.store.specs.Header.{stageb, headerb}
 use Rattle.store.specs.Message.{message_of}
 use Rattle.store.specs.declared.Fetched.TheVariants.{Message, Nothing}
 use Rattle.store.specs.Fetch.{entry_count, next_to_give, given, passed_by, fetch_answer, fetch_bytes, fetch_after}
-use Rattle.store.specs.Fetching.{none_left, some_left}
+use Rattle.store.proofs.Fetching.{none_left, some_left}
 use Rattle.store.specs.Hand.{number_at, shapeb, routeb, contentb, wellb, hand_answer}
 use Rattle.store.specs.Handing.{TakesIt, taken_is}
 use Rattle.store.specs.Headed.{header_is}

@@ -20,7 +20,7 @@ use Rattle.store.specs.Fields.{field, full, PART, CURSOR, BIT, WRITTEN, GIVEN, C
 use Rattle.store.specs.Message.{message_of}
 use Rattle.store.specs.declared.Spot.{Spot}
 use Rattle.store.specs.Fetch.{entry_count, code_at, value_at, receivers_at, bitb, bit_from, spot_at, seek_from, next_to_give, given, passed_by}
-use Rattle.store.specs.Fetching.{written_few}
+use Rattle.store.proofs.Fetching.{written_few}
 
 unfoldable pub bits_from : ℕ → ℕ → ℕ → List ℕ
 unfolding bitb

@@ -1,1 +1,3 @@
 pub mod Placing
+pub mod Seek
+pub mod Fetching

@@ -5,8 +5,6 @@ pub mod Fetch
 pub mod Hand
 pub mod Headed
 pub mod Bytes
-pub mod Seek
-pub mod Fetching
 pub mod Checks
 pub mod Handing
 pub mod Places

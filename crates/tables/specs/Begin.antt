@@ -1,6 +1,6 @@
 -- The building starts with the coarse cells.
 -- Assumes nothing.
-use Rattle.std.specs.Prelude.{◌≡◌, ℕ, suc, ◌+◌, ◌*◌, ◌-◌, length, take}
+use Rattle.std.specs.Prelude.{◌≡◌, ℕ, suc, ◌*◌, length, take}
 use Rattle.std.proofs.Math.Path.{refl, sym}
 use Rattle.std.proofs.Common.{◌∙◌, ap}
 use mathlib.Core.List.{List, [], ◌∷◌, ◌++◌, flat_map}

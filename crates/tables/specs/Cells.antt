@@ -1,6 +1,6 @@
 -- From rows back to cells: what a table of rows holds of each cell, its path aside.
 -- Assumes nothing.
-use Rattle.std.specs.Prelude.{◌≡◌, refl, true, false, ℕ, zero, suc, ◌+◌, ◌*◌, ◌-◌, ◌<◌, eqb, length, take}
+use Rattle.std.specs.Prelude.{◌≡◌, refl, true, false, ℕ, zero, suc, ◌+◌, ◌*◌, ◌<◌, eqb, length, take}
 use Rattle.std.proofs.Common.{sym, ◌∙◌, ap, ap₂, add-zero, arith, length-append, get_or-take, get_or-append-add}
 use mathlib.Core.List.{List, [], ◌∷◌, ◌++◌, map, flat_map}
 use Rattle.std.proofs.Math.ListN.{get_or}

@@ -1,4 +1,4 @@
--- `closure::closed_level` meets its contract: the rest of the range decides as the whole does. The measure is what is left of it.
+-- `closure::closed_level` meets its contract: the rest of the range decides as the whole does.
 use mathlib.Core.Path.{◌≡◌, sym, ◌∙◌}
 use native.Mathlib.Omega.{arith}
 use lib.ListN.{get_or}

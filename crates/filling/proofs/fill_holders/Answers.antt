@@ -1,4 +1,4 @@
--- `filling::fill_holders` meets its contract: a turn takes the next cell. The measure is how many are left.
+-- `filling::fill_holders` meets its contract: a turn takes the next cell.
 use native.Mathlib.Omega.{arith}
 use Rattle.base.specs.Limits.{most_slots}
 use Rattle.filling.proofs.Passing.{mark_none, zeros_are}

@@ -1,4 +1,4 @@
--- `filling::fill_masks` meets its contract: a turn takes the next lower part. The measure is how many are left.
+-- `filling::fill_masks` meets its contract: a turn takes the next lower part.
 use mathlib.Core.Path.{refl, sym, ◌∙◌, ap}
 use native.Mathlib.Omega.{arith}
 use Rattle.filling.proofs.Passing.{masks_none, masks_room, flags_room, masks_turn}

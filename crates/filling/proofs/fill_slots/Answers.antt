@@ -1,4 +1,4 @@
--- `filling::fill_slots` meets its contract: a turn takes the next cell. The measure is how many are left.
+-- `filling::fill_slots` meets its contract: a turn takes the next cell.
 use mathlib.Core.Path.{◌≡◌}
 use native.Mathlib.Omega.{arith}
 use Rattle.base.specs.Limits.{most_slots}

@@ -1,4 +1,4 @@
--- `filling::put_column` meets its contract: a turn writes the next number. The measure is how many are left.
+-- `filling::put_column` meets its contract: a turn writes the next number.
 use native.Mathlib.Omega.{arith}
 use native.Mathlib.Numerals.{add-one}
 use Rattle.store.specs.Written.{wrote_next}

@@ -1,4 +1,4 @@
--- `filling::put_masks` meets its contract: a turn writes at the next slot. The measure is how many are left.
+-- `filling::put_masks` meets its contract: a turn writes at the next slot.
 use Prim.Native.Nat.{◌+◌, ◌*◌}
 use native.Mathlib.Omega.{arith}
 use native.Mathlib.Numerals.{add-one}

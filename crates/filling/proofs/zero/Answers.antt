@@ -1,4 +1,4 @@
--- `filling::zero` meets its contract: a turn writes the next zero. The measure is how many are left.
+-- `filling::zero` meets its contract: a turn writes the next zero.
 use native.Mathlib.Omega.{arith}
 use Rattle.filling.proofs.Passing.{zero_done}
 use Rattle.filling.proofs.zero.Goals as goal

@@ -1,4 +1,4 @@
--- `growth::grow_level` meets its contract: the invariant says what the cells passed have left in the tables. The measure is how
+-- `growth::grow_level` meets its contract: the invariant says what the cells passed have left in the tables.
 use native.Mathlib.Numerals.{add-one}
 use Rattle.growth.proofs.WholeLevel.{between_none, between_asked, between_more}
 use Rattle.growth.proofs.grow_level.Goals as goal

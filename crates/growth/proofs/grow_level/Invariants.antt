@@ -1,4 +1,4 @@
--- `growth::grow_level` meets its contract: the invariant says what the cells passed have left in the tables. The measure is how
+-- `growth::grow_level` meets its contract: the invariant says what the cells passed have left in the tables.
 use Rattle.growth.proofs.WholeLevel.{Between}
 use Rattle.growth.proofs.grow_level.Given as goal
 

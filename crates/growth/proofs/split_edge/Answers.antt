@@ -6,9 +6,10 @@ use native.Mathlib.Omega.{arith}
 use Rattle.cutting.specs.Rule.{split}
 use Rattle.rows.specs.Numbered.{cell_at}
 use Rattle.growth.proofs.Split.{whole, room, slot_below, halved}
+use Rattle.growth.proofs.split_edge.Goals.{After-add_edge-slot}
 use Rattle.growth.proofs.split_edge.Goals as goal
 
-below : (c : goal.After-struct_known-1)
+below : (c : After-add_edge-slot)
     → c.add_edge-slot.result.at
     ≤ c.args.m
 below c =
@@ -39,7 +40,7 @@ pub overflow_add-points : goal.overflow_add-points
 overflow_add-points c =
     omega (
       arith,
-      below c,
+      below (goal.at.overflow_add-points c).After-add_edge-slot,
       c.requires.c_in_bounds.2,
     )
 
@@ -47,7 +48,7 @@ pub overflow_cast-points : goal.overflow_cast-points
 overflow_cast-points c =
     omega (
       arith,
-      below c,
+      below (goal.at.overflow_cast-points c).After-add_edge-slot,
       c.requires.c_in_bounds.2,
     )
 

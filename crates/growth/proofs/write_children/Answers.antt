@@ -1,4 +1,4 @@
--- `growth::write_children` meets its contract: the invariant says that the rows of the children passed are written. The measure
+-- `growth::write_children` meets its contract: the invariant says that the rows of the children passed are written.
 use mathlib.Core.Path.{◌≡◌, ◌∙◌, ap}
 use Prim.Native.Nat.{◌≤◌}
 use native.Mathlib.Numerals.{add-one}

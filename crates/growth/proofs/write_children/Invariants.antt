@@ -1,4 +1,4 @@
--- `growth::write_children` meets its contract: the invariant says that the rows of the children passed are written. The measure
+-- `growth::write_children` meets its contract: the invariant says that the rows of the children passed are written.
 use lib.ListN.{get_or}
 use Rattle.growth.proofs.Family.{Rows}
 use Rattle.growth.proofs.write_children.Given as goal

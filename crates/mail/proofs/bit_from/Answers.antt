@@ -1,4 +1,4 @@
-use Rattle.store.specs.Seek.{bit_here, bit_on, bit_out}
+use Rattle.store.proofs.Seek.{bit_here, bit_on, bit_out}
 use native.Mathlib.Numerals.{add-one}
 use native.Mathlib.Omega.{arith}
 use mathlib.Core.Path.{sym, ◌∙◌}

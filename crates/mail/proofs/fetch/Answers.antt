@@ -1,6 +1,6 @@
 use mathlib.Core.Path.{sym, ◌∙◌}
 use native.Mathlib.Omega.{arith}
-use Rattle.store.specs.Fetching.{inside, part_small, store_short, bytes_short, header_bad, before_start, none_left, some_left}
+use Rattle.store.proofs.Fetching.{inside, part_small, store_short, bytes_short, header_bad, before_start, none_left, some_left}
 use Rattle.mail.proofs.fetch.Goals as goal
 
 pub returns-then-store-lt-FULL : goal.returns-then-store-lt-FULL

@@ -1,4 +1,4 @@
-use Rattle.store.specs.Seek.{seek_stops, seek_on, seek_out, next_is}
+use Rattle.store.proofs.Seek.{seek_stops, seek_on, seek_out, next_is}
 use Rattle.store.specs.Fetch.{spot_at}
 use native.Mathlib.Numerals.{add-one}
 use native.Mathlib.Omega.{arith}

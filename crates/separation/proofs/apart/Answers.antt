@@ -1,4 +1,4 @@
--- `separation::apart` meets its contract: the cells that are left decide as all do. The measure is their number.
+-- `separation::apart` meets its contract: the cells that are left decide as all do.
 use mathlib.Core.Path.{◌≡◌, sym, ◌∙◌}
 use Prim.Native.Nat.{◌-◌}
 use native.Mathlib.Omega.{arith}

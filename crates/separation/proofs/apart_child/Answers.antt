@@ -1,5 +1,4 @@
--- `separation::apart_child` meets its contract: where no edge is listed it holds, and else the edges that are left decide as all six
--- do. The measure is their number.
+-- `separation::apart_child` meets its contract: where no edge is listed it holds, and else the edges that are left decide as all six do.
 use mathlib.Core.Path.{◌≡◌, sym, ◌∙◌}
 use native.Mathlib.Omega.{arith}
 use Rattle.mesh.specs.Cells.{edges}

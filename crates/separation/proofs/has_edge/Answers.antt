@@ -1,4 +1,4 @@
--- `separation::has_edge` meets its contract: the edges that are left decide as all six do. The measure is their number.
+-- `separation::has_edge` meets its contract: the edges that are left decide as all six do.
 use Rattle.std.proofs.Common.{rules}
 use mathlib.Core.Path.{◌≡◌, refl, sym, ◌∙◌, ap}
 use mathlib.Core.Bool.{true, false}

@@ -1,4 +1,4 @@
--- `slots::number` meets its contract: a turn numbers the next level. The measure is what is left of the eleven levels.
+-- `slots::number` meets its contract: a turn numbers the next level.
 use mathlib.Core.Path.{◌≡◌}
 use Prim.Native.Nat.{◌+◌, suc}
 use native.Mathlib.Omega.{arith}

@@ -1,4 +1,4 @@
--- `slots::number_level` meets its contract: a turn numbers the next edge. The measure is what is left of the level's edges.
+-- `slots::number_level` meets its contract: a turn numbers the next edge.
 use mathlib.Core.Path.{◌≡◌}
 use Prim.Native.Nat.{◌*◌}
 use native.Mathlib.Omega.{arith}

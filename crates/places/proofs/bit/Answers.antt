@@ -1,0 +1,12 @@
+use Rattle.base.specs.Bools.{one_if}
+use Rattle.places.proofs.bit.Goals as goal
+
+pub returns-then-b : goal.returns-then-b
+unfolding one_if
+returns-then-b c =
+    rw c.if-b.true
+
+pub returns-else-b : goal.returns-else-b
+unfolding one_if
+returns-else-b c =
+    rw c.if-b.false
