@@ -30,7 +30,8 @@ use Rattle.rounds.specs.Rounds.{Body, mark, count, total, end, Phase, marks, cou
 use Rattle.rounds.specs.Rounds.{ghost_marks, edge_counts, says, writing}
 use Rattle.rounds.specs.Among.{is_not}
 use Rattle.rounds.specs.Enough.{Known, Marking, Counting, other_writes}
-use Rattle.rounds.specs.Rounded.{protocol, marking, to_counts, enough, phase_marks, phase_counts, phase_totals, silent}
+use Rattle.rounds.specs.Rounded.{protocol, phase_marks, phase_counts, phase_totals, silent}
+use Rattle.rounds.proofs.Rounded.{marking, to_counts, enough}
 use Rattle.rounds.specs.Turns.{Turn, in_marks, in_counts, in_totals, in_over, turn_of}
 use Rattle.rounds.specs.Totals.{before_totals, sized_last}
 use Rattle.rounds.specs.Upward.{ups}

@@ -1,6 +1,6 @@
 -- The coarse cells meet face to face: the stage 0.
 -- Laws: bound_coarse (a coarse face is in as many cells as the boundary says), meeting_zero.
-use Rattle.std.specs.Prelude.{◌≡◌, ◌⊎◌, Bool, ◌&&◌, ◌||◌, not, ℕ, zero, suc, ◌+◌, ◌<◌, ◌≤◌}
+use Rattle.std.specs.Prelude.{◌≡◌, Bool, ◌&&◌, ◌||◌, not, ℕ, zero, suc, ◌<◌, ◌≤◌}
 use Rattle.std.proofs.Math.Path.{refl, subst}
 use Rattle.std.proofs.Common.{sym, ◌∙◌, ap, ap₂, eqb-true, eq-eqb, le-leb}
 use Rattle.std.proofs.Math.Logic.{⊎_elim}

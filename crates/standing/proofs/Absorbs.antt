@@ -4,7 +4,7 @@ use Rattle.std.specs.Prelude.{◌≡◌, ◌≢◌, ◌⊎◌, Bool, ◌&&◌, �
 use Rattle.std.proofs.Math.Path.{refl, sym, ap}
 use Rattle.std.proofs.Common.{◌∙◌, subst, inl, inr, ⊎_elim, length-append}
 use Rattle.std.proofs.Math.Bool.{true, false, or-false, or-true}
-use Prim.Native.Nat.{ℕ, suc, ◌+◌, ◌-◌, ◌%◌, ◌≤◌, ◌<◌, Fin, max}
+use Prim.Native.Nat.{ℕ, suc, ◌+◌, ◌%◌, ◌≤◌, ◌<◌, Fin, max}
 use native.Mathlib.Omega.{arith}
 use Rattle.std.proofs.Math.Decide.{ℕ_discrete}
 use Rattle.std.proofs.Math.ListN.{get_or}
@@ -27,7 +27,8 @@ use Rattle.store.specs.Hand.{length_of, shapeb, routeb, contentb, wellb, taken_a
 use Rattle.store.specs.Checks.{length-first, length-second, length_third, length_fourth, shape_some, route_to, mark_value, count_value}
 use Rattle.store.specs.Checks.{total_within, content_first, content_second, content_third, content_other, well_content}
 use Rattle.store.specs.Handing.{Hands, hand_taken}
-use Rattle.standing.specs.Walk.{Posted, given_to, queue_same, sent_same, posted_written}
+use Rattle.standing.specs.Walk.{Posted, given_to, posted_written}
+use Rattle.standing.proofs.Walk.{queue_same, sent_same}
 use Rattle.standing.specs.Packed.{bodyb, entry_code, entry_value, Content, Read, read}
 use Rattle.standing.specs.Taking.{Away, length_taken, else_taken, count_taken, red_taken, red_kept, sum_taken, end_taken, total_taken}
 use Rattle.standing.specs.Busy.{L, pack, CanTake, Good, Busy, header_same, part_low, held_few, packed_is}

@@ -28,7 +28,7 @@ use Rattle.conformity.specs.Olds.{old_at_lem}
 use Rattle.conformity.specs.Stages.{leaves_on, below, stage, below_next}
 use Rattle.conformity.specs.Meeting.{bound, face_of, Right, Meeting, all_both}
 use Rattle.conformity.specs.Onward.{meeting_next}
-use Rattle.conformity.specs.Start.{meeting_zero}
+use Rattle.conformity.proofs.Start.{meeting_zero}
 use Rattle.conformity.specs.Faces.{Apart, face_at_lem, has_within}
 
 -- the leaves level by level
