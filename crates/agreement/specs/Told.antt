@@ -38,7 +38,8 @@ use Rattle.rounds.specs.Upward.{ups}
 use Rattle.parts.specs.Owners.{family_of}
 use Rattle.parts.specs.Held.{masterb, ghostb}
 use Rattle.splitting.specs.Numbers.{numbers_of, row_by, number_inside, rows_numbers}
-use Rattle.splitting.specs.Split.{flags_red, owners_fit}
+use Rattle.splitting.specs.Split.{owners_fit}
+use Rattle.splitting.proofs.Split.{flags_red}
 use Rattle.shares.specs.Settled.{Settled}
 use Rattle.merging.specs.Totals.{grown_of, grown_plain}
 use Rattle.merging.specs.Result.{settle}
