@@ -25,8 +25,9 @@ use Rattle.exchange.specs.Protocol.{Alone, Machine, Protocol}
 use Rattle.exchange.specs.Lockstep.{lock, mail_count, post, letters, local, post_letter, letter_post}
 use Rattle.exchange.specs.Played.{play-length}
 use Rattle.exchange.specs.Begun.{first_fine}
-use Rattle.exchange.specs.Theorem.{Can, Allowed, deterministic, begun_with, result, done_stays, moves_few, completion, all_given}
-use Rattle.exchange.specs.Theorem.{given_post}
+use Rattle.exchange.specs.Theorem.{Can, Allowed}
+use Rattle.exchange.proofs.Theorem.{deterministic, begun_with, result, done_stays, moves_few, completion, all_given}
+use Rattle.exchange.proofs.Theorem.{given_post}
 use Rattle.exchange.specs.Theorem.{onward as moved_on}
 use Rattle.rounds.specs.Rounds.{Body, end, State, phase}
 use Rattle.rounds.specs.Task.{Task}
@@ -54,7 +55,7 @@ use Rattle.outcome.specs.Machines.{machine, alone}
 use Rattle.agreement.specs.Terms.{Calls, Stores, after_split, alldoneb}
 use Rattle.held.specs.Says.{says_of, doneb}
 use Rattle.agreement.specs.Says.{says_so}
-use Rattle.held.specs.Says.{says_stage}
+use Rattle.held.proofs.Says.{says_stage}
 use Rattle.agreement.specs.Exchanges.{fit, reads, takes, reads_mark, first_idle, wanted, wanted_fit}
 
 -- a store that stands as it stood

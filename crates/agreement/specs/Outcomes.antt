@@ -29,7 +29,7 @@ use Rattle.exchange.specs.Finite.{parts}
 use Rattle.rounds.specs.Rounds.{State, is_part}
 use Rattle.rounds.specs.Enough.{Known}
 use Rattle.rounds.specs.Rounded.{phase_over}
-use Rattle.rounds.specs.Totals.{enough_last}
+use Rattle.rounds.proofs.Totals.{enough_last}
 use Rattle.rounds.specs.Upward.{ups}
 use Rattle.parts.specs.Owners.{family_of}
 use Rattle.parts.specs.Held.{Entry, masterb, ghostb, entry_of, entries_of}

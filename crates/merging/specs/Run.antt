@@ -26,7 +26,8 @@ use Rattle.exchange.specs.Lockstep.{lock}
 use Rattle.rounds.specs.Task.{Task, Fit}
 use Rattle.rounds.specs.Rounds.{Body, Phase, State, writing, taking, sized, capped, largest}
 use Rattle.rounds.specs.Rounded.{phase_totals}
-use Rattle.rounds.specs.Totals.{before_totals, after_totals, totals_known, enough_last}
+use Rattle.rounds.specs.Totals.{before_totals, after_totals, totals_known}
+use Rattle.rounds.proofs.Totals.{enough_last}
 use Rattle.parts.specs.Owners.{ownersb}
 use Rattle.parts.specs.Held.{Entry, masterb}
 use Rattle.parts.specs.Starts.{place_on, put_together}
