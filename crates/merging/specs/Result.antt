@@ -32,9 +32,10 @@ use Rattle.splitting.specs.Admissible.{Admissible}
 use Rattle.splitting.specs.Heirs.{heirs, heirs_admissible}
 use Rattle.shares.specs.Flat.{NoTwice}
 use Rattle.shares.specs.Settled.{Settled, entries_in}
-use Rattle.shares.specs.Entries.{entries_are}
-use Rattle.shares.specs.Once.{each_once}
-use Rattle.shares.specs.Share.{Named, table_in, share_held, held_share}
+use Rattle.shares.proofs.Entries.{entries_are}
+use Rattle.shares.proofs.Once.{each_once}
+use Rattle.shares.specs.Share.{Named, table_in}
+use Rattle.shares.proofs.Share.{share_held, held_share}
 use Rattle.shares.specs.Keeps.{coarse_keeps, family_keeps, family_first}
 use Rattle.base.specs.Distinct.{NoDup}
 use Rattle.merging.specs.Merge.{merged_step}

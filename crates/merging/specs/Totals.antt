@@ -29,7 +29,8 @@ use Rattle.splitting.specs.Paths.{new-length}
 use Rattle.shares.specs.Grow.{status_new, pair_held, fresh_status, staysb, master_entry, ghost_entry, anewb, child_status, child_entries}
 use Rattle.shares.specs.Grow.{fresh_entries, entries}
 use Rattle.shares.specs.Settled.{Settled, entries_in, own_in}
-use Rattle.shares.specs.Present.{new_entry, masters_in_lem}
+use Rattle.shares.specs.Present.{new_entry}
+use Rattle.shares.proofs.Present.{masters_in_lem}
 use Rattle.base.specs.Distinct.{NoDup}
 use Rattle.merging.specs.Complete.{master_paths, path_by, paths_append, masters_counted}
 use Rattle.merging.specs.All.{entries_all, entries_cover, where_is, all_apart}

@@ -13,7 +13,6 @@ use Rattle.std.proofs.Math.Dec.{T}
 use Rattle.std.proofs.Math.ListN.{length}
 use Rattle.base.specs.Bools.{is_true, is_false, and_left, and_right, not_both}
 use Rattle.base.specs.Range.{range, member_range}
-use Rattle.cutting.specs.Rule.{family}
 use Rattle.mesh.specs.Cells.{Cell, redb, no_cell}
 use Rattle.mesh.specs.Weights.{Point}
 use Rattle.mesh.specs.Table.{Level, soundb, size_of}
@@ -36,8 +35,10 @@ use Rattle.shares.specs.Grow.{entry_by, cell_entries, level_entries}
 use Rattle.shares.specs.There.{There, refined_there}
 use Rattle.shares.specs.Owned.{new_born}
 use Rattle.shares.specs.Settled.{Settled, task_in, entries_in, old_level_in, new_level_in, num_in}
-use Rattle.shares.specs.Present.{stays_there, old_path, here_either, child_green}
-use Rattle.shares.specs.Entries.{old_low, Anew, anew_of, anew_child, anew_path, anew_regular, anew_fresh}
+use Rattle.shares.specs.Present.{old_path, here_either, child_green}
+use Rattle.shares.proofs.Present.{stays_there}
+use Rattle.shares.specs.Entries.{old_low, Anew, anew_child, anew_path, anew_regular, anew_fresh}
+use Rattle.shares.proofs.Entries.{anew_of}
 
 module _ {Part : Type 0} {F : Finite Part} (X : Settled F) (p : Part) where
   abbrev n : ℕ
