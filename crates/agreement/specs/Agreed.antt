@@ -55,7 +55,7 @@ use Rattle.outcome.specs.Machines.{machine, alone}
 use Rattle.agreement.specs.Terms.{Calls, Stores, after_split, alldoneb}
 use Rattle.held.specs.Says.{says_of, doneb}
 use Rattle.agreement.specs.Says.{says_so}
-use Rattle.held.specs.Says.{says_stage}
+use Rattle.held.proofs.Says.{says_stage}
 use Rattle.agreement.specs.Exchanges.{fit, reads, takes, reads_mark, first_idle, wanted, wanted_fit}
 
 -- a store that stands as it stood

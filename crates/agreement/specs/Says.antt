@@ -33,7 +33,8 @@ use Rattle.standing.specs.Walk.{passed_else, passed_length}
 use Rattle.turns.specs.Start.{start_answer, start_after}
 use Rattle.partstep.specs.Step.{readyb, part_answer, part_after}
 use Rattle.held.specs.Held.{stage_answer, stage_of, progress_of, entry_in, held_in}
-use Rattle.held.specs.Says.{says_of, doneb, says_stage}
+use Rattle.held.specs.Says.{says_of, doneb}
+use Rattle.held.proofs.Says.{says_stage}
 use Rattle.held.specs.declared.Progress.{Progress}
 use Rattle.held.specs.declared.Progress.TheVariants as progress
 use Rattle.outcome.specs.Program.{gives, nine, act}

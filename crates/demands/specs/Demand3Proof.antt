@@ -29,7 +29,8 @@ use Rattle.split.specs.Columns.{slot_of}
 use Rattle.split.specs.Split.{split_answer, split_after}
 use Rattle.split.specs.Messages.{messages_to}
 use Rattle.held.specs.Held.{held_in, held_rows, held_answer, listed_of}
-use Rattle.held.specs.Says.{says_of, doneb, done_read}
+use Rattle.held.specs.Says.{says_of, doneb}
+use Rattle.held.proofs.Says.{done_read}
 use Rattle.held.specs.declared.Progress.TheVariants.{Done, Ended}
 use Rattle.tasks.specs.Edges.{slots_on}
 use Rattle.tasks.specs.Accepted.{Splits, splits_from, split_slots}

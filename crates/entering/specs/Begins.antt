@@ -338,8 +338,8 @@ module _ (P : ℕ) (J : Task (Fin P)) (fit : Fit J) (reads : Fin P → List ℕ 
       let z : J.top ≡ J.top - 0 = omega arith in
       ap (λ (k : ℕ). decides (parts P) J p k c && rule J (λ i. false) (reads p ms) c) z
 
-  yes : start_answer x ms ≡ Accepted
-  yes = start_yes x ms co.long idle.header idle.stage due
+  can_start : start_answer x ms ≡ Accepted
+  can_start = start_yes x ms co.long idle.header idle.stage due
 
   abbrev z : List ℕ
   z = enter_marks x0 (J.top - 0)
@@ -348,7 +348,7 @@ module _ (P : ℕ) (J : Task (Fin P)) (fit : Fit J) (reads : Fin P → List ℕ 
   unfolding started_store
   after_is =
       let lv : field x LEVELS - 1 ≡ J.top - 0 = omega (arith, co.levels) in
-      start_after_lem x ms co.long idle.header idle.stage yes ∙ ap (enter_marks x0) lv
+      start_after_lem x ms co.long idle.header idle.stage can_start ∙ ap (enter_marks x0) lv
 
   spent : field x0 WRITTEN + field x0 (FIRST_CELL + suc (J.top - 0)) + field x0 (FIRST_SLOT + suc (J.top - 0))
       ≤ field x0 CELLS + field x0 (FIRST_SLOT + suc J.top) + (0 + 0)
@@ -389,7 +389,7 @@ module _ (P : ℕ) (J : Task (Fin P)) (fit : Fit J) (reads : Fin P → List ℕ 
   pub begins : (start_answer x ms ≡ Accepted) × Standing P J p (at_start (parts P) (Q P J reads p) p ms) (start_after x ms)
   unfolding starting
   begins = (
-    yes,
+    can_start,
     subst (Standing P J p (at_start (parts P) (Q P J reads p) p ms)) (sym after_is)
         (enter_marks_lem P J fit reads p l0 x0 busy0 co0 (reads p ms) marked (λ i. false) hits (λ c. false) no_flags 0 (omega arith) 0 here
         (omega arith) (starting (parts P) J p (reads p ms)) first_red (λ i h. sums i h) refl no_ends spent fits.sent

@@ -1,21 +1,21 @@
 -- What `stage` and `held` answer, by the tests that the code makes.
 use mathlib.Core.Path.{◌≡◌, refl, sym, ◌∙◌}
 use mathlib.Core.Logic.{⊎_elim}
-use mathlib.Core.Bool.{Bool, true, false, ◌&&◌, ◌||◌, not}
-use mathlib.Core.List.{List, ◌++◌}
+use mathlib.Core.Bool.{Bool, true, false, ◌&&◌, ◌||◌}
+use mathlib.Core.List.{List}
 use Prim.Native.Nat.{ℕ, ◌+◌, ◌*◌, ◌≤◌, ◌<◌}
 use native.Mathlib.Nat.{zero-add}
 use native.Mathlib.Omega.{arith}
 use lib.Dec.{T, eqb, leb, eqb→eq}
-use lib.ListN.{length, drop}
+use lib.ListN.{length}
 use borrow.Author.Tests.{eq-eqb, ne_eqb, le-leb, lt-leb}
-use Rattle.base.specs.Bools.{and_left, and_right, or_either}
+use Rattle.base.specs.Bools.{and_right, or_either}
 use Rattle.base.specs.Limits.{most_cells}
 use Rattle.base.specs.Refuse.{refuse, held_after}
 use Rattle.base.specs.declared.Answer.TheVariants.{Accepted, Refused}
 use Rattle.store.specs.Fields.{field, full, STAGE, LEVELS, ROUND, RESULT}
 use Rattle.store.specs.Header.{stageb, headerb}
-use Rattle.store.specs.Headed.{Header, header_is, header_yes}
+use Rattle.store.specs.Headed.{header_is, header_yes}
 use lib.Seq.{sets, sets-eq}
 use mathlib.Core.Path.{ap}
 use Rattle.store.specs.Fields.{ENTRIES}

@@ -5,8 +5,8 @@
 --   stage_answer x    15, then 16: the header, or a store that was not started
 --   stage_of x        running with its round, done, or done with 8 or 9
 --   progress_of, listed_of    what `stage` and `held` answer
-use Rattle.std.specs.Prelude.{Bool, true, false, ◌&&◌, not, ℕ, ◌+◌, ◌-◌, ◌*◌, ◌%◌, pred, eqb, leb, length, replicate}
-use mathlib.Core.List.{List, [], ◌∷◌, ◌++◌, map, flat_map}
+use Rattle.std.specs.Prelude.{true, false, ◌&&◌, not, ℕ, ◌+◌, ◌-◌, ◌*◌, ◌%◌, pred, eqb, leb, length, replicate}
+use mathlib.Core.List.{List, ◌∷◌, ◌++◌, map, flat_map}
 use Rattle.base.specs.Bools.{one_if}
 use Rattle.base.specs.Limits.{most_levels, most_cells}
 use Rattle.base.specs.Range.{range}

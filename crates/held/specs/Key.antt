@@ -4,11 +4,10 @@
 --   Keyed l x y       x, y is the key of the path l
 -- Laws: key_place (the key of a place), key_child (of a child), key_coarse (of a coarse cell), key_same (a path has one key), key_digits
 -- (the path's child numbers with zeros behind them).
-use Rattle.std.specs.Prelude.{◌≡◌, refl, List, [], ◌∷◌, ◌++◌, ℕ, zero, suc, pred, ◌+◌, ◌-◌, ◌*◌, ◌/◌, ◌%◌, ◌^◌, ◌≤◌, ◌<◌, min, length, take, drop, replicate}
-use Rattle.std.proofs.Common.{sym, ◌∙◌, ap, ap₂, zero-add, suc-add, mul_assoc, mul_comm, mod-lt, mod-eq_of_lt, mul-le-mul_right, arith, pow-add, length-append, take_all}
+use Rattle.std.specs.Prelude.{◌≡◌, refl, List, [], ◌∷◌, ◌++◌, ℕ, zero, suc, ◌+◌, ◌-◌, ◌*◌, ◌/◌, ◌%◌, ◌^◌, ◌≤◌, ◌<◌, min, length, take, replicate}
+use Rattle.std.proofs.Common.{sym, ◌∙◌, ap, ap₂, zero-add, suc-add, mul_assoc, mul_comm, mod-lt, mul-le-mul_right, arith, length-append, take_all}
 use Rattle.std.proofs.Math.Nat.{div-add-mod, pow-le-pow_right}
 use Rattle.std.proofs.Math.Decide.{dec_lt}
-use Rattle.store.specs.declared.Place.{Place}
 use Rattle.store.specs.Places.{eights, path_of, eight_more}
 
 unfoldable pub key_path : ℕ → ℕ → List ℕ

@@ -5,7 +5,7 @@
 --                            entries and places, is as it was
 --   split_answer ..           15, 1 to 6, 10, 11 in this order
 use Rattle.std.proofs.Math.Bool.{true, false}
-use Rattle.std.specs.Prelude.{◌&&◌, ℕ, suc, ◌+◌, ◌*◌, ltb, leb, drop, ℤ}
+use Rattle.std.specs.Prelude.{◌&&◌, ℕ, suc, ◌*◌, ltb, leb, drop, ℤ}
 use mathlib.Core.List.{List, [], ◌∷◌, ◌++◌, map, flat_map}
 use Rattle.std.proofs.Math.ListN.{length, get_or, replicate}
 use Rattle.base.specs.Bools.{one_if}

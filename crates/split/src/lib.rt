@@ -1,3 +1,2 @@
 // definitions: see specs/
 #![tactic(auto)]
-

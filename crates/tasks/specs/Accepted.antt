@@ -33,7 +33,8 @@ use Rattle.splitting.specs.Split.{Slots}
 use Rattle.entering.specs.Columns.{Columns, count_before}
 use Rattle.split.specs.Columns.{slot_of}
 use Rattle.split.specs.Split.{stores_after, split_in, split_answer, split_after}
-use Rattle.split.specs.Stored.{Stored, stored_split}
+use Rattle.split.specs.Stored.{Stored}
+use Rattle.split.proofs.Stored.{stored_split}
 use Rattle.split.specs.Stored as S
 use Rattle.tasks.specs.Edges.{slots_on, slots_split}
 use Rattle.tasks.specs.Holders.{split_task}
