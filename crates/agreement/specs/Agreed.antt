@@ -45,7 +45,7 @@ use Rattle.standing.specs.Busy.{pack, L}
 use Rattle.entering.specs.Fits.{Fitted}
 use Rattle.entering.specs.Entered.{Stay}
 use Rattle.entering.specs.Standing.{Idle, Standing}
-use Rattle.entering.specs.Begins.{start_yes, start_fine}
+use Rattle.entering.proofs.Begins.{start_yes, start_fine}
 use Rattle.tasks.specs.Holders.{split_task}
 use Rattle.tasks.specs.Accepted.{Splits, splits_from, split_store_lem, split_columns, split_bound}
 use Rattle.turns.specs.Start.{start_answer, start_after}

@@ -1,17 +1,17 @@
 -- The start of a part.
 -- Laws: marked_else, marked_at (what setting the marks changes), start_fine (which starts are accepted), begins and begins_stay (where an
 -- accepted start leads).
-use Rattle.std.specs.Prelude.{◌≡◌, ◌⊎◌, ◌≢◌, Bool, ◌&&◌, ◌||◌, not, List, [], ◌∷◌, ◌++◌, ltb, leb, set}
+use Rattle.std.specs.Prelude.{◌≡◌, ◌⊎◌, ◌≢◌, Bool, ◌&&◌, ◌||◌, List, [], ltb, set}
 use Rattle.std.proofs.Math.Path.{refl, sym, ap, ap₂, subst}
 use Rattle.std.proofs.Common.{◌∙◌, inl, inr, ltb→lt, length-set, get_or-set_same}
 use Rattle.std.proofs.Math.Bool.{true, false}
-use Prim.Native.Nat.{ℕ, zero, suc, ◌+◌, ◌-◌, ◌*◌, ◌≤◌, ◌<◌, Fin}
+use Prim.Native.Nat.{ℕ, zero, suc, ◌+◌, ◌-◌, ◌≤◌, ◌<◌, Fin}
 use Rattle.std.proofs.Math.Decide.{ℕ_discrete}
 use native.Mathlib.Omega.{arith}
 use Rattle.std.proofs.Math.Dec.{T, eqb}
 use Rattle.std.proofs.Math.ListN.{length, get_or}
 use Rattle.std.proofs.Math.Seq.{get_or-set_other}
-use borrow.Author.Tests.{eq-eqb, ne_eqb, lt-ltb, le-leb, eqb-true}
+use borrow.Author.Tests.{eq-eqb, lt-ltb, le-leb, eqb-true}
 use Rattle.base.specs.Bools.{one_if, and_left, and_right, not_both, is_true}
 use Rattle.base.specs.Limits.{most_cells, most_slots, most_parts}
 use Rattle.base.specs.Refuse.{refuse}
@@ -19,12 +19,11 @@ use Rattle.base.specs.declared.Answer.{Answer}
 use Rattle.base.specs.declared.Answer.TheVariants.{Accepted, Refused}
 use Rattle.exchange.specs.Finite.{parts}
 use Rattle.exchange.specs.Protocol.{at_start}
-use Rattle.base.specs.Member.{Member}
 use Rattle.rounds.specs.Task.{Task, Fit, rule}
-use Rattle.rounds.specs.Rounds.{marks, phase, State, is_part, told, added, red_told, sum_told, decides, starting, holdsb}
+use Rattle.rounds.specs.Rounds.{marks, phase, State, is_part, red_told, sum_told, decides, starting, holdsb}
 use Rattle.rounds.specs.Rounded.{overb, sizedb, endedb, phase_marks}
-use Rattle.store.specs.Fields.{field, full, STAGE, PART, PARTS, CELLS, LEVELS, ROUND, RESULT, ENTRIES, WRITTEN, CURSOR, BIT, FIRST_CELL}
-use Rattle.store.specs.Fields.{FIRST_SLOT, OWNER, STATUS, MARK, RED, HOLDERS, SUM, GIVEN}
+use Rattle.store.specs.Fields.{field, full, STAGE, PART, CELLS, LEVELS, ROUND, RESULT, ENTRIES, WRITTEN, CURSOR, BIT, FIRST_CELL}
+use Rattle.store.specs.Fields.{FIRST_SLOT, OWNER, MARK, RED, HOLDERS, SUM, GIVEN}
 use Rattle.store.specs.Fields.{CORNER, FIRST_ENDED, FIRST_TAKEN, FREE, most_entries}
 use Rattle.store.specs.Header.{headerb, stageb}
 use Rattle.store.specs.Headed.{header_is, header_yes, split_is, split_no}
@@ -42,7 +41,7 @@ use Rattle.entering.specs.Bits.{bit_none}
 use Rattle.entering.specs.Lines.{part_same}
 use Rattle.entering.specs.Entered.{Stay, stay_on, columns_stay, told_none, added_none}
 use Rattle.entering.specs.Standing.{Standing, Idle}
-use Rattle.entering.specs.Turn.{Reset, Q}
+use Rattle.entering.specs.Turn.{Q}
 use Rattle.entering.specs.Steps.{head_running}
 use Rattle.entering.specs.ToMarks.{enter_marks_lem, enter_stay, enter_keeps}
 

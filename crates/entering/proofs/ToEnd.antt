@@ -1,12 +1,12 @@
 -- The end of a part: from the totals of all parts comes the result, and beside 8 or 9 the old masters and ghosts.
 -- Laws: into_end, end_stay.
-use Rattle.std.specs.Prelude.{◌≡◌, ◌⊎◌, ◌≢◌, Bool, ◌&&◌, ◌||◌, leb, length, get_or, set, take}
+use Rattle.std.specs.Prelude.{◌≡◌, ◌⊎◌, ◌≢◌, Bool, ◌||◌, leb, length, set, take}
 use Rattle.std.proofs.Math.Path.{refl, sym, ap, ap₂, subst}
 use Rattle.std.proofs.Common.{◌∙◌, inl, inr, length-set, length-append, get_or-set_same, get_or-set_other}
 use Rattle.std.proofs.Math.Bool.{true, false, or-false}
-use mathlib.Core.List.{List, [], ◌∷◌, ◌++◌, flat_map}
-use Prim.Native.Nat.{ℕ, zero, suc, ◌+◌, ◌-◌, ◌*◌, ◌≤◌, ◌<◌, min, max, Fin}
-use Rattle.std.proofs.Math.Decide.{ℕ_discrete, dec_lt}
+use mathlib.Core.List.{List, [], ◌∷◌, flat_map}
+use Prim.Native.Nat.{ℕ, zero, suc, ◌+◌, ◌≤◌, ◌<◌, max, Fin}
+use Rattle.std.proofs.Math.Decide.{dec_lt}
 use native.Mathlib.Omega.{arith}
 use Rattle.std.proofs.Math.Dec.{eqb}
 use borrow.Author.Tests.{eq-eqb, ne_eqb, le-leb, lt-leb}
@@ -16,7 +16,7 @@ use Rattle.base.specs.Range.{range}
 use Rattle.exchange.specs.Finite.{parts}
 use Rattle.exchange.specs.Protocol.{following}
 use Rattle.rounds.specs.Task.{Task}
-use Rattle.rounds.specs.Rounds.{Phase, totals, over, phase, State, is_part, told, added, red_told, sum_told, masters_told, top_told, taking}
+use Rattle.rounds.specs.Rounds.{Phase, totals, over, phase, State, is_part, red_told, sum_told, masters_told, top_told, taking}
 use Rattle.rounds.specs.Rounds.{capped}
 use Rattle.rounds.specs.Rounded.{overb, sizedb, phase_totals, phase_over}
 use Rattle.rounds.specs.Order.{order_of}
@@ -26,36 +26,25 @@ use Rattle.shares.specs.Grow.{status_new, pair_held, fresh_status, staysb, maste
 use Rattle.shares.specs.Grow.{fresh_entries}
 use Rattle.shares.specs.Grow.{entry_by, entries}
 use Rattle.merging.specs.Totals.{grown_of}
-use Rattle.store.specs.Fields.{field, full, STAGE, CELLS, LEVELS, ROUND, RESULT, ENTRIES, TOTAL, HIGH, WRITTEN, RED, SUM, MARK}
+use Rattle.store.specs.Fields.{field, STAGE, CELLS, LEVELS, ROUND, RESULT, ENTRIES, TOTAL, HIGH, RED, SUM, MARK}
 use Rattle.store.specs.Fields.{CODE, CORNER, CURSOR, FIRST_CELL, FREE, OWNER, PART, PLACE_HEAD}
 use Rattle.store.specs.Headed.{header_is}
 use Rattle.standing.specs.Busy.{L, Busy, HoldsCell, HoldsSlot}
 use Rattle.partstep.specs.Step.{end_number, old_places, finished, round_entered, part_stepped}
 use Rattle.held.specs.Held.{held_in}
-use Rattle.entering.specs.Columns.{Columns, MarksIn}
+use Rattle.entering.specs.Columns.{Columns}
 use Rattle.entering.specs.Fits.{Fitted, of_marksb, of_countsb}
 use Rattle.entering.specs.Within.{cell_low, slot_low}
-use Rattle.entering.specs.Writing.{WroteLines, wrote_none, orders_of}
+use Rattle.entering.specs.Writing.{wrote_none, orders_of}
 use Rattle.entering.specs.Entered.{Stay, columns_stay, told_none, added_none}
 use Rattle.entering.specs.Standing.{result_of, old_entry, olds, Spent, Holding, Standing}
 use Rattle.entering.specs.Placing.{held_same}
-use Rattle.entering.specs.PlacingKept.{kept_else, kept_size, kept_entries, kept_held}
+use Rattle.entering.proofs.PlacingKept.{kept_else, kept_size, kept_entries, kept_held}
 use Rattle.entering.specs.Turn.{Worked, Reset, Q, turn}
 use Rattle.entering.specs.Steps.{head_done, Wholes, last_round}
 
--- the result is one of three
+-- no result says that both limits hold; the result is one of three
 module _ (n h : ℕ) where
-  result_kind : (eqb (result_of n h) 0 || (eqb (result_of n h) 8 || eqb (result_of n h) 9)) ≡ true
-  unfolding result_of
-  result_kind = go (leb most_levels h) (leb n most_cells)
-    where
-      go : (a b : Bool) → (eqb (elim a [ true ↦ 8 | false ↦ elim b [ true ↦ 0 | false ↦ 9 ] ]) 0
-          || (eqb (elim a [ true ↦ 8 | false ↦ elim b [ true ↦ 0 | false ↦ 9 ] ]) 8
-          || eqb (elim a [ true ↦ 8 | false ↦ elim b [ true ↦ 0 | false ↦ 9 ] ]) 9)) ≡ true
-      go true b = refl
-      go false true = refl
-      go false false = refl
-
   result_none : result_of n h ≡ 0 → (h ≤ top_level) × (n ≤ most_cells)
   unfolding result_of
   result_none e = elim (dec_lt top_level h) [
@@ -69,6 +58,17 @@ module _ (n h : ℕ) where
       | no m ↦ (omega arith, omega arith)
     ]
   ]
+
+  result_kind : (eqb (result_of n h) 0 || (eqb (result_of n h) 8 || eqb (result_of n h) 9)) ≡ true
+  unfolding result_of
+  result_kind = go (leb most_levels h) (leb n most_cells)
+    where
+      go : (a b : Bool) → (eqb (elim a [ true ↦ 8 | false ↦ elim b [ true ↦ 0 | false ↦ 9 ] ]) 0
+          || (eqb (elim a [ true ↦ 8 | false ↦ elim b [ true ↦ 0 | false ↦ 9 ] ]) 8
+          || eqb (elim a [ true ↦ 8 | false ↦ elim b [ true ↦ 0 | false ↦ 9 ] ]) 9)) ≡ true
+      go true b = refl
+      go false true = refl
+      go false false = refl
 
 -- no more masters and ghosts than cells
 one_entry : (P : ℕ) (J : Task (Fin P)) (p : Fin P) (c : ℕ) → length (old_entry P J p c) ≤ 1
