@@ -1,7 +1,7 @@
 #!/usr/bin/env bash
 # Times meshlist beside a plain Rust program that lists archives, on the same archives in the same run (see README.md).
 #   bench/archive.sh [ROUNDS]        rounds: how often each time is taken (default 5); the best counts
-# The proved program is crates/meshlist: 'rt check meshlist' proves it, compiles it at -O3 and links target/bin/meshlist.
+# The proved program is crates/meshlist: 'tools/build meshlist' proves it, compiles it and writes target/bin/meshlist.
 # PROVED=PATH takes an executable that is there already, PROVED=none times the plain program alone.
 set -euo pipefail
 cd "$(dirname "$0")/.."
@@ -10,7 +10,7 @@ rounds=${1:-5}
 runs=10          # of a program, one after the other, for one time
 
 if [ -z "${PROVED:-}" ]; then
-    rt check meshlist
+    tools/build meshlist
     PROVED=$PWD/target/bin/meshlist
 fi
 cargo build --release --quiet --offline --manifest-path bench/plain/Cargo.toml --bins --examples

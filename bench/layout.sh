@@ -1,7 +1,7 @@
 #!/usr/bin/env bash
 # Times the proved layout of status tables beside the plain Rust program, on the same inputs in the same run (see README.md).
 #   bench/layout.sh [ROUNDS]         rounds: how often each time is taken (default 5); the best counts
-# The proved program is crates/try_tables: 'rt check try_tables' proves it, compiles it at -O3 and links
+# The proved program is crates/try_tables: 'tools/build try_tables' proves it, compiles it and writes
 # target/bin/try_tables. PROVED=PATH takes an executable that is there already, PROVED=none times the plain program alone.
 set -euo pipefail
 cd "$(dirname "$0")/.."
@@ -12,7 +12,7 @@ seed=1
 visits=8000000   # cells laid out between the two repeat counts
 
 if [ -z "${PROVED:-}" ]; then
-    rt check try_tables
+    tools/build try_tables
     PROVED=$PWD/target/bin/try_tables
 fi
 cargo build --release --quiet --offline --manifest-path bench/plain/Cargo.toml --bins --examples

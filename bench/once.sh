@@ -2,7 +2,7 @@
 # Times steps that are made once, each another one, beside the plain Rust program on the same inputs (see README.md). In bench/step.sh each step is made many
 # times in a row, and the processor remembers the branches of a small mesh; here it has not seen them.
 #   bench/once.sh [ROUNDS]           rounds: how often each time is taken (default 5); the best counts
-# The proved program calls yd_step of the library: 'rt staticlib yuccadice' proves it and writes the archive (YUCCADICE_LIB_DIR=DIRECTORY takes one that is
+# The proved program calls yd_step of the library: 'tools/build library' proves it and writes the archive (YUCCADICE_LIB_DIR=DIRECTORY takes one that is
 # there already). Times are of the clock, around the call alone.
 set -euo pipefail
 cd "$(dirname "$0")/.."
@@ -11,7 +11,7 @@ visits=1200000   # cells before the steps of an input
 steps=8          # steps from each table
 seed=1
 
-if [ -z "${YUCCADICE_LIB_DIR:-}" ]; then rt staticlib yuccadice >&2; fi
+if [ -z "${YUCCADICE_LIB_DIR:-}" ]; then tools/build library; fi
 cargo build --release --quiet --offline --manifest-path bench/library/Cargo.toml
 cargo build --release --quiet --offline --manifest-path bench/plain/Cargo.toml --bins --examples
 generate=bench/plain/target/release/examples/generate

@@ -1,7 +1,7 @@
 #!/usr/bin/env bash
 # Times the proved step beside the plain Rust program, on the same inputs in the same run (see README.md).
 #   bench/step.sh [ROUNDS]           rounds: how often each time is taken (default 5); the best counts
-# The proved program is bench/library, which calls yd_step of the library: 'rt staticlib yuccadice' proves it and writes the archive
+# The proved program is bench/library, which calls yd_step of the library: 'tools/build library' proves it and writes the archive
 # (YUCCADICE_LIB_DIR=DIRECTORY takes one that is there already). PROVED=PATH takes another executable, as target/bin/try_steps,
 # PROVED=none times the plain program alone.
 set -euo pipefail
@@ -14,7 +14,7 @@ seed=1
 visits=8000000   # cells before a step, between the two repeat counts
 
 if [ -z "${PROVED:-}" ]; then
-    if [ -z "${YUCCADICE_LIB_DIR:-}" ]; then rt staticlib yuccadice >&2; fi
+    if [ -z "${YUCCADICE_LIB_DIR:-}" ]; then tools/build library; fi
     cargo build --release --quiet --offline --manifest-path bench/library/Cargo.toml
     PROVED=$PWD/bench/library/target/release/library_step
 fi

@@ -5,6 +5,6 @@
 # It proves and writes the library first; YUCCADICE_LIB_DIR=DIRECTORY takes an archive that is there already.
 set -euo pipefail
 cd "$(dirname "$0")/.."
-if [ -z "${YUCCADICE_LIB_DIR:-}" ]; then rt staticlib yuccadice >&2; fi
+if [ -z "${YUCCADICE_LIB_DIR:-}" ]; then tools/build library; fi
 cargo build --release --quiet --offline --manifest-path crosscheck/Cargo.toml
 exec crosscheck/target/release/crosscheck "${@:-100000}"

@@ -1,5 +1,5 @@
 /* Refines mesh A of document 01 twice, to its case C, and prints the corners.
- * From the repository: rt staticlib yuccadice && gcc -Iinclude examples/refine.c target/staticlib/libyuccadice.a -o target/refine && target/refine */
+ * From the repository: tools/build library && gcc -Iinclude examples/refine.c target/staticlib/libyuccadice.a -o target/refine && target/refine */
 #include <stdio.h>
 #include <stdlib.h>
 

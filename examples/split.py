@@ -1,7 +1,7 @@
 #!/usr/bin/env python3
 """A split job carried by a plain loop: case C of document 01 on three parts, one step, beside the serial step.
 
-    python3 examples/split.py       after 'rt staticlib yuccadice' and bindings/build-shared
+    python3 examples/split.py       after 'tools/build library' and bindings/build-shared
 
 A program on several computers does the same with its own carrier: each keeps its parts' stores, and only messages travel.
 """

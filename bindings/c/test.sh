@@ -1,5 +1,5 @@
 #!/usr/bin/env bash
-# Tests of the header in C and C++: bindings/c/test.sh, after 'rt staticlib yuccadice'; YUCCADICE_LIB_DIR=DIRECTORY for another place of the library.
+# Tests of the header in C and C++: bindings/c/test.sh, after 'tools/build library'; YUCCADICE_LIB_DIR=DIRECTORY for another place of the library.
 set -e
 cd "$(dirname "$0")/../.."
 library=${YUCCADICE_LIB_DIR:-target/staticlib}/libyuccadice.a

@@ -120,7 +120,7 @@ def _load():
     place = _first(os.path.join(directory, "libyuccadice.so") for directory in directories)
     if place is None:
         raise ImportError(
-            "libyuccadice.so is not in %s: in the repository 'rt staticlib yuccadice' and then bindings/build-shared make it; "
+            "libyuccadice.so is not in %s: in the repository 'tools/build library' and then bindings/build-shared make it; "
             "YUCCADICE_LIB_DIR names another directory" % " or ".join(directories)
         )
     return CDLL(place)

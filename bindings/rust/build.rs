@@ -1,4 +1,4 @@
-//! Links libyuccadice.a of $YUCCADICE_LIB_DIR, or of the repository's target/staticlib, where `rt staticlib yuccadice` writes it, or of the installed tree.
+//! Links libyuccadice.a of $YUCCADICE_LIB_DIR, or of the repository's target/staticlib, where `tools/build library` writes it, or of the installed tree.
 
 use std::env;
 use std::path::PathBuf;
@@ -14,7 +14,7 @@ fn main() {
     let archive = directory.join("libyuccadice.a");
     println!("cargo:rerun-if-changed={}", archive.display());
     if !archive.is_file() {
-        panic!("there is no {}: 'rt staticlib yuccadice' writes it", archive.display());
+        panic!("there is no {}: 'tools/build library' writes it", archive.display());
     }
     println!("cargo:rustc-link-search=native={}", directory.display());
     println!("cargo:rustc-link-lib=static=yuccadice");

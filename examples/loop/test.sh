@@ -1,6 +1,6 @@
 #!/bin/sh
 # Runs the loop in Python, C and Fortran: each must make samples/plate.mesh, byte for byte, and all three print the same.
-#   examples/loop/test.sh     after 'rt staticlib yuccadice' and bindings/build-shared; YUCCADICE_LIB_DIR=DIRECTORY for another place of the library
+#   examples/loop/test.sh     after 'tools/build library' and bindings/build-shared; YUCCADICE_LIB_DIR=DIRECTORY for another place of the library
 set -e
 cd "$(dirname "$0")/../.."
 library=${YUCCADICE_LIB_DIR:-target/staticlib}/libyuccadice.a

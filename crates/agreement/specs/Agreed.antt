@@ -25,9 +25,10 @@ use Rattle.exchange.specs.Protocol.{Alone, Machine, Protocol}
 use Rattle.exchange.specs.Lockstep.{lock, mail_count, post, letters, local, post_letter, letter_post}
 use Rattle.exchange.specs.Played.{play-length}
 use Rattle.exchange.specs.Begun.{first_fine}
-use Rattle.exchange.specs.Theorem.{Can, Allowed, deterministic, begun_with, result, done_stays, moves_few, completion, all_given}
-use Rattle.exchange.specs.Theorem.{given_post}
-use Rattle.exchange.specs.Theorem.{onward as moved_on}
+use Rattle.exchange.specs.Theorem.{Can, Allowed}
+use Rattle.exchange.proofs.Theorem.{deterministic, begun_with, result, done_stays, moves_few, completion, all_given}
+use Rattle.exchange.proofs.Theorem.{given_post}
+use Rattle.exchange.proofs.Theorem.{onward as moved_on}
 use Rattle.rounds.specs.Rounds.{Body, end, State, phase}
 use Rattle.rounds.specs.Task.{Task}
 use Rattle.rounds.specs.Rounded.{protocol, overb, phase_marks, phase_counts, phase_totals, phase_over}

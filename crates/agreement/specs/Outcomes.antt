@@ -29,7 +29,7 @@ use Rattle.exchange.specs.Finite.{parts}
 use Rattle.rounds.specs.Rounds.{State, is_part}
 use Rattle.rounds.specs.Enough.{Known}
 use Rattle.rounds.specs.Rounded.{phase_over}
-use Rattle.rounds.specs.Totals.{enough_last}
+use Rattle.rounds.proofs.Totals.{enough_last}
 use Rattle.rounds.specs.Upward.{ups}
 use Rattle.parts.specs.Owners.{family_of}
 use Rattle.parts.specs.Held.{Entry, masterb, ghostb, entry_of, entries_of}
@@ -40,7 +40,8 @@ use Rattle.shares.specs.Settled.{Settled, entries_in}
 use Rattle.merging.specs.Limits.{end_of}
 use Rattle.merging.specs.Totals.{grown_of, grown_plain}
 use Rattle.merging.specs.Result.{settle, share_few}
-use Rattle.merging.specs.Run.{nth_part, number_of, named, marks_from, starts_together, final, run_answer_lem}
+use Rattle.merging.specs.Run.{nth_part, number_of, named, marks_from, starts_together, final}
+use Rattle.merging.proofs.Run.{run_answer_lem}
 use Rattle.store.specs.Fields.{field, CELLS, RESULT}
 use Rattle.split.specs.Columns.{slot_of}
 use Rattle.split.specs.Split.{split_answer}

@@ -30,14 +30,16 @@ use Rattle.rounds.specs.Rounds.{Body, mark, count, total, end, Phase, marks, cou
 use Rattle.rounds.specs.Rounds.{ghost_marks, edge_counts, says, writing}
 use Rattle.rounds.specs.Among.{is_not}
 use Rattle.rounds.specs.Enough.{Known, Marking, Counting, other_writes}
-use Rattle.rounds.specs.Rounded.{protocol, marking, to_counts, enough, phase_marks, phase_counts, phase_totals, silent}
+use Rattle.rounds.specs.Rounded.{protocol, phase_marks, phase_counts, phase_totals, silent}
+use Rattle.rounds.proofs.Rounded.{marking, to_counts, enough}
 use Rattle.rounds.specs.Turns.{Turn, in_marks, in_counts, in_totals, in_over, turn_of}
 use Rattle.rounds.specs.Totals.{before_totals, sized_last}
 use Rattle.rounds.specs.Upward.{ups}
 use Rattle.parts.specs.Owners.{family_of}
 use Rattle.parts.specs.Held.{masterb, ghostb}
 use Rattle.splitting.specs.Numbers.{numbers_of, row_by, number_inside, rows_numbers}
-use Rattle.splitting.specs.Split.{flags_red, owners_fit}
+use Rattle.splitting.specs.Split.{owners_fit}
+use Rattle.splitting.proofs.Split.{flags_red}
 use Rattle.shares.specs.Settled.{Settled}
 use Rattle.merging.specs.Totals.{grown_of, grown_plain}
 use Rattle.merging.specs.Result.{settle}

@@ -1,6 +1,6 @@
 -- What an accepted mesh says of itself, and with a table over it that is sound or accepted, of the leaves (Rules 13.1, 13.2).
--- Laws: mesh_parts (an accepted mesh), table_parts (an accepted table), table_open, table_meets (a sound table), examined_open,
--- examined_meets (an accepted one).
+-- Laws: mesh_parts (an accepted mesh), table_parts (an accepted table), table_open, examined_open; and in proofs/Accepted table_meets (a
+-- sound table), examined_meets (an accepted one).
 use Rattle.std.specs.Prelude.{◌≡◌, List, ℕ, T, ℤ}
 use Rattle.base.specs.Fours.{fours}
 use Rattle.base.specs.Refuse.{refuse, passed, both}
@@ -10,9 +10,8 @@ use Rattle.mesh.specs.Table.{soundb}
 use Rattle.mesh.specs.Answers.{table_answer}
 use Rattle.mesh.specs.Laws.{mesh_accepted}
 use Rattle.lattice.specs.Levels.{fours_four}
-use Rattle.conformity.specs.Leaves.{openb, meetb}
+use Rattle.conformity.specs.Leaves.{openb}
 use Rattle.conformity.specs.Open.{sound_open}
-use Rattle.conformity.specs.Meets.{sound_meets}
 
 module _ (ps : List ℤ) (ts : List ℕ) where
   abbrev n : ℕ
@@ -26,9 +25,6 @@ module _ (ps : List ℤ) (ts : List ℕ) where
       table_open : T (openb n (fours ts) ss)
       table_open = sound_open n (fours ts) ss (fours_four ts) mesh_parts.0 sound
 
-      table_meets : T (meetb n (fours ts) ss)
-      table_meets = sound_meets n (fours ts) ss (fours_four ts) mesh_parts.0 mesh_parts.1 sound
-
   module _ (ss : List ℕ) (e : table_answer ps ts ss ≡ Accepted) where
     pub table_parts : (mesh_answer ps ts ≡ Accepted) × T (soundb n (fours ts) ss)
     unfolding table_answer
@@ -38,6 +34,3 @@ module _ (ps : List ℤ) (ts : List ℕ) where
 
     pub examined_open : T (openb n (fours ts) ss)
     examined_open = table_open table_parts.0 ss table_parts.1
-
-    pub examined_meets : T (meetb n (fours ts) ss)
-    examined_meets = table_meets table_parts.0 ss table_parts.1

@@ -3,7 +3,7 @@
 -- Laws: off_mid, off_point (a midpoint lies where its ends do), off_used (the corners that points use lie where these do), side_off,
 -- side_bound (a triangle on a face), any_same (two tests alike), bound_three (a boundary face has three corners), wide_child,
 -- inside_bound (a triangle inside).
-use Rattle.std.specs.Prelude.{◌≡◌, refl, ◌⊎◌, Bool, true, false, ◌&&◌, ◌||◌, ℕ, suc, ◌+◌, ◌*◌, ◌-◌, ◌/◌, ◌<◌, ◌≤◌, eqb, get_or}
+use Rattle.std.specs.Prelude.{◌≡◌, refl, Bool, true, false, ◌&&◌, ◌||◌, ℕ, suc, ◌+◌, ◌*◌, ◌-◌, ◌/◌, ◌<◌, ◌≤◌, eqb, get_or}
 use Rattle.std.proofs.Math.Path.{sym}
 use Rattle.std.proofs.Common.{◌∙◌, ap, ap₂, subst, ⊎_elim, arith, eqb→eq, eq-eqb}
 use mathlib.Core.List.{List, [], ◌∷◌, map, flat_map}

@@ -4,7 +4,7 @@ use Rattle.std.specs.Prelude.{◌≡◌, Bool, T, length, get_or}
 use Rattle.std.proofs.Math.Path.{refl}
 use Rattle.std.proofs.Math.Bool.{true, false}
 use mathlib.Core.List.{List, [], ◌∷◌, ◌++◌, map}
-use Prim.Native.Nat.{ℕ, zero, suc, ◌+◌, ◌<◌, min, max}
+use Prim.Native.Nat.{ℕ, zero, suc, ◌<◌, min, max}
 use Rattle.std.proofs.Common.{arith}
 use Rattle.base.specs.Lists.{filterb, sameb}
 use Rattle.base.specs.Places.{hasb}

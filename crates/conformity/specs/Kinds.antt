@@ -15,7 +15,7 @@ use Rattle.std.proofs.Math.ListN.{get_or}
 use borrow.Author.Tests.{eqb-true}
 use Rattle.base.specs.Lists.{sameb}
 use Rattle.base.specs.Bools.{is_true, not_both}
-use Rattle.cutting.specs.Rule.{low, high, split}
+use Rattle.cutting.specs.Rule.{split}
 use Rattle.mesh.specs.Cells.{Cell, redb, pattern_of, edge, heldb, red_edges, no_cell}
 use Rattle.mesh.specs.Weights.{Point, coarse, mid, point}
 use Rattle.mesh.specs.Table.{levels_of, cells_of}

@@ -17,7 +17,5 @@ pub mod Meeting
 pub mod Onward
 pub mod Fours
 pub mod Base
-pub mod Start
 pub mod Faces
-pub mod Meets
 pub mod Accepted

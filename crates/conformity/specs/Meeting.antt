@@ -6,7 +6,7 @@
 -- Laws: bound_one, bound_two, others_are, corners_below (the corners of a face), face_digits_lem (a child's face by its digits), present_small,
 -- all_first, all_second, all_both (lists), right_at, reg (the cells of the level), old_right (an old cell keeps its faces), all_corners
 -- (points that use every corner), part_right (a child, or a cell that is not refined).
-use Rattle.std.specs.Prelude.{◌≡◌, refl, ◌⊎◌, Bool, ℕ, suc, ◌+◌, ◌*◌, ◌<◌, T, length, get_or}
+use Rattle.std.specs.Prelude.{◌≡◌, refl, Bool, ℕ, suc, ◌*◌, ◌<◌, T, length, get_or}
 use Rattle.std.proofs.Common.{sym, ◌∙◌, ap₂, ⊎_elim, arith}
 use Rattle.std.proofs.Math.Path.{ap, subst}
 use Rattle.std.proofs.Math.Bool.{true, false}

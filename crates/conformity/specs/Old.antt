@@ -5,7 +5,7 @@
 -- Laws: held_red (such an edge, by a red cell), digit_turned, old_unsplit (an edge of both is not split), old_corner (a point of a regular
 -- cell that an old one has is a corner), old_none (an old cell has no face inside, and no whole child), old_side (it has a triangle on a
 -- face exactly where it has the face).
-use Rattle.std.specs.Prelude.{◌≡◌, refl, ◌≢◌, ◌⊎◌, Bool, true, false, ◌||◌, ℕ, ◌*◌, ◌<◌, T, eqb, ltb, length, get_or}
+use Rattle.std.specs.Prelude.{◌≡◌, refl, ◌≢◌, Bool, true, false, ◌||◌, ℕ, ◌*◌, ◌<◌, T, eqb, ltb, length, get_or}
 use Rattle.std.proofs.Common.{sym, ◌∙◌, ap, subst, ⊎_elim, arith, eqb→eq, ltb→lt}
 use mathlib.Core.List.{List, [], ◌∷◌, map}
 use Rattle.std.proofs.Math.Decide.{dec_lt}

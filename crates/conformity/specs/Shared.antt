@@ -6,7 +6,7 @@
 -- shares_within, within_shares (corners of both), same_points, points_point, points_edge (cells with the same corners), map_same,
 -- all_every, one_times, none_times, no_child (no child has them, where the second cell has not those corners), inside_count (points that
 -- use every corner: the second cell is the first).
-use Rattle.std.specs.Prelude.{◌≡◌, refl, ◌⊎◌, Bool, true, false, ◌&&◌, ◌||◌, List, [], ◌∷◌, map, ℕ, ◌*◌, ◌-◌, ◌<◌, ◌≤◌, T, eqb, leb, ltb, length, get_or}
+use Rattle.std.specs.Prelude.{◌≡◌, refl, Bool, true, false, ◌&&◌, ◌||◌, List, [], ◌∷◌, map, ℕ, ◌*◌, ◌<◌, ◌≤◌, T, eqb, leb, ltb, length, get_or}
 use Rattle.std.proofs.Common.{sym, ◌∙◌, ap, ap₂, subst, ⊎_elim, arith, eqb→eq, ltb→lt, le-leb}
 use Rattle.std.proofs.lemmas.List.{length-map}
 use Rattle.base.specs.Lists.{allb, allb_at, belowb, belowb_at, sameb}

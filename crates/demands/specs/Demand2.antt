@@ -20,7 +20,8 @@ use Rattle.mesh.specs.Answers.{cells_in, corners_in, table_answer, new_table}
 use Rattle.cases.specs.Starred.{Starred, starred}
 use Rattle.numbering.specs.Corners.{weights_at}
 use Rattle.conformity.specs.Leaves.{openb, meetb}
-use Rattle.conformity.specs.Accepted.{examined_open, examined_meets}
+use Rattle.conformity.specs.Accepted.{examined_open}
+use Rattle.conformity.proofs.Accepted.{examined_meets}
 use Rattle.position.specs.Position.{position_of}
 use Rattle.layout.specs.Calls.{layout_answer}
 use Rattle.step.specs.Calls.{step_answer}

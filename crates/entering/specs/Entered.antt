@@ -27,7 +27,8 @@ use Rattle.store.specs.Fetch.{entry_count, bitb}
 use Rattle.store.specs.declared.Place.{Place}
 use Rattle.standing.specs.Walk.{spots_from}
 use Rattle.standing.specs.Busy.{L, Busy, HoldsCell, HoldsSlot, pack, part_low, held_few}
-use Rattle.standing.specs.Posting.{Longer, Matches, CountRoom, step_queue, step_sent}
+use Rattle.standing.specs.Posting.{Longer, Matches, CountRoom}
+use Rattle.standing.proofs.Posting.{step_queue, step_sent}
 use Rattle.turns.specs.Decide.{kid_count}
 use Rattle.places.specs.Put.{place_at}
 use Rattle.shares.specs.Grow.{last_of}

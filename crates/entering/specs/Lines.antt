@@ -25,7 +25,7 @@ use Rattle.rounds.specs.Upward.{ups}
 use Rattle.store.specs.Fields.{field, full, PART, PARTS, HIGH, TOTAL, WRITTEN, OWNER, FAMILY, RED, HOLDERS}
 use Rattle.store.specs.Fields.{SUM, CODE, count_code, most_entries, totals_code}
 use Rattle.store.specs.Fetch.{bitb}
-use Rattle.standing.specs.Absorbs.{and_none}
+use Rattle.standing.proofs.Absorbs.{and_none}
 use Rattle.standing.specs.Busy.{HoldsCell}
 use Rattle.standing.specs.Packed.{entry_code, entry_value, bodyb}
 use Rattle.turns.specs.Loops.{each_from}

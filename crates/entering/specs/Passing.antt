@@ -24,8 +24,9 @@ use Rattle.store.specs.declared.Fetched.TheVariants.{Message}
 use Rattle.store.specs.Fetch.{fetch_refusal, next_to_give, givesb, fetch_answer, fetch_bytes, fetch_after}
 use Rattle.store.specs.Hand.{hand_answer, hand_after}
 use Rattle.standing.specs.Walk.{passed_else, passed_length}
-use Rattle.standing.specs.Busy.{L, pack, fetch_gives}
-use Rattle.standing.specs.Absorbs.{hand_does, hand-length, hand_else}
+use Rattle.standing.specs.Busy.{L, pack}
+use Rattle.standing.proofs.Busy.{fetch_gives}
+use Rattle.standing.proofs.Absorbs.{hand_does, hand-length, hand_else}
 use Rattle.held.specs.Held.{held_in}
 use Rattle.entering.specs.Fits.{Fitted}
 use Rattle.entering.specs.Within.{cell_low}

@@ -31,7 +31,7 @@ use Rattle.store.specs.Fields.{field, PART, CELLS, ENTRIES, TOTAL, HIGH, FIRST_C
 use Rattle.store.specs.Fields.{CURSOR, PLACE_HEAD}
 use Rattle.store.specs.declared.Place.{Place}
 use Rattle.store.specs.Places.{place_of}
-use Rattle.standing.specs.Absorbs.{and_none}
+use Rattle.standing.proofs.Absorbs.{and_none}
 use Rattle.standing.specs.Busy.{HoldsCell}
 use Rattle.turns.specs.Decide.{kid_count}
 use Rattle.turns.specs.Loops.{each_from}

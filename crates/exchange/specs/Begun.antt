@@ -4,7 +4,7 @@ use Prim.Native.Nat.{ℕ, ◌<◌, Fin}
 use Rattle.std.proofs.Common.{arith, ap, ◌∙◌, length-set, get_or-set_other, eq-eqb, ne_eqb}
 use Rattle.std.proofs.Math.Decide.{ℕ_discrete}
 use Rattle.std.proofs.Math.Path.{◌≡◌, refl, sym, subst}
-use Rattle.std.specs.Prelude.{Bool, false, eqb, get_or, set}
+use Rattle.std.specs.Prelude.{get_or}
 use Rattle.std.proofs.Math.Bool.{true}
 use Rattle.std.proofs.Math.Option.{Option, none, some}
 use mathlib.Core.List.{List, [], ◌∷◌}

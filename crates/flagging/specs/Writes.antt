@@ -3,7 +3,7 @@
 -- over_at, over_part (what is written), over_again (written twice); length-flags, length_kepts; flags_both (a level before the levels above
 -- it).
 -- Assumes nothing.
-use Rattle.std.specs.Prelude.{◌≡◌, refl, Bool, ℕ, suc, ◌+◌, ◌-◌, ◌≤◌, ◌<◌, length, get_or, take, set}
+use Rattle.std.specs.Prelude.{◌≡◌, Bool, ℕ, suc, ◌+◌, ◌-◌, ◌≤◌, ◌<◌, length, get_or, take, set}
 use Rattle.std.proofs.Common.{sym, ◌∙◌, ap, length-append, drop-cons, take_at, drop_at, take-take, length-take-le, get_or-append-add}
 use mathlib.Core.List.{List, [], ◌∷◌, ◌++◌, map, map-append, append_assoc, append-nil}
 use native.Mathlib.Omega.{arith}

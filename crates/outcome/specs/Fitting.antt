@@ -27,7 +27,8 @@ use Rattle.rounds.specs.Bound.{sum_to, SmallTask, pair_few, pair_most_lem}
 use Rattle.rounds.specs.Said.{Said, taken, taken_last, untold, uncounted, counts_tell, totals_tell, over_tell, marks_count, totals_count}
 use Rattle.rounds.specs.Said.{over_count}
 use Rattle.rounds.specs.Turns.{Turn, in_marks, in_counts, in_totals, in_over, turn_of, marks_totals, counts_totals, over_totals}
-use Rattle.rounds.specs.Sums.{cells_down, SlotsOnce, own_few, own_sum, sum_few}
+use Rattle.rounds.specs.Sums.{cells_down, SlotsOnce}
+use Rattle.rounds.proofs.Sums.{own_few, own_sum, sum_few}
 use Rattle.standing.specs.Busy.{pack, CanTake}
 use Rattle.merging.specs.Totals.{grown_of, grown_plain}
 use Rattle.entering.specs.Fits.{Fitted, of_marksb, of_countsb}

@@ -39,7 +39,8 @@ use Rattle.store.proofs.Fetching.{before_start}
 use Rattle.store.specs.Hand.{hand_answer, hand_after}
 use Rattle.store.specs.Handing.{refuse_on}
 use Rattle.store.specs.declared.Fetched.{Fetched}
-use Rattle.standing.specs.Busy.{L, pack, HoldsCell, Busy, hand_is, fetch_nothing, fetch_some}
+use Rattle.standing.specs.Busy.{L, pack, HoldsCell, Busy, hand_is, fetch_nothing}
+use Rattle.standing.proofs.Busy.{fetch_some}
 use Rattle.merging.specs.Totals.{grown_of}
 use Rattle.turns.specs.Loops.{some_from}
 use Rattle.turns.specs.Start.{start_answer, start_after}

@@ -3,7 +3,9 @@
 
 ghost use Rattle.std.specs.Prelude.{◌<◌};
 
-fn print_child(digits: [u8; 32], k: usize)
+use std::io;
+
+fn print_child(rt: &impl Print, digits: [u8; 32], k: usize) -> io::Result<()>
     requires { k < 8 }
 {
     let at = 4 * k;
@@ -14,28 +16,30 @@ fn print_child(digits: [u8; 32], k: usize)
         b'0' + digits[at + 2] % 10,
         b'0' + digits[at + 3] % 10,
     ];
-    io::write_all(1, &text);
+    rt.write_all(&text)
 }
 
-fn print_children(digits: [u8; 32], count: usize) {
+fn print_children(rt: &impl Print, digits: [u8; 32], count: usize) -> io::Result<()> {
     for k in 0..8 {
         if k < count {
-            print_child(digits, k);
+            print_child(rt, digits, k)?;
         }
     }
+    Ok(())
 }
 
-fn print_family(pattern: u8) {
+fn print_family(rt: &impl Print, pattern: u8) -> io::Result<()> {
     let family = cutting::cut(pattern);
     let digits = family.digits;
     let count = family.count as usize;
-    io::print_decimal(1, pattern as u64);
-    print_children(digits, count);
-    io::write_all(1, b"\n");
+    print!(rt; "{pattern}")?;
+    print_children(rt, digits, count)?;
+    println!(rt; "")
 }
 
-fn main() {
+fn main(rt: HostRuntime) -> io::Result<()> {
     for pattern in 0u8..64 {
-        print_family(pattern);
+        print_family(&rt, pattern)?;
     }
+    Ok(())
 }

@@ -2,7 +2,7 @@
 --   to_all ps t b     a message for the parts of the list ps that pass a test
 --   order_of ps f p s   the messages with their receivers
 -- Law: ordered (those for one part are what the part writes for it), where each part stands once in ps.
-use Rattle.std.specs.Prelude.{◌≡◌, Bool, ◌&&◌, ℕ, ◌+◌, ◌-◌, eqb}
+use Rattle.std.specs.Prelude.{◌≡◌, Bool, ◌&&◌, ℕ, ◌-◌, eqb}
 use Rattle.std.proofs.Math.Path.{refl, sym, ap, ap₂, subst}
 use Rattle.std.proofs.Common.{◌∙◌}
 use Rattle.std.proofs.Math.Bool.{true, false, not}

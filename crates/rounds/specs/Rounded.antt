@@ -1,10 +1,10 @@
 -- The rounds (rule 15.7) as a protocol of the exchange, and what each part knows after them.
 --   protocol pack reads     the rounds, where pack makes a message of its heading and body, and reads tells marks by cell from an input
--- Laws: phase_marks, phase_counts, phase_totals (which round exchanges what), enough (after the rounds of all levels each part knows
--- the new red cells among its masters and ghosts, and the edges of new red cells among theirs), and the laws that the exchange
--- asks of what is written: silent, whole_is, whole_all.
+-- Laws: phase_marks, phase_counts, phase_totals (which round exchanges what), the laws that the exchange asks of what is written: silent,
+-- whole_is, whole_all; and in proofs/Rounded enough (after the rounds of all levels each part knows the new red cells among its masters and
+-- ghosts, and the edges of new red cells among theirs).
 use Rattle.std.specs.Prelude.{◌≡◌, Bool, ◌&&◌, eqb, length, take}
-use Rattle.std.proofs.Math.Path.{refl, ap, ap₂, subst}
+use Rattle.std.proofs.Math.Path.{refl, ap, ap₂}
 use Rattle.std.proofs.Common.{sym, ◌∙◌, lt-ltb, le-ltb}
 use Rattle.std.proofs.Math.Bool.{true, false, ◌||◌, not, or-true}
 use mathlib.Core.List.{List, [], ◌∷◌, ◌++◌, map}
@@ -22,7 +22,6 @@ use Rattle.rounds.specs.Rounds.{Body, mark, count, total, end, Phase, marks, cou
 use Rattle.rounds.specs.Rounds.{holdsb}
 use Rattle.rounds.specs.Rounds.{starting, ghost_marks, edge_counts, says, writing, taking}
 use Rattle.rounds.specs.Order.{order_of}
-use Rattle.rounds.specs.Enough.{Known, Marking, Counting, at_start_lem, marks_known, counts_known, last_known}
 
 -- which round exchanges what
 after_counts : (top i : ℕ) → i < top → after top (counts i) ≡ marks (suc i)
@@ -210,23 +209,3 @@ module _ {Part : Type 0} (F : Finite Part) (J : Task Part) (grown : Part → Sta
         → at (suc r) p ≡ taking F J grown f p (at r p) (λ q. writing F J f q p (at r q))
     unfolding lock
     lock_on r f e p = ap (λ (f : Phase). taking F J grown f p (at r p) (λ q. writing F J f q p (at r q))) e
-
-    pub to_counts : (i : ℕ) → i ≤ J.top → ((p : Part) → Marking F J ms i p (at (i + i) p)) → (p : Part)
-        → Counting F J ms i p (at (suc (i + i)) p)
-    to_counts i h w p = rw (lock_on (i + i) (marks i) (phase_marks J.top i h) p) (marks_known F J ms fit i h (at (i + i)) w p grown)
-
-    pub marking : (i : ℕ) → i ≤ J.top → (p : Part) → Marking F J ms i p (at (i + i) p)
-    unfolding lock
-    marking zero h p = at_start_lem F J ms fit p (reads p (input p)) (given p)
-    marking (suc i) h p =
-        let z : suc i + suc i ≡ suc (suc (i + i)) = omega arith in
-        let w : (q : Part) → Counting F J ms i q (at (suc (i + i)) q) = to_counts i (omega arith) (λ q. marking i (omega arith) q) in
-        subst (λ (r : ℕ). Marking F J ms (suc i) p (at r p)) (sym z)
-        (rw (lock_on (suc (i + i)) (counts i) (phase_counts J.top i (omega arith)) p)
-        (counts_known F J ms fit i (omega arith) (at (suc (i + i))) w p grown (omega arith)))
-
-    pub enough : (p : Part) → Known F J ms (suc J.top) p (at (suc (suc (J.top + J.top))) p)
-    enough p =
-        let t = J.top in
-        rw (lock_on (suc (t + t)) (counts t) (phase_counts t t (omega arith)) p)
-        (last_known F J ms fit t (omega arith) (at (suc (t + t))) (to_counts t (omega arith) (marking t (omega arith))) p grown)

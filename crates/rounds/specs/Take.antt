@@ -2,7 +2,7 @@
 -- up and keep the highest level; a message of another kind changes nothing.
 --   one_more        what is taken, with one message more
 -- Laws: added-take, masters-take, top-take, told-take, and as they are stored red-take, sum-take.
-use Rattle.std.specs.Prelude.{◌≡◌, ◌⊎◌, Bool, ◌||◌}
+use Rattle.std.specs.Prelude.{◌≡◌, Bool, ◌||◌}
 use Rattle.std.proofs.Math.Path.{refl, ap, subst}
 use Rattle.std.proofs.Common.{sym, ◌∙◌}
 use Rattle.std.proofs.Math.Logic.{⊎_elim}

@@ -1,6 +1,7 @@
 -- The round of totals: after it each part knows how many cells there will be, cut at 4,097, and their top level.
 --   Plain grown, before_totals, after_totals    the own totals do not depend on totals; the states at the beginning of the round and after it
--- Laws: sized_last (a part enters the round with its own totals), totals_known (after the round it has those of all parts), enough_last.
+-- Laws: sized_last (a part enters the round with its own totals), totals_known (after the round it has those of all parts), enough_last
+-- (proofs/Totals).
 use Rattle.std.specs.Prelude.{◌≡◌}
 use Rattle.std.proofs.Common.{sym, ◌∙◌}
 use Rattle.std.proofs.Math.Path.{ap, subst, fun_ext}
@@ -9,12 +10,11 @@ use Prim.Native.Nat.{ℕ, suc, ◌+◌, ◌≤◌, max, Fin}
 use native.Mathlib.Omega.{arith}
 use Rattle.exchange.specs.Finite.{Finite, parts, sum_over, sum_change}
 use Rattle.exchange.specs.Lockstep.{lock}
-use Rattle.rounds.specs.Task.{Task, Fit}
+use Rattle.rounds.specs.Task.{Task}
 use Rattle.rounds.specs.Rounds.{Body, total, end, Phase, counts, totals, State, masters_in, top_in, capped, largest, masters_told}
 use Rattle.rounds.specs.Rounds.{top_told, red_down, sum_told, counting, sized, says, writing, taking}
 use Rattle.rounds.specs.Among.{sum_cut, largest_more, is_self, is_not}
-use Rattle.rounds.specs.Enough.{Known}
-use Rattle.rounds.specs.Rounded.{protocol, phase_counts, phase_totals, enough}
+use Rattle.rounds.specs.Rounded.{protocol, phase_counts, phase_totals}
 
 -- grown tells the own totals from flags, counts and marks alone
 abbrev pub Plain : {Part : Type 0} → (Part → State → ℕ × ℕ) → Type 0
@@ -112,7 +112,7 @@ module _ (P : ℕ) (J : Task (Fin P)) (grown : Fin P → State → ℕ × ℕ) (
           | no n ↦ omega (arith, top_other q n)
         ]
 
-    after_totals_lem : after_totals p ≡ taking F J grown totals p (before_totals p) tells_total
+    pub after_totals_lem : after_totals p ≡ taking F J grown totals p (before_totals p) tells_total
     unfolding lock
     after_totals_lem = ap (λ (f : Phase). taking F J grown f p (before_totals p) (λ q. writing F J f q p (before_totals q)))
         (phase_totals J.top)
@@ -132,11 +132,3 @@ module _ (P : ℕ) (J : Task (Fin P)) (grown : Fin P → State → ℕ × ℕ) (
 
         largest_agree : {f g : Fin P → ℕ} → ((q : Fin P) → f q ≡ g q) → (l : List (Fin P)) → largest f l ≡ largest g l
         largest_agree {f} {g} h l = ap (λ (k : Fin P → ℕ). largest k l) (fun_ext h)
-
-    -- flags and counts are those of the rounds before_totals
-    pub enough_last : (fit : Fit J) (ms : ℕ → ℕ) → ((q : Fin P) (c : ℕ) → J.owner c ≡ q → reads q (input q) c ≡ ms c)
-        → Known F J ms (suc J.top) p (after_totals p)
-    unfolding taking
-    enough_last fit ms given =
-        let k = enough F J grown ps pack reads fit ms input given p in
-        subst (Known F J ms (suc J.top) p) (sym after_totals_lem) (record { given = k.given; red = k.red; hit = k.hit; own = k.own })

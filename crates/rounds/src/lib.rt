@@ -1,3 +1,2 @@
 // The rounds of a split step. There is no code here: see specs/.
 #![tactic(auto)]
-

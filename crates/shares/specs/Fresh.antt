@@ -39,7 +39,8 @@ use Rattle.parts.specs.Owners.{nth_cell, children_of}
 use Rattle.splitting.specs.Numbers.{numbers_of, row_by, at_level, stands, kid, kid_in, row_of_cell}
 use Rattle.succession.specs.After.{new_edges, new_red_row, new_status_lem}
 use Rattle.succession.specs.FreshEdge.{fresh_edge}
-use Rattle.splitting.specs.Split.{Slots, Owners, fits, flags_red, hits}
+use Rattle.splitting.specs.Split.{Slots, Owners, fits}
+use Rattle.splitting.proofs.Split.{flags_red, hits}
 use Rattle.shares.specs.Grow.{last_of, last_snoc, held_now, status_new, pair_held, fresh_status, fresh_is}
 use Rattle.shares.specs.Settled.{Settled, task_in, new_level_in, num_in}
 

@@ -3,18 +3,17 @@
 --   CanTake p b                     a body that the part can take
 --   Good p l                        the place has room in a store
 --   Busy p l x                      the store x stands at the place l
--- Laws: fetch_none, fetch_some (by the walk), fetch_nothing, fetch_gives (as the call answers), hand_is.
-use Rattle.std.specs.Prelude.{◌≡◌, ◌≢◌, ◌⊎◌, Bool, ◌&&◌, ◌||◌, not, List, [], ◌∷◌, ◌++◌, T, eqb, ltb, leb, length, get_or}
+-- Laws: fetch_none, fetch_nothing, hand_is; and in proofs/Busy fetch_some (by the walk), fetch_gives (as the call answers).
+use Rattle.std.specs.Prelude.{◌≡◌, ◌≢◌, Bool, ◌&&◌, ◌||◌, not, List, [], ◌∷◌, ◌++◌, T, eqb, ltb, leb, length, get_or}
 use Rattle.std.proofs.Math.Path.{refl, ap}
-use Rattle.std.proofs.Common.{sym, ◌∙◌, subst, inl, inr, arith, eqb→eq, eq-eqb}
+use Rattle.std.proofs.Common.{sym, ◌∙◌, subst, arith, eqb→eq, eq-eqb}
 use Rattle.std.proofs.Math.Bool.{true, false}
-use Prim.Native.Nat.{ℕ, suc, ◌+◌, ◌-◌, ◌*◌, ◌≤◌, ◌<◌, Fin, max}
-use Rattle.std.proofs.lemmas.List.Edits.{sets}
+use Prim.Native.Nat.{ℕ, suc, ◌+◌, ◌*◌, ◌≤◌, ◌<◌, Fin, max}
 use Rattle.base.specs.Bools.{one_if, is_false, and_left, and_right, not_both}
 use Rattle.base.specs.Limits.{most_cells, most_levels, most_slots, too_many, most_parts}
 use Rattle.base.specs.declared.Answer.TheVariants.{Accepted}
 use Rattle.exchange.specs.Finite.{parts}
-use Rattle.exchange.specs.Protocol.{Local, with_queue}
+use Rattle.exchange.specs.Protocol.{Local}
 use Rattle.base.specs.Member.{Member}
 use Rattle.rounds.specs.Task.{Task}
 use Rattle.rounds.specs.Rounds.{Body, mark, count, total, end, State, phase, is_part, mine, holdsb, red_told, sum_told, capped, masters_told}
@@ -22,17 +21,16 @@ use Rattle.rounds.specs.Rounds.{top_told}
 use Rattle.rounds.specs.Among.{is_eq}
 use Rattle.rounds.specs.Rounded.{wholeb, endedb, overb, sizedb}
 use Rattle.store.specs.Fields.{field, full, STAGE, PART, PARTS, CELLS, LEVELS, ROUND, RESULT, CURSOR, BIT, OWNER, RED, HOLDERS, SUM}
-use Rattle.store.specs.Fields.{TOTAL, HIGH, ENDED, FIRST_ENDED, FIRST_TAKEN, GIVEN, TAKEN, WRITTEN}
+use Rattle.store.specs.Fields.{TOTAL, HIGH, ENDED, FIRST_ENDED, FIRST_TAKEN, TAKEN}
 use Rattle.store.specs.Header.{stageb, headerb}
 use Rattle.store.specs.Message.{message_of}
-use Rattle.store.specs.declared.Fetched.TheVariants.{Message, Nothing}
-use Rattle.store.specs.Fetch.{entry_count, next_to_give, given, passed_by, fetch_answer, fetch_bytes, fetch_after}
-use Rattle.store.proofs.Fetching.{none_left, some_left}
+use Rattle.store.specs.declared.Fetched.TheVariants.{Nothing}
+use Rattle.store.specs.Fetch.{entry_count, next_to_give, fetch_answer, fetch_bytes, fetch_after}
+use Rattle.store.proofs.Fetching.{none_left}
 use Rattle.store.specs.Hand.{number_at, shapeb, routeb, contentb, wellb, hand_answer}
 use Rattle.store.specs.Handing.{TakesIt, taken_is}
 use Rattle.store.specs.Headed.{header_is}
-use Rattle.standing.specs.Walk.{left_of, given_after, queue_of, given_to, fetch_empty, fetch_first, fetch_rest, passed_entry}
-use Rattle.standing.specs.Walk.{posted_passed, posted_written, passed_else, passed_length}
+use Rattle.standing.specs.Walk.{left_of, given_after, queue_of, given_to, fetch_empty}
 use Rattle.standing.specs.Packed.{bodyb, entry_code, entry_value, packed, read}
 
 stage_of : ℕ → ℕ → ℕ → ℕ → Bool
@@ -141,52 +139,7 @@ module _ (P : ℕ) (J : Task (Fin P)) where
     fetch_none : l.queue ≡ [] → (next_to_give x).bit ≡ 16
     fetch_none e = fetch_empty x u.long (u.queue ∙ e)
 
-    pub fetch_some : (m : List ℕ) (w : List (List ℕ)) → l.queue ≡ m ∷ w → ((next_to_give x).bit < 16) × (given x (next_to_give x) ≡ m)
-        × Busy p (with_queue l w) (passed_by x (next_to_give x))
-    fetch_some m w e =
-        let (a, b, c) = fetch_first x u.long m w (u.queue ∙ e) in
-        let same : (i : ℕ) → i < CURSOR ⊎ ((WRITTEN ≤ i × i < GIVEN) ⊎ OWNER ≤ i)
-        → field (passed_by x (next_to_give x)) i ≡ field x i = keep a in
-        let v = fetch_rest x u.long m w (u.queue ∙ e) in
-        let e12 = passed_entry x (next_to_give x) u.long a in
-        let wr = posted_written x (passed_by x (next_to_give x)) (posted_passed x (next_to_give x) a) in (
-          a,
-          b,
-          record {
-            long = omega (arith, passed_length x (next_to_give x), u.long);
-            header = header_same x (passed_by x (next_to_give x)) (λ i h. same i (inl (omega arith))) ∙ u.header;
-            running = λ o. same STAGE (inl (omega arith)) ∙ u.running o;
-            done = λ o. same STAGE (inl (omega arith)) ∙ u.done o;
-            part = same PART (inl (omega arith)) ∙ u.part;
-            many = same PARTS (inl (omega arith)) ∙ u.many;
-            round = same ROUND (inl (omega arith)) ∙ u.round;
-            taken = λ q. same (FIRST_TAKEN + q.0) (inr (inl (omega arith, omega (arith, part_low q)))) ∙ u.taken q;
-            ends = λ q i o. same (FIRST_ENDED + q.0) (inr (inl (omega arith, omega (arith, part_low q)))) ∙ u.ends q i o;
-            queue = c;
-            sent = λ q. v.1 q.0 (part_low q) ∙ u.sent q;
-            cursor = (omega (arith, v.0, e12, wr), λ z. absurd (omega (arith, v.0, e12, wr, z)));
-            cells = λ d h. (
-              subst (λ (n : ℕ). d < n) (sym (same CELLS (inl (omega arith)))) (u.cells d h).0,
-              λ z. (u.cells d h).1 (sym (same (OWNER + d) (inr (inr (omega arith)))) ∙ z),
-            );
-            slots = λ s h. ((u.slots s h).0, λ z. (u.slots s h).1 (sym (same (HOLDERS + s) (inr (inr (omega arith)))) ∙ z));
-            red = λ d h. same (RED + d) (inr (inr (omega arith))) ∙ u.red d h;
-            sum = λ s h. same (SUM + s) (inr (inr (omega arith))) ∙ u.sum s h;
-            total = λ o. same TOTAL (inl (omega arith)) ∙ u.total o;
-            high = λ o. same HIGH (inl (omega arith)) ∙ u.high o;
-          },
-        )
-      where
-        keep : (next_to_give x).bit < 16 → (i : ℕ) → i < CURSOR ⊎ ((WRITTEN ≤ i × i < GIVEN) ⊎ OWNER ≤ i)
-            → field (passed_by x (next_to_give x)) i ≡ field x i
-        keep a i (inl h) = passed_else x (next_to_give x) i (λ z. absurd (omega (arith, z))) (λ z. absurd (omega (arith, z)))
-            (λ z. absurd (omega (arith, z)))
-        keep a i (inr (inl h)) = passed_else x (next_to_give x) i (λ z. absurd (omega (arith, z, h.0)))
-            (λ z. absurd (omega (arith, z, h.0))) (λ z. absurd (omega (arith, z, h.1)))
-        keep a i (inr (inr h)) = passed_else x (next_to_give x) i (λ z. absurd (omega (arith, z))) (λ z. absurd (omega (arith, z)))
-            (λ z. absurd (omega (arith, z, a)))
-
-    started : field x STAGE ≡ 0 → ⊥
+    pub started : field x STAGE ≡ 0 → ⊥
     started z = go (overb (phase J.top l.round)) refl
       where
         go : (o : Bool) → overb (phase J.top l.round) ≡ o → ⊥
@@ -199,18 +152,6 @@ module _ (P : ℕ) (J : Task (Fin P)) where
       fetch_nothing e =
           let f = none_left x out u.long room u.header started (next_to_give x) refl (omega (arith, fetch_none e)) in
           (sym f.answer, sym f.bytes, sym f.after)
-
-      pub fetch_gives : (m : List ℕ) (w : List (List ℕ)) → l.queue ≡ m ∷ w
-          → (fetch_answer x out ≡ Message (length m)) × (fetch_bytes x out ≡ sets out 0 m) × Busy p (with_queue l w) (fetch_after x out)
-      fetch_gives m w e =
-          let (a, b, c) = fetch_some m w e in
-          let f = some_left x out u.long room u.header started (next_to_give x) refl a (length (given x (next_to_give x)))
-          (sets out 0 (given x (next_to_give x))) (passed_by x (next_to_give x)) refl refl refl in (
-            sym f.answer ∙ ap (λ (m : List ℕ). Message (length m)) b,
-            sym f.bytes
-                ∙ ap (sets out 0) b,
-            subst (λ (z : List ℕ). Busy p (with_queue l w) z) f.after c,
-          )
 
     pub not_from_self : (q : Fin P) → q.0 ≢ p.0 → is_part (parts P) q p ≡ false
     not_from_self q d = go (is_part (parts P) q p) refl

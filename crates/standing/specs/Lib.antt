@@ -2,7 +2,6 @@ pub mod Walk
 pub mod Packed
 pub mod Taking
 pub mod Busy
-pub mod Absorbs
 pub mod Posting
 pub mod Receivers
 pub mod Sample

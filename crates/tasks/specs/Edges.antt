@@ -29,7 +29,8 @@ use Rattle.base.specs.Member.{Member, member_cases}
 use Rattle.parts.specs.Owners.{nth_cell}
 use Rattle.splitting.specs.Numbers.{numbers_of, number_inside}
 use Rattle.splitting.specs.Split.{Slots}
-use Rattle.splitting.specs.Keyed.{keyed_slot, keyed_slots, keyed_slots_lem}
+use Rattle.splitting.specs.Keyed.{keyed_slot, keyed_slots}
+use Rattle.splitting.proofs.Keyed.{keyed_slots_lem}
 use Rattle.split.specs.Columns.{numbered_cell, keys_at, slots_below}
 use Rattle.split.specs.Messages.{level_slots}
 use Rattle.tasks.specs.Levels.{level_range}

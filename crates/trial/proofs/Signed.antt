@@ -5,7 +5,7 @@
 --   raised_above  it is how far the number lies above the least i32
 --   wide_fits, sum_fits, sum_is   the same of the bits that the program holds
 --   low_half, high_half    two's complement below 2 ^ 31, and from there on
-use mathlib.Core.Path.{◌≡◌, refl, sym, ap, ◌∙◌}
+use mathlib.Core.Path.{◌≡◌, refl, ap, ◌∙◌}
 use Prim.Native.Nat.{ℕ, zero, suc, ◌+◌, ◌-◌, ◌<◌, ◌≤◌}
 use native.Mathlib.Nat.{zero-add}
 use native.Mathlib.Omega.{arith}

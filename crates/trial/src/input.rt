@@ -3,6 +3,8 @@ ghost use Rattle.std.specs.Prelude.{◌≡◌, ◌++◌, ◌+◌, ◌*◌, ◌<�
 ghost use Rattle.trial.specs.Input.{word_at, long_at, twos, signed_at, FrontRead, ListRead, MeshRead};
 ghost use Rattle.trial.specs.Pattern.{tab_of};
 
+use std::io::Read;
+
 // Two bytes as a number.
 fn word(low: u8, high: u8) -> u32
     ensures { (result ≡ low + 256 * high) × (result < 65536) }
@@ -18,21 +20,37 @@ pub fn number(bytes: &[u8], k: usize) -> usize
     word(bytes[2 * k], bytes[2 * k + 1]) as usize
 }
 
-// Fills the list with bytes. False where the input ends. Only its length can be promised: what the input holds is free.
-pub fn read_all(list: &mut [u8]) -> bool
+// Reads until the list is full, the input ends or a read fails, and answers how many bytes it put at the front of the list.
+fn read_full(reader: &mut impl Read, list: &mut [u8]) -> usize
+    ensures { result ≤ length list.new }
+{
+    let mut done = 0;
+    while done < list.len() {
+        match reader.read(&mut list[done..]) {
+            Ok(0) => return done,
+            Ok(n) => done += n,
+            Err(_) => return done,
+        }
+    }
+    done
+}
+
+// Fills the list with bytes. False where the input ends; a read that fails ends it. Only its length can be promised: what the input holds
+// is free.
+pub fn read_all(rt: &impl Input, list: &mut [u8]) -> bool
     ensures { length list.new ≡ length list.old }
 {
-    io::read_full(0, list) == list.len()
+    read_full(&mut rt.reader(), list) == list.len()
 }
 
 // Fills the first n places of a list with bytes. False where the list is shorter or the input ends.
-pub fn read_bytes(list: &mut [u8], n: usize) -> bool
+pub fn read_bytes(rt: &impl Input, list: &mut [u8], n: usize) -> bool
     ensures { FrontRead result n list.old list.new }
 {
     if n > list.len() {
         return false;
     }
-    read_all(&mut list[0..n])
+    read_all(rt, &mut list[0..n])
 }
 
 // The number whose bits these are, in two's complement.
@@ -104,7 +122,7 @@ fn decode_cells(bytes: &[u8], list: &mut [u16], n: usize)
 }
 
 // Reads n coordinates into the first places of a list, by way of room. False where one of them is too short or the input ends.
-pub fn read_positions(room: &mut [u8], list: &mut [i32], n: usize) -> bool
+pub fn read_positions(rt: &impl Input, room: &mut [u8], list: &mut [i32], n: usize) -> bool
     ensures { FrontRead result (4 * n) room.old room.new × ListRead result n (signed_at room.new) list.old list.new }
 {
     if n > list.len() {
@@ -113,7 +131,7 @@ pub fn read_positions(room: &mut [u8], list: &mut [i32], n: usize) -> bool
     if n > room.len() / 4 {
         return false;
     }
-    if !read_bytes(room, 4 * n) {
+    if !read_bytes(rt, room, 4 * n) {
         return false;
     }
     decode_positions(room, list, n);
@@ -121,7 +139,7 @@ pub fn read_positions(room: &mut [u8], list: &mut [i32], n: usize) -> bool
 }
 
 // The same with corner or cell numbers.
-pub fn read_cells(room: &mut [u8], list: &mut [u16], n: usize) -> bool
+pub fn read_cells(rt: &impl Input, room: &mut [u8], list: &mut [u16], n: usize) -> bool
     ensures { FrontRead result (2 * n) room.old room.new × ListRead result n (word_at room.new) list.old list.new }
 {
     if n > list.len() {
@@ -130,7 +148,7 @@ pub fn read_cells(room: &mut [u8], list: &mut [u16], n: usize) -> bool
     if n > room.len() / 2 {
         return false;
     }
-    if !read_bytes(room, 2 * n) {
+    if !read_bytes(rt, room, 2 * n) {
         return false;
     }
     decode_cells(room, list, n);
@@ -139,6 +157,7 @@ pub fn read_cells(room: &mut [u8], list: &mut [u16], n: usize) -> bool
 
 // Reads the lists of a mesh, one behind the other, by way of the same room.
 pub fn read_mesh(
+    rt: &impl Input,
     room: &mut [u8],
     positions: &mut [i32],
     cells: &mut [u16],
@@ -147,8 +166,8 @@ pub fn read_mesh(
 ) -> bool
     ensures { MeshRead result position_count cell_count room.old room.new positions.old positions.new cells.old cells.new }
 {
-    if !read_positions(room, positions, position_count) {
+    if !read_positions(rt, room, positions, position_count) {
         return false;
     }
-    read_cells(room, cells, cell_count)
+    read_cells(rt, room, cells, cell_count)
 }

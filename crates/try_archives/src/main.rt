@@ -6,10 +6,11 @@ mod print;
 
 use base::{MOST_COARSE_CELLS, MOST_COARSE_CORNERS};
 use jobs::{Lengths, Reading, Replayed, Writing};
+use std::io;
 use trial::{input, pattern};
 
 // What an archive begins with.
-#[derive(Drop)]
+#[derive(Clone, Copy)]
 struct Archive {
     // Which lent table is short: 1 to 5 of those for reading, 6 and 7 of those for replaying, 0 none.
     short: usize,
@@ -18,7 +19,7 @@ struct Archive {
 }
 
 // What a job to be written begins with.
-#[derive(Drop)]
+#[derive(Clone, Copy)]
 struct Job {
     // Whether the lent table is short.
     short: bool,
@@ -37,9 +38,9 @@ enum Next {
     End,
 }
 
-fn read_header() -> Next {
+fn read_header(rt: &impl Input) -> Next {
     let mut bytes = [0u8; 24];
-    if !input::read_all(&mut bytes) {
+    if !input::read_all(rt, &mut bytes) {
         return Next::End;
     }
     let kind = input::number(&bytes, 0);
@@ -90,27 +91,28 @@ fn replay(archive: &[u8], table: &mut [u8], counts: &mut [u16]) -> Replayed {
     jobs::replay(archive, table, counts)
 }
 
-fn try_list(archive: &[u8]) {
+fn try_list(rt: &impl Print, archive: &[u8]) -> io::Result<()> {
     let mut out = [0u8; 512];
     let n = jobs::list(archive, &mut out);
-    io::write_all(1, &out[..n]);
+    rt.write_all(&out[..n])
 }
 
-fn print_writing(writing: Writing) {
+fn print_writing(rt: &impl Print, writing: Writing) -> io::Result<()> {
     match writing {
         Writing::Bytes(n) => {
-            print::first(0);
-            print::number(n as u64);
+            print::first(rt, 0)?;
+            print::number(rt, n as u64)
         }
         Writing::Refused(k) => {
-            print::first(k as u64);
-            print::number(0);
+            print::first(rt, k as u64)?;
+            print::number(rt, 0)
         }
     }
 }
 
 // Writes a job into a table that holds a known pattern, lent short or not, and prints its line.
 fn write_in(
+    rt: &impl Print,
     positions: &[i32],
     cells: &[u16],
     marked: &[u16],
@@ -118,81 +120,85 @@ fn write_in(
     ends: &[u16],
     bytes: &mut [u8],
     short: bool,
-) {
+) -> io::Result<()> {
     pattern::fill_bytes(bytes);
     let n = pattern::lent(bytes.len(), short);
     let writing = write(positions, cells, marked, marks, ends, &mut bytes[0..n]);
-    print_writing(writing);
-    print::number(pattern::checksum_bytes(bytes));
-    print::end();
+    print_writing(rt, writing)?;
+    print::number(rt, pattern::checksum_bytes(bytes))?;
+    print::end(rt)
 }
 
 fn try_write(
+    rt: &impl Print,
     positions: &[i32],
     cells: &[u16],
     marked: &[u16],
     marks: &[u8],
     ends: &[u16],
     short: bool,
-) {
+) -> io::Result<()> {
     let mut bytes = [0u8; 65536];
-    write_in(positions, cells, marked, marks, ends, &mut bytes, short);
+    write_in(rt, positions, cells, marked, marks, ends, &mut bytes, short)
 }
 
 // Writes the job of the first places of the given lists. False where one is too short.
 fn write_parts(
+    rt: &impl Print,
     positions: &[i32],
     cells: &[u16],
     marked: &[u16],
     marks: &[u8],
     ends: &[u16],
     job: Job,
-) -> bool {
+) -> io::Result<bool> {
     let p = job.positions;
     let c = job.cells;
     let k = job.marked;
     let m = job.marks;
     let e = job.ends;
     if p > positions.len() {
-        return false;
+        return Ok(false);
     }
     if c > cells.len() {
-        return false;
+        return Ok(false);
     }
     if k > marked.len() {
-        return false;
+        return Ok(false);
     }
     if m > marks.len() {
-        return false;
+        return Ok(false);
     }
     if e > ends.len() {
-        return false;
+        return Ok(false);
     }
     try_write(
+        rt,
         &positions[0..p],
         &cells[0..c],
         &marked[0..k],
         &marks[0..m],
         &ends[0..e],
         job.short,
-    );
-    true
+    )?;
+    Ok(true)
 }
 
 // Writes the job that was read.
 fn write_back(
+    rt: &impl Print,
     positions: &[i32],
     cells: &[u16],
     marked: &[u16],
     marks: &[u8],
     ends: &[u16],
     lengths: Lengths,
-) {
+) -> io::Result<()> {
     if lengths.corners > MOST_COARSE_CORNERS {
-        return;
+        return Ok(());
     }
     if lengths.cells > MOST_COARSE_CELLS {
-        return;
+        return Ok(());
     }
     let job = Job {
         short: false,
@@ -202,35 +208,37 @@ fn write_back(
         marks: lengths.marks,
         ends: lengths.steps,
     };
-    write_parts(positions, cells, marked, marks, ends, job);
+    write_parts(rt, positions, cells, marked, marks, ends, job)?;
+    Ok(())
 }
 
-fn print_reading(reading: Reading) {
+fn print_reading(rt: &impl Print, reading: &Reading) -> io::Result<()> {
     match reading {
         Reading::Job(n) => {
-            print::first(0);
-            print::two(n.corners as u64, n.cells as u64);
-            print::two(n.marks as u64, n.steps as u64);
+            print::first(rt, 0)?;
+            print::two(rt, n.corners as u64, n.cells as u64)?;
+            print::two(rt, n.marks as u64, n.steps as u64)
         }
         Reading::Refused(k) => {
-            print::first(k as u64);
-            print::two(0, 0);
-            print::two(0, 0);
+            print::first(rt, *k as u64)?;
+            print::two(rt, 0, 0)?;
+            print::two(rt, 0, 0)
         }
     }
 }
 
 fn write_where_read(
+    rt: &impl Print,
     positions: &[i32],
     cells: &[u16],
     marked: &[u16],
     marks: &[u8],
     ends: &[u16],
     reading: Reading,
-) {
+) -> io::Result<()> {
     match reading {
-        Reading::Job(lengths) => write_back(positions, cells, marked, marks, ends, lengths),
-        Reading::Refused(_) => {}
+        Reading::Job(lengths) => write_back(rt, positions, cells, marked, marks, ends, lengths),
+        Reading::Refused(_) => Ok(())
     }
 }
 
@@ -275,23 +283,25 @@ fn fill(
 
 // Prints the answer and checksums of the tables over their whole lengths, and writes what was read.
 fn show_read(
+    rt: &impl Print,
     reading: Reading,
     positions: &[i32],
     cells: &[u16],
     marked: &[u16],
     marks: &[u8],
     ends: &[u16],
-) {
-    print_reading(reading);
-    print::number(pattern::checksum_signed(positions));
-    print::two(pattern::checksum(cells), pattern::checksum(marked));
-    print::two(pattern::checksum_bytes(marks), pattern::checksum(ends));
-    print::end();
-    write_where_read(positions, cells, marked, marks, ends, reading);
+) -> io::Result<()> {
+    print_reading(rt, &reading)?;
+    print::number(rt, pattern::checksum_signed(positions))?;
+    print::two(rt, pattern::checksum(cells), pattern::checksum(marked))?;
+    print::two(rt, pattern::checksum_bytes(marks), pattern::checksum(ends))?;
+    print::end(rt)?;
+    write_where_read(rt, positions, cells, marked, marks, ends, reading)
 }
 
 // Reads into tables that hold a known pattern.
 fn read_in(
+    rt: &impl Print,
     archive: &[u8],
     positions: &mut [i32],
     cells: &mut [u16],
@@ -299,19 +309,20 @@ fn read_in(
     marks: &mut [u8],
     ends: &mut [u16],
     short: usize,
-) {
+) -> io::Result<()> {
     fill(positions, cells, marked, marks, ends);
     let reading = read_short(archive, positions, cells, marked, marks, ends, short);
-    show_read(reading, positions, cells, marked, marks, ends);
+    show_read(rt, reading, positions, cells, marked, marks, ends)
 }
 
-fn try_read(archive: &[u8], short: usize) {
+fn try_read(rt: &impl Print, archive: &[u8], short: usize) -> io::Result<()> {
     let mut positions = [0i32; 1536];
     let mut cells = [0u16; 1024];
     let mut marked = [0u16; 16384];
     let mut marks = [0u8; 16384];
     let mut ends = [0u16; 65536];
     read_in(
+        rt,
         archive,
         &mut positions,
         &mut cells,
@@ -319,18 +330,18 @@ fn try_read(archive: &[u8], short: usize) {
         &mut marks,
         &mut ends,
         short,
-    );
+    )
 }
 
-fn print_replayed(replayed: Replayed) {
+fn print_replayed(rt: &impl Print, replayed: Replayed) -> io::Result<()> {
     match replayed {
         Replayed::Done(size) => {
-            print::first(0);
-            print::two(size.cells as u64, size.levels as u64);
+            print::first(rt, 0)?;
+            print::two(rt, size.cells as u64, size.levels as u64)
         }
         Replayed::Refused(k) => {
-            print::first(k as u64);
-            print::two(0, 0);
+            print::first(rt, k as u64)?;
+            print::two(rt, 0, 0)
         }
     }
 }
@@ -342,44 +353,55 @@ fn replay_short(archive: &[u8], table: &mut [u8], counts: &mut [u16], short: usi
 }
 
 // Replays into tables that hold a known pattern, and prints the line.
-fn replay_in(archive: &[u8], table: &mut [u8], counts: &mut [u16], short: usize) {
+fn replay_in(
+    rt: &impl Print,
+    archive: &[u8],
+    table: &mut [u8],
+    counts: &mut [u16],
+    short: usize,
+) -> io::Result<()> {
     pattern::fill_bytes(table);
     pattern::fill(counts);
     let replayed = replay_short(archive, table, counts, short);
-    print_replayed(replayed);
-    print::two(pattern::checksum_bytes(table), pattern::checksum(counts));
-    print::end();
+    print_replayed(rt, replayed)?;
+    print::two(
+        rt,
+        pattern::checksum_bytes(table),
+        pattern::checksum(counts),
+    )?;
+    print::end(rt)
 }
 
-fn try_replay(archive: &[u8], short: usize) {
+fn try_replay(rt: &impl Print, archive: &[u8], short: usize) -> io::Result<()> {
     let mut table = [0u8; 4096];
     let mut counts = [0u16; 44];
-    replay_in(archive, &mut table, &mut counts, short);
+    replay_in(rt, archive, &mut table, &mut counts, short)
 }
 
-fn try_archive(archive: &[u8], short: usize) {
-    try_list(archive);
-    try_read(archive, short);
-    try_replay(archive, short);
+fn try_archive(rt: &impl Print, archive: &[u8], short: usize) -> io::Result<()> {
+    try_list(rt, archive)?;
+    try_read(rt, archive, short)?;
+    try_replay(rt, archive, short)
 }
 
 // Reads the bytes of an archive and tries the calls on it. False where the input ends or the archive is too long for the
 // program.
-fn next_archive(case: Archive) -> bool {
+fn next_archive(rt: &(impl Input + Print), case: Archive) -> io::Result<bool> {
     let mut bytes = [0u8; 70000];
     let n = case.bytes;
-    if !input::read_bytes(&mut bytes, n) {
-        return false;
+    if !input::read_bytes(rt, &mut bytes, n) {
+        return Ok(false);
     }
     if n > bytes.len() {
-        return false;
+        return Ok(false);
     }
-    try_archive(&bytes[0..n], case.short);
-    true
+    try_archive(rt, &bytes[0..n], case.short)?;
+    Ok(true)
 }
 
 // Reads the lists of a job and writes it. False where the input ends or a list is too long for the program.
 fn read_job(
+    rt: &(impl Input + Print),
     room: &mut [u8],
     positions: &mut [i32],
     cells: &mut [u16],
@@ -387,23 +409,23 @@ fn read_job(
     marks: &mut [u8],
     ends: &mut [u16],
     job: Job,
-) -> bool {
-    if !input::read_mesh(room, positions, cells, job.positions, job.cells) {
-        return false;
+) -> io::Result<bool> {
+    if !input::read_mesh(rt, room, positions, cells, job.positions, job.cells) {
+        return Ok(false);
     }
-    if !input::read_cells(room, marked, job.marked) {
-        return false;
+    if !input::read_cells(rt, room, marked, job.marked) {
+        return Ok(false);
     }
-    if !input::read_bytes(marks, job.marks) {
-        return false;
+    if !input::read_bytes(rt, marks, job.marks) {
+        return Ok(false);
     }
-    if !input::read_cells(room, ends, job.ends) {
-        return false;
+    if !input::read_cells(rt, room, ends, job.ends) {
+        return Ok(false);
     }
-    write_parts(positions, cells, marked, marks, ends, job)
+    write_parts(rt, positions, cells, marked, marks, ends, job)
 }
 
-fn next_job(job: Job) -> bool {
+fn next_job(rt: &(impl Input + Print), job: Job) -> io::Result<bool> {
     let mut room = [0u8; 140000];
     let mut positions = [0i32; 2000];
     let mut cells = [0u16; 2000];
@@ -411,6 +433,7 @@ fn next_job(job: Job) -> bool {
     let mut marks = [0u8; 20000];
     let mut ends = [0u16; 70000];
     read_job(
+        rt,
         &mut room,
         &mut positions,
         &mut cells,
@@ -421,21 +444,22 @@ fn next_job(job: Job) -> bool {
     )
 }
 
-fn next_case() -> bool {
-    match read_header() {
-        Next::Archive(archive) => next_archive(archive),
-        Next::Job(job) => next_job(job),
-        Next::End => false,
+fn next_case(rt: &(impl Input + Print)) -> io::Result<bool> {
+    match read_header(rt) {
+        Next::Archive(archive) => next_archive(rt, archive),
+        Next::Job(job) => next_job(rt, job),
+        Next::End => Ok(false),
     }
 }
 
 // A proved loop has to end, so the cases are counted.
-fn main() {
+fn main(rt: HostRuntime) -> io::Result<()> {
     let mut left = 1000000u64;
     while left > 0 {
-        if !next_case() {
-            return;
+        if !next_case(&rt)? {
+            return Ok(());
         }
         left -= 1;
     }
+    Ok(())
 }

@@ -1,21 +1,21 @@
 // Printing the numbers of a line. No contract can say what is written, so these functions are the program's own.
+use std::io;
 
 // The first number of a line.
-pub fn first(n: u64) {
-    io::print_decimal(1, n);
+pub fn first(rt: &impl Print, n: u64) -> io::Result<()> {
+    print!(rt; "{n}")
 }
 
 // A further number of a line.
-pub fn number(n: u64) {
-    io::write_all(1, b" ");
-    io::print_decimal(1, n);
+pub fn number(rt: &impl Print, n: u64) -> io::Result<()> {
+    print!(rt; " {n}")
 }
 
-pub fn two(a: u64, b: u64) {
-    number(a);
-    number(b);
+pub fn two(rt: &impl Print, a: u64, b: u64) -> io::Result<()> {
+    number(rt, a)?;
+    number(rt, b)
 }
 
-pub fn end() {
-    io::write_all(1, b"\n");
+pub fn end(rt: &impl Print) -> io::Result<()> {
+    println!(rt; "")
 }

@@ -6,6 +6,7 @@ use crate::print;
 use base::{MOST_CELLS, code};
 use held::{Listed, Progress};
 use merge::Merged;
+use std::io;
 use store::{FULL, Fetched};
 use trial::pattern;
 
@@ -60,9 +61,9 @@ fn fetched(answer: Fetched) -> u8 {
     }
 }
 
-fn length_of(answer: Fetched) -> u8 {
+fn length_of(answer: &Fetched) -> u8 {
     match answer {
-        Fetched::Message(n) => (n % 256) as u8,
+        Fetched::Message(n) => (*n % 256) as u8,
         Fetched::Nothing => 0,
         Fetched::Refused(_) => 0,
     }
@@ -79,7 +80,7 @@ pub fn fetch(stores: &mut [u16], at: u8, message: &mut [u8], short: bool) -> u8 
         return NONE;
     }
     let answer = mail::fetch(&mut stores[from..to], &mut message[1..10]);
-    message[0] = length_of(answer);
+    message[0] = length_of(&answer);
     fetched(answer)
 }
 
@@ -170,35 +171,41 @@ fn ghosts(rows: &[u16], n: usize) -> usize {
 }
 
 // Prints how many a part holds, how many of them are ghosts, and the sum of the rows.
-fn print_rows(rows: &[u16], n: usize) -> u8 {
-    print::first(n as u64);
-    print::number(ghosts(rows, n) as u64);
-    print::number(rows_sum(rows, n));
-    print::end();
-    0
+fn print_rows(rt: &impl Print, rows: &[u16], n: usize) -> io::Result<u8> {
+    print::first(rt, n as u64)?;
+    print::number(rt, ghosts(rows, n) as u64)?;
+    print::number(rt, rows_sum(rows, n))?;
+    print::end(rt)?;
+    Ok(0)
 }
 
-fn print_listed(answer: Listed, rows: &[u16]) -> u8 {
+fn print_listed(rt: &impl Print, answer: Listed, rows: &[u16]) -> io::Result<u8> {
     match answer {
-        Listed::Rows(n) => print_rows(rows, n),
-        Listed::Refused(k) => k,
+        Listed::Rows(n) => print_rows(rt, rows, n),
+        Listed::Refused(k) => Ok(k),
     }
 }
 
-fn held_with(stores: &[u16], at: u8, rows: &mut [u16], short: bool) -> u8 {
+fn held_with(
+    rt: &impl Print,
+    stores: &[u16],
+    at: u8,
+    rows: &mut [u16],
+    short: bool,
+) -> io::Result<u8> {
     let answer = held_in(stores, at, rows, short);
-    print_listed(answer, rows)
+    print_listed(rt, answer, rows)
 }
 
 // What a part holds; a line of it where the call is accepted.
-pub fn held(stores: &[u16], at: u8, short: bool) -> u8 {
+pub fn held(rt: &impl Print, stores: &[u16], at: u8, short: bool) -> io::Result<u8> {
     let mut rows = [0u16; 57344];
-    held_with(stores, at, &mut rows, short)
+    held_with(rt, stores, at, &mut rows, short)
 }
 
-fn merged(answer: Merged) -> usize {
+fn merged(answer: &Merged) -> usize {
     match answer {
-        Merged::Cells(n) => n,
+        Merged::Cells(n) => *n,
         Merged::Refused(_) => 0,
     }
 }
@@ -210,26 +217,26 @@ fn merge_code(answer: Merged) -> u8 {
     }
 }
 
-fn merge_in(stores: &[u16], table: &mut [u8], short: bool) -> u8 {
+fn merge_in(rt: &impl Print, stores: &[u16], table: &mut [u8], short: bool) -> io::Result<u8> {
     let n = pattern::lent(stores.len(), short);
     pattern::fill_bytes(table);
     let answer = merge::merge(&stores[0..n], table);
-    print::first(merged(answer) as u64);
-    print::number(pattern::checksum_bytes(table));
-    print::end();
-    merge_code(answer)
+    print::first(rt, merged(&answer) as u64)?;
+    print::number(rt, pattern::checksum_bytes(table))?;
+    print::end(rt)?;
+    Ok(merge_code(answer))
 }
 
 // All stores merged; a line with how many cells there are, and a checksum of the whole lent table.
-pub fn merge(stores: &[u16], short: bool) -> u8 {
+pub fn merge(rt: &impl Print, stores: &[u16], short: bool) -> io::Result<u8> {
     let mut table = [0u8; 4096];
-    merge_in(stores, &mut table, short)
+    merge_in(rt, stores, &mut table, short)
 }
 
 // All stores merged, the table being lent short.
-pub fn merge_short(stores: &[u16]) -> u8 {
+pub fn merge_short(rt: &impl Print, stores: &[u16]) -> io::Result<u8> {
     let mut table = [0u8; 4095];
-    merge_in(stores, &mut table, false)
+    merge_in(rt, stores, &mut table, false)
 }
 
 // A checksum of a store.

@@ -8,10 +8,11 @@ mod print;
 
 use crate::calls::NONE;
 use base::code;
+use std::io;
 use trial::{input, pattern};
 
 // What a case begins with.
-#[derive(Drop)]
+#[derive(Clone, Copy)]
 struct Header {
     // How many coordinates, corner numbers, statuses and owners follow.
     positions: usize,
@@ -33,7 +34,7 @@ enum Next {
 }
 
 // A call on the stores.
-#[derive(Drop)]
+#[derive(Clone, Copy)]
 struct Call {
     what: u8,
     // The store that it is on.
@@ -55,15 +56,15 @@ struct Call {
 
 // What came of calls that have no line: how many answered otherwise than they may, and how many were refused and changed the store; each
 // up to 255.
-#[derive(Drop)]
+#[derive(Clone, Copy)]
 struct Tally {
     wrong: u8,
     changed: u8,
 }
 
-fn read_header() -> Next {
+fn read_header(rt: &impl Input) -> Next {
     let mut bytes = [0u8; 14];
-    if !input::read_all(&mut bytes) {
+    if !input::read_all(rt, &mut bytes) {
         return Next::End;
     }
     if input::number(&bytes, 0) == 65535 {
@@ -81,9 +82,9 @@ fn read_header() -> Next {
 }
 
 // Reads a call; what is 0 where the input ends.
-fn read_call() -> Call {
+fn read_call(rt: &impl Input) -> Call {
     let mut bytes = [0u8; 10];
-    let read = input::read_all(&mut bytes);
+    let read = input::read_all(rt, &mut bytes);
     let flags = bytes[8];
     Call {
         what: if read { bytes[0] } else { 0 },
@@ -100,9 +101,9 @@ fn read_call() -> Call {
     }
 }
 
-fn start_with(stores: &mut [u16], call: Call, marks: &mut [u8]) -> u8 {
+fn start_with(rt: &impl Input, stores: &mut [u16], call: Call, marks: &mut [u8]) -> u8 {
     let n = call.low as usize + 256 * (call.high as usize);
-    if !input::read_bytes(marks, n) {
+    if !input::read_bytes(rt, marks, n) {
         return NONE;
     }
     if n > marks.len() {
@@ -112,23 +113,23 @@ fn start_with(stores: &mut [u16], call: Call, marks: &mut [u8]) -> u8 {
 }
 
 // A start; its marks follow in the input.
-fn start(stores: &mut [u16], call: Call) -> u8 {
+fn start(rt: &impl Input, stores: &mut [u16], call: Call) -> u8 {
     let mut marks = [0u8; 5000];
-    start_with(stores, call, &mut marks)
+    start_with(rt, stores, call, &mut marks)
 }
 
-fn hand_with(stores: &mut [u16], call: Call, bytes: &mut [u8]) -> u8 {
+fn hand_with(rt: &impl Input, stores: &mut [u16], call: Call, bytes: &mut [u8]) -> u8 {
     let n = call.low as usize;
-    if !input::read_bytes(bytes, n) {
+    if !input::read_bytes(rt, bytes, n) {
         return NONE;
     }
     calls::hand_front(stores, call.at, bytes, n, call.short)
 }
 
 // Bytes handed over; they follow in the input.
-fn hand(stores: &mut [u16], call: Call) -> u8 {
+fn hand(rt: &impl Input, stores: &mut [u16], call: Call) -> u8 {
     let mut bytes = [0u8; 255];
-    hand_with(stores, call, &mut bytes)
+    hand_with(rt, stores, call, &mut bytes)
 }
 
 // A call that the carrier makes.
@@ -166,26 +167,26 @@ fn carried(
 }
 
 // A call that only reads, or one that the test makes beside them.
-fn beside(stores: &mut [u16], call: Call) -> u8 {
+fn beside(rt: &impl Print, stores: &mut [u16], call: Call) -> io::Result<u8> {
     if call.what == 9 {
-        return calls::stage(stores, call.at, call.short);
+        return Ok(calls::stage(stores, call.at, call.short));
     }
     if call.what == 10 {
-        return calls::held(stores, call.at, call.short);
+        return calls::held(rt, stores, call.at, call.short);
     }
     if call.what == 11 {
-        return calls::merge(stores, call.short);
+        return calls::merge(rt, stores, call.short);
     }
     if call.what == 12 {
-        return calls::merge_short(stores);
+        return calls::merge_short(rt, stores);
     }
     if call.what == 13 {
         calls::swap(stores, call.from, call.to);
-        return 0;
+        return Ok(0);
     }
     if call.what == 15 {
         calls::copy(stores, call.from, call.to);
-        return 0;
+        return Ok(0);
     }
     if call.what == 16 {
         let offset = call.low as u32 + 256 * (call.high as u32) + 65536 * (call.to as u32);
@@ -195,33 +196,34 @@ fn beside(stores: &mut [u16], call: Call) -> u8 {
             offset,
             call.one as u16 + 256 * (call.other as u16),
         );
-        return 0;
+        return Ok(0);
     }
-    NONE
+    Ok(NONE)
 }
 
 fn make(
+    rt: &(impl Input + Print),
     stores: &mut [u16],
     queue: &mut [u8],
     counts: &mut [u8],
     last: &mut [u8],
     call: Call,
-) -> u8 {
+) -> io::Result<u8> {
     if call.what == 1 {
-        return start(stores, call);
+        return Ok(start(rt, stores, call));
     }
     if call.what == 2 {
-        return calls::step(stores, call.at, call.short);
+        return Ok(calls::step(stores, call.at, call.short));
     }
     if call.what == 8 {
-        return hand(stores, call);
+        return Ok(hand(rt, stores, call));
     }
     if call.what >= 9 {
         if call.what != 14 {
-            return beside(stores, call);
+            return beside(rt, stores, call);
         }
     }
-    carried(stores, queue, counts, last, call)
+    Ok(carried(stores, queue, counts, last, call))
 }
 
 fn is_refusal(answer: u8) -> bool {
@@ -246,12 +248,12 @@ fn more(n: u8) -> u8 {
 }
 
 // Prints a line, or counts.
-fn tell(call: Call, answer: u8, same: bool, tally: Tally) -> Tally {
+fn tell(rt: &impl Print, call: Call, answer: u8, same: bool, tally: Tally) -> io::Result<Tally> {
     if call.told {
-        print::first(answer as u64);
-        print::number(if same { 1 } else { 0 });
-        print::end();
-        return tally;
+        print::first(rt, answer as u64)?;
+        print::number(rt, if same { 1 } else { 0 })?;
+        print::end(rt)?;
+        return Ok(tally);
     }
     let wrong = if is_wrong(call, answer) {
         more(tally.wrong)
@@ -259,17 +261,17 @@ fn tell(call: Call, answer: u8, same: bool, tally: Tally) -> Tally {
         tally.wrong
     };
     if same {
-        return Tally {
+        return Ok(Tally {
             wrong,
             changed: tally.changed,
-        };
+        });
     }
     let changed = if is_refusal(answer) {
         more(tally.changed)
     } else {
         tally.changed
     };
-    Tally { wrong, changed }
+    Ok(Tally { wrong, changed })
 }
 
 fn sum_if(stores: &[u16], at: u8, compared: bool) -> u64 {
@@ -277,44 +279,52 @@ fn sum_if(stores: &[u16], at: u8, compared: bool) -> u64 {
 }
 
 fn next_call(
+    rt: &(impl Input + Print),
     stores: &mut [u16],
     queue: &mut [u8],
     counts: &mut [u8],
     last: &mut [u8],
     tally: Tally,
-) -> Tally {
-    let call = read_call();
+) -> io::Result<Tally> {
+    let call = read_call(rt);
     let before = sum_if(stores, call.at, call.compared);
-    let answer = make(stores, queue, counts, last, call);
+    let answer = make(rt, stores, queue, counts, last, call)?;
     let after = sum_if(stores, call.at, call.compared);
-    tell(call, answer, before == after, tally)
+    tell(rt, call, answer, before == after, tally)
 }
 
-fn print_tally(tally: Tally) {
-    print::first(tally.wrong as u64);
-    print::number(tally.changed as u64);
-    print::end();
+fn print_tally(rt: &impl Print, tally: Tally) -> io::Result<()> {
+    print::first(rt, tally.wrong as u64)?;
+    print::number(rt, tally.changed as u64)?;
+    print::end(rt)
 }
 
-fn all_calls(stores: &mut [u16], queue: &mut [u8], counts: &mut [u8], last: &mut [u8], n: usize) {
+fn all_calls(
+    rt: &(impl Input + Print),
+    stores: &mut [u16],
+    queue: &mut [u8],
+    counts: &mut [u8],
+    last: &mut [u8],
+    n: usize,
+) -> io::Result<()> {
     let mut tally = Tally {
         wrong: 0,
         changed: 0,
     };
     let mut done = 0;
     while done < n {
-        tally = next_call(stores, queue, counts, last, tally);
+        tally = next_call(rt, stores, queue, counts, last, tally)?;
         done += 1;
     }
-    print_tally(tally);
+    print_tally(rt, tally)
 }
 
 // The calls of a case, with nothing carried yet.
-fn exchange(stores: &mut [u16], n: usize) {
+fn exchange(rt: &(impl Input + Print), stores: &mut [u16], n: usize) -> io::Result<()> {
     let mut queue = [0u8; 30720];
     let mut counts = [0u8; 256];
     let mut last = [0u8; 2560];
-    all_calls(stores, &mut queue, &mut counts, &mut last, n);
+    all_calls(rt, stores, &mut queue, &mut counts, &mut last, n)
 }
 
 // The split. This function's contract is short, so that the proofs above it are.
@@ -351,65 +361,72 @@ fn same_sums(stores: &[u16], one: u64, two: u64) -> bool {
 
 // Splits, and prints the answer and whether a refusal left the stores of the first two parts as they were.
 fn split_told(
+    rt: &impl Print,
     positions: &[i32],
     cells: &[u16],
     status: &[u8],
     owners: &[u8],
     stores: &mut [u16],
     case: Header,
-) {
+) -> io::Result<()> {
     let one = calls::sum(stores, 0);
     let two = calls::sum(stores, 1);
     let answer = split_in(
         positions, cells, status, case.parts, owners, stores, case.short,
     );
-    print::first(answer as u64);
+    print::first(rt, answer as u64)?;
     let same = same_sums(stores, one, two);
-    print::number(if answer == 0 {
-        0
-    } else {
-        if same { 1 } else { 0 }
-    });
-    print::end();
+    print::number(
+        rt,
+        if answer == 0 {
+            0
+        } else {
+            if same { 1 } else { 0 }
+        },
+    )?;
+    print::end(rt)
 }
 
 // A case whose lists are the first places of the given ones. False where one is too short.
 fn split_front(
+    rt: &impl Print,
     positions: &[i32],
     cells: &[u16],
     status: &[u8],
     owners: &[u8],
     stores: &mut [u16],
     case: Header,
-) -> bool {
+) -> io::Result<bool> {
     let p = case.positions;
     let c = case.cells;
     let s = case.status;
     let o = case.owners;
     if p > positions.len() {
-        return false;
+        return Ok(false);
     }
     if c > cells.len() {
-        return false;
+        return Ok(false);
     }
     if s > status.len() {
-        return false;
+        return Ok(false);
     }
     if o > owners.len() {
-        return false;
+        return Ok(false);
     }
     split_told(
+        rt,
         &positions[0..p],
         &cells[0..c],
         &status[0..s],
         &owners[0..o],
         stores,
         case,
-    );
-    true
+    )?;
+    Ok(true)
 }
 
 fn read_case(
+    rt: &(impl Input + Print),
     room: &mut [u8],
     positions: &mut [i32],
     cells: &mut [u16],
@@ -417,27 +434,28 @@ fn read_case(
     owners: &mut [u8],
     stores: &mut [u16],
     case: Header,
-) -> bool {
-    if !input::read_mesh(room, positions, cells, case.positions, case.cells) {
-        return false;
+) -> io::Result<bool> {
+    if !input::read_mesh(rt, room, positions, cells, case.positions, case.cells) {
+        return Ok(false);
     }
-    if !input::read_bytes(status, case.status) {
-        return false;
+    if !input::read_bytes(rt, status, case.status) {
+        return Ok(false);
     }
-    if !input::read_bytes(owners, case.owners) {
-        return false;
+    if !input::read_bytes(rt, owners, case.owners) {
+        return Ok(false);
     }
-    split_front(positions, cells, status, owners, stores, case)
+    split_front(rt, positions, cells, status, owners, stores, case)
 }
 
 // Reads what follows a header and splits. False where the input ends or a length is above the program's limits.
-fn split_case(stores: &mut [u16], case: Header) -> bool {
+fn split_case(rt: &(impl Input + Print), stores: &mut [u16], case: Header) -> io::Result<bool> {
     let mut room = [0u8; 8000];
     let mut positions = [0i32; 2000];
     let mut cells = [0u16; 2000];
     let mut status = [0u8; 5000];
     let mut owners = [0u8; 5000];
     read_case(
+        rt,
         &mut room,
         &mut positions,
         &mut cells,
@@ -448,33 +466,34 @@ fn split_case(stores: &mut [u16], case: Header) -> bool {
     )
 }
 
-fn case_of(stores: &mut [u16], case: Header) -> bool {
-    if !split_case(stores, case) {
-        return false;
+fn case_of(rt: &(impl Input + Print), stores: &mut [u16], case: Header) -> io::Result<bool> {
+    if !split_case(rt, stores, case)? {
+        return Ok(false);
     }
-    exchange(stores, case.calls);
-    true
+    exchange(rt, stores, case.calls)?;
+    Ok(true)
 }
 
-fn next_case(stores: &mut [u16]) -> bool {
-    match read_header() {
-        Next::Case(case) => case_of(stores, case),
-        Next::End => false,
+fn next_case(rt: &(impl Input + Print), stores: &mut [u16]) -> io::Result<bool> {
+    match read_header(rt) {
+        Next::Case(case) => case_of(rt, stores, case),
+        Next::End => Ok(false),
     }
 }
 
 // A proved loop has to end, so the cases are counted.
-fn all_cases(stores: &mut [u16]) {
+fn all_cases(rt: &(impl Input + Print), stores: &mut [u16]) -> io::Result<()> {
     let mut left = 1000000u64;
     while left > 0 {
-        if !next_case(stores) {
-            return;
+        if !next_case(rt, stores)? {
+            return Ok(());
         }
         left -= 1;
     }
+    Ok(())
 }
 
-fn main() {
+fn main(rt: HostRuntime) -> io::Result<()> {
     let mut stores = [0u16; 3623808];
-    all_cases(&mut stores);
+    all_cases(&rt, &mut stores)
 }

@@ -1,16 +1,16 @@
 // Printing the numbers of a line. No contract can say what is written, so these functions are the program's own.
+use std::io;
 
 // The first number of a line.
-pub fn first(n: u64) {
-    io::print_decimal(1, n);
+pub fn first(rt: &impl Print, n: u64) -> io::Result<()> {
+    print!(rt; "{n}")
 }
 
 // A further number of a line.
-pub fn number(n: u64) {
-    io::write_all(1, b" ");
-    io::print_decimal(1, n);
+pub fn number(rt: &impl Print, n: u64) -> io::Result<()> {
+    print!(rt; " {n}")
 }
 
-pub fn end() {
-    io::write_all(1, b"\n");
+pub fn end(rt: &impl Print) -> io::Result<()> {
+    println!(rt; "")
 }

@@ -1,27 +1,27 @@
 // Printing the numbers of a line. No contract can say what is written, so these functions are the program's own.
+use std::io;
 use trial::layouts::Summary;
 
 // The first number of a line.
-pub fn first(n: u64) {
-    io::print_decimal(1, n);
+pub fn first(rt: &impl Print, n: u64) -> io::Result<()> {
+    print!(rt; "{n}")
 }
 
 // A further number of a line.
-pub fn number(n: u64) {
-    io::write_all(1, b" ");
-    io::print_decimal(1, n);
+pub fn number(rt: &impl Print, n: u64) -> io::Result<()> {
+    print!(rt; " {n}")
 }
 
-pub fn end() {
-    io::write_all(1, b"\n");
+pub fn end(rt: &impl Print) -> io::Result<()> {
+    println!(rt; "")
 }
 
-pub fn layout(laid: Summary) {
-    number(laid.refusal);
-    number(laid.cells);
-    number(laid.corners);
-    number(laid.levels);
-    number(laid.table);
-    number(laid.ends);
-    number(laid.sums);
+pub fn layout(rt: &impl Print, laid: Summary) -> io::Result<()> {
+    number(rt, laid.refusal)?;
+    number(rt, laid.cells)?;
+    number(rt, laid.corners)?;
+    number(rt, laid.levels)?;
+    number(rt, laid.table)?;
+    number(rt, laid.ends)?;
+    number(rt, laid.sums)
 }

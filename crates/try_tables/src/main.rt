@@ -7,10 +7,11 @@ mod print;
 use layout::Laid;
 use position::Position;
 use queries::Counted;
+use std::io;
 use trial::{input, layouts, pattern};
 
 // What a case begins with.
-#[derive(Drop)]
+#[derive(Clone, Copy)]
 struct Header {
     // How many coordinates, corner numbers and statuses follow.
     positions: usize,
@@ -31,9 +32,9 @@ enum Next {
     End,
 }
 
-fn read_header() -> Next {
+fn read_header(rt: &impl Input) -> Next {
     let mut bytes = [0u8; 14];
-    if !input::read_all(&mut bytes) {
+    if !input::read_all(rt, &mut bytes) {
         return Next::End;
     }
     if input::number(&bytes, 0) == 65535 {
@@ -94,7 +95,7 @@ fn lay_out_in(
 }
 
 // How many corners there are; where nothing was laid out, any number of them.
-fn corners_of(laid: Laid) -> usize {
+fn corners_of(laid: &Laid) -> usize {
     match laid {
         Laid::Out(sizes) => sizes.corners,
         Laid::Refused(_) => 65535,
@@ -109,6 +110,7 @@ fn position_in(sums: &[i32], corners: usize, case: Header) -> Position {
 
 // Lays the cells out in tables that hold a known pattern, and prints what the tables hold then, over their whole lengths.
 fn print_layout(
+    rt: &impl Print,
     positions: &[i32],
     cells: &[u16],
     status: &[u8],
@@ -116,20 +118,27 @@ fn print_layout(
     ends: &mut [u16],
     sums: &mut [i32],
     case: Header,
-) {
+) -> io::Result<()> {
     layouts::fill(table, ends, sums);
     let laid = lay_out_in(positions, cells, status, table, ends, sums, case);
-    print::layout(layouts::sum_up(laid, table, ends, sums));
-    print::position(position_in(sums, corners_of(laid), case));
+    let corners = corners_of(&laid);
+    print::layout(rt, layouts::sum_up(laid, table, ends, sums))?;
+    print::position(rt, position_in(sums, corners, case))
 }
 
-fn try_layout(positions: &[i32], cells: &[u16], status: &[u8], case: Header) {
+fn try_layout(
+    rt: &impl Print,
+    positions: &[i32],
+    cells: &[u16],
+    status: &[u8],
+    case: Header,
+) -> io::Result<()> {
     let mut table = [0u16; 32768];
     let mut ends = [0u16; 32768];
     let mut sums = [0i32; 49152];
     print_layout(
-        positions, cells, status, &mut table, &mut ends, &mut sums, case,
-    );
+        rt, positions, cells, status, &mut table, &mut ends, &mut sums, case,
+    )
 }
 
 // The counts with table 4 lent short, or not.
@@ -144,84 +153,111 @@ fn count_in(
     queries::counts(positions, cells, status, &mut counts[0..n])
 }
 
-fn print_counts(positions: &[i32], cells: &[u16], status: &[u8], counts: &mut [u16], case: Header) {
+fn print_counts(
+    rt: &impl Print,
+    positions: &[i32],
+    cells: &[u16],
+    status: &[u8],
+    counts: &mut [u16],
+    case: Header,
+) -> io::Result<()> {
     pattern::fill(counts);
     let counted = count_in(positions, cells, status, counts, case);
-    print::counted(counted);
-    print::number(pattern::checksum(counts));
+    print::counted(rt, counted)?;
+    print::number(rt, pattern::checksum(counts))
 }
 
-fn try_counts(positions: &[i32], cells: &[u16], status: &[u8], case: Header) {
+fn try_counts(
+    rt: &impl Print,
+    positions: &[i32],
+    cells: &[u16],
+    status: &[u8],
+    case: Header,
+) -> io::Result<()> {
     let mut counts = [0u16; 44];
-    print_counts(positions, cells, status, &mut counts, case);
+    print_counts(rt, positions, cells, status, &mut counts, case)
 }
 
-fn try_case(positions: &[i32], cells: &[u16], status: &[u8], case: Header) {
-    print::first(coarse::examine_mesh(positions, cells));
-    print::answer(opening::examine_table(positions, cells, status));
-    try_layout(positions, cells, status, case);
-    print::ancestry(queries::ancestor(positions, cells, status, case.cell));
-    try_counts(positions, cells, status, case);
-    print::end();
+fn try_case(
+    rt: &impl Print,
+    positions: &[i32],
+    cells: &[u16],
+    status: &[u8],
+    case: Header,
+) -> io::Result<()> {
+    print::first(rt, coarse::examine_mesh(positions, cells))?;
+    print::answer(rt, opening::examine_table(positions, cells, status))?;
+    try_layout(rt, positions, cells, status, case)?;
+    print::ancestry(rt, queries::ancestor(positions, cells, status, case.cell))?;
+    try_counts(rt, positions, cells, status, case)?;
+    print::end(rt)
 }
 
 // A case whose lists are the first places of the given ones. False where one is too short.
-fn try_parts(positions: &[i32], cells: &[u16], status: &[u8], case: Header) -> bool {
+fn try_parts(
+    rt: &impl Print,
+    positions: &[i32],
+    cells: &[u16],
+    status: &[u8],
+    case: Header,
+) -> io::Result<bool> {
     let p = case.positions;
     let c = case.cells;
     let s = case.status;
     if p > positions.len() {
-        return false;
+        return Ok(false);
     }
     if c > cells.len() {
-        return false;
+        return Ok(false);
     }
     if s > status.len() {
-        return false;
+        return Ok(false);
     }
-    try_case(&positions[0..p], &cells[0..c], &status[0..s], case);
-    true
+    try_case(rt, &positions[0..p], &cells[0..c], &status[0..s], case)?;
+    Ok(true)
 }
 
 // Reads what follows a header and tries that case. False where the input ends or a length is above the program's limits.
 fn read_case(
+    rt: &(impl Input + Print),
     room: &mut [u8],
     positions: &mut [i32],
     cells: &mut [u16],
     status: &mut [u8],
     case: Header,
-) -> bool {
-    if !input::read_mesh(room, positions, cells, case.positions, case.cells) {
-        return false;
+) -> io::Result<bool> {
+    if !input::read_mesh(rt, room, positions, cells, case.positions, case.cells) {
+        return Ok(false);
     }
-    if !input::read_bytes(status, case.status) {
-        return false;
+    if !input::read_bytes(rt, status, case.status) {
+        return Ok(false);
     }
-    try_parts(positions, cells, status, case)
+    try_parts(rt, positions, cells, status, case)
 }
 
-fn case_of(case: Header) -> bool {
+fn case_of(rt: &(impl Input + Print), case: Header) -> io::Result<bool> {
     let mut room = [0u8; 8000];
     let mut positions = [0i32; 2000];
     let mut cells = [0u16; 2000];
     let mut status = [0u8; 5000];
-    read_case(&mut room, &mut positions, &mut cells, &mut status, case)
+    read_case(rt, &mut room, &mut positions, &mut cells, &mut status, case)
 }
 
-fn next_case() -> bool {
-    match read_header() {
-        Next::Case(case) => case_of(case),
-        Next::End => false,
+fn next_case(rt: &(impl Input + Print)) -> io::Result<bool> {
+    match read_header(rt) {
+        Next::Case(case) => case_of(rt, case),
+        Next::End => Ok(false),
     }
 }
 
 // A proved loop has to end, so the cases are counted.
-fn main() {
+fn main(rt: HostRuntime) -> io::Result<()> {
     let mut left = 1000000u64;
     while left > 0 {
-        if !next_case() {
-            return;
+        if !next_case(&rt)? {
+            return Ok(());
         }
         left -= 1;
     }
+    Ok(())
 }

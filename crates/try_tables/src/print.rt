@@ -3,21 +3,21 @@
 use base::Answer;
 use position::Position;
 use queries::{Ancestry, Counted};
+use std::io;
 use trial::layouts::Summary;
 
 // A further number of a line.
-pub fn number(n: u64) {
-    io::write_all(1, b" ");
-    io::print_decimal(1, n);
+pub fn number(rt: &impl Print, n: u64) -> io::Result<()> {
+    print!(rt; " {n}")
 }
 
-fn two(a: u64, b: u64) {
-    number(a);
-    number(b);
+fn two(rt: &impl Print, a: u64, b: u64) -> io::Result<()> {
+    number(rt, a)?;
+    number(rt, b)
 }
 
-pub fn end() {
-    io::write_all(1, b"\n");
+pub fn end(rt: &impl Print) -> io::Result<()> {
+    println!(rt; "")
 }
 
 fn refusal(answer: Answer) -> u64 {
@@ -28,63 +28,64 @@ fn refusal(answer: Answer) -> u64 {
 }
 
 // The first number of a line.
-pub fn first(answer: Answer) {
-    io::print_decimal(1, refusal(answer));
+pub fn first(rt: &impl Print, answer: Answer) -> io::Result<()> {
+    let n = refusal(answer);
+    print!(rt; "{n}")
 }
 
-pub fn answer(answer: Answer) {
-    number(refusal(answer));
+pub fn answer(rt: &impl Print, answer: Answer) -> io::Result<()> {
+    number(rt, refusal(answer))
 }
 
-pub fn layout(laid: Summary) {
-    two(laid.refusal, laid.cells);
-    two(laid.corners, laid.levels);
-    two(laid.table, laid.ends);
-    number(laid.sums);
+pub fn layout(rt: &impl Print, laid: Summary) -> io::Result<()> {
+    two(rt, laid.refusal, laid.cells)?;
+    two(rt, laid.corners, laid.levels)?;
+    two(rt, laid.table, laid.ends)?;
+    number(rt, laid.sums)
 }
 
-pub fn ancestry(ancestry: Ancestry) {
+pub fn ancestry(rt: &impl Print, ancestry: Ancestry) -> io::Result<()> {
     match ancestry {
         Ancestry::Under(ancestor) => {
-            number(0);
-            two(ancestor.coarse as u64, ancestor.level as u64);
+            number(rt, 0)?;
+            two(rt, ancestor.coarse as u64, ancestor.level as u64)
         }
         Ancestry::Refused(k) => {
-            number(k as u64);
-            two(0, 0);
+            number(rt, k as u64)?;
+            two(rt, 0, 0)
         }
     }
 }
 
-pub fn counted(counted: Counted) {
+pub fn counted(rt: &impl Print, counted: Counted) -> io::Result<()> {
     match counted {
-        Counted::Levels(n) => two(0, n as u64),
-        Counted::Refused(k) => two(k as u64, 0),
+        Counted::Levels(n) => two(rt, 0, n as u64),
+        Counted::Refused(k) => two(rt, k as u64, 0),
     }
 }
 
 // A float's 64 bits.
-fn float(x: f64) {
-    io::write_all(1, b" ");
+fn float(rt: &impl Print, x: f64) -> io::Result<()> {
     if x == x {
-        io::print_hex(1, f64::to_bits(x), 16);
+        let bits = f64::to_bits(x);
+        print!(rt; " {bits:016x}")
     } else {
-        io::write_all(1, b"nan");
+        print!(rt; " nan")
     }
 }
 
-pub fn position(position: Position) {
+pub fn position(rt: &impl Print, position: Position) -> io::Result<()> {
     match position {
         Position::At(point) => {
-            number(0);
-            float(point.x);
-            float(point.y);
-            float(point.z);
+            number(rt, 0)?;
+            float(rt, point.x)?;
+            float(rt, point.y)?;
+            float(rt, point.z)
         }
         Position::Refused(k) => {
-            number(k as u64);
-            number(0);
-            two(0, 0);
+            number(rt, k as u64)?;
+            number(rt, 0)?;
+            two(rt, 0, 0)
         }
     }
 }

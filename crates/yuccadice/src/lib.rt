@@ -1,5 +1,5 @@
 // The calls for programs in other languages. Each function answers the refusal's number, 0 where the call is accepted, and hands its
-// results back in lent tables and lent numbers. include/yuccadice.h says the same for C.
+// results back in lent tables and lent numbers. include/yuccadice.h says the same for C. Crate yuccadice_c exports them under these names.
 #![tactic(auto)]
 
 ghost use Rattle.std.specs.Prelude.{◌≡◌, length, get_or};
@@ -50,8 +50,7 @@ use step::Stepped;
 use store::Fetched;
 
 // The children of a cell by its pattern: four digits a child, 32 in all, zeros behind the last child. Refusals 15 and 6.
-#[unsafe(no_mangle)]
-pub extern "C" fn yd_cut(pattern: u8, digits: &mut [u8], count: &mut usize) -> u8
+pub fn yd_cut(pattern: u8, digits: &mut [u8], count: &mut usize) -> u8
     ensures { let a = cut_answer pattern digits.old in
         (result ≡ code_of a)
         × (digits.new ≡ held_after a (cut_of pattern).digits digits.old)
@@ -71,24 +70,21 @@ pub extern "C" fn yd_cut(pattern: u8, digits: &mut [u8], count: &mut usize) -> u
 }
 
 // Whether a coarse mesh is accepted. Refusals 1 to 5.
-#[unsafe(no_mangle)]
-pub extern "C" fn yd_examine_mesh(positions: &[i32], cells: &[u16]) -> u8
+pub fn yd_examine_mesh(positions: &[i32], cells: &[u16]) -> u8
     ensures { result ≡ code_of (mesh_answer positions.now cells.now) }
 {
     base::code(coarse::examine_mesh(positions, cells))
 }
 
 // Whether a status table is accepted. Refusals 1 to 6.
-#[unsafe(no_mangle)]
-pub extern "C" fn yd_examine_table(positions: &[i32], cells: &[u16], status: &[u8]) -> u8
+pub fn yd_examine_table(positions: &[i32], cells: &[u16], status: &[u8]) -> u8
     ensures { result ≡ code_of (table_answer positions.now cells.now status.now) }
 {
     base::code(opening::examine_table(positions, cells, status))
 }
 
 // Lays a table out: eight numbers a cell, the two ends and the three weighted sums of each corner. Refusals 15 and 1 to 6.
-#[unsafe(no_mangle)]
-pub extern "C" fn yd_lay_out(
+pub fn yd_lay_out(
     positions: &[i32],
     cells: &[u16],
     status: &[u8],
@@ -122,8 +118,7 @@ pub extern "C" fn yd_lay_out(
 }
 
 // The position of a corner, from the table of sums of a layout. Refusals 15 and 7.
-#[unsafe(no_mangle)]
-pub extern "C" fn yd_position(
+pub fn yd_position(
     sums: &[i32],
     corners: usize,
     corner: usize,
@@ -151,8 +146,7 @@ pub extern "C" fn yd_position(
 }
 
 // A cell's coarse ancestor and its level. Refusals 1 to 7.
-#[unsafe(no_mangle)]
-pub extern "C" fn yd_ancestor(
+pub fn yd_ancestor(
     positions: &[i32],
     cells: &[u16],
     status: &[u8],
@@ -178,8 +172,7 @@ pub extern "C" fn yd_ancestor(
 }
 
 // The counts of every level, four numbers each: cells, red, green, leaf. Refusals 15 and 1 to 6.
-#[unsafe(no_mangle)]
-pub extern "C" fn yd_counts(
+pub fn yd_counts(
     positions: &[i32],
     cells: &[u16],
     status: &[u8],
@@ -203,8 +196,7 @@ pub extern "C" fn yd_counts(
 }
 
 // One step: the new status table. Refusals 15 and 1 to 9.
-#[unsafe(no_mangle)]
-pub extern "C" fn yd_step(
+pub fn yd_step(
     positions: &[i32],
     cells: &[u16],
     status: &[u8],
@@ -230,8 +222,7 @@ pub extern "C" fn yd_step(
 
 // The job of an archive: its mesh, the marked cells of all steps one after the other with their marks, and for each step how many marks
 // stand up to its end. Refusals 15, 17, 1 to 5 and 7 to 9.
-#[unsafe(no_mangle)]
-pub extern "C" fn yd_read(
+pub fn yd_read(
     bytes: &[u8],
     positions: &mut [i32],
     cells: &mut [u16],
@@ -270,8 +261,7 @@ pub extern "C" fn yd_read(
 }
 
 // The archive of a job. Refusals 15, 1 to 5, 7 to 9 and 17.
-#[unsafe(no_mangle)]
-pub extern "C" fn yd_write(
+pub fn yd_write(
     positions: &[i32],
     cells: &[u16],
     marked: &[u16],
@@ -297,8 +287,7 @@ pub extern "C" fn yd_write(
 }
 
 // An archive's steps done again: the last status table and the counts of every level. Refusals 15, 17, 1 to 5 and 7 to 9.
-#[unsafe(no_mangle)]
-pub extern "C" fn yd_replay(
+pub fn yd_replay(
     bytes: &[u8],
     table: &mut [u8],
     counts: &mut [u16],
@@ -325,8 +314,7 @@ pub extern "C" fn yd_replay(
 }
 
 // Splits a status table over so many parts: their stores, one behind the other. Refusals 15, 1 to 6, 10 and 11.
-#[unsafe(no_mangle)]
-pub extern "C" fn yd_split(
+pub fn yd_split(
     positions: &[i32],
     cells: &[u16],
     status: &[u8],
@@ -341,8 +329,7 @@ pub extern "C" fn yd_split(
 }
 
 // Starts a part with a mark for each of its masters, in the order of cells. Refusals 15, 16 and 7.
-#[unsafe(no_mangle)]
-pub extern "C" fn yd_start(store: &mut [u16], marks: &[u8]) -> u8
+pub fn yd_start(store: &mut [u16], marks: &[u8]) -> u8
     ensures { (result ≡ code_of (start_answer store.old marks.now))
         × (store.new ≡ start_after store.old marks.now) }
 {
@@ -350,16 +337,14 @@ pub extern "C" fn yd_start(store: &mut [u16], marks: &[u8]) -> u8
 }
 
 // Leads a part to its next round, once the ends of this one are taken from all others. Refusals 15 and 16.
-#[unsafe(no_mangle)]
-pub extern "C" fn yd_part_step(store: &mut [u16]) -> u8
+pub fn yd_part_step(store: &mut [u16]) -> u8
     ensures { (result ≡ code_of (part_answer store.old)) × (store.new ≡ part_after store.old) }
 {
     base::code(partstep::part_step(store))
 }
 
 // The next message that a part has written: its bytes and how many they are, 0 where there is none to send. Refusals 15 and 16.
-#[unsafe(no_mangle)]
-pub extern "C" fn yd_fetch(store: &mut [u16], bytes: &mut [u8], byte_count: &mut usize) -> u8
+pub fn yd_fetch(store: &mut [u16], bytes: &mut [u8], byte_count: &mut usize) -> u8
     ensures { let a = fetch_answer store.old bytes.old in
         (result ≡ fetched_code a)
         × (store.new ≡ fetch_after store.old bytes.old)
@@ -381,8 +366,7 @@ pub extern "C" fn yd_fetch(store: &mut [u16], bytes: &mut [u8], byte_count: &mut
 }
 
 // Hands a message over to a part. Refusals 15, 16 and 12 to 14.
-#[unsafe(no_mangle)]
-pub extern "C" fn yd_hand_over(store: &mut [u16], bytes: &[u8]) -> u8
+pub fn yd_hand_over(store: &mut [u16], bytes: &[u8]) -> u8
     ensures { (result ≡ code_of (hand_answer store.old bytes.now))
         × (store.new ≡ hand_after store.old bytes.now) }
 {
@@ -390,13 +374,7 @@ pub extern "C" fn yd_hand_over(store: &mut [u16], bytes: &[u8]) -> u8
 }
 
 // How far a part is: 1 running with its round, 2 done with the number that its step ended with. Refusals 15 and 16.
-#[unsafe(no_mangle)]
-pub extern "C" fn yd_stage(
-    store: &[u16],
-    stage: &mut usize,
-    round: &mut usize,
-    res: &mut usize,
-) -> u8
+pub fn yd_stage(store: &[u16], stage: &mut usize, round: &mut usize, res: &mut usize) -> u8
     ensures { let p = progress_of (stage_answer store.now) (stage_of store.now) in
         (result ≡ progress_code p)
         × (stage.new ≡ progress_stage stage.old p)
@@ -429,8 +407,7 @@ pub extern "C" fn yd_stage(
 
 // The masters and ghosts of a done part, fourteen numbers each: 1 for a ghost, status, level, coarse cell, ten child numbers with zeros
 // behind them. Refusals 15 and 16.
-#[unsafe(no_mangle)]
-pub extern "C" fn yd_held(store: &[u16], rows: &mut [u16], row_count: &mut usize) -> u8
+pub fn yd_held(store: &[u16], rows: &mut [u16], row_count: &mut usize) -> u8
     ensures { let a = held_answer store.now rows.old in
         (result ≡ code_of a)
         × (rows.new ≡ held_after a (held_rows store.now) rows.old)
@@ -447,8 +424,7 @@ pub extern "C" fn yd_held(store: &[u16], rows: &mut [u16], row_count: &mut usize
 }
 
 // The table that the masters of all done parts make. Refusals 15 and 16.
-#[unsafe(no_mangle)]
-pub extern "C" fn yd_merge(stores: &[u16], table: &mut [u8], cell_count: &mut usize) -> u8
+pub fn yd_merge(stores: &[u16], table: &mut [u8], cell_count: &mut usize) -> u8
     ensures { let a = merge_answer stores.now table.old in
         let new = merge_table (stores_in stores.now) (field stores.now COARSE) in
         (result ≡ code_of a)

@@ -9,9 +9,9 @@ build-requires c =
       mesh = c.requires.mesh;
       statuses = c.requires.statuses.0;
       table_room = (
-            c.requires.table_room,
-            record { in_xs = omega (arith, c.requires.statuses.1); in_ys = omega (arith, c.requires.statuses.1); in_links = omega (arith, c.requires.statuses.1) },
-            omega (arith, c.requires.statuses.1),
-          );
+        c.requires.table_room,
+        record { in_xs = omega (arith, c.requires.statuses.1); in_ys = omega (arith, c.requires.statuses.1); in_links = omega (arith, c.requires.statuses.1) },
+        omega (arith, c.requires.statuses.1),
+      );
       clear = (clear_new 2048 (omega arith), clear_new 1024 (omega arith));
     }

@@ -9,9 +9,9 @@ build-requires c =
       mesh = c.requires.mesh;
       statuses = c.requires.statuses;
       table_room = (
-            c.requires.table_room,
-            record { in_xs = omega (arith, c.requires.statuses.few); in_ys = omega (arith, c.requires.statuses.few); in_links = omega (arith, c.requires.statuses.few) },
-            omega (arith, c.requires.statuses.few),
-          );
+        c.requires.table_room,
+        record { in_xs = omega (arith, c.requires.statuses.few); in_ys = omega (arith, c.requires.statuses.few); in_links = omega (arith, c.requires.statuses.few) },
+        omega (arith, c.requires.statuses.few),
+      );
       clear = (clear_new 5120 (omega arith), clear_new 4096 (omega arith));
     }

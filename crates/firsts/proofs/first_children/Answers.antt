@@ -29,14 +29,13 @@ one_more m ss kids₀ kids c at e h q =
 
 pub loop-c-init : goal.loop-c-init
 unfolding range
-loop-c-init c =
-    (
-      omega arith,
-      sym (first_start c.args.coarse c.args.status.now),
-      omega (arith, c.requires.status_len_bound.2),
-      refl,
-      refl,
-    )
+loop-c-init c = (
+  omega arith,
+  sym (first_start c.args.coarse c.args.status.now),
+  omega (arith, c.requires.status_len_bound.2),
+  refl,
+  refl,
+)
 
 pub size_of-at-requires : goal.size_of-at-requires
 size_of-at-requires c =

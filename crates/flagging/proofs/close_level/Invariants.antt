@@ -1,8 +1,7 @@
 -- `flagging::close_level` meets its contract: the invariant is `Closing` (crate's proofs). The measure is how many cells are left.
 use Prim.Native.Nat.{◌-◌}
-use native.Mathlib.Omega.{arith}
 use Rattle.edges.specs.Table.{listed}
-use Rattle.flagging.proofs.Level.{Closing, closing_start, closing_more, closing_all}
+use Rattle.flagging.proofs.Level.{Closing}
 use Rattle.flagging.proofs.close_level.Given as goal
 
 abbrev pub invariant-loop-c : goal.invariant-loop-c

@@ -1,10 +1,7 @@
 -- `flagging::flag_level` meets its contract: the invariant is `Flagging` (crate's proofs). The measure is how many cells are left.
-use mathlib.Core.Path.{◌∙◌, ap}
 use Prim.Native.Nat.{◌-◌}
-use native.Mathlib.Omega.{arith}
-use Rattle.lineage.specs.Olds.{flag_of}
 use Rattle.flagging.specs.Flags.{listedb}
-use Rattle.flagging.proofs.Level.{Flagging, flagging_start, flagging_more, flagging_all}
+use Rattle.flagging.proofs.Level.{Flagging}
 use Rattle.flagging.proofs.flag_level.Given as goal
 
 abbrev pub invariant-loop-c : goal.invariant-loop-c

@@ -1,9 +1,7 @@
 -- `flagging::is_new_red` meets its contract, case by case.
 use mathlib.Core.Path.{◌≡◌, sym, ◌∙◌}
-use Prim.Native.Nat.{◌+◌, ◌≤◌}
 use native.Mathlib.Omega.{arith}
-use lib.ListN.{length, get_or}
-use borrow.Author.Tests.{not-true, not-false}
+use lib.ListN.{get_or}
 use Rattle.flagging.specs.Flags.{listedb}
 use Rattle.flagging.proofs.Cases.{red_old, red_green, red_irregular, red_leaf}
 use Rattle.flagging.proofs.is_new_red.Goals as goal
@@ -24,7 +22,7 @@ returns-then-not-is_regular c =
     in
     let z : get_or a.status.now a.c 0 ≡ 0 = omega (arith, c.if-s-ne0.false) in
     sym (red_irregular a.rows.now a.status.now a.marks.now a.kids.now (listedb a.xs.now a.ys.now a.from a.n)
-    a.c z (sym c.is_regular.ensures ∙ not-true _ c.if-not-is_regular.true))
+    a.c z (sym c.is_regular.ensures ∙ c.if-not-is_regular.true))
 
 pub returns : goal.returns
 returns c =
@@ -32,4 +30,4 @@ returns c =
     in
     let z : get_or a.status.now a.c 0 ≡ 0 = omega (arith, c.if-s-ne0.false) in
     sym (red_leaf a.rows.now a.status.now a.marks.now a.kids.now (listedb a.xs.now a.ys.now a.from a.n) a.c
-    z (sym c.is_regular.ensures ∙ not-false _ c.if-not-is_regular.false))
+    z (sym c.is_regular.ensures ∙ c.if-not-is_regular.false))

@@ -1,7 +1,6 @@
 -- `flagging::is_touched` meets its contract: a cell is touched where it is not apart.
 use mathlib.Core.Path.{sym, ◌∙◌, ap}
 use mathlib.Core.Bool.{not}
-use borrow.Author.Tests.{not-true}
 use Rattle.mesh.specs.Cells.{edges}
 use Rattle.edges.specs.Table.{listed}
 use Rattle.rows.specs.Numbered.{cell_at}

@@ -1,6 +1,5 @@
 -- `flagging::kept_of` meets its contract: where no edge is listed, or none of the cell's, it keeps 0, and else what the looks give.
 use mathlib.Core.Path.{◌∙◌, sym}
-use borrow.Author.Tests.{not-true}
 use Rattle.edges.specs.Table.{listed}
 use Rattle.rows.specs.Numbered.{cell_at}
 use Rattle.closure.specs.Closed.{pattern_unlisted}

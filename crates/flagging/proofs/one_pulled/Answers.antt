@@ -1,10 +1,8 @@
 -- `flagging::one_pulled` meets its contract: the rest of the range decides as the whole does. The measure is what is left of it.
-use mathlib.Core.Path.{◌≡◌, refl, sym, ◌∙◌}
-use Prim.Native.Nat.{◌-◌}
+use mathlib.Core.Path.{sym, ◌∙◌}
 use native.Mathlib.Omega.{arith}
-use Rattle.base.specs.Lists.{anyb}
 use Rattle.flagging.specs.Flags.{listedb, pulledb}
-use Rattle.base.specs.Range.{range, any_range_hit, any_range_next, any_range_end}
+use Rattle.base.specs.Range.{any_range_hit, any_range_next, any_range_end}
 use Rattle.flagging.proofs.one_pulled.Goals as goal
 
 pub returns-then-is_pulled : goal.returns-then-is_pulled

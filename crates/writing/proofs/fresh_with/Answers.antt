@@ -14,20 +14,18 @@ loop-i-init c =
     (omega arith, ap (λ (f : Family). f.digits) c.cut-whole.ensures, sym (written_none (replicate 8 0) 0))
 
 pub fresh_status-requires : goal.fresh_status-requires
-fresh_status-requires c =
-    (
+fresh_status-requires c = (
   omega arith,
   rw c.loop-i.invariant.1 (red_ends c.loop-i.i c.loop-i-test.true),
   c.requires,
 )
 
 pub loop-i-preserved : goal.loop-i-preserved
-loop-i-preserved c =
-    (
-      omega arith,
-      c.loop-i.invariant.1,
-      row_more c.args.held.now c.loop-i.invariant.1 c.loop-i.invariant.2 c.loop-i-test.true c.fresh_status.ensures,
-    )
+loop-i-preserved c = (
+  omega arith,
+  c.loop-i.invariant.1,
+  row_more c.args.held.now c.loop-i.invariant.1 c.loop-i.invariant.2 c.loop-i-test.true c.fresh_status.ensures,
+)
 
 pub returns : goal.returns
 returns c =

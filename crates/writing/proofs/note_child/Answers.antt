@@ -17,9 +17,8 @@ loop-y-init c =
     (omega arith, edges_start c.args.digits.now c.args.j c.args.pattern c.args.held.now)
 
 pub loop-y-preserved : goal.loop-y-preserved
-loop-y-preserved c =
-    (
-      omega arith,
-      edges_next c.args.digits.now c.args.j c.args.pattern c.args.held.now c.loop-y.y c.loop-y.held _ c.loop-y.invariant.1 c.loop-y-test.true
-          c.note_edge.ensures,
-    )
+loop-y-preserved c = (
+  omega arith,
+  edges_next c.args.digits.now c.args.j c.args.pattern c.args.held.now c.loop-y.y c.loop-y.held _ c.loop-y.invariant.1 c.loop-y-test.true
+      c.note_edge.ensures,
+)

@@ -1,4 +1,3 @@
-
 use native.Mathlib.Omega.{arith}
 use Rattle.rows.specs.Sizes.{size_red}
 use Rattle.writing.proofs.Family.{done_leaves}
@@ -13,15 +12,13 @@ write_red-requires c =
     }
 
 pub returns-then-t-eq64 : goal.returns-then-t-eq64
-returns-then-t-eq64 c =
-    (
-      omega (arith, size_red c.args.t c.if-t-eq64.true),
-      rw c.if-t-eq64.true c.write_red.ensures,
-    )
+returns-then-t-eq64 c = (
+  omega (arith, size_red c.args.t c.if-t-eq64.true),
+  rw c.if-t-eq64.true c.write_red.ensures,
+)
 
 pub returns : goal.returns
-returns c =
-    (
+returns c = (
   omega arith,
   done_leaves c.requires.keeps c.args.t c.args.o
       c.if-t-eq64.false c.size_of-size.ensures.0 c.write_leaves.ensures,

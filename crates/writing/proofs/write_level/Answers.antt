@@ -12,9 +12,9 @@ write_family-k-requires c =
     record {
       keeps = c.requires.keeps;
       t_bound = (
-    families_fit c.requires.keeps c.requires.room_above c.loop-c.invariant c.loop-c-test.true,
-    families_room c.requires.keeps c.requires.room_above c.loop-c.invariant c.loop-c-test.true,
-  );
+        families_fit c.requires.keeps c.requires.room_above c.loop-c.invariant c.loop-c-test.true,
+        families_room c.requires.keeps c.requires.room_above c.loop-c.invariant c.loop-c-test.true,
+      );
     }
 
 pub loop-c-preserved : goal.loop-c-preserved

@@ -27,8 +27,7 @@ returns-then-s-eq64 c =
     done_kept c.requires.keeps 64 c.args.o c.if-o-status.false refl refl c.if-s-eq64.true c.write_kept.ensures
 
 pub fresh_of-fresh-requires : goal.fresh_of-fresh-requires
-fresh_of-fresh-requires c =
-    (
+fresh_of-fresh-requires c = (
   omega (
     arith,
     status_few c.requires.keeps c.args.o c.if-o-status.false,

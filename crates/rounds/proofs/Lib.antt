@@ -1,0 +1,4 @@
+pub mod Enough
+pub mod Rounded
+pub mod Sums
+pub mod Totals

@@ -1,0 +1,4 @@
+pub mod Absorbs
+pub mod Busy
+pub mod Posting
+pub mod Walk

@@ -1,0 +1,12 @@
+-- The rest, from the sum so far, has the checksum of the whole. The measure is what is left of the list.
+use Rattle.std.proofs.Common.{length, drop, ◌-◌, ◌≡◌, ◌<◌, ◌≤◌}
+use Rattle.trial.specs.Pattern.{check_from, above_least}
+use Rattle.trial.proofs.pattern.checksum_signed.Given as goal
+
+abbrev pub invariant-loop-i : goal.invariant-loop-i
+invariant-loop-i l =
+    (l.sum < 2147483647) × (l.i ≤ length l.list)
+    × (check_from above_least l.sum (drop l.i l.list) ≡ check_from above_least 1 l.list)
+
+abbrev pub decreases-loop-i : goal.decreases-loop-i
+decreases-loop-i l = length l.list - l.i

@@ -1,0 +1,21 @@
+-- `trial::pattern::fill_bytes` meets its contract: one place more holds its number.
+use mathlib.Core.Path.{refl, ap, ◌∙◌}
+use Prim.Native.Nat.{ℕ, ◌%◌}
+use native.Mathlib.Omega.{arith}
+use borrow.Author.Rules.{rules}
+use Rattle.trial.specs.Pattern.{fill_at, byte_fill}
+use Rattle.trial.proofs.Tables.{tabbed_start, tabbed_more, fill_next}
+use Rattle.trial.proofs.pattern.fill_bytes.Goals as goal
+
+pub loop-i-init : goal.loop-i-init
+unfolding fill_at
+loop-i-init c = (refl, omega arith, refl, tabbed_start byte_fill _)
+
+pub loop-i-preserved : goal.loop-i-preserved
+loop-i-preserved c =
+    let l = c.loop-i in (
+      search rules,
+      c.turn-x.ensures.1,
+      c.turn-x.ensures.0 ∙ fill_next l.x l.i l.invariant.2,
+      tabbed_more byte_fill _ l.invariant.3 _ (omega arith) (ap (λ (y : ℕ). y % 256) l.invariant.2),
+    )
