@@ -47,7 +47,8 @@ use Rattle.entering.specs.Entered.{Stay}
 use Rattle.entering.specs.Standing.{Idle, Standing}
 use Rattle.entering.proofs.Begins.{start_yes, start_fine}
 use Rattle.tasks.specs.Holders.{split_task}
-use Rattle.tasks.specs.Accepted.{Splits, splits_from, split_store_lem, split_columns, split_bound}
+use Rattle.tasks.specs.Accepted.{Splits, splits_from, split_store_lem}
+use Rattle.tasks.proofs.Accepted.{split_columns, split_bound}
 use Rattle.turns.specs.Start.{start_answer, start_after}
 use Rattle.outcome.specs.Program.{yields, act, phase_of}
 use Rattle.outcome.specs.Limited.{fitting_of}

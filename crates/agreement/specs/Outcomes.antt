@@ -50,7 +50,8 @@ use Rattle.entering.specs.Entered.{Stay}
 use Rattle.entering.specs.Standing.{result_of, old_entry, olds, Holding, Standing}
 use Rattle.tasks.specs.Edges.{slots_on}
 use Rattle.tasks.specs.Holders.{split_task, part_numbered, owner_ranged, family_ranged}
-use Rattle.tasks.specs.Accepted.{Splits, split_slots, split_store_lem, split_table}
+use Rattle.tasks.specs.Accepted.{Splits, split_store_lem, split_table}
+use Rattle.tasks.proofs.Accepted.{split_slots}
 use Rattle.held.specs.Held.{held_in}
 use Rattle.held.specs.declared.Progress.TheVariants as progress
 use Rattle.outcome.specs.Program.{act, phase_of}

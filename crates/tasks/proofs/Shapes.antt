@@ -28,7 +28,7 @@ use Rattle.base.specs.Member.{Member}
 use Rattle.parts.specs.Owners.{nth_cell}
 use Rattle.splitting.specs.Numbers.{numbers_of, at_level, stands}
 use Rattle.split.specs.Columns.{slot_of}
-use Rattle.tasks.specs.Edges.{slots_split}
+use Rattle.tasks.proofs.Edges.{slots_split}
 
 abbrev PointsApart : Cell Point → Type 0
 PointsApart c = (i j : ℕ) → i < 4 → j < 4 → corner [] c i ≡ corner [] c j → i ≡ j

@@ -41,11 +41,13 @@ use Rattle.split.specs.Split.{holders_at}
 use Rattle.split.specs.Stored.{Stored, if_held, when_held, not_held}
 use Rattle.tasks.specs.Levels.{below_none, below_more, below_top, below_all, level_gap, one_at_least, level_top}
 use Rattle.tasks.specs.Edges.{slots_on, slots_follow}
-use Rattle.tasks.specs.Shapes.{slots_apart}
+use Rattle.tasks.proofs.Shapes.{slots_apart}
 use Rattle.tasks.specs.Families.{kid_at, kids_are, kids_inside, parent_in, status_most}
 use Rattle.tasks.specs.Inner.{bit_at, inner_bits_lem}
-use Rattle.tasks.specs.Holders.{split_task, owner_ranged, family_ranged, mine_held, slot_told, slot_holds, holder_bit, no_bit}
-use Rattle.tasks.specs.Sizes.{slots_none, slots_all, slots_gap}
+use Rattle.tasks.specs.Holders.{split_task, owner_ranged, family_ranged, mine_held, holder_bit, no_bit}
+use Rattle.tasks.proofs.Holders.{slot_told, slot_holds}
+use Rattle.tasks.specs.Sizes.{slots_none, slots_all}
+use Rattle.tasks.proofs.Sizes.{slots_gap}
 use Rattle.tasks.specs.Paths.{path_room, place_coarse}
 use Rattle.lineage.specs.Olds.{first_child}
 
