@@ -1,20 +1,4 @@
--- src/lib.rt:59:5
--- src/lib.rt:62:5
--- src/lib.rt:63:17
--- src/lib.rt:63:17
--- src/lib.rt:63:17
--- src/lib.rt:64:26
--- src/lib.rt:64:13
--- src/lib.rt:65:13
--- src/lib.rt:65:13
--- src/lib.rt:67:18
--- src/lib.rt:67:9
--- src/lib.rt:68:16
--- src/lib.rt:69:9
--- src/lib.rt:62:5
--- src/lib.rt:62:5
--- src/lib.rt:55:1
--- src/lib.rt:55:1
+-- `replay::spread` meets its contract: the marks passed are in the table, and the rest decides as the whole does.
 use Rattle.std.proofs.Common.{rules}
 use Rattle.replay.proofs.Spreading.{scan_start, scan_next, scan_miss, scan_end}
 use Rattle.replay.specs.Marking.{may_below}

@@ -1,3 +1,4 @@
+-- The invariant: the marks passed are in the table, and the rest decides as the whole does. The measure is how many are left.
 use Rattle.replay.proofs.Spreading.{Scanned}
 use lib.ListN.{length}
 use Prim.Native.Nat.{◌-◌, ◌≤◌}
