@@ -28,8 +28,9 @@ use Rattle.splitting.specs.Paths.{level_below, new_lv}
 use Rattle.splitting.specs.Heirs.{owner_in}
 use Rattle.shares.specs.Settled.{Settled, entries_in, new_level_in, own_in}
 use Rattle.shares.specs.Share.{Named, table_in}
-use Rattle.shares.specs.Present.{new_entry, masters_in_lem}
-use Rattle.shares.specs.Once.{each_once}
+use Rattle.shares.specs.Present.{new_entry}
+use Rattle.shares.proofs.Present.{masters_in_lem}
+use Rattle.shares.proofs.Once.{each_once}
 use Rattle.merging.specs.Limits.{top_of}
 use Rattle.merging.specs.Complete.{master_paths, path_by, paths_once, path_at_lem, cell_there, cells_apart}
 use Rattle.merging.specs.All.{where_is}

@@ -1,11 +1,10 @@
 -- Bits of numbers.
 -- Laws: bit_none (0 has none), bit_power (2 ^ a has the bit a), bit_ones (2 ^ n - 1 has those below n), bit_less (one bit taken away).
-use Rattle.std.specs.Prelude.{◌≡◌, refl, Bool, true, false, ◌&&◌, not, ℕ, zero, suc, ◌+◌, ◌-◌, ◌*◌, ◌/◌, ◌%◌, ◌^◌, ◌≤◌, ◌<◌, eqb, ltb}
-use Rattle.std.proofs.Common.{sym, ◌∙◌, ap, ap₂, div-one, lt_of_lt_of_le, arith, pow_mono, eq-eqb, ne_eqb, lt-ltb, le-ltb, eqb-true}
+use Rattle.std.specs.Prelude.{◌≡◌, refl, Bool, true, false, ◌&&◌, not, ℕ, zero, suc, ◌-◌, ◌*◌, ◌/◌, ◌%◌, ◌^◌, ◌≤◌, eqb, ltb}
+use Rattle.std.proofs.Common.{sym, ◌∙◌, ap, ap₂, div-one, arith, eq-eqb, ne_eqb, lt-ltb, le-ltb, eqb-true}
 use Rattle.std.proofs.Math.Bool.{and-true}
-use Rattle.std.proofs.Math.Nat.{div-div-eq-div-mul, div-eq_of_lt, pow-succ'}
+use Rattle.std.proofs.Math.Nat.{div-div-eq-div-mul, pow-succ'}
 use Rattle.std.proofs.Math.Decide.{ℕ_discrete, dec_lt}
-use Rattle.base.specs.Bools.{not_both}
 use Rattle.store.specs.Fetch.{bitb}
 
 bit_first : (m : ℕ) → bitb m 0 ≡ eqb (m % 2) 1

@@ -13,7 +13,7 @@ use Rattle.base.specs.Range.{range}
 use Rattle.exchange.specs.Finite.{parts}
 use Rattle.base.specs.Member.{Member}
 use Rattle.rounds.specs.Task.{Task}
-use Rattle.rounds.specs.Rounds.{State, mine, holdsb}
+use Rattle.rounds.specs.Rounds.{mine, holdsb}
 use Rattle.store.specs.Fields.{field, full, PART, PARTS, CELLS, LEVELS, FIRST_CELL, FIRST_SLOT, OWNER, FAMILY, STATUS, REGULAR, CHILD}
 use Rattle.store.specs.Fields.{PARENT, HEAD, INNER, MARK, RED, SLOT, HOLDERS, SUM}
 use Rattle.store.specs.Fetch.{bitb}
@@ -23,7 +23,6 @@ use Rattle.turns.specs.Start.{ownb}
 use Rattle.turns.specs.Decide.{kid_count}
 use Rattle.places.specs.Put.{place_at}
 use Rattle.shares.specs.Grow.{coarseb, last_of}
-use Rattle.mesh.specs.Layout.{edge_numbers}
 
 -- a coarse cell below 256, then child numbers, at most ten
 pub record Path (k : ℕ) (l : List ℕ) : Type 0 where

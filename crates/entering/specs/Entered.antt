@@ -2,32 +2,30 @@
 --   Untouched i        the number at the place i is one that entering a round leaves
 --   Stay x y           the columns of the split are as they were
 -- Laws: told_none, added_none (where nothing is taken), enters (the store stands at the round's beginning), columns_stay.
-use Rattle.std.specs.Prelude.{◌≡◌, ◌⊎◌, ◌≢◌, Bool, true, ◌&&◌, ◌||◌, not, T, eqb, ltb, leb, length, get_or}
+use Rattle.std.specs.Prelude.{◌≡◌, ◌⊎◌, ◌≢◌, Bool, true, ◌||◌, ltb, leb, length}
 use Rattle.std.proofs.Math.Path.{refl, ap, subst}
 use Rattle.std.proofs.Common.{sym, ◌∙◌, ap₂, inl, inr, arith}
 use Rattle.std.proofs.Math.Bool.{false, or-false}
-use mathlib.Core.List.{List, [], ◌∷◌, ◌++◌, map}
-use Prim.Native.Nat.{ℕ, zero, suc, ◌+◌, ◌-◌, ◌*◌, ◌≤◌, ◌<◌, max, min, Fin}
-use Rattle.std.proofs.Math.Nat.{min-le_right}
+use mathlib.Core.List.{List, [], ◌∷◌, ◌++◌}
+use Prim.Native.Nat.{ℕ, suc, ◌+◌, ◌-◌, ◌*◌, ◌≤◌, ◌<◌, min, Fin}
 use Rattle.base.specs.Limits.{most_cells}
 use Rattle.base.specs.Lists.{anyb}
 use Rattle.base.specs.Bools.{one_if}
 use Rattle.base.specs.Range.{range, member_range}
 use Rattle.mesh.specs.Table.{size_of}
-use Rattle.exchange.specs.Finite.{Finite, parts, sum_over}
-use Rattle.exchange.specs.Protocol.{Local, Protocol, only, numbered, parcel, enter}
+use Rattle.exchange.specs.Finite.{parts, sum_over}
+use Rattle.exchange.specs.Protocol.{only, numbered}
 use Rattle.base.specs.Member.{Member}
 use Rattle.rounds.specs.Task.{Task}
-use Rattle.rounds.specs.Rounds.{Body, Phase, phase, State, is_part, told, added, masters_told, top_told, red_told, sum_told, capped, largest}
-use Rattle.rounds.specs.Rounds.{holdsb, mine}
+use Rattle.rounds.specs.Rounds.{Body, phase, State, is_part, told, added, masters_told, top_told, red_told, sum_told, capped, largest}
 use Rattle.rounds.specs.Rounded.{overb, sizedb, endedb}
-use Rattle.store.specs.Fields.{field, full, STAGE, PART, PARTS, CELLS, LEVELS, ROUND, TOTAL, HIGH, CURSOR, BIT, WRITTEN, FIRST_CELL}
+use Rattle.store.specs.Fields.{field, STAGE, PART, PARTS, CELLS, ROUND, TOTAL, HIGH, CURSOR, WRITTEN, FIRST_CELL}
 use Rattle.store.specs.Fields.{FIRST_SLOT, OWNER, FAMILY, STATUS, REGULAR, CHILD, PARENT, HEAD, DIGITS, MORE, INNER, MARK, RED, SLOT}
 use Rattle.store.specs.Fields.{HOLDERS, SUM, CORNER, FIRST_ENDED, FIRST_TAKEN, FREE}
 use Rattle.store.specs.Header.{headerb}
 use Rattle.store.specs.Fetch.{entry_count, bitb}
 use Rattle.store.specs.declared.Place.{Place}
-use Rattle.standing.specs.Walk.{queue_of, left_of, given_after, given_to, spots_from}
+use Rattle.standing.specs.Walk.{spots_from}
 use Rattle.standing.specs.Busy.{L, Busy, HoldsCell, HoldsSlot, pack, part_low, held_few}
 use Rattle.standing.specs.Posting.{Longer, Matches, CountRoom}
 use Rattle.standing.proofs.Posting.{step_queue, step_sent}

@@ -14,11 +14,8 @@ pub mod Placing
 pub mod PlacingSteps
 pub mod PlacingStatus
 pub mod PlacingCells
-pub mod PlacingKept
 pub mod Steps
 pub mod ToCounts
 pub mod ToMarks
-pub mod Begins
 pub mod ToTotals
-pub mod ToEnd
 pub mod Passing

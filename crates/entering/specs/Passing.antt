@@ -1,9 +1,9 @@
 -- Fetching and handing over on a store that stands at a place.
 -- Laws: fetch_keeps (what a fetch leaves), fetched and fetch_stay (where a fetch leads), handed and
 -- hand_stay (where a message that is taken leads).
-use Rattle.std.specs.Prelude.{◌≡◌, ◌⊎◌, ◌≢◌, Bool, ◌&&◌, List, [], ◌∷◌, ◌++◌, T, eqb, ltb, get_or, take}
+use Rattle.std.specs.Prelude.{◌≡◌, ◌⊎◌, ◌≢◌, Bool, List, ◌∷◌, T, eqb, ltb}
 use Rattle.std.proofs.Math.Path.{refl, ap}
-use Rattle.std.proofs.Common.{sym, ◌∙◌, ap₂, subst, inl, inr}
+use Rattle.std.proofs.Common.{sym, ◌∙◌, inl, inr}
 use Rattle.std.proofs.Math.Bool.{true, false}
 use Prim.Native.Nat.{ℕ, suc, ◌+◌, ◌-◌, ◌≤◌, ◌<◌, Fin}
 use native.Mathlib.Omega.{arith}
@@ -18,23 +18,20 @@ use Rattle.exchange.specs.Protocol.{with_queue, with_body}
 use Rattle.rounds.specs.Task.{Task}
 use Rattle.rounds.specs.Rounds.{Body, Phase, marks, counts, totals, over, phase, State}
 use Rattle.rounds.specs.Rounded.{wholeb}
-use Rattle.shares.specs.Grow.{entries}
-use Rattle.merging.specs.Totals.{grown_of}
-use Rattle.store.specs.Fields.{field, full, CELLS, RESULT, ENTRIES, WRITTEN, FIRST_CELL, FIRST_SLOT, MARK}
+use Rattle.store.specs.Fields.{field, CELLS, RESULT, ENTRIES, WRITTEN, FIRST_CELL, FIRST_SLOT, MARK}
 use Rattle.store.specs.Fields.{BIT, CODE, CORNER, CURSOR, FIRST_TAKEN, FREE, GIVEN, OWNER, PART, PLACE_HEAD, RED, ROUND, SUM, TOTAL}
 use Rattle.store.specs.declared.Fetched.TheVariants.{Message}
-use Rattle.store.specs.Fetch.{fetch_refusal, next_to_give, passed_by, givesb, fetch_answer, fetch_bytes, fetch_after}
+use Rattle.store.specs.Fetch.{fetch_refusal, next_to_give, givesb, fetch_answer, fetch_bytes, fetch_after}
 use Rattle.store.specs.Hand.{hand_answer, hand_after}
 use Rattle.standing.specs.Walk.{passed_else, passed_length}
-use Rattle.standing.specs.Busy.{L, pack, HoldsCell, Busy}
+use Rattle.standing.specs.Busy.{L, pack}
 use Rattle.standing.proofs.Busy.{fetch_gives}
 use Rattle.standing.proofs.Absorbs.{hand_does, hand-length, hand_else}
 use Rattle.held.specs.Held.{held_in}
-use Rattle.entering.specs.Columns.{Columns}
 use Rattle.entering.specs.Fits.{Fitted}
 use Rattle.entering.specs.Within.{cell_low}
 use Rattle.entering.specs.Entered.{Stay, columns_stay}
-use Rattle.entering.specs.Standing.{result_of, olds, Spent, Holding, Standing}
+use Rattle.entering.specs.Standing.{olds, Spent, Holding, Standing}
 use Rattle.entering.specs.Placing.{held_same}
 
 module _ (x out : List ℕ) where

@@ -13,9 +13,8 @@ use Rattle.std.proofs.Math.Dec.{eqb, ltb}
 use borrow.Author.Tests.{eq-eqb, ne_eqb, lt-ltb}
 use Rattle.base.specs.Bools.{eqb_one, or_first, or_second, and_both, not_both}
 use Rattle.base.specs.Limits.{most_cells, most_slots}
-use Rattle.base.specs.Lists.{anyb, memberb}
+use Rattle.base.specs.Lists.{anyb}
 use Rattle.base.specs.Range.{range, member_range, range_member}
-use Rattle.cutting.specs.Rule.{family}
 use Rattle.mesh.specs.Cells.{pattern_of, bits_of}
 use Rattle.mesh.specs.Laws.{bits_small, below_six, six_below}
 use Rattle.mesh.specs.Table.{size_of}
@@ -25,7 +24,7 @@ use Rattle.exchange.specs.Finite.{parts}
 use Rattle.base.specs.Member.{Member, any_agree, member_any, map-agree}
 use Rattle.rounds.specs.Task.{Task, Fit, has}
 use Rattle.rounds.specs.Rounds.{State, is_part, mine, holdsb}
-use Rattle.rounds.specs.Among.{is_eq, is_same, is_not}
+use Rattle.rounds.specs.Among.{is_eq, is_same}
 use Rattle.store.specs.Fields.{field, PART, CELLS, FIRST_CELL, FIRST_SLOT, OWNER, FAMILY, STATUS, REGULAR}
 use Rattle.store.specs.Fields.{CHILD, PARENT, HEAD, RED, SLOT, SUM, PLACE_HEAD, CURSOR}
 use Rattle.standing.specs.Busy.{HoldsCell, HoldsSlot}

@@ -6,7 +6,7 @@
 --   Holding f s x      masters and ghosts that the store holds, in the last two phases
 --   Standing p l x     the store x stands at the place l
 --   Idle p x           the store x is one of a part that has not started
-use Rattle.std.specs.Prelude.{◌≡◌, ◌≢◌, Bool, leb, length}
+use Rattle.std.specs.Prelude.{◌≡◌, ◌≢◌, Bool, leb}
 use Rattle.std.proofs.Math.Bool.{true, false}
 use mathlib.Core.List.{List, [], ◌∷◌, flat_map}
 use Prim.Native.Nat.{ℕ, suc, ◌+◌, ◌-◌, ◌≤◌, ◌<◌, Fin}
@@ -19,7 +19,7 @@ use Rattle.rounds.specs.Rounds.{Phase, marks, counts, totals, over, phase, State
 use Rattle.parts.specs.Held.{Entry}
 use Rattle.shares.specs.Grow.{entry_by, entries}
 use Rattle.merging.specs.Totals.{grown_of}
-use Rattle.store.specs.Fields.{field, full, STAGE, CELLS, ROUND, RESULT, WRITTEN, CURSOR, BIT, FIRST_CELL, FIRST_SLOT, OWNER, RED, HOLDERS}
+use Rattle.store.specs.Fields.{field, STAGE, CELLS, RESULT, WRITTEN, CURSOR, BIT, FIRST_CELL, FIRST_SLOT, OWNER, RED}
 use Rattle.store.specs.Fields.{SUM, FIRST_TAKEN}
 use Rattle.store.specs.Header.{headerb}
 use Rattle.standing.specs.Busy.{L, Busy, HoldsCell, HoldsSlot}

@@ -2,11 +2,11 @@
 --   Wholes l           all other parts' messages of the round are taken
 -- Laws: ends_known (the ends that are counted), head_running, head_done (the header with another round), no_result (while running),
 -- even_round, odd_round, last_counts, last_round (which work a round begins with), set-reset (setting the round).
-use Rattle.std.specs.Prelude.{◌≡◌, refl, ◌⊎◌, ◌≢◌, Bool, ◌&&◌, ◌||◌, not, List, T, leb, length, get_or, set}
-use Rattle.std.proofs.Common.{sym, ◌∙◌, ap₂, subst, inl, inr, length-set, get_or-set_same, get_or-set_other}
+use Rattle.std.specs.Prelude.{◌≡◌, Bool, ◌||◌, List, set}
+use Rattle.std.proofs.Common.{sym, ◌∙◌, length-set, get_or-set_other}
 use Rattle.std.proofs.Math.Path.{ap}
-use Rattle.std.proofs.Math.Bool.{true, false, or-false}
-use Prim.Native.Nat.{ℕ, zero, suc, ◌+◌, ◌-◌, ◌*◌, ◌/◌, ◌%◌, ◌≤◌, ◌<◌, Fin}
+use Rattle.std.proofs.Math.Bool.{true, false}
+use Prim.Native.Nat.{ℕ, suc, ◌+◌, ◌-◌, ◌*◌, ◌/◌, ◌%◌, ◌≤◌, ◌<◌, Fin}
 use native.Mathlib.Omega.{arith}
 use Rattle.std.proofs.Math.Dec.{eqb, ltb}
 use borrow.Author.Tests.{eq-eqb, ne_eqb, lt-ltb, le-ltb, eqb-true}
@@ -14,10 +14,10 @@ use Rattle.base.specs.Bools.{one_if}
 use Rattle.base.specs.Limits.{most_cells}
 use Rattle.exchange.specs.Finite.{parts}
 use Rattle.rounds.specs.Task.{Task}
-use Rattle.rounds.specs.Rounds.{phase, is_part, told, added, red_told, sum_told, State}
+use Rattle.rounds.specs.Rounds.{phase, is_part}
 use Rattle.rounds.specs.Rounded.{overb, endedb, wholeb}
-use Rattle.store.specs.Fields.{field, full, STAGE, PART, PARTS, CORNERS, COARSE, CELLS, LEVELS, ROUND, RESULT, ENTRIES, FIRST_ENDED}
-use Rattle.store.specs.Header.{stageb, headerb}
+use Rattle.store.specs.Fields.{field, STAGE, PART, LEVELS, ROUND, RESULT, ENTRIES, FIRST_ENDED}
+use Rattle.store.specs.Header.{headerb}
 use Rattle.store.specs.Headed.{Header, header_is, header_yes, running_is, done_is}
 use Rattle.standing.specs.Busy.{L, Busy}
 use Rattle.turns.specs.Start.{enter_marks}

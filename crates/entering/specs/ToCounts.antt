@@ -1,10 +1,10 @@
 -- Entering a round of counts.
 -- Laws: into_counts, counts_stay.
-use Rattle.std.specs.Prelude.{◌≡◌, ◌⊎◌, ◌≢◌, Bool, true, false, length, get_or, set}
+use Rattle.std.specs.Prelude.{◌≡◌, ◌⊎◌, ◌≢◌, true, false, length, set}
 use Rattle.std.proofs.Math.Path.{refl, ap, subst}
-use Rattle.std.proofs.Common.{sym, ◌∙◌, ap₂, inl, inr, length-set, length-append, get_or-set_same, get_or-set_other}
+use Rattle.std.proofs.Common.{sym, ◌∙◌, ap₂, inl, inr, length-append, get_or-set_same, get_or-set_other}
 use mathlib.Core.List.{List, [], ◌∷◌, ◌++◌, map}
-use Prim.Native.Nat.{ℕ, zero, suc, ◌+◌, ◌-◌, ◌*◌, ◌≤◌, ◌<◌, min, Fin}
+use Prim.Native.Nat.{ℕ, suc, ◌+◌, ◌-◌, ◌*◌, ◌≤◌, ◌<◌, Fin}
 use native.Mathlib.Omega.{arith}
 use Rattle.std.proofs.lemmas.List.{length-map}
 use Rattle.base.specs.Bools.{one_if, not_both}
@@ -14,31 +14,31 @@ use Rattle.base.specs.Range.{range}
 use Rattle.exchange.specs.Finite.{parts}
 use Rattle.exchange.specs.Protocol.{following}
 use Rattle.base.specs.Member.{Member}
-use Rattle.rounds.specs.Task.{Task, Fit}
-use Rattle.rounds.specs.Rounds.{Body, Phase, marks, counts, totals, over, after, phase, State, is_part, told, added, red_told, sum_told}
-use Rattle.rounds.specs.Rounds.{capped, tally, holdsb}
+use Rattle.rounds.specs.Task.{Task}
+use Rattle.rounds.specs.Rounds.{Phase, marks, counts, phase, State, red_told, sum_told}
+use Rattle.rounds.specs.Rounds.{tally, holdsb}
 use Rattle.rounds.specs.Rounds.{taking}
 use Rattle.rounds.specs.Rounded.{overb, sizedb, phase_marks, phase_counts}
 use Rattle.rounds.specs.Order.{order_of}
 use Rattle.rounds.specs.Upward.{ups}
 use Rattle.merging.specs.Totals.{grown_of}
-use Rattle.store.specs.Fields.{field, full, STAGE, CELLS, LEVELS, ROUND, RESULT, ENTRIES, WRITTEN, FIRST_CELL, FIRST_SLOT, RED, SUM, MARK}
+use Rattle.store.specs.Fields.{field, STAGE, CELLS, LEVELS, ROUND, RESULT, ENTRIES, WRITTEN, FIRST_CELL, FIRST_SLOT, RED, SUM, MARK}
 use Rattle.store.specs.Fields.{CODE, CORNER, CURSOR, PLACE_HEAD, most_entries}
 use Rattle.store.specs.Headed.{header_is}
-use Rattle.standing.specs.Busy.{L, Busy, HoldsCell, HoldsSlot}
+use Rattle.standing.specs.Busy.{L, HoldsCell, HoldsSlot}
 use Rattle.turns.specs.Loops.{each_from}
 use Rattle.turns.specs.Post.{count_one, post_end}
 use Rattle.turns.specs.Step.{slot_from, tallied, enter_counts}
 use Rattle.partstep.specs.Step.{round_entered, part_stepped}
-use Rattle.entering.specs.Columns.{Columns, MarksIn}
+use Rattle.entering.specs.Columns.{Columns}
 use Rattle.entering.specs.Fits.{Fitted, of_marksb, of_countsb}
 use Rattle.entering.specs.Within.{cell_low, slot_low}
 use Rattle.entering.specs.Tallying.{tallied_sum, tallied_else, tallied-length}
 use Rattle.entering.specs.Writing.{WroteLines}
 use Rattle.entering.specs.Lines.{count_line, end_line, counts_written, counts_order}
-use Rattle.entering.specs.Entered.{Stay, columns_stay, stay_on, static_low, told_none, added_none}
+use Rattle.entering.specs.Entered.{Stay, columns_stay, static_low, told_none, added_none}
 use Rattle.entering.specs.Standing.{Spent, Holding, Standing}
-use Rattle.entering.specs.Turn.{Worked, Reset, Q, turn}
+use Rattle.entering.specs.Turn.{Worked, Q, turn}
 use Rattle.entering.specs.Steps.{set-reset, head_running, no_result, Wholes, ends_known, even_round}
 
 module _ (P : ℕ) (J : Task (Fin P)) {In : Type 0} (reads : Fin P → In → ℕ → ℕ) (p : Fin P) (l : L P J) (x : List ℕ)

@@ -1,11 +1,11 @@
 -- Entering a round of marks: at the start, and after a round of counts.
 -- Laws: enter_marks_lem, enter_stay (of any store that stands at a place), into_marks, marks_stay (after a round of counts).
-use Rattle.std.specs.Prelude.{◌≡◌, ◌⊎◌, ◌≢◌, Bool, true, false, ◌&&◌, ◌||◌, eqb, ltb, length, get_or, set}
+use Rattle.std.specs.Prelude.{◌≡◌, ◌⊎◌, ◌≢◌, Bool, false, ◌&&◌, ◌||◌, eqb, length, set}
 use Rattle.std.proofs.Math.Path.{refl, sym, ap, ap₂, subst}
-use Rattle.std.proofs.Common.{◌∙◌, inl, inr, length-set, length-append, get_or-set_same, get_or-set_other, lt-ltb}
+use Rattle.std.proofs.Common.{◌∙◌, inl, inr, length-append, get_or-set_same, get_or-set_other, lt-ltb}
 use Rattle.std.proofs.Math.Bool.{not, or-false}
 use mathlib.Core.List.{List, [], ◌∷◌, ◌++◌, map}
-use Prim.Native.Nat.{ℕ, zero, suc, ◌+◌, ◌-◌, ◌*◌, ◌≤◌, ◌<◌, Fin}
+use Prim.Native.Nat.{ℕ, suc, ◌+◌, ◌-◌, ◌*◌, ◌≤◌, ◌<◌, Fin}
 use native.Mathlib.Omega.{arith}
 use Rattle.std.proofs.lemmas.List.{length-map}
 use Rattle.base.specs.Bools.{one_if, not_both}
@@ -14,13 +14,13 @@ use Rattle.base.specs.Range.{range, length-range}
 use Rattle.exchange.specs.Finite.{parts}
 use Rattle.exchange.specs.Protocol.{following}
 use Rattle.rounds.specs.Task.{Task, Fit, rule}
-use Rattle.rounds.specs.Rounds.{Phase, marks, counts, phase, State, is_part, told, added, red_told, sum_told, decides, red_down, sized}
+use Rattle.rounds.specs.Rounds.{Phase, marks, counts, phase, State, is_part, red_told, sum_told, decides, red_down, sized}
 use Rattle.rounds.specs.Rounds.{counting, taking}
 use Rattle.rounds.specs.Rounded.{overb, sizedb, phase_marks, phase_counts}
 use Rattle.rounds.specs.Order.{order_of}
 use Rattle.rounds.specs.Upward.{ups}
 use Rattle.merging.specs.Totals.{grown_of}
-use Rattle.store.specs.Fields.{field, full, STAGE, CELLS, LEVELS, ROUND, RESULT, ENTRIES, WRITTEN, FIRST_CELL, FIRST_SLOT, RED, SUM, MARK}
+use Rattle.store.specs.Fields.{field, STAGE, CELLS, LEVELS, ROUND, RESULT, ENTRIES, WRITTEN, FIRST_CELL, FIRST_SLOT, RED, SUM, MARK}
 use Rattle.store.specs.Fields.{CODE, CORNER, CURSOR, FIRST_ENDED, FREE, OWNER, PART, PLACE_HEAD, most_entries}
 use Rattle.store.specs.Headed.{header_is}
 use Rattle.standing.specs.Busy.{L, Busy, HoldsCell, HoldsSlot}
@@ -35,7 +35,7 @@ use Rattle.entering.specs.Within.{level_is, cells_of_level, level_inside, cell_l
 use Rattle.entering.specs.Deciding.{decided_at, decided, decided_else, decided-length}
 use Rattle.entering.specs.Writing.{WroteLines}
 use Rattle.entering.specs.Lines.{mark_line, end_line, marks_written, marks_order}
-use Rattle.entering.specs.Entered.{Stay, columns_stay, static_low, told_none, added_none}
+use Rattle.entering.specs.Entered.{Stay, columns_stay, told_none, added_none}
 use Rattle.entering.specs.Standing.{Spent, Holding, Standing}
 use Rattle.entering.specs.Turn.{Worked, Reset, Q, entering, turn}
 use Rattle.entering.specs.Steps.{set-reset, head_running, no_result, Wholes, ends_known, odd_round}

@@ -1,32 +1,30 @@
 -- Entering the round of totals: the masters and ghosts after the step are written, and the own totals told.
 -- Laws: into_totals, totals_stay.
-use Rattle.std.specs.Prelude.{◌≡◌, refl, ◌⊎◌, ◌≢◌, Bool, true, false, ◌&&◌, ◌||◌, eqb, ltb, length, get_or, set, take}
+use Rattle.std.specs.Prelude.{◌≡◌, ◌⊎◌, ◌≢◌, Bool, false, ◌&&◌, ◌||◌, eqb, set}
 use Rattle.std.proofs.Math.Path.{sym, ap, subst}
-use Rattle.std.proofs.Common.{◌∙◌, ap₂, inl, inr, length-set, get_or-set_same, get_or-set_other, le-ltb}
+use Rattle.std.proofs.Common.{◌∙◌, inl, inr, get_or-set_same, get_or-set_other, le-ltb}
 use Rattle.std.proofs.Math.Bool.{not, or-false}
-use mathlib.Core.List.{List, [], ◌∷◌, ◌++◌}
-use Prim.Native.Nat.{ℕ, zero, suc, ◌+◌, ◌-◌, ◌*◌, ◌≤◌, ◌<◌, min, Fin}
+use mathlib.Core.List.{List, [], ◌∷◌}
+use Prim.Native.Nat.{ℕ, suc, ◌+◌, ◌-◌, ◌*◌, ◌≤◌, ◌<◌, Fin}
 use native.Mathlib.Omega.{arith}
 use Rattle.base.specs.Bools.{one_if, not_both}
 use Rattle.exchange.specs.Finite.{parts}
 use Rattle.exchange.specs.Protocol.{following}
 use Rattle.rounds.specs.Task.{Task, Fit, rule}
-use Rattle.rounds.specs.Rounds.{Phase, counts, totals, phase, State, is_part, told, added, red_told, sum_told, decides, red_down, sized}
+use Rattle.rounds.specs.Rounds.{Phase, counts, totals, phase, State, red_told, sum_told, decides, red_down, sized}
 use Rattle.rounds.specs.Rounds.{counting, taking}
 use Rattle.rounds.specs.Rounds.{capped}
 use Rattle.rounds.specs.Rounded.{overb, sizedb, phase_counts, phase_totals}
 use Rattle.rounds.specs.Order.{order_of}
 use Rattle.rounds.specs.Upward.{ups}
-use Rattle.shares.specs.Grow.{entries}
 use Rattle.merging.specs.Totals.{grown_of, grown_plain}
-use Rattle.store.specs.Fields.{field, full, STAGE, CELLS, LEVELS, ROUND, RESULT, ENTRIES, TOTAL, HIGH, WRITTEN, FIRST_CELL, FIRST_SLOT, RED}
+use Rattle.store.specs.Fields.{field, STAGE, LEVELS, ROUND, RESULT, ENTRIES, TOTAL, HIGH, WRITTEN, FIRST_CELL, RED}
 use Rattle.store.specs.Fields.{SUM, MARK, CODE, CORNER, CURSOR, FREE, OWNER, PART, PLACE_HEAD, most_entries}
-use Rattle.store.specs.Headed.{header_is}
-use Rattle.standing.specs.Busy.{L, Busy, HoldsCell, HoldsSlot}
+use Rattle.standing.specs.Busy.{L, Busy}
 use Rattle.turns.specs.Post.{post_end}
 use Rattle.partstep.specs.Step.{post_totals, enter_totals, round_entered, part_stepped}
 use Rattle.held.specs.Held.{held_in}
-use Rattle.entering.specs.Columns.{Columns, MarksIn, Heard}
+use Rattle.entering.specs.Columns.{Columns, Heard}
 use Rattle.entering.specs.Fits.{Fitted, of_marksb, of_countsb}
 use Rattle.entering.specs.Within.{cell_low, slot_low}
 use Rattle.entering.specs.Writing.{WroteLines}
@@ -35,7 +33,7 @@ use Rattle.entering.specs.Entered.{Stay, columns_stay, told_none, added_none}
 use Rattle.entering.specs.Standing.{Spent, Holding, Standing}
 use Rattle.entering.specs.Placing.{held_same}
 use Rattle.entering.specs.PlacingCells.{placed_by, placed_else, placed_size, placed_total, placed_high, placed_entries, placed_held}
-use Rattle.entering.specs.Turn.{Worked, Reset, Q, turn}
+use Rattle.entering.specs.Turn.{Worked, Q, turn}
 use Rattle.entering.specs.Steps.{set-reset, head_running, no_result, Wholes, ends_known, last_counts}
 
 module _ (P : ℕ) (J : Task (Fin P)) (fit : Fit J) {In : Type 0} (reads : Fin P → In → ℕ → ℕ) (p : Fin P) (l : L P J) (x : List ℕ)

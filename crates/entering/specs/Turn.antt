@@ -2,7 +2,7 @@
 --   Worked x x1        x1 differs from x in flags, sums, totals and places alone
 --   Reset y z          z differs from y in stage, round and result alone
 -- Laws: turn (the store stands at the next place).
-use Rattle.std.specs.Prelude.{◌≡◌, ◌⊎◌, ◌≢◌, Bool, ltb, get_or}
+use Rattle.std.specs.Prelude.{◌≡◌, ◌⊎◌, ◌≢◌, ltb}
 use Rattle.std.proofs.Math.Path.{refl, ap, ap₂, subst, fun_ext}
 use Rattle.std.proofs.Common.{sym, ◌∙◌, inl, inr, arith}
 use Rattle.std.proofs.Math.Bool.{true, false}
@@ -11,18 +11,18 @@ use Prim.Native.Nat.{ℕ, zero, suc, ◌+◌, ◌-◌, ◌≤◌, ◌<◌, Fin}
 use Rattle.std.proofs.Math.ListN.{length}
 use Rattle.base.specs.Bools.{one_if}
 use Rattle.base.specs.Limits.{most_parts}
-use Rattle.exchange.specs.Finite.{Finite, parts}
-use Rattle.exchange.specs.Protocol.{Protocol, Local, only, numbered, parcel, enter}
+use Rattle.exchange.specs.Finite.{parts}
+use Rattle.exchange.specs.Protocol.{Protocol, only, numbered, parcel, enter}
 use Rattle.rounds.specs.Task.{Task}
-use Rattle.rounds.specs.Rounds.{Body, Phase, phase, State, is_part, capped, writing}
-use Rattle.rounds.specs.Order.{order_of, ordered, Once}
+use Rattle.rounds.specs.Rounds.{Body, phase, State, is_part, capped, writing}
+use Rattle.rounds.specs.Order.{order_of, ordered}
 use Rattle.rounds.specs.Rounded.{overb, sizedb, protocol}
 use Rattle.rounds.specs.Upward.{ups, once}
 use Rattle.merging.specs.Totals.{grown_of}
-use Rattle.store.specs.Fields.{field, full, STAGE, PART, ROUND, TOTAL, HIGH, CURSOR, BIT, WRITTEN, GIVEN, CODE, VALUE, RECEIVERS, RED, SUM}
+use Rattle.store.specs.Fields.{field, STAGE, PART, ROUND, TOTAL, HIGH, CURSOR, BIT, WRITTEN, GIVEN, CODE, VALUE, RECEIVERS, RED, SUM}
 use Rattle.store.specs.Fields.{CORNER, ENTRIES, FIRST_ENDED, MARK, OWNER, PLACE_HEAD, RESULT, most_entries}
 use Rattle.store.specs.Header.{headerb}
-use Rattle.store.specs.Fetch.{entry_count, code_at, value_at, receivers_at, spot_at}
+use Rattle.store.specs.Fetch.{entry_count, spot_at}
 use Rattle.store.specs.declared.Spot.{Spot}
 use Rattle.store.proofs.Fetching.{written_few}
 use Rattle.standing.specs.Walk.{spots_from, bits_from}

@@ -4,9 +4,9 @@
 --   SameElse x y       y differs from x in its entries and places alone
 --   WroteLines p y z ts  z is y with the lines ts written
 -- Laws: wrote_none, wrote_cons, wrote_each (a loop that writes a line for each number).
-use Rattle.std.specs.Prelude.{◌≡◌, ◌⊎◌, ◌≢◌, Bool, true, ◌&&◌, not, eqb, ltb, get_or, set}
+use Rattle.std.specs.Prelude.{◌≡◌, ◌⊎◌, ◌≢◌, Bool, true, set}
 use Rattle.std.proofs.Math.Path.{refl, sym, ap, subst}
-use Rattle.std.proofs.Common.{◌∙◌, ap₂, inl, inr, length-append}
+use Rattle.std.proofs.Common.{◌∙◌, ap₂, inl, inr}
 use Rattle.std.proofs.Math.Bool.{false}
 use mathlib.Core.List.{List, [], ◌∷◌, ◌++◌, map, flat_map}
 use Prim.Native.Nat.{ℕ, zero, suc, ◌+◌, ◌≤◌, ◌<◌, Fin}

@@ -16,9 +16,10 @@ use Rattle.exchange.specs.Finite.{Finite}
 use Rattle.parts.specs.Held.{Entry}
 use Rattle.splitting.specs.Paths.{level_below, new_lv, new_one_place}
 use Rattle.shares.specs.Settled.{Settled, entries_in, new_level_in, own_in}
-use Rattle.shares.specs.Present.{new_entry, masters_in_lem}
-use Rattle.shares.specs.Entries.{entries_are}
-use Rattle.shares.specs.Once.{each_once}
+use Rattle.shares.specs.Present.{new_entry}
+use Rattle.shares.proofs.Present.{masters_in_lem}
+use Rattle.shares.proofs.Entries.{entries_are}
+use Rattle.shares.proofs.Once.{each_once}
 use Rattle.shares.specs.Share.{table_in}
 use Rattle.base.specs.Distinct.{NoDup, no_dup_append}
 use Rattle.merging.specs.Merge.{Covers}

@@ -3,7 +3,7 @@
 -- each), fitting_of (then every place that a lawful exchange leads to has room).
 use Rattle.std.specs.Prelude.{◌≡◌, List, eqb, length}
 use Rattle.std.proofs.Common.{sym, ◌∙◌, ap, subst, arith}
-use Prim.Native.Nat.{ℕ, zero, suc, ◌+◌, ◌-◌, ◌≤◌, ◌<◌, Fin}
+use Prim.Native.Nat.{ℕ, zero, suc, ◌+◌, ◌-◌, ◌≤◌, Fin}
 use Rattle.base.specs.Limits.{most_cells}
 use Rattle.base.specs.Lists.{filterb}
 use Rattle.base.specs.Range.{range, length-range, member_range}
@@ -16,7 +16,7 @@ use Rattle.rounds.specs.Rounded.{protocol}
 use Rattle.rounds.specs.Upward.{ups}
 use Rattle.rounds.specs.Bound.{sum_to, SmallTask}
 use Rattle.rounds.specs.Sums.{range_once}
-use Rattle.store.specs.Fields.{field, CELLS, FIRST_CELL, FIRST_SLOT}
+use Rattle.store.specs.Fields.{field, FIRST_CELL, FIRST_SLOT}
 use Rattle.standing.specs.Busy.{pack}
 use Rattle.merging.specs.Totals.{grown_of}
 use Rattle.entering.specs.Columns.{Columns}

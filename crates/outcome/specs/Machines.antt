@@ -50,11 +50,11 @@ use Rattle.entering.specs.Standing.{Standing, Idle}
 use Rattle.entering.specs.Turn.{Q}
 use Rattle.entering.specs.Entered.{Stay, stay_on}
 use Rattle.entering.specs.Steps.{Wholes}
-use Rattle.entering.specs.Begins.{start_fine, begins, begins_stay}
+use Rattle.entering.proofs.Begins.{start_fine, begins, begins_stay}
 use Rattle.entering.specs.ToCounts.{into_counts, counts_stay}
 use Rattle.entering.specs.ToMarks.{into_marks, marks_stay}
 use Rattle.entering.specs.ToTotals.{into_totals, totals_stay}
-use Rattle.entering.specs.ToEnd.{into_end, end_stay}
+use Rattle.entering.proofs.ToEnd.{into_end, end_stay}
 use Rattle.entering.specs.Passing.{fetched, fetch_stay, handed, hand_stay}
 use Rattle.outcome.specs.Program.{yields, gives, nine, act, phase_of}
 

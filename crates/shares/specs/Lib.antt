@@ -6,7 +6,6 @@ pub mod Settled
 pub mod Fresh
 pub mod Present
 pub mod Entries
-pub mod Once
 pub mod Held
 pub mod Share
 pub mod Keeps

@@ -1,0 +1,3 @@
+pub mod PlacingKept
+pub mod ToEnd
+pub mod Begins

@@ -1,0 +1,4 @@
+pub mod Once
+pub mod Entries
+pub mod Present
+pub mod Share
