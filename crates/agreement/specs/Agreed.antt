@@ -28,7 +28,7 @@ use Rattle.exchange.specs.Begun.{first_fine}
 use Rattle.exchange.specs.Theorem.{Can, Allowed}
 use Rattle.exchange.proofs.Theorem.{deterministic, begun_with, result, done_stays, moves_few, completion, all_given}
 use Rattle.exchange.proofs.Theorem.{given_post}
-use Rattle.exchange.specs.Theorem.{onward as moved_on}
+use Rattle.exchange.proofs.Theorem.{onward as moved_on}
 use Rattle.rounds.specs.Rounds.{Body, end, State, phase}
 use Rattle.rounds.specs.Task.{Task}
 use Rattle.rounds.specs.Rounded.{protocol, overb, phase_marks, phase_counts, phase_totals, phase_over}
@@ -47,7 +47,8 @@ use Rattle.entering.specs.Entered.{Stay}
 use Rattle.entering.specs.Standing.{Idle, Standing}
 use Rattle.entering.proofs.Begins.{start_yes, start_fine}
 use Rattle.tasks.specs.Holders.{split_task}
-use Rattle.tasks.specs.Accepted.{Splits, splits_from, split_store_lem, split_columns, split_bound}
+use Rattle.tasks.specs.Accepted.{Splits, splits_from, split_store_lem}
+use Rattle.tasks.proofs.Accepted.{split_columns, split_bound}
 use Rattle.turns.specs.Start.{start_answer, start_after}
 use Rattle.outcome.specs.Program.{yields, act, phase_of}
 use Rattle.outcome.specs.Limited.{fitting_of}

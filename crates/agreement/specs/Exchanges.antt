@@ -30,7 +30,8 @@ use Rattle.entering.specs.Within.{cell_low, slot_low}
 use Rattle.entering.specs.Standing.{Idle}
 use Rattle.tasks.specs.Edges.{slots_on}
 use Rattle.tasks.specs.Holders.{split_task}
-use Rattle.tasks.specs.Accepted.{Splits, split_slots, split_columns, split_header, split_marks, split_before}
+use Rattle.tasks.specs.Accepted.{Splits}
+use Rattle.tasks.proofs.Accepted.{split_slots, split_columns, split_header, split_marks, split_before}
 
 -- marks of 0 are taken
 mark_zero : (s : ℕ) → markb s 0 ≡ true

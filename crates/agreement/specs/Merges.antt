@@ -42,9 +42,11 @@ use Rattle.tasks.specs.Holders.{owner_ranged}
 use Rattle.tasks.specs.Accepted.{Splits, split_store_lem}
 use Rattle.held.specs.Held.{held_in}
 use Rattle.merge.specs.Merge.{ownsb, stores_in, merge_answer, merge_table}
-use Rattle.joining.specs.Joint.{Order, order_count, order_within, Joint, joint_old, joint_new}
+use Rattle.joining.specs.Joint.{Order, Joint}
+use Rattle.joining.proofs.Joint.{order_count, order_within, joint_old, joint_new}
 use Rattle.joining.specs.Done.{PartDone}
-use Rattle.joining.specs.Joined.{Joining, laid_at, joined_accepted, joined_table}
+use Rattle.joining.specs.Joined.{Joining, laid_at}
+use Rattle.joining.proofs.Joined.{joined_accepted, joined_table}
 use Rattle.outcome.specs.Program.{act, phase_of}
 use Rattle.agreement.specs.Terms.{Calls}
 use Rattle.agreement.specs.Agreed.{g, split_store, world, J, R, store_of, phase_done}

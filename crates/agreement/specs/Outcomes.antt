@@ -40,7 +40,8 @@ use Rattle.shares.specs.Settled.{Settled, entries_in}
 use Rattle.merging.specs.Limits.{end_of}
 use Rattle.merging.specs.Totals.{grown_of, grown_plain}
 use Rattle.merging.specs.Result.{settle, share_few}
-use Rattle.merging.specs.Run.{nth_part, number_of, named, marks_from, starts_together, final, run_answer_lem}
+use Rattle.merging.specs.Run.{nth_part, number_of, named, marks_from, starts_together, final}
+use Rattle.merging.proofs.Run.{run_answer_lem}
 use Rattle.store.specs.Fields.{field, CELLS, RESULT}
 use Rattle.split.specs.Columns.{slot_of}
 use Rattle.split.specs.Split.{split_answer}
@@ -49,7 +50,8 @@ use Rattle.entering.specs.Entered.{Stay}
 use Rattle.entering.specs.Standing.{result_of, old_entry, olds, Holding, Standing}
 use Rattle.tasks.specs.Edges.{slots_on}
 use Rattle.tasks.specs.Holders.{split_task, part_numbered, owner_ranged, family_ranged}
-use Rattle.tasks.specs.Accepted.{Splits, split_slots, split_store_lem, split_table}
+use Rattle.tasks.specs.Accepted.{Splits, split_store_lem, split_table}
+use Rattle.tasks.proofs.Accepted.{split_slots}
 use Rattle.held.specs.Held.{held_in}
 use Rattle.held.specs.declared.Progress.TheVariants as progress
 use Rattle.outcome.specs.Program.{act, phase_of}

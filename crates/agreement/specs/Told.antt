@@ -53,8 +53,10 @@ use Rattle.split.specs.Messages.{has_slot, will_be_red, red_masters, tell_marks,
 use Rattle.split.specs.Messages.{round_end, told_in, told_before, numbered_from, messages_to}
 use Rattle.tasks.specs.Edges.{slots_on}
 use Rattle.tasks.specs.Levels.{level_range, one_at_least}
-use Rattle.tasks.specs.Holders.{split_task, part_numbered, owner_ranged, family_ranged, slot_holds}
-use Rattle.tasks.specs.Accepted.{Splits, split_slots}
+use Rattle.tasks.specs.Holders.{split_task, part_numbered, owner_ranged, family_ranged}
+use Rattle.tasks.proofs.Holders.{slot_holds}
+use Rattle.tasks.specs.Accepted.{Splits}
+use Rattle.tasks.proofs.Accepted.{split_slots}
 use Rattle.agreement.specs.Exchanges.{fit, reads}
 use Rattle.agreement.specs.Masters.{masters_many, masters_top}
 

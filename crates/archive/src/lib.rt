@@ -16,7 +16,7 @@ ghost use Rattle.archive.specs.Examined.{FormExamined, CountsOf};
 use base::MOST_BYTES;
 
 // Whether an archive is in the form, and how many records of each kind it has where it is.
-#[derive(Drop)]
+#[derive(Clone, Copy)]
 pub struct Form {
     pub ok: bool,
     pub corners: usize,

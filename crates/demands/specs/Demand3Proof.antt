@@ -33,7 +33,8 @@ use Rattle.held.specs.Says.{says_of, doneb}
 use Rattle.held.proofs.Says.{done_read}
 use Rattle.held.specs.declared.Progress.TheVariants.{Done, Ended}
 use Rattle.tasks.specs.Edges.{slots_on}
-use Rattle.tasks.specs.Accepted.{Splits, splits_from, split_slots}
+use Rattle.tasks.specs.Accepted.{Splits, splits_from}
+use Rattle.tasks.proofs.Accepted.{split_slots}
 use Rattle.outcome.specs.Program.{nine, act, phase_of}
 use Rattle.agreement.specs.Terms.{Calls, Stores, after_split, serial_marks, last_store, alldoneb}
 use Rattle.agreement.specs.Says.{SameSays, nothing_started, nothing_none, done_kept}

@@ -18,7 +18,8 @@ use Rattle.store.specs.Fields.{firsts_length}
 use Rattle.splitting.specs.Numbers.{numbers_of}
 use Rattle.split.specs.Columns.{numbered_cell, cell_level, level_at, cells_below, keys_at, slots_below, slot_of}
 use Rattle.tasks.specs.Levels.{below_more, below_all, level_gap, level_top}
-use Rattle.tasks.specs.Edges.{slots_follow, slots_split}
+use Rattle.tasks.specs.Edges.{slots_follow}
+use Rattle.tasks.proofs.Edges.{slots_split}
 use Rattle.tasks.specs.Sizes.{slots_none, slots_all}
 use Rattle.slots.specs.Slots.{edge_at, keys_in, slots_to, Slotted}
 use Rattle.filling.specs.Regions.{SmallSlots}

@@ -4,7 +4,7 @@
 -- Laws: header_agrees, done_same (of stores that have the same numbers).
 use Rattle.std.specs.Prelude.{◌≡◌, Bool, true, false, ◌&&◌, ◌||◌, T, eqb, leb, length, get_or, take, drop}
 use Rattle.std.proofs.Math.Path.{refl, ap₂}
-use Rattle.std.proofs.Common.{sym, ◌∙◌, ap, arith, length-drop, get_or-take, get_or-drop, length-take-le, ext_get_or}
+use Rattle.std.proofs.Common.{sym, ◌∙◌, arith, length-drop, get_or-take, get_or-drop, length-take-le, ext_get_or}
 use mathlib.Core.List.{List, [], ◌∷◌, map}
 use Prim.Native.Nat.{ℕ, zero, suc, ◌+◌, ◌*◌, ◌≤◌, ◌<◌}
 use Rattle.base.specs.Limits.{most_cells, most_coarse_cells, most_coarse_corners, most_levels, most_parts}
@@ -12,7 +12,6 @@ use Rattle.base.specs.Range.{range}
 use Rattle.parts.specs.Held.{Entry}
 use Rattle.store.specs.Fields.{field, full, STAGE, PART, PARTS, CORNERS, COARSE, CELLS, LEVELS, ROUND, RESULT, ENTRIES, OWNER, CORNER}
 use Rattle.store.specs.Fields.{PLACE_HEAD, PLACE_DIGITS, PLACE_MORE, PLACE_STATUS, FIRST_CELL}
-use Rattle.store.specs.Places.{path_of}
 use Rattle.store.specs.Header.{stageb, headerb}
 use Rattle.store.specs.Headed.{header_is}
 use Rattle.held.specs.Held.{entry_in, held_in}

@@ -1,20 +1,18 @@
 -- One cell of the table is found, and all.
-use mathlib.Core.Path.{◌≡◌, refl, sym, ◌∙◌, ap, ap₂}
-use mathlib.Core.Bool.{true, false}
-use mathlib.Core.List.{List, [], flatten}
-use Prim.Native.Nat.{ℕ, zero, suc, ◌+◌, ◌-◌, ◌*◌, ◌/◌, ◌^◌, ◌≤◌, ◌<◌}
+use mathlib.Core.Path.{◌≡◌, refl, sym, ◌∙◌, ap}
+use mathlib.Core.List.{List, []}
+use Prim.Native.Nat.{ℕ, zero, suc, ◌+◌, ◌-◌, ◌≤◌, ◌<◌}
 use native.Mathlib.Decide.{dec_lt}
-use native.Mathlib.Nat.{add-zero}
 use native.Mathlib.Omega.{arith}
 use lib.ListN.{length, get_or, set, length-set}
 use Rattle.base.specs.Limits.{most_cells, most_coarse_cells}
-use Rattle.pairs.specs.Keys.{seek, Keys, Found, seek_found}
+use Rattle.pairs.specs.Keys.{seek, seek_found}
 use Rattle.mesh.specs.Table.{size_of}
 use Rattle.parts.specs.Held.{Entry}
 use Rattle.parts.specs.Merge.{lookup}
 use Rattle.held.specs.Key.{key_path, Key, key_child}
 use Rattle.merge.specs.Load.{MasterKeys, Begun}
-use Rattle.merge.specs.Sweep.{Sweep, Pushed, Seeded, Failed, sweep_start, sweep_on, sweep_out}
+use Rattle.merge.specs.Sweep.{Sweep, Pushed, Seeded, sweep_start, sweep_on, sweep_out}
 use Rattle.merge.specs.Sweep.{no_master, no_status, no_room, no_level_lem}
 use Rattle.merge.specs.Steps.{KeyRow, CellFound, Built}
 use Rattle.merge.proofs.Rows.{pushed_none}

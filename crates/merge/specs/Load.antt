@@ -4,14 +4,13 @@
 --   Begun ..                   the table has room for 4,096 keys, and n of them are in use
 --   Load ds ..                 what putting the masters of ds behind n keys leaves: r keys, or r is 4,097 where they are too many
 -- Laws: loaded_none, load_start, load_ghost, load_full, load_master (one entry), load_more (entries before entries).
-use Rattle.std.specs.Prelude.{◌≡◌, refl, Bool, true, false, not, List, [], ◌∷◌, ◌++◌, ℕ, zero, suc, ◌+◌, ◌-◌, ◌/◌, ◌≤◌, ◌<◌, T, length, get_or, set}
-use Rattle.std.proofs.Common.{sym, ◌∙◌, ap, subst, append_assoc, arith, length-append, length-set, get_or-set_same, get_or-set_other}
+use Rattle.std.specs.Prelude.{◌≡◌, refl, Bool, true, false, List, [], ◌∷◌, ◌++◌, ℕ, ◌+◌, ◌-◌, ◌/◌, ◌≤◌, ◌<◌, length, get_or, set}
+use Rattle.std.proofs.Common.{sym, ◌∙◌, ap, append_assoc, arith, length-set, get_or-set_same, get_or-set_other}
 use Rattle.std.proofs.Math.Decide.{ℕ_discrete}
-use Rattle.base.specs.Bools.{either, not_both, is_true}
 use Rattle.base.specs.Limits.{most_cells, too_many, most_levels}
 use Rattle.base.specs.Lists.{anyb, filterb, sameb, sameb_eq}
 use Rattle.base.specs.Places.{sameb_self}
-use Rattle.pairs.specs.Keys.{seek, Keys, Room, Added, seek_found, seek_same, seek_other}
+use Rattle.pairs.specs.Keys.{seek, Keys, Added, seek_found, seek_same, seek_other}
 use Rattle.parts.specs.Held.{Entry}
 use Rattle.parts.specs.Merge.{lookup, masters}
 use Rattle.held.specs.Key.{key_path, Key, Keyed, key_same, length-eights}

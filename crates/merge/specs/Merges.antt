@@ -1,7 +1,7 @@
 -- What stores that merge are, test by test.
 --   Merges b      the tests of mergeb
 -- Laws: merges_is and merges_by (both ways), merges_accepted (what is answered then).
-use Rattle.std.specs.Prelude.{◌≡◌, Bool, true, false, ◌&&◌, List, ℕ, ◌*◌, ◌≤◌, T, leb, length}
+use Rattle.std.specs.Prelude.{◌≡◌, Bool, ◌&&◌, List, ℕ, ◌*◌, ◌≤◌, T, length}
 use borrow.Author.Tests.{le-leb}
 use Rattle.base.specs.Bools.{and_left, and_right, and_both, is_true}
 use Rattle.base.specs.Limits.{most_cells, most_parts}

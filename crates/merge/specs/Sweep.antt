@@ -6,25 +6,25 @@
 --   Sweep es m ..            the statuses of the first c cells are found, and e keys are known
 --   Failed es m              the entries es make no table of a mesh
 -- Laws: sweep_start, sweep_on (one cell), sweep_out (all), and what fails: no_master, no_status, no_room, no_level_lem.
-use Rattle.std.specs.Prelude.{◌≡◌, Bool, ◌&&◌, get_or, drop, set}
+use Rattle.std.specs.Prelude.{◌≡◌, Bool, ◌&&◌, get_or, set}
 use Rattle.std.proofs.Math.Path.{refl, ap}
-use Rattle.std.proofs.Common.{sym, ◌∙◌, ap₂, subst, add-zero, add-suc, suc-add, take-suc-set, length-take-le}
+use Rattle.std.proofs.Common.{sym, ◌∙◌, ap₂, add-zero, take-suc-set, length-take-le}
 use Rattle.std.proofs.Math.Bool.{true, false}
 use mathlib.Core.List.{List, [], ◌∷◌, ◌++◌, map, flatten, append_assoc, append-nil}
-use Prim.Native.Nat.{ℕ, zero, suc, pred, ◌+◌, ◌-◌, ◌*◌, ◌/◌, ◌^◌, ◌≤◌, ◌<◌}
+use Prim.Native.Nat.{ℕ, zero, suc, ◌+◌, ◌-◌, ◌*◌, ◌/◌, ◌^◌, ◌≤◌, ◌<◌}
 use Rattle.std.proofs.Math.Decide.{ℕ_discrete, dec_lt}
 use native.Mathlib.Omega.{arith}
 use Rattle.std.proofs.Math.Dec.{T, leb}
 use Rattle.std.proofs.Math.ListN.{length, take, length-append, length-map}
 use Rattle.std.proofs.lemmas.Bool.{lt-leb}
-use Rattle.base.specs.Bools.{either, not_both, is_true, and_left, and_right}
+use Rattle.base.specs.Bools.{not_both, is_true, and_left, and_right}
 use Rattle.base.specs.Limits.{most_cells, most_coarse_cells, most_levels}
-use Rattle.base.specs.Lists.{allb, anyb, sameb}
+use Rattle.base.specs.Lists.{allb}
 use Rattle.base.specs.Range.{range, length-range}
 use Rattle.mesh.specs.Table.{soundb, size_of}
 use Rattle.tables.specs.Finish.{unsound_long, unsound_status}
 use Rattle.parts.specs.Held.{Entry}
-use Rattle.parts.specs.Merge.{lookup, child_paths, gather, merged, masters, filledb, completeb}
+use Rattle.parts.specs.Merge.{lookup, child_paths, gather, merged, filledb, completeb}
 use Rattle.held.specs.Key.{key_path, Key, Keyed, key_child, key_coarse, length-eights}
 use Rattle.merge.specs.Load.{masteredb}
 

@@ -2,15 +2,13 @@
 -- new red cells among its own: the statements for the exchange's theorem, readable alone.
 --   settle    the split table after the rounds, with any slots
 -- Laws: serial_table (merging gives the step's table, in whatever order of the parts), serial_answer (the result from the totals is the
--- serial step's), held_each_once, just_held, share_few (a part holds its masters and ghosts, each once, and nothing else),
+-- serial step's; proofs/Result), held_each_once, just_held, share_few (a part holds its masters and ghosts, each once, and nothing else),
 -- serial_complete (merging finds them all), owners_after_lem, coarse_owner, family_same, family_new (the owners after the step are accepted,
 -- and what they keep), admissible_after (A1 to A6).
-use Rattle.std.specs.Prelude.{◌≡◌, ◌≢◌, ℕ, suc, ◌≤◌, ◌<◌, pred, T, leb, length, get_or}
+use Rattle.std.specs.Prelude.{◌≡◌, ◌≢◌, ℕ, suc, ◌≤◌, ◌<◌, pred, T, length, get_or}
 use Rattle.std.proofs.Common.{sym, ◌∙◌, ap, subst, arith}
 use mathlib.Core.List.{List, Memᴰ, flatten}
 use Rattle.base.specs.Limits.{most_cells, most_levels}
-use Rattle.base.specs.Refuse.{refuse}
-use Rattle.base.specs.declared.Answer.TheVariants.{Accepted}
 use Rattle.mesh.specs.Coarse.{cellsb}
 use Rattle.mesh.specs.Table.{Level, levels_of, soundb}
 use Rattle.mesh.specs.Step.{step_table}
@@ -20,8 +18,8 @@ use Rattle.lineage.specs.Paths.{path_at}
 use Rattle.lineage.specs.Step.{step_by_lem}
 use Rattle.soundness.specs.Sound.{Sound, sound_parts}
 use Rattle.soundness.specs.Steady.{step_sound}
-use Rattle.exchange.specs.Finite.{Finite, sum_over}
-use Rattle.rounds.specs.Rounds.{State, capped}
+use Rattle.exchange.specs.Finite.{Finite}
+use Rattle.rounds.specs.Rounds.{State}
 use Rattle.rounds.specs.Enough.{Known}
 use Rattle.parts.specs.Owners.{nth_cell, family_of, ownersb, owners_after}
 use Rattle.parts.specs.Held.{Entry, entries_of}
@@ -41,8 +39,6 @@ use Rattle.base.specs.Distinct.{NoDup}
 use Rattle.merging.specs.Merge.{merged_step}
 use Rattle.merging.specs.Complete.{no_more_held, complete_is}
 use Rattle.merging.specs.All.{entries_all, entries_cover, all_apart}
-use Rattle.merging.specs.Limits.{end_of}
-use Rattle.merging.specs.Totals.{masters_of, high_in, ends}
 
 module _ {Part : Type 0} (F : Finite Part) (n : ℕ) (qs : List (List ℕ)) (ss ms : List ℕ) (four : All (λ q. length q ≡ 4) qs)
     (accepted : T (cellsb n qs)) (sound : T (soundb n qs ss)) (P : ℕ) (os : List ℕ) (owners : T (ownersb n qs ss P os))
@@ -75,14 +71,6 @@ module _ {Part : Type 0} (F : Finite Part) (n : ℕ) (qs : List (List ℕ)) (ss 
   -- merging the parts' entries gives the step's table
   pub serial_table : (l : List Part) → ((p : Part) → Memᴰ p l) → merged (entries_all settle l) (length qs) ≡ step_table n qs ss ms
   serial_table l every = merged_step n qs ss ms (entries_all settle l) sound (entries_cover settle l every)
-
-  pub serial_answer : NoDup F.list → end_of (capped (sum_over (masters_of settle) F.list)) (high_in settle)
-      ≡ refuse 8 (leb (length (step_table n qs ss ms)) most_levels)
-      (refuse 9 (leb (length (flatten (step_table n qs ss ms))) most_cells) Accepted)
-  serial_answer d =
-      ends settle d ∙ ap (λ (t : List (List ℕ)). refuse 8 (leb (length t) most_levels)
-      (refuse 9 (leb (length (flatten t)) most_cells) Accepted))
-      (sym (step_by_lem n qs ss ms sound))
 
   pub held_each_once : (p : Part) → NoTwice (entries_in settle p)
   held_each_once p = each_once settle p

@@ -1,9 +1,8 @@
 -- An accepted split: what its answer says, and what the stores of its parts are.
 --   Splits Q n qs ss os      a sound table over an accepted mesh, with the owners of Q + 1 parts, within the limits
 -- Laws: splits_from (an accepted split is so), split_table, split_room, split_after_lem and split_store_lem (the table and the stores after the
--- call), split_slots and split_bound (its slots, and how small its task is), split_columns, split_header, split_marks and split_before (a
--- store of it, by `Columns` and `Idle`).
-use Rattle.std.specs.Prelude.{◌≡◌, Bool, true, ◌&&◌, List, ◌++◌, T, length, get_or, ℤ}
+-- call). What its slots, its task and its stores are is in proofs/Accepted.
+use Rattle.std.specs.Prelude.{◌≡◌, Bool, ◌&&◌, List, ◌++◌, T, length, ℤ}
 use Rattle.std.proofs.Common.{sym, subst, arith, leb→le}
 use Rattle.std.proofs.Math.Path.{ap}
 use Prim.Native.Nat.{ℕ, suc, ◌*◌, ◌≤◌, Fin}
@@ -19,28 +18,13 @@ use Rattle.mesh.specs.Table.{soundb}
 use Rattle.mesh.specs.Answers.{table_answer}
 use Rattle.mesh.specs.Laws.{AcceptedMesh, mesh_counts, mesh_accepted}
 use Rattle.lattice.specs.Levels.{fours_four}
-use Rattle.soundness.specs.Sound.{sound_parts}
-use Rattle.exchange.specs.Finite.{parts}
-use Rattle.rounds.specs.Bound.{SmallTask}
-use Rattle.store.specs.Fields.{field, full, CELLS}
-use Rattle.store.specs.Header.{headerb}
+use Rattle.store.specs.Fields.{full}
 use Rattle.store.specs.Stores.{store_in}
-use Rattle.turns.specs.Start.{marks_due}
 use Rattle.parts.specs.Owners.{ownersb}
-use Rattle.parts.specs.Starts.{startb, place_on}
-use Rattle.splitting.specs.Admissible.{owners_counted}
-use Rattle.splitting.specs.Split.{Slots}
-use Rattle.entering.specs.Columns.{Columns, count_before}
-use Rattle.split.specs.Columns.{slot_of}
 use Rattle.split.specs.Split.{stores_after, split_in, split_answer, split_after}
 use Rattle.split.specs.Stored.{Stored}
 use Rattle.split.proofs.Stored.{stored_split}
 use Rattle.split.specs.Stored as S
-use Rattle.tasks.specs.Edges.{slots_on, slots_split}
-use Rattle.tasks.specs.Holders.{split_task}
-use Rattle.tasks.specs.Sizes.{split_small}
-use Rattle.tasks.specs.Columns.{columns_of}
-use Rattle.tasks.specs.Idle.{idle_header, marks_due_lem, marks_before}
 
 -- Rule 15.17.
 pub record Splits (Q n : ℕ) (qs : List (List ℕ)) (ss os : List ℕ) : Type 0 where
@@ -114,26 +98,3 @@ module _ (ps : List ℤ) (ts ss : List ℕ) (Q : ℕ) (os b : List ℕ) (e : spl
   split_store_lem r p =
       subst (λ (y : List ℕ). Stored n qs ss (suc Q) os (suc p.0) (store_in y p.0 ++ r)) (sym split_after_lem)
       (stored_split n qs ss (suc Q) os b (S.fours_long ts) splits_from.parts_few split_room p.0 p.1 r)
-
-module _ (Q n : ℕ) (qs : List (List ℕ)) (ss os : List ℕ) (g : Splits Q n qs ss os) where
-  pub split_slots : Slots n qs ss (slot_of n qs ss) (slots_on n qs ss)
-  split_slots = slots_split n qs ss g.four g.mesh g.sound
-
-  pub split_bound : SmallTask (parts (suc Q)) (split_task Q n qs ss os) (length ss)
-  split_bound = split_small n qs ss (sound_parts n qs ss g.sound) Q os
-
-  module _ (p : Fin (suc Q)) (x : List ℕ) (st : Stored n qs ss (suc Q) os (suc p.0) x) where
-    pub split_columns : Columns (suc Q) (split_task Q n qs ss os) p x
-    split_columns =
-        columns_of Q n qs ss os g.four g.mesh g.sound g.owners p x st g.parts_few g.coarse_least g.coarse_most
-
-    pub split_header : headerb x ≡ true
-    split_header =
-        idle_header n qs ss (suc Q) os p.0 x g.sound st g.parts_few p.1 g.corners_least g.corners_most g.coarse_least
-        g.coarse_most
-
-    pub split_marks : (ms : List ℕ) → marks_due x ms (field x CELLS) 0 0 ≡ startb ss os (suc p.0) ms
-    split_marks = marks_due_lem n qs ss (suc Q) os p.0 x g.sound st (owners_counted n qs ss (suc Q) os g.owners).many
-
-    pub split_before : (c : ℕ) → c ≤ length ss → get_or os c 0 ≡ suc p.0 → count_before x c ≡ place_on os c
-    split_before = marks_before n qs ss (suc Q) os p.0 x g.sound st

@@ -1,7 +1,7 @@
 -- Slots by first appearance: each level's edges stand as pairs of corner numbers, each once.
 --   key c e       the pair of the edge e of the cell c; slots_on k the slots of level k
--- Laws: cell_placed (the points of a cell are corners), edge_number (an edge over numbers), key_means (pairs tell edges apart), slots_split
--- (they are slots).
+-- Laws: cell_placed (the points of a cell are corners), edge_number (an edge over numbers), key_means (pairs tell edges apart), keyed
+-- (slots by these keys). That slots_on are slots is in proofs/Edges.
 use Rattle.std.specs.Prelude.{◌≡◌, true, ℕ, suc, ◌+◌, ◌<◌, length}
 use Rattle.std.proofs.Math.Path.{refl, sym, ap}
 use Rattle.std.proofs.Common.{◌∙◌, ap₂, subst, arith}
@@ -31,7 +31,7 @@ use Rattle.splitting.specs.Numbers.{numbers_of, number_inside}
 use Rattle.splitting.specs.Split.{Slots}
 use Rattle.splitting.specs.Keyed.{keyed_slot, keyed_slots}
 use Rattle.splitting.proofs.Keyed.{keyed_slots_lem}
-use Rattle.split.specs.Columns.{numbered_cell, keys_at, slots_below, slot_of}
+use Rattle.split.specs.Columns.{numbered_cell, keys_at, slots_below}
 use Rattle.split.specs.Messages.{level_slots}
 use Rattle.tasks.specs.Levels.{level_range}
 use Rattle.tables.specs.Sound.{examined_corners}
@@ -119,13 +119,9 @@ module _ (n : ℕ) (qs : List (List ℕ)) (ss : List ℕ) where
         ∙ ap₂ (joinsb eqb) (edge_number c e hc he) (edge_number d f hd hf)
         ∙ joins_number (edge [] (nth_cell n qs ss c) e) (edge [] (nth_cell n qs ss d) f) (edge_placed c e hc he) (edge_placed d f hd hf)
 
-    keyed : Slots n qs ss (keyed_slot n qs ss isb (keys_at n qs ss) (slots_below n qs ss) key)
+    pub keyed : Slots n qs ss (keyed_slot n qs ss isb (keys_at n qs ss) (slots_below n qs ss) key)
         (keyed_slots n qs ss isb (keys_at n qs ss) (slots_below n qs ss) key)
     keyed =
         keyed_slots_lem n qs ss isb (keys_at n qs ss) (slots_below n qs ss) key s (0, 0) same_pair slots_follow key_there
         (λ k c d e f m q b g.
         key_means c d e f (number_inside n qs ss s k c m) (number_inside n qs ss s k d q) (six_below e b) (six_below f g))
-
-    pub slots_split : Slots n qs ss (slot_of n qs ss) slots_on
-    unfolding slot_of keyed_slot keyed_slots
-    slots_split = keyed

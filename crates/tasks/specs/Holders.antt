@@ -1,10 +1,9 @@
 -- Which part holds which cell and which slot: in the numbers of a split, and in the task.
 --   split_task Q n qs ss os    the task of a table that is split over Q + 1 parts
--- Laws: owner_ranged and family_ranged (owners are parts), part_numbered (a part by its number), mine_held (cells), slot_holds (slots),
--- slot_told (a slot that is held is one of its level), holder_bit (the parts that hold a slot, as bits), no_slot and no_bit (there are no
--- others).
-use Rattle.std.specs.Prelude.{◌≡◌, Bool, true, ◌&&◌, List, map, eqb, length}
-use Rattle.std.proofs.Common.{sym, ◌∙◌, subst, arith, eqb→eq}
+-- Laws: owner_ranged and family_ranged (owners are parts), part_numbered (a part by its number), mine_held (cells), holder_bit (the
+-- parts that hold a slot, as bits), no_slot and no_bit (there are no others). Slots of a level are in proofs/Holders.
+use Rattle.std.specs.Prelude.{◌≡◌, Bool, ◌&&◌, List, map, eqb, length}
+use Rattle.std.proofs.Common.{sym, ◌∙◌, arith, eqb→eq}
 use Rattle.std.proofs.Math.Path.{ap, ap₂}
 use Rattle.std.proofs.Math.Bool.{false, ◌||◌}
 use Prim.Native.Nat.{ℕ, suc, ◌≤◌, ◌<◌, Fin}
@@ -14,28 +13,27 @@ use Rattle.std.proofs.Math.ListN.{get_or, length-map, get_or-eq_default}
 use borrow.Author.Tests.{eq-eqb, ne_eqb}
 use Rattle.base.specs.Limits.{most_parts}
 use Rattle.base.specs.Lists.{anyb}
-use Rattle.base.specs.Bools.{and_left, and_right, same_test}
-use Rattle.base.specs.Every.{All, get_d_map}
-use Rattle.base.specs.Range.{range, length-range, range_at, range_member, member_range}
-use Rattle.mesh.specs.Coarse.{cellsb}
+use Rattle.base.specs.Bools.{and_left, same_test}
+use Rattle.base.specs.Every.{get_d_map}
+use Rattle.base.specs.Range.{range, length-range, range_at, member_range}
 use Rattle.mesh.specs.Table.{soundb}
 use Rattle.mesh.specs.Layout.{edge_numbers}
 use Rattle.soundness.specs.Sound.{Sound, sound_parts}
 use Rattle.exchange.specs.Finite.{Finite, parts}
-use Rattle.base.specs.Member.{Member, any_member, member_any}
-use Rattle.rounds.specs.Task.{Task, has}
-use Rattle.rounds.specs.Rounds.{is_part, mine, holdsb}
+use Rattle.base.specs.Member.{any_member}
+use Rattle.rounds.specs.Task.{Task}
+use Rattle.rounds.specs.Rounds.{is_part, mine}
 use Rattle.rounds.specs.Among.{is_eq, is_same}
 use Rattle.store.specs.Fetch.{bitb}
 use Rattle.parts.specs.Owners.{children_of, family_of, ownersb}
 use Rattle.parts.specs.Held.{masterb}
-use Rattle.splitting.specs.Numbers.{numbers_of, number_inside, level_at_lem, kid}
-use Rattle.splitting.specs.Split.{Slots, task_of}
+use Rattle.splitting.specs.Numbers.{number_inside, level_at_lem, kid}
+use Rattle.splitting.specs.Split.{task_of}
 use Rattle.splitting.specs.Members.{first_in}
 use Rattle.splitting.specs.Admissible.{owners_counted}
 use Rattle.merging.specs.Run.{nth_part, number_of, named}
 use Rattle.split.specs.Columns.{slot_of, holds_cell, holds_slot, holders_of}
-use Rattle.tasks.specs.Edges.{slots_on, slots_split}
+use Rattle.tasks.specs.Edges.{slots_on}
 use Rattle.tasks.specs.Inner.{bit_at}
 
 abbrev pub split_task : (Q n : ℕ) → List (List ℕ) → List ℕ → List ℕ → Task (Fin (suc Q))
@@ -102,42 +100,6 @@ module _ (Q n : ℕ) (qs : List (List ℕ)) (ss os : List ℕ) (sound : T (sound
       let v : T (holds_cell n qs ss os (suc i) c) = and_left (holds_cell n qs ss os (suc i) c) (hasb c x) u in
       rw (held_ranged i c (omega arith) g) at v)
       (λ t. absurd t)
-
-  module _ (four : All (λ q. length q ≡ 4) qs) (accepted : T (cellsb n qs)) where
-    abbrev sl : Slots n qs ss (slot_of n qs ss) (slots_on n qs ss)
-    sl = slots_split n qs ss four accepted sound
-
-    -- the level of a cell's slots
-    slot_level : (k c x : ℕ) → Member c (numbers_of n qs ss k) → T (hasb c x) → Member x (slots_on n qs ss k)
-    slot_level k c x m t =
-        let (e, b, u) = any_member (λ e. eqb (slot_of n qs ss c e) x) edge_numbers t in
-        subst (λ (y : ℕ). Member y (slots_on n qs ss k)) (eqb→eq (slot_of n qs ss c e) x u) (sl.there k c e m b)
-
-    pub slot_told : (p : Fin (suc Q)) (k x : ℕ) → holdsb (parts (suc Q)) (split_task Q n qs ss os) p k x ≡ true
-        → Member x (slots_on n qs ss k)
-    unfolding holdsb has
-    slot_told p k x e =
-        let (c, m, u) = any_member (λ c. mine F J p c && has J c x) (numbers_of n qs ss k) (rw e tt) in
-        slot_level k c x m (and_right (mine F J p c) (has J c x) u)
-
-    pub slot_holds : (p : Fin (suc Q)) (k x : ℕ) → Member x (slots_on n qs ss k)
-        → holdsb (parts (suc Q)) (split_task Q n qs ss os) p k x ≡ holds_slot n qs ss os (suc p.0) x
-    unfolding holdsb has holds_slot
-    slot_holds p k x at =
-        same_test (holdsb F J p k x) (holds_slot n qs ss os (suc p.0) x)
-        (λ t.
-        let (c, m, u) = any_member (λ c. mine F J p c && has J c x) (numbers_of n qs ss k) t in
-        let h = number_inside n qs ss s k c m in
-        member_any (λ c. holds_cell n qs ss os (suc p.0) c && hasb c x) (range 0 (length ss)) c
-        (range_member 0 (length ss) c (omega arith) (omega arith))
-        (subst (λ (b : Bool). T (b && hasb c x)) (mine_held p c h) u))
-        (λ t.
-        let (c, m, u) = any_member (λ c. holds_cell n qs ss os (suc p.0) c && hasb c x) (range 0 (length ss)) t in
-        let (_, h) = member_range 0 (length ss) c m in
-        let (j, q) = level_at_lem n qs ss s c (omega arith) in
-        let z : j ≡ k = sl.apart j k x (slot_level j c x q (and_right (holds_cell n qs ss os (suc p.0) c) (hasb c x) u)) at in
-        member_any (λ c. mine F J p c && has J c x) (numbers_of n qs ss k) c (subst (λ (y : ℕ). Member c (numbers_of n qs ss y)) z q)
-        (subst (λ (b : Bool). T (b && hasb c x)) (sym (mine_held p c (omega arith))) u))
 
   -- sixteen bits
   pub holder_bit : (i x : ℕ) → i < most_parts → bitb (holders_of n qs ss os x) i ≡ holds_slot n qs ss os (suc i) x

@@ -1,11 +1,9 @@
 pub mod Levels
 pub mod Edges
-pub mod Shapes
 pub mod Families
 pub mod Inner
 pub mod Holders
 pub mod Sizes
 pub mod Paths
-pub mod Columns
 pub mod Idle
 pub mod Accepted

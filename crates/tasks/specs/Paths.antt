@@ -1,6 +1,6 @@
 -- The path of a cell has room in a place, and its place tells whether the cell is coarse.
 -- Laws: path_room (the path), place_coarse (the place's head).
-use Rattle.std.specs.Prelude.{◌≡◌, refl, List, [], ◌∷◌, ◌++◌, ℕ, zero, suc, ◌/◌, ◌≤◌, ◌<◌, min, ltb, length, get_or}
+use Rattle.std.specs.Prelude.{◌≡◌, refl, List, [], ◌∷◌, ◌++◌, ℕ, zero, suc, ◌≤◌, ◌<◌, min, ltb, length, get_or}
 use Rattle.std.proofs.Common.{◌∙◌, ap, arith, length-append, length-take, lt-ltb, le-ltb}
 use Rattle.base.specs.Every.{all_append}
 use Rattle.base.specs.Limits.{most_coarse_cells, top_level}

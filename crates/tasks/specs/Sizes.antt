@@ -1,9 +1,8 @@
 -- How many slots there are: at most six for each cell.
--- Laws: keys_few (of a level), slots_below_lem (of lower levels), slots_all (of the table),
--- slots_gap (the slots of a level), split_small (the task is small).
-use Rattle.std.specs.Prelude.{◌≡◌, true, false, ℕ, zero, suc, ◌+◌, ◌-◌, ◌*◌, ◌≤◌, length}
+-- Laws: keys_few (of a level), slots_below_lem (of lower levels), slots_all (of the table). More in proofs/Sizes.
+use Rattle.std.specs.Prelude.{◌≡◌, true, false, ℕ, zero, suc, ◌+◌, ◌*◌, ◌≤◌, length}
 use Rattle.std.proofs.Math.Path.{refl}
-use Rattle.std.proofs.Common.{sym, ◌∙◌, ap, ⊎_elim}
+use Rattle.std.proofs.Common.{◌∙◌, ap, ⊎_elim}
 use mathlib.Core.List.{List, [], ◌∷◌, ◌++◌, flat_map}
 use native.Mathlib.Omega.{arith}
 use Rattle.std.proofs.Math.ListN.{length-append}
@@ -14,14 +13,9 @@ use Rattle.base.specs.Range.{range, length-range}
 use Rattle.mesh.specs.Cells.{edges}
 use Rattle.edges.specs.Pairs.{Pair, sorted, isb, add_pair, add_pairs}
 use Rattle.soundness.specs.Sound.{Sound}
-use Rattle.exchange.specs.Finite.{parts}
-use Rattle.rounds.specs.Bound.{SmallTask}
-use Rattle.splitting.specs.Small.{small_task}
-use Rattle.merging.specs.Run.{nth_part}
-use Rattle.split.specs.Columns.{numbered_cell, level_at, cells_below, keys_at, slots_below, slot_of}
+use Rattle.split.specs.Columns.{numbered_cell, level_at, cells_below, keys_at, slots_below}
 use Rattle.tasks.specs.Levels.{below_more, below_all}
-use Rattle.tasks.specs.Edges.{slots_on, slots_follow}
-use Rattle.tasks.specs.Holders.{split_task}
+use Rattle.tasks.specs.Edges.{slots_follow}
 
 add_few : (es : List Pair) (e : Pair) → length (add_pair es e) ≤ suc (length es)
 unfolding add_pair
@@ -47,7 +41,7 @@ module _ (n : ℕ) (qs : List (List ℕ)) (ss : List ℕ) where
   length-six (c ∷ l) =
       length-append (edges 0 (numbered_cell n qs ss c)) (flat_map (λ c. edges 0 (numbered_cell n qs ss c)) l) ∙ omega (arith, length-six l)
 
-  keys_few : (k : ℕ) → length (keys_at n qs ss k) ≤ 6 * length (level_at n qs ss k).cells
+  pub keys_few : (k : ℕ) → length (keys_at n qs ss k) ≤ 6 * length (level_at n qs ss k).cells
   unfolding keys_at
   keys_few k =
       let l = range (cells_below n qs ss k) (length (level_at n qs ss k).cells) in
@@ -66,16 +60,6 @@ module _ (n : ℕ) (qs : List (List ℕ)) (ss : List ℕ) where
   slots_below_lem zero = omega (arith, slots_none)
   slots_below_lem (suc k) = omega (arith, slots_follow n qs ss k, below_more n qs ss k, keys_few k, slots_below_lem k)
 
-  pub slots_gap : (k : ℕ) → slots_on n qs ss k ≡ range (slots_below n qs ss k) (slots_below n qs ss (suc k) - slots_below n qs ss k)
-  slots_gap k =
-      let z : slots_below n qs ss (suc k) - slots_below n qs ss k ≡ length (keys_at n qs ss k) = omega (arith, slots_follow n qs ss k) in
-      ap (range (slots_below n qs ss k)) (sym z)
-
   module _ (s : Sound n qs ss) where
     pub slots_all : (k : ℕ) → slots_below n qs ss k ≤ most_slots
     slots_all k = omega (arith, slots_below_lem k, below_all n qs ss s k, s.many, s.few)
-
-    pub split_small : (Q : ℕ) (os : List ℕ) → SmallTask (parts (suc Q)) (split_task Q n qs ss os) (length ss)
-    split_small Q os =
-        small_task n qs ss s (parts (suc Q)) (slot_of n qs ss) (slots_on n qs ss)
-        (λ k. omega (arith, keys_few k, length-range (slots_below n qs ss k) (length (keys_at n qs ss k)))) os (nth_part Q)
