@@ -44,7 +44,7 @@ use Rattle.split.specs.Stored.{Stored}
 use Rattle.standing.specs.Busy.{pack, L}
 use Rattle.entering.specs.Fits.{Fitted}
 use Rattle.entering.specs.Entered.{Stay}
-use Rattle.entering.specs.Standing.{Idle, Standing}
+use Rattle.entering.specs.Standing.{Standing}
 use Rattle.entering.proofs.Begins.{start_yes, start_fine}
 use Rattle.tasks.specs.Holders.{split_task}
 use Rattle.tasks.specs.Accepted.{Splits, splits_from, split_store_lem}

@@ -8,7 +8,7 @@ use Rattle.std.proofs.Math.Path.{refl, sym, ap, subst}
 use Rattle.std.proofs.Common.{◌∙◌, ap₂, inl}
 use Rattle.std.proofs.Math.Bool.{true, false}
 use mathlib.Core.List.{List, [], ◌∷◌, ◌++◌, map, flat_map}
-use Prim.Native.Nat.{ℕ, zero, suc, ◌+◌, ◌-◌, ◌≤◌, ◌<◌, Fin}
+use Prim.Native.Nat.{ℕ, zero, suc, ◌+◌, ◌≤◌, ◌<◌, Fin}
 use native.Mathlib.Omega.{arith}
 use Rattle.std.proofs.Math.Dec.{T, eqb, leb→le}
 use Rattle.std.proofs.Math.ListN.{length, get_or}
@@ -59,7 +59,7 @@ use Rattle.agreement.specs.Terms.{Calls, marks_given, serial_marks}
 use Rattle.held.specs.Says.{says_of}
 use Rattle.agreement.specs.Says.{says_done, says_ended}
 use Rattle.agreement.specs.Exchanges.{fit, reads}
-use Rattle.agreement.specs.Agreed.{n, qs, g, split_store, world, J, R, input_of, store_of, ending, at_end_lem, phase_done, input_fine}
+use Rattle.agreement.specs.Agreed.{g, split_store, world, J, R, input_of, store_of, ending, at_end_lem, phase_done, input_fine}
 
 -- any marks that the serial step takes can be started with: each part gets those of its masters
 each-length : (ss ms : List ℕ) → T (marksb ss ms) → length ms ≡ length ss

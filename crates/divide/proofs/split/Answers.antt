@@ -44,39 +44,37 @@ first_children-requires c =
 
 pub owners_fit-requires : goal.owners_fit-requires
 owners_fit-requires c =
+    let few_fit = c.if-parts-gt-MOST_PARTS.false in
     let z : c.open-f.result.refusal ≡ 0 = omega (arith, c.if-f-ne0.false) in
     kids_known _ _ _ _ _ _ _ _ _ (c.open-f.ensures.fits z) c.first_children.new.kids _ c.first_children.ensures c.args.parts
-    c.args.stores.now c.if-parts-gt-MOST_PARTS.false c.if-stores.false
+    c.args.stores.now few_fit c.if-stores.false
 
 pub returns-then-not-owners_fit : goal.returns-then-not-owners_fit
 returns-then-not-owners_fit c =
+    let few_unfit = c.if-parts-gt-MOST_PARTS.false in
     let z : c.open-f.result.refusal ≡ 0 = omega (arith, c.if-f-ne0.false) in
     let s = split_owners c.args.positions.now c.args.cells.now c.args.status.now c.args.parts c.args.owners.now c.args.stores.now c.if-stores.false
-    c.open-f.result.refusal c.open-f.ensures.answer z c.if-parts-lt1.false c.if-parts-gt-MOST_PARTS.false
+    c.open-f.result.refusal c.open-f.ensures.answer z c.if-parts-lt1.false few_unfit
     (sym (owned_is _ _ _ _ _ _ _ _ _ (c.open-f.ensures.fits z) c.first_children.new.kids _ c.first_children.ensures c.args.parts
-    c.args.stores.now c.if-parts-gt-MOST_PARTS.false c.if-stores.false c.args.owners.now) ∙ sym c.owners_fit.ensures ∙ c.if-not-owners_fit.true) in
+    c.args.stores.now few_unfit c.if-stores.false c.args.owners.now) ∙ sym c.owners_fit.ensures ∙ c.if-not-owners_fit.true) in
     record { value = s.0; stores_value = s.1 }
 
 pub divide-requires : goal.divide-requires
 divide-requires c =
-    let z : c.open-f.result.refusal ≡ 0 = omega (
-      arith,
-      c.if-f-ne0.false,
-    ) in
+    let few_divide = c.if-parts-gt-MOST_PARTS.false in
+    let z : c.open-f.result.refusal ≡ 0 = omega (arith, c.if-f-ne0.false) in
     divisible_known _ _ _ _ _ _ _ _ _ (c.open-f.ensures.fits z) c.first_children.new.kids _ c.first_children.ensures c.args.parts
-    c.args.stores.now c.if-parts-gt-MOST_PARTS.false c.if-stores.false c.args.owners.now
+    c.args.stores.now few_divide c.if-stores.false c.args.owners.now
     (sym (owned_is _ _ _ _ _ _ _ _ _ (c.open-f.ensures.fits z) c.first_children.new.kids _ c.first_children.ensures c.args.parts
-    c.args.stores.now c.if-parts-gt-MOST_PARTS.false c.if-stores.false c.args.owners.now) ∙ sym c.owners_fit.ensures ∙ c.if-not-owners_fit.false)
+    c.args.stores.now few_divide c.if-stores.false c.args.owners.now) ∙ sym c.owners_fit.ensures ∙ c.if-not-owners_fit.false)
 
 pub returns : goal.returns
 returns c =
-    let z : c.open-f.result.refusal ≡ 0 = omega (
-      arith,
-      c.if-f-ne0.false,
-    ) in
+    let few_last = c.if-parts-gt-MOST_PARTS.false in
+    let z : c.open-f.result.refusal ≡ 0 = omega (arith, c.if-f-ne0.false) in
     let s = split_yes c.args.positions.now c.args.cells.now c.args.status.now c.args.parts c.args.owners.now c.args.stores.now c.if-stores.false
-    c.open-f.result.refusal c.open-f.ensures.answer z c.if-parts-lt1.false c.if-parts-gt-MOST_PARTS.false
+    c.open-f.result.refusal c.open-f.ensures.answer z c.if-parts-lt1.false few_last
     (sym (owned_is _ _ _ _ _ _ _ _ _ (c.open-f.ensures.fits z) c.first_children.new.kids _ c.first_children.ensures c.args.parts
-    c.args.stores.now c.if-parts-gt-MOST_PARTS.false c.if-stores.false c.args.owners.now) ∙ sym c.owners_fit.ensures ∙ c.if-not-owners_fit.false)
+    c.args.stores.now few_last c.if-stores.false c.args.owners.now) ∙ sym c.owners_fit.ensures ∙ c.if-not-owners_fit.false)
     c.divide.new.stores c.divide.ensures in
     record { value = s.0; stores_value = s.1 }
