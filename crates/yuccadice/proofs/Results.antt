@@ -81,7 +81,7 @@ laid_read d (laid.Refused k) = (Refused k, d)
 
 pub laid_result : Result Laid Sizes laid_of laid_read
 unfolding laid_of
-laid_result = record { back = λ a s. elim a [ Accepted ↦ refl | Refused k ↦ refl ] }
+laid_result = record { back = λ a s. elim a as (λ k. ◌≡◌ {A = Answer × Sizes} (laid_read s (laid_of k s)) (k, s)) [ Accepted ↦ refl | Refused k ↦ refl ] }
 
 abbrev position_read : Point → Position → Answer × Point
 position_read d (position.At s) = (Accepted, s)
@@ -89,7 +89,7 @@ position_read d (position.Refused k) = (Refused k, d)
 
 pub position_result : Result Position Point positioned position_read
 unfolding positioned
-position_result = record { back = λ a s. elim a [ Accepted ↦ refl | Refused k ↦ refl ] }
+position_result = record { back = λ a s. elim a as (λ k. ◌≡◌ {A = Answer × Point} (position_read s (positioned k s)) (k, s)) [ Accepted ↦ refl | Refused k ↦ refl ] }
 
 pub position_so : (sums : List ℤ) (n k : ℕ) → position_of sums n k ≡ positioned (corner_answer sums n k) (point_of sums k)
 unfolding position_of
@@ -101,7 +101,7 @@ ancestry_read d (ancestry.Refused k) = (Refused k, d)
 
 pub ancestry_result : Result Ancestry Ancestor ancestry_of ancestry_read
 unfolding ancestry_of
-ancestry_result = record { back = λ a s. elim a [ Accepted ↦ refl | Refused k ↦ refl ] }
+ancestry_result = record { back = λ a s. elim a as (λ k. ◌≡◌ {A = Answer × Ancestor} (ancestry_read s (ancestry_of k s)) (k, s)) [ Accepted ↦ refl | Refused k ↦ refl ] }
 
 abbrev counted_read : ℕ → Counted → Answer × ℕ
 counted_read d (counted.Levels s) = (Accepted, s)
@@ -109,7 +109,7 @@ counted_read d (counted.Refused k) = (Refused k, d)
 
 pub counted_result : Result Counted ℕ counted_of counted_read
 unfolding counted_of
-counted_result = record { back = λ a s. elim a [ Accepted ↦ refl | Refused k ↦ refl ] }
+counted_result = record { back = λ a s. elim a as (λ k. ◌≡◌ {A = Answer × ℕ} (counted_read s (counted_of k s)) (k, s)) [ Accepted ↦ refl | Refused k ↦ refl ] }
 
 abbrev stepped_read : ℕ → Stepped → Answer × ℕ
 stepped_read d (stepped.Cells s) = (Accepted, s)
@@ -117,7 +117,7 @@ stepped_read d (stepped.Refused k) = (Refused k, d)
 
 pub stepped_result : Result Stepped ℕ stepped_of stepped_read
 unfolding stepped_of
-stepped_result = record { back = λ a s. elim a [ Accepted ↦ refl | Refused k ↦ refl ] }
+stepped_result = record { back = λ a s. elim a as (λ k. ◌≡◌ {A = Answer × ℕ} (stepped_read s (stepped_of k s)) (k, s)) [ Accepted ↦ refl | Refused k ↦ refl ] }
 
 abbrev replayed_read : Size → Replayed → Answer × Size
 replayed_read d (replayed.Done s) = (Accepted, s)
@@ -125,7 +125,7 @@ replayed_read d (replayed.Refused k) = (Refused k, d)
 
 pub replayed_result : Result Replayed Size replayed_of replayed_read
 unfolding replayed_of
-replayed_result = record { back = λ a s. elim a [ Accepted ↦ refl | Refused k ↦ refl ] }
+replayed_result = record { back = λ a s. elim a as (λ k. ◌≡◌ {A = Answer × Size} (replayed_read s (replayed_of k s)) (k, s)) [ Accepted ↦ refl | Refused k ↦ refl ] }
 
 abbrev reading_read : Lengths → Reading → Answer × Lengths
 reading_read d (reading.Job s) = (Accepted, s)
@@ -133,7 +133,7 @@ reading_read d (reading.Refused k) = (Refused k, d)
 
 pub reading_result : Result Reading Lengths reading_of reading_read
 unfolding reading_of
-reading_result = record { back = λ a s. elim a [ Accepted ↦ refl | Refused k ↦ refl ] }
+reading_result = record { back = λ a s. elim a as (λ k. ◌≡◌ {A = Answer × Lengths} (reading_read s (reading_of k s)) (k, s)) [ Accepted ↦ refl | Refused k ↦ refl ] }
 
 abbrev writing_read : ℕ → Writing → Answer × ℕ
 writing_read d (writing.Bytes s) = (Accepted, s)
@@ -141,7 +141,7 @@ writing_read d (writing.Refused k) = (Refused k, d)
 
 pub writing_result : Result Writing ℕ writing_of writing_read
 unfolding writing_of
-writing_result = record { back = λ a s. elim a [ Accepted ↦ refl | Refused k ↦ refl ] }
+writing_result = record { back = λ a s. elim a as (λ k. ◌≡◌ {A = Answer × ℕ} (writing_read s (writing_of k s)) (k, s)) [ Accepted ↦ refl | Refused k ↦ refl ] }
 
 abbrev listed_read : ℕ → Listed → Answer × ℕ
 listed_read d (listed.Rows s) = (Accepted, s)
@@ -149,7 +149,7 @@ listed_read d (listed.Refused k) = (Refused k, d)
 
 pub listed_result : Result Listed ℕ listed_of listed_read
 unfolding listed_of
-listed_result = record { back = λ a s. elim a [ Accepted ↦ refl | Refused k ↦ refl ] }
+listed_result = record { back = λ a s. elim a as (λ k. ◌≡◌ {A = Answer × ℕ} (listed_read s (listed_of k s)) (k, s)) [ Accepted ↦ refl | Refused k ↦ refl ] }
 
 abbrev merged_read : ℕ → Merged → Answer × ℕ
 merged_read d (merged.Cells s) = (Accepted, s)
@@ -157,4 +157,4 @@ merged_read d (merged.Refused k) = (Refused k, d)
 
 pub merged_result : Result Merged ℕ merged_of merged_read
 unfolding merged_of
-merged_result = record { back = λ a s. elim a [ Accepted ↦ refl | Refused k ↦ refl ] }
+merged_result = record { back = λ a s. elim a as (λ k. ◌≡◌ {A = Answer × ℕ} (merged_read s (merged_of k s)) (k, s)) [ Accepted ↦ refl | Refused k ↦ refl ] }

@@ -6,11 +6,11 @@ use Rattle.yuccadice.proofs.yd_ancestor.Goals as goal
 
 pub returns-in-Under : goal.returns-in-Under
 returns-in-Under c =
-    let a = told ancestry_result c.ancestor-ancestry.ensures c.ancestry-1.given.1 in
-    let v = held ancestry_result c.ancestor-ancestry.ensures c.ancestry-1.given.1 in
+    let a = told ancestry_result c.ancestor-ancestry.ensures c.in-Under.is in
+    let v = held ancestry_result c.ancestor-ancestry.ensures c.in-Under.is in
     (code_none a, value_new _ a (ap (λ (z : Ancestor). z.coarse) v), value_new _ a (ap (λ (z : Ancestor). z.level) v))
 
 pub returns-in-Refused : goal.returns-in-Refused
 returns-in-Refused c =
-    let a = told ancestry_result c.ancestor-ancestry.ensures c.ancestry-in-Refused-1.given.1 in
+    let a = told ancestry_result c.ancestor-ancestry.ensures c.in-Refused.is in
     (code_refused a, value_old _ a, value_old _ a)

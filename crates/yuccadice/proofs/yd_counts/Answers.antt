@@ -4,11 +4,11 @@ use Rattle.yuccadice.proofs.yd_counts.Goals as goal
 
 pub returns-in-Levels : goal.returns-in-Levels
 returns-in-Levels c =
-    let a = told counted_result c.counts-counted.ensures.value c.counted-1.given.1 in
-    let v = held counted_result c.counts-counted.ensures.value c.counted-1.given.1 in
+    let a = told counted_result c.counts-counted.ensures.value c.in-Levels.is in
+    let v = held counted_result c.counts-counted.ensures.value c.in-Levels.is in
     (code_none a, c.counts-counted.ensures.counts_value, value_new _ a v)
 
 pub returns-in-Refused : goal.returns-in-Refused
 returns-in-Refused c =
-    let a = told counted_result c.counts-counted.ensures.value c.counted-in-Refused-1.given.1 in
+    let a = told counted_result c.counts-counted.ensures.value c.in-Refused.is in
     (code_refused a, c.counts-counted.ensures.counts_value, value_old _ a)

@@ -20,4 +20,4 @@ pub returns : goal.returns
 returns c =
     let l : length c.cut-family.result.digits ≡ 32 = search rules in
     cut_done c.args.pattern c.args.digits.now c.args.count.now (omega (arith, c.if-digits-lt32.false)) _
-    c.cut-family.ensures _ c.code-k.ensures c.if-digits-lt32.false l _ c.copy_bytes.ensures
+    c.cut-family.ensures _ c.code-k.ensures c.if-k-ne0.false l _ c.copy_bytes.ensures

@@ -4,11 +4,11 @@ use Rattle.yuccadice.proofs.yd_held.Goals as goal
 
 pub returns-in-Rows : goal.returns-in-Rows
 returns-in-Rows c =
-    let a = told listed_result c.held-listed.ensures.value c.listed-1.given.1 in
-    let v = held listed_result c.held-listed.ensures.value c.listed-1.given.1 in
+    let a = told listed_result c.held-listed.ensures.value c.in-Rows.is in
+    let v = held listed_result c.held-listed.ensures.value c.in-Rows.is in
     (code_none a, c.held-listed.ensures.rows_value, value_new _ a v)
 
 pub returns-in-Refused : goal.returns-in-Refused
 returns-in-Refused c =
-    let a = told listed_result c.held-listed.ensures.value c.listed-in-Refused-1.given.1 in
+    let a = told listed_result c.held-listed.ensures.value c.in-Refused.is in
     (code_refused a, c.held-listed.ensures.rows_value, value_old _ a)

@@ -6,8 +6,8 @@ use Rattle.yuccadice.proofs.yd_lay_out.Goals as goal
 
 pub returns-in-Out : goal.returns-in-Out
 returns-in-Out c =
-    let a = told laid_result c.lay_out-laid.ensures.0 c.laid-1.given.1 in
-    let v = held laid_result c.lay_out-laid.ensures.0 c.laid-1.given.1 in (
+    let a = told laid_result c.lay_out-laid.ensures.0 c.in-Out.is in
+    let v = held laid_result c.lay_out-laid.ensures.0 c.in-Out.is in (
       code_none a,
       c.lay_out-laid.ensures.1.0,
       c.lay_out-laid.ensures.1.1.0,
@@ -19,5 +19,5 @@ returns-in-Out c =
 
 pub returns-in-Refused : goal.returns-in-Refused
 returns-in-Refused c =
-    let a = told laid_result c.lay_out-laid.ensures.0 c.laid-in-Refused-1.given.1 in
+    let a = told laid_result c.lay_out-laid.ensures.0 c.in-Refused.is in
     (code_refused a, c.lay_out-laid.ensures.1.0, c.lay_out-laid.ensures.1.1.0, c.lay_out-laid.ensures.1.1.1, value_old _ a, value_old _ a, value_old _ a)

@@ -4,11 +4,11 @@ use Rattle.yuccadice.proofs.yd_merge.Goals as goal
 
 pub returns-in-Cells : goal.returns-in-Cells
 returns-in-Cells c =
-    let a = told merged_result c.merge-merged.ensures.value c.merged-1.given.1 in
-    let v = held merged_result c.merge-merged.ensures.value c.merged-1.given.1 in
+    let a = told merged_result c.merge-merged.ensures.value c.in-Cells.is in
+    let v = held merged_result c.merge-merged.ensures.value c.in-Cells.is in
     (code_none a, c.merge-merged.ensures.table_value, value_new _ a v)
 
 pub returns-in-Refused : goal.returns-in-Refused
 returns-in-Refused c =
-    let a = told merged_result c.merge-merged.ensures.value c.merged-in-Refused-1.given.1 in
+    let a = told merged_result c.merge-merged.ensures.value c.in-Refused.is in
     (code_refused a, c.merge-merged.ensures.table_value, value_old _ a)

@@ -6,8 +6,8 @@ use Rattle.yuccadice.proofs.yd_position.Goals as goal
 
 pub returns-in-At : goal.returns-in-At
 returns-in-At c =
-    let a = told position_result (c.position_of-position.ensures ∙ position_so _ _ _) c.position-1.given.1 in
-    let v = held position_result (c.position_of-position.ensures ∙ position_so _ _ _) c.position-1.given.1 in (
+    let a = told position_result (c.position_of-position.ensures ∙ position_so _ _ _) c.in-At.is in
+    let v = held position_result (c.position_of-position.ensures ∙ position_so _ _ _) c.in-At.is in (
       code_none a,
       value_new _ a (ap (λ (z : Point). z.x) v),
       value_new _ a (ap (λ (z : Point). z.y) v),
@@ -17,5 +17,5 @@ returns-in-At c =
 
 pub returns-in-Refused : goal.returns-in-Refused
 returns-in-Refused c =
-    let a = told position_result (c.position_of-position.ensures ∙ position_so _ _ _) c.position-in-Refused-1.given.1 in
+    let a = told position_result (c.position_of-position.ensures ∙ position_so _ _ _) c.in-Refused.is in
     (code_refused a, value_old _ a, value_old _ a, value_old _ a)

@@ -6,8 +6,8 @@ use Rattle.yuccadice.proofs.yd_read.Goals as goal
 
 pub returns-in-Job : goal.returns-in-Job
 returns-in-Job c =
-    let a = told reading_result c.read-reading.ensures.0 c.reading-1.given.1 in
-    let v = held reading_result c.read-reading.ensures.0 c.reading-1.given.1 in (
+    let a = told reading_result c.read-reading.ensures.0 c.in-Job.is in
+    let v = held reading_result c.read-reading.ensures.0 c.in-Job.is in (
       code_none a,
       c.read-reading.ensures.1.0,
       c.read-reading.ensures.1.1.0,
@@ -24,5 +24,5 @@ returns-in-Job c =
 
 pub returns-in-Refused : goal.returns-in-Refused
 returns-in-Refused c =
-    let a = told reading_result c.read-reading.ensures.0 c.reading-in-Refused-1.given.1 in
+    let a = told reading_result c.read-reading.ensures.0 c.in-Refused.is in
     (code_refused a, c.read-reading.ensures.1.0, c.read-reading.ensures.1.1.0, c.read-reading.ensures.1.1.1.0, c.read-reading.ensures.1.1.1.1.0, c.read-reading.ensures.1.1.1.1.1, value_old _ a, value_old _ a, value_old _ a, value_old _ a)

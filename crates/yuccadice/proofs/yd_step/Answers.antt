@@ -4,11 +4,11 @@ use Rattle.yuccadice.proofs.yd_step.Goals as goal
 
 pub returns-in-Cells : goal.returns-in-Cells
 returns-in-Cells c =
-    let a = told stepped_result c.step-stepped.ensures.value c.stepped-1.given.1 in
-    let v = held stepped_result c.step-stepped.ensures.value c.stepped-1.given.1 in
+    let a = told stepped_result c.step-stepped.ensures.value c.in-Cells.is in
+    let v = held stepped_result c.step-stepped.ensures.value c.in-Cells.is in
     (code_none a, c.step-stepped.ensures.table_value, value_new _ a v)
 
 pub returns-in-Refused : goal.returns-in-Refused
 returns-in-Refused c =
-    let a = told stepped_result c.step-stepped.ensures.value c.stepped-in-Refused-1.given.1 in
+    let a = told stepped_result c.step-stepped.ensures.value c.in-Refused.is in
     (code_refused a, c.step-stepped.ensures.table_value, value_old _ a)

@@ -4,11 +4,11 @@ use Rattle.yuccadice.proofs.yd_write.Goals as goal
 
 pub returns-in-Bytes : goal.returns-in-Bytes
 returns-in-Bytes c =
-    let a = told writing_result c.write-writing.ensures.value c.writing-1.given.1 in
-    let v = held writing_result c.write-writing.ensures.value c.writing-1.given.1 in
+    let a = told writing_result c.write-writing.ensures.value c.in-Bytes.is in
+    let v = held writing_result c.write-writing.ensures.value c.in-Bytes.is in
     (code_none a, c.write-writing.ensures.bytes_value, value_new _ a v)
 
 pub returns-in-Refused : goal.returns-in-Refused
 returns-in-Refused c =
-    let a = told writing_result c.write-writing.ensures.value c.writing-in-Refused-1.given.1 in
+    let a = told writing_result c.write-writing.ensures.value c.in-Refused.is in
     (code_refused a, c.write-writing.ensures.bytes_value, value_old _ a)
