@@ -4,7 +4,7 @@
 ghost use Rattle.std.specs.Prelude.{◌≡◌, ◌+◌};
 ghost use Rattle.ancestors.specs.Climb.{Upward, climb_from};
 
-#[derive(Drop)]
+#[derive(Clone, Copy)]
 pub struct Ancestor {
     pub coarse: usize,
     pub level: usize,

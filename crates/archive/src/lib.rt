@@ -26,7 +26,7 @@ pub struct Form {
 }
 
 // The marks and steps from a place to the end of an archive.
-#[derive(Drop)]
+#[derive(Clone, Copy)]
 struct Scan {
     ok: bool,
     marks: usize,

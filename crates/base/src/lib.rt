@@ -40,7 +40,7 @@ pub const FULL_COARSE: usize = 4 * MOST_COARSE_CELLS;
 pub const MOST_MARKS: usize = 16384;
 
 // What every call answers beside the tables it is lent.
-#[derive(Drop)]
+#[derive(Clone, Copy)]
 pub enum Answer {
     Accepted,
     Refused(u8),

@@ -13,7 +13,7 @@ ghost use Rattle.coarse.specs.Tally.{Tables, Open, Tallied};
 use base::{Answer, MOST_COARSE_CELLS, MOST_COARSE_CORNERS};
 
 // A cell's corner numbers.
-#[derive(Drop)]
+#[derive(Clone, Copy)]
 struct Cell {
     a: u16,
     b: u16,
@@ -22,7 +22,7 @@ struct Cell {
 }
 
 // A face's corner numbers.
-#[derive(Drop)]
+#[derive(Clone, Copy)]
 struct Face {
     a: u16,
     b: u16,
@@ -175,7 +175,7 @@ fn solid(positions: &[i32], cells: &[u16]) -> bool
 }
 
 // How many pairs have been counted, and how often the last one was.
-#[derive(Drop)]
+#[derive(Clone, Copy)]
 struct Counted {
     n: usize,
     count: u8,

@@ -9,7 +9,7 @@ ghost use Rattle.mesh.specs.Counts.{greenb};
 ghost use Rattle.counting.specs.Levels.{Levels, counts_at, level_counts, level_number, tally_numbers};
 
 // The counts of one level.
-#[derive(Drop)]
+#[derive(Clone, Copy)]
 pub struct Tally {
     pub cells: u16,
     pub red: u16,

@@ -93,7 +93,7 @@ const COUNTS: [u8; 64] = *b"\
 
 // A family by value: how many children it has, and 32 digits, four a child, zeros behind them.
 // A refusal has no children and zeros.
-#[derive(Drop)]
+#[derive(Clone, Copy)]
 pub struct Family {
     pub answer: Answer,
     pub count: u8,

@@ -9,14 +9,14 @@ ghost use Rattle.edges.specs.Pairs.{sorted, isb};
 ghost use Rattle.edges.specs.Table.{listed, Table, Edges, Inserted};
 
 // Where an edge stands in the table, and how many entries the table has.
-#[derive(Drop)]
+#[derive(Clone, Copy)]
 pub struct Slot {
     pub at: usize,
     pub n: usize,
 }
 
 // The two corners of an edge, the lower one first.
-#[derive(Drop)]
+#[derive(Clone, Copy)]
 pub struct Ends {
     pub low: u32,
     pub high: u32,

@@ -282,7 +282,7 @@ fn close_level(
 
 // What treating a level finds: whether there is room for six edges of each cell that will be red, how many there are, and the entries
 // of the edge table then.
-#[derive(Drop)]
+#[derive(Clone, Copy)]
 struct Treatment {
     ok: bool,
     reds: usize,
@@ -341,7 +341,7 @@ fn is_high(depth: usize, reds: usize, up: bool) -> bool
 
 // What looking at levels finds: whether the edge table had room, whether a cell of the highest one will be red, and where the level's
 // entries are.
-#[derive(Drop)]
+#[derive(Clone, Copy)]
 struct Entries {
     ok: bool,
     high: bool,
@@ -414,7 +414,7 @@ fn treat_up(
 }
 
 // What looking at a table finds: whether there was room for six edges of each cell that will be red, and whether one is on level 10.
-#[derive(Drop)]
+#[derive(Clone, Copy)]
 pub struct Looked {
     pub ok: bool,
     pub high: bool,

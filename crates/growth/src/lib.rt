@@ -138,7 +138,7 @@ fn split_edge(
 }
 
 // The numbers of a cell's ten points, and how many entries the table of edges has.
-#[derive(Drop)]
+#[derive(Clone, Copy)]
 struct Ten {
     numbers: [u16; 10],
     m: usize,
@@ -316,7 +316,7 @@ fn write_children(
 }
 
 // The row behind the last one that is written, and how many entries the table of edges has.
-#[derive(Drop)]
+#[derive(Clone, Copy)]
 pub struct Refined {
     pub at: usize,
     pub m: usize,

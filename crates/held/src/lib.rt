@@ -23,7 +23,7 @@ use store::{
 const FULL_HELD: usize = 14 * MOST_CELLS;
 
 // How far a part's step is: in a round, done, or ended with 8 or 9.
-#[derive(Drop)]
+#[derive(Clone, Copy)]
 pub enum Progress {
     Running(usize),
     Done,
@@ -31,14 +31,14 @@ pub enum Progress {
     Refused(u8),
 }
 
-#[derive(Drop)]
+#[derive(Clone, Copy)]
 pub enum Listed {
     Rows(usize),
     Refused(u8),
 }
 
 // A place as a key: 256 times the level and the coarse cell; the child numbers, base 8.
-#[derive(Drop)]
+#[derive(Clone, Copy)]
 pub struct PathKey {
     pub head: u32,
     pub digits: u32,

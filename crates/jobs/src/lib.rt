@@ -21,20 +21,20 @@ use base::{
 use tables::Outcome;
 
 // How many cells and levels a table has.
-#[derive(Drop)]
+#[derive(Clone, Copy)]
 pub struct Size {
     pub cells: usize,
     pub levels: usize,
 }
 
-#[derive(Drop)]
+#[derive(Clone, Copy)]
 pub enum Replayed {
     Done(Size),
     Refused(u8),
 }
 
 // How many corners, cells, marks and steps a job has.
-#[derive(Drop)]
+#[derive(Clone, Copy)]
 pub struct Lengths {
     pub corners: usize,
     pub cells: usize,
@@ -42,13 +42,13 @@ pub struct Lengths {
     pub steps: usize,
 }
 
-#[derive(Drop)]
+#[derive(Clone, Copy)]
 pub enum Reading {
     Job(Lengths),
     Refused(u8),
 }
 
-#[derive(Drop)]
+#[derive(Clone, Copy)]
 pub enum Writing {
     Bytes(usize),
     Refused(u8),

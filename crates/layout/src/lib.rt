@@ -14,14 +14,14 @@ ghost use Rattle.layout.specs.Calls.{lentb, layout_answer, sizes_of, laid_of, La
 use base::{FULL_ENDS, FULL_ROWS, FULL_SUMS};
 
 // How many cells, corners and levels a table has.
-#[derive(Drop)]
+#[derive(Clone, Copy)]
 pub struct Sizes {
     pub cells: usize,
     pub corners: usize,
     pub levels: usize,
 }
 
-#[derive(Drop)]
+#[derive(Clone, Copy)]
 pub enum Laid {
     Out(Sizes),
     Refused(u8),

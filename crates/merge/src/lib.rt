@@ -23,7 +23,7 @@ use held::{is_ghost, key_of, power, status_of};
 use mail::header_fits;
 use store::{COARSE, CORNER, CORNERS, ENTRIES, FULL, OWNER, PART, PARTS, RESULT, STAGE};
 
-#[derive(Drop)]
+#[derive(Clone, Copy)]
 pub enum Merged {
     Cells(usize),
     Refused(u8),

@@ -6,14 +6,14 @@ ghost use Rattle.position.specs.Position.{coordinate_of, position_of};
 
 use base::{FULL_SUMS, MOST_CORNERS};
 
-#[derive(Drop)]
+#[derive(Clone, Copy)]
 pub struct Point {
     pub x: f64,
     pub y: f64,
     pub z: f64,
 }
 
-#[derive(Drop)]
+#[derive(Clone, Copy)]
 pub enum Position {
     At(Point),
     Refused(u8),

@@ -14,13 +14,13 @@ ghost use Rattle.queries.specs.Calls.{ancestor_answer, ancestry_of, ancestry_in,
 use ancestors::Ancestor;
 use base::FULL_COUNTS;
 
-#[derive(Drop)]
+#[derive(Clone, Copy)]
 pub enum Ancestry {
     Under(Ancestor),
     Refused(u8),
 }
 
-#[derive(Drop)]
+#[derive(Clone, Copy)]
 pub enum Counted {
     Levels(usize),
     Refused(u8),

@@ -10,7 +10,7 @@ ghost use Rattle.base.specs.Lists.{allb};
 ghost use Rattle.mesh.specs.Table.{size_of, sizes};
 
 // The two ends of an edge, in the order of the cell's corners.
-#[derive(Drop)]
+#[derive(Clone, Copy)]
 pub struct Ends {
     pub a: u16,
     pub b: u16,

@@ -14,7 +14,7 @@ ghost use Rattle.step.specs.Within.{StepBegun, StepMade};
 use base::MOST_CELLS;
 use writing::NewTable;
 
-#[derive(Drop)]
+#[derive(Clone, Copy)]
 pub enum Stepped {
     Cells(usize),
     Refused(u8),

@@ -133,13 +133,13 @@ pub const ENTRIES_MOST: u16 = MOST_CELLS as u16;
 pub const TOTAL_MOST: u16 = TOO_MANY as u16;
 
 // A written message: its entry and the receiver's bit.
-#[derive(Drop)]
+#[derive(Clone, Copy)]
 pub struct Spot {
     pub entry: usize,
     pub bit: usize,
 }
 
-#[derive(Drop)]
+#[derive(Clone, Copy)]
 pub enum Fetched {
     Message(usize),
     Nothing,

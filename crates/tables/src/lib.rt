@@ -18,7 +18,7 @@ use base::TOP_LEVEL;
 
 // What work on a table comes to: the refusal, 0 where there is none, and then how many coarse cells, cells, levels and new corners
 // the table has.
-#[derive(Drop)]
+#[derive(Clone, Copy)]
 pub struct Outcome {
     pub refusal: u8,
     pub coarse: usize,
@@ -41,7 +41,7 @@ pub fn refused(refusal: u8) -> Outcome
 }
 
 // What the check of a level finds: whether it is closed, how many red edges are listed, and how many cells lie one level up.
-#[derive(Drop)]
+#[derive(Clone, Copy)]
 struct Level {
     ok: bool,
     n: usize,

@@ -8,7 +8,7 @@ use crate::pattern;
 use layout::Laid;
 
 // A layout as a line of numbers.
-#[derive(Drop)]
+#[derive(Clone, Copy)]
 pub struct Summary {
     // The refusal's number, or 0.
     pub refusal: u64,

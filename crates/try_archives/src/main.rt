@@ -31,7 +31,7 @@ struct Job {
     ends: usize,
 }
 
-#[derive(Drop)]
+#[derive(Clone, Copy)]
 enum Next {
     Archive(Archive),
     Job(Job),

@@ -27,7 +27,7 @@ struct Header {
     calls: usize,
 }
 
-#[derive(Drop)]
+#[derive(Clone, Copy)]
 enum Next {
     Case(Header),
     End,

@@ -21,7 +21,7 @@ struct Header {
     repeat: usize,
 }
 
-#[derive(Drop)]
+#[derive(Clone, Copy)]
 enum Next {
     Case(Header),
     End,

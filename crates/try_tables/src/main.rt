@@ -26,7 +26,7 @@ struct Header {
     repeat: usize,
 }
 
-#[derive(Drop)]
+#[derive(Clone, Copy)]
 enum Next {
     Case(Header),
     End,

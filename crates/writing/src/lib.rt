@@ -301,7 +301,7 @@ fn ending(size: usize, level: usize, last: usize) -> u8
 }
 
 // The table that is written: 0, or 8 or 9, and how many cells it has.
-#[derive(Drop)]
+#[derive(Clone, Copy)]
 pub struct NewTable {
     pub refusal: u8,
     pub cells: usize,
