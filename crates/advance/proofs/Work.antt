@@ -16,7 +16,7 @@ use Rattle.base.specs.Fours.{fours, length-fours}
 use Rattle.base.specs.Limits.{most_cells, most_levels}
 use Rattle.base.specs.Lists.{filterb}
 use Rattle.base.specs.Refuse.{refuse, answer_of, answer_none}
-use Rattle.base.specs.declared.Answer.TheVariants.{Accepted, Refused}
+use Rattle.base.specs.Answer.{Accepted, Refused}
 use Rattle.mesh.specs.Cells.{redb}
 use Rattle.mesh.specs.Step.{step_table}
 use Rattle.mesh.specs.Table.{soundb}

@@ -16,8 +16,8 @@ use Rattle.base.specs.Every.{all_each, get_d_map}
 use Rattle.base.specs.Lists.{allb_at}
 use Rattle.base.specs.Range.{range, length-range, range_at}
 use Rattle.base.specs.Fours.{fours}
-use Rattle.base.specs.declared.Answer.{Answer}
-use Rattle.base.specs.declared.Answer.TheVariants.{Accepted, Refused}
+use Rattle.base.specs.Answer.{Answer}
+use Rattle.base.specs.Answer.{Accepted, Refused}
 use Rattle.mesh.specs.Coarse.{coarse_corner_count}
 use Rattle.exchange.specs.Calls.{Start, Fetch, Call, play, moves, acceptsb, started_with, Lawful}
 use Rattle.exchange.specs.Finite.{parts}

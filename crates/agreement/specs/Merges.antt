@@ -14,7 +14,7 @@ use Rattle.base.specs.Bools.{or_first}
 use Rattle.base.specs.Fours.{fours}
 use Rattle.base.specs.Range.{range_member}
 use Rattle.base.specs.Refuse.{code_of}
-use Rattle.base.specs.declared.Answer.TheVariants.{Accepted, Refused}
+use Rattle.base.specs.Answer.{Accepted, Refused}
 use Rattle.mesh.specs.Coarse.{coarse_corner_count}
 use Rattle.mesh.specs.Table.{soundb}
 use Rattle.mesh.specs.Step.{step_table}

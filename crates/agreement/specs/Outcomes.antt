@@ -20,7 +20,7 @@ use Rattle.base.specs.Each.{all_filter}
 use Rattle.base.specs.Fours.{fours}
 use Rattle.base.specs.Range.{range}
 use Rattle.base.specs.Refuse.{refuse, and_then, code_of, passed}
-use Rattle.base.specs.declared.Answer.TheVariants.{Accepted, Refused}
+use Rattle.base.specs.Answer.{Accepted, Refused}
 use Rattle.mesh.specs.Coarse.{coarse_corner_count}
 use Rattle.mesh.specs.Step.{step_table}
 use Rattle.mesh.specs.Answers.{table_answer, markb, marksb, new_table, limits_answer, marked_answer}

@@ -16,7 +16,7 @@ use Rattle.base.specs.Limits.{most_parts}
 use Rattle.base.specs.Bools.{and_left, and_right, is_true}
 use Rattle.base.specs.Range.{range}
 use Rattle.base.specs.Refuse.{refuse}
-use Rattle.base.specs.declared.Answer.TheVariants.{Accepted}
+use Rattle.base.specs.Answer.{Accepted}
 use Rattle.exchange.specs.Calls.{Request, Start, Step, Fetch, Hand, answer_at, answer, changed, play}
 use Rattle.exchange.specs.Played.{answer_at_lem, play_none, play_some}
 use Rattle.parts.specs.Held.{Entry}

@@ -8,7 +8,7 @@ use mathlib.Core.List.{List, [], Memᴰ}
 use Rattle.std.proofs.Math.Logic.{⊎_elim}
 use Prim.Native.Nat.{ℕ, zero, suc, ◌≤◌, Fin}
 use Rattle.base.specs.Fours.{fours}
-use Rattle.base.specs.declared.Answer.TheVariants.{Accepted}
+use Rattle.base.specs.Answer.{Accepted}
 use Rattle.mesh.specs.Coarse.{coarse_corner_count}
 use Rattle.exchange.specs.Calls.{Fetch, play, Lawful}
 use Rattle.exchange.specs.Finite.{parts}

@@ -1,3 +1,4 @@
+pub mod Answer
 pub mod Bools
 pub mod Lists
 pub mod Member

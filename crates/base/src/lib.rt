@@ -2,7 +2,7 @@
 #![tactic(auto)]
 
 ghost use Rattle.std.specs.Prelude.{◌≡◌, ◌++◌, ◌≤◌, length, take, drop};
-ghost use Rattle.base.specs.Refuse.{code_of};
+ghost use Rattle.base.specs.Refuse.{answered, code_of, number_of};
 
 // The limits of specs/Limits.
 pub const MOST_COARSE_CORNERS: usize = 512;
@@ -39,39 +39,67 @@ pub const FULL_COARSE: usize = 4 * MOST_COARSE_CELLS;
 
 pub const MOST_MARKS: usize = 16384;
 
-// What every call answers beside the tables it is lent.
-#[derive(Clone, Copy)]
-pub enum Answer {
-    Accepted,
-    Refused(u8),
+// Why a call refuses, by the numbers of rule 12.3.
+#[derive(Clone, Copy, Debug, PartialEq, Eq)]
+pub enum Refusal {
+    // Counts of corners or cells, or lengths that are not by threes and fours.
+    Counts = 1,
+    // A coordinate out of range.
+    Coordinate,
+    // A cell's corner numbers.
+    Corners,
+    // A flat cell.
+    Flat,
+    // A cell twice, or a face in three cells.
+    Repeated,
+    // A status table that is not sound, or a pattern above 63.
+    Unsound,
+    // Marks that do not fit, or a cell or corner that is not there.
+    Marks,
+    // A cell of level 10 would be refined.
+    TooHigh,
+    // More than 4,096 cells would arise.
+    TooMany,
+    // The number of parts.
+    Parts,
+    // Owners that do not fit.
+    Owners,
+    // A message that is not for this store.
+    Message,
+    // A message that was taken before.
+    Taken,
+    // A message that is not the next one yet.
+    Early,
+    // A lent table is too short.
+    Lent,
+    // What a store says of itself.
+    Store,
+    // Bytes outside the form of archives.
+    Form,
 }
 
-// The number of an answer, 0 where it is accepted.
-pub fn code(answer: Answer) -> u8
-    ensures { result ≡ code_of answer }
+impl Refusal {
+    pub fn number(self) -> u8
+        ensures { result ≡ number_of self }
+    {
+        self as u8
+    }
+}
+
+// The number of an answer: 0, or the refusal's.
+pub fn code(answer: Result<(), Refusal>) -> u8
+    ensures { result ≡ code_of (answered answer) }
 {
     match answer {
-        Answer::Accepted => 0,
-        Answer::Refused(k) => k,
+        Ok(()) => 0,
+        Err(refusal) => refusal.number(),
     }
 }
 
-// Copies the first n numbers.
-pub fn copy_numbers(from: &[u16], n: usize, to: &mut [u16])
+// Copies the first n elements.
+pub fn copy_front<T: Copy>(from: &[T], n: usize, to: &mut [T])
     requires { (n ≤ length from.now) × (n ≤ length to.old) }
     ensures { to.new ≡ take n from.now ++ drop n to.old }
 {
-    for i in 0..n {
-        to[i] = from[i];
-    }
-}
-
-// Copies the first n bytes.
-pub fn copy_bytes(from: &[u8], n: usize, to: &mut [u8])
-    requires { (n ≤ length from.now) × (n ≤ length to.old) }
-    ensures { to.new ≡ take n from.now ++ drop n to.old }
-{
-    for i in 0..n {
-        to[i] = from[i];
-    }
+    to[..n].copy_from_slice(&from[..n]);
 }

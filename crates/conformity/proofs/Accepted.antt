@@ -1,7 +1,7 @@
 -- An accepted mesh with a table over it that is sound (table_meets) or accepted (examined_meets): leaves meet face to face (Rule 13.2).
 use Rattle.std.specs.Prelude.{◌≡◌, List, ℕ, T, ℤ}
 use Rattle.base.specs.Fours.{fours}
-use Rattle.base.specs.declared.Answer.TheVariants.{Accepted}
+use Rattle.base.specs.Answer.{Accepted}
 use Rattle.mesh.specs.Coarse.{coarse_corner_count, mesh_answer}
 use Rattle.mesh.specs.Table.{soundb}
 use Rattle.mesh.specs.Answers.{table_answer}

@@ -6,8 +6,8 @@ use Prim.Native.Nat.{ℕ, suc, ◌+◌, ◌*◌, ◌-◌, ◌/◌, ◌≤◌, �
 use native.Mathlib.Numerals.{add-one}
 use native.Mathlib.Omega.{arith}
 use lib.ListN.{length, take, drop, replicate}
-use Rattle.base.specs.declared.Answer.TheVariants.{Accepted}
-use Rattle.cutting.specs.declared.Family.{Family}
+use Rattle.base.specs.Answer.{Accepted}
+use Rattle.cutting.specs.Answer.{Cut}
 use Rattle.cutting.specs.Rule.{family}
 use Rattle.cutting.specs.Answer.{digits_below, cut_into, cut_of, cut_of_accepted}
 use Rattle.cutting.proofs.Table.{row_at}
@@ -26,7 +26,7 @@ module _ (p from to : ℕ) (h : p < 64) (e : from ≡ length (digits_below p)) (
       record { up = omega arith; inside = omega arith; size = omega arith; few = r.few }
 
   pub accepted : (l : List ℕ) → l ≡ take (to - from) (drop from (digits_below 64)) ++ replicate (32 - (to - from)) 0
-      → ◌≡◌ {A = Family} (record { answer = Accepted; count = (to - from) / 4; digits = l }) (cut_of p)
+      → ◌≡◌ {A = Cut} (record { answer = Accepted; count = (to - from) / 4; digits = l }) (cut_of p)
   unfolding cut_into
   accepted l d =
       let r = row_at p h in

@@ -2,14 +2,14 @@
 --   digits_below p   the families of the patterns below p, digit after digit
 --   digit_table      all families, digit after digit, in ASCII: the table that the families are read from
 --   start_table      where each family starts in that table, and the end of the last
+--   Cut              an answer, and beside it the family's number of children and its digits
 --   cut_of p         the whole answer to the byte p
 use Rattle.std.specs.Prelude.{◌≡◌, true, false, ℕ, zero, suc, ◌+◌, ◌-◌, ◌≤◌, ◌<◌, ltb, length, replicate}
 use mathlib.Core.List.{List, [], ◌++◌, map, flatten}
 use Rattle.std.proofs.Common.{lt-ltb, le-ltb}
 use Rattle.base.specs.Range.{range}
-use Rattle.base.specs.declared.Answer.TheVariants.{Accepted, Refused}
+use Rattle.base.specs.Answer.{Answer, Accepted, Refused}
 use Rattle.cutting.specs.Rule.{family}
-use Rattle.cutting.specs.declared.Family.{Family}
 
 -- Rule 2.9: the families one after the other.
 unfoldable pub digits_below : ℕ → List ℕ
@@ -25,8 +25,14 @@ unfoldable pub start_table : List ℕ
 unfolding range
 start_table = map (λ p. length (digits_below p)) (range 0 65)
 
+-- Rule 12.4: what the call gives.
+pub record Cut : Type 0 where
+  pub answer : Answer
+  pub count : ℕ
+  pub digits : List ℕ
+
 -- Rule 12.4: a family as its number of children and 32 digits, child after child, zeros behind them.
-unfoldable pub cut_into : List (List ℕ) → Family
+unfoldable pub cut_into : List (List ℕ) → Cut
 unfolding flatten
 cut_into f =
     record {
@@ -36,11 +42,11 @@ cut_into f =
     }
 
 -- Rule 12.4: no family; zeros stand beside the refusal.
-unfoldable pub no_cut : Family
+unfoldable pub no_cut : Cut
 no_cut = record { answer = Refused 6; count = 0; digits = replicate 32 0 }
 
 -- Rule 12.4: the whole answer; 6 above 63.
-unfoldable pub cut_of : ℕ → Family
+unfoldable pub cut_of : ℕ → Cut
 unfolding cut_into no_cut
 cut_of p = elim (ltb p 64) [ true ↦ cut_into (family p) | false ↦ no_cut ]
 

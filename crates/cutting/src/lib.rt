@@ -1,10 +1,11 @@
 // The children of one cell by the pattern of its split edges (docs/METHOD.md, section 2).
 #![tactic(auto)]
 
-ghost use Rattle.std.specs.Prelude.{◌≡◌, ◌++◌, ◌+◌, ◌-◌, ◌≤◌, ◌<◌, length, get_or, take, drop, replicate};
+ghost use Rattle.std.specs.Prelude.{◌≡◌, ◌++◌, ◌+◌, ◌-◌, ◌≤◌, ◌<◌, IfOk, length, get_or, take, drop, replicate};
+ghost use Rattle.base.specs.Refuse.{answered};
 ghost use Rattle.cutting.specs.Answer.{digits_below, digit_table, start_table, cut_of};
 
-use base::Answer;
+use base::Refusal;
 
 // The families of the patterns 0 to 63, a line each, four digits a child.
 const DIGITS: [u8; 1172] = *b"\
@@ -92,59 +93,79 @@ const COUNTS: [u8; 64] = *b"\
     24353546354656673556466746676778";
 
 // A family by value: how many children it has, and 32 digits, four a child, zeros behind them.
-// A refusal has no children and zeros.
 #[derive(Clone, Copy)]
 pub struct Family {
-    pub answer: Answer,
     pub count: u8,
     pub digits: [u8; 32],
 }
 
-// The tables that `cut_from` reads. To read a constant is to copy all of it: who cuts many cells makes the tables once.
-pub fn digit_table() -> [u8; 1172]
-    ensures { result ≡ digit_table }
-{
-    DIGITS
+// The families of all patterns. To read a constant is to copy all of it: who cuts many cells makes this once.
+#[derive(Clone, Copy)]
+pub struct Families {
+    digits: [u8; 1172],
+    starts: [u16; 65],
+    pub ghost digits_value: { digits ≡ digit_table },
+    pub ghost starts_value: { starts ≡ start_table },
 }
 
-// Where each family starts in the table of digits, and the end of the last.
-pub fn start_table() -> [u16; 65]
-    ensures { result ≡ start_table }
-{
-    STARTS
-}
-
-// The digit at a place of the table: an ASCII digit is 48 and its value.
-fn digit(digits: &[u8], at: usize) -> u8
-    requires digits_value { digits.now ≡ digit_table }
-    requires at_bound { at < 1172 }
-    ensures { result ≡ get_or (digits_below 64) at 0 }
-{
-    digits[at] % 16
-}
-
-// Where the family of a pattern starts.
-fn start(starts: &[u16], pattern: usize) -> usize
-    requires starts_value { starts.now ≡ start_table }
-    requires pattern_bound { pattern < 65 }
-    ensures { result ≡ length (digits_below pattern) }
-{
-    starts[pattern] as usize
-}
-
-// The digits of the table from a place on, with zeros behind them.
-fn copied(digits: &[u8], from: usize, count: usize) -> [u8; 32]
-    requires digits_value { digits.now ≡ digit_table }
-    requires count_bound { (from + count ≤ 1172) × (count ≤ 32) }
-    ensures { result ≡ take count (drop from (digits_below 64)) ++ replicate (32 - count) 0 }
-{
-    let mut copy = [0u8; 32];
-    let mut i = 0;
-    while i < count {
-        copy[i] = digit(digits, from + i);
-        i += 1;
+impl Families {
+    pub fn new() -> Self {
+        Families {
+            digits: DIGITS,
+            starts: STARTS,
+        }
     }
-    copy
+
+    // The digit at a place: an ASCII digit is 48 and its value.
+    fn digit(&self, at: usize) -> u8
+        requires { at < 1172 }
+        ensures { result ≡ get_or (digits_below 64) at 0 }
+    {
+        self.digits[at] % 16
+    }
+
+    // Where the family of a pattern starts.
+    fn start(&self, pattern: usize) -> usize
+        requires { pattern < 65 }
+        ensures { result ≡ length (digits_below pattern) }
+    {
+        self.starts[pattern] as usize
+    }
+
+    // The digits from a place on, with zeros behind them.
+    fn copied(&self, from: usize, count: usize) -> [u8; 32]
+        requires { (from + count ≤ 1172) × (count ≤ 32) }
+        ensures { result ≡ take count (drop from (digits_below 64)) ++ replicate (32 - count) 0 }
+    {
+        let mut copy = [0u8; 32];
+        for i in 0..count {
+            copy[i] = self.digit(from + i);
+        }
+        copy
+    }
+
+    // The family of a pattern; 6 where the pattern is above 63.
+    pub fn cut(&self, pattern: u8) -> Result<Family, Refusal>
+        ensures answer { answered result ≡ (cut_of pattern).answer }
+        ensures family { IfOk result (λ f. (f.count ≡ (cut_of pattern).count) × (f.digits ≡ (cut_of pattern).digits)) }
+    {
+        if pattern > 63 {
+            return Err(Refusal::Unsound);
+        }
+        if pattern == 63 {
+            return Ok(Family {
+                count: 8,
+                digits: RED,
+            });
+        }
+        let row = pattern as usize;
+        let from = self.start(row);
+        let count = self.start(row + 1) - from;
+        Ok(Family {
+            count: (count / 4) as u8,
+            digits: self.copied(from, count),
+        })
+    }
 }
 
 // How many children the family of a pattern has; 0 where the pattern is above 63.
@@ -157,41 +178,10 @@ pub fn count(pattern: u8) -> u8
     COUNTS[pattern as usize] % 16
 }
 
-// The family of a pattern, from the tables; 6 where the pattern is above 63.
-pub fn cut_from(digits: &[u8], starts: &[u16], pattern: u8) -> Family
-    requires digits_value { digits.now ≡ digit_table }
-    requires starts_value { starts.now ≡ start_table }
-    ensures { result ≡ cut_of pattern }
-{
-    if pattern > 63 {
-        return Family {
-            answer: Answer::Refused(6),
-            count: 0,
-            digits: [0u8; 32],
-        };
-    }
-    if pattern == 63 {
-        return Family {
-            answer: Answer::Accepted,
-            count: 8,
-            digits: RED,
-        };
-    }
-    let row = pattern as usize;
-    let from = start(starts, row);
-    let count = start(starts, row + 1) - from;
-    Family {
-        answer: Answer::Accepted,
-        count: (count / 4) as u8,
-        digits: copied(digits, from, count),
-    }
-}
-
 // The family of a pattern by itself.
-pub fn cut(pattern: u8) -> Family
-    ensures { result ≡ cut_of pattern }
+pub fn cut(pattern: u8) -> Result<Family, Refusal>
+    ensures answer { answered result ≡ (cut_of pattern).answer }
+    ensures family { IfOk result (λ f. (f.count ≡ (cut_of pattern).count) × (f.digits ≡ (cut_of pattern).digits)) }
 {
-    let digits = digit_table();
-    let starts = start_table();
-    cut_from(&digits, &starts, pattern)
+    Families::new().cut(pattern)
 }

@@ -5,7 +5,7 @@ use Rattle.base.specs.Bools.{is_true}
 use Rattle.base.specs.Fours.{fours}
 use Rattle.base.specs.Limits.{most_cells}
 use Rattle.base.specs.Refuse.{refuse, and_then, passed, both}
-use Rattle.base.specs.declared.Answer.TheVariants.{Accepted}
+use Rattle.base.specs.Answer.{Accepted}
 use Rattle.mesh.specs.Coarse.{coarse_corner_count, mesh_answer}
 use Rattle.mesh.specs.Table.{soundb}
 use Rattle.mesh.specs.Answers.{table_answer, marksb, new_table, limits_answer, marked_answer}

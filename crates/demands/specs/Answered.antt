@@ -12,8 +12,8 @@ use Rattle.base.specs.Bools.{and_both}
 use Rattle.base.specs.Fours.{fours}
 use Rattle.base.specs.Refuse.{refuse, and_then}
 use Rattle.base.specs.Limits.{most_cells, most_bytes, full_counts}
-use Rattle.base.specs.declared.Answer.{Answer}
-use Rattle.base.specs.declared.Answer.TheVariants.{Accepted}
+use Rattle.base.specs.Answer.{Answer}
+use Rattle.base.specs.Answer.{Accepted}
 use Rattle.cutting.specs.Answer.{cut_of}
 use Rattle.mesh.specs.Coarse.{coarse_corner_count, mesh_answer}
 use Rattle.mesh.specs.Table.{soundb}

@@ -11,8 +11,8 @@ use Rattle.base.specs.Fours.{fours}
 use Rattle.base.specs.Lists.{allb, memberb}
 use Rattle.base.specs.Limits.{most_bytes, full_rows, full_ends, full_sums}
 use Rattle.base.specs.Refuse.{held_after, value_after}
-use Rattle.base.specs.declared.Answer.{Answer}
-use Rattle.base.specs.declared.Answer.TheVariants.{Accepted, Refused}
+use Rattle.base.specs.Answer.{Answer}
+use Rattle.base.specs.Answer.{Accepted, Refused}
 use Rattle.cutting.specs.Answer.{cut_of}
 use Rattle.mesh.specs.Coarse.{coarse_corner_count, mesh_answer}
 use Rattle.mesh.specs.Answers.{table_answer}

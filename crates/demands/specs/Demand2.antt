@@ -10,7 +10,7 @@ use Rattle.base.specs.Fours.{fours}
 use Rattle.base.specs.Lists.{memberb}
 use Rattle.base.specs.Limits.{most_bytes}
 use Rattle.base.specs.Refuse.{held_after}
-use Rattle.base.specs.declared.Answer.TheVariants.{Accepted}
+use Rattle.base.specs.Answer.{Accepted}
 use Rattle.cutting.specs.Rule.{present, family}
 use Rattle.cutting.specs.Answer.{cut_into, cut_of, cut_of_accepted}
 use Rattle.mesh.specs.Coarse.{coarse_corner_count}

@@ -18,7 +18,7 @@ use mathlib.Core.List.{List, [], ◌∷◌, ◌++◌, flat_map, Memᴰ}
 use Rattle.base.specs.Fours.{fours}
 use Rattle.base.specs.Limits.{most_cells, most_parts}
 use Rattle.base.specs.Refuse.{held_after}
-use Rattle.base.specs.declared.Answer.TheVariants.{Accepted, Refused}
+use Rattle.base.specs.Answer.{Accepted, Refused}
 use Rattle.mesh.specs.Coarse.{coarse_corner_count}
 use Rattle.mesh.specs.Answers.{marksb, new_table, marked_answer}
 use Rattle.exchange.specs.Calls.{Start, Call, play, moves, acceptsb, started_with, Lawful}

@@ -9,7 +9,7 @@ use Rattle.base.specs.Fours.{fours}
 use Rattle.base.specs.Bools.{and_left, and_right, is_true, is_false, not_both}
 use Rattle.base.specs.Limits.{most_parts, most_cells, most_levels}
 use Rattle.base.specs.Refuse.{refuse, and_then, passed, both, held_after}
-use Rattle.base.specs.declared.Answer.TheVariants.{Accepted, Refused}
+use Rattle.base.specs.Answer.{Accepted, Refused}
 use Rattle.mesh.specs.Coarse.{coarse_corner_count}
 use Rattle.mesh.specs.Step.{step_table}
 use Rattle.mesh.specs.Answers.{table_answer, new_table, limits_answer, marked_answer}

@@ -10,8 +10,8 @@ use Rattle.base.specs.Lists.{allb, memberb}
 use Rattle.base.specs.Bools.{and_left, and_right}
 use Rattle.base.specs.Every.{All}
 use Rattle.base.specs.Refuse.{refuse, and_then, passed}
-use Rattle.base.specs.declared.Answer.{Answer}
-use Rattle.base.specs.declared.Answer.TheVariants.{Accepted, Refused}
+use Rattle.base.specs.Answer.{Answer}
+use Rattle.base.specs.Answer.{Accepted, Refused}
 
 -- Rule 12.1: a refusal, and the test that it is given without.
 abbrev pub Test : Type 0

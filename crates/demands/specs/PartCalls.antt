@@ -14,8 +14,8 @@ use Rattle.base.specs.Fours.{fours}
 use Rattle.base.specs.Lists.{allb, memberb}
 use Rattle.base.specs.Limits.{most_cells, most_parts}
 use Rattle.base.specs.Refuse.{refuse, and_then}
-use Rattle.base.specs.declared.Answer.{Answer}
-use Rattle.base.specs.declared.Answer.TheVariants.{Accepted, Refused}
+use Rattle.base.specs.Answer.{Answer}
+use Rattle.base.specs.Answer.{Accepted, Refused}
 use Rattle.mesh.specs.Coarse.{coarse_corner_count}
 use Rattle.parts.specs.Owners.{ownersb}
 use Rattle.exchange.specs.Calls.{Fetch}

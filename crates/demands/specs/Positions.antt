@@ -16,7 +16,7 @@ use Rattle.base.specs.Every.{All}
 use Rattle.base.specs.Fours.{fours}
 use Rattle.base.specs.Limits.{most_corners, full_sums}
 use Rattle.base.specs.Refuse.{held_after}
-use Rattle.base.specs.declared.Answer.TheVariants.{Accepted}
+use Rattle.base.specs.Answer.{Accepted}
 use Rattle.mesh.specs.Coarse.{coarse_corner_count, coordinate_at}
 use Rattle.mesh.specs.Weights as weights
 use Rattle.mesh.specs.Layout.{Corner, weighted_sum, sum_table}

@@ -10,7 +10,7 @@ use Rattle.base.specs.Bools.{is_true}
 use Rattle.base.specs.Fours.{fours}
 use Rattle.base.specs.Limits.{most_cells, most_parts, full_rows, full_ends, full_sums, full_counts}
 use Rattle.base.specs.Refuse.{refuse, and_then}
-use Rattle.base.specs.declared.Answer.TheVariants.{Accepted}
+use Rattle.base.specs.Answer.{Accepted}
 use Rattle.mesh.specs.Coarse.{coarse_corner_count, mesh_answer}
 use Rattle.mesh.specs.Answers.{cells_in, table_answer, marksb, limits_answer, marked_answer}
 use Rattle.soundness.specs.Sound.{sound_parts}

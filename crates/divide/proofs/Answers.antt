@@ -16,8 +16,8 @@ use Rattle.base.specs.Fours.{fours, length-fours}
 use Rattle.base.specs.Limits.{most_cells, most_parts, most_coarse_cells}
 use Rattle.base.specs.Lists.{allb}
 use Rattle.base.specs.Refuse.{refuse, and_then, answer_of, answer_refused, answer_none}
-use Rattle.base.specs.declared.Answer.{Answer}
-use Rattle.base.specs.declared.Answer.TheVariants.{Accepted, Refused}
+use Rattle.base.specs.Answer.{Answer}
+use Rattle.base.specs.Answer.{Accepted, Refused}
 use Rattle.mesh.specs.Coarse.{coarse_corner_count}
 use Rattle.mesh.specs.Table.{soundb}
 use Rattle.mesh.specs.Answers.{table_answer}

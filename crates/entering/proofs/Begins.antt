@@ -15,8 +15,8 @@ use borrow.Author.Tests.{eq-eqb, lt-ltb, le-leb, eqb-true}
 use Rattle.base.specs.Bools.{one_if, and_left, and_right, not_both, is_true}
 use Rattle.base.specs.Limits.{most_cells, most_slots, most_parts}
 use Rattle.base.specs.Refuse.{refuse}
-use Rattle.base.specs.declared.Answer.{Answer}
-use Rattle.base.specs.declared.Answer.TheVariants.{Accepted, Refused}
+use Rattle.base.specs.Answer.{Answer}
+use Rattle.base.specs.Answer.{Accepted, Refused}
 use Rattle.exchange.specs.Finite.{parts}
 use Rattle.exchange.specs.Protocol.{at_start}
 use Rattle.rounds.specs.Task.{Task, Fit, rule}

@@ -9,8 +9,8 @@ use Rattle.std.proofs.Math.Dec.{T}
 use borrow.Author.Tests.{eq-eqb, le-leb}
 use Rattle.base.specs.Bools.{and_left, and_right, is_true, not_both}
 use Rattle.base.specs.Refuse.{refuse}
-use Rattle.base.specs.declared.Answer.{Answer}
-use Rattle.base.specs.declared.Answer.TheVariants.{Accepted, Refused}
+use Rattle.base.specs.Answer.{Answer}
+use Rattle.base.specs.Answer.{Accepted, Refused}
 use Rattle.store.specs.Fields.{field, full, STAGE}
 use Rattle.store.specs.Header.{headerb, stageb}
 use Rattle.store.specs.Headed.{header_is, header_yes, other_no}

@@ -12,7 +12,7 @@ use borrow.Author.Tests.{eq-eqb, ne_eqb, le-leb, lt-leb}
 use Rattle.base.specs.Bools.{and_right, or_either}
 use Rattle.base.specs.Limits.{most_cells}
 use Rattle.base.specs.Refuse.{refuse, held_after}
-use Rattle.base.specs.declared.Answer.TheVariants.{Accepted, Refused}
+use Rattle.base.specs.Answer.{Accepted, Refused}
 use Rattle.store.specs.Fields.{field, full, STAGE, LEVELS, ROUND, RESULT}
 use Rattle.store.specs.Header.{stageb, headerb}
 use Rattle.store.specs.Headed.{header_is, header_yes}

@@ -11,8 +11,8 @@ use Rattle.base.specs.Bools.{one_if}
 use Rattle.base.specs.Limits.{most_levels, most_cells}
 use Rattle.base.specs.Range.{range}
 use Rattle.base.specs.Refuse.{refuse}
-use Rattle.base.specs.declared.Answer.{Answer}
-use Rattle.base.specs.declared.Answer.TheVariants.{Accepted, Refused}
+use Rattle.base.specs.Answer.{Answer}
+use Rattle.base.specs.Answer.{Accepted, Refused}
 use Rattle.parts.specs.Held.{Entry}
 use Rattle.store.specs.Fields.{field, full, STAGE, ENTRIES, PLACE_HEAD, PLACE_DIGITS, PLACE_MORE, PLACE_STATUS}
 use Rattle.store.specs.Fields.{ROUND, RESULT}

@@ -9,8 +9,8 @@ use Rattle.base.specs.Bools.{is_true}
 use Rattle.base.specs.Fours.{fours}
 use Rattle.base.specs.Limits.{full_counts, most_cells}
 use Rattle.base.specs.Refuse.{refuse, held_after, answer_refused, answer_none}
-use Rattle.base.specs.declared.Answer.{Answer}
-use Rattle.base.specs.declared.Answer.TheVariants.{Accepted, Refused}
+use Rattle.base.specs.Answer.{Answer}
+use Rattle.base.specs.Answer.{Accepted, Refused}
 use Rattle.mesh.specs.Coarse.{coarse_corner_count}
 use Rattle.mesh.specs.Table.{soundb}
 use Rattle.counting.specs.Levels.{Levels, level_number, level_counts, counts-length}

@@ -8,8 +8,8 @@ use native.Mathlib.Omega.{arith}
 use lib.ListN.{length, take, drop}
 use lib.Seq.{take_at}
 use Rattle.base.specs.Limits.{full_counts, most_cells, most_levels}
-use Rattle.base.specs.declared.Answer.{Answer}
-use Rattle.base.specs.declared.Answer.TheVariants.{Accepted, Refused}
+use Rattle.base.specs.Answer.{Answer}
+use Rattle.base.specs.Answer.{Accepted, Refused}
 use Rattle.base.specs.Refuse.{held_after}
 use Rattle.archive.specs.Job.{Job}
 use Rattle.archive.specs.Form.{job_of}

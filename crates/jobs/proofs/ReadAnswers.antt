@@ -11,8 +11,8 @@ use lib.ListN.{length}
 use Rattle.base.specs.Bools.{and_left, and_right, is_true}
 use Rattle.base.specs.Limits.{full_coarse, full_positions, most_marks}
 use Rattle.base.specs.Refuse.{refuse, held_after, answer_refused, answer_none}
-use Rattle.base.specs.declared.Answer.{Answer}
-use Rattle.base.specs.declared.Answer.TheVariants.{Accepted, Refused}
+use Rattle.base.specs.Answer.{Answer}
+use Rattle.base.specs.Answer.{Accepted, Refused}
 use Rattle.archive.specs.Job.{Job}
 use Rattle.archive.specs.Form.{formb, job_of}
 use Rattle.archive.specs.Bytes.{Octets}

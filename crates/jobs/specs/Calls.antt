@@ -9,8 +9,8 @@ use Rattle.std.specs.Prelude.{◌≡◌, Bool, ◌&&◌, ℕ, ◌/◌, ◌≤◌
 use mathlib.Core.List.{List, flatten}
 use Rattle.base.specs.Fours.{fours}
 use Rattle.base.specs.Refuse.{refuse, and_then, answer_of}
-use Rattle.base.specs.declared.Answer.{Answer}
-use Rattle.base.specs.declared.Answer.TheVariants.{Accepted, Refused}
+use Rattle.base.specs.Answer.{Answer}
+use Rattle.base.specs.Answer.{Accepted, Refused}
 use Rattle.base.specs.Limits.{most_cells, most_bytes, full_counts, full_coarse, full_positions, most_marks}
 use Rattle.mesh.specs.Coarse.{coarse_corner_count}
 use Rattle.mesh.specs.Table.{Level, levels_of, soundb}

@@ -4,8 +4,8 @@
 -- Laws: archive_fits (a listing has at most 512 bytes), listing_inside (a table that the listing was written into holds it).
 use Rattle.std.specs.Prelude.{◌≡◌, refl, List, ◌++◌, ℕ, ◌≤◌, length, drop}
 use Rattle.std.proofs.Common.{arith, length-append}
-use Rattle.base.specs.declared.Answer.{Answer}
-use Rattle.base.specs.declared.Answer.TheVariants.{Accepted, Refused}
+use Rattle.base.specs.Answer.{Answer}
+use Rattle.base.specs.Answer.{Accepted, Refused}
 use Rattle.archive.specs.Form.{job_of}
 use Rattle.jobs.specs.Calls.{archive_answer, job_counts}
 use Rattle.jobs.specs.Sound.{counts_few, archive_job}

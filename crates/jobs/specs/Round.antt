@@ -10,7 +10,7 @@ use mathlib.Core.List.{List, map, flatten}
 use Rattle.std.proofs.Math.Dec.{leb→le}
 use borrow.Author.Tests.{le-leb}
 use Rattle.base.specs.Refuse.{refuse, and_then, passed, both}
-use Rattle.base.specs.declared.Answer.TheVariants.{Accepted}
+use Rattle.base.specs.Answer.{Accepted}
 use Rattle.archive.specs.Job.{Job, job_bytes}
 use Rattle.archive.specs.Form.{formb, job_of}
 use Rattle.archive.specs.Bytes.{Octets}

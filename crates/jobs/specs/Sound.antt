@@ -12,7 +12,7 @@ use Rattle.base.specs.Limits.{full_counts, most_cells, most_levels}
 use Rattle.base.specs.Lists.{allb}
 use Rattle.base.specs.Bools.{and_left, and_right}
 use Rattle.base.specs.Fours.{fours, length-fours}
-use Rattle.base.specs.declared.Answer.TheVariants.{Accepted}
+use Rattle.base.specs.Answer.{Accepted}
 use Rattle.mesh.specs.Coarse.{coarse_corner_count, mesh_answer}
 use Rattle.mesh.specs.Table.{Level, levels_of, cells_of, closedb, apartb, soundb}
 use Rattle.mesh.specs.Counts.{counts_of, count_table}

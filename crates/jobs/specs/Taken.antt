@@ -12,7 +12,7 @@ use Rattle.base.specs.Bools.{and_left, and_right}
 use Rattle.base.specs.Fours.{fours, length-fours}
 use Rattle.base.specs.Limits.{most_cells}
 use Rattle.base.specs.Refuse.{refuse, and_then, passed, both}
-use Rattle.base.specs.declared.Answer.TheVariants.{Accepted}
+use Rattle.base.specs.Answer.{Accepted}
 use Rattle.base.specs.Every.{All}
 use Rattle.mesh.specs.Coarse.{coarse_corner_count, cell_count, positionsb, cellb, cellsb, mesh_answer}
 use Rattle.mesh.specs.Answers.{marksb, limits_answer}

@@ -12,7 +12,7 @@ use Rattle.base.specs.Every.{get_d_map, any_at, all_each}
 use Rattle.base.specs.Limits.{most_cells, most_parts, most_coarse_cells}
 use Rattle.base.specs.Lists.{allb, anyb, member_place}
 use Rattle.base.specs.Range.{range, length-range, range_at}
-use Rattle.base.specs.declared.Answer.TheVariants.{Accepted}
+use Rattle.base.specs.Answer.{Accepted}
 use Rattle.soundness.specs.Sound.{sound_parts}
 use Rattle.parts.specs.Held.{Entry}
 use Rattle.store.specs.Fields.{field, full, PART, PARTS, CORNERS, COARSE, RESULT, OWNER, CORNER}

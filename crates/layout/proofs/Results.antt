@@ -14,7 +14,7 @@ use lib.Seq.{length-take-le}
 use Rattle.base.specs.Bools.{is_true, and_left, and_right}
 use Rattle.base.specs.Fours.{fours}
 use Rattle.base.specs.Limits.{full_ends, full_rows, full_sums, most_cells}
-use Rattle.base.specs.declared.Answer.TheVariants.{Accepted, Refused}
+use Rattle.base.specs.Answer.{Accepted, Refused}
 use Rattle.base.specs.Refuse.{answer_of, answer_refused, answer_none}
 use Rattle.mesh.specs.Coarse.{coarse_corner_count}
 use Rattle.mesh.specs.Table.{soundb}

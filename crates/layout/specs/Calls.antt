@@ -6,8 +6,8 @@
 use Rattle.std.specs.Prelude.{◌≡◌, Bool, ◌&&◌, List, ℕ, ◌≤◌, leb, ℤ, length}
 use Rattle.std.proofs.Common.{le-leb}
 use Rattle.base.specs.Refuse.{refuse, held_after}
-use Rattle.base.specs.declared.Answer.{Answer}
-use Rattle.base.specs.declared.Answer.TheVariants.{Accepted, Refused}
+use Rattle.base.specs.Answer.{Answer}
+use Rattle.base.specs.Answer.{Accepted, Refused}
 use Rattle.base.specs.Limits.{full_rows, full_ends, full_sums}
 use Rattle.mesh.specs.Layout.{cell_table, end_table, sum_table}
 use Rattle.mesh.specs.Answers.{levels_in, cells_in, corners_in, table_answer}

@@ -3,8 +3,8 @@
 use Rattle.std.specs.Prelude.{◌≡◌, refl, List, [], ◌∷◌, ◌++◌, ℕ, ◌≤◌, ℤ, pos, length}
 use Rattle.std.proofs.Common.{◌∙◌}
 use Rattle.base.specs.Limits.{full_rows, full_ends, full_sums}
-use Rattle.base.specs.declared.Answer.{Answer}
-use Rattle.base.specs.declared.Answer.TheVariants.{Accepted, Refused}
+use Rattle.base.specs.Answer.{Answer}
+use Rattle.base.specs.Answer.{Accepted, Refused}
 use Rattle.mesh.specs.Answers.{table_answer}
 use Rattle.layout.specs.Calls.{layout_answer, layout_examines}
 

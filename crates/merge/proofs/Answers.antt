@@ -13,7 +13,7 @@ use Rattle.base.specs.Fours.{fours}
 use Rattle.base.specs.Limits.{full_coarse, most_cells, most_coarse_cells, most_coarse_corners, most_parts}
 use Rattle.base.specs.Lists.{allb}
 use Rattle.base.specs.Refuse.{refuse, held_after}
-use Rattle.base.specs.declared.Answer.TheVariants.{Refused}
+use Rattle.base.specs.Answer.{Refused}
 use Rattle.mesh.specs.Coarse.{cellsb}
 use Rattle.mesh.specs.Table.{soundb}
 use Rattle.tables.specs.Sound.{Mesh, Examined, unless_sound}

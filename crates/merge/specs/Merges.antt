@@ -8,7 +8,7 @@ use Rattle.base.specs.Limits.{most_cells, most_parts}
 use Rattle.base.specs.Lists.{allb, anyb}
 use Rattle.base.specs.Range.{range}
 use Rattle.base.specs.Refuse.{refuse}
-use Rattle.base.specs.declared.Answer.TheVariants.{Accepted}
+use Rattle.base.specs.Answer.{Accepted}
 use Rattle.mesh.specs.Coarse.{cellsb}
 use Rattle.mesh.specs.Table.{soundb}
 use Rattle.parts.specs.Merge.{completeb}

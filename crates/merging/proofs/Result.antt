@@ -4,7 +4,7 @@ use Rattle.std.proofs.Common.{sym, ◌∙◌, ap}
 use mathlib.Core.List.{List, flatten}
 use Rattle.base.specs.Limits.{most_cells, most_levels}
 use Rattle.base.specs.Refuse.{refuse}
-use Rattle.base.specs.declared.Answer.TheVariants.{Accepted}
+use Rattle.base.specs.Answer.{Accepted}
 use Rattle.mesh.specs.Coarse.{cellsb}
 use Rattle.mesh.specs.Table.{levels_of, soundb}
 use Rattle.mesh.specs.Step.{step_table}

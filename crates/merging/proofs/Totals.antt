@@ -8,7 +8,7 @@ use Rattle.std.proofs.Math.Dec.{leb}
 use Rattle.std.proofs.Math.ListN.{length}
 use Rattle.base.specs.Limits.{most_cells, most_levels}
 use Rattle.base.specs.Refuse.{refuse}
-use Rattle.base.specs.declared.Answer.TheVariants.{Accepted}
+use Rattle.base.specs.Answer.{Accepted}
 use Rattle.base.specs.Bools.{same_test}
 use Rattle.lineage.specs.Olds.{step_by}
 use Rattle.lineage.specs.Paths.{path_at}

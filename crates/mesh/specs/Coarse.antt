@@ -12,8 +12,8 @@ use mathlib.Core.List.{List, [], ◌∷◌, flat_map}
 use Rattle.base.specs.Lists.{allb, anyb, sameb}
 use Rattle.base.specs.Fours.{fours, faces, holders}
 use Rattle.base.specs.Refuse.{refuse}
-use Rattle.base.specs.declared.Answer.{Answer}
-use Rattle.base.specs.declared.Answer.TheVariants.{Accepted}
+use Rattle.base.specs.Answer.{Answer}
+use Rattle.base.specs.Answer.{Accepted}
 use Rattle.base.specs.Limits.{most_coarse_corners, most_coarse_cells}
 use Rattle.cutting.specs.Rule.{zerob}
 

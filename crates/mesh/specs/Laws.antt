@@ -16,8 +16,8 @@ use Rattle.base.specs.Bools.{one_most, and_left, and_right}
 use Rattle.base.specs.Append.{anyb_append}
 use Rattle.base.specs.Fours.{fours}
 use Rattle.base.specs.Refuse.{refuse, passed, code_of, answer_of}
-use Rattle.base.specs.declared.Answer.{Answer}
-use Rattle.base.specs.declared.Answer.TheVariants.{Accepted, Refused}
+use Rattle.base.specs.Answer.{Answer}
+use Rattle.base.specs.Answer.{Accepted, Refused}
 use Rattle.mesh.specs.Coarse.{coarse_corner_count, cell_count, countsb, positionsb, cellsb, solidb, singleb, mesh_answer}
 use Rattle.mesh.specs.Table.{levels_of, cells_of, closedb, apartb, soundb, size_of, sizes}
 use Rattle.mesh.specs.Layout.{coarse_corners_to, edge_numbers}

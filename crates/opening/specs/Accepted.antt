@@ -2,7 +2,7 @@
 -- Assumes nothing.
 use Rattle.std.specs.Prelude.{◌≡◌, List, ℕ, T, ℤ}
 use Rattle.std.proofs.Common.{◌∙◌, arith}
-use Rattle.base.specs.declared.Answer.TheVariants.{Accepted}
+use Rattle.base.specs.Answer.{Accepted}
 use Rattle.mesh.specs.Coarse.{coarse_corner_count, positionsb, mesh_answer}
 use Rattle.mesh.specs.Laws.{mesh_counts, mesh_accepted, mesh_code}
 use Rattle.tables.specs.Sound.{Mesh}

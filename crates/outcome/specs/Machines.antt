@@ -18,8 +18,8 @@ use borrow.Author.Tests.{eq-eqb, ne_eqb, le-leb, eqb-true}
 use Rattle.base.specs.Bools.{one_if, and_left, and_right, not_both, is_true}
 use Rattle.base.specs.Limits.{most_cells}
 use Rattle.base.specs.Refuse.{refuse}
-use Rattle.base.specs.declared.Answer.{Answer}
-use Rattle.base.specs.declared.Answer.TheVariants.{Accepted, Refused}
+use Rattle.base.specs.Answer.{Answer}
+use Rattle.base.specs.Answer.{Accepted, Refused}
 use Rattle.exchange.specs.Calls.{Start, Step, Fetch, Hand}
 use Rattle.exchange.specs.Finite.{parts}
 use Rattle.exchange.specs.Protocol.{Protocol, Machine, Alone, Gives, following, at_start, with_queue, with_body}

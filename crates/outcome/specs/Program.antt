@@ -5,8 +5,8 @@
 --   phase_of x    how many rounds the part has begun: 0 before its start
 use Rattle.std.specs.Prelude.{true, false, List, [], ◌∷◌, ℕ, suc, eqb, take, replicate}
 use Rattle.std.proofs.Math.Option.{Option, none, some}
-use Rattle.base.specs.declared.Answer.{Answer}
-use Rattle.base.specs.declared.Answer.TheVariants.{Accepted, Refused}
+use Rattle.base.specs.Answer.{Answer}
+use Rattle.base.specs.Answer.{Accepted, Refused}
 use Rattle.exchange.specs.Calls.{Start, Step, Fetch, Hand, Program}
 use Rattle.store.specs.Fields.{field, STAGE, ROUND}
 use Rattle.store.specs.declared.Fetched.{Fetched}

@@ -1,11 +1,24 @@
-// A table of pairs of numbers in which a pair is found fast. Its four lists are lent by the caller: the pairs in the order
-// in which they were added, n of them in use; each bucket's last entry; and behind each entry the one before it in its bucket.
-// 65535 stands for no entry. There are 4,096 buckets, or 1,024 where the heads are fewer than 4,096; behind them there may be spots.
+// A table of pairs of numbers in which a pair is found fast: the pairs in the order in which they were added; each bucket's last entry; and
+// behind each entry the one before it in its bucket. 65535 stands for no entry. There are 4,096 buckets, or 1,024 where the heads are fewer
+// than 4,096; behind them there may be spots.
 #![tactic(auto)]
 
-ghost use Rattle.std.specs.Prelude.{◌≡◌, ◌-◌, ◌<◌, ◌≤◌, length};
+ghost use Rattle.std.specs.Prelude.{◌≡◌, ◌+◌, ◌-◌, ◌<◌, ◌≤◌, MatchOption};
 ghost use Rattle.spots.specs.Spots.{buckets_of};
-ghost use Rattle.pairs.specs.Keys.{bucket, hereb, seek, Keys, Room, Clear, Added};
+ghost use Rattle.pairs.specs.Keys.{bucket, hereb, seek, Keys, Added};
+
+// Room for N pairs, with H heads. The entries from `from` on are looked at; there are n.
+#[derive(Drop)]
+pub struct PairTable<const N: usize, const H: usize> {
+    pub xs: [u32; N],
+    pub ys: [u32; N],
+    pub heads: [u16; H],
+    pub links: [u16; N],
+    pub from: usize,
+    pub n: usize,
+    pub ghost in_order: { Keys xs ys heads links n },
+    pub ghost up: { from ≤ n },
+}
 
 // The bucket that the pair lies in, of those of k heads.
 pub fn bucket_of(k: usize, x: u32, y: u32) -> usize
@@ -16,73 +29,62 @@ pub fn bucket_of(k: usize, x: u32, y: u32) -> usize
     if k < 4096 { v % 1024 } else { v % 4096 }
 }
 
-// Whether entry e is the pair.
-fn stands(xs: &[u32], ys: &[u32], e: usize, x: u32, y: u32) -> bool
-    requires { (e < length xs.now) × (e < length ys.now) }
-    ensures { result ≡ hereb xs.now ys.now x y e }
-{
-    if xs[e] == x { ys[e] == y } else { false }
-}
-
-// Makes the table empty.
-pub fn clear(heads: &mut [u16])
-    requires { 1024 ≤ length heads.old }
-    ensures { Clear heads.new }
-{
-    let k = heads.len();
-    for b in 0..k {
-        heads[b] = 65535;
-    }
-}
-
-// The last entry, from `from` on, at which the pair stands, or 65535. A chain goes down, so older entries cost nothing.
-pub fn find(
-    xs: &[u32],
-    ys: &[u32],
-    heads: &[u16],
-    links: &[u16],
-    from: usize,
-    n: usize,
-    x: u32,
-    y: u32,
-) -> usize
-    requires { Keys xs.now ys.now heads.now links.now n }
-    ensures { result ≡ seek xs.now ys.now x y from (n - from) }
-{
-    let b = bucket_of(heads.len(), x, y);
-    let mut e = heads[b];
-    while e != 65535 {
-        let i = e as usize;
-        if i < from {
-            return 65535;
+impl<const N: usize, const H: usize> PairTable<N, H> {
+    // An empty table.
+    pub fn new() -> Self
+        requires { 1024 ≤ H }
+        ensures { (result.from ≡ 0) × (result.n ≡ 0) }
+    {
+        PairTable {
+            xs: [0; N],
+            ys: [0; N],
+            heads: [65535; H],
+            links: [0; N],
+            from: 0,
+            n: 0,
         }
-        if stands(xs, ys, i, x, y) {
-            return i;
-        }
-        e = links[i];
     }
-    65535
-}
 
-// Adds the pair as entry n, whether it is there already or not.
-pub fn add(
-    xs: &mut [u32],
-    ys: &mut [u32],
-    heads: &mut [u16],
-    links: &mut [u16],
-    n: usize,
-    x: u32,
-    y: u32,
-)
-    requires keys { Keys xs.old ys.old heads.old links.old n }
-    requires room { Room xs.old ys.old links.old n }
-    ensures { Added xs.old ys.old n x y xs.new ys.new heads.new links.new }
-{
-    let b = bucket_of(heads.len(), x, y);
-    let before = heads[b];
-    xs[n] = x;
-    ys[n] = y;
-    links[n] = before;
-    heads[b] = n as u16;
-    spots::note(heads, n, x, y);
+    // Whether entry e is the pair.
+    fn stands(&self, e: usize, x: u32, y: u32) -> bool
+        requires { e < self.now.n }
+        ensures { result ≡ hereb self.now.xs self.now.ys x y e }
+    {
+        self.xs[e] == x && self.ys[e] == y
+    }
+
+    // The last entry, from `from` on, at which the pair stands. A chain goes down, so older entries cost nothing.
+    pub fn find(&self, x: u32, y: u32) -> Option<usize>
+        ensures { MatchOption result (seek self.now.xs self.now.ys x y self.now.from (self.now.n - self.now.from) ≡ 65535) (λ e. (e ≡ seek self.now.xs self.now.ys x y self.now.from (self.now.n - self.now.from)) × (e < self.now.n)) }
+    {
+        let b = bucket_of(H, x, y);
+        let mut e = self.heads[b];
+        while e != 65535 {
+            let i = e as usize;
+            if i < self.from {
+                return None;
+            }
+            if self.stands(i, x, y) {
+                return Some(i);
+            }
+            e = self.links[i];
+        }
+        None
+    }
+
+    // Adds the pair as entry n, whether it is there already or not.
+    pub fn add(&mut self, x: u32, y: u32)
+        requires { (self.old.n < N) × (self.old.n < 65535) }
+        ensures added { Added self.old.xs self.old.ys self.old.n x y self.new.xs self.new.ys self.new.heads self.new.links }
+        ensures one { (self.new.n ≡ self.old.n + 1) × (self.new.from ≡ self.old.from) }
+    {
+        let n = self.n;
+        let b = bucket_of(H, x, y);
+        self.xs[n] = x;
+        self.ys[n] = y;
+        self.links[n] = self.heads[b];
+        self.heads[b] = n as u16;
+        spots::note(&mut self.heads, n, x, y);
+        self.n = n + 1;
+    }
 }

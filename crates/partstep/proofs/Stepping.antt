@@ -10,8 +10,8 @@ use borrow.Author.Tests.{eq-eqb, ne_eqb, lt-ltb, le-ltb, le-leb, lt-leb}
 use Rattle.base.specs.Bools.{and_left}
 use Rattle.base.specs.Limits.{most_cells, most_levels}
 use Rattle.base.specs.Refuse.{refuse}
-use Rattle.base.specs.declared.Answer.{Answer}
-use Rattle.base.specs.declared.Answer.TheVariants.{Accepted, Refused}
+use Rattle.base.specs.Answer.{Answer}
+use Rattle.base.specs.Answer.{Accepted, Refused}
 use Rattle.store.specs.Fields.{field, full, STAGE, PART, PARTS, CELLS, LEVELS, ROUND, RESULT, ENTRIES, TOTAL, HIGH, ENDED, totals_code}
 use Rattle.store.specs.Header.{stageb, headerb}
 use Rattle.store.specs.Headed.{header_is, header_yes}

@@ -8,7 +8,7 @@ use lib.IntN.{ℤ}
 use lib.ListN.{length}
 use borrow.Author.Tests.{lt-ltb, le-ltb, le-leb, lt-leb}
 use Rattle.base.specs.Limits.{full_counts}
-use Rattle.base.specs.declared.Answer.TheVariants.{Accepted, Refused}
+use Rattle.base.specs.Answer.{Accepted, Refused}
 use Rattle.base.specs.Refuse.{answer_refused, answer_none, answer_of, and_then}
 use Rattle.mesh.specs.Answers.{cells_in, table_answer}
 use Rattle.queries.specs.Calls.{ancestor_answer, counts_answer}

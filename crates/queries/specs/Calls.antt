@@ -5,8 +5,8 @@
 --   CountsLevels ..     its result, and what the lent table holds after
 use Rattle.std.specs.Prelude.{◌≡◌, List, ℕ, leb, ltb, ℤ, length, get_or}
 use Rattle.base.specs.Refuse.{refuse, and_then, held_after}
-use Rattle.base.specs.declared.Answer.{Answer}
-use Rattle.base.specs.declared.Answer.TheVariants.{Accepted, Refused}
+use Rattle.base.specs.Answer.{Answer}
+use Rattle.base.specs.Answer.{Accepted, Refused}
 use Rattle.base.specs.Limits.{full_counts}
 use Rattle.mesh.specs.Cells.{no_cell}
 use Rattle.mesh.specs.Counts.{count_table}

@@ -12,8 +12,8 @@ use lib.Seq.{drop-cons}
 use borrow.Author.Tests.{le-leb, lt-leb, eq-eqb, ne_eqb}
 use Rattle.base.specs.Fours.{fours}
 use Rattle.base.specs.Refuse.{refuse, and_then, answer_of, answer_refused, answer_none}
-use Rattle.base.specs.declared.Answer.{Answer}
-use Rattle.base.specs.declared.Answer.TheVariants.{Refused}
+use Rattle.base.specs.Answer.{Answer}
+use Rattle.base.specs.Answer.{Refused}
 use Rattle.mesh.specs.Table.{levels_of}
 use Rattle.archive.specs.Tables.{pairs, steps_from}
 use Rattle.replay.specs.Run.{one_answer, one_table, run_table, flat_answer}

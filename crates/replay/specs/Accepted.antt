@@ -4,7 +4,7 @@ use Rattle.std.specs.Prelude.{◌≡◌, List, ℕ, ◌≤◌, leb, length}
 use Rattle.std.proofs.Common.{leb→le}
 use Rattle.base.specs.Limits.{most_cells, most_levels}
 use Rattle.base.specs.Refuse.{refuse, passed}
-use Rattle.base.specs.declared.Answer.TheVariants.{Accepted}
+use Rattle.base.specs.Answer.{Accepted}
 use Rattle.mesh.specs.Step.{step_table}
 use Rattle.mesh.specs.Answers.{new_table, limits_answer}
 

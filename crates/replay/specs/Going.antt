@@ -10,7 +10,7 @@ use Rattle.std.specs.Prelude.{◌≡◌, List, ◌&&◌, ℕ, ◌-◌, ◌≤◌
 use Rattle.base.specs.Fours.{fours}
 use Rattle.base.specs.Limits.{most_cells}
 use Rattle.base.specs.Refuse.{refuse, answer_of}
-use Rattle.base.specs.declared.Answer.{Answer}
+use Rattle.base.specs.Answer.{Answer}
 use Rattle.mesh.specs.Coarse.{coarse_corner_count, mesh_answer}
 use Rattle.mesh.specs.Table.{levels_of, soundb}
 use Rattle.mesh.specs.Answers.{new_table, limits_answer}

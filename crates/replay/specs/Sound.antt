@@ -2,7 +2,7 @@
 -- Laws: one_sound (an accepted step of a job), run_sound (steps in turn).
 use Rattle.std.specs.Prelude.{◌≡◌, ◌&&◌, ℕ, T, length}
 use mathlib.Core.List.{List, [], ◌∷◌}
-use Rattle.base.specs.declared.Answer.TheVariants.{Accepted}
+use Rattle.base.specs.Answer.{Accepted}
 use Rattle.mesh.specs.Coarse.{cellsb}
 use Rattle.mesh.specs.Table.{soundb}
 use Rattle.base.specs.Every.{All}

@@ -13,8 +13,8 @@ use Rattle.base.specs.Fours.{fours}
 use Rattle.base.specs.Limits.{most_coarse_cells, most_cells, most_parts, most_slots}
 use Rattle.base.specs.Range.{range}
 use Rattle.base.specs.Refuse.{refuse, and_then}
-use Rattle.base.specs.declared.Answer.{Answer}
-use Rattle.base.specs.declared.Answer.TheVariants.{Accepted, Refused}
+use Rattle.base.specs.Answer.{Answer}
+use Rattle.base.specs.Answer.{Accepted, Refused}
 use Rattle.mesh.specs.Coarse.{coarse_corner_count}
 use Rattle.mesh.specs.Table.{levels_of}
 use Rattle.mesh.specs.Answers.{table_answer}

@@ -11,7 +11,7 @@ use Rattle.std.proofs.Math.ListN.{get_or}
 use borrow.Author.Tests.{eq-eqb, ne_eqb, lt-ltb, le-leb}
 use Rattle.base.specs.Bools.{one_if, not_both, one_most}
 use Rattle.base.specs.Limits.{most_cells, most_levels, most_slots, too_many, most_parts}
-use Rattle.base.specs.declared.Answer.TheVariants.{Accepted}
+use Rattle.base.specs.Answer.{Accepted}
 use Rattle.exchange.specs.Finite.{parts, upd, upd_same, upd_other}
 use Rattle.exchange.specs.Protocol.{with_body}
 use Rattle.rounds.specs.Task.{Task}

@@ -11,7 +11,7 @@ use Rattle.std.proofs.Math.Bool.{true, false}
 use Prim.Native.Nat.{ℕ, suc, ◌+◌, ◌*◌, ◌≤◌, ◌<◌, Fin, max}
 use Rattle.base.specs.Bools.{one_if, is_false, and_left, and_right, not_both}
 use Rattle.base.specs.Limits.{most_cells, most_levels, most_slots, too_many, most_parts}
-use Rattle.base.specs.declared.Answer.TheVariants.{Accepted}
+use Rattle.base.specs.Answer.{Accepted}
 use Rattle.exchange.specs.Finite.{parts}
 use Rattle.exchange.specs.Protocol.{Local}
 use Rattle.base.specs.Member.{Member}

@@ -7,8 +7,8 @@ use Rattle.base.specs.Bools.{and_right, is_true, not_both}
 use Rattle.base.specs.Fours.{fours}
 use Rattle.base.specs.Limits.{most_cells}
 use Rattle.base.specs.Refuse.{refuse, and_then, held_after, answer_of, answer_refused, answer_none}
-use Rattle.base.specs.declared.Answer.{Answer}
-use Rattle.base.specs.declared.Answer.TheVariants.{Refused}
+use Rattle.base.specs.Answer.{Answer}
+use Rattle.base.specs.Answer.{Refused}
 use Rattle.mesh.specs.Coarse.{coarse_corner_count}
 use Rattle.mesh.specs.Answers.{table_answer, markb, marksb, limits_answer}
 use Rattle.opening.specs.Opened.{Fits}

@@ -4,8 +4,8 @@
 --   stepped_of a k          the call's answer, where the new table has k cells
 use Rattle.std.specs.Prelude.{List, ℕ, leb, ℤ, length}
 use Rattle.base.specs.Refuse.{refuse}
-use Rattle.base.specs.declared.Answer.{Answer}
-use Rattle.base.specs.declared.Answer.TheVariants.{Accepted, Refused}
+use Rattle.base.specs.Answer.{Answer}
+use Rattle.base.specs.Answer.{Accepted, Refused}
 use Rattle.base.specs.Limits.{most_cells}
 use Rattle.step.specs.declared.Stepped.{Stepped}
 use Rattle.step.specs.declared.Stepped.TheVariants as stepped

@@ -12,7 +12,7 @@ use Rattle.std.proofs.Math.ListN.{drop}
 use Rattle.base.specs.Fours.{fours}
 use Rattle.base.specs.Limits.{most_cells}
 use Rattle.base.specs.Refuse.{held_after, answer_of, answer_refused, answer_none}
-use Rattle.base.specs.declared.Answer.TheVariants.{Refused}
+use Rattle.base.specs.Answer.{Refused}
 use Rattle.mesh.specs.Coarse.{coarse_corner_count}
 use Rattle.mesh.specs.Answers.{table_answer, marksb, new_table, limits_answer}
 use Rattle.step.specs.Calls.{step_answer, stepped_of}

@@ -7,8 +7,8 @@
 use Rattle.std.specs.Prelude.{Bool, true, false, ◌&&◌, not, List, ◌≡◌, ℕ, suc, ◌+◌, ◌*◌, ◌%◌, ◌≤◌, ◌<◌, min, max, eqb, ltb, leb, length, get_or, set}
 use Rattle.base.specs.Limits.{most_cells, most_levels, most_slots, too_many, most_parts}
 use Rattle.base.specs.Refuse.{refuse}
-use Rattle.base.specs.declared.Answer.{Answer}
-use Rattle.base.specs.declared.Answer.TheVariants.{Accepted, Refused}
+use Rattle.base.specs.Answer.{Answer}
+use Rattle.base.specs.Answer.{Accepted, Refused}
 use Rattle.store.specs.Fields.{field, full, STAGE, PART, PARTS, CELLS, ROUND, TOTAL, HIGH, TAKEN, ENDED, OWNER, RED, HOLDERS, SUM}
 use Rattle.store.specs.Header.{headerb}
 

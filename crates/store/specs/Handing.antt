@@ -11,8 +11,8 @@ use borrow.Author.Tests.{eq-eqb, ne_eqb, le-leb, lt-leb}
 use Rattle.base.specs.Bools.{and_left, and_right, is_true}
 use Rattle.base.specs.Limits.{most_cells, most_slots, too_many}
 use Rattle.base.specs.Refuse.{refuse}
-use Rattle.base.specs.declared.Answer.{Answer}
-use Rattle.base.specs.declared.Answer.TheVariants.{Accepted, Refused}
+use Rattle.base.specs.Answer.{Answer}
+use Rattle.base.specs.Answer.{Accepted, Refused}
 use Rattle.store.specs.Fields.{field, full, STAGE, PART, PARTS, CELLS, ROUND, TOTAL, HIGH, ENDED, OWNER, RED, HOLDERS, SUM}
 use Rattle.store.specs.Header.{headerb}
 use Rattle.store.specs.Hand.{number_at, shapeb, routeb, ghost_markb, edge_countb, contentb, wellb, taken_at, ended_at, Ranges}

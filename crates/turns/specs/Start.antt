@@ -8,8 +8,8 @@
 --   start_after x ms       the store after the call
 use Rattle.std.specs.Prelude.{Bool, true, false, ◌&&◌, ◌||◌, List, ℕ, zero, suc, ◌+◌, ◌-◌, min, eqb, ltb, leb, length, get_or, set}
 use Rattle.base.specs.Refuse.{refuse}
-use Rattle.base.specs.declared.Answer.{Answer}
-use Rattle.base.specs.declared.Answer.TheVariants.{Accepted, Refused}
+use Rattle.base.specs.Answer.{Answer}
+use Rattle.base.specs.Answer.{Accepted, Refused}
 use Rattle.store.specs.Fields.{field, full, STAGE, PART, CELLS, LEVELS, FIRST_CELL, OWNER, STATUS, MARK}
 use Rattle.store.specs.Header.{headerb}
 use Rattle.turns.specs.Loops.{each_from}

@@ -10,8 +10,8 @@ use lib.ListN.{length, take, drop}
 use lib.Seq.{take-length}
 use borrow.Author.Tests.{le-leb, lt-leb}
 use Rattle.base.specs.Refuse.{refuse, held_after, code_of, value_after}
-use Rattle.base.specs.declared.Answer.{Answer}
-use Rattle.base.specs.declared.Answer.TheVariants.{Accepted, Refused}
+use Rattle.base.specs.Answer.{Answer}
+use Rattle.base.specs.Answer.{Accepted, Refused}
 use Rattle.cutting.specs.Answer.{cut_of}
 use Rattle.cutting.specs.declared.Family.{Family}
 use Rattle.yuccadice.specs.After.{cut_answer}

@@ -9,7 +9,7 @@
 -- The number that a function answers is `code_of` of the call's answer (`base` `Refuse`): 0 where it is accepted, else the refusal's.
 use Rattle.std.specs.Prelude.{ℕ, List, leb, length}
 use Rattle.base.specs.Refuse.{refuse}
-use Rattle.base.specs.declared.Answer.{Answer}
+use Rattle.base.specs.Answer.{Answer}
 use Rattle.cutting.specs.Answer.{cut_of}
 use Rattle.store.specs.declared.Fetched.{Fetched}
 use Rattle.store.specs.declared.Fetched.TheVariants as fetched

@@ -3,10 +3,10 @@ use Rattle.std.proofs.Common.{rules}
 use Rattle.base.specs.Refuse.{code_of}
 use Rattle.base.proofs.code.Goals as goal
 
-pub returns-in-Accepted : goal.returns-in-Accepted
+pub returns-in-Ok : goal.returns-in-Ok
 unfolding code_of
-returns-in-Accepted c = search rules
+returns-in-Ok c = search rules
 
-pub returns-in-Refused : goal.returns-in-Refused
+pub returns-in-Err : goal.returns-in-Err
 unfolding code_of
-returns-in-Refused c = search rules
+returns-in-Err c = search rules

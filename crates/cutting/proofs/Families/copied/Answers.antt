@@ -1,11 +1,11 @@
--- `cutting::copied` meets its contract. The array holds the digits passed, and zeros behind them. The measure is what is left to copy.
+-- The array holds the digits passed, and zeros behind them.
 use Rattle.std.proofs.Common.{rules}
 use native.Mathlib.Numerals.{add-one}
 use native.Mathlib.Omega.{arith}
 use Rattle.cutting.specs.Answer.{digits_below}
 use Rattle.cutting.proofs.Table.{digits-length}
 use Rattle.cutting.proofs.Copy.{copy_more}
-use Rattle.cutting.proofs.copied.Goals as goal
+use Rattle.cutting.proofs.Families.copied.Goals as goal
 
 pub loop-i-preserved : goal.loop-i-preserved
 loop-i-preserved c = (

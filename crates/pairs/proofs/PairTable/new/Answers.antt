@@ -1,0 +1,7 @@
+-- No bucket of a new table has an entry.
+use Rattle.std.proofs.Common.{arith}
+use Rattle.pairs.specs.Keys.{clear_new}
+use Rattle.pairs.proofs.PairTable.new.Goals as goal
+
+pub invariant_of-result : goal.invariant_of-result
+invariant_of-result g c = record { in_order = (clear_new g.row.H c.requires).empty _ _ _; up = omega arith }
