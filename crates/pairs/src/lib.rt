@@ -45,6 +45,15 @@ impl<const N: usize, const H: usize> PairTable<N, H> {
         }
     }
 
+    // Makes the table empty.
+    pub fn clear(&mut self)
+        ensures { (self.new.from ≡ 0) × (self.new.n ≡ 0) }
+    {
+        self.heads.fill(65535);
+        self.from = 0;
+        self.n = 0;
+    }
+
     // Whether entry e is the pair.
     fn stands(&self, e: usize, x: u32, y: u32) -> bool
         requires { e < self.now.n }
