@@ -189,8 +189,9 @@ fn put_two(out: &mut [u8], at: usize, x: usize)
     requires { (at + 2 ≤ length out.old) × (x < 65536) }
     ensures { out.new ≡ sets out.old at (two x) }
 {
-    out[at] = (x % 256) as u8;
-    out[at + 1] = (x / 256 % 256) as u8;
+    let [low, high] = (x as u16).to_le_bytes();
+    out[at] = low;
+    out[at + 1] = high;
 }
 
 // Stores what stands behind a message's heading, and gives the message's length.
@@ -273,7 +274,7 @@ fn number(bytes: &[u8], at: usize) -> usize
     requires { at + 2 ≤ length bytes.now }
     ensures { (result ≡ number_at bytes.now at) × (result < 65536) }
 {
-    bytes[at] as usize + 256 * (bytes[at + 1] as usize)
+    u16::from_le_bytes([bytes[at], bytes[at + 1]]) as usize
 }
 
 // The kind of a message, where it has the length of that kind.
