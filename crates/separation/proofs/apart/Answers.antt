@@ -1,5 +1,5 @@
 -- The cells that are left decide as all do.
-use Rattle.std.proofs.Common.{rules, arith, refl, ◌≡◌, ◌-◌, sym, ◌∙◌}
+use Rattle.std.proofs.Common.{rules, arith, ◌≡◌, ◌-◌, sym, ◌∙◌}
 use Rattle.edges.specs.Table.{entries}
 use Rattle.closure.specs.Listed.{listed_apart}
 use Rattle.separation.specs.Parents.{apart_all}

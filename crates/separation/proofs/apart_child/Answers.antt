@@ -1,5 +1,5 @@
 -- Where no edge is listed it holds, and else the edges that are left decide as all six do.
-use Rattle.std.proofs.Common.{rules, arith, ◌≡◌, sym, ◌∙◌}
+use Rattle.std.proofs.Common.{rules, ◌≡◌, sym, ◌∙◌}
 use Rattle.mesh.specs.Cells.{edges}
 use Rattle.edges.specs.Table.{entries}
 use Rattle.rows.specs.Numbered.{cell_at}

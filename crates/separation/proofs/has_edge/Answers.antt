@@ -1,5 +1,5 @@
 -- The edges that are left decide as all six do.
-use Rattle.std.proofs.Common.{rules, arith, ◌≡◌, refl, sym, ◌∙◌, ap, true, false, eqb}
+use Rattle.std.proofs.Common.{rules, ◌≡◌, refl, sym, ◌∙◌, ap, true, false, eqb}
 use Rattle.mesh.specs.Cells.{edge, joinsb, heldb}
 use Rattle.edges.specs.Pairs.{Pair}
 use Rattle.rows.specs.Numbered.{cell_at}
