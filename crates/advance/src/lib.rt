@@ -55,12 +55,6 @@ pub fn advance<const N: usize, const H: usize, const K: usize>(
 {
     let coarse = mesh.len() / 4;
     firsts::first_children(status, coarse, &mut work.kids);
-    let looked = keeping::keep(mesh, n, rows, status, marks, &work.kids, &mut work.kept, &mut work.red);
-    if looked.high {
-        return Err(Refusal::TooHigh);
-    }
-    if !looked.ok {
-        return Err(Refusal::TooMany);
-    }
+    keeping::keep(mesh, n, rows, status, marks, &work.kids, &mut work.kept, &mut work.red)?;
     writing::write_table(status, &work.kids, &work.kept[..status.len()], coarse, table, &mut work.old)
 }

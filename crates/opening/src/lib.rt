@@ -1,10 +1,11 @@
 // A status table over a coarse mesh, opened: the mesh examined, then the table.
 #![tactic(auto)]
 
-ghost use Rattle.std.specs.Prelude.{◌≡◌, ◌*◌, ◌≤◌, IfOk, length};
+ghost use Rattle.std.specs.Prelude.{◌≡◌, ◌≤◌, IfOk, length};
 ghost use Rattle.base.specs.Limits.{most_cells};
 ghost use Rattle.base.specs.Refuse.{answered};
 ghost use Rattle.mesh.specs.Answers.{table_answer};
+ghost use Rattle.tables.specs.Room.{TableRoom};
 ghost use Rattle.opening.specs.Opened.{Fits};
 
 use base::Refusal;
@@ -19,7 +20,7 @@ pub fn open<const M: usize, const MH: usize>(
     rows: &mut [u16],
     mids: &mut PairTable<M, MH>,
 ) -> Result<Sizes, Refusal>
-    requires { length status.now ≤ most_cells → (2048 ≤ length rows.old) × (8 * length status.now ≤ length rows.old) × (length status.now ≤ M) }
+    requires { length status.now ≤ most_cells → TableRoom status.now rows.old M }
     ensures answer { answered result ≡ table_answer positions.now cells.now status.now }
     ensures fits { IfOk result (λ s. Fits positions.now cells.now status.now rows.new mids.new.xs mids.new.ys s.cells s.levels mids.new.n) }
 {
