@@ -51,8 +51,7 @@ impl<const N: usize, const H: usize> PairTable<N, H> {
         ensures { (self.new.from ≡ 0) × (self.new.n ≡ 0) }
     {
         self.heads.fill(65535);
-        self.from = 0;
-        self.n = 0;
+        (self.from, self.n) = (0, 0);
     }
 
     // Whether entry e is the pair.
