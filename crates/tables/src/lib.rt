@@ -63,7 +63,16 @@ pub fn lay_coarse(mesh: &[u16], rows: &mut [u16]) -> usize
     let count = mesh.len() / 4;
     for c in 0..count {
         let i = 4 * c;
-        let row = [0, 65535, 0, 1, mesh[i], mesh[i + 1], mesh[i + 2], mesh[i + 3]];
+        let row = [
+            0,
+            65535,
+            0,
+            1,
+            mesh[i],
+            mesh[i + 1],
+            mesh[i + 2],
+            mesh[i + 3],
+        ];
         growth::write_row(rows, c, row);
     }
     count
