@@ -91,8 +91,10 @@ fn finish<const N: usize, const H: usize>(
         ≡ refuse 6 (eqb (length status.now) last && apart_all (listed red.old.xs red.old.ys 0 red.old.n) rows.now last) Accepted }
 {
     red.look_at_all();
-    let sound = status.len() == last && separation::apart(rows, last, red);
-    if sound { Ok(()) } else { Err(Refusal::Unsound) }
+    if status.len() == last && separation::apart(rows, last, red) {
+        return Ok(());
+    }
+    Err(Refusal::Unsound)
 }
 
 // Builds a table of few statuses over an accepted mesh of n corners level by level, and examines it: 6 where it is not sound. Where it is
