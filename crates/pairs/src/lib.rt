@@ -3,7 +3,7 @@
 // than 4,096; behind them there may be spots.
 #![tactic(auto)]
 
-ghost use Rattle.std.specs.Prelude.{◌≡◌, ◌+◌, ◌-◌, ◌<◌, ◌≤◌, MatchOption};
+ghost use Rattle.std.specs.Prelude.{◌≡◌, ◌+◌, ◌-◌, ◌<◌, ◌≤◌, length, MatchOption};
 ghost use Rattle.spots.specs.Spots.{buckets_of, may_have};
 ghost use Rattle.pairs.specs.Keys.{bucket, hereb, seek, Keys, Added};
 
@@ -16,6 +16,7 @@ pub struct PairTable<const N: usize, const H: usize> {
     pub links: [u16; N],
     pub from: usize,
     pub n: usize,
+    pub ghost sized: { (length xs ≡ N) × (length ys ≡ N) × (length heads ≡ H) × (length links ≡ N) },
     pub ghost in_order: { Keys xs ys heads links n },
     pub ghost up: { from ≤ n },
 }
