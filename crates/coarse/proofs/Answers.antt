@@ -1,9 +1,9 @@
--- What a call's test says, the two halves of refusal 5, and what the earlier tests grant the last.
+-- What the earlier tests grant the last.
 -- Assumes nothing.
-use mathlib.Core.Path.{◌≡◌, sym, ◌∙◌}
-use mathlib.Core.Bool.{Bool, true, false, ◌&&◌, not}
+use mathlib.Core.Path.{◌≡◌, refl}
+use mathlib.Core.Bool.{true, ◌&&◌}
 use mathlib.Core.List.{List, [], ◌∷◌}
-use Prim.Native.Nat.{ℕ, ◌/◌, ◌≤◌, ◌<◌}
+use Prim.Native.Nat.{ℕ, zero, suc, ◌/◌, ◌≤◌, ◌<◌}
 use native.Mathlib.Omega.{arith}
 use lib.Dec.{T, ltb, ltb→lt, lt→ltb}
 use lib.IntN.{ℤ}
@@ -11,27 +11,10 @@ use lib.ListN.{length, get_or}
 use mir.Facts.{yes_and}
 use Rattle.base.specs.Lists.{allb}
 use Rattle.base.specs.Bools.{is_true, and_left, and_right}
-use Rattle.base.specs.Fours.{fours}
-use Rattle.mesh.specs.Coarse.{coarse_corner_count, countsb, cellb, cellsb, twiceb, singleb}
+use Rattle.base.specs.Fours.{fours, length-fours}
+use Rattle.mesh.specs.Coarse.{coarse_corner_count, countsb, cellb, cellsb}
 use Rattle.mesh.specs.Laws.{mesh_counts}
-use Rattle.coarse.specs.Cells.{Ranked, crowdedb}
-
--- what a call answered, and the test of it
-pub passed : {b f : Bool} → b ≡ f → b ≡ true → f ≡ true
-passed e t = sym e ∙ t
-
-pub failed : {b f : Bool} → b ≡ f → b ≡ false → f ≡ false
-failed e t = sym e ∙ t
-
--- the two halves of refusal 5
-module _ {b : Bool} (qs : List (List ℕ)) (e : b ≡ not (twiceb qs)) where
-  pub not_single : b ≡ false → false ≡ singleb qs
-  unfolding singleb
-  not_single t = rw (failed e t)
-
-  pub half_single : b ≡ true → {r : Bool} → r ≡ not (crowdedb qs) → r ≡ singleb qs
-  unfolding singleb crowdedb
-  half_single t f = f ∙ rw (passed e t)
+use Rattle.coarse.specs.Cells.{Ranked}
 
 -- at most 512 corners
 cell_mono : (n : ℕ) → n ≤ 512 → (q : List ℕ) → T (cellb n q) → T (cellb 512 q)
@@ -53,11 +36,20 @@ cells_mono n h (q ∷ qs) t =
     yes_and (cellb 512 q) (allb (cellb 512) qs) (cell_mono n h q (and_left (cellb n q) (allb (cellb n) qs) t))
     (cells_mono n h qs (and_right (cellb n q) (allb (cellb n) qs) t))
 
-pub ranked : (ps : List ℤ) (ts : List ℕ) → countsb ps ts ≡ true → cellsb (coarse_corner_count ps) (fours ts) ≡ true → Ranked ts
+four_each : (ts : List ℕ) (k : ℕ) → k < length (fours ts) → length (get_or (fours ts) k []) ≡ 4
+unfolding fours
+four_each [] k h = absurd (omega arith)
+four_each (a ∷ []) k h = absurd (omega arith)
+four_each (a ∷ b ∷ []) k h = absurd (omega arith)
+four_each (a ∷ b ∷ c ∷ []) k h = absurd (omega arith)
+four_each (a ∷ b ∷ c ∷ d ∷ ts) zero h = refl
+four_each (a ∷ b ∷ c ∷ d ∷ ts) (suc k) h = four_each ts k (omega arith)
+
+pub ranked : (ps : List ℤ) (ts : List ℕ) → countsb ps ts ≡ true → cellsb (coarse_corner_count ps) (fours ts) ≡ true → Ranked (fours ts)
 ranked ps ts a c =
     let k = mesh_counts ps ts (rw a tt) in
     record {
-      whole = k.fours;
-      few = omega (arith, k.fours, k.few);
+      four = four_each ts;
+      few = omega (arith, k.few, length-fours ts);
       cells = is_true (cellsb 512 (fours ts)) (cells_mono (length ps / 3) k.corners_few (fours ts) (rw c tt));
     }

@@ -7,12 +7,12 @@ use Prim.Native.Nat.{ℕ, ◌+◌, ◌≤◌, ◌<◌}
 use native.Mathlib.Numerals.{add-one}
 use native.Mathlib.Omega.{arith}
 use lib.Dec.{eqb, eqb→eq}
-use lib.ListN.{length, get_or, take, get_or-eq_default}
+use lib.ListN.{length, get_or, take}
 use lib.Seq.{take_all}
 use borrow.Author.Tests.{eq-eqb}
 use Rattle.base.specs.Bools.{one_if, and_left, and_right}
-use Rattle.pairs.specs.Keys.{seek, Keys, Clear}
-use Rattle.coarse.specs.Tally.{times, Tables, Open, Tallied}
+use Rattle.coarse.specs.declared.tally.Tally.{Tally}
+use Rattle.coarse.specs.Tally.{times_in, Fresh, Open, Tallied}
 use Rattle.coarse.proofs.Count.{count, count_next, count-take}
 
 -- an element has the key x, y
@@ -44,40 +44,24 @@ module _ (kx ky : List ℕ → ℕ) (most : ℕ) (fs : List (List ℕ)) where
   abbrev met : ℕ → ℕ → ℕ → ℕ
   met i x y = count (keyb kx ky x y) (take i fs)
 
-  pub record Sofar (xs ys heads links counts : List ℕ) (n i : ℕ) : Type 0 where
-    pub tables : Tables xs ys heads links counts
-    pub keys : Keys xs ys heads links n
-    pub inside : n ≤ i
-    pub right : (x y : ℕ) → times xs ys counts n x y ≡ met i x y
+  pub record Sofar (t : Tally) (i : ℕ) : Type 0 where
+    pub inside : t.pairs.n ≤ i
+    pub right : (x y : ℕ) → times_in t x y ≡ met i x y
     pub few : (x y : ℕ) → met i x y ≤ most
 
-  pub meets_start : {xs ys heads links counts : List ℕ} → Tables xs ys heads links counts → Clear heads → Sofar xs ys heads links counts 0 0
-  unfolding times seek count
-  meets_start {xs} {ys} {heads} {links} {counts} t c =
-      record {
-        tables = t;
-        keys = c.empty xs ys links;
-        inside = omega arith;
-        right = λ x y. get_or-eq_default counts 0 t.short;
-        few = λ x y. omega arith;
-      }
+  pub meets_start : {t : Tally} → Fresh t → Sofar t 0
+  unfolding count
+  meets_start f = record { inside = omega (arith, f.empty); right = λ x y. f.none x y; few = λ x y. omega arith }
 
-  module _ {xs ys heads links counts : List ℕ} {n i : ℕ} (s : Sofar xs ys heads links counts n i) where
+  module _ {t : Tally} {i : ℕ} (s : Sofar t i) where
     pub meets_end : length fs ≤ i → (x y : ℕ) → count (keyb kx ky x y) fs ≤ most
     meets_end h x y = rw (take_all i fs h) at (s.few x y)
 
-    module _ (h : i < length fs) (small : length fs ≤ 1024) (low : most < 255) where
-      pub meets_open : (x y : ℕ) → Open xs ys heads links counts n x y
-      meets_open x y =
-          record {
-            tables = s.tables;
-            keys = s.keys;
-            room = omega (arith, s.inside);
-            low = omega (arith, s.right x y, s.few x y);
-          }
+    pub meets_open : i < 1024 → most < 255 → (x y : ℕ) → Open t x y
+    meets_open h low x y = record { room = omega (arith, s.inside); low = omega (arith, s.right x y, s.few x y) }
 
     module _ (h : i < length fs) {x y : ℕ} (ex : x ≡ kx (get_or fs i [])) (ey : y ≡ ky (get_or fs i []))
-        {xs' ys' heads' links' counts' : List ℕ} {n' c : ℕ} (a : Tallied xs ys counts n x y xs' ys' heads' links' counts' n' c) where
+        {t' : Tally} {c : ℕ} (a : Tallied t x y t' c) where
       next : (v w : ℕ) → met (i + 1) v w ≡ met i v w + one_if (keyb kx ky v w (get_or fs i []))
       next v w = rw (add-one i) (count_next (keyb kx ky v w) [] fs i h)
 
@@ -89,7 +73,7 @@ module _ (kx ky : List ℕ → ℕ) (most : ℕ) (fs : List (List ℕ)) where
           omega (arith, s.right x y, a.count_is)
 
       -- the keys that the element i does not have keep their counts
-      kept : (v w : ℕ) → keyb kx ky v w (get_or fs i []) ≡ false → (met (i + 1) v w ≡ met i v w) × (times xs' ys' counts' n' v w ≡ met i v w)
+      kept : (v w : ℕ) → keyb kx ky v w (get_or fs i []) ≡ false → (met (i + 1) v w ≡ met i v w) × (times_in t' v w ≡ met i v w)
       unfolding one_if
       kept v w b =
           let e : met (i + 1) v w ≡ met i v w + 0 = next v w ∙ rw b in
@@ -100,10 +84,10 @@ module _ (kx ky : List ℕ → ℕ) (most : ℕ) (fs : List (List ℕ)) where
       own_key : (v w : ℕ) → keyb kx ky v w (get_or fs i []) ≡ true → (x ≡ v) × (y ≡ w)
       own_key v w b = (ex ∙ key_x kx ky v w (get_or fs i []) b, ey ∙ key_y kx ky v w (get_or fs i []) b)
 
-      grows : (v w : ℕ) → times xs' ys' counts' n' v w ≡ met (i + 1) v w
+      grows : (v w : ℕ) → times_in t' v w ≡ met (i + 1) v w
       grows v w = go (keyb kx ky v w (get_or fs i [])) refl
         where
-          go : (b : Bool) → keyb kx ky v w (get_or fs i []) ≡ b → times xs' ys' counts' n' v w ≡ met (i + 1) v w
+          go : (b : Bool) → keyb kx ky v w (get_or fs i []) ≡ b → times_in t' v w ≡ met (i + 1) v w
           go true b = let (p, q) = own_key v w b in rw (← p, ← q) (omega (arith, own, a.same, a.count_is))
           go false b = let k = kept v w b in k.1 ∙ sym k.0
 
@@ -114,10 +98,8 @@ module _ (kx ky : List ℕ → ℕ) (most : ℕ) (fs : List (List ℕ)) where
           go true b = let (p, q) = own_key v w b in rw (← p, ← q) (omega (arith, own))
           go false b = omega (arith, (kept v w b).0, s.few v w)
 
-      pub meets_turn : c ≤ most → Sofar xs' ys' heads' links' counts' n' (i + 1)
+      pub meets_turn : c ≤ most → Sofar t' (i + 1)
       meets_turn l = record {
-        tables = a.tables;
-        keys = a.keys;
         inside = omega (arith, s.inside, a.grown);
         right = grows;
         few = stays l;

@@ -4,13 +4,13 @@
 use mathlib.Core.Path.{◌≡◌, refl, sym, ap}
 use mathlib.Core.Bool.{Bool, true, false, ◌||◌}
 use mathlib.Core.List.{List, [], ◌∷◌}
-use Prim.Native.Nat.{ℕ, ◌+◌, ◌*◌, ◌≤◌, ◌<◌}
+use Prim.Native.Nat.{ℕ, suc, ◌+◌, ◌*◌, ◌≤◌, ◌<◌}
 use native.Mathlib.Omega.{arith}
 use lib.Dec.{T}
 use borrow.Author.Tests.{eq-eqb}
 use Rattle.base.specs.Lists.{allb, anyb, sameb, sameb_eq}
 use Rattle.base.specs.Bools.{one_if, is_true, and_left, and_right}
-use Rattle.base.specs.Fours.{fours}
+use lib.ListN.{length, get_or}
 use Rattle.mesh.specs.Coarse.{cellb, cellsb, twiceb}
 use Rattle.coarse.specs.Tally.{lead, low_cell}
 use Rattle.coarse.proofs.Rows.{Rising, rising}
@@ -22,16 +22,20 @@ pub data Cells : List (List ℕ) → Type 0 where
   none : Cells []
   cell : {a b c d : ℕ} {qs : List (List ℕ)} → Rising 512 a b c d → Cells qs → Cells ((a ∷ b ∷ c ∷ d ∷ []) ∷ qs)
 
-pub cells : (ts : List ℕ) → T (cellsb 512 (fours ts)) → Cells (fours ts)
-unfolding cellsb fours
-cells [] t = none
-cells (a ∷ []) t = none
-cells (a ∷ b ∷ []) t = none
-cells (a ∷ b ∷ c ∷ []) t = none
-cells (a ∷ b ∷ c ∷ d ∷ ts) t =
-    cell (rising 512 a b c d (is_true (cellb 512 (a ∷ b ∷ c ∷ d ∷ []))
-    (and_left (cellb 512 (a ∷ b ∷ c ∷ d ∷ [])) (allb (cellb 512) (fours ts)) t)))
-    (cells ts (and_right (cellb 512 (a ∷ b ∷ c ∷ d ∷ [])) (allb (cellb 512) (fours ts)) t))
+cell_first : (q : List ℕ) {qs : List (List ℕ)} → length q ≡ 4 → T (cellb 512 q) → Cells qs → Cells (q ∷ qs)
+cell_first [] e u cs = absurd (omega arith)
+cell_first (a ∷ []) e u cs = absurd (omega arith)
+cell_first (a ∷ b ∷ []) e u cs = absurd (omega arith)
+cell_first (a ∷ b ∷ c ∷ []) e u cs = absurd (omega arith)
+cell_first (a ∷ b ∷ c ∷ d ∷ []) e u cs = cell (rising 512 (a ∷ b ∷ c ∷ d ∷ []) (is_true (cellb 512 (a ∷ b ∷ c ∷ d ∷ [])) u)) cs
+cell_first (a ∷ b ∷ c ∷ d ∷ x ∷ l) e u cs = absurd (omega arith)
+
+pub cells : (qs : List (List ℕ)) → ((k : ℕ) → k < length qs → length (get_or qs k []) ≡ 4) → T (cellsb 512 qs) → Cells qs
+unfolding cellsb allb
+cells [] four t = none
+cells (q ∷ qs) four t =
+    cell_first q (four 0 (omega arith)) (and_left (cellb 512 q) (allb (cellb 512) qs) t)
+    (cells qs (λ k h. four (suc k) (omega arith)) (and_right (cellb 512 q) (allb (cellb 512) qs) t))
 
 pub same_key : (kx ky : List ℕ → ℕ) (t u : List ℕ) → sameb t u ≡ true → keyb kx ky (kx t) (ky t) u ≡ true
 same_key kx ky t u e = let q : t ≡ u = sameb_eq t u (rw e tt) in key_is kx ky (kx t) (ky t) u (ap kx (sym q)) (ap ky (sym q))

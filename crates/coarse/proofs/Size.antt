@@ -1,15 +1,11 @@
 -- Sizes of integers: a result of 64-bit arithmetic is the number that it stands for as long as the sizes stay below half of
 -- the width's power.
 -- Assumes nothing.
-use mathlib.Core.Path.{◌≡◌, refl, sym, ◌∙◌}
-use mathlib.Core.Bool.{Bool, true, false}
+use mathlib.Core.Path.{◌≡◌, refl, ◌∙◌}
 use Prim.Native.Nat.{ℕ, zero, suc, ◌+◌, ◌*◌, ◌^◌, ◌<◌}
 use native.Mathlib.Nat.{mul-le-mul}
 use native.Mathlib.Omega.{arith}
-use lib.Dec.{leb}
 use lib.IntN.{ℤ, pos, negsuc, nat_abs, neg_ℤ, ◌+ℤ◌, ◌-ℤ◌, ◌*ℤ◌}
-use lib.Signed.{mag, lt_z, le_z}
-use borrow.Author.Tests.{ltb-true, ltb-false, le-leb, lt-leb}
 use mir.Syntax.{Width, w32, w64}
 use mir.Val.{SFits, hbits, to_z, of_z}
 use mir.Facts.{to_z-of_z}
@@ -65,22 +61,3 @@ module _ {m n : ℕ} {x y x' y' : ℤ} (p : Kept m x x') (q : Kept n y y') where
     small = record
         { size = omega (arith, add_size x (neg_ℤ y), neg_size y, p.small.size, q.small.size) };
   }
-
-pub read_size : {b : Bool} (z : ℤ) → mag z < 2 ^ 31 → b ≡ leb (nat_abs (to_z w32 (of_z w32 z))) 500000 → b ≡ leb (nat_abs z) 500000
-read_size z h e = let f : SFits w32 z = record { sfits = h } in rw (to_z-of_z f) at e
-
--- the two comparisons of a position's number with its bounds
-module _ {z : ℤ} (f : SFits w32 z) where
-  pub too_low : lt_z (to_z w32 (of_z w32 z)) (negsuc 499999) ≡ true → false ≡ leb (nat_abs z) 500000
-  too_low t = go z (rw (to_z-of_z f) at t)
-    where
-      go : (y : ℤ) → lt_z y (negsuc 499999) ≡ true → false ≡ leb (nat_abs y) 500000
-      go (pos a) e = cc
-      go (negsuc a) e = sym (lt-leb (suc a) 500000 (omega (arith, ltb-true 499999 a e)))
-
-  pub not_low : lt_z (to_z w32 (of_z w32 z)) (negsuc 499999) ≡ false → le_z (to_z w32 (of_z w32 z)) (pos 500000) ≡ leb (nat_abs z) 500000
-  not_low t = rw (to_z-of_z f) (go z (rw (to_z-of_z f) at t))
-    where
-      go : (y : ℤ) → lt_z y (negsuc 499999) ≡ false → le_z y (pos 500000) ≡ leb (nat_abs y) 500000
-      go (pos a) e = refl
-      go (negsuc a) e = sym (le-leb (suc a) 500000 (omega (arith, ltb-false 499999 a e)))

@@ -57,15 +57,9 @@ module _ {p q p' q' : ℤ} (fp : Told 2000000000000000000 p p') (fq : Told 20000
   difference : Kept 4000000000000000000 (p -ℤ q) (seen p' -ℤ seen q')
   difference = kept_sub (kept_told fp (lit< tt)) (kept_told fq (lit< tt))
 
-  pub difference_fits : SFits w64 (seen p' -ℤ seen q')
-  difference_fits = kept_fits difference (lit< tt)
-
   module _ {r r' : ℤ} (fr : Told 2000000000000000000 r r') where
     sum : Kept 6000000000000000000 (p -ℤ q +ℤ r) (seen (seen p' -ℤ seen q') +ℤ seen r')
     sum = kept_add (kept_read difference (lit< tt)) (kept_told fr (lit< tt))
-
-    pub sum_fits : SFits w64 (seen (seen p' -ℤ seen q') +ℤ seen r')
-    sum_fits = kept_fits sum (lit< tt)
 
     pub sum_zero : eqb (of_z w64 (seen (seen p' -ℤ seen q') +ℤ seen r')) 0 ≡ zerob (p -ℤ q +ℤ r)
     sum_zero = rw sum.is (zero_bits (p -ℤ q +ℤ r) (omega (arith, sum.small.size)))

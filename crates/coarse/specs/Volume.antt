@@ -1,9 +1,9 @@
 -- The determinant of a cell's edge vectors in parts, and the sizes that keep it within 64 bits.
 --   Small n z                 the integer z is n or less without its sign
 --   CornerThere ps a               the numbers of ps are positions, and a is one of their corners
---   CornersThere ps a b c d        the same of four corners
+--   CornersThere ps q              the same of the four corners of the cell q
 --   edge_vector ps a b i           a coordinate of the vector from the corner a to the corner b
---   term_of ps a b c d i j k   the coordinate i of the vector to b, times the minor of j and k of the vectors to c and d
+--   term_of ps q i j k         of the cell q: the coordinate i of the vector to b, times the minor of j and k of the vectors to c and d
 use Rattle.std.specs.Prelude.{List, ℕ, ◌+◌, ◌*◌, ◌≤◌, ℤ, pos, nat_abs, ◌-ℤ◌, ◌*ℤ◌, length, get_or}
 use Rattle.mesh.specs.Coarse.{coordinate_at}
 
@@ -16,12 +16,12 @@ pub record CornerThere (ps : List ℤ) (a : ℕ) : Type 0 where
   pub near : (k : ℕ) → Small 500000 (get_or ps k (pos 0))
   pub inside : 3 * a + 3 ≤ length ps
 
--- Rules 1.3, 1.4: four of them.
-pub record CornersThere (ps : List ℤ) (a b c d : ℕ) : Type 0 where
-  pub a_in : CornerThere ps a
-  pub b_in : CornerThere ps b
-  pub c_in : CornerThere ps c
-  pub d_in : CornerThere ps d
+-- Rules 1.3, 1.4: the four of a cell.
+pub record CornersThere (ps : List ℤ) (q : List ℕ) : Type 0 where
+  pub a_in : CornerThere ps (get_or q 0 0)
+  pub b_in : CornerThere ps (get_or q 1 0)
+  pub c_in : CornerThere ps (get_or q 2 0)
+  pub d_in : CornerThere ps (get_or q 3 0)
 
 -- Rule 1.5: a coordinate of the vector between two corners.
 unfoldable pub edge_vector : List ℤ → ℕ → ℕ → ℕ → ℤ
@@ -29,6 +29,8 @@ unfolding coordinate_at
 edge_vector ps a b i = coordinate_at ps b i -ℤ coordinate_at ps a i
 
 -- Rule 1.5: one of the determinant's three terms.
-unfoldable pub term_of : List ℤ → ℕ → ℕ → ℕ → ℕ → ℕ → ℕ → ℕ → ℤ
+unfoldable pub term_of : List ℤ → List ℕ → ℕ → ℕ → ℕ → ℤ
 unfolding edge_vector
-term_of ps a b c d i j k = edge_vector ps a b i *ℤ (edge_vector ps a c j *ℤ edge_vector ps a d k -ℤ edge_vector ps a c k *ℤ edge_vector ps a d j)
+term_of ps q i j k =
+    let a = get_or q 0 0 in let b = get_or q 1 0 in let c = get_or q 2 0 in let d = get_or q 3 0 in
+    edge_vector ps a b i *ℤ (edge_vector ps a c j *ℤ edge_vector ps a d k -ℤ edge_vector ps a c k *ℤ edge_vector ps a d j)

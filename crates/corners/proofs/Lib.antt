@@ -1,4 +1,5 @@
 mod Rows
 mod EndRows
+mod Copied
 mod Size
 mod SumRows

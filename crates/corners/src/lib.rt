@@ -9,13 +9,12 @@ ghost use Rattle.mesh.specs.Coarse.{coordinate_at};
 ghost use Rattle.corners.specs.Ends.{Ends, coarse_ends, add_ends, end_numbers};
 ghost use Rattle.corners.specs.Sums.{SmallSum, Smalls, SumHeld, half, coarse_sums, mid_sums, add_sums, sum_numbers};
 
-// Stores the two ends of a corner.
-fn put_ends(ends: &mut [u16], at: usize, low: u16, high: u16)
-    requires { at + 2 ≤ length ends.old }
-    ensures { ends.new ≡ sets ends.old at (low ∷ high ∷ []) }
+// Stores the numbers of a corner.
+fn put<T: Copy>(table: &mut [T], at: usize, part: &[T])
+    requires { at + length part.now ≤ length table.old }
+    ensures { table.new ≡ sets table.old at part.now }
 {
-    ends[at] = low;
-    ends[at + 1] = high;
+    table[at..at + part.len()].copy_from_slice(part);
 }
 
 // A coarse corner is both its ends.
@@ -25,7 +24,7 @@ fn coarse_ends(n: usize, ends: &mut [u16])
     ensures { ends.new ≡ coarse_ends n ++ drop (2 * n) ends.old }
 {
     for i in 0..n {
-        put_ends(ends, 2 * i, i as u16, i as u16);
+        put(ends, 2 * i, &[i as u16; 2]);
     }
 }
 
@@ -39,7 +38,7 @@ fn new_ends(xs: &[u32], ys: &[u32], n: usize, m: usize, ends: &mut [u16])
         ++ drop (2 * (n + m)) ends.old }
 {
     for j in 0..m {
-        put_ends(ends, 2 * (n + j), xs[j] as u16, ys[j] as u16);
+        put(ends, 2 * (n + j), &[xs[j] as u16, ys[j] as u16]);
     }
 }
 
@@ -53,16 +52,6 @@ pub fn fill_ends(xs: &[u32], ys: &[u32], n: usize, m: usize, ends: &mut [u16])
 {
     coarse_ends(n, ends);
     new_ends(xs, ys, n, m, ends);
-}
-
-// Stores the three sums of a corner.
-fn put_sums(sums: &mut [i32], at: usize, x: i32, y: i32, z: i32)
-    requires { at + 3 ≤ length sums.old }
-    ensures { sums.new ≡ sets sums.old at (x ∷ y ∷ z ∷ []) }
-{
-    sums[at] = x;
-    sums[at + 1] = y;
-    sums[at + 2] = z;
 }
 
 // 1,024 times a number of a position.
@@ -108,10 +97,12 @@ fn put_mid(sums: &mut [i32], at: usize, a: usize, b: usize)
     requires at_in_bounds { at + 3 ≤ length sums.old }
     ensures { sums.new ≡ sets sums.old at (mid_sums sums.old a b) }
 {
-    let x = mid_sum(sums, a, b, 0);
-    let y = mid_sum(sums, a, b, 1);
-    let z = mid_sum(sums, a, b, 2);
-    put_sums(sums, at, x, y, z);
+    let mid = [
+        mid_sum(sums, a, b, 0),
+        mid_sum(sums, a, b, 1),
+        mid_sum(sums, a, b, 2),
+    ];
+    put(sums, at, &mid);
 }
 
 // A coarse corner has all 1,024 of its weight on itself.
@@ -122,10 +113,12 @@ fn coarse_sums(positions: &[i32], n: usize, sums: &mut [i32])
     ensures { sums.new ≡ coarse_sums positions.now n ++ drop (3 * n) sums.old }
 {
     for i in 0..n {
-        let x = coarse_sum(positions, i, 0);
-        let y = coarse_sum(positions, i, 1);
-        let z = coarse_sum(positions, i, 2);
-        put_sums(sums, 3 * i, x, y, z);
+        let scaled = [
+            coarse_sum(positions, i, 0),
+            coarse_sum(positions, i, 1),
+            coarse_sum(positions, i, 2),
+        ];
+        put(sums, 3 * i, &scaled);
     }
 }
 

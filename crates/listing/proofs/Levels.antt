@@ -1,80 +1,81 @@
 -- The lines of the levels, one turn of `put_lines` each.
---   Lined l at cs level p m   m is l with the lines of the levels below `level` from the place `at` on, and p is the place behind
+--   level_lines i qs          a line for each of the rows qs of counts, from level i on; level_lines_are: those of the counts
+--   Lined l at qs level p m   m is l with the lines of the levels below `level` from the place `at` on, and p is the place behind
 --                             them: with the other lines from there on it has all lines
 -- Laws: lined_start, lined_room (a line has room), lined_next (one more line), lined_end.
 -- Assumes nothing.
-use mathlib.Core.Path.{◌≡◌, refl, ◌∙◌}
+use mathlib.Core.Path.{◌≡◌, refl, ◌∙◌, ap}
 use mathlib.Core.List.{List, [], ◌∷◌, ◌++◌}
-use Prim.Native.Nat.{ℕ, suc, ◌+◌, ◌*◌, ◌≤◌, ◌<◌}
-use native.Mathlib.Numerals.{add-one, towards_suc}
+use Prim.Native.Nat.{ℕ, zero, suc, ◌+◌, ◌*◌, ◌/◌, ◌≤◌, ◌<◌}
+use native.Mathlib.Numerals.{add-one}
 use native.Mathlib.Omega.{arith}
-use lib.ListN.{length, get_or, drop, length-drop}
+use lib.ListN.{length, get_or, drop, drop_of_length-le}
 use lib.Seq.{drop-cons}
+use Rattle.std.specs.Simd.{first_chunks}
 use Rattle.listing.specs.Lines.{fields, lines}
-use Rattle.listing.specs.Put.{Put, put_none, put_more, put_as, put-length}
+use Rattle.listing.specs.Put.{Put, put_none, put_more, put-length}
 use Rattle.listing.specs.Sizes.{length-line}
 
-lines_few : (i : ℕ) (cs : List ℕ) → length cs < 4 → [] ≡ lines i cs
-unfolding lines
-lines_few i [] h = refl
-lines_few i (a ∷ []) h = refl
-lines_few i (a ∷ b ∷ []) h = refl
-lines_few i (a ∷ b ∷ c ∷ []) h = refl
-lines_few i (a ∷ b ∷ c ∷ d ∷ cs) h = absurd (omega arith)
+unfoldable pub level_lines : ℕ → List (List ℕ) → List ℕ
+level_lines i [] = []
+level_lines i (q ∷ qs) = fields (i ∷ q) ++ level_lines (suc i) qs
 
--- the numbers of a level
-abbrev row : ℕ → List ℕ → List ℕ
-row i cs = i ∷ get_or cs (4 * i) 0 ∷ get_or cs (4 * i + 1) 0 ∷ get_or cs (4 * i + 2) 0 ∷ get_or cs (4 * i + 3) 0 ∷ []
+pub level_lines_are : (i : ℕ) (cs : List ℕ) → level_lines i (first_chunks 4 (length cs / 4) cs) ≡ lines i cs
+unfolding level_lines lines
+level_lines_are i [] = refl
+level_lines_are i (a ∷ []) = refl
+level_lines_are i (a ∷ b ∷ []) = refl
+level_lines_are i (a ∷ b ∷ c ∷ []) = refl
+level_lines_are i (a ∷ b ∷ c ∷ d ∷ cs) =
+    let e : length (a ∷ b ∷ c ∷ d ∷ cs) / 4 ≡ suc (length cs / 4) = omega arith in
+    rw e (ap (λ (l : List ℕ). fields (i ∷ a ∷ b ∷ c ∷ d ∷ []) ++ l) (level_lines_are (suc i) cs))
 
-four_on : (cs : List ℕ) (k : ℕ) → k + 4 ≤ length cs
-    → drop k cs ≡ get_or cs k 0 ∷ get_or cs (k + 1) 0 ∷ get_or cs (k + 2) 0 ∷ get_or cs (k + 3) 0 ∷ drop (k + 4) cs
-four_on cs k h =
-    simp towards_suc
-    (rw (
-      drop-cons cs k 0 (omega arith),
-      drop-cons cs (suc k) 0 (omega arith),
-      drop-cons cs (suc (suc k)) 0 (omega arith),
-      drop-cons cs
-          (suc (suc (suc k))) 0 (omega arith),
-    ))
+pub row_four : (cs : List ℕ) (k : ℕ) → k < length (first_chunks 4 (length cs / 4) cs) → length (get_or (first_chunks 4 (length cs / 4) cs) k []) ≡ 4
+row_four [] k h = absurd (omega arith)
+row_four (a ∷ []) k h = absurd (omega arith)
+row_four (a ∷ b ∷ []) k h = absurd (omega arith)
+row_four (a ∷ b ∷ c ∷ []) k h = absurd (omega arith)
+row_four (a ∷ b ∷ c ∷ d ∷ cs) zero h =
+    let e : length (a ∷ b ∷ c ∷ d ∷ cs) / 4 ≡ suc (length cs / 4) = omega arith in
+    rw e refl
+row_four (a ∷ b ∷ c ∷ d ∷ cs) (suc k) h =
+    let e : length (a ∷ b ∷ c ∷ d ∷ cs) / 4 ≡ suc (length cs / 4) = omega arith in
+    let i : suc k < suc (length (first_chunks 4 (length cs / 4) cs)) = rw e at h in
+    rw e (row_four cs k (omega arith))
 
-lines_next : (i : ℕ) (cs : List ℕ) → 4 * i + 4 ≤ length cs → fields (row i cs) ++ lines (i + 1) (drop (4 * (i + 1)) cs) ≡ lines i
-    (drop (4 * i) cs)
-unfolding lines
-lines_next i cs h =
-    let e : 4 * (i + 1) ≡ 4 * i + 4 = omega arith in
-    rw (e, four_on cs (4 * i) h, add-one i)
+-- a row of four counts is a line of at most 30 bytes
+row_length : (i : ℕ) (q : List ℕ) → length q ≡ 4 → length (fields (i ∷ q)) ≤ 30
+row_length i [] e = absurd (omega arith)
+row_length i (a ∷ []) e = absurd (omega arith)
+row_length i (a ∷ b ∷ []) e = absurd (omega arith)
+row_length i (a ∷ b ∷ c ∷ []) e = absurd (omega arith)
+row_length i (a ∷ b ∷ c ∷ d ∷ []) e = length-line i a b c d
+row_length i (a ∷ b ∷ c ∷ d ∷ x ∷ l) e = absurd (omega arith)
 
-pub record Lined (l : List ℕ) (at : ℕ) (cs : List ℕ) (level p : ℕ) (m : List ℕ) : Type 0 where
-  pub levels : 4 * level ≤ length cs
-  pub room : p + 8 * length cs ≤ length m + 32 * level
+pub record Lined (l : List ℕ) (at : ℕ) (qs : List (List ℕ)) (level p : ℕ) (m : List ℕ) : Type 0 where
+  pub levels : level ≤ length qs
+  pub room : p + 30 * length qs ≤ length m + 30 * level
   pub size : length m ≡ length l
-  pub rest : (n : List ℕ) (r : ℕ) → Put m p (lines level (drop (4 * level) cs)) n r → Put l at (lines 0 cs) n r
+  pub rest : (n : List ℕ) (r : ℕ) → Put m p (level_lines level (drop level qs)) n r → Put l at (level_lines 0 qs) n r
 
-pub lined_start : (l : List ℕ) (at : ℕ) (cs : List ℕ) → at + 8 * length cs ≤ length l → Lined l at cs 0 at l
-lined_start l at cs h = record { levels = omega arith; room = omega arith; size = refl; rest = λ n r p. p }
+pub lined_start : (l : List ℕ) (at : ℕ) (qs : List (List ℕ)) → at + 30 * length qs ≤ length l → Lined l at qs 0 at l
+lined_start l at qs h = record { levels = omega arith; room = omega arith; size = refl; rest = λ n r p. p }
 
-module _ {l cs m : List ℕ} {at level p : ℕ} (f : Lined l at cs level p m) where
-  pub lined_room : 4 * level + 4 ≤ length cs → p + 30 ≤ length m
+module _ {l m : List ℕ} {qs : List (List ℕ)} {at level p : ℕ} (f : Lined l at qs level p m) where
+  pub lined_room : level < length qs → p + 30 ≤ length m
   lined_room h = omega (arith, f.room)
 
-  pub lined_next : {n : List ℕ} {q : ℕ} → 4 * level + 4 ≤ length cs → Put m p (fields (row level cs)) n q → Lined l at cs (level + 1) q n
-  lined_next {n} {q} h g =
+  pub lined_next : {n : List ℕ} {q : ℕ} → level < length qs → length (get_or qs level []) ≡ 4
+      → Put m p (fields (level ∷ get_or qs level [])) n q → Lined l at qs (level + 1) q n
+  unfolding level_lines
+  lined_next {n} {q} h e g =
       record {
         levels = omega arith;
-        room =
-            omega (
-              arith,
-              f.room,
-              g.behind,
-              put-length g,
-              length-line level (get_or cs (4 * level) 0) (get_or cs (4 * level + 1) 0) (get_or cs (4 * level + 2) 0) (get_or cs (4 * level + 3) 0),
-            );
+        room = omega (arith, f.room, g.behind, put-length g, row_length level (get_or qs level []) e);
         size = put-length g ∙ f.size;
-        rest = λ o r k. f.rest o r (put_as (lines_next level cs h) (put_more g k));
+        rest = λ o r k. f.rest o r (rw (drop-cons qs level [] h) (put_more g (rw (add-one level) at k)));
       }
 
-  pub lined_end : length cs < 4 * level + 4 → Put l at (lines 0 cs) m p
-  lined_end h =
-      let e : length (drop (4 * level) cs) < 4 = rw (length-drop (4 * level) cs) (omega arith) in
-      f.rest m p (put_as (lines_few level (drop (4 * level) cs) e) (put_none m p (omega (arith, f.room, f.levels))))
+  pub lined_end : length qs ≤ level → Put l at (level_lines 0 qs) m p
+  unfolding level_lines
+  lined_end h = f.rest m p (rw (drop_of_length-le qs h) (put_none m p (omega (arith, f.room, f.levels))))

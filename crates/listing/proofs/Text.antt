@@ -1,19 +1,22 @@
--- A text stored byte by byte: one more (text_more), and all of them (text_end).
+-- A text copied to a place; the line of a refusal in two parts.
 -- Assumes nothing.
-use mathlib.Core.List.{List}
-use Prim.Native.Nat.{ℕ, ◌+◌, ◌≤◌, ◌<◌}
-use native.Mathlib.Nat.{add_assoc}
-use native.Mathlib.Numerals.{add-one}
-use native.Mathlib.Omega.{arith}
-use lib.ListN.{length, take, get_or, set}
-use lib.Seq.{take-suc, take_all}
-use Rattle.listing.specs.Put.{Put, put_one, put_more, put-length, put_as}
+use mathlib.Core.Path.{◌≡◌, refl, sym, ◌∙◌}
+use mathlib.Core.List.{List, [], ◌∷◌, ◌++◌, append_assoc}
+use Prim.Native.Nat.{ℕ, ◌+◌, ◌≤◌}
+use lib.ListN.{length, take, drop}
+use lib.Seq.{sets-eq, drop-drop}
+use borrow.Rule.Slice.PartMut.{put_mid}
+use Rattle.listing.specs.Lines.{decimal, refusal}
+use Rattle.listing.specs.Put.{Put}
 
-pub text_more : (l m text : List ℕ) (at i : ℕ) → at + length text ≤ length l → i < length text → Put l at (take i text) m (at + i)
-    → Put l at (take (i + 1) text) (set m (at + i) (get_or text i 0)) (at + (i + 1))
-text_more l m text at i h k p =
-    rw (add-one i, take-suc text i 0 k, ← add-one i, ← add_assoc at i 1)
-    (put_more p (put_one m (at + i) (get_or text i 0) (omega (arith, put-length p))))
+pub text_put : (l text : List ℕ) (at k : ℕ) → k ≡ length text → at + length text ≤ length l → Put l at text (put_mid at k l text) (at + length text)
+text_put l text at k e h =
+    record {
+      bytes = rw (e, drop-drop (length text) at l) (sym (sets-eq text l at h ∙ append_assoc (take at l) text (drop (at + length text) l)));
+      behind = refl;
+      inside = h;
+    }
 
-pub text_end : (l m text : List ℕ) (at i : ℕ) → length text ≤ i → Put l at (take i text) m (at + i) → Put l at text m (at + i)
-text_end l m text at i h p = put_as (take_all i text h) p
+pub refusal_is : (j k : ℕ) → j ≡ k → (114 ∷ 101 ∷ 102 ∷ 117 ∷ 115 ∷ 101 ∷ 100 ∷ 32 ∷ []) ++ (decimal j ++ (10 ∷ [])) ≡ refusal k
+unfolding refusal
+refusal_is j k e = rw e

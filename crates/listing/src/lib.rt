@@ -18,12 +18,9 @@ fn put_text(out: &mut [u8], at: usize, text: &[u8]) -> usize
     requires { at + length text.now ≤ length out.old }
     ensures { Put out.old at text.now out.new result }
 {
-    let mut i = 0;
-    while i < text.len() {
-        out[at + i] = text[i];
-        i += 1;
-    }
-    at + i
+    let end = at + text.len();
+    out[at..end].copy_from_slice(text);
+    end
 }
 
 // The last digit.
@@ -31,7 +28,7 @@ fn put_digit(out: &mut [u8], at: usize, n: u16) -> usize
     requires { at < length out.old }
     ensures { Put out.old at ((48 + n % 10) ∷ []) out.new result }
 {
-    out[at] = 48 + (n % 10) as u8;
+    out[at] = b'0' + (n % 10) as u8;
     at + 1
 }
 
@@ -40,10 +37,7 @@ fn put_digits(out: &mut [u8], at: usize, n: u16, more: usize) -> usize
     requires { at + more + 1 ≤ length out.old }
     ensures { Put out.old at (digits more n) out.new result }
 {
-    if more == 0 {
-        return put_digit(out, at, n);
-    }
-    if n < 10 {
+    if more == 0 || n < 10 {
         return put_digit(out, at, n);
     }
     let p = put_digits(out, at, n / 10, more - 1);
@@ -66,18 +60,11 @@ fn put_field(out: &mut [u8], at: usize, n: u16, end: u8) -> usize
     put_byte(out, p, end)
 }
 
-fn put_line(
-    out: &mut [u8],
-    at: usize,
-    level: u16,
-    cells: u16,
-    red: u16,
-    green: u16,
-    leaf: u16,
-) -> usize
+fn put_line(out: &mut [u8], at: usize, level: u16, counts: &[u16; 4]) -> usize
     requires { at + 30 ≤ length out.old }
-    ensures { Put out.old at (fields (level ∷ cells ∷ red ∷ green ∷ leaf ∷ [])) out.new result }
+    ensures { Put out.old at (fields (level ∷ counts.now)) out.new result }
 {
+    let [cells, red, green, leaf] = *counts;
     let p = put_field(out, at, level, b' ');
     let q = put_field(out, p, cells, b' ');
     let s = put_field(out, q, red, b' ');
@@ -90,20 +77,10 @@ fn put_lines(out: &mut [u8], at: usize, counts: &[u16]) -> usize
     requires { (length counts.now ≤ full_counts) × (at + 8 * length counts.now ≤ length out.old) }
     ensures { Put out.old at (lines 0 counts.now) out.new result }
 {
-    let mut level = 0;
+    let (levels, _) = counts.as_chunks::<4>();
     let mut p = at;
-    while 4 * level + 4 <= counts.len() {
-        let i = 4 * level;
-        p = put_line(
-            out,
-            p,
-            level as u16,
-            counts[i],
-            counts[i + 1],
-            counts[i + 2],
-            counts[i + 3],
-        );
-        level += 1;
+    for (level, counts) in levels.iter().enumerate() {
+        p = put_line(out, p, level as u16, counts);
     }
     p
 }
@@ -126,5 +103,5 @@ pub fn write_refusal(k: u8, out: &mut [u8]) -> usize
     ensures value { result ≡ length (refusal k) }
 {
     let p = put_text(out, 0, b"refused ");
-    put_field(out, p, k as u16, b'\n')
+    put_field(out, p, u16::from(k), b'\n')
 }

@@ -2,6 +2,7 @@
 --   coordinate_of z          a weighted sum z over 1,024, as an f64
 --   point_of sums k          the three coordinates of corner k
 --   corner_answer sums n k   whether corner k of n is answered: accepted, 15 or 7
+--   Position                a point, or a refusal's number
 --   positioned a p          the point p where a is accepted, else the refusal
 --   position_of sums n k     the whole answer
 use Rattle.std.specs.Prelude.{◌≡◌, false, ◌&&◌, List, ℕ, ◌+◌, ◌*◌, ◌≤◌, ◌<◌, leb, ltb, length, get_or, ℤ, pos, Float}
@@ -14,8 +15,6 @@ use Rattle.base.specs.Answer.{Answer}
 use Rattle.base.specs.Answer as answer
 use Rattle.base.specs.Limits.{full_sums, most_corners}
 use Rattle.position.specs.declared.Point.{Point}
-use Rattle.position.specs.declared.Position.{Position}
-use Rattle.position.specs.declared.Position.TheVariants.{At, Refused}
 
 -- Rule 8.2: the sum as an f64, over 1,024, which is 1 * 2 ^ 10.
 unfoldable pub coordinate_of : ℤ → Float
@@ -38,6 +37,11 @@ unfoldable pub corner_answer : List ℤ → ℕ → ℕ → Answer
 unfolding refuse
 corner_answer sums n k = refuse 15 (leb full_sums (length sums)) (refuse 7 (ltb k n && ltb k most_corners) answer.Accepted)
 
+-- Rule 12.8: what a call for a position answers.
+pub data Position : Type 0 where
+  At : Point → Position
+  Refused : ℕ → Position
+
 -- Rule 12.1: a position, or a number alone.
 unfoldable pub positioned : Answer → Point → Position
 positioned answer.Accepted p = At p
@@ -49,19 +53,23 @@ unfolding positioned corner_answer point_of
 position_of sums n k = positioned (corner_answer sums n k) (point_of sums k)
 
 module _ (sums : List ℤ) (n k : ℕ) where
-  pub position_of_short : length sums < full_sums → position_of sums n k ≡ Refused 15
-  unfolding position_of
-  position_of_short h = rw (lt-leb full_sums (length sums) h, position_of)
+  pub corner_short : length sums < full_sums → corner_answer sums n k ≡ answer.Refused 15
+  unfolding corner_answer refuse
+  corner_short h = rw (lt-leb full_sums (length sums) h)
 
   module _ (full : full_sums ≤ length sums) where
-    pub position_of_beyond : n ≤ k → position_of sums n k ≡ Refused 7
-    unfolding position_of
-    position_of_beyond h = rw (le-leb full_sums (length sums) full, le-ltb k n h, position_of)
+    pub corner_beyond : n ≤ k → corner_answer sums n k ≡ answer.Refused 7
+    unfolding corner_answer refuse
+    corner_beyond h = rw (le-leb full_sums (length sums) full, le-ltb k n h)
 
-    pub position_of_above : most_corners ≤ k → position_of sums n k ≡ Refused 7
-    unfolding position_of
-    position_of_above h = rw (le-leb full_sums (length sums) full, le-ltb k most_corners h, and-false (ltb k n), position_of)
+    pub corner_above : most_corners ≤ k → corner_answer sums n k ≡ answer.Refused 7
+    unfolding corner_answer refuse
+    corner_above h = rw (le-leb full_sums (length sums) full, le-ltb k most_corners h, and-false (ltb k n))
+
+    pub corner_there : k < n → k < most_corners → corner_answer sums n k ≡ answer.Accepted
+    unfolding corner_answer refuse
+    corner_there h l = rw (le-leb full_sums (length sums) full, lt-ltb k n h, lt-ltb k most_corners l)
 
     pub position_of_at : k < n → k < most_corners → position_of sums n k ≡ At (point_of sums k)
-    unfolding position_of
-    position_of_at h l = rw (le-leb full_sums (length sums) full, lt-ltb k n h, lt-ltb k most_corners l, position_of)
+    unfolding position_of positioned
+    position_of_at h l = rw (corner_there h l)

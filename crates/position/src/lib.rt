@@ -1,10 +1,11 @@
 // The position of a corner as three f64 numbers (docs/METHOD.md, section 8).
 #![tactic(auto)]
 
-ghost use Rattle.std.specs.Prelude.{◌≡◌, ◌<◌, length, get_or, pos};
-ghost use Rattle.position.specs.Position.{coordinate_of, position_of};
+ghost use Rattle.std.specs.Prelude.{◌≡◌, ◌<◌, IfOk, length, get_or, pos};
+ghost use Rattle.base.specs.Refuse.{answered};
+ghost use Rattle.position.specs.Position.{coordinate_of, corner_answer, point_of};
 
-use base::{FULL_SUMS, MOST_CORNERS};
+use base::{FULL_SUMS, MOST_CORNERS, Refusal};
 
 #[derive(Clone, Copy)]
 pub struct Point {
@@ -13,36 +14,28 @@ pub struct Point {
     pub z: f64,
 }
 
-#[derive(Clone, Copy)]
-pub enum Position {
-    At(Point),
-    Refused(u8),
-}
-
 // The weighted sum at a place of the table, over 1,024.
 fn coordinate(sums: &[i32], at: usize) -> f64
     requires { at < length sums.now }
     ensures { result ≡ coordinate_of (get_or sums.now at (pos 0)) }
 {
-    sums[at] as f64 / 1024.0
+    f64::from(sums[at]) / 1024.0
 }
 
 // The position of a corner. A mesh of so many corners has three weighted sums for each, in a table of 49,152.
 // 15 where the table is shorter, 7 where there is no such corner.
-pub fn position_of(sums: &[i32], corners: usize, corner: usize) -> Position
-    ensures { result ≡ position_of sums.now corners corner }
+pub fn position_of(sums: &[i32], corners: usize, corner: usize) -> Result<Point, Refusal>
+    ensures answer { answered result ≡ corner_answer sums.now corners corner }
+    ensures point { IfOk result (λ p. p ≡ point_of sums.now corner) }
 {
     if sums.len() < FULL_SUMS {
-        return Position::Refused(15);
+        return Err(Refusal::Lent);
     }
-    if corner >= corners {
-        return Position::Refused(7);
-    }
-    if corner >= MOST_CORNERS {
-        return Position::Refused(7);
+    if corner >= corners || corner >= MOST_CORNERS {
+        return Err(Refusal::Marks);
     }
     let at = 3 * corner;
-    Position::At(Point {
+    Ok(Point {
         x: coordinate(sums, at),
         y: coordinate(sums, at + 1),
         z: coordinate(sums, at + 2),

@@ -1,4 +1,4 @@
--- `coarse::coordinate_of` meets its contract: the number is within 500,000, so that no width loses of it.
+-- The number is within 500,000, so that no width loses of it.
 use Prim.Native.Nat.{◌+◌, ◌*◌}
 use lib.Dec.{lit<}
 use Rattle.mesh.specs.Coarse.{coordinate_at}
@@ -9,4 +9,4 @@ pub returns : goal.returns
 unfolding coordinate_at
 returns c =
     let k = kept_32 (c.requires.corner_there.near (3 * c.args.corner + c.args.axis)) (lit< tt) in
-    kept_tells (kept_read k (lit< tt))
+    rw (c.from-2.ensures, c.from.ensures) (kept_tells (kept_read k (lit< tt)))

@@ -1,36 +1,45 @@
--- `coarse::faces_ok` meets its contract. The invariant: each key's count is how many of the faces passed have it, 2 at most.
-use mathlib.Core.Path.{refl}
-use mathlib.Core.List.{flat_map}
-use native.Mathlib.Omega.{arith}
-use Rattle.base.specs.Fours.{fours, faces}
+-- A face whose key is met for the third time is in three cells; a turn counts its key.
+use Rattle.std.proofs.Common.{◌≡◌, ◌+◌, ◌*◌, ◌<◌, get_or, arith, rules}
+use mathlib.Core.List.{[], flat_map}
+use Rattle.base.specs.Fours.{faces}
 use Rattle.coarse.specs.Tally.{lead, low_face}
+use Rattle.coarse.proofs.Faces.{face_at}
 use Rattle.coarse.proofs.Meets.{meets_start}
-use Rattle.coarse.proofs.Turns.{tables_on, faces_turn, faces_over, faces_end}
+use Rattle.coarse.proofs.Turns.{faces_open, faces_turn, faces_over, faces_end}
 use Rattle.coarse.proofs.faces_ok.Goals as goal
 
-pub loop-i-init : goal.loop-i-init
-loop-i-init c = (
-  omega arith,
-  refl,
-  meets_start lead low_face 2 (flat_map faces (fours c.args.cells.now)) (tables_on c.requires.tables c.clear.new.heads c.clear.auto.heads)
-      c.clear.ensures,
-)
+pub loop-q-init : goal.loop-q-init
+loop-q-init c = meets_start lead low_face 2 (flat_map faces c.args.cells.now) c.new-tally.ensures
 
-pub returns-then-t-gt2 : goal.returns-then-t-gt2
-unfolding lead low_face
-returns-then-t-gt2 c =
-    faces_over c.requires.ranked c.loop-i.invariant.2 c.loop-i-test.true c.face_at-f.ensures c.pair-x.ensures refl
-    c.tally-t.ensures (omega (arith, c.if-t-gt2.true))
+pub count-requires : goal.count-requires
+count-requires c = faces_open c.requires c.loop-f.invariant.0 (omega arith) _ _
 
-pub loop-i-preserved : goal.loop-i-preserved
+pub returns-then-count-gt2 : goal.returns-then-count-gt2
 unfolding lead low_face
-loop-i-preserved c = (
-  omega arith,
-  c.loop-i.invariant.1,
-  faces_turn c.requires.ranked c.loop-i.invariant.2 c.loop-i-test.true c.face_at-f.ensures
-      c.pair-x.ensures refl c.tally-t.ensures (omega (arith, c.if-t-gt2.false)),
-)
+returns-then-count-gt2 c =
+    let qs = c.args.cells.now in
+    let own = c.loop-f.invariant.2 in
+    let h : c.loop-f.f-index < 4 = search rules in
+    let at : get_or c.faces_of-f-items.result c.loop-f.f-index [] ≡ get_or (flat_map faces qs) (4 * c.loop-q.q-index + c.loop-f.f-index) [] = rw own (face_at qs c.loop-q.q-index c.loop-f.f-index c.loop-f.invariant.1 h) in
+    faces_over c.requires c.loop-f.invariant.0 (omega arith)
+    at
+    c.pair.ensures c.from.ensures c.count.ensures (search rules)
+
+pub loop-f-preserved : goal.loop-f-preserved
+unfolding lead low_face
+loop-f-preserved c =
+    let qs = c.args.cells.now in
+    let own = c.loop-f.invariant.2 in
+    let h : c.loop-f.f-index < 4 = search rules in
+    let at : get_or c.faces_of-f-items.result c.loop-f.f-index [] ≡ get_or (flat_map faces qs) (4 * c.loop-q.q-index + c.loop-f.f-index) [] = rw own (face_at qs c.loop-q.q-index c.loop-f.f-index c.loop-f.invariant.1 h) in
+    let e : 4 * c.loop-q.q-index + (c.loop-f.f-index + 1) ≡ 4 * c.loop-q.q-index + c.loop-f.f-index + 1 = omega arith in (
+      rw e
+          (faces_turn c.requires c.loop-f.invariant.0 (omega arith)
+          at
+          c.pair.ensures c.from.ensures c.count.ensures (search rules)),
+      c.loop-f.invariant.1,
+      own,
+    )
 
 pub returns : goal.returns
-returns c =
-    faces_end c.requires.ranked c.loop-i.invariant.2 (omega arith)
+returns c = faces_end c.requires c.loop-q.invariant (omega arith)

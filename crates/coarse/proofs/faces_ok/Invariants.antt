@@ -1,13 +1,15 @@
--- `coarse::faces_ok` meets its contract. The invariant: each key's count is how many of the faces passed have it, 2 at most.
+-- The invariant: each key's count is how many of the faces passed have it, 2 at most.
+use mathlib.Core.List.{[], flat_map}
 use mathlib.Core.Path.{◌≡◌}
-use mathlib.Core.List.{flat_map}
-use Prim.Native.Nat.{◌≤◌}
-use lib.ListN.{length}
-use Rattle.base.specs.Fours.{fours, faces}
+use Prim.Native.Nat.{◌+◌, ◌*◌, ◌<◌}
+use lib.ListN.{length, get_or}
+use Rattle.base.specs.Fours.{faces}
 use Rattle.coarse.specs.Tally.{lead, low_face}
 use Rattle.coarse.proofs.Meets.{Sofar}
 use Rattle.coarse.proofs.faces_ok.Given as goal
 
-abbrev pub invariant-loop-i : goal.invariant-loop-i
-invariant-loop-i l = (l.i ≤ l.i-end) × (l.i-end ≡ length l.cells) × Sofar lead
-    low_face 2 (flat_map faces (fours l.cells)) l.xs l.ys l.heads l.links l.counts l.n l.i
+abbrev pub invariant-loop-q : goal.invariant-loop-q
+invariant-loop-q l = Sofar lead low_face 2 (flat_map faces l.cells) l.tally (4 * l.q-index)
+
+abbrev pub invariant-loop-f : goal.invariant-loop-f
+invariant-loop-f l = Sofar lead low_face 2 (flat_map faces l.cells) l.tally (4 * l.q-index + l.f-index) × (l.q-index < length l.cells) × (l.f-items ≡ faces (get_or l.cells l.q-index []))

@@ -9,4 +9,4 @@ use Rattle.coarse.proofs.solid_cell.Goals as goal
 pub returns : goal.returns
 unfolding term_of determinant
 returns c =
-    ap not (sum_zero c.term-p.ensures c.term-q.ensures c.term-r.ensures)
+    ap not (sum_zero c.term-x.ensures c.term-y.ensures c.term-z.ensures)

@@ -15,5 +15,5 @@ pub loop-i-preserved : goal.loop-i-preserved
 loop-i-preserved c = (
   search rules,
   search rules,
-  c.put_ends.ensures ∙ rw c.loop-i.invariant.2 (coarse_turn c.args.ends.now c.loop-i.i (omega arith)),
+  c.put.ensures ∙ rw c.loop-i.invariant.2 (coarse_turn c.args.ends.now c.loop-i.i (omega arith)),
 )

@@ -16,14 +16,14 @@ pub loop-i-preserved : goal.loop-i-preserved
 loop-i-preserved c = (
   search rules,
   search rules,
-  c.put_sums.ensures
+  c.put.ensures
       ∙ rw (
-        read c.coarse_sum-x.result c.coarse_sum-x.type_inv,
-        read c.coarse_sum-y.result c.coarse_sum-y.type_inv,
-        read c.coarse_sum-z.result c.coarse_sum-z.type_inv,
-        c.coarse_sum-x.ensures,
-        c.coarse_sum-y.ensures,
-        c.coarse_sum-z.ensures,
+        read c.coarse_sum.result c.coarse_sum.type_inv,
+        read c.coarse_sum-in-loop-i.result c.coarse_sum-in-loop-i.type_inv,
+        read c.coarse_sum-in-loop-i-2.result c.coarse_sum-in-loop-i-2.type_inv,
+        c.coarse_sum.ensures,
+        c.coarse_sum-in-loop-i.ensures,
+        c.coarse_sum-in-loop-i-2.ensures,
         c.loop-i.invariant.2,
       )
       (coarse_turn c.args.sums.now c.args.positions.now c.loop-i.i (omega arith)),

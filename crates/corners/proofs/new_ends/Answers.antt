@@ -21,6 +21,6 @@ loop-j-preserved c =
     let e : length (take (2 * c.args.n) c.args.ends.now) ≡ 2 * c.args.n = length-take-le (2 * c.args.n) c.args.ends.now (omega arith) in (
       search rules,
       search rules,
-      c.put_ends.ensures
+      c.put.ensures
           ∙ rw c.loop-j.invariant.2 (new_turn c.args.ends.now (take (2 * c.args.n) c.args.ends.now) c.args.xs.now c.args.ys.now c.args.n c.loop-j.j e (omega arith)),
     )

@@ -7,12 +7,12 @@ use Rattle.corners.proofs.put_mid.Goals as goal
 pub returns : goal.returns
 unfolding mid_sums
 returns c =
-    c.put_sums.ensures
+    c.put.ensures
     ∙ rw (
-      read c.mid_sum-x.result c.mid_sum-x.type_inv,
-      read c.mid_sum-y.result c.mid_sum-y.type_inv,
-      read c.mid_sum-z.result c.mid_sum-z.type_inv,
-      c.mid_sum-x.ensures,
-      c.mid_sum-y.ensures,
-      c.mid_sum-z.ensures,
+      read c.mid_sum.result c.mid_sum.type_inv,
+      read c.mid_sum-2.result c.mid_sum-2.type_inv,
+      read c.mid_sum-3.result c.mid_sum-3.type_inv,
+      c.mid_sum.ensures,
+      c.mid_sum-2.ensures,
+      c.mid_sum-3.ensures,
     )

@@ -1,5 +1,7 @@
 -- `listing::put_line` meets its contract: its five fields are a line, and each takes at most six bytes.
-use native.Mathlib.Omega.{arith}
+use Rattle.std.proofs.Common.{arith, rules, ap, ◌∙◌, List, ◌∷◌, ℕ, get_or}
+use Rattle.base.specs.Fours.{four_points}
+use Rattle.listing.specs.Lines.{fields}
 use Rattle.listing.specs.Put.{put_as, put_more}
 use Rattle.listing.proofs.Fields.{field_room, five_fields}
 use Rattle.listing.proofs.put_line.Goals as goal
@@ -40,7 +42,8 @@ put_field-requires c =
 
 pub returns : goal.returns
 returns c =
-    put_as (five_fields c.args.level c.args.cells c.args.red c.args.green c.args.leaf)
+    let q = c.args.counts.now in
+    put_as (five_fields c.args.level (get_or q 0 0) (get_or q 1 0) (get_or q 2 0) (get_or q 3 0) ∙ ap (λ (k : List ℕ). fields (c.args.level ∷ k)) (four_points q (search rules)))
     (put_more
     c.put_field-p.ensures
     (put_more

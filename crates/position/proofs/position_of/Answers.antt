@@ -1,25 +1,27 @@
--- `position::position_of` meets its contract: its tests are those of `position_of`, and each
--- coordinate is read at its own place.
-use mathlib.Core.Path.{sym}
-use Rattle.position.specs.Position.{point_of, position_of_short, position_of_beyond, position_of_above, position_of_at}
+-- The tests are those of the definition, and each coordinate is read at its own place.
+use Rattle.std.proofs.Common.{sym}
+use Rattle.position.specs.Position.{point_of, corner_short, corner_beyond, corner_above, corner_there}
+use Rattle.position.proofs.position_of.Goals.{then-corner-corners-via-then-corner-corners, then-corner-corners-via-else-corner-corners+then-corner-ge-MOST_CORNERS}
 use Rattle.position.proofs.position_of.Goals as goal
 
-pub returns-then-sums-lt-FULL_SUMS : goal.returns-then-sums-lt-FULL_SUMS
-returns-then-sums-lt-FULL_SUMS c =
-    sym (position_of_short c.args.sums.now c.args.corners c.args.corner c.if-sums-lt-FULL_SUMS.true)
+pub returns-then-sums-lt-FULL_SUMS-clause-answer : goal.returns-then-sums-lt-FULL_SUMS-clause-answer
+returns-then-sums-lt-FULL_SUMS-clause-answer c =
+    sym (corner_short c.args.sums.now c.args.corners c.args.corner c.if-sums-lt-FULL_SUMS.true)
 
-pub returns-then-corner-corners : goal.returns-then-corner-corners
-returns-then-corner-corners c =
-    sym (position_of_beyond c.args.sums.now c.args.corners c.args.corner c.if-sums-lt-FULL_SUMS.false c.if-corner-corners.true)
+pub returns-then-corner-corners-clause-answer : goal.returns-then-corner-corners-clause-answer
+returns-then-corner-corners-clause-answer c =
+    elim c.then-corner-corners.branch [
+      | then-corner-corners-via-then-corner-corners w ↦
+          sym (corner_beyond c.args.sums.now c.args.corners c.args.corner c.if-sums-lt-FULL_SUMS.false w.if-corner-corners.true)
+      | then-corner-corners-via-else-corner-corners+then-corner-ge-MOST_CORNERS w ↦
+          sym (corner_above c.args.sums.now c.args.corners c.args.corner c.if-sums-lt-FULL_SUMS.false w.if-corner-ge-MOST_CORNERS.true)
+    ]
 
-pub returns-then-corner-ge-MOST_CORNERS : goal.returns-then-corner-ge-MOST_CORNERS
-returns-then-corner-ge-MOST_CORNERS c =
-    sym (position_of_above c.args.sums.now c.args.corners c.args.corner c.if-sums-lt-FULL_SUMS.false c.if-corner-ge-MOST_CORNERS.true)
+pub returns-clause-answer : goal.returns-clause-answer
+returns-clause-answer c =
+    sym
+    (corner_there c.args.sums.now c.args.corners c.args.corner c.if-sums-lt-FULL_SUMS.false c.if-corner-corners.false c.if-corner-ge-MOST_CORNERS.false)
 
-pub returns : goal.returns
+pub returns-clause-point : goal.returns-clause-point
 unfolding point_of
-returns c =
-    rw (c.coordinate.ensures, c.coordinate-2.ensures, c.coordinate-3.ensures)
-    (sym
-    (position_of_at c.args.sums.now c.args.corners c.args.corner
-    c.if-sums-lt-FULL_SUMS.false c.if-corner-corners.false c.if-corner-ge-MOST_CORNERS.false))
+returns-clause-point c = rw (c.coordinate.ensures, c.coordinate-2.ensures, c.coordinate-3.ensures)
