@@ -1,5 +1,4 @@
 -- `writing::fresh_status` meets its contract: six flags are a pattern.
-use native.Mathlib.Omega.{arith}
 use Rattle.writing.proofs.Fresh.{bits_are}
 use Rattle.writing.proofs.fresh_status.Goals as goal
 
