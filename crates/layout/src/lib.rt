@@ -63,7 +63,7 @@ fn lay_out_in<const R: usize, const M: usize, const MH: usize>(
     sums: &mut [i32],
 ) -> Result<Sizes, Refusal>
     requires room { length status.now ≤ most_cells → (2048 ≤ R) × (8 * length status.now ≤ R) × (length status.now ≤ M) }
-    requires heads { 1024 ≤ MH }
+    requires sizes { (R ≤ 65536) × (M ≤ 65536) × (1024 ≤ MH) × (MH ≤ 65536) }
     requires lent { lentb table.old ends.old sums.old ≡ true }
     ensures { LaysOut positions.now cells.now status.now table.old ends.old sums.old result table.new ends.new sums.new }
 {

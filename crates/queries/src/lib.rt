@@ -22,7 +22,7 @@ fn ancestor_in<const R: usize, const M: usize, const MH: usize>(
     cell: usize,
 ) -> Result<Ancestor, Refusal>
     requires room { length status.now ≤ most_cells → (2048 ≤ R) × (8 * length status.now ≤ R) × (length status.now ≤ M) }
-    requires heads { 1024 ≤ MH }
+    requires sizes { (R ≤ 65536) × (M ≤ 65536) × (1024 ≤ MH) × (MH ≤ 65536) }
     ensures answer { answered result ≡ ancestor_answer positions.now cells.now status.now cell }
     ensures ancestor { IfOk result (λ a. a ≡ ancestor_of (get_or (cells_in positions.now cells.now status.now) cell no_cell)) }
 {
@@ -55,7 +55,7 @@ fn counts_in<const R: usize, const M: usize, const MH: usize>(
     counts: &mut [u16],
 ) -> Result<usize, Refusal>
     requires room { length status.now ≤ most_cells → (2048 ≤ R) × (8 * length status.now ≤ R) × (length status.now ≤ M) }
-    requires heads { 1024 ≤ MH }
+    requires sizes { (R ≤ 65536) × (M ≤ 65536) × (1024 ≤ MH) × (MH ≤ 65536) }
     requires full_counts_in_bounds { full_counts ≤ length counts.old }
     ensures answer { answered result ≡ counts_answer positions.now cells.now status.now counts.old }
     ensures levels { IfOk result (λ n. n ≡ length (levels_in positions.now cells.now status.now)) }

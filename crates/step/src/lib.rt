@@ -46,7 +46,7 @@ fn begin<const R: usize, const M: usize, const MH: usize>(
     rows: &mut [u16; R],
 ) -> Result<(), Refusal>
     requires room { length status.now ≤ most_cells → (2048 ≤ R) × (8 * length status.now ≤ R) × (length status.now ≤ M) }
-    requires heads { 1024 ≤ MH }
+    requires sizes { (R ≤ 65536) × (M ≤ 65536) × (1024 ≤ MH) × (MH ≤ 65536) }
     ensures answer { answered result ≡ begun_answer positions.now cells.now status.now marks.now }
     ensures begun { IfOk result (λ _. Begun positions.now cells.now status.now marks.now rows.new) }
 {
@@ -67,7 +67,8 @@ fn step_in<const R: usize, const M: usize, const MH: usize, const N: usize, cons
     new: &mut [u8; 4096],
 ) -> Result<usize, Refusal>
     requires room { length status.now ≤ most_cells → (2048 ≤ R) × (8 * length status.now ≤ R) × (length status.now ≤ M) }
-    requires heads { (1024 ≤ MH) × (1024 ≤ H) }
+    requires sizes { (R ≤ 65536) × (M ≤ 65536) × (1024 ≤ MH) × (MH ≤ 65536) }
+    requires work_sizes { (N ≤ 65535) × (1024 ≤ H) × (H ≤ 65536) × (K ≤ 65536) }
     requires red_room { length status.now ≤ most_cells → ((3072 ≤ N) ⊎ (6 * length status.now ≤ N)) × (length status.now < K) }
     ensures answer { answered result ≡ marked_answer positions.now cells.now status.now marks.now }
     ensures made { IfOk result (λ k. Advanced (coarse_corner_count positions.now) cells.now status.now marks.now new.new k) }
