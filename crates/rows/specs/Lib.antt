@@ -4,3 +4,4 @@ pub mod EdgeEnds
 pub mod Laws
 pub mod Sizes
 pub mod Chains
+pub mod Cuts
