@@ -1,6 +1,6 @@
 -- One level more on the way down.
--- Laws: up_none (no level), level_up (what the level above asks for), up_refused (the levels above are refused), up_span (what treating
--- the level asks for), up_more (one level more), up_untreated (this level is refused).
+-- Laws: ended (a result that says more), up_none (no level), up_refused (the levels above are refused), up_more (one level more),
+-- up_untreated (this level is refused).
 -- Assumes nothing.
 use mathlib.Core.Path.{◌≡◌, refl, sym, ◌∙◌, ap, fun_ext}
 use mathlib.Core.Bool.{Bool, true, false, ◌||◌}
@@ -10,7 +10,7 @@ use native.Mathlib.Nat.{add-zero, zero-add}
 use Rattle.std.specs.Prelude.{Result, Ok, Err, MatchResult}
 use native.Mathlib.Omega.{arith}
 use lib.Dec.{eqb, ltb}
-use lib.ListN.{length, get_or, take, drop, take-append-drop}
+use lib.ListN.{get_or, take, drop, take-append-drop}
 use borrow.Author.Tests.{lt-ltb, eqb-true}
 use Rattle.base.specs.Bools.{one_if, not_both}
 use Rattle.base.specs.Lists.{anyb}
@@ -24,7 +24,7 @@ use Rattle.redlist.specs.Ready.{red_count}
 use Rattle.redlist.specs.Steps.{count_append}
 use Rattle.closure.specs.Closed.{lists_added, held_listed}
 use Rattle.flagging.specs.Flags.{listedb, flags_at, kepts_at, reds_up, kept_up, high_up}
-use Rattle.flagging.specs.Old.{OldRows, Span, OneLevel, Treated, Untreated, Above, Unkept}
+use Rattle.flagging.specs.Old.{Span, Treated, Untreated, Above, Unkept}
 use Rattle.flagging.specs.Writes.{length_kepts, flags_both}
 use Rattle.flagging.proofs.Treat.{entries_none, kept_many}
 
@@ -47,22 +47,6 @@ up_none t ss ms ks first last kept table (from_is, n_is) depth d =
       lists = record { has = λ p. ap (λ (es : List Pair). hasb isb es p) (entries_none table (from_is ∙ sym n_is)) };
       few = omega (arith, n_is);
     })
-
-pub level_up : (t ss ms ks kept : List ℕ) (first last : ℕ) → OldRows t ss ms ks → OneLevel ss ks kept first last
-    → OneLevel ss ks kept last (get_or ks last 0)
-level_up t ss ms ks kept first last o l =
-    record {
-      span =
-          record {
-            up = omega (arith, l.children, o.up first last l.span.up l.span.inside);
-            inside = o.top last l.span.inside;
-            room = l.span.room;
-          };
-      children = refl;
-    }
-
-pub up_span : (ss kept kept₁ : List ℕ) (first last : ℕ) → Span ss kept first last → length kept₁ ≡ length kept → Span ss kept₁ first last
-up_span ss kept kept₁ first last s e = record { up = s.up; inside = s.inside; room = omega (arith, s.room) }
 
 -- a count above 0
 any_count : (l : List ℕ) → ltb 0 (red_count l) ≡ anyb redb l
