@@ -3,14 +3,15 @@
 use mathlib.Core.Path.{◌≡◌, refl, sym, ◌∙◌, ap}
 use mathlib.Core.Bool.{Bool, true, false}
 use mathlib.Core.List.{List, [], ◌∷◌, map, flat_map}
-use Prim.Native.Nat.{ℕ, ◌+◌, ◌*◌, ◌-◌, ◌≤◌, ◌<◌}
+use Prim.Native.Nat.{ℕ, zero, suc, ◌+◌, ◌*◌, ◌-◌, ◌≤◌, ◌<◌}
+use mir.Val.{bool_byte}
 use native.Mathlib.Decide.{ℕ_discrete}
 use native.Mathlib.Omega.{arith}
 use lib.Dec.{T, eqb}
 use Rattle.std.proofs.Common.{eqb→eq, get_or-take, get_or-drop}
 use lib.ListN.{length, get_or, take, drop, set, replicate, length-map}
 use borrow.Author.Tests.{ne_eqb}
-use Rattle.base.specs.Bools.{one_if}
+use Rattle.base.specs.Bools.{one_if, one_most}
 use Rattle.base.specs.Each.{map_same}
 use Rattle.base.specs.Every.{All, all_at, all_of, all_from, get_d_map}
 use Rattle.base.specs.Lists.{allb, memberb, filterb}
@@ -46,14 +47,46 @@ unfolding flat_map
 flat_none g [] a = refl
 flat_none g (x ∷ l) a = rw a.0 (flat_none g l a.1)
 
--- a status from six of them
-pub bits_are : (held : List Bool) (ds : List ℕ) (i a b c d e f : ℕ)
-    → a ≡ one_if (get_or held (pair_at ds i 0) false) → b ≡ one_if (get_or held (pair_at ds i 1) false)
-    → c ≡ one_if (get_or held (pair_at ds i 2) false) → d ≡ one_if (get_or held (pair_at ds i 3) false)
-    → e ≡ one_if (get_or held (pair_at ds i 4) false) → f ≡ one_if (get_or held (pair_at ds i 5) false)
-    → a + 2 * b + 4 * c + 8 * d + 16 * e + 32 * f ≡ bits_at held ds i
-unfolding bits_at bits_of
-bits_are held ds i a b c d e f p q r s t u = omega arith
+-- a flag as a number
+pub byte_is : (b : Bool) → bool_byte b ≡ one_if b
+unfolding one_if
+byte_is true = refl
+byte_is false = refl
+
+-- a status from its edges from y on
+module _ (held : List Bool) (ds : List ℕ) (i : ℕ) where
+  abbrev pub bits_from : ℕ → ℕ
+  bits_from y = bits_of (map (λ y. get_or held (pair_at ds i y) false) (drop y edge_numbers))
+
+  pub bits_none : 0 ≡ bits_from 6
+  unfolding bits_of
+  bits_none = refl
+
+  pub bits_next : (y : ℕ) → 0 < y → y ≤ 6 → 2 * bits_from y + one_if (get_or held (pair_at ds i (y - 1)) false) ≡ bits_from (y - 1)
+  unfolding bits_of
+  bits_next zero g h = absurd (omega arith)
+  bits_next (suc zero) g h = omega arith
+  bits_next (suc (suc zero)) g h = omega arith
+  bits_next (suc (suc (suc zero))) g h = omega arith
+  bits_next (suc (suc (suc (suc zero)))) g h = omega arith
+  bits_next (suc (suc (suc (suc (suc zero))))) g h = omega arith
+  bits_next (suc (suc (suc (suc (suc (suc zero)))))) g h = omega arith
+  bits_next (suc (suc (suc (suc (suc (suc (suc y))))))) g h = absurd (omega arith)
+
+  pub bits_few : (y : ℕ) → 0 < y → y ≤ 6 → bits_from y ≤ 31
+  unfolding bits_of
+  bits_few zero g h = absurd (omega arith)
+  bits_few (suc zero) g h = omega (arith, one_most)
+  bits_few (suc (suc zero)) g h = omega (arith, one_most)
+  bits_few (suc (suc (suc zero))) g h = omega (arith, one_most)
+  bits_few (suc (suc (suc (suc zero)))) g h = omega (arith, one_most)
+  bits_few (suc (suc (suc (suc (suc zero))))) g h = omega (arith, one_most)
+  bits_few (suc (suc (suc (suc (suc (suc zero)))))) g h = omega arith
+  bits_few (suc (suc (suc (suc (suc (suc (suc y))))))) g h = absurd (omega arith)
+
+  pub bits_all : bits_from 0 ≡ bits_at held ds i
+  unfolding bits_at
+  bits_all = refl
 
 -- the red family
 module _ (i : ℕ) (h : i < 8) where

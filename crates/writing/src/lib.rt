@@ -2,8 +2,7 @@
 // The new table from what the old cells keep, written level by level: no new row or corner is looked at.
 #![tactic(auto)]
 
-ghost use Rattle.std.specs.Prelude.{◌≡◌, false, [], ◌∷◌, map, ℕ, ◌+◌, ◌-◌, ◌≤◌, ◌<◌, MatchResult, length, get_or, replicate};
-ghost use Rattle.base.specs.Bools.{one_if};
+ghost use Rattle.std.specs.Prelude.{◌≡◌, [], ◌∷◌, map, ℕ, ◌+◌, ◌-◌, ◌≤◌, ◌<◌, MatchResult, length, get_or, replicate};
 ghost use Rattle.base.specs.Limits.{most_cells};
 ghost use Rattle.base.specs.Range.{range};
 ghost use Rattle.cutting.specs.Answer.{cut_of};
@@ -92,26 +91,16 @@ fn held_pairs(status: u8, kept: &[u8], first: usize, count: usize) -> [bool; 100
     held
 }
 
-// Whether an edge of a new child is held: 1 or 0.
-fn held_at(held: &[bool; 100], digits: &[u8; 32], i: usize, y: usize) -> u8
-    requires { (i < 8) × (y < 6) × EndsBelow digits.now i }
-    ensures { (result ≡ one_if (get_or held.now (pair_at digits.now i y) false)) × (result ≤ 1) }
-{
-    u8::from(held[pair_of(digits, i, y)])
-}
-
-// The status of a new child, from what is held. A loop over the six edges is no plainer.
+// The status of a new child, from what is held.
 fn fresh_status(held: &[bool; 100], digits: &[u8; 32], i: usize) -> u8
     requires { (i < 8) × EndsBelow digits.now i }
     ensures { result ≡ bits_at held.now digits.now i }
 {
-    let a = held_at(held, digits, i, 0);
-    let b = held_at(held, digits, i, 1);
-    let c = held_at(held, digits, i, 2);
-    let d = held_at(held, digits, i, 3);
-    let e = held_at(held, digits, i, 4);
-    let f = held_at(held, digits, i, 5);
-    a + 2 * b + 4 * c + 8 * d + 16 * e + 32 * f
+    let mut status = 0;
+    for y in (0..6).rev() {
+        status = 2 * status + u8::from(held[pair_of(digits, i, y)]);
+    }
+    status
 }
 
 // The statuses of all eight.
@@ -235,7 +224,7 @@ pub fn write_table(
     write_kept(kept, 0, coarse, table, old, 0);
     let mut first = 0;
     let mut last = coarse;
-    for level in 0..TOP_LEVEL {
+    for _level in 0..TOP_LEVEL {
         let size = level_size(table, first, last);
         if size == 0 {
             return Ok(last);
