@@ -34,8 +34,8 @@ use Rattle.jobs.specs.declared.Reading.TheVariants as reading
 use Rattle.jobs.specs.declared.Writing.{Writing}
 use Rattle.jobs.specs.declared.Writing.TheVariants as writing
 use Rattle.held.specs.Held.{listed_of}
-use Rattle.held.specs.declared.Listed.{Listed}
-use Rattle.held.specs.declared.Listed.TheVariants as listed
+use Rattle.held.specs.Listed.{Listed}
+use Rattle.held.specs.Listed as listed
 use Rattle.merge.specs.Merge.{merged_of}
 use Rattle.merge.specs.declared.Merged.{Merged}
 use Rattle.merge.specs.declared.Merged.TheVariants as merged
