@@ -14,6 +14,3 @@ write_family-k-requires c = (
 pub loop-c-preserved : goal.loop-c-preserved
 loop-c-preserved c =
     families_more c.args.self.now.keeps c.requires c.loop-c.invariant c.loop-c-test.true c.write_family-k.ensures.0 c.write_family-k.ensures.1
-
-pub returns : goal.returns
-returns c = families_all c.args.self.now.keeps c.requires c.loop-c.invariant c.loop-c-test.false
