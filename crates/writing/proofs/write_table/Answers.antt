@@ -1,6 +1,6 @@
 -- `writing::write_table` meets its contract: the invariant is `WriteGoing` (crate's proofs).
 use Rattle.std.proofs.Common.{arith}
-use Rattle.writing.proofs.Turn.{coarse_inside, going_start, level_room, result_end, result_many, result_high, going_next}
+use Rattle.writing.proofs.Turn.{coarse_inside, going_start, result_end, result_many, result_high, going_next}
 use Rattle.writing.proofs.write_table.Goals as goal
 
 pub write_kept-requires-clause-first_in_bounds : goal.write_kept-requires-clause-first_in_bounds

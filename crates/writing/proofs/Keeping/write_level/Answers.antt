@@ -1,5 +1,5 @@
 -- `writing::Keeping::write_level` meets its contract: the invariant is `Families` (crate's proofs).
-use Rattle.writing.proofs.Levels.{families_start, families_fit, families_room, families_more, families_all}
+use Rattle.writing.proofs.Levels.{families_start, families_fit, families_room, families_more}
 use Rattle.writing.proofs.Keeping.write_level.Goals as goal
 
 pub loop-c-init : goal.loop-c-init
