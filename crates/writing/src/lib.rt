@@ -141,8 +141,8 @@ impl Keeping<'_> {
     // Writes the family of a red cell with the old number o; 65535, or any number that is no cell's, stands for none.
     fn write_red(&self, o: usize, table: &mut [u8; 4096], old: &mut [u16; 4096], at: usize)
         requires { RoomFor table.old old.old at 8 }
-        ensures { Wrote table.old old.old at (born_by self.now.coarse self.now.status.now self.now.kept.now 64 o)
-            (olds_of self.now.coarse self.now.status.now 64 o) table.new old.new }
+        ensures { let k = self.now in Wrote table.old old.old at (born_by k.coarse k.status.now k.kept.now 64 o)
+            (olds_of k.coarse k.status.now 64 o) table.new old.new }
     {
         if o >= self.status.len() {
             write_new(&[0; 8], table, old, at);
@@ -166,9 +166,11 @@ impl Keeping<'_> {
         old: &mut [u16; 4096],
         at: usize,
     ) -> usize
-        requires { (t ≤ 64) × RoomFor table.old old.old at (size_of t) }
-        ensures { (result ≡ at + size_of t) × Wrote table.old old.old at (born_by self.now.coarse self.now.status.now self.now.kept.now t o)
-            (olds_of self.now.coarse self.now.status.now t o) table.new old.new }
+        requires fits { t ≤ 64 }
+        requires room { RoomFor table.old old.old at (size_of t) }
+        ensures behind { result ≡ at + size_of t }
+        ensures wrote { let k = self.now in Wrote table.old old.old at (born_by k.coarse k.status.now k.kept.now t o)
+            (olds_of k.coarse k.status.now t o) table.new old.new }
     {
         if t == 64 {
             self.write_red(o as usize, table, old, at);
@@ -182,9 +184,8 @@ impl Keeping<'_> {
     // Writes the families of the cells from first to last, behind these.
     fn write_level(&self, first: usize, last: usize, table: &mut [u8; 4096], old: &mut [u16; 4096])
         requires { RoomAbove table.old old.old first last }
-        ensures { Wrote table.old old.old last
-            (born_next self.now.coarse self.now.status.now self.now.kept.now (part table.old first (last - first)) (part old.old first (last - first)))
-            (olds_next self.now.coarse self.now.status.now (part table.old first (last - first)) (part old.old first (last - first)))
+        ensures { let k = self.now in let ts = part table.old first (last - first) in let os = part old.old first (last - first) in
+            Wrote table.old old.old last (born_next k.coarse k.status.now k.kept.now ts os) (olds_next k.coarse k.status.now ts os)
             table.new old.new }
     {
         let mut k = last;
