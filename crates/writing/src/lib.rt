@@ -12,7 +12,7 @@ ghost use Rattle.lineage.specs.Olds.{olds_of, olds_next};
 ghost use Rattle.kept.specs.Kept.{born_by, born_next, held_pairs, fresh_of};
 ghost use Rattle.writing.specs.Keeps.{Keeps};
 ghost use Rattle.writing.specs.Wrote.{RoomAbove, Wrote};
-ghost use Rattle.writing.specs.Held.{pair_at, pairs_at, EndsBelow, bits_at, noted, Noted};
+ghost use Rattle.writing.specs.Held.{pair_at, pairs_at, EndsBelow, bits_at, noting, Noted};
 ghost use Rattle.writing.specs.Result.{TableWritten, Unwritten};
 
 use base::{MOST_CELLS, Refusal, TOP_LEVEL};
@@ -57,7 +57,7 @@ fn pair_of(digits: &[u8; 32], j: usize, y: usize) -> usize
 // Notes an edge of a child, if the pattern splits it.
 fn note_edge(digits: &[u8; 32], j: usize, y: usize, pattern: u8, held: &mut [bool; 100])
     requires { (j < 8) × (y < 6) × EndsBelow digits.now j }
-    ensures { held.new ≡ noted held.old (pairs_at digits.now j pattern (y ∷ [])) }
+    ensures { held.new ≡ noting held.old (pairs_at digits.now j pattern (y ∷ [])) }
 {
     if (pattern >> y) % 2 == 1 {
         held[pair_of(digits, j, y)] = true;
@@ -67,7 +67,7 @@ fn note_edge(digits: &[u8; 32], j: usize, y: usize, pattern: u8, held: &mut [boo
 // Notes the edges of a child that the pattern splits.
 fn note_child(digits: &[u8; 32], j: usize, pattern: u8, held: &mut [bool; 100])
     requires { (j < 8) × EndsBelow digits.now j }
-    ensures { held.new ≡ noted held.old (pairs_at digits.now j pattern edge_numbers) }
+    ensures { held.new ≡ noting held.old (pairs_at digits.now j pattern edge_numbers) }
 {
     if pattern == 0 {
         return;
