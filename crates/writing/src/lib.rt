@@ -12,8 +12,8 @@ ghost use Rattle.rows.specs.Numbered.{part};
 ghost use Rattle.lineage.specs.Olds.{olds_of, olds_next};
 ghost use Rattle.kept.specs.Kept.{born_by, born_next, held_pairs, fresh_of};
 ghost use Rattle.writing.specs.Keeps.{Keeps};
-ghost use Rattle.writing.specs.Wrote.{RoomFor, RoomAbove, Wrote};
-ghost use Rattle.writing.specs.Held.{pair_at, pairs_at, EndsBelow, bits_at, noted, Noted};
+ghost use Rattle.writing.specs.Wrote.{RoomAbove, Wrote};
+ghost use Rattle.writing.specs.Held.{pair_at, pairs_at, EndsBelow, bits_at, noting, Noted};
 ghost use Rattle.writing.specs.Result.{TableWritten, Unwritten};
 
 use base::{MOST_CELLS, Refusal, TOP_LEVEL};
@@ -28,7 +28,7 @@ fn write_kept(
     at: usize,
 )
     requires first_in_bounds { (first + count ≤ length kept.now) × (first + count ≤ most_cells) }
-    requires room_for { RoomFor table.old old.old at count }
+    requires room { at + count ≤ most_cells }
     ensures { Wrote table.old old.old at (part kept.now first count) (range first count) table.new old.new }
 {
     table[at..at + count].copy_from_slice(&kept[first..first + count]);
@@ -39,7 +39,7 @@ fn write_kept(
 
 // Writes new cells: they have no old numbers.
 fn write_new(fresh: &[u8], table: &mut [u8; 4096], old: &mut [u16; 4096], at: usize)
-    requires { RoomFor table.old old.old at (length fresh.now) }
+    requires { at + length fresh.now ≤ most_cells }
     ensures { Wrote table.old old.old at fresh.now (replicate (length fresh.now) 65535) table.new old.new }
 {
     let end = at + fresh.len();
@@ -58,7 +58,7 @@ fn pair_of(digits: &[u8; 32], j: usize, y: usize) -> usize
 // Notes an edge of a child, if the pattern splits it.
 fn note_edge(digits: &[u8; 32], j: usize, y: usize, pattern: u8, held: &mut [bool; 100])
     requires { (j < 8) × (y < 6) × EndsBelow digits.now j }
-    ensures { held.new ≡ noted held.old (pairs_at digits.now j pattern (y ∷ [])) }
+    ensures { held.new ≡ noting held.old (pairs_at digits.now j pattern (y ∷ [])) }
 {
     if (pattern >> y) % 2 == 1 {
         held[pair_of(digits, j, y)] = true;
@@ -68,7 +68,7 @@ fn note_edge(digits: &[u8; 32], j: usize, y: usize, pattern: u8, held: &mut [boo
 // Notes the edges of a child that the pattern splits.
 fn note_child(digits: &[u8; 32], j: usize, pattern: u8, held: &mut [bool; 100])
     requires { (j < 8) × EndsBelow digits.now j }
-    ensures { held.new ≡ noted held.old (pairs_at digits.now j pattern edge_numbers) }
+    ensures { held.new ≡ noting held.old (pairs_at digits.now j pattern edge_numbers) }
 {
     if pattern == 0 {
         return;
@@ -140,7 +140,7 @@ struct Keeping<'a> {
 impl Keeping<'_> {
     // Writes the family of a red cell with the old number o; 65535, or any number that is no cell's, stands for none.
     fn write_red(&self, o: usize, table: &mut [u8; 4096], old: &mut [u16; 4096], at: usize)
-        requires { RoomFor table.old old.old at 8 }
+        requires { at + 8 ≤ most_cells }
         ensures { let k = self.now in Wrote table.old old.old at (born_by k.coarse k.status.now k.kept.now 64 o)
             (olds_of k.coarse k.status.now 64 o) table.new old.new }
     {
@@ -167,7 +167,7 @@ impl Keeping<'_> {
         at: usize,
     ) -> usize
         requires fits { t ≤ 64 }
-        requires room { RoomFor table.old old.old at (size_of t) }
+        requires room { at + size_of t ≤ most_cells }
         ensures behind { result ≡ at + size_of t }
         ensures wrote { let k = self.now in Wrote table.old old.old at (born_by k.coarse k.status.now k.kept.now t o)
             (olds_of k.coarse k.status.now t o) table.new old.new }

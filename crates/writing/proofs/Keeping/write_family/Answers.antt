@@ -6,8 +6,7 @@ use Rattle.writing.proofs.Keeping.write_family.Goals as goal
 
 pub write_red-requires : goal.write_red-requires
 write_red-requires c =
-    let size = size_red c.args.t c.if-t-eq64.true in
-    record { in_table = c.requires.room.in_table; in_old = c.requires.room.in_old; enough = omega arith }
+    omega (arith, size_red c.args.t c.if-t-eq64.true)
 
 pub returns-then-t-eq64 : goal.returns-then-t-eq64
 returns-then-t-eq64 c =
