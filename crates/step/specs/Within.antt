@@ -1,7 +1,8 @@
 -- The parts of the step's call. A mesh is ps and ts, the old table ss, the marks ms.
 --   begun_answer ..   the table is opened and the marks are looked at: 1 to 7
 --   Begun ..          where they pass: a held table, and as many marks
--- Laws: begun_refused, begun_on (the step behind the beginning), made_on (the call behind the step).
+-- Laws: begun_table, begun_marks, begun_held (the ways out of the beginning), begun_refused, begun_on (the step behind it), made_on (the
+-- call behind the step).
 use Rattle.std.specs.Prelude.{◌≡◌, refl, Bool, true, false, ℕ, ◌≤◌, ℤ, List, length}
 use Rattle.std.proofs.Common.{sym, arith, le-leb}
 use Rattle.base.specs.Fours.{fours}
@@ -37,6 +38,18 @@ passed_on Accepted false rest e = let z : ◌≡◌ {A = ℕ} 0 1 = cc in absurd
 passed_on (Refused j) b rest e = let z : ◌≡◌ {A = ℕ} 0 1 = cc in absurd (omega arith)
 
 module _ (ps : List ℤ) (ts ss ms : List ℕ) where
+  pub begun_table : {k : ℕ} → Refused k ≡ table_answer ps ts ss → Refused k ≡ begun_answer ps ts ss ms
+  unfolding begun_answer and_then
+  begun_table e = rw (← e)
+
+  pub begun_marks : Accepted ≡ table_answer ps ts ss → marksb ss ms ≡ false → Refused 7 ≡ begun_answer ps ts ss ms
+  unfolding begun_answer and_then refuse
+  begun_marks e m = rw (← e, m)
+
+  pub begun_held : Accepted ≡ table_answer ps ts ss → marksb ss ms ≡ true → Accepted ≡ begun_answer ps ts ss ms
+  unfolding begun_answer and_then refuse
+  begun_held e m = rw (← e, m)
+
   pub begun_refused : (k : ℕ) → Refused k ≡ begun_answer ps ts ss ms → Refused k ≡ marked_answer ps ts ss ms
   unfolding begun_answer marked_answer
   begun_refused k e = sym (behind (table_answer ps ts ss) (marksb ss ms) _ k (sym e))

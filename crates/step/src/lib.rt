@@ -16,6 +16,7 @@ use base::{MOST_CELLS, Refusal};
 use pairs::PairTable;
 
 // Whether a mark may stand at a cell with this status.
+#[tactic(auto, unfolding(mesh::specs::Answers::markb))]
 fn mark_fits(status: u8, mark: u8) -> bool
     ensures { result ≡ markb status mark }
 {
@@ -59,7 +60,14 @@ fn begin<const R: usize, const M: usize, const MH: usize>(
 }
 
 // The step, with tables for the work of these sizes: they are set to zero first. Gives how many cells there are.
-fn step_in<const R: usize, const M: usize, const MH: usize, const N: usize, const H: usize, const K: usize>(
+fn step_in<
+    const R: usize,
+    const M: usize,
+    const MH: usize,
+    const N: usize,
+    const H: usize,
+    const K: usize,
+>(
     positions: &[i32],
     cells: &[u16],
     status: &[u8],
@@ -76,11 +84,25 @@ fn step_in<const R: usize, const M: usize, const MH: usize, const N: usize, cons
     let mut rows = [0u16; R];
     begin::<R, M, MH>(positions, cells, status, marks, &mut rows)?;
     let mut work = Work::<N, H, K>::new();
-    advance::advance(cells, positions.len() / 3, &rows, status, marks, new, &mut work)
+    advance::advance(
+        cells,
+        positions.len() / 3,
+        &rows,
+        status,
+        marks,
+        new,
+        &mut work,
+    )
 }
 
 // The step in tables for so many statuses.
-fn make(positions: &[i32], cells: &[u16], status: &[u8], marks: &[u8], new: &mut [u8; 4096]) -> Result<usize, Refusal>
+fn make(
+    positions: &[i32],
+    cells: &[u16],
+    status: &[u8],
+    marks: &[u8],
+    new: &mut [u8; 4096],
+) -> Result<usize, Refusal>
     ensures answer { answered result ≡ marked_answer positions.now cells.now status.now marks.now }
     ensures made { IfOk result (λ k. Advanced (coarse_corner_count positions.now) cells.now status.now marks.now new.new k) }
 {
