@@ -39,6 +39,7 @@ pub fn count_levels(status: &[u8], coarse: usize, counts: &mut [u16]) -> usize
     let mut level = 0;
     let mut first = 0;
     let mut last = coarse;
+    // No range: how many levels there are is found on the way.
     while first < last {
         let row = counts_of(&status[first..last]);
         counts[4 * level..4 * level + 4].copy_from_slice(&row);

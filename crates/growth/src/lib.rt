@@ -128,70 +128,63 @@ fn points_of<const N: usize, const H: usize>(
     points
 }
 
-// The number of the point whose digit stands at a place of the family.
-fn number(points: &[u16; 10], digits: &[u8; 32], j: usize) -> u16
-    requires { (j < 32) × (get_or digits.now j 0 < 10) }
-    ensures { result ≡ get_or points.now (get_or digits.now j 0) 0 }
-{
-    points[digits[j] as usize]
+// What the children of a cell have in common: their level, the cell's number, whether they are regular, and the numbers of its points.
+#[derive(Clone, Copy)]
+struct Parent {
+    level: u16,
+    number: u16,
+    regular: bool,
+    points: [u16; 10],
 }
 
-// Writes the row of child i of a family.
-fn write_child(
-    cells: &mut [u16],
-    at: usize,
-    level: u16,
-    parent: u16,
-    i: usize,
-    regular: bool,
-    points: &[u16; 10],
-    digits: &[u8; 32],
-)
-    requires at_in_bounds { (8 * at + 8 ≤ length cells.old) × (i < 8) }
-    requires by_index { (j : ℕ) → get_or digits.now j 0 < 10 }
-    ensures { cells.new ≡ written cells.old (8 * at)
-        (level ∷ parent ∷ i ∷ one_if regular ∷ map (λ d. get_or points.now d 0) (four_at digits.now (4 * i))) }
-{
-    let j = 4 * i;
-    let p = number(points, digits, j);
-    let q = number(points, digits, j + 1);
-    let r = number(points, digits, j + 2);
-    let s = number(points, digits, j + 3);
-    let row = [level, parent, i as u16, u16::from(regular), p, q, r, s];
-    write_row(cells, at, row);
-}
-
-// Writes the rows of a family, from row `at` on. Gives the row behind them.
-fn write_children(
-    cells: &mut [u16],
-    at: usize,
-    level: u16,
-    parent: u16,
-    regular: bool,
-    points: &[u16; 10],
-    pattern: u8,
-    families: &Families,
-) -> usize
-    requires { (pattern < 64) × (8 * (at + length (family pattern)) ≤ length cells.old) }
-    ensures value { result ≡ at + length (family pattern) }
-    ensures cells_value { cells.new ≡ written cells.old (8 * at)
-        (child_rows level parent regular (λ d. get_or points.now d 0) 0 (family pattern)) }
-{
-    let family = families.cut(pattern).unwrap();
-    let count = usize::from(family.count);
-    for i in 0..count {
-        write_child(
-            cells,
-            at + i,
-            level,
-            parent,
-            i,
-            regular,
-            points,
-            &family.digits,
-        );
+impl Parent {
+    // The number of the point whose digit stands at a place of the family.
+    fn point(&self, digits: &[u8; 32], j: usize) -> u16
+        requires { (j < 32) × (get_or digits.now j 0 < 10) }
+        ensures { result ≡ get_or self.now.points (get_or digits.now j 0) 0 }
+    {
+        self.points[digits[j] as usize]
     }
-    at + count
+
+    // The row of child i of a family.
+    fn child(&self, i: usize, digits: &[u8; 32]) -> [u16; 8]
+        requires i_bound { i < 8 }
+        requires by_index { (j : ℕ) → get_or digits.now j 0 < 10 }
+        ensures { result ≡ self.now.level ∷ self.now.number ∷ i ∷ one_if self.now.regular
+            ∷ map (λ d. get_or self.now.points d 0) (four_at digits.now (4 * i)) }
+    {
+        [
+            self.level,
+            self.number,
+            i as u16,
+            u16::from(self.regular),
+            self.point(digits, 4 * i),
+            self.point(digits, 4 * i + 1),
+            self.point(digits, 4 * i + 2),
+            self.point(digits, 4 * i + 3),
+        ]
+    }
+
+    // Writes the rows of a family, from row `at` on. Gives the row behind them.
+    fn write_children(
+        &self,
+        cells: &mut [u16],
+        at: usize,
+        pattern: u8,
+        families: &Families,
+    ) -> usize
+        requires { (pattern < 64) × (8 * (at + length (family pattern)) ≤ length cells.old) }
+        ensures value { result ≡ at + length (family pattern) }
+        ensures cells_value { cells.new ≡ written cells.old (8 * at)
+            (child_rows self.now.level self.now.number self.now.regular (λ d. get_or self.now.points d 0) 0 (family pattern)) }
+    {
+        let family = families.cut(pattern).unwrap();
+        let count = usize::from(family.count);
+        for i in 0..count {
+            write_row(cells, at + i, self.child(i, &family.digits));
+        }
+        at + count
+    }
 }
 
 // Writes the family of a cell from row `at` on, on level `level`; a leaf has none. Gives the row behind it.
@@ -212,17 +205,13 @@ fn refine<const N: usize, const H: usize>(
     if status == 0 {
         return at;
     }
-    let points = points_of(cells, c, status, n, mids);
-    write_children(
-        cells,
-        at,
+    let parent = Parent {
         level,
-        c as u16,
-        status == 64,
-        &points,
-        pattern_of(status),
-        families,
-    )
+        number: c as u16,
+        regular: status == 64,
+        points: points_of(cells, c, status, n, mids),
+    };
+    parent.write_children(cells, at, pattern_of(status), families)
 }
 
 // Writes the families of the cells `first` to `last` - 1, in cell order, behind these, on level `level`. Gives the row behind them.

@@ -32,6 +32,7 @@ pub fn lay<const M: usize, const K: usize>(
     let mut first = 0;
     let mut last = coarse;
     let mut level = 0;
+    // No range: how many levels there are is found on the way.
     loop {
         let size = rows::level_size(status, first, last);
         if size == 0 {

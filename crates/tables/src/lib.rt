@@ -121,6 +121,7 @@ pub fn build<const M: usize, const K: usize, const N: usize, const H: usize>(
     let mut first = 0;
     let mut last = coarse;
     let mut level = 0;
+    // No range: how many levels there are is found on the way.
     loop {
         let size = check_level(rows, status, first, last, red)?;
         if size == 0 {

@@ -16,6 +16,6 @@ write_children-requires g c =
 pub returns : goal.returns
 returns g c =
     laid_family c.args.cells.now c.args.mids.now c.args.c c.args.status c.args.level c.args.at c.args.n
-    c.if-status-eq0.false c.requires.c_lt_at.1 c.points_of-points.ensures.grown c.points_of-points.ensures.points_set
+    c.if-status-eq0.false c.requires.c_lt_at.1 c.points_of.ensures.grown c.points_of.ensures.points_set
     (rw c.pattern_of.ensures at c.write_children.ensures.cells_value)
     (rw c.pattern_of.ensures at c.write_children.ensures.value)
