@@ -56,7 +56,8 @@ impl<const N: usize, const H: usize> PairTable<N, H> {
 
     // The last entry, from `from` on, at which the pair stands. A chain goes down, so older entries cost nothing.
     pub fn find(&self, x: u32, y: u32) -> Option<usize>
-        ensures { MatchOption result (seek self.now.xs self.now.ys x y self.now.from (self.now.n - self.now.from) ≡ 65535) (λ e. (e ≡ seek self.now.xs self.now.ys x y self.now.from (self.now.n - self.now.from)) × (e < self.now.n)) }
+        ensures { MatchOption result (seek self.now.xs self.now.ys x y self.now.from (self.now.n - self.now.from) ≡ 65535)
+            (λ e. (e ≡ seek self.now.xs self.now.ys x y self.now.from (self.now.n - self.now.from)) × (e < self.now.n)) }
     {
         let b = bucket_of(H, x, y);
         let mut e = self.heads[b];
