@@ -1,6 +1,6 @@
 // A table of pairs of numbers in which a pair is found fast: the pairs in the order in which they were added; each bucket's last entry; and
-// behind each entry the one before it in its bucket. 65535 stands for no entry. There are 4,096 buckets, or 1,024 where the heads are fewer
-// than 4,096; behind them there may be spots.
+// behind each entry the one before it in its bucket. 65535 stands for no entry (an Option would be twice as large: docs/SPEED.md). There
+// are 4,096 buckets, or 1,024 where the heads are fewer than 4,096; behind them there may be spots.
 #![tactic(auto)]
 
 ghost use Rattle.std.specs.Prelude.{◌≡◌, ◌+◌, ◌-◌, ◌<◌, ◌≤◌, length, MatchOption};
@@ -64,7 +64,8 @@ impl<const N: usize, const H: usize> PairTable<N, H> {
 
     // The last entry, from `from` on, at which the pair stands. A chain goes down, so older entries cost nothing.
     pub fn find(&self, x: u32, y: u32) -> Option<usize>
-        ensures { MatchOption result (seek self.now.xs self.now.ys x y self.now.from (self.now.n - self.now.from) ≡ 65535) (λ e. (e ≡ seek self.now.xs self.now.ys x y self.now.from (self.now.n - self.now.from)) × (e < self.now.n)) }
+        ensures { MatchOption result (seek self.now.xs self.now.ys x y self.now.from (self.now.n - self.now.from) ≡ 65535)
+            (λ e. (e ≡ seek self.now.xs self.now.ys x y self.now.from (self.now.n - self.now.from)) × (e < self.now.n)) }
     {
         let b = bucket_of(H, x, y);
         let mut e = self.heads[b];
