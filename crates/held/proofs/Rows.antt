@@ -2,7 +2,7 @@
 use mathlib.Core.Path.{◌≡◌, refl, sym, ◌∙◌, ap, ap₂}
 use mathlib.Core.List.{List, ◌∷◌, map, flat_map}
 use Prim.Native.Nat.{ℕ, zero, suc, pred, ◌+◌, ◌-◌, ◌*◌, ◌/◌, ◌%◌, ◌≤◌, ◌<◌}
-use native.Mathlib.Nat.{add-zero, add-suc}
+use native.Mathlib.Nat.{add-suc}
 use native.Mathlib.Omega.{arith}
 use lib.ListN.{length, set, replicate, length-append, length-replicate, length-map}
 use lib.Seq.{sets}
@@ -14,9 +14,6 @@ use Rattle.store.specs.Fields.{field, ENTRIES, PLACE_HEAD, PLACE_DIGITS, PLACE_M
 use Rattle.store.specs.Places.{eights}
 use Rattle.held.specs.Held.{entry_in, held_in, entry_row, held_rows}
 use Rattle.held.specs.Key.{key_path, Keyed, key_place, key_digits, length-eights}
-
-pub digits_all : (l : List ℕ) (at z : ℕ) → sets l (at + 0) (eights (10 - 0) z) ≡ sets l at (eights 10 z)
-digits_all l at z = rw (add-zero at)
 
 -- one digit more
 pub digit_more : (l m : List ℕ) (at i y z : ℕ) → i < 10

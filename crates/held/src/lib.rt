@@ -61,6 +61,7 @@ pub fn stage(store: &[u16]) -> Result<Progress, Refusal>
 }
 
 // 8 to a level.
+#[tactic(auto, using(crate::specs::Key::power_is))]
 pub fn power(level: usize) -> usize
     requires { level ≤ top_level }
     ensures { (result ≡ 2 ^ (3 * level)) × (result ≤ 1073741824) × (0 < result) }
@@ -90,6 +91,7 @@ fn key_from(head: usize, digits: usize, more: usize) -> PathKey
 }
 
 // The key of a master or ghost.
+#[tactic(auto, unfolding(crate::specs::Held::entry_in))]
 pub fn key_of(store: &[u16], j: usize) -> PathKey
     requires { (full ≤ length store.now) × (j < most_cells) }
     ensures { Keyed (entry_in store.now j).path result.head result.digits }
@@ -102,6 +104,7 @@ pub fn key_of(store: &[u16], j: usize) -> PathKey
 }
 
 // Whether an entry is a ghost.
+#[tactic(auto, unfolding(crate::specs::Held::entry_in))]
 pub fn is_ghost(store: &[u16], j: usize) -> bool
     requires { (full ≤ length store.now) × (j < most_cells) }
     ensures { result ≡ (entry_in store.now j).ghost }
@@ -110,6 +113,7 @@ pub fn is_ghost(store: &[u16], j: usize) -> bool
 }
 
 // The status of an entry.
+#[tactic(auto, unfolding(crate::specs::Held::entry_in))]
 pub fn status_of(store: &[u16], j: usize) -> u8
     requires { (full ≤ length store.now) × (j < most_cells) }
     ensures { (result ≡ (entry_in store.now j).status) × (result < 128) }

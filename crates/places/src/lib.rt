@@ -91,38 +91,38 @@ fn remade(store: &[u16], c: usize) -> Option<u16>
     }
 }
 
-// Whether an edge of a child joins the points with the digits a and b.
+// Whether an edge of a child joins the points with these digits.
 #[tactic(auto, unfolding(crate::specs::Fresh::edge_has))]
-fn edge_has(digits: &[u8; 32], j: usize, y: usize, a: u8, b: u8) -> bool
+fn edge_has(digits: &[u8; 32], j: usize, y: usize, ends: (u8, u8)) -> bool
     requires { (j < 8) × (y < 6) }
-    ensures { result ≡ edge_has digits.now j a b y }
+    ensures { result ≡ edge_has digits.now j ends.0 ends.1 y }
 {
-    (a, b) == (low_digit(digits, j, y), high_digit(digits, j, y))
+    ends == (low_digit(digits, j, y), high_digit(digits, j, y))
 }
 
 // Whether it does and is hit, where the child is the cell d.
 #[tactic(auto, unfolding(crate::specs::Fresh::edge_hit))]
-fn edge_both(store: &[u16], digits: &[u8; 32], d: usize, j: usize, y: usize, a: u8, b: u8) -> bool
+fn edge_both(store: &[u16], digits: &[u8; 32], d: usize, j: usize, y: usize, ends: (u8, u8)) -> bool
     requires { (full ≤ length store.now) × (d < most_cells) × (j < 8) × (y < 6) }
-    ensures { result ≡ edge_hit store.now digits.now d a b j y }
+    ensures { result ≡ edge_hit store.now digits.now d ends.0 ends.1 j y }
 {
-    edge_has(digits, j, y, a, b) && edge_hit(store, d, y)
+    edge_has(digits, j, y, ends) && edge_hit(store, d, y)
 }
 
 // Whether the child j, which is the cell d, has such an edge that is hit.
-fn kid_has(store: &[u16], digits: &[u8; 32], d: usize, j: usize, a: u8, b: u8) -> bool
+fn kid_has(store: &[u16], digits: &[u8; 32], d: usize, j: usize, ends: (u8, u8)) -> bool
     requires { (full ≤ length store.now) × (d < most_cells) × (j < 8) }
-    ensures { result ≡ kid_has store.now digits.now d a b j }
+    ensures { result ≡ kid_has store.now digits.now d ends.0 ends.1 j }
 {
-    (0..6).any(|y| edge_both(store, digits, d, j, y, a, b))
+    (0..6).any(|y| edge_both(store, digits, d, j, y, ends))
 }
 
 // Whether one of the n children from `first` on has.
-fn pair_has(store: &[u16], digits: &[u8; 32], first: usize, n: usize, a: u8, b: u8) -> bool
+fn pair_has(store: &[u16], digits: &[u8; 32], first: usize, n: usize, ends: (u8, u8)) -> bool
     requires { (full ≤ length store.now) × (n ≤ 8) × KidsInside first n }
-    ensures { result ≡ pair_has store.now digits.now first n a b }
+    ensures { result ≡ pair_has store.now digits.now first n ends.0 ends.1 }
 {
-    (0..n).any(|j| kid_has(store, digits, first + j, j, a, b))
+    (0..n).any(|j| kid_has(store, digits, first + j, j, ends))
 }
 
 // The status of the new child i of a green cell that will be red, from the digits of both families.
@@ -131,14 +131,8 @@ fn fresh_one(store: &[u16], old: &[u8; 32], red: &[u8; 32], first: usize, n: usi
     ensures { result ≡ fresh_by store.now old.now red.now first n i }
 {
     pattern(|y| {
-        pair_has(
-            store,
-            old,
-            first,
-            n,
-            low_digit(red, i, y),
-            high_digit(red, i, y),
-        )
+        let ends = (low_digit(red, i, y), high_digit(red, i, y));
+        pair_has(store, old, first, n, ends)
     })
 }
 

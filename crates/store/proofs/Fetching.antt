@@ -5,7 +5,7 @@ use Rattle.std.proofs.Math.Path.{ap}
 use Rattle.std.proofs.Math.Decide.{dec_lt}
 use Rattle.std.proofs.Math.ListN.{length}
 use Rattle.std.proofs.Math.Seq.{sets}
-use borrow.Author.Tests.{eq-eqb, ne_eqb, lt-ltb, le-ltb, le-leb, lt-leb}
+use borrow.Author.Tests.{eq-eqb, ne_eqb, lt-ltb, le-ltb, le-leb}
 use Rattle.store.specs.Fields.{field, full, STAGE, PART, CURSOR, BIT, WRITTEN, most_entries}
 use Rattle.store.specs.Header.{headerb}
 use Rattle.store.specs.declared.Spot.{Spot}
@@ -65,18 +65,6 @@ module _ (x out : List ℕ) where
     bytes = rw (e, ne_eqb (suc k) 0 (λ z. omega arith), givesb, fetch_bytes);
     after = rw (e, ne_eqb (suc k) 0 (λ z. omega arith), givesb, fetch_after);
   }
-
-  pub store_short : length x < full → Fetches (Refused 15) out x
-  unfolding fetch_refusal
-  store_short h = refused 14 (rw (lt-leb full (length x) h, fetch_refusal))
-
-  pub bytes_short : full ≤ length x → length out < 9 → Fetches (Refused 15) out x
-  unfolding fetch_refusal
-  bytes_short g h = refused 14 (rw (le-leb full (length x) g, lt-leb 9 (length out) h, fetch_refusal))
-
-  pub header_bad : full ≤ length x → 9 ≤ length out → headerb x ≡ false → Fetches (Refused 16) out x
-  unfolding fetch_refusal
-  header_bad g h e = refused 15 (rw (le-leb full (length x) g, le-leb 9 (length out) h, e, fetch_refusal))
 
   pub before_start : full ≤ length x → 9 ≤ length out → headerb x ≡ true → field x STAGE ≡ 0 → Fetches (Refused 16) out x
   unfolding fetch_refusal

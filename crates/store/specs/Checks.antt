@@ -5,7 +5,7 @@ use Rattle.std.proofs.Common.{sym, ◌∙◌, ap, arith}
 use Rattle.std.proofs.Math.Bool.{true, false}
 use Rattle.std.proofs.Math.Dec.{T, eqb, leb, eqb→eq}
 use Rattle.std.proofs.Math.ListN.{length}
-use borrow.Author.Tests.{eq-eqb, ne_eqb, lt-ltb, le-ltb, le-leb, lt-leb}
+use borrow.Author.Tests.{eq-eqb, ne_eqb, lt-ltb, le-leb, lt-leb}
 use Rattle.base.specs.Bools.{and_right}
 use Rattle.base.specs.Limits.{most_cells, most_levels, most_slots, too_many}
 use Rattle.store.specs.Fields.{field, PART, PARTS, CELLS, OWNER, HOLDERS}
@@ -28,15 +28,7 @@ module _ (k : ℕ) where
   unfolding length_of
   length_fourth e = rw (ne_eqb k 1 (λ z. omega arith), ne_eqb k 2 (λ z. omega arith), ne_eqb k 3 (λ z. omega arith), eq-eqb k 4 e, length_of)
 
-  pub length_none : (k ≡ 1 → ⊥) → (k ≡ 2 → ⊥) → (k ≡ 3 → ⊥) → (k ≡ 4 → ⊥) → 0 ≡ length_of k
-  unfolding length_of
-  length_none a b c d = rw (ne_eqb k 1 a, ne_eqb k 2 b, ne_eqb k 3 c, ne_eqb k 4 d, length_of)
-
 module _ (m : List ℕ) where
-  pub shape_empty : length m ≡ 0 → false ≡ shapeb m
-  unfolding shapeb
-  shape_empty e = rw (eq-eqb (length m) 0 e, shapeb)
-
   pub shape_some : (length m ≡ 0 → ⊥) → (n : ℕ) → n ≡ length_of (get_or m 0 0) → eqb (length m) n ≡ shapeb m
   unfolding shapeb
   shape_some h n e = rw (ne_eqb (length m) 0 h, shapeb) (ap (eqb (length m)) e)
@@ -72,42 +64,17 @@ module _ (m : List ℕ) where
       go false p false q false r false s = let z : length_of (get_or m 0 0) ≡ 0 = rw (p, q, r, s, length_of) in
           absurd (shape_not_empty e (shape-length e ∙ z))
 
-  pub total_beyond : (n : ℕ) → n ≡ number_at m 5 → too_many < n → false ≡ cell_totalb m
-  unfolding cell_totalb
-  total_beyond n e h = rw (lt-leb (number_at m 5) too_many (rw e at h), cell_totalb)
-
   pub total_within : (n : ℕ) → n ≡ number_at m 5 → n ≤ too_many → leb (get_or m 7 0) most_levels ≡ cell_totalb m
   unfolding cell_totalb
   total_within n e h = rw (le-leb (number_at m 5) too_many (rw e at h), cell_totalb)
 
 module _ (x m : List ℕ) where
-  pub route_low : get_or m 1 0 < 1 → false ≡ routeb x m
-  unfolding routeb
-  route_low h = rw (lt-leb 1 (get_or m 1 0) h, routeb)
-
-  pub route_high : 1 ≤ get_or m 1 0 → field x PARTS < get_or m 1 0 → false ≡ routeb x m
-  unfolding routeb
-  route_high g h = rw (le-leb 1 (get_or m 1 0) g, lt-leb (get_or m 1 0) (field x PARTS) h, routeb)
-
-  pub route_own : 1 ≤ get_or m 1 0 → get_or m 1 0 ≤ field x PARTS → get_or m 1 0 ≡ field x PART → false ≡ routeb x m
-  unfolding routeb
-  route_own g h e = rw (le-leb 1 (get_or m 1 0) g, le-leb (get_or m 1 0) (field x PARTS) h, eq-eqb (get_or m 1 0) (field x PART) e, routeb)
-
   pub route_to : 1 ≤ get_or m 1 0 → get_or m 1 0 ≤ field x PARTS → (get_or m 1 0 ≡ field x PART → ⊥)
       → eqb (get_or m 2 0) (field x PART) ≡ routeb x m
   unfolding routeb
   route_to g h e = rw (le-leb 1 (get_or m 1 0) g, le-leb (get_or m 1 0) (field x PARTS) h, ne_eqb (get_or m 1 0) (field x PART) e, routeb)
 
   module _ (c : ℕ) (i : c ≡ number_at m 5) where
-    pub mark_beyond : field x CELLS ≤ c → false ≡ ghost_markb x m
-    unfolding ghost_markb
-    mark_beyond h = rw (le-ltb (number_at m 5) (field x CELLS) (rw i at h), ghost_markb)
-
-    pub mark_else : c < field x CELLS → field x (OWNER + c) ≡ 0 → false ≡ ghost_markb x m
-    unfolding ghost_markb
-    mark_else h e = let d : field x (OWNER + number_at m 5) ≡ 0 = rw i at e in
-        rw (lt-ltb (number_at m 5) (field x CELLS) (rw i at h), eq-eqb (field x (OWNER + number_at m 5)) 0 d, ghost_markb)
-
     pub mark_value : c < field x CELLS → (field x (OWNER + c) ≡ 0 → ⊥) → leb (get_or m 7 0) 1 ≡ ghost_markb x m
     unfolding ghost_markb
     mark_value h e = rw (
@@ -115,15 +82,6 @@ module _ (x m : List ℕ) where
       ne_eqb (field x (OWNER + number_at m 5)) 0 (λ z. e (rw i z)),
       ghost_markb,
     )
-
-    pub count_beyond : most_slots ≤ c → false ≡ edge_countb x m
-    unfolding edge_countb
-    count_beyond h = rw (le-ltb (number_at m 5) most_slots (rw i at h), edge_countb)
-
-    pub count_else : c < most_slots → field x (HOLDERS + c) ≡ 0 → false ≡ edge_countb x m
-    unfolding edge_countb
-    count_else h e = let d : field x (HOLDERS + number_at m 5) ≡ 0 = rw i at e in
-        rw (lt-ltb (number_at m 5) most_slots (rw i at h), eq-eqb (field x (HOLDERS + number_at m 5)) 0 d, edge_countb)
 
     module _ (h : c < most_slots) (e : field x (HOLDERS + c) ≡ 0 → ⊥) (n : ℕ) (j : n ≡ number_at m 7) where
       pub count_none : n < 1 → false ≡ edge_countb x m
@@ -164,14 +122,6 @@ module _ (x m : List ℕ) where
   pub content_other : (get_or m 0 0 ≡ 1 → ⊥) → (get_or m 0 0 ≡ 2 → ⊥) → (get_or m 0 0 ≡ 3 → ⊥) → true ≡ contentb x m
   unfolding contentb
   content_other a b c = rw (ne_eqb (get_or m 0 0) 1 a, ne_eqb (get_or m 0 0) 2 b, ne_eqb (get_or m 0 0) 3 c, contentb)
-
-  pub well_shape : shapeb m ≡ false → false ≡ wellb x m
-  unfolding wellb
-  well_shape e = rw (e, wellb)
-
-  pub well_route : shapeb m ≡ true → routeb x m ≡ false → false ≡ wellb x m
-  unfolding wellb
-  well_route e f = rw (e, f, wellb)
 
   pub well_content : shapeb m ≡ true → routeb x m ≡ true → contentb x m ≡ wellb x m
   unfolding wellb

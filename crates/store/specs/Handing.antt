@@ -3,11 +3,11 @@ use Rattle.std.specs.Prelude.{◌≡◌, refl, Bool, false, ◌&&◌, not, List,
 use Rattle.std.proofs.Math.Path.{sym, ap}
 use Rattle.std.proofs.Common.{◌∙◌, ap₂, arith, eqb→eq}
 use Rattle.std.proofs.Math.Bool.{true}
-use Prim.Native.Nat.{ℕ, ◌+◌, ◌%◌, ◌≤◌, ◌<◌, min, max}
+use Prim.Native.Nat.{ℕ, ◌+◌, ◌%◌, ◌≤◌, min, max}
 use Rattle.std.proofs.Math.Dec.{T, eqb, leb, leb→le, ltb→lt}
 use Rattle.std.proofs.Math.ListN.{set}
 use Rattle.std.proofs.Math.Seq.{get_or-set_other}
-use borrow.Author.Tests.{eq-eqb, ne_eqb, le-leb, lt-leb}
+use borrow.Author.Tests.{eq-eqb, ne_eqb, le-leb}
 use Rattle.base.specs.Bools.{and_left, and_right, is_true}
 use Rattle.base.specs.Limits.{most_cells, most_slots, too_many}
 use Rattle.base.specs.Refuse.{refuse}
@@ -92,79 +92,13 @@ module _ (x m : List ℕ) where
   unfolding hand_after taken_in
   refused k e = record { answer = sym e; after = rw (e, hand_after) }
 
-  pub hand_short : length x < full → Hands (Refused 15) x
-  unfolding hand_answer refuse
-  hand_short h = refused 15 (rw (lt-leb full (length x) h))
-
   module _ (g : full ≤ length x) where
-    pub hand_header : headerb x ≡ false → Hands (Refused 16) x
-    unfolding hand_answer refuse
-    hand_header e = refused 16 (rw (le-leb full (length x) g, e))
-
     module _ (e : headerb x ≡ true) where
-      pub hand_before : field x STAGE ≡ 0 → Hands (Refused 16) x
-      unfolding hand_answer refuse
-      hand_before s = refused 16 (rw (le-leb full (length x) g, e, eq-eqb (field x STAGE) 0 s))
-
       module _ (s : field x STAGE ≡ 0 → ⊥) where
-        pub hand_bad : wellb x m ≡ false → Hands (Refused 12) x
-        unfolding hand_answer refuse
-        hand_bad w = refused 12 (rw (le-leb full (length x) g, e, ne_eqb (field x STAGE) 0 s, w))
-
         module _ (w : wellb x m ≡ true) (k : ℕ) (i : k ≡ number_at m 3) where
-          pub hand_again : k < taken_at x m → Hands (Refused 13) x
-          unfolding hand_answer refuse
-          hand_again h = refused 13 (rw (
-            le-leb full (length x) g,
-            e,
-            ne_eqb (field x STAGE) 0 s,
-            w,
-            lt-leb (taken_at x m) (number_at m 3) (rw i at h),
-          ))
-
-          pub hand_early : taken_at x m < k → Hands (Refused 14) x
-          unfolding hand_answer refuse
-          hand_early h =
-              let j : taken_at x m < number_at m 3 = rw i at h in
-              refused 14 (rw (
-                le-leb full (length x) g,
-                e,
-                ne_eqb (field x STAGE) 0 s,
-                w,
-                le-leb (taken_at x m) (number_at m 3) (omega arith),
-                lt-leb (number_at m 3) (taken_at x m) j,
-              ))
-
           module _ (d : k ≡ taken_at x m) where
             due : taken_at x m ≡ number_at m 3
             due = sym d ∙ i
-
-            pub hand_done : (field x STAGE ≡ 1 → ⊥) → Hands (Refused 14) x
-            unfolding hand_answer refuse
-            hand_done h =
-                refused 14 (rw (
-                  le-leb full (length x) g,
-                  e,
-                  ne_eqb (field x STAGE) 0 s,
-                  w,
-                  le-leb (taken_at x m) (number_at m 3) (omega (arith, due)),
-                  le-leb (number_at m 3) (taken_at x m) (omega (arith, due)),
-                  ne_eqb (field x STAGE) 1 h,
-                ))
-
-            pub hand_later : field x STAGE ≡ 1 → field x ROUND < ended_at x m → Hands (Refused 14) x
-            unfolding hand_answer refuse
-            hand_later r h =
-                refused 14 (rw (
-                  le-leb full (length x) g,
-                  e,
-                  ne_eqb (field x STAGE) 0 s,
-                  w,
-                  le-leb (taken_at x m) (number_at m 3) (omega (arith, due)),
-                  le-leb (number_at m 3) (taken_at x m) (omega (arith, due)),
-                  eq-eqb (field x STAGE) 1 r,
-                  lt-leb (ended_at x m) (field x ROUND) h,
-                ))
 
             pub hand_taken : field x STAGE ≡ 1 → ended_at x m ≤ field x ROUND → (y : List ℕ) → y ≡ absorbed (counted x m) m
                 → Hands Accepted y

@@ -1,7 +1,7 @@
 -- The header's tests, as the code makes them.
 --   Header x     the ranges of a header that fits
 use Rattle.std.specs.Prelude.{◌≡◌, refl, Bool, true, false, ◌&&◌, ◌||◌, List, ℕ, ◌+◌, ◌*◌, ◌≤◌, ◌<◌, T, eqb, leb}
-use Rattle.std.proofs.Common.{sym, ◌∙◌, arith}
+use Rattle.std.proofs.Common.{arith}
 use Rattle.std.proofs.Math.Dec.{leb→le}
 use borrow.Author.Tests.{eq-eqb, ne_eqb, le-leb, lt-leb}
 use Rattle.base.specs.Bools.{and_left, and_right}
@@ -67,9 +67,6 @@ module _ (x : List ℕ) where
         entries_most = leb→le (field x ENTRIES) most_cells m;
       }
 
-  pub header_no : (Header → ⊥) → false ≡ headerb x
-  header_no h = bool_false (headerb x) (λ t. h (header_is t))
-
   pub header_yes : Header → headerb x ≡ stageb x
   unfolding headerb
   header_yes h =
@@ -120,16 +117,6 @@ module _ (x : List ℕ) where
   unfolding stageb
   other_no a b c = rw (ne_eqb (field x STAGE) 0 a, ne_eqb (field x STAGE) 1 b, ne_eqb (field x STAGE) 2 c, stageb)
 
-  pub done_no : field x STAGE ≡ 2 → (field x ROUND ≡ 2 * field x LEVELS + 1 → ⊥) → false ≡ stageb x
-  unfolding stageb
-  done_no e h = rw (
-    ne_eqb (field x STAGE) 0 (λ z. omega arith),
-    ne_eqb (field x STAGE) 1 (λ z. omega arith),
-    eq-eqb (field x STAGE) 2 e,
-    ne_eqb (field x ROUND) (2 * field x LEVELS + 1) h,
-    stageb,
-  )
-
   pub done_is : field x STAGE ≡ 2 → field x ROUND ≡ 2 * field x LEVELS + 1
       → (eqb (field x RESULT) 0 || (eqb (field x RESULT) 8 || eqb (field x RESULT) 9)) ≡ stageb x
   unfolding stageb
@@ -140,17 +127,3 @@ module _ (x : List ℕ) where
     eq-eqb (field x ROUND) (2 * field x LEVELS + 1) h,
     stageb,
   )
-
-  pub done_first : field x STAGE ≡ 2 → field x ROUND ≡ 2 * field x LEVELS + 1 → field x RESULT ≡ 0 → true ≡ stageb x
-  done_first e h r = let z : (eqb (field x RESULT) 0 || (eqb (field x RESULT) 8 || eqb (field x RESULT) 9)) ≡ true =
-      rw (eq-eqb (field x RESULT) 0 r) in sym z ∙ done_is e h
-
-  pub done_second : field x STAGE ≡ 2 → field x ROUND ≡ 2 * field x LEVELS + 1 → (field x RESULT ≡ 0 → ⊥) → field x RESULT ≡ 8
-      → true ≡ stageb x
-  done_second e h n r = let z : (eqb (field x RESULT) 0 || (eqb (field x RESULT) 8 || eqb (field x RESULT) 9)) ≡ true =
-      rw (ne_eqb (field x RESULT) 0 n, eq-eqb (field x RESULT) 8 r) in sym z ∙ done_is e h
-
-  pub done_third : field x STAGE ≡ 2 → field x ROUND ≡ 2 * field x LEVELS + 1 → (field x RESULT ≡ 0 → ⊥) → (field x RESULT ≡ 8 → ⊥)
-      → eqb (field x RESULT) 9 ≡ stageb x
-  done_third e h n r = let z : (eqb (field x RESULT) 0 || (eqb (field x RESULT) 8 || eqb (field x RESULT) 9)) ≡ eqb (field x RESULT) 9 =
-      rw (ne_eqb (field x RESULT) 0 n, ne_eqb (field x RESULT) 8 r) in sym z ∙ done_is e h

@@ -95,7 +95,7 @@ pub fn kid_count(store: &[u16], c: usize) -> usize
 }
 
 // The children of a cell.
-pub fn children(store: &[u16], c: usize) -> Range<usize>
+fn children(store: &[u16], c: usize) -> Range<usize>
     requires { (full ≤ length store.now) × (c < most_cells) }
     ensures { (result.start ≡ field store.now (CHILD + c)) × (result.end ≡ field store.now (CHILD + c) + kid_count store.now c) }
 {

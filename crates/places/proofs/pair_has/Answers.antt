@@ -8,6 +8,6 @@ use Rattle.places.proofs.pair_has.Goals as goal
 pub returns : goal.returns
 returns c =
     let z : c.args.n - 0 ≡ c.args.n = omega arith in
-    asked_by (λ j. kid_has c.args.store.now c.args.digits.now (c.args.first + j) c.args.a c.args.b j) 0 c.args.n _ _ c.any.ensures.ran (search rules)
+    asked_by (λ j. kid_has c.args.store.now c.args.digits.now (c.args.first + j) c.args.ends.0 c.args.ends.1 j) 0 c.args.n _ _ c.any.ensures.ran (search rules)
     (λ x t q k. search rules)
-    ∙ ap (λ n. some_from (λ j. kid_has c.args.store.now c.args.digits.now (c.args.first + j) c.args.a c.args.b j) n 0) z ∙ pair_is _ _ _ _ _ _
+    ∙ ap (λ n. some_from (λ j. kid_has c.args.store.now c.args.digits.now (c.args.first + j) c.args.ends.0 c.args.ends.1 j) n 0) z ∙ pair_is _ _ _ _ _ _
