@@ -26,8 +26,8 @@ use Rattle.store.specs.Header.{headerb}
 use Rattle.store.specs.Fetch.{next_to_give, passed_by, fetch_answer, fetch_bytes, fetch_after, fetch_refusal, givesb}
 use Rattle.store.specs.Hand.{hand_answer, hand_after}
 use Rattle.store.specs.Handing.{refuse_on, taken_is}
-use Rattle.store.specs.declared.Fetched.{Fetched}
-use Rattle.store.specs.declared.Fetched.TheVariants.{Message, Nothing, Refused as FetchRefused}
+use Rattle.store.specs.Fetched.{Fetched}
+use Rattle.store.specs.Fetched.{Message, Nothing, Refused as FetchRefused}
 use Rattle.standing.specs.Busy.{header_same}
 use Rattle.standing.specs.Walk.{passed_else, passed_length}
 use Rattle.turns.specs.Start.{start_answer, start_after}

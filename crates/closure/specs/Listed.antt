@@ -1,18 +1,11 @@
--- What the tests of one level look at and say, where the edges of its red cells are listed.
---   Looks ..             the rows below `last`, and an edge table
+-- What the tests of one level say, where the edges of its red cells are listed.
 --   listed_pattern, listed_status, listed_closed, listed_apart   the tests of `mesh` where the red cells' edges are listed
-use Rattle.std.specs.Prelude.{Bool, true, false, ◌&&◌, ◌||◌, not, List, [], ◌∷◌, map, ℕ, ◌*◌, ◌≤◌, eqb, length}
+use Rattle.std.specs.Prelude.{Bool, true, false, ◌&&◌, ◌||◌, not, List, [], ◌∷◌, map, ℕ, eqb}
 use Rattle.base.specs.Lists.{allb}
 use Rattle.base.specs.Places.{hasb}
 use Rattle.mesh.specs.Cells.{Cell, redb, edges, bits_of, heldb}
 use Rattle.rows.specs.Numbered.{cell_at}
 use Rattle.edges.specs.Pairs.{Pair, sorted, isb}
-use Rattle.edges.specs.Table.{Table}
-
--- the rows below `last` and an edge table to look into
-pub record Looks (cells xs ys heads links : List ℕ) (last from n : ℕ) : Type 0 where
-  pub rows : 8 * last ≤ length cells
-  pub table : Table xs ys heads links from n
 
 -- Rule 6.2, where the edges es of a level's red cells are listed.
 unfoldable pub listed_pattern : List Pair → Cell ℕ → ℕ

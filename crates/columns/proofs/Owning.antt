@@ -1,15 +1,15 @@
 -- Owners, as the code looks at them.
--- Laws: family_here, family_own (the family's owner), part_low, part_high, part_next, part_end (each owner is a part), owners_many,
+-- Laws: family_here, family_own (the family's owner), range_chain (a range, as a chain has it), owners_many,
 -- owners_parts, owners_then (the test, condition by condition).
-use mathlib.Core.Path.{◌≡◌}
+use mathlib.Core.Path.{◌≡◌, refl, ap}
 use mathlib.Core.Bool.{Bool, true, false, ◌&&◌}
-use mathlib.Core.List.{List}
-use Prim.Native.Nat.{ℕ, suc, ◌+◌, ◌-◌, ◌≤◌, ◌<◌}
+use mathlib.Core.List.{List, ◌∷◌}
+use Prim.Native.Nat.{ℕ, zero, suc, ◌+◌, ◌-◌, ◌≤◌, ◌<◌}
 use native.Mathlib.Omega.{arith}
 use lib.Dec.{eqb, leb}
-use lib.ListN.{length, get_or, drop, drop_of_length-le}
-use lib.Seq.{drop-cons}
-use borrow.Author.Tests.{eq-eqb, ne_eqb, lt-ltb, le-ltb, le-leb, lt-leb}
+use lib.ListN.{length, get_or}
+use Rattle.std.specs.List.{range_with_len}
+use borrow.Author.Tests.{eq-eqb, ne_eqb, lt-ltb, le-ltb}
 use Rattle.base.specs.Lists.{allb}
 use Rattle.base.specs.Range.{range}
 use Rattle.columns.specs.Ten.{family_by, owners_by}
@@ -30,23 +30,11 @@ module _ (P : ℕ) where
   abbrev pub partb : ℕ → Bool
   partb o = leb 1 o && leb o P
 
-  module _ (l : List ℕ) (c : ℕ) (h : c < length l) where
-    pub part_low : get_or l c 0 < 1 → allb partb (drop c l) ≡ false
-    unfolding allb
-    part_low e = rw (drop-cons l c 0 h, lt-leb 1 (get_or l c 0) e)
-
-    pub part_high : 1 ≤ get_or l c 0 → P < get_or l c 0 → allb partb (drop c l) ≡ false
-    unfolding allb
-    part_high d e = rw (drop-cons l c 0 h, le-leb 1 (get_or l c 0) d, lt-leb (get_or l c 0) P e)
-
-    pub part_next : 1 ≤ get_or l c 0 → get_or l c 0 ≤ P → allb partb (drop c l) ≡ allb partb (drop (c + 1) l)
-    unfolding allb
-    part_next d e =
-        let w : c + 1 ≡ suc c = omega arith in rw (drop-cons l c 0 h, le-leb 1 (get_or l c 0) d, le-leb (get_or l c 0) P e, w)
-
-  pub part_end : (l : List ℕ) (c : ℕ) → length l ≤ c → allb partb (drop c l) ≡ true
-  unfolding allb
-  part_end l c h = rw (drop_of_length-le l {i = c} h)
+-- the numbers in a row, as a chain has them
+pub range_chain : (a n : ℕ) → range_with_len a n ≡ range a n
+unfolding range
+range_chain a zero = refl
+range_chain a (suc n) = let z : a + 1 ≡ suc a = omega arith in rw z (ap (λ (l : List ℕ). a ∷ l) (range_chain (suc a) n))
 
 module _ (ss ks os : List ℕ) (P : ℕ) where
   abbrev pub onceb : ℕ → Bool

@@ -1,9 +1,10 @@
 -- Places, inner edges and the ten numbers of a cell, as the code makes them.
 --   tests t g c       which edges of c are not also those of g
--- Laws: place_coarse, place_child (places), outer_no, outer_yes, no_bits, small_bits, bit_turn, inner_none, inner_some (inner edges),
+-- Laws: place_coarse, place_child (places), outer_is, no_bits, small_bits, bit_turn, inner_none, inner_some (inner edges),
 -- ten_is, kids_owned, filled_none, filled_more, filled_placed (all cells).
 use mathlib.Core.Path.{◌≡◌, refl, sym, ◌∙◌, ap}
-use mathlib.Core.Bool.{Bool, true, false}
+use mathlib.Core.Bool.{Bool, true, false, not}
+use mir.Val.{bool_byte}
 use mathlib.Core.List.{List, [], ◌∷◌, map}
 use Prim.Native.Nat.{ℕ, zero, suc, ◌+◌, ◌-◌, ◌*◌, ◌^◌, ◌≤◌, ◌<◌}
 use native.Mathlib.Nat.{eq-or-lt_of_le}
@@ -45,14 +46,16 @@ module _ (t : List ℕ) (g c : ℕ) where
   abbrev pub tests : List Bool
   tests = map (outerb t g c) edge_numbers
 
-  pub outer_no : (e : ℕ) (p : Pair) → p ≡ edge 0 (cell_at t c) e → heldb eqb (edges 0 (cell_at t g)) p ≡ true → 0 ≡ one_if (outerb t g c e)
+  pub outer_is : (e : ℕ) (p : Pair) → p ≡ edge 0 (cell_at t c) e → (h : Bool) → h ≡ heldb eqb (edges 0 (cell_at t g)) p → (r : ℕ)
+      → r ≡ bool_byte (not h) → r ≡ one_if (outerb t g c e)
   unfolding outerb one_if
-  outer_no e p q h = let w : heldb eqb (edges 0 (cell_at t g)) (edge 0 (cell_at t c) e) ≡ true = rw q at h in rw w
-
-  pub outer_yes : (e : ℕ) (p : Pair) → p ≡ edge 0 (cell_at t c) e → heldb eqb (edges 0 (cell_at t g)) p ≡ false → 1 ≡ one_if (outerb t g
-      c e)
-  unfolding outerb one_if
-  outer_yes e p q h = let w : heldb eqb (edges 0 (cell_at t g)) (edge 0 (cell_at t c) e) ≡ false = rw q at h in rw w
+  outer_is e p q h k r s =
+      let w : h ≡ heldb eqb (edges 0 (cell_at t g)) (edge 0 (cell_at t c) e) = rw q at k in
+      s ∙ byte (not h) ∙ ap (λ (x : Bool). one_if (not x)) w
+    where
+      byte : (x : Bool) → bool_byte x ≡ one_if x
+      byte true = refl
+      byte false = refl
 
   bits_more : (e : ℕ) → e < 6 → bits_of (drop e tests) ≡ one_if (outerb t g c e) + 2 * bits_of (drop (suc e) tests)
   unfolding bits_of

@@ -37,33 +37,18 @@ fn one_owner(owners: &[u8], kids: &[u16], c: usize) -> bool
         (range (get_or kids.now c 0) (get_or kids.now (suc c) 0 - get_or kids.now c 0)) }
 {
     let owner = family_of(owners, kids, c);
-    let mut d = kids[c] as usize;
+    let first = kids[c] as usize;
     let last = kids[c + 1] as usize;
-    while d < last {
-        if owners[d] != owner {
-            return false;
-        }
-        d += 1;
-    }
-    true
+    (first..last).all(|d| owners[d] == owner)
 }
 
 // Whether each owner is a part.
 fn are_parts(owners: &[u8], parts: usize) -> bool
     ensures { result ≡ allb (λ o. leb 1 o && leb o parts) owners.now }
 {
-    let mut c = 0;
-    while c < owners.len() {
-        let owner = owners[c] as usize;
-        if owner < 1 {
-            return false;
-        }
-        if owner > parts {
-            return false;
-        }
-        c += 1;
-    }
-    true
+    owners
+        .iter()
+        .all(|owner| (1..=parts).contains(&(*owner as usize)))
 }
 
 // Whether the owners fit a table, whose families are told by `kids`, and the parts: one owner for each cell, a part, and one for all
@@ -72,20 +57,9 @@ pub fn owners_fit(owners: &[u8], status: &[u8], parts: usize, kids: &[u16]) -> b
     requires { FirstKids kids.now (length status.now) }
     ensures { result ≡ owners_by status.now kids.now parts owners.now }
 {
-    if owners.len() != status.len() {
-        return false;
-    }
-    if !are_parts(owners, parts) {
-        return false;
-    }
-    let mut c = 0;
-    while c < owners.len() {
-        if !one_owner(owners, kids, c) {
-            return false;
-        }
-        c += 1;
-    }
-    true
+    owners.len() == status.len()
+        && are_parts(owners, parts)
+        && (0..owners.len()).all(|c| one_owner(owners, kids, c))
 }
 
 // 1 where the edge e of the cell c is not also one of the cell g, else 0.
@@ -94,10 +68,7 @@ fn outer(rows: &[u16], g: usize, c: usize, e: usize) -> u16
     ensures { result ≡ one_if (outerb rows.now g c e) }
 {
     let own = rows::edge_of(rows, c, e);
-    if separation::has_edge(rows, g, own.a, own.b) {
-        return 0;
-    }
-    1
+    u16::from(!separation::has_edge(rows, g, own.a, own.b))
 }
 
 // Six bits: the edges of a cell that are not also its parent's.
@@ -110,10 +81,8 @@ fn inner_of(rows: &[u16], c: usize) -> u16
         return 0;
     }
     let g = rows[8 * c + 1] as usize;
-    let mut bits: u16 = 0;
-    let mut e = 6;
-    while e > 0 {
-        e -= 1;
+    let mut bits = 0;
+    for e in (0..6).rev() {
         bits = outer(rows, g, c, e) + 2 * bits;
     }
     bits
@@ -184,10 +153,8 @@ fn put_ten(cols: &mut [u16], c: usize, ten: &[u16; 10])
     requires { (length cols.old ≡ columns_length) × (c < most_cells) }
     ensures { WroteAt (λ j. most_cells * j + c) (λ j. get_or ten.now j 0) 10 cols.old cols.new }
 {
-    let mut j = 0;
-    while j < 10 {
-        cols[MOST_CELLS * j + c] = ten[j];
-        j += 1;
+    for (j, number) in ten.iter().enumerate() {
+        cols[MOST_CELLS * j + c] = *number;
     }
 }
 
@@ -197,10 +164,8 @@ pub fn fill(rows: &[u16], status: &[u8], kids: &[u16], owners: &[u8], cols: &mut
     requires cols_len { length cols.old ≡ columns_length }
     ensures { Filled rows.now status.now kids.now owners.now (length status.now) cols.new }
 {
-    let mut c = 0;
-    while c < status.len() {
+    for c in 0..status.len() {
         let ten = ten_of(rows, status, kids, owners, cols, c);
         put_ten(cols, c, &ten);
-        c += 1;
     }
 }

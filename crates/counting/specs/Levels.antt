@@ -2,10 +2,10 @@
 -- one level up follow, from `last` on. A level with no cell is the end.
 --   next_end first last ss        the end of the level one up
 --   counts_at first last ss       the counts of the level: cells, red, green, leaves
+--   own_counts own                those of cells with these statuses
 --   level_counts f first last ss  the counts of the level and of those above it, f levels at most
 --   level_number f first last ss  how many levels these are
 --   level_end f first last ss     the end of the last of them
---   tally_numbers t                     a tally as its four numbers
 --   Levels ss coarse             the statuses are those of a table with this many coarse cells, within the limits
 use Rattle.std.specs.Prelude.{◌≡◌, refl, Bool, true, false, List, [], ◌∷◌, ◌++◌, ℕ, zero, suc, ◌+◌, ◌*◌, ◌-◌, ◌≤◌, ◌<◌, eqb, leb, ltb, length}
 use Rattle.std.proofs.Common.{arith, lt-ltb, le-ltb}
@@ -15,7 +15,6 @@ use Rattle.mesh.specs.Cells.{redb}
 use Rattle.mesh.specs.Counts.{count_if, greenb}
 use Rattle.mesh.specs.Table.{sizes}
 use Rattle.rows.specs.Numbered.{part}
-use Rattle.counting.specs.declared.Tally.{Tally}
 
 -- Rules 3.2, 4.4: where the next level ends, by how many children there are.
 unfoldable pub next_end : ℕ → ℕ → List ℕ → ℕ
@@ -28,6 +27,11 @@ unfolding count_if greenb
 counts_at first last ss =
     let own = part ss first (last - first) in
     (last - first) ∷ count_if redb own ∷ count_if greenb own ∷ count_if (λ s. eqb s 0) own ∷ []
+
+-- Rule 9.5: the row of cells with these statuses.
+unfoldable pub own_counts : List ℕ → List ℕ
+unfolding count_if greenb
+own_counts own = length own ∷ count_if redb own ∷ count_if greenb own ∷ count_if (λ s. eqb s 0) own ∷ []
 
 -- Rule 9.5: the rows from this level on.
 unfoldable pub level_counts : ℕ → ℕ → ℕ → List ℕ → List ℕ
@@ -47,10 +51,6 @@ unfoldable pub level_end : ℕ → ℕ → ℕ → List ℕ → ℕ
 unfolding next_end
 level_end zero first last ss = first
 level_end (suc f) first last ss = elim (ltb first last) [ true ↦ level_end f last (next_end first last ss) ss | false ↦ first ]
-
--- Rule 9.5: cells, red, green, leaves.
-unfoldable pub tally_numbers : Tally → List ℕ
-tally_numbers t = t.cells ∷ t.red ∷ t.green ∷ t.leaf ∷ []
 
 -- Rules 3.4, 4.1, 6.1: statuses within the limits, one for each cell.
 pub record Levels (ss : List ℕ) (coarse : ℕ) : Type 0 where

@@ -30,7 +30,7 @@ use Rattle.splitting.specs.Admissible.{Admissible}
 use Rattle.shares.specs.Flat.{NoTwice}
 use Rattle.store.specs.Fields.{field, full, COARSE}
 use Rattle.store.specs.Fetch.{fetch_answer}
-use Rattle.store.specs.declared.Fetched.TheVariants.{Nothing}
+use Rattle.store.specs.Fetched.{Nothing}
 use Rattle.split.specs.Split.{split_answer, split_after}
 use Rattle.split.specs.Messages.{messages_to}
 use Rattle.held.specs.Held.{full_held, held_in, entry_row, held_rows, held_answer, listed_of}

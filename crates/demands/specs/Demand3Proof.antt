@@ -24,7 +24,7 @@ use Rattle.merging.specs.Result.{just_held, held_each_once, owners_after_lem, co
 use Rattle.merging.specs.Run.{nth_part, number_of, named}
 use Rattle.store.specs.Fields.{full}
 use Rattle.store.specs.Fetch.{fetch_answer}
-use Rattle.store.specs.declared.Fetched.TheVariants.{Nothing}
+use Rattle.store.specs.Fetched.{Nothing}
 use Rattle.split.specs.Columns.{slot_of}
 use Rattle.split.specs.Split.{split_answer, split_after}
 use Rattle.split.specs.Messages.{messages_to}

@@ -21,8 +21,8 @@ use Rattle.parts.specs.Owners.{ownersb}
 use Rattle.exchange.specs.Calls.{Fetch}
 use Rattle.store.specs.Fields.{field, full, STAGE, CELLS, ROUND, RESULT}
 use Rattle.store.specs.Header.{headerb}
-use Rattle.store.specs.declared.Fetched.{Fetched}
-use Rattle.store.specs.declared.Fetched.TheVariants as fetched
+use Rattle.store.specs.Fetched.{Fetched}
+use Rattle.store.specs.Fetched as fetched
 use Rattle.store.specs.Fetch.{next_to_give, given, passed_by, fetch_refusal, found_of, fetch_answer, givesb, fetch_bytes, fetch_after}
 use Rattle.store.specs.Hand.{number_at, wellb, taken_at, ended_at, hand_answer, taken_in, hand_after}
 use Rattle.turns.specs.Start.{marks_due, start_answer, started_in, start_after}

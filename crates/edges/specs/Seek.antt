@@ -1,6 +1,6 @@
 -- From a search of `pairs` to the list of pairs: what it finds is the pair's place.
 -- Assumes nothing.
-use Rattle.std.specs.Prelude.{◌≡◌, Bool, true, not, eqb, length, set}
+use Rattle.std.specs.Prelude.{◌≡◌, Bool, true, not, eqb, length, set, Option, Some, None, MatchOption, is_some}
 use Rattle.std.proofs.Math.Path.{refl, sym}
 use Rattle.std.proofs.Common.{◌∙◌, ap, ap₂, eqb-true, eq-or-lt_of_le}
 use Rattle.std.proofs.Math.Logic.{⊎_elim}
@@ -15,9 +15,10 @@ use Rattle.std.proofs.lemmas.List.{take-set-le, get_or_at}
 use Rattle.base.specs.Places.{hasb, place_in, add, Distinct, has_at, has_below, place_there, add_old, add_new, distinct_add, place_here}
 use Rattle.base.specs.Places.{place_behind, distinct_nil}
 use Rattle.base.specs.Bools.{either}
-use Rattle.pairs.specs.Keys.{Keys, Room, Added, seek, seek_found, seek_none}
+use Rattle.pairs.specs.Keys.{Added, seek, seek_found, seek_none}
+use Rattle.pairs.specs.declared.PairTable.{PairTable}
 use Rattle.edges.specs.Pairs.{Pair, sorted, isb, add_pair, pairs_of, same_pair}
-use Rattle.edges.specs.Table.{listed, Table, Edges, Inserted}
+use Rattle.edges.specs.Table.{listed, entries, Edges, Inserted}
 
 module _ (xs ys : List ℕ) (k : ℕ) where
   pub length-listed : (m : ℕ) → length (pairs_of xs ys k m) ≡ m
@@ -85,67 +86,72 @@ module _ (xs ys : List ℕ) (k n x y : ℕ) where
       let w : k + (n - k) ≡ n = omega arith in
       rw (e, same_below (n - k) (omega arith), w, get_or-set_same xs n x 0 hx, get_or-set_same ys n y 0 hy)
 
-module _ (xs ys heads links : List ℕ) (from n : ℕ) (r : Edges xs ys heads links from n) (e : Pair) (x y : ℕ) (s : (x, y) ≡ sorted e) where
-  pub old : (at : ℕ) → at ≡ seek xs ys x y from (n - from) → (at ≡ 65535 → ⊥) → Inserted xs ys from n e xs ys heads links at n
-  unfolding add_pair
-  old at q ne =
-      let f = found xs ys from x y (n - from) (rw q at ne) in
-      let p = found_place xs ys from x y (n - from) r.distinct (rw q at ne) in
-      record {
-        edges = r;
-        list = sym (add_old isb (listed xs ys from n) (sorted e) (rw s at f));
-        place = q ∙ rw s at p;
-        more = omega arith;
-        one = omega arith;
-        kept_xs = refl;
-        kept_ys = refl;
-      }
+module _ {N H : ℕ} (t : PairTable N H) where
+  -- a table in which no entry is looked at
+  pub none_listed : t.from ≡ t.n → Edges t
+  unfolding pairs_of
+  none_listed e = let z : t.n - t.from ≡ 0 = omega arith in rw z (distinct_nil isb (0, 0) same_pair)
 
-  pub new : (k : ℕ) → k ≡ seek xs ys x y from (n - from) → k ≡ 65535 → Room xs ys links n → (xs' ys' heads' links' : List ℕ)
-      → Added xs ys n x y xs' ys' heads' links'
-      → Inserted xs ys from n e xs' ys' heads' links' n (n + 1)
-  unfolding add_pair
-  new k k_is none m xs' ys' heads' links' a =
-      let up = r.up in
-      let g : hasb isb (listed xs ys from n) (sorted e) ≡ false = rw s at
-      (missing xs ys from x y (n - from) (omega (arith, m.small)) (sym k_is ∙ none)) in
-      let w : listed xs' ys' from (n + 1) ≡ listed xs ys from n ++ (sorted e ∷ []) =
-      rw (a.xs_is, a.ys_is, ← s) (listed_more xs ys from n x y up m.in_xs m.in_ys) in
-      let v : listed xs' ys' from (n + 1) ≡ add isb (listed xs ys from n) (sorted e) = w
-      ∙ sym (add_new isb (listed xs ys from n) (sorted e) g) in
-      record {
-        edges = record {
-          keys = a.keys;
-          up = omega arith;
-          distinct = rw v
-              (distinct_add isb (0, 0) same_pair (listed xs ys from n) (sorted e) r.distinct);
-        };
-        list = v;
-        place = rw (
-          w,
-          place_behind isb (listed xs ys from n) (sorted e ∷ []) (sorted e) g,
-          place_here isb (sorted e) [] (sorted e)
-              (same_pair.self (sorted e)),
-          length-listed xs ys from (n - from),
-        ) (omega arith);
-        more = omega arith;
-        one = omega arith;
-        kept_xs = rw a.xs_is (take-set-le n xs n x (omega arith));
-        kept_ys = rw a.ys_is (take-set-le n ys n y (omega arith));
-      }
+  module _ (e : Pair) {x y : ℕ} (s : ◌≡◌ {A = Pair} (x, y) (sorted e)) where
+    abbrev at_seek : ℕ
+    at_seek = seek t.xs t.ys x y t.from (t.n - t.from)
 
--- a table with no entry
-pub none_listed : (xs ys heads links : List ℕ) (n : ℕ) → Keys xs ys heads links n → Edges xs ys heads links n n
-unfolding pairs_of
-none_listed xs ys heads links n k = let e : n - n ≡ 0 = omega arith in
-    record { keys = k; up = omega arith; distinct = rw e (distinct_nil isb (0, 0) same_pair) }
+    pub not_there : at_seek ≡ 65535 → hasb isb (entries t) (sorted e) ≡ false
+    not_there z = rw s at (missing t.xs t.ys t.from x y (t.n - t.from) (omega (arith, t.up, t.in_order.small)) z)
 
--- what `holds` answers
-pub told_place : (xs ys heads links : List ℕ) (from n : ℕ) → Table xs ys heads links from n → (e : Pair) (x y : ℕ)
-    → ◌≡◌ {A = Pair} (x, y) (sorted e)
-    → (at : ℕ) → at ≡ seek xs ys x y from (n - from) → not (eqb at 65535) ≡ hasb isb (listed xs ys from n) (sorted e)
-told_place xs ys heads links from n r e x y s at q = go (eqb at 65535) refl
-  where
-    go : (t : Bool) → eqb at 65535 ≡ t → not t ≡ hasb isb (listed xs ys from n) (sorted e)
-    go true t = sym (rw s at (missing xs ys from x y (n - from) (omega (arith, r.up, r.keys.small)) (sym q ∙ eqb-true at 65535 t)))
-    go false t = sym (rw s at (found xs ys from x y (n - from) (rw q at (eqb-false at 65535 t))))
+    pub there : (at_seek ≡ 65535 → ⊥) → hasb isb (entries t) (sorted e) ≡ true
+    there ne = rw s at (found t.xs t.ys t.from x y (t.n - t.from) ne)
+
+    -- what a search answers
+    pub told_place : not (eqb at_seek 65535) ≡ hasb isb (entries t) (sorted e)
+    told_place = go (eqb at_seek 65535) refl
+      where
+        go : (b : Bool) → eqb at_seek 65535 ≡ b → not b ≡ hasb isb (entries t) (sorted e)
+        go true b = sym (not_there (eqb-true at_seek 65535 b))
+        go false b = sym (there (eqb-false at_seek 65535 b))
+
+    pub told : (o : Option ℕ) → MatchOption o (at_seek ≡ 65535) (λ i. (i ≡ at_seek) × (i < t.n)) → is_some o ≡ hasb isb (entries t) (sorted e)
+    told None z = sym (not_there z)
+    told (Some i) (p, l) = sym (there (λ z. omega (arith, t.in_order.small)))
+
+    module _ (r : Edges t) where
+      pub old : (at : ℕ) → (at ≡ at_seek) × (at < t.n) → Inserted t e t at
+      unfolding add_pair
+      old at (q, l) =
+          let ne : at_seek ≡ 65535 → ⊥ = λ z. omega (arith, t.in_order.small) in
+          record {
+            distinct = r;
+            list = sym (add_old isb (entries t) (sorted e) (there ne));
+            place = q ∙ rw s at (found_place t.xs t.ys t.from x y (t.n - t.from) r ne);
+            same_from = refl;
+            more = omega arith;
+            one = omega arith;
+            kept_xs = refl;
+            kept_ys = refl;
+          }
+
+      pub new : at_seek ≡ 65535 → t.n < length t.xs → t.n < length t.ys → (t' : PairTable N H)
+          → Added t.xs t.ys t.n x y t'.xs t'.ys t'.heads t'.links → (t'.n ≡ t.n + 1) × (t'.from ≡ t.from)
+          → Inserted t e t' t.n
+      unfolding add_pair
+      new none in_xs in_ys t' a (n_is, from_is) =
+          let up = t.up in
+          let g : hasb isb (entries t) (sorted e) ≡ false = not_there none in
+          let w : entries t' ≡ entries t ++ (sorted e ∷ []) =
+          rw (a.xs_is, a.ys_is, n_is, from_is, ← s) (listed_more t.xs t.ys t.from t.n x y up in_xs in_ys) in
+          let v : entries t' ≡ add isb (entries t) (sorted e) = w ∙ sym (add_new isb (entries t) (sorted e) g) in
+          record {
+            distinct = rw v (distinct_add isb (0, 0) same_pair (entries t) (sorted e) r);
+            list = v;
+            place = rw (
+              w,
+              place_behind isb (entries t) (sorted e ∷ []) (sorted e) g,
+              place_here isb (sorted e) [] (sorted e) (same_pair.self (sorted e)),
+              length-listed t.xs t.ys t.from (t.n - t.from),
+            ) (omega arith);
+            same_from = from_is;
+            more = omega arith;
+            one = omega arith;
+            kept_xs = rw a.xs_is (take-set-le t.n t.xs t.n x (omega arith));
+            kept_ys = rw a.ys_is (take-set-le t.n t.ys t.n y (omega arith));
+          }

@@ -20,7 +20,7 @@ use Rattle.rounds.specs.Rounds.{Body, Phase, marks, counts, totals, over, phase,
 use Rattle.rounds.specs.Rounded.{wholeb}
 use Rattle.store.specs.Fields.{field, CELLS, RESULT, ENTRIES, WRITTEN, FIRST_CELL, FIRST_SLOT, MARK}
 use Rattle.store.specs.Fields.{BIT, CODE, CORNER, CURSOR, FIRST_TAKEN, FREE, GIVEN, OWNER, PART, PLACE_HEAD, RED, ROUND, SUM, TOTAL}
-use Rattle.store.specs.declared.Fetched.TheVariants.{Message}
+use Rattle.store.specs.Fetched.{Message}
 use Rattle.store.specs.Fetch.{fetch_refusal, next_to_give, givesb, fetch_answer, fetch_bytes, fetch_after}
 use Rattle.store.specs.Hand.{hand_answer, hand_after}
 use Rattle.standing.specs.Walk.{passed_else, passed_length}

@@ -1,19 +1,18 @@
 -- Passes over the cells that a part holds.
--- Laws: zero_turn, zero_done (zeros), hold_beyond, hold_own, hold_family (whether a cell is held), column_here, column_not, column_none,
--- column_all (columns), six_here, six_not, six_none, six_all (slots), marked_start, marked_turn, mark_here, mark_not, mark_none (what is
--- written at slots).
+-- Laws: hold_beyond, hold_own, hold_family (whether a cell is held), column_here, column_not, column_none, column_all (columns), six_here,
+-- six_not, six_none, six_all, six_copied (slots), marked_start, marked_turn, mark_here, mark_not, mark_none (what is written at slots),
+-- masks_none, masks_room, flags_room, masks_turn, ones_are (masks), corner_beyond, corner_other, corner_here (corners), head_is (the header).
 use mathlib.Core.Path.{◌≡◌, refl, sym, ◌∙◌, ap, subst}
-use mathlib.Core.Logic.{⊎_elim}
 use mathlib.Core.Bool.{Bool, true, false, ◌&&◌, ◌||◌, or-false, or-true}
-use mathlib.Core.List.{List, [], ◌∷◌, ◌++◌, map, append-nil}
+use mathlib.Core.List.{List, [], ◌∷◌, ◌++◌, map}
 use Prim.Native.Nat.{ℕ, zero, suc, ◌+◌, ◌*◌, ◌-◌, ◌/◌, ◌%◌, ◌^◌, ◌≤◌, ◌<◌}
-use native.Mathlib.Nat.{eq-or-lt_of_le}
 use native.Mathlib.Decide.{ℕ_discrete, dec_lt}
 use native.Mathlib.Omega.{arith}
 use lib.Dec.{T, eqb, ltb, leb, leb→le}
-use lib.ListN.{length, get_or, take, drop, drop_of_length-le, set, replicate, length-set, length-map, length-replicate, get_or-replicate}
-use lib.ListN.{replicate-append-replicate}
-use lib.Seq.{drop-cons, set_at, append_snoc, get_or-set_same, get_or-set_other}
+use lib.ListN.{length, get_or, take, drop, length-append, length-drop, set, replicate, length-set, length-map, length-replicate, get_or-replicate}
+use lib.Seq.{get_or-set_same, get_or-set_other, length-take-le}
+use Rattle.std.proofs.lemmas.List.{get_or-append_right, get_or_append_left, get_or-take, get_or-drop}
+use borrow.Rule.Slice.PartMut.{put_mid}
 use borrow.Author.Tests.{eq-eqb, ne_eqb, lt-ltb, le-ltb}
 use Rattle.base.specs.Bools.{one_if, one_most}
 use Rattle.base.specs.Limits.{most_cells, most_parts, most_slots}
@@ -24,24 +23,8 @@ use Rattle.mesh.specs.Layout.{edge_numbers}
 use Rattle.mesh.specs.Laws.{edges_more}
 use Rattle.store.specs.Fields.{columns_length, FIRST_CELL}
 use Rattle.filling.specs.Regions.{Tabled, holdb, pick_by, pick_to, in_column, in_six, column_to, column_by, slot_to, slot_by, held_slot_to}
-use Rattle.filling.specs.Regions.{holder_to, zeros, SmallSlots, held_slotb, holder_by, mask_from, corner_by, head_by}
+use Rattle.filling.specs.Regions.{holder_to, zeros, held_slotb, holder_by, mask_from, corner_by, head_by}
 use Rattle.filling.specs.Passes.{Column, Six, six_haveb, Masked, AllBelow, Doubled}
-
-pub zero_turn : (l : List ℕ) (i : ℕ) → i < length l
-    → set (replicate i 0 ++ drop i l) i 0 ≡ replicate (i + 1) 0 ++ drop (i + 1) l
-zero_turn l i h =
-    let z : i + 1 ≡ suc i = omega arith in
-    ap (λ (m : List ℕ). set (replicate i 0 ++ m) i 0) (drop-cons l i 0 h)
-    ∙ set_at (replicate i 0) (get_or l i 0) (drop (suc i) l) 0 i (length-replicate i 0)
-    ∙ sym (append_snoc (replicate i 0) 0 (drop (suc i) l))
-    ∙ ap (λ (m : List ℕ). m ++ drop (suc i) l) (replicate-append-replicate i 1 0)
-    ∙ ap (λ (k : ℕ). replicate (i + 1) 0 ++ drop k l) (sym z)
-
-pub zero_done : (l y : List ℕ) (i : ℕ) → i ≡ length l → y ≡ replicate i 0 ++ drop i l → y ≡ zeros (length l)
-unfolding zeros
-zero_done l y i e q =
-    q ∙ ap (λ (m : List ℕ). replicate i 0 ++ m) (drop_of_length-le l {i = i} (omega arith)) ∙ append-nil (replicate i 0)
-    ∙ ap (λ (k : ℕ). replicate k 0) e
 
 module _ (cols : List ℕ) (m p c : ℕ) where
   pub hold_beyond : m ≤ c → false ≡ holdb cols m p c
@@ -171,6 +154,42 @@ module _ (cols : List ℕ) (m p : ℕ) (sl : List ℕ) where
   pub six_all : (x : List ℕ) → Tabled most_slots (slot_to cols m p sl m) x → Tabled most_slots (slot_by cols m p sl) x
   six_all x a = each_all in_six (holdb cols m p) (λ j. get_or sl j 0) most_slots m x (hold_there cols m p) a
 
+-- six slots copied
+pub six_copied : (sl : List ℕ) (c : ℕ) (x y : List ℕ) → length x ≡ most_slots → length sl ≡ most_slots → c < most_cells
+    → y ≡ take (6 * c + 6 - 6 * c) (drop (6 * c) sl) → Six sl c 6 x (put_mid (6 * c) (6 * c + 6 - 6 * c) x y)
+six_copied sl c x y long slots low e =
+    let w : 6 * c + 6 - 6 * c ≡ 6 = omega arith in
+    let q : y ≡ take 6 (drop (6 * c) sl) = rw w at e in
+    let n : length y ≡ 6 = ap length q ∙ length-take-le 6 (drop (6 * c) sl) (simp length-drop (omega arith)) in
+    let m : length (take (6 * c) x) ≡ 6 * c = length-take-le (6 * c) x (omega arith) in
+    let rest = drop 6 (drop (6 * c) x) in
+    rw w (record {
+      size = simp (length-append, length-drop) (omega arith);
+      here = λ i h.
+          let z : 6 * c + i - 6 * c ≡ i = omega arith in
+          get_or-append_right (take (6 * c) x) (y ++ rest) (6 * c) (6 * c + i) 0 m (omega arith)
+          ∙ ap (λ (k : ℕ). get_or (y ++ rest) k 0) z ∙ get_or_append_left y rest 0 i (omega arith)
+          ∙ ap (λ (l : List ℕ). get_or l i 0) q ∙ get_or-take 6 (drop (6 * c) sl) i 0 h ∙ get_or-drop (6 * c) sl i 0;
+      other = λ k n'.
+          elim (dec_lt k (6 * c)) [
+            | yes h ↦ get_or_append_left (take (6 * c) x) (y ++ rest) 0 k (omega arith) ∙ get_or-take (6 * c) x k 0 h
+            | no h ↦
+                let far : 6 ≤ k - 6 * c = further k n' (omega arith) in
+                let z : 6 * c + (6 + (k - 6 * c - 6)) ≡ k = omega arith in
+                get_or-append_right (take (6 * c) x) (y ++ rest) (6 * c) k 0 m (omega arith)
+                ∙ get_or-append_right y rest 6 (k - 6 * c) 0 n far
+                ∙ get_or-drop 6 (drop (6 * c) x) (k - 6 * c - 6) 0 ∙ get_or-drop (6 * c) x (6 + (k - 6 * c - 6)) 0
+                ∙ ap (λ (j : ℕ). get_or x j 0) z
+          ];
+    })
+  where
+    further : (k : ℕ) → ((i : ℕ) → i < 6 → k ≡ 6 * c + i → ⊥) → 6 * c ≤ k → 6 ≤ k - 6 * c
+    further k n h =
+        elim (dec_lt (k - 6 * c) 6) [
+          | yes l ↦ absurd (n (k - 6 * c) l (omega arith))
+          | no l ↦ omega arith
+        ]
+
 -- what stands at the six slots of a cell
 any_snoc : (f : ℕ → Bool) (l : List ℕ) (x : ℕ) → anyb f (l ++ (x ∷ [])) ≡ (anyb f l || f x)
 unfolding anyb
@@ -261,24 +280,6 @@ module _ (cols : List ℕ) (m p : ℕ) (sl ms : List ℕ) where
   mark_none = record { size = length-replicate {A = ℕ} most_slots 0; at = λ s h. get_or-replicate most_slots s 0 0 h }
 
 -- one bit more for each slot
-module _ (x b : List ℕ) where
-  pub doubled_start : Doubled 0 x b x
-  doubled_start = record { size = refl; done = λ s h. absurd (omega arith); rest = λ s h. refl }
-
-  pub doubled_turn : (i : ℕ) (y : List ℕ) → i < length x → Doubled i x b y → Doubled (suc i) x b (set y i (2 * get_or y i 0 + get_or b i 0))
-  doubled_turn i y h d =
-      record {
-        size = length-set y i (2 * get_or y i 0 + get_or b i 0) ∙ d.size;
-        done = λ s g.
-            ⊎_elim
-            (λ (e : s ≡ i).
-            rw e (get_or-set_same y i (2 * get_or y i 0 + get_or b i 0) 0 (omega (arith, d.size))
-            ∙ ap (λ (z : ℕ). 2 * z + get_or b i 0) (d.rest i (omega arith))))
-            (λ (e : s < i). get_or-set_other y i s (2 * get_or y i 0 + get_or b i 0) 0 (λ z. absurd (omega (arith, z))) ∙ d.done s e)
-            (eq-or-lt_of_le (omega arith));
-        rest = λ s g. get_or-set_other y i s (2 * get_or y i 0 + get_or b i 0) 0 (λ z. absurd (omega (arith, z))) ∙ d.rest s (omega arith);
-      }
-
 powers : T (belowb (λ k. leb (2 ^ k) 32768) 16)
 unfolding belowb
 powers = tt
@@ -305,8 +306,8 @@ module _ (cols : List ℕ) (m : ℕ) (sl : List ℕ) where
         leb→le (2 ^ k) 32768 (belowb_at (λ k. leb (2 ^ k) 32768) 16 powers k (omega arith)),
       )
 
-  pub masks_none : (x : List ℕ) → x ≡ zeros most_slots → Tabled most_slots (mask_from cols m sl 17 0) x
-  unfolding zeros mask_from range bits_of
+  pub masks_none : (x : List ℕ) → x ≡ replicate most_slots 0 → Tabled most_slots (mask_from cols m sl 17 0) x
+  unfolding mask_from range bits_of
   masks_none x e =
       rw e (record { size = length-replicate {A = ℕ} most_slots 0; at = λ s h. get_or-replicate most_slots s 0 0 h })
 
@@ -367,29 +368,14 @@ pub record So (f : ℕ → ℕ) (i : ℕ) (x y : List ℕ) : Type 0 where
   pub size : length y ≡ length x
   pub at : (j : ℕ) → j < i → get_or y j 0 ≡ f j
 
-pub so_start : (f : ℕ → ℕ) (x : List ℕ) → So f 0 x x
-so_start f x = record { size = refl; at = λ j h. absurd (omega arith) }
-
-pub so_turn : (f : ℕ → ℕ) (i : ℕ) (x y : List ℕ) (v : ℕ) → i < length x → v ≡ f i → So f i x y → So f (suc i) x (set y i v)
-so_turn f i x y v h e s =
-    record {
-      size = length-set y i v ∙ s.size;
-      at = λ j g.
-          ⊎_elim (λ (q : j ≡ i). rw q (get_or-set_same y i v 0 (omega (arith, s.size)) ∙ e))
-          (λ (q : j < i). get_or-set_other y i j v 0 (λ z. absurd (omega (arith, z))) ∙ s.at j q)
-          (eq-or-lt_of_le (omega arith));
-    }
-
-pub so_each : (f : ℕ → ℕ) (k i : ℕ) (x y : List ℕ) → length x ≡ k → i ≡ k → So f i x y → Tabled k f y
-so_each f k i x y l e s = record { size = s.size ∙ l; at = λ j h. s.at j (omega arith) }
-
-pub head_is : (x : List ℕ) (p P n q m l : ℕ) → x ≡ zeros FIRST_CELL
+pub head_is : (x : List ℕ) (p P n q m l : ℕ) → x ≡ replicate FIRST_CELL 0
     → set (set (set (set (set (set x 1 p) 2 P) 3 n) 4 q) 5 m) 6 l ≡ head_by p P n q m l
-unfolding zeros head_by
+unfolding head_by
 head_is x p P n q m l e = rw e
 
-pub zeros_are : (x y : List ℕ) (k : ℕ) (P : List ℕ → Type 0) → y ≡ zeros (length x) → length x ≡ k → P (zeros k) → P y
-zeros_are x y k P e l a = subst P (sym (e ∙ ap zeros l)) a
+pub zeros_are : (x y : List ℕ) (k : ℕ) (P : List ℕ → Type 0) → y ≡ replicate (length x) 0 → length x ≡ k → P (zeros k) → P y
+unfolding zeros
+zeros_are x y k P e l a = subst P (sym (e ∙ ap (λ (n : ℕ). replicate n 0) l)) a
 
-pub small_less : (sl : List ℕ) (m c : ℕ) → c < m → SmallSlots sl m → SmallSlots sl (c + 1)
-small_less sl m c h s = record { small = λ j g. s.small j (omega arith) }
+pub ones_are : Tabled most_slots (λ s. 1) (replicate most_slots 1)
+ones_are = record { size = length-replicate {A = ℕ} most_slots 1; at = λ s h. get_or-replicate most_slots s 1 0 h }

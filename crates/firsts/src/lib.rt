@@ -13,11 +13,9 @@ pub fn first_children(status: &[u8], coarse: usize, kids: &mut [u16])
     ensures { kids.new ≡ first_children coarse status.now ++ drop (suc (length status.now)) kids.old }
 {
     let mut at = coarse;
-    let mut c = 0;
-    while c < status.len() {
+    for c in 0..status.len() {
         kids[c] = at as u16;
         at += rows::size_of(status[c]);
-        c += 1;
     }
-    kids[c] = at as u16;
+    kids[status.len()] = at as u16;
 }

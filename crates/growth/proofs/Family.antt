@@ -15,8 +15,7 @@ use Rattle.base.specs.Bools.{one_if, and_left, and_right, is_true}
 use Rattle.base.specs.Each.{allb-take}
 use Rattle.base.specs.Append.{allb_append}
 use Rattle.cutting.specs.Rule.{present, family}
-use Rattle.cutting.specs.Answer.{cut_into, cut_of, cut_of_accepted}
-use Rattle.cutting.specs.declared.Family.{Family}
+use Rattle.cutting.specs.Answer.{Cut, cut_into, cut_of, cut_of_accepted}
 use Rattle.cutting.proofs.Rows.{family_fours}
 use Rattle.rows.specs.Numbered.{child_rows}
 use Rattle.growth.specs.Written.{written, written_none, written_more}
@@ -111,7 +110,7 @@ child_digits p h i l = rw (cut_of_accepted p h) (child_four (family p) (family_f
 
 pub child_count : (p : ℕ) → p < 64 → (cut_of p).count ≡ length (family p)
 unfolding cut_into
-child_count p h = ap (λ (f : Family). f.count) (cut_of_accepted p h)
+child_count p h = ap (λ (f : Cut). f.count) (cut_of_accepted p h)
 
 -- one row more
 from_append : (l k : ℕ) (r : Bool) (f : ℕ → ℕ) (i : ℕ) (ds : List (List ℕ)) (d : List ℕ)
@@ -124,39 +123,31 @@ from_append l k r f i (c ∷ ds) d =
     (sym (append_assoc (l ∷ k ∷ i ∷ one_if r ∷ map f c) (child_rows l k r f (suc i) ds) (l ∷ k ∷ (suc i + length ds) ∷ one_if r ∷ map f d)))
 
 -- the loop's invariant, and one child more
-pub record Rows (cells₀ : List ℕ) (at l k : ℕ) (r : Bool) (f : ℕ → ℕ) (p : ℕ) (cells : List ℕ) (i : ℕ) : Type 0 where
-  pub below : i ≤ length (family p)
-  pub long : length cells ≡ length cells₀
-  pub rows : cells ≡ written cells₀ (8 * at) (child_rows l k r f 0 (take i (family p)))
-
 module _ (cells₀ : List ℕ) (at l k : ℕ) (r : Bool) (f : ℕ → ℕ) (p : ℕ) where
-  pub rows_none : Rows cells₀ at l k r f p cells₀ 0
+  pub rows_none : cells₀ ≡ written cells₀ (8 * at) (child_rows l k r f 0 (take 0 (family p)))
   unfolding child_rows
-  rows_none = record { below = omega arith; long = refl; rows = sym (written_none cells₀ (8 * at)) }
+  rows_none = sym (written_none cells₀ (8 * at))
 
   module _ (h : p < 64) (room : 8 * (at + length (family p)) ≤ length cells₀) (cells : List ℕ) (i : ℕ)
-      (x : Rows cells₀ at l k r f p cells i) where
-    length_some : length (child_rows l k r f 0 (take i (family p))) ≡ 8 * i
-    length_some =
+      (x : cells ≡ written cells₀ (8 * at) (child_rows l k r f 0 (take i (family p)))) where
+    length_some : i < length (family p) → length (child_rows l k r f 0 (take i (family p))) ≡ 8 * i
+    length_some g =
         length-child_rows l k r f 0 (take i (family p)) (allb-take (λ c. eqb (length c) 4) i (family p) (family_fours p h))
-        ∙ rw (length-take-le i (family p) x.below)
+        ∙ rw (length-take-le i (family p) (omega arith))
 
-    pub rows_more : i < length (family p) → (cells' : List ℕ) → length cells' ≡ length cells
+    pub rows_more : i < length (family p) → (cells' : List ℕ)
         → cells' ≡ written cells (8 * (at + i)) (l ∷ k ∷ i ∷ one_if r ∷ map f (four_at (cut_of p).digits (4 * i)))
-        → Rows cells₀ at l k r f p cells' (suc i)
-    rows_more g cells' long w =
+        → cells' ≡ written cells₀ (8 * at) (child_rows l k r f 0 (take (i + 1) (family p)))
+    rows_more g cells' w =
         let vs = child_rows l k r f 0 (take i (family p)) in
         let row = l ∷ k ∷ i ∷ one_if r ∷ map f (get_or (family p) i []) in
-        let e : 8 * (at + i) ≡ 8 * at + length vs = omega (arith, length_some) in
-        let n : 0 + length (take i (family p)) ≡ i = omega (arith, length-take-le i (family p) x.below) in
-        let v : child_rows l k r f 0 (take (suc i) (family p)) ≡ vs ++ row =
-        ap (child_rows l k r f 0) (take-suc (family p) i [] g)
-        ∙ rw n at (from_append l k r f 0 (take i (family p)) (get_or (family p) i [])) in
-        record {
-          below = g;
-          long = long ∙ x.long;
-          rows = w ∙ rw (child_digits p h i g, e, x.rows, v) (written_more cells₀ (8 * at) vs (omega (arith, length_some, x.below)) row);
-        }
+        let e : 8 * (at + i) ≡ 8 * at + length vs = omega (arith, length_some g) in
+        let n : 0 + length (take i (family p)) ≡ i = omega (arith, length-take-le i (family p) (omega arith)) in
+        let s : i + 1 ≡ suc i = omega arith in
+        let v : child_rows l k r f 0 (take (i + 1) (family p)) ≡ vs ++ row =
+        rw s (ap (child_rows l k r f 0) (take-suc (family p) i [] g)
+        ∙ rw n at (from_append l k r f 0 (take i (family p)) (get_or (family p) i []))) in
+        w ∙ rw (child_digits p h i g, e, x, v) (written_more cells₀ (8 * at) vs (omega (arith, length_some g)) row)
 
     pub rows_all : i ≡ length (family p) → cells ≡ written cells₀ (8 * at) (child_rows l k r f 0 (family p))
-    rows_all e = x.rows ∙ ap (λ (ds : List (List ℕ)). written cells₀ (8 * at) (child_rows l k r f 0 ds)) (rw e (take-length (family p)))
+    rows_all e = x ∙ ap (λ (ds : List (List ℕ)). written cells₀ (8 * at) (child_rows l k r f 0 ds)) (rw e (take-length (family p)))

@@ -9,7 +9,8 @@ use borrow.Author.Tests.{ne_eqb}
 use Rattle.cutting.specs.Rule.{family}
 use Rattle.mesh.specs.Cells.{Cell, redb, pattern_of}
 use Rattle.mesh.specs.Layout.{split_edges}
-use Rattle.edges.specs.Table.{listed, Edges, Grown, grown_none}
+use Rattle.pairs.specs.declared.PairTable.{PairTable}
+use Rattle.edges.specs.Table.{entries, Edges, Grown, grown_none}
 use Rattle.rows.specs.Numbered.{cell_at, point_at, child_rows, rows_of}
 use Rattle.mesh.specs.Table.{size_of}
 use Rattle.growth.specs.Written.{written, written_none}
@@ -30,24 +31,23 @@ module _ (s : ℕ) (ne : s ≡ 0 → ⊥) where
   unfolding size_of
   size_some = rw (ne_eqb s 0 ne, size_of)
 
-module _ (cells xs ys heads links : List ℕ) (c s l at n m : ℕ) where
-  pub laid_leaf : s ≡ 0 → Edges xs ys heads links 0 m → Laid cells xs ys c s l at n m cells xs ys heads links at m
+module _ {N H : ℕ} (cells : List ℕ) (t : PairTable N H) (c s l at n : ℕ) where
+  pub laid_leaf : s ≡ 0 → Edges t → Laid cells t c s l at n cells t at
   unfolding rows_of size_of
   laid_leaf e r =
       record {
-        table = rw (e, no_edges (cell_at cells c)) (grown_none xs ys heads links 0 m r);
+        table = rw (e, no_edges (cell_at cells c)) (grown_none t r);
         rows = rw e (sym (written_none cells (8 * at)));
         next = rw e (sym (add-zero at));
       }
 
-  pub laid_family : (s ≡ 0 → ⊥) → s ≤ 64 → (cells' xs' ys' heads' links' ps : List ℕ) (at' m' : ℕ)
-      → Grown xs ys 0 m (split_edges 0 (cell_at cells c) s) xs' ys' heads' links' m' → PointsSet n (listed xs' ys' 0 m') (cell_at cells c)
-      (pattern_of s) ps
+  pub laid_family : (s ≡ 0 → ⊥) → s ≤ 64 → {cells' : List ℕ} {t' : PairTable N H} {ps : List ℕ} {at' : ℕ}
+      → Grown t (split_edges 0 (cell_at cells c) s) t' → PointsSet n (entries t') (cell_at cells c) (pattern_of s) ps
       → cells' ≡ written cells (8 * at) (child_rows l c (redb s) (λ d. get_or ps d 0) 0 (family (pattern_of s)))
       → at' ≡ at + length (family (pattern_of s))
-      → Laid cells xs ys c s l at n m cells' xs' ys' heads' links' at' m'
-  laid_family ne small cells' xs' ys' heads' links' ps at' m' g p w e =
-      let f = point_at n (listed xs' ys' 0 m') (cell_at cells c) in
+      → Laid cells t c s l at n cells' t' at'
+  laid_family ne small {cells'} {t'} {ps} {at'} g p w e =
+      let f = point_at n (entries t') (cell_at cells c) in
       record {
         table = g;
         rows = w ∙ ap (written cells (8 * at)) (sym (rows_some s ne l c (λ d. get_or ps d 0)) ∙ rows_same l c s (λ d. get_or ps d 0) f small

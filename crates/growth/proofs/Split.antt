@@ -1,19 +1,18 @@
 -- One edge of a cell, split or not.
 -- Assumes nothing.
-use mathlib.Core.Path.{◌≡◌, sym, ◌∙◌, ap}
+use mathlib.Core.Path.{◌≡◌, sym, ap}
 use mathlib.Core.Bool.{true, false}
 use mathlib.Core.List.{List, [], ◌∷◌}
 use Prim.Native.Nat.{ℕ, ◌+◌, ◌-◌, ◌≤◌}
-use native.Mathlib.Nat.{zero-add}
 use native.Mathlib.Omega.{arith}
 use lib.ListN.{length, set}
 use Rattle.base.specs.Lists.{filterb}
 use Rattle.base.specs.Places.{place_in, hasb, has_new, has_below}
 use Rattle.cutting.specs.Rule.{split}
 use Rattle.mesh.specs.Cells.{Cell, edge}
-use Rattle.pairs.specs.Keys.{Room}
+use Rattle.pairs.specs.declared.PairTable.{PairTable}
 use Rattle.edges.specs.Pairs.{Pair, sorted, isb, add_pair, same_pair}
-use Rattle.edges.specs.Table.{listed, Edges, Inserted, Space, Grown, grown_none, grown_one}
+use Rattle.edges.specs.Table.{entries, Edges, Inserted, Space, Grown, grown_none, grown_one}
 use Rattle.edges.specs.Seek.{length-listed}
 use Rattle.growth.specs.Places.{middle_edge}
 use Rattle.growth.specs.Points.{split_at, marked}
@@ -36,36 +35,32 @@ module _ (p : ℕ) (c : Cell ℕ) (e : ℕ) where
     unfolding marked
     marked_one t = rw (t, marked)
 
-  module _ (xs ys heads links : List ℕ) (m n : ℕ) (ps : List ℕ) where
-    pub whole : split p e ≡ false → Edges xs ys heads links 0 m
-        → Grown xs ys 0 m (split_at p c e) xs ys heads links m × (ps ≡ marked n (listed xs ys 0 m) c p e ps)
-    whole t r = (rw (split_none t) (grown_none xs ys heads links 0 m r), sym (marked_none n (listed xs ys 0 m) ps t))
+module _ {N H : ℕ} (p : ℕ) (c : Cell ℕ) (e n : ℕ) (ps : List ℕ) (t : PairTable N H) where
+  pub whole : split p e ≡ false → Edges t → Grown t (split_at p c e) t × (ps ≡ marked n (entries t) c p e ps)
+  whole u r = (rw (split_none p c e u) (grown_none t r), sym (marked_none p c e n (entries t) ps u))
 
-    pub room : split p e ≡ true → Space xs ys links m (length (split_at p c e)) → Room xs ys links m
-    room t s =
-        let v : length (split_at p c e) ≡ 1 = ap length (split_one t) in
-        record {
-          small = omega (arith, s.small);
-          in_xs = omega (arith, s.in_xs);
-          in_ys = omega (arith, s.in_ys);
-          in_links = omega
-              (arith, s.in_links);
-        }
+  pub room : split p e ≡ true → Space t (length (split_at p c e)) → Space t 1
+  room u s = let v : length (split_at p c e) ≡ 1 = ap length (split_one p c e u) in rw v at s
 
-    module _ (xs' ys' heads' links' : List ℕ) (at m' : ℕ) (i : Inserted xs ys 0 m (edge 0 c e) xs' ys' heads' links' at m') where
-      pub slot_below : at ≤ m
-      unfolding add_pair
-      slot_below =
-          let h : hasb isb (listed xs' ys' 0 m') (sorted (edge 0 c e)) ≡ true = rw i.list
-          (has_new isb (0, 0) same_pair (listed xs ys 0 m) (sorted (edge 0 c e))) in
-          omega (arith, i.place, i.one, has_below isb (listed xs' ys' 0 m') (sorted (edge 0 c e)) h, length-listed xs' ys' 0 (m' - 0))
+  module _ {t' : PairTable N H} {at : ℕ} (i : Inserted t (edge 0 c e) t' at) where
+    pub slot_below : at ≤ t.n
+    unfolding add_pair
+    slot_below =
+        let h : hasb isb (entries t') (sorted (edge 0 c e)) ≡ true = rw i.list
+        (has_new isb (0, 0) same_pair (entries t) (sorted (edge 0 c e))) in
+        omega (
+          arith,
+          i.place,
+          i.one,
+          i.same_from,
+          has_below isb (entries t') (sorted (edge 0 c e)) h,
+          length-listed t'.xs t'.ys t'.from (t'.n - t'.from),
+        )
 
-      pub halved : split p e ≡ true → (d : ℕ) → d ≡ middle_edge e
-          → Grown xs ys 0 m (split_at p c e) xs' ys' heads' links' m' × (set ps d (n + at) ≡ marked n (listed xs' ys' 0 m') c p e ps)
-      halved t d q =
-          let a : at ≡ place_in isb (listed xs' ys' 0 m') (sorted (edge 0 c e)) = i.place
-          ∙ zero-add (place_in isb (listed xs' ys' 0 m') (sorted (edge 0 c e))) in (
-            rw (split_one t) (grown_one xs ys 0 m (edge 0 c e) xs' ys' heads' links' at m' i),
-            rw (q, a)
-                (sym (marked_one n (listed xs' ys' 0 m') ps t)),
-          )
+    pub halved : t.from ≡ 0 → split p e ≡ true → (d : ℕ) → d ≡ middle_edge e
+        → Grown t (split_at p c e) t' × (set ps d (n + at) ≡ marked n (entries t') c p e ps)
+    halved z u d q =
+        let a : at ≡ place_in isb (entries t') (sorted (edge 0 c e)) = omega (arith, i.place, z) in (
+          rw (split_one p c e u) (grown_one i),
+          rw (q, a) (sym (marked_one p c e n (entries t') ps u)),
+        )

@@ -20,11 +20,12 @@ use Rattle.mesh.specs.Cells.{Cell, corner, edge, pattern_of}
 use Rattle.mesh.specs.Layout.{edge_numbers, split_edges}
 use Rattle.mesh.specs.Laws.{edges_more}
 use Rattle.edges.specs.Pairs.{Pair, sorted, isb, add_pairs, same_pair, has_pairs}
-use Rattle.edges.specs.Table.{listed, Edges, Space, Grown, grown_none, grown_both}
+use Rattle.pairs.specs.declared.PairTable.{PairTable}
+use Rattle.edges.specs.Table.{entries, Space, Grown, grown_none, grown_both}
 use Rattle.rows.specs.Numbered.{cell_at, point_at}
 use Rattle.rows.specs.Laws.{point_at_corner}
 use Rattle.growth.specs.Places.{middle_edge, extends_pairs, present_point, middle_digit, point_middle}
-use Rattle.growth.specs.Points.{split_at, low_corners, marked, PointsSet, ReadyToGrow}
+use Rattle.growth.specs.Points.{split_at, low_corners, marked, Mids, mids_grown, PointsSet, ReadyToGrow}
 use Rattle.growth.proofs.Found.{middle_below}
 use Rattle.growth.proofs.Split.{split_one, marked_none, marked_one}
 
@@ -166,89 +167,57 @@ numbered_all n es c p ps r = record { at = λ d t. ⊎_elim (own d t) (between d
         let v : middle_edge (edge_of d) ≡ d = m.digit in
         rw v at (r.middles (edge_of d) m.edge u) ∙ sym (point_middle n es c d e q.0)
 
--- the loop's invariant
-pub record Turn (c : Cell ℕ) (p n : ℕ) (xs₀ ys₀ heads₀ links₀ : List ℕ) (m : ℕ) (xs ys heads links ps : List ℕ) (k e : ℕ) : Type 0 where
-  pub below : e ≤ 6
-  pub xs_long : length xs ≡ length xs₀
-  pub ys_long : length ys ≡ length ys₀
-  pub heads_long : length heads ≡ length heads₀
-  pub links_long : length links ≡ length links₀
-  pub grown : Grown xs₀ ys₀ 0 m (splits_to p c e) xs ys heads links k
-  pub numbered : Numbered n (listed xs ys 0 k) c p e ps
+-- what is known behind the edges below e
+pub record Turn {N H : ℕ} (c : Cell ℕ) (p n : ℕ) (t₀ t : PairTable N H) (ps : List ℕ) (e : ℕ) : Type 0 where
+  pub mids : Mids t
+  pub grown : Grown t₀ (splits_to p c e) t
+  pub numbered : Numbered n (entries t) c p e ps
 
-module _ (c : Cell ℕ) (p n : ℕ) (xs₀ ys₀ heads₀ links₀ : List ℕ) (m : ℕ) where
-  pub turn_start : Edges xs₀ ys₀ heads₀ links₀ 0 m → Turn c p n xs₀ ys₀ heads₀ links₀ m xs₀ ys₀ heads₀ links₀ (low_corners c) m 0
+module _ {N H : ℕ} {c : Cell ℕ} {p n : ℕ} {t₀ : PairTable N H} where
+  pub turn_start : Mids t₀ → (ps : List ℕ) → ps ≡ low_corners c → Turn c p n t₀ t₀ ps 0
   unfolding splits_to
-  turn_start r =
-      record {
-        below = omega arith;
-        xs_long = refl;
-        ys_long = refl;
-        heads_long = refl;
-        links_long = refl;
-        grown = grown_none xs₀ ys₀ heads₀ links₀ 0 m r;
-        numbered = numbered_none n (listed xs₀ ys₀ 0 m) c p;
-      }
+  turn_start r ps q = record { mids = r; grown = grown_none t₀ r.distinct; numbered = rw q (numbered_none n (entries t₀) c p) }
 
-  module _ (xs ys heads links ps : List ℕ) (k e : ℕ) (r : Turn c p n xs₀ ys₀ heads₀ links₀ m xs ys heads links ps k e) (h : e < 6) where
-    within : k + length (split_at p c e) ≤ m + length (splits_to p c 6)
+  module _ {t : PairTable N H} {ps : List ℕ} {e : ℕ} (r : Turn c p n t₀ t ps e) (h : e < 6) where
+    within : t.n + length (split_at p c e) ≤ t₀.n + length (splits_to p c 6)
     within =
         omega (
           arith,
           r.grown.most,
           splits_within p c (suc e),
           ap length (splits_more p c e h),
-          length-append (splits_to p c e)
-              (split_at p c e),
+          length-append (splits_to p c e) (split_at p c e),
         )
 
-    turn_room : Space xs₀ ys₀ links₀ m (length (splits_to p c 6)) → Space xs ys links k (length (split_at p c e))
-    turn_room s =
-        record {
-          small = omega (arith, within, s.small);
-          in_xs = omega (arith, within, s.in_xs, r.xs_long);
-          in_ys = omega (arith, within, s.in_ys, r.ys_long);
-          in_links = omega (arith, within, s.in_links, r.links_long);
-        }
+    turn_room : Space t₀ (length (splits_to p c 6)) → Space t (length (split_at p c e))
+    turn_room s = record { small = omega (arith, within, s.small); inside = omega (arith, within, s.inside) }
 
-    turn_small : n + m + length (splits_to p c 6) < 65536 → n + k < 65536
+    turn_small : n + t₀.n + length (splits_to p c 6) < 65536 → n + t.n < 65536
     turn_small s = omega (arith, within)
 
-    pub turn_more : (xs' ys' heads' links' ps' : List ℕ) (k' : ℕ) → length xs' ≡ length xs → length ys' ≡ length ys
-        → length heads' ≡ length heads → length links' ≡ length links
-        → Grown xs ys 0 k (split_at p c e) xs' ys' heads' links' k' → ps' ≡ marked n (listed xs' ys' 0 k') c p e ps
-        → Turn c p n xs₀ ys₀ heads₀ links₀ m xs' ys' heads' links' ps' k' (suc e)
-    turn_more xs' ys' heads' links' ps' k' lx ly lh ll g w =
+    pub turn_more : {t' : PairTable N H} {ps' : List ℕ} → Grown t (split_at p c e) t' → ps' ≡ marked n (entries t') c p e ps
+        → Turn c p n t₀ t' ps' (suc e)
+    turn_more {t'} {ps'} g w =
         record {
-          below = h;
-          xs_long = lx ∙ r.xs_long;
-          ys_long = ly ∙ r.ys_long;
-          heads_long = lh ∙ r.heads_long;
-          links_long = ll ∙ r.links_long;
-          grown = rw (splits_more p c e h) (grown_both xs₀ ys₀ 0 m (splits_to p c e) (split_at p c e) xs ys heads links k r.grown xs' ys'
-              heads' links' k' g);
-          numbered = rw w (numbered_more n (listed xs ys 0 k) c p e ps h r.numbered (listed xs' ys' 0 k') g.list);
+          mids = mids_grown r.mids g;
+          grown = rw (splits_more p c e h) (grown_both r.grown g);
+          numbered = rw w (numbered_more n (entries t) c p e ps h r.numbered (entries t') g.list);
         }
 
-  pub turn_all : (xs ys heads links ps : List ℕ) (k e : ℕ) → Turn c p n xs₀ ys₀ heads₀ links₀ m xs ys heads links ps k e → 6 ≤ e → (s : ℕ)
-      → p ≡ pattern_of s
-      → Grown xs₀ ys₀ 0 m (split_edges 0 c s) xs ys heads links k × PointsSet n (listed xs ys 0 k) c (pattern_of s) ps
-  turn_all xs ys heads links ps k e r h s q =
-      let w : e ≡ 6 = omega (arith, r.below) in
-      let v : splits_to p c e ≡ split_edges 0 c s = rw (w, q) (splits_all s c) in
-      (rw v at r.grown, rw q at (numbered_all n (listed xs ys 0 k) c p ps (rw w at r.numbered)))
+  pub turn_all : {t : PairTable N H} {ps : List ℕ} → Turn c p n t₀ t ps 6 → (s : ℕ) → p ≡ pattern_of s
+      → Grown t₀ (split_edges 0 c s) t × PointsSet n (entries t) c (pattern_of s) ps
+  turn_all {t} {ps} r s q =
+      let v : splits_to p c 6 ≡ split_edges 0 c s = rw q (splits_all s c) in
+      (rw v at r.grown, rw q at (numbered_all n (entries t) c p ps r.numbered))
 
 -- what the next edge asks for
-pub turn_ready : (cells : List ℕ) (c s p n : ℕ) (xs₀ ys₀ heads₀ links₀ : List ℕ) (m : ℕ)
-    → ReadyToGrow cells xs₀ ys₀ heads₀ links₀ c s n m → p ≡ pattern_of s → (xs ys heads links ps : List ℕ) (k e : ℕ) → e < 6
-    → Turn (cell_at cells c) p n xs₀ ys₀ heads₀ links₀ m xs ys heads links ps k e
-    → ((8 * c + 8 ≤ length cells) × (e < 6) × (n + k < 65536))
-    × (Edges xs ys heads links 0 k × Space xs ys links k (length (split_at p (cell_at cells c) e)))
-turn_ready cells c s p n xs₀ ys₀ heads₀ links₀ m r q xs ys heads links ps k e h t =
-    let d = cell_at cells c in
-    let v : splits_to p d 6 ≡ split_edges 0 d s = rw q (splits_all s d) in
-    let room : Space xs₀ ys₀ links₀ m (length (splits_to p d 6)) = rw v r.space in
-    let fits : n + m + length (splits_to p d 6) < 65536 = rw v r.small in (
-      (r.inside, h, turn_small d p n xs₀ ys₀ heads₀ links₀ m xs ys heads links ps k e t h fits),
-      (t.grown.edges, turn_room d p n xs₀ ys₀ heads₀ links₀ m xs ys heads links ps k e t h room),
-    )
+module _ {N H : ℕ} {cells : List ℕ} {c s p n : ℕ} {t₀ : PairTable N H} (r : ReadyToGrow cells t₀ c s n) (q : p ≡ pattern_of s)
+    {t : PairTable N H} {ps : List ℕ} {e : ℕ} (k : Turn (cell_at cells c) p n t₀ t ps e) (h : e < 6) where
+  all_splits : splits_to p (cell_at cells c) 6 ≡ split_edges 0 (cell_at cells c) s
+  all_splits = rw q (splits_all s (cell_at cells c))
+
+  pub turn_ready : ((8 * c + 8 ≤ length cells) × (e < 6) × (n + t.n < 65536)) × Space t (length (split_at p (cell_at cells c) e))
+  turn_ready =
+      let room : Space t₀ (length (splits_to p (cell_at cells c) 6)) = rw all_splits r.space in
+      let fits : n + t₀.n + length (splits_to p (cell_at cells c) 6) < 65536 = rw all_splits r.small in
+      ((r.inside, h, turn_small k h fits), turn_room k h room)

@@ -4,15 +4,18 @@
 --   marked n es c p e ps     the numbers ps with that of the midpoint of the edge e set, where the pattern splits it
 --   PointsSet n es c p ps       each point that is present has its number in ps
 --   four_at ds j              the four digits of ds from the place j on
---   ReadyToGrow .. c s n m         the tables have room for the edges of the cell c that the status s splits
+--   Mids t                         t is a table of new corners: all its entries are looked at, and they are different edges
+--   ReadyToGrow cells t c s n      the tables have room for the edges of the cell c that the status s splits
 use Rattle.std.specs.Prelude.{◌≡◌, true, false, List, [], ◌∷◌, map, ℕ, ◌+◌, ◌*◌, ◌≤◌, ◌<◌, T, length, get_or, set}
+use Rattle.std.proofs.Common.{◌∙◌}
 use Rattle.base.specs.Lists.{filterb, memberb}
 use Rattle.base.specs.Places.{place_in}
 use Rattle.cutting.specs.Rule.{low, points, split, present}
 use Rattle.mesh.specs.Cells.{Cell, corner, edge}
 use Rattle.mesh.specs.Layout.{split_edges}
 use Rattle.edges.specs.Pairs.{Pair, sorted, isb}
-use Rattle.edges.specs.Table.{Edges, Space}
+use Rattle.pairs.specs.declared.PairTable.{PairTable}
+use Rattle.edges.specs.Table.{Edges, Space, Grown}
 use Rattle.rows.specs.Numbered.{cell_at, point_at}
 use Rattle.growth.specs.Places.{middle_edge}
 
@@ -37,8 +40,17 @@ pub record PointsSet (n : ℕ) (es : List Pair) (c : Cell ℕ) (p : ℕ) (ps : L
 unfoldable pub four_at : List ℕ → ℕ → List ℕ
 four_at ds j = get_or ds j 0 ∷ get_or ds (j + 1) 0 ∷ get_or ds (j + 2) 0 ∷ get_or ds (j + 3) 0 ∷ []
 
-pub record ReadyToGrow (cells xs ys heads links : List ℕ) (c s n m : ℕ) : Type 0 where
-  pub inside : 8 * c + 8 ≤ length cells
-  pub edges : Edges xs ys heads links 0 m
-  pub space : Space xs ys links m (length (split_edges 0 (cell_at cells c) s))
-  pub small : n + m + length (split_edges 0 (cell_at cells c) s) < 65536
+module _ {N H : ℕ} where
+  -- Rule 5.5: the corners behind the coarse ones, by the edges that they halve.
+  pub record Mids (t : PairTable N H) : Type 0 where
+    pub all : t.from ≡ 0
+    pub distinct : Edges t
+
+  pub mids_grown : {t : PairTable N H} {es : List Pair} {t' : PairTable N H} → Mids t → Grown t es t' → Mids t'
+  mids_grown m g = record { all = g.same_from ∙ m.all; distinct = g.distinct }
+
+  pub record ReadyToGrow (cells : List ℕ) (t : PairTable N H) (c s n : ℕ) : Type 0 where
+    pub inside : 8 * c + 8 ≤ length cells
+    pub mids : Mids t
+    pub space : Space t (length (split_edges 0 (cell_at cells c) s))
+    pub small : n + t.n + length (split_edges 0 (cell_at cells c) s) < 65536

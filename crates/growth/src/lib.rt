@@ -6,19 +6,18 @@ ghost use Rattle.std.specs.Prelude.{◌≡◌, [], ◌∷◌, map, ℕ, ◌+◌,
 ghost use Rattle.base.specs.Bools.{one_if};
 ghost use Rattle.base.specs.Limits.{most_cells};
 ghost use Rattle.cutting.specs.Rule.{split, family};
-ghost use Rattle.cutting.specs.Answer.{digit_table, start_table};
 ghost use Rattle.mesh.specs.Cells.{pattern_of, edge};
 ghost use Rattle.mesh.specs.Layout.{split_edges};
-ghost use Rattle.pairs.specs.Keys.{Room};
-ghost use Rattle.edges.specs.Table.{Edges, Inserted, Grown, Space, listed};
+ghost use Rattle.edges.specs.Table.{entries, Edges, Inserted, Grown, Space};
 ghost use Rattle.rows.specs.Numbered.{cell_at, child_rows};
 ghost use Rattle.mesh.specs.Table.{size_of};
 ghost use Rattle.growth.specs.Places.{middle_edge};
 ghost use Rattle.growth.specs.Written.{written};
-ghost use Rattle.growth.specs.Points.{split_at, low_corners, marked, four_at, PointsSet, ReadyToGrow};
+ghost use Rattle.growth.specs.Points.{split_at, low_corners, marked, four_at, Mids, PointsSet, ReadyToGrow};
 ghost use Rattle.growth.specs.Level.{Laid, Roomy, Grows};
 
-use edges::Slot;
+use cutting::Families;
+use pairs::PairTable;
 
 // The pattern that a refined cell is cut by: all edges where it is red.
 fn pattern_of(status: u8) -> u8
@@ -60,199 +59,73 @@ fn corners_of(cells: &[u16], c: usize) -> [u16; 10]
 }
 
 // Writes a row of the table.
-pub fn write_row(
-    cells: &mut [u16],
-    at: usize,
-    level: u16,
-    parent: u16,
-    child: u16,
-    regular: u16,
-    p: u16,
-    q: u16,
-    r: u16,
-    s: u16,
-)
+pub fn write_row(cells: &mut [u16], at: usize, row: [u16; 8])
     requires { 8 * at + 8 ≤ length cells.old }
-    ensures { cells.new ≡ written cells.old (8 * at) (level ∷ parent ∷ child ∷ regular ∷ p ∷ q ∷ r ∷ s ∷ []) }
+    ensures { cells.new ≡ written cells.old (8 * at) row }
 {
-    let i = 8 * at;
-    cells[i] = level;
-    cells[i + 1] = parent;
-    cells[i + 2] = child;
-    cells[i + 3] = regular;
-    cells[i + 4] = p;
-    cells[i + 5] = q;
-    cells[i + 6] = r;
-    cells[i + 7] = s;
+    cells[8 * at..8 * at + 8].copy_from_slice(&row);
 }
 
-// Adds an edge of a cell to the table of edges, where it is not in it.
-fn add_edge(
+// Adds an edge of a cell to the table of edges, where it is not in it: the entry that it stands at.
+fn add_edge<const N: usize, const H: usize>(
     cells: &[u16],
     c: usize,
     e: usize,
-    xs: &mut [u32],
-    ys: &mut [u32],
-    heads: &mut [u16],
-    links: &mut [u16],
-    m: usize,
-) -> Slot
+    mids: &mut PairTable<N, H>,
+) -> usize
     requires c_in_bounds { (8 * c + 8 ≤ length cells.now) × (e < 6) }
-    requires edges { Edges xs.old ys.old heads.old links.old 0 m }
-    requires room { Room xs.old ys.old links.old m }
-    ensures { Inserted xs.old ys.old 0 m (edge 0 (cell_at cells.now c) e) xs.new ys.new heads.new links.new
-        result.at result.n }
+    requires edges { Edges mids.old }
+    requires room { Space mids.old 1 }
+    ensures { Inserted mids.old (edge 0 (cell_at cells.now c) e) mids.new result }
 {
     let ends = rows::edge_of(cells, c, e);
-    edges::insert(xs, ys, heads, links, 0, m, ends.a, ends.b)
+    edges::insert(mids, ends.a, ends.b)
 }
 
 // Takes in one edge of a cell: where the pattern splits it, it goes into the table of edges, and its midpoint has a number.
-// Gives how many entries the table has.
-fn split_edge(
+fn split_edge<const N: usize, const H: usize>(
     cells: &[u16],
     c: usize,
     e: usize,
     pattern: u8,
     n: usize,
     points: &mut [u16; 10],
-    xs: &mut [u32],
-    ys: &mut [u32],
-    heads: &mut [u16],
-    links: &mut [u16],
-    m: usize,
-) -> usize
-    requires c_in_bounds { (8 * c + 8 ≤ length cells.now) × (e < 6) × (n + m < 65536) }
-    requires edges { Edges xs.old ys.old heads.old links.old 0 m }
-    requires space { Space xs.old ys.old links.old m (length (split_at pattern (cell_at cells.now c) e)) }
-    ensures grown { Grown xs.old ys.old 0 m (split_at pattern (cell_at cells.now c) e) xs.new ys.new heads.new links.new result }
-    ensures points_value { points.new ≡ marked n (listed xs.new ys.new 0 result) (cell_at cells.now c) pattern e points.old }
+    mids: &mut PairTable<N, H>,
+)
+    requires c_in_bounds { (8 * c + 8 ≤ length cells.now) × (e < 6) × (n + mids.old.n < 65536) }
+    requires mids { Mids mids.old }
+    requires space { Space mids.old (length (split_at pattern (cell_at cells.now c) e)) }
+    ensures grown { Grown mids.old (split_at pattern (cell_at cells.now c) e) mids.new }
+    ensures points_value { points.new ≡ marked n (entries mids.new) (cell_at cells.now c) pattern e points.old }
 {
-    if !is_split(pattern, e) {
-        return m;
+    if is_split(pattern, e) {
+        let at = add_edge(cells, c, e, mids);
+        points[middle_of(e)] = (n + at) as u16;
     }
-    let slot = add_edge(cells, c, e, xs, ys, heads, links, m);
-    let d = middle_of(e);
-    points[d] = (n + slot.at) as u16;
-    slot.n
 }
 
-// The numbers of a cell's ten points, and how many entries the table of edges has.
-#[derive(Clone, Copy)]
-struct Ten {
-    numbers: [u16; 10],
-    m: usize,
-}
-
-// The numbers of a cell's points; the edges that its status splits go into the table of edges, in edge order. A loop over the six is slower
-// (docs/SPEED.md).
-fn points_of(
+// The numbers of a cell's ten points; the edges that its status splits go into the table of edges, in edge order. A loop over the six is
+// slower (docs/SPEED.md).
+fn points_of<const N: usize, const H: usize>(
     cells: &[u16],
     c: usize,
     status: u8,
     n: usize,
-    xs: &mut [u32],
-    ys: &mut [u32],
-    heads: &mut [u16],
-    links: &mut [u16],
-    m: usize,
-) -> Ten
-    requires { ReadyToGrow cells.now xs.old ys.old heads.old links.old c status n m }
-    ensures grown { Grown xs.old ys.old 0 m (split_edges 0 (cell_at cells.now c) status) xs.new ys.new heads.new links.new
-        result.m }
-    ensures points_set { PointsSet n (listed xs.new ys.new 0 result.m) (cell_at cells.now c) (pattern_of status) result.numbers }
+    mids: &mut PairTable<N, H>,
+) -> [u16; 10]
+    requires { ReadyToGrow cells.now mids.old c status n }
+    ensures grown { Grown mids.old (split_edges 0 (cell_at cells.now c) status) mids.new }
+    ensures points_set { PointsSet n (entries mids.new) (cell_at cells.now c) (pattern_of status) result }
 {
     let pattern = pattern_of(status);
     let mut points = corners_of(cells, c);
-    let p = split_edge(
-        cells,
-        c,
-        0,
-        pattern,
-        n,
-        &mut points,
-        xs,
-        ys,
-        heads,
-        links,
-        m,
-    );
-    let q = split_edge(
-        cells,
-        c,
-        1,
-        pattern,
-        n,
-        &mut points,
-        xs,
-        ys,
-        heads,
-        links,
-        p,
-    );
-    let r = split_edge(
-        cells,
-        c,
-        2,
-        pattern,
-        n,
-        &mut points,
-        xs,
-        ys,
-        heads,
-        links,
-        q,
-    );
-    let s = split_edge(
-        cells,
-        c,
-        3,
-        pattern,
-        n,
-        &mut points,
-        xs,
-        ys,
-        heads,
-        links,
-        r,
-    );
-    let t = split_edge(
-        cells,
-        c,
-        4,
-        pattern,
-        n,
-        &mut points,
-        xs,
-        ys,
-        heads,
-        links,
-        s,
-    );
-    let u = split_edge(
-        cells,
-        c,
-        5,
-        pattern,
-        n,
-        &mut points,
-        xs,
-        ys,
-        heads,
-        links,
-        t,
-    );
-    Ten {
-        numbers: points,
-        m: u,
-    }
-}
-
-// The number that a table's row has for a cell that is regular, or not.
-fn flag(regular: bool) -> u16
-    ensures { result ≡ one_if regular }
-{
-    if regular { 1 } else { 0 }
+    split_edge(cells, c, 0, pattern, n, &mut points, mids);
+    split_edge(cells, c, 1, pattern, n, &mut points, mids);
+    split_edge(cells, c, 2, pattern, n, &mut points, mids);
+    split_edge(cells, c, 3, pattern, n, &mut points, mids);
+    split_edge(cells, c, 4, pattern, n, &mut points, mids);
+    split_edge(cells, c, 5, pattern, n, &mut points, mids);
+    points
 }
 
 // The number of the point whose digit stands at a place of the family.
@@ -270,21 +143,22 @@ fn write_child(
     level: u16,
     parent: u16,
     i: usize,
-    regular: u16,
+    regular: bool,
     points: &[u16; 10],
     digits: &[u8; 32],
 )
     requires at_in_bounds { (8 * at + 8 ≤ length cells.old) × (i < 8) }
     requires by_index { (j : ℕ) → get_or digits.now j 0 < 10 }
     ensures { cells.new ≡ written cells.old (8 * at)
-        (level ∷ parent ∷ i ∷ regular ∷ map (λ d. get_or points.now d 0) (four_at digits.now (4 * i))) }
+        (level ∷ parent ∷ i ∷ one_if regular ∷ map (λ d. get_or points.now d 0) (four_at digits.now (4 * i))) }
 {
     let j = 4 * i;
     let p = number(points, digits, j);
     let q = number(points, digits, j + 1);
     let r = number(points, digits, j + 2);
     let s = number(points, digits, j + 3);
-    write_row(cells, at, level, parent, i as u16, regular, p, q, r, s);
+    let row = [level, parent, i as u16, u16::from(regular), p, q, r, s];
+    write_row(cells, at, row);
 }
 
 // Writes the rows of a family, from row `at` on. Gives the row behind them.
@@ -296,107 +170,78 @@ fn write_children(
     regular: bool,
     points: &[u16; 10],
     pattern: u8,
-    digits: &[u8],
-    starts: &[u16],
+    families: &Families,
 ) -> usize
-    requires pattern_bound { (pattern < 64) × (8 * (at + length (family pattern)) ≤ length cells.old) }
-    requires digits_value { digits.now ≡ digit_table }
-    requires starts_value { starts.now ≡ start_table }
+    requires { (pattern < 64) × (8 * (at + length (family pattern)) ≤ length cells.old) }
     ensures value { result ≡ at + length (family pattern) }
     ensures cells_value { cells.new ≡ written cells.old (8 * at)
         (child_rows level parent regular (λ d. get_or points.now d 0) 0 (family pattern)) }
 {
-    let whole = cutting::cut_from(digits, starts, pattern);
-    let count = whole.count as usize;
-    let kind = flag(regular);
+    let family = families.cut(pattern).unwrap();
+    let count = usize::from(family.count);
     for i in 0..count {
-        write_child(cells, at + i, level, parent, i, kind, points, &whole.digits);
+        write_child(
+            cells,
+            at + i,
+            level,
+            parent,
+            i,
+            regular,
+            points,
+            &family.digits,
+        );
     }
     at + count
 }
 
-// The row behind the last one that is written, and how many entries the table of edges has.
-#[derive(Clone, Copy)]
-pub struct Refined {
-    pub at: usize,
-    pub m: usize,
-}
-
-// Writes the family of a cell from row `at` on, on level `level`; a leaf has none.
-fn refine(
+// Writes the family of a cell from row `at` on, on level `level`; a leaf has none. Gives the row behind it.
+fn refine<const N: usize, const H: usize>(
     cells: &mut [u16],
     c: usize,
     status: u8,
     level: u16,
     at: usize,
     n: usize,
-    xs: &mut [u32],
-    ys: &mut [u32],
-    heads: &mut [u16],
-    links: &mut [u16],
-    m: usize,
-    digits: &[u8],
-    starts: &[u16],
-) -> Refined
+    mids: &mut PairTable<N, H>,
+    families: &Families,
+) -> usize
     requires c_lt_at { (c < at) × (status ≤ 64) × (at + size_of status ≤ most_cells) × (8 * (at + size_of status) ≤ length cells.old) }
-    requires ready_to_grow { ReadyToGrow cells.old xs.old ys.old heads.old links.old c status n m }
-    requires digits_value { digits.now ≡ digit_table }
-    requires starts_value { starts.now ≡ start_table }
-    ensures { Laid cells.old xs.old ys.old c status level at n m cells.new xs.new ys.new heads.new links.new result.at
-        result.m }
+    requires ready_to_grow { ReadyToGrow cells.old mids.old c status n }
+    ensures { Laid cells.old mids.old c status level at n cells.new mids.new result }
 {
     if status == 0 {
-        return Refined { at, m };
+        return at;
     }
-    let found = points_of(cells, c, status, n, xs, ys, heads, links, m);
-    let next = write_children(
+    let points = points_of(cells, c, status, n, mids);
+    write_children(
         cells,
         at,
         level,
         c as u16,
         status == 64,
-        &found.numbers,
+        &points,
         pattern_of(status),
-        digits,
-        starts,
-    );
-    Refined {
-        at: next,
-        m: found.m,
-    }
+        families,
+    )
 }
 
-// Writes the families of the cells `first` to `last` - 1, in cell order, from row `at` on, on level `level`.
-pub fn grow_level(
+// Writes the families of the cells `first` to `last` - 1, in cell order, behind these, on level `level`. Gives the row behind them.
+pub fn grow_level<const N: usize, const H: usize>(
     cells: &mut [u16],
     status: &[u8],
     first: usize,
     last: usize,
     level: u16,
-    at: usize,
     n: usize,
-    xs: &mut [u32],
-    ys: &mut [u32],
-    heads: &mut [u16],
-    links: &mut [u16],
-    m: usize,
-    digits: &[u8],
-    starts: &[u16],
-) -> Refined
-    requires roomy { Roomy cells.old xs.old ys.old heads.old links.old status.now first last at n m }
-    requires digits_value { digits.now ≡ digit_table }
-    requires starts_value { starts.now ≡ start_table }
-    ensures { Grows cells.old xs.old ys.old status.now first (last - first) level at n m cells.new xs.new ys.new
-        heads.new links.new result.at result.m }
+    mids: &mut PairTable<N, H>,
+    families: &Families,
+) -> usize
+    requires { Roomy cells.old mids.old status.now first last n }
+    ensures { Grows cells.old mids.old status.now first (last - first) level last n cells.new mids.new result }
 {
-    let mut next = at;
-    let mut k = m;
+    let mut next = last;
     for c in first..last {
-        let r = refine(
-            cells, c, status[c], level, next, n, xs, ys, heads, links, k, digits, starts,
-        );
-        next = r.at;
-        k = r.m;
+        next = refine(cells, c, status[c], level, next, n, mids, families);
     }
-    Refined { at: next, m: k }
+    next
 }

@@ -38,7 +38,7 @@ use Rattle.store.specs.Fetch.{code_at, value_at, fetch_bytes, fetch_after, next_
 use Rattle.store.proofs.Fetching.{before_start}
 use Rattle.store.specs.Hand.{hand_answer, hand_after}
 use Rattle.store.specs.Handing.{refuse_on}
-use Rattle.store.specs.declared.Fetched.{Fetched}
+use Rattle.store.specs.Fetched.{Fetched}
 use Rattle.standing.specs.Busy.{L, pack, HoldsCell, Busy, hand_is, fetch_nothing}
 use Rattle.standing.proofs.Busy.{fetch_some}
 use Rattle.merging.specs.Totals.{grown_of}

@@ -9,8 +9,8 @@ use Rattle.base.specs.Answer.{Answer}
 use Rattle.base.specs.Answer.{Accepted, Refused}
 use Rattle.exchange.specs.Calls.{Start, Step, Fetch, Hand, Program}
 use Rattle.store.specs.Fields.{field, STAGE, ROUND}
-use Rattle.store.specs.declared.Fetched.{Fetched}
-use Rattle.store.specs.declared.Fetched.TheVariants.{Message, Nothing, Refused as FetchRefused}
+use Rattle.store.specs.Fetched.{Fetched}
+use Rattle.store.specs.Fetched.{Message, Nothing, Refused as FetchRefused}
 use Rattle.store.specs.Fetch.{fetch_answer, fetch_bytes, fetch_after}
 use Rattle.store.specs.Hand.{hand_answer, hand_after}
 use Rattle.turns.specs.Start.{start_answer, start_after}

@@ -3,8 +3,8 @@
 // than 4,096; behind them there may be spots.
 #![tactic(auto)]
 
-ghost use Rattle.std.specs.Prelude.{◌≡◌, ◌+◌, ◌-◌, ◌<◌, ◌≤◌, MatchOption};
-ghost use Rattle.spots.specs.Spots.{buckets_of};
+ghost use Rattle.std.specs.Prelude.{◌≡◌, ◌+◌, ◌-◌, ◌<◌, ◌≤◌, length, MatchOption};
+ghost use Rattle.spots.specs.Spots.{buckets_of, may_have};
 ghost use Rattle.pairs.specs.Keys.{bucket, hereb, seek, Keys, Added};
 
 // Room for N pairs, with H heads. The entries from `from` on are looked at; there are n.
@@ -16,6 +16,7 @@ pub struct PairTable<const N: usize, const H: usize> {
     pub links: [u16; N],
     pub from: usize,
     pub n: usize,
+    pub ghost sized: { (length xs ≡ N) × (length ys ≡ N) × (length heads ≡ H) × (length links ≡ N) },
     pub ghost in_order: { Keys xs ys heads links n },
     pub ghost up: { from ≤ n },
 }
@@ -43,6 +44,14 @@ impl<const N: usize, const H: usize> PairTable<N, H> {
             from: 0,
             n: 0,
         }
+    }
+
+    // Makes the table empty.
+    pub fn clear(&mut self)
+        ensures { (self.new.from ≡ 0) × (self.new.n ≡ 0) }
+    {
+        self.heads.fill(65535);
+        (self.from, self.n) = (0, 0);
     }
 
     // Whether entry e is the pair.
@@ -86,5 +95,30 @@ impl<const N: usize, const H: usize> PairTable<N, H> {
         self.heads[b] = n as u16;
         spots::note(&mut self.heads, n, x, y);
         self.n = n + 1;
+    }
+
+    // Whether an entry from `from` on may have x for one of its two numbers. Where it may not, none has.
+    pub fn may_have(&self, x: u32) -> bool
+        ensures { result ≡ may_have self.now.heads self.now.from x }
+    {
+        spots::may_have(&self.heads, self.from, x)
+    }
+
+    // From now on the entries that are added later are looked at, and no other.
+    pub fn start_level(&mut self)
+        ensures from { self.new.from ≡ self.old.n }
+        ensures kept { (self.new.xs ≡ self.old.xs) × (self.new.ys ≡ self.old.ys) × (self.new.n ≡ self.old.n) }
+        ensures searched { (self.new.heads ≡ self.old.heads) × (self.new.links ≡ self.old.links) }
+    {
+        self.from = self.n;
+    }
+
+    // From now on all entries are looked at.
+    pub fn look_at_all(&mut self)
+        ensures from { self.new.from ≡ 0 }
+        ensures kept { (self.new.xs ≡ self.old.xs) × (self.new.ys ≡ self.old.ys) × (self.new.n ≡ self.old.n) }
+        ensures searched { (self.new.heads ≡ self.old.heads) × (self.new.links ≡ self.old.links) }
+    {
+        self.from = 0;
     }
 }

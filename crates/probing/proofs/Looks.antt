@@ -10,8 +10,9 @@ use lib.ListN.{length, get_or}
 use borrow.Author.Tests.{ne_eqb, ltb-true, ltb-false}
 use Rattle.base.specs.Bools.{one_if}
 use Rattle.spots.specs.Spots.{buckets_of}
-use Rattle.pairs.specs.Keys.{hereb, seek, Keys}
-use Rattle.pairs.specs.Chain.{InChain, chain_ended, chain_hit, chain_turn}
+use Rattle.pairs.specs.declared.PairTable.{PairTable}
+use Rattle.pairs.specs.Keys.{hereb, seek, bucket, Keys}
+use Rattle.pairs.specs.Chain.{InChain, chain_start, chain_ended, chain_hit, chain_turn}
 use Rattle.probing.specs.Probed.{Probed}
 
 -- one look: t says whether the bucket has an entry from `from` on, e is that entry or 0, s says whether it is the pair, m whether the chain
@@ -66,3 +67,9 @@ module _ {xs ys heads links : List ℕ} {from n x y : ℕ} (k : Keys xs ys heads
       go : (b : Bool) → ltb from ((h + 1) % 65536) ≡ b → Probed (not (eqb (seek xs ys x y from (n - from)) 65535)) r
       go true q = let (ne, i, f) = entry q in at (hereb xs ys x y e) refl (t_is ∙ rw q) ne i f
       go false q = missing (v.0 (t_is ∙ rw q)) (chain_ended k o h_most (ltb-false from ((h + 1) % 65536) q))
+
+-- where a search in a table starts
+module _ {N H : ℕ} (t : PairTable N H) {x y b : ℕ} where
+  pub start : (b ≡ bucket (buckets_of H) x y) × (b < buckets_of H) × (b < H)
+      → InChain (buckets_of (length t.heads)) t.xs t.ys x y t.from t.n (get_or t.heads b 0)
+  start (e, l, _) = chain_start {x = x} {y = y} t.in_order b (rw t.sized.2 e) (rw t.sized.2 l)

@@ -4,7 +4,6 @@
 use mathlib.Core.Path.{◌≡◌, ◌∙◌}
 use mathlib.Core.Logic.{◌⊎◌, inl, inr, ⊎_elim}
 use mathlib.Core.Bool.{false}
-use mathlib.Core.List.{List}
 use Prim.Native.Nat.{ℕ, ◌-◌, ◌<◌, min, max}
 use native.Mathlib.Decide.{ℕ_discrete, dec_lt}
 use native.Mathlib.Omega.{arith}
@@ -12,7 +11,8 @@ use Rattle.base.specs.Places.{hasb}
 use Rattle.spots.specs.Spots.{Without}
 use Rattle.pairs.specs.Keys.{seek, seek_found}
 use Rattle.edges.specs.Pairs.{sorted, isb}
-use Rattle.edges.specs.Table.{listed, Table}
+use Rattle.pairs.specs.declared.PairTable.{PairTable}
+use Rattle.edges.specs.Table.{entries}
 use Rattle.edges.specs.Seek.{missing}
 use Rattle.probing.specs.Probed.{Unmet}
 
@@ -32,18 +32,19 @@ end_second a b = go (dec_lt a b)
     go (no l) = inl (omega (arith, l))
 
 -- what `may_meet` answers: a search for an edge with a corner that no entry has finds nothing
-module _ (xs ys heads links : List ℕ) (from n : ℕ) (r : Table xs ys heads links from n) (a : ℕ) (w : Without xs ys from n a) where
-  no_entry_lem : (x y : ℕ) → (x ≡ a) ⊎ (y ≡ a) → hasb isb (listed xs ys from n) (x, y) ≡ false
-  no_entry_lem x y o = missing xs ys from x y (n - from) (omega (arith, r.up, r.keys.small)) (go (ℕ_discrete _ 65535))
+module _ {N H : ℕ} (t : PairTable N H) (a : ℕ) (w : Without t.xs t.ys t.from t.n a) where
+  no_entry_lem : (x y : ℕ) → (x ≡ a) ⊎ (y ≡ a) → hasb isb (entries t) (x, y) ≡ false
+  no_entry_lem x y o =
+      missing t.xs t.ys t.from x y (t.n - t.from) (omega (arith, t.up, t.in_order.small)) (go (ℕ_discrete _ 65535))
     where
-      go : Dec (seek xs ys x y from (n - from) ≡ 65535) → seek xs ys x y from (n - from) ≡ 65535
+      go : Dec (seek t.xs t.ys x y t.from (t.n - t.from) ≡ 65535) → seek t.xs t.ys x y t.from (t.n - t.from) ≡ 65535
       go (yes q) = q
       go (no q) =
-          let f = seek_found xs ys x y from (n - from) q in
-          let l : seek xs ys x y from (n - from) < n = omega (arith, f.below, r.up) in
+          let f = seek_found t.xs t.ys x y t.from (t.n - t.from) q in
+          let l : seek t.xs t.ys x y t.from (t.n - t.from) < t.n = omega (arith, f.below, t.up) in
           absurd (⊎_elim (λ p. w.first _ f.above l (f.x_is ∙ p)) (λ p. w.second _ f.above l (f.y_is ∙ p)) o)
 
-  pub none_meets : Unmet (listed xs ys from n) a
+  pub none_meets : Unmet (entries t) a
   unfolding sorted
   none_meets =
       record {

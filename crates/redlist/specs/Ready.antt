@@ -2,14 +2,14 @@
 --   red_of s c            the edges of the cell c where its status s is red
 --   red_count ss          how many statuses are red; count_one_lem: of one status
 --   Ready ..             the cells below `last` have rows, and the edge table is in order with room for k entries more
---   Run ..               the edges es were inserted into tables that are as long as they were
 --   Range ..             the cells from first to last have statuses
 use Rattle.std.specs.Prelude.{◌≡◌, true, false, List, [], ◌∷◌, ℕ, ◌+◌, ◌*◌, ◌≤◌, length}
 use Rattle.std.proofs.Common.{arith}
 use Rattle.base.specs.Bools.{one_if}
 use Rattle.mesh.specs.Cells.{Cell, redb, edges}
 use Rattle.edges.specs.Pairs.{Pair}
-use Rattle.edges.specs.Table.{Edges, Space, Grown}
+use Rattle.pairs.specs.declared.PairTable.{PairTable}
+use Rattle.edges.specs.Table.{Edges, Space}
 
 -- Rule 6.2: what a cell of this status holds as a red one.
 unfoldable pub red_of : ℕ → Cell ℕ → List Pair
@@ -21,17 +21,11 @@ unfolding one_if
 red_count [] = 0
 red_count (s ∷ ss) = one_if (redb s) + red_count ss
 
-pub record Ready (cells xs ys heads links : List ℕ) (last from n k : ℕ) : Type 0 where
+-- the cells below `last` have rows, and k edges more fit into the table
+pub record Ready {N H : ℕ} (cells : List ℕ) (last : ℕ) (t : PairTable N H) (k : ℕ) : Type 0 where
   pub rows : 8 * last ≤ length cells
-  pub table : Edges xs ys heads links from n
-  pub space : Space xs ys links n k
-
-pub record Run (xs₀ ys₀ heads₀ links₀ : List ℕ) (from n : ℕ) (es : List Pair) (xs ys heads links : List ℕ) (m : ℕ) : Type 0 where
-  pub grown : Grown xs₀ ys₀ from n es xs ys heads links m
-  pub same_xs : length xs ≡ length xs₀
-  pub same_ys : length ys ≡ length ys₀
-  pub same_heads : length heads ≡ length heads₀
-  pub same_links : length links ≡ length links₀
+  pub edges : Edges t
+  pub space : Space t k
 
 -- a range of cells whose statuses stand in a list
 pub record Range (status : List ℕ) (first last : ℕ) : Type 0 where

@@ -1,63 +1,21 @@
--- Inserting edges one after the other: how a run of insertions starts, goes on, and what room it leaves.
+-- Inserting edges one after the other: how insertions go on, and what room they leave.
 -- Assumes nothing.
 use Rattle.std.specs.Prelude.{◌≡◌, refl, Bool, true, false, List, [], ◌∷◌, ◌++◌, ℕ, zero, suc, ◌+◌, ◌*◌, ◌-◌, ◌≤◌, ◌<◌, length, get_or, take, drop}
 use Rattle.std.proofs.Math.Path.{sym}
-use Rattle.std.proofs.Common.{◌∙◌, ap, append-nil, append_assoc, zero-add, length-append, take-append-drop, take-suc, length-take-le, take-take, eq-eqb, ne_eqb}
+use Rattle.std.proofs.Common.{◌∙◌, ap, append-nil, append_assoc, zero-add, length-append, take-append-drop, take-suc, take-take, eq-eqb, ne_eqb}
 use native.Mathlib.Omega.{arith}
-use Rattle.pairs.specs.Keys.{Room}
+use Rattle.pairs.specs.declared.PairTable.{PairTable}
 use Rattle.mesh.specs.Cells.{Cell, redb, edge, edges, red_edges}
 use Rattle.base.specs.Bools.{one_if}
 use Rattle.rows.specs.Numbered.{cell_at, cells_at, part}
 use Rattle.edges.specs.Pairs.{Pair}
-use Rattle.edges.specs.Table.{Edges, Space, Grown, grown_none, grown_both}
-use Rattle.redlist.specs.Ready.{Ready, Run, red_of, red_count, count_one_lem}
+use Rattle.edges.specs.Table.{Space, Grown, grown_both}
+use Rattle.redlist.specs.Ready.{red_of, red_count, count_one_lem}
 use Rattle.rows.specs.Laws.{length-cells, length_part, part_more}
 
-pub run_start : (xs ys heads links : List ℕ) (from n : ℕ) → Edges xs ys heads links from n
-    → Run xs ys heads links from n [] xs ys heads links n
-run_start xs ys heads links from n e = record {
-  grown = grown_none xs ys heads links from n e;
-  same_xs = refl;
-  same_ys = refl;
-  same_heads =
-      refl;
-  same_links = refl;
-}
-
-module _ (xs₀ ys₀ heads₀ links₀ : List ℕ) (from n : ℕ) (es : List Pair) (xs ys heads links : List ℕ) (m : ℕ)
-    (r : Run xs₀ ys₀ heads₀ links₀ from n es xs ys heads links m) where
-  pub space_left : (j k : ℕ) → Space xs₀ ys₀ links₀ n k → length es + j ≤ k → Space xs ys links m j
-  space_left j k s h =
-      let most = r.grown.most in
-      record {
-        small = omega (arith, s.small);
-        in_xs = omega (arith, s.in_xs, r.same_xs);
-        in_ys = omega (arith, s.in_ys, r.same_ys);
-        in_links = omega (arith, s.in_links, r.same_links);
-      }
-
-  module _ (xs' ys' heads' links' : List ℕ) (m' : ℕ) (sx : length xs' ≡ length xs) (sy : length ys' ≡ length ys)
-      (sh : length heads' ≡ length heads)
-      (sl : length links' ≡ length links) where
-    pub run_more : (fs : List Pair) → Grown xs ys from m fs xs' ys' heads' links' m' → Run xs₀ ys₀ heads₀ links₀ from n (es ++ fs) xs' ys'
-        heads' links' m'
-    run_more fs g =
-        record {
-          grown = grown_both xs₀ ys₀ from n es fs xs ys heads links m r.grown xs' ys' heads' links' m' g;
-          same_xs = sx ∙ r.same_xs;
-          same_ys = sy ∙ r.same_ys;
-          same_heads = sh ∙ r.same_heads;
-          same_links = sl ∙ r.same_links;
-        }
-
-pub room_one : (xs ys links : List ℕ) (n : ℕ) → Space xs ys links n 1 → Room xs ys links n
-room_one xs ys links n s =
-    record {
-      small = omega (arith, s.small);
-      in_xs = omega (arith, s.in_xs);
-      in_ys = omega (arith, s.in_ys);
-      in_links = omega (arith, s.in_links);
-    }
+pub space_left : {N H : ℕ} {t : PairTable N H} {es : List Pair} {t' : PairTable N H} → Grown t es t' → (j k : ℕ) → Space t k
+    → length es + j ≤ k → Space t' j
+space_left g j k s h = record { small = omega (arith, s.small, g.most); inside = omega (arith, s.inside, g.most) }
 
 -- the edges of a cell, one after the other
 edge_at_lem : (c : Cell ℕ) (e : ℕ) → e < 6 → get_or (edges 0 c) e (0, 0) ≡ edge 0 c e
@@ -77,33 +35,14 @@ six c = refl
 next_edge : (c : Cell ℕ) (e : ℕ) → e < 6 → take (suc e) (edges 0 c) ≡ take e (edges 0 c) ++ (edge 0 c e ∷ [])
 next_edge c e h = take-suc (edges 0 c) e (0, 0) (rw (six c) h) ∙ ap (λ (p : Pair). take e (edges 0 c) ++ (p ∷ [])) (edge_at_lem c e h)
 
-length-edges : (c : Cell ℕ) (e : ℕ) → e ≤ 6 → length (take e (edges 0 c)) ≡ e
-length-edges c e h = length-take-le e (edges 0 c) (rw (six c) h)
-
 pub all_edges : (c : Cell ℕ) → take 6 (edges 0 c) ≡ edges 0 c
 unfolding edges
 all_edges c = refl
 
--- the edges of a cell below e are inserted: there is room for edge e, and with it those below e + 1 are
-module _ (xs₀ ys₀ heads₀ links₀ : List ℕ) (from n : ℕ) (c : Cell ℕ) (e : ℕ) (xs ys heads links : List ℕ) (m : ℕ)
-    (r : Run xs₀ ys₀ heads₀ links₀ from n (take e (edges 0 c)) xs ys heads links m) (h : e < 6) where
-  pub ready_edge : (cells : List ℕ) (last : ℕ) → 8 * last ≤ length cells → Space xs₀ ys₀ links₀ n 6
-      → Ready cells xs ys heads links last from m 1
-  ready_edge cells last b s =
-      record {
-        rows = b;
-        table = r.grown.edges;
-        space = space_left xs₀ ys₀ heads₀ links₀ from n (take e (edges 0 c)) xs ys heads links m r 1 6 s
-            (omega (arith, length-edges c e (omega arith)));
-      }
-
-  pub run_edge : (xs' ys' heads' links' : List ℕ) (m' : ℕ) → length xs' ≡ length xs → length ys' ≡ length ys
-      → length heads' ≡ length heads → length links' ≡ length links → Grown xs ys from m (edge 0 c e ∷ []) xs' ys' heads' links' m'
-      → Run xs₀ ys₀ heads₀ links₀ from n (take (suc e) (edges 0 c)) xs' ys' heads' links' m'
-  run_edge xs' ys' heads' links' m' sx sy sh sl g =
-      rw (next_edge c e h)
-      (run_more xs₀ ys₀ heads₀ links₀ from n (take e (edges 0 c)) xs ys heads links m r xs' ys' heads' links' m' sx sy sh sl
-      (edge 0 c e ∷ []) g)
+-- the edges of a cell below e are inserted, and edge e: then those below e + 1 are
+pub grown_edge : {N H : ℕ} {t t₁ t₂ : PairTable N H} (c : Cell ℕ) (e : ℕ) → e < 6 → Grown t (take e (edges 0 c)) t₁
+    → Grown t₁ (edge 0 c e ∷ []) t₂ → Grown t (take (suc e) (edges 0 c)) t₂
+grown_edge c e h g k = rw (next_edge c e h) (grown_both g k)
 
 -- the red cells of a range, one cell more
 red_snoc : (cs : List (Cell ℕ)) (ss : List ℕ) (c : Cell ℕ) (s : ℕ) → length cs ≡ length ss

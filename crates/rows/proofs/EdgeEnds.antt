@@ -1,8 +1,8 @@
 -- The two corners of an edge in a table of rows.
 -- Assumes nothing.
-use mathlib.Core.Path.{◌≡◌, refl, ap₂}
+use mathlib.Core.Path.{◌≡◌, ap₂}
 use mathlib.Core.List.{List}
-use Prim.Native.Nat.{ℕ, zero, suc, ◌+◌, ◌*◌, ◌-◌, ◌≤◌, ◌<◌}
+use Prim.Native.Nat.{ℕ, zero, suc, ◌+◌, ◌*◌, ◌<◌}
 use native.Mathlib.Omega.{arith}
 use lib.ListN.{get_or}
 use Rattle.mesh.specs.Cells.{edge}
@@ -33,21 +33,3 @@ module _ (t : List ℕ) (k : ℕ) where
   ends_at (suc (suc (suc (suc zero)))) h = ap₂ (λ (a b : ℕ). (a, b)) at1 at3
   ends_at (suc (suc (suc (suc (suc zero))))) h = ap₂ (λ (a b : ℕ). (a, b)) at2 at3
   ends_at (suc (suc (suc (suc (suc (suc e)))))) h = absurd (omega arith)
-
--- the three groups of edges: 0 to 2, 3 and 4, 5
-pub first_ends : (e : ℕ) → e < 3 → (0 ≡ get_or lows e 0) × (e + 1 ≡ get_or highs e 0)
-first_ends zero h = (refl, refl)
-first_ends (suc zero) h = (refl, refl)
-first_ends (suc (suc zero)) h = (refl, refl)
-first_ends (suc (suc (suc e))) h = absurd (omega arith)
-
-pub next_ends : (e : ℕ) → 3 ≤ e → e < 5 → (1 ≡ get_or lows e 0) × (e - 1 ≡ get_or highs e 0)
-next_ends zero g h = absurd (omega arith)
-next_ends (suc zero) g h = absurd (omega arith)
-next_ends (suc (suc zero)) g h = absurd (omega arith)
-next_ends (suc (suc (suc zero))) g h = (refl, refl)
-next_ends (suc (suc (suc (suc zero)))) g h = (refl, refl)
-next_ends (suc (suc (suc (suc (suc e))))) g h = absurd (omega arith)
-
-pub last_ends : (e : ℕ) → 5 ≤ e → e < 6 → (2 ≡ get_or lows e 0) × (3 ≡ get_or highs e 0)
-last_ends e g h = let z : e ≡ 5 = omega arith in (rw z, rw z)

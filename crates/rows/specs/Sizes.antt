@@ -1,14 +1,13 @@
 -- Sizes of statuses and of lists of them.
 -- Assumes nothing.
 use Rattle.std.specs.Prelude.{◌≡◌, refl, true, false, Bool, List, [], ◌∷◌, leb, eqb, length, get_or, drop}
-use Rattle.std.proofs.Common.{sym, ◌∙◌, ap, leb→le, length-drop, drop-cons, take-suc, get_or-drop}
+use Rattle.std.proofs.Common.{sym, ◌∙◌, ap, leb→le, length-drop, take-suc, get_or-drop}
 use Prim.Native.Nat.{ℕ, suc, ◌+◌, ◌-◌, ◌≤◌, ◌<◌}
 use native.Mathlib.Omega.{arith}
-use borrow.Author.Tests.{eq-eqb, ne_eqb, le-leb, lt-leb}
+use borrow.Author.Tests.{eq-eqb, ne_eqb}
 use Rattle.base.specs.Lists.{allb, allb_at}
 use Rattle.cutting.specs.Rule.{family}
-use Rattle.cutting.specs.declared.Family.{Family}
-use Rattle.cutting.specs.Answer.{cut_of, cut_into, cut_of_accepted}
+use Rattle.cutting.specs.Answer.{Cut, cut_of, cut_into, cut_of_accepted}
 use Rattle.cutting.proofs.Rows.{family_few}
 use Rattle.mesh.specs.Cells.{pattern_of}
 use Rattle.mesh.specs.Table.{size_of, sizes}
@@ -38,7 +37,7 @@ size_refined s a = rw (ne_eqb s 0 a, size_of)
 
 pub size_green : (s : ℕ) → (s ≡ 0 → ⊥) → (s ≡ 64 → ⊥) → s ≤ 64 → size_of s ≡ (cut_of s).count
 unfolding cut_into
-size_green s a b h = size_refined s a ∙ rw (pattern_green s b) (sym (ap (λ (f : Family). f.count) (cut_of_accepted s (omega (arith, b)))))
+size_green s a b h = size_refined s a ∙ rw (pattern_green s b) (sym (ap (λ (f : Cut). f.count) (cut_of_accepted s (omega (arith, b)))))
 
 pub green_few : (s : ℕ) → (s ≡ 64 → ⊥) → s ≤ 64 → (cut_of s).count ≤ 8
 unfolding cut_into
@@ -68,13 +67,3 @@ sizes_none l first = let e : first - first ≡ 0 = omega arith in rw e
 
 pub status_fits : (l : List ℕ) → allb (λ s. leb s 64) l ≡ true → (c : ℕ) → c < length l → get_or l c 0 ≤ 64
 status_fits l t c h = leb→le (get_or l c 0) 64 (allb_at (λ s. leb s 64) 0 l (rw t tt) c h)
-
--- a scan of the statuses
-module _ (l : List ℕ) (c : ℕ) (h : c < length l) where
-  pub fits_not : 64 < get_or l c 0 → allb (λ s. leb s 64) (drop c l) ≡ false
-  unfolding allb
-  fits_not g = rw (drop-cons l c 0 h, lt-leb (get_or l c 0) 64 g)
-
-  pub fits_next : get_or l c 0 ≤ 64 → allb (λ s. leb s 64) (drop c l) ≡ allb (λ s. leb s 64) (drop (c + 1) l)
-  unfolding allb
-  fits_next g = let w : c + 1 ≡ suc c = omega arith in rw (drop-cons l c 0 h, le-leb (get_or l c 0) 64 g, w)

@@ -17,39 +17,35 @@ pub struct Ends {
 }
 
 // The first corner of an edge. A constant list would be copied at each read (docs/SPEED.md); so it is for the second.
-fn low_of(e: usize) -> usize
+pub fn low_corner(e: usize) -> usize
     requires { e < 6 }
     ensures { (result ≡ get_or lows e 0) × (result < 4) }
 {
-    if e < 3 {
-        return 0;
+    match e {
+        0..=2 => 0,
+        3 | 4 => 1,
+        _ => 2,
     }
-    if e < 5 {
-        return 1;
-    }
-    2
 }
 
 // The second corner of an edge.
-fn high_of(e: usize) -> usize
+pub fn high_corner(e: usize) -> usize
     requires { e < 6 }
     ensures { (result ≡ get_or highs e 0) × (result < 4) }
 {
-    if e < 3 {
-        return e + 1;
+    match e {
+        0..=2 => e + 1,
+        3 | 4 => e - 1,
+        _ => 3,
     }
-    if e < 5 {
-        return e - 1;
-    }
-    3
 }
 
 pub fn edge_of(cells: &[u16], c: usize, e: usize) -> Ends
     requires { (8 * c + 8 ≤ length cells.now) × (e < 6) }
     ensures { (result.a, result.b) ≡ edge 0 (cell_at cells.now c) e }
 {
-    let a = 8 * c + 4 + low_of(e);
-    let b = 8 * c + 4 + high_of(e);
+    let a = 8 * c + 4 + low_corner(e);
+    let b = 8 * c + 4 + high_corner(e);
     Ends {
         a: cells[a],
         b: cells[b],
@@ -68,14 +64,7 @@ pub fn is_regular(cells: &[u16], c: usize) -> bool
 pub fn fits(status: &[u8]) -> bool
     ensures { result ≡ allb (λ s. leb s 64) status.now }
 {
-    let mut c = 0;
-    while c < status.len() {
-        if status[c] > 64 {
-            return false;
-        }
-        c += 1;
-    }
-    true
+    status.iter().all(|s| *s <= 64)
 }
 
 // The number of children of a cell with this status.
@@ -83,13 +72,11 @@ pub fn size_of(status: u8) -> usize
     requires { status ≤ 64 }
     ensures { (result ≡ size_of status) × (result ≤ 8) }
 {
-    if status == 0 {
-        return 0;
+    match status {
+        0 => 0,
+        64 => 8,
+        _ => usize::from(cutting::count(status)),
     }
-    if status == 64 {
-        return 8;
-    }
-    cutting::count(status) as usize
 }
 
 // The number of children of the cells from first to last.
@@ -99,10 +86,8 @@ pub fn level_size(status: &[u8], first: usize, last: usize) -> usize
     ensures { result ≡ sizes (part status.now first (last - first)) }
 {
     let mut n = 0;
-    let mut c = first;
-    while c < last {
+    for c in first..last {
         n += size_of(status[c]);
-        c += 1;
     }
     n
 }

@@ -3,17 +3,16 @@
 --   keys_in t a b          the edges of the cells from a to b, each once, in the order of their first appearance
 --   slots_to t fs k        how many edges the levels below k have, where fs has the first cell of each level
 --   Rising fs             each level begins where or after the one below it begins, and there are at most 4,096 cells
---   OneMore ..            what one edge more leaves
+--   Table                 a table of edges with room for all
 --   LevelDone ..          what a level leaves
 --   Slotted t fs sl st    sl has the slot of each edge, st the first slot of each level
-use Rattle.std.specs.Prelude.{◌≡◌, List, [], map, ℕ, zero, suc, ◌+◌, ◌*◌, ◌-◌, ◌/◌, ◌%◌, ◌≤◌, ◌<◌, length, get_or, set}
+use Rattle.std.specs.Prelude.{◌≡◌, List, [], map, ℕ, zero, suc, ◌+◌, ◌*◌, ◌-◌, ◌/◌, ◌%◌, ◌≤◌, ◌<◌, length, get_or}
 use Rattle.base.specs.Limits.{most_cells, most_levels, most_slots}
 use Rattle.base.specs.Places.{place_in}
 use Rattle.base.specs.Range.{range}
 use Rattle.mesh.specs.Cells.{edge}
-use Rattle.pairs.specs.Keys.{Keys}
-use Rattle.edges.specs.Pairs.{Pair, sorted, isb, add_pair, add_pairs}
-use Rattle.edges.specs.Table.{listed, Edges}
+use Rattle.pairs.specs.declared.PairTable.{PairTable}
+use Rattle.edges.specs.Pairs.{Pair, sorted, isb, add_pairs}
 use Rattle.rows.specs.Numbered.{cell_at}
 
 -- Rule 5.4.
@@ -36,18 +35,13 @@ pub record Rising (fs : List ℕ) : Type 0 where
   pub up : (k : ℕ) → k < most_levels → get_or fs k 0 ≤ get_or fs (suc k) 0
   pub most : (k : ℕ) → k < most_levels + 1 → get_or fs k 0 ≤ most_cells
 
-pub record OneMore (t : List ℕ) (i : ℕ) (xs ys : List ℕ) (from n : ℕ) (sl xs' ys' heads' links' sl' : List ℕ) (n' : ℕ) : Type 0 where
-  pub edges : Edges xs' ys' heads' links' from n'
-  pub list : listed xs' ys' from n' ≡ add_pair (listed xs ys from n) (edge_at t i)
-  pub more : n ≤ n'
-  pub one : n' ≤ n + 1
-  pub slot : sl' ≡ set sl i (from + place_in isb (listed xs' ys' from n') (sorted (edge_at t i)))
+abbrev pub Table : Type 0
+Table = PairTable most_slots 4096
 
-pub record LevelDone (t : List ℕ) (first last n : ℕ) (sl xs' ys' heads' links' sl' : List ℕ) (m : ℕ) : Type 0 where
-  pub keys : Keys xs' ys' heads' links' m
-  pub count : m ≡ n + length (keys_in t first last)
-  pub few : m ≤ n + (6 * last - 6 * first)
-  pub slots : (j : ℕ) → 6 * first ≤ j → j < 6 * last → get_or sl' j 0 ≡ n + place_in isb (keys_in t first last) (sorted (edge_at t j))
+pub record LevelDone (t : List ℕ) (first last : ℕ) (w : Table) (sl : List ℕ) (w' : Table) (sl' : List ℕ) : Type 0 where
+  pub count : w'.n ≡ w.n + length (keys_in t first last)
+  pub few : w'.n ≤ w.n + (6 * last - 6 * first)
+  pub slots : (j : ℕ) → 6 * first ≤ j → j < 6 * last → get_or sl' j 0 ≡ w.n + place_in isb (keys_in t first last) (sorted (edge_at t j))
   pub kept : (j : ℕ) → j < 6 * first → get_or sl' j 0 ≡ get_or sl j 0
 
 pub record Slotted (t fs sl st : List ℕ) : Type 0 where

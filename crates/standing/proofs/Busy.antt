@@ -8,7 +8,7 @@ use Rattle.exchange.specs.Protocol.{with_queue}
 use Rattle.rounds.specs.Task.{Task}
 use Rattle.store.specs.Fields.{field, STAGE, PART, PARTS, CELLS, ROUND, CURSOR, OWNER, RED, HOLDERS, SUM}
 use Rattle.store.specs.Fields.{TOTAL, HIGH, FIRST_ENDED, FIRST_TAKEN, GIVEN, WRITTEN}
-use Rattle.store.specs.declared.Fetched.TheVariants.{Message}
+use Rattle.store.specs.Fetched.{Message}
 use Rattle.store.specs.Fetch.{next_to_give, given, passed_by, fetch_answer, fetch_bytes, fetch_after}
 use Rattle.store.proofs.Fetching.{some_left}
 use Rattle.standing.specs.Walk.{passed_entry}

@@ -24,7 +24,7 @@ use Rattle.store.specs.Fields.{field, full, STAGE, PART, PARTS, CELLS, LEVELS, R
 use Rattle.store.specs.Fields.{TOTAL, HIGH, ENDED, FIRST_ENDED, FIRST_TAKEN, TAKEN}
 use Rattle.store.specs.Header.{stageb, headerb}
 use Rattle.store.specs.Message.{message_of}
-use Rattle.store.specs.declared.Fetched.TheVariants.{Nothing}
+use Rattle.store.specs.Fetched.{Nothing}
 use Rattle.store.specs.Fetch.{entry_count, next_to_give, fetch_answer, fetch_bytes, fetch_after}
 use Rattle.store.proofs.Fetching.{none_left}
 use Rattle.store.specs.Hand.{number_at, shapeb, routeb, contentb, wellb, hand_answer}

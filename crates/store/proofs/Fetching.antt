@@ -9,8 +9,8 @@ use borrow.Author.Tests.{eq-eqb, ne_eqb, lt-ltb, le-ltb, le-leb, lt-leb}
 use Rattle.store.specs.Fields.{field, full, STAGE, PART, CURSOR, BIT, WRITTEN, most_entries}
 use Rattle.store.specs.Header.{headerb}
 use Rattle.store.specs.declared.Spot.{Spot}
-use Rattle.store.specs.declared.Fetched.{Fetched}
-use Rattle.store.specs.declared.Fetched.TheVariants.{Message, Nothing, Refused}
+use Rattle.store.specs.Fetched.{Fetched}
+use Rattle.store.specs.Fetched.{Message, Nothing, Refused}
 use Rattle.store.specs.Fetch.{entry_count, receivers_at, bit_from, seek_from, next_to_give, given, passed_by, fetch_refusal, found_of}
 use Rattle.store.specs.Fetch.{fetch_answer, givesb, fetch_bytes, fetch_after}
 use Rattle.store.proofs.Seek.{seek_out}

@@ -12,8 +12,8 @@ use Rattle.store.specs.Fields.{field, full, STAGE, PART, CURSOR, BIT, WRITTEN, G
 use Rattle.store.specs.Header.{headerb}
 use Rattle.store.specs.Message.{message_of}
 use Rattle.store.specs.declared.Spot.{Spot}
-use Rattle.store.specs.declared.Fetched.{Fetched}
-use Rattle.store.specs.declared.Fetched.TheVariants.{Message, Nothing, Refused}
+use Rattle.store.specs.Fetched.{Fetched}
+use Rattle.store.specs.Fetched.{Message, Nothing, Refused}
 
 unfoldable pub entry_count : List ℕ → ℕ
 entry_count x = elim (ltb (field x WRITTEN) most_entries) [ true ↦ field x WRITTEN | false ↦ most_entries ]

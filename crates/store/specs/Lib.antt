@@ -1,6 +1,7 @@
 pub mod Fields
 pub mod Header
 pub mod Message
+pub mod Fetched
 pub mod Fetch
 pub mod Hand
 pub mod Headed

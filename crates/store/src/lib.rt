@@ -1,5 +1,5 @@
-// A part's store and the calls that carry messages, as definitions on numbers: see specs/. The types that the calls answer with, and
-// places of cells.
+// A part's store and the calls that carry messages, as definitions on numbers: see specs/. Offsets of the store, places of
+// messages and of cells.
 #![tactic(auto)]
 
 ghost use Rattle.std.specs.Prelude.{◌≡◌, ◌+◌, ◌*◌, ◌^◌, ◌%◌, ◌<◌};
@@ -139,13 +139,6 @@ pub struct Spot {
     pub bit: usize,
 }
 
-#[derive(Clone, Copy)]
-pub enum Fetched {
-    Message(usize),
-    Nothing,
-    Refused(u8),
-}
-
 // A cell's place under its coarse cell: 256 times its level and the coarse cell; child numbers 1 to 5, and 6 to 10, base 8.
 #[derive(Clone, Copy)]
 pub struct Place {
@@ -169,22 +162,18 @@ pub fn child_place(p: Place, i: u16) -> Place
     let level = p.head as usize / 256;
     let head = ((p.head as usize + 256) % 65536) as u16;
     if level < 5 {
-        return Place {
+        Place {
             head,
             digits: with_number(p.digits, i, level),
-            more: p.more,
-        };
-    }
-    if level < 10 {
-        return Place {
+            ..p
+        }
+    } else if level < 10 {
+        Place {
             head,
-            digits: p.digits,
             more: with_number(p.more, i, level - 5),
-        };
-    }
-    Place {
-        head,
-        digits: p.digits,
-        more: p.more,
+            ..p
+        }
+    } else {
+        Place { head, ..p }
     }
 }

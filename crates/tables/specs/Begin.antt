@@ -13,8 +13,9 @@ use Rattle.mesh.specs.Cells.{none, red_edges}
 use Rattle.mesh.specs.Weights.{coarse_cells}
 use Rattle.mesh.specs.Table.{cells_of}
 use Rattle.mesh.specs.Layout.{coarse_corners, corners_from, row_of, child_number}
-use Rattle.pairs.specs.Keys.{Clear}
+use Rattle.pairs.specs.declared.PairTable.{PairTable}
 use Rattle.edges.specs.Pairs.{pairs_of}
+use Rattle.edges.specs.Table.{entries}
 use Rattle.edges.specs.Seek.{none_listed}
 use Rattle.lattice.specs.Levels.{fours_four}
 use Rattle.numbering.specs.Corners.{corners_start}
@@ -35,20 +36,24 @@ rows_coarse : (qs : List (List ℕ)) → flat_map row_of (coarse_numbers qs) ≡
 unfolding coarse_numbers
 rows_coarse qs = rows_from_lem 0 qs
 
-module _ (n : ℕ) (mesh ss : List ℕ) (s : Mesh n mesh) (ps qs heads' links' : List ℕ) (mid : Clear heads') where
+module _ (n : ℕ) (mesh ss : List ℕ) (s : Mesh n mesh) {M K : ℕ} (mids : PairTable M K) (all : mids.from ≡ 0) (empty : mids.n ≡ 0) where
   abbrev fs : List (List ℕ)
   fs = fours mesh
 
+  no_entries : entries mids ≡ []
+  unfolding pairs_of
+  no_entries = rw (all, empty)
+
   module _ (rows : List ℕ) (count : ℕ) (c : count ≡ length fs) (t : take (8 * count) rows ≡ flat_map coarse_row fs) where
-    pub laying_start : Laying n fs ss 0 0 count rows ps qs heads' links' 0
-    unfolding reached_start cells_of flat_map corners_from coarse_cells pairs_of
+    pub laying_start : Laying n fs ss 0 0 count rows mids
+    unfolding reached_start cells_of flat_map corners_from coarse_cells
     laying_start =
         let q = fours_four mesh in
         record {
           cells = coarse_cells n fs;
           corners = coarse_corners n;
           reached = reached_start n fs ss;
-          stage = stage_start n fs q s.cells;
+          stage = rw no_entries (stage_start n fs q s.cells);
           low = omega arith;
           some = omega (arith, length-coarse n fs, length-fours mesh, s.some, s.whole);
           end = omega (arith, length-coarse n fs);
@@ -58,14 +63,15 @@ module _ (n : ℕ) (mesh ss : List ℕ) (s : Mesh n mesh) (ps qs heads' links' :
           deep = deep_coarse n 0 fs;
           children = child_coarse n count 0 fs;
           table = t ∙ sym (ap (flat_map row_of) (coarse_numbers_lem n (coarse_corners n) [] (corners_start n) fs q s.cells) ∙ rows_coarse fs);
-          mids = record { edges = none_listed ps qs heads' links' 0 (mid.empty ps qs links'); few = omega arith };
+          new = record { all = all; distinct = none_listed mids (all ∙ sym empty) };
+          few_new = omega arith;
         }
 
-    pub here_start : (xs ys heads links : List ℕ) → Clear heads → Here n fs ss 0 0 count rows xs ys heads links 0 ps qs heads' links' 0
+    pub here_start : {N H : ℕ} (red : PairTable N H) → red.n ≡ 0 → Here n fs ss 0 0 count rows red mids
     unfolding laying_start reached_start cells_of flat_map red_edges hasb pairs_of
-    here_start xs ys heads links red =
+    here_start red none =
         record {
           laying = laying_start;
-          red = record { has = λ p. refl };
-          reds = record { keys = red.empty xs ys links; few = omega arith };
+          reds = rw none (record { has = λ p. refl });
+          few = omega arith;
         }

@@ -15,7 +15,8 @@ use Rattle.mesh.specs.Weights.{Point}
 use Rattle.mesh.specs.Table.{next, cells_of, soundb, sizes}
 use Rattle.mesh.specs.Layout.{Corner, coarse_corners, corners_from, row_of, map_cell, number_in}
 use Rattle.edges.specs.Pairs.{Pair, sorted, isb, add_pairs, pairs_of}
-use Rattle.edges.specs.Table.{Grown, listed}
+use Rattle.pairs.specs.declared.PairTable.{PairTable}
+use Rattle.edges.specs.Table.{entries, listed}
 use Rattle.rows.specs.Numbered.{cells_at, part, ends_from}
 use Rattle.base.specs.Every.{All, all_append, all_more}
 use Rattle.base.specs.Each.{allb-take}
@@ -32,7 +33,7 @@ use Rattle.growth.specs.Level.{Grows, Roomy}
 use Rattle.rows.specs.Sizes.{status_fits}
 use Rattle.rows.specs.Many.{length-next}
 use Rattle.tables.specs.Levels.{reached_short, reached_more, reached_high, reached_open, reached_next, reached_end}
-use Rattle.tables.specs.Checked.{Statuses, Reds, own_cells, own_statuses, own_reds}
+use Rattle.tables.specs.Checked.{Statuses, Listed, own_cells, own_statuses, own_reds, own_closed}
 use Rattle.tables.specs.Here.{Laying, Here, Roof, Top, Child}
 use Rattle.tables.specs.Cells.{strip, cells_at_lem, red_strip, closed_strip, ends_strip, points_strip}
 use Rattle.tables.specs.Rising.{deep_next, child_next}
@@ -112,8 +113,8 @@ deep_in ks l (c ∷ cs) t = go (eqb (length c.path) l) t (deep_in ks l cs)
     go true u i = i u
     go false u i = u
 
-module _ (n : ℕ) (qs : List (List ℕ)) (ss : List ℕ) (j first last : ℕ) (rows ps ps' heads' links' : List ℕ) (m : ℕ)
-    (h : Laying n qs ss j first last rows ps ps' heads' links' m) where
+module _ {n : ℕ} {qs : List (List ℕ)} {ss : List ℕ} {j first last : ℕ} {rows : List ℕ}
+    {M K : ℕ} {mids : PairTable M K} (h : Laying n qs ss j first last rows mids) where
   abbrev before : List (Cell Point)
   before = cells_of h.reached.done
 
@@ -148,7 +149,7 @@ module _ (n : ℕ) (qs : List (List ℕ)) (ss : List ℕ) (j first last : ℕ) (
   reds_are : own_reds rows ss first last ≡ red_edges 0 (numbered_cells h.corners h.cells) own
   reds_are = rw (cells_are, own_is) (red_strip (numbered_cells h.corners h.cells) own)
 
-  pub closed_are : closed_from 0 eqb (own_reds rows ss first last) (own_cells rows ss first last) (own_statuses rows ss first last)
+  pub closed_are : own_closed rows ss first last
       ≡ closed_from [] sameb (red_edges [] h.cells own) h.cells own
   closed_are =
       rw (reds_are, cells_are, own_is)
@@ -168,29 +169,26 @@ module _ (n : ℕ) (qs : List (List ℕ)) (ss : List ℕ) (j first last : ℕ) (
   fails_high e g l = reached_high n qs ss j first h.cells h.reached h.low h.some e (omega (arith, ap sizes own_is))
       (omega (arith, h.end))
 
-  pub fails_open : closed_from 0 eqb (own_reds rows ss first last) (own_cells rows ss first last) (own_statuses rows ss first last) ≡ false
+  pub fails_open : own_closed rows ss first last ≡ false
       → soundb n qs ss ≡ false
   fails_open e = reached_open n qs ss j first h.cells h.reached h.low h.some (sym closed_are ∙ e)
 
   -- What is listed after the level's red edges are.
-  module _ (xs ys : List ℕ) (k : ℕ) (xs' ys' heads'' links'' : List ℕ) (k' : ℕ)
-      (g : Grown xs ys k k (own_reds rows ss first last) xs' ys' heads'' links'' k')
-      (red : Lists (listed xs ys 0 k) (red_edges 0 (numbered_cells h.corners before) (take first ss))) where
-    both : (p : Pair) → hasb isb (listed xs' ys' 0 k') p
-        ≡ (hasb isb (listed xs ys 0 k) p || hasb isb (map sorted (red_edges 0 (numbered_cells h.corners h.cells) own)) p)
+  module _ {N H : ℕ} {t t' : PairTable N H} (g : Listed t (own_reds rows ss first last) t')
+      (reds : Lists (listed t.xs t.ys 0 t.n) (red_edges 0 (numbered_cells h.corners before) (take first ss))) where
+    both : (p : Pair) → hasb isb (listed t'.xs t'.ys 0 t'.n) p
+        ≡ (hasb isb (listed t.xs t.ys 0 t.n) p || hasb isb (map sorted (red_edges 0 (numbered_cells h.corners h.cells) own)) p)
     unfolding pairs_of
     both p =
-        let e : k' - 0 ≡ k + (k' - k) = omega (arith, g.more) in
-        let z : 0 + k ≡ k = omega arith in
-        let u : k - 0 ≡ k = omega arith in
-        let d : k - k ≡ 0 = omega arith in
-        let new : listed xs' ys' k k' ≡ add_pairs [] (own_reds rows ss first last) = g.list ∙ rw d in
-        let new₀ : pairs_of xs' ys' (0 + k) (k' - k) ≡ add_pairs [] (own_reds rows ss first last) = rw z new in
-        let old : pairs_of xs' ys' 0 k ≡ listed xs ys 0 k = rw u
-        (pairs_kept xs ys xs' ys' k g.kept_xs g.kept_ys 0 k (omega arith)) in
-        let all : listed xs' ys' 0 k' ≡ listed xs ys 0 k ++ add_pairs [] (own_reds rows ss first last) =
-        rw e (pairs_split xs' ys' 0 k (k' - k) ∙ ap₂ ◌++◌ old new₀) in
-        rw all (has_append isb (listed xs ys 0 k) (add_pairs [] (own_reds rows ss first last)) p
+        let e : t'.n - 0 ≡ t.n + (t'.n - t.n) = omega (arith, g.more) in
+        let z : 0 + t.n ≡ t.n = omega arith in
+        let u : t.n - 0 ≡ t.n = omega arith in
+        let new : pairs_of t'.xs t'.ys (0 + t.n) (t'.n - t.n) ≡ add_pairs [] (own_reds rows ss first last) = rw z g.list in
+        let old : pairs_of t'.xs t'.ys 0 t.n ≡ listed t.xs t.ys 0 t.n = rw u
+        (pairs_kept t.xs t.ys t'.xs t'.ys t.n g.kept_xs g.kept_ys 0 t.n (omega arith)) in
+        let all : listed t'.xs t'.ys 0 t'.n ≡ listed t.xs t.ys 0 t.n ++ add_pairs [] (own_reds rows ss first last) =
+        rw e (pairs_split t'.xs t'.ys 0 t.n (t'.n - t.n) ∙ ap₂ ◌++◌ old new) in
+        rw all (has_append isb (listed t.xs t.ys 0 t.n) (add_pairs [] (own_reds rows ss first last)) p
         ∙ rw ((lists_added (own_reds rows ss first last)).has p, reds_are))
 
     red_halves : red_edges 0 (numbered_cells h.corners (before ++ h.cells)) (take last ss)
@@ -201,12 +199,12 @@ module _ (n : ℕ) (qs : List (List ℕ)) (ss : List ℕ) (j first last : ℕ) (
         rw halves (red_append (numbered_cells h.corners before) (numbered_cells h.corners h.cells) (take last ss)
         ∙ rw (counted, a, b))
 
-    reds_after : Lists (listed xs' ys' 0 k') (red_edges 0 (numbered_cells h.corners (before ++ h.cells)) (take last ss))
+    reds_after : Lists (listed t'.xs t'.ys 0 t'.n) (red_edges 0 (numbered_cells h.corners (before ++ h.cells)) (take last ss))
     reds_after =
         record {
           has = λ p.
               both p ∙ ap (λ (b : Bool). b || hasb isb (map sorted (red_edges 0 (numbered_cells h.corners h.cells) own)) p)
-              (red.has p)
+              (reds.has p)
               ∙ sym (rw (
                 red_halves,
                 map-append sorted (red_edges 0 (numbered_cells h.corners before) (take first ss))
@@ -218,23 +216,18 @@ module _ (n : ℕ) (qs : List (List ℕ)) (ss : List ℕ) (j first last : ℕ) (
 
   -- The next level has room.
   pub laying_room : (st : Statuses ss) → last + sizes (own_statuses rows ss first last) ≤ length ss → n ≤ 512 → 8 * length ss ≤ length rows
-      → length ss ≤ length ps → length ss ≤ length ps' → length ss ≤ length links'
-      → Roomy rows ps ps' heads' links' ss first last last n m
-  laying_room st fit c long lp lq ll =
-      let d = h.mids in
+      → length ss ≤ M → Roomy rows mids ss first last n
+  laying_room st fit c long room =
       record {
         rise = omega (arith, h.end);
-        done = omega arith;
         statuses = omega arith;
         small = λ i a b. status_fits ss st.fit i (omega arith);
         in_cells = omega arith;
         most = omega (arith, st.few);
         coarse = c;
-        few = d.few;
-        edges = d.edges;
-        in_xs = omega arith;
-        in_ys = omega arith;
-        in_links = omega arith;
+        few = h.few_new;
+        mids = h.new;
+        in_mids = omega arith;
       }
 
   -- The next level.
@@ -242,8 +235,8 @@ module _ (n : ℕ) (qs : List (List ℕ)) (ss : List ℕ) (j first last : ℕ) (
       (st : Statuses ss)
       (fit : last + sizes (own_statuses rows ss first last) ≤ length ss) (grows : 0 < sizes (own_statuses rows ss first last))
       (long : 8 * length ss ≤ length rows)
-      (rows' : List ℕ) (ps₁ ps₁' heads₁ links₁ : List ℕ) (last' m' : ℕ)
-      (g : Grows rows ps ps' ss first (last - first) (suc j) last n m rows' ps₁ ps₁' heads₁ links₁ last' m') where
+      {rows' : List ℕ} {mids' : PairTable M K} {last' : ℕ}
+      (g : Grows rows mids ss first (last - first) (suc j) last n rows' mids' last') where
     abbrev up : List (Cell Point)
     up = next first h.cells own
 
@@ -253,12 +246,12 @@ module _ (n : ℕ) (qs : List (List ℕ)) (ss : List ℕ) (j first last : ℕ) (
     refined : Refined h.cells own
     refined = closed_follows [] sameb (red_edges [] h.cells own) h.cells own (rw w tt)
 
-    step : NextStage n j first h.corners (listed ps ps' 0 m) h.cells own ks'
-        (ends_from (listed ps ps' 0 m) (numbered_cells h.corners h.cells) own)
-    step = stage_next n j first h.corners (listed ps ps' 0 m) h.cells own h.stage high refined
+    step : NextStage n j first h.corners (entries mids) h.cells own ks'
+        (ends_from (entries mids) (numbered_cells h.corners h.cells) own)
+    step = stage_next n j first h.corners (entries mids) h.cells own h.stage high refined
 
-    ends_are : listed ps₁ ps₁' 0 m' ≡ ends_from (listed ps ps' 0 m) (numbered_cells h.corners h.cells) own
-    ends_are = g.list ∙ rw (cells_are, own_is) (ends_strip (listed ps ps' 0 m) (numbered_cells h.corners h.cells) own)
+    ends_are : entries mids' ≡ ends_from (entries mids) (numbered_cells h.corners h.cells) own
+    ends_are = g.list ∙ rw (cells_are, own_is) (ends_strip (entries mids) (numbered_cells h.corners h.cells) own)
 
     same_length : length h.cells ≡ length own
     same_length = sym (length_part ss first (length h.cells) (omega (arith, h.end)))
@@ -275,20 +268,20 @@ module _ (n : ℕ) (qs : List (List ℕ)) (ss : List ℕ) (j first last : ℕ) (
     fits_part : T (allb (λ s. leb s 64) own)
     fits_part = part_fits ss st.fit first (length h.cells)
 
-    new_rows : rows_all (suc j) n (listed ps₁ ps₁' 0 m') first (cells_at rows first (last - first)) (part ss first (last - first)) ≡ flat_map
+    new_rows : rows_all (suc j) n (entries mids') first (cells_at rows first (last - first)) (part ss first (last - first)) ≡ flat_map
         row_of (numbered_cells ks' up)
     new_rows =
         rw (cells_are, own_is, ends_are)
-        (rows_next (suc j) n (ends_from (listed ps ps' 0 m) (numbered_cells h.corners h.cells) own) (omega arith) first
+        (rows_next (suc j) n (ends_from (entries mids) (numbered_cells h.corners h.cells) own) (omega arith) first
         (map strip (numbered_cells h.corners h.cells)) (numbered_cells h.corners h.cells) own
         (points_strip (numbered_cells h.corners h.cells)) (deep_in h.corners (suc j) h.cells h.deep)
         ∙ ap (flat_map row_of) step.cells)
 
     table_is : take (8 * last') rows' ≡ flat_map row_of (numbered_cells ks' ((before ++ h.cells) ++ up))
     table_is =
-        let vs = rows_all (suc j) n (listed ps₁ ps₁' 0 m') first (cells_at rows first (last - first)) (part ss first (last - first)) in
+        let vs = rows_all (suc j) n (entries mids') first (cells_at rows first (last - first)) (part ss first (last - first)) in
         let lv : length vs ≡ 8 * sizes own =
-        rw (cells_are, own_is) (length-rows_of (suc j) n (listed ps₁ ps₁' 0 m') first (map strip (numbered_cells h.corners h.cells)) own
+        rw (cells_are, own_is) (length-rows_of (suc j) n (entries mids') first (map strip (numbered_cells h.corners h.cells)) own
         (length-map (numbered_cells h.corners h.cells) strip ∙ length_in h.corners h.cells ∙ same_length) fits_part) in
         let e : 8 * last' ≡ 8 * last + length vs = omega (arith, lv, end_is, length_up) in
         let room : 8 * last + length vs ≤ length rows = omega (arith, lv, long, ap sizes own_is) in
@@ -306,7 +299,7 @@ module _ (n : ℕ) (qs : List (List ℕ)) (ss : List ℕ) (j first last : ℕ) (
         let b : drop first (take last ss) ≡ own = rw h.end (drop-take first (length h.cells) ss) in
         corners_append (coarse_corners n) before h.cells (take last ss) ∙ rw (h.reached.counted, a, b, h.named)
 
-    pub laying_next : Laying n qs ss (suc j) last last' rows' ps₁ ps₁' heads₁ links₁ m'
+    pub laying_next : Laying n qs ss (suc j) last last' rows' mids'
     laying_next =
         let r = reached_next n qs ss j first h.cells h.reached h.low h.some last h.end w in
         let b : cells_of r.reached.done ≡ before ++ h.cells = r.before in
@@ -328,21 +321,21 @@ module _ (n : ℕ) (qs : List (List ℕ)) (ss : List ℕ) (j first last : ℕ) (
               (all_more (Child last) (Child last') mono (before ++ h.cells) h.children)
               (child_next last' first h.cells own (omega (arith, h.end, end_is))));
           table = rw b table_is;
-          mids = record { edges = g.edges; few = g.few };
+          new = g.mids;
+          few_new = g.few;
         }
 
-    module _ (xs ys : List ℕ) (k : ℕ) (xs' ys' heads'' links'' : List ℕ) (k' : ℕ)
-        (grown : Grown xs ys k k (own_reds rows ss first last) xs' ys' heads'' links'' k')
-        (red : Lists (listed xs ys 0 k) (red_edges 0 (numbered_cells h.corners before) (take first ss)))
-        (reds : Reds xs' ys' heads'' links'' k' last') where
-      pub here_next : Here n qs ss (suc j) last last' rows' xs' ys' heads'' links'' k' ps₁ ps₁' heads₁ links₁ m'
+    module _ {N H : ℕ} {t t' : PairTable N H} (g' : Listed t (own_reds rows ss first last) t')
+        (reds : Lists (listed t.xs t.ys 0 t.n) (red_edges 0 (numbered_cells h.corners before) (take first ss)))
+        (few : 4 * t'.n ≤ 3 * last') where
+      pub here_next : Here n qs ss (suc j) last last' rows' t' mids'
       unfolding laying_next
       here_next =
           let r = reached_next n qs ss j first h.cells h.reached h.low h.some last h.end w in
           let b : cells_of r.reached.done ≡ before ++ h.cells = r.before in
           let kept : numbered_cells ks' (before ++ h.cells) ≡ numbered_cells h.corners (before ++ h.cells) = cells_kept h.corners ks'
           step.kept (before ++ h.cells) all_before in
-          record { laying = laying_next; red = rw (b, kept) (reds_after xs ys k xs' ys' heads'' links'' k' grown red); reds = reds }
+          record { laying = laying_next; reds = rw (b, kept) (reds_after g' reds); few = few }
 
   -- The highest level.
   module _ (w : closed_from [] sameb (red_edges [] h.cells own) h.cells own ≡ true) (inside : last ≤ length ss) (st : Statuses ss)
@@ -365,7 +358,7 @@ module _ (n : ℕ) (qs : List (List ℕ)) (ss : List ℕ) (j first last : ℕ) (
         let b : drop first (take last ss) ≡ own = rw h.end (drop-take first (length h.cells) ss) in
         corners_append (coarse_corners n) before h.cells (take last ss) ∙ rw (h.reached.counted, a, b, h.named) leaves
 
-    pub laying_top : Roof n qs ss j last rows ps ps' heads' links' m
+    pub laying_top : Roof n qs ss j last rows mids
     laying_top =
         let e = reached_end n qs ss j first h.cells h.reached h.low h.some w no_size (omega (arith, h.end)) st.few in
         record {
@@ -382,13 +375,11 @@ module _ (n : ℕ) (qs : List (List ℕ)) (ss : List ℕ) (j first last : ℕ) (
           numbered = h.stage.corners;
           children = h.children;
           table = h.table;
-          mids = h.mids;
+          new = h.new;
+          few_new = h.few_new;
         }
 
-    pub here_top : (xs ys : List ℕ) (k : ℕ) (xs' ys' heads'' links'' : List ℕ) (k' : ℕ)
-        → Grown xs ys k k (own_reds rows ss first last) xs' ys' heads'' links'' k'
-        → Lists (listed xs ys 0 k) (red_edges 0 (numbered_cells h.corners before) (take first ss)) → Reds xs' ys' heads'' links'' k' last
-        → Top n qs ss j last rows xs' ys' heads'' links'' k' ps ps' heads' links' m
+    pub here_top : {N H : ℕ} {t t' : PairTable N H} → Listed t (own_reds rows ss first last) t'
+        → Lists (listed t.xs t.ys 0 t.n) (red_edges 0 (numbered_cells h.corners before) (take first ss)) → Top n qs ss j last rows t' mids
     unfolding laying_top
-    here_top xs ys k xs' ys' heads'' links'' k' grown red reds =
-        record { roof = laying_top; red = reds_after xs ys k xs' ys' heads'' links'' k' grown red; reds = reds }
+    here_top g reds = record { roof = laying_top; reds = reds_after g reds }

@@ -1,10 +1,11 @@
 -- What the examination of a table leaves where the table is sound.
 --   table_cells, examined_corners   the cells and corners of a table, by weights
 --   Mesh n mesh  an accepted mesh of n corners, as far as it matters here
---   unless_sound b  the refusal of a table: 6 where it is not sound
---   Examined ..  the refusal, and where there is none
+--   sound_answer ..  the answer to a table: 6 where it is not sound
 --   LaidSound ..     the rows, the ends of the new corners, and how many cells, levels and new corners there are
-use Rattle.std.specs.Prelude.{◌≡◌, Bool, true, false, List, ℕ, ◌*◌, ◌%◌, ◌≤◌, ◌<◌, T, length, take}
+use Rattle.std.specs.Prelude.{◌≡◌, List, ℕ, ◌*◌, ◌%◌, ◌≤◌, ◌<◌, T, length, take}
+use Rattle.base.specs.Answer.{Answer, Accepted}
+use Rattle.base.specs.Refuse.{refuse}
 use Rattle.base.specs.Limits.{most_cells, most_levels}
 use Rattle.mesh.specs.Cells.{Cell}
 use Rattle.mesh.specs.Weights.{Point}
@@ -41,12 +42,6 @@ pub record Mesh (n : ℕ) (mesh : List ℕ) : Type 0 where
   pub corners : n ≤ 512
   pub cells : T (cellsb n (fours mesh))
 
--- Rule 12.6: 6 where the table is not sound.
-unfoldable pub unless_sound : Bool → ℕ
-unless_sound true = 0
-unless_sound false = 6
-
--- Rules 6.1 to 6.4: the answer, and where it is yes the rest.
-pub record Examined (n : ℕ) (qs : List (List ℕ)) (ss rows ps qs' : List ℕ) (refusal cells levels m : ℕ) : Type 0 where
-  pub answer : refusal ≡ unless_sound (soundb n qs ss)
-  pub sound : refusal ≡ 0 → LaidSound n qs ss rows ps qs' cells levels m
+-- Rules 6.1 to 6.4, 12.6: the answer to a table, 6 where it is not sound.
+abbrev pub sound_answer : ℕ → List (List ℕ) → List ℕ → Answer
+sound_answer n qs ss = refuse 6 (soundb n qs ss) Accepted

@@ -11,8 +11,8 @@ use Rattle.std.specs.Prelude.{ℕ, List, leb, length}
 use Rattle.base.specs.Refuse.{refuse}
 use Rattle.base.specs.Answer.{Answer}
 use Rattle.cutting.specs.Answer.{cut_of}
-use Rattle.store.specs.declared.Fetched.{Fetched}
-use Rattle.store.specs.declared.Fetched.TheVariants as fetched
+use Rattle.store.specs.Fetched.{Fetched}
+use Rattle.store.specs.Fetched as fetched
 use Rattle.held.specs.declared.Progress.{Progress}
 use Rattle.held.specs.declared.Progress.TheVariants as progress
 

@@ -1,16 +1,17 @@
--- `closure::pattern_of` meets its contract: where no edge is listed, or none of the cell's, it is 0, and else it is what the searches give.
-use mathlib.Core.Path.{sym}
-use Rattle.edges.specs.Table.{listed}
+-- Where no edge is listed, or none of the cell's, it is 0.
+use Rattle.std.proofs.Common.{sym}
+use Rattle.edges.specs.Table.{entries}
 use Rattle.rows.specs.Numbered.{cell_at}
 use Rattle.closure.specs.Closed.{pattern_unlisted}
 use Rattle.closure.specs.Near.{unlisted_pattern}
 use Rattle.closure.proofs.pattern_of.Goals as goal
+use Rattle.closure.proofs.pattern_of.Goals.{then-table-via-then-table, then-table-via-else-table+then-not-is_near}
 
-pub returns-then-from-n : goal.returns-then-from-n
-returns-then-from-n c =
-    sym (pattern_unlisted c.args.xs.now c.args.ys.now c.args.from c.args.n (cell_at c.args.cells.now c.args.c) c.if-from-n.true)
-
-pub returns-then-not-is_near : goal.returns-then-not-is_near
-returns-then-not-is_near c =
-    sym (unlisted_pattern (listed c.args.xs.now c.args.ys.now c.args.from c.args.n) (cell_at c.args.cells.now c.args.c)
-    (c.is_near.ensures c.if-not-is_near.true))
+pub returns-then-table : goal.returns-then-table
+returns-then-table g c =
+    let t = c.args.table.now in
+    let d = cell_at c.args.cells.now c.args.c in
+    elim c.then-table.branch [
+      | then-table-via-then-table w ↦ sym (pattern_unlisted t.xs t.ys t.from t.n d w.if-table.true)
+      | then-table-via-else-table+then-not-is_near w ↦ sym (unlisted_pattern (entries t) d (w.is_near.ensures w.if-not-is_near.true))
+    ]

@@ -14,29 +14,27 @@ returns-then-rows-c-eq0 c =
 
 pub loop-e-init : goal.loop-e-init
 loop-e-init c =
-    (omega arith, no_bits c.args.rows.now (parent_in c.args.rows.now c.args.c) c.args.c)
+    no_bits c.args.rows.now (parent_in c.args.rows.now c.args.c) c.args.c
 
 pub overflow_mul-bits : goal.overflow_mul-bits
 overflow_mul-bits c =
-    omega (arith, small_bits c.args.rows.now (parent_in c.args.rows.now c.args.c) c.args.c c.loop-e.bits c.loop-e.e c.loop-e.invariant.0 c.loop-e.invariant.1)
+    omega (arith, small_bits c.args.rows.now (parent_in c.args.rows.now c.args.c) c.args.c c.loop-e.bits c.loop-e.e (omega arith) c.loop-e.invariant)
 
 pub overflow_add-bits : goal.overflow_add-bits
 overflow_add-bits c =
     omega (
       arith,
-      small_bits c.args.rows.now (parent_in c.args.rows.now c.args.c) c.args.c c.loop-e.bits c.loop-e.e c.loop-e.invariant.0 c.loop-e.invariant.1,
+      small_bits c.args.rows.now (parent_in c.args.rows.now c.args.c) c.args.c c.loop-e.bits c.loop-e.e (omega arith) c.loop-e.invariant,
       c.outer.ensures,
       one_most (outerb c.args.rows.now (parent_in c.args.rows.now c.args.c) c.args.c (c.loop-e.e - 1)),
     )
 
 pub loop-e-preserved : goal.loop-e-preserved
-loop-e-preserved c = (
-  omega (arith, c.loop-e.invariant.0),
-  bit_turn c.args.rows.now (parent_in c.args.rows.now c.args.c) c.args.c c.loop-e.bits c.loop-e.e c.outer.result
-      c.loop-e-test.true c.loop-e.invariant.0 c.loop-e.invariant.1 c.outer.ensures,
-)
+loop-e-preserved c =
+    bit_turn c.args.rows.now (parent_in c.args.rows.now c.args.c) c.args.c c.loop-e.bits c.loop-e.e c.outer.result
+    c.loop-e-test.true (omega arith) c.loop-e.invariant c.outer.ensures
 
 pub returns : goal.returns
 returns c =
     let k : c.loop-e.e ≡ 0 = omega (arith, c.loop-e-test.false) in
-    inner_some c.args.rows.now c.args.c c.if-rows-c-eq0.false c.loop-e.bits (rw k at c.loop-e.invariant.1)
+    inner_some c.args.rows.now c.args.c c.if-rows-c-eq0.false c.loop-e.bits (rw k at c.loop-e.invariant)

@@ -6,14 +6,10 @@ use Rattle.filling.proofs.Passing.{marked_start, marked_turn}
 use Rattle.filling.proofs.put_masks.Goals as goal
 
 pub loop-e-init : goal.loop-e-init
-loop-e-init c =
-    (omega arith, marked_start c.args.slots.now c.args.masks.now c.args.c c.args.region.now)
+loop-e-init c = marked_start c.args.slots.now c.args.masks.now c.args.c c.args.region.now
 
 pub loop-e-preserved : goal.loop-e-preserved
-loop-e-preserved c = (
-  omega (arith, c.loop-e-test.true),
-  rw (add-one c.loop-e.e) (marked_turn c.args.slots.now c.args.masks.now
-      c.args.c
-      c.args.region.now c.loop-e.e c.loop-e.region c.loop-e-test.true (omega (arith, c.requires))
-      (c.requires.small_slots.small (6 * c.args.c + c.loop-e.e) (omega (arith, c.loop-e-test.true))) c.loop-e.invariant.1),
-)
+loop-e-preserved c =
+    rw (add-one c.loop-e.e) (marked_turn c.args.slots.now c.args.masks.now c.args.c c.args.region.now c.loop-e.e c.loop-e.region
+    c.loop-e-test.true (omega (arith, c.requires.0))
+    (c.requires.2.small (6 * c.args.c + c.loop-e.e) (omega (arith, c.loop-e-test.true))) c.loop-e.invariant)

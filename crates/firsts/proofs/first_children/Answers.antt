@@ -1,13 +1,11 @@
--- `firsts::first_children` meets its contract: a turn writes the first child of one cell more. The measure is how many are left.
--- one first child more
+-- `firsts::first_children` meets its contract: a turn writes the first child of one cell more.
 use mathlib.Core.Path.{◌≡◌, refl, sym, ◌∙◌, ap}
 use mathlib.Core.List.{List, [], ◌∷◌, ◌++◌, map, map-append, append_assoc}
-use Prim.Native.Nat.{ℕ, suc, ◌+◌, ◌*◌, ◌-◌, ◌≤◌, ◌<◌}
+use Prim.Native.Nat.{ℕ, suc, ◌+◌, ◌<◌}
 use native.Mathlib.Omega.{arith}
-use lib.Dec.{T, leb, leb→le}
-use lib.ListN.{length, get_or, drop, set, length-set, length-map}
+use lib.ListN.{length, get_or, drop, set, length-map}
 use lib.Seq.{drop-cons, set_at}
-use Rattle.base.specs.Lists.{allb_at}
+use Rattle.rows.specs.Sizes.{status_fits}
 use Rattle.lineage.specs.Olds.{first_child}
 use Rattle.lineage.specs.Firsts.{first_children, first_next, first_start}
 use Rattle.base.specs.Range.{range, length-range, range_snoc}
@@ -29,36 +27,25 @@ one_more m ss kids₀ kids c at e h q =
 
 pub loop-c-init : goal.loop-c-init
 unfolding range
-loop-c-init c = (
-  omega arith,
-  sym (first_start c.args.coarse c.args.status.now),
-  omega (arith, c.requires.status_len_bound.2),
-  refl,
-  refl,
-)
+loop-c-init c = (sym (first_start c.args.coarse c.args.status.now), omega (arith, c.requires.status_len_bound.2), refl)
 
 pub size_of-at-requires : goal.size_of-at-requires
-size_of-at-requires c =
-    let w : T (leb (get_or c.args.status.now c.loop-c.c 0) 64) = allb_at (λ c. leb c 64) 0 c.args.status.now (rw c.requires.status_value tt) c.loop-c.c
-    c.loop-c-test.true in
-    leb→le (get_or c.args.status.now c.loop-c.c 0) 64 w
+size_of-at-requires c = status_fits c.args.status.now c.requires.status_value c.loop-c.c c.loop-c-test.true
 
 pub loop-c-preserved : goal.loop-c-preserved
 loop-c-preserved c =
     let e : c.loop-c.c + 1 ≡ suc c.loop-c.c = omega arith in (
-      omega arith,
-      rw e (omega (arith, first_next c.args.coarse c.args.status.now c.loop-c.c c.loop-c-test.true, c.loop-c.invariant.1, c.size_of-at.ensures.0)),
-      omega (arith, c.loop-c.invariant.2, c.size_of-at.ensures.1),
-      length-set c.loop-c.kids c.loop-c.c c.loop-c.at ∙ c.loop-c.invariant.3,
-      one_more c.args.coarse c.args.status.now c.args.kids.now c.loop-c.kids c.loop-c.c c.loop-c.at c.loop-c.invariant.4
-          (omega (arith, c.requires.status_len_bound.1)) c.loop-c.invariant.1,
+      rw e (omega (arith, first_next c.args.coarse c.args.status.now c.loop-c.c c.loop-c-test.true, c.loop-c.invariant.0, c.size_of-at.ensures.0)),
+      omega (arith, c.loop-c.invariant.1, c.size_of-at.ensures.1),
+      one_more c.args.coarse c.args.status.now c.args.kids.now c.loop-c.kids c.loop-c.c c.loop-c.at c.loop-c.invariant.2
+          (omega (arith, c.requires.status_len_bound.1)) c.loop-c.invariant.0,
     )
 
 pub returns : goal.returns
 unfolding first_children
 returns c =
-    let k : c.loop-c.c ≡ length c.args.status.now = omega (arith, c.loop-c.invariant.0, c.loop-c-test.false) in
-    let e : c.loop-c.c + 1 ≡ suc c.loop-c.c = omega arith in
-    one_more c.args.coarse c.args.status.now c.args.kids.now c.loop-c.kids c.loop-c.c c.loop-c.at c.loop-c.invariant.4
-    (omega (arith, c.requires.status_len_bound.1)) c.loop-c.invariant.1
-    ∙ rw (e, k)
+    let k : c.loop-c.c ≡ length c.args.status.now = omega (arith, c.loop-c.auto.c-end, c.loop-c-test.false) in
+    let e : length c.args.status.now + 1 ≡ suc (length c.args.status.now) = omega arith in
+    rw k at (one_more c.args.coarse c.args.status.now c.args.kids.now c.loop-c.kids c.loop-c.c c.loop-c.at c.loop-c.invariant.2
+    (omega (arith, c.requires.status_len_bound.1)) c.loop-c.invariant.0)
+    ∙ rw e

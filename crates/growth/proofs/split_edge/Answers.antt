@@ -1,64 +1,48 @@
 -- `growth::split_edge` meets its contract: an edge that is not split changes nothing; one that is gets the number of its entry.
-use mathlib.Core.Path.{◌≡◌, sym, ◌∙◌}
-use mathlib.Core.Bool.{true, false}
-use Prim.Native.Nat.{◌≤◌}
-use native.Mathlib.Omega.{arith}
+use Rattle.std.proofs.Common.{◌≡◌, sym, ◌∙◌, true, false, arith, rules}
 use Rattle.cutting.specs.Rule.{split}
 use Rattle.rows.specs.Numbered.{cell_at}
 use Rattle.growth.proofs.Split.{whole, room, slot_below, halved}
-use Rattle.growth.proofs.split_edge.Goals.{After-add_edge-slot}
 use Rattle.growth.proofs.split_edge.Goals as goal
 
-below : (c : After-add_edge-slot)
-    → c.add_edge-slot.result.at
-    ≤ c.args.m
-below c =
-    slot_below c.args.pattern (cell_at c.args.cells.now c.args.c) c.args.e c.args.xs.now c.args.ys.now c.args.heads.now c.args.links.now c.args.m c.args.n
-    c.args.points.now
-    c.add_edge-slot.new.xs c.add_edge-slot.new.ys c.add_edge-slot.new.heads c.add_edge-slot.new.links c.add_edge-slot.result.at c.add_edge-slot.result.n
-    c.add_edge-slot.ensures
-
-pub returns-then-not-is_split : goal.returns-then-not-is_split
-returns-then-not-is_split c =
-    let t : split c.args.pattern c.args.e ≡ false = sym c.is_split.ensures
-    ∙ c.if-not-is_split.true in
-    let w = whole c.args.pattern (cell_at c.args.cells.now c.args.c) c.args.e c.args.xs.now c.args.ys.now c.args.heads.now c.args.links.now c.args.m c.args.n
-    c.args.points.now t c.requires.edges in
-    record { grown = w.0; points_value = w.1 }
-
-pub add_edge-slot-requires : goal.add_edge-slot-requires
-add_edge-slot-requires c =
-    let t : split c.args.pattern c.args.e ≡ true = sym c.is_split.ensures
-    ∙ c.if-not-is_split.false in record {
-      c_in_bounds = (c.requires.c_in_bounds.0, c.requires.c_in_bounds.1);
-      edges = c.requires.edges;
-      room = room c.args.pattern (cell_at c.args.cells.now c.args.c) c.args.e c.args.xs.now c.args.ys.now
-          c.args.heads.now c.args.links.now c.args.m c.args.n c.args.points.now t c.requires.space;
-    }
+pub add_edge-at-requires : goal.add_edge-at-requires
+add_edge-at-requires g c =
+    let t : split c.args.pattern c.args.e ≡ true = sym c.is_split.ensures ∙ c.if-is_split.true in (
+      search rules,
+      (
+        (c.requires.c_in_bounds.0, c.requires.c_in_bounds.1),
+        (
+          c.requires.mids.distinct,
+          room c.args.pattern (cell_at c.args.cells.now c.args.c) c.args.e c.args.n c.args.points.now c.args.mids.now t c.requires.space,
+        ),
+      ),
+    )
 
 pub overflow_add-points : goal.overflow_add-points
-overflow_add-points c =
+overflow_add-points g c =
     omega (
       arith,
-      below (goal.at.overflow_add-points c).After-add_edge-slot,
+      slot_below c.args.pattern (cell_at c.args.cells.now c.args.c) c.args.e c.args.n c.args.points.now c.args.mids.now c.add_edge-at.ensures,
       c.requires.c_in_bounds.2,
     )
 
 pub overflow_cast-points : goal.overflow_cast-points
-overflow_cast-points c =
+overflow_cast-points g c =
     omega (
       arith,
-      below (goal.at.overflow_cast-points c).After-add_edge-slot,
+      slot_below c.args.pattern (cell_at c.args.cells.now c.args.c) c.args.e c.args.n c.args.points.now c.args.mids.now c.add_edge-at.ensures,
       c.requires.c_in_bounds.2,
     )
 
-pub returns : goal.returns
-returns c =
-    let t : split c.args.pattern c.args.e ≡ true = sym
-    c.is_split.ensures ∙ c.if-not-is_split.false in
-    let w = halved c.args.pattern (cell_at c.args.cells.now c.args.c) c.args.e c.args.xs.now c.args.ys.now c.args.heads.now c.args.links.now c.args.m c.args.n
-    c.args.points.now
-    c.add_edge-slot.new.xs c.add_edge-slot.new.ys c.add_edge-slot.new.heads c.add_edge-slot.new.links c.add_edge-slot.result.at c.add_edge-slot.result.n
-    c.add_edge-slot.ensures
-    t c.middle_of-d.result c.middle_of-d.ensures.0 in
+pub returns-then-is_split : goal.returns-then-is_split
+returns-then-is_split g c =
+    let t : split c.args.pattern c.args.e ≡ true = sym c.is_split.ensures ∙ c.if-is_split.true in
+    let w = halved c.args.pattern (cell_at c.args.cells.now c.args.c) c.args.e c.args.n c.args.points.now c.args.mids.now c.add_edge-at.ensures
+    c.requires.mids.all t c.middle_of.result c.middle_of.ensures.0 in
+    record { grown = w.0; points_value = w.1 }
+
+pub returns-else-is_split : goal.returns-else-is_split
+returns-else-is_split g c =
+    let t : split c.args.pattern c.args.e ≡ false = sym c.is_split.ensures ∙ c.if-is_split.false in
+    let w = whole c.args.pattern (cell_at c.args.cells.now c.args.c) c.args.e c.args.n c.args.points.now c.args.mids.now t c.requires.mids.distinct in
     record { grown = w.0; points_value = w.1 }

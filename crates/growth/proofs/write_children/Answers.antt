@@ -1,24 +1,22 @@
 -- `growth::write_children` meets its contract: the invariant says that the rows of the children passed are written.
-use mathlib.Core.Path.{◌≡◌, ◌∙◌, ap}
-use Prim.Native.Nat.{◌≤◌}
-use native.Mathlib.Numerals.{add-one}
-use native.Mathlib.Omega.{arith}
-use lib.ListN.{length, get_or}
+use Rattle.std.proofs.Common.{◌≡◌, ◌∙◌, length, get_or, arith}
 use Rattle.cutting.specs.Rule.{family}
-use Rattle.cutting.specs.declared.Family.{Family}
+use Rattle.cutting.specs.Answer.{cut_of}
 use Rattle.cutting.proofs.Rows.{family_few}
+use Rattle.rows.specs.Cuts.{cut_ok}
 use Rattle.growth.proofs.Family.{rows_none, rows_more, rows_all, digits_below_lem, child_count}
-use Rattle.growth.proofs.write_children.Goals.{After-cut_from-whole}
+use Rattle.growth.proofs.write_children.Goals.{After-unwrap-family}
 use Rattle.growth.proofs.write_children.Goals as goal
 
--- how many children there are
+module _ (c : After-unwrap-family) where
+  family_is : (c.unwrap-family.result.count ≡ (cut_of c.args.pattern).count) × (c.unwrap-family.result.digits ≡ (cut_of c.args.pattern).digits)
+  family_is = rw c.unwrap-family.ensures at c.cut.ensures.family
 
-size : (c : After-cut_from-whole) → c.cut_from-whole.result.count ≡ length (family c.args.pattern)
-size c = ap (λ (f : Family). f.count) c.cut_from-whole.ensures ∙ child_count c.args.pattern
-    c.requires.pattern_bound.0
+  size : c.unwrap-family.result.count ≡ length (family c.args.pattern)
+  size = family_is.0 ∙ child_count c.args.pattern c.requires.0
 
-few : (c : After-cut_from-whole) → length (family c.args.pattern) ≤ 8
-few c = family_few c.args.pattern c.requires.pattern_bound.0
+pub unwrap-family-requires : goal.unwrap-family-requires
+unwrap-family-requires c = cut_ok c.args.pattern c.requires.0 c.cut.result c.cut.ensures.answer
 
 pub loop-i-init : goal.loop-i-init
 loop-i-init c =
@@ -26,37 +24,29 @@ loop-i-init c =
 
 pub write_child-requires : goal.write_child-requires
 write_child-requires c =
+    let f = (goal.at.write_child-requires c).After-unwrap-family in
     record {
       at_in_bounds = (
-        omega (arith, size (goal.at.write_child-requires c).After-cut_from-whole),
-        omega (
-          arith,
-          size (goal.at.write_child-requires c).After-cut_from-whole,
-          few (goal.at.write_child-requires c).After-cut_from-whole,
-        ),
+        omega (arith, size f, c.from-count.ensures, c.requires.1, c.loop-i-test.true),
+        omega (arith, size f, c.from-count.ensures, family_few c.args.pattern c.requires.0, c.loop-i-test.true),
       );
-      by_index = λ j. rw
-          (ap (λ (f : Family). f.digits) c.cut_from-whole.ensures)
-          (digits_below_lem c.args.pattern c.requires.pattern_bound.0 j);
+      by_index = λ j. rw (family_is f).1 (digits_below_lem c.args.pattern c.requires.0 j);
     }
 
 pub loop-i-preserved : goal.loop-i-preserved
 loop-i-preserved c =
-    rw (add-one c.loop-i.i)
-    (rows_more c.args.cells.now c.args.at c.args.level c.args.parent c.args.regular (λ d. get_or c.args.points.now d 0) c.args.pattern
-    c.requires.pattern_bound.0
-    c.requires.pattern_bound.1 c.loop-i.cells
-    c.loop-i.i c.loop-i.invariant
-    (omega (arith, size (goal.at.loop-i-preserved c).After-cut_from-whole)) c.write_child.new.cells c.write_child.auto.cells
-    (c.write_child.ensures
-    ∙ rw (c.flag-kind.ensures, ap (λ (g : Family). g.digits) c.cut_from-whole.ensures)))
+    let f = (goal.at.loop-i-preserved c).After-unwrap-family in
+    rows_more c.args.cells.now c.args.at c.args.level c.args.parent c.args.regular (λ d. get_or c.args.points.now d 0) c.args.pattern
+    c.requires.0 c.requires.1 c.loop-i.cells c.loop-i.i c.loop-i.invariant
+    (omega (arith, size f, c.from-count.ensures, c.loop-i-test.true)) c.write_child.new.cells
+    (c.write_child.ensures ∙ rw (family_is f).1)
 
 pub returns : goal.returns
 returns c =
+    let f = (goal.at.returns c).After-unwrap-family in
     record {
-      value = rw (size (goal.at.returns c).After-cut_from-whole);
+      value = rw (c.from-count.ensures, size f);
       cells_value = rows_all c.args.cells.now c.args.at c.args.level c.args.parent c.args.regular (λ d. get_or c.args.points.now d 0) c.args.pattern
-          c.requires.pattern_bound.0
-          c.requires.pattern_bound.1 c.loop-i.cells c.loop-i.i c.loop-i.invariant
-          (omega (arith, size (goal.at.returns c).After-cut_from-whole, c.loop-i.invariant.below));
+          c.requires.0 c.requires.1 c.loop-i.cells c.loop-i.i c.loop-i.invariant
+          (omega (arith, size f, c.from-count.ensures, c.loop-i.auto.i-end, c.loop-i-test.false));
     }

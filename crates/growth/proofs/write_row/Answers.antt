@@ -1,10 +1,9 @@
--- `growth::write_row` meets its contract: eight stores in a row write the eight numbers.
-use native.Mathlib.Omega.{arith}
-use Rattle.growth.proofs.Stored.{row_stored}
-use Prim.Native.Nat.{◌*◌}
+-- `growth::write_row` meets its contract: the part of the table that is copied to is the row.
+use Rattle.std.proofs.Common.{◌≡◌, ◌+◌, ◌*◌, ◌-◌, length, arith}
+use Rattle.growth.proofs.Stored.{row_written}
 use Rattle.growth.proofs.write_row.Goals as goal
 
 pub returns : goal.returns
 returns c =
-    row_stored c.args.cells.now (8 * c.args.at) (omega arith) c.args.level c.args.parent c.args.child
-    c.args.regular c.args.p c.args.q c.args.r c.args.s
+    let e : 8 * c.args.at + 8 - 8 * c.args.at ≡ length c.args.row = omega (arith, c.copy_from_slice.ensures.len) in
+    row_written c.args.cells.now (8 * c.args.at) _ c.args.row c.copy_from_slice.new.self e c.copy_from_slice.ensures.after

@@ -5,5 +5,5 @@ use Rattle.rows.proofs.edge_of.Goals as goal
 
 pub returns : goal.returns
 returns c =
-    rw (c.low_of.ensures.0, c.high_of.ensures.0)
+    rw (c.low_corner.ensures.0, c.high_corner.ensures.0)
     (ends_at c.args.cells.now c.args.c c.args.e (omega arith))

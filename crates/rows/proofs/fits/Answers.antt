@@ -1,20 +1,11 @@
--- `rows::fits` meets its contract: the rest decides as the whole does. The measure is what is left.
-use Rattle.std.proofs.Common.{rules}
-use mathlib.Core.Path.{sym, ◌∙◌}
-use lib.ListN.{drop_of_length-le}
-use Rattle.base.specs.Lists.{allb}
-use Rattle.rows.specs.Sizes.{fits_not, fits_next}
+-- `rows::fits` meets its contract: the chain's test is the definition's.
+use Rattle.std.proofs.Common.{rules, tests, ◌∙◌, leb}
+use Rattle.std.proofs.lemmas.Iterator.{YieldsList-from_slice}
+use Rattle.std.proofs.lemmas.Iterator.Search.{all_from_yields_List}
+use Rattle.rows.specs.Chains.{all_chain}
 use Rattle.rows.proofs.fits.Goals as goal
 
-pub returns-then-status-c-gt64 : goal.returns-then-status-c-gt64
-returns-then-status-c-gt64 c =
-    sym (sym c.loop-c.invariant.1 ∙ fits_not c.args.status.now c.loop-c.c c.loop-c-test.true c.if-status-c-gt64.true)
-
-pub loop-c-preserved : goal.loop-c-preserved
-loop-c-preserved c =
-    (search rules, sym (fits_next c.args.status.now c.loop-c.c c.loop-c-test.true c.if-status-c-gt64.false) ∙ c.loop-c.invariant.1)
-
 pub returns : goal.returns
-unfolding allb
 returns c =
-    rw (drop_of_length-le c.args.status.now c.loop-c-test.false) at c.loop-c.invariant.1
+    all_from_yields_List (λ s. leb s 64) _ _ _ c.all.ensures.ran (YieldsList-from_slice c.args.status.now cc) (λ x b q k. search (rules, tests))
+    ∙ all_chain (λ s. leb s 64) c.args.status.now

@@ -1,25 +1,24 @@
--- `separation::apart_cell` meets its contract: where the cell is regular, where no edge of it is listed, and else.
-use mathlib.Core.Path.{sym, ◌∙◌}
+-- Where the cell is regular, where no edge of it is listed, and else.
+use Rattle.std.proofs.Common.{sym, ◌∙◌}
 use Rattle.mesh.specs.Cells.{edges}
-use Rattle.edges.specs.Table.{listed}
+use Rattle.edges.specs.Table.{entries}
 use Rattle.rows.specs.Numbered.{cell_at}
 use Rattle.closure.specs.Near.{unlisted_free}
 use Rattle.separation.specs.Scan.{free_apart, regular_apart, irregular_apart}
 use Rattle.separation.proofs.apart_cell.Goals as goal
 
 pub returns-then-is_regular : goal.returns-then-is_regular
-returns-then-is_regular c =
-    sym (regular_apart (listed c.args.xs.now c.args.ys.now c.args.from c.args.n) c.args.cells.now c.args.c (sym c.is_regular.ensures
-    ∙ c.if-is_regular.true))
+returns-then-is_regular g c =
+    sym (regular_apart (entries c.args.table.now) c.args.cells.now c.args.c (sym c.is_regular.ensures ∙ c.if-is_regular.true))
 
 pub returns-then-not-is_near : goal.returns-then-not-is_near
-returns-then-not-is_near c =
-    let es = listed c.args.xs.now c.args.ys.now c.args.from c.args.n in
-    let t = cell_at c.args.cells.now c.args.c in
+returns-then-not-is_near g c =
+    let es = entries c.args.table.now in
+    let d = cell_at c.args.cells.now c.args.c in
     sym (sym (irregular_apart es c.args.cells.now c.args.c (sym c.is_regular.ensures ∙ c.if-is_regular.false))
-    ∙ free_apart es c.args.cells.now _ (edges 0 t) (unlisted_free es t (c.is_near.ensures c.if-not-is_near.true)))
+    ∙ free_apart es c.args.cells.now _ (edges 0 d) (unlisted_free es d (c.is_near.ensures c.if-not-is_near.true)))
 
 pub returns : goal.returns
-returns c =
-    c.apart_child.ensures ∙ irregular_apart (listed c.args.xs.now c.args.ys.now c.args.from c.args.n) c.args.cells.now c.args.c
-    (sym c.is_regular.ensures ∙ c.if-is_regular.false)
+returns g c =
+    c.apart_child.ensures
+    ∙ irregular_apart (entries c.args.table.now) c.args.cells.now c.args.c (sym c.is_regular.ensures ∙ c.if-is_regular.false)

@@ -1,14 +1,12 @@
--- `separation::joins` meets its contract: straight, or crossed.
-use mathlib.Core.Path.{sym, ◌∙◌}
+-- Straight, or crossed.
+use Rattle.std.proofs.Common.{sym, ◌∙◌}
 use Rattle.mesh.specs.Cells.{joinsb}
 use Rattle.separation.proofs.joins.Goals as goal
 
-pub returns-then-are : goal.returns-then-are
+pub returns-then-eq : goal.returns-then-eq
 unfolding joinsb
-returns-then-are c =
-    rw (sym c.are.ensures ∙ c.if-are.true)
+returns-then-eq c = rw (c.if-eq.true, sym c.eq.ensures ∙ c.if-eq.true)
 
-pub returns : goal.returns
+pub returns-else-eq : goal.returns-else-eq
 unfolding joinsb
-returns c =
-    rw (sym c.are.ensures ∙ c.if-are.false) c.are-2.ensures
+returns-else-eq c = rw (sym c.eq.ensures ∙ c.if-eq.false) c.eq-else-eq.ensures

@@ -11,6 +11,6 @@ pub returns-then-level-lt10 : goal.returns-then-level-lt10
 returns-then-level-lt10 c =
     child_long _ _ _ (omega arith) (omega arith) c.with_number-then-level-lt10.ensures
 
-pub returns : goal.returns
-returns c =
+pub returns-else-level-lt10 : goal.returns-else-level-lt10
+returns-else-level-lt10 c =
     child_beyond _ _ (omega arith) (omega arith)

@@ -1,6 +1,5 @@
 -- The invariant: what the chain has passed is not the pair.
 use Rattle.std.proofs.Common.{rules, sym}
-use native.Mathlib.Omega.{arith}
 use Rattle.pairs.specs.Chain.{chain_start, chain_hit, chain_stop, chain_turn, chain_less}
 use Rattle.pairs.proofs.PairTable.find.Goals as goal
 

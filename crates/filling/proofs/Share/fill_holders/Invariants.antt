@@ -1,0 +1,7 @@
+-- `filling::Share::fill_holders` meets its contract: a turn takes the next cell.
+use Rattle.base.specs.Limits.{most_slots}
+use Rattle.filling.specs.Regions.{Tabled, holder_to}
+use Rattle.filling.proofs.Share.fill_holders.Given as goal
+
+abbrev pub invariant-loop-c : goal.invariant-loop-c
+invariant-loop-c l = Tabled most_slots (holder_to l.self.cols.now l.self.cells l.self.part l.slots l.masks l.c) l.region
