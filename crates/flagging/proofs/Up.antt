@@ -1,5 +1,5 @@
 -- One level more on the way down.
--- Laws: ended (a result that says more), up_none (no level), up_refused (the levels above are refused), up_more (one level more),
+-- Laws: up_none (no level), up_refused (the levels above are refused), up_more (one level more),
 -- up_untreated (this level is refused).
 -- Assumes nothing.
 use mathlib.Core.Path.{◌≡◌, refl, sym, ◌∙◌, ap, fun_ext}
@@ -7,7 +7,6 @@ use mathlib.Core.Bool.{Bool, true, false, ◌||◌}
 use mathlib.Core.List.{List, [], ◌∷◌, ◌++◌}
 use Prim.Native.Nat.{ℕ, zero, suc, ◌+◌, ◌-◌, ◌<◌}
 use native.Mathlib.Nat.{add-zero, zero-add}
-use Rattle.std.specs.Prelude.{Result, Ok, Err, MatchResult}
 use native.Mathlib.Omega.{arith}
 use lib.Dec.{eqb, ltb}
 use lib.ListN.{get_or, take, drop, take-append-drop}
@@ -27,12 +26,6 @@ use Rattle.flagging.specs.Flags.{listedb, flags_at, kepts_at, reds_up, kept_up, 
 use Rattle.flagging.specs.Old.{Span, Treated, Untreated, Above, Unkept}
 use Rattle.flagging.specs.Writes.{length_kepts, flags_both}
 use Rattle.flagging.proofs.Treat.{entries_none, kept_many}
-
--- a result that says more, case by case
-pub ended : {A E : Type 0} {P P' : Type 0} {Q Q' : E → Type 0} (r : Result A E) → MatchResult r (λ _. P) Q → (P → P')
-    → ((e : E) → Q e → Q' e) → MatchResult r (λ _. P') Q'
-ended (Ok x) m p q = p m
-ended (Err e) m p q = q e m
 
 pub up_none : (t ss ms ks : List ℕ) (first last : ℕ) (kept : List ℕ) {N H : ℕ} (table : PairTable N H)
     → (table.from ≡ 0) × (table.n ≡ 0) → (depth : ℕ) → depth ≡ 0 → Above t ss ms ks depth first last kept kept table
