@@ -1,9 +1,8 @@
 // The masters and ghosts of a part after the step, from its store alone: statuses, and places written one behind the other.
 #![tactic(auto)]
 
-ghost use Rattle.std.specs.Prelude.{◌≡◌, ◌&&◌, not, map, ◌+◌, ◌*◌, ◌/◌, ◌%◌, ◌≤◌, ◌<◌, min, max, eqb, length, get_or};
-ghost use Rattle.base.specs.Bools.{one_if};
-ghost use Rattle.base.specs.Limits.{most_cells, too_many};
+ghost use Rattle.std.specs.Prelude.{◌≡◌, ℕ, Bool, true, false, MatchOption, map, ◌+◌, ◌≤◌, ◌<◌, length, get_or};
+ghost use Rattle.base.specs.Limits.{most_cells};
 ghost use Rattle.mesh.specs.Cells.{bits_of};
 ghost use Rattle.mesh.specs.Table.{size_of};
 ghost use Rattle.mesh.specs.Layout.{edge_numbers};
@@ -17,7 +16,7 @@ ghost use Rattle.places.specs.Put.{place_at, put, put_master, put_leaf, put_leav
 ghost use Rattle.places.specs.Put.{place_cell, place_old};
 
 use base::MOST_CELLS;
-use cutting::cut;
+use cutting::Families;
 use digits::{high_digit, low_digit};
 use rows::size_of;
 use store::{
@@ -27,104 +26,87 @@ use store::{
 };
 use turns::{edge_hit, kid_count};
 
-// A flag as a number.
-fn bit(b: bool) -> u16
-    ensures { result ≡ one_if b }
+// The pattern of the edges that pass a test, from the last edge to the first.
+fn pattern<F: Fn(usize) -> bool>(test: F) -> u16
+    requires { (e : ℕ) → e < 6 → F.pre test e }
+    ensures pattern { (f : ℕ → Bool) → ((e : ℕ) (b : Bool) → e < 6 → F.post test e b → b ≡ f e) → result ≡ bits_of (map f edge_numbers) }
+    ensures few { result ≤ 63 }
 {
-    if b { 1 } else { 0 }
+    let mut pattern: u16 = 0;
+    for e in (0..6).rev() {
+        pattern = u16::from(test(e)) + 2 * pattern;
+    }
+    pattern
 }
 
-// The pattern of a cell's edges that are hit, from the last edge to the first.
+// The pattern of a cell's edges that are hit.
 fn hit_bits(store: &[u16], c: usize) -> u16
     requires { (full ≤ length store.now) × (c < most_cells) }
     ensures { (result ≡ bits_of (map (hit_of store.now c) edge_numbers)) × (result ≤ 63) }
 {
-    let mut p: u16 = 0;
-    let mut e: usize = 6;
-    while e > 0 {
-        e -= 1;
-        let hit = edge_hit(store, c, e);
-        p = bit(hit) + 2 * p;
-    }
-    p
+    pattern(|e| edge_hit(store, c, e))
 }
 
 // The status of a cell after the step, if it stays.
+#[tactic(auto, unfolding(crate::specs::Status::new_status))]
 fn new_status(store: &[u16], c: usize) -> u16
     requires { (full ≤ length store.now) × (c < most_cells) }
     ensures { (result ≡ new_status store.now c) × (result ≤ 64) }
 {
     if store[REGULAR + c] != 1 {
-        return 0;
+        0
+    } else if store[RED + c] == 1 {
+        64
+    } else {
+        hit_bits(store, c)
     }
-    if store[RED + c] == 1 {
-        return 64;
-    }
-    hit_bits(store, c)
 }
 
 // Whether a cell is there after the step.
+#[tactic(auto, unfolding(crate::specs::Status::lastsb))]
 fn stays(store: &[u16], c: usize) -> bool
     requires { (full ≤ length store.now) × (c < most_cells) }
     ensures { result ≡ lastsb store.now c }
 {
-    if store[HEAD + c] < 256 {
-        return true;
-    }
-    if store[STATUS + c] != 0 {
-        return true;
-    }
     let parent = store[PARENT + c] as usize;
-    if parent >= MOST_CELLS {
-        return false;
-    }
-    if store[STATUS + parent] != 64 {
-        return false;
-    }
-    store[RED + parent] == 1
+    store[HEAD + c] < 256
+        || store[STATUS + c] != 0
+        || (parent < MOST_CELLS && store[STATUS + parent] == 64 && store[RED + parent] == 1)
 }
 
-// Whether a cell has a family here after the step that is not its old one.
-fn anew(store: &[u16], c: usize) -> bool
+// The status of a cell that has a family here after the step which is not its old one.
+#[tactic(auto, unfolding(crate::specs::Status::remadeb))]
+fn remade(store: &[u16], c: usize) -> Option<u16>
     requires { (full ≤ length store.now) × (c < most_cells) }
-    ensures { result ≡ remadeb store.now c }
+    ensures { MatchOption result (remadeb store.now c ≡ false) (λ s. (remadeb store.now c ≡ true) × (s ≡ new_status store.now c) × (s ≤ 64)) }
 {
-    if store[FAMILY + c] != store[PART] {
-        return false;
-    }
-    if !stays(store, c) {
-        return false;
+    if store[FAMILY + c] != store[PART] || !stays(store, c) {
+        return None;
     }
     let status = new_status(store, c);
-    if status == 0 {
-        return false;
+    if status == 0 || (store[STATUS + c] == 64 && status == 64) {
+        None
+    } else {
+        Some(status)
     }
-    if store[STATUS + c] != 64 {
-        return true;
-    }
-    status != 64
 }
 
 // Whether an edge of a child joins the points with the digits a and b.
+#[tactic(auto, unfolding(crate::specs::Fresh::edge_has))]
 fn edge_has(digits: &[u8; 32], j: usize, y: usize, a: u8, b: u8) -> bool
     requires { (j < 8) × (y < 6) }
     ensures { result ≡ edge_has digits.now j a b y }
 {
-    if a != low_digit(digits, j, y) {
-        return false;
-    }
-    b == high_digit(digits, j, y)
+    (a, b) == (low_digit(digits, j, y), high_digit(digits, j, y))
 }
 
 // Whether it does and is hit, where the child is the cell d.
+#[tactic(auto, unfolding(crate::specs::Fresh::edge_hit))]
 fn edge_both(store: &[u16], digits: &[u8; 32], d: usize, j: usize, y: usize, a: u8, b: u8) -> bool
     requires { (full ≤ length store.now) × (d < most_cells) × (j < 8) × (y < 6) }
     ensures { result ≡ edge_hit store.now digits.now d a b j y }
 {
-    if !edge_has(digits, j, y, a, b) {
-        return false;
-    }
-    edge_hit(store, d, y)
+    edge_has(digits, j, y, a, b) && edge_hit(store, d, y)
 }
 
 // Whether the child j, which is the cell d, has such an edge that is hit.
@@ -132,14 +114,7 @@ fn kid_has(store: &[u16], digits: &[u8; 32], d: usize, j: usize, a: u8, b: u8) -
     requires { (full ≤ length store.now) × (d < most_cells) × (j < 8) }
     ensures { result ≡ kid_has store.now digits.now d a b j }
 {
-    let mut y: usize = 0;
-    while y < 6 {
-        if edge_both(store, digits, d, j, y, a, b) {
-            return true;
-        }
-        y += 1;
-    }
-    false
+    (0..6).any(|y| edge_both(store, digits, d, j, y, a, b))
 }
 
 // Whether one of the n children from `first` on has.
@@ -147,14 +122,7 @@ fn pair_has(store: &[u16], digits: &[u8; 32], first: usize, n: usize, a: u8, b: 
     requires { (full ≤ length store.now) × (n ≤ 8) × KidsInside first n }
     ensures { result ≡ pair_has store.now digits.now first n a b }
 {
-    let mut j: usize = 0;
-    while j < n {
-        if kid_has(store, digits, first + j, j, a, b) {
-            return true;
-        }
-        j += 1;
-    }
-    false
+    (0..n).any(|j| kid_has(store, digits, first + j, j, a, b))
 }
 
 // The status of the new child i of a green cell that will be red, from the digits of both families.
@@ -162,16 +130,16 @@ fn fresh_one(store: &[u16], old: &[u8; 32], red: &[u8; 32], first: usize, n: usi
     requires { (full ≤ length store.now) × (n ≤ 8) × KidsInside first n × (i < 8) }
     ensures { result ≡ fresh_by store.now old.now red.now first n i }
 {
-    let mut p: u16 = 0;
-    let mut y: usize = 6;
-    while y > 0 {
-        y -= 1;
-        let a = low_digit(red, i, y);
-        let b = high_digit(red, i, y);
-        let hit = pair_has(store, old, first, n, a, b);
-        p = bit(hit) + 2 * p;
-    }
-    p
+    pattern(|y| {
+        pair_has(
+            store,
+            old,
+            first,
+            n,
+            low_digit(red, i, y),
+            high_digit(red, i, y),
+        )
+    })
 }
 
 // The statuses of all eight.
@@ -179,11 +147,9 @@ fn fresh_all(store: &[u16], old: &[u8; 32], red: &[u8; 32], first: usize, n: usi
     requires { (full ≤ length store.now) × (n ≤ 8) × KidsInside first n }
     ensures { EightAs (fresh_by store.now old.now red.now first n) result }
 {
-    let mut fresh = [0u16; 8];
-    let mut i: usize = 0;
-    while i < 8 {
+    let mut fresh = [0; 8];
+    for i in 0..8 {
         fresh[i] = fresh_one(store, old, red, first, n, i);
-        i += 1;
     }
     fresh
 }
@@ -196,15 +162,13 @@ fn fresh_of(store: &[u16], c: usize) -> [u16; 8]
 {
     let status = store[STATUS + c];
     if status > 63 {
-        return [0u16; 8];
+        return [0; 8];
     }
     let first = store[CHILD + c] as usize;
-    let n = kid_count(store, c);
-    let own = cut(status as u8);
-    let red = cut(63);
-    let old_digits = own.digits;
-    let red_digits = red.digits;
-    fresh_all(store, &old_digits, &red_digits, first, n)
+    let families = Families::new();
+    let own = families.cut(status as u8).unwrap();
+    let red = families.cut(63).unwrap();
+    fresh_all(store, &own.digits, &red.digits, first, kid_count(store, c))
 }
 
 // The place of a cell.
@@ -220,59 +184,39 @@ fn place_at(store: &[u16], c: usize) -> Place
 }
 
 // Writes an entry, while there is room.
+#[tactic(auto, unfolding(crate::specs::Put::put, crate::specs::Put::entry_set))]
 fn put_entry(store: &mut [u16], p: Place, status: u16)
     requires { full ≤ length store.old }
     ensures { store.new ≡ put store.old p status }
 {
     let n = store[ENTRIES] as usize;
-    if n >= MOST_CELLS {
-        return;
+    if n < MOST_CELLS {
+        store[PLACE_HEAD + n] = p.head;
+        store[PLACE_DIGITS + n] = p.digits;
+        store[PLACE_MORE + n] = p.more;
+        store[PLACE_STATUS + n] = status;
+        store[ENTRIES] = (n + 1) as u16;
     }
-    store[PLACE_HEAD + n] = p.head;
-    store[PLACE_DIGITS + n] = p.digits;
-    store[PLACE_MORE + n] = p.more;
-    store[PLACE_STATUS + n] = status;
-    store[ENTRIES] = (n + 1) as u16;
-}
-
-// One more, at most 4,097.
-fn one_more(total: u16) -> u16
-    ensures { result ≡ min (total + 1) too_many }
-{
-    if total < TOTAL_MOST {
-        total + 1
-    } else {
-        TOTAL_MOST
-    }
-}
-
-// The higher of a level and that of a place.
-fn higher_of(high: u16, head: u16) -> u16
-    ensures { result ≡ max high (head / 256) }
-{
-    let level = head / 256;
-    if high < level { level } else { high }
 }
 
 // Writes a master, which also counts for the totals.
+#[tactic(auto, unfolding(crate::specs::Put::put_master))]
 fn put_master(store: &mut [u16], p: Place, status: u16)
     requires { full ≤ length store.old }
     ensures { store.new ≡ put_master store.old p status }
 {
-    let total = one_more(store[TOTAL]);
-    let high = higher_of(store[HIGH], p.head);
-    store[TOTAL] = total;
-    store[HIGH] = high;
+    store[TOTAL] = store[TOTAL].saturating_add(1).min(TOTAL_MOST);
+    store[HIGH] = store[HIGH].max(p.head / 256);
     put_entry(store, p, status);
 }
 
 // Writes the child i of the cell at p, a leaf.
+#[tactic(auto, unfolding(crate::specs::Put::put_leaf))]
 fn put_leaf(store: &mut [u16], p: Place, i: usize)
     requires { (full ≤ length store.old) × (i < 8) }
     ensures { store.new ≡ put_leaf p store.old i }
 {
-    let child = child_place(p, i as u16);
-    put_master(store, child, 0);
+    put_master(store, child_place(p, i as u16), 0);
 }
 
 // Writes the n children of the cell at p, all leaves.
@@ -280,10 +224,8 @@ fn put_leaves(store: &mut [u16], p: Place, n: usize)
     requires { (full ≤ length store.old) × (n ≤ 8) }
     ensures { store.new ≡ put_leaves p n store.old }
 {
-    let mut i: usize = 0;
-    while i < n {
+    for i in 0..n {
         put_leaf(store, p, i);
-        i += 1;
     }
 }
 
@@ -303,10 +245,8 @@ fn put_children(store: &mut [u16], p: Place, fresh: &[u16; 8])
     requires { (full ≤ length store.old) × EightFew fresh.now }
     ensures { store.new ≡ each_from (put_child p (λ i. get_or fresh.now i 0)) 8 0 store.old }
 {
-    let mut i: usize = 0;
-    while i < 8 {
+    for i in 0..8 {
         put_child(store, p, i, fresh[i]);
-        i += 1;
     }
 }
 
@@ -322,70 +262,48 @@ fn place_fresh(store: &mut [u16], c: usize)
 }
 
 // Writes a cell, if it is a master and stays.
+#[tactic(auto, unfolding(crate::specs::Put::place_master))]
 fn place_master(store: &mut [u16], c: usize)
     requires { (full ≤ length store.old) × (c < most_cells) }
     ensures { store.new ≡ place_master store.old c }
 {
-    if store[OWNER + c] != store[PART] {
-        return;
+    if store[OWNER + c] == store[PART] && stays(store, c) {
+        let status = new_status(store, c);
+        put_master(store, place_at(store, c), status);
     }
-    if !stays(store, c) {
-        return;
-    }
-    let status = new_status(store, c);
-    let p = place_at(store, c);
-    put_master(store, p, status);
 }
 
 // Writes a cell of another part whose family is here, if it is refined: 128 more for a ghost.
+#[tactic(auto, unfolding(crate::specs::Put::place_ghost))]
 fn place_ghost(store: &mut [u16], c: usize)
     requires { (full ≤ length store.old) × (c < most_cells) }
     ensures { store.new ≡ place_ghost store.old c }
 {
-    if store[OWNER + c] == store[PART] {
-        return;
+    if store[OWNER + c] != store[PART] && store[FAMILY + c] == store[PART] {
+        let status = new_status(store, c);
+        if status != 0 {
+            put_entry(store, place_at(store, c), 128 + status);
+        }
     }
-    if store[FAMILY + c] != store[PART] {
-        return;
-    }
-    let status = new_status(store, c);
-    if status == 0 {
-        return;
-    }
-    let p = place_at(store, c);
-    put_entry(store, p, 128 + status);
-}
-
-// Whether a refined cell will be red.
-fn red_beside(store: &[u16], c: usize, status: u16) -> bool
-    requires { (full ≤ length store.now) × (c < most_cells) }
-    ensures { result ≡ (eqb status 64 && not (eqb (field store.now (STATUS + c)) 0)) }
-{
-    if status != 64 {
-        return false;
-    }
-    store[STATUS + c] != 0
 }
 
 // Writes the new family of a cell, if it is here.
+#[tactic(auto, unfolding(crate::specs::Put::place_family, crate::specs::Status::remadeb))]
 fn place_family(store: &mut [u16], c: usize)
     requires { (full ≤ length store.old) × (field store.old CELLS ≤ most_cells) × (c < most_cells) }
     ensures { store.new ≡ place_family store.old c }
 {
-    if !anew(store, c) {
-        return;
+    if let Some(status) = remade(store, c) {
+        if status == 64 && store[STATUS + c] != 0 {
+            place_fresh(store, c);
+        } else {
+            put_leaves(store, place_at(store, c), size_of(status as u8));
+        }
     }
-    let status = new_status(store, c);
-    if red_beside(store, c, status) {
-        place_fresh(store, c);
-        return;
-    }
-    let p = place_at(store, c);
-    let n = size_of(status as u8);
-    put_leaves(store, p, n);
 }
 
 // Writes what a cell gives.
+#[tactic(auto, unfolding(crate::specs::Put::place_cell))]
 fn place_cell(store: &mut [u16], c: usize)
     requires { (full ≤ length store.old) × (field store.old CELLS ≤ most_cells) × (c < most_cells) }
     ensures { store.new ≡ place_cell store.old c }
@@ -400,15 +318,13 @@ pub fn place_cells(store: &mut [u16])
     requires { (full ≤ length store.old) × (field store.old CELLS ≤ most_cells) }
     ensures { store.new ≡ each_from place_cell (field store.old CELLS) 0 store.old }
 {
-    let cells = store[CELLS] as usize;
-    let mut c: usize = 0;
-    while c < cells {
+    for c in 0..store[CELLS] as usize {
         place_cell(store, c);
-        c += 1;
     }
 }
 
 // Writes a master or ghost as it was.
+#[tactic(auto, unfolding(crate::specs::Put::place_old))]
 fn place_old(store: &mut [u16], c: usize)
     requires { (full ≤ length store.old) × (c < most_cells) }
     ensures { store.new ≡ place_old store.old c }
@@ -417,12 +333,9 @@ fn place_old(store: &mut [u16], c: usize)
     let p = place_at(store, c);
     if store[OWNER + c] == store[PART] {
         put_entry(store, p, status);
-        return;
+    } else if store[FAMILY + c] == store[PART] {
+        put_entry(store, p, ((128 + status as usize) % 65536) as u16);
     }
-    if store[FAMILY + c] != store[PART] {
-        return;
-    }
-    put_entry(store, p, ((128 + status as usize) % 65536) as u16);
 }
 
 // Writes all masters and ghosts as they were.
@@ -430,10 +343,7 @@ pub fn place_olds(store: &mut [u16])
     requires { (full ≤ length store.old) × (field store.old CELLS ≤ most_cells) }
     ensures { store.new ≡ each_from place_old (field store.old CELLS) 0 store.old }
 {
-    let cells = store[CELLS] as usize;
-    let mut c: usize = 0;
-    while c < cells {
+    for c in 0..store[CELLS] as usize {
         place_old(store, c);
-        c += 1;
     }
 }

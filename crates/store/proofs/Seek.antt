@@ -1,7 +1,8 @@
 -- The walk to the next message, one step at a time.
 use Rattle.std.specs.Prelude.{◌≡◌, List}
 use Rattle.std.proofs.Common.{ap}
-use Prim.Native.Nat.{ℕ, suc, ◌-◌, ◌/◌, ◌%◌, ◌^◌, ◌≤◌, ◌<◌}
+use Prim.Native.Nat.{ℕ, suc, ◌+◌, ◌-◌, ◌/◌, ◌%◌, ◌^◌, ◌≤◌, ◌<◌}
+use native.Mathlib.Numerals.{add-one}
 use native.Mathlib.Omega.{arith}
 use borrow.Author.Tests.{eq-eqb, ne_eqb, lt-ltb, le-ltb}
 use Rattle.store.specs.Fields.{field, CURSOR, BIT}
@@ -13,11 +14,11 @@ bit_here m b h t =
     let z : 16 - b ≡ suc (15 - b) = omega arith in
     rw (z, bit_from, eq-eqb (m / 2 ^ b % 2) 1 t)
 
-pub bit_on : (m b : ℕ) → b < 16 → (m / 2 ^ b % 2 ≡ 1 → ⊥) → bit_from (16 - b) m b ≡ bit_from (16 - suc b) m (suc b)
+pub bit_on : (m b : ℕ) → b < 16 → (m / 2 ^ b % 2 ≡ 1 → ⊥) → bit_from (16 - b) m b ≡ bit_from (16 - (b + 1)) m (b + 1)
 unfolding bit_from bitb
 bit_on m b h t =
     let z : 16 - b ≡ suc (16 - suc b) = omega arith in
-    rw (z, bit_from, ne_eqb (m / 2 ^ b % 2) 1 t)
+    rw (add-one, z, bit_from, ne_eqb (m / 2 ^ b % 2) 1 t)
 
 pub bit_out : (m b : ℕ) → 16 ≤ b → bit_from (16 - b) m b ≡ 16
 unfolding bit_from
@@ -33,11 +34,11 @@ module _ (x : List ℕ) (n j b : ℕ) where
       let z : n - j ≡ suc (n - suc j) = omega arith in
       rw (z, seek_from, lt-ltb found 16 t)
 
-  pub seek_on : j < n → 16 ≤ found → seek_from x (n - j) j b ≡ seek_from x (n - suc j) (suc j) 0
+  pub seek_on : j < n → 16 ≤ found → seek_from x (n - j) j b ≡ seek_from x (n - (j + 1)) (j + 1) 0
   unfolding seek_from
   seek_on h t =
       let z : n - j ≡ suc (n - suc j) = omega arith in
-      rw (z, seek_from, le-ltb found 16 t)
+      rw (add-one, z, seek_from, le-ltb found 16 t)
 
   pub seek_out : n ≤ j → seek_from x (n - j) j b ≡ spot_at j 16
   unfolding seek_from

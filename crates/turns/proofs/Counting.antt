@@ -1,5 +1,5 @@
 -- Counts written, as the code writes them.
-use mathlib.Core.Path.{◌≡◌, refl, sym, ◌∙◌, ap, ap₂, subst}
+use mathlib.Core.Path.{◌≡◌, refl, ◌∙◌, ap, ap₂}
 use mathlib.Core.Bool.{Bool, true, false}
 use mathlib.Core.List.{List}
 use Prim.Native.Nat.{ℕ, ◌+◌, ◌-◌, ◌/◌, ◌%◌, ◌^◌, ◌≤◌, ◌<◌}
@@ -7,23 +7,18 @@ use native.Mathlib.Omega.{arith}
 use native.Mathlib.Decide.{dec_lt}
 use native.Mathlib.Nat.{div-eq_of_lt}
 use lib.Dec.{eqb}
-use borrow.Author.Tests.{eq-eqb, ne_eqb}
+use borrow.Author.Tests.{eq-eqb}
 use Rattle.base.specs.Limits.{most_slots}
 use Rattle.store.specs.Fields.{field, PART, FIRST_SLOT, HOLDERS, SUM, count_code}
 use Rattle.store.specs.Fetch.{bitb}
-use Rattle.turns.specs.Loops.{each_from, SameHead, head_self, head_on, each_head}
+use Rattle.turns.specs.Loops.{each_from, SameHead, head_self}
 use Rattle.turns.specs.Tally.{tally_one}
-use Rattle.turns.specs.Post.{posted, besides, count_one, post_end}
+use Rattle.turns.specs.Post.{besides, count_one, post_end}
 use Rattle.turns.specs.Start.{level_from}
 use Rattle.turns.specs.Step.{slot_from, tallied, enter_counts}
 use Rattle.turns.specs.Heads.{posted_head}
-use Rattle.turns.proofs.Tallying.{tally_head}
 
 module _ (x : List ℕ) (m : ℕ) where
-  pub besides_not : (m / 2 ^ (field x PART - 1) % 2 ≡ 1 → ⊥) → m ≡ besides x m
-  unfolding besides bitb
-  besides_not h = rw (ne_eqb (m / 2 ^ (field x PART - 1) % 2) 1 h, besides)
-
   pub besides_own : (b : ℕ) → m / 2 ^ (field x PART - 1) % 2 ≡ 1 → b ≡ 2 ^ (field x PART - 1) → m - b ≡ besides x m
   unfolding besides bitb
   besides_own b h e = ap (λ (n : ℕ). m - n) e ∙ rw (eq-eqb (m / 2 ^ (field x PART - 1) % 2) 1 h, besides)
@@ -41,11 +36,6 @@ module _ (x : List ℕ) (s : ℕ) where
   unfolding count_one
   count_none h = rw (eq-eqb (field x (SUM + s)) 0 h, count_one)
 
-  pub count_here : (y : List ℕ) (m : ℕ) → (field x (SUM + s) ≡ 0 → ⊥) → m ≡ besides x (field x (HOLDERS + s))
-      → y ≡ posted x (count_code + s) (field x (SUM + s)) m → y ≡ count_one x s
-  unfolding count_one
-  count_here y m h e i = i ∙ ap (posted x (count_code + s) (field x (SUM + s))) e ∙ rw (ne_eqb (field x (SUM + s)) 0 h, count_one)
-
   pub count_head : SameHead x (count_one x s)
   unfolding count_one
   count_head = go (eqb (field x (SUM + s)) 0) refl
@@ -58,18 +48,7 @@ module _ (x : List ℕ) (s : ℕ) where
   unfolding slot_from
   slot_low h = omega arith
 
-  pub slot_high : most_slots ≤ field x (FIRST_SLOT + s) → most_slots ≡ slot_from x s
-  unfolding slot_from
-  slot_high h = omega arith
-
 -- a level
-pub tallied_head : (x y : List ℕ) (a b : ℕ) → y ≡ each_from tally_one (b - a) a x → SameHead x y
-tallied_head x y a b t = subst (SameHead x) (sym t) (each_head tally_one tally_head (b - a) a x)
-
-pub counts_head : (x y z : List ℕ) (a b f l : ℕ) → y ≡ each_from tally_one (b - a) a x → z ≡ each_from count_one (l - f) f y → SameHead x z
-counts_head x y z a b f l t p =
-    head_on x y z (tallied_head x y a b t) (subst (SameHead y) (sym p) (each_head count_one count_head (l - f) f y))
-
 pub counts_is : (x y z w : List ℕ) (k a b f l : ℕ) → a ≡ level_from x k → b ≡ level_from x (k + 1) → f ≡ slot_from x k → l ≡ slot_from x (k + 1)
     → y ≡ each_from tally_one (b - a) a x → z ≡ each_from count_one (l - f) f y → w ≡ post_end z → w ≡ enter_counts x k
 unfolding enter_counts tallied

@@ -1,3 +1,4 @@
+pub mod Asking
 -- Laws for the proofs of the functions.
 pub mod Deciding
 pub mod Posting

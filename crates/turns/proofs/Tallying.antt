@@ -1,12 +1,11 @@
 -- The tally, as the code makes it.
-use mathlib.Core.Path.{◌≡◌, refl, ◌∙◌, ap}
+use mathlib.Core.Path.{◌≡◌, refl, ◌∙◌}
 use mathlib.Core.Bool.{Bool, true, false}
 use mathlib.Core.List.{List}
-use Prim.Native.Nat.{ℕ, ◌+◌, ◌%◌, ◌≤◌, ◌<◌}
+use Prim.Native.Nat.{ℕ, ◌+◌, ◌%◌}
 use native.Mathlib.Omega.{arith}
 use lib.Dec.{ltb}
-use lib.ListN.{set}
-use borrow.Author.Tests.{eq-eqb, ne_eqb, lt-ltb, le-ltb}
+use borrow.Author.Tests.{eq-eqb}
 use Rattle.base.specs.Limits.{most_slots}
 use Rattle.store.specs.Fields.{field, PART, OWNER, RED, SUM}
 use Rattle.turns.specs.Loops.{each_from, SameHead, head_self, head-set, each_head}
@@ -14,14 +13,6 @@ use Rattle.turns.specs.Decide.{slot_at}
 use Rattle.turns.specs.Tally.{add_one, add_edge, talliedb, tally_one}
 
 module _ (x : List ℕ) (s : ℕ) where
-  pub add_beyond : most_slots ≤ s → x ≡ add_one x s
-  unfolding add_one
-  add_beyond h = rw (le-ltb s most_slots h, add_one)
-
-  pub add_inside : s < most_slots → set x (SUM + s) ((field x (SUM + s) + 1) % 65536) ≡ add_one x s
-  unfolding add_one
-  add_inside h = rw (lt-ltb s most_slots h, add_one)
-
   add_head : SameHead x (add_one x s)
   unfolding add_one
   add_head = go (ltb s most_slots) refl
@@ -30,23 +21,11 @@ module _ (x : List ℕ) (s : ℕ) where
       go true e = rw (e, add_one) (head-set x (SUM + s) ((field x (SUM + s) + 1) % 65536) (omega arith))
       go false e = rw (e, add_one) (head_self x)
 
-pub add_edge_lem : (c : ℕ) (x y : List ℕ) (e s : ℕ) → s ≡ slot_at x c e → y ≡ add_one x s → y ≡ add_edge c x e
-unfolding add_edge
-add_edge_lem c x y e s i j = j ∙ ap (add_one x) i
-
 pub edge_head : (c : ℕ) (x : List ℕ) (e : ℕ) → SameHead x (add_edge c x e)
 unfolding add_edge
 edge_head c x e = add_head x (slot_at x c e)
 
 module _ (x : List ℕ) (c : ℕ) where
-  pub tally_other : (field x (OWNER + c) ≡ field x PART → ⊥) → x ≡ tally_one x c
-  unfolding tally_one talliedb
-  tally_other h = rw (ne_eqb (field x (OWNER + c)) (field x PART) h, tally_one)
-
-  pub tally_not : field x (OWNER + c) ≡ field x PART → (field x (RED + c) ≡ 1 → ⊥) → x ≡ tally_one x c
-  unfolding tally_one talliedb
-  tally_not o h = rw (eq-eqb (field x (OWNER + c)) (field x PART) o, ne_eqb (field x (RED + c)) 1 h, tally_one)
-
   pub tally_here : (y : List ℕ) → field x (OWNER + c) ≡ field x PART → field x (RED + c) ≡ 1 → y ≡ each_from (add_edge c) 6 0 x
       → y ≡ tally_one x c
   unfolding tally_one talliedb

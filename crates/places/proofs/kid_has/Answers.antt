@@ -1,22 +1,10 @@
-use native.Mathlib.Numerals.{add-one}
-use native.Mathlib.Omega.{arith}
-use mathlib.Core.Path.{sym, ◌∙◌}
-use Rattle.turns.specs.Loops.{some_here, some_on, some_out}
+use Rattle.std.proofs.Common.{rules, ◌∙◌}
+use Rattle.places.specs.Fresh.{edge_hit}
 use Rattle.places.proofs.Knowing.{kid_is}
+use Rattle.turns.proofs.Asking.{asked_by}
 use Rattle.places.proofs.kid_has.Goals as goal
-
-pub returns-then-edge_both : goal.returns-then-edge_both
-returns-then-edge_both c =
-    sym (some_here _ 6 _ (omega arith) (sym c.edge_both.ensures ∙ c.if-edge_both.true))
-    ∙ c.loop-y.invariant.1 ∙ kid_is _ _ _ _ _ _
-
-pub loop-y-preserved : goal.loop-y-preserved
-loop-y-preserved c = (
-  omega arith,
-  rw add-one (sym (some_on _ 6 _ (omega arith) (sym c.edge_both.ensures ∙ c.if-edge_both.false))
-      ∙ c.loop-y.invariant.1),
-)
 
 pub returns : goal.returns
 returns c =
-    sym (some_out _ 6 _ (omega arith)) ∙ c.loop-y.invariant.1 ∙ kid_is _ _ _ _ _ _
+    asked_by (edge_hit c.args.store.now c.args.digits.now c.args.d c.args.a c.args.b c.args.j) 0 6 _ _ c.any.ensures.ran (search rules)
+    (λ x t q k. search rules) ∙ kid_is _ _ _ _ _ _

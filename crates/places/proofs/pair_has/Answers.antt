@@ -1,22 +1,13 @@
-use native.Mathlib.Numerals.{add-one}
-use native.Mathlib.Omega.{arith}
-use mathlib.Core.Path.{sym, ◌∙◌}
-use Rattle.turns.specs.Loops.{some_here, some_on, some_out}
+use Rattle.std.proofs.Common.{rules, arith, ap, ◌≡◌, ◌+◌, ◌-◌, ◌∙◌}
+use Rattle.places.specs.Fresh.{kid_has}
 use Rattle.places.proofs.Knowing.{pair_is}
+use Rattle.turns.specs.Loops.{some_from}
+use Rattle.turns.proofs.Asking.{asked_by}
 use Rattle.places.proofs.pair_has.Goals as goal
-
-pub returns-then-kid_has : goal.returns-then-kid_has
-returns-then-kid_has c =
-    sym (some_here _ _ _ (omega arith) (sym c.kid_has.ensures ∙ c.if-kid_has.true))
-    ∙ c.loop-j.invariant.1 ∙ pair_is _ _ _ _ _ _
-
-pub loop-j-preserved : goal.loop-j-preserved
-loop-j-preserved c = (
-  omega arith,
-  rw add-one (sym (some_on _ _ _ (omega arith) (sym c.kid_has.ensures ∙ c.if-kid_has.false))
-      ∙ c.loop-j.invariant.1),
-)
 
 pub returns : goal.returns
 returns c =
-    sym (some_out _ _ _ (omega arith)) ∙ c.loop-j.invariant.1 ∙ pair_is _ _ _ _ _ _
+    let z : c.args.n - 0 ≡ c.args.n = omega arith in
+    asked_by (λ j. kid_has c.args.store.now c.args.digits.now (c.args.first + j) c.args.a c.args.b j) 0 c.args.n _ _ c.any.ensures.ran (search rules)
+    (λ x t q k. search rules)
+    ∙ ap (λ n. some_from (λ j. kid_has c.args.store.now c.args.digits.now (c.args.first + j) c.args.a c.args.b j) n 0) z ∙ pair_is _ _ _ _ _ _

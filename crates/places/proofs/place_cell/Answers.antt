@@ -1,6 +1,5 @@
 use native.Mathlib.Omega.{arith}
 use Rattle.places.specs.Front.{ghost_front}
-use Rattle.places.proofs.Placing.{cell_is}
 use Rattle.places.proofs.place_cell.Goals as goal
 
 pub place_family-requires : goal.place_family-requires
@@ -8,8 +7,3 @@ place_family-requires c =
     let w = ghost_front _ _ _ _
     c.place_master.ensures
     c.place_ghost.ensures in (omega (arith, w.size), omega (arith, w.head 5 (omega arith)), omega arith)
-
-pub returns : goal.returns
-returns c =
-    cell_is _ _ _ _ _ c.place_master.ensures
-    c.place_ghost.ensures c.place_family.ensures

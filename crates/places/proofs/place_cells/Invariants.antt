@@ -8,8 +8,5 @@ use Rattle.places.specs.Front.{SameFront}
 use Rattle.places.proofs.place_cells.Given as goal
 
 abbrev pub invariant-loop-c : goal.invariant-loop-c
-invariant-loop-c l = SameFront l.initial.store l.store × (each_from place_cell (l.cells - l.c) l.c l.store ≡ each_from place_cell
+invariant-loop-c l = SameFront l.initial.store l.store × (each_from place_cell (l.c-end - l.c) l.c l.store ≡ each_from place_cell
     (get_or l.initial.store CELLS 0) 0 l.initial.store)
-
-abbrev pub decreases-loop-c : goal.decreases-loop-c
-decreases-loop-c l = l.cells - l.c

@@ -7,6 +7,3 @@ use Rattle.places.proofs.put_leaves.Given as goal
 
 abbrev pub invariant-loop-i : goal.invariant-loop-i
 invariant-loop-i l = SameFront l.initial.store l.store × (each_from (put_leaf l.p) (l.n - l.i) l.i l.store ≡ each_from (put_leaf l.p) l.n 0 l.initial.store)
-
-abbrev pub decreases-loop-i : goal.decreases-loop-i
-decreases-loop-i l = l.n - l.i

@@ -1,14 +1,16 @@
-use Rattle.turns.proofs.Deciding.{busy_status, busy_mark, busy_hit}
+use Rattle.std.proofs.Common.{rules, ap, not, ne_eqb, sym, ◌∙◌, true≢false, tests}
+use Rattle.turns.specs.Decide.{hit_of}
+use Rattle.turns.proofs.Asking.{asked_by}
+use Rattle.turns.proofs.Deciding.{busy_hit}
+use Rattle.turns.proofs.is_busy.Goals.{then-store-d-ne0, else-store-d-ne0}
 use Rattle.turns.proofs.is_busy.Goals as goal
 
-pub returns-then-store-d-ne0 : goal.returns-then-store-d-ne0
-returns-then-store-d-ne0 c =
-    busy_status _ _ c.if-store-d-ne0.true
-
-pub returns-then-store-d-ne2 : goal.returns-then-store-d-ne2
-returns-then-store-d-ne2 c =
-    busy_mark _ _ c.if-store-d-ne0.false c.if-store-d-ne2.true
-
-pub returns : goal.returns
-returns c =
-    busy_hit _ _ _ c.if-store-d-ne0.false c.if-store-d-ne2.false c.some_hit.ensures
+pub returns-else-store-d-ne2 : goal.returns-else-store-d-ne2
+returns-else-store-d-ne2 c =
+    elim c.if-store-d-ne0.branch [
+      | then-store-d-ne0 w ↦
+          absurd (true≢false (sym (ap not (ne_eqb _ 0 w.if-store-d-ne0.true)) ∙ sym w.value-is ∙ c.if-store-d-ne2.false))
+      | else-store-d-ne0 w ↦
+          busy_hit c.args.store.now c.args.d _ w.if-store-d-ne0.false (search (rules, tests))
+          (asked_by (hit_of c.args.store.now c.args.d) 0 6 _ _ c.any.ensures.ran (search rules) (λ x t q k. search rules))
+    ]

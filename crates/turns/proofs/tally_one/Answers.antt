@@ -1,15 +1,12 @@
-use Rattle.turns.proofs.Tallying.{tally_other, tally_not, tally_here}
+use Rattle.std.proofs.Common.{add-one, arith, sym, ◌∙◌}
+use Rattle.turns.proofs.Tallying.{edge_head, tally_here}
+use Rattle.turns.specs.Tally.{add_edge}
+use Rattle.turns.specs.Loops.{each_again, each_out}
 use Rattle.turns.proofs.tally_one.Goals as goal
 
-pub returns-then-store-c : goal.returns-then-store-c
-returns-then-store-c c =
-    tally_other _ _ c.if-store-c.true
+pub loop-e-preserved : goal.loop-e-preserved
+loop-e-preserved c = rw add-one (each_again (add_edge _) (edge_head _) _ _ _ _ _ _ c.loop-e.invariant (omega arith) c.add_edge.ensures)
 
-pub returns-then-store-c-ne1 : goal.returns-then-store-c-ne1
-returns-then-store-c-ne1 c =
-    tally_not _ _ c.if-store-c.false c.if-store-c-ne1.true
-
-pub returns : goal.returns
-returns c =
-    tally_here _ _ _ c.if-store-c.false c.if-store-c-ne1.false
-    c.add_edges.ensures
+pub returns-after-loop-e : goal.returns-after-loop-e
+returns-after-loop-e c =
+    tally_here _ _ _ c.if-store-c.true c.if-store-c-eq1.true (sym (each_out (add_edge _) 6 _ _ (omega arith)) ∙ c.loop-e.invariant.1)
