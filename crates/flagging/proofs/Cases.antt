@@ -18,7 +18,8 @@ use Rattle.base.specs.Bools.{one_if}
 use Rattle.base.specs.Places.{hasb}
 use Rattle.mesh.specs.Cells.{edges, heldb, bits_of}
 use Rattle.edges.specs.Pairs.{Pair, sorted, isb, pairs_of}
-use Rattle.edges.specs.Table.{listed}
+use Rattle.pairs.specs.declared.PairTable.{PairTable}
+use Rattle.edges.specs.Table.{entries}
 use Rattle.rows.specs.Numbered.{cell_at}
 use Rattle.closure.specs.Listed.{listed_pattern}
 use Rattle.separation.specs.Scan.{apart_test}
@@ -84,15 +85,15 @@ touched_list t es g (d ∷ l) =
     both true b = refl
     both false b = refl
 
-pub touched_is : (t xs ys : List ℕ) (from n g j : ℕ)
-    → not (allb (apart_test (listed xs ys from n) t g) (edges 0 (cell_at t j))) ≡ touchedb t (listedb xs ys from n) g j
+pub touched_is : {N H : ℕ} (t : List ℕ) (table : PairTable N H) (g j : ℕ)
+    → not (allb (apart_test (entries table) t g) (edges 0 (cell_at t j))) ≡ touchedb t (listedb table) g j
 unfolding touchedb
-touched_is t xs ys from n g j = sym (touched_list t (listed xs ys from n) g (edges 0 (cell_at t j)))
+touched_is t table g j = sym (touched_list t (entries table) g (edges 0 (cell_at t j)))
 
 -- where no edge is listed, none is touched
-none_free : (xs ys : List ℕ) (from n : ℕ) → from ≡ n → (d : Pair) → listedb xs ys from n d ≡ false
+none_free : {N H : ℕ} (table : PairTable N H) → table.from ≡ table.n → (d : Pair) → listedb table d ≡ false
 unfolding pairs_of hasb
-none_free xs ys from n e d = let w : n - from ≡ 0 = omega arith in rw w
+none_free table e d = let w : table.n - table.from ≡ 0 = omega arith in rw w
 
 none_touched : (t : List ℕ) (held : Pair → Bool) (g : ℕ) → ((d : Pair) → held d ≡ false) → (l : List Pair)
     → anyb (touch_test t held g) l ≡ false
@@ -100,9 +101,10 @@ unfolding anyb
 none_touched t held g f [] = refl
 none_touched t held g f (d ∷ l) = rw (f d, and-false (not (heldb eqb (edges 0 (cell_at t g)) d))) (none_touched t held g f l)
 
-pub untouched : (t xs ys : List ℕ) (from n g j : ℕ) → from ≡ n → touchedb t (listedb xs ys from n) g j ≡ false
+pub untouched : {N H : ℕ} (t : List ℕ) (table : PairTable N H) (g j : ℕ) → table.from ≡ table.n
+    → touchedb t (listedb table) g j ≡ false
 unfolding touchedb
-untouched t xs ys from n g j e = none_touched t (listedb xs ys from n) g (none_free xs ys from n e) (edges 0 (cell_at t j))
+untouched t table g j e = none_touched t (listedb table) g (none_free table e) (edges 0 (cell_at t j))
 
 module _ (t ms : List ℕ) (held : Pair → Bool) (g j : ℕ) where
   pub pulled_mark : get_or ms j 0 ≡ 1 → pulledb t ms held g j ≡ true

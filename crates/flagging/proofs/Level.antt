@@ -11,7 +11,7 @@ use Prim.Native.Nat.{ℕ, ◌+◌, ◌-◌, ◌≤◌, ◌<◌}
 use native.Mathlib.Omega.{arith}
 use lib.ListN.{length, get_or, take, drop, set, length-set}
 use borrow.Author.Tests.{eq-eqb, ne_eqb}
-use Rattle.base.specs.Bools.{one_if}
+use Rattle.base.specs.Bools.{one_if, one_most}
 use Rattle.base.specs.Range.{range}
 use Rattle.mesh.specs.Cells.{redb}
 use Rattle.edges.specs.Pairs.{Pair}
@@ -20,6 +20,7 @@ use Rattle.closure.specs.Listed.{listed_pattern}
 use Rattle.redlist.specs.Ready.{red_count, count_one_lem}
 use Rattle.redlist.specs.Steps.{count_append}
 use Rattle.lineage.specs.Olds.{flag_of}
+use Rattle.lineage.specs.Flags.{flag_red}
 use Rattle.flagging.specs.Flags.{red_atb, flags_at, closed_at, closed_over}
 use Rattle.flagging.specs.Old.{Flagged}
 use Rattle.flagging.specs.Writes.{over_start, over_next, over_more, over_left}
@@ -75,16 +76,18 @@ module _ (t ss ms ks : List ℕ) (held : Pair → Bool) (first last : ℕ) (kept
       record { writing = writing_start flag_at first last kept₀ h; count = rw e; few = omega arith }
 
   module _ (kept : List ℕ) (reds c : ℕ) (w : Flagging kept reds c) where
-    pub flagging_more : c < last → last ≤ length kept₀ → (v b : ℕ) → v ≡ flag_at c → b ≡ one_if (redb v) → b ≤ 1
-        → Flagging (set kept c v) (reds + b) (c + 1)
-    flagging_more h g v b e eb one =
+    pub flagging_more : c < last → last ≤ length kept₀ → (v b : ℕ) (r : Bool) → r ≡ red_atb t ss ms ks held c → v ≡ flag_of r
+        → b ≡ one_if r → Flagging (set kept c v) (reds + b) (c + 1)
+    flagging_more h g v b r er ev eb =
+        let e : v ≡ flag_at c = ev ∙ ap flag_of er in
+        let red : redb v ≡ r = ap redb ev ∙ flag_red r in
         let fs = map flag_at (range first (c - first)) in
         let n : map flag_at (range first (c + 1 - first)) ≡ fs ++ (v ∷ []) =
         over_next flag_at kept₀ first c w.writing.above ∙ ap (λ (x : ℕ). fs ++ (x ∷ [])) (sym e) in
         record {
           writing = writing_more flag_at first last kept₀ kept c w.writing h g v e;
-          count = rw n (omega (arith, w.count, count_append fs (v ∷ []), count_one_lem v));
-          few = omega (arith, w.few, w.writing.above);
+          count = rw n (omega (arith, w.count, count_append fs (v ∷ []), count_one_lem v, eb, ap one_if red));
+          few = omega (arith, w.few, w.writing.above, eb, one_most r);
         }
 
     pub flagging_all : last ≤ c → Flagged t ss ms ks held first last kept₀ kept reds

@@ -1,6 +1,6 @@
 -- Treating a level: its flags are written, the edges of its new red cells listed, and what its cells keep is written.
--- Laws: none_listed, kept_many (how many will be red, of what is kept), red_many (how many edges there are), reds_range, reds_ready (what
--- listing asks for), closed_looks (what writing asks for), treated_full, treated_whole (the two ways to end).
+-- Laws: entries_none, kept_many (how many will be red, of what is kept), red_many (how many edges there are), reds_range, reds_ready (what listing asks
+-- for), treated (what is left).
 -- Assumes nothing.
 use mathlib.Core.Path.{◌≡◌, refl, sym, ◌∙◌, ap, ap₂}
 use mathlib.Core.Bool.{Bool, true, false}
@@ -9,29 +9,29 @@ use Prim.Native.Nat.{ℕ, ◌+◌, ◌*◌, ◌-◌, ◌≤◌, ◌<◌}
 use native.Mathlib.Omega.{arith}
 use lib.Dec.{eqb}
 use lib.ListN.{length, get_or, take, drop}
-use Rattle.base.specs.Bools.{one_if, not_both}
-use Rattle.base.specs.Places.{distinct_nil}
+use Rattle.base.specs.Bools.{one_if}
 use Rattle.base.specs.Range.{range, map_range}
 use Rattle.mesh.specs.Cells.{redb, red_edges}
-use Rattle.edges.specs.Pairs.{Pair, isb, same_pair, add_pairs, pairs_of}
-use Rattle.edges.specs.Table.{Table, Grown, listed}
+use Rattle.edges.specs.Pairs.{Pair, add_pairs, pairs_of}
+use Rattle.pairs.specs.declared.PairTable.{PairTable}
+use Rattle.edges.specs.Table.{Grown, entries}
+use Rattle.edges.specs.Seek.{none_listed}
 use Rattle.rows.specs.Numbered.{cell_at, cells_at, part}
 use Rattle.rows.specs.Laws.{length-cells}
 use Rattle.redlist.specs.Ready.{Ready, Range, red_count}
 use Rattle.redlist.specs.Steps.{length-reds}
-use Rattle.closure.specs.Listed.{Looks}
 use Rattle.closure.specs.Closed.{Lists, lists_added, pattern_listed}
 use Rattle.lineage.specs.Olds.{flag_of}
 use Rattle.lineage.specs.Flags.{flag_red}
 use Rattle.kept.specs.Kept.{kept_of}
 use Rattle.kept.specs.Laws.{kept_is_red}
 use Rattle.flagging.specs.Flags.{red_atb, flags_at, kepts_at, closed_at, closed_over}
-use Rattle.flagging.specs.Old.{OldRows, Span, SideBySide, Flagged, Treated, level_reds}
+use Rattle.flagging.specs.Old.{OldRows, Span, Flagged, Treated, level_reds}
 use Rattle.flagging.specs.Writes.{over_at, over_part, over_again, length-flags}
 
-pub none_listed : (xs ys : List ℕ) (n : ℕ) → listed xs ys n n ≡ []
+pub entries_none : {N H : ℕ} (table : PairTable N H) → table.from ≡ table.n → entries table ≡ []
 unfolding pairs_of
-none_listed xs ys n = let e : n - n ≡ 0 = omega arith in rw e
+entries_none table e = let z : table.n - table.from ≡ 0 = omega arith in rw z
 
 -- where the edges of new red cells are listed, a cell keeps its pattern
 closed_is : (es reds : List Pair) → Lists es reds → (t : List ℕ) (c : ℕ) (b : Bool) → closed_at es t (flag_of b) c ≡ kept_of 0 eqb reds b
@@ -88,67 +88,39 @@ module _ (t ss ms ks : List ℕ) (held : Pair → Bool) where
           (λ c i j. ap (λ (x : ℕ). closed_at es t x c) (own_at c i (omega (arith, s.up)))
           ∙ closed_is es reds m t c (red_atb t ss ms ks held c))
 
-      module _ (xs ys heads links : List ℕ) (n : ℕ) where
-        pub reds_ready : (from : ℕ) → OldRows t ss ms ks → Table xs ys heads links from n → SideBySide xs ys links
-            → n + 6 * reds ≤ length xs
-            → Ready t xs ys heads links last n n (6 * red_count (part kept₁ first (last - first)))
-        reds_ready from o b r h =
+      module _ {N H : ℕ} (table table₁ : PairTable N H) (from_is : table₁.from ≡ table.n) (n_is : table₁.n ≡ table.n) where
+        pub reds_ready : OldRows t ss ms ks → N ≤ 65535 → table.n + 6 * reds ≤ N
+            → Ready t last table₁ (6 * red_count (part kept₁ first (last - first)))
+        reds_ready o small h =
             let e : red_count (part kept₁ first (last - first)) ≡ reds = ap red_count own_part ∙ sym f.count in
             rw e
             (record {
               rows = omega (arith, o.rows, s.inside);
-              table = record {
-                keys = b.keys;
-                up = omega arith;
-                distinct = rw (none_listed xs ys n) (distinct_nil isb (0, 0) same_pair);
-              };
-              space = record {
-                small = omega (arith, r.small);
-                in_xs = h;
-                in_ys = omega (arith, r.in_ys);
-                in_links = omega (arith, r.in_links);
-              };
+              edges = none_listed table₁ (from_is ∙ sym n_is);
+              space = record { small = omega (arith, n_is); inside = omega (arith, n_is) };
             })
 
-        pub treated_full : length xs < n + 6 * reds → Treated t ss ms ks held first last kept xs ys n kept₁ xs ys heads links false reds n
-        treated_full h =
-            record {
-              count = f.count;
-              full = λ e. h;
-              room = λ e. not_both false e refl;
-              written = λ e. not_both false e refl;
-              grown = λ e. not_both false e refl;
-            }
+        module _ (table₂ : PairTable N H)
+            (g : Grown table₁ (red_edges 0 (cells_at t first (last - first)) (part kept₁ first (last - first))) table₂) where
+          own_grown : Grown table₁ (level_reds t ss ms ks held first last) table₂
+          own_grown = rw own_part at g
 
-        module _ (xs₂ ys₂ heads₂ links₂ : List ℕ) (m : ℕ)
-            (g : Grown xs ys n n (red_edges 0 (cells_at t first (last - first)) (part kept₁ first (last - first))) xs₂ ys₂ heads₂ links₂ m)
-          where
-            pub closed_looks : OldRows t ss ms ks → Looks t xs₂ ys₂ heads₂ links₂ last n m
-            closed_looks o = record {
-              rows = omega (arith, o.rows, s.inside);
-              table = record { keys = g.edges.keys; up = g.more };
-            }
-
-            own_grown : Grown xs ys n n (level_reds t ss ms ks held first last) xs₂ ys₂ heads₂ links₂ m
-            own_grown = rw own_part at g
-
-            pub treated_whole : (kept₂ : List ℕ)
-                → kept₂ ≡ take first kept₁ ++ (closed_over (listed xs₂ ys₂ n m) t kept₁ first (last - first) ++ drop last kept₁)
-                → n + 6 * reds ≤ length xs
-                → Treated t ss ms ks held first last kept xs ys n kept₂ xs₂ ys₂ heads₂ links₂ true reds m
-            treated_whole kept₂ e h =
-                let es : List Pair = level_reds t ss ms ks held first last in
-                let l : listed xs₂ ys₂ n m ≡ add_pairs [] es =
-                own_grown.list ∙ ap (λ (x : List Pair). add_pairs x es) (none_listed xs ys n) in
-                let k : Lists (listed xs₂ ys₂ n m) es = rw l (lists_added es) in
-                let w : closed_over (listed xs₂ ys₂ n m) t kept₁ first (last - first) ≡ kepts_at t ss ms ks held es first (last - first) =
-                kepts_are (listed xs₂ ys₂ n m) es k in
-                record {
-                  count = f.count;
-                  full = λ b. not_both true refl b;
-                  room = λ b. h;
-                  written = λ b. over_again kept own (kepts_at t ss ms ks held es first (last - first)) kept₁ kept₂ first last s.up
-                      (omega (arith, s.inside, s.room)) (length-flags t ss ms ks held first (last - first)) f.flags
-                      (e ∙ ap (λ (x : List ℕ). take first kept₁ ++ (x ++ drop last kept₁)) w);
-                  grown = λ b. own_grown;
-                }
+          pub treated : (kept₂ : List ℕ)
+              → kept₂ ≡ take first kept₁ ++ (closed_over (entries table₂) t kept₁ first (last - first) ++ drop last kept₁)
+              → (highest : Bool) → (highest ≡ true → reds ≡ 0)
+              → Treated t ss ms ks held first last kept highest table kept₂ table₂
+          treated kept₂ e highest low =
+              let es : List Pair = level_reds t ss ms ks held first last in
+              let none : entries table₁ ≡ [] = entries_none table₁ (from_is ∙ sym n_is) in
+              let l : entries table₂ ≡ add_pairs [] es = own_grown.list ∙ ap (λ (x : List Pair). add_pairs x es) none in
+              let k : Lists (entries table₂) es = rw l (lists_added es) in
+              let w : closed_over (entries table₂) t kept₁ first (last - first) ≡ kepts_at t ss ms ks held es first (last - first) =
+              kepts_are (entries table₂) es k in
+              record {
+                written = over_again kept own (kepts_at t ss ms ks held es first (last - first)) kept₁ kept₂ first last s.up
+                    (omega (arith, s.inside, s.room)) (length-flags t ss ms ks held first (last - first)) f.flags
+                    (e ∙ ap (λ (x : List ℕ). take first kept₁ ++ (x ++ drop last kept₁)) w);
+                list = l;
+                most = omega (arith, own_grown.most, n_is, red_many);
+                low = λ b. sym f.count ∙ low b;
+              }

@@ -1,52 +1,56 @@
 -- One level more on the way down.
--- Laws: up_none (no level), level_up (what the level above asks for), up_full (the level above had no room), up_side, up_span (what
--- treating the level asks for), up_more (one level more).
+-- Laws: up_none (no level), level_up (what the level above asks for), up_refused (the levels above are refused), up_span (what treating
+-- the level asks for), up_more (one level more), up_untreated (this level is refused).
 -- Assumes nothing.
 use mathlib.Core.Path.{◌≡◌, refl, sym, ◌∙◌, ap, fun_ext}
 use mathlib.Core.Bool.{Bool, true, false, ◌||◌}
 use mathlib.Core.List.{List, [], ◌∷◌, ◌++◌}
-use Prim.Native.Nat.{ℕ, zero, suc, ◌+◌, ◌*◌, ◌-◌, ◌≤◌, ◌<◌}
+use Prim.Native.Nat.{ℕ, zero, suc, ◌+◌, ◌-◌, ◌<◌}
 use native.Mathlib.Nat.{add-zero, zero-add}
+use Rattle.std.specs.Prelude.{Result, Ok, Err, MatchResult}
 use native.Mathlib.Omega.{arith}
 use lib.Dec.{eqb, ltb}
 use lib.ListN.{length, get_or, take, drop, take-append-drop}
-use borrow.Author.Tests.{lt-ltb}
+use borrow.Author.Tests.{lt-ltb, eqb-true}
 use Rattle.base.specs.Bools.{one_if, not_both}
 use Rattle.base.specs.Lists.{anyb}
 use Rattle.base.specs.Places.{hasb}
 use Rattle.mesh.specs.Cells.{redb, heldb}
-use Rattle.edges.specs.Pairs.{Pair, isb, add_pairs}
-use Rattle.edges.specs.Table.{listed}
+use Rattle.edges.specs.Pairs.{Pair, isb}
+use Rattle.pairs.specs.declared.PairTable.{PairTable}
+use Rattle.base.specs.declared.Refusal.{Refusal}
+use Rattle.edges.specs.Table.{entries}
 use Rattle.redlist.specs.Ready.{red_count}
 use Rattle.redlist.specs.Steps.{count_append}
 use Rattle.closure.specs.Closed.{lists_added, held_listed}
 use Rattle.flagging.specs.Flags.{listedb, flags_at, kepts_at, reds_up, kept_up, high_up}
-use Rattle.flagging.specs.Old.{OldRows, Span, SideBySide, OneLevel, Treated, Above, LookedUp}
+use Rattle.flagging.specs.Old.{OldRows, Span, OneLevel, Treated, Untreated, Above, Unkept}
 use Rattle.flagging.specs.Writes.{length_kepts, flags_both}
-use Rattle.flagging.proofs.Treat.{none_listed, kept_many, red_many}
+use Rattle.flagging.proofs.Treat.{entries_none, kept_many}
 
-pub up_none : (t ss ms ks : List ℕ) (first last : ℕ) (kept xs ys heads links : List ℕ)
-    → OneLevel ss ks kept xs ys heads links first last → (depth : ℕ) → depth ≡ 0
-    → LookedUp t ss ms ks depth first last kept kept xs xs ys heads links true false 0 0
+-- a result that says more, case by case
+pub ended : {A E : Type 0} {P P' : Type 0} {Q Q' : E → Type 0} (r : Result A E) → MatchResult r (λ _. P) Q → (P → P')
+    → ((e : E) → Q e → Q' e) → MatchResult r (λ _. P') Q'
+ended (Ok x) m p q = p m
+ended (Err e) m p q = q e m
+
+pub up_none : (t ss ms ks : List ℕ) (first last : ℕ) (kept : List ℕ) {N H : ℕ} (table : PairTable N H)
+    → (table.from ≡ 0) × (table.n ≡ 0) → (depth : ℕ) → depth ≡ 0 → Above t ss ms ks depth first last kept kept table
 unfolding kept_up reds_up high_up red_count
-up_none t ss ms ks first last kept xs ys heads links l depth d =
+up_none t ss ms ks first last kept table (from_is, n_is) depth d =
     rw d
     (record {
-      whole = λ b. record {
+      keeps = record {
         written = sym (ap (λ (x : ℕ). take first kept ++ drop x kept) (add-zero first) ∙ take-append-drop first kept);
-        table = record { keys = l.keys; up = omega arith };
-        lists = record { has = λ p. ap (λ (es : List Pair). hasb isb es p) (none_listed xs ys 0) };
-        few = omega arith;
-        within = omega arith;
+        low = refl;
       };
-      full = λ b. not_both true refl b;
-      top = refl;
+      lists = record { has = λ p. ap (λ (es : List Pair). hasb isb es p) (entries_none table (from_is ∙ sym n_is)) };
+      few = omega (arith, n_is);
     })
 
-pub level_up : (t ss ms ks kept xs ys heads links : List ℕ) (first last : ℕ) → OldRows t ss ms ks
-    → OneLevel ss ks kept xs ys heads links first last
-    → OneLevel ss ks kept xs ys heads links last (get_or ks last 0)
-level_up t ss ms ks kept xs ys heads links first last o l =
+pub level_up : (t ss ms ks kept : List ℕ) (first last : ℕ) → OldRows t ss ms ks → OneLevel ss ks kept first last
+    → OneLevel ss ks kept last (get_or ks last 0)
+level_up t ss ms ks kept first last o l =
     record {
       span =
           record {
@@ -55,13 +59,7 @@ level_up t ss ms ks kept xs ys heads links first last o l =
             room = l.span.room;
           };
       children = refl;
-      keys = l.keys;
     }
-
-pub up_side : (xs ys links xs₁ ys₁ links₁ : List ℕ) → SideBySide xs ys links → length xs₁ ≡ length xs → length ys₁ ≡ length ys
-    → length links₁ ≡ length links → SideBySide xs₁ ys₁ links₁
-up_side xs ys links xs₁ ys₁ links₁ s e f g =
-    record { small = omega (arith, s.small); in_ys = omega (arith, s.in_ys); in_links = omega (arith, s.in_links) }
 
 pub up_span : (ss kept kept₁ : List ℕ) (first last : ℕ) → Span ss kept first last → length kept₁ ≡ length kept → Span ss kept₁ first last
 up_span ss kept kept₁ first last s e = record { up = s.up; inside = s.inside; room = omega (arith, s.room) }
@@ -101,68 +99,76 @@ module _ (t ss ms ks : List ℕ) (first last : ℕ) where
   high_above zero n = absurd (n refl)
   high_above (suc h) n = refl
 
-  high_is : (h reds : ℕ) (up r : Bool) → (suc h ≡ 1 → r ≡ ltb 0 reds) → ((suc h ≡ 1 → ⊥) → r ≡ up) → up ≡ high_up t ss ms ks h last end
-      → reds ≡ red_count (flags_up h) → r ≡ high_up t ss ms ks (suc h) first last
+  high_on : (h : ℕ) → high_up t ss ms ks h last end ≡ true → high_up t ss ms ks (suc h) first last ≡ true
   unfolding high_up
-  high_is zero reds up r a b e c = a refl ∙ ap (ltb 0) c ∙ any_count (flags_up 0)
-  high_is (suc h) reds up r a b e c = b (λ z. omega arith) ∙ e
+  high_on zero e = not_both false e refl
+  high_on (suc h) e = e
 
   none_red : red_count (kept_up t ss ms ks 0 last end) ≡ 0
   unfolding kept_up red_count
   none_red = refl
 
-  module _ (h : ℕ) (kept kept₁ xs xs₁ ys₁ heads₁ links₁ : List ℕ) (ok₁ high₁ : Bool) (from₁ n₁ : ℕ)
-      (u : LookedUp t ss ms ks h last end kept kept₁ xs xs₁ ys₁ heads₁ links₁ ok₁ high₁ from₁ n₁) where
-    pub up_full : (depth : ℕ) → depth ≡ suc h → ok₁ ≡ false
-        → LookedUp t ss ms ks depth first last kept kept₁ xs xs₁ ys₁ heads₁ links₁ false high₁ 0 0
-    up_full depth d b =
-        let f : length xs < 6 * red_count (kept_up t ss ms ks h last end) = u.full b in
-        let z : h ≡ 0 → ⊥ = λ e. omega (arith, none_red, ap (λ (x : ℕ). red_count (kept_up t ss ms ks x last end)) e) in
+  -- whether a cell of the highest level will be red, by how many of this level will be where it is that
+  low_is : (h : ℕ) → (eqb (suc h) 1 ≡ true → red_count (flags_up h) ≡ 0) → high_up t ss ms ks h last end ≡ false
+      → high_up t ss ms ks (suc h) first last ≡ false
+  unfolding high_up
+  low_is zero a e = sym (any_count (flags_up 0)) ∙ ap (ltb 0) (a refl)
+  low_is (suc h) a e = e
+
+  high_is : (h : ℕ) → eqb (suc h) 1 ≡ true → 0 < red_count (flags_up h) → high_up t ss ms ks (suc h) first last ≡ true
+  unfolding high_up
+  high_is zero a l = sym (any_count (flags_up 0)) ∙ lt-ltb 0 (red_count (flags_up 0)) l
+  high_is (suc h) a l = let z : suc (suc h) ≡ 1 = eqb-true (suc (suc h)) 1 a in absurd (omega arith)
+
+  module _ (h depth : ℕ) (d : depth ≡ suc h) where
+    -- the levels above are refused
+    pub up_refused : (room : ℕ) (r : Refusal) → Unkept t ss ms ks h last end room r → Unkept t ss ms ks depth first last room r
+    up_refused room r u =
         rw d
         (record {
-          whole = λ e. not_both false e refl;
-          full = λ e. omega (arith, f, count_both h);
-          top = u.top ∙ high_above h z;
+          one = u.one;
+          high = λ e. high_on h (u.high e);
+          low = λ e.
+              let z : h ≡ 0 → ⊥ =
+              λ i. omega (arith, u.many e, none_red, ap (λ (x : ℕ). red_count (kept_up t ss ms ks x last end)) i) in
+              sym (high_above h z) ∙ u.low e;
+          many = λ e. omega (arith, u.many e, count_both h);
         })
 
-    module _ (b : ok₁ ≡ true) (s : Span ss kept first last) (same_xs : length xs₁ ≡ length xs) (kept₂ xs₂ ys₂ heads₂ links₂ : List ℕ)
-        (ok : Bool) (reds n₂ : ℕ)
-        (r : Treated t ss ms ks (listedb xs₁ ys₁ from₁ n₁) first last kept₁ xs₁ ys₁ n₁ kept₂ xs₂ ys₂ heads₂ links₂ ok reds n₂)
-        (same₂ : length xs₂ ≡ length xs₁) where
-      abbrev above : Above t ss ms ks h last end kept kept₁ xs₁ ys₁ heads₁ links₁ from₁ n₁
-      above = u.whole b
-
+    module _ {N H : ℕ} (kept kept₁ : List ℕ) (table₁ : PairTable N H) (above : Above t ss ms ks h last end kept kept₁ table₁) where
       -- what was listed is what new red cells one level up hold
-      treated : Treated t ss ms ks (held_up h) first last kept₁ xs₁ ys₁ n₁ kept₂ xs₂ ys₂ heads₂ links₂ ok reds n₂
-      treated =
-          let e : listedb xs₁ ys₁ from₁ n₁ ≡ held_up h =
-          fun_ext (held_listed (listed xs₁ ys₁ from₁ n₁) (reds_up t ss ms ks h last end) above.lists) in
-          rw e at r
+      held_is : listedb table₁ ≡ held_up h
+      held_is = fun_ext (held_listed (entries table₁) (reds_up t ss ms ks h last end) above.lists)
 
-      more_above : ok ≡ true → Above t ss ms ks (suc h) first last kept kept₂ xs₂ ys₂ heads₂ links₂ n₁ n₂
+      pub up_more : Span ss kept first last → (kept₂ : List ℕ) (table₂ : PairTable N H)
+          → Treated t ss ms ks (listedb table₁) first last kept₁ (eqb depth 1) table₁ kept₂ table₂
+          → Above t ss ms ks depth first last kept kept₂ table₂
       unfolding kept_up reds_up
-      more_above e =
+      up_more s kept₂ table₂ w =
+          let treated : Treated t ss ms ks (held_up h) first last kept₁ (eqb (suc h) 1) table₁ kept₂ table₂ = rw (held_is, d) at w in
           let es : List Pair = reds_up t ss ms ks (suc h) first last in
-          let g = treated.grown e in
           let own : List ℕ = kepts_at t ss ms ks (held_up h) es first (last - first) in
           let up : List ℕ = kept_up t ss ms ks h last end in
-          let l : listed xs₂ ys₂ n₁ n₂ ≡ add_pairs [] es = g.list ∙ ap (λ (x : List Pair). add_pairs x es) (none_listed xs₁ ys₁ n₁) in
-          let m : n₂ ≤ n₁ + 6 * reds = omega (arith, g.most, red_many t ss ms ks (held_up h) first last, treated.count) in
-          record {
-            written = flags_both kept kept₁ kept₂ own up first last s.up (omega (arith, s.inside, s.room))
-                (length_kepts t ss ms ks (held_up h) es first (last - first)) above.written (treated.written e);
-            table = record { keys = g.edges.keys; up = g.more };
-            lists = rw l (lists_added es);
-            few = omega (arith, m, above.few, count_both h, treated.count);
-            within = omega (arith, m, treated.room e);
-          }
-
-      pub up_more : (depth : ℕ) → depth ≡ suc h → (high : Bool) → (depth ≡ 1 → high ≡ ltb 0 reds) → ((depth ≡ 1 → ⊥) → high ≡ high₁)
-          → LookedUp t ss ms ks depth first last kept kept₂ xs xs₂ ys₂ heads₂ links₂ ok high n₁ n₂
-      up_more depth d high p q =
           rw d
           (record {
-            whole = more_above;
-            full = λ e. omega (arith, treated.full e, above.few, count_both h, treated.count);
-            top = high_is h reds high₁ high (rw d at p) (rw d at q) u.top treated.count;
+            keeps = record {
+              written = flags_both kept kept₁ kept₂ own up first last s.up (omega (arith, s.inside, s.room))
+                  (length_kepts t ss ms ks (held_up h) es first (last - first)) above.keeps.written treated.written;
+              low = low_is h treated.low above.keeps.low;
+            };
+            lists = rw treated.list (lists_added es);
+            few = omega (arith, treated.most, above.few, count_both h);
+          })
+
+      -- this level is refused
+      pub up_untreated : (r : Refusal) → Untreated t ss ms ks (listedb table₁) first last (eqb depth 1) table₁ r
+          → Unkept t ss ms ks depth first last N r
+      up_untreated r w =
+          let u : Untreated t ss ms ks (held_up h) first last (eqb (suc h) 1) table₁ r = rw (held_is, d) at w in
+          rw d
+          (record {
+            one = u.one;
+            high = λ e. high_is h (u.high e).0 (u.high e).1;
+            low = λ e. low_is h (u.low e) above.keeps.low;
+            many = λ e. omega (arith, u.many e, above.few, count_both h);
           })

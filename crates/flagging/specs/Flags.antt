@@ -1,7 +1,7 @@
 -- Which cells of an old table will be red and what each cell keeps, over corner numbers: t are the rows of the cells, ss their statuses,
 -- ms their marks, and ks the numbers of their first children.
 --   kids_of ks k             the numbers of the children of the cell k
---   listedb xs ys from n    the test whether an edge is listed
+--   listedb table            the test whether an edge is listed
 --   idleb held j            the cell j is a leaf marked 2, and none of its edges is held by a new red cell of its level
 --   touchedb held g j       an edge of the cell j, not of the cell g, is held by a new red cell of its level
 --   pulledb held g j        the child j of the green cell g is marked 1 or touched
@@ -21,7 +21,8 @@ use Rattle.base.specs.Lists.{allb, anyb}
 use Rattle.base.specs.Places.{hasb}
 use Rattle.mesh.specs.Cells.{redb, edges, heldb, red_edges}
 use Rattle.edges.specs.Pairs.{Pair, sorted, isb}
-use Rattle.edges.specs.Table.{listed}
+use Rattle.pairs.specs.declared.PairTable.{PairTable}
+use Rattle.edges.specs.Table.{entries}
 use Rattle.closure.specs.Listed.{listed_pattern}
 use Rattle.rows.specs.Numbered.{cell_at, cells_at}
 use Rattle.lineage.specs.Olds.{flag_of}
@@ -33,8 +34,8 @@ unfoldable pub kids_of : List ℕ → ℕ → List ℕ
 unfolding range
 kids_of ks k = range (get_or ks k 0) (get_or ks (suc k) 0 - get_or ks k 0)
 
-abbrev pub listedb : List ℕ → List ℕ → ℕ → ℕ → Pair → Bool
-listedb xs ys from n e = hasb isb (listed xs ys from n) (sorted e)
+abbrev pub listedb : {N H : ℕ} → PairTable N H → Pair → Bool
+listedb table e = hasb isb (entries table) (sorted e)
 
 -- Rule 7.3, at one child.
 unfoldable pub idleb : List ℕ → List ℕ → List ℕ → (Pair → Bool) → ℕ → Bool

@@ -1,22 +1,23 @@
 -- What the functions ask for and leave. The old table has the rows t, the statuses ss and the marks ms, and ks are the numbers of
--- first children; the edge table has room for as many entries as xs.
+-- first children.
 --   OldRows t ss ms ks   the old table, as far as it matters for looking at it
 --   Span ..              cells of the old table from first to last, and what is kept of all cells
---   SideBySide ..        an edge table whose room is that of xs
---   OneLevel ..          a level, and an edge table with nothing in it
+--   OneLevel ..          a level
 --   Flagged ..           what writing the flags of a level leaves
---   level_reds held ..    the edges of a level's new red cells
---   Treated ..           what treating a level leaves: its cells' new red edges are listed and what they keep is written, or there is no
---                        room for six edges of each
---   Above ..             what treating h levels from this one on leaves where there is room
---   LookedUp ..          what treating h levels from this one on leaves
---   LookedAt ..          the same of all levels, the edge table aside
-use Rattle.std.specs.Prelude.{◌≡◌, Bool, true, false, List, ◌++◌, ℕ, ◌+◌, ◌*◌, ◌-◌, ◌≤◌, ◌<◌, length, get_or, take, drop}
+--   level_reds held ..   the edges of a level's new red cells
+--   Treated ..           what treating a level leaves: its cells' new red edges are listed and what they keep is written
+--   Untreated ..         why it is refused: a cell of the highest level will be red, or there is no room for six edges of each that will be
+--   Kept ..              what the cells of h levels from this one on keep is written, and no cell of the highest will be red
+--   Above ..             the same, and the edges of this level's new red cells are listed
+--   Unkept ..            why h levels from this one on are refused
+use Rattle.std.specs.Prelude.{◌≡◌, ◌⊎◌, Bool, true, false, List, [], ◌++◌, ℕ, ◌+◌, ◌*◌, ◌-◌, ◌≤◌, ◌<◌, length, get_or, take, drop}
 use Rattle.base.specs.Limits.{most_cells}
+use Rattle.base.specs.declared.Refusal.{Refusal}
+use Rattle.base.specs.declared.Refusal.TheVariants.{TooHigh, TooMany}
 use Rattle.mesh.specs.Cells.{red_edges}
-use Rattle.pairs.specs.Keys.{Keys}
-use Rattle.edges.specs.Pairs.{Pair}
-use Rattle.edges.specs.Table.{Table, Grown, listed}
+use Rattle.pairs.specs.declared.PairTable.{PairTable}
+use Rattle.edges.specs.Pairs.{Pair, add_pairs}
+use Rattle.edges.specs.Table.{entries}
 use Rattle.rows.specs.Numbered.{cells_at}
 use Rattle.redlist.specs.Ready.{red_count}
 use Rattle.closure.specs.Closed.{Lists}
@@ -35,15 +36,9 @@ pub record Span (ss kept : List ℕ) (first last : ℕ) : Type 0 where
   pub inside : last ≤ length ss
   pub room : length ss ≤ length kept
 
-pub record SideBySide (xs ys links : List ℕ) : Type 0 where
-  pub small : length xs ≤ 65535
-  pub in_ys : length xs ≤ length ys
-  pub in_links : length xs ≤ length links
-
-pub record OneLevel (ss ks kept xs ys heads links : List ℕ) (first last : ℕ) : Type 0 where
+pub record OneLevel (ss ks kept : List ℕ) (first last : ℕ) : Type 0 where
   pub span : Span ss kept first last
   pub children : last ≡ get_or ks first 0
-  pub keys : Keys xs ys heads links 0
 
 module _ (t ss ms ks : List ℕ) where
   -- the flags of a level, and how many there are
@@ -56,33 +51,35 @@ module _ (t ss ms ks : List ℕ) where
   abbrev pub level_reds : (Pair → Bool) → ℕ → ℕ → List Pair
   level_reds held first last = red_edges 0 (cells_at t first (last - first)) (flags_at t ss ms ks held first (last - first))
 
-  module _ (held : Pair → Bool) (first last : ℕ) (kept xs ys : List ℕ) (n : ℕ) (kept' xs' ys' heads' links' : List ℕ) where
-    pub record Treated (ok : Bool) (reds n' : ℕ) : Type 0 where
-      pub count : reds ≡ red_count (flags_at t ss ms ks held first (last - first))
-      pub full : ok ≡ false → length xs < n + 6 * reds
-      pub room : ok ≡ true → n + 6 * reds ≤ length xs
-      pub written : ok ≡ true
-          → kept' ≡ take first kept ++ (kepts_at t ss ms ks held (level_reds held first last) first (last - first) ++ drop last kept)
-      pub grown : ok ≡ true → Grown xs ys n n (level_reds held first last) xs' ys' heads' links' n'
+  module _ {N H : ℕ} (held : Pair → Bool) (first last : ℕ) where
+    pub record Treated (kept : List ℕ) (highest : Bool) (table : PairTable N H) (kept' : List ℕ) (table' : PairTable N H) : Type 0 where
+      pub written : kept' ≡ take first kept ++ (kepts_at t ss ms ks held (level_reds held first last) first (last - first) ++ drop last kept)
+      pub list : entries table' ≡ add_pairs [] (level_reds held first last)
+      pub most : table'.n ≤ table.n + 6 * red_count (flags_at t ss ms ks held first (last - first))
+      pub low : highest ≡ true → red_count (flags_at t ss ms ks held first (last - first)) ≡ 0
+
+    pub record Untreated (highest : Bool) (table : PairTable N H) (r : Refusal) : Type 0 where
+      pub one : (r ≡ TooHigh) ⊎ (r ≡ TooMany)
+      pub high : r ≡ TooHigh → (highest ≡ true) × (0 < red_count (flags_at t ss ms ks held first (last - first)))
+      pub low : r ≡ TooMany → highest ≡ true → red_count (flags_at t ss ms ks held first (last - first)) ≡ 0
+      pub many : r ≡ TooMany → N < table.n + 6 * red_count (flags_at t ss ms ks held first (last - first))
 
   module _ (h first last : ℕ) where
     abbrev pub KeptWritten : List ℕ → List ℕ → Type 0
     KeptWritten kept kept' = kept' ≡ take first kept ++ (kept_up t ss ms ks h first last ++ drop
         (first + length (kept_up t ss ms ks h first last)) kept)
 
-    pub record Above (kept kept' xs' ys' heads' links' : List ℕ) (from n : ℕ) : Type 0 where
+    pub record Kept (kept kept' : List ℕ) : Type 0 where
       pub written : KeptWritten kept kept'
-      pub table : Table xs' ys' heads' links' from n
-      pub lists : Lists (listed xs' ys' from n) (reds_up t ss ms ks h first last)
-      pub few : n ≤ 6 * red_count (kept_up t ss ms ks h first last)
-      pub within : n ≤ length xs'
+      pub low : high_up t ss ms ks h first last ≡ false
 
-    pub record LookedUp (kept kept' xs xs' ys' heads' links' : List ℕ) (ok high : Bool) (from n : ℕ) : Type 0 where
-      pub whole : ok ≡ true → Above kept kept' xs' ys' heads' links' from n
-      pub full : ok ≡ false → length xs < 6 * red_count (kept_up t ss ms ks h first last)
-      pub top : high ≡ high_up t ss ms ks h first last
+    pub record Above {N H : ℕ} (kept kept' : List ℕ) (table' : PairTable N H) : Type 0 where
+      pub keeps : Kept kept kept'
+      pub lists : Lists (entries table') (reds_up t ss ms ks h first last)
+      pub few : table'.n ≤ 6 * red_count (kept_up t ss ms ks h first last)
 
-    pub record LookedAt (kept kept' xs : List ℕ) (ok high : Bool) : Type 0 where
-      pub whole : ok ≡ true → KeptWritten kept kept'
-      pub full : ok ≡ false → length xs < 6 * red_count (kept_up t ss ms ks h first last)
-      pub top : high ≡ high_up t ss ms ks h first last
+    pub record Unkept (room : ℕ) (r : Refusal) : Type 0 where
+      pub one : (r ≡ TooHigh) ⊎ (r ≡ TooMany)
+      pub high : r ≡ TooHigh → high_up t ss ms ks h first last ≡ true
+      pub low : r ≡ TooMany → high_up t ss ms ks h first last ≡ false
+      pub many : r ≡ TooMany → room < 6 * red_count (kept_up t ss ms ks h first last)

@@ -1,184 +1,25 @@
 // Which cells of an old table will be red after a step, and what each cell keeps, level by level from the highest down.
 #![tactic(auto)]
 
-ghost use Rattle.std.specs.Prelude.{◌≡◌, ◌++◌, ◌+◌, ◌*◌, ◌-◌, ◌≤◌, ◌<◌, ltb, length, get_or, take, drop};
+ghost use Rattle.std.specs.Prelude.{◌≡◌, ◌++◌, ◌+◌, ◌*◌, ◌-◌, ◌≤◌, ◌<◌, MatchResult, length, get_or, take, drop};
 ghost use Rattle.base.specs.Lists.{allb, anyb};
-ghost use Rattle.base.specs.Bools.{one_if};
-ghost use Rattle.pairs.specs.Keys.{Clear};
-ghost use Rattle.edges.specs.Table.{Table, listed};
-ghost use Rattle.mesh.specs.Cells.{redb};
-ghost use Rattle.closure.specs.Listed.{Looks};
+ghost use Rattle.edges.specs.Table.{entries};
 ghost use Rattle.lineage.specs.Olds.{flag_of};
 ghost use Rattle.flagging.specs.Flags.{listedb, idleb, touchedb, red_atb, pulledb, closed_at, closed_over};
-ghost use Rattle.flagging.specs.Old.{OldRows, Span, SideBySide, OneLevel, Flagged, Treated, LookedUp, LookedAt};
+ghost use Rattle.flagging.specs.Old.{OldRows, Span, OneLevel, Flagged, Treated, Untreated, Above, Kept, Unkept};
 ghost use Rattle.base.specs.Range.{range};
 
-// Whether the cell j is a leaf marked 2 with no edge listed.
-fn is_idle(
-    rows: &[u16],
-    status: &[u8],
-    marks: &[u8],
-    j: usize,
-    xs: &[u32],
-    ys: &[u32],
-    heads: &[u16],
-    links: &[u16],
-    from: usize,
-    n: usize,
-) -> bool
-    requires looks { Looks rows.now xs.now ys.now heads.now links.now (j + 1) from n }
-    requires j_in_bounds { (j < length status.now) × (j < length marks.now) }
-    ensures { result ≡ idleb rows.now status.now marks.now (listedb xs.now ys.now from n) j }
-{
-    if status[j] != 0 {
-        return false;
-    }
-    if marks[j] != 2 {
-        return false;
-    }
-    closure::pattern_of(rows, j, xs, ys, heads, links, from, n) == 0
-}
+use base::Refusal;
+use pairs::PairTable;
 
-// Whether each of the cells from first to last is.
-fn are_idle(
-    rows: &[u16],
-    status: &[u8],
-    marks: &[u8],
-    first: usize,
-    last: usize,
-    xs: &[u32],
-    ys: &[u32],
-    heads: &[u16],
-    links: &[u16],
-    from: usize,
-    n: usize,
-) -> bool
-    requires looks { Looks rows.now xs.now ys.now heads.now links.now last from n }
-    requires last_in_bounds { (last ≤ length status.now) × (last ≤ length marks.now) }
-    ensures { result ≡ allb (idleb rows.now status.now marks.now (listedb xs.now ys.now from n))
-        (range first (last - first)) }
-{
-    let mut j = first;
-    while j < last {
-        if !is_idle(rows, status, marks, j, xs, ys, heads, links, from, n) {
-            return false;
-        }
-        j += 1;
-    }
-    true
-}
-
-// Whether an edge of the cell j, not of the cell g, is listed. Where no cell one level up will be red, none is. That none is near is asked
-// here, so that it is compiled into the loop over the children.
-fn is_touched(
-    rows: &[u16],
-    g: usize,
-    j: usize,
-    xs: &[u32],
-    ys: &[u32],
-    heads: &[u16],
-    links: &[u16],
-    from: usize,
-    n: usize,
-) -> bool
-    requires looks { Looks rows.now xs.now ys.now heads.now links.now (j + 1) from n }
-    requires g_in_bounds { 8 * g + 8 ≤ length rows.now }
-    ensures { result ≡ touchedb rows.now (listedb xs.now ys.now from n) g j }
-{
-    if from == n {
-        return false;
-    }
-    if !closure::is_near(rows, j, xs, ys, heads, links, from, n) {
-        return false;
-    }
-    !separation::apart_child(rows, j, g, xs, ys, heads, links, from, n)
-}
-
-// Whether the child j of the green cell g is marked 1 or so touched.
-fn is_pulled(
-    rows: &[u16],
-    marks: &[u8],
-    g: usize,
-    j: usize,
-    xs: &[u32],
-    ys: &[u32],
-    heads: &[u16],
-    links: &[u16],
-    from: usize,
-    n: usize,
-) -> bool
-    requires looks { Looks rows.now xs.now ys.now heads.now links.now (j + 1) from n }
-    requires g_in_bounds { (8 * g + 8 ≤ length rows.now) × (j < length marks.now) }
-    ensures { result ≡ pulledb rows.now marks.now (listedb xs.now ys.now from n) g j }
-{
-    if marks[j] == 1 {
-        return true;
-    }
-    is_touched(rows, g, j, xs, ys, heads, links, from, n)
-}
-
-// Whether one of the children of the green cell g, from first to last, is.
-fn one_pulled(
-    rows: &[u16],
-    marks: &[u8],
-    g: usize,
-    first: usize,
-    last: usize,
-    xs: &[u32],
-    ys: &[u32],
-    heads: &[u16],
-    links: &[u16],
-    from: usize,
-    n: usize,
-) -> bool
-    requires looks { Looks rows.now xs.now ys.now heads.now links.now last from n }
-    requires g_in_bounds { (8 * g + 8 ≤ length rows.now) × (last ≤ length marks.now) }
-    ensures { result ≡ anyb (pulledb rows.now marks.now (listedb xs.now ys.now from n) g) (range first (last - first)) }
-{
-    let mut j = first;
-    while j < last {
-        if is_pulled(rows, marks, g, j, xs, ys, heads, links, from, n) {
-            return true;
-        }
-        j += 1;
-    }
-    false
-}
-
-// Whether the cell c will be red, where the edges of the new red cells one level up are listed.
-fn is_new_red(
-    rows: &[u16],
-    status: &[u8],
-    marks: &[u8],
-    kids: &[u16],
-    c: usize,
-    xs: &[u32],
-    ys: &[u32],
-    heads: &[u16],
-    links: &[u16],
-    from: usize,
-    n: usize,
-) -> bool
-    requires old_rows { OldRows rows.now status.now marks.now kids.now }
-    requires table { Table xs.now ys.now heads.now links.now from n }
-    requires c_in_bounds { c < length status.now }
-    ensures { result ≡ red_atb rows.now status.now marks.now kids.now (listedb xs.now ys.now from n) c }
-{
-    let s = status[c];
-    let first = kids[c] as usize;
-    let last = kids[c + 1] as usize;
-    if s == 64 {
-        return !are_idle(
-            rows, status, marks, first, last, xs, ys, heads, links, from, n,
-        );
-    }
-    if s != 0 {
-        return one_pulled(rows, marks, c, first, last, xs, ys, heads, links, from, n);
-    }
-    if !rows::is_regular(rows, c) {
-        return false;
-    }
-    marks[c] == 1
+// An old table: the rows of its cells, their statuses and marks, and the numbers of their first children.
+#[derive(Drop)]
+pub struct OldTable<'a> {
+    pub rows: &'a [u16],
+    pub status: &'a [u8],
+    pub marks: &'a [u8],
+    pub kids: &'a [u16],
+    pub ghost in_order: { OldRows rows.now status.now marks.now kids.now },
 }
 
 fn flag(b: bool) -> u8
@@ -187,275 +28,225 @@ fn flag(b: bool) -> u8
     if b { 64 } else { 0 }
 }
 
-// 1 for a flag, else 0.
-fn one(flag: u8) -> usize
-    ensures { (result ≡ one_if (redb flag)) × (result ≤ 1) }
-{
-    if flag == 64 { 1 } else { 0 }
-}
-
-// Writes the flags of the cells from first to last. Gives how many will be red.
-fn flag_level(
-    rows: &[u16],
-    status: &[u8],
-    marks: &[u8],
-    kids: &[u16],
-    kept: &mut [u8],
-    first: usize,
-    last: usize,
-    xs: &[u32],
-    ys: &[u32],
-    heads: &[u16],
-    links: &[u16],
-    from: usize,
-    n: usize,
-) -> usize
-    requires old_rows { OldRows rows.now status.now marks.now kids.now }
-    requires table { Table xs.now ys.now heads.now links.now from n }
-    requires span { Span status.now kept.old first last }
-    ensures { Flagged rows.now status.now marks.now kids.now (listedb xs.now ys.now from n) first last kept.old
-        kept.new result }
-{
-    let mut reds = 0;
-    let mut c = first;
-    while c < last {
-        let b = is_new_red(rows, status, marks, kids, c, xs, ys, heads, links, from, n);
-        let f = flag(b);
-        reds += one(f);
-        kept[c] = f;
-        c += 1;
-    }
-    reds
-}
-
-// What a cell keeps, from its flag. That none of its edges is near is asked here, so that it is compiled into the loop over the cells.
-fn kept_of(
+// What a cell keeps, from its flag. On the highest level no edge is listed.
+fn kept_of<const N: usize, const H: usize>(
     flag: u8,
     rows: &[u16],
     c: usize,
-    xs: &[u32],
-    ys: &[u32],
-    heads: &[u16],
-    links: &[u16],
-    from: usize,
-    n: usize,
+    table: &PairTable<N, H>,
 ) -> u8
-    requires { Looks rows.now xs.now ys.now heads.now links.now (c + 1) from n }
-    ensures { result ≡ closed_at (listed xs.now ys.now from n) rows.now flag c }
+    requires { 8 * (c + 1) ≤ length rows.now }
+    ensures { result ≡ closed_at (entries table.now) rows.now flag c }
 {
     if flag == 64 {
         return 64;
     }
-    if from == n {
-        return 0;
-    }
-    if !closure::is_near(rows, c, xs, ys, heads, links, from, n) {
-        return 0;
-    }
-    closure::pattern_in(rows, c, xs, ys, heads, links, from, n)
+    closure::pattern_of(rows, c, table)
 }
 
 // Writes what the cells from first to last keep over their flags, where the edges of the level's new red cells are listed.
-fn close_level(
+fn close_level<const N: usize, const H: usize>(
     rows: &[u16],
     kept: &mut [u8],
     first: usize,
     last: usize,
-    xs: &[u32],
-    ys: &[u32],
-    heads: &[u16],
-    links: &[u16],
-    from: usize,
-    n: usize,
+    table: &PairTable<N, H>,
 )
-    requires looks { Looks rows.now xs.now ys.now heads.now links.now last from n }
+    requires rows { 8 * last ≤ length rows.now }
     requires first_le_last { (first ≤ last) × (last ≤ length kept.old) }
-    ensures { kept.new ≡ take first kept.old ++ (closed_over (listed xs.now ys.now from n) rows.now kept.old first
-        (last - first) ++ drop last kept.old) }
+    ensures { kept.new ≡ take first kept.old ++ (closed_over (entries table.now) rows.now kept.old first (last - first)
+        ++ drop last kept.old) }
 {
-    let mut c = first;
-    while c < last {
-        kept[c] = kept_of(kept[c], rows, c, xs, ys, heads, links, from, n);
-        c += 1;
+    for c in first..last {
+        kept[c] = kept_of(kept[c], rows, c, table);
     }
 }
 
-// What treating a level finds: whether there is room for six edges of each cell that will be red, how many there are, and the entries
-// of the edge table then.
-#[derive(Clone, Copy)]
-struct Treatment {
-    ok: bool,
-    reds: usize,
-    n: usize,
-}
-
-// Lists the edges of the new red cells from first to last behind the entries that there are, and writes what these cells keep; the entries
-// of the level above go from `from` to n.
-fn treat_level(
-    rows: &[u16],
-    status: &[u8],
-    marks: &[u8],
-    kids: &[u16],
-    kept: &mut [u8],
-    first: usize,
-    last: usize,
-    xs: &mut [u32],
-    ys: &mut [u32],
-    heads: &mut [u16],
-    links: &mut [u16],
-    from: usize,
-    n: usize,
-) -> Treatment
-    requires old_rows { OldRows rows.now status.now marks.now kids.now }
-    requires table { Table xs.old ys.old heads.old links.old from n }
-    requires span { Span status.now kept.old first last }
-    requires side_by_side { SideBySide xs.old ys.old links.old × (n ≤ length xs.old) }
-    ensures { Treated rows.now status.now marks.now kids.now (listedb xs.old ys.old from n) first last kept.old
-        xs.old ys.old n kept.new xs.new ys.new heads.new links.new result.ok result.reds result.n }
-{
-    let reds = flag_level(
-        rows, status, marks, kids, kept, first, last, xs, ys, heads, links, from, n,
-    );
-    if 6 * reds > xs.len() - n {
-        return Treatment { ok: false, reds, n };
+impl OldTable<'_> {
+    // Whether the cell j is a leaf marked 2 with no edge listed.
+    fn is_idle<const N: usize, const H: usize>(&self, j: usize, table: &PairTable<N, H>) -> bool
+        requires { j < length self.now.status.now }
+        ensures { result ≡ idleb self.now.rows.now self.now.status.now self.now.marks.now (listedb table.now) j }
+    {
+        self.status[j] == 0 && self.marks[j] == 2 && closure::pattern_of(self.rows, j, table) == 0
     }
-    let m = redlist::red_level(rows, kept, first, last, xs, ys, heads, links, n, n);
-    close_level(rows, kept, first, last, xs, ys, heads, links, n, m);
-    Treatment {
-        ok: true,
-        reds,
-        n: m,
-    }
-}
 
-// Whether a cell of the highest level will be red: the level itself, if it is the highest of those that are looked at, or as the level
-// above says.
-fn is_high(depth: usize, reds: usize, up: bool) -> bool
-    ensures { (depth ≡ 1 → result ≡ ltb 0 reds) × ((depth ≡ 1 → ⊥) → result ≡ up) }
-{
-    if depth == 1 {
-        return reds > 0;
+    // Whether each of the cells from first to last is.
+    fn are_idle<const N: usize, const H: usize>(
+        &self,
+        first: usize,
+        last: usize,
+        table: &PairTable<N, H>,
+    ) -> bool
+        requires { last ≤ length self.now.status.now }
+        ensures { result ≡ allb (idleb self.now.rows.now self.now.status.now self.now.marks.now (listedb table.now))
+            (range first (last - first)) }
+    {
+        for j in first..last {
+            if !self.is_idle(j, table) {
+                return false;
+            }
+        }
+        true
     }
-    up
-}
 
-// What looking at levels finds: whether the edge table had room, whether a cell of the highest one will be red, and where the level's
-// entries are.
-#[derive(Clone, Copy)]
-struct Entries {
-    ok: bool,
-    high: bool,
-    from: usize,
-    n: usize,
-}
-
-// Treats the level from first to last and those above it, depth levels in all, the highest one first.
-fn treat_up(
-    rows: &[u16],
-    status: &[u8],
-    marks: &[u8],
-    kids: &[u16],
-    kept: &mut [u8],
-    first: usize,
-    last: usize,
-    depth: usize,
-    xs: &mut [u32],
-    ys: &mut [u32],
-    heads: &mut [u16],
-    links: &mut [u16],
-) -> Entries
-    requires old_rows { OldRows rows.now status.now marks.now kids.now }
-    requires one_level { OneLevel status.now kids.now kept.old xs.old ys.old heads.old links.old first last }
-    requires side_by_side { SideBySide xs.old ys.old links.old }
-    ensures { LookedUp rows.now status.now marks.now kids.now depth first last kept.old kept.new xs.old xs.new ys.new
-        heads.new links.new result.ok result.high result.from result.n }
-{
-    if depth == 0 {
-        return Entries {
-            ok: true,
-            high: false,
-            from: 0,
-            n: 0,
-        };
+    // Whether an edge of the cell j, not of the cell g, is listed. Where no cell one level up will be red, none is. That none is near is
+    // asked here, so that it is compiled into the loop over the children.
+    fn is_touched<const N: usize, const H: usize>(
+        &self,
+        g: usize,
+        j: usize,
+        table: &PairTable<N, H>,
+    ) -> bool
+        requires { (g < length self.now.status.now) × (j < length self.now.status.now) }
+        ensures { result ≡ touchedb self.now.rows.now (listedb table.now) g j }
+    {
+        if table.from == table.n || !closure::is_near(self.rows, j, table) {
+            return false;
+        }
+        !separation::apart_child(self.rows, j, g, table)
     }
-    let end = kids[last] as usize;
-    let up = treat_up(
-        rows,
-        status,
-        marks,
-        kids,
-        kept,
-        last,
-        end,
-        depth - 1,
-        xs,
-        ys,
-        heads,
-        links,
-    );
-    if !up.ok {
-        return Entries {
-            ok: false,
-            high: up.high,
-            from: 0,
-            n: 0,
-        };
-    }
-    let t = treat_level(
-        rows, status, marks, kids, kept, first, last, xs, ys, heads, links, up.from, up.n,
-    );
-    let high = is_high(depth, t.reds, up.high);
-    Entries {
-        ok: t.ok,
-        high,
-        from: up.n,
-        n: t.n,
-    }
-}
 
-// What looking at a table finds: whether there was room for six edges of each cell that will be red, and whether one is on level 10.
-#[derive(Clone, Copy)]
-pub struct Looked {
-    pub ok: bool,
-    pub high: bool,
-}
+    // Whether the child j of the green cell g is marked 1 or so touched.
+    fn is_pulled<const N: usize, const H: usize>(
+        &self,
+        g: usize,
+        j: usize,
+        table: &PairTable<N, H>,
+    ) -> bool
+        requires { (g < length self.now.status.now) × (j < length self.now.status.now) }
+        ensures { result ≡ pulledb self.now.rows.now self.now.marks.now (listedb table.now) g j }
+    {
+        self.marks[j] == 1 || self.is_touched(g, j, table)
+    }
 
-// Writes what each cell keeps. The tables from xs on are for the work, whatever they hold; no bucket of the heads has an entry. There are
-// at most eleven levels.
-pub fn treat_all(
-    rows: &[u16],
-    status: &[u8],
-    marks: &[u8],
-    kids: &[u16],
-    kept: &mut [u8],
-    xs: &mut [u32],
-    ys: &mut [u32],
-    heads: &mut [u16],
-    links: &mut [u16],
-) -> Looked
-    requires old_rows { OldRows rows.now status.now marks.now kids.now }
-    requires span { Span status.now kept.old 0 (get_or kids.now 0 0) }
-    requires clear { Clear heads.old }
-    requires side_by_side { SideBySide xs.old ys.old links.old }
-    ensures { LookedAt rows.now status.now marks.now kids.now 11 0 (get_or kids.now 0 0) kept.old kept.new xs.old
-        result.ok result.high }
-{
-    let r = treat_up(
-        rows,
-        status,
-        marks,
-        kids,
-        kept,
-        0,
-        kids[0] as usize,
-        11,
-        xs,
-        ys,
-        heads,
-        links,
-    );
-    Looked {
-        ok: r.ok,
-        high: r.high,
+    // Whether one of the children of the green cell g, from first to last, is.
+    fn one_pulled<const N: usize, const H: usize>(
+        &self,
+        g: usize,
+        first: usize,
+        last: usize,
+        table: &PairTable<N, H>,
+    ) -> bool
+        requires { (g < length self.now.status.now) × (last ≤ length self.now.status.now) }
+        ensures { result ≡ anyb (pulledb self.now.rows.now self.now.marks.now (listedb table.now) g) (range first (last - first)) }
+    {
+        for j in first..last {
+            if self.is_pulled(g, j, table) {
+                return true;
+            }
+        }
+        false
+    }
+
+    // Whether the cell c will be red, where the edges of the new red cells one level up are listed.
+    fn is_new_red<const N: usize, const H: usize>(&self, c: usize, table: &PairTable<N, H>) -> bool
+        requires { c < length self.now.status.now }
+        ensures { result ≡ red_atb self.now.rows.now self.now.status.now self.now.marks.now self.now.kids.now (listedb table.now) c }
+    {
+        let first = self.kids[c] as usize;
+        let last = self.kids[c + 1] as usize;
+        match self.status[c] {
+            0 => rows::is_regular(self.rows, c) && self.marks[c] == 1,
+            64 => !self.are_idle(first, last, table),
+            _ => self.one_pulled(c, first, last, table),
+        }
+    }
+
+    // Writes the flags of the cells from first to last. Gives how many will be red.
+    fn flag_level<const N: usize, const H: usize>(
+        &self,
+        kept: &mut [u8],
+        first: usize,
+        last: usize,
+        table: &PairTable<N, H>,
+    ) -> usize
+        requires { Span self.now.status.now kept.old first last }
+        ensures { Flagged self.now.rows.now self.now.status.now self.now.marks.now self.now.kids.now (listedb table.now) first last
+            kept.old kept.new result }
+    {
+        let mut reds = 0;
+        for c in first..last {
+            let red = self.is_new_red(c, table);
+            kept[c] = flag(red);
+            reds += usize::from(red);
+        }
+        reds
+    }
+
+    // Lists the edges of the new red cells from first to last as a level of their own, and writes what these cells keep. The edges of the
+    // level above are those that are looked at before. No cell of the highest level may be red, and six edges of each red one need room.
+    fn treat_level<const N: usize, const H: usize>(
+        &self,
+        kept: &mut [u8],
+        first: usize,
+        last: usize,
+        is_highest: bool,
+        table: &mut PairTable<N, H>,
+    ) -> Result<(), Refusal>
+        requires span { Span self.now.status.now kept.old first last }
+        requires small { N ≤ 65535 }
+        ensures { MatchResult result
+            (λ _. Treated self.now.rows.now self.now.status.now self.now.marks.now self.now.kids.now (listedb table.old) first last
+            kept.old is_highest table.old kept.new table.new)
+            (λ r. Untreated self.now.rows.now self.now.status.now self.now.marks.now self.now.kids.now (listedb table.old) first last
+            is_highest table.old r) }
+    {
+        let reds = self.flag_level(kept, first, last, table);
+        if is_highest && reds > 0 {
+            return Err(Refusal::TooHigh);
+        }
+        if 6 * reds > N - table.n {
+            return Err(Refusal::TooMany);
+        }
+        table.start_level();
+        redlist::red_level(self.rows, kept, first, last, table);
+        close_level(self.rows, kept, first, last, table);
+        Ok(())
+    }
+
+    // Treats the level from first to last and those above it, depth levels in all, the highest one first.
+    fn treat_up<const N: usize, const H: usize>(
+        &self,
+        kept: &mut [u8],
+        first: usize,
+        last: usize,
+        depth: usize,
+        table: &mut PairTable<N, H>,
+    ) -> Result<(), Refusal>
+        requires one_level { OneLevel self.now.status.now self.now.kids.now kept.old first last }
+        requires small { N ≤ 65535 }
+        requires empty { (table.old.from ≡ 0) × (table.old.n ≡ 0) }
+        ensures { MatchResult result
+            (λ _. Above self.now.rows.now self.now.status.now self.now.marks.now self.now.kids.now depth first last kept.old kept.new
+            table.new)
+            (λ r. Unkept self.now.rows.now self.now.status.now self.now.marks.now self.now.kids.now depth first last N r) }
+    {
+        if depth == 0 {
+            return Ok(());
+        }
+        let end = self.kids[last] as usize;
+        self.treat_up(kept, last, end, depth - 1, table)?;
+        self.treat_level(kept, first, last, depth == 1, table)
+    }
+
+    // Writes what each cell keeps; there are at most eleven levels. A cell of level 10 that will be red is too high; without room for six
+    // edges of each cell that will be red there are too many. Then what `kept` holds is free. The table is for the work.
+    pub fn treat_all<const N: usize, const H: usize>(
+        &self,
+        kept: &mut [u8],
+        table: &mut PairTable<N, H>,
+    ) -> Result<(), Refusal>
+        requires span { Span self.now.status.now kept.old 0 (get_or self.now.kids.now 0 0) }
+        requires small { N ≤ 65535 }
+        requires empty { (table.old.from ≡ 0) × (table.old.n ≡ 0) }
+        ensures { MatchResult result
+            (λ _. Kept self.now.rows.now self.now.status.now self.now.marks.now self.now.kids.now 11 0
+            (get_or self.now.kids.now 0 0) kept.old kept.new)
+            (λ r. Unkept self.now.rows.now self.now.status.now self.now.marks.now self.now.kids.now 11 0
+            (get_or self.now.kids.now 0 0) N r) }
+    {
+        let last = self.kids[0] as usize;
+        self.treat_up(kept, 0, last, base::MOST_LEVELS, table)
     }
 }
