@@ -1,27 +1,14 @@
--- How many statuses of a range pass a test, one more cell at a time.
+-- How many statuses pass a test, one more cell at a time.
 -- Assumes nothing.
-use mathlib.Core.Path.{◌≡◌, refl, sym, ◌∙◌}
-use mathlib.Core.Bool.{Bool, true, false}
-use mathlib.Core.List.{List, [], ◌∷◌, ◌++◌}
-use Prim.Native.Nat.{ℕ, suc, ◌+◌, ◌-◌, ◌≤◌, ◌<◌}
-use native.Mathlib.Omega.{arith}
-use lib.Dec.{ltb}
-use lib.ListN.{length, get_or, drop, length-take, length-drop}
-use lib.Seq.{take-suc, get_or-drop}
-use borrow.Author.Tests.{eq-eqb, ne_eqb}
+use Rattle.std.proofs.Common.{◌≡◌, refl, sym, ◌∙◌, Bool, true, false, List, [], ◌∷◌, ◌++◌, ℕ, suc, ◌+◌, ◌-◌, ◌≤◌, ◌<◌, length, get_or, take, arith}
+use Rattle.std.proofs.Math.Seq.{take-suc}
+use Rattle.std.proofs.lemmas.List.{length-take}
 use Rattle.base.specs.Lists.{filterb}
 use Rattle.base.specs.Bools.{one_if, one_most}
-use Rattle.mesh.specs.Counts.{count_if, greenb}
+use Rattle.mesh.specs.Counts.{count_if}
 use Rattle.rows.specs.Numbered.{part}
-
--- the two cases of a green status
-pub green_leaf : (s : ℕ) → s ≡ 0 → greenb s ≡ false
-unfolding greenb
-green_leaf s e = rw (eq-eqb s 0 e)
-
-pub green_not_leaf : (s : ℕ) → (s ≡ 0 → ⊥) → greenb s ≡ ltb s 64
-unfolding greenb
-green_not_leaf s e = rw (ne_eqb s 0 e)
+use Rattle.rows.specs.Laws.{length_part}
+use Rattle.counting.specs.Levels.{counts_at, own_counts}
 
 module _ (f : ℕ → Bool) where
   count_cons : (s : ℕ) (ss : List ℕ) → count_if f (s ∷ ss) ≡ one_if (f s) + count_if f ss
@@ -44,23 +31,24 @@ module _ (f : ℕ → Bool) where
   count_few [] = omega arith
   count_few (s ∷ ss) = omega (arith, count_cons s ss, one_most (f s), count_few ss)
 
-  pub count_none : (l : List ℕ) (first : ℕ) → count_if f (part l first (first - first)) ≡ 0
+  pub count_most : (l : List ℕ) (m : ℕ) → count_if f (take m l) ≤ m
+  count_most l m = omega (arith, count_few (take m l), length-take m l)
+
+  pub count_none : 0 ≡ count_if f []
   unfolding count_if filterb
-  count_none l first = let e : first - first ≡ 0 = omega arith in rw e
+  count_none = refl
 
-  count_step : (l : List ℕ) (first c : ℕ) → first ≤ c → c < length l
-      → count_if f (part l first (c + 1 - first)) ≡ count_if f (part l first (c - first)) + one_if (f (get_or l c 0))
-  count_step l first c h g =
-      let e : c + 1 - first ≡ suc (c - first) = omega arith in
-      let w : first + (c - first) ≡ c = omega arith in
-      let k : c - first < length (drop first l) = simp length-drop (omega arith) in
-      rw (e, take-suc (drop first l) (c - first) 0 k, get_or-drop first l (c - first) 0, w)
-      (count_snoc (part l first (c - first)) (get_or l c 0))
+  -- a turn adds 1 for a status that passes
+  pub count_turn : (l : List ℕ) (i : ℕ) → i < length l → {n m : ℕ} → n ≡ count_if f (take i l) → m ≡ one_if (f (get_or l i 0))
+      → n + m ≡ count_if f (take (i + 1) l)
+  count_turn l i h p q =
+      let k : i + 1 ≡ suc i = omega arith in
+      rw (p, q, k, take-suc l i 0 h) (sym (count_snoc (take i l) (get_or l i 0)))
 
-  pub count_most : (l : List ℕ) (first m : ℕ) → count_if f (part l first m) ≤ m
-  count_most l first m = omega (arith, count_few (part l first m), length-take m (drop first l))
+pub own_is : (first last : ℕ) (ss : List ℕ) → first ≤ last → last ≤ length ss → own_counts (part ss first (last - first)) ≡ counts_at first last ss
+unfolding own_counts counts_at
+own_is first last ss h g = rw (length_part ss first (last - first) (omega arith))
 
-  -- a turn adds 1 for a cell that passes
-  pub count_turn : (l : List ℕ) (first c : ℕ) → first ≤ c → c < length l → (n m : ℕ) (b : Bool)
-      → n ≡ count_if f (part l first (c - first)) → m ≡ one_if b → b ≡ f (get_or l c 0) → n + m ≡ count_if f (part l first (c + 1 - first))
-  count_turn l first c h g n m b p q r = rw (p, q, r) (sym (count_step l first c h g))
+pub own_four : (own : List ℕ) → length (own_counts own) ≡ 4
+unfolding own_counts
+own_four own = refl

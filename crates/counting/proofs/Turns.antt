@@ -8,6 +8,7 @@ use native.Mathlib.Nat.{eq-or-lt_of_le}
 use native.Mathlib.Omega.{arith}
 use lib.ListN.{length, take, drop, length-append, take-append-drop}
 use lib.Seq.{sets, sets-eq, length-sets, length-take-le, take_at, drop_at, drop-drop}
+use borrow.Rule.Slice.PartMut.{put_mid}
 use Rattle.base.specs.Limits.{full_counts}
 use Rattle.counting.specs.Levels.{Levels, next_end, counts_at, level_counts, level_number, level_end, counts_more, counts_none}
 use Rattle.counting.specs.Levels.{number_more, number_none, end_more, end_none, next_after}
@@ -31,6 +32,11 @@ last_below f first last ss h =
 length-counts : (first last : ℕ) (ss : List ℕ) → length (counts_at first last ss) ≡ 4
 unfolding counts_at
 length-counts first last ss = refl
+
+-- four numbers copied to a place
+pub copied_sets : (l vs : List ℕ) (n k : ℕ) → k ≡ length vs → n + k ≤ length l → put_mid n k l vs ≡ sets l n vs
+copied_sets l vs n k e h =
+    sym (sets-eq vs l n (rw (← e) h) ∙ rw (← e, append_assoc (take n l) vs (drop (n + k) l), ← drop-drop k n l))
 
 -- four numbers stored at n
 module _ (l vs : List ℕ) (n : ℕ) (e : length vs ≡ 4) (h : n + 4 ≤ length l) where

@@ -3,17 +3,29 @@
 
 ghost use Rattle.std.specs.Prelude.{◌≡◌, ◌++◌, ◌+◌, ◌*◌, ◌≤◌, ◌<◌, length, drop};
 ghost use Rattle.base.specs.Limits.{full_counts, most_cells};
+ghost use Rattle.mesh.specs.Counts.{greenb};
 ghost use Rattle.counting.specs.Levels.{Levels, own_counts, level_counts, level_number};
+
+fn is_green(status: u8) -> bool
+    ensures { result ≡ greenb status }
+{
+    0 < status && status < 64
+}
 
 // The counts of cells with these statuses: all, red, green and leaves.
 fn counts_of(own: &[u8]) -> [u16; 4]
     requires { length own.now ≤ most_cells }
     ensures { result ≡ own_counts own.now }
 {
-    let red = own.iter().filter(|s| **s == 64).count();
-    let green = own.iter().filter(|s| (1..64).contains(*s)).count();
-    let leaf = own.iter().filter(|s| **s == 0).count();
-    [own.len() as u16, red as u16, green as u16, leaf as u16]
+    let mut red = 0;
+    let mut green = 0;
+    let mut leaf = 0;
+    for s in own {
+        red += u16::from(*s == 64);
+        green += u16::from(is_green(*s));
+        leaf += u16::from(*s == 0);
+    }
+    [own.len() as u16, red, green, leaf]
 }
 
 // Writes four numbers a level from the front, and answers the number of levels.

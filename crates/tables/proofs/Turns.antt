@@ -1,6 +1,6 @@
 -- What the check of a level means for the building: the table fails, the level is the highest, or the next one follows.
 -- Assumes nothing.
-use Rattle.std.proofs.Common.{◌≡◌, sym, ◌∙◌, true, false, List, [], ℕ, suc, ◌+◌, ◌*◌, ◌-◌, ◌≤◌, length, inl, inr, arith, ◌⊎◌}
+use Rattle.std.proofs.Common.{◌≡◌, sym, ◌∙◌, true, false, List, [], ℕ, suc, ◌*◌, ◌-◌, ◌≤◌, length, inl, inr, arith}
 use Rattle.base.specs.Lists.{sameb}
 use Rattle.mesh.specs.Cells.{closed_from, red_edges}
 use Rattle.mesh.specs.Table.{soundb, sizes}
@@ -20,14 +20,14 @@ use Rattle.tables.specs.Onward.{
   here_top,
 }
 
-module _ {n : ℕ} {qs : List (List ℕ)} {ss : List ℕ} {j first last : ℕ} {rows : List ℕ} {N H M K : ℕ} {red red' : PairTable N H}
+module _ {n : ℕ} {qs : List (List ℕ)} {ss : List ℕ} {j first last : ℕ} {rows : List ℕ} {N H M K : ℕ} {red : PairTable N H}
     {mids : PairTable M K} (h : Here n qs ss j first last rows red mids) where
   pub turn_torn : Torn rows ss first last → soundb n qs ss ≡ false
   turn_torn (inl l) = fails_short h.laying l
   turn_torn (inr (inl l)) = fails_more h.laying l.0 l.1
   turn_torn (inr (inr e)) = fails_open h.laying e
 
-  module _ {size : ℕ} (c : Closed rows ss first last red red' size) (st : Statuses ss) where
+  module _ {red' : PairTable N H} {size : ℕ} (c : Closed rows ss first last red red' size) (st : Statuses ss) where
     closed : closed_from [] sameb (red_edges [] h.laying.cells (part ss first (length h.laying.cells))) h.laying.cells
         (part ss first (length h.laying.cells))
         ≡ true

@@ -1,10 +1,10 @@
 -- The end of the examination: the count, and the third condition.
 -- Assumes nothing.
-use Rattle.std.specs.Prelude.{◌≡◌, refl, false, ◌&&◌, ℕ, suc, ◌*◌, ◌<◌, T, eqb, leb, length, take}
+use Rattle.std.specs.Prelude.{◌≡◌, refl, false, ◌&&◌, ℕ, suc, ◌<◌, T, eqb, leb, length, take}
 use Rattle.std.proofs.Math.Path.{sym}
 use Rattle.std.proofs.Common.{◌∙◌, ap, ⊎_elim, eq-eqb, ne_eqb, eqb→eq}
 use mathlib.Core.List.{List, [], ◌∷◌, ◌++◌, flat_map}
-use Rattle.base.specs.Answer.{Refused}
+use Rattle.base.specs.Answer.{Accepted, Refused}
 use Rattle.base.specs.Refuse.{refuse}
 use Rattle.base.specs.Limits.{most_cells}
 use Rattle.numbering.specs.Renamed.{apart_of}
@@ -18,7 +18,7 @@ use Rattle.mesh.specs.Weights.{Point}
 use Rattle.mesh.specs.Table.{soundb, apartb}
 use Rattle.mesh.specs.Layout.{Corner, row_of, map_cell, number_in, cell_table, corners_of}
 use Rattle.pairs.specs.declared.PairTable.{PairTable}
-use Rattle.edges.specs.Table.{listed}
+use Rattle.edges.specs.Table.{entries, listed}
 use Rattle.base.specs.Every.{All}
 use Rattle.numbering.specs.Tests.{numbered_cells, apart_numbers}
 use Rattle.separation.specs.Parents.{Parents, apart_all}
@@ -95,12 +95,15 @@ module _ {n : ℕ} {qs : List (List ℕ)} {ss : List ℕ} {j last : ℕ} {rows :
       w ∙ apart_numbers t.corners t.all ss t.placed ∙ sym (t.sound ∙ rw (eq-eqb (length ss) last e))
 
   -- what the end of a building tests
-  pub top_sound : (eqb (length ss) last && apart_all (listed red.xs red.ys 0 red.n) rows last) ≡ soundb n qs ss
+  top_sound : (eqb (length ss) last && apart_all (listed red.xs red.ys 0 red.n) rows last) ≡ soundb n qs ss
   top_sound = go (ℕ_discrete (length ss) last)
     where
       go : Dec (length ss ≡ last) → (eqb (length ss) last && apart_all (listed red.xs red.ys 0 red.n) rows last) ≡ soundb n qs ss
       go (yes e) = rw (eq-eqb (length ss) last e) (top_apart e)
       go (no e) = rw (ne_eqb (length ss) last e) (sym (t.sound ∙ rw (ne_eqb (length ss) last e)))
+
+  pub top_answer : refuse 6 (eqb (length ss) last && apart_all (listed red.xs red.ys 0 red.n) rows last) Accepted ≡ sound_answer n qs ss
+  top_answer = ap (λ b. refuse 6 b Accepted) top_sound
 
   pub top_laid : T (soundb n qs ss) → LaidSound n qs ss rows mids.xs mids.ys last (suc j) mids.n
   top_laid s =
@@ -112,3 +115,8 @@ module _ (n : ℕ) (qs : List (List ℕ)) (ss : List ℕ) where
   pub answer_six : soundb n qs ss ≡ false → Refused 6 ≡ sound_answer n qs ss
   unfolding refuse
   answer_six e = rw e
+
+-- all entries of a table, when they are looked at
+pub all_entries : {N H : ℕ} (t t' : PairTable N H) → t'.from ≡ 0 → (t'.xs ≡ t.xs) × (t'.ys ≡ t.ys) × (t'.n ≡ t.n)
+    → entries t' ≡ listed t.xs t.ys 0 t.n
+all_entries t t' z k = rw (z, k.0, k.1, k.2)

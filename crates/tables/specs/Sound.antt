@@ -3,7 +3,7 @@
 --   Mesh n mesh  an accepted mesh of n corners, as far as it matters here
 --   sound_answer ..  the answer to a table: 6 where it is not sound
 --   LaidSound ..     the rows, the ends of the new corners, and how many cells, levels and new corners there are
-use Rattle.std.specs.Prelude.{◌≡◌, Bool, true, false, List, ℕ, ◌*◌, ◌%◌, ◌≤◌, ◌<◌, T, length, take}
+use Rattle.std.specs.Prelude.{◌≡◌, List, ℕ, ◌*◌, ◌%◌, ◌≤◌, ◌<◌, T, length, take}
 use Rattle.base.specs.Answer.{Answer, Accepted}
 use Rattle.base.specs.Refuse.{refuse}
 use Rattle.base.specs.Limits.{most_cells, most_levels}

@@ -1,7 +1,7 @@
 -- Room for the red edges: a red cell has six, and eight children.
 -- Assumes nothing.
-use Rattle.std.specs.Prelude.{◌≡◌, refl, Bool, true, false, List, [], ◌∷◌, ℕ, ◌+◌, ◌*◌, ◌-◌, ◌≤◌, ◌<◌, length}
-use Rattle.std.proofs.Common.{sym, ◌∙◌, inl, inr, eqb-true}
+use Rattle.std.specs.Prelude.{◌≡◌, refl, Bool, true, false, List, [], ◌∷◌, ℕ, ◌+◌, ◌*◌, ◌-◌, ◌≤◌, length}
+use Rattle.std.proofs.Common.{sym, ◌∙◌, inr, eqb-true}
 use native.Mathlib.Omega.{arith}
 use Rattle.base.specs.Bools.{one_if}
 use Rattle.base.specs.Limits.{most_cells}
@@ -37,7 +37,7 @@ pub none_looked : {N H : ℕ} (t t₁ : PairTable N H) → t₁.from ≡ t.n →
 unfolding pairs_of
 none_looked t t₁ e q = let z : t₁.n - t₁.from ≡ 0 = omega arith in rw z
 
-module _ {N H : ℕ} (rows ss : List ℕ) (first last : ℕ) {t t₁ : PairTable N H} (start : t₁.from ≡ t.n)
+module _ {N H : ℕ} (rows ss : List ℕ) (first last : ℕ) (t t₁ : PairTable N H) (start : t₁.from ≡ t.n)
     (kept : (t₁.xs ≡ t.xs) × (t₁.ys ≡ t.ys) × (t₁.n ≡ t.n)) (small : 4 * t.n ≤ 3 * last)
     (up : first ≤ last) (in_rows : 8 * last ≤ length rows) (inside : last ≤ length ss) (few : length ss ≤ most_cells)
     (fit : last + sizes (own_statuses rows ss first last) ≤ length ss) where

@@ -63,7 +63,16 @@ pub fn lay_coarse(mesh: &[u16], rows: &mut [u16]) -> usize
     let count = mesh.len() / 4;
     for c in 0..count {
         let i = 4 * c;
-        let row = [0, 65535, 0, 1, mesh[i], mesh[i + 1], mesh[i + 2], mesh[i + 3]];
+        let row = [
+            0,
+            65535,
+            0,
+            1,
+            mesh[i],
+            mesh[i + 1],
+            mesh[i + 2],
+            mesh[i + 3],
+        ];
         growth::write_row(rows, c, row);
     }
     count
@@ -82,8 +91,10 @@ fn finish<const N: usize, const H: usize>(
         ≡ refuse 6 (eqb (length status.now) last && apart_all (listed red.old.xs red.old.ys 0 red.old.n) rows.now last) Accepted }
 {
     red.look_at_all();
-    let sound = status.len() == last && separation::apart(rows, last, red);
-    if sound { Ok(()) } else { Err(Refusal::Unsound) }
+    if status.len() == last && separation::apart(rows, last, red) {
+        return Ok(());
+    }
+    Err(Refusal::Unsound)
 }
 
 // Builds a table of few statuses over an accepted mesh of n corners level by level, and examines it: 6 where it is not sound. Where it is

@@ -1,18 +1,28 @@
 -- `counting::count_levels` meets its contract: a turn stores the counts of a level and goes on to the next, and a table within the
 -- limits has at most eleven. The measure is how many more there can be.
-use native.Mathlib.Omega.{arith}
-use Rattle.counting.specs.Levels.{next_end, tally_numbers}
-use Rattle.counting.proofs.Turns.{last_inside, room_here, next_inside, at_next, at_number, at_end_lem}
+use Rattle.rows.specs.Numbered.{part}
+use Rattle.std.proofs.Common.{◌≡◌, ◌∙◌, ap, ◌+◌, ◌*◌, ◌-◌, length, arith}
+use Rattle.rows.specs.Laws.{length_part}
+use Rattle.counting.proofs.Tallies.{own_is, own_four}
+use Rattle.counting.specs.Levels.{next_end}
+use Rattle.counting.proofs.Turns.{copied_sets, last_inside, room_here, next_inside, at_next, at_number, at_end_lem}
 use Rattle.counting.proofs.count_levels.Goals as goal
 
-pub count_range-t-requires : goal.count_range-t-requires
-count_range-t-requires c =
-    (c.loop-first.invariant.rising, last_inside c.requires.levels c.loop-first.invariant, c.requires.levels.small)
+pub slice_bounds-counts_of-end : goal.slice_bounds-counts_of-end
+slice_bounds-counts_of-end c = last_inside c.requires.levels c.loop-first.invariant
 
-pub put_tally-requires : goal.put_tally-requires
-put_tally-requires c =
-    room_here c.requires.levels
-    c.requires.full_counts_in_bounds c.loop-first.invariant c.loop-first-test.true
+pub counts_of-row-requires : goal.counts_of-row-requires
+counts_of-row-requires c =
+    omega (
+      arith,
+      length_part c.args.status.now c.loop-first.first (c.loop-first.last - c.loop-first.first)
+          (omega (arith, c.loop-first.invariant.rising, last_inside c.requires.levels c.loop-first.invariant)),
+      last_inside c.requires.levels c.loop-first.invariant,
+      c.requires.levels.small,
+    )
+
+pub slice_bounds-copy_from_slice-end : goal.slice_bounds-copy_from_slice-end
+slice_bounds-copy_from_slice-end c = room_here c.requires.levels c.requires.full_counts_in_bounds c.loop-first.invariant c.loop-first-test.true
 
 pub level_size-requires : goal.level_size-requires
 level_size-requires c =
@@ -36,10 +46,19 @@ overflow_add-above c =
 pub loop-first-preserved : goal.loop-first-preserved
 unfolding next_end
 loop-first-preserved c =
+    let i = c.loop-first.invariant in
+    let room = room_here c.requires.levels c.requires.full_counts_in_bounds i c.loop-first-test.true in
+    let e : 4 * c.loop-first.level + 4 - 4 * c.loop-first.level ≡ length c.counts_of-row.result = omega (
+      arith,
+      ap length c.counts_of-row.ensures,
+      own_four (part c.args.status.now c.loop-first.first
+          (c.loop-first.last - c.loop-first.first)),
+    ) in
     rw c.level_size.ensures
-    (at_next c.requires.levels c.requires.full_counts_in_bounds c.loop-first.invariant c.loop-first-test.true
-    (tally_numbers c.count_range-t.result) c.put_tally.new.counts
-    c.count_range-t.ensures c.put_tally.ensures)
+    (at_next c.requires.levels c.requires.full_counts_in_bounds i c.loop-first-test.true c.counts_of-row.result _
+    (c.counts_of-row.ensures ∙ own_is c.loop-first.first c.loop-first.last c.args.status.now i.rising (last_inside c.requires.levels i))
+    (rw c.copy_from_slice.ensures.after (copied_sets c.loop-first.counts c.counts_of-row.result (4 * c.loop-first.level)
+    (4 * c.loop-first.level + 4 - 4 * c.loop-first.level) e (omega (arith, room)))))
 
 pub returns : goal.returns
 returns c =

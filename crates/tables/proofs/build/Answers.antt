@@ -1,103 +1,71 @@
 -- `tables::build` meets its contract: the loop holds `Here` (crate's specs), and each way out is one of its laws. The measure is
 -- the number of levels left.
-use mathlib.Core.Path.{refl, ◌∙◌}
-use native.Mathlib.Numerals.{add-one}
-use native.Mathlib.Omega.{arith}
+use Rattle.std.proofs.Common.{◌≡◌, ◌∙◌, sym, arith, rules, Err, add-one}
+use Rattle.base.specs.Answer.{Accepted}
+use Rattle.mesh.specs.Table.{soundb}
 use Rattle.base.specs.Fours.{fours}
+use Rattle.base.specs.Refuse.{passed}
 use Rattle.tables.specs.Begin.{here_start}
-use Rattle.tables.proofs.Turns.{turn_looks, turn_ended, turn_room, turn_next}
+use Rattle.tables.specs.Finish.{answer_six, top_parents, top_answer, top_laid}
+use Rattle.tables.proofs.Turns.{turn_torn, turn_top, turn_high, turn_room, turn_next}
 use Rattle.tables.proofs.build.Goals as goal
 
-pub loop-digits-init : goal.loop-digits-init
-loop-digits-init c = (
-  record {
-    of_rows = refl;
-    of_ps = refl;
-    of_qs = refl;
-    of_xs = refl;
-    of_ys = refl;
-    of_heads = refl;
-    of_links = refl;
-    of_heads' = refl;
-    of_links' = refl;
-  },
-  here_start c.args.n c.args.mesh.now c.args.status.now c.requires.mesh c.args.ps.now c.args.qs.now c.args.mid_heads.now c.args.mid_links.now
-      c.requires.clear.1 c.lay_coarse-coarse.new.rows c.lay_coarse-coarse.result c.lay_coarse-coarse.ensures.0 c.lay_coarse-coarse.ensures.1 c.args.xs.now c.args.ys.now c.args.heads.now
-      c.args.links.now c.requires.clear.0,
-)
+pub loop-size-init : goal.loop-size-init
+loop-size-init g c =
+    here_start c.args.n c.args.mesh.now c.args.status.now c.requires.mesh c.args.mids.now c.requires.empty.0 c.requires.empty.1
+    c.lay_coarse-coarse.new.rows c.lay_coarse-coarse.result c.lay_coarse-coarse.ensures.0 c.lay_coarse-coarse.ensures.1 c.args.red.now
+    c.requires.empty.2
+
+pub returns-in_err-size-clause-answer : goal.returns-in_err-size-clause-answer
+returns-in_err-size-clause-answer g c =
+    let r : c.from_residual.result ≡ Err c.in_err-size.field-0.0 = search rules in
+    rw (r, c.in_err-size.ensures.0)
+    (answer_six c.args.n (fours c.args.mesh.now) c.args.status.now (turn_torn c.loop-size.invariant c.in_err-size.ensures.1))
 
 pub finish-requires : goal.finish-requires
-finish-requires c = (
-  turn_looks c.args.n (fours c.args.mesh.now) c.args.status.now c.loop-digits.level c.loop-digits.first c.loop-digits.last c.loop-digits.rows c.loop-digits.xs c.loop-digits.ys c.loop-digits.heads
-      c.loop-digits.links c.loop-digits.k c.loop-digits.ps c.loop-digits.qs c.loop-digits.mid_heads c.loop-digits.mid_links c.loop-digits.m c.loop-digits.invariant.1 c.requires.statuses c.check_level-c.new.xs
-      c.check_level-c.new.ys c.check_level-c.new.heads c.check_level-c.new.links c.check_level-c.result.ok c.check_level-c.result.n
-      c.check_level-c.result.size c.check_level-c.ensures
-      (omega (
-        arith,
-        c.requires.table_room.0.in_rows,
-        c.loop-digits.invariant.0.of_rows,
-        c.lay_coarse-coarse.auto.rows,
-      )),
-  c.loop-digits.invariant.1.laying.low,
-)
+finish-requires g c =
+    let k = c.in_ok-size.ensures in (
+      search rules,
+      (
+        omega (arith, k.inside, c.requires.table_room.in_rows, c.loop-size.auto.rows, c.lay_coarse-coarse.auto.rows),
+        top_parents (turn_top c.loop-size.invariant k c.requires.statuses c.if-size-eq0.true),
+      ),
+    )
 
-pub returns-then-is_last : goal.returns-then-is_last
-returns-then-is_last c =
-    turn_ended c.args.n (fours c.args.mesh.now) c.args.status.now c.loop-digits.level c.loop-digits.first c.loop-digits.last c.loop-digits.rows c.loop-digits.xs c.loop-digits.ys c.loop-digits.heads
-    c.loop-digits.links c.loop-digits.k c.loop-digits.ps c.loop-digits.qs c.loop-digits.mid_heads c.loop-digits.mid_links c.loop-digits.m c.loop-digits.invariant.1 c.requires.statuses c.check_level-c.new.xs
-    c.check_level-c.new.ys c.check_level-c.new.heads c.check_level-c.new.links c.check_level-c.result.ok c.check_level-c.result.n
-    c.check_level-c.result.size c.check_level-c.ensures
-    (c.is_last.ensures.0 c.if-is_last.true) c.finish.result.refusal c.finish.result.cells c.finish.result.levels c.finish.result.mids c.finish.ensures
+pub returns-in_err-finish-clause-answer : goal.returns-in_err-finish-clause-answer
+returns-in_err-finish-clause-answer g c =
+    let t = turn_top c.loop-size.invariant c.in_ok-size.ensures c.requires.statuses c.if-size-eq0.true in
+    let r : c.from_residual-in_err-finish.result ≡ Err c.in_err-finish.field-0.0 = search rules in
+    rw r (c.in_err-finish.ensures ∙ top_answer t)
 
-pub grow_level-g-requires : goal.grow_level-g-requires
-grow_level-g-requires c =
+pub returns-then-size-eq0 : goal.returns-then-size-eq0
+returns-then-size-eq0 g c =
+    let t = turn_top c.loop-size.invariant c.in_ok-size.ensures c.requires.statuses c.if-size-eq0.true in
+    let a = c.in_ok-finish.ensures ∙ top_answer t in
     record {
-      roomy = turn_room c.args.n (fours c.args.mesh.now) c.args.status.now c.loop-digits.level c.loop-digits.first c.loop-digits.last c.loop-digits.rows c.loop-digits.xs c.loop-digits.ys c.loop-digits.heads
-          c.loop-digits.links c.loop-digits.k c.loop-digits.ps c.loop-digits.qs c.loop-digits.mid_heads c.loop-digits.mid_links c.loop-digits.m c.loop-digits.invariant.1
-          c.requires.statuses c.check_level-c.new.xs
-          c.check_level-c.new.ys c.check_level-c.new.heads c.check_level-c.new.links c.check_level-c.result.ok c.check_level-c.result.n
-          c.check_level-c.result.size c.check_level-c.ensures (c.is_last.ensures.1 c.if-is_last.false).closed
-          c.requires.mesh.corners (omega (
-            arith,
-            c.requires.table_room.0.in_rows,
-            c.loop-digits.invariant.0.of_rows,
-            c.lay_coarse-coarse.auto.rows,
-          )) (omega (
-            arith,
-            c.requires.table_room.0.in_ps,
-            c.loop-digits.invariant.0.of_ps,
-          ))
-          (omega (arith, c.requires.table_room.0.in_qs, c.loop-digits.invariant.0.of_qs)) (omega (arith, c.requires.table_room.2, c.loop-digits.invariant.0.of_links'));
-      digits_value = c.digit_table-digits.ensures;
-      starts_value = c.start_table-starts.ensures;
+      answer = a;
+      laid = (
+        rw (add-one c.loop-size.level)
+            (top_laid t (passed 6 (soundb c.args.n (fours c.args.mesh.now) c.args.status.now) Accepted (sym a)).0),
+        c.lay_coarse-coarse.ensures.0,
+      );
     }
 
-pub loop-digits-preserved : goal.loop-digits-preserved
-loop-digits-preserved c = (
-  record {
-    of_rows = c.grow_level-g.auto.cells ∙ c.loop-digits.invariant.0.of_rows;
-    of_ps = c.grow_level-g.auto.xs ∙ c.loop-digits.invariant.0.of_ps;
-    of_qs = c.grow_level-g.auto.ys ∙ c.loop-digits.invariant.0.of_qs;
-    of_xs = c.check_level-c.auto.xs ∙ c.loop-digits.invariant.0.of_xs;
-    of_ys = c.check_level-c.auto.ys ∙ c.loop-digits.invariant.0.of_ys;
-    of_heads = c.check_level-c.auto.heads ∙ c.loop-digits.invariant.0.of_heads;
-    of_links = c.check_level-c.auto.links ∙ c.loop-digits.invariant.0.of_links;
-    of_heads' = c.grow_level-g.auto.heads ∙ c.loop-digits.invariant.0.of_heads';
-    of_links' = c.grow_level-g.auto.links ∙ c.loop-digits.invariant.0.of_links';
-  },
-  rw (add-one c.loop-digits.level) (turn_next c.args.n (fours c.args.mesh.now) c.args.status.now c.loop-digits.level c.loop-digits.first c.loop-digits.last c.loop-digits.rows c.loop-digits.xs
-      c.loop-digits.ys c.loop-digits.heads c.loop-digits.links c.loop-digits.k c.loop-digits.ps c.loop-digits.qs c.loop-digits.mid_heads c.loop-digits.mid_links c.loop-digits.m c.loop-digits.invariant.1
-      c.requires.statuses c.check_level-c.new.xs
-      c.check_level-c.new.ys c.check_level-c.new.heads c.check_level-c.new.links c.check_level-c.result.ok c.check_level-c.result.n
-      c.check_level-c.result.size c.check_level-c.ensures (c.is_last.ensures.1 c.if-is_last.false).closed
-      (c.is_last.ensures.1 c.if-is_last.false).above
-      (c.is_last.ensures.1 c.if-is_last.false).low
-      (omega (
-        arith,
-        c.requires.table_room.0.in_rows,
-        c.loop-digits.invariant.0.of_rows,
-        c.lay_coarse-coarse.auto.rows,
-      ))
-      c.grow_level-g.new.cells c.grow_level-g.new.xs c.grow_level-g.new.ys c.grow_level-g.new.heads
-      c.grow_level-g.new.links c.grow_level-g.result.at c.grow_level-g.result.m (rw (add-one c.loop-digits.level) at c.grow_level-g.ensures)),
+pub returns-then-level-eq-TOP_LEVEL-clause-answer : goal.returns-then-level-eq-TOP_LEVEL-clause-answer
+returns-then-level-eq-TOP_LEVEL-clause-answer g c =
+    answer_six c.args.n (fours c.args.mesh.now) c.args.status.now
+    (turn_high c.loop-size.invariant c.in_ok-size.ensures c.requires.statuses c.if-size-eq0.false c.if-level-eq-TOP_LEVEL.true)
+
+pub grow_level-next-requires : goal.grow_level-next-requires
+grow_level-next-requires g c = (
+  search rules,
+  turn_room c.loop-size.invariant c.in_ok-size.ensures c.requires.statuses c.requires.mesh.corners
+      (omega (arith, c.requires.table_room.in_rows, c.loop-size.auto.rows, c.lay_coarse-coarse.auto.rows)) c.requires.table_room.in_mids,
 )
+
+pub loop-size-preserved : goal.loop-size-preserved
+loop-size-preserved g c =
+    rw (add-one c.loop-size.level)
+    (turn_next c.loop-size.invariant c.in_ok-size.ensures c.requires.statuses c.if-size-eq0.false c.if-level-eq-TOP_LEVEL.false
+    (omega (arith, c.requires.table_room.in_rows, c.loop-size.auto.rows, c.lay_coarse-coarse.auto.rows))
+    (rw (add-one c.loop-size.level) at c.grow_level-next.ensures))

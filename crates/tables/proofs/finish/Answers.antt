@@ -1,26 +1,22 @@
 -- `tables::finish` meets its contract: the tests are those of the definition.
-use native.Mathlib.Omega.{arith}
-use Rattle.tables.specs.Finish.{ended_short, ended_not, ended_so, ended_whole}
+use Rattle.std.proofs.Common.{arith, length, eq-eqb, ne_eqb}
+use Rattle.base.specs.Refuse.{refuse}
+use Rattle.tables.specs.Finish.{all_entries}
+use Rattle.tables.proofs.finish.Goals.{else-status-last-via-then-status-last+else-apart, else-status-last-via-else-status-last}
 use Rattle.tables.proofs.finish.Goals as goal
 
-pub returns-then-status-last : goal.returns-then-status-last
-returns-then-status-last c =
-    ended_whole c.args.ok c.args.size c.args.status.now c.args.rows.now c.args.xs.now c.args.ys.now c.args.k c.args.last c.args.level c.args.m _ _ _ _
-    c.if-not-ok.false (omega (arith, c.if-size-ne0.false))
-    (ended_short c.args.status.now c.args.rows.now c.args.xs.now c.args.ys.now c.args.k c.args.last c.args.level c.args.m _ _ _ _ c.if-status-last.true
-    c.refused-then-status-last.ensures.0)
-
-pub returns-then-not-apart : goal.returns-then-not-apart
-returns-then-not-apart c =
-    ended_whole c.args.ok c.args.size c.args.status.now c.args.rows.now c.args.xs.now c.args.ys.now c.args.k c.args.last c.args.level c.args.m _ _ _ _
-    c.if-not-ok.false (omega (arith, c.if-size-ne0.false))
-    (ended_not c.args.status.now c.args.rows.now c.args.xs.now c.args.ys.now c.args.k c.args.last c.args.level c.args.m _ _ _ _
-    (omega (arith, c.if-status-last.false)) c.apart.result c.apart.ensures c.if-not-apart.true
-    c.refused-then-not-apart.ensures.0)
+pub returns-then-apart : goal.returns-then-apart
+unfolding refuse
+returns-then-apart g c =
+    let e = all_entries c.args.red.now c.look_at_all.new.self c.look_at_all.ensures.from c.look_at_all.ensures.kept in
+    rw (eq-eqb (length c.args.status.now) c.args.last (omega arith), ← e, ← c.apart.ensures, c.if-apart.true)
 
 pub returns : goal.returns
-returns c =
-    ended_whole c.args.ok c.args.size c.args.status.now c.args.rows.now c.args.xs.now c.args.ys.now c.args.k c.args.last c.args.level c.args.m _ _ _ _
-    c.if-not-ok.false (omega (arith, c.if-size-ne0.false))
-    (ended_so c.args.status.now c.args.rows.now c.args.xs.now c.args.ys.now c.args.k c.args.last c.args.level c.args.m 0 0 0 0
-    (omega (arith, c.if-status-last.false)) c.apart.result c.apart.ensures c.if-not-apart.false)
+unfolding refuse
+returns g c =
+    let e = all_entries c.args.red.now c.look_at_all.new.self c.look_at_all.ensures.from c.look_at_all.ensures.kept in
+    elim c.else-status-last.branch [
+      | else-status-last-via-then-status-last+else-apart w ↦
+          rw (eq-eqb (length c.args.status.now) c.args.last w.if-status-last.true, ← e, ← w.apart.ensures, w.if-apart.false)
+      | else-status-last-via-else-status-last w ↦ rw (ne_eqb (length c.args.status.now) c.args.last w.if-status-last.false)
+    ]
