@@ -23,7 +23,7 @@ use Rattle.tables.specs.Sound.{LaidSound}
 use Rattle.tables.specs.Finish.{roof_sound}
 use Rattle.tables.specs.Onward.{fails_short, fails_more, fails_high, fails_open, closed_are, laying_room, laying_next, laying_top}
 
-module _ {n : ℕ} {qs : List (List ℕ)} {ss : List ℕ} (t : T (soundb n qs ss)) where
+module _ (n : ℕ) (qs : List (List ℕ)) (ss : List ℕ) (t : T (soundb n qs ss)) where
   sound : soundb n qs ss ≡ true
   sound = is_true (soundb n qs ss) t
 

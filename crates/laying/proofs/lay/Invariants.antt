@@ -5,8 +5,8 @@ use Rattle.base.specs.Fours.{fours}
 use Rattle.tables.specs.Here.{Laying}
 use Rattle.laying.proofs.lay.Given as goal
 
-abbrev pub invariant-loop-size : goal.invariant-loop-size
-invariant-loop-size g l = Laying l.n (fours l.mesh) l.status l.level l.first l.last l.rows l.mids
+abbrev pub invariant-loop-n : goal.invariant-loop-n
+invariant-loop-n g l = Laying l.n (fours l.mesh) l.status l.level l.first l.last l.rows l.mids
 
-abbrev pub decreases-loop-size : goal.decreases-loop-size
-decreases-loop-size g l = 11 - l.level
+abbrev pub decreases-loop-n : goal.decreases-loop-n
+decreases-loop-n g l = 11 - l.level
