@@ -3,14 +3,14 @@
 
 ghost use Rattle.std.specs.Prelude.{◌≡◌, true, false, ◌≤◌, ◌<◌, eqb, length};
 ghost use Rattle.base.specs.Limits.{most_parts, most_cells};
+ghost use Rattle.base.specs.Refuse.{code_of, answered};
 ghost use Rattle.store.specs.Fields.{field, full, CELLS, PARTS};
 ghost use Rattle.turns.specs.Usable.{Usable};
-ghost use Rattle.partstep.specs.Step.{waits_for, readyb, part_answer, cleared, post_totals, enter_totals};
+ghost use Rattle.partstep.specs.Step.{waits_for, readyb, part_answer, cleared, post_totals, enter_totals, old_places};
 ghost use Rattle.partstep.specs.Step.{end_number, finished, round_entered};
 ghost use Rattle.partstep.specs.Step.{part_after};
-ghost use Rattle.partstep.specs.Turning.{restored};
 
-use base::Answer;
+use base::{Refusal, code};
 use mail::header_fits;
 use places::{place_cells, place_olds};
 use store::{
@@ -20,14 +20,12 @@ use store::{
 use turns::{enter_counts, enter_marks, others_of, post, post_end};
 
 // Whether the end of the round from another part is not taken yet.
+#[tactic(auto, unfolding(crate::specs::Step::waits_for))]
 fn waits_for(store: &[u16], q: usize) -> bool
     requires { (full ≤ length store.now) × (q ≤ most_parts) }
     ensures { result ≡ waits_for store.now q }
 {
-    if q == store[PART] as usize {
-        return false;
-    }
-    store[ENDED + q] as usize != store[ROUND] as usize + 1
+    q != store[PART] as usize && store[ENDED + q] as usize != store[ROUND] as usize + 1
 }
 
 // Whether no other part is waited for.
@@ -35,18 +33,11 @@ fn is_ready(store: &[u16]) -> bool
     requires { (full ≤ length store.now) × (field store.now PARTS ≤ most_parts) }
     ensures { result ≡ readyb store.now }
 {
-    let last = store[PARTS] as usize + 1;
-    let mut q: usize = 1;
-    while q < last {
-        if waits_for(store, q) {
-            return false;
-        }
-        q += 1;
-    }
-    true
+    !(1..store[PARTS] as usize + 1).any(|q| waits_for(store, q))
 }
 
 // Writes the own totals for all others.
+#[tactic(auto, unfolding(crate::specs::Step::post_totals))]
 fn post_totals(store: &mut [u16])
     requires { Usable store.old }
     ensures { store.new ≡ post_totals store.old }
@@ -58,6 +49,7 @@ fn post_totals(store: &mut [u16])
 }
 
 // Sets entries and totals to 0.
+#[tactic(auto, unfolding(crate::specs::Step::cleared))]
 fn clear(store: &mut [u16])
     requires { full ≤ length store.old }
     ensures { store.new ≡ cleared store.old }
@@ -78,44 +70,47 @@ fn enter_totals(store: &mut [u16])
     post_end(store);
 }
 
-// The result from the totals of all parts: 8, 9 or 0.
-fn end_number(store: &[u16]) -> u16
+// What the step comes to, from the totals of all parts.
+#[tactic(auto, unfolding(crate::specs::Step::end_number, base::specs::Refuse::code_of))]
+fn end(store: &[u16]) -> Result<(), Refusal>
     requires { full ≤ length store.now }
-    ensures { result ≡ end_number store.now }
+    ensures { code_of (answered result) ≡ end_number store.now }
 {
     if store[HIGH] >= LEVELS_MOST {
-        return 8;
+        Err(Refusal::TooHigh)
+    } else if store[TOTAL] > CELLS_MOST {
+        Err(Refusal::TooMany)
+    } else {
+        Ok(())
     }
-    if store[TOTAL] <= CELLS_MOST {
-        return 0;
-    }
-    9
 }
 
-// Writes the old masters and ghosts, where the step came to 8 or 9.
-fn restore(store: &mut [u16], res: u16)
+// Writes the old masters and ghosts.
+#[tactic(auto, unfolding(crate::specs::Step::old_places))]
+fn restore(store: &mut [u16])
     requires { (full ≤ length store.old) × (field store.old CELLS ≤ most_cells) }
-    ensures { store.new ≡ restored store.old res }
+    ensures { store.new ≡ old_places store.old }
 {
-    if res == 0 {
-        return;
-    }
     store[ENTRIES] = 0;
     place_olds(store);
 }
 
-// Ends the step.
+// Ends the step: where it is refused the old masters and ghosts stay.
+#[tactic(auto, unfolding(crate::specs::Step::finished, base::specs::Refuse::code_of))]
 fn finish(store: &mut [u16])
     requires { (full ≤ length store.old) × (field store.old CELLS ≤ most_cells) }
     ensures { store.new ≡ finished store.old }
 {
-    let result = end_number(store);
-    restore(store, result);
-    store[RESULT] = result;
+    let result = end(store);
+    if result.is_err() {
+        restore(store);
+    }
+    store[RESULT] = u16::from(code(result));
     store[STAGE] = 2;
 }
 
 // Does the work of the next round.
+#[tactic(auto, unfolding(crate::specs::Step::round_entered))]
 fn enter(store: &mut [u16])
     requires { Usable store.old }
     ensures { store.new ≡ round_entered store.old }
@@ -124,38 +119,29 @@ fn enter(store: &mut [u16])
     let levels = store[LEVELS] as usize;
     if round >= 2 * levels {
         finish(store);
-        return;
-    }
-    if round % 2 == 0 {
+    } else if round % 2 == 0 {
         enter_counts(store, levels - 1 - round / 2);
-        return;
-    }
-    if round + 1 < 2 * levels {
+    } else if round + 1 < 2 * levels {
         enter_marks(store, levels - 2 - round / 2);
-        return;
+    } else {
+        enter_totals(store);
     }
-    enter_totals(store);
 }
 
 // Leads a part to its next round, once the ends of this one are taken from all others.
-pub fn part_step(store: &mut [u16]) -> Answer
-    ensures value { result ≡ part_answer store.old }
+#[tactic(auto, using(turns::proofs::Starting::usable_of, crate::proofs::Stepping::step_round), unfolding(crate::specs::Step::part_answer, base::specs::Refuse::refuse, crate::specs::Step::part_after, crate::specs::Step::turned_in, crate::specs::Step::part_stepped))]
+pub fn part_step(store: &mut [u16]) -> Result<(), Refusal>
+    ensures answer { answered result ≡ part_answer store.old }
     ensures store_value { store.new ≡ part_after store.old }
 {
     if store.len() < FULL {
-        return Answer::Refused(15);
+        return Err(Refusal::Lent);
     }
-    if !header_fits(store) {
-        return Answer::Refused(16);
-    }
-    if store[STAGE] != 1 {
-        return Answer::Refused(16);
-    }
-    if !is_ready(store) {
-        return Answer::Refused(16);
+    if !header_fits(store) || store[STAGE] != 1 || !is_ready(store) {
+        return Err(Refusal::Store);
     }
     let round = store[ROUND];
     enter(store);
     store[ROUND] = round + 1;
-    Answer::Accepted
+    Ok(())
 }

@@ -1,22 +1,14 @@
-use native.Mathlib.Numerals.{add-one}
-use native.Mathlib.Omega.{arith}
-use mathlib.Core.Path.{sym, ◌∙◌}
-use Rattle.turns.specs.Loops.{some_here, some_on, some_out}
-use Rattle.partstep.proofs.Stepping.{ready_by}
+use Rattle.std.proofs.Common.{◌≡◌, rules, arith, ap, not, ◌∙◌, ◌+◌, ◌-◌}
+use Rattle.store.specs.Fields.{field, PARTS}
+use Rattle.turns.specs.Loops.{some_from}
+use Rattle.turns.proofs.Asking.{asked_by}
+use Rattle.partstep.specs.Step.{waits_for, readyb}
 use Rattle.partstep.proofs.is_ready.Goals as goal
 
-pub returns-then-waits_for : goal.returns-then-waits_for
-returns-then-waits_for c =
-    ready_by _ _ (sym c.loop-q.invariant.1 ∙ some_here _ _ _ (omega arith)
-    (sym c.waits_for.ensures ∙ c.if-waits_for.true))
-
-pub loop-q-preserved : goal.loop-q-preserved
-loop-q-preserved c = (
-  omega arith,
-  rw (add-one c.loop-q.q)
-      (sym (some_on _ _ _ (omega arith) (sym c.waits_for.ensures ∙ c.if-waits_for.false)) ∙ c.loop-q.invariant.1),
-)
-
 pub returns : goal.returns
+unfolding readyb
 returns c =
-    ready_by _ _ (sym c.loop-q.invariant.1 ∙ some_out _ _ _ (omega arith))
+    let n = field c.args.store.now PARTS in
+    let z : n + 1 - 1 ≡ n = omega arith in
+    ap not (asked_by (waits_for c.args.store.now) 1 (n + 1) _ _ c.any.ensures.ran (search rules) (λ x t q k. search rules)
+    ∙ ap (λ m. some_from (waits_for c.args.store.now) m 1) z)
