@@ -1,11 +1,11 @@
 -- What `merge` answers, by the tests that the code makes.
 use mathlib.Core.Path.{◌≡◌, refl, sym, ◌∙◌, ap}
 use mathlib.Core.Bool.{Bool, true, false}
-use mathlib.Core.List.{List, [], ◌++◌, append-nil, flatten}
+use mathlib.Core.List.{List, [], append-nil, flatten}
 use Prim.Native.Nat.{ℕ, ◌*◌, ◌≤◌, ◌<◌}
 use native.Mathlib.Omega.{arith}
 use lib.Dec.{T, eqb, eqb→eq}
-use lib.ListN.{length, take, drop, replicate, length-replicate}
+use lib.ListN.{length, take}
 use lib.Seq.{length-take-le}
 use borrow.Author.Tests.{eq-eqb, le-leb, lt-leb}
 use Rattle.base.specs.Bools.{and_right, and_both, is_true, not_both}
@@ -13,10 +13,10 @@ use Rattle.base.specs.Fours.{fours}
 use Rattle.base.specs.Limits.{full_coarse, most_cells, most_coarse_cells, most_coarse_corners, most_parts}
 use Rattle.base.specs.Lists.{allb}
 use Rattle.base.specs.Refuse.{refuse, answered, number_of, held_after}
-use Rattle.base.specs.Answer.{Refused}
+use Rattle.base.specs.Answer.{Accepted, Refused}
 use Rattle.base.specs.declared.Refusal.{Refusal}
 use Rattle.base.specs.declared.Refusal.TheVariants.{Lent, Store}
-use Rattle.std.specs.Prelude.{Result, Ok, Err, IfOk, MatchResult}
+use Rattle.std.specs.Prelude.{Result, Ok, Err, IfOk, MatchResult, is_err}
 use Rattle.mesh.specs.Coarse.{cellsb}
 use Rattle.mesh.specs.Table.{soundb}
 use Rattle.tables.specs.Sound.{Mesh}
@@ -91,6 +91,19 @@ mesh_fits mesh m n long few h g t =
       corners = g;
       cells = t;
     }
+
+module _ {A : Type 0} where
+  pub told_unsound : (s : Bool) (r : Result A Refusal) → answered r ≡ refuse 6 s Accepted → is_err r ≡ true → s ≡ false
+  unfolding refuse
+  told_unsound true (Ok v) e t = sym t
+  told_unsound true (Err k) e t = cc
+  told_unsound false r e t = refl
+
+  pub told_sound : (s : Bool) (r : Result A Refusal) → answered r ≡ refuse 6 s Accepted → is_err r ≡ false → s ≡ true
+  unfolding refuse
+  told_sound true r e t = refl
+  told_sound false (Ok v) e t = cc
+  told_sound false (Err k) e t = sym t
 
 -- the call
 module _ (b t : List ℕ) where

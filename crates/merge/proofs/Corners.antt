@@ -1,13 +1,12 @@
 -- The corners of coarse cells, gathered from the stores.
 use mathlib.Core.Path.{◌≡◌, refl, sym, ◌∙◌, ap, ap₂}
-use mathlib.Core.Bool.{Bool, true, false, ◌&&◌}
+use mathlib.Core.Bool.{Bool, true, false}
 use mathlib.Core.List.{List, [], ◌∷◌, ◌++◌, map, map-append, append_assoc}
 use Prim.Native.Nat.{ℕ, suc, ◌+◌, ◌-◌, ◌*◌, ◌%◌, ◌≤◌, ◌<◌}
 use native.Mathlib.Omega.{arith}
-use lib.Dec.{T, ltb}
-use lib.ListN.{length, get_or, take, drop, set, length-append, length-drop, length-map}
-use lib.Seq.{drop-cons, length-take-le, sets, sets-eq, length-sets, take_at, drop_at}
-use borrow.Author.Tests.{lt-ltb, le-ltb}
+use lib.Dec.{T}
+use lib.ListN.{length, get_or, take, drop, length-append, length-drop, length-map}
+use lib.Seq.{drop-cons, length-take-le, take_at}
 use Rattle.base.specs.Bools.{is_true, not_both, and_both}
 use Rattle.base.specs.Every.{get_d_map}
 use Rattle.base.specs.Fours.{fours}
@@ -112,10 +111,15 @@ module _ (b : List ℕ) (P n m : ℕ) where
               not_both (cellb n (corners_among xs i)) (is_true (cellb n (corners_among xs i)) c) (ap (cellb n) corners ∙ t);
         }
 
-    module _ (mesh : List ℕ) (s : Gathering mesh i) (few : m ≤ most_coarse_cells) (long : length mesh ≡ full_coarse) (four : length q ≡ 4)
-        (q' : List ℕ) (same : q' ≡ q) where
+    module _ (mesh : List ℕ) (s : Gathering mesh i) (few : m ≤ most_coarse_cells) (long : length mesh ≡ full_coarse)
+        (room : most_parts * full ≤ length b) (parts : P ≤ most_parts) (q' : List ℕ) (same : q' ≡ q) where
       abbrev mesh' : List ℕ
       mesh' = put_mid (4 * i) (4 * i + 4 - 4 * i) mesh q'
+
+      four : length q ≡ 4
+      four =
+          ap length e ∙ length-take-le 4 (drop (CORNER + 4 * i) (store_in b j))
+          (omega (arith, length-drop (CORNER + 4 * i) (store_in b j), store_long b j room (omega (arith, o.below))))
 
       front : length (take (4 * i) mesh) ≡ 4 * i
       front = length-take-le (4 * i) mesh (omega arith)

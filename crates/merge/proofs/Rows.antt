@@ -5,7 +5,7 @@ use Prim.Native.Nat.{ℕ, suc, ◌+◌, ◌*◌, ◌/◌, ◌^◌, ◌≤◌, �
 use native.Mathlib.Decide.{ℕ_discrete}
 use native.Mathlib.Nat.{mul-le-mul}
 use native.Mathlib.Omega.{arith}
-use lib.ListN.{length, get_or, set, replicate, get_or-replicate}
+use lib.ListN.{length, get_or, set, replicate, length-set, length-replicate, get_or-replicate}
 use lib.Seq.{get_or-set_same, get_or-set_other}
 use Rattle.held.specs.Key.{Key, key_child, key_coarse, power_most}
 use Rattle.merge.specs.Sweep.{KeyRow, Seeded, Pushed}
@@ -13,16 +13,18 @@ use Rattle.base.specs.Limits.{most_cells, most_coarse_cells}
 
 -- the heads of the first i coarse cells
 pub record Headed (px : List ℕ) (i : ℕ) : Type 0 where
+  pub long : length px ≡ most_cells
   pub heads : (j : ℕ) → j < i → get_or px j 0 ≡ j
 
-pub headed_none : (px : List ℕ) → Headed px 0
-headed_none px = record { heads = λ j h. absurd (omega arith) }
+pub headed_none : Headed (replicate most_cells 0) 0
+headed_none = record { long = length-replicate {A = ℕ} most_cells 0; heads = λ j h. absurd (omega arith) }
 
-pub headed_more : (px : List ℕ) (i : ℕ) → Headed px i → i < length px → Headed (set px i i) (suc i)
+pub headed_more : (px : List ℕ) (i : ℕ) → Headed px i → i < most_cells → Headed (set px i i) (suc i)
 headed_more px i s a =
     record {
+      long = length-set px i i ∙ s.long;
       heads = λ j h. elim (ℕ_discrete j i) [
-        | yes q ↦ rw q (get_or-set_same px i i 0 a)
+        | yes q ↦ rw q (get_or-set_same px i i 0 (omega (arith, s.long)))
         | no q ↦ get_or-set_other px i j i 0 q ∙ s.heads j (omega arith)
       ];
     }

@@ -1,12 +1,13 @@
 -- One cell of the table is found, and all.
 use mathlib.Core.Path.{◌≡◌, refl, sym, ◌∙◌, ap}
-use mathlib.Core.List.{List, []}
-use Prim.Native.Nat.{ℕ, zero, suc, ◌+◌, ◌-◌, ◌≤◌, ◌<◌}
+use mathlib.Core.List.{List}
+use mathlib.Core.Logic.{◌⊎◌, ⊎_elim}
+use Prim.Native.Nat.{ℕ, suc, ◌+◌, ◌-◌, ◌≤◌, ◌<◌}
 use native.Mathlib.Decide.{dec_lt}
 use native.Mathlib.Omega.{arith}
-use lib.ListN.{length, get_or, set, length-set}
+use lib.ListN.{get_or, set}
 use Rattle.base.specs.Limits.{most_cells, most_coarse_cells}
-use Rattle.pairs.specs.Keys.{seek, seek_found}
+use Rattle.pairs.specs.Keys.{seek}
 use Rattle.mesh.specs.Table.{size_of}
 use Rattle.parts.specs.Held.{Entry}
 use Rattle.parts.specs.Merge.{lookup}
@@ -18,6 +19,10 @@ use Rattle.merge.specs.Sweep.{KeyRow, Pushed, Seeded, sweep_start, sweep_on, swe
 use Rattle.merge.specs.Sweep.{no_master, no_status, no_room, no_level_lem}
 use Rattle.merge.specs.Steps.{Swept, Settled, Unsettled, Built, Unbuilt}
 
+-- where children are put, there is room for their digits
+pub shallow : (size x : ℕ) → ((0 < size) × (x < 2560)) ⊎ (size ≤ 0) → 0 < size → x < 2560
+shallow size x e h = ⊎_elim (λ (p : (0 < size) × (x < 2560)). p.1) (λ (p : size ≤ 0). absurd (omega arith)) e
+
 module _ (k : Masters) (w : Row) (g : w.found < w.known) where
   abbrev x : ℕ
   x = get_or w.heads w.found 0
@@ -25,7 +30,7 @@ module _ (k : Masters) (w : Row) (g : w.found < w.known) where
   abbrev y : ℕ
   y = get_or w.digits w.found 0
 
-  own : Key x y
+  pub own : Key x y
   own = w.keys.keys w.found (omega arith) g
 
   abbrev seek_at : ℕ

@@ -6,7 +6,7 @@
 --   Overfull ds w              they are too many
 -- Laws: few_keys, loaded_none, load_start, load_ghost, load_full, load_master (one entry), load_more, load_over (entries before entries).
 use Rattle.std.specs.Prelude.{◌≡◌, refl, Bool, true, false, List, [], ◌∷◌, ◌++◌, ℕ, ◌+◌, ◌-◌, ◌/◌, ◌≤◌, ◌<◌, length, get_or, set}
-use Rattle.std.proofs.Common.{sym, ◌∙◌, ap, append_assoc, arith, length-set, get_or-set_same, get_or-set_other}
+use Rattle.std.proofs.Common.{sym, ◌∙◌, ap, append_assoc, arith, get_or-set_same, get_or-set_other}
 use Rattle.std.proofs.Math.Decide.{ℕ_discrete}
 use Rattle.base.specs.Limits.{most_cells, most_levels}
 use Rattle.base.specs.Lists.{anyb, filterb, sameb, sameb_eq}

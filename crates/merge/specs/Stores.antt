@@ -1,10 +1,9 @@
 -- The stores that a lent table has, one by one.
-use Rattle.std.specs.Prelude.{◌≡◌, refl, Bool, true, false, ◌&&◌, ◌||◌, List, [], ◌∷◌, map, ℕ, zero, suc, ◌+◌, ◌-◌, ◌*◌, ◌≤◌, ◌<◌, T, eqb, length, get_or, take, drop}
+use Rattle.std.specs.Prelude.{◌≡◌, refl, Bool, true, false, ◌&&◌, ◌||◌, List, [], ◌∷◌, map, ℕ, zero, suc, ◌+◌, ◌-◌, ◌*◌, ◌≤◌, ◌<◌, T, eqb, get_or, take, drop}
 use Rattle.std.proofs.Math.Path.{sym}
-use Rattle.std.proofs.Common.{◌∙◌, ap, drop_of_length-le, drop-cons}
+use Rattle.std.proofs.Common.{◌∙◌, ap, ap₂, drop_of_length-le, drop-cons}
 use native.Mathlib.Omega.{arith}
 use Rattle.std.proofs.Math.Dec.{eqb→eq}
-use borrow.Author.Tests.{eq-eqb}
 use Rattle.base.specs.Bools.{and_left, and_right}
 use Rattle.base.specs.Limits.{most_coarse_cells}
 use Rattle.base.specs.Lists.{allb, anyb, allb_at}
@@ -13,7 +12,7 @@ use Rattle.std.specs.List.{range_with_len, list_all, list_any}
 use Rattle.rows.specs.Chains.{all_chain, any_chain}
 use Rattle.store.specs.Fields.{field, full, STAGE, PART, PARTS, CORNERS, COARSE, RESULT, OWNER}
 use Rattle.store.specs.Header.{headerb}
-use Rattle.store.specs.Headed.{bool_false, header_is}
+use Rattle.store.specs.Headed.{header_is}
 use Rattle.store.specs.Stores.{store_in, stores_by, field_in, length-stores, stores_at}
 use Rattle.merge.specs.Merge.{alikeb, everyb, ownsb, corners_among}
 use Rattle.merge.specs.Steps.{OwnedAt, FewEntries}
@@ -41,12 +40,18 @@ module _ (f : List ℕ → Bool) (b : List ℕ) where
   any_from k (suc n) = ap (λ (x : Bool). f (store_in b k) || x) (any_from (suc k) n)
 
   pub all_stores : (P : ℕ) → list_all (λ j. f (store_in b j)) (range_with_len 0 P) ≡ allb f (stores_by b P)
-  unfolding stores_by
   all_stores P = all_chain (λ j. f (store_in b j)) (range_with_len 0 P) ∙ ap (allb (λ j. f (store_in b j))) (range_chain 0 P) ∙ all_from 0 P
 
-  pub any_stores : (P : ℕ) → list_any (λ j. f (store_in b j)) (range_with_len 0 P) ≡ anyb f (stores_by b P)
-  unfolding stores_by
+  any_stores : (P : ℕ) → list_any (λ j. f (store_in b j)) (range_with_len 0 P) ≡ anyb f (stores_by b P)
   any_stores P = any_chain (λ j. f (store_in b j)) (range_with_len 0 P) ∙ ap (anyb (λ j. f (store_in b j))) (range_chain 0 P) ∙ any_from 0 P
+
+module _ (b : List ℕ) (g : ℕ → Bool) (k : ℕ) (h : k < full) where
+  any_same : (l : List ℕ) → list_any (λ j. g (get_or b (full * j + k) 0)) l ≡ list_any (λ j. g (field (store_in b j) k)) l
+  any_same [] = refl
+  any_same (j ∷ l) = ap₂ ◌||◌ (ap g (sym (field_in b j k h))) (any_same l)
+
+  pub any_field : (P : ℕ) → list_any (λ j. g (get_or b (full * j + k) 0)) (range_with_len 0 P) ≡ anyb (λ x. g (field x k)) (stores_by b P)
+  any_field P = any_same (range_with_len 0 P) ∙ any_stores (λ x. g (field x k)) b P
 
 pub all_parts : (b : List ℕ) (P : ℕ)
     → list_all (λ p. anyb (λ x. eqb (field x PART) p) (stores_by b P)) (range_with_len 1 P) ≡ everyb (stores_by b P)

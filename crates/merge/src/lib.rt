@@ -1,7 +1,7 @@
 // Merging all stores of a split: they are examined, and their masters put in the order of a table.
 #![tactic(auto)]
 
-ghost use Rattle.std.specs.Prelude.{◌≡◌, ◌+◌, ◌*◌, ◌/◌, ◌≤◌, ◌<◌, T, IfOk, MatchOption, MatchResult, eqb, length, take, drop};
+ghost use Rattle.std.specs.Prelude.{◌≡◌, ◌+◌, ◌*◌, ◌/◌, ◌≤◌, ◌<◌, T, false, IfOk, MatchOption, MatchResult, eqb, length, take, drop};
 ghost use Rattle.base.specs.Fours.{fours};
 ghost use Rattle.base.specs.Limits.{most_cells, most_coarse_cells, most_coarse_corners, most_parts};
 ghost use Rattle.base.specs.Lists.{allb, anyb};
@@ -128,16 +128,9 @@ fn gather_corners(
 }
 
 // Puts the keys of a cell's children behind the row.
-pub(crate) fn push(
-    heads: &mut [u32; 4096],
-    digits: &mut [u32; 4096],
-    end: usize,
-    x: u32,
-    y: u32,
-    size: usize,
-)
+pub(crate) fn push(heads: &mut [u32], digits: &mut [u32], end: usize, x: u32, y: u32, size: usize)
     requires key { Key x y × (0 < size → x / 256 < 10) × (size ≤ 8) }
-    requires room { end + size ≤ most_cells }
+    requires room { (end + size ≤ length heads.old) × (end + size ≤ length digits.old) }
     ensures { Pushed heads.old digits.old end x y size heads.new digits.new }
 {
     let most = power(x as usize / 256);

@@ -4,9 +4,9 @@ ghost use Rattle.std.specs.Prelude.{◌≡◌, ◌≤◌, length};
 ghost use Rattle.base.specs.Limits.{most_cells};
 ghost use Rattle.merge.specs.Sweep.{KeyRow};
 
-use base::{MOST_CELLS, Refusal};
 use crate::masters::Masters;
 use crate::push;
+use base::{MOST_CELLS, Refusal};
 
 // The keys of the cells that are known, behind one another, and the statuses of the first of them.
 #[derive(Drop)]
