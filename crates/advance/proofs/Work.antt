@@ -3,23 +3,25 @@
 use mathlib.Core.Path.{◌≡◌, refl, sym, ◌∙◌, ap}
 use mathlib.Core.Logic.{◌⊎◌, ⊎_elim}
 use mathlib.Core.Bool.{Bool, true, false, not}
-use mathlib.Core.List.{List, ◌++◌, flatten}
+use mathlib.Core.List.{List, [], ◌++◌, flatten}
 use Prim.Native.Nat.{ℕ, suc, ◌*◌, ◌/◌, ◌≤◌, ◌<◌}
 use native.Mathlib.Omega.{arith}
 use lib.Dec.{leb}
-use lib.ListN.{length, take, drop}
+use lib.ListN.{length, get_or, take, drop}
 use lib.Seq.{take_at}
 use borrow.Author.Tests.{le-leb, lt-leb}
 use Rattle.base.specs.Bools.{is_true}
 use Rattle.base.specs.Each.{filter_few}
 use Rattle.base.specs.Fours.{fours, length-fours}
 use Rattle.base.specs.Limits.{most_cells, most_levels}
-use Rattle.base.specs.Lists.{filterb}
-use Rattle.base.specs.Refuse.{refuse, answer_of, answer_none}
+use Rattle.base.specs.Lists.{anyb, filterb}
+use Rattle.base.specs.Refuse.{refuse, number_of}
+use Rattle.base.specs.declared.Refusal.{Refusal}
+use Rattle.base.specs.declared.Refusal.TheVariants.{TooHigh, TooMany}
 use Rattle.base.specs.Answer.{Accepted, Refused}
 use Rattle.mesh.specs.Cells.{redb}
 use Rattle.mesh.specs.Step.{step_table}
-use Rattle.mesh.specs.Table.{soundb}
+use Rattle.mesh.specs.Table.{soundb, levels_of}
 use Rattle.mesh.specs.Answers.{new_table, limits_answer}
 use Rattle.mesh.specs.Laws.{sound_count}
 use Rattle.lattice.specs.Levels as lattice
@@ -35,10 +37,11 @@ use Rattle.soundness.specs.Steady.{step_sound}
 use Rattle.succession.specs.Write.{write_step}
 use Rattle.succession.specs.Count.{reds_counted}
 use Rattle.writing.specs.Keeps.{Keeps}
-use Rattle.writing.specs.Result.{TableWritten, written_levels}
-use Rattle.keeping.specs.Marked.{Marked, KeptOrFull}
+use Rattle.writing.specs.Result.{TableWritten, Unwritten, written_levels}
+use Rattle.keeping.specs.Marked.{Marked, Kept, Unkept}
+use Rattle.lineage.specs.Olds.{flags}
 use Rattle.keeping.specs.Whole.{sound_firsts}
-use Rattle.advance.specs.Advanced.{Held, Decided, Advanced, held_statuses}
+use Rattle.advance.specs.Advanced.{Held, Advanced, held_statuses}
 
 -- the limits
 module _ (n : ℕ) (qs : List (List ℕ)) (ss ms : List ℕ) where
@@ -54,18 +57,6 @@ module _ (n : ℕ) (qs : List (List ℕ)) (ss ms : List ℕ) where
       → limits_answer n qs ss ms ≡ Refused 9
   unfolding limits_answer refuse
   limits_many a b = rw (a, lt-leb (length (new_table n qs ss ms)) most_cells b)
-
--- a refusal
-refused : (n : ℕ) (mesh ss ms table : List ℕ) (k c : ℕ) → (k ≡ 0 → ⊥) → limits_answer n (fours mesh) ss ms ≡ answer_of k
-    → Advanced n mesh ss ms table k c
-refused n mesh ss ms table k c z a =
-    record {
-      answer = a;
-      counted = λ y. absurd (z y);
-      few = λ y. absurd (z y);
-      table_is = λ y. absurd (z y);
-      sound = λ y. absurd (z y);
-    }
 
 module _ (n : ℕ) (mesh rows ss : List ℕ) (h : Held n mesh rows ss) where
   abbrev qs : List (List ℕ)
@@ -108,86 +99,85 @@ module _ (n : ℕ) (mesh rows ss : List ℕ) (h : Held n mesh rows ss) where
     reds_many : 8 * length (filterb redb keeps) ≤ length (new_table n qs ss ms)
     reds_many = omega (arith, reds_counted n qs ss ms whole, ap (λ (l : List (List ℕ)). length (flatten l)) (step_by_lem n qs ss ms h.sound))
 
-    -- what is kept of a table
-    module _ (kept kept' xs : List ℕ) (ok high : Bool) (r : KeptOrFull n qs ss ms kept kept' xs ok high) where
-      held_deep : leb (length (step_table n qs ss ms)) most_levels ≡ not high
-      held_deep = deep n qs ss ms h.sound ∙ ap not (sym r.top)
+    abbrev top : Bool
+    top = anyb redb (get_or (flags (levels_of n qs ss) ms) 10 [])
 
-      -- 8 where a cell of level 10 will be red, 9 where more than 4,096 cells would arise
-      over : high ≡ true → (table : List ℕ) (k c : ℕ) → k ≡ 8 → Advanced n mesh ss ms table k c
-      unfolding answer_of
-      over d table k c e = refused n mesh ss ms table k c (λ z. omega arith) (limits_high n qs ss ms (held_deep ∙ ap not d) ∙ rw e)
+    held_deep : leb (length (step_table n qs ss ms)) most_levels ≡ not top
+    held_deep = deep n qs ss ms h.sound
 
-      many : high ≡ false → most_cells < length (new_table n qs ss ms) → (table : List ℕ) (k c : ℕ) → k ≡ 9 → Advanced n mesh ss ms table k c
-      unfolding answer_of
-      many d l table k c e =
-          refused n mesh ss ms table k c (λ z. omega arith) (limits_many n qs ss ms (held_deep ∙ ap not d) l ∙ rw e)
+    -- 8 where a cell of level 10 will be red, 9 where more than 4,096 cells would arise
+    over : top ≡ true → Refused 8 ≡ limits_answer n qs ss ms
+    over d = sym (limits_high n qs ss ms (held_deep ∙ ap not d))
 
-      too_many : most_cells < length (new_table n qs ss ms) → (table : List ℕ) (k c : ℕ) → Decided high 9 k → Advanced n mesh ss ms table k c
-      too_many l table k c g = go high refl
-        where
-          go : (b : Bool) → high ≡ b → Advanced n mesh ss ms table k c
-          go true t = over t table k c (g.over refl t)
-          go false t = many t l table k c (g.kept (λ x. t))
+    too_many : top ≡ false → most_cells < length (new_table n qs ss ms) → Refused 9 ≡ limits_answer n qs ss ms
+    too_many d l = sym (limits_many n qs ss ms (held_deep ∙ ap not d) l)
 
-      -- no room
-      pub advanced_full : ok ≡ false → (3072 ≤ length xs) ⊎ (6 * length ss ≤ length xs) → (table : List ℕ) (k c : ℕ) → Decided high 9 k
-          → Advanced n mesh ss ms table k c
-      advanced_full f room table k c g =
-          ⊎_elim (λ (l : 3072 ≤ length xs). too_many (omega (arith, r.full f, reds_many)) table k c g)
-          (λ (l : 6 * length ss ≤ length xs). absurd (omega (arith, r.full f, filter_few redb keeps, long))) room
+    -- no room
+    pub unkept : (room : ℕ) → (3072 ≤ room) ⊎ (6 * length ss ≤ room) → (r : Refusal) → Unkept n qs ss ms room r
+        → Refused (number_of r) ≡ limits_answer n qs ss ms
+    unkept room enough r u = ⊎_elim
+        (λ (e : r ≡ TooHigh). rw e (over (u.high e)))
+        (λ (e : r ≡ TooMany).
+        let m = u.many e in
+        rw e
+        (⊎_elim (λ (l : 3072 ≤ room). too_many m.0 (omega (arith, m.1, reds_many)))
+        (λ (l : 6 * length ss ≤ room). absurd (omega (arith, m.1, filter_few redb keeps, long))) enough))
+        u.one
 
-      module _ (t : ok ≡ true) where
-        kept_is : take (length ss) kept' ≡ keeps
-        kept_is = ap (take (length ss)) (r.table t) ∙ take_at keeps (drop (length ss) kept) (length ss) long
+    -- what is kept
+    module _ (kept kept' : List ℕ) (r : Kept n qs ss ms kept kept') where
+      kept_is : take (length ss) kept' ≡ keeps
+      kept_is = ap (take (length ss)) r.table ∙ take_at keeps (drop (length ss) kept) (length ss) long
 
-        pub held_keeps : (ks : List ℕ) → Firsts (length qs) ss ks → length ss < length ks
-            → Keeps (length mesh / 4) ss ks (take (length ss) kept')
-        held_keeps ks f l =
-            let s = held_statuses n mesh rows ss h in
-            rw (← length-fours mesh, kept_is)
-            (record {
-              some = omega (arith, length-fours mesh, h.accepted.some, h.accepted.whole);
-              coarse = omega (arith, length-fours mesh, held_coarse);
-              few = s.few;
-              fit = s.fit;
-              firsts = f;
-              in_kids = l;
-              in_kept = omega (arith, long);
-              kept = λ c i. kept_small n qs ss ms c;
-            })
+      pub held_keeps : (ks : List ℕ) → Firsts (length qs) ss ks → length ss < length ks
+          → Keeps (length mesh / 4) ss ks (take (length ss) kept')
+      held_keeps ks f l =
+          let s = held_statuses n mesh rows ss h in
+          rw (← length-fours mesh, kept_is)
+          (record {
+            some = omega (arith, length-fours mesh, h.accepted.some, h.accepted.whole);
+            coarse = omega (arith, length-fours mesh, held_coarse);
+            few = s.few;
+            fit = s.fit;
+            firsts = f;
+            in_kids = l;
+            in_kept = omega (arith, long);
+            kept = λ c i. kept_small n qs ss ms c;
+          })
 
-        -- what the writing leaves
-        module _ (table : List ℕ) (refusal cells : ℕ) (w : TableWritten (length mesh / 4) ss (take (length ss) kept') table refusal cells)
-          where
-            written : TableWritten (length qs) ss keeps table refusal cells
-            written = rw (kept_is, ← length-fours mesh) at w
+      -- what the writing leaves
+      pub unwritten : (r' : Refusal) → Unwritten (length mesh / 4) ss (take (length ss) kept') r'
+          → Refused (number_of r') ≡ limits_answer n qs ss ms
+      unwritten r' u =
+          let w : Unwritten (length qs) ss keeps r' = rw (kept_is, ← length-fours mesh) at u in
+          ⊎_elim
+          (λ (e : r' ≡ TooHigh).
+          let l : length (step_table n qs ss ms) ≡ 12 = rw written_is at (w.high e) in
+          rw e (sym (limits_high n qs ss ms (lt-leb (length (step_table n qs ss ms)) most_levels (omega arith)))))
+          (λ (e : r' ≡ TooMany). rw e (too_many r.low (rw written_is at (w.many e))))
+          w.one
 
-            done : refusal ≡ 0 → Advanced n mesh ss ms table refusal cells
-            done z =
-                let low : length (step_table n qs ss ms) ≤ most_levels = rw written_is at (written.low z) in
-                let c : length (new_table n qs ss ms) ≡ cells = rw written_is at (written.counted z) in
-                let few : length (new_table n qs ss ms) ≤ most_cells = omega (arith, written.few) in
-                record {
-                  answer = limits_pass n qs ss ms low few ∙ sym (answer_none refusal z);
-                  counted = λ y. c;
-                  few = λ y. written.few;
-                  table_is = λ y. rw written_is at (written.table_is z);
-                  sound = λ y. step_sound n qs ss ms (lattice.fours_four mesh) h.accepted.cells h.sound low few;
-                }
+      module _ (table : List ℕ) (cells : ℕ) (w : TableWritten (length mesh / 4) ss (take (length ss) kept') table cells) where
+        written : TableWritten (length qs) ss keeps table cells
+        written = rw (kept_is, ← length-fours mesh) at w
 
-            too_high : refusal ≡ 8 → Advanced n mesh ss ms table refusal cells
-            unfolding answer_of
-            too_high e =
-                let l : length (step_table n qs ss ms) ≡ 12 = rw written_is at (written.high e) in
-                refused n mesh ss ms table refusal cells (λ z. omega arith)
-                (limits_high n qs ss ms (lt-leb (length (step_table n qs ss ms)) most_levels (omega arith)) ∙ rw e)
+        low : length (step_table n qs ss ms) ≤ most_levels
+        low = rw written_is at written.low
 
-            pub advanced : (k : ℕ) → Decided high refusal k → Advanced n mesh ss ms table k cells
-            advanced k g =
-                ⊎_elim (λ (e : refusal ≡ 0). same (λ z. absurd (omega arith)) (done e))
-                (⊎_elim (λ (e : refusal ≡ 8). same (λ z. absurd (omega arith)) (too_high e))
-                (λ (e : refusal ≡ 9). too_many (rw written_is at (written.many e)) table k cells (rw e at g))) written.one
-              where
-                same : (refusal ≡ 9 → high ≡ false) → Advanced n mesh ss ms table refusal cells → Advanced n mesh ss ms table k cells
-                same f a = let q : k ≡ refusal = g.kept f in rw q a
+        counted : length (new_table n qs ss ms) ≡ cells
+        counted = rw written_is at written.counted
+
+        few : length (new_table n qs ss ms) ≤ most_cells
+        few = omega (arith, counted, written.few)
+
+        pub accepted : Accepted ≡ limits_answer n qs ss ms
+        accepted = sym (limits_pass n qs ss ms low few)
+
+        pub advanced : Advanced n mesh ss ms table cells
+        advanced =
+            record {
+              counted = counted;
+              few = written.few;
+              table_is = rw written_is at written.table_is;
+              sound = step_sound n qs ss ms (lattice.fours_four mesh) h.accepted.cells h.sound low few;
+            }

@@ -1,115 +1,60 @@
 // The work of one step of the multilevel red/green method: nothing is examined here.
 #![tactic(auto)]
 
-ghost use Rattle.std.specs.Prelude.{◌≡◌, ◌≤◌, length};
-ghost use Rattle.pairs.specs.Keys.{Clear};
-ghost use Rattle.advance.specs.Advanced.{Held, AdvanceRoom, Decided, Advanced};
+ghost use Rattle.std.specs.Prelude.{◌≡◌, ◌⊎◌, ◌*◌, ◌≤◌, ◌<◌, IfOk, length};
+ghost use Rattle.base.specs.Fours.{fours};
+ghost use Rattle.base.specs.Refuse.{answered};
+ghost use Rattle.mesh.specs.Answers.{limits_answer};
+ghost use Rattle.advance.specs.Advanced.{Held, Advanced};
 
-use writing::NewTable;
+use base::Refusal;
+use pairs::PairTable;
 
-// The refusal of a step: 9 gives way to 8 where a cell of level 10 will be red.
-fn decided(refusal: u8, high: bool) -> u8
-    ensures { Decided high refusal result }
-{
-    if refusal != 9 {
-        return refusal;
-    }
-    if high {
-        return 8;
-    }
-    9
+// Tables for the work on fewer than K statuses: the edges of new red cells, the old numbers of new cells, the first child of each old cell
+// and what it keeps. Made once, they serve any number of steps.
+#[derive(Drop)]
+pub struct Work<const N: usize, const H: usize, const K: usize> {
+    pub red: PairTable<N, H>,
+    pub old: [u16; 4096],
+    pub kids: [u16; K],
+    pub kept: [u8; K],
 }
 
-// The work of a step, on a sound table with its rows and marks that fit it: the new statuses in `table`. The tables from xs on are for the
-// work, whatever they hold; no bucket of the heads has an entry. Refusals 8 and 9.
-pub fn advance(
+impl<const N: usize, const H: usize, const K: usize> Work<N, H, K> {
+    pub fn new() -> Self
+        requires { (N ≤ 65536) × (1024 ≤ H) × (H ≤ 65536) × (K ≤ 65536) }
+        ensures { (result.red.from ≡ 0) × (result.red.n ≡ 0) }
+    {
+        Work {
+            red: PairTable::new(),
+            old: [0; 4096],
+            kids: [0; K],
+            kept: [0; K],
+        }
+    }
+}
+
+// The work of a step, on a sound table with its rows and marks that fit it: the new statuses in `table`, and how many there are. The table
+// of red edges is empty, the other tables of the work hold whatever they hold. Refusals 8 and 9.
+pub fn advance<const N: usize, const H: usize, const K: usize>(
     mesh: &[u16],
     n: usize,
     rows: &[u16],
     status: &[u8],
     marks: &[u8],
     table: &mut [u8; 4096],
-    xs: &mut [u32],
-    ys: &mut [u32],
-    heads: &mut [u16],
-    links: &mut [u16],
-    old: &mut [u16; 4096],
-    kids: &mut [u16],
-    kept: &mut [u8],
-) -> NewTable
+    work: &mut Work<N, H, K>,
+) -> Result<usize, Refusal>
     requires held { Held n mesh.now rows.now status.now }
     requires marks_len { length marks.now ≡ length status.now }
-    requires advance_room { AdvanceRoom status.now xs.old ys.old links.old kids.old kept.old }
-    requires clear { Clear heads.old }
-    ensures { Advanced n mesh.now status.now marks.now table.new result.refusal result.cells }
+    requires red_room { (3072 ≤ N) ⊎ (6 * length status.now ≤ N) }
+    requires work_room { (N ≤ 65535) × (length status.now < K) }
+    requires empty { (work.old.red.from ≡ 0) × (work.old.red.n ≡ 0) }
+    ensures answer { answered result ≡ limits_answer n (fours mesh.now) status.now marks.now }
+    ensures made { IfOk result (λ k. Advanced n mesh.now status.now marks.now table.new k) }
 {
-    let k = status.len();
     let coarse = mesh.len() / 4;
-    firsts::first_children(status, coarse, kids);
-    let l = keeping::keep(
-        mesh, n, rows, status, marks, kids, kept, xs, ys, heads, links,
-    );
-    if !l.ok {
-        let refusal = decided(9, l.high);
-        return NewTable { refusal, cells: 0 };
-    }
-    let r = writing::write_table(status, kids, &kept[..k], coarse, table, old);
-    let refusal = decided(r.refusal, l.high);
-    NewTable {
-        refusal,
-        cells: r.cells,
-    }
-}
-
-// The same for at most 128 statuses, with small tables for the work.
-pub fn advance_least(
-    mesh: &[u16],
-    n: usize,
-    rows: &[u16],
-    status: &[u8],
-    marks: &[u8],
-    table: &mut [u8; 4096],
-) -> NewTable
-    requires held { Held n mesh.now rows.now status.now }
-    requires marks_len { length marks.now ≡ length status.now }
-    requires status_len_bound { length status.now ≤ 128 }
-    ensures { Advanced n mesh.now status.now marks.now table.new result.refusal result.cells }
-{
-    let mut xs = [0u32; 768];
-    let mut ys = [0u32; 768];
-    let mut heads = [65535u16; 2048];
-    let mut links = [0u16; 768];
-    let mut old = [0u16; 4096];
-    let mut kids = [0u16; 129];
-    let mut kept = [0u8; 128];
-    advance(
-        mesh, n, rows, status, marks, table, &mut xs, &mut ys, &mut heads, &mut links, &mut old,
-        &mut kids, &mut kept,
-    )
-}
-
-// The same for any table.
-pub fn advance_many(
-    mesh: &[u16],
-    n: usize,
-    rows: &[u16],
-    status: &[u8],
-    marks: &[u8],
-    table: &mut [u8; 4096],
-) -> NewTable
-    requires held { Held n mesh.now rows.now status.now }
-    requires marks_len { length marks.now ≡ length status.now }
-    ensures { Advanced n mesh.now status.now marks.now table.new result.refusal result.cells }
-{
-    let mut xs = [0u32; 3072];
-    let mut ys = [0u32; 3072];
-    let mut heads = [65535u16; 5120];
-    let mut links = [0u16; 3072];
-    let mut old = [0u16; 4096];
-    let mut kids = [0u16; 4097];
-    let mut kept = [0u8; 4096];
-    advance(
-        mesh, n, rows, status, marks, table, &mut xs, &mut ys, &mut heads, &mut links, &mut old,
-        &mut kids, &mut kept,
-    )
+    firsts::first_children(status, coarse, &mut work.kids);
+    keeping::keep(mesh, n, rows, status, marks, &work.kids, &mut work.kept, &mut work.red)?;
+    writing::write_table(status, &work.kids, &work.kept[..status.len()], coarse, table, &mut work.old)
 }

@@ -1,5 +1,4 @@
 -- Where the numbers of corners and cells stand in the bytes.
---   whole_four    four bytes as a number, from two by two
 --   corner_place, cell_place   where the number k stands
 --   corner_at_lem, cell_at_lem, cell_from   it stands there
 --   corner_inside, cell_inside      within the bytes
@@ -11,25 +10,10 @@ use Prim.Native.Nat.{ℕ, zero, suc, ◌+◌, ◌*◌, ◌/◌, ◌%◌, ◌≤�
 use native.Mathlib.Omega.{arith}
 use lib.IntN.{ℤ, pos}
 use lib.ListN.{length, get_or, drop, length-drop}
-use lib.Seq.{drop-cons, drop-drop}
+use lib.Seq.{drop-drop}
 use Rattle.archive.specs.Form.{whole, i32_at, u16_at, startsb, corner_records, cell_records}
 use Rattle.archive.specs.Writing.{corners_first, cell_records_first}
 use Rattle.archive.specs.Records.{records_fit, corners_none, cells_none, corners_many, cells_many}
-
-pub whole_four : (bs : List ℕ) (at : ℕ) → at + 4 ≤ length bs → whole 2 (drop at bs) + 65536 * whole 2 (drop (at + 2) bs) ≡ whole 4
-    (drop at bs)
-unfolding whole
-whole_four bs at h =
-    let k : at + 2 ≡ suc (suc at) = omega arith in
-    rw (
-      k,
-      drop-cons bs at 0 (omega arith),
-      drop-cons bs (suc at) 0 (omega arith),
-      drop-cons bs (suc (suc at)) 0 (omega arith),
-      drop-cons bs
-          (suc (suc (suc at))) 0 (omega arith),
-    )
-    (omega arith)
 
 abbrev corner_place : ℕ → ℕ
 corner_place k = 13 * (k / 3) + 4 * (k % 3) + 1

@@ -1,91 +1,46 @@
--- An i32 from its 32 bits.
---   low, high    the two halves
--- The 32 bits of an i32.
---   under z      n where z is -1 - n; under_fits, under_is, under_small, under_bits where z is below 0
---   bits_is      z itself where it is not
+-- The library's bytes of numbers are the definitions'.
+--   four_read    an i32 from four bytes
+--   i32_written  the bytes of an i32
 -- Assumes nothing.
-use mathlib.Core.Path.{◌≡◌, refl, sym, ap, ◌∙◌}
-use Prim.Native.Nat.{ℕ, zero, suc, ◌-◌, ◌≤◌, ◌<◌}
-use native.Mathlib.Nat.{zero-add}
+use mathlib.Core.Path.{◌≡◌, refl, ◌∙◌}
+use mathlib.Core.Bool.{Bool, true, false}
+use Prim.Native.Nat.{ℕ, suc, ◌-◌, ◌/◌, ◌≤◌, ◌<◌}
 use native.Mathlib.Omega.{arith}
-use lib.IntN.{ℤ, pos, negsuc, ◌-ℤ◌}
-use mathlib.Core.Bool.{true, false}
-use borrow.Author.Tests.{lt-ltb, le-ltb, ltb-true}
+use lib.Dec.{ltb}
+use lib.IntN.{ℤ, pos, negsuc}
+use borrow.Author.Tests.{ltb-true, ltb-false}
 use mir.Syntax.{w32}
 use mir.Val.{SFits, to_z, of_z}
-use lib.Signed.{lt_z}
 use mir.ValLaws.{to_z_pos, to_z-of_z}
-use Rattle.base.specs.Bools.{not_both}
-use Rattle.archive.specs.Job.{word}
+use Rattle.std.proofs.Math.Facts.{to_z-neg}
+use Rattle.std.specs.Int.{to_le_bytes}
+use Rattle.archive.specs.Job.{bytes, word}
 use Rattle.archive.specs.Form.{signed}
-use Rattle.base.specs.Integers.{minus_fits}
 
-pub low : (x : ℕ) → x < 2147483648 → to_z w32 x ≡ signed x
+pub signed_is : (x : ℕ) → x < 4294967296 → to_z w32 x ≡ signed x
 unfolding signed
-low x h = to_z_pos w32 x h ∙ sym (rw (lt-ltb x 2147483648 h, signed))
+signed_is x h = go (ltb x 2147483648) refl
+  where
+    go : (b : Bool) → ltb x 2147483648 ≡ b → to_z w32 x ≡ signed x
+    go true t = let l : x < 2147483648 = ltb-true x 2147483648 t in to_z_pos w32 x l ∙ rw (t, signed)
+    go false t =
+        let l : 2147483648 ≤ x = ltb-false x 2147483648 t in
+        let e : 4294967296 - suc (4294967295 - x) ≡ x = omega arith in
+        let k : 4294967295 - x < 2147483648 = omega arith in
+        let n : to_z w32 (4294967296 - suc (4294967295 - x)) ≡ negsuc (4294967295 - x) = to_z-neg w32 (4294967295 - x) k in
+        rw e at n ∙ rw (t, signed)
 
-less : (k : ℕ) → negsuc 0 -ℤ pos k ≡ negsuc k
-less zero = refl
-less (suc k) = ap (λ (n : ℕ). negsuc (suc n)) (zero-add k)
-
-pub high : (x : ℕ) → 2147483648 ≤ x → to_z w32 (of_z w32 (negsuc 0 -ℤ to_z w32 (4294967295 - x))) ≡ signed x
-unfolding signed
-high x h =
-    let l : 4294967295 - x < 2147483648 = omega arith in
-    to_z-of_z w32 (negsuc 0 -ℤ to_z w32 (4294967295 - x)) (minus_fits (4294967295 - x) l)
-    ∙ rw (to_z_pos w32 (4294967295 - x) l, less (4294967295 - x), le-ltb x 2147483648 h, signed)
-
--- n where z is -1 - n
-abbrev under : ℤ → ℕ
-under (pos n) = 0
-under (negsuc n) = n
-
-from_minus_one : (n : ℕ) → negsuc 0 -ℤ negsuc n ≡ pos n
-from_minus_one n = rw (le-ltb (suc n) 1 (omega arith)) (ap pos (omega arith))
-
-record Under (z : ℤ) : Type 0 where
-  pub is : negsuc 0 -ℤ z ≡ pos (under z)
-  pub small : under z < 2147483648
-  pub bits : 4294967295 - under z ≡ word z
-
-negative : (z : ℤ) → SFits w32 z → lt_z z (pos 0) ≡ true → Under z
+pub word_is : (z : ℤ) → SFits w32 z → of_z w32 z ≡ word z
 unfolding word
-negative (pos n) f t = absurd (omega (arith, ltb-true n 0 t))
-negative (negsuc n) f t = record { is = from_minus_one n; small = f.sfits; bits = refl }
+word_is (pos n) f = refl
+word_is (negsuc n) f = omega (arith, f.sfits)
 
-module _ (z : ℤ) (f : SFits w32 z) where
-  module _ (t : lt_z (to_z w32 (of_z w32 z)) (pos 0) ≡ true) where
-    told : Under z
-    told = negative z f (rw (to_z-of_z w32 z f) at t)
+pub four_written : (x : ℕ) → to_le_bytes w32 x ≡ bytes 4 x
+unfolding bytes
+four_written x =
+    let a : x / 65536 ≡ x / 256 / 256 = omega arith in
+    let b : x / 16777216 ≡ x / 256 / 256 / 256 = omega arith in
+    rw (a, b)
 
-    difference : negsuc 0 -ℤ to_z w32 (of_z w32 z) ≡ pos (under z)
-    difference = rw (to_z-of_z w32 z f) told.is
-
-    pub under_fits : SFits w32 (negsuc 0 -ℤ to_z w32 (of_z w32 z))
-    under_fits = rw difference (record { sfits = told.small })
-
-    pub under_is : to_z w32 (of_z w32 (negsuc 0 -ℤ to_z w32 (of_z w32 z))) ≡ pos (under z)
-    under_is = to_z-of_z w32 (negsuc 0 -ℤ to_z w32 (of_z w32 z)) under_fits ∙ difference
-
-    pub under_small : under z < 2147483648
-    under_small = told.small
-
-    pub under_bits : 4294967295 - under z ≡ word z
-    under_bits = told.bits
-
-  module _ (t : lt_z (to_z w32 (of_z w32 z)) (pos 0) ≡ false) where
-    pub bits_is : to_z w32 (of_z w32 z) ≡ pos (word z)
-    unfolding word
-    bits_is = to_z-of_z w32 z f ∙ go z (rw (to_z-of_z w32 z f) at t)
-      where
-        go : (z : ℤ) → lt_z z (pos 0) ≡ false → z ≡ pos (word z)
-        go (pos n) u = refl
-        go (negsuc n) u = not_both true refl u
-
-    pub bits_small : word z < 4294967296
-    unfolding word
-    bits_small = go z f
-      where
-        go : (z : ℤ) → SFits w32 z → word z < 4294967296
-        go (pos n) f = omega (arith, f.sfits)
-        go (negsuc n) f = omega arith
+pub i32_written : (z : ℤ) → SFits w32 z → to_le_bytes w32 (of_z w32 (to_z w32 (of_z w32 z))) ≡ bytes 4 (word z)
+i32_written z f = rw (to_z-of_z w32 z f, word_is z f) (four_written (word z))

@@ -1,20 +1,23 @@
 -- Runs of stores.
 --   then_sets       stores behind stores are one run
---   two_bytes, wide_bytes   a number's bytes, as the code stores them
 --   corner_stores, cell_stores, mark_stores   the records
---   corners_turn, cells_turn   one record more
+--   corners_flat, cells_flat   the records of flat tables, from arrays of three and four
+--   records_turn    one record more
 -- Assumes nothing.
 use mathlib.Core.Path.{◌≡◌, refl, sym, ◌∙◌, ap}
-use mathlib.Core.List.{List, [], ◌∷◌, ◌++◌, append_assoc}
-use Prim.Native.Nat.{ℕ, zero, suc, ◌+◌, ◌*◌, ◌/◌, ◌%◌, ◌≤◌, ◌<◌}
+use mathlib.Core.List.{List, [], ◌∷◌, ◌++◌, append_assoc, flat_map}
+use Prim.Native.Nat.{ℕ, zero, suc, ◌+◌, ◌*◌, ◌/◌, ◌≤◌, ◌<◌}
 use native.Mathlib.Numerals.{add-one}
 use native.Mathlib.Omega.{arith}
 use lib.IntN.{ℤ, pos}
-use lib.ListN.{length, get_or, take, set, length-append, length-set}
-use lib.Seq.{sets, length-sets, take-suc, take_all, length-take-le}
+use lib.ListN.{length, get_or, take, drop, set, length-append, length-drop}
+use native.Mathlib.Nat.{suc-mul, mul-suc}
+use Rattle.std.specs.Simd.{first_chunks}
+use lib.Seq.{sets, sets-eq, length-sets, take-suc, take_all, length-take-le, drop-drop}
+use borrow.Rule.Slice.PartMut.{put_mid}
 use Rattle.archive.specs.Job.{bytes, word, corner_bytes, cell_bytes, mark_bytes}
 use Rattle.archive.specs.Measure.{corner-length, cell-length}
-use Rattle.base.specs.Append.{sets_append}
+use Rattle.base.specs.Append.{sets_append, flat_snoc}
 
 pub then_sets : (l : List ℕ) (i : ℕ) {t : List ℕ} {j : ℕ} (u v : List ℕ) → t ≡ sets l i u → j ≡ i + length u
     → sets t j v ≡ sets l i (u ++ v)
@@ -22,25 +25,6 @@ then_sets l i u v e q = rw (e, q) (sym (sets_append u v l i))
 
 pub sets_length : (l : List ℕ) (i : ℕ) {t : List ℕ} (u : List ℕ) → t ≡ sets l i u → length t ≡ length l
 sets_length l i u e = rw e (length-sets l i u)
-
-pub letter-length : (l : List ℕ) (at c i : ℕ) {t : List ℕ} (u : List ℕ) → t ≡ sets (set l at c) i u → length t ≡ length l
-letter-length l at c i u e = sets_length (set l at c) i u e ∙ length-set l at c
-
-pub two_bytes : (x : ℕ) → x < 65536 → x % 256 ∷ x / 256 ∷ [] ≡ bytes 2 x
-unfolding bytes
-two_bytes x h = let e : x / 256 % 256 ≡ x / 256 = omega arith in rw e
-
-more : (q y : ℕ) → (256 * q + y) % 256 ≡ y % 256
-more q y = omega arith
-
-pub wide_bytes : (x : ℕ) → bytes 2 (x % 65536) ++ bytes 2 (x / 65536) ≡ bytes 4 x
-unfolding bytes
-wide_bytes x =
-    let a : x % 65536 % 256 ≡ x % 256 = omega arith in
-    let h : x / 256 ≡ 256 * (x / 65536) + x % 65536 / 256 = omega arith in
-    let b : x % 65536 / 256 % 256 ≡ x / 256 % 256 = sym (ap (λ (n : ℕ). n % 256) h ∙ more (x / 65536) (x % 65536 / 256)) in
-    let c : x / 65536 ≡ x / 256 / 256 = omega arith in
-    rw (a, b, c)
 
 bytes-length : (k x : ℕ) → length (bytes k x) ≡ k
 unfolding bytes
@@ -81,128 +65,78 @@ module _ (l : List ℕ) (at : ℕ) where
   mark_stores c m e =
       then_sets l at (77 ∷ bytes 2 c) (m ∷ []) (first 77 2 c e) (omega (arith, bytes-length 2 c))
 
-corners_append : (a b : List ℤ) → length a % 3 ≡ 0 → corner_bytes (a ++ b) ≡ corner_bytes a ++ corner_bytes b
-unfolding corner_bytes
-corners_append [] b h = refl
-corners_append (x ∷ []) b h = absurd (omega arith)
-corners_append (x ∷ y ∷ []) b h = absurd (omega arith)
-corners_append (x ∷ y ∷ z ∷ a) b h =
-    let i : corner_bytes (a ++ b) ≡ corner_bytes a ++ corner_bytes b = corners_append a b (omega arith) in rw i
+-- arrays of n elements
+pub chunk_length : {A : Type 0} (n k : ℕ) (xs : List A) → k * n ≤ length xs → (j : ℕ) → j < k → length (get_or (first_chunks n k xs) j []) ≡ n
+chunk_length n zero xs h j i = absurd (omega arith)
+chunk_length n (suc k) xs h zero i = let e : suc k * n ≡ k * n + n = suc-mul k n in length-take-le n xs (omega arith)
+chunk_length n (suc k) xs h (suc j) i =
+    let e : suc k * n ≡ k * n + n = suc-mul k n in
+    chunk_length n k (drop n xs) (omega (arith, length-drop n xs)) j (omega arith)
 
-cells_append : (a b : List ℕ) → length a % 4 ≡ 0 → cell_bytes (a ++ b) ≡ cell_bytes a ++ cell_bytes b
-unfolding cell_bytes
-cells_append [] b h = refl
-cells_append (w ∷ []) b h = absurd (omega arith)
-cells_append (w ∷ x ∷ []) b h = absurd (omega arith)
-cells_append (w ∷ x ∷ y ∷ []) b h = absurd (omega arith)
-cells_append (w ∷ x ∷ y ∷ z ∷ a) b h =
-    let i : cell_bytes (a ++ b) ≡ cell_bytes a ++ cell_bytes b = cells_append a b (omega arith) in rw i
+pub corners_flat : (ps : List ℤ) → flat_map corner_bytes (first_chunks 3 (length ps / 3) ps) ≡ corner_bytes ps
+unfolding corner_bytes flat_map
+corners_flat [] = refl
+corners_flat (x ∷ []) = refl
+corners_flat (x ∷ y ∷ []) = refl
+corners_flat (x ∷ y ∷ z ∷ ps) =
+    let e : length (x ∷ y ∷ z ∷ ps) / 3 ≡ suc (length ps / 3) = omega arith in
+    rw (e, corners_flat ps)
 
-take-three : (ps : List ℤ) (i : ℕ) → 3 * i + 3 ≤ length ps
-    → take (3 * (i + 1)) ps ≡ take (3 * i) ps ++ (get_or ps (3 * i) (pos 0) ∷ get_or ps (3 * i + 1) (pos 0) ∷ get_or ps (3 * i + 2) (pos 0) ∷ [])
-take-three ps i h =
-    let k = 3 * i in
-    let a : 3 * (i + 1) ≡ suc (suc (suc k)) = omega arith in
-    let b : k + 2 ≡ suc (suc k) = omega arith in
-    rw (
-      a,
-      b,
-      add-one k,
-      take-suc ps (suc (suc k)) (pos 0) (omega arith),
-      take-suc ps (suc k) (pos 0) (omega arith),
-      take-suc ps k (pos 0)
-          (omega arith),
-    )
-    (simp append_assoc)
+pub cells_flat : (ts : List ℕ) → flat_map cell_bytes (first_chunks 4 (length ts / 4) ts) ≡ cell_bytes ts
+unfolding cell_bytes flat_map
+cells_flat [] = refl
+cells_flat (a ∷ []) = refl
+cells_flat (a ∷ b ∷ []) = refl
+cells_flat (a ∷ b ∷ c ∷ []) = refl
+cells_flat (a ∷ b ∷ c ∷ d ∷ ts) =
+    let e : length (a ∷ b ∷ c ∷ d ∷ ts) / 4 ≡ suc (length ts / 4) = omega arith in
+    rw (e, cells_flat ts)
 
-take-four : (ts : List ℕ) (i : ℕ) → 4 * i + 4 ≤ length ts
-    → take (4 * (i + 1)) ts ≡ take (4 * i) ts ++ (get_or ts (4 * i) 0 ∷ get_or ts (4 * i + 1) 0 ∷ get_or ts (4 * i + 2) 0 ∷ get_or ts (4 * i + 3)
-    0 ∷ [])
-take-four ts i h =
-    let k = 4 * i in
-    let a : 4 * (i + 1) ≡ suc (suc (suc (suc k))) = omega arith in
-    let b : k + 2 ≡ suc (suc k) = omega arith in
-    let c : k + 3 ≡ suc (suc (suc k)) = omega arith in
-    rw (
-      a,
-      b,
-      c,
-      add-one k,
-      take-suc ts (suc (suc (suc k))) 0 (omega arith),
-      take-suc ts (suc (suc k)) 0 (omega arith),
-      take-suc ts (suc k)
-          0 (omega arith),
-      take-suc ts k 0 (omega arith),
-    )
-    (simp append_assoc)
+pub three_points : (q : List ℤ) → length q ≡ 3 → get_or q 0 (pos 0) ∷ get_or q 1 (pos 0) ∷ get_or q 2 (pos 0) ∷ [] ≡ q
+three_points [] e = absurd (omega arith)
+three_points (a ∷ []) e = absurd (omega arith)
+three_points (a ∷ b ∷ []) e = absurd (omega arith)
+three_points (a ∷ b ∷ c ∷ []) e = refl
+three_points (a ∷ b ∷ c ∷ x ∷ l) e = absurd (omega arith)
 
--- the records of the first i corners are stored
-pub record CornersTo (ps : List ℤ) (l t : List ℕ) (i : ℕ) : Type 0 where
-  pub within : 3 * i ≤ length ps
-  pub table : t ≡ sets l 0 (corner_bytes (take (3 * i) ps))
+pub corner-size : (q : List ℤ) → length q ≡ 3 → length (corner_bytes q) ≡ 13
+corner-size q e = omega (arith, corner-length q (omega arith))
 
-module _ (ps : List ℤ) (l : List ℕ) where
-  pub corners_start : CornersTo ps l l 0
-  unfolding corner_bytes
-  corners_start = record { within = omega arith; table = refl }
+pub cell-size : (q : List ℕ) → length q ≡ 4 → length (cell_bytes q) ≡ 9
+cell-size q e = omega (arith, cell-length q (omega arith))
 
-  module _ {t : List ℕ} {i : ℕ} (c : CornersTo ps l t i) where
-    pub corners-length : length t ≡ length l
-    corners-length = sets_length l 0 (corner_bytes (take (3 * i) ps)) c.table
+-- Records of k bytes each, stored one behind the other.
+module _ {A : Type 0} (f : A → List ℕ) (k : ℕ) (d : A) (qs : List A) (from : ℕ) (l : List ℕ) where
+  -- the first i are stored
+  pub record RecordsTo (t : List ℕ) (i : ℕ) : Type 0 where
+    pub within : i ≤ length qs
+    pub size : length (flat_map f (take i qs)) ≡ k * i
+    pub table : t ≡ sets l from (flat_map f (take i qs))
 
-    pub corners_turn : (x y z : ℤ) {u : List ℕ} → 3 * i + 3 ≤ length ps → x ≡ get_or ps (3 * i) (pos 0) → y ≡ get_or ps (3 * i + 1) (pos 0)
-        → z ≡ get_or ps (3 * i + 2) (pos 0)
-        → u ≡ sets t (13 * i) (corner_bytes (x ∷ y ∷ z ∷ [])) → CornersTo ps l u (i + 1)
-    corners_turn x y z h p q r e =
-        let m : length (take (3 * i) ps) ≡ 3 * i = length-take-le (3 * i) ps (omega arith) in
-        let n : 13 * i ≡ 0 + length (corner_bytes (take (3 * i) ps)) = omega (arith, corner-length (take (3 * i) ps) (omega arith)) in
+  pub records_start : RecordsTo l 0
+  unfolding flat_map
+  records_start = record { within = omega arith; size = omega arith; table = refl }
+
+  module _ {t : List ℕ} {i : ℕ} (c : RecordsTo t i) where
+    pub records-length : length t ≡ length l
+    records-length = sets_length l from (flat_map f (take i qs)) c.table
+
+    next : i < length qs → flat_map f (take (i + 1) qs) ≡ flat_map f (take i qs) ++ f (get_or qs i d)
+    next h = rw (add-one i, take-suc qs i d h) (flat_snoc f (take i qs) (get_or qs i d))
+
+    pub records_turn : i < length qs → length (f (get_or qs i d)) ≡ k → {u : List ℕ} → u ≡ sets t (from + k * i) (f (get_or qs i d)) → RecordsTo u (i + 1)
+    records_turn h z e =
+        let m : k * (i + 1) ≡ k * i + k = rw (add-one i) (mul-suc k i ∙ omega arith) in
         record {
           within = omega arith;
-          table =
-              e
-              ∙ then_sets l 0 (corner_bytes (take (3 * i) ps)) (corner_bytes (x ∷ y ∷ z ∷ [])) c.table n
-              ∙ rw (
-                take-three ps i h,
-                corners_append (take (3 * i) ps)
-                    (get_or ps (3 * i) (pos 0) ∷ get_or ps (3 * i + 1) (pos 0) ∷ get_or ps (3 * i + 2) (pos 0) ∷ []) (omega arith),
-                p,
-                q,
-                r,
-              );
+          size = rw (next h) (omega (arith, length-append (flat_map f (take i qs)) (f (get_or qs i d)), c.size));
+          table = e ∙ then_sets l from (flat_map f (take i qs)) (f (get_or qs i d)) c.table (omega (arith, c.size)) ∙ rw (next h);
         }
 
-    pub corners_all : length ps ≤ 3 * i → t ≡ sets l 0 (corner_bytes ps)
-    corners_all h = c.table ∙ rw (take_all (3 * i) ps h)
+    pub records_all : length qs ≤ i → t ≡ sets l from (flat_map f qs)
+    records_all h = c.table ∙ rw (take_all i qs h)
 
--- the records of the first i cells are stored
-pub record CellsTo (ts : List ℕ) (from : ℕ) (l t : List ℕ) (i : ℕ) : Type 0 where
-  pub within : 4 * i ≤ length ts
-  pub table : t ≡ sets l from (cell_bytes (take (4 * i) ts))
-
-module _ (ts : List ℕ) (from : ℕ) (l : List ℕ) where
-  pub cells_start : CellsTo ts from l l 0
-  unfolding cell_bytes
-  cells_start = record { within = omega arith; table = refl }
-
-  module _ {t : List ℕ} {i : ℕ} (c : CellsTo ts from l t i) where
-    pub cells-length : length t ≡ length l
-    cells-length = sets_length l from (cell_bytes (take (4 * i) ts)) c.table
-
-    pub cells_turn : {u : List ℕ} → 4 * i + 4 ≤ length ts
-        → u ≡ sets t (from + 9 * i) (cell_bytes (get_or ts (4 * i) 0 ∷ get_or ts (4 * i + 1) 0 ∷ get_or ts (4 * i + 2) 0 ∷ get_or ts (4 * i + 3)
-        0 ∷ []))
-        → CellsTo ts from l u (i + 1)
-    cells_turn h e =
-        let m : length (take (4 * i) ts) ≡ 4 * i = length-take-le (4 * i) ts (omega arith) in
-        let n : from + 9 * i ≡ from + length (cell_bytes (take (4 * i) ts)) = omega (arith, cell-length (take (4 * i) ts) (omega arith)) in
-        let four : List ℕ = get_or ts (4 * i) 0 ∷ get_or ts (4 * i + 1) 0 ∷ get_or ts (4 * i + 2) 0 ∷ get_or ts (4 * i + 3) 0 ∷ [] in
-        record {
-          within = omega arith;
-          table =
-              e
-              ∙ then_sets l from (cell_bytes (take (4 * i) ts)) (cell_bytes four) c.table n
-              ∙ rw (take-four ts i h, cells_append (take (4 * i) ts) four (omega arith));
-        }
-
-    pub cells_all : length ts ≤ 4 * i → t ≡ sets l from (cell_bytes ts)
-    cells_all h = c.table ∙ rw (take_all (4 * i) ts h)
+-- a part of the bytes that is copied into
+pub put_is : (xs ys : List ℕ) (a k : ℕ) → k ≡ length ys → a + length ys ≤ length xs → put_mid a k xs ys ≡ sets xs a ys
+put_is xs ys a k e h =
+    rw (e, drop-drop (length ys) a xs) (sym (sets-eq ys xs a h ∙ append_assoc (take a xs) ys (drop (a + length ys) xs)))

@@ -1,22 +1,21 @@
--- The tests of the form at a place of the bytes, as the code makes them.
---   whole_two                two bytes as a number
---   too_short, starts_there  the test of a record
---   mark_other, mark_low, mark_high, mark_there   the test of a mark
---   end_other, end_marked, end_there              the test of the end
---   run_start, run_on, run_end                    counting records
+-- Bytes at a place as numbers, and records counted from the front.
+--   whole_two, whole_four    two and four bytes as a number
+--   counted_records          the records that the bytes start with, taken while they have the letter
 -- Assumes nothing.
-use mathlib.Core.Path.{◌≡◌, refl, sym, ◌∙◌}
-use mathlib.Core.Bool.{Bool, true, false, ◌&&◌, and-false}
-use mathlib.Core.List.{List}
-use Prim.Native.Nat.{ℕ, suc, ◌+◌, ◌*◌, ◌-◌, ◌≤◌, ◌<◌}
+use mathlib.Core.Path.{◌≡◌, refl, sym, ap}
+use mathlib.Core.Bool.{Bool, true, false, ◌&&◌, cond}
+use mathlib.Core.List.{List, [], ◌∷◌}
+use Prim.Native.Nat.{ℕ, zero, suc, ◌+◌, ◌*◌, ◌≤◌, ◌<◌}
+use native.Mathlib.Nat.{mul-suc}
 use native.Mathlib.Omega.{arith}
-use lib.Dec.{eqb, leb}
-use lib.ListN.{length, get_or, drop, length-drop}
-use lib.Seq.{drop-cons, drop-drop, get_or-drop}
-use borrow.Author.Tests.{le-leb, lt-leb, eq-eqb, ne_eqb}
+use lib.Dec.{eqb}
+use lib.ListN.{length, get_or, take, drop, length-drop}
+use lib.Seq.{drop-cons, get_or-take}
+use borrow.Author.Tests.{le-leb, lt-leb}
+use Rattle.std.specs.List.{prefix_len}
+use Rattle.std.specs.Simd.{first_chunks}
 use Rattle.archive.specs.Form.{startsb, whole}
-use Rattle.archive.specs.Records.{records_in, records_none, records_more, starts_long}
-use Rattle.archive.specs.Scan.{mark_recordb, endb}
+use Rattle.archive.specs.Records.{records_in, records_none, records_more}
 
 pub whole_two : (bs : List ℕ) (at : ℕ) → at + 2 ≤ length bs → get_or bs at 0 + 256 * get_or bs (at + 1) 0 ≡ whole 2 (drop at bs)
 unfolding whole
@@ -24,75 +23,66 @@ whole_two bs at h =
     let k : at + 1 ≡ suc at = omega arith in
     rw (k, drop-cons bs at 0 (omega arith), drop-cons bs (suc at) 0 (omega arith)) (omega arith)
 
-front : (bs : List ℕ) (at k : ℕ) → get_or (drop at bs) k 0 ≡ get_or bs (at + k) 0
-front bs at k = get_or-drop at bs k 0
+pub whole_four : (bs : List ℕ) (at : ℕ) → at + 4 ≤ length bs
+    → get_or bs at 0 + 256 * get_or bs (at + 1) 0 + 65536 * get_or bs (at + 2) 0 + 16777216 * get_or bs (at + 3) 0 ≡ whole 4 (drop at bs)
+unfolding whole
+whole_four bs at h =
+    let k : at + 1 ≡ suc at = omega arith in
+    let m : at + 2 ≡ suc (suc at) = omega arith in
+    let n : at + 3 ≡ suc (suc (suc at)) = omega arith in
+    rw (
+      k,
+      m,
+      n,
+      drop-cons bs at 0 (omega arith),
+      drop-cons bs (suc at) 0 (omega arith),
+      drop-cons bs (suc (suc at)) 0 (omega arith),
+      drop-cons bs (suc (suc (suc at))) 0 (omega arith),
+    )
+    (omega arith)
 
-module _ (bs : List ℕ) (at l k : ℕ) where
-  pub too_short : length bs - at < k → false ≡ startsb l k (drop at bs)
+module _ (l k : ℕ) where
+  short : (bs : List ℕ) → length bs < k → startsb l k bs ≡ false
   unfolding startsb
-  too_short h = sym (rw (lt-leb k (length (drop at bs)) (omega (arith, length-drop at bs))) (and-false (eqb (get_or (drop at bs) 0 0) l)))
+  short bs h = rw (lt-leb k (length bs) h) (and_none (eqb (get_or bs 0 0) l))
+    where
+      and_none : (b : Bool) → (b && false) ≡ false
+      and_none true = refl
+      and_none false = refl
 
-  pub starts_there : k ≤ length bs - at → eqb (get_or bs at 0) l ≡ startsb l k (drop at bs)
+  starts_first : (bs : List ℕ) → k ≤ length bs → startsb l k bs ≡ eqb (get_or bs 0 0) l
   unfolding startsb
-  starts_there h =
-      let n : at + 0 ≡ at = omega arith in
-      sym (rw (le-leb k (length (drop at bs)) (omega (arith, length-drop at bs)), front bs at 0, n) (and_one (eqb (get_or bs at 0) l)))
+  starts_first bs h = rw (le-leb k (length bs) h) (and_one (eqb (get_or bs 0 0) l))
     where
       and_one : (b : Bool) → (b && true) ≡ b
       and_one true = refl
       and_one false = refl
 
-module _ (bs : List ℕ) (at least : ℕ) where
-  pub mark_other : startsb 77 4 (drop at bs) ≡ false → false ≡ mark_recordb least (drop at bs)
-  unfolding mark_recordb
-  mark_other t = sym (rw t)
+  abbrev has : List ℕ → Bool
+  has r = eqb (get_or r 0 0) l
 
-  module _ (s : startsb 77 4 (drop at bs) ≡ true) where
-    pub mark_low : get_or bs (at + 3) 0 < 1 → false ≡ mark_recordb least (drop at bs)
-    unfolding mark_recordb
-    mark_low h = sym (rw (s, front bs at 3, lt-leb 1 (get_or bs (at + 3) 0) h))
+  pub counted_records : 0 < k → (n f : ℕ) (bs : List ℕ) → n ≤ f → k * n ≤ length bs → length bs < k * suc n
+      → prefix_len has (first_chunks k n bs) ≡ records_in l k f bs
+  counted_records p zero f bs g h i =
+      sym (records_none l k bs f (short bs (omega (arith, mul-suc k 0))))
+  counted_records p (suc n) zero bs g h i = absurd (omega arith)
+  counted_records p (suc n) (suc f) bs g h i =
+      let room : k ≤ length bs = omega (arith, mul-suc k n) in
+      let first : get_or (take k bs) 0 0 ≡ get_or bs 0 0 = get_or-take k bs 0 0 p in
+      go (eqb (get_or bs 0 0) l) (ap (λ (b : ℕ). eqb b l) first) (starts_first bs room)
+      (counted_records p n f (drop k bs) (omega arith) (omega (arith, mul-suc k n, length-drop k bs))
+      (omega (arith, mul-suc k n, mul-suc k (suc n), length-drop k bs)))
+    where
+      go : (b : Bool) → has (take k bs) ≡ b → startsb l k bs ≡ b → prefix_len has (first_chunks k n (drop k bs)) ≡ records_in l k f (drop k bs)
+          → cond (has (take k bs)) (1 + prefix_len has (first_chunks k n (drop k bs))) 0 ≡ records_in l k (suc f) bs
+      go true e t less = rw (e, records_more l k bs f t, less) (omega arith)
+      go false e t less = rw (e, records_none l k bs (suc f) t)
 
-    pub mark_high : 2 < get_or bs (at + 3) 0 → false ≡ mark_recordb least (drop at bs)
-    unfolding mark_recordb
-    mark_high h = sym (rw (s, front bs at 3, lt-leb (get_or bs (at + 3) 0) 2 h, and-false (leb 1 (get_or bs (at + 3) 0))))
-
-    pub mark_there : 1 ≤ get_or bs (at + 3) 0 → get_or bs (at + 3) 0 ≤ 2 → (n : ℕ) → n ≡ whole 2 (drop (at + 1) bs)
-        → leb least n ≡ mark_recordb least (drop at bs)
-    unfolding mark_recordb
-    mark_there h i n e =
-        sym (rw (s, front bs at 3, le-leb 1 (get_or bs (at + 3) 0) h, le-leb (get_or bs (at + 3) 0) 2 i, drop-drop 1 at bs, e))
-
-  pub end_other : startsb 69 1 (drop at bs) ≡ false → false ≡ endb least (drop at bs)
-  unfolding endb
-  end_other t = sym (rw t)
-
-  pub end_marked : startsb 69 1 (drop at bs) ≡ true → (least ≡ 0 → ⊥) → false ≡ endb least (drop at bs)
-  unfolding endb
-  end_marked t h = sym (rw (t, ne_eqb least 0 h))
-
-  pub end_there : startsb 69 1 (drop at bs) ≡ true → least ≡ 0 → eqb (length bs - at) 1 ≡ endb least (drop at bs)
-  unfolding endb
-  end_there t h = sym (rw (t, eq-eqb least 0 h, length-drop at bs))
-
-pub record Run (l k : ℕ) (bs : List ℕ) (from at n : ℕ) : Type 0 where
-  pub near : at ≤ length bs
-  pub way : from + n ≤ at
-  pub rest : n + records_in l k (length bs - n) (drop at bs) ≡ records_in l k (length bs) (drop from bs)
-
-module _ (l k : ℕ) (bs : List ℕ) (from : ℕ) where
-  pub run_start : from ≤ length bs → Run l k bs from from 0
-  run_start h = record { near = h; way = omega arith; rest = let e : length bs - 0 ≡ length bs = omega arith in rw e (omega arith) }
-
-  module _ {at n : ℕ} (r : Run l k bs from at n) where
-    pub run_fits : startsb l k (drop at bs) ≡ true → at + k ≤ length bs
-    run_fits t = omega (arith, starts_long l k (drop at bs) t, length-drop at bs, r.near)
-
-    pub run_on : 1 ≤ k → startsb l k (drop at bs) ≡ true → Run l k bs from (at + k) (n + 1)
-    run_on h t =
-        let f : length bs - n ≡ suc (length bs - (n + 1)) = omega (arith, run_fits t, r.way) in
-        let m : records_in l k (length bs - n) (drop at bs) ≡ suc (records_in l k (length bs - (n + 1)) (drop (at + k) bs)) =
-        rw f (records_more l k (drop at bs) (length bs - (n + 1)) t ∙ rw (drop-drop k at bs)) in
-        record { near = run_fits t; way = omega (arith, r.way); rest = omega (arith, r.rest) }
-
-    pub run_end : startsb l k (drop at bs) ≡ false → n ≡ records_in l k (length bs) (drop from bs)
-    run_end t = omega (arith, r.rest, records_none l k (drop at bs) (length bs - n) t)
+pub taken : {A : Type 0} (p : A → Bool) (l : List A) → length (take (prefix_len p l) l) ≡ prefix_len p l
+taken p [] = refl
+taken p (x ∷ l) = go (p x) (taken p l)
+  where
+    go : (b : Bool) → length (take (prefix_len p l) l) ≡ prefix_len p l
+        → length (take (cond b (1 + prefix_len p l) 0) (x ∷ l)) ≡ cond b (1 + prefix_len p l) 0
+    go true e = let z : 1 + prefix_len p l ≡ suc (prefix_len p l) = omega arith in rw z (ap suc e)
+    go false e = refl

@@ -1,24 +1,34 @@
 // Archives of jobs (docs/METHOD.md, section 10).
 #![tactic(auto)]
 
-ghost use Rattle.std.specs.Prelude.{◌≡◌, [], ◌∷◌, ◌+◌, ◌*◌, ◌/◌, ◌%◌, ◌≤◌, ◌<◌, T, length, drop};
+ghost use Rattle.std.specs.Prelude.{◌≡◌, [], ◌∷◌, ◌+◌, ◌*◌, ◌/◌, ◌%◌, ◌≤◌, ◌<◌, T, MatchOption, true, false, length, drop};
 ghost use Rattle.std.proofs.lemmas.List.Edits.{sets};
-ghost use Rattle.archive.specs.Job.{bytes, word, corner_bytes, cell_bytes, mark_bytes, job_bytes};
-ghost use Rattle.archive.specs.Form.{startsb, whole, signed, i32_at, corner_records, cell_records, formb, job_of};
+ghost use Rattle.archive.specs.Job.{corner_bytes, cell_bytes, mark_bytes, job_bytes};
+ghost use Rattle.archive.specs.Form.{startsb, whole, i32_at, corner_records, cell_records, formb, job_of};
 ghost use Rattle.archive.specs.Tables.{marked_of, marks_of, ends_of, steps_of};
 ghost use Rattle.archive.specs.Measure.{steps_bytes};
 ghost use Rattle.archive.specs.Stored.{job_from, EndsRise, Storable};
 ghost use Rattle.archive.specs.Loaded.{in_front, steps_at, StepsFit, LoadRoom, Loaded};
 ghost use Rattle.archive.specs.Records.{records_in};
 ghost use Rattle.archive.specs.Scan.{mark_recordb, endb, Scanned};
-ghost use Rattle.archive.specs.Examined.{FormExamined, CountsOf};
+ghost use Rattle.archive.specs.Examined.{CountsOf};
 
 use base::MOST_BYTES;
 
-// Whether an archive is in the form, and how many records of each kind it has where it is.
+// The letters that the records begin with.
+const CORNER: u8 = b'V';
+
+const CELL: u8 = b'T';
+
+const MARK: u8 = b'M';
+
+const STEP: u8 = b'G';
+
+const END: u8 = b'E';
+
+// How many records of each kind an archive in the form has.
 #[derive(Clone, Copy)]
 pub struct Form {
-    pub ok: bool,
     pub corners: usize,
     pub cells: usize,
     pub marks: usize,
@@ -28,7 +38,6 @@ pub struct Form {
 // The marks and steps from a place to the end of an archive.
 #[derive(Clone, Copy)]
 struct Scan {
-    ok: bool,
     marks: usize,
     steps: usize,
 }
@@ -38,32 +47,37 @@ fn starts(bytes: &[u8], at: usize, letter: u8, size: usize) -> bool
     requires { (at ≤ length bytes.now) × (1 ≤ size) }
     ensures { result ≡ startsb letter size (drop at bytes.now) }
 {
-    if bytes.len() - at < size {
-        return false;
-    }
-    bytes[at] == letter
+    bytes.len() - at >= size && bytes[at] == letter
 }
 
 // The number of two bytes, least byte first.
-fn number(bytes: &[u8], at: usize) -> usize
+fn number(bytes: &[u8], at: usize) -> u16
     requires { at + 2 ≤ length bytes.now }
-    ensures { (result ≡ whole 2 (drop at bytes.now)) × (result < 65536) }
+    ensures { result ≡ whole 2 (drop at bytes.now) }
 {
-    bytes[at] as usize + 256 * (bytes[at + 1] as usize)
+    u16::from_le_bytes([bytes[at], bytes[at + 1]])
 }
 
-// How many records of one kind stand one after the other from a place on.
-fn count_records(bytes: &[u8], from: usize, letter: u8, size: usize) -> usize
-    requires { (from ≤ length bytes.now) × (1 ≤ size) }
-    ensures { result ≡ records_in letter size (length bytes.now) (drop from bytes.now) }
+// How many corners' records the bytes start with.
+fn count_corners(bytes: &[u8]) -> usize
+    ensures { result ≡ records_in 86 13 (length bytes.now) bytes.now }
 {
-    let mut at = from;
-    let mut n = 0;
-    while starts(bytes, at, letter, size) {
-        at += size;
-        n += 1;
-    }
-    n
+    let (records, _) = bytes.as_chunks::<13>();
+    records
+        .iter()
+        .take_while(|record| record[0] == CORNER)
+        .count()
+}
+
+// How many cells' records the bytes start with.
+fn count_cells(bytes: &[u8]) -> usize
+    ensures { result ≡ records_in 84 9 (length bytes.now) bytes.now }
+{
+    let (records, _) = bytes.as_chunks::<9>();
+    records
+        .iter()
+        .take_while(|record| record[0] == CELL)
+        .count()
 }
 
 // Whether a mark stands at a place, on the cell least or a later one.
@@ -71,16 +85,9 @@ fn is_mark(bytes: &[u8], at: usize, least: usize) -> bool
     requires { at ≤ length bytes.now }
     ensures { result ≡ mark_recordb least (drop at bytes.now) }
 {
-    if !starts(bytes, at, 77, 4) {
-        return false;
-    }
-    if bytes[at + 3] < 1 {
-        return false;
-    }
-    if bytes[at + 3] > 2 {
-        return false;
-    }
-    least <= number(bytes, at + 1)
+    starts(bytes, at, MARK, 4)
+        && (1..=2).contains(&bytes[at + 3])
+        && least <= usize::from(number(bytes, at + 1))
 }
 
 // Whether the last record stands at a place, with no mark since the last step and nothing behind it.
@@ -88,19 +95,13 @@ fn is_end(bytes: &[u8], at: usize, least: usize) -> bool
     requires { at ≤ length bytes.now }
     ensures { result ≡ endb least (drop at bytes.now) }
 {
-    if !starts(bytes, at, 69, 1) {
-        return false;
-    }
-    if least != 0 {
-        return false;
-    }
-    bytes.len() - at == 1
+    starts(bytes, at, END, 1) && least == 0 && bytes.len() - at == 1
 }
 
-// The marks and steps from a place on. A mark is on the cell least or a later one.
-fn scan_steps(bytes: &[u8], from: usize) -> Scan
+// The marks and steps from a place on, if they end as they should. A mark is on the cell least or a later one.
+fn scan_steps(bytes: &[u8], from: usize) -> Option<Scan>
     requires { from ≤ length bytes.now }
-    ensures { Scanned bytes.now from result.ok result.marks result.steps }
+    ensures { MatchOption result (Scanned bytes.now from false 0 0) (λ s. Scanned bytes.now from true s.marks s.steps) }
 {
     let mut at = from;
     let mut least = 0;
@@ -108,80 +109,49 @@ fn scan_steps(bytes: &[u8], from: usize) -> Scan
     let mut steps = 0;
     while at < bytes.len() {
         if is_mark(bytes, at, least) {
-            least = number(bytes, at + 1) + 1;
+            least = usize::from(number(bytes, at + 1)) + 1;
             at += 4;
             marks += 1;
             continue;
         }
-        if !starts(bytes, at, 71, 1) {
-            return Scan {
-                ok: is_end(bytes, at, least),
-                marks,
-                steps,
+        if !starts(bytes, at, STEP, 1) {
+            return if is_end(bytes, at, least) {
+                Some(Scan { marks, steps })
+            } else {
+                None
             };
         }
         least = 0;
         at += 1;
         steps += 1;
     }
-    Scan {
-        ok: false,
-        marks,
-        steps,
-    }
+    None
 }
 
-// Whether bytes are an archive in the form, and if so, how many records of each kind there are. If not, these four numbers are free: no
-// promise speaks of them (they are what was counted, and zeros where there are more than 65,536 bytes).
-pub fn examine_form(bytes: &[u8]) -> Form
-    ensures { FormExamined bytes.now result }
+// How many records of each kind the bytes have, if they are an archive in the form.
+pub fn examine_form(bytes: &[u8]) -> Option<Form>
+    ensures { MatchOption result (formb bytes.now ≡ false) (λ form. (formb bytes.now ≡ true) × CountsOf bytes.now form) }
 {
     if bytes.len() > MOST_BYTES {
-        return Form {
-            ok: false,
-            corners: 0,
-            cells: 0,
-            marks: 0,
-            steps: 0,
-        };
+        return None;
     }
-    let corners = count_records(bytes, 0, 86, 13);
-    let cells = count_records(bytes, 13 * corners, 84, 9);
-    let scan = scan_steps(bytes, 13 * corners + 9 * cells);
-    Form {
-        ok: scan.ok,
+    let corners = count_corners(bytes);
+    let cells = count_cells(&bytes[13 * corners..]);
+    let scan = scan_steps(bytes, 13 * corners + 9 * cells)?;
+    Some(Form {
         corners,
         cells,
         marks: scan.marks,
         steps: scan.steps,
-    }
+    })
 }
 
-// The number of four bytes, least byte first.
-fn wide_number(bytes: &[u8], at: usize) -> u32
-    requires { at + 4 ≤ length bytes.now }
-    ensures { result ≡ whole 4 (drop at bytes.now) }
-{
-    number(bytes, at) as u32 + 65536 * (number(bytes, at + 2) as u32)
-}
-
-// The i32 with these 32 bits.
-fn signed_of(bits: u32) -> i32
-    ensures { result ≡ signed bits }
-{
-    if bits < 2147483648 {
-        bits as i32
-    } else {
-        -1 - ((4294967295 - bits) as i32)
-    }
-}
-
-// The i32 of four bytes.
+// The i32 of four bytes, least byte first.
 fn coordinate(bytes: &[u8], at: usize) -> i32
     requires { at + 4 ≤ length bytes.now }
     ensures { result ≡ i32_at bytes.now at }
 {
-    signed_of(wide_number(bytes, at))
+    i32::from_le_bytes([bytes[at], bytes[at + 1], bytes[at + 2], bytes[at + 3]])
 }
 
 // The n numbers of the corners, three a record.
@@ -205,7 +175,7 @@ fn load_cells(bytes: &[u8], from: usize, n: usize, cells: &mut [u16])
         ≡ in_front (cell_records (length bytes.now) (drop from bytes.now)).0 cells.old }
 {
     for k in 0..n {
-        cells[k] = number(bytes, from + 9 * (k / 4) + 2 * (k % 4) + 1) as u16;
+        cells[k] = number(bytes, from + 9 * (k / 4) + 2 * (k % 4) + 1);
     }
 }
 
@@ -219,9 +189,9 @@ fn load_steps(bytes: &[u8], from: usize, marked: &mut [u16], marks: &mut [u8], e
     let mut at = from;
     let mut m = 0;
     let mut s = 0;
-    while bytes[at] != 69 {
-        if bytes[at] == 77 {
-            marked[m] = number(bytes, at + 1) as u16;
+    while bytes[at] != END {
+        if bytes[at] == MARK {
+            marked[m] = number(bytes, at + 1);
             marks[m] = bytes[at + 3];
             m += 1;
             at += 4;
@@ -261,33 +231,12 @@ pub fn load(
     );
 }
 
-// Stores a number as two bytes.
-fn put_number(out: &mut [u8], at: usize, x: u16)
-    requires { at + 2 ≤ length out.old }
-    ensures { out.new ≡ sets out.old at (bytes 2 x) }
+// Stores bytes from a place on.
+fn put(out: &mut [u8], at: usize, part: &[u8])
+    requires { at + length part.now ≤ length out.old }
+    ensures { out.new ≡ sets out.old at part.now }
 {
-    out[at] = (x % 256) as u8;
-    out[at + 1] = (x / 256) as u8;
-}
-
-// Stores a number as four bytes.
-fn put_wide(out: &mut [u8], at: usize, x: u32)
-    requires { at + 4 ≤ length out.old }
-    ensures { out.new ≡ sets out.old at (bytes 4 x) }
-{
-    put_number(out, at, (x % 65536) as u16);
-    put_number(out, at + 2, (x / 65536) as u16);
-}
-
-// The 32 bits of an i32.
-fn bits_of(z: i32) -> u32
-    ensures { result ≡ word z }
-{
-    if z < 0 {
-        4294967295 - ((-1 - z) as u32)
-    } else {
-        z as u32
-    }
+    out[at..at + part.len()].copy_from_slice(part);
 }
 
 // Stores a corner's record.
@@ -295,22 +244,23 @@ fn put_corner(out: &mut [u8], at: usize, x: i32, y: i32, z: i32)
     requires { at + 13 ≤ length out.old }
     ensures { out.new ≡ sets out.old at (corner_bytes (x ∷ y ∷ z ∷ [])) }
 {
-    out[at] = 86;
-    put_wide(out, at + 1, bits_of(x));
-    put_wide(out, at + 5, bits_of(y));
-    put_wide(out, at + 9, bits_of(z));
+    out[at] = CORNER;
+    put(out, at + 1, &x.to_le_bytes());
+    put(out, at + 5, &y.to_le_bytes());
+    put(out, at + 9, &z.to_le_bytes());
 }
 
 // Stores a cell's record.
-fn put_cell(out: &mut [u8], at: usize, a: u16, b: u16, c: u16, d: u16)
+fn put_cell(out: &mut [u8], at: usize, cell: &[u16; 4])
     requires { at + 9 ≤ length out.old }
-    ensures { out.new ≡ sets out.old at (cell_bytes (a ∷ b ∷ c ∷ d ∷ [])) }
+    ensures { out.new ≡ sets out.old at (cell_bytes cell.now) }
 {
-    out[at] = 84;
-    put_number(out, at + 1, a);
-    put_number(out, at + 3, b);
-    put_number(out, at + 5, c);
-    put_number(out, at + 7, d);
+    let [a, b, c, d] = *cell;
+    out[at] = CELL;
+    put(out, at + 1, &a.to_le_bytes());
+    put(out, at + 3, &b.to_le_bytes());
+    put(out, at + 5, &c.to_le_bytes());
+    put(out, at + 7, &d.to_le_bytes());
 }
 
 // Stores a mark's record.
@@ -318,8 +268,8 @@ fn put_mark(out: &mut [u8], at: usize, cell: u16, mark: u8)
     requires { at + 4 ≤ length out.old }
     ensures { out.new ≡ sets out.old at (mark_bytes (cell, mark)) }
 {
-    out[at] = 77;
-    put_number(out, at + 1, cell);
+    out[at] = MARK;
+    put(out, at + 1, &cell.to_le_bytes());
     out[at + 3] = mark;
 }
 
@@ -329,15 +279,9 @@ fn store_corners(positions: &[i32], out: &mut [u8])
     requires positions_in_bounds { 13 * (length positions.now / 3) ≤ length out.old }
     ensures { out.new ≡ sets out.old 0 (corner_bytes positions.now) }
 {
-    let n = positions.len() / 3;
-    for i in 0..n {
-        put_corner(
-            out,
-            13 * i,
-            positions[3 * i],
-            positions[3 * i + 1],
-            positions[3 * i + 2],
-        );
+    let (corners, _) = positions.as_chunks::<3>();
+    for (i, corner) in corners.iter().enumerate() {
+        put_corner(out, 13 * i, corner[0], corner[1], corner[2]);
     }
 }
 
@@ -347,16 +291,9 @@ fn store_cells(cells: &[u16], from: usize, out: &mut [u8])
     requires cells_in_bounds { from + 9 * (length cells.now / 4) ≤ length out.old }
     ensures { out.new ≡ sets out.old from (cell_bytes cells.now) }
 {
-    let n = cells.len() / 4;
-    for i in 0..n {
-        put_cell(
-            out,
-            from + 9 * i,
-            cells[4 * i],
-            cells[4 * i + 1],
-            cells[4 * i + 2],
-            cells[4 * i + 3],
-        );
+    let (cells, _) = cells.as_chunks::<4>();
+    for (i, cell) in cells.iter().enumerate() {
+        put_cell(out, from + 9 * i, cell);
     }
 }
 
@@ -370,19 +307,17 @@ fn store_steps(marked: &[u16], marks: &[u8], ends: &[u16], from: usize, out: &mu
 {
     let mut at = from;
     let mut m = 0;
-    let mut s = 0;
-    while s < ends.len() {
-        if m < ends[s] as usize {
-            put_mark(out, at, marked[m], marks[m]);
-            m += 1;
+    for last in ends {
+        let end = usize::from(*last);
+        for k in m..end {
+            put_mark(out, at, marked[k], marks[k]);
             at += 4;
-            continue;
         }
-        out[at] = 71;
-        s += 1;
+        m = end;
+        out[at] = STEP;
         at += 1;
     }
-    out[at] = 69;
+    out[at] = END;
     at + 1
 }
 

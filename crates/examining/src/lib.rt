@@ -37,7 +37,7 @@ fn examine_within<const N: usize, const H: usize, const M: usize, const K: usize
 }
 
 // Examines a status table over an accepted mesh of n corners: 6 where it is not sound. Where it is sound, the rows are those of its
-// cells, and the entries of mids are its new corners.
+// cells, and the entries of mids, whatever it held, are its new corners.
 pub fn examine<const M: usize, const K: usize>(
     mesh: &[u16],
     n: usize,
@@ -47,11 +47,11 @@ pub fn examine<const M: usize, const K: usize>(
 ) -> Result<Sizes, Refusal>
     requires mesh { Mesh n mesh.now }
     requires table_room { length status.now ≤ most_cells → TableRoom status.now rows.old M }
-    requires empty { (mids.old.from ≡ 0) × (mids.old.n ≡ 0) }
     ensures answer { answered result ≡ sound_answer n (fours mesh.now) status.now }
     ensures laid { IfOk result (λ s. LaidSound n (fours mesh.now) status.now rows.new mids.new.xs mids.new.ys s.cells s.levels mids.new.n
         × (s.coarse ≡ length (fours mesh.now))) }
 {
+    mids.clear();
     if status.len() > MOST_CELLS || !rows::fits(status) {
         return Err(Refusal::Unsound);
     }

@@ -1,16 +1,15 @@
 -- One level more on the way down.
--- Laws: up_none (no level), level_up (what the level above asks for), up_refused (the levels above are refused), up_span (what treating
--- the level asks for), up_more (one level more), up_untreated (this level is refused).
+-- Laws: up_none (no level), up_refused (the levels above are refused), up_more (one level more),
+-- up_untreated (this level is refused).
 -- Assumes nothing.
 use mathlib.Core.Path.{◌≡◌, refl, sym, ◌∙◌, ap, fun_ext}
 use mathlib.Core.Bool.{Bool, true, false, ◌||◌}
 use mathlib.Core.List.{List, [], ◌∷◌, ◌++◌}
 use Prim.Native.Nat.{ℕ, zero, suc, ◌+◌, ◌-◌, ◌<◌}
 use native.Mathlib.Nat.{add-zero, zero-add}
-use Rattle.std.specs.Prelude.{Result, Ok, Err, MatchResult}
 use native.Mathlib.Omega.{arith}
 use lib.Dec.{eqb, ltb}
-use lib.ListN.{length, get_or, take, drop, take-append-drop}
+use lib.ListN.{get_or, take, drop, take-append-drop}
 use borrow.Author.Tests.{lt-ltb, eqb-true}
 use Rattle.base.specs.Bools.{one_if, not_both}
 use Rattle.base.specs.Lists.{anyb}
@@ -24,15 +23,9 @@ use Rattle.redlist.specs.Ready.{red_count}
 use Rattle.redlist.specs.Steps.{count_append}
 use Rattle.closure.specs.Closed.{lists_added, held_listed}
 use Rattle.flagging.specs.Flags.{listedb, flags_at, kepts_at, reds_up, kept_up, high_up}
-use Rattle.flagging.specs.Old.{OldRows, Span, OneLevel, Treated, Untreated, Above, Unkept}
+use Rattle.flagging.specs.Old.{Span, Treated, Untreated, Above, Unkept}
 use Rattle.flagging.specs.Writes.{length_kepts, flags_both}
 use Rattle.flagging.proofs.Treat.{entries_none, kept_many}
-
--- a result that says more, case by case
-pub ended : {A E : Type 0} {P P' : Type 0} {Q Q' : E → Type 0} (r : Result A E) → MatchResult r (λ _. P) Q → (P → P')
-    → ((e : E) → Q e → Q' e) → MatchResult r (λ _. P') Q'
-ended (Ok x) m p q = p m
-ended (Err e) m p q = q e m
 
 pub up_none : (t ss ms ks : List ℕ) (first last : ℕ) (kept : List ℕ) {N H : ℕ} (table : PairTable N H)
     → (table.from ≡ 0) × (table.n ≡ 0) → (depth : ℕ) → depth ≡ 0 → Above t ss ms ks depth first last kept kept table
@@ -47,22 +40,6 @@ up_none t ss ms ks first last kept table (from_is, n_is) depth d =
       lists = record { has = λ p. ap (λ (es : List Pair). hasb isb es p) (entries_none table (from_is ∙ sym n_is)) };
       few = omega (arith, n_is);
     })
-
-pub level_up : (t ss ms ks kept : List ℕ) (first last : ℕ) → OldRows t ss ms ks → OneLevel ss ks kept first last
-    → OneLevel ss ks kept last (get_or ks last 0)
-level_up t ss ms ks kept first last o l =
-    record {
-      span =
-          record {
-            up = omega (arith, l.children, o.up first last l.span.up l.span.inside);
-            inside = o.top last l.span.inside;
-            room = l.span.room;
-          };
-      children = refl;
-    }
-
-pub up_span : (ss kept kept₁ : List ℕ) (first last : ℕ) → Span ss kept first last → length kept₁ ≡ length kept → Span ss kept₁ first last
-up_span ss kept kept₁ first last s e = record { up = s.up; inside = s.inside; room = omega (arith, s.room) }
 
 -- a count above 0
 any_count : (l : List ℕ) → ltb 0 (red_count l) ≡ anyb redb l

@@ -8,9 +8,8 @@ use borrow.Author.Tests.{le-leb, lt-leb}
 use Rattle.base.specs.Bools.{is_true}
 use Rattle.base.specs.Fours.{fours}
 use Rattle.base.specs.Limits.{full_counts, most_cells}
-use Rattle.base.specs.Refuse.{refuse, held_after, answer_refused, answer_none}
-use Rattle.base.specs.Answer.{Answer}
-use Rattle.base.specs.Answer.{Accepted, Refused}
+use Rattle.base.specs.Refuse.{refuse}
+use Rattle.base.specs.Answer.{Answer, Refused}
 use Rattle.mesh.specs.Coarse.{coarse_corner_count}
 use Rattle.mesh.specs.Table.{soundb}
 use Rattle.counting.specs.Levels.{Levels, level_number, level_counts, counts-length}
@@ -19,8 +18,7 @@ use Rattle.counting.specs.Whole.{counts_right}
 use Rattle.archive.specs.Job.{Job}
 use Rattle.archive.specs.Form.{job_of}
 use Rattle.replay.specs.Run.{job_table}
-use Rattle.jobs.specs.Calls.{archive_answer, job_counts, replay_answer, replay_size, replayed_of, Reopened}
-use Rattle.jobs.specs.declared.Replayed.TheVariants as replayed
+use Rattle.jobs.specs.Calls.{archive_answer, job_counts, replay_answer, Reopened}
 
 module _ (bs table counts : List ℕ) where
   abbrev j : Job
@@ -37,41 +35,25 @@ module _ (bs table counts : List ℕ) where
   unfolding replay_answer refuse
   short_counts g h = rw (le-leb most_cells (length table) g, lt-leb full_counts (length counts) h)
 
-  -- a refusal changes nothing
-  pub refused_so : (k : ℕ) → answer ≡ Refused k
-      → (replayed.Refused k ≡ replayed_of answer (replay_size j))
-      × ((table ≡ held_after answer (job_table j) table) × (counts ≡ held_after answer (job_counts j) counts))
-  unfolding replayed_of held_after
-  refused_so k e = (rw e, (rw e, rw e))
-
   module _ (g : most_cells ≤ length table) (h : full_counts ≤ length counts) where
     pub long : answer ≡ archive_answer bs
     unfolding replay_answer refuse
     long = rw (le-leb most_cells (length table) g, le-leb full_counts (length counts) h)
 
-    module _ (new : List ℕ) (k coarse cells levels : ℕ) (r : Reopened bs new k coarse cells levels) where
-      pub replay_refused : (k ≡ 0 → ⊥)
-          → (replayed.Refused k ≡ replayed_of answer (replay_size j))
-          × ((table ≡ held_after answer (job_table j) table) × (counts ≡ held_after answer (job_counts j) counts))
-      replay_refused z = refused_so k (long ∙ r.answer ∙ answer_refused k z)
+  module _ (new : List ℕ) (coarse cells levels : ℕ) (r : Reopened bs new coarse cells levels) where
+    pub replay_levels : Levels (take cells new) coarse
+    replay_levels =
+        rw (r.table_is, ← r.coarse_are)
+        (sound_counted (coarse_corner_count j.positions) (fours j.cells) (job_table j)
+        (is_true (soundb (coarse_corner_count j.positions) (fours j.cells) (job_table j)) r.sound))
 
-      module _ (z : k ≡ 0) where
-        pub replay_levels : Levels (take cells new) coarse
-        replay_levels =
-            rw (r.table_is z, ← r.coarse_are z)
-            (sound_counted (coarse_corner_count j.positions) (fours j.cells) (job_table j)
-            (is_true (soundb (coarse_corner_count j.positions) (fours j.cells) (job_table j)) (r.sound z)))
-
-        pub replay_done : (table' counts' : List ℕ) (n : ℕ) → table' ≡ take cells new ++ drop cells table
-            → n ≡ level_number 12 0 coarse (take cells new)
-            → counts' ≡ level_counts 12 0 coarse (take cells new) ++ drop (4 * n) counts
-            → (replayed.Done (record { cells = cells; levels = levels }) ≡ replayed_of answer (replay_size j))
-            × ((table' ≡ held_after answer (job_table j) table) × (counts' ≡ held_after answer (job_counts j) counts))
-        unfolding replayed_of held_after
-        replay_done table' counts' n e m f =
-            let a : answer ≡ Accepted = long ∙ r.answer ∙ answer_none k z in
-            let c : level_counts 12 0 coarse (take cells new) ≡ job_counts j =
-            rw (r.table_is z, ← r.coarse_are z) (sym (counts_right (coarse_corner_count j.positions) (fours j.cells) (job_table j))) in
-            let l : 4 * n ≡ length (job_counts j) =
-            ap (λ (x : ℕ). 4 * x) m ∙ sym (counts-length 12 0 coarse (take cells new)) ∙ ap length c in
-            (rw (a, r.counted z, r.high z), (e ∙ rw (a, r.table_is z, r.counted z), f ∙ rw (a, c, l)))
+    pub replay_done : (table' counts' : List ℕ) (n : ℕ) → table' ≡ take cells new ++ drop cells table
+        → n ≡ level_number 12 0 coarse (take cells new)
+        → counts' ≡ level_counts 12 0 coarse (take cells new) ++ drop (4 * n) counts
+        → (table' ≡ job_table j ++ drop (length (job_table j)) table) × (counts' ≡ job_counts j ++ drop (length (job_counts j)) counts)
+    replay_done table' counts' n e m f =
+        let c : level_counts 12 0 coarse (take cells new) ≡ job_counts j =
+        rw (r.table_is, ← r.coarse_are) (sym (counts_right (coarse_corner_count j.positions) (fours j.cells) (job_table j))) in
+        let l : 4 * n ≡ length (job_counts j) =
+        ap (λ (x : ℕ). 4 * x) m ∙ sym (counts-length 12 0 coarse (take cells new)) ∙ ap length c in
+        (e ∙ rw (r.table_is, r.counted), f ∙ rw (c, l))

@@ -11,7 +11,8 @@ use lib.ListN.{length, take, drop, length-map}
 use lib.Seq.{take_at}
 use borrow.Author.Tests.{lt-leb}
 use Rattle.base.specs.Limits.{full_coarse, full_positions, most_marks}
-use Rattle.base.specs.Refuse.{refuse, and_then, answer_of}
+use Rattle.base.specs.Refuse.{refuse, and_then}
+use Rattle.base.specs.Answer.{Refused}
 use Rattle.mesh.specs.Coarse.{countsb}
 use Rattle.mesh.specs.Laws.{answer_1}
 use Rattle.archive.specs.Job.{Job}
@@ -21,7 +22,7 @@ use Rattle.archive.specs.Bytes.{Octets}
 use Rattle.archive.specs.Measure.{measure}
 use Rattle.archive.specs.Written.{written_read}
 use Rattle.archive.specs.Loaded.{LoadRoom, Loaded}
-use Rattle.replay.specs.Run.{job_answer}
+use Rattle.replay.specs.Run.{job_answer, tables_answer}
 use Rattle.replay.specs.Going as going
 use Rattle.replay.specs.Flat.{tables_answer_lem, tables_table}
 use Rattle.jobs.specs.Calls.{archive_answer, Reopened}
@@ -31,32 +32,20 @@ module _ (bs : List ℕ) where
   abbrev j : Job
   j = job_of bs
 
-  failed : (table : List ℕ) (k a b c : ℕ) → archive_answer bs ≡ answer_of k → (k ≡ 0 → ⊥) → Reopened bs table k a b c
-  failed table k a b c e z =
-      record {
-        answer = e;
-        coarse_are = λ y. absurd (z y);
-        counted = λ y. absurd (z y);
-        few = λ y. absurd (z y);
-        table_is = λ y. absurd (z y);
-        sound = λ y. absurd (z y);
-        high = λ y. absurd (z y);
-      }
-
-  pub reopened_form : formb bs ≡ false → (table : List ℕ) (k a b c : ℕ) → k ≡ 17 → Reopened bs table k a b c
-  unfolding archive_answer refuse answer_of
-  reopened_form f table k a b c e = failed table k a b c (rw (f, e)) (λ y. omega arith)
+  pub unformed : formb bs ≡ false → Refused 17 ≡ archive_answer bs
+  unfolding archive_answer refuse
+  unformed f = rw f
 
   module _ (f : formb bs ≡ true) (v t m g : ℕ) (counts : Counts j v t m g) where
-    in-form : archive_answer bs ≡ job_answer j
+    pub in_form : archive_answer bs ≡ job_answer j
     unfolding archive_answer refuse
-    in-form = rw f
+    in_form = rw f
 
-    uncounted : countsb j.positions j.cells ≡ false → (table : List ℕ) (k a b c : ℕ) → k ≡ 1 → Reopened bs table k a b c
-    unfolding job_answer and_then answer_of
-    uncounted n table k a b c e = failed table k a b c (in-form ∙ rw (← answer_1 j.positions j.cells n, e)) (λ y. omega arith)
+    uncounted : countsb j.positions j.cells ≡ false → Refused 1 ≡ archive_answer bs
+    unfolding job_answer and_then
+    uncounted n = sym (in_form ∙ rw (← answer_1 j.positions j.cells n))
 
-    pub reopened_corners : 512 < v → (table : List ℕ) (k a b c : ℕ) → k ≡ 1 → Reopened bs table k a b c
+    pub reopened_corners : 512 < v → Refused 1 ≡ archive_answer bs
     unfolding countsb
     reopened_corners h =
         let p = j.positions in
@@ -68,7 +57,7 @@ module _ (bs : List ℕ) where
               (eqb (length p % 3) 0 && eqb (length q % 4) 0),
         ))
 
-    pub reopened_cells : 256 < t → (table : List ℕ) (k a b c : ℕ) → k ≡ 1 → Reopened bs table k a b c
+    pub reopened_cells : 256 < t → Refused 1 ≡ archive_answer bs
     unfolding countsb
     reopened_cells h =
         let p = j.positions in
@@ -134,18 +123,20 @@ module _ (bs : List ℕ) where
       unfolding ends_of
       loaded_ends = front (ends_of j.steps) es es₀ g l.ends (length-ends 0 j.steps ∙ counts.steps_are)
 
-      pub reopened : (table : List ℕ) (v' t' k c h : ℕ) → 3 * v ≡ v' → 4 * t ≡ t' → going.Replayed (take v' ps) (take t' ts) (take m cs)
-          (take m ks) (take g es) table k c h
-          → Reopened bs table k t c h
-      reopened table v' t' k c h ev et r =
-          let w : going.Replayed j.positions j.cells (marked_of j.steps) (marks_of j.steps) (ends_of j.steps) table k c h =
-          rw (loaded_positions v' ev, loaded_cells t' et, loaded_marked, loaded_marks, loaded_ends) at r in
-          record {
-            answer = in-form ∙ sym (tables_answer_lem j) ∙ w.answer;
-            coarse_are = λ y. length-fours j.cells ∙ omega (arith, counts.cells_are);
-            counted = λ y. rw (tables_table j) at (w.counted y);
-            few = w.few;
-            table_is = λ y. rw (tables_table j) at (w.table_is y);
-            sound = λ y. rw (tables_table j) at (w.sound y);
-            high = λ y. rw (tables_table j) at (w.high y);
-          }
+      module _ (v' t' : ℕ) (ev : 3 * v ≡ v') (et : 4 * t ≡ t') where
+        pub reopened_answer : tables_answer (take v' ps) (take t' ts) (take m cs) (take m ks) (take g es) ≡ archive_answer bs
+        reopened_answer = rw (loaded_positions v' ev, loaded_cells t' et, loaded_marked, loaded_marks, loaded_ends) (tables_answer_lem j ∙ sym in_form)
+
+        pub reopened : (table : List ℕ) (c h : ℕ) → going.Replayed (take v' ps) (take t' ts) (take m cs) (take m ks) (take g es) table c h
+            → Reopened bs table t c h
+        reopened table c h r =
+            let w : going.Replayed j.positions j.cells (marked_of j.steps) (marks_of j.steps) (ends_of j.steps) table c h =
+            rw (loaded_positions v' ev, loaded_cells t' et, loaded_marked, loaded_marks, loaded_ends) at r in
+            record {
+              coarse_are = length-fours j.cells ∙ omega (arith, counts.cells_are);
+              counted = rw (tables_table j) at w.counted;
+              few = w.few;
+              table_is = rw (tables_table j) at w.table_is;
+              sound = rw (tables_table j) at w.sound;
+              high = rw (tables_table j) at w.high;
+            }

@@ -13,23 +13,12 @@ use Rattle.base.specs.Answer.{Accepted, Refused}
 use Rattle.base.specs.Refuse.{held_after}
 use Rattle.archive.specs.Job.{Job}
 use Rattle.archive.specs.Form.{job_of}
-use Rattle.jobs.specs.Calls.{archive_answer, job_levels, job_counts, replay_answer, replayed_of, replay_size}
+use Rattle.jobs.specs.Calls.{archive_answer, job_levels, job_counts, replay_answer, replay_size}
 use Rattle.jobs.specs.Sound.{job_counts_lem, job_high, archive_job}
 use Rattle.jobs.specs.declared.Size.{Size}
-use Rattle.jobs.specs.declared.Replayed.TheVariants as replayed
 use Rattle.jobs.proofs.Answers.{long}
 use Rattle.listing.specs.Lines.{listing, refusal}
 use Rattle.jobs.specs.Listing.{listed_bytes, listing_of}
-
-answer_done : (a : Answer) (s t : Size) → replayed.Done s ≡ replayed_of a t → (a ≡ Accepted) × (s ≡ t)
-unfolding replayed_of
-answer_done Accepted s t e = (refl, cc)
-answer_done (Refused k) s t e = let z : ◌≡◌ {A = ℕ} 0 1 = cc in absurd (omega arith)
-
-answer_refused : (a : Answer) (k : ℕ) (t : Size) → replayed.Refused k ≡ replayed_of a t → a ≡ Refused k
-unfolding replayed_of
-answer_refused Accepted k t e = let z : ◌≡◌ {A = ℕ} 0 1 = cc in absurd (omega arith)
-answer_refused (Refused n) k t e = cc
 
 module _ (bs table counts : List ℕ) (g : most_cells ≤ length table) (h : full_counts ≤ length counts) where
   abbrev j : Job
@@ -38,19 +27,16 @@ module _ (bs table counts : List ℕ) (g : most_cells ≤ length table) (h : ful
   abbrev answer : Answer
   answer = replay_answer bs table counts
 
-  pub refused_listing : (k : ℕ) → replayed.Refused k ≡ replayed_of answer (replay_size j) → refusal k ≡ listing_of bs
+  pub refused_listing : (k : ℕ) → Refused k ≡ answer → refusal k ≡ listing_of bs
   unfolding listing_of listed_bytes
-  refused_listing k e = rw (sym (long bs table counts g h) ∙ answer_refused answer k (replay_size j) e)
+  refused_listing k e = rw (sym (long bs table counts g h) ∙ sym e)
 
-  module _ (s : Size) (e : replayed.Done s ≡ replayed_of answer (replay_size j)) where
-    accepted : answer ≡ Accepted
-    accepted = (answer_done answer s (replay_size j) e).0
-
+  module _ (s : Size) (accepted : Accepted ≡ answer) (e : s ≡ replay_size j) where
     archive : archive_answer bs ≡ Accepted
-    archive = sym (long bs table counts g h) ∙ accepted
+    archive = sym (long bs table counts g h) ∙ sym accepted
 
     levels : s.levels ≡ length (job_levels j)
-    levels = ap (λ (x : Size). x.levels) (answer_done answer s (replay_size j) e).1
+    levels = ap (λ (x : Size). x.levels) e
 
     pub done_few : s.levels ≤ most_levels
     done_few = omega (arith, levels, job_high j (archive_job bs archive))
@@ -61,7 +47,7 @@ module _ (bs table counts : List ℕ) (g : most_cells ≤ length table) (h : ful
     done_listing counts' f =
         let l : length (job_counts j) ≡ 4 * s.levels = omega (arith, levels, job_counts_lem j) in
         let t : take (4 * s.levels) counts' ≡ job_counts j =
-        rw (f, accepted) (take_at (job_counts j) (drop (length (job_counts j)) counts) (4 * s.levels) l) in
+        rw (f, ← accepted) (take_at (job_counts j) (drop (length (job_counts j)) counts) (4 * s.levels) l) in
         rw (archive, t)
 
 -- what is written, by another name

@@ -1,6 +1,6 @@
--- The answers of the call `write`, and what the lent bytes hold after them.
+-- The answers of the call `write`.
 -- Assumes nothing.
-use mathlib.Core.Path.{◌≡◌, ◌∙◌}
+use mathlib.Core.Path.{◌≡◌, sym, ◌∙◌}
 use mathlib.Core.Bool.{true, false}
 use mathlib.Core.List.{List}
 use Prim.Native.Nat.{ℕ, ◌+◌, ◌*◌, ◌≤◌, ◌<◌}
@@ -9,20 +9,15 @@ use lib.Dec.{leb}
 use lib.IntN.{ℤ}
 use lib.ListN.{length}
 use borrow.Author.Tests.{le-leb, lt-leb, leb-true}
-use Rattle.base.specs.Refuse.{refuse, and_then, held_after, answer_refused, answer_none}
-use Rattle.base.specs.Answer.{Answer}
-use Rattle.base.specs.Answer.{Accepted, Refused}
+use Rattle.base.specs.Refuse.{refuse, and_then}
+use Rattle.base.specs.Answer.{Answer, Accepted, Refused}
 use Rattle.mesh.specs.Coarse.{coarse_corner_count, cell_count}
 use Rattle.archive.specs.Job.{job_bytes}
 use Rattle.archive.specs.Stored.{job_from}
-use Rattle.archive.specs.Loaded.{in_front}
 use Rattle.archive.specs.Ends.{stored_measure}
 use Rattle.replay.specs.Run.{tables_answer}
-use Rattle.replay.specs.Going as going
-use Rattle.jobs.specs.Calls.{write_answer, writing_of}
+use Rattle.jobs.specs.Calls.{write_answer}
 use Rattle.jobs.specs.Taken.{Taken, tables_taken}
-use Rattle.jobs.specs.declared.Writing.{Writing}
-use Rattle.jobs.specs.declared.Writing.TheVariants as writing
 
 module _ (ps : List ℤ) (ts cs ms es out : List ℕ) where
   abbrev archive : List ℕ
@@ -31,33 +26,22 @@ module _ (ps : List ℤ) (ts cs ms es out : List ℕ) where
   abbrev answer : Answer
   answer = write_answer ps ts cs ms es out
 
-  abbrev Answers : Writing → List ℕ → Type 0
-  Answers r out' = (r ≡ writing_of answer (length archive)) × (out' ≡ held_after answer archive out)
-
-  -- a refusal changes nothing
-  refused_so : (k : ℕ) → answer ≡ Refused k → Answers (writing.Refused k) out
-  unfolding writing_of held_after
-  refused_so k e = (rw e, rw e)
-
-  pub write_short : length out < 65536 → Answers (writing.Refused 15) out
+  pub write_short : length out < 65536 → Refused 15 ≡ answer
   unfolding write_answer refuse
-  write_short h = refused_so 15 (rw (lt-leb 65536 (length out) h))
+  write_short h = rw (lt-leb 65536 (length out) h)
 
-  module _ (g : 65536 ≤ length out) (table : List ℕ) (k c l : ℕ) (r : going.Replayed ps ts cs ms es table k c l) where
+  module _ (g : 65536 ≤ length out) where
     long : answer ≡ and_then (tables_answer ps ts cs ms es) (refuse 17 (leb (length archive) 65536) Accepted)
     unfolding write_answer refuse
     long = rw (le-leb 65536 (length out) g)
 
-    pub write_refused : (k ≡ 0 → ⊥) → Answers (writing.Refused k) out
+    pub write_refused : (k : ℕ) → Refused k ≡ tables_answer ps ts cs ms es → Refused k ≡ answer
     unfolding and_then
-    write_refused z = refused_so k (long ∙ rw (r.answer, answer_refused k z))
+    write_refused k e = sym (long ∙ rw (← e))
 
-    module _ (z : k ≡ 0) where
-      accepted : tables_answer ps ts cs ms es ≡ Accepted
-      accepted = r.answer ∙ answer_none k z
-
+    module _ (accepted : Accepted ≡ tables_answer ps ts cs ms es) where
       pub write_taken : Taken ps ts cs ms es
-      write_taken = tables_taken ps ts cs ms es accepted
+      write_taken = tables_taken ps ts cs ms es (sym accepted)
 
       abbrev size : ℕ
       size = 13 * coarse_corner_count ps + 9 * cell_count ts + 4 * length cs + length es + 1
@@ -69,16 +53,15 @@ module _ (ps : List ℤ) (ts cs ms es out : List ℕ) where
 
       last : answer ≡ refuse 17 (leb size 65536) Accepted
       unfolding and_then
-      last = long ∙ rw (accepted, measured)
+      last = long ∙ rw (← accepted, measured)
 
-      pub write_many : leb size 65536 ≡ false → Answers (writing.Refused 17) out
+      pub write_many : leb size 65536 ≡ false → Refused 17 ≡ answer
       unfolding refuse
-      write_many e = refused_so 17 (last ∙ rw e)
+      write_many e = sym (last ∙ rw e)
 
       pub write_few : leb size 65536 ≡ true → length archive ≤ length out
       write_few e = omega (arith, measured, leb-true size 65536 e)
 
-      pub write_done : leb size 65536 ≡ true → (n : ℕ) (out' : List ℕ) → out' ≡ in_front archive out → n ≡ length archive
-          → Answers (writing.Bytes n) out'
-      unfolding writing_of held_after refuse
-      write_done e n out' o m = let a : answer ≡ Accepted = last ∙ rw e in (rw (a, m), o ∙ rw a)
+      pub write_done : leb size 65536 ≡ true → Accepted ≡ answer
+      unfolding refuse
+      write_done e = sym (last ∙ rw e)

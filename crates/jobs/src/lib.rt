@@ -1,36 +1,30 @@
 // The calls on archives of jobs.
 #![tactic(auto)]
 
-ghost use Rattle.std.specs.Prelude.{◌≡◌, ◌++◌, ◌+◌, ◌*◌, ◌≤◌, leb, length, take, drop};
+ghost use Rattle.std.specs.Prelude.{◌≡◌, ◌++◌, ◌+◌, ◌*◌, ◌≤◌, IfOk, leb, length, take, drop};
 ghost use Rattle.base.specs.Limits.{full_counts, most_bytes, most_cells, most_coarse_cells, most_coarse_corners};
 ghost use Rattle.counting.specs.Levels.{Levels, level_number, level_counts};
-ghost use Rattle.base.specs.Refuse.{held_after};
+ghost use Rattle.base.specs.Refuse.{answered, held_after};
 ghost use Rattle.archive.specs.Job.{job_bytes};
 ghost use Rattle.archive.specs.Form.{job_of};
 ghost use Rattle.archive.specs.Tables.{marked_of, marks_of, ends_of};
 ghost use Rattle.archive.specs.Stored.{job_from};
 ghost use Rattle.replay.specs.Run.{job_table};
-ghost use Rattle.jobs.specs.Calls.{Reopened, replay_answer, replayed_of, replay_size, job_counts, roomb, read_answer, reading_of};
-ghost use Rattle.jobs.specs.Calls.{lengths_of, write_answer, writing_of};
+ghost use Rattle.jobs.specs.Calls.{Reopened, archive_answer, replay_answer, replay_size, job_counts, roomb, read_answer};
+ghost use Rattle.jobs.specs.Calls.{lengths_of, write_answer};
 ghost use Rattle.jobs.specs.Listing.{listing_of};
 
 use base::{
     FULL_COARSE, FULL_COUNTS, FULL_POSITIONS, MOST_BYTES, MOST_CELLS, MOST_COARSE_CELLS,
-    MOST_COARSE_CORNERS, MOST_MARKS,
+    MOST_COARSE_CORNERS, MOST_MARKS, Refusal,
 };
-use tables::Outcome;
+use tables::Sizes;
 
 // How many cells and levels a table has.
 #[derive(Clone, Copy)]
 pub struct Size {
     pub cells: usize,
     pub levels: usize,
-}
-
-#[derive(Clone, Copy)]
-pub enum Replayed {
-    Done(Size),
-    Refused(u8),
 }
 
 // How many corners, cells, marks and steps a job has.
@@ -42,31 +36,16 @@ pub struct Lengths {
     pub steps: usize,
 }
 
-#[derive(Clone, Copy)]
-pub enum Reading {
-    Job(Lengths),
-    Refused(u8),
-}
-
-#[derive(Clone, Copy)]
-pub enum Writing {
-    Bytes(usize),
-    Refused(u8),
-}
-
 // Replays an archive; its table is in front of the lent one. Refusals 17, 1 to 5 and 7 to 9.
-fn reopen(bytes: &[u8], table: &mut [u8; 4096]) -> Outcome
-    ensures { Reopened bytes.now table.new result.refusal result.coarse result.cells result.levels }
+fn reopen(bytes: &[u8], table: &mut [u8; 4096]) -> Result<Sizes, Refusal>
+    ensures answer { answered result ≡ archive_answer bytes.now }
+    ensures reopened { IfOk result (λ s. Reopened bytes.now table.new s.coarse s.cells s.levels) }
 {
-    let f = archive::examine_form(bytes);
-    if !f.ok {
-        return tables::refused(17);
-    }
-    if f.corners > MOST_COARSE_CORNERS {
-        return tables::refused(1);
-    }
-    if f.cells > MOST_COARSE_CELLS {
-        return tables::refused(1);
+    let Some(form) = archive::examine_form(bytes) else {
+        return Err(Refusal::Form);
+    };
+    if form.corners > MOST_COARSE_CORNERS || form.cells > MOST_COARSE_CELLS {
+        return Err(Refusal::Counts);
     }
     let mut positions = [0i32; 1536];
     let mut cells = [0u16; 1024];
@@ -75,32 +54,25 @@ fn reopen(bytes: &[u8], table: &mut [u8; 4096]) -> Outcome
     let mut ends = [0u16; 65536];
     archive::load(
         bytes,
-        f,
+        form,
         &mut positions,
         &mut cells,
         &mut marked,
         &mut marks,
         &mut ends,
     );
-    let v = 3 * f.corners;
-    let t = 4 * f.cells;
-    let m = f.marks;
-    let g = f.steps;
-    let r = replay::run(
-        &positions[..v],
-        &cells[..t],
-        &marked[..m],
-        &marks[..m],
-        &ends[..g],
+    let laid = replay::run(
+        &positions[..3 * form.corners],
+        &cells[..4 * form.cells],
+        &marked[..form.marks],
+        &marks[..form.marks],
+        &ends[..form.steps],
         table,
-    );
-    Outcome {
-        refusal: r.refusal,
-        coarse: f.cells,
-        cells: r.cells,
-        levels: r.levels,
-        mids: r.mids,
-    }
+    )?;
+    Ok(Sizes {
+        coarse: form.cells,
+        ..laid
+    })
 }
 
 // Hands out the first k statuses of a new table over so many coarse cells, and the counts of its levels. Gives how many levels there are.
@@ -117,34 +89,26 @@ fn hand_out(
     ensures table_value { table.new ≡ take k new.now ++ drop k table.old }
     ensures counts_value { counts.new ≡ level_counts 12 0 coarse (take k new.now) ++ drop (4 * result) counts.old }
 {
-    let status = &new[..];
-    base::copy_bytes(status, k, table);
-    counting::count_levels(&status[..k], coarse, counts)
+    base::copy_front(new, k, table);
+    counting::count_levels(&new[..k], coarse, counts)
 }
 
 // Replays an archive: its table in the one lent, and the counts of every level. Refusals 15, 17, 1 to 5 and 7 to 9.
-pub fn replay(bytes: &[u8], table: &mut [u8], counts: &mut [u16]) -> Replayed
-    ensures { let a = replay_answer bytes.now table.old counts.old in let j = job_of bytes.now in
-        (result ≡ replayed_of a (replay_size j))
-        × ((table.new ≡ held_after a (job_table j) table.old)
-        × (counts.new ≡ held_after a (job_counts j) counts.old)) }
+pub fn replay(bytes: &[u8], table: &mut [u8], counts: &mut [u16]) -> Result<Size, Refusal>
+    ensures answer { answered result ≡ replay_answer bytes.now table.old counts.old }
+    ensures size { IfOk result (λ s. s ≡ replay_size (job_of bytes.now)) }
+    ensures table_value { table.new ≡ held_after (replay_answer bytes.now table.old counts.old) (job_table (job_of bytes.now)) table.old }
+    ensures counts_value { counts.new ≡ held_after (replay_answer bytes.now table.old counts.old) (job_counts (job_of bytes.now)) counts.old }
 {
-    if table.len() < MOST_CELLS {
-        return Replayed::Refused(15);
-    }
-    if counts.len() < FULL_COUNTS {
-        return Replayed::Refused(15);
+    if table.len() < MOST_CELLS || counts.len() < FULL_COUNTS {
+        return Err(Refusal::Lent);
     }
     let mut new = [0u8; 4096];
-    let r = reopen(bytes, &mut new);
-    if r.refusal != 0 {
-        return Replayed::Refused(r.refusal);
-    }
-    let k = r.cells;
-    hand_out(&new, r.coarse, k, table, counts);
-    Replayed::Done(Size {
-        cells: k,
-        levels: r.levels,
+    let laid = reopen(bytes, &mut new)?;
+    hand_out(&new, laid.coarse, laid.cells, table, counts);
+    Ok(Size {
+        cells: laid.cells,
+        levels: laid.levels,
     })
 }
 
@@ -152,19 +116,11 @@ pub fn replay(bytes: &[u8], table: &mut [u8], counts: &mut [u16]) -> Replayed
 fn lent(positions: &[i32], cells: &[u16], marked: &[u16], marks: &[u8], ends: &[u16]) -> bool
     ensures { result ≡ roomb positions.now cells.now marked.now marks.now ends.now }
 {
-    if positions.len() < FULL_POSITIONS {
-        return false;
-    }
-    if cells.len() < FULL_COARSE {
-        return false;
-    }
-    if marked.len() < MOST_MARKS {
-        return false;
-    }
-    if marks.len() < MOST_MARKS {
-        return false;
-    }
-    ends.len() >= MOST_BYTES
+    positions.len() >= FULL_POSITIONS
+        && cells.len() >= FULL_COARSE
+        && marked.len() >= MOST_MARKS
+        && marks.len() >= MOST_MARKS
+        && ends.len() >= MOST_BYTES
 }
 
 // Reads an archive: its job in the lent tables, the marks of all steps one after the other and where each step ends. The archive is
@@ -176,31 +132,31 @@ pub fn read(
     marked: &mut [u16],
     marks: &mut [u8],
     ends: &mut [u16],
-) -> Reading
-    ensures { let a = read_answer bytes.now positions.old cells.old marked.old marks.old ends.old in
+) -> Result<Lengths, Refusal>
+    ensures answer { answered result ≡ read_answer bytes.now positions.old cells.old marked.old marks.old ends.old }
+    ensures lengths { IfOk result (λ l. l ≡ lengths_of (job_of bytes.now)) }
+    ensures tables { let a = read_answer bytes.now positions.old cells.old marked.old marks.old ends.old in
         let j = job_of bytes.now in
-        (result ≡ reading_of a (lengths_of j))
-        × ((positions.new ≡ held_after a j.positions positions.old)
+        (positions.new ≡ held_after a j.positions positions.old)
         × ((cells.new ≡ held_after a j.cells cells.old)
         × ((marked.new ≡ held_after a (marked_of j.steps) marked.old)
         × ((marks.new ≡ held_after a (marks_of j.steps) marks.old)
-        × (ends.new ≡ held_after a (ends_of j.steps) ends.old))))) }
+        × (ends.new ≡ held_after a (ends_of j.steps) ends.old)))) }
 {
     if !lent(positions, cells, marked, marks, ends) {
-        return Reading::Refused(15);
+        return Err(Refusal::Lent);
     }
     let mut table = [0u8; 4096];
-    let r = reopen(bytes, &mut table);
-    if r.refusal != 0 {
-        return Reading::Refused(r.refusal);
-    }
-    let f = archive::examine_form(bytes);
-    archive::load(bytes, f, positions, cells, marked, marks, ends);
-    Reading::Job(Lengths {
-        corners: f.corners,
-        cells: f.cells,
-        marks: f.marks,
-        steps: f.steps,
+    reopen(bytes, &mut table)?;
+    let Some(form) = archive::examine_form(bytes) else {
+        return Err(Refusal::Form);
+    };
+    archive::load(bytes, form, positions, cells, marked, marks, ends);
+    Ok(Lengths {
+        corners: form.corners,
+        cells: form.cells,
+        marks: form.marks,
+        steps: form.steps,
     })
 }
 
@@ -209,10 +165,7 @@ fn fits(corners: usize, cells: usize, marks: usize, steps: usize) -> bool
     requires { (corners ≤ most_coarse_corners) × (cells ≤ most_coarse_cells) }
     ensures { result ≡ leb (13 * corners + 9 * cells + 4 * marks + steps + 1) most_bytes }
 {
-    if marks > MOST_BYTES {
-        return false;
-    }
-    if steps > MOST_BYTES {
+    if marks > MOST_BYTES || steps > MOST_BYTES {
         return false;
     }
     13 * corners + 9 * cells + 4 * marks + steps + 1 <= MOST_BYTES
@@ -227,11 +180,9 @@ pub fn write(
     marks: &[u8],
     ends: &[u16],
     bytes: &mut [u8],
-) -> Writing
-    ensures value { result
-        ≡ writing_of
-        (write_answer positions.now cells.now marked.now marks.now ends.now bytes.old)
-        (length (job_bytes (job_from positions.now cells.now marked.now marks.now ends.now))) }
+) -> Result<usize, Refusal>
+    ensures answer { answered result ≡ write_answer positions.now cells.now marked.now marks.now ends.now bytes.old }
+    ensures byte_count { IfOk result (λ n. n ≡ length (job_bytes (job_from positions.now cells.now marked.now marks.now ends.now))) }
     ensures bytes_value { bytes.new
         ≡ held_after
         (write_answer positions.now cells.now marked.now marks.now ends.now bytes.old)
@@ -239,22 +190,19 @@ pub fn write(
         bytes.old }
 {
     if bytes.len() < MOST_BYTES {
-        return Writing::Refused(15);
+        return Err(Refusal::Lent);
     }
     let mut table = [0u8; 4096];
-    let r = replay::run(positions, cells, marked, marks, ends, &mut table);
-    if r.refusal != 0 {
-        return Writing::Refused(r.refusal);
-    }
+    replay::run(positions, cells, marked, marks, ends, &mut table)?;
     if !fits(
         positions.len() / 3,
         cells.len() / 4,
         marked.len(),
         ends.len(),
     ) {
-        return Writing::Refused(17);
+        return Err(Refusal::Form);
     }
-    Writing::Bytes(archive::store(positions, cells, marked, marks, ends, bytes))
+    Ok(archive::store(positions, cells, marked, marks, ends, bytes))
 }
 
 // Lists an archive. Gives how many bytes the listing has.
@@ -264,13 +212,9 @@ pub fn list(bytes: &[u8], out: &mut [u8; 512]) -> usize
 {
     let mut table = [0u8; 4096];
     let mut counts = [0u16; 44];
-    let r = replay(bytes, &mut table, &mut counts);
-    match r {
-        Replayed::Done(size) => {
-            let n = 4 * size.levels;
-            listing::write_listing(&counts[..n], out)
-        }
-        Replayed::Refused(k) => listing::write_refusal(k, out),
+    match replay(bytes, &mut table, &mut counts) {
+        Ok(size) => listing::write_listing(&counts[..4 * size.levels], out),
+        Err(refusal) => listing::write_refusal(refusal.number(), out),
     }
 }
 
@@ -280,9 +224,7 @@ fn list_front(bytes: &[u8], count: usize, out: &mut [u8; 512]) -> usize
         ≡ listing_of (take count bytes.now) ++ drop (length (listing_of (take count bytes.now))) out.old }
     ensures value { result ≡ length (listing_of (take count bytes.now)) }
 {
-    if count > bytes.len() {
-        return list(bytes, out);
-    }
+    let count = count.min(bytes.len());
     list(&bytes[..count], out)
 }
 

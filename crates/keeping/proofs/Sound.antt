@@ -1,5 +1,5 @@
 -- What a sound table with its rows gives the functions.
--- Laws: marked_old, marked_span, marked_result (what the functions ask for and give).
+-- Laws: marked_old, marked_span, marked_whole, marked_refused (what the functions ask for and give).
 -- Assumes nothing.
 use mathlib.Core.Path.{◌≡◌, refl, sym, ◌∙◌, ap, ap₂}
 use mathlib.Core.Bool.{Bool, true, false}
@@ -30,8 +30,10 @@ use Rattle.lineage.specs.Olds.{first_child, flags}
 use Rattle.kept.specs.Kept.{kept_levels, kept_table}
 use Rattle.kept.specs.KeptAt.{kept-length}
 use Rattle.flagging.specs.Flags.{kept_up, high_up}
-use Rattle.flagging.specs.Old.{OldRows, Span, LookedAt}
-use Rattle.keeping.specs.Marked.{Marked, KeptOrFull}
+use Rattle.flagging.specs.Old.{OldRows, Span}
+use Rattle.flagging.specs.Old as flagging
+use Rattle.base.specs.declared.Refusal.{Refusal}
+use Rattle.keeping.specs.Marked.{Marked, Kept, Unkept}
 use Rattle.keeping.specs.Whole.{sound_firsts, eleven_levels}
 use Rattle.lineage.specs.Firsts.{first_start, Firsts, firsts_top, firsts_up, length-firsts}
 use Rattle.keeping.proofs.Tests.{Seen}
@@ -132,14 +134,26 @@ module _ (n : ℕ) (mesh rows ss ms firsts kept : List ℕ) (g : Marked n mesh r
   pub marked_span : Span ss kept 0 (get_or firsts 0 0)
   marked_span = record { up = omega arith; inside = marked_start; room = g.room }
 
-  pub marked_result : (kept' xs : List ℕ) (ok high : Bool)
-      → LookedAt rows ss ms firsts 11 0 (get_or firsts 0 0) kept kept' xs ok high
-      → KeptOrFull n qs ss ms kept kept' xs ok high
-  marked_result kept' xs ok high r =
-      let up : List ℕ = kept_up rows ss ms firsts 11 0 (get_or firsts 0 0) in
-      let k : 0 + length up ≡ length ss = zero-add (length up) ∙ ap length marked_kept ∙ kept-length n qs ss ms g.sound ∙ count in
+  -- how many cells the levels have
+  marked_end : 0 + length (kept_up rows ss ms firsts 11 0 (get_or firsts 0 0)) ≡ length ss
+  marked_end =
+      zero-add (length (kept_up rows ss ms firsts 11 0 (get_or firsts 0 0))) ∙ ap length marked_kept ∙ kept-length n qs ss ms g.sound
+      ∙ count
+
+  pub marked_whole : (kept' : List ℕ) → flagging.Kept rows ss ms firsts 11 0 (get_or firsts 0 0) kept kept'
+      → Kept n qs ss ms kept kept'
+  marked_whole kept' r =
       record {
-        table = λ e. r.whole e ∙ ap₂ (λ (l : List ℕ) (i : ℕ). l ++ drop i kept) marked_kept k;
-        full = λ e. rw (← marked_kept, ← count_filter up) (r.full e);
-        top = r.top ∙ marked_high;
+        table = r.written ∙ ap₂ (λ (l : List ℕ) (i : ℕ). l ++ drop i kept) marked_kept marked_end;
+        low = sym marked_high ∙ r.low;
+      }
+
+  pub marked_refused : (room : ℕ) (r : Refusal) → flagging.Unkept rows ss ms firsts 11 0 (get_or firsts 0 0) room r
+      → Unkept n qs ss ms room r
+  marked_refused room r u =
+      record {
+        one = u.one;
+        high = λ e. sym marked_high ∙ u.high e;
+        low = λ e. sym marked_high ∙ u.low e;
+        many = λ e. rw (← marked_kept, ← count_filter (kept_up rows ss ms firsts 11 0 (get_or firsts 0 0))) (u.many e);
       }

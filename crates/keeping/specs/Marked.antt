@@ -1,8 +1,10 @@
 -- What the call asks for and leaves.
 --   Marked ..       a sound table over an accepted mesh of n corners with its rows, and marks
---   KeptOrFull ..   what each cell keeps is written, or there is no room for six edges of each cell that will be red; and whether one
---                   of these is on level 10
-use Rattle.std.specs.Prelude.{◌≡◌, Bool, true, false, List, [], ◌++◌, ℕ, suc, ◌*◌, ◌≤◌, ◌<◌, T, length, get_or, take, drop}
+--   Kept ..         what each cell keeps is written, and no cell of level 10 will be red
+--   Unkept ..       why it is refused: a cell of level 10 will be red, or there is no room for six edges of each cell that will be
+use Rattle.std.specs.Prelude.{◌≡◌, ◌⊎◌, true, false, List, [], ◌++◌, ℕ, suc, ◌*◌, ◌≤◌, ◌<◌, T, length, get_or, take, drop}
+use Rattle.base.specs.declared.Refusal.{Refusal}
+use Rattle.base.specs.declared.Refusal.TheVariants.{TooHigh, TooMany}
 use Rattle.base.specs.Fours.{fours}
 use Rattle.base.specs.Lists.{anyb, filterb}
 use Rattle.mesh.specs.Cells.{redb}
@@ -23,8 +25,14 @@ pub record Marked (n : ℕ) (mesh rows ss ms ks kept : List ℕ) : Type 0 where
   pub firsts : take (suc (length ss)) ks ≡ first_children (length (fours mesh)) ss
   pub room : length ss ≤ length kept
 
--- Rules 7.2, 7.7, 7.8: what the cells of the table ss keep, in as much room as xs has.
-pub record KeptOrFull (n : ℕ) (qs : List (List ℕ)) (ss ms kept kept' xs : List ℕ) (ok high : Bool) : Type 0 where
-  pub table : ok ≡ true → kept' ≡ kept_table n qs ss ms ++ drop (length ss) kept
-  pub full : ok ≡ false → length xs < 6 * length (filterb redb (kept_table n qs ss ms))
-  pub top : high ≡ anyb redb (get_or (flags (levels_of n qs ss) ms) 10 [])
+-- Rules 7.2, 7.7, 7.8: what the cells of the table ss keep is written, and none of level 10 will be red.
+pub record Kept (n : ℕ) (qs : List (List ℕ)) (ss ms kept kept' : List ℕ) : Type 0 where
+  pub table : kept' ≡ kept_table n qs ss ms ++ drop (length ss) kept
+  pub low : anyb redb (get_or (flags (levels_of n qs ss) ms) 10 []) ≡ false
+
+-- Rules 7.8, 12.1: why it is refused, in so much room.
+pub record Unkept (n : ℕ) (qs : List (List ℕ)) (ss ms : List ℕ) (room : ℕ) (r : Refusal) : Type 0 where
+  pub one : (r ≡ TooHigh) ⊎ (r ≡ TooMany)
+  pub high : r ≡ TooHigh → anyb redb (get_or (flags (levels_of n qs ss) ms) 10 []) ≡ true
+  pub low : r ≡ TooMany → anyb redb (get_or (flags (levels_of n qs ss) ms) 10 []) ≡ false
+  pub many : r ≡ TooMany → room < 6 * length (filterb redb (kept_table n qs ss ms))

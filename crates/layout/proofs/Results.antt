@@ -1,6 +1,6 @@
 -- What a table that is opened gives its layout.
--- Laws: layout_short, layout_long, lent_long, layout_refused, layout_there (the lent tables, the answer), fits_few, fits_corners, fits_ends, fits_small,
--- room_left (what writing asks for), table_after, ends_after_lem, sums_after_lem (what it leaves).
+-- Laws: layout_short, layout_long, lent_long (the lent tables, the answer), fits_few, fits_corners, fits_ends, fits_small,
+-- fits_counted (what writing asks for), table_after, ends_after_lem, sums_after_lem (what it leaves).
 -- Assumes nothing.
 use mathlib.Core.Path.{◌≡◌, sym, ◌∙◌}
 use mathlib.Core.Bool.{true, false}
@@ -13,9 +13,8 @@ use lib.ListN.{length, take, drop}
 use lib.Seq.{length-take-le}
 use Rattle.base.specs.Bools.{is_true, and_left, and_right}
 use Rattle.base.specs.Fours.{fours}
-use Rattle.base.specs.Limits.{full_ends, full_rows, full_sums, most_cells}
-use Rattle.base.specs.Answer.{Accepted, Refused}
-use Rattle.base.specs.Refuse.{answer_of, answer_refused, answer_none}
+use Rattle.base.specs.Limits.{full_ends, full_rows, full_sums}
+use Rattle.base.specs.Answer.{Refused}
 use Rattle.mesh.specs.Coarse.{coarse_corner_count}
 use Rattle.mesh.specs.Table.{soundb}
 use Rattle.mesh.specs.Layout.{cell_table, end_table, sum_table}
@@ -25,7 +24,6 @@ use Rattle.corners.specs.Sums.{Smalls, sum_numbers, coarse_sums, length-coarse_s
 use Rattle.corners.specs.Tables.{CornersNumbered, ends_are, sums_are}
 use Rattle.counting.specs.Sound.{sound_counted}
 use Rattle.counting.specs.Whole.{end_right}
-use Rattle.tables.specs.Room.{TableRoom}
 use Rattle.opening.specs.Opened.{Fits}
 use Rattle.layout.specs.Calls.{lentb, layout_answer}
 use Rattle.layout.proofs.Numbering.{corner_count, ends, numbered}
@@ -52,16 +50,6 @@ lent_long table ends sums e = go (rw e tt)
     go : T (lentb table ends sums) → Lent table ends sums
     go t = search (and_left, and_right, leb→le)
 
-module _ (ps : List ℤ) (ts ss table ends : List ℕ) (sums : List ℤ) (l : lentb table ends sums ≡ true) (k : ℕ) (t : table_answer ps ts ss ≡
-    answer_of k) where
-  pub layout_refused : (k ≡ 0 → ⊥) → layout_answer ps ts ss table ends sums ≡ Refused k
-  unfolding layout_answer
-  layout_refused n = rw (l, t, answer_refused k n)
-
-  pub layout_there : k ≡ 0 → layout_answer ps ts ss table ends sums ≡ Accepted
-  unfolding layout_answer
-  layout_there e = rw (l, t, answer_none k e)
-
 -- a table with its front written, where what is written has another name
 written : {A : Type 0} (old new a b : List A) (k : ℕ) → new ≡ a ++ drop k old → a ≡ b → length a ≡ k → new ≡ b ++ drop (length b) old
 written old new a b k e f l = e ∙ rw (← f, l)
@@ -80,26 +68,10 @@ module _ (ps : List ℤ) (ts ss rows xs ys : List ℕ) (cells levels m : ℕ) (f
   fits_small = positions_small ps f.positions
 
   -- a sound table has a cell for each status, so that tables with room for its statuses have room for its cells
-  fits_counted : cells ≡ length ss
+  pub fits_counted : cells ≡ length ss
   fits_counted =
       let s = is_true (soundb (coarse_corner_count ps) (fours ts) ss) f.table in
       sym f.sound.counted ∙ end_right (coarse_corner_count ps) (fours ts) ss ∙ (sound_counted (coarse_corner_count ps) (fours ts) ss s).whole
-
-  pub record RoomLeft : Type 0 where
-    pub in_rows : 8 * cells ≤ length rows
-    pub in_xs : m ≤ length xs
-    pub in_ys : m ≤ length ys
-
-  pub room_left : (rows₀ xs₀ ys₀ : List ℕ) → (length ss ≤ most_cells → TableRoom ss rows₀ xs₀ ys₀) → length rows ≡ length rows₀
-      → length xs ≡ length xs₀ → length ys ≡ length ys₀ → RoomLeft
-  room_left rows₀ xs₀ ys₀ room er ex ey =
-      let c = fits_counted in
-      let r = room (omega (arith, f.sound.few)) in
-      record {
-        in_rows = omega (arith, r.in_rows);
-        in_xs = omega (arith, r.in_ps, f.sound.most);
-        in_ys = omega (arith, r.in_qs, f.sound.most);
-      }
 
   -- what a layout leaves
   module _ (in_rows : 8 * cells ≤ length rows) (in_xs : m ≤ length xs) (in_ys : m ≤ length ys) where

@@ -1,19 +1,18 @@
 -- Examining a status table over a coarse mesh and laying it out, one call: what it answers, and what the lent tables hold after
 -- (docs/METHOD.md, rule 12.7). A mesh is ps and ts, a table ss.
---   layout_answer ..   15 where a table is too short, then what the examination gives, 1 to 6; laid_of, sizes_of, its result
+--   layout_answer ..   15 where a table is too short, then what the examination gives, 1 to 6
+--   sizes_of ..        how many cells, corners and levels there are
 --   LaysOut ..        its result, and what the lent tables hold after
 -- Law: layout_examines (lent full tables, the answer is the examination's).
-use Rattle.std.specs.Prelude.{◌≡◌, Bool, ◌&&◌, List, ℕ, ◌≤◌, leb, ℤ, length}
+use Rattle.std.specs.Prelude.{◌≡◌, Result, IfOk, Bool, ◌&&◌, List, ℕ, ◌≤◌, leb, ℤ, length}
 use Rattle.std.proofs.Common.{le-leb}
-use Rattle.base.specs.Refuse.{refuse, held_after}
+use Rattle.base.specs.Refuse.{refuse, answered, held_after}
 use Rattle.base.specs.Answer.{Answer}
-use Rattle.base.specs.Answer.{Accepted, Refused}
+use Rattle.base.specs.declared.Refusal.{Refusal}
 use Rattle.base.specs.Limits.{full_rows, full_ends, full_sums}
 use Rattle.mesh.specs.Layout.{cell_table, end_table, sum_table}
 use Rattle.mesh.specs.Answers.{levels_in, cells_in, corners_in, table_answer}
 use Rattle.layout.specs.declared.Sizes.{Sizes}
-use Rattle.layout.specs.declared.Laid.{Laid}
-use Rattle.layout.specs.declared.Laid.TheVariants as laid
 
 -- Rules 9.2 to 9.4: the full lengths.
 unfoldable pub lentb : List ℕ → List ℕ → List ℤ → Bool
@@ -39,16 +38,11 @@ abbrev pub sizes_of : List ℤ → List ℕ → List ℕ → Sizes
 sizes_of ps ts ss =
     record { cells = length (cells_in ps ts ss); corners = length (corners_in ps ts ss); levels = length (levels_in ps ts ss) }
 
--- Rule 12.1: sizes, or a number alone.
-unfoldable pub laid_of : Answer → Sizes → Laid
-laid_of Accepted s = laid.Out s
-laid_of (Refused k) s = laid.Refused k
-
 -- Rules 9.2 to 9.4, 12.7: the result, and what the lent tables hold after.
-abbrev pub LaysOut : List ℤ → List ℕ → List ℕ → List ℕ → List ℕ → List ℤ → Laid → List ℕ → List ℕ → List ℤ → Type 0
-LaysOut ps ts ss table ends sums r table' ends' sums' =
-    let a = layout_answer ps ts ss table ends sums in
-    let ks = corners_in ps ts ss in
-    (r ≡ laid_of a (sizes_of ps ts ss))
-    × ((table' ≡ held_after a (cell_table ks (cells_in ps ts ss)) table)
-    × ((ends' ≡ held_after a (end_table ks) ends) × (sums' ≡ held_after a (sum_table ps ks) sums)))
+pub record LaysOut (ps : List ℤ) (ts ss table ends : List ℕ) (sums : List ℤ) (r : Result Sizes Refusal) (table' ends' : List ℕ) (sums' : List ℤ)
+    : Type 0 where
+  pub answer : answered r ≡ layout_answer ps ts ss table ends sums
+  pub sizes : IfOk r (λ s. s ≡ sizes_of ps ts ss)
+  pub table_is : table' ≡ held_after (layout_answer ps ts ss table ends sums) (cell_table (corners_in ps ts ss) (cells_in ps ts ss)) table
+  pub ends_are : ends' ≡ held_after (layout_answer ps ts ss table ends sums) (end_table (corners_in ps ts ss)) ends
+  pub sums_are : sums' ≡ held_after (layout_answer ps ts ss table ends sums) (sum_table ps (corners_in ps ts ss)) sums

@@ -1,13 +1,10 @@
--- What opening a table leaves. A refusal is a number, and 0 stands for none.
+-- What opening a table leaves.
 --   Fits ..       an accepted mesh and a sound table: the rows of its cells, and the ends of its new corners
---   Opened ..     the answer, and where there is no refusal the rest
 use Rattle.std.specs.Prelude.{◌≡◌, List, ℕ, T, ℤ}
 use Rattle.base.specs.Fours.{fours}
 use Rattle.mesh.specs.Coarse.{coarse_corner_count, positionsb}
 use Rattle.tables.specs.Sound.{Mesh, LaidSound}
 use Rattle.mesh.specs.Table.{soundb}
-use Rattle.mesh.specs.Answers.{table_answer}
-use Rattle.base.specs.Refuse.{answer_of}
 
 -- Rules 6.1 to 6.4, 9.2, 9.3: a sound table, its rows and the ends of its new corners.
 pub record Fits (ps : List ℤ) (ts ss rows xs ys : List ℕ) (cells levels m : ℕ) : Type 0 where
@@ -15,8 +12,3 @@ pub record Fits (ps : List ℤ) (ts ss rows xs ys : List ℕ) (cells levels m : 
   pub positions : T (positionsb ps)
   pub table : T (soundb (coarse_corner_count ps) (fours ts) ss)
   pub sound : LaidSound (coarse_corner_count ps) (fours ts) ss rows xs ys cells levels m
-
--- Rule 12.6: the answer, and where there is no refusal the rest.
-pub record Opened (ps : List ℤ) (ts ss rows xs ys : List ℕ) (refusal cells levels m : ℕ) : Type 0 where
-  pub answer : table_answer ps ts ss ≡ answer_of refusal
-  pub fits : refusal ≡ 0 → Fits ps ts ss rows xs ys cells levels m

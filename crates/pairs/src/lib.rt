@@ -1,6 +1,6 @@
 // A table of pairs of numbers in which a pair is found fast: the pairs in the order in which they were added; each bucket's last entry; and
-// behind each entry the one before it in its bucket. 65535 stands for no entry. There are 4,096 buckets, or 1,024 where the heads are fewer
-// than 4,096; behind them there may be spots.
+// behind each entry the one before it in its bucket. 65535 stands for no entry (an Option would be twice as large: docs/SPEED.md). There
+// are 4,096 buckets, or 1,024 where the heads are fewer than 4,096; behind them there may be spots.
 #![tactic(auto)]
 
 ghost use Rattle.std.specs.Prelude.{◌≡◌, ◌+◌, ◌-◌, ◌<◌, ◌≤◌, length, MatchOption};
@@ -44,6 +44,14 @@ impl<const N: usize, const H: usize> PairTable<N, H> {
             from: 0,
             n: 0,
         }
+    }
+
+    // Makes the table empty.
+    pub fn clear(&mut self)
+        ensures { (self.new.from ≡ 0) × (self.new.n ≡ 0) }
+    {
+        self.heads.fill(65535);
+        (self.from, self.n) = (0, 0);
     }
 
     // Whether entry e is the pair.

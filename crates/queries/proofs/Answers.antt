@@ -1,6 +1,5 @@
 -- The answers, case by case.
--- Laws: counts_short, counts_long, counts_refused, counts_there, ancestor_refused, ancestor_beyond, ancestor_there.
--- Assumes nothing.
+-- Laws: counts_short, counts_long, ancestor_refused, ancestor_beyond, ancestor_there.
 use mathlib.Core.Path.{◌≡◌}
 use mathlib.Core.List.{List}
 use Prim.Native.Nat.{ℕ, ◌≤◌, ◌<◌}
@@ -9,38 +8,29 @@ use lib.ListN.{length}
 use borrow.Author.Tests.{lt-ltb, le-ltb, le-leb, lt-leb}
 use Rattle.base.specs.Limits.{full_counts}
 use Rattle.base.specs.Answer.{Accepted, Refused}
-use Rattle.base.specs.Refuse.{answer_refused, answer_none, answer_of, and_then}
+use Rattle.base.specs.Refuse.{and_then, refuse}
 use Rattle.mesh.specs.Answers.{cells_in, table_answer}
 use Rattle.queries.specs.Calls.{ancestor_answer, counts_answer}
 
 module _ (ps : List ℤ) (ts ss : List ℕ) where
-  pub counts_short : (l : List ℕ) → length l < full_counts → counts_answer ps ts ss l ≡ Refused 15
-  unfolding counts_answer
+  pub counts_short : (l : List ℕ) → length l < full_counts → Refused 15 ≡ counts_answer ps ts ss l
+  unfolding counts_answer refuse
   counts_short l h = rw (lt-leb full_counts (length l) h)
 
-  pub counts_long : (l : List ℕ) → full_counts ≤ length l → counts_answer ps ts ss l ≡ table_answer ps ts ss
-  unfolding counts_answer
+  pub counts_long : (l : List ℕ) → full_counts ≤ length l → table_answer ps ts ss ≡ counts_answer ps ts ss l
+  unfolding counts_answer refuse
   counts_long l h = rw (le-leb full_counts (length l) h)
 
-  module _ (k : ℕ) (t : table_answer ps ts ss ≡ answer_of k) (l : List ℕ) (h : full_counts ≤ length l) where
-    pub counts_refused : (k ≡ 0 → ⊥) → counts_answer ps ts ss l ≡ Refused k
-    unfolding counts_answer
-    counts_refused n = rw (le-leb full_counts (length l) h, t, answer_refused k n)
-
-    pub counts_there : k ≡ 0 → counts_answer ps ts ss l ≡ Accepted
-    unfolding counts_answer
-    counts_there e = rw (le-leb full_counts (length l) h, t, answer_none k e)
-
   -- a cell
-  module _ (k c : ℕ) (t : table_answer ps ts ss ≡ answer_of k) where
-    pub ancestor_refused : (k ≡ 0 → ⊥) → ancestor_answer ps ts ss c ≡ Refused k
+  module _ (c : ℕ) where
+    pub ancestor_refused : {k : ℕ} → Refused k ≡ table_answer ps ts ss → Refused k ≡ ancestor_answer ps ts ss c
     unfolding ancestor_answer and_then
-    ancestor_refused h = rw (t, answer_refused k h)
+    ancestor_refused t = rw (← t)
 
-    pub ancestor_beyond : k ≡ 0 → length (cells_in ps ts ss) ≤ c → ancestor_answer ps ts ss c ≡ Refused 7
-    unfolding ancestor_answer and_then
-    ancestor_beyond e h = rw (t, answer_none k e, le-ltb c (length (cells_in ps ts ss)) h)
+    pub ancestor_beyond : Accepted ≡ table_answer ps ts ss → length (cells_in ps ts ss) ≤ c → Refused 7 ≡ ancestor_answer ps ts ss c
+    unfolding ancestor_answer and_then refuse
+    ancestor_beyond t h = rw (← t, le-ltb c (length (cells_in ps ts ss)) h)
 
-    pub ancestor_there : k ≡ 0 → c < length (cells_in ps ts ss) → ancestor_answer ps ts ss c ≡ Accepted
-    unfolding ancestor_answer and_then
-    ancestor_there e h = rw (t, answer_none k e, lt-ltb c (length (cells_in ps ts ss)) h)
+    pub ancestor_there : Accepted ≡ table_answer ps ts ss → c < length (cells_in ps ts ss) → Accepted ≡ ancestor_answer ps ts ss c
+    unfolding ancestor_answer and_then refuse
+    ancestor_there t h = rw (← t, lt-ltb c (length (cells_in ps ts ss)) h)

@@ -2,7 +2,7 @@
 -- Assumes nothing.
 use Rattle.std.specs.Prelude.{◌≡◌, refl, Bool, true, false, List, [], ◌∷◌, ◌++◌, ℕ, zero, suc, ◌+◌, ◌*◌, ◌-◌, ◌≤◌, ◌<◌, length, get_or, take, drop}
 use Rattle.std.proofs.Math.Path.{sym}
-use Rattle.std.proofs.Common.{◌∙◌, ap, append-nil, append_assoc, zero-add, length-append, take-append-drop, take-suc, length-take-le, take-take, eq-eqb, ne_eqb}
+use Rattle.std.proofs.Common.{◌∙◌, ap, append-nil, append_assoc, zero-add, length-append, take-append-drop, take-suc, take-take, eq-eqb, ne_eqb}
 use native.Mathlib.Omega.{arith}
 use Rattle.pairs.specs.declared.PairTable.{PairTable}
 use Rattle.mesh.specs.Cells.{Cell, redb, edge, edges, red_edges}
@@ -34,9 +34,6 @@ six c = refl
 
 next_edge : (c : Cell ℕ) (e : ℕ) → e < 6 → take (suc e) (edges 0 c) ≡ take e (edges 0 c) ++ (edge 0 c e ∷ [])
 next_edge c e h = take-suc (edges 0 c) e (0, 0) (rw (six c) h) ∙ ap (λ (p : Pair). take e (edges 0 c) ++ (p ∷ [])) (edge_at_lem c e h)
-
-length-edges : (c : Cell ℕ) (e : ℕ) → e ≤ 6 → length (take e (edges 0 c)) ≡ e
-length-edges c e h = length-take-le e (edges 0 c) (rw (six c) h)
 
 pub all_edges : (c : Cell ℕ) → take 6 (edges 0 c) ≡ edges 0 c
 unfolding edges

@@ -10,17 +10,16 @@ use lib.Seq.{take_at}
 use Rattle.base.specs.Fours.{fours, length-fours}
 use Rattle.base.specs.Limits.{most_cells}
 use Rattle.base.specs.Refuse.{refuse, and_then, code_of}
-use Rattle.base.specs.Answer.{Answer}
-use Rattle.base.specs.Answer.{Accepted, Refused}
+use Rattle.base.specs.Answer.{Answer, Accepted, Refused}
 use Rattle.mesh.specs.Coarse.{coarse_corner_count, mesh_answer}
 use Rattle.mesh.specs.Table.{soundb}
 use Rattle.tables.specs.Sound.{Mesh}
 use Rattle.mesh.specs.Answers.{table_answer}
-use Rattle.opening.specs.Opened.{Opened}
+use Rattle.opening.specs.Opened.{Fits}
 use Rattle.opening.specs.Accepted.{mesh_passed}
 use Rattle.step.specs.Answers.{opened_held}
 use Rattle.replay.specs.Run.{rest_table}
-use Rattle.replay.specs.Going.{Rested}
+use Rattle.replay.specs.Going.{Came}
 use Rattle.replay.specs.Rest.{rest_sound}
 
 module _ (ps : List ℤ) (mesh : List ℕ) (k : ℕ) (few : length mesh / 4 ≤ 256 → k ≡ length mesh / 4) where
@@ -31,7 +30,7 @@ module _ (ps : List ℤ) (mesh : List ℕ) (k : ℕ) (few : length mesh / 4 ≤ 
   rest_is m = ap (λ (j : ℕ). replicate {A = ℕ} j 0) (few (omega (arith, m.few)) ∙ sym (length-fours mesh))
 
   -- a table of leaves is accepted just where its mesh is
-  rest_answer : table_answer ps mesh zeros ≡ mesh_answer ps mesh
+  pub rest_answer : table_answer ps mesh zeros ≡ mesh_answer ps mesh
   unfolding table_answer and_then refuse code_of
   rest_answer = go (mesh_answer ps mesh) refl
     where
@@ -45,18 +44,13 @@ module _ (ps : List ℤ) (mesh : List ℕ) (k : ℕ) (few : length mesh / 4 ≤ 
                 (omega (arith, length-fours mesh, m.few)),
           )
 
-  pub rested : (table rest rows xs ys : List ℕ) (refusal cells levels mids : ℕ) → table ≡ zeros ++ rest → k ≤ 256 → most_cells ≤ length table
-      → Opened ps mesh (take k table) rows xs ys refusal cells levels mids → Rested ps mesh rows table refusal k levels
-  rested table rest rows xs ys refusal cells levels mids e f room o =
+  pub rested : (table rest rows xs ys : List ℕ) (cells levels mids : ℕ) → table ≡ zeros ++ rest → k ≤ 256 → most_cells ≤ length table
+      → Fits ps mesh (take k table) rows xs ys cells levels mids
+      → Came (coarse_corner_count ps) mesh rows table k levels (rest_table (fours mesh))
+  rested table rest rows xs ys cells levels mids e f room o =
       let t : take k table ≡ zeros = rw e (take_at zeros rest k (length-replicate k 0)) in
       record {
-        answer = sym rest_answer ∙ (rw t at o.answer);
-        table_is = λ z. t ∙ rest_is (o.fits z).mesh;
-        going = λ z. record {
-          held = opened_held ps mesh (take k table) rows xs ys cells levels mids (o.fits z);
-          few = omega arith;
-          room =
-              room;
-        };
-        high = λ z. (o.fits z).sound.high;
+        table_is = t ∙ rest_is o.mesh;
+        going = record { held = opened_held ps mesh (take k table) rows xs ys cells levels mids o; few = omega arith; room = room };
+        high = o.sound.high;
       }

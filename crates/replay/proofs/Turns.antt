@@ -11,14 +11,12 @@ use lib.ListN.{length, get_or, take, drop, drop_of_length-le}
 use lib.Seq.{drop-cons}
 use borrow.Author.Tests.{le-leb, lt-leb, eq-eqb, ne_eqb}
 use Rattle.base.specs.Fours.{fours}
-use Rattle.base.specs.Refuse.{refuse, and_then, answer_of, answer_refused, answer_none}
-use Rattle.base.specs.Answer.{Answer}
-use Rattle.base.specs.Answer.{Refused}
+use Rattle.base.specs.Refuse.{refuse, and_then}
+use Rattle.base.specs.Answer.{Answer, Accepted, Refused}
 use Rattle.mesh.specs.Table.{levels_of}
 use Rattle.archive.specs.Tables.{pairs, steps_from}
 use Rattle.replay.specs.Run.{one_answer, one_table, run_table, flat_answer}
-use Rattle.replay.specs.Going.{ReplayGoing, NextTurn, marks_part, next_answer, Finished}
-use Rattle.replay.proofs.Steps.{Moved}
+use Rattle.replay.specs.Going.{ReplayGoing, Came, marks_part, next_answer}
 
 -- marks of a part
 no_pairs : (cs : List ℕ) → pairs cs [] ≡ []
@@ -44,35 +42,18 @@ pub pairs_part : (j p : ℕ) (cs ms : List ℕ) → pairs (take j (drop p cs)) (
 pairs_part j p cs ms = pairs-take j (drop p cs) (drop p ms) ∙ ap (take j) (pairs-drop p cs ms)
 
 -- the next step
-module _ (n : ℕ) (mesh old : List ℕ) (p e : ℕ) (ms : List (ℕ × ℕ)) (rows table : List ℕ) where
-  next_failed : next_answer n (fours mesh) old p e ms ≡ Refused 7 → (k c l : ℕ) → k ≡ 7 → NextTurn n mesh old p e ms rows table k c l
-  unfolding answer_of
-  next_failed a k c l z =
-      record {
-        answer = a ∙ rw z;
-        table_is = λ y. absurd (omega arith);
-        going = λ y. absurd (omega arith);
-        high = λ y. absurd (omega arith);
-      }
-
-  pub next_back : e < p → (k c l : ℕ) → k ≡ 7 → NextTurn n mesh old p e ms rows table k c l
+module _ (n : ℕ) (qs : List (List ℕ)) (old : List ℕ) (p e : ℕ) (ms : List (ℕ × ℕ)) where
+  pub next_back : e < p → next_answer n qs old p e ms ≡ Refused 7
   unfolding next_answer refuse
-  next_back h = next_failed (rw (lt-leb p e h))
+  next_back h = rw (lt-leb p e h)
 
-  pub next_behind : length ms < e → (k c l : ℕ) → k ≡ 7 → NextTurn n mesh old p e ms rows table k c l
+  pub next_behind : length ms < e → next_answer n qs old p e ms ≡ Refused 7
   unfolding next_answer refuse
-  next_behind h = next_failed (rw (lt-leb e (length ms) h, and-false (leb p e)))
+  next_behind h = rw (lt-leb e (length ms) h, and-false (leb p e))
 
-  pub next_moved : p ≤ e → e ≤ length ms → (k c l : ℕ) (m : List (ℕ × ℕ)) → m ≡ marks_part p e ms → Moved n mesh old m rows table k c l
-      → NextTurn n mesh old p e ms rows table k c l
+  pub next_moved : p ≤ e → e ≤ length ms → (m : List (ℕ × ℕ)) → m ≡ marks_part p e ms → next_answer n qs old p e ms ≡ one_answer n qs old m
   unfolding next_answer refuse
-  next_moved h g k c l m q s =
-      record {
-        answer = rw (le-leb p e h, le-leb e (length ms) g, ← q) s.answer;
-        table_is = λ y. rw (← q) (s.table_is y);
-        going = s.going;
-        high = s.high;
-      }
+  next_moved h g m q = rw (le-leb p e h, le-leb e (length ms) g, ← q)
 
 refuse_then : (b : Bool) (x y : Answer) → refuse 7 b (and_then x y) ≡ and_then (refuse 7 b x) y
 unfolding refuse and_then
@@ -101,7 +82,7 @@ module _ (n : ℕ) (mesh : List ℕ) (ms : List (ℕ × ℕ)) (es : List ℕ) wh
     now = take cells table
 
     -- one step more
-    module _ (h : g < length es) (rows' table' : List ℕ) (k c l : ℕ) (x : NextTurn n mesh now p (get_or es g 0) ms rows' table' k c l) where
+    module _ (h : g < length es) where
       abbrev e : ℕ
       e = get_or es g 0
 
@@ -116,49 +97,35 @@ module _ (n : ℕ) (mesh : List ℕ) (ms : List (ℕ × ℕ)) (es : List ℕ) wh
           ∙ refuse_then (leb p e && leb e (length ms)) (one_answer n qs now (marks_part p e ms))
           (flat_answer n qs (one_table n qs now (marks_part p e ms)) e ms (drop (g + 1) es))
 
-      pub turn_refused : (k ≡ 0 → ⊥) → (k' c' l' : ℕ) → k' ≡ k → Finished n mesh old ms es rows' table' k' c' l'
+      pub turn_refused : (k : ℕ) → Refused k ≡ next_answer n qs now p e ms → Refused k ≡ flat_answer n qs old 0 ms es
       unfolding and_then
-      turn_refused z k' c' l' q =
-          record {
-            answer = sym t.answer ∙ one_more ∙ rw (x.answer, answer_refused k z, q) (sym (answer_refused k z));
-            table_is = λ y. absurd (z (sym q ∙ y));
-            going = λ y. absurd (z (sym q ∙ y));
-            high = λ y. absurd (z (sym q ∙ y));
-          }
+      turn_refused k a = sym (sym t.answer ∙ one_more ∙ rw (← a))
 
-      pub turn_next : k ≡ 0 → Turn n mesh old ms es rows' table' c l e (g + 1)
+      pub turn_next : (rows' table' : List ℕ) (c l : ℕ) → Accepted ≡ next_answer n qs now p e ms
+          → Came n mesh rows' table' c l (one_table n qs now (marks_part p e ms)) → Turn n mesh old ms es rows' table' c l e (g + 1)
       unfolding and_then steps_from run_table
-      turn_next z =
-          let s = x.table_is z in
+      turn_next rows' table' c l a x =
+          let s = x.table_is in
           record {
             passed = omega arith;
-            answer = sym (sym t.answer ∙ one_more ∙ rw (x.answer, answer_none k z, s));
+            answer = sym (sym t.answer ∙ one_more ∙ rw (← a, s));
             table_is = sym (sym t.table_is ∙ rw (ends, s));
-            going = x.going z;
-            high = x.high z;
+            going = x.going;
+            high = x.high;
           }
 
-    -- no step more
+    -- the last one is done
     module _ (h : length es ≤ g) where
       none : drop g es ≡ []
       none = drop_of_length-le es h
 
-      pub turn_left : (p ≡ length ms → ⊥) → (k c l : ℕ) → k ≡ 7 → Finished n mesh old ms es rows table k c l
-      unfolding flat_answer refuse answer_of
-      turn_left z k c l q =
-          record {
-            answer = sym t.answer ∙ rw (none, ne_eqb p (length ms) z, q);
-            table_is = λ y. absurd (omega arith);
-            going = λ y. absurd (omega arith);
-            high = λ y. absurd (omega arith);
-          }
+      pub turn_left : (p ≡ length ms → ⊥) → Refused 7 ≡ flat_answer n qs old 0 ms es
+      unfolding flat_answer refuse
+      turn_left z = sym (sym t.answer ∙ rw (none, ne_eqb p (length ms) z))
 
-      pub turn_end : p ≡ length ms → Finished n mesh old ms es rows table 0 cells levels
-      unfolding flat_answer refuse answer_of steps_from run_table
-      turn_end z =
-          record {
-            answer = sym t.answer ∙ rw (none, eq-eqb p (length ms) z);
-            table_is = λ y. sym (sym t.table_is ∙ rw none);
-            going = λ y. t.going;
-            high = λ y. t.high;
-          }
+      pub turn_end : p ≡ length ms → (Accepted ≡ flat_answer n qs old 0 ms es) × Came n mesh rows table cells levels (run_table n qs old (steps_from 0 ms es))
+      unfolding flat_answer refuse steps_from run_table
+      turn_end z = (
+        sym (sym t.answer ∙ rw (none, eq-eqb p (length ms) z)),
+        record { table_is = sym (sym t.table_is ∙ rw none); going = t.going; high = t.high },
+      )

@@ -1,45 +1,41 @@
 // Jobs done again: the steps of a job in turn.
 #![tactic(auto)]
 
-ghost use Rattle.std.specs.Prelude.{◌≡◌, ◌++◌, ◌+◌, ◌/◌, ◌≤◌, ◌<◌, T, length, take, drop, replicate};
+ghost use Rattle.std.specs.Prelude.{◌≡◌, ◌≤◌, T, IfOk, length, take};
 ghost use Rattle.base.specs.Fours.{fours};
-ghost use Rattle.base.specs.Limits.{most_cells, most_coarse_cells};
-ghost use Rattle.cutting.specs.Answer.{digit_table, start_table};
-ghost use Rattle.mesh.specs.Table.{levels_of, soundb};
+ghost use Rattle.base.specs.Limits.{most_cells};
+ghost use Rattle.base.specs.Refuse.{answered};
+ghost use Rattle.mesh.specs.Coarse.{coarse_corner_count, mesh_answer};
+ghost use Rattle.mesh.specs.Table.{soundb};
+ghost use Rattle.mesh.specs.Answers.{new_table, limits_answer};
 ghost use Rattle.tables.specs.Sound.{Mesh};
-ghost use Rattle.advance.specs.Advanced.{Advanced};
-ghost use Rattle.archive.specs.Tables.{pairs};
+ghost use Rattle.archive.specs.Tables.{pairs, steps_from};
+ghost use Rattle.replay.specs.Run.{one_table, rest_table, run_table, flat_answer, tables_answer};
 ghost use Rattle.replay.specs.Scan.{mayb, Spread, Fitting};
-ghost use Rattle.replay.specs.Going.{ReplayGoing, Rested, Relaid, NextTurn, Finished, Replayed};
+ghost use Rattle.replay.specs.Going.{ReplayGoing, Came, marks_part, next_answer, Replayed};
 
-use base::MOST_COARSE_CELLS;
-use tables::Outcome;
-use writing::NewTable;
+use advance::Work;
+use base::{MOST_COARSE_CELLS, Refusal};
+use cutting::Families;
+use pairs::PairTable;
+use tables::Sizes;
 
-// Makes the first k bytes 0.
-fn clear(out: &mut [u8], k: usize)
-    requires { k ≤ length out.old }
-    ensures { out.new ≡ replicate k 0 ++ drop k out.old }
-{
-    for i in 0..k {
-        out[i] = 0;
-    }
+// Tables for the work on steps, made once for all; they hold whatever they hold. `spread` has the marks of a step, one for each cell, and
+// `new` the statuses that it gives.
+#[derive(Drop)]
+struct Tools {
+    spread: [u8; 4096],
+    new: [u8; 4096],
+    work: Work<3072, 5120, 4097>,
+    mids: PairTable<4096, 4096>,
+    families: Families,
 }
 
 // Whether a mark may stand at a cell, of k cells of which those below `next` are passed.
 fn may_stand(cell: usize, mark: u8, next: usize, k: usize) -> bool
     ensures { result ≡ mayb k next cell mark }
 {
-    if cell < next {
-        return false;
-    }
-    if cell >= k {
-        return false;
-    }
-    if mark < 1 {
-        return false;
-    }
-    mark <= 2
+    next <= cell && cell < k && 1 <= mark && mark <= 2
 }
 
 // The marks of a step as one byte a cell, of k cells. False where the marked cells do not ascend or are not cells, or a mark is not 1 or 2.
@@ -47,17 +43,15 @@ fn spread(marked: &[u16], marks: &[u8], k: usize, out: &mut [u8]) -> bool
     requires { (length marked.now ≡ length marks.now) × (k ≤ length out.old) }
     ensures { Spread k (pairs marked.now marks.now) out.new result }
 {
-    clear(out, k);
-    let mut i = 0;
-    let mut next: usize = 0;
-    while i < marked.len() {
+    out[..k].fill(0);
+    let mut next = 0;
+    for i in 0..marked.len() {
         let c = marked[i] as usize;
         if !may_stand(c, marks[i], next, k) {
             return false;
         }
         out[c] = marks[i];
         next = c + 1;
-        i += 1;
     }
     true
 }
@@ -74,93 +68,55 @@ fn examine_marks(marked: &[u16], marks: &[u8], status: &[u8], out: &mut [u8]) ->
     step::marks_fit(status, &out[..k])
 }
 
-// The step on a sound table of so many cells with its rows, by one mark a cell: the new statuses in `new`. The tables from xs on are for
-// the work, whatever they hold. Refusals 8 and 9.
-fn make(
-    mesh: &[u16],
-    n: usize,
-    rows: &[u16; 32768],
-    table: &[u8; 4096],
-    cells: usize,
-    marks: &[u8; 4096],
-    new: &mut [u8; 4096],
-    xs: &mut [u32; 3072],
-    ys: &mut [u32; 3072],
-    links: &mut [u16; 3072],
-    old: &mut [u16; 4096],
-    kids: &mut [u16; 4097],
-    kept: &mut [u8; 4096],
-) -> NewTable
-    requires { ReplayGoing n mesh.now rows.now table.now cells }
-    ensures { Advanced n mesh.now (take cells table.now) (take cells marks.now) new.new result.refusal result.cells }
-{
-    let mut heads = [65535u16; 5120];
-    let status = &table[..];
-    let spread = &marks[..];
-    advance::advance(
-        mesh,
-        n,
-        rows,
-        &status[..cells],
-        &spread[..cells],
-        new,
-        xs,
-        ys,
-        &mut heads,
-        links,
-        old,
-        kids,
-        kept,
-    )
-}
-
-// Copies a sound table of so many cells into `table`, and lays out its rows. The tables from ps on are for the work, whatever they hold,
-// `digits` and `starts` are the cutting table.
+// Copies the new table, sound and of so many cells, into `table`, and lays out its rows.
 fn settle(
     mesh: &[u16],
     n: usize,
-    new: &[u8; 4096],
     cells: usize,
     rows: &mut [u16; 32768],
     table: &mut [u8; 4096],
-    ps: &mut [u32; 4096],
-    qs: &mut [u32; 4096],
-    links: &mut [u16; 4096],
-    digits: &[u8],
-    starts: &[u16],
-) -> Outcome
+    tools: &mut Tools,
+) -> Sizes
     requires mesh { Mesh n mesh.now }
-    requires t { T (soundb n (fours mesh.now) (take cells new.now)) }
-    requires cells_le_most_cells { cells ≤ most_cells }
-    requires digits_value { (digits.now ≡ digit_table) × (starts.now ≡ start_table) }
-    ensures { Relaid n mesh.now new.now cells rows.new table.new result.refusal result.cells result.levels }
+    requires sound { T (soundb n (fours mesh.now) (take cells tools.old.new)) }
+    requires few { cells ≤ most_cells }
+    ensures { Came n mesh.now rows.new table.new result.cells result.levels (take cells tools.old.new) }
 {
-    base::copy_bytes(new, cells, table);
-    let mut heads = [65535u16; 4096];
-    let status = &table[..];
-    let r = laying::lay(
-        mesh,
-        n,
-        &status[..cells],
-        rows,
-        ps,
-        qs,
-        &mut heads,
-        links,
-        digits,
-        starts,
-    );
-    Outcome {
-        refusal: 0,
-        coarse: r.coarse,
-        cells,
-        levels: r.levels,
-        mids: r.mids,
-    }
+    base::copy_front(&tools.new, cells, table);
+    tools.mids.clear();
+    let laid = laying::lay(mesh, n, &table[..cells], rows, &mut tools.mids, &tools.families);
+    Sizes { cells, ..laid }
 }
 
-// One step on a sound table with its rows: the step whose marks go from p up to e. The new table and its rows take the place of the old
-// ones. The other tables are for the work, whatever they hold, `digits` and `starts` are the cutting table. Refusals 7 to 9.
+// The step on a sound table of so many cells with its rows, by the marks that are spread: the new table and its rows take the place of the
+// old ones. Refusals 8 and 9.
+fn make(
+    mesh: &[u16],
+    n: usize,
+    cells: usize,
+    rows: &mut [u16; 32768],
+    table: &mut [u8; 4096],
+    tools: &mut Tools,
+) -> Result<Sizes, Refusal>
+    requires { ReplayGoing n mesh.now rows.old table.old cells }
+    ensures answer { answered result ≡ limits_answer n (fours mesh.now) (take cells table.old) (take cells tools.old.spread) }
+    ensures came { IfOk result (λ s. Came n mesh.now rows.new table.new s.cells s.levels
+        (new_table n (fours mesh.now) (take cells table.old) (take cells tools.old.spread))) }
+{
+    tools.work.red.clear();
+    let made = advance::advance(
+        mesh,
+        n,
+        rows,
+        &table[..cells],
+        &tools.spread[..cells],
+        &mut tools.new,
+        &mut tools.work,
+    )?;
+    Ok(settle(mesh, n, made, rows, table, tools))
+}
+
+// One step on a sound table with its rows: the step whose marks go from p up to e. Refusals 7 to 9.
 fn next_step(
     mesh: &[u16],
     n: usize,
@@ -171,57 +127,21 @@ fn next_step(
     cells: usize,
     rows: &mut [u16; 32768],
     table: &mut [u8; 4096],
-    spread_marks: &mut [u8; 4096],
-    new: &mut [u8; 4096],
-    xs: &mut [u32; 3072],
-    ys: &mut [u32; 3072],
-    links: &mut [u16; 3072],
-    old: &mut [u16; 4096],
-    kids: &mut [u16; 4097],
-    kept: &mut [u8; 4096],
-    ps: &mut [u32; 4096],
-    qs: &mut [u32; 4096],
-    mid_links: &mut [u16; 4096],
-    digits: &[u8],
-    starts: &[u16],
-) -> Outcome
-    requires replay_going { ReplayGoing n mesh.now rows.old table.old cells }
+    tools: &mut Tools,
+) -> Result<Sizes, Refusal>
+    requires going { ReplayGoing n mesh.now rows.old table.old cells }
     requires marked_len { length marked.now ≡ length marks.now }
-    requires digits_value { (digits.now ≡ digit_table) × (starts.now ≡ start_table) }
-    ensures { NextTurn n mesh.now (take cells table.old) p e (pairs marked.now marks.now) rows.new table.new result.refusal
-        result.cells result.levels }
+    ensures answer { answered result ≡ next_answer n (fours mesh.now) (take cells table.old) p e (pairs marked.now marks.now) }
+    ensures came { IfOk result (λ s. Came n mesh.now rows.new table.new s.cells s.levels
+        (one_table n (fours mesh.now) (take cells table.old) (marks_part p e (pairs marked.now marks.now)))) }
 {
-    if e < p {
-        return tables::refused(7);
+    if e < p || e > marked.len() {
+        return Err(Refusal::Marks);
     }
-    if e > marked.len() {
-        return tables::refused(7);
+    if !examine_marks(&marked[p..e], &marks[p..e], &table[..cells], &mut tools.spread) {
+        return Err(Refusal::Marks);
     }
-    let status = &table[..];
-    if !examine_marks(&marked[p..e], &marks[p..e], &status[..cells], spread_marks) {
-        return tables::refused(7);
-    }
-    let r = make(
-        mesh,
-        n,
-        rows,
-        table,
-        cells,
-        spread_marks,
-        new,
-        xs,
-        ys,
-        links,
-        old,
-        kids,
-        kept,
-    );
-    if r.refusal != 0 {
-        return tables::refused(r.refusal);
-    }
-    settle(
-        mesh, n, new, r.cells, rows, table, ps, qs, mid_links, digits, starts,
-    )
+    make(mesh, n, cells, rows, table, tools)
 }
 
 // A mesh at rest: each cell a leaf, with its rows. Refusals 1 to 5.
@@ -230,115 +150,53 @@ fn at_rest(
     cells: &[u16],
     rows: &mut [u16; 32768],
     table: &mut [u8; 4096],
-) -> Outcome
-    ensures { Rested positions.now cells.now rows.new table.new result.refusal result.cells result.levels }
+) -> Result<Sizes, Refusal>
+    ensures answer { answered result ≡ mesh_answer positions.now cells.now }
+    ensures came { IfOk result (λ s. Came (coarse_corner_count positions.now) cells.now rows.new table.new s.cells s.levels
+        (rest_table (fours cells.now))) }
 {
-    let k = few(cells.len() / 4);
-    clear(table, k);
-    let status = &table[..];
-    let mut xs = [0u32; 4096];
-    let mut ys = [0u32; 4096];
-    let f = opening::open(positions, cells, &status[..k], rows, &mut xs, &mut ys);
-    Outcome {
-        refusal: f.refusal,
-        coarse: k,
-        cells: k,
-        levels: f.levels,
-        mids: f.mids,
-    }
+    let k = (cells.len() / 4).min(MOST_COARSE_CELLS);
+    table[..k].fill(0);
+    let mut mids = PairTable::<4096, 4096>::new();
+    let laid = opening::open(positions, cells, &table[..k], rows, &mut mids)?;
+    Ok(Sizes { cells: k, ..laid })
 }
 
-// k, and 256 where it is more.
-fn few(k: usize) -> usize
-    ensures { (result ≤ most_coarse_cells) × (k ≤ most_coarse_cells → result ≡ k) }
-{
-    if k <= MOST_COARSE_CELLS {
-        return k;
-    }
-    MOST_COARSE_CELLS
-}
-
-// The steps of a job in turn, on a sound table with its rows, of so many cells, levels and new corners. Refusals 7 to 9.
+// The steps of a job in turn, on a sound table of these sizes with its rows. Refusals 7 to 9.
 fn run_steps(
     mesh: &[u16],
     n: usize,
     marked: &[u16],
     marks: &[u8],
     ends: &[u16],
-    first: usize,
-    high: usize,
-    inner: usize,
+    first: Sizes,
     rows: &mut [u16; 32768],
     table: &mut [u8; 4096],
-) -> Outcome
-    requires replay_going { ReplayGoing n mesh.now rows.old table.old first }
-    requires marked_len { (length marked.now ≡ length marks.now) × (length (levels_of n (fours mesh.now) (take first table.old)) ≡ high) }
-    ensures { Finished n mesh.now (take first table.old) (pairs marked.now marks.now) ends.now rows.new table.new
-        result.refusal result.cells result.levels }
+) -> Result<Sizes, Refusal>
+    requires came { Came n mesh.now rows.old table.old first.cells first.levels (take first.cells table.old) }
+    requires marked_len { length marked.now ≡ length marks.now }
+    ensures answer { answered result ≡ flat_answer n (fours mesh.now) (take first.cells table.old) 0 (pairs marked.now marks.now) ends.now }
+    ensures came { IfOk result (λ s. Came n mesh.now rows.new table.new s.cells s.levels
+        (run_table n (fours mesh.now) (take first.cells table.old) (steps_from 0 (pairs marked.now marks.now) ends.now))) }
 {
-    let mut spread_marks = [0u8; 4096];
-    let mut new = [0u8; 4096];
-    let mut xs = [0u32; 3072];
-    let mut ys = [0u32; 3072];
-    let mut links = [0u16; 3072];
-    let mut old = [0u16; 4096];
-    let mut kids = [0u16; 4097];
-    let mut kept = [0u8; 4096];
-    let mut ps = [0u32; 4096];
-    let mut qs = [0u32; 4096];
-    let mut mid_links = [0u16; 4096];
-    let digits = cutting::digit_table();
-    let starts = cutting::start_table();
-    let mut cells = first;
-    let mut levels = high;
-    let mut mids = inner;
-    let mut p: usize = 0;
-    let mut g = 0;
-    while g < ends.len() {
-        let e = ends[g] as usize;
-        let r = next_step(
-            mesh,
-            n,
-            marked,
-            marks,
-            p,
-            e,
-            cells,
-            rows,
-            table,
-            &mut spread_marks,
-            &mut new,
-            &mut xs,
-            &mut ys,
-            &mut links,
-            &mut old,
-            &mut kids,
-            &mut kept,
-            &mut ps,
-            &mut qs,
-            &mut mid_links,
-            &digits,
-            &starts,
-        );
-        if r.refusal != 0 {
-            return r;
-        }
-        cells = r.cells;
-        levels = r.levels;
-        mids = r.mids;
+    let mut tools = Tools {
+        spread: [0; 4096],
+        new: [0; 4096],
+        work: Work::new(),
+        mids: PairTable::new(),
+        families: Families::new(),
+    };
+    let mut now = first;
+    let mut p = 0;
+    for end in ends {
+        let e = *end as usize;
+        now = next_step(mesh, n, marked, marks, p, e, now.cells, rows, table, &mut tools)?;
         p = e;
-        g += 1;
     }
     if p != marked.len() {
-        return tables::refused(7);
+        return Err(Refusal::Marks);
     }
-    Outcome {
-        refusal: 0,
-        coarse: mesh.len() / 4,
-        cells,
-        levels,
-        mids,
-    }
+    Ok(now)
 }
 
 // The mesh, and then the steps of a job in turn, from its flat tables: the marked cells of all steps one after the other, their marks, and
@@ -350,27 +208,14 @@ pub fn run(
     marks: &[u8],
     ends: &[u16],
     table: &mut [u8; 4096],
-) -> Outcome
-    ensures { Replayed positions.now cells.now marked.now marks.now ends.now table.new result.refusal result.cells result.levels }
+) -> Result<Sizes, Refusal>
+    ensures answer { answered result ≡ tables_answer positions.now cells.now marked.now marks.now ends.now }
+    ensures replayed { IfOk result (λ s. Replayed positions.now cells.now marked.now marks.now ends.now table.new s.cells s.levels) }
 {
     let mut rows = [0u16; 32768];
-    let r = at_rest(positions, cells, &mut rows, table);
-    if r.refusal != 0 {
-        return r;
-    }
+    let rest = at_rest(positions, cells, &mut rows, table)?;
     if marked.len() != marks.len() {
-        return tables::refused(7);
+        return Err(Refusal::Marks);
     }
-    run_steps(
-        cells,
-        positions.len() / 3,
-        marked,
-        marks,
-        ends,
-        r.cells,
-        r.levels,
-        r.mids,
-        &mut rows,
-        table,
-    )
+    run_steps(cells, positions.len() / 3, marked, marks, ends, rest, &mut rows, table)
 }

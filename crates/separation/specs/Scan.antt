@@ -2,8 +2,7 @@
 -- Assumes nothing.
 use Rattle.std.specs.Prelude.{◌≡◌, refl, Bool, true, false, ◌&&◌, ◌||◌, not, eqb, List, [], ◌∷◌, get_or, drop}
 use Rattle.std.proofs.Math.Path.{sym}
-use Rattle.std.proofs.Common.{◌∙◌}
-use Rattle.std.proofs.Math.Bool.{or-true, or-false}
+use Rattle.std.proofs.Math.Bool.{or-true}
 use Rattle.base.specs.Places.{hasb}
 use Prim.Native.Nat.{ℕ, zero, suc, ◌+◌, ◌*◌, ◌-◌, ◌<◌}
 use native.Mathlib.Omega.{arith}
@@ -71,18 +70,6 @@ module _ (f : Cell ℕ → Bool) (t : List ℕ) (last c : ℕ) (h : c < last) wh
 pub cells_end_lem : (f : Cell ℕ → Bool) (t : List ℕ) (last : ℕ) → allb f (cells_at t last (last - last)) ≡ true
 unfolding allb cells_at
 cells_end_lem f t last = let e : last - last ≡ 0 = omega arith in rw e
-
--- the condition at one edge: the edge p that was read is e
-module _ (own es : List Pair) (e p : Pair) (q : p ≡ e) (held : Bool) (h : held ≡ hasb isb es (sorted p)) where
-  pub free : held ≡ false → true ≡ (heldb eqb own e || not (hasb isb es (sorted e)))
-  free f =
-      let w : hasb isb es (sorted e) ≡ false = sym (rw q at h) ∙ f in
-      rw (w, or-true (heldb eqb own e))
-
-  pub own_or_not : held ≡ true → (r : Bool) → r ≡ heldb eqb own p → r ≡ (heldb eqb own e || not (hasb isb es (sorted e)))
-  own_or_not f r g =
-      let w : hasb isb es (sorted e) ≡ true = sym (rw q at h) ∙ f in
-      rw (w, or-false (heldb eqb own e)) (rw q at g)
 
 -- Rule 6.4, of one edge of a child.
 abbrev pub apart_test : List Pair → List ℕ → ℕ → Pair → Bool

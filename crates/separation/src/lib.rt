@@ -50,10 +50,7 @@ fn apart_edge<const N: usize, const H: usize>(
         (hasb isb (entries table.now) (sorted (edge 0 (cell_at cells.now c) e)))) }
 {
     let Ends { a, b } = rows::edge_of(cells, c, e);
-    if !edges::holds(table, a, b) {
-        return true;
-    }
-    has_edge(cells, g, a, b)
+    !edges::holds(table, a, b) || has_edge(cells, g, a, b)
 }
 
 // Whether no edge of the cell c is listed. A loop over the six is slower (docs/SPEED.md).
@@ -61,22 +58,13 @@ fn is_free<const N: usize, const H: usize>(cells: &[u16], c: usize, table: &Pair
     requires { 8 * (c + 1) ≤ length cells.now }
     ensures { result ≡ true → allb (free_test (entries table.now)) (edges 0 (cell_at cells.now c)) ≡ true }
 {
-    if closure::is_held(cells, c, 0, table) {
-        return false;
-    }
-    if closure::is_held(cells, c, 1, table) {
-        return false;
-    }
-    if closure::is_held(cells, c, 2, table) {
-        return false;
-    }
-    if closure::is_held(cells, c, 3, table) {
-        return false;
-    }
-    if closure::is_held(cells, c, 4, table) {
-        return false;
-    }
-    if closure::is_held(cells, c, 5, table) {
+    if closure::is_held(cells, c, 0, table)
+        || closure::is_held(cells, c, 1, table)
+        || closure::is_held(cells, c, 2, table)
+        || closure::is_held(cells, c, 3, table)
+        || closure::is_held(cells, c, 4, table)
+        || closure::is_held(cells, c, 5, table)
+    {
         return false;
     }
     true
@@ -114,10 +102,7 @@ fn apart_cell<const N: usize, const H: usize>(
     requires c_in_bounds { (cell_at cells.now c).regular ≡ false → 8 * get_or cells.now (8 * c + 1) 0 + 8 ≤ length cells.now }
     ensures { result ≡ listed_apart (entries table.now) cells.now (cell_at cells.now c) }
 {
-    if rows::is_regular(cells, c) {
-        return true;
-    }
-    if !closure::is_near(cells, c, table) {
+    if rows::is_regular(cells, c) || !closure::is_near(cells, c, table) {
         return true;
     }
     let g = cells[8 * c + 1] as usize;

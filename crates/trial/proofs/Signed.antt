@@ -3,19 +3,22 @@
 --   Raised z    z is a number below 2 ^ 32
 --   raised      an i32 and 2 ^ 31 make such a number
 --   raised_above  it is how far the number lies above the least i32
---   wide_fits, sum_fits, sum_is   the same of the bits that the program holds
---   low_half, high_half    two's complement below 2 ^ 31, and from there on
+--   sum_is      the same of the bits that the program holds
+--   twos_is     two's complement is the library's
 use mathlib.Core.Path.{◌≡◌, refl, ap, ◌∙◌}
+use mathlib.Core.Bool.{Bool, true, false}
+use lib.Dec.{ltb}
+use Rattle.std.proofs.Math.Facts.{to_z-neg}
 use Prim.Native.Nat.{ℕ, zero, suc, ◌+◌, ◌-◌, ◌<◌, ◌≤◌}
 use native.Mathlib.Nat.{zero-add}
 use native.Mathlib.Omega.{arith}
 use lib.IntN.{ℤ, pos, negsuc, ◌+ℤ◌, ◌-ℤ◌}
-use borrow.Author.Tests.{lt-ltb, le-ltb}
+use borrow.Author.Tests.{le-ltb, ltb-true, ltb-false}
 use Rattle.trial.specs.Input.{twos}
 use Rattle.trial.specs.Pattern.{above_least}
 use mir.Syntax.{w32, w64}
 use mir.Val.{SFits, to_z, of_z}
-use mir.ValLaws.{to_z-of_z}
+use mir.ValLaws.{to_z_pos, to_z-of_z}
 
 wider : (z : ℤ) → SFits w32 z → SFits w64 z
 wider (pos n) h = record { sfits = omega (arith, h.sfits) }
@@ -40,26 +43,24 @@ module _ (z : ℤ) (h : SFits w32 z) where
   unfolding above_least
   raised_above = rw (raised z h).same
 
-  pub wide_fits : SFits w64 (to_z w32 (of_z w32 z))
-  wide_fits = rw (to_z-of_z w32 z h) (wider z h)
+  plain : to_z w64 (of_z w64 z) ≡ z
+  plain = to_z-of_z w64 z (wider z h)
 
-  plain : to_z w64 (of_z w64 (to_z w32 (of_z w32 z))) ≡ z
-  plain = ap (λ (y : ℤ). to_z w64 (of_z w64 y)) (to_z-of_z w32 z h) ∙ to_z-of_z w64 z (wider z h)
+  pub sum_is : to_z w64 (of_z w64 (to_z w64 (of_z w64 z) +ℤ pos 2147483648)) ≡ pos (raised z h).size
+  sum_is =
+      rw (plain, (raised z h).same)
+      (to_z-of_z w64 (pos (raised z h).size) (record { sfits = omega (arith, (raised z h).low) }))
 
-  pub sum_fits : SFits w64 (to_z w64 (of_z w64 (to_z w32 (of_z w32 z))) +ℤ pos 2147483648)
-  sum_fits = rw (plain, (raised z h).same) (record { sfits = omega (arith, (raised z h).low) })
-
-  pub sum_is : to_z w64 (of_z w64 (to_z w64 (of_z w64 (to_z w32 (of_z w32 z))) +ℤ pos 2147483648)) ≡ pos (raised z h).size
-  sum_is = to_z-of_z w64 _ sum_fits ∙ rw plain (raised z h).same
-
-pub low_half : (b : ℕ) → b < 2147483648 → twos b ≡ pos b
+-- two's complement
+pub twos_is : (x : ℕ) → x < 4294967296 → to_z w32 x ≡ twos x
 unfolding twos
-low_half b h = rw (lt-ltb b 2147483648 h, twos)
-
-pub high_half : (b : ℕ) → 2147483648 ≤ b → twos b ≡ negsuc 0 -ℤ pos (4294967295 - b)
-unfolding twos
-high_half b h = rw (le-ltb b 2147483648 h, twos) (minus (4294967295 - b))
+twos_is x h = go (ltb x 2147483648) refl
   where
-    minus : (k : ℕ) → negsuc k ≡ negsuc 0 -ℤ pos k
-    minus zero = refl
-    minus (suc k) = rw zero-add
+    go : (b : Bool) → ltb x 2147483648 ≡ b → to_z w32 x ≡ twos x
+    go true t = let l : x < 2147483648 = ltb-true x 2147483648 t in to_z_pos w32 x l ∙ rw (t, twos)
+    go false t =
+        let l : 2147483648 ≤ x = ltb-false x 2147483648 t in
+        let e : 4294967296 - suc (4294967295 - x) ≡ x = omega arith in
+        let k : 4294967295 - x < 2147483648 = omega arith in
+        let n : to_z w32 (4294967296 - suc (4294967295 - x)) ≡ negsuc (4294967295 - x) = to_z-neg w32 (4294967295 - x) k in
+        rw e at n ∙ rw (t, twos)

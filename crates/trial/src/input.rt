@@ -1,23 +1,34 @@
 // Reading numbers and lists from standard input. Every number of more than one byte has its least byte first.
-ghost use Rattle.std.specs.Prelude.{◌≡◌, ◌++◌, ◌+◌, ◌*◌, ◌<◌, ◌≤◌, length, drop};
-ghost use Rattle.trial.specs.Input.{word_at, long_at, twos, signed_at, FrontRead, ListRead, MeshRead};
+ghost use Rattle.std.specs.Prelude.{◌≡◌, ◌++◌, ◌+◌, ◌*◌, ◌<◌, ◌≤◌, ℕ, List, length, drop};
+ghost use Rattle.std.proofs.Common.{rules};
+ghost use Rattle.trial.specs.Input.{word_at, long_at, signed_at, FrontRead, ListRead, MeshRead};
 ghost use Rattle.trial.specs.Pattern.{tab_of};
 
 use std::io::Read;
 
-// Two bytes as a number.
-fn word(low: u8, high: u8) -> u32
-    ensures { (result ≡ low + 256 * high) × (result < 65536) }
+// The k-th number of two bytes.
+fn word(bytes: &[u8], k: usize) -> u16
+    requires { 2 * k + 1 < length bytes.now }
+    ensures { result ≡ word_at bytes.now k }
 {
-    low as u32 + 256 * (high as u32)
+    u16::from_le_bytes([bytes[2 * k], bytes[2 * k + 1]])
 }
 
-// The k-th number of two bytes.
+// The same as a length.
 pub fn number(bytes: &[u8], k: usize) -> usize
     requires { 2 * k + 1 < length bytes.now }
     ensures { (result ≡ word_at bytes.now k) × (result < 65536) }
 {
-    word(bytes[2 * k], bytes[2 * k + 1]) as usize
+    usize::from(word(bytes, k))
+}
+
+// The k-th number of four bytes, as a length.
+pub fn long(bytes: &[u8], k: usize) -> usize
+    requires { 4 * k + 3 < length bytes.now }
+    ensures { result ≡ long_at bytes.now k }
+{
+    let at = 4 * k;
+    u32::from_le_bytes([bytes[at], bytes[at + 1], bytes[at + 2], bytes[at + 3]]) as usize
 }
 
 // Reads until the list is full, the input ends or a read fails, and answers how many bytes it put at the front of the list.
@@ -47,111 +58,74 @@ pub fn read_all(rt: &impl Input, list: &mut [u8]) -> bool
 pub fn read_bytes(rt: &impl Input, list: &mut [u8], n: usize) -> bool
     ensures { FrontRead result n list.old list.new }
 {
-    if n > list.len() {
+    n <= list.len() && read_all(rt, &mut list[0..n])
+}
+
+// A number of a list, of SIZE bytes.
+pub trait Coded: Copy {
+    ghost SIZE: { ℕ };
+
+    ghost coded: { List ℕ → ℕ → Self };
+
+    const SIZE: usize;
+
+    // The k-th number.
+    fn decode(bytes: &[u8], k: usize) -> Self
+        requires { SIZE * k + SIZE ≤ length bytes.now }
+        ensures { result ≡ coded bytes.now k };
+
+    ghost sized: { (0 < SIZE) × (SIZE ≤ 8) };
+}
+
+// A corner's or a cell's number.
+impl Coded for u16 {
+    ghost SIZE = { 2 };
+
+    ghost coded = { word_at };
+
+    ghost sized = { Prim.search rules };
+
+    const SIZE: usize = 2;
+
+    fn decode(bytes: &[u8], k: usize) -> u16 {
+        word(bytes, k)
+    }
+}
+
+// A coordinate.
+impl Coded for i32 {
+    ghost SIZE = { 4 };
+
+    ghost coded = { signed_at };
+
+    ghost sized = { Prim.search rules };
+
+    const SIZE: usize = 4;
+
+    fn decode(bytes: &[u8], k: usize) -> i32 {
+        let at = 4 * k;
+        i32::from_le_bytes([bytes[at], bytes[at + 1], bytes[at + 2], bytes[at + 3]])
+    }
+}
+
+// Puts the first n numbers of the bytes into the first places of a list.
+fn decode_list<T: Coded>(bytes: &[u8], list: &mut [T], n: usize)
+    requires { (T.SIZE * n ≤ length bytes.now) × (n ≤ length list.old) }
+    ensures { list.new ≡ tab_of (T.coded bytes.now) n ++ drop n list.old }
+{
+    for i in 0..n {
+        list[i] = T::decode(bytes, i);
+    }
+}
+
+// Reads n numbers into the first places of a list, by way of room. False where one of them is too short or the input ends.
+pub fn read_list<T: Coded>(rt: &impl Input, room: &mut [u8], list: &mut [T], n: usize) -> bool
+    ensures { FrontRead result (T.SIZE * n) room.old room.new × ListRead result n (T.coded room.new) list.old list.new }
+{
+    if n > list.len() || n > room.len() / T::SIZE || !read_bytes(rt, room, T::SIZE * n) {
         return false;
     }
-    read_all(rt, &mut list[0..n])
-}
-
-// The number whose bits these are, in two's complement.
-fn signed(bits: u32) -> i32
-    ensures { result ≡ twos bits }
-{
-    if bits < 2147483648 {
-        bits as i32
-    } else {
-        -1 - ((4294967295 - bits) as i32)
-    }
-}
-
-// The k-th number of four bytes.
-fn four(bytes: &[u8], k: usize) -> u32
-    requires { 4 * k + 3 < length bytes.now }
-    ensures { result ≡ long_at bytes.now k }
-{
-    let at = 4 * k;
-    let low = word(bytes[at], bytes[at + 1]);
-    let high = word(bytes[at + 2], bytes[at + 3]);
-    low + 65536 * high
-}
-
-// The same as a length.
-pub fn long(bytes: &[u8], k: usize) -> usize
-    requires { 4 * k + 3 < length bytes.now }
-    ensures { result ≡ long_at bytes.now k }
-{
-    four(bytes, k) as usize
-}
-
-fn coordinate(bytes: &[u8], k: usize) -> i32
-    requires { 4 * k + 3 < length bytes.now }
-    ensures { result ≡ signed_at bytes.now k }
-{
-    signed(four(bytes, k))
-}
-
-fn corner(bytes: &[u8], k: usize) -> u16
-    requires { 2 * k + 1 < length bytes.now }
-    ensures { result ≡ word_at bytes.now k }
-{
-    word(bytes[2 * k], bytes[2 * k + 1]) as u16
-}
-
-// Puts the first n coordinates of four bytes each into the first places of a list.
-fn decode_positions(bytes: &[u8], list: &mut [i32], n: usize)
-    requires { (4 * n ≤ length bytes.now) × (n ≤ length list.old) }
-    ensures { list.new ≡ tab_of (signed_at bytes.now) n ++ drop n list.old }
-{
-    let mut i = 0;
-    while i < n {
-        list[i] = coordinate(bytes, i);
-        i += 1;
-    }
-}
-
-// The same with corner or cell numbers, of two bytes each.
-fn decode_cells(bytes: &[u8], list: &mut [u16], n: usize)
-    requires { (2 * n ≤ length bytes.now) × (n ≤ length list.old) }
-    ensures { list.new ≡ tab_of (word_at bytes.now) n ++ drop n list.old }
-{
-    let mut i = 0;
-    while i < n {
-        list[i] = corner(bytes, i);
-        i += 1;
-    }
-}
-
-// Reads n coordinates into the first places of a list, by way of room. False where one of them is too short or the input ends.
-pub fn read_positions(rt: &impl Input, room: &mut [u8], list: &mut [i32], n: usize) -> bool
-    ensures { FrontRead result (4 * n) room.old room.new × ListRead result n (signed_at room.new) list.old list.new }
-{
-    if n > list.len() {
-        return false;
-    }
-    if n > room.len() / 4 {
-        return false;
-    }
-    if !read_bytes(rt, room, 4 * n) {
-        return false;
-    }
-    decode_positions(room, list, n);
-    true
-}
-
-// The same with corner or cell numbers.
-pub fn read_cells(rt: &impl Input, room: &mut [u8], list: &mut [u16], n: usize) -> bool
-    ensures { FrontRead result (2 * n) room.old room.new × ListRead result n (word_at room.new) list.old list.new }
-{
-    if n > list.len() {
-        return false;
-    }
-    if n > room.len() / 2 {
-        return false;
-    }
-    if !read_bytes(rt, room, 2 * n) {
-        return false;
-    }
-    decode_cells(room, list, n);
+    decode_list(room, list, n);
     true
 }
 
@@ -166,8 +140,5 @@ pub fn read_mesh(
 ) -> bool
     ensures { MeshRead result position_count cell_count room.old room.new positions.old positions.new cells.old cells.new }
 {
-    if !read_positions(rt, room, positions, position_count) {
-        return false;
-    }
-    read_cells(rt, room, cells, cell_count)
+    read_list(rt, room, positions, position_count) && read_list(rt, room, cells, cell_count)
 }

@@ -1,11 +1,14 @@
 // The three tables of a layout: filled with a known pattern, laid out in, summed up.
-ghost use Rattle.std.specs.Prelude.{◌≡◌, length};
-ghost use Rattle.layout.specs.Calls.{layout_answer, sizes_of, laid_of};
+ghost use Rattle.std.specs.Prelude.{◌≡◌, IfOk, length};
+ghost use Rattle.base.specs.Refuse.{answered};
+ghost use Rattle.layout.specs.Calls.{layout_answer, sizes_of};
 ghost use Rattle.trial.specs.Layouts.{summary_of};
 ghost use Rattle.trial.specs.Pattern.{tab_of, word_fill, signed_fill};
 
 use crate::pattern;
-use layout::Laid;
+use base::Refusal;
+use layout::Sizes;
+use std::fmt;
 
 // A layout as a line of numbers.
 #[derive(Clone, Copy)]
@@ -22,6 +25,13 @@ pub struct Summary {
     pub sums: u64,
 }
 
+impl fmt::Display for Summary {
+    fn fmt<W: fmt::Write>(&self, f: &mut fmt::Formatter<W>) -> fmt::Result {
+        write!(f, "{} {} {} {}", self.refusal, self.cells, self.corners, self.levels)?;
+        write!(f, " {} {} {}", self.table, self.ends, self.sums)
+    }
+}
+
 // The layout. This function's contract is short, so that the proofs above it are: it leaves out what the tables hold after.
 pub fn lay_out(
     positions: &[i32],
@@ -30,10 +40,9 @@ pub fn lay_out(
     table: &mut [u16],
     ends: &mut [u16],
     sums: &mut [i32],
-) -> Laid
-    ensures { result
-        ≡ laid_of (layout_answer positions.now cells.now status.now table.old ends.old sums.old)
-        (sizes_of positions.now cells.now status.now) }
+) -> Result<Sizes, Refusal>
+    ensures answer { answered result ≡ layout_answer positions.now cells.now status.now table.old ends.old sums.old }
+    ensures sizes { IfOk result (λ s. s ≡ sizes_of positions.now cells.now status.now) }
 {
     layout::lay_out(positions, cells, status, table, ends, sums)
 }
@@ -46,18 +55,18 @@ pub fn fill(table: &mut [u16], ends: &mut [u16], sums: &mut [i32])
 {
     pattern::fill(table);
     pattern::fill(ends);
-    pattern::fill_signed(sums);
+    pattern::fill(sums);
 }
 
 // Sums up a layout's answer and what the tables hold.
-pub fn sum_up(laid: Laid, table: &[u16], ends: &[u16], sums: &[i32]) -> Summary
+pub fn sum_up(laid: Result<Sizes, Refusal>, table: &[u16], ends: &[u16], sums: &[i32]) -> Summary
     ensures { result ≡ summary_of laid table.now ends.now sums.now }
 {
     let t = pattern::checksum(table);
     let e = pattern::checksum(ends);
-    let s = pattern::checksum_signed(sums);
+    let s = pattern::checksum(sums);
     match laid {
-        Laid::Out(sizes) => Summary {
+        Ok(sizes) => Summary {
             refusal: 0,
             cells: sizes.cells as u64,
             corners: sizes.corners as u64,
@@ -66,8 +75,8 @@ pub fn sum_up(laid: Laid, table: &[u16], ends: &[u16], sums: &[i32]) -> Summary
             ends: e,
             sums: s,
         },
-        Laid::Refused(k) => Summary {
-            refusal: k as u64,
+        Err(refusal) => Summary {
+            refusal: u64::from(refusal.number()),
             cells: 0,
             corners: 0,
             levels: 0,

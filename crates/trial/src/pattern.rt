@@ -1,18 +1,63 @@
 // What tables hold before a call, and a checksum of what they hold after it.
-ghost use Rattle.std.specs.Prelude.{◌≡◌, ◌-◌, ◌<◌, ◌≤◌, length};
+ghost use Rattle.std.specs.Prelude.{◌≡◌, ◌-◌, ◌<◌, ◌≤◌, ◌%◌, length, ℕ, pos};
 ghost use Rattle.base.specs.Bools.{one_if};
-ghost use Rattle.trial.specs.Pattern.{turned, tab_of, byte_fill, word_fill, signed_fill, check_from, above_least};
+ghost use Rattle.trial.specs.Pattern.{turned, tab_of, fill_at, check_from, above_least};
 
-fn narrow(x: u8) -> u64
-    ensures { (result ≡ x) × (result < 256) }
-{
-    x as u64
+// What a table holds: made from a number of the pattern, and taken as a number by a checksum.
+pub trait Entry: Copy {
+    ghost made: { ℕ → Self };
+
+    ghost taken: { Self → ℕ };
+
+    fn make(x: u64) -> Self
+        requires { x < 2147483647 }
+        ensures { result ≡ made x };
+
+    fn take(self) -> u64
+        ensures { (result ≡ taken self) × (result < 4294967296) };
 }
 
-fn wide(x: u16) -> u64
-    ensures { (result ≡ x) × (result < 65536) }
-{
-    x as u64
+impl Entry for u8 {
+    ghost made = { λ x. x % 256 };
+
+    ghost taken = { λ x. x };
+
+    fn make(x: u64) -> u8 {
+        (x % 256) as u8
+    }
+
+    fn take(self) -> u64 {
+        u64::from(self)
+    }
+}
+
+impl Entry for u16 {
+    ghost made = { λ x. x % 65536 };
+
+    ghost taken = { λ x. x };
+
+    fn make(x: u64) -> u16 {
+        (x % 65536) as u16
+    }
+
+    fn take(self) -> u64 {
+        u64::from(self)
+    }
+}
+
+impl Entry for i32 {
+    ghost made = { pos };
+
+    ghost taken = { above_least };
+
+    fn make(x: u64) -> i32 {
+        x as i32
+    }
+
+    // How far it lies above the least i32.
+    fn take(self) -> u64 {
+        (i64::from(self) + 2147483648) as u64
+    }
 }
 
 // One turn of the checksum: a polynomial at 48,271, modulo the prime 2 ^ 31 - 1.
@@ -24,85 +69,23 @@ fn turn(sum: u64, x: u64) -> u64
     (sum * 48271 + x) % 2147483647
 }
 
-// Fills a list with the first numbers of the pattern, as many as it has places; so do the next two.
-pub fn fill_bytes(list: &mut [u8])
-    ensures { list.new ≡ tab_of byte_fill (length list.old) }
+// Fills a list with the first numbers of the pattern, as many as it has places.
+pub fn fill<T: Entry>(list: &mut [T])
+    ensures { list.new ≡ tab_of (λ k. T.made (fill_at k)) (length list.old) }
 {
-    let n = list.len();
     let mut x = 1;
-    let mut i = 0;
-    while i < n {
-        list[i] = (x % 256) as u8;
+    for place in list.iter_mut() {
+        *place = T::make(x);
         x = turn(x, 1);
-        i += 1;
     }
 }
 
-pub fn fill(list: &mut [u16])
-    ensures { list.new ≡ tab_of word_fill (length list.old) }
-{
-    let n = list.len();
-    let mut x = 1;
-    let mut i = 0;
-    while i < n {
-        list[i] = (x % 65536) as u16;
-        x = turn(x, 1);
-        i += 1;
-    }
-}
-
-pub fn fill_signed(list: &mut [i32])
-    ensures { list.new ≡ tab_of signed_fill (length list.old) }
-{
-    let n = list.len();
-    let mut x = 1;
-    let mut i = 0;
-    while i < n {
-        list[i] = x as i32;
-        x = turn(x, 1);
-        i += 1;
-    }
-}
-
-// How far a number lies above the least i32.
-fn above(x: i32) -> u64
-    ensures { (result ≡ above_least x) × (result < 4294967296) }
-{
-    (x as i64 + 2147483648) as u64
-}
-
-pub fn checksum_bytes(list: &[u8]) -> u64
-    ensures { result ≡ check_from (λ x. x) 1 list.now }
+pub fn checksum<T: Entry>(list: &[T]) -> u64
+    ensures { result ≡ check_from T.taken 1 list.now }
 {
     let mut sum = 1;
-    let mut i = 0;
-    while i < list.len() {
-        sum = turn(sum, narrow(list[i]));
-        i += 1;
-    }
-    sum
-}
-
-pub fn checksum(list: &[u16]) -> u64
-    ensures { result ≡ check_from (λ x. x) 1 list.now }
-{
-    let mut sum = 1;
-    let mut i = 0;
-    while i < list.len() {
-        sum = turn(sum, wide(list[i]));
-        i += 1;
-    }
-    sum
-}
-
-pub fn checksum_signed(list: &[i32]) -> u64
-    ensures { result ≡ check_from above_least 1 list.now }
-{
-    let mut sum = 1;
-    let mut i = 0;
-    while i < list.len() {
-        sum = turn(sum, above(list[i]));
-        i += 1;
+    for entry in list {
+        sum = turn(sum, entry.take());
     }
     sum
 }
@@ -111,11 +94,5 @@ pub fn checksum_signed(list: &[i32]) -> u64
 pub fn lent(full: usize, short: bool) -> usize
     ensures { (result ≡ full - one_if short) × (result ≤ full) }
 {
-    if !short {
-        return full;
-    }
-    if full == 0 {
-        return 0;
-    }
-    full - 1
+    full.saturating_sub(usize::from(short))
 }

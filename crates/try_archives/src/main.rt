@@ -2,10 +2,8 @@
 // The input is made by independent/src/bin/archive_cases.rs, and so are the lines that are expected.
 #![tactic(auto)]
 
-mod print;
-
-use base::{MOST_COARSE_CELLS, MOST_COARSE_CORNERS};
-use jobs::{Lengths, Reading, Replayed, Writing};
+use base::{MOST_COARSE_CELLS, MOST_COARSE_CORNERS, Refusal};
+use jobs::{Lengths, Size};
 use std::io;
 use trial::{input, pattern};
 
@@ -31,37 +29,43 @@ struct Job {
     ends: usize,
 }
 
+// The lists of a job.
 #[derive(Clone, Copy)]
-enum Next {
-    Archive(Archive),
-    Job(Job),
-    End,
+struct Lists<'a> {
+    positions: &'a [i32],
+    cells: &'a [u16],
+    marked: &'a [u16],
+    marks: &'a [u8],
+    ends: &'a [u16],
 }
 
-fn read_header(rt: &impl Input) -> Next {
+#[derive(Clone, Copy)]
+enum Case {
+    Archive(Archive),
+    Job(Job),
+}
+
+fn read_header(rt: &impl Input) -> Option<Case> {
     let mut bytes = [0u8; 24];
     if !input::read_all(rt, &mut bytes) {
-        return Next::End;
+        return None;
     }
-    let kind = input::number(&bytes, 0);
     let short = input::number(&bytes, 1);
-    if kind == 1 {
-        return Next::Archive(Archive {
+    match input::number(&bytes, 0) {
+        1 => Some(Case::Archive(Archive {
             short,
             bytes: input::long(&bytes, 1),
-        });
-    }
-    if kind == 2 {
-        return Next::Job(Job {
+        })),
+        2 => Some(Case::Job(Job {
             short: short == 1,
             positions: input::long(&bytes, 1),
             cells: input::long(&bytes, 2),
             marked: input::long(&bytes, 3),
             marks: input::long(&bytes, 4),
             ends: input::long(&bytes, 5),
-        });
+        })),
+        _ => None,
     }
-    Next::End
 }
 
 // This function's contract is short, so that the proofs above it are; so are those of the next two.
@@ -72,22 +76,22 @@ fn read(
     marked: &mut [u16],
     marks: &mut [u8],
     ends: &mut [u16],
-) -> Reading {
+) -> Result<Lengths, Refusal> {
     jobs::read(archive, positions, cells, marked, marks, ends)
 }
 
-fn write(
-    positions: &[i32],
-    cells: &[u16],
-    marked: &[u16],
-    marks: &[u8],
-    ends: &[u16],
-    bytes: &mut [u8],
-) -> Writing {
-    jobs::write(positions, cells, marked, marks, ends, bytes)
+fn write(lists: Lists, bytes: &mut [u8]) -> Result<usize, Refusal> {
+    jobs::write(
+        lists.positions,
+        lists.cells,
+        lists.marked,
+        lists.marks,
+        lists.ends,
+        bytes,
+    )
 }
 
-fn replay(archive: &[u8], table: &mut [u8], counts: &mut [u16]) -> Replayed {
+fn replay(archive: &[u8], table: &mut [u8], counts: &mut [u16]) -> Result<Size, Refusal> {
     jobs::replay(archive, table, counts)
 }
 
@@ -97,107 +101,51 @@ fn try_list(rt: &impl Print, archive: &[u8]) -> io::Result<()> {
     rt.write_all(&out[..n])
 }
 
-fn print_writing(rt: &impl Print, writing: Writing) -> io::Result<()> {
-    match writing {
-        Writing::Bytes(n) => {
-            print::first(rt, 0)?;
-            print::number(rt, n as u64)
-        }
-        Writing::Refused(k) => {
-            print::first(rt, k as u64)?;
-            print::number(rt, 0)
-        }
-    }
-}
-
 // Writes a job into a table that holds a known pattern, lent short or not, and prints its line.
-fn write_in(
-    rt: &impl Print,
-    positions: &[i32],
-    cells: &[u16],
-    marked: &[u16],
-    marks: &[u8],
-    ends: &[u16],
-    bytes: &mut [u8],
-    short: bool,
-) -> io::Result<()> {
-    pattern::fill_bytes(bytes);
+fn write_in(rt: &impl Print, lists: Lists, bytes: &mut [u8], short: bool) -> io::Result<()> {
+    pattern::fill(bytes);
     let n = pattern::lent(bytes.len(), short);
-    let writing = write(positions, cells, marked, marks, ends, &mut bytes[0..n]);
-    print_writing(rt, writing)?;
-    print::number(rt, pattern::checksum_bytes(bytes))?;
-    print::end(rt)
+    match write(lists, &mut bytes[..n]) {
+        Ok(length) => print!(rt; "0 {length}")?,
+        Err(refusal) => print!(rt; "{} 0", refusal.number())?,
+    }
+    println!(rt; " {}", pattern::checksum(bytes))
 }
 
-fn try_write(
-    rt: &impl Print,
-    positions: &[i32],
-    cells: &[u16],
-    marked: &[u16],
-    marks: &[u8],
-    ends: &[u16],
-    short: bool,
-) -> io::Result<()> {
+fn try_write(rt: &impl Print, lists: Lists, short: bool) -> io::Result<()> {
     let mut bytes = [0u8; 65536];
-    write_in(rt, positions, cells, marked, marks, ends, &mut bytes, short)
+    write_in(rt, lists, &mut bytes, short)
 }
 
 // Writes the job of the first places of the given lists. False where one is too short.
-fn write_parts(
-    rt: &impl Print,
-    positions: &[i32],
-    cells: &[u16],
-    marked: &[u16],
-    marks: &[u8],
-    ends: &[u16],
-    job: Job,
-) -> io::Result<bool> {
+fn write_front(rt: &impl Print, lists: Lists, job: Job) -> io::Result<bool> {
     let p = job.positions;
     let c = job.cells;
     let k = job.marked;
     let m = job.marks;
     let e = job.ends;
-    if p > positions.len() {
+    if p > lists.positions.len()
+        || c > lists.cells.len()
+        || k > lists.marked.len()
+        || m > lists.marks.len()
+        || e > lists.ends.len()
+    {
         return Ok(false);
     }
-    if c > cells.len() {
-        return Ok(false);
-    }
-    if k > marked.len() {
-        return Ok(false);
-    }
-    if m > marks.len() {
-        return Ok(false);
-    }
-    if e > ends.len() {
-        return Ok(false);
-    }
-    try_write(
-        rt,
-        &positions[0..p],
-        &cells[0..c],
-        &marked[0..k],
-        &marks[0..m],
-        &ends[0..e],
-        job.short,
-    )?;
+    let front = Lists {
+        positions: &lists.positions[..p],
+        cells: &lists.cells[..c],
+        marked: &lists.marked[..k],
+        marks: &lists.marks[..m],
+        ends: &lists.ends[..e],
+    };
+    try_write(rt, front, job.short)?;
     Ok(true)
 }
 
 // Writes the job that was read.
-fn write_back(
-    rt: &impl Print,
-    positions: &[i32],
-    cells: &[u16],
-    marked: &[u16],
-    marks: &[u8],
-    ends: &[u16],
-    lengths: Lengths,
-) -> io::Result<()> {
-    if lengths.corners > MOST_COARSE_CORNERS {
-        return Ok(());
-    }
-    if lengths.cells > MOST_COARSE_CELLS {
+fn write_back(rt: &impl Print, lists: Lists, lengths: Lengths) -> io::Result<()> {
+    if lengths.corners > MOST_COARSE_CORNERS || lengths.cells > MOST_COARSE_CELLS {
         return Ok(());
     }
     let job = Job {
@@ -208,37 +156,14 @@ fn write_back(
         marks: lengths.marks,
         ends: lengths.steps,
     };
-    write_parts(rt, positions, cells, marked, marks, ends, job)?;
+    write_front(rt, lists, job)?;
     Ok(())
 }
 
-fn print_reading(rt: &impl Print, reading: &Reading) -> io::Result<()> {
+fn print_lengths(rt: &impl Print, reading: Result<Lengths, Refusal>) -> io::Result<()> {
     match reading {
-        Reading::Job(n) => {
-            print::first(rt, 0)?;
-            print::two(rt, n.corners as u64, n.cells as u64)?;
-            print::two(rt, n.marks as u64, n.steps as u64)
-        }
-        Reading::Refused(k) => {
-            print::first(rt, *k as u64)?;
-            print::two(rt, 0, 0)?;
-            print::two(rt, 0, 0)
-        }
-    }
-}
-
-fn write_where_read(
-    rt: &impl Print,
-    positions: &[i32],
-    cells: &[u16],
-    marked: &[u16],
-    marks: &[u8],
-    ends: &[u16],
-    reading: Reading,
-) -> io::Result<()> {
-    match reading {
-        Reading::Job(lengths) => write_back(rt, positions, cells, marked, marks, ends, lengths),
-        Reading::Refused(_) => Ok(())
+        Ok(n) => print!(rt; "0 {} {} {} {}", n.corners, n.cells, n.marks, n.steps),
+        Err(refusal) => print!(rt; "{} 0 0 0 0", refusal.number()),
     }
 }
 
@@ -251,7 +176,7 @@ fn read_short(
     marks: &mut [u8],
     ends: &mut [u16],
     short: usize,
-) -> Reading {
+) -> Result<Lengths, Refusal> {
     let p = pattern::lent(positions.len(), short == 1);
     let c = pattern::lent(cells.len(), short == 2);
     let k = pattern::lent(marked.len(), short == 3);
@@ -259,11 +184,11 @@ fn read_short(
     let e = pattern::lent(ends.len(), short == 5);
     read(
         archive,
-        &mut positions[0..p],
-        &mut cells[0..c],
-        &mut marked[0..k],
-        &mut marks[0..m],
-        &mut ends[0..e],
+        &mut positions[..p],
+        &mut cells[..c],
+        &mut marked[..k],
+        &mut marks[..m],
+        &mut ends[..e],
     )
 }
 
@@ -274,29 +199,31 @@ fn fill(
     marks: &mut [u8],
     ends: &mut [u16],
 ) {
-    pattern::fill_signed(positions);
+    pattern::fill(positions);
     pattern::fill(cells);
     pattern::fill(marked);
-    pattern::fill_bytes(marks);
+    pattern::fill(marks);
     pattern::fill(ends);
 }
 
 // Prints the answer and checksums of the tables over their whole lengths, and writes what was read.
-fn show_read(
-    rt: &impl Print,
-    reading: Reading,
-    positions: &[i32],
-    cells: &[u16],
-    marked: &[u16],
-    marks: &[u8],
-    ends: &[u16],
-) -> io::Result<()> {
-    print_reading(rt, &reading)?;
-    print::number(rt, pattern::checksum_signed(positions))?;
-    print::two(rt, pattern::checksum(cells), pattern::checksum(marked))?;
-    print::two(rt, pattern::checksum_bytes(marks), pattern::checksum(ends))?;
-    print::end(rt)?;
-    write_where_read(rt, positions, cells, marked, marks, ends, reading)
+fn show_read(rt: &impl Print, reading: Result<Lengths, Refusal>, lists: Lists) -> io::Result<()> {
+    print_lengths(rt, reading)?;
+    print!(rt; " {}", pattern::checksum(lists.positions))?;
+    print!(rt;
+        " {} {}",
+        pattern::checksum(lists.cells),
+        pattern::checksum(lists.marked)
+    )?;
+    println!(rt;
+        " {} {}",
+        pattern::checksum(lists.marks),
+        pattern::checksum(lists.ends)
+    )?;
+    match reading {
+        Ok(lengths) => write_back(rt, lists, lengths),
+        Err(_) => Ok(()),
+    }
 }
 
 // Reads into tables that hold a known pattern.
@@ -312,7 +239,14 @@ fn read_in(
 ) -> io::Result<()> {
     fill(positions, cells, marked, marks, ends);
     let reading = read_short(archive, positions, cells, marked, marks, ends, short);
-    show_read(rt, reading, positions, cells, marked, marks, ends)
+    let lists = Lists {
+        positions,
+        cells,
+        marked,
+        marks,
+        ends,
+    };
+    show_read(rt, reading, lists)
 }
 
 fn try_read(rt: &impl Print, archive: &[u8], short: usize) -> io::Result<()> {
@@ -333,23 +267,15 @@ fn try_read(rt: &impl Print, archive: &[u8], short: usize) -> io::Result<()> {
     )
 }
 
-fn print_replayed(rt: &impl Print, replayed: Replayed) -> io::Result<()> {
-    match replayed {
-        Replayed::Done(size) => {
-            print::first(rt, 0)?;
-            print::two(rt, size.cells as u64, size.levels as u64)
-        }
-        Replayed::Refused(k) => {
-            print::first(rt, k as u64)?;
-            print::two(rt, 0, 0)
-        }
-    }
-}
-
-fn replay_short(archive: &[u8], table: &mut [u8], counts: &mut [u16], short: usize) -> Replayed {
+fn replay_short(
+    archive: &[u8],
+    table: &mut [u8],
+    counts: &mut [u16],
+    short: usize,
+) -> Result<Size, Refusal> {
     let t = pattern::lent(table.len(), short == 6);
     let c = pattern::lent(counts.len(), short == 7);
-    replay(archive, &mut table[0..t], &mut counts[0..c])
+    replay(archive, &mut table[..t], &mut counts[..c])
 }
 
 // Replays into tables that hold a known pattern, and prints the line.
@@ -360,16 +286,17 @@ fn replay_in(
     counts: &mut [u16],
     short: usize,
 ) -> io::Result<()> {
-    pattern::fill_bytes(table);
+    pattern::fill(table);
     pattern::fill(counts);
-    let replayed = replay_short(archive, table, counts, short);
-    print_replayed(rt, replayed)?;
-    print::two(
-        rt,
-        pattern::checksum_bytes(table),
-        pattern::checksum(counts),
-    )?;
-    print::end(rt)
+    match replay_short(archive, table, counts, short) {
+        Ok(size) => print!(rt; "0 {} {}", size.cells, size.levels)?,
+        Err(refusal) => print!(rt; "{} 0 0", refusal.number())?,
+    }
+    println!(rt;
+        " {} {}",
+        pattern::checksum(table),
+        pattern::checksum(counts)
+    )
 }
 
 fn try_replay(rt: &impl Print, archive: &[u8], short: usize) -> io::Result<()> {
@@ -386,16 +313,13 @@ fn try_archive(rt: &impl Print, archive: &[u8], short: usize) -> io::Result<()> 
 
 // Reads the bytes of an archive and tries the calls on it. False where the input ends or the archive is too long for the
 // program.
-fn next_archive(rt: &(impl Input + Print), case: Archive) -> io::Result<bool> {
+fn next_archive(rt: &(impl Input + Print), archive: Archive) -> io::Result<bool> {
     let mut bytes = [0u8; 70000];
-    let n = case.bytes;
-    if !input::read_bytes(rt, &mut bytes, n) {
+    let n = archive.bytes;
+    if !input::read_bytes(rt, &mut bytes, n) || n > bytes.len() {
         return Ok(false);
     }
-    if n > bytes.len() {
-        return Ok(false);
-    }
-    try_archive(rt, &bytes[0..n], case.short)?;
+    try_archive(rt, &bytes[..n], archive.short)?;
     Ok(true)
 }
 
@@ -410,19 +334,21 @@ fn read_job(
     ends: &mut [u16],
     job: Job,
 ) -> io::Result<bool> {
-    if !input::read_mesh(rt, room, positions, cells, job.positions, job.cells) {
+    if !input::read_mesh(rt, room, positions, cells, job.positions, job.cells)
+        || !input::read_list(rt, room, marked, job.marked)
+        || !input::read_bytes(rt, marks, job.marks)
+        || !input::read_list(rt, room, ends, job.ends)
+    {
         return Ok(false);
     }
-    if !input::read_cells(rt, room, marked, job.marked) {
-        return Ok(false);
-    }
-    if !input::read_bytes(rt, marks, job.marks) {
-        return Ok(false);
-    }
-    if !input::read_cells(rt, room, ends, job.ends) {
-        return Ok(false);
-    }
-    write_parts(rt, positions, cells, marked, marks, ends, job)
+    let lists = Lists {
+        positions,
+        cells,
+        marked,
+        marks,
+        ends,
+    };
+    write_front(rt, lists, job)
 }
 
 fn next_job(rt: &(impl Input + Print), job: Job) -> io::Result<bool> {
@@ -446,20 +372,18 @@ fn next_job(rt: &(impl Input + Print), job: Job) -> io::Result<bool> {
 
 fn next_case(rt: &(impl Input + Print)) -> io::Result<bool> {
     match read_header(rt) {
-        Next::Archive(archive) => next_archive(rt, archive),
-        Next::Job(job) => next_job(rt, job),
-        Next::End => Ok(false),
+        Some(Case::Archive(archive)) => next_archive(rt, archive),
+        Some(Case::Job(job)) => next_job(rt, job),
+        None => Ok(false),
     }
 }
 
 // A proved loop has to end, so the cases are counted.
 fn main(rt: HostRuntime) -> io::Result<()> {
-    let mut left = 1000000u64;
-    while left > 0 {
+    for _ in 0..1000000 {
         if !next_case(&rt)? {
             return Ok(());
         }
-        left -= 1;
     }
     Ok(())
 }

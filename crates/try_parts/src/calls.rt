@@ -1,13 +1,11 @@
-// The calls on the stores of one split, by the store's place in the table: each answers 0, a refusal's number, or one of the numbers
-// below. The contracts are short, so that the proofs above them are.
-ghost use Rattle.std.specs.Prelude.{◌<◌};
+// The calls on the stores of one split, by the store's place in the table. Each answers by a number, as the input does, which says which
+// answers a call may give: 0, a refusal's number, or one of the numbers below. The contracts are short, so that the proofs above them are.
+ghost use Rattle.std.specs.Prelude.{◌<◌, ◌≤◌, IfSome};
 
-use crate::print;
-use base::{MOST_CELLS, code};
-use held::{Listed, Progress};
-use merge::Merged;
+use base::{MOST_CELLS, Refusal, code};
+use held::Progress;
 use std::io;
-use store::{FULL, Fetched};
+use store::FULL;
 use trial::pattern;
 
 // There is nothing to give, to offer or to send.
@@ -18,31 +16,34 @@ pub const RUNNING: u8 = 20;
 
 pub const DONE: u8 = 30;
 
-pub fn start(stores: &mut [u16], at: u8, marks: &[u8], short: bool) -> u8 {
-    let from = FULL * (at as usize);
+// Where a store starts and ends in a table of so many numbers, lent short or not.
+fn ends_of(length: usize, at: u8, short: bool) -> Option<(usize, usize)>
+    ensures { IfSome result (λ r. (r.0 ≤ r.1) × (r.1 ≤ length)) }
+{
+    let from = FULL * usize::from(at);
     let to = from + pattern::lent(FULL, short);
-    if to > stores.len() {
-        return NONE;
+    if to <= length { Some((from, to)) } else { None }
+}
+
+pub fn start(stores: &mut [u16], at: u8, marks: &[u8], short: bool) -> u8 {
+    match ends_of(stores.len(), at, short) {
+        Some((from, to)) => code(turns::start(&mut stores[from..to], marks)),
+        None => NONE,
     }
-    code(turns::start(&mut stores[from..to], marks))
 }
 
 pub fn step(stores: &mut [u16], at: u8, short: bool) -> u8 {
-    let from = FULL * (at as usize);
-    let to = from + pattern::lent(FULL, short);
-    if to > stores.len() {
-        return NONE;
+    match ends_of(stores.len(), at, short) {
+        Some((from, to)) => code(partstep::part_step(&mut stores[from..to])),
+        None => NONE,
     }
-    code(partstep::part_step(&mut stores[from..to]))
 }
 
 pub fn hand(stores: &mut [u16], at: u8, bytes: &[u8], short: bool) -> u8 {
-    let from = FULL * (at as usize);
-    let to = from + pattern::lent(FULL, short);
-    if to > stores.len() {
-        return NONE;
+    match ends_of(stores.len(), at, short) {
+        Some((from, to)) => code(mail::hand(&mut stores[from..to], bytes)),
+        None => NONE,
     }
-    code(mail::hand(&mut stores[from..to], bytes))
 }
 
 // The first n bytes handed over.
@@ -50,70 +51,46 @@ pub fn hand_front(stores: &mut [u16], at: u8, bytes: &[u8], n: usize, short: boo
     if n > bytes.len() {
         return NONE;
     }
-    hand(stores, at, &bytes[0..n], short)
-}
-
-fn fetched(answer: Fetched) -> u8 {
-    match answer {
-        Fetched::Message(_) => 0,
-        Fetched::Nothing => NONE,
-        Fetched::Refused(k) => k,
-    }
-}
-
-fn length_of(answer: &Fetched) -> u8 {
-    match answer {
-        Fetched::Message(n) => (*n % 256) as u8,
-        Fetched::Nothing => 0,
-        Fetched::Refused(_) => 0,
-    }
+    hand(stores, at, &bytes[..n], short)
 }
 
 // Fetches a message: its length, then its bytes.
-pub fn fetch(stores: &mut [u16], at: u8, message: &mut [u8], short: bool) -> u8 {
-    let from = FULL * (at as usize);
-    let to = from + pattern::lent(FULL, short);
-    if to > stores.len() {
+pub fn fetch(stores: &mut [u16], at: u8, message: &mut [u8; 12], short: bool) -> u8 {
+    let Some((from, to)) = ends_of(stores.len(), at, short) else {
         return NONE;
-    }
-    if message.len() < 10 {
-        return NONE;
-    }
-    let answer = mail::fetch(&mut stores[from..to], &mut message[1..10]);
-    message[0] = length_of(&answer);
-    fetched(answer)
-}
-
-fn progress(answer: Progress) -> u8 {
-    match answer {
-        Progress::Running(_) => RUNNING,
-        Progress::Done => DONE,
-        Progress::Ended(k) => { if k == 8 { DONE + 8 } else { DONE + 9 } }
-        Progress::Refused(k) => k,
+    };
+    match mail::fetch(&mut stores[from..to], &mut message[1..10]) {
+        Ok(Some(n)) => {
+            message[0] = (n % 256) as u8;
+            0
+        },
+        Ok(None) => {
+            message[0] = 0;
+            NONE
+        },
+        Err(refusal) => {
+            message[0] = 0;
+            refusal.number()
+        },
     }
 }
 
 pub fn stage(stores: &[u16], at: u8, short: bool) -> u8 {
-    let from = FULL * (at as usize);
-    let to = from + pattern::lent(FULL, short);
-    if to > stores.len() {
+    let Some((from, to)) = ends_of(stores.len(), at, short) else {
         return NONE;
+    };
+    match held::stage(&stores[from..to]) {
+        Ok(Progress::Running(_)) => RUNNING,
+        Ok(Progress::Done) => DONE,
+        Ok(Progress::Ended(Refusal::TooHigh)) => DONE + 8,
+        Ok(Progress::Ended(_)) => DONE + 9,
+        Err(refusal) => refusal.number(),
     }
-    progress(held::stage(&stores[from..to]))
 }
 
 // Whether the part is done.
 pub fn is_done(stores: &[u16], at: u8) -> bool {
     stage(stores, at, false) >= DONE
-}
-
-fn held_in(stores: &[u16], at: u8, rows: &mut [u16], short: bool) -> Listed {
-    let from = FULL * (at as usize);
-    let to = from + pattern::lent(FULL, short);
-    if to > stores.len() {
-        return Listed::Refused(NONE);
-    }
-    held::held(&stores[from..to], rows)
 }
 
 fn square(x: u64) -> u64
@@ -123,108 +100,58 @@ fn square(x: u64) -> u64
     x * x
 }
 
-// A sum of the rows that does not depend on their order: that of the squares of their checksums.
-fn add_row(sum: u64, rows: &[u16], j: usize) -> u64 {
-    if j >= MOST_CELLS {
-        return sum;
-    }
-    let from = 14 * j;
-    if from + 14 > rows.len() {
-        return sum;
-    }
-    let row = pattern::checksum(&rows[from..from + 14]) % 2147483647;
-    (sum % 2147483647 + square(row)) % 2147483647
-}
-
-fn rows_sum(rows: &[u16], n: usize) -> u64 {
+// A sum of rows that does not depend on their order: that of the squares of their checksums.
+fn rows_sum(rows: &[[u16; 14]]) -> u64 {
     let mut sum = 0;
-    let mut j = 0;
-    while j < n {
-        sum = add_row(sum, rows, j);
-        j += 1;
+    for row in rows {
+        sum = (sum % 2147483647 + square(pattern::checksum(row) % 2147483647)) % 2147483647;
     }
     sum
 }
 
-// One more for a ghost.
-fn with_ghost(count: usize, rows: &[u16], j: usize) -> usize {
-    if j >= MOST_CELLS {
-        return count;
-    }
-    if 14 * j >= rows.len() {
-        return count;
-    }
-    if rows[14 * j] != 1 {
-        return count;
-    }
-    if count < MOST_CELLS { count + 1 } else { count }
-}
-
-fn ghosts(rows: &[u16], n: usize) -> usize {
-    let mut count = 0;
-    let mut j = 0;
-    while j < n {
-        count = with_ghost(count, rows, j);
-        j += 1;
-    }
-    count
-}
-
 // Prints how many a part holds, how many of them are ghosts, and the sum of the rows.
 fn print_rows(rt: &impl Print, rows: &[u16], n: usize) -> io::Result<u8> {
-    print::first(rt, n as u64)?;
-    print::number(rt, ghosts(rows, n) as u64)?;
-    print::number(rt, rows_sum(rows, n))?;
-    print::end(rt)?;
+    let (rows, _) = rows.as_chunks::<14>();
+    if n > MOST_CELLS || n > rows.len() {
+        return Ok(NONE);
+    }
+    let rows = &rows[..n];
+    let ghosts = rows.iter().filter(|row| row[0] == 1).count();
+    println!(rt; "{n} {ghosts} {}", rows_sum(rows))?;
     Ok(0)
 }
 
-fn print_listed(rt: &impl Print, answer: Listed, rows: &[u16]) -> io::Result<u8> {
-    match answer {
-        Listed::Rows(n) => print_rows(rt, rows, n),
-        Listed::Refused(k) => Ok(k),
-    }
-}
-
-fn held_with(
+fn held_in(
     rt: &impl Print,
     stores: &[u16],
     at: u8,
     rows: &mut [u16],
     short: bool,
 ) -> io::Result<u8> {
-    let answer = held_in(stores, at, rows, short);
-    print_listed(rt, answer, rows)
+    let Some((from, to)) = ends_of(stores.len(), at, short) else {
+        return Ok(NONE);
+    };
+    match held::held(&stores[from..to], rows) {
+        Ok(n) => print_rows(rt, rows, n),
+        Err(refusal) => Ok(refusal.number()),
+    }
 }
 
 // What a part holds; a line of it where the call is accepted.
 pub fn held(rt: &impl Print, stores: &[u16], at: u8, short: bool) -> io::Result<u8> {
     let mut rows = [0u16; 57344];
-    held_with(rt, stores, at, &mut rows, short)
-}
-
-fn merged(answer: &Merged) -> usize {
-    match answer {
-        Merged::Cells(n) => *n,
-        Merged::Refused(_) => 0,
-    }
-}
-
-fn merge_code(answer: Merged) -> u8 {
-    match answer {
-        Merged::Cells(_) => 0,
-        Merged::Refused(k) => k,
-    }
+    held_in(rt, stores, at, &mut rows, short)
 }
 
 fn merge_in(rt: &impl Print, stores: &[u16], table: &mut [u8], short: bool) -> io::Result<u8> {
     let n = pattern::lent(stores.len(), short);
-    pattern::fill_bytes(table);
-    let answer = merge::merge(&stores[0..n], table);
-    print::first(rt, merged(&answer) as u64)?;
-    print::number(rt, pattern::checksum_bytes(table))?;
-    print::end(rt)?;
-    Ok(merge_code(answer))
+    pattern::fill(table);
+    let (cells, answer) = match merge::merge(&stores[..n], table) {
+        Ok(cells) => (cells, 0),
+        Err(refusal) => (0, refusal.number()),
+    };
+    println!(rt; "{cells} {}", pattern::checksum(table))?;
+    Ok(answer)
 }
 
 // All stores merged; a line with how many cells there are, and a checksum of the whole lent table.
@@ -241,62 +168,38 @@ pub fn merge_short(rt: &impl Print, stores: &[u16]) -> io::Result<u8> {
 
 // A checksum of a store.
 pub fn sum(stores: &[u16], at: u8) -> u64 {
-    let from = FULL * (at as usize);
-    let to = from + FULL;
-    if to > stores.len() {
-        return 0;
+    match ends_of(stores.len(), at, false) {
+        Some((from, to)) => pattern::checksum(&stores[from..to]),
+        None => 0,
     }
-    pattern::checksum(&stores[from..to])
 }
 
 // Sets a number of a store.
 pub fn set(stores: &mut [u16], at: u8, offset: u32, value: u16) {
-    let k = FULL * (at as usize) + offset as usize;
+    let k = FULL * usize::from(at) + offset as usize;
     if k < stores.len() {
         stores[k] = value;
     }
 }
 
-fn swap_one(stores: &mut [u16], a: usize, b: usize) {
-    if a >= stores.len() {
-        return;
-    }
-    if b >= stores.len() {
-        return;
-    }
-    let x = stores[a];
-    stores[a] = stores[b];
-    stores[b] = x;
-}
-
 // Two stores change their places.
 pub fn swap(stores: &mut [u16], one: u8, other: u8) {
-    let a = FULL * (one as usize);
-    let b = FULL * (other as usize);
-    let mut i: usize = 0;
-    while i < FULL {
-        swap_one(stores, a + i, b + i);
-        i += 1;
+    let a = FULL * usize::from(one);
+    let b = FULL * usize::from(other);
+    for i in 0..FULL {
+        if a + i < stores.len() && b + i < stores.len() {
+            stores.swap(a + i, b + i);
+        }
     }
-}
-
-fn copy_one(stores: &mut [u16], a: usize, b: usize) {
-    if a >= stores.len() {
-        return;
-    }
-    if b >= stores.len() {
-        return;
-    }
-    stores[b] = stores[a];
 }
 
 // A store copied over another.
 pub fn copy(stores: &mut [u16], one: u8, other: u8) {
-    let a = FULL * (one as usize);
-    let b = FULL * (other as usize);
-    let mut i: usize = 0;
-    while i < FULL {
-        copy_one(stores, a + i, b + i);
-        i += 1;
+    let a = FULL * usize::from(one);
+    let b = FULL * usize::from(other);
+    for i in 0..FULL {
+        if a + i < stores.len() && b + i < stores.len() {
+            stores[b + i] = stores[a + i];
+        }
     }
 }

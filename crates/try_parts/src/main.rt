@@ -4,9 +4,9 @@
 
 mod calls;
 mod carrier;
-mod print;
 
 use crate::calls::NONE;
+use crate::carrier::Carrier;
 use base::code;
 use std::io;
 use trial::{input, pattern};
@@ -27,16 +27,55 @@ struct Header {
     calls: usize,
 }
 
+// What a call does.
 #[derive(Clone, Copy)]
-enum Next {
-    Case(Header),
-    End,
+enum What {
+    Start,
+    Step,
+    Fetch,
+    Next,
+    Early,
+    Again,
+    Damaged,
+    Hand,
+    Stage,
+    Held,
+    Merge,
+    MergeShort,
+    Swap,
+    Finish,
+    Copy,
+    Set,
+}
+
+// By its number in the input.
+fn what_of(number: u8) -> Option<What> {
+    match number {
+        1 => Some(What::Start),
+        2 => Some(What::Step),
+        3 => Some(What::Fetch),
+        4 => Some(What::Next),
+        5 => Some(What::Early),
+        6 => Some(What::Again),
+        7 => Some(What::Damaged),
+        8 => Some(What::Hand),
+        9 => Some(What::Stage),
+        10 => Some(What::Held),
+        11 => Some(What::Merge),
+        12 => Some(What::MergeShort),
+        13 => Some(What::Swap),
+        14 => Some(What::Finish),
+        15 => Some(What::Copy),
+        16 => Some(What::Set),
+        _ => None,
+    }
 }
 
 // A call on the stores.
 #[derive(Clone, Copy)]
 struct Call {
-    what: u8,
+    // None where the input ends, or at a number that is no call's.
+    what: Option<What>,
     // The store that it is on.
     at: u8,
     // Sender and receiver of a message.
@@ -62,15 +101,12 @@ struct Tally {
     changed: u8,
 }
 
-fn read_header(rt: &impl Input) -> Next {
+fn read_header(rt: &impl Input) -> Option<Header> {
     let mut bytes = [0u8; 14];
-    if !input::read_all(rt, &mut bytes) {
-        return Next::End;
+    if !input::read_all(rt, &mut bytes) || input::number(&bytes, 0) == 65535 {
+        return None;
     }
-    if input::number(&bytes, 0) == 65535 {
-        return Next::End;
-    }
-    Next::Case(Header {
+    Some(Header {
         positions: input::number(&bytes, 0),
         cells: input::number(&bytes, 1),
         status: input::number(&bytes, 2),
@@ -81,13 +117,13 @@ fn read_header(rt: &impl Input) -> Next {
     })
 }
 
-// Reads a call; what is 0 where the input ends.
+// Reads a call.
 fn read_call(rt: &impl Input) -> Call {
     let mut bytes = [0u8; 10];
     let read = input::read_all(rt, &mut bytes);
     let flags = bytes[8];
     Call {
-        what: if read { bytes[0] } else { 0 },
+        what: if read { what_of(bytes[0]) } else { None },
         at: bytes[1],
         from: bytes[2],
         to: bytes[3],
@@ -102,14 +138,11 @@ fn read_call(rt: &impl Input) -> Call {
 }
 
 fn start_with(rt: &impl Input, stores: &mut [u16], call: Call, marks: &mut [u8]) -> u8 {
-    let n = call.low as usize + 256 * (call.high as usize);
-    if !input::read_bytes(rt, marks, n) {
+    let n = usize::from(u16::from_le_bytes([call.low, call.high]));
+    if !input::read_bytes(rt, marks, n) || n > marks.len() {
         return NONE;
     }
-    if n > marks.len() {
-        return NONE;
-    }
-    calls::start(stores, call.at, &marks[0..n], call.short)
+    calls::start(stores, call.at, &marks[..n], call.short)
 }
 
 // A start; its marks follow in the input.
@@ -119,7 +152,7 @@ fn start(rt: &impl Input, stores: &mut [u16], call: Call) -> u8 {
 }
 
 fn hand_with(rt: &impl Input, stores: &mut [u16], call: Call, bytes: &mut [u8]) -> u8 {
-    let n = call.low as usize;
+    let n = usize::from(call.low);
     if !input::read_bytes(rt, bytes, n) {
         return NONE;
     }
@@ -132,146 +165,68 @@ fn hand(rt: &impl Input, stores: &mut [u16], call: Call) -> u8 {
     hand_with(rt, stores, call, &mut bytes)
 }
 
-// A call that the carrier makes.
-fn carried(
-    stores: &mut [u16],
-    queue: &mut [u8],
-    counts: &mut [u8],
-    last: &mut [u8],
-    call: Call,
-) -> u8 {
-    let short = call.short;
-    if call.what == 3 {
-        return carrier::fetch(stores, queue, counts, call.at, short);
-    }
-    if call.what == 4 {
-        return carrier::next(stores, queue, counts, last, call.from, call.to, short);
-    }
-    if call.what == 5 {
-        return carrier::early(
-            stores, queue, counts, call.from, call.to, call.low, call.at, short,
-        );
-    }
-    if call.what == 6 {
-        return carrier::again(stores, last, call.from, call.to, call.at, short);
-    }
-    if call.what == 7 {
-        return carrier::damaged(
-            stores, queue, counts, call.from, call.to, call.low, call.high, short,
-        );
-    }
-    if call.what == 14 {
-        return carrier::finish(stores, queue, counts, last, call.to);
-    }
-    NONE
-}
-
-// A call that only reads, or one that the test makes beside them.
-fn beside(rt: &impl Print, stores: &mut [u16], call: Call) -> io::Result<u8> {
-    if call.what == 9 {
-        return Ok(calls::stage(stores, call.at, call.short));
-    }
-    if call.what == 10 {
-        return calls::held(rt, stores, call.at, call.short);
-    }
-    if call.what == 11 {
-        return calls::merge(rt, stores, call.short);
-    }
-    if call.what == 12 {
-        return calls::merge_short(rt, stores);
-    }
-    if call.what == 13 {
-        calls::swap(stores, call.from, call.to);
-        return Ok(0);
-    }
-    if call.what == 15 {
-        calls::copy(stores, call.from, call.to);
-        return Ok(0);
-    }
-    if call.what == 16 {
-        let offset = call.low as u32 + 256 * (call.high as u32) + 65536 * (call.to as u32);
-        calls::set(
-            stores,
-            call.at,
-            offset,
-            call.one as u16 + 256 * (call.other as u16),
-        );
-        return Ok(0);
-    }
-    Ok(NONE)
-}
-
 fn make(
     rt: &(impl Input + Print),
     stores: &mut [u16],
-    queue: &mut [u8],
-    counts: &mut [u8],
-    last: &mut [u8],
+    carrier: &mut Carrier,
     call: Call,
 ) -> io::Result<u8> {
-    if call.what == 1 {
-        return Ok(start(rt, stores, call));
+    let short = call.short;
+    let Some(what) = call.what else {
+        return Ok(NONE);
+    };
+    match what {
+        What::Start => Ok(start(rt, stores, call)),
+        What::Step => Ok(calls::step(stores, call.at, short)),
+        What::Fetch => Ok(carrier.fetch(stores, call.at, short)),
+        What::Next => Ok(carrier.next(stores, call.from, call.to, short)),
+        What::Early => Ok(carrier.early(stores, call.from, call.to, call.low, call.at, short)),
+        What::Again => Ok(carrier.again(stores, call.from, call.to, call.at, short)),
+        What::Damaged => Ok(carrier.damaged(
+            stores, call.from, call.to, call.low, call.high, short,
+        )),
+        What::Hand => Ok(hand(rt, stores, call)),
+        What::Stage => Ok(calls::stage(stores, call.at, short)),
+        What::Held => calls::held(rt, stores, call.at, short),
+        What::Merge => calls::merge(rt, stores, short),
+        What::MergeShort => calls::merge_short(rt, stores),
+        What::Swap => {
+            calls::swap(stores, call.from, call.to);
+            Ok(0)
+        },
+        What::Finish => Ok(carrier.finish(stores, call.to)),
+        What::Copy => {
+            calls::copy(stores, call.from, call.to);
+            Ok(0)
+        },
+        What::Set => {
+            let offset = u32::from_le_bytes([call.low, call.high, call.to, 0]);
+            let value = u16::from_le_bytes([call.one, call.other]);
+            calls::set(stores, call.at, offset, value);
+            Ok(0)
+        },
     }
-    if call.what == 2 {
-        return Ok(calls::step(stores, call.at, call.short));
-    }
-    if call.what == 8 {
-        return Ok(hand(rt, stores, call));
-    }
-    if call.what >= 9 {
-        if call.what != 14 {
-            return beside(rt, stores, call);
-        }
-    }
-    Ok(carried(stores, queue, counts, last, call))
 }
 
 fn is_refusal(answer: u8) -> bool {
-    if answer == 0 {
-        return false;
-    }
-    answer < calls::RUNNING
+    answer != 0 && answer < calls::RUNNING
 }
 
 fn is_wrong(call: Call, answer: u8) -> bool {
-    if answer == NONE {
-        return false;
-    }
-    if answer == call.one {
-        return false;
-    }
-    answer != call.other
-}
-
-fn more(n: u8) -> u8 {
-    if n < 255 { n + 1 } else { n }
+    answer != NONE && answer != call.one && answer != call.other
 }
 
 // Prints a line, or counts.
 fn tell(rt: &impl Print, call: Call, answer: u8, same: bool, tally: Tally) -> io::Result<Tally> {
     if call.told {
-        print::first(rt, answer as u64)?;
-        print::number(rt, if same { 1 } else { 0 })?;
-        print::end(rt)?;
+        println!(rt; "{answer} {}", u8::from(same))?;
         return Ok(tally);
     }
-    let wrong = if is_wrong(call, answer) {
-        more(tally.wrong)
-    } else {
-        tally.wrong
-    };
-    if same {
-        return Ok(Tally {
-            wrong,
-            changed: tally.changed,
-        });
-    }
-    let changed = if is_refusal(answer) {
-        more(tally.changed)
-    } else {
-        tally.changed
-    };
-    Ok(Tally { wrong, changed })
+    let changed = !same && is_refusal(answer);
+    Ok(Tally {
+        wrong: tally.wrong.saturating_add(u8::from(is_wrong(call, answer))),
+        changed: tally.changed.saturating_add(u8::from(changed)),
+    })
 }
 
 fn sum_if(stores: &[u16], at: u8, compared: bool) -> u64 {
@@ -281,147 +236,84 @@ fn sum_if(stores: &[u16], at: u8, compared: bool) -> u64 {
 fn next_call(
     rt: &(impl Input + Print),
     stores: &mut [u16],
-    queue: &mut [u8],
-    counts: &mut [u8],
-    last: &mut [u8],
+    carrier: &mut Carrier,
     tally: Tally,
 ) -> io::Result<Tally> {
     let call = read_call(rt);
     let before = sum_if(stores, call.at, call.compared);
-    let answer = make(rt, stores, queue, counts, last, call)?;
+    let answer = make(rt, stores, carrier, call)?;
     let after = sum_if(stores, call.at, call.compared);
     tell(rt, call, answer, before == after, tally)
 }
 
-fn print_tally(rt: &impl Print, tally: Tally) -> io::Result<()> {
-    print::first(rt, tally.wrong as u64)?;
-    print::number(rt, tally.changed as u64)?;
-    print::end(rt)
-}
-
-fn all_calls(
-    rt: &(impl Input + Print),
-    stores: &mut [u16],
-    queue: &mut [u8],
-    counts: &mut [u8],
-    last: &mut [u8],
-    n: usize,
-) -> io::Result<()> {
+// The n calls of a case, with nothing carried yet.
+fn exchange(rt: &(impl Input + Print), stores: &mut [u16], n: usize) -> io::Result<()> {
+    let mut carrier = Carrier::new();
     let mut tally = Tally {
         wrong: 0,
         changed: 0,
     };
-    let mut done = 0;
-    while done < n {
-        tally = next_call(rt, stores, queue, counts, last, tally)?;
-        done += 1;
+    for _ in 0..n {
+        tally = next_call(rt, stores, &mut carrier, tally)?;
     }
-    print_tally(rt, tally)
+    println!(rt; "{} {}", tally.wrong, tally.changed)
 }
 
-// The calls of a case, with nothing carried yet.
-fn exchange(rt: &(impl Input + Print), stores: &mut [u16], n: usize) -> io::Result<()> {
-    let mut queue = [0u8; 30720];
-    let mut counts = [0u8; 256];
-    let mut last = [0u8; 2560];
-    all_calls(rt, stores, &mut queue, &mut counts, &mut last, n)
+// A mesh and a table, and who owns what.
+#[derive(Clone, Copy)]
+struct Lists<'a> {
+    positions: &'a [i32],
+    cells: &'a [u16],
+    status: &'a [u8],
+    owners: &'a [u8],
 }
 
-// The split. This function's contract is short, so that the proofs above it are.
-fn split_once(
-    positions: &[i32],
-    cells: &[u16],
-    status: &[u8],
-    parts: usize,
-    owners: &[u8],
-    stores: &mut [u16],
-) -> u8 {
-    code(divide::split(positions, cells, status, parts, owners, stores))
-}
-
-fn split_in(
-    positions: &[i32],
-    cells: &[u16],
-    status: &[u8],
-    parts: usize,
-    owners: &[u8],
-    stores: &mut [u16],
-    short: bool,
-) -> u8 {
+// The split, with the table of stores lent short or not. This function's contract is short, so that the proofs above it are.
+fn split(lists: Lists, parts: usize, stores: &mut [u16], short: bool) -> u8 {
     let n = pattern::lent(stores.len(), short);
-    split_once(positions, cells, status, parts, owners, &mut stores[0..n])
-}
-
-fn same_sums(stores: &[u16], one: u64, two: u64) -> bool {
-    if one != calls::sum(stores, 0) {
-        return false;
-    }
-    two == calls::sum(stores, 1)
+    code(divide::split(
+        lists.positions,
+        lists.cells,
+        lists.status,
+        parts,
+        lists.owners,
+        &mut stores[..n],
+    ))
 }
 
 // Splits, and prints the answer and whether a refusal left the stores of the first two parts as they were.
-fn split_told(
-    rt: &impl Print,
-    positions: &[i32],
-    cells: &[u16],
-    status: &[u8],
-    owners: &[u8],
-    stores: &mut [u16],
-    case: Header,
-) -> io::Result<()> {
-    let one = calls::sum(stores, 0);
-    let two = calls::sum(stores, 1);
-    let answer = split_in(
-        positions, cells, status, case.parts, owners, stores, case.short,
-    );
-    print::first(rt, answer as u64)?;
-    let same = same_sums(stores, one, two);
-    print::number(
-        rt,
-        if answer == 0 {
-            0
-        } else {
-            if same { 1 } else { 0 }
-        },
-    )?;
-    print::end(rt)
+fn split_told(rt: &impl Print, lists: Lists, stores: &mut [u16], header: Header) -> io::Result<()> {
+    let before = (calls::sum(stores, 0), calls::sum(stores, 1));
+    let answer = split(lists, header.parts, stores, header.short);
+    let same = before == (calls::sum(stores, 0), calls::sum(stores, 1));
+    println!(rt; "{answer} {}", u8::from(answer != 0 && same))
 }
 
 // A case whose lists are the first places of the given ones. False where one is too short.
 fn split_front(
     rt: &impl Print,
-    positions: &[i32],
-    cells: &[u16],
-    status: &[u8],
-    owners: &[u8],
+    lists: Lists,
     stores: &mut [u16],
-    case: Header,
+    header: Header,
 ) -> io::Result<bool> {
-    let p = case.positions;
-    let c = case.cells;
-    let s = case.status;
-    let o = case.owners;
-    if p > positions.len() {
+    let p = header.positions;
+    let c = header.cells;
+    let s = header.status;
+    let o = header.owners;
+    if p > lists.positions.len()
+        || c > lists.cells.len()
+        || s > lists.status.len()
+        || o > lists.owners.len()
+    {
         return Ok(false);
     }
-    if c > cells.len() {
-        return Ok(false);
-    }
-    if s > status.len() {
-        return Ok(false);
-    }
-    if o > owners.len() {
-        return Ok(false);
-    }
-    split_told(
-        rt,
-        &positions[0..p],
-        &cells[0..c],
-        &status[0..s],
-        &owners[0..o],
-        stores,
-        case,
-    )?;
+    let front = Lists {
+        positions: &lists.positions[..p],
+        cells: &lists.cells[..c],
+        status: &lists.status[..s],
+        owners: &lists.owners[..o],
+    };
+    split_told(rt, front, stores, header)?;
     Ok(true)
 }
 
@@ -433,22 +325,25 @@ fn read_case(
     status: &mut [u8],
     owners: &mut [u8],
     stores: &mut [u16],
-    case: Header,
+    header: Header,
 ) -> io::Result<bool> {
-    if !input::read_mesh(rt, room, positions, cells, case.positions, case.cells) {
+    if !input::read_mesh(rt, room, positions, cells, header.positions, header.cells)
+        || !input::read_bytes(rt, status, header.status)
+        || !input::read_bytes(rt, owners, header.owners)
+    {
         return Ok(false);
     }
-    if !input::read_bytes(rt, status, case.status) {
-        return Ok(false);
-    }
-    if !input::read_bytes(rt, owners, case.owners) {
-        return Ok(false);
-    }
-    split_front(rt, positions, cells, status, owners, stores, case)
+    let lists = Lists {
+        positions,
+        cells,
+        status,
+        owners,
+    };
+    split_front(rt, lists, stores, header)
 }
 
 // Reads what follows a header and splits. False where the input ends or a length is above the program's limits.
-fn split_case(rt: &(impl Input + Print), stores: &mut [u16], case: Header) -> io::Result<bool> {
+fn split_case(rt: &(impl Input + Print), stores: &mut [u16], header: Header) -> io::Result<bool> {
     let mut room = [0u8; 8000];
     let mut positions = [0i32; 2000];
     let mut cells = [0u16; 2000];
@@ -462,33 +357,27 @@ fn split_case(rt: &(impl Input + Print), stores: &mut [u16], case: Header) -> io
         &mut status,
         &mut owners,
         stores,
-        case,
+        header,
     )
 }
 
-fn case_of(rt: &(impl Input + Print), stores: &mut [u16], case: Header) -> io::Result<bool> {
-    if !split_case(rt, stores, case)? {
+fn next_case(rt: &(impl Input + Print), stores: &mut [u16]) -> io::Result<bool> {
+    let Some(header) = read_header(rt) else {
+        return Ok(false);
+    };
+    if !split_case(rt, stores, header)? {
         return Ok(false);
     }
-    exchange(rt, stores, case.calls)?;
+    exchange(rt, stores, header.calls)?;
     Ok(true)
-}
-
-fn next_case(rt: &(impl Input + Print), stores: &mut [u16]) -> io::Result<bool> {
-    match read_header(rt) {
-        Next::Case(case) => case_of(rt, stores, case),
-        Next::End => Ok(false),
-    }
 }
 
 // A proved loop has to end, so the cases are counted.
 fn all_cases(rt: &(impl Input + Print), stores: &mut [u16]) -> io::Result<()> {
-    let mut left = 1000000u64;
-    while left > 0 {
+    for _ in 0..1000000 {
         if !next_case(rt, stores)? {
             return Ok(());
         }
-        left -= 1;
     }
     Ok(())
 }

@@ -2,10 +2,8 @@
 // The input is made by independent/src/bin/step_cases.rs, and so are the lines that are expected.
 #![tactic(auto)]
 
-mod print;
-
+use base::Refusal;
 use std::io;
-use step::Stepped;
 use trial::{input, layouts, pattern};
 
 // What a case begins with.
@@ -22,20 +20,17 @@ struct Header {
 }
 
 #[derive(Clone, Copy)]
-enum Next {
-    Case(Header),
-    End,
+struct Mesh<'a> {
+    positions: &'a [i32],
+    cells: &'a [u16],
 }
 
-fn read_header(rt: &impl Input) -> Next {
+fn read_header(rt: &impl Input) -> Option<Header> {
     let mut bytes = [0u8; 10];
-    if !input::read_all(rt, &mut bytes) {
-        return Next::End;
+    if !input::read_all(rt, &mut bytes) || input::number(&bytes, 0) == 65535 {
+        return None;
     }
-    if input::number(&bytes, 0) == 65535 {
-        return Next::End;
-    }
-    Next::Case(Header {
+    Some(Header {
         positions: input::number(&bytes, 0),
         cells: input::number(&bytes, 1),
         status: input::number(&bytes, 2),
@@ -45,147 +40,73 @@ fn read_header(rt: &impl Input) -> Next {
 }
 
 // The step. This function's contract is short, so that the proofs above it are.
-fn step_once(
-    positions: &[i32],
-    cells: &[u16],
-    status: &[u8],
-    marks: &[u8],
-    table: &mut [u8],
-) -> Stepped {
-    step::step(positions, cells, status, marks, table)
+fn step_once(mesh: Mesh, status: &[u8], marks: &[u8], table: &mut [u8]) -> Result<usize, Refusal> {
+    step::step(mesh.positions, mesh.cells, status, marks, table)
 }
 
 // The step, made as often as asked.
 fn step_often(
-    positions: &[i32],
-    cells: &[u16],
+    mesh: Mesh,
     status: &[u8],
     marks: &[u8],
     table: &mut [u8],
     repeat: usize,
-) -> Stepped {
-    let mut stepped = step_once(positions, cells, status, marks, table);
-    let mut done = 1;
-    while done < repeat {
-        stepped = step_once(positions, cells, status, marks, table);
-        done += 1;
+) -> Result<usize, Refusal> {
+    let mut stepped = step_once(mesh, status, marks, table);
+    for _ in 1..repeat {
+        stepped = step_once(mesh, status, marks, table);
     }
     stepped
 }
 
-// The step with the table lent short, or not.
-fn step_in(
-    positions: &[i32],
-    cells: &[u16],
-    status: &[u8],
-    marks: &[u8],
-    table: &mut [u8],
-    short: bool,
-    repeat: usize,
-) -> Stepped {
-    let n = pattern::lent(table.len(), short);
-    step_often(positions, cells, status, marks, &mut table[0..n], repeat)
-}
-
-fn print_stepped(rt: &impl Print, stepped: &Stepped) -> io::Result<()> {
+fn print_stepped(rt: &impl Print, stepped: Result<usize, Refusal>) -> io::Result<()> {
     match stepped {
-        Stepped::Cells(n) => {
-            print::first(rt, 0)?;
-            print::number(rt, *n as u64)
-        }
-        Stepped::Refused(k) => {
-            print::first(rt, *k as u64)?;
-            print::number(rt, 0)
-        }
+        Ok(cells) => print!(rt; "0 {cells}"),
+        Err(refusal) => print!(rt; "{} 0", refusal.number()),
     }
 }
 
 fn lay_out_in(
     rt: &impl Print,
-    positions: &[i32],
-    cells: &[u16],
+    mesh: Mesh,
     status: &[u8],
     table: &mut [u16],
     ends: &mut [u16],
     sums: &mut [i32],
 ) -> io::Result<()> {
     layouts::fill(table, ends, sums);
-    let laid = layouts::lay_out(positions, cells, status, table, ends, sums);
-    print::layout(rt, layouts::sum_up(laid, table, ends, sums))
+    let laid = layouts::lay_out(mesh.positions, mesh.cells, status, table, ends, sums);
+    print!(rt; " {}", layouts::sum_up(laid, table, ends, sums))
 }
 
 // Prints the layout of a table that a step left.
-fn print_layout(
-    rt: &impl Print,
-    positions: &[i32],
-    cells: &[u16],
-    status: &[u8],
-) -> io::Result<()> {
+fn print_layout(rt: &impl Print, mesh: Mesh, status: &[u8]) -> io::Result<()> {
     let mut table = [0u16; 32768];
     let mut ends = [0u16; 32768];
     let mut sums = [0i32; 49152];
-    lay_out_in(
-        rt, positions, cells, status, &mut table, &mut ends, &mut sums,
-    )
+    lay_out_in(rt, mesh, status, &mut table, &mut ends, &mut sums)
 }
 
-// Copies the first n places. False where a list is shorter.
-fn copy(from: &[u8], to: &mut [u8], n: usize) -> bool {
-    let mut i = 0;
-    while i < n {
-        if i >= from.len() {
-            return false;
-        }
-        if i >= to.len() {
-            return false;
-        }
-        to[i] = from[i];
-        i += 1;
-    }
-    true
-}
-
-// Takes the table that a step left as the statuses, and prints its layout. How many cells there are.
+// Takes the first n places of the table that a step left as the statuses, and prints its layout.
 fn take_over(
     rt: &impl Print,
-    positions: &[i32],
-    cells: &[u16],
+    mesh: Mesh,
     status: &mut [u8],
     table: &[u8],
     n: usize,
-) -> io::Result<usize> {
-    if !copy(table, status, n) {
-        return Ok(n);
+) -> io::Result<()> {
+    if n > table.len() || n > status.len() {
+        return Ok(());
     }
-    if n > status.len() {
-        return Ok(n);
-    }
-    print_layout(rt, positions, cells, &status[0..n])?;
-    Ok(n)
-}
-
-// Goes on with the new table, or after a refused step with the old.
-fn go_on(
-    rt: &impl Print,
-    positions: &[i32],
-    cells: &[u16],
-    status: &mut [u8],
-    table: &[u8],
-    stepped: Stepped,
-    count: usize,
-) -> io::Result<usize> {
-    match stepped {
-        Stepped::Cells(n) => take_over(rt, positions, cells, status, table, n),
-        Stepped::Refused(_) => Ok(count),
-    }
+    base::copy_front(table, n, status);
+    print_layout(rt, mesh, &status[..n])
 }
 
 // Makes a step from the first places of status, in a table that holds a known pattern, and prints its line. The statuses after
-// it stand in the first places again; the answer is how many they are.
+// it stand in the first places again, or after a refused step the old; the answer is how many they are.
 fn try_step(
     rt: &impl Print,
-    positions: &[i32],
-    cells: &[u16],
+    mesh: Mesh,
     status: &mut [u8],
     count: usize,
     marks: &[u8],
@@ -196,28 +117,22 @@ fn try_step(
     if count > status.len() {
         return Ok(count);
     }
-    pattern::fill_bytes(table);
-    let stepped = step_in(
-        positions,
-        cells,
-        &status[0..count],
-        marks,
-        table,
-        short,
-        repeat,
-    );
-    print_stepped(rt, &stepped)?;
-    print::number(rt, pattern::checksum_bytes(table))?;
-    let after = go_on(rt, positions, cells, status, table, stepped, count)?;
-    print::end(rt)?;
-    Ok(after)
+    pattern::fill(table);
+    let n = pattern::lent(table.len(), short);
+    let stepped = step_often(mesh, &status[..count], marks, &mut table[..n], repeat);
+    print_stepped(rt, stepped)?;
+    print!(rt; " {}", pattern::checksum(table))?;
+    if let Ok(cells) = stepped {
+        take_over(rt, mesh, status, table, cells)?;
+    }
+    println!(rt; "")?;
+    Ok(stepped.unwrap_or(count))
 }
 
 // Reads the marks of a step, and makes it.
 fn next_step(
     rt: &(impl Input + Print),
-    positions: &[i32],
-    cells: &[u16],
+    mesh: Mesh,
     status: &mut [u8],
     count: usize,
     marks: &mut [u8],
@@ -231,81 +146,56 @@ fn next_step(
     }
     let n = input::number(&bytes, 0);
     let short = input::number(&bytes, 1) == 1;
-    if !input::read_bytes(rt, marks, n) {
+    if !input::read_bytes(rt, marks, n) || n > marks.len() {
         return Ok(count);
     }
-    if n > marks.len() {
-        return Ok(count);
-    }
-    try_step(
-        rt,
-        positions,
-        cells,
-        status,
-        count,
-        &marks[0..n],
-        table,
-        short,
-        repeat,
-    )
+    try_step(rt, mesh, status, count, &marks[..n], table, short, repeat)
 }
 
 fn all_steps(
     rt: &(impl Input + Print),
-    positions: &[i32],
-    cells: &[u16],
+    mesh: Mesh,
     status: &mut [u8],
     marks: &mut [u8],
     table: &mut [u8],
-    case: Header,
+    header: Header,
 ) -> io::Result<()> {
-    let mut count = case.status;
-    let mut done = 0;
-    while done < case.steps {
-        count = next_step(
-            rt,
-            positions,
-            cells,
-            status,
-            count,
-            marks,
-            table,
-            case.repeat,
-        )?;
-        done += 1;
+    let mut count = header.status;
+    for _ in 0..header.steps {
+        count = next_step(rt, mesh, status, count, marks, table, header.repeat)?;
     }
     Ok(())
 }
 
 fn try_case(
     rt: &(impl Input + Print),
-    positions: &[i32],
-    cells: &[u16],
+    mesh: Mesh,
     status: &mut [u8],
-    case: Header,
+    header: Header,
 ) -> io::Result<()> {
     let mut marks = [0u8; 5000];
     let mut table = [0u8; 4096];
-    all_steps(rt, positions, cells, status, &mut marks, &mut table, case)
+    all_steps(rt, mesh, status, &mut marks, &mut table, header)
 }
 
 // A case whose mesh is the first places of the given lists. False where one is too short.
-fn try_parts(
+fn try_front(
     rt: &(impl Input + Print),
     positions: &[i32],
     cells: &[u16],
     status: &mut [u8],
-    case: Header,
+    header: Header,
 ) -> io::Result<bool> {
-    let p = case.positions;
-    let c = case.cells;
-    if p > positions.len() {
+    let p = header.positions;
+    let c = header.cells;
+    if p > positions.len() || c > cells.len() {
         return Ok(false);
     }
-    if c > cells.len() {
-        return Ok(false);
-    }
-    try_case(rt, &positions[0..p], &cells[0..c], status, case)?;
+    let mesh = Mesh {
+        positions: &positions[..p],
+        cells: &cells[..c],
+    };
+    try_case(rt, mesh, status, header)?;
     Ok(true)
 }
 
@@ -316,40 +206,40 @@ fn read_case(
     positions: &mut [i32],
     cells: &mut [u16],
     status: &mut [u8],
-    case: Header,
+    header: Header,
 ) -> io::Result<bool> {
-    if !input::read_mesh(rt, room, positions, cells, case.positions, case.cells) {
+    if !input::read_mesh(rt, room, positions, cells, header.positions, header.cells)
+        || !input::read_bytes(rt, status, header.status)
+    {
         return Ok(false);
     }
-    if !input::read_bytes(rt, status, case.status) {
-        return Ok(false);
-    }
-    try_parts(rt, positions, cells, status, case)
+    try_front(rt, positions, cells, status, header)
 }
 
-fn case_of(rt: &(impl Input + Print), case: Header) -> io::Result<bool> {
+fn next_case(rt: &(impl Input + Print)) -> io::Result<bool> {
+    let Some(header) = read_header(rt) else {
+        return Ok(false);
+    };
     let mut room = [0u8; 8000];
     let mut positions = [0i32; 2000];
     let mut cells = [0u16; 2000];
     let mut status = [0u8; 5000];
-    read_case(rt, &mut room, &mut positions, &mut cells, &mut status, case)
-}
-
-fn next_case(rt: &(impl Input + Print)) -> io::Result<bool> {
-    match read_header(rt) {
-        Next::Case(case) => case_of(rt, case),
-        Next::End => Ok(false),
-    }
+    read_case(
+        rt,
+        &mut room,
+        &mut positions,
+        &mut cells,
+        &mut status,
+        header,
+    )
 }
 
 // A proved loop has to end, so the cases are counted.
 fn main(rt: HostRuntime) -> io::Result<()> {
-    let mut left = 1000000u64;
-    while left > 0 {
+    for _ in 0..1000000 {
         if !next_case(&rt)? {
             return Ok(());
         }
-        left -= 1;
     }
     Ok(())
 }

@@ -4,9 +4,9 @@
 
 mod print;
 
-use layout::Laid;
-use position::Position;
-use queries::Counted;
+use base::{Refusal, code};
+use layout::Sizes;
+use position::Point;
 use std::io;
 use trial::{input, layouts, pattern};
 
@@ -26,21 +26,21 @@ struct Header {
     repeat: usize,
 }
 
+// A case: a mesh and a table, and what is asked of them.
 #[derive(Clone, Copy)]
-enum Next {
-    Case(Header),
-    End,
+struct Case<'a> {
+    positions: &'a [i32],
+    cells: &'a [u16],
+    status: &'a [u8],
+    header: Header,
 }
 
-fn read_header(rt: &impl Input) -> Next {
+fn read_header(rt: &impl Input) -> Option<Header> {
     let mut bytes = [0u8; 14];
-    if !input::read_all(rt, &mut bytes) {
-        return Next::End;
+    if !input::read_all(rt, &mut bytes) || input::number(&bytes, 0) == 65535 {
+        return None;
     }
-    if input::number(&bytes, 0) == 65535 {
-        return Next::End;
-    }
-    Next::Case(Header {
+    Some(Header {
         positions: input::number(&bytes, 0),
         cells: input::number(&bytes, 1),
         status: input::number(&bytes, 2),
@@ -53,167 +53,112 @@ fn read_header(rt: &impl Input) -> Next {
 
 // The layout, made as often as asked.
 fn lay_out(
-    positions: &[i32],
-    cells: &[u16],
-    status: &[u8],
+    case: Case,
     table: &mut [u16],
     ends: &mut [u16],
     sums: &mut [i32],
-    repeat: usize,
-) -> Laid {
-    let mut laid = layouts::lay_out(positions, cells, status, table, ends, sums);
-    let mut done = 1;
-    while done < repeat {
-        laid = layouts::lay_out(positions, cells, status, table, ends, sums);
-        done += 1;
+) -> Result<Sizes, Refusal> {
+    let mut laid = layouts::lay_out(case.positions, case.cells, case.status, table, ends, sums);
+    for _ in 1..case.header.repeat {
+        laid = layouts::lay_out(case.positions, case.cells, case.status, table, ends, sums);
     }
     laid
 }
 
 // The layout with one of the tables 1, 2, 3 lent short, or none.
 fn lay_out_in(
-    positions: &[i32],
-    cells: &[u16],
-    status: &[u8],
+    case: Case,
     table: &mut [u16],
     ends: &mut [u16],
     sums: &mut [i32],
-    case: Header,
-) -> Laid {
-    let t = pattern::lent(table.len(), case.short == 1);
-    let e = pattern::lent(ends.len(), case.short == 2);
-    let s = pattern::lent(sums.len(), case.short == 3);
-    lay_out(
-        positions,
-        cells,
-        status,
-        &mut table[0..t],
-        &mut ends[0..e],
-        &mut sums[0..s],
-        case.repeat,
-    )
+) -> Result<Sizes, Refusal> {
+    let t = pattern::lent(table.len(), case.header.short == 1);
+    let e = pattern::lent(ends.len(), case.header.short == 2);
+    let s = pattern::lent(sums.len(), case.header.short == 3);
+    lay_out(case, &mut table[..t], &mut ends[..e], &mut sums[..s])
 }
 
-// How many corners there are; where nothing was laid out, any number of them.
-fn corners_of(laid: &Laid) -> usize {
-    match laid {
-        Laid::Out(sizes) => sizes.corners,
-        Laid::Refused(_) => 65535,
-    }
-}
-
-// The position of the corner asked for; table 3 may be lent short.
-fn position_in(sums: &[i32], corners: usize, case: Header) -> Position {
-    let s = pattern::lent(sums.len(), case.short == 3);
-    position::position_of(&sums[0..s], corners, case.corner)
+// The position of the corner asked for; table 3 may be lent short. Where nothing was laid out, any number of corners will do.
+fn position_in(
+    sums: &[i32],
+    laid: Result<Sizes, Refusal>,
+    header: Header,
+) -> Result<Point, Refusal> {
+    let corners = match laid {
+        Ok(sizes) => sizes.corners,
+        Err(_) => 65535,
+    };
+    let s = pattern::lent(sums.len(), header.short == 3);
+    position::position_of(&sums[..s], corners, header.corner)
 }
 
 // Lays the cells out in tables that hold a known pattern, and prints what the tables hold then, over their whole lengths.
 fn print_layout(
     rt: &impl Print,
-    positions: &[i32],
-    cells: &[u16],
-    status: &[u8],
+    case: Case,
     table: &mut [u16],
     ends: &mut [u16],
     sums: &mut [i32],
-    case: Header,
 ) -> io::Result<()> {
     layouts::fill(table, ends, sums);
-    let laid = lay_out_in(positions, cells, status, table, ends, sums, case);
-    let corners = corners_of(&laid);
-    print::layout(rt, layouts::sum_up(laid, table, ends, sums))?;
-    print::position(rt, position_in(sums, corners, case))
+    let laid = lay_out_in(case, table, ends, sums);
+    print!(rt; " {}", layouts::sum_up(laid, table, ends, sums))?;
+    print::point(rt, position_in(sums, laid, case.header))
 }
 
-fn try_layout(
-    rt: &impl Print,
-    positions: &[i32],
-    cells: &[u16],
-    status: &[u8],
-    case: Header,
-) -> io::Result<()> {
+fn try_layout(rt: &impl Print, case: Case) -> io::Result<()> {
     let mut table = [0u16; 32768];
     let mut ends = [0u16; 32768];
     let mut sums = [0i32; 49152];
-    print_layout(
-        rt, positions, cells, status, &mut table, &mut ends, &mut sums, case,
-    )
+    print_layout(rt, case, &mut table, &mut ends, &mut sums)
 }
 
 // The counts with table 4 lent short, or not.
-fn count_in(
-    positions: &[i32],
-    cells: &[u16],
-    status: &[u8],
-    counts: &mut [u16],
-    case: Header,
-) -> Counted {
-    let n = pattern::lent(counts.len(), case.short == 4);
-    queries::counts(positions, cells, status, &mut counts[0..n])
-}
-
-fn print_counts(
-    rt: &impl Print,
-    positions: &[i32],
-    cells: &[u16],
-    status: &[u8],
-    counts: &mut [u16],
-    case: Header,
-) -> io::Result<()> {
+fn print_counts(rt: &impl Print, case: Case, counts: &mut [u16]) -> io::Result<()> {
     pattern::fill(counts);
-    let counted = count_in(positions, cells, status, counts, case);
-    print::counted(rt, counted)?;
-    print::number(rt, pattern::checksum(counts))
+    let n = pattern::lent(counts.len(), case.header.short == 4);
+    let counted = queries::counts(case.positions, case.cells, case.status, &mut counts[..n]);
+    print::levels(rt, counted)?;
+    print!(rt; " {}", pattern::checksum(counts))
 }
 
-fn try_counts(
-    rt: &impl Print,
-    positions: &[i32],
-    cells: &[u16],
-    status: &[u8],
-    case: Header,
-) -> io::Result<()> {
+fn try_counts(rt: &impl Print, case: Case) -> io::Result<()> {
     let mut counts = [0u16; 44];
-    print_counts(rt, positions, cells, status, &mut counts, case)
+    print_counts(rt, case, &mut counts)
 }
 
-fn try_case(
-    rt: &impl Print,
-    positions: &[i32],
-    cells: &[u16],
-    status: &[u8],
-    case: Header,
-) -> io::Result<()> {
-    print::first(rt, coarse::examine_mesh(positions, cells))?;
-    print::answer(rt, opening::examine_table(positions, cells, status))?;
-    try_layout(rt, positions, cells, status, case)?;
-    print::ancestry(rt, queries::ancestor(positions, cells, status, case.cell))?;
-    try_counts(rt, positions, cells, status, case)?;
-    print::end(rt)
+fn try_case(rt: &impl Print, case: Case) -> io::Result<()> {
+    let mesh = code(coarse::examine_mesh(case.positions, case.cells));
+    let table = code(opening::examine_table(case.positions, case.cells, case.status));
+    print!(rt; "{mesh} {table}")?;
+    try_layout(rt, case)?;
+    let ancestor = queries::ancestor(case.positions, case.cells, case.status, case.header.cell);
+    print::ancestor(rt, ancestor)?;
+    try_counts(rt, case)?;
+    println!(rt; "")
 }
 
 // A case whose lists are the first places of the given ones. False where one is too short.
-fn try_parts(
+fn try_front(
     rt: &impl Print,
     positions: &[i32],
     cells: &[u16],
     status: &[u8],
-    case: Header,
+    header: Header,
 ) -> io::Result<bool> {
-    let p = case.positions;
-    let c = case.cells;
-    let s = case.status;
-    if p > positions.len() {
+    let p = header.positions;
+    let c = header.cells;
+    let s = header.status;
+    if p > positions.len() || c > cells.len() || s > status.len() {
         return Ok(false);
     }
-    if c > cells.len() {
-        return Ok(false);
-    }
-    if s > status.len() {
-        return Ok(false);
-    }
-    try_case(rt, &positions[0..p], &cells[0..c], &status[0..s], case)?;
+    let case = Case {
+        positions: &positions[..p],
+        cells: &cells[..c],
+        status: &status[..s],
+        header,
+    };
+    try_case(rt, case)?;
     Ok(true)
 }
 
@@ -224,40 +169,40 @@ fn read_case(
     positions: &mut [i32],
     cells: &mut [u16],
     status: &mut [u8],
-    case: Header,
+    header: Header,
 ) -> io::Result<bool> {
-    if !input::read_mesh(rt, room, positions, cells, case.positions, case.cells) {
+    if !input::read_mesh(rt, room, positions, cells, header.positions, header.cells)
+        || !input::read_bytes(rt, status, header.status)
+    {
         return Ok(false);
     }
-    if !input::read_bytes(rt, status, case.status) {
-        return Ok(false);
-    }
-    try_parts(rt, positions, cells, status, case)
+    try_front(rt, positions, cells, status, header)
 }
 
-fn case_of(rt: &(impl Input + Print), case: Header) -> io::Result<bool> {
+fn next_case(rt: &(impl Input + Print)) -> io::Result<bool> {
+    let Some(header) = read_header(rt) else {
+        return Ok(false);
+    };
     let mut room = [0u8; 8000];
     let mut positions = [0i32; 2000];
     let mut cells = [0u16; 2000];
     let mut status = [0u8; 5000];
-    read_case(rt, &mut room, &mut positions, &mut cells, &mut status, case)
-}
-
-fn next_case(rt: &(impl Input + Print)) -> io::Result<bool> {
-    match read_header(rt) {
-        Next::Case(case) => case_of(rt, case),
-        Next::End => Ok(false),
-    }
+    read_case(
+        rt,
+        &mut room,
+        &mut positions,
+        &mut cells,
+        &mut status,
+        header,
+    )
 }
 
 // A proved loop has to end, so the cases are counted.
 fn main(rt: HostRuntime) -> io::Result<()> {
-    let mut left = 1000000u64;
-    while left > 0 {
+    for _ in 0..1000000 {
         if !next_case(&rt)? {
             return Ok(());
         }
-        left -= 1;
     }
     Ok(())
 }

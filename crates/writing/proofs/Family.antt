@@ -4,7 +4,7 @@ use mathlib.Core.Path.{◌≡◌, refl, sym, ◌∙◌, ap}
 use mathlib.Core.List.{List, [], ◌∷◌, ◌++◌, map, map-append}
 use Prim.Native.Nat.{ℕ, zero, suc, ◌+◌, ◌≤◌, ◌<◌}
 use native.Mathlib.Omega.{arith}
-use lib.ListN.{length, get_or, replicate, get_or-eq_default}
+use lib.ListN.{length, get_or, take, replicate, length-replicate, get_or-eq_default}
 use borrow.Author.Tests.{eq-eqb, ne_eqb}
 use Rattle.base.specs.Range.{range, range_snoc}
 use Rattle.mesh.specs.Cells.{none}
@@ -28,6 +28,13 @@ up_range k (suc n) =
     map-append (λ i. k + i) (up_to n) (n ∷ [])
     ∙ ap (λ (l : List ℕ). l ++ ((k + n) ∷ [])) (up_range k n) ∙ sym (range_snoc k n)
 
+pub up_from : (n : ℕ) → range 0 n ≡ up_to n
+unfolding up_to range
+up_from zero = refl
+up_from (suc n) =
+    let e : 0 + n ≡ n = omega arith in
+    range_snoc 0 n ∙ rw e (ap (λ (l : List ℕ). l ++ (n ∷ [])) (up_from n))
+
 repeat_snoc : (v n : ℕ) → replicate n v ++ (v ∷ []) ≡ replicate (suc n) v
 repeat_snoc v zero = refl
 repeat_snoc v (suc n) = ap (λ (l : List ℕ). v ∷ l) (repeat_snoc v n)
@@ -36,6 +43,12 @@ up_repeat : (v n : ℕ) → map (λ i. v) (up_to n) ≡ replicate n v
 unfolding up_to
 up_repeat v zero = refl
 up_repeat v (suc n) = map-append (λ i. v) (up_to n) (n ∷ []) ∙ ap (λ (l : List ℕ). l ++ (v ∷ [])) (up_repeat v n) ∙ repeat_snoc v n
+
+-- the first leaves of some
+pub leaves_taken : (n m : ℕ) → n ≤ m → take {A = ℕ} n (replicate m 0) ≡ replicate n 0
+leaves_taken zero m h = refl
+leaves_taken (suc n) zero h = absurd (omega arith)
+leaves_taken (suc n) (suc m) h = ap (λ (l : List ℕ). 0 ∷ l) (leaves_taken n m (omega arith))
 
 -- the children of an old cell are cells
 module _ {m : ℕ} {ss kids ks : List ℕ} (w : Keeps m ss kids ks) (o : ℕ) (h : o < length ss) where
@@ -97,9 +110,10 @@ module _ {m : ℕ} {ss kids ks : List ℕ} (w : Keeps m ss kids ks) (t o : ℕ) 
         let z : get_or ss o 0 ≡ 0 = get_or-eq_default ss 0 h in
         done r (fresh_leaf ks (first_child m ss o) ∙ rw (← z) (sym (born_fresh m ss ks t o red n))) (sym (olds_fresh m ss ks t o red n))
 
-    pub done_leaves : {n : ℕ} → (t ≡ 64 → ⊥) → n ≡ size_of t → Wrote table old at (replicate n 0) (replicate n 65535) table' old'
-        → Wrote table old at (born_by m ss ks t o) (olds_of m ss t o) table' old'
-    done_leaves green e r = done r (rw e (sym (born_leaves m ss ks t o green))) (rw e (sym (olds_leaves m ss ks t o green)))
+    pub done_leaves : {n : ℕ} {l : List ℕ} → (t ≡ 64 → ⊥) → n ≡ size_of t → l ≡ replicate n 0
+        → Wrote table old at l (replicate (length l) 65535) table' old' → Wrote table old at (born_by m ss ks t o) (olds_of m ss t o) table' old'
+    done_leaves {n} green e i r =
+        done r (i ∙ rw e (sym (born_leaves m ss ks t o green))) (rw (i, length-replicate {A = ℕ} n 0, e) (sym (olds_leaves m ss ks t o green)))
 
   module _ (h : o < length ss) {f : ℕ} (e : f ≡ get_or kids o 0) where
     first : f ≡ first_child m ss o
@@ -111,8 +125,10 @@ module _ {m : ℕ} {ss kids ks : List ℕ} (w : Keeps m ss kids ks) (t o : ℕ) 
       done_kept red same r = done r (rw first (sym (born_kept m ss ks t o red same))) (rw first (sym (olds_kept m ss ks t o red same)))
 
       pub done_fresh : {l : List ℕ} → t ≡ 64 → (get_or ss o 0 ≡ 64 → ⊥) → l ≡ fresh_of (get_or ss o 0) ks f
-          → Wrote table old at l (replicate 8 65535) table' old' → Wrote table old at (born_by m ss ks t o) (olds_of m ss t o) table' old'
-      done_fresh red n i r = done r (i ∙ rw first (sym (born_fresh m ss ks t o red n))) (sym (olds_fresh m ss ks t o red n))
+          → Wrote table old at l (replicate (length l) 65535) table' old' → Wrote table old at (born_by m ss ks t o) (olds_of m ss t o) table' old'
+      done_fresh red n i r =
+          done r (i ∙ rw first (sym (born_fresh m ss ks t o red n)))
+          (rw (i, families.length-fresh (get_or ss o 0) ks f) (sym (olds_fresh m ss ks t o red n)))
 
     -- the children stand in the old table
     pub family_inside : f + size_of (get_or ss o 0) ≤ length ss

@@ -1,18 +1,20 @@
 -- The new children of a cell that was not red and will be.
 -- Assumes nothing.
 use mathlib.Core.Path.{◌≡◌, refl, sym, ◌∙◌, ap}
-use mathlib.Core.Bool.{Bool, false, not}
+use mathlib.Core.Bool.{Bool, true, false}
 use mathlib.Core.List.{List, [], ◌∷◌, map, flat_map}
-use Prim.Native.Nat.{ℕ, ◌+◌, ◌*◌, ◌-◌, ◌≤◌, ◌<◌}
+use Prim.Native.Nat.{ℕ, zero, suc, ◌+◌, ◌*◌, ◌-◌, ◌≤◌, ◌<◌}
+use mir.Val.{bool_byte}
 use native.Mathlib.Decide.{ℕ_discrete}
 use native.Mathlib.Omega.{arith}
 use lib.Dec.{T, eqb}
-use lib.ListN.{length, get_or, take, set, replicate, length-map}
+use Rattle.std.proofs.Common.{eqb→eq, get_or-take, get_or-drop}
+use lib.ListN.{length, get_or, take, drop, set, replicate, length-map}
 use borrow.Author.Tests.{ne_eqb}
-use Rattle.base.specs.Bools.{one_if, one_most, eqb_one}
+use Rattle.base.specs.Bools.{one_if, one_most}
 use Rattle.base.specs.Each.{map_same}
-use Rattle.base.specs.Every.{All, all_from, any_at, get_d_map}
-use Rattle.base.specs.Lists.{anyb, memberb, filterb}
+use Rattle.base.specs.Every.{All, all_at, all_of, all_from, get_d_map}
+use Rattle.base.specs.Lists.{allb, memberb, filterb}
 use Rattle.base.specs.Range.{range, length-range, range_at}
 use Rattle.cutting.specs.Rule.{split}
 use Rattle.cutting.specs.Answer.{cut_of}
@@ -21,11 +23,13 @@ use Rattle.mesh.specs.Cells.{bits_of}
 use Rattle.mesh.specs.Laws.{bits_small}
 use Rattle.mesh.specs.Layout.{edge_numbers}
 use Rattle.mesh.specs.Table.{size_of}
+use Rattle.rows.specs.Numbered.{part}
+use Rattle.rows.specs.Laws.{length_part}
 use Rattle.rows.specs.Sizes.{red_eight}
 use Rattle.growth.specs.Written.{written}
 use Rattle.kept.specs.Families as families
 use Rattle.kept.specs.Kept.{digit_pair, held_pairs, fresh_of}
-use Rattle.writing.specs.Held.{pair_at, EndsBelow, bits_at, Noted, ZeroOrOne}
+use Rattle.writing.specs.Held.{pair_at, EndsBelow, bits_at, Noted}
 use Rattle.writing.proofs.Front.{anew_more, anew_all}
 
 -- numbers from 0 on
@@ -43,22 +47,46 @@ unfolding flat_map
 flat_none g [] a = refl
 flat_none g (x ∷ l) a = rw a.0 (flat_none g l a.1)
 
--- what is noted is zero or one
-pub noted_small : (held l : List ℕ) → Noted held l → ZeroOrOne held
-noted_small held l d k h = omega (arith, d k h, one_most (memberb k l))
-
-pub one_is : (v : ℕ) → v ≤ 1 → v ≡ one_if (eqb v 1)
+-- a flag as a number
+pub byte_is : (b : Bool) → bool_byte b ≡ one_if b
 unfolding one_if
-one_is v h = elim (ℕ_discrete v 1) [ yes e ↦ rw e | no n ↦ rw (ne_eqb v 1 n) (omega arith) ]
+byte_is true = refl
+byte_is false = refl
 
--- a status from six of them
-pub bits_are : (held ds : List ℕ) (i a b c d e f : ℕ)
-    → a ≡ one_if (eqb (get_or held (pair_at ds i 0) 0) 1) → b ≡ one_if (eqb (get_or held (pair_at ds i 1) 0) 1)
-    → c ≡ one_if (eqb (get_or held (pair_at ds i 2) 0) 1) → d ≡ one_if (eqb (get_or held (pair_at ds i 3) 0) 1)
-    → e ≡ one_if (eqb (get_or held (pair_at ds i 4) 0) 1) → f ≡ one_if (eqb (get_or held (pair_at ds i 5) 0) 1)
-    → a + 2 * b + 4 * c + 8 * d + 16 * e + 32 * f ≡ bits_at held ds i
-unfolding bits_at bits_of
-bits_are held ds i a b c d e f p q r s t u = omega arith
+-- a status from its edges from y on
+module _ (held : List Bool) (ds : List ℕ) (i : ℕ) where
+  abbrev pub bits_from : ℕ → ℕ
+  bits_from y = bits_of (map (λ y. get_or held (pair_at ds i y) false) (drop y edge_numbers))
+
+  pub bits_none : 0 ≡ bits_from 6
+  unfolding bits_of
+  bits_none = refl
+
+  pub bits_next : (y : ℕ) → 0 < y → y ≤ 6 → 2 * bits_from y + one_if (get_or held (pair_at ds i (y - 1)) false) ≡ bits_from (y - 1)
+  unfolding bits_of
+  bits_next zero g h = absurd (omega arith)
+  bits_next (suc zero) g h = omega arith
+  bits_next (suc (suc zero)) g h = omega arith
+  bits_next (suc (suc (suc zero))) g h = omega arith
+  bits_next (suc (suc (suc (suc zero)))) g h = omega arith
+  bits_next (suc (suc (suc (suc (suc zero))))) g h = omega arith
+  bits_next (suc (suc (suc (suc (suc (suc zero)))))) g h = omega arith
+  bits_next (suc (suc (suc (suc (suc (suc (suc y))))))) g h = absurd (omega arith)
+
+  pub bits_few : (y : ℕ) → 0 < y → y ≤ 6 → bits_from y ≤ 31
+  unfolding bits_of
+  bits_few zero g h = absurd (omega arith)
+  bits_few (suc zero) g h = omega (arith, one_most)
+  bits_few (suc (suc zero)) g h = omega (arith, one_most)
+  bits_few (suc (suc (suc zero))) g h = omega (arith, one_most)
+  bits_few (suc (suc (suc (suc zero)))) g h = omega (arith, one_most)
+  bits_few (suc (suc (suc (suc (suc zero))))) g h = omega (arith, one_most)
+  bits_few (suc (suc (suc (suc (suc (suc zero)))))) g h = omega arith
+  bits_few (suc (suc (suc (suc (suc (suc (suc y))))))) g h = absurd (omega arith)
+
+  pub bits_all : bits_from 0 ≡ bits_at held ds i
+  unfolding bits_at
+  bits_all = refl
 
 -- the red family
 module _ (i : ℕ) (h : i < 8) where
@@ -75,7 +103,7 @@ module _ (i : ℕ) (h : i < 8) where
 eight_long : (f : ℕ → ℕ) → length (map f (range 0 8)) ≡ 8
 eight_long f = length-map (range 0 8) f ∙ length-range 0 8
 
-module _ (held : List ℕ) where
+module _ (held : List Bool) where
   abbrev pub row : List ℕ
   row = map (bits_at held (cut_of 63).digits) (range 0 8)
 
@@ -93,13 +121,12 @@ module _ (held : List ℕ) where
       anew_all (replicate 8 0) row n i l e (omega arith)
 
 module _ (s : ℕ) (ks : List ℕ) (f : ℕ) where
-  module _ (held : List ℕ) (d : Noted held (held_pairs s ks f)) where
+  module _ (held : List Bool) (d : Noted held (held_pairs s ks f)) where
     fresh_at : (i : ℕ) → i < 8
         → bits_at held (cut_of 63).digits i ≡ bits_of (map (λ y. memberb (digit_pair 63 i y) (held_pairs s ks f)) edge_numbers)
     unfolding bits_at
     fresh_at i h = ap bits_of (six_same _ _ (λ y m.
-        ap (λ (v : ℕ). eqb v 1) (d (pair_at (cut_of 63).digits i y) (red_small i h y m))
-        ∙ eqb_one (memberb (pair_at (cut_of 63).digits i y) (held_pairs s ks f))
+        d (pair_at (cut_of 63).digits i y) (red_small i h y m)
         ∙ ap (λ (v : ℕ). memberb v (held_pairs s ks f)) (red_pair i h y m)))
 
     pub fresh_is : map (bits_at held (cut_of 63).digits) (range 0 8) ≡ fresh_of s ks f
@@ -109,16 +136,13 @@ module _ (s : ℕ) (ks : List ℕ) (f : ℕ) where
         map_same (bits_at held (cut_of 63).digits) g (range 0 8) (below_all (λ i. bits_at held (cut_of 63).digits i ≡ g i) 8 fresh_at)
 
   -- where the old children keep nothing
-  module _ (n : ℕ) (size : n ≡ size_of s) (none : anyb (λ c. not (eqb (get_or ks c 0) 0)) (range f (f + n - f)) ≡ false) where
+  module _ (n : ℕ) (size : n ≡ size_of s) (room : f + n ≤ length ks) (none : allb (λ k. eqb k 0) (part ks f n) ≡ true) where
     keeps_none : (j : ℕ) → j < n → get_or ks (f + j) 0 ≡ 0
-    keeps_none j h = elim (ℕ_discrete (get_or ks (f + j) 0) 0) [ yes e ↦ e | no k ↦ absurd (never k) ]
-      where
-        never : (get_or ks (f + j) 0 ≡ 0 → ⊥) → ⊥
-        never k =
-            let z : get_or (range f (f + n - f)) j 0 ≡ f + j = range_at f (f + n - f) j 0 (omega arith) in
-            let t : T (not (eqb (get_or ks (get_or (range f (f + n - f)) j 0) 0) 0)) = rw (z, ne_eqb (get_or ks (f + j) 0) 0 k) tt in
-            rw none at (any_at (λ c. not (eqb (get_or ks c 0) 0)) 0 (range f (f + n - f)) j
-            (omega (arith, length-range f (f + n - f))) t)
+    keeps_none j h =
+        let t : T (allb (λ k. eqb k 0) (part ks f n)) = rw none tt in
+        let each = all_of (λ k. k ≡ 0) (λ k. eqb k 0) (λ k u. eqb→eq k 0 u) (part ks f n) t in
+        sym (get_or-take n (drop f ks) j 0 h ∙ get_or-drop f ks j 0)
+        ∙ all_at (λ k. k ≡ 0) 0 (part ks f n) each j (omega (arith, length_part ks f n room))
 
     held_none : held_pairs s ks f ≡ []
     unfolding held_pairs split filterb

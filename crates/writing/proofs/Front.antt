@@ -1,5 +1,4 @@
--- Two tables that are written over side by side, element by element.
---   Two table old at ts os n i table' old'   the first i of the n statuses ts and old numbers os stand from `at` on
+-- Tables that are written over, element by element or a part at once.
 -- Assumes nothing.
 use mathlib.Core.Path.{◌≡◌, refl, sym, ◌∙◌, ap}
 use mathlib.Core.List.{List, [], ◌∷◌, ◌++◌}
@@ -11,7 +10,9 @@ use lib.Seq.{set_split, take-suc, take_all, take_at, drop_at, length-take-le}
 use Rattle.rows.specs.Numbered.{part}
 use Rattle.rows.specs.Laws.{part_more}
 use Rattle.growth.specs.Written.{written, written_none, written_more, length-written}
-use Rattle.writing.specs.Wrote.{Wrote}
+use Rattle.base.specs.Range.{range, length-range, range_at}
+use borrow.Rule.Slice.PartMut.{put_mid}
+use Rattle.std.proofs.Math.Seq.{drop-drop}
 
 put_one : (l : List ℕ) (i v : ℕ) → i < length l → set l i v ≡ written l i (v ∷ [])
 unfolding written
@@ -47,54 +48,24 @@ module _ (l vs : List ℕ) (long : length vs ≡ length l) where
       let n : length (written l 0 vs) ≡ length l = length-written l 0 vs (omega arith) in
       e ∙ ap (written l 0) (take_all i vs h) ∙ sym (take_all (length vs) (written l 0 vs) (omega arith)) ∙ w
 
-pub record Two (table old : List ℕ) (at : ℕ) (ts os : List ℕ) (n i : ℕ) (table' old' : List ℕ) : Type 0 where
-  pub in_table : at + n ≤ length table
-  pub in_old : at + n ≤ length old
-  pub long_ts : length ts ≡ n
-  pub long_os : length os ≡ n
-  pub below : i ≤ n
-  pub statuses : table' ≡ written table at (take i ts)
-  pub olds : old' ≡ written old at (take i os)
+-- a part that is copied to
+pub copied : (l : List ℕ) (i k : ℕ) (vs ws : List ℕ) → k ≡ length vs → ws ≡ vs → put_mid i k l ws ≡ written l i vs
+unfolding written
+copied l i k vs ws e q = rw (q, e, drop-drop (length vs) i l)
 
-pub two_start : (table old : List ℕ) (at : ℕ) (ts os : List ℕ) (n : ℕ) → at + n ≤ length table → at + n ≤ length old → length ts ≡ n
-    → length os ≡ n → Two table old at ts os n 0 table old
-two_start table old at ts os n in_table in_old long_ts long_os =
-    record {
-      in_table = in_table;
-      in_old = in_old;
-      long_ts = long_ts;
-      long_os = long_os;
-      below = omega arith;
-      statuses = sym (written_none table at);
-      olds = sym (written_none old at);
-    }
+-- numbers in a row
+module _ (l : List ℕ) (at first n : ℕ) (room : at + n ≤ length l) where
+  pub numbers_start : l ≡ written l at (take 0 (range first n))
+  numbers_start = sym (written_none l at)
 
-module _ {table old : List ℕ} {at : ℕ} {ts os : List ℕ} {n i : ℕ} {table' old' : List ℕ} (r : Two table old at ts os n i table' old') where
-  pub two_more : i < n → {t o : ℕ} → t ≡ get_or ts i 0 → o ≡ get_or os i 0
-      → Two table old at ts os n (i + 1) (set table' (at + i) t) (set old' (at + i) o)
-  two_more h et eo =
-      record {
-        in_table = r.in_table;
-        in_old = r.in_old;
-        long_ts = r.long_ts;
-        long_os = r.long_os;
-        below = omega arith;
-        statuses = rw (r.statuses, et) (front_more table at ts (omega arith) i (omega arith));
-        olds = rw (r.olds, eo) (front_more old at os (omega arith) i (omega arith));
-      }
+  pub numbers_more : (i : ℕ) (l' : List ℕ) → i < n → l' ≡ written l at (take i (range first n))
+      → set l' (at + i) (first + i) ≡ written l at (take (i + 1) (range first n))
+  numbers_more i l' h e =
+      let w : first + i ≡ get_or (range first n) i 0 = sym (range_at first n i 0 h) in
+      rw (e, w) (front_more l at (range first n) (omega (arith, length-range first n)) i (omega (arith, length-range first n)))
 
-  pub long_table : length table' ≡ length table
-  long_table = ap length r.statuses ∙ length-written table at (take i ts) (omega (arith, length-take i ts))
-
-  pub long_old : length old' ≡ length old
-  long_old = ap length r.olds ∙ length-written old at (take i os) (omega (arith, length-take i os))
-
-  pub two_all : n ≤ i → Wrote table old at ts os table' old'
-  two_all h =
-      record {
-        statuses = r.statuses ∙ ap (written table at) (take_all i ts (omega arith));
-        olds = r.olds ∙ ap (written old at) (take_all i os (omega arith));
-      }
+  pub numbers_all : (i : ℕ) (l' : List ℕ) → n ≤ i → l' ≡ written l at (take i (range first n)) → l' ≡ written l at (range first n)
+  numbers_all i l' h e = e ∙ ap (written l at) (take_all i (range first n) (omega (arith, length-range first n)))
 
 -- a part, one element more
 pub part_on : (l : List ℕ) (first c : ℕ) → first ≤ c → c < length l → part l first (c + 1 - first) ≡ part l first (c - first)

@@ -1,7 +1,8 @@
--- Ones at the numbers of a list: the edges of old children that are held, noted one after the other.
+-- Numbers noted one after the other: the edges of old children that are held.
 -- Assumes nothing.
 use mathlib.Core.Path.{◌≡◌, refl, sym, ◌∙◌, ap, ap₂}
-use mathlib.Core.Bool.{Bool, true, false}
+use mathlib.Core.Bool.{Bool, true, false, ◌||◌}
+use Rattle.std.proofs.Math.Bool.{or-true, or-false}
 use mathlib.Core.List.{List, [], ◌∷◌, ◌++◌, map, flat_map, map-append}
 use Prim.Native.Nat.{ℕ, suc, ◌+◌, ◌/◌, ◌%◌, ◌^◌, ◌<◌}
 use native.Mathlib.Decide.{ℕ_discrete}
@@ -10,7 +11,6 @@ use lib.ListN.{length, get_or, take, set, replicate, length-set, get_or-replicat
 use lib.Seq.{get_or-set_same, get_or-set_other}
 use borrow.Author.Tests.{eq-eqb, ne_eqb}
 use Rattle.base.specs.Append.{filter_append, flat_snoc}
-use Rattle.base.specs.Bools.{one_if}
 use Rattle.base.specs.Each.{map_same, all_filter}
 use Rattle.base.specs.Lists.{filterb, memberb}
 use Rattle.base.specs.Range.{range, range_snoc}
@@ -23,69 +23,55 @@ use Rattle.mesh.specs.Layout.{edge_numbers}
 use Rattle.mesh.specs.Table.{size_of}
 use Rattle.rows.specs.Many.{size_refined, size_some}
 use Rattle.kept.specs.Kept.{digit_pair, held_pairs}
-use Rattle.writing.specs.Held.{pair_at, pairs_at, EndsBelow, held_below, ones, Noted}
+use Rattle.writing.specs.Held.{pair_at, pairs_at, EndsBelow, held_below, noted, Noted}
 
-ones_append : (h l m : List ℕ) → ones h (l ++ m) ≡ ones (ones h l) m
-unfolding ones
-ones_append h [] m = refl
-ones_append h (k ∷ l) m = ones_append (set h k 1) l m
+noted_append : (h : List Bool) (l m : List ℕ) → noted h (l ++ m) ≡ noted (noted h l) m
+unfolding noted
+noted_append h [] m = refl
+noted_append h (k ∷ l) m = noted_append (set h k true) l m
 
--- a one at each number of the list, else what was there
-one_else : Bool → ℕ → ℕ
-one_else true v = 1
-one_else false v = v
-
-one_else_lem : (b : Bool) (v : ℕ) → v ≡ 1 → one_else b v ≡ 1
-unfolding one_else
-one_else_lem true v e = refl
-one_else_lem false v e = e
-
-ones_at : (h l : List ℕ) (k : ℕ) → k < length h → get_or (ones h l) k 0 ≡ one_else (memberb k l) (get_or h k 0)
-unfolding ones memberb one_else
-ones_at h [] k g = refl
-ones_at h (x ∷ l) k g =
-    let on = ones_at (set h x 1) l k (rw (length-set h x 1) g) in
+-- noted from the list, or before
+noted_at : (h : List Bool) (l : List ℕ) (k : ℕ) → k < length h → get_or (noted h l) k false ≡ (memberb k l || get_or h k false)
+unfolding noted memberb
+noted_at h [] k g = refl
+noted_at h (x ∷ l) k g =
+    let on = noted_at (set h x true) l k (rw (length-set h x true) g) in
     elim (ℕ_discrete k x) [
-      | yes e ↦ on ∙ rw (eq-eqb k x e) (one_else_lem (memberb k l) (get_or (set h x 1) k 0) (rw e (get_or-set_same h x 1 0 (omega arith))))
-      | no n ↦ on ∙ rw (ne_eqb k x n, get_or-set_other h x k 1 0 n)
+      | yes e ↦ on ∙ rw (eq-eqb k x e, e, get_or-set_same h x true false (omega arith)) (or-true (memberb x l))
+      | no n ↦ on ∙ rw (ne_eqb k x n, get_or-set_other h x k true false n)
     ]
 
-noted_zeros : (l : List ℕ) → Noted (ones (replicate 100 0) l) l
-unfolding one_if one_else
-noted_zeros l k g = ones_at (replicate 100 0) l k g ∙ go (memberb k l)
-  where
-    go : (b : Bool) → one_else b (get_or (replicate 100 0) k 0) ≡ one_if b
-    go true = refl
-    go false = get_or-replicate 100 k 0 0 g
+noted_none : (l : List ℕ) → Noted (noted (replicate 100 false) l) l
+noted_none l k g = noted_at (replicate 100 false) l k g ∙ rw (get_or-replicate 100 k false false g) (or-false (memberb k l))
 
 -- one edge
-module _ (ds : List ℕ) (j p y : ℕ) (held : List ℕ) where
-  pub edge_not : (p / 2 ^ y % 2 ≡ 1 → ⊥) → held ≡ ones held (pairs_at ds j p (y ∷ []))
-  unfolding pairs_at split filterb ones
+module _ (ds : List ℕ) (j p y : ℕ) (held : List Bool) where
+  pub edge_not : (p / 2 ^ y % 2 ≡ 1 → ⊥) → held ≡ noted held (pairs_at ds j p (y ∷ []))
+  unfolding pairs_at split filterb noted
   edge_not n = rw (ne_eqb (p / 2 ^ y % 2) 1 n, filterb)
 
-  pub edge_noted : (k : ℕ) → p / 2 ^ y % 2 ≡ 1 → k ≡ pair_at ds j y → set held k 1 ≡ ones held (pairs_at ds j p (y ∷ []))
-  unfolding pairs_at split filterb ones
+  pub edge_noted : (k : ℕ) → p / 2 ^ y % 2 ≡ 1 → k ≡ pair_at ds j y → set held k true ≡ noted held (pairs_at ds j p (y ∷ []))
+  unfolding pairs_at split filterb noted
   edge_noted k e i = rw (eq-eqb (p / 2 ^ y % 2) 1 e, filterb, i)
 
 -- the edges of a child
-module _ (ds : List ℕ) (j p : ℕ) (held₀ : List ℕ) where
-  pub edges_none : p ≡ 0 → held₀ ≡ ones held₀ (pairs_at ds j p edge_numbers)
-  unfolding pairs_at split filterb ones
+module _ (ds : List ℕ) (j p : ℕ) (held₀ : List Bool) where
+  pub edges_none : p ≡ 0 → held₀ ≡ noted held₀ (pairs_at ds j p edge_numbers)
+  unfolding pairs_at split filterb noted
   edges_none e = rw e
 
-  pub edges_start : held₀ ≡ ones held₀ (pairs_at ds j p (take 0 edge_numbers))
-  unfolding pairs_at filterb ones
+  pub edges_start : held₀ ≡ noted held₀ (pairs_at ds j p (take 0 edge_numbers))
+  unfolding pairs_at filterb noted
   edges_start = refl
 
-  pub edges_next : (y : ℕ) (held held' : List ℕ) → held ≡ ones held₀ (pairs_at ds j p (take y edge_numbers)) → y < 6
-      → held' ≡ ones held (pairs_at ds j p (y ∷ [])) → held' ≡ ones held₀ (pairs_at ds j p (take (y + 1) edge_numbers))
+  pub edges_next : (y : ℕ) (held held' : List Bool) → held ≡ noted held₀ (pairs_at ds j p (take y edge_numbers)) → y < 6
+      → held' ≡ noted held (pairs_at ds j p (y ∷ [])) → held' ≡ noted held₀ (pairs_at ds j p (take (y + 1) edge_numbers))
   unfolding pairs_at
   edges_next y held held' e h d =
       let s : y + 1 ≡ suc y = omega arith in
-      d ∙ ap (λ (l : List ℕ). ones l (pairs_at ds j p (y ∷ []))) e
-      ∙ sym (ones_append held₀ (pairs_at ds j p (take y edge_numbers)) (pairs_at ds j p (y ∷ [])))
-      ∙ ap (ones held₀) (sym (rw (s, edges_more y h, filter_append (split p) (take y edge_numbers) (y ∷ []))
+      d ∙ ap (λ (l : List Bool). noted l (pairs_at ds j p (y ∷ []))) e
+      ∙ sym (noted_append held₀ (pairs_at ds j p (take y edge_numbers)) (pairs_at ds j p (y ∷ [])))
+      ∙ ap (noted held₀) (sym (rw (s, edges_more y h, filter_append (split p) (take y edge_numbers) (y ∷ []))
       (map-append (pair_at ds j) (filterb (split p) (take y edge_numbers)) (filterb (split p) (y ∷ [])))))
 
 -- the edges of the old children
@@ -115,25 +101,25 @@ module _ (s : ℕ) (small : s < 64) where
     ))
 
   module _ (ks : List ℕ) (f : ℕ) where
-    pub held_start : replicate 100 0 ≡ ones (replicate 100 0) (held_below s ks f 0)
-    unfolding ones range flat_map
+    pub held_start : replicate 100 false ≡ noted (replicate 100 false) (held_below s ks f 0)
+    unfolding noted range flat_map
     held_start = refl
 
-    pub held_next : (j : ℕ) (held held' ds : List ℕ) → held ≡ ones (replicate 100 0) (held_below s ks f j) → j < size_of s
-        → ds ≡ (cut_of s).digits → held' ≡ ones held (pairs_at ds j (get_or ks (f + j) 0) edge_numbers)
-        → held' ≡ ones (replicate 100 0) (held_below s ks f (j + 1))
+    pub held_next : (j : ℕ) (held held' : List Bool) (ds : List ℕ) → held ≡ noted (replicate 100 false) (held_below s ks f j) → j < size_of s
+        → ds ≡ (cut_of s).digits → held' ≡ noted held (pairs_at ds j (get_or ks (f + j) 0) edge_numbers)
+        → held' ≡ noted (replicate 100 false) (held_below s ks f (j + 1))
     held_next j held held' ds e h i d =
         let g : ℕ → List ℕ = λ j. map (digit_pair (pattern_of s) j) (filterb (split (get_or ks (f + j) 0)) edge_numbers) in
         let w : j + 1 ≡ suc j = omega arith in
         let z : 0 + j ≡ j = omega arith in
-        d ∙ ap (λ (l : List ℕ). ones held (pairs_at l j (get_or ks (f + j) 0) edge_numbers)) i
-        ∙ ap₂ (λ (a b : List ℕ). ones a b) e (pairs_are j h (get_or ks (f + j) 0))
-        ∙ sym (ones_append (replicate 100 0) (held_below s ks f j) (g j))
-        ∙ ap (ones (replicate 100 0)) (sym (flat_snoc g (range 0 j) j) ∙ ap (flat_map g) (rw w (sym (rw z at (range_snoc 0 j)))))
+        d ∙ ap (λ (l : List ℕ). noted held (pairs_at l j (get_or ks (f + j) 0) edge_numbers)) i
+        ∙ ap₂ noted e (pairs_are j h (get_or ks (f + j) 0))
+        ∙ sym (noted_append (replicate 100 false) (held_below s ks f j) (g j))
+        ∙ ap (noted (replicate 100 false)) (sym (flat_snoc g (range 0 j) j) ∙ ap (flat_map g) (rw w (sym (rw z at (range_snoc 0 j)))))
 
-    pub held_all : (j : ℕ) (held : List ℕ) → held ≡ ones (replicate 100 0) (held_below s ks f j) → j ≡ size_of s
+    pub held_all : (j : ℕ) (held : List Bool) → held ≡ noted (replicate 100 false) (held_below s ks f j) → j ≡ size_of s
         → Noted held (held_pairs s ks f)
     unfolding held_pairs
     held_all j held e w k g =
-        ap (λ (l : List ℕ). get_or l k 0) (e ∙ ap (λ (n : ℕ). ones (replicate 100 0) (held_below s ks f n)) w)
-        ∙ noted_zeros (held_below s ks f (size_of s)) k g
+        ap (λ (l : List Bool). get_or l k false) (e ∙ ap (λ (n : ℕ). noted (replicate 100 false) (held_below s ks f n)) w)
+        ∙ noted_none (held_below s ks f (size_of s)) k g

@@ -2,7 +2,7 @@
 --   WriteGoing m ss ks j first last table old   the levels below j are written, and so is level j, whose cells are those from first to last
 -- Assumes nothing.
 use mathlib.Core.Path.{◌≡◌, refl, sym, ◌∙◌, ap}
-use mathlib.Core.Logic.{inl, inr, ⊎_elim}
+use mathlib.Core.Logic.{inl, inr}
 use mathlib.Core.List.{List, [], ◌∷◌, ◌++◌, flat_map, flatten, append-nil, append_assoc}
 use Prim.Native.Nat.{ℕ, zero, suc, ◌+◌, ◌-◌, ◌≤◌, ◌<◌}
 use native.Mathlib.Omega.{arith}
@@ -10,6 +10,8 @@ use lib.ListN.{length, get_or, take, drop, length-append}
 use lib.Seq.{get_or-take, get_or-drop, take-add, take_at, length-take-le}
 use Rattle.base.specs.Every.{all_at}
 use Rattle.base.specs.Limits.{most_cells}
+use Rattle.base.specs.declared.Refusal.{Refusal}
+use Rattle.base.specs.declared.Refusal.TheVariants.{TooHigh, TooMany}
 use Rattle.mesh.specs.Table.{sizes}
 use Rattle.rows.specs.Numbered.{part}
 use Rattle.rows.specs.Laws.{length_part}
@@ -17,12 +19,13 @@ use Rattle.growth.specs.Written.{written, length-written}
 use Rattle.lineage.specs.Olds.{olds_next, up_to}
 use Rattle.lineage.specs.Firsts.{first_start, first_up}
 use Rattle.kept.specs.Kept.{born_next, write_by}
-use Rattle.lineage.specs.Paths.{length_upto}
+use Rattle.base.specs.Range.{range, length-range}
 use Rattle.lineage.specs.Same.{length-olds}
 use Rattle.writing.specs.Keeps.{Keeps}
 use Rattle.writing.specs.Wrote.{RoomAbove, Wrote}
-use Rattle.writing.specs.Result.{written_levels, TableWritten, WriteEnding}
+use Rattle.writing.specs.Result.{written_levels, TableWritten, Unwritten}
 use Rattle.writing.proofs.Front.{part_of_written}
+use Rattle.writing.proofs.Family.{up_from}
 use Rattle.writing.proofs.Levels.{length-born, small_born}
 
 -- what stands before
@@ -79,21 +82,21 @@ module _ {m : ℕ} {ss kids ks : List ℕ} (w : Keeps m ss kids ks) where
   coarse_inside = omega (arith, first_start m ss, first_up m ss 0 (length ss) (omega arith), w.firsts.whole)
 
   pub going_start : {table old table₁ old₁ : List ℕ} → length table ≡ most_cells → length old ≡ most_cells
-      → Wrote table old 0 (take m ks) (up_to m) table₁ old₁ → WriteGoing m ss ks 0 0 m table₁ old₁
+      → Wrote table old 0 (part ks 0 m) (range 0 m) table₁ old₁ → WriteGoing m ss ks 0 0 m table₁ old₁
   going_start {table} {old} {table₁} {old₁} lt lo r =
       let k : length (take m ks) ≡ m - 0 = length-take-le m ks (omega (arith, coarse_inside, w.in_kept)) ∙ omega arith in
-      let u : length (up_to m) ≡ m - 0 = length_upto m ∙ omega arith in
+      let u : length (range 0 m) ≡ m - 0 = length-range 0 m ∙ omega arith in
       let c = w.coarse in
       let pt : part table₁ 0 (m - 0) ≡ take m ks = ap (λ (l : List ℕ). part l 0 (m - 0)) r.statuses
       ∙ part_of_written table 0 (take m ks) (omega arith) (m - 0) k in
       let po : part old₁ 0 (m - 0) ≡ up_to m = ap (λ (l : List ℕ). part l 0 (m - 0)) r.olds
-      ∙ part_of_written old 0 (up_to m) (omega arith) (m - 0) u in
+      ∙ part_of_written old 0 (range 0 m) (omega arith) (m - 0) u ∙ up_from m in
       record {
         low = omega arith;
         some = w.some;
         within = omega arith;
         in_table = ap length r.statuses ∙ length-written table 0 (take m ks) (omega arith) ∙ lt;
-        in_old = ap length r.olds ∙ length-written old 0 (up_to m) (omega arith) ∙ lo;
+        in_old = ap length r.olds ∙ length-written old 0 (range 0 m) (omega arith) ∙ lo;
         small = λ i a b. rw (part_at table₁ 0 (m - 0) i a (omega arith), pt, get_or-take m ks (i - 0) 0 (omega arith))
             (w.kept (i - 0) (omega (arith, coarse_inside)));
         height = rw (pt, po) (omega arith);
@@ -160,16 +163,13 @@ module _ {m : ℕ} {ss kids ks : List ℕ} (w : Keeps m ss kids ks) where
       unfolding flat_map flatten
       all_is = rest_above ∙ ap (λ (l : List (List ℕ)). take last table ++ flatten l) nothing ∙ append-nil (take last table)
 
-      result_end : (r : ℕ) → r ≡ 0 → TableWritten m ss ks table r last
-      result_end r z =
+      pub result_end : TableWritten m ss ks table last
+      result_end =
           let h : length (written_levels m ss ks) ≡ suc j = omega (arith, height_above, ap length nothing) in
           record {
-            one = inl z;
-            high = λ e. absurd (omega arith);
-            many = λ e. absurd (omega arith);
-            low = λ e. omega (arith, h, g.low);
-            counted = λ e. ap length all_is ∙ length-take-le last table (omega (arith, g.within, g.in_table));
-            table_is = λ e. sym all_is;
+            low = omega (arith, h, g.low);
+            counted = ap length all_is ∙ length-take-le last table (omega (arith, g.within, g.in_table));
+            table_is = sym all_is;
             few = g.within;
           }
 
@@ -194,51 +194,15 @@ module _ {m : ℕ} {ss kids ks : List ℕ} (w : Keeps m ss kids ks) where
           (olds_next m ss born (olds_next m ss own olds)) in
           omega (arith, total, ap length (ap flatten step_up ∙ concat_one born ls) ∙ length-append born (flatten ls), long_born)
 
-    result_high : (r : ℕ) → r ≡ 8 → length (written_levels m ss ks) ≡ 12 → TableWritten m ss ks table r last
-    result_high r z h =
-        record {
-          one = inr (inl z);
-          high = λ e. h;
-          many = λ e. absurd (omega arith);
-          low = λ e. absurd (omega arith);
-          counted = λ e. absurd (omega arith);
-          table_is = λ e. absurd (omega arith);
-          few = g.within;
-        }
+      pub result_high : j ≡ 10 → Unwritten m ss ks TooHigh
+      result_high e = record { one = inl refl; high = λ q. twelve e; many = λ q. cc }
 
-    result_many : (r : ℕ) → r ≡ 9 → most_cells < length (flatten (written_levels m ss ks)) → TableWritten m ss ks table r last
-    result_many r z h =
-        record {
-          one = inr (inr z);
-          high = λ e. absurd (omega arith);
-          many = λ e. h;
-          low = λ e. absurd (omega arith);
-          counted = λ e. absurd (omega arith);
-          table_is = λ e. absurd (omega arith);
-          few = g.within;
-        }
+      pub result_many : most_cells < last + sizes own → Unwritten m ss ks TooMany
+      result_many h = record { one = inr refl; high = λ q. cc; many = λ q. omega (arith, has_more) }
 
-    module _ {size r : ℕ} (s : size ≡ sizes own) (e : WriteEnding size j last r) where
-      some_more : (r ≡ 0 → ⊥) → 0 < sizes own
-      some_more n = omega (arith, e.some n, s)
-
-      pub result_now : (r ≡ 255 → ⊥) → TableWritten m ss ks table r last
-      result_now on =
-          ⊎_elim
-          (λ z. result_end (omega (arith, e.none z)) r z)
-          (⊎_elim
-          (λ z. result_high r z (twelve (some_more (omega arith)) (e.high z)))
-          (⊎_elim
-          (λ z. result_many r z (omega (arith, has_more (some_more (omega arith)), e.many z)))
-          (λ z. absurd (on z))))
-          e.one
-
-      pub going_next : r ≡ 255 → {table₁ old₁ : List ℕ} → Wrote table old last born (olds_next m ss own olds) table₁ old₁
-          → WriteGoing m ss ks (j + 1) last (last + size) table₁ old₁
-      going_next on {table₁} {old₁} d =
-          let fit = e.fit on in
-          let low = e.low on in
-          let more = some_more (omega arith) in
+      pub going_next : (size : ℕ) → size ≡ sizes own → j < 10 → last + size ≤ most_cells → {table₁ old₁ : List ℕ}
+          → Wrote table old last born (olds_next m ss own olds) table₁ old₁ → WriteGoing m ss ks (j + 1) last (last + size) table₁ old₁
+      going_next size s low fit {table₁} {old₁} d =
           let k : length born ≡ last + size - last = long_born ∙ omega arith in
           let u : length (olds_next m ss own olds) ≡ last + size - last = length-olds m ss own olds same_many ∙ omega arith in
           let pt : part table₁ last (last + size - last) ≡ born = ap (λ (l : List ℕ). part l last (last + size - last)) d.statuses
@@ -248,7 +212,7 @@ module _ {m : ℕ} {ss kids ks : List ℕ} (w : Keeps m ss kids ks) where
           ∙ part_of_written old last (olds_next m ss own olds) (omega (arith, g.in_old)) (last + size - last) u in
           let q : 12 - (j + 1) ≡ 11 - j = omega arith in
           record {
-            low = omega (arith, low, g.low);
+            low = omega arith;
             some = omega arith;
             within = fit;
             in_table = ap length d.statuses ∙ length-written table last born (omega (arith, g.in_table)) ∙ g.in_table;

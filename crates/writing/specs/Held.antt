@@ -3,14 +3,13 @@
 --   pair_at ds j y       the edge y of the child j by its two digits, from a family's digits in a row
 --   pairs_at ds j p ys   those of its edges ys that the pattern p splits
 --   held_below s ks f n  the edges of the first n old children that new red cells hold
---   bits_at held ds i    the status of the new child i, where `held` has a one for each edge that is held
---   ones h l            h with a one at each number of l
+--   bits_at held ds i    the status of the new child i, where `held` says of each edge whether it is held
+--   noted h l           h with each number of l noted
 --   EndsBelow ds j      the ends of the child's edges are digits
---   Noted h l           h has a one at each number of l, and zeros; ZeroOrOne h: it has zeros and ones
+--   Noted h l           in h the numbers of l are noted, and no others
 -- Assumes nothing.
-use Rattle.std.specs.Prelude.{◌≡◌, ℕ, ◌+◌, ◌*◌, ◌≤◌, ◌<◌, eqb, get_or, set}
+use Rattle.std.specs.Prelude.{◌≡◌, Bool, true, false, ℕ, ◌+◌, ◌*◌, ◌<◌, get_or, set}
 use mathlib.Core.List.{List, [], ◌∷◌, map, flat_map}
-use Rattle.base.specs.Bools.{one_if}
 use Rattle.base.specs.Lists.{memberb, filterb}
 use Rattle.base.specs.Range.{range}
 use Rattle.cutting.specs.Rule.{split}
@@ -33,16 +32,13 @@ module _ (s : ℕ) (ks : List ℕ) (f : ℕ) where
   abbrev pub held_below : ℕ → List ℕ
   held_below n = flat_map (λ j. map (digit_pair (pattern_of s) j) (filterb (split (get_or ks (f + j) 0)) edge_numbers)) (range 0 n)
 
-unfoldable pub bits_at : List ℕ → List ℕ → ℕ → ℕ
+unfoldable pub bits_at : List Bool → List ℕ → ℕ → ℕ
 unfolding bits_of
-bits_at held ds i = bits_of (map (λ y. eqb (get_or held (pair_at ds i y) 0) 1) edge_numbers)
+bits_at held ds i = bits_of (map (λ y. get_or held (pair_at ds i y) false) edge_numbers)
 
-unfoldable pub ones : List ℕ → List ℕ → List ℕ
-ones h [] = h
-ones h (k ∷ l) = ones (set h k 1) l
+unfoldable pub noted : List Bool → List ℕ → List Bool
+noted h [] = h
+noted h (k ∷ l) = noted (set h k true) l
 
-abbrev pub Noted : List ℕ → List ℕ → Type 0
-Noted h l = (k : ℕ) → k < 100 → get_or h k 0 ≡ one_if (memberb k l)
-
-abbrev pub ZeroOrOne : List ℕ → Type 0
-ZeroOrOne h = (k : ℕ) → k < 100 → get_or h k 0 ≤ 1
+abbrev pub Noted : List Bool → List ℕ → Type 0
+Noted h l = (k : ℕ) → k < 100 → get_or h k false ≡ memberb k l

@@ -40,14 +40,8 @@ ghost use Rattle.yuccadice.specs.After.{
   progress_result,
 };
 
-use held::{Listed, Progress};
-use jobs::{Reading, Replayed, Writing};
-use layout::Laid;
-use merge::Merged;
-use position::Position;
-use queries::{Ancestry, Counted};
-use step::Stepped;
-use store::Fetched;
+use base::Refusal;
+use held::Progress;
 
 // The children of a cell by its pattern: four digits a child, 32 in all, zeros behind the last child. Refusals 15 and 6.
 pub fn yd_cut(pattern: u8, digits: &mut [u8], count: &mut usize) -> u8
@@ -57,16 +51,16 @@ pub fn yd_cut(pattern: u8, digits: &mut [u8], count: &mut usize) -> u8
         × (count.new ≡ value_after a (cut_of pattern).count count.old) }
 {
     if digits.len() < 32 {
-        return 15;
+        return Refusal::Lent.number();
     }
-    let family = cutting::cut(pattern);
-    let k = base::code(family.answer);
-    if k != 0 {
-        return k;
+    match cutting::cut(pattern) {
+        Ok(family) => {
+            base::copy_front(&family.digits, 32, digits);
+            *count = usize::from(family.count);
+            0
+        }
+        Err(refusal) => refusal.number(),
     }
-    base::copy_bytes(&family.digits, 32, digits);
-    *count = family.count as usize;
-    0
 }
 
 // Whether a coarse mesh is accepted. Refusals 1 to 5.
@@ -105,15 +99,14 @@ pub fn yd_lay_out(
         × (corner_count.new ≡ value_after a (length (corners_in ps ts ss)) corner_count.old)
         × (level_count.new ≡ value_after a (length (levels_in ps ts ss)) level_count.old) }
 {
-    let laid = layout::lay_out(positions, cells, status, table, ends, sums);
-    match laid {
-        Laid::Out(sizes) => {
+    match layout::lay_out(positions, cells, status, table, ends, sums) {
+        Ok(sizes) => {
             *cell_count = sizes.cells;
             *corner_count = sizes.corners;
             *level_count = sizes.levels;
             0
         }
-        Laid::Refused(k) => k,
+        Err(refusal) => refusal.number(),
     }
 }
 
@@ -133,15 +126,14 @@ pub fn yd_position(
         × (y.new ≡ value_after a p.y y.old)
         × (z.new ≡ value_after a p.z z.old) }
 {
-    let position = position::position_of(sums, corners, corner);
-    match position {
-        Position::At(p) => {
+    match position::position_of(sums, corners, corner) {
+        Ok(p) => {
             *x = p.x;
             *y = p.y;
             *z = p.z;
             0
         }
-        Position::Refused(k) => k,
+        Err(refusal) => refusal.number(),
     }
 }
 
@@ -160,14 +152,13 @@ pub fn yd_ancestor(
         × (coarse.new ≡ value_after a up.coarse coarse.old)
         × (level.new ≡ value_after a up.level level.old) }
 {
-    let ancestry = queries::ancestor(positions, cells, status, cell);
-    match ancestry {
-        Ancestry::Under(a) => {
+    match queries::ancestor(positions, cells, status, cell) {
+        Ok(a) => {
             *coarse = a.coarse;
             *level = a.level;
             0
         }
-        Ancestry::Refused(k) => k,
+        Err(refusal) => refusal.number(),
     }
 }
 
@@ -185,13 +176,12 @@ pub fn yd_counts(
         × (counts.new ≡ held_after a (count_table ls) counts.old)
         × (level_count.new ≡ value_after a (length ls) level_count.old) }
 {
-    let counted = queries::counts(positions, cells, status, counts);
-    match counted {
-        Counted::Levels(n) => {
+    match queries::counts(positions, cells, status, counts) {
+        Ok(n) => {
             *level_count = n;
             0
         }
-        Counted::Refused(k) => k,
+        Err(refusal) => refusal.number(),
     }
 }
 
@@ -210,13 +200,12 @@ pub fn yd_step(
         × (table.new ≡ held_after a new table.old)
         × (cell_count.new ≡ value_after a (length new) cell_count.old) }
 {
-    let stepped = step::step(positions, cells, status, marks, table);
-    match stepped {
-        Stepped::Cells(n) => {
+    match step::step(positions, cells, status, marks, table) {
+        Ok(n) => {
             *cell_count = n;
             0
         }
-        Stepped::Refused(k) => k,
+        Err(refusal) => refusal.number(),
     }
 }
 
@@ -247,16 +236,15 @@ pub fn yd_read(
         × (mark_count.new ≡ value_after a (lengths_of j).marks mark_count.old)
         × (step_count.new ≡ value_after a (lengths_of j).steps step_count.old) }
 {
-    let reading = jobs::read(bytes, positions, cells, marked, marks, ends);
-    match reading {
-        Reading::Job(n) => {
+    match jobs::read(bytes, positions, cells, marked, marks, ends) {
+        Ok(n) => {
             *corner_count = n.corners;
             *cell_count = n.cells;
             *mark_count = n.marks;
             *step_count = n.steps;
             0
         }
-        Reading::Refused(k) => k,
+        Err(refusal) => refusal.number(),
     }
 }
 
@@ -276,13 +264,12 @@ pub fn yd_write(
         × (bytes.new ≡ held_after a new bytes.old)
         × (byte_count.new ≡ value_after a (length new) byte_count.old) }
 {
-    let writing = jobs::write(positions, cells, marked, marks, ends, bytes);
-    match writing {
-        Writing::Bytes(n) => {
+    match jobs::write(positions, cells, marked, marks, ends, bytes) {
+        Ok(n) => {
             *byte_count = n;
             0
         }
-        Writing::Refused(k) => k,
+        Err(refusal) => refusal.number(),
     }
 }
 
@@ -302,14 +289,13 @@ pub fn yd_replay(
         × (cell_count.new ≡ value_after a (replay_size j).cells cell_count.old)
         × (level_count.new ≡ value_after a (replay_size j).levels level_count.old) }
 {
-    let replayed = jobs::replay(bytes, table, counts);
-    match replayed {
-        Replayed::Done(n) => {
+    match jobs::replay(bytes, table, counts) {
+        Ok(n) => {
             *cell_count = n.cells;
             *level_count = n.levels;
             0
         }
-        Replayed::Refused(k) => k,
+        Err(refusal) => refusal.number(),
     }
 }
 
@@ -351,17 +337,12 @@ pub fn yd_fetch(store: &mut [u16], bytes: &mut [u8], byte_count: &mut usize) -> 
         × (bytes.new ≡ fetch_bytes store.old bytes.old)
         × (byte_count.new ≡ fetched_length byte_count.old a) }
 {
-    let fetched = mail::fetch(store, bytes);
-    match fetched {
-        Fetched::Message(n) => {
-            *byte_count = n;
+    match mail::fetch(store, bytes) {
+        Ok(length) => {
+            *byte_count = length.unwrap_or(0);
             0
         }
-        Fetched::Nothing => {
-            *byte_count = 0;
-            0
-        }
-        Fetched::Refused(k) => k,
+        Err(refusal) => refusal.number(),
     }
 }
 
@@ -381,27 +362,26 @@ pub fn yd_stage(store: &[u16], stage: &mut usize, round: &mut usize, res: &mut u
         × (round.new ≡ progress_round round.old p)
         × (res.new ≡ progress_result res.old p) }
 {
-    let progress = held::stage(store);
-    match progress {
-        Progress::Running(n) => {
+    match held::stage(store) {
+        Ok(Progress::Running(n)) => {
             *stage = 1;
             *round = n;
             *res = 0;
             0
         }
-        Progress::Done => {
+        Ok(Progress::Done) => {
             *stage = 2;
             *round = 0;
             *res = 0;
             0
         }
-        Progress::Ended(k) => {
+        Ok(Progress::Ended(limit)) => {
             *stage = 2;
             *round = 0;
-            *res = k as usize;
+            *res = usize::from(limit.number());
             0
         }
-        Progress::Refused(k) => k,
+        Err(refusal) => refusal.number(),
     }
 }
 
@@ -413,13 +393,12 @@ pub fn yd_held(store: &[u16], rows: &mut [u16], row_count: &mut usize) -> u8
         × (rows.new ≡ held_after a (held_rows store.now) rows.old)
         × (row_count.new ≡ value_after a (length (held_in store.now)) row_count.old) }
 {
-    let listed = held::held(store, rows);
-    match listed {
-        Listed::Rows(n) => {
+    match held::held(store, rows) {
+        Ok(n) => {
             *row_count = n;
             0
         }
-        Listed::Refused(k) => k,
+        Err(refusal) => refusal.number(),
     }
 }
 
@@ -431,12 +410,11 @@ pub fn yd_merge(stores: &[u16], table: &mut [u8], cell_count: &mut usize) -> u8
         × (table.new ≡ held_after a new table.old)
         × (cell_count.new ≡ value_after a (length new) cell_count.old) }
 {
-    let merged = merge::merge(stores, table);
-    match merged {
-        Merged::Cells(n) => {
+    match merge::merge(stores, table) {
+        Ok(n) => {
             *cell_count = n;
             0
         }
-        Merged::Refused(k) => k,
+        Err(refusal) => refusal.number(),
     }
 }

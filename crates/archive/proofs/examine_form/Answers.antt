@@ -1,41 +1,42 @@
--- `archive::examine_form` meets its contract: the corners, the cells and the scan make the form of the whole.
-use native.Mathlib.Omega.{arith}
-use Rattle.archive.proofs.Whole.{Found, corners_fit, found_fits, examined, too_long}
+-- The corners, the cells and the scan make the form of the whole.
+use Rattle.std.proofs.Common.{◌≤◌, ◌*◌, sym, length, rules}
+use Rattle.archive.proofs.Whole.{corners_fit, found_fits, form_found, examined, too_long, found_of, rest_is}
 use Rattle.archive.proofs.examine_form.Goals as goal
 
-found : (c : goal.After-count_records-cells) → Found c.args.bytes.now c.count_records-corners.result
-    c.count_records-cells.result
-found c = record { corners = c.count_records-corners.ensures; cells = c.count_records-cells.ensures }
-
 pub returns-then-bytes-gt-MOST_BYTES : goal.returns-then-bytes-gt-MOST_BYTES
-returns-then-bytes-gt-MOST_BYTES c =
-    too_long c.args.bytes.now c.if-bytes-gt-MOST_BYTES.true
+returns-then-bytes-gt-MOST_BYTES c = too_long c.args.bytes.now c.if-bytes-gt-MOST_BYTES.true
 
 pub overflow_mul-corners : goal.overflow_mul-corners
-overflow_mul-corners c =
-    omega (arith, corners_fit c.args.bytes.now c.count_records-corners.result c.count_records-corners.ensures)
+overflow_mul-corners c = let f = corners_fit c.args.bytes.now c.count_corners-corners.result c.count_corners-corners.ensures in search rules
 
-pub count_records-cells-requires : goal.count_records-cells-requires
-count_records-cells-requires c =
-    (corners_fit c.args.bytes.now c.count_records-corners.result c.count_records-corners.ensures, omega arith)
+pub slice_bounds-count_cells-count : goal.slice_bounds-count_cells-count
+slice_bounds-count_cells-count c = corners_fit c.args.bytes.now c.count_corners-corners.result c.count_corners-corners.ensures
+
+pub slice_bounds-count_cells-start : goal.slice_bounds-count_cells-start
+slice_bounds-count_cells-start c = let f = corners_fit c.args.bytes.now c.count_corners-corners.result c.count_corners-corners.ensures in search rules
 
 pub overflow_mul-corners-2 : goal.overflow_mul-corners-2
-overflow_mul-corners-2 c =
-    omega (arith, found_fits (found c))
+overflow_mul-corners-2 c = let f = corners_fit c.args.bytes.now c.count_corners-corners.result c.count_corners-corners.ensures in search rules
 
 pub overflow_mul-cells : goal.overflow_mul-cells
-overflow_mul-cells c =
-    omega (arith, found_fits (found c))
+overflow_mul-cells c = let f = found_fits (found_of c.count_corners-corners.ensures (rest_is c.args.bytes.now (13 * c.count_corners-corners.result)) c.count_cells-cells.ensures) in search rules
 
 pub overflow_add-corners : goal.overflow_add-corners
-overflow_add-corners c =
-    omega (arith, found_fits (found c))
+overflow_add-corners c = let f = found_fits (found_of c.count_corners-corners.ensures (rest_is c.args.bytes.now (13 * c.count_corners-corners.result)) c.count_cells-cells.ensures) in search rules
 
-pub scan_steps-scan-requires : goal.scan_steps-scan-requires
-scan_steps-scan-requires c =
-    found_fits (found c)
+pub scan_steps-requires : goal.scan_steps-requires
+scan_steps-requires c = found_fits (found_of c.count_corners-corners.ensures (rest_is c.args.bytes.now (13 * c.count_corners-corners.result)) c.count_cells-cells.ensures)
+
+pub returns-in_err-scan : goal.returns-in_err-scan
+returns-in_err-scan c =
+    let f = found_of c.count_corners-corners.ensures (rest_is c.args.bytes.now (13 * c.count_corners-corners.result)) c.count_cells-cells.ensures in
+    let h : length c.args.bytes.now ≤ 65536 = search rules in
+    rw c.from_residual.ensures (sym (form_found f h _ _ _ c.in_err-scan.ensures))
 
 pub returns : goal.returns
 returns c =
-    examined (record { corners = c.count_records-corners.ensures; cells = c.count_records-cells.ensures }) c.if-bytes-gt-MOST_BYTES.false c.scan_steps-scan.result.ok c.scan_steps-scan.result.marks
-    c.scan_steps-scan.result.steps c.scan_steps-scan.ensures
+    let f = found_of c.count_corners-corners.ensures (rest_is c.args.bytes.now (13 * c.count_corners-corners.result)) c.count_cells-cells.ensures in
+    let h : length c.args.bytes.now ≤ 65536 = search rules in (
+      sym (form_found f h _ _ _ c.in_ok-scan.ensures),
+      examined f h _ _ c.in_ok-scan.ensures,
+    )

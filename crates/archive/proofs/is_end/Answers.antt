@@ -1,18 +1,13 @@
--- `archive::is_end` meets its contract: it goes through the definition's tests in their order.
-use mathlib.Core.Path.{sym, ◌∙◌}
-use Rattle.archive.proofs.Tests.{end_other, end_marked, end_there}
+-- The tests are those of the definition, in their order.
+use Rattle.std.proofs.Common.{arith, length-drop}
+use Rattle.std.proofs.lemmas.Grind.{common_steps}
+use Rattle.archive.specs.Scan.{endb}
 use Rattle.archive.proofs.is_end.Goals as goal
 
-pub returns-then-not-starts : goal.returns-then-not-starts
-returns-then-not-starts c =
-    end_other c.args.bytes.now c.args.at c.args.least (sym c.starts.ensures ∙ c.if-not-starts.true)
+pub returns-then-least-eq0 : goal.returns-then-least-eq0
+unfolding endb
+returns-then-least-eq0 c = grind (arith, common_steps, length-drop c.args.at c.args.bytes.now)
 
-pub returns-then-least-ne0 : goal.returns-then-least-ne0
-returns-then-least-ne0 c =
-    end_marked c.args.bytes.now c.args.at c.args.least (sym c.starts.ensures ∙ c.if-not-starts.false)
-    c.if-least-ne0.true
-
-pub returns : goal.returns
-returns c =
-    end_there c.args.bytes.now c.args.at c.args.least (sym c.starts.ensures ∙ c.if-not-starts.false)
-    c.if-least-ne0.false
+pub returns-else-least-eq0 : goal.returns-else-least-eq0
+unfolding endb
+returns-else-least-eq0 c = grind (arith, common_steps, length-drop c.args.at c.args.bytes.now)

@@ -27,5 +27,5 @@ pub loop-k-preserved : goal.loop-k-preserved
 loop-k-preserved c =
     filled_more (cell_records (length c.args.bytes.now) (drop c.args.from c.args.bytes.now)).0 c.args.cells.now
     c.loop-k.invariant 0 c.number.result (omega (arith, c.loop-k-test.true))
-    (c.number.ensures.0 ∙ cell_from c.args.bytes.now c.args.from c.loop-k.k c.requires.from_in_bounds
+    (c.number.ensures ∙ cell_from c.args.bytes.now c.args.from c.loop-k.k c.requires.from_in_bounds
     (omega (arith, c.loop-k-test.true)))

@@ -23,7 +23,7 @@ number-requires c =
     omega (
       arith,
       mark_inside c.requires
-          c.loop-at.invariant c.if-bytes-at-eq77.true,
+          c.loop-at.invariant c.if-bytes-at-eq-MARK.true,
     )
 
 pub bounds-marked-m : goal.bounds-marked-m
@@ -31,19 +31,19 @@ bounds-marked-m c =
     omega (
       arith,
       mark_room c.requires
-          c.loop-at.invariant c.if-bytes-at-eq77.true,
+          c.loop-at.invariant c.if-bytes-at-eq-MARK.true,
       cells-length
           c.requires
           c.loop-at.invariant,
       c.requires.marked_fit,
     )
 
-pub bounds-bytes-at-then-bytes-at-eq77 : goal.bounds-bytes-at-then-bytes-at-eq77
-bounds-bytes-at-then-bytes-at-eq77 c =
+pub bounds-bytes-at-then-bytes-at-eq-MARK : goal.bounds-bytes-at-then-bytes-at-eq-MARK
+bounds-bytes-at-then-bytes-at-eq-MARK c =
     omega (
       arith,
       mark_inside c.requires
-          c.loop-at.invariant c.if-bytes-at-eq77.true,
+          c.loop-at.invariant c.if-bytes-at-eq-MARK.true,
     )
 
 pub bounds-marks-m : goal.bounds-marks-m
@@ -52,25 +52,25 @@ bounds-marks-m c =
       arith,
       mark_room
           c.requires
-          c.loop-at.invariant c.if-bytes-at-eq77.true,
+          c.loop-at.invariant c.if-bytes-at-eq-MARK.true,
       marks-length
           c.requires
           c.loop-at.invariant,
       c.requires.marks_fit,
     )
 
-pub loop-at-preserved-then-bytes-at-eq77 : goal.loop-at-preserved-then-bytes-at-eq77
-loop-at-preserved-then-bytes-at-eq77 c =
+pub loop-at-preserved-then-bytes-at-eq-MARK : goal.loop-at-preserved-then-bytes-at-eq-MARK
+loop-at-preserved-then-bytes-at-eq-MARK c =
     load_mark c.requires
-    c.loop-at.invariant c.if-bytes-at-eq77.true c.number.result
-    c.number.ensures.0
+    c.loop-at.invariant c.if-bytes-at-eq-MARK.true c.number.result
+    c.number.ensures
 
 pub bounds-ends-s : goal.bounds-ends-s
 bounds-ends-s c =
     omega (
       arith,
       step_room c.requires
-          c.loop-at.invariant c.loop-at-test.true c.if-bytes-at-eq77.false,
+          c.loop-at.invariant c.loop-at-test.true c.if-bytes-at-eq-MARK.false,
       ends-length-is
           c.requires c.loop-at.invariant,
       c.requires.ends_fit,
@@ -87,7 +87,7 @@ loop-at-smaller c =
 pub loop-at-preserved : goal.loop-at-preserved
 loop-at-preserved c =
     load_step c.requires
-    c.loop-at.invariant c.loop-at-test.true c.if-bytes-at-eq77.false
+    c.loop-at.invariant c.loop-at-test.true c.if-bytes-at-eq-MARK.false
 
 pub returns : goal.returns
 returns c =

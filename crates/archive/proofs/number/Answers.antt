@@ -1,10 +1,7 @@
--- `archive::number` meets its contract: two bytes are a number below 65,536, least byte first.
-use native.Mathlib.Omega.{arith}
+-- Two bytes are a number, least byte first.
+use Rattle.std.proofs.Common.{arith}
 use Rattle.archive.proofs.Tests.{whole_two}
 use Rattle.archive.proofs.number.Goals as goal
 
 pub returns : goal.returns
-returns c = (
-  whole_two c.args.bytes.now c.args.at (omega arith),
-  omega arith,
-)
+returns c = omega (arith, whole_two c.args.bytes.now c.args.at c.requires, c.from_le_bytes.ensures)

@@ -1,10 +1,8 @@
--- `archive::store_corners` meets its contract: the records of the corners passed stand in front. The measure is the number of corners left.
-use Prim.Native.Nat.{◌-◌}
-use Rattle.archive.proofs.Stores.{CornersTo}
+-- The records of the corners passed stand in front.
+use mathlib.Core.List.{[]}
+use Rattle.archive.specs.Job.{corner_bytes}
+use Rattle.archive.proofs.Stores.{RecordsTo}
 use Rattle.archive.proofs.store_corners.Given as goal
 
 abbrev pub invariant-loop-i : goal.invariant-loop-i
-invariant-loop-i l = CornersTo l.positions l.initial.out l.out l.i
-
-abbrev pub decreases-loop-i : goal.decreases-loop-i
-decreases-loop-i l = l.n - l.i
+invariant-loop-i l = RecordsTo corner_bytes 13 [] l.corners 0 l.initial.out l.out l.i

@@ -1,145 +1,56 @@
--- `archive::store_steps` meets its contract: the record `Storing` says what the bytes hold where the way has come. The measure is the
--- number of bytes left.
-use native.Mathlib.Omega.{arith}
-use Rattle.archive.proofs.Storing.{storing_start, storing_length, storing_room, mark_room, storing_mark}
-use Rattle.archive.proofs.Storing.{storing_step, storing_end, storing_place}
+-- A turn stores a mark, or the end of a step.
+use Rattle.std.proofs.Common.{◌≡◌, ◌<◌, get_or, arith, rules}
+use Rattle.archive.proofs.Storing.{storing_start, storing_length, storing_room, mark_room, storing_mark, storing_step, storing_end, storing_place}
 use Rattle.archive.proofs.store_steps.Goals as goal
 
-pub loop-s-init : goal.loop-s-init
-loop-s-init c =
-    storing_start c.requires.ends_rise c.args.from
-    c.args.out.now c.requires.ends_in_bounds
+pub loop-last-init : goal.loop-last-init
+loop-last-init c = storing_start c.requires.ends_rise c.args.from c.args.out.now c.requires.ends_in_bounds
 
 pub put_mark-requires : goal.put_mark-requires
 put_mark-requires c =
-    omega (
-      arith,
-      mark_room c.requires.ends_rise
-          c.args.from
-          c.args.out.now
-          c.requires.ends_in_bounds
-          c.loop-s.invariant c.loop-s-test.true
-          c.if-m-ends.true,
-      storing_length
-          c.requires.ends_rise
-          c.args.from
-          c.args.out.now
-          c.requires.ends_in_bounds
-          c.loop-s.invariant,
-    )
+    let v = c.loop-k.invariant in
+    let g : c.loop-k.k < get_or c.args.ends.now c.loop-last.last-index 0 = omega (arith, v.2, c.loop-k-test.true) in
+    omega (arith, mark_room c.requires.ends_rise c.args.from c.args.out.now c.requires.ends_in_bounds v.0 v.1 g, storing_length c.requires.ends_rise c.args.from c.args.out.now c.requires.ends_in_bounds v.0)
 
 pub overflow_add-at : goal.overflow_add-at
 overflow_add-at c =
-    omega (
-      arith,
-      mark_room
-          c.requires.ends_rise
-          c.args.from
-          c.args.out.now
-          c.requires.ends_in_bounds
-          c.loop-s.invariant
-          c.loop-s-test.true
-          c.if-m-ends.true,
-    )
+    let v = c.loop-k.invariant in
+    let g : c.loop-k.k < get_or c.args.ends.now c.loop-last.last-index 0 = omega (arith, v.2, c.loop-k-test.true) in
+    let r = mark_room c.requires.ends_rise c.args.from c.args.out.now c.requires.ends_in_bounds v.0 v.1 g in
+    search rules
 
-pub loop-s-smaller-then-m-ends : goal.loop-s-smaller-then-m-ends
-loop-s-smaller-then-m-ends c =
-    omega (
-      arith,
-      mark_room
-          c.requires.ends_rise
-          c.args.from
-          c.args.out.now
-          c.requires.ends_in_bounds
-          c.loop-s.invariant
-          c.loop-s-test.true
-          c.if-m-ends.true,
+pub loop-k-preserved : goal.loop-k-preserved
+loop-k-preserved c =
+    let v = c.loop-k.invariant in
+    let g : c.loop-k.k < get_or c.args.ends.now c.loop-last.last-index 0 = omega (arith, v.2, c.loop-k-test.true) in (
+      storing_mark c.requires.ends_rise c.args.from c.args.out.now c.requires.ends_in_bounds v.0 v.1 g c.put_mark.ensures,
+      v.1,
+      v.2,
+      omega arith,
     )
-
-pub loop-s-preserved-then-m-ends : goal.loop-s-preserved-then-m-ends
-loop-s-preserved-then-m-ends c =
-    storing_mark
-    c.requires.ends_rise
-    c.args.from
-    c.args.out.now
-    c.requires.ends_in_bounds
-    c.loop-s.invariant
-    c.loop-s-test.true
-    c.if-m-ends.true c.put_mark.ensures
 
 pub bounds-out-at : goal.bounds-out-at
 bounds-out-at c =
-    omega (
-      arith,
-      storing_room c.requires.ends_rise
-          c.args.from
-          c.args.out.now
-          c.requires.ends_in_bounds c.loop-s.invariant,
-      storing_length
-          c.requires.ends_rise
-          c.args.from
-          c.args.out.now
-          c.requires.ends_in_bounds c.loop-s.invariant,
-    )
+    let v = c.loop-k.invariant in omega (arith, storing_room c.requires.ends_rise c.args.from c.args.out.now c.requires.ends_in_bounds v.0, storing_length c.requires.ends_rise c.args.from c.args.out.now c.requires.ends_in_bounds v.0)
 
-pub overflow_add-at-in-loop-s : goal.overflow_add-at-in-loop-s
-overflow_add-at-in-loop-s c =
-    omega (
-      arith,
-      storing_room c.requires.ends_rise
-          c.args.from
-          c.args.out.now
-          c.requires.ends_in_bounds c.loop-s.invariant,
-    )
+pub overflow_add-at-in-loop-last : goal.overflow_add-at-in-loop-last
+overflow_add-at-in-loop-last c = let r = storing_room c.requires.ends_rise c.args.from c.args.out.now c.requires.ends_in_bounds c.loop-k.invariant.0 in search rules
 
-pub loop-s-smaller : goal.loop-s-smaller
-loop-s-smaller c =
-    omega (
-      arith,
-      storing_room c.requires.ends_rise
-          c.args.from
-          c.args.out.now
-          c.requires.ends_in_bounds c.loop-s.invariant,
-    )
-
-pub loop-s-preserved : goal.loop-s-preserved
-loop-s-preserved c =
-    storing_step c.requires.ends_rise
-    c.args.from
-    c.args.out.now
-    c.requires.ends_in_bounds c.loop-s.invariant
-    c.loop-s-test.true c.if-m-ends.false
+pub loop-last-preserved : goal.loop-last-preserved
+loop-last-preserved c =
+    let v = c.loop-k.invariant in
+    let e : c.loop-k.k ≡ c.from-end.result = omega (arith, v.3, c.loop-k-test.false) in
+    rw e at (storing_step c.requires.ends_rise c.args.from c.args.out.now c.requires.ends_in_bounds v.0 v.1 (omega (arith, v.2, c.loop-k-test.false)))
 
 pub bounds-out-at-2 : goal.bounds-out-at-2
 bounds-out-at-2 c =
-    omega (
-      arith,
-      storing_room c.requires.ends_rise
-          c.args.from c.args.out.now
-          c.requires.ends_in_bounds c.loop-s.invariant,
-      storing_length
-          c.requires.ends_rise c.args.from
-          c.args.out.now c.requires.ends_in_bounds
-          c.loop-s.invariant,
-    )
+    omega (arith, storing_room c.requires.ends_rise c.args.from c.args.out.now c.requires.ends_in_bounds c.loop-last.invariant, storing_length c.requires.ends_rise c.args.from c.args.out.now c.requires.ends_in_bounds c.loop-last.invariant)
 
 pub overflow_add-result : goal.overflow_add-result
-overflow_add-result c =
-    omega (
-      arith,
-      storing_room c.requires.ends_rise
-          c.args.from c.args.out.now
-          c.requires.ends_in_bounds c.loop-s.invariant,
-    )
+overflow_add-result c = let r = storing_room c.requires.ends_rise c.args.from c.args.out.now c.requires.ends_in_bounds c.loop-last.invariant in search rules
 
-pub returns : goal.returns
-returns c =
-    record {
-      out_value = storing_end c.requires.ends_rise
-          c.args.from c.args.out.now
-          c.requires.ends_in_bounds c.loop-s.invariant c.loop-s-test.false;
-      value = storing_place
-          c.requires.ends_rise c.args.from
-          c.args.out.now c.requires.ends_in_bounds
-          c.loop-s.invariant c.loop-s-test.false;
-    }
+pub returns-clause-out_value : goal.returns-clause-out_value
+returns-clause-out_value c = storing_end c.requires.ends_rise c.args.from c.args.out.now c.requires.ends_in_bounds c.loop-last.invariant (search rules)
+
+pub returns-clause-value : goal.returns-clause-value
+returns-clause-value c = storing_place c.requires.ends_rise c.args.from c.args.out.now c.requires.ends_in_bounds c.loop-last.invariant (search rules)

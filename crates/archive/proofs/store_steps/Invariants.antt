@@ -1,12 +1,12 @@
--- `archive::store_steps` meets its contract: the record `Storing` says what the bytes hold where the way has come. The measure is the
--- number of bytes left.
-use Prim.Native.Nat.{◌-◌}
-use lib.ListN.{length}
+-- The record `Storing` says what the bytes hold where the way has come.
+use mathlib.Core.Path.{◌≡◌}
+use Prim.Native.Nat.{◌≤◌, ◌<◌}
+use lib.ListN.{length, get_or}
 use Rattle.archive.proofs.Storing.{Storing}
 use Rattle.archive.proofs.store_steps.Given as goal
 
-abbrev pub invariant-loop-s : goal.invariant-loop-s
-invariant-loop-s l = Storing l.marked l.marks l.ends l.from l.initial.out l.out l.at l.m l.s
+abbrev pub invariant-loop-last : goal.invariant-loop-last
+invariant-loop-last l = Storing l.marked l.marks l.ends l.from l.fn.out l.out l.at l.m l.last-index
 
-abbrev pub decreases-loop-s : goal.decreases-loop-s
-decreases-loop-s l = length l.initial.out - l.at
+abbrev pub invariant-loop-k : goal.invariant-loop-k
+invariant-loop-k l = Storing l.marked l.marks l.ends l.from l.fn.out l.out l.at l.k l.last-index × (l.last-index < length l.ends) × (l.end ≡ get_or l.ends l.last-index 0) × (l.k ≤ l.end)

@@ -1,18 +1,37 @@
--- `keeping::keep` meets its contract: what looking at eleven levels leaves is told by the table's own definitions.
-use Rattle.keeping.proofs.Sound.{marked_old, marked_span, marked_result}
+-- What looking at eleven levels leaves is told by the table's own definitions.
+use Rattle.std.proofs.Common.{rules, arith}
+use Rattle.std.proofs.lemmas.Result.{MatchResult-weaker}
+use Rattle.keeping.proofs.Sound.{marked_old, marked_span, marked_whole, marked_refused}
 use Rattle.keeping.proofs.keep.Goals as goal
 
-pub treat_all-requires : goal.treat_all-requires
-treat_all-requires c =
+pub invariant_of-old : goal.invariant_of-old
+invariant_of-old g c =
+    let a = c.args in
+    let o = marked_old a.n a.mesh.now a.rows.now a.status.now a.marks.now a.kids.now a.kept.now c.requires.marked in
     record {
-      old_rows = marked_old c.args.n c.args.mesh.now c.args.rows.now c.args.status.now c.args.marks.now c.args.kids.now c.args.kept.now c.requires.marked;
-      span = marked_span c.args.n c.args.mesh.now c.args.rows.now c.args.status.now c.args.marks.now c.args.kids.now c.args.kept.now c.requires.marked;
-      clear = c.requires.clear;
-      side_by_side = c.requires.side_by_side;
+      in_order = record {
+        few = o.few;
+        rows = o.rows;
+        marks = omega (arith, o.marks);
+        size = o.size;
+        up = o.up;
+        top = o.top;
+      };
     }
 
+pub treat_all-requires : goal.treat_all-requires
+treat_all-requires g c =
+    let a = c.args in (
+      search rules,
+      (
+        marked_span a.n a.mesh.now a.rows.now a.status.now a.marks.now a.kids.now a.kept.now c.requires.marked,
+        (c.requires.small, c.requires.empty),
+      ),
+    )
+
 pub returns : goal.returns
-returns c =
-    marked_result c.args.n c.args.mesh.now c.args.rows.now c.args.status.now c.args.marks.now c.args.kids.now c.args.kept.now
-    c.requires.marked c.treat_all.new.kept c.args.xs.now _ _
-    c.treat_all.ensures
+returns g c =
+    let a = c.args in
+    MatchResult-weaker c.treat_all.result c.treat_all.ensures
+    (λ _. marked_whole a.n a.mesh.now a.rows.now a.status.now a.marks.now a.kids.now a.kept.now c.requires.marked c.treat_all.new.kept)
+    (marked_refused a.n a.mesh.now a.rows.now a.status.now a.marks.now a.kids.now a.kept.now c.requires.marked g.row.N)

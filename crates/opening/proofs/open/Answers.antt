@@ -1,41 +1,27 @@
--- `opening::open` meets its contract: the mesh is examined first, then the table.
-use mathlib.Core.Path.{sym, ◌∙◌, ap}
-use Rattle.base.specs.Refuse.{code_of, answer_of}
+-- The mesh is examined first, then the table.
+use Rattle.std.proofs.Common.{◌≡◌, ◌∙◌, sym, ap, rules, Err}
+use Rattle.base.specs.Refuse.{code_of}
 use Rattle.opening.specs.Accepted.{mesh_passed}
-use Rattle.opening.proofs.Answers.{table_mesh, table_examined, examined_sound}
+use Rattle.opening.proofs.Answers.{table_mesh, table_examined, examined_fits}
 use Rattle.opening.proofs.open.Goals as goal
 
-pub returns-then-refusal-ne0 : goal.returns-then-refusal-ne0
-returns-then-refusal-ne0 c =
-    record {
-      answer = table_mesh c.args.positions.now c.args.cells.now c.args.status.now c.code-refusal.result
-          (c.code-refusal.ensures ∙ ap code_of c.examine_mesh.ensures) c.if-refusal-ne0.true
-          ∙ ap answer_of (sym c.refused.ensures.0);
-      fits = λ z. absurd (c.if-refusal-ne0.true (sym c.refused.ensures.0 ∙ z));
-    }
+pub returns-in_err-examine_mesh-clause-answer : goal.returns-in_err-examine_mesh-clause-answer
+returns-in_err-examine_mesh-clause-answer g c =
+    let r : c.from_residual.result ≡ Err c.in_err-examine_mesh.field-0.0 = search rules in
+    rw r (table_mesh c.args.positions.now c.args.cells.now c.args.status.now c.in_err-examine_mesh.ensures)
 
 pub examine-requires : goal.examine-requires
-examine-requires c =
-    record {
-      mesh = (mesh_passed c.args.positions.now
-          c.args.cells.now
-          (ap code_of (sym c.examine_mesh.ensures)
-          ∙ sym c.code-refusal.ensures ∙ c.if-refusal-ne0.false)).mesh;
-      table_room = c.requires;
-    }
+unfolding code_of
+examine-requires g c = (
+  search rules,
+  ((mesh_passed c.args.positions.now c.args.cells.now (ap code_of (sym c.in_ok-examine_mesh.ensures))).mesh, c.requires),
+)
 
-pub returns : goal.returns
-returns c =
-    let e = ap code_of (sym c.examine_mesh.ensures)
-    ∙ sym c.code-refusal.ensures ∙ c.if-refusal-ne0.false in
-    let p = mesh_passed c.args.positions.now c.args.cells.now e in
-    record {
-      answer = table_examined c.args.positions.now c.args.cells.now c.args.status.now c.examine.result.refusal e c.examine.ensures.answer;
-      fits = λ z. record {
-        mesh = p.mesh;
-        positions = p.positions;
-        table = examined_sound c.args.positions.now c.args.cells.now
-            c.args.status.now c.examine.result.refusal c.examine.ensures.answer z;
-        sound = c.examine.ensures.sound z;
-      };
-    }
+pub returns-clause-answer : goal.returns-clause-answer
+returns-clause-answer g c =
+    c.examine.ensures.answer ∙ table_examined c.args.positions.now c.args.cells.now c.args.status.now c.in_ok-examine_mesh.ensures
+
+pub returns-clause-fits : goal.returns-clause-fits
+returns-clause-fits g c =
+    examined_fits c.args.positions.now c.args.cells.now c.args.status.now c.in_ok-examine_mesh.ensures _ _ _ _ c.examine.result
+    c.examine.ensures.answer c.examine.ensures.laid

@@ -1,21 +1,27 @@
--- `writing::write_kept` meets its contract: the invariant is `Two` (crate's proofs). The measure is how many children are left.
-use mathlib.Core.Path.{sym, ◌∙◌}
-use Prim.Native.Nat.{◌-◌}
-use native.Mathlib.Omega.{arith}
-use lib.ListN.{drop}
-use lib.Seq.{get_or-take, get_or-drop}
-use Rattle.base.specs.Range.{range, length-range, range_at}
+-- `writing::write_kept` meets its contract: the statuses are copied at once, and the invariant says that the numbers before are written.
+use Rattle.std.proofs.Common.{◌≡◌, ◌+◌, ◌-◌, length, arith}
 use Rattle.rows.specs.Numbered.{part}
 use Rattle.rows.specs.Laws.{length_part}
-use Rattle.writing.proofs.Front.{Two, two_start, two_more, two_all}
+use Rattle.writing.proofs.Front.{copied, numbers_start, numbers_more, numbers_all}
 use Rattle.writing.proofs.write_kept.Goals as goal
 
 pub loop-i-init : goal.loop-i-init
-loop-i-init c =
-    two_start c.args.table.now c.args.old.now c.args.at (part c.args.kept.now c.args.first 8) (range c.args.first 8) 8 (omega arith) (omega arith)
-    (length_part c.args.kept.now c.args.first 8 c.requires.first_in_bounds.0) (length-range c.args.first 8)
+loop-i-init c = numbers_start c.args.old.now c.args.at c.args.first c.args.count (omega arith)
+
+pub bounds-old-at : goal.bounds-old-at
+bounds-old-at c = omega arith
 
 pub loop-i-preserved : goal.loop-i-preserved
 loop-i-preserved c =
-    two_more c.loop-i.invariant c.loop-i-test.true (sym (get_or-take 8 (drop c.args.first c.args.kept.now) c.loop-i.i 0 c.loop-i-test.true ∙ get_or-drop c.args.first c.args.kept.now c.loop-i.i 0))
-    (sym (range_at c.args.first 8 c.loop-i.i 0 c.loop-i-test.true))
+    numbers_more c.args.old.now c.args.at c.args.first c.args.count (omega arith) c.loop-i.i c.loop-i.old c.loop-i-test.true c.loop-i.invariant
+
+pub returns : goal.returns
+returns c =
+    let w : c.args.first + c.args.count - c.args.first ≡ c.args.count = omega arith in
+    let vs = part c.args.kept.now c.args.first c.args.count in
+    let n : c.args.at + c.args.count - c.args.at ≡ length vs =
+    omega (arith, length_part c.args.kept.now c.args.first c.args.count c.requires.first_in_bounds.0) in
+    record {
+      statuses = copied c.args.table.now c.args.at _ vs _ n (rw w at c.copy_from_slice.ensures.after);
+      olds = numbers_all c.args.old.now c.args.at c.args.first c.args.count (omega arith) c.loop-i.i c.loop-i.old c.loop-i-test.false c.loop-i.invariant;
+    }

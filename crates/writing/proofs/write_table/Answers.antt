@@ -1,22 +1,36 @@
--- `writing::write_table` meets its contract: the invariant is `WriteGoing` (crate's proofs). The measure is how many levels are left.
-use Prim.Native.Nat.{◌-◌}
-use native.Mathlib.Omega.{arith}
-use Rattle.writing.proofs.Turn.{WriteGoing, coarse_inside, going_start, level_room, result_now, going_next}
+-- `writing::write_table` meets its contract: the invariant is `WriteGoing` (crate's proofs).
+use Rattle.std.proofs.Common.{arith}
+use Rattle.writing.proofs.Turn.{coarse_inside, going_start, level_room, result_end, result_many, result_high, going_next}
 use Rattle.writing.proofs.write_table.Goals as goal
 
-pub write_coarse-requires : goal.write_coarse-requires
-write_coarse-requires c =
+pub write_kept-requires-clause-first_in_bounds : goal.write_kept-requires-clause-first_in_bounds
+write_kept-requires-clause-first_in_bounds c =
     let i = coarse_inside c.requires in
-    (omega (arith, c.requires.coarse), omega (arith, i, c.requires.in_kept), omega (arith, c.requires.coarse), omega (arith, c.requires.coarse))
+    (omega (arith, i, c.requires.in_kept), omega (arith, c.requires.coarse))
 
-pub loop-coarse-init : goal.loop-coarse-init
-loop-coarse-init c =
-    going_start c.requires c.write_coarse-arg-1.given.0.1 c.write_coarse-arg-2-1.given.0.1 c.write_coarse.ensures
+pub write_kept-requires-clause-room_for : goal.write_kept-requires-clause-room_for
+write_kept-requires-clause-room_for c =
+    record { in_table = c.told-table; in_old = c.told-old; enough = omega (arith, c.requires.coarse) }
 
-pub returns-then-end : goal.returns-then-end
-returns-then-end c =
-    result_now c.requires c.loop-coarse.invariant c.level_size-size.ensures c.ending-end.ensures c.if-end.true
+pub loop-level-init : goal.loop-level-init
+loop-level-init c = going_start c.requires c.told-table c.told-old c.write_kept.ensures
 
-pub loop-coarse-preserved : goal.loop-coarse-preserved
-loop-coarse-preserved c =
-    going_next c.requires c.loop-coarse.invariant c.level_size-size.ensures c.ending-end.ensures c.if-end.false c.write_level.ensures
+pub returns-then-size-eq0 : goal.returns-then-size-eq0
+returns-then-size-eq0 c = result_end c.requires c.loop-level.invariant (omega arith)
+
+pub returns-then-size-last : goal.returns-then-size-last
+returns-then-size-last c = result_many c.requires c.loop-level.invariant (omega arith) (omega arith)
+
+pub write_level-requires : goal.write_level-requires
+write_level-requires c = level_room c.requires c.loop-level.invariant c.level_size-size.result c.level_size-size.ensures (omega arith)
+
+pub loop-level-preserved : goal.loop-level-preserved
+loop-level-preserved c =
+    going_next c.requires c.loop-level.invariant (omega arith) c.level_size-size.result c.level_size-size.ensures c.loop-level-test.true (omega arith)
+    c.write_level.ensures
+
+pub returns-then-level_size-gt0 : goal.returns-then-level_size-gt0
+returns-then-level_size-gt0 c = result_high c.requires c.loop-level.invariant (omega arith) (omega arith)
+
+pub returns : goal.returns
+returns c = result_end c.requires c.loop-level.invariant (omega arith)

@@ -1,7 +1,7 @@
 -- The levels above are treated first, then this one.
 use Rattle.std.proofs.Common.{arith, ◌-◌}
-use Rattle.std.proofs.lemmas.Result.{err_from_is_err_and}
-use Rattle.flagging.proofs.Up.{ended, up_none, up_refused, up_more, up_untreated}
+use Rattle.std.proofs.lemmas.Result.{err_from_is_err_and, MatchResult-weaker}
+use Rattle.flagging.proofs.Up.{up_none, up_refused, up_more, up_untreated}
 use Rattle.flagging.proofs.OldTable.+treat_up.Goals as goal
 
 pub returns-then-depth-eq0 : goal.returns-then-depth-eq0
@@ -21,8 +21,8 @@ returns-in_err-treat_up g t c =
 pub returns : goal.returns
 returns g t c =
     let o = c.args.self.now in
-    ended c.treat_level.result c.treat_level.ensures
-    (up_more o.rows.now o.status.now o.marks.now o.kids.now c.args.first c.args.last (c.args.depth - 1) c.args.depth
+    MatchResult-weaker c.treat_level.result c.treat_level.ensures
+    (λ _. up_more o.rows.now o.status.now o.marks.now o.kids.now c.args.first c.args.last (c.args.depth - 1) c.args.depth
     (omega (arith, c.if-depth-eq0.false)) c.args.kept.now c.treat_up.new.kept c.treat_up.new.table c.in_ok-treat_up.ensures
     c.requires.one_level.span c.treat_level.new.kept c.treat_level.new.table)
     (up_untreated o.rows.now o.status.now o.marks.now o.kids.now c.args.first c.args.last (c.args.depth - 1) c.args.depth

@@ -1,11 +1,11 @@
--- `trial::layouts::sum_up` meets its contract, by those of the checksums.
+-- By the contracts of the checksums.
 use Rattle.trial.specs.Layouts.{summary_of}
 use Rattle.trial.proofs.layouts.sum_up.Goals as goal
 
-pub returns-in-Out : goal.returns-in-Out
+pub returns-in-Ok : goal.returns-in-Ok
 unfolding summary_of
-returns-in-Out c = rw (c.in-Out.is, c.checksum-t.ensures, c.checksum-e.ensures, c.checksum_signed-s.ensures)
+returns-in-Ok c = rw (c.in-Ok.is, c.checksum-t.ensures, c.checksum-e.ensures, c.checksum-s.ensures)
 
-pub returns-in-Refused : goal.returns-in-Refused
+pub returns-in-Err : goal.returns-in-Err
 unfolding summary_of
-returns-in-Refused c = rw (c.in-Refused.is, c.checksum-t.ensures, c.checksum-e.ensures, c.checksum_signed-s.ensures)
+returns-in-Err c = rw (c.in-Err.is, c.checksum-t.ensures, c.checksum-e.ensures, c.checksum-s.ensures)

@@ -1,18 +1,16 @@
--- `trial::pattern::checksum` meets its contract: one element less is left, and none at the end.
-use mathlib.Core.Path.{sym, ◌∙◌}
-use Prim.Native.Nat.{ℕ}
-use native.Mathlib.Omega.{arith}
+-- One element less is left, and none at the end.
+use Rattle.std.proofs.Common.{sym, ◌∙◌, ap, arith, rules}
 use Rattle.trial.proofs.Tables.{check_next, check_end}
 use Rattle.trial.proofs.pattern.checksum.Goals as goal
 
-pub loop-i-preserved : goal.loop-i-preserved
-loop-i-preserved c =
-    let l = c.loop-i in (
+pub loop-entry-preserved : goal.loop-entry-preserved
+loop-entry-preserved g c =
+    let l = c.loop-entry in (
       c.turn-sum.ensures.1,
-      omega arith,
-      check_next (λ (y : ℕ). y) l.sum _ l.i 0 _ _ _ c.loop-i-test.true c.wide.ensures.0 c.turn-sum.ensures.0
-          l.invariant.2,
+      check_next g.T.Entry.taken l.sum c.args.list.now l.entry-index c.entry-item.result c.take.result c.turn-sum.result _ (search rules)
+          (c.take.ensures.0 ∙ ap g.T.Entry.taken c.entry-item.is) c.turn-sum.ensures.0 l.invariant.1,
     )
 
 pub returns : goal.returns
-returns c = let l = c.loop-i in sym (check_end (λ (y : ℕ). y) l.sum _ l.i (omega arith)) ∙ l.invariant.2
+returns g c =
+    let l = c.loop-entry in sym (check_end g.T.Entry.taken l.sum c.args.list.now l.entry-index (search rules)) ∙ l.invariant.1

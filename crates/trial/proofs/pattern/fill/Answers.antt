@@ -1,21 +1,18 @@
--- `trial::pattern::fill` meets its contract: one place more holds its number.
-use mathlib.Core.Path.{refl, ap, ◌∙◌}
-use Prim.Native.Nat.{ℕ, ◌%◌}
-use native.Mathlib.Omega.{arith}
-use borrow.Author.Rules.{rules}
-use Rattle.trial.specs.Pattern.{fill_at, word_fill}
-use Rattle.trial.proofs.Tables.{tabbed_start, tabbed_more, fill_next}
+-- One place more holds its number.
+use Rattle.std.proofs.Common.{refl, ap, ◌∙◌, arith, rules, ℕ}
+use Rattle.trial.specs.Pattern.{fill_at}
+use Rattle.trial.proofs.Tables.{tabbed_start, tabbed_more, tabbed_all, fill_next}
 use Rattle.trial.proofs.pattern.fill.Goals as goal
 
-pub loop-i-init : goal.loop-i-init
+pub loop-place-init : goal.loop-place-init
 unfolding fill_at
-loop-i-init c = (refl, omega arith, refl, tabbed_start word_fill _)
+loop-place-init g c = (omega arith, refl, tabbed_start (λ (k : ℕ). g.T.Entry.made (fill_at k)) c.args.list.now)
 
-pub loop-i-preserved : goal.loop-i-preserved
-loop-i-preserved c =
-    let l = c.loop-i in (
-      search rules,
+pub loop-place-preserved : goal.loop-place-preserved
+loop-place-preserved g c =
+    let l = c.loop-place in (
       c.turn-x.ensures.1,
-      c.turn-x.ensures.0 ∙ fill_next l.x l.i l.invariant.2,
-      tabbed_more word_fill _ l.invariant.3 _ (omega arith) (ap (λ (y : ℕ). y % 65536) l.invariant.2),
+      c.turn-x.ensures.0 ∙ fill_next l.x l.place-index l.invariant.1,
+      tabbed_more (λ (k : ℕ). g.T.Entry.made (fill_at k)) c.args.list.now l.invariant.2 c.make.result (search rules)
+          (c.make.ensures ∙ ap g.T.Entry.made l.invariant.1),
     )

@@ -1,12 +1,17 @@
--- `trial::pattern::lent` meets its contract: one less where it is to be short.
-use native.Mathlib.Omega.{arith}
+-- One less where it is to be short.
+use Rattle.std.proofs.Common.{◌≡◌, ◌∙◌, ap, refl, ◌-◌, ℕ, arith}
+use mathlib.Core.Bool.{Bool, true, false}
+use mir.Val.{bool_byte}
 use Rattle.base.specs.Bools.{one_if}
 use Rattle.trial.proofs.pattern.lent.Goals as goal
 
-pub returns-then-not-short : goal.returns-then-not-short
+byte_is : (b : Bool) → bool_byte b ≡ one_if b
 unfolding one_if
-returns-then-not-short c = (rw (c.if-not-short.true, one_if) (omega arith), omega arith)
+byte_is true = refl
+byte_is false = refl
 
 pub returns : goal.returns
-unfolding one_if
-returns c = (rw (c.if-not-short.false, one_if), omega arith)
+returns c = (
+  c.saturating_sub.ensures ∙ ap (λ (k : ℕ). c.args.full - k) (c.from.ensures ∙ byte_is c.args.short),
+  omega (arith, c.saturating_sub.ensures),
+)

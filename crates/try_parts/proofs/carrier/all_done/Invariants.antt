@@ -1,6 +1,0 @@
--- The measure is the number of parts left.
-use Rattle.std.proofs.Common.{◌-◌}
-use Rattle.try_parts.proofs.carrier.all_done.Given as goal
-
-abbrev pub decreases-loop-at : goal.decreases-loop-at
-decreases-loop-at l = l.parts - l.at

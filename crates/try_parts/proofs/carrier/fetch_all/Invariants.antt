@@ -1,5 +1,0 @@
--- The measure is the number of turns left.
-use Rattle.try_parts.proofs.carrier.fetch_all.Given as goal
-
-abbrev pub decreases-loop-left : goal.decreases-loop-left
-decreases-loop-left l = l.left
