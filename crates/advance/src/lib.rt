@@ -15,7 +15,7 @@ use pairs::PairTable;
 #[derive(Drop)]
 pub struct Work<const N: usize, const H: usize, const K: usize> {
     pub red: PairTable<N, H>,
-    pub old: [u16; 4096],
+    pub olds: [u16; 4096],
     pub kids: [u16; K],
     pub kept: [u8; K],
 }
@@ -27,7 +27,7 @@ impl<const N: usize, const H: usize, const K: usize> Work<N, H, K> {
     {
         Work {
             red: PairTable::new(),
-            old: [0; 4096],
+            olds: [0; 4096],
             kids: [0; K],
             kept: [0; K],
         }
@@ -55,6 +55,22 @@ pub fn advance<const N: usize, const H: usize, const K: usize>(
 {
     let coarse = mesh.len() / 4;
     firsts::first_children(status, coarse, &mut work.kids);
-    keeping::keep(mesh, n, rows, status, marks, &work.kids, &mut work.kept, &mut work.red)?;
-    writing::write_table(status, &work.kids, &work.kept[..status.len()], coarse, table, &mut work.old)
+    keeping::keep(
+        mesh,
+        n,
+        rows,
+        status,
+        marks,
+        &work.kids,
+        &mut work.kept,
+        &mut work.red,
+    )?;
+    writing::write_table(
+        status,
+        &work.kids,
+        &work.kept[..status.len()],
+        coarse,
+        table,
+        &mut work.olds,
+    )
 }

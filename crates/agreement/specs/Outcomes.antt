@@ -53,7 +53,7 @@ use Rattle.tasks.specs.Holders.{split_task, part_numbered, owner_ranged, family_
 use Rattle.tasks.specs.Accepted.{Splits, split_store_lem, split_table}
 use Rattle.tasks.proofs.Accepted.{split_slots}
 use Rattle.held.specs.Held.{held_in}
-use Rattle.held.specs.declared.Progress.TheVariants as progress
+use Rattle.held.specs.Progress as progress
 use Rattle.outcome.specs.Program.{act, phase_of}
 use Rattle.agreement.specs.Terms.{Calls, marks_given, serial_marks}
 use Rattle.held.specs.Says.{says_of}

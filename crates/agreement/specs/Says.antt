@@ -35,8 +35,8 @@ use Rattle.partstep.specs.Step.{readyb, part_answer, part_after}
 use Rattle.held.specs.Held.{stage_answer, stage_of, progress_of, entry_in, held_in}
 use Rattle.held.specs.Says.{says_of, doneb}
 use Rattle.held.proofs.Says.{says_stage}
-use Rattle.held.specs.declared.Progress.{Progress}
-use Rattle.held.specs.declared.Progress.TheVariants as progress
+use Rattle.held.specs.Progress.{Progress}
+use Rattle.held.specs.Progress as progress
 use Rattle.outcome.specs.Program.{gives, nine, act}
 use Rattle.outcome.specs.Machines.{some_accepted}
 use Rattle.agreement.specs.Terms.{Calls, Stores}

@@ -35,8 +35,8 @@ use Rattle.split.specs.Split.{split_answer, split_after}
 use Rattle.split.specs.Messages.{messages_to}
 use Rattle.held.specs.Held.{full_held, held_in, entry_row, held_rows, held_answer, listed_of}
 use Rattle.held.specs.Says.{says_of, doneb}
-use Rattle.held.specs.declared.Progress.TheVariants.{Done, Ended}
-use Rattle.held.specs.declared.Listed.TheVariants.{Rows}
+use Rattle.held.specs.Progress.{Done, Ended}
+use Rattle.held.specs.Listed.{Rows}
 use Rattle.merge.specs.Merge.{stores_in, merge_answer, merge_table}
 use Rattle.joining.specs.Joint.{Order}
 use Rattle.outcome.specs.Program.{nine, act, phase_of}

@@ -31,7 +31,7 @@ use Rattle.split.specs.Messages.{messages_to}
 use Rattle.held.specs.Held.{held_in, held_rows, held_answer, listed_of}
 use Rattle.held.specs.Says.{says_of, doneb}
 use Rattle.held.proofs.Says.{done_read}
-use Rattle.held.specs.declared.Progress.TheVariants.{Done, Ended}
+use Rattle.held.specs.Progress.{Done, Ended}
 use Rattle.tasks.specs.Edges.{slots_on}
 use Rattle.tasks.specs.Accepted.{Splits, splits_from}
 use Rattle.tasks.proofs.Accepted.{split_slots}

@@ -28,8 +28,8 @@ use Rattle.store.specs.Hand.{number_at, wellb, taken_at, ended_at, hand_answer, 
 use Rattle.turns.specs.Start.{marks_due, start_answer, started_in, start_after}
 use Rattle.partstep.specs.Step.{readyb, part_answer, part_after}
 use Rattle.held.specs.Held.{full_held, held_answer, stage_answer, stage_of, progress_of}
-use Rattle.held.specs.declared.Progress.{Progress}
-use Rattle.held.specs.declared.Progress.TheVariants as progress
+use Rattle.held.specs.Progress.{Progress}
+use Rattle.held.specs.Progress as progress
 use Rattle.split.specs.Split.{stores_after, split_answer, split_in, split_after}
 use Rattle.merge.specs.Merge.{mergeb, merge_answer}
 use Rattle.outcome.specs.Program.{gives, nine, act}

@@ -79,9 +79,9 @@ pub length-rows : (x : List ℕ) → length (held_rows x) ≡ 14 * field x ENTRI
 unfolding held_rows held_in
 length-rows x = rows-length x 0 (field x ENTRIES)
 
-pub length-held : (x : List ℕ) → length (held_in x) ≡ field x ENTRIES
+pub length_held : (x : List ℕ) → length (held_in x) ≡ field x ENTRIES
 unfolding held_in
-length-held x = length-map (range 0 (field x ENTRIES)) (entry_in x) ∙ length-range 0 (field x ENTRIES)
+length_held x = length-map (range 0 (field x ENTRIES)) (entry_in x) ∙ length-range 0 (field x ENTRIES)
 
 -- the rest is written as the whole
 abbrev pub RowsLeft : List ℕ → ℕ → ℕ → List ℕ → List ℕ → Type 0

@@ -18,10 +18,10 @@ use Rattle.store.specs.Fields.{field, full, STAGE, ENTRIES, PLACE_HEAD, PLACE_DI
 use Rattle.store.specs.Fields.{ROUND, RESULT}
 use Rattle.store.specs.Header.{headerb}
 use Rattle.store.specs.Places.{path_of}
-use Rattle.held.specs.declared.Progress.{Progress}
-use Rattle.held.specs.declared.Progress.TheVariants as progress
-use Rattle.held.specs.declared.Listed.{Listed}
-use Rattle.held.specs.declared.Listed.TheVariants as listed
+use Rattle.held.specs.Progress.{Progress}
+use Rattle.held.specs.Progress as progress
+use Rattle.held.specs.Listed.{Listed}
+use Rattle.held.specs.Listed as listed
 
 -- Rule 15.11: a ghost's status has 128 more
 unfoldable pub entry_in : List ℕ → ℕ → Entry

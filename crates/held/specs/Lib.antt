@@ -1,3 +1,5 @@
+pub mod Progress
+pub mod Listed
 pub mod Held
 pub mod Says
 pub mod Key

@@ -3,8 +3,8 @@
 --   doneb d       the answer d says that the part is done
 use Rattle.std.specs.Prelude.{Bool, true, false, List, ℕ}
 use Rattle.held.specs.Held.{stage_answer, stage_of, progress_of}
-use Rattle.held.specs.declared.Progress.{Progress}
-use Rattle.held.specs.declared.Progress.TheVariants as progress
+use Rattle.held.specs.Progress.{Progress}
+use Rattle.held.specs.Progress as progress
 
 -- Rule 15.11.
 unfoldable pub says_of : List ℕ → Progress

@@ -3,7 +3,6 @@
 
 ghost use Rattle.std.specs.Prelude.{◌≡◌, ◌+◌, ◌*◌, ◌/◌, ◌^◌, ◌≤◌, ◌<◌, min, length};
 ghost use Rattle.std.proofs.lemmas.List.Edits.{sets};
-ghost use Rattle.base.specs.Bools.{one_if};
 ghost use Rattle.base.specs.Limits.{top_level, most_cells};
 ghost use Rattle.base.specs.Refuse.{held_after};
 ghost use Rattle.store.specs.Fields.{field, full, ENTRIES};
@@ -12,8 +11,10 @@ ghost use Rattle.store.specs.Places.{eights, path_of};
 ghost use Rattle.held.specs.Held.{entry_in, held_in, entry_row, held_rows, held_answer, stage_answer, stage_of, progress_of, listed_of};
 ghost use Rattle.held.specs.Held.{full_held};
 ghost use Rattle.held.specs.Key.{Keyed};
+ghost use Rattle.held.specs.Listed.{listed};
+ghost use Rattle.held.specs.Progress.{progressed};
 
-use base::{MOST_CELLS, TOP_LEVEL};
+use base::{MOST_CELLS, Refusal, TOP_LEVEL};
 use mail::header_fits;
 use store::{
     ENTRIES, FULL, PLACE_DIGITS, PLACE_HEAD, PLACE_MORE, PLACE_STATUS, RESULT, ROUND, STAGE,
@@ -22,19 +23,12 @@ use store::{
 // The full length of the rows that `held` is lent: fourteen numbers each.
 const FULL_HELD: usize = 14 * MOST_CELLS;
 
-// How far a part's step is: in a round, done, or ended with 8 or 9.
-#[derive(Clone, Copy)]
+// How far a part's step is: in a round, done, or ended by a refusal that all parts come to.
+#[derive(Clone, Copy, Debug, PartialEq, Eq)]
 pub enum Progress {
     Running(usize),
     Done,
-    Ended(u8),
-    Refused(u8),
-}
-
-#[derive(Clone, Copy)]
-pub enum Listed {
-    Rows(usize),
-    Refused(u8),
+    Ended(Refusal),
 }
 
 // A place as a key: 256 times the level and the coarse cell; the child numbers, base 8.
@@ -45,25 +39,25 @@ pub struct PathKey {
 }
 
 // How far a part's step is. Refusals 15 and 16.
-pub fn stage(store: &[u16]) -> Progress
-    ensures { result ≡ progress_of (stage_answer store.now) (stage_of store.now) }
+#[tactic(auto, using(crate::proofs::Stages::result_known), unfolding(crate::specs::Held::progress_of, crate::specs::Held::stage_answer, crate::specs::Held::stage_of, base::specs::Refuse::refuse))]
+pub fn stage(store: &[u16]) -> Result<Progress, Refusal>
+    ensures { progressed result ≡ progress_of (stage_answer store.now) (stage_of store.now) }
 {
     if store.len() < FULL {
-        return Progress::Refused(15);
+        return Err(Refusal::Lent);
     }
-    if !header_fits(store) {
-        return Progress::Refused(16);
-    }
-    if store[STAGE] == 0 {
-        return Progress::Refused(16);
+    if !header_fits(store) || store[STAGE] == 0 {
+        return Err(Refusal::Store);
     }
     if store[STAGE] == 1 {
-        return Progress::Running(store[ROUND] as usize);
+        Ok(Progress::Running(store[ROUND] as usize))
+    } else if store[RESULT] == 0 {
+        Ok(Progress::Done)
+    } else if store[RESULT] == 8 {
+        Ok(Progress::Ended(Refusal::TooHigh))
+    } else {
+        Ok(Progress::Ended(Refusal::TooMany))
     }
-    if store[RESULT] == 0 {
-        return Progress::Done;
-    }
-    Progress::Ended(store[RESULT] as u8)
 }
 
 // 8 to a level.
@@ -78,8 +72,7 @@ pub fn power(level: usize) -> usize
 fn level_of(head: usize) -> usize
     ensures { (result ≡ min (head / 256) top_level) × (result ≤ top_level) }
 {
-    let level = head / 256;
-    if level < TOP_LEVEL { level } else { TOP_LEVEL }
+    TOP_LEVEL.min(head / 256)
 }
 
 // The key of a place.
@@ -116,14 +109,6 @@ pub fn is_ghost(store: &[u16], j: usize) -> bool
     store[PLACE_STATUS + j] >= 128
 }
 
-// 1 for a ghost.
-fn ghost_number(store: &[u16], j: usize) -> u16
-    requires { (full ≤ length store.now) × (j < most_cells) }
-    ensures { result ≡ one_if (entry_in store.now j).ghost }
-{
-    if is_ghost(store, j) { 1 } else { 0 }
-}
-
 // The status of an entry.
 pub fn status_of(store: &[u16], j: usize) -> u8
     requires { (full ≤ length store.now) × (j < most_cells) }
@@ -138,11 +123,9 @@ fn write_digits(rows: &mut [u16], at: usize, digits: u32)
     ensures { rows.new ≡ sets rows.old at (eights 10 digits) }
 {
     let mut rest = digits;
-    let mut i: usize = 0;
-    while i < 10 {
+    for i in 0..10 {
         rows[at + i] = (rest % 8) as u16;
-        rest = rest / 8;
-        i += 1;
+        rest /= 8;
     }
 }
 
@@ -153,7 +136,7 @@ fn write_row(store: &[u16], rows: &mut [u16], j: usize)
 {
     let at = 14 * j;
     let key = key_of(store, j);
-    rows[at] = ghost_number(store, j);
+    rows[at] = u16::from(is_ghost(store, j));
     rows[at + 1] = status_of(store, j) as u16;
     rows[at + 2] = (key.head / 256) as u16;
     rows[at + 3] = (key.head % 256) as u16;
@@ -162,23 +145,18 @@ fn write_row(store: &[u16], rows: &mut [u16], j: usize)
 
 // The masters and ghosts of a done store, fourteen numbers each: 1 for a ghost, status, level, coarse cell, ten child numbers with zeros
 // behind them. Refusals 15 and 16.
-pub fn held(store: &[u16], rows: &mut [u16]) -> Listed
-    ensures value { result ≡ listed_of (held_answer store.now rows.old) (length (held_in store.now)) }
+#[tactic(auto, using(crate::proofs::Stages::entries_few, crate::proofs::Stages::rows_front, crate::proofs::Rows::length_held), unfolding(crate::specs::Held::held_answer, crate::specs::Held::listed_of, base::specs::Refuse::refuse, base::specs::Refuse::held_after))]
+pub fn held(store: &[u16], rows: &mut [u16]) -> Result<usize, Refusal>
+    ensures answer { listed result ≡ listed_of (held_answer store.now rows.old) (length (held_in store.now)) }
     ensures rows_value { rows.new ≡ held_after (held_answer store.now rows.old) (held_rows store.now) rows.old }
 {
-    if store.len() < FULL {
-        return Listed::Refused(15);
+    if store.len() < FULL || rows.len() < FULL_HELD {
+        return Err(Refusal::Lent);
     }
-    if rows.len() < FULL_HELD {
-        return Listed::Refused(15);
+    if !header_fits(store) || store[STAGE] != 2 {
+        return Err(Refusal::Store);
     }
-    if !header_fits(store) {
-        return Listed::Refused(16);
-    }
-    if store[STAGE] != 2 {
-        return Listed::Refused(16);
-    }
-    Listed::Rows(write_rows(store, rows))
+    Ok(write_rows(store, rows))
 }
 
 // Writes all rows, and gives their number.
@@ -187,10 +165,8 @@ fn write_rows(store: &[u16], rows: &mut [u16]) -> usize
     ensures { (result ≡ field store.now ENTRIES) × (rows.new ≡ sets rows.old 0 (held_rows store.now)) }
 {
     let count = store[ENTRIES] as usize;
-    let mut j: usize = 0;
-    while j < count {
+    for j in 0..count {
         write_row(store, rows, j);
-        j += 1;
     }
     count
 }

@@ -20,6 +20,7 @@ pub struct Sizes {
 }
 
 // Whether the lent tables are long enough.
+#[tactic(auto, unfolding(crate::specs::Calls::lentb))]
 fn lent(table: &[u16], ends: &[u16], sums: &[i32]) -> bool
     ensures { result ≡ lentb table.now ends.now sums.now }
 {

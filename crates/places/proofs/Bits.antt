@@ -1,23 +1,15 @@
 -- A pattern from its six tests, the last edge first.
 use mathlib.Core.Path.{◌≡◌, refl, ◌∙◌, ap}
-use mathlib.Core.Bool.{Bool, true, false}
+use mathlib.Core.Bool.{Bool}
 use mathlib.Core.List.{map}
 use Prim.Native.Nat.{ℕ, zero, suc, ◌+◌, ◌-◌, ◌*◌, ◌^◌, ◌≤◌, ◌<◌}
 use native.Mathlib.Omega.{arith}
 use lib.ListN.{drop}
 use mir.Val.{bool_byte}
 use Rattle.base.specs.Bools.{one_if, one_most}
+use Rattle.store.proofs.Flags.{flag_is}
 use Rattle.mesh.specs.Cells.{bits_of}
 use Rattle.mesh.specs.Layout.{edge_numbers}
-
--- a flag as a number
-pub flag_is : (b : Bool) → bool_byte b ≡ one_if b
-unfolding one_if
-flag_is true = refl
-flag_is false = refl
-
-pub flag_few : (n : ℕ) (b : Bool) → n ≡ bool_byte b → n ≤ 1
-flag_few n b e = omega (arith, e, flag_is b, one_most b)
 
 module _ (f : ℕ → Bool) where
   abbrev pub bits_from : ℕ → ℕ

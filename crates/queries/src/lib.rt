@@ -36,7 +36,12 @@ fn ancestor_in<const R: usize, const M: usize, const MH: usize>(
 }
 
 // A cell's coarse ancestor and level. Refusals 1 to 6, then 7 where there is no such cell.
-pub fn ancestor(positions: &[i32], cells: &[u16], status: &[u8], cell: usize) -> Result<Ancestor, Refusal>
+pub fn ancestor(
+    positions: &[i32],
+    cells: &[u16],
+    status: &[u8],
+    cell: usize,
+) -> Result<Ancestor, Refusal>
     ensures answer { answered result ≡ ancestor_answer positions.now cells.now status.now cell }
     ensures ancestor { IfOk result (λ a. a ≡ ancestor_of (get_or (cells_in positions.now cells.now status.now) cell no_cell)) }
 {
@@ -71,7 +76,12 @@ fn counts_in<const R: usize, const M: usize, const MH: usize>(
 }
 
 // The counts of every level, four numbers each: cells, red, green, leaf. Refusals 15 and 1 to 6.
-pub fn counts(positions: &[i32], cells: &[u16], status: &[u8], counts: &mut [u16]) -> Result<usize, Refusal>
+pub fn counts(
+    positions: &[i32],
+    cells: &[u16],
+    status: &[u8],
+    counts: &mut [u16],
+) -> Result<usize, Refusal>
     ensures answer { answered result ≡ counts_answer positions.now cells.now status.now counts.old }
     ensures levels { IfOk result (λ n. n ≡ length (levels_in positions.now cells.now status.now)) }
     ensures counts_value { counts.new

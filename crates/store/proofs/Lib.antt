@@ -1,3 +1,4 @@
 pub mod Placing
 pub mod Seek
 pub mod Fetching
+pub mod Flags

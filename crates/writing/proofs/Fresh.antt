@@ -5,12 +5,10 @@ use mathlib.Core.Bool.{Bool, true, false}
 use mathlib.Core.List.{List, [], ◌∷◌, map, flat_map}
 use Prim.Native.Nat.{ℕ, zero, suc, ◌+◌, ◌*◌, ◌-◌, ◌≤◌, ◌<◌}
 use mir.Val.{bool_byte}
-use native.Mathlib.Decide.{ℕ_discrete}
 use native.Mathlib.Omega.{arith}
 use lib.Dec.{T, eqb}
 use Rattle.std.proofs.Common.{eqb→eq, get_or-take, get_or-drop}
 use lib.ListN.{length, get_or, take, drop, set, replicate, length-map}
-use borrow.Author.Tests.{ne_eqb}
 use Rattle.base.specs.Bools.{one_if, one_most}
 use Rattle.base.specs.Each.{map_same}
 use Rattle.base.specs.Every.{All, all_at, all_of, all_from, get_d_map}

@@ -5,7 +5,7 @@ use mathlib.Core.List.{List, [], ◌∷◌, ◌++◌}
 use Prim.Native.Nat.{ℕ, suc, ◌+◌, ◌-◌, ◌≤◌, ◌<◌}
 use native.Mathlib.Nat.{zero-add}
 use native.Mathlib.Omega.{arith}
-use lib.ListN.{length, get_or, take, drop, set, length-take}
+use lib.ListN.{length, get_or, take, drop, set}
 use lib.Seq.{set_split, take-suc, take_all, take_at, drop_at, length-take-le}
 use Rattle.rows.specs.Numbered.{part}
 use Rattle.rows.specs.Laws.{part_more}

@@ -21,7 +21,7 @@ use Rattle.kept.specs.Families.{length-fresh}
 use Rattle.kept.specs.Kept.{born_by, born_next}
 use Rattle.lineage.specs.Same.{length-olds}
 use Rattle.writing.specs.Keeps.{Keeps}
-use Rattle.writing.specs.Wrote.{RoomFor, RoomAbove, Wrote}
+use Rattle.writing.specs.Wrote.{RoomAbove, Wrote}
 use Rattle.writing.proofs.Front.{part_on}
 use Rattle.writing.proofs.Fresh.{fresh_small}
 use Rattle.writing.proofs.Family.{born_kept, born_fresh, born_leaves, first_inside, no_cell}
@@ -176,19 +176,14 @@ module _ {m : ℕ} {ss kids ks : List ℕ} (w : Keeps m ss kids ks) {first last 
       pub families_fit : get_or table c 0 ≤ 64
       families_fit = rw status_kept (g.small c r.above h)
 
-      pub families_room : RoomFor table old k (size_of (get_or table c 0))
-      families_room =
-          record {
-            in_table = long_table;
-            in_old = long_old;
-            enough = rw status_kept (omega (
-              arith,
-              one,
-              r.next,
-              sizes-take (drop first table₀) (c + 1 - first) (last - first) (omega (arith, r.above)),
-              g.enough,
-            ));
-          }
+      pub families_room : k + size_of (get_or table c 0) ≤ most_cells
+      families_room = rw status_kept (omega (
+        arith,
+        one,
+        r.next,
+        sizes-take (drop first table₀) (c + 1 - first) (last - first) (omega (arith, r.above)),
+        g.enough,
+      ))
 
       pub families_more : {table₁ old₁ : List ℕ} {k₁ : ℕ} → k₁ ≡ k + size_of (get_or table c 0)
           → Wrote table old k (born_by m ss ks (get_or table c 0) (get_or old c 0)) (olds_of m ss (get_or table c 0) (get_or old c 0)) table₁ old₁

@@ -10,7 +10,6 @@ use lib.ListN.{length, get_or, take, drop, length-append}
 use lib.Seq.{get_or-take, get_or-drop, take-add, take_at, length-take-le}
 use Rattle.base.specs.Every.{all_at}
 use Rattle.base.specs.Limits.{most_cells}
-use Rattle.base.specs.declared.Refusal.{Refusal}
 use Rattle.base.specs.declared.Refusal.TheVariants.{TooHigh, TooMany}
 use Rattle.mesh.specs.Table.{sizes}
 use Rattle.rows.specs.Numbered.{part}
@@ -22,7 +21,7 @@ use Rattle.kept.specs.Kept.{born_next, write_by}
 use Rattle.base.specs.Range.{range, length-range}
 use Rattle.lineage.specs.Same.{length-olds}
 use Rattle.writing.specs.Keeps.{Keeps}
-use Rattle.writing.specs.Wrote.{RoomAbove, Wrote}
+use Rattle.writing.specs.Wrote.{Wrote}
 use Rattle.writing.specs.Result.{written_levels, TableWritten, Unwritten}
 use Rattle.writing.proofs.Front.{part_of_written}
 use Rattle.writing.proofs.Family.{up_from}
@@ -149,10 +148,6 @@ module _ {m : ℕ} {ss kids ks : List ℕ} (w : Keeps m ss kids ks) where
       ap length rest_above ∙ length-append (take last table) (flatten above),
       length-take-le last table (omega (arith, g.within, g.in_table)),
     )
-
-    pub level_room : (size : ℕ) → size ≡ sizes own → last + size ≤ most_cells → RoomAbove table old first last
-    level_room size e h =
-        record { in_table = g.in_table; in_old = g.in_old; rise = omega (arith, g.some); small = g.small; enough = omega arith }
 
     -- no cells one level up
     module _ (none : sizes own ≡ 0) where

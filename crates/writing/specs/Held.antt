@@ -4,7 +4,7 @@
 --   pairs_at ds j p ys   those of its edges ys that the pattern p splits
 --   held_below s ks f n  the edges of the first n old children that new red cells hold
 --   bits_at held ds i    the status of the new child i, where `held` says of each edge whether it is held
---   noted h l           h with each number of l noted
+--   noting h l          h with each number of l noted
 --   EndsBelow ds j      the ends of the child's edges are digits
 --   Noted h l           in h the numbers of l are noted, and no others
 -- Assumes nothing.
@@ -36,9 +36,9 @@ unfoldable pub bits_at : List Bool → List ℕ → ℕ → ℕ
 unfolding bits_of
 bits_at held ds i = bits_of (map (λ y. get_or held (pair_at ds i y) false) edge_numbers)
 
-unfoldable pub noted : List Bool → List ℕ → List Bool
-noted h [] = h
-noted h (k ∷ l) = noted (set h k true) l
+unfoldable pub noting : List Bool → List ℕ → List Bool
+noting h [] = h
+noting h (k ∷ l) = noting (set h k true) l
 
 abbrev pub Noted : List Bool → List ℕ → Type 0
 Noted h l = (k : ℕ) → k < 100 → get_or h k false ≡ memberb k l

@@ -1,5 +1,4 @@
 -- Statuses and old numbers, written side by side into two tables of 4,096.
---   RoomFor table old at n            there is room for n cells from `at` on
 --   RoomAbove table old first last    there is room for the children of the cells from first to last, behind these
 --   Wrote table old at ts os ..       the statuses ts and the old numbers os stand from `at` on
 -- Assumes nothing.
@@ -8,11 +7,6 @@ use Rattle.base.specs.Limits.{most_cells}
 use Rattle.mesh.specs.Table.{sizes}
 use Rattle.rows.specs.Numbered.{part}
 use Rattle.growth.specs.Written.{written}
-
-pub record RoomFor (table old : List ℕ) (at n : ℕ) : Type 0 where
-  pub in_table : length table ≡ most_cells
-  pub in_old : length old ≡ most_cells
-  pub enough : at + n ≤ most_cells
 
 pub record RoomAbove (table old : List ℕ) (first last : ℕ) : Type 0 where
   pub in_table : length table ≡ most_cells

@@ -12,8 +12,8 @@ ghost use Rattle.rows.specs.Numbered.{part};
 ghost use Rattle.lineage.specs.Olds.{olds_of, olds_next};
 ghost use Rattle.kept.specs.Kept.{born_by, born_next, held_pairs, fresh_of};
 ghost use Rattle.writing.specs.Keeps.{Keeps};
-ghost use Rattle.writing.specs.Wrote.{RoomFor, RoomAbove, Wrote};
-ghost use Rattle.writing.specs.Held.{pair_at, pairs_at, EndsBelow, bits_at, noted, Noted};
+ghost use Rattle.writing.specs.Wrote.{RoomAbove, Wrote};
+ghost use Rattle.writing.specs.Held.{pair_at, pairs_at, EndsBelow, bits_at, noting, Noted};
 ghost use Rattle.writing.specs.Result.{TableWritten, Unwritten};
 
 use base::{MOST_CELLS, Refusal, TOP_LEVEL};
@@ -28,7 +28,7 @@ fn write_kept(
     at: usize,
 )
     requires first_in_bounds { (first + count ≤ length kept.now) × (first + count ≤ most_cells) }
-    requires room_for { RoomFor table.old old.old at count }
+    requires room { at + count ≤ most_cells }
     ensures { Wrote table.old old.old at (part kept.now first count) (range first count) table.new old.new }
 {
     table[at..at + count].copy_from_slice(&kept[first..first + count]);
@@ -39,7 +39,7 @@ fn write_kept(
 
 // Writes new cells: they have no old numbers.
 fn write_new(fresh: &[u8], table: &mut [u8; 4096], old: &mut [u16; 4096], at: usize)
-    requires { RoomFor table.old old.old at (length fresh.now) }
+    requires { at + length fresh.now ≤ most_cells }
     ensures { Wrote table.old old.old at fresh.now (replicate (length fresh.now) 65535) table.new old.new }
 {
     let end = at + fresh.len();
@@ -58,7 +58,7 @@ fn pair_of(digits: &[u8; 32], j: usize, y: usize) -> usize
 // Notes an edge of a child, if the pattern splits it.
 fn note_edge(digits: &[u8; 32], j: usize, y: usize, pattern: u8, held: &mut [bool; 100])
     requires { (j < 8) × (y < 6) × EndsBelow digits.now j }
-    ensures { held.new ≡ noted held.old (pairs_at digits.now j pattern (y ∷ [])) }
+    ensures { held.new ≡ noting held.old (pairs_at digits.now j pattern (y ∷ [])) }
 {
     if (pattern >> y) % 2 == 1 {
         held[pair_of(digits, j, y)] = true;
@@ -68,7 +68,7 @@ fn note_edge(digits: &[u8; 32], j: usize, y: usize, pattern: u8, held: &mut [boo
 // Notes the edges of a child that the pattern splits.
 fn note_child(digits: &[u8; 32], j: usize, pattern: u8, held: &mut [bool; 100])
     requires { (j < 8) × EndsBelow digits.now j }
-    ensures { held.new ≡ noted held.old (pairs_at digits.now j pattern edge_numbers) }
+    ensures { held.new ≡ noting held.old (pairs_at digits.now j pattern edge_numbers) }
 {
     if pattern == 0 {
         return;
@@ -140,9 +140,9 @@ struct Keeping<'a> {
 impl Keeping<'_> {
     // Writes the family of a red cell with the old number o; 65535, or any number that is no cell's, stands for none.
     fn write_red(&self, o: usize, table: &mut [u8; 4096], old: &mut [u16; 4096], at: usize)
-        requires { RoomFor table.old old.old at 8 }
-        ensures { Wrote table.old old.old at (born_by self.now.coarse self.now.status.now self.now.kept.now 64 o)
-            (olds_of self.now.coarse self.now.status.now 64 o) table.new old.new }
+        requires { at + 8 ≤ most_cells }
+        ensures { let k = self.now in Wrote table.old old.old at (born_by k.coarse k.status.now k.kept.now 64 o)
+            (olds_of k.coarse k.status.now 64 o) table.new old.new }
     {
         if o >= self.status.len() {
             write_new(&[0; 8], table, old, at);
@@ -166,9 +166,11 @@ impl Keeping<'_> {
         old: &mut [u16; 4096],
         at: usize,
     ) -> usize
-        requires { (t ≤ 64) × RoomFor table.old old.old at (size_of t) }
-        ensures { (result ≡ at + size_of t) × Wrote table.old old.old at (born_by self.now.coarse self.now.status.now self.now.kept.now t o)
-            (olds_of self.now.coarse self.now.status.now t o) table.new old.new }
+        requires fits { t ≤ 64 }
+        requires room { at + size_of t ≤ most_cells }
+        ensures behind { result ≡ at + size_of t }
+        ensures wrote { let k = self.now in Wrote table.old old.old at (born_by k.coarse k.status.now k.kept.now t o)
+            (olds_of k.coarse k.status.now t o) table.new old.new }
     {
         if t == 64 {
             self.write_red(o as usize, table, old, at);
@@ -182,9 +184,8 @@ impl Keeping<'_> {
     // Writes the families of the cells from first to last, behind these.
     fn write_level(&self, first: usize, last: usize, table: &mut [u8; 4096], old: &mut [u16; 4096])
         requires { RoomAbove table.old old.old first last }
-        ensures { Wrote table.old old.old last
-            (born_next self.now.coarse self.now.status.now self.now.kept.now (part table.old first (last - first)) (part old.old first (last - first)))
-            (olds_next self.now.coarse self.now.status.now (part table.old first (last - first)) (part old.old first (last - first)))
+        ensures { let k = self.now in let ts = part table.old first (last - first) in let os = part old.old first (last - first) in
+            Wrote table.old old.old last (born_next k.coarse k.status.now k.kept.now ts os) (olds_next k.coarse k.status.now ts os)
             table.new old.new }
     {
         let mut k = last;

@@ -13,8 +13,8 @@ use Rattle.base.specs.Answer.{Answer}
 use Rattle.cutting.specs.Answer.{cut_of}
 use Rattle.store.specs.Fetched.{Fetched}
 use Rattle.store.specs.Fetched as fetched
-use Rattle.held.specs.declared.Progress.{Progress}
-use Rattle.held.specs.declared.Progress.TheVariants as progress
+use Rattle.held.specs.Progress.{Progress}
+use Rattle.held.specs.Progress as progress
 
 -- Rule 12.4: 15 first, since a family has at most eight children of four digits.
 unfoldable pub cut_answer : ℕ → List ℕ → Answer

@@ -1,5 +1,6 @@
 use Rattle.std.proofs.Common.{arith, ◌-◌}
-use Rattle.places.proofs.Bits.{bits_none, bits_turn, bits_end, few_turn, flag_few}
+use Rattle.places.proofs.Bits.{bits_none, bits_turn, bits_end, few_turn}
+use Rattle.store.proofs.Flags.{flag_few}
 use Rattle.places.proofs.pattern.Goals as goal
 
 pub loop-e-init : goal.loop-e-init

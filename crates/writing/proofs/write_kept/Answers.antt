@@ -8,9 +8,6 @@ use Rattle.writing.proofs.write_kept.Goals as goal
 pub loop-i-init : goal.loop-i-init
 loop-i-init c = numbers_start c.args.old.now c.args.at c.args.first c.args.count (omega arith)
 
-pub bounds-old-at : goal.bounds-old-at
-bounds-old-at c = omega arith
-
 pub loop-i-preserved : goal.loop-i-preserved
 loop-i-preserved c =
     numbers_more c.args.old.now c.args.at c.args.first c.args.count (omega arith) c.loop-i.i c.loop-i.old c.loop-i-test.true c.loop-i.invariant

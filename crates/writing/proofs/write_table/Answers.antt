@@ -1,16 +1,12 @@
 -- `writing::write_table` meets its contract: the invariant is `WriteGoing` (crate's proofs).
 use Rattle.std.proofs.Common.{arith}
-use Rattle.writing.proofs.Turn.{coarse_inside, going_start, level_room, result_end, result_many, result_high, going_next}
+use Rattle.writing.proofs.Turn.{coarse_inside, going_start, result_end, result_many, result_high, going_next}
 use Rattle.writing.proofs.write_table.Goals as goal
 
 pub write_kept-requires-clause-first_in_bounds : goal.write_kept-requires-clause-first_in_bounds
 write_kept-requires-clause-first_in_bounds c =
     let i = coarse_inside c.requires in
     (omega (arith, i, c.requires.in_kept), omega (arith, c.requires.coarse))
-
-pub write_kept-requires-clause-room_for : goal.write_kept-requires-clause-room_for
-write_kept-requires-clause-room_for c =
-    record { in_table = c.told-table; in_old = c.told-old; enough = omega (arith, c.requires.coarse) }
 
 pub loop-level-init : goal.loop-level-init
 loop-level-init c = going_start c.requires c.told-table c.told-old c.write_kept.ensures
@@ -20,9 +16,6 @@ returns-then-size-eq0 c = result_end c.requires c.loop-level.invariant (omega ar
 
 pub returns-then-size-last : goal.returns-then-size-last
 returns-then-size-last c = result_many c.requires c.loop-level.invariant (omega arith) (omega arith)
-
-pub write_level-requires : goal.write_level-requires
-write_level-requires c = level_room c.requires c.loop-level.invariant c.level_size-size.result c.level_size-size.ensures (omega arith)
 
 pub loop-level-preserved : goal.loop-level-preserved
 loop-level-preserved c =

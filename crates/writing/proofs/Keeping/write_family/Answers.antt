@@ -6,14 +6,14 @@ use Rattle.writing.proofs.Keeping.write_family.Goals as goal
 
 pub write_red-requires : goal.write_red-requires
 write_red-requires c =
-    record { in_table = c.requires.1.in_table; in_old = c.requires.1.in_old; enough = omega (arith, size_red c.args.t c.if-t-eq64.true) }
+    omega (arith, size_red c.args.t c.if-t-eq64.true)
 
 pub returns-then-t-eq64 : goal.returns-then-t-eq64
-returns-then-t-eq64 c = (omega (arith, size_red c.args.t c.if-t-eq64.true), rw c.if-t-eq64.true c.write_red.ensures)
+returns-then-t-eq64 c =
+    let size = size_red c.args.t c.if-t-eq64.true in
+    record { behind = omega arith; wrote = rw c.if-t-eq64.true c.write_red.ensures }
 
-pub returns : goal.returns
-returns c = (
-  omega arith,
-  done_leaves c.args.self.now.keeps c.args.t c.args.o c.if-t-eq64.false c.size_of-size.ensures.0
-      (leaves_taken c.size_of-size.result 8 c.size_of-size.ensures.1) c.write_new.ensures,
-)
+pub returns-clause-wrote : goal.returns-clause-wrote
+returns-clause-wrote c =
+    done_leaves c.args.self.now.keeps c.args.t c.args.o c.if-t-eq64.false c.size_of-size.ensures.0
+    (leaves_taken c.size_of-size.result 8 c.size_of-size.ensures.1) c.write_new.ensures

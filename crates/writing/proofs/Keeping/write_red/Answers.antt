@@ -8,15 +8,10 @@ pub returns-then-o-self : goal.returns-then-o-self
 returns-then-o-self c =
     done_out c.args.self.now.keeps 64 c.args.o refl c.if-o-self.true c.write_new.ensures
 
-pub write_kept-requires : goal.write_kept-requires
-write_kept-requires c =
-    let h = eight_inside c.args.self.now.keeps 64 c.args.o c.if-o-self.false refl c.if-s-eq64.true in record {
-      first_in_bounds = (
-        omega (arith, h, c.args.self.now.keeps.in_kept),
-        omega (arith, h, c.args.self.now.keeps.few),
-      );
-      room_for = c.requires;
-    }
+pub write_kept-requires-clause-first_in_bounds : goal.write_kept-requires-clause-first_in_bounds
+write_kept-requires-clause-first_in_bounds c =
+    let h = eight_inside c.args.self.now.keeps 64 c.args.o c.if-o-self.false refl c.if-s-eq64.true in
+    (omega (arith, h, c.args.self.now.keeps.in_kept), omega (arith, h, c.args.self.now.keeps.few))
 
 pub returns-then-s-eq64 : goal.returns-then-s-eq64
 returns-then-s-eq64 c =

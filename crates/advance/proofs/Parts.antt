@@ -15,7 +15,8 @@ use Rattle.base.specs.Each.{filter_few}
 use Rattle.base.specs.Fours.{fours, length-fours}
 use Rattle.base.specs.Limits.{most_cells, most_levels}
 use Rattle.base.specs.Lists.{anyb, filterb}
-use Rattle.base.specs.Refuse.{refuse, number_of}
+use Rattle.std.specs.Prelude.{Result, Ok, Err, IfOk, MatchResult}
+use Rattle.base.specs.Refuse.{refuse, number_of, answered}
 use Rattle.base.specs.declared.Refusal.{Refusal}
 use Rattle.base.specs.declared.Refusal.TheVariants.{TooHigh, TooMany}
 use Rattle.base.specs.Answer.{Accepted, Refused}
@@ -118,10 +119,9 @@ module _ (n : ℕ) (mesh rows ss : List ℕ) (h : Held n mesh rows ss) where
     unkept room enough r u = ⊎_elim
         (λ (e : r ≡ TooHigh). rw e (over (u.high e)))
         (λ (e : r ≡ TooMany).
-        let m = u.many e in
         rw e
-        (⊎_elim (λ (l : 3072 ≤ room). too_many m.0 (omega (arith, m.1, reds_many)))
-        (λ (l : 6 * length ss ≤ room). absurd (omega (arith, m.1, filter_few redb keeps, long))) enough))
+        (⊎_elim (λ (l : 3072 ≤ room). too_many (u.low e) (omega (arith, u.many e, reds_many)))
+        (λ (l : 6 * length ss ≤ room). absurd (omega (arith, u.many e, filter_few redb keeps, long))) enough))
         u.one
 
     -- what is kept
@@ -181,3 +181,15 @@ module _ (n : ℕ) (mesh rows ss : List ℕ) (h : Held n mesh rows ss) where
               table_is = rw written_is at written.table_is;
               sound = step_sound n qs ss ms (lattice.fours_four mesh) h.accepted.cells h.sound low few;
             }
+
+      -- what the writing answers
+      module _ (table : List ℕ) where
+        pub written_answer : (r : Result ℕ Refusal) → MatchResult r (λ k. TableWritten (length mesh / 4) ss (take (length ss) kept') table k)
+            (λ e. Unwritten (length mesh / 4) ss (take (length ss) kept') e) → answered r ≡ limits_answer n qs ss ms
+        written_answer (Ok k) w = accepted table k w
+        written_answer (Err e) u = unwritten e u
+
+        pub written_made : (r : Result ℕ Refusal) → MatchResult r (λ k. TableWritten (length mesh / 4) ss (take (length ss) kept') table k)
+            (λ e. Unwritten (length mesh / 4) ss (take (length ss) kept') e) → IfOk r (λ k. Advanced n mesh ss ms table k)
+        written_made (Ok k) w = advanced table k w
+        written_made (Err e) u = tt
