@@ -15,7 +15,7 @@ use base::{MOST_COARSE_CELLS, MOST_COARSE_CORNERS, Refusal};
 use tally::Tally;
 
 // A cell's corner numbers.
-type Cell = [u16; 4];
+pub type Cell = [u16; 4];
 
 // A face's corner numbers.
 type Face = [u16; 3];
@@ -38,7 +38,7 @@ fn positions_ok(positions: &[i32]) -> bool
 }
 
 // Whether a cell's corner numbers rise, and are of so many corners.
-fn ascending(q: &Cell, count: usize) -> bool
+pub fn ascending(q: &Cell, count: usize) -> bool
     ensures { result ≡ cellb count q.now }
 {
     q[0] < q[1] && q[1] < q[2] && q[2] < q[3] && usize::from(q[3]) < count

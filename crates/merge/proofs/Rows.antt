@@ -5,26 +5,37 @@ use Prim.Native.Nat.{ℕ, suc, ◌+◌, ◌*◌, ◌/◌, ◌^◌, ◌≤◌, �
 use native.Mathlib.Decide.{ℕ_discrete}
 use native.Mathlib.Nat.{mul-le-mul}
 use native.Mathlib.Omega.{arith}
-use lib.ListN.{length, set}
+use lib.ListN.{length, get_or, set, replicate, length-set, length-replicate, get_or-replicate}
 use lib.Seq.{get_or-set_same, get_or-set_other}
-use Rattle.held.specs.Key.{Key, key_child, power_most}
-use Rattle.merge.specs.Sweep.{Seeded, Pushed}
+use Rattle.held.specs.Key.{Key, key_child, key_coarse, power_most}
+use Rattle.merge.specs.Sweep.{KeyRow, Seeded, Pushed}
+use Rattle.base.specs.Limits.{most_cells, most_coarse_cells}
 
-pub seeded_none : (px py : List ℕ) → Seeded px py 0
-seeded_none px py = record { heads = λ i h. absurd (omega arith); digits = λ i h. absurd (omega arith) }
+-- the heads of the first i coarse cells
+pub record Headed (px : List ℕ) (i : ℕ) : Type 0 where
+  pub long : length px ≡ most_cells
+  pub heads : (j : ℕ) → j < i → get_or px j 0 ≡ j
 
-pub seeded_more : (px py : List ℕ) (i : ℕ) → Seeded px py i → i < length px → i < length py → Seeded (set px i i) (set py i 0) (suc i)
-seeded_more px py i s a b =
+pub headed_none : Headed (replicate most_cells 0) 0
+headed_none = record { long = length-replicate {A = ℕ} most_cells 0; heads = λ j h. absurd (omega arith) }
+
+pub headed_more : (px : List ℕ) (i : ℕ) → Headed px i → i < most_cells → Headed (set px i i) (suc i)
+headed_more px i s a =
     record {
+      long = length-set px i i ∙ s.long;
       heads = λ j h. elim (ℕ_discrete j i) [
-        | yes q ↦ rw q (get_or-set_same px i i 0 a)
+        | yes q ↦ rw q (get_or-set_same px i i 0 (omega (arith, s.long)))
         | no q ↦ get_or-set_other px i j i 0 q ∙ s.heads j (omega arith)
       ];
-      digits = λ j h. elim (ℕ_discrete j i) [
-        | yes q ↦ rw q (get_or-set_same py i 0 0 b)
-        | no q ↦ get_or-set_other py i j 0 0 q ∙ s.digits j (omega arith)
-      ];
     }
+
+module _ (px : List ℕ) (m : ℕ) (few : m ≤ most_coarse_cells) (s : Headed px m) where
+  pub seeded : Seeded px (replicate most_cells 0) m
+  seeded = record { heads = s.heads; digits = λ i h. get_or-replicate most_cells i 0 0 (omega arith) }
+
+  pub seeded_keys : KeyRow px (replicate most_cells 0) 0 m
+  seeded_keys =
+      record { keys = λ i a b. rw (seeded.heads i b, seeded.digits i b) (key_coarse i (omega arith)).key }
 
 module _ (px₀ py₀ : List ℕ) (e x y : ℕ) where
   pub pushed_none : Pushed px₀ py₀ e x y 0 px₀ py₀
@@ -61,11 +72,3 @@ digits_room x y i p k h g q =
 
 pub product_room : (i p : ℕ) → i < 8 → p ≤ 1073741824 → i * p ≤ 8589934592
 product_room i p h g = let l : i ≤ 8 = omega arith in let w : i * p ≤ 8 * 1073741824 = mul-le-mul l g in omega arith
-
--- behind the last
-pub seeded_all : (px py : List ℕ) (i m : ℕ) → Seeded px py i → i ≤ m → m ≤ i → Seeded px py m
-seeded_all px py i m s h g = let z : i ≡ m = omega arith in rw z at s
-
-pub pushed_all : (px₀ py₀ px py : List ℕ) (e x y i size : ℕ) → Pushed px₀ py₀ e x y i px py → i ≤ size → size ≤ i
-    → Pushed px₀ py₀ e x y size px py
-pushed_all px₀ py₀ px py e x y i size s h g = let z : i ≡ size = omega arith in rw z at s

@@ -1,18 +1,20 @@
 -- The masters of entries as a table of keys, the first of them last.
 --   masteredb es l             some master among the entries es has the path l
 --   MasterKeys es xs ys st n   the n keys of the table are those of the masters of es, with their statuses beside them
---   Begun ..                   the table has room for 4,096 keys, and n of them are in use
---   Load ds ..                 what putting the masters of ds behind n keys leaves: r keys, or r is 4,097 where they are too many
--- Laws: loaded_none, load_start, load_ghost, load_full, load_master (one entry), load_more (entries before entries).
+--   Mastered es w              the keys of w are so
+--   Loaded ds w w'             what putting the masters of ds behind those of w leaves
+--   Overfull ds w              they are too many
+-- Laws: few_keys, loaded_none, load_start, load_ghost, load_full, load_master (one entry), load_more, load_over (entries before entries).
 use Rattle.std.specs.Prelude.{◌≡◌, refl, Bool, true, false, List, [], ◌∷◌, ◌++◌, ℕ, ◌+◌, ◌-◌, ◌/◌, ◌≤◌, ◌<◌, length, get_or, set}
-use Rattle.std.proofs.Common.{sym, ◌∙◌, ap, append_assoc, arith, length-set, get_or-set_same, get_or-set_other}
+use Rattle.std.proofs.Common.{sym, ◌∙◌, ap, append_assoc, arith, get_or-set_same, get_or-set_other}
 use Rattle.std.proofs.Math.Decide.{ℕ_discrete}
-use Rattle.base.specs.Limits.{most_cells, too_many, most_levels}
+use Rattle.base.specs.Limits.{most_cells, most_levels}
 use Rattle.base.specs.Lists.{anyb, filterb, sameb, sameb_eq}
 use Rattle.base.specs.Places.{sameb_self}
-use Rattle.pairs.specs.Keys.{seek, Keys, Added, seek_found, seek_same, seek_other}
+use Rattle.pairs.specs.Keys.{seek, Added, seek_found, seek_same, seek_other}
 use Rattle.parts.specs.Held.{Entry}
 use Rattle.parts.specs.Merge.{lookup, masters}
+use Rattle.merge.specs.declared.masters.Masters.{Masters}
 use Rattle.held.specs.Key.{key_path, Key, Keyed, key_same, length-eights}
 
 abbrev pub masteredb : List Entry → List ℕ → Bool
@@ -24,19 +26,18 @@ pub record MasterKeys (es : List Entry) (xs ys st : List ℕ) (n : ℕ) : Type 0
       × (lookup es (key_path x y) ≡ get_or st (seek xs ys x y 0 n) 0)
   pub long : (l : List ℕ) → most_levels < length l → masteredb es l ≡ false
 
-pub record Begun (xs ys heads links st : List ℕ) (n : ℕ) : Type 0 where
-  pub keys : Keys xs ys heads links n
-  pub few : n ≤ most_cells
-  pub in_xs : length xs ≡ most_cells
-  pub in_ys : length ys ≡ most_cells
-  pub in_links : length links ≡ most_cells
-  pub in_st : length st ≡ most_cells
+abbrev pub Mastered : List Entry → Masters → Type 0
+Mastered es w = MasterKeys es w.keys.xs w.keys.ys w.statuses w.keys.n
 
-pub record Load (ds : List Entry) (xs ys st : List ℕ) (n : ℕ) (xs' ys' heads' links' st' : List ℕ) (r : ℕ) : Type 0 where
-  pub begun : r ≤ most_cells → Begun xs' ys' heads' links' st' r
-  pub count : r ≤ most_cells → r ≡ length (masters ds) + n
-  pub many : most_cells < r → most_cells < length (masters ds) + n
-  pub loaded : r ≤ most_cells → (es : List Entry) → MasterKeys es xs ys st n → MasterKeys (ds ++ es) xs' ys' st' r
+pub record Loaded (ds : List Entry) (w w' : Masters) : Type 0 where
+  pub count : w'.keys.n ≡ length (masters ds) + w.keys.n
+  pub loaded : (es : List Entry) → Mastered es w → Mastered (ds ++ es) w'
+
+abbrev pub Overfull : List Entry → Masters → Type 0
+Overfull ds w = most_cells < length (masters ds) + w.keys.n
+
+pub few_keys : (w : Masters) → w.keys.n ≤ most_cells
+few_keys w = omega (arith, w.keys.in_order.in_xs, w.keys.sized.0)
 
 pub loaded_none : (xs ys st : List ℕ) → MasterKeys [] xs ys st 0
 unfolding masters filterb anyb seek
@@ -97,140 +98,131 @@ path_short : (x y : ℕ) → Key x y → length (key_path x y) ≤ most_levels
 unfolding key_path
 path_short x y k = omega (arith, length-eights (x / 256) y, k.level)
 
-module _ (xs ys heads links st : List ℕ) (n : ℕ) (b : Begun xs ys heads links st n) where
-  pub load_start : Load [] xs ys st n xs ys heads links st n
-  unfolding masters filterb
-  load_start = record { begun = λ h. b; count = λ h. omega arith; many = λ h. absurd (omega (arith, b.few)); loaded = λ h es l. l }
+pub load_start : (w : Masters) → Loaded [] w w
+unfolding masters filterb
+load_start w = record { count = omega arith; loaded = λ es l. l }
 
-  module _ (e : Entry) where
-    pub load_ghost : e.ghost ≡ true → Load (e ∷ []) xs ys st n xs ys heads links st n
-    load_ghost g =
-        record {
-          begun = λ h. b;
-          count = λ h. omega (arith, masters_ghost e g);
-          many = λ h. absurd (omega (arith, b.few));
-          loaded = λ h es l.
-              record {
-                none = λ x y k q. mastered_ghost e es (key_path x y) g ∙ l.none x y k q;
-                some = λ x y k q. let (u, v) = l.some x y k q in
-                    (mastered_ghost e es (key_path x y) g ∙ u, lookup_ghost e es (key_path x y) g ∙ v);
-                long = λ m h. mastered_ghost e es m g ∙ l.long m h;
-              };
-        }
+module _ (e : Entry) (w : Masters) where
+  abbrev xs : List ℕ
+  xs = w.keys.xs
 
-    pub load_full : e.ghost ≡ false → most_cells ≤ n → (xs' ys' heads' links' st' : List ℕ)
-        → Load (e ∷ []) xs ys st n xs' ys' heads' links' st' too_many
-    load_full g h xs' ys' heads' links' st' =
-        record {
-          begun = λ h. absurd (omega arith);
-          count = λ h. absurd (omega arith);
-          many = λ k. omega (arith, masters_one e g);
-          loaded = λ h. absurd (omega arith);
-        }
+  abbrev ys : List ℕ
+  ys = w.keys.ys
 
-    pub load_master : e.ghost ≡ false → n < most_cells → (v w s : ℕ) (xs' ys' heads' links' : List ℕ) → Keyed e.path v w → s ≡ e.status
-        → Added xs ys n v w xs' ys' heads' links' → length links' ≡ length links
-        → Load (e ∷ []) xs ys st n xs' ys' heads' links' (set st n s) (n + 1)
-    load_master g few v w s xs' ys' heads' links' key q a kept =
-        record {
-          begun = λ h.
-              record {
-                keys = a.keys;
-                few = omega arith;
-                in_xs = ap length a.xs_is ∙ length-set xs n v ∙ b.in_xs;
-                in_ys = ap length a.ys_is ∙ length-set ys n w ∙ b.in_ys;
-                in_links = kept ∙ b.in_links;
-                in_st = length-set st n s ∙ b.in_st;
-              };
-          count = λ h. omega (arith, masters_one e g);
-          many = λ h. absurd (omega arith);
-          loaded = λ h es l. rw (a.xs_is, a.ys_is) (with_one es l);
-        }
-      where
-        in_xs : n < length xs
-        in_xs = omega (arith, b.in_xs)
+  abbrev st : List ℕ
+  st = w.statuses
 
-        in_ys : n < length ys
-        in_ys = omega (arith, b.in_ys)
+  abbrev n : ℕ
+  n = w.keys.n
 
-        same_here : (x y : ℕ) → Key x y → x ≡ v → y ≡ w → seek (set xs n v) (set ys n w) x y 0 (n + 1) ≡ n
-        same_here x y k i j =
-            let z : n + 1 - 0 ≡ n + 1 = omega arith in
-            rw (i, j) (rw z at (seek_same xs ys n in_xs in_ys v w 0 (omega arith)))
-
-        other : (x y : ℕ) → (v ≡ x → w ≡ y → ⊥) → seek (set xs n v) (set ys n w) x y 0 (n + 1) ≡ seek xs ys x y 0 n
-        other x y d =
-            let z : n + 1 - 0 ≡ n + 1 = omega arith in
-            let i : n - 0 ≡ n = omega arith in
-            rw (z, i) at (seek_other xs ys n in_xs in_ys x y 0 (omega arith) v w d)
-
-        named : (x y : ℕ) → x ≡ v → y ≡ w → sameb e.path (key_path x y) ≡ true
-        named x y i j = rw (i, j, key.path) (sameb_self e.path)
-
-        differs : (x y : ℕ) → Key x y → (v ≡ x → w ≡ y → ⊥) → sameb e.path (key_path x y) ≡ false
-        differs x y k d =
-            same_not e.path (key_path x y) (λ z. let (i, j) = key_same v w x y key.key k (key.path ∙ z) in d i j)
-
-        Outcome : List Entry → ℕ → ℕ → Type 0
-        Outcome es x y =
-            (seek (set xs n v) (set ys n w) x y 0 (n + 1) ≡ 65535 → masteredb (e ∷ es) (key_path x y) ≡ false)
-            × ((seek (set xs n v) (set ys n w) x y 0 (n + 1) ≡ 65535 → ⊥) → (masteredb (e ∷ es) (key_path x y) ≡ true)
-            × (lookup (e ∷ es) (key_path x y) ≡ get_or (set st n s) (seek (set xs n v) (set ys n w) x y 0 (n + 1)) 0))
-
-        found : (es : List Entry) → MasterKeys es xs ys st n → (x y : ℕ) → Key x y → x ≡ v → y ≡ w → Outcome es x y
-        found es l x y k i j = (
-          (λ z. absurd (omega (arith, same_here x y k i j))),
-          (λ z. (
-            mastered_here e es (key_path x y) g (named x y i j),
-            lookup_here e es (key_path x y) g (named x y i j) ∙ sym q ∙ sym (rw (same_here x y k i j)
-                (get_or-set_same st n s 0 (omega (arith, b.in_st)))),
-          )),
-        )
-
-        passed : (es : List Entry) → MasterKeys es xs ys st n → (x y : ℕ) → Key x y → (v ≡ x → w ≡ y → ⊥) → Outcome es x y
-        passed es l x y k d = (
-          (λ z. mastered_other e es (key_path x y) g (differs x y k d) ∙ l.none x y k (sym (other x y d) ∙ z)),
-          (λ z.
-              let z' : seek xs ys x y 0 n ≡ 65535 → ⊥ = λ i. z (other x y d ∙ i) in
-              let (u, t) = l.some x y k z' in
-              let f = seek_found xs ys x y 0 n z' in (
-                mastered_other e es (key_path x y) g (differs x y k d) ∙ u,
-                lookup_other e es (key_path x y) g (differs x y k d) ∙ t ∙ sym (rw (other x y d)
-                    (get_or-set_other st n (seek xs ys x y 0 n) s 0 (λ i. omega (arith, f.below)))),
-              )),
-        )
-
-        outcome : (es : List Entry) → MasterKeys es xs ys st n → (x y : ℕ) → Key x y → Outcome es x y
-        outcome es l x y k = elim (ℕ_discrete x v) [
-          | yes i ↦ elim (ℕ_discrete y w) [
-            | yes j ↦ found es l x y k i j
-            | no j ↦ passed es l x y k (λ p q. j (sym q))
-          ]
-          | no i ↦ passed es l x y k (λ p q. i (sym p))
-        ]
-
-        with_one : (es : List Entry) → MasterKeys es xs ys st n → MasterKeys (e ∷ es) (set xs n v) (set ys n w) (set st n s) (n + 1)
-        with_one es l =
+  pub load_ghost : e.ghost ≡ true → Loaded (e ∷ []) w w
+  load_ghost g =
+      record {
+        count = omega (arith, masters_ghost e g);
+        loaded = λ es l.
             record {
-              none = λ x y k. (outcome es l x y k).0;
-              some = λ x y k. (outcome es l x y k).1;
-              long = λ m h. mastered_other e es m g (same_not e.path m (λ z. omega (
-                arith,
-                ap length z,
-                ap length key.path,
-                path_short v w key.key,
-              ))) ∙ l.long m h;
-            }
+              none = λ x y k q. mastered_ghost e es (key_path x y) g ∙ l.none x y k q;
+              some = λ x y k q. let (u, v) = l.some x y k q in
+                  (mastered_ghost e es (key_path x y) g ∙ u, lookup_ghost e es (key_path x y) g ∙ v);
+              long = λ m h. mastered_ghost e es m g ∙ l.long m h;
+            };
+      }
+
+  pub load_full : e.ghost ≡ false → most_cells ≤ w.keys.n → Overfull (e ∷ []) w
+  load_full g h = omega (arith, masters_one e g)
+
+  pub load_master : e.ghost ≡ false → w.keys.n < most_cells → (v w₁ s : ℕ) → Keyed e.path v w₁ → s ≡ e.status → (w' : Masters)
+      → Added w.keys.xs w.keys.ys w.keys.n v w₁ w'.keys.xs w'.keys.ys w'.keys.heads w'.keys.links → w'.keys.n ≡ w.keys.n + 1
+      → w'.statuses ≡ set w.statuses w.keys.n s → Loaded (e ∷ []) w w'
+  load_master g few v w₁ s key q w' a more stored =
+      record {
+        count = omega (arith, masters_one e g);
+        loaded = λ es l. rw (a.xs_is, a.ys_is, more, stored) (with_one es l);
+      }
+    where
+      in_xs : n < length xs
+      in_xs = omega (arith, w.keys.sized.0)
+
+      in_ys : n < length ys
+      in_ys = omega (arith, w.keys.sized.1)
+
+      same_here : (x y : ℕ) → Key x y → x ≡ v → y ≡ w₁ → seek (set xs n v) (set ys n w₁) x y 0 (n + 1) ≡ n
+      same_here x y k i j =
+          let z : n + 1 - 0 ≡ n + 1 = omega arith in
+          rw (i, j) (rw z at (seek_same xs ys n in_xs in_ys v w₁ 0 (omega arith)))
+
+      other : (x y : ℕ) → (v ≡ x → w₁ ≡ y → ⊥) → seek (set xs n v) (set ys n w₁) x y 0 (n + 1) ≡ seek xs ys x y 0 n
+      other x y d =
+          let z : n + 1 - 0 ≡ n + 1 = omega arith in
+          let i : n - 0 ≡ n = omega arith in
+          rw (z, i) at (seek_other xs ys n in_xs in_ys x y 0 (omega arith) v w₁ d)
+
+      named : (x y : ℕ) → x ≡ v → y ≡ w₁ → sameb e.path (key_path x y) ≡ true
+      named x y i j = rw (i, j, key.path) (sameb_self e.path)
+
+      differs : (x y : ℕ) → Key x y → (v ≡ x → w₁ ≡ y → ⊥) → sameb e.path (key_path x y) ≡ false
+      differs x y k d =
+          same_not e.path (key_path x y) (λ z. let (i, j) = key_same v w₁ x y key.key k (key.path ∙ z) in d i j)
+
+      Outcome : List Entry → ℕ → ℕ → Type 0
+      Outcome es x y =
+          (seek (set xs n v) (set ys n w₁) x y 0 (n + 1) ≡ 65535 → masteredb (e ∷ es) (key_path x y) ≡ false)
+          × ((seek (set xs n v) (set ys n w₁) x y 0 (n + 1) ≡ 65535 → ⊥) → (masteredb (e ∷ es) (key_path x y) ≡ true)
+          × (lookup (e ∷ es) (key_path x y) ≡ get_or (set st n s) (seek (set xs n v) (set ys n w₁) x y 0 (n + 1)) 0))
+
+      found : (es : List Entry) → MasterKeys es xs ys st n → (x y : ℕ) → Key x y → x ≡ v → y ≡ w₁ → Outcome es x y
+      found es l x y k i j = (
+        (λ z. absurd (omega (arith, same_here x y k i j))),
+        (λ z. (
+          mastered_here e es (key_path x y) g (named x y i j),
+          lookup_here e es (key_path x y) g (named x y i j) ∙ sym q ∙ sym (rw (same_here x y k i j)
+              (get_or-set_same st n s 0 (omega (arith, w.sized)))),
+        )),
+      )
+
+      passed : (es : List Entry) → MasterKeys es xs ys st n → (x y : ℕ) → Key x y → (v ≡ x → w₁ ≡ y → ⊥) → Outcome es x y
+      passed es l x y k d = (
+        (λ z. mastered_other e es (key_path x y) g (differs x y k d) ∙ l.none x y k (sym (other x y d) ∙ z)),
+        (λ z.
+            let z' : seek xs ys x y 0 n ≡ 65535 → ⊥ = λ i. z (other x y d ∙ i) in
+            let (u, t) = l.some x y k z' in
+            let f = seek_found xs ys x y 0 n z' in (
+              mastered_other e es (key_path x y) g (differs x y k d) ∙ u,
+              lookup_other e es (key_path x y) g (differs x y k d) ∙ t ∙ sym (rw (other x y d)
+                  (get_or-set_other st n (seek xs ys x y 0 n) s 0 (λ i. omega (arith, f.below)))),
+            )),
+      )
+
+      outcome : (es : List Entry) → MasterKeys es xs ys st n → (x y : ℕ) → Key x y → Outcome es x y
+      outcome es l x y k = elim (ℕ_discrete x v) [
+        | yes i ↦ elim (ℕ_discrete y w₁) [
+          | yes j ↦ found es l x y k i j
+          | no j ↦ passed es l x y k (λ p q. j (sym q))
+        ]
+        | no i ↦ passed es l x y k (λ p q. i (sym p))
+      ]
+
+      with_one : (es : List Entry) → MasterKeys es xs ys st n → MasterKeys (e ∷ es) (set xs n v) (set ys n w₁) (set st n s) (n + 1)
+      with_one es l =
+          record {
+            none = λ x y k. (outcome es l x y k).0;
+            some = λ x y k. (outcome es l x y k).1;
+            long = λ m h. mastered_other e es m g (same_not e.path m (λ z. omega (
+              arith,
+              ap length z,
+              ap length key.path,
+              path_short v w₁ key.key,
+            ))) ∙ l.long m h;
+          }
 
 -- entries before entries
-module _ (ds cs : List Entry) (xs ys st : List ℕ) (n : ℕ) (xs' ys' heads' links' st' : List ℕ) (m : ℕ)
-    (f : Load ds xs ys st n xs' ys' heads' links' st' m)
-    (few : m ≤ most_cells) (us vs heads'' links'' ts : List ℕ) (r : ℕ) (g : Load cs xs' ys' st' m us vs heads'' links'' ts r) where
-  pub load_more : Load (cs ++ ds) xs ys st n us vs heads'' links'' ts r
-  load_more =
+module _ (ds cs : List Entry) (w v : Masters) (f : Loaded ds w v) where
+  pub load_more : (u : Masters) → Loaded cs v u → Loaded (cs ++ ds) w u
+  load_more u g =
       record {
-        begun = g.begun;
-        count = λ h. omega (arith, g.count h, f.count few, masters_append cs ds);
-        many = λ h. omega (arith, g.many h, f.count few, masters_append cs ds);
-        loaded = λ h es l. rw (append_assoc cs ds es) (g.loaded h (ds ++ es) (f.loaded few es l));
+        count = omega (arith, g.count, f.count, masters_append cs ds);
+        loaded = λ es l. rw (append_assoc cs ds es) (g.loaded (ds ++ es) (f.loaded es l));
       }
+
+  pub load_over : Overfull cs v → Overfull (cs ++ ds) w
+  load_over h = omega (arith, f.count, masters_append cs ds)

@@ -5,7 +5,7 @@
 --   ownsb i x             the store has the coarse cell i as master; corners_among xs i its corners, from the first that does
 --   merge_cells xs         the corners of all coarse cells; merge_entries xs the masters and ghosts of all stores
 --   merge_table xs         the table that they make
---   mergeb xs             the stores merge; merge_answer b t: 15, then 16; merged_of what `merge` answers
+--   mergeb xs             the stores merge; merge_answer b t: 15, then 16
 use Rattle.std.specs.Prelude.{Bool, true, false, ◌&&◌, ℕ, ◌+◌, ◌*◌, eqb, leb, length, take, drop}
 use mathlib.Core.List.{List, [], ◌∷◌, map, flat_map, flatten}
 use Rattle.base.specs.Limits.{most_cells, most_parts}
@@ -13,7 +13,7 @@ use Rattle.base.specs.Lists.{allb, anyb}
 use Rattle.base.specs.Range.{range}
 use Rattle.base.specs.Refuse.{refuse}
 use Rattle.base.specs.Answer.{Answer}
-use Rattle.base.specs.Answer.{Accepted, Refused}
+use Rattle.base.specs.Answer.{Accepted}
 use Rattle.mesh.specs.Coarse.{cellsb}
 use Rattle.mesh.specs.Table.{soundb}
 use Rattle.parts.specs.Held.{Entry}
@@ -22,8 +22,6 @@ use Rattle.store.specs.Fields.{field, full, STAGE, PART, PARTS, CORNERS, COARSE,
 use Rattle.store.specs.Header.{headerb}
 use Rattle.store.specs.Stores.{store_in, stores_by}
 use Rattle.held.specs.Held.{held_in}
-use Rattle.merge.specs.declared.Merged.{Merged}
-use Rattle.merge.specs.declared.Merged.TheVariants as done
 
 -- Rule 15.12.
 unfoldable pub stores_in : List ℕ → List (List ℕ)
@@ -86,8 +84,3 @@ mergeb b =
 unfoldable pub merge_answer : List ℕ → List ℕ → Answer
 unfolding refuse mergeb
 merge_answer b t = refuse 15 (leb (most_parts * full) (length b) && leb most_cells (length t)) (refuse 16 (mergeb b) Accepted)
-
--- Rule 15.12: what `merge` answers: how many cells the table has
-unfoldable pub merged_of : Answer → ℕ → Merged
-merged_of Accepted n = done.Cells n
-merged_of (Refused k) n = done.Refused k

@@ -1,16 +1,16 @@
 -- What the functions of merging leave.
---   KeyRow px py st c e    the keys of the cells from c to e, and room for 4,096
---   CellFound ..           what finding the status of the cell c leaves: r cells are known, or r is 65,535
---   Built ..               what the whole sweep leaves: r cells, or 65,535
---   Assembled ..           the same with the number of masters compared
---   entries_by b P          the masters and ghosts of the first P stores
---   OwnedAt ..             what the search for a coarse cell's master finds
---   Gathered ..            what gathering the corners leaves
---   HandedOut ..           what examining the table leaves
-use Rattle.std.specs.Prelude.{◌≡◌, Bool, true, false, ℕ, suc, ◌+◌, ◌*◌, ◌≤◌, ◌<◌, T, length, get_or, take, drop}
+--   Swept es m w           the statuses of the cells that the row w has found are the table's
+--   Settled k w w'         what finding the status of the next cell leaves; Unsettled: where it has none
+--   Built k m w            what the whole sweep leaves; Unbuilt: where the masters k make no table
+--   entries_by b P         the masters and ghosts of the first P stores
+--   Assembled b P m w      the row is the table of these stores' masters, and there are no others
+--   OwnedAt b P i j        the store j is the first with the coarse cell i as master
+--   HandedOut ..           the table is sound, and written; Withheld: it is not
+--   Gathered b P n m mesh  the corners of all coarse cells; Ungathered: where there are none
+use Rattle.std.specs.Prelude.{◌≡◌, true, ℕ, suc, ◌+◌, ◌*◌, ◌≤◌, ◌<◌, T, false, length, take, drop}
 use mathlib.Core.List.{List, ◌++◌, flat_map, flatten}
 use Rattle.base.specs.Fours.{fours}
-use Rattle.base.specs.Limits.{full_coarse, most_cells}
+use Rattle.base.specs.Limits.{most_cells}
 use Rattle.base.specs.Lists.{allb, anyb}
 use Rattle.base.specs.Range.{range}
 use Rattle.mesh.specs.Coarse.{cellsb}
@@ -20,30 +20,28 @@ use Rattle.parts.specs.Merge.{merged, filledb, completeb}
 use Rattle.store.specs.Fields.{field, ENTRIES, CORNER}
 use Rattle.store.specs.Stores.{store_in, stores_by}
 use Rattle.held.specs.Held.{held_in}
-use Rattle.held.specs.Key.{Key}
 use Rattle.merge.specs.Merge.{ownsb, corners_among, merge_cells}
-use Rattle.merge.specs.Load.{MasterKeys}
+use Rattle.merge.specs.declared.masters.Masters.{Masters}
+use Rattle.merge.specs.declared.row.Row.{Row}
+use Rattle.merge.specs.Load.{Mastered}
 use Rattle.merge.specs.Sweep.{Sweep, Failed, coarse_paths}
 
-pub record KeyRow (px py st : List ℕ) (c e : ℕ) : Type 0 where
-  pub few : e ≤ most_cells
-  pub keys : (i : ℕ) → c ≤ i → i < e → Key (get_or px i 0) (get_or py i 0)
-  pub in_px : length px ≡ most_cells
-  pub in_py : length py ≡ most_cells
-  pub in_st : length st ≡ most_cells
+abbrev pub Swept : List Entry → ℕ → Row → Type 0
+Swept es m w = Sweep es m w.heads w.digits w.statuses w.found w.known
 
-pub record CellFound (xs ys sts : List ℕ) (n : ℕ) (px py st : List ℕ) (c e : ℕ) (px' py' st' : List ℕ) (r : ℕ) : Type 0 where
-  pub row : (r ≡ 65535 → ⊥) → KeyRow px' py' st' (suc c) r
-  pub more : (r ≡ 65535 → ⊥) → e ≤ r
-  pub failed : r ≡ 65535 → (es : List Entry) (m : ℕ) → MasterKeys es xs ys sts n → Sweep es m px py st c e → Failed es m
-  pub went : (r ≡ 65535 → ⊥) → (es : List Entry) (m : ℕ) → MasterKeys es xs ys sts n → Sweep es m px py st c e
-      → Sweep es m px' py' st' (suc c) r
+pub record Settled (k : Masters) (w w' : Row) : Type 0 where
+  pub next : w'.found ≡ suc w.found
+  pub went : (es : List Entry) (m : ℕ) → Mastered es k → Swept es m w → Swept es m w'
 
-pub record Built (xs ys sts : List ℕ) (n m : ℕ) (st' : List ℕ) (r : ℕ) : Type 0 where
-  pub failed : r ≡ 65535 → (es : List Entry) → MasterKeys es xs ys sts n → Failed es m
-  pub few : (r ≡ 65535 → ⊥) → (r ≤ most_cells) × (length st' ≡ most_cells)
-  pub table : (r ≡ 65535 → ⊥) → (es : List Entry) → MasterKeys es xs ys sts n → (flatten (merged es m) ≡ take r st')
+pub record Unsettled (k : Masters) (w : Row) : Type 0 where
+  pub failed : (es : List Entry) (m : ℕ) → Mastered es k → Swept es m w → Failed es m
+
+pub record Built (k : Masters) (m : ℕ) (w : Row) : Type 0 where
+  pub table : (es : List Entry) → Mastered es k → (flatten (merged es m) ≡ take w.known w.statuses)
       × (filledb 12 es (coarse_paths m) ≡ true)
+
+pub record Unbuilt (k : Masters) (m : ℕ) : Type 0 where
+  pub failed : (es : List Entry) → Mastered es k → Failed es m
 
 abbrev pub entries_by : List ℕ → ℕ → List Entry
 entries_by b P = flat_map held_in (stores_by b P)
@@ -52,25 +50,28 @@ entries_by b P = flat_map held_in (stores_by b P)
 abbrev pub FewEntries : List ℕ → ℕ → Type 0
 FewEntries b P = (i : ℕ) → i < P → field (store_in b i) ENTRIES ≤ most_cells
 
-pub record Assembled (b : List ℕ) (P m : ℕ) (st' : List ℕ) (r : ℕ) : Type 0 where
-  pub failed : r ≡ 65535 → Failed (entries_by b P) m
-  pub few : (r ≡ 65535 → ⊥) → (r ≤ most_cells) × (length st' ≡ most_cells)
-  pub table : (r ≡ 65535 → ⊥) → flatten (merged (entries_by b P) m) ≡ take r st'
-  pub complete : (r ≡ 65535 → ⊥) → T (completeb (entries_by b P) m)
+pub record Assembled (b : List ℕ) (P m : ℕ) (w : Row) : Type 0 where
+  pub table : flatten (merged (entries_by b P) m) ≡ take w.known w.statuses
+  pub complete : T (completeb (entries_by b P) m)
 
-pub record OwnedAt (b : List ℕ) (P i r : ℕ) : Type 0 where
-  pub some : r < P → (anyb (ownsb i) (stores_by b P) ≡ true)
-      × (corners_among (stores_by b P) i ≡ take 4 (drop (CORNER + 4 * i) (store_in b r)))
-  pub none : P ≤ r → anyb (ownsb i) (stores_by b P) ≡ false
+pub record OwnedAt (b : List ℕ) (P i j : ℕ) : Type 0 where
+  pub below : j < P
+  pub some : anyb (ownsb i) (stores_by b P) ≡ true
+  pub corners : corners_among (stores_by b P) i ≡ take 4 (drop (CORNER + 4 * i) (store_in b j))
 
-pub record Gathered (b : List ℕ) (P n m : ℕ) (mesh' : List ℕ) (ok : Bool) : Type 0 where
-  pub failed : ok ≡ false → T (allb (λ i. anyb (ownsb i) (stores_by b P)) (range 0 m)) → T (cellsb n (merge_cells (stores_by b P) m)) → ⊥
-  pub owned : ok ≡ true → T (allb (λ i. anyb (ownsb i) (stores_by b P)) (range 0 m))
-  pub cells : ok ≡ true → T (cellsb n (merge_cells (stores_by b P) m))
-  pub mesh : ok ≡ true → fours (take (4 * m) mesh') ≡ merge_cells (stores_by b P) m
-  pub long : ok ≡ true → length mesh' ≡ full_coarse
+pub record Gathered (b : List ℕ) (P n m : ℕ) (mesh' : List ℕ) : Type 0 where
+  pub owned : T (allb (λ i. anyb (ownsb i) (stores_by b P)) (range 0 m))
+  pub cells : T (cellsb n (merge_cells (stores_by b P) m))
+  pub mesh : fours (take (4 * m) mesh') ≡ merge_cells (stores_by b P) m
 
-pub record HandedOut (n : ℕ) (qs : List (List ℕ)) (ss table table' : List ℕ) (ok : Bool) : Type 0 where
-  pub answer : ok ≡ soundb n qs ss
-  pub written : ok ≡ true → table' ≡ ss ++ drop (length ss) table
-  pub same : ok ≡ false → table' ≡ table
+pub record Ungathered (b : List ℕ) (P n m : ℕ) : Type 0 where
+  pub failed : T (allb (λ i. anyb (ownsb i) (stores_by b P)) (range 0 m)) → T (cellsb n (merge_cells (stores_by b P) m)) → ⊥
+
+-- the table is sound, and written
+pub record HandedOut (n : ℕ) (qs : List (List ℕ)) (ss table table' : List ℕ) : Type 0 where
+  pub sound : soundb n qs ss ≡ true
+  pub written : table' ≡ ss ++ drop (length ss) table
+
+pub record Withheld (n : ℕ) (qs : List (List ℕ)) (ss table table' : List ℕ) : Type 0 where
+  pub unsound : soundb n qs ss ≡ false
+  pub same : table' ≡ table

@@ -1,17 +1,18 @@
 -- The stores that a lent table has, one by one.
-use Rattle.std.specs.Prelude.{◌≡◌, refl, Bool, true, false, ◌&&◌, ◌||◌, List, [], ◌∷◌, ℕ, suc, ◌+◌, ◌-◌, ◌*◌, ◌≤◌, ◌<◌, T, eqb, length, get_or, take, drop}
+use Rattle.std.specs.Prelude.{◌≡◌, refl, Bool, true, false, ◌&&◌, ◌||◌, List, [], ◌∷◌, map, ℕ, zero, suc, ◌+◌, ◌-◌, ◌*◌, ◌≤◌, ◌<◌, T, eqb, get_or, take, drop}
 use Rattle.std.proofs.Math.Path.{sym}
-use Rattle.std.proofs.Common.{◌∙◌, ap, drop_of_length-le, drop-cons}
+use Rattle.std.proofs.Common.{◌∙◌, ap, ap₂, drop_of_length-le, drop-cons}
 use native.Mathlib.Omega.{arith}
 use Rattle.std.proofs.Math.Dec.{eqb→eq}
-use borrow.Author.Tests.{eq-eqb}
 use Rattle.base.specs.Bools.{and_left, and_right}
 use Rattle.base.specs.Limits.{most_coarse_cells}
 use Rattle.base.specs.Lists.{allb, anyb, allb_at}
-use Rattle.base.specs.Range.{range, length-range, range_at}
+use Rattle.base.specs.Range.{range}
+use Rattle.std.specs.List.{range_with_len, list_all, list_any}
+use Rattle.rows.specs.Chains.{all_chain, any_chain}
 use Rattle.store.specs.Fields.{field, full, STAGE, PART, PARTS, CORNERS, COARSE, RESULT, OWNER}
 use Rattle.store.specs.Header.{headerb}
-use Rattle.store.specs.Headed.{bool_false, header_is}
+use Rattle.store.specs.Headed.{header_is}
 use Rattle.store.specs.Stores.{store_in, stores_by, field_in, length-stores, stores_at}
 use Rattle.merge.specs.Merge.{alikeb, everyb, ownsb, corners_among}
 use Rattle.merge.specs.Steps.{OwnedAt, FewEntries}
@@ -21,31 +22,43 @@ module _ (b : List ℕ) where
   unfolding store_in
   store_is j = let z : full * j + full - full * j ≡ full = omega arith in rw z
 
--- a scan over a list
-module _ {A : Type 0} (f : A → Bool) (d : A) (xs : List A) (j : ℕ) (r : Bool) where
-  pub all_on : (a : A) → j < length xs → get_or xs j d ≡ a → f a ≡ true → allb f (drop j xs) ≡ r → allb f (drop (suc j) xs) ≡ r
-  unfolding allb
-  all_on a h q t e = let w : (f (get_or xs j d) && allb f (drop (suc j) xs)) ≡ r = rw (drop-cons xs j d h) at e in rw (q, t) at w
+-- a chain over the stores, or over numbers in a row
+pub range_chain : (a n : ℕ) → range_with_len a n ≡ range a n
+unfolding range
+range_chain a zero = refl
+range_chain a (suc n) = let z : a + 1 ≡ suc a = omega arith in rw z (ap (λ (l : List ℕ). a ∷ l) (range_chain (suc a) n))
 
-  pub all_stop : (a : A) → j < length xs → get_or xs j d ≡ a → f a ≡ false → allb f (drop j xs) ≡ r → false ≡ r
-  unfolding allb
-  all_stop a h q t e = let w : (f (get_or xs j d) && allb f (drop (suc j) xs)) ≡ r = rw (drop-cons xs j d h) at e in rw (q, t) at w
+module _ (f : List ℕ → Bool) (b : List ℕ) where
+  all_from : (k n : ℕ) → allb (λ j. f (store_in b j)) (range k n) ≡ allb f (map (store_in b) (range k n))
+  unfolding allb range
+  all_from k zero = refl
+  all_from k (suc n) = ap (λ (x : Bool). f (store_in b k) && x) (all_from (suc k) n)
 
-  pub all_out : length xs ≤ j → allb f (drop j xs) ≡ r → true ≡ r
-  unfolding allb
-  all_out h e = rw (drop_of_length-le xs {i = j} h) at e
+  any_from : (k n : ℕ) → anyb (λ j. f (store_in b j)) (range k n) ≡ anyb f (map (store_in b) (range k n))
+  unfolding anyb range
+  any_from k zero = refl
+  any_from k (suc n) = ap (λ (x : Bool). f (store_in b k) || x) (any_from (suc k) n)
 
-  pub any_on : (a : A) → j < length xs → get_or xs j d ≡ a → f a ≡ false → anyb f (drop j xs) ≡ r → anyb f (drop (suc j) xs) ≡ r
-  unfolding anyb
-  any_on a h q t e = let w : (f (get_or xs j d) || anyb f (drop (suc j) xs)) ≡ r = rw (drop-cons xs j d h) at e in rw (q, t) at w
+  pub all_stores : (P : ℕ) → list_all (λ j. f (store_in b j)) (range_with_len 0 P) ≡ allb f (stores_by b P)
+  all_stores P = all_chain (λ j. f (store_in b j)) (range_with_len 0 P) ∙ ap (allb (λ j. f (store_in b j))) (range_chain 0 P) ∙ all_from 0 P
 
-  pub any_stop : (a : A) → j < length xs → get_or xs j d ≡ a → f a ≡ true → anyb f (drop j xs) ≡ r → true ≡ r
-  unfolding anyb
-  any_stop a h q t e = let w : (f (get_or xs j d) || anyb f (drop (suc j) xs)) ≡ r = rw (drop-cons xs j d h) at e in rw (q, t) at w
+  any_stores : (P : ℕ) → list_any (λ j. f (store_in b j)) (range_with_len 0 P) ≡ anyb f (stores_by b P)
+  any_stores P = any_chain (λ j. f (store_in b j)) (range_with_len 0 P) ∙ ap (anyb (λ j. f (store_in b j))) (range_chain 0 P) ∙ any_from 0 P
 
-  pub any_out : length xs ≤ j → anyb f (drop j xs) ≡ r → false ≡ r
-  unfolding anyb
-  any_out h e = rw (drop_of_length-le xs {i = j} h) at e
+module _ (b : List ℕ) (g : ℕ → Bool) (k : ℕ) (h : k < full) where
+  any_same : (l : List ℕ) → list_any (λ j. g (get_or b (full * j + k) 0)) l ≡ list_any (λ j. g (field (store_in b j) k)) l
+  any_same [] = refl
+  any_same (j ∷ l) = ap₂ ◌||◌ (ap g (sym (field_in b j k h))) (any_same l)
+
+  pub any_field : (P : ℕ) → list_any (λ j. g (get_or b (full * j + k) 0)) (range_with_len 0 P) ≡ anyb (λ x. g (field x k)) (stores_by b P)
+  any_field P = any_same (range_with_len 0 P) ∙ any_stores (λ x. g (field x k)) b P
+
+pub all_parts : (b : List ℕ) (P : ℕ)
+    → list_all (λ p. anyb (λ x. eqb (field x PART) p) (stores_by b P)) (range_with_len 1 P) ≡ everyb (stores_by b P)
+unfolding everyb
+all_parts b P =
+    let f : ℕ → Bool = λ p. anyb (λ x. eqb (field x PART) p) (stores_by b P) in
+    all_chain f (range_with_len 1 P) ∙ ap (allb f) (range_chain 1 P) ∙ ap (λ (n : ℕ). allb f (range 1 n)) (sym (length-stores b P))
 
 -- stores of the same split
 module _ (x y : List ℕ) where
@@ -76,21 +89,6 @@ module _ (x y : List ℕ) where
         coarse = eqb→eq (field y COARSE) (field x COARSE) f;
         result = eqb→eq (field y RESULT) (field x RESULT) t;
       }
-
-  pub alike_no : (Alike → ⊥) → false ≡ alikeb x y
-  alike_no h = bool_false (alikeb x y) (λ t. h (alike_is t))
-
-  pub alike_yes : headerb y ≡ true → field y STAGE ≡ 2 → field y PARTS ≡ field x PARTS → field y CORNERS ≡ field x CORNERS
-      → field y COARSE ≡ field x COARSE → eqb (field y RESULT) (field x RESULT) ≡ alikeb x y
-  unfolding alikeb
-  alike_yes a c d e f =
-      rw (
-        a,
-        eq-eqb (field y STAGE) 2 c,
-        eq-eqb (field y PARTS) (field x PARTS) d,
-        eq-eqb (field y CORNERS) (field x CORNERS) e,
-        eq-eqb (field y COARSE) (field x COARSE) f,
-      )
 
 pub few_entries : (b : List ℕ) (P : ℕ) → T (allb (alikeb b) (stores_by b P)) → FewEntries b P
 few_entries b P t i h =
@@ -126,44 +124,16 @@ module _ (b : List ℕ) (P i : ℕ) where
     unfolding anyb corners_among
     owning_stop h t =
         record {
-          some = λ k. (sym (rw (here h, t) at w.any), sym (rw (here h, corners_among, t) at w.corners));
-          none = λ k. absurd (omega arith);
+          below = h;
+          some = sym (rw (here h, t) at w.any);
+          corners = sym (rw (here h, corners_among, t) at w.corners);
         }
 
-    pub owning_out : P ≤ j → OwnedAt b P i j
+    pub owning_out : P ≤ j → anyb (ownsb i) (stores_by b P) ≡ false
     unfolding anyb
-    owning_out h =
-        record {
-          some = λ k. absurd (omega arith);
-          none = λ k. sym (rw (drop_of_length-le xs {i = j} (omega (arith, length-stores b P))) at w.any);
-        }
+    owning_out h = sym (rw (drop_of_length-le xs {i = j} (omega (arith, length-stores b P))) at w.any)
 
 pub owns_by : (b : List ℕ) (j i u v : ℕ) → i < most_coarse_cells → u ≡ get_or b (full * j + (OWNER + i)) 0 → v ≡ get_or b (full * j + PART) 0
     → eqb u v ≡ ownsb i (store_in b j)
 unfolding ownsb
 owns_by b j i u v h p q = rw (p, q, field_in b j (OWNER + i) (omega arith), field_in b j PART (omega arith))
-
--- each part is among the stores
-module _ (b : List ℕ) (P : ℕ) where
-  abbrev partb : ℕ → Bool
-  partb p = anyb (λ x. eqb (field x PART) p) (stores_by b P)
-
-  abbrev pub Having : ℕ → Type 0
-  Having i = allb (λ p. anyb (λ x. eqb (field x PART) p) (stores_by b P)) (drop i (range 1 P)) ≡ everyb (stores_by b P)
-
-  pub having_start : Having 0
-  unfolding everyb
-  having_start = rw (length-stores b P)
-
-  module _ (i : ℕ) (w : Having i) where
-    part_at : i < P → get_or (range 1 P) i 0 ≡ i + 1
-    part_at h = range_at 1 P i 0 h ∙ omega arith
-
-    pub having_on : i < P → partb (i + 1) ≡ true → Having (suc i)
-    having_on h t = all_on partb 0 (range 1 P) i (everyb (stores_by b P)) (i + 1) (omega (arith, length-range 1 P)) (part_at h) t w
-
-    pub having_stop : i < P → partb (i + 1) ≡ false → false ≡ everyb (stores_by b P)
-    having_stop h t = all_stop partb 0 (range 1 P) i (everyb (stores_by b P)) (i + 1) (omega (arith, length-range 1 P)) (part_at h) t w
-
-    pub having_out : P ≤ i → true ≡ everyb (stores_by b P)
-    having_out h = all_out partb 0 (range 1 P) i (everyb (stores_by b P)) (omega (arith, length-range 1 P)) w

@@ -4,6 +4,7 @@
 --   filled_left h es c a      each of these places has a master
 --   paths_at px py k m        the paths of the m keys from k on
 --   Sweep es m ..            the statuses of the first c cells are found, and e keys are known
+--   KeyRow px py c e         the cells from c to e have keys
 --   Failed es m              the entries es make no table of a mesh
 -- Laws: sweep_start, sweep_on (one cell), sweep_out (all), and what fails: no_master, no_status, no_room, no_level_lem.
 use Rattle.std.specs.Prelude.{◌≡◌, Bool, ◌&&◌, get_or, set}
@@ -193,6 +194,10 @@ pub record Sweep (es : List Entry) (m : ℕ) (px py st : List ℕ) (c e : ℕ) :
 pub record Seeded (px py : List ℕ) (m : ℕ) : Type 0 where
   pub heads : (i : ℕ) → i < m → get_or px i 0 ≡ i
   pub digits : (i : ℕ) → i < m → get_or py i 0 ≡ 0
+
+-- the keys of the cells from c to e
+pub record KeyRow (px py : List ℕ) (c e : ℕ) : Type 0 where
+  pub keys : (i : ℕ) → c ≤ i → i < e → Key (get_or px i 0) (get_or py i 0)
 
 -- children are put behind the row
 pub record Pushed (px py : List ℕ) (e x y size : ℕ) (px' py' : List ℕ) : Type 0 where

@@ -1,31 +1,33 @@
-use Rattle.merge.proofs.Answers.{begun_fresh, assembled_many, assembled_none, assembled_other, assembled_all}
+-- `merge::assemble` meets its contract: the masters are loaded, and make the table.
+use Rattle.std.proofs.Common.{◌≡◌, refl, rules, Err}
+use Rattle.merge.proofs.Answers.{assembled_many, assembled_none, assembled_other, assembled_all}
 use Rattle.merge.proofs.assemble.Goals as goal
 
-pub load_all-n-requires : goal.load_all-n-requires
-load_all-n-requires c =
-    record {
-      full_in_bounds = (
-        c.requires.full_in_bounds.0,
-        c.requires.full_in_bounds.1,
-      );
-      few_entries = c.requires.few_entries;
-      begun = begun_fresh _
-          c.clear.ensures;
-    }
+pub returns-in_err-load_stores : goal.returns-in_err-load_stores
+returns-in_err-load_stores c =
+    let r : c.from_residual.result ≡ Err c.in_err-load_stores.field-0.0 = search rules in
+    rw r (
+      c.in_err-load_stores.ensures.0,
+      assembled_many c.args.stores.now c.args.parts c.args.m c.new-masters.result c.new-masters.ensures c.in_err-load_stores.ensures.1,
+    )
 
-pub returns-then-n-gt-MOST_CELLS : goal.returns-then-n-gt-MOST_CELLS
-returns-then-n-gt-MOST_CELLS c =
-    assembled_many _ _ _ _ _ _ _ _ _ _ _ _ c.load_all-n.ensures c.if-n-gt-MOST_CELLS.true _
+pub returns-in_err-row : goal.returns-in_err-row
+returns-in_err-row c =
+    let r : c.from_residual-in_err-row.result ≡ Err c.in_err-row.field-0.0 = search rules in
+    rw r (
+      c.in_err-row.ensures.0,
+      assembled_none c.args.stores.now c.args.parts c.args.m c.new-masters.result c.new-masters.ensures c.load_stores.new.self
+          c.in_ok-load_stores.ensures c.in_err-row.ensures.1,
+    )
 
-pub returns-then-r-eq65535 : goal.returns-then-r-eq65535
-returns-then-r-eq65535 c =
-    assembled_none _ _ _ _ _ _ _ _ _ _ _ _ c.load_all-n.ensures c.if-n-gt-MOST_CELLS.false _ _
-    c.build-r.ensures c.if-r-eq65535.true
-
-pub returns-then-r-n : goal.returns-then-r-n
-returns-then-r-n c =
-    assembled_other _ _ _ _ _ _ _ _ _ _ _ _ c.load_all-n.ensures c.if-n-gt-MOST_CELLS.false _ _ c.build-r.ensures c.if-r-eq65535.false c.if-r-n.true
+pub returns-then-row-masters : goal.returns-then-row-masters
+returns-then-row-masters c = (
+  refl,
+  assembled_other c.args.stores.now c.args.parts c.args.m c.new-masters.result c.new-masters.ensures c.load_stores.new.self
+      c.in_ok-load_stores.ensures c.in_ok-row.row c.in_ok-row.ensures c.if-row-masters.true,
+)
 
 pub returns : goal.returns
 returns c =
-    assembled_all _ _ _ _ _ _ _ _ _ _ _ _ c.load_all-n.ensures c.if-n-gt-MOST_CELLS.false _ _ c.build-r.ensures c.if-r-eq65535.false c.if-r-n.false
+    assembled_all c.args.stores.now c.args.parts c.args.m c.new-masters.result c.new-masters.ensures c.load_stores.new.self
+    c.in_ok-load_stores.ensures c.in_ok-row.row c.in_ok-row.ensures c.if-row-masters.false

@@ -1,25 +1,16 @@
-use Rattle.merge.specs.Stores.{having_start, having_on, having_stop, having_out}
-use native.Mathlib.Numerals.{add-one}
-use native.Mathlib.Omega.{arith}
-use mathlib.Core.Path.{sym, ◌∙◌}
+-- `merge::has_all` meets its contract: the chain's test is the definition's.
+use Rattle.std.proofs.Common.{rules, tests, arith, ◌∙◌, ◌+◌, eqb}
+use Rattle.std.proofs.lemmas.Iterator.{YieldsList-from_range}
+use Rattle.std.proofs.lemmas.Iterator.Search.{all_from_yields_List}
+use Rattle.base.specs.Lists.{anyb}
+use Rattle.store.specs.Fields.{field, PART}
+use Rattle.store.specs.Stores.{stores_by}
+use Rattle.merge.specs.Stores.{all_parts}
 use Rattle.merge.proofs.has_all.Goals as goal
-
-pub loop-i-init : goal.loop-i-init
-loop-i-init c =
-    (omega arith, having_start _ _)
-
-pub returns-then-not-has_part : goal.returns-then-not-has_part
-returns-then-not-has_part c =
-    having_stop _ _ _ c.loop-i.invariant.1 (omega arith)
-    (sym c.has_part.ensures ∙ c.if-not-has_part.true)
-
-pub loop-i-preserved : goal.loop-i-preserved
-loop-i-preserved c = (
-  omega arith,
-  rw add-one (having_on _ _ _ c.loop-i.invariant.1 (omega arith)
-      (sym c.has_part.ensures ∙ c.if-not-has_part.false)),
-)
 
 pub returns : goal.returns
 returns c =
-    having_out _ _ c.loop-i.i c.loop-i.invariant.1 (omega arith)
+    let b = c.args.stores.now in
+    all_from_yields_List (λ p. anyb (λ x. eqb (field x PART) p) (stores_by b c.args.parts)) _ _ _ c.all.ensures.ran
+    (YieldsList-from_range 1 (c.args.parts + 1) c.args.parts (cc) (omega arith)) (λ x b q k. search (rules, tests))
+    ∙ all_parts b c.args.parts

