@@ -3,7 +3,7 @@
 
 ghost use Rattle.std.specs.Prelude.{◌≡◌, ◌++◌, ◌+◌, ◌*◌, ◌/◌, ◌≤◌, ◌<◌, length, drop};
 ghost use Rattle.base.specs.Limits.{full_coarse, most_cells, most_slots};
-ghost use Rattle.store.specs.Fields.{full, FRONT, FIRST_CELL, OWNER, SLOT, columns_length, flags_length, free_length};
+ghost use Rattle.store.specs.Fields.{full, FRONT, FIRST_CELL, OWNER, SLOT, columns_length, firsts_length, flags_length, free_length};
 ghost use Rattle.filling.specs.Regions.{Tabled, holdb, column_by, slot_by, holder_by, mask_by, corner_by};
 ghost use Rattle.filling.specs.Regions.{zeros, tab, put_by, head_by, regions, SmallSlots};
 ghost use Rattle.filling.specs.Passes.{Column, Six, Masked, AllBelow, Doubled};
@@ -167,6 +167,7 @@ pub struct Source<'a> {
     pub slots: &'a [u16; 24576],
     pub masks: &'a [u16; 24576],
     pub ghost few: { (cells ≤ most_cells) × (length mesh.now ≤ full_coarse) },
+    pub ghost sized: { (length firsts.now ≡ firsts_length) × (length starts.now ≡ firsts_length) },
     pub ghost small_slots: { SmallSlots slots.now cells },
 }
 
