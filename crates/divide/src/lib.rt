@@ -42,7 +42,7 @@ fn write_parts(source: &Source, stores: &mut [u16])
     }
 }
 
-// Writes the stores of a table with its rows, whose owners fit.
+// Writes the stores of a table with its rows, whose owners fit. (A struct of its parameters would be filled once: no plainer.)
 fn divide(
     mesh: &[u16],
     n: usize,

@@ -30,7 +30,7 @@ fn put_six(region: &mut [u16], slots: &[u16; 24576], c: usize)
     region[at..at + 6].copy_from_slice(&slots[at..at + 6]);
 }
 
-// Writes what `masks` has at the six slots of a cell.
+// Writes what `masks` has at the six slots of a cell. (The three passes stay apart: one function with a closure is no plainer.)
 fn put_masks(region: &mut [u16], slots: &[u16; 24576], masks: &[u16; 24576], c: usize)
     requires { (length region.old ≡ most_slots) × (c < most_cells) × SmallSlots slots.now (c + 1) }
     ensures { Masked slots.now masks.now c 6 region.old region.new }
