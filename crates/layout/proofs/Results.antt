@@ -1,6 +1,6 @@
 -- What a table that is opened gives its layout.
--- Laws: layout_short, layout_long, lent_long (the lent tables, the answer), laid_refused (a refusal leaves them), fits_few, fits_corners, fits_ends, fits_small,
--- fits_counted (what writing asks for), table_after, ends_after_lem, sums_after_lem (what it leaves).
+-- Laws: layout_short, layout_long, lent_long (the lent tables, the answer), laid_refused (a refusal leaves them), fits_few, fits_corners,
+-- fits_ends, fits_small, fits_counted (what writing asks for), table_after, ends_after_lem, sums_after_lem (what it leaves).
 -- Assumes nothing.
 use Rattle.std.proofs.Common.{Result, Err}
 use mathlib.Core.Path.{◌≡◌, sym, ◌∙◌}
