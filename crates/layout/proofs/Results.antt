@@ -1,7 +1,8 @@
 -- What a table that is opened gives its layout.
--- Laws: layout_short, layout_long, lent_long (the lent tables, the answer), fits_few, fits_corners, fits_ends, fits_small,
--- fits_counted (what writing asks for), table_after, ends_after_lem, sums_after_lem (what it leaves).
+-- Laws: layout_short, layout_long, lent_long (the lent tables, the answer), laid_refused (a refusal leaves them), fits_few, fits_corners,
+-- fits_ends, fits_small, fits_counted (what writing asks for), table_after, ends_after_lem, sums_after_lem (what it leaves).
 -- Assumes nothing.
+use Rattle.std.proofs.Common.{Result, Err}
 use mathlib.Core.Path.{◌≡◌, sym, ◌∙◌}
 use mathlib.Core.Bool.{true, false}
 use mathlib.Core.List.{List, ◌++◌}
@@ -15,6 +16,8 @@ use Rattle.base.specs.Bools.{is_true, and_left, and_right}
 use Rattle.base.specs.Fours.{fours}
 use Rattle.base.specs.Limits.{full_ends, full_rows, full_sums}
 use Rattle.base.specs.Answer.{Refused}
+use Rattle.base.specs.Refuse.{number_of, held_after}
+use Rattle.base.specs.declared.Refusal.{Refusal}
 use Rattle.mesh.specs.Coarse.{coarse_corner_count}
 use Rattle.mesh.specs.Table.{soundb}
 use Rattle.mesh.specs.Layout.{cell_table, end_table, sum_table}
@@ -25,7 +28,8 @@ use Rattle.corners.specs.Tables.{CornersNumbered, ends_are, sums_are}
 use Rattle.counting.specs.Sound.{sound_counted}
 use Rattle.counting.specs.Whole.{end_right}
 use Rattle.opening.specs.Opened.{Fits}
-use Rattle.layout.specs.Calls.{lentb, layout_answer}
+use Rattle.layout.specs.Calls.{lentb, layout_answer, LaysOut}
+use Rattle.layout.specs.declared.Sizes.{Sizes}
 use Rattle.layout.proofs.Numbering.{corner_count, ends, numbered}
 
 pub record Lent (table ends : List ℕ) (sums : List ℤ) : Type 0 where
@@ -42,6 +46,13 @@ pub layout_long : (ps : List ℤ) (ts ss table ends : List ℕ) (sums : List ℤ
     → layout_answer ps ts ss table ends sums ≡ table_answer ps ts ss
 unfolding layout_answer
 layout_long ps ts ss table ends sums e = rw e
+
+pub laid_refused : (ps : List ℤ) (ts ss table es : List ℕ) (sums : List ℤ) (r : Result Sizes Refusal) (e : Refusal) → lentb table es sums ≡ true
+    → r ≡ Err e → Refused (number_of e) ≡ table_answer ps ts ss → LaysOut ps ts ss table es sums r table es sums
+unfolding held_after
+laid_refused ps ts ss table es sums r e l i a =
+    let b = a ∙ sym (layout_long ps ts ss table es sums l) in
+    rw i (record { answer = b; sizes = tt; table_is = rw (sym b); ends_are = rw (sym b); sums_are = rw (sym b) })
 
 pub lent_long : (table ends : List ℕ) (sums : List ℤ) → lentb table ends sums ≡ true → Lent table ends sums
 unfolding lentb
