@@ -6,7 +6,8 @@ ghost use Rattle.std.specs.Prelude.{◌≤◌, length};
 use std::io;
 use std::io::Read;
 
-// Reads until the bytes are full, the input ends or a read fails, and answers how many it put at their front.
+// Reads until the bytes are full, the input ends or a read fails, and answers how many it put at their front. The test programs read so
+// too, by a function of `trial`: this program stands on no test crate, which is plainer.
 fn read_full(reader: &mut impl Read, bytes: &mut [u8]) -> usize
     ensures { result ≤ length bytes.new }
 {
