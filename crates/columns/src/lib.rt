@@ -1,7 +1,7 @@
 // What the parts' stores say of each cell of a laid out table, ten numbers a cell, and whether owners fit the table.
 #![tactic(auto)]
 
-ghost use Rattle.std.specs.Prelude.{◌≡◌, ◌&&◌, true, suc, ◌+◌, ◌-◌, ◌*◌, ◌≤◌, ◌<◌, eqb, leb, length, get_or};
+ghost use Rattle.std.specs.Prelude.{◌≡◌, ◌&&◌, suc, ◌+◌, ◌-◌, ◌*◌, ◌≤◌, ◌<◌, eqb, leb, length, get_or};
 ghost use Rattle.base.specs.Bools.{one_if};
 ghost use Rattle.base.specs.Limits.{most_cells};
 ghost use Rattle.base.specs.Lists.{allb};

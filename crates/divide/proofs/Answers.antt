@@ -1,21 +1,21 @@
 -- The answer of a split, condition by condition, and what the lent table then holds.
 --   Split ps ts ss P os b r b'    the answer r and the table after
--- Laws: split_short, split_table, split_none, split_many, split_owners, split_yes (each return), divisible_of, kids_known, owned_is
+-- Laws: split_short, split_table, split_parts, split_owners, split_yes (each return), divisible_of, kids_known, owned_is
 -- (what the work asks for).
 use mathlib.Core.Path.{◌≡◌, refl, sym, ◌∙◌, ap}
 use mathlib.Core.Bool.{Bool, true, false, ◌&&◌}
 use mathlib.Core.List.{List, ◌++◌}
 use Prim.Native.Nat.{ℕ, suc, ◌*◌, ◌/◌, ◌≤◌, ◌<◌}
 use native.Mathlib.Omega.{arith}
-use lib.Dec.{eqb, leb, eqb→eq}
+use lib.Dec.{eqb, leb, eqb→eq, leb→le}
 use lib.IntN.{ℤ}
 use lib.ListN.{length, take}
 use borrow.Author.Tests.{le-leb, lt-leb}
-use Rattle.base.specs.Bools.{is_true, not_both}
+use Rattle.base.specs.Bools.{is_true, not_both, and_right}
 use Rattle.base.specs.Fours.{fours, length-fours}
 use Rattle.base.specs.Limits.{most_cells, most_parts, most_coarse_cells}
 use Rattle.base.specs.Lists.{allb}
-use Rattle.base.specs.Refuse.{refuse, and_then, answer_of, answer_refused, answer_none}
+use Rattle.base.specs.Refuse.{refuse, and_then}
 use Rattle.base.specs.Answer.{Answer}
 use Rattle.base.specs.Answer.{Accepted, Refused}
 use Rattle.mesh.specs.Coarse.{coarse_corner_count}
@@ -49,57 +49,52 @@ module _ (ps : List ℤ) (ts ss : List ℕ) (P : ℕ) (os b : List ℕ) where
   accepted e x q = (sym e, q ∙ sym (ap (λ (a : Answer). split_in a (stores_after (coarse_corner_count ps) (fours ts) ss P os b) b) e))
 
   -- the answer from its tests
-  told : Bool → Answer → Bool → Bool → Bool → Answer
-  told room table low high own = refuse 15 room (and_then table (refuse 10 (low && high) (refuse 11 own Accepted)))
+  told : Bool → Answer → Bool → Bool → Answer
+  told room table within own = refuse 15 room (and_then table (refuse 10 within (refuse 11 own Accepted)))
 
-  is_told : split_answer ps ts ss P os b ≡ told (leb (most_parts * full) (length b)) (table_answer ps ts ss) (leb 1 P) (leb P most_parts) owned
-  unfolding split_answer told
+  is_told : split_answer ps ts ss P os b ≡ told (leb (most_parts * full) (length b)) (table_answer ps ts ss) (leb 1 P && leb P most_parts) owned
+  unfolding split_answer told refuse
   is_told = refl
 
   pub split_short : length b < most_parts * full → Split (Refused 15) b
   unfolding told refuse
-  split_short h = refused 15 (is_told ∙ ap (λ (x : Bool). told x (table_answer ps ts ss) (leb 1 P) (leb P most_parts) owned)
-      (lt-leb (most_parts * full)
-      (length b) h))
+  split_short h =
+      refused 15 (is_told ∙ ap (λ (x : Bool). told x (table_answer ps ts ss) (leb 1 P && leb P most_parts) owned)
+      (lt-leb (most_parts * full) (length b) h))
 
   module _ (room : most_parts * full ≤ length b) where
-    here : split_answer ps ts ss P os b ≡ told true (table_answer ps ts ss) (leb 1 P) (leb P most_parts) owned
-    here = is_told ∙ ap (λ (x : Bool). told x (table_answer ps ts ss) (leb 1 P) (leb P most_parts) owned)
+    here : split_answer ps ts ss P os b ≡ told true (table_answer ps ts ss) (leb 1 P && leb P most_parts) owned
+    here = is_told ∙ ap (λ (x : Bool). told x (table_answer ps ts ss) (leb 1 P && leb P most_parts) owned)
         (le-leb (most_parts * full) (length b) room)
 
-    pub split_table : (k : ℕ) → table_answer ps ts ss ≡ answer_of k → (k ≡ 0 → ⊥) → Split (Refused k) b
+    pub split_table : (k : ℕ) → Refused k ≡ table_answer ps ts ss → Split (Refused k) b
     unfolding told refuse and_then
-    split_table k e n =
-        refused k (here ∙ ap (λ (x : Answer). told true x (leb 1 P) (leb P most_parts) owned) (e ∙ answer_refused k n))
+    split_table k e = refused k (here ∙ ap (λ (x : Answer). told true x (leb 1 P && leb P most_parts) owned) (sym e))
 
-    module _ (k : ℕ) (e : table_answer ps ts ss ≡ answer_of k) (z : k ≡ 0) where
-      next : split_answer ps ts ss P os b ≡ told true Accepted (leb 1 P) (leb P most_parts) owned
-      next = here ∙ ap (λ (x : Answer). told true x (leb 1 P) (leb P most_parts) owned) (e ∙ answer_none k z)
+    module _ (e : Accepted ≡ table_answer ps ts ss) where
+      next : split_answer ps ts ss P os b ≡ told true Accepted (leb 1 P && leb P most_parts) owned
+      next = here ∙ ap (λ (x : Answer). told true x (leb 1 P && leb P most_parts) owned) (sym e)
 
-      pub split_none : P < 1 → Split (Refused 10) b
+      pub split_parts : (leb 1 P && leb P most_parts) ≡ false → Split (Refused 10) b
       unfolding told refuse and_then
-      split_none h = refused 10 (next ∙ ap (λ (x : Bool). told true Accepted x (leb P most_parts) owned) (lt-leb 1 P h))
+      split_parts h = refused 10 (next ∙ ap (λ (x : Bool). told true Accepted x owned) h)
 
-      module _ (low : 1 ≤ P) where
-        more : split_answer ps ts ss P os b ≡ told true Accepted true (leb P most_parts) owned
-        more = next ∙ ap (λ (x : Bool). told true Accepted x (leb P most_parts) owned) (le-leb 1 P low)
+      module _ (h : (leb 1 P && leb P most_parts) ≡ true) where
+        last : split_answer ps ts ss P os b ≡ told true Accepted true owned
+        last = next ∙ ap (λ (x : Bool). told true Accepted x owned) h
 
-        pub split_many : most_parts < P → Split (Refused 10) b
+        pub split_owners : ownersb (coarse_corner_count ps) (fours ts) ss P os ≡ false → Split (Refused 11) b
         unfolding told refuse and_then
-        split_many h = refused 10 (more ∙ ap (λ (x : Bool). told true Accepted true x owned) (lt-leb P most_parts h))
+        split_owners o = refused 11 (last ∙ ap (told true Accepted true) o)
 
-        module _ (high : P ≤ most_parts) where
-          last : split_answer ps ts ss P os b ≡ told true Accepted true true owned
-          last = more ∙ ap (λ (x : Bool). told true Accepted true x owned) (le-leb P most_parts high)
+        pub split_yes : ownersb (coarse_corner_count ps) (fours ts) ss P os ≡ true → (x : List ℕ)
+            → x ≡ stores_after (coarse_corner_count ps) (fours ts) ss P os b → Split Accepted x
+        unfolding told refuse and_then
+        split_yes o x q = accepted (last ∙ ap (told true Accepted true) o) x q
 
-          pub split_owners : ownersb (coarse_corner_count ps) (fours ts) ss P os ≡ false → Split (Refused 11) b
-          unfolding told refuse and_then
-          split_owners h = refused 11 (last ∙ ap (told true Accepted true true) h)
-
-          pub split_yes : ownersb (coarse_corner_count ps) (fours ts) ss P os ≡ true → (x : List ℕ)
-              → x ≡ stores_after (coarse_corner_count ps) (fours ts) ss P os b → Split Accepted x
-          unfolding told refuse and_then
-          split_yes h x q = accepted (last ∙ ap (told true Accepted true true) h) x q
+-- the parts are few
+pub parts_few : (P : ℕ) → (leb 1 P && leb P most_parts) ≡ true → P ≤ most_parts
+parts_few P h = leb→le P most_parts (and_right (leb 1 P) (leb P most_parts) (rw h tt))
 
 owners_many : (n : ℕ) (qs : List (List ℕ)) (ss : List ℕ) (P : ℕ) (os : List ℕ) → ownersb n qs ss P os ≡ true → length os ≡ length ss
 unfolding ownersb

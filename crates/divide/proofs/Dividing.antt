@@ -8,7 +8,7 @@ use mathlib.Core.List.{List, [], ◌∷◌, ◌++◌, flat_map, append_assoc, ap
 use Prim.Native.Nat.{ℕ, zero, suc, ◌+◌, ◌*◌, ◌-◌, ◌/◌, ◌≤◌, ◌<◌}
 use native.Mathlib.Nat.{eq-or-lt_of_le}
 use native.Mathlib.Omega.{arith}
-use lib.ListN.{length, get_or, take, drop, set, length-set, length-append}
+use lib.ListN.{length, get_or, take, drop, set, replicate, length-set, length-append, length-replicate, get_or-replicate}
 use lib.Seq.{get_or-set_same, get_or-set_other, take_at, drop_at, drop-drop}
 use borrow.Rule.Slice.PartMut.{put_mid}
 use Rattle.base.specs.Limits.{full_coarse, most_cells, most_levels, most_parts, most_slots}
@@ -24,12 +24,12 @@ pub record Firsts (ks : List ℕ) (k : ℕ) (fs : List ℕ) : Type 0 where
   pub size : length fs ≡ firsts_length
   pub at : (j : ℕ) → j ≤ k → get_or fs j 0 ≡ first_by ks j
 
-pub firsts_start : (ks fs : List ℕ) → length fs ≡ firsts_length → Firsts ks 0 (set fs 0 0)
+pub firsts_start : (ks : List ℕ) → Firsts ks 0 (replicate firsts_length 0)
 unfolding first_by
-firsts_start ks fs l =
+firsts_start ks =
     record {
-      size = length-set fs 0 0 ∙ l;
-      at = λ j h. let z : j ≡ 0 = omega arith in rw z (get_or-set_same fs 0 0 0 (omega arith));
+      size = length-replicate {A = ℕ} firsts_length 0;
+      at = λ j h. let z : j ≡ 0 = omega arith in rw z (get_or-replicate firsts_length 0 0 0 (omega arith));
     }
 
 pub firsts_turn : (ks fs : List ℕ) (k : ℕ) → k < most_levels → Firsts ks k fs → Firsts ks (suc k) (set fs (suc k) (get_or ks (get_or fs k 0) 0))

@@ -3,7 +3,7 @@
 
 ghost use Rattle.std.specs.Prelude.{◌≡◌, ◌++◌, ◌+◌, ◌*◌, ◌/◌, ◌≤◌, ◌<◌, length, drop};
 ghost use Rattle.base.specs.Limits.{full_coarse, most_cells, most_slots};
-ghost use Rattle.store.specs.Fields.{full, FRONT, FIRST_CELL, OWNER, SLOT, columns_length, flags_length, free_length};
+ghost use Rattle.store.specs.Fields.{full, FRONT, FIRST_CELL, OWNER, SLOT, columns_length, firsts_length, flags_length, free_length};
 ghost use Rattle.filling.specs.Regions.{Tabled, holdb, column_by, slot_by, holder_by, mask_by, corner_by};
 ghost use Rattle.filling.specs.Regions.{zeros, tab, put_by, head_by, regions, SmallSlots};
 ghost use Rattle.filling.specs.Passes.{Column, Six, Masked, AllBelow, Doubled};
@@ -30,7 +30,7 @@ fn put_six(region: &mut [u16], slots: &[u16; 24576], c: usize)
     region[at..at + 6].copy_from_slice(&slots[at..at + 6]);
 }
 
-// Writes what `masks` has at the six slots of a cell.
+// Writes what `masks` has at the six slots of a cell. (The three passes stay apart: one function with a closure is no plainer.)
 fn put_masks(region: &mut [u16], slots: &[u16; 24576], masks: &[u16; 24576], c: usize)
     requires { (length region.old ≡ most_slots) × (c < most_cells) × SmallSlots slots.now (c + 1) }
     ensures { Masked slots.now masks.now c 6 region.old region.new }
@@ -167,6 +167,7 @@ pub struct Source<'a> {
     pub slots: &'a [u16; 24576],
     pub masks: &'a [u16; 24576],
     pub ghost few: { (cells ≤ most_cells) × (length mesh.now ≤ full_coarse) },
+    pub ghost sized: { (length firsts.now ≡ firsts_length) × (length starts.now ≡ firsts_length) },
     pub ghost small_slots: { SmallSlots slots.now cells },
 }
 

@@ -39,7 +39,9 @@ pub struct PathKey {
 }
 
 // How far a part's step is. Refusals 15 and 16.
-#[tactic(auto, using(crate::proofs::Stages::result_known), unfolding(crate::specs::Held::progress_of, crate::specs::Held::stage_answer, crate::specs::Held::stage_of, base::specs::Refuse::refuse))]
+#[tactic(auto, using(crate::proofs::Stages::result_known),
+// What it answers.
+unfolding(crate::specs::Held::progress_of, crate::specs::Held::stage_answer, crate::specs::Held::stage_of, base::specs::Refuse::refuse))]
 pub fn stage(store: &[u16]) -> Result<Progress, Refusal>
     ensures { progressed result ≡ progress_of (stage_answer store.now) (stage_of store.now) }
 {
@@ -149,7 +151,9 @@ fn write_row(store: &[u16], rows: &mut [u16], j: usize)
 
 // The masters and ghosts of a done store, fourteen numbers each: 1 for a ghost, status, level, coarse cell, ten child numbers with zeros
 // behind them. Refusals 15 and 16.
-#[tactic(auto, using(crate::proofs::Stages::entries_few, crate::proofs::Stages::rows_front, crate::proofs::Rows::length_held), unfolding(crate::specs::Held::held_answer, crate::specs::Held::listed_of, base::specs::Refuse::refuse, base::specs::Refuse::held_after))]
+#[tactic(auto, using(crate::proofs::Stages::entries_few, crate::proofs::Stages::rows_front, crate::proofs::Rows::length_held),
+// What it answers, and what the rows then hold.
+unfolding(crate::specs::Held::held_answer, crate::specs::Held::listed_of, base::specs::Refuse::refuse, base::specs::Refuse::held_after))]
 pub fn held(store: &[u16], rows: &mut [u16]) -> Result<usize, Refusal>
     ensures answer { listed result ≡ listed_of (held_answer store.now rows.old) (length (held_in store.now)) }
     ensures rows_value { rows.new ≡ held_after (held_answer store.now rows.old) (held_rows store.now) rows.old }

@@ -113,6 +113,7 @@ pub fn replay(bytes: &[u8], table: &mut [u8], counts: &mut [u16]) -> Result<Size
 }
 
 // Whether the tables lent for a job are long enough.
+#[tactic(auto, unfolding(crate::specs::Calls::roomb))]
 fn lent(positions: &[i32], cells: &[u16], marked: &[u16], marks: &[u8], ends: &[u16]) -> bool
     ensures { result ≡ roomb positions.now cells.now marked.now marks.now ends.now }
 {

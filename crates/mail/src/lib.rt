@@ -12,7 +12,8 @@ ghost use Rattle.mail.specs.Kind.{kind_number};
 ghost use Rattle.mail.specs.Ranges.{partsb, countsb};
 ghost use Rattle.store.specs.Message.{two, kind_of, body_of, message_of};
 ghost use Rattle.store.specs.Fetch.{entry_count, bit_from, next_to_give, given, passed_by, spot_at, fetch_answer, fetch_bytes, fetch_after};
-ghost use Rattle.store.specs.Hand.{number_at, length_of, shapeb, routeb, ghost_markb, edge_countb, cell_totalb, contentb, wellb, hand_answer};
+ghost use Rattle.store.specs.Hand.{number_at, length_of, shapeb, routeb, ghost_markb};
+ghost use Rattle.store.specs.Hand.{edge_countb, cell_totalb, contentb, wellb, hand_answer};
 ghost use Rattle.store.specs.Hand.{Ranges, absorbed, counted, hand_after};
 
 use base::{MOST_CELLS, MOST_LEVELS, MOST_SLOTS, Refusal, TOO_MANY};
@@ -169,7 +170,7 @@ fn entries(store: &[u16]) -> usize
 }
 
 // The next message to give.
-#[tactic(auto, using(store::proofs::Seek::seek_stops, store::proofs::Seek::seek_on, store::proofs::Seek::seek_out, store::proofs::Seek::next_is))]
+#[tactic(auto, using(store::proofs::Seek::seeking))]
 fn next(store: &[u16]) -> Option<Spot>
     requires { full ≤ length store.now }
     ensures { MatchOption result (16 ≤ (next_to_give store.now).bit) (λ s. (s ≡ next_to_give store.now) × (s.bit < 16)) }
@@ -234,7 +235,8 @@ fn put_message(out: &mut [u8], from: u8, to: u8, count: usize, code: usize, valu
 // Stores the message that an entry is for a receiver, and moves the cursor behind it.
 #[tactic(auto, unfolding(store::specs::Fetch::given, store::specs::Fetch::passed_by))]
 fn give(store: &mut [u16], out: &mut [u8], spot: Spot) -> usize
-    requires { (full ≤ length store.old) × (9 ≤ length out.old) × (field store.old PART < 256) × (spot.entry < most_entries) × (spot.bit < 16) }
+    requires { (full ≤ length store.old) × (9 ≤ length out.old) × (field store.old PART < 256)
+        × (spot.entry < most_entries) × (spot.bit < 16) }
     ensures value { (result ≡ length (given store.old spot)) × (out.new ≡ sets out.old 0 (given store.old spot)) }
     ensures store_value { store.new ≡ passed_by store.old spot }
 {
@@ -246,12 +248,16 @@ fn give(store: &mut [u16], out: &mut [u8], spot: Spot) -> usize
     let size = put_message(out, from, (bit + 1) as u8, count, code, value);
     store[CURSOR] = entry as u16;
     store[BIT] = (bit + 1) as u16;
-    store[GIVEN + bit] = ((count + 1) % 65536) as u16;
+    store[GIVEN + bit] = store[GIVEN + bit].wrapping_add(1);
     size
 }
 
 // Stores the next message that the part has written, and gives its length, or `None` where all are given.
-#[tactic(auto, using(store::proofs::Fetching::inside, store::proofs::Fetching::part_small), unfolding(store::specs::Fetch::fetch_answer, store::specs::Fetch::fetch_refusal, store::specs::Fetch::found_of, store::specs::Fetch::givesb, store::specs::Fetch::fetch_bytes, store::specs::Fetch::fetch_after))]
+#[tactic(auto, using(store::proofs::Fetching::inside, store::proofs::Fetching::part_small),
+// What it answers.
+unfolding(store::specs::Fetch::fetch_answer, store::specs::Fetch::fetch_refusal, store::specs::Fetch::found_of,
+// What bytes and store then hold.
+store::specs::Fetch::givesb, store::specs::Fetch::fetch_bytes, store::specs::Fetch::fetch_after))]
 pub fn fetch(store: &mut [u16], out: &mut [u8]) -> Result<Option<usize>, Refusal>
     ensures answer { fetched result ≡ fetch_answer store.old out.old }
     ensures out_value { out.new ≡ fetch_bytes store.old out.old }
@@ -280,7 +286,8 @@ fn number(bytes: &[u8], at: usize) -> usize
 // The kind of a message, where it has the length of that kind.
 #[tactic(auto, unfolding(store::specs::Hand::shapeb, store::specs::Hand::length_of))]
 fn kind_of(bytes: &[u8]) -> Result<Kind, Refusal>
-    ensures { MatchResult result (λ k. (shapeb bytes.now ≡ true) × (kind_number k ≡ get_or bytes.now 0 0)) (λ e. (e ≡ Refusal.Message) × (shapeb bytes.now ≡ false)) }
+    ensures { MatchResult result (λ k. (shapeb bytes.now ≡ true) × (kind_number k ≡ get_or bytes.now 0 0))
+        (λ e. (e ≡ Refusal.Message) × (shapeb bytes.now ≡ false)) }
 {
     if bytes.len() == 0 {
         return Err(Refusal::Message);
@@ -335,9 +342,10 @@ fn totals_fit(bytes: &[u8]) -> bool
 }
 
 // Whether what stands behind a heading fits.
-#[tactic(auto, using(store::specs::Checks::shape_first, store::specs::Checks::shape_second, store::specs::Checks::shape_third), unfolding(store::specs::Hand::contentb))]
+#[tactic(auto, using(store::specs::Checks::shapes), unfolding(store::specs::Hand::contentb))]
 fn content_fits(store: &[u16], bytes: &[u8], kind: Kind) -> bool
-    requires { (full ≤ length store.now) × (shapeb bytes.now ≡ true) × (kind_number kind ≡ get_or bytes.now 0 0) × (field store.now CELLS ≤ most_cells) }
+    requires { (full ≤ length store.now) × (shapeb bytes.now ≡ true) × (kind_number kind ≡ get_or bytes.now 0 0)
+        × (field store.now CELLS ≤ most_cells) }
     ensures { result ≡ contentb store.now bytes.now }
 {
     match kind {
@@ -352,7 +360,8 @@ fn content_fits(store: &[u16], bytes: &[u8], kind: Kind) -> bool
 #[tactic(auto, using(store::specs::Checks::shape_least), unfolding(store::specs::Hand::wellb))]
 fn examine(store: &[u16], bytes: &[u8]) -> Result<Kind, Refusal>
     requires { (full ≤ length store.now) × (field store.now CELLS ≤ most_cells) }
-    ensures { MatchResult result (λ k. (wellb store.now bytes.now ≡ true) × (kind_number k ≡ get_or bytes.now 0 0)) (λ e. (e ≡ Refusal.Message) × (wellb store.now bytes.now ≡ false)) }
+    ensures { MatchResult result (λ k. (wellb store.now bytes.now ≡ true) × (kind_number k ≡ get_or bytes.now 0 0))
+        (λ e. (e ≡ Refusal.Message) × (wellb store.now bytes.now ≡ false)) }
 {
     let kind = kind_of(bytes)?;
     if route_fits(store, bytes) && content_fits(store, bytes, kind) {
@@ -376,8 +385,8 @@ fn absorb(store: &mut [u16], bytes: &[u8], kind: Kind)
         }
         Kind::Count => {
             let slot = number(bytes, 5);
-            let count = number(bytes, 7);
-            store[SUM + slot] = ((store[SUM + slot] as usize + count) % 65536) as u16;
+            let count = number(bytes, 7) as u16;
+            store[SUM + slot] = store[SUM + slot].wrapping_add(count);
         }
         Kind::Totals => {
             let total = store[TOTAL] as usize + number(bytes, 5);
@@ -386,7 +395,7 @@ fn absorb(store: &mut [u16], bytes: &[u8], kind: Kind)
         }
         Kind::End => {
             let from = bytes[1] as usize;
-            store[ENDED + from] = ((store[ENDED + from] as usize + 1) % 65536) as u16;
+            store[ENDED + from] = store[ENDED + from].wrapping_add(1);
         }
     }
 }
@@ -398,12 +407,14 @@ fn take(store: &mut [u16], bytes: &[u8], kind: Kind)
     ensures { store.new ≡ absorbed (counted store.old bytes.now) bytes.now }
 {
     let from = bytes[1] as usize;
-    store[TAKEN + from] = ((store[TAKEN + from] as usize + 1) % 65536) as u16;
+    store[TAKEN + from] = store[TAKEN + from].wrapping_add(1);
     absorb(store, bytes, kind);
 }
 
 // Hands a message over.
-#[tactic(auto, using(store::specs::Handing::cells_few, store::specs::Handing::ranges_of), unfolding(store::specs::Hand::hand_answer, base::specs::Refuse::refuse, store::specs::Hand::hand_after, store::specs::Hand::taken_in))]
+#[tactic(auto, using(store::specs::Handing::cells_few, store::specs::Handing::ranges_of),
+// What it answers, and what the store then holds.
+unfolding(store::specs::Hand::hand_answer, base::specs::Refuse::refuse, store::specs::Hand::hand_after, store::specs::Hand::taken_in))]
 pub fn hand(store: &mut [u16], bytes: &[u8]) -> Result<(), Refusal>
     ensures answer { answered result ≡ hand_answer store.old bytes.now }
     ensures store_value { store.new ≡ hand_after store.old bytes.now }

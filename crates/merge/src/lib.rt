@@ -1,7 +1,8 @@
 // Merging all stores of a split: they are examined, and their masters put in the order of a table.
 #![tactic(auto)]
 
-ghost use Rattle.std.specs.Prelude.{◌≡◌, ◌+◌, ◌*◌, ◌/◌, ◌≤◌, ◌<◌, T, false, IfOk, MatchOption, MatchResult, eqb, length, take, drop};
+ghost use Rattle.std.specs.Prelude.{◌≡◌, ◌+◌, ◌*◌, ◌/◌, ◌≤◌, ◌<◌, T, false, eqb, length, take, drop};
+ghost use Rattle.std.specs.Prelude.{IfOk, MatchOption, MatchResult};
 ghost use Rattle.base.specs.Fours.{fours};
 ghost use Rattle.base.specs.Limits.{most_cells, most_coarse_cells, most_coarse_corners, most_parts};
 ghost use Rattle.base.specs.Lists.{allb, anyb};
@@ -111,7 +112,8 @@ fn gather_corners(
     mesh: &mut [u16; 1024],
 ) -> Result<(), Refusal>
     requires { (most_parts * full ≤ length stores.now) × (parts ≤ most_parts) × (m ≤ most_coarse_cells) }
-    ensures { MatchResult result (λ _. Gathered stores.now parts n m mesh.new) (λ r. (r ≡ Refusal.Store) × Ungathered stores.now parts n m) }
+    ensures { MatchResult result (λ _. Gathered stores.now parts n m mesh.new)
+        (λ r. (r ≡ Refusal.Store) × Ungathered stores.now parts n m) }
 {
     for i in 0..m {
         let Some(j) = owner_at(stores, parts, i) else {
@@ -167,8 +169,10 @@ fn finish(
     requires le_m { (1 ≤ m) × (m ≤ most_coarse_cells) × (n ≤ most_coarse_corners) × (most_cells ≤ length table.old) }
     requires cells { T (cellsb n (fours (take (4 * m) mesh.now))) }
     ensures { MatchResult result
-        (λ k. (k ≡ row.now.known) × HandedOut n (fours (take (4 * m) mesh.now)) (take row.now.known row.now.statuses) table.old table.new)
-        (λ r. (r ≡ Refusal.Store) × Withheld n (fours (take (4 * m) mesh.now)) (take row.now.known row.now.statuses) table.old table.new) }
+        (λ k. (k ≡ row.now.known)
+        × HandedOut n (fours (take (4 * m) mesh.now)) (take row.now.known row.now.statuses) table.old table.new)
+        (λ r. (r ≡ Refusal.Store)
+        × Withheld n (fours (take (4 * m) mesh.now)) (take row.now.known row.now.statuses) table.old table.new) }
 {
     let k = row.known;
     let mut rows = [0; 32768];

@@ -8,7 +8,8 @@ use crate::masters::Masters;
 use crate::push;
 use base::{MOST_CELLS, Refusal};
 
-// The keys of the cells that are known, behind one another, and the statuses of the first of them.
+// The keys of the cells that are known, behind one another, and the statuses of the first of them. Keys are two arrays, as those of a pair
+// table are: an array of pairs is no plainer beside it.
 #[derive(Drop)]
 pub struct Row {
     pub heads: [u32; 4096],
@@ -82,6 +83,7 @@ impl Row {
         ensures { MatchResult result (λ row. Built masters.now m row) (λ r. (r ≡ Refusal.Store) × Unbuilt masters.now m) }
     {
         let mut row = Row::coarse(m);
+        // A turn puts more behind the row, so no range goes over it.
         while row.found < row.known {
             row.settle(masters)?;
         }

@@ -43,9 +43,9 @@ fn post_totals(store: &mut [u16])
     ensures { store.new ≡ post_totals store.old }
 {
     let mask = others_of(store);
-    let code = (TOTALS_CODE + store[HIGH] as usize) % 65536;
+    let code = (TOTALS_CODE as u16).wrapping_add(store[HIGH]);
     let total = store[TOTAL];
-    post(store, code as u16, total, mask as u16);
+    post(store, code, total, mask as u16);
 }
 
 // Sets entries and totals to 0.
@@ -129,7 +129,11 @@ fn enter(store: &mut [u16])
 }
 
 // Leads a part to its next round, once the ends of this one are taken from all others.
-#[tactic(auto, using(turns::proofs::Starting::usable_of, crate::proofs::Stepping::step_round), unfolding(crate::specs::Step::part_answer, base::specs::Refuse::refuse, crate::specs::Step::part_after, crate::specs::Step::turned_in, crate::specs::Step::part_stepped))]
+#[tactic(auto, using(turns::proofs::Starting::usable_of, crate::proofs::Stepping::step_round),
+// What it answers.
+unfolding(crate::specs::Step::part_answer, base::specs::Refuse::refuse,
+// What the store then holds.
+crate::specs::Step::part_after, crate::specs::Step::turned_in, crate::specs::Step::part_stepped))]
 pub fn part_step(store: &mut [u16]) -> Result<(), Refusal>
     ensures answer { answered result ≡ part_answer store.old }
     ensures store_value { store.new ≡ part_after store.old }

@@ -78,7 +78,8 @@ fn stays(store: &[u16], c: usize) -> bool
 #[tactic(auto, unfolding(crate::specs::Status::remadeb))]
 fn remade(store: &[u16], c: usize) -> Option<u16>
     requires { (full ≤ length store.now) × (c < most_cells) }
-    ensures { MatchOption result (remadeb store.now c ≡ false) (λ s. (remadeb store.now c ≡ true) × (s ≡ new_status store.now c) × (s ≤ 64)) }
+    ensures { MatchOption result (remadeb store.now c ≡ false)
+        (λ s. (remadeb store.now c ≡ true) × (s ≡ new_status store.now c) × (s ≤ 64)) }
 {
     if store[FAMILY + c] != store[PART] || !stays(store, c) {
         return None;
@@ -328,7 +329,7 @@ fn place_old(store: &mut [u16], c: usize)
     if store[OWNER + c] == store[PART] {
         put_entry(store, p, status);
     } else if store[FAMILY + c] == store[PART] {
-        put_entry(store, p, ((128 + status as usize) % 65536) as u16);
+        put_entry(store, p, status.wrapping_add(128));
     }
 }
 

@@ -10,7 +10,10 @@ use lib.Seq.{length-take-le}
 use borrow.Author.Tests.{eq-eqb, ne_eqb}
 use Rattle.base.specs.Fours.{fours}
 use Rattle.base.specs.Refuse.{refuse, and_then}
+use Rattle.std.specs.Prelude.{Result, Ok, Err, IfOk}
+use Rattle.base.specs.declared.Refusal.{Refusal}
 use Rattle.base.specs.Answer.{Accepted, Refused}
+use Rattle.tables.specs.declared.Sizes.{Sizes}
 use Rattle.mesh.specs.Coarse.{coarse_corner_count, mesh_answer}
 use Rattle.archive.specs.Tables.{pairs, steps_from, steps_of}
 use Rattle.replay.specs.Run.{rest_table, run_table, flat_answer, tables_answer}
@@ -43,3 +46,9 @@ module _ (ps : List ℤ) (ts cs ms es : List ℕ) where
         sound = rw e at f.going.held.sound;
         high = rw e at f.high;
       }
+
+  pub all_ended : (rows table : List ℕ) (r : Result Sizes Refusal) → IfOk r (λ s. Came (coarse_corner_count ps) ts rows table s.cells s.levels
+      (run_table (coarse_corner_count ps) (fours ts) (rest_table (fours ts)) (steps_from 0 (pairs cs ms) es)))
+      → IfOk r (λ s. Replayed ps ts cs ms es table s.cells s.levels)
+  all_ended rows table (Ok s) f = came_ended rows table s.cells s.levels f
+  all_ended rows table (Err e) f = tt

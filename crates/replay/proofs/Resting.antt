@@ -30,7 +30,7 @@ module _ (ps : List ℤ) (mesh : List ℕ) (k : ℕ) (few : length mesh / 4 ≤ 
   rest_is m = ap (λ (j : ℕ). replicate {A = ℕ} j 0) (few (omega (arith, m.few)) ∙ sym (length-fours mesh))
 
   -- a table of leaves is accepted just where its mesh is
-  pub rest_answer : table_answer ps mesh zeros ≡ mesh_answer ps mesh
+  rest_answer : table_answer ps mesh zeros ≡ mesh_answer ps mesh
   unfolding table_answer and_then refuse code_of
   rest_answer = go (mesh_answer ps mesh) refl
     where
@@ -44,11 +44,17 @@ module _ (ps : List ℤ) (mesh : List ℕ) (k : ℕ) (few : length mesh / 4 ≤ 
                 (omega (arith, length-fours mesh, m.few)),
           )
 
+  pub rest_front : (table rest : List ℕ) → table ≡ zeros ++ rest → take k table ≡ zeros
+  rest_front table rest e = rw e (take_at zeros rest k (length-replicate k 0))
+
+  pub rested_answer : (table rest : List ℕ) → table ≡ zeros ++ rest → table_answer ps mesh (take k table) ≡ mesh_answer ps mesh
+  rested_answer table rest e = rw (rest_front table rest e) rest_answer
+
   pub rested : (table rest rows xs ys : List ℕ) (cells levels mids : ℕ) → table ≡ zeros ++ rest → k ≤ 256 → most_cells ≤ length table
       → Fits ps mesh (take k table) rows xs ys cells levels mids
       → Came (coarse_corner_count ps) mesh rows table k levels (rest_table (fours mesh))
   rested table rest rows xs ys cells levels mids e f room o =
-      let t : take k table ≡ zeros = rw e (take_at zeros rest k (length-replicate k 0)) in
+      let t : take k table ≡ zeros = rest_front table rest e in
       record {
         table_is = t ∙ rest_is o.mesh;
         going = record { held = opened_held ps mesh (take k table) rows xs ys cells levels mids o; few = omega arith; room = room };

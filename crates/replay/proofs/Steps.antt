@@ -12,7 +12,10 @@ use Rattle.base.specs.Bools.{not_both}
 use Rattle.base.specs.Fours.{fours}
 use Rattle.base.specs.Limits.{most_cells}
 use Rattle.base.specs.Refuse.{refuse}
+use Rattle.std.specs.Prelude.{Result, IfOk}
+use Rattle.base.specs.declared.Refusal.{Refusal}
 use Rattle.base.specs.Answer.{Refused}
+use Rattle.tables.specs.declared.Sizes.{Sizes}
 use Rattle.mesh.specs.Table.{soundb}
 use Rattle.mesh.specs.Answers.{marksb, limits_answer, new_table}
 use Rattle.replay.specs.Run.{spread, one_answer, one_table}
@@ -70,7 +73,11 @@ module _ (n : ℕ) (qs : List (List ℕ)) (old : List ℕ) (ms : List (ℕ × �
       rw (← f.answer, ← t)
 
   pub moved_table : Fitting old ms out true → (j : ℕ) → length old ≡ j → one_table n qs old ms ≡ new_table n qs old (take j out)
-  unfolding one_table
   moved_table f j e =
       let t : take j out ≡ spread (length old) ms = rw (← e) (f.marks refl) in
       rw (← t)
+
+  pub moved_all : Fitting old ms out true → (j : ℕ) → length old ≡ j → (mesh rows table : List ℕ) (r : Result Sizes Refusal)
+      → IfOk r (λ s. Came n mesh rows table s.cells s.levels (new_table n qs old (take j out)))
+      → IfOk r (λ s. Came n mesh rows table s.cells s.levels (one_table n qs old ms))
+  moved_all f j e mesh rows table r w = rw (moved_table f j e) w

@@ -1,7 +1,7 @@
 // Jobs done again: the steps of a job in turn.
 #![tactic(auto)]
 
-ghost use Rattle.std.specs.Prelude.{◌≡◌, ◌≤◌, T, IfOk, length, take};
+ghost use Rattle.std.specs.Prelude.{◌≡◌, ◌++◌, ◌≤◌, T, IfOk, length, take, drop, replicate};
 ghost use Rattle.base.specs.Fours.{fours};
 ghost use Rattle.base.specs.Limits.{most_cells};
 ghost use Rattle.base.specs.Refuse.{answered};
@@ -31,7 +31,16 @@ struct Tools {
     families: Families,
 }
 
+// Makes the first k bytes 0.
+fn clear(out: &mut [u8], k: usize)
+    requires { k ≤ length out.old }
+    ensures { out.new ≡ replicate k 0 ++ drop k out.old }
+{
+    out[..k].fill(0);
+}
+
 // Whether a mark may stand at a cell, of k cells of which those below `next` are passed.
+#[tactic(auto, unfolding(crate::specs::Scan::mayb))]
 fn may_stand(cell: usize, mark: u8, next: usize, k: usize) -> bool
     ensures { result ≡ mayb k next cell mark }
 {
@@ -43,7 +52,7 @@ fn spread(marked: &[u16], marks: &[u8], k: usize, out: &mut [u8]) -> bool
     requires { (length marked.now ≡ length marks.now) × (k ≤ length out.old) }
     ensures { Spread k (pairs marked.now marks.now) out.new result }
 {
-    out[..k].fill(0);
+    clear(out, k);
     let mut next = 0;
     for i in 0..marked.len() {
         let c = marked[i] as usize;
@@ -84,7 +93,14 @@ fn settle(
 {
     base::copy_front(&tools.new, cells, table);
     tools.mids.clear();
-    let laid = laying::lay(mesh, n, &table[..cells], rows, &mut tools.mids, &tools.families);
+    let laid = laying::lay(
+        mesh,
+        n,
+        &table[..cells],
+        rows,
+        &mut tools.mids,
+        &tools.families,
+    );
     Sizes { cells, ..laid }
 }
 
@@ -138,7 +154,12 @@ fn next_step(
     if e < p || e > marked.len() {
         return Err(Refusal::Marks);
     }
-    if !examine_marks(&marked[p..e], &marks[p..e], &table[..cells], &mut tools.spread) {
+    if !examine_marks(
+        &marked[p..e],
+        &marks[p..e],
+        &table[..cells],
+        &mut tools.spread,
+    ) {
         return Err(Refusal::Marks);
     }
     make(mesh, n, cells, rows, table, tools)
@@ -156,7 +177,7 @@ fn at_rest(
         (rest_table (fours cells.now))) }
 {
     let k = (cells.len() / 4).min(MOST_COARSE_CELLS);
-    table[..k].fill(0);
+    clear(table, k);
     let mut mids = PairTable::<4096, 4096>::new();
     let laid = opening::open(positions, cells, &table[..k], rows, &mut mids)?;
     Ok(Sizes { cells: k, ..laid })
@@ -190,7 +211,9 @@ fn run_steps(
     let mut p = 0;
     for end in ends {
         let e = *end as usize;
-        now = next_step(mesh, n, marked, marks, p, e, now.cells, rows, table, &mut tools)?;
+        now = next_step(
+            mesh, n, marked, marks, p, e, now.cells, rows, table, &mut tools,
+        )?;
         p = e;
     }
     if p != marked.len() {
@@ -217,5 +240,14 @@ pub fn run(
     if marked.len() != marks.len() {
         return Err(Refusal::Marks);
     }
-    run_steps(cells, positions.len() / 3, marked, marks, ends, rest, &mut rows, table)
+    run_steps(
+        cells,
+        positions.len() / 3,
+        marked,
+        marks,
+        ends,
+        rest,
+        &mut rows,
+        table,
+    )
 }

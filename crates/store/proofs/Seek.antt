@@ -47,3 +47,5 @@ module _ (x : List ℕ) (n j b : ℕ) where
 pub next_is : (x : List ℕ) (n : ℕ) → n ≡ entry_count x → seek_from x (n - field x CURSOR) (field x CURSOR) (field x BIT) ≡ next_to_give x
 unfolding next_to_give
 next_is x n e = ap (λ (k : ℕ). seek_from x (k - field x CURSOR) (field x CURSOR) (field x BIT)) e
+
+pub ruleset seeking = (seek_stops, seek_on, seek_out, next_is)

@@ -126,3 +126,5 @@ module _ (x m : List ℕ) where
   pub well_content : shapeb m ≡ true → routeb x m ≡ true → contentb x m ≡ wellb x m
   unfolding wellb
   well_content e f = rw (e, f, wellb)
+
+pub ruleset shapes = (shape_first, shape_second, shape_third)

@@ -10,7 +10,7 @@ use base::{
     TOO_MANY,
 };
 
-// The offsets and lengths of specs/Fields.
+// The offsets and lengths of specs/Fields. A store stays one slice of numbers that is read by them: the C interface lends it so.
 pub const FULL: usize = 226488;
 
 pub const STAGE: usize = 0;
@@ -160,7 +160,7 @@ pub fn child_place(p: Place, i: u16) -> Place
     ensures { result ≡ child_place p i }
 {
     let level = p.head as usize / 256;
-    let head = ((p.head as usize + 256) % 65536) as u16;
+    let head = p.head.wrapping_add(256);
     if level < 5 {
         Place {
             head,

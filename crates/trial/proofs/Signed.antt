@@ -5,14 +5,13 @@
 --   raised_above  it is how far the number lies above the least i32
 --   sum_is      the same of the bits that the program holds
 --   twos_is     two's complement is the library's
-use mathlib.Core.Path.{◌≡◌, refl, ap, ◌∙◌}
+use mathlib.Core.Path.{◌≡◌, refl, ◌∙◌}
 use mathlib.Core.Bool.{Bool, true, false}
 use lib.Dec.{ltb}
 use Rattle.std.proofs.Math.Facts.{to_z-neg}
-use Prim.Native.Nat.{ℕ, zero, suc, ◌+◌, ◌-◌, ◌<◌, ◌≤◌}
-use native.Mathlib.Nat.{zero-add}
+use Prim.Native.Nat.{ℕ, suc, ◌+◌, ◌-◌, ◌<◌, ◌≤◌}
 use native.Mathlib.Omega.{arith}
-use lib.IntN.{ℤ, pos, negsuc, ◌+ℤ◌, ◌-ℤ◌}
+use lib.IntN.{ℤ, pos, negsuc, ◌+ℤ◌}
 use borrow.Author.Tests.{le-ltb, ltb-true, ltb-false}
 use Rattle.trial.specs.Input.{twos}
 use Rattle.trial.specs.Pattern.{above_least}

@@ -27,7 +27,11 @@ pub struct Summary {
 
 impl fmt::Display for Summary {
     fn fmt<W: fmt::Write>(&self, f: &mut fmt::Formatter<W>) -> fmt::Result {
-        write!(f, "{} {} {} {}", self.refusal, self.cells, self.corners, self.levels)?;
+        write!(
+            f,
+            "{} {} {} {}",
+            self.refusal, self.cells, self.corners, self.levels
+        )?;
         write!(f, " {} {} {}", self.table, self.ends, self.sums)
     }
 }

@@ -1,7 +1,8 @@
 -- Questions asked of numbers that follow each other: whether one of them passes.
 --   Asked f a b r   r says whether f passes at one of the numbers from a on, below b
 -- Laws: asked_is (r is `some_from`), asked_by (so is what `any` answers over a range).
-use Rattle.std.proofs.Common.{◌≡◌, sym, ◌∙◌, refl, Bool, true, false, ℕ, zero, suc, ◌+◌, ◌-◌, ◌≤◌, ◌<◌, MatchBool, arith, ◌⊎◌, ⊎_elim, eq-or-lt_of_le, subst}
+use Rattle.std.proofs.Common.{◌≡◌, sym, ◌∙◌, refl, Bool, true, false, ℕ, zero, suc, ◌+◌, ◌-◌, ◌≤◌, ◌<◌, MatchBool}
+use Rattle.std.proofs.Common.{arith, ◌⊎◌, ⊎_elim, eq-or-lt_of_le, subst}
 use Rattle.std.proofs.iter.Yields.{nat_range_steps}
 use Rattle.std.proofs.lemmas.Iterator.{cases_from_any, YieldsList-from_range}
 use Rattle.std.proofs.lemmas.List.FromFn.{length-range_with_len, get_or-range_with_len}
@@ -48,7 +49,8 @@ module _ {F : Type 0} {g : Mut F (ℕ × Unit {0}) Bool} {s u : Range ℕ} (f : 
   asked_by ran e is = asked_is f a b r (told r (cases_from_any u h r (λ x. f x ≡ true) (λ x. f x ≡ false) ran
       (YieldsList-from_range a b (b - a) e refl) (λ x q t. sym (is x true q t).1) (λ x q t. ((is x false q t).0, sym (is x false q t).1))))
     where
-      told : (t : Bool) → MatchBool t ((k : ℕ) × (k < length (range_with_len a (b - a))) × HoldsAt (λ x. f x ≡ true) (range_with_len a (b - a)) k)
+      told : (t : Bool) → MatchBool t
+          ((k : ℕ) × (k < length (range_with_len a (b - a))) × HoldsAt (λ x. f x ≡ true) (range_with_len a (b - a)) k)
           (AllWithin (λ x. f x ≡ false) (range_with_len a (b - a)) 0 (length (range_with_len a (b - a)))) → Asked f a b t
       told true (k, l, y) = let m : k < b - a = omega (arith, length-range_with_len a (b - a)) in
           (a + k, omega arith, omega arith, subst (λ i. f i ≡ true) (get_or-range_with_len a (b - a) k 0 m) (y 0))

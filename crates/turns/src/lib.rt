@@ -286,7 +286,7 @@ fn add_one(store: &mut [u16], slot: usize)
     ensures { store.new ≡ add_one store.old slot }
 {
     if slot < MOST_SLOTS {
-        store[SUM + slot] = ((store[SUM + slot] as usize + 1) % 65536) as u16;
+        store[SUM + slot] = store[SUM + slot].wrapping_add(1);
     }
 }
 
@@ -368,7 +368,11 @@ pub fn enter_counts(store: &mut [u16], k: usize)
 }
 
 // Starts a part with one mark for each of its masters.
-#[tactic(auto, using(crate::proofs::Starting::usable_of, crate::proofs::Starting::begun_by), unfolding(crate::specs::Start::start_answer, base::specs::Refuse::refuse, crate::specs::Start::start_after, crate::specs::Start::started_in, crate::specs::Start::started_store))]
+#[tactic(auto, using(crate::proofs::Starting::usable_of, crate::proofs::Starting::begun_by),
+// What it answers.
+unfolding(crate::specs::Start::start_answer, base::specs::Refuse::refuse,
+// What the store then holds.
+crate::specs::Start::start_after, crate::specs::Start::started_in, crate::specs::Start::started_store))]
 pub fn start(store: &mut [u16], marks: &[u8]) -> Result<(), Refusal>
     ensures answer { answered result ≡ start_answer store.old marks.now }
     ensures store_value { store.new ≡ start_after store.old marks.now }

@@ -12,12 +12,9 @@ examine-requires c = (
   lit< tt,
   (
     mesh_fits c.args.mesh.now c.args.m c.args.n c.told-mesh c.requires.le_m.1 c.requires.le_m.0 c.requires.le_m.2 c.requires.cells,
-    (
-      (λ h.
-          let l : length {A = ℕ} (replicate 32768 0) ≡ 32768 = length-replicate {A = ℕ} 32768 0 in
-          record { in_coarse = omega arith; in_rows = omega arith; in_mids = h }),
-      c.new-mids.ensures,
-    ),
+    (λ h.
+        let l : length {A = ℕ} (replicate 32768 0) ≡ 32768 = length-replicate {A = ℕ} 32768 0 in
+        record { in_coarse = omega arith; in_rows = omega arith; in_mids = h }),
   ),
 )
 

@@ -6,5 +6,6 @@ use Rattle.places.proofs.kid_has.Goals as goal
 
 pub returns : goal.returns
 returns c =
-    asked_by (edge_hit c.args.store.now c.args.digits.now c.args.d c.args.ends.0 c.args.ends.1 c.args.j) 0 6 _ _ c.any.ensures.ran (search rules)
+    asked_by (edge_hit c.args.store.now c.args.digits.now c.args.d c.args.ends.0 c.args.ends.1 c.args.j) 0 6 _ _
+    c.any.ensures.ran (search rules)
     (λ x t q k. search rules) ∙ kid_is _ _ _ _ _ _

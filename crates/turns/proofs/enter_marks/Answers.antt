@@ -9,7 +9,9 @@ use Rattle.turns.specs.Usable.{usable_same}
 use Rattle.turns.proofs.enter_marks.Goals as goal
 
 pub decide_one-requires : goal.decide_one-requires
-decide_one-requires c = let u = usable_same _ _ c.loop-c.invariant.0 c.requires.0 in (omega arith, omega arith, omega (arith, c.level_from-last.ensures.1))
+decide_one-requires c =
+    let u = usable_same _ _ c.loop-c.invariant.0 c.requires.0 in
+    (omega arith, omega arith, omega (arith, c.level_from-last.ensures.1))
 
 pub loop-c-preserved : goal.loop-c-preserved
 loop-c-preserved c = rw add-one (each_again decide_one decide_head _ _ _ _ _ _ c.loop-c.invariant (omega arith) c.decide_one.ensures)

@@ -10,5 +10,6 @@ unfolding pulled_kid
 returns-else-store-d-eq1 c =
     let x = c.args.store.now in
     let d = c.args.d in
-    let e : c.any.result ≡ some_from (pull_of x d) 6 0 = asked_by (pull_of x d) 0 6 _ _ c.any.ensures.ran (search rules) (λ x t q k. search rules) in
+    let e : c.any.result ≡ some_from (pull_of x d) 6 0 =
+    asked_by (pull_of x d) 0 6 _ _ c.any.ensures.ran (search rules) (λ x t q k. search rules) in
     grind (arith, common_steps)

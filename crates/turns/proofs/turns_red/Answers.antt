@@ -13,7 +13,8 @@ returns-in-64 c =
     let a = field x (CHILD + c.args.c) in
     let n = kid_count x c.args.c in
     let z : a + n - a ≡ n = omega arith in
-    let e : c.any.result ≡ some_from (busyb x) (a + n - a) a = asked_by (busyb x) a (a + n) _ _ c.any.ensures.ran (search rules) (λ x t q k. search rules) in
+    let e : c.any.result ≡ some_from (busyb x) (a + n - a) a =
+    asked_by (busyb x) a (a + n) _ _ c.any.ensures.ran (search rules) (λ x t q k. search rules) in
     grind (arith, common_steps)
 
 pub returns-in_default : goal.returns-in_default
@@ -23,5 +24,6 @@ returns-in_default c =
     let a = field x (CHILD + c.args.c) in
     let n = kid_count x c.args.c in
     let z : a + n - a ≡ n = omega arith in
-    let e : c.any-in_default.result ≡ some_from (pulled_kid x) (a + n - a) a = asked_by (pulled_kid x) a (a + n) _ _ c.any-in_default.ensures.ran (search rules) (λ x t q k. search rules) in
+    let e : c.any-in_default.result ≡ some_from (pulled_kid x) (a + n - a) a =
+    asked_by (pulled_kid x) a (a + n) _ _ c.any-in_default.ensures.ran (search rules) (λ x t q k. search rules) in
     grind (arith, common_steps)

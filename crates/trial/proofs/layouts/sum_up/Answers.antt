@@ -8,4 +8,4 @@ returns-in-Ok c = rw (c.in-Ok.is, c.checksum-t.ensures, c.checksum-e.ensures, c.
 
 pub returns-in-Err : goal.returns-in-Err
 unfolding summary_of
-returns-in-Err c = rw (c.in-Err.is, c.checksum-t.ensures, c.checksum-e.ensures, c.checksum-s.ensures)
+returns-in-Err c = rw (c.in-Err.is, c.from.ensures, c.number.ensures, c.checksum-t.ensures, c.checksum-e.ensures, c.checksum-s.ensures)

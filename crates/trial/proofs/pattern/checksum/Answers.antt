@@ -1,5 +1,5 @@
 -- One element less is left, and none at the end.
-use Rattle.std.proofs.Common.{sym, ◌∙◌, ap, arith, rules}
+use Rattle.std.proofs.Common.{sym, ◌∙◌, ap, rules}
 use Rattle.trial.proofs.Tables.{check_next, check_end}
 use Rattle.trial.proofs.pattern.checksum.Goals as goal
 

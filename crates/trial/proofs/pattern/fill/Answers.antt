@@ -1,7 +1,7 @@
 -- One place more holds its number.
 use Rattle.std.proofs.Common.{refl, ap, ◌∙◌, arith, rules, ℕ}
 use Rattle.trial.specs.Pattern.{fill_at}
-use Rattle.trial.proofs.Tables.{tabbed_start, tabbed_more, tabbed_all, fill_next}
+use Rattle.trial.proofs.Tables.{tabbed_start, tabbed_more, fill_next}
 use Rattle.trial.proofs.pattern.fill.Goals as goal
 
 pub loop-place-init : goal.loop-place-init
