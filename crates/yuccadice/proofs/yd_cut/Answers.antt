@@ -18,8 +18,7 @@ returns-in-Ok c =
     let e = c.in-Ok.ensures.answer ∙ cut_long c.args.pattern c.args.digits.now (omega (arith, c.if-digits-lt32.false)) in
     let d = c.in-Ok.family.digits in
     let l : length d ≡ 32 = search rules in
-    let w : take 32 d ++ drop 32 c.args.digits.now ≡ d ++ drop (length d) c.args.digits.now = rw (← l, take-length d) in
-    (
+    let w : take 32 d ++ drop 32 c.args.digits.now ≡ d ++ drop (length d) c.args.digits.now = rw (← l, take-length d) in (
       code_none e,
       rw (sym e, ← c.in-Ok.ensures.family.1) (c.copy_front.ensures ∙ w),
       value_new _ e (c.from.ensures ∙ c.in-Ok.ensures.family.0),

@@ -12,8 +12,7 @@ returns-in-Ok c =
 pub returns-in-Err : goal.returns-in-Err
 unfolding fetched_code fetched_length
 returns-in-Err c =
-    let v = c.in-Err.ensures.answer in
-    (
+    let v = c.in-Err.ensures.answer in (
       c.number.ensures ∙ ap fetched_code v,
       c.fetch.ensures.store_value,
       c.fetch.ensures.out_value,

@@ -7,8 +7,7 @@ use Rattle.yuccadice.proofs.yd_stage.Goals as goal
 pub returns-in-Ok-Running : goal.returns-in-Ok-Running
 unfolding progress_code progress_stage progress_round progress_result
 returns-in-Ok-Running c =
-    let v = ap (λ p. progressed (Ok p)) (sym c.in-Ok-Running.field-0-is) ∙ c.in-Ok-Running.ensures in
-    (
+    let v = ap (λ p. progressed (Ok p)) (sym c.in-Ok-Running.field-0-is) ∙ c.in-Ok-Running.ensures in (
       ap progress_code v,
       ap (progress_stage c.args.stage.now) v,
       ap (progress_round c.args.round.now) v,
@@ -18,8 +17,7 @@ returns-in-Ok-Running c =
 pub returns-in-Ok-Done : goal.returns-in-Ok-Done
 unfolding progress_code progress_stage progress_round progress_result
 returns-in-Ok-Done c =
-    let v = ap (λ p. progressed (Ok p)) (sym c.in-Ok-Done.field-0-is) ∙ c.in-Ok-Done.ensures in
-    (
+    let v = ap (λ p. progressed (Ok p)) (sym c.in-Ok-Done.field-0-is) ∙ c.in-Ok-Done.ensures in (
       ap progress_code v,
       ap (progress_stage c.args.stage.now) v,
       ap (progress_round c.args.round.now) v,
@@ -29,8 +27,7 @@ returns-in-Ok-Done c =
 pub returns-in-Ok-Ended : goal.returns-in-Ok-Ended
 unfolding progress_code progress_stage progress_round progress_result
 returns-in-Ok-Ended c =
-    let v = ap (λ p. progressed (Ok p)) (sym c.in-Ok-Ended.field-0-is) ∙ c.in-Ok-Ended.ensures in
-    (
+    let v = ap (λ p. progressed (Ok p)) (sym c.in-Ok-Ended.field-0-is) ∙ c.in-Ok-Ended.ensures in (
       ap progress_code v,
       ap (progress_stage c.args.stage.now) v,
       ap (progress_round c.args.round.now) v,
@@ -40,8 +37,7 @@ returns-in-Ok-Ended c =
 pub returns-in-Err : goal.returns-in-Err
 unfolding progress_code progress_stage progress_round progress_result
 returns-in-Err c =
-    let v = c.in-Err.ensures in
-    (
+    let v = c.in-Err.ensures in (
       c.number-in-Err.ensures ∙ ap progress_code v,
       ap (progress_stage c.args.stage.now) v,
       ap (progress_round c.args.round.now) v,
