@@ -42,7 +42,7 @@ fn reopen(bytes: &[u8], table: &mut [u8; 4096]) -> Result<Sizes, Refusal>
     ensures reopened { IfOk result (λ s. Reopened bytes.now table.new s.coarse s.cells s.levels) }
 {
     let Some(form) = archive::examine_form(bytes) else {
-        return Err(Refusal::Form);
+        return Err(Refusal::Form); // no archive
     };
     if form.corners > MOST_COARSE_CORNERS || form.cells > MOST_COARSE_CELLS {
         return Err(Refusal::Counts);
