@@ -4,6 +4,7 @@ use Rattle.std.proofs.Math.Path.{sym}
 use Rattle.std.proofs.Common.{◌∙◌, ap, ap₂, drop_of_length-le, drop-cons}
 use native.Mathlib.Omega.{arith}
 use Rattle.std.proofs.Math.Dec.{eqb→eq}
+use borrow.Author.Tests.{eq-eqb}
 use Rattle.base.specs.Bools.{and_left, and_right}
 use Rattle.base.specs.Limits.{most_coarse_cells}
 use Rattle.base.specs.Lists.{allb, anyb, allb_at}
@@ -89,6 +90,18 @@ module _ (x y : List ℕ) where
         coarse = eqb→eq (field y COARSE) (field x COARSE) f;
         result = eqb→eq (field y RESULT) (field x RESULT) t;
       }
+
+pub alike_yes : (x y : List ℕ) → headerb y ≡ true → field y STAGE ≡ 2 → field y PARTS ≡ field x PARTS → field y CORNERS ≡ field x CORNERS
+    → field y COARSE ≡ field x COARSE → eqb (field y RESULT) (field x RESULT) ≡ alikeb x y
+unfolding alikeb
+alike_yes x y a c d e f =
+    rw (
+      a,
+      eq-eqb (field y STAGE) 2 c,
+      eq-eqb (field y PARTS) (field x PARTS) d,
+      eq-eqb (field y CORNERS) (field x CORNERS) e,
+      eq-eqb (field y COARSE) (field x COARSE) f,
+    )
 
 pub few_entries : (b : List ℕ) (P : ℕ) → T (allb (alikeb b) (stores_by b P)) → FewEntries b P
 few_entries b P t i h =

@@ -1,2 +1,2 @@
-mod Results
-mod Family
+pub mod Results
+pub mod Told

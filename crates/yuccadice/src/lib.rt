@@ -1,6 +1,6 @@
 // The calls for programs in other languages. Each function answers the refusal's number, 0 where the call is accepted, and hands its
 // results back in lent tables and lent numbers. include/yuccadice.h says the same for C. Crate yuccadice_c exports them under these names.
-#![tactic(auto)]
+#![tactic(auto, using(crate::proofs::Results::code_none, crate::proofs::Results::code_refused, crate::proofs::Results::value_new, crate::proofs::Results::value_old))]
 
 ghost use Rattle.std.specs.Prelude.{◌≡◌, length, get_or};
 ghost use Rattle.base.specs.Fours.{fours};

@@ -37,6 +37,9 @@ pub returns-clause-table_value : goal.returns-clause-table_value
 unfolding held_after
 returns-clause-table_value c =
     let m = c.in_ok-k.ensures.made in
-    rw (made_on c.args.positions.now c.args.cells.now c.args.status.now c.args.marks.now c.args.table.now
-    (omega (arith, c.if-table-lt-MOST_CELLS.false)) ∙ sym c.in_ok-k.ensures.answer, m.counted)
+    rw (
+      made_on c.args.positions.now c.args.cells.now c.args.status.now c.args.marks.now c.args.table.now
+          (omega (arith, c.if-table-lt-MOST_CELLS.false)) ∙ sym c.in_ok-k.ensures.answer,
+      m.counted,
+    )
     (c.copy_front.ensures ∙ ap (λ (t : List ℕ). t ++ drop c.in_ok-k.k c.args.table.now) m.table_is)

@@ -1,14 +1,15 @@
--- `yuccadice::yd_held` meets its contract.
-use Rattle.yuccadice.proofs.Results.{code_none, code_refused, value_new, value_old, told, held, listed_result}
+-- The rows of a done part, or why there are none.
+use Rattle.std.proofs.Common.{◌∙◌}
+use Rattle.yuccadice.proofs.Results.{code_none, code_refused, value_new, value_old}
+use Rattle.yuccadice.proofs.Told.{held_rows, held_refused}
 use Rattle.yuccadice.proofs.yd_held.Goals as goal
 
-pub returns-in-Rows : goal.returns-in-Rows
-returns-in-Rows c =
-    let a = told listed_result c.held-listed.ensures.value c.in-Rows.is in
-    let v = held listed_result c.held-listed.ensures.value c.in-Rows.is in
-    (code_none a, c.held-listed.ensures.rows_value, value_new _ a v)
+pub returns-in-Ok : goal.returns-in-Ok
+returns-in-Ok c =
+    let v = held_rows _ _ _ c.in-Ok.ensures.answer in
+    (code_none v.0, c.held.ensures.rows_value, value_new _ v.0 v.1)
 
-pub returns-in-Refused : goal.returns-in-Refused
-returns-in-Refused c =
-    let a = told listed_result c.held-listed.ensures.value c.in-Refused.is in
-    (code_refused a, c.held-listed.ensures.rows_value, value_old _ a)
+pub returns-in-Err : goal.returns-in-Err
+returns-in-Err c =
+    let e = held_refused _ _ _ c.in-Err.ensures.answer in
+    (c.number.ensures ∙ code_refused e, c.held.ensures.rows_value, value_old _ e)

@@ -1,28 +1,45 @@
--- `yuccadice::yd_stage` meets its contract.
-use mathlib.Core.Path.{sym, ◌∙◌, ap}
+-- Each stage in turn.
+use Rattle.std.proofs.Common.{◌≡◌, ◌∙◌, ap, sym, Ok}
+use Rattle.held.specs.Progress.{progressed}
 use Rattle.yuccadice.specs.After.{progress_code, progress_stage, progress_round, progress_result}
 use Rattle.yuccadice.proofs.yd_stage.Goals as goal
 
-pub returns-in-Running : goal.returns-in-Running
+pub returns-in-Ok-Running : goal.returns-in-Ok-Running
 unfolding progress_code progress_stage progress_round progress_result
-returns-in-Running c =
-    let v = sym c.in-Running.is ∙ c.stage-progress.ensures in
-    (ap progress_code v, ap (progress_stage _) v, ap (progress_round _) v, ap (progress_result _) v)
+returns-in-Ok-Running c =
+    let v = ap (λ p. progressed (Ok p)) (sym c.in-Ok-Running.field-0-is) ∙ c.in-Ok-Running.ensures in (
+      ap progress_code v,
+      ap (progress_stage c.args.stage.now) v,
+      ap (progress_round c.args.round.now) v,
+      ap (progress_result c.args.res.now) v,
+    )
 
-pub returns-in-Done : goal.returns-in-Done
+pub returns-in-Ok-Done : goal.returns-in-Ok-Done
 unfolding progress_code progress_stage progress_round progress_result
-returns-in-Done c =
-    let v = sym c.in-Done.is ∙ c.stage-progress.ensures in
-    (ap progress_code v, ap (progress_stage _) v, ap (progress_round _) v, ap (progress_result _) v)
+returns-in-Ok-Done c =
+    let v = ap (λ p. progressed (Ok p)) (sym c.in-Ok-Done.field-0-is) ∙ c.in-Ok-Done.ensures in (
+      ap progress_code v,
+      ap (progress_stage c.args.stage.now) v,
+      ap (progress_round c.args.round.now) v,
+      ap (progress_result c.args.res.now) v,
+    )
 
-pub returns-in-Ended : goal.returns-in-Ended
+pub returns-in-Ok-Ended : goal.returns-in-Ok-Ended
 unfolding progress_code progress_stage progress_round progress_result
-returns-in-Ended c =
-    let v = sym c.in-Ended.is ∙ c.stage-progress.ensures in
-    (ap progress_code v, ap (progress_stage _) v, ap (progress_round _) v, ap (progress_result _) v)
+returns-in-Ok-Ended c =
+    let v = ap (λ p. progressed (Ok p)) (sym c.in-Ok-Ended.field-0-is) ∙ c.in-Ok-Ended.ensures in (
+      ap progress_code v,
+      ap (progress_stage c.args.stage.now) v,
+      ap (progress_round c.args.round.now) v,
+      c.from.ensures ∙ (c.number.ensures ∙ ap (progress_result c.args.res.now) v),
+    )
 
-pub returns-in-Refused : goal.returns-in-Refused
+pub returns-in-Err : goal.returns-in-Err
 unfolding progress_code progress_stage progress_round progress_result
-returns-in-Refused c =
-    let v = sym c.in-Refused.is ∙ c.stage-progress.ensures in
-    (ap progress_code v, ap (progress_stage _) v, ap (progress_round _) v, ap (progress_result _) v)
+returns-in-Err c =
+    let v = c.in-Err.ensures in (
+      c.number-in-Err.ensures ∙ ap progress_code v,
+      ap (progress_stage c.args.stage.now) v,
+      ap (progress_round c.args.round.now) v,
+      ap (progress_result c.args.res.now) v,
+    )
