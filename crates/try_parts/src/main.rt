@@ -246,7 +246,8 @@ fn next_call(
     tell(rt, call, answer, before == after, tally)
 }
 
-// The n calls of a case, with nothing carried yet.
+// The n calls of a case, with nothing carried yet. Its tables and those of a split do not stand on the stack at the same time.
+#[inline(never)]
 fn exchange(rt: &(impl Input + Print), stores: &mut [u16], n: usize) -> io::Result<()> {
     let mut carrier = Carrier::new();
     let mut tally = Tally {
@@ -343,6 +344,7 @@ fn read_case(
 }
 
 // Reads what follows a header and splits. False where the input ends or a length is above the program's limits.
+#[inline(never)]
 fn split_case(rt: &(impl Input + Print), stores: &mut [u16], header: Header) -> io::Result<bool> {
     let mut room = [0u8; 8000];
     let mut positions = [0i32; 2000];
