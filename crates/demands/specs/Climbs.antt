@@ -20,8 +20,7 @@ use Rattle.ancestors.specs.Climb.{level_in, parent_in, climb_from, parents_decid
 use Rattle.ancestors.specs.Linked.{ancestor_of}
 use Rattle.ancestors.specs.Table.{table_size, table_climb, table_turns}
 use Rattle.layout.specs.Calls.{lentb, layout_answer}
-use Rattle.queries.specs.Calls.{ancestor_answer, ancestry_of}
-use Rattle.queries.specs.declared.Ancestry.TheVariants.{Under}
+use Rattle.queries.specs.Calls.{ancestor_answer}
 use Rattle.demands.specs.Takes.{status_there, takes_table}
 
 -- Rules 9.2, 12.7.
@@ -32,7 +31,7 @@ rows_after ps ts ss table ends sums =
 -- Rules 3.5, 12.9.
 pub record ClimbsAgree (ps : List ℤ) (ts ss rows : List ℕ) : Type 0 where
   pub answered : (c : ℕ) → c < length ss
-      → ancestry_of (ancestor_answer ps ts ss c) (ancestor_of (get_or (cells_in ps ts ss) c no_cell)) ≡ Under (climb_from rows c c)
+      → (ancestor_answer ps ts ss c ≡ Accepted) × (ancestor_of (get_or (cells_in ps ts ss) c no_cell) ≡ climb_from rows c c)
   pub turns : (c : ℕ) → c < length ss → (climb_from rows c c).level ≡ level_in rows c
   -- in a table with the same parents
   pub parents : (t : List ℕ) → ((k : ℕ) → parent_in t k ≡ parent_in rows k) → (c : ℕ) → climb_from t c c ≡ climb_from rows c c
@@ -56,13 +55,14 @@ module _ (ps : List ℤ) (ts ss table ends : List ℕ) (sums : List ℤ) (e : la
       rw (e, ← size) (take-append_seam new (drop (length new) table))
 
   pub climbs_agree : ClimbsAgree ps ts ss (rows_after ps ts ss table ends sums)
-  unfolding ancestry_of
   climbs_agree =
       let n = coarse_corner_count ps in
       let rows = rows_after ps ts ss table ends sums in
       record {
-        answered = λ c h. rw ((takes_table ps ts ss accepted).ancestor c h)
-            (ap Under (sym (table_climb n (fours ts) ss (fours_four ts) few (corners_in ps ts ss) rows rows_held c (there c h) no_cell)));
+        answered = λ c h. (
+          (takes_table ps ts ss accepted).ancestor c h,
+          sym (table_climb n (fours ts) ss (fours_four ts) few (corners_in ps ts ss) rows rows_held c (there c h) no_cell),
+        );
         turns = λ c h. table_turns n (fours ts) ss (fours_four ts) few (corners_in ps ts ss) rows rows_held c (there c h);
         parents = λ t same c. parents_decide t rows same c c;
       }

@@ -31,10 +31,8 @@ use Rattle.corners.specs.Sums.{positions_small}
 use Rattle.corners.specs.Sizes.{weighted_size}
 use Rattle.corners.specs.Tables.{sums_at}
 use Rattle.position.specs.Exact.{negative, exact}
-use Rattle.position.specs.Position.{coordinate_of, point_of, position_of, position_of_at}
+use Rattle.position.specs.Position.{Position, At, coordinate_of, point_of, position_of, position_of_at}
 use Rattle.position.specs.declared.Point.{Point}
-use Rattle.position.specs.declared.Position.{Position}
-use Rattle.position.specs.declared.Position.TheVariants.{At}
 use Rattle.layout.specs.Calls.{lentb, layout_answer}
 use Rattle.layout.specs.Few.{corners_few}
 use Rattle.demands.specs.Order.{first_passed}
