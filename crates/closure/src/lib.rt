@@ -15,7 +15,7 @@ ghost use Rattle.closure.specs.Listed.{listed_pattern, listed_status, listed_clo
 use pairs::PairTable;
 use rows::Ends;
 
-// Whether an edge of a cell is listed. A cell is its place in the rows: the C interface lends them as one flat list.
+// Whether an edge of a cell is listed. A cell is its place in the rows, one flat list of numbers, as the theorems speak of them.
 pub fn is_held<const N: usize, const H: usize>(
     cells: &[u16],
     c: usize,

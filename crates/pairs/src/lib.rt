@@ -1,5 +1,5 @@
 // A table of pairs of numbers in which a pair is found fast: the pairs in the order in which they were added; each bucket's last entry; and
-// behind each entry the one before it in its bucket. 65535 stands for no entry (an Option would be twice as large: docs/SPEED.md). There
+// behind each entry the one before it in its bucket. 65535 stands for no entry (an Option would take twice the memory). There
 // are 4,096 buckets, or 1,024 where the heads are fewer than 4,096; behind them there may be spots.
 #![tactic(auto)]
 

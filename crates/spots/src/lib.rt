@@ -1,6 +1,6 @@
 // Spots of single numbers in a table of pairs, so that a search can be spared where no entry has a number. They stand behind the table's
 // buckets, 1,024 of them or none, and each has the last entry with a number that lies in it. There are 4,096 buckets, or 1,024 where the
-// heads are fewer than 4,096. 65535 stands for no entry (an Option would be twice as large: docs/SPEED.md).
+// heads are fewer than 4,096. 65535 stands for no entry (an Option would take twice the memory).
 #![tactic(auto)]
 
 ghost use Rattle.std.specs.Prelude.{◌≡◌, ◌+◌, ◌<◌, ◌≤◌};
