@@ -114,9 +114,9 @@ module _ (n : ℕ) (mesh rows ss : List ℕ) (h : Held n mesh rows ss) where
     too_many d l = sym (limits_many n qs ss ms (held_deep ∙ ap not d) l)
 
     -- no room
-    pub unkept : (room : ℕ) → (3072 ≤ room) ⊎ (6 * length ss ≤ room) → (r : Refusal) → Unkept n qs ss ms room r
+    pub advanced_full : (room : ℕ) → (3072 ≤ room) ⊎ (6 * length ss ≤ room) → (r : Refusal) → Unkept n qs ss ms room r
         → Refused (number_of r) ≡ limits_answer n qs ss ms
-    unkept room enough r u = ⊎_elim
+    advanced_full room enough r u = ⊎_elim
         (λ (e : r ≡ TooHigh). rw e (over (u.high e)))
         (λ (e : r ≡ TooMany).
         rw e

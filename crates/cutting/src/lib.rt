@@ -99,6 +99,20 @@ pub struct Family {
     pub digits: [u8; 32],
 }
 
+// The digits of all families, one behind the other.
+pub fn digit_table() -> [u8; 1172]
+    ensures { result ≡ digit_table }
+{
+    DIGITS
+}
+
+// Where each family starts in the table of digits, and the end of the last.
+pub fn start_table() -> [u16; 65]
+    ensures { result ≡ start_table }
+{
+    STARTS
+}
+
 // The families of all patterns. To read a constant is to copy all of it: who cuts many cells makes this once.
 #[derive(Clone, Copy)]
 pub struct Families {
@@ -111,8 +125,8 @@ pub struct Families {
 impl Families {
     pub fn new() -> Self {
         Families {
-            digits: DIGITS,
-            starts: STARTS,
+            digits: digit_table(),
+            starts: start_table(),
         }
     }
 

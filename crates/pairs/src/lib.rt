@@ -48,7 +48,8 @@ impl<const N: usize, const H: usize> PairTable<N, H> {
 
     // Makes the table empty.
     pub fn clear(&mut self)
-        ensures { (self.new.from ≡ 0) × (self.new.n ≡ 0) }
+        ensures empty { (self.new.from ≡ 0) × (self.new.n ≡ 0) }
+        ensures kept { (self.new.xs ≡ self.old.xs) × ((self.new.ys ≡ self.old.ys) × (self.new.links ≡ self.old.links)) }
     {
         self.heads.fill(65535);
         (self.from, self.n) = (0, 0);

@@ -1,7 +1,7 @@
 -- Each part asks for what the table that is held gives, and their answers are the step's.
 use Rattle.std.proofs.Common.{◌≡◌, rules, arith, Err}
 use Rattle.advance.specs.Advanced.{held_statuses}
-use Rattle.advance.proofs.Parts.{held_coarse, held_firsts, held_long, held_marked, unkept, held_keeps, written_answer, written_made}
+use Rattle.advance.proofs.Parts.{held_coarse, held_firsts, held_long, held_marked, advanced_full, held_keeps, written_answer, written_made}
 use Rattle.advance.proofs.advance.Goals as goal
 
 pub first_children-requires-clause-status_value : goal.first_children-requires-clause-status_value
@@ -23,7 +23,7 @@ keep-requires g c = (
 pub returns-in_err-keep-clause-answer : goal.returns-in_err-keep-clause-answer
 returns-in_err-keep-clause-answer g c =
     let r : c.from_residual.result ≡ Err c.in_err-keep.field-0.0 = search rules in
-    rw r (unkept _ _ _ _ c.requires.held _ _ c.requires.red_room _ c.in_err-keep.ensures)
+    rw r (advanced_full _ _ _ _ c.requires.held _ _ c.requires.red_room _ c.in_err-keep.ensures)
 
 pub write_table-requires : goal.write_table-requires
 write_table-requires g c =
