@@ -23,8 +23,8 @@ use Rattle.growth.specs.Parts.{small_part, sizes-take}
 use Rattle.growth.specs.Points.{mids_grown, ReadyToGrow}
 use Rattle.growth.specs.Level.{Laid, Roomy, Grows}
 
-module _ {N H : ℕ} (cells : List ℕ) (t : PairTable N H) (ss : List ℕ) (first last l n : ℕ) (r : Roomy cells t ss first last n) where
-  grows_none : Grows cells t ss first 0 l last n cells t last
+module _ {N H : ℕ} (cells : List ℕ) (t : PairTable N H) (ss : List ℕ) (first last l at n : ℕ) (r : Roomy cells t ss first last at n) where
+  grows_none : Grows cells t ss first 0 l at n cells t at
   unfolding cells_at ends_from rows_all sizes
   grows_none =
       record {
@@ -33,13 +33,13 @@ module _ {N H : ℕ} (cells : List ℕ) (t : PairTable N H) (ss : List ℕ) (fir
         more = omega arith;
         kept_xs = refl;
         kept_ys = refl;
-        rows = sym (written_none cells (8 * last));
-        next = sym (add-zero last);
+        rows = sym (written_none cells (8 * at));
+        next = sym (add-zero at);
         few = r.few;
       }
 
   module _ (k : ℕ) (h : first + k < last) {cells₁ : List ℕ} {t₁ : PairTable N H} {at₁ : ℕ}
-      (g : Grows cells t ss first k l last n cells₁ t₁ at₁) where
+      (g : Grows cells t ss first k l at n cells₁ t₁ at₁) where
     small : get_or ss (first + k) 0 ≤ 64
     small = r.small (first + k) (omega arith) h
 
@@ -49,7 +49,7 @@ module _ {N H : ℕ} (cells : List ℕ) (t : PairTable N H) (ss : List ℕ) (fir
     sized : sizes (part ss first (suc k)) ≡ sizes (part ss first k) + size_of (get_or ss (first + k) 0)
     sized = ap sizes parts ∙ sizes_snoc (part ss first k) (get_or ss (first + k) 0)
 
-    within : at₁ + size_of (get_or ss (first + k) 0) ≤ last + sizes (part ss first (last - first))
+    within : at₁ + size_of (get_or ss (first + k) 0) ≤ at + sizes (part ss first (last - first))
     within = omega (arith, g.next, sized, sizes-take (drop first ss) (suc k) (last - first) (omega arith))
 
     alike : length (cells_at cells first k) ≡ length (part ss first k)
@@ -61,21 +61,21 @@ module _ {N H : ℕ} (cells : List ℕ) (t : PairTable N H) (ss : List ℕ) (fir
     own : cell_at cells₁ (first + k) ≡ cell_at cells (first + k)
     own =
         ap (λ (u : List ℕ). cell_at u (first + k)) g.rows
-        ∙ cell_kept cells last (rows_all l n (entries t₁) first (cells_at cells first k) (part ss first k))
-        (omega (arith, r.in_cells)) (first + k) (omega arith)
+        ∙ cell_kept cells at (rows_all l n (entries t₁) first (cells_at cells first k) (part ss first k))
+        (omega (arith, r.in_cells)) (first + k) (omega (arith, r.done))
 
-    splits : t₁.n + length (split_edges 0 (cell_at cells₁ (first + k)) (get_or ss (first + k) 0)) ≤ last + sizes (part ss first (last - first))
+    splits : t₁.n + length (split_edges 0 (cell_at cells₁ (first + k)) (get_or ss (first + k) 0)) ≤ at + sizes (part ss first (last - first))
     splits = omega (arith, within, g.few, splits_few (cell_at cells₁ (first + k)) (get_or ss (first + k) 0) small)
 
     refine_asked : length cells₁ ≡ length cells
         → (first + k < at₁) × (get_or ss (first + k) 0 ≤ 64) × (at₁ + size_of (get_or ss (first + k) 0) ≤ most_cells)
         × (8 * (at₁ + size_of (get_or ss (first + k) 0)) ≤ length cells₁)
-    refine_asked e = (omega (arith, g.next), small, omega (arith, within, r.most), omega (arith, within, r.in_cells))
+    refine_asked e = (omega (arith, r.done, g.next), small, omega (arith, within, r.most), omega (arith, within, r.in_cells))
 
     refine_ready : length cells₁ ≡ length cells → ReadyToGrow cells₁ t₁ (first + k) (get_or ss (first + k) 0) n
     refine_ready e =
         record {
-          inside = omega (arith, r.in_cells);
+          inside = omega (arith, r.done, r.in_cells);
           mids = g.mids;
           space = record { small = omega (arith, splits, r.most); inside = omega (arith, splits, r.in_mids) };
           small = omega (arith, splits, r.most, r.coarse);
@@ -101,7 +101,7 @@ module _ {N H : ℕ} (cells : List ℕ) (t : PairTable N H) (ss : List ℕ) (fir
           (extends_pairs es (split_edges 0 (cell_at cells₁ (first + k)) (get_or ss (first + k) 0))) in
           rw g.list (sym (rows_kept l n (entries t₂) (entries t) first (cells_at cells first k) (part ss first k) all_small x))
 
-      rows_more : cells₂ ≡ written cells (8 * last) (rows_all l n (entries t₂) first (cells_at cells first (suc k)) (part ss first (suc k)))
+      rows_more : cells₂ ≡ written cells (8 * at) (rows_all l n (entries t₂) first (cells_at cells first (suc k)) (part ss first (suc k)))
       unfolding cells_at
       rows_more =
           let es = entries t₂ in
@@ -110,15 +110,15 @@ module _ {N H : ℕ} (cells : List ℕ) (t : PairTable N H) (ss : List ℕ) (fir
           let s = get_or ss (first + k) 0 in
           let long : length vs ≡ 8 * sizes (part ss first k) = length-rows_of l n es first (cells_at cells first k) (part ss first k) alike
           all_small in
-          let e : 8 * at₁ ≡ 8 * last + length vs = omega (arith, g.next) in
-          let q : cells₁ ≡ written cells (8 * last) vs = g.rows ∙ ap (written cells (8 * last)) rows_stay in
+          let e : 8 * at₁ ≡ 8 * at + length vs = omega (arith, g.next) in
+          let q : cells₁ ≡ written cells (8 * at) vs = g.rows ∙ ap (written cells (8 * at)) rows_stay in
           let v : rows_all l n es first (cells_at cells first k ++ (c ∷ [])) (part ss first (suc k)) ≡ vs ++ rows_of l (first + k) s
           (point_at n es c) =
           rw parts (rw (length-cells cells first k) at (rows_snoc l n es first (cells_at cells first k) (part ss first k) c s alike)) in
-          d.rows ∙ rw (own, e, v, q) (written_more cells (8 * last) vs (omega (arith, within, g.next, r.in_cells))
+          d.rows ∙ rw (own, e, v, q) (written_more cells (8 * at) vs (omega (arith, within, g.next, r.in_cells))
           (rows_of l (first + k) s (point_at n es c)))
 
-      grows_more : Grows cells t ss first (suc k) l last n cells₂ t₂ at₂
+      grows_more : Grows cells t ss first (suc k) l at n cells₂ t₂ at₂
       grows_more =
           record {
             mids = mids_grown g.mids d.table;
@@ -132,11 +132,11 @@ module _ {N H : ℕ} (cells : List ℕ) (t : PairTable N H) (ss : List ℕ) (fir
           }
 
   -- the loop's first turn, and the next at the cell c
-  pub grows_start : Grows cells t ss first (first - first) l last n cells t last
+  pub grows_start : Grows cells t ss first (first - first) l at n cells t at
   grows_start = let e : first - first ≡ 0 = omega arith in rw e grows_none
 
   module _ (c : ℕ) (a : first ≤ c) (h : c < last) {cells₁ : List ℕ} {t₁ : PairTable N H} {at₁ : ℕ}
-      (g : Grows cells t ss first (c - first) l last n cells₁ t₁ at₁) where
+      (g : Grows cells t ss first (c - first) l at n cells₁ t₁ at₁) where
     here : first + (c - first) ≡ c
     here = omega arith
 
@@ -149,7 +149,7 @@ module _ {N H : ℕ} (cells : List ℕ) (t : PairTable N H) (ss : List ℕ) (fir
     )
 
     pub next_grows : {cells₂ : List ℕ} {t₂ : PairTable N H} {at₂ : ℕ} → Laid cells₁ t₁ c (get_or ss c 0) l at₁ n cells₂ t₂ at₂
-        → Grows cells t ss first (c + 1 - first) l last n cells₂ t₂ at₂
+        → Grows cells t ss first (c + 1 - first) l at n cells₂ t₂ at₂
     next_grows d =
         let e : c + 1 - first ≡ suc (c - first) = omega arith in
         rw e (grows_more (c - first) (omega (arith, here)) g (rw here d))

@@ -1,7 +1,7 @@
 -- What refining one cell, and a whole level of cells, asks of the tables and leaves in them.
 --   Laid ..       the family of the cell c with status s is written from row `at` on, on level l, and the edges that s splits
 --                 are in the table of edges
---   Roomy ..      the tables have room for the families of the cells `first` to `last` - 1, behind these
+--   Roomy ..      the tables have room for the families of the cells `first` to `last` - 1, from row `at` on
 --   Grows ..      what Laid says, of the k cells from `first` on in turn; all numbers are those of the last list of ends
 use Rattle.std.specs.Prelude.{◌≡◌, List, ℕ, ◌+◌, ◌*◌, ◌-◌, ◌≤◌, ◌<◌, length, get_or, take}
 use Rattle.base.specs.Limits.{most_cells}
@@ -21,16 +21,17 @@ module _ {N H : ℕ} where
     pub rows : cells' ≡ written cells (8 * at) (rows_of l c s (point_at n (entries t') (cell_at cells c)))
     pub next : at' ≡ at + size_of s
 
-  pub record Roomy (cells : List ℕ) (t : PairTable N H) (ss : List ℕ) (first last n : ℕ) : Type 0 where
+  pub record Roomy (cells : List ℕ) (t : PairTable N H) (ss : List ℕ) (first last at n : ℕ) : Type 0 where
     pub rise : first ≤ last
+    pub done : last ≤ at
     pub statuses : last ≤ length ss
     pub small : (c : ℕ) → first ≤ c → c < last → get_or ss c 0 ≤ 64
-    pub in_cells : 8 * (last + sizes (part ss first (last - first))) ≤ length cells
-    pub most : last + sizes (part ss first (last - first)) ≤ most_cells
+    pub in_cells : 8 * (at + sizes (part ss first (last - first))) ≤ length cells
+    pub most : at + sizes (part ss first (last - first)) ≤ most_cells
     pub coarse : n ≤ 512
-    pub few : t.n ≤ last
+    pub few : t.n ≤ at
     pub mids : Mids t
-    pub in_mids : last + sizes (part ss first (last - first)) ≤ N
+    pub in_mids : at + sizes (part ss first (last - first)) ≤ N
 
   pub record Grows (cells : List ℕ) (t : PairTable N H) (ss : List ℕ) (first k l at n : ℕ) (cells' : List ℕ) (t' : PairTable N H) (at' : ℕ)
       : Type 0 where

@@ -214,21 +214,22 @@ fn refine<const N: usize, const H: usize>(
     parent.write_children(cells, at, pattern_of(status), families)
 }
 
-// Writes the families of the cells `first` to `last` - 1, in cell order, behind these, on level `level`. Gives the row behind them.
+// Writes the families of the cells `first` to `last` - 1, in cell order, from row `at` on, on level `level`. Gives the row behind them.
 pub fn grow_level<const N: usize, const H: usize>(
     cells: &mut [u16],
     status: &[u8],
     first: usize,
     last: usize,
     level: u16,
+    at: usize,
     n: usize,
     mids: &mut PairTable<N, H>,
     families: &Families,
 ) -> usize
-    requires { Roomy cells.old mids.old status.now first last n }
-    ensures { Grows cells.old mids.old status.now first (last - first) level last n cells.new mids.new result }
+    requires { Roomy cells.old mids.old status.now first last at n }
+    ensures { Grows cells.old mids.old status.now first (last - first) level at n cells.new mids.new result }
 {
-    let mut next = last;
+    let mut next = at;
     for c in first..last {
         next = refine(cells, c, status[c], level, next, n, mids, families);
     }

@@ -71,7 +71,7 @@ module _ (n : ℕ) (qs : List (List ℕ)) (ss : List ℕ) (t : T (soundb n qs ss
             ]
 
         module _ (long : 8 * length ss ≤ length rows) where
-          pub lay_room : n ≤ 512 → length ss ≤ M → Roomy rows mids ss first last n
+          pub lay_room : n ≤ 512 → length ss ≤ M → Roomy rows mids ss first last last n
           lay_room c = laying_room h sound_statuses lay_fits c long
 
           pub lay_next : {rows₂ : List ℕ} {mids₂ : PairTable M K} {last₂ : ℕ}

@@ -43,7 +43,7 @@ pub fn lay<const M: usize, const K: usize>(
             };
         }
         let up = (level + 1) as u16;
-        let next = growth::grow_level(rows, status, first, last, up, n, mids, families);
+        let next = growth::grow_level(rows, status, first, last, up, last, n, mids, families);
         first = last;
         last = next;
         level += 1;

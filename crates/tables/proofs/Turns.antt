@@ -41,7 +41,7 @@ module _ {n : ℕ} {qs : List (List ℕ)} {ss : List ℕ} {j first last : ℕ} {
     pub turn_high : (size ≡ 0 → ⊥) → j ≡ 10 → soundb n qs ss ≡ false
     turn_high z t = fails_high h.laying t c.inside (omega (arith, z, c.many))
 
-    pub turn_room : n ≤ 512 → 8 * length ss ≤ length rows → length ss ≤ M → Roomy rows mids ss first last n
+    pub turn_room : n ≤ 512 → 8 * length ss ≤ length rows → length ss ≤ M → Roomy rows mids ss first last last n
     turn_room = laying_room h.laying st c.fit
 
     pub turn_next : (size ≡ 0 → ⊥) → (j ≡ 10 → ⊥) → 8 * length ss ≤ length rows → {rows₂ : List ℕ} {mids₂ : PairTable M K} {last₂ : ℕ}

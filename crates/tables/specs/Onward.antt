@@ -216,10 +216,11 @@ module _ {n : ℕ} {qs : List (List ℕ)} {ss : List ℕ} {j first last : ℕ} {
 
   -- The next level has room.
   pub laying_room : (st : Statuses ss) → last + sizes (own_statuses rows ss first last) ≤ length ss → n ≤ 512 → 8 * length ss ≤ length rows
-      → length ss ≤ M → Roomy rows mids ss first last n
+      → length ss ≤ M → Roomy rows mids ss first last last n
   laying_room st fit c long room =
       record {
         rise = omega (arith, h.end);
+        done = omega arith;
         statuses = omega arith;
         small = λ i a b. status_fits ss st.fit i (omega arith);
         in_cells = omega arith;

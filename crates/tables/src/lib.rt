@@ -136,7 +136,7 @@ pub fn build<const M: usize, const K: usize, const N: usize, const H: usize>(
             return Err(Refusal::Unsound);
         }
         let up = (level + 1) as u16;
-        let next = growth::grow_level(rows, status, first, last, up, n, mids, &families);
+        let next = growth::grow_level(rows, status, first, last, up, last, n, mids, &families);
         first = last;
         last = next;
         level += 1;

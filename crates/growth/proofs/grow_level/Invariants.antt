@@ -4,4 +4,4 @@ use Rattle.growth.specs.Level.{Grows}
 use Rattle.growth.proofs.grow_level.Given as goal
 
 abbrev pub invariant-loop-c : goal.invariant-loop-c
-invariant-loop-c g l = Grows l.initial.cells l.initial.mids l.status l.first (l.c - l.first) l.level l.last l.n l.cells l.mids l.next
+invariant-loop-c g l = Grows l.initial.cells l.initial.mids l.status l.first (l.c - l.first) l.level l.at l.n l.cells l.mids l.next
