@@ -166,10 +166,9 @@ fn fits(corners: usize, cells: usize, marks: usize, steps: usize) -> bool
     requires { (corners ≤ most_coarse_corners) × (cells ≤ most_coarse_cells) }
     ensures { result ≡ leb (13 * corners + 9 * cells + 4 * marks + steps + 1) most_bytes }
 {
-    if marks > MOST_BYTES || steps > MOST_BYTES {
-        return false;
-    }
-    13 * corners + 9 * cells + 4 * marks + steps + 1 <= MOST_BYTES
+    marks <= MOST_BYTES
+        && steps <= MOST_BYTES
+        && 13 * corners + 9 * cells + 4 * marks + steps + 1 <= MOST_BYTES
 }
 
 // Writes the archive of a job that is given by flat tables: the marked cells of all steps one after the other, their marks, and for each

@@ -71,10 +71,7 @@ fn examine_marks(marked: &[u16], marks: &[u8], status: &[u8], out: &mut [u8]) ->
     ensures { Fitting status.now (pairs marked.now marks.now) out.new result }
 {
     let k = status.len();
-    if !spread(marked, marks, k, out) {
-        return false;
-    }
-    step::marks_fit(status, &out[..k])
+    spread(marked, marks, k, out) && step::marks_fit(status, &out[..k])
 }
 
 // Copies the new table, sound and of so many cells, into `table`, and lays out its rows.

@@ -1,14 +1,15 @@
 -- Marks that fit a table, one after the other.
 -- Assumes nothing.
-use mathlib.Core.Path.{◌≡◌, refl, ◌∙◌, ap, ap₂}
+use mathlib.Core.Path.{◌≡◌, refl, sym, ◌∙◌, ap, ap₂}
 use mathlib.Core.Bool.{Bool, true, false, ◌&&◌, and-false, or-true}
 use mathlib.Core.List.{List, [], ◌∷◌}
-use Prim.Native.Nat.{ℕ, suc, ◌+◌, ◌≤◌, ◌<◌}
+use Prim.Native.Nat.{ℕ, zero, suc, ◌+◌, ◌≤◌, ◌<◌}
 use native.Mathlib.Omega.{arith}
 use lib.Dec.{eqb, leb}
 use lib.ListN.{length, get_or, drop, drop_of_length-le}
 use lib.Seq.{drop-cons}
 use borrow.Author.Tests.{ne_eqb}
+use Rattle.std.specs.List.{list_all, range_with_len}
 use Rattle.mesh.specs.Answers.{markb, marksb}
 
 pub mark_none : (s m : ℕ) → m ≡ 0 → true ≡ markb s m
@@ -44,14 +45,16 @@ module _ (ss ms : List ℕ) (c : ℕ) where
   unfolding marksb
   marks_step h e = let n : c + 1 ≡ suc c = omega arith in rw n (ap₂ marksb (drop-cons ss c 0 h) (drop-cons ms c 0 (omega arith)))
 
-  pub marks_next : c < length ss → length ms ≡ length ss → markb (get_or ss c 0) (get_or ms c 0) ≡ true
-      → marksb (drop c ss) (drop c ms) ≡ marksb (drop (c + 1) ss) (drop (c + 1) ms)
-  marks_next h e t = marks_step h e ∙ ap (λ (b : Bool). b && marksb (drop (c + 1) ss) (drop (c + 1) ms)) t
-
-  pub marks_miss : c < length ss → length ms ≡ length ss → markb (get_or ss c 0) (get_or ms c 0) ≡ false
-      → marksb (drop c ss) (drop c ms) ≡ false
-  marks_miss h e t = marks_step h e ∙ ap (λ (b : Bool). b && marksb (drop (c + 1) ss) (drop (c + 1) ms)) t
-
-  pub marks_end : length ss ≤ c → length ms ≡ length ss → marksb (drop c ss) (drop c ms) ≡ true
+  marks_end : length ss ≤ c → length ms ≡ length ss → marksb (drop c ss) (drop c ms) ≡ true
   unfolding marksb
   marks_end h e = let g : length ms ≤ c = omega arith in ap₂ marksb (drop_of_length-le ss h) (drop_of_length-le ms g)
+
+module _ (ss ms : List ℕ) where
+  abbrev pub fitb : ℕ → Bool
+  fitb c = markb (get_or ss c 0) (get_or ms c 0)
+
+  pub marks_chain : (n a : ℕ) → a + n ≡ length ss → length ms ≡ length ss
+      → list_all fitb (range_with_len a n) ≡ marksb (drop a ss) (drop a ms)
+  marks_chain zero a h e = sym (marks_end ss ms a (omega arith) e)
+  marks_chain (suc n) a h e = ap (λ (b : Bool). fitb a && b) (marks_chain n (a + 1) (omega arith) e)
+      ∙ sym (marks_step ss ms a (omega arith) e)

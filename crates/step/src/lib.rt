@@ -27,15 +27,7 @@ fn mark_fits(status: u8, mark: u8) -> bool
 pub fn marks_fit(status: &[u8], marks: &[u8]) -> bool
     ensures { result ≡ marksb status.now marks.now }
 {
-    if marks.len() != status.len() {
-        return false;
-    }
-    for c in 0..status.len() {
-        if !mark_fits(status[c], marks[c]) {
-            return false;
-        }
-    }
-    true
+    marks.len() == status.len() && (0..status.len()).all(|c| mark_fits(status[c], marks[c]))
 }
 
 // Opens the table and looks at the marks: refusals 1 to 7.

@@ -1,26 +1,16 @@
--- `step::marks_fit` meets its contract: the rest of the marks decides as the whole does. The measure is what is left of it.
-use mathlib.Core.Path.{sym, ◌∙◌}
-use native.Mathlib.Omega.{arith}
-use Rattle.step.proofs.Marks.{marks_differ, marks_next, marks_miss, marks_end}
+-- `step::marks_fit` meets its contract: the chain's tests are the definition's, one after the other.
+use Rattle.std.proofs.Common.{ne_eqb, rules, tests, arith, ◌∙◌, length}
+use Rattle.std.proofs.lemmas.Iterator.{YieldsList-from_range}
+use Rattle.std.proofs.lemmas.Iterator.Search.{all_from_yields_List}
+use Rattle.step.proofs.Marks.{fitb, marks_differ, marks_chain}
 use Rattle.step.proofs.marks_fit.Goals as goal
 
 pub returns-then-marks-status : goal.returns-then-marks-status
 returns-then-marks-status c =
-    marks_differ _ _ c.if-marks-status.true
+    let n = length c.args.status.now in
+    all_from_yields_List (fitb c.args.status.now c.args.marks.now) _ _ _ c.all.ensures.ran
+    (YieldsList-from_range 0 n n (cc) (omega arith)) (λ x b q k. search (rules, tests))
+    ∙ marks_chain c.args.status.now c.args.marks.now n 0 (omega arith) c.if-marks-status.true
 
-pub returns-then-not-mark_fits : goal.returns-then-not-mark_fits
-returns-then-not-mark_fits c =
-    sym (sym c.loop-c.invariant.2 ∙ marks_miss c.args.status.now c.args.marks.now c.loop-c.c c.loop-c-test.true
-    c.loop-c.invariant.1 (sym c.mark_fits.ensures ∙ c.if-not-mark_fits.true))
-
-pub loop-c-preserved : goal.loop-c-preserved
-loop-c-preserved c = (
-  omega (arith, c.loop-c-test.true),
-  c.loop-c.invariant.1,
-  sym (marks_next c.args.status.now c.args.marks.now c.loop-c.c c.loop-c-test.true c.loop-c.invariant.1 (sym c.mark_fits.ensures
-      ∙ c.if-not-mark_fits.false)) ∙ c.loop-c.invariant.2,
-)
-
-pub returns : goal.returns
-returns c =
-    sym (sym c.loop-c.invariant.2 ∙ marks_end c.args.status.now c.args.marks.now c.loop-c.c (omega (arith, c.loop-c-test.false)) c.loop-c.invariant.1)
+pub returns-else-marks-status : goal.returns-else-marks-status
+returns-else-marks-status c = ne_eqb _ _ c.if-marks-status.false ∙ marks_differ _ _ c.if-marks-status.false
