@@ -3,3 +3,4 @@ pub mod Settling
 pub mod Corners
 pub mod Loading
 pub mod Answers
+pub mod Laws

@@ -74,7 +74,7 @@ module _ (x y : List ℕ) where
   chain : (a b : Bool) → T (a && b) → T a × T b
   chain a b t = (and_left a b t, and_right a b t)
 
-  alike_is : T (alikeb x y) → Alike
+  pub alike_is : T (alikeb x y) → Alike
   unfolding alikeb
   alike_is t =
       let (a, t) = chain (headerb y) _ t in

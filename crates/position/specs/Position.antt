@@ -57,6 +57,10 @@ module _ (sums : List ℤ) (n k : ℕ) where
   unfolding corner_answer refuse
   corner_short h = rw (lt-leb full_sums (length sums) h)
 
+  pub position_of_short : length sums < full_sums → position_of sums n k ≡ Refused 15
+  unfolding position_of positioned
+  position_of_short h = rw (corner_short h)
+
   module _ (full : full_sums ≤ length sums) where
     pub corner_beyond : n ≤ k → corner_answer sums n k ≡ answer.Refused 7
     unfolding corner_answer refuse
@@ -69,6 +73,14 @@ module _ (sums : List ℤ) (n k : ℕ) where
     pub corner_there : k < n → k < most_corners → corner_answer sums n k ≡ answer.Accepted
     unfolding corner_answer refuse
     corner_there h l = rw (le-leb full_sums (length sums) full, lt-ltb k n h, lt-ltb k most_corners l)
+
+    pub position_of_beyond : n ≤ k → position_of sums n k ≡ Refused 7
+    unfolding position_of positioned
+    position_of_beyond h = rw (corner_beyond h)
+
+    pub position_of_above : most_corners ≤ k → position_of sums n k ≡ Refused 7
+    unfolding position_of positioned
+    position_of_above h = rw (corner_above h)
 
     pub position_of_at : k < n → k < most_corners → position_of sums n k ≡ At (point_of sums k)
     unfolding position_of positioned

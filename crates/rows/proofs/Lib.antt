@@ -1,1 +1,2 @@
 pub mod EdgeEnds
+pub mod Laws
