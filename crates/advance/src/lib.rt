@@ -21,6 +21,7 @@ pub struct Work<const N: usize, const H: usize, const K: usize> {
 }
 
 impl<const N: usize, const H: usize, const K: usize> Work<N, H, K> {
+    #[inline(never)]
     pub fn new() -> Self
         requires { (N ≤ 65536) × (1024 ≤ H) × (H ≤ 65536) × (K ≤ 65536) }
         ensures { (result.red.from ≡ 0) × (result.red.n ≡ 0) }

@@ -16,6 +16,7 @@ impl Tally {
     ghost use Rattle.coarse.specs.Tally.{Fresh, Open, Tallied};
 
     // No pair has been counted.
+    #[inline(never)]
     pub fn new() -> Self
         ensures { Fresh result }
     {

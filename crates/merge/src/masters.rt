@@ -26,6 +26,7 @@ impl Masters {
     ghost use Rattle.merge.specs.Steps.{FewEntries, entries_by};
 
     // None yet.
+    #[inline(never)]
     pub fn new() -> Masters
         ensures { result.keys.n ≡ 0 }
     {

@@ -31,7 +31,8 @@ pub fn bucket_of(k: usize, x: u32, y: u32) -> usize
 }
 
 impl<const N: usize, const H: usize> PairTable<N, H> {
-    // An empty table.
+    // An empty table. It is not compiled into its callers: there it would be made aside and copied.
+    #[inline(never)]
     pub fn new() -> Self
         requires { 1024 ≤ H }
         ensures { (result.from ≡ 0) × (result.n ≡ 0) }
