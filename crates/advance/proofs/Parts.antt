@@ -39,6 +39,7 @@ use Rattle.succession.specs.Write.{write_step}
 use Rattle.succession.specs.Count.{reds_counted}
 use Rattle.writing.specs.Keeps.{Keeps}
 use Rattle.writing.specs.Result.{TableWritten, Unwritten, written_levels}
+use Rattle.flagging.specs.Old.{limit_of}
 use Rattle.keeping.specs.Marked.{Marked, Kept, Unkept}
 use Rattle.lineage.specs.Olds.{flags}
 use Rattle.keeping.specs.Whole.{sound_firsts}
@@ -116,16 +117,22 @@ module _ (n : ℕ) (mesh rows ss : List ℕ) (h : Held n mesh rows ss) where
     -- no room
     pub advanced_full : (room : ℕ) → (3072 ≤ room) ⊎ (6 * length ss ≤ room) → (r : Refusal) → Unkept n qs ss ms room r
         → Refused (number_of r) ≡ limits_answer n qs ss ms
-    advanced_full room enough r u = ⊎_elim
-        (λ (e : r ≡ TooHigh). rw e (over (u.high e)))
-        (λ (e : r ≡ TooMany).
-        rw e
-        (⊎_elim (λ (l : 3072 ≤ room). too_many (u.low e) (omega (arith, u.many e, reds_many)))
-        (λ (l : 6 * length ss ≤ room). absurd (omega (arith, u.many e, filter_few redb keeps, long))) enough))
-        u.one
+    unfolding limit_of
+    advanced_full room enough r u = rw u.limit (go top refl)
+      where
+        go : (b : Bool) → top ≡ b → Refused (number_of (limit_of b)) ≡ limits_answer n qs ss ms
+        go true e = over e
+        go false e =
+            ⊎_elim (λ (l : 3072 ≤ room). too_many e (omega (arith, u.many, reds_many)))
+            (λ (l : 6 * length ss ≤ room). absurd (omega (arith, u.many, filter_few redb keeps, long))) enough
 
-    -- what is kept
-    module _ (kept kept' : List ℕ) (r : Kept n qs ss ms kept kept') where
+    -- a cell of level 10 will be red
+    pub advanced_high : (kept kept' : List ℕ) (high : Bool) → Kept n qs ss ms kept kept' high → high ≡ true
+        → Refused 8 ≡ limits_answer n qs ss ms
+    advanced_high kept kept' high r e = over (sym r.top ∙ e)
+
+    -- what is kept, where none will
+    module _ (kept kept' : List ℕ) (high : Bool) (r : Kept n qs ss ms kept kept' high) (none : high ≡ false) where
       kept_is : take (length ss) kept' ≡ keeps
       kept_is = ap (take (length ss)) r.table ∙ take_at keeps (drop (length ss) kept) (length ss) long
 
@@ -154,7 +161,7 @@ module _ (n : ℕ) (mesh rows ss : List ℕ) (h : Held n mesh rows ss) where
           (λ (e : r' ≡ TooHigh).
           let l : length (step_table n qs ss ms) ≡ 12 = rw written_is at (w.high e) in
           rw e (sym (limits_high n qs ss ms (lt-leb (length (step_table n qs ss ms)) most_levels (omega arith)))))
-          (λ (e : r' ≡ TooMany). rw e (too_many r.low (rw written_is at (w.many e))))
+          (λ (e : r' ≡ TooMany). rw e (too_many (sym r.top ∙ none) (rw written_is at (w.many e))))
           w.one
 
       module _ (table : List ℕ) (cells : ℕ) (w : TableWritten (length mesh / 4) ss (take (length ss) kept') table cells) where

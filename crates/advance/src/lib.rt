@@ -56,7 +56,7 @@ pub fn advance<const N: usize, const H: usize, const K: usize>(
 {
     let coarse = mesh.len() / 4;
     firsts::first_children(status, coarse, &mut work.kids);
-    keeping::keep(
+    let high = keeping::keep(
         mesh,
         n,
         rows,
@@ -66,6 +66,9 @@ pub fn advance<const N: usize, const H: usize, const K: usize>(
         &mut work.kept,
         &mut work.red,
     )?;
+    if high {
+        return Err(Refusal::TooHigh);
+    }
     writing::write_table(
         status,
         &work.kids,

@@ -26,7 +26,7 @@ use Rattle.lineage.specs.Flags.{flag_red}
 use Rattle.kept.specs.Kept.{kept_of}
 use Rattle.kept.specs.Laws.{kept_is_red}
 use Rattle.flagging.specs.Flags.{red_atb, flags_at, kepts_at, closed_at, closed_over}
-use Rattle.flagging.specs.Old.{OldRows, Span, Flagged, Treated, level_reds}
+use Rattle.flagging.specs.Old.{OldRows, Span, Flagged, high_of, Treated, level_reds}
 use Rattle.flagging.specs.Writes.{over_at, over_part, over_again, length-flags}
 
 pub entries_none : {N H : ℕ} (table : PairTable N H) → table.from ≡ table.n → entries table ≡ []
@@ -107,9 +107,9 @@ module _ (t ss ms ks : List ℕ) (held : Pair → Bool) where
 
           pub treated : (kept₂ : List ℕ)
               → kept₂ ≡ take first kept₁ ++ (closed_over (entries table₂) t kept₁ first (last - first) ++ drop last kept₁)
-              → (highest : Bool) → (highest ≡ true → reds ≡ 0)
-              → Treated t ss ms ks held first last kept highest table kept₂ table₂
-          treated kept₂ e highest low =
+              → (highest above high : Bool) → high ≡ high_of highest reds above
+              → Treated t ss ms ks held first last kept highest above table kept₂ table₂ high
+          treated kept₂ e highest above high top =
               let es : List Pair = level_reds t ss ms ks held first last in
               let none : entries table₁ ≡ [] = entries_none table₁ (from_is ∙ sym n_is) in
               let l : entries table₂ ≡ add_pairs [] es = own_grown.list ∙ ap (λ (x : List Pair). add_pairs x es) none in
@@ -122,5 +122,5 @@ module _ (t ss ms ks : List ℕ) (held : Pair → Bool) where
                     (e ∙ ap (λ (x : List ℕ). take first kept₁ ++ (x ++ drop last kept₁)) w);
                 list = l;
                 most = omega (arith, own_grown.most, n_is, red_many);
-                low = λ b. sym f.count ∙ low b;
+                top = rw f.count at top;
               }

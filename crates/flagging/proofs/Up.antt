@@ -5,13 +5,13 @@
 use mathlib.Core.Path.{◌≡◌, refl, sym, ◌∙◌, ap, fun_ext}
 use mathlib.Core.Bool.{Bool, true, false, ◌||◌}
 use mathlib.Core.List.{List, [], ◌∷◌, ◌++◌}
-use Prim.Native.Nat.{ℕ, zero, suc, ◌+◌, ◌-◌, ◌<◌}
+use Prim.Native.Nat.{ℕ, zero, suc, ◌+◌, ◌-◌}
 use native.Mathlib.Nat.{add-zero, zero-add}
 use native.Mathlib.Omega.{arith}
 use lib.Dec.{eqb, ltb}
 use lib.ListN.{get_or, take, drop, take-append-drop}
-use borrow.Author.Tests.{lt-ltb, eqb-true}
-use Rattle.base.specs.Bools.{one_if, not_both}
+use borrow.Author.Tests.{lt-ltb, ne_eqb}
+use Rattle.base.specs.Bools.{one_if}
 use Rattle.base.specs.Lists.{anyb}
 use Rattle.base.specs.Places.{hasb}
 use Rattle.mesh.specs.Cells.{redb, heldb}
@@ -23,19 +23,19 @@ use Rattle.redlist.specs.Ready.{red_count}
 use Rattle.redlist.specs.Steps.{count_append}
 use Rattle.closure.specs.Closed.{lists_added, held_listed}
 use Rattle.flagging.specs.Flags.{listedb, flags_at, kepts_at, reds_up, kept_up, high_up}
-use Rattle.flagging.specs.Old.{Span, Treated, Untreated, Above, Unkept}
+use Rattle.flagging.specs.Old.{Span, limit_of, high_of, Treated, Untreated, Above, Unkept}
 use Rattle.flagging.specs.Writes.{length_kepts, flags_both}
 use Rattle.flagging.proofs.Treat.{entries_none, kept_many}
 
 pub up_none : (t ss ms ks : List ℕ) (first last : ℕ) (kept : List ℕ) {N H : ℕ} (table : PairTable N H)
-    → (table.from ≡ 0) × (table.n ≡ 0) → (depth : ℕ) → depth ≡ 0 → Above t ss ms ks depth first last kept kept table
+    → (table.from ≡ 0) × (table.n ≡ 0) → (depth : ℕ) → depth ≡ 0 → Above t ss ms ks depth first last kept kept table false
 unfolding kept_up reds_up high_up red_count
 up_none t ss ms ks first last kept table (from_is, n_is) depth d =
     rw d
     (record {
       keeps = record {
         written = sym (ap (λ (x : ℕ). take first kept ++ drop x kept) (add-zero first) ∙ take-append-drop first kept);
-        low = refl;
+        top = refl;
       };
       lists = record { has = λ p. ap (λ (es : List Pair). hasb isb es p) (entries_none table (from_is ∙ sym n_is)) };
       few = omega (arith, n_is);
@@ -76,53 +76,36 @@ module _ (t ss ms ks : List ℕ) (first last : ℕ) where
   high_above zero n = absurd (n refl)
   high_above (suc h) n = refl
 
-  high_on : (h : ℕ) → high_up t ss ms ks h last end ≡ true → high_up t ss ms ks (suc h) first last ≡ true
-  unfolding high_up
-  high_on zero e = not_both false e refl
-  high_on (suc h) e = e
-
   none_red : red_count (kept_up t ss ms ks 0 last end) ≡ 0
   unfolding kept_up red_count
   none_red = refl
 
   -- whether a cell of the highest level will be red, by how many of this level will be where it is that
-  low_is : (h : ℕ) → (eqb (suc h) 1 ≡ true → red_count (flags_up h) ≡ 0) → high_up t ss ms ks h last end ≡ false
-      → high_up t ss ms ks (suc h) first last ≡ false
-  unfolding high_up
-  low_is zero a e = sym (any_count (flags_up 0)) ∙ ap (ltb 0) (a refl)
-  low_is (suc h) a e = e
-
-  high_is : (h : ℕ) → eqb (suc h) 1 ≡ true → 0 < red_count (flags_up h) → high_up t ss ms ks (suc h) first last ≡ true
-  unfolding high_up
-  high_is zero a l = sym (any_count (flags_up 0)) ∙ lt-ltb 0 (red_count (flags_up 0)) l
-  high_is (suc h) a l = let z : suc (suc h) ≡ 1 = eqb-true (suc (suc h)) 1 a in absurd (omega arith)
+  high_is : (h : ℕ) (above : Bool) → above ≡ high_up t ss ms ks h last end
+      → high_of (eqb (suc h) 1) (red_count (flags_up h)) above ≡ high_up t ss ms ks (suc h) first last
+  unfolding high_up high_of
+  high_is zero above e = any_count (flags_up 0)
+  high_is (suc h) above e = rw (ne_eqb (suc (suc h)) 1 (λ z. omega arith)) e
 
   module _ (h depth : ℕ) (d : depth ≡ suc h) where
     -- the levels above are refused
     pub up_refused : (room : ℕ) (r : Refusal) → Unkept t ss ms ks h last end room r → Unkept t ss ms ks depth first last room r
     up_refused room r u =
-        rw d
-        (record {
-          one = u.one;
-          high = λ e. high_on h (u.high e);
-          low = λ e.
-              let z : h ≡ 0 → ⊥ =
-              λ i. omega (arith, u.many e, none_red, ap (λ (x : ℕ). red_count (kept_up t ss ms ks x last end)) i) in
-              sym (high_above h z) ∙ u.low e;
-          many = λ e. omega (arith, u.many e, count_both h);
-        })
+        let z : h ≡ 0 → ⊥ = λ i. omega (arith, u.many, none_red, ap (λ (x : ℕ). red_count (kept_up t ss ms ks x last end)) i) in
+        rw d (record { limit = u.limit ∙ ap limit_of (high_above h z); many = omega (arith, u.many, count_both h) })
 
-    module _ {N H : ℕ} (kept kept₁ : List ℕ) (table₁ : PairTable N H) (above : Above t ss ms ks h last end kept kept₁ table₁) where
+    module _ {N H : ℕ} (kept kept₁ : List ℕ) (table₁ : PairTable N H) (high₁ : Bool)
+        (above : Above t ss ms ks h last end kept kept₁ table₁ high₁) where
       -- what was listed is what new red cells one level up hold
       held_is : listedb table₁ ≡ held_up h
       held_is = fun_ext (held_listed (entries table₁) (reds_up t ss ms ks h last end) above.lists)
 
-      pub up_more : Span ss kept first last → (kept₂ : List ℕ) (table₂ : PairTable N H)
-          → Treated t ss ms ks (listedb table₁) first last kept₁ (eqb depth 1) table₁ kept₂ table₂
-          → Above t ss ms ks depth first last kept kept₂ table₂
+      pub up_more : Span ss kept first last → (kept₂ : List ℕ) (table₂ : PairTable N H) (high : Bool)
+          → Treated t ss ms ks (listedb table₁) first last kept₁ (eqb depth 1) high₁ table₁ kept₂ table₂ high
+          → Above t ss ms ks depth first last kept kept₂ table₂ high
       unfolding kept_up reds_up
-      up_more s kept₂ table₂ w =
-          let treated : Treated t ss ms ks (held_up h) first last kept₁ (eqb (suc h) 1) table₁ kept₂ table₂ = rw (held_is, d) at w in
+      up_more s kept₂ table₂ high w =
+          let treated : Treated t ss ms ks (held_up h) first last kept₁ (eqb (suc h) 1) high₁ table₁ kept₂ table₂ high = rw (held_is, d) at w in
           let es : List Pair = reds_up t ss ms ks (suc h) first last in
           let own : List ℕ = kepts_at t ss ms ks (held_up h) es first (last - first) in
           let up : List ℕ = kept_up t ss ms ks h last end in
@@ -131,21 +114,16 @@ module _ (t ss ms ks : List ℕ) (first last : ℕ) where
             keeps = record {
               written = flags_both kept kept₁ kept₂ own up first last s.up (omega (arith, s.inside, s.room))
                   (length_kepts t ss ms ks (held_up h) es first (last - first)) above.keeps.written treated.written;
-              low = low_is h treated.low above.keeps.low;
+              top = treated.top ∙ high_is h high₁ above.keeps.top;
             };
             lists = rw treated.list (lists_added es);
             few = omega (arith, treated.most, above.few, count_both h);
           })
 
       -- this level is refused
-      pub up_untreated : (r : Refusal) → Untreated t ss ms ks (listedb table₁) first last (eqb depth 1) table₁ r
+      pub up_untreated : (r : Refusal) → Untreated t ss ms ks (listedb table₁) first last (eqb depth 1) high₁ table₁ r
           → Unkept t ss ms ks depth first last N r
       up_untreated r w =
-          let u : Untreated t ss ms ks (held_up h) first last (eqb (suc h) 1) table₁ r = rw (held_is, d) at w in
+          let u : Untreated t ss ms ks (held_up h) first last (eqb (suc h) 1) high₁ table₁ r = rw (held_is, d) at w in
           rw d
-          (record {
-            one = u.one;
-            high = λ e. high_is h (u.high e).0 (u.high e).1;
-            low = λ e. low_is h (u.low e) above.keeps.low;
-            many = λ e. omega (arith, u.many e, above.few, count_both h);
-          })
+          (record { limit = u.limit ∙ ap limit_of (high_is h high₁ above.keeps.top); many = omega (arith, u.many, above.few, count_both h) })

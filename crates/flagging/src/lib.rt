@@ -6,7 +6,7 @@ ghost use Rattle.base.specs.Lists.{allb, anyb};
 ghost use Rattle.edges.specs.Table.{entries};
 ghost use Rattle.lineage.specs.Olds.{flag_of};
 ghost use Rattle.flagging.specs.Flags.{listedb, idleb, touchedb, red_atb, pulledb, closed_at, closed_over};
-ghost use Rattle.flagging.specs.Old.{OldRows, Span, OneLevel, Flagged, Treated, Untreated, Above, Kept, Unkept};
+ghost use Rattle.flagging.specs.Old.{OldRows, Span, OneLevel, Flagged, limit_of, high_of, Treated, Untreated, Above, Kept, Unkept};
 ghost use Rattle.base.specs.Range.{range};
 
 use base::Refusal;
@@ -28,7 +28,28 @@ fn flag(b: bool) -> u8
     if b { 64 } else { 0 }
 }
 
-// What a cell keeps, from its flag. On the highest level no edge is listed.
+// Whether a cell of the highest level will be red: one of this level's new red ones where it is that level, else as `above` says.
+#[tactic(auto, unfolding(crate::specs::Old::high_of))]
+fn is_high(is_highest: bool, reds: usize, above: bool) -> bool
+    ensures { result ≡ high_of is_highest reds above }
+{
+    if is_highest { reds > 0 } else { above }
+}
+
+// The limit that is met where there is no room: 8 where a cell of the highest level will be red, else 9.
+#[tactic(auto, unfolding(crate::specs::Old::limit_of))]
+fn limit(high: bool) -> Refusal
+    ensures { result ≡ limit_of high }
+{
+    if high {
+        Refusal::TooHigh
+    } else {
+        Refusal::TooMany
+    }
+}
+
+// What a cell keeps, from its flag. On the highest level no edge is listed. That none is near is asked here, so that it is compiled into
+// the loop over the level.
 fn kept_of<const N: usize, const H: usize>(
     flag: u8,
     rows: &[u16],
@@ -41,7 +62,10 @@ fn kept_of<const N: usize, const H: usize>(
     if flag == 64 {
         return 64;
     }
-    closure::pattern_of(rows, c, table)
+    if table.from == table.n || !closure::is_near(rows, c, table) {
+        return 0;
+    }
+    closure::pattern_in(rows, c, table)
 }
 
 // Writes what the cells from first to last keep over their flags, where the edges of the level's new red cells are listed.
@@ -175,37 +199,38 @@ impl OldTable<'_> {
     }
 
     // Lists the edges of the new red cells from first to last as a level of their own, and writes what these cells keep. The edges of the
-    // level above are those that are looked at before. No cell of the highest level may be red, and six edges of each red one need room.
+    // level above are those that are looked at before, and `above` says whether a cell of the highest level will be red, where this is not
+    // that level. Gives the same of this level and those above. Six edges of each red cell need room.
     fn treat_level<const N: usize, const H: usize>(
         &self,
         kept: &mut [u8],
         first: usize,
         last: usize,
         is_highest: bool,
+        above: bool,
         table: &mut PairTable<N, H>,
-    ) -> Result<(), Refusal>
+    ) -> Result<bool, Refusal>
         requires span { Span self.now.status.now kept.old first last }
         requires small { N ≤ 65535 }
         ensures { MatchResult result
-            (λ _. Treated self.now.rows.now self.now.status.now self.now.marks.now self.now.kids.now (listedb table.old) first last
-            kept.old is_highest table.old kept.new table.new)
+            (λ high. Treated self.now.rows.now self.now.status.now self.now.marks.now self.now.kids.now (listedb table.old) first last
+            kept.old is_highest above table.old kept.new table.new high)
             (λ r. Untreated self.now.rows.now self.now.status.now self.now.marks.now self.now.kids.now (listedb table.old) first last
-            is_highest table.old r) }
+            is_highest above table.old r) }
     {
         let reds = self.flag_level(kept, first, last, table);
-        if is_highest && reds > 0 {
-            return Err(Refusal::TooHigh);
-        }
+        let high = is_high(is_highest, reds, above);
         if 6 * reds > N - table.n {
-            return Err(Refusal::TooMany);
+            return Err(limit(high));
         }
         table.start_level();
         redlist::red_level(self.rows, kept, first, last, table);
         close_level(self.rows, kept, first, last, table);
-        Ok(())
+        Ok(high)
     }
 
-    // Treats the level from first to last and those above it, depth levels in all, the highest one first.
+    // Treats the level from first to last and those above it, depth levels in all, the highest one first. Gives whether a cell of the
+    // highest will be red.
     fn treat_up<const N: usize, const H: usize>(
         &self,
         kept: &mut [u8],
@@ -213,36 +238,37 @@ impl OldTable<'_> {
         last: usize,
         depth: usize,
         table: &mut PairTable<N, H>,
-    ) -> Result<(), Refusal>
+    ) -> Result<bool, Refusal>
         requires one_level { OneLevel self.now.status.now self.now.kids.now kept.old first last }
         requires small { N ≤ 65535 }
         requires empty { (table.old.from ≡ 0) × (table.old.n ≡ 0) }
         ensures { MatchResult result
-            (λ _. Above self.now.rows.now self.now.status.now self.now.marks.now self.now.kids.now depth first last kept.old kept.new
-            table.new)
+            (λ high. Above self.now.rows.now self.now.status.now self.now.marks.now self.now.kids.now depth first last kept.old kept.new
+            table.new high)
             (λ r. Unkept self.now.rows.now self.now.status.now self.now.marks.now self.now.kids.now depth first last N r) }
     {
         if depth == 0 {
-            return Ok(());
+            return Ok(false);
         }
         let end = self.kids[last] as usize;
-        self.treat_up(kept, last, end, depth - 1, table)?;
-        self.treat_level(kept, first, last, depth == 1, table)
+        let above = self.treat_up(kept, last, end, depth - 1, table)?;
+        self.treat_level(kept, first, last, depth == 1, above, table)
     }
 
-    // Writes what each cell keeps; there are at most eleven levels. A cell of level 10 that will be red is too high; without room for six
-    // edges of each cell that will be red there are too many. Then what `kept` holds is free. The table is for the work.
+    // Writes what each cell keeps; there are at most eleven levels. Gives whether a cell of level 10 will be red. Without room for six edges
+    // of each cell that will be red, what `kept` holds is free, and the refusal is 8 where a cell of level 10 will be, else 9. The table
+    // is for the work.
     pub fn treat_all<const N: usize, const H: usize>(
         &self,
         kept: &mut [u8],
         table: &mut PairTable<N, H>,
-    ) -> Result<(), Refusal>
+    ) -> Result<bool, Refusal>
         requires span { Span self.now.status.now kept.old 0 (get_or self.now.kids.now 0 0) }
         requires small { N ≤ 65535 }
         requires empty { (table.old.from ≡ 0) × (table.old.n ≡ 0) }
         ensures { MatchResult result
-            (λ _. Kept self.now.rows.now self.now.status.now self.now.marks.now self.now.kids.now 11 0
-            (get_or self.now.kids.now 0 0) kept.old kept.new)
+            (λ high. Kept self.now.rows.now self.now.status.now self.now.marks.now self.now.kids.now 11 0
+            (get_or self.now.kids.now 0 0) kept.old kept.new high)
             (λ r. Unkept self.now.rows.now self.now.status.now self.now.marks.now self.now.kids.now 11 0
             (get_or self.now.kids.now 0 0) N r) }
     {

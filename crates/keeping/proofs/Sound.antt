@@ -30,7 +30,7 @@ use Rattle.lineage.specs.Olds.{first_child, flags}
 use Rattle.kept.specs.Kept.{kept_levels, kept_table}
 use Rattle.kept.specs.KeptAt.{kept-length}
 use Rattle.flagging.specs.Flags.{kept_up, high_up}
-use Rattle.flagging.specs.Old.{OldRows, Span}
+use Rattle.flagging.specs.Old.{OldRows, Span, limit_of}
 use Rattle.flagging.specs.Old as flagging
 use Rattle.base.specs.declared.Refusal.{Refusal}
 use Rattle.keeping.specs.Marked.{Marked, Kept, Unkept}
@@ -140,20 +140,18 @@ module _ (n : ℕ) (mesh rows ss ms firsts kept : List ℕ) (g : Marked n mesh r
       zero-add (length (kept_up rows ss ms firsts 11 0 (get_or firsts 0 0))) ∙ ap length marked_kept ∙ kept-length n qs ss ms g.sound
       ∙ count
 
-  pub marked_whole : (kept' : List ℕ) → flagging.Kept rows ss ms firsts 11 0 (get_or firsts 0 0) kept kept'
-      → Kept n qs ss ms kept kept'
-  marked_whole kept' r =
+  pub marked_whole : (kept' : List ℕ) (high : Bool) → flagging.Kept rows ss ms firsts 11 0 (get_or firsts 0 0) kept kept' high
+      → Kept n qs ss ms kept kept' high
+  marked_whole kept' high r =
       record {
         table = r.written ∙ ap₂ (λ (l : List ℕ) (i : ℕ). l ++ drop i kept) marked_kept marked_end;
-        low = sym marked_high ∙ r.low;
+        top = r.top ∙ marked_high;
       }
 
   pub marked_refused : (room : ℕ) (r : Refusal) → flagging.Unkept rows ss ms firsts 11 0 (get_or firsts 0 0) room r
       → Unkept n qs ss ms room r
   marked_refused room r u =
       record {
-        one = u.one;
-        high = λ e. sym marked_high ∙ u.high e;
-        low = λ e. sym marked_high ∙ u.low e;
-        many = λ e. rw (← marked_kept, ← count_filter (kept_up rows ss ms firsts 11 0 (get_or firsts 0 0))) (u.many e);
+        limit = u.limit ∙ ap limit_of marked_high;
+        many = rw (← marked_kept, ← count_filter (kept_up rows ss ms firsts 11 0 (get_or firsts 0 0))) u.many;
       }

@@ -33,5 +33,5 @@ pub returns : goal.returns
 returns g c =
     let a = c.args in
     MatchResult-weaker c.treat_all.result c.treat_all.ensures
-    (λ _. marked_whole a.n a.mesh.now a.rows.now a.status.now a.marks.now a.kids.now a.kept.now c.requires.marked c.treat_all.new.kept)
+    (marked_whole a.n a.mesh.now a.rows.now a.status.now a.marks.now a.kids.now a.kept.now c.requires.marked c.treat_all.new.kept)
     (marked_refused a.n a.mesh.now a.rows.now a.status.now a.marks.now a.kids.now a.kept.now c.requires.marked g.row.N)

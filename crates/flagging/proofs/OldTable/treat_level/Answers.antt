@@ -1,6 +1,5 @@
 -- Its flags are written; then it is refused, or its edges are listed and what its cells keep is written.
-use Rattle.std.proofs.Common.{rules, arith, ⊎_elim}
-use Rattle.base.specs.Bools.{not_both}
+use Rattle.std.proofs.Common.{rules, arith}
 use Rattle.flagging.specs.Flags.{listedb}
 use Rattle.flagging.proofs.Treat.{reds_range, reds_ready, treated}
 use Rattle.flagging.proofs.OldTable.treat_level.Goals as goal
@@ -38,5 +37,5 @@ returns g c =
     let f = c.flag_level-reds in
     treated o.rows.now o.status.now o.marks.now o.kids.now held c.args.first c.args.last c.args.kept.now f.new.kept f.result
     f.ensures c.requires.span c.args.table.now c.start_level.new.self c.start_level.ensures.from c.start_level.ensures.kept.2
-    c.red_level.new.table c.red_level.ensures c.close_level.new.kept c.close_level.ensures c.args.is_highest
-    (λ e. ⊎_elim (λ w. omega (arith, w.1)) (λ w. not_both _ e w) c.else-is_highest.either)
+    c.red_level.new.table c.red_level.ensures c.close_level.new.kept c.close_level.ensures c.args.is_highest c.args.above
+    c.is_high-high.result c.is_high-high.ensures
