@@ -44,24 +44,24 @@ module _ (kx ky : List ℕ → ℕ) (most : ℕ) (fs : List (List ℕ)) where
   abbrev met : ℕ → ℕ → ℕ → ℕ
   met i x y = count (keyb kx ky x y) (take i fs)
 
-  pub record Sofar (t : Tally) (i : ℕ) : Type 0 where
+  pub record Sofar {N : ℕ} (t : Tally N) (i : ℕ) : Type 0 where
     pub inside : t.pairs.n ≤ i
     pub right : (x y : ℕ) → times_in t x y ≡ met i x y
     pub few : (x y : ℕ) → met i x y ≤ most
 
-  pub meets_start : {t : Tally} → Fresh t → Sofar t 0
+  pub meets_start : {N : ℕ} {t : Tally N} → Fresh t → Sofar t 0
   unfolding count
   meets_start f = record { inside = omega (arith, f.empty); right = λ x y. f.none x y; few = λ x y. omega arith }
 
-  module _ {t : Tally} {i : ℕ} (s : Sofar t i) where
+  module _ {N : ℕ} {t : Tally N} {i : ℕ} (s : Sofar t i) where
     pub meets_end : length fs ≤ i → (x y : ℕ) → count (keyb kx ky x y) fs ≤ most
     meets_end h x y = rw (take_all i fs h) at (s.few x y)
 
-    pub meets_open : i < 1024 → most < 255 → (x y : ℕ) → Open t x y
+    pub meets_open : i < N → most < 255 → (x y : ℕ) → Open t x y
     meets_open h low x y = record { room = omega (arith, s.inside); low = omega (arith, s.right x y, s.few x y) }
 
     module _ (h : i < length fs) {x y : ℕ} (ex : x ≡ kx (get_or fs i [])) (ey : y ≡ ky (get_or fs i []))
-        {t' : Tally} {c : ℕ} (a : Tallied t x y t' c) where
+        {t' : Tally N} {c : ℕ} (a : Tallied t x y t' c) where
       next : (v w : ℕ) → met (i + 1) v w ≡ met i v w + one_if (keyb kx ky v w (get_or fs i []))
       next v w = rw (add-one i) (count_next (keyb kx ky v w) [] fs i h)
 

@@ -27,18 +27,18 @@ unfoldable pub times : List ℕ → List ℕ → List ℕ → ℕ → ℕ → �
 unfolding seek
 times xs ys counts from n x y = get_or counts (seek xs ys x y from (n - from)) 0
 
-abbrev pub times_in : Tally → ℕ → ℕ → ℕ
+abbrev pub times_in : {N : ℕ} → Tally N → ℕ → ℕ → ℕ
 times_in t x y = times t.pairs.xs t.pairs.ys t.counts t.pairs.from t.pairs.n x y
 
-pub record Fresh (t : Tally) : Type 0 where
+pub record Fresh {N : ℕ} (t : Tally N) : Type 0 where
   pub empty : t.pairs.n ≡ 0
   pub none : (x y : ℕ) → times_in t x y ≡ 0
 
-pub record Open (t : Tally) (x y : ℕ) : Type 0 where
-  pub room : t.pairs.n < 1024
+pub record Open {N : ℕ} (t : Tally N) (x y : ℕ) : Type 0 where
+  pub room : t.pairs.n < N
   pub low : times_in t x y < 255
 
-pub record Tallied (t : Tally) (x y : ℕ) (t' : Tally) (count : ℕ) : Type 0 where
+pub record Tallied {N : ℕ} (t : Tally N) (x y : ℕ) (t' : Tally N) (count : ℕ) : Type 0 where
   pub grown : t'.pairs.n ≤ t.pairs.n + 1
   pub count_is : count ≡ times_in t x y + 1
   pub same : times_in t' x y ≡ times_in t x y + 1

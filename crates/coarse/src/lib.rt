@@ -1,17 +1,19 @@
 // The refusals 1 to 5 of a coarse mesh (docs/METHOD.md, section 1).
 #![tactic(auto)]
 
-ghost use Rattle.std.specs.Prelude.{◌≡◌, not, All, ◌+◌, ◌*◌, ◌<◌};
+ghost use Rattle.std.specs.Prelude.{◌≡◌, not, All, ◌+◌, ◌*◌, ◌<◌, ◌≤◌, length};
 ghost use Rattle.base.specs.Fours.{faces};
 ghost use Rattle.base.specs.Refuse.{answered};
 ghost use Rattle.cutting.specs.Rule.{zerob};
 ghost use Rattle.mesh.specs.Coarse.{countsb, positionsb, cellb, cellsb, coordinate_at, determinant, solidb, twiceb, singleb, mesh_answer};
 ghost use Rattle.coarse.specs.Cells.{Ranked, crowdedb};
+ghost use Rattle.coarse.specs.Tally.{Fresh};
 ghost use Rattle.coarse.specs.Volume.{Small, CornerThere, CornersThere, edge_vector, term_of};
 
 mod tally;
 
 use base::{MOST_COARSE_CELLS, MOST_COARSE_CORNERS, Refusal};
+use pairs::PairTable;
 use tally::Tally;
 
 // A cell's corner numbers.
@@ -108,11 +110,12 @@ fn pair(a: u16, b: u16) -> u32
 }
 
 // No two cells have the same corners.
-fn cells_differ(cells: &[Cell]) -> bool
-    requires { Ranked cells.now }
+fn cells_differ<const N: usize>(cells: &[Cell], tally: &mut Tally<N>) -> bool
+    requires ranked { Ranked cells.now }
+    requires room { 4 * length cells.now ≤ N }
+    requires fresh { Fresh tally.old }
     ensures { result ≡ not (twiceb cells.now) }
 {
-    let mut tally = Tally::new();
     for q in cells {
         if tally.count(pair(q[0], q[1]), pair(q[2], q[3])) > 1 {
             return false;
@@ -129,12 +132,13 @@ fn faces_of(q: &Cell) -> [Face; 4]
     [[b, c, d], [a, c, d], [a, b, d], [a, b, c]]
 }
 
-// No face is in three cells.
-fn faces_ok(cells: &[Cell]) -> bool
-    requires { Ranked cells.now }
+// No face is in three cells. The tally is for the work, whatever it has counted.
+fn faces_ok<const N: usize>(cells: &[Cell], tally: &mut Tally<N>) -> bool
+    requires ranked { Ranked cells.now }
+    requires room { 4 * length cells.now ≤ N }
     ensures { result ≡ not (crowdedb cells.now) }
 {
-    let mut tally = Tally::new();
+    tally.clear();
     for q in cells {
         for f in faces_of(q) {
             if tally.count(pair(f[0], f[1]), u32::from(f[2])) > 2 {
@@ -145,12 +149,38 @@ fn faces_ok(cells: &[Cell]) -> bool
     true
 }
 
+// Refusal 5, with a tally of this size: it is set to zero first.
+fn single_in<const N: usize>(cells: &[Cell]) -> bool
+    requires ranked { Ranked cells.now }
+    requires room { (4 * length cells.now ≤ N) × (N ≤ 1024) }
+    ensures { result ≡ singleb cells.now }
+{
+    let mut tally: Tally<N> = Tally {
+        pairs: PairTable {
+            xs: [0; N],
+            ys: [0; N],
+            heads: [65535; 1024],
+            links: [0; N],
+            from: 0,
+            n: 0,
+        },
+        counts: [0; N],
+    };
+    cells_differ(cells, &mut tally) && faces_ok(cells, &mut tally)
+}
+
 // Refusal 5: no two cells with the same corners, no face in three cells.
 fn single(cells: &[Cell]) -> bool
     requires { Ranked cells.now }
     ensures { result ≡ singleb cells.now }
 {
-    cells_differ(cells) && faces_ok(cells)
+    if cells.len() > 64 {
+        single_in::<1024>(cells)
+    } else if cells.len() > 16 {
+        single_in::<256>(cells)
+    } else {
+        single_in::<64>(cells)
+    }
 }
 
 // Whether a coarse mesh is accepted, and if not, why.

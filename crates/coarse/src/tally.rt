@@ -1,28 +1,25 @@
 // How often pairs come.
 
-ghost use Rattle.std.specs.Prelude.{◌≡◌, length};
+ghost use Rattle.std.specs.Prelude.{◌≡◌, ◌≤◌, length};
 
 use pairs::PairTable;
 
-// The pairs so far, each once, with its count beside it.
+// The pairs so far, each once, with its count beside it: N at most.
 #[derive(Drop)]
-pub struct Tally {
-    pub pairs: PairTable<1024, 1024>,
-    pub counts: [u8; 1024],
-    pub ghost room: { length counts ≡ 1024 },
+pub struct Tally<const N: usize> {
+    pub pairs: PairTable<N, 1024>,
+    pub counts: [u8; N],
+    pub ghost room: { (length counts ≡ N) × (N ≤ 1024) },
 }
 
-impl Tally {
+impl<const N: usize> Tally<N> {
     ghost use Rattle.coarse.specs.Tally.{Fresh, Open, Tallied};
 
-    // No pair has been counted.
-    #[inline(never)]
-    pub fn new() -> Self
-        ensures { Fresh result }
+    // Forgets all pairs. The counts stay: none is looked at without its pair.
+    pub fn clear(&mut self)
+        ensures { Fresh self.new }
     {
-        let pairs = PairTable::new();
-        let counts = [0; 1024];
-        Tally { pairs, counts }
+        self.pairs.clear();
     }
 
     // Counts a pair: how often it has come, this time included.

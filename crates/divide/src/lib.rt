@@ -13,6 +13,7 @@ ghost use Rattle.divide.specs.Divisible.{Divisible};
 
 use base::{MOST_LEVELS, MOST_PARTS, Refusal};
 use filling::Source;
+use opening::empty_table;
 use pairs::PairTable;
 use store::FULL;
 
@@ -97,7 +98,7 @@ pub fn split(
         return Err(Refusal::Lent);
     }
     let mut rows = [0; 32768];
-    let mut mids = PairTable::<4096, 4096>::new();
+    let mut mids: PairTable<4096, 4096> = empty_table!(4096, 4096);
     let sizes = opening::open(positions, cells, status, &mut rows, &mut mids)?;
     if !(1..=MOST_PARTS).contains(&parts) {
         return Err(Refusal::Parts);

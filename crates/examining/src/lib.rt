@@ -32,8 +32,25 @@ fn examine_within<const N: usize, const H: usize, const M: usize, const K: usize
     ensures laid { IfOk result (λ s. LaidSound n (fours mesh.now) status.now rows.new mids.new.xs mids.new.ys s.cells s.levels mids.new.n
         × (s.coarse ≡ length (fours mesh.now))) }
 {
-    let mut red = PairTable::<N, H>::new();
+    let mut red: PairTable<N, H> = PairTable {
+        xs: [0; N],
+        ys: [0; N],
+        heads: [65535; H],
+        links: [0; N],
+        from: 0,
+        n: 0,
+    };
     tables::build(mesh, n, status, rows, mids, &mut red)
+}
+
+// Makes a table empty, but for one that is: the heads of a new one are written already.
+fn empty<const M: usize, const K: usize>(table: &mut PairTable<M, K>)
+    ensures { (table.new.from ≡ 0) × (table.new.n ≡ 0) }
+{
+    if table.n == 0 {
+        return;
+    }
+    table.clear();
 }
 
 // Examines a status table over an accepted mesh of n corners: 6 where it is not sound. Where it is sound, the rows are those of its
@@ -51,7 +68,7 @@ pub fn examine<const M: usize, const K: usize>(
     ensures laid { IfOk result (λ s. LaidSound n (fours mesh.now) status.now rows.new mids.new.xs mids.new.ys s.cells s.levels mids.new.n
         × (s.coarse ≡ length (fours mesh.now))) }
 {
-    mids.clear();
+    empty(mids);
     if status.len() > MOST_CELLS || !rows::fits(status) {
         return Err(Refusal::Unsound);
     }

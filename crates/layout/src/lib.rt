@@ -9,6 +9,7 @@ ghost use Rattle.corners.specs.Sums.{Smalls, sum_numbers};
 ghost use Rattle.layout.specs.Calls.{lentb, LaysOut};
 
 use base::{FULL_ENDS, FULL_ROWS, FULL_SUMS, Refusal};
+use opening::empty_table;
 use pairs::PairTable;
 
 // How many cells, corners and levels a table has.
@@ -69,7 +70,7 @@ fn lay_out_in<const R: usize, const M: usize, const MH: usize>(
     ensures { LaysOut positions.now cells.now status.now table.old ends.old sums.old result table.new ends.new sums.new }
 {
     let mut rows = [0u16; R];
-    let mut mids = PairTable::<M, MH>::new();
+    let mut mids: PairTable<M, MH> = empty_table!(M, MH);
     let laid = opening::open(positions, cells, status, &mut rows, &mut mids)?;
     write_out(positions, &rows, &mids, laid.cells, table, ends, sums);
     Ok(Sizes {
@@ -93,9 +94,11 @@ pub fn lay_out(
     if !lent(table, ends, sums) {
         return Err(Refusal::Lent);
     }
-    if status.len() <= 512 {
+    if status.len() > 512 {
+        lay_out_in::<32768, 4096, 4096>(positions, cells, status, table, ends, sums)
+    } else if status.len() > 128 {
         lay_out_in::<4096, 512, 4096>(positions, cells, status, table, ends, sums)
     } else {
-        lay_out_in::<32768, 4096, 4096>(positions, cells, status, table, ends, sums)
+        lay_out_in::<2048, 128, 1024>(positions, cells, status, table, ends, sums)
     }
 }

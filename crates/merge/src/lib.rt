@@ -1,7 +1,7 @@
 // Merging all stores of a split: they are examined, and their masters put in the order of a table.
 #![tactic(auto)]
 
-ghost use Rattle.std.specs.Prelude.{◌≡◌, ◌+◌, ◌*◌, ◌/◌, ◌≤◌, ◌<◌, T, false, eqb, length, take, drop};
+ghost use Rattle.std.specs.Prelude.{◌≡◌, ◌++◌, ◌+◌, ◌*◌, ◌/◌, ◌≤◌, ◌<◌, T, false, eqb, length, take, drop};
 ghost use Rattle.std.specs.Prelude.{IfOk, MatchOption, MatchResult};
 ghost use Rattle.base.specs.Fours.{fours};
 ghost use Rattle.base.specs.Limits.{most_cells, most_coarse_cells, most_coarse_corners, most_parts};
@@ -158,6 +158,16 @@ fn assemble(stores: &[u16], parts: usize, m: usize) -> Result<Row, Refusal>
     Ok(row)
 }
 
+// Copies so many statuses, one by one: a copy at once of what is lent calls memmove, which the library does not ask for otherwise.
+fn copy_statuses(from: &[u8], n: usize, to: &mut [u8])
+    requires { (n ≤ length from.now) × (n ≤ length to.old) }
+    ensures { to.new ≡ take n from.now ++ drop n to.old }
+{
+    for i in 0..n {
+        to[i] = from[i];
+    }
+}
+
 // Examines the table over m coarse cells with n corners, and hands it out where it is sound: how many cells it has.
 fn finish(
     mesh: &[u16; 1024],
@@ -176,11 +186,18 @@ fn finish(
 {
     let k = row.known;
     let mut rows = [0; 32768];
-    let mut mids: PairTable<4096, 4096> = PairTable::new();
+    let mut mids: PairTable<4096, 4096> = PairTable {
+        xs: [0; 4096],
+        ys: [0; 4096],
+        heads: [65535; 4096],
+        links: [0; 4096],
+        from: 0,
+        n: 0,
+    };
     if examining::examine(&mesh[..4 * m], n, &row.statuses[..k], &mut rows, &mut mids).is_err() {
         return Err(Refusal::Store);
     }
-    base::copy_front(&row.statuses, k, table);
+    copy_statuses(&row.statuses, k, table);
     Ok(k)
 }
 

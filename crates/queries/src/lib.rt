@@ -12,6 +12,7 @@ ghost use Rattle.queries.specs.Calls.{ancestor_answer, counts_answer};
 
 use ancestors::Ancestor;
 use base::{FULL_COUNTS, Refusal};
+use opening::empty_table;
 use pairs::PairTable;
 
 // A cell's ancestor, with tables for the work of these sizes: they are set to zero first.
@@ -27,7 +28,7 @@ fn ancestor_in<const R: usize, const M: usize, const MH: usize>(
     ensures ancestor { IfOk result (λ a. a ≡ ancestor_of (get_or (cells_in positions.now cells.now status.now) cell no_cell)) }
 {
     let mut rows = [0u16; R];
-    let mut mids = PairTable::<M, MH>::new();
+    let mut mids: PairTable<M, MH> = empty_table!(M, MH);
     let sizes = opening::open(positions, cells, status, &mut rows, &mut mids)?;
     if cell >= sizes.cells {
         return Err(Refusal::Marks);
@@ -45,10 +46,12 @@ pub fn ancestor(
     ensures answer { answered result ≡ ancestor_answer positions.now cells.now status.now cell }
     ensures ancestor { IfOk result (λ a. a ≡ ancestor_of (get_or (cells_in positions.now cells.now status.now) cell no_cell)) }
 {
-    if status.len() <= 512 {
+    if status.len() > 512 {
+        ancestor_in::<32768, 4096, 4096>(positions, cells, status, cell)
+    } else if status.len() > 128 {
         ancestor_in::<4096, 512, 4096>(positions, cells, status, cell)
     } else {
-        ancestor_in::<32768, 4096, 4096>(positions, cells, status, cell)
+        ancestor_in::<2048, 128, 1024>(positions, cells, status, cell)
     }
 }
 
@@ -70,7 +73,7 @@ fn counts_in<const R: usize, const M: usize, const MH: usize>(
         counts.old }
 {
     let mut rows = [0u16; R];
-    let mut mids = PairTable::<M, MH>::new();
+    let mut mids: PairTable<M, MH> = empty_table!(M, MH);
     opening::open(positions, cells, status, &mut rows, &mut mids)?;
     Ok(counting::count_levels(status, cells.len() / 4, counts))
 }
@@ -92,9 +95,11 @@ pub fn counts(
     if counts.len() < FULL_COUNTS {
         return Err(Refusal::Lent);
     }
-    if status.len() <= 512 {
+    if status.len() > 512 {
+        counts_in::<32768, 4096, 4096>(positions, cells, status, counts)
+    } else if status.len() > 128 {
         counts_in::<4096, 512, 4096>(positions, cells, status, counts)
     } else {
-        counts_in::<32768, 4096, 4096>(positions, cells, status, counts)
+        counts_in::<2048, 128, 1024>(positions, cells, status, counts)
     }
 }

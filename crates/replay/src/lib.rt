@@ -17,6 +17,7 @@ ghost use Rattle.replay.specs.Going.{ReplayGoing, Came, marks_part, next_answer,
 use advance::Work;
 use base::{MOST_COARSE_CELLS, Refusal};
 use cutting::Families;
+use opening::empty_table;
 use pairs::PairTable;
 use tables::Sizes;
 
@@ -175,7 +176,7 @@ fn at_rest(
 {
     let k = (cells.len() / 4).min(MOST_COARSE_CELLS);
     clear(table, k);
-    let mut mids = PairTable::<4096, 4096>::new();
+    let mut mids: PairTable<4096, 4096> = empty_table!(4096, 4096);
     let laid = opening::open(positions, cells, &table[..k], rows, &mut mids)?;
     Ok(Sizes { cells: k, ..laid })
 }
@@ -200,8 +201,13 @@ fn run_steps(
     let mut tools = Tools {
         spread: [0; 4096],
         new: [0; 4096],
-        work: Work::new(),
-        mids: PairTable::new(),
+        work: Work {
+            red: empty_table!(3072, 5120),
+            olds: [0; 4096],
+            kids: [0; 4097],
+            kept: [0; 4097],
+        },
+        mids: empty_table!(4096, 4096),
         families: Families::new(),
     };
     let mut now = first;

@@ -37,7 +37,14 @@ pub fn number(
     requires { Rising firsts.now }
     ensures { Slotted rows.now firsts.now slots.new starts.new }
 {
-    let mut table = PairTable::new();
+    let mut table: PairTable<24576, 4096> = PairTable {
+        xs: [0; 24576],
+        ys: [0; 24576],
+        heads: [65535; 4096],
+        links: [0; 24576],
+        from: 0,
+        n: 0,
+    };
     for k in 0..MOST_LEVELS {
         starts[k] = table.n as u16;
         let first = firsts[k] as usize;

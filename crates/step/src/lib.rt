@@ -13,6 +13,7 @@ ghost use Rattle.step.specs.Within.{begun_answer, Begun};
 
 use advance::Work;
 use base::{MOST_CELLS, Refusal};
+use opening::empty_table;
 use pairs::PairTable;
 
 // Whether a mark may stand at a cell with this status.
@@ -43,7 +44,7 @@ fn begin<const R: usize, const M: usize, const MH: usize>(
     ensures answer { answered result ≡ begun_answer positions.now cells.now status.now marks.now }
     ensures begun { IfOk result (λ _. Begun positions.now cells.now status.now marks.now rows.new) }
 {
-    let mut mids = PairTable::<M, MH>::new();
+    let mut mids: PairTable<M, MH> = empty_table!(M, MH);
     opening::open(positions, cells, status, rows, &mut mids)?;
     if !marks_fit(status, marks) {
         return Err(Refusal::Marks);
@@ -75,7 +76,12 @@ fn step_in<
 {
     let mut rows = [0u16; R];
     begin::<R, M, MH>(positions, cells, status, marks, &mut rows)?;
-    let mut work = Work::<N, H, K>::new();
+    let mut work: Work<N, H, K> = Work {
+        red: empty_table!(N, H),
+        olds: [0; 4096],
+        kids: [0; K],
+        kept: [0; K],
+    };
     advance::advance(
         cells,
         positions.len() / 3,

@@ -1,7 +1,7 @@
 // The new table from what the old cells keep, written level by level: no new row or corner is looked at.
 #![tactic(auto)]
 
-ghost use Rattle.std.specs.Prelude.{◌≡◌, [], ◌∷◌, map, ℕ, ◌+◌, ◌-◌, ◌≤◌, ◌<◌, MatchResult, length, get_or, replicate};
+ghost use Rattle.std.specs.Prelude.{◌≡◌, [], ◌∷◌, ◌++◌, map, ℕ, ◌+◌, ◌-◌, ◌≤◌, ◌<◌, MatchResult, length, get_or, replicate, take, drop};
 ghost use Rattle.base.specs.Limits.{most_cells};
 ghost use Rattle.base.specs.Range.{range};
 ghost use Rattle.cutting.specs.Answer.{cut_of};
@@ -17,6 +17,16 @@ ghost use Rattle.writing.specs.Result.{TableWritten, Unwritten};
 
 use base::{MOST_CELLS, Refusal, TOP_LEVEL};
 
+// Copies so many statuses, one by one: a copy at once of what is lent calls memmove, which the library does not ask for otherwise.
+fn copy_statuses(from: &[u8], n: usize, to: &mut [u8])
+    requires { (n ≤ length from.now) × (n ≤ length to.old) }
+    ensures { to.new ≡ take n from.now ++ drop n to.old }
+{
+    for i in 0..n {
+        to[i] = from[i];
+    }
+}
+
 // Writes what `count` cells from `first` on keep, and their numbers.
 fn write_kept(
     kept: &[u8],
@@ -30,7 +40,11 @@ fn write_kept(
     requires room { at + count ≤ most_cells }
     ensures { Wrote table.old old.old at (part kept.now first count) (range first count) table.new old.new }
 {
-    table[at..at + count].copy_from_slice(&kept[first..first + count]);
+    copy_statuses(
+        &kept[first..first + count],
+        count,
+        &mut table[at..at + count],
+    );
     for i in 0..count {
         old[at + i] = (first + i) as u16;
     }

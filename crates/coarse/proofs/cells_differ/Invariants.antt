@@ -4,4 +4,4 @@ use Rattle.coarse.proofs.Meets.{Sofar}
 use Rattle.coarse.proofs.cells_differ.Given as goal
 
 abbrev pub invariant-loop-q : goal.invariant-loop-q
-invariant-loop-q l = Sofar lead low_cell 1 l.cells l.tally l.q-index
+invariant-loop-q g l = Sofar lead low_cell 1 l.cells l.tally l.q-index

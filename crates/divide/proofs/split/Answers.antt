@@ -1,5 +1,6 @@
 -- `divide::split` meets its contract: it answers as the definition does at each return, and the stores are written at the last one.
-use Rattle.std.proofs.Common.{◌≡◌, ℕ, true, false, leb, ◌&&◌, sym, ◌∙◌, arith, rules, Err, lit<, length}
+use Rattle.std.proofs.Common.{◌≡◌, ℕ, true, false, leb, ◌&&◌, sym, ◌∙◌, arith, rules, Err, lit<, length, refl}
+use Rattle.pairs.specs.Keys.{clear_new}
 use Rattle.std.proofs.Math.ListN.{replicate, length-replicate}
 use Rattle.std.proofs.lemmas.Grind.{common_steps}
 use Rattle.base.specs.Limits.{most_parts}
@@ -79,3 +80,7 @@ returns c =
     c.args.stores.now (parts_few c.args.parts w) c.if-stores.false c.args.owners.now) ∙ sym c.owners_fit.ensures ∙ c.if-not-owners_fit.false)
     c.divide.new.stores c.divide.ensures in
     record { answer = s.0; stores_value = s.1 }
+
+pub invariant_of-mids : goal.invariant_of-mids
+invariant_of-mids c =
+    record { sized = (refl, refl, refl, refl); in_order = (clear_new 4096 (omega arith)).empty _ _ _; up = omega arith }

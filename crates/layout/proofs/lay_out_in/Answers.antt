@@ -1,5 +1,7 @@
 -- What has room for the statuses of a sound table has room for its cells.
-use Rattle.std.proofs.Common.{◌*◌, ◌≤◌, ◌∙◌, sym, arith, rules, length}
+use Rattle.std.proofs.Common.{◌*◌, ◌≤◌, ◌∙◌, sym, arith, rules, length, ℕ}
+use Rattle.std.proofs.lemmas.List.{length-replicate}
+use Rattle.pairs.specs.Keys.{clear_new}
 use Rattle.base.specs.Refuse.{held_after}
 use Rattle.layout.proofs.Results.{layout_long, laid_refused, Lent, lent_long, fits_corners, fits_ends, fits_small, fits_counted, table_after, ends_after_lem}
 use Rattle.layout.proofs.Results.{sums_after_lem}
@@ -51,4 +53,17 @@ returns g c =
       table_is = rw (sym e) (table_after _ _ _ _ _ _ _ _ _ fits hr hx hy c.args.table.now _ w.table_value);
       ends_are = rw (sym e) (ends_after_lem _ _ _ _ _ _ _ _ _ fits hr hx hy c.args.ends.now _ w.ends_value);
       sums_are = rw (sym e) (sums_after_lem _ _ _ _ _ _ _ _ _ fits hr hx hy c.args.sums.now _ w.sums_value);
+    }
+
+pub invariant_of-mids : goal.invariant_of-mids
+invariant_of-mids g c =
+    record {
+      sized = (
+        length-replicate {A = ℕ} g.row.M 0,
+        length-replicate {A = ℕ} g.row.M 0,
+        length-replicate {A = ℕ} g.row.MH 65535,
+        length-replicate {A = ℕ} g.row.M 0,
+      );
+      in_order = (clear_new g.row.MH c.requires.sizes.2).empty _ _ _;
+      up = omega arith;
     }

@@ -1,5 +1,6 @@
 -- `merge::finish` meets its contract: the examination tells whether the table is sound.
 use Rattle.std.proofs.Common.{◌≡◌, ◌*◌, refl, sym, ◌∙◌, arith, lit<, ap, ℕ, ◌++◌, length, take, drop}
+use Rattle.pairs.specs.Keys.{clear_new}
 use Rattle.std.proofs.Math.Seq.{length-take-le}
 use Rattle.std.proofs.Math.ListN.{replicate, length-replicate}
 use Rattle.base.specs.Fours.{fours}
@@ -35,8 +36,12 @@ returns c = (
     sound = told_sound (soundb c.args.n (fours (take (4 * c.args.m) c.args.mesh.now)) (take c.args.row.now.known c.args.row.now.statuses))
         c.examine.result c.examine.ensures.answer (sym c.is_err.ensures.value ∙ c.if-is_err.false);
     written =
-        c.copy_front.ensures
+        c.copy_statuses.ensures
         ∙ ap (λ (n : ℕ). take c.args.row.now.known c.args.row.now.statuses ++ drop n c.args.table.now)
         (sym (length-take-le c.args.row.now.known c.args.row.now.statuses (omega (arith, c.args.row.now.sized.2, c.args.row.now.behind))));
   },
 )
+
+pub invariant_of-mids : goal.invariant_of-mids
+invariant_of-mids c =
+    record { sized = (refl, refl, refl, refl); in_order = (clear_new 4096 (omega arith)).empty _ _ _; up = omega arith }

@@ -1,5 +1,7 @@
 -- The rows of a sound table lead from a cell to its coarse ancestor.
-use Rattle.std.proofs.Common.{◌≡◌, ◌∙◌, arith, rules, Err}
+use Rattle.std.proofs.Common.{◌≡◌, ◌∙◌, arith, rules, Err, ℕ}
+use Rattle.std.proofs.lemmas.List.{length-replicate}
+use Rattle.pairs.specs.Keys.{clear_new}
 use Rattle.queries.proofs.Answers.{ancestor_refused, ancestor_beyond, ancestor_there}
 use Rattle.queries.proofs.Results.{fits_upward, fits_climb}
 use Rattle.queries.proofs.ancestor_in.Goals as goal
@@ -25,3 +27,16 @@ returns-clause-answer g c =
 pub returns-clause-ancestor : goal.returns-clause-ancestor
 returns-clause-ancestor g c =
     c.climb.ensures ∙ fits_climb _ _ _ _ _ _ _ _ _ c.in_ok-sizes.ensures.fits c.args.cell (omega arith)
+
+pub invariant_of-mids : goal.invariant_of-mids
+invariant_of-mids g c =
+    record {
+      sized = (
+        length-replicate {A = ℕ} g.row.M 0,
+        length-replicate {A = ℕ} g.row.M 0,
+        length-replicate {A = ℕ} g.row.MH 65535,
+        length-replicate {A = ℕ} g.row.M 0,
+      );
+      in_order = (clear_new g.row.MH c.requires.sizes.2).empty _ _ _;
+      up = omega arith;
+    }

@@ -1,5 +1,7 @@
 -- The statuses of a sound table are counted level by level.
-use Rattle.std.proofs.Common.{◌≡◌, ◌∙◌, sym, rules, Err}
+use Rattle.std.proofs.Common.{◌≡◌, ◌∙◌, sym, rules, Err, arith, ℕ}
+use Rattle.std.proofs.lemmas.List.{length-replicate}
+use Rattle.pairs.specs.Keys.{clear_new}
 use Rattle.base.specs.Refuse.{held_after}
 use Rattle.queries.proofs.Answers.{counts_long}
 use Rattle.queries.proofs.Results.{fits_levels, number_after, counts_after}
@@ -36,3 +38,16 @@ returns-clause-counts_value g c =
     rw (sym (c.in_ok-open.ensures.answer ∙ l))
     (counts_after _ _ _ _ _ _ _ _ _ c.in_ok-open.ensures.fits c.args.counts.now _ c.count_levels.result c.count_levels.ensures.value
     c.count_levels.ensures.counts_value)
+
+pub invariant_of-mids : goal.invariant_of-mids
+invariant_of-mids g c =
+    record {
+      sized = (
+        length-replicate {A = ℕ} g.row.M 0,
+        length-replicate {A = ℕ} g.row.M 0,
+        length-replicate {A = ℕ} g.row.MH 65535,
+        length-replicate {A = ℕ} g.row.M 0,
+      );
+      in_order = (clear_new g.row.MH c.requires.sizes.2).empty _ _ _;
+      up = omega arith;
+    }

@@ -1,5 +1,6 @@
 -- A table of leaves is accepted just where its mesh is.
-use Rattle.std.proofs.Common.{◌≡◌, ◌∙◌, arith, rules, Err}
+use Rattle.std.proofs.Common.{◌≡◌, ◌∙◌, arith, rules, Err, refl}
+use Rattle.pairs.specs.Keys.{clear_new}
 use Rattle.replay.proofs.Resting.{rested, rested_answer}
 use Rattle.replay.proofs.at_rest.Goals as goal
 
@@ -18,3 +19,7 @@ pub returns-clause-came : goal.returns-clause-came
 returns-clause-came c =
     rested c.args.positions.now c.args.cells.now c.min-k.result (λ h. omega (arith, c.min-k.ensures)) _ _ _ _ _ _ _ _ c.clear.ensures
     (omega (arith, c.min-k.ensures)) (omega arith) c.in_ok-laid.ensures.fits
+
+pub invariant_of-mids : goal.invariant_of-mids
+invariant_of-mids c =
+    record { sized = (refl, refl, refl, refl); in_order = (clear_new 4096 (omega arith)).empty _ _ _; up = omega arith }

@@ -1,5 +1,5 @@
 -- The front is filled, and the rest is as it was.
-use Rattle.std.proofs.Common.{◌≡◌, ◌∙◌, ap, ℕ, rules, length-take-le, replicate}
+use Rattle.std.proofs.Common.{length-take-le}
 use Rattle.replay.proofs.clear.Goals as goal
 
 pub returns : goal.returns

@@ -1,5 +1,5 @@
 -- The marks are examined, and then the step is made.
-use Rattle.std.proofs.Common.{◌≡◌, ◌∙◌, ◌-◌, ◌≤◌, sym, arith, rules, true, false, length, length-take-le}
+use Rattle.std.proofs.Common.{◌≡◌, ◌∙◌, ◌-◌, ◌≤◌, sym, arith, true, false, length, length-take-le}
 use Rattle.archive.specs.Tables.{pairs}
 use Rattle.archive.specs.Ends.{length_pairs}
 use Rattle.replay.proofs.Steps.{moved_missed, moved_on, moved_all}

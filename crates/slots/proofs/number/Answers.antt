@@ -1,11 +1,12 @@
 -- `slots::number` meets its contract: a turn numbers the next level.
-use Rattle.std.proofs.Common.{◌≡◌, ◌+◌, suc, arith, add-one}
+use Rattle.std.proofs.Common.{◌≡◌, ◌+◌, suc, arith, add-one, refl}
+use Rattle.pairs.specs.Keys.{clear_new}
 use Rattle.base.specs.Limits.{most_levels}
 use Rattle.slots.proofs.Numbering.{going_start, going_more, all_levels}
 use Rattle.slots.proofs.number.Goals as goal
 
 pub loop-k-init : goal.loop-k-init
-loop-k-init c = going_start c.args.rows.now c.args.firsts.now c.new-table.result c.args.slots.now c.args.starts.now c.new-table.ensures.1 c.told-starts
+loop-k-init c = going_start c.args.rows.now c.args.firsts.now _ c.args.slots.now c.args.starts.now refl c.told-starts
 
 pub number_level-requires : goal.number_level-requires
 number_level-requires c =
@@ -22,3 +23,7 @@ pub returns : goal.returns
 returns c =
     let k : c.loop-k.k ≡ most_levels = omega arith in
     all_levels c.args.rows.now c.args.firsts.now c.requires c.loop-k.table c.loop-k.slots c.loop-k.starts (rw k at c.loop-k.invariant)
+
+pub invariant_of-table : goal.invariant_of-table
+invariant_of-table c =
+    record { sized = (refl, refl, refl, refl); in_order = (clear_new 4096 (omega arith)).empty _ _ _; up = omega arith }

@@ -1,5 +1,7 @@
 -- The table is opened, and then the marks are looked at.
-use Rattle.std.proofs.Common.{◌≡◌, ◌∙◌, sym, rules, Err}
+use Rattle.std.proofs.Common.{◌≡◌, ◌∙◌, sym, rules, Err, arith, ℕ}
+use Rattle.std.proofs.lemmas.List.{length-replicate}
+use Rattle.pairs.specs.Keys.{clear_new}
 use Rattle.step.specs.Answers.{marks_many, opened_held}
 use Rattle.step.specs.Within.{begun_table, begun_marks, begun_held}
 use Rattle.step.proofs.begin.Goals as goal
@@ -24,4 +26,17 @@ returns-clause-begun g c =
     record {
       held = opened_held _ _ _ _ _ _ _ _ _ c.in_ok-open.ensures.fits;
       marks = marks_many _ _ (sym c.marks_fit.ensures ∙ c.if-not-marks_fit.false);
+    }
+
+pub invariant_of-mids : goal.invariant_of-mids
+invariant_of-mids g c =
+    record {
+      sized = (
+        length-replicate {A = ℕ} g.row.M 0,
+        length-replicate {A = ℕ} g.row.M 0,
+        length-replicate {A = ℕ} g.row.MH 65535,
+        length-replicate {A = ℕ} g.row.M 0,
+      );
+      in_order = (clear_new g.row.MH c.requires.sizes.2).empty _ _ _;
+      up = omega arith;
     }

@@ -1,5 +1,7 @@
 -- What begins as it should goes on as a step of a table that is held.
-use Rattle.std.proofs.Common.{◌≡◌, ◌∙◌, sym, rules, Err}
+use Rattle.std.proofs.Common.{◌≡◌, ◌∙◌, sym, rules, Err, arith, ℕ}
+use Rattle.std.proofs.lemmas.List.{length-replicate}
+use Rattle.pairs.specs.Keys.{clear_new}
 use Rattle.advance.specs.Advanced.{held_statuses}
 use Rattle.step.specs.Within.{begun_refused, begun_on}
 use Rattle.step.proofs.step_in.Goals as goal
@@ -20,3 +22,16 @@ pub returns-clause-answer : goal.returns-clause-answer
 returns-clause-answer g c =
     c.advance.ensures.answer
     ∙ sym (begun_on c.args.positions.now c.args.cells.now c.args.status.now c.args.marks.now c.in_ok-begin.ensures.answer)
+
+pub invariant_of-empty_table : goal.invariant_of-empty_table
+invariant_of-empty_table g c =
+    record {
+      sized = (
+        length-replicate {A = ℕ} g.row.N 0,
+        length-replicate {A = ℕ} g.row.N 0,
+        length-replicate {A = ℕ} g.row.H 65535,
+        length-replicate {A = ℕ} g.row.N 0,
+      );
+      in_order = (clear_new g.row.H c.requires.work_sizes.1).empty _ _ _;
+      up = omega arith;
+    }
