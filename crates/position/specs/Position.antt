@@ -5,12 +5,14 @@
 --   Position                a point, or a refusal's number
 --   positioned a p          the point p where a is accepted, else the refusal
 --   position_of sums n k     the whole answer
-use Rattle.std.specs.Prelude.{◌≡◌, false, ◌&&◌, List, ℕ, ◌+◌, ◌*◌, ◌≤◌, ◌<◌, leb, ltb, length, get_or, ℤ, pos, Float}
+--   told r                  what the result of a call tells of it
+use Rattle.std.specs.Prelude.{Result, Ok, Err, ◌≡◌, false, ◌&&◌, List, ℕ, ◌+◌, ◌*◌, ◌≤◌, ◌<◌, leb, ltb, length, get_or, ℤ, pos, Float}
 use Rattle.std.proofs.Math.Bool.{and-false}
 use Rattle.std.specs.Float.{fin, binary64}
 use Rattle.std.specs.Float.Ieee.{of_int, div}
 use borrow.Author.Tests.{lt-ltb, le-ltb, le-leb, lt-leb}
-use Rattle.base.specs.Refuse.{refuse}
+use Rattle.base.specs.Refuse.{refuse, number_of}
+use Rattle.base.specs.declared.Refusal.{Refusal}
 use Rattle.base.specs.Answer.{Answer}
 use Rattle.base.specs.Answer as answer
 use Rattle.base.specs.Limits.{full_sums, most_corners}
@@ -51,6 +53,11 @@ positioned (answer.Refused c) p = Refused c
 unfoldable pub position_of : List ℤ → ℕ → ℕ → Position
 unfolding positioned corner_answer point_of
 position_of sums n k = positioned (corner_answer sums n k) (point_of sums k)
+
+-- Rules 12.1, 12.3: what the result of a call tells.
+abbrev pub told : Result Point Refusal → Position
+told (Ok p) = At p
+told (Err r) = Refused (number_of r)
 
 module _ (sums : List ℤ) (n k : ℕ) where
   pub corner_short : length sums < full_sums → corner_answer sums n k ≡ answer.Refused 15

@@ -3,7 +3,7 @@
 
 ghost use Rattle.std.specs.Prelude.{◌≡◌, ◌<◌, IfOk, length, get_or, pos};
 ghost use Rattle.base.specs.Refuse.{answered};
-ghost use Rattle.position.specs.Position.{coordinate_of, corner_answer, point_of};
+ghost use Rattle.position.specs.Position.{coordinate_of, corner_answer, point_of, position_of, told};
 
 use base::{FULL_SUMS, MOST_CORNERS, Refusal};
 
@@ -27,6 +27,7 @@ fn coordinate(sums: &[i32], at: usize) -> f64
 pub fn position_of(sums: &[i32], corners: usize, corner: usize) -> Result<Point, Refusal>
     ensures answer { answered result ≡ corner_answer sums.now corners corner }
     ensures point { IfOk result (λ p. p ≡ point_of sums.now corner) }
+    ensures whole { told result ≡ position_of sums.now corners corner }
 {
     if sums.len() < FULL_SUMS {
         return Err(Refusal::Lent);

@@ -4,6 +4,18 @@
 use cutting::{Families, Family};
 use std::io;
 
+// A space and a child's four digits, written at once: formatting each by itself takes four times as long.
+fn print_child(rt: &impl Print, child: &[u8; 4]) -> io::Result<()> {
+    let [a, b, c, d] = *child;
+    rt.write_all(&[
+        b' ',
+        b'0' + a % 10,
+        b'0' + b % 10,
+        b'0' + c % 10,
+        b'0' + d % 10,
+    ])
+}
+
 fn print_children(rt: &impl Print, family: &Family) -> io::Result<()> {
     for child in family
         .digits
@@ -12,10 +24,7 @@ fn print_children(rt: &impl Print, family: &Family) -> io::Result<()> {
         .iter()
         .take(usize::from(family.count))
     {
-        print!(rt; " ")?;
-        for digit in child {
-            print!(rt; "{digit}")?;
-        }
+        print_child(rt, child)?;
     }
     Ok(())
 }
