@@ -1,6 +1,6 @@
 -- One level more on the way down.
--- Laws: up_none (no level), up_refused (the levels above are refused), up_more (one level more),
--- up_untreated (this level is refused).
+-- Laws: up_none (no level), high_is (whether a cell of the highest level will be red), up_refused (the levels above are refused),
+-- up_more (one level more), up_untreated (this level is refused).
 -- Assumes nothing.
 use mathlib.Core.Path.{◌≡◌, refl, sym, ◌∙◌, ap, fun_ext}
 use mathlib.Core.Bool.{Bool, true, false, ◌||◌}
@@ -81,7 +81,7 @@ module _ (t ss ms ks : List ℕ) (first last : ℕ) where
   none_red = refl
 
   -- whether a cell of the highest level will be red, by how many of this level will be where it is that
-  high_is : (h : ℕ) (above : Bool) → above ≡ high_up t ss ms ks h last end
+  pub high_is : (h : ℕ) (above : Bool) → above ≡ high_up t ss ms ks h last end
       → high_of (eqb (suc h) 1) (red_count (flags_up h)) above ≡ high_up t ss ms ks (suc h) first last
   unfolding high_up high_of
   high_is zero above e = any_count (flags_up 0)
